@@ -7,8 +7,8 @@ use Rattle.sj_base.specs.declared.program.Program.{Program}
 use Rattle.sj_codelet.specs.declared.kernel.Kernel.{Kernel}
 use Rattle.sj_core.specs.Laws.{is_known}
 use Rattle.sj_core.specs.Proper.{HasSwapFor, Proper}
-use Rattle.sj_job.specs.Act.{Statement}
-use Rattle.sj_job.specs.State.{start}
+use Rattle.sj_meaning.specs.Act.{Statement}
+use Rattle.sj_meaning.specs.State.{start}
 use Rattle.sj_job.specs.Well.{IsWell}
 use Rattle.sj_kernels.specs.Has.{ring_has}
 use Rattle.sj_kernels.specs.RingLaws.{ring_commuting, ring_contributing, ring_reducing}
@@ -16,7 +16,7 @@ use Rattle.sj_lower.specs.Job.{IsJobIn}
 use Rattle.sj_lower.specs.Lowering.{lowered}
 use Rattle.sj_machine.specs.Sound.{IsRunOf}
 
-pub run-of : (ss : List Statement) (p : Program) (m : Machine) (disk : ℕ) → p ≡ lowered ss m.workers → IsWell ring_has 0 start ss → Proper p
+pub run-of : (ss : List (Statement (List ℕ))) (p : Program) (m : Machine) (disk : ℕ) → p ≡ lowered ss m.workers → IsWell ring_has 0 start ss → Proper p
     → ((has : Kernel → Bool) → IsJobIn has ss → All (λ l. IsTrue (is_known has l.codelet)) p.tasks) → All (λ l. All (FitsSigned w64) l.args) p.tasks
     → (1 ≤ m.workers) × (m.workers ≤ 64) → (1 ≤ length m.nodes) × (length m.nodes ≤ 16) → m.disks ≡ disk ∷ [] → HasSwapFor p m → IsRunOf p m
 run-of ss p m disk is well proper known arguments workers nodes disks swap =

@@ -2,10 +2,10 @@
 
 use crate::tests::{Refused, are_refused, gives};
 use sj_base::ids::Root;
-use sj_job::job::{Act, Job};
 use sj_job::read::read;
 use sj_job::reason::{LimitKind, Reason};
 use sj_kernels::ring::Ring;
+use sj_meaning::job::{Act, Job};
 use std::alloc::Global;
 use std::test::Fail;
 

@@ -3,10 +3,10 @@
 use crate::tests::{Refused, are_refused, gives};
 use sj_base::ids::Root;
 use sj_base::mode::{Mode, Reduction};
-use sj_job::job::Act;
 use sj_job::read::read;
 use sj_job::reason::Reason;
 use sj_kernels::ring::Ring;
+use sj_meaning::job::Act;
 use std::test::Fail;
 
 /// Each reason against a `redux` line, a contribution or a commuting access, and which of two comes first.

@@ -4,8 +4,8 @@ use crate::tests::{Refused, are_refused};
 use sj_base::mode::Policy;
 use sj_job::read::read;
 use sj_job::reason::{LimitKind, ReadRefusal, Reason};
-use sj_job::settings::Settings;
 use sj_kernels::ring::Ring;
+use sj_meaning::settings::Settings;
 use std::alloc::Global;
 use std::test::Fail;
 

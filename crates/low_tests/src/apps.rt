@@ -4,7 +4,7 @@ use sj_apps::paths::paths;
 use sj_apps::product::product;
 use sj_base::ids::Line;
 use sj_base::memory::OutOfMemory;
-use sj_job::job::{Act, Init};
+use sj_meaning::job::{Act, Init};
 
 #[test]
 fn the_product_of_two_by_two_takes_eight_tasks(rt: HostRuntime) -> Result<(), OutOfMemory> {

@@ -4,7 +4,7 @@ use Rattle.std.specs.Prelude.{IsOkAnd}
 use Rattle.sj_base.specs.declared.ids.Task.{Task}
 use Rattle.sj_base.specs.declared.program.Program.{Program}
 use Rattle.sj_base.specs.Array.{Array}
-use Rattle.sj_job.specs.Job.{Job}
+use Rattle.sj_meaning.specs.Job.{Job}
 use Rattle.sj_job.specs.Reading.{Refusal}
 use Rattle.sj_machine.specs.Delivered.{DeliversEach}
 use Rattle.own_set.specs.Turns.{program_of}

@@ -5,7 +5,7 @@ use Rattle.std.specs.Int.{w64}
 use Rattle.sj_base.specs.declared.program.Machine.{Machine}
 use Rattle.sj_base.specs.declared.program.Program.{Program}
 use Rattle.sj_core.specs.Proper.{HasSwapFor, IsMachineFor, Proper}
-use Rattle.sj_job.specs.Job.{Job}
+use Rattle.sj_meaning.specs.Job.{Job}
 use Rattle.sj_job.specs.Reading.{Refusal}
 use Rattle.own_set.specs.declared.Ready.{Ready}
 use Rattle.own_set.specs.NotRun.{IsReady}

@@ -12,7 +12,7 @@ use Rattle.sj_codelet.specs.Kernel.{contributes_of}
 use Rattle.sj_codelet.specs.Laws.{CommutingCommute, ContributingContribute, ReductionsReduce}
 use Rattle.sj_core.specs.Laws.{is_known}
 use Rattle.sj_lower.specs.Lowering.{lowered}
-use Rattle.sj_job.specs.Act.{Statement}
+use Rattle.sj_meaning.specs.Act.{Statement}
 
 -- `transpose`, and what registrations and print statements are lowered to
 abbrev pub turns_has : Kernel → Bool
@@ -31,7 +31,7 @@ abbrev pub small_machine : List ℕ → Machine
 small_machine disks = record { workers = 2; nodes = 96 ∷ []; disks = disks; policy = Eager }
 
 -- the program of statements for that machine's workers
-abbrev pub program_of : List Statement → Program
+abbrev pub program_of : List (Statement (List ℕ)) → Program
 program_of ss = lowered ss 2
 
 pub turns_commuting : CommutingCommute turns_has

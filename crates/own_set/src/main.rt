@@ -6,7 +6,7 @@ ghost use Rattle.std.specs.Prelude.{◌≡◌, ◌↔◌, ◌≤◌, ◌^◌, �
 ghost use Rattle.std.specs.Int.{w64};
 ghost use Rattle.sj_edge.specs.Sizes.{AreWithin};
 ghost use Rattle.sj_engine.specs.Outcome.{AllTell};
-ghost use Rattle.sj_job.specs.Job.{Job};
+ghost use Rattle.sj_meaning.specs.Job.{Job};
 ghost use Rattle.sj_job.specs.Reading.{Refusal, job_of};
 ghost use Rattle.sj_machine.specs.Delivered.{DeliversEach};
 ghost use Rattle.own_set.specs.NotRun.{IsNotReady, IsNotRun, IsReady};

@@ -20,13 +20,14 @@ use Rattle.sj_codelet.specs.MinPlus.{inf}
 use Rattle.sj_plan.specs.Interval.{part_len}
 use Rattle.sj_plan.proofs.Lists.{each-all, each-filter}
 use Rattle.sj_job.specs.declared.form.InitForm.TheVariants as form
-use Rattle.sj_job.specs.declared.job.Init.TheVariants.{Values, Fill}
-use Rattle.sj_job.specs.Act.{Act, Print}
-use Rattle.sj_job.specs.Judge.{is_aliased, known_of, scope_of}
+use Rattle.sj_meaning.specs.declared.job.Init.TheVariants.{Values, Fill}
+use Rattle.sj_meaning.specs.Act.{Act, Print}
+use Rattle.sj_job.specs.Judge.{known_of, scope_of}
+use Rattle.sj_meaning.specs.Sound.{is_aliased}
 use Rattle.sj_job.specs.Grammar.{has_values}
-use Rattle.sj_job.specs.Meaning.{apply, register}
-use Rattle.sj_job.specs.State.{State, root_of, start}
-use Rattle.sj_job.specs.Statement.{Operand}
+use Rattle.sj_meaning.specs.Meaning.{apply, register}
+use Rattle.sj_meaning.specs.State.{State, root_of, start}
+use Rattle.sj_meaning.specs.Statement.{Operand}
 use Rattle.sj_job.specs.Well.{IsWell}
 use Rattle.sj_job.specs.Word.{integer, integer_of, is_integer}
 use Rattle.sj_job.proofs.Spelling.{true_both}
@@ -53,7 +54,7 @@ each-below : (p : ℕ) → AllByRecursion (λ k. k < p) (upto p)
 each-below p = each-below_from p 0 p (omega arith)
 
 -- a matrix of that name, seen at a place
-seen : (n p c : ℕ) (S : State) (o : Operand) (f : ℕ → ℕ → ℤ) → IsMatrix n p S o.name f → S.ended ≡ [] → Rattle.sj_job.specs.Word.is_name o.name ≡ true → o.place.0 < p → o.place.1 < p → IsSeen n p (scope_of c S) o
+seen : (n p c : ℕ) (S : State) (o : Operand (List ℕ)) (f : ℕ → ℕ → ℤ) → IsMatrix n p S o.name f → S.ended ≡ [] → Rattle.sj_job.specs.Word.is_name o.name ≡ true → o.place.0 < p → o.place.1 < p → IsSeen n p (scope_of c S) o
 seen n p c S o f is ended named hi hj = record {
   elements = f;
   known = ap (option_map known_of) is;
@@ -169,7 +170,7 @@ module _ (n p : ℕ) (h : IsCut n p) where
   small : p < 1000000000
   small = omega (arith, h.few)
 
-  tile-seen : (c i j : ℕ) (T : State) (o : Operand) (now : IsWalking n p T) → o.name ≡ name_D → o.place ≡ (i, j) → i < p → j < p → IsSeen n p (scope_of c T) o
+  tile-seen : (c i j : ℕ) (T : State) (o : Operand (List ℕ)) (now : IsWalking n p T) → o.name ≡ name_D → o.place ≡ (i, j) → i < p → j < p → IsSeen n p (scope_of c T) o
   tile-seen c i j T o now named placed hi hj = seen n p c T o now.d (ap (root_of T) named ∙ now.is) now.ended (ap Rattle.sj_job.specs.Word.is_name named) (subst (λ (x : ℕ × ℕ). x.0 < p) (sym placed) hi) (subst (λ (x : ℕ × ℕ). x.1 < p) (sym placed) hj)
 
   after : (S T : State) (g : ℕ → ℕ → ℤ) → Becomes n p S T g → S.ended ≡ [] → IsWalking n p T
@@ -273,7 +274,7 @@ filter-few t (k ∷ ks) = by_test (t k) (filter-few t ks)
     by_test true h = omega arith
     by_test false h = omega arith
 
-each-long : (g : ℕ → Act) (ks : List ℕ) → length (each_of g ks) ≡ length ks
+each-long : (g : ℕ → Act (List ℕ)) (ks : List ℕ) → length (each_of g ks) ≡ length ks
 each-long g [] = refl
 each-long g (k ∷ ks) = ap suc (each-long g ks)
 

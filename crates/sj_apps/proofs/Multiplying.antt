@@ -17,9 +17,9 @@ use Rattle.sj_plan.specs.Rect.{dims_of, holds}
 use Rattle.sj_plan.proofs.Lists.{each-flat_map, each-map, each-of}
 use Rattle.sj_plan.proofs.Tiling.{part_first-all}
 use Rattle.sj_plan.proofs.Windows.{Holds-from_true}
-use Rattle.sj_job.specs.declared.job.Kind.TheVariants.{Matrix}
-use Rattle.sj_job.specs.Meaning.{Printed, apply, array_of, found_by, printed}
-use Rattle.sj_job.specs.State.{Root, State, root_of, start}
+use Rattle.sj_meaning.specs.declared.job.Kind.TheVariants.{Matrix}
+use Rattle.sj_meaning.specs.Meaning.{Printed, apply, array_of, found_by, printed}
+use Rattle.sj_meaning.specs.State.{Root, State, root_of, start}
 use Rattle.sj_apps.specs.Generated.{IsSize, factors, first_line, gemm, gemms, gemms_at, gemms_in_row, name_C, part_count, product_statements, square, upto}
 use Rattle.sj_apps.specs.Product.{counted, factor_A, factor_B, product}
 use Rattle.sj_apps.proofs.Starting.{counting, cut-from, factors-are, multiplied as factored}

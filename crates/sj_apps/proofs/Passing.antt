@@ -11,9 +11,9 @@ use Rattle.sj_codelet.specs.Equations.{fwdiag, fwrow, fwcol, mingemm}
 use Rattle.sj_plan.specs.Interval.{part_first, part_len}
 use Rattle.sj_plan.proofs.Splitting.{part_end}
 use Rattle.sj_plan.proofs.Tiling.{part_first-all}
-use Rattle.sj_job.specs.State.{State}
-use Rattle.sj_job.specs.Act.{Act}
-use Rattle.sj_job.specs.Meaning.{apply, change, with_child}
+use Rattle.sj_meaning.specs.State.{State}
+use Rattle.sj_meaning.specs.Act.{Act}
+use Rattle.sj_meaning.specs.Meaning.{apply, change, with_child}
 use Rattle.sj_apps.specs.Generated.{apart_of, aparts_of, below_of, beside_of, diagonal_of, operand, others, walk_step_of, walk_steps_of}
 use Rattle.sj_apps.proofs.Tiling.{IsMatrix, tile, with_tile, run, run-append, run-each_kept, run-kept, run-range, tile-of, written-here}
 use Rattle.sj_apps.proofs.Adding.{le-trans, le-same}
@@ -67,7 +67,7 @@ pub record IsDiagonal (n lo hi : ℕ) (d0 d1 : ℕ → ℕ → ℤ) : Type 0 whe
 
 module _ (name : List ℕ) (n p : ℕ) (P : ℕ → ℕ → ℤ → Type 0) (keeps : IsKept P n) (some : 0 < p) where
   -- the tiles of a row but the block's
-  rows_run : (k r : ℕ) (act : ℕ → Act) (g : ℕ → ℕ → ℤ) (S : State) → k < p
+  rows_run : (k r : ℕ) (act : ℕ → Act (List ℕ)) (g : ℕ → ℕ → ℤ) (S : State) → k < p
       → ((c : ℕ) (S' : State) (f : ℕ → ℕ → ℤ) → c < p → IsMatrix n p S' name f → AllSo P n f → IsWithinPart n p k f
       → Stands name n p P (ChangesTile n p k r c f) (apply (act c) S'))
       → IsMatrix n p S name g → AllSo P n g → IsWithinPart n p k g
@@ -100,7 +100,7 @@ module _ (name : List ℕ) (n p : ℕ) (P : ℕ → ℕ → ℤ → Type 0) (kee
       subst (λ e. Stands name n p P (so e) (run (map act (others p k)) S)) (part_first-all n p some) all
 
   -- the rows but the block's
-  down_run : (k : ℕ) (C N : ℕ → Type 0) (acts : ℕ → List Act) (g : ℕ → ℕ → ℤ) (S : State) → k < p
+  down_run : (k : ℕ) (C N : ℕ → Type 0) (acts : ℕ → List (Act (List ℕ))) (g : ℕ → ℕ → ℤ) (S : State) → k < p
       → ((r : ℕ) (S' : State) (f : ℕ → ℕ → ℤ) → r < p → IsMatrix n p S' name f → AllSo P n f → IsWithinPart n p k f
       → Stands name n p P (ChangesRow n p k r C N f) (run (acts r) S'))
       → IsMatrix n p S name g → AllSo P n g → IsWithinPart n p k g

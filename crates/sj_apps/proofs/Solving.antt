@@ -1,5 +1,5 @@
 -- The statements of an application print its answer.
-use Rattle.sj_job.specs.Meaning.{printed}
+use Rattle.sj_meaning.specs.Meaning.{printed}
 use Rattle.sj_apps.specs.Application.{IsSized, statements_for}
 use Rattle.sj_apps.specs.declared.application.Application.{Application}
 use Rattle.sj_apps.specs.declared.application.Problem.{Problem}

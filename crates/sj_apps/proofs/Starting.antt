@@ -6,12 +6,12 @@ use Rattle.std.specs.Cmp.Lexicographic.{nat_list_cmp_total, texts_ties}
 use Rattle.std.proofs.lemmas.Nat.{div-add-mod', div_below, le-div, mul-le}
 use Rattle.std.proofs.lemmas.Simd.{map-map}
 use Rattle.sj_codelet.specs.Ring.{wrap}
-use Rattle.sj_job.specs.declared.job.Kind.TheVariants.{Matrix}
-use Rattle.sj_job.specs.declared.job.Init.{Init}
-use Rattle.sj_job.specs.declared.job.Init.TheVariants.{Values, Fill}
-use Rattle.sj_job.specs.Meaning.{register, registered_root}
-use Rattle.sj_job.specs.State.{Root, State, root_of, start}
-use Rattle.sj_job.specs.Statement.{Register as Registration}
+use Rattle.sj_meaning.specs.declared.job.Kind.TheVariants.{Matrix}
+use Rattle.sj_meaning.specs.declared.job.Init.{Init}
+use Rattle.sj_meaning.specs.declared.job.Init.TheVariants.{Values, Fill}
+use Rattle.sj_meaning.specs.Meaning.{register, registered_root}
+use Rattle.sj_meaning.specs.State.{Root, State, root_of, start}
+use Rattle.sj_meaning.specs.Statement.{Register as Registration}
 use Rattle.sj_apps.specs.Generated.{IsSize, cut, factors, matrix, name_A, name_B, name_C, name_D, part_count, square, weight, weights}
 use Rattle.sj_apps.proofs.Tiling.{AreMatrices, IsMatrix, root, run}
 
@@ -39,10 +39,10 @@ cut-from n tile seed h =
 
 -- ---- registered matrices
 
-abbrev pub registration : List ℕ → ℕ → ℕ → Init → Registration
+abbrev pub registration : List ℕ → ℕ → ℕ → Init → Registration (List ℕ)
 registration name n p init = record { name = name; kind = Matrix; dims = square n; parts = cut p; init = init }
 
-pub root-registered : (r : Registration) (S : State) (q : List ℕ) → root_of (register r S) q ≡ cond (bytes_eq q r.name) (Some (registered_root r)) (root_of S q)
+pub root-registered : (r : Registration (List ℕ)) (S : State) (q : List ℕ) → root_of (register r S) q ≡ cond (bytes_eq q r.name) (Some (registered_root r)) (root_of S q)
 root-registered r S q =
     map.get-insert nat_list_cmp_total S.roots r.name (registered_root r) q ∙ ap (λ b. cond b (Some (registered_root r)) (root_of S q)) (sym (texts_ties q r.name))
 

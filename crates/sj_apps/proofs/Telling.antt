@@ -7,13 +7,13 @@ use Rattle.std.proofs.lemmas.List.FromFn.{map-range_with_len_more}
 use Rattle.std.proofs.lemmas.Grind.{flat_map-append}
 use Rattle.sj_plan.proofs.Lists.{range_more}
 use Rattle.sj_base.specs.declared.ids.Root.{Root}
-use Rattle.sj_job.specs.Act.{Act, Task, Print}
-use Rattle.sj_job.specs.Table.{Table, table, name_of}
-use Rattle.sj_job.specs.declared.job.TaskLine.{TaskLine as KeptTask}
-use Rattle.sj_job.specs.declared.job.Act.TheVariants.{Task as TaskOf, Print as PrintOf}
-use Rattle.sj_job.specs.declared.job.Act.{Act as KeptAct}
-use Rattle.sj_job.specs.declared.job.Statement.{Statement as Kept}
-use Rattle.sj_job.specs.View.{act_seen, task_seen, statement_seen, seen_from, count_after, count_from, IsPlaced, ArePlaced}
+use Rattle.sj_meaning.specs.Act.{Act, Task, Print}
+use Rattle.sj_meaning.specs.Table.{Table, table, name_of}
+use Rattle.sj_meaning.specs.declared.job.TaskLine.{TaskLine as KeptTask}
+use Rattle.sj_meaning.specs.declared.job.Act.TheVariants.{Task as TaskOf, Print as PrintOf}
+use Rattle.sj_meaning.specs.declared.job.Act.{Act as KeptAct}
+use Rattle.sj_meaning.specs.declared.job.Statement.{Statement as Kept}
+use Rattle.sj_meaning.specs.View.{act_seen, task_seen, statement_seen, seen_from, count_after, count_from, IsPlaced, ArePlaced}
 use Rattle.sj_apps.specs.declared.draft.Draft.{Draft}
 use Rattle.sj_apps.specs.Generated.{numbered, first_line, others}
 use Rattle.sj_apps.specs.Draft.{Tells, unless_same}
@@ -30,7 +30,7 @@ placed-append : (k : ℕ) (xs ys : List Kept) → ArePlaced k xs → ArePlaced (
 placed-append k [] ys h g = g
 placed-append k (x ∷ xs) ys h g = (h.0, placed-append (count_after k x.act) xs ys h.1 g)
 
-numbered-append : (line : ℕ) (xs ys : List Act) → numbered line (xs ++ ys) ≡ numbered line xs ++ numbered (line + length xs) ys
+numbered-append : (line : ℕ) (xs ys : List (Act (List ℕ))) → numbered line (xs ++ ys) ≡ numbered line xs ++ numbered (line + length xs) ys
 numbered-append line [] ys = ap (λ l. numbered l ys) (omega arith)
 numbered-append line (x ∷ xs) ys =
     ap (λ l. record { line = record { 0 = line }; act = x } ∷ l) (numbered-append (line + 1) xs ys ∙ ap (λ l. numbered (line + 1) xs ++ numbered l ys) (omega arith))
@@ -43,7 +43,7 @@ tells-none d = record {
   numbered = λ h. h;
 }
 
-pub tells-more : (a b c : Draft) (xs ys : List Act) → Tells a b xs → Tells b c ys → Tells a c (xs ++ ys)
+pub tells-more : (a b c : Draft) (xs ys : List (Act (List ℕ))) → Tells a b xs → Tells b c ys → Tells a c (xs ++ ys)
 tells-more a b c xs ys f g = record {
   roots = g.roots ∙ f.roots;
   long = omega (arith, f.long, g.long, length-append xs ys);
@@ -55,12 +55,12 @@ tells-more a b c xs ys f g = record {
 }
 
 -- one act that registers no root
-pub record Speaks (T : Table) (kept : KeptAct) (act : Act) : Type 0 where
+pub record Speaks (T : Table) (kept : KeptAct) (act : Act (List ℕ)) : Type 0 where
   pub seen : (k : ℕ) → act_seen T k kept ≡ act
   pub count : (k : ℕ) → count_after k kept ≡ k
   pub placed : IsPlaced (length T.names) kept
 
-pub tells-one : (a b : Draft) (kept : KeptAct) (act : Act) → Speaks a.roots kept act → b.roots ≡ a.roots → b.statements ≡ a.statements ++ record { line = record { 0 = length a.statements + first_line }; act = kept } ∷ [] → Tells a b (act ∷ [])
+pub tells-one : (a b : Draft) (kept : KeptAct) (act : Act (List ℕ)) → Speaks a.roots kept act → b.roots ≡ a.roots → b.statements ≡ a.statements ++ record { line = record { 0 = length a.statements + first_line }; act = kept } ∷ [] → Tells a b (act ∷ [])
 tells-one a b kept act s r e =
     let last : Kept = record { line = record { 0 = length a.statements + first_line }; act = kept } in
     record {
@@ -75,10 +75,10 @@ tells-one a b kept act s r e =
     }
 
 -- one act more of a range, and the acts of one number more
-pub tells-mapped : (a b c : Draft) (f : ℕ → Act) (n : ℕ) → Tells a b (map f (range_with_len 0 n)) → Tells b c (f n ∷ []) → Tells a c (map f (range_with_len 0 (n + 1)))
+pub tells-mapped : (a b c : Draft) (f : ℕ → Act (List ℕ)) (n : ℕ) → Tells a b (map f (range_with_len 0 n)) → Tells b c (f n ∷ []) → Tells a c (map f (range_with_len 0 (n + 1)))
 tells-mapped a b c f n h k = subst (Tells a c) (sym (map-range_with_len_more f 0 n n (omega arith))) (tells-more a b c (map f (range_with_len 0 n)) (f n ∷ []) h k)
 
-pub tells-flat : (a b c : Draft) (f : ℕ → List Act) (n : ℕ) → Tells a b (flat_map f (range_with_len 0 n)) → Tells b c (f n) → Tells a c (flat_map f (range_with_len 0 (n + 1)))
+pub tells-flat : (a b c : Draft) (f : ℕ → List (Act (List ℕ))) (n : ℕ) → Tells a b (flat_map f (range_with_len 0 n)) → Tells b c (f n) → Tells a c (flat_map f (range_with_len 0 (n + 1)))
 tells-flat a b c f n h k =
     subst (Tells a c) (sym (ap (flat_map f) (range_more n) ∙ flat_map-append f (range_with_len 0 n) (n ∷ []) ∙ ap (λ l. flat_map f (range_with_len 0 n) ++ l) (append-nil (f n)))) (tells-more a b c (flat_map f (range_with_len 0 n)) (f n) h k)
 
@@ -86,23 +86,23 @@ tells-flat a b c f n h k =
 others-more : (k n : ℕ) → others (n + 1) k ≡ others n k ++ cond (not (eqb n k)) (n ∷ []) []
 others-more k n = ap (filter (λ j. not (eqb j k))) (range_more n) ∙ filter-append (λ j. not (eqb j k)) (range_with_len 0 n) (n ∷ [])
 
-flat-one : (f : ℕ → List Act) (xs : List ℕ) (n : ℕ) (t : Bool) → flat_map f (xs ++ cond (not t) (n ∷ []) []) ≡ flat_map f xs ++ cond t [] (f n)
+flat-one : (f : ℕ → List (Act (List ℕ))) (xs : List ℕ) (n : ℕ) (t : Bool) → flat_map f (xs ++ cond (not t) (n ∷ []) []) ≡ flat_map f xs ++ cond t [] (f n)
 flat-one f xs n true = flat_map-append f xs []
 flat-one f xs n false = flat_map-append f xs (n ∷ []) ∙ ap (λ l. flat_map f xs ++ l) (append-nil (f n))
 
-pub tells-others : (a b c : Draft) (f : ℕ → List Act) (k n : ℕ) → Tells a b (flat_map f (others n k)) → Tells b c (unless_same n k (f n)) → Tells a c (flat_map f (others (n + 1) k))
+pub tells-others : (a b c : Draft) (f : ℕ → List (Act (List ℕ))) (k n : ℕ) → Tells a b (flat_map f (others n k)) → Tells b c (unless_same n k (f n)) → Tells a c (flat_map f (others (n + 1) k))
 tells-others a b c f k n h g =
     subst (Tells a c) (sym (ap (flat_map f) (others-more k n) ∙ flat-one f (others n k) n (eqb n k))) (tells-more a b c (flat_map f (others n k)) (unless_same n k (f n)) h g)
 
-pub tells-each : (a b c : Draft) (f : ℕ → Act) (k n : ℕ) → Tells a b (map f (others n k)) → Tells b c (unless_same n k (f n ∷ [])) → Tells a c (map f (others (n + 1) k))
+pub tells-each : (a b c : Draft) (f : ℕ → Act (List ℕ)) (k n : ℕ) → Tells a b (map f (others n k)) → Tells b c (unless_same n k (f n ∷ [])) → Tells a c (map f (others (n + 1) k))
 tells-each a b c f k n h g =
     subst (Tells a c) (flat_map_single f (others (n + 1) k)) (tells-others a b c (λ x. f x ∷ []) k n (subst (Tells a b) (sym (flat_map_single f (others n k))) h) g)
 
 -- nothing more, where a number is k
-pub tells-same : (d : Draft) (j k : ℕ) (acts : List Act) → eqb j k ≡ true → Tells d d (unless_same j k acts)
+pub tells-same : (d : Draft) (j k : ℕ) (acts : List (Act (List ℕ))) → eqb j k ≡ true → Tells d d (unless_same j k acts)
 tells-same d j k acts e = subst (λ t. Tells d d (cond t [] acts)) (sym e) (tells-none d)
 
-pub tells-other : (a b : Draft) (j k : ℕ) (acts : List Act) → eqb j k ≡ false → Tells a b acts → Tells a b (unless_same j k acts)
+pub tells-other : (a b : Draft) (j k : ℕ) (acts : List (Act (List ℕ))) → eqb j k ≡ false → Tells a b acts → Tells a b (unless_same j k acts)
 tells-other a b j k acts e h = subst (λ t. Tells a b (cond t [] acts)) (sym e) h
 
 -- a task of roots of these names
@@ -124,7 +124,7 @@ print-told a b names root e r placed s =
     }) r s
 
 -- the whole of a job: its registrations, its tasks and its print
-pub whole-told : (d e f : Draft) (regs tasks last : List Act) → seen_from d.roots 0 d.statements ≡ numbered first_line regs → length d.statements ≡ length regs → Tells d e tasks → Tells e f last → seen_from f.roots 0 f.statements ≡ numbered first_line (regs ++ (tasks ++ last))
+pub whole-told : (d e f : Draft) (regs tasks last : List (Act (List ℕ))) → seen_from d.roots 0 d.statements ≡ numbered first_line regs → length d.statements ≡ length regs → Tells d e tasks → Tells e f last → seen_from f.roots 0 f.statements ≡ numbered first_line (regs ++ (tasks ++ last))
 whole-told d e f regs tasks last s long h g =
     (tells-more d e f tasks last h g).seen ∙ ap (λ l. l ++ numbered (length d.statements + first_line) (tasks ++ last)) s
     ∙ ap (λ k. numbered first_line regs ++ numbered k (tasks ++ last)) (let k : length d.statements + first_line ≡ first_line + length regs = omega (arith, long) in k)

@@ -14,31 +14,31 @@ use Rattle.sj_plan.specs.declared.rect.Rect.{Rect}
 use Rattle.sj_plan.specs.Parts.{IsPlace}
 use Rattle.sj_plan.specs.Rect.{child, dims_of, holds, place_of}
 use Rattle.sj_plan.proofs.Splitting.{part_end}
-use Rattle.sj_job.specs.declared.job.Kind.TheVariants.{Matrix}
-use Rattle.sj_job.specs.Act.{Act, Print}
-use Rattle.sj_job.specs.Meaning.{Printed, apply, array_of, change, child_array, found_by, operand_array, printed_from, prints, seen_by, with_child}
-use Rattle.sj_job.specs.State.{Root, State, root_of}
-use Rattle.sj_job.specs.Statement.{Operand}
+use Rattle.sj_meaning.specs.declared.job.Kind.TheVariants.{Matrix}
+use Rattle.sj_meaning.specs.Act.{Act, Print}
+use Rattle.sj_meaning.specs.Meaning.{Printed, apply, array_of, change, child_array, found_by, operand_array, printed_from, prints, seen_by, with_child}
+use Rattle.sj_meaning.specs.State.{Root, State, root_of}
+use Rattle.sj_meaning.specs.Statement.{Operand}
 use Rattle.sj_job.proofs.Seen.{counts_changed}
 use Rattle.sj_apps.specs.Generated.{apart, below, beside, cut, diagonal, gemm, name_A, name_B, name_C, name_D, numbered, operand, square}
 
 -- ---- acts, one after another
 
 -- the state that acts leave
-abbrev pub run : List Act → State → State
+abbrev pub run : List (Act (List ℕ)) → State → State
 run [] S = S
 run (a ∷ rest) S = run rest (apply a S)
 
-pub run-append : (acts more : List Act) (S : State) → run (acts ++ more) S ≡ run more (run acts S)
+pub run-append : (acts more : List (Act (List ℕ))) (S : State) → run (acts ++ more) S ≡ run more (run acts S)
 run-append [] more S = refl
 run-append (a ∷ acts) more S = run-append acts more (apply a S)
 
 -- it prints nothing
-abbrev pub IsSilent : Act → Type 0
+abbrev pub IsSilent : Act (List ℕ) → Type 0
 IsSilent a = (S : State) → prints a S ≡ []
 
 -- acts that print nothing, and then a print statement: what it finds
-pub printed-last : (acts : List Act) (name : List ℕ) (S : State) (line : ℕ) → AllByRecursion IsSilent acts → printed_from S (numbered line (acts ++ Print name ∷ [])) ≡ found_by (run acts S) name ++ []
+pub printed-last : (acts : List (Act (List ℕ))) (name : List ℕ) (S : State) (line : ℕ) → AllByRecursion IsSilent acts → printed_from S (numbered line (acts ++ Print name ∷ [])) ≡ found_by (run acts S) name ++ []
 printed-last [] name S line silent = refl
 printed-last (a ∷ acts) name S line silent =
     ap (λ (ps : List Printed). ps ++ printed_from (apply a S) (numbered (line + 1) (acts ++ Print name ∷ []))) (silent.0 S)
@@ -46,7 +46,7 @@ printed-last (a ∷ acts) name S line silent =
 
 -- ---- acts for one number after another
 
-run-from : (P : ℕ → State → Type 0) (f : ℕ → List Act) (a m : ℕ) (S : State) → P a S → ((k : ℕ) (T : State) → k < a + m → P k T → P (k + 1) (run (f k) T)) → P (a + m) (run (flat_map f (range_with_len a m)) S)
+run-from : (P : ℕ → State → Type 0) (f : ℕ → List (Act (List ℕ))) (a m : ℕ) (S : State) → P a S → ((k : ℕ) (T : State) → k < a + m → P k T → P (k + 1) (run (f k) T)) → P (a + m) (run (flat_map f (range_with_len a m)) S)
 run-from P f a zero S now step = let e : a ≡ a + 0 = omega arith in subst (λ n. P n S) e now
 run-from P f a (suc m) S now step =
     let e : a + 1 + m ≡ a + suc m = omega arith in
@@ -55,43 +55,43 @@ run-from P f a (suc m) S now step =
     (run-from P f (a + 1) m (run (f a) S) (step a S (omega arith) now) (λ k T h. step k T (omega arith))))
 
 -- what holds after the acts for 0, .., m - 1: P 0 holds before, and the acts for k lead from P k to P (k + 1)
-pub run-range : (P : ℕ → State → Type 0) (f : ℕ → List Act) (m : ℕ) (S : State) → P 0 S → ((k : ℕ) (T : State) → k < m → P k T → P (k + 1) (run (f k) T)) → P m (run (flat_map f (range_with_len 0 m)) S)
+pub run-range : (P : ℕ → State → Type 0) (f : ℕ → List (Act (List ℕ))) (m : ℕ) (S : State) → P 0 S → ((k : ℕ) (T : State) → k < m → P k T → P (k + 1) (run (f k) T)) → P m (run (flat_map f (range_with_len 0 m)) S)
 run-range P f m S now step =
     let e : 0 + m ≡ m = omega arith in
     subst (λ n. P n (run (flat_map f (range_with_len 0 m)) S)) e (run-from P f 0 m S now (λ k T h. step k T (omega arith)))
 
-each-alone : (g : ℕ → Act) (ks : List ℕ) → each_of g ks ≡ flat_map (λ k. g k ∷ []) ks
+each-alone : (g : ℕ → Act (List ℕ)) (ks : List ℕ) → each_of g ks ≡ flat_map (λ k. g k ∷ []) ks
 each-alone g [] = refl
 each-alone g (k ∷ ks) = ap (λ acts. g k ∷ acts) (each-alone g ks)
 
 -- the same of one act for each number
-pub run-each : (P : ℕ → State → Type 0) (g : ℕ → Act) (m : ℕ) (S : State) → P 0 S → ((k : ℕ) (T : State) → k < m → P k T → P (k + 1) (apply (g k) T)) → P m (run (each_of g (range_with_len 0 m)) S)
+pub run-each : (P : ℕ → State → Type 0) (g : ℕ → Act (List ℕ)) (m : ℕ) (S : State) → P 0 S → ((k : ℕ) (T : State) → k < m → P k T → P (k + 1) (apply (g k) T)) → P m (run (each_of g (range_with_len 0 m)) S)
 run-each P g m S now step =
     subst (λ acts. P m (run acts S)) (sym (each-alone g (range_with_len 0 m))) (run-range P (λ k. g k ∷ []) m S now step)
 
 -- the acts for a number that passes a test, else none
-abbrev kept_acts : (ℕ → Bool) → (ℕ → List Act) → ℕ → List Act
+abbrev kept_acts : (ℕ → Bool) → (ℕ → List (Act (List ℕ))) → ℕ → List (Act (List ℕ))
 kept_acts t f k = cond (t k) (f k) []
 
-kept-head : (t : Bool) (k : ℕ) (ks : List ℕ) (f : ℕ → List Act) → flat_map f (cond t (k ∷ ks) ks) ≡ cond t (f k) [] ++ flat_map f ks
+kept-head : (t : Bool) (k : ℕ) (ks : List ℕ) (f : ℕ → List (Act (List ℕ))) → flat_map f (cond t (k ∷ ks) ks) ≡ cond t (f k) [] ++ flat_map f ks
 kept-head true k ks f = refl
 kept-head false k ks f = refl
 
-kept-all : (t : ℕ → Bool) (f : ℕ → List Act) (ks : List ℕ) → flat_map f (filter t ks) ≡ flat_map (kept_acts t f) ks
+kept-all : (t : ℕ → Bool) (f : ℕ → List (Act (List ℕ))) (ks : List ℕ) → flat_map f (filter t ks) ≡ flat_map (kept_acts t f) ks
 kept-all t f [] = refl
 kept-all t f (k ∷ ks) = kept-head (t k) k (filter t ks) f ∙ ap (λ acts. kept_acts t f k ++ acts) (kept-all t f ks)
 
-kept-step : (P : ℕ → State → Type 0) (f : ℕ → List Act) (k : ℕ) (T : State) (b : Bool) → (b ≡ true → P (k + 1) (run (f k) T)) → (b ≡ false → P (k + 1) T) → P (k + 1) (run (cond b (f k) []) T)
+kept-step : (P : ℕ → State → Type 0) (f : ℕ → List (Act (List ℕ))) (k : ℕ) (T : State) (b : Bool) → (b ≡ true → P (k + 1) (run (f k) T)) → (b ≡ false → P (k + 1) T) → P (k + 1) (run (cond b (f k) []) T)
 kept-step P f k T true if_so if_not = if_so refl
 kept-step P f k T false if_so if_not = if_not refl
 
 -- the same of the numbers that pass a test
-pub run-kept : (P : ℕ → State → Type 0) (t : ℕ → Bool) (f : ℕ → List Act) (m : ℕ) (S : State) → P 0 S → ((k : ℕ) (T : State) → k < m → P k T → (t k ≡ true → P (k + 1) (run (f k) T)) × (t k ≡ false → P (k + 1) T)) → P m (run (flat_map f (filter t (range_with_len 0 m))) S)
+pub run-kept : (P : ℕ → State → Type 0) (t : ℕ → Bool) (f : ℕ → List (Act (List ℕ))) (m : ℕ) (S : State) → P 0 S → ((k : ℕ) (T : State) → k < m → P k T → (t k ≡ true → P (k + 1) (run (f k) T)) × (t k ≡ false → P (k + 1) T)) → P m (run (flat_map f (filter t (range_with_len 0 m))) S)
 run-kept P t f m S now step =
     subst (λ acts. P m (run acts S)) (sym (kept-all t f (range_with_len 0 m)))
     (run-range P (kept_acts t f) m S now (λ k T h p. let s = step k T h p in kept-step P f k T (t k) s.0 s.1))
 
-pub run-each_kept : (P : ℕ → State → Type 0) (t : ℕ → Bool) (g : ℕ → Act) (m : ℕ) (S : State) → P 0 S → ((k : ℕ) (T : State) → k < m → P k T → (t k ≡ true → P (k + 1) (apply (g k) T)) × (t k ≡ false → P (k + 1) T)) → P m (run (each_of g (filter t (range_with_len 0 m))) S)
+pub run-each_kept : (P : ℕ → State → Type 0) (t : ℕ → Bool) (g : ℕ → Act (List ℕ)) (m : ℕ) (S : State) → P 0 S → ((k : ℕ) (T : State) → k < m → P k T → (t k ≡ true → P (k + 1) (apply (g k) T)) × (t k ≡ false → P (k + 1) T)) → P m (run (each_of g (filter t (range_with_len 0 m))) S)
 run-each_kept P t g m S now step =
     subst (λ acts. P m (run acts S)) (sym (each-alone g (filter t (range_with_len 0 m)))) (run-kept P t (λ k. g k ∷ []) m S now step)
 
@@ -176,7 +176,7 @@ change-keeps f name S = let same = counts_changed f S name in record { registere
 abbrev pub IsMatrix : ℕ → ℕ → State → List ℕ → (ℕ → ℕ → ℤ) → Type 0
 IsMatrix n p S name f = root_of S name ≡ Some (root n p f)
 
-pub tile-of : (n p : ℕ) (S : State) (name : List ℕ) (f : ℕ → ℕ → ℤ) (place : ℕ × ℕ) → IsPlace (cut p) place → IsMatrix n p S name f → (o : Operand) → o.name ≡ name → o.place ≡ place → seen_by o.mode (root n p f) o.place ≡ child_array (root n p f) o.place → operand_array S o ≡ tile n p f place
+pub tile-of : (n p : ℕ) (S : State) (name : List ℕ) (f : ℕ → ℕ → ℤ) (place : ℕ × ℕ) → IsPlace (cut p) place → IsMatrix n p S name f → (o : Operand (List ℕ)) → o.name ≡ name → o.place ≡ place → seen_by o.mode (root n p f) o.place ≡ child_array (root n p f) o.place → operand_array S o ≡ tile n p f place
 tile-of n p S name f place at is o named placed reads =
     ap (λ (x : Option Root). elim x as (λ _. Array) [ None ↦ array (record { rows = 0; cols = 0 }) [] | Some r ↦ seen_by o.mode r o.place ]) (ap (root_of S) named ∙ is)
     ∙ reads ∙ ap (child_array (root n p f)) placed ∙ tile-seen n p f place at

@@ -10,12 +10,12 @@ use Rattle.sj_base.specs.Array.{Array, area, grid}
 use Rattle.sj_base.specs.Window.{table}
 use Rattle.sj_codelet.proofs.Elements.{element-grid, length-each}
 use Rattle.sj_plan.proofs.Lists.{each-append, each-flat_map, each-map, each-of}
-use Rattle.sj_job.specs.declared.job.Init.TheVariants.{Values}
-use Rattle.sj_job.specs.declared.job.Kind.TheVariants.{Matrix}
-use Rattle.sj_job.specs.Act.{Act, Register as Registers, Plan, Redux, Task, Print, Invalidate, Unregister, Statement}
-use Rattle.sj_job.specs.Meaning.{Printed, apply, array_of, found_by, printed, printed_from, prints, registered_root}
-use Rattle.sj_job.specs.Statement.{Register}
-use Rattle.sj_job.specs.State.{Root, State, root_of, start}
+use Rattle.sj_meaning.specs.declared.job.Init.TheVariants.{Values}
+use Rattle.sj_meaning.specs.declared.job.Kind.TheVariants.{Matrix}
+use Rattle.sj_meaning.specs.Act.{Act, Register as Registers, Plan, Redux, Task, Print, Invalidate, Unregister, Statement}
+use Rattle.sj_meaning.specs.Meaning.{Printed, apply, array_of, found_by, printed, printed_from, prints, registered_root}
+use Rattle.sj_meaning.specs.Statement.{Register}
+use Rattle.sj_meaning.specs.State.{Root, State, root_of, start}
 use Rattle.sj_apps.specs.Generated.{IsSize, apart_of, aparts_of, below_of, beside_of, cut, first_line, matrix, name_D, numbered, others, part_count, paths_statements, square, upto, walk_step_of, walk_steps_of, weight, weights}
 use Rattle.sj_apps.specs.Walks.{AreWeights, IsShortest, StayBelowInf}
 use Rattle.sj_apps.specs.Shortest.{PrintsShortest, acts_of, unhurried, walk_acts}
@@ -44,7 +44,7 @@ steps-silent name p =
 -- the matrix at its registration
 registered-is : (name : List ℕ) (n p : ℕ) (W : ℕ → ℕ → ℤ) → IsMatrix n p (apply (matrix name n p (Values (table (square n) W))) start) name W
 registered-is name n p W =
-    let r : Register = record { name = name; kind = Matrix; dims = square n; parts = cut p; init = Values (table (square n) W) } in
+    let r : Register (List ℕ) = record { name = name; kind = Matrix; dims = square n; parts = cut p; init = Values (table (square n) W) } in
     map.get-insert nat_list_cmp_total start.roots name (registered_root r) name
     ∙ ap (λ b. cond b (Some (registered_root r)) (root_of start name)) (sym (texts_ties name name) ∙ (bytes_eq-Decides name name).1 refl)
     ∙ ap (λ (es : List (Option ℤ)). let x : Root = record { kind = Matrix; dims = square n; parts = cut p; reduction = None; elements = es } in Some x) (map-map Some (λ q. W (q / n) (q % n)) (range_with_len 0 (area (square n))))
@@ -75,7 +75,7 @@ numbered-print name n p line W xs some e w stay =
 
 -- ---- whatever the lines and priorities
 
-apply-unhurried : (a : Act) (S : State) → apply (unhurried a) S ≡ apply a S
+apply-unhurried : (a : Act (List ℕ)) (S : State) → apply (unhurried a) S ≡ apply a S
 apply-unhurried (Registers r) S = refl
 apply-unhurried (Plan name parts) S = refl
 apply-unhurried (Redux name by) S = refl
@@ -84,7 +84,7 @@ apply-unhurried (Print name) S = refl
 apply-unhurried (Invalidate name) S = refl
 apply-unhurried (Unregister name) S = refl
 
-prints-unhurried : (a : Act) (S : State) → prints (unhurried a) S ≡ prints a S
+prints-unhurried : (a : Act (List ℕ)) (S : State) → prints (unhurried a) S ≡ prints a S
 prints-unhurried (Registers r) S = refl
 prints-unhurried (Plan name parts) S = refl
 prints-unhurried (Redux name by) S = refl
@@ -93,7 +93,7 @@ prints-unhurried (Print name) S = refl
 prints-unhurried (Invalidate name) S = refl
 prints-unhurried (Unregister name) S = refl
 
-printed-acts_of : (ss : List Statement) (line : ℕ) (S : State) → printed_from S (numbered line (acts_of ss)) ≡ printed_from S ss
+printed-acts_of : (ss : List (Statement (List ℕ))) (line : ℕ) (S : State) → printed_from S (numbered line (acts_of ss)) ≡ printed_from S ss
 printed-acts_of [] line S = refl
 printed-acts_of (s ∷ ss) line S =
     ap (λ (ps : List Printed). ps ++ printed_from (apply (unhurried s.act) S) (numbered (line + 1) (acts_of ss))) (prints-unhurried s.act S)
@@ -101,12 +101,12 @@ printed-acts_of (s ∷ ss) line S =
     ∙ ap (λ (ps : List Printed). prints s.act S ++ ps) (printed-acts_of ss (line + 1) (apply s.act S))
 
 -- for any weights of which none is negative and whose walks stay below `inf`
-pub walks-print : (name : List ℕ) (n p : ℕ) (W : ℕ → ℕ → ℤ) (xs : List ℤ) (ss : List Statement) → 0 < p → xs ≡ table (square n) W → AreWeights n W → StayBelowInf n W → acts_of ss ≡ walk_acts name n p xs → PrintsShortest name n W ss
+pub walks-print : (name : List ℕ) (n p : ℕ) (W : ℕ → ℕ → ℤ) (xs : List ℤ) (ss : List (Statement (List ℕ))) → 0 < p → xs ≡ table (square n) W → AreWeights n W → StayBelowInf n W → acts_of ss ≡ walk_acts name n p xs → PrintsShortest name n W ss
 walks-print name n p W xs ss some e w stay acts =
     let made = numbered-print name n p 0 W xs some e w stay in
     record {
       lengths = made.lengths;
-      alone = sym (printed-acts_of ss 0 start) ∙ ap (λ (xs : List Act). printed (numbered 0 xs)) acts ∙ made.alone;
+      alone = sym (printed-acts_of ss 0 start) ∙ ap (λ (xs : List (Act (List ℕ))). printed (numbered 0 xs)) acts ∙ made.alone;
       shortest = made.shortest;
     }
 

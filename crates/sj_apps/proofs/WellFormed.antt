@@ -19,18 +19,19 @@ use Rattle.sj_job.specs.declared.form.ArrayForm.{ArrayForm}
 use Rattle.sj_job.specs.declared.form.InitForm.{InitForm}
 use Rattle.sj_job.specs.declared.form.OperandForm.{OperandForm}
 use Rattle.sj_job.specs.declared.form.Size.TheVariants.{Matrix}
-use Rattle.sj_job.specs.declared.job.Init.{Init}
-use Rattle.sj_job.specs.declared.job.Kind.TheVariants as kind
+use Rattle.sj_meaning.specs.declared.job.Init.{Init}
+use Rattle.sj_meaning.specs.declared.job.Kind.TheVariants as kind
 use Rattle.sj_job.specs.declared.form.TaskForm.{TaskForm}
 use Rattle.sj_job.specs.declared.form.Form.TheVariants as form
 use Rattle.sj_job.specs.declared.reason.Reason.{Reason}
-use Rattle.sj_job.specs.Act.{Act, Register, Task, Print}
+use Rattle.sj_meaning.specs.Act.{Act, Register, Task, Print}
 use Rattle.sj_job.specs.Grammar.{has_values, is_proper_operand, written}
-use Rattle.sj_job.specs.Judge.{Known, Scope, child_lacks_value, dims_in, first_of, has_mixed_outputs, has_names, is_aliased, is_counted, is_crowded, is_cut, is_full, is_lacking, is_miscounted, is_missing, is_outside, is_side, is_uncut, is_unknown, is_unlawful, judged, judged_by, judged_call, kernel_named, known_of, lacks_reduction, line_reasons, modes_fit, needs_value, operand_reasons, print_reasons, register_reasons, scope_of, unless}
-use Rattle.sj_job.specs.Meaning.{apply}
+use Rattle.sj_job.specs.Judge.{Known, Scope, child_lacks_value, dims_in, first_of, has_mixed_outputs, has_names, is_counted, is_crowded, is_cut, is_full, is_lacking, is_miscounted, is_missing, is_outside, is_uncut, is_unknown, is_unlawful, judged, judged_by, judged_call, kernel_named, known_of, lacks_reduction, line_reasons, operand_reasons, print_reasons, register_reasons, scope_of, unless}
+use Rattle.sj_meaning.specs.Sound.{is_aliased, is_side, modes_fit, needs_value}
+use Rattle.sj_meaning.specs.Meaning.{apply}
 use Rattle.sj_job.specs.Sentence.{are_counts, init_said, is_numbered_init, is_numbered_size, operand_said, registered_by}
-use Rattle.sj_job.specs.State.{State, is_child, is_valued, is_valued_child}
-use Rattle.sj_job.specs.Statement.{Operand, Register as Registration, TaskLine}
+use Rattle.sj_meaning.specs.State.{State, is_child, is_valued, is_valued_child}
+use Rattle.sj_meaning.specs.Statement.{Operand, Register as Registration, TaskLine}
 use Rattle.sj_job.specs.Well.{IsAllowed, IsWell}
 use Rattle.sj_job.specs.Word.{is_count, is_name}
 use Rattle.sj_job.proofs.Spelling.{true_both}
@@ -87,65 +88,65 @@ valued-child n p f place at =
 -- ---- tasks
 
 -- an operand's name is that of a matrix, and its place one of its tiles
-pub record IsSeen (n p : ℕ) (s : Scope) (o : Operand) : Type 0 where
+pub record IsSeen (n p : ℕ) (s : Scope) (o : Operand (List ℕ)) : Type 0 where
   pub elements : ℕ → ℕ → ℤ
   pub known : s.known o.name ≡ Some (known_of (root n p elements))
   pub unended : s.ended o.name ≡ false
   pub name : is_name o.name ≡ true
   pub place : IsPlace (cut p) o.place
 
-abbrev form-of : Operand → OperandForm
+abbrev form-of : Operand (List ℕ) → OperandForm
 form-of o = record { name = o.name; child = Some (decimal o.place.0, decimal o.place.1); mode = o.mode }
 
 module _ (n p : ℕ) (few : p < bound) (s : Scope) where
-  form-says : (o : Operand) → IsSeen n p s o → operand_said (form-of o) ≡ o
+  form-says : (o : Operand (List ℕ)) → IsSeen n p s o → operand_said (form-of o) ≡ o
   form-says o h =
       let i = decimal-counts o.place.0 (omega (arith, h.place.0)) in
       let j = decimal-counts o.place.1 (omega (arith, h.place.1)) in
       λ t. record { name = o.name; place = (i t, j t); mode = o.mode }
 
-  form-proper : (o : Operand) → IsSeen n p s o → is_proper_operand (form-of o) ≡ true
+  form-proper : (o : Operand (List ℕ)) → IsSeen n p s o → is_proper_operand (form-of o) ≡ true
   form-proper o h =
       let i = decimal-piece o.place.0 (omega (arith, h.place.0)) in
       let j = decimal-piece o.place.1 (omega (arith, h.place.1)) in
       true_both (is_name o.name) _ h.name (true_both _ _ i (true_both _ _ j refl))
 
-  form-counts : (o : Operand) → IsSeen n p s o → are_counts (form-of o).child ≡ true
+  form-counts : (o : Operand (List ℕ)) → IsSeen n p s o → are_counts (form-of o).child ≡ true
   form-counts o h = true_both _ _ (decimal-is_count o.place.0 (omega (arith, h.place.0))) (decimal-is_count o.place.1 (omega (arith, h.place.1)))
 
   abbrev missing-with : Option Known → Option (ℕ × ℕ) → Bool
   missing-with known index = elim known as (λ _. Bool) [ None ↦ false | Some k ↦ not (Rattle.sj_job.specs.Judge.is_child_said k.parts index) ]
 
-  not-missing : (o : Operand) → IsSeen n p s o → is_missing s (form-of o) ≡ false
+  not-missing : (o : Operand (List ℕ)) → IsSeen n p s o → is_missing s (form-of o) ≡ false
   not-missing o h =
       let i = decimal-counts o.place.0 (omega (arith, h.place.0)) in
       let j = decimal-counts o.place.1 (omega (arith, h.place.1)) in
       (λ t. missing-with (h.known t) (Some (i t, j t))) ∙ not_from_true (is_child (cut p) o.place) (child-test p o.place h.place)
 
-  dims-seen : (o : Operand) → IsSeen n p s o → dims_in s o ≡ dims_of (rect n p o.place)
+  dims-seen : (o : Operand (List ℕ)) → IsSeen n p s o → dims_in s o ≡ dims_of (rect n p o.place)
   dims-seen o h = ap (λ (x : Option Known). elim x as (λ _. Dims) [ None ↦ record { rows = 0; cols = 0 } | Some k ↦ dims_of (Rattle.sj_plan.specs.Rect.child k.dims k.parts o.place) ]) h.known
 
-  not-lacking : (o : Operand) → IsSeen n p s o → is_lacking s o ≡ false
+  not-lacking : (o : Operand (List ℕ)) → IsSeen n p s o → is_lacking s o ≡ false
   not-lacking o h =
       and_right (needs_value o.mode) (child_lacks_value s o)
       (ap (λ (x : Option Known). elim x as (λ _. Bool) [ None ↦ false | Some k ↦ not (k.child o.place) ]) h.known ∙ not_from_true (is_valued_child (root n p h.elements) o.place) (valued-child n p h.elements o.place h.place))
 
-  not-unknown : (o : Operand) → IsSeen n p s o → is_unknown s o.name ≡ false
+  not-unknown : (o : Operand (List ℕ)) → IsSeen n p s o → is_unknown s o.name ≡ false
   not-unknown o h = ap (λ (x : Option Known). not (is_some x) && not (s.ended o.name)) h.known
 
-  not-reducing : (o : Operand) → is_redux o.mode ≡ false → lacks_reduction s o ≡ false
+  not-reducing : (o : Operand (List ℕ)) → is_redux o.mode ≡ false → lacks_reduction s o ≡ false
   not-reducing o h = ap (λ b. b && not (is_some (Rattle.sj_job.specs.Judge.reduction_known s o.name))) h
 
   -- a task whose operands are tiles of matrices
-  pub task-judged : (k : Kernel) (codelet : List ℕ) (os : List Operand) → is_full s ≡ false → kernel_named (λ _. true) codelet ≡ Some k → is_name codelet ≡ true → AllByRecursion (IsSeen n p s) os
-      → is_counted k [] os ≡ true → modes_fit (formals_of k) os ≡ true → fits k [] (each_of (λ (o : Operand). dims_of (rect n p o.place)) os) ≡ true → is_aliased os ≡ false
-      → AllByRecursion (λ (o : Operand). is_redux o.mode ≡ false) os → has_mixed_outputs os ≡ false → list_any (is_unlawful (λ _. true) s k) os ≡ false
+  pub task-judged : (k : Kernel) (codelet : List ℕ) (os : List (Operand (List ℕ))) → is_full s ≡ false → kernel_named (λ _. true) codelet ≡ Some k → is_name codelet ≡ true → AllByRecursion (IsSeen n p s) os
+      → is_counted k [] os ≡ true → modes_fit (formals_of k) os ≡ true → fits k [] (each_of (λ (o : Operand (List ℕ)). dims_of (rect n p o.place)) os) ≡ true → is_aliased os ≡ false
+      → AllByRecursion (λ (o : Operand (List ℕ)). is_redux o.mode ≡ false) os → has_mixed_outputs os ≡ false → list_any (is_unlawful (λ _. true) s k) os ≡ false
       → IsAllowed (λ _. true) s (Task (record { codelet = codelet_of k; args = []; operands = os; priority = pos 0 }))
   task-judged k codelet os full named proper seen counted modes fit alone plain mixed lawful =
       let t : TaskForm = record { codelet = codelet; args = []; operands = each_of form-of os; priority = None } in
       let says : each_of operand_said (each_of form-of os) ≡ os = says-each os seen in
-      let line : first_of (line_reasons s (pos 0) os) ≡ None = first-none (line_reasons s (pos 0) os) (full, (refl, (any-none (λ o. is_unknown s o.name) os (each-all not-unknown os seen), (any-none (λ (o : Operand). s.ended o.name) os (each-all (λ o h. h.unended) os seen), tt)))) in
-      let shaped : Rattle.sj_job.specs.Judge.is_shaped s k [] os ≡ true = true_both (modes_fit (formals_of k) os) _ modes (ap (fits k []) (each-same (IsSeen n p s) (dims_in s) (λ (o : Operand). dims_of (rect n p o.place)) dims-seen os seen) ∙ fit) in
+      let line : first_of (line_reasons s (pos 0) os) ≡ None = first-none (line_reasons s (pos 0) os) (full, (refl, (any-none (λ o. is_unknown s o.name) os (each-all not-unknown os seen), (any-none (λ (o : Operand (List ℕ)). s.ended o.name) os (each-all (λ o h. h.unended) os seen), tt)))) in
+      let shaped : Rattle.sj_job.specs.Judge.is_shaped s k [] os ≡ true = true_both (modes_fit (formals_of k) os) _ modes (ap (fits k []) (each-same (IsSeen n p s) (dims_in s) (λ (o : Operand (List ℕ)). dims_of (rect n p o.place)) dims-seen os seen) ∙ fit) in
       let reasons : first_of (operand_reasons (λ _. true) s k [] (each_of form-of os) os) ≡ None =
       first-none (operand_reasons (λ _. true) s k [] (each_of form-of os) os) (
         not_from_true (is_counted k [] os) counted,
@@ -174,26 +175,26 @@ module _ (n p : ℕ) (few : p < bound) (s : Scope) where
           numbered = true_both _ _ (all-each (λ (f : OperandForm). are_counts f.child) (each_of form-of os) (each-to (IsSeen n p s) (λ (f : OperandForm). are_counts f.child ≡ true) form-of form-counts os seen)) refl;
         });
         judged =
-            ap (λ (xs : List Operand). judged_by (first_of (line_reasons s (pos 0) xs)) (judged_call (λ _. true) s (kernel_named (λ _. true) codelet) t)) says
+            ap (λ (xs : List (Operand (List ℕ))). judged_by (first_of (line_reasons s (pos 0) xs)) (judged_call (λ _. true) s (kernel_named (λ _. true) codelet) t)) says
             ∙ ap (λ (o : Option Reason). judged_by o (judged_call (λ _. true) s (kernel_named (λ _. true) codelet) t)) line
             ∙ ap (λ (o : Option Kernel). judged_call (λ _. true) s o t) named
-            ∙ ap (λ (xs : List Operand). unless (first_of (operand_reasons (λ _. true) s k [] (each_of form-of os) xs)) (Task (line-of xs))) says
+            ∙ ap (λ (xs : List (Operand (List ℕ))). unless (first_of (operand_reasons (λ _. true) s k [] (each_of form-of os) xs)) (Task (line-of xs))) says
             ∙ ap (λ (o : Option Reason). unless o (Task (line-of os))) reasons;
       }
     where
-      says-each : (os : List Operand) → AllByRecursion (IsSeen n p s) os → each_of operand_said (each_of form-of os) ≡ os
+      says-each : (os : List (Operand (List ℕ))) → AllByRecursion (IsSeen n p s) os → each_of operand_said (each_of form-of os) ≡ os
       says-each [] h = refl
       says-each (o ∷ os) h = λ i. form-says o h.0 i ∷ says-each os h.1 i
 
-      each-all : {Q : Operand → Type 0} → ((o : Operand) → IsSeen n p s o → Q o) → (os : List Operand) → AllByRecursion (IsSeen n p s) os → AllByRecursion Q os
+      each-all : {Q : Operand (List ℕ) → Type 0} → ((o : Operand (List ℕ)) → IsSeen n p s o → Q o) → (os : List (Operand (List ℕ))) → AllByRecursion (IsSeen n p s) os → AllByRecursion Q os
       each-all h [] a = tt
       each-all h (o ∷ os) a = (h o a.0, each-all h os a.1)
 
-      each-plain : (os : List Operand) → AllByRecursion (λ (o : Operand). is_redux o.mode ≡ false) os → AllByRecursion (λ (o : Operand). lacks_reduction s o ≡ false) os
+      each-plain : (os : List (Operand (List ℕ))) → AllByRecursion (λ (o : Operand (List ℕ)). is_redux o.mode ≡ false) os → AllByRecursion (λ (o : Operand (List ℕ)). lacks_reduction s o ≡ false) os
       each-plain [] a = tt
       each-plain (o ∷ os) a = (not-reducing o a.0, each-plain os a.1)
 
-      line-of : List Operand → TaskLine
+      line-of : List (Operand (List ℕ)) → TaskLine (List ℕ)
       line-of os = record { codelet = codelet_of k; args = []; operands = os; priority = pos 0 }
 
 -- ---- registrations
@@ -247,7 +248,7 @@ matrix-allowed n p h name init worded s named full room unended new =
         spelled = record { line = refl; proper = true_both (is_name name) (has_values worded.form) named worded.some };
         numbered = true_both (is_numbered_size a.size && are_counts a.parts) (is_numbered_init worded.form) (true_both (is_numbered_size a.size) (are_counts a.parts) (true_both (is_count dn) (is_count dn) isn isn) (true_both (is_count dp) (is_count dp) isp isp)) worded.numbers;
       });
-      judged = ap (λ (x : Registration). unless (first_of (register_reasons s name x.dims x.parts x.init)) (Register x)) says ∙ ap (λ (o : Option Reason). unless o (Register r)) none;
+      judged = ap (λ (x : Registration (List ℕ)). unless (first_of (register_reasons s name x.dims x.parts x.init)) (Register x)) says ∙ ap (λ (o : Option Reason). unless o (Register r)) none;
     }
 
 -- ---- print statements
@@ -274,31 +275,31 @@ print-allowed n p f name s named full unended known =
 -- ---- one statement after another
 
 -- the act is allowed in a state, however many statements stand before it
-abbrev pub Allowed : State → Act → Type 0
+abbrev pub Allowed : State → Act (List ℕ) → Type 0
 Allowed S a = (k : ℕ) → k < 262144 → IsAllowed (λ _. true) (scope_of k S) a
 
 -- each of the acts is, in the state that those before it leave
-abbrev pub AllAllowed : State → List Act → Type 0
+abbrev pub AllAllowed : State → List (Act (List ℕ)) → Type 0
 AllAllowed S [] = Unit {0}
 AllAllowed S (a ∷ acts) = Allowed S a × AllAllowed (apply a S) acts
 
-pub well-from : (k line : ℕ) (acts : List Act) (S : State) → k + length acts ≤ 262144 → AllAllowed S acts → IsWell (λ _. true) k S (numbered line acts)
+pub well-from : (k line : ℕ) (acts : List (Act (List ℕ))) (S : State) → k + length acts ≤ 262144 → AllAllowed S acts → IsWell (λ _. true) k S (numbered line acts)
 well-from k line [] S few h = tt
 well-from k line (a ∷ acts) S few h = (h.0 k (omega arith), well-from (k + 1) (line + 1) acts (apply a S) (omega arith) h.1)
 
-pub all-append : (acts more : List Act) (S : State) → AllAllowed S acts → AllAllowed (run acts S) more → AllAllowed S (acts ++ more)
+pub all-append : (acts more : List (Act (List ℕ))) (S : State) → AllAllowed S acts → AllAllowed (run acts S) more → AllAllowed S (acts ++ more)
 all-append [] more S h g = g
 all-append (a ∷ acts) more S h g = (h.0, all-append acts more (apply a S) h.1 g)
 
 -- acts for one number after another, each of which keeps P
-pub all-flat : {Q : ℕ → Type 0} (P : State → Type 0) (f : ℕ → List Act) → ((k : ℕ) (T : State) → Q k → P T → AllAllowed T (f k) × P (run (f k) T)) → (ks : List ℕ) → AllByRecursion Q ks → (S : State) → P S → AllAllowed S (flat_map f ks) × P (run (flat_map f ks) S)
+pub all-flat : {Q : ℕ → Type 0} (P : State → Type 0) (f : ℕ → List (Act (List ℕ))) → ((k : ℕ) (T : State) → Q k → P T → AllAllowed T (f k) × P (run (f k) T)) → (ks : List ℕ) → AllByRecursion Q ks → (S : State) → P S → AllAllowed S (flat_map f ks) × P (run (flat_map f ks) S)
 all-flat P f step [] h S now = (tt, now)
 all-flat {Q = Q} P f step (k ∷ ks) h S now =
     let one = step k S h.0 now in
     let rest = all-flat {Q = Q} P f step ks h.1 (run (f k) S) one.1 in
     (all-append (f k) (flat_map f ks) S one.0 rest.0, subst P (sym (run-append (f k) (flat_map f ks) S)) rest.1)
 
-pub all-each_of : {Q : ℕ → Type 0} (P : State → Type 0) (g : ℕ → Act) → ((k : ℕ) (T : State) → Q k → P T → Allowed T (g k) × P (apply (g k) T)) → (ks : List ℕ) → AllByRecursion Q ks → (S : State) → P S → AllAllowed S (each_of g ks) × P (run (each_of g ks) S)
+pub all-each_of : {Q : ℕ → Type 0} (P : State → Type 0) (g : ℕ → Act (List ℕ)) → ((k : ℕ) (T : State) → Q k → P T → Allowed T (g k) × P (apply (g k) T)) → (ks : List ℕ) → AllByRecursion Q ks → (S : State) → P S → AllAllowed S (each_of g ks) × P (run (each_of g ks) S)
 all-each_of P g step [] h S now = (tt, now)
 all-each_of {Q = Q} P g step (k ∷ ks) h S now =
     let one = step k S h.0 now in
@@ -307,6 +308,6 @@ all-each_of {Q = Q} P g step (k ∷ ks) h S now =
 
 -- ---- how many acts there are
 
-pub flat-length : (f : ℕ → List Act) (m : ℕ) → ((k : ℕ) → length (f k) ≤ m) → (ks : List ℕ) → length (flat_map f ks) ≤ length ks * m
+pub flat-length : (f : ℕ → List (Act (List ℕ))) (m : ℕ) → ((k : ℕ) → length (f k) ≤ m) → (ks : List ℕ) → length (flat_map f ks) ≤ length ks * m
 flat-length f m h [] = omega arith
 flat-length f m h (k ∷ ks) = omega (arith, length-append (f k) (flat_map f ks), h k, flat-length f m h ks)

@@ -1,8 +1,8 @@
 -- The job of an application.
-use Rattle.std.specs.Prelude.{List}
-use Rattle.sj_job.specs.Act.{Statement}
-use Rattle.sj_job.specs.Job.{Job}
-use Rattle.sj_job.specs.Settings.{unset}
+use Rattle.std.specs.Prelude.{List, ℕ}
+use Rattle.sj_meaning.specs.Act.{Statement}
+use Rattle.sj_meaning.specs.Job.{Job}
+use Rattle.sj_meaning.specs.Settings.{unset}
 use Rattle.sj_apps.specs.declared.application.Application.{Application}
 use Rattle.sj_apps.specs.declared.application.Problem.TheVariants.{Product, Paths}
 use Rattle.sj_apps.specs.Generated.{product_statements, paths_statements, IsSize}
@@ -12,7 +12,7 @@ abbrev pub IsSized : Application → Type 0
 IsSized a = IsSize a.n a.tile a.seed
 
 -- the statements of its job
-abbrev pub statements_for : Application → List Statement
+abbrev pub statements_for : Application → List (Statement (List ℕ))
 statements_for a = elim a.problem [
   | Product ↦ product_statements a.n a.tile a.seed
   | Paths ↦ paths_statements a.n a.tile a.seed

@@ -1,7 +1,7 @@
 -- A job in the making: what it says so far.
 use Rattle.std.specs.Prelude.{◌≡◌, ℕ, ◌+◌, nat_eq, if◌then◌else◌, List, [], ◌∷◌, ◌++◌, length}
-use Rattle.sj_job.specs.Act.{Act}
-use Rattle.sj_job.specs.View.{seen_from, ArePlaced, count_from}
+use Rattle.sj_meaning.specs.Act.{Act}
+use Rattle.sj_meaning.specs.View.{seen_from, ArePlaced, count_from}
 use Rattle.sj_apps.specs.declared.draft.Draft.{Draft}
 use Rattle.sj_apps.specs.Generated.{numbered, first_line, name_A, name_B, name_C, name_D}
 
@@ -11,7 +11,7 @@ pub record IsNumberedSoFar (d : Draft) : Type 0 where
   pub counted : count_from 0 d.statements ≡ length d.roots.names
 
 -- the new draft says these acts more, in the next lines
-pub record Tells (old new : Draft) (acts : List Act) : Type 0 where
+pub record Tells (old new : Draft) (acts : List (Act (List ℕ))) : Type 0 where
   pub roots : new.roots ≡ old.roots
   pub long : length new.statements ≡ length old.statements + length acts
   pub seen : seen_from new.roots 0 new.statements ≡ seen_from old.roots 0 old.statements ++ numbered (length old.statements + first_line) acts
@@ -26,5 +26,5 @@ abbrev pub paths_names : List (List ℕ)
 paths_names = name_D ∷ []
 
 -- what is said of every number but k
-abbrev pub unless_same : ℕ → ℕ → List Act → List Act
+abbrev pub unless_same : ℕ → ℕ → List (Act (List ℕ)) → List (Act (List ℕ))
 unless_same j k acts = if nat_eq j k then [] else acts

@@ -10,11 +10,11 @@ use Rattle.sj_codelet.specs.declared.kernel.Kernel.TheVariants.{Gemm, MinGemm, F
 use Rattle.sj_codelet.specs.Kernel.{codelet_of}
 use Rattle.sj_codelet.specs.MinPlus.{inf}
 use Rattle.sj_plan.specs.declared.parts.Parts.{Parts}
-use Rattle.sj_job.specs.declared.job.Kind.TheVariants.{Matrix}
-use Rattle.sj_job.specs.declared.job.Init.{Init}
-use Rattle.sj_job.specs.declared.job.Init.TheVariants.{Values, Fill}
-use Rattle.sj_job.specs.Statement.{Operand}
-use Rattle.sj_job.specs.Act.{Act, Register, Task, Print, Statement}
+use Rattle.sj_meaning.specs.declared.job.Kind.TheVariants.{Matrix}
+use Rattle.sj_meaning.specs.declared.job.Init.{Init}
+use Rattle.sj_meaning.specs.declared.job.Init.TheVariants.{Values, Fill}
+use Rattle.sj_meaning.specs.Statement.{Operand}
+use Rattle.sj_meaning.specs.Act.{Act, Register, Task, Print, Statement}
 
 -- into how many parts n rows are cut, at most `tile` of them in each
 abbrev pub part_count : ℕ → ℕ → ℕ
@@ -36,19 +36,19 @@ abbrev pub cut : ℕ → Parts
 cut p = record { r = p; c = p }
 
 -- `matrix NAME n n by p p INIT`
-abbrev pub matrix : List ℕ → ℕ → ℕ → Init → Act
+abbrev pub matrix : List ℕ → ℕ → ℕ → Init → Act (List ℕ)
 matrix name n p init = Register (record { name = name; kind = Matrix; dims = square n; parts = cut p; init = init })
 
 -- `NAME[i,j]:MODE`
-abbrev pub operand : List ℕ → ℕ → ℕ → Mode → Operand
+abbrev pub operand : List ℕ → ℕ → ℕ → Mode → Operand (List ℕ)
 operand name i j mode = record { name = name; place = (i, j); mode = mode }
 
 -- `task CODELET OPERANDS`
-abbrev pub task : Kernel → List Operand → Act
+abbrev pub task : Kernel → List (Operand (List ℕ)) → Act (List ℕ)
 task kernel operands = Task (record { codelet = codelet_of kernel; args = []; operands = operands; priority = pos 0 })
 
 -- acts in the lines from this one on
-abbrev pub numbered : ℕ → List Act → List Statement
+abbrev pub numbered : ℕ → List (Act (List ℕ)) → List (Statement (List ℕ))
 numbered line [] = []
 numbered line (a ∷ rest) = record { line = record { 0 = line }; act = a } ∷ numbered (line + 1) rest
 
@@ -68,28 +68,28 @@ abbrev pub name_C : List ℕ
 name_C = codes "C"
 
 -- the product of a tile of A and a tile of B comes to the tile [i, j] of C
-abbrev pub gemm : ℕ → ℕ → ℕ → Act
+abbrev pub gemm : ℕ → ℕ → ℕ → Act (List ℕ)
 gemm i j k = task Gemm (operand name_A i k R ∷ operand name_B k j R ∷ operand name_C i j Commute ∷ [])
 
-abbrev pub gemms_at : ℕ → ℕ → ℕ → List Act
+abbrev pub gemms_at : ℕ → ℕ → ℕ → List (Act (List ℕ))
 gemms_at p i j = map (gemm i j) (upto p)
 
-abbrev pub gemms_in_row : ℕ → ℕ → List Act
+abbrev pub gemms_in_row : ℕ → ℕ → List (Act (List ℕ))
 gemms_in_row p i = flat_map (gemms_at p i) (upto p)
 
-abbrev pub gemms : ℕ → List Act
+abbrev pub gemms : ℕ → List (Act (List ℕ))
 gemms p = flat_map (gemms_in_row p) (upto p)
 
 -- A counts up from the seed's last two digits, B down from 5 by twos, and C is zero
-abbrev pub factors : ℕ → ℕ → ℕ → List Act
+abbrev pub factors : ℕ → ℕ → ℕ → List (Act (List ℕ))
 factors n p seed =
     matrix name_A n p (Fill (pos (seed % 100)) (pos 1)) ∷ matrix name_B n p (Fill (pos 5) (negsuc 1))
     ∷ matrix name_C n p (Fill (pos 0) (pos 0)) ∷ []
 
-abbrev pub product_acts : ℕ → ℕ → ℕ → List Act
+abbrev pub product_acts : ℕ → ℕ → ℕ → List (Act (List ℕ))
 product_acts n p seed = factors n p seed ++ (gemms p ++ Print name_C ∷ [])
 
-abbrev pub product_statements : ℕ → ℕ → ℕ → List Statement
+abbrev pub product_statements : ℕ → ℕ → ℕ → List (Statement (List ℕ))
 product_statements n tile seed = numbered first_line (product_acts n (part_count n tile) seed)
 
 -- ---- the lengths of shortest walks
@@ -109,58 +109,58 @@ abbrev pub weights : ℕ → ℕ → List ℤ
 weights n seed = table (square n) (weight n seed)
 
 -- ways through the diagonal tile of block k, within it, of the matrix of that name
-abbrev pub diagonal_of : List ℕ → ℕ → Act
+abbrev pub diagonal_of : List ℕ → ℕ → Act (List ℕ)
 diagonal_of name k = task FwDiag (operand name k k RW ∷ [])
 
 -- the same in a tile of its row
-abbrev pub beside_of : List ℕ → ℕ → ℕ → Act
+abbrev pub beside_of : List ℕ → ℕ → ℕ → Act (List ℕ)
 beside_of name k j = task FwRow (operand name k k R ∷ operand name k j RW ∷ [])
 
 -- in a tile of its column
-abbrev pub below_of : List ℕ → ℕ → ℕ → Act
+abbrev pub below_of : List ℕ → ℕ → ℕ → Act (List ℕ)
 below_of name k i = task FwCol (operand name k k R ∷ operand name i k RW ∷ [])
 
 -- and in another tile
-abbrev pub apart_of : List ℕ → ℕ → ℕ → ℕ → Act
+abbrev pub apart_of : List ℕ → ℕ → ℕ → ℕ → Act (List ℕ)
 apart_of name k i j = task MinGemm (operand name i k R ∷ operand name k j R ∷ operand name i j RW ∷ [])
 
-abbrev pub aparts_of : List ℕ → ℕ → ℕ → ℕ → List Act
+abbrev pub aparts_of : List ℕ → ℕ → ℕ → ℕ → List (Act (List ℕ))
 aparts_of name p k i = map (apart_of name k i) (others p k)
 
 -- the tasks of block k: afterwards walks may go through its vertices too
-abbrev pub walk_step_of : List ℕ → ℕ → ℕ → List Act
+abbrev pub walk_step_of : List ℕ → ℕ → ℕ → List (Act (List ℕ))
 walk_step_of name p k =
     diagonal_of name k ∷ (map (beside_of name k) (others p k) ++ (map (below_of name k) (others p k) ++ flat_map (aparts_of name p k) (others p k)))
 
-abbrev pub walk_steps_of : List ℕ → ℕ → List Act
+abbrev pub walk_steps_of : List ℕ → ℕ → List (Act (List ℕ))
 walk_steps_of name p = flat_map (walk_step_of name p) (upto p)
 
 -- the same of D
-abbrev pub diagonal : ℕ → Act
+abbrev pub diagonal : ℕ → Act (List ℕ)
 diagonal k = diagonal_of name_D k
 
-abbrev pub beside : ℕ → ℕ → Act
+abbrev pub beside : ℕ → ℕ → Act (List ℕ)
 beside k j = beside_of name_D k j
 
-abbrev pub below : ℕ → ℕ → Act
+abbrev pub below : ℕ → ℕ → Act (List ℕ)
 below k i = below_of name_D k i
 
-abbrev pub apart : ℕ → ℕ → ℕ → Act
+abbrev pub apart : ℕ → ℕ → ℕ → Act (List ℕ)
 apart k i j = apart_of name_D k i j
 
-abbrev pub aparts_in_row : ℕ → ℕ → ℕ → List Act
+abbrev pub aparts_in_row : ℕ → ℕ → ℕ → List (Act (List ℕ))
 aparts_in_row p k i = aparts_of name_D p k i
 
-abbrev pub walk_step : ℕ → ℕ → List Act
+abbrev pub walk_step : ℕ → ℕ → List (Act (List ℕ))
 walk_step p k = walk_step_of name_D p k
 
-abbrev pub walk_steps : ℕ → List Act
+abbrev pub walk_steps : ℕ → List (Act (List ℕ))
 walk_steps p = walk_steps_of name_D p
 
-abbrev pub paths_acts : ℕ → ℕ → ℕ → List Act
+abbrev pub paths_acts : ℕ → ℕ → ℕ → List (Act (List ℕ))
 paths_acts n p seed = matrix name_D n p (Values (weights n seed)) ∷ (walk_steps p ++ Print name_D ∷ [])
 
-abbrev pub paths_statements : ℕ → ℕ → ℕ → List Statement
+abbrev pub paths_statements : ℕ → ℕ → ℕ → List (Statement (List ℕ))
 paths_statements n tile seed = numbered first_line (paths_acts n (part_count n tile) seed)
 
 -- ---- what the generators are given

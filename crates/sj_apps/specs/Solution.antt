@@ -1,9 +1,9 @@
 -- What the jobs of applications print: the answers of their problems.
 use Rattle.std.specs.Prelude.{◌≡◌, ℕ, List, [], ◌∷◌}
 use Rattle.sj_base.specs.Array.{Array}
-use Rattle.sj_job.specs.Act.{Statement}
-use Rattle.sj_job.specs.Meaning.{Printed, printed}
-use Rattle.sj_job.specs.declared.job.Kind.TheVariants.{Matrix}
+use Rattle.sj_meaning.specs.Act.{Statement}
+use Rattle.sj_meaning.specs.Meaning.{Printed, printed}
+use Rattle.sj_meaning.specs.declared.job.Kind.TheVariants.{Matrix}
 use Rattle.sj_apps.specs.declared.application.Application.{Application}
 use Rattle.sj_apps.specs.declared.application.Problem.TheVariants.{Product, Paths}
 use Rattle.sj_apps.specs.Generated.{name_C, name_D, weight}
@@ -15,7 +15,7 @@ abbrev pub IsAlone : List Printed → List ℕ → Array → Type 0
 IsAlone ps name a = ps ≡ record { name = name; kind = Matrix; array = a } ∷ []
 
 -- the statements print the product of the two factors, and nothing else
-abbrev pub PrintsProduct : ℕ → ℕ → List Statement → Type 0
+abbrev pub PrintsProduct : ℕ → ℕ → List (Statement (List ℕ)) → Type 0
 PrintsProduct n seed statements = IsAlone (printed statements) name_C (product n (factor_A n seed) (factor_B n))
 
 -- of the product, that of the two factors; of the walks, the lengths of shortest ones on the ring with chords

@@ -1,16 +1,16 @@
 //! An application: a problem, and the size at which its job is generated.
 
 ghost use Rattle.std.specs.Prelude.{◌≡◌, true, IfOk};
-ghost use Rattle.sj_job.specs.Settings.{unset};
-ghost use Rattle.sj_job.specs.State.{start};
-ghost use Rattle.sj_job.specs.View.{statements_of, IsNumbered};
+ghost use Rattle.sj_meaning.specs.Settings.{unset};
+ghost use Rattle.sj_meaning.specs.State.{start};
+ghost use Rattle.sj_meaning.specs.View.{statements_of, IsNumbered};
 ghost use Rattle.sj_job.specs.Well.{IsWell};
 ghost use Rattle.sj_apps.specs.Application.{statements_for, IsSized};
 
 use crate::paths::paths;
 use crate::product::product;
 use sj_base::memory::OutOfMemory;
-use sj_job::job::Job;
+use sj_meaning::job::Job;
 use std::alloc::Global;
 
 /// At most so many tiles make a column.

@@ -2,14 +2,14 @@
 
 ghost use Rattle.std.specs.Prelude.{◌≡◌, ◌+◌, ◌<◌, ◌∷◌, ◌++◌, [], length, OnOk};
 ghost use Rattle.sj_apps.specs.Generated.{first_line};
-ghost use Rattle.sj_job.specs.Settings.{unset};
+ghost use Rattle.sj_meaning.specs.Settings.{unset};
 
 use sj_base::ids::Line;
 use sj_base::memory::OutOfMemory;
 use sj_base::sequence::Sequence;
-use sj_job::job::{Act, Job, Statement};
-use sj_job::roots::Roots;
-use sj_job::settings::Settings;
+use sj_meaning::job::{Act, Job, Statement};
+use sj_meaning::roots::Roots;
+use sj_meaning::settings::Settings;
 use std::alloc::Global;
 
 /// The line of the first statement: in front of it are those of the header, the workers, the node and the policy.

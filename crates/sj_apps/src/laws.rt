@@ -3,7 +3,7 @@
 ghost use Rattle.std.specs.Prelude.{◌≡◌, ◌<◌, ◌<ℤ◌, ◌≤ℤ◌, ◌*◌, ℕ, ℤ, List, pos};
 ghost use Rattle.sj_base.specs.Window.{table};
 ghost use Rattle.sj_codelet.specs.MinPlus.{inf};
-ghost use Rattle.sj_job.specs.Act.{Statement};
+ghost use Rattle.sj_meaning.specs.Act.{Statement};
 ghost use Rattle.sj_apps.specs.Generated.{IsSize, name_D, paths_statements, square, weight};
 ghost use Rattle.sj_apps.specs.Shortest.{acts_of, walk_acts, PrintsShortest};
 ghost use Rattle.sj_apps.specs.Walks.{AreWeights, StayBelowInf};
@@ -12,7 +12,8 @@ ghost use Rattle.sj_apps.specs.Walks.{AreWeights, StayBelowInf};
 /// name, the plan, the lines and the priorities: where no weight is negative, to stay costs nothing, and where a walk leads one
 /// does that is shorter than `inf`.
 pub fn walks()
-    ensures { (name : List ℕ) (n p : ℕ) (W : ℕ → ℕ → ℤ) (xs : List ℤ) (ss : List Statement)
+    ensures { (name : List ℕ) (n p : ℕ) (W : ℕ → ℕ → ℤ) (xs : List ℤ)
+        (ss : List (Statement (List ℕ)))
         → 0 < p → xs ≡ table (square n) W → AreWeights n W → StayBelowInf n W
         → acts_of ss ≡ walk_acts name n p xs → PrintsShortest name n W ss }
 {}

@@ -2,13 +2,13 @@
 
 ghost use Rattle.std.specs.Prelude.{◌≡◌, ℕ, ◌+◌, ◌%◌, ◌<◌, ◌≤◌, ◌∷◌, ◌++◌, [], pos, length, map, IfOk, OnOk};
 ghost use Rattle.std.specs.List.{range_with_len, flat_map};
-ghost use Rattle.sj_job.specs.Settings.{unset};
-ghost use Rattle.sj_job.specs.Table.{table};
-ghost use Rattle.sj_job.specs.View.{statements_of, seen_from, IsNumbered};
+ghost use Rattle.sj_meaning.specs.Settings.{unset};
+ghost use Rattle.sj_meaning.specs.Table.{table};
+ghost use Rattle.sj_meaning.specs.View.{statements_of, seen_from, IsNumbered};
 ghost use Rattle.sj_apps.specs.Draft.{paths_names, unless_same, IsNumberedSoFar, Tells};
 ghost use Rattle.sj_apps.specs.Generated.{IsSize, apart, aparts_in_row, below, beside, diagonal, first_line, matrix, name_D, numbered, others, part_count, paths_statements, walk_step, walk_steps, weight, weights};
 ghost use Rattle.sj_apps.specs.Shortest.{PrintsShortest};
-ghost use Rattle.sj_job.specs.declared.job.Init.TheVariants.{Values};
+ghost use Rattle.sj_meaning.specs.declared.job.Init.TheVariants.{Values};
 
 use crate::draft::Draft;
 use crate::product::{part_count, square_matrix, task};
@@ -17,8 +17,8 @@ use sj_base::memory::OutOfMemory;
 use sj_base::mode::Mode;
 use sj_base::sequence::Sequence;
 use sj_codelet::kernel::Kernel;
-use sj_job::job::{Act, Init, Job, Operand};
-use sj_job::roots::Roots;
+use sj_meaning::job::{Act, Init, Job, Operand};
+use sj_meaning::roots::Roots;
 use std::alloc::Global;
 
 const D: Root = Root(0);

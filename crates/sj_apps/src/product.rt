@@ -2,14 +2,14 @@
 //! any order.
 
 ghost use Rattle.std.specs.Prelude.{◌≡◌, ◌+◌, ◌<◌, ◌≤◌, ◌∷◌, [], pos, length, IfOk, OnOk};
-ghost use Rattle.sj_job.specs.Settings.{unset};
-ghost use Rattle.sj_job.specs.Table.{table};
-ghost use Rattle.sj_job.specs.declared.job.Act.TheVariants as kept;
-ghost use Rattle.sj_job.specs.View.{statements_of, seen_from, IsNumbered};
+ghost use Rattle.sj_meaning.specs.Settings.{unset};
+ghost use Rattle.sj_meaning.specs.Table.{table};
+ghost use Rattle.sj_meaning.specs.declared.job.Act.TheVariants as kept;
+ghost use Rattle.sj_meaning.specs.View.{statements_of, seen_from, IsNumbered};
 ghost use Rattle.sj_apps.specs.Solution.{PrintsProduct};
 ghost use Rattle.sj_apps.specs.Draft.{product_names, IsNumberedSoFar, Tells};
 ghost use Rattle.sj_apps.specs.Generated.{IsSize, cut, first_line, factors, gemm, gemms, gemms_at, gemms_in_row, numbered, part_count, product_statements, square};
-ghost use Rattle.sj_job.specs.declared.job.Kind.TheVariants.{Matrix};
+ghost use Rattle.sj_meaning.specs.declared.job.Kind.TheVariants.{Matrix};
 
 use crate::draft::Draft;
 use sj_base::few::Few;
@@ -18,8 +18,8 @@ use sj_base::memory::OutOfMemory;
 use sj_base::mode::Mode;
 use sj_base::tile::Dims;
 use sj_codelet::kernel::Kernel;
-use sj_job::job::{Act, Init, Job, Kind, Operand, RootInfo, TaskLine};
-use sj_job::roots::Roots;
+use sj_meaning::job::{Act, Init, Job, Kind, Operand, RootInfo, TaskLine};
+use sj_meaning::roots::Roots;
 use sj_plan::parts::Parts;
 use std::alloc::Global;
 

@@ -1,5 +1,5 @@
 -- The children of a root and its elements: what a change of the root does to its track.
-use Rattle.std.proofs.Common.{◌≡◌, ℕ, zero, suc, ◌+◌, ◌-◌, ◌*◌, ◌/◌, ◌%◌, ◌<◌, ◌≤◌, Bool, true, false, not, ◌&&◌, ◌||◌, cond, Option, Some, None, is_some, unwrap_or, nat_eq, nat_lt, length, get_or, refl, sym, ap, subst, ◌∙◌, arith, ℤ, get_or-set_same, get_or-set_other}
+use Rattle.std.proofs.Common.{◌≡◌, ℕ, zero, suc, ◌+◌, ◌-◌, ◌*◌, ◌/◌, ◌%◌, ◌<◌, ◌≤◌, Bool, true, false, not, ◌&&◌, ◌||◌, cond, Option, Some, None, is_some, unwrap_or, nat_eq, nat_lt, length, get_or, refl, sym, ap, subst, ◌∙◌, arith, ℤ, get_or-set_same, get_or-set_other, List}
 use Rattle.std.specs.Prelude.{is_none, pos, ◌+ℤ◌, ◌*ℤ◌}
 use Rattle.std.specs.List.{list_all}
 use Rattle.std.proofs.lemmas.List.{length-set, length-map, get_or-map, get_or-replicate, get_or_default, length-replicate}
@@ -20,15 +20,15 @@ use Rattle.sj_plan.specs.Parts.{Fits, IsPlace}
 use Rattle.sj_plan.specs.Rect.{Holds, holds, child, dims_of}
 use Rattle.sj_plan.proofs.Splitting.{held, lies_alone, part_end, part_len-positive}
 use Rattle.sj_plan.proofs.Windows.{holds-true, Holds-from_true}
-use Rattle.sj_job.specs.declared.job.Init.{Init}
-use Rattle.sj_job.specs.declared.job.Init.TheVariants.{Values, Fill, Nothing}
-use Rattle.sj_job.specs.Statement.{Register}
-use Rattle.sj_job.specs.State.{Root, is_valued, is_blank, is_child, child_rect, child_elements, is_valued_child}
-use Rattle.sj_job.specs.Meaning.{first_elements, no_values, registered_root, with_parts, with_elements, with_child, with_reduction}
+use Rattle.sj_meaning.specs.declared.job.Init.{Init}
+use Rattle.sj_meaning.specs.declared.job.Init.TheVariants.{Values, Fill, Nothing}
+use Rattle.sj_meaning.specs.Statement.{Register}
+use Rattle.sj_meaning.specs.State.{Root, is_valued, is_blank, is_child, child_rect, child_elements, is_valued_child}
+use Rattle.sj_meaning.specs.Meaning.{first_elements, no_values, registered_root, with_parts, with_elements, with_child, with_reduction}
 use Rattle.sj_job.specs.Track.{Track, Tracks, all_valued, none_valued, children_count, number, is_set, even, written}
 use Rattle.sj_job.specs.Judge.{known_of, is_child_said}
 use Rattle.sj_job.specs.Names.{gives_values, known_with}
-use Rattle.sj_job.specs.Sound.{InitFits}
+use Rattle.sj_meaning.specs.Sound.{InitFits}
 
 -- ---- children
 
@@ -237,7 +237,7 @@ first_length (Values xs) d h = length-map xs (λ (x : ℤ). Some x) ∙ h
 first_length (Fill a b) d h = length-map-range_with_len (λ p. Some (wrap (a +ℤ (b *ℤ pos p)))) 0 (area d)
 first_length Nothing d h = let none : Option ℤ = None in length-replicate (area d) none
 
-pub tracks-registered : (r : Register) → Fits r.parts r.dims → InitFits r.init r.dims → Tracks (even r.parts (gives_values r.init)) (registered_root r)
+pub tracks-registered : (r : Register (List ℕ)) → Fits r.parts r.dims → InitFits r.init r.dims → Tracks (even r.parts (gives_values r.init)) (registered_root r)
 tracks-registered r fits h =
     tracks-even r.parts (gives_values r.init) (registered_root r) refl fits (first_length r.init r.dims h) (λ row col in_rows in_cols.
     first_value r.init r.dims (row * r.dims.cols + col) h (position_inside r.dims row col in_rows in_cols))

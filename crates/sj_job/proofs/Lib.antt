@@ -8,7 +8,6 @@ pub mod Children
 mod Marks
 pub mod Places
 pub mod Seen
-pub mod Giving
 pub mod Spelling
 pub mod Saying
 pub mod Stating
@@ -18,7 +17,5 @@ pub mod Sounding
 pub mod Welling
 pub mod Progressing
 pub mod Targets
-pub mod Views
-pub mod Adding
 pub mod Submitting
 pub mod Reading

@@ -11,45 +11,12 @@ use Rattle.std.proofs.lemmas.Slice.Eq.{bytes_eq-Decides}
 use Rattle.std.proofs.lemmas.Bool.Decides.{nat_tests}
 use Rattle.sj_base.specs.declared.ids.Root.{Root}
 use Rattle.sj_base.specs.declared.tile.Dims.{Dims}
-use Rattle.sj_job.specs.declared.job.RootInfo.{RootInfo}
+use Rattle.sj_meaning.specs.declared.job.RootInfo.{RootInfo}
 use Rattle.sj_job.specs.declared.names.Standing.{Standing}
 use Rattle.sj_job.specs.declared.names.Standing.TheVariants.{Ended}
 use Rattle.sj_job.specs.Names.{Found}
-use Rattle.sj_job.specs.Table.{Table, a_root, name_of, no_info, info_of, root_in, IsRoot, with_root}
-
--- ---- places in lists
-
-len-map : {X Y : Type 0} (p : Y → Bool) (f : X → Y) (xs : List X) → position_or_len p (map f xs) ≡ position_or_len (λ x. p (f x)) xs
-len-map p f [] = refl
-len-map p f (x ∷ xs) = ap (λ n. cond (not (p (f x))) (1 + n) 0) (len-map p f xs)
-
-pub position-map : {X Y : Type 0} (p : Y → Bool) (f : X → Y) (xs : List X) → position p (map f xs) ≡ position (λ x. p (f x)) xs
-position-map p f xs = λ i. cond (nat_lt (len-map p f xs i) (length-map xs f i)) (Some (len-map p f xs i)) None
-
--- ---- the root of a name
-
-pub record IsAt (T : Table) (q : List ℕ) (r : Root) : Type 0 where
-  pub below : r.0 < length T.names
-  pub named : name_of T r ≡ q
-
-at_by : (T : Table) (q : List ℕ) (r : Root) (o : Option ℕ) → position (bytes_eq q) T.names ≡ o → option_map a_root o ≡ Some r → IsAt T q r
-at_by T q r None p e = absurd (cc)
-at_by T q r (Some i) p e =
-    let at = position-Some (bytes_eq q) T.names i [] p in
-    let same : a_root i ≡ r = cc in
-    subst (λ (s : Root). IsAt T q s) same (record { below = at.0; named = sym ((bytes_eq-Decides q (get_or T.names i [])).0 at.1) })
-
-pub is-at : (T : Table) (q : List ℕ) (r : Root) → root_in T q ≡ Some r → IsAt T q r
-is-at T q r e = at_by T q r (position (bytes_eq q) T.names) refl e
-
-pub is-root : (T : Table) (q : List ℕ) (r : Root) → root_in T q ≡ Some r → IsRoot T r
-is-root T q r e = ap (root_in T) (is-at T q r e).named ∙ e
-
-pub same-text : (q name : List ℕ) → bytes_eq q name ≡ true → q ≡ name
-same-text q name e = (bytes_eq-Decides q name).0 e
-
-pub text-itself : (q name : List ℕ) → q ≡ name → bytes_eq q name ≡ true
-text-itself q name e = (bytes_eq-Decides q name).1 e
+use Rattle.sj_meaning.specs.Table.{Table, a_root, name_of, no_info, info_of, root_in, IsRoot, with_root}
+use Rattle.sj_meaning.proofs.Finding.{is-at, same-text, text-itself}
 
 -- ---- how it stands with a name
 

@@ -1,28 +1,28 @@
 -- A line more is read.
 use Rattle.std.proofs.Common.{◌≡◌, ℕ, ◌+◌, Bool, List, [], ◌∷◌, ◌++◌, length, ap, sym, subst, ◌∙◌, arith, Err, length-append}
 use Rattle.sj_codelet.specs.declared.kernel.Kernel.{Kernel}
-use Rattle.sj_job.specs.declared.job.Act.{Act as KeptAct}
-use Rattle.sj_job.specs.declared.job.Statement.{Statement as Kept}
+use Rattle.sj_meaning.specs.declared.job.Act.{Act as KeptAct}
+use Rattle.sj_meaning.specs.declared.job.Statement.{Statement as Kept}
 use Rattle.sj_job.specs.declared.names.Names.{Names}
 use Rattle.sj_job.specs.declared.reason.Reason.{Reason}
 use Rattle.sj_job.specs.declared.reason.Objection.{Objection}
 use Rattle.sj_job.specs.declared.reason.Objection.TheVariants.{Bad as Objected, OutOfMemory as NoMemory}
-use Rattle.sj_job.specs.Act.{Statement}
+use Rattle.sj_meaning.specs.Act.{Statement}
 use Rattle.sj_job.specs.Verdict.{Verdict, Skipped, Does, Bad}
-use Rattle.sj_job.specs.State.{State, start}
-use Rattle.sj_job.specs.Meaning.{run_from}
+use Rattle.sj_meaning.specs.State.{State, start}
+use Rattle.sj_meaning.specs.Meaning.{run_from}
 use Rattle.sj_job.specs.Judge.{Scope, scope_of}
 use Rattle.sj_job.specs.Names.{scope_in}
 use Rattle.sj_job.specs.Sees.{Sees}
 use Rattle.sj_job.specs.Reading.{statement, verdict_of, refusal, refused, IsBad, IsRefusal}
 use Rattle.sj_job.specs.Progress.{text_with}
 use Rattle.sj_job.specs.Submits.{act_noted, LineDoes, AreRead}
-use Rattle.sj_job.specs.View.{act_seen, seen_from, count_after, IsPlaced}
+use Rattle.sj_meaning.specs.View.{act_seen, seen_from, count_after, IsPlaced}
 use Rattle.sj_job.proofs.Seen.{same_scope}
 use Rattle.sj_job.proofs.Progressing.{text_skipped, text_bad, text_does, run_from-push}
-use Rattle.sj_job.proofs.Views.{count-push, seen-push, length-seen, placed-push, seen-kept}
+use Rattle.sj_meaning.proofs.Views.{count-push, seen-push, length-seen, placed-push, seen-kept}
 
-abbrev seen : Names → List Kept → List Statement
+abbrev seen : Names → List Kept → List (Statement (List ℕ))
 seen names ss = seen_from names.roots 0 ss
 
 verdict : (has : Kernel → Bool) (names : Names) (ss : List Kept) (line : List ℕ) (v : Verdict) → AreRead names ss → verdict_of has (scope_in names) line ≡ v → verdict_of has (scope_of (length (seen names ss)) (run_from start (seen names ss))) line ≡ v

@@ -13,24 +13,25 @@ use Rattle.sj_base.specs.declared.mode.Reduction.{Reduction}
 use Rattle.sj_base.specs.declared.tile.Dims.{Dims}
 use Rattle.sj_plan.specs.declared.parts.Parts.{Parts}
 use Rattle.sj_plan.specs.Parts.{Fits, IsPlace}
-use Rattle.sj_job.specs.declared.job.Init.{Init}
-use Rattle.sj_job.specs.declared.job.Operand.{Operand as Access}
-use Rattle.sj_job.specs.declared.job.RootInfo.{RootInfo}
+use Rattle.sj_meaning.specs.declared.job.Init.{Init}
+use Rattle.sj_meaning.specs.declared.job.Operand.{Operand as Access}
+use Rattle.sj_meaning.specs.declared.job.RootInfo.{RootInfo}
 use Rattle.sj_job.specs.declared.names.Standing.{Standing}
 use Rattle.sj_job.specs.declared.names.Standing.TheVariants.{Live, Ended}
 use Rattle.sj_job.specs.declared.names.Names.{Names}
-use Rattle.sj_job.specs.Statement.{Operand}
-use Rattle.sj_job.specs.State.{Root, State, root_of, start, is_valued, is_blank}
-use Rattle.sj_job.specs.Meaning.{no_values, registered_root, register, is_written, written_of, with_parts, with_elements, with_reduction, with_child, change, plan, reduce, put, put_all, invalidate, unregister}
+use Rattle.sj_meaning.specs.Statement.{Operand}
+use Rattle.sj_meaning.specs.State.{Root, State, root_of, start, is_valued, is_blank}
+use Rattle.sj_meaning.specs.Meaning.{no_values, registered_root, register, is_written, written_of, with_parts, with_elements, with_reduction, with_child, change, plan, reduce, put, put_all, invalidate, unregister}
 use Rattle.sj_job.specs.Judge.{known_of, scope_of}
 use Rattle.sj_job.specs.Names.{Found, IsCounted, IsPlaceIn, after_write, after_writes, child_written, ended_from, first_standing, found_in, invalidated, is_over, known_by, known_from, plan_in, planned, reduced, scope_in, standing_of}
-use Rattle.sj_job.specs.Sound.{IsSoundPlan, IsSoundRegistration}
-use Rattle.sj_job.specs.Table.{Table, table, a_root, name_of, info_of, root_in, IsRoot, with_root}
+use Rattle.sj_meaning.specs.Sound.{IsSoundPlan, IsSoundRegistration}
+use Rattle.sj_meaning.specs.Table.{Table, table, a_root, name_of, info_of, root_in, IsRoot, with_root}
 use Rattle.sj_job.specs.Track.{all_valued, none_valued, even}
-use Rattle.sj_job.specs.View.{operand_seen, registration}
+use Rattle.sj_meaning.specs.View.{operand_seen, registration}
 use Rattle.sj_job.specs.Sees.{StandsFor, IsFound, Sees, Shows}
 use Rattle.sj_job.proofs.Children.{all_valued-same, none_valued-same, tracks-known, tracks-registered, tracks-planned, tracks-reduced, tracks-invalidated, tracks-written}
-use Rattle.sj_job.proofs.Places.{a_found, entry, found_with, found-set, found-pushed, is-at}
+use Rattle.sj_job.proofs.Places.{a_found, entry, found_with, found-set, found-pushed}
+use Rattle.sj_meaning.proofs.Finding.{is-at}
 
 -- what is found of each name is so of its root
 abbrev pub AllFound : Table → List Standing → State → Type 0
@@ -325,7 +326,7 @@ found_put T sts S o a fit h =
     found-changed T sts S o.root (child_written o.place (get_or sts o.root.0 Ended)) (with_child o.place a) fit.root fit.below h
     (written_step a o.place (info_of T o.root).dims (get_or sts o.root.0 Ended) (root_of S (name_of T o.root)) fit.place)
 
-abbrev seen : Table → List Access → List Operand
+abbrev seen : Table → List Access → List (Operand (List ℕ))
 seen T os = each_of (operand_seen T) os
 
 -- with as many arrays as operands are written, the children of these have their values
@@ -341,7 +342,7 @@ all_put T [] arrays sts S fit h l = h
 all_put T (o ∷ os) arrays sts S fit h l =
     put_by T (is_written o.mode) o os arrays sts S fit.0 h l (λ xs us U e k m. all_put T os xs us U (subst (λ (zs : List Standing). AllByRecursion (FitsIn T zs) os) (sym e) (all_fit_written T o os sts fit.0.below fit.1)) k m)
 
-put_counts : (os : List Operand) (arrays : List Array) (S : State) → ((put_all os arrays S).registered ≡ S.registered) × ((put_all os arrays S).ended ≡ S.ended)
+put_counts : (os : List (Operand (List ℕ))) (arrays : List Array) (S : State) → ((put_all os arrays S).registered ≡ S.registered) × ((put_all os arrays S).ended ≡ S.ended)
 put_counts [] arrays S = (refl, refl)
 put_counts (o ∷ os) [] S = (refl, refl)
 put_counts (o ∷ os) (a ∷ arrays) S =

@@ -14,11 +14,11 @@ use Rattle.sj_codelet.proofs.Table.{kernel_of-codelet_of}
 use Rattle.sj_plan.specs.declared.parts.Parts.{Parts}
 use Rattle.sj_plan.specs.Parts.{Fits}
 use Rattle.sj_plan.specs.Rect.{child, dims_of as rect_dims}
-use Rattle.sj_job.specs.declared.job.Init.{Init}
-use Rattle.sj_job.specs.declared.job.Init.TheVariants.{Values, Fill, Nothing}
-use Rattle.sj_job.specs.Statement.{Register}
-use Rattle.sj_job.specs.Statement.{Operand}
-use Rattle.sj_job.specs.Act.{Act}
+use Rattle.sj_meaning.specs.declared.job.Init.{Init}
+use Rattle.sj_meaning.specs.declared.job.Init.TheVariants.{Values, Fill, Nothing}
+use Rattle.sj_meaning.specs.Statement.{Register}
+use Rattle.sj_meaning.specs.Statement.{Operand}
+use Rattle.sj_meaning.specs.Act.{Act}
 use Rattle.sj_job.specs.declared.reason.Reason.{Reason}
 use Rattle.sj_job.specs.declared.form.ArrayForm.{ArrayForm}
 use Rattle.sj_job.specs.declared.form.OperandForm.{OperandForm}
@@ -28,14 +28,15 @@ use Rattle.sj_job.specs.declared.form.Form.TheVariants as form
 use Rattle.sj_base.specs.declared.mode.Mode.{Mode}
 use Rattle.sj_base.specs.declared.mode.Reduction.{Reduction}
 use Rattle.sj_base.specs.declared.mode.Mode.TheVariants.{R, W, RW, Scratch, Redux, Commute}
-use Rattle.sj_job.specs.Act.{Register as Registers, Plan, Redux as Reduces, Task, Print, Invalidate, Unregister}
+use Rattle.sj_meaning.specs.Act.{Register as Registers, Plan, Redux as Reduces, Task, Print, Invalidate, Unregister}
 use Rattle.sj_job.specs.Word.{integer}
 use Rattle.sj_job.specs.Sentence.{rows_of, cols_of, init_said, parts_said, index_said, registered_by, operand_said, operands_said, priority_said, task_said}
-use Rattle.sj_job.specs.State.{State, Root, root_of, is_valued, is_blank, is_child, child_rect, is_valued_child}
-use Rattle.sj_job.specs.Judge.{Scope, scope_of, known_of, first_of, unless, judged_by, judged_call, judged_task, judged, kernel_named, register_reasons, line_reasons, print_reasons, name_reasons, plan_reasons, redux_reasons, operand_reasons, has_mixed_outputs, is_lawful_for, is_unlawful, is_unordered, reduction_known, is_shaped, modes_fit, dims_in, dims_known, is_child_said, is_crowded, is_cut, is_uncut, is_missing, is_lacking, child_lacks_value, is_side, is_outside, is_miscounted, is_unknown, is_ended, needs_value, lacks_value, is_priority}
-use Rattle.sj_job.specs.Meaning.{is_written, written_of}
+use Rattle.sj_meaning.specs.State.{State, Root, root_of, is_valued, is_blank, is_child, child_rect, is_valued_child}
+use Rattle.sj_job.specs.Judge.{Scope, scope_of, known_of, first_of, unless, judged_by, judged_call, judged_task, judged, kernel_named, register_reasons, line_reasons, print_reasons, name_reasons, plan_reasons, redux_reasons, operand_reasons, has_mixed_outputs, is_unlawful, reduction_known, is_shaped, dims_in, dims_known, is_child_said, is_crowded, is_cut, is_uncut, is_missing, is_lacking, child_lacks_value, is_outside, is_miscounted, is_unknown, is_ended, lacks_value}
+use Rattle.sj_meaning.specs.Sound.{is_lawful_for, is_unordered, modes_fit, is_side, needs_value, is_priority}
+use Rattle.sj_meaning.specs.Meaning.{is_written, written_of}
 use Rattle.sj_job.specs.Well.{IsAllowed}
-use Rattle.sj_job.specs.Sound.{has_root, has_values, child_dims, has_child, has_child_values, is_lawful, reduction_of, InitFits, IsSoundRegistration, IsSoundPlan, IsSoundAct}
+use Rattle.sj_meaning.specs.Sound.{has_root, has_values, child_dims, has_child, has_child_values, is_lawful, reduction_of, InitFits, IsSoundRegistration, IsSoundPlan, IsSoundAct}
 use Rattle.sj_job.proofs.Children.{said-child}
 
 -- ---- tests
@@ -72,11 +73,11 @@ none_hold [] e = tt
 none_hold (c ∷ cs) e = let p = none_first c.0 c.1 (first_of cs) e in (p.0, none_hold cs p.1)
 
 -- an act against which there is no reason
-pub unless_parts : (o : Option Reason) (a act : Act) → unless o a ≡ Ok act → (o ≡ None) × (a ≡ act)
+pub unless_parts : (o : Option Reason) (a act : Act (List ℕ)) → unless o a ≡ Ok act → (o ≡ None) × (a ≡ act)
 unless_parts (Some why) a act e = absurd (cc)
 unless_parts None a act e = (refl, cc)
 
-by_parts : (o : Option Reason) (r : Result Act Reason) (act : Act) → judged_by o r ≡ Ok act → (o ≡ None) × (r ≡ Ok act)
+by_parts : (o : Option Reason) (r : Result (Act (List ℕ)) Reason) (act : Act (List ℕ)) → judged_by o r ≡ Ok act → (o ≡ None) × (r ≡ Ok act)
 by_parts (Some why) r act e = absurd (cc)
 by_parts None r act e = (refl, e)
 
@@ -106,7 +107,7 @@ positive : (n : ℕ) → is_side n ≡ true → 1 ≤ n
 positive n e = let p = and_parts (nat_le 1 n) (nat_le n 1048576) e in let q = p.0 in grind (arith, nat_tests, q)
 
 -- a registered root has an element
-pub has_elements : (S : State) (r : Register) → IsSoundRegistration S r → 1 ≤ area r.dims
+pub has_elements : (S : State) (r : Register (List ℕ)) → IsSoundRegistration S r → 1 ≤ area r.dims
 has_elements S r h = mul-le 1 1 r.dims.rows r.dims.cols (positive r.dims.rows h.rows) (positive r.dims.cols h.cols)
 
 not_taken : (o : Option Root) → is_some (option_map known_of o) ≡ false → o ≡ None
@@ -211,7 +212,7 @@ child_values_by : (o : Option Root) (place : ℕ × ℕ) → (elim o as (λ _. B
 child_values_by None place h e = absurd (cc)
 child_values_by (Some r) place h e = not_false (is_valued_child r place) e
 
-all_valued : (n : ℕ) (S : State) (os : List Operand) → list_any (is_lacking (scope_of n S)) os ≡ false → list_all (has_child S) os ≡ true → list_all (λ o. not (needs_value o.mode) || has_child_values S o) os ≡ true
+all_valued : (n : ℕ) (S : State) (os : List (Operand (List ℕ))) → list_any (is_lacking (scope_of n S)) os ≡ false → list_all (has_child S) os ≡ true → list_all (λ o. not (needs_value o.mode) || has_child_values S o) os ≡ true
 all_valued n S [] e h = refl
 all_valued n S (o ∷ os) e h =
     let p = or_parts (is_lacking (scope_of n S) o) (list_any (is_lacking (scope_of n S)) os) e in
@@ -231,16 +232,16 @@ by_root : (o : Option Root) (place : ℕ × ℕ) → (elim (option_map known_of 
 by_root None place = refl
 by_root (Some r) place = refl
 
-dims_seen : (k : ℕ) (S : State) (o : Operand) → dims_in (scope_of k S) o ≡ child_dims S o
+dims_seen : (k : ℕ) (S : State) (o : Operand (List ℕ)) → dims_in (scope_of k S) o ≡ child_dims S o
 dims_seen k S o = by_root (root_of S o.name) o.place
 
-all_dims_seen : (k : ℕ) (S : State) (os : List Operand) → map (dims_in (scope_of k S)) os ≡ map (child_dims S) os
+all_dims_seen : (k : ℕ) (S : State) (os : List (Operand (List ℕ))) → map (dims_in (scope_of k S)) os ≡ map (child_dims S) os
 all_dims_seen k S os = λ i. map (λ o. dims_seen k S o i) os
 
 fits_known : (has : Kernel → Bool) (id : Codelet) (args : List ℤ) (ds : List Dims) (k : Kernel) → kernel_of id ≡ Some k → has k ≡ true → fits k args ds ≡ true → fits_in has id args ds ≡ true
 fits_known has id args ds k e h f = ap (λ (o : Option Kernel). elim o as (λ _. Bool) [ None ↦ false | Some j ↦ has j && fits j args ds ]) e ∙ both _ _ h f
 
-formals_known : (id : Codelet) (os : List Operand) (k : Kernel) → kernel_of id ≡ Some k → modes_fit (formals_of k) os ≡ true → modes_fit (formals_in id) os ≡ true
+formals_known : (id : Codelet) (os : List (Operand (List ℕ))) (k : Kernel) → kernel_of id ≡ Some k → modes_fit (formals_of k) os ≡ true → modes_fit (formals_in id) os ≡ true
 formals_known id os k e m = ap (λ (o : Option Kernel). modes_fit (elim o [ None ↦ [] | Some j ↦ formals_of j ]) os) e ∙ m
 
 -- ---- laws
@@ -252,7 +253,7 @@ reduction_by (Some r) = refl
 reduction_seen : (n : ℕ) (S : State) (name : List ℕ) → reduction_known (scope_of n S) name ≡ reduction_of S name
 reduction_seen n S name = reduction_by (root_of S name)
 
-all_lawful : (has : Kernel → Bool) (n : ℕ) (S : State) (k : Kernel) (os : List Operand) → list_any (is_unlawful has (scope_of n S) k) os ≡ false → list_all (is_lawful has S (codelet_of k)) os ≡ true
+all_lawful : (has : Kernel → Bool) (n : ℕ) (S : State) (k : Kernel) (os : List (Operand (List ℕ))) → list_any (is_unlawful has (scope_of n S) k) os ≡ false → list_all (is_lawful has S (codelet_of k)) os ≡ true
 all_lawful has n S k [] e = refl
 all_lawful has n S k (o ∷ os) e =
     let p = or_parts (is_unlawful has (scope_of n S) k o) (list_any (is_unlawful has (scope_of n S) k) os) e in
@@ -267,18 +268,18 @@ unordered_written Scratch e = absurd (cc)
 unordered_written Redux e = refl
 unordered_written Commute e = refl
 
-more_by : (b : Bool) (o : Operand) (os : List Operand) → 1 ≤ length os → 1 ≤ length (cond b (o ∷ os) os)
+more_by : (b : Bool) (o : Operand (List ℕ)) (os : List (Operand (List ℕ))) → 1 ≤ length os → 1 ≤ length (cond b (o ∷ os) os)
 more_by true o os e = omega (arith)
 more_by false o os e = e
 
-one_by : (o : Operand) (os : List Operand) (b : Bool) → is_unordered o.mode ≡ b → (b || list_any (λ o. is_unordered o.mode) os) ≡ true → (list_any (λ o. is_unordered o.mode) os ≡ true → 1 ≤ length (written_of os)) → 1 ≤ length (written_of (o ∷ os))
+one_by : (o : Operand (List ℕ)) (os : List (Operand (List ℕ))) (b : Bool) → is_unordered o.mode ≡ b → (b || list_any (λ o. is_unordered o.mode) os) ≡ true → (list_any (λ o. is_unordered o.mode) os ≡ true → 1 ≤ length (written_of os)) → 1 ≤ length (written_of (o ∷ os))
 one_by o os true h e rest =
     let some : 1 ≤ length (o ∷ written_of os) = omega (arith) in
     subst (λ (b : Bool). 1 ≤ length (cond b (o ∷ written_of os) (written_of os))) (sym (unordered_written o.mode h)) some
 one_by o os false h e rest = more_by (is_written o.mode) o (written_of os) (rest e)
 
 -- an operand that may come in any order is written
-some_written : (os : List Operand) → list_any (λ o. is_unordered o.mode) os ≡ true → 1 ≤ length (written_of os)
+some_written : (os : List (Operand (List ℕ))) → list_any (λ o. is_unordered o.mode) os ≡ true → 1 ≤ length (written_of os)
 some_written [] e = absurd (cc)
 some_written (o ∷ os) e = one_by o os (is_unordered o.mode) refl e (some_written os)
 
@@ -286,29 +287,29 @@ only_one : (b : Bool) (n : ℕ) → (b && nat_lt 1 n) ≡ false → b ≡ true �
 only_one true n e h le = grind (arith, nat_tests)
 only_one false n e h le = absurd (cc)
 
-stands_alone : (os : List Operand) → has_mixed_outputs os ≡ false → list_any (λ o. is_unordered o.mode) os ≡ true → length (written_of os) ≡ 1
+stands_alone : (os : List (Operand (List ℕ))) → has_mixed_outputs os ≡ false → list_any (λ o. is_unordered o.mode) os ≡ true → length (written_of os) ≡ 1
 stands_alone os e h = only_one (list_any (λ o. is_unordered o.mode) os) (length (written_of os)) e h (some_written os h)
 
 -- a task against which there is no reason
-pub record IsJudged (has : Kernel → Bool) (s : Scope) (t : TaskForm) (act : Act) : Type 0 where
+pub record IsJudged (has : Kernel → Bool) (s : Scope) (t : TaskForm) (act : Act (List ℕ)) : Type 0 where
   pub kernel : Kernel
   pub named : kernel_named has t.codelet ≡ Some kernel
   pub is : Task (task_said kernel t) ≡ act
   pub line : first_of (line_reasons s (priority_said t.priority) (operands_said t)) ≡ None
   pub operands : first_of (operand_reasons has s kernel (map integer t.args) t.operands (operands_said t)) ≡ None
 
-by_kernel : (has : Kernel → Bool) (s : Scope) (t : TaskForm) (act : Act) (o : Option Kernel) → kernel_named has t.codelet ≡ o → first_of (line_reasons s (priority_said t.priority) (operands_said t)) ≡ None → judged_call has s o t ≡ Ok act → IsJudged has s t act
+by_kernel : (has : Kernel → Bool) (s : Scope) (t : TaskForm) (act : Act (List ℕ)) (o : Option Kernel) → kernel_named has t.codelet ≡ o → first_of (line_reasons s (priority_said t.priority) (operands_said t)) ≡ None → judged_call has s o t ≡ Ok act → IsJudged has s t act
 by_kernel has s t act None n l e = absurd (cc)
 by_kernel has s t act (Some k) n l e =
     let p = unless_parts (first_of (operand_reasons has s k (map integer t.args) t.operands (operands_said t))) (Task (task_said k t)) act e in
     record { kernel = k; named = n; is = p.1; line = l; operands = p.0 }
 
-pub judged-task : (has : Kernel → Bool) (s : Scope) (t : TaskForm) (act : Act) → judged_task has s t ≡ Ok act → IsJudged has s t act
+pub judged-task : (has : Kernel → Bool) (s : Scope) (t : TaskForm) (act : Act (List ℕ)) → judged_task has s t ≡ Ok act → IsJudged has s t act
 judged-task has s t act e =
     let p = by_parts (first_of (line_reasons s (priority_said t.priority) (operands_said t))) (judged_call has s (kernel_named has t.codelet) t) act e in
     by_kernel has s t act (kernel_named has t.codelet) refl p.0 p.1
 
-sound_task : (has : Kernel → Bool) (n : ℕ) (S : State) (t : TaskForm) (act : Act) → IsJudged has (scope_of n S) t act → IsSoundAct has S act
+sound_task : (has : Kernel → Bool) (n : ℕ) (S : State) (t : TaskForm) (act : Act (List ℕ)) → IsJudged has (scope_of n S) t act → IsSoundAct has S act
 sound_task has n S t act j =
     let k = j.kernel in
     let os = operands_said t in
@@ -336,7 +337,7 @@ sound_reduction n S name e =
 
 -- ---- acts
 
-pub sound_from_judged : (has : Kernel → Bool) (n : ℕ) (S : State) (f : Form) (act : Act) → judged has (scope_of n S) f ≡ Ok act → IsSoundAct has S act
+pub sound_from_judged : (has : Kernel → Bool) (n : ℕ) (S : State) (f : Form) (act : Act (List ℕ)) → judged has (scope_of n S) f ≡ Ok act → IsSoundAct has S act
 sound_from_judged has n S (form.Register a) act e =
     let p = unless_parts (first_of (register_reasons (scope_of n S) a.name (registered_by a).dims (parts_said a.parts) (init_said a.init))) (Registers (registered_by a)) act e in
     subst (IsSoundAct has S) p.1 (sound_registration n S a p.0)
@@ -353,5 +354,5 @@ sound_from_judged has n S (form.Invalidate name) act e =
 sound_from_judged has n S (form.Unregister name) act e =
     let p = unless_parts (first_of (name_reasons (scope_of n S) name)) (Unregister name) act e in subst (IsSoundAct has S) p.1 (sound_name n S name p.0)
 
-pub sound_from_allowed : (has : Kernel → Bool) (n : ℕ) (S : State) (act : Act) → IsAllowed has (scope_of n S) act → IsSoundAct has S act
+pub sound_from_allowed : (has : Kernel → Bool) (n : ℕ) (S : State) (act : Act (List ℕ)) → IsAllowed has (scope_of n S) act → IsSoundAct has S act
 sound_from_allowed has n S act h = sound_from_judged has n S h.form act h.judged

@@ -10,28 +10,28 @@ use Rattle.sj_job.specs.declared.form.ArrayForm.{ArrayForm}
 use Rattle.sj_job.specs.declared.form.TaskForm.{TaskForm}
 use Rattle.sj_job.specs.declared.form.Form.{Form}
 use Rattle.sj_job.specs.declared.form.Form.TheVariants as form
-use Rattle.sj_job.specs.declared.job.Init.{Init}
-use Rattle.sj_job.specs.declared.job.RootInfo.{RootInfo}
-use Rattle.sj_job.specs.declared.job.TaskLine.{TaskLine as KeptTask}
-use Rattle.sj_job.specs.declared.job.Act.{Act as KeptAct}
-use Rattle.sj_job.specs.declared.job.Act.TheVariants as kept
+use Rattle.sj_meaning.specs.declared.job.Init.{Init}
+use Rattle.sj_meaning.specs.declared.job.RootInfo.{RootInfo}
+use Rattle.sj_meaning.specs.declared.job.TaskLine.{TaskLine as KeptTask}
+use Rattle.sj_meaning.specs.declared.job.Act.{Act as KeptAct}
+use Rattle.sj_meaning.specs.declared.job.Act.TheVariants as kept
 use Rattle.sj_job.specs.declared.names.Names.{Names}
 use Rattle.sj_job.specs.declared.reason.Reason.{Reason}
 use Rattle.sj_job.specs.declared.reason.Reason.TheVariants.{Number}
-use Rattle.sj_job.specs.Statement.{Register as Registration}
-use Rattle.sj_job.specs.Act.{Act, Register, Plan, Redux, Task, Print, Invalidate, Unregister}
+use Rattle.sj_meaning.specs.Statement.{Register as Registration}
+use Rattle.sj_meaning.specs.Act.{Act, Register, Plan, Redux, Task, Print, Invalidate, Unregister}
 use Rattle.sj_job.specs.Sentence.{is_numbered, is_numbered_array, is_numbered_task, kind_of, rows_of, cols_of, init_said, parts_said, registered_by, said_of}
 use Rattle.sj_job.specs.Word.{is_count, count}
-use Rattle.sj_job.specs.State.{State, plan_with}
-use Rattle.sj_job.specs.Meaning.{apply, register, run_task, plan, reduce, invalidate, unregister}
-use Rattle.sj_job.specs.Sound.{IsSoundAct, IsSoundTask, IsSoundRegistration, IsSoundPlan}
+use Rattle.sj_meaning.specs.State.{State, plan_with}
+use Rattle.sj_meaning.specs.Meaning.{apply, register, run_task, plan, reduce, invalidate, unregister}
+use Rattle.sj_meaning.specs.Sound.{IsSoundAct, IsSoundTask, IsSoundRegistration, IsSoundPlan}
 use Rattle.sj_job.specs.Judge.{Scope, scope_of, first_of, unless, judged, judged_task, register_reasons, plan_reasons, print_reasons, redux_reasons, name_reasons}
-use Rattle.sj_job.specs.Table.{Table, table, no_info, name_of, root_in, IsRoot, with_root}
-use Rattle.sj_job.specs.View.{registration, task_seen, act_seen, count_after, IsPlaced, Extends}
+use Rattle.sj_meaning.specs.Table.{Table, table, no_info, name_of, root_in, IsRoot, with_root}
+use Rattle.sj_meaning.specs.View.{registration, task_seen, act_seen, count_after, IsPlaced, Extends}
 use Rattle.sj_job.specs.Names.{scope_in}
 use Rattle.sj_job.specs.Sees.{Sees}
 use Rattle.sj_job.specs.Submits.{done_in, act_noted, Notes, Submits}
-use Rattle.sj_job.proofs.Places.{is-at}
+use Rattle.sj_meaning.proofs.Finding.{is-at}
 use Rattle.sj_job.proofs.Seen.{same_scope}
 use Rattle.sj_job.proofs.Sounding.{sound_from_judged}
 
@@ -45,7 +45,7 @@ weaker_err (Err e) f h = f e h
 
 -- ---- what a form does
 
-done_from : (Kernel → Bool) → Scope → Result Form Reason → Result Act Reason
+done_from : (Kernel → Bool) → Scope → Result Form Reason → Result (Act (List ℕ)) Reason
 done_from has s r = elim r [ Err why ↦ Err why | Ok g ↦ judged has s g ]
 
 said_whole : (f : Form) → is_numbered f ≡ true → said_of f ≡ Ok f
@@ -55,12 +55,12 @@ pub done_whole : (has : Kernel → Bool) (s : Scope) (f : Form) → is_numbered 
 unfolding done_from
 done_whole has s f n = ap (done_from has s) (said_whole f n)
 
-sound_by : (has : Kernel → Bool) (n : ℕ) (S : State) (f : Form) (act : Act) (r : Result Form Reason) → said_of f ≡ r → (elim r as (λ _. Result Act Reason) [ Err why ↦ Err why | Ok g ↦ judged has (scope_of n S) g ]) ≡ Ok act → IsSoundAct has S act
+sound_by : (has : Kernel → Bool) (n : ℕ) (S : State) (f : Form) (act : Act (List ℕ)) (r : Result Form Reason) → said_of f ≡ r → (elim r as (λ _. Result (Act (List ℕ)) Reason) [ Err why ↦ Err why | Ok g ↦ judged has (scope_of n S) g ]) ≡ Ok act → IsSoundAct has S act
 sound_by has n S f act (Err why) p e = absurd (cc)
 sound_by has n S f act (Ok g) p e = sound_from_judged has n S g act e
 
 -- what is done is sound
-pub sound_done : (has : Kernel → Bool) (old : Names) (n : ℕ) (S : State) (f : Form) (act : Act) → Sees old n S → done_in has (scope_in old) f ≡ Ok act → IsSoundAct has S act
+pub sound_done : (has : Kernel → Bool) (old : Names) (n : ℕ) (S : State) (f : Form) (act : Act (List ℕ)) → Sees old n S → done_in has (scope_in old) f ≡ Ok act → IsSoundAct has S act
 sound_done has old n S f act h e =
     sound_by has n S f act (said_of f) refl (ap (λ (s : Scope). done_in has s f) (sym (same_scope old n S h)) ∙ e)
 
@@ -103,8 +103,8 @@ registers has old new a name info init h =
         kept = (name ∷ [], info ∷ [], h.roots);
         whole = λ e. omega (arith, e, ap (λ (T : Table). length T.infos) h.roots, ap (λ (T : Table). length T.names) h.roots, length-append old.roots.infos (info ∷ []), length-append old.roots.names (name ∷ []));
         sees = λ n S k.
-            let sound = subst (λ (r : Registration). IsSoundAct has S (Register r)) said (sound_done has old n S (form.Register a) (Register (registered_by a)) k done) in
-            subst (λ (x : Act). Sees new (n + 1) (apply x S)) (sym seen) (h.sees n S k sound);
+            let sound = subst (λ (r : Registration (List ℕ)). IsSoundAct has S (Register r)) said (sound_done has old n S (form.Register a) (Register (registered_by a)) k done) in
+            subst (λ (x : Act (List ℕ)). Sees new (n + 1) (apply x S)) (sym seen) (h.sees n S k sound);
       };
     }
 
@@ -139,7 +139,7 @@ runs has old new t line h =
         counted = ap (λ (T : Table). length T.names) h.roots;
         kept = same_table old new h.roots;
         whole = same_whole old new h.roots;
-        sees = λ n S k. subst (λ (x : Act). Sees new (n + 1) (apply x S)) (sym seen) (h.sees n S k (sound_done has old n S (form.Task t) (Task (task_seen old.roots line)) k done));
+        sees = λ n S k. subst (λ (x : Act (List ℕ)). Sees new (n + 1) (apply x S)) (sym seen) (h.sees n S k (sound_done has old n S (form.Task t) (Task (task_seen old.roots line)) k done));
       };
     }
 

@@ -15,8 +15,8 @@ use Rattle.sj_plan.specs.Paste.{same_place}
 use Rattle.sj_plan.specs.Rect.{child, dims_of}
 use Rattle.sj_job.specs.declared.form.OperandForm.{OperandForm}
 use Rattle.sj_job.specs.declared.form.TaskForm.{TaskForm}
-use Rattle.sj_job.specs.declared.job.Operand.{Operand as Access}
-use Rattle.sj_job.specs.declared.job.TaskLine.{TaskLine as KeptTask}
+use Rattle.sj_meaning.specs.declared.job.Operand.{Operand as Access}
+use Rattle.sj_meaning.specs.declared.job.TaskLine.{TaskLine as KeptTask}
 use Rattle.sj_job.specs.declared.judge.Target.{Target}
 use Rattle.sj_job.specs.declared.names.Standing.{Standing}
 use Rattle.sj_job.specs.declared.names.Standing.TheVariants.{Live, Ended}
@@ -24,20 +24,21 @@ use Rattle.sj_job.specs.declared.names.Names.{Names}
 use Rattle.sj_job.specs.declared.reason.Reason.{Reason}
 use Rattle.sj_job.specs.declared.reason.Reason.TheVariants.{UnknownName, UnknownCodelet, OperandCount, Part, Shape, Aliased, NoValue, NoReduction, MixedOutputs, NotLawful, Limit, EndedName}
 use Rattle.sj_job.specs.declared.reason.LimitKind.TheVariants.{Statements, Priority}
-use Rattle.sj_job.specs.Statement.{Operand, TaskLine}
-use Rattle.sj_job.specs.Act.{Act, Task}
+use Rattle.sj_meaning.specs.Statement.{Operand, TaskLine}
+use Rattle.sj_meaning.specs.Act.{Act, Task}
 use Rattle.sj_job.specs.Form.{each_some}
 use Rattle.sj_job.specs.Word.{integer}
 use Rattle.sj_job.specs.Sentence.{index_said, place_said, operand_said, operands_said, priority_said, task_said}
-use Rattle.sj_job.specs.State.{is_child}
-use Rattle.sj_job.specs.Table.{name_of, root_in, IsRoot}
+use Rattle.sj_meaning.specs.State.{is_child}
+use Rattle.sj_meaning.specs.Table.{name_of, root_in, IsRoot}
 use Rattle.sj_job.specs.Track.{Track, is_set}
-use Rattle.sj_job.specs.View.{operand_seen, task_seen}
-use Rattle.sj_job.specs.Meaning.{is_written, written_of}
-use Rattle.sj_job.specs.Judge.{Known, first_of, is_full, is_priority, is_unknown, is_ended, is_child_said, is_missing, dims_in, modes_fit, mode_fits, is_read_only, clashes, is_aliased, needs_value, is_lacking, is_counted, is_shaped, has_mixed_outputs, is_lawful_for, is_unlawful, is_unordered, lacks_reduction, operand_reasons, reduction_known, kernel_named, judged_by, judged_call, judged_task, unless}
+use Rattle.sj_meaning.specs.View.{operand_seen, task_seen}
+use Rattle.sj_meaning.specs.Meaning.{is_written, written_of}
+use Rattle.sj_job.specs.Judge.{Known, first_of, is_full, is_unknown, is_ended, is_child_said, is_missing, dims_in, is_lacking, is_counted, is_shaped, has_mixed_outputs, is_unlawful, lacks_reduction, operand_reasons, reduction_known, kernel_named, judged_by, judged_call, judged_task, unless}
+use Rattle.sj_meaning.specs.Sound.{is_priority, modes_fit, mode_fits, is_read_only, clashes, is_aliased, needs_value, is_lawful_for, is_unordered}
 use Rattle.sj_job.specs.Names.{Found, IsPlaceIn, a_target, any_collide, any_missing, any_over, are_mixed, collide, ended_from, found_at, found_in, is_counted_for, is_over, is_shaped_for, is_unlawful_for, is_unreduced, is_wanting, known_by, known_from, known_with, law_reasons, no_child, operand_by, plan_in, scope_in, standing_of, target_by, target_dims, target_in, target_reasons, targets_fit}
 use Rattle.sj_job.proofs.Children.{place-from_test, said-child}
-use Rattle.sj_job.proofs.Places.{is-at, is-root, same-text, text-itself}
+use Rattle.sj_meaning.proofs.Finding.{is-at, is-root, same-text, text-itself}
 
 -- ---- each operand with its root
 
@@ -264,7 +265,7 @@ unordered_same names [] (t ∷ ts) h = absurd h
 unordered_same names (o ∷ os) [] h = absurd h
 unordered_same names (o ∷ os) (t ∷ ts) h = λ i. is_unordered (mode_same names o t h.0 i) || unordered_same names os ts h.1 i
 
-count_by : (b : Bool) (o : Operand) (os : List Operand) (t : Target) (ts : List Target) → length os ≡ length ts → length (cond b (o ∷ os) os) ≡ length (cond b (t ∷ ts) ts)
+count_by : (b : Bool) (o : Operand (List ℕ)) (os : List (Operand (List ℕ))) (t : Target) (ts : List Target) → length os ≡ length ts → length (cond b (o ∷ os) os) ≡ length (cond b (t ∷ ts) ts)
 count_by true o os t ts e = ap suc e
 count_by false o os t ts e = e
 
@@ -340,7 +341,7 @@ seen_same names [] (t ∷ ts) h = absurd h
 seen_same names (o ∷ os) [] h = absurd h
 seen_same names (o ∷ os) (t ∷ ts) h =
     let named : name_of names.roots t.root ≡ o.name = ap (name_of names.roots) (sym (root_same names o t h.0)) ∙ (is-at names.roots o.name h.0.of.root (found-root names o.name h.0.of h.0.found)).named in
-    let mk : List ℕ → (ℕ × ℕ) → Mode → Operand = λ n p m. record { name = n; place = p; mode = m } in
+    let mk : List ℕ → (ℕ × ℕ) → Mode → Operand (List ℕ) = λ n p m. record { name = n; place = p; mode = m } in
     λ i. mk (named i) (sym (place_same names o t h.0) i) (sym (mode_same names o t h.0) i) ∷ seen_same names os ts h.1 i
 
 -- what is kept of an operand is of a root, and a child of its active plan
@@ -403,7 +404,7 @@ reasons_same has names k args os ts h e =
 abbrev line_first : Bool → Bool → Bool → Bool → Option Reason
 line_first full early unknown ended = first_of ((full, Limit Statements) ∷ (early, Limit Priority) ∷ (unknown, UnknownName) ∷ (ended, EndedName) ∷ [])
 
-abbrev by_line : (Kernel → Bool) → Names → TaskForm → Option Reason → Result Act Reason
+abbrev by_line : (Kernel → Bool) → Names → TaskForm → Option Reason → Result (Act (List ℕ)) Reason
 by_line has names form o = judged_by o (judged_call has (scope_in names) (kernel_named has form.codelet) form)
 
 pub task-full : (has : Kernel → Bool) (names : Names) (form : TaskForm) → is_full (scope_in names) ≡ true → judged_task has (scope_in names) form ≡ Err (Limit Statements)
@@ -452,6 +453,6 @@ pub task-ok : (has : Kernel → Bool) (names : Names) (form : TaskForm) (ts : Li
 task-ok has names form ts k args os p h over named e ea eo ep =
     let a = targets names form.operands ts h.found in
     let same : map (operand_seen names.roots) os ≡ operands_said form = ap (map (operand_seen names.roots)) eo ∙ seen_same names form.operands ts (lives names form.operands ts a over (unmissed has k (map integer form.args) ts e)) in
-    let line : List ℤ → List Operand → ℤ → TaskLine = λ args os p. record { codelet = codelet_of k; args = args; operands = os; priority = p } in
+    let line : List ℤ → List (Operand (List ℕ)) → ℤ → TaskLine (List ℕ) = λ args os p. record { codelet = codelet_of k; args = args; operands = os; priority = p } in
     called has names form ts k None h over named e
     ∙ (λ i. Ok (Task (line (sym ea i) (sym same i) (sym ep i))))

@@ -1,26 +1,21 @@
 -- Why a form is refused: the conditions of the reasons, in their order.
-use Rattle.std.specs.Prelude.{ℕ, ◌*◌, Bool, true, false, ◌&&◌, ◌||◌, not, nat_eq, nat_le, nat_lt, Option, Some, None, find, Result, Ok, Err, List, [], ◌∷◌, length, map, option_map, is_some, zip, if◌then◌else◌, ℤ, pos, negsuc}
+use Rattle.std.specs.Prelude.{ℕ, ◌*◌, Bool, true, false, ◌&&◌, ◌||◌, not, nat_eq, nat_le, nat_lt, Option, Some, None, find, Result, Ok, Err, List, [], ◌∷◌, length, map, option_map, is_some, if◌then◌else◌, ℤ, pos}
 use Rattle.std.specs.List.{list_all, list_any}
-use Rattle.std.specs.Int.RustNames.{int_le}
 use Rattle.std.specs.Str.{bytes_eq}
 use Rattle.sj_base.specs.declared.tile.Dims.{Dims}
 use Rattle.sj_base.specs.declared.mode.Mode.{Mode}
-use Rattle.sj_base.specs.declared.mode.Mode.TheVariants.{R, W, RW, Scratch, Redux, Commute}
 use Rattle.sj_base.specs.declared.mode.Reduction.{Reduction}
 use Rattle.sj_base.specs.declared.program.Codelet.{Codelet}
-use Rattle.sj_base.specs.Mode.{is_redux, is_commute}
+use Rattle.sj_base.specs.Mode.{is_redux}
 use Rattle.sj_codelet.specs.declared.kernel.Kernel.{Kernel}
-use Rattle.sj_codelet.specs.declared.formal.Formal.{Formal}
-use Rattle.sj_codelet.specs.declared.formal.Formal.TheVariants.{R as FormalR, W as FormalW, RW as FormalRW, Scratch as FormalScratch}
-use Rattle.sj_codelet.specs.Kernel.{kernels, has_name, codelet_of, arguments_of, formals_of, fits, commutes_in, contributes_in}
+use Rattle.sj_codelet.specs.Kernel.{kernels, has_name, codelet_of, arguments_of, formals_of, fits}
 use Rattle.sj_plan.specs.declared.parts.Parts.{Parts}
-use Rattle.sj_plan.specs.Paste.{same_place}
 use Rattle.sj_plan.specs.Rect.{child, dims_of}
-use Rattle.sj_job.specs.declared.job.Init.{Init}
-use Rattle.sj_job.specs.declared.job.Init.TheVariants.{Values, Fill, Nothing}
-use Rattle.sj_job.specs.Statement.{Operand}
-use Rattle.sj_job.specs.Act.{Act}
-use Rattle.sj_job.specs.Act.{Register as Registers, Plan as Plans, Redux as Reduces, Task as Tasks, Print as Prints, Invalidate as Invalidates, Unregister as Unregisters}
+use Rattle.sj_meaning.specs.declared.job.Init.{Init}
+use Rattle.sj_meaning.specs.declared.job.Init.TheVariants.{Values, Fill, Nothing}
+use Rattle.sj_meaning.specs.Statement.{Operand}
+use Rattle.sj_meaning.specs.Act.{Act}
+use Rattle.sj_meaning.specs.Act.{Register as Registers, Plan as Plans, Redux as Reduces, Task as Tasks, Print as Prints, Invalidate as Invalidates, Unregister as Unregisters}
 use Rattle.sj_job.specs.declared.form.OperandForm.{OperandForm}
 use Rattle.sj_job.specs.declared.form.TaskForm.{TaskForm}
 use Rattle.sj_job.specs.declared.form.Form.{Form}
@@ -29,8 +24,9 @@ use Rattle.sj_job.specs.declared.reason.Reason.{Reason}
 use Rattle.sj_job.specs.declared.reason.Reason.TheVariants.{UnknownName, TakenName, UnknownCodelet, OperandCount, Part, Shape, Aliased, NoValue, NoReduction, MixedOutputs, NotLawful, Limit, EndedName}
 use Rattle.sj_job.specs.declared.reason.LimitKind.TheVariants.{Statements, Names, Elements, Parts as PartsLimit, Priority}
 use Rattle.sj_job.specs.Sentence.{init_said, parts_said, index_said, registered_by, operands_said, priority_said, task_said}
-use Rattle.sj_job.specs.Meaning.{written_of}
-use Rattle.sj_job.specs.State.{Root, State, root_of, is_valued, is_blank, is_child, is_valued_child}
+use Rattle.sj_meaning.specs.Meaning.{written_of}
+use Rattle.sj_meaning.specs.Sound.{is_side, is_priority, modes_fit, is_aliased, needs_value, is_unordered, is_lawful_for}
+use Rattle.sj_meaning.specs.State.{Root, State, root_of, is_valued, is_blank, is_child, is_valued_child}
 
 -- what the reasons look at in a root: its reduction, whether all its elements have a value, whether none has, and which
 -- children of the active plan have one at each element
@@ -72,9 +68,6 @@ is_full s = nat_le 262144 s.statements
 
 abbrev pub has_names : Scope → Bool
 has_names s = nat_le 4096 s.registered
-
-abbrev pub is_side : ℕ → Bool
-is_side n = nat_le 1 n && nat_le n 1048576
 
 -- the dimensions lie outside their limits
 abbrev pub is_outside : ℕ → ℕ → Bool
@@ -150,23 +143,8 @@ redux_reasons s name =
     ∷ []
 
 -- arguments and operands are as many as the codelet has
-abbrev pub is_counted : Kernel → List ℤ → List Operand → Bool
+abbrev pub is_counted : Kernel → List ℤ → List (Operand (List ℕ)) → Bool
 is_counted k args os = nat_eq (length args) (arguments_of k) && nat_eq (length os) (length (formals_of k))
-
--- an operand's mode is the codelet's; contributions and commuting accesses stand for written operands
-abbrev pub mode_fits : Formal → Mode → Bool
-mode_fits FormalR R = true
-mode_fits FormalW W = true
-mode_fits FormalW Redux = true
-mode_fits FormalW Commute = true
-mode_fits FormalRW RW = true
-mode_fits FormalRW Redux = true
-mode_fits FormalRW Commute = true
-mode_fits FormalScratch Scratch = true
-mode_fits _ _ = false
-
-abbrev pub modes_fit : List Formal → List Operand → Bool
-modes_fit fs os = list_all (λ p. mode_fits p.0 p.1.mode) (zip fs os)
 
 -- an index is that of a child; a name alone is the whole array, which is a child where it is the only one
 abbrev pub is_child_said : Parts → Option (ℕ × ℕ) → Bool
@@ -178,65 +156,37 @@ abbrev pub is_missing : Scope → OperandForm → Bool
 is_missing s o = elim (s.known o.name) [ None ↦ false | Some k ↦ not (is_child_said k.parts (index_said o.child)) ]
 
 -- the dimensions of an operand's child
-abbrev pub dims_in : Scope → Operand → Dims
+abbrev pub dims_in : Scope → Operand (List ℕ) → Dims
 dims_in s o = elim (s.known o.name) [ None ↦ record { rows = 0; cols = 0 } | Some k ↦ dims_of (child k.dims k.parts o.place) ]
 
-abbrev pub is_shaped : Scope → Kernel → List ℤ → List Operand → Bool
+abbrev pub is_shaped : Scope → Kernel → List ℤ → List (Operand (List ℕ)) → Bool
 is_shaped s k args os = modes_fit (formals_of k) os && fits k args (map (dims_in s) os)
-
-abbrev pub is_read_only : Mode → Bool
-is_read_only R = true
-is_read_only _ = false
-
--- both are one child, and not both only read it
-abbrev pub clashes : Operand → Operand → Bool
-clashes o p = bytes_eq o.name p.name && same_place o.place p.place && not (is_read_only o.mode && is_read_only p.mode)
-
-abbrev pub is_aliased : List Operand → Bool
-is_aliased [] = false
-is_aliased (o ∷ os) = list_any (clashes o) os || is_aliased os
-
-abbrev pub needs_value : Mode → Bool
-needs_value R = true
-needs_value RW = true
-needs_value Commute = true
-needs_value _ = false
 
 -- an element of a name has no value
 abbrev pub lacks_value : Scope → List ℕ → Bool
 lacks_value s name = elim (s.known name) [ None ↦ false | Some k ↦ not k.all ]
 
 -- an element of an operand's child has none
-abbrev pub child_lacks_value : Scope → Operand → Bool
+abbrev pub child_lacks_value : Scope → Operand (List ℕ) → Bool
 child_lacks_value s o = elim (s.known o.name) [ None ↦ false | Some k ↦ not (k.child o.place) ]
 
 -- an operand's old value is needed and isn't there
-abbrev pub is_lacking : Scope → Operand → Bool
+abbrev pub is_lacking : Scope → Operand (List ℕ) → Bool
 is_lacking s o = needs_value o.mode && child_lacks_value s o
 
 -- a contribution to a name without a reduction
-abbrev pub lacks_reduction : Scope → Operand → Bool
+abbrev pub lacks_reduction : Scope → Operand (List ℕ) → Bool
 lacks_reduction s o = is_redux o.mode && not (is_some (reduction_known s o.name))
 
--- contributions and commuting accesses, which may come in any order
-abbrev pub is_unordered : Mode → Bool
-is_unordered m = is_redux m || is_commute m
-
 -- one of them stands beside another written operand
-abbrev pub has_mixed_outputs : List Operand → Bool
+abbrev pub has_mixed_outputs : List (Operand (List ℕ)) → Bool
 has_mixed_outputs os = list_any (λ o. is_unordered o.mode) os && nat_lt 1 (length (written_of os))
 
--- runs of a commuting access's codelet may change places, and a contribution's adds to what the reduction combines
-abbrev pub is_lawful_for : (Kernel → Bool) → Codelet → Option Reduction → Mode → Bool
-is_lawful_for has id by m =
-    (not (is_commute m) || commutes_in has id)
-    && (not (is_redux m) || elim by [ None ↦ false | Some by ↦ contributes_in has id by ])
-
-abbrev pub is_unlawful : (Kernel → Bool) → Scope → Kernel → Operand → Bool
+abbrev pub is_unlawful : (Kernel → Bool) → Scope → Kernel → Operand (List ℕ) → Bool
 is_unlawful has s k o = not (is_lawful_for has (codelet_of k) (reduction_known s o.name) o.mode)
 
 -- the operands' own conditions, for a codelet of the table
-abbrev pub operand_reasons : (Kernel → Bool) → Scope → Kernel → List ℤ → List OperandForm → List Operand → List (Bool × Reason)
+abbrev pub operand_reasons : (Kernel → Bool) → Scope → Kernel → List ℤ → List OperandForm → List (Operand (List ℕ)) → List (Bool × Reason)
 operand_reasons has s k args forms os =
     (not (is_counted k args os), OperandCount)
     ∷ (list_any (is_missing s) forms, Part)
@@ -248,12 +198,8 @@ operand_reasons has s k args forms os =
     ∷ (list_any (is_unlawful has s k) os, NotLawful)
     ∷ []
 
--- a priority from -1000 to 1000
-abbrev pub is_priority : ℤ → Bool
-is_priority p = int_le (negsuc 999) p && int_le p (pos 1000)
-
 -- the conditions before the codelet's
-abbrev pub line_reasons : Scope → ℤ → List Operand → List (Bool × Reason)
+abbrev pub line_reasons : Scope → ℤ → List (Operand (List ℕ)) → List (Bool × Reason)
 line_reasons s priority os =
     (is_full s, Limit Statements)
     ∷ (not (is_priority priority), Limit Priority)
@@ -278,7 +224,7 @@ name_reasons s name =
     ∷ []
 
 -- an act against which there is no reason, or the reason
-abbrev pub unless : Option Reason → Act → Result Act Reason
+abbrev pub unless : Option Reason → Act (List ℕ) → Result (Act (List ℕ)) Reason
 unless None act = Ok act
 unless (Some why) act = Err why
 
@@ -287,23 +233,23 @@ abbrev pub kernel_named : (Kernel → Bool) → List ℕ → Option Kernel
 kernel_named has name = find (λ k. has k && has_name name k) kernels
 
 -- what the codelet's conditions leave of a task
-abbrev pub judged_call : (Kernel → Bool) → Scope → Option Kernel → TaskForm → Result Act Reason
+abbrev pub judged_call : (Kernel → Bool) → Scope → Option Kernel → TaskForm → Result (Act (List ℕ)) Reason
 judged_call has s None t = Err UnknownCodelet
 judged_call has s (Some k) t =
     unless (first_of (operand_reasons has s k (task_said k t).args t.operands (operands_said t))) (Tasks (task_said k t))
 
 -- what the reasons before the codelet's leave
-abbrev pub judged_by : Option Reason → Result Act Reason → Result Act Reason
+abbrev pub judged_by : Option Reason → Result (Act (List ℕ)) Reason → Result (Act (List ℕ)) Reason
 judged_by None r = r
 judged_by (Some why) r = Err why
 
-abbrev pub judged_task : (Kernel → Bool) → Scope → TaskForm → Result Act Reason
+abbrev pub judged_task : (Kernel → Bool) → Scope → TaskForm → Result (Act (List ℕ)) Reason
 judged_task has s t =
     judged_by (first_of (line_reasons s (priority_said t.priority) (operands_said t)))
     (judged_call has s (kernel_named has t.codelet) t)
 
 -- what a form does, or the first reason against it
-abbrev pub judged : (Kernel → Bool) → Scope → Form → Result Act Reason
+abbrev pub judged : (Kernel → Bool) → Scope → Form → Result (Act (List ℕ)) Reason
 judged has s (form.Register a) =
     unless (first_of (register_reasons s a.name (registered_by a).dims (parts_said a.parts) (init_said a.init))) (Registers (registered_by a))
 judged has s (form.Plan name r c) =

@@ -1,15 +1,8 @@
 pub mod Word
 pub mod Reason
-pub mod Statement
-pub mod Act
 pub mod Settings
-pub mod Job
 pub mod Verdict
-pub mod Table
-pub mod View
-pub mod State
 pub mod Track
-pub mod Meaning
 pub mod Form
 pub mod Sentence
 pub mod Judge
@@ -19,5 +12,4 @@ pub mod Sees
 pub mod Submits
 pub mod Progress
 pub mod Well
-pub mod Sound
 pub mod Grammar

@@ -14,9 +14,9 @@ use Rattle.sj_plan.specs.Parts.{IsPlace}
 use Rattle.sj_plan.specs.Paste.{same_place}
 use Rattle.sj_plan.specs.Rect.{child, dims_of}
 use Rattle.sj_job.specs.declared.form.OperandForm.{OperandForm}
-use Rattle.sj_job.specs.declared.job.Init.{Init}
-use Rattle.sj_job.specs.declared.job.Init.TheVariants.{Values, Fill, Nothing}
-use Rattle.sj_job.specs.declared.job.Operand.{Operand as Access}
+use Rattle.sj_meaning.specs.declared.job.Init.{Init}
+use Rattle.sj_meaning.specs.declared.job.Init.TheVariants.{Values, Fill, Nothing}
+use Rattle.sj_meaning.specs.declared.job.Operand.{Operand as Access}
 use Rattle.sj_job.specs.declared.names.Standing.{Standing}
 use Rattle.sj_job.specs.declared.names.Standing.TheVariants.{Live, Ended}
 use Rattle.sj_job.specs.declared.names.Names.{Names}
@@ -24,11 +24,12 @@ use Rattle.sj_job.specs.declared.judge.Target.{Target}
 use Rattle.sj_job.specs.declared.reason.Reason.{Reason}
 use Rattle.sj_job.specs.declared.reason.Reason.TheVariants.{OperandCount, Part, Shape, Aliased, NoValue, NoReduction, MixedOutputs, NotLawful}
 use Rattle.sj_job.specs.Sentence.{index_said}
-use Rattle.sj_job.specs.State.{is_child}
-use Rattle.sj_job.specs.Table.{root_in, info_of}
+use Rattle.sj_meaning.specs.State.{is_child}
+use Rattle.sj_meaning.specs.Table.{root_in, info_of}
 use Rattle.sj_job.specs.Track.{Track, all_valued, none_valued, even, is_set, written}
-use Rattle.sj_job.specs.Meaning.{is_written}
-use Rattle.sj_job.specs.Judge.{Known, Scope, is_child_said, is_read_only, is_lawful_for, is_unordered, mode_fits, needs_value}
+use Rattle.sj_meaning.specs.Meaning.{is_written}
+use Rattle.sj_job.specs.Judge.{Known, Scope, is_child_said}
+use Rattle.sj_meaning.specs.Sound.{is_read_only, is_lawful_for, is_unordered, mode_fits, needs_value}
 
 -- each root has a standing
 abbrev pub IsCounted : Names → Type 0

@@ -1,16 +1,16 @@
 -- How far a text is read.
 use Rattle.std.specs.Prelude.{ℕ, Bool, Result, Ok, Err, List, ◌++◌, length}
 use Rattle.sj_codelet.specs.declared.kernel.Kernel.{Kernel}
-use Rattle.sj_job.specs.Act.{Statement}
-use Rattle.sj_job.specs.State.{start}
-use Rattle.sj_job.specs.Meaning.{run_from}
+use Rattle.sj_meaning.specs.Act.{Statement}
+use Rattle.sj_meaning.specs.State.{start}
+use Rattle.sj_meaning.specs.Meaning.{run_from}
 use Rattle.sj_job.specs.Reading.{Refusal, reading}
 
 -- the statements read so far, before what the further lines say
-abbrev pub after : List Statement → Result (List Statement) Refusal → Result (List Statement) Refusal
+abbrev pub after : List (Statement (List ℕ)) → Result (List (Statement (List ℕ))) Refusal → Result (List (Statement (List ℕ))) Refusal
 after ss (Ok more) = Ok (ss ++ more)
 after ss (Err e) = Err e
 
 -- what a text says whose statements so far are ss and whose further lines, from line n on, are ls
-abbrev pub text_with : (Kernel → Bool) → List Statement → ℕ → List (List ℕ) → Result (List Statement) Refusal
+abbrev pub text_with : (Kernel → Bool) → List (Statement (List ℕ)) → ℕ → List (List ℕ) → Result (List (Statement (List ℕ))) Refusal
 text_with set ss n ls = after ss (reading set (length ss) (run_from start ss) n ls)

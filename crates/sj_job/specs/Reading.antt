@@ -3,14 +3,15 @@ use Rattle.std.specs.Prelude.{◌≡◌, ℕ, ◌+◌, Bool, not, ◌&&◌, nat_
 use Rattle.std.specs.List.{list_all}
 use Rattle.sj_base.specs.declared.ids.Line.{Line}
 use Rattle.sj_codelet.specs.declared.kernel.Kernel.{Kernel}
-use Rattle.sj_job.specs.Act.{Act}
-use Rattle.sj_job.specs.Act.{Statement}
-use Rattle.sj_job.specs.Job.{Job, job}
+use Rattle.sj_meaning.specs.Act.{Act}
+use Rattle.sj_meaning.specs.Act.{Statement}
+use Rattle.sj_meaning.specs.Job.{Job, job}
 use Rattle.sj_job.specs.Verdict.{Verdict, Skipped, Does, Bad}
 use Rattle.sj_job.specs.Verdict.{Front, Passes, Begins, Stops}
 use Rattle.sj_job.specs.declared.form.SettingForm.{SettingForm}
-use Rattle.sj_job.specs.declared.settings.Settings.{Settings}
-use Rattle.sj_job.specs.Settings.{unset, setting_of, set_by}
+use Rattle.sj_meaning.specs.declared.settings.Settings.{Settings}
+use Rattle.sj_job.specs.Settings.{setting_of, set_by}
+use Rattle.sj_meaning.specs.Settings.{unset}
 use Rattle.sj_job.specs.declared.reason.Reason.{Reason}
 use Rattle.sj_job.specs.declared.reason.Objection.{Objection}
 use Rattle.sj_job.specs.declared.reason.Objection.TheVariants.{Bad as Objected, OutOfMemory as NoMemory}
@@ -20,8 +21,8 @@ use Rattle.sj_job.specs.declared.reason.Reason.TheVariants.{Header, Word, Limit}
 use Rattle.sj_job.specs.declared.reason.LimitKind.TheVariants.{Text}
 use Rattle.sj_job.specs.Word.{lines, words, is_allowed, is_skipped}
 use Rattle.sj_job.specs.Sentence.{said, is_header}
-use Rattle.sj_job.specs.State.{State, start}
-use Rattle.sj_job.specs.Meaning.{apply}
+use Rattle.sj_meaning.specs.State.{State, start}
+use Rattle.sj_meaning.specs.Meaning.{apply}
 use Rattle.sj_job.specs.Judge.{Scope, scope_of, judged}
 
 -- a bad line and its first reason
@@ -33,19 +34,19 @@ abbrev pub refusal : ℕ → Reason → Refusal
 refusal n why = record { line = record { 0 = n }; reason = why }
 
 -- what words do: what they say, where no reason stands against it
-abbrev pub act_in : (Kernel → Bool) → Scope → List (List ℕ) → Result Act Reason
+abbrev pub act_in : (Kernel → Bool) → Scope → List (List ℕ) → Result (Act (List ℕ)) Reason
 act_in set scope words = elim (said words) [ Err why ↦ Err why | Ok f ↦ judged set scope f ]
 
 -- what a line does where the reasons see this scope
-abbrev pub statement_in : (Kernel → Bool) → Scope → List ℕ → Result Act Reason
+abbrev pub statement_in : (Kernel → Bool) → Scope → List ℕ → Result (Act (List ℕ)) Reason
 statement_in set scope line =
     if not (list_all is_allowed line) then Err Word else act_in set scope (words line)
 
-abbrev pub statement : ℕ → Act → Statement
+abbrev pub statement : ℕ → Act (List ℕ) → Statement (List ℕ)
 statement n act = record { line = record { 0 = n }; act = act }
 
 -- a statement before what the further lines say
-abbrev pub before : Statement → Result (List Statement) Refusal → Result (List Statement) Refusal
+abbrev pub before : Statement (List ℕ) → Result (List (Statement (List ℕ))) Refusal → Result (List (Statement (List ℕ))) Refusal
 before s (Ok ss) = Ok (s ∷ ss)
 before s (Err e) = Err e
 
@@ -56,7 +57,7 @@ verdict_of set scope line =
     else (elim (statement_in set scope line) [ Err why ↦ Bad why | Ok act ↦ Does act ])
 
 -- what the statement lines from line n on say, after so many statements, which leave the state S
-abbrev pub reading : (Kernel → Bool) → ℕ → State → ℕ → List (List ℕ) → Result (List Statement) Refusal
+abbrev pub reading : (Kernel → Bool) → ℕ → State → ℕ → List (List ℕ) → Result (List (Statement (List ℕ))) Refusal
 reading set k S n [] = Ok []
 reading set k S n (l ∷ ls) = elim (verdict_of set (scope_of k S) l) [
   | Skipped ↦ reading set k S (n + 1) ls
@@ -80,7 +81,7 @@ front_of g line =
     ])
 
 -- the settings, and what the lines behind them say
-abbrev pub with_settings : Settings → Result (List Statement) Refusal → Result Job Refusal
+abbrev pub with_settings : Settings → Result (List (Statement (List ℕ))) Refusal → Result Job Refusal
 with_settings g (Ok ss) = Ok (job g ss)
 with_settings g (Err e) = Err e
 

@@ -7,7 +7,7 @@ use Rattle.sj_base.specs.declared.mode.Reduction.{Reduction}
 use Rattle.sj_job.specs.declared.names.Names.{Names}
 use Rattle.sj_job.specs.declared.names.Standing.{Standing}
 use Rattle.sj_job.specs.declared.names.Standing.TheVariants.{Live, Ended}
-use Rattle.sj_job.specs.State.{Root, State, root_of}
+use Rattle.sj_meaning.specs.State.{Root, State, root_of}
 use Rattle.sj_job.specs.Track.{Track, Tracks}
 use Rattle.sj_job.specs.Names.{Found, IsCounted, ended_in, found_in}
 

@@ -5,11 +5,11 @@ use Rattle.std.specs.Str.{bytes_eq}
 use Rattle.sj_codelet.specs.declared.kernel.Kernel.{Kernel}
 use Rattle.sj_codelet.specs.Kernel.{codelet_of}
 use Rattle.sj_plan.specs.declared.parts.Parts.{Parts}
-use Rattle.sj_job.specs.declared.job.Kind.{Kind}
-use Rattle.sj_job.specs.declared.job.Kind.TheVariants as kind
-use Rattle.sj_job.specs.declared.job.Init.{Init}
-use Rattle.sj_job.specs.declared.job.Init.TheVariants.{Values, Fill, Nothing}
-use Rattle.sj_job.specs.Statement.{Operand}
+use Rattle.sj_meaning.specs.declared.job.Kind.{Kind}
+use Rattle.sj_meaning.specs.declared.job.Kind.TheVariants as kind
+use Rattle.sj_meaning.specs.declared.job.Init.{Init}
+use Rattle.sj_meaning.specs.declared.job.Init.TheVariants.{Values, Fill, Nothing}
+use Rattle.sj_meaning.specs.Statement.{Operand}
 use Rattle.sj_job.specs.declared.form.Size.{Size}
 use Rattle.sj_job.specs.declared.form.Size.TheVariants as size
 use Rattle.sj_job.specs.declared.form.InitForm.{InitForm}
@@ -19,8 +19,8 @@ use Rattle.sj_job.specs.declared.form.OperandForm.{OperandForm}
 use Rattle.sj_job.specs.declared.form.TaskForm.{TaskForm}
 use Rattle.sj_job.specs.declared.form.Form.{Form}
 use Rattle.sj_job.specs.declared.form.Form.TheVariants as form
-use Rattle.sj_job.specs.Statement.{Register, TaskLine}
-use Rattle.sj_job.specs.Table.{undivided}
+use Rattle.sj_meaning.specs.Statement.{Register, TaskLine}
+use Rattle.sj_meaning.specs.Table.{undivided}
 use Rattle.sj_job.specs.declared.reason.Reason.{Reason}
 use Rattle.sj_job.specs.declared.reason.Reason.TheVariants.{Word, Number}
 use Rattle.sj_job.specs.Word.{is_count, is_integer, count, integer}
@@ -88,7 +88,7 @@ abbrev pub parts_said : Option (List ℕ × List ℕ) → Parts
 parts_said None = undivided
 parts_said (Some p) = record { r = count p.0; c = count p.1 }
 
-abbrev pub registered_by : ArrayForm → Register
+abbrev pub registered_by : ArrayForm → Register (List ℕ)
 registered_by a = record {
   name = a.name;
   kind = kind_of a.size;
@@ -106,7 +106,7 @@ index_said (Some p) = Some (count p.0, count p.1)
 abbrev pub place_said : OperandForm → ℕ × ℕ
 place_said o = unwrap_or (index_said o.child) (0, 0)
 
-abbrev pub operand_said : OperandForm → Operand
+abbrev pub operand_said : OperandForm → Operand (List ℕ)
 operand_said o = record { name = o.name; place = place_said o; mode = o.mode }
 
 -- the integer of `prio=`, or 0 without it
@@ -114,10 +114,10 @@ abbrev pub priority_said : Option (List ℕ) → ℤ
 priority_said None = pos 0
 priority_said (Some p) = integer p
 
-abbrev pub operands_said : TaskForm → List Operand
+abbrev pub operands_said : TaskForm → List (Operand (List ℕ))
 operands_said t = map operand_said t.operands
 
-abbrev pub task_said : Kernel → TaskForm → TaskLine
+abbrev pub task_said : Kernel → TaskForm → TaskLine (List ℕ)
 task_said k t = record {
   codelet = codelet_of k;
   args = map integer t.args;

@@ -2,27 +2,27 @@
 use Rattle.std.specs.Prelude.{◌≡◌, ℕ, ◌+◌, Bool, Result, Ok, Err, List, length}
 use Rattle.sj_codelet.specs.declared.kernel.Kernel.{Kernel}
 use Rattle.sj_job.specs.declared.form.Form.{Form}
-use Rattle.sj_job.specs.declared.job.Act.{Act as KeptAct}
-use Rattle.sj_job.specs.declared.job.Statement.{Statement as Kept}
+use Rattle.sj_meaning.specs.declared.job.Act.{Act as KeptAct}
+use Rattle.sj_meaning.specs.declared.job.Statement.{Statement as Kept}
 use Rattle.sj_job.specs.declared.names.Names.{Names}
 use Rattle.sj_job.specs.declared.reason.Reason.{Reason}
-use Rattle.sj_job.specs.Act.{Act}
+use Rattle.sj_meaning.specs.Act.{Act}
 use Rattle.sj_job.specs.Verdict.{Does}
 use Rattle.sj_job.specs.Sentence.{said_of}
-use Rattle.sj_job.specs.State.{State, start}
-use Rattle.sj_job.specs.Meaning.{apply, run_from}
+use Rattle.sj_meaning.specs.State.{State, start}
+use Rattle.sj_meaning.specs.Meaning.{apply, run_from}
 use Rattle.sj_job.specs.Judge.{Scope, judged}
 use Rattle.sj_job.specs.Names.{scope_in}
 use Rattle.sj_job.specs.Reading.{verdict_of}
-use Rattle.sj_job.specs.View.{act_seen, seen_from, count_after, IsPlaced, Extends, IsNumbered}
+use Rattle.sj_meaning.specs.View.{act_seen, seen_from, count_after, IsPlaced, Extends, IsNumbered}
 use Rattle.sj_job.specs.Sees.{Sees}
 
 -- what a form does, or the first reason against it
-abbrev pub done_in : (Kernel → Bool) → Scope → Form → Result Act Reason
+abbrev pub done_in : (Kernel → Bool) → Scope → Form → Result (Act (List ℕ)) Reason
 done_in has s f = elim (said_of f) [ Err why ↦ Err why | Ok g ↦ judged has s g ]
 
 -- the act as contracts see it, once the names have followed
-abbrev pub act_noted : Names → Names → KeptAct → Act
+abbrev pub act_noted : Names → Names → KeptAct → Act (List ℕ)
 act_noted old new a = act_seen new.roots (length old.roots.names) a
 
 -- the names have followed an act

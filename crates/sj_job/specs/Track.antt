@@ -8,7 +8,7 @@ use Rattle.sj_plan.specs.Parts.{Fits, IsPlace}
 use Rattle.sj_plan.specs.Rect.{Holds}
 use Rattle.sj_job.specs.declared.track.Marks.{Marks}
 use Rattle.sj_job.specs.declared.track.Marks.TheVariants.{All, Blank, Mixed}
-use Rattle.sj_job.specs.State.{Root, child_rect}
+use Rattle.sj_meaning.specs.State.{Root, child_rect}
 
 -- the active plan, and of each of its children, row by row, whether it has a value
 pub record Track : Type 0 where

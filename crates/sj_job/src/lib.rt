@@ -1,16 +1,14 @@
-//! The job language: what a job text says, and what it means on plain arrays.
+//! The job language: what a job text says.
 #![tactic(auto)]
 
 pub mod form;
 pub mod grammar;
-pub mod job;
 pub mod judge;
 pub mod line;
 pub mod names;
 pub mod number;
 pub mod read;
 pub mod reason;
-pub mod roots;
 pub mod settings;
 pub mod spell;
 pub mod submit;

@@ -3,21 +3,21 @@
 ghost use Rattle.std.specs.Prelude.{◌≡◌, ◌+◌, ◌<◌, ◌^◌, ℕ, Bool, None, All, length, OnOk, slice_set};
 ghost use Rattle.sj_codelet.specs.declared.kernel.Kernel.{Kernel};
 ghost use Rattle.sj_job.specs.Names.{IsCounted, IsEven, IsPlaceIn, after_write, after_writes, child_written, first_standing, invalidated, is_all, is_none, is_over, plan_in, planned, reduced, reduction_in, scope_in, standing_of};
-ghost use Rattle.sj_job.specs.State.{State, start};
-ghost use Rattle.sj_job.specs.Meaning.{register, run_task, invalidate, plan, reduce, unregister};
-ghost use Rattle.sj_job.specs.Table.{name_of, root_in, with_root, IsRoot};
+ghost use Rattle.sj_meaning.specs.State.{State, start};
+ghost use Rattle.sj_meaning.specs.Meaning.{register, run_task, invalidate, plan, reduce, unregister};
+ghost use Rattle.sj_meaning.specs.Table.{name_of, root_in, with_root, IsRoot};
 ghost use Rattle.sj_job.specs.Track.{IsPlan};
-ghost use Rattle.sj_job.specs.View.{task_seen, registration};
+ghost use Rattle.sj_meaning.specs.View.{task_seen, registration};
 ghost use Rattle.sj_job.specs.Sees.{Sees};
-ghost use Rattle.sj_job.specs.Sound.{IsSoundPlan, IsSoundTask, IsSoundRegistration};
+ghost use Rattle.sj_meaning.specs.Sound.{IsSoundPlan, IsSoundTask, IsSoundRegistration};
 ghost use Rattle.sj_job.specs.Judge.{is_taken, is_ended};
 
-use crate::job::{Init, Operand, RootInfo, TaskLine};
-use crate::roots::Roots;
 use crate::track::Tracked;
 use sj_base::ids::Root;
 use sj_base::memory::OutOfMemory;
 use sj_base::mode::Reduction;
+use sj_meaning::job::{Init, Operand, RootInfo, TaskLine};
+use sj_meaning::roots::Roots;
 use sj_plan::parts::Parts;
 use std::alloc::Global;
 

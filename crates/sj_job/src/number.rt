@@ -4,15 +4,15 @@ ghost use Rattle.std.specs.Prelude.{◌≡◌, ◌&&◌, true, false, map, IfOk,
 ghost use Rattle.std.specs.List.{list_all};
 ghost use Rattle.sj_job.specs.Word.{count, is_count, is_integer, integer};
 ghost use Rattle.sj_job.specs.Sentence.{are_counts, is_numbered_size, is_numbered_init, is_numbered_priority, rows_of, cols_of, init_said, parts_said, index_said, priority_said};
-ghost use Rattle.sj_job.specs.State.{plan_with};
+ghost use Rattle.sj_meaning.specs.State.{plan_with};
 
 use crate::form::{InitForm, Piece, Size};
-use crate::job::Init;
 use crate::line::Words;
 use crate::word::{count_of, integer_of};
 use sj_base::few::Few;
 use sj_base::memory::OutOfMemory;
 use sj_base::sequence::Sequence;
+use sj_meaning::job::Init;
 use std::alloc::Global;
 
 /// Whether a word says a count. Linear in it.

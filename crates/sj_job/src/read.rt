@@ -4,26 +4,27 @@ ghost use Rattle.std.specs.Prelude.{◌≡◌, ◌+◌, ◌≤◌, ◌<◌, ◌^
 ghost use Rattle.std.specs.Bool.{IsFalse};
 ghost use Rattle.sj_codelet.specs.declared.kernel.Kernel.{Kernel};
 ghost use Rattle.sj_job.specs.Word.{lines};
-ghost use Rattle.sj_job.specs.State.{start};
+ghost use Rattle.sj_meaning.specs.State.{start};
 ghost use Rattle.sj_job.specs.Names.{IsCounted, scope_in};
 ghost use Rattle.sj_job.specs.Verdict.{Skipped, Passes, Begins};
 ghost use Rattle.sj_job.specs.Reading.{front_of, reading, reading_header, reading_settings, refused, with_settings, job_of, verdict_of, IsBad, IsRefusal, IsStopped};
 ghost use Rattle.sj_job.specs.Progress.{text_with};
 ghost use Rattle.sj_job.specs.Submits.{LineDoes, AreRead};
-ghost use Rattle.sj_job.specs.Settings.{unset, IsWithinLimits};
-ghost use Rattle.sj_job.specs.View.{seen_from, statements_of, job_seen, IsNumbered};
+ghost use Rattle.sj_meaning.specs.Settings.{unset, IsWithinLimits};
+ghost use Rattle.sj_meaning.specs.View.{seen_from, statements_of, job_seen, IsNumbered};
 ghost use Rattle.sj_job.specs.Well.{IsWell};
 
-use crate::job::{Act, Job, Statement};
 use crate::line::{Words, are_allowed, is_header, is_skipped, next_line, trimmed};
 use crate::names::Names;
 use crate::reason::{LimitKind, Objection, ReadRefusal, Reason};
-use crate::settings::Settings;
+use crate::settings::set;
 use crate::spell::{form_of, setting_of};
 use crate::submit::submit;
 use sj_base::ids::Line;
 use sj_base::sequence::Sequence;
 use sj_codelet::set::Codelets;
+use sj_meaning::job::{Act, Job, Statement};
+use sj_meaning::settings::Settings;
 use std::alloc::Global;
 
 /// The longest text that is read, in bytes.
@@ -139,7 +140,7 @@ fn set_by_line(settings: &mut Settings, line: &[u8]) -> Result<bool, Objection>
     if !are_allowed(line) {
         return Ok(false);
     }
-    settings.set(&form)?;
+    set(settings, &form)?;
     Ok(true)
 }
 

@@ -1,147 +1,83 @@
-//! The settings of a job: how many workers, the sizes of the nodes, and the policy of the pool.
+//! What the lines in front of a job's statements set.
 
-ghost use Rattle.std.specs.Prelude.{◌≡◌, IfErr, IfOk, OnOk};
+ghost use Rattle.std.specs.Prelude.{◌≡◌, IfErr, OnOk};
 ghost use Rattle.sj_job.specs.Reason.{Objects};
-ghost use Rattle.sj_job.specs.Settings.{unset, workers_of, nodes_of, policy_set, is_worker_count, is_node_size, set_by, IsWithinLimits};
+ghost use Rattle.sj_job.specs.Settings.{set_by};
+ghost use Rattle.sj_meaning.specs.Settings.{is_worker_count, is_node_size, IsWithinLimits};
 
 use crate::form::{Piece, SettingForm};
 use crate::reason::{LimitKind, Objection, Reason};
 use crate::word::count_of;
-use sj_base::memory::OutOfMemory;
 use sj_base::mode::Policy;
-use sj_base::sequence::Sequence;
-use std::alloc::Global;
+use sj_meaning::settings::{GREATEST_NODE, LEAST_NODE, NODES, Settings, WORKERS};
 
-/// The most workers.
-pub const WORKERS: u64 = 64;
-
-/// The most nodes.
-pub const NODES: usize = 16;
-
-/// The fewest bytes of a node.
-pub const LEAST_NODE: u64 = 8;
-
-/// The most bytes of a node, which are 2^40.
-pub const GREATEST_NODE: u64 = 1_099_511_627_776;
-
-/// The bytes of the one node of a job without `node` lines, which are 2^28.
-pub const DEFAULT_NODE: u64 = 268_435_456;
-
-/// What the lines in front of a job's statements set; what no line sets is left out.
-#[derive(Debug, Drop)]
-pub struct Settings {
-    /// `workers N`: from 1 to 64.
-    pub workers: Option<u8>,
-    /// `node BYTES`, in the order of the lines: at most 16, of 8 to 2^40 bytes each.
-    pub nodes: Sequence<u64>,
-    /// `policy P`.
-    pub policy: Option<Policy>,
+/// Does what a settings line says, or says why not. Linear in the line.
+pub fn set(settings: &mut Settings, form: &SettingForm<'_>) -> Result<(), Objection>
+    requires { IsWithinLimits settings.old }
+    ensures set { OnOk result (set_by settings.old form.now ≡ Ok settings.new) }
+    ensures within { OnOk result (IsWithinLimits settings.new) }
+    ensures why { IfErr result (λ e. Objects e (set_by settings.old form.now)) }
+{
+    match form {
+        SettingForm::Workers(count) => set_workers(settings, count),
+        SettingForm::Node(bytes) => add_node(settings, bytes),
+        SettingForm::Policy(policy) => set_policy(settings, *policy),
+    }
 }
 
-impl Settings {
-    /// Nothing is set. Takes no memory.
-    pub fn none(alloc: Global) -> Settings
-        ensures unset { result ≡ unset }
-        ensures within { IsWithinLimits result }
-    {
-        Settings {
-            workers: None,
-            nodes: Sequence::empty(alloc),
-            policy: None,
-        }
+/// `workers N`, once.
+fn set_workers(settings: &mut Settings, word: &Piece<'_>) -> Result<(), Objection>
+    requires { IsWithinLimits settings.old }
+    ensures set { OnOk result
+        (set_by settings.old (SettingForm.Workers word.now) ≡ Ok settings.new) }
+    ensures within { OnOk result (IsWithinLimits settings.new) }
+    ensures why { IfErr result (λ e. Objects e (set_by settings.old (SettingForm.Workers word.now))) }
+{
+    if settings.workers.is_some() {
+        return Err(Objection::Bad(Reason::Word));
     }
+    let Some(count) = count_of(word.bytes()) else {
+        return Err(Objection::Bad(Reason::Number));
+    };
+    if !is_worker_count(count) {
+        return Err(Objection::Bad(Reason::Limit(LimitKind::Workers)));
+    }
+    settings.workers = Some(count as u8);
+    Ok(())
+}
 
-    /// The number of workers: 1 where no line sets it. Constant time.
-    pub fn worker_count(&self) -> u8
-        ensures { result ≡ workers_of self.now }
-    {
-        self.workers.unwrap_or(1)
+/// `node BYTES`.
+fn add_node(settings: &mut Settings, word: &Piece<'_>) -> Result<(), Objection>
+    requires { IsWithinLimits settings.old }
+    ensures set { OnOk result (set_by settings.old (SettingForm.Node word.now) ≡ Ok settings.new) }
+    ensures within { OnOk result (IsWithinLimits settings.new) }
+    ensures why { IfErr result (λ e. Objects e (set_by settings.old (SettingForm.Node word.now))) }
+{
+    let Some(bytes) = count_of(word.bytes()) else {
+        return Err(Objection::Bad(Reason::Number));
+    };
+    if settings.nodes.len() >= NODES {
+        return Err(Objection::Bad(Reason::Limit(LimitKind::Nodes)));
     }
+    if !is_node_size(bytes) {
+        return Err(Objection::Bad(Reason::Limit(LimitKind::NodeBytes)));
+    }
+    settings.nodes.push(bytes)?;
+    Ok(())
+}
 
-    /// The sizes of the nodes in bytes: one of 2^28 where no line sets any. Linear in the nodes.
-    pub fn node_sizes(&self, alloc: Global) -> Result<Vec<u64>, OutOfMemory>
-        ensures { IfOk result (λ sizes. sizes.items ≡ nodes_of self.now) }
-    {
-        if self.nodes.is_empty() {
-            return Ok(vec![in alloc; DEFAULT_NODE]?);
-        }
-        Ok(Vec::from_slice(alloc, self.nodes.items())?)
+/// `policy P`, once.
+fn set_policy(settings: &mut Settings, policy: Policy) -> Result<(), Objection>
+    requires { IsWithinLimits settings.old }
+    ensures set { OnOk result (set_by settings.old (SettingForm.Policy policy) ≡ Ok settings.new) }
+    ensures within { OnOk result (IsWithinLimits settings.new) }
+    ensures why { IfErr result (λ e. Objects e (set_by settings.old (SettingForm.Policy policy))) }
+{
+    if settings.policy.is_some() {
+        return Err(Objection::Bad(Reason::Word));
     }
-
-    /// The policy: `eager` where no line sets it. Constant time.
-    pub fn chosen_policy(&self) -> Policy
-        ensures { result ≡ policy_set self.now }
-    {
-        self.policy.unwrap_or(Policy::Eager)
-    }
-
-    /// Does what a settings line says, or says why not. Linear in the line.
-    pub fn set(&mut self, form: &SettingForm<'_>) -> Result<(), Objection>
-        requires { IsWithinLimits self.old }
-        ensures set { OnOk result (set_by self.old form.now ≡ Ok self.new) }
-        ensures within { OnOk result (IsWithinLimits self.new) }
-        ensures why { IfErr result (λ e. Objects e (set_by self.old form.now)) }
-    {
-        match form {
-            SettingForm::Workers(count) => self.set_workers(count),
-            SettingForm::Node(bytes) => self.add_node(bytes),
-            SettingForm::Policy(policy) => self.set_policy(*policy),
-        }
-    }
-
-    /// `workers N`, once.
-    fn set_workers(&mut self, word: &Piece<'_>) -> Result<(), Objection>
-        requires { IsWithinLimits self.old }
-        ensures set { OnOk result (set_by self.old (SettingForm.Workers word.now) ≡ Ok self.new) }
-        ensures within { OnOk result (IsWithinLimits self.new) }
-        ensures why { IfErr result (λ e. Objects e (set_by self.old (SettingForm.Workers word.now))) }
-    {
-        if self.workers.is_some() {
-            return Err(Objection::Bad(Reason::Word));
-        }
-        let Some(count) = count_of(word.bytes()) else {
-            return Err(Objection::Bad(Reason::Number));
-        };
-        if !is_worker_count(count) {
-            return Err(Objection::Bad(Reason::Limit(LimitKind::Workers)));
-        }
-        self.workers = Some(count as u8);
-        Ok(())
-    }
-
-    /// `node BYTES`.
-    fn add_node(&mut self, word: &Piece<'_>) -> Result<(), Objection>
-        requires { IsWithinLimits self.old }
-        ensures set { OnOk result (set_by self.old (SettingForm.Node word.now) ≡ Ok self.new) }
-        ensures within { OnOk result (IsWithinLimits self.new) }
-        ensures why { IfErr result (λ e. Objects e (set_by self.old (SettingForm.Node word.now))) }
-    {
-        let Some(bytes) = count_of(word.bytes()) else {
-            return Err(Objection::Bad(Reason::Number));
-        };
-        if self.nodes.len() >= NODES {
-            return Err(Objection::Bad(Reason::Limit(LimitKind::Nodes)));
-        }
-        if !is_node_size(bytes) {
-            return Err(Objection::Bad(Reason::Limit(LimitKind::NodeBytes)));
-        }
-        self.nodes.push(bytes)?;
-        Ok(())
-    }
-
-    /// `policy P`, once.
-    fn set_policy(&mut self, policy: Policy) -> Result<(), Objection>
-        requires { IsWithinLimits self.old }
-        ensures set { OnOk result (set_by self.old (SettingForm.Policy policy) ≡ Ok self.new) }
-        ensures within { OnOk result (IsWithinLimits self.new) }
-        ensures why { IfErr result (λ e. Objects e (set_by self.old (SettingForm.Policy policy))) }
-    {
-        if self.policy.is_some() {
-            return Err(Objection::Bad(Reason::Word));
-        }
-        self.policy = Some(policy);
-        Ok(())
-    }
+    settings.policy = Some(policy);
+    Ok(())
 }
 
 fn is_worker_count(count: u64) -> bool

@@ -26,15 +26,15 @@ use Rattle.sj_plan.specs.Parts.{Fits, IsPlace, places}
 use Rattle.sj_plan.specs.Paste.{pastes_of}
 use Rattle.sj_plan.specs.Rect.{child}
 use Rattle.sj_plan.specs.Window.{window}
-use Rattle.sj_job.specs.declared.job.Init.{Init}
-use Rattle.sj_job.specs.declared.job.Init.TheVariants.{Values, Fill, Nothing}
+use Rattle.sj_meaning.specs.declared.job.Init.{Init}
+use Rattle.sj_meaning.specs.declared.job.Init.TheVariants.{Values, Fill, Nothing}
 use Rattle.sj_codelet.specs.Kernel.{out}
-use Rattle.sj_job.specs.Statement.{Register, Operand, TaskLine}
-use Rattle.sj_job.specs.Act.{Act}
-use Rattle.sj_job.specs.Act.{Register as Registers, Plan as Plans, Redux as Reduces, Task as Tasks, Print as Prints, Invalidate as Invalidates, Unregister as Unregisters}
-use Rattle.sj_job.specs.State.{Root, State, root_of, is_valued, is_blank, is_valued_child, start}
-use Rattle.sj_job.specs.Meaning.{array_of, child_array, with_child, put, put_all, written_of, operand_array, integers_of, first_elements, registered_root, register, no_values, with_parts, with_elements, with_reduction, reduce, plan, invalidate, unregister, run_task, apply}
-use Rattle.sj_job.specs.Sound.{has_root, has_values, has_none, reduction_of, InitFits, IsSoundTask, IsSoundRegistration, IsSoundPlan, IsSoundAct}
+use Rattle.sj_meaning.specs.Statement.{Register, Operand, TaskLine}
+use Rattle.sj_meaning.specs.Act.{Act}
+use Rattle.sj_meaning.specs.Act.{Register as Registers, Plan as Plans, Redux as Reduces, Task as Tasks, Print as Prints, Invalidate as Invalidates, Unregister as Unregisters}
+use Rattle.sj_meaning.specs.State.{Root, State, root_of, is_valued, is_blank, is_valued_child, start}
+use Rattle.sj_meaning.specs.Meaning.{array_of, child_array, with_child, put, put_all, written_of, operand_array, integers_of, first_elements, registered_root, register, no_values, with_parts, with_elements, with_reduction, reduce, plan, invalidate, unregister, run_task, apply}
+use Rattle.sj_meaning.specs.Sound.{has_root, has_values, has_none, reduction_of, InitFits, IsSoundTask, IsSoundRegistration, IsSoundPlan, IsSoundAct}
 use Rattle.sj_lower.specs.Cells.{Cells, Handle, same_parts, cell_of, take, with_root, next_handle, copy_at}
 use Rattle.sj_lower.specs.Rows.{load_row, fill_row, fill_arguments, paste_row}
 use Rattle.sj_lower.specs.Lowering.{Lowering, nothing, load_rows, parts_in, active_cell, is_idle, plan_rows, task_row, deliver_rows, add_own}
@@ -44,7 +44,8 @@ use Rattle.sj_lower.proofs.Copies.{copies-none, copies-root, copies-take, take-m
 use Rattle.sj_lower.proofs.Elements.{child-within, child-window, valued-child, blank-child, no_values-blank, unwrapped, filled-window}
 use Rattle.sj_lower.proofs.Filling.{AreFilled, HaveOwn, rows-filled, rows-give, blocks-give, after_load, after_fill, after_delivers, gives_own}
 use Rattle.sj_lower.proofs.Folding.{Stand, after_rows, contents-rows, one_gives, given-rows}
-use Rattle.sj_lower.proofs.Holding.{IsHeld, HasRoot, HaveRoots, HaveTheirs, HasCells, differs, not_copy, root-kept, held-kept, cell-dims, get-put, get-gone, root-change}
+use Rattle.sj_meaning.proofs.Finding.{get-put, get-gone, root-change}
+use Rattle.sj_lower.proofs.Holding.{IsHeld, HasRoot, HaveRoots, HaveTheirs, HasCells, differs, not_copy, root-kept, held-kept, cell-dims}
 use Rattle.sj_lower.proofs.Laid.{same_name, bytes_eq-itself, some_is, none_isn't, IsTaken, AreLaid, cell-is, cells-apart, laid-none, laid-root, laid-take, root-keeps, root-there, take-keeps, take-takes}
 use Rattle.sj_lower.proofs.Pasting.{rows_to, rows-by_child, pastes-filled, pastes-give}
 use Rattle.sj_lower.proofs.Places.{parts-are, parts-itself}
@@ -79,7 +80,7 @@ pub reduction-is : (S : State) (q : List ℕ) (r : Root) → root_of S q ≡ Som
 reduction-is S q r e = ap (λ (o : Option Root). elim o as (λ _. Option Reduction) [ None ↦ None | Some r ↦ r.reduction ]) e
 
 -- a task leaves the plans of roots
-put-parts : (o : Operand) (a : Array) (S : State) (q : List ℕ) (r : Root) → root_of S q ≡ Some r → (t : Root) × (root_of (put o a S) q ≡ Some t) × (t.parts ≡ r.parts)
+put-parts : (o : Operand (List ℕ)) (a : Array) (S : State) (q : List ℕ) (r : Root) → root_of S q ≡ Some r → (t : Root) × (root_of (put o a S) q ≡ Some t) × (t.parts ≡ r.parts)
 put-parts o a S q r e = by_root (root_of S o.name) refl
   where
     by_root : (x : Option Root) → root_of S o.name ≡ x → (t : Root) × (root_of (put o a S) q ≡ Some t) × (t.parts ≡ r.parts)
@@ -92,7 +93,7 @@ put-parts o a S q r e = by_root (root_of S o.name) refl
             (with_child o.place a u, root-change (with_child o.place a) o.name S u q is ∙ ap (λ z. cond z (Some (with_child o.place a u)) (root_of S q)) eb, ap (λ (x : Root). x.parts) one)
         by_test false eb = (r, root-change (with_child o.place a) o.name S u q is ∙ ap (λ z. cond z (Some (with_child o.place a u)) (root_of S q)) eb ∙ e, refl)
 
-pub puts-parts : (os : List Operand) (xs : List Array) (S : State) (q : List ℕ) (r : Root) → root_of S q ≡ Some r → (t : Root) × (root_of (put_all os xs S) q ≡ Some t) × (t.parts ≡ r.parts)
+pub puts-parts : (os : List (Operand (List ℕ))) (xs : List Array) (S : State) (q : List ℕ) (r : Root) → root_of S q ≡ Some r → (t : Root) × (root_of (put_all os xs S) q ≡ Some t) × (t.parts ≡ r.parts)
 puts-parts [] xs S q r e = (r, e, refl)
 puts-parts (o ∷ os) [] S q r e = (r, e, refl)
 puts-parts (o ∷ os) (a ∷ xs) S q r e =
@@ -100,7 +101,7 @@ puts-parts (o ∷ os) (a ∷ xs) S q r e =
     let i = puts-parts os xs (put o a S) q h.0 h.1 in
     (i.0, i.1, i.2 ∙ h.2)
 
-run-parts : (t : TaskLine) (S : State) (q : List ℕ) (r : Root) → root_of S q ≡ Some r → (u : Root) × (root_of (run_task t S) q ≡ Some u) × (u.parts ≡ r.parts)
+run-parts : (t : TaskLine (List ℕ)) (S : State) (q : List ℕ) (r : Root) → root_of S q ≡ Some r → (u : Root) × (root_of (run_task t S) q ≡ Some u) × (u.parts ≡ r.parts)
 run-parts t S q r e = puts-parts (written_of t.operands) (out t.codelet t.args (each_of (operand_array S) t.operands)) S q r e
 
 -- two children of a plan have two cells
@@ -119,7 +120,7 @@ beside p C k new name q d e s t f g x laid u v other filled place inside =
 -- ---- registrations
 
 -- what the tasks of a registration leave
-record Starts (p : Program) (C : Cells) (r : Register) (line : Line) (k : Contents) : Type 0 where
+record Starts (p : Program) (C : Cells) (r : Register (List ℕ)) (line : Line) (k : Contents) : Type 0 where
   value : (place : ℕ × ℕ) → IsPlace r.parts place → is_valued_child (registered_root r) place ≡ true → held_in p (after_rows p k (load_rows r.init r.dims r.parts (cell_of C r.name r.parts) line)) (cell_of C r.name r.parts place) ≡ child_array (registered_root r) place
   gives : (place : ℕ × ℕ) → IsPlace r.parts place → is_valued_child (registered_root r) place ≡ true → one_gives (load_rows r.init r.dims r.parts (cell_of C r.name r.parts) line) (cell_of C r.name r.parts place) ≡ true
   others : (c : Cell) → ((place : ℕ × ℕ) → IsPlace r.parts place → same_cell (cell_of C r.name r.parts place) c ≡ false) → held_in p (after_rows p k (load_rows r.init r.dims r.parts (cell_of C r.name r.parts) line)) c ≡ held_in p k c
@@ -129,7 +130,7 @@ first_whole (Values xs) d f = length-map xs (λ x. Some x) ∙ f
 first_whole (Fill a b) d f = length-map-range_with_len _ 0 (area d)
 first_whole Nothing d f = length-replicate (area d) None
 
-starts : (p : Program) (C : Cells) (r : Register) (line : Line) (k : Contents) (i : Init) (f : ℕ) → r.init ≡ i → Fits r.parts r.dims → InitFits r.init r.dims → HasCells p C → AreLaid C → IsTaken C r.name r.dims r.parts f → Starts p C r line k
+starts : (p : Program) (C : Cells) (r : Register (List ℕ)) (line : Line) (k : Contents) (i : Init) (f : ℕ) → r.init ≡ i → Fits r.parts r.dims → InitFits r.init r.dims → HasCells p C → AreLaid C → IsTaken C r.name r.dims r.parts f → Starts p C r line k
 starts p C r line k (Values xs) f e fits init cells laid t =
     let s = r.parts in
     let cell = cell_of C r.name s in
@@ -171,7 +172,7 @@ starts p C r line k Nothing f e fits init cells laid t =
       others = λ c away. ap (λ ls. held_in p (after_rows p k ls) c) none;
     }
 
-agrees_registered : (p : Program) (L : Lowering) (S : State) (line : Line) (r : Register) → Begins p (add_own S (record { line = line; act = Registers r }) L) → IsSoundRegistration S r → Agrees p L S → Agrees p (add_own S (record { line = line; act = Registers r }) L) (register r S)
+agrees_registered : (p : Program) (L : Lowering) (S : State) (line : Line) (r : Register (List ℕ)) → Begins p (add_own S (record { line = line; act = Registers r }) L) → IsSoundRegistration S r → Agrees p L S → Agrees p (add_own S (record { line = line; act = Registers r }) L) (register r S)
 agrees_registered p L S line r b s g = record { laid = laid; theirs = theirs; opened = opened; roots = λ q t e. by_name q t (bytes_eq r.name q) refl (sym (get-put S.roots r.name (registered_root r) q) ∙ e) }
   where
     C : Cells
@@ -531,7 +532,7 @@ opened_kept p L S T g same c f e =
       cell = o.cell ∙ ap (λ (x : Parts). cell_of L.cells o.name x o.place) (sym u.2);
     }
 
-agrees_task : (has : Kernel → Bool) (p : Program) (L : Lowering) (S : State) (line : Line) (t : TaskLine) → Begins p (add_own S (record { line = line; act = Tasks t }) L) → IsSoundTask has S t → list_all (λ o. is_direct o.mode) t.operands ≡ true → AllByRecursion (IsClosed L.phase S L.cells) t.operands
+agrees_task : (has : Kernel → Bool) (p : Program) (L : Lowering) (S : State) (line : Line) (t : TaskLine (List ℕ)) → Begins p (add_own S (record { line = line; act = Tasks t }) L) → IsSoundTask has S t → list_all (λ o. is_direct o.mode) t.operands ≡ true → AllByRecursion (IsClosed L.phase S L.cells) t.operands
     → Agrees p L S → Agrees p (add_own S (record { line = line; act = Tasks t }) L) (run_task t S)
 agrees_task has p L S line t b s direct closed g =
     let n = length L.tasks in
@@ -666,7 +667,7 @@ agrees_start p = record {
 }
 
 -- the phases that an act closes are closed
-abbrev pub IsPrepared : Lowering → State → Act → Type 0
+abbrev pub IsPrepared : Lowering → State → Act (List ℕ) → Type 0
 IsPrepared L S (Registers r) = Unit {0}
 IsPrepared L S (Plans name s) = IsShutBy L S name s
 IsPrepared L S (Reduces name by) = Unit {0}
@@ -676,7 +677,7 @@ IsPrepared L S (Invalidates name) = IsShut L S name
 IsPrepared L S (Unregisters name) = IsShut L S name
 
 -- after one statement more that contributes to nothing
-pub agrees_act : (has : Kernel → Bool) (p : Program) (L : Lowering) (S : State) (line : Line) (a : Act) → Begins p (add_own S (record { line = line; act = a }) L) → IsSoundAct has S a → IsPrepared L S a → Agrees p L S → Agrees p (add_own S (record { line = line; act = a }) L) (apply a S)
+pub agrees_act : (has : Kernel → Bool) (p : Program) (L : Lowering) (S : State) (line : Line) (a : Act (List ℕ)) → Begins p (add_own S (record { line = line; act = a }) L) → IsSoundAct has S a → IsPrepared L S a → Agrees p L S → Agrees p (add_own S (record { line = line; act = a }) L) (apply a S)
 agrees_act has p L S line (Registers r) b s ready g = agrees_registered p L S line r b s g
 agrees_act has p L S line (Plans name parts) b s ready g = agrees_planned p L S line name parts b s ready g
 agrees_act has p L S line (Reduces name by) b s ready g = agrees_reduced p L S line name by s.0 s.1 g

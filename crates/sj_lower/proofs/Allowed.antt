@@ -5,13 +5,13 @@ use Rattle.sj_codelet.specs.declared.kernel.Kernel.{Kernel}
 use Rattle.sj_codelet.specs.declared.kernel.Kernel.TheVariants.{Deliver}
 use Rattle.sj_codelet.specs.Kernel.{kernels, kernel_of, codelet_of, has_name}
 use Rattle.sj_codelet.proofs.Table.{kernel_of-codelet_of}
-use Rattle.sj_job.specs.Act.{Act, Statement, Register, Plan, Redux, Print, Invalidate, Unregister}
-use Rattle.sj_job.specs.Meaning.{apply}
+use Rattle.sj_meaning.specs.Act.{Act, Statement, Register, Plan, Redux, Print, Invalidate, Unregister}
+use Rattle.sj_meaning.specs.Meaning.{apply}
 use Rattle.sj_job.specs.declared.form.TaskForm.{TaskForm}
 use Rattle.sj_job.specs.declared.form.Form.{Form}
 use Rattle.sj_job.specs.declared.form.Form.TheVariants as form
 use Rattle.sj_job.specs.Sentence.{init_said, parts_said, registered_by}
-use Rattle.sj_job.specs.State.{State}
+use Rattle.sj_meaning.specs.State.{State}
 use Rattle.sj_job.specs.Judge.{Scope, scope_of, first_of, judged, register_reasons, plan_reasons, print_reasons, name_reasons, redux_reasons}
 use Rattle.sj_job.specs.Well.{IsAllowed, IsWell}
 use Rattle.sj_lower.proofs.Able.{DoesNotDeliver, CanBe, AllCanBe}
@@ -27,12 +27,12 @@ named_isn't name k h e =
     let same : k ≡ Deliver = cc (kernel_of-codelet_of k) in
     false≢true (sym (ap (has_name name) same) ∙ h)
 
-task_isn't : (has : Kernel → Bool) (s : Scope) (t : TaskForm) (act : Act) → IsJudged has s t act → DoesNotDeliver act
+task_isn't : (has : Kernel → Bool) (s : Scope) (t : TaskForm) (act : Act (List ℕ)) → IsJudged has s t act → DoesNotDeliver act
 task_isn't has s t act j =
     let passes = found_passes (λ k. has k && has_name t.codelet k) kernels j.kernel j.named in
     subst DoesNotDeliver j.is (named_isn't t.codelet j.kernel (second (has j.kernel) (has_name t.codelet j.kernel) passes))
 
-nameable : (has : Kernel → Bool) (s : Scope) (f : Form) (act : Act) → judged has s f ≡ Ok act → DoesNotDeliver act
+nameable : (has : Kernel → Bool) (s : Scope) (f : Form) (act : Act (List ℕ)) → judged has s f ≡ Ok act → DoesNotDeliver act
 nameable has s (form.Register a) act e = subst DoesNotDeliver (unless_parts (first_of (register_reasons s a.name (registered_by a).dims (parts_said a.parts) (init_said a.init))) (Register (registered_by a)) act e).1 tt
 nameable has s (form.Plan name r c) act e = subst DoesNotDeliver (unless_parts (first_of (plan_reasons s name (parts_said (Some (r, c))))) (Plan name (parts_said (Some (r, c)))) act e).1 tt
 nameable has s (form.Redux name by) act e = subst DoesNotDeliver (unless_parts (first_of (redux_reasons s name)) (Redux name by) act e).1 tt
@@ -41,10 +41,10 @@ nameable has s (form.Print name) act e = subst DoesNotDeliver (unless_parts (fir
 nameable has s (form.Invalidate name) act e = subst DoesNotDeliver (unless_parts (first_of (name_reasons s name)) (Invalidate name) act e).1 tt
 nameable has s (form.Unregister name) act e = subst DoesNotDeliver (unless_parts (first_of (name_reasons s name)) (Unregister name) act e).1 tt
 
-pub can_be : (has : Kernel → Bool) (k : ℕ) (S : State) (a : Act) → IsAllowed has (scope_of k S) a → CanBe has S a
+pub can_be : (has : Kernel → Bool) (k : ℕ) (S : State) (a : Act (List ℕ)) → IsAllowed has (scope_of k S) a → CanBe has S a
 can_be has k S a h = record { sound = sound_from_allowed has k S a h; nameable = nameable has (scope_of k S) h.form a h.judged }
 
 -- and so have all that are allowed one after another
-pub all_can_be : (has : Kernel → Bool) (k : ℕ) (S : State) (ss : List Statement) → IsWell has k S ss → AllCanBe has S ss
+pub all_can_be : (has : Kernel → Bool) (k : ℕ) (S : State) (ss : List (Statement (List ℕ))) → IsWell has k S ss → AllCanBe has S ss
 all_can_be has k S [] w = tt
 all_can_be has k S (s ∷ ss) w = (can_be has k S s.act w.0, all_can_be has (k + 1) (apply s.act S) ss w.1)

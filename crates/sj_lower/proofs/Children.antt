@@ -16,7 +16,7 @@ use Rattle.sj_codelet.specs.declared.kernel.Kernel.TheVariants.{Load}
 use Rattle.sj_plan.specs.Interval.{part_len}
 use Rattle.sj_plan.specs.Window.{window}
 use Rattle.sj_plan.proofs.Tiling.{part_first-all}
-use Rattle.sj_job.specs.Table.{undivided}
+use Rattle.sj_meaning.specs.Table.{undivided}
 use Rattle.sj_lower.specs.Rows.{an_access, load_row, own_task}
 use Rattle.sj_plan.specs.declared.parts.Parts.{Parts}
 use Rattle.sj_plan.specs.declared.rect.Rect.{Rect}

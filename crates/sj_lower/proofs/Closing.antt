@@ -7,8 +7,8 @@ use Rattle.sj_base.specs.declared.program.Program.{Program}
 use Rattle.sj_base.specs.Array.{Array}
 use Rattle.sj_core.specs.Program.{same_cell}
 use Rattle.sj_core.specs.Fold.{Contents, held_in}
-use Rattle.sj_job.specs.State.{State}
-use Rattle.sj_job.specs.Meaning.{child_array}
+use Rattle.sj_meaning.specs.State.{State}
+use Rattle.sj_meaning.specs.Meaning.{child_array}
 use Rattle.sj_lower.specs.declared.phase.OpenPhase.{OpenPhase}
 use Rattle.sj_lower.specs.Cells.{cell_of, copy_at}
 use Rattle.sj_lower.specs.Rows.{combine_rows}

@@ -8,18 +8,18 @@ use Rattle.sj_base.specs.declared.ids.Line.{Line}
 use Rattle.sj_codelet.specs.declared.kernel.Kernel.{Kernel}
 use Rattle.sj_plan.specs.declared.parts.Parts.{Parts}
 use Rattle.sj_plan.specs.Parts.{IsPlace, places}
-use Rattle.sj_job.specs.declared.job.Act.{Act as KeptAct}
-use Rattle.sj_job.specs.declared.job.Act.TheVariants as kept
-use Rattle.sj_job.specs.declared.job.Operand.{Operand as KeptOperand}
-use Rattle.sj_job.specs.declared.job.Statement.{Statement as Kept}
-use Rattle.sj_job.specs.Act.{Act, Statement}
-use Rattle.sj_job.specs.Act.{Register as Registers, Plan as Plans, Redux as Reduces, Task as Tasks, Print as Prints, Invalidate as Invalidates, Unregister as Unregisters}
-use Rattle.sj_job.specs.Meaning.{apply}
-use Rattle.sj_job.specs.State.{Root, State, root_of}
-use Rattle.sj_job.specs.Sound.{IsSoundAct}
-use Rattle.sj_job.specs.Table.{Table, AreDistinct, a_root, name_of}
+use Rattle.sj_meaning.specs.declared.job.Act.{Act as KeptAct}
+use Rattle.sj_meaning.specs.declared.job.Act.TheVariants as kept
+use Rattle.sj_meaning.specs.declared.job.Operand.{Operand as KeptOperand}
+use Rattle.sj_meaning.specs.declared.job.Statement.{Statement as Kept}
+use Rattle.sj_meaning.specs.Act.{Act, Statement}
+use Rattle.sj_meaning.specs.Act.{Register as Registers, Plan as Plans, Redux as Reduces, Task as Tasks, Print as Prints, Invalidate as Invalidates, Unregister as Unregisters}
+use Rattle.sj_meaning.specs.Meaning.{apply}
+use Rattle.sj_meaning.specs.State.{Root, State, root_of}
+use Rattle.sj_meaning.specs.Sound.{IsSoundAct}
+use Rattle.sj_meaning.specs.Table.{Table, AreDistinct, a_root, name_of}
 use Rattle.sj_job.specs.Track.{children_count}
-use Rattle.sj_job.specs.View.{act_seen, operand_seen, statement_seen, count_after, IsPlaced}
+use Rattle.sj_meaning.specs.View.{act_seen, operand_seen, statement_seen, count_after, IsPlaced}
 use Rattle.sj_lower.specs.declared.layout.Layout.{Layout}
 use Rattle.sj_lower.specs.declared.lower.LowerRefusal.{LowerRefusal}
 use Rattle.sj_lower.specs.declared.lower.LowerRefusal.TheVariants.{TooManyCells, TooManyTasks, OutOfMemory}
@@ -118,7 +118,7 @@ few-with T g s k e h count few S L C next = omega (arith, count S L C s.line nex
 -- ---- what a statement's own tasks leave
 
 -- cells with partial copies had them before
-after-partials : (a : Act) (C : Cells) (n : ℕ) (f : Cell) → (row_at (cells_after a C).rows n).partials ≡ Some f → (row_at C.rows n).partials ≡ Some f
+after-partials : (a : Act (List ℕ)) (C : Cells) (n : ℕ) (f : Cell) → (row_at (cells_after a C).rows n).partials ≡ Some f → (row_at C.rows n).partials ≡ Some f
 after-partials (Registers r) C n f e = take_partials (with_root r.name r.dims C) r.name r.parts n f e
   where
     take_partials : (C : Cells) (name : List ℕ) (p : Parts) (n : ℕ) (f : Cell) → (row_at (take name p C).rows n).partials ≡ Some f → (row_at C.rows n).partials ≡ Some f
@@ -130,7 +130,7 @@ after-partials (Prints name) C n f e = e
 after-partials (Invalidates name) C n f e = e
 after-partials (Unregisters name) C n f e = e
 
-copied-own : (workers : ℕ) (S : State) (s : Statement) (L : Lowering) → AreCopied workers L → AreCopied workers (add_own S s L)
+copied-own : (workers : ℕ) (S : State) (s : Statement (List ℕ)) (L : Lowering) → AreCopied workers L → AreCopied workers (add_own S s L)
 copied-own workers S s L h =
     let grows = cells-grow s.act L.cells in
     record {

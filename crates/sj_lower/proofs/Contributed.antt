@@ -22,14 +22,14 @@ use Rattle.sj_codelet.specs.Kernel.{kernel_of}
 use Rattle.sj_core.specs.Program.{cell_info}
 use Rattle.sj_core.specs.Proper.{IsPlain, HasValueBefore, access}
 use Rattle.sj_plan.proofs.Lists.{each-map}
-use Rattle.sj_job.specs.Statement.{Operand, TaskLine}
-use Rattle.sj_job.specs.Act.{Statement}
-use Rattle.sj_job.specs.Act.{Task as Tasks}
-use Rattle.sj_job.specs.State.{State, Root, root_of, is_valued_child}
-use Rattle.sj_job.specs.Meaning.{Printed, contributed_to, run_task}
-use Rattle.sj_job.specs.Judge.{needs_value}
-use Rattle.sj_job.specs.Sound.{IsSoundTask, has_child, has_child_values}
-use Rattle.sj_job.specs.Table.{Table}
+use Rattle.sj_meaning.specs.Statement.{Operand, TaskLine}
+use Rattle.sj_meaning.specs.Act.{Statement}
+use Rattle.sj_meaning.specs.Act.{Task as Tasks}
+use Rattle.sj_meaning.specs.State.{State, Root, root_of, is_valued_child}
+use Rattle.sj_meaning.specs.Meaning.{Printed, contributed_to, run_task}
+use Rattle.sj_meaning.specs.Sound.{needs_value}
+use Rattle.sj_meaning.specs.Sound.{IsSoundTask, has_child, has_child_values}
+use Rattle.sj_meaning.specs.Table.{Table}
 use Rattle.sj_lower.specs.declared.phase.OpenPhase.{OpenPhase}
 use Rattle.sj_lower.specs.Cells.{Handle, cell_of, cells_from, copy_at, first_copy, with_copies}
 use Rattle.sj_lower.specs.Rows.{an_access, init_row, init_rows}
@@ -55,7 +55,7 @@ use Rattle.sj_lower.proofs.Running.{is_direct, IsClosed, active_cell-is, kernel_
 use Rattle.sj_lower.proofs.Stating.{Begins, begins-own, stands-more, Agrees}
 use Rattle.sj_lower.proofs.Whole.{operand-away}
 
-reads-direct : (vs : List Operand) → AllByRecursion IsRead vs → list_all (λ o. is_direct o.mode) vs ≡ true
+reads-direct : (vs : List (Operand (List ℕ))) → AllByRecursion IsRead vs → list_all (λ o. is_direct o.mode) vs ≡ true
 reads-direct [] h = refl
 reads-direct (v ∷ vs) h = ap (λ b. b && list_all (λ o. is_direct o.mode) vs) (ap not h.0.0) ∙ reads-direct vs h.1
 
@@ -63,9 +63,9 @@ none-init : (by : Reduction) (line : Line) (c : Cell) → kernel_of (init_row by
 none-init Plus line c e = absurd (cc)
 none-init Least line c e = absurd (cc)
 
-module _ (has : Kernel → Bool) (T : Table) (p : Program) (L : Lowering) (S : State) (line : Line) (t : TaskLine) (out : List Printed) (can : CanBe has S (Tasks t)) (con : Contributes S t (kernel_there has S t can.sound).call.kernel)
+module _ (has : Kernel → Bool) (T : Table) (p : Program) (L : Lowering) (S : State) (line : Line) (t : TaskLine (List ℕ)) (out : List Printed) (can : CanBe has S (Tasks t)) (con : Contributes S t (kernel_there has S t can.sound).call.kernel)
     (root : Root) (is_root : root_of S con.last.name ≡ Some root) (own : IsChildOf L.cells S con.last.name con.last.place (cell_of L.cells con.last.name root.parts con.last.place) root) (shut : AllByRecursion (IsClosed L.phase S L.cells) con.before) (fine : IsFine T p L S out) (b : Begins p L) where
-  abbrev u : Operand
+  abbrev u : Operand (List ℕ)
   u = con.last
 
   abbrev s : IsSoundTask has S t
@@ -116,7 +116,7 @@ module _ (has : Kernel → Bool) (T : Table) (p : Program) (L : Lowering) (S : S
     ];
   }
     where
-      all-away : (vs : List Operand) → list_all (has_child S) vs ≡ true → AllByRecursion IsRead vs → AllByRecursion (IsClosed L.phase S L.cells) vs → All (IsAway p L.phase) (each_of (access_of S L.cells) vs)
+      all-away : (vs : List (Operand (List ℕ))) → list_all (has_child S) vs ≡ true → AllByRecursion IsRead vs → AllByRecursion (IsClosed L.phase S L.cells) vs → All (IsAway p L.phase) (each_of (access_of S L.cells) vs)
       all-away [] pl re cl = All-nil (IsAway p L.phase)
       all-away (v ∷ vs) pl re cl =
           let x = and_parts (has_child S v) (list_all (has_child S) vs) pl in
@@ -136,7 +136,7 @@ module _ (has : Kernel → Bool) (T : Table) (p : Program) (L : Lowering) (S : S
       (All-cons (HasItsCopies p n) (access_of S L.cells u) [] (subst (HasItsCopies p n) (sym last-is) (λ e. (ap (λ (o : Option Cell). is_some o) partials, λ w below. subst (λ (q : Cell). HasValueBefore p (task_at n) q) (sym (copy-is p c f.copies w partials)) (copies w.0 below)))) (All-nil (HasItsCopies p n)))))
       can.nameable
 
-  abbrev statement : Statement
+  abbrev statement : Statement (List ℕ)
   statement = record { line = line; act = Tasks t }
 
   -- with the phase open, however it came to be

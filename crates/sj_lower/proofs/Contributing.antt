@@ -30,12 +30,12 @@ use Rattle.sj_plan.specs.Parts.{IsPlace}
 use Rattle.sj_plan.specs.Paste.{same_place}
 use Rattle.sj_plan.specs.Rect.{dims_of as rect_dims}
 use Rattle.sj_plan.specs.Window.{IsWhole}
-use Rattle.sj_job.specs.Statement.{Operand, TaskLine}
-use Rattle.sj_job.specs.Act.{Task as Tasks}
-use Rattle.sj_job.specs.State.{Root, State, root_of, child_rect, is_child, is_valued_child}
-use Rattle.sj_job.specs.Meaning.{child_array, contributed_to, seen_by, operand_array, written_of, with_child, put, put_all, run_task, integers_of}
-use Rattle.sj_job.specs.Judge.{needs_value, clashes, is_aliased, is_read_only}
-use Rattle.sj_job.specs.Sound.{IsSoundTask, has_child, has_child_values, child_dims}
+use Rattle.sj_meaning.specs.Statement.{Operand, TaskLine}
+use Rattle.sj_meaning.specs.Act.{Task as Tasks}
+use Rattle.sj_meaning.specs.State.{Root, State, root_of, child_rect, is_child, is_valued_child}
+use Rattle.sj_meaning.specs.Meaning.{child_array, contributed_to, seen_by, operand_array, written_of, with_child, put, put_all, run_task, integers_of}
+use Rattle.sj_meaning.specs.Sound.{needs_value, clashes, is_aliased, is_read_only}
+use Rattle.sj_meaning.specs.Sound.{IsSoundTask, has_child, has_child_values, child_dims}
 use Rattle.sj_lower.specs.declared.phase.OpenPhase.{OpenPhase}
 use Rattle.sj_lower.specs.Cells.{Handle, cell_of, cells_from, copy_at}
 use Rattle.sj_lower.specs.Lowering.{Lowering, access_of, task_row, add_own}
@@ -45,7 +45,8 @@ use Rattle.sj_lower.proofs.Combined.{IsTrusted, with_all, all_workers, range-bel
 use Rattle.sj_lower.proofs.Contents.{first_worker, task_at, contents_before, contents-next, same_cell-itself}
 use Rattle.sj_lower.proofs.Elements.{written-whole, written-array, written-other, written-valued}
 use Rattle.sj_lower.proofs.Folding.{Stand, later}
-use Rattle.sj_lower.proofs.Holding.{IsHeld, HasRoot, HaveRoots, cell-dims, differs, not_copy, held-kept, root-change}
+use Rattle.sj_meaning.proofs.Finding.{root-change}
+use Rattle.sj_lower.proofs.Holding.{IsHeld, HasRoot, HaveRoots, cell-dims, differs, not_copy, held-kept}
 use Rattle.sj_lower.proofs.Laid.{IsTaken, some_is, same_name, bytes_eq-itself, cells-apart}
 use Rattle.sj_lower.proofs.Opening.{IsOpened, IsChildOf}
 use Rattle.sj_lower.proofs.Operands.{IsRead, Contributes, all-before, snoc-parts}
@@ -56,8 +57,8 @@ use Rattle.sj_lower.proofs.Writing.{all_dims, AreWhole}
 
 -- ---- what the task line leaves
 
-module _ (has : Kernel → Bool) (S : State) (t : TaskLine) (s : IsSoundTask has S t) (con : Contributes S t (kernel_there has S t s).call.kernel) where
-  abbrev pub o : Operand
+module _ (has : Kernel → Bool) (S : State) (t : TaskLine (List ℕ)) (s : IsSoundTask has S t) (con : Contributes S t (kernel_there has S t s).call.kernel) where
+  abbrev pub o : Operand (List ℕ)
   o = con.last
 
   abbrev pub kernel : Kernel
@@ -88,7 +89,7 @@ module _ (has : Kernel → Bool) (S : State) (t : TaskLine) (s : IsSoundTask has
       first (x ∷ xs) h = h.0
 
   pub runs : run_task t S ≡ put o news S
-  runs = ap (λ (os : List Operand). put_all os outs S) con.written ∙ first outs one_dims
+  runs = ap (λ (os : List (Operand (List ℕ))). put_all os outs S) con.written ∙ first outs one_dims
     where
       first : (xs : List Array) → all_dims xs ≡ child_dims S o ∷ [] → put_all (o ∷ []) xs S ≡ put o (operand xs 0) S
       first [] e = absurd (let n : 0 ≡ 1 = ap length e in omega arith)
@@ -98,21 +99,21 @@ module _ (has : Kernel → Bool) (S : State) (t : TaskLine) (s : IsSoundTask has
   pub news-is : news ≡ result_of kernel t.args (each_of (operand_array S) con.before) (operand_array S o)
   news-is =
       ap (λ (x : Option Kernel). operand (elim x as (λ _. List Array) [ None ↦ [] | Some k ↦ new_arrays k t.args (each_of (operand_array S) t.operands) ]) 0) (kernel_there has S t s).call.is
-      ∙ ap (λ (os : List Operand). operand (new_arrays kernel t.args (each_of (operand_array S) os)) 0) con.is
+      ∙ ap (λ (os : List (Operand (List ℕ))). operand (new_arrays kernel t.args (each_of (operand_array S) os)) 0) con.is
       ∙ ap (λ (xs : List Array). operand (new_arrays kernel t.args xs) 0) (map-append (operand_array S) con.before (o ∷ []))
 
 -- ---- what the lowered task finds
 
 -- the child of an operand that isn't contributed to
-read_direct : (u : Operand) → IsRead u → is_direct u.mode ≡ true
+read_direct : (u : Operand (List ℕ)) → IsRead u → is_direct u.mode ≡ true
 read_direct u h = ap not h.0
 
 -- ---- the task as a whole
 
-module _ (has : Kernel → Bool) (p : Program) (L M : Lowering) (S : State) (g : Agrees p L S) (t : TaskLine) (line : Line) (s : IsSoundTask has S t) (con : Contributes S t (kernel_there has S t s).call.kernel)
+module _ (has : Kernel → Bool) (p : Program) (L M : Lowering) (S : State) (g : Agrees p L S) (t : TaskLine (List ℕ)) (line : Line) (s : IsSoundTask has S t) (con : Contributes S t (kernel_there has S t s).call.kernel)
     (c : Cell) (root : Root) (own : IsChildOf L.cells S con.last.name con.last.place c root) (op : IsOpened p L M c con.by (contributed_to root con.last.place)) (shut : AllByRecursion (IsClosed L.phase S L.cells) con.before)
     (begins : Begins p (add_own S (record { line = line; act = Tasks t }) M)) where
-  abbrev u : Operand
+  abbrev u : Operand (List ℕ)
   u = con.last
 
   abbrev l : Lowered
@@ -197,7 +198,7 @@ module _ (has : Kernel → Bool) (p : Program) (L M : Lowering) (S : State) (g :
       op.kept (cell_of M.cells q r.parts place) (child_apart q r place e inside other) (λ w below. turned (cell_of M.cells q r.parts place) (copy_at op.f.copies w) (child_beside q r place e inside c op.f op.is w below))
 
   -- an operand that is only read
-  one_read : IsTrusted p → (v : Operand) → IsRead v → IsClosed L.phase S L.cells v → has_child S v ≡ true → (not (needs_value v.mode) || has_child_values S v) ≡ true → clashes v u ≡ false → found p first_worker (held_in p mid) (access_of S M.cells v) ≡ operand_array S v
+  one_read : IsTrusted p → (v : Operand (List ℕ)) → IsRead v → IsClosed L.phase S L.cells v → has_child S v ≡ true → (not (needs_value v.mode) || has_child_values S v) ≡ true → clashes v u ≡ false → found p first_worker (held_in p mid) (access_of S M.cells v) ≡ operand_array S v
   one_read trust v reads closed placed valued apart =
       let h = child_there S v placed in
       let r = g.roots v.name h.root h.is_root in
@@ -222,7 +223,7 @@ module _ (has : Kernel → Bool) (p : Program) (L M : Lowering) (S : State) (g :
       clash m j true false e ex ey = absurd (false≢true ey)
       clash m j false y e ex ey = absurd (false≢true ex)
 
-  all_read : IsTrusted p → (vs : List Operand) → AllByRecursion IsRead vs → AllByRecursion (IsClosed L.phase S L.cells) vs → list_all (has_child S) vs ≡ true → list_all (λ v. not (needs_value v.mode) || has_child_values S v) vs ≡ true → AllByRecursion (λ v. clashes v u ≡ false) vs → each_of (found p first_worker (held_in p mid)) (each_of (access_of S M.cells) vs) ≡ each_of (operand_array S) vs
+  all_read : IsTrusted p → (vs : List (Operand (List ℕ))) → AllByRecursion IsRead vs → AllByRecursion (IsClosed L.phase S L.cells) vs → list_all (has_child S) vs ≡ true → list_all (λ v. not (needs_value v.mode) || has_child_values S v) vs ≡ true → AllByRecursion (λ v. clashes v u ≡ false) vs → each_of (found p first_worker (held_in p mid)) (each_of (access_of S M.cells) vs) ≡ each_of (operand_array S) vs
   all_read trust [] reads closed placed valued apart = refl
   all_read trust (v ∷ vs) reads closed placed valued apart =
       let x = and_parts (has_child S v) (list_all (has_child S) vs) placed in
@@ -232,13 +233,13 @@ module _ (has : Kernel → Bool) (p : Program) (L M : Lowering) (S : State) (g :
 
   -- ---- what it leaves
 
-  no_alias : (vs : List Operand) → is_aliased (vs ++ u ∷ []) ≡ false → AllByRecursion (λ v. clashes v u ≡ false) vs
+  no_alias : (vs : List (Operand (List ℕ))) → is_aliased (vs ++ u ∷ []) ≡ false → AllByRecursion (λ v. clashes v u ≡ false) vs
   no_alias [] e = tt
   no_alias (v ∷ vs) e =
       let x = or_none (list_any (clashes v) (vs ++ u ∷ [])) (is_aliased (vs ++ u ∷ [])) e in
       (last_of (clashes v) vs x.0, no_alias vs x.1)
     where
-      last_of : (f : Operand → Bool) (vs : List Operand) → list_any f (vs ++ u ∷ []) ≡ false → f u ≡ false
+      last_of : (f : Operand (List ℕ) → Bool) (vs : List (Operand (List ℕ))) → list_any f (vs ++ u ∷ []) ≡ false → f u ≡ false
       last_of f [] h = (or_none (f u) false h).0
       last_of f (w ∷ vs) h = last_of f vs (or_none (f w) (list_any f (vs ++ u ∷ [])) h).1
 

@@ -7,9 +7,9 @@ use Rattle.sj_plan.specs.declared.parts.Parts.{Parts}
 use Rattle.sj_plan.specs.Parts.{Fits, places}
 use Rattle.sj_plan.specs.Paste.{pastes_of}
 use Rattle.std.proofs.lemmas.List.{length-map}
-use Rattle.sj_job.specs.declared.job.Act.TheVariants as kept
-use Rattle.sj_job.specs.State.{Root, State, root_of, is_valued}
-use Rattle.sj_job.specs.Table.{Table, name_of, info_of, undivided}
+use Rattle.sj_meaning.specs.declared.job.Act.TheVariants as kept
+use Rattle.sj_meaning.specs.State.{Root, State, root_of, is_valued}
+use Rattle.sj_meaning.specs.Table.{Table, name_of, info_of, undivided}
 use Rattle.sj_job.specs.Track.{all_valued}
 use Rattle.sj_job.proofs.Children.{all_valued-same}
 use Rattle.sj_lower.specs.declared.lowerer.Lowerer.{Lowerer}

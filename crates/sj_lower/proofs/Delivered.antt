@@ -31,9 +31,9 @@ use Rattle.sj_plan.specs.Window.{window, gathered, IsWhole}
 use Rattle.sj_plan.proofs.Gathering.{tiling-reassembles}
 use Rattle.sj_plan.proofs.Lists.{each-map, each-places, each-of, each-all, filter_all, filter_gone, count_by-map, count_places, ordered-append, pairs-from_ordered, ordered-from_pairs}
 use Rattle.sj_plan.proofs.Tiling.{children_of-tiling}
-use Rattle.sj_job.specs.State.{Root, State, root_of, is_valued}
-use Rattle.sj_job.specs.Meaning.{Printed, array_of}
-use Rattle.sj_job.specs.Table.{Table, info_of}
+use Rattle.sj_meaning.specs.State.{Root, State, root_of, is_valued}
+use Rattle.sj_meaning.specs.Meaning.{Printed, array_of}
+use Rattle.sj_meaning.specs.Table.{Table, info_of}
 use Rattle.sj_job.specs.Track.{number}
 use Rattle.sj_lower.specs.Cells.{Cells, cell_of}
 use Rattle.sj_lower.specs.Rows.{deliver_row}

@@ -24,9 +24,9 @@ use Rattle.sj_plan.specs.Rect.{child, place_of, dims_of, Within, holds}
 use Rattle.sj_plan.specs.Window.{window, IsWhole}
 use Rattle.sj_plan.proofs.Splitting.{part_end, part_len-positive, lies_alone}
 use Rattle.sj_plan.proofs.Windows.{tabulate, IsWhole-tabulate, element-tabulate, same_arrays, holds-true, holds-false}
-use Rattle.sj_job.specs.declared.job.Init.TheVariants.{Fill}
-use Rattle.sj_job.specs.State.{Root, is_valued, is_blank, is_child, child_rect, child_elements, is_valued_child}
-use Rattle.sj_job.specs.Meaning.{integers_of, array_of, child_array, with_child, first_elements}
+use Rattle.sj_meaning.specs.declared.job.Init.TheVariants.{Fill}
+use Rattle.sj_meaning.specs.State.{Root, is_valued, is_blank, is_child, child_rect, child_elements, is_valued_child}
+use Rattle.sj_meaning.specs.Meaning.{integers_of, array_of, child_array, with_child, first_elements}
 use Rattle.sj_lower.proofs.Places.{same_pair}
 
 -- ---- tables

@@ -16,9 +16,9 @@ use Rattle.sj_codelet.specs.Kernel.{kernel_of}
 use Rattle.sj_core.specs.Program.{task_of, dims_of, same_cell}
 use Rattle.sj_core.specs.Proper.{IsPlain}
 use Rattle.sj_plan.proofs.Lists.{each-map}
-use Rattle.sj_job.specs.State.{State, is_valued_child}
-use Rattle.sj_job.specs.Meaning.{Printed, child_array}
-use Rattle.sj_job.specs.Table.{Table}
+use Rattle.sj_meaning.specs.State.{State, is_valued_child}
+use Rattle.sj_meaning.specs.Meaning.{Printed, child_array}
+use Rattle.sj_meaning.specs.Table.{Table}
 use Rattle.sj_lower.specs.declared.phase.OpenPhase.{OpenPhase}
 use Rattle.sj_lower.specs.Cells.{copy_at}
 use Rattle.sj_lower.specs.Rows.{combine_row, combine_rows}

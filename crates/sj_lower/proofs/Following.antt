@@ -20,20 +20,20 @@ use Rattle.sj_codelet.specs.Kernel.{codelet_of}
 use Rattle.sj_plan.specs.declared.parts.Parts.{Parts}
 use Rattle.sj_plan.specs.Parts.{Fits, places}
 use Rattle.sj_plan.specs.Paste.{pastes_of}
-use Rattle.sj_job.specs.declared.job.Act.{Act as Kept}
-use Rattle.sj_job.specs.declared.job.Act.TheVariants as kept
-use Rattle.sj_job.specs.declared.job.Init.{Init}
-use Rattle.sj_job.specs.declared.job.Operand.{Operand as KeptOperand}
-use Rattle.sj_job.specs.declared.job.TaskLine.{TaskLine as KeptTask}
-use Rattle.sj_job.specs.Statement.{Register}
-use Rattle.sj_job.specs.State.{Root, State, root_of, is_valued, is_blank}
-use Rattle.sj_job.specs.Meaning.{apply, registered_root, with_parts, with_elements, with_reduction, no_values, plan, reduce, invalidate}
+use Rattle.sj_meaning.specs.declared.job.Act.{Act as Kept}
+use Rattle.sj_meaning.specs.declared.job.Act.TheVariants as kept
+use Rattle.sj_meaning.specs.declared.job.Init.{Init}
+use Rattle.sj_meaning.specs.declared.job.Operand.{Operand as KeptOperand}
+use Rattle.sj_meaning.specs.declared.job.TaskLine.{TaskLine as KeptTask}
+use Rattle.sj_meaning.specs.Statement.{Register}
+use Rattle.sj_meaning.specs.State.{Root, State, root_of, is_valued, is_blank}
+use Rattle.sj_meaning.specs.Meaning.{apply, registered_root, with_parts, with_elements, with_reduction, no_values, plan, reduce, invalidate}
 use Rattle.sj_job.specs.Names.{gives_values}
-use Rattle.sj_job.specs.Sound.{has_child, has_values, has_none, dims_of as root_dims}
-use Rattle.sj_job.specs.Table.{Table, AreDistinct, a_root, name_of, info_of}
+use Rattle.sj_meaning.specs.Sound.{has_child, has_values, has_none, dims_of as root_dims}
+use Rattle.sj_meaning.specs.Table.{Table, AreDistinct, a_root, name_of, info_of}
 use Rattle.sj_job.specs.Track.{IsPlan, all_valued, none_valued, children_count, even}
 use Rattle.sj_lower.proofs.Places.{length-places}
-use Rattle.sj_job.specs.View.{operand_seen, registration, act_seen}
+use Rattle.sj_meaning.specs.View.{operand_seen, registration, act_seen}
 use Rattle.sj_job.proofs.Children.{tracks-registered, tracks-planned, tracks-reduced, tracks-invalidated, all_valued-same, none_valued-same}
 use Rattle.sj_lower.specs.declared.lowerer.Active.{Active}
 use Rattle.sj_lower.specs.declared.lowerer.Lowerer.{Lowerer}
@@ -43,7 +43,7 @@ use Rattle.sj_lower.specs.Rows.{an_access, paste_row, deliver_row}
 use Rattle.sj_lower.specs.Lowering.{Lowering, cells_after, load_rows, access_of, plan_rows, deliver_rows, a_delivery, print_deliveries}
 use Rattle.sj_lower.specs.Seen.{no_active, active_at, pasted_by, IsActive, AreActive, IsNext, CanPass, Does, HasRoom, access_by, first_after, children_after}
 use Rattle.sj_lower.proofs.Agreeing.{plan_rows-are}
-use Rattle.sj_lower.proofs.Holding.{get-put, get-gone, root-change}
+use Rattle.sj_meaning.proofs.Finding.{get-put, get-gone, root-change}
 use Rattle.sj_lower.proofs.Laid.{same_name, bytes_eq-itself, some_is, none_isn't, IsTaken, take-keeps, take-takes, take-roots, root-keeps, root-there}
 use Rattle.sj_lower.proofs.Running.{child_there, root_there, valued_there, active_cell-is}
 use Rattle.sj_lower.proofs.Whole.{deliver_rows-are, print_deliveries-are}
@@ -125,7 +125,7 @@ passes-register T old as' init first room ea S L pass place = record {
     count : length old.actives.items ≡ n
     count = pass.actives.counted
 
-    r : Register
+    r : Register (List ℕ)
     r = registration (name_of T (a_root n)) (info_of T (a_root n)) init
 
     C : Cells
@@ -188,7 +188,7 @@ does-register T old new init first line room et ed ep eh ea S L next place = rec
     count : length old.actives.items ≡ L.cells.roots
     count = next.follows.actives.counted
 
-    r : Register
+    r : Register (List ℕ)
     r = registration (name_of T (a_root L.cells.roots)) (info_of T (a_root L.cells.roots)) init
 
 -- ---- plans

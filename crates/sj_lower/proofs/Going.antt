@@ -4,14 +4,14 @@ use Rattle.std.specs.List.{last_or}
 use Rattle.std.proofs.lemmas.Bool.Decides.{nat_tests}
 use Rattle.sj_base.specs.declared.ids.Line.{Line}
 use Rattle.sj_codelet.specs.declared.kernel.Kernel.{Kernel}
-use Rattle.sj_job.specs.declared.job.Statement.{Statement as Kept}
-use Rattle.sj_job.specs.Act.{Statement}
-use Rattle.sj_job.specs.State.{State, start}
-use Rattle.sj_job.specs.Meaning.{apply}
-use Rattle.sj_job.specs.Table.{Table, IsTable}
-use Rattle.sj_job.specs.View.{ArePlaced, count_after, count_from, act_seen, statement_seen, seen_from}
+use Rattle.sj_meaning.specs.declared.job.Statement.{Statement as Kept}
+use Rattle.sj_meaning.specs.Act.{Statement}
+use Rattle.sj_meaning.specs.State.{State, start}
+use Rattle.sj_meaning.specs.Meaning.{apply}
+use Rattle.sj_meaning.specs.Table.{Table, IsTable}
+use Rattle.sj_meaning.specs.View.{ArePlaced, count_after, count_from, act_seen, statement_seen, seen_from}
 use Rattle.sj_job.specs.Well.{IsWell}
-use Rattle.sj_job.proofs.Views.{counts-grow, count-grows}
+use Rattle.sj_meaning.proofs.Views.{counts-grow, count-grows}
 use Rattle.sj_lower.specs.declared.lower.LowerRefusal.{LowerRefusal}
 use Rattle.sj_lower.specs.declared.lower.LowerRefusal.TheVariants.{TooManyCells, TooManyTasks, OutOfMemory}
 use Rattle.sj_lower.specs.declared.lower.Progress.{Progress}
@@ -26,7 +26,7 @@ abbrev pub or_else : Option Line → Option Line → Option Line
 or_else None o = o
 or_else (Some line) o = Some line
 
-abbrev pub lines_of : List Statement → List Line
+abbrev pub lines_of : List (Statement (List ℕ)) → List Line
 lines_of ss = map (λ s. s.line) ss
 
 -- what is lowered so far for so many workers, and how the rest goes on from it
@@ -153,7 +153,7 @@ going-full T workers g whole rest s (TooManyCells line) table w full =
     ap (λ o. late_cells o (late_tasks (line_or (first_above workers tasks_in start nothing (seen_from T 0 whole)) (above_at_end workers (seen_from T 0 whole))))) first
 
 -- nothing is left
-pub record IsDone (T : Table) (workers : ℕ) (g : Progress) (ss : List Statement) : Type 0 where
+pub record IsDone (T : Table) (workers : ℕ) (g : Progress) (ss : List (Statement (List ℕ))) : Type 0 where
   pub state : State
   pub lowering : Lowering
   pub at : IsAt T g state lowering
@@ -178,13 +178,13 @@ going-end T workers g whole w = record {
     left None = refl
     left (Some line) = refl
 
-pub done-has : (T : Table) (workers : ℕ) (g : Progress) (ss : List Statement) → IsDone T workers g ss → HasAt g
+pub done-has : (T : Table) (workers : ℕ) (g : Progress) (ss : List (Statement (List ℕ))) → IsDone T workers g ss → HasAt g
 done-has T workers g ss d = record { table = T; state = d.state; lowering = d.lowering; at = d.at }
 
 -- ---- the phases that are open at the end
 
 -- they are closed
-pub record IsShut (T : Table) (workers : ℕ) (g : Progress) (ss : List Statement) : Type 0 where
+pub record IsShut (T : Table) (workers : ℕ) (g : Progress) (ss : List (Statement (List ℕ))) : Type 0 where
   pub state : State
   pub lowering : Lowering
   pub at : IsAt T g state lowering
@@ -197,12 +197,12 @@ some_last : (line : Line) (lines : List Line) → last_or (Some line) lines ≡ 
 some_last line [] e = absurd (cc)
 some_last line (next ∷ lines) e = some_last next lines e
 
-no_statement : (ss : List Statement) → last_or None (lines_of ss) ≡ None → ss ≡ []
+no_statement : (ss : List (Statement (List ℕ))) → last_or None (lines_of ss) ≡ None → ss ≡ []
 no_statement [] e = refl
 no_statement (s ∷ ss) e = absurd (some_last s.line (lines_of ss) e)
 
 -- there was no statement
-pub shut-none : (T : Table) (workers : ℕ) (g new : Progress) (ss : List Statement) → IsDone T workers g ss → g.last ≡ None → new ≡ g → IsShut T workers new ss
+pub shut-none : (T : Table) (workers : ℕ) (g new : Progress) (ss : List (Statement (List ℕ))) → IsDone T workers g ss → g.last ≡ None → new ≡ g → IsShut T workers new ss
 shut-none T workers g new ss d none same = subst (λ (h : Progress). IsShut T workers h ss) (sym same) (record {
   state = d.state;
   lowering = d.lowering;
@@ -227,7 +227,7 @@ shut-none T workers g new ss d none same = subst (λ (h : Progress). IsShut T wo
     left (Some line) = refl
 
 -- their tasks count for the last statement
-pub shut-last : (T : Table) (workers : ℕ) (g new : Progress) (ss : List Statement) (line : Line) → IsDone T workers g ss → g.last ≡ Some line → Prepares g new line (finished g.workers) → IsShut T workers new ss
+pub shut-last : (T : Table) (workers : ℕ) (g new : Progress) (ss : List (Statement (List ℕ))) (line : Line) → IsDone T workers g ss → g.last ≡ Some line → Prepares g new line (finished g.workers) → IsShut T workers new ss
 shut-last T workers g new ss line d is closes = record {
   state = d.state;
   lowering = finished workers d.lowering;
@@ -247,14 +247,14 @@ shut-last T workers g new ss line d is closes = record {
     kept None L = refl
     kept (Some first) L = refl
 
-pub shut : (T : Table) (workers : ℕ) (g new : Progress) (ss : List Statement) → IsDone T workers g ss → (g.last ≡ None → new ≡ g) → ((line : Line) → g.last ≡ Some line → Prepares g new line (finished g.workers)) → IsShut T workers new ss
+pub shut : (T : Table) (workers : ℕ) (g new : Progress) (ss : List (Statement (List ℕ))) → IsDone T workers g ss → (g.last ≡ None → new ≡ g) → ((line : Line) → g.last ≡ Some line → Prepares g new line (finished g.workers)) → IsShut T workers new ss
 shut T workers g new ss d none closes = by_last g.last refl
   where
     by_last : (o : Option Line) → g.last ≡ o → IsShut T workers new ss
     by_last None e = shut-none T workers g new ss d e (none e)
     by_last (Some line) e = shut-last T workers g new ss line d e (closes line e)
 
-pub shut-over : (T : Table) (workers : ℕ) (g : Progress) (ss : List Statement) (e : LowerRefusal) → IsShut T workers g ss → IsOver e g.over → IsLate e (late_limit workers ss)
+pub shut-over : (T : Table) (workers : ℕ) (g : Progress) (ss : List (Statement (List ℕ))) (e : LowerRefusal) → IsShut T workers g ss → IsOver e g.over → IsLate e (late_limit workers ss)
 shut-over T workers g ss OutOfMemory d h = tt
 shut-over T workers g ss (TooManyCells line) d h = absurd h
 shut-over T workers g ss (TooManyTasks line) d h = d.late ∙ ap late_tasks h

@@ -43,11 +43,11 @@ use Rattle.sj_plan.specs.Paste.{same_place, copy_of as paste_copy, is_first, pas
 use Rattle.sj_plan.specs.Pieces.{BeginOnce}
 use Rattle.sj_plan.specs.Rect.{child, dims_of as rect_dims}
 use Rattle.sj_plan.specs.Window.{window}
-use Rattle.sj_job.specs.Statement.{Operand, TaskLine}
-use Rattle.sj_job.specs.State.{Root, State, root_of}
-use Rattle.sj_job.specs.Judge.{is_unordered, mode_fits, modes_fit, needs_value, clashes, is_aliased, is_read_only}
-use Rattle.sj_job.specs.Meaning.{is_written as writes, written_of}
-use Rattle.sj_job.specs.Sound.{is_lawful, has_child, has_child_values, child_dims, IsSoundTask}
+use Rattle.sj_meaning.specs.Statement.{Operand, TaskLine}
+use Rattle.sj_meaning.specs.State.{Root, State, root_of}
+use Rattle.sj_meaning.specs.Sound.{is_unordered, mode_fits, modes_fit, needs_value, clashes, is_aliased, is_read_only}
+use Rattle.sj_meaning.specs.Meaning.{is_written as writes, written_of}
+use Rattle.sj_meaning.specs.Sound.{is_lawful, has_child, has_child_values, child_dims, IsSoundTask}
 use Rattle.sj_lower.specs.Cells.{Cells}
 use Rattle.sj_lower.specs.Rows.{an_access, own_task, load_row, fill_row, paste_arguments, paste_row, deliver_row, init_row, combine_row}
 use Rattle.sj_lower.specs.Lowering.{access_of, task_row}
@@ -256,7 +256,7 @@ pub plans-of : (p : Program) (C : Cells) (phases : Phases) (n : ℕ) (k : Conten
 plans-of p C phases n k S has q r e = let b = has q r e in (b.first, b.taken)
 
 -- the operands' cells are there
-all_inside : (p : Program) (C : Cells) (S : State) (os : List Operand) → HasCells p C → AreLaid C → HavePlans C S → list_all (has_child S) os ≡ true → All (λ (a : Access). a.cell.0 < length p.cells) (each_of (access_of S C) os)
+all_inside : (p : Program) (C : Cells) (S : State) (os : List (Operand (List ℕ))) → HasCells p C → AreLaid C → HavePlans C S → list_all (has_child S) os ≡ true → All (λ (a : Access). a.cell.0 < length p.cells) (each_of (access_of S C) os)
 all_inside p C S [] cells laid has placed = All-nil (λ (a : Access). a.cell.0 < length p.cells)
 all_inside p C S (o ∷ os) cells laid has placed =
     let b = and_parts (has_child S o) (list_all (has_child S) os) placed in
@@ -265,7 +265,7 @@ all_inside p C S (o ∷ os) cells laid has placed =
     let cell = ap (λ (c : Cell). c.0) (active_cell-is S C o.name o.place t.root t.is_root) in
     All-cons (λ (a : Access). a.cell.0 < length p.cells) (access_of S C o) (each_of (access_of S C) os) (omega (arith, cell, cell-inside C o.name t.root.dims t.root.parts r.0 o.place laid r.1 t.placed, cells.longer)) (all_inside p C S os cells laid has b.1)
 
-pub all_given : (p : Program) (C : Cells) (phases : Phases) (S : State) (n : ℕ) (k : Contents) (os : List Operand) → HaveRoots p C phases n k S → list_all (λ o. is_direct o.mode) os ≡ true → list_all (has_child S) os ≡ true → list_all (λ o. not (needs_value o.mode) || has_child_values S o) os ≡ true → All (λ (a : Access). reads_value a.mode ≡ true → HasValueBefore p (task_at n) a.cell) (each_of (access_of S C) os)
+pub all_given : (p : Program) (C : Cells) (phases : Phases) (S : State) (n : ℕ) (k : Contents) (os : List (Operand (List ℕ))) → HaveRoots p C phases n k S → list_all (λ o. is_direct o.mode) os ≡ true → list_all (has_child S) os ≡ true → list_all (λ o. not (needs_value o.mode) || has_child_values S o) os ≡ true → All (λ (a : Access). reads_value a.mode ≡ true → HasValueBefore p (task_at n) a.cell) (each_of (access_of S C) os)
 all_given p C phases S n k [] has h placed valued = All-nil (λ (a : Access). reads_value a.mode ≡ true → HasValueBefore p (task_at n) a.cell)
 all_given p C phases S n k (o ∷ os) has h placed valued =
     let a = and_parts (is_direct o.mode) (list_all (λ o. is_direct o.mode) os) h in
@@ -279,7 +279,7 @@ all_given p C phases S n k (o ∷ os) has h placed valued =
     (all_given p C phases S n k os has a.1 b.1 c.1)
 
 -- operands of which none is a contribution
-pub no_copies : (p : Program) (S : State) (C : Cells) (n : ℕ) (os : List Operand) → list_all (λ o. is_direct o.mode) os ≡ true → All (HasItsCopies p n) (each_of (access_of S C) os)
+pub no_copies : (p : Program) (S : State) (C : Cells) (n : ℕ) (os : List (Operand (List ℕ))) → list_all (λ o. is_direct o.mode) os ≡ true → All (HasItsCopies p n) (each_of (access_of S C) os)
 no_copies p S C n [] h = All-nil (HasItsCopies p n)
 no_copies p S C n (o ∷ os) h =
     let a = and_parts (is_direct o.mode) (list_all (λ o. is_direct o.mode) os) h in
@@ -304,7 +304,7 @@ no_clash true true false d e h k = absurd (false≢true (sym e))
 no_clash true false c d e h k = absurd (false≢true k)
 no_clash false b c d e h k = absurd (false≢true h)
 
-pair_reads : (C : Cells) (S : State) (o q : Operand) → AreLaid C → HavePlans C S → has_child S o ≡ true → has_child S q ≡ true → clashes o q ≡ false → ReadOnly (access_of S C o) (access_of S C q)
+pair_reads : (C : Cells) (S : State) (o q : Operand (List ℕ)) → AreLaid C → HavePlans C S → has_child S o ≡ true → has_child S q ≡ true → clashes o q ≡ false → ReadOnly (access_of S C o) (access_of S C q)
 pair_reads C S o q laid has ho hq e same =
     let t = child_there S o ho in
     let u = child_there S q hq in
@@ -315,21 +315,21 @@ pair_reads C S o q laid has ho hq e same =
     let reads = no_clash (bytes_eq o.name q.name) (same_place o.place q.place) (is_read_only o.mode) (is_read_only q.mode) e (ap (bytes_eq o.name) (sym one.0) ∙ bytes_eq-itself o.name) (ap (same_place o.place) (sym one.2) ∙ place-itself o.place) in
     (is_read o.mode reads.0, is_read q.mode reads.1)
 
-none_clash : (C : Cells) (S : State) (o : Operand) (os : List Operand) → AreLaid C → HavePlans C S → has_child S o ≡ true → list_all (has_child S) os ≡ true → list_any (clashes o) os ≡ false → All (ReadOnly (access_of S C o)) (each_of (access_of S C) os)
+none_clash : (C : Cells) (S : State) (o : Operand (List ℕ)) (os : List (Operand (List ℕ))) → AreLaid C → HavePlans C S → has_child S o ≡ true → list_all (has_child S) os ≡ true → list_any (clashes o) os ≡ false → All (ReadOnly (access_of S C o)) (each_of (access_of S C) os)
 none_clash C S o [] laid has ho placed e = All-nil (ReadOnly (access_of S C o))
 none_clash C S o (q ∷ os) laid has ho placed e =
     let b = and_parts (has_child S q) (list_all (has_child S) os) placed in
     let c = or_none (clashes o q) (list_any (clashes o) os) e in
     All-cons (ReadOnly (access_of S C o)) (access_of S C q) (each_of (access_of S C) os) (pair_reads C S o q laid has ho b.0 c.0) (none_clash C S o os laid has ho b.1 c.1)
 
-all_apart : (C : Cells) (S : State) (os : List Operand) → AreLaid C → HavePlans C S → list_all (has_child S) os ≡ true → is_aliased os ≡ false → AllPairs ReadOnly (each_of (access_of S C) os)
+all_apart : (C : Cells) (S : State) (os : List (Operand (List ℕ))) → AreLaid C → HavePlans C S → list_all (has_child S) os ≡ true → is_aliased os ≡ false → AllPairs ReadOnly (each_of (access_of S C) os)
 all_apart C S [] laid has placed e = λ i j d h k. absurd (omega arith)
 all_apart C S (o ∷ os) laid has placed e =
     let b = and_parts (has_child S o) (list_all (has_child S) os) placed in
     let c = or_none (list_any (clashes o) os) (is_aliased os) e in
     AllPairs-cons ReadOnly (access_of S C o) (each_of (access_of S C) os) (none_clash C S o os laid has b.0 b.1 c.0) (all_apart C S os laid has b.1 c.1)
 
-all_dims_are : (p : Program) (C : Cells) (S : State) (os : List Operand) → HasCells p C → AreLaid C → HavePlans C S → list_all (has_child S) os ≡ true → each_of (λ (a : Access). dims_of p a.cell) (each_of (access_of S C) os) ≡ each_of (child_dims S) os
+all_dims_are : (p : Program) (C : Cells) (S : State) (os : List (Operand (List ℕ))) → HasCells p C → AreLaid C → HavePlans C S → list_all (has_child S) os ≡ true → each_of (λ (a : Access). dims_of p a.cell) (each_of (access_of S C) os) ≡ each_of (child_dims S) os
 all_dims_are p C S [] cells laid has placed = refl
 all_dims_are p C S (o ∷ os) cells laid has placed =
     let b = and_parts (has_child S o) (list_all (has_child S) os) placed in
@@ -338,14 +338,14 @@ all_dims_are p C S (o ∷ os) cells laid has placed =
     ap (λ (d : Dims). d ∷ each_of (λ (a : Access). dims_of p a.cell) (each_of (access_of S C) os)) (ap (dims_of p) (active_cell-is S C o.name o.place t.root t.is_root) ∙ cell-dims p C o.name t.root.dims t.root.parts r.0 o.place cells laid r.1 t.placed ∙ sym (child_dims-are S o t.root t.is_root))
     ∙ ap (λ (ds : List Dims). child_dims S o ∷ ds) (all_dims_are p C S os cells laid has b.1)
 
-modes_of_accesses : (S : State) (C : Cells) (os : List Operand) → each_of (λ (a : Access). a.mode) (each_of (access_of S C) os) ≡ each_of (λ (o : Operand). o.mode) os
+modes_of_accesses : (S : State) (C : Cells) (os : List (Operand (List ℕ))) → each_of (λ (a : Access). a.mode) (each_of (access_of S C) os) ≡ each_of (λ (o : Operand (List ℕ)). o.mode) os
 modes_of_accesses S C [] = refl
 modes_of_accesses S C (o ∷ os) = ap (λ (ms : List Mode). o.mode ∷ ms) (modes_of_accesses S C os)
 
 -- ---- modes of task lines
 
 -- what is written has this mode
-abbrev pub WritesAs : Mode → Operand → Type 0
+abbrev pub WritesAs : Mode → Operand (List ℕ) → Type 0
 WritesAs x o = is_written o.mode ≡ true → o.mode ≡ x
 
 -- a mode is the codelet's own, with another for what is written
@@ -375,13 +375,13 @@ mode-with x FormalScratch Scratch e h = refl
 mode-with x FormalScratch Redux e h = absurd (cc)
 mode-with x FormalScratch Commute e h = absurd (cc)
 
-modes-with : (x : Mode) (fs : List Formal) (os : List Operand) → modes_fit fs os ≡ true → length os ≡ length fs → AllByRecursion (WritesAs x) os → each_of (λ (o : Operand). o.mode) os ≡ each_of (λ m. cond (is_written m) x m) (each_of mode_of fs)
+modes-with : (x : Mode) (fs : List Formal) (os : List (Operand (List ℕ))) → modes_fit fs os ≡ true → length os ≡ length fs → AllByRecursion (WritesAs x) os → each_of (λ (o : Operand (List ℕ)). o.mode) os ≡ each_of (λ m. cond (is_written m) x m) (each_of mode_of fs)
 modes-with x [] [] e l h = refl
 modes-with x [] (o ∷ os) e l h = absurd (omega arith)
 modes-with x (f ∷ fs) [] e l h = absurd (omega arith)
 modes-with x (f ∷ fs) (o ∷ os) e l h =
     let m = and_parts (mode_fits f o.mode) (modes_fit fs os) e in
-    ap (λ (y : Mode). y ∷ each_of (λ (o : Operand). o.mode) os) (mode-with x f o.mode m.0 h.0) ∙ ap (λ (ys : List Mode). cond (is_written (mode_of f)) x (mode_of f) ∷ ys) (modes-with x fs os m.1 (omega (arith, l)) h.1)
+    ap (λ (y : Mode). y ∷ each_of (λ (o : Operand (List ℕ)). o.mode) os) (mode-with x f o.mode m.0 h.0) ∙ ap (λ (ys : List Mode). cond (is_written (mode_of f)) x (mode_of f) ∷ ys) (modes-with x fs os m.1 (omega (arith, l)) h.1)
 
 -- a mode of an operand that neither contributes nor commutes is the codelet's own
 mode-own : (f : Formal) (m : Mode) → mode_fits f m ≡ true → is_redux m ≡ false → is_commute m ≡ false → m ≡ mode_of f
@@ -410,7 +410,7 @@ mode-own FormalScratch Scratch e h c = refl
 mode-own FormalScratch Redux e h c = absurd (cc)
 mode-own FormalScratch Commute e h c = absurd (cc)
 
-modes-own : (fs : List Formal) (os : List Operand) → modes_fit fs os ≡ true → length os ≡ length fs → list_all (λ o. is_direct o.mode) os ≡ true → list_any (λ o. is_commute o.mode) os ≡ false → each_of (λ (o : Operand). o.mode) os ≡ each_of mode_of fs
+modes-own : (fs : List Formal) (os : List (Operand (List ℕ))) → modes_fit fs os ≡ true → length os ≡ length fs → list_all (λ o. is_direct o.mode) os ≡ true → list_any (λ o. is_commute o.mode) os ≡ false → each_of (λ (o : Operand (List ℕ)). o.mode) os ≡ each_of mode_of fs
 modes-own [] [] e l d c = refl
 modes-own [] (o ∷ os) e l d c = absurd (omega arith)
 modes-own (f ∷ fs) [] e l d c = absurd (omega arith)
@@ -418,14 +418,14 @@ modes-own (f ∷ fs) (o ∷ os) e l d c =
     let m = and_parts (mode_fits f o.mode) (modes_fit fs os) e in
     let n = and_parts (is_direct o.mode) (list_all (λ o. is_direct o.mode) os) d in
     let k = or_none (is_commute o.mode) (list_any (λ o. is_commute o.mode) os) c in
-    ap (λ (x : Mode). x ∷ each_of (λ (o : Operand). o.mode) os) (mode-own f o.mode m.0 (unnot (is_redux o.mode) n.0) k.0) ∙ ap (λ (xs : List Mode). mode_of f ∷ xs) (modes-own fs os m.1 (omega (arith, l)) n.1 k.1)
+    ap (λ (x : Mode). x ∷ each_of (λ (o : Operand (List ℕ)). o.mode) os) (mode-own f o.mode m.0 (unnot (is_redux o.mode) n.0) k.0) ∙ ap (λ (xs : List Mode). mode_of f ∷ xs) (modes-own fs os m.1 (omega (arith, l)) n.1 k.1)
   where
     unnot : (b : Bool) → not b ≡ true → b ≡ false
     unnot true e = absurd (false≢true e)
     unnot false e = refl
 
 -- as many formals are outputs as operands are written
-outputs-count : (fs : List Formal) (os : List Operand) → modes_fit fs os ≡ true → length os ≡ length fs → count_by is_written (each_of mode_of fs) ≡ length (written_of os)
+outputs-count : (fs : List Formal) (os : List (Operand (List ℕ))) → modes_fit fs os ≡ true → length os ≡ length fs → count_by is_written (each_of mode_of fs) ≡ length (written_of os)
 outputs-count [] [] e l = refl
 outputs-count [] (o ∷ os) e l = absurd (omega arith)
 outputs-count (f ∷ fs) [] e l = absurd (omega arith)
@@ -465,7 +465,7 @@ is-commute Scratch e = absurd (false≢true e)
 is-commute Redux e = absurd (false≢true e)
 is-commute Commute e = refl
 
-none-writes : (x : Mode) (os : List Operand) → length (written_of os) ≡ 0 → AllByRecursion (WritesAs x) os × (list_any (λ o. is_commute o.mode) os ≡ false)
+none-writes : (x : Mode) (os : List (Operand (List ℕ))) → length (written_of os) ≡ 0 → AllByRecursion (WritesAs x) os × (list_any (λ o. is_commute o.mode) os ≡ false)
 none-writes x [] e = (tt, refl)
 none-writes x (o ∷ os) e = by_test (writes o.mode) refl e (none-writes x os)
   where
@@ -480,7 +480,7 @@ none-writes x (o ∷ os) e = by_test (writes o.mode) refl e (none-writes x os)
         by_commute false h rest = rest
 
 -- the one operand that is written commutes
-commuting-writes : (os : List Operand) → length (written_of os) ≡ 1 → list_any (λ o. is_commute o.mode) os ≡ true → AllByRecursion (WritesAs Commute) os
+commuting-writes : (os : List (Operand (List ℕ))) → length (written_of os) ≡ 1 → list_any (λ o. is_commute o.mode) os ≡ true → AllByRecursion (WritesAs Commute) os
 commuting-writes [] e any = absurd (false≢true any)
 commuting-writes (o ∷ os) e any = by_test (writes o.mode) refl e any (commuting-writes os)
   where
@@ -500,7 +500,7 @@ commuting-writes (o ∷ os) e any = by_test (writes o.mode) refl e any (commutin
         second false h e = e
 
 -- the codelet of a commuting operand commutes
-commuting-codelet : (has : Kernel → Bool) (S : State) (t : TaskLine) (k : Kernel) → kernel_of t.codelet ≡ Some k → (os : List Operand) → list_all (is_lawful has S t.codelet) os ≡ true → list_any (λ o. is_commute o.mode) os ≡ true → commutes_of k ≡ true
+commuting-codelet : (has : Kernel → Bool) (S : State) (t : TaskLine (List ℕ)) (k : Kernel) → kernel_of t.codelet ≡ Some k → (os : List (Operand (List ℕ))) → list_all (is_lawful has S t.codelet) os ≡ true → list_any (λ o. is_commute o.mode) os ≡ true → commutes_of k ≡ true
 commuting-codelet has S t k e [] law any = absurd (false≢true any)
 commuting-codelet has S t k e (o ∷ os) law any =
     let a = and_parts (is_lawful has S t.codelet o) (list_all (is_lawful has S t.codelet) os) law in
@@ -513,7 +513,7 @@ commuting-codelet has S t k e (o ∷ os) law any =
     by_test true any h rest = by_codelet h
     by_test false any h rest = rest any
 
-any-unordered : (os : List Operand) → list_any (λ o. is_commute o.mode) os ≡ true → list_any (λ o. is_unordered o.mode) os ≡ true
+any-unordered : (os : List (Operand (List ℕ))) → list_any (λ o. is_commute o.mode) os ≡ true → list_any (λ o. is_unordered o.mode) os ≡ true
 any-unordered [] e = e
 any-unordered (o ∷ os) e = by_test (is_redux o.mode) (is_commute o.mode) e (any-unordered os)
   where
@@ -523,10 +523,10 @@ any-unordered (o ∷ os) e = by_test (is_redux o.mode) (is_commute o.mode) e (an
     by_test false false e rest = rest e
 
 -- the modes of a task without contributions
-pub direct-modes : (has : Kernel → Bool) (S : State) (t : TaskLine) (s : IsSoundTask has S t) → list_all (λ o. is_direct o.mode) t.operands ≡ true → MayHaveModes (kernel_there has S t s).call.kernel (each_of (λ (o : Operand). o.mode) t.operands)
+pub direct-modes : (has : Kernel → Bool) (S : State) (t : TaskLine (List ℕ)) (s : IsSoundTask has S t) → list_all (λ o. is_direct o.mode) t.operands ≡ true → MayHaveModes (kernel_there has S t s).call.kernel (each_of (λ (o : Operand (List ℕ)). o.mode) t.operands)
 direct-modes has S t s direct = by_test (list_any (λ o. is_commute o.mode) t.operands) refl
   where
-    by_test : (b : Bool) → list_any (λ o. is_commute o.mode) t.operands ≡ b → MayHaveModes (kernel_there has S t s).call.kernel (each_of (λ (o : Operand). o.mode) t.operands)
+    by_test : (b : Bool) → list_any (λ o. is_commute o.mode) t.operands ≡ b → MayHaveModes (kernel_there has S t s).call.kernel (each_of (λ (o : Operand (List ℕ)). o.mode) t.operands)
     by_test false none = let k = kernel_there has S t s in MayHaveModes.Own (modes-own (formals_of k.call.kernel) t.operands k.modes k.count direct none)
     by_test true any =
         let k = kernel_there has S t s in
@@ -535,19 +535,19 @@ direct-modes has S t s direct = by_test (list_any (λ o. is_commute o.mode) t.op
         (modes-with Commute (formals_of k.call.kernel) t.operands k.modes k.count (commuting-writes t.operands one any))
 
 -- the modes of one with a contribution
-pub contribution-modes : (has : Kernel → Bool) (S : State) (t : TaskLine) (s : IsSoundTask has S t) → Contributes S t (kernel_there has S t s).call.kernel → MayHaveModes (kernel_there has S t s).call.kernel (each_of (λ (o : Operand). o.mode) t.operands)
+pub contribution-modes : (has : Kernel → Bool) (S : State) (t : TaskLine (List ℕ)) (s : IsSoundTask has S t) → Contributes S t (kernel_there has S t s).call.kernel → MayHaveModes (kernel_there has S t s).call.kernel (each_of (λ (o : Operand (List ℕ)). o.mode) t.operands)
 contribution-modes has S t s con =
     let k = kernel_there has S t s in
     MayHaveModes.Contributing con.by con.contributes (outputs-count (formals_of k.call.kernel) t.operands k.modes k.count ∙ ap length con.written)
-    (modes-with Redux (formals_of k.call.kernel) t.operands k.modes k.count (subst (λ (os : List Operand). AllByRecursion (WritesAs Redux) os) (sym con.is) (in-order con.before con.last con.reads con.redux)))
+    (modes-with Redux (formals_of k.call.kernel) t.operands k.modes k.count (subst (λ (os : List (Operand (List ℕ))). AllByRecursion (WritesAs Redux) os) (sym con.is) (in-order con.before con.last con.reads con.redux)))
   where
-    in-order : (vs : List Operand) (u : Operand) → AllByRecursion IsRead vs → u.mode ≡ Redux → AllByRecursion (WritesAs Redux) (vs ++ u ∷ [])
+    in-order : (vs : List (Operand (List ℕ))) (u : Operand (List ℕ)) → AllByRecursion IsRead vs → u.mode ≡ Redux → AllByRecursion (WritesAs Redux) (vs ++ u ∷ [])
     in-order [] u h e = (λ w. e, tt)
     in-order (v ∷ vs) u h e = (λ w. absurd (false≢true (sym h.0.1 ∙ w)), in-order vs u h.1 e)
 
 -- ---- tasks of task lines
 
-pub good_task : (has : Kernel → Bool) (p : Program) (C : Cells) (S : State) (n : ℕ) (t : TaskLine) (line : Line) → HasCells p C → AreLaid C → HavePlans C S → (s : IsSoundTask has S t) → MayHaveModes (kernel_there has S t s).call.kernel (each_of (λ (o : Operand). o.mode) t.operands)
+pub good_task : (has : Kernel → Bool) (p : Program) (C : Cells) (S : State) (n : ℕ) (t : TaskLine (List ℕ)) (line : Line) → HasCells p C → AreLaid C → HavePlans C S → (s : IsSoundTask has S t) → MayHaveModes (kernel_there has S t s).call.kernel (each_of (λ (o : Operand (List ℕ)). o.mode) t.operands)
     → All (λ (a : Access). reads_value a.mode ≡ true → HasValueBefore p (task_at n) a.cell) (each_of (access_of S C) t.operands) → All (HasItsCopies p n) (each_of (access_of S C) t.operands) → (kernel_of t.codelet ≡ Some Deliver → ⊥) → IsGood p n (task_row S C line t)
 good_task has p C S n t line cells laid plans s modes given copies nameable =
     let kernel = kernel_there has S t s in

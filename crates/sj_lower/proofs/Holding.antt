@@ -1,12 +1,8 @@
 -- A program's cells hold what the children of the job's roots hold.
-use Rattle.std.specs.FinMap as map
 use Rattle.std.proofs.Common.{◌≡◌, ℕ, ◌<◌, ◌≤◌, Bool, true, false, cond, ◌&&◌, Option, Some, None, List, [], ◌∷◌, ◌++◌, ℤ, length, map as each_of, refl, sym, ap, subst, ◌∙◌, arith}
 use Rattle.std.specs.List.{zip, list_all}
 use Rattle.std.specs.Option.{is_some}
 use Rattle.std.specs.Str.{bytes_eq}
-use Rattle.std.specs.Cmp.{eq_by_cmp_equiv}
-use Rattle.std.specs.Cmp.Lexicographic.{nat_list_cmp_total}
-use Rattle.std.proofs.lemmas.Map.Text.{is_eq-slice_cmp}
 use Rattle.std.proofs.lemmas.Bool.{false≢true}
 use Rattle.sj_base.specs.declared.ids.Cell.{Cell}
 use Rattle.sj_base.specs.declared.tile.Dims.{Dims}
@@ -21,9 +17,10 @@ use Rattle.sj_plan.specs.Parts.{Fits, IsPlace}
 use Rattle.sj_plan.specs.Paste.{same_place}
 use Rattle.sj_plan.specs.Rect.{child, dims_of as rect_dims}
 use Rattle.sj_plan.specs.Window.{IsWhole}
-use Rattle.sj_job.specs.Statement.{Operand}
-use Rattle.sj_job.specs.State.{Root, Roots, State, root_of, is_child, child_rect, is_valued_child}
-use Rattle.sj_job.specs.Meaning.{integers_of, child_array, change, with_child, put, put_all}
+use Rattle.sj_meaning.specs.Statement.{Operand}
+use Rattle.sj_meaning.specs.State.{Root, State, root_of, is_child, child_rect, is_valued_child}
+use Rattle.sj_meaning.specs.Meaning.{integers_of, child_array, change, with_child, put, put_all}
+use Rattle.sj_meaning.proofs.Finding.{root-change}
 use Rattle.sj_lower.specs.Cells.{Cells, cell_of, info_at, copy_at}
 use Rattle.sj_lower.proofs.Combined.{IsTrusted, Phases, denoted, denoted-closed, denoted-same, SameCopies}
 use Rattle.sj_lower.proofs.Copies.{HaveCopies}
@@ -33,30 +30,6 @@ use Rattle.sj_lower.proofs.Elements.{written-whole, written-other, written-array
 use Rattle.sj_lower.proofs.Folding.{later}
 use Rattle.sj_lower.proofs.Laid.{same_name, bytes_eq-itself, some_is, none_isn't, IsTaken, AreLaid, cell-inside, cell-is, cell-row, cells-apart}
 use Rattle.sj_lower.proofs.Places.{place-is, place-itself}
-
--- ---- names
-
-pub bytes_eq-sym : (a b : List ℕ) → bytes_eq a b ≡ bytes_eq b a
-bytes_eq-sym a b = sym (is_eq-slice_cmp a b) ∙ (eq_by_cmp_equiv nat_list_cmp_total).symm a b ∙ is_eq-slice_cmp b a
-
--- what a name's root is after another root was put
-pub get-put : (M : Roots) (name : List ℕ) (root : Root) (q : List ℕ) → map.get (map.insert M name root) q ≡ cond (bytes_eq name q) (Some root) (map.get M q)
-get-put M name root q =
-    map.get-insert nat_list_cmp_total M name root q ∙ ap (λ b. cond b (Some root) (map.get M q)) (is_eq-slice_cmp q name ∙ bytes_eq-sym q name)
-
-pub get-gone : (M : Roots) (name : List ℕ) (q : List ℕ) → map.get (map.remove M name) q ≡ cond (bytes_eq name q) None (map.get M q)
-get-gone M name q =
-    map.get-remove nat_list_cmp_total M name q ∙ ap (λ b. cond b None (map.get M q)) (is_eq-slice_cmp q name ∙ bytes_eq-sym q name)
-
-change-there : (f : Root → Root) (name : List ℕ) (S : State) (r : Root) → root_of S name ≡ Some r → change f name S ≡ record { registered = S.registered; ended = S.ended; roots = map.insert S.roots name (f r) }
-change-there f name S r e = ap (λ (o : Option Root). elim o as (λ _. State) [
-  | None ↦ S
-  | Some r ↦ record { registered = S.registered; ended = S.ended; roots = map.insert S.roots name (f r) }
-]) e
-
--- the roots after a change of one
-pub root-change : (f : Root → Root) (name : List ℕ) (S : State) (r : Root) (q : List ℕ) → root_of S name ≡ Some r → root_of (change f name S) q ≡ cond (bytes_eq name q) (Some (f r)) (root_of S q)
-root-change f name S r q e = ap (λ (T : State). root_of T q) (change-there f name S r e) ∙ get-put S.roots name (f r) q
 
 -- ---- what agrees
 
@@ -144,11 +117,11 @@ holds-same p C phases n k new S same has q r e = let b = has q r e in root-kept 
 -- ---- one array put
 
 -- both are one child
-abbrev pub same_child : Operand → Operand → Bool
+abbrev pub same_child : Operand (List ℕ) → Operand (List ℕ) → Bool
 same_child o u = bytes_eq o.name u.name && same_place o.place u.place
 
 -- an operand is a child, which gets this array in this cell
-pub record Gives (p : Program) (C : Cells) (phases : Phases) (n : ℕ) (S : State) (c : Cell) (o : Operand) (a : Array) : Type 0 where
+pub record Gives (p : Program) (C : Cells) (phases : Phases) (n : ℕ) (S : State) (c : Cell) (o : Operand (List ℕ)) (a : Array) : Type 0 where
   pub root : Root
   pub is_root : root_of S o.name ≡ Some root
   pub placed : IsPlace root.parts o.place
@@ -165,7 +138,7 @@ other_name : (a b : List ℕ) → bytes_eq a b ≡ false → a ≡ b → ⊥
 other_name a b e same = false≢true (sym e ∙ ap (bytes_eq a) (sym same) ∙ bytes_eq-itself a)
 
 -- the root itself, after a child of it was put
-put_child : (p : Program) (C : Cells) (phases : Phases) (n : ℕ) (k : Contents) (S : State) (c : Cell) (o : Operand) (a : Array) → AreLaid C → HaveTheirs p.workers C phases → (g : Gives p C phases n S c o a) → HasRoot p C phases n k o.name g.root → HasRoot p C phases n ((c, a) ∷ k) o.name (with_child o.place a g.root)
+put_child : (p : Program) (C : Cells) (phases : Phases) (n : ℕ) (k : Contents) (S : State) (c : Cell) (o : Operand (List ℕ)) (a : Array) → AreLaid C → HaveTheirs p.workers C phases → (g : Gives p C phases n S c o a) → HasRoot p C phases n k o.name g.root → HasRoot p C phases n ((c, a) ∷ k) o.name (with_child o.place a g.root)
 put_child p C phases n k S c o a laid theirs g b = record {
   fits = b.fits;
   whole = written-whole g.root o.place a;
@@ -204,14 +177,14 @@ put_child p C phases n k S c o a laid theirs g b = record {
         b.blank place inside (ap (λ es. is_child g.root.parts place && list_all (λ (e : Option ℤ). is_some e) es) (sym (written-other g.root o.place place a g.placed inside (other_place o.place place t))) ∙ v)
 
 -- another name's root
-put_beside : (p : Program) (C : Cells) (phases : Phases) (n : ℕ) (k : Contents) (S : State) (c : Cell) (o : Operand) (a : Array) (q : List ℕ) (r : Root) → AreLaid C → HaveTheirs p.workers C phases → (g : Gives p C phases n S c o a) → HasRoot p C phases n k o.name g.root → (o.name ≡ q → ⊥) → HasRoot p C phases n k q r → HasRoot p C phases n ((c, a) ∷ k) q r
+put_beside : (p : Program) (C : Cells) (phases : Phases) (n : ℕ) (k : Contents) (S : State) (c : Cell) (o : Operand (List ℕ)) (a : Array) (q : List ℕ) (r : Root) → AreLaid C → HaveTheirs p.workers C phases → (g : Gives p C phases n S c o a) → HasRoot p C phases n k o.name g.root → (o.name ≡ q → ⊥) → HasRoot p C phases n k q r → HasRoot p C phases n ((c, a) ∷ k) q r
 put_beside p C phases n k S c o a q r laid theirs g b apart h =
     root-kept p C C phases phases n n k ((c, a) ∷ k) q r h h.taken (omega arith)
     (λ trust place inside. held-other p c a k (cell_of C q r.parts place) (differs c (cell_of C q r.parts place) (λ e. apart (cells-apart C o.name q g.root.dims r.dims g.root.parts r.parts b.first h.first o.place place laid b.taken h.taken g.placed inside (sym g.cell_is ∙ e)).0)))
     (λ place inside. refl)
     (λ trust place f inside e w below. held-other p c a k (copy_at f.copies w) (ap (λ (d : Cell). same_cell d (copy_at f.copies w)) g.cell_is ∙ not_copy p.workers C phases o.name g.root.dims g.root.parts b.first o.place (cell_of C q r.parts place) f w theirs b.taken g.placed e below))
 
-pub holds-put : (p : Program) (C : Cells) (phases : Phases) (n : ℕ) (k : Contents) (S : State) (c : Cell) (o : Operand) (a : Array) → AreLaid C → HaveTheirs p.workers C phases → HaveRoots p C phases n k S → Gives p C phases n S c o a → HaveRoots p C phases n ((c, a) ∷ k) (put o a S)
+pub holds-put : (p : Program) (C : Cells) (phases : Phases) (n : ℕ) (k : Contents) (S : State) (c : Cell) (o : Operand (List ℕ)) (a : Array) → AreLaid C → HaveTheirs p.workers C phases → HaveRoots p C phases n k S → Gives p C phases n S c o a → HaveRoots p C phases n ((c, a) ∷ k) (put o a S)
 holds-put p C phases n k S c o a laid theirs has g q r e = by_test (bytes_eq o.name q) refl (sym (root-change (with_child o.place a) o.name S g.root q g.is_root) ∙ e)
   where
     by_test : (t : Bool) → bytes_eq o.name q ≡ t → cond t (Some (with_child o.place a g.root)) (root_of S q) ≡ Some r → HasRoot p C phases n ((c, a) ∷ k) q r
@@ -223,17 +196,17 @@ holds-put p C phases n k S c o a laid theirs has g q r e = by_test (bytes_eq o.n
 -- ---- the arrays of a task
 
 -- the operand is none of these children
-abbrev pub IsOther : Operand → List Operand → Type 0
+abbrev pub IsOther : Operand (List ℕ) → List (Operand (List ℕ)) → Type 0
 IsOther o [] = Unit {0}
 IsOther o (u ∷ us) = (same_child o u ≡ false) × IsOther o us
 
 -- arrays for operands, each another child
-abbrev pub GivesAll : Program → Cells → Phases → ℕ → State → (Operand → Cell) → List Operand → List Array → Type 0
+abbrev pub GivesAll : Program → Cells → Phases → ℕ → State → ((Operand (List ℕ)) → Cell) → List (Operand (List ℕ)) → List Array → Type 0
 GivesAll p C phases n S cell [] xs = Unit {0}
 GivesAll p C phases n S cell (o ∷ os) [] = ⊥
 GivesAll p C phases n S cell (o ∷ os) (a ∷ xs) = Gives p C phases n S (cell o) o a × IsOther o os × GivesAll p C phases n S cell os xs
 
-gives-after : (p : Program) (C : Cells) (phases : Phases) (n : ℕ) (S : State) (c d : Cell) (o u : Operand) (a x : Array) → Gives p C phases n S c o a → Gives p C phases n S d u x → Gives p C phases n (put o a S) d u x
+gives-after : (p : Program) (C : Cells) (phases : Phases) (n : ℕ) (S : State) (c d : Cell) (o u : Operand (List ℕ)) (a x : Array) → Gives p C phases n S c o a → Gives p C phases n S d u x → Gives p C phases n (put o a S) d u x
 gives-after p C phases n S c d o u a x g h = by_test (bytes_eq o.name u.name) refl
   where
     by_test : (t : Bool) → bytes_eq o.name u.name ≡ t → Gives p C phases n (put o a S) d u x
@@ -260,12 +233,12 @@ gives-after p C phases n S c d o u a x g h = by_test (bytes_eq o.name u.name) re
       closed = h.closed;
     }
 
-all-after : (p : Program) (C : Cells) (phases : Phases) (n : ℕ) (S : State) (cell : Operand → Cell) (c : Cell) (o : Operand) (a : Array) (us : List Operand) (xs : List Array) → Gives p C phases n S c o a → GivesAll p C phases n S cell us xs → GivesAll p C phases n (put o a S) cell us xs
+all-after : (p : Program) (C : Cells) (phases : Phases) (n : ℕ) (S : State) (cell : Operand (List ℕ) → Cell) (c : Cell) (o : Operand (List ℕ)) (a : Array) (us : List (Operand (List ℕ))) (xs : List Array) → Gives p C phases n S c o a → GivesAll p C phases n S cell us xs → GivesAll p C phases n (put o a S) cell us xs
 all-after p C phases n S cell c o a [] xs g all = tt
 all-after p C phases n S cell c o a (u ∷ us) [] g all = absurd all
 all-after p C phases n S cell c o a (u ∷ us) (x ∷ xs) g all = (gives-after p C phases n S c (cell u) o u a x g all.0, all.1, all-after p C phases n S cell c o a us xs g all.2)
 
-cell_apart : (p : Program) (C : Cells) (phases : Phases) (n : ℕ) (k : Contents) (S : State) (c d : Cell) (o u : Operand) (a x : Array) → AreLaid C → HaveTheirs p.workers C phases → HaveRoots p C phases n k S → Gives p C phases n S c o a → Gives p C phases n S d u x → same_child o u ≡ false → same_cell c d ≡ false
+cell_apart : (p : Program) (C : Cells) (phases : Phases) (n : ℕ) (k : Contents) (S : State) (c d : Cell) (o u : Operand (List ℕ)) (a x : Array) → AreLaid C → HaveTheirs p.workers C phases → HaveRoots p C phases n k S → Gives p C phases n S c o a → Gives p C phases n S d u x → same_child o u ≡ false → same_cell c d ≡ false
 cell_apart p C phases n k S c d o u a x laid theirs has g h other =
     let b = has o.name g.root g.is_root in
     let i = has u.name h.root h.is_root in
@@ -277,13 +250,13 @@ cell_apart p C phases n k S c d o u a x laid theirs has g h other =
     both true b e f = f
     both false b e f = e
 
-not_among : (p : Program) (C : Cells) (phases : Phases) (n : ℕ) (k : Contents) (S : State) (cell : Operand → Cell) (o : Operand) (a : Array) (us : List Operand) (xs : List Array) → AreLaid C → HaveTheirs p.workers C phases → HaveRoots p C phases n k S → Gives p C phases n S (cell o) o a → IsOther o us → GivesAll p C phases n S cell us xs → NotAmong (cell o) (each_of cell us)
+not_among : (p : Program) (C : Cells) (phases : Phases) (n : ℕ) (k : Contents) (S : State) (cell : Operand (List ℕ) → Cell) (o : Operand (List ℕ)) (a : Array) (us : List (Operand (List ℕ))) (xs : List Array) → AreLaid C → HaveTheirs p.workers C phases → HaveRoots p C phases n k S → Gives p C phases n S (cell o) o a → IsOther o us → GivesAll p C phases n S cell us xs → NotAmong (cell o) (each_of cell us)
 not_among p C phases n k S cell o a [] xs laid theirs has g other all = tt
 not_among p C phases n k S cell o a (u ∷ us) [] laid theirs has g other all = absurd all
 not_among p C phases n k S cell o a (u ∷ us) (x ∷ xs) laid theirs has g other all =
     (cell_apart p C phases n k S (cell o) (cell u) o u a x laid theirs has g all.0 other.0, not_among p C phases n k S cell o a us xs laid theirs has g other.1 all.2)
 
-pub holds-put_all : (p : Program) (C : Cells) (phases : Phases) (n : ℕ) (cell : Operand → Cell) (os : List Operand) (xs : List Array) (k : Contents) (S : State) → AreLaid C → HaveTheirs p.workers C phases → HaveRoots p C phases n k S → GivesAll p C phases n S cell os xs → HaveRoots p C phases n (zip (each_of cell os) xs ++ k) (put_all os xs S)
+pub holds-put_all : (p : Program) (C : Cells) (phases : Phases) (n : ℕ) (cell : Operand (List ℕ) → Cell) (os : List (Operand (List ℕ))) (xs : List Array) (k : Contents) (S : State) → AreLaid C → HaveTheirs p.workers C phases → HaveRoots p C phases n k S → GivesAll p C phases n S cell os xs → HaveRoots p C phases n (zip (each_of cell os) xs ++ k) (put_all os xs S)
 holds-put_all p C phases n cell [] xs k S laid theirs has all = has
 holds-put_all p C phases n cell (o ∷ os) [] k S laid theirs has all = absurd all
 holds-put_all p C phases n cell (o ∷ os) (a ∷ xs) k S laid theirs has all =

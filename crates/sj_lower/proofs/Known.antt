@@ -20,14 +20,14 @@ use Rattle.sj_plan.specs.Parts.{places}
 use Rattle.sj_plan.specs.Paste.{pastes_of}
 use Rattle.sj_plan.specs.Rect.{child}
 use Rattle.sj_plan.proofs.Lists.{each-map, each-of}
-use Rattle.sj_job.specs.declared.job.Init.{Init}
-use Rattle.sj_job.specs.declared.job.Init.TheVariants.{Values, Fill, Nothing}
-use Rattle.sj_job.specs.Statement.{Operand, Register, TaskLine}
-use Rattle.sj_job.specs.Act.{Act, Statement}
-use Rattle.sj_job.specs.Act.{Register as Registers, Plan as Plans, Redux as Reduces, Task as Tasks, Print as Prints, Invalidate as Invalidates, Unregister as Unregisters}
-use Rattle.sj_job.specs.State.{Root, State, root_of, start}
-use Rattle.sj_job.specs.Meaning.{apply}
-use Rattle.sj_job.specs.Sound.{IsSoundTask, is_lawful, reduction_of, has_child_values, child_dims}
+use Rattle.sj_meaning.specs.declared.job.Init.{Init}
+use Rattle.sj_meaning.specs.declared.job.Init.TheVariants.{Values, Fill, Nothing}
+use Rattle.sj_meaning.specs.Statement.{Operand, Register, TaskLine}
+use Rattle.sj_meaning.specs.Act.{Act, Statement}
+use Rattle.sj_meaning.specs.Act.{Register as Registers, Plan as Plans, Redux as Reduces, Task as Tasks, Print as Prints, Invalidate as Invalidates, Unregister as Unregisters}
+use Rattle.sj_meaning.specs.State.{Root, State, root_of, start}
+use Rattle.sj_meaning.specs.Meaning.{apply}
+use Rattle.sj_meaning.specs.Sound.{IsSoundTask, is_lawful, reduction_of, has_child_values, child_dims}
 use Rattle.sj_lower.specs.declared.phase.OpenPhase.{OpenPhase}
 use Rattle.sj_lower.specs.Cells.{Cells, cell_of, copy_at, first_copy}
 use Rattle.sj_lower.specs.Rows.{load_row, fill_row, paste_row, deliver_row, init_row, combine_row, init_rows, combine_rows}
@@ -110,7 +110,7 @@ known_opened has workers by v line c L own k = by_option (L.phase c) refl
     }
 
 -- a contribution's reduction is one of the set's
-known-reduction : (has : Kernel → Bool) (S : State) (id : Codelet) (o : Operand) (by : Reduction) → is_lawful has S id o ≡ true → is_redux o.mode ≡ true → reduction_of S o.name ≡ Some by → has_reduction has by ≡ true
+known-reduction : (has : Kernel → Bool) (S : State) (id : Codelet) (o : Operand (List ℕ)) (by : Reduction) → is_lawful has S id o ≡ true → is_redux o.mode ≡ true → reduction_of S o.name ≡ Some by → has_reduction has by ≡ true
 known-reduction has S id o by law redux e = by_kernel (kernel_of id) contributes
   where
     contributes : contributes_in has id by ≡ true
@@ -123,7 +123,7 @@ known-reduction has S id o by law redux e = by_kernel (kernel_of id) contributes
     by_kernel None h = absurd (false≢true h)
     by_kernel (Some k) h = (and_parts (has k && contributes_of k by) (has_reduction has by) h).1
 
-known_opened_for : (has : Kernel → Bool) (workers : ℕ) (S : State) (id : Codelet) (line : Line) (os : List Operand) (L : Lowering) → list_all (is_lawful has S id) os ≡ true → AreKnown has L → AreKnown has (fold (opened_for workers S line) L (filter (λ o. is_redux o.mode) os))
+known_opened_for : (has : Kernel → Bool) (workers : ℕ) (S : State) (id : Codelet) (line : Line) (os : List (Operand (List ℕ))) (L : Lowering) → list_all (is_lawful has S id) os ≡ true → AreKnown has L → AreKnown has (fold (opened_for workers S line) L (filter (λ o. is_redux o.mode) os))
 known_opened_for has workers S id line [] L law k = k
 known_opened_for has workers S id line (o ∷ os) L law k =
     let a = and_parts (is_lawful has S id o) (list_all (is_lawful has S id) os) law in
@@ -140,7 +140,7 @@ known_opened_for has workers S id line (o ∷ os) L law k =
 
 -- ---- a statement's own tasks
 
-known-loads : (has : Kernel → Bool) (r : Register) (C : Cells) (line : Line) (i : Init) → HasOwn has → All (IsKnown has) (load_rows i r.dims r.parts (cell_of C r.name r.parts) line)
+known-loads : (has : Kernel → Bool) (r : Register (List ℕ)) (C : Cells) (line : Line) (i : Init) → HasOwn has → All (IsKnown has) (load_rows i r.dims r.parts (cell_of C r.name r.parts) line)
 known-loads has r C line (Values xs) own = all-rows has (λ place. load_row xs r.dims (child r.dims r.parts place) (cell_of C r.name r.parts place) line) (places r.parts) (λ place. own.load)
 known-loads has r C line (Fill a b) own = all-rows has (λ place. fill_row a b r.dims (child r.dims r.parts place) (cell_of C r.name r.parts place) line) (places r.parts) (λ place. own.load_fill)
 known-loads has r C line Nothing own = All-nil (IsKnown has)
@@ -159,14 +159,14 @@ known-plan has S C name s line own = by_root (root_of S name)
     by_root None = All-nil (IsKnown has)
     by_root (Some r) = by_idle (is_idle s r) r
 
-known-task : (has : Kernel → Bool) (S : State) (t : TaskLine) → IsSoundTask has S t → is_known has t.codelet ≡ true
+known-task : (has : Kernel → Bool) (S : State) (t : TaskLine (List ℕ)) → IsSoundTask has S t → is_known has t.codelet ≡ true
 known-task has S t s = by_kernel (kernel_of t.codelet) s.fits
   where
     by_kernel : (x : Option Kernel) → (elim x as (λ _. Bool) [ None ↦ false | Some k ↦ has k && fits k t.args (each_of (child_dims S) t.operands) ]) ≡ true → (elim x as (λ _. Bool) [ None ↦ false | Some k ↦ has k ]) ≡ true
     by_kernel None h = absurd (false≢true h)
     by_kernel (Some k) h = (and_parts (has k) (fits k t.args (each_of (child_dims S) t.operands)) h).0
 
-known-rows : (has : Kernel → Bool) (S : State) (C : Cells) (line : Line) (a : Act) → HasOwn has → CanBe has S a → All (IsKnown has) (rows_of S C line a)
+known-rows : (has : Kernel → Bool) (S : State) (C : Cells) (line : Line) (a : Act (List ℕ)) → HasOwn has → CanBe has S a → All (IsKnown has) (rows_of S C line a)
 known-rows has S C line (Registers r) own can = known-loads has r C line r.init own
 known-rows has S C line (Plans name s) own can = known-plan has S C name s line own
 known-rows has S C line (Reduces name by) own can = All-nil (IsKnown has)
@@ -177,7 +177,7 @@ known-rows has S C line (Unregisters name) own can = All-nil (IsKnown has)
 
 -- ---- all statements
 
-known_prepared : (has : Kernel → Bool) (workers : ℕ) (S : State) (line : Line) (a : Act) (L : Lowering) → CanBe has S a → AreKnown has L → AreKnown has (fold (opened_for workers S line) L (contributions a))
+known_prepared : (has : Kernel → Bool) (workers : ℕ) (S : State) (line : Line) (a : Act (List ℕ)) (L : Lowering) → CanBe has S a → AreKnown has L → AreKnown has (fold (opened_for workers S line) L (contributions a))
 known_prepared has workers S line (Registers r) L can k = k
 known_prepared has workers S line (Plans name s) L can k = k
 known_prepared has workers S line (Reduces name by) L can k = k
@@ -186,7 +186,7 @@ known_prepared has workers S line (Prints name) L can k = k
 known_prepared has workers S line (Invalidates name) L can k = k
 known_prepared has workers S line (Unregisters name) L can k = k
 
-pub known_from : (has : Kernel → Bool) (workers : ℕ) (S : State) (L : Lowering) (ss : List Statement) → HasOwn has → AllCanBe has S ss → AreKnown has L → AreKnown has (lower_from workers S L ss)
+pub known_from : (has : Kernel → Bool) (workers : ℕ) (S : State) (L : Lowering) (ss : List (Statement (List ℕ))) → HasOwn has → AllCanBe has S ss → AreKnown has L → AreKnown has (lower_from workers S L ss)
 known_from has workers S L [] own can k = k
 known_from has workers S L (s ∷ ss) own can k =
     let M = prepared workers S s L in
@@ -195,6 +195,6 @@ known_from has workers S L (s ∷ ss) own can k =
     (record { tasks = All-append (IsKnown has) M.tasks (rows_of S (cells_after s.act M.cells) s.line s.act) m.tasks (known-rows has S (cells_after s.act M.cells) s.line s.act own can.0); reductions = m.reductions })
 
 -- the set has the codelets of a job's program
-pub known : (has : Kernel → Bool) (workers : ℕ) (ss : List Statement) → HasOwn has → AllCanBe has start ss → All (IsKnown has) (finished workers (lower_from workers start nothing ss)).tasks
+pub known : (has : Kernel → Bool) (workers : ℕ) (ss : List (Statement (List ℕ))) → HasOwn has → AllCanBe has start ss → All (IsKnown has) (finished workers (lower_from workers start nothing ss)).tasks
 known has workers ss own can =
     (known_all_closed has workers (each_of (λ n. let d : Cell = record { 0 = n } in d) (range_with_len 0 (length (lower_from workers start nothing ss).cells.rows))) (lower_from workers start nothing ss) (known_from has workers start nothing ss own can (record { tasks = All-nil (IsKnown has); reductions = λ c f e. absurd (cc) }))).tasks

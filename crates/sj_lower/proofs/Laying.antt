@@ -16,15 +16,15 @@ use Rattle.sj_core.specs.Program.{no_cell}
 use Rattle.sj_plan.specs.declared.parts.Parts.{Parts}
 use Rattle.sj_plan.specs.Parts.{places}
 use Rattle.sj_plan.specs.Rect.{child, children_of}
-use Rattle.sj_job.specs.Table.{Table, AreDistinct, a_root, name_of, info_of}
+use Rattle.sj_meaning.specs.Table.{Table, AreDistinct, a_root, name_of, info_of}
 use Rattle.sj_lower.specs.declared.layout.Taken.{Taken}
 use Rattle.sj_lower.specs.declared.layout.Layout.{Layout}
 use Rattle.sj_lower.specs.Cells.{Cells, Handle, same_parts, with_handle, with_first, first_cell, taking, rect_cell, child_cell, take, next_handle, with_root, info_at, copy_info, with_partials, first_copy, with_copies}
 use Rattle.sj_lower.specs.Limits.{most}
-use Rattle.sj_job.specs.declared.job.Init.{Init}
-use Rattle.sj_job.specs.declared.job.RootInfo.{RootInfo}
-use Rattle.sj_job.specs.declared.job.Act.TheVariants as kept
-use Rattle.sj_job.specs.View.{act_seen}
+use Rattle.sj_meaning.specs.declared.job.Init.{Init}
+use Rattle.sj_meaning.specs.declared.job.RootInfo.{RootInfo}
+use Rattle.sj_meaning.specs.declared.job.Act.TheVariants as kept
+use Rattle.sj_meaning.specs.View.{act_seen}
 use Rattle.sj_job.specs.Track.{children_count}
 use Rattle.sj_lower.specs.Lowering.{cells_after}
 use Rattle.sj_lower.specs.Seen.{taken, same_taken, handle_in, Lays, first_after, children_after}

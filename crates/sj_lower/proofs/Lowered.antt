@@ -13,13 +13,13 @@ use Rattle.sj_base.specs.Mode.{is_redux}
 use Rattle.sj_codelet.specs.declared.kernel.Kernel.{Kernel}
 use Rattle.sj_plan.specs.declared.parts.Parts.{Parts}
 use Rattle.sj_plan.specs.Parts.{IsPlace, places}
-use Rattle.sj_job.specs.Statement.{Operand, TaskLine}
-use Rattle.sj_job.specs.Act.{Act, Statement}
-use Rattle.sj_job.specs.Act.{Register as Registers, Plan as Plans, Redux as Reduces, Task as Tasks, Print as Prints, Invalidate as Invalidates, Unregister as Unregisters}
-use Rattle.sj_job.specs.State.{Root, State, root_of, is_valued_child, start}
-use Rattle.sj_job.specs.Meaning.{Printed, apply, prints, printed_from, printed, run_from}
-use Rattle.sj_job.specs.Sound.{has_child, has_child_values, reduction_of}
-use Rattle.sj_job.specs.Table.{Table, undivided}
+use Rattle.sj_meaning.specs.Statement.{Operand, TaskLine}
+use Rattle.sj_meaning.specs.Act.{Act, Statement}
+use Rattle.sj_meaning.specs.Act.{Register as Registers, Plan as Plans, Redux as Reduces, Task as Tasks, Print as Prints, Invalidate as Invalidates, Unregister as Unregisters}
+use Rattle.sj_meaning.specs.State.{Root, State, root_of, is_valued_child, start}
+use Rattle.sj_meaning.specs.Meaning.{Printed, apply, prints, printed_from, printed, run_from}
+use Rattle.sj_meaning.specs.Sound.{has_child, has_child_values, reduction_of}
+use Rattle.sj_meaning.specs.Table.{Table, undivided}
 use Rattle.sj_job.specs.Track.{number}
 use Rattle.sj_lower.specs.declared.phase.OpenPhase.{OpenPhase}
 use Rattle.sj_lower.specs.Cells.{Cells, same_parts, cell_of}
@@ -49,23 +49,23 @@ begins-opened p by v line c L = by_option (L.phase c)
     by_option None b = begins-less p L (begun p.workers by v line c L) _ (copies-more p.workers c L.cells) refl b
     by_option (Some f) b = begins-less p L (turned L.cells [] c (Some (extended f line)) L) [] (grows-refl L.cells.rows) refl b
 
-begins-opened_for : (p : Program) (S : State) (line : Line) (L : Lowering) (o : Operand) → Begins p (opened_for p.workers S line L o) → Begins p L
+begins-opened_for : (p : Program) (S : State) (line : Line) (L : Lowering) (o : Operand (List ℕ)) → Begins p (opened_for p.workers S line L o) → Begins p L
 begins-opened_for p S line L o = by_option (reduction_of S o.name)
   where
     by_option : (x : Option Reduction) → Begins p (elim x as (λ _. Lowering) [ None ↦ L | Some by ↦ opened p.workers by (has_child_values S o) line (active_cell S L.cells o.name o.place) L ]) → Begins p L
     by_option None b = b
     by_option (Some by) b = begins-opened p by (has_child_values S o) line (active_cell S L.cells o.name o.place) L b
 
-begins-all_opened : (p : Program) (S : State) (line : Line) (os : List Operand) (L : Lowering) → Begins p (fold (opened_for p.workers S line) L os) → Begins p L
+begins-all_opened : (p : Program) (S : State) (line : Line) (os : List (Operand (List ℕ))) (L : Lowering) → Begins p (fold (opened_for p.workers S line) L os) → Begins p L
 begins-all_opened p S line [] L b = b
 begins-all_opened p S line (o ∷ os) L b = begins-opened_for p S line L o (begins-all_opened p S line os (opened_for p.workers S line L o) b)
 
-begins-one : (p : Program) (S : State) (s : Statement) (L : Lowering) → Begins p (lower_one p.workers S s L) → Begins p L
+begins-one : (p : Program) (S : State) (s : Statement (List ℕ)) (L : Lowering) → Begins p (lower_one p.workers S s L) → Begins p L
 begins-one p S s L b =
     begins-all_closed p (closed_by S L.cells s.act) L
     (begins-all_opened p S s.line (contributions s.act) (all_closed p.workers (closed_by S L.cells s.act) L) (begins-own p S s (prepared p.workers S s L) b))
 
-begins-from : (p : Program) (S : State) (L : Lowering) (ss : List Statement) → Begins p (lower_from p.workers S L ss) → Begins p L
+begins-from : (p : Program) (S : State) (L : Lowering) (ss : List (Statement (List ℕ))) → Begins p (lower_from p.workers S L ss) → Begins p L
 begins-from p S L [] b = b
 begins-from p S L (s ∷ ss) b = begins-one p S s L (begins-from p (apply s.act S) (lower_one p.workers S s L) ss b)
 
@@ -93,7 +93,7 @@ module _ (workers : ℕ) (L : Lowering) (S : State) where
   plan-shut name s r place is at changed = active-shut name r place (closed_by S L.cells (Plans name s)) (ap (λ b. cond b [] (active_cells S L.cells name)) (ap (λ (x : Parts). same_parts x s) (parts-are S name r is) ∙ changed)) is at
 
   -- the operands that a task accesses otherwise than by a contribution
-  operands-shut : (cs : List Cell) (os : List Operand) → AllByRecursion (λ c. (After cs).phase c ≡ None) (each_of (λ o. active_cell S L.cells o.name o.place) (filter is_other_access os)) → AllByRecursion (λ o. is_redux o.mode ≡ false → IsClosed (After cs).phase S L.cells o) os
+  operands-shut : (cs : List Cell) (os : List (Operand (List ℕ))) → AllByRecursion (λ c. (After cs).phase c ≡ None) (each_of (λ o. active_cell S L.cells o.name o.place) (filter is_other_access os)) → AllByRecursion (λ o. is_redux o.mode ≡ false → IsClosed (After cs).phase S L.cells o) os
   operands-shut cs [] h = tt
   operands-shut cs (o ∷ os) h = by_test (is_other_access o) refl h (operands-shut cs os)
     where
@@ -103,18 +103,18 @@ module _ (workers : ℕ) (L : Lowering) (S : State) where
       by_test true e h rest = (λ direct is_d. h.0, rest h.1)
       by_test false e h rest = (λ direct is_d. absurd (false≢true (sym e ∙ (λ i. is_d i && not (direct i)))), rest h)
 
-  task-shut : (t : TaskLine) → AllByRecursion (λ o. is_redux o.mode ≡ false → IsClosed (After (closed_by S L.cells (Tasks t))).phase S (After (closed_by S L.cells (Tasks t))).cells o) t.operands
+  task-shut : (t : TaskLine (List ℕ)) → AllByRecursion (λ o. is_redux o.mode ≡ false → IsClosed (After (closed_by S L.cells (Tasks t))).phase S (After (closed_by S L.cells (Tasks t))).cells o) t.operands
   task-shut t = subst (λ (C : Cells). AllByRecursion (λ o. is_redux o.mode ≡ false → IsClosed (After (closed_by S L.cells (Tasks t))).phase S C o) t.operands) (sym (all_closed-cells workers (closed_by S L.cells (Tasks t)) L))
       (operands-shut (closed_by S L.cells (Tasks t)) t.operands (all_closed-own workers (closed_by S L.cells (Tasks t)) L))
 
-none-redux : (os : List Operand) → list_any (λ o. is_redux o.mode) os ≡ false → (list_all (λ o. is_direct o.mode) os ≡ true) × (filter (λ o. is_redux o.mode) os ≡ [])
+none-redux : (os : List (Operand (List ℕ))) → list_any (λ o. is_redux o.mode) os ≡ false → (list_all (λ o. is_direct o.mode) os ≡ true) × (filter (λ o. is_redux o.mode) os ≡ [])
 none-redux [] e = (refl, refl)
 none-redux (o ∷ os) e =
     let x = or_none (is_redux o.mode) (list_any (λ o. is_redux o.mode) os) e in
     let r = none-redux os x.1 in
     (ap (λ b. not b && list_all (λ o. is_direct o.mode) os) x.0 ∙ r.0, ap (λ b. cond b (o ∷ filter (λ o. is_redux o.mode) os) (filter (λ o. is_redux o.mode) os)) x.0 ∙ r.1)
 
-direct-closed : (P : Operand → Type 0) (os : List Operand) → list_all (λ o. is_direct o.mode) os ≡ true → AllByRecursion (λ o. is_redux o.mode ≡ false → P o) os → AllByRecursion P os
+direct-closed : (P : Operand (List ℕ) → Type 0) (os : List (Operand (List ℕ))) → list_all (λ o. is_direct o.mode) os ≡ true → AllByRecursion (λ o. is_redux o.mode ≡ false → P o) os → AllByRecursion P os
 direct-closed P [] d h = tt
 direct-closed P (o ∷ os) d h =
     let x = and_parts (is_direct o.mode) (list_all (λ o. is_direct o.mode) os) d in
@@ -127,7 +127,7 @@ direct-closed P (o ∷ os) d h =
 -- ---- one statement
 
 -- one that contributes to nothing
-fine_plain : (has : Kernel → Bool) (T : Table) (p : Program) (L : Lowering) (S : State) (s : Statement) (out : List Printed) → contributions s.act ≡ [] → IsReady (all_closed p.workers (closed_by S L.cells s.act) L) S s.act → Begins p (lower_one p.workers S s L) → CanBe has S s.act → NamesAct T S L.cells s.act → IsFine T p L S out
+fine_plain : (has : Kernel → Bool) (T : Table) (p : Program) (L : Lowering) (S : State) (s : Statement (List ℕ)) (out : List Printed) → contributions s.act ≡ [] → IsReady (all_closed p.workers (closed_by S L.cells s.act) L) S s.act → Begins p (lower_one p.workers S s L) → CanBe has S s.act → NamesAct T S L.cells s.act → IsFine T p L S out
     → IsFine T p (lower_one p.workers S s L) (apply s.act S) (out ++ prints s.act S)
 fine_plain has T p L S s out none ready b can named f =
     let M = all_closed p.workers (closed_by S L.cells s.act) L in
@@ -138,10 +138,10 @@ fine_plain has T p L S s out none ready b can named f =
     (fine_own has T p M S s.line s.act out begins can (subst (λ (C : Cells). NamesAct T S C s.act) (sym (all_closed-cells p.workers (closed_by S L.cells s.act) L)) named) ready fine)
 
 -- a task that contributes
-fine_adding : (has : Kernel → Bool) (T : Table) (p : Program) (L : Lowering) (S : State) (line : Line) (t : TaskLine) (out : List Printed) → list_any (λ o. is_redux o.mode) t.operands ≡ true → Begins p (lower_one p.workers S (record { line = line; act = Tasks t }) L) → CanBe has S (Tasks t) → IsFine T p L S out
+fine_adding : (has : Kernel → Bool) (T : Table) (p : Program) (L : Lowering) (S : State) (line : Line) (t : TaskLine (List ℕ)) (out : List Printed) → list_any (λ o. is_redux o.mode) t.operands ≡ true → Begins p (lower_one p.workers S (record { line = line; act = Tasks t }) L) → CanBe has S (Tasks t) → IsFine T p L S out
     → IsFine T p (lower_one p.workers S (record { line = line; act = Tasks t }) L) (apply (Tasks t) S) (out ++ [])
 fine_adding has T p L S line t out any b can f =
-    let s : Statement = record { line = line; act = Tasks t } in
+    let s : Statement (List ℕ) = record { line = line; act = Tasks t } in
     let M = all_closed p.workers (closed_by S L.cells (Tasks t)) L in
     let con = contributes-there has S t can.sound any in
     let u = con.last in
@@ -154,18 +154,18 @@ fine_adding has T p L S line t out any b can f =
     let begins : Begins p (add_own S s (opened p.workers con.by (is_valued_child there.root u.place) line c M)) = subst (λ (N : Lowering). Begins p (add_own S s N)) same b in
     let before : Begins p M = begins-opened p con.by (is_valued_child there.root u.place) line c M (begins-own p S s (opened p.workers con.by (is_valued_child there.root u.place) line c M) begins) in
     let fine = fine_all_closed T p (closed_by S L.cells (Tasks t)) L S out before f in
-    let shut = subst (λ (os : List Operand). AllByRecursion (λ o. is_redux o.mode ≡ false → IsClosed M.phase S M.cells o) os) con.is (task-shut p.workers L S t) in
+    let shut = subst (λ (os : List (Operand (List ℕ))). AllByRecursion (λ o. is_redux o.mode ≡ false → IsClosed M.phase S M.cells o) os) con.is (task-shut p.workers L S t) in
     subst (λ (N : Lowering). IsFine T p (add_own S s N) (apply (Tasks t) S) (out ++ [])) (sym same)
     (fine_contributed has T p M S line t out can con there.root there.is_root (record { is_root = there.is_root; placed = there.placed; cell = refl }) (reads-shut M con.before con.reads (each-before (λ o. is_redux o.mode ≡ false → IsClosed M.phase S M.cells o) con.before u shut).0) fine before begins)
   where
     last_placed : (con : Contributes S t (kernel_there has S t can.sound).call.kernel) → has_child S con.last ≡ true
     last_placed con = (all-before (has_child S) con.before con.last (ap (list_all (has_child S)) (sym con.is) ∙ can.sound.placed)).1
 
-    reads-shut : (M : Lowering) (vs : List Operand) → AllByRecursion IsRead vs → AllByRecursion (λ o. is_redux o.mode ≡ false → IsClosed M.phase S M.cells o) vs → AllByRecursion (IsClosed M.phase S M.cells) vs
+    reads-shut : (M : Lowering) (vs : List (Operand (List ℕ))) → AllByRecursion IsRead vs → AllByRecursion (λ o. is_redux o.mode ≡ false → IsClosed M.phase S M.cells o) vs → AllByRecursion (IsClosed M.phase S M.cells) vs
     reads-shut M [] re h = tt
     reads-shut M (v ∷ vs) re h = (h.0 re.0.0, reads-shut M vs re.1 h.1)
 
-fine_one : (has : Kernel → Bool) (T : Table) (p : Program) (L : Lowering) (S : State) (line : Line) (a : Act) (out : List Printed) → let s : Statement = record { line = line; act = a } in Begins p (lower_one p.workers S s L) → CanBe has S a → NamesAct T S L.cells a → IsFine T p L S out
+fine_one : (has : Kernel → Bool) (T : Table) (p : Program) (L : Lowering) (S : State) (line : Line) (a : Act (List ℕ)) (out : List Printed) → let s : Statement (List ℕ) = record { line = line; act = a } in Begins p (lower_one p.workers S s L) → CanBe has S a → NamesAct T S L.cells a → IsFine T p L S out
     → IsFine T p (lower_one p.workers S s L) (apply a S) (out ++ prints a S)
 fine_one has T p L S line (Registers r) out b can named f = fine_plain has T p L S (record { line = line; act = Registers r }) out refl tt b can named f
 fine_one has T p L S line (Plans name s) out b can named f = fine_plain has T p L S (record { line = line; act = Plans name s }) out refl (plan-shut p.workers L S name s) b can named f
@@ -184,7 +184,7 @@ fine_one has T p L S line (Unregisters name) out b can named f = fine_plain has 
 
 -- ---- all statements
 
-fine_from : (has : Kernel → Bool) (T : Table) (p : Program) (L : Lowering) (S : State) (out : List Printed) (ss : List Statement) → Begins p (lower_from p.workers S L ss) → AllCanBe has S ss → NamesAll p.workers T S L ss → IsFine T p L S out
+fine_from : (has : Kernel → Bool) (T : Table) (p : Program) (L : Lowering) (S : State) (out : List Printed) (ss : List (Statement (List ℕ))) → Begins p (lower_from p.workers S L ss) → AllCanBe has S ss → NamesAll p.workers T S L ss → IsFine T p L S out
     → IsFine T p (lower_from p.workers S L ss) (run_from S ss) (out ++ printed_from S ss)
 fine_from has T p L S out [] b can named f = subst (λ (xs : List Printed). IsFine T p L S xs) (sym (append-nil out)) f
 fine_from has T p L S out (s ∷ ss) b can named f =
@@ -211,7 +211,7 @@ all-shut p L S b g c = by_option (L.phase c) refl
     by_option (Some f) e = among (open-inside p L S b g c f e)
 
 -- the program of a job
-pub record IsWhole (T : Table) (p : Program) (ss : List Statement) : Type 0 where
+pub record IsWhole (T : Table) (p : Program) (ss : List (Statement (List ℕ))) : Type 0 where
   pub lowering : Lowering
   pub state : State
   pub cells : p.cells ≡ lowering.cells.rows
@@ -221,7 +221,7 @@ pub record IsWhole (T : Table) (p : Program) (ss : List Statement) : Type 0 wher
   pub fine : IsFine T p lowering state (printed ss)
   pub shut : (c : Cell) → lowering.phase c ≡ None
 
-pub whole : (has : Kernel → Bool) (T : Table) (ss : List Statement) (workers : ℕ) → AllCanBe has start ss → NamesAll workers T start nothing ss → IsWhole T (lowered ss workers) ss
+pub whole : (has : Kernel → Bool) (T : Table) (ss : List (Statement (List ℕ))) (workers : ℕ) → AllCanBe has start ss → NamesAll workers T start nothing ss → IsWhole T (lowered ss workers) ss
 whole has T ss workers can named =
     let M = lower_from workers start nothing ss in
     let L = finished workers M in

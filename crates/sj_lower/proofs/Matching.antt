@@ -13,15 +13,15 @@ use Rattle.sj_base.specs.Mode.{is_redux}
 use Rattle.sj_codelet.specs.declared.kernel.Kernel.{Kernel}
 use Rattle.sj_plan.specs.declared.parts.Parts.{Parts}
 use Rattle.sj_plan.specs.Parts.{IsPlace, places}
-use Rattle.sj_job.specs.declared.job.Act.{Act as Kept}
-use Rattle.sj_job.specs.declared.job.Act.TheVariants as kept
-use Rattle.sj_job.specs.declared.job.Operand.{Operand as KeptOperand}
-use Rattle.sj_job.specs.Statement.{Operand}
-use Rattle.sj_job.specs.State.{Root, State, root_of, is_child, is_valued_child, child_elements}
-use Rattle.sj_job.specs.Sound.{IsSoundAct, has_child, has_child_values, reduction_of}
-use Rattle.sj_job.specs.Table.{Table, a_root, name_of, undivided}
+use Rattle.sj_meaning.specs.declared.job.Act.{Act as Kept}
+use Rattle.sj_meaning.specs.declared.job.Act.TheVariants as kept
+use Rattle.sj_meaning.specs.declared.job.Operand.{Operand as KeptOperand}
+use Rattle.sj_meaning.specs.Statement.{Operand}
+use Rattle.sj_meaning.specs.State.{Root, State, root_of, is_child, is_valued_child, child_elements}
+use Rattle.sj_meaning.specs.Sound.{IsSoundAct, has_child, has_child_values, reduction_of}
+use Rattle.sj_meaning.specs.Table.{Table, a_root, name_of, undivided}
 use Rattle.sj_job.specs.Track.{is_set}
-use Rattle.sj_job.specs.View.{operand_seen, act_seen, IsPlaced}
+use Rattle.sj_meaning.specs.View.{operand_seen, act_seen, IsPlaced}
 use Rattle.sj_job.proofs.Children.{child-valued}
 use Rattle.sj_lower.specs.declared.lowerer.Active.{Active}
 use Rattle.sj_lower.specs.Cells.{Cells, Handle, same_parts, first_cell, cells_from}
@@ -117,7 +117,7 @@ abbrev pub AreThere : State → Table → List KeptOperand → Type 0
 AreThere S T os = AllByRecursion (λ o. has_child S (operand_seen T o) ≡ true) os
 
 others-are : (T : Table) (C : Cells) (as' : List Active) (S : State) (os : List KeptOperand) → AreActive T C as' S → All (λ o. o.root.0 < C.roots) os → AreThere S T os
-    → map (λ (o : Operand). active_cell S C o.name o.place) (filter is_other_access (map (operand_seen T) os)) ≡ map (cell_by as') (filter is_other os)
+    → map (λ (o : Operand (List ℕ)). active_cell S C o.name o.place) (filter is_other_access (map (operand_seen T) os)) ≡ map (cell_by as') (filter is_other os)
 others-are T C as' S [] g placed there = refl
 others-are T C as' S (o ∷ os) g placed there =
     by_test (is_other o) (others-are T C as' S os g (All-tail (λ (o : KeptOperand). o.root.0 < C.roots) o os placed) there.1)
@@ -127,8 +127,8 @@ others-are T C as' S (o ∷ os) g placed there =
         let t = child_there S (operand_seen T o) there.0 in
         cell-is T C as' S o.root o.place (known-as T C as' S o.root g (All-head (λ (o : KeptOperand). o.root.0 < C.roots) o os placed) t.root t.is_root)
 
-    by_test : (b : Bool) → map (λ (o : Operand). active_cell S C o.name o.place) (filter is_other_access (map (operand_seen T) os)) ≡ map (cell_by as') (filter is_other os)
-        → map (λ (o : Operand). active_cell S C o.name o.place) (cond b (operand_seen T o ∷ filter is_other_access (map (operand_seen T) os)) (filter is_other_access (map (operand_seen T) os))) ≡ map (cell_by as') (cond b (o ∷ filter is_other os) (filter is_other os))
+    by_test : (b : Bool) → map (λ (o : Operand (List ℕ)). active_cell S C o.name o.place) (filter is_other_access (map (operand_seen T) os)) ≡ map (cell_by as') (filter is_other os)
+        → map (λ (o : Operand (List ℕ)). active_cell S C o.name o.place) (cond b (operand_seen T o ∷ filter is_other_access (map (operand_seen T) os)) (filter is_other_access (map (operand_seen T) os))) ≡ map (cell_by as') (cond b (o ∷ filter is_other os) (filter is_other os))
     by_test true rest = (λ i. here i ∷ rest i)
     by_test false rest = rest
 
@@ -178,7 +178,7 @@ values-are T C as' S o k at child =
     ∙ ap (λ b. b && list_all is_some (child_elements k.root o.place)) child
     ∙ child-valued (active_at as' o.root.0).tracked k.root o.place k.active.tracks at
 
-child-test : (S : State) (o : Operand) (r : Root) → root_of S o.name ≡ Some r → has_child S o ≡ true → is_child r.parts o.place ≡ true
+child-test : (S : State) (o : Operand (List ℕ)) (r : Root) → root_of S o.name ≡ Some r → has_child S o ≡ true → is_child r.parts o.place ≡ true
 child-test S o r e h = sym (ap (λ (x : Option Root). elim x as (λ _. Bool) [ None ↦ false | Some r ↦ is_child r.parts o.place ]) e) ∙ h
 
 opening-one : (T : Table) (as' : List Active) (S : State) (workers : ℕ) (line : Line) (o : KeptOperand) (L : Lowering) → AreActive T L.cells as' S → o.root.0 < L.cells.roots → has_child S (operand_seen T o) ≡ true → opened_for workers S line L (operand_seen T o) ≡ opening_for workers as' line o L

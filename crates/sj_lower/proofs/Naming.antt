@@ -11,16 +11,16 @@ use Rattle.sj_codelet.specs.declared.kernel.Kernel.{Kernel}
 use Rattle.sj_plan.specs.declared.parts.Parts.{Parts}
 use Rattle.sj_plan.specs.Parts.{Fits, places}
 use Rattle.std.specs.Option.{is_some}
-use Rattle.sj_job.specs.declared.job.Kind.{Kind}
-use Rattle.sj_job.specs.declared.job.Act.{Act as KeptAct}
-use Rattle.sj_job.specs.declared.job.Act.TheVariants as kept
-use Rattle.sj_job.specs.declared.job.Statement.{Statement as Kept}
-use Rattle.sj_job.specs.Statement.{Register as Registration, Operand, TaskLine}
-use Rattle.sj_job.specs.Table.{Table, a_root, name_of, info_of, AreDistinct}
-use Rattle.sj_job.specs.View.{registration, task_seen, act_seen, statement_seen, seen_from, count_after, count_from, IsPlaced, ArePlaced}
-use Rattle.sj_job.specs.State.{Root, State, root_of, start}
-use Rattle.sj_job.specs.Meaning.{registered_root, register, change, with_parts, with_elements, with_reduction, with_child, no_values, reduce, plan, invalidate, unregister, put, put_all, written_of, run_task, apply}
-use Rattle.sj_job.proofs.Views.{count-grows, counts-grow}
+use Rattle.sj_meaning.specs.declared.job.Kind.{Kind}
+use Rattle.sj_meaning.specs.declared.job.Act.{Act as KeptAct}
+use Rattle.sj_meaning.specs.declared.job.Act.TheVariants as kept
+use Rattle.sj_meaning.specs.declared.job.Statement.{Statement as Kept}
+use Rattle.sj_meaning.specs.Statement.{Register as Registration, Operand, TaskLine}
+use Rattle.sj_meaning.specs.Table.{Table, a_root, name_of, info_of, AreDistinct}
+use Rattle.sj_meaning.specs.View.{registration, task_seen, act_seen, statement_seen, seen_from, count_after, count_from, IsPlaced, ArePlaced}
+use Rattle.sj_meaning.specs.State.{Root, State, root_of, start}
+use Rattle.sj_meaning.specs.Meaning.{registered_root, register, change, with_parts, with_elements, with_reduction, with_child, no_values, reduce, plan, invalidate, unregister, put, put_all, written_of, run_task, apply}
+use Rattle.sj_meaning.proofs.Views.{count-grows, counts-grow}
 use Rattle.sj_lower.specs.Cells.{Cells, Handle, with_handle, taking, child_cell, take_by, take, next_handle, with_root}
 use Rattle.sj_lower.specs.Lowering.{Lowering, nothing, cells_after, active_cell, closed_by, all_closed, contributions, extended, turned, begun, opened, opened_for, prepared, lower_one}
 use Rattle.sj_lower.specs.Delivering.{printed_as}
@@ -28,12 +28,12 @@ use Rattle.sj_lower.specs.Seen.{IsCut}
 use Rattle.sj_base.specs.declared.ids.Cell.{Cell}
 use Rattle.sj_base.specs.declared.ids.Line.{Line}
 use Rattle.sj_base.specs.declared.mode.Reduction.{Reduction}
-use Rattle.sj_job.specs.Act.{Statement}
-use Rattle.sj_job.specs.Sound.{IsSoundAct, has_child_values, reduction_of}
+use Rattle.sj_meaning.specs.Act.{Statement}
+use Rattle.sj_meaning.specs.Sound.{IsSoundAct, has_child_values, reduction_of}
 use Rattle.sj_lower.specs.declared.phase.OpenPhase.{OpenPhase}
 use Rattle.sj_lower.proofs.Closing.{all_closed-cells}
 use Rattle.sj_lower.proofs.Copies.{by_copies}
-use Rattle.sj_lower.proofs.Holding.{get-put, get-gone, root-change}
+use Rattle.sj_meaning.proofs.Finding.{get-put, get-gone, root-change}
 use Rattle.sj_lower.proofs.Laid.{same_name, bytes_eq-itself, some_is, take-roots}
 use Rattle.sj_lower.proofs.Whole.{NamesAct, NamesAll}
 
@@ -60,12 +60,12 @@ changed_kinds f name S q keeps = by_root (root_of S name) refl
     ]) q)) e
     by_root (Some r) e = ap kind_by (root-change f name S r q e) ∙ by_name r e (bytes_eq name q) refl
 
-put_all_kinds : (os : List Operand) (arrays : List Array) (S : State) (q : List ℕ) → kind_by (root_of (put_all os arrays S) q) ≡ kind_by (root_of S q)
+put_all_kinds : (os : List (Operand (List ℕ))) (arrays : List Array) (S : State) (q : List ℕ) → kind_by (root_of (put_all os arrays S) q) ≡ kind_by (root_of S q)
 put_all_kinds [] arrays S q = refl
 put_all_kinds (o ∷ os) [] S q = refl
 put_all_kinds (o ∷ os) (a ∷ arrays) S q = put_all_kinds os arrays (put o a S) q ∙ changed_kinds (with_child o.place a) o.name S q (λ r. refl)
 
-task_kinds : (t : TaskLine) (S : State) (q : List ℕ) → kind_by (root_of (run_task t S) q) ≡ kind_by (root_of S q)
+task_kinds : (t : TaskLine (List ℕ)) (S : State) (q : List ℕ) → kind_by (root_of (run_task t S) q) ≡ kind_by (root_of S q)
 task_kinds t S q = put_all_kinds (written_of t.operands) _ S q
 
 -- ---- the roots of a state have numbers
@@ -91,7 +91,7 @@ knows_kept T n S new e k q r h = kind_from T n q r (root_of S q) (sym (ap kind_b
 later : (T : Table) (n : ℕ) (q : List ℕ) (k : Kind × Dims) → HasNumber T n q k → HasNumber T (n + 1) q k
 later T n q k h = record { number = h.number; below = omega (arith, h.below); named = h.named; kind = h.kind; dims = h.dims }
 
-knows_registered : (T : Table) (n : ℕ) (S : State) (r : Registration) → name_of T (a_root n) ≡ r.name → (info_of T (a_root n)).kind ≡ r.kind → (info_of T (a_root n)).dims ≡ r.dims → Knows T n S → Knows T (n + 1) (register r S)
+knows_registered : (T : Table) (n : ℕ) (S : State) (r : Registration (List ℕ)) → name_of T (a_root n) ≡ r.name → (info_of T (a_root n)).kind ≡ r.kind → (info_of T (a_root n)).dims ≡ r.dims → Knows T n S → Knows T (n + 1) (register r S)
 knows_registered T n S r en ek ed k q s h = by_test (bytes_eq r.name q) refl (sym (get-put S.roots r.name (registered_root r) q) ∙ h)
   where
     by_test : (b : Bool) → bytes_eq r.name q ≡ b → cond b (Some (registered_root r)) (root_of S q) ≡ Some s → HasNumber T (n + 1) q (traits s)
@@ -223,7 +223,7 @@ opened-names workers by v line c L = by_option (L.phase c)
     by_option None = (by_copies workers c L.cells (λ (D : Cells). D.handles ≡ L.cells.handles) (λ f e. refl) (λ e. refl), by_copies workers c L.cells (λ (D : Cells). D.roots ≡ L.cells.roots) (λ f e. refl) (λ e. refl))
     by_option (Some f) = (refl, refl)
 
-opened_for-names : (workers : ℕ) (S : State) (line : Line) (os : List Operand) (L : Lowering) → SameNames L.cells (fold (opened_for workers S line) L os).cells
+opened_for-names : (workers : ℕ) (S : State) (line : Line) (os : List (Operand (List ℕ))) (L : Lowering) → SameNames L.cells (fold (opened_for workers S line) L os).cells
 opened_for-names workers S line [] L = (refl, refl)
 opened_for-names workers S line (o ∷ os) L =
     let here = by_option (reduction_of S o.name) in
@@ -234,7 +234,7 @@ opened_for-names workers S line (o ∷ os) L =
     by_option None = (refl, refl)
     by_option (Some by) = opened-names workers by (has_child_values S o) line (active_cell S L.cells o.name o.place) L
 
-pub prepared-names : (workers : ℕ) (S : State) (s : Statement) (L : Lowering) → SameNames L.cells (prepared workers S s L).cells
+pub prepared-names : (workers : ℕ) (S : State) (s : Statement (List ℕ)) (L : Lowering) → SameNames L.cells (prepared workers S s L).cells
 prepared-names workers S s L =
     let M = all_closed workers (closed_by S L.cells s.act) L in
     let same = all_closed-cells workers (closed_by S L.cells s.act) L in

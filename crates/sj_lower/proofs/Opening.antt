@@ -17,8 +17,8 @@ use Rattle.sj_core.proofs.Combining.{unit-same}
 use Rattle.sj_core.proofs.Sized.{AreSized}
 use Rattle.sj_plan.specs.Parts.{IsPlace}
 use Rattle.sj_plan.specs.Rect.{child, dims_of as rect_dims}
-use Rattle.sj_job.specs.State.{Root, State, root_of, child_rect, is_valued_child}
-use Rattle.sj_job.specs.Meaning.{child_array, child_unit, contributed_to}
+use Rattle.sj_meaning.specs.State.{Root, State, root_of, child_rect, is_valued_child}
+use Rattle.sj_meaning.specs.Meaning.{child_array, child_unit, contributed_to}
 use Rattle.sj_lower.specs.declared.phase.OpenPhase.{OpenPhase}
 use Rattle.sj_lower.specs.Cells.{Cells, cell_of, info_at, copy_at, first_copy, with_copies}
 use Rattle.sj_lower.specs.Lowering.{Lowering, with_phase, turned, begin_rows, begun, opened, extended}

@@ -1,5 +1,5 @@
 -- The operands of a task that contributes: the last one gets the contribution, and those before it are only read, scratch aside.
-use Rattle.std.proofs.Common.{◌≡◌, ◌+◌, Bool, true, false, cond, not, ◌&&◌, ◌||◌, Option, Some, None, List, [], ◌∷◌, ◌++◌, length, refl, sym, ap, ◌∙◌, arith, length-append}
+use Rattle.std.proofs.Common.{◌≡◌, ◌+◌, Bool, true, false, cond, not, ◌&&◌, ◌||◌, Option, Some, None, List, [], ◌∷◌, ◌++◌, length, refl, sym, ap, ◌∙◌, arith, length-append, ℕ}
 use Rattle.std.specs.List.{filter, list_all, list_any, AllByRecursion}
 use Rattle.std.proofs.lemmas.Bool.{false≢true, and_parts}
 use Rattle.sj_base.specs.declared.mode.Mode.{Mode}
@@ -12,21 +12,21 @@ use Rattle.sj_codelet.specs.declared.kernel.Kernel.{Kernel}
 use Rattle.sj_codelet.specs.Formal.{is_output}
 use Rattle.sj_codelet.specs.Kernel.{kernel_of, contributes_of, commutes_in, contributes_in, has_reduction}
 use Rattle.sj_core.proofs.Updating.{updates-last, contributing-commutes}
-use Rattle.sj_job.specs.Statement.{Operand, TaskLine}
-use Rattle.sj_job.specs.State.{State}
-use Rattle.sj_job.specs.Meaning.{is_written as writes, written_of}
-use Rattle.sj_job.specs.Judge.{mode_fits, modes_fit}
-use Rattle.sj_job.specs.Sound.{IsSoundTask, is_lawful, reduction_of}
+use Rattle.sj_meaning.specs.Statement.{Operand, TaskLine}
+use Rattle.sj_meaning.specs.State.{State}
+use Rattle.sj_meaning.specs.Meaning.{is_written as writes, written_of}
+use Rattle.sj_meaning.specs.Sound.{mode_fits, modes_fit}
+use Rattle.sj_meaning.specs.Sound.{IsSoundTask, is_lawful, reduction_of}
 use Rattle.sj_lower.proofs.Running.{kernel_there, same_writes}
 
 -- the operand is only read, or scratch
-abbrev pub IsRead : Operand → Type 0
+abbrev pub IsRead : Operand (List ℕ) → Type 0
 IsRead o = (is_redux o.mode ≡ false) × (is_written o.mode ≡ false) × (is_commute o.mode ≡ false)
 
 -- an operand before the last one
-pub record EndsIn (os : List Operand) (f : Formal) : Type 0 where
-  pub before : List Operand
-  pub last : Operand
+pub record EndsIn (os : List (Operand (List ℕ))) (f : Formal) : Type 0 where
+  pub before : List (Operand (List ℕ))
+  pub last : Operand (List ℕ)
   pub is : os ≡ before ++ last ∷ []
   pub fits : mode_fits f last.mode ≡ true
   pub reads : AllByRecursion IsRead before
@@ -47,7 +47,7 @@ reads_only FormalScratch Scratch e h = (refl, refl, refl)
 reads_only FormalScratch Redux e h = absurd (cc)
 reads_only FormalScratch Commute e h = absurd (cc)
 
-ends-in : (fs : List Formal) (f : Formal) (os : List Operand) → modes_fit (fs ++ f ∷ []) os ≡ true → length os ≡ length fs + 1 → list_all (λ g. not (is_output g)) fs ≡ true → EndsIn os f
+ends-in : (fs : List Formal) (f : Formal) (os : List (Operand (List ℕ))) → modes_fit (fs ++ f ∷ []) os ≡ true → length os ≡ length fs + 1 → list_all (λ g. not (is_output g)) fs ≡ true → EndsIn os f
 ends-in [] f [] e l h = absurd (omega (arith, l))
 ends-in [] f (o ∷ []) e l h = record { before = []; last = o; is = refl; fits = (and_parts (mode_fits f o.mode) true e).0; reads = tt }
 ends-in [] f (o ∷ u ∷ os) e l h = absurd (omega (arith, l))
@@ -101,9 +101,9 @@ snoc-parts (z ∷ xs) (w ∷ ys) x y e =
 -- ---- tasks
 
 -- the operand to which a task contributes is its last, and the only one that it writes
-pub record Contributes (S : State) (t : TaskLine) (kernel : Kernel) : Type 0 where
-  pub before : List Operand
-  pub last : Operand
+pub record Contributes (S : State) (t : TaskLine (List ℕ)) (kernel : Kernel) : Type 0 where
+  pub before : List (Operand (List ℕ))
+  pub last : Operand (List ℕ)
   pub is : t.operands ≡ before ++ last ∷ []
   pub reads : AllByRecursion IsRead before
   pub redux : last.mode ≡ Redux
@@ -114,7 +114,7 @@ pub record Contributes (S : State) (t : TaskLine) (kernel : Kernel) : Type 0 whe
   pub contributed : filter (λ o. is_redux o.mode) t.operands ≡ last ∷ []
 
 -- a task with a contribution, by the codelet of its line
-contributing : (has : Kernel → Bool) (S : State) (t : TaskLine) (k : Kernel) → kernel_of t.codelet ≡ Some k → (os : List Operand) → list_all (is_lawful has S t.codelet) os ≡ true → list_any (λ o. is_redux o.mode) os ≡ true → (by : Reduction) × (contributes_of k by ≡ true)
+contributing : (has : Kernel → Bool) (S : State) (t : TaskLine (List ℕ)) (k : Kernel) → kernel_of t.codelet ≡ Some k → (os : List (Operand (List ℕ))) → list_all (is_lawful has S t.codelet) os ≡ true → list_any (λ o. is_redux o.mode) os ≡ true → (by : Reduction) × (contributes_of k by ≡ true)
 contributing has S t k e [] h any = absurd (false≢true any)
 contributing has S t k e (o ∷ os) h any =
     let a = and_parts (is_lawful has S t.codelet o) (list_all (is_lawful has S t.codelet) os) h in
@@ -147,7 +147,7 @@ is-redux Scratch e = absurd (false≢true e)
 is-redux Redux e = refl
 is-redux Commute e = absurd (false≢true e)
 
-pub contributes-there : (has : Kernel → Bool) (S : State) (t : TaskLine) (s : IsSoundTask has S t) → list_any (λ o. is_redux o.mode) t.operands ≡ true → Contributes S t (kernel_there has S t s).call.kernel
+pub contributes-there : (has : Kernel → Bool) (S : State) (t : TaskLine (List ℕ)) (s : IsSoundTask has S t) → list_any (λ o. is_redux o.mode) t.operands ≡ true → Contributes S t (kernel_there has S t s).call.kernel
 contributes-there has S t s any =
     let kernel = kernel_there has S t s in
     let k = kernel.call.kernel in
@@ -172,7 +172,7 @@ contributes-there has S t s any =
       contributed = ap (filter (λ o. is_redux o.mode)) e.is ∙ filter-none (λ o. is_redux o.mode) e.before e.last none redux;
     }
   where
-    its_reduction : (k : Kernel) → kernel_of t.codelet ≡ Some k → (o : Operand) → is_redux o.mode ≡ true → is_lawful has S t.codelet o ≡ true → (by : Reduction) × (reduction_of S o.name ≡ Some by) × (contributes_of k by ≡ true)
+    its_reduction : (k : Kernel) → kernel_of t.codelet ≡ Some k → (o : Operand (List ℕ)) → is_redux o.mode ≡ true → is_lawful has S t.codelet o ≡ true → (by : Reduction) × (reduction_of S o.name ≡ Some by) × (contributes_of k by ≡ true)
     its_reduction k e o redux law =
         let both = and_parts (not (is_commute o.mode) || commutes_in has t.codelet) (not (is_redux o.mode) || contributing_to (reduction_of S o.name)) law in
         by_option (reduction_of S o.name) refl (sym (ap (λ b. not b || contributing_to (reduction_of S o.name)) redux) ∙ both.1)

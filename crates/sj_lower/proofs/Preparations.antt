@@ -9,8 +9,8 @@ use Rattle.sj_base.specs.declared.ids.Line.{Line}
 use Rattle.sj_base.specs.declared.mode.Reduction.{Reduction}
 use Rattle.sj_base.specs.declared.program.CellInfo.{CellInfo}
 use Rattle.sj_base.specs.declared.program.Lowered.{Lowered}
-use Rattle.sj_job.specs.State.{State}
-use Rattle.sj_job.specs.Table.{Table, a_root, name_of}
+use Rattle.sj_meaning.specs.State.{State}
+use Rattle.sj_meaning.specs.Table.{Table, a_root, name_of}
 use Rattle.sj_lower.specs.declared.layout.Layout.{Layout}
 use Rattle.sj_lower.specs.declared.lower.Progress.{Progress}
 use Rattle.sj_lower.specs.declared.lowerer.Active.{Active}

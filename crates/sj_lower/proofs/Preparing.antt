@@ -7,8 +7,8 @@ use Rattle.indexmap.specs.IndexMap.{get}
 use Rattle.sj_base.specs.declared.ids.Cell.{Cell}
 use Rattle.sj_base.specs.declared.ids.Line.{Line}
 use Rattle.sj_base.specs.declared.program.Lowered.{Lowered}
-use Rattle.sj_job.specs.State.{State}
-use Rattle.sj_job.specs.Table.{Table}
+use Rattle.sj_meaning.specs.State.{State}
+use Rattle.sj_meaning.specs.Table.{Table}
 use Rattle.sj_lower.specs.declared.lower.Progress.{Progress}
 use Rattle.sj_lower.specs.declared.phase.OpenPhase.{OpenPhase}
 use Rattle.sj_lower.specs.Cells.{info_at, copy_at}

@@ -20,9 +20,9 @@ use Rattle.sj_codelet.specs.Kernel.{kernel_of}
 use Rattle.sj_core.specs.Operands.{copy_of}
 use Rattle.sj_core.specs.Program.{no_cell, no_task, cell_info, task_of}
 use Rattle.sj_core.specs.Proper.{Proper, NamesCells, IsCopyOf, IsPlain, Fits, IsUnaliased, HasValueBefore, ReadsValues, HasPhases, HasDeliveries, IsWithinLimits, task_number}
-use Rattle.sj_job.specs.Act.{Statement}
-use Rattle.sj_job.specs.Meaning.{printed}
-use Rattle.sj_job.specs.Table.{Table}
+use Rattle.sj_meaning.specs.Act.{Statement}
+use Rattle.sj_meaning.specs.Meaning.{printed}
+use Rattle.sj_meaning.specs.Table.{Table}
 use Rattle.sj_lower.specs.Cells.{Cells, info_at, copy_info}
 use Rattle.sj_lower.specs.Delivering.{DeliversPrinted, NamesDeliverTasks, DeliversInOrder}
 use Rattle.sj_lower.proofs.Combined.{IsTrusted}
@@ -34,7 +34,7 @@ use Rattle.sj_lower.proofs.Logging.{Logged, has-phases}
 use Rattle.sj_lower.proofs.Lowered.{IsWhole}
 use Rattle.sj_lower.proofs.Owning.{first-of}
 
-module _ (T : Table) (p : Program) (ss : List Statement) (w : IsWhole T p ss) where
+module _ (T : Table) (p : Program) (ss : List (Statement (List ℕ))) (w : IsWhole T p ss) where
   abbrev C : Cells
   C = w.lowering.cells
 

@@ -10,12 +10,12 @@ use Rattle.sj_base.specs.declared.mode.Reduction.{Reduction}
 use Rattle.sj_plan.specs.declared.parts.Parts.{Parts}
 use Rattle.sj_plan.specs.Parts.{IsPlace, places}
 use Rattle.sj_plan.proofs.Lists.{pushed_more}
-use Rattle.sj_job.specs.declared.job.Act.{Act}
-use Rattle.sj_job.specs.declared.job.Act.TheVariants as kept
-use Rattle.sj_job.specs.declared.job.Operand.{Operand}
-use Rattle.sj_job.specs.declared.job.TaskLine.{TaskLine}
-use Rattle.sj_job.specs.State.{State}
-use Rattle.sj_job.specs.Table.{Table}
+use Rattle.sj_meaning.specs.declared.job.Act.{Act}
+use Rattle.sj_meaning.specs.declared.job.Act.TheVariants as kept
+use Rattle.sj_meaning.specs.declared.job.Operand.{Operand}
+use Rattle.sj_meaning.specs.declared.job.TaskLine.{TaskLine}
+use Rattle.sj_meaning.specs.State.{State}
+use Rattle.sj_meaning.specs.Table.{Table}
 use Rattle.sj_job.specs.Track.{children_count, is_set}
 use Rattle.sj_lower.specs.declared.lower.LowerRefusal.{LowerRefusal}
 use Rattle.sj_lower.specs.declared.lower.LowerRefusal.TheVariants.{TooManyCells, TooManyTasks, OutOfMemory}

@@ -11,18 +11,18 @@ use Rattle.sj_base.specs.Array.{Array}
 use Rattle.sj_codelet.specs.Kernel.{out}
 use Rattle.sj_plan.specs.declared.parts.Parts.{Parts}
 use Rattle.sj_plan.specs.Parts.{IsPlace}
-use Rattle.sj_job.specs.declared.job.Act.TheVariants as kept
-use Rattle.sj_job.specs.declared.job.Operand.{Operand as KeptOperand}
-use Rattle.sj_job.specs.declared.job.TaskLine.{TaskLine as KeptTask}
-use Rattle.sj_job.specs.Statement.{Operand}
-use Rattle.sj_job.specs.State.{Root, State, root_of, is_child}
-use Rattle.sj_job.specs.Meaning.{is_written, operand_array, run_task, written_of, with_child, put, put_all}
-use Rattle.sj_job.specs.Sound.{has_child}
-use Rattle.sj_job.specs.Table.{Table, AreDistinct, name_of}
+use Rattle.sj_meaning.specs.declared.job.Act.TheVariants as kept
+use Rattle.sj_meaning.specs.declared.job.Operand.{Operand as KeptOperand}
+use Rattle.sj_meaning.specs.declared.job.TaskLine.{TaskLine as KeptTask}
+use Rattle.sj_meaning.specs.Statement.{Operand}
+use Rattle.sj_meaning.specs.State.{Root, State, root_of, is_child}
+use Rattle.sj_meaning.specs.Meaning.{is_written, operand_array, run_task, written_of, with_child, put, put_all}
+use Rattle.sj_meaning.specs.Sound.{has_child}
+use Rattle.sj_meaning.specs.Table.{Table, AreDistinct, name_of}
 use Rattle.sj_job.specs.Track.{children_count, written}
-use Rattle.sj_job.specs.View.{operand_seen, task_seen}
+use Rattle.sj_meaning.specs.View.{operand_seen, task_seen}
 use Rattle.sj_job.proofs.Children.{tracks-written}
-use Rattle.sj_job.proofs.Giving.{gives_all}
+use Rattle.sj_meaning.proofs.Giving.{gives_all}
 use Rattle.sj_lower.specs.declared.lowerer.Active.{Active}
 use Rattle.sj_lower.specs.declared.lowerer.Lowerer.{Lowerer}
 use Rattle.sj_lower.specs.Cells.{Cells}
@@ -30,7 +30,7 @@ use Rattle.sj_lower.specs.Limits.{most}
 use Rattle.sj_lower.specs.Lowering.{Lowering}
 use Rattle.sj_lower.specs.Seen.{no_active, active_at, AreActive, CanPass, Does, AreIn, access_by, after_write, after_writes}
 use Rattle.sj_lower.proofs.Following.{PassesTo, can-pass, changed-actives, accesses_same, lowered_task, same_phases, seen-children}
-use Rattle.sj_lower.proofs.Holding.{root-change}
+use Rattle.sj_meaning.proofs.Finding.{root-change}
 use Rattle.sj_lower.proofs.Laid.{same_name}
 use Rattle.sj_lower.proofs.Running.{child_there}
 
@@ -62,14 +62,14 @@ abbrev child_by : ℕ × ℕ → Option Root → Bool
 child_by place o = elim o as (λ _. Bool) [ None ↦ false | Some r ↦ is_child r.parts place ]
 
 -- children stay children
-has-kept : (S : State) (o p : Operand) (x : Array) (r : Root) → root_of S o.name ≡ Some r → has_child S p ≡ true → has_child (put o x S) p ≡ true
+has-kept : (S : State) (o p : Operand (List ℕ)) (x : Array) (r : Root) → root_of S o.name ≡ Some r → has_child S p ≡ true → has_child (put o x S) p ≡ true
 has-kept S o p x r e h = ap (child_by p.place) (root-change (with_child o.place x) o.name S r p.name e) ∙ by_test (bytes_eq o.name p.name) refl
   where
     by_test : (b : Bool) → bytes_eq o.name p.name ≡ b → child_by p.place (cond b (Some (with_child o.place x r)) (root_of S p.name)) ≡ true
     by_test true t = sym (ap (child_by p.place) (ap (root_of S) (sym (same_name o.name p.name t)) ∙ e)) ∙ h
     by_test false t = h
 
-all-kept : (T : Table) (S : State) (o : Operand) (x : Array) (r : Root) (os : List KeptOperand) → root_of S o.name ≡ Some r → AllByRecursion (λ (p : KeptOperand). has_child S (operand_seen T p) ≡ true) os → AllByRecursion (λ (p : KeptOperand). has_child (put o x S) (operand_seen T p) ≡ true) os
+all-kept : (T : Table) (S : State) (o : Operand (List ℕ)) (x : Array) (r : Root) (os : List KeptOperand) → root_of S o.name ≡ Some r → AllByRecursion (λ (p : KeptOperand). has_child S (operand_seen T p) ≡ true) os → AllByRecursion (λ (p : KeptOperand). has_child (put o x S) (operand_seen T p) ≡ true) os
 all-kept T S o x r [] e h = tt
 all-kept T S o x r (p ∷ os) e h = (has-kept S o (operand_seen T p) x r e h.0, all-kept T S o x r os e h.1)
 
@@ -86,7 +86,7 @@ write-follows T C as' S o x g d few lt h =
     (record { dims = a.dims; tracks = tracks-written o.place x (active_at as' o.root.0).tracked t.root a.tracks t.placed; reduction = a.reduction; handle = a.handle; named = a.named; taken = a.taken; room = a.room })
     (put (operand_seen T o) x S) (λ q. root-change f (name_of T o.root) S t.root q t.is_root)
 
-abbrev seen_of : Table → List KeptOperand → List Operand
+abbrev seen_of : Table → List KeptOperand → List (Operand (List ℕ))
 seen_of T os = written_of (map (operand_seen T) os)
 
 -- where there is an array for each written operand

@@ -24,15 +24,15 @@ use Rattle.sj_plan.specs.Parts.{IsPlace, places}
 use Rattle.sj_plan.specs.Paste.{pastes_of, pastes_to, is_first, IsBetween}
 use Rattle.sj_plan.specs.Rect.{child}
 use Rattle.sj_plan.proofs.Lists.{each-map, each-of, each-places}
-use Rattle.sj_job.specs.declared.job.Init.{Init}
-use Rattle.sj_job.specs.declared.job.Init.TheVariants.{Values, Fill, Nothing}
-use Rattle.sj_job.specs.Statement.{Operand, Register}
-use Rattle.sj_job.specs.Sound.{has_child}
-use Rattle.sj_job.specs.Act.{Act, Statement}
-use Rattle.sj_job.specs.Act.{Register as Registers, Plan as Plans, Redux as Reduces, Task as Tasks, Print as Prints, Invalidate as Invalidates, Unregister as Unregisters}
-use Rattle.sj_job.specs.State.{Root, State, root_of, is_valued}
-use Rattle.sj_job.specs.Meaning.{Printed, array_of, registered_root, with_parts, apply, found_by, prints}
-use Rattle.sj_job.specs.Table.{Table, info_of, undivided}
+use Rattle.sj_meaning.specs.declared.job.Init.{Init}
+use Rattle.sj_meaning.specs.declared.job.Init.TheVariants.{Values, Fill, Nothing}
+use Rattle.sj_meaning.specs.Statement.{Operand, Register}
+use Rattle.sj_meaning.specs.Sound.{has_child}
+use Rattle.sj_meaning.specs.Act.{Act, Statement}
+use Rattle.sj_meaning.specs.Act.{Register as Registers, Plan as Plans, Redux as Reduces, Task as Tasks, Print as Prints, Invalidate as Invalidates, Unregister as Unregisters}
+use Rattle.sj_meaning.specs.State.{Root, State, root_of, is_valued}
+use Rattle.sj_meaning.specs.Meaning.{Printed, array_of, registered_root, with_parts, apply, found_by, prints}
+use Rattle.sj_meaning.specs.Table.{Table, info_of, undivided}
 use Rattle.sj_lower.specs.Cells.{Cells, Handle, same_parts, cell_of, take}
 use Rattle.sj_lower.specs.Rows.{an_access, load_row, fill_row, paste_mode, paste_row, deliver_row}
 use Rattle.sj_lower.specs.Lowering.{Lowering, cells_after, load_rows, parts_in, access_of, is_idle, plan_rows, deliver_rows, a_delivery, print_deliveries, rows_of, add_own, lower_one}
@@ -40,7 +40,8 @@ use Rattle.sj_lower.specs.Delivering.{printed_as}
 use Rattle.sj_lower.proofs.Contents.{contents_before}
 use Rattle.sj_lower.proofs.Elements.{valued-child}
 use Rattle.sj_lower.proofs.Folding.{Stand}
-use Rattle.sj_lower.proofs.Holding.{HasRoot, HasCells, differs, cell-dims, get-put, root-change}
+use Rattle.sj_meaning.proofs.Finding.{get-put, root-change}
+use Rattle.sj_lower.proofs.Holding.{HasRoot, HasCells, differs, cell-dims}
 use Rattle.sj_lower.proofs.Laid.{AreLaid, IsTaken, taken-once, take-keeps, bytes_eq-itself, cell-inside, cells-apart}
 use Rattle.sj_lower.proofs.Pasting.{rows_to, rows-by_child, pastes-between}
 use Rattle.sj_lower.proofs.Places.{parts-itself, length-places}
@@ -61,7 +62,7 @@ use Rattle.sj_lower.proofs.Delivered.{AreDelivered, NoneDelivers, deliveries_by,
 cell_below : (p : Program) (C : Cells) (q : List ℕ) (d : Dims) (s : Parts) (f : ℕ) (place : ℕ × ℕ) → HasCells p C → AreLaid C → IsTaken C q d s f → IsPlace s place → (cell_of C q s place).0 < length p.cells
 cell_below p C q d s f place cells laid t h = omega (arith, cell-inside C q d s f place laid t h, cells.longer)
 
-loads_good : (p : Program) (C : Cells) (r : Register) (line : Line) (n f : ℕ) (i : Init) → HasCells p C → AreLaid C → IsTaken C r.name r.dims r.parts f → AreGood p n (load_rows i r.dims r.parts (cell_of C r.name r.parts) line)
+loads_good : (p : Program) (C : Cells) (r : Register (List ℕ)) (line : Line) (n f : ℕ) (i : Init) → HasCells p C → AreLaid C → IsTaken C r.name r.dims r.parts f → AreGood p n (load_rows i r.dims r.parts (cell_of C r.name r.parts) line)
 loads_good p C r line n f (Values xs) cells laid t =
     let row = λ (place : ℕ × ℕ). load_row xs r.dims (child r.dims r.parts place) (cell_of C r.name r.parts place) line in
     good-all p n (each_of row (places r.parts)) (each-map (IsGood p n) row (places r.parts) (each-places (λ place. IsGood p n (row place)) r.parts (λ place h.
@@ -119,13 +120,13 @@ there_itself : (S : State) (q : List ℕ) (new : Root) (o : Option Root) → o �
 there_itself S q new o e = e ∙ ap (λ b. cond b (Some new) (root_of S q)) (bytes_eq-itself q)
 
 -- the new root of a registration has taken its plan
-registered-taken : (p : Program) (L : Lowering) (S : State) (line : Line) (r : Register) (after : Agrees p (add_own S (record { line = line; act = Registers r }) L) (apply (Registers r) S)) → HasRoot p (cells_after (Registers r) L.cells) L.phase (length (add_own S (record { line = line; act = Registers r }) L).tasks) (contents_before p (length (add_own S (record { line = line; act = Registers r }) L).tasks)) r.name (registered_root r)
+registered-taken : (p : Program) (L : Lowering) (S : State) (line : Line) (r : Register (List ℕ)) (after : Agrees p (add_own S (record { line = line; act = Registers r }) L) (apply (Registers r) S)) → HasRoot p (cells_after (Registers r) L.cells) L.phase (length (add_own S (record { line = line; act = Registers r }) L).tasks) (contents_before p (length (add_own S (record { line = line; act = Registers r }) L).tasks)) r.name (registered_root r)
 registered-taken p L S line r after = after.roots r.name (registered_root r) (there_itself S r.name (registered_root r) _ (get-put S.roots r.name (registered_root r) r.name))
 
 planned-taken : (p : Program) (L : Lowering) (S : State) (line : Line) (name : List ℕ) (s : Parts) (r : Root) (e : root_of S name ≡ Some r) (after : Agrees p (add_own S (record { line = line; act = Plans name s }) L) (apply (Plans name s) S)) → (f : ℕ) × IsTaken (take name s L.cells) name r.dims s f
 planned-taken p L S line name s r e after = let h = after.roots name (with_parts s r) (there_itself S name (with_parts s r) _ (root-change (with_parts s) name S r name e)) in (h.first, h.taken)
 
-rows_good : (has : Kernel → Bool) (p : Program) (L : Lowering) (S : State) (line : Line) (a : Act) → Begins p (add_own S (record { line = line; act = a }) L) → CanBe has S a → IsPrepared L S a → Agrees p L S → Agrees p (add_own S (record { line = line; act = a }) L) (apply a S)
+rows_good : (has : Kernel → Bool) (p : Program) (L : Lowering) (S : State) (line : Line) (a : Act (List ℕ)) → Begins p (add_own S (record { line = line; act = a }) L) → CanBe has S a → IsPrepared L S a → Agrees p L S → Agrees p (add_own S (record { line = line; act = a }) L) (apply a S)
     → AreGood p (length L.tasks) (rows_of S (cells_after a L.cells) line a)
 rows_good has p L S line (Registers r) b can ready g after =
     let h = registered-taken p L S line r after in
@@ -148,7 +149,7 @@ rows_good has p L S line (Unregisters name) b can ready g after = tt
 
 -- ---- tasks that don't deliver
 
-loads_beside : (r : Register) (C : Cells) (line : Line) (i : Init) → NoneDelivers (load_rows i r.dims r.parts (cell_of C r.name r.parts) line)
+loads_beside : (r : Register (List ℕ)) (C : Cells) (line : Line) (i : Init) → NoneDelivers (load_rows i r.dims r.parts (cell_of C r.name r.parts) line)
 loads_beside r C line (Values xs) =
     let row = λ (place : ℕ × ℕ). load_row xs r.dims (child r.dims r.parts place) (cell_of C r.name r.parts place) line in
     each-map (λ (l : Lowered). kernel_of l.codelet ≡ Some Deliver → ⊥) row (places r.parts) (each-of (λ place. kernel_of (row place).codelet ≡ Some Deliver → ⊥) (λ place e. absurd (cc)) (places r.parts))
@@ -177,7 +178,7 @@ plans_beside S C name s line = by_root (root_of S name)
 -- ---- one statement
 
 -- the handle of a name that is printed has the number under which the table knows the name
-abbrev pub NamesAct : Table → State → Cells → Act → Type 0
+abbrev pub NamesAct : Table → State → Cells → Act (List ℕ) → Type 0
 NamesAct T S C (Registers r) = Unit {0}
 NamesAct T S C (Plans name s) = Unit {0}
 NamesAct T S C (Reduces name by) = Unit {0}
@@ -186,7 +187,7 @@ NamesAct T S C (Prints name) = (h : Handle) (r : Root) → C.handles name ≡ So
 NamesAct T S C (Invalidates name) = Unit {0}
 NamesAct T S C (Unregisters name) = Unit {0}
 
-abbrev pub NamesAll : ℕ → Table → State → Lowering → List Statement → Type 0
+abbrev pub NamesAll : ℕ → Table → State → Lowering → List (Statement (List ℕ)) → Type 0
 NamesAll workers T S L [] = Unit {0}
 NamesAll workers T S L (s ∷ ss) = NamesAct T S L.cells s.act × NamesAll workers T (apply s.act S) (lower_one workers S s L) ss
 
@@ -203,7 +204,7 @@ none_more : {X : Type 0} (xs ys : List X) → ys ≡ [] → xs ++ ys ≡ xs
 none_more xs ys e = ap (λ zs. xs ++ zs) e ∙ append-nil xs
 
 -- what a statement finds: the phases that it closes are closed
-abbrev pub IsReady : Lowering → State → Act → Type 0
+abbrev pub IsReady : Lowering → State → Act (List ℕ) → Type 0
 IsReady L S (Registers r) = Unit {0}
 IsReady L S (Plans name s) = IsShutBy L S name s
 IsReady L S (Reduces name by) = Unit {0}
@@ -212,7 +213,7 @@ IsReady L S (Prints name) = IsShut L S name
 IsReady L S (Invalidates name) = IsShut L S name
 IsReady L S (Unregisters name) = IsShut L S name
 
-prepared-of : (L : Lowering) (S : State) (a : Act) → IsReady L S a → IsPrepared L S a
+prepared-of : (L : Lowering) (S : State) (a : Act (List ℕ)) → IsReady L S a → IsPrepared L S a
 prepared-of L S (Registers r) h = tt
 prepared-of L S (Plans name s) h = h
 prepared-of L S (Reduces name by) h = tt
@@ -221,26 +222,26 @@ prepared-of L S (Prints name) h = tt
 prepared-of L S (Invalidates name) h = h
 prepared-of L S (Unregisters name) h = h
 
-delivered_act : (has : Kernel → Bool) (T : Table) (p : Program) (L : Lowering) (S : State) (line : Line) (a : Act) (out : List Printed) → Begins p (add_own S (record { line = line; act = a }) L) → CanBe has S a → NamesAct T S L.cells a → IsReady L S a → Agrees p L S → AreDelivered T p L out
+delivered_act : (has : Kernel → Bool) (T : Table) (p : Program) (L : Lowering) (S : State) (line : Line) (a : Act (List ℕ)) (out : List Printed) → Begins p (add_own S (record { line = line; act = a }) L) → CanBe has S a → NamesAct T S L.cells a → IsReady L S a → Agrees p L S → AreDelivered T p L out
     → AreDelivered T p (add_own S (record { line = line; act = a }) L) (out ++ prints a S)
 delivered_act has T p L S line (Registers r) out b can named ready g d =
-    let s : Statement = record { line = line; act = Registers r } in
+    let s : Statement (List ℕ) = record { line = line; act = Registers r } in
     subst (λ (xs : List Printed). AreDelivered T p (add_own S s L) xs) (sym (append-nil out))
     (delivered_beside T p L (add_own S s L) out (rows_of S (cells_after (Registers r) L.cells) line (Registers r)) (append-nil L.deliveries) refl refl (stands-own p S s L b) (loads_beside r (cells_after (Registers r) L.cells) line r.init) d)
 delivered_act has T p L S line (Plans name parts) out b can named ready g d =
-    let s : Statement = record { line = line; act = Plans name parts } in
+    let s : Statement (List ℕ) = record { line = line; act = Plans name parts } in
     subst (λ (xs : List Printed). AreDelivered T p (add_own S s L) xs) (sym (append-nil out))
     (delivered_beside T p L (add_own S s L) out (rows_of S (cells_after (Plans name parts) L.cells) line (Plans name parts)) (append-nil L.deliveries) refl refl (stands-own p S s L b) (plans_beside S (cells_after (Plans name parts) L.cells) name parts line) d)
 delivered_act has T p L S line (Reduces name by) out b can named ready g d =
-    let s : Statement = record { line = line; act = Reduces name by } in
+    let s : Statement (List ℕ) = record { line = line; act = Reduces name by } in
     subst (λ (xs : List Printed). AreDelivered T p (add_own S s L) xs) (sym (append-nil out))
     (delivered_beside T p L (add_own S s L) out [] (append-nil L.deliveries) refl refl tt tt d)
 delivered_act has T p L S line (Tasks t) out b can named ready g d =
-    let s : Statement = record { line = line; act = Tasks t } in
+    let s : Statement (List ℕ) = record { line = line; act = Tasks t } in
     subst (λ (xs : List Printed). AreDelivered T p (add_own S s L) xs) (sym (append-nil out))
     (delivered_beside T p L (add_own S s L) out (rows_of S L.cells line (Tasks t)) (append-nil L.deliveries) refl refl (stands-own p S s L b) (can.nameable, tt) d)
 delivered_act has T p L S line (Prints name) out b can named ready g d =
-    let s : Statement = record { line = line; act = Prints name } in
+    let s : Statement (List ℕ) = record { line = line; act = Prints name } in
     let v = valued_there (root_of S name) can.sound in
     let r = v.0 in
     let h = g.roots name r v.1 in
@@ -255,11 +256,11 @@ delivered_act has T p L S line (Prints name) out b can named ready g d =
     (ap (λ ds. L.deliveries ++ ds) (print_deliveries-are S L.cells name (length L.tasks) L.prints handle r h.taken.is v.1 h.taken.dims)) refl
     (length-append L.tasks (deliver_rows S L.cells name line) ∙ ap (λ n. length L.tasks + n) many) d)
 delivered_act has T p L S line (Invalidates name) out b can named ready g d =
-    let s : Statement = record { line = line; act = Invalidates name } in
+    let s : Statement (List ℕ) = record { line = line; act = Invalidates name } in
     subst (λ (xs : List Printed). AreDelivered T p (add_own S s L) xs) (sym (append-nil out))
     (delivered_beside T p L (add_own S s L) out [] (append-nil L.deliveries) refl refl tt tt d)
 delivered_act has T p L S line (Unregisters name) out b can named ready g d =
-    let s : Statement = record { line = line; act = Unregisters name } in
+    let s : Statement (List ℕ) = record { line = line; act = Unregisters name } in
     subst (λ (xs : List Printed). AreDelivered T p (add_own S s L) xs) (sym (append-nil out))
     (delivered_beside T p L (add_own S s L) out [] (append-nil L.deliveries) refl refl tt tt d)
 
@@ -278,7 +279,7 @@ away-two p phases a b h k = All-cons (IsAway p phases) a (b ∷ []) h (away-one 
 child-away : (p : Program) (C : Cells) (phases : Phases) (m : Mode) (q : List ℕ) (d : Dims) (s : Parts) (f : ℕ) (place : ℕ × ℕ) → HasCells p C → AreLaid C → HaveCopies p.workers C → IsTaken C q d s f → IsPlace s place → is_redux m ≡ false → (is_data m ≡ true → phases (cell_of C q s place) ≡ None) → IsAway p phases (an_access m (cell_of C q s place))
 child-away p C phases m q d s f place cells laid copies t at direct shut = record { plain = plain-child p C cells copies q d s f place laid t at; direct = direct; closed = shut }
 
-loads_away : (p : Program) (C : Cells) (phases : Phases) (r : Register) (line : Line) (f : ℕ) (i : Init) → HasCells p C → AreLaid C → HaveCopies p.workers C → IsTaken C r.name r.dims r.parts f → ((place : ℕ × ℕ) → IsPlace r.parts place → phases (cell_of C r.name r.parts place) ≡ None)
+loads_away : (p : Program) (C : Cells) (phases : Phases) (r : Register (List ℕ)) (line : Line) (f : ℕ) (i : Init) → HasCells p C → AreLaid C → HaveCopies p.workers C → IsTaken C r.name r.dims r.parts f → ((place : ℕ × ℕ) → IsPlace r.parts place → phases (cell_of C r.name r.parts place) ≡ None)
     → AllByRecursion (AreAway p phases) (load_rows i r.dims r.parts (cell_of C r.name r.parts) line)
 loads_away p C phases r line f (Values xs) cells laid copies t shut =
     let row = λ (place : ℕ × ℕ). load_row xs r.dims (child r.dims r.parts place) (cell_of C r.name r.parts place) line in
@@ -332,7 +333,7 @@ prints_away p L S name r line e b g shut =
     subst (AllByRecursion (AreAway p L.phase)) (sym (deliver_rows-are S L.cells name line r e))
     (away-map p L.phase row (places r.parts) (each-places (λ place. AreAway p L.phase (row place)) r.parts (λ place at. away-one p L.phase (an_access R (cell_of L.cells name r.parts place)) (child-away p L.cells L.phase R name r.dims r.parts h.first place b.cells g.laid g.theirs.copies h.taken at refl (λ z. shut r place e at)))))
 
-pub operand-away : (p : Program) (L : Lowering) (S : State) (o : Operand) → Begins p L → Agrees p L S → has_child S o ≡ true → is_redux o.mode ≡ false → IsClosed L.phase S L.cells o → IsAway p L.phase (access_of S L.cells o)
+pub operand-away : (p : Program) (L : Lowering) (S : State) (o : Operand (List ℕ)) → Begins p L → Agrees p L S → has_child S o ≡ true → is_redux o.mode ≡ false → IsClosed L.phase S L.cells o → IsAway p L.phase (access_of S L.cells o)
 operand-away p L S o b g placed direct closed =
     let t = child_there S o placed in
     let h = g.roots o.name t.root t.is_root in
@@ -340,7 +341,7 @@ operand-away p L S o b g placed direct closed =
     subst (λ (c : Cell). IsAway p L.phase (an_access o.mode c)) (sym cell)
     (child-away p L.cells L.phase o.mode o.name t.root.dims t.root.parts h.first o.place b.cells g.laid g.theirs.copies h.taken t.placed direct (λ e. ap L.phase (sym cell) ∙ closed e))
 
-tasks_away : (p : Program) (L : Lowering) (S : State) (os : List Operand) → Begins p L → Agrees p L S → list_all (has_child S) os ≡ true → list_all (λ o. is_direct o.mode) os ≡ true → AllByRecursion (IsClosed L.phase S L.cells) os → All (IsAway p L.phase) (each_of (access_of S L.cells) os)
+tasks_away : (p : Program) (L : Lowering) (S : State) (os : List (Operand (List ℕ))) → Begins p L → Agrees p L S → list_all (has_child S) os ≡ true → list_all (λ o. is_direct o.mode) os ≡ true → AllByRecursion (IsClosed L.phase S L.cells) os → All (IsAway p L.phase) (each_of (access_of S L.cells) os)
 tasks_away p L S [] b g placed direct closed = All-nil (IsAway p L.phase)
 tasks_away p L S (o ∷ os) b g placed direct closed =
     let x = and_parts (has_child S o) (list_all (has_child S) os) placed in
@@ -351,7 +352,7 @@ tasks_away p L S (o ∷ os) b g placed direct closed =
     unnot true e = absurd (false≢true e)
     unnot false e = refl
 
-rows_away : (has : Kernel → Bool) (p : Program) (L : Lowering) (S : State) (line : Line) (a : Act) → Begins p (add_own S (record { line = line; act = a }) L) → CanBe has S a → IsReady L S a → Agrees p L S → Agrees p (add_own S (record { line = line; act = a }) L) (apply a S)
+rows_away : (has : Kernel → Bool) (p : Program) (L : Lowering) (S : State) (line : Line) (a : Act (List ℕ)) → Begins p (add_own S (record { line = line; act = a }) L) → CanBe has S a → IsReady L S a → Agrees p L S → Agrees p (add_own S (record { line = line; act = a }) L) (apply a S)
     → AllByRecursion (AreAway p L.phase) (rows_of S (cells_after a L.cells) line a)
 rows_away has p L S line (Registers r) b can ready g after =
     let h = registered-taken p L S line r after in
@@ -378,7 +379,7 @@ rows_away has p L S line (Unregisters name) b can ready g after = tt
 
 -- ---- one statement that contributes to nothing
 
-pub fine_own : (has : Kernel → Bool) (T : Table) (p : Program) (L : Lowering) (S : State) (line : Line) (a : Act) (out : List Printed) → Begins p (add_own S (record { line = line; act = a }) L) → CanBe has S a → NamesAct T S L.cells a → IsReady L S a → IsFine T p L S out
+pub fine_own : (has : Kernel → Bool) (T : Table) (p : Program) (L : Lowering) (S : State) (line : Line) (a : Act (List ℕ)) (out : List Printed) → Begins p (add_own S (record { line = line; act = a }) L) → CanBe has S a → NamesAct T S L.cells a → IsReady L S a → IsFine T p L S out
     → IsFine T p (add_own S (record { line = line; act = a }) L) (apply a S) (out ++ prints a S)
 fine_own has T p L S line a out b can named ready f = record {
   agrees = after;

@@ -25,8 +25,8 @@ use Rattle.sj_base.specs.Window.{item, in_rect}
 use Rattle.sj_codelet.specs.Runs.{formals_in}
 use Rattle.sj_base.specs.Mode.{is_written}
 use Rattle.sj_plan.specs.Window.{IsWhole}
-use Rattle.sj_job.specs.Statement.{Operand}
-use Rattle.sj_job.specs.Judge.{mode_fits, modes_fit}
+use Rattle.sj_meaning.specs.Statement.{Operand}
+use Rattle.sj_meaning.specs.Sound.{mode_fits, modes_fit}
 use Rattle.std.proofs.lemmas.Bool.{and_parts}
 
 -- ---- modes
@@ -61,7 +61,7 @@ writes_output FormalScratch Commute e = absurd (cc)
 -- ---- new arrays
 
 -- the outputs of a codelet stand where a task's operands are written
-pub outputs-written : {X : Type 0} (f : Operand → X) (fs : List Formal) (os : List Operand) → modes_fit fs os ≡ true → length os ≡ length fs → outputs_among fs (map f os) ≡ map f (filter (λ (o : Operand). is_written o.mode) os)
+pub outputs-written : {X : Type 0} (f : Operand (List ℕ) → X) (fs : List Formal) (os : List (Operand (List ℕ))) → modes_fit fs os ≡ true → length os ≡ length fs → outputs_among fs (map f os) ≡ map f (filter (λ (o : Operand (List ℕ)). is_written o.mode) os)
 outputs-written f [] [] e l = refl
 outputs-written f [] (o ∷ os) e l = absurd (omega arith)
 outputs-written f (g ∷ fs) [] e l = absurd (omega arith)
@@ -69,7 +69,7 @@ outputs-written f (g ∷ fs) (o ∷ os) e l =
     let m = and_parts (mode_fits g o.mode) (modes_fit fs os) e in
     by_cases (is_output g) (is_written o.mode) (sym (writes_output g o.mode m.0)) (outputs-written f fs os m.1 (omega (arith, l)))
   where
-    by_cases : (b c : Bool) → b ≡ c → outputs_among fs (map f os) ≡ map f (filter (λ (o : Operand). is_written o.mode) os) → cond b (f o ∷ outputs_among fs (map f os)) (outputs_among fs (map f os)) ≡ map f (cond c (o ∷ filter (λ (o : Operand). is_written o.mode) os) (filter (λ (o : Operand). is_written o.mode) os))
+    by_cases : (b c : Bool) → b ≡ c → outputs_among fs (map f os) ≡ map f (filter (λ (o : Operand (List ℕ)). is_written o.mode) os) → cond b (f o ∷ outputs_among fs (map f os)) (outputs_among fs (map f os)) ≡ map f (cond c (o ∷ filter (λ (o : Operand (List ℕ)). is_written o.mode) os) (filter (λ (o : Operand (List ℕ)). is_written o.mode) os))
     by_cases true true e r = ap (λ xs. f o ∷ xs) r
     by_cases false false e r = r
     by_cases true false e r = absurd (cc)

@@ -12,10 +12,10 @@ use Rattle.sj_core.specs.Fold.{given}
 use Rattle.sj_plan.specs.declared.rect.Rect.{Rect}
 use Rattle.sj_plan.specs.Rect.{Within}
 use Rattle.sj_plan.specs.Window.{gathered}
-use Rattle.sj_job.specs.Act.{Statement}
-use Rattle.sj_job.specs.declared.job.Kind.{Kind}
-use Rattle.sj_job.specs.Table.{Table, name_of, info_of}
-use Rattle.sj_job.specs.Meaning.{Printed, printed}
+use Rattle.sj_meaning.specs.Act.{Statement}
+use Rattle.sj_meaning.specs.declared.job.Kind.{Kind}
+use Rattle.sj_meaning.specs.Table.{Table, name_of, info_of}
+use Rattle.sj_meaning.specs.Meaning.{Printed, printed}
 
 -- what a delivery hands over, and its rectangle of the root: from its place on, as large as it is
 abbrev pub part_of : Program → Delivery → Rect × Array
@@ -45,7 +45,7 @@ pub record IsPrinted (T : Table) (p : Program) (k : ℕ) (x : Printed) : Type 0 
   pub array : Assemble p (deliveries_for p k) x.array
 
 -- the deliveries follow the print statements: those of one stand together, and hand over what it prints
-pub record DeliversPrinted (T : Table) (p : Program) (ss : List Statement) : Type 0 where
+pub record DeliversPrinted (T : Table) (p : Program) (ss : List (Statement (List ℕ))) : Type 0 where
   pub each : (k : ℕ) (x : Printed) → slice_get (printed ss) k ≡ Some x → IsPrinted T p k x
   pub below : All (λ d. d.print < length (printed ss)) p.deliveries
   pub ascending : AllPairs (λ d e. d.print ≤ e.print) p.deliveries

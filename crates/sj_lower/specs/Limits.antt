@@ -2,9 +2,9 @@
 use Rattle.std.specs.Prelude.{ℕ, nat_lt, Option, Some, None, List, [], ◌∷◌, length, map, if◌then◌else◌}
 use Rattle.std.specs.List.{last_or}
 use Rattle.sj_base.specs.declared.ids.Line.{Line}
-use Rattle.sj_job.specs.Act.{Statement}
-use Rattle.sj_job.specs.State.{State, start}
-use Rattle.sj_job.specs.Meaning.{apply}
+use Rattle.sj_meaning.specs.Act.{Statement}
+use Rattle.sj_meaning.specs.State.{State, start}
+use Rattle.sj_meaning.specs.Meaning.{apply}
 use Rattle.sj_job.specs.declared.reason.LimitKind.{LimitKind}
 use Rattle.sj_job.specs.declared.reason.LimitKind.TheVariants.{Cells, Tasks}
 use Rattle.sj_job.specs.declared.reason.Reason.TheVariants.{Limit}
@@ -22,14 +22,14 @@ abbrev pub tasks_in : Lowering → ℕ
 tasks_in L = length L.tasks
 
 -- the line of the first statement with which there are too many of what is counted
-abbrev pub first_above : ℕ → (Lowering → ℕ) → State → Lowering → List Statement → Option Line
+abbrev pub first_above : ℕ → (Lowering → ℕ) → State → Lowering → List (Statement (List ℕ)) → Option Line
 first_above workers count S L [] = None
 first_above workers count S L (s ∷ ss) =
     if nat_lt most (count (lower_one workers S s L)) then Some s.line
     else first_above workers count (apply s.act S) (lower_one workers S s L) ss
 
 -- the line of the last statement, if what closes the open phases at the end makes too many tasks
-abbrev pub above_at_end : ℕ → List Statement → Option Line
+abbrev pub above_at_end : ℕ → List (Statement (List ℕ)) → Option Line
 above_at_end workers ss =
     if nat_lt most (tasks_in (finished workers (lower_from workers start nothing ss))) then last_or None (map (λ s. s.line) ss)
     else None
@@ -53,7 +53,7 @@ line_or None at_end = at_end
 line_or (Some line) at_end = Some line
 
 -- the limit that statements exceed, and the line that first does; tasks at the end count for the last statement
-abbrev pub late_limit : ℕ → List Statement → Option Refusal
+abbrev pub late_limit : ℕ → List (Statement (List ℕ)) → Option Refusal
 late_limit workers ss =
     late_cells (first_above workers cells_in start nothing ss)
     (late_tasks (line_or (first_above workers tasks_in start nothing ss) (above_at_end workers ss)))

@@ -19,15 +19,15 @@ use Rattle.sj_plan.specs.declared.parts.Parts.{Parts}
 use Rattle.sj_plan.specs.Parts.{places}
 use Rattle.sj_plan.specs.Paste.{pastes_of}
 use Rattle.sj_plan.specs.Rect.{child, place_of}
-use Rattle.sj_job.specs.declared.job.Init.{Init}
-use Rattle.sj_job.specs.declared.job.Init.TheVariants.{Values, Fill, Nothing}
-use Rattle.sj_job.specs.Statement.{Operand, TaskLine}
-use Rattle.sj_job.specs.Act.{Act, Statement}
-use Rattle.sj_job.specs.Act.{Register as Registers, Plan as Plans, Redux as Reduces, Task as Tasks, Print as Prints, Invalidate as Invalidates, Unregister as Unregisters}
-use Rattle.sj_job.specs.State.{Root, State, start, root_of, is_valued}
-use Rattle.sj_job.specs.Meaning.{apply}
-use Rattle.sj_job.specs.Sound.{reduction_of, has_child_values}
-use Rattle.sj_job.specs.Table.{undivided}
+use Rattle.sj_meaning.specs.declared.job.Init.{Init}
+use Rattle.sj_meaning.specs.declared.job.Init.TheVariants.{Values, Fill, Nothing}
+use Rattle.sj_meaning.specs.Statement.{Operand, TaskLine}
+use Rattle.sj_meaning.specs.Act.{Act, Statement}
+use Rattle.sj_meaning.specs.Act.{Register as Registers, Plan as Plans, Redux as Reduces, Task as Tasks, Print as Prints, Invalidate as Invalidates, Unregister as Unregisters}
+use Rattle.sj_meaning.specs.State.{Root, State, start, root_of, is_valued}
+use Rattle.sj_meaning.specs.Meaning.{apply}
+use Rattle.sj_meaning.specs.Sound.{reduction_of, has_child_values}
+use Rattle.sj_meaning.specs.Table.{undivided}
 use Rattle.sj_job.specs.Track.{number}
 use Rattle.sj_lower.specs.declared.phase.OpenPhase.{OpenPhase}
 use Rattle.sj_lower.specs.Cells.{Cells, same_parts, cell_of, take, with_root, no_cells, first_copy, with_copies}
@@ -36,7 +36,7 @@ use Rattle.sj_lower.specs.Rows.{an_access, load_row, fill_row, paste_row, delive
 -- ---- cells
 
 -- the cells after a statement: a registration and a plan line take a plan
-abbrev pub cells_after : Act → Cells → Cells
+abbrev pub cells_after : Act (List ℕ) → Cells → Cells
 cells_after (Registers r) C = take r.name r.parts (with_root r.name r.dims C)
 cells_after (Plans name p) C = take name p C
 cells_after (Reduces name by) C = C
@@ -73,17 +73,17 @@ plan_rows S C name p line = elim (root_of S name) [
 ]
 
 -- an operand as an access to its child's cell
-abbrev pub access_of : State → Cells → Operand → Access
+abbrev pub access_of : State → Cells → Operand (List ℕ) → Access
 access_of S C o = an_access o.mode (active_cell S C o.name o.place)
 
-abbrev pub task_row : State → Cells → Line → TaskLine → Lowered
+abbrev pub task_row : State → Cells → Line → TaskLine (List ℕ) → Lowered
 task_row S C line t = record { codelet = t.codelet; args = t.args; accesses = map (access_of S C) t.operands; line = line; priority = t.priority }
 
 -- each child of the active plan is handed over, row by row
 abbrev pub deliver_rows : State → Cells → List ℕ → Line → List Lowered
 deliver_rows S C name line = map (λ place. deliver_row (active_cell S C name place) line) (places (parts_in S name))
 
-abbrev pub rows_of : State → Cells → Line → Act → List Lowered
+abbrev pub rows_of : State → Cells → Line → Act (List ℕ) → List Lowered
 rows_of S C line (Registers r) = load_rows r.init r.dims r.parts (cell_of C r.name r.parts) line
 rows_of S C line (Plans name p) = plan_rows S C name p line
 rows_of S C line (Reduces name by) = []
@@ -105,7 +105,7 @@ print_deliveries S C name task print = elim (C.handles name) [
   | Some h ↦ map (a_delivery task h.root h.dims (parts_in S name) print) (places (parts_in S name))
 ]
 
-abbrev pub deliveries_of : State → Cells → ℕ → ℕ → Act → List Delivery
+abbrev pub deliveries_of : State → Cells → ℕ → ℕ → Act (List ℕ) → List Delivery
 deliveries_of S C task print (Registers r) = []
 deliveries_of S C task print (Plans name p) = []
 deliveries_of S C task print (Reduces name by) = []
@@ -115,7 +115,7 @@ deliveries_of S C task print (Invalidates name) = []
 deliveries_of S C task print (Unregisters name) = []
 
 -- how many print statements there are after a statement
-abbrev pub prints_after : Act → ℕ → ℕ
+abbrev pub prints_after : Act (List ℕ) → ℕ → ℕ
 prints_after (Registers r) n = n
 prints_after (Plans name p) n = n
 prints_after (Reduces name by) n = n
@@ -157,11 +157,11 @@ abbrev pub active_cells : State → Cells → List ℕ → List Cell
 active_cells S C name = map (active_cell S C name) (places (parts_in S name))
 
 -- the operand is an access to its child other than a contribution; a scratch buffer is none
-abbrev pub is_other_access : Operand → Bool
+abbrev pub is_other_access : Operand (List ℕ) → Bool
 is_other_access o = is_data o.mode && not (is_redux o.mode)
 
 -- the cells whose phases a statement closes, in order
-abbrev pub closed_by : State → Cells → Act → List Cell
+abbrev pub closed_by : State → Cells → Act (List ℕ) → List Cell
 closed_by S C (Registers r) = []
 closed_by S C (Plans name p) = if same_parts (parts_in S name) p then [] else active_cells S C name
 closed_by S C (Reduces name by) = []
@@ -202,14 +202,14 @@ opened workers by valued line c L = elim (L.phase c) [
 ]
 
 -- so is an operand's, if it is one
-abbrev pub opened_for : ℕ → State → Line → Lowering → Operand → Lowering
+abbrev pub opened_for : ℕ → State → Line → Lowering → Operand (List ℕ) → Lowering
 opened_for workers S line L o = elim (reduction_of S o.name) [
   | None ↦ L
   | Some by ↦ opened workers by (has_child_values S o) line (active_cell S L.cells o.name o.place) L
 ]
 
 -- the operands to which a statement contributes
-abbrev pub contributions : Act → List Operand
+abbrev pub contributions : Act (List ℕ) → List (Operand (List ℕ))
 contributions (Registers r) = []
 contributions (Plans name p) = []
 contributions (Reduces name by) = []
@@ -219,14 +219,14 @@ contributions (Invalidates name) = []
 contributions (Unregisters name) = []
 
 -- what there is before a statement's own tasks: the phases that it closes are closed, and that of its contribution is open
-abbrev pub prepared : ℕ → State → Statement → Lowering → Lowering
+abbrev pub prepared : ℕ → State → Statement (List ℕ) → Lowering → Lowering
 prepared workers S s L =
     fold (opened_for workers S s.line) (all_closed workers (closed_by S L.cells s.act) L) (contributions s.act)
 
 -- ---- statements
 
 -- what a statement's own tasks give
-abbrev pub add_own : State → Statement → Lowering → Lowering
+abbrev pub add_own : State → Statement (List ℕ) → Lowering → Lowering
 add_own S s L =
     let C = cells_after s.act L.cells in
     record {
@@ -238,11 +238,11 @@ add_own S s L =
     }
 
 -- what one statement more gives
-abbrev pub lower_one : ℕ → State → Statement → Lowering → Lowering
+abbrev pub lower_one : ℕ → State → Statement (List ℕ) → Lowering → Lowering
 lower_one workers S s L = add_own S s (prepared workers S s L)
 
 -- what statements give after others
-abbrev pub lower_from : ℕ → State → Lowering → List Statement → Lowering
+abbrev pub lower_from : ℕ → State → Lowering → List (Statement (List ℕ)) → Lowering
 lower_from workers S L [] = L
 lower_from workers S L (s ∷ ss) = lower_from workers (apply s.act S) (lower_one workers S s L) ss
 
@@ -256,5 +256,5 @@ abbrev pub program_of : ℕ → Lowering → Program
 program_of workers L = record { cells = L.cells.rows; tasks = L.tasks; deliveries = L.deliveries; workers = workers }
 
 -- what a job is lowered to
-abbrev pub lowered : List Statement → ℕ → Program
+abbrev pub lowered : List (Statement (List ℕ)) → ℕ → Program
 lowered ss workers = program_of workers (finished workers (lower_from workers start nothing ss))

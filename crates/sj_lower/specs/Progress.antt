@@ -4,18 +4,18 @@ use Rattle.sj_base.specs.declared.ids.Cell.{Cell}
 use Rattle.sj_base.specs.declared.ids.Line.{Line}
 use Rattle.sj_base.specs.Mode.{is_data, is_redux}
 use Rattle.sj_codelet.specs.declared.kernel.Kernel.{Kernel}
-use Rattle.sj_job.specs.declared.job.Act.{Act}
-use Rattle.sj_job.specs.declared.job.Act.TheVariants as kept
-use Rattle.sj_job.specs.declared.job.Operand.{Operand}
-use Rattle.sj_job.specs.declared.job.Statement.{Statement as Kept}
+use Rattle.sj_meaning.specs.declared.job.Act.{Act}
+use Rattle.sj_meaning.specs.declared.job.Act.TheVariants as kept
+use Rattle.sj_meaning.specs.declared.job.Operand.{Operand}
+use Rattle.sj_meaning.specs.declared.job.Statement.{Statement as Kept}
 use Rattle.sj_job.specs.declared.reason.LimitKind.TheVariants.{Cells, Tasks}
-use Rattle.sj_job.specs.State.{State}
-use Rattle.sj_job.specs.Meaning.{apply}
+use Rattle.sj_meaning.specs.State.{State}
+use Rattle.sj_meaning.specs.Meaning.{apply}
 use Rattle.sj_job.specs.Reading.{Refusal}
-use Rattle.sj_job.specs.Sound.{IsSoundAct}
-use Rattle.sj_job.specs.Table.{Table, AreDistinct}
+use Rattle.sj_meaning.specs.Sound.{IsSoundAct}
+use Rattle.sj_meaning.specs.Table.{Table, AreDistinct}
 use Rattle.sj_job.specs.Track.{children_count, is_set}
-use Rattle.sj_job.specs.View.{act_seen, statement_seen, count_after, IsPlaced}
+use Rattle.sj_meaning.specs.View.{act_seen, statement_seen, count_after, IsPlaced}
 use Rattle.sj_plan.specs.Parts.{IsPlace, places}
 use Rattle.sj_lower.specs.declared.lowerer.Active.{Active}
 use Rattle.sj_lower.specs.declared.lower.LowerRefusal.{LowerRefusal}

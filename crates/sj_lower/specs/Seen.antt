@@ -11,17 +11,17 @@ use Rattle.sj_plan.specs.Parts.{Fits, IsPlace}
 use Rattle.sj_plan.specs.Paste.{pastes_of}
 use Rattle.sj_base.specs.declared.tile.Dims.{Dims}
 use Rattle.sj_base.specs.declared.program.Lowered.{Lowered}
-use Rattle.sj_job.specs.declared.job.Act.{Act as Kept}
-use Rattle.sj_job.specs.declared.job.Act.TheVariants as kept
-use Rattle.sj_job.specs.declared.job.Operand.{Operand}
-use Rattle.sj_job.specs.Act.{Act}
-use Rattle.sj_job.specs.Act.{Register as Registers, Plan as Plans, Redux as Reduces, Task as Tasks, Print as Prints, Invalidate as Invalidates, Unregister as Unregisters}
-use Rattle.sj_job.specs.State.{Root, State, root_of}
-use Rattle.sj_job.specs.Meaning.{is_written, apply}
-use Rattle.sj_job.specs.Sound.{IsSoundAct}
-use Rattle.sj_job.specs.Table.{Table, AreDistinct, a_root, name_of, info_of, undivided}
+use Rattle.sj_meaning.specs.declared.job.Act.{Act as Kept}
+use Rattle.sj_meaning.specs.declared.job.Act.TheVariants as kept
+use Rattle.sj_meaning.specs.declared.job.Operand.{Operand}
+use Rattle.sj_meaning.specs.Act.{Act}
+use Rattle.sj_meaning.specs.Act.{Register as Registers, Plan as Plans, Redux as Reduces, Task as Tasks, Print as Prints, Invalidate as Invalidates, Unregister as Unregisters}
+use Rattle.sj_meaning.specs.State.{Root, State, root_of}
+use Rattle.sj_meaning.specs.Meaning.{is_written, apply}
+use Rattle.sj_meaning.specs.Sound.{IsSoundAct}
+use Rattle.sj_meaning.specs.Table.{Table, AreDistinct, a_root, name_of, info_of, undivided}
 use Rattle.sj_job.specs.Track.{Tracks, all_valued, children_count, written}
-use Rattle.sj_job.specs.View.{act_seen, count_after, IsPlaced}
+use Rattle.sj_meaning.specs.View.{act_seen, count_after, IsPlaced}
 use Rattle.sj_lower.specs.declared.layout.Taken.{Taken}
 use Rattle.sj_lower.specs.declared.layout.Layout.{Layout}
 use Rattle.sj_lower.specs.declared.lowerer.Active.{Active}
@@ -64,7 +64,7 @@ IsCut T n (kept.Invalidate r) = Unit {0}
 IsCut T n (kept.Unregister r) = Unit {0}
 
 -- how many children the plan has that an act makes active, 0 where it makes none
-abbrev pub children_after : Act → ℕ
+abbrev pub children_after : Act (List ℕ) → ℕ
 children_after (Registers r) = children_count r.parts
 children_after (Plans name p) = children_count p
 children_after (Reduces name by) = 0
@@ -74,7 +74,7 @@ children_after (Invalidates name) = 0
 children_after (Unregisters name) = 0
 
 -- the first cell of the plan that an act makes active, 0 where it makes none
-abbrev pub first_after : Act → Cells → ℕ
+abbrev pub first_after : Act (List ℕ) → Cells → ℕ
 first_after (Registers r) C = first_cell C r.name r.parts
 first_after (Plans name p) C = first_cell C name p
 first_after (Reduces name by) C = 0

@@ -2,8 +2,8 @@
 //! when it is first contributed to.
 
 ghost use Rattle.std.specs.Prelude.{◌≡◌, ◌+◌, ◌<◌, ◌≤◌, ◌++◌, length, map, replicate, vec_len, IfOk, IfSome, IfNone, OnOk};
-ghost use Rattle.sj_job.specs.Table.{Table, AreDistinct, name_of, info_of};
-ghost use Rattle.sj_job.specs.View.{IsPlaced, act_seen, count_after};
+ghost use Rattle.sj_meaning.specs.Table.{Table, AreDistinct, name_of, info_of};
+ghost use Rattle.sj_meaning.specs.View.{IsPlaced, act_seen, count_after};
 ghost use Rattle.sj_plan.specs.Parts.{Fits};
 ghost use Rattle.sj_lower.specs.Cells.{Cells, rect_cell, first_cell, first_copy, take, no_cells, with_copies};
 ghost use Rattle.sj_lower.specs.Limits.{most};
@@ -16,8 +16,8 @@ use sj_base::ids::{Cell, Root};
 use sj_base::memory::OutOfMemory;
 use sj_base::program::CellInfo;
 use sj_base::tile::Dims;
-use sj_job::job::Act;
-use sj_job::roots::Roots;
+use sj_meaning::job::Act;
+use sj_meaning::roots::Roots;
 use sj_plan::children::children;
 use sj_plan::parts::Parts;
 use sj_plan::rect::Rect;

@@ -4,9 +4,9 @@ ghost use Rattle.std.specs.Prelude.{◌≡◌, ◌+◌, ◌<◌, ◌≤◌, Bool
 ghost use Rattle.sj_codelet.specs.declared.kernel.Kernel.{Kernel};
 ghost use Rattle.sj_core.specs.Laws.{IsLawful, is_known};
 ghost use Rattle.sj_core.specs.Proper.{Proper};
-ghost use Rattle.sj_job.specs.State.{State, start};
-ghost use Rattle.sj_job.specs.Table.{Table};
-ghost use Rattle.sj_job.specs.View.{statements_of, IsNumbered};
+ghost use Rattle.sj_meaning.specs.State.{State, start};
+ghost use Rattle.sj_meaning.specs.Table.{Table};
+ghost use Rattle.sj_meaning.specs.View.{statements_of, IsNumbered};
 ghost use Rattle.sj_lower.specs.Delivering.{DeliversPrinted, NamesDeliverTasks, DeliversInOrder};
 ghost use Rattle.sj_lower.specs.Job.{IsJob, IsJobIn};
 ghost use Rattle.sj_lower.specs.Limits.{most, late_limit};
@@ -19,8 +19,8 @@ use sj_base::ids::Line;
 use sj_base::memory;
 use sj_base::program::Program;
 use sj_base::sequence::Sequence;
-use sj_job::job::{Job, Statement};
-use sj_job::roots::Roots;
+use sj_meaning::job::{Job, Statement};
+use sj_meaning::roots::Roots;
 use std::alloc::Global;
 
 /// Why a job isn't lowered.

@@ -14,7 +14,7 @@ use crate::phase::{OpenPhase, push_begin, push_close};
 use sj_base::ids::{Cell, Line, Root};
 use sj_base::memory::OutOfMemory;
 use sj_base::mode::Mode;
-use sj_job::job::{Act, Operand};
+use sj_meaning::job::{Act, Operand};
 use std::alloc::Global;
 
 /// Whether an operand is accessed otherwise than by a contribution; a scratch buffer is no access. Constant time.

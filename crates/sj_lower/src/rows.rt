@@ -3,7 +3,7 @@
 ghost use Rattle.std.specs.Prelude.{◌≡◌, ◌+◌, ◌<◌, ◌≤◌, ◌++◌, length, map, IfOk, OnOk};
 ghost use Rattle.sj_base.specs.Array.{area};
 ghost use Rattle.sj_base.specs.declared.tile.Dims.{Dims};
-ghost use Rattle.sj_job.specs.declared.job.Init.TheVariants.{Values, Fill};
+ghost use Rattle.sj_meaning.specs.declared.job.Init.TheVariants.{Values, Fill};
 ghost use Rattle.sj_job.specs.Track.{children_count, IsPlan};
 ghost use Rattle.sj_plan.specs.Parts.{Fits, IsPlace, places};
 ghost use Rattle.sj_plan.specs.Paste.{pastes_of};

@@ -3,7 +3,7 @@ use Rattle.std.specs.Prelude.{ℕ, Bool, IsTrue, Result, Ok, List}
 use Rattle.sj_codelet.specs.declared.kernel.Kernel.{Kernel}
 use Rattle.sj_apps.specs.Application.{IsSized, job_for}
 use Rattle.sj_apps.specs.declared.application.Application.{Application}
-use Rattle.sj_job.specs.Job.{Job}
+use Rattle.sj_meaning.specs.Job.{Job}
 use Rattle.sj_job.specs.Reading.{Refusal, job_of}
 use Rattle.sj_words.specs.declared.options.Options.{Options}
 use Rattle.sj_ready.specs.Work.{WorkOrRefusal, asked_by}

@@ -3,11 +3,11 @@ use Rattle.std.specs.Prelude.{ℕ, Bool, Some, None, Result, Ok, Err, List}
 use Rattle.sj_base.specs.declared.program.Machine.{Machine}
 use Rattle.sj_base.specs.declared.program.Program.{Program}
 use Rattle.sj_core.specs.Proper.{HasSwapFor}
-use Rattle.sj_job.specs.Act.{Statement}
-use Rattle.sj_job.specs.Job.{Job}
+use Rattle.sj_meaning.specs.Act.{Statement}
+use Rattle.sj_meaning.specs.Job.{Job}
 use Rattle.sj_job.specs.Reading.{Refusal}
-use Rattle.sj_job.specs.Settings.{nodes_of, policy_set, workers_of}
-use Rattle.sj_job.specs.declared.settings.Settings.{Settings}
+use Rattle.sj_meaning.specs.Settings.{nodes_of, policy_set, workers_of}
+use Rattle.sj_meaning.specs.declared.settings.Settings.{Settings}
 use Rattle.sj_lower.specs.Limits.{late_limit}
 use Rattle.sj_lower.specs.Lowering.{lowered}
 use Rattle.sj_needs.specs.Shortage.{FitRoom}
@@ -17,7 +17,7 @@ use Rattle.sj_words.specs.declared.options.Options.{Options}
 -- statements, the machine that is to run them, whether a line is printed of each array in place of its elements, and whether the
 -- trace's text is to follow
 pub record Work : Type 0 where
-  pub statements : List Statement
+  pub statements : List (Statement (List ℕ))
   pub machine : Machine
   pub shows_summary : Bool
   pub shows_trace : Bool

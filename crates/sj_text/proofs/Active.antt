@@ -3,8 +3,8 @@ use Rattle.std.proofs.Common.{◌≡◌, ◌≢◌, ℕ, ◌+◌, ◌<◌, ◌�
 use Rattle.std.specs.Str.{bytes_eq}
 use Rattle.std.proofs.lemmas.Bool.{cases_lt}
 use Rattle.std.proofs.lemmas.List.{get_or_append_left, get_or_at}
-use Rattle.sj_job.proofs.Places.{same-text, text-itself}
-use Rattle.sj_job.specs.Table.{AreDistinct, Table, a_root, name_of, undivided}
+use Rattle.sj_meaning.proofs.Finding.{same-text, text-itself}
+use Rattle.sj_meaning.specs.Table.{AreDistinct, Table, a_root, name_of, undivided}
 use Rattle.sj_plan.specs.declared.parts.Parts.{Parts}
 use Rattle.sj_text.specs.Forms.{Plans, no_plans, with_plan}
 use Rattle.sj_text.specs.Text.{AreCurrent}

@@ -1,10 +1,10 @@
 -- The lines of statements, one statement after another.
 use Rattle.std.proofs.Common.{◌≡◌, ℕ, suc, ◌+◌, ◌<◌, ◌≤◌, List, [], ◌∷◌, ◌++◌, length, get_or, drop, drop-cons, refl, ap, sym, subst, ◌∙◌, arith, append_assoc}
 use Rattle.std.proofs.lemmas.List.{append-nil, drop_all}
-use Rattle.sj_job.proofs.Views.{counts-grow}
-use Rattle.sj_job.specs.Table.{Table}
-use Rattle.sj_job.specs.View.{ArePlaced, IsNumbered, IsPlaced, act_seen, count_after, count_from, seen_from}
-use Rattle.sj_job.specs.declared.job.Statement.{Statement as Kept}
+use Rattle.sj_meaning.proofs.Views.{counts-grow}
+use Rattle.sj_meaning.specs.Table.{Table}
+use Rattle.sj_meaning.specs.View.{ArePlaced, IsNumbered, IsPlaced, act_seen, count_after, count_from, seen_from}
+use Rattle.sj_meaning.specs.declared.job.Statement.{Statement as Kept}
 use Rattle.sj_plan.specs.declared.parts.Parts.{Parts}
 use Rattle.sj_text.specs.Forms.{Plans, no_plans, plans_after}
 use Rattle.sj_text.specs.Text.{AreCurrent, act_line, statement_lines}

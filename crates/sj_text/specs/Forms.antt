@@ -4,9 +4,9 @@ use Rattle.std.specs.Prelude.{ℕ, ℤ, pos, Bool, ◌&&◌, nat_eq, Option, Som
 use Rattle.std.specs.Ordering.{int_eq}
 use Rattle.std.specs.Str.{bytes_eq}
 use Rattle.sj_base.specs.declared.tile.Dims.{Dims}
-use Rattle.sj_job.specs.Act.{Act, Register, Plan, Redux, Task, Print, Invalidate, Unregister}
-use Rattle.sj_job.specs.Statement.{Register as Registration, Operand, TaskLine}
-use Rattle.sj_job.specs.Table.{undivided}
+use Rattle.sj_meaning.specs.Act.{Act, Register, Plan, Redux, Task, Print, Invalidate, Unregister}
+use Rattle.sj_meaning.specs.Statement.{Register as Registration, Operand, TaskLine}
+use Rattle.sj_meaning.specs.Table.{undivided}
 use Rattle.sj_job.specs.declared.form.ArrayForm.{ArrayForm}
 use Rattle.sj_job.specs.declared.form.Form.{Form}
 use Rattle.sj_job.specs.declared.form.Form.TheVariants as form
@@ -16,10 +16,10 @@ use Rattle.sj_job.specs.declared.form.OperandForm.{OperandForm}
 use Rattle.sj_job.specs.declared.form.Size.{Size}
 use Rattle.sj_job.specs.declared.form.Size.TheVariants as size
 use Rattle.sj_job.specs.declared.form.TaskForm.{TaskForm}
-use Rattle.sj_job.specs.declared.job.Init.{Init}
-use Rattle.sj_job.specs.declared.job.Init.TheVariants.{Values, Fill, Nothing}
-use Rattle.sj_job.specs.declared.job.Kind.{Kind}
-use Rattle.sj_job.specs.declared.job.Kind.TheVariants.{Vector, Matrix}
+use Rattle.sj_meaning.specs.declared.job.Init.{Init}
+use Rattle.sj_meaning.specs.declared.job.Init.TheVariants.{Values, Fill, Nothing}
+use Rattle.sj_meaning.specs.declared.job.Kind.{Kind}
+use Rattle.sj_meaning.specs.declared.job.Kind.TheVariants.{Vector, Matrix}
 use Rattle.sj_plan.specs.declared.parts.Parts.{Parts}
 use Rattle.sj_show.specs.Words.{codelet_name, integer_word}
 
@@ -37,7 +37,7 @@ abbrev pub with_plan : List ℕ → Parts → Plans → Plans
 with_plan name p plans other = if bytes_eq other name then p else plans other
 
 -- a registration and a plan line make a plan active
-abbrev pub plans_after : Act → Plans → Plans
+abbrev pub plans_after : Act (List ℕ) → Plans → Plans
 plans_after (Register r) plans = with_plan r.name r.parts plans
 plans_after (Plan name p) plans = with_plan name p plans
 plans_after (Redux name by) plans = plans
@@ -65,7 +65,7 @@ init_form (Values zs) = init.Values (map integer_word zs)
 init_form (Fill a b) = init.Fill (integer_word a) (integer_word b)
 init_form Nothing = init.Nothing
 
-abbrev pub array_form : Registration → ArrayForm
+abbrev pub array_form : Registration (List ℕ) → ArrayForm
 array_form r = record {
   name = r.name;
   size = size_form r.kind r.dims;
@@ -73,14 +73,14 @@ array_form r = record {
   init = init_form r.init;
 }
 
-abbrev pub operand_form : Plans → Operand → OperandForm
+abbrev pub operand_form : Plans → Operand (List ℕ) → OperandForm
 operand_form plans o = record { name = o.name; child = pair_under (plans o.name) o.place; mode = o.mode }
 
 -- nothing where it is 0
 abbrev pub priority_form : ℤ → Option (List ℕ)
 priority_form z = if int_eq z (pos 0) then None else Some (integer_word z)
 
-abbrev pub task_form : Plans → TaskLine → TaskForm
+abbrev pub task_form : Plans → TaskLine (List ℕ) → TaskForm
 task_form plans t = record {
   codelet = codelet_name t.codelet;
   args = map integer_word t.args;
@@ -89,7 +89,7 @@ task_form plans t = record {
 }
 
 -- the canonical form of an act, before which these plans are active
-abbrev pub form_of_act : Plans → Act → Form
+abbrev pub form_of_act : Plans → Act (List ℕ) → Form
 form_of_act plans (Register r) = form.Register (array_form r)
 form_of_act plans (Plan name p) = form.Plan name (decimal p.r) (decimal p.c)
 form_of_act plans (Redux name by) = form.Redux name by

@@ -1,14 +1,15 @@
 -- The canonical text of a job: the header, all settings, and a line for each statement, in its canonical form.
 use Rattle.std.specs.Prelude.{◌≡◌, ℕ, ◌<◌, List, [], ◌∷◌, ◌++◌, length, flat_map, codes, decimal}
 use Rattle.std.specs.List.{slice_index_or}
-use Rattle.sj_job.specs.Act.{Act, Statement}
+use Rattle.sj_meaning.specs.Act.{Act, Statement}
 use Rattle.sj_job.specs.Grammar.{written}
-use Rattle.sj_job.specs.Job.{Job}
-use Rattle.sj_job.specs.Settings.{nodes_of, policy_set, setting_written, workers_of}
-use Rattle.sj_job.specs.Table.{Table, a_root, name_of, undivided}
+use Rattle.sj_meaning.specs.Job.{Job}
+use Rattle.sj_job.specs.Settings.{setting_written}
+use Rattle.sj_meaning.specs.Settings.{nodes_of, policy_set, workers_of}
+use Rattle.sj_meaning.specs.Table.{Table, a_root, name_of, undivided}
 use Rattle.sj_job.specs.declared.form.SettingForm.{SettingForm}
 use Rattle.sj_job.specs.declared.form.SettingForm.TheVariants.{Workers, Node, Policy}
-use Rattle.sj_job.specs.declared.settings.Settings.{Settings}
+use Rattle.sj_meaning.specs.declared.settings.Settings.{Settings}
 use Rattle.sj_plan.specs.declared.parts.Parts.{Parts}
 use Rattle.sj_show.specs.Words.{line_of_words}
 use Rattle.sj_text.specs.Forms.{Plans, form_of_act, no_plans, plans_after}
@@ -29,11 +30,11 @@ settings_lines g =
     ++ line_of_words (setting_written (Policy (policy_set g)))
 
 -- the line of an act, before which these plans are active
-abbrev pub act_line : Plans → Act → List ℕ
+abbrev pub act_line : Plans → Act (List ℕ) → List ℕ
 act_line plans act = line_of_words (written (form_of_act plans act))
 
 -- the lines of statements, before which these plans are active
-abbrev pub statement_lines : Plans → List Statement → List ℕ
+abbrev pub statement_lines : Plans → List (Statement (List ℕ)) → List ℕ
 statement_lines plans [] = []
 statement_lines plans (s ∷ ss) = act_line plans s.act ++ statement_lines (plans_after s.act plans) ss
 

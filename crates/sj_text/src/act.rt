@@ -2,8 +2,8 @@
 
 ghost use Rattle.std.specs.Prelude.{◌≡◌, ◌++◌, ◌<◌, ◌≤◌, ◌∷◌, [], length, OnOk};
 ghost use Rattle.sj_job.specs.Form.{reduction_word};
-ghost use Rattle.sj_job.specs.Act.{Plan, Redux};
-ghost use Rattle.sj_job.specs.View.{IsPlaced, act_seen, count_after};
+ghost use Rattle.sj_meaning.specs.Act.{Plan, Redux};
+ghost use Rattle.sj_meaning.specs.View.{IsPlaced, act_seen, count_after};
 ghost use Rattle.sj_show.specs.Words.{line_of_words};
 ghost use Rattle.sj_text.specs.Forms.{Plans};
 ghost use Rattle.sj_text.specs.Text.{AreCurrent, act_line};
@@ -13,8 +13,8 @@ use crate::task::write_task;
 use sj_base::ids::Root;
 use sj_base::memory::OutOfMemory;
 use sj_base::mode::Reduction;
-use sj_job::job::Act;
-use sj_job::roots::Roots;
+use sj_meaning::job::Act;
+use sj_meaning::roots::Roots;
 use sj_plan::parts::Parts;
 use sj_show::words::write_numbered;
 

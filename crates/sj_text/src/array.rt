@@ -2,16 +2,16 @@
 
 ghost use Rattle.std.specs.Prelude.{◌≡◌, ◌++◌, ℕ, List, OnOk};
 ghost use Rattle.std.specs.List.{join_with_byte};
-ghost use Rattle.sj_job.specs.Act.{Register};
+ghost use Rattle.sj_meaning.specs.Act.{Register};
 ghost use Rattle.sj_job.specs.Grammar.{init_words, parts_words, sized};
-ghost use Rattle.sj_job.specs.View.{registration};
+ghost use Rattle.sj_meaning.specs.View.{registration};
 ghost use Rattle.sj_show.specs.Words.{spaced};
 ghost use Rattle.sj_text.specs.Forms.{Plans, init_form, is_whole, pair_under, size_form};
 ghost use Rattle.sj_text.specs.Text.{act_line};
 
 use sj_base::memory::OutOfMemory;
 use sj_base::tile::Dims;
-use sj_job::job::{Init, Kind, RootInfo};
+use sj_meaning::job::{Init, Kind, RootInfo};
 use sj_plan::parts::Parts;
 use sj_show::words::{write_integer, write_integers, write_numbered};
 

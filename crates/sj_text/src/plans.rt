@@ -1,14 +1,14 @@
 //! The plans that are active while a job's text is written.
 
 ghost use Rattle.std.specs.Prelude.{◌≡◌, ◌≤◌, length, OnOk};
-ghost use Rattle.sj_job.specs.View.{IsPlaced, act_seen, count_after};
+ghost use Rattle.sj_meaning.specs.View.{IsPlaced, act_seen, count_after};
 ghost use Rattle.sj_text.specs.Forms.{Plans, plans_after};
 ghost use Rattle.sj_text.specs.Text.{AreCurrent};
 
 use sj_base::ids::Root;
 use sj_base::memory::OutOfMemory;
-use sj_job::job::Act;
-use sj_job::roots::Roots;
+use sj_meaning::job::Act;
+use sj_meaning::roots::Roots;
 use sj_plan::parts::Parts;
 
 /// Makes the plans active that an act makes so: that of a root that it registers, or another one. Constant time, amortised.

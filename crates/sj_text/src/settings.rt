@@ -2,12 +2,12 @@
 
 ghost use Rattle.std.specs.Prelude.{◌≡◌, ◌++◌, flat_map, OnOk};
 ghost use Rattle.sj_job.specs.Form.{policy_word};
-ghost use Rattle.sj_job.specs.Settings.{nodes_of};
+ghost use Rattle.sj_meaning.specs.Settings.{nodes_of};
 ghost use Rattle.sj_text.specs.Text.{node_line, settings_lines};
 
 use sj_base::memory::OutOfMemory;
 use sj_base::mode::Policy;
-use sj_job::settings::{DEFAULT_NODE, Settings};
+use sj_meaning::settings::{DEFAULT_NODE, Settings};
 use sj_show::words::write_numbered;
 
 fn policy_word(policy: Policy) -> &'static [u8]

@@ -1,9 +1,9 @@
 //! The line of a task.
 
 ghost use Rattle.std.specs.Prelude.{◌≡◌, ◌++◌, ◌∷◌, ◌<◌, ◌≤◌, [], ℕ, List, All, length, map, OnOk};
-ghost use Rattle.sj_job.specs.Act.{Task};
+ghost use Rattle.sj_meaning.specs.Act.{Task};
 ghost use Rattle.sj_job.specs.Grammar.{bracketed_word, child_pieces, operand_word, priority_words};
-ghost use Rattle.sj_job.specs.View.{operand_seen, task_seen};
+ghost use Rattle.sj_meaning.specs.View.{operand_seen, task_seen};
 ghost use Rattle.sj_show.specs.Words.{spaced};
 ghost use Rattle.sj_text.specs.Forms.{Plans, operand_form, pair_under, priority_form};
 ghost use Rattle.sj_text.specs.Text.{AreCurrent, act_line};
@@ -11,8 +11,8 @@ ghost use Rattle.sj_text.specs.Text.{AreCurrent, act_line};
 use crate::array::is_whole;
 use sj_base::memory::OutOfMemory;
 use sj_codelet::kernel::Kernel;
-use sj_job::job::{Operand, TaskLine};
-use sj_job::roots::Roots;
+use sj_meaning::job::{Operand, TaskLine};
+use sj_meaning::roots::Roots;
 use sj_plan::parts::Parts;
 use sj_show::words::{mode_word, write_codelet, write_integer, write_numbered};
 

@@ -1,7 +1,7 @@
 //! A job as text, in the one form that says all of it.
 
 ghost use Rattle.std.specs.Prelude.{◌≡◌, ◌++◌, IfOk, OnOk};
-ghost use Rattle.sj_job.specs.View.{IsNumbered, job_seen, seen_from};
+ghost use Rattle.sj_meaning.specs.View.{IsNumbered, job_seen, seen_from};
 ghost use Rattle.sj_text.specs.Forms.{no_plans};
 ghost use Rattle.sj_text.specs.Text.{statement_lines, text_of_job};
 
@@ -9,8 +9,8 @@ use crate::act::write_act;
 use crate::plans::activate;
 use crate::settings::write_settings;
 use sj_base::memory::OutOfMemory;
-use sj_job::job::{Job, Statement};
-use sj_job::roots::Roots;
+use sj_meaning::job::{Job, Statement};
+use sj_meaning::roots::Roots;
 use std::alloc::Global;
 
 /// Appends the lines of a job's statements. Linear in them.

@@ -6,7 +6,7 @@ use Rattle.std.proofs.lemmas.Bool.Decides.{nat_tests}
 use Rattle.std.specs.Io.KnownBytes.{Consumes, IsAtEnd}
 use Rattle.sj_codelet.specs.declared.kernel.Kernel.{Kernel}
 use Rattle.sj_edge.specs.Faults.{counted}
-use Rattle.sj_job.specs.Job.{Job}
+use Rattle.sj_meaning.specs.Job.{Job}
 use Rattle.sj_job.specs.declared.reason.Reason.TheVariants.{Limit}
 use Rattle.sj_job.specs.declared.reason.LimitKind.TheVariants.{Text}
 use Rattle.sj_job.specs.Word.{lines}

@@ -17,10 +17,10 @@ use Rattle.sj_core.proofs.Readiness.{Contains-from_filter, filter-Contains}
 use Rattle.sj_core.specs.Fold.{given}
 use Rattle.sj_plan.specs.Rect.{Within}
 use Rattle.sj_plan.specs.Window.{gathered}
-use Rattle.sj_job.specs.Act.{Statement}
-use Rattle.sj_job.specs.declared.job.Kind.TheVariants.{Vector}
-use Rattle.sj_job.specs.Meaning.{Printed, printed}
-use Rattle.sj_job.specs.Table.{Table, info_of}
+use Rattle.sj_meaning.specs.Act.{Statement}
+use Rattle.sj_meaning.specs.declared.job.Kind.TheVariants.{Vector}
+use Rattle.sj_meaning.specs.Meaning.{Printed, printed}
+use Rattle.sj_meaning.specs.Table.{Table, info_of}
 use Rattle.sj_lower.specs.Delivering.{DeliversPrinted, IsPrinted, deliveries_for, part_of}
 use Rattle.starjob.specs.Gathering.{AreGrouped, IsShown, all_shown, assembled, no_delivery, prints_of, root_of, shown}
 
@@ -50,7 +50,7 @@ last-greatest ds last d asc is (i, inside, at) = elim (cases_eq i (length ds - 1
 abbrev prints_to : Option Delivery → ℕ
 prints_to o = elim o [ None ↦ 0 | Some d ↦ d.print + 1 ]
 
-module _ (T : Table) (p : Program) (ss : List Statement) (h : DeliversPrinted T p ss) where
+module _ (T : Table) (p : Program) (ss : List (Statement (List ℕ))) (h : DeliversPrinted T p ss) where
   abbrev pub nothing_found : Printed
   nothing_found = record { name = []; kind = Vector; array = array (record { rows = 0; cols = 0 }) [] }
 

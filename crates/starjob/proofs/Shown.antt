@@ -9,7 +9,7 @@ use Rattle.sj_base.specs.Array.{Array}
 use Rattle.sj_codelet.specs.declared.kernel.Kernel.{Kernel}
 use Rattle.sj_core.specs.Legal.{IsFinished, IsLegal}
 use Rattle.sj_core.specs.Once.{EachRanOnce}
-use Rattle.sj_job.specs.Meaning.{printed}
+use Rattle.sj_meaning.specs.Meaning.{printed}
 use Rattle.sj_lower.specs.Delivering.{deliveries_for}
 use Rattle.sj_engine.specs.Outcome.{WantsLastWritten}
 use Rattle.sj_machine.specs.Delivered.{DeliversEach}

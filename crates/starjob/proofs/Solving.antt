@@ -5,7 +5,7 @@ use Rattle.sj_apps.specs.Application.{IsSized, statements_for}
 use Rattle.sj_apps.specs.declared.application.Application.{Application}
 use Rattle.sj_apps.proofs.Solving.{solution}
 use Rattle.sj_base.specs.declared.trace.Event.{Event}
-use Rattle.sj_job.specs.Meaning.{printed}
+use Rattle.sj_meaning.specs.Meaning.{printed}
 use Rattle.sj_ready.specs.Work.{said_by}
 use Rattle.sj_words.specs.declared.options.Options.{Options}
 use Rattle.starjob.specs.declared.status.Status.{Status}
@@ -16,7 +16,7 @@ use Rattle.starjob.specs.Top.{TakesText}
 use Rattle.starjob.specs.Work.{job_by, told}
 use Rattle.std.specs.Io.KnownBytes.{Appends}
 use Rattle.sj_apps.specs.Solution.{IsSolution}
-use Rattle.sj_job.specs.Meaning.{Printed}
+use Rattle.sj_meaning.specs.Meaning.{Printed}
 use Rattle.sj_trace.specs.Text.{text_of as text_of_trace}
 use Rattle.starjob.specs.Output.{output}
 use Rattle.std.specs.Prelude.{[], ◌++◌, if◌then◌else◌}

@@ -6,7 +6,7 @@ use Rattle.sj_base.specs.declared.trace.Event.{Event}
 use Rattle.sj_disk.specs.Holding.{CountsStay}
 use Rattle.sj_edge.specs.declared.disk.Disk.{Ghosts as DiskOf}
 use Rattle.sj_engine.specs.Outcome.{AllTell, HoldBlocks}
-use Rattle.sj_job.specs.Job.{Job}
+use Rattle.sj_meaning.specs.Job.{Job}
 use Rattle.sj_job.specs.Reading.{Refusal}
 use Rattle.sj_lower.specs.Limits.{late_limit}
 use Rattle.sj_core.specs.Legal.{state_of}

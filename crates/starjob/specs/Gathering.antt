@@ -11,8 +11,8 @@ use Rattle.sj_core.specs.Fold.{given}
 use Rattle.sj_plan.specs.declared.rect.Rect.{Rect}
 use Rattle.sj_plan.specs.Rect.{Within}
 use Rattle.sj_plan.specs.Window.{gathered}
-use Rattle.sj_job.specs.Meaning.{Printed}
-use Rattle.sj_job.specs.Table.{Table, name_of, info_of}
+use Rattle.sj_meaning.specs.Meaning.{Printed}
+use Rattle.sj_meaning.specs.Table.{Table, name_of, info_of}
 use Rattle.sj_lower.specs.Delivering.{deliveries_for}
 use Rattle.starjob.specs.Output.{output}
 

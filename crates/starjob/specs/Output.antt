@@ -5,9 +5,9 @@ use Rattle.std.specs.Fmt.{signed_decimal}
 use Rattle.sj_apps.specs.Summary.{summary_line}
 use Rattle.sj_base.specs.Array.{Array}
 use Rattle.sj_codelet.specs.MinPlus.{is_inf}
-use Rattle.sj_job.specs.declared.job.Kind.{Kind}
-use Rattle.sj_job.specs.declared.job.Kind.TheVariants.{Vector, Matrix}
-use Rattle.sj_job.specs.Meaning.{Printed}
+use Rattle.sj_meaning.specs.declared.job.Kind.{Kind}
+use Rattle.sj_meaning.specs.declared.job.Kind.TheVariants.{Vector, Matrix}
+use Rattle.sj_meaning.specs.Meaning.{Printed}
 
 -- an element: decimal, or `inf`
 abbrev pub element_text : ℤ → List ℕ

@@ -5,7 +5,7 @@ use Rattle.sj_apps.specs.Solution.{IsSolution}
 use Rattle.sj_base.specs.declared.trace.Event.{Event}
 use Rattle.sj_edge.specs.declared.disk.Disk.{Ghosts as DiskOf}
 use Rattle.sj_engine.specs.Outcome.{AllTell}
-use Rattle.sj_job.specs.Meaning.{Printed}
+use Rattle.sj_meaning.specs.Meaning.{Printed}
 use Rattle.sj_trace.specs.Text.{text_of as text_of_trace}
 use Rattle.sj_words.specs.Options.{options}
 use Rattle.sj_words.specs.Spelling.{Text}

@@ -13,7 +13,7 @@ use Rattle.sj_engine.specs.Outcome.{AllTell, HoldBlocks}
 use Rattle.sj_job.specs.declared.reason.Reason.{Reason}
 use Rattle.sj_machine.specs.Headers.{IsLastWritten}
 use Rattle.sj_core.specs.Legal.{state_of}
-use Rattle.sj_job.specs.Meaning.{printed}
+use Rattle.sj_meaning.specs.Meaning.{printed}
 use Rattle.sj_needs.specs.Shortage.{IsSwapTooSmall, IsTooLarge}
 use Rattle.sj_ready.specs.Work.{HasRoom, Work, program_of}
 use Rattle.sj_trace.specs.Text.{text_of as text_of_trace}

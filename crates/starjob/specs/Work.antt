@@ -2,7 +2,7 @@
 use Rattle.std.specs.Prelude.{ℕ, Bool, false, Option, Some, None, is_none, Result, Ok, IsOkAnd, List, map, option_map}
 use Rattle.sj_apps.specs.Application.{job_for}
 use Rattle.sj_apps.specs.declared.application.Application.{Application}
-use Rattle.sj_job.specs.Job.{Job}
+use Rattle.sj_meaning.specs.Job.{Job}
 use Rattle.sj_job.specs.Reading.{Refusal, job_of}
 use Rattle.sj_minplus.specs.Has.{library_has}
 use Rattle.sj_ready.specs.Work.{Work, WorkOrRefusal, asked_by, said_by}

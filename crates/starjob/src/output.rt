@@ -10,7 +10,7 @@ use itoa::Buffer;
 use sj_apps::summary::write_summary;
 use sj_base::memory::OutOfMemory;
 use sj_base::tile::{Dims, Tile};
-use sj_job::job::Kind;
+use sj_meaning::job::Kind;
 
 /// Appends an element: decimal, or `inf`.
 fn write_element(text: &mut Vec<u8>, element: i64) -> Result<(), OutOfMemory>

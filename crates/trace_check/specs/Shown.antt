@@ -1,6 +1,6 @@
 -- What is shown of a job: its lowered program, or its canonical text.
 use Rattle.std.specs.Prelude.{◌≡◌, ℕ, Ok, List}
-use Rattle.sj_job.specs.Job.{Job}
+use Rattle.sj_meaning.specs.Job.{Job}
 use Rattle.sj_job.specs.Reading.{job_of}
 use Rattle.sj_minplus.specs.Has.{library_has}
 use Rattle.sj_ready.specs.Work.{Work, WorkOrRefusal, program_of}

@@ -1,9 +1,9 @@
 use Rattle.std.proofs.Common.{refl, Result, ◌∙◌, subst, sym}
 use Rattle.std.specs.Prelude.{IsOkAnd}
 use Rattle.std.proofs.lemmas.Bool.{false≢true}
-use Rattle.sj_job.specs.Job.{Job}
+use Rattle.sj_meaning.specs.Job.{Job}
 use Rattle.sj_job.specs.Reading.{Refusal, job_of}
-use Rattle.sj_job.specs.View.{job_seen}
+use Rattle.sj_meaning.specs.View.{job_seen}
 use Rattle.own_set.specs.Turns.{HasCodelets, program_of, turns_has}
 use Rattle.own_set.proofs.Preparing.{ready-by}
 use Rattle.own_set.proofs.make_ready.Goals as goal

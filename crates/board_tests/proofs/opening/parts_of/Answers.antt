@@ -1,6 +1,6 @@
 use Rattle.std.proofs.Common.{refl, subst, sym}
 use Rattle.sj_base.specs.declared.program.Program.{Program}
-use Rattle.sj_job.specs.View.{statements_of}
+use Rattle.sj_meaning.specs.View.{statements_of}
 use Rattle.sj_machine.specs.Sound.{IsRunOf}
 use Rattle.board_tests.proofs.Boards.{run-of}
 use Rattle.board_tests.proofs.opening.parts_of.Goals as goal

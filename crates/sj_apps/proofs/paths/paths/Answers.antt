@@ -1,8 +1,8 @@
-use Rattle.std.proofs.Common.{List, [], ◌∷◌, ap, sym, ◌∙◌, arith, subst}
-use Rattle.sj_job.specs.Act.{Print, Statement}
-use Rattle.sj_job.specs.declared.job.Init.TheVariants.{Values}
-use Rattle.sj_job.specs.View.{statements_of, IsNumbered}
-use Rattle.sj_job.specs.declared.job.Job.{Job}
+use Rattle.std.proofs.Common.{List, [], ◌∷◌, ap, sym, ◌∙◌, arith, subst, ℕ}
+use Rattle.sj_meaning.specs.Act.{Print, Statement}
+use Rattle.sj_meaning.specs.declared.job.Init.TheVariants.{Values}
+use Rattle.sj_meaning.specs.View.{statements_of, IsNumbered}
+use Rattle.sj_meaning.specs.declared.job.Job.{Job}
 use Rattle.sj_apps.specs.Draft.{paths_names, Tells}
 use Rattle.sj_apps.specs.Generated.{walk_steps, matrix, weights, name_D, numbered, first_line, paths_acts, weight}
 use Rattle.sj_apps.specs.Shortest.{PrintsShortest}
@@ -27,4 +27,4 @@ returns-clause-numbered c =
 
 pub returns-clause-shortest : goal.returns-clause-shortest
 returns-clause-shortest c =
-    subst (λ (ss : List Statement). PrintsShortest name_D c.args.n (weight c.args.n c.args.seed) ss) (sym (returns-clause-statements c)) (paths-print c.args.n c.args.tile c.args.seed c.requires)
+    subst (λ (ss : List (Statement (List ℕ))). PrintsShortest name_D c.args.n (weight c.args.n c.args.seed) ss) (sym (returns-clause-statements c)) (paths-print c.args.n c.args.tile c.args.seed c.requires)

@@ -1,7 +1,7 @@
-use Rattle.std.proofs.Common.{List, [], ◌∷◌, ap, sym, ◌∙◌, arith, subst}
-use Rattle.sj_job.specs.Act.{Print, Statement}
-use Rattle.sj_job.specs.View.{statements_of, IsNumbered}
-use Rattle.sj_job.specs.declared.job.Job.{Job}
+use Rattle.std.proofs.Common.{List, [], ◌∷◌, ap, sym, ◌∙◌, arith, subst, ℕ}
+use Rattle.sj_meaning.specs.Act.{Print, Statement}
+use Rattle.sj_meaning.specs.View.{statements_of, IsNumbered}
+use Rattle.sj_meaning.specs.declared.job.Job.{Job}
 use Rattle.sj_apps.specs.Draft.{product_names, Tells}
 use Rattle.sj_apps.specs.Generated.{factors, gemms, name_C, numbered, first_line, product_acts}
 use Rattle.sj_apps.specs.Solution.{PrintsProduct}
@@ -27,4 +27,4 @@ returns-clause-numbered c =
 pub returns-clause-multiplies : goal.returns-clause-multiplies
 returns-clause-multiplies c =
     let same = returns-clause-statements c in
-    subst (λ (ss : List Statement). PrintsProduct c.args.n c.args.seed ss) (sym same) (product-printed c.args.n c.args.tile c.args.seed c.requires)
+    subst (λ (ss : List (Statement (List ℕ))). PrintsProduct c.args.n c.args.seed ss) (sym same) (product-printed c.args.n c.args.tile c.args.seed c.requires)

@@ -1,6 +1,6 @@
 use Rattle.sj_job.specs.Word.{lines}
-use Rattle.sj_job.specs.State.{start}
-use Rattle.sj_job.specs.View.{statements_of}
+use Rattle.sj_meaning.specs.State.{start}
+use Rattle.sj_meaning.specs.View.{statements_of}
 use Rattle.sj_job.proofs.Submitting.{weaker_ok}
 use Rattle.sj_job.proofs.Welling.{well_from_reading}
 use Rattle.sj_job.proofs.read.read.Goals as goal

@@ -1,11 +1,11 @@
 use Rattle.std.proofs.Common.{◌+◌, ◌∷◌, ◌∙◌, ap, sym, subst, List}
-use Rattle.sj_job.specs.declared.job.Statement.{Statement as Kept}
+use Rattle.sj_meaning.specs.declared.job.Statement.{Statement as Kept}
 use Rattle.sj_job.specs.declared.names.Names.{Names}
 use Rattle.sj_job.specs.declared.reason.ReadRefusal.{ReadRefusal}
 use Rattle.sj_job.specs.Reading.{IsRefusal}
 use Rattle.sj_job.specs.Progress.{text_with}
 use Rattle.sj_job.specs.Submits.{AreRead}
-use Rattle.sj_job.specs.View.{seen_from}
+use Rattle.sj_meaning.specs.View.{seen_from}
 use Rattle.sj_job.proofs.Reading.{read-skipped, read-refused, read-more, read-does}
 use Rattle.sj_job.proofs.read.read_line.Goals as goal
 

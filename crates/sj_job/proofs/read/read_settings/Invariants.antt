@@ -2,7 +2,7 @@ use Rattle.std.proofs.Common.{◌≡◌, ◌+◌, ◌≤◌, Bool, length}
 use Rattle.sj_codelet.specs.declared.kernel.Kernel.{Kernel}
 use Rattle.sj_job.specs.Word.{lines}
 use Rattle.sj_job.specs.Reading.{reading_settings}
-use Rattle.sj_job.specs.Settings.{unset, IsWithinLimits}
+use Rattle.sj_meaning.specs.Settings.{unset, IsWithinLimits}
 use Rattle.sj_job.proofs.read.read_settings.Given as goal
 
 abbrev pub invariant-loop-line : goal.invariant-loop-line

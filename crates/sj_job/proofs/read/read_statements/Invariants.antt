@@ -1,10 +1,10 @@
 use Rattle.std.proofs.Common.{◌≡◌, ◌+◌, ◌≤◌, length}
 use Rattle.sj_job.specs.Word.{lines}
-use Rattle.sj_job.specs.State.{start}
+use Rattle.sj_meaning.specs.State.{start}
 use Rattle.sj_job.specs.Reading.{reading}
 use Rattle.sj_job.specs.Progress.{text_with}
 use Rattle.sj_job.specs.Submits.{AreRead}
-use Rattle.sj_job.specs.View.{seen_from}
+use Rattle.sj_meaning.specs.View.{seen_from}
 use Rattle.sj_job.proofs.read.read_statements.Given as goal
 
 abbrev pub invariant-loop-line : goal.invariant-loop-line

@@ -1,8 +1,8 @@
 use Rattle.std.proofs.Common.{◌∙◌, sym, ℕ}
 use Rattle.sj_plan.specs.declared.parts.Parts.{Parts}
-use Rattle.sj_job.specs.State.{dims_with}
-use Rattle.sj_job.specs.declared.job.Kind.{Kind}
-use Rattle.sj_job.specs.declared.job.RootInfo.{RootInfo}
+use Rattle.sj_meaning.specs.State.{dims_with}
+use Rattle.sj_meaning.specs.declared.job.Kind.{Kind}
+use Rattle.sj_meaning.specs.declared.job.RootInfo.{RootInfo}
 use Rattle.sj_job.specs.Sentence.{is_numbered_size, is_numbered_init, are_counts}
 use Rattle.sj_job.specs.Names.{scope_in}
 use Rattle.sj_job.specs.Judge.{first_of, register_reasons}

@@ -1,7 +1,7 @@
 use Rattle.std.proofs.Common.{◌∙◌, ap, sym}
 use Rattle.sj_job.specs.Judge.{first_of, print_reasons}
 use Rattle.sj_job.specs.Names.{scope_in}
-use Rattle.sj_job.specs.Table.{root_in}
+use Rattle.sj_meaning.specs.Table.{root_in}
 use Rattle.sj_job.proofs.Submitting.{printed}
 use Rattle.sj_job.proofs.submit.submit_print.Goals as goal
 

@@ -1,8 +1,8 @@
 use Rattle.std.proofs.Common.{◌∙◌, ap, sym}
 use Rattle.sj_job.specs.Judge.{first_of, redux_reasons}
 use Rattle.sj_job.specs.Names.{scope_in}
-use Rattle.sj_job.specs.Table.{root_in}
-use Rattle.sj_job.proofs.Places.{is-root}
+use Rattle.sj_meaning.specs.Table.{root_in}
+use Rattle.sj_meaning.proofs.Finding.{is-root}
 use Rattle.sj_job.proofs.Submitting.{reduced}
 use Rattle.sj_job.proofs.submit.submit_reduction.Goals as goal
 

@@ -3,11 +3,11 @@ use Rattle.std.specs.Vec.Iter.{into_iter_items}
 use Rattle.sj_base.specs.declared.ids.Line.{Line}
 use Rattle.sj_base.specs.declared.program.Program.{Program}
 use Rattle.sj_codelet.specs.declared.kernel.Kernel.{Kernel}
-use Rattle.sj_job.specs.declared.job.Statement.{Statement as Kept}
-use Rattle.sj_job.specs.Act.{Statement}
-use Rattle.sj_job.specs.State.{State, start}
-use Rattle.sj_job.specs.Table.{Table, IsTable}
-use Rattle.sj_job.specs.View.{ArePlaced, IsNumbered, count_from, seen_from, statements_of}
+use Rattle.sj_meaning.specs.declared.job.Statement.{Statement as Kept}
+use Rattle.sj_meaning.specs.Act.{Statement}
+use Rattle.sj_meaning.specs.State.{State, start}
+use Rattle.sj_meaning.specs.Table.{Table, IsTable}
+use Rattle.sj_meaning.specs.View.{ArePlaced, IsNumbered, count_from, seen_from, statements_of}
 use Rattle.sj_job.specs.Well.{IsWell}
 use Rattle.sj_lower.specs.declared.lower.LowerRefusal.{LowerRefusal}
 use Rattle.sj_lower.specs.declared.lower.Progress.{Progress}
@@ -122,12 +122,12 @@ returns-in_err-program-clause-refused c =
     (shut-over T workers c.close_last.new.self (statements_of c.args.job) e done c.in_err-program.ensures.err)
 
 -- the program is that of the job, and within the limits
-record IsMade (T : Table) (p : Program) (ss : List Statement) (workers : ℕ) : Type 0 where
+record IsMade (T : Table) (p : Program) (ss : List (Statement (List ℕ))) (workers : ℕ) : Type 0 where
   is : p ≡ lowered ss workers
   few_tasks : length p.tasks ≤ 262144
   few_cells : length p.cells ≤ 262144
 
-made : (T : Table) (g : Progress) (ss : List Statement) (p : Program) (workers : ℕ) → IsShut T workers g ss → g.over ≡ None → ((T : Table) (S : State) (L : Lowering) → IsAt T g S L → p ≡ program_of g.workers L) → IsMade T p ss workers
+made : (T : Table) (g : Progress) (ss : List (Statement (List ℕ))) (p : Program) (workers : ℕ) → IsShut T workers g ss → g.over ≡ None → ((T : Table) (S : State) (L : Lowering) → IsAt T g S L → p ≡ program_of g.workers L) → IsMade T p ss workers
 made T g ss p workers d none finish =
     let is : p ≡ program_of g.workers d.lowering = finish T d.state d.lowering d.at in
     record {
@@ -162,7 +162,7 @@ pub returns-clause-proper : goal.returns-clause-proper
 returns-clause-proper c = let m = lowered_to c in proper c.args.job.roots c.in_ok-program.program (statements_of c.args.job) (whole_at c) m.few_tasks m.few_cells
 
 -- the set has the codelets of the program
-all_known : (p : Program) (ss : List Statement) (workers : ℕ) (has : Kernel → Bool) → p ≡ lowered ss workers → IsJobIn has ss → All (IsKnown has) p.tasks
+all_known : (p : Program) (ss : List (Statement (List ℕ))) (workers : ℕ) (has : Kernel → Bool) → p ≡ lowered ss workers → IsJobIn has ss → All (IsKnown has) p.tasks
 all_known p ss workers has is j = subst (λ (q : Program). All (IsKnown has) q.tasks) (sym is) (known has workers ss (own-of has j.own) (all_can_be has 0 start ss j.well))
 
 pub returns-clause-known : goal.returns-clause-known

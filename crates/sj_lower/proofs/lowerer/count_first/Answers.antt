@@ -1,6 +1,6 @@
 use Rattle.std.proofs.Common.{◌∙◌, ap, sym, ℕ, length}
 use Rattle.sj_plan.specs.Rect.{child}
-use Rattle.sj_job.specs.declared.job.Init.{Init}
+use Rattle.sj_meaning.specs.declared.job.Init.{Init}
 use Rattle.sj_lower.specs.Rows.{load_row, fill_row}
 use Rattle.sj_lower.specs.Lowering.{load_rows}
 use Rattle.sj_lower.proofs.Places.{length-places}

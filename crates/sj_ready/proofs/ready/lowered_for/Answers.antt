@@ -1,8 +1,8 @@
 use Rattle.std.proofs.Common.{subst, sym}
 use Rattle.sj_base.specs.declared.program.Program.{Program}
 use Rattle.sj_core.specs.Laws.{IsLawful}
-use Rattle.sj_job.specs.Table.{Table}
-use Rattle.sj_job.specs.View.{statements_of}
+use Rattle.sj_meaning.specs.Table.{Table}
+use Rattle.sj_meaning.specs.View.{statements_of}
 use Rattle.sj_lower.specs.Delivering.{DeliversPrinted}
 use Rattle.sj_ready.proofs.ready.lowered_for.Goals as goal
 

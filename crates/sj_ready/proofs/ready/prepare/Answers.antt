@@ -7,7 +7,7 @@ use Rattle.sj_base.specs.declared.program.Program.{Program}
 use Rattle.sj_core.specs.Laws.{IsLawful}
 use Rattle.sj_core.specs.Proper.{HasSwapFor, IsMachineFor}
 use Rattle.sj_needs.specs.Shortage.{FitRoom}
-use Rattle.sj_job.specs.View.{job_seen}
+use Rattle.sj_meaning.specs.View.{job_seen}
 use Rattle.sj_ready.specs.Ready.{IsUnready}
 use Rattle.sj_ready.specs.Input.{job_in, work_in}
 use Rattle.sj_ready.specs.Work.{Work, WorkOrRefusal}

@@ -1,10 +1,10 @@
 use Rattle.std.proofs.Common.{◌++◌, ◌∙◌, ap, length, sym}
 use Rattle.std.proofs.lemmas.Result.{on_ok_weaker}
-use Rattle.sj_job.specs.Act.{Register, Plan, Redux, Invalidate}
-use Rattle.sj_job.specs.Table.{a_root, name_of}
-use Rattle.sj_job.specs.View.{act_seen, registration}
-use Rattle.sj_job.specs.declared.job.Act.{Act as KeptAct}
-use Rattle.sj_job.specs.declared.job.RootInfo.{RootInfo}
+use Rattle.sj_meaning.specs.Act.{Register, Plan, Redux, Invalidate}
+use Rattle.sj_meaning.specs.Table.{a_root, name_of}
+use Rattle.sj_meaning.specs.View.{act_seen, registration}
+use Rattle.sj_meaning.specs.declared.job.Act.{Act as KeptAct}
+use Rattle.sj_meaning.specs.declared.job.RootInfo.{RootInfo}
 use Rattle.sj_text.specs.Text.{act_line}
 use Rattle.sj_text.proofs.act.write_act.Goals as goal
 

@@ -1,7 +1,7 @@
 use Rattle.std.proofs.Common.{◌≡◌, ◌++◌, ◌∷◌, ◌∙◌, ap, sym, subst}
 use Rattle.std.specs.List.{flat_map}
 use Rattle.sj_job.specs.Grammar.{init_words}
-use Rattle.sj_job.specs.declared.job.Init.{Init}
+use Rattle.sj_meaning.specs.declared.job.Init.{Init}
 use Rattle.sj_show.specs.Words.{integer_word, spaced}
 use Rattle.sj_text.specs.Forms.{init_form}
 use Rattle.sj_text.proofs.Words.{values-told}

@@ -1,7 +1,7 @@
 use Rattle.std.proofs.Common.{◌≡◌, ◌++◌, decimal, subst, sym}
 use Rattle.std.specs.List.{join_with_byte}
 use Rattle.sj_job.specs.Grammar.{sized}
-use Rattle.sj_job.specs.declared.job.Kind.{Kind}
+use Rattle.sj_meaning.specs.declared.job.Kind.{Kind}
 use Rattle.sj_show.specs.Words.{spaced}
 use Rattle.sj_text.specs.Forms.{size_form}
 use Rattle.sj_text.proofs.Words.{matrix-told, vector-told}

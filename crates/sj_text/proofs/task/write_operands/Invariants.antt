@@ -1,6 +1,6 @@
 use Rattle.std.proofs.Common.{◌≡◌, ◌++◌, map, take}
 use Rattle.sj_job.specs.Grammar.{operand_word}
-use Rattle.sj_job.specs.View.{operand_seen}
+use Rattle.sj_meaning.specs.View.{operand_seen}
 use Rattle.sj_show.specs.Words.{spaced}
 use Rattle.sj_text.specs.Forms.{Plans, operand_form}
 use Rattle.sj_text.specs.Text.{AreCurrent}

@@ -1,7 +1,7 @@
 use Rattle.std.proofs.Common.{rules, ◌≡◌, ◌++◌, ◌∙◌, ap, map, w32, to_z, of_z, FitsSigned}
 use Rattle.std.proofs.lemmas.Int.{to_z-of_z}
 use Rattle.sj_job.specs.Grammar.{operand_word, priority_words}
-use Rattle.sj_job.specs.View.{operand_seen}
+use Rattle.sj_meaning.specs.View.{operand_seen}
 use Rattle.sj_codelet.specs.Kernel.{codelet_of}
 use Rattle.sj_show.specs.Words.{codelet_name, spaced, word_with}
 use Rattle.sj_text.specs.Forms.{operand_form, priority_form}

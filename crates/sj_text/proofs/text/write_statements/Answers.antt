@@ -1,5 +1,5 @@
 use Rattle.std.proofs.Common.{◌≡◌, ◌≤◌, ◌++◌, List, length, subst, sym}
-use Rattle.sj_job.specs.View.{IsPlaced, act_seen, count_after}
+use Rattle.sj_meaning.specs.View.{IsPlaced, act_seen, count_after}
 use Rattle.sj_plan.specs.declared.parts.Parts.{Parts}
 use Rattle.sj_text.specs.Forms.{Plans}
 use Rattle.sj_text.specs.Text.{AreCurrent, act_line}

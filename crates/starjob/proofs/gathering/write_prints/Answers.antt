@@ -6,7 +6,7 @@ use Rattle.std.proofs.lemmas.Grind.{flat_map-append}
 use Rattle.std.specs.List.{range_with_len}
 use Rattle.sj_base.specs.declared.program.Delivery.{Delivery}
 use Rattle.sj_base.specs.declared.program.Program.{Program}
-use Rattle.sj_job.specs.Meaning.{Printed}
+use Rattle.sj_meaning.specs.Meaning.{Printed}
 use Rattle.sj_lower.specs.Delivering.{deliveries_for}
 use Rattle.starjob.specs.Gathering.{IsShown, array_found, prints_of, shown}
 use Rattle.starjob.specs.Output.{output, printed_block}

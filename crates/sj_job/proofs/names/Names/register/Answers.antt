@@ -1,5 +1,5 @@
 use Rattle.std.proofs.Common.{ap, ◌+◌, ◌∙◌, ◌∷◌, ◌++◌, [], length, arith, length-append}
-use Rattle.sj_job.specs.Table.{Table}
+use Rattle.sj_meaning.specs.Table.{Table}
 use Rattle.sj_job.proofs.Seen.{shows_registered}
 use Rattle.sj_job.proofs.names.Names.register.Goals as goal
 

@@ -1,10 +1,10 @@
 use Rattle.std.proofs.Common.{◌≡◌, ◌+◌, ◌∙◌, ap, map, get_or, List}
 use Rattle.sj_codelet.specs.Kernel.{out}
-use Rattle.sj_job.specs.declared.job.Operand.{Operand as Access}
-use Rattle.sj_job.specs.Meaning.{operand_array}
+use Rattle.sj_meaning.specs.declared.job.Operand.{Operand as Access}
+use Rattle.sj_meaning.specs.Meaning.{operand_array}
 use Rattle.sj_job.specs.Names.{after_writes}
-use Rattle.sj_job.specs.View.{task_seen}
-use Rattle.sj_job.proofs.Giving.{gives_all}
+use Rattle.sj_meaning.specs.View.{task_seen}
+use Rattle.sj_meaning.proofs.Giving.{gives_all}
 use Rattle.sj_job.proofs.Seen.{shows_put, fits-in, counted-written}
 use Rattle.sj_job.proofs.names.Names.run.Goals as goal
 

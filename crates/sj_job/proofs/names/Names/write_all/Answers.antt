@@ -1,8 +1,8 @@
 use Rattle.std.proofs.Common.{◌≡◌, ◌+◌, ◌∷◌, ◌∙◌, ap, sym, subst, get_or, drop}
 use Rattle.std.proofs.lemmas.List.{get_or_default}
 use Rattle.sj_base.specs.declared.mode.Mode.TheVariants.{R}
-use Rattle.sj_job.specs.declared.job.Operand.{Operand as Access}
-use Rattle.sj_job.specs.Table.{Table, IsRoot}
+use Rattle.sj_meaning.specs.declared.job.Operand.{Operand as Access}
+use Rattle.sj_meaning.specs.Table.{Table, IsRoot}
 use Rattle.sj_job.specs.declared.names.Standing.TheVariants.{Ended}
 use Rattle.sj_job.specs.Names.{IsPlaceIn, plan_in}
 use Rattle.sj_job.proofs.Each.{begins}

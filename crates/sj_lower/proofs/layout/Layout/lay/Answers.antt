@@ -1,8 +1,8 @@
 use Rattle.std.proofs.Common.{◌≡◌, ◌+◌, ◌<◌, ◌≤◌, Option, Some, None, IfSome, IfNone, length, sym, subst}
 use Rattle.std.proofs.lemmas.Option.{IfSome_then}
-use Rattle.sj_job.specs.declared.job.Act.{Act as Kept}
-use Rattle.sj_job.specs.Table.{AreDistinct}
-use Rattle.sj_job.specs.View.{act_seen, count_after}
+use Rattle.sj_meaning.specs.declared.job.Act.{Act as Kept}
+use Rattle.sj_meaning.specs.Table.{AreDistinct}
+use Rattle.sj_meaning.specs.View.{act_seen, count_after}
 use Rattle.sj_lower.specs.Cells.{Cells}
 use Rattle.sj_lower.specs.Limits.{most}
 use Rattle.sj_lower.specs.Lowering.{cells_after}

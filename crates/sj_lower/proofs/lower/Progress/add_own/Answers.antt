@@ -1,7 +1,7 @@
 use Rattle.std.proofs.Common.{◌≡◌, ◌∙◌, ℕ, Option, Some, IfSome, refl, sym, subst, arith}
 use Rattle.std.proofs.lemmas.Bool.{leb-true, leb-false}
-use Rattle.sj_job.specs.Table.{Table}
-use Rattle.sj_job.specs.declared.job.Act.{Act as Kept}
+use Rattle.sj_meaning.specs.Table.{Table}
+use Rattle.sj_meaning.specs.declared.job.Act.{Act as Kept}
 use Rattle.sj_lower.specs.declared.layout.Layout.{Layout}
 use Rattle.sj_lower.proofs.Coming.{has-next, has-pass, has-room, with-tasks, few-with, goes-past, goes-late, goes-on, IsLaid}
 use Rattle.sj_lower.proofs.Preparing.{is-over, none-over}

@@ -1,6 +1,6 @@
 use Rattle.std.proofs.Common.{◌∙◌, ◌+◌, List, sym, subst, map, filter}
 use Rattle.sj_base.specs.declared.ids.Cell.{Cell}
-use Rattle.sj_job.specs.declared.job.Operand.{Operand}
+use Rattle.sj_meaning.specs.declared.job.Operand.{Operand}
 use Rattle.sj_lower.specs.declared.lowerer.Active.{Active}
 use Rattle.sj_lower.specs.declared.lower.Progress.{Progress}
 use Rattle.sj_lower.specs.Lowering.{all_closed}

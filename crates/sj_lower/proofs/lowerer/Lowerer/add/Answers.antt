@@ -1,7 +1,7 @@
 use Rattle.std.proofs.Common.{◌+◌, ◌≤◌, sym, subst, length, refl}
 use Rattle.std.specs.Prelude.{vec_len}
-use Rattle.sj_job.specs.declared.job.Act.{Act as Kept}
-use Rattle.sj_job.specs.View.{act_seen}
+use Rattle.sj_meaning.specs.declared.job.Act.{Act as Kept}
+use Rattle.sj_meaning.specs.View.{act_seen}
 use Rattle.sj_lower.specs.Limits.{most}
 use Rattle.sj_lower.specs.Lowering.{rows_of}
 use Rattle.sj_lower.specs.Seen.{Does, IsNext}

@@ -2,8 +2,8 @@ use Rattle.std.proofs.Common.{◌≡◌, ◌∙◌, ◌*◌, ap, sym, subst, len
 use Rattle.std.specs.Prelude.{vec_len}
 use Rattle.std.proofs.lemmas.List.{get_or_read}
 use Rattle.sj_plan.specs.declared.parts.Parts.{Parts}
-use Rattle.sj_job.specs.declared.job.Act.{Act as Kept}
-use Rattle.sj_job.specs.View.{act_seen}
+use Rattle.sj_meaning.specs.declared.job.Act.{Act as Kept}
+use Rattle.sj_meaning.specs.View.{act_seen}
 use Rattle.sj_lower.specs.declared.lowerer.Active.{Active}
 use Rattle.sj_lower.specs.Lowering.{rows_of}
 use Rattle.sj_lower.specs.Seen.{no_active, active_at, IsNext}

@@ -3,8 +3,8 @@ use Rattle.std.proofs.lemmas.List.{get_or_read}
 use Rattle.sj_plan.specs.declared.parts.Parts.{Parts}
 use Rattle.sj_plan.specs.Parts.{Fits}
 use Rattle.sj_plan.specs.Paste.{pastes_of}
-use Rattle.sj_job.specs.declared.job.RootInfo.{RootInfo}
-use Rattle.sj_job.specs.Table.{info_of}
+use Rattle.sj_meaning.specs.declared.job.RootInfo.{RootInfo}
+use Rattle.sj_meaning.specs.Table.{info_of}
 use Rattle.sj_job.specs.Track.{all_valued}
 use Rattle.sj_lower.specs.declared.lowerer.Active.{Active}
 use Rattle.sj_lower.specs.Cells.{same_parts}

@@ -1,7 +1,7 @@
 use Rattle.std.proofs.Common.{◌≡◌, ◌∙◌, ◌++◌, ◌∷◌, [], ℕ, None, length, refl, ap, subst, vec_len, arith, length-append}
-use Rattle.sj_job.specs.declared.job.Act.TheVariants as kept
+use Rattle.sj_meaning.specs.declared.job.Act.TheVariants as kept
 use Rattle.sj_lower.specs.Seen.{HasRoom}
-use Rattle.sj_job.specs.Table.{a_root, info_of}
+use Rattle.sj_meaning.specs.Table.{a_root, info_of}
 use Rattle.sj_job.specs.Track.{even}
 use Rattle.sj_lower.specs.Cells.{cells_from}
 use Rattle.sj_lower.specs.Lowering.{load_rows}

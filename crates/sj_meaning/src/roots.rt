@@ -1,7 +1,7 @@
 //! The roots of a job by name and by number.
 
 ghost use Rattle.std.specs.Prelude.{◌≡◌, ◌<◌, ◌≤◌, [], None, length, IfSome, OnOk};
-ghost use Rattle.sj_job.specs.Table.{table, name_of, info_of, root_in, with_root, AreDistinct};
+ghost use Rattle.sj_meaning.specs.Table.{table, name_of, info_of, root_in, with_root, AreDistinct};
 
 use crate::job::RootInfo;
 use indexmap::IndexSet;
@@ -20,7 +20,7 @@ pub struct Roots {
 
 impl Model for Roots {
     ghost use Rattle.std.specs.Prelude.{map};
-    ghost use Rattle.sj_job.specs.Table.{Table, table, IsTable};
+    ghost use Rattle.sj_meaning.specs.Table.{Table, table, IsTable};
 
     ghost Value = { Table };
 

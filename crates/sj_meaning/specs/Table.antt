@@ -4,8 +4,8 @@ use Rattle.std.specs.List.{slice_index_or}
 use Rattle.std.specs.Str.{bytes_eq}
 use Rattle.sj_base.specs.declared.ids.Root.{Root}
 use Rattle.sj_plan.specs.declared.parts.Parts.{Parts}
-use Rattle.sj_job.specs.declared.job.Kind.TheVariants.{Vector}
-use Rattle.sj_job.specs.declared.job.RootInfo.{RootInfo}
+use Rattle.sj_meaning.specs.declared.job.Kind.TheVariants.{Vector}
+use Rattle.sj_meaning.specs.declared.job.RootInfo.{RootInfo}
 
 -- the names of the roots, and what else is fixed of them
 pub record Table : Type 0 where

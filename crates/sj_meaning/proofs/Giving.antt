@@ -12,11 +12,11 @@ use Rattle.sj_codelet.specs.declared.formal.Formal.TheVariants.{R as FormalR, W 
 use Rattle.sj_codelet.specs.Kernel.{kernel_of, formals_of, arguments_fit, dims_fit, fits, new_arrays, out}
 use Rattle.sj_codelet.specs.Formal.{is_output}
 use Rattle.sj_codelet.proofs.Table.{new_arrays-count}
-use Rattle.sj_job.specs.Statement.{Operand, TaskLine}
-use Rattle.sj_job.specs.State.{State}
-use Rattle.sj_job.specs.Meaning.{is_written, written_of}
-use Rattle.sj_job.specs.Judge.{mode_fits, modes_fit}
-use Rattle.sj_job.specs.Sound.{child_dims, IsSoundTask}
+use Rattle.sj_meaning.specs.Statement.{Operand, TaskLine}
+use Rattle.sj_meaning.specs.State.{State}
+use Rattle.sj_meaning.specs.Meaning.{is_written, written_of}
+use Rattle.sj_meaning.specs.Sound.{mode_fits, modes_fit}
+use Rattle.sj_meaning.specs.Sound.{child_dims, IsSoundTask}
 
 written_as : (f : Formal) (m : Mode) → mode_fits f m ≡ true → is_written m ≡ is_output f
 written_as FormalR R e = refl
@@ -54,7 +54,7 @@ one_more true false x xs y ys e l = absurd (cc)
 one_more false true x xs y ys e l = absurd (cc)
 one_more false false x xs y ys e l = l
 
-written_formals : (fs : List Formal) (os : List Operand) → length os ≡ length fs → modes_fit fs os ≡ true → length (filter (λ o. is_written o.mode) os) ≡ length (filter is_output fs)
+written_formals : (fs : List Formal) (os : List (Operand (List ℕ))) → length os ≡ length fs → modes_fit fs os ≡ true → length (filter (λ o. is_written o.mode) os) ≡ length (filter is_output fs)
 written_formals [] [] l e = refl
 written_formals [] (o ∷ os) l e = absurd (omega (arith, l))
 written_formals (f ∷ fs) [] l e = absurd (omega (arith, l))
@@ -62,19 +62,19 @@ written_formals (f ∷ fs) (o ∷ os) l e =
     let m = and_parts (mode_fits f o.mode) (modes_fit fs os) e in
     one_more (is_written o.mode) (is_output f) o (filter (λ p. is_written p.mode) os) f (filter is_output fs) (written_as f o.mode m.0) (written_formals fs os (omega (arith, l)) m.1)
 
-written_length : (fs : List Formal) (os : List Operand) → length os ≡ length fs → modes_fit fs os ≡ true → length (written_of os) ≡ length (filter is_output fs)
+written_length : (fs : List Formal) (os : List (Operand (List ℕ))) → length os ≡ length fs → modes_fit fs os ≡ true → length (written_of os) ≡ length (filter is_output fs)
 written_length fs os l e = written_formals fs os l e
 
 same_length : (a b : ℕ) → nat_eq a b ≡ true → a ≡ b
 same_length a b e = grind (arith, nat_tests)
 
-by_kernel : (has : Kernel → Bool) (args : List ℤ) (ds : List Dims) (os : List Operand) (ins : List Array) (o : Option Kernel) → length ds ≡ length os → (elim o as (λ _. Bool) [ None ↦ false | Some k ↦ has k && fits k args ds ]) ≡ true → modes_fit (elim o as (λ _. List Formal) [ None ↦ [] | Some k ↦ formals_of k ]) os ≡ true → length (elim o as (λ _. List Array) [ None ↦ [] | Some k ↦ new_arrays k args ins ]) ≡ length (written_of os)
+by_kernel : (has : Kernel → Bool) (args : List ℤ) (ds : List Dims) (os : List (Operand (List ℕ))) (ins : List Array) (o : Option Kernel) → length ds ≡ length os → (elim o as (λ _. Bool) [ None ↦ false | Some k ↦ has k && fits k args ds ]) ≡ true → modes_fit (elim o as (λ _. List Formal) [ None ↦ [] | Some k ↦ formals_of k ]) os ≡ true → length (elim o as (λ _. List Array) [ None ↦ [] | Some k ↦ new_arrays k args ins ]) ≡ length (written_of os)
 by_kernel has args ds os ins None l f m = absurd (cc)
 by_kernel has args ds os ins (Some k) l f m =
     let counted = (and_parts (nat_eq (length ds) (length (formals_of k))) (arguments_fit k args ds) (and_parts (nat_eq (length ds) (length (formals_of k)) && arguments_fit k args ds) (dims_fit k args ds) (and_parts (has k) (fits k args ds) f).1).0).0 in
     let as_many : length os ≡ length (formals_of k) = sym l ∙ same_length (length ds) (length (formals_of k)) counted in
     new_arrays-count k args ins ∙ sym (written_length (formals_of k) os as_many m)
 
-pub gives_all : (has : Kernel → Bool) (S : State) (t : TaskLine) (ins : List Array) → IsSoundTask has S t → length (out t.codelet t.args ins) ≡ length (written_of t.operands)
+pub gives_all : (has : Kernel → Bool) (S : State) (t : TaskLine (List ℕ)) (ins : List Array) → IsSoundTask has S t → length (out t.codelet t.args ins) ≡ length (written_of t.operands)
 gives_all has S t ins h =
     by_kernel has t.args (each_of (child_dims S) t.operands) t.operands ins (kernel_of t.codelet) (length-map t.operands (child_dims S)) h.fits h.modes

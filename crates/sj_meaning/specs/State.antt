@@ -11,7 +11,7 @@ use Rattle.sj_base.specs.Window.{read_rect}
 use Rattle.sj_plan.specs.declared.parts.Parts.{Parts}
 use Rattle.sj_plan.specs.declared.rect.Rect.{Rect}
 use Rattle.sj_plan.specs.Rect.{child, place_of, dims_of}
-use Rattle.sj_job.specs.declared.job.Kind.{Kind}
+use Rattle.sj_meaning.specs.declared.job.Kind.{Kind}
 
 -- a root handle with its active plan and its reduction, if it has one: an element is an i64 or no value
 pub record Root : Type 0 where

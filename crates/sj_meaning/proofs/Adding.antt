@@ -8,8 +8,8 @@ use Rattle.std.proofs.lemmas.List.Sums.{fails_before_first}
 use Rattle.std.proofs.lemmas.Slice.Eq.{bytes_eq-Decides}
 use Rattle.std.proofs.lemmas.Bool.Decides.{nat_tests}
 use Rattle.indexmap.specs.IndexSet.{insert_key}
-use Rattle.sj_job.specs.declared.job.RootInfo.{RootInfo}
-use Rattle.sj_job.specs.Table.{Table, a_root, root_in, with_root, AreDistinct, IsTable}
+use Rattle.sj_meaning.specs.declared.job.RootInfo.{RootInfo}
+use Rattle.sj_meaning.specs.Table.{Table, a_root, root_in, with_root, AreDistinct, IsTable}
 
 -- ---- where no name is found
 

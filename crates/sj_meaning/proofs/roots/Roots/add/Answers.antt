@@ -1,8 +1,8 @@
 use Rattle.std.proofs.Common.{◌≡◌, ◌∙◌, ◌++◌, ◌∷◌, [], ℕ, List, ap, map, sym, subst, position, None, bytes_eq}
-use Rattle.sj_job.specs.declared.job.RootInfo.{RootInfo}
-use Rattle.sj_job.specs.Table.{Table, table, with_root, IsTable}
-use Rattle.sj_job.proofs.Adding.{key-added, table-pushed, no-place}
-use Rattle.sj_job.proofs.roots.Roots.add.Goals as goal
+use Rattle.sj_meaning.specs.declared.job.RootInfo.{RootInfo}
+use Rattle.sj_meaning.specs.Table.{Table, table, with_root, IsTable}
+use Rattle.sj_meaning.proofs.Adding.{key-added, table-pushed, no-place}
+use Rattle.sj_meaning.proofs.roots.Roots.add.Goals as goal
 
 -- the table after the two lists were pushed to
 pushed : goal.returns-clause-added

@@ -1,7 +1,7 @@
 use Rattle.std.proofs.Common.{◌∙◌, ap, sym, option_map, bytes_eq}
-use Rattle.sj_job.specs.Table.{Table, a_root, root_in}
-use Rattle.sj_job.proofs.Places.{position-map}
-use Rattle.sj_job.proofs.roots.Roots.find.Goals as goal
+use Rattle.sj_meaning.specs.Table.{Table, a_root, root_in}
+use Rattle.sj_meaning.proofs.Finding.{position-map}
+use Rattle.sj_meaning.proofs.roots.Roots.find.Goals as goal
 
 pub returns-in-None : goal.returns-in-None
 returns-in-None c =

@@ -1,31 +1,31 @@
 -- A job as contracts see it: its statements with names in place of the roots' numbers.
 use Rattle.std.specs.Prelude.{◌≡◌, ℕ, ◌+◌, ◌<◌, List, [], ◌∷◌, ◌++◌, map, length, All}
 use Rattle.sj_codelet.specs.Kernel.{codelet_of}
-use Rattle.sj_job.specs.declared.job.Init.{Init}
-use Rattle.sj_job.specs.declared.job.RootInfo.{RootInfo}
-use Rattle.sj_job.specs.declared.job.Operand.{Operand as Access}
-use Rattle.sj_job.specs.declared.job.TaskLine.{TaskLine as KeptTask}
-use Rattle.sj_job.specs.declared.job.Act.{Act as KeptAct}
-use Rattle.sj_job.specs.declared.job.Act.TheVariants as kept
-use Rattle.sj_job.specs.declared.job.Statement.{Statement as Kept}
-use Rattle.sj_job.specs.declared.job.Job.{Job as KeptJob}
-use Rattle.sj_job.specs.Job.{Job, job}
-use Rattle.sj_job.specs.Statement.{Register as Registration, Operand, TaskLine}
-use Rattle.sj_job.specs.Act.{Act, Register, Plan, Redux, Task, Print, Invalidate, Unregister, Statement}
-use Rattle.sj_job.specs.Table.{Table, table, a_root, name_of, info_of}
+use Rattle.sj_meaning.specs.declared.job.Init.{Init}
+use Rattle.sj_meaning.specs.declared.job.RootInfo.{RootInfo}
+use Rattle.sj_meaning.specs.declared.job.Operand.{Operand as Access}
+use Rattle.sj_meaning.specs.declared.job.TaskLine.{TaskLine as KeptTask}
+use Rattle.sj_meaning.specs.declared.job.Act.{Act as KeptAct}
+use Rattle.sj_meaning.specs.declared.job.Act.TheVariants as kept
+use Rattle.sj_meaning.specs.declared.job.Statement.{Statement as Kept}
+use Rattle.sj_meaning.specs.declared.job.Job.{Job as KeptJob}
+use Rattle.sj_meaning.specs.Job.{Job, job}
+use Rattle.sj_meaning.specs.Statement.{Register as Registration, Operand, TaskLine}
+use Rattle.sj_meaning.specs.Act.{Act, Register, Plan, Redux, Task, Print, Invalidate, Unregister, Statement}
+use Rattle.sj_meaning.specs.Table.{Table, table, a_root, name_of, info_of}
 
 -- an operand with the name of its root
-abbrev pub operand_seen : Table → Access → Operand
+abbrev pub operand_seen : Table → Access → Operand (List ℕ)
 operand_seen T o = record { name = name_of T o.root; place = o.place; mode = o.mode }
 
-abbrev pub task_seen : Table → KeptTask → TaskLine
+abbrev pub task_seen : Table → KeptTask → TaskLine (List ℕ)
 task_seen T t = record { codelet = codelet_of t.kernel; args = t.args; operands = map (operand_seen T) t.operands; priority = t.priority }
 
-abbrev pub registration : List ℕ → RootInfo → Init → Registration
+abbrev pub registration : List ℕ → RootInfo → Init → Registration (List ℕ)
 registration name info init = record { name = name; kind = info.kind; dims = info.dims; parts = info.parts; init = init }
 
 -- what is kept of an act, before which k roots were registered
-abbrev pub act_seen : Table → ℕ → KeptAct → Act
+abbrev pub act_seen : Table → ℕ → KeptAct → Act (List ℕ)
 act_seen T k (kept.Register init) = Register (registration (name_of T (a_root k)) (info_of T (a_root k)) init)
 act_seen T k (kept.Plan r p) = Plan (name_of T r) p
 act_seen T k (kept.Redux r by) = Redux (name_of T r) by
@@ -34,7 +34,7 @@ act_seen T k (kept.Print r) = Print (name_of T r)
 act_seen T k (kept.Invalidate r) = Invalidate (name_of T r)
 act_seen T k (kept.Unregister r) = Unregister (name_of T r)
 
-abbrev pub statement_seen : Table → ℕ → Kept → Statement
+abbrev pub statement_seen : Table → ℕ → Kept → Statement (List ℕ)
 statement_seen T k s = record { line = s.line; act = act_seen T k s.act }
 
 -- how many roots there are after an act
@@ -52,12 +52,12 @@ count_from k [] = k
 count_from k (s ∷ ss) = count_from (count_after k s.act) ss
 
 -- what is kept of statements, before which k roots were registered
-abbrev pub seen_from : Table → ℕ → List Kept → List Statement
+abbrev pub seen_from : Table → ℕ → List Kept → List (Statement (List ℕ))
 seen_from T k [] = []
 seen_from T k (s ∷ ss) = statement_seen T k s ∷ seen_from T (count_after k s.act) ss
 
 -- the statements of a job
-abbrev pub statements_of : KeptJob → List Statement
+abbrev pub statements_of : KeptJob → List (Statement (List ℕ))
 statements_of kept = seen_from kept.roots 0 kept.statements
 
 -- the job: its settings, and its statements with names

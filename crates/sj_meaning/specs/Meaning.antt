@@ -13,16 +13,16 @@ use Rattle.sj_plan.specs.Rect.{place_of, dims_of}
 use Rattle.sj_codelet.specs.Ring.{wrap}
 use Rattle.sj_codelet.specs.Kernel.{out}
 use Rattle.sj_codelet.specs.Laws.{unit_of}
-use Rattle.sj_job.specs.declared.job.Kind.{Kind}
-use Rattle.sj_job.specs.declared.job.Init.{Init}
-use Rattle.sj_job.specs.declared.job.Init.TheVariants.{Values, Fill, Nothing}
-use Rattle.sj_job.specs.Statement.{Register}
-use Rattle.sj_job.specs.Statement.{Operand}
-use Rattle.sj_job.specs.Statement.{TaskLine}
-use Rattle.sj_job.specs.Act.{Act}
-use Rattle.sj_job.specs.Act.{Register as Registers, Plan, Redux as Reduces, Task, Print, Invalidate, Unregister}
-use Rattle.sj_job.specs.Act.{Statement}
-use Rattle.sj_job.specs.State.{Root, State, start, root_of, child_rect, child_elements, is_valued_child}
+use Rattle.sj_meaning.specs.declared.job.Kind.{Kind}
+use Rattle.sj_meaning.specs.declared.job.Init.{Init}
+use Rattle.sj_meaning.specs.declared.job.Init.TheVariants.{Values, Fill, Nothing}
+use Rattle.sj_meaning.specs.Statement.{Register}
+use Rattle.sj_meaning.specs.Statement.{Operand}
+use Rattle.sj_meaning.specs.Statement.{TaskLine}
+use Rattle.sj_meaning.specs.Act.{Act}
+use Rattle.sj_meaning.specs.Act.{Register as Registers, Plan, Redux as Reduces, Task, Print, Invalidate, Unregister}
+use Rattle.sj_meaning.specs.Act.{Statement}
+use Rattle.sj_meaning.specs.State.{Root, State, start, root_of, child_rect, child_elements, is_valued_child}
 
 -- no value at each element
 abbrev pub no_values : Dims → List (Option ℤ)
@@ -34,10 +34,10 @@ first_elements (Values xs) d = each_of Some xs
 first_elements (Fill a b) d = each_of (λ p. Some (wrap (a +ℤ (b *ℤ pos p)))) (range_with_len 0 (area d))
 first_elements Nothing d = no_values d
 
-abbrev pub registered_root : Register → Root
+abbrev pub registered_root : {N : Type 0} → Register N → Root
 registered_root r = record { kind = r.kind; dims = r.dims; parts = r.parts; reduction = None; elements = first_elements r.init r.dims }
 
-abbrev pub register : Register → State → State
+abbrev pub register : Register (List ℕ) → State → State
 register r S = record S {
   registered = S.registered + 1;
   roots = map.insert S.roots r.name (registered_root r);
@@ -95,7 +95,7 @@ seen_by Redux r place = contributed_to r place
 seen_by Commute r place = child_array r place
 
 -- the array that a task sees of an operand
-abbrev pub operand_array : State → Operand → Array
+abbrev pub operand_array : State → Operand (List ℕ) → Array
 operand_array S o = elim (root_of S o.name) [
   | None ↦ array (record { rows = 0; cols = 0 }) []
   | Some r ↦ seen_by o.mode r o.place
@@ -110,7 +110,7 @@ is_written Redux = true
 is_written Commute = true
 
 -- the operands that a task writes, in order
-abbrev pub written_of : List Operand → List Operand
+abbrev pub written_of : {N : Type 0} → List (Operand N) → List (Operand N)
 written_of os = filter (λ o. is_written o.mode) os
 
 -- a child's elements become those of an array; the others stay
@@ -119,11 +119,11 @@ with_child place a r =
     let rect = child_rect r place in
     with_elements (write_rect None r.dims r.elements (place_of rect) (dims_of rect) (λ i j. Some (element a i j))) r
 
-abbrev pub put : Operand → Array → State → State
+abbrev pub put : Operand (List ℕ) → Array → State → State
 put o a S = change (with_child o.place a) o.name S
 
 -- the child of each of these operands gets its array, and no other changes
-abbrev pub put_all : List Operand → List Array → State → State
+abbrev pub put_all : List (Operand (List ℕ)) → List Array → State → State
 put_all [] arrays S = S
 put_all (o ∷ os) [] S = S
 put_all (o ∷ os) (a ∷ arrays) S = put_all os arrays (put o a S)
@@ -133,7 +133,7 @@ abbrev pub reduce : List ℕ → Reduction → State → State
 reduce name by S = change (with_reduction by) name S
 
 -- a task: the written operands get the codelet's new arrays
-abbrev pub run_task : TaskLine → State → State
+abbrev pub run_task : TaskLine (List ℕ) → State → State
 run_task t S =
     let news = out t.codelet t.args (each_of (operand_array S) t.operands) in
     put_all (written_of t.operands) news S
@@ -147,7 +147,7 @@ abbrev pub unregister : List ℕ → State → State
 unregister name S = record S { ended = name ∷ S.ended; roots = map.remove S.roots name }
 
 -- what one statement does
-abbrev pub apply : Act → State → State
+abbrev pub apply : Act (List ℕ) → State → State
 apply (Registers r) S = register r S
 apply (Plan name p) S = plan name p S
 apply (Reduces name by) S = reduce name by S
@@ -157,12 +157,12 @@ apply (Invalidate name) S = invalidate name S
 apply (Unregister name) S = unregister name S
 
 -- the state that statements leave, one after another
-abbrev pub run_from : State → List Statement → State
+abbrev pub run_from : State → List (Statement (List ℕ)) → State
 run_from S [] = S
 run_from S (s ∷ ss) = run_from (apply s.act S) ss
 
 -- the sequential run of a job
-abbrev pub seq : List Statement → State
+abbrev pub seq : List (Statement (List ℕ)) → State
 seq ss = run_from start ss
 
 -- an array as a print statement finds it
@@ -178,7 +178,7 @@ found_by S name = elim (root_of S name) [
 ]
 
 -- what a statement prints
-abbrev pub prints : Act → State → List Printed
+abbrev pub prints : Act (List ℕ) → State → List Printed
 prints (Registers r) S = []
 prints (Plan name p) S = []
 prints (Reduces name by) S = []
@@ -188,9 +188,9 @@ prints (Invalidate name) S = []
 prints (Unregister name) S = []
 
 -- what the print statements find, in order
-abbrev pub printed_from : State → List Statement → List Printed
+abbrev pub printed_from : State → List (Statement (List ℕ)) → List Printed
 printed_from S [] = []
 printed_from S (s ∷ ss) = prints s.act S ++ printed_from (apply s.act S) ss
 
-abbrev pub printed : List Statement → List Printed
+abbrev pub printed : List (Statement (List ℕ)) → List Printed
 printed ss = printed_from start ss

@@ -2,15 +2,15 @@
 use Rattle.std.proofs.Common.{◌≡◌, ℕ, suc, ◌<◌, ◌≤◌, List, [], ◌∷◌, ◌++◌, length, map, refl, ap, ◌∙◌, arith, All}
 use Rattle.std.proofs.lemmas.List.{get_or_append_left}
 use Rattle.sj_base.specs.declared.ids.Root.{Root}
-use Rattle.sj_job.specs.declared.job.RootInfo.{RootInfo}
-use Rattle.sj_job.specs.declared.job.Operand.{Operand as Access}
-use Rattle.sj_job.specs.declared.job.Act.{Act as KeptAct}
-use Rattle.sj_job.specs.declared.job.Act.TheVariants as kept
-use Rattle.sj_job.specs.declared.job.Statement.{Statement as Kept}
-use Rattle.sj_job.specs.Statement.{Operand, TaskLine}
-use Rattle.sj_job.specs.Act.{Act, Register, Plan, Redux, Task, Print, Invalidate, Unregister, Statement}
-use Rattle.sj_job.specs.Table.{Table, table, a_root, no_info, name_of}
-use Rattle.sj_job.specs.View.{operand_seen, registration, act_seen, statement_seen, seen_from, count_after, count_from, IsPlaced, ArePlaced, Extends}
+use Rattle.sj_meaning.specs.declared.job.RootInfo.{RootInfo}
+use Rattle.sj_meaning.specs.declared.job.Operand.{Operand as Access}
+use Rattle.sj_meaning.specs.declared.job.Act.{Act as KeptAct}
+use Rattle.sj_meaning.specs.declared.job.Act.TheVariants as kept
+use Rattle.sj_meaning.specs.declared.job.Statement.{Statement as Kept}
+use Rattle.sj_meaning.specs.Statement.{Operand, TaskLine}
+use Rattle.sj_meaning.specs.Act.{Act, Register, Plan, Redux, Task, Print, Invalidate, Unregister, Statement}
+use Rattle.sj_meaning.specs.Table.{Table, table, a_root, no_info, name_of}
+use Rattle.sj_meaning.specs.View.{operand_seen, registration, act_seen, statement_seen, seen_from, count_after, count_from, IsPlaced, ArePlaced, Extends}
 use Rattle.sj_codelet.specs.Kernel.{codelet_of}
 
 -- ---- counts
@@ -52,7 +52,7 @@ name-kept T names infos r lt = get_or_append_left T.names names [] r.0 lt
 operands-kept : (T : Table) (names : List (List ℕ)) (infos : List RootInfo) (os : List Access) → All (λ o. o.root.0 < length T.names) os → map (operand_seen (table (T.names ++ names) (T.infos ++ infos))) os ≡ map (operand_seen T) os
 operands-kept T names infos [] h = refl
 operands-kept T names infos (o ∷ os) h =
-    let mk : List ℕ → Operand = λ n. record { name = n; place = o.place; mode = o.mode } in
+    let mk : List ℕ → Operand (List ℕ) = λ n. record { name = n; place = o.place; mode = o.mode } in
     λ i. mk (name-kept T names infos o.root (h 0 o (omega arith)) i) ∷ operands-kept T names infos os (λ k d lt. h (suc k) d (omega arith)) i
 
 all_within : (os : List Access) (k n : ℕ) → k ≤ n → All (λ o. o.root.0 < k) os → All (λ o. o.root.0 < n) os
@@ -66,7 +66,7 @@ act-kept T names infos k (kept.Register init) e le h =
 act-kept T names infos k (kept.Plan r p) e le h = ap (λ n. Plan n p) (name-kept T names infos r (omega arith))
 act-kept T names infos k (kept.Redux r by) e le h = ap (λ n. Redux n by) (name-kept T names infos r (omega arith))
 act-kept T names infos k (kept.Task t) e le h =
-    let line : List Operand → TaskLine = λ os. record { codelet = codelet_of t.kernel; args = t.args; operands = os; priority = t.priority } in
+    let line : List (Operand (List ℕ)) → TaskLine (List ℕ) = λ os. record { codelet = codelet_of t.kernel; args = t.args; operands = os; priority = t.priority } in
     ap (λ os. Task (line os)) (operands-kept T names infos t.operands (all_within t.operands k (length T.names) le h))
 act-kept T names infos k (kept.Print r) e le h = ap Print (name-kept T names infos r (omega arith))
 act-kept T names infos k (kept.Invalidate r) e le h = ap Invalidate (name-kept T names infos r (omega arith))
@@ -75,7 +75,7 @@ act-kept T names infos k (kept.Unregister r) e le h = ap Unregister (name-kept T
 kept_in : (T : Table) (names : List (List ℕ)) (infos : List RootInfo) (k : ℕ) (ss : List Kept) → length T.infos ≡ length T.names → count_from k ss ≤ length T.names → ArePlaced k ss → seen_from (table (T.names ++ names) (T.infos ++ infos)) k ss ≡ seen_from T k ss
 kept_in T names infos k [] e le h = refl
 kept_in T names infos k (s ∷ ss) e le h =
-    let mk : Act → Statement = λ a. record { line = s.line; act = a } in
+    let mk : Act (List ℕ) → Statement (List ℕ) = λ a. record { line = s.line; act = a } in
     λ i. mk (act-kept T names infos k s.act e (omega (arith, counts-grow (count_after k s.act) ss)) h.0 i)
     ∷ kept_in T names infos (count_after k s.act) ss e le h.1 i
 

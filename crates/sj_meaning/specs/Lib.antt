@@ -1,0 +1,9 @@
+pub mod Statement
+pub mod Act
+pub mod Settings
+pub mod Job
+pub mod Table
+pub mod View
+pub mod State
+pub mod Meaning
+pub mod Sound
