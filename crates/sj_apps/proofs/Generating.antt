@@ -1,7 +1,7 @@
 -- The statements of both applications are such as lines may say.
 use Rattle.std.specs.FinMap as map
 use Rattle.std.proofs.Common.{◌≡◌, ℕ, zero, suc, ◌+◌, ◌*◌, ◌/◌, ◌%◌, ◌<◌, ◌≤◌, Bool, true, false, not, cond, ◌&&◌, Option, Some, is_some, List, [], ◌∷◌, ◌++◌, ℤ, pos, negsuc, unwrap_or, length, map as each_of, codes, nat_eq, refl, sym, ap, subst, ◌∙◌, arith, bytes_eq}
-use Rattle.std.specs.Prelude.{nat_le, option_map}
+use Rattle.std.specs.Prelude.{nat_le, option_map, ◌^◌}
 use Rattle.std.specs.Fmt.{decimal}
 use Rattle.std.specs.List.{AllByRecursion, filter, flat_map, list_all, list_any, range_with_len}
 use Rattle.std.specs.Cmp.Lexicographic.{slice_cmp}
@@ -30,12 +30,12 @@ use Rattle.sj_meaning.specs.State.{State, root_of, start}
 use Rattle.sj_meaning.specs.Statement.{Operand}
 use Rattle.sj_job.specs.Well.{IsWell}
 use Rattle.sj_job.specs.Word.{integer, integer_of, is_integer}
+use Rattle.sj_job.proofs.Numerals.{decimal-integer}
 use Rattle.sj_job.proofs.Spelling.{true_both}
 use Rattle.sj_apps.specs.Generated.{IsSize, apart, aparts_in_row, below, beside, diagonal, factors, first_line, gemm, gemms, gemms_at, gemms_in_row, name_A, name_B, name_C, name_D, operand, others, part_count, paths_acts, paths_statements, product_acts, product_statements, square, upto, walk_step, walk_steps, weight, weights}
 use Rattle.sj_apps.proofs.Starting.{IsCut, cut-from, factors-are, multiplied, registration, ring, ring-is, root-registered}
 use Rattle.sj_apps.proofs.Tiling.{AreMatrices, Becomes, IsMatrix, apart-run, below-run, beside-run, diagonal-run, gemm-run, run, run-append}
 use Rattle.sj_apps.proofs.WellFormed.{AllAllowed, Allowed, IsSeen, IsWorded, all-append, all-each_of, all-flat, flat-length, matrix-allowed, print-allowed, task-judged, well-from}
-use Rattle.sj_apps.proofs.Wording.{decimal-integer}
 
 not-full : (k : ℕ) → k < 262144 → nat_le 262144 k ≡ false
 not-full k h = grind (arith, nat_tests)
@@ -101,7 +101,7 @@ fill-worded n v w a b e f = record {
 none-known : (name : List ℕ) → is_some (option_map known_of (root_of start name)) ≡ false
 none-known name = ap (λ o. is_some (option_map known_of o)) (map.get-empty (slice_cmp nat_cmp) name)
 
-seed-small : (seed : ℕ) → seed % 100 < 1000000000
+seed-small : (seed : ℕ) → seed % 100 < 2 ^ 63
 seed-small seed = omega arith
 
 factors-allowed : (n p seed : ℕ) → IsCut n p → AllAllowed start (factors n p seed)
@@ -167,7 +167,7 @@ apart-apart : (k i j : ℕ) → nat_eq i k ≡ false → nat_eq j k ≡ false �
 apart-apart k i j h g = grind (arith, nat_tests)
 
 module _ (n p : ℕ) (h : IsCut n p) where
-  small : p < 1000000000
+  small : p < 2 ^ 63
   small = omega (arith, h.few)
 
   tile-seen : (c i j : ℕ) (T : State) (o : Operand (List ℕ)) (now : IsWalking n p T) → o.name ≡ name_D → o.place ≡ (i, j) → i < p → j < p → IsSeen n p (scope_of c T) o
@@ -229,7 +229,7 @@ module _ (n p : ℕ) (h : IsCut n p) where
 abbrev weight-word : ℕ → ℕ → ℕ → ℕ → List ℕ
 weight-word n seed i j = cond (nat_eq j i) (codes "0") (cond (nat_eq j ((i + 1) % n)) (codes "3") (cond (nat_eq j ((i + 7) % n)) (decimal (5 + seed % 5)) (codes "inf")))
 
-chord-small : (seed : ℕ) → 5 + seed % 5 < 1000000000
+chord-small : (seed : ℕ) → 5 + seed % 5 < 2 ^ 63
 chord-small seed = omega arith
 
 weight-reads : (n seed i j : ℕ) → integer_of (weight-word n seed i j) ≡ Some (weight n seed i j)

@@ -11,7 +11,6 @@ pub mod Passing
 pub mod Ringing
 pub mod Walking
 pub mod Shortening
-pub mod Wording
 pub mod WellFormed
 pub mod Starting
 pub mod Generating

@@ -1,6 +1,6 @@
 -- Generated statements are such as lines may say.
 use Rattle.std.proofs.Common.{◌≡◌, ℕ, zero, suc, ◌+◌, ◌*◌, ◌/◌, ◌%◌, ◌<◌, ◌≤◌, Bool, true, false, not, cond, ◌&&◌, ◌||◌, Option, Some, None, is_some, Ok, List, [], ◌∷◌, ◌++◌, ℤ, pos, length, map as each_of, refl, sym, ap, subst, ◌∙◌, arith}
-use Rattle.std.specs.Prelude.{nat_le, nat_lt}
+use Rattle.std.specs.Prelude.{nat_le, nat_lt, ◌^◌}
 use Rattle.std.specs.Fmt.{decimal}
 use Rattle.std.specs.List.{AllByRecursion, flat_map, list_all, list_any, range_with_len}
 use Rattle.std.proofs.lemmas.Bool.{and_right, not_from_true}
@@ -34,12 +34,12 @@ use Rattle.sj_meaning.specs.State.{State, is_child, is_valued, is_valued_child}
 use Rattle.sj_meaning.specs.Statement.{Operand, Register as Registration, TaskLine}
 use Rattle.sj_job.specs.Well.{IsAllowed, IsWell}
 use Rattle.sj_job.specs.Word.{is_count, is_name}
+use Rattle.sj_job.proofs.Numerals.{decimal-counts, decimal-is_count, decimal-piece}
 use Rattle.sj_job.proofs.Spelling.{true_both}
 use Rattle.sj_job.proofs.Telling.{says-said}
 use Rattle.sj_apps.specs.Generated.{cut, matrix, numbered, square}
 use Rattle.sj_apps.proofs.Starting.{IsCut, registration}
 use Rattle.sj_apps.proofs.Tiling.{rect, rect-inside, root, run, run-append, table-same}
-use Rattle.sj_apps.proofs.Wording.{all-each, bound, decimal-counts, decimal-is_count, decimal-piece}
 
 -- ---- no reason holds
 
@@ -54,6 +54,10 @@ any-none t (x ∷ xs) h = ap (λ b. b || list_any t xs) h.0 ∙ any-none t xs h.
 each-to : {X Y : Type 0} (P : X → Type 0) (Q : Y → Type 0) (f : X → Y) → ((x : X) → P x → Q (f x)) → (xs : List X) → AllByRecursion P xs → AllByRecursion Q (each_of f xs)
 each-to P Q f h [] a = tt
 each-to P Q f h (x ∷ xs) a = (h x a.0, each-to P Q f h xs a.1)
+
+all-each : {X : Type 0} (t : X → Bool) (xs : List X) → AllByRecursion (λ x. t x ≡ true) xs → list_all t xs ≡ true
+all-each t [] h = refl
+all-each t (x ∷ xs) h = true_both (t x) (list_all t xs) h.0 (all-each t xs h.1)
 
 each-same : {X Y : Type 0} (P : X → Type 0) (f g : X → Y) → ((x : X) → P x → f x ≡ g x) → (xs : List X) → AllByRecursion P xs → each_of f xs ≡ each_of g xs
 each-same P f g h [] a = refl
@@ -98,7 +102,7 @@ pub record IsSeen (n p : ℕ) (s : Scope) (o : Operand (List ℕ)) : Type 0 wher
 abbrev form-of : Operand (List ℕ) → OperandForm
 form-of o = record { name = o.name; child = Some (decimal o.place.0, decimal o.place.1); mode = o.mode }
 
-module _ (n p : ℕ) (few : p < bound) (s : Scope) where
+module _ (n p : ℕ) (few : p < 2 ^ 63) (s : Scope) where
   form-says : (o : Operand (List ℕ)) → IsSeen n p s o → operand_said (form-of o) ≡ o
   form-says o h =
       let i = decimal-counts o.place.0 (omega (arith, h.place.0)) in

@@ -1,6 +1,7 @@
 pub mod Cut
 pub mod Dividing
 pub mod Digits
+pub mod Numerals
 pub mod Each
 pub mod Last
 pub mod Walking

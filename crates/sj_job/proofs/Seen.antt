@@ -74,7 +74,7 @@ root_by f S name q None e = nothing_there (bytes_eq q name) (root_of S q) (λ t.
 root_by f S name q (Some r) e =
     map.get-insert nat_list_cmp_total S.roots name (f r) q ∙ ap (λ b. cond b (Some (f r)) (root_of S q)) (sym (texts_ties q name))
 
-root_changed : (f : Root → Root) (S : State) (name q : List ℕ) → root_of (change f name S) q ≡ cond (bytes_eq q name) (option_map f (root_of S name)) (root_of S q)
+pub root_changed : (f : Root → Root) (S : State) (name q : List ℕ) → root_of (change f name S) q ≡ cond (bytes_eq q name) (option_map f (root_of S name)) (root_of S q)
 unfolding changed_by
 root_changed f S name q = root_by f S name q (root_of S name) refl
 

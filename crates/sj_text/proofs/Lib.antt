@@ -1,3 +1,10 @@
 pub mod Active
 pub mod Told
 pub mod Words
+pub mod Numbers
+pub mod Bytes
+pub mod Written
+pub mod Following
+pub mod Canonical
+pub mod Front
+pub mod Whole

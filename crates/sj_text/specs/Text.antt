@@ -7,7 +7,6 @@ use Rattle.sj_meaning.specs.Job.{Job}
 use Rattle.sj_job.specs.Settings.{setting_written}
 use Rattle.sj_meaning.specs.Settings.{nodes_of, policy_set, workers_of}
 use Rattle.sj_meaning.specs.Table.{Table, a_root, name_of, undivided}
-use Rattle.sj_job.specs.declared.form.SettingForm.{SettingForm}
 use Rattle.sj_job.specs.declared.form.SettingForm.TheVariants.{Workers, Node, Policy}
 use Rattle.sj_meaning.specs.declared.settings.Settings.{Settings}
 use Rattle.sj_plan.specs.declared.parts.Parts.{Parts}

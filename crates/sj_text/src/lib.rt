@@ -2,6 +2,7 @@
 #![tactic(auto)]
 
 mod act;
+pub mod again;
 mod array;
 mod plans;
 mod settings;
