@@ -1,7 +1,7 @@
 -- The stakes of a pass, one in each queue: what changes with one of them, and what is known when there is one alone.
 use Rattle.std.proofs.Common.{◌≡◌, ◌≢◌, ℕ, zero, suc, ◌<◌, ◌≤◌, ◌+◌, ◌-◌, true, false, true≢false, List, [], ◌∷◌, ◌++◌, length, get_or, set, take, drop, map, All, sum_by, Option, Some, None, IfSome, IfNone, Result, Ok, Err, OnOk, OnErr, refl, sym, ap, ◌∙◌, subst, ⊎_elim, arith, append_assoc, add-one, length-append}
 use Rattle.std.specs.List.{flat_map}
-use Rattle.std.proofs.lemmas.List.{append-nil, get_or-map, get_or-set_other, length-map, length-set, map-append, map-set, set-get_or}
+use Rattle.std.proofs.lemmas.List.{append-nil, get_or-map, get_or-set_other, length-map, length-set, map-append, map-set, set-get_or, take_at}
 use Rattle.std.proofs.lemmas.List.Elements.{All-pop}
 use lib.Seq.{map-set_same}
 use Rattle.std.proofs.lemmas.Bool.{cases_eq}
@@ -14,7 +14,8 @@ use Rattle.sj_base.specs.declared.mode.Policy.{Policy}
 use Rattle.sj_base.specs.declared.mode.Policy.TheVariants.{Eager, Prio, Ws}
 use Rattle.sj_steal.specs.declared.account.Account.{Account}
 use Rattle.sj_steal.specs.Account.{after_put, after_take, as_one, times, Knows}
-use Rattle.sj_steal.specs.Facts.{StakeFacts, SharedFacts, PassFacts, pool, lane_count, home, new_pass, new_stake, with_a_part_less, lanes_of, parts_of, put_through, taken_through, having_put, having_taken, HasShare, HasTaken, HasTakenAll, AreStakes}
+use Rattle.sj_steal.specs.Facts.{StakeFacts, SharedFacts, PassFacts, pool, new_pass, new_stake, with_a_part_less, lanes_of, parts_of, put_through, taken_through, having_put, having_taken, HasShare, HasTaken, HasTakenAll, AreStakes}
+use Rattle.sj_pool.specs.Pool.{queue_count, home}
 use Rattle.sj_steal.proofs.Accounts.{times_append}
 
 -- ---- a list of which the elements up to a place, or from it on, are changed already
@@ -135,12 +136,12 @@ last_part P xs ys rest s all h = part_at P xs (length ys) s (omega (arith, ap le
 abbrev pub seen : Policy → ℕ → ℕ → List StakeFacts → PassFacts
 seen p workers number xs = record { shared = pool p workers (lanes_of xs); number = number; put = put_through xs; taken = taken_through xs }
 
-pub home_below : (p : Policy) (number workers : ℕ) → number < workers → home p number < lane_count p workers
+pub home_below : (p : Policy) (number workers : ℕ) → number < workers → home p number < queue_count p workers
 home_below Eager number workers h = omega arith
 home_below Prio number workers h = omega arith
 home_below Ws number workers h = h
 
-pub one_lane : (p : Policy) (workers : ℕ) → workers ≡ 1 → lane_count p workers ≡ 1
+pub one_lane : (p : Policy) (workers : ℕ) → workers ≡ 1 → queue_count p workers ≡ 1
 one_lane Eager workers h = refl
 one_lane Prio workers h = refl
 one_lane Ws workers h = h
@@ -226,7 +227,7 @@ module _ (p : Policy) (number workers : ℕ) (xs : List StakeFacts) (k : ℕ) (s
 
     pub take_in_order : (r : Option Task) (policy : Policy) → policy ≡ p → IfSome r (λ u. t.account ≡ after_take s.account u) → IfSome r (λ u. policy ≡ Eager → seen p workers number (set xs k t) ≡ having_taken P u)
     take_in_order None policy same e = tt
-    take_in_order (Some u) policy same e = λ eager. in_order u (h.count ∙ ap (λ q. lane_count q workers) (sym same ∙ eager)) e ∙ ap (λ q. having_taken q u) view
+    take_in_order (Some u) policy same e = λ eager. in_order u (h.count ∙ ap (λ q. queue_count q workers) (sym same ∙ eager)) e ∙ ap (λ q. having_taken q u) view
 
     pub take_none : (r : Option Task) → IfNone r (t.account ≡ s.account) → IfNone r (seen p workers number (set xs k t) ≡ P)
     take_none (Some u) e = tt
@@ -303,14 +304,9 @@ module _ (lanes : List (SegId Global)) (whole whole0 stakes popped stakes0 rest 
       even,
     )
 
-pub snoc_parts : {X : Type 0} (xs ys : List X) (x y : X) → xs ++ x ∷ [] ≡ ys ++ y ∷ [] → (xs ≡ ys) × (x ≡ y)
-snoc_parts [] [] x y e = (refl, cc)
-snoc_parts [] (z ∷ ys) x y e = absurd (omega (arith, ap length e, length-append ys (y ∷ [])))
-snoc_parts (z ∷ xs) [] x y e = absurd (omega (arith, ap length e, length-append xs (x ∷ [])))
-snoc_parts (z ∷ xs) (u ∷ ys) x y e =
-    let head : z ≡ u = cc in
-    let tail : xs ++ x ∷ [] ≡ ys ++ y ∷ [] = cc in
-    let rest = snoc_parts xs ys x y tail in ((λ i. head i ∷ rest.0 i), rest.1)
+-- two lists of one length, with one element more each
+pub all_but_last : {X : Type 0} (xs ys : List X) (x y : X) → xs ++ x ∷ [] ≡ ys ++ y ∷ [] → xs ≡ ys
+all_but_last xs ys x y e = sym (take_at xs (x ∷ []) (length ys) (omega (arith, ap length e, length-append xs (x ∷ []), length-append ys (y ∷ [])))) ∙ ap (take (length ys)) e ∙ take_at ys (y ∷ []) (length ys) refl
 
 pub parts_popped : (P : ℕ → Type 0) (xs ys : List StakeFacts) (s : StakeFacts) → xs ≡ ys ++ s ∷ [] → All P (parts_of xs) → All P (parts_of ys)
 parts_popped P xs ys s e h = (All-pop P (parts_of xs) (parts_of ys) (Some s.account.parts) (ap parts_of e ∙ map-append (λ (x : StakeFacts). x.account.parts) ys (s ∷ [])) h).0
@@ -365,7 +361,7 @@ new_lists parts [] k d lt = absurd (omega arith)
 new_lists parts (l ∷ ls) zero d lt = refl
 new_lists parts (l ∷ ls) (suc k) d lt = new_lists parts ls k d (omega arith)
 
-pub new_are_stakes : (p : Policy) (number workers parts : ℕ) (lanes : List (SegId Global)) → number < workers → length lanes ≡ lane_count p workers → HasShare number workers parts
+pub new_are_stakes : (p : Policy) (number workers parts : ℕ) (lanes : List (SegId Global)) → number < workers → length lanes ≡ queue_count p workers → HasShare number workers parts
     → AreStakes p number workers (map (new_stake parts) lanes)
 new_are_stakes p number workers parts lanes below count share = record {
   worker = below;

@@ -5,7 +5,7 @@ use Rattle.std.specs.declared.alloc.Global.{Global}
 use Rattle.crossbeam_queue.specs.SegTies.{SegId}
 use Rattle.sj_base.specs.declared.ids.Task.{Task}
 use Rattle.sj_base.specs.declared.mode.Policy.{Policy}
-use Rattle.sj_base.specs.declared.mode.Policy.TheVariants.{Ws}
+use Rattle.sj_pool.specs.Pool.{home, queue_count}
 use Rattle.sj_steal.specs.declared.account.Account.{Account}
 use Rattle.sj_steal.specs.Account.{account, after_deal, times}
 
@@ -29,18 +29,6 @@ pub record PassFacts : Type 0 where
 
 abbrev pub pool : Policy → ℕ → List (SegId Global) → SharedFacts
 pool policy workers lanes = record { policy = policy; workers = workers; lanes = lanes }
-
--- ---- queues
-
--- how many queues there are: one, or under ws one for each worker
-abbrev pub lane_count : Policy → ℕ → ℕ
-lane_count Ws workers = workers
-lane_count _ workers = 1
-
--- the number of the queue in which a worker puts
-abbrev pub home : Policy → ℕ → ℕ
-home Ws number = number
-home _ number = 0
 
 -- ---- stakes
 
@@ -71,9 +59,9 @@ HasShare number workers parts = (number + 1 < workers → parts ≡ 1) × (numbe
 -- the stakes of a worker's pass, one in each queue: of each it has its share, and in those behind its own it put nothing
 pub record AreStakes (policy : Policy) (number workers : ℕ) (stakes : List StakeFacts) : Type 0 where
   pub worker : number < workers
-  pub count : length stakes ≡ lane_count policy workers
+  pub count : length stakes ≡ queue_count policy workers
   pub shares : All (HasShare number workers) (parts_of stakes)
-  pub own : AllWithin (λ put. put ≡ []) (map (λ s. s.account.put) stakes) (home policy number + 1) (lane_count policy workers)
+  pub own : AllWithin (λ put. put ≡ []) (map (λ s. s.account.put) stakes) (home policy number + 1) (queue_count policy workers)
 
 -- ---- passes
 

@@ -181,7 +181,8 @@ pub fn drain<R: Wait>(
 ) -> Result<(), OutOfMemory>
     requires of { stake.lane ≡ lane }
     requires parts { stake.account.parts ≡ 256 }
-    ensures { OnOk result ((t : Task) → times t stake.account.put + times t left.old.items ≡ times t stake.account.taken + times t left.new.items) }
+    ensures { OnOk result ((t : Task) → times t stake.account.put + times t left.old.items
+        ≡ times t stake.account.taken + times t left.new.items) }
 {
     for _ in rt.forever() {
         let Some(t) = lane.take(rt, &mut stake) else {

@@ -3,7 +3,8 @@
 ghost use Rattle.std.specs.Prelude.{◌≡◌, ◌+◌, ◌<◌, All, IfOk, OnOk, length, map, sum_by};
 ghost use Rattle.sj_base.specs.declared.ids.Task.{Task};
 ghost use Rattle.sj_steal.specs.Account.{times};
-ghost use Rattle.sj_steal.specs.Facts.{home, lane_count, lanes_of, new_stake, parts_of, put_through, taken_through, with_a_part_less};
+ghost use Rattle.sj_steal.specs.Facts.{lanes_of, new_stake, parts_of, put_through, taken_through, with_a_part_less};
+ghost use Rattle.sj_pool.specs.Pool.{home, queue_count};
 
 use crate::lane::{Lane, Stake, drain};
 use sj_base::ids::Task;
@@ -13,8 +14,8 @@ use std::alloc::Global;
 use std::sync::Wait;
 
 /// How many queues there are.
-pub fn lane_count(policy: Policy, workers: u8) -> u8
-    ensures { result ≡ lane_count policy workers }
+pub fn queue_count(policy: Policy, workers: u8) -> u8
+    ensures { result ≡ queue_count policy workers }
 {
     match policy {
         Policy::Eager | Policy::Prio => 1,
@@ -33,7 +34,7 @@ pub fn home(policy: Policy, number: u8) -> u8
 }
 
 /// So many empty queues, and a stake with every part in each.
-pub fn opened(alloc: Global, count: u8) -> Result<(Vec<Lane>, Vec<Stake>), OutOfMemory>
+pub fn open_lanes(alloc: Global, count: u8) -> Result<(Vec<Lane>, Vec<Stake>), OutOfMemory>
     ensures count { IfOk result (λ r. length r.0.items ≡ count) }
     ensures whole { IfOk result (λ r. r.1.items ≡ map (new_stake 256) r.0.items) }
 {
@@ -67,13 +68,17 @@ pub fn dealt(
 
 /// Gives all that some stakes have to others in the same queues.
 pub fn merge(lanes: &Vec<Lane>, whole: &mut Vec<Stake>, mut stakes: Vec<Stake>)
-    requires of { (lanes_of whole.old.items ≡ lanes.now.items) × (lanes_of stakes.items ≡ lanes.now.items) }
+    requires of { (lanes_of whole.old.items ≡ lanes.now.items)
+        × (lanes_of stakes.items ≡ lanes.now.items) }
     requires some { All (λ parts. 0 < parts) (parts_of whole.old.items) }
     requires one { All (λ parts. parts ≡ 1) (parts_of stakes.items) }
     ensures of { lanes_of whole.new.items ≡ lanes.now.items }
-    ensures parts { parts_of whole.new.items ≡ map (λ parts. parts + 1) (parts_of whole.old.items) }
-    ensures put { (t : Task) → times t (put_through whole.new.items) ≡ times t (put_through whole.old.items) + times t (put_through stakes.items) }
-    ensures taken { (t : Task) → times t (taken_through whole.new.items) ≡ times t (taken_through whole.old.items) + times t (taken_through stakes.items) }
+    ensures parts { parts_of whole.new.items
+        ≡ map (λ parts. parts + 1) (parts_of whole.old.items) }
+    ensures put { (t : Task) → times t (put_through whole.new.items)
+        ≡ times t (put_through whole.old.items) + times t (put_through stakes.items) }
+    ensures taken { (t : Task) → times t (taken_through whole.new.items)
+        ≡ times t (taken_through whole.old.items) + times t (taken_through stakes.items) }
 {
     while let Some(stake) = stakes.pop() {
         let k = stakes.len();
@@ -90,7 +95,8 @@ pub fn drained<R: Wait>(
 ) -> Result<Vec<Task>, OutOfMemory>
     requires of { lanes_of stakes.items ≡ lanes.items }
     requires parts { All (λ parts. parts ≡ 256) (parts_of stakes.items) }
-    ensures { IfOk result (λ left. (t : Task) → times t (put_through stakes.items) ≡ times t (taken_through stakes.items) + times t left.items) }
+    ensures { IfOk result (λ left. (t : Task) → times t (put_through stakes.items)
+        ≡ times t (taken_through stakes.items) + times t left.items) }
 {
     let mut left = Vec::new(alloc);
     while let Some(lane) = lanes.pop() {

@@ -4,10 +4,11 @@ ghost use Rattle.std.specs.Prelude.{◌≡◌, ◌≢◌, ◌+◌, ◌<◌, All,
 ghost use Rattle.sj_base.specs.declared.ids.Task.{Task};
 ghost use Rattle.sj_base.specs.declared.mode.Policy.TheVariants.{Eager, Prio};
 ghost use Rattle.sj_steal.specs.Account.{times};
-ghost use Rattle.sj_steal.specs.Facts.{pool, lane_count, lanes_of, new_passes, new_stake, parts_of, put_through, taken_through, having_put, having_taken, HasTaken, AreAllPasses, HasTakenAll, AreBalanced, puts_of, takes_of};
+ghost use Rattle.sj_steal.specs.Facts.{pool, lanes_of, new_passes, new_stake, parts_of, put_through, taken_through, having_put, having_taken, HasTaken, AreAllPasses, HasTakenAll, AreBalanced, puts_of, takes_of};
+ghost use Rattle.sj_pool.specs.Pool.{queue_count};
 
 use crate::lane::{Lane, Stake};
-use crate::lanes::{dealt, drained, home, lane_count, merge, opened};
+use crate::lanes::{dealt, drained, home, merge, open_lanes, queue_count};
 use sj_base::ids::Task;
 use sj_base::memory::OutOfMemory;
 use sj_base::mode::Policy;
@@ -25,13 +26,15 @@ pub struct Shared {
 
 impl Model for Shared {
     ghost use Rattle.std.specs.Prelude.{◌≡◌, ◌<◌, length};
-    ghost use Rattle.sj_steal.specs.Facts.{SharedFacts, lane_count, pool};
+    ghost use Rattle.sj_steal.specs.Facts.{SharedFacts, pool};
+    ghost use Rattle.sj_pool.specs.Pool.{queue_count};
 
     ghost Value = { SharedFacts };
 
     ghost view = { λ c. pool c.policy c.workers c.lanes.items };
 
-    ghost invariant = { λ c. (0 < c.workers) × (length c.lanes.items ≡ lane_count c.policy c.workers) };
+    ghost invariant = { λ c. (0 < c.workers)
+        × (length c.lanes.items ≡ queue_count c.policy c.workers) };
 }
 
 /// No task was found.
@@ -66,7 +69,7 @@ fn passes(
     mut rest: Vec<Stake>,
 ) -> Result<Vec<Pass>, OutOfMemory>
     requires some { 0 < workers }
-    requires count { length lanes.now.items ≡ lane_count policy workers }
+    requires count { length lanes.now.items ≡ queue_count policy workers }
     requires whole { rest.items ≡ map (new_stake 256) lanes.now.items }
     ensures { IfOk result (λ v. v.items ≡ new_passes (pool policy workers lanes.now.items)) }
 {
@@ -134,7 +137,7 @@ impl Shared {
         ensures new { IfOk result (λ r. r.1.items ≡ new_passes r.0) }
         ensures in_place { IfOk result (λ r. AreAllPasses r.0 r.1.items) }
     {
-        let (lanes, stakes) = opened(alloc, lane_count(policy, workers))?;
+        let (lanes, stakes) = open_lanes(alloc, queue_count(policy, workers))?;
         let passes = passes(alloc, &lanes, policy, workers, stakes)?;
         Ok((
             Shared {
@@ -166,7 +169,8 @@ impl Shared {
         ensures of { pass.new.shared ≡ self.now }
         ensures number { pass.new.number ≡ pass.old.number }
         ensures some { IfSome result (λ t. HasTaken pass.old t pass.new) }
-        ensures order { IfSome result (λ t. self.now.policy ≡ Eager → pass.new ≡ having_taken pass.old t) }
+        ensures order { IfSome result
+            (λ t. self.now.policy ≡ Eager → pass.new ≡ having_taken pass.old t) }
         ensures none { IfNone result (pass.new ≡ pass.old) }
         ensures empty { IfNone result (self.now.workers ≡ 1 → HasTakenAll pass.old) }
     {
@@ -180,7 +184,8 @@ impl Shared {
         ensures of { pass.new.shared ≡ self.now }
         ensures number { pass.new.number ≡ pass.old.number }
         ensures ok { IfOk result (λ t. HasTaken pass.old t pass.new) }
-        ensures order { IfOk result (λ t. self.now.policy ≡ Eager → pass.new ≡ having_taken pass.old t) }
+        ensures order { IfOk result
+            (λ t. self.now.policy ≡ Eager → pass.new ≡ having_taken pass.old t) }
         ensures err { OnErr result (pass.new ≡ pass.old) }
     {
         let count = self.lanes.len();
@@ -201,7 +206,8 @@ impl Shared {
         ensures number { pass.new.number ≡ pass.old.number }
         ensures ok { IfOk result (λ t. HasTaken pass.old t pass.new) }
         // Under `eager` the tasks that a pass took are in their order.
-        ensures order { IfOk result (λ t. self.now.policy ≡ Eager → pass.new ≡ having_taken pass.old t) }
+        ensures order { IfOk result
+            (λ t. self.now.policy ≡ Eager → pass.new ≡ having_taken pass.old t) }
         ensures err { OnErr result (pass.new ≡ pass.old) }
         ensures empty { OnErr result (self.now.workers ≡ 1 → HasTakenAll pass.old) }
     {

@@ -150,7 +150,7 @@ fn none_is_lost<R: Threads + Wait + Abort + Sync>(
     requires { policy ≢ Prio }
 {
     let (left, takes) = left_of_threads(rt, alloc, policy, 3, 20000)?;
-    assert_eq!(rt; left.len() as u64 + takes, 20000);
+    assert_eq!(rt; takes.wrapping_add(left.len() as u64), 20000);
     Ok(())
 }
 

@@ -1,7 +1,7 @@
 use Rattle.std.proofs.Common.{◌≡◌, ◌∙◌, ◌∷◌, [], ◌++◌, ap, sym, arith, length, length-append}
 use Rattle.std.proofs.lemmas.List.{length-map, map-append}
 use Rattle.sj_steal.specs.Facts.{StakeFacts, lanes_of, parts_of}
-use Rattle.sj_steal.proofs.Stakes.{none_from, none_through, parts_popped, snoc_parts, times_last}
+use Rattle.sj_steal.proofs.Stakes.{all_but_last, none_from, none_through, parts_popped, times_last}
 use Rattle.sj_steal.proofs.lanes.drained.Goals as goal
 
 pub loop-lane-smaller : goal.loop-lane-smaller
@@ -14,7 +14,7 @@ loop-lane-preserved g c =
     let s = c.in-Some-pop.stake in
     let e = c.in-Some-pop.ensures.items in
     record {
-      of = (snoc_parts (lanes_of popped) c.pop.new.self.items s.lane c.in-Some.lane (sym (map-append (λ (x : StakeFacts). x.lane) popped (s ∷ [])) ∙ ap lanes_of (sym e) ∙ inv.of ∙ c.in-Some.ensures.items)).0;
+      of = all_but_last (lanes_of popped) c.pop.new.self.items s.lane c.in-Some.lane (sym (map-append (λ (x : StakeFacts). x.lane) popped (s ∷ [])) ∙ ap lanes_of (sym e) ∙ inv.of ∙ c.in-Some.ensures.items);
       parts = parts_popped (λ n. n ≡ 256) c.loop-lane.stakes.items popped s e inv.parts;
       even = λ t. omega (
         arith,

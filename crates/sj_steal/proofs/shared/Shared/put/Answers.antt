@@ -1,5 +1,6 @@
 use Rattle.std.proofs.Common.{◌≡◌, ◌∙◌, ◌<◌, ap, sym, arith, length}
-use Rattle.sj_steal.specs.Facts.{SharedFacts, PassFacts, home}
+use Rattle.sj_steal.specs.Facts.{SharedFacts, PassFacts}
+use Rattle.sj_pool.specs.Pool.{home}
 use Rattle.sj_steal.proofs.Stakes.{home_below, keeps_put, lane_at, put_err, put_ok, some_part, still_of}
 use Rattle.sj_steal.proofs.shared.Shared.put.Goals as goal
 

@@ -1,6 +1,6 @@
 use Rattle.std.proofs.Common.{◌≡◌, length, map}
 use Rattle.sj_steal.specs.Facts.{new_stake}
-use Rattle.sj_steal.proofs.lanes.opened.Given as goal
+use Rattle.sj_steal.proofs.lanes.open_lanes.Given as goal
 
 -- so many queues are open, with a whole stake in each
 abbrev pub invariant-loop-number : goal.invariant-loop-number
