@@ -18,16 +18,12 @@ pub none_known : (r : Option Task) (same : Type 0) (then : Task → Type 0) (v w
 none_known None same then v w h e = subst (λ (u : Account). Knows u []) e h.1
 none_known (Some t) same then v w h e = tt
 
--- the one worker's pass has every part
-pub alone : (h : Account) (number workers : ℕ) → number < workers → HasShare number workers h.parts → workers ≡ 1 → Knows h [] → (t : Task) → times t h.put ≡ times t h.taken
-alone h number workers below share one known t = omega (arith, known (omega (arith, share.1 (omega arith))) t)
-
 -- what was put and taken by all passes, and what was drained by one that has all of it
-pub balanced : (r : Result (Vec Task) OutOfMemory) (h : Account) (passes : List PassFacts) → IfOk r (λ left. (t : Task) → times t h.put ≡ times t h.taken + times t left.items)
-    → ((t : Task) → times t h.put ≡ sum_by (λ p. times t p.put) passes) → ((t : Task) → times t h.taken ≡ sum_by (λ p. times t p.taken) passes)
+pub balanced : (r : Result (Vec Task) OutOfMemory) (put_all taken_all : List Task) (passes : List PassFacts) → IfOk r (λ left. (t : Task) → times t put_all ≡ times t taken_all + times t left.items)
+    → ((t : Task) → times t put_all ≡ sum_by (λ p. times t p.put) passes) → ((t : Task) → times t taken_all ≡ sum_by (λ p. times t p.taken) passes)
     → IfOk r (λ left. AreBalanced passes left.items)
-balanced (Ok left) h passes even put taken = λ t. omega (arith, even t, put t, taken t)
-balanced (Err e) h passes even put taken = tt
+balanced (Ok left) put_all taken_all passes even put taken = λ t. omega (arith, even t, put t, taken t)
+balanced (Err e) put_all taken_all passes even put taken = tt
 
 -- of a list whose last element is known
 pub split_sum : {X : Type 0} (f : X → ℕ) (xs ys : List X) (x : X) → xs ≡ ys ++ x ∷ [] → sum_by f xs ≡ sum_by f ys + f x

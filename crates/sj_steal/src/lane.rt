@@ -1,7 +1,9 @@
-//! The one queue of the policy `eager`, under a rule that each step keeps, and one function for each kind of step.
+//! A queue, first in, first out, under a rule that each step keeps, and one function for each kind of step.
 
-ghost use Rattle.std.specs.Prelude.{◌≡◌, ◌<◌, [], IfOk, IfSome, IfNone, OnOk, OnErr};
-ghost use Rattle.sj_steal.specs.Account.{account, after_put, after_take, after_deal, as_one, Balances, Knows};
+ghost use Rattle.std.specs.Prelude.{◌≡◌, ◌+◌, ◌<◌, [], IfOk, IfSome, IfNone, OnOk, OnErr};
+ghost use Rattle.sj_base.specs.declared.ids.Task.{Task};
+ghost use Rattle.sj_steal.specs.Account.{after_put, after_take, as_one, Knows, times};
+ghost use Rattle.sj_steal.specs.Facts.{new_stake, with_a_part_less};
 
 use crate::account::Account;
 use crossbeam_queue::protocol::{Join, Lesson, Outcome, Protocol, Split};
@@ -91,9 +93,11 @@ impl Drop for Lane {
     }
 }
 
-/// What one worker has put into a queue and taken out of it. It has no bytes.
+/// What one worker has put into a queue and taken out of it.
 #[derive(Drop)]
 pub struct Stake {
+    /// The queue's number, since a value with no bytes can't stand in a list.
+    number: u8,
     pass: SegPass<Task, Account>,
 }
 
@@ -109,25 +113,26 @@ impl Model for Stake {
 }
 
 impl Lane {
-    /// An empty queue, and a pass with every part.
-    pub fn open(alloc: Global) -> Result<(Lane, Stake), OutOfMemory>
-        ensures of { IfOk result (λ r. r.1.lane ≡ r.0) }
-        ensures first { IfOk result (λ r. r.1.account ≡ account 256 [] []) }
+    /// An empty queue, and a stake with every part.
+    pub fn open(alloc: Global, number: u8) -> Result<(Lane, Stake), OutOfMemory>
+        ensures { IfOk result (λ r. r.1 ≡ new_stake 256 r.0) }
     {
         let (queue, pass) = RuledSegQueue::with_rule(alloc)?;
-        Ok((Lane { queue }, Stake { pass }))
+        Ok((Lane { queue }, Stake { number, pass }))
     }
 
-    /// One more pass, with one part of another's.
+    /// One more stake, with one part of another's.
     pub fn deal(&self, stake: &mut Stake) -> Stake
         requires of { stake.old.lane ≡ self.now }
         requires parts { 1 < stake.old.account.parts }
-        ensures of { (stake.new.lane ≡ self.now) × (result.lane ≡ self.now) }
-        ensures left { stake.new.account ≡ after_deal stake.old.account }
-        ensures right { result.account ≡ account 1 [] [] }
+        ensures left { stake.new ≡ with_a_part_less stake.old }
+        ensures right { result ≡ new_stake 1 self.now }
     {
         let pass = self.queue.another::<Cut>(&mut stake.pass);
-        Stake { pass }
+        Stake {
+            number: stake.number,
+            pass,
+        }
     }
 
     /// Puts a task at the back.
@@ -167,21 +172,21 @@ impl Lane {
     }
 }
 
-/// Takes what is left in a queue, by a pass with every part.
+/// Takes what is left in a queue, by a stake with every part, and appends it to a list.
 pub fn drain<R: Wait>(
     rt: &R,
-    alloc: Global,
     lane: Lane,
     mut stake: Stake,
-) -> Result<Vec<Task>, OutOfMemory>
+    left: &mut Vec<Task>,
+) -> Result<(), OutOfMemory>
     requires of { stake.lane ≡ lane }
     requires parts { stake.account.parts ≡ 256 }
-    ensures { IfOk result (λ left. Balances stake.account left.items) }
+    ensures { OnOk result ((t : Task) → times t stake.account.put + times t left.old.items
+        ≡ times t stake.account.taken + times t left.new.items) }
 {
-    let mut left = Vec::new(alloc);
     for _ in rt.forever() {
         let Some(t) = lane.take(rt, &mut stake) else {
-            return Ok(left);
+            return Ok(());
         };
         left.push(t)?;
     }

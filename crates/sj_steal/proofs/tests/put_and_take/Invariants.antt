@@ -1,5 +1,5 @@
 use Rattle.std.proofs.Common.{◌≡◌}
-use Rattle.sj_steal.proofs.tests.put_twice_take_once.Given as goal
+use Rattle.sj_steal.proofs.tests.put_and_take.Given as goal
 
 abbrev pub invariant-loop-t : goal.invariant-loop-t
 invariant-loop-t g l = record {
