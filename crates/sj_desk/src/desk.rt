@@ -329,13 +329,6 @@ impl<T: Keyed> Desk<T> {
         self.end(ticket)
     }
 
-    // Wakes all that sleep, for tests that are to end whatever happens.
-    #[cfg(test)]
-    pub(crate) fn wake_sleepers(&self) {
-        self.table.shared.wake_all(TURN);
-        self.table.shared.wake_all(BELL);
-    }
-
     // Joins all seats into one, which answers for all rows.
     fn gather(&self, mut seats: Vec<DeskSeat<T>>) -> Ticket<T>
         requires waiting { All (IsWaiting self.now) seats.items }

@@ -2,7 +2,7 @@
 ghost use Rattle.std.specs.Prelude.{◌≡◌, ◌<◌, is_some, true};
 ghost use Rattle.sj_desk.specs.Seats.{AreInPlace, IsWaiting};
 
-use super::{Journal, note, opened};
+use super::{Journal, note, opened, visit};
 use sj_desk::{Desk, DeskSeat};
 use std::alloc::Global;
 use std::sync::Wait;
@@ -73,7 +73,7 @@ fn spent<R: CpuClock>(rt: &R) -> Duration {
     rt.thread_cpu_time().unwrap_or(Duration::ZERO)
 }
 
-// Wakes whoever sleeps, and notes it, until so many are done.
+// Rings and has a turn, by which whoever sleeps wakes, and notes it, until so many are done.
 fn see_to_the_end<R: Wait + Clock>(
     rt: &R,
     desk: &Desk<Journal>,
@@ -91,7 +91,7 @@ fn see_to_the_end<R: Wait + Clock>(
         }
         watch.forgotten.store(1, Ordering::SeqCst);
         desk.ring(seat);
-        desk.wake_sleepers();
+        visit(rt, desk, seat);
     }
 }
 
