@@ -147,6 +147,7 @@ expect 'a swap with just enough room' 0 $'x: 1 2\n' ''
 source "$here/program_swap.sh"
 source "$here/program_streams.sh"
 source "$here/program_workers.sh"
+source "$here/program_texts.sh"
 
 run ''
 expect 'an empty input' 3 '' $'starjob: line 1: header\n'

@@ -41,22 +41,20 @@ split-space (b ∷ w) rest h =
     ap (λ t. cond t ([] ∷ slice_split is_blank (w ++ 32 ∷ rest)) (onto_first b (slice_split is_blank (w ++ 32 ∷ rest)))) (visible-unblank b q.0)
     ∙ ap (onto_first b) (split-space w rest q.1)
 
-abbrev some_of : List (List ℕ) → List (List ℕ)
-some_of ws = filter (λ w. not (is_empty w)) ws
-
-kept : (w : List ℕ) (ws : List (List ℕ)) → is_word w ≡ true → some_of (w ∷ ws) ≡ w ∷ some_of ws
-kept w ws h = ap (λ t. cond t (w ∷ some_of ws) (some_of ws)) (both_true (not (is_empty w)) (list_all is_visible w) h).0
+kept : (w : List ℕ) (ws vs : List (List ℕ)) → is_word w ≡ true → filter (λ w. not (is_empty w)) ws ≡ vs → filter (λ w. not (is_empty w)) (w ∷ ws) ≡ w ∷ vs
+kept w ws vs h e =
+    ap (λ t. cond t (w ∷ filter (λ w. not (is_empty w)) ws) (filter (λ w. not (is_empty w)) ws)) (both_true (not (is_empty w)) (list_all is_visible w) h).0
+    ∙ ap (λ l. w ∷ l) e
 
 pub words-joined : (ws : List (List ℕ)) → list_all is_word ws ≡ true → words (join_with_byte 32 ws) ≡ ws
 words-joined [] h = refl
 words-joined (w ∷ []) h =
     let one = (both_true (is_word w) true h).0 in
-    ap some_of (split-word w (both_true (not (is_empty w)) (list_all is_visible w) one).1) ∙ kept w [] one
+    ap (filter (λ w. not (is_empty w))) (split-word w (both_true (not (is_empty w)) (list_all is_visible w) one).1) ∙ kept w [] [] one refl
 words-joined (w ∷ v ∷ ws) h =
     let q = both_true (is_word w) (list_all is_word (v ∷ ws)) h in
-    ap some_of (split-space w (join_with_byte 32 (v ∷ ws)) (both_true (not (is_empty w)) (list_all is_visible w) q.0).1)
-    ∙ kept w (slice_split is_blank (join_with_byte 32 (v ∷ ws))) q.0
-    ∙ ap (λ l. w ∷ l) (words-joined (v ∷ ws) q.1)
+    ap (filter (λ w. not (is_empty w))) (split-space w (join_with_byte 32 (v ∷ ws)) (both_true (not (is_empty w)) (list_all is_visible w) q.0).1)
+    ∙ kept w (slice_split is_blank (join_with_byte 32 (v ∷ ws))) (v ∷ ws) q.0 (words-joined (v ∷ ws) q.1)
 
 word-allowed : (w : List ℕ) → is_word w ≡ true → list_all is_allowed w ≡ true
 word-allowed w h = all-weaker is_visible is_allowed visible-allowed w (both_true (not (is_empty w)) (list_all is_visible w) h).1

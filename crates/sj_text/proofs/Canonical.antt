@@ -207,10 +207,6 @@ not-missing n S plans o h =
     ∙ ap (λ (p : Parts). not (is_child_said p index)) (sym h.under)
     ∙ ap not (said-by (is_whole (plans o.name)) (plans o.name) (place_said o) refl h.child fits.0 fits.1)
 
-or-false : (a b : Bool) → a ≡ false → b ≡ false → (a || b) ≡ false
-or-false true b h k = absurd (cc)
-or-false false b h k = k
-
 -- what holds of all operands' forms
 record AreAgain (n : ℕ) (S : State) (plans : Plans) (os : List OperandForm) : Type 0 where
   say : map operand_said (operand-forms plans os) ≡ map operand_said os
@@ -224,7 +220,7 @@ are-again n S plans (o ∷ os) f h =
     let rest = are-again n S plans os f q.1 in
     record {
       say = λ i. operand-says n S plans o here i ∷ rest.say i;
-      present = or-false (is_missing (scope_of n S) (operand-form plans o)) (list_any (is_missing (scope_of n S)) (operand-forms plans os)) (not-missing n S plans o here) rest.present;
+      present = λ i. not-missing n S plans o here i || rest.present i;
     }
 
 are-proper : (plans : Plans) (os : List OperandForm) → list_all is_proper_operand os ≡ true → list_all is_proper_operand (operand-forms plans os) ≡ true

@@ -3,7 +3,7 @@ use Rattle.std.proofs.Common.{◌≡◌, ℕ, ◌+◌, ◌<◌, ◌≤◌, Bool,
 use Rattle.std.specs.Prelude.{All, nat_le, ◌^◌}
 use Rattle.std.specs.Fmt.{decimal}
 use Rattle.std.specs.List.{flat_map, join_with_byte, list_all}
-use Rattle.std.proofs.lemmas.Bool.{le-leb}
+use Rattle.std.proofs.lemmas.Bool.{le-leb, lt-leb}
 use Rattle.std.proofs.lemmas.Bool.Decides.{nat_tests}
 use Rattle.std.proofs.lemmas.List.Elements.{All-from_recursion, All-head, All-tail}
 use Rattle.sj_base.specs.declared.mode.Policy.{Policy}
@@ -106,16 +106,13 @@ workers-read has m n rest h =
 abbrev IsSize : ℕ → Type 0
 IsSize n = (8 ≤ n) × (n ≤ 2 ^ 40)
 
-no-more : (a b : ℕ) → a < b → nat_le b a ≡ false
-no-more a b h = grind (arith, nat_tests)
-
 node-read : (has : Kernel → Bool) (w : Option ℕ) (before : List ℕ) (m n : ℕ) (rest : List ℕ) → length before < 16 → IsSize m → reading_settings has (set w before None) n (lines (node_line m ++ rest)) ≡ reading_settings has (set w (before ++ m ∷ []) None) (n + 1) (lines rest)
 node-read has w before m n rest few h =
     let small : m < 2 ^ 63 = omega (arith, h.1) in
     let says : count (decimal m) ≡ m = decimal-counts m small in
     let within : is_node_size (count (decimal m)) ≡ true = ap is_node_size says ∙ true_both (nat_le 8 m) (nat_le m 1099511627776) (le-leb 8 m h.0) (le-leb m 1099511627776 (omega (arith, h.1))) in
     setting-read has (set w before None) n (Node (decimal m)) rest (decimal-words (codes "node") m small refl)
-    (none-of (not (is_count (decimal m))) (nat_le 16 (length before)) (not (is_node_size (count (decimal m)))) Number (Limit LimitKind.Nodes) (Limit LimitKind.NodeBytes) (ap not (decimal-is_count m small)) (no-more (length before) 16 few) (ap not within))
+    (none-of (not (is_count (decimal m))) (nat_le 16 (length before)) (not (is_node_size (count (decimal m)))) Number (Limit LimitKind.Nodes) (Limit LimitKind.NodeBytes) (ap not (decimal-is_count m small)) (lt-leb 16 (length before) few) (ap not within))
     ∙ ap (λ (k : ℕ). reading_settings has (set w (before ++ k ∷ []) None) (n + 1) (lines rest)) says
 
 nodes-read : (has : Kernel → Bool) (w : Option ℕ) (before ns : List ℕ) (n : ℕ) (rest : List ℕ) → length before + length ns ≤ 16 → All IsSize ns → reading_settings has (set w before None) n (lines (flat_map node_line ns ++ rest)) ≡ reading_settings has (set w (before ++ ns) None) (length ns + n) (lines rest)

@@ -1,8 +1,7 @@
 -- A canonical text is read, line after line.
 use Rattle.std.proofs.Common.{◌≡◌, ℕ, ◌+◌, ◌≤◌, Bool, true, false, not, cond, Result, Ok, Err, List, [], ◌∷◌, ◌++◌, length, refl, sym, ap, ◌∙◌, arith}
-use Rattle.std.specs.Prelude.{nat_lt}
 use Rattle.std.specs.List.{join_with_byte, list_all}
-use Rattle.std.proofs.lemmas.Bool.Decides.{nat_tests}
+use Rattle.std.proofs.lemmas.Bool.{le-ltb}
 use Rattle.sj_codelet.specs.declared.kernel.Kernel.{Kernel}
 use Rattle.sj_job.specs.declared.form.Form.{Form}
 use Rattle.sj_job.specs.declared.reason.Reason.{Reason}
@@ -21,7 +20,7 @@ use Rattle.sj_job.specs.Verdict.{Verdict, Skipped, Does as Says, Bad}
 use Rattle.sj_job.specs.Well.{IsWell}
 use Rattle.sj_job.specs.Word.{is_skipped, lines, words}
 use Rattle.sj_job.proofs.Telling.{says-said}
-use Rattle.sj_text.specs.Again.{first_line, renumbered, said_again, settings_said}
+use Rattle.sj_text.specs.Again.{first_statement_line, renumbered, said_again, settings_said}
 use Rattle.sj_text.specs.Forms.{Plans, form_of_act, no_plans, plans_after}
 use Rattle.sj_text.specs.Text.{header_line, settings_lines, statement_lines, text_of_job}
 use Rattle.sj_text.proofs.Bytes.{allowed-joined, is_word, line-cut, words-joined}
@@ -87,17 +86,14 @@ behind-settings has g n (s ∷ ss) w =
 header-read : (has : Kernel → Bool) (rest : List ℕ) → reading_header has 1 (lines (header_line ++ rest)) ≡ reading_settings has unset 2 (lines rest)
 header-read has rest = refl
 
-not-over : (a b : ℕ) → a ≤ b → nat_lt b a ≡ false
-not-over a b h = grind (arith, nat_tests)
-
 pub text-read : (has : Kernel → Bool) (j : Job) → IsWithinLimits j.settings → IsWell has 0 start j.statements → length (text_of_job j) ≤ text_limit → job_of has (text_of_job j) ≡ Ok (said_again j)
 text-read has j within well fits =
     let text = text_of_job j in
     let g = j.settings in
     let behind = statement_lines no_plans j.statements in
-    let n = first_line g in
+    let n = first_statement_line g in
     let at : length (Rattle.sj_job.specs.Settings.nodes_of g) + 2 + 2 ≡ n = omega arith in
-    ap (λ (b : Bool). cond b (Err (refusal 0 (Rattle.sj_job.specs.declared.reason.Reason.TheVariants.Limit Rattle.sj_job.specs.declared.reason.LimitKind.TheVariants.Text))) (reading_header has 1 (lines text))) (not-over (length text) text_limit fits)
+    ap (λ (b : Bool). cond b (Err (refusal 0 (Rattle.sj_job.specs.declared.reason.Reason.TheVariants.Limit Rattle.sj_job.specs.declared.reason.LimitKind.TheVariants.Text))) (reading_header has 1 (lines text))) (le-ltb text_limit (length text) fits)
     ∙ header-read has (settings_lines g ++ behind)
     ∙ settings-read has g 2 behind within
     ∙ ap (λ (k : ℕ). reading_settings has (settings_said g) k (lines behind)) at

@@ -15,9 +15,9 @@ abbrev pub renumbered : ℕ → List (Statement (List ℕ)) → List (Statement 
 renumbered n [] = []
 renumbered n (s ∷ ss) = statement n s.act ∷ renumbered (n + 1) ss
 
--- the line behind the header, the workers, a line for each node, and the policy
-abbrev pub first_line : Settings → ℕ
-first_line g = length (nodes_of g) + 4
+-- the line of the first statement: behind the header, the workers, a line for each node, and the policy
+abbrev pub first_statement_line : Settings → ℕ
+first_statement_line g = length (nodes_of g) + 4
 
 abbrev pub said_again : Job → Job
-said_again j = job (settings_said j.settings) (renumbered (first_line j.settings) j.statements)
+said_again j = job (settings_said j.settings) (renumbered (first_statement_line j.settings) j.statements)
