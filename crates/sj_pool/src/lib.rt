@@ -5,6 +5,7 @@
 pub mod entry;
 pub mod pool;
 mod queue;
+pub mod released;
 #[cfg(test)]
 mod tests;
 mod tree;
