@@ -1,5 +1,5 @@
 -- What is said of ready tasks and of hands, where one task's progress changes.
-use Rattle.std.proofs.Common.{◌≡◌, ◌≢◌, ℕ, ◌<◌, ◌↔◌, false, List, inl, inr, sym, ap, ◌∙◌, length}
+use Rattle.std.proofs.Common.{◌≡◌, ◌≢◌, ℕ, ◌<◌, ◌↔◌, false, List, inl, inr, sym, subst, ap, ◌∙◌, length}
 use Rattle.std.specs.List.{Contains}
 use Rattle.std.proofs.lemmas.Bool.{false≢true}
 use Rattle.std.proofs.lemmas.List.Sums.{AllPass-from_list_all}
@@ -21,6 +21,13 @@ ready-same p done done' u same ready = record {
   waiting = λ c. ready.waiting ((same u).1 c);
   earlier = λ v before conflict. (same v).0 (ready.earlier v before conflict);
 }
+
+-- a task is ready as the dependencies have it just where it is by the state
+pub ready-counted : (p : Program) (s : State) (deps : Dependencies) → CountsDone p s deps → (u : ℕ) → Ready deps.program deps.done u ↔ Ready p (done_tasks s) u
+ready-counted p s deps counts u = (
+  λ r. ready-same p deps.done (done_tasks s) u counts.done (subst (λ (q : Program). Ready q deps.done u) counts.program r),
+  λ r. subst (λ (q : Program). Ready q deps.done u) (sym counts.program) (ready-same p (done_tasks s) deps.done u (λ n. ((counts.done n).1, (counts.done n).0)) r),
+)
 
 -- a task that doesn't wait isn't done where not all are
 pub not-complete : (s : State) (t : Task) → t.0 < length s.tasks → is_done (progress s t) ≡ false → IsComplete s → ⊥

@@ -34,7 +34,7 @@ use Rattle.sj_machine.specs.declared.hand.Hand.{Hand}
 use Rattle.sj_machine.proofs.PoolFilling.{IsFilled, among-cons, fill, times_among}
 use Rattle.sj_machine.proofs.Hands.{given-same, hand-set, hand-set_apart, pool_for-same}
 use Rattle.sj_machine.proofs.LastHeaders.{ended-cause}
-use Rattle.sj_machine.proofs.Stepping.{not-complete, ready-same}
+use Rattle.sj_machine.proofs.Stepping.{not-complete, ready-counted, ready-same}
 
 -- ---- how often a task is in a list
 
@@ -138,10 +138,7 @@ module _ {D : Type 0} (size faults mismatches : D → ℕ) (held : D → Option 
   -- ---- what becomes ready
 
   ready-before : (u : ℕ) → Ready deps.program deps.done u ↔ Ready p (done_tasks s) u
-  ready-before u = (
-    λ r. ready-same p deps.done (done_tasks s) u keeps.counts.done (subst (λ (q : Program). Ready q deps.done u) keeps.counts.program r),
-    λ r. subst (λ (q : Program). Ready q deps.done u) (sym keeps.counts.program) (ready-same p (done_tasks s) deps.done u (λ n. flip (keeps.counts.done n)) r),
-  )
+  ready-before = ready-counted p s deps keeps.counts
 
   ready-now : (u : ℕ) → Ready deps.program (deps.done ++ t.0 ∷ []) u ↔ Ready p (done_tasks s') u
   ready-now u = (

@@ -3,6 +3,7 @@ pub mod Board
 pub mod BoardRow
 pub mod BoardSound
 pub mod Choosing
+pub mod Claimable
 pub mod Copies
 pub mod Counts
 pub mod Delivered

@@ -28,6 +28,7 @@ ghost use Rattle.sj_machine.specs.Units.{AnotherHasUnit, lent};
 ghost use Rattle.sj_disk.specs.Lending.{NoneIsOut};
 ghost use Rattle.sj_machine.specs.Tiles.{array_in};
 
+mod admitting;
 mod lending;
 
 use crate::delivered::Delivered;

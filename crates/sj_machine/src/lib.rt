@@ -4,6 +4,7 @@
 
 pub mod board;
 mod choosing;
+pub mod claimable;
 pub mod claiming;
 pub mod copies;
 pub mod delivered;

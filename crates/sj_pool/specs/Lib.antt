@@ -3,3 +3,4 @@ pub mod Fork
 pub mod Pool
 pub mod Queue
 pub mod Root
+pub mod Released

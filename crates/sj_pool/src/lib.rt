@@ -5,4 +5,5 @@
 pub mod entry;
 pub mod pool;
 mod queue;
+pub mod released;
 mod tree;

@@ -149,8 +149,8 @@ impl Shared {
         ))
     }
 
-    /// Puts a task at the back, under `ws` of the worker's own queue. Where memory is refused, nothing was put. It may take memory,
-    /// and wait for the put of another worker. Constant time beside that.
+    /// Puts a task at the back, under `ws` of the worker's own queue. Where memory is refused, nothing was put. It may take
+    /// memory, and wait for the put of another worker. Constant time beside that.
     pub fn put<R: Wait>(&self, rt: &R, pass: &mut Pass, t: Task) -> Result<(), OutOfMemory>
         requires of { pass.old.shared ≡ self.now }
         ensures of { pass.new.shared ≡ self.now }
@@ -219,8 +219,8 @@ impl Shared {
     }
 
     /// Ends the pool, with all its passes, and gives what is left. As often as a task was put, it was taken or is left. Where
-    /// memory is refused, the pool and its passes are gone. Linear in the workers, under `ws` quadratic, and in the tasks that are
-    /// left.
+    /// memory is refused, the pool and its passes are gone. Linear in the workers, under `ws` quadratic, and in the tasks that
+    /// are left.
     pub fn close<R: Wait>(
         self,
         rt: &R,

@@ -79,8 +79,8 @@ fn a_workers_own_tasks_come_before_those_of_others(rt: HostRuntime) -> Result<()
     Ok(())
 }
 
-// Puts each task below the count, where the worker puts any, and after every second one tries to take one. How often it took one is
-// added up.
+// Puts each task below the count, where the worker puts any, and after every second one tries to take one. How often it took one
+// is added up.
 fn put_and_take<R: Wait + Abort>(
     rt: &R,
     shared: &Shared,
