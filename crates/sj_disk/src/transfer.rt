@@ -1,4 +1,4 @@
-//! Blocks written to one disk and read from it, in pieces of a small buffer on the stack.
+//! Blocks written to one disk and read from it, in pieces of a buffer on the stack.
 
 ghost use Rattle.std.specs.Prelude.{◌≡◌, ◌+◌, ◌*◌, ◌^◌, ◌<◌, ◌≤◌, ◌++◌, All, FitsSigned, IsSome, OnOk, false, is_err, length};
 ghost use Rattle.std.specs.Int.{w64};
@@ -14,11 +14,11 @@ use sj_base::ids::DiskNo;
 use sj_edge::disk::{CheckFault, Disk};
 use sj_edge::source::Failed;
 
-/// How many elements go through the buffer at a time.
-const PIECE: usize = 512;
+/// How many elements go through a small buffer at a time. A block with no more has one, which is made faster than a large one.
+const FEW: usize = 512;
 
-/// How many bytes the buffer has.
-const BUFFER: usize = 8 * PIECE;
+/// How many elements go through a large buffer at a time: so many that a call of a disk takes little beside the bytes that it moves.
+const MANY: usize = 4096;
 
 fn write_piece<D: Disk>(
     disk: &mut D,
@@ -36,6 +36,48 @@ fn write_piece<D: Disk>(
     disk.write(at, bytes)
 }
 
+/// Writes elements from `at` on, so many at a time through the buffer.
+fn write_pieces<D: Disk>(
+    disk: &mut D,
+    at: u64,
+    elements: &[i64],
+    piece: usize,
+    buffer: &mut [u8],
+) -> Result<(), Failed>
+    requires filled { Fills (D.held disk.old) (D.size disk.old) }
+    requires in_range { at + 8 * length elements.now ≤ D.size disk.old }
+    requires fits { at + 8 * length elements.now < 2 ^ 64 }
+    requires some { 0 < piece }
+    requires fits_the_buffer { 8 * piece ≤ length buffer.old }
+    ensures { Writes D.size D.faults D.mismatches D.held at (element_bytes elements.now) result
+        disk.old disk.new }
+{
+    let mut start = 0;
+    while start < elements.len() {
+        let stop = elements.len().min(start + piece);
+        write_piece(
+            disk,
+            at + 8 * start as u64,
+            &elements[start..stop],
+            buffer,
+        )?;
+        start = stop;
+    }
+    Ok(())
+}
+
+/// Writes elements from `at` on, through a large buffer.
+fn write_many<D: Disk>(disk: &mut D, at: u64, elements: &[i64]) -> Result<(), Failed>
+    requires filled { Fills (D.held disk.old) (D.size disk.old) }
+    requires in_range { at + 8 * length elements.now ≤ D.size disk.old }
+    requires fits { at + 8 * length elements.now < 2 ^ 64 }
+    ensures { Writes D.size D.faults D.mismatches D.held at (element_bytes elements.now) result
+        disk.old disk.new }
+{
+    let mut buffer = [0u8; 8 * MANY];
+    write_pieces(disk, at, elements, MANY, &mut buffer)
+}
+
 /// Writes elements from `at` on.
 fn write_elements<D: Disk>(disk: &mut D, at: u64, elements: &[i64]) -> Result<(), Failed>
     requires filled { Fills (D.held disk.old) (D.size disk.old) }
@@ -44,19 +86,11 @@ fn write_elements<D: Disk>(disk: &mut D, at: u64, elements: &[i64]) -> Result<()
     ensures { Writes D.size D.faults D.mismatches D.held at (element_bytes elements.now) result
         disk.old disk.new }
 {
-    let mut buffer = [0u8; BUFFER];
-    let mut start = 0;
-    while start < elements.len() {
-        let stop = elements.len().min(start + PIECE);
-        write_piece(
-            disk,
-            at + 8 * start as u64,
-            &elements[start..stop],
-            &mut buffer,
-        )?;
-        start = stop;
+    if elements.len() > FEW {
+        return write_many(disk, at, elements);
     }
-    Ok(())
+    let mut buffer = [0u8; 8 * FEW];
+    write_pieces(disk, at, elements, FEW, &mut buffer)
 }
 
 fn write_header<D: Disk>(disk: &mut D, at: u64, header: Header) -> Result<(), Failed>
@@ -103,6 +137,50 @@ fn read_piece<D: Disk>(
     Ok(())
 }
 
+/// Reads the elements from `at` on, so many at a time through the buffer.
+fn read_pieces<D: Disk>(
+    disk: &mut D,
+    at: u64,
+    elements: &mut [i64],
+    piece: usize,
+    buffer: &mut [u8],
+) -> Result<(), Failed>
+    requires in_range { at + 8 * length elements.old ≤ D.size disk.old }
+    requires fits { at + 8 * length elements.old < 2 ^ 64 }
+    requires some { 0 < piece }
+    requires fits_the_buffer { 8 * piece ≤ length buffer.old }
+    ensures looks { Looks D.size D.faults D.mismatches D.held (is_err result) false
+        disk.old disk.new }
+    ensures gives { OnOk result (GivesHeld (D.held disk.old) at (element_bytes elements.new)) }
+    ensures in_range { OnOk result (All (FitsSigned w64) elements.new) }
+{
+    let mut start = 0;
+    while start < elements.len() {
+        let stop = elements.len().min(start + piece);
+        read_piece(
+            disk,
+            at + 8 * start as u64,
+            &mut elements[start..stop],
+            buffer,
+        )?;
+        start = stop;
+    }
+    Ok(())
+}
+
+/// Reads the elements from `at` on, through a large buffer.
+fn read_many<D: Disk>(disk: &mut D, at: u64, elements: &mut [i64]) -> Result<(), Failed>
+    requires in_range { at + 8 * length elements.old ≤ D.size disk.old }
+    requires fits { at + 8 * length elements.old < 2 ^ 64 }
+    ensures looks { Looks D.size D.faults D.mismatches D.held (is_err result) false
+        disk.old disk.new }
+    ensures gives { OnOk result (GivesHeld (D.held disk.old) at (element_bytes elements.new)) }
+    ensures in_range { OnOk result (All (FitsSigned w64) elements.new) }
+{
+    let mut buffer = [0u8; 8 * MANY];
+    read_pieces(disk, at, elements, MANY, &mut buffer)
+}
+
 /// Reads the elements from `at` on.
 fn read_elements<D: Disk>(disk: &mut D, at: u64, elements: &mut [i64]) -> Result<(), Failed>
     requires in_range { at + 8 * length elements.old ≤ D.size disk.old }
@@ -112,19 +190,11 @@ fn read_elements<D: Disk>(disk: &mut D, at: u64, elements: &mut [i64]) -> Result
     ensures gives { OnOk result (GivesHeld (D.held disk.old) at (element_bytes elements.new)) }
     ensures in_range { OnOk result (All (FitsSigned w64) elements.new) }
 {
-    let mut buffer = [0u8; BUFFER];
-    let mut start = 0;
-    while start < elements.len() {
-        let stop = elements.len().min(start + PIECE);
-        read_piece(
-            disk,
-            at + 8 * start as u64,
-            &mut elements[start..stop],
-            &mut buffer,
-        )?;
-        start = stop;
+    if elements.len() > FEW {
+        return read_many(disk, at, elements);
     }
-    Ok(())
+    let mut buffer = [0u8; 8 * FEW];
+    read_pieces(disk, at, elements, FEW, &mut buffer)
 }
 
 /// Asks the disk whether this header stands at `at`.
