@@ -95,7 +95,7 @@ data-of l a h = Contains-from_filter (λ (b : Access). not (is_scratch b.mode)) 
 
 -- ---- contributions of a task
 
-abbrev gives_to : Cell → Lowered → Bool
+abbrev pub gives_to : Cell → Lowered → Bool
 gives_to c l = list_any (λ a. is_redux a.mode && same_cell a.cell c) l.accesses
 
 redux-is : (m : Mode) → is_redux m ≡ true → m ≡ Redux
@@ -109,13 +109,13 @@ redux-is Commute h = absurd (false≢true h)
 pub redux-access : (a : Access) → is_redux a.mode ≡ true → a ≡ access Redux a.cell
 redux-access a h = let e = redux-is a.mode h in λ i. record { mode = e i; cell = a.cell }
 
-gives-names : (c : Cell) (l : Lowered) → gives_to c l ≡ true → names_as Redux c l
+pub gives-names : (c : Cell) (l : Lowered) → gives_to c l ≡ true → names_as Redux c l
 gives-names c l h =
     let found = list_any-some (λ (a : Access). is_redux a.mode && same_cell a.cell c) l.accesses h in
     let both = and_parts (is_redux found.0.mode) (same_cell found.0.cell c) found.2 in
     subst (λ (a : Access). Contains l.accesses a) (redux-access found.0 both.0 ∙ ap (access Redux) (same_cell-is found.0.cell c both.1)) found.1
 
-names-gives : (c : Cell) (l : Lowered) → names_as Redux c l → gives_to c l ≡ true
+pub names-gives : (c : Cell) (l : Lowered) → names_as Redux c l → gives_to c l ≡ true
 names-gives c l (k, inside, e) = list_any_at (λ (a : Access). is_redux a.mode && same_cell a.cell c) l.accesses k (access Redux c) inside (ap (λ (a : Access). is_redux a.mode && same_cell a.cell c) e ∙ same_cell-itself c)
 
 -- ---- the log
@@ -207,7 +207,7 @@ log-line p n phases ls c f g is by copies log = record {
   each = log.each;
   start = log.start;
   opened = λ d h e. by_which c d (IsLogged p n d h.by h.copies (log.start d))
-      (λ same. subst (λ (x : Cell). IsLogged p n x h.by h.copies (log.start x)) same (subst (λ (y : OpenPhase). IsLogged p n c y.by y.copies (log.start c)) (now h (ap after same ∙ e)) (λ-subst (log.opened c f is))))
+      (λ same. subst (λ (x : Cell). IsLogged p n x h.by h.copies (log.start x)) same (subst (λ (y : OpenPhase). IsLogged p n c y.by y.copies (log.start c)) (now h (ap (with_phase c (Some g) phases) same ∙ e)) (moved_to (log.opened c f is))))
       (λ other. log.opened d h (sym (phase-other c (Some g) phases d other) ∙ e));
   used = λ d h e. by_which c d (IsUsed p n (log.start d) d ⊎ IsToCome ls d)
       (λ same. subst (λ (x : Cell). IsUsed p n (log.start x) x ⊎ IsToCome ls x) same (log.used c f is))
@@ -222,15 +222,11 @@ log-line p n phases ls c f g is by copies log = record {
   ];
 }
   where
-    after : Phases
-    unfolding after
-    after = with_phase c (Some g) phases
-
     now : (h : OpenPhase) → with_phase c (Some g) phases c ≡ Some h → g ≡ h
     now h e = some_is g h (sym (phase-own c (Some g) phases) ∙ e)
 
-    λ-subst : IsLogged p n c f.by f.copies (log.start c) → IsLogged p n c g.by g.copies (log.start c)
-    λ-subst h = subst (λ (x : Reduction). IsLogged p n c x g.copies (log.start c)) by (subst (λ (x : Cell). IsLogged p n c f.by x (log.start c)) copies h)
+    moved_to : IsLogged p n c f.by f.copies (log.start c) → IsLogged p n c g.by g.copies (log.start c)
+    moved_to h = subst (λ (x : Reduction). IsLogged p n c x g.copies (log.start c)) by (subst (λ (x : Cell). IsLogged p n c f.by x (log.start c)) copies h)
 
     still : (d : Cell) → IsOpen phases d → IsOpen (with_phase c (Some g) phases) d
     still d now = by_which c d (IsOpen (with_phase c (Some g) phases) d) (λ same. subst (IsOpen (with_phase c (Some g) phases)) same (g, phase-own c (Some g) phases)) (λ other. (now.0, phase-other c (Some g) phases d other ∙ now.1))

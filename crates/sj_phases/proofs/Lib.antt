@@ -1,0 +1,12 @@
+pub mod Contents
+pub mod Folding
+pub mod Combined
+pub mod Phasing
+pub mod Lists
+pub mod Owning
+pub mod Adding
+pub mod Logging
+pub mod Beginning
+pub mod Closing
+pub mod Good
+pub mod Holding

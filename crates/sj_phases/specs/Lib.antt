@@ -1,0 +1,5 @@
+pub mod Block
+pub mod Rows
+pub mod Expand
+pub mod Plain
+pub mod Orderly
