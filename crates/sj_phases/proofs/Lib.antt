@@ -10,3 +10,5 @@ pub mod Beginning
 pub mod Closing
 pub mod Good
 pub mod Holding
+pub mod Fine
+pub mod Blocks

@@ -3,3 +3,5 @@ pub mod Rows
 pub mod Expand
 pub mod Plain
 pub mod Orderly
+pub mod Law
+pub mod Does

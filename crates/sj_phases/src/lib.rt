@@ -2,4 +2,6 @@
 //! the cell when its phase is closed (StarPU Handbook, data management: REDUX).
 #![tactic(auto)]
 
+pub mod expander;
+pub mod laws;
 pub mod phase;
