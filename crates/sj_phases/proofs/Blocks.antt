@@ -80,6 +80,22 @@ pub goes-plain : (bs : List Block) (Q : Plainly) → GoesOn Q.tasks (fold plain_
 goes-plain [] Q = goes-itself Q.tasks
 goes-plain (b ∷ bs) Q = goes-trans Q.tasks (plain_next Q b).tasks (fold plain_next Q (b ∷ bs)).tasks (plain_rows b, refl) (goes-plain bs (plain_next Q b))
 
+-- deliveries are a block's own
+still-closes : (w : ℕ) (cs : List Cell) (E : Expansion) → (fold (closed w) E cs).deliveries ≡ E.deliveries
+still-closes w [] E = refl
+still-closes w (c ∷ cs) E = still-closes w cs (closed w E c) ∙ by_phase (E.phase c)
+  where
+    by_phase : (o : Option OpenPhase) → (elim o as (λ _. Expansion) [ None ↦ E | Some f ↦ turned (combine_rows f c w) c None E ]).deliveries ≡ E.deliveries
+    by_phase None = refl
+    by_phase (Some f) = refl
+
+still-opens : (w : ℕ) (line : Line) (os : List Opening) (E : Expansion) → (fold (opened w line) E os).deliveries ≡ E.deliveries
+still-opens w line [] E = refl
+still-opens w line (o ∷ os) E = still-opens w line os (opened w line E o)
+
+pub prepared-deliveries : (w : ℕ) (E : Expansion) (b : Block) → (prepared w E b).deliveries ≡ E.deliveries
+prepared-deliveries w E b = still-opens w b.line b.opens (fold (closed w) E b.closes) ∙ still-closes w b.closes E
+
 -- ---- which phases are open
 
 opening-stays : (p : Program) (tasks : List Lowered) (was : Opens) (os : List Opening) (c : Cell) (by : Reduction) → AreOpenings p tasks was os → was c ≡ Some by → fold with_opening was os c ≡ Some by

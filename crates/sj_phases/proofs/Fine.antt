@@ -50,6 +50,10 @@ Begins all ts = (more : List Lowered) × (all ≡ ts ++ more)
 abbrev pub by_of : Option OpenPhase → Option Reduction
 by_of o = option_map (λ f. f.by) o
 
+pub none-by : (o : Option OpenPhase) → by_of o ≡ None → o ≡ None
+none-by None e = refl
+none-by (Some f) e = absurd (none_isn't f.by (sym e))
+
 -- after the tasks ts of the program with phases, and us of that without, before tasks ls of the same block
 pub record Fine (p q : Program) (ts : List Lowered) (phases : Phases) (us ls : List Lowered) (was : Opens) : Type 0 where
   pub good : (n : ℕ) → n < length ts → IsGood p n (task_of p (task_at n))
@@ -310,11 +314,7 @@ module _ (p q : Program) (twins : AreTwins p q) (proper : Proper q) where
         by_phase (Some f) is h = (f, is, some_is f.by by h)
 
     shut_of : (c : Cell) → was c ≡ None → phases c ≡ None
-    shut_of c e = by_phase (phases c) refl (fine.linked c ∙ e)
-      where
-        by_phase : (o : Option OpenPhase) → phases c ≡ o → by_of o ≡ None → phases c ≡ None
-        by_phase None is h = is
-        by_phase (Some f) is h = absurd (none_isn't f.by (sym h))
+    shut_of c e = none-by (phases c) (fine.linked c ∙ e)
 
     contributes : (a : Access) → Contains l.accesses a → is_redux a.mode ≡ true → Contributes was l a.cell
     contributes a h mode = All-contains (λ (a : Access). is_redux a.mode ≡ true → Contributes was l a.cell) l.accesses a orderly.contributes h mode

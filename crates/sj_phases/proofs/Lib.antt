@@ -12,3 +12,5 @@ pub mod Good
 pub mod Holding
 pub mod Fine
 pub mod Blocks
+pub mod Delivered
+pub mod Expanded

@@ -65,3 +65,9 @@ all-from P xs f k d l = f (get_or xs k d) (k, l, get_or-same xs k d l)
 pub filter-last : {X : Type 0} (f : X → Bool) (xs : List X) (x : X) → ((y : X) → Contains xs y → f y ≡ false) → f x ≡ true → filter f (xs ++ x ∷ []) ≡ x ∷ []
 filter-last f [] x none passes = ap (λ b. cond b (x ∷ []) []) passes
 filter-last f (y ∷ xs) x none passes = ap (λ b. cond b (y ∷ filter f (xs ++ x ∷ [])) (filter f (xs ++ x ∷ []))) (none y (first-has y xs)) ∙ filter-last f xs x (λ z h. none z (more-has y xs z h)) passes
+
+-- a list before and after one of its items
+pub split-at : {X : Type 0} (xs : List X) (i : ℕ) (d : X) → i < length xs → (ys : List X) × (zs : List X) × (xs ≡ ys ++ get_or xs i d ∷ zs) × (length ys ≡ i)
+split-at [] i d lt = absurd (omega (arith, lt))
+split-at (x ∷ xs) zero d lt = ([], xs, refl, refl)
+split-at (x ∷ xs) (suc i) d lt = let s = split-at xs i d (omega (arith, lt)) in (x ∷ s.0, s.1, ap (λ ys. x ∷ ys) s.2, ap suc s.3)
