@@ -98,14 +98,14 @@ delivered-more ts ls ds none h = record {
 -- tasks with their deliveries
 delivered-own : (ts us : List Lowered) (ds es : List Delivery) → IsDelivered us es → IsDelivered ts ds → IsDelivered (ts ++ us) (ds ++ map (moved (length ts)) es)
 delivered-own ts us ds es own h = record {
-  below = All-append (λ (d : Delivery). d.task.0 < length (ts ++ us)) ds fs (All-weaker (λ (d : Delivery). d.task.0 < length ts) (λ (d : Delivery). d.task.0 < length (ts ++ us)) (λ d lt. omega (arith, lt, length-append ts us)) ds h.below)
+  below = All-append (λ (d : Delivery). d.task.0 < length (ts ++ us)) ds (map (moved (length ts)) es) (All-weaker (λ (d : Delivery). d.task.0 < length ts) (λ (d : Delivery). d.task.0 < length (ts ++ us)) (λ d lt. omega (arith, lt, length-append ts us)) ds h.below)
       (moved-all (λ n. n < length (ts ++ us)) (λ k d lt. omega (arith, own.below k d lt, length-append ts us)));
-  deliver = All-append (λ (d : Delivery). Delivers (row (ts ++ us) d.task.0)) ds fs (λ k d lt. ap (λ (l : Lowered). kernel_of l.codelet) (left ts us (get_or ds k d).task.0 (h.below k d lt)) ∙ h.deliver k d lt)
+  deliver = All-append (λ (d : Delivery). Delivers (row (ts ++ us) d.task.0)) ds (map (moved (length ts)) es) (λ k d lt. ap (λ (l : Lowered). kernel_of l.codelet) (left ts us (get_or ds k d).task.0 (h.below k d lt)) ∙ h.deliver k d lt)
       (moved-all (λ n. Delivers (row (ts ++ us) n)) (λ k d lt. ap (λ (l : Lowered). kernel_of l.codelet) (right ts us (length ts + (get_or es k d).task.0) (omega arith) ∙ ap (row us) (back (length ts) (get_or es k d).task.0)) ∙ own.deliver k d lt));
-  once = λ n lt e. sum_by-append (λ (d : Delivery). cond (nat_eq d.task.0 n) 1 0) ds fs ∙ elim (cases_lt n (length ts)) [
+  once = λ n lt e. sum_by-append (λ (d : Delivery). cond (nat_eq d.task.0 n) 1 0) ds (map (moved (length ts)) es) ∙ elim (cases_lt n (length ts)) [
     | inl inside ↦
         let old = h.once n inside (ap (λ (l : Lowered). kernel_of l.codelet) (sym (left ts us n inside)) ∙ e) in
-        let new = count-none (λ (d : Delivery). nat_eq d.task.0 n) fs (moved-all (λ m. nat_eq m n ≡ false) (λ k d lt. unequal (length ts + (get_or es k d).task.0) n (λ same. omega (arith, same, inside)))) in
+        let new = count-none (λ (d : Delivery). nat_eq d.task.0 n) (map (moved (length ts)) es) (moved-all (λ m. nat_eq m n ≡ false) (λ k d lt. unequal (length ts + (get_or es k d).task.0) n (λ same. omega (arith, same, inside)))) in
         omega (arith, old, new)
     | inr past ↦
         let old = count-none (λ (d : Delivery). nat_eq d.task.0 n) ds (λ k d lt. unequal (get_or ds k d).task.0 n (λ same. omega (arith, same, past, h.below k d lt))) in
@@ -113,22 +113,19 @@ delivered-own ts us ds es own h = record {
         ∙ own.once (n - length ts) (omega (arith, lt, past, length-append ts us)) (ap (λ (l : Lowered). kernel_of l.codelet) (sym (right ts us n past)) ∙ e) in
         omega (arith, old, new)
   ];
-  in_order = pairs-append (λ (d e : Delivery). d.task.0 < e.task.0) ds fs h.in_order (λ i j d before within.
+  in_order = pairs-append (λ (d e : Delivery). d.task.0 < e.task.0) ds (map (moved (length ts)) es) h.in_order (λ i j d before within.
       (let ei = moved-at i d (omega (arith, before, within)) in let ej = moved-at j d within in
       omega (arith, ei, ej, own.in_order i j d before (omega (arith, within, length-map es (moved (length ts)))))))
       (λ i j d lt within. (let ej = moved-at j d within in omega (arith, ej, h.below i d lt)));
 }
   where
-    abbrev fs : List Delivery
-    fs = map (moved (length ts)) es
-
     back : (a n : ℕ) → (a + n) - a ≡ n
     back a n = omega arith
 
-    moved-at : (k : ℕ) (d : Delivery) → k < length fs → (get_or fs k d).task.0 ≡ length ts + (get_or es k d).task.0
+    moved-at : (k : ℕ) (d : Delivery) → k < length (map (moved (length ts)) es) → (get_or (map (moved (length ts)) es) k d).task.0 ≡ length ts + (get_or es k d).task.0
     moved-at k d lt = ap (λ (x : Delivery). x.task.0) (get_or-map (moved (length ts)) es k d d (omega (arith, lt, length-map es (moved (length ts)))))
 
-    moved-all : (P : ℕ → Type 0) → ((k : ℕ) (d : Delivery) → k < length es → P (length ts + (get_or es k d).task.0)) → All (λ (d : Delivery). P d.task.0) fs
+    moved-all : (P : ℕ → Type 0) → ((k : ℕ) (d : Delivery) → k < length es → P (length ts + (get_or es k d).task.0)) → All (λ (d : Delivery). P d.task.0) (map (moved (length ts)) es)
     moved-all P f k d lt = subst P (sym (moved-at k d lt)) (f k d (omega (arith, lt, length-map es (moved (length ts)))))
 
 -- ---- blocks
@@ -158,7 +155,7 @@ none-append xs ys a b l h e = elim (Contains-append_cases xs ys l h) [
 ]
 
 none-all : (os : List Opening) (line : Line) → NoneDelivers (flat_map (λ o. first_units o line) os)
-none-all [] line l h e = none-has l h
+none-all [] line = λ l h e. none-has l h
 none-all (o ∷ os) line = none-append (first_units o line) (flat_map (λ x. first_units x line) os) (none-units o line) (none-all os line)
 
 delivered-closed : (w : ℕ) (E : Expansion) (c : Cell) → IsDelivered E.tasks E.deliveries → IsDelivered (closed w E c).tasks (closed w E c).deliveries

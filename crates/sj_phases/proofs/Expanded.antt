@@ -6,7 +6,7 @@ use Rattle.std.specs.List.{range_with_len}
 use Rattle.std.specs.Option.{is_some}
 use Rattle.std.proofs.lemmas.Bool.{false≢true, cases_lt}
 use Rattle.std.proofs.lemmas.List.{append-nil, get_or_past, get_or_default, get_or-map, length-map, map-append}
-use Rattle.std.proofs.lemmas.List.Folds.{fold-append}
+use Rattle.std.proofs.lemmas.List.Sums.{fold-append}
 use Rattle.std.proofs.lemmas.List.Elements.{All-nil, All-contains, All-from_get_or, Contains-get_or, All-head, All-tail}
 use Rattle.sj_base.specs.declared.ids.Cell.{Cell}
 use Rattle.sj_base.specs.declared.ids.Line.{Line}
@@ -177,8 +177,8 @@ module _ (rows : List CellInfo) (workers : ℕ) (bs : List Block) (can : MayExpa
         let one = one_read l (subst (Fits p) row (fine.good n lt).fits) deliver in
         let a = one.0 in
         let among : Contains l.accesses a = subst (λ (xs : List Access). Contains xs a) (sym one.1) (0, omega arith, refl) in
-        let data : Contains (data_operands l) a = Contains-filter (λ (b : Access). not (is_scratch b.mode)) l.accesses a (ap (λ m. not (is_scratch m)) one.2) among in
-        let closed : phases a.cell ≡ None = none-by (phases a.cell) (linked a.cell ∙ All-contains (λ (b : Access). not (is_redux b.mode) ≡ true → was b.cell ≡ None) (data_operands l) a orderly.shut data (ap (λ m. not (is_redux m)) one.2)) in
+        let kept : Contains (data_operands l) a = Contains-filter (λ (b : Access). not (is_scratch b.mode)) l.accesses a (ap (λ m. not (is_scratch m)) one.2) among in
+        let closed : phases a.cell ≡ None = none-by (phases a.cell) (linked a.cell ∙ All-contains (λ (b : Access). not (is_redux b.mode) ≡ true → was b.cell ≡ None) (data_operands l) a orderly.shut kept (ap (λ m. not (is_redux m)) one.2)) in
         ap (held_before p n) (cell_of p n a l row one.1 one.2)
         ∙ sym (denoted-closed p phases (contents_before p n) a.cell closed)
         ∙ holds a.cell (All-contains (λ (b : Access). IsPlain p b.cell) l.accesses a orderly.plain among)
@@ -190,47 +190,47 @@ module _ (rows : List CellInfo) (workers : ℕ) (bs : List Block) (can : MayExpa
             ∙ ap (λ (xs : List Access). get_or (map (worked_on r first_worker) (filter (λ b. is_data b.mode) xs)) 0 (record { 0 = 0 })) accesses
             ∙ ap (λ m. let b : Access = record { mode = m; cell = a.cell } in get_or (map (worked_on r first_worker) (filter (λ b. is_data b.mode) (b ∷ []))) 0 (record { 0 = 0 })) mode
 
-    handed-block : (x : Block) (F : Expansion) (Q : Plainly) (was : Opens) → IsOrderly p was x → Begins p.tasks (expanded p.workers F x).tasks → Begins q.tasks (Q.tasks ++ plain_rows x) → Fine p q F.tasks F.phase Q.tasks [] was
-        → map (handed_over p) F.deliveries ≡ map (handed_over q) Q.deliveries → map (handed_over p) (expanded p.workers F x).deliveries ≡ map (handed_over q) (plain_next Q x).deliveries
-    handed-block x F Q was h b d fine_before same =
-        map-append (handed_over p) R.deliveries (map (moved n) x.deliveries)
-        ∙ (λ i. map (handed_over p) (prepared-deliveries p.workers F x i) ++ map (handed_over p) (map (moved n) x.deliveries))
-        ∙ (λ i. same i ++ own i)
-        ∙ sym (map-append (handed_over q) Q.deliveries (map (moved m) x.deliveries))
-      where
-        abbrev R : Expansion
-        R = prepared p.workers F x
+    module _ (x : Block) (F : Expansion) (Q : Plainly) (was : Opens) (h : IsOrderly p was x) (b : Begins p.tasks (expanded p.workers F x).tasks) (d : Begins q.tasks (Q.tasks ++ plain_rows x)) (fine_before : Fine p q F.tasks F.phase Q.tasks [] was) (same : map (handed_over p) F.deliveries ≡ map (handed_over q) Q.deliveries) where
+      abbrev Ready : Expansion
+      Ready = prepared p.workers F x
 
-        abbrev us : List Lowered
-        us = Q.tasks ++ units x
+      abbrev us : List Lowered
+      us = Q.tasks ++ units x
 
-        abbrev n : ℕ
-        n = length R.tasks
+      abbrev n : ℕ
+      n = length Ready.tasks
 
-        abbrev m : ℕ
-        m = length us
+      abbrev m : ℕ
+      m = length us
 
-        plain_stand : Stand q m (map direct x.tasks)
-        plain_stand = begins-stand q us (map direct x.tasks) (d.0, d.1 ∙ ap (λ zs. zs ++ d.0) (sym (append_assoc Q.tasks (units x) (map direct x.tasks))))
+      plain_stand : Stand q m (map direct x.tasks)
+      plain_stand = begins-stand q us (map direct x.tasks) (d.0, d.1 ∙ ap (λ zs. zs ++ d.0) (sym (append_assoc Q.tasks (units x) (map direct x.tasks))))
 
-        one : (e : Delivery) → Contains x.deliveries e → handed_over p (moved n e) ≡ handed_over q (moved m e)
-        one e has' =
-            let i = e.task.0 in
-            let lt = All-contains (λ (z : Delivery). z.task.0 < length x.tasks) x.deliveries e h.delivered.below has' in
-            let deliver = All-contains (λ (z : Delivery). kernel_of (get_or x.tasks z.task.0 no_task).codelet ≡ Some Deliver) x.deliveries e h.delivered.deliver has' in
-            let l = get_or x.tasks i no_task in
-            let s = split-at x.tasks i no_task lt in
-            let f = fine-among p q twins can.proper F Q.tasks was x h b d fine_before s.0 (l ∷ s.1) s.2 in
-            let at = stand-at p n x.tasks l i (begins-stand p R.tasks x.tasks b) lt (get_or_default x.tasks i l no_task lt) in
-            let plain_at = stand-at q m (map direct x.tasks) (direct l) i plain_stand (omega (arith, lt, length-map x.tasks direct)) (get_or-map direct x.tasks i no_task (direct l) lt) in
-            let there : length (R.tasks ++ s.0) ≡ n + i = length-append R.tasks s.0 ∙ ap (λ k. n + k) s.3 in
-            let plain_there : length (us ++ map direct s.0) ≡ m + i = length-append us (map direct s.0) ∙ ap (λ k. m + k) (length-map s.0 direct ∙ s.3) in
-            let holds = subst (λ k. Holds p q R.phase (contents_before p k) (contents_before q (m + i))) there (subst (λ k. Holds p q R.phase (contents_before p (length (R.tasks ++ s.0))) (contents_before q k)) plain_there (f.holds trust)) in
-            let alike = given-alike (n + i) (m + i) R.phase (open_at was x) l holds f.linked (All-contains (IsOrderlyTask p (open_at was x)) x.tasks l h.tasks (Contains-get_or x.tasks i no_task lt)) deliver at.1 at.0 plain_at.0 in
-            λ k. (e.root, e.place, e.print, alike k)
+      one : (e : Delivery) → Contains x.deliveries e → handed_over p (moved n e) ≡ handed_over q (moved m e)
+      one e has' =
+          let i = e.task.0 in
+          let lt = All-contains (λ (z : Delivery). z.task.0 < length x.tasks) x.deliveries e h.delivered.below has' in
+          let deliver = All-contains (λ (z : Delivery). kernel_of (get_or x.tasks z.task.0 no_task).codelet ≡ Some Deliver) x.deliveries e h.delivered.deliver has' in
+          let l = get_or x.tasks i no_task in
+          let s = split-at x.tasks i no_task lt in
+          let f = fine-among p q twins can.proper F Q.tasks was x h b d fine_before s.0 (l ∷ s.1) s.2 in
+          let at = stand-at p n x.tasks l i (begins-stand p Ready.tasks x.tasks b) lt (get_or_default x.tasks i l no_task lt) in
+          let plain_at = stand-at q m (map direct x.tasks) (direct l) i plain_stand (omega (arith, lt, length-map x.tasks direct)) (get_or-map direct x.tasks i no_task (direct l) lt) in
+          let there : length (Ready.tasks ++ s.0) ≡ n + i = length-append Ready.tasks s.0 ∙ ap (λ k. n + k) s.3 in
+          let plain_there : length (us ++ map direct s.0) ≡ m + i = length-append us (map direct s.0) ∙ ap (λ k. m + k) (length-map s.0 direct ∙ s.3) in
+          let holds = subst (λ k. Holds p q Ready.phase (contents_before p k) (contents_before q (m + i))) there (subst (λ k. Holds p q Ready.phase (contents_before p (length (Ready.tasks ++ s.0))) (contents_before q k)) plain_there (f.holds trust)) in
+          let alike = given-alike (n + i) (m + i) Ready.phase (open_at was x) l holds f.linked (All-contains (IsOrderlyTask p (open_at was x)) x.tasks l h.tasks (Contains-get_or x.tasks i no_task lt)) deliver at.1 at.0 plain_at.0 in
+          λ k. (e.root, e.place, e.print, alike k)
 
-        own : map (handed_over p) (map (moved n) x.deliveries) ≡ map (handed_over q) (map (moved m) x.deliveries)
-        own = map-map (handed_over p) (moved n) x.deliveries ∙ map-same (λ e. handed_over p (moved n e)) (λ e. handed_over q (moved m e)) x.deliveries one ∙ sym (map-map (handed_over q) (moved m) x.deliveries)
+      own : map (handed_over p) (map (moved n) x.deliveries) ≡ map (handed_over q) (map (moved m) x.deliveries)
+      own = map-map (handed_over p) (moved n) x.deliveries ∙ map-same (λ e. handed_over p (moved n e)) (λ e. handed_over q (moved m e)) x.deliveries one ∙ sym (map-map (handed_over q) (moved m) x.deliveries)
+
+      handed-block : map (handed_over p) (expanded p.workers F x).deliveries ≡ map (handed_over q) (plain_next Q x).deliveries
+      handed-block =
+          map-append (handed_over p) Ready.deliveries (map (moved n) x.deliveries)
+          ∙ (λ i. map (handed_over p) (prepared-deliveries p.workers F x i) ++ map (handed_over p) (map (moved n) x.deliveries))
+          ∙ (λ i. same i ++ own i)
+          ∙ sym (map-append (handed_over q) Q.deliveries (map (moved m) x.deliveries))
 
     handed-blocks : (xs : List Block) (F : Expansion) (Q : Plainly) (was : Opens) → AreOrderly p was xs → Begins p.tasks (expand p.workers F xs).tasks → Begins q.tasks (fold plain_next Q xs).tasks → Fine p q F.tasks F.phase Q.tasks [] was
         → map (handed_over p) F.deliveries ≡ map (handed_over q) Q.deliveries → map (handed_over p) (expand p.workers F xs).deliveries ≡ map (handed_over q) (fold plain_next Q xs).deliveries

@@ -54,6 +54,13 @@ pub none-by : (o : Option OpenPhase) → by_of o ≡ None → o ≡ None
 none-by None e = refl
 none-by (Some f) e = absurd (none_isn't f.by (sym e))
 
+-- what closing and opening come to, by the cell's phase
+abbrev pub closing : ℕ → Expansion → Cell → Option OpenPhase → Expansion
+closing w E c o = elim o as (λ _. Expansion) [ None ↦ E | Some f ↦ turned (combine_rows f c w) c None E ]
+
+abbrev pub opening_rows : ℕ → Opening → Line → Option OpenPhase → List Lowered
+opening_rows w o line x = elim x as (λ _. List Lowered) [ None ↦ begin_rows w o line | Some f ↦ [] ]
+
 -- after the tasks ts of the program with phases, and us of that without, before tasks ls of the same block
 pub record Fine (p q : Program) (ts : List Lowered) (phases : Phases) (us ls : List Lowered) (was : Opens) : Type 0 where
   pub good : (n : ℕ) → n < length ts → IsGood p n (task_of p (task_at n))
@@ -158,10 +165,7 @@ module _ (p q : Program) (twins : AreTwins p q) (proper : Proper q) where
   pub fine-close : (E : Expansion) (us : List Lowered) (was : Opens) (c : Cell) → Begins p.tasks (closed p.workers E c).tasks → Fine p q E.tasks E.phase us [] was → Fine p q (closed p.workers E c).tasks (closed p.workers E c).phase us [] (with_shut was c)
   fine-close E us was c = by_phase (E.phase c) refl
     where
-      abbrev End : Option OpenPhase → Expansion
-      End o = elim o as (λ _. Expansion) [ None ↦ E | Some f ↦ turned (combine_rows f c p.workers) c None E ]
-
-      by_phase : (o : Option OpenPhase) → E.phase c ≡ o → Begins p.tasks (End o).tasks → Fine p q E.tasks E.phase us [] was → Fine p q (End o).tasks (End o).phase us [] (with_shut was c)
+      by_phase : (o : Option OpenPhase) → E.phase c ≡ o → Begins p.tasks (closing p.workers E c o).tasks → Fine p q E.tasks E.phase us [] was → Fine p q (closing p.workers E c o).tasks (closing p.workers E c o).phase us [] (with_shut was c)
       by_phase (Some f) e b fine = fine_shut E.tasks us E.phase was c f e fine b
       by_phase None e b fine = record {
         good = fine.good;
@@ -223,88 +227,85 @@ module _ (p q : Program) (twins : AreTwins p q) (proper : Proper q) where
 
     -- the phase begins
     module _ (none : phases c ≡ None) (come : IsToCome ls c) (law : IsTrusted p → IsReduction o.by) (b : Begins p.tasks (ts ++ begin_rows p.workers o line)) (d : Begins q.tasks (us ++ first_units o line)) where
-      abbrev rows : List Lowered
-      rows = begin_rows p.workers o line
+      abbrev b_rows : List Lowered
+      b_rows = begin_rows p.workers o line
 
-      stand : Stand p (length ts) rows
-      stand = begins-stand p ts rows b
+      b_stand : Stand p (length ts) b_rows
+      b_stand = begins-stand p ts b_rows b
 
       plain_stand : Stand q (length us) (first_units o line)
       plain_stand = begins-stand q us (first_units o line) d
 
-      longer : length (ts ++ rows) ≡ length ts + length rows
-      longer = length-append ts rows
+      b_longer : length (ts ++ b_rows) ≡ length ts + length b_rows
+      b_longer = length-append ts b_rows
 
-      good : (n : ℕ) → n < length (ts ++ rows) → IsGood p n (task_of p (task_at n))
-      good n lt = elim (cases_lt n (length ts)) [
+      b_good : (n : ℕ) → n < length (ts ++ b_rows) → IsGood p n (task_of p (task_at n))
+      b_good n lt = elim (cases_lt n (length ts)) [
         | inl old ↦ fine.good n old
-        | inr new ↦ by_kind n new (omega (arith, lt, longer)) (beginner p (length ts) o line stand n new (omega (arith, lt, longer)))
+        | inr new ↦ by_kind n new (omega (arith, lt, b_longer)) (beginner p (length ts) o line b_stand n new (omega (arith, lt, b_longer)))
       ]
         where
-          by_kind : (n : ℕ) → length ts ≤ n → n < length ts + length rows → Beginner p (length ts) o line n → IsGood p n (task_of p (task_at n))
+          by_kind : (n : ℕ) → length ts ≤ n → n < length ts + length b_rows → Beginner p (length ts) o line n → IsGood p n (task_of p (task_at n))
           by_kind n new lt (OfCopy early row) =
               let w = n - length ts in
               let below : w < p.workers = omega (arith, new, early) in
               subst (IsGood p n) (sym row) (good_init p n o.by line (copy_at o.copies w) (copy_there (copy_at o.copies w) c (record { 0 = w }) (copy_in c o.copies opening.copies w below)).0)
           by_kind n new lt (OfCell here row) = subst (IsGood p n) (sym row) (good_init p n o.by line c (there c o.copies opening.copies))
 
-      values : (x : Cell) → HasValueBefore q (task_at (length (us ++ first_units o line))) x → HasValueBefore p (task_at (length (ts ++ rows))) x
-      values x h =
-          let count : length (ts ++ rows) ≡ (length ts + p.workers) + length (first_units o line) = omega (arith, longer, begin-length p (length ts) o line stand) in
+      b_values : (x : Cell) → HasValueBefore q (task_at (length (us ++ first_units o line))) x → HasValueBefore p (task_at (length (ts ++ b_rows))) x
+      b_values x h =
+          let count : length (ts ++ b_rows) ≡ (length ts + p.workers) + length (first_units o line) = omega (arith, b_longer, begin-length p (length ts) o line b_stand) in
           subst (λ n. HasValueBefore p (task_at n) x) (sym count)
-          (values-units p q (length ts + p.workers) (length us) o line (units-stand p (length ts) o line stand) plain_stand (λ y g. later p (length ts) (length ts + p.workers) y (omega arith) (fine.values y g)) x
+          (values-units p q (length ts + p.workers) (length us) o line (units-stand p (length ts) o line b_stand) plain_stand (λ y g. later p (length ts) (length ts + p.workers) y (omega arith) (fine.values y g)) x
           (subst (λ n. HasValueBefore q (task_at n) x) (length-append us (first_units o line)) h))
 
-      sized : IsTrusted p → AreSized p (contents_before p (length (ts ++ rows)))
-      sized trust = after_chosen-sized p trust.proper trust.lawful.arguments (λ t. true) (λ t. first_worker) (λ t. trust.staffed) (length (ts ++ rows)) (begins-few p (ts ++ rows) b)
+      b_sized : IsTrusted p → AreSized p (contents_before p (length (ts ++ b_rows)))
+      b_sized trust = after_chosen-sized p trust.proper trust.lawful.arguments (λ t. true) (λ t. first_worker) (λ t. trust.staffed) (length (ts ++ b_rows)) (begins-few p (ts ++ b_rows) b)
 
-      pub fine_begun : Fine p q (ts ++ rows) after (us ++ first_units o line) ls (with_opening was o)
+      pub fine_begun : Fine p q (ts ++ b_rows) after (us ++ first_units o line) ls (with_opening was o)
       fine_begun = record {
-        good = good;
-        logged = log-begin p (length ts) (length (ts ++ rows)) phases ls o line none stand longer its apart (others phases fine.owned) come fine.logged;
-        values = values;
+        good = b_good;
+        logged = log-begin p (length ts) (length (ts ++ b_rows)) phases ls o line none b_stand b_longer its apart (others phases fine.owned) come fine.logged;
+        values = b_values;
         owned = opening_owned phases o line its fine.owned;
         linked = opening_linked phases was o line fine.linked;
         holds = λ trust.
-            let left = contents-more p ts rows stand in
+            let left = contents-more p ts b_rows b_stand in
             subst (λ (k : Contents). Holds p q after k (contents_before q (length (us ++ first_units o line)))) (sym left)
-            (subst (λ (j : Contents). Holds p q after (after_rows p (contents_before p (length ts)) rows) j) (sym (contents-more q us (first_units o line) plain_stand))
+            (subst (λ (j : Contents). Holds p q after (after_rows p (contents_before p (length ts)) b_rows) j) (sym (contents-more q us (first_units o line) plain_stand))
             (holds-begin p q twins phases fine.owned apart (contents_before p (length ts)) (contents_before q (length us)) (fine.holds trust) o line none its
-            (λ w below. (copy_there (copy_at o.copies w.0) c w (is-copy p c o.copies w opening.copies below)).1) (law trust) (subst (AreSized p) left (sized trust))));
+            (λ w below. (copy_there (copy_at o.copies w.0) c w (is-copy p c o.copies w opening.copies below)).1) (law trust) (subst (AreSized p) left (b_sized trust))));
       }
 
   pub fine-open : (E : Expansion) (us ls : List Lowered) (was : Opens) (o : Opening) (line : Line) → IsOpening p was ls o → IsPlain p o.cell → (IsTrusted p → IsReduction o.by) → Begins p.tasks (opened p.workers line E o).tasks → Begins q.tasks (us ++ first_units o line)
       → Fine p q E.tasks E.phase us ls was → Fine p q (opened p.workers line E o).tasks (opened p.workers line E o).phase (us ++ first_units o line) ls (with_opening was o)
   fine-open E us ls was o line opening plain law = by_phase (E.phase o.cell) refl
     where
-      abbrev Rows : Option OpenPhase → List Lowered
-      Rows x = elim x as (λ _. List Lowered) [ None ↦ begin_rows p.workers o line | Some f ↦ [] ]
-
-      by_phase : (x : Option OpenPhase) → E.phase o.cell ≡ x → Begins p.tasks (E.tasks ++ Rows x) → Begins q.tasks (us ++ first_units o line) → Fine p q E.tasks E.phase us ls was
-          → Fine p q (E.tasks ++ Rows x) (with_phase o.cell (Some (phase_at o line)) E.phase) (us ++ first_units o line) ls (with_opening was o)
+      by_phase : (x : Option OpenPhase) → E.phase o.cell ≡ x → Begins p.tasks (E.tasks ++ opening_rows p.workers o line x) → Begins q.tasks (us ++ first_units o line) → Fine p q E.tasks E.phase us ls was
+          → Fine p q (E.tasks ++ opening_rows p.workers o line x) (with_phase o.cell (Some (phase_at o line)) E.phase) (us ++ first_units o line) ls (with_opening was o)
       by_phase None e b d fine = fine_begun E.tasks us ls ls E.phase was o line opening plain fine e opening.used law b d
       by_phase (Some f) e b d fine = fine_longer E.tasks us ls ls E.phase was o line opening plain fine f e
 
   -- ---- a block's own task
 
   module _ (ts us : List Lowered) (l : Lowered) (ls : List Lowered) (phases : Phases) (was : Opens) (orderly : IsOrderlyTask p was l) (b : Begins p.tasks (ts ++ l ∷ [])) (d : Begins q.tasks (us ++ direct l ∷ [])) (fine : Fine p q ts phases us (l ∷ ls) was) where
-    abbrev n : ℕ
-    n = length ts
+    abbrev on : ℕ
+    on = length ts
 
-    abbrev m : ℕ
-    m = length us
+    abbrev om : ℕ
+    om = length us
 
-    stand : Stand p n (l ∷ [])
-    stand = begins-stand p ts (l ∷ []) b
+    o_stand : Stand p on (l ∷ [])
+    o_stand = begins-stand p ts (l ∷ []) b
 
-    plain_stand : Stand q m (direct l ∷ [])
-    plain_stand = begins-stand q us (direct l ∷ []) d
+    o_plain_stand : Stand q om (direct l ∷ [])
+    o_plain_stand = begins-stand q us (direct l ∷ []) d
 
-    longer : length (ts ++ l ∷ []) ≡ n + 1
-    longer = length-append ts (l ∷ [])
+    o_longer : length (ts ++ l ∷ []) ≡ on + 1
+    o_longer = length-append ts (l ∷ [])
 
-    plain_longer : length (us ++ direct l ∷ []) ≡ m + 1
-    plain_longer = length-append us (direct l ∷ [])
+    o_plain_longer : length (us ++ direct l ∷ []) ≡ om + 1
+    o_plain_longer = length-append us (direct l ∷ [])
 
     open_of : (c : Cell) (by : Reduction) → was c ≡ Some by → (f : OpenPhase) × (phases c ≡ Some f) × (f.by ≡ by)
     open_of c by e = by_phase (phases c) refl (fine.linked c ∙ e)
@@ -319,8 +320,8 @@ module _ (p q : Program) (twins : AreTwins p q) (proper : Proper q) where
     contributes : (a : Access) → Contains l.accesses a → is_redux a.mode ≡ true → Contributes was l a.cell
     contributes a h mode = All-contains (λ (a : Access). is_redux a.mode ≡ true → Contributes was l a.cell) l.accesses a orderly.contributes h mode
 
-    own : IsOwnTask p phases l
-    own = record {
+    o_task : IsOwnTask p phases l
+    o_task = record {
       plain = λ a h. All-contains (λ (a : Access). IsPlain p a.cell) l.accesses a orderly.plain h;
       shut = λ a h mode. shut_of a.cell (All-contains (λ (a : Access). not (is_redux a.mode) ≡ true → was a.cell ≡ None) (data_operands l) a orderly.shut h (ap not mode));
       gives = λ c h.
@@ -329,37 +330,37 @@ module _ (p q : Program) (twins : AreTwins p q) (proper : Proper q) where
           (f.0, f.1, record { kernel = con.contribution.kernel; codelet = con.contribution.codelet; contributes = ap (contributes_of con.contribution.kernel) f.2 ∙ con.contribution.contributes; operand = con.contribution.operand });
     }
 
-    its_copies : All (HasItsCopies p n) l.accesses
-    its_copies = all-from (HasItsCopies p n) l.accesses (λ a h mode.
-        (let g = own.gives a.cell (subst (λ (x : Access). Contains l.accesses x) (redux-access a mode) h) in
+    its_copies : All (HasItsCopies p on) l.accesses
+    its_copies = all-from (HasItsCopies p on) l.accesses (λ a h mode.
+        (let g = o_task.gives a.cell (subst (λ (x : Access). Contains l.accesses x) (redux-access a mode) h) in
         let partials = (fine.owned a.cell g.0 g.1).partials in
-        (ap (λ (o : Option Cell). is_some o) partials, λ w below. subst (HasValueBefore p (task_at n)) (sym (copy-is p a.cell g.0.copies w partials)) (copy_given n a.cell g.0.by g.0.copies (fine.logged.start a.cell) (fine.logged.opened a.cell g.0 g.1) w.0 below))))
+        (ap (λ (o : Option Cell). is_some o) partials, λ w below. subst (HasValueBefore p (task_at on)) (sym (copy-is p a.cell g.0.copies w partials)) (copy_given on a.cell g.0.by g.0.copies (fine.logged.start a.cell) (fine.logged.opened a.cell g.0 g.1) w.0 below))))
 
-    good : (i : ℕ) → i < length (ts ++ l ∷ []) → IsGood p i (task_of p (task_at i))
-    good i lt = elim (cases_lt i n) [
+    o_good : (i : ℕ) → i < length (ts ++ l ∷ []) → IsGood p i (task_of p (task_at i))
+    o_good i lt = elim (cases_lt i on) [
       | inl old ↦ fine.good i old
-      | inr new ↦ (let same : i ≡ n = omega (arith, new, lt, longer) in subst (λ (x : ℕ). IsGood p x (task_of p (task_at x))) (sym same) (subst (IsGood p n) (sym stand.0)
-      (good_own p q twins proper m plain_stand.1 l plain_stand.0 n was fine.values contributes its_copies orderly.plain)))
+      | inr new ↦ (let same : i ≡ on = omega (arith, new, lt, o_longer) in subst (λ (x : ℕ). IsGood p x (task_of p (task_at x))) (sym same) (subst (IsGood p on) (sym o_stand.0)
+      (good_own p q twins proper om o_plain_stand.1 l o_plain_stand.0 on was fine.values contributes its_copies orderly.plain)))
     ]
 
-    holds : IsTrusted p → Holds p q phases (contents_before p (length (ts ++ l ∷ []))) (contents_before q (length (us ++ direct l ∷ [])))
-    holds trust =
-        subst (λ (k : Contents). Holds p q phases k (contents_before q (length (us ++ direct l ∷ [])))) (sym (contents-next p n (length (ts ++ l ∷ [])) longer))
-        (subst (λ (j : Contents). Holds p q phases (after_task p first_worker (task_at n) (contents_before p n)) j) (sym (contents-next q m (length (us ++ direct l ∷ [])) plain_longer))
+    o_holds : IsTrusted p → Holds p q phases (contents_before p (length (ts ++ l ∷ []))) (contents_before q (length (us ++ direct l ∷ [])))
+    o_holds trust =
+        subst (λ (k : Contents). Holds p q phases k (contents_before q (length (us ++ direct l ∷ [])))) (sym (contents-next p on (length (ts ++ l ∷ [])) o_longer))
+        (subst (λ (j : Contents). Holds p q phases (after_task p first_worker (task_at on) (contents_before p on)) j) (sym (contents-next q om (length (us ++ direct l ∷ [])) o_plain_longer))
         (by_test (list_any (λ (a : Access). is_redux a.mode) l.accesses) refl))
       where
-        by_test : (x : Bool) → list_any (λ (a : Access). is_redux a.mode) l.accesses ≡ x → Holds p q phases (after_task p first_worker (task_at n) (contents_before p n)) (after_task q first_worker (task_at m) (contents_before q m))
-        by_test false none = holds-beside p q twins phases fine.owned apart n m (fine.holds trust) l stand.0 plain_stand.0 own none
+        by_test : (x : Bool) → list_any (λ (a : Access). is_redux a.mode) l.accesses ≡ x → Holds p q phases (after_task p first_worker (task_at on) (contents_before p on)) (after_task q first_worker (task_at om) (contents_before q om))
+        by_test false none = holds-beside p q twins phases fine.owned apart on om (fine.holds trust) l o_stand.0 o_plain_stand.0 o_task none
         by_test true any =
             let a = list_any-some (λ (a : Access). is_redux a.mode) l.accesses any in
-            holds-gift p q twins phases fine.owned apart n m (fine.holds trust) l stand.0 plain_stand.0 own trust stand.1 (All-get_or (Fits q) q.tasks m no_task plain_stand.1 proper.codelets) a.0 a.1 a.2
+            holds-gift p q twins phases fine.owned apart on om (fine.holds trust) l o_stand.0 o_plain_stand.0 o_task trust o_stand.1 (All-get_or (Fits q) q.tasks om no_task o_plain_stand.1 proper.codelets) a.0 a.1 a.2
 
     pub fine-own : Fine p q (ts ++ l ∷ []) phases (us ++ direct l ∷ []) ls was
     fine-own = record {
-      good = good;
-      logged = subst (λ x. Logged p x phases ls) (sym longer) (log-own p n phases l ls stand.0 own fine.logged);
-      values = λ c h. subst (λ x. HasValueBefore p (task_at x) c) (sym longer) (values-own p q twins proper m plain_stand.1 l plain_stand.0 n stand.0 fine.values c (subst (λ x. HasValueBefore q (task_at x) c) plain_longer h));
+      good = o_good;
+      logged = subst (λ x. Logged p x phases ls) (sym o_longer) (log-own p on phases l ls o_stand.0 o_task fine.logged);
+      values = λ c h. subst (λ x. HasValueBefore p (task_at x) c) (sym o_longer) (values-own p q twins proper om o_plain_stand.1 l o_plain_stand.0 on o_stand.0 fine.values c (subst (λ x. HasValueBefore q (task_at x) c) o_plain_longer h));
       owned = fine.owned;
       linked = fine.linked;
-      holds = holds;
+      holds = o_holds;
     }

@@ -189,12 +189,12 @@ direct-itself l none =
 
 pub filter-direct : (xs : List Access) → filter (λ a. not (is_scratch a.mode)) (map direct_access xs) ≡ map direct_access (filter (λ a. not (is_scratch a.mode)) xs)
 filter-direct [] = refl
-filter-direct (x ∷ xs) = by_test (not (is_scratch x.mode)) (direct-data x.mode)
+filter-direct (x ∷ xs) = by_test (not (is_scratch x.mode)) (direct-data x.mode) (filter-direct xs)
   where
-    by_test : (b : Bool) → not (is_scratch (direct_mode x.mode)) ≡ b
+    by_test : (b : Bool) → not (is_scratch (direct_mode x.mode)) ≡ b → filter (λ a. not (is_scratch a.mode)) (map direct_access xs) ≡ map direct_access (filter (λ a. not (is_scratch a.mode)) xs)
         → cond (not (is_scratch (direct_mode x.mode))) (direct_access x ∷ filter (λ a. not (is_scratch a.mode)) (map direct_access xs)) (filter (λ a. not (is_scratch a.mode)) (map direct_access xs)) ≡ map direct_access (cond b (x ∷ filter (λ a. not (is_scratch a.mode)) xs) (filter (λ a. not (is_scratch a.mode)) xs))
-    by_test true e = ap (λ b. cond b (direct_access x ∷ filter (λ a. not (is_scratch a.mode)) (map direct_access xs)) (filter (λ a. not (is_scratch a.mode)) (map direct_access xs))) e ∙ ap (λ ys. direct_access x ∷ ys) (filter-direct xs)
-    by_test false e = ap (λ b. cond b (direct_access x ∷ filter (λ a. not (is_scratch a.mode)) (map direct_access xs)) (filter (λ a. not (is_scratch a.mode)) (map direct_access xs))) e ∙ filter-direct xs
+    by_test true e rest = ap (λ b. cond b (direct_access x ∷ filter (λ a. not (is_scratch a.mode)) (map direct_access xs)) (filter (λ a. not (is_scratch a.mode)) (map direct_access xs))) e ∙ ap (λ ys. direct_access x ∷ ys) rest
+    by_test false e rest = ap (λ b. cond b (direct_access x ∷ filter (λ a. not (is_scratch a.mode)) (map direct_access xs)) (filter (λ a. not (is_scratch a.mode)) (map direct_access xs))) e ∙ rest
 
 module _ (p q : Program) (twins : AreTwins p q) (proper : Proper q) (m : ℕ) (inside : m < length q.tasks) (l : Lowered) (row : task_of q (task_at m) ≡ direct l) where
   -- what the plain program's task reads has a value there
@@ -237,18 +237,15 @@ module _ (p q : Program) (twins : AreTwins p q) (proper : Proper q) (m : ℕ) (i
       its_fit : Fits p l
       its_fit = record { kernel = fit.kernel; codelet = fit.codelet; operands = ap (fits fit.kernel l.args) (sym same_dims) ∙ fit.operands; modes = its_modes (list_any (λ (a : Access). is_redux a.mode) l.accesses) refl }
 
-      abbrev ds : List Access
-      ds = data_operands l
-
-      q_pairs : AllPairs ReadOnly (map direct_access ds)
+      q_pairs : AllPairs ReadOnly (map direct_access (data_operands l))
       q_pairs = subst (AllPairs ReadOnly) (filter-direct l.accesses) (subst (λ (x : Lowered). IsUnaliased x) row (All-get_or IsUnaliased q.tasks m no_task inside proper.unaliased))
 
-      its_pairs : (i j : ℕ) (d : Access) → i < j → j < length ds → ReadOnly (get_or ds i d) (get_or ds j d)
+      its_pairs : (i j : ℕ) (d : Access) → i < j → j < length (data_operands l) → ReadOnly (get_or (data_operands l) i d) (get_or (data_operands l) j d)
       its_pairs i j d before within same =
-          let ei = get_or-map direct_access ds i d (direct_access d) (omega (arith, before, within)) in
-          let ej = get_or-map direct_access ds j d (direct_access d) within in
-          let both = q_pairs i j (direct_access d) before (omega (arith, within, length-map ds direct_access)) ((λ k. same_cell (ei k).cell (ej k).cell) ∙ same) in
-          (direct-read (get_or ds i d).mode (sym (ap (λ (a : Access). a.mode) ei) ∙ both.0), direct-read (get_or ds j d).mode (sym (ap (λ (a : Access). a.mode) ej) ∙ both.1))
+          let ei = get_or-map direct_access (data_operands l) i d (direct_access d) (omega (arith, before, within)) in
+          let ej = get_or-map direct_access (data_operands l) j d (direct_access d) within in
+          let both = q_pairs i j (direct_access d) before (omega (arith, within, length-map (data_operands l) direct_access)) ((λ k. same_cell (ei k).cell (ej k).cell) ∙ same) in
+          (direct-read (get_or (data_operands l) i d).mode (sym (ap (λ (a : Access). a.mode) ei) ∙ both.0), direct-read (get_or (data_operands l) j d).mode (sym (ap (λ (a : Access). a.mode) ej) ∙ both.1))
 
   -- what has a value after it has one in the program with phases
   pub values-own : (n : ℕ) → task_of p (task_at n) ≡ l → ((c : Cell) → HasValueBefore q (task_at m) c → HasValueBefore p (task_at n) c) → (c : Cell) → HasValueBefore q (task_at (m + 1)) c → HasValueBefore p (task_at (n + 1)) c

@@ -72,31 +72,28 @@ copies-apart p apart c d first other v w differ one two below below' same =
 -- ---- a phase is closed, or has another line
 
 module _ (p q : Program) (phases : Phases) (owned : AreOwned p phases) (k j : Contents) (holds : Holds p q phases k j) (c : Cell) (f : OpenPhase) (is : phases c ≡ Some f) where
+  closing_own : IsOwn p c f.copies
+  closing_own = owned c f is
+
+  abbrev closing_phases : Phases
+  closing_phases = with_phase c None phases
+
+  abbrev closing_left : Contents
+  closing_left = after_rows p k (combine_rows f c p.workers)
+
   pub holds-close : Holds p q (with_phase c None phases) (after_rows p k (combine_rows f c p.workers)) j
-  holds-close d plain = by_which c d (denoted p after new d ≡ held_in q j d)
-      (λ same. subst (λ (x : Cell). denoted p after new x ≡ held_in q j x) same
-      (denoted-closed p after new c (phase-own c None phases) ∙ closed-value p k f c (bare p c c f.copies own.plain own.partials) ∙ sym (denoted-open p phases k c f is) ∙ holds c own.plain))
-      (λ other. denoted-same p phases after k new d (phase-other c None phases d other) (closed-others p k f c d other)
-      (λ g there w below. closed-others p k f c (copy_at g.copies w) (bare p c d g.copies own.plain (owned d g there).partials w below)) ∙ holds d plain)
-    where
-      abbrev after : Phases
-      after = with_phase c None phases
-
-      abbrev new : Contents
-      new = after_rows p k (combine_rows f c p.workers)
-
-      own : IsOwn p c f.copies
-      own = owned c f is
+  holds-close d plain = by_which c d (denoted p closing_phases closing_left d ≡ held_in q j d)
+      (λ same. subst (λ (x : Cell). denoted p closing_phases closing_left x ≡ held_in q j x) same
+      (denoted-closed p closing_phases closing_left c (phase-own c None phases) ∙ closed-value p k f c (bare p c c f.copies closing_own.plain closing_own.partials) ∙ sym (denoted-open p phases k c f is) ∙ holds c closing_own.plain))
+      (λ other. denoted-same p phases closing_phases k closing_left d (phase-other c None phases d other) (closed-others p k f c d other)
+      (λ g there w below. closed-others p k f c (copy_at g.copies w) (bare p c d g.copies closing_own.plain (owned d g there).partials w below)) ∙ holds d plain)
 
   pub holds-line : (g : OpenPhase) → f.by ≡ g.by → f.copies ≡ g.copies → Holds p q (with_phase c (Some g) phases) k j
-  holds-line g by copies d plain = by_which c d (denoted p after k d ≡ held_in q j d)
-      (λ same. subst (λ (x : Cell). denoted p after k x ≡ held_in q j x) same
-      (denoted-open p after k c g (phase-own c (Some g) phases) ∙ sym (alike (held_in p k c)) ∙ sym (denoted-open p phases k c f is) ∙ holds c (owned c f is).plain))
-      (λ other. denoted-same p phases after k k d (phase-other c (Some g) phases d other) refl (λ h there w below. refl) ∙ holds d plain)
+  holds-line g by copies d plain = by_which c d (denoted p (with_phase c (Some g) phases) k d ≡ held_in q j d)
+      (λ same. subst (λ (x : Cell). denoted p (with_phase c (Some g) phases) k x ≡ held_in q j x) same
+      (denoted-open p (with_phase c (Some g) phases) k c g (phase-own c (Some g) phases) ∙ sym (alike (held_in p k c)) ∙ sym (denoted-open p phases k c f is) ∙ holds c (owned c f is).plain))
+      (λ other. denoted-same p phases (with_phase c (Some g) phases) k k d (phase-other c (Some g) phases d other) refl (λ h there w below. refl) ∙ holds d plain)
     where
-      abbrev after : Phases
-      after = with_phase c (Some g) phases
-
       alike : (v : Array) → with_all p k f (all_workers p) v ≡ with_all p k g (all_workers p) v
       alike v = λ i. with_all p k (record { by = by i; copies = copies i; line = f.line }) (all_workers p) v
 
@@ -112,49 +109,49 @@ all-units p k f (w ∷ ws) v law tile all =
 
 module _ (p q : Program) (twins : AreTwins p q) (phases : Phases) (owned : AreOwned p phases) (apart : AreApart p) (k j : Contents) (holds : Holds p q phases k j) (o : Opening) (line : Line) (none : phases o.cell ≡ None) (own : IsOwn p o.cell o.copies)
     (copies : (w : Worker) → w.0 < p.workers → dims_of p (copy_at o.copies w.0) ≡ dims_of p o.cell) (law : IsReduction o.by) where
-  abbrev c : Cell
-  c = o.cell
+  abbrev oc : Cell
+  oc = o.cell
 
   abbrev k1 : Contents
   k1 = after_rows p k (init_rows o.by o.copies p.workers line)
 
-  abbrev new : Contents
-  new = after_rows p k (begin_rows p.workers o line)
+  abbrev begun : Contents
+  begun = after_rows p k (begin_rows p.workers o line)
 
-  abbrev newj : Contents
-  newj = after_rows q j (first_units o line)
+  abbrev begunj : Contents
+  begunj = after_rows q j (first_units o line)
 
-  abbrev after : Phases
-  after = with_phase c (Some (phase_at o line)) phases
+  abbrev begun_phases : Phases
+  begun_phases = with_phase oc (Some (phase_at o line)) phases
 
-  split : new ≡ after_rows p k1 (first_units o line)
-  split = after_rows-append p k (init_rows o.by o.copies p.workers line) (first_units o line)
+  begun_split : begun ≡ after_rows p k1 (first_units o line)
+  begun_split = after_rows-append p k (init_rows o.by o.copies p.workers line) (first_units o line)
 
   -- no copy is a cell that is none
   beside : (d : Cell) → IsPlain p d → (w : ℕ) → w < p.workers → same_cell (copy_at o.copies w) d ≡ false
-  beside d plain w below = turned-bare d (copy_at o.copies w) (bare p d c o.copies plain own.partials w below)
+  beside d plain w below = turned-bare d (copy_at o.copies w) (bare p d oc o.copies plain own.partials w below)
 
-  other_kept : (d : Cell) → same_cell c d ≡ false → ((w : ℕ) → w < p.workers → same_cell (copy_at o.copies w) d ≡ false) → held_in p new d ≡ held_in p k d
-  other_kept d other free = ap (λ (n : Contents). held_in p n d) split ∙ units-others p k1 o line d other ∙ inits-others p k o.by o.copies line d free
+  other_kept : (d : Cell) → same_cell oc d ≡ false → ((w : ℕ) → w < p.workers → same_cell (copy_at o.copies w) d ≡ false) → held_in p begun d ≡ held_in p k d
+  other_kept d other free = ap (λ (n : Contents). held_in p n d) begun_split ∙ units-others p k1 o line d other ∙ inits-others p k o.by o.copies line d free
 
-  its_value : held_in p new c ≡ held_in q newj c
+  its_value : held_in p begun oc ≡ held_in q begunj oc
   its_value =
-      ap (λ (n : Contents). held_in p n c) split
-      ∙ units-same p q k1 j o line c (twin-dims p q twins c) (inits-others p k o.by o.copies line c (beside c own.plain) ∙ sym (denoted-closed p phases k c none) ∙ holds c own.plain)
+      ap (λ (n : Contents). held_in p n oc) begun_split
+      ∙ units-same p q k1 j o line oc (twin-dims p q twins oc) (inits-others p k o.by o.copies line oc (beside oc own.plain) ∙ sym (denoted-closed p phases k oc none) ∙ holds oc own.plain)
 
-  pub holds-begin : AreSized p new → Holds p q after new newj
-  holds-begin sized d plain = by_which c d (denoted p after new d ≡ held_in q newj d)
-      (λ same. subst (λ (x : Cell). denoted p after new x ≡ held_in q newj x) same
-      (denoted-open p after new c (phase_at o line) (phase-own c (Some (phase_at o line)) phases)
-      ∙ all-units p new (phase_at o line) (all_workers p) (held_in p new c) law (sized c).tile (each-of_all (λ w. (u : Array) × (u.dims ≡ (held_in p new c).dims) × (held_in p new (copy_at o.copies w) ≡ unit_of o.by u)) p.workers (λ w below. (
+  pub holds-begin : AreSized p begun → Holds p q begun_phases begun begunj
+  holds-begin sized d plain = by_which oc d (denoted p begun_phases begun d ≡ held_in q begunj d)
+      (λ same. subst (λ (x : Cell). denoted p begun_phases begun x ≡ held_in q begunj x) same
+      (denoted-open p begun_phases begun oc (phase_at o line) (phase-own oc (Some (phase_at o line)) phases)
+      ∙ all-units p begun (phase_at o line) (all_workers p) (held_in p begun oc) law (sized oc).tile (each-of_all (λ w. (u : Array) × (u.dims ≡ (held_in p begun oc).dims) × (held_in p begun (copy_at o.copies w) ≡ unit_of o.by u)) p.workers (λ w below. (
         zeros (dims_of p (copy_at o.copies w)),
-        copies (record { 0 = w }) below ∙ sym (sized c).dims,
-        ap (λ (n : Contents). held_in p n (copy_at o.copies w)) split ∙ units-others p k1 o line (copy_at o.copies w) (bare p c c o.copies own.plain own.partials w below) ∙ inits-copies p k o.by o.copies line w below,
+        copies (record { 0 = w }) below ∙ sym (sized oc).dims,
+        ap (λ (n : Contents). held_in p n (copy_at o.copies w)) begun_split ∙ units-others p k1 o line (copy_at o.copies w) (bare p oc oc o.copies own.plain own.partials w below) ∙ inits-copies p k o.by o.copies line w below,
       )))
       ∙ its_value))
-      (λ other. denoted-same p phases after k new d (phase-other c (Some (phase_at o line)) phases d other) (other_kept d other (beside d plain))
-      (λ g there w below. other_kept (copy_at g.copies w) (bare p c d g.copies own.plain (owned d g there).partials w below)
-      (λ v lt. false_from_ne_true (same_cell (copy_at o.copies v) (copy_at g.copies w)) (λ h. copies-apart p apart c d o.copies g.copies v w other own.partials (owned d g there).partials lt below (same_cell-is (copy_at o.copies v) (copy_at g.copies w) h))))
+      (λ other. denoted-same p phases begun_phases k begun d (phase-other oc (Some (phase_at o line)) phases d other) (other_kept d other (beside d plain))
+      (λ g there w below. other_kept (copy_at g.copies w) (bare p oc d g.copies own.plain (owned d g there).partials w below)
+      (λ v lt. false_from_ne_true (same_cell (copy_at o.copies v) (copy_at g.copies w)) (λ h. copies-apart p apart oc d o.copies g.copies v w other own.partials (owned d g there).partials lt below (same_cell-is (copy_at o.copies v) (copy_at g.copies w) h))))
       ∙ holds d plain ∙ sym (units-others q j o line d other))
 
 -- ---- a block's own task
@@ -190,7 +187,7 @@ module _ (p q : Program) (twins : AreTwins p q) (phases : Phases) (owned : AreOw
   newj = after_task q first_worker (task_at m) j
 
   data_in : (a : Access) → Contains l.accesses a → not (is_scratch a.mode) ≡ true → Contains (data_operands l) a
-  data_in a h data = Contains-filter (λ (b : Access). not (is_scratch b.mode)) l.accesses a data h
+  data_in a h kept = Contains-filter (λ (b : Access). not (is_scratch b.mode)) l.accesses a kept h
 
   -- an operand that isn't contributed to is found alike
   found-alike : (a : Access) → Contains l.accesses a → is_redux a.mode ≡ false → found q first_worker (held_in q j) a ≡ found p first_worker (held_in p k) a
@@ -237,11 +234,11 @@ module _ (p q : Program) (twins : AreTwins p q) (phases : Phases) (owned : AreOw
             denoted-closed p phases new d e ∙ ap (λ (z : Contents). held_in p z d) left ∙ held-append p (zip cs xs) k d ∙ ap (held_over (zip cs xs) d) (sym (denoted-closed p phases k d e) ∙ holds d plain)
             ∙ sym (held-append q (zip cs xs) j d) ∙ ap (λ (z : Contents). held_in q z d) (sym left_plain)
         by_phase (Some f) e =
-            let free = unwritten d (λ a h data same. none_isn't f (sym (own.shut a data (none-redux l none a h)) ∙ ap phases same ∙ e)) in
+            let free = unwritten d (λ a h kept same. none_isn't f (sym (own.shut a kept (none-redux l none a h)) ∙ ap phases same ∙ e)) in
             denoted-same p phases phases k new d refl (ap (λ (z : Contents). held_in p z d) left ∙ held-append p (zip cs xs) k d ∙ held_over-other cs xs d (held_in p k d) free)
             (λ g there w below. (let x = copy_at g.copies w in
             ap (λ (z : Contents). held_in p z x) left ∙ held-append p (zip cs xs) k x
-            ∙ held_over-other cs xs x (held_in p k x) (unwritten x (λ a h data same. own.plain a h d (record { 0 = w }) (subst (λ (y : Cell). IsCopyOf p y d (record { 0 = w })) (sym same) (is-copy p d g.copies (record { 0 = w }) (owned d g there).partials below))))))
+            ∙ held_over-other cs xs x (held_in p k x) (unwritten x (λ a h kept same. own.plain a h d (record { 0 = w }) (subst (λ (y : Cell). IsCopyOf p y d (record { 0 = w })) (sym same) (is-copy p d g.copies (record { 0 = w }) (owned d g there).partials below))))))
             ∙ holds d plain ∙ sym (ap (λ (z : Contents). held_in q z d) left_plain ∙ held-append q (zip cs xs) j d ∙ held_over-other cs xs d (held_in q j d) free)
 
   -- ---- one that contributes

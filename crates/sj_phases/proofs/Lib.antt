@@ -14,3 +14,4 @@ pub mod Fine
 pub mod Blocks
 pub mod Delivered
 pub mod Expanded
+pub mod Doing

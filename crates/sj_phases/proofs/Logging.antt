@@ -232,7 +232,7 @@ log-line p n phases ls c f g is by copies log = record {
     still d now = by_which c d (IsOpen (with_phase c (Some g) phases) d) (λ same. subst (IsOpen (with_phase c (Some g) phases)) same (g, phase-own c (Some g) phases)) (λ other. (now.0, phase-other c (Some g) phases d other ∙ now.1))
 
 -- a log goes on beside tasks that touch none of its cells
-longer-log : (p : Program) (n k : ℕ) (d : Cell) (by : Reduction) (first : Cell) (start : ℕ) → n ≤ k → ((m : ℕ) (a : Access) → n ≤ m → m < k → Contains (data_operands (task_number p m)) a → Touches p d a → ⊥) → IsLogged p n d by first start → IsLogged p k d by first start
+pub longer-log : (p : Program) (n k : ℕ) (d : Cell) (by : Reduction) (first : Cell) (start : ℕ) → n ≤ k → ((m : ℕ) (a : Access) → n ≤ m → m < k → Contains (data_operands (task_number p m)) a → Touches p d a → ⊥) → IsLogged p n d by first start → IsLogged p k d by first start
 longer-log p n k d by first start e untouched h = record {
   begun = omega (arith, e, h.begun);
   init = h.init;

@@ -1,6 +1,6 @@
 //! Phases of contributions to a cell, and the tasks that begin and close them.
 
-ghost use Rattle.std.specs.Prelude.{◌≡◌, IfOk};
+ghost use Rattle.std.specs.Prelude.{◌≡◌, [], IfOk};
 ghost use Rattle.sj_codelet.specs.Kernel.{codelet_of, init_of, combine_of};
 ghost use Rattle.sj_phases.specs.Rows.{task_by, init_row, combine_row};
 
@@ -34,37 +34,49 @@ pub struct OpenPhase {
     pub line: Line,
 }
 
-/// A task of the runtime's own codelets without arguments. Takes no memory for up to three accesses.
-fn own_task<const M: usize>(
-    alloc: Global,
-    codelet: Codelet,
-    accesses: [Access; M],
-    line: Line,
-) -> Result<Lowered, OutOfMemory>
-    ensures { IfOk result (λ l. l ≡ task_by codelet [] accesses line) }
+/// A task of the runtime's own codelets without arguments.
+fn own_task(alloc: Global, codelet: Codelet, accesses: Few<Access>, line: Line) -> Lowered
+    ensures { result ≡ task_by codelet [] accesses line }
 {
-    Ok(Lowered {
+    Lowered {
         codelet,
         args: Few::empty(alloc),
-        accesses: Few::of(alloc, accesses)?,
+        accesses,
         line,
         priority: 0,
-    })
+    }
+}
+
+/// The codelet that makes a reduction's unit.
+fn init_codelet(by: Reduction) -> Codelet
+    ensures { result ≡ codelet_of (init_of by) }
+{
+    match by {
+        Reduction::Plus => Kernel::InitPlus.id(),
+        Reduction::Least => Kernel::InitLeast.id(),
+    }
+}
+
+/// The codelet that combines a partial copy into another array.
+fn combine_codelet(by: Reduction) -> Codelet
+    ensures { result ≡ codelet_of (combine_of by) }
+{
+    match by {
+        Reduction::Plus => Kernel::Add.id(),
+        Reduction::Least => Kernel::Lowest.id(),
+    }
 }
 
 /// Gives a cell the reduction's unit.
 pub fn init_row(alloc: Global, by: Reduction, line: Line, cell: Cell) -> Result<Lowered, OutOfMemory>
     ensures { IfOk result (λ l. l ≡ init_row by line cell) }
 {
-    let codelet = match by {
-        Reduction::Plus => Kernel::InitPlus.id(),
-        Reduction::Least => Kernel::InitLeast.id(),
-    };
     let write = Access {
         mode: Mode::W,
         cell,
     };
-    own_task(alloc, codelet, [write], line)
+    let accesses = Few::of(alloc, [write])?;
+    Ok(own_task(alloc, init_codelet(by), accesses, line))
 }
 
 /// Combines a partial copy into its cell.
@@ -77,10 +89,6 @@ pub fn combine_row(
 ) -> Result<Lowered, OutOfMemory>
     ensures { IfOk result (λ l. l ≡ combine_row by cell line copy) }
 {
-    let codelet = match by {
-        Reduction::Plus => Kernel::Add.id(),
-        Reduction::Least => Kernel::Lowest.id(),
-    };
     let from = Access {
         mode: Mode::R,
         cell: copy,
@@ -89,5 +97,6 @@ pub fn combine_row(
         mode: Mode::RW,
         cell,
     };
-    own_task(alloc, codelet, [from, to], line)
+    let accesses = Few::of(alloc, [from, to])?;
+    Ok(own_task(alloc, combine_codelet(by), accesses, line))
 }
