@@ -42,7 +42,7 @@ use Rattle.sj_phases.specs.Expand.{Expansion, nothing, expand, expanded, prepare
 use Rattle.sj_phases.specs.Plain.{Opens, Plainly, direct, direct_mode, direct_access, units, plain_rows, plain_next, plain_program, none_open, open_at, open_after, shut_by, with_shut, with_opening}
 use Rattle.sj_phases.specs.Orderly.{IsOrderlyTask, IsOrderly, AreOrderly, AreOpenings, IsDelivered}
 use Rattle.sj_phases.specs.Law.{program_by, MayExpand, HoldsPlain, AreDelivered, handed_over}
-use Rattle.sj_phases.proofs.Blocks.{ goes-expand, goes-plain, begins-less, orderly-twin, fine-among, fine-block, fine-blocks, fine-start, stand-at, prepared-deliveries}
+use Rattle.sj_phases.proofs.Blocks.{goes-expand, goes-plain, begins-less, orderly-twin, fine-among, fine-block, fine-blocks, fine-start, stand-at, prepared-deliveries}
 use Rattle.sj_phases.proofs.Combined.{IsTrusted, Phases, denoted-closed}
 use Rattle.sj_phases.proofs.Contents.{first_worker, task_at, contents_before}
 use Rattle.sj_phases.proofs.Delivered.{delivered-expand, delivered-plain, delivered-none}

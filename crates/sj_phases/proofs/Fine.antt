@@ -145,11 +145,11 @@ module _ (p q : Program) (twins : AreTwins p q) (proper : Proper q) where
     good n lt = elim (cases_lt n (length ts)) [
       | inl old ↦ fine.good n old
       | inr new ↦ (let w = n - length ts in let below : w < p.workers = omega (arith, new, lt, longer) in
-      let copy = copy_in c f.copies own.partials w below in
-      subst (IsGood p n) (sym (row-at p (λ w. combine_row f.by c f.line (copy_at f.copies w)) (length ts) stand n new (omega (arith, lt, longer))))
-      (good_combine p n f.by c f.line (copy_at f.copies w) (copy_there (copy_at f.copies w) c (record { 0 = w }) copy).0 (there c f.copies own.partials) (copy_there (copy_at f.copies w) c (record { 0 = w }) copy).1
-      (turned-bare c (copy_at f.copies w) (bare p c c f.copies own.plain own.partials w below))
-      (later p (length ts) n (copy_at f.copies w) new (copy_given (length ts) c f.by f.copies (fine.logged.start c) (fine.logged.opened c f is) w below)) (later p (length ts) n c new given)))
+          let copy = copy_in c f.copies own.partials w below in
+          subst (IsGood p n) (sym (row-at p (λ w. combine_row f.by c f.line (copy_at f.copies w)) (length ts) stand n new (omega (arith, lt, longer))))
+          (good_combine p n f.by c f.line (copy_at f.copies w) (copy_there (copy_at f.copies w) c (record { 0 = w }) copy).0 (there c f.copies own.partials) (copy_there (copy_at f.copies w) c (record { 0 = w }) copy).1
+          (turned-bare c (copy_at f.copies w) (bare p c c f.copies own.plain own.partials w below))
+          (later p (length ts) n (copy_at f.copies w) new (copy_given (length ts) c f.by f.copies (fine.logged.start c) (fine.logged.opened c f is) w below)) (later p (length ts) n c new given)))
     ]
 
     pub fine_shut : Fine p q (ts ++ rows) (with_phase c None phases) us [] (with_shut was c)
@@ -340,7 +340,7 @@ module _ (p q : Program) (twins : AreTwins p q) (proper : Proper q) where
     o_good i lt = elim (cases_lt i on) [
       | inl old ↦ fine.good i old
       | inr new ↦ (let same : i ≡ on = omega (arith, new, lt, o_longer) in subst (λ (x : ℕ). IsGood p x (task_of p (task_at x))) (sym same) (subst (IsGood p on) (sym o_stand.0)
-      (good_own p q twins proper om o_plain_stand.1 l o_plain_stand.0 on was fine.values contributes its_copies orderly.plain)))
+          (good_own p q twins proper om o_plain_stand.1 l o_plain_stand.0 on was fine.values contributes its_copies orderly.plain)))
     ]
 
     o_holds : IsTrusted p → Holds p q phases (contents_before p (length (ts ++ l ∷ []))) (contents_before q (length (us ++ direct l ∷ [])))

@@ -93,4 +93,3 @@ given-rows p n (l ∷ ls) c s h = by_cases (gives_value l c) refl h (given-rows 
     by_cases : (b : Bool) → gives_value l c ≡ b → (b || one_gives ls c) ≡ true → (one_gives ls c ≡ true → HasValueBefore p (task_at ((n + 1) + length ls)) c) → HasValueBefore p (task_at (n + length (l ∷ ls))) c
     by_cases true e k rest = (task_at n, omega arith, ap (λ (x : Lowered). gives_value x c) s.0 ∙ e)
     by_cases false e k rest = subst (λ (m : ℕ). HasValueBefore p (task_at m) c) (sym (one_first n l ls)) (rest k)
-

@@ -264,9 +264,12 @@ module _ (p q : Program) (twins : AreTwins p q) (proper : Proper q) (m : ℕ) (i
           by_mode : (a : Access) → Contains l.accesses a → (is_written (direct_mode a.mode) && not (is_redux (direct_mode a.mode)) && same_cell a.cell c) ≡ true → (b : Bool) → is_redux a.mode ≡ b → HasValueBefore p (task_at (n + 1)) c
           by_mode a h test true e =
               later p n (n + 1) c (omega arith) (values c (subst (HasValueBefore q (task_at m)) (same_cell-is a.cell c (and_parts (is_written (direct_mode a.mode) && not (is_redux (direct_mode a.mode))) (same_cell a.cell c) test).1) (plain-value a h (redux-reads a.mode e))))
-          by_mode a (k, lt, is) test false e =
-              (task_at n, omega arith, ap (λ (x : Lowered). gives_value x c) here ∙ list_any_at (λ (a : Access). is_written a.mode && not (is_redux a.mode) && same_cell a.cell c) l.accesses k a lt
-              (ap (λ (a : Access). is_written a.mode && not (is_redux a.mode) && same_cell a.cell c) is ∙ ap (λ (a : Access). is_written a.mode && not (is_redux a.mode) && same_cell a.cell c) (sym (direct-same a e)) ∙ test))
+          by_mode a (k, lt, is) test false e = (
+            task_at n,
+            omega arith,
+            ap (λ (x : Lowered). gives_value x c) here ∙ list_any_at (λ (a : Access). is_written a.mode && not (is_redux a.mode) && same_cell a.cell c) l.accesses k a lt
+                (ap (λ (a : Access). is_written a.mode && not (is_redux a.mode) && same_cell a.cell c) is ∙ ap (λ (a : Access). is_written a.mode && not (is_redux a.mode) && same_cell a.cell c) (sym (direct-same a e)) ∙ test),
+          )
 
 -- the same after the unit that both programs have
 pub values-units : (p q : Program) (n m : ℕ) (o : Opening) (line : Line) → Stand p n (first_units o line) → Stand q m (first_units o line) → ((c : Cell) → HasValueBefore q (task_at m) c → HasValueBefore p (task_at n) c)

@@ -15,3 +15,4 @@ pub mod Blocks
 pub mod Delivered
 pub mod Expanded
 pub mod Doing
+pub mod Worked

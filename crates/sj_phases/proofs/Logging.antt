@@ -265,7 +265,7 @@ log-own p n phases l ls row own log = record {
     gifts = λ m lo hi names. elim (cases_lt m n) [
       | inl old ↦ h.gifts m lo old names
       | inr new ↦ (let g = own.gives c (at m new hi (λ x. names_as Redux c x) names) in
-      subst (λ (x : Lowered). IsContribution f.by c x) (sym (here m new hi)) (subst (λ (y : OpenPhase). IsContribution y.by c l) (some_is g.0 f (sym g.1 ∙ is)) g.2))
+          subst (λ (x : Lowered). IsContribution f.by c x) (sym (here m new hi)) (subst (λ (y : OpenPhase). IsContribution y.by c l) (some_is g.0 f (sym g.1 ∙ is)) g.2))
     ];
     alone = λ m a lo hi among touches. elim (cases_lt m n) [
       | inl old ↦ h.alone m a lo old among touches

@@ -68,7 +68,12 @@ fn combine_codelet(by: Reduction) -> Codelet
 }
 
 /// Gives a cell the reduction's unit.
-pub fn init_row(alloc: Global, by: Reduction, line: Line, cell: Cell) -> Result<Lowered, OutOfMemory>
+pub fn init_row(
+    alloc: Global,
+    by: Reduction,
+    line: Line,
+    cell: Cell,
+) -> Result<Lowered, OutOfMemory>
     ensures { IfOk result (λ l. l ≡ init_row by line cell) }
 {
     let write = Access {
