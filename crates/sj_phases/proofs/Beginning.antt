@@ -1,8 +1,8 @@
 -- The log of phases where a phase begins.
-use Rattle.std.proofs.Common.{◌≡◌, ℕ, ◌+◌, ◌-◌, ◌<◌, ◌≤◌, Bool, true, false, cond, not, Some, None, List, [], ◌∷◌, ◌++◌, length, refl, sym, ap, subst, ◌∙◌, inl, inr, arith, length-append}
-use Rattle.std.specs.Prelude.{◌⊎◌, All, Contains}
+use Rattle.std.proofs.Common.{◌≡◌, ℕ, ◌+◌, ◌-◌, ◌<◌, ◌≤◌, Bool, true, false, cond, not, Some, None, List, [], ◌∷◌, length, sym, ap, subst, ◌∙◌, inl, inr, arith, length-append}
+use Rattle.std.specs.Prelude.{◌⊎◌, Contains}
 use Rattle.std.specs.List.{range_with_len}
-use Rattle.std.proofs.lemmas.Bool.{false≢true, cases_lt}
+use Rattle.std.proofs.lemmas.Bool.{cases_lt}
 use Rattle.std.proofs.lemmas.List.{length-map}
 use Rattle.std.proofs.lemmas.List.FromFn.{length-range_with_len}
 use Rattle.sj_base.specs.declared.ids.Cell.{Cell}
@@ -24,7 +24,7 @@ use Rattle.sj_phases.specs.Expand.{with_phase, begin_rows, first_units, phase_at
 use Rattle.sj_phases.proofs.Combined.{Phases}
 use Rattle.sj_phases.proofs.Folding.{Stand, stand-append}
 use Rattle.sj_phases.proofs.Lists.{one-case}
-use Rattle.sj_phases.proofs.Logging.{IsLogged, IsOpen, IsUsed, IsToCome, IsNamed, IsAdded, Logged, phase-own, phase-other, by_which, unlike, some_is, none_isn't, row-at, row-of, kernel-init, longer-log}
+use Rattle.sj_phases.proofs.Logging.{IsLogged, IsOpen, IsUsed, IsToCome, IsNamed, Logged, phase-own, phase-other, by_which, unlike, some_is, none_isn't, row-at, row-of, kernel-init, longer-log}
 use Rattle.sj_phases.proofs.Owning.{IsOwn, is-copy}
 
 -- a cell with copies has each of them alone

@@ -1,9 +1,9 @@
 -- The program of blocks and that without phases, block by block.
-use Rattle.std.proofs.Common.{◌≡◌, ℕ, zero, suc, ◌+◌, ◌<◌, ◌≤◌, Bool, true, false, cond, Option, Some, None, List, [], ◌∷◌, ◌++◌, length, get_or, map, fold, refl, sym, ap, subst, ◌∙◌, inl, inr, arith, length-append, append_assoc}
-use Rattle.std.specs.Prelude.{All, Contains}
-use Rattle.std.specs.List.{AllByRecursion, flat_map}
+use Rattle.std.proofs.Common.{◌≡◌, ℕ, zero, suc, ◌+◌, ◌<◌, true, Option, Some, None, List, [], ◌∷◌, ◌++◌, length, get_or, map, fold, refl, sym, ap, subst, ◌∙◌, inl, inr, arith, append_assoc}
+use Rattle.std.specs.Prelude.{Contains}
+use Rattle.std.specs.List.{flat_map}
 use Rattle.std.proofs.lemmas.List.{append-nil, map-append}
-use Rattle.std.proofs.lemmas.List.Elements.{All-contains, All-head, All-tail}
+use Rattle.std.proofs.lemmas.List.Elements.{All-contains}
 use Rattle.sj_base.specs.declared.ids.Cell.{Cell}
 use Rattle.sj_base.specs.declared.ids.Line.{Line}
 use Rattle.sj_base.specs.declared.mode.Mode.TheVariants.{Redux}
@@ -16,13 +16,13 @@ use Rattle.sj_base.specs.Array.{zeros}
 use Rattle.sj_base.specs.Mode.{is_redux}
 use Rattle.sj_codelet.specs.Kernel.{kernel_of}
 use Rattle.sj_codelet.specs.Laws.{IsReduction}
-use Rattle.sj_core.specs.Program.{task_of, no_task}
+use Rattle.sj_core.specs.Program.{task_of}
 use Rattle.sj_core.specs.Proper.{Proper, IsPlain, names_as, access}
 use Rattle.sj_phases.specs.declared.phase.Opening.{Opening}
 use Rattle.sj_phases.specs.declared.phase.OpenPhase.{OpenPhase}
 use Rattle.sj_phases.specs.Block.{Block}
 use Rattle.sj_phases.specs.Rows.{combine_rows}
-use Rattle.sj_phases.specs.Expand.{Expansion, turned, closed, opened, begin_rows, first_units, prepared, expanded, expand, phase_at}
+use Rattle.sj_phases.specs.Expand.{Expansion, turned, closed, opened, begin_rows, first_units, prepared, expanded, expand}
 use Rattle.sj_phases.specs.Plain.{Opens, Plainly, direct, units, plain_rows, plain_next, with_shut, with_opening, shut_by, open_at, open_after, none_open}
 use Rattle.sj_phases.specs.Orderly.{Contributes, IsOrderlyTask, IsOpening, AreOpenings, IsOrderly, AreOrderly}
 use Rattle.sj_phases.proofs.Adding.{law}

@@ -1,7 +1,6 @@
 -- Steps of the code: what each does to an expansion, and several one after another.
-use Rattle.std.proofs.Common.{◌≡◌, ℕ, ◌+◌, ◌<◌, ◌≤◌, Bool, true, false, cond, not, Option, Some, None, List, [], ◌∷◌, ◌++◌, length, map, fold, vec_len, nat_eq, nat_lt, is_some, refl, sym, ap, subst, ◌∙◌, inl, inr, arith, length-append, append_assoc, if◌then◌else◌}
-use Rattle.std.specs.List.{range_with_len}
-use Rattle.std.proofs.lemmas.Bool.{false≢true, ltb-true, cases_lt}
+use Rattle.std.proofs.Common.{◌≡◌, ℕ, ◌+◌, ◌<◌, ◌≤◌, Bool, true, false, cond, not, Option, Some, None, List, [], ◌∷◌, ◌++◌, length, fold, nat_eq, nat_lt, is_some, refl, sym, ap, subst, ◌∙◌, arith, length-append, append_assoc, if◌then◌else◌}
+use Rattle.std.proofs.lemmas.Bool.{false≢true, ltb-true}
 use Rattle.std.proofs.lemmas.Bool.Decides.{nat_tests}
 use Rattle.std.proofs.lemmas.List.{append-nil}
 use Rattle.indexmap.specs.IndexMap.{IndexMap, get, with_entries}
@@ -12,11 +11,10 @@ use Rattle.sj_base.specs.declared.program.Lowered.{Lowered}
 use Rattle.sj_phases.specs.declared.expander.Expander.{Expander}
 use Rattle.sj_phases.specs.declared.phase.Opening.{Opening}
 use Rattle.sj_phases.specs.declared.phase.OpenPhase.{OpenPhase}
-use Rattle.sj_phases.specs.Block.{Block}
 use Rattle.sj_phases.specs.Does.{Follows, IsAt, HasAt, over_after, Does}
-use Rattle.sj_phases.specs.Expand.{Expansion, most, with_phase, turned, closed, opened, with_own, moved, begin_rows, phase_at, prepared, expanded, expand, first_above}
-use Rattle.sj_phases.specs.Rows.{copy_at, init_row, init_rows, combine_row, combine_rows}
-use Rattle.sj_phases.proofs.Blocks.{GoesOn, goes-closed, goes-opened, goes-closes, goes-opens}
+use Rattle.sj_phases.specs.Expand.{Expansion, most, with_phase, turned, closed, opened, with_own, begin_rows, phase_at}
+use Rattle.sj_phases.specs.Rows.{init_row, init_rows, combine_rows}
+use Rattle.sj_phases.proofs.Blocks.{GoesOn}
 use Rattle.sj_phases.proofs.Logging.{none_isn't, some_is, phase-own, phase-other, by_which}
 
 -- ---- the line with which there were too many tasks

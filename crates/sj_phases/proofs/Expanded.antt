@@ -1,20 +1,18 @@
 -- The program of blocks is proper, and holds and hands over what it does without phases.
 use mathlib.Core.List.{map-map}
-use Rattle.std.proofs.Common.{◌≡◌, ℕ, zero, suc, ◌+◌, ◌<◌, ◌≤◌, ◌^◌, Bool, true, false, cond, not, Option, Some, None, List, [], ◌∷◌, ◌++◌, length, get_or, map, fold, refl, sym, ap, subst, ◌∙◌, inl, inr, arith, length-append, append_assoc}
+use Rattle.std.proofs.Common.{◌≡◌, ℕ, suc, ◌+◌, ◌<◌, ◌≤◌, Bool, true, not, Option, Some, None, List, [], ◌∷◌, ◌++◌, length, get_or, map, fold, refl, sym, ap, subst, ◌∙◌, inl, inr, arith, length-append, append_assoc}
 use Rattle.std.specs.Prelude.{◌⊎◌, All, Contains, filter}
 use Rattle.std.specs.List.{range_with_len}
 use Rattle.std.specs.Option.{is_some}
 use Rattle.std.proofs.lemmas.Bool.{false≢true, cases_lt}
 use Rattle.std.proofs.lemmas.List.{append-nil, get_or_past, get_or_default, get_or-map, length-map, map-append}
 use Rattle.std.proofs.lemmas.List.Sums.{fold-append}
-use Rattle.std.proofs.lemmas.List.Elements.{All-nil, All-contains, All-from_get_or, Contains-get_or, All-head, All-tail}
+use Rattle.std.proofs.lemmas.List.Elements.{All-nil, All-contains, All-from_get_or, Contains-get_or}
 use Rattle.sj_base.specs.declared.ids.Cell.{Cell}
 use Rattle.sj_base.specs.declared.ids.Line.{Line}
-use Rattle.sj_base.specs.declared.ids.Root.{Root}
 use Rattle.sj_base.specs.declared.ids.Task.{Task}
 use Rattle.sj_base.specs.declared.ids.Worker.{Worker}
-use Rattle.sj_base.specs.declared.mode.Mode.{Mode}
-use Rattle.sj_base.specs.declared.mode.Mode.TheVariants.{R, Redux}
+use Rattle.sj_base.specs.declared.mode.Mode.TheVariants.{R}
 use Rattle.sj_base.specs.declared.mode.Access.{Access}
 use Rattle.sj_base.specs.declared.mode.Reduction.{Reduction}
 use Rattle.sj_base.specs.declared.mode.Reduction.TheVariants.{Plus, Least}
@@ -22,25 +20,23 @@ use Rattle.sj_base.specs.declared.program.CellInfo.{CellInfo}
 use Rattle.sj_base.specs.declared.program.Delivery.{Delivery}
 use Rattle.sj_base.specs.declared.program.Lowered.{Lowered}
 use Rattle.sj_base.specs.declared.program.Program.{Program}
-use Rattle.sj_base.specs.Array.{Array}
 use Rattle.sj_base.specs.Mode.{is_data, is_redux, is_scratch, reads_value}
 use Rattle.sj_codelet.specs.declared.kernel.Kernel.{Kernel}
 use Rattle.sj_codelet.specs.declared.kernel.Kernel.TheVariants.{Deliver}
 use Rattle.sj_codelet.specs.Kernel.{kernel_of, commutes_of, contributes_of}
 use Rattle.sj_core.specs.Program.{cell_info, data_operands, task_of, no_cell, no_task}
 use Rattle.sj_core.specs.Operands.{copy_of, worked_on, cells_of}
-use Rattle.sj_core.specs.Fold.{Contents, after_chosen, held_in, held_before, given}
+use Rattle.sj_core.specs.Fold.{after_chosen, held_in, held_before, given}
 use Rattle.sj_core.specs.Laws.{IsLawful, final}
-use Rattle.sj_core.specs.Proper.{Proper, NamesCells, ReadsValues, HasDeliveries, IsWithinLimits, Fits, MayHaveModes, IsCopyOf, IsPlain, IsUnaliased, IsPhase, IsOpenAt, IsCombine, Phase, HasValueBefore, own_modes, names_as, task_number, access}
+use Rattle.sj_core.specs.Proper.{Proper, Fits, MayHaveModes, IsPlain, IsUnaliased, IsPhase, IsOpenAt, IsCombine, Phase, HasValueBefore, own_modes, task_number, access}
 use Rattle.sj_core.proofs.Folding.{map-same}
 use Rattle.sj_core.proofs.Readiness.{Contains-filter, Contains-map}
 use Rattle.sj_core.proofs.Workers.{workers-alike}
 use Rattle.sj_phases.specs.declared.phase.Opening.{Opening}
-use Rattle.sj_phases.specs.declared.phase.OpenPhase.{OpenPhase}
 use Rattle.sj_phases.specs.Block.{Block}
 use Rattle.sj_phases.specs.Expand.{Expansion, nothing, expand, expanded, prepared, moved, cells_below, last_block}
 use Rattle.sj_phases.specs.Plain.{Opens, Plainly, direct, direct_mode, direct_access, units, plain_rows, plain_next, plain_program, none_open, open_at, open_after, shut_by, with_shut, with_opening}
-use Rattle.sj_phases.specs.Orderly.{IsOrderlyTask, IsOrderly, AreOrderly, AreOpenings, IsDelivered}
+use Rattle.sj_phases.specs.Orderly.{IsOrderlyTask, IsOrderly, AreOrderly, AreOpenings}
 use Rattle.sj_phases.specs.Law.{program_by, MayExpand, HoldsPlain, AreDelivered, handed_over}
 use Rattle.sj_phases.proofs.Blocks.{goes-expand, goes-plain, begins-less, orderly-twin, fine-among, fine-block, fine-blocks, fine-start, stand-at, prepared-deliveries}
 use Rattle.sj_phases.proofs.Combined.{IsTrusted, Phases, denoted-closed}

@@ -1,16 +1,16 @@
 -- What holds of the program of blocks and of their program without phases, task by task.
-use Rattle.std.proofs.Common.{◌≡◌, ℕ, ◌+◌, ◌-◌, ◌<◌, ◌≤◌, Bool, true, false, cond, not, ◌&&◌, ◌||◌, Option, Some, None, List, [], ◌∷◌, ◌++◌, length, get_or, refl, sym, ap, subst, ◌∙◌, inl, inr, arith, length-append}
-use Rattle.std.specs.Prelude.{◌⊎◌, All, Contains}
-use Rattle.std.specs.List.{AllByRecursion, list_any}
+use Rattle.std.proofs.Common.{◌≡◌, ℕ, ◌+◌, ◌-◌, ◌<◌, ◌≤◌, Bool, true, false, cond, not, ◌&&◌, ◌||◌, Option, Some, None, List, [], ◌∷◌, ◌++◌, length, refl, sym, ap, subst, ◌∙◌, inl, inr, arith, length-append}
+use Rattle.std.specs.Prelude.{All, Contains}
+use Rattle.std.specs.List.{list_any}
 use Rattle.std.specs.Option.{is_some, option_map}
-use Rattle.std.proofs.lemmas.Bool.{false≢true, cases_lt}
+use Rattle.std.proofs.lemmas.Bool.{cases_lt}
 use Rattle.std.proofs.lemmas.List.{append-nil, get_or_past}
 use Rattle.std.proofs.lemmas.List.Elements.{All-contains, All-get_or}
 use Rattle.std.proofs.lemmas.List.FromFn.{length-map-range_with_len}
 use Rattle.sj_base.specs.declared.ids.Cell.{Cell}
 use Rattle.sj_base.specs.declared.ids.Line.{Line}
 use Rattle.sj_base.specs.declared.ids.Worker.{Worker}
-use Rattle.sj_base.specs.declared.mode.Mode.TheVariants.{W, Redux}
+use Rattle.sj_base.specs.declared.mode.Mode.TheVariants.{Redux}
 use Rattle.sj_base.specs.declared.mode.Access.{Access}
 use Rattle.sj_base.specs.declared.mode.Reduction.{Reduction}
 use Rattle.sj_base.specs.declared.program.CellInfo.{CellInfo}
@@ -21,8 +21,7 @@ use Rattle.sj_codelet.specs.Kernel.{contributes_of}
 use Rattle.sj_codelet.specs.Laws.{IsReduction}
 use Rattle.sj_core.specs.Program.{same_cell, dims_of, cell_info, task_of, data_operands, no_cell, no_task}
 use Rattle.sj_core.specs.Fold.{Contents, after_task}
-use Rattle.sj_core.specs.Operands.{copy_of}
-use Rattle.sj_core.specs.Proper.{Proper, Fits, IsCopyOf, IsPlain, IsInit, HasValueBefore, gives_value, names_as, task_number, access}
+use Rattle.sj_core.specs.Proper.{Proper, Fits, IsCopyOf, IsPlain, HasValueBefore, gives_value, access}
 use Rattle.sj_core.proofs.Readiness.{list_any-some}
 use Rattle.sj_core.proofs.Sized.{AreSized, after_chosen-sized}
 use Rattle.sj_phases.specs.declared.phase.Opening.{Opening}
@@ -36,7 +35,7 @@ use Rattle.sj_phases.proofs.Closing.{log-close}
 use Rattle.sj_phases.proofs.Combined.{IsTrusted, Phases}
 use Rattle.sj_phases.proofs.Contents.{first_worker, task_at, contents_before, contents-next, same_cell-itself}
 use Rattle.sj_phases.proofs.Folding.{Stand, stand-there, after_rows, contents-rows, later}
-use Rattle.sj_phases.proofs.Good.{AreTwins, twin-dims, twin-copy, twins-back, twin-info, IsGood, HasItsCopies, good_init, good_combine, good_own, values-own, values-units}
+use Rattle.sj_phases.proofs.Good.{AreTwins, twin-dims, twin-copy, IsGood, HasItsCopies, good_init, good_combine, good_own, values-own, values-units}
 use Rattle.sj_phases.proofs.Holding.{Holds, AreOwned, bare, holds-close, holds-line, holds-begin, holds-beside, holds-gift}
 use Rattle.sj_phases.proofs.Lists.{none-has, all-from}
 use Rattle.sj_phases.proofs.Logging.{IsLogged, IsUsed, IsToCome, Logged, IsOwnTask, phase-own, phase-other, by_which, some_is, none_isn't, row-at, log-line, log-own, redux-access}

@@ -1,15 +1,14 @@
 -- What cells hold after tasks that stand one after another in a program.
 use Rattle.std.proofs.Common.{◌≡◌, ℕ, ◌+◌, ◌<◌, ◌≤◌, Bool, true, false, ◌||◌, List, [], ◌∷◌, ◌++◌, length, get_or, map as each_of, refl, sym, ap, subst, ◌∙◌, arith, append_assoc, length-append}
-use Rattle.std.specs.List.{AllByRecursion, zip, filter, flat_map, list_any}
+use Rattle.std.specs.List.{zip, filter, list_any}
 use Rattle.std.proofs.lemmas.Bool.{false≢true}
 use Rattle.std.proofs.Math.Seq.{get_or-append_seam}
 use Rattle.sj_base.specs.declared.ids.Cell.{Cell}
 use Rattle.sj_base.specs.declared.program.Lowered.{Lowered}
 use Rattle.sj_base.specs.declared.program.Program.{Program}
-use Rattle.sj_base.specs.Array.{Array}
 use Rattle.sj_base.specs.Mode.{is_written}
 use Rattle.sj_codelet.specs.Kernel.{out}
-use Rattle.sj_core.specs.Program.{no_task, task_of, same_cell}
+use Rattle.sj_core.specs.Program.{no_task, task_of}
 use Rattle.sj_core.specs.Proper.{HasValueBefore, gives_value}
 use Rattle.sj_core.specs.Fold.{Contents, held_in, after_task}
 use Rattle.sj_core.specs.Operands.{worked_on, found}

@@ -1,12 +1,10 @@
 -- What the cells denote, with contributions in partial copies, is what they hold by the same blocks without phases.
-use mathlib.Core.List.{map-map}
 use Rattle.std.proofs.Common.{◌≡◌, ◌≢◌, ℕ, ◌+◌, ◌<◌, ◌≤◌, Bool, true, false, cond, not, ◌||◌, Option, Some, None, List, [], ◌∷◌, ◌++◌, length, map, refl, sym, ap, subst, ◌∙◌, inl, inr, arith}
-use Rattle.std.specs.Prelude.{◌⊎◌, All, Contains, filter}
-use Rattle.std.specs.List.{AllByRecursion, list_any, range_with_len, find, zip}
-use Rattle.std.specs.Option.{is_some}
+use Rattle.std.specs.Prelude.{◌⊎◌, Contains, filter}
+use Rattle.std.specs.List.{AllByRecursion, list_any, find, zip}
 use Rattle.std.proofs.lemmas.Bool.{false≢true, false_from_ne_true}
 use Rattle.std.proofs.lemmas.List.{map-append}
-use Rattle.std.proofs.lemmas.List.Elements.{All-get_or, Contains-append_left}
+use Rattle.std.proofs.lemmas.List.Elements.{Contains-append_left}
 use Rattle.sj_base.specs.declared.ids.Cell.{Cell}
 use Rattle.sj_base.specs.declared.ids.Line.{Line}
 use Rattle.sj_base.specs.declared.ids.Worker.{Worker}
@@ -14,23 +12,22 @@ use Rattle.sj_base.specs.declared.tile.Dims.{Dims}
 use Rattle.sj_base.specs.declared.mode.Mode.{Mode}
 use Rattle.sj_base.specs.declared.mode.Mode.TheVariants.{R, W, RW, Scratch, Redux, Commute}
 use Rattle.sj_base.specs.declared.mode.Access.{Access}
-use Rattle.sj_base.specs.declared.mode.Reduction.{Reduction}
 use Rattle.sj_base.specs.declared.program.Lowered.{Lowered}
 use Rattle.sj_base.specs.declared.program.Program.{Program}
 use Rattle.sj_base.specs.Array.{Array, zeros}
 use Rattle.sj_base.specs.Mode.{is_in_order, is_redux, is_scratch, is_written, starts_as_zeros}
 use Rattle.sj_codelet.specs.declared.kernel.Kernel.{Kernel}
-use Rattle.sj_codelet.specs.Kernel.{kernel_of, new_arrays, operand, out, contributes_of}
+use Rattle.sj_codelet.specs.Kernel.{kernel_of, new_arrays, operand, out}
 use Rattle.sj_codelet.specs.Laws.{IsReduction, IsTile, combined, unit_of, result_of}
-use Rattle.sj_core.specs.Program.{same_cell, has_cell, dims_of, cell_info, task_of, data_operands, no_task}
-use Rattle.sj_core.specs.Operands.{copy_of, worked_on, found, results, written_cells}
+use Rattle.sj_core.specs.Program.{same_cell, has_cell, dims_of, cell_info, task_of, data_operands}
+use Rattle.sj_core.specs.Operands.{worked_on, found, results, written_cells}
 use Rattle.sj_core.specs.Fold.{Contents, held_in, after_task}
-use Rattle.sj_core.specs.Proper.{Proper, Fits, IsCopyOf, IsPlain, IsContribution, names_as, access}
+use Rattle.sj_core.specs.Proper.{Fits, IsCopyOf, IsPlain, IsContribution, access}
 use Rattle.sj_core.proofs.CellLists.{same_cell-refl}
 use Rattle.sj_core.proofs.Combining.{unit-same}
 use Rattle.sj_core.proofs.Copies.{direct-cell}
 use Rattle.sj_core.proofs.Folding.{held_over, held-append, held_over-other, after_task-other, map-same}
-use Rattle.sj_core.proofs.Readiness.{Contains-filter, Contains-from_filter, Contains-map, list_any-some}
+use Rattle.sj_core.proofs.Readiness.{Contains-filter, Contains-from_filter}
 use Rattle.sj_core.proofs.Sharing.{operand_for}
 use Rattle.sj_core.proofs.Sized.{AreSized}
 use Rattle.sj_core.proofs.Swapping.{Updates, first_ins}
@@ -46,11 +43,11 @@ use Rattle.sj_phases.proofs.Beginning.{AreApart}
 use Rattle.sj_phases.proofs.Combined.{IsTrusted, Phases, with_all, all_workers, denoted, denoted-closed, denoted-open, denoted-same, range-below}
 use Rattle.sj_phases.proofs.Contents.{first_worker, task_at, contents_before, same_cell-is}
 use Rattle.sj_phases.proofs.Folding.{after_rows, after_rows-append}
-use Rattle.sj_phases.proofs.Good.{AreTwins, twin-info, twin-dims, direct-same, direct-itself, none-redux, map-itself}
-use Rattle.sj_phases.proofs.Lists.{first-has, filter-last}
-use Rattle.sj_phases.proofs.Logging.{IsOwnTask, phase-own, phase-other, by_which, unlike, none_isn't, some_is, redux-access}
-use Rattle.sj_phases.proofs.Owning.{IsOwn, copy-is, is-copy}
-use Rattle.sj_phases.proofs.Phasing.{IsBare, closed-value, closed-others, unit_at, inits-copies, inits-others, units-others, units-same, turned-bare, each-of_all}
+use Rattle.sj_phases.proofs.Good.{AreTwins, twin-dims, direct-same, direct-itself, none-redux, map-itself}
+use Rattle.sj_phases.proofs.Lists.{filter-last}
+use Rattle.sj_phases.proofs.Logging.{IsOwnTask, phase-own, phase-other, by_which, unlike, none_isn't, redux-access}
+use Rattle.sj_phases.proofs.Owning.{IsOwn, is-copy}
+use Rattle.sj_phases.proofs.Phasing.{IsBare, closed-value, closed-others, inits-copies, inits-others, units-others, units-same, turned-bare, each-of_all}
 
 -- each cell that is no partial copy denotes what it holds in the program without phases
 abbrev pub Holds : (p q : Program) → Phases → Contents → Contents → Type 0

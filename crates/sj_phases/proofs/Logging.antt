@@ -1,14 +1,11 @@
 -- The phases of a program, as they are begun, go on and are closed task by task.
-use Rattle.std.proofs.Common.{◌≡◌, ℕ, zero, suc, ◌+◌, ◌-◌, ◌<◌, ◌≤◌, Bool, true, false, cond, not, ◌&&◌, Some, None, List, [], ◌∷◌, ◌++◌, length, get_or, map, refl, sym, ap, subst, ◌∙◌, inl, inr, arith, length-append}
-use Rattle.std.specs.Prelude.{◌⊎◌, All, Contains, slice_index_or, filter}
-use Rattle.std.specs.List.{AllByRecursion, range_with_len, list_any}
-use Rattle.std.proofs.lemmas.Bool.{false≢true, cases_lt, cases_Bool, and_parts, and_from}
-use Rattle.std.proofs.lemmas.List.{length-map}
+use Rattle.std.proofs.Common.{◌≡◌, ℕ, zero, suc, ◌+◌, ◌-◌, ◌<◌, ◌≤◌, Bool, true, false, cond, not, ◌&&◌, Some, None, List, [], ◌∷◌, map, refl, sym, ap, subst, ◌∙◌, inl, inr, arith}
+use Rattle.std.specs.Prelude.{◌⊎◌, All, Contains}
+use Rattle.std.specs.List.{range_with_len, list_any}
+use Rattle.std.proofs.lemmas.Bool.{false≢true, cases_lt, and_parts}
 use Rattle.std.proofs.lemmas.List.Folds.{list_any_at}
-use Rattle.std.proofs.lemmas.List.FromFn.{get_or-range_with_len, length-range_with_len}
-use Rattle.std.proofs.lemmas.List.Elements.{All-nil, All-cons}
+use Rattle.std.proofs.lemmas.List.Elements.{All-nil}
 use Rattle.sj_base.specs.declared.ids.Cell.{Cell}
-use Rattle.sj_base.specs.declared.ids.Line.{Line}
 use Rattle.sj_base.specs.declared.ids.Worker.{Worker}
 use Rattle.sj_base.specs.declared.mode.Mode.{Mode}
 use Rattle.sj_base.specs.declared.mode.Mode.TheVariants.{R, W, RW, Scratch, Redux, Commute}
@@ -17,21 +14,18 @@ use Rattle.sj_base.specs.declared.mode.Reduction.{Reduction}
 use Rattle.sj_base.specs.declared.mode.Reduction.TheVariants.{Plus, Least}
 use Rattle.sj_base.specs.declared.program.Lowered.{Lowered}
 use Rattle.sj_base.specs.declared.program.Program.{Program}
-use Rattle.sj_base.specs.Mode.{is_data, is_redux, is_scratch}
+use Rattle.sj_base.specs.Mode.{is_redux, is_scratch}
 use Rattle.sj_codelet.specs.Kernel.{kernel_of, codelet_of, init_of, combine_of}
-use Rattle.sj_core.specs.Program.{data_operands, cell_info, same_cell}
-use Rattle.sj_core.specs.Operands.{copy_of}
-use Rattle.sj_core.specs.Proper.{IsCopyOf, IsPlain, Phase, IsPhase, HasPhases, IsInit, IsCombine, IsContribution, IsMember, IsFirstUnit, IsOpenAt, Touches, names_as, task_number, access}
-use Rattle.sj_core.proofs.Readiness.{filter-Contains, Contains-from_filter, Contains-filter, list_any-some}
-use Rattle.sj_phases.specs.declared.phase.Opening.{Opening}
+use Rattle.sj_core.specs.Program.{data_operands, same_cell}
+use Rattle.sj_core.specs.Proper.{IsCopyOf, IsPlain, Phase, IsPhase, HasPhases, IsInit, IsContribution, Touches, names_as, task_number, access}
+use Rattle.sj_core.proofs.Readiness.{Contains-from_filter, Contains-filter, list_any-some}
 use Rattle.sj_phases.specs.declared.phase.OpenPhase.{OpenPhase}
-use Rattle.sj_phases.specs.Rows.{copy_at, init_row, init_rows, combine_row, combine_rows}
-use Rattle.sj_phases.specs.Expand.{with_phase, begin_rows, first_units, phase_at}
+use Rattle.sj_phases.specs.Rows.{copy_at}
+use Rattle.sj_phases.specs.Expand.{with_phase}
 use Rattle.sj_phases.proofs.Combined.{Phases}
 use Rattle.sj_phases.proofs.Contents.{same_cell-is, same_cell-itself}
-use Rattle.sj_phases.proofs.Folding.{Stand, stand-append}
-use Rattle.sj_phases.proofs.Lists.{one-case, two-cases, cons-cases, none-has, more-has, first-has, in-range, range-has, all-range, all-from}
-use Rattle.sj_phases.proofs.Owning.{IsOwn, copy-is, is-copy}
+use Rattle.sj_phases.proofs.Folding.{Stand}
+use Rattle.sj_phases.proofs.Lists.{cons-cases, none-has}
 
 -- ---- the phase of one cell
 

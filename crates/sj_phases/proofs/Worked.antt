@@ -1,5 +1,5 @@
 -- Blocks of two jobs on two workers, and what they come to, worked out by hand.
-use Rattle.std.proofs.Common.{ℕ, Bool, true, false, Some, None, List, [], ◌∷◌, pos, ◌≡◌, refl}
+use Rattle.std.proofs.Common.{ℕ, true, false, Some, None, List, [], ◌∷◌, ◌≡◌, refl}
 use Rattle.sj_base.specs.declared.ids.Cell.{Cell}
 use Rattle.sj_base.specs.declared.ids.Line.{Line}
 use Rattle.sj_base.specs.declared.mode.Mode.TheVariants.{R, W, RW, Redux}
@@ -12,7 +12,7 @@ use Rattle.sj_codelet.specs.declared.kernel.Kernel.TheVariants.{Load, Sum, Add, 
 use Rattle.sj_phases.specs.declared.phase.Opening.{Opening}
 use Rattle.sj_phases.specs.Block.{Block}
 use Rattle.sj_phases.specs.Rows.{an_access, own_task}
-use Rattle.sj_phases.specs.Expand.{Expansion, expand, nothing, last_block, first_above}
+use Rattle.sj_phases.specs.Expand.{expand, nothing, last_block, first_above}
 use Rattle.sj_phases.specs.Plain.{plain_program, none_open, open_after}
 
 abbrev cell : ℕ → Cell

@@ -1,11 +1,10 @@
 -- What the code has of the blocks so far, and what each of its steps does.
-use Rattle.std.specs.Prelude.{◌≡◌, ◌≤◌, ◌+◌, nat_eq, nat_lt, Option, Some, None, List, [], ◌∷◌, length, if◌then◌else◌}
+use Rattle.std.specs.Prelude.{◌≡◌, ◌≤◌, ◌+◌, nat_eq, nat_lt, Option, Some, None, length, if◌then◌else◌}
 use Rattle.indexmap.specs.IndexMap.{get}
 use Rattle.sj_base.specs.declared.ids.Cell.{Cell}
 use Rattle.sj_base.specs.declared.ids.Line.{Line}
 use Rattle.sj_phases.specs.declared.expander.Expander.{Expander}
 use Rattle.sj_phases.specs.declared.phase.OpenPhase.{OpenPhase}
-use Rattle.sj_phases.specs.Block.{Block}
 use Rattle.sj_phases.specs.Expand.{Expansion, most}
 
 -- the code has the tasks, the deliveries and the open phases, and the partial copies of these are cells

@@ -1,6 +1,6 @@
 -- What blocks come to: their tasks one after another, and among them those that begin and close phases of contributions.
 -- Contributions to a cell go to its partial copies, which are combined into the cell when a block closes its phase.
-use Rattle.std.specs.Prelude.{ℕ, ◌+◌, nat_lt, Bool, Option, Some, None, List, [], ◌∷◌, ◌++◌, map, fold, length, if◌then◌else◌}
+use Rattle.std.specs.Prelude.{ℕ, ◌+◌, nat_lt, Option, Some, None, List, [], ◌∷◌, ◌++◌, map, fold, length, if◌then◌else◌}
 use Rattle.std.specs.List.{range_with_len}
 use Rattle.sj_base.specs.declared.ids.Cell.{Cell}
 use Rattle.sj_base.specs.declared.ids.Line.{Line}

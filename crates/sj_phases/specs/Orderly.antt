@@ -1,5 +1,5 @@
 -- What blocks need of each other, so that their contributions can go to partial copies.
-use Rattle.std.specs.Prelude.{◌≡◌, ℕ, ◌<◌, Option, Some, None, IsTrue, not, nat_eq, count_by, List, [], ◌∷◌, map, length, All, AllPairs, true}
+use Rattle.std.specs.Prelude.{◌≡◌, ℕ, ◌<◌, Some, None, IsTrue, not, nat_eq, count_by, List, [], ◌∷◌, map, length, All, AllPairs, true}
 use Rattle.std.specs.List.{slice_index_or, Contains}
 use Rattle.sj_base.specs.declared.ids.Cell.{Cell}
 use Rattle.sj_base.specs.declared.mode.Mode.TheVariants.{Redux}

@@ -1,9 +1,9 @@
 -- The same blocks without phases: a contribution is an ordinary access, and a cell without a value gets the unit first.
-use Rattle.std.specs.Prelude.{ℕ, Bool, Option, Some, None, List, [], ◌∷◌, ◌++◌, map, fold, length, if◌then◌else◌}
+use Rattle.std.specs.Prelude.{ℕ, Option, Some, None, List, [], ◌++◌, map, fold, length, if◌then◌else◌}
 use Rattle.std.specs.List.{flat_map}
 use Rattle.sj_base.specs.declared.ids.Cell.{Cell}
 use Rattle.sj_base.specs.declared.mode.Mode.{Mode}
-use Rattle.sj_base.specs.declared.mode.Mode.TheVariants.{RW, Redux}
+use Rattle.sj_base.specs.declared.mode.Mode.TheVariants.{RW}
 use Rattle.sj_base.specs.declared.mode.Access.{Access}
 use Rattle.sj_base.specs.declared.mode.Reduction.{Reduction}
 use Rattle.sj_base.specs.declared.program.CellInfo.{CellInfo}

@@ -1,6 +1,6 @@
 use Rattle.std.proofs.Common.{◌∙◌, refl, sym}
 use Rattle.std.proofs.lemmas.Result.{on_ok_weaker}
-use Rattle.sj_phases.proofs.Doing.{none-over, mid-at, close-on, copies-at}
+use Rattle.sj_phases.proofs.Doing.{none-over, mid-at, close-on}
 use Rattle.sj_phases.proofs.Logging.{none_isn't}
 use Rattle.sj_phases.proofs.expander.Expander.close.Goals as goal
 
