@@ -84,7 +84,7 @@ right : (ts ls : List Lowered) (n : ℕ) → length ts ≤ n → row (ts ++ ls) 
 right ts ls n h = get_or-append_right ts ls (length ts) n no_task refl h
 
 -- tasks that don't deliver
-delivered-more : (ts ls : List Lowered) (ds : List Delivery) → NoneDelivers ls → IsDelivered ts ds → IsDelivered (ts ++ ls) ds
+pub delivered-more : (ts ls : List Lowered) (ds : List Delivery) → NoneDelivers ls → IsDelivered ts ds → IsDelivered (ts ++ ls) ds
 delivered-more ts ls ds none h = record {
   below = All-weaker (λ (d : Delivery). d.task.0 < length ts) (λ (d : Delivery). d.task.0 < length (ts ++ ls)) (λ d lt. omega (arith, lt, length-append ts ls)) ds h.below;
   deliver = λ k d lt. ap (λ (l : Lowered). kernel_of l.codelet) (left ts ls (get_or ds k d).task.0 (h.below k d lt)) ∙ h.deliver k d lt;

@@ -245,7 +245,7 @@ module _ (rows : List CellInfo) (workers : ℕ) (bs : List Block) (can : MayExpa
 
 -- ---- the end
 
-shuts : (cs : List Cell) (was : Opens) (c : Cell) → Contains cs c ⊎ (was c ≡ None) → fold with_shut was cs c ≡ None
+pub shuts : (cs : List Cell) (was : Opens) (c : Cell) → Contains cs c ⊎ (was c ≡ None) → fold with_shut was cs c ≡ None
 shuts [] was c (inl h) = absurd (omega (arith, h.1))
 shuts [] was c (inr e) = e
 shuts (d ∷ cs) was c h = shuts cs (with_shut was d) c (elim h [
