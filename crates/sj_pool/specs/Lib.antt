@@ -3,4 +3,3 @@ pub mod Fork
 pub mod Pool
 pub mod Queue
 pub mod Root
-pub mod Released

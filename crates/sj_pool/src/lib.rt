@@ -5,5 +5,4 @@
 pub mod entry;
 pub mod pool;
 mod queue;
-pub mod released;
 mod tree;
