@@ -11,6 +11,8 @@ job takes one:
     plain          a swap of memory
     contributions  the same, with REDUX and COMMUTE operands
     file           a swap file in a folder of --swap, or of the system's temporary one
+    slow           the same, on a disk each of whose calls sleeps for up to two milliseconds (slow.c, by gcc)
+    filling        the same, on a disk that is full some way on: the job is done, or ends with a disk's fault and nothing printed
     full           a swap that takes nothing: the job is done, or ends with a disk's fault and nothing printed
     memory         little address space: the job is done, or ends for want of memory and nothing printed
     trace          with the trace of the run, which trace_check has to find legal and complete
@@ -29,21 +31,22 @@ TOP = os.path.dirname(os.path.dirname(HERE))
 STARJOB = os.environ.get("STARJOB", os.path.join(TOP, "bin", "starjob"))
 TRACE_CHECK = os.environ.get("TRACE_CHECK", os.path.join(TOP, "bin", "trace_check"))
 DONE, DISK_FAULT, DAMAGED, OUT_OF_MEMORY = 0, 6, 7, 10
-KINDS = ["plain", "contributions", "file", "full", "memory", "trace"]
+KINDS = ["plain", "contributions", "file", "slow", "filling", "full", "memory", "trace"]
 EVENT = re.compile(rb"^(claim|run|end) t\d+ w\d+$|^moved? c\d+ [nd]\d+ [nd]\d+$|^drop c\d+ n\d+$")
 # how often a job is run again that failed, before it counts as one that doesn't fail
 TRIES = 10
 
-Case = collections.namedtuple("Case", "kind words limit may_end lines")
+Case = collections.namedtuple("Case", "kind words limit fake may_end lines")
 Ended = collections.namedtuple("Ended", "status printed said seconds")
 
 
-def run(words, lines, seconds, limit=None):
-    """How a run of these lines ends; no status where it hangs."""
+def run(words, lines, seconds, limit=None, fake=None):
+    """How a run of these lines ends; no status where it hangs. A fake is what the environment has for slow.c."""
     bound = limit and (lambda: resource.setrlimit(resource.RLIMIT_AS, (limit, limit)))
     started, text = time.monotonic(), ("\n".join(lines) + "\n").encode()
     try:
-        ended = subprocess.run([STARJOB] + words, input=text, capture_output=True, timeout=seconds, preexec_fn=bound)
+        environment = {**os.environ, **(fake or {})}
+        ended = subprocess.run([STARJOB] + words, input=text, capture_output=True, timeout=seconds, preexec_fn=bound, env=environment)
     except subprocess.TimeoutExpired:
         return Ended(None, b"", b"", seconds)
     return Ended(ended.returncode, ended.stdout, ended.stderr, time.monotonic() - started)
@@ -55,7 +58,12 @@ def case_of(rng, kind, folder):
     node = max(8, int(job.footprint * rng.choice([1, 1, 1.5, 2, 4])))
     words = ["--workers", str(rng.choice([2, 3, 4, 8, 16, 64])), "--sched", rng.choice(["eager", "prio", "ws"])]
     words += ["--node", str(node), "--nodes", str(rng.randint(1, 4)), "--swap-size", "1048576"]
-    limit, may_end = None, [DONE]
+    limit, fake, may_end = None, {}, [DONE]
+    if kind in ("slow", "filling"):
+        words += ["--swap", folder]
+        fake = {"LD_PRELOAD": os.path.join(folder, "slow.so"), "SLOW": str(rng.choice([20, 200, 2000]))}
+    if kind == "filling":
+        fake, may_end = {**fake, "ROOM": str(rng.randint(1, 4096))}, [DONE, DISK_FAULT]
     if kind == "file":
         words, may_end = words + ["--swap", folder], [DONE, DISK_FAULT, DAMAGED]
     if kind == "full":
@@ -64,7 +72,7 @@ def case_of(rng, kind, folder):
         limit, may_end = rng.randint(2, 48) << 20, [DONE, OUT_OF_MEMORY]
     if kind == "trace":
         words += ["--trace"]
-    return Case(kind, words, limit, may_end, job.lines)
+    return Case(kind, words, limit, fake, may_end, job.lines)
 
 
 def illegal(case, events):
@@ -98,7 +106,7 @@ def tried(case):
     alone = run([], case.lines, 60)
     if alone.status != DONE:
         return alone, None, None
-    ended = run(case.words, case.lines, max(10, 100 * alone.seconds), case.limit)
+    ended = run(case.words, case.lines, max(10, 100 * alone.seconds), case.limit, case.fake)
     return alone, ended, fault_of(case, ended, alone.printed)
 
 
@@ -133,7 +141,8 @@ def kept(case, name, folder):
     with open(path, "w") as job:
         job.write("\n".join(case.lines) + "\n")
     bound = f"ulimit -v {case.limit >> 10}; " if case.limit else ""
-    return f"{bound}{STARJOB} {' '.join(case.words)} < {path}"
+    fake = "".join(f"{name}={value} " for name, value in case.fake.items())
+    return f"{bound}{fake}{STARJOB} {' '.join(case.words)} < {path}"
 
 
 class Tally:
@@ -203,6 +212,9 @@ def main():
     busy = [subprocess.Popen([sys.executable, "-c", "while True: pass"]) for _ in range(given.busy)]
     try:
         with tempfile.TemporaryDirectory(dir=given.swap) as folder:
+            if {"slow", "filling"} & set(given.kinds):
+                made = ["gcc", "-O2", "-shared", "-fPIC", os.path.join(HERE, "slow.c"), "-o", os.path.join(folder, "slow.so")]
+                subprocess.run(made, check=True)
             sys.exit(try_all(given, folder) != 0)
     finally:
         for child in busy:
