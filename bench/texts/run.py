@@ -189,7 +189,7 @@ def limit_cases():
 def limits():
     tally = Tally("limits")
     for text, wanted in limit_cases():
-        got = subprocess.run([STARJOB], input=text.encode("latin-1"), capture_output=True)
+        got = subprocess.run([STARJOB, "--swap-size", "268435456"], input=text.encode("latin-1"), capture_output=True)
         said = "" if wanted is None else f"starjob: line {wanted[0]}: {wanted[1]}\n"
         if (got.returncode, got.stdout, got.stderr.decode()) == (3 if wanted else 0, b"", said):
             tally.count("refused" if wanted else "read")
