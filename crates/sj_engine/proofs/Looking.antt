@@ -1,5 +1,5 @@
 -- What a look has tried, from one try to the next.
-use Rattle.std.proofs.Common.{◌≡◌, ℕ, ◌+◌, ◌<◌, ◌≤◌, ◌∙◌, ◌++◌, ◌∷◌, [], ◌⊎◌, List, Option, None, Some, IfSome, ap, arith, inl, inr, length, refl, slice_index_or, slice_set, subst, sym, take}
+use Rattle.std.proofs.Common.{◌≡◌, ℕ, ◌+◌, ◌<◌, ◌≤◌, ◌∙◌, ◌++◌, ◌∷◌, [], List, Option, Some, IfSome, arith, inl, inr, length, refl, slice_index_or, slice_set, subst, sym, take}
 use Rattle.std.proofs.lemmas.Bool.{cases_lt}
 use Rattle.std.proofs.lemmas.List.{get_or_append_left, get_or_push, length-take-le, length_push, take-append-le, take_more_set}
 use Rattle.std.proofs.Math.Seq.{take-append_seam}
@@ -65,5 +65,5 @@ pool-again a l mid new o t is stands lost back = λ u. omega (arith, stands u, s
 pub some-left : {D : Type 0} (b : BoardState D) (w : Worker) (passed : List Task) (o : Option Task) (t : Task) → o ≡ Some t → IfSome o (IsLeftTo b w passed) → IsLeftTo b w passed t
 some-left b w passed o t is left = subst (λ (k : Option Task). IfSome k (IsLeftTo b w passed)) is left
 
-pub length-taken : (xs : List Task) (i : ℕ) → length xs ≡ 4 → i ≡ 4 → length (take i xs) ≡ 4
-length-taken xs i long last = length-take-le i xs (omega (arith, long, last)) ∙ last
+pub length-taken : (xs : List Task) (i n : ℕ) → length xs ≡ 64 → n ≤ 64 → i ≡ n → length (take i xs) ≡ n
+length-taken xs i n long few last = length-take-le i xs (omega (arith, long, few, last)) ∙ last

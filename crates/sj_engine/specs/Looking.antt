@@ -1,5 +1,5 @@
 -- What a worker's look for a task that it may claim has tried.
-use Rattle.std.specs.Prelude.{◌≡◌, ◌<◌, ◌⊎◌, ℕ, List, length, slice_index_or, take}
+use Rattle.std.specs.Prelude.{◌≡◌, ◌<◌, ◌≤◌, ◌⊎◌, ℕ, List, length, slice_index_or, take}
 use Rattle.sj_base.specs.declared.ids.Task.{Task}
 use Rattle.sj_base.specs.declared.ids.Worker.{Worker}
 use Rattle.sj_machine.specs.Board.{BoardState, room_of}
@@ -31,11 +31,12 @@ pub record IsPassed {D : Type 0} (b : BoardState D) (w : Worker) (earlier : List
 abbrev pub HasPassed : {D : Type 0} → BoardState D → Worker → List Task → Type 0
 HasPassed b w passed = (k : ℕ) → k < length passed → IsPassed b w (take k passed) (slice_index_or passed k (record { 0 = 0 }))
 
--- these were tried, and they are four or all that are left
+-- these were tried, at most 64, and they are four or more, or all that are left
 pub record HasLooked {D : Type 0} (b : BoardState D) (w : Worker) : Type 0 where
   pub passed : List Task
   pub each : HasPassed b w passed
-  pub enough : (length passed ≡ 4) ⊎ NoneIsLeftTo b w passed
+  pub few : length passed ≤ 64
+  pub enough : (4 ≤ length passed) ⊎ NoneIsLeftTo b w passed
 
 -- each task stands in the pool as often as before
 abbrev pub PoolStands : {D : Type 0} → BoardState D → BoardState D → Type 0

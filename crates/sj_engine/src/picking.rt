@@ -1,6 +1,6 @@
 //! How a worker gets its next task.
 
-ghost use Rattle.std.specs.Prelude.{◌≡◌, IfNone, IfSome, IsTrue, None, Some, is_some};
+ghost use Rattle.std.specs.Prelude.{◌≡◌, ◌<◌, ◌≤◌, IfNone, IfSome, IsTrue, None, Some, is_some};
 ghost use Rattle.sj_machine.specs.Board.{IsOver};
 ghost use Rattle.sj_machine.specs.Passing.{HasLost};
 ghost use Rattle.sj_engine.specs.Looking.{CannotClaim, HasLooked, IsLeftTo, NoneIsLeftTo};
@@ -27,9 +27,34 @@ pub enum Picked {
     Over,
 }
 
-/// How often a worker tries to claim before it rests: claims that can't be made now aren't to keep it from the others for long,
-/// nor it from trying those behind them.
-const TRIES: usize = 4;
+/// The most tasks that a look tries, and the fewest, where so many are left: tasks that can't be claimed now, as those of a
+/// commuting cell that is in use, aren't to hide the others, nor is a look in vain to keep the turn for long.
+const MOST: usize = 64;
+
+const FEWEST: usize = 4;
+
+/// How many tasks a look tries after so many that were in vain: fewer after each, and the most again after 256. Constant time.
+fn tries_after(misses: u8) -> usize
+    ensures enough { 4 ≤ result }
+    ensures few { result ≤ 64 }
+{
+    match misses {
+        0 => MOST,
+        1 => 32,
+        2 => 16,
+        3 => 8,
+        _ => FEWEST,
+    }
+}
+
+/// The misses after a look that ended with a task behind so many others: none where the fewest tries hadn't found it. Constant
+/// time.
+fn misses_after(misses: u8, passed: usize) -> u8
+    ensures kept { passed < 4 → result ≡ misses }
+    ensures none { 4 ≤ passed → result ≡ 0 }
+{
+    if passed < FEWEST { misses } else { 0 }
+}
 
 impl<D: Disk> SharedBoard<D> {
     /// A worker claims the task that it was given; where the claim can't be made, the task goes back. The cost of `claim`.
@@ -91,6 +116,20 @@ impl<D: Disk> SharedBoard<D> {
         self.board.next(w, passed)
     }
 
+    /// Notes that a look ended with a task behind so many others. Constant time.
+    fn note_found(&mut self, passed: usize)
+        ensures { self.new ≡ self.old }
+    {
+        self.misses = misses_after(self.misses, passed);
+    }
+
+    /// Notes that a look was in vain. Constant time.
+    fn note_miss(&mut self)
+        ensures { self.new ≡ self.old }
+    {
+        self.misses = self.misses.wrapping_add(1);
+    }
+
     /// The tries of a worker to claim a task, each of another task: a task that can't be claimed goes back, and is passed.
     fn claim_some(&mut self, alloc: Global, w: Worker) -> Picked
         requires worker { IsWorkerOf self.old w }
@@ -102,17 +141,22 @@ impl<D: Disk> SharedBoard<D> {
         ensures failed { result ≡ Picked.Failed → IsTrue (is_some self.new.fault) }
         ensures looked { result ≡ Picked.Nothing → HasLooked self.old w }
     {
-        let mut passed = [Task(0); TRIES];
-        for i in 0..TRIES {
+        let tries = tries_after(self.misses);
+        let mut passed = [Task(0); MOST];
+        for i in 0..tries {
             let Some(t) = self.give_next(w, &passed[..i]) else {
                 return Picked::Nothing;
             };
             match self.claim_given(alloc, w, t) {
                 Picked::Nothing => {}
-                picked => return picked,
+                picked => {
+                    self.note_found(i);
+                    return picked;
+                }
             }
             passed[i] = t;
         }
+        self.note_miss();
         Picked::Nothing
     }
 
@@ -132,9 +176,9 @@ impl<D: Disk> SharedBoard<D> {
         Picked::Over
     }
 
-    /// A worker without a task claims one of those that are ready, or stops where the run is over. It finds nothing only where four
-    /// different tasks that are ready and fit its node, or all of them, can't be claimed now. A few times the costs of `next` and
-    /// `claim`.
+    /// A worker without a task claims one of those that are ready, or stops where the run is over. It finds nothing only where
+    /// four different tasks that are ready and fit its node, or all of them, can't be claimed now. At most 64 times the costs of
+    /// `next` and `claim`; in a row of looks in vain, about four times.
     pub fn pick(&mut self, alloc: Global, w: Worker) -> Picked
         requires worker { IsWorkerOf self.old w }
         requires free { IsFreeRow (row_in self.old w) }

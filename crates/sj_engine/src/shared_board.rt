@@ -9,6 +9,8 @@ use std::marker::Model;
 #[derive(Drop)]
 pub struct SharedBoard<D: Disk> {
     pub(crate) board: Box<Board<D>>,
+    /// How many looks for a task were in vain since one was worth its while. It begins anew after 256.
+    pub(crate) misses: u8,
 }
 
 impl<D: Disk> Model for SharedBoard<D> {
@@ -30,7 +32,7 @@ impl<D: Disk> SharedBoard<D> {
         ensures err { IfErr result (λ back. back ≡ board) }
     {
         match Box::new(alloc, board) {
-            Ok(board) => Ok(SharedBoard { board }),
+            Ok(board) => Ok(SharedBoard { board, misses: 0 }),
             Err(failed) => Err(failed.value),
         }
     }

@@ -1,7 +1,11 @@
+use Rattle.std.proofs.lemmas.List.{length-take-le}
 use Rattle.std.proofs.Common.{◌<◌, ◌∙◌, arith, inl, inr, length-set, sym, subst, take}
+use Rattle.std.specs.Prelude.{IsTrue, is_some}
+use Rattle.sj_machine.specs.Board.{BoardState}
 use Rattle.sj_machine.specs.BoardRow.{BoardKey}
 use Rattle.sj_engine.specs.Picking.{AfterClaim, PickMakes}
-use Rattle.sj_engine.specs.Stage.{row_in}
+use Rattle.sj_engine.specs.Stage.{IsFreeRow, row_in}
+use Rattle.sj_engine.specs.Turn.{IsTurnOf, NothingHappens}
 use Rattle.sj_engine.proofs.ClaimTurns.{picks-then}
 use Rattle.sj_engine.proofs.Looking.{cannot-same, left-same, length-taken, none-same, passed-more, pool-again, some-left}
 use Rattle.sj_engine.proofs.Turning.{turn-then}
@@ -16,18 +20,22 @@ returns-in_default g c = record {
   looked = λ e. record {
     passed = (take c.loop-i.i c.loop-i.passed);
     each = c.loop-i.invariant.passed;
+    few = omega (arith, length-take-le c.loop-i.i c.loop-i.passed (omega (arith, c.loop-i.invariant.long, c.loop-i-test.true, c.tries_after-tries.ensures.few)), c.loop-i-test.true, c.tries_after-tries.ensures.few);
     enough = inr (none-same c.args.w c.args.self.now c.loop-i.self c.loop-i.invariant.turn.key c.loop-i.invariant.pool (take c.loop-i.i c.loop-i.passed) (c.give_next.ensures.none_left c.in_default.is));
   };
 }
 
 pub returns-in_default-claim_given : goal.returns-in_default-claim_given
-returns-in_default-claim_given g c = record {
-  turn = turn-then g.D.Disk.faults g.D.Disk.mismatches c.args.w c.args.self.now c.give_next.new.self c.claim_given.new.self (c.give_next.ensures.no_event ∙ c.loop-i.invariant.nothing) (turn-then g.D.Disk.faults g.D.Disk.mismatches c.args.w c.args.self.now c.loop-i.self c.give_next.new.self c.loop-i.invariant.nothing c.loop-i.invariant.turn c.give_next.ensures.turn) c.claim_given.ensures.turn;
-  row = c.claim_given.ensures.row;
-  event = picks-then c.args.w c.args.self.now c.give_next.new.self c.claim_given.new.self c.claim_given.result (c.give_next.ensures.no_event ∙ c.loop-i.invariant.nothing) c.claim_given.ensures.event;
-  failed = c.claim_given.ensures.failed;
-  looked = λ e. absurd (c.in_default-claim_given.not-Nothing e);
-}
+returns-in_default-claim_given g c =
+    let same = sym c.note_found.ensures in
+    let nothing = c.give_next.ensures.no_event ∙ c.loop-i.invariant.nothing in
+    record {
+      turn = subst (λ (b : BoardState g.row.D.Denot). IsTurnOf g.D.Disk.faults g.D.Disk.mismatches c.args.w c.args.self.now b) same (turn-then g.D.Disk.faults g.D.Disk.mismatches c.args.w c.args.self.now c.give_next.new.self c.claim_given.new.self nothing (turn-then g.D.Disk.faults g.D.Disk.mismatches c.args.w c.args.self.now c.loop-i.self c.give_next.new.self c.loop-i.invariant.nothing c.loop-i.invariant.turn c.give_next.ensures.turn) c.claim_given.ensures.turn);
+      row = subst (λ (b : BoardState g.row.D.Denot). AfterClaim c.args.w (row_in b c.args.w) c.claim_given.result) same c.claim_given.ensures.row;
+      event = subst (λ (b : BoardState g.row.D.Denot). PickMakes c.args.w c.args.self.now b c.claim_given.result) same (picks-then c.args.w c.args.self.now c.give_next.new.self c.claim_given.new.self c.claim_given.result nothing c.claim_given.ensures.event);
+      failed = λ e. subst (λ (b : BoardState g.row.D.Denot). IsTrue (is_some b.fault)) same (c.claim_given.ensures.failed e);
+      looked = λ e. absurd (c.in_default-claim_given.not-Nothing e);
+    }
 
 pub loop-i-preserved : goal.loop-i-preserved
 loop-i-preserved g c = record {
@@ -39,7 +47,7 @@ loop-i-preserved g c = record {
   pool = pool-again c.args.self.now c.loop-i.self c.give_next.new.self c.claim_given.new.self c.give_next.result c.in-Some.t c.in-Some.is c.loop-i.invariant.pool c.give_next.ensures.lost (c.claim_given.ensures.back c.in-Nothing.is);
   long = length-set c.loop-i.passed c.loop-i.i c.in-Some.t ∙ c.loop-i.invariant.long;
   passed =
-      passed-more c.args.w c.args.self.now c.loop-i.passed c.loop-i.i c.in-Some.t (subst (λ n. c.loop-i.i < n) (sym c.loop-i.invariant.long) c.loop-i-test.true) c.loop-i.invariant.passed
+      passed-more c.args.w c.args.self.now c.loop-i.passed c.loop-i.i c.in-Some.t (omega (arith, c.loop-i.invariant.long, c.loop-i-test.true, c.tries_after-tries.ensures.few)) c.loop-i.invariant.passed
       (record {
         left = left-same c.args.w c.args.self.now c.loop-i.self c.loop-i.invariant.turn.key c.loop-i.invariant.pool (take c.loop-i.i c.loop-i.passed) c.in-Some.t (some-left c.loop-i.self c.args.w (take c.loop-i.i c.loop-i.passed) c.give_next.result c.in-Some.t c.in-Some.is c.give_next.ensures.left);
         cannot = cannot-same c.args.w c.args.self.now c.give_next.new.self (c.give_next.ensures.turn.key ∙ c.loop-i.invariant.turn.key) (c.give_next.ensures.no_event ∙ c.loop-i.invariant.nothing) c.in-Some.t (c.claim_given.ensures.cannot c.in-Nothing.is);
@@ -48,14 +56,15 @@ loop-i-preserved g c = record {
 
 pub returns : goal.returns
 returns g c = record {
-  turn = c.loop-i.invariant.turn;
-  row = c.loop-i.invariant.free;
-  event = c.loop-i.invariant.nothing;
+  turn = subst (λ (b : BoardState g.row.D.Denot). IsTurnOf g.D.Disk.faults g.D.Disk.mismatches c.args.w c.args.self.now b) (sym c.note_miss.ensures) c.loop-i.invariant.turn;
+  row = subst (λ (b : BoardState g.row.D.Denot). IsFreeRow (row_in b c.args.w)) (sym c.note_miss.ensures) c.loop-i.invariant.free;
+  event = subst (λ (b : BoardState g.row.D.Denot). NothingHappens c.args.self.now b) (sym c.note_miss.ensures) c.loop-i.invariant.nothing;
   failed = λ e. absurd (cc);
   looked = λ e. record {
     passed = (take c.loop-i.i c.loop-i.passed);
     each = c.loop-i.invariant.passed;
-    enough = inl (length-taken c.loop-i.passed c.loop-i.i c.loop-i.invariant.long (omega (arith, c.loop-i-test.false, c.loop-i.auto.i-end)));
+    few = omega (arith, length-taken c.loop-i.passed c.loop-i.i c.tries_after-tries.result c.loop-i.invariant.long c.tries_after-tries.ensures.few (omega (arith, c.loop-i-test.false, c.loop-i.auto.i-end)), c.tries_after-tries.ensures.few);
+    enough = inl (omega (arith, length-taken c.loop-i.passed c.loop-i.i c.tries_after-tries.result c.loop-i.invariant.long c.tries_after-tries.ensures.few (omega (arith, c.loop-i-test.false, c.loop-i.auto.i-end)), c.tries_after-tries.ensures.enough));
   };
 }
 

@@ -1,4 +1,4 @@
-use Rattle.std.proofs.Common.{◌≡◌, ℕ, None, length, take}
+use Rattle.std.proofs.Common.{◌≡◌, None, length, take}
 use Rattle.sj_engine.specs.Looking.{HasPassed, PoolStands}
 use Rattle.sj_engine.specs.Stage.{IsFreeRow, row_in}
 use Rattle.sj_engine.specs.Turn.{IsTurnOf, IsWorkerOf, NothingHappens}
@@ -13,6 +13,6 @@ invariant-loop-i g l = record {
   no_fault : l.self.fault ≡ None;
   nothing : NothingHappens l.fn.self l.self;
   pool : PoolStands l.fn.self l.self;
-  long : length l.passed ≡ 4;
+  long : length l.passed ≡ 64;
   passed : HasPassed l.fn.self l.w (take l.i l.passed);
 }
