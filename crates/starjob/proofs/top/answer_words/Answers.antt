@@ -1,5 +1,4 @@
 use Rattle.std.proofs.Common.{◌≡◌, false, map, ap, refl, subst, sym, Option, Some, None, List, Vec, Global}
-use Rattle.sj_engine.specs.Outcome.{AllTell}
 use Rattle.sj_words.specs.Options.{options}
 use Rattle.sj_words.specs.Spelling.{texts}
 use Rattle.sj_words.specs.declared.options.Options.{Options}
