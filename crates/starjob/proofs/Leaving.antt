@@ -22,10 +22,10 @@ use Rattle.starjob.specs.declared.status.Status.{Status}
 use Rattle.starjob.specs.declared.status.Status.TheVariants as status
 use Rattle.starjob.specs.declared.stop.Stop.{Stop}
 use Rattle.starjob.specs.declared.stop.Stop.TheVariants as stops
-use Rattle.starjob.specs.Answers.{IsBehindTheRun, IsDamage, LeavesDisks, WritesText, status_of, status_of_fault, status_of_stop, status_of_unready}
+use Rattle.starjob.specs.Answers.{IsBehindTheRun, IsDamage, LeavesDisks, WritesText, status_of, status_of_fault, status_of_unready}
 use Rattle.starjob.specs.Device.{Device}
 use Rattle.starjob.specs.Disks.{RoseAt}
-use Rattle.starjob.specs.Top.{ComeBack, IsBeforeTheRun}
+use Rattle.starjob.specs.Top.{ComeBack}
 use Rattle.sj_ready.specs.Work.{WorkOrRefusal, program_of}
 
 the : (X : Type 0) → X → X

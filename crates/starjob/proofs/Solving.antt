@@ -1,5 +1,5 @@
 -- An application's output is the text of its answer.
-use Rattle.std.proofs.Common.{◌≡◌, ℕ, List, refl, Option, Some, None, IfSome, Ok}
+use Rattle.std.proofs.Common.{ℕ, List, Option, Some, None, IfSome}
 use Rattle.std.specs.Prelude.{option_map}
 use Rattle.sj_apps.specs.Application.{IsSized, statements_for}
 use Rattle.sj_apps.specs.declared.application.Application.{Application}

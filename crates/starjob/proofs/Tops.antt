@@ -1,5 +1,5 @@
 -- From the text that was read and what was written to what the call promises.
-use Rattle.std.proofs.Common.{◌≡◌, ℕ, List, [], map, refl, ap, sym, subst, Option, Some, None, Result, Ok, Err, IfSome, IsOk, IsOkAnd}
+use Rattle.std.proofs.Common.{◌≡◌, ℕ, List, [], refl, ap, sym, subst, Option, Some, None, Result, Ok, Err, IfSome, IsOk, IsOkAnd}
 use Rattle.std.specs.Prelude.{option_map}
 use Rattle.std.specs.Io.KnownBytes.{Appends, IsAtEnd}
 use Rattle.sj_base.specs.declared.trace.Event.{Event}
@@ -13,10 +13,8 @@ use Rattle.sj_core.specs.Legal.{state_of}
 use Rattle.sj_machine.specs.Headers.{IsLastWritten}
 use Rattle.sj_machine.specs.declared.fault.RunFault.{RunFault}
 use Rattle.sj_machine.specs.declared.fault.RunFault.TheVariants as running
-use Rattle.sj_needs.specs.Shortage.{IsShortage, IsSwapTooSmall, IsTooLarge}
-use Rattle.sj_needs.specs.declared.shortage.Shortage.{Shortage}
+use Rattle.sj_needs.specs.Shortage.{IsSwapTooSmall, IsTooLarge}
 use Rattle.sj_needs.specs.declared.shortage.Shortage.TheVariants as fitting
-use Rattle.sj_ready.proofs.Fitting.{room-no-shortage}
 use Rattle.sj_ready.specs.Work.{HasRoom, Work, WorkOrRefusal, asked_by, lowerable, program_of, said_by}
 use Rattle.sj_ready.specs.declared.unready.Unready.TheVariants as preparing
 use Rattle.sj_words.specs.declared.options.Options.{Options}
@@ -27,14 +25,11 @@ use Rattle.starjob.specs.declared.stop.Stop.TheVariants as stops
 use Rattle.starjob.specs.Answers.{AnsweredText, BrokeOff, IsTextOf, IsWritten, LeavesDisks, StopsWith, WritesText, status_of_stop}
 use Rattle.starjob.specs.Device.{Device, Devices}
 use Rattle.starjob.specs.Streams.{IsRead, TakesPrefix}
-use Rattle.starjob.specs.Top.{CanBeRun, HasCause, IsDoneOrOutOfMemory, IsSilent, MemoryRanOut, NothingFailed, PrintsNothing, RunBrokeOff, RunIsWhole, TakesText, text_of}
+use Rattle.starjob.specs.Top.{HasCause, IsSilent, MemoryRanOut, PrintsNothing, RunBrokeOff, RunIsWhole, TakesText, text_of}
 use Rattle.starjob.specs.Traces.{Began, BeganAsked, BeganWork, RanWhole}
 use Rattle.starjob.specs.Work.{Asked, Unaccepted, Untold, Told, IfAsked, IfTold, IsToldAnd, told}
 use Rattle.starjob.proofs.Shown.{broke-began}
 use Rattle.starjob.proofs.Tracing.{began_empty}
-
-the : (X : Type 0) → X → X
-the X x = x
 
 -- ---- what was asked for
 
@@ -229,34 +224,3 @@ silent-text (Ok w) Tells trace text (DiskFault disk) out out' is written nothing
 silent-text (Ok w) Tells trace text (Damaged disk want found) out out' is written nothing = absurd written
 silent-text (Ok w) Tells trace text SourceFault out out' is written nothing = absurd written
 silent-text (Ok w) Tells trace text OutOfMemory out out' is written nothing = absurd written
-
--- ---- completeness
-
--- what has room lacks nothing
-lacks-nothing : (what : Shortage) → (what ≡ fitting.OutOfMemory → ⊥) → (asked : Asked) → CanBeRun asked → IfTold asked (λ w. IsShortage (program_of w) w.machine what) → ⊥
-lacks-nothing what other (Told (Ok w)) room h = other (room-no-shortage w what room h)
-lacks-nothing what other (Told (Err e)) room h = absurd room
-lacks-nothing what other Untold room h = absurd room
-lacks-nothing what other Unaccepted room h = absurd room
-
-not-refused : (asked : Asked) (e : Refusal) → CanBeRun asked → IfAsked asked (λ w. w ≡ Err e) → ⊥
-not-refused (Told (Ok w)) e room h = cc
-not-refused (Told (Err f)) e room h = room
-not-refused Untold e room h = room
-not-refused Unaccepted e room h = room
-
-not-unaccepted : (asked : Asked) → CanBeRun asked → asked ≡ Unaccepted → ⊥
-not-unaccepted asked room e = subst CanBeRun e room
-
--- a job that can be run, on devices that don't fail, is done, unless memory runs out
-pub done-by : {D : Type 0} {disk : DiskOf D} (asked : Asked) (before after : Devices disk) (trace : List Event) (status : Status) → HasCause asked before after trace status → CanBeRun asked → NothingFailed before after → IsDoneOrOutOfMemory status
-done-by asked before after trace Done a room well = tt
-done-by asked before after trace Usage a room well = absurd (not-unaccepted asked room a.cause)
-done-by asked before after trace (Refused line reason) a room well = absurd (not-refused asked _ room a.cause)
-done-by asked before after trace (TooLarge line bytes) a room well = absurd (lacks-nothing (fitting.TooLarge line bytes) (λ e. the ⊥ cc) asked room a.cause)
-done-by asked before after trace (SwapTooSmall needed have) a room well = absurd (lacks-nothing (fitting.SwapTooSmall needed have) (λ e. the ⊥ cc) asked room a.cause)
-done-by asked before after trace (DiskFault number) a room well = absurd (well.faults number.0 a.cause)
-done-by asked before after trace (Damaged number want found) a room well = absurd (well.mismatches number.0 a.cause)
-done-by asked before after trace SourceFault a room well = absurd (well.source a.cause.count_rose)
-done-by asked before after trace SinkFault a room well = absurd (well.out a.cause.count_rose)
-done-by asked before after trace OutOfMemory a room well = tt

@@ -19,6 +19,10 @@ pub record HasFailed (device device' : Device) : Type 0 where
   pub count_rose : Rose device.faults device'.faults
   pub by_one : device'.faults ≡ one_more device.faults
 
+-- no call of it failed
+abbrev pub NeverFailed : Device → Device → Type 0
+NeverFailed device device' = ¬ Rose device.faults device'.faults
+
 -- where the job text comes from, where the printed text goes, and the disks, by the words of their trait
 pub record Devices {D : Type 0} (disk : DiskOf D) : Type 0 where
   pub source : Device

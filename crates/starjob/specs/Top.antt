@@ -1,5 +1,5 @@
--- What the program's call promises: what it prints, what each status means, and which statuses come.
-use Rattle.std.specs.Prelude.{◌≡◌, ◌≢◌, ℕ, Bool, false, Err, List, [], ◌++◌, if◌then◌else◌, map}
+-- What the program's call promises: what it prints, what each status means, and which status comes.
+use Rattle.std.specs.Prelude.{◌≡◌, ◌≢◌, ◌⊎◌, ℕ, Bool, false, Err, List, [], ◌++◌, if◌then◌else◌, map}
 use Rattle.std.specs.Io.KnownBytes.{Appends, IsAtEnd}
 use Rattle.sj_base.specs.declared.ids.DiskNo.{DiskNo}
 use Rattle.sj_base.specs.declared.ids.Line.{Line}
@@ -7,7 +7,6 @@ use Rattle.sj_base.specs.declared.trace.Event.{Event}
 use Rattle.sj_disk.specs.declared.header.Header.{Header}
 use Rattle.sj_disk.specs.Holding.{CountsStay}
 use Rattle.sj_edge.specs.declared.disk.Disk.{Ghosts as DiskOf}
-use Rattle.sj_edge.specs.Faults.{Rose}
 use Rattle.sj_edge.specs.GivenBack.{AreGivenBack, AreUntouched}
 use Rattle.sj_engine.specs.Outcome.{AllTell, HoldBlocks}
 use Rattle.sj_job.specs.declared.reason.Reason.{Reason}
@@ -21,12 +20,12 @@ use Rattle.sj_words.specs.Options.{options}
 use Rattle.sj_words.specs.Spelling.{Text}
 use Rattle.starjob.specs.declared.status.Status.{Status}
 use Rattle.starjob.specs.declared.status.Status.TheVariants.{Done, Usage, Refused, TooLarge, SwapTooSmall, DiskFault, Damaged, SourceFault, SinkFault, OutOfMemory}
-use Rattle.starjob.specs.Device.{Device, Devices, HasFailed, in_use}
+use Rattle.starjob.specs.Device.{Device, Devices, HasFailed, NeverFailed, in_use}
 use Rattle.starjob.specs.Disks.{NoneRose, RoseAt}
 use Rattle.starjob.specs.Output.{output}
 use Rattle.starjob.specs.Streams.{IsRead, TakesPrefix}
 use Rattle.starjob.specs.Traces.{BeganAsked, BeganWork, RanWhole}
-use Rattle.starjob.specs.Work.{Asked, Unaccepted, IfAsked, IfTold, IsToldAnd, asked_of, reads_source, said_of}
+use Rattle.starjob.specs.Work.{Asked, Unaccepted, Told, IfAsked, IfTold, IsToldAnd, asked_of, reads_source, said_of}
 
 -- ---- what is printed
 
@@ -130,28 +129,28 @@ module _ {D : Type 0} {disk : DiskOf D} (asked : Asked) (before after : Devices 
   HasCause SinkFault = SinkHasFailed
   HasCause OutOfMemory = MemoryRanOut
 
--- ---- which statuses come
+-- ---- which status comes
 
 -- no count of a device rose
 pub record NothingFailed {D : Type 0} {disk : DiskOf D} (before after : Devices disk) : Type 0 where
-  pub source : ¬ Rose before.source.faults after.source.faults
-  pub out : ¬ Rose before.out.faults after.out.faults
+  pub source : NeverFailed before.source after.source
+  pub out : NeverFailed before.out after.out
   pub faults : NoneRose (map disk.faults before.disks) (map disk.faults after.disks)
   pub mismatches : NoneRose (map disk.mismatches before.disks) (map disk.mismatches after.disks)
 
--- the work is told, isn't refused, and the machine has room for it
-abbrev pub CanBeRun : Asked → Type 0
-CanBeRun asked = IsToldAnd asked HasRoom
+module _ {D : Type 0} {disk : DiskOf D} (asked : Asked) (before after : Devices disk) where
+  -- the work is told, with this true of it, and the source never failed
+  abbrev IsReadAnd : (Work → Type 0) → Type 0
+  IsReadAnd P = IsToldAnd asked P × NeverFailed before.source after.source
 
-abbrev pub IsDoneOrOutOfMemory : Status → Type 0
-IsDoneOrOutOfMemory Done = Unit {0}
-IsDoneOrOutOfMemory OutOfMemory = Unit {0}
-IsDoneOrOutOfMemory _ = ⊥
-
-abbrev pub IsUsageOrOutOfMemory : Status → Type 0
-IsUsageOrOutOfMemory Usage = Unit {0}
-IsUsageOrOutOfMemory OutOfMemory = Unit {0}
-IsUsageOrOutOfMemory _ = ⊥
+  -- the status that is due: by what is asked for and devices that didn't fail; no fault is ever due, nor want of memory
+  abbrev pub IsDue : Status → Type 0
+  IsDue Usage = asked ≡ Unaccepted
+  IsDue (Refused line reason) = (asked ≡ Told (Err (record { line = line; reason = reason }))) × NeverFailed before.source after.source
+  IsDue (TooLarge line bytes) = IsReadAnd (λ w. IsTooLarge (program_of w) w.machine line bytes)
+  IsDue (SwapTooSmall needed have) = IsReadAnd (λ w. IsSwapTooSmall (program_of w) w.machine needed have)
+  IsDue Done = IsToldAnd asked HasRoom × NothingFailed before after
+  IsDue _ = ⊥
 
 -- ---- what stays
 
@@ -195,9 +194,9 @@ module _ {D : Type 0} {disk : DiskOf D} (words : List Text) (before : Devices di
   abbrev pub Answers : Devices disk → Status → List Event → Type 0
   Answers after status trace = HasCause (asked_of words before) (in_use reads before) (in_use reads after) trace status
 
-  -- what is asked for can be run, and nothing failed
-  abbrev pub CanBeDone : Devices disk → Type 0
-  CanBeDone after = CanBeRun (asked_of words before) × NothingFailed (in_use reads before) (in_use reads after)
+  -- the status that is due comes, unless memory runs out
+  abbrev pub WhatIsDueComes : Devices disk → Status → Type 0
+  WhatIsDueComes after status = (due : Status) → IsDue (asked_of words before) (in_use reads before) (in_use reads after) due → (status ≡ due) ⊎ (status ≡ OutOfMemory)
 
   -- there is nothing to write
   abbrev pub WritesNothing : Status → Type 0

@@ -1,5 +1,5 @@
 -- What the call is asked to do, by the words of its command line, a job text and the sizes of its disks.
-use Rattle.std.specs.Prelude.{ℕ, Bool, false, Option, Some, None, is_none, Result, Ok, IsOkAnd, List, map, option_map}
+use Rattle.std.specs.Prelude.{ℕ, Bool, false, Option, Some, None, is_none, Result, Ok, IsOkAnd, List, option_map}
 use Rattle.sj_apps.specs.Application.{job_for}
 use Rattle.sj_apps.specs.declared.application.Application.{Application}
 use Rattle.sj_meaning.specs.Job.{Job}

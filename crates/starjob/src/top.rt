@@ -1,6 +1,6 @@
 //! The call that the program makes: words, source, sinks, disks and gate in, the outcome out.
 
-ghost use Rattle.std.specs.Prelude.{◌≡◌, ◌≤◌, ◌^◌, [], false, None, Some, length, map, option_map};
+ghost use Rattle.std.specs.Prelude.{◌≡◌, ◌≤◌, ◌^◌, [], false, Some, length, map, option_map};
 ghost use Rattle.sj_edge.specs.Sizes.{AreWithin};
 ghost use Rattle.sj_engine.specs.Outcome.{AllTell};
 ghost use Rattle.sj_job.specs.Reading.{job_of};
@@ -13,7 +13,7 @@ ghost use Rattle.starjob.specs.Answers.{AnsweredText, LeavesDisks, WritesText};
 ghost use Rattle.starjob.specs.Device.{devices, in_use, seen};
 ghost use Rattle.starjob.specs.Report.{line_of, TakesLine};
 ghost use Rattle.starjob.specs.Solving.{Solves, TakesAnswer};
-ghost use Rattle.starjob.specs.Top.{Answers, CanBeDone, ComeBack, HasCause, IsDoneOrOutOfMemory, IsSilent, IsUsageOrOutOfMemory, Prints, TakesText, WritesNothing};
+ghost use Rattle.starjob.specs.Top.{Answers, ComeBack, WhatIsDueComes, HasCause, IsSilent, Prints, TakesText, WritesNothing};
 ghost use Rattle.starjob.specs.Work.{asked_through, reads_source, told, Told};
 
 use crate::report::report;
@@ -254,7 +254,6 @@ where
         (devices S.Source O.Sink D.Disk source.old out.old disks.items)
         (devices S.Source O.Sink D.Disk source.new out.new result.disks.items)
         result.status result.trace.events }
-    ensures unaccepted { options_of (texts words.now) ≡ None → IsUsageOrOutOfMemory result.status }
     ensures reads_nothing { reads_source (options_of (texts words.now)) ≡ false →
         source.new ≡ source.old }
     ensures out_stays { WritesNothing (texts words.now)
@@ -277,64 +276,68 @@ where
 /// Workers are threads; the call returns when all have ended. The cost is that of reading, running and printing: linear in the
 /// text and in the elements that tasks touch, but for the look-up of names. Memory is a few times the text, the nodes' sizes, and
 /// the trace: at most three events a task and five an operand.
-pub fn starjob<R: Threads + Wait + Sync, S: Source, O: Sink, E: Sink, G: Gate>(
+pub fn starjob<S, O, E, G, D, R>(
     rt: &R,
     alloc: Global,
     words: &[String],
     source: &mut S,
     out: &mut O,
     err: &mut E,
-    disks: Vec<AnyDisk>,
+    disks: Vec<D>,
     gate: &G,
-) -> Outcome<AnyDisk>
+) -> Outcome<D>
+where
+    S: Source,
+    O: Sink,
+    E: Sink,
+    G: Gate,
+    D: Disk + Send,
+    R: Threads + Wait + Sync,
     requires few_disks { length disks.items ≤ 16 }
-    requires small_disks { AreWithin ⟦<AnyDisk as Disk>⟧.size (2 ^ 40) disks.items }
+    requires small_disks { AreWithin D.size (2 ^ 40) disks.items }
 
     // Where the job is done, `out` took the text of what its statements print when they run one after another on plain arrays,
     // whatever workers, nodes and policy are asked for, and however the workers' turns fell; a front of it where `out` failed.
     ensures printed { Prints (texts words.now)
-        (devices S.Source O.Sink ⟦<AnyDisk as Disk>⟧ source.old out.old disks.items)
-        (devices S.Source O.Sink ⟦<AnyDisk as Disk>⟧ source.new out.new result.disks.items)
+        (devices S.Source O.Sink D.Disk source.old out.old disks.items)
+        (devices S.Source O.Sink D.Disk source.new out.new result.disks.items)
         result.status result.trace.events }
 
-    // Each status has its cause: in the words, the job or the disks' sizes, or in a device that failed in this call. Want of
-    // memory alone needs none.
-    ensures answered { Answers (texts words.now)
-        (devices S.Source O.Sink ⟦<AnyDisk as Disk>⟧ source.old out.old disks.items)
-        (devices S.Source O.Sink ⟦<AnyDisk as Disk>⟧ source.new out.new result.disks.items)
-        result.status result.trace.events }
-
-    // Where the words ask for an application, what is printed is its answer: the product of the two matrices, or the lengths of
+    // Where the words ask for an application, that is the text of its answer: the product of the two matrices, or the lengths of
     // shortest walks.
     ensures solved { Solves (texts words.now)
-        (devices S.Source O.Sink ⟦<AnyDisk as Disk>⟧ source.old out.old disks.items)
-        (devices S.Source O.Sink ⟦<AnyDisk as Disk>⟧ source.new out.new result.disks.items)
+        (devices S.Source O.Sink D.Disk source.old out.old disks.items)
+        (devices S.Source O.Sink D.Disk source.new out.new result.disks.items)
         result.status result.trace.events }
 
-    // A job that isn't refused and for which there is room, on devices that don't fail, is done, unless memory runs out.
-    ensures complete { CanBeDone (texts words.now)
-        (devices S.Source O.Sink ⟦<AnyDisk as Disk>⟧ source.old out.old disks.items)
-        (devices S.Source O.Sink ⟦<AnyDisk as Disk>⟧ source.new out.new result.disks.items) →
-        IsDoneOrOutOfMemory result.status }
+    // Each status that comes has its cause: in the words, the job or the disks' sizes, or in a device that failed in this call.
+    // Want of memory alone needs none.
+    ensures answered { Answers (texts words.now)
+        (devices S.Source O.Sink D.Disk source.old out.old disks.items)
+        (devices S.Source O.Sink D.Disk source.new out.new result.disks.items)
+        result.status result.trace.events }
 
-    // Words that aren't accepted are answered by Usage, unless memory runs out. Nothing is read for them, nor for words that ask
-    // for an application.
-    ensures unaccepted { options_of (texts words.now) ≡ None → IsUsageOrOutOfMemory result.status }
+    // Each status that is due comes, unless memory runs out: Usage where the words aren't accepted; Refused, TooLarge or
+    // SwapTooSmall where that is so of the job, and the source doesn't fail; Done where none of these is, and nothing fails.
+    ensures complete { WhatIsDueComes (texts words.now)
+        (devices S.Source O.Sink D.Disk source.old out.old disks.items)
+        (devices S.Source O.Sink D.Disk source.new out.new result.disks.items) result.status }
+
+    // No text is read where the words ask for none: where they aren't accepted, or ask for an application.
     ensures reads_nothing { reads_source (options_of (texts words.now)) ≡ false →
         source.new ≡ source.old }
 
     // `out` isn't called before all was run, nor where there is nothing to write.
     ensures out_stays { WritesNothing (texts words.now)
-        (devices S.Source O.Sink ⟦<AnyDisk as Disk>⟧ source.old out.old disks.items)
-        result.status → out.new ≡ out.old }
+        (devices S.Source O.Sink D.Disk source.old out.old disks.items) result.status →
+        out.new ≡ out.old }
 
-    // One line goes to `err`, or none.
+    // `err` takes the status's line, and nothing where the job is done.
     ensures err_takes_the_line { TakesLine
         (seen E.taken E.faults err.old) (seen E.taken E.faults err.new) (line_of result.status) }
 
     // The disks come back, and before the run begins no call of them is made but that of their sizes.
-    ensures disks_come_back { ComeBack
-        ⟦<AnyDisk as Disk>⟧ disks.items result.disks.items result.status }
+    ensures disks_come_back { ComeBack D.Disk disks.items result.disks.items result.status }
 {
     let outcome = answer_words(rt, alloc, words, source, out, disks, gate);
     report(outcome.status, err);

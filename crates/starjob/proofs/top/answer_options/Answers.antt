@@ -1,4 +1,4 @@
-use Rattle.std.proofs.Common.{◌≡◌, ℕ, Bool, false, true, List, map, refl, subst, sym, Option, Some, None, Result, Ok}
+use Rattle.std.proofs.Common.{◌≡◌, false, map, refl, subst, sym, Option, Some, Ok}
 use Rattle.std.specs.Prelude.{is_none, option_map}
 use Rattle.std.proofs.lemmas.Bool.{true≢false}
 use Rattle.sj_apps.specs.Application.{job_for}

@@ -1,6 +1,4 @@
-use Rattle.std.proofs.Common.{◌≡◌, false, map, ap, ◌∙◌, refl, subst, sym, Option, Some, None, List, Vec, Global}
-use Rattle.std.proofs.lemmas.Option.{none-some}
-use Rattle.sj_engine.specs.Outcome.{AllTell}
+use Rattle.std.proofs.Common.{◌≡◌, false, map, ap, refl, subst, sym, Option, Some, None, List, Vec, Global}
 use Rattle.sj_words.specs.Options.{options}
 use Rattle.sj_words.specs.Spelling.{texts}
 use Rattle.sj_words.specs.declared.options.Options.{Options}
@@ -36,9 +34,6 @@ returns-in-Ok-clause-solved g c = λ tells.
     subst (λ (o : Option Options). TakesAnswer o c.answer_options.result.status
     (seen g.O.Sink.taken g.O.Sink.faults c.args.out.now) (seen g.O.Sink.taken g.O.Sink.faults c.answer_options.new.out) c.answer_options.result.trace.events)
     (sym c.in-Ok.ensures.ok) (c.answer_options.ensures.solved tells)
-
-pub returns-in-Ok-clause-unaccepted : goal.returns-in-Ok-clause-unaccepted
-returns-in-Ok-clause-unaccepted g c = λ none. absurd (none-some _ (sym none ∙ c.in-Ok.ensures.ok))
 
 pub returns-in-Ok-clause-reads_nothing : goal.returns-in-Ok-clause-reads_nothing
 returns-in-Ok-clause-reads_nothing g c = λ none.

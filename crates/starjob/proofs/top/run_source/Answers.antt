@@ -1,4 +1,4 @@
-use Rattle.std.proofs.Common.{◌≡◌, ℕ, Bool, List, map, ap, refl, subst, sym, IfSome, Option, Some, None, Result, Err, Vec, Global}
+use Rattle.std.proofs.Common.{◌≡◌, ℕ, Bool, List, map, ap, subst, sym, IfSome, Option, Some, None, Result, Err, Vec, Global}
 use Rattle.std.specs.Prelude.{option_map}
 use Rattle.sj_codelet.specs.declared.kernel.Kernel.{Kernel}
 use Rattle.sj_job.specs.Reading.{job_of}
@@ -8,7 +8,7 @@ use Rattle.starjob.specs.declared.source_text.Unread.{Unread}
 use Rattle.starjob.specs.declared.status.Status.{Status}
 use Rattle.starjob.specs.Device.{devices, seen}
 use Rattle.starjob.specs.Streams.{is_fault}
-use Rattle.starjob.specs.Top.{HasCause, MemoryRanOut}
+use Rattle.starjob.specs.Top.{HasCause}
 use Rattle.starjob.specs.Work.{told}
 use Rattle.sj_ready.specs.Work.{asked_by}
 use Rattle.starjob.proofs.ReadingWhole.{short}
