@@ -1,4 +1,5 @@
--- Words with visible bytes, one space between them, are the words of their line, and lines that end with LF are those of their text.
+-- Words with visible bytes, one space between them, are the words of their line.
+-- Lines that end with LF are those of their text.
 use Rattle.std.proofs.Common.{◌≡◌, ℕ, Bool, true, false, not, cond, ◌&&◌, List, [], ◌∷◌, ◌++◌, nat_eq, refl, ap, ◌∙◌, arith, append_assoc}
 use Rattle.std.specs.Prelude.{filter, nat_lt}
 use Rattle.std.specs.List.{join_with_byte, list_all, onto_first, slice_split}

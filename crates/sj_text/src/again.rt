@@ -13,6 +13,6 @@ ghost use Rattle.sj_text.specs.Text.{text_of_job};
 /// A job such as `read` gives is read again from its canonical text, as long as that isn't over the limit: the same settings,
 /// all of them said, and the same statements, in lines that are numbered anew.
 pub fn read_again()
-    ensures { (has : Kernel → Bool) (j : Job) → IsWithinLimits j.settings → IsWell has 0 start j.statements
-        → length (text_of_job j) ≤ text_limit → job_of has (text_of_job j) ≡ Ok (said_again j) }
+    ensures { (has : Kernel → Bool) (j : Job)
+        → IsWithinLimits j.settings → IsWell has 0 start j.statements → length (text_of_job j) ≤ text_limit → job_of has (text_of_job j) ≡ Ok (said_again j) }
 {}
