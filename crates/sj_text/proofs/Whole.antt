@@ -92,7 +92,7 @@ text-read has j within well fits =
     let g = j.settings in
     let behind = statement_lines no_plans j.statements in
     let n = first_statement_line g in
-    let at : length (Rattle.sj_job.specs.Settings.nodes_of g) + 2 + 2 ≡ n = omega arith in
+    let at : length (Rattle.sj_meaning.specs.Settings.nodes_of g) + 2 + 2 ≡ n = omega arith in
     ap (λ (b : Bool). cond b (Err (refusal 0 (Rattle.sj_job.specs.declared.reason.Reason.TheVariants.Limit Rattle.sj_job.specs.declared.reason.LimitKind.TheVariants.Text))) (reading_header has 1 (lines text))) (le-ltb text_limit (length text) fits)
     ∙ header-read has (settings_lines g ++ behind)
     ∙ settings-read has g 2 behind within

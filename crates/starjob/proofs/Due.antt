@@ -10,7 +10,7 @@ use Rattle.sj_base.specs.declared.trace.Event.{Event}
 use Rattle.sj_core.specs.Needs.{footprint}
 use Rattle.sj_core.specs.Program.{task_of}
 use Rattle.sj_edge.specs.declared.disk.Disk.{Ghosts as DiskOf}
-use Rattle.sj_job.specs.Job.{Job}
+use Rattle.sj_meaning.specs.Job.{Job}
 use Rattle.sj_job.specs.Reading.{Refusal}
 use Rattle.sj_needs.specs.Shortage.{IsShortage, IsSwapTooSmall, IsTooLarge}
 use Rattle.sj_needs.specs.declared.shortage.Shortage.{Shortage}

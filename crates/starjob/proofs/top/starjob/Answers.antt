@@ -1,5 +1,5 @@
 use Rattle.std.proofs.Common.{map, Result}
-use Rattle.sj_job.specs.Job.{Job}
+use Rattle.sj_meaning.specs.Job.{Job}
 use Rattle.sj_job.specs.Reading.{Refusal}
 use Rattle.sj_ready.specs.Work.{WorkOrRefusal, asked_by}
 use Rattle.sj_words.specs.Options.{options}
