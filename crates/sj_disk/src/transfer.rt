@@ -14,10 +14,10 @@ use sj_base::ids::DiskNo;
 use sj_edge::disk::{CheckFault, Disk};
 use sj_edge::source::Failed;
 
-/// How many elements go through a small buffer at a time. A block with no more has one, which is made faster than a large one.
+/// How many elements go through a small buffer at a time. A block with no more has one, which is cleared sooner.
 const FEW: usize = 512;
 
-/// How many elements go through a large buffer at a time: so many that a call of a disk takes little beside the bytes that it moves.
+/// How many elements go through a large buffer at a time, so that a disk is called seldom.
 const MANY: usize = 4096;
 
 fn write_piece<D: Disk>(
@@ -55,12 +55,7 @@ fn write_pieces<D: Disk>(
     let mut start = 0;
     while start < elements.len() {
         let stop = elements.len().min(start + piece);
-        write_piece(
-            disk,
-            at + 8 * start as u64,
-            &elements[start..stop],
-            buffer,
-        )?;
+        write_piece(disk, at + 8 * start as u64, &elements[start..stop], buffer)?;
         start = stop;
     }
     Ok(())
