@@ -14,5 +14,7 @@ ghost use Rattle.sj_text.specs.Text.{text_of_job};
 /// all of them said, and the same statements, in lines that are numbered anew.
 pub fn read_again()
     ensures { (has : Kernel → Bool) (j : Job)
-        → IsWithinLimits j.settings → IsWell has 0 start j.statements → length (text_of_job j) ≤ text_limit → job_of has (text_of_job j) ≡ Ok (said_again j) }
+        → IsWithinLimits j.settings → IsWell has 0 start j.statements
+        → length (text_of_job j) ≤ text_limit
+        → job_of has (text_of_job j) ≡ Ok (said_again j) }
 {}
