@@ -16,6 +16,7 @@ use Rattle.sj_job.specs.declared.names.Standing.{Standing}
 use Rattle.sj_job.specs.declared.names.Standing.TheVariants.{Ended}
 use Rattle.sj_job.specs.Names.{Found}
 use Rattle.sj_meaning.specs.Table.{Table, a_root, name_of, no_info, info_of, root_in, IsRoot, with_root}
+use Rattle.sj_meaning.proofs.Finding.{is-at, same-text, text-itself}
 
 -- ---- how it stands with a name
 

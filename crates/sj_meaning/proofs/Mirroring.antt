@@ -97,19 +97,19 @@ mirror-put names d (o ∷ os) (x ∷ xs) S rs m a =
 
 written-by : {M N : Type 0} (f : M → N) (os : List (Operand M)) → written_of (map (operand_by f) os) ≡ map (operand_by f) (written_of os)
 written-by f [] = refl
-written-by f (o ∷ os) = by_test (is_written o.mode)
+written-by f (o ∷ os) = by_test (is_written o.mode) (written-by f os)
   where
-    by_test : (b : Bool) → cond b (operand_by f o ∷ written_of (map (operand_by f) os)) (written_of (map (operand_by f) os)) ≡ map (operand_by f) (cond b (o ∷ written_of os) (written_of os))
-    by_test true = ap (λ us. operand_by f o ∷ us) (written-by f os)
-    by_test false = written-by f os
+    by_test : (b : Bool) → written_of (map (operand_by f) os) ≡ map (operand_by f) (written_of os) → cond b (operand_by f o ∷ written_of (map (operand_by f) os)) (written_of (map (operand_by f) os)) ≡ map (operand_by f) (cond b (o ∷ written_of os) (written_of os))
+    by_test true rest = ap (λ us. operand_by f o ∷ us) rest
+    by_test false rest = rest
 
 written-there : (P : Operand ℕ → Type 0) (os : List (Operand ℕ)) → AllByRecursion P os → AllByRecursion P (written_of os)
 written-there P [] a = tt
-written-there P (o ∷ os) a = by_test (is_written o.mode)
+written-there P (o ∷ os) a = by_test (is_written o.mode) (written-there P os a.1)
   where
-    by_test : (b : Bool) → AllByRecursion P (cond b (o ∷ written_of os) (written_of os))
-    by_test true = (a.0, written-there P os a.1)
-    by_test false = written-there P os a.1
+    by_test : (b : Bool) → AllByRecursion P (written_of os) → AllByRecursion P (cond b (o ∷ written_of os) (written_of os))
+    by_test true rest = (a.0, rest)
+    by_test false rest = rest
 
 array-seen : (names : List (List ℕ)) (S : State) (rs : List Root) → IsMirror names S rs → (o : Operand ℕ) → IsThere names S o.name → operand_array S (operand_by (name_at names) o) ≡ operand_array_at rs o
 array-seen names S rs m o h =

@@ -1,5 +1,5 @@
 -- What is kept of a job, by number: its acts come in time, and with names in place of numbers they are the job's.
-use Rattle.std.proofs.Common.{◌≡◌, ℕ, suc, ◌+◌, ◌<◌, ◌≤◌, Bool, true, false, not, ◌&&◌, List, [], ◌∷◌, ◌++◌, length, map, get_or, Option, Some, None, cond, refl, ap, sym, subst, ◌∙◌, arith, bytes_eq, length-append}
+use Rattle.std.proofs.Common.{◌≡◌, ℕ, zero, suc, ◌+◌, ◌<◌, ◌≤◌, Bool, true, false, not, ◌&&◌, List, [], ◌∷◌, ◌++◌, length, map, get_or, Option, Some, None, cond, refl, ap, sym, subst, ◌∙◌, arith, bytes_eq, length-append}
 use Rattle.std.specs.Option.{is_some}
 use Rattle.std.specs.List.{AllByRecursion, list_all, position_or_len}
 use Rattle.std.proofs.lemmas.List.{length-set}
@@ -13,11 +13,11 @@ use Rattle.sj_meaning.specs.declared.job.Statement.{Statement as Kept}
 use Rattle.sj_meaning.specs.Statement.{Operand, TaskLine}
 use Rattle.sj_meaning.specs.Act.{Act, Register, Plan, Redux, Task, Print, Invalidate, Unregister, Statement}
 use Rattle.sj_meaning.specs.State.{Root, State, root_of}
-use Rattle.sj_meaning.specs.Table.{Table, AreDistinct}
-use Rattle.sj_meaning.specs.Meaning.{with_child, written_of, apply}
+use Rattle.sj_meaning.specs.Table.{Table, AreDistinct, a_root, info_of}
+use Rattle.sj_meaning.specs.Meaning.{registered_root, with_parts, with_reduction, with_elements, no_values, with_child, written_of, apply}
 use Rattle.sj_meaning.specs.Sound.{IsSoundAct, AreSound, has_child, has_root, has_values}
 use Rattle.sj_meaning.specs.View.{operand_seen, task_seen, act_seen, statement_seen, seen_from, count_after, count_from, IsPlaced, ArePlaced}
-use Rattle.sj_meaning.specs.Numbers.{name_at, number_in, operand_at, operand_by, task_at, task_by, act_at, act_by, statement_at, statement_by, statements_from, root_at, change_at, put_all_at, apply_at}
+use Rattle.sj_meaning.specs.Numbers.{registration_at, no_root, operand_array_at, name_at, number_in, operand_at, operand_by, task_at, task_by, act_at, act_by, statement_at, statement_by, statements_from, root_at, change_at, put_all_at, apply_at}
 use Rattle.sj_meaning.proofs.Finding.{same-text, text-itself}
 use Rattle.sj_meaning.proofs.Mirroring.{IsThere, IsMirror, IsTimely, AreTimely, mirror-apply}
 use Rattle.sj_meaning.proofs.Views.{count-grows, counts-grow}
@@ -30,10 +30,11 @@ distinct-tail x xs d i j li lj e = omega (arith, d (suc i) (suc j) (omega (arith
 -- a name's number is its own
 pub number-named : (names : List (List ℕ)) (n : ℕ) → AreDistinct names → n < length names → number_in names (name_at names n) ≡ n
 number-named [] n d lt = absurd (omega (arith, lt))
-number-named (x ∷ xs) 0 d lt = ap (λ b. cond (not b) (1 + position_or_len (bytes_eq x) xs) 0) (text-itself x x refl)
+number-named (x ∷ xs) zero d lt = ap (λ b. cond (not b) (1 + position_or_len (bytes_eq x) xs) 0) (text-itself x x refl)
 number-named (x ∷ xs) (suc m) d lt =
     ap (λ b. cond (not b) (1 + position_or_len (bytes_eq (name_at xs m)) xs) 0) (by_test (bytes_eq (name_at xs m) x) refl)
-    ∙ ap suc (number-named xs m (distinct-tail x xs d) (omega (arith, lt)))
+    ∙ ap (λ k. 1 + k) (number-named xs m (distinct-tail x xs d) (omega (arith, lt)))
+    ∙ (let last : 1 + m ≡ suc m = omega arith in last)
   where
     by_test : (b : Bool) → bytes_eq (name_at xs m) x ≡ b → bytes_eq (name_at xs m) x ≡ false
     by_test true t = absurd (omega (arith, d (suc m) 0 lt (omega arith) (same-text (name_at xs m) x t)))
@@ -71,13 +72,13 @@ length-put (o ∷ os) [] rs = refl
 length-put (o ∷ os) (a ∷ arrays) rs = length-put os arrays (change_at (with_child o.place a) o.name rs) ∙ length-set rs o.name (with_child o.place a (root_at rs o.name))
 
 pub length-apply : (T : Table) (k : ℕ) (a : KeptAct) (rs : List Root) → length rs ≡ k → length (apply_at (act_at T k a) rs) ≡ count_after k a
-length-apply T k (kept.Register init) rs e = omega (arith, e, length-append rs (_ ∷ []))
-length-apply T k (kept.Plan r p valued) rs e = length-set rs r.0 _ ∙ e
-length-apply T k (kept.Redux r by) rs e = length-set rs r.0 _ ∙ e
-length-apply T k (kept.Task t) rs e = length-put (written_of (task_at t).operands) _ rs ∙ e
+length-apply T k (kept.Register init) rs e = omega (arith, e, length-append rs (registered_root (registration_at k (info_of T (a_root k)) init) ∷ []))
+length-apply T k (kept.Plan r p valued) rs e = length-set rs r.0 (with_parts p (root_at rs r.0)) ∙ e
+length-apply T k (kept.Redux r by) rs e = length-set rs r.0 (with_reduction by (root_at rs r.0)) ∙ e
+length-apply T k (kept.Task t) rs e = length-put (written_of (task_at t).operands) (out (task_at t).codelet (task_at t).args (map (operand_array_at rs) (task_at t).operands)) rs ∙ e
 length-apply T k (kept.Print r) rs e = e
-length-apply T k (kept.Invalidate r) rs e = length-set rs r.0 _ ∙ e
-length-apply T k (kept.Unregister r) rs e = length-set rs r.0 _ ∙ e
+length-apply T k (kept.Invalidate r) rs e = length-set rs r.0 (with_elements (no_values (root_at rs r.0).dims) (root_at rs r.0)) ∙ e
+length-apply T k (kept.Unregister r) rs e = length-set rs r.0 no_root ∙ e
 
 -- ---- sound acts come in time
 
