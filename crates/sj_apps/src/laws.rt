@@ -13,7 +13,8 @@ ghost use Rattle.sj_apps.specs.Walks.{AreWeights, StayBelowInf};
 /// does that is shorter than `inf`.
 pub fn walks()
     ensures { (name : List ℕ) (n p : ℕ) (W : ℕ → ℕ → ℤ) (xs : List ℤ)
-        (ss : List (Statement (List ℕ))) → 0 < p → xs ≡ table (square n) W → AreWeights n W → StayBelowInf n W
+        (ss : List (Statement (List ℕ)))
+        → 0 < p → xs ≡ table (square n) W → AreWeights n W → StayBelowInf n W
         → acts_of ss ≡ walk_acts name n p xs → PrintsShortest name n W ss }
 {}
 

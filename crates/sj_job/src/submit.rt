@@ -10,7 +10,6 @@ ghost use Rattle.sj_meaning.specs.State.{plan_with};
 ghost use Rattle.sj_job.specs.Submits.{done_in, Submits};
 
 use crate::form::{ArrayForm, Form, OperandForm, Piece, Size, TaskForm};
-use sj_meaning::job::{Act, Kind, RootInfo};
 use crate::judge::{
     judge_task, named_root, planned_root, printed_root, reduced_root, register_complaint,
 };
@@ -20,6 +19,7 @@ use crate::reason::{Objection, Reason};
 use sj_base::mode::Reduction;
 use sj_base::tile::Dims;
 use sj_codelet::set::Codelets;
+use sj_meaning::job::{Act, Kind, RootInfo};
 use sj_plan::parts::Parts;
 use std::alloc::Global;
 
