@@ -5,7 +5,8 @@ use Rattle.std.proofs.Math.Seq.{get_or-append_seam}
 use Rattle.std.proofs.lemmas.Bool.{cases_eq, cases_lt}
 use Rattle.std.proofs.lemmas.List.{length-set, get_or_append_left, get_or_past, map-append}
 use Rattle.std.specs.List.{AllByRecursion}
-use Rattle.sj_base.specs.Array.{Array}
+use Rattle.sj_base.specs.declared.tile.Dims.{Dims}
+use Rattle.sj_base.specs.Array.{Array, area}
 use Rattle.sj_codelet.specs.Kernel.{out}
 use Rattle.sj_meaning.specs.Statement.{Register as Registration, Operand, TaskLine}
 use Rattle.sj_meaning.specs.Act.{Act, Register, Plan, Redux, Task, Print, Invalidate, Unregister, Statement}
@@ -17,7 +18,7 @@ use Rattle.sj_meaning.proofs.Finding.{same-text, text-itself, get-put, get-gone,
 
 -- ---- names that differ
 
-apart : (names : List (List ℕ)) → AreDistinct names → (n k : ℕ) → n < length names → k < length names → (k ≡ n → ⊥) → bytes_eq (name_at names n) (name_at names k) ≡ false
+pub apart : (names : List (List ℕ)) → AreDistinct names → (n k : ℕ) → n < length names → k < length names → (k ≡ n → ⊥) → bytes_eq (name_at names n) (name_at names k) ≡ false
 apart names d n k ln lk other = by_test (bytes_eq (name_at names n) (name_at names k)) refl
   where
     by_test : (b : Bool) → bytes_eq (name_at names n) (name_at names k) ≡ b → bytes_eq (name_at names n) (name_at names k) ≡ false
@@ -27,6 +28,12 @@ apart names d n k ln lk other = by_test (bytes_eq (name_at names n) (name_at nam
 one-name : (names : List (List ℕ)) (n k : ℕ) → k ≡ n → bytes_eq (name_at names n) (name_at names k) ≡ true
 one-name names n k e = text-itself (name_at names n) (name_at names k) (ap (name_at names) (sym e))
 
+some_is : {X : Type 0} (x y : X) → Some x ≡ Some y → x ≡ y
+some_is x y e = cc
+
+none_isn't : {X : Type 0} (x : X) → None ≡ Some x → ⊥
+none_isn't x e = absurd (cc)
+
 -- ---- a list that mirrors a state
 
 -- the number is that of a root that lives
@@ -35,10 +42,11 @@ pub record IsThere (names : List (List ℕ)) (S : State) (n : ℕ) : Type 0 wher
   pub root : Root
   pub is : root_of S (name_at names n) ≡ Some root
 
--- each root stands at its number
+-- each root stands at its number, and has elements
 pub record IsMirror (names : List (List ℕ)) (S : State) (rs : List Root) : Type 0 where
   pub same : (n : ℕ) → n < length names → unwrap_or (root_of S (name_at names n)) no_root ≡ root_at rs n
   pub live : (n : ℕ) (r : Root) → n < length names → root_of S (name_at names n) ≡ Some r → n < length rs
+  pub some : (n : ℕ) (r : Root) → n < length names → root_of S (name_at names n) ≡ Some r → 0 < area r.dims
 
 pub root-there : (names : List (List ℕ)) (S : State) (rs : List Root) (n : ℕ) → IsMirror names S rs → (h : IsThere names S n) → root_at rs n ≡ h.root
 root-there names S rs n m h = sym (m.same n h.below) ∙ ap (λ o. unwrap_or o no_root) h.is
@@ -62,8 +70,8 @@ module _ (names : List (List ℕ)) (d : AreDistinct names) (f : Root → Root) (
   beside : (k : ℕ) → k < length names → (k ≡ n → ⊥) → root_of (change f (name_at names n) S) (name_at names k) ≡ root_of S (name_at names k)
   beside k lt other = roots k ∙ ap (λ b. cond b (Some (f h.root)) (root_of S (name_at names k))) (apart names d n k h.below lt other)
 
-  mirror-change : (rs : List Root) → IsMirror names S rs → IsMirror names (change f (name_at names n) S) (change_at f n rs)
-  mirror-change rs m = record {
+  mirror-change : ((r : Root) → (f r).dims ≡ r.dims) → (rs : List Root) → IsMirror names S rs → IsMirror names (change f (name_at names n) S) (change_at f n rs)
+  mirror-change keeps rs m = record {
     same = λ k lt. elim (cases_eq k n) as (λ _. unwrap_or (root_of (change f (name_at names n) S) (name_at names k)) no_root ≡ root_at (change_at f n rs) k) [
       | inl e ↦
         ap (λ o. unwrap_or o no_root) (roots k ∙ ap (λ b. cond b (Some (f h.root)) (root_of S (name_at names k))) (one-name names n k e))
@@ -73,6 +81,12 @@ module _ (names : List (List ℕ)) (d : AreDistinct names) (f : Root → Root) (
     live = λ k r lt e. elim (cases_eq k n) as (λ _. k < length (change_at f n rs)) [
       | inl same ↦ omega (arith, length-set rs n (f (root_at rs n)), here, same)
       | inr other ↦ omega (arith, length-set rs n (f (root_at rs n)), m.live k r lt (sym (beside k lt other) ∙ e))
+    ];
+    some = λ k r lt e. elim (cases_eq k n) as (λ _. 0 < area r.dims) [
+      | inl same ↦
+        let is : f h.root ≡ r = some_is (f h.root) r (sym (roots k ∙ ap (λ b. cond b (Some (f h.root)) (root_of S (name_at names k))) (one-name names n k same)) ∙ e) in
+        subst (λ (d : Dims). 0 < area d) (sym (keeps h.root) ∙ ap (λ (x : Root). x.dims) is) (m.some n h.root h.below h.is)
+      | inr other ↦ m.some k r lt (sym (beside k lt other) ∙ e)
     ];
   }
     where
@@ -93,9 +107,9 @@ mirror-put names d [] arrays S rs m a = m
 mirror-put names d (o ∷ os) [] S rs m a = m
 mirror-put names d (o ∷ os) (x ∷ xs) S rs m a =
     mirror-put names d os xs (change (with_child o.place x) (name_at names o.name) S) (change_at (with_child o.place x) o.name rs)
-    (mirror-change names d (with_child o.place x) o.name S a.0 rs m) (all-changed names d (with_child o.place x) o.name S a.0 os a.1)
+    (mirror-change names d (with_child o.place x) o.name S a.0 (λ r. refl) rs m) (all-changed names d (with_child o.place x) o.name S a.0 os a.1)
 
-written-by : {M N : Type 0} (f : M → N) (os : List (Operand M)) → written_of (map (operand_by f) os) ≡ map (operand_by f) (written_of os)
+pub written-by : {M N : Type 0} (f : M → N) (os : List (Operand M)) → written_of (map (operand_by f) os) ≡ map (operand_by f) (written_of os)
 written-by f [] = refl
 written-by f (o ∷ os) = by_test (is_written o.mode) (written-by f os)
   where
@@ -132,8 +146,8 @@ mirror-task names d t S rs m a =
 
 -- ---- registrations and ends
 
-mirror-register : (names : List (List ℕ)) → AreDistinct names → (r : Registration ℕ) (S : State) (rs : List Root) → IsMirror names S rs → r.name ≡ length rs → r.name < length names → IsMirror names (register (registration_by (name_at names) r) S) (rs ++ registered_root r ∷ [])
-mirror-register names d r S rs m e lt = record {
+mirror-register : (names : List (List ℕ)) → AreDistinct names → (r : Registration ℕ) (S : State) (rs : List Root) → IsMirror names S rs → r.name ≡ length rs → r.name < length names → 0 < area r.dims → IsMirror names (register (registration_by (name_at names) r) S) (rs ++ registered_root r ∷ [])
+mirror-register names d r S rs m e lt more = record {
   same = λ k lk. elim (cases_eq k r.name) as (λ _. unwrap_or (root_of (register (registration_by (name_at names) r) S) (name_at names k)) no_root ≡ root_at (rs ++ registered_root r ∷ []) k) [
     | inl same ↦
       ap (λ o. unwrap_or o no_root) (roots k ∙ ap (λ b. cond b (Some (registered_root r)) (root_of S (name_at names k))) (one-name names r.name k same))
@@ -143,6 +157,12 @@ mirror-register names d r S rs m e lt = record {
   live = λ k s lk h. elim (cases_eq k r.name) as (λ _. k < length (rs ++ registered_root r ∷ [])) [
     | inl same ↦ omega (arith, longer, same, e)
     | inr other ↦ omega (arith, longer, m.live k s lk (sym (beside k lk other) ∙ h))
+  ];
+  some = λ k s lk h. elim (cases_eq k r.name) as (λ _. 0 < area s.dims) [
+    | inl same ↦
+      let is : registered_root r ≡ s = some_is (registered_root r) s (sym (roots k ∙ ap (λ b. cond b (Some (registered_root r)) (root_of S (name_at names k))) (one-name names r.name k same)) ∙ h) in
+      subst (λ (x : Root). 0 < area x.dims) is more
+    | inr other ↦ m.some k s lk (sym (beside k lk other) ∙ h)
   ];
 }
   where
@@ -175,6 +195,10 @@ mirror-end names d n S rs m h = record {
     | inl same ↦ omega (arith, length-set rs n no_root, m.live n h.root h.below h.is, same)
     | inr other ↦ omega (arith, length-set rs n no_root, m.live k r lk (sym (beside k lk other) ∙ e))
   ];
+  some = λ k r lk e. elim (cases_eq k n) as (λ _. 0 < area r.dims) [
+    | inl same ↦ absurd (none_isn't r (sym (roots k ∙ ap (λ b. cond b None (root_of S (name_at names k))) (one-name names n k same)) ∙ e))
+    | inr other ↦ m.some k r lk (sym (beside k lk other) ∙ e)
+  ];
 }
   where
     roots : (k : ℕ) → root_of (unregister (name_at names n) S) (name_at names k) ≡ cond (bytes_eq (name_at names n) (name_at names k)) None (root_of S (name_at names k))
@@ -187,7 +211,7 @@ mirror-end names d n S rs m h = record {
 
 -- what an act names lives, and what it registers is the next
 abbrev pub IsTimely : List (List ℕ) → State → List Root → Act ℕ → Type 0
-IsTimely names S rs (Register r) = (r.name ≡ length rs) × (r.name < length names)
+IsTimely names S rs (Register r) = (r.name ≡ length rs) × (r.name < length names) × (0 < area r.dims)
 IsTimely names S rs (Plan n p) = IsThere names S n
 IsTimely names S rs (Redux n by) = IsThere names S n
 IsTimely names S rs (Task t) = AllThere names S t.operands
@@ -196,12 +220,12 @@ IsTimely names S rs (Invalidate n) = IsThere names S n
 IsTimely names S rs (Unregister n) = IsThere names S n
 
 pub mirror-apply : (names : List (List ℕ)) → AreDistinct names → (a : Act ℕ) (S : State) (rs : List Root) → IsMirror names S rs → IsTimely names S rs a → IsMirror names (apply (act_by (name_at names) a) S) (apply_at a rs)
-mirror-apply names d (Register r) S rs m h = mirror-register names d r S rs m h.0 h.1
-mirror-apply names d (Plan n p) S rs m h = mirror-change names d (with_parts p) n S h rs m
-mirror-apply names d (Redux n by) S rs m h = mirror-change names d (with_reduction by) n S h rs m
+mirror-apply names d (Register r) S rs m h = mirror-register names d r S rs m h.0 h.1 h.2
+mirror-apply names d (Plan n p) S rs m h = mirror-change names d (with_parts p) n S h (λ r. refl) rs m
+mirror-apply names d (Redux n by) S rs m h = mirror-change names d (with_reduction by) n S h (λ r. refl) rs m
 mirror-apply names d (Task t) S rs m h = mirror-task names d t S rs m h
 mirror-apply names d (Print n) S rs m h = m
-mirror-apply names d (Invalidate n) S rs m h = mirror-change names d (λ r. with_elements (no_values r.dims) r) n S h rs m
+mirror-apply names d (Invalidate n) S rs m h = mirror-change names d (λ r. with_elements (no_values r.dims) r) n S h (λ r. refl) rs m
 mirror-apply names d (Unregister n) S rs m h = mirror-end names d n S rs m h
 
 abbrev pub AreTimely : List (List ℕ) → State → List Root → List (Statement ℕ) → Type 0

@@ -1,5 +1,5 @@
 -- What is kept of a job, by number: its acts come in time, and with names in place of numbers they are the job's.
-use Rattle.std.proofs.Common.{◌≡◌, ℕ, zero, suc, ◌+◌, ◌<◌, ◌≤◌, Bool, true, false, not, ◌&&◌, List, [], ◌∷◌, ◌++◌, length, map, get_or, Option, Some, None, cond, refl, ap, sym, subst, ◌∙◌, arith, bytes_eq, length-append}
+use Rattle.std.proofs.Common.{◌≡◌, ℕ, zero, suc, ◌+◌, ◌*◌, ◌<◌, ◌≤◌, Bool, true, false, not, ◌&&◌, List, [], ◌∷◌, ◌++◌, length, map, get_or, Option, Some, None, cond, refl, ap, sym, subst, ◌∙◌, arith, bytes_eq, length-append}
 use Rattle.std.specs.Option.{is_some}
 use Rattle.std.specs.List.{AllByRecursion, list_all, position_or_len}
 use Rattle.std.proofs.lemmas.List.{length-set}
@@ -104,8 +104,11 @@ all-there T S k (o ∷ os) le below h =
       all-there T S k os le (λ i d lt. below (suc i) d (omega (arith, lt))) parts.1,
     )
 
+positive : (a b c d : ℕ) → 0 < a → a ≤ b → 0 < c → c ≤ d → 0 < b * d
+positive a b c d h k i j = grind arith
+
 timely-act : (has : Kernel → Bool) (T : Table) (k : ℕ) (S : State) (rs : List Root) (a : KeptAct) → length rs ≡ k → count_after k a ≤ length T.names → IsPlaced k a → IsSoundAct has S (act_seen T k a) → IsTimely T.names S rs (act_at T k a)
-timely-act has T k S rs (kept.Register init) e le p s = (sym e, omega (arith, le))
+timely-act has T k S rs (kept.Register init) e le p s = (sym e, omega (arith, le), positive (info_of T (a_root k)).parts.r (info_of T (a_root k)).dims.rows (info_of T (a_root k)).parts.c (info_of T (a_root k)).dims.cols s.parts.some_rows s.parts.rows s.parts.some_cols s.parts.cols)
 timely-act has T k S rs (kept.Plan r p valued) e le placed s = there-by T.names S r.0 (omega (arith, le, placed)) (root_of S (name_at T.names r.0)) refl s.rooted
 timely-act has T k S rs (kept.Redux r by) e le placed s = there-by T.names S r.0 (omega (arith, le, placed)) (root_of S (name_at T.names r.0)) refl s.1
 timely-act has T k S rs (kept.Task t) e le placed s = all-there T S k t.operands le placed s.placed
