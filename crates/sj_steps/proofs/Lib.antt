@@ -28,3 +28,5 @@ pub mod Handing
 pub mod Sounding
 pub mod Proving
 pub mod Printing
+pub mod Naming
+pub mod Lowers

@@ -99,7 +99,7 @@ module _ (has : Kernel → Bool) (workers : ℕ) (ss : List (Statement ℕ)) (li
   deliveries-are : q.deliveries ≡ deliveries_from workers [] no_cells 0 ss
   deliveries-are = ap (λ (Q : Plainly). Q.deliveries) last-plain ∙ append-nil ended.deliveries ∙ plain-deliveries workers ss [] no_cells start 0 refl
 
-  all : AllAgree q no_cells [] 0 none_open ss
+  pub all : AllAgree q no_cells [] 0 none_open ss
   all = agrees-all has q ss sound refl tasks-are
 
   orderly-before : AreOrderly before none_open own

@@ -33,6 +33,16 @@ use Rattle.sj_meaning.proofs.Mirroring.{IsThere, IsMirror, IsTimely, apart, root
 use Rattle.sj_meaning.proofs.Finding.{text-itself}
 use Rattle.sj_steps.specs.SoundAt.{Lives, child_dims, has_value, modes_fit, clashes, is_aliased, IsPlaced, IsSoundTask, IsSound}
 
+-- a job can't name the codelet that delivers
+abbrev pub IsSilent : Act ℕ → Type 0
+IsSilent (Registers r) = Unit {0}
+IsSilent (Plans n p) = Unit {0}
+IsSilent (Reduces n by) = Unit {0}
+IsSilent (Tasks t) = kernel_of t.codelet ≡ Some Deliver → ⊥
+IsSilent (Prints n) = Unit {0}
+IsSilent (Invalidates n) = Unit {0}
+IsSilent (Unregisters n) = Unit {0}
+
 module _ (names : List (List ℕ)) (d : AreDistinct names) (S : State) (rs : List Root) (m : IsMirror names S rs) where
   abbrev named : Operand ℕ → Operand (List ℕ)
   named o = operand_by (name_at names) o
@@ -106,16 +116,6 @@ module _ (names : List (List ℕ)) (d : AreDistinct names) (S : State) (rs : Lis
     valued = sym (valued-at t.operands h) ∙ s.valued;
     silent = silent;
   }
-
-  -- a job can't name the codelet that delivers
-  abbrev pub IsSilent : Act ℕ → Type 0
-  IsSilent (Registers r) = Unit {0}
-  IsSilent (Plans n p) = Unit {0}
-  IsSilent (Reduces n by) = Unit {0}
-  IsSilent (Tasks t) = kernel_of t.codelet ≡ Some Deliver → ⊥
-  IsSilent (Prints n) = Unit {0}
-  IsSilent (Invalidates n) = Unit {0}
-  IsSilent (Unregisters n) = Unit {0}
 
   none-is : (o : Option Reduction) → is_none o ≡ true → o ≡ None
   none-is None e = refl

@@ -144,19 +144,20 @@ steps_from workers look go S C (s ∷ ss) =
     let x = step_of workers (look S) C s.line s.act in
     x ∷ steps_from workers look go (go s.act S) x.laid ss
 
+-- the name that a statement registers
+abbrev pub names_in : Act (List ℕ) → List (List ℕ)
+names_in (Registers r) = r.name ∷ []
+names_in (Plans q p) = []
+names_in (Reduces q by) = []
+names_in (Tasks t) = []
+names_in (Prints q) = []
+names_in (Invalidates q) = []
+names_in (Unregisters q) = []
+
 -- the names in the order of their registration
 abbrev pub names_of : List (Statement (List ℕ)) → List (List ℕ)
 names_of [] = []
-names_of (s ∷ ss) = registered_by s.act ++ names_of ss
-  where
-    registered_by : Act (List ℕ) → List (List ℕ)
-    registered_by (Registers r) = r.name ∷ []
-    registered_by (Plans q p) = []
-    registered_by (Reduces q by) = []
-    registered_by (Tasks t) = []
-    registered_by (Prints q) = []
-    registered_by (Invalidates q) = []
-    registered_by (Unregisters q) = []
+names_of (s ∷ ss) = names_in s.act ++ names_of ss
 
 abbrev pub steps_of : ℕ → List (Statement (List ℕ)) → List Step
 steps_of workers ss = steps_from workers (by_name (names_of ss)) apply start no_cells ss
@@ -165,10 +166,10 @@ steps_of workers ss = steps_from workers (by_name (names_of ss)) apply start no_
 
 -- the cells after all statements
 abbrev pub laid_by : List Step → Laid
-laid_by xs = unwrap_or (last_or None (map (λ x. x.laid) xs)) no_cells
+laid_by xs = fold (λ C x. x.laid) no_cells xs
 
 abbrev pub last_line : List Step → Line
-last_line xs = unwrap_or (last_or None (map (λ x. x.block.line) xs)) (record { 0 = 0 })
+last_line xs = fold (λ l x. x.block.line) (record { 0 = 0 }) xs
 
 -- the end closes all phases, for the last statement
 abbrev pub blocks_by : List Step → List Block
