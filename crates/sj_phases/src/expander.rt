@@ -52,6 +52,19 @@ impl Expander {
         self.over.is_none() && !self.phases.is_empty()
     }
 
+    /// Whether there is room for so many tasks more of this line; if there is none, there are too many with it. Constant time.
+    pub fn has_room(&mut self, count: u64, line: Line) -> bool
+    {
+        if self.over.is_some() {
+            return false;
+        }
+        if count <= (MOST - self.tasks.len()) as u64 {
+            return true;
+        }
+        self.over = Some(line);
+        false
+    }
+
     /// A task more. Constant time, amortised.
     pub fn push(&mut self, task: Lowered, line: Line) -> Result<(), OutOfMemory>
         requires at { HasAt self.old }
