@@ -23,3 +23,4 @@ pub mod Views
 pub mod Adding
 pub mod Submitting
 pub mod Reading
+pub mod Crowding

@@ -1,6 +1,7 @@
 //! The job language: what a job text says, and what it means on plain arrays.
 #![tactic(auto)]
 
+pub mod crowd;
 pub mod form;
 pub mod grammar;
 pub mod job;
