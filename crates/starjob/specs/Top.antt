@@ -27,6 +27,9 @@ use Rattle.starjob.specs.Streams.{IsRead, TakesPrefix}
 use Rattle.starjob.specs.Traces.{BeganAsked, BeganWork, RanWhole}
 use Rattle.starjob.specs.Work.{Asked, Unaccepted, Told, IfAsked, IfTold, IsToldAnd, asked_of, reads_source, said_of}
 
+-- A device tells where contracts can name its bytes, as one in memory does: those left in a source, those taken by a sink, those
+-- held by a disk. The job is the text that its source tells; where the source doesn't tell, the job is untold.
+
 -- ---- what is printed
 
 -- the text of what the statements print when they are run one after another on plain arrays, or its summary, and the text of the
@@ -42,6 +45,10 @@ TakesText said _ out out' trace = Unit {0}
 
 -- ---- what a status means
 
+-- Asked is what words and job text ask for, within the limits of lowering, or the refusal. IfAsked asked P: the words are
+-- accepted, and P holds of it where it is told. IfTold asked P: the same, and it is work, which isn't refused. IsToldAnd asked P:
+-- it is told, and is work with P. A source that isn't read, as the words ask for no text, counts as one at its end that never
+-- fails.
 module _ {D : Type 0} {disk : DiskOf D} (asked : Asked) (before after : Devices disk) (trace : List Event) where
   -- the run came to its end: there was room, each task ran once, no disk failed, and the blocks are on the disks
   pub record RunIsWhole : Type 0 where
@@ -57,7 +64,7 @@ module _ {D : Type 0} {disk : DiskOf D} (asked : Asked) (before after : Devices 
     pub began : IfTold asked (BeganWork trace)
     pub read : IsRead before.source after.source
 
-  -- nothing ran, though the source was read
+  -- nothing ran; the source was read to its end, or to the byte that makes the text too long, and never failed
   pub record NothingRan : Type 0 where
     pub no_event : trace ≡ []
     pub read : IsRead before.source after.source
@@ -83,12 +90,13 @@ module _ {D : Type 0} {disk : DiskOf D} (asked : Asked) (before after : Devices 
     pub cause : IfTold asked (λ w. IsTooLarge (program_of w) w.machine line bytes)
     pub nothing_ran : NothingRan
 
-  -- the blocks have no places on the disks: this is what they need, and what the disks have
+  -- each task fits, and the blocks have no places on the disks: this is what all blocks need, and what all disks have together,
+  -- which may be more where there are several
   pub record SwapIsTooSmall (needed have : ℕ) : Type 0 where
     pub cause : IfTold asked (λ w. IsSwapTooSmall (program_of w) w.machine needed have)
     pub nothing_ran : NothingRan
 
-  -- the disk's count of faults rose
+  -- the count of faults of the disk with this number rose; of the other disks nothing is said
   pub record DiskHasFailed (number : DiskNo) : Type 0 where
     pub cause : RoseAt number.0 (map disk.faults before.disks) (map disk.faults after.disks)
     pub run : RunBrokeOff
@@ -101,12 +109,12 @@ module _ {D : Type 0} {disk : DiskOf D} (asked : Asked) (before after : Devices 
     pub untold : ¬ AllTell disk.held before.disks
     pub run : RunBrokeOff
 
-  -- just one call of the source failed
+  -- exactly one call of the source failed
   pub record SourceHasFailed : Type 0 where
     pub cause : HasFailed before.source after.source
     pub nothing_ran : trace ≡ []
 
-  -- a call of the sink failed, when each task had run once
+  -- exactly one call of the sink failed, when each task had run once
   pub record SinkHasFailed : Type 0 where
     pub cause : HasFailed before.out after.out
     pub run : RunIsWhole
@@ -143,7 +151,8 @@ module _ {D : Type 0} {disk : DiskOf D} (asked : Asked) (before after : Devices 
   abbrev IsReadAnd : (Work → Type 0) → Type 0
   IsReadAnd P = IsToldAnd asked P × NeverFailed before.source after.source
 
-  -- the status that is due: by what is asked for and devices that didn't fail; no fault is ever due, nor want of memory
+  -- the status that is due, by what is asked for, where devices didn't fail. The table names no fault of a device; but by the
+  -- records above a source that failed leaves SourceFault alone, since all others but that of Usage say that it never failed
   abbrev pub IsDue : Status → Type 0
   IsDue Usage = asked ≡ Unaccepted
   IsDue (Refused line reason) = (asked ≡ Told (Err (record { line = line; reason = reason }))) × NeverFailed before.source after.source
@@ -165,7 +174,7 @@ IsSilent asked Done = IsToldAnd asked PrintsNothing
 IsSilent asked SinkFault = IsToldAnd asked PrintsNothing
 IsSilent asked _ = Unit {0}
 
--- the run hadn't begun, nor any call of a disk but that of its size
+-- the run hadn't begun
 abbrev pub IsBeforeTheRun : Status → Type 0
 IsBeforeTheRun Usage = Unit {0}
 IsBeforeTheRun (Refused line reason) = Unit {0}
@@ -174,13 +183,16 @@ IsBeforeTheRun (SwapTooSmall needed have) = Unit {0}
 IsBeforeTheRun SourceFault = Unit {0}
 IsBeforeTheRun _ = ⊥
 
--- the disks come back in their order, each with its size and no count lower; before the run no call of them is made
+-- the disks come back in their order, each with its size and no count lower; before the run begins each is as it was: its size,
+-- its counts and the bytes that it tells
 pub record ComeBack {D : Type 0} (disk : DiskOf D) (old new : List D) (status : Status) : Type 0 where
   pub given_back : AreGivenBack disk.size disk.faults disk.mismatches disk.held old new
   pub untouched : IsBeforeTheRun status → AreUntouched disk.size disk.faults disk.mismatches disk.held old new
 
 -- ---- the same by the words of a command line
 
+-- What is said is what words and job text say by themselves; what is asked for is that within the limits of lowering, of cells
+-- and of tasks, or else the refusal that names the limit.
 module _ {D : Type 0} {disk : DiskOf D} (words : List Text) (before : Devices disk) where
   -- they ask for a job that is read
   abbrev reads : Bool
@@ -190,7 +202,7 @@ module _ {D : Type 0} {disk : DiskOf D} (words : List Text) (before : Devices di
   abbrev pub Prints : Devices disk → Status → List Event → Type 0
   Prints after status trace = AllTell disk.held before.disks → TakesText (said_of words before) status before.out after.out trace
 
-  -- the status has its cause, in what is asked for or in a device
+  -- the status has its cause, in what is asked for or in a device that is used
   abbrev pub Answers : Devices disk → Status → List Event → Type 0
   Answers after status trace = HasCause (asked_of words before) (in_use reads before) (in_use reads after) trace status
 

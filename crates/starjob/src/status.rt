@@ -43,7 +43,7 @@ pub enum Status {
     SourceFault,
     /// The sink failed.
     SinkFault,
-    /// An allocation was refused.
+    /// Memory ran out. No clause says that an allocation was refused.
     OutOfMemory,
 }
 

@@ -271,11 +271,12 @@ where
 /// Runs a job: reads its text from the source, or generates that of the application that the words ask for, runs its tasks on the
 /// workers and nodes that the words or the job ask for, evicts to the disks what doesn't fit, and writes the arrays that it prints
 /// to `out`, as if its tasks had run one after another on plain arrays. Where that ends otherwise, one line goes to `err`. The
-/// disks come back in their order.
+/// disks come back in their order. `words` are those of the command line behind the program's name. The gate is called before the
+/// first task, and before and after each kernel; no clause sees what it does.
 ///
 /// Workers are threads; the call returns when all have ended. The cost is that of reading, running and printing: linear in the
 /// text and in the elements that tasks touch, but for the look-up of names. Memory is a few times the text, the nodes' sizes, and
-/// the trace: at most three events a task and five an operand.
+/// the trace: at most three events a task and five an operand. No clause bounds time or memory.
 pub fn starjob<S, O, E, G, D, R>(
     rt: &R,
     alloc: Global,
@@ -296,8 +297,11 @@ where
     requires few_disks { length disks.items ≤ 16 }
     requires small_disks { AreWithin D.size (2 ^ 40) disks.items }
 
-    // Where the job is done, `out` took the text of what its statements print when they run one after another on plain arrays,
-    // whatever workers, nodes and policy are asked for, and however the workers' turns fell; a front of it where `out` failed.
+    // `devices .. old` are source, out and disks as the call found them, `devices .. new` as it left them.
+    //
+    // Where the job is done and all disks tell, `out` took the text of what its statements print when they run one after another
+    // on plain arrays, or its summary, and behind it that of the trace where it is asked for, whatever workers, nodes and policy
+    // are asked for, and however the workers' turns fell; a front of it where `out` failed.
     ensures printed { Prints (texts words.now)
         (devices S.Source O.Sink D.Disk source.old out.old disks.items)
         (devices S.Source O.Sink D.Disk source.new out.new result.disks.items)
@@ -327,16 +331,16 @@ where
     ensures reads_nothing { reads_source (options_of (texts words.now)) ≡ false →
         source.new ≡ source.old }
 
-    // `out` isn't called before all was run, nor where there is nothing to write.
+    // `out` is as it was at every end but Done and SinkFault, and there too where there is nothing to write.
     ensures out_stays { WritesNothing (texts words.now)
         (devices S.Source O.Sink D.Disk source.old out.old disks.items) result.status →
         out.new ≡ out.old }
 
-    // `err` takes the status's line, and nothing where the job is done.
+    // `err` takes the status's line, or a front of it where `err` fails; and nothing where the job is done.
     ensures err_takes_the_line { TakesLine
         (seen E.taken E.faults err.old) (seen E.taken E.faults err.new) (line_of result.status) }
 
-    // The disks come back, and before the run begins no call of them is made but that of their sizes.
+    // The disks come back in their order, no count lower; where the run never began each is as it was.
     ensures disks_come_back { ComeBack D.Disk disks.items result.disks.items result.status }
 {
     let outcome = answer_words(rt, alloc, words, source, out, disks, gate);
