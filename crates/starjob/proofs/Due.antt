@@ -1,5 +1,5 @@
 -- The status that is due comes, unless memory runs out.
-use Rattle.std.proofs.Common.{◌≡◌, ◌⊎◌, inl, inr, ℕ, refl, ap, sym, subst, ◌∙◌, arith, Option, Some, None, Result, Ok, Err, List}
+use Rattle.std.proofs.Common.{◌≡◌, ◌<◌, ◌≤◌, ◌⊎◌, tt, inl, inr, ℕ, refl, ap, sym, subst, ◌∙◌, arith, Option, Some, None, Result, Ok, Err, List}
 use Rattle.std.specs.Prelude.{option_map}
 use Rattle.std.proofs.lemmas.Option.{same_Some}
 use Rattle.sj_base.specs.declared.ids.Line.{Line}
@@ -21,13 +21,20 @@ use Rattle.sj_words.specs.declared.options.Options.{Options}
 use Rattle.starjob.specs.declared.status.Status.{Status}
 use Rattle.starjob.specs.declared.status.Status.TheVariants.{Done, Usage, Refused, TooLarge, SwapTooSmall, DiskFault, Damaged, SourceFault, SinkFault, OutOfMemory}
 use Rattle.starjob.specs.Device.{Devices, NeverFailed, in_use}
-use Rattle.starjob.specs.Top.{HasCause, IsDue, NothingFailed}
+use Rattle.starjob.specs.Top.{HasCause, IsDue, IsSilent, NothingFailed}
 use Rattle.starjob.specs.Work.{Asked, Unaccepted, Untold, Told, IfAsked, IsToldAnd, asked_through, job_by, reads_source, told}
 
 the : (X : Type 0) → X → X
 the X x = x
 
 -- ---- one cause excludes the others
+
+-- a count that stayed isn't greater
+stayed : {n m : ℕ} → n ≡ m → m < n → ⊥
+stayed e less = omega (arith, e, less)
+
+below : {n m : ℕ} → n ≤ m → m < n → ⊥
+below le less = omega (arith, le, less)
 
 -- what has room lacks nothing
 roomy : (w : Work) (what : Shortage) → (what ≡ fitting.OutOfMemory → ⊥) → HasRoom w → IsShortage (program_of w) w.machine what → ⊥
@@ -129,6 +136,32 @@ module _ {D : Type 0} {disk : DiskOf D} (before after : Devices disk) (trace : L
     done-comes (TooLarge line bytes) room a well = absurd (no-room-large w line bytes a.cause room)
     done-comes (SwapTooSmall needed have) room a well = absurd (no-room-swap w needed have a.cause room)
 
+  -- a source that failed ends the call, and a sink that failed
+  module _ (asked : Asked) where
+    source-comes : (status : Status) → HasCause asked before after trace status → (asked ≡ Unaccepted → NeverFailed before.source after.source) → before.source.faults < after.source.faults → IsOr status SourceFault
+    source-comes SourceFault a unread rose = inl refl
+    source-comes OutOfMemory a unread rose = inr refl
+    source-comes Usage a unread rose = absurd (unread a.cause (λ le. absurd (below le rose)))
+    source-comes Done a unread rose = absurd (stayed a.run.read.never_failed rose)
+    source-comes (Refused line reason) a unread rose = absurd (stayed a.nothing_ran.read.never_failed rose)
+    source-comes (TooLarge line bytes) a unread rose = absurd (stayed a.nothing_ran.read.never_failed rose)
+    source-comes (SwapTooSmall needed have) a unread rose = absurd (stayed a.nothing_ran.read.never_failed rose)
+    source-comes (DiskFault number) a unread rose = absurd (stayed a.run.read.never_failed rose)
+    source-comes (Damaged number want found) a unread rose = absurd (stayed a.run.read.never_failed rose)
+    source-comes SinkFault a unread rose = absurd (stayed a.run.read.never_failed rose)
+
+    sink-comes : (status : Status) → HasCause asked before after trace status → (IsSilent asked status → after.out.faults ≡ before.out.faults) → before.out.faults < after.out.faults → IsOr status SinkFault
+    sink-comes SinkFault a quiet rose = inl refl
+    sink-comes Done a quiet rose = absurd (stayed a.out_never_failed rose)
+    sink-comes OutOfMemory a quiet rose = absurd (stayed (quiet tt) rose)
+    sink-comes Usage a quiet rose = absurd (stayed (quiet tt) rose)
+    sink-comes (Refused line reason) a quiet rose = absurd (stayed (quiet tt) rose)
+    sink-comes (TooLarge line bytes) a quiet rose = absurd (stayed (quiet tt) rose)
+    sink-comes (SwapTooSmall needed have) a quiet rose = absurd (stayed (quiet tt) rose)
+    sink-comes (DiskFault number) a quiet rose = absurd (stayed (quiet tt) rose)
+    sink-comes (Damaged number want found) a quiet rose = absurd (stayed (quiet tt) rose)
+    sink-comes SourceFault a quiet rose = absurd (stayed (quiet tt) rose)
+
   -- ---- by the status that is due
 
   module _ (status : Status) where
@@ -142,19 +175,19 @@ module _ {D : Type 0} {disk : DiskOf D} (before after : Devices disk) (trace : L
     abbrev Caused : Asked → Type 0
     Caused asked = HasCause asked before after trace status
 
-    pub due-comes : (asked : Asked) → Caused asked → (asked ≡ Unaccepted → NeverFailed before.source after.source) → (due : Status) → IsDue asked before after due → IsOr status due
-    due-comes asked a unread Usage is = usage-comes status (subst Caused is a) (unread is)
-    due-comes asked a unread (Refused line reason) is = refusal-comes (record { line = line; reason = reason }) status (subst Caused is.0 a) is.1
-    due-comes asked a unread (TooLarge line bytes) is =
+    pub due-comes : (asked : Asked) → Caused asked → (asked ≡ Unaccepted → NeverFailed before.source after.source) → (IsSilent asked status → after.out.faults ≡ before.out.faults) → (due : Status) → IsDue asked before after due → IsOr status due
+    due-comes asked a unread quiet Usage is = usage-comes status (subst Caused is a) (unread is)
+    due-comes asked a unread quiet (Refused line reason) is = refusal-comes (record { line = line; reason = reason }) status (subst Caused is.0 a) is.1
+    due-comes asked a unread quiet (TooLarge line bytes) is =
         of-told asked (λ w. IsTooLarge (program_of w) w.machine line bytes) (TooLarge line bytes) is.0 (λ w h b. large-comes w line bytes status h b is.1) a
-    due-comes asked a unread (SwapTooSmall needed have) is =
+    due-comes asked a unread quiet (SwapTooSmall needed have) is =
         of-told asked (λ w. IsSwapTooSmall (program_of w) w.machine needed have) (SwapTooSmall needed have) is.0 (λ w h b. swap-comes w needed have status h b is.1) a
-    due-comes asked a unread Done is = of-told asked HasRoom Done is.0 (λ w h b. done-comes w status h b is.1) a
-    due-comes asked a unread (DiskFault number) is = absurd is
-    due-comes asked a unread (Damaged number want found) is = absurd is
-    due-comes asked a unread SourceFault is = absurd is
-    due-comes asked a unread SinkFault is = absurd is
-    due-comes asked a unread OutOfMemory is = absurd is
+    due-comes asked a unread quiet Done is = of-told asked HasRoom Done is.0 (λ w h b. done-comes w status h b is.1) a
+    due-comes asked a unread quiet (DiskFault number) is = absurd is
+    due-comes asked a unread quiet (Damaged number want found) is = absurd is
+    due-comes asked a unread quiet SourceFault is = source-comes asked status a unread is
+    due-comes asked a unread quiet SinkFault is = sink-comes asked status a quiet is
+    due-comes asked a unread quiet OutOfMemory is = absurd is
 
 -- ---- no source is read for words that aren't accepted
 

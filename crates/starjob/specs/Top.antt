@@ -1,5 +1,5 @@
 -- What the program's call promises: what it prints, what each status means, and which status comes.
-use Rattle.std.specs.Prelude.{◌≡◌, ◌≢◌, ◌⊎◌, ℕ, Bool, false, Err, List, [], ◌++◌, if◌then◌else◌, map}
+use Rattle.std.specs.Prelude.{◌≡◌, ◌≢◌, ◌<◌, ◌⊎◌, ℕ, Bool, false, Err, List, [], ◌++◌, if◌then◌else◌, map}
 use Rattle.std.specs.Io.KnownBytes.{Appends, IsAtEnd}
 use Rattle.sj_base.specs.declared.ids.DiskNo.{DiskNo}
 use Rattle.sj_base.specs.declared.ids.Line.{Line}
@@ -151,14 +151,16 @@ module _ {D : Type 0} {disk : DiskOf D} (asked : Asked) (before after : Devices 
   abbrev IsReadAnd : (Work → Type 0) → Type 0
   IsReadAnd P = IsToldAnd asked P × NeverFailed before.source after.source
 
-  -- the status that is due, by what is asked for, where devices didn't fail. The table names no fault of a device; but by the
-  -- records above a source that failed leaves SourceFault alone, since all others but that of Usage say that it never failed
+  -- the status that is due: by what is asked for, where devices didn't fail, and where the count of a source's or a sink's faults
+  -- is greater. A disk's fault is never due, nor is want of memory
   abbrev pub IsDue : Status → Type 0
   IsDue Usage = asked ≡ Unaccepted
   IsDue (Refused line reason) = (asked ≡ Told (Err (record { line = line; reason = reason }))) × NeverFailed before.source after.source
   IsDue (TooLarge line bytes) = IsReadAnd (λ w. IsTooLarge (program_of w) w.machine line bytes)
   IsDue (SwapTooSmall needed have) = IsReadAnd (λ w. IsSwapTooSmall (program_of w) w.machine needed have)
   IsDue Done = IsToldAnd asked HasRoom × NothingFailed before after
+  IsDue SourceFault = before.source.faults < after.source.faults
+  IsDue SinkFault = before.out.faults < after.out.faults
   IsDue _ = ⊥
 
 -- ---- what stays

@@ -1,4 +1,4 @@
-use Rattle.std.proofs.Common.{map, Result}
+use Rattle.std.proofs.Common.{ap, map, Result}
 use Rattle.sj_meaning.specs.Job.{Job}
 use Rattle.sj_job.specs.Reading.{Refusal}
 use Rattle.sj_ready.specs.Work.{WorkOrRefusal, asked_by}
@@ -18,4 +18,5 @@ returns-clause-complete g c = λ due is.
     let before = devices g.S.Source g.O.Sink g.D.Disk c.args.source.now c.args.out.now c.args.disks.items in
     let after = devices g.S.Source g.O.Sink g.D.Disk c.answer_words-outcome.new.source c.answer_words-outcome.new.out c.answer_words-outcome.result.disks.items in
     due-comes (in_use (reads_source o) before) (in_use (reads_source o) after) c.answer_words-outcome.result.trace.events c.answer_words-outcome.result.status
-    (asked_through reading o left) c.answer_words-outcome.ensures.answered (unread-stays o reading left before after) due is
+    (asked_through reading o left) c.answer_words-outcome.ensures.answered (unread-stays o reading left before after)
+    (λ silent. ap g.O.Sink.faults (c.answer_words-outcome.ensures.out_stays silent)) due is
