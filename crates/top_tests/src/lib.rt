@@ -1,5 +1,5 @@
-//! Whole jobs by the top call, with devices and disks in memory and refused calls: what is printed, answered, and seen of a run from
-//! outside. Tests alone, since the top call's crate would be proved twice if it had tests of its own.
+//! Whole jobs by the top call, with devices and disks in memory and refused calls: what is printed and answered, and what is seen
+//! of a run from outside. Tests alone: the top call's crate would be proved twice if it had tests of its own.
 #![tactic(auto)]
 
 #[cfg(test)]
