@@ -9,6 +9,8 @@ mod tests;
 #[cfg(test)]
 mod tests_of_contributions;
 #[cfg(test)]
+mod tests_of_devices;
+#[cfg(test)]
 mod tests_of_machines;
 #[cfg(test)]
 mod tests_of_plans;
