@@ -3,8 +3,6 @@
 ghost use Rattle.std.specs.Prelude.{◌≡◌, ◌≤◌, ◌^◌, IfOk, length};
 ghost use Rattle.sj_edge.specs.Sizes.{AreWithin};
 
-use sj_top::status::Status;
-use sj_top::top::{AnyDisk, Outcome, starjob};
 use sj_base::memory::OutOfMemory;
 use sj_edge::disk::{Disk, add_disk};
 use sj_edge::gate::{Gate, OpenGate};
@@ -13,6 +11,8 @@ use sj_edge::memory_sink::MemSink;
 use sj_edge::memory_source::MemSource;
 use sj_edge::sink::Sink;
 use sj_edge::source::Source;
+use sj_top::status::Status;
+use sj_top::top::{AnyDisk, Outcome, starjob};
 use std::alloc::Global;
 use std::fmt::Debug;
 use std::process::Abort;

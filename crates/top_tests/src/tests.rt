@@ -1,6 +1,5 @@
 //! Whole jobs, from bytes to bytes.
 
-use sj_top::status::Status;
 use crate::test_calls::{
     Printing, Refusal, SUM, all_are_refused, all_print, answer_on, answer_to, bytes, call, calls,
     is_answered, memory, same, whole,
@@ -13,6 +12,7 @@ use sj_edge::memory_sink::MemSink;
 use sj_edge::memory_source::MemSource;
 use sj_edge::sure::{SureSink, SureSource};
 use sj_job::reason::{LimitKind, Reason};
+use sj_top::status::Status;
 use std::test::Fail;
 
 const PRINTINGS: [Printing; 30] = [

@@ -1,8 +1,8 @@
 //! Whole jobs whose tasks contribute to an array or change places, by several numbers of workers.
 
-use sj_top::status::Status;
 use crate::test_calls::{Printing, all_print, answer_on, is_answered, whole};
 use sj_edge::gate::OpenGate;
+use sj_top::status::Status;
 use std::alloc::Global;
 use std::process::Abort;
 use std::sync::Wait;

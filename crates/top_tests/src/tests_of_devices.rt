@@ -4,10 +4,8 @@ ghost use Rattle.std.specs.Prelude.{◌≡◌, ◌+◌, ◌≤◌, ◌^◌, IfOk
 ghost use Rattle.sj_edge.specs.Faults.{last_count};
 ghost use Rattle.sj_edge.specs.Sizes.{AreWithin};
 
-use sj_top::status::Status;
 use crate::test_calls::{SUM, answer_on, bytes, call, calls, is_answered, memory, one, same};
 use crate::tests_of_machines::{ROUND, ROUND_OUT, ROUND_SWAP};
-use sj_top::top::AnyDisk;
 use sj_base::ids::DiskNo;
 use sj_base::memory::OutOfMemory;
 use sj_edge::disk::{CheckFault, Disk, add_disk};
@@ -18,6 +16,8 @@ use sj_edge::memory_sink::MemSink;
 use sj_edge::memory_source::MemSource;
 use sj_edge::sink::Sink;
 use sj_edge::source::{Failed, Source};
+use sj_top::status::Status;
+use sj_top::top::AnyDisk;
 use std::alloc::Global;
 use std::fs;
 use std::fs::File;

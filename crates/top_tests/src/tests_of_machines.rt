@@ -1,10 +1,10 @@
 //! Whole jobs on machines: workers, policies, nodes that their tasks just fit, and disks for what doesn't fit them.
 
-use sj_top::status::Status;
 use crate::test_calls::{answer_on, is_answered, same, whole};
 use sj_base::ids::{Cell, DiskNo, Line, Node, Place, Task, Worker};
 use sj_base::trace::Event;
 use sj_edge::gate::{Gate, OpenGate};
+use sj_top::status::Status;
 use std::alloc::Global;
 use std::process::Abort;
 use std::sync::Wait;

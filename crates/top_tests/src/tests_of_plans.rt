@@ -1,10 +1,10 @@
 //! Whole jobs over partition plans, from bytes to bytes, and the limits that are counted in lowering.
 
-use sj_top::status::Status;
 use crate::test_calls::{
     Answer, Printing, Refusal, all_are_refused, all_print, answer_on, same, whole,
 };
 use sj_edge::gate::OpenGate;
+use sj_top::status::Status;
 use std::alloc::Global;
 use std::process::Abort;
 use std::sync::Wait;

@@ -1,8 +1,8 @@
 //! Whole jobs whose printed arrays are summed up.
 
-use sj_top::status::Status;
 use crate::test_calls::{DISK, answer_on, is_answered, whole};
 use sj_edge::gate::OpenGate;
+use sj_top::status::Status;
 use std::alloc::Global;
 use std::process::Abort;
 use std::sync::Wait;

@@ -3,8 +3,6 @@
 ghost use Rattle.std.specs.Prelude.{◌≡◌, ◌≤◌, ◌^◌, Some, length};
 ghost use Rattle.sj_ready.specs.Ready.{HasOwnCodelets};
 
-use sj_top::running::{Run, run_input};
-use sj_top::status::Status;
 use crate::test_calls::{DISK, answer_on, is_answered, memory, only, same, whole};
 use crate::tests_of_machines::ROUND_SWAP;
 use sj_base::ids::{Cell, DiskNo, Node, Place, Task};
@@ -17,6 +15,8 @@ use sj_edge::source::Failed;
 use sj_kernels::ring::Ring;
 use sj_minplus::library::Library;
 use sj_ready::input::Input;
+use sj_top::running::{Run, run_input};
+use sj_top::status::Status;
 use sj_words::read_words;
 use std::alloc::Global;
 use std::process::Abort;
