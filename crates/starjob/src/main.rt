@@ -1,37 +1,12 @@
 //! `starjob`: reads a job text, runs its tasks, and prints the arrays asked for.
 #![tactic(auto)]
 
-mod gathering;
 mod numbers;
-mod output;
 mod patient;
 mod remark;
-mod report;
 mod room;
-mod running;
-mod sink_text;
-mod source_text;
-mod status;
-mod stop;
 mod swap;
 mod tally;
-#[cfg(test)]
-mod test_calls;
-#[cfg(test)]
-mod tests;
-#[cfg(test)]
-mod tests_of_contributions;
-#[cfg(test)]
-mod tests_of_machines;
-#[cfg(test)]
-mod tests_of_plans;
-#[cfg(test)]
-mod tests_of_summaries;
-#[cfg(test)]
-mod tests_of_threads;
-#[cfg(test)]
-mod tests_of_trouble;
-mod top;
 mod watch;
 mod word_at_fault;
 
@@ -41,9 +16,7 @@ ghost use Rattle.sj_edge.specs.Sizes.{AreWithin};
 use numbers::{STDERR, STDOUT, occupy_streams};
 use patient::Patient;
 use remark::{no_swap, remark, write_remark};
-use report::report;
 use room::{BoundedSink, room_of};
-use sink_text::write_text;
 use sj_base::ids::DiskNo;
 use sj_edge::disk::{Disk, add_disk};
 use sj_edge::file_disk::FileDisk;
@@ -52,8 +25,11 @@ use sj_edge::memory_sink::MemSink;
 use sj_edge::sink::Sink;
 use sj_edge::source::Source;
 use sj_edge::standard::{StdSink, StdSource};
+use sj_top::report::report;
+use sj_top::sink_text::write_text;
+use sj_top::status::Status;
+use sj_top::top::{AnyDisk, starjob};
 use sj_words::{SwapWish, swap_wish};
-use status::Status;
 use std::alloc::Global;
 use std::io::{Error, ErrorKind, IsTerminal};
 use std::process::ExitCode;
@@ -63,7 +39,6 @@ use std::thread::{JoinHandle, Threads};
 use std::{env, thread};
 use swap::open_swap;
 use tally::{Tally, TallyDisk, TallyGate};
-use top::{AnyDisk, starjob};
 use watch::{ErasingSink, Watch};
 
 /// The most bytes that a disk may have.

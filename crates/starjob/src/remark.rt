@@ -1,9 +1,9 @@
 //! The one further line that the program may write on standard error, before the status's own.
 
-use crate::sink_text::write_text;
-use crate::status::Status;
 use crate::word_at_fault::{Fault, FaultyWord, Value, word_at_fault};
 use sj_edge::sink::Sink;
+use sj_top::sink_text::write_text;
+use sj_top::status::Status;
 use sj_words::{SwapWish, swap_wish};
 use std::alloc::{AllocError, Global};
 use std::fmt;

@@ -9,9 +9,9 @@ pub enum Value {
     Problem,
 }
 
-/// What a name asks for.
+/// What has to stand behind a name.
 #[derive(Clone, Copy, Debug, PartialEq, Eq)]
-enum Asked {
+enum Behind {
     Nothing,
     Value(Value),
 }
@@ -46,21 +46,21 @@ pub struct FaultyWord {
     pub fault: Fault,
 }
 
-fn number(least: u64, greatest: u64) -> Option<Asked> {
-    Some(Asked::Value(Value::Number { least, greatest }))
+fn number(least: u64, greatest: u64) -> Option<Behind> {
+    Some(Behind::Value(Value::Number { least, greatest }))
 }
 
-/// What a name asks for, where it is one that the usage line has.
-fn asked_by(name: &str) -> Option<Asked> {
+/// What has to stand behind a name, where it is one that the usage line has.
+fn behind(name: &str) -> Option<Behind> {
     match name {
-        "trace" | "summary" => Some(Asked::Nothing),
+        "trace" | "summary" => Some(Behind::Nothing),
         "workers" => number(1, 64),
         "node" => number(8, 1 << 40),
         "nodes" => number(1, 16),
         "swap-size" => number(0, 1 << 40),
-        "sched" => Some(Asked::Value(Value::Policy)),
-        "swap" => Some(Asked::Value(Value::Path)),
-        "app" => Some(Asked::Value(Value::Problem)),
+        "sched" => Some(Behind::Value(Value::Policy)),
+        "swap" => Some(Behind::Value(Value::Path)),
+        "app" => Some(Behind::Value(Value::Problem)),
         "n" | "tile" => number(1, 2048),
         "seed" => number(0, 999_999_999),
         _ => None,
@@ -107,15 +107,15 @@ fn is_value(text: &str, value: Value) -> bool {
 /// What the word behind this one has to be, where this is the name of an option or of the flag.
 fn judge_name(before: &[String], word: &str) -> Result<Option<Value>, Fault> {
     let (name, value) = named(word).ok_or(Fault::NoOption)?;
-    let asked = asked_by(name).ok_or(Fault::NoOption)?;
+    let wanted = behind(name).ok_or(Fault::NoOption)?;
     if before.iter().any(|earlier| says(earlier.as_str(), name)) {
         return Err(Fault::Twice);
     }
-    match (asked, value) {
-        (Asked::Nothing, None) => Ok(None),
-        (Asked::Nothing, Some(_)) => Err(Fault::TakesNoValue),
-        (Asked::Value(wanted), None) => Ok(Some(wanted)),
-        (Asked::Value(wanted), Some(value)) => judge_value(value, wanted),
+    match (wanted, value) {
+        (Behind::Nothing, None) => Ok(None),
+        (Behind::Nothing, Some(_)) => Err(Fault::TakesNoValue),
+        (Behind::Value(kind), None) => Ok(Some(kind)),
+        (Behind::Value(kind), Some(value)) => judge_value(value, kind),
     }
 }
 

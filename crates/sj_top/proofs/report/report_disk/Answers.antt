@@ -1,0 +1,12 @@
+use Rattle.std.proofs.Common.{ap, subst, List, ℕ, [], ◌∷◌, ◌∙◌}
+use Rattle.std.specs.Prelude.{codes}
+use Rattle.sj_top.specs.Device.{seen}
+use Rattle.sj_top.specs.Report.{TakesLine, in_a_row}
+use Rattle.sj_top.proofs.report.report_disk.Goals as goal
+
+pub returns : goal.returns
+returns g c =
+    let number = c.as_bytes-number.ensures.value ∙ c.format.ensures.text in
+    subst (λ (l : List ℕ). TakesLine (seen g.E.Sink.taken g.E.Sink.faults c.args.err.now) (seen g.E.Sink.taken g.E.Sink.faults c.write_line_of.new.err) l)
+    (ap (λ (n : List ℕ). in_a_row (codes "starjob: disk " ∷ n ∷ codes " failed\n" ∷ [])) number)
+    c.write_line_of.ensures
