@@ -1,5 +1,5 @@
 -- The status that is due comes, unless memory runs out.
-use Rattle.std.proofs.Common.{◌≡◌, ◌<◌, ◌≤◌, ◌⊎◌, tt, inl, inr, ℕ, refl, ap, sym, subst, ◌∙◌, arith, Option, Some, None, Result, Ok, Err, List}
+use Rattle.std.proofs.Common.{◌≡◌, ◌<◌, ◌≤◌, ◌⊎◌, inl, inr, ℕ, refl, ap, sym, subst, ◌∙◌, arith, Option, Some, None, Result, Ok, Err, List}
 use Rattle.std.specs.Prelude.{option_map}
 use Rattle.std.proofs.lemmas.Option.{same_Some}
 use Rattle.sj_base.specs.declared.ids.Line.{Line}
@@ -18,19 +18,11 @@ use Rattle.sj_needs.specs.declared.shortage.Shortage.TheVariants as fitting
 use Rattle.sj_ready.proofs.Fitting.{room-no-shortage, too-large-fits}
 use Rattle.sj_ready.specs.Work.{HasRoom, Work, WorkOrRefusal, program_of}
 use Rattle.sj_words.specs.declared.options.Options.{Options}
-<<<<<<< HEAD:crates/starjob/proofs/Due.antt
-use Rattle.starjob.specs.declared.status.Status.{Status}
-use Rattle.starjob.specs.declared.status.Status.TheVariants.{Done, Usage, Refused, TooLarge, SwapTooSmall, DiskFault, Damaged, SourceFault, SinkFault, OutOfMemory}
-use Rattle.starjob.specs.Device.{Devices, NeverFailed, in_use}
-use Rattle.starjob.specs.Top.{HasCause, IsDue, IsSilent, NothingFailed}
-use Rattle.starjob.specs.Work.{Asked, Unaccepted, Untold, Told, IfAsked, IsToldAnd, asked_through, job_by, reads_source, told}
-=======
 use Rattle.sj_top.specs.declared.status.Status.{Status}
 use Rattle.sj_top.specs.declared.status.Status.TheVariants.{Done, Usage, Refused, TooLarge, SwapTooSmall, DiskFault, Damaged, SourceFault, SinkFault, OutOfMemory}
 use Rattle.sj_top.specs.Device.{Devices, NeverFailed, in_use}
-use Rattle.sj_top.specs.Top.{HasCause, IsDue, NothingFailed}
+use Rattle.sj_top.specs.Top.{HasCause, IsDue, IsSilent, NothingFailed}
 use Rattle.sj_top.specs.Work.{Asked, Unaccepted, Untold, Told, IfAsked, IsToldAnd, asked_through, job_by, reads_source, told}
->>>>>>> a53178f32b666d6c1d2bbf68db39eefe9c287d24:crates/sj_top/proofs/Due.antt
 
 the : (X : Type 0) → X → X
 the X x = x
