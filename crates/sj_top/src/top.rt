@@ -316,14 +316,15 @@ where
 
     // Each status that comes has its cause: in the words, the job or the disks' sizes, or in a device that failed in this call.
     // Want of memory alone needs none.
-    ensures answered { Answers (texts words.now)
+    ensures status_has_its_cause { Answers (texts words.now)
         (devices S.Source O.Sink D.Disk source.old out.old disks.items)
         (devices S.Source O.Sink D.Disk source.new out.new result.disks.items)
         result.status result.trace.events }
 
     // Each status that is due comes, unless memory runs out: Usage where the words aren't accepted; Refused, TooLarge or
-    // SwapTooSmall where that is so of the job, and the source doesn't fail; Done where none of these is, and nothing fails.
-    ensures complete { WhatIsDueComes (texts words.now)
+    // SwapTooSmall where that is so of the job, and the source doesn't fail; Done where none of these is, and nothing fails;
+    // SourceFault and SinkFault where the device's count of faults is greater than it was.
+    ensures due_status_comes { WhatIsDueComes (texts words.now)
         (devices S.Source O.Sink D.Disk source.old out.old disks.items)
         (devices S.Source O.Sink D.Disk source.new out.new result.disks.items) result.status }
 

@@ -10,8 +10,8 @@ use Rattle.sj_top.specs.Work.{asked_through, reads_source}
 use Rattle.sj_top.proofs.Due.{due-comes, unread-stays}
 use Rattle.sj_top.proofs.top.starjob.Goals as goal
 
-pub returns-clause-complete : goal.returns-clause-complete
-returns-clause-complete g c = λ due is.
+pub returns-clause-due_status_comes : goal.returns-clause-due_status_comes
+returns-clause-due_status_comes g c = λ due is.
     let o = options (texts c.args.words.now) in
     let reading : Options → Result Job Refusal → WorkOrRefusal = λ o. asked_by o (map g.D.Disk.size c.args.disks.items) in
     let left = g.S.Source.left c.args.source.now in
