@@ -85,12 +85,13 @@ const BLOCK: u64 = 48;
 
 const NAMED: u32 = 49;
 
-/// A disk with its name behind the block for which it has room.
+/// A disk with its name behind the block for which it has room, where it has room for both.
 fn named<D: Disk>(mut disk: D, name: u8) -> D
-    requires room { 49 ≤ D.size disk }
     ensures size { D.size result ≡ D.size disk }
 {
-    let _ = disk.write(BLOCK, &[name]);
+    if disk.size() > BLOCK {
+        let _ = disk.write(BLOCK, &[name]);
+    }
     disk
 }
 
