@@ -4,7 +4,9 @@ ghost use Rattle.std.specs.Prelude.{◌≡◌, ◌+◌, ◌≤◌, ◌^◌, IfOk
 ghost use Rattle.sj_edge.specs.Faults.{last_count};
 ghost use Rattle.sj_edge.specs.Sizes.{AreWithin};
 
-use crate::test_calls::{SUM, answer_on, bytes, call, calls, is_answered, memory, one, same};
+use crate::test_calls::{
+    Answer, SUM, answer_on, bytes, call, calls, is_answered, memory, one, same,
+};
 use crate::tests_of_machines::{ROUND, ROUND_OUT, ROUND_SWAP};
 use sj_base::ids::DiskNo;
 use sj_base::memory::OutOfMemory;
@@ -17,7 +19,7 @@ use sj_edge::memory_source::MemSource;
 use sj_edge::sink::Sink;
 use sj_edge::source::{Failed, Source};
 use sj_top::status::Status;
-use sj_top::top::AnyDisk;
+use sj_top::top::{AnyDisk, Outcome};
 use std::alloc::Global;
 use std::fs;
 use std::fs::File;
@@ -83,12 +85,13 @@ const BLOCK: u64 = 48;
 
 const NAMED: u32 = 49;
 
-/// A disk with its name behind the block for which it has room.
+/// A disk with its name behind the block for which it has room, where it has room for both.
 fn named<D: Disk>(mut disk: D, name: u8) -> D
-    requires room { 49 ≤ D.size disk }
     ensures size { D.size result ≡ D.size disk }
 {
-    let _ = disk.write(BLOCK, &[name]);
+    if disk.size() > BLOCK {
+        let _ = disk.write(BLOCK, &[name]);
+    }
     disk
 }
 
@@ -161,9 +164,12 @@ fn ends_on_disk<R: Threads + Wait + Sync>(
     let words = ["--node", "48"];
     let inner = memory(alloc, ROUND_SWAP, &[refused])?;
     let disks = one(alloc, Box::new(alloc, Worn { inner })?)?;
-    let first = answer_on(rt, alloc, &words, ROUND.as_bytes(), disks, &OpenGate)?;
-    let mut disks = first.outcome.disks;
-    let status = first.outcome.status;
+    let Answer { outcome, .. } = answer_on(rt, alloc, &words, ROUND.as_bytes(), disks, &OpenGate)?;
+    let Outcome {
+        status,
+        mut disks,
+        ..
+    } = outcome;
     let Some(disk) = disks.pop() else {
         return Ok((status, None));
     };
