@@ -9,17 +9,18 @@ use sj_edge::memory_disk::MemDisk;
 use sj_edge::source::Failed;
 use std::sync::atomic::{AtomicU64, Ordering};
 use std::thread;
+use std::time::{Clock, Duration};
 
-/// How often a thread looks for what it waits for.
-const LOOKS: u32 = 4_000_000;
+/// How often a thread looks for what it waits for, a millisecond from one look to the next.
+const LOOKS: u32 = 10_000;
 
-/// Waits until a number is as high as this. Whether it is by then.
-fn has_come(number: &AtomicU64, wanted: u64) -> bool {
+/// Waits until a number is as high as this, for some ten seconds. Whether it is by then.
+fn has_come<R: Clock>(rt: &R, number: &AtomicU64, wanted: u64) -> bool {
     for _ in 0..LOOKS {
         if number.load(Ordering::SeqCst) >= wanted {
             return true;
         }
-        thread::yield_now();
+        thread::sleep(rt, Duration::from_millis(1));
     }
     false
 }
@@ -45,6 +46,7 @@ impl Begun {
 /// Keeps the first task inside until a transfer has begun.
 #[derive(Drop)]
 pub struct FirstWaits<'a> {
+    pub rt: HostRuntime,
     pub begun: &'a Begun,
 }
 
@@ -52,7 +54,7 @@ impl Gate for FirstWaits<'_> {
     fn entered(&self, task: Task) {
         self.begun.kernels.fetch_add(1, Ordering::SeqCst);
         if task == Task(0) {
-            has_come(&self.begun.transfers, 1);
+            has_come(&self.rt, &self.begun.transfers, 1);
         }
     }
 
@@ -78,6 +80,7 @@ pub enum Held {
 /// A disk in memory whose first write, or first read, waits.
 #[derive(Drop)]
 pub struct HeldDisk<'a> {
+    pub rt: HostRuntime,
     pub begun: &'a Begun,
     pub disk: MemDisk,
     pub held: Held,
@@ -97,8 +100,8 @@ impl HeldDisk<'_> {
         let kernels = self.begun.kernels.load(Ordering::SeqCst);
         self.begun.transfers.fetch_add(1, Ordering::SeqCst);
         let came = match self.until {
-            Until::Kernels(count) => has_come(&self.begun.kernels, kernels.saturating_add(count)),
-            Until::Transfers(count) => has_come(&self.begun.transfers, count),
+            Until::Kernels(count) => has_come(&self.rt, &self.begun.kernels, kernels.saturating_add(count)),
+            Until::Transfers(count) => has_come(&self.rt, &self.begun.transfers, count),
         };
         self.came = Some(came);
     }

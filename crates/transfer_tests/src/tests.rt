@@ -22,7 +22,7 @@ const APART_SWAP: u32 = 1024;
 
 /// A disk in memory whose first call of a kind waits.
 fn held<'a>(
-    alloc: Global,
+    rt: &HostRuntime,
     begun: &'a Begun,
     size: u32,
     held: Held,
@@ -30,7 +30,9 @@ fn held<'a>(
 ) -> Result<HeldDisk<'a>, OutOfMemory>
     ensures { IfOk result (λ d. length d.disk.bytes ≤ 2 ^ 40) }
 {
+    let alloc = rt.alloc();
     Ok(HeldDisk {
+        rt: *rt,
         begun,
         disk: MemDisk::new(alloc, size as u64, Vec::new(alloc))?,
         held,
@@ -49,17 +51,15 @@ fn is_met<R: Abort>(rt: &R, run: &RunOutcome<HeldDisk>) {
 
 /// Fails unless three kernels more begin while a disk makes its first call of a kind. The second worker is inside of the first task
 /// until then, and has three tasks more after it, each of them in turns of its own.
-fn kernels_begin_beside<R: Threads + Wait + Sync + Abort>(
-    rt: &R,
-    alloc: Global,
-    call: Held,
-) -> Result<(), Fail> {
+fn kernels_begin_beside(rt: &HostRuntime, call: Held) -> Result<(), Fail> {
+    let alloc = rt.alloc();
     let begun = Begun::nothing();
-    let disks = one(
-        alloc,
-        held(alloc, &begun, APART_SWAP, call, Until::Kernels(3))?,
-    )?;
-    let gate = FirstWaits { begun: &begun };
+    let disk = held(rt, &begun, APART_SWAP, call, Until::Kernels(3))?;
+    let disks = one(alloc, disk)?;
+    let gate = FirstWaits {
+        rt: *rt,
+        begun: &begun,
+    };
     let run = run_text(rt, alloc, APART, disks, &Library, &gate)?;
     is_met(rt, &run);
     Ok(())
@@ -67,12 +67,12 @@ fn kernels_begin_beside<R: Threads + Wait + Sync + Abort>(
 
 #[test]
 fn kernels_begin_while_a_disk_is_written(rt: HostRuntime) -> Result<(), Fail> {
-    kernels_begin_beside(&rt, rt.alloc(), Held::Writes)
+    kernels_begin_beside(&rt, Held::Writes)
 }
 
 #[test]
 fn kernels_begin_while_a_disk_is_read(rt: HostRuntime) -> Result<(), Fail> {
-    kernels_begin_beside(&rt, rt.alloc(), Held::Reads)
+    kernels_begin_beside(&rt, Held::Reads)
 }
 
 /// Two workers, each with a node for two of these parts, of which the first has its block on the first disk, and the others on
@@ -88,14 +88,14 @@ fn two_disks_work_at_once(rt: HostRuntime) -> Result<(), Fail> {
     let alloc = rt.alloc();
     let begun = Begun::nothing();
     let first = held(
-        alloc,
+        &rt,
         &begun,
         BOTH_SWAPS[0],
         Held::Writes,
         Until::Transfers(2),
     )?;
     let second = held(
-        alloc,
+        &rt,
         &begun,
         BOTH_SWAPS[1],
         Held::Writes,
