@@ -100,7 +100,11 @@ impl HeldDisk<'_> {
         let kernels = self.begun.kernels.load(Ordering::SeqCst);
         self.begun.transfers.fetch_add(1, Ordering::SeqCst);
         let came = match self.until {
-            Until::Kernels(count) => has_come(&self.rt, &self.begun.kernels, kernels.saturating_add(count)),
+            Until::Kernels(count) => has_come(
+                &self.rt,
+                &self.begun.kernels,
+                kernels.saturating_add(count),
+            ),
             Until::Transfers(count) => has_come(&self.rt, &self.begun.transfers, count),
         };
         self.came = Some(came);

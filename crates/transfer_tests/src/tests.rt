@@ -49,8 +49,8 @@ fn is_met<R: Abort>(rt: &R, run: &RunOutcome<HeldDisk>) {
     }
 }
 
-/// Fails unless three kernels more begin while a disk makes its first call of a kind. The second worker is inside of the first task
-/// until then, and has three tasks more after it, each of them in turns of its own.
+/// Fails unless three kernels more begin while a disk makes its first call of a kind. The second worker is inside of the first
+/// task until then, and has three tasks more after it, each of them in turns of its own.
 fn kernels_begin_beside(rt: &HostRuntime, call: Held) -> Result<(), Fail> {
     let alloc = rt.alloc();
     let begun = Begun::nothing();
