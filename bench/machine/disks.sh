@@ -41,9 +41,10 @@ use sj_ready::ready::{Ready, prepare};
 use sj_words::{Options, read_words};
 use std::alloc::Global;
 use std::env;
+use std::fs::File;
 use std::io;
 use std::io::Read;
-use std::rt::Clock;
+use std::rt::{Clock, Files};
 use std::sync::Wait;
 use std::thread::Threads;
 use std::time::{Duration, Instant};
@@ -172,8 +173,10 @@ fn run_text<D: Disk + Send, R: Threads + Wait + Clock + Sync>(
 }
 
 // A file of the folder that the program is run in.
-fn timed(rt: &HostRuntime, text: Vec<u8>, has_four: bool) -> Option<Taken> {
-    let alloc = rt.alloc();
+fn timed<R>(rt: &R, alloc: Global, text: Vec<u8>, has_four: bool) -> Option<Taken>
+where
+    R: Files<File = File> + Threads + Wait + Clock + Sync,
+{
     if !has_four {
         let disks = one(alloc, FileDisk::at(rt, "disk", BLOCKS)).ok()?;
         return run_text(rt, alloc, text, disks);
@@ -194,7 +197,7 @@ fn main(rt: HostRuntime) -> io::Result<()> {
     let mut text = Vec::new(rt.alloc());
     rt.stdin().read_to_end(&mut text)?;
     let has_four = env::args(&rt)?.count() > 1;
-    match timed(&rt, text, has_four) {
+    match timed(&rt, rt.alloc(), text, has_four) {
         Some(Taken { time, is_done: true, transfers }) => println!(rt; "{} {transfers}", time.as_micros()),
         _ => println!(rt; "failed"),
     }

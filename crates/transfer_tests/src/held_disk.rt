@@ -15,12 +15,12 @@ use std::time::{Clock, Duration};
 const LOOKS: u32 = 10_000;
 
 /// Waits until a number is as high as this, for some ten seconds. Whether it is by then.
-fn has_come<R: Clock>(rt: &R, number: &AtomicU64, wanted: u64) -> bool {
+fn has_come<R: Clock>(clock: &R, number: &AtomicU64, wanted: u64) -> bool {
     for _ in 0..LOOKS {
         if number.load(Ordering::SeqCst) >= wanted {
             return true;
         }
-        thread::sleep(rt, Duration::from_millis(1));
+        thread::sleep(clock, Duration::from_millis(1));
     }
     false
 }
@@ -46,7 +46,7 @@ impl Begun {
 /// Keeps the first task inside until a transfer has begun.
 #[derive(Drop)]
 pub struct FirstWaits<'a> {
-    pub rt: HostRuntime,
+    pub clock: HostRuntime,
     pub begun: &'a Begun,
 }
 
@@ -54,7 +54,7 @@ impl Gate for FirstWaits<'_> {
     fn entered(&self, task: Task) {
         self.begun.kernels.fetch_add(1, Ordering::SeqCst);
         if task == Task(0) {
-            has_come(&self.rt, &self.begun.transfers, 1);
+            has_come(&self.clock, &self.begun.transfers, 1);
         }
     }
 
@@ -80,7 +80,7 @@ pub enum Held {
 /// A disk in memory whose first write, or first read, waits.
 #[derive(Drop)]
 pub struct HeldDisk<'a> {
-    pub rt: HostRuntime,
+    pub clock: HostRuntime,
     pub begun: &'a Begun,
     pub disk: MemDisk,
     pub held: Held,
@@ -101,11 +101,11 @@ impl HeldDisk<'_> {
         self.begun.transfers.fetch_add(1, Ordering::SeqCst);
         let came = match self.until {
             Until::Kernels(count) => has_come(
-                &self.rt,
+                &self.clock,
                 &self.begun.kernels,
                 kernels.saturating_add(count),
             ),
-            Until::Transfers(count) => has_come(&self.rt, &self.begun.transfers, count),
+            Until::Transfers(count) => has_come(&self.clock, &self.begun.transfers, count),
         };
         self.came = Some(came);
     }

@@ -22,7 +22,7 @@ const APART_SWAP: u32 = 1024;
 
 /// A disk in memory whose first call of a kind waits.
 fn held<'a>(
-    rt: &HostRuntime,
+    clock: &HostRuntime,
     begun: &'a Begun,
     size: u32,
     held: Held,
@@ -30,9 +30,9 @@ fn held<'a>(
 ) -> Result<HeldDisk<'a>, OutOfMemory>
     ensures { IfOk result (λ d. length d.disk.bytes ≤ 2 ^ 40) }
 {
-    let alloc = rt.alloc();
+    let alloc = clock.alloc();
     Ok(HeldDisk {
-        rt: *rt,
+        clock: *clock,
         begun,
         disk: MemDisk::new(alloc, size as u64, Vec::new(alloc))?,
         held,
@@ -51,13 +51,17 @@ fn is_met<R: Abort>(rt: &R, run: &RunOutcome<HeldDisk>) {
 
 /// Fails unless three kernels more begin while a disk makes its first call of a kind. The second worker is inside of the first
 /// task until then, and has three tasks more after it, each of them in turns of its own.
-fn kernels_begin_beside(rt: &HostRuntime, call: Held) -> Result<(), Fail> {
-    let alloc = rt.alloc();
+fn kernels_begin_beside<R: Threads + Wait + Sync + Abort>(
+    rt: &R,
+    clock: &HostRuntime,
+    call: Held,
+) -> Result<(), Fail> {
+    let alloc = clock.alloc();
     let begun = Begun::nothing();
-    let disk = held(rt, &begun, APART_SWAP, call, Until::Kernels(3))?;
+    let disk = held(clock, &begun, APART_SWAP, call, Until::Kernels(3))?;
     let disks = one(alloc, disk)?;
     let gate = FirstWaits {
-        rt: *rt,
+        clock: *clock,
         begun: &begun,
     };
     let run = run_text(rt, alloc, APART, disks, &Library, &gate)?;
@@ -67,12 +71,12 @@ fn kernels_begin_beside(rt: &HostRuntime, call: Held) -> Result<(), Fail> {
 
 #[test]
 fn kernels_begin_while_a_disk_is_written(rt: HostRuntime) -> Result<(), Fail> {
-    kernels_begin_beside(&rt, Held::Writes)
+    kernels_begin_beside(&rt, &rt, Held::Writes)
 }
 
 #[test]
 fn kernels_begin_while_a_disk_is_read(rt: HostRuntime) -> Result<(), Fail> {
-    kernels_begin_beside(&rt, Held::Reads)
+    kernels_begin_beside(&rt, &rt, Held::Reads)
 }
 
 /// Two workers, each with a node for two of these parts, of which the first has its block on the first disk, and the others on
