@@ -4,10 +4,11 @@
 Build `starjob` first, by ./run examples/first.job. Three jobs at one worker, each on an ample node and on a small one: the product
 of two matrices of 2048 rows in tiles of 128, the shortest ways between 2048 places in tiles of 128, and 100,000 tasks
 (and 10,000) each of which evicts one cell of 8 bytes. Wall time of whole runs, best of five unless a number is given; peak
-memory is the process's own. Where the machine is small, its disk is memory too, so the peak holds what was moved out. Writes the
-figures into bench/figures.txt.
+memory is the process's own. Where the machine is small, its disk is memory too, so the peak holds what was moved out. Then the
+product and the shortest ways by four workers that share a node, with a swap file, beside the ample node: of runs that take turns the
+middle one counts. Writes the figures into bench/figures.txt.
 """
-import os, re, subprocess, sys, tempfile, time
+import os, re, statistics, subprocess, sys, tempfile, time
 from collections import OrderedDict
 
 here = os.path.dirname(os.path.abspath(__file__))
@@ -71,22 +72,40 @@ def evicting(n):
     yield from (f"task scale(3) v{k % 3}:RW" for k in range(n))
 
 
-def run(folder, lines, words):
-    """The least seconds and the greatest peak in MiB."""
+def written(folder, lines):
     path = os.path.join(folder, "job")
     with open(path, "w") as f:
         f.write("\n".join(["starjob 1", *lines]) + "\n")
-    times, peak = [], 0
-    for _ in range(RUNS):
-        with open(path) as source:
-            started = time.monotonic()
-            child = subprocess.Popen([starjob, *words], stdin=source, stdout=subprocess.DEVNULL)
-            _, status, usage = os.wait4(child.pid, 0)
-            times.append(time.monotonic() - started)
-        if status != 0:
-            sys.exit(f"starjob {' '.join(words)} ended with {status}")
-        peak = max(peak, usage.ru_maxrss / 1024)
-    return min(times), peak
+    return path
+
+
+def run_once(path, words):
+    """The seconds and the peak in MiB."""
+    with open(path) as source:
+        started = time.monotonic()
+        child = subprocess.Popen([starjob, *words], stdin=source, stdout=subprocess.DEVNULL)
+        _, status, usage = os.wait4(child.pid, 0)
+        taken = time.monotonic() - started
+    if status != 0:
+        sys.exit(f"starjob {' '.join(words)} ended with {status}")
+    return taken, usage.ru_maxrss / 1024
+
+
+def run(folder, lines, words):
+    """The least seconds and the greatest peak in MiB."""
+    path = written(folder, lines)
+    times, peaks = zip(*(run_once(path, words) for _ in range(RUNS)))
+    return min(times), max(peaks)
+
+
+def by_four(folder, name, lines, node, goal):
+    """Four workers, with a file as swap on the small node."""
+    path = written(folder, lines)
+    four = ["--workers", "4", "--swap-size", str(256 * MIB)]
+    small, ample = zip(*((run_once(path, [*four, "--node", str(node), "--swap", folder])[0], run_once(path, [*four, *AMPLE])[0]) for _ in range(RUNS)))
+    small, ample = statistics.median(small), statistics.median(ample)
+    print(f"{name} by 4 workers, on a swap file: {small:.3f} s, on an ample node {ample:.3f} s, {small / ample:.2f} times (goal: at most {goal})", flush=True)
+    return f"four.{name}.ratio", small / ample, f"<={goal}"
 
 
 def moved(folder, words, tile_bytes):
@@ -122,6 +141,8 @@ def main():
     with tempfile.TemporaryDirectory() as folder:
         rows = [*tiled(folder, "product n 2048 tile 128 at 1/8", product(2048, 128), 12 * MIB, 1.1, product_by_recency(16, 96))]
         rows += tiled(folder, "shortest ways n 2048 tile 128 at 1/8", ways(2048, 128), 4 * MIB, 1.5)
+        rows.append(by_four(folder, "product", product(2048, 128), 12 * MIB, 1.15))
+        rows.append(by_four(folder, "ways", ways(2048, 128), 4 * MIB, 1.5))
         each = []
         for n in (10_000, 100_000):
             without, _ = run(folder, evicting(0), ["--node", "16"])
