@@ -51,7 +51,7 @@ fn number(least: u64, greatest: u64) -> Option<Behind> {
 }
 
 /// What has to stand behind a name, where it is one that the usage line has.
-fn behind(name: &str) -> Option<Behind> {
+fn wanted_behind(name: &str) -> Option<Behind> {
     match name {
         "trace" | "summary" => Some(Behind::Nothing),
         "workers" => number(1, 64),
@@ -107,7 +107,7 @@ fn is_value(text: &str, value: Value) -> bool {
 /// What the word behind this one has to be, where this is the name of an option or of the flag.
 fn judge_name(before: &[String], word: &str) -> Result<Option<Value>, Fault> {
     let (name, value) = named(word).ok_or(Fault::NoOption)?;
-    let wanted = behind(name).ok_or(Fault::NoOption)?;
+    let wanted = wanted_behind(name).ok_or(Fault::NoOption)?;
     if before.iter().any(|earlier| says(earlier.as_str(), name)) {
         return Err(Fault::Twice);
     }
