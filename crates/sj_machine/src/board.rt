@@ -277,8 +277,9 @@ impl<D: Disk> Board<D> {
     }
 
     /// A worker claims the task that it was given, where no fault is kept. After an `Err` the board is as before, so that the
-    /// task is still in the worker's hand; `NotNow` comes only while another worker has a claimed or running task. Linear in the operands, the victims and the pinned entries that are passed, and in
-    /// the workers for each commuting operand, but for moving the trace as it grows.
+    /// task is still in the worker's hand; `NotNow` comes only while another worker has a claimed or running task, and want of memory
+    /// is for the list of victims or the entries of cells. Linear in the operands, the victims and the pinned entries that are passed,
+    /// and in the workers for each commuting operand.
     pub fn claim(&mut self, alloc: Global, t: Task, w: Worker) -> Result<(), ClaimRefusal>
         requires given { WasGiven self.old w t }
         requires idle { IsIdle self.old w }
@@ -399,8 +400,8 @@ impl<D: Disk> Board<D> {
     }
 
     /// A worker begins a move of a cell, where no fault is kept: one that its claim brings, or a victim of its claim. Hands out a
-    /// share of the tile at the source, where that is a node. After an `Err` the board is as before. Constant time, but for moving
-    /// the trace as it grows.
+    /// share of the tile at the source, where that is a node. After an `Err` the board is as before: there was no share to be had.
+    /// Constant time.
     pub fn begin_move(
         &mut self,
         w: Worker,

@@ -27,5 +27,6 @@ mod preparing;
 pub mod refusal;
 mod releasing;
 pub mod run_state;
+mod room;
 mod running;
 pub mod todo;
