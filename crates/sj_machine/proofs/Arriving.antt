@@ -22,7 +22,7 @@ use Rattle.sj_machine.specs.Agrees.{Agrees, IsWide, Rows, rows_of, transfer_in, 
 use Rattle.sj_machine.specs.Copies.{Copies, mark_at, row_of, stored, tile_at, with_copy, with_row}
 use Rattle.sj_machine.specs.Sound.{HoldsArray, HoldsBlocks, IsCopyOf, IsStored, IsWrittenOut, Keeps}
 use Rattle.sj_machine.specs.Standing.{AllTell, CanHappen, IsTileMoved, IsTileOf, Standing, state, with_event}
-use Rattle.sj_machine.proofs.Keeping.{HoldsArray-moved, HoldsBlocks-kept, IsSomeAnd-map, IsStored-kept, array-same, keeps-event, keeps-told}
+use Rattle.sj_machine.proofs.Keeping.{HoldsArray-moved, HoldsBlocks-kept, IsSomeAnd-map, IsStored-kept, array-same, has-room, keeps-event, keeps-told}
 use Rattle.sj_machine.proofs.Marking.{HasMarks-copy, HasTiles-copy, cell-inside, mark-inside, on_disk, tile-inside}
 use Rattle.sj_machine.proofs.Reading.{no_copies, row-kept, row-other, row-same}
 use Rattle.sj_machine.proofs.Resting.{entry-cell, entry-node, rests, valid-cell}

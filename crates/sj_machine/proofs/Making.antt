@@ -1,5 +1,5 @@
 -- A run on which nothing has happened.
-use Rattle.std.proofs.Common.{◌≡◌, ◌+◌, ◌*◌, ◌∙◌, ℕ, zero, suc, true, false, List, [], ◌∷◌, Option, None, Some, refl, sym, ap, subst, arith, inl, inr, length, map, get_or, replicate, sum_by, is_some}
+use Rattle.std.proofs.Common.{◌≡◌, ◌≤◌, ◌+◌, ◌*◌, ◌∙◌, ℕ, zero, suc, true, false, List, [], ◌∷◌, Option, None, Some, refl, sym, ap, subst, arith, inl, inr, length, map, get_or, replicate, sum_by, is_some}
 use Rattle.std.specs.Prelude.{IfSome, IsSomeAnd, fold}
 use Rattle.std.proofs.lemmas.Bool.{cases_lt, false≢true}
 use Rattle.std.proofs.lemmas.List.{get_or-map, get_or-replicate, get_or_past, length-map, length-replicate}

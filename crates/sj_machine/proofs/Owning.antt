@@ -1,5 +1,5 @@
 -- What the beginning of a run leaves.
-use Rattle.std.proofs.Common.{◌≡◌, ◌≢◌, ◌<◌, ◌≤◌, ℕ, zero, suc, Bool, true, false, not, List, [], ◌∷◌, ◌++◌, Option, None, Some, ◌∙◌, ap, arith, count_by, get_or, inl, inr, is_some, length, map, nat_eq, refl, set, sum_by, sym, subst, ◌||◌}
+use Rattle.std.proofs.Common.{◌+◌, ◌≡◌, ◌≢◌, ◌<◌, ◌≤◌, ℕ, zero, suc, Bool, true, false, not, List, [], ◌∷◌, ◌++◌, Option, None, Some, ◌∙◌, ap, arith, count_by, get_or, inl, inr, is_some, length, map, nat_eq, refl, set, sum_by, sym, subst, ◌||◌}
 use Rattle.std.specs.Prelude.{All, Contains, IfSome, if◌then◌else◌, unwrap_or}
 use Rattle.std.specs.List.{AllZip}
 use Rattle.std.proofs.lemmas.Bool.{cases_Bool, cases_lt, false_from_ne_true, false≢true}

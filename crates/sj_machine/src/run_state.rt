@@ -242,8 +242,8 @@ fn put_copy(cells: &mut Vec<Copies>, cell: Cell, n: Node, tile: Arc<Tile>)
 }
 
 impl<D: Disk> RunState<D> {
-    /// A run on which nothing has happened. The program and the disks come back where memory is wanting. Linear in tasks,
-    /// and in cells times nodes.
+    /// A run on which nothing has happened, with room for all events. The program and the disks come back where memory is
+    /// wanting. Linear in tasks, and in cells times nodes.
     pub fn make(
         alloc: Global,
         program: Arc<Program>,
@@ -316,8 +316,8 @@ impl<D: Disk> RunState<D> {
     }
 
     /// A worker takes a ready task by its plan: it pins the task's cells on its node and brings them to the front, the
-    /// plan's victims leave, and the cells that were missing come. After an `Err` the run is as before: there was no memory for
-    /// the entries of these cells. Linear in the operands and the victims.
+    /// plan's victims leave, and the cells that were missing come. After an `Err` the run is as before: there was no memory
+    /// for the entries of these cells. Linear in the operands and the victims.
     pub fn claim(&mut self, t: Task, w: Worker, plan: Plan) -> Result<(), OutOfMemory>
         requires can { CanHappen self.old (Event.Claim t w) }
         requires plan { IsPlan self.old.program self.old.machine (state self.old) t w plan }
@@ -344,7 +344,7 @@ impl<D: Disk> RunState<D> {
     }
 
     /// A worker begins a move of a cell: one that its claim brings, or a victim of its claim. Hands out a share of the tile
-    /// at the source, where that is a node. After an `Err` the run is as before: there was no share to be had. Constant time.
+    /// at the source, where that is a node. After an `Err` the run is as before: that share was refused. Constant time.
     pub fn begin_move(
         &mut self,
         w: Worker,

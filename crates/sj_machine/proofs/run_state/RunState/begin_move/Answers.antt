@@ -29,8 +29,8 @@ add-requires g c =
     let a = c.args in
     has-room _ _ _ _ _ _ _ c.self.invariant (Move a.cell a.from a.to) (subst (λ (b : Standing _). CanHappen b (Move a.cell a.from a.to)) (sym c.self.view_is) c.requires.can)
 
-pub invariant_of-self-2 : goal.invariant_of-self-2
-invariant_of-self-2 g c =
+pub invariant_of-self : goal.invariant_of-self
+invariant_of-self g c =
     let a = c.args in
     let i = c.self.inside in
     let mover = subst (λ (b : Standing _). mover_of (state b) a.cell a.from a.to ≡ a.w) (sym c.self.view_is) c.requires.mover in

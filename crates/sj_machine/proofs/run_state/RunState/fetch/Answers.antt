@@ -32,10 +32,10 @@ pub returns-clause-counts : goal.returns-clause-counts
 returns-clause-counts g c =
     let stored = found-to_fetch _ _ _ _ _ _ _ c.self.invariant c.args.w _ c.self.view_is _ c.deref.ensures.value c.transfer_of-x.result c.transfer_of-x.ensures c.disk_at-d.result c.disk_at-d.ensures c.args.tile.now c.requires.dims c.dims-dims.ensures.whole _ c.writes_of-writes.result c.deref-2.ensures.value c.writes_of-writes.ensures in
     subst (λ (b : Standing _). AreCounted g.D.Disk.faults g.D.Disk.mismatches c.fetch.result b.disks.disks c.fetch.new.self.set.disks) c.self.view_is
-    (fetches-counted g.D.Disk.size g.D.Disk.faults g.D.Disk.mismatches g.D.Disk.held _ _ _ _ c.self.invariant c.fetch.new.self _ _ _ c.fetch.result c.extent-extent.ensures.laid_out _ stored c.fetch.ensures.fetches)
+    (fetches-counted g.D.Disk.size g.D.Disk.faults g.D.Disk.mismatches g.D.Disk.held _ _ _ c.self.invariant c.fetch.new.self _ _ _ c.fetch.result c.extent-extent.ensures.laid_out _ stored c.fetch.ensures.fetches)
 
 pub returns-clause-cause : goal.returns-clause-cause
 returns-clause-cause g c =
     let stored = found-to_fetch _ _ _ _ _ _ _ c.self.invariant c.args.w _ c.self.view_is _ c.deref.ensures.value c.transfer_of-x.result c.transfer_of-x.ensures c.disk_at-d.result c.disk_at-d.ensures c.args.tile.now c.requires.dims c.dims-dims.ensures.whole _ c.writes_of-writes.result c.deref-2.ensures.value c.writes_of-writes.ensures in
     let last = found-last _ _ _ _ _ _ _ c.self.invariant c.args.w _ c.self.view_is _ c.deref.ensures.value c.transfer_of-x.result c.transfer_of-x.ensures c.disk_at-d.result c.disk_at-d.ensures c.args.tile.now c.requires.dims c.dims-dims.ensures.whole _ c.writes_of-writes.result c.deref-2.ensures.value c.writes_of-writes.ensures in
-    fetches-cause g.D.Disk.size g.D.Disk.faults g.D.Disk.mismatches g.D.Disk.held _ _ _ _ c.self.invariant c.fetch.new.self _ _ _ c.fetch.result c.extent-extent.ensures.laid_out _ stored last c.fetch.ensures.fetches
+    fetches-cause g.D.Disk.size g.D.Disk.faults g.D.Disk.mismatches g.D.Disk.held _ _ _ c.self.invariant c.fetch.new.self _ _ _ c.fetch.result c.extent-extent.ensures.laid_out _ stored last c.fetch.ensures.fetches

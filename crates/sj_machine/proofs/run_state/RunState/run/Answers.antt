@@ -30,8 +30,8 @@ evict_elsewhere-requires g c =
 pub add-requires : goal.add-requires
 add-requires g c = has-room _ _ _ _ _ _ _ c.self.invariant (Run c.args.t c.args.w) (subst (λ (b : Standing _). CanHappen b (Run c.args.t c.args.w)) (sym c.self.view_is) c.requires.can)
 
-pub invariant_of-self-2 : goal.invariant_of-self-2
-invariant_of-self-2 g c =
+pub invariant_of-self : goal.invariant_of-self
+invariant_of-self g c =
     let i = c.self.inside in
     let of_task : c.items-accesses.result.now ≡ (task_of i.program.value c.args.t).accesses = c.items-accesses.ensures ∙ ap (λ (l : Lowered). l.accesses) (c.task_at.ensures ∙ ap (λ (p : Program). task_of p c.args.t) c.deref.ensures) in
     let told : c.add.new.self.events ≡ i.trace.events ++ Run c.args.t c.args.w ∷ [] = c.add.ensures.events in

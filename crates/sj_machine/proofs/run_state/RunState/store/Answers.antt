@@ -32,9 +32,9 @@ pub returns-clause-counts : goal.returns-clause-counts
 returns-clause-counts g c =
     let reserved = found-reserved _ _ _ _ _ _ _ c.self.invariant c.args.w _ c.self.view_is _ c.deref.ensures.value c.transfer_of-x.result c.transfer_of-x.ensures c.disk_at-d.result c.disk_at-d.ensures c.args.tile.now c.requires.tile c.measured.ensures.whole c.measured.ensures.fits in
     subst (λ (b : Standing _). AreCounted g.D.Disk.faults g.D.Disk.mismatches c.store.result b.disks.disks c.store.new.self.set.disks) c.self.view_is
-    (stores-counted g.D.Disk.size g.D.Disk.faults g.D.Disk.mismatches g.D.Disk.held _ _ _ _ c.self.invariant c.store.new.self _ _ _ c.store.result c.extent-extent.ensures.laid_out _ reserved c.store.ensures.stores)
+    (stores-counted g.D.Disk.size g.D.Disk.faults g.D.Disk.mismatches g.D.Disk.held _ _ _ c.self.invariant c.store.new.self _ _ _ c.store.result c.extent-extent.ensures.laid_out _ reserved c.store.ensures.stores)
 
 pub returns-clause-cause : goal.returns-clause-cause
 returns-clause-cause g c =
     let reserved = found-reserved _ _ _ _ _ _ _ c.self.invariant c.args.w _ c.self.view_is _ c.deref.ensures.value c.transfer_of-x.result c.transfer_of-x.ensures c.disk_at-d.result c.disk_at-d.ensures c.args.tile.now c.requires.tile c.measured.ensures.whole c.measured.ensures.fits in
-    stores-cause g.D.Disk.size g.D.Disk.faults g.D.Disk.mismatches g.D.Disk.held _ _ _ _ c.self.invariant c.store.new.self _ _ _ c.store.result c.extent-extent.ensures.laid_out _ reserved c.store.ensures.stores
+    stores-cause g.D.Disk.size g.D.Disk.faults g.D.Disk.mismatches g.D.Disk.held _ _ _ c.self.invariant c.store.new.self _ _ _ c.store.result c.extent-extent.ensures.laid_out _ reserved c.store.ensures.stores
