@@ -136,7 +136,7 @@ module _ {D : Type 0} (size faults mismatches : D → ℕ) (held : D → Option 
       given_back = all_given_back-untouched size faults mismatches held disks.disks disks.disks (all_untouched-same size faults mismatches held disks.disks);
     };
     agrees = first_agrees p m (AllTell held b);
-    room = room;
+    room = (let r : most_events p ≤ 0 + spare = omega (arith, room) in r);
   }
 
   -- as the code makes it

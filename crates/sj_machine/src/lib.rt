@@ -26,7 +26,7 @@ pub mod plan;
 mod preparing;
 pub mod refusal;
 mod releasing;
-pub mod run_state;
 mod room;
+pub mod run_state;
 mod running;
 pub mod todo;
