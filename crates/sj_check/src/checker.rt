@@ -188,7 +188,7 @@ impl Checker {
     }
 
     /// Whether the next event is legal: then it has happened, and else nothing has. Linear in the operands of its task, the
-    /// victims, the nodes and the workers, but for moving the trace as it grows.
+    /// victims, the nodes and the workers.
     ///
     /// A move to a disk is linear in its tile, and the first look at a cell's shape in its elements.
     pub fn step(&mut self, alloc: Global, event: Event) -> Result<bool, OutOfMemory>

@@ -16,19 +16,19 @@ use Rattle.sj_core.proofs.States.{one-mover}
 use Rattle.sj_core.specs.Coherent.{Coherent}
 use Rattle.sj_core.specs.Step.{a_transfer, after, array_at, disk_of, mover_of}
 use Rattle.sj_disk.specs.Directory.{extent_of}
-use Rattle.sj_machine.specs.Mark.{mark_of, owed_for}
+use Rattle.sj_machine.specs.Mark.{mark_of}
 use Rattle.sj_machine.specs.declared.mark.Mark.TheVariants.{Valid as ValidMark}
-use Rattle.sj_machine.specs.Agrees.{Agrees, IsWide, Rows, owed_by_worker, rows_of, transfer_in, with_transfer_of}
-use Rattle.sj_machine.specs.Copies.{Copies, mark_at, owed_in as owed_in_copies, row_of, stored, tile_at, with_copy, with_row}
+use Rattle.sj_machine.specs.Agrees.{Agrees, IsWide, Rows, rows_of, transfer_in, with_transfer_of}
+use Rattle.sj_machine.specs.Copies.{Copies, mark_at, row_of, stored, tile_at, with_copy, with_row}
 use Rattle.sj_machine.specs.Sound.{HoldsArray, HoldsBlocks, IsCopyOf, IsStored, IsWrittenOut, Keeps}
 use Rattle.sj_machine.specs.Standing.{AllTell, CanHappen, IsTileMoved, IsTileOf, Standing, state, with_event}
-use Rattle.sj_machine.proofs.Keeping.{HoldsArray-moved, HoldsBlocks-kept, IsSomeAnd-map, IsStored-kept, array-same, keeps-event, keeps-told}
+use Rattle.sj_machine.proofs.Keeping.{HoldsArray-moved, HoldsBlocks-kept, IsSomeAnd-map, IsStored-kept, array-same, has-room, keeps-event, keeps-told}
 use Rattle.sj_machine.proofs.Marking.{HasMarks-copy, HasTiles-copy, cell-inside, mark-inside, on_disk, tile-inside}
-use Rattle.sj_machine.proofs.Reading.{no_copies, owed-copy, row-kept, row-other, row-same}
+use Rattle.sj_machine.proofs.Reading.{no_copies, row-kept, row-other, row-same}
 use Rattle.sj_machine.proofs.Resting.{entry-cell, entry-node, rests, valid-cell}
-use Rattle.sj_machine.proofs.Transferring.{new_workers, transfer-agrees, transfer-owed}
+use Rattle.sj_machine.proofs.Transferring.{new_workers, transfer-agrees}
 
-module _ {D : Type 0} (size faults mismatches : D → ℕ) (held : D → Option (List ℕ)) (b : Standing D) (rows : Rows) (owed spare : ℕ) (keeps : Keeps size faults mismatches held b rows owed spare) (w : Worker) (c : Cell) (from : Place) where
+module _ {D : Type 0} (size faults mismatches : D → ℕ) (held : D → Option (List ℕ)) (b : Standing D) (rows : Rows) (spare : ℕ) (keeps : Keeps size faults mismatches held b rows spare) (w : Worker) (c : Cell) (from : Place) where
   abbrev p : Program
   p = b.program
 
@@ -64,26 +64,19 @@ module _ {D : Type 0} (size faults mismatches : D → ℕ) (held : D → Option 
     pub end-under_way : (get_or rows.workers w.0 idle_row).transfer ≡ Some (a_transfer c from to)
     end-under_way = ap (λ (ws : List WorkerState). (get_or ws w.0 idle_row).transfer) keeps.agrees.workers ∙ under_way
 
-    -- the transfer's own event was owed
-    spent : sum_by owed_by_worker (new_workers p m s w None rows.workers) + 1 ≡ sum_by owed_by_worker rows.workers
-    spent =
-        let one : owed_by_worker (get_or rows.workers w.0 idle_row) ≡ 1 = ap (λ (o : Option Transfer). elim o as (λ _. ℕ) [ None ↦ 0 | Some x ↦ 1 ]) end-under_way in
-        omega (arith, one, transfer-owed p m s w None rows.workers end-worker)
-
-    pub end-owed : 0 < owed
-    end-owed = omega (arith, spent, keeps.owes)
+    pub end-room : 0 < spare
+    end-room = has-room size faults mismatches held b rows spare keeps (Moved c from to) can
 
     -- the rows after it, from those of its cell
-    module _ (cells' : List Copies) (agrees' : Agrees p m placed (AllTell held b) (rows_of rows.tasks cells' rows.nodes rows.workers)) (same : sum_by owed_in_copies cells' ≡ sum_by owed_in_copies rows.cells) (blocks' : HoldsBlocks held p m placed (AllTell held b) b.disks) where
+    module _ (cells' : List Copies) (agrees' : Agrees p m placed (AllTell held b) (rows_of rows.tasks cells' rows.nodes rows.workers)) (blocks' : HoldsBlocks held p m placed (AllTell held b) b.disks) where
       abbrev after_move : Rows
       after_move = rows_of rows.tasks cells' rows.nodes (new_workers p m s w None rows.workers)
 
-      pub keeps-moved : (spare' : ℕ) → spare' + 1 ≡ spare → Keeps size faults mismatches held (with_event b (Moved c from to)) after_move (owed - 1) spare'
+      pub keeps-moved : (spare' : ℕ) → spare' + 1 ≡ spare → Keeps size faults mismatches held (with_event b (Moved c from to)) after_move spare'
       keeps-moved spare' left =
-          keeps-event size faults mismatches held b rows owed spare keeps (Moved c from to) after_move (owed - 1) spare' can
+          keeps-event size faults mismatches held b rows spare keeps (Moved c from to) after_move spare' can
           (subst (λ (z : State). HoldsBlocks held p m z (AllTell held b) b.disks) (sym leaves) (HoldsBlocks-kept held p m placed (with_transfer placed w None) (AllTell held b) b.disks (λ d k v. (refl, refl)) blocks'))
-          (subst (λ (z : State). Agrees p m z (AllTell held b) after_move) (sym leaves) (transfer-agrees p m placed w None (AllTell held b) (rows_of rows.tasks cells' rows.nodes rows.workers) agrees'))
-          (omega (arith, same, spent, keeps.owes)) (omega (arith, left, keeps.room, end-owed))
+          (subst (λ (z : State). Agrees p m z (AllTell held b) after_move) (sym leaves) (transfer-agrees p m placed w None (AllTell held b) (rows_of rows.tasks cells' rows.nodes rows.workers) agrees')) left
 
   -- a move into a node
   module _ (n : Node) (under_way : transfer s w ≡ Some (a_transfer c from (AtNode n))) (tile : Array) (is : IsTileOf held b c from tile) where
@@ -108,7 +101,7 @@ module _ {D : Type 0} (size faults mismatches : D → ℕ) (held : D → Option 
     abbrev here : Array
     here = array_at p s from c
 
-    pub keeps-moved_in : (spare' : ℕ) → spare' + 1 ≡ spare → Keeps size faults mismatches held (with_event b (Moved c from (AtNode n))) (rows_of rows.tasks (with_row rows.cells c (λ row. with_copy row n ValidMark (Some tile))) rows.nodes (new_workers p m s w None rows.workers)) (owed - 1) spare'
+    pub keeps-moved_in : (spare' : ℕ) → spare' + 1 ≡ spare → Keeps size faults mismatches held (with_event b (Moved c from (AtNode n))) (rows_of rows.tasks (with_row rows.cells c (λ row. with_copy row n ValidMark (Some tile))) rows.nodes (new_workers p m s w None rows.workers)) spare'
     keeps-moved_in spare' left =
         keeps-moved (AtNode n) under_way (with_row rows.cells c (λ row. with_copy row n ValidMark (Some tile)))
         (record {
@@ -118,7 +111,6 @@ module _ {D : Type 0} (size faults mismatches : D → ℕ) (held : D → Option 
           tiles = HasTiles-copy p m s coherent.state.rows rows.cells keeps.agrees.marks c n in_cell in_node (Valid here) (Some tile) (AllTell held b) keeps.agrees.tiles (rests p m s coherent (is_coming_by w) (λ a. refl) refl c (AtNode n) coming) refl is.dims (λ tells. ap Some (sym (is.array tells)));
           stores = record { every_node = keeps.agrees.stores.every_node; stores = keeps.agrees.stores.stores };
         })
-        (omega (arith, ap owed_for (keeps.agrees.marks.marks c n ∙ ap mark_of came), owed-copy rows.cells c n ValidMark (Some tile) in-cell in-node (tile-inside p m s coherent.state.rows rows.cells keeps.agrees.marks c n in_cell in_node)))
         (HoldsBlocks-kept held p m s (with_replica s c (AtNode n) (Valid here)) (AllTell held b) b.disks (λ d k v. (on_disk p m s coherent.state.rows rows.cells keeps.agrees.marks c n in_cell in_node (Valid here) (Some tile) d k, writes-same s c (AtNode n) (Valid here) d)) keeps.sound.blocks)
         spare' left
 
@@ -208,11 +200,8 @@ module _ {D : Type 0} (size faults mismatches : D → ℕ) (held : D → Option 
         here_now : (k : DiskNo) → replica s1 c (OnDisk k) ≡ Valid out → array_at p s1 (OnDisk k) c ≡ array_at p s from c
         here_now k is = ap (λ (r : Replica). unwrap_or (array_of r) (zeros (dims_of p c))) is
 
-    same-owed : sum_by owed_in_copies new_cells ≡ sum_by owed_in_copies rows.cells
-    same-owed = omega (arith, sum_by-set owed_in_copies rows.cells c.0 (stored (row_of rows.cells c)) no_copies out-cell)
-
-    pub keeps-moved_out : (spare' : ℕ) → spare' + 1 ≡ spare → Keeps size faults mismatches held (with_event b (Moved c from (OnDisk d))) (rows_of rows.tasks new_cells rows.nodes (new_workers p m s w None rows.workers)) (owed - 1) spare'
-    keeps-moved_out spare' left = keeps-moved (OnDisk d) under_way new_cells agrees-out same-owed blocks-out spare' left
+    pub keeps-moved_out : (spare' : ℕ) → spare' + 1 ≡ spare → Keeps size faults mismatches held (with_event b (Moved c from (OnDisk d))) (rows_of rows.tasks new_cells rows.nodes (new_workers p m s w None rows.workers)) spare'
+    keeps-moved_out spare' left = keeps-moved (OnDisk d) under_way new_cells agrees-out blocks-out spare' left
 
 -- ---- as the code finds it
 
@@ -220,37 +209,37 @@ module _ {D : Type 0} (size faults mismatches : D → ℕ) (held : D → Option 
 told-of : {X : Type 0} (P : X → Type 0) (o : Option X) (x : X) → o ≡ Some x → IfSome o P → P x
 told-of {X} P o x e h = subst (λ (k : Option X). IfSome k P) e h
 
-module _ {D : Type 0} (size faults mismatches : D → ℕ) (held : D → Option (List ℕ)) (b : Standing D) (rows : Rows) (owed spare : ℕ) (keeps : Keeps size faults mismatches held b rows owed spare) (w : Worker) (b' : Standing D) (same : b ≡ b') (ws : List WorkerState) (read : ws ≡ rows.workers) (x : Transfer) (found : transfer_in ws w ≡ Some x) where
+module _ {D : Type 0} (size faults mismatches : D → ℕ) (held : D → Option (List ℕ)) (b : Standing D) (rows : Rows) (spare : ℕ) (keeps : Keeps size faults mismatches held b rows spare) (w : Worker) (b' : Standing D) (same : b ≡ b') (ws : List WorkerState) (read : ws ≡ rows.workers) (x : Transfer) (found : transfer_in ws w ≡ Some x) where
   moving : (to : Place) → x.to ≡ to → transfer (state b) w ≡ Some (a_transfer x.cell x.from to)
   moving to at = ap (λ (rs : List WorkerState). transfer_in rs w) (sym (read ∙ keeps.agrees.workers)) ∙ found ∙ ap (λ (q : Place). Some (a_transfer x.cell x.from q)) at
 
-  pub found-owed : 0 < owed
-  found-owed = end-owed size faults mismatches held b rows owed spare keeps w x.cell x.from x.to (moving x.to refl)
+  pub found-room : 0 < spare
+  found-room = end-room size faults mismatches held b rows spare keeps w x.cell x.from x.to (moving x.to refl)
 
   module _ (n : Node) (at : x.to ≡ AtNode n) (tile : Array) (given : IsTileMoved held b' w tile) where
     tile-is : IsTileOf held b x.cell x.from tile
     tile-is = told-of (λ (y : Transfer). IsTileOf held b y.cell y.from tile) (transfer (state b) w) (a_transfer x.cell x.from (AtNode n)) (moving (AtNode n) at) (subst (λ (z : Standing D). IsTileMoved held z w tile) (sym same) given)
 
     pub found-node : n.0 < length (row_of rows.cells x.cell).marks
-    found-node = in-node size faults mismatches held b rows owed spare keeps w x.cell x.from n (moving (AtNode n) at) tile tile-is
+    found-node = in-node size faults mismatches held b rows spare keeps w x.cell x.from n (moving (AtNode n) at) tile tile-is
 
-    pub found-moved_in : (trace' : Recorded) (cells' : List Copies) (ws' : List WorkerState) → trace'.events ≡ b.trace ++ Moved x.cell x.from x.to ∷ [] → trace'.spare + 1 ≡ spare → cells' ≡ with_row rows.cells x.cell (λ row. with_copy row n ValidMark (Some tile)) → ws' ≡ with_transfer_of rows.workers w None → Keeps size faults mismatches held (record b { trace = trace'.events }) (rows_of rows.tasks cells' rows.nodes ws') (owed - 1) trace'.spare
+    pub found-moved_in : (trace' : Recorded) (cells' : List Copies) (ws' : List WorkerState) → trace'.events ≡ b.trace ++ Moved x.cell x.from x.to ∷ [] → trace'.spare + 1 ≡ spare → cells' ≡ with_row rows.cells x.cell (λ row. with_copy row n ValidMark (Some tile)) → ws' ≡ with_transfer_of rows.workers w None → Keeps size faults mismatches held (record b { trace = trace'.events }) (rows_of rows.tasks cells' rows.nodes ws') trace'.spare
     found-moved_in trace' cells' ws' told left cells workers =
-        keeps-told size faults mismatches held b (Moved x.cell x.from (AtNode n)) (rows_of rows.tasks (with_row rows.cells x.cell (λ row. with_copy row n ValidMark (Some tile))) rows.nodes (with_transfer_of rows.workers w None)) (rows_of rows.tasks cells' rows.nodes ws') (owed - 1) trace'
+        keeps-told size faults mismatches held b (Moved x.cell x.from (AtNode n)) (rows_of rows.tasks (with_row rows.cells x.cell (λ row. with_copy row n ValidMark (Some tile))) rows.nodes (with_transfer_of rows.workers w None)) (rows_of rows.tasks cells' rows.nodes ws') trace'
         (told ∙ ap (λ (q : Place). b.trace ++ Moved x.cell x.from q ∷ []) at)
         (ap (λ (cs : List Copies). rows_of rows.tasks cs rows.nodes ws') cells ∙ ap (λ (vs : List WorkerState). rows_of rows.tasks (with_row rows.cells x.cell (λ row. with_copy row n ValidMark (Some tile))) rows.nodes vs) workers)
-        (keeps-moved_in size faults mismatches held b rows owed spare keeps w x.cell x.from n (moving (AtNode n) at) tile tile-is trace'.spare left)
+        (keeps-moved_in size faults mismatches held b rows spare keeps w x.cell x.from n (moving (AtNode n) at) tile tile-is trace'.spare left)
 
   module _ (d : DiskNo) (at : x.to ≡ OnDisk d) (given : IsWrittenOut held b' w) where
     is-written : IsSomeAnd (extent_of b.disks.directory x.cell.0) (IsCopyOf held b x.cell x.from)
     is-written = told-of (λ (y : Transfer). IsSomeAnd (extent_of b.disks.directory y.cell.0) (IsCopyOf held b y.cell y.from)) (transfer (state b) w) (a_transfer x.cell x.from (OnDisk d)) (moving (OnDisk d) at) (subst (λ (z : Standing D). IsWrittenOut held z w) (sym same) given)
 
     pub found-out_cell : x.cell.0 < length rows.cells
-    found-out_cell = out-cell size faults mismatches held b rows owed spare keeps w x.cell x.from d (moving (OnDisk d) at) is-written
+    found-out_cell = out-cell size faults mismatches held b rows spare keeps w x.cell x.from d (moving (OnDisk d) at) is-written
 
-    pub found-moved_out : (trace' : Recorded) (cells' : List Copies) (ws' : List WorkerState) → trace'.events ≡ b.trace ++ Moved x.cell x.from x.to ∷ [] → trace'.spare + 1 ≡ spare → cells' ≡ with_row rows.cells x.cell stored → ws' ≡ with_transfer_of rows.workers w None → Keeps size faults mismatches held (record b { trace = trace'.events }) (rows_of rows.tasks cells' rows.nodes ws') (owed - 1) trace'.spare
+    pub found-moved_out : (trace' : Recorded) (cells' : List Copies) (ws' : List WorkerState) → trace'.events ≡ b.trace ++ Moved x.cell x.from x.to ∷ [] → trace'.spare + 1 ≡ spare → cells' ≡ with_row rows.cells x.cell stored → ws' ≡ with_transfer_of rows.workers w None → Keeps size faults mismatches held (record b { trace = trace'.events }) (rows_of rows.tasks cells' rows.nodes ws') trace'.spare
     found-moved_out trace' cells' ws' told left cells workers =
-        keeps-told size faults mismatches held b (Moved x.cell x.from (OnDisk d)) (rows_of rows.tasks (with_row rows.cells x.cell stored) rows.nodes (with_transfer_of rows.workers w None)) (rows_of rows.tasks cells' rows.nodes ws') (owed - 1) trace'
+        keeps-told size faults mismatches held b (Moved x.cell x.from (OnDisk d)) (rows_of rows.tasks (with_row rows.cells x.cell stored) rows.nodes (with_transfer_of rows.workers w None)) (rows_of rows.tasks cells' rows.nodes ws') trace'
         (told ∙ ap (λ (q : Place). b.trace ++ Moved x.cell x.from q ∷ []) at)
         (ap (λ (cs : List Copies). rows_of rows.tasks cs rows.nodes ws') cells ∙ ap (λ (vs : List WorkerState). rows_of rows.tasks (with_row rows.cells x.cell stored) rows.nodes vs) workers)
-        (keeps-moved_out size faults mismatches held b rows owed spare keeps w x.cell x.from d (moving (OnDisk d) at) is-written trace'.spare left)
+        (keeps-moved_out size faults mismatches held b rows spare keeps w x.cell x.from d (moving (OnDisk d) at) is-written trace'.spare left)

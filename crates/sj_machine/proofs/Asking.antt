@@ -24,7 +24,7 @@ use Rattle.sj_machine.proofs.NextRows.{leaves, list_all-agree, list_any-places}
 use Rattle.sj_machine.proofs.NextSteps.{fresh-is}
 use Rattle.sj_machine.proofs.Reading.{no_copies}
 
-module _ {D : Type 0} (size faults mismatches : D → ℕ) (held : D → Option (List ℕ)) (b : Standing D) (rows : Rows) (owed spare : ℕ) (keeps : Keeps size faults mismatches held b rows owed spare) where
+module _ {D : Type 0} (size faults mismatches : D → ℕ) (held : D → Option (List ℕ)) (b : Standing D) (rows : Rows) (spare : ℕ) (keeps : Keeps size faults mismatches held b rows spare) where
   abbrev p : Program
   p = b.program
 
@@ -59,9 +59,9 @@ module _ {D : Type 0} (size faults mismatches : D → ℕ) (held : D → Option 
   room-is w staffed k at x d read =
       let inside : w.0 < length rows.workers = omega (arith, staffed, keeps.sound.run.machine.workers, keeps.sound.coherent.state.rows.workers, ap length keeps.agrees.workers) in
       let victims : x.victims ≡ victims_of s w = ap (λ (r : WorkerState). r.victims) (read ∙ get_or_default rows.workers w.0 d idle_row inside ∙ ap (λ (ws : List WorkerState). get_or ws w.0 idle_row) keeps.agrees.workers) in
-      list_all-agree (λ c. not (leaves_in rows.cells k w c)) (is_gone m s w) (λ c. ap not (leaves size faults mismatches held b rows owed spare keeps w c k ∙ ap (λ (j : Node). is_leaving_by w (replica s c (AtNode j))) at)) x.victims
+      list_all-agree (λ c. not (leaves_in rows.cells k w c)) (is_gone m s w) (λ c. ap not (leaves size faults mismatches held b rows spare keeps w c k ∙ ap (λ (j : Node). is_leaving_by w (replica s c (AtNode j))) at)) x.victims
       ∙ ap (list_all (is_gone m s w)) victims
 
   -- whether a cell is one whose old value the worker's claimed task doesn't read
   pub fresh-now : (t : Task) (w : Worker) → progress s t ≡ Claimed w → (accesses : List Access) → accesses ≡ (task_of p t).accesses → (c : Cell) → has_cell (fresh_among p w accesses) c ≡ is_fresh p s w c
-  fresh-now t w claimed accesses are c = ap (λ (xs : List Access). has_cell (fresh_among p w xs) c) are ∙ sym (fresh-is p m s (sound_state size faults mismatches held b rows owed spare keeps) t w claimed c)
+  fresh-now t w claimed accesses are c = ap (λ (xs : List Access). has_cell (fresh_among p w xs) c) are ∙ sym (fresh-is p m s (sound_state size faults mismatches held b rows spare keeps) t w claimed c)

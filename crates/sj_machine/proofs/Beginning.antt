@@ -13,16 +13,16 @@ use Rattle.sj_core.proofs.Replicas.{leaving_by-is, leaving_by-leaves}
 use Rattle.sj_core.proofs.Reading.{idle_row}
 use Rattle.sj_core.specs.Coherent.{Coherent, is_begun, is_being_written}
 use Rattle.sj_core.specs.Step.{CanMoveIn, CanMoveOut, a_transfer, after, disk_of, mover_of, source_of}
-use Rattle.sj_machine.specs.Agrees.{Agrees, Rows, owed_by_worker, owed_in, rows_of}
+use Rattle.sj_machine.specs.Agrees.{Agrees, Rows, rows_of}
 use Rattle.sj_machine.specs.Copies.{CanShare, row_of, tile_at, tile_kept}
 use Rattle.sj_machine.specs.Sound.{HoldsBlocks, Keeps}
 use Rattle.sj_machine.specs.Standing.{AllTell, CanHappen, IsShareOf, IsTileOf, Standing, state, with_event}
 use Rattle.sj_machine.proofs.Keeping.{HoldsBlocks-kept, keeps-event}
 use Rattle.sj_machine.proofs.Marking.{cell-inside, mark-inside}
 use Rattle.sj_machine.proofs.Resting.{leaving-valid, rests, valid-cell, valid-node}
-use Rattle.sj_machine.proofs.Transferring.{new_workers, transfer-agrees, transfer-owed}
+use Rattle.sj_machine.proofs.Transferring.{new_workers, transfer-agrees}
 
-module _ {D : Type 0} (size faults mismatches : D → ℕ) (held : D → Option (List ℕ)) (b : Standing D) (rows : Rows) (owed spare : ℕ) (keeps : Keeps size faults mismatches held b rows owed spare) (c : Cell) (from to : Place) (w : Worker) (mover : mover_of (state b) c from to ≡ w) (can : CanHappen b (Move c from to)) where
+module _ {D : Type 0} (size faults mismatches : D → ℕ) (held : D → Option (List ℕ)) (b : Standing D) (rows : Rows) (spare : ℕ) (keeps : Keeps size faults mismatches held b rows spare) (c : Cell) (from to : Place) (w : Worker) (mover : mover_of (state b) c from to ≡ w) (can : CanHappen b (Move c from to)) where
   abbrev p : Program
   p = b.program
 
@@ -127,14 +127,8 @@ module _ {D : Type 0} (size faults mismatches : D → ℕ) (held : D → Option 
   leaves : after p m s (Move c from to) ≡ with_transfer s w begun
   leaves = ap (λ (v : Worker). with_transfer s v begun) mover
 
-  free-row : owed_by_worker (get_or rows.workers w.0 idle_row) ≡ 0
-  free-row = ap (λ (ws : List WorkerState). owed_by_worker (get_or ws w.0 idle_row)) keeps.agrees.workers ∙ ap (λ (o : Option Transfer). elim o as (λ _. ℕ) [ None ↦ 0 | Some x ↦ 1 ]) begins.free
-
-  owes : owed_in after_begin ≡ owed_in rows + 1
-  owes = omega (arith, free-row, transfer-owed p m s w begun rows.workers begin-worker)
-
-  pub keeps-begin : (spare' : ℕ) → owed + 1 ≤ spare' → Keeps size faults mismatches held (with_event b (Move c from to)) after_begin (owed + 1) spare'
-  keeps-begin spare' fits =
-      keeps-event size faults mismatches held b rows owed spare keeps (Move c from to) after_begin (owed + 1) spare' can
+  pub keeps-begin : (spare' : ℕ) → spare' + 1 ≡ spare → Keeps size faults mismatches held (with_event b (Move c from to)) after_begin spare'
+  keeps-begin spare' left =
+      keeps-event size faults mismatches held b rows spare keeps (Move c from to) after_begin spare' can
       (subst (λ (z : State). HoldsBlocks held p m z (AllTell held b) b.disks) (sym leaves) (HoldsBlocks-kept held p m s (with_transfer s w begun) (AllTell held b) b.disks (λ d k v. (refl, refl)) keeps.sound.blocks))
-      (subst (λ (z : State). Agrees p m z (AllTell held b) after_begin) (sym leaves) (transfer-agrees p m s w begun (AllTell held b) rows keeps.agrees)) (omega (arith, owes, keeps.owes)) fits
+      (subst (λ (z : State). Agrees p m z (AllTell held b) after_begin) (sym leaves) (transfer-agrees p m s w begun (AllTell held b) rows keeps.agrees)) left

@@ -33,7 +33,7 @@ pub record IsAnswer {D : Type 0} (b : Standing D) (t : Task) (w : Worker) (answe
 pub answer-told : {D : Type 0} (b b' : Standing D) (t : Task) (w : Worker) (r r' : Result ClaimPlan Why) → b ≡ b' → r' ≡ r → IsAnswer b t w r → IsAnswer b' t w r'
 answer-told b b' t w r r' same is answer = subst (λ (x : Standing _). IsAnswer x t w r') same (subst (λ (x : Result ClaimPlan Why). IsAnswer b t w x) (sym is) answer)
 
-module _ {D : Type 0} (size faults mismatches : D → ℕ) (held : D → Option (List ℕ)) (b : Standing D) (rows : Rows) (owed spare : ℕ) (keeps : Keeps size faults mismatches held b rows owed spare) (t : Task) (w : Worker) (may : MayClaim b.program b.machine (state b) t w) (k : Node) (at : k ≡ node_of b.machine w) where
+module _ {D : Type 0} (size faults mismatches : D → ℕ) (held : D → Option (List ℕ)) (b : Standing D) (rows : Rows) (spare : ℕ) (keeps : Keeps size faults mismatches held b rows spare) (t : Task) (w : Worker) (may : MayClaim b.program b.machine (state b) t w) (k : Node) (at : k ≡ node_of b.machine w) where
   abbrev p : Program
   p = b.program
 
@@ -44,7 +44,7 @@ module _ {D : Type 0} (size faults mismatches : D → ℕ) (held : D → Option 
   s = state b
 
   sound : IsSound p m s
-  sound = sound_state size faults mismatches held b rows owed spare keeps
+  sound = sound_state size faults mismatches held b rows spare keeps
 
   -- ---- that it can be answered
 

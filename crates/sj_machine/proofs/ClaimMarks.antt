@@ -13,9 +13,8 @@ use Rattle.sj_core.proofs.Reading.{same_cell-is}
 use Rattle.sj_core.specs.Program.{has_cell, same_cell}
 use Rattle.sj_machine.specs.declared.mark.Mark.{Mark}
 use Rattle.sj_machine.specs.declared.mark.Mark.TheVariants.{Invalid}
-use Rattle.sj_machine.specs.Mark.{owed_for}
 use Rattle.sj_machine.specs.Agrees.{IsWide}
-use Rattle.sj_machine.specs.Copies.{Copies, mark_at, owed_in, row_of, with_row}
+use Rattle.sj_machine.specs.Copies.{Copies, mark_at, row_of, with_row}
 use Rattle.sj_machine.specs.Plan.{marked, with_mark}
 use Rattle.sj_machine.proofs.Reading.{no_copies, row-other, row-same}
 
@@ -50,13 +49,6 @@ module _ (n : Node) (x : Mark) (width : ℕ) (within : n.0 < width) where
   here-one rows c inside wide =
       let had : IsWide width (row_of rows c) = All-get_or (IsWide width) rows c.0 no_copies inside wide in
       ap (λ (row : Copies). mark_at row n) (row-same rows c (λ row. with_mark row n x) inside) ∙ get_or-set_same (row_of rows c).marks n.0 x Invalid (omega (arith, had.marks))
-
-  owed-one : (rows : List Copies) (c : Cell) → c.0 < length rows → All (IsWide width) rows → sum_by owed_in (mark_one rows c) ≤ sum_by owed_in rows + owed_for x
-  owed-one rows c inside wide =
-      let had : IsWide width (row_of rows c) = All-get_or (IsWide width) rows c.0 no_copies inside wide in
-      let all : sum_by owed_in (mark_one rows c) + owed_in (row_of rows c) ≡ sum_by owed_in rows + owed_in (with_mark (row_of rows c) n x) = sum_by-set owed_in rows c.0 (with_mark (row_of rows c) n x) no_copies inside in
-      let one : owed_in (with_mark (row_of rows c) n x) + owed_for (mark_at (row_of rows c) n) ≡ owed_in (row_of rows c) + owed_for x = sum_by-set owed_for (row_of rows c).marks n.0 x Invalid (omega (arith, had.marks)) in
-      omega arith
 
   inside-tail : (rows : List Copies) (c : Cell) (cs : List Cell) → AreInside rows (c ∷ cs) → AreInside (mark_one rows c) cs
   inside-tail rows c cs inside d h = (let here = inside d (or_right (same_cell c d) (has_cell cs d) h) in omega (arith, length-one rows c))
@@ -107,11 +99,3 @@ module _ (n : Node) (x : Mark) (width : ℕ) (within : n.0 < width) where
       by_cases true e h rest =
           let at_c = inside-head rows c cs inside in
           stays-marked (mark_one rows c) cs d (inside-tail rows c cs inside) (wide-one rows c at_c wide) (ap (λ (k : Cell). mark_at (row_of (mark_one rows c) k) n) (sym (same_cell-is c d e)) ∙ here-one rows c at_c wide)
-
-  pub owed-marked : (most : ℕ) → owed_for x ≤ most → (rows : List Copies) (cs : List Cell) → ((c : Cell) → has_cell cs c ≡ true → c.0 < length rows) → All (IsWide width) rows → sum_by owed_in (marked rows cs n x) ≤ sum_by owed_in rows + sum_by (λ c. most) cs
-  owed-marked most le rows [] inside wide = omega arith
-  owed-marked most le rows (c ∷ cs) inside wide =
-      let one = owed-one rows c (inside-head rows c cs inside) wide in
-      let rest = owed-marked most le (mark_one rows c) cs (inside-tail rows c cs inside) (wide-one rows c (inside-head rows c cs inside) wide) in
-      let all = sum_by-cons (λ (d : Cell). most) c cs in
-      omega arith

@@ -19,15 +19,15 @@ use Rattle.sj_core.specs.Coherent.{is_being_written}
 use Rattle.sj_core.specs.Laws.{IsSound}
 use Rattle.sj_core.specs.Step.{CanClaim, after, leave, missing}
 use Rattle.sj_node.specs.Store.{Store, empty}
-use Rattle.sj_machine.specs.Agrees.{Agrees, HasMarks, HasStores, HasTiles, IsWide, Rows, owed_by_task, owed_by_worker, owed_in, pins_on, row_at, rows_of, store_of}
-use Rattle.sj_machine.specs.Copies.{Copies, mark_at, owed_in as owed_in_copies, row_of, tile_at}
+use Rattle.sj_machine.specs.Agrees.{Agrees, HasMarks, HasStores, HasTiles, IsWide, Rows, pins_on, row_at, rows_of, store_of}
+use Rattle.sj_machine.specs.Copies.{Copies, mark_at, row_of, tile_at}
 use Rattle.sj_machine.specs.Mark.{mark_of}
 use Rattle.sj_machine.specs.declared.mark.Mark.{Mark}
 use Rattle.sj_machine.specs.declared.mark.Mark.TheVariants.{Coming as ComingMark, Leaving as LeavingMark}
 use Rattle.sj_machine.specs.Plan.{CanHold, ClaimPlan, IsPlan, holding, marked, plan_with, row_with, store_at, with_mark}
 use Rattle.sj_machine.specs.Sound.{Keeps}
 use Rattle.sj_machine.specs.Standing.{AllTell, CanHappen, Standing, state, with_event}
-use Rattle.sj_machine.proofs.ClaimMarks.{field-marked, length-marked, marked-elsewhere, marked-here, marked-other, owed-marked, wide-marked}
+use Rattle.sj_machine.proofs.ClaimMarks.{field-marked, length-marked, marked-elsewhere, marked-here, marked-other, wide-marked}
 use Rattle.sj_machine.proofs.ClaimPins.{few-cells, pins-few, pins_on-few}
 use Rattle.sj_machine.proofs.ClaimStores.{All-has, can-hold, holding-is, store-elsewhere}
 use Rattle.sj_machine.proofs.Keeping.{HoldsBlocks-kept, keeps-event, sound_state}
@@ -39,7 +39,7 @@ some_is vs ws e = cc
 pub plan-is : (p : Program) (m : Machine) (s : State) (t : Task) (w : Worker) (claim : CanClaim p m s t w) (plan : ClaimPlan) → IsPlan p m s t w plan → plan ≡ plan_with p m s t w (evicted_by p m s t w)
 plan-is p m s t w claim plan is = is.rest ∙ ap (plan_with p m s t w) (some_is plan.victims (evicted_by p m s t w) (sym is.chosen ∙ evicted-chosen p m s t w claim))
 
-module _ {D : Type 0} (size faults mismatches : D → ℕ) (held : D → Option (List ℕ)) (b : Standing D) (rows : Rows) (owed spare : ℕ) (keeps : Keeps size faults mismatches held b rows owed spare) (t : Task) (w : Worker) (can : CanHappen b (Claim t w)) where
+module _ {D : Type 0} (size faults mismatches : D → ℕ) (held : D → Option (List ℕ)) (b : Standing D) (rows : Rows) (spare : ℕ) (keeps : Keeps size faults mismatches held b rows spare) (t : Task) (w : Worker) (can : CanHappen b (Claim t w)) where
   abbrev p : Program
   p = b.program
 
@@ -59,7 +59,7 @@ module _ {D : Type 0} (size faults mismatches : D → ℕ) (held : D → Option 
   n = node_of m w
 
   sound : IsSound p m s
-  sound = sound_state size faults mismatches held b rows owed spare keeps
+  sound = sound_state size faults mismatches held b rows spare keeps
 
   -- the plan of this claim
   abbrev pub claim_plan : ClaimPlan
@@ -222,42 +222,11 @@ module _ {D : Type 0} (size faults mismatches : D → ℕ) (held : D → Option 
     stores = stores;
   }
 
-  -- ---- what is owed
-
-  owed-cells : sum_by owed_in_copies came ≤ sum_by owed_in_copies rows.cells + length claim_plan.victims
-  owed-cells =
-      let a = owed-marked n (LeavingMark w) (length m.nodes) within 1 (omega arith) rows.cells claim_plan.victims evicted-inside keeps.agrees.marks.wide in
-      let c = owed-marked n (ComingMark w) (length m.nodes) within 0 (omega arith) left claim_plan.missing brought-inside wide-left in
-      let one = ones claim_plan.victims in
-      let none = zeros claim_plan.missing in
-      omega arith
-    where
-      ones : (xs : List Cell) → sum_by (λ c. 1) xs ≡ length xs
-      ones [] = refl
-      ones (x ∷ xs) = let a = sum_by-cons (λ (c : Cell). 1) x xs in let rest = ones xs in omega arith
-
-      zeros : (xs : List Cell) → sum_by (λ c. 0) xs ≡ 0
-      zeros [] = refl
-      zeros (x ∷ xs) = let a = sum_by-cons (λ (c : Cell). 0) x xs in let rest = zeros xs in omega arith
-
-  owes : owed_in after_claims ≤ owed_in rows + (length claim_plan.victims + 1)
-  owes =
-      let cells = owed-cells in
-      let new : WorkerState = row_with (row_at rows.workers w) claim_plan in
-      let workers : sum_by owed_by_worker (set rows.workers w.0 new) + owed_by_worker (row_at rows.workers w) ≡ sum_by owed_by_worker rows.workers + owed_by_worker new = sum_by-set owed_by_worker rows.workers w.0 new idle_row claim-worker in
-      let same : owed_by_worker new ≡ owed_by_worker (row_at rows.workers w) = refl in
-      let tasks : sum_by owed_by_task (set rows.tasks t.0 (Claimed w)) + owed_by_task (get_or rows.tasks t.0 Waiting) ≡ sum_by owed_by_task rows.tasks + owed_by_task (Claimed w) = sum_by-set owed_by_task rows.tasks t.0 (Claimed w) Waiting claim-task in
-      let one : owed_by_task (Claimed w) ≡ 1 = refl in
-      omega arith
-
-  pub keeps-claim : (spare' : ℕ) → owed + (length claim_plan.victims + 1) ≤ spare' → Keeps size faults mismatches held (with_event b (Claim t w)) after_claims (owed + (length claim_plan.victims + 1)) spare'
-  keeps-claim spare' fits =
-      keeps-event size faults mismatches held b rows owed spare keeps (Claim t w) after_claims (owed + (length claim_plan.victims + 1)) spare' can
+  pub keeps-claim : (spare' : ℕ) → spare' + 1 ≡ spare → Keeps size faults mismatches held (with_event b (Claim t w)) after_claims spare'
+  keeps-claim spare' left =
+      keeps-event size faults mismatches held b rows spare keeps (Claim t w) after_claims spare' can
       (HoldsBlocks-kept held p m s s' (AllTell held b) b.disks (λ c d v. (claim-on_disk p m s t w s' claim (evicted-after p m s t w) c d, claim-writes p m s t w s' claim (evicted-after p m s t w) c)) keeps.sound.blocks)
-      agrees (omega (arith, owes, keeps.owes)) fits
-
-pub keeps-owed : {D : Type 0} (size faults mismatches : D → ℕ) (held : D → Option (List ℕ)) (b : Standing D) (rows : Rows) (spare owed owed' : ℕ) → owed ≡ owed' → Keeps size faults mismatches held b rows owed spare → Keeps size faults mismatches held b rows owed' spare
-keeps-owed size faults mismatches held b rows spare owed owed' same keeps = subst (λ (k : ℕ). Keeps size faults mismatches held b rows k spare) same keeps
+      agrees left
 
 -- ---- by a plan, and a node that is the worker's
 
@@ -273,23 +242,23 @@ pub record CanChange (rows : Rows) (w : Worker) (k : Node) (plan : ClaimPlan) : 
   pub missing : All (λ c. c.0 < length (marked rows.cells plan.victims k (LeavingMark w))) plan.missing
   pub wide_left : All (λ row. k.0 < length row.marks) (marked rows.cells plan.victims k (LeavingMark w))
 
-module _ {D : Type 0} (size faults mismatches : D → ℕ) (held : D → Option (List ℕ)) (b : Standing D) (rows : Rows) (owed spare : ℕ) (keeps : Keeps size faults mismatches held b rows owed spare) (t : Task) (w : Worker) (can : CanHappen b (Claim t w)) (plan : ClaimPlan) (is : IsPlan b.program b.machine (state b) t w plan) (k : Node) (at : k ≡ node_of b.machine w) where
-  same_plan : plan ≡ claim_plan size faults mismatches held b rows owed spare keeps t w can
+module _ {D : Type 0} (size faults mismatches : D → ℕ) (held : D → Option (List ℕ)) (b : Standing D) (rows : Rows) (spare : ℕ) (keeps : Keeps size faults mismatches held b rows spare) (t : Task) (w : Worker) (can : CanHappen b (Claim t w)) (plan : ClaimPlan) (is : IsPlan b.program b.machine (state b) t w plan) (k : Node) (at : k ≡ node_of b.machine w) where
+  same_plan : plan ≡ claim_plan size faults mismatches held b rows spare keeps t w can
   same_plan = plan-is b.program b.machine (state b) t w can plan is
 
   pub can-change : CanChange rows w k plan
   can-change =
       subst (λ (j : Node). CanChange rows w j plan) (sym at)
       (subst (λ (x : ClaimPlan). CanChange rows w (node_of b.machine w) x) (sym same_plan) (record {
-        hold = claim-can_hold size faults mismatches held b rows owed spare keeps t w can;
-        victims = claim-victims size faults mismatches held b rows owed spare keeps t w can;
-        wide = claim-wide size faults mismatches held b rows owed spare keeps t w can;
-        missing = claim-missing size faults mismatches held b rows owed spare keeps t w can;
-        wide_left = claim-wide_left size faults mismatches held b rows owed spare keeps t w can;
+        hold = claim-can_hold size faults mismatches held b rows spare keeps t w can;
+        victims = claim-victims size faults mismatches held b rows spare keeps t w can;
+        wide = claim-wide size faults mismatches held b rows spare keeps t w can;
+        missing = claim-missing size faults mismatches held b rows spare keeps t w can;
+        wide_left = claim-wide_left size faults mismatches held b rows spare keeps t w can;
       }))
 
-  pub keeps-claimed : (spare' : ℕ) → owed + (length plan.victims + 1) ≤ spare' → Keeps size faults mismatches held (with_event b (Claim t w)) (claimed_rows rows t w k plan) (owed + (length plan.victims + 1)) spare'
+  pub keeps-claimed : (spare' : ℕ) → spare' + 1 ≡ spare → Keeps size faults mismatches held (with_event b (Claim t w)) (claimed_rows rows t w k plan) spare'
   keeps-claimed spare' =
-      subst (λ (j : Node). owed + (length plan.victims + 1) ≤ spare' → Keeps size faults mismatches held (with_event b (Claim t w)) (claimed_rows rows t w j plan) (owed + (length plan.victims + 1)) spare') (sym at)
-      (subst (λ (x : ClaimPlan). owed + (length x.victims + 1) ≤ spare' → Keeps size faults mismatches held (with_event b (Claim t w)) (claimed_rows rows t w (node_of b.machine w) x) (owed + (length x.victims + 1)) spare') (sym same_plan)
-      (keeps-claim size faults mismatches held b rows owed spare keeps t w can spare'))
+      subst (λ (j : Node). spare' + 1 ≡ spare → Keeps size faults mismatches held (with_event b (Claim t w)) (claimed_rows rows t w j plan) spare') (sym at)
+      (subst (λ (x : ClaimPlan). spare' + 1 ≡ spare → Keeps size faults mismatches held (with_event b (Claim t w)) (claimed_rows rows t w (node_of b.machine w) x) spare') (sym same_plan)
+      (keeps-claim size faults mismatches held b rows spare keeps t w can spare'))

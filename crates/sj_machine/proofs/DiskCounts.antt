@@ -197,7 +197,7 @@ wanted-last {A} number want result is P so d w found e = named (subst (RefusesFo
 
 -- ---- as a run's store and fetch tell it
 
-module _ {D A : Type 0} (size faults mismatches : D → ℕ) (held : D → Option (List ℕ)) (b : Standing D) (rows : Rows) (owed spare : ℕ) (keeps : Keeps size faults mismatches held b rows owed spare) (new : LendingState D) (c n : ℕ) (xs : List ℤ) (result : Result A DiskRefusal) (laid : IsLaidOut (map size b.disks.disks) b.disks.taken b.disks.directory) (Q : Extent → Type 0) (some : IsSomeAnd (extent_of b.disks.directory c) Q) where
+module _ {D A : Type 0} (size faults mismatches : D → ℕ) (held : D → Option (List ℕ)) (b : Standing D) (rows : Rows) (spare : ℕ) (keeps : Keeps size faults mismatches held b rows spare) (new : LendingState D) (c n : ℕ) (xs : List ℤ) (result : Result A DiskRefusal) (laid : IsLaidOut (map size b.disks.disks) b.disks.taken b.disks.directory) (Q : Extent → Type 0) (some : IsSomeAnd (extent_of b.disks.directory c) Q) where
   back : AreGivenBack size faults mismatches held b.opened b.disks.disks
   back = keeps.sound.given_back
 

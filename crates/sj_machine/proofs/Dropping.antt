@@ -9,18 +9,17 @@ use Rattle.sj_core.proofs.Words.{AtNode, Coming, DiskNo, Invalid, Leaving, Valid
 use Rattle.sj_core.proofs.Placing.{replica-cases, writes-same}
 use Rattle.sj_core.specs.Step.{CanDrop, after}
 use Rattle.sj_core.specs.Coherent.{is_being_written}
-use Rattle.sj_machine.specs.Mark.{mark_of, owed_for}
+use Rattle.sj_machine.specs.Mark.{mark_of}
 use Rattle.sj_machine.specs.declared.mark.Mark.TheVariants.{Invalid as NoMark}
-use Rattle.sj_machine.specs.Agrees.{Agrees, Rows, owed_in, rows_of}
+use Rattle.sj_machine.specs.Agrees.{Agrees, Rows, rows_of}
 use Rattle.sj_machine.specs.Copies.{Copies, mark_at, row_of, with_copy, with_row}
 use Rattle.sj_machine.specs.Sound.{HoldsBlocks, Keeps}
 use Rattle.sj_machine.specs.Standing.{AllTell, CanHappen, Standing, state, with_event}
-use Rattle.sj_machine.proofs.Keeping.{HoldsBlocks-kept, keeps-event}
+use Rattle.sj_machine.proofs.Keeping.{HoldsBlocks-kept, keeps-event, keeps-told}
 use Rattle.sj_machine.proofs.Marking.{HasMarks-copy, HasTiles-copy, cell-inside, mark-inside, tile-inside}
-use Rattle.sj_machine.proofs.Reading.{owed-copy}
 use Rattle.sj_machine.proofs.Resting.{leaving-valid, rests, valid-cell, valid-node}
 
-module _ {D : Type 0} (size faults mismatches : D → ℕ) (held : D → Option (List ℕ)) (b : Standing D) (rows : Rows) (owed spare : ℕ) (keeps : Keeps size faults mismatches held b rows owed spare) (c : Cell) (n : Node) (can : CanHappen b (Drop c n)) where
+module _ {D : Type 0} (size faults mismatches : D → ℕ) (held : D → Option (List ℕ)) (b : Standing D) (rows : Rows) (spare : ℕ) (keeps : Keeps size faults mismatches held b rows spare) (c : Cell) (n : Node) (can : CanHappen b (Drop c n)) where
   abbrev p : Program
   p = b.program
 
@@ -54,21 +53,6 @@ module _ {D : Type 0} (size faults mismatches : D → ℕ) (held : D → Option 
   abbrev after_drop : Rows
   after_drop = rows_of rows.tasks (with_row rows.cells c (λ row. with_copy row n NoMark None)) rows.nodes rows.workers
 
-  one : owed_for (mark_at (row_of rows.cells c) n) ≡ 1
-  one = ap owed_for (keeps.agrees.marks.marks c n) ∙ of_leaving (replica s c (AtNode n)) drop.leaving
-    where
-      of_leaving : (r : Replica) → is_leaving r ≡ true → owed_for (mark_of r) ≡ 1
-      of_leaving Invalid h = absurd (let e : false ≡ true = h in cc)
-      of_leaving (Coming w) h = absurd (let e : false ≡ true = h in cc)
-      of_leaving (Valid a) h = absurd (let e : false ≡ true = h in cc)
-      of_leaving (Leaving w a) h = refl
-
-  owes : owed_in after_drop + 1 ≡ owed_in rows
-  owes = omega (arith, one, owed-copy rows.cells c n NoMark None drop-cell drop-node (tile-inside p m s keeps.sound.coherent.state.rows rows.cells keeps.agrees.marks c n of_program of_machine))
-
-  pub drop-owed : 0 < owed
-  drop-owed = omega (arith, owes, keeps.owes)
-
   agrees : Agrees p m (after p m s (Drop c n)) (AllTell held b) after_drop
   agrees = record {
     tasks = keeps.agrees.tasks;
@@ -88,13 +72,9 @@ module _ {D : Type 0} (size faults mismatches : D → ℕ) (held : D → Option 
             | inr (e, at, is) ↦ absurd (let apart : OnDisk k ≡ AtNode n = at in cc)
           ]
 
-  keeps-event-drop : Keeps size faults mismatches held (with_event b (Drop c n)) after_drop (owed - 1) (spare - 1)
-  keeps-event-drop = keeps-event size faults mismatches held b rows owed spare keeps (Drop c n) after_drop (owed - 1) (spare - 1) can blocks agrees (omega (arith, owes, keeps.owes)) (omega (arith, keeps.room))
-
   -- as the code leaves it
-  pub keeps-drop : (trace' : Recorded) (cells' : List Copies) → trace'.events ≡ b.trace ++ Drop c n ∷ [] → trace'.spare + 1 ≡ spare → cells' ≡ after_drop.cells → Keeps size faults mismatches held (record b { trace = trace'.events }) (rows_of rows.tasks cells' rows.nodes rows.workers) (owed - 1) trace'.spare
+  pub keeps-drop : (trace' : Recorded) (cells' : List Copies) → trace'.events ≡ b.trace ++ Drop c n ∷ [] → trace'.spare + 1 ≡ spare → cells' ≡ after_drop.cells → Keeps size faults mismatches held (record b { trace = trace'.events }) (rows_of rows.tasks cells' rows.nodes rows.workers) trace'.spare
   keeps-drop trace' cells' told left is =
-      let fewer : spare - 1 ≡ trace'.spare = omega (arith, left) in
-      subst (λ (k : ℕ). Keeps size faults mismatches held (record b { trace = trace'.events }) (rows_of rows.tasks cells' rows.nodes rows.workers) (owed - 1) k) fewer
-      (subst (λ (cs : List Copies). Keeps size faults mismatches held (record b { trace = trace'.events }) (rows_of rows.tasks cs rows.nodes rows.workers) (owed - 1) (spare - 1)) (sym is)
-      (subst (λ (es : List Event). Keeps size faults mismatches held (record b { trace = es }) after_drop (owed - 1) (spare - 1)) (sym told) keeps-event-drop))
+      keeps-told size faults mismatches held b (Drop c n) after_drop (rows_of rows.tasks cells' rows.nodes rows.workers) trace' told
+      (ap (λ (cs : List Copies). rows_of rows.tasks cs rows.nodes rows.workers) is)
+      (keeps-event size faults mismatches held b rows spare keeps (Drop c n) after_drop trace'.spare can blocks agrees left)

@@ -36,7 +36,7 @@ use Rattle.sj_core.specs.Step.{after_end, result_at, rewritten_at, same_place}
 use Rattle.sj_node.specs.Store.{Store, store}
 use Rattle.sj_machine.specs.Mark.{mark_of}
 use Rattle.sj_machine.specs.declared.mark.Mark.TheVariants.{Invalid as NoMark, Valid as ValidMark}
-use Rattle.sj_machine.specs.Agrees.{HasMarks, HasStores, HasTiles, IsWide, Rows, owed_by_task, owed_by_worker, owed_in, pins_on, row_at, rows_of, store_of}
+use Rattle.sj_machine.specs.Agrees.{HasMarks, HasStores, HasTiles, IsWide, Rows, pins_on, row_at, rows_of, store_of}
 use Rattle.sj_machine.specs.Copies.{Copies, mark_at, row_of, tile_at, written_at}
 use Rattle.sj_machine.specs.Plan.{store_at}
 use Rattle.sj_machine.specs.Operands.{CanWorkOn, written_among}
@@ -48,7 +48,7 @@ use Rattle.sj_machine.proofs.ClaimPins.{few-operands}
 use Rattle.sj_machine.proofs.ClaimStores.{sum-at, sum-grown}
 use Rattle.sj_machine.proofs.Keeping.{HoldsBlocks-kept, keeps-event, keeps-told, sound_state}
 use Rattle.sj_machine.proofs.Owning.{get-any}
-use Rattle.sj_machine.proofs.Putting.{length-put_each, owes-put_each, put-row, put-row_none, wide-put_each}
+use Rattle.sj_machine.proofs.Putting.{length-put_each, put-row, put-row_none, wide-put_each}
 use Rattle.sj_machine.proofs.Reading.{no_copies}
 use Rattle.sj_machine.proofs.Resting.{entry-cell}
 use Rattle.sj_machine.proofs.Unpinning.{all-less, can-unpin, ext}
@@ -79,7 +79,7 @@ valid-entry (Coming w) v l = absurd (false≢true v)
 valid-entry (Valid a) v l = refl
 valid-entry (Leaving w a) v l = absurd (false≢true (sym l))
 
-module _ {D : Type 0} (size faults mismatches : D → ℕ) (held : D → Option (List ℕ)) (b : Standing D) (rows : Rows) (owed spare : ℕ) (keeps : Keeps size faults mismatches held b rows owed spare) (t : Task) (w : Worker) (can : CanHappen b (End t w)) where
+module _ {D : Type 0} (size faults mismatches : D → ℕ) (held : D → Option (List ℕ)) (b : Standing D) (rows : Rows) (spare : ℕ) (keeps : Keeps size faults mismatches held b rows spare) (t : Task) (w : Worker) (can : CanHappen b (End t w)) where
   abbrev p : Program
   p = b.program
 
@@ -99,7 +99,7 @@ module _ {D : Type 0} (size faults mismatches : D → ℕ) (held : D → Option 
   ended = can
 
   h : IsSound p m s
-  h = sound_state size faults mismatches held b rows owed spare keeps
+  h = sound_state size faults mismatches held b rows spare keeps
 
   inside_task : t.0 < length p.tasks
   inside_task = running-inside p m s t w h.coherent.state.rows ended
@@ -365,20 +365,6 @@ module _ {D : Type 0} (size faults mismatches : D → ℕ) (held : D → Option 
 
     -- ---- all of it
 
-    owes-tasks : sum_by owed_by_task (set rows.tasks t.0 (Done w)) + 1 ≡ sum_by owed_by_task rows.tasks
-    owes-tasks =
-        let was : owed_by_task (get_or rows.tasks t.0 Waiting) ≡ 1 = ap (λ (ts : List Progress). owed_by_task (get_or ts t.0 Waiting)) keeps.agrees.tasks ∙ ap owed_by_task ended in
-        omega (arith, was, sum_by-set owed_by_task rows.tasks t.0 (Done w) Waiting end-task)
-
-    owes-workers : sum_by owed_by_worker (let_go rows.workers w) ≡ sum_by owed_by_worker rows.workers
-    owes-workers = omega (arith, sum_by-set owed_by_worker rows.workers w.0 (record (row_at rows.workers w) { pins = []; scratch = 0 }) idle_row end-worker_row)
-
-    fewer : owed_in (rows_of (set rows.tasks t.0 (Done w)) new new_nodes (let_go rows.workers w)) + 1 ≤ owed_in rows
-    fewer = omega (arith, owes-tasks, owes-workers, owes-put_each (length m.nodes) n ws xs rows.cells end-node all-inside keeps.agrees.marks.wide)
-
-    pub end-owed : 0 < owed
-    end-owed = omega (arith, fewer, keeps.owes)
-
     blocks-stay : HoldsBlocks held p m s' (AllTell held b) b.disks
     blocks-stay = HoldsBlocks-kept held p m s s' (AllTell held b) b.disks (λ c d valid. (
       elsewhere c (OnDisk d) refl,
@@ -388,42 +374,42 @@ module _ {D : Type 0} (size faults mismatches : D → ℕ) (held : D → Option 
       ],
     )) keeps.sound.blocks
 
-    pub keeps-end : (trace' : Recorded) (tasks' : List Progress) (cells' : List Copies) (nodes' : List Store) (workers' : List WorkerState) → trace'.events ≡ b.trace ++ End t w ∷ [] → trace'.spare + 1 ≡ spare → tasks' ≡ set rows.tasks t.0 (Done w) → cells' ≡ new → nodes' ≡ new_nodes → workers' ≡ let_go rows.workers w → Keeps size faults mismatches held (record b { trace = trace'.events }) (rows_of tasks' cells' nodes' workers') (owed - 1) trace'.spare
+    pub keeps-end : (trace' : Recorded) (tasks' : List Progress) (cells' : List Copies) (nodes' : List Store) (workers' : List WorkerState) → trace'.events ≡ b.trace ++ End t w ∷ [] → trace'.spare + 1 ≡ spare → tasks' ≡ set rows.tasks t.0 (Done w) → cells' ≡ new → nodes' ≡ new_nodes → workers' ≡ let_go rows.workers w → Keeps size faults mismatches held (record b { trace = trace'.events }) (rows_of tasks' cells' nodes' workers') trace'.spare
     keeps-end trace' tasks' cells' nodes' workers' told left tasks cells nodes workers =
-        keeps-told size faults mismatches held b (End t w) (rows_of (set rows.tasks t.0 (Done w)) new new_nodes (let_go rows.workers w)) (rows_of tasks' cells' nodes' workers') (owed - 1) trace' told
+        keeps-told size faults mismatches held b (End t w) (rows_of (set rows.tasks t.0 (Done w)) new new_nodes (let_go rows.workers w)) (rows_of tasks' cells' nodes' workers') trace' told
         (ap (λ (x : List Progress). rows_of x cells' nodes' workers') tasks ∙ ap (λ (x : List Copies). rows_of (set rows.tasks t.0 (Done w)) x nodes' workers') cells
         ∙ ap (λ (x : List Store). rows_of (set rows.tasks t.0 (Done w)) new x workers') nodes ∙ ap (λ (x : List WorkerState). rows_of (set rows.tasks t.0 (Done w)) new new_nodes x) workers)
-        (keeps-event size faults mismatches held b rows owed spare keeps (End t w) (rows_of (set rows.tasks t.0 (Done w)) new new_nodes (let_go rows.workers w)) (owed - 1) trace'.spare can blocks-stay
+        (keeps-event size faults mismatches held b rows spare keeps (End t w) (rows_of (set rows.tasks t.0 (Done w)) new new_nodes (let_go rows.workers w)) trace'.spare can blocks-stay
         (record {
           tasks = ap (λ (ts : List Progress). set ts t.0 (Done w)) keeps.agrees.tasks;
           workers = ap (λ (rs : List WorkerState). let_go rs w) keeps.agrees.workers;
           marks = marks-agree;
           tiles = tiles-agree;
           stores = stores-agree;
-        }) (omega (arith, fewer, keeps.owes)) (omega (arith, left, keeps.room, end-owed)))
+        }) left)
 
 -- ---- as the code finds it
 
-module _ {D : Type 0} (size faults mismatches : D → ℕ) (held : D → Option (List ℕ)) (b : Standing D) (rows : Rows) (owed spare : ℕ) (keeps : Keeps size faults mismatches held b rows owed spare) (t : Task) (w : Worker) (b' : Standing D) (same : b ≡ b') (can' : CanHappen b' (End t w)) (at : Node) (bound : at ≡ node_of b.machine w) where
+module _ {D : Type 0} (size faults mismatches : D → ℕ) (held : D → Option (List ℕ)) (b : Standing D) (rows : Rows) (spare : ℕ) (keeps : Keeps size faults mismatches held b rows spare) (t : Task) (w : Worker) (b' : Standing D) (same : b ≡ b') (can' : CanHappen b' (End t w)) (at : Node) (bound : at ≡ node_of b.machine w) where
   now-can : CanHappen b (End t w)
   now-can = subst (λ (x : Standing D). CanHappen x (End t w)) (sym same) can'
 
   pub found-end_program_task : t.0 < length b.program.tasks
-  found-end_program_task = end-program_task size faults mismatches held b rows owed spare keeps t w now-can
+  found-end_program_task = end-program_task size faults mismatches held b rows spare keeps t w now-can
 
   pub found-end_task : t.0 < length rows.tasks
-  found-end_task = end-task size faults mismatches held b rows owed spare keeps t w now-can
+  found-end_task = end-task size faults mismatches held b rows spare keeps t w now-can
 
   pub found-end_worker : w.0 < length rows.workers
-  found-end_worker = end-worker_row size faults mismatches held b rows owed spare keeps t w now-can
+  found-end_worker = end-worker_row size faults mismatches held b rows spare keeps t w now-can
 
   pub found-end_node : at.0 < length rows.nodes
-  found-end_node = omega (arith, ap (λ (j : Node). j.0) bound, end-node_row size faults mismatches held b rows owed spare keeps t w now-can)
+  found-end_node = omega (arith, ap (λ (j : Node). j.0) bound, end-node_row size faults mismatches held b rows spare keeps t w now-can)
 
   pub found-can_release : (workers : List WorkerState) → workers ≡ rows.workers → CanRelease (row_at workers w).pins (row_at workers w).scratch (store_at rows.nodes at)
   found-can_release workers is =
       subst (λ (rs : List WorkerState). CanRelease (row_at rs w).pins (row_at rs w).scratch (store_at rows.nodes at)) (sym is)
-      (subst (λ (j : Node). CanRelease (row_at rows.workers w).pins (row_at rows.workers w).scratch (store_at rows.nodes j)) (sym bound) (end-can_release size faults mismatches held b rows owed spare keeps t w now-can))
+      (subst (λ (j : Node). CanRelease (row_at rows.workers w).pins (row_at rows.workers w).scratch (store_at rows.nodes j)) (sym bound) (end-can_release size faults mismatches held b rows spare keeps t w now-can))
 
   module _ (accesses : List Access) (of_task : accesses ≡ (task_of b.program t).accesses) (q : Program) (program : q ≡ b.program) where
     same-among : written_among q w accesses ≡ written_among b.program w (task_of b.program t).accesses
@@ -432,37 +418,34 @@ module _ {D : Type 0} (size faults mismatches : D → ℕ) (held : D → Option 
     found-end_can_work : All (CanWorkOn q w) accesses
     found-end_can_work =
         subst (λ (x : Program). All (CanWorkOn x w) accesses) (sym program)
-        (subst (λ (l : List Access). All (CanWorkOn b.program w) l) (sym of_task) (end-can_work size faults mismatches held b rows owed spare keeps t w now-can))
+        (subst (λ (l : List Access). All (CanWorkOn b.program w) l) (sym of_task) (end-can_work size faults mismatches held b rows spare keeps t w now-can))
 
     found-end_cells : All (λ a. (worked_on q w a).0 < length rows.cells) accesses
     found-end_cells =
         subst (λ (x : Program). All (λ a. (worked_on x w a).0 < length rows.cells) accesses) (sym program)
-        (subst (λ (l : List Access). All (λ a. (worked_on b.program w a).0 < length rows.cells) l) (sym of_task) (end-cells size faults mismatches held b rows owed spare keeps t w now-can))
+        (subst (λ (l : List Access). All (λ a. (worked_on b.program w a).0 < length rows.cells) l) (sym of_task) (end-cells size faults mismatches held b rows spare keeps t w now-can))
 
     found-end_rows : All (CanRewrite at (length (written_among q w accesses))) rows.cells
     found-end_rows =
         subst (λ (l : List Cell). All (CanRewrite at (length l)) rows.cells) (sym same-among)
-        (subst (λ (j : Node). All (CanRewrite j (length (written_among b.program w (task_of b.program t).accesses))) rows.cells) (sym bound) (end-rows size faults mismatches held b rows owed spare keeps t w now-can))
+        (subst (λ (j : Node). All (CanRewrite j (length (written_among b.program w (task_of b.program t).accesses))) rows.cells) (sym bound) (end-rows size faults mismatches held b rows spare keeps t w now-can))
 
     module _ (slots : List Slot) (given : AreResultsFor held b' t w slots) where
       now-given : AreResultsFor held b t w slots
       now-given = subst (λ (x : Standing D). AreResultsFor held x t w slots) (sym same) given
 
       found-end_shared : AreShared slots
-      found-end_shared = end-shared size faults mismatches held b rows owed spare keeps t w now-can slots now-given
+      found-end_shared = end-shared size faults mismatches held b rows spare keeps t w now-can slots now-given
 
       found-end_count : length slots ≡ length (written_among q w accesses)
-      found-end_count = end-count size faults mismatches held b rows owed spare keeps t w now-can slots now-given ∙ ap length (sym same-among)
+      found-end_count = end-count size faults mismatches held b rows spare keeps t w now-can slots now-given ∙ ap length (sym same-among)
 
       pub found-end_can_put : CanPutBack q w rows.cells at accesses slots
       found-end_can_put = record { works = found-end_can_work; cells = found-end_cells; rewrites = found-end_rows; shares = found-end_shared; count = found-end_count }
 
-      pub found-end_owed : 0 < owed
-      found-end_owed = end-owed size faults mismatches held b rows owed spare keeps t w now-can slots now-given
-
-      pub found-keeps_end : (trace' : Recorded) (tasks' : List Progress) (cells' : List Copies) (nodes' : List Store) (workers' : List WorkerState) (found : List WorkerState) → found ≡ rows.workers → trace'.events ≡ b.trace ++ End t w ∷ [] → trace'.spare + 1 ≡ spare → tasks' ≡ set rows.tasks t.0 (Done w) → cells' ≡ put_each at (written_among q w accesses) (arrays slots) rows.cells → nodes' ≡ set rows.nodes at.0 (released (row_at found w).pins (row_at found w).scratch (store_at rows.nodes at)) → workers' ≡ let_go rows.workers w → Keeps size faults mismatches held (record b { trace = trace'.events }) (rows_of tasks' cells' nodes' workers') (owed - 1) trace'.spare
+      pub found-keeps_end : (trace' : Recorded) (tasks' : List Progress) (cells' : List Copies) (nodes' : List Store) (workers' : List WorkerState) (found : List WorkerState) → found ≡ rows.workers → trace'.events ≡ b.trace ++ End t w ∷ [] → trace'.spare + 1 ≡ spare → tasks' ≡ set rows.tasks t.0 (Done w) → cells' ≡ put_each at (written_among q w accesses) (arrays slots) rows.cells → nodes' ≡ set rows.nodes at.0 (released (row_at found w).pins (row_at found w).scratch (store_at rows.nodes at)) → workers' ≡ let_go rows.workers w → Keeps size faults mismatches held (record b { trace = trace'.events }) (rows_of tasks' cells' nodes' workers') trace'.spare
       found-keeps_end trace' tasks' cells' nodes' workers' found is told left tasks cells nodes workers =
-          keeps-end size faults mismatches held b rows owed spare keeps t w now-can slots now-given trace' tasks' cells' nodes' workers' told left tasks
+          keeps-end size faults mismatches held b rows spare keeps t w now-can slots now-given trace' tasks' cells' nodes' workers' told left tasks
           (cells ∙ ap (λ (j : Node). put_each j (written_among q w accesses) (arrays slots) rows.cells) bound ∙ ap (λ (l : List Cell). put_each (node_of b.machine w) l (arrays slots) rows.cells) same-among)
           (nodes ∙ ap (λ (rs : List WorkerState). set rows.nodes at.0 (released (row_at rs w).pins (row_at rs w).scratch (store_at rows.nodes at))) is ∙ ap (λ (j : Node). set rows.nodes j.0 (released (row_at rows.workers w).pins (row_at rows.workers w).scratch (store_at rows.nodes j))) bound)
           workers

@@ -21,7 +21,7 @@ use Rattle.sj_machine.proofs.Delivering.{deliver-reads}
 use Rattle.sj_machine.proofs.Owning.{get-any, read-there, read-tile, run-can_give}
 use Rattle.sj_machine.proofs.Reading.{no_copies}
 
-module _ {D : Type 0} (size faults mismatches : D → ℕ) (held : D → Option (List ℕ)) (b : Standing D) (rows : Rows) (owed spare : ℕ) (keeps : Keeps size faults mismatches held b rows owed spare) (t : Task) (w : Worker) (can : CanHappen b (Run t w)) (hands : is_deliver_task b.program t ≡ true) where
+module _ {D : Type 0} (size faults mismatches : D → ℕ) (held : D → Option (List ℕ)) (b : Standing D) (rows : Rows) (spare : ℕ) (keeps : Keeps size faults mismatches held b rows spare) (t : Task) (w : Worker) (can : CanHappen b (Run t w)) (hands : is_deliver_task b.program t ≡ true) where
   abbrev cell : Cell
   cell = delivered_cell b.program t
 
@@ -32,13 +32,13 @@ module _ {D : Type 0} (size faults mismatches : D → ℕ) (held : D → Option 
   among = subst (λ (xs : List Access). Contains xs (access R cell)) (sym reads) (0, omega arith, refl)
 
   there : is_some (tile_at (row_of rows.cells cell) (node_of b.machine w)) ≡ true
-  there = read-there size faults mismatches held b rows owed spare keeps t w can (access R cell) among refl
+  there = read-there size faults mismatches held b rows spare keeps t w can (access R cell) among refl
 
   tile : IsTileOf held b cell (AtNode (node_of b.machine w)) (kept_at rows.cells (node_of b.machine w) cell)
-  tile = read-tile size faults mismatches held b rows owed spare keeps t w can (access R cell) among refl
+  tile = read-tile size faults mismatches held b rows spare keeps t w can (access R cell) among refl
 
   give : CanGive b.program w rows.cells (node_of b.machine w) (access R cell)
-  give = subst (λ (xs : List Access). All (CanGive b.program w rows.cells (node_of b.machine w)) xs) reads (run-can_give size faults mismatches held b rows owed spare keeps t w can) 0 (access R cell) (omega arith)
+  give = subst (λ (xs : List Access). All (CanGive b.program w rows.cells (node_of b.machine w)) xs) reads (run-can_give size faults mismatches held b rows spare keeps t w can) 0 (access R cell) (omega arith)
 
   -- the row and the node as the code finds them
   module _ (row : Copies) (n : Node) (found : row ≡ get_or rows.cells cell.0 row) (at : n ≡ node_of b.machine w) where

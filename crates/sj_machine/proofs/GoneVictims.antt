@@ -114,15 +114,15 @@ gone-all rows n w victims known gone none =
     ∙ rest
 
 -- the victims in a worker's row
-pub victims-held : {D : Type 0} (size faults mismatches : D → ℕ) (held : D → Option (List ℕ)) (b : Standing D) (rows : Rows) (owed spare : ℕ) → Keeps size faults mismatches held b rows owed spare → (w : Worker) → w.0 < b.program.workers → (x d : WorkerState) → x ≡ get_or rows.workers w.0 d → x.victims ≡ victims_of (state b) w
-victims-held size faults mismatches held b rows owed spare keeps w staffed x d read =
+pub victims-held : {D : Type 0} (size faults mismatches : D → ℕ) (held : D → Option (List ℕ)) (b : Standing D) (rows : Rows) (spare : ℕ) → Keeps size faults mismatches held b rows spare → (w : Worker) → w.0 < b.program.workers → (x d : WorkerState) → x ≡ get_or rows.workers w.0 d → x.victims ≡ victims_of (state b) w
+victims-held size faults mismatches held b rows spare keeps w staffed x d read =
     let inside : w.0 < length rows.workers = omega (arith, staffed, keeps.sound.run.machine.workers, keeps.sound.coherent.state.rows.workers, ap length keeps.agrees.workers) in
     ap (λ (r : WorkerState). r.victims) (read ∙ get_or_default rows.workers w.0 d idle_row inside ∙ ap (λ (ws : List WorkerState). get_or ws w.0 idle_row) keeps.agrees.workers)
 
-module _ {D : Type 0} (size faults mismatches : D → ℕ) (held : D → Option (List ℕ)) (b : Standing D) (rows : Rows) (owed spare : ℕ) (keeps : Keeps size faults mismatches held b rows owed spare) (w : Worker) (k : Node) (at : k ≡ node_of b.machine w) (victims : List Cell) (are : victims ≡ victims_of (state b) w) (count : ℕ) where
+module _ {D : Type 0} (size faults mismatches : D → ℕ) (held : D → Option (List ℕ)) (b : Standing D) (rows : Rows) (spare : ℕ) (keeps : Keeps size faults mismatches held b rows spare) (w : Worker) (k : Node) (at : k ≡ node_of b.machine w) (victims : List Cell) (are : victims ≡ victims_of (state b) w) (count : ℕ) where
   gone-same : list_all (λ c. not (leaves_in rows.cells k w c)) (take count (reverse victims)) ≡ list_all (is_gone b.machine (state b) w) (take count (reverse (victims_of (state b) w)))
   gone-same =
-      list_all-agree (λ c. not (leaves_in rows.cells k w c)) (is_gone b.machine (state b) w) (λ c. ap not (leaves size faults mismatches held b rows owed spare keeps w c k ∙ ap (λ (j : Node). is_leaving_by w (replica (state b) c (AtNode j))) at)) (take count (reverse victims))
+      list_all-agree (λ c. not (leaves_in rows.cells k w c)) (is_gone b.machine (state b) w) (λ c. ap not (leaves size faults mismatches held b rows spare keeps w c k ∙ ap (λ (j : Node). is_leaving_by w (replica (state b) c (AtNode j))) at)) (take count (reverse victims))
       ∙ ap (λ (cs : List Cell). list_all (is_gone b.machine (state b) w) (take count (reverse cs))) are
 
   pub gone-rows : AreGone b.machine (state b) w count → AreGoneIn rows.cells k w victims count

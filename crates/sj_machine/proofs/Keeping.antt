@@ -1,11 +1,13 @@
 -- What one legal event more leaves: a legal trace, a coherent state, and blocks that stay.
-use Rattle.std.proofs.Common.{◌≡◌, ◌≤◌, ℕ, true, List, [], ◌∷◌, ◌++◌, length, Option, Some, None, sym, ap, ◌∙◌, subst}
+use Rattle.std.proofs.Common.{◌≡◌, ◌<◌, ◌+◌, ◌≤◌, ℕ, true, List, [], ◌∷◌, ◌++◌, length, Option, Some, None, sym, ap, ◌∙◌, subst, arith}
 use Rattle.std.specs.Prelude.{All, FitsSigned, IsSomeAnd, unwrap_or}
 use Rattle.std.specs.Int.{w64}
 use Rattle.sj_base.specs.Recorded.{Recorded}
 use Rattle.sj_base.specs.declared.trace.Event.{Event}
 use Rattle.sj_core.proofs.Words.{Cell, DiskNo, Machine, OnDisk, Place, Program, Replica, State, array_of, dims_of, is_valid, replica, writes}
 use Rattle.sj_base.specs.Array.{Array, zeros}
+use Rattle.std.proofs.lemmas.List.{length-append}
+use Rattle.sj_core.proofs.Bound.{legal-within_bound}
 use Rattle.sj_core.proofs.Replaying.{legal-coherent}
 use Rattle.sj_core.proofs.States.{legal-more, state_of-more}
 use Rattle.sj_core.specs.Legal.{IsLegal}
@@ -15,7 +17,7 @@ use Rattle.sj_disk.specs.declared.directory.Extent.{Extent}
 use Rattle.sj_disk.specs.Block.{block}
 use Rattle.sj_disk.specs.Directory.{DiskState, extent_of, last_store}
 use Rattle.sj_disk.specs.Holding.{Holds}
-use Rattle.sj_machine.specs.Agrees.{Agrees, Rows, owed_in}
+use Rattle.sj_machine.specs.Agrees.{Agrees, Rows}
 use Rattle.sj_machine.specs.Sound.{HoldsArray, HoldsBlocks, IsStored, Keeps}
 use Rattle.sj_machine.specs.Standing.{AllTell, CanHappen, Standing, state, with_event}
 
@@ -46,7 +48,7 @@ HoldsBlocks-kept held p m s s' Tells disks kept had = record {
   blocks = λ tells c d valid. (let k = kept c d valid in IsSomeAnd-map (HoldsArray held disks.disks p s c (OnDisk d)) (HoldsArray held disks.disks p s' c (OnDisk d)) (λ e is. HoldsArray-moved held disks.disks p s s' c (OnDisk d) (OnDisk d) e (array-same p s s' c (OnDisk d) k.0) k.1 is) (extent_of disks.directory c.0) (had.blocks tells c d (sym (ap is_valid k.0) ∙ valid)));
 }
 
-module _ {D : Type 0} (size faults mismatches : D → ℕ) (held : D → Option (List ℕ)) (b : Standing D) (rows : Rows) (owed spare : ℕ) (keeps : Keeps size faults mismatches held b rows owed spare) where
+module _ {D : Type 0} (size faults mismatches : D → ℕ) (held : D → Option (List ℕ)) (b : Standing D) (rows : Rows) (spare : ℕ) (keeps : Keeps size faults mismatches held b rows spare) where
   abbrev p : Program
   p = b.program
 
@@ -56,9 +58,13 @@ module _ {D : Type 0} (size faults mismatches : D → ℕ) (held : D → Option 
   pub sound_state : IsSound p m (state b)
   sound_state = record { proper = keeps.sound.run.proper; machine = keeps.sound.run.machine; coherent = keeps.sound.coherent }
 
+  -- the trace has room for an event that can happen, since with it the trace is a legal one
+  pub has-room : (e : Event) → CanHappen b e → 0 < spare
+  has-room e can = omega (arith, legal-within_bound p m keeps.sound.run.proper keeps.sound.run.machine keeps.sound.run.has keeps.sound.run.lawful (b.trace ++ e ∷ []) (legal-more p m b.trace e keeps.sound.legal can), keeps.room, length-append b.trace (e ∷ []))
+
   -- one event more: the new rows agree with the state after it, and so on
-  pub keeps-event : (e : Event) (rows' : Rows) (owed' spare' : ℕ) → CanHappen b e → HoldsBlocks held p m (after p m (state b) e) (AllTell held b) b.disks → Agrees p m (after p m (state b) e) (AllTell held b) rows' → owed_in rows' ≤ owed' → owed' ≤ spare' → Keeps size faults mismatches held (with_event b e) rows' owed' spare'
-  keeps-event e rows' owed' spare' can blocks agrees owes fits =
+  pub keeps-event : (e : Event) (rows' : Rows) (spare' : ℕ) → CanHappen b e → HoldsBlocks held p m (after p m (state b) e) (AllTell held b) b.disks → Agrees p m (after p m (state b) e) (AllTell held b) rows' → spare' + 1 ≡ spare → Keeps size faults mismatches held (with_event b e) rows' spare'
+  keeps-event e rows' spare' can blocks agrees left =
       let now : state (with_event b e) ≡ after p m (state b) e = state_of-more p m b.trace e in
       let legal : IsLegal p m (b.trace ++ e ∷ []) = legal-more p m b.trace e keeps.sound.legal can in
       record {
@@ -70,12 +76,11 @@ module _ {D : Type 0} (size faults mismatches : D → ℕ) (held : D → Option 
           given_back = keeps.sound.given_back;
         };
         agrees = subst (λ (z : State). Agrees p m z (AllTell held b) rows') (sym now) agrees;
-        owes = owes;
-        room = fits;
+        room = omega (arith, left, keeps.room, length-append b.trace (e ∷ []));
       }
 
 -- as the code leaves it: the trace has the event, and the rows are these
-pub keeps-told : {D : Type 0} (size faults mismatches : D → ℕ) (held : D → Option (List ℕ)) (b : Standing D) (e : Event) (rows rows' : Rows) (owed : ℕ) (trace' : Recorded) → trace'.events ≡ b.trace ++ e ∷ [] → rows' ≡ rows → Keeps size faults mismatches held (with_event b e) rows owed trace'.spare → Keeps size faults mismatches held (record b { trace = trace'.events }) rows' owed trace'.spare
-keeps-told size faults mismatches held b e rows rows' owed trace' told is keeps =
-    subst (λ (r : Rows). Keeps size faults mismatches held (record b { trace = trace'.events }) r owed trace'.spare) (sym is)
-    (subst (λ (es : List Event). Keeps size faults mismatches held (record b { trace = es }) rows owed trace'.spare) (sym told) keeps)
+pub keeps-told : {D : Type 0} (size faults mismatches : D → ℕ) (held : D → Option (List ℕ)) (b : Standing D) (e : Event) (rows rows' : Rows) (trace' : Recorded) → trace'.events ≡ b.trace ++ e ∷ [] → rows' ≡ rows → Keeps size faults mismatches held (with_event b e) rows trace'.spare → Keeps size faults mismatches held (record b { trace = trace'.events }) rows' trace'.spare
+keeps-told size faults mismatches held b e rows rows' trace' told is keeps =
+    subst (λ (r : Rows). Keeps size faults mismatches held (record b { trace = trace'.events }) r trace'.spare) (sym is)
+    (subst (λ (es : List Event). Keeps size faults mismatches held (record b { trace = es }) rows trace'.spare) (sym told) keeps)

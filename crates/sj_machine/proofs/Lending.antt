@@ -11,9 +11,8 @@ use Rattle.sj_core.proofs.CellLists.{cells-written, times}
 use Rattle.sj_core.proofs.Tables.{renewed-at}
 use Rattle.sj_machine.specs.declared.mark.Mark.{Mark}
 use Rattle.sj_machine.specs.declared.mark.Mark.TheVariants.{Invalid, Valid}
-use Rattle.sj_machine.specs.Mark.{owed_for}
 use Rattle.sj_machine.specs.Agrees.{IsWide}
-use Rattle.sj_machine.specs.Copies.{Copies, lent_at, mark_at, owed_in, row_of, tile_at, with_row}
+use Rattle.sj_machine.specs.Copies.{Copies, lent_at, mark_at, row_of, tile_at, with_row}
 use Rattle.sj_machine.specs.Running.{lend_each}
 use Rattle.sj_machine.proofs.Reading.{no_copies}
 
@@ -21,27 +20,6 @@ all_const : {X Y : Type 0} (xs : List X) (a : Y) (k : ℕ) → get_or (map (λ (
 all_const [] a k = refl
 all_const (x ∷ xs) a zero = refl
 all_const (x ∷ xs) a (suc k) = all_const xs a k
-
-owed-none : (xs : List Mark) → sum_by owed_for (map (λ (x : Mark). Invalid) xs) ≡ 0
-owed-none [] = refl
-owed-none (x ∷ xs) = sum_by-cons owed_for Invalid (map (λ (x : Mark). Invalid) xs) ∙ (let e = owed-none xs in omega arith)
-
--- nothing is owed for a cell that is one node's own
-pub owed-lent : (row : Copies) (n : Node) → owed_in (lent_at row n) ≡ 0
-owed-lent row n =
-    elim (cases_lt n.0 (length row.marks)) [
-      | inl inside ↦ (
-          let within : n.0 < length (map (λ (x : Mark). Invalid) row.marks) = omega (arith, inside, length-map row.marks (λ (x : Mark). Invalid)) in
-          let change : sum_by owed_for (set (map (λ (x : Mark). Invalid) row.marks) n.0 Valid) + owed_for (get_or (map (λ (x : Mark). Invalid) row.marks) n.0 Invalid) ≡ sum_by owed_for (map (λ (x : Mark). Invalid) row.marks) + 0 = sum_by-set owed_for (map (λ (x : Mark). Invalid) row.marks) n.0 Valid Invalid within in
-          omega (arith, change, owed-none row.marks)
-          )
-      | inr past ↦ ap (sum_by owed_for) (set-past (map (λ (x : Mark). Invalid) row.marks) n.0 Valid (omega (arith, past, length-map row.marks (λ (x : Mark). Invalid)))) ∙ owed-none row.marks
-    ]
-  where
-    set-past : (xs : List Mark) (i : ℕ) (a : Mark) → length xs ≤ i → set xs i a ≡ xs
-    set-past [] i a h = refl
-    set-past (x ∷ xs) zero a h = absurd (omega arith)
-    set-past (x ∷ xs) (suc i) a h = ap (λ (ys : List Mark). x ∷ ys) (set-past xs i a (omega arith))
 
 -- what a row that is one node's own shows
 pub lent-mark_here : (row : Copies) (n : Node) → n.0 < length row.marks → mark_at (lent_at row n) n ≡ Valid
@@ -53,14 +31,13 @@ lent-mark_there row n k far = get_or-set_other (map (λ (x : Mark). Invalid) row
 pub lent-tile : (row : Copies) (n k : Node) → tile_at (lent_at row n) k ≡ None
 lent-tile row n k = all_const row.tiles None k.0
 
--- what lending keeps, and that it owes no more
+-- what lending keeps
 pub record LendsKeep (w : ℕ) (rows new : List Copies) : Type 0 where
   pub every : length new ≡ length rows
   pub wide : All (IsWide w) new
-  pub owes : sum_by owed_in new ≤ sum_by owed_in rows
 
 pub lend-keeps : (w : ℕ) (n : Node) (cs : List Cell) (rows : List Copies) → All (λ c. c.0 < length rows) cs → All (IsWide w) rows → LendsKeep w rows (lend_each n cs rows)
-lend-keeps w n [] rows inside wide = record { every = refl; wide = wide; owes = omega arith }
+lend-keeps w n [] rows inside wide = record { every = refl; wide = wide }
 lend-keeps w n (c ∷ cs) rows inside wide =
     let here : c.0 < length rows = inside 0 c (omega arith) in
     let had : IsWide w (row_of rows c) = All-get_or (IsWide w) rows c.0 no_copies here wide in
@@ -68,11 +45,9 @@ lend-keeps w n (c ∷ cs) rows inside wide =
     let same : length now ≡ length rows = length-set rows c.0 (lent_at (row_of rows c) n) in
     let lent_wide : IsWide w (lent_at (row_of rows c) n) = record { marks = length-set (map (λ (x : Mark). Invalid) (row_of rows c).marks) n.0 Valid ∙ length-map (row_of rows c).marks (λ (x : Mark). Invalid) ∙ had.marks; tiles = length-map (row_of rows c).tiles (λ (x : Option Array). None) ∙ had.tiles } in
     let rest = lend-keeps w n cs now (λ k d within. (let e = inside (suc k) d (omega arith) in omega (arith, e, same))) (All-set (IsWide w) rows c.0 (lent_at (row_of rows c) n) lent_wide wide) in
-    let less : sum_by owed_in now + owed_in (row_of rows c) ≡ sum_by owed_in rows + owed_in (lent_at (row_of rows c) n) = sum_by-set owed_in rows c.0 (lent_at (row_of rows c) n) no_copies here in
     record {
       every = rest.every ∙ same;
       wide = rest.wide;
-      owes = omega (arith, rest.owes, less, owed-lent (row_of rows c) n);
     }
 
 -- each row after it

@@ -1,5 +1,5 @@
 -- A run on which nothing has happened.
-use Rattle.std.proofs.Common.{◌≡◌, ◌+◌, ◌*◌, ◌∙◌, ℕ, zero, suc, true, false, List, [], ◌∷◌, Option, None, Some, refl, sym, ap, subst, arith, inl, inr, length, map, get_or, replicate, sum_by, is_some}
+use Rattle.std.proofs.Common.{◌≡◌, ◌≤◌, ◌+◌, ◌*◌, ◌∙◌, ℕ, zero, suc, true, false, List, [], ◌∷◌, Option, None, Some, refl, sym, ap, subst, arith, inl, inr, length, map, get_or, replicate, sum_by, is_some}
 use Rattle.std.specs.Prelude.{IfSome, IsSomeAnd, fold}
 use Rattle.std.proofs.lemmas.Bool.{cases_lt, false≢true}
 use Rattle.std.proofs.lemmas.List.{get_or-map, get_or-replicate, get_or_past, length-map, length-replicate}
@@ -19,10 +19,10 @@ use Rattle.sj_disk.specs.Lending.{LendingState, lending}
 use Rattle.sj_disk.specs.Directory.{DiskState, extent_of}
 use Rattle.sj_node.specs.Store.{Store, empty, store}
 use Rattle.sj_machine.specs.declared.mark.Mark.TheVariants.{Invalid as NoMark}
-use Rattle.sj_machine.specs.Mark.{mark_of, owed_for}
-use Rattle.sj_machine.specs.Agrees.{Agrees, IsWide, Rows, entry_of, owed_by_task, owed_by_worker, owed_in, rows_of, store_of}
-use Rattle.sj_machine.specs.Copies.{Copies, mark_at, none_at, owed_in as owed_in_copies, row_of, tile_at}
-use Rattle.sj_machine.specs.Sound.{IsBlock, IsRunOf, Keeps, block_of}
+use Rattle.sj_machine.specs.Mark.{mark_of}
+use Rattle.sj_machine.specs.Agrees.{Agrees, IsWide, Rows, entry_of, rows_of, store_of}
+use Rattle.sj_machine.specs.Copies.{Copies, mark_at, none_at, row_of, tile_at}
+use Rattle.sj_machine.specs.Sound.{IsBlock, IsRunOf, Keeps, block_of, most_events}
 use Rattle.sj_machine.specs.Standing.{AllTell, Standing, standing, starting}
 use Rattle.sj_machine.proofs.Reading.{no_copies}
 
@@ -115,13 +115,6 @@ module _ (p : Program) (m : Machine) where
     };
   }
 
-  owes_none : owed_in first_rows ≡ 0
-  owes_none =
-      let cells : sum_by owed_in_copies no_rows ≡ 0 = sum-none owed_in_copies (length p.cells) (none_at (length m.nodes)) (sum-none owed_for (length m.nodes) NoMark refl) in
-      let workers : sum_by owed_by_worker (replicate m.workers idle_row) ≡ 0 = sum-none owed_by_worker m.workers idle_row refl in
-      let tasks : sum_by owed_by_task (replicate (length p.tasks) Waiting) ≡ 0 = sum-none owed_by_task (length p.tasks) Waiting refl in
-      omega (arith, cells, workers, tasks)
-
 module _ {D : Type 0} (size faults mismatches : D → ℕ) (held : D → Option (List ℕ)) (p : Program) (m : Machine) (run : IsRunOf p m) (disks : DiskState D) (placed : (c : Cell) → IfSome (block_of p m c) (λ b. IsSomeAnd (extent_of disks.directory c.0) (IsBlock p c b))) where
   abbrev b : Standing D
   b = starting p m disks
@@ -129,8 +122,8 @@ module _ {D : Type 0} (size faults mismatches : D → ℕ) (held : D → Option 
   not_valid : (c : Cell) (d : DiskNo) → is_valid (replica (opening p m) c (OnDisk d)) ≡ true → ⊥
   not_valid c d valid = false≢true (sym (ap is_valid (nowhere p m c (OnDisk d))) ∙ valid)
 
-  pub keeps-first : (spare : ℕ) → Keeps size faults mismatches held b (first_rows p m) 0 spare
-  keeps-first spare = record {
+  pub keeps-first : (spare : ℕ) → most_events p ≤ spare → Keeps size faults mismatches held b (first_rows p m) spare
+  keeps-first spare room = record {
     sound = record {
       run = run;
       legal = tt;
@@ -143,15 +136,14 @@ module _ {D : Type 0} (size faults mismatches : D → ℕ) (held : D → Option 
       given_back = all_given_back-untouched size faults mismatches held disks.disks disks.disks (all_untouched-same size faults mismatches held disks.disks);
     };
     agrees = first_agrees p m (AllTell held b);
-    owes = omega (arith, owes_none p m);
-    room = omega arith;
+    room = (let r : most_events p ≤ 0 + spare = omega (arith, room) in r);
   }
 
   -- as the code makes it
-  pub keeps-made : (tasks : List Progress) (cells : List Copies) (nodes : List Store) (workers : List WorkerState) (trace : Recorded) (lends : LendingState D) (opened : DiskState D) → tasks ≡ (first_rows p m).tasks → cells ≡ (first_rows p m).cells → nodes ≡ (first_rows p m).nodes → workers ≡ (first_rows p m).workers → trace.events ≡ [] → lends ≡ lending disks (replicate (length disks.disks) false) → opened ≡ disks → Keeps size faults mismatches held (standing p m trace lends opened) (rows_of tasks cells nodes workers) 0 trace.spare
-  keeps-made tasks cells nodes workers trace lends opened t c n w none lent as_opened =
+  pub keeps-made : (tasks : List Progress) (cells : List Copies) (nodes : List Store) (workers : List WorkerState) (trace : Recorded) (lends : LendingState D) (opened : DiskState D) → tasks ≡ (first_rows p m).tasks → cells ≡ (first_rows p m).cells → nodes ≡ (first_rows p m).nodes → workers ≡ (first_rows p m).workers → trace.events ≡ [] → most_events p ≤ trace.spare → lends ≡ lending disks (replicate (length disks.disks) false) → opened ≡ disks → Keeps size faults mismatches held (standing p m trace lends opened) (rows_of tasks cells nodes workers) trace.spare
+  keeps-made tasks cells nodes workers trace lends opened t c n w none room lent as_opened =
       let rows : rows_of tasks cells nodes workers ≡ first_rows p m = ap (λ (x : List Progress). rows_of x cells nodes workers) t ∙ ap (λ (x : List Copies). rows_of (first_rows p m).tasks x nodes workers) c ∙ ap (λ (x : List Store). rows_of (first_rows p m).tasks (first_rows p m).cells x workers) n ∙ ap (λ (x : List WorkerState). rows_of (first_rows p m).tasks (first_rows p m).cells (first_rows p m).nodes x) w in
-      subst (λ (o : DiskState D). Keeps size faults mismatches held (standing p m trace lends o) (rows_of tasks cells nodes workers) 0 trace.spare) (sym as_opened)
-      (subst (λ (l : LendingState D). Keeps size faults mismatches held (standing p m trace l disks) (rows_of tasks cells nodes workers) 0 trace.spare) (sym lent)
-      (subst (λ (r : Rows). Keeps size faults mismatches held (standing p m trace (lending disks (replicate (length disks.disks) false)) disks) r 0 trace.spare) (sym rows)
-      (subst (λ (es : List Event). Keeps size faults mismatches held (record { program = p; machine = m; trace = es; disks = disks; out = replicate (length disks.disks) false; opened = disks.disks }) (first_rows p m) 0 trace.spare) (sym none) (keeps-first trace.spare))))
+      subst (λ (o : DiskState D). Keeps size faults mismatches held (standing p m trace lends o) (rows_of tasks cells nodes workers) trace.spare) (sym as_opened)
+      (subst (λ (l : LendingState D). Keeps size faults mismatches held (standing p m trace l disks) (rows_of tasks cells nodes workers) trace.spare) (sym lent)
+      (subst (λ (r : Rows). Keeps size faults mismatches held (standing p m trace (lending disks (replicate (length disks.disks) false)) disks) r trace.spare) (sym rows)
+      (subst (λ (es : List Event). Keeps size faults mismatches held (record { program = p; machine = m; trace = es; disks = disks; out = replicate (length disks.disks) false; opened = disks.disks }) (first_rows p m) trace.spare) (sym none) (keeps-first trace.spare room))))

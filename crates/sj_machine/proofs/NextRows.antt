@@ -102,7 +102,7 @@ not_not : (b : Bool) → not (not b) ≡ b
 not_not true = refl
 not_not false = refl
 
-module _ {D : Type 0} (size faults mismatches : D → ℕ) (held : D → Option (List ℕ)) (b : Standing D) (rows : Rows) (owed spare : ℕ) (keeps : Keeps size faults mismatches held b rows owed spare) where
+module _ {D : Type 0} (size faults mismatches : D → ℕ) (held : D → Option (List ℕ)) (b : Standing D) (rows : Rows) (spare : ℕ) (keeps : Keeps size faults mismatches held b rows spare) where
   abbrev p : Program
   p = b.program
 
@@ -113,7 +113,7 @@ module _ {D : Type 0} (size faults mismatches : D → ℕ) (held : D → Option 
   s = state b
 
   sound : IsSound p m s
-  sound = sound_state size faults mismatches held b rows owed spare keeps
+  sound = sound_state size faults mismatches held b rows spare keeps
 
   -- ---- copies
 

@@ -1,5 +1,5 @@
 -- What the beginning of a run leaves.
-use Rattle.std.proofs.Common.{◌≡◌, ◌≢◌, ◌<◌, ◌≤◌, ℕ, zero, suc, Bool, true, false, not, List, [], ◌∷◌, ◌++◌, Option, None, Some, ◌∙◌, ap, arith, count_by, get_or, inl, inr, is_some, length, map, nat_eq, refl, set, sum_by, sym, subst, ◌||◌}
+use Rattle.std.proofs.Common.{◌+◌, ◌≡◌, ◌≢◌, ◌<◌, ◌≤◌, ℕ, zero, suc, Bool, true, false, not, List, [], ◌∷◌, ◌++◌, Option, None, Some, ◌∙◌, ap, arith, count_by, get_or, inl, inr, is_some, length, map, nat_eq, refl, set, sum_by, sym, subst, ◌||◌}
 use Rattle.std.specs.Prelude.{All, Contains, IfSome, if◌then◌else◌, unwrap_or}
 use Rattle.std.specs.List.{AllZip}
 use Rattle.std.proofs.lemmas.Bool.{cases_Bool, cases_lt, false_from_ne_true, false≢true}
@@ -36,7 +36,7 @@ use Rattle.sj_node.proofs.CallerLemmas.{filter-map}
 use Rattle.sj_node.specs.Entry.{Entry, is_among, without_all}
 use Rattle.sj_node.specs.Store.{Store, store, with_entries}
 use Rattle.sj_machine.specs.Mark.{mark_of}
-use Rattle.sj_machine.specs.Agrees.{HasMarks, HasStores, HasTiles, IsWide, Rows, entry_of, owed_by_task, pins_on, rows_of, store_of}
+use Rattle.sj_machine.specs.Agrees.{HasMarks, HasStores, HasTiles, IsWide, Rows, entry_of, pins_on, rows_of, store_of}
 use Rattle.sj_machine.specs.Copies.{Copies, lent_at, mark_at, row_of, tile_at}
 use Rattle.sj_machine.specs.Operands.{CanWorkOn, read_among, written_among}
 use Rattle.sj_machine.specs.Running.{AreSharesFor, AreUnpinned, CanGive, IsShareIn, evicted_at, kept_at, lend_each, shares_at}
@@ -68,7 +68,7 @@ zipped : {X Y : Type 0} (Q : X → Y → Type 0) (f : X → Y) (xs : List X) →
 zipped Q f [] all = tt
 zipped Q f (x ∷ xs) all = (all x (0, omega arith, refl), zipped Q f xs (λ y (k, inside, e). all y (suc k, omega arith, e)))
 
-module _ {D : Type 0} (size faults mismatches : D → ℕ) (held : D → Option (List ℕ)) (b : Standing D) (rows : Rows) (owed spare : ℕ) (keeps : Keeps size faults mismatches held b rows owed spare) (t : Task) (w : Worker) (can : CanHappen b (Run t w)) where
+module _ {D : Type 0} (size faults mismatches : D → ℕ) (held : D → Option (List ℕ)) (b : Standing D) (rows : Rows) (spare : ℕ) (keeps : Keeps size faults mismatches held b rows spare) (t : Task) (w : Worker) (can : CanHappen b (Run t w)) where
   abbrev p : Program
   p = b.program
 
@@ -88,7 +88,7 @@ module _ {D : Type 0} (size faults mismatches : D → ℕ) (held : D → Option 
   run = can
 
   h : IsSound p m s
-  h = sound_state size faults mismatches held b rows owed spare keeps
+  h = sound_state size faults mismatches held b rows spare keeps
 
   inside_task : t.0 < length p.tasks
   inside_task = claimed-inside p m s h t w run.claimed
@@ -274,26 +274,21 @@ module _ {D : Type 0} (size faults mismatches : D → ℕ) (held : D → Option 
   abbrev new_tasks : List Progress
   new_tasks = set rows.tasks t.0 (Running w)
 
-  owes-tasks : sum_by owed_by_task new_tasks ≡ sum_by owed_by_task rows.tasks
-  owes-tasks =
-      let was : owed_by_task (get_or rows.tasks t.0 Waiting) ≡ 1 = ap (λ (ts : List Progress). owed_by_task (get_or ts t.0 Waiting)) keeps.agrees.tasks ∙ ap owed_by_task run.claimed in
-      omega (arith, was, sum_by-set owed_by_task rows.tasks t.0 (Running w) Waiting run-task)
-
   blocks-stay : HoldsBlocks held p m s' (AllTell held b) b.disks
   blocks-stay = HoldsBlocks-kept held p m s s' (AllTell held b) b.disks (λ c d valid. (elim (cases_Bool (has_cell ws c)) [ inr spare ↦ other c (OnDisk d) spare | inl has ↦ absurd (false≢true (sym (ap is_valid (elsewhere c (OnDisk d) has refl)) ∙ valid)) ], run-writes c)) keeps.sound.blocks
 
-  pub keeps-run : (trace' : Recorded) (tasks' : List Progress) (cells' : List Copies) (nodes' : List Store) → trace'.events ≡ b.trace ++ Run t w ∷ [] → owed ≤ trace'.spare → tasks' ≡ new_tasks → cells' ≡ new → length nodes' ≡ length rows.nodes → ((k : ℕ) (d : Store) → k < length rows.nodes → get_or nodes' k d ≡ evicted_at n ws k (get_or rows.nodes k d)) → Keeps size faults mismatches held (record b { trace = trace'.events }) (rows_of tasks' cells' nodes' rows.workers) owed trace'.spare
-  keeps-run trace' tasks' cells' nodes' told room tasks cells every each =
-      keeps-told size faults mismatches held b (Run t w) (rows_of new_tasks new nodes' rows.workers) (rows_of tasks' cells' nodes' rows.workers) owed trace' told
+  pub keeps-run : (trace' : Recorded) (tasks' : List Progress) (cells' : List Copies) (nodes' : List Store) → trace'.events ≡ b.trace ++ Run t w ∷ [] → trace'.spare + 1 ≡ spare → tasks' ≡ new_tasks → cells' ≡ new → length nodes' ≡ length rows.nodes → ((k : ℕ) (d : Store) → k < length rows.nodes → get_or nodes' k d ≡ evicted_at n ws k (get_or rows.nodes k d)) → Keeps size faults mismatches held (record b { trace = trace'.events }) (rows_of tasks' cells' nodes' rows.workers) trace'.spare
+  keeps-run trace' tasks' cells' nodes' told left tasks cells every each =
+      keeps-told size faults mismatches held b (Run t w) (rows_of new_tasks new nodes' rows.workers) (rows_of tasks' cells' nodes' rows.workers) trace' told
       (ap (λ (ts : List Progress). rows_of ts cells' nodes' rows.workers) tasks ∙ ap (λ (cs : List Copies). rows_of new_tasks cs nodes' rows.workers) cells)
-      (keeps-event size faults mismatches held b rows owed spare keeps (Run t w) (rows_of new_tasks new nodes' rows.workers) owed trace'.spare can blocks-stay
+      (keeps-event size faults mismatches held b rows spare keeps (Run t w) (rows_of new_tasks new nodes' rows.workers) trace'.spare can blocks-stay
       (record {
         tasks = ap (λ (ts : List Progress). set ts t.0 (Running w)) keeps.agrees.tasks;
         workers = keeps.agrees.workers;
         marks = marks-agree;
         tiles = tiles-agree;
         stores = stores-agree nodes' every each;
-      }) (omega (arith, kept.owes, owes-tasks, keeps.owes)) room)
+      }) left)
 
   -- ---- the operands that are read
 
@@ -347,17 +342,17 @@ module _ {D : Type 0} (size faults mismatches : D → ℕ) (held : D → Option 
 
 -- ---- as the code finds it
 
-module _ {D : Type 0} (size faults mismatches : D → ℕ) (held : D → Option (List ℕ)) (b : Standing D) (rows : Rows) (owed spare : ℕ) (keeps : Keeps size faults mismatches held b rows owed spare) (t : Task) (w : Worker) (b' : Standing D) (same : b ≡ b') (can' : CanHappen b' (Run t w)) (at : Node) (bound : at ≡ node_of b.machine w) (accesses : List Access) (of_task : accesses ≡ (task_of b.program t).accesses) (q : Program) (program : q ≡ b.program) where
+module _ {D : Type 0} (size faults mismatches : D → ℕ) (held : D → Option (List ℕ)) (b : Standing D) (rows : Rows) (spare : ℕ) (keeps : Keeps size faults mismatches held b rows spare) (t : Task) (w : Worker) (b' : Standing D) (same : b ≡ b') (can' : CanHappen b' (Run t w)) (at : Node) (bound : at ≡ node_of b.machine w) (accesses : List Access) (of_task : accesses ≡ (task_of b.program t).accesses) (q : Program) (program : q ≡ b.program) where
   now-can : CanHappen b (Run t w)
   now-can = subst (λ (x : Standing D). CanHappen x (Run t w)) (sym same) can'
 
   pub found-run_task : t.0 < length rows.tasks
-  found-run_task = run-task size faults mismatches held b rows owed spare keeps t w now-can
+  found-run_task = run-task size faults mismatches held b rows spare keeps t w now-can
 
   pub found-can_work : All (CanWorkOn q w) accesses
   found-can_work =
       subst (λ (x : Program). All (CanWorkOn x w) accesses) (sym program)
-      (subst (λ (l : List Access). All (CanWorkOn b.program w) l) (sym of_task) (run-can_work size faults mismatches held b rows owed spare keeps t w now-can))
+      (subst (λ (l : List Access). All (CanWorkOn b.program w) l) (sym of_task) (run-can_work size faults mismatches held b rows spare keeps t w now-can))
 
   pub found-few : length accesses ≤ 5
   found-few = subst (λ (l : List Access). length l ≤ 5) (sym of_task) (few-operands b.program keeps.sound.run.proper t)
@@ -367,11 +362,11 @@ module _ {D : Type 0} (size faults mismatches : D → ℕ) (held : D → Option 
       subst (λ (x : Program). All (CanGive x w cells at) accesses) (sym program)
       (subst (λ (cs : List Copies). All (CanGive b.program w cs at) accesses) (sym is)
       (subst (λ (j : Node). All (CanGive b.program w rows.cells j) accesses) (sym bound)
-      (subst (λ (l : List Access). All (CanGive b.program w rows.cells (node_of b.machine w)) l) (sym of_task) (run-can_give size faults mismatches held b rows owed spare keeps t w now-can))))
+      (subst (λ (l : List Access). All (CanGive b.program w rows.cells (node_of b.machine w)) l) (sym of_task) (run-can_give size faults mismatches held b rows spare keeps t w now-can))))
 
   pub found-run_shares : (cells : List Copies) (slots : List Slot) (old : List Slot) → cells ≡ rows.cells → old ≡ [] → slots ≡ old ++ shares_at q w cells at accesses → AreSharesFor held b' t w slots
   found-run_shares cells slots old is none made =
-      run-shares size faults mismatches held b rows owed spare keeps t w now-can b' slots same
+      run-shares size faults mismatches held b rows spare keeps t w now-can b' slots same
       (made ∙ ap (λ (l : List Slot). l ++ shares_at q w cells at accesses) none ∙ ap (λ (x : Program). shares_at x w cells at accesses) program ∙ ap (λ (cs : List Copies). shares_at b.program w cs at accesses) is
       ∙ ap (λ (j : Node). shares_at b.program w rows.cells j accesses) bound ∙ ap (λ (l : List Access). shares_at b.program w rows.cells (node_of b.machine w) l) of_task)
 
@@ -380,13 +375,13 @@ module _ {D : Type 0} (size faults mismatches : D → ℕ) (held : D → Option 
     all-written = is ∙ ap (λ (x : Program). written_among x w accesses) program ∙ ap (written_among b.program w) of_task
 
     pub found-run_cells : All (λ c. c.0 < length rows.cells) written
-    found-run_cells = subst (λ (l : List Cell). All (λ c. c.0 < length rows.cells) l) (sym all-written) (run-cells size faults mismatches held b rows owed spare keeps t w now-can)
+    found-run_cells = subst (λ (l : List Cell). All (λ c. c.0 < length rows.cells) l) (sym all-written) (run-cells size faults mismatches held b rows spare keeps t w now-can)
 
     pub found-run_unpinned : (k : ℕ) (d : Store) → k < length rows.nodes → k ≢ at.0 → AreUnpinned written (get_or rows.nodes k d).entries
-    found-run_unpinned k d inside far = subst (λ (l : List Cell). AreUnpinned l (get_or rows.nodes k d).entries) (sym all-written) (run-unpinned size faults mismatches held b rows owed spare keeps t w now-can k d inside (λ e. far (e ∙ sym (ap (λ (j : Node). j.0) bound))))
+    found-run_unpinned k d inside far = subst (λ (l : List Cell). AreUnpinned l (get_or rows.nodes k d).entries) (sym all-written) (run-unpinned size faults mismatches held b rows spare keeps t w now-can k d inside (λ e. far (e ∙ sym (ap (λ (j : Node). j.0) bound))))
 
-    pub found-keeps_run : (trace' : Recorded) (tasks' : List Progress) (cells' : List Copies) (nodes' : List Store) → trace'.events ≡ b.trace ++ Run t w ∷ [] → owed ≤ trace'.spare → tasks' ≡ set rows.tasks t.0 (Running w) → cells' ≡ lend_each at written rows.cells → length nodes' ≡ length rows.nodes → ((k : ℕ) (d : Store) → k < length rows.nodes → get_or nodes' k d ≡ evicted_at at written k (get_or rows.nodes k d)) → Keeps size faults mismatches held (record b { trace = trace'.events }) (rows_of tasks' cells' nodes' rows.workers) owed trace'.spare
-    found-keeps_run trace' tasks' cells' nodes' told room tasks cells every each =
-        keeps-run size faults mismatches held b rows owed spare keeps t w now-can trace' tasks' cells' nodes' told room tasks
+    pub found-keeps_run : (trace' : Recorded) (tasks' : List Progress) (cells' : List Copies) (nodes' : List Store) → trace'.events ≡ b.trace ++ Run t w ∷ [] → trace'.spare + 1 ≡ spare → tasks' ≡ set rows.tasks t.0 (Running w) → cells' ≡ lend_each at written rows.cells → length nodes' ≡ length rows.nodes → ((k : ℕ) (d : Store) → k < length rows.nodes → get_or nodes' k d ≡ evicted_at at written k (get_or rows.nodes k d)) → Keeps size faults mismatches held (record b { trace = trace'.events }) (rows_of tasks' cells' nodes' rows.workers) trace'.spare
+    found-keeps_run trace' tasks' cells' nodes' told left tasks cells every each =
+        keeps-run size faults mismatches held b rows spare keeps t w now-can trace' tasks' cells' nodes' told left tasks
         (cells ∙ ap (λ (j : Node). lend_each j written rows.cells) bound ∙ ap (λ (l : List Cell). lend_each (node_of b.machine w) l rows.cells) all-written) every
         (λ k d inside. each k d inside ∙ ap (λ (j : Node). evicted_at j written k (get_or rows.nodes k d)) bound ∙ ap (λ (l : List Cell). evicted_at (node_of b.machine w) l k (get_or rows.nodes k d)) all-written)

@@ -16,9 +16,8 @@ use Rattle.sj_core.proofs.Reading.{same_cell-is}
 use Rattle.sj_core.proofs.Sums.{tally}
 use Rattle.sj_core.specs.Fold.{held_in}
 use Rattle.sj_machine.specs.declared.mark.Mark.TheVariants.{Invalid, Valid}
-use Rattle.sj_machine.specs.Mark.{owed_for}
 use Rattle.sj_machine.specs.Agrees.{IsWide}
-use Rattle.sj_machine.specs.Copies.{Copies, mark_at, owed_in, row_of, with_row, written_at}
+use Rattle.sj_machine.specs.Copies.{Copies, mark_at, row_of, with_row, written_at}
 use Rattle.sj_core.specs.Operands.{worked_on}
 use Rattle.sj_machine.specs.Operands.{CanWorkOn, written_among}
 use Rattle.sj_machine.specs.Running.{CanPutBack, CanRewrite, put_each}
@@ -106,20 +105,6 @@ wide-put_each w n (c ∷ cs) (x ∷ xs) rows inside wide =
     let here : c.0 < length now = (let i = inside 0 c (omega arith) in omega (arith, i, length-put_each n cs xs rows)) in
     let had : IsWide w (row_of now c) = All-get_or (IsWide w) now c.0 no_copies here rest in
     All-set (IsWide w) now c.0 (written_at (row_of now c) n x) (record { marks = length-set (row_of now c).marks n.0 Valid ∙ had.marks; tiles = length-set (row_of now c).tiles n.0 (Some x) ∙ had.tiles }) rest
-
--- it owes no more
-pub owes-put_each : (w : ℕ) (n : Node) (cs : List Cell) (xs : List Array) (rows : List Copies) → n.0 < w → All (λ c. c.0 < length rows) cs → All (IsWide w) rows → sum_by owed_in (put_each n cs xs rows) ≤ sum_by owed_in rows
-owes-put_each w n [] xs rows node inside wide = omega arith
-owes-put_each w n (c ∷ cs) [] rows node inside wide = omega arith
-owes-put_each w n (c ∷ cs) (x ∷ xs) rows node inside wide =
-    let some : All (λ c. c.0 < length rows) cs = λ k d h. inside (suc k) d (omega arith) in
-    let rest = owes-put_each w n cs xs rows node some wide in
-    let now : List Copies = put_each n cs xs rows in
-    let here : c.0 < length now = (let i = inside 0 c (omega arith) in omega (arith, i, length-put_each n cs xs rows)) in
-    let had : IsWide w (row_of now c) = All-get_or (IsWide w) now c.0 no_copies here (wide-put_each w n cs xs rows some wide) in
-    let all : sum_by owed_in (with_row now c (λ row. written_at row n x)) + owed_in (row_of now c) ≡ sum_by owed_in now + owed_in (written_at (row_of now c) n x) = sum_by-set owed_in now c.0 (written_at (row_of now c) n x) no_copies here in
-    let one : owed_in (written_at (row_of now c) n x) + owed_for (mark_at (row_of now c) n) ≡ owed_in (row_of now c) + 0 = sum_by-set owed_for (row_of now c).marks n.0 Valid Invalid (omega (arith, had.marks, node)) in
-    omega (arith, rest, all, one)
 
 -- ---- each row after it
 

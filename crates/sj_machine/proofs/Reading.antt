@@ -11,9 +11,8 @@ use Rattle.sj_core.proofs.Placing.{cells_differ}
 use Rattle.sj_core.proofs.Reading.{same_node}
 use Rattle.sj_machine.specs.declared.mark.Mark.{Mark}
 use Rattle.sj_machine.specs.declared.mark.Mark.TheVariants.{Invalid}
-use Rattle.sj_machine.specs.Mark.{owed_for}
 use Rattle.sj_machine.specs.Agrees.{IsWide}
-use Rattle.sj_machine.specs.Copies.{Copies, mark_at, owed_in, row_of, tile_at, with_copy, with_row}
+use Rattle.sj_machine.specs.Copies.{Copies, mark_at, row_of, tile_at, with_copy, with_row}
 
 cell_number : (c d : Cell) → d ≢ c → d.0 ≢ c.0
 cell_number c d h e = h (ap (λ (i : ℕ). let j : Cell = record { 0 = i } in j) e)
@@ -67,13 +66,6 @@ module _ (rows : List Copies) (c : Cell) (n : Node) (x : Mark) (tile : Option Ar
             ]
             )
       ]
-
-  -- what is owed for copies
-  pub owed-copy : sum_by owed_in new + owed_for (mark_at (row_of rows c) n) ≡ sum_by owed_in rows + owed_for x
-  owed-copy =
-      let all : sum_by owed_in new + owed_in (row_of rows c) ≡ sum_by owed_in rows + owed_in (change (row_of rows c)) = sum_by-set owed_in rows c.0 (change (row_of rows c)) no_copies inside in
-      let one : owed_in (change (row_of rows c)) + owed_for (mark_at (row_of rows c) n) ≡ owed_in (row_of rows c) + owed_for x = sum_by-set owed_for (row_of rows c).marks n.0 x Invalid marks in
-      omega arith
 
   pub wide-copy : (w : ℕ) → All (IsWide w) rows → All (IsWide w) new
   wide-copy w all = All-set (IsWide w) rows c.0 (change (row_of rows c)) (record { marks = length-set (row_of rows c).marks n.0 x ∙ had.marks; tiles = length-set (row_of rows c).tiles n.0 tile ∙ had.tiles }) all

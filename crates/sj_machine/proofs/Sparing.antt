@@ -68,7 +68,7 @@ module _ (p : Program) (m : Machine) (s : State) (h : IsSound p m s) where
   Step-spares (Run t w) s' step leaves c q a used has spared = ap array_of (run-other p m s t w s' step leaves c q spared) ∙ has
   Step-spares (End t w) s' step leaves c q a used has spared = ap array_of (end-other p m s t w s' step leaves c q spared) ∙ has
 
-pub events-spare : {D : Type 0} (size faults mismatches : D → ℕ) (held : D → Option (List ℕ)) (b : Standing D) (rows : Rows) (owed spare : ℕ) → Keeps size faults mismatches held b rows owed spare → (b' : Standing D) → b ≡ b' → EventsSpareUsed b'
-events-spare {D} size faults mismatches held b rows owed spare keeps b' same =
+pub events-spare : {D : Type 0} (size faults mismatches : D → ℕ) (held : D → Option (List ℕ)) (b : Standing D) (rows : Rows) (spare : ℕ) → Keeps size faults mismatches held b rows spare → (b' : Standing D) → b ≡ b' → EventsSpareUsed b'
+events-spare {D} size faults mismatches held b rows spare keeps b' same =
     subst (λ (x : Standing D). EventsSpareUsed x) same (λ e can.
-    subst (λ (z : State). SparesUsed b.program b.machine (state b) e z) (sym (state_of-more b.program b.machine b.trace e)) (Step-spares b.program b.machine (state b) (sound_state size faults mismatches held b rows owed spare keeps) e (after b.program b.machine (state b) e) can refl))
+    subst (λ (z : State). SparesUsed b.program b.machine (state b) e z) (sym (state_of-more b.program b.machine b.trace e)) (Step-spares b.program b.machine (state b) (sound_state size faults mismatches held b rows spare keeps) e (after b.program b.machine (state b) e) can refl))

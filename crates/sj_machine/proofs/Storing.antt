@@ -63,7 +63,7 @@ tell-still {D} size faults mismatches held xs ys back all k y there =
     let was = All-get_or (λ x. IsSome (held x)) xs k y inside all in
     subst (λ (z : D). IsSome (held z)) (get_or_from_slice_get ys k y y there) (told_as (held (get_or xs k y)) (held (get_or ys k y)) one.tells_as_before was)
 
-module _ {D : Type 0} (size faults mismatches : D → ℕ) (held : D → Option (List ℕ)) (b : Standing D) (rows : Rows) (owed spare : ℕ) (keeps : Keeps size faults mismatches held b rows owed spare) (c : Cell) where
+module _ {D : Type 0} (size faults mismatches : D → ℕ) (held : D → Option (List ℕ)) (b : Standing D) (rows : Rows) (spare : ℕ) (keeps : Keeps size faults mismatches held b rows spare) (c : Cell) where
   abbrev p : Program
   p = b.program
 
@@ -86,7 +86,7 @@ module _ {D : Type 0} (size faults mismatches : D → ℕ) (held : D → Option 
           (found.0, found.1, found.2.whole, found.2.disk ∙ same)
 
   -- the same state over other disks
-  keeps-over : (new : LendingState D) → HoldsBlocks held p m s (AllTell held b) new.set → AreGivenBack size faults mismatches held b.disks.disks new.set.disks → Keeps size faults mismatches held (record b { disks = new.set; out = new.out }) rows owed spare
+  keeps-over : (new : LendingState D) → HoldsBlocks held p m s (AllTell held b) new.set → AreGivenBack size faults mismatches held b.disks.disks new.set.disks → Keeps size faults mismatches held (record b { disks = new.set; out = new.out }) rows spare
   keeps-over new blocks back = record {
     sound = record {
       run = keeps.sound.run;
@@ -96,7 +96,6 @@ module _ {D : Type 0} (size faults mismatches : D → ℕ) (held : D → Option 
       given_back = all_given_back-then size faults mismatches held b.opened b.disks.disks new.set.disks keeps.sound.given_back back;
     };
     agrees = keeps.agrees;
-    owes = keeps.owes;
     room = keeps.room;
   }
 
@@ -176,7 +175,7 @@ module _ {D : Type 0} (size faults mismatches : D → ℕ) (held : D → Option 
                   some-if None h = absurd h
                   some-if (Some e) h = h
 
-      pub keeps-stored : Keeps size faults mismatches held (record b { disks = new.set; out = new.out }) rows owed spare
+      pub keeps-stored : Keeps size faults mismatches held (record b { disks = new.set; out = new.out }) rows spare
       keeps-stored = keeps-over new blocks' of_it.disks_are_given_back
 
       pub stored-well : is_ok result ≡ true → IsWrittenOut held (record b { disks = new.set; out = new.out }) w
@@ -249,7 +248,7 @@ module _ {D : Type 0} (size faults mismatches : D → ℕ) (held : D → Option 
             );
       }
 
-      pub keeps-fetched : Keeps size faults mismatches held (record b { disks = new.set; out = new.out }) rows owed spare
+      pub keeps-fetched : Keeps size faults mismatches held (record b { disks = new.set; out = new.out }) rows spare
       keeps-fetched = keeps-over new blocks_stay fetched.disks_are_given_back
 
       pub fetched-well : (b' : Standing D) → b ≡ b' → is_ok result ≡ true → IsTileMoved held b' w got
@@ -278,7 +277,7 @@ pub OnOk-from : {A : Type 0} (r : Result A DiskRefusal) (P : Type 0) → (is_ok 
 OnOk-from (Ok u) P h = h refl
 OnOk-from (Err x) P h = tt
 
-module _ {D : Type 0} (size faults mismatches : D → ℕ) (held : D → Option (List ℕ)) (b : Standing D) (rows : Rows) (owed spare : ℕ) (keeps : Keeps size faults mismatches held b rows owed spare) (w : Worker) (b' : Standing D) (same : b ≡ b') (ws : List WorkerState) (read : ws ≡ rows.workers) (x : Transfer) (found : transfer_in ws w ≡ Some x) where
+module _ {D : Type 0} (size faults mismatches : D → ℕ) (held : D → Option (List ℕ)) (b : Standing D) (rows : Rows) (spare : ℕ) (keeps : Keeps size faults mismatches held b rows spare) (w : Worker) (b' : Standing D) (same : b ≡ b') (ws : List WorkerState) (read : ws ≡ rows.workers) (x : Transfer) (found : transfer_in ws w ≡ Some x) where
   pub at-place : (q : Place) → x.to ≡ q → transfer (state b) w ≡ Some (a_transfer x.cell x.from q)
   at-place q at = ap (λ (rs : List WorkerState). transfer_in rs w) (sym (read ∙ keeps.agrees.workers)) ∙ found ∙ ap (λ (k : Place). Some (a_transfer x.cell x.from k)) at
 
@@ -303,17 +302,17 @@ module _ {D : Type 0} (size faults mismatches : D → ℕ) (held : D → Option 
     tile-of = told-at (λ (y : Transfer). IsTileOf held b y.cell y.from tile) (transfer (state b) w) (a_transfer x.cell x.from (OnDisk d)) (at-place (OnDisk d) at) (subst (λ (z : Standing D). IsTileMoved held z w tile) (sym same) given)
 
     pub found-reserved : IsSomeAnd (extent_of b.disks.directory x.cell.0) (λ e. length tile.elements ≡ e.length)
-    found-reserved = store-reserved size faults mismatches held b rows owed spare keeps x.cell w x.from d (at-place (OnDisk d) at) tile tile-of whole fits
+    found-reserved = store-reserved size faults mismatches held b rows spare keeps x.cell w x.from d (at-place (OnDisk d) at) tile tile-of whole fits
 
     module _ {A : Type 0} (result : Result A DiskRefusal) (new : LendingState D) (cells' : List Copies) (n : ℕ) (is : cells' ≡ rows.cells) (count : n ≡ (row_of cells' x.cell).writes) (stores : IfSome (extent_of b.disks.directory x.cell.0) (Stores size faults mismatches held x.cell.0 n tile.elements result b.disks new.set)) where
       its-stores : IfSome (extent_of b.disks.directory x.cell.0) (Stores size faults mismatches held x.cell.0 (writes (state b) x.cell) tile.elements result b.disks new.set)
       its-stores = subst (λ (k : ℕ). IfSome (extent_of b.disks.directory x.cell.0) (Stores size faults mismatches held x.cell.0 k tile.elements result b.disks new.set)) (counted cells' n is count) stores
 
-      pub found-keeps_stored : Keeps size faults mismatches held (record b { disks = new.set; out = new.out }) rows owed spare
-      found-keeps_stored = keeps-stored size faults mismatches held b rows owed spare keeps x.cell w x.from d (at-place (OnDisk d) at) tile tile-of whole fits result new its-stores
+      pub found-keeps_stored : Keeps size faults mismatches held (record b { disks = new.set; out = new.out }) rows spare
+      found-keeps_stored = keeps-stored size faults mismatches held b rows spare keeps x.cell w x.from d (at-place (OnDisk d) at) tile tile-of whole fits result new its-stores
 
       pub found-stored : OnOk result (IsWrittenOut held (record b { disks = new.set; out = new.out }) w)
-      found-stored = OnOk-from result (IsWrittenOut held (record b { disks = new.set; out = new.out }) w) (stored-well size faults mismatches held b rows owed spare keeps x.cell w x.from d (at-place (OnDisk d) at) tile tile-of whole fits result new its-stores)
+      found-stored = OnOk-from result (IsWrittenOut held (record b { disks = new.set; out = new.out }) w) (stored-well size faults mismatches held b rows spare keeps x.cell w x.from d (at-place (OnDisk d) at) tile tile-of whole fits result new its-stores)
 
       pub found-stores : StoresMoved size faults mismatches held w tile.elements result b' (record b' { disks = new.set; out = new.out })
       found-stores = subst (λ (z : Standing D). StoresMoved size faults mismatches held w tile.elements result z (record z { disks = new.set; out = new.out })) same (told-from (λ (y : Transfer). IfSome (extent_of b.disks.directory y.cell.0) (Stores size faults mismatches held y.cell.0 (writes (state b) y.cell) tile.elements result b.disks new.set)) (transfer (state b) w) (a_transfer x.cell x.from x.to) (at-place x.to refl) its-stores)
@@ -323,21 +322,21 @@ module _ {D : Type 0} (size faults mismatches : D → ℕ) (held : D → Option 
     dims-of = told-at (λ (y : Transfer). tile.dims ≡ dims_of b.program y.cell) (transfer (state b) w) (a_transfer x.cell x.from x.to) (at-place x.to refl) (subst (λ (z : Standing D). HasDimsMoved z w tile.dims) (sym same) given)
 
     pub found-to_fetch : (cells' : List Copies) (n : ℕ) → cells' ≡ rows.cells → n ≡ (row_of cells' x.cell).writes → IsSomeAnd (extent_of b.disks.directory x.cell.0) (λ e. (length tile.elements ≡ e.length) × (e.last_store ≡ Some (last_store n true)))
-    found-to_fetch cells' n is count = subst (λ (k : ℕ). IsSomeAnd (extent_of b.disks.directory x.cell.0) (λ e. (length tile.elements ≡ e.length) × (e.last_store ≡ Some (last_store k true)))) (sym (counted cells' n is count)) (fetch-stored size faults mismatches held b rows owed spare keeps x.cell w d x.to (from-place (OnDisk d) at) tile dims-of whole)
+    found-to_fetch cells' n is count = subst (λ (k : ℕ). IsSomeAnd (extent_of b.disks.directory x.cell.0) (λ e. (length tile.elements ≡ e.length) × (e.last_store ≡ Some (last_store k true)))) (sym (counted cells' n is count)) (fetch-stored size faults mismatches held b rows spare keeps x.cell w d x.to (from-place (OnDisk d) at) tile dims-of whole)
 
     -- the header that is wanted of it is the one last written
     pub found-last : (cells' : List Copies) (n : ℕ) → cells' ≡ rows.cells → n ≡ (row_of cells' x.cell).writes → (e : Extent) → extent_of b.disks.directory x.cell.0 ≡ Some e → IsLastWritten b.program (state b) e.disk (header x.cell.0 n e.length)
-    found-last cells' n is count = fetch-last size faults mismatches held b rows owed spare keeps x.cell w d x.to (from-place (OnDisk d) at) tile dims-of whole n (counted cells' n is count)
+    found-last cells' n is count = fetch-last size faults mismatches held b rows spare keeps x.cell w d x.to (from-place (OnDisk d) at) tile dims-of whole n (counted cells' n is count)
 
     module _ {A : Type 0} (result : Result A DiskRefusal) (got : Array) (same_dims : got.dims ≡ tile.dims) (new : LendingState D) (cells' : List Copies) (n : ℕ) (is : cells' ≡ rows.cells) (count : n ≡ (row_of cells' x.cell).writes) (fetches : IfSome (extent_of b.disks.directory x.cell.0) (Fetches size faults mismatches held x.cell.0 n got.elements result b.disks new.set)) where
       its-fetches : IfSome (extent_of b.disks.directory x.cell.0) (Fetches size faults mismatches held x.cell.0 (writes (state b) x.cell) got.elements result b.disks new.set)
       its-fetches = subst (λ (k : ℕ). IfSome (extent_of b.disks.directory x.cell.0) (Fetches size faults mismatches held x.cell.0 k got.elements result b.disks new.set)) (counted cells' n is count) fetches
 
-      pub found-keeps_fetched : Keeps size faults mismatches held (record b { disks = new.set; out = new.out }) rows owed spare
-      found-keeps_fetched = keeps-fetched size faults mismatches held b rows owed spare keeps x.cell w d x.to (from-place (OnDisk d) at) tile dims-of whole result got same_dims new its-fetches
+      pub found-keeps_fetched : Keeps size faults mismatches held (record b { disks = new.set; out = new.out }) rows spare
+      found-keeps_fetched = keeps-fetched size faults mismatches held b rows spare keeps x.cell w d x.to (from-place (OnDisk d) at) tile dims-of whole result got same_dims new its-fetches
 
       pub found-fetched : OnOk result (IsTileMoved held b' w got)
-      found-fetched = OnOk-from result (IsTileMoved held b' w got) (fetched-well size faults mismatches held b rows owed spare keeps x.cell w d x.to (from-place (OnDisk d) at) tile dims-of whole result got same_dims new its-fetches b' same)
+      found-fetched = OnOk-from result (IsTileMoved held b' w got) (fetched-well size faults mismatches held b rows spare keeps x.cell w d x.to (from-place (OnDisk d) at) tile dims-of whole result got same_dims new its-fetches b' same)
 
       pub found-fetches : FetchesMoved size faults mismatches held w got.elements result b' (record b' { disks = new.set; out = new.out })
       found-fetches = subst (λ (z : Standing D). FetchesMoved size faults mismatches held w got.elements result z (record z { disks = new.set; out = new.out })) same (told-from (λ (y : Transfer). IfSome (extent_of b.disks.directory y.cell.0) (Fetches size faults mismatches held y.cell.0 (writes (state b) y.cell) got.elements result b.disks new.set)) (transfer (state b) w) (a_transfer x.cell x.from x.to) (at-place x.to refl) its-fetches)

@@ -6,7 +6,7 @@ use Rattle.sj_core.specs.declared.progress.Transfer.{Transfer}
 use Rattle.sj_core.proofs.Placing.{pins-same, scratch-same}
 use Rattle.sj_core.proofs.Reading.{idle_row}
 use Rattle.sj_node.specs.Store.{Store, store}
-use Rattle.sj_machine.specs.Agrees.{Agrees, HasStores, Rows, owed_by_worker, rows_of, store_of, with_transfer_of}
+use Rattle.sj_machine.specs.Agrees.{Agrees, HasStores, Rows, rows_of, store_of, with_transfer_of}
 
 abbrev fun_ext : {A B : Type 0} {f g : A → B} → ((x : A) → f x ≡ g x) → f ≡ g
 fun_ext h = λ i x. h x i
@@ -42,7 +42,3 @@ module _ (p : Program) (m : Machine) (s : State) (w : Worker) (move : Option Tra
     tiles = record { there = had.tiles.there; out = had.tiles.out; dims = had.tiles.dims; arrays = had.tiles.arrays };
     stores = HasStores-same p m s s' rows.nodes transfer-store had.stores;
   }
-
-  -- what is owed for workers
-  pub transfer-owed : (ws : List WorkerState) → w.0 < length ws → sum_by owed_by_worker (new_workers ws) + owed_by_worker (get_or ws w.0 idle_row) ≡ sum_by owed_by_worker ws + owed_by_worker (record (get_or ws w.0 idle_row) { transfer = move })
-  transfer-owed ws inside = sum_by-set owed_by_worker ws w.0 (record (get_or ws w.0 idle_row) { transfer = move }) idle_row inside

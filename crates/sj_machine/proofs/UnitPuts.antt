@@ -25,11 +25,10 @@ is-some : {X : Type 0} (x y : X) → ◌≡◌ {A = Option X} (Some x) (Some y) 
 is-some x y e = cc
 
 -- which disks are out is no matter of what a run keeps
-pub keeps-out : {D : Type 0} (size faults mismatches : D → ℕ) (held : D → Option (List ℕ)) (b : Standing D) (rows : Rows) (owed spare : ℕ) (out : List Bool) → Keeps size faults mismatches held b rows owed spare → Keeps size faults mismatches held (record b { out = out }) rows owed spare
-keeps-out size faults mismatches held b rows owed spare out keeps = record {
+pub keeps-out : {D : Type 0} (size faults mismatches : D → ℕ) (held : D → Option (List ℕ)) (b : Standing D) (rows : Rows) (spare : ℕ) (out : List Bool) → Keeps size faults mismatches held b rows spare → Keeps size faults mismatches held (record b { out = out }) rows spare
+keeps-out size faults mismatches held b rows spare out keeps = record {
   sound = record { run = keeps.sound.run; legal = keeps.sound.legal; coherent = keeps.sound.coherent; blocks = keeps.sound.blocks; given_back = keeps.sound.given_back };
   agrees = keeps.agrees;
-  owes = keeps.owes;
   room = keeps.room;
 }
 
@@ -50,12 +49,12 @@ same-back {D} s u is =
     ap (λ (ds : List D). (let l : LendingState D = record { set = record s.set { disks = ds; directory = slice_set s.set.directory u.cell.0 (Some u.extent) }; out = slice_set s.out u.extent.disk.0 false } in l)) (stays-get s.set.disks u.extent.disk.0 u.disk is.its_disk)
     ∙ ap (λ (es : List (Option Extent)). (let l : LendingState D = record { set = record s.set { directory = es }; out = slice_set s.out u.extent.disk.0 false } in l)) (stays-extent s.set.directory u.cell.0 u.extent is.its_extent)
 
-module _ {D : Type 0} (size faults mismatches : D → ℕ) (held : D → Option (List ℕ)) (b : Standing D) (rows : Rows) (owed spare : ℕ) (keeps : Keeps size faults mismatches held b rows owed spare) where
+module _ {D : Type 0} (size faults mismatches : D → ℕ) (held : D → Option (List ℕ)) (b : Standing D) (rows : Rows) (spare : ℕ) (keeps : Keeps size faults mismatches held b rows spare) where
   -- ---- the worker's move
 
   module _ (w : Worker) (b' : Standing D) (same : b ≡ b') (ws : List WorkerState) (read : ws ≡ rows.workers) (x : Transfer) (found : transfer_in ws w ≡ Some x) where
     under_way : transfer (state b) w ≡ Some x
-    under_way = at-place size faults mismatches held b rows owed spare keeps w b' same ws read x found x.to refl
+    under_way = at-place size faults mismatches held b rows spare keeps w b' same ws read x found x.to refl
 
     at-source : (d : DiskNo) → x.from ≡ OnDisk d → transfer (state b) w ≡ Some (a_transfer x.cell (OnDisk d) x.to)
     at-source d at = under_way ∙ ap (λ (q : Place). Some (a_transfer x.cell q x.to)) at
@@ -89,7 +88,7 @@ module _ {D : Type 0} (size faults mismatches : D → ℕ) (held : D → Option 
 
       its-whole : (d : DiskNo) → disk_of b.program b.machine x.cell ≡ Some d → u.extent.length ≡ area (dims_of b.program x.cell)
       its-whole d home =
-          let e = extent size faults mismatches held b rows owed spare keeps x.cell d home in
+          let e = extent size faults mismatches held b rows spare keeps x.cell d home in
           ap (λ (k : Extent). k.length) (is-some u.extent e.0 (sym its-extent ∙ e.1)) ∙ e.2
 
     -- ---- stored through a unit
@@ -121,21 +120,21 @@ module _ {D : Type 0} (size faults mismatches : D → ℕ) (held : D → Option 
         some : IsSomeAnd (extent_of b.disks.directory x.cell.0) (λ e. Unit {0})
         some = subst (λ (o : Option Extent). IsSomeAnd o (λ e. Unit {0})) (sym (its-extent stored.before stored.is_its_unit)) tt
 
-        pub wrote-keeps : Keeps size faults mismatches held (record b { disks = new.set; out = new.out }) rows owed spare
-        wrote-keeps = keeps-stored size faults mismatches held b rows owed spare keeps x.cell w x.from d (at-target d at) stored.array tile-of whole stored.fits result new told
+        pub wrote-keeps : Keeps size faults mismatches held (record b { disks = new.set; out = new.out }) rows spare
+        wrote-keeps = keeps-stored size faults mismatches held b rows spare keeps x.cell w x.from d (at-target d at) stored.array tile-of whole stored.fits result new told
 
         pub wrote-written : OnOk result (IsWrittenOut held (record b { disks = new.set; out = new.out }) w)
-        wrote-written = OnOk-from result (IsWrittenOut held (record b { disks = new.set; out = new.out }) w) (stored-well size faults mismatches held b rows owed spare keeps x.cell w x.from d (at-target d at) stored.array tile-of whole stored.fits result new told)
+        wrote-written = OnOk-from result (IsWrittenOut held (record b { disks = new.set; out = new.out }) w) (stored-well size faults mismatches held b rows spare keeps x.cell w x.from d (at-target d at) stored.array tile-of whole stored.fits result new told)
 
         pub wrote-back : AreGivenBack size faults mismatches held b'.disks.disks new.set.disks
         wrote-back = subst (λ (z : Standing D). AreGivenBack size faults mismatches held z.disks.disks new.set.disks) same wrote-stores.disks_are_given_back
 
         module _ (laid : IsLaidOut (map size b.disks.disks) b.disks.taken b.disks.directory) where
           pub wrote-counted : AreCounted faults mismatches result b'.disks.disks new.set.disks
-          wrote-counted = subst (λ (z : Standing D). AreCounted faults mismatches result z.disks.disks new.set.disks) same (stores-counted size faults mismatches held b rows owed spare keeps new x.cell.0 (writes (state b) x.cell) stored.array.elements result laid (λ e. Unit {0}) some told)
+          wrote-counted = subst (λ (z : Standing D). AreCounted faults mismatches result z.disks.disks new.set.disks) same (stores-counted size faults mismatches held b rows spare keeps new x.cell.0 (writes (state b) x.cell) stored.array.elements result laid (λ e. Unit {0}) some told)
 
           pub wrote-cause : IfErr result (λ r. HasCause faults mismatches held (record b { disks = new.set; out = new.out }) (fault_of r))
-          wrote-cause = stores-cause size faults mismatches held b rows owed spare keeps new x.cell.0 (writes (state b) x.cell) stored.array.elements result laid (λ e. Unit {0}) some told
+          wrote-cause = stores-cause size faults mismatches held b rows spare keeps new x.cell.0 (writes (state b) x.cell) stored.array.elements result laid (λ e. Unit {0}) some told
 
     -- ---- fetched through a unit
     module _ (u : UnitState D) (result : Result (Unit {0}) DiskRefusal) (d : DiskNo) (at : x.from ≡ OnDisk d) where
@@ -164,21 +163,21 @@ module _ {D : Type 0} (size faults mismatches : D → ℕ) (held : D → Option 
           some-fetch : IsSomeAnd (extent_of b.disks.directory x.cell.0) (λ e. Unit {0})
           some-fetch = subst (λ (o : Option Extent). IsSomeAnd o (λ e. Unit {0})) (sym (its-extent fetched.before fetched.is_its_unit)) tt
 
-          pub read-keeps : Keeps size faults mismatches held (record b { disks = new.set; out = new.out }) rows owed spare
-          read-keeps = keeps-fetched size faults mismatches held b rows owed spare keeps x.cell w d x.to (at-source d at) array dims-of fetched.whole result array refl new told-fetch
+          pub read-keeps : Keeps size faults mismatches held (record b { disks = new.set; out = new.out }) rows spare
+          read-keeps = keeps-fetched size faults mismatches held b rows spare keeps x.cell w d x.to (at-source d at) array dims-of fetched.whole result array refl new told-fetch
 
           pub read-tile : OnOk result (IsTileMoved held b' w array)
-          read-tile = OnOk-from result (IsTileMoved held b' w array) (fetched-well size faults mismatches held b rows owed spare keeps x.cell w d x.to (at-source d at) array dims-of fetched.whole result array refl new told-fetch b' same)
+          read-tile = OnOk-from result (IsTileMoved held b' w array) (fetched-well size faults mismatches held b rows spare keeps x.cell w d x.to (at-source d at) array dims-of fetched.whole result array refl new told-fetch b' same)
 
           pub read-back : AreGivenBack size faults mismatches held b'.disks.disks new.set.disks
           read-back = subst (λ (z : Standing D). AreGivenBack size faults mismatches held z.disks.disks new.set.disks) same read-fetches.disks_are_given_back
 
           module _ (laid : IsLaidOut (map size b.disks.disks) b.disks.taken b.disks.directory) where
             pub read-counted : AreCounted faults mismatches result b'.disks.disks new.set.disks
-            read-counted = subst (λ (z : Standing D). AreCounted faults mismatches result z.disks.disks new.set.disks) same (fetches-counted size faults mismatches held b rows owed spare keeps new x.cell.0 (writes (state b) x.cell) array.elements result laid (λ e. Unit {0}) some-fetch told-fetch)
+            read-counted = subst (λ (z : Standing D). AreCounted faults mismatches result z.disks.disks new.set.disks) same (fetches-counted size faults mismatches held b rows spare keeps new x.cell.0 (writes (state b) x.cell) array.elements result laid (λ e. Unit {0}) some-fetch told-fetch)
 
             pub read-cause : IfErr result (λ r. HasCause faults mismatches held (record b { disks = new.set; out = new.out }) (fault_of r))
-            read-cause = fetches-cause size faults mismatches held b rows owed spare keeps new x.cell.0 (writes (state b) x.cell) array.elements result laid (λ e. Unit {0}) some-fetch (fetch-last size faults mismatches held b rows owed spare keeps x.cell w d x.to (at-source d at) array dims-of fetched.whole (writes (state b) x.cell) refl) told-fetch
+            read-cause = fetches-cause size faults mismatches held b rows spare keeps new x.cell.0 (writes (state b) x.cell) array.elements result laid (λ e. Unit {0}) some-fetch (fetch-last size faults mismatches held b rows spare keeps x.cell w d x.to (at-source d at) array dims-of fetched.whole (writes (state b) x.cell) refl) told-fetch
 
       -- the elements that were fetched well are the move's tile, whoever asks
       pub read-tiles : (new : LendingState D) → HasFetched size faults mismatches held u (lent b) new → OnOk result ((array : Array) → HasFetchedMoved size faults mismatches held b' w u result array → IsTileMoved held b' w array)
@@ -206,15 +205,15 @@ module _ {D : Type 0} (size faults mismatches : D → ℕ) (held : D → Option 
 
       pub take-reserved : IsSome (extent_of b.disks.directory x.cell.0)
       take-reserved =
-          let e = extent size faults mismatches held b rows owed spare keeps x.cell its-home.0 its-home.1 in
+          let e = extent size faults mismatches held b rows spare keeps x.cell its-home.0 its-home.1 in
           subst (λ (o : Option Extent). IsSome o) (sym e.1) refl
 
       module _ (u : UnitState D) (new : LendingState D) (takes : TakesOut x.cell u (lent b) new) where
         now-is : record b { disks = new.set; out = new.out } ≡ record b { out = slice_set b.out u.extent.disk.0 true }
         now-is = ap (λ (l : LendingState D). record b { disks = l.set; out = l.out }) takes.nothing_else
 
-        pub take-keeps : Keeps size faults mismatches held (record b { disks = new.set; out = new.out }) rows owed spare
-        take-keeps = subst (λ (z : Standing D). Keeps size faults mismatches held z rows owed spare) (sym now-is) (keeps-out size faults mismatches held b rows owed spare (slice_set b.out u.extent.disk.0 true) keeps)
+        pub take-keeps : Keeps size faults mismatches held (record b { disks = new.set; out = new.out }) rows spare
+        take-keeps = subst (λ (z : Standing D). Keeps size faults mismatches held z rows spare) (sym now-is) (keeps-out size faults mismatches held b rows spare (slice_set b.out u.extent.disk.0 true) keeps)
 
         has-taken : TakesUnit w u b (record b { disks = new.set; out = new.out })
         has-taken = record {
@@ -237,7 +236,7 @@ module _ {D : Type 0} (size faults mismatches : D → ℕ) (held : D → Option 
         has-block : HasBlockOf b w u
         has-block = record {
           whole = told-from (λ (y : Transfer). u.extent.length ≡ area (dims_of b.program y.cell)) (transfer (state b) w) x under_way (
-              let e = extent size faults mismatches held b rows owed spare keeps x.cell its-home.0 its-home.1 in
+              let e = extent size faults mismatches held b rows spare keeps x.cell its-home.0 its-home.1 in
               ap (λ (k : Extent). k.length) (is-some u.extent e.0 (sym same-extent ∙ e.1)) ∙ e.2
               );
           stored = told-from (λ (y : Transfer). is_node y.from ≡ false → u.extent.last_store ≡ Some (last_store (writes (state b) y.cell) true)) (transfer (state b) w) x under_way (λ disk.
@@ -252,7 +251,7 @@ module _ {D : Type 0} (size faults mismatches : D → ℕ) (held : D → Option 
 
 -- ---- and put back as it was
 
-module _ {D : Type 0} (size faults mismatches : D → ℕ) (held : D → Option (List ℕ)) (b : Standing D) (rows : Rows) (owed spare : ℕ) (keeps : Keeps size faults mismatches held b rows owed spare) (w : Worker) (b' : Standing D) (same : b ≡ b') (u : UnitState D) (is_its : IsUnitOf b' w u) where
+module _ {D : Type 0} (size faults mismatches : D → ℕ) (held : D → Option (List ℕ)) (b : Standing D) (rows : Rows) (spare : ℕ) (keeps : Keeps size faults mismatches held b rows spare) (w : Worker) (b' : Standing D) (same : b ≡ b') (u : UnitState D) (is_its : IsUnitOf b' w u) where
   is-untouched : IsUnitOf b w u
   is-untouched = subst (λ (z : Standing D). IsUnitOf z w u) (sym same) is_its
 
@@ -265,5 +264,5 @@ module _ {D : Type 0} (size faults mismatches : D → ℕ) (held : D → Option 
   pub untouched-as : (new : LendingState D) → new ≡ has_back (lent b) u → record b { disks = new.set; out = new.out } ≡ record b' { out = slice_set b'.out u.extent.disk.0 false }
   untouched-as new back = subst (λ (z : Standing D). record b { disks = new.set; out = new.out } ≡ record z { out = slice_set z.out u.extent.disk.0 false }) same (untouched-now new back)
 
-  pub untouched-keeps : (new : LendingState D) → new ≡ has_back (lent b) u → Keeps size faults mismatches held (record b { disks = new.set; out = new.out }) rows owed spare
-  untouched-keeps new back = subst (λ (z : Standing D). Keeps size faults mismatches held z rows owed spare) (sym (untouched-now new back)) (keeps-out size faults mismatches held b rows owed spare (slice_set b.out u.extent.disk.0 false) keeps)
+  pub untouched-keeps : (new : LendingState D) → new ≡ has_back (lent b) u → Keeps size faults mismatches held (record b { disks = new.set; out = new.out }) rows spare
+  untouched-keeps new back = subst (λ (z : Standing D). Keeps size faults mismatches held z rows spare) (sym (untouched-now new back)) (keeps-out size faults mismatches held b rows spare (slice_set b.out u.extent.disk.0 false) keeps)

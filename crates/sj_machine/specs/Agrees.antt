@@ -17,7 +17,7 @@ use Rattle.sj_core.specs.Program.{dims_of, same_cell}
 use Rattle.sj_core.specs.Step.{disk_of}
 use Rattle.sj_node.specs.Entry.{Entry}
 use Rattle.sj_node.specs.Store.{Store, store}
-use Rattle.sj_machine.specs.Copies.{Copies, owed_in as owed_in_copies, mark_at, row_of, tile_at}
+use Rattle.sj_machine.specs.Copies.{Copies, mark_at, row_of, tile_at}
 use Rattle.sj_machine.specs.Mark.{mark_of}
 
 -- what is kept: a row for each task, cell, node and worker
@@ -96,19 +96,3 @@ transfer_in ws w = (slice_index_or ws w.0 (record { pins = []; scratch = 0; vict
 -- the rows of workers with one worker's transfer changed
 abbrev pub with_transfer_of : List WorkerState → Worker → Option Transfer → List WorkerState
 with_transfer_of ws w move = slice_set ws w.0 (record (slice_index_or ws w.0 (record { pins = []; scratch = 0; victims = []; transfer = None })) { transfer = move })
-
--- ---- the events that are owed
-
--- for a task: its end, where it is claimed or runs
-abbrev pub owed_by_task : Progress → ℕ
-owed_by_task (Claimed w) = 1
-owed_by_task (Running w) = 1
-owed_by_task _ = 0
-
--- for a worker: the end of its transfer
-abbrev pub owed_by_worker : WorkerState → ℕ
-owed_by_worker row = elim row.transfer [ None ↦ 0 | Some x ↦ 1 ]
-
--- for all rows: these, and a drop for each copy that leaves
-abbrev pub owed_in : Rows → ℕ
-owed_in rows = sum_by owed_in_copies rows.cells + sum_by owed_by_worker rows.workers + sum_by owed_by_task rows.tasks

@@ -8,7 +8,7 @@ use Rattle.sj_base.specs.declared.ids.Place.TheVariants.{Node as AtNode, Disk as
 use Rattle.sj_base.specs.Array.{Array}
 use Rattle.sj_machine.specs.declared.mark.Mark.{Mark}
 use Rattle.sj_machine.specs.declared.mark.Mark.TheVariants.{Invalid, Valid}
-use Rattle.sj_machine.specs.Mark.{is_there, owed_for}
+use Rattle.sj_machine.specs.Mark.{is_there}
 
 -- what the cell is at each node, the tile that is kept there, whether its block on a disk is a copy, and how many tasks
 -- have written it
@@ -54,10 +54,6 @@ is_elsewhere row n = row.on_disk || list_any (is_copy_beside row.marks n.0) (ran
 -- the node with the least number at which a copy is
 abbrev pub first_node : Copies → Option Node
 first_node row = option_map (λ k. record { 0 = k }) (position is_there row.marks)
-
--- the events that are owed for a cell's copies
-abbrev pub owed_in : Copies → ℕ
-owed_in row = sum_by owed_for row.marks
 
 -- ---- changing
 

@@ -32,8 +32,3 @@ is_leaving_by w _ = false
 abbrev pub is_coming_by : Worker → Mark → Bool
 is_coming_by w (Coming v) = same_worker v w
 is_coming_by w _ = false
-
--- the events that are owed for a mark: one where a copy leaves
-abbrev pub owed_for : Mark → ℕ
-owed_for (Leaving w) = 1
-owed_for _ = 0

@@ -1,5 +1,5 @@
 -- What is true of every run between two calls.
-use Rattle.std.specs.Prelude.{◌≡◌, ◌≤◌, Bool, ℕ, ℤ, All, Result, FitsSigned, length, Option, true, Some, IsTrue, IfSome, IsSomeAnd, List, slice_get, option_and_then}
+use Rattle.std.specs.Prelude.{◌≡◌, ◌+◌, ◌*◌, ◌≤◌, Bool, ℕ, ℤ, All, Result, FitsSigned, length, Option, true, Some, IsTrue, IfSome, IsSomeAnd, List, slice_get, option_and_then}
 use Rattle.std.specs.Int.{w64}
 use Rattle.sj_base.specs.declared.ids.Cell.{Cell}
 use Rattle.sj_base.specs.declared.ids.DiskNo.{DiskNo}
@@ -10,6 +10,7 @@ use Rattle.sj_base.specs.declared.program.Program.{Program}
 use Rattle.sj_base.specs.declared.program.Machine.{Machine}
 use Rattle.sj_base.specs.Array.{area}
 use Rattle.sj_codelet.specs.declared.kernel.Kernel.{Kernel}
+use Rattle.sj_core.specs.Bound.{operands}
 use Rattle.sj_core.specs.Coherent.{Coherent}
 use Rattle.sj_core.specs.Laws.{IsLawful}
 use Rattle.sj_core.specs.Legal.{IsLegal}
@@ -25,7 +26,7 @@ use Rattle.sj_disk.specs.Block.{block}
 use Rattle.sj_disk.specs.Calls.{Fetches, Stores}
 use Rattle.sj_disk.specs.Directory.{DiskState, extent_of, last_store}
 use Rattle.sj_disk.specs.Holding.{Holds}
-use Rattle.sj_machine.specs.Agrees.{Agrees, Rows, owed_in}
+use Rattle.sj_machine.specs.Agrees.{Agrees, Rows}
 use Rattle.sj_machine.specs.Standing.{AllTell, Standing, state}
 
 -- ---- the disks
@@ -79,12 +80,15 @@ pub record IsSoundRun {D : Type 0} (size faults mismatches : D → ℕ) (held : 
   pub blocks : HoldsBlocks held b.program b.machine (state b) (AllTell held b) b.disks
   pub given_back : AreGivenBack size faults mismatches held b.opened b.disks.disks
 
--- the run is sound, the rows agree with its state, and the trace has room for the events that are owed
-pub record Keeps {D : Type 0} (size faults mismatches : D → ℕ) (held : D → Option (List ℕ)) (b : Standing D) (rows : Rows) (owed spare : ℕ) : Type 0 where
+-- how many events a run of the program has at most
+abbrev pub most_events : Program → ℕ
+most_events p = 3 * length p.tasks + 5 * operands p
+
+-- the run is sound, the rows agree with its state, and the trace has room for all events that are to come
+pub record Keeps {D : Type 0} (size faults mismatches : D → ℕ) (held : D → Option (List ℕ)) (b : Standing D) (rows : Rows) (spare : ℕ) : Type 0 where
   pub sound : IsSoundRun size faults mismatches held b
   pub agrees : Agrees b.program b.machine (state b) (AllTell held b) rows
-  pub owes : owed_in rows ≤ owed
-  pub room : owed ≤ spare
+  pub room : most_events b.program ≤ length b.trace + spare
 
 -- a run of the program can be made on the machine with these disks: each cell has its block
 pub record CanStart {D : Type 0} (p : Program) (m : Machine) (disks : DiskState D) : Type 0 where

@@ -169,9 +169,9 @@ fn hand_over(delivered: &mut Delivered, gifts: &mut Gifts, t: Task, w: Worker)
 }
 
 impl<D: Disk> Board<D> {
-    /// A board on which nothing has happened, with the tasks that are ready in the pool. The program and the disks come back
-    /// where memory is wanting. Linear in the tasks and their accesses, and in cells times nodes; for each ready task
-    /// logarithmic in all.
+    /// A board on which nothing has happened, with the tasks that are ready in the pool, and with room for all events and all
+    /// deliveries. The program and the disks come back where memory is wanting. Linear in the tasks and their accesses, and in
+    /// cells times nodes; for each ready task logarithmic in all.
     pub fn make(
         alloc: Global,
         program: Arc<Program>,
@@ -235,10 +235,10 @@ impl<D: Disk> Board<D> {
         self.pool.has_fitting(room)
     }
 
-    /// Gives a worker a ready task from the pool that it hasn't passed, by the policy among those that fit its node; `None` exactly
-    /// where there is none. Those that it comes across and has passed stay in the pool: in their places under `prio`, else behind
-    /// the worker's others. For each of these, and once more, linear in those that were passed, logarithmic in the tasks, and under
-    /// `ws` linear in the workers; no memory.
+    /// Gives a worker a ready task from the pool that it hasn't passed, by the policy among those that fit its node; `None`
+    /// exactly where there is none. Those that it comes across and has passed stay in the pool: in their places under `prio`,
+    /// else behind the worker's others. For each of these, and once more, linear in those that were passed, logarithmic in the
+    /// tasks, and under `ws` linear in the workers; no memory.
     pub fn next(&mut self, w: Worker, passed: &[Task]) -> Option<Task>
         requires free { IsFree self.old w }
         ensures given { self.new ≡ given_from self.old w result self.new.pool }
@@ -277,8 +277,9 @@ impl<D: Disk> Board<D> {
     }
 
     /// A worker claims the task that it was given, where no fault is kept. After an `Err` the board is as before, so that the
-    /// task is still in the worker's hand; `NotNow` comes only while another worker has a claimed or running task. Linear in the operands, the victims and the pinned entries that are passed, and in
-    /// the workers for each commuting operand, but for moving the trace as it grows.
+    /// task is still in the worker's hand; `NotNow` comes only while another worker has a claimed or running task, and
+    /// `OutOfMemory` where there is none for the lists of the claim's cells and victims, or for the node's entries. Linear in the
+    /// operands, the victims and the pinned entries that are passed, and in the workers for each commuting operand.
     pub fn claim(&mut self, alloc: Global, t: Task, w: Worker) -> Result<(), ClaimRefusal>
         requires given { WasGiven self.old w t }
         requires idle { IsIdle self.old w }
@@ -308,9 +309,10 @@ impl<D: Disk> Board<D> {
         Ok(())
     }
 
-    /// The kernel of the task begins that a worker has claimed, where no fault is kept. Appends to the frame shares of the operands whose old value
-    /// is read, in order; of the cells that it writes, the board keeps no tile, and of what a deliver task hands over it keeps
-    /// a further share. After an `Err` the board is as before. Linear in the operands, and in the nodes for each written one.
+    /// The kernel of the task begins that a worker has claimed, where no fault is kept. Appends to the frame shares of the
+    /// operands whose old value is read, in order; of the cells that it writes, the board keeps no tile, and of what a deliver
+    /// task hands over it keeps a further share. After an `Err` the board is as before: a share was refused. Linear in the
+    /// operands, and in the nodes for each written one.
     pub fn run(&mut self, t: Task, w: Worker, frame: Frame) -> Result<Frame, OutOfMemory>
         requires task { HasTask self.old w t }
         requires no_fault { self.old.fault ≡ None }
@@ -331,8 +333,8 @@ impl<D: Disk> Board<D> {
     }
 
     /// The kernel of a worker's task has ended. The frame has shares of its results, in the order of its written operands. The
-    /// tasks that become ready go to the pool, by number, and a deliver task hands its operand's tile over. Linear in the operands and in the accesses that are released, and
-    /// for each of these tasks logarithmic in all; no memory.
+    /// tasks that become ready go to the pool, by number, and a deliver task hands its operand's tile over. Linear in the
+    /// operands and in the accesses that are released, and for each of these tasks logarithmic in all; no memory.
     pub fn end(&mut self, t: Task, w: Worker, written: Frame)
         requires task { HasTask self.old w t }
         requires can { CanHappen self.old.run (End t w) }
@@ -355,10 +357,11 @@ impl<D: Disk> Board<D> {
         self.left -= 1;
     }
 
-    /// What a worker does next, by the state alone: of its victims that aren't gone the least recently used is written to its disk
-    /// where it is the only valid copy, and else dropped; then the cells come that its claim brings, in operand order; then its
-    /// kernel begins. It waits only while another worker goes on, or has the disk in hand that it needs. Linear in the victims that have gone since it last dropped one,
-    /// in the nodes and in the workers; quadratic in the operands, which are a task's few. No memory.
+    /// What a worker does next, by the state alone: of its victims that aren't gone the least recently used is written to its
+    /// disk where it is the only valid copy, and else dropped; then the cells come that its claim brings, in operand order; then
+    /// its kernel begins. It waits only while another worker goes on, or has the disk in hand that it needs. Linear in the
+    /// victims that have gone since it last dropped one, in the nodes and in the workers; quadratic in the operands, which are a
+    /// task's few. No memory.
     pub fn plan_of(&self, w: Worker) -> Todo
         requires works { IsWorking self.now w }
         requires runs_none { RunsNone self.now w }
@@ -398,9 +401,9 @@ impl<D: Disk> Board<D> {
         note_gone(&mut self.gone, w, gone);
     }
 
-    /// A worker begins a move of a cell, where no fault is kept: one that its claim brings, or a victim of its claim. Hands out a
-    /// share of the tile at the source, where that is a node. After an `Err` the board is as before. Constant time, but for moving
-    /// the trace as it grows.
+    /// A worker begins a move of a cell, where no fault is kept: one that its claim brings, or a victim of its claim. Hands out
+    /// a share of the tile at the source, where that is a node. After an `Err` the board is as before: that share was refused.
+    /// Constant time.
     pub fn begin_move(
         &mut self,
         w: Worker,

@@ -26,6 +26,7 @@ pub mod plan;
 mod preparing;
 pub mod refusal;
 mod releasing;
+mod room;
 pub mod run_state;
 mod running;
 pub mod todo;

@@ -37,6 +37,7 @@ use crate::leaving::leaving_at;
 use crate::mark::Mark;
 use crate::operands::{commuter_held, written_cells};
 use crate::plan::{Plan, Why};
+use crate::room::whole_trace;
 use crate::running::{evict_elsewhere, lend_each, share_into, task_at};
 use sj_base::ids::{Cell, DiskNo, Node, Place, Task, Worker};
 use sj_base::memory::OutOfMemory;
@@ -67,10 +68,8 @@ pub struct RunState<D: Disk> {
     disks: LendingSet<D>,
     /// The disks as they were when the run was made.
     opened: Snapshot<DiskSet<D>>,
+    /// With room for all events that are to come.
     trace: Trace,
-    /// For how many events the trace has room whatever comes: one for each copy that leaves, each transfer, and each
-    /// claimed or running task.
-    owed: u64,
 }
 
 impl<D: Disk> Model for RunState<D> {
@@ -84,7 +83,7 @@ impl<D: Disk> Model for RunState<D> {
 
     ghost invariant = { λ b. Keeps D.size D.faults D.mismatches D.held
         (standing b.program.value b.machine b.trace b.disks b.opened.value)
-        (rows_of b.tasks.items b.cells.items b.nodes.items b.workers.items) b.owed b.trace.spare };
+        (rows_of b.tasks.items b.cells.items b.nodes.items b.workers.items) b.trace.spare };
 }
 
 /// Why a run isn't made: want of memory. Its program and its disks come back.
@@ -243,8 +242,8 @@ fn put_copy(cells: &mut Vec<Copies>, cell: Cell, n: Node, tile: Arc<Tile>)
 }
 
 impl<D: Disk> RunState<D> {
-    /// A run on which nothing has happened. The program and the disks come back where memory is wanting. Linear in tasks,
-    /// and in cells times nodes.
+    /// A run on which nothing has happened, with room for all events. The program and the disks come back where memory is
+    /// wanting. Linear in tasks, and in cells times nodes.
     pub fn make(
         alloc: Global,
         program: Arc<Program>,
@@ -267,6 +266,9 @@ impl<D: Disk> RunState<D> {
         let Ok(workers) = idle_workers(alloc, machine.workers) else {
             return Err(RunRefusal { program, disks });
         };
+        let Ok(trace) = whole_trace(alloc, &program) else {
+            return Err(RunRefusal { program, disks });
+        };
         let opened = Snapshot::of(&disks);
         let disks = match LendingSet::make(alloc, disks) {
             Ok(disks) => disks,
@@ -281,8 +283,7 @@ impl<D: Disk> RunState<D> {
             workers,
             disks,
             opened,
-            trace: Trace::empty(alloc),
-            owed: 0,
+            trace,
         })
     }
 
@@ -315,8 +316,8 @@ impl<D: Disk> RunState<D> {
     }
 
     /// A worker takes a ready task by its plan: it pins the task's cells on its node and brings them to the front, the
-    /// plan's victims leave, and the cells that were missing come. After an `Err` the run is as before. Linear in the
-    /// operands and the victims, but for moving the trace as it grows.
+    /// plan's victims leave, and the cells that were missing come. After an `Err` the run is as before: there was no memory
+    /// for the entries of these cells. Linear in the operands and the victims.
     pub fn claim(&mut self, t: Task, w: Worker, plan: Plan) -> Result<(), OutOfMemory>
         requires can { CanHappen self.old (Event.Claim t w) }
         requires plan { IsPlan self.old.program self.old.machine (state self.old) t w plan }
@@ -324,17 +325,11 @@ impl<D: Disk> RunState<D> {
         ensures err { OnErr result (self.new ≡ self.old) }
     {
         let n = node_of(&self.machine, w);
-        let more = plan.victims().len() as u64 + 1;
-        let Some(room) = self.owed.checked_add(more + 1) else {
-            return Err(OutOfMemory);
-        };
-        self.trace.reserve(room)?;
         hold_all(&mut self.nodes, n, &plan)?;
         mark_all(&mut self.cells, plan.victims(), n, Mark::Leaving(w));
         mark_all(&mut self.cells, plan.missing(), n, Mark::Coming(w));
         self.tasks[t.0 as usize] = Progress::Claimed(w);
         take_plan(&mut self.workers, w, plan);
-        self.owed += more;
         self.trace.add(Event::Claim(t, w));
         Ok(())
     }
@@ -345,13 +340,11 @@ impl<D: Disk> RunState<D> {
         ensures { self.new ≡ with_event self.old (Event.Drop cell n) }
     {
         clear(&mut self.cells, cell, n);
-        self.owed -= 1;
         self.trace.add(Event::Drop(cell, n));
     }
 
     /// A worker begins a move of a cell: one that its claim brings, or a victim of its claim. Hands out a share of the tile
-    /// at the source, where that is a node. After an `Err` the run is as before. Constant time, but for moving the trace
-    /// as it grows.
+    /// at the source, where that is a node. After an `Err` the run is as before: that share was refused. Constant time.
     pub fn begin_move(
         &mut self,
         w: Worker,
@@ -367,12 +360,7 @@ impl<D: Disk> RunState<D> {
         ensures err { OnErr result (self.new ≡ self.old) }
     {
         let share = share_of(&self.cells, cell, from)?;
-        let Some(room) = self.owed.checked_add(2) else {
-            return Err(OutOfMemory);
-        };
-        self.trace.reserve(room)?;
         set_transfer(&mut self.workers, w, Some(Transfer { cell, from, to }));
-        self.owed += 1;
         self.trace.add(Event::Move(cell, from, to));
         Ok(share)
     }
@@ -387,7 +375,6 @@ impl<D: Disk> RunState<D> {
         let n = node_at(x.to);
         put_copy(&mut self.cells, x.cell, n, tile);
         set_transfer(&mut self.workers, w, None);
-        self.owed -= 1;
         self.trace.add(Event::Moved(x.cell, x.from, x.to));
     }
 
@@ -401,7 +388,6 @@ impl<D: Disk> RunState<D> {
         let _d = disk_at(x.to);
         mark_stored(&mut self.cells, x.cell);
         set_transfer(&mut self.workers, w, None);
-        self.owed -= 1;
         self.trace.add(Event::Moved(x.cell, x.from, x.to));
     }
 
@@ -481,10 +467,6 @@ impl<D: Disk> RunState<D> {
         let accesses = task_at(&self.program, t).accesses.items();
         share_into(&self.program, w, &self.cells, n, accesses, &mut frame)?;
         let written = written_cells(&self.program, w, accesses);
-        let Some(room) = self.owed.checked_add(1) else {
-            return Err(OutOfMemory);
-        };
-        self.trace.reserve(room)?;
         lend_each(
             &mut self.cells,
             written.items(),
@@ -510,7 +492,6 @@ impl<D: Disk> RunState<D> {
         release_at(&mut self.nodes, n, &self.workers, w);
         let_go(&mut self.workers, w);
         self.tasks[t.0 as usize] = Progress::Done(w);
-        self.owed -= 1;
         self.trace.add(Event::End(t, w));
     }
 

@@ -20,7 +20,7 @@ returns-in-Some-clause-why g c =
     let may = subst (λ (b : Standing _). MayClaim b.program b.machine (state b) a.t a.w) (sym c.self.view_is) c.requires in
     let of_task : c.items-accesses.result.now ≡ (task_of i.program.value a.t).accesses = c.items-accesses.ensures ∙ ap (λ (l : Lowered). l.accesses) (c.task_at.ensures ∙ ap (λ (p : Program). task_of p a.t) c.deref.ensures) in
     subst (λ (b : Standing _). IsWhy b.program b.machine (state b) a.t a.w (Commute c.in-Some.cell)) c.self.view_is
-    (choice-commuter _ _ _ _ _ _ _ _ c.self.invariant a.t a.w may _ refl c.deref-2.result.now c.items-accesses.result.now c.in-Some.cell c.deref-2.ensures.value of_task (sym c.in-Some.ensures))
+    (choice-commuter _ _ _ _ _ _ _ c.self.invariant a.t a.w may _ refl c.deref-2.result.now c.items-accesses.result.now c.in-Some.cell c.deref-2.ensures.value of_task (sym c.in-Some.ensures))
 
 pub returns-in-Some-leaving_at-clause-why : goal.returns-in-Some-leaving_at-clause-why
 returns-in-Some-leaving_at-clause-why g c =
@@ -29,11 +29,11 @@ returns-in-Some-leaving_at-clause-why g c =
     let n = c.node_of-n.result in
     let may = subst (λ (b : Standing _). MayClaim b.program b.machine (state b) a.t a.w) (sym c.self.view_is) c.requires in
     let of_task : c.items-accesses.result.now ≡ (task_of i.program.value a.t).accesses = c.items-accesses.ensures ∙ ap (λ (l : Lowered). l.accesses) (c.task_at.ensures ∙ ap (λ (p : Program). task_of p a.t) c.deref.ensures) in
-    let free = choice-free _ _ _ _ _ _ _ _ c.self.invariant a.t a.w may n c.node_of-n.ensures c.deref-2.result.now c.items-accesses.result.now c.deref-2.ensures.value of_task (sym c.in_default.ensures) in
+    let free = choice-free _ _ _ _ _ _ _ c.self.invariant a.t a.w may n c.node_of-n.ensures c.deref-2.result.now c.items-accesses.result.now c.deref-2.ensures.value of_task (sym c.in_default.ensures) in
     let told : is_leaving_at c.deref-3.result.now n c.in-Some-leaving_at.cell ≡ true = c.in-Some-leaving_at.ensures.some in
     let leaves : is_leaving_at i.cells.items n c.in-Some-leaving_at.cell ≡ true = ap (λ (rows : List Copies). is_leaving_at rows n c.in-Some-leaving_at.cell) (sym c.deref-3.ensures.value) ∙ told in
     subst (λ (b : Standing _). IsWhy b.program b.machine (state b) a.t a.w (Leaving c.in-Some-leaving_at.cell)) c.self.view_is
-    (choice-leaving _ _ _ _ _ _ _ _ c.self.invariant a.t a.w may n c.node_of-n.ensures free c.in-Some-leaving_at.cell leaves)
+    (choice-leaving _ _ _ _ _ _ _ c.self.invariant a.t a.w may n c.node_of-n.ensures free c.in-Some-leaving_at.cell leaves)
 
 pub on-requires : goal.on-requires
 on-requires g c =
@@ -41,7 +41,7 @@ on-requires g c =
     let i = c.self.inside in
     let n = c.node_of-n.result in
     let may = subst (λ (b : Standing _). MayClaim b.program b.machine (state b) a.t a.w) (sym c.self.view_is) c.requires in
-    subst (λ (p : Program). HasSmallWork p a.t a.w) (sym c.deref-5.ensures) (choice-small _ _ _ _ _ _ _ _ c.self.invariant a.t a.w may n c.node_of-n.ensures)
+    subst (λ (p : Program). HasSmallWork p a.t a.w) (sym c.deref-5.ensures) (choice-small _ _ _ _ _ _ _ c.self.invariant a.t a.w may n c.node_of-n.ensures)
 
 pub returns-clause-can : goal.returns-clause-can
 returns-clause-can g c =
@@ -50,11 +50,11 @@ returns-clause-can g c =
     let n = c.node_of-n.result in
     let may = subst (λ (b : Standing _). MayClaim b.program b.machine (state b) a.t a.w) (sym c.self.view_is) c.requires in
     let of_task : c.items-accesses.result.now ≡ (task_of i.program.value a.t).accesses = c.items-accesses.ensures ∙ ap (λ (l : Lowered). l.accesses) (c.task_at.ensures ∙ ap (λ (p : Program). task_of p a.t) c.deref.ensures) in
-    let free = choice-free _ _ _ _ _ _ _ _ c.self.invariant a.t a.w may n c.node_of-n.ensures c.deref-2.result.now c.items-accesses.result.now c.deref-2.ensures.value of_task (sym c.in_default.ensures) in
+    let free = choice-free _ _ _ _ _ _ _ c.self.invariant a.t a.w may n c.node_of-n.ensures c.deref-2.result.now c.items-accesses.result.now c.deref-2.ensures.value of_task (sym c.in_default.ensures) in
     let told : All (λ row. NoneLeaves c.deref-3.result.now n row.victims) c.deref-4.result.now = c.in_default-leaving_at.ensures.none refl in
     let none = subst (λ (ws : List WorkerState). All (λ row. NoneLeaves i.cells.items n row.victims) ws) c.deref-4.ensures.value (subst (λ (rows : List Copies). All (λ row. NoneLeaves rows n row.victims) c.deref-4.result.now) c.deref-3.ensures.value told) in
     let found : c.in_ok-found.found ≡ option_map (planned i.program.value c.index.result.now a.t a.w) (chosen_on i.program.value c.index.result.now a.t a.w) = c.in_ok-found.ensures ∙ ap (λ (p : Program). option_map (planned p c.index.result.now a.t a.w) (chosen_on p c.index.result.now a.t a.w)) c.deref-5.ensures in
-    let answer = choice-found _ _ _ _ _ _ _ _ c.self.invariant a.t a.w may n c.node_of-n.ensures free none c.index.result.now _ c.index.ensures c.in_ok-found.found found in
+    let answer = choice-found _ _ _ _ _ _ _ c.self.invariant a.t a.w may n c.node_of-n.ensures free none c.index.result.now _ c.index.ensures c.in_ok-found.found found in
     (answer-told _ _ a.t a.w _ _ c.self.view_is c.ok_or.ensures.value answer).can
 
 pub returns-clause-plan : goal.returns-clause-plan
@@ -64,11 +64,11 @@ returns-clause-plan g c =
     let n = c.node_of-n.result in
     let may = subst (λ (b : Standing _). MayClaim b.program b.machine (state b) a.t a.w) (sym c.self.view_is) c.requires in
     let of_task : c.items-accesses.result.now ≡ (task_of i.program.value a.t).accesses = c.items-accesses.ensures ∙ ap (λ (l : Lowered). l.accesses) (c.task_at.ensures ∙ ap (λ (p : Program). task_of p a.t) c.deref.ensures) in
-    let free = choice-free _ _ _ _ _ _ _ _ c.self.invariant a.t a.w may n c.node_of-n.ensures c.deref-2.result.now c.items-accesses.result.now c.deref-2.ensures.value of_task (sym c.in_default.ensures) in
+    let free = choice-free _ _ _ _ _ _ _ c.self.invariant a.t a.w may n c.node_of-n.ensures c.deref-2.result.now c.items-accesses.result.now c.deref-2.ensures.value of_task (sym c.in_default.ensures) in
     let told : All (λ row. NoneLeaves c.deref-3.result.now n row.victims) c.deref-4.result.now = c.in_default-leaving_at.ensures.none refl in
     let none = subst (λ (ws : List WorkerState). All (λ row. NoneLeaves i.cells.items n row.victims) ws) c.deref-4.ensures.value (subst (λ (rows : List Copies). All (λ row. NoneLeaves rows n row.victims) c.deref-4.result.now) c.deref-3.ensures.value told) in
     let found : c.in_ok-found.found ≡ option_map (planned i.program.value c.index.result.now a.t a.w) (chosen_on i.program.value c.index.result.now a.t a.w) = c.in_ok-found.ensures ∙ ap (λ (p : Program). option_map (planned p c.index.result.now a.t a.w) (chosen_on p c.index.result.now a.t a.w)) c.deref-5.ensures in
-    let answer = choice-found _ _ _ _ _ _ _ _ c.self.invariant a.t a.w may n c.node_of-n.ensures free none c.index.result.now _ c.index.ensures c.in_ok-found.found found in
+    let answer = choice-found _ _ _ _ _ _ _ c.self.invariant a.t a.w may n c.node_of-n.ensures free none c.index.result.now _ c.index.ensures c.in_ok-found.found found in
     (answer-told _ _ a.t a.w _ _ c.self.view_is c.ok_or.ensures.value answer).plan
 
 pub returns-clause-why : goal.returns-clause-why
@@ -78,11 +78,11 @@ returns-clause-why g c =
     let n = c.node_of-n.result in
     let may = subst (λ (b : Standing _). MayClaim b.program b.machine (state b) a.t a.w) (sym c.self.view_is) c.requires in
     let of_task : c.items-accesses.result.now ≡ (task_of i.program.value a.t).accesses = c.items-accesses.ensures ∙ ap (λ (l : Lowered). l.accesses) (c.task_at.ensures ∙ ap (λ (p : Program). task_of p a.t) c.deref.ensures) in
-    let free = choice-free _ _ _ _ _ _ _ _ c.self.invariant a.t a.w may n c.node_of-n.ensures c.deref-2.result.now c.items-accesses.result.now c.deref-2.ensures.value of_task (sym c.in_default.ensures) in
+    let free = choice-free _ _ _ _ _ _ _ c.self.invariant a.t a.w may n c.node_of-n.ensures c.deref-2.result.now c.items-accesses.result.now c.deref-2.ensures.value of_task (sym c.in_default.ensures) in
     let told : All (λ row. NoneLeaves c.deref-3.result.now n row.victims) c.deref-4.result.now = c.in_default-leaving_at.ensures.none refl in
     let none = subst (λ (ws : List WorkerState). All (λ row. NoneLeaves i.cells.items n row.victims) ws) c.deref-4.ensures.value (subst (λ (rows : List Copies). All (λ row. NoneLeaves rows n row.victims) c.deref-4.result.now) c.deref-3.ensures.value told) in
     let found : c.in_ok-found.found ≡ option_map (planned i.program.value c.index.result.now a.t a.w) (chosen_on i.program.value c.index.result.now a.t a.w) = c.in_ok-found.ensures ∙ ap (λ (p : Program). option_map (planned p c.index.result.now a.t a.w) (chosen_on p c.index.result.now a.t a.w)) c.deref-5.ensures in
-    let answer = choice-found _ _ _ _ _ _ _ _ c.self.invariant a.t a.w may n c.node_of-n.ensures free none c.index.result.now _ c.index.ensures c.in_ok-found.found found in
+    let answer = choice-found _ _ _ _ _ _ _ c.self.invariant a.t a.w may n c.node_of-n.ensures free none c.index.result.now _ c.index.ensures c.in_ok-found.found found in
     (answer-told _ _ a.t a.w _ _ c.self.view_is c.ok_or.ensures.value answer).why
 
 pub returns-in-Some-clause-another : goal.returns-in-Some-clause-another

@@ -19,7 +19,7 @@ share-requires-clause-inside g c =
     let yes : is_delivery c.task_at-task.result.now.codelet ≡ true = search rules in
     let hands = hands-over p t c.task_at-task.result.now task yes in
     let reads : c.items.result.now ≡ access R (delivered_cell p t) ∷ [] = c.items.ensures ∙ ap (λ (l : Lowered). l.accesses) task ∙ deliver-reads p c.self.invariant.sound.run.proper t hands in
-    gift-inside _ _ _ _ _ _ _ _ c.self.invariant t c.args.w (search rules) hands c.index-row.result.now c.node_of-n.result (gift-row p t c.items.result.now first c.self.inside.cells.items c.index-row.result.now c.index-row.result.now reads c.index-row.ensures) c.node_of-n.ensures
+    gift-inside _ _ _ _ _ _ _ c.self.invariant t c.args.w (search rules) hands c.index-row.result.now c.node_of-n.result (gift-row p t c.items.result.now first c.self.inside.cells.items c.index-row.result.now c.index-row.result.now reads c.index-row.ensures) c.node_of-n.ensures
 
 pub share-requires-clause-there : goal.share-requires-clause-there
 share-requires-clause-there g c =
@@ -30,7 +30,7 @@ share-requires-clause-there g c =
     let yes : is_delivery c.task_at-task.result.now.codelet ≡ true = search rules in
     let hands = hands-over p t c.task_at-task.result.now task yes in
     let reads : c.items.result.now ≡ access R (delivered_cell p t) ∷ [] = c.items.ensures ∙ ap (λ (l : Lowered). l.accesses) task ∙ deliver-reads p c.self.invariant.sound.run.proper t hands in
-    gift-there _ _ _ _ _ _ _ _ c.self.invariant t c.args.w (search rules) hands c.index-row.result.now c.node_of-n.result (gift-row p t c.items.result.now first c.self.inside.cells.items c.index-row.result.now c.index-row.result.now reads c.index-row.ensures) c.node_of-n.ensures
+    gift-there _ _ _ _ _ _ _ c.self.invariant t c.args.w (search rules) hands c.index-row.result.now c.node_of-n.result (gift-row p t c.items.result.now first c.self.inside.cells.items c.index-row.result.now c.index-row.result.now reads c.index-row.ensures) c.node_of-n.ensures
 
 pub returns : goal.returns
 returns g c =
@@ -41,4 +41,4 @@ returns g c =
     let yes : is_delivery c.task_at-task.result.now.codelet ≡ true = search rules in
     let hands = hands-over p t c.task_at-task.result.now task yes in
     let reads : c.items.result.now ≡ access R (delivered_cell p t) ∷ [] = c.items.ensures ∙ ap (λ (l : Lowered). l.accesses) task ∙ deliver-reads p c.self.invariant.sound.run.proper t hands in
-    gift-given _ _ _ _ _ _ _ _ c.self.invariant t c.args.w (search rules) hands c.index-row.result.now c.node_of-n.result (gift-row p t c.items.result.now first c.self.inside.cells.items c.index-row.result.now c.index-row.result.now reads c.index-row.ensures) c.node_of-n.ensures _ c.self.view_is c.in_ok-share.field-0.value c.in_ok-share.ensures
+    gift-given _ _ _ _ _ _ _ c.self.invariant t c.args.w (search rules) hands c.index-row.result.now c.node_of-n.result (gift-row p t c.items.result.now first c.self.inside.cells.items c.index-row.result.now c.index-row.result.now reads c.index-row.ensures) c.node_of-n.ensures _ c.self.view_is c.in_ok-share.field-0.value c.in_ok-share.ensures

@@ -16,4 +16,4 @@ returns g c =
     let rows = ap (λ (rows : List Copies). list_all (λ d. not (leaves_in rows n w d)) c.victims-victims.result.now) c.deref.ensures.value in
     let victims = ap (λ (cs : List Cell). list_all (λ d. not (leaves_in c.self.inside.cells.items n w d)) cs) c.victims-victims.ensures in
     subst (λ (b : Standing _). c.are_gone.result ≡ has_room b.machine (state b) w) c.self.view_is
-    (c.are_gone.ensures ∙ rows ∙ victims ∙ room-is _ _ _ _ _ _ _ _ c.self.invariant w staffed n c.node_of-n.ensures c.index.result.now _ c.index.ensures)
+    (c.are_gone.ensures ∙ rows ∙ victims ∙ room-is _ _ _ _ _ _ _ c.self.invariant w staffed n c.node_of-n.ensures c.index.result.now _ c.index.ensures)

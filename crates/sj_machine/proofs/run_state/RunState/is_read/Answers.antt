@@ -12,4 +12,4 @@ pub returns : goal.returns
 returns g c =
     let rows = ap (λ (ws : List WorkerState). list_any (λ r. reads_in r c.args.cell (AtNode c.args.n)) ws) c.deref.ensures.value in
     subst (λ (b : Standing _). c.is_read.result ≡ is_read b.machine (state b) c.args.cell (AtNode c.args.n)) c.self.view_is
-    (c.is_read.ensures ∙ rows ∙ read-is _ _ _ _ _ _ _ _ c.self.invariant c.args.cell c.args.n)
+    (c.is_read.ensures ∙ rows ∙ read-is _ _ _ _ _ _ _ c.self.invariant c.args.cell c.args.n)

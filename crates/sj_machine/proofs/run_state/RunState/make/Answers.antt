@@ -1,7 +1,8 @@
-use Rattle.std.proofs.Common.{◌≡◌, ◌∙◌, ℕ, List, ap, length, map, replicate, rules}
+use Rattle.std.proofs.Common.{◌≡◌, ◌∙◌, arith, ℕ, List, ap, length, map, replicate, rules}
 use Rattle.sj_core.specs.declared.progress.Progress.TheVariants.{Waiting}
 use Rattle.sj_node.specs.Store.{empty}
 use Rattle.sj_machine.specs.Copies.{none_at}
+use Rattle.sj_machine.specs.Sound.{most_events}
 use Rattle.sj_machine.proofs.Making.{keeps-made}
 use Rattle.sj_machine.proofs.run_state.RunState.make.Goals as goal
 
@@ -14,8 +15,9 @@ invariant_of-result g c =
     let nodes : c.len-3.result ≡ length m.nodes = search rules in
     let sizes : c.items.result.now ≡ m.nodes = search rules in
     let limit : c.len-4.result ≡ length p.cells = search rules in
-    keeps-made _ _ _ _ p m c.requires.run c.args.disks c.requires.placed _ _ _ _ c.empty.result _ c.of-opened.result.value
+    let spare : c.in-Ok-whole_trace.trace.spare ≡ most_events p = search rules in
+    keeps-made _ _ _ _ p m c.requires.run c.args.disks c.requires.placed _ _ _ _ c.in-Ok-whole_trace.trace _ c.of-opened.result.value
     (c.in-Ok.ensures ∙ ap (λ (i : ℕ). replicate i Waiting) tasks)
     (c.in-Ok-no_copies.ensures ∙ ap (λ (i : ℕ). replicate i (none_at c.len-3.result)) cells ∙ ap (λ (i : ℕ). replicate (length p.cells) (none_at i)) nodes)
     (c.in-Ok-empty_nodes.ensures ∙ ap (λ (ns : List ℕ). map (λ size. empty size c.len-4.result) ns) sizes ∙ ap (λ (i : ℕ). map (λ size. empty size i) m.nodes) limit)
-    c.in-Ok-idle_workers.ensures c.empty.ensures.events c.in-Ok-make.ensures.ok c.of-opened.ensures
+    c.in-Ok-idle_workers.ensures c.in-Ok-whole_trace.ensures.empty (omega (arith, spare)) c.in-Ok-make.ensures.ok c.of-opened.ensures

@@ -14,7 +14,7 @@ use Rattle.sj_machine.proofs.run_state.RunState.may_run.Goals as goal
 pub may_run-requires-clause-copies : goal.may_run-requires-clause-copies
 may_run-requires-clause-copies g c =
     let claimed = subst (λ (b : Standing _). progress (state b) c.args.t ≡ Claimed c.args.w) (sym c.self.view_is) c.requires in
-    subst (λ (p : Program). HasNumbers p c.args.w) (sym c.deref-4.ensures) (numbers _ _ _ _ _ _ _ _ c.self.invariant c.args.t c.args.w claimed)
+    subst (λ (p : Program). HasNumbers p c.args.w) (sym c.deref-4.ensures) (numbers _ _ _ _ _ _ _ c.self.invariant c.args.t c.args.w claimed)
 
 pub returns : goal.returns
 returns g c =
@@ -25,5 +25,5 @@ returns g c =
     let rows = ap (λ (rows : List Copies). are_present rows c.deref-4.result.now n c.args.w accesses && are_unmoved c.deref-3.result.now c.deref-4.result.now c.args.w accesses) c.deref-2.ensures.value in
     let workers = ap (λ (ws : List WorkerState). are_present c.self.inside.cells.items c.deref-4.result.now n c.args.w accesses && are_unmoved ws c.deref-4.result.now c.args.w accesses) c.deref-3.ensures.value in
     let program = ap (λ (p : Program). are_present c.self.inside.cells.items p n c.args.w accesses && are_unmoved c.self.inside.workers.items p c.args.w accesses) c.deref-4.ensures in
-    let told : c.may_run.result ≡ _ = c.may_run.ensures ∙ rows ∙ workers ∙ program ∙ run-is _ _ _ _ _ _ _ _ c.self.invariant c.args.t c.args.w claimed n c.node_of-n.ensures accesses those in
+    let told : c.may_run.result ≡ _ = c.may_run.ensures ∙ rows ∙ workers ∙ program ∙ run-is _ _ _ _ _ _ _ c.self.invariant c.args.t c.args.w claimed n c.node_of-n.ensures accesses those in
     subst (λ (b : Standing _). c.may_run.result ≡ may_run b.program b.machine (state b) c.args.t c.args.w) c.self.view_is told

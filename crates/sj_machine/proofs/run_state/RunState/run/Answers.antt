@@ -1,4 +1,4 @@
-use Rattle.std.proofs.Common.{◌≡◌, ◌≤◌, ◌+◌, ◌∙◌, ◌++◌, ◌∷◌, List, [], max, arith, ap, get_or, length, refl, rules, sym}
+use Rattle.std.proofs.Common.{◌≡◌, ◌≤◌, ◌+◌, ◌∙◌, ◌++◌, ◌∷◌, List, [], max, arith, ap, get_or, length, refl, rules, subst, sym}
 use Rattle.std.proofs.lemmas.List.{length-map}
 use Rattle.sj_base.specs.declared.program.Lowered.{Lowered}
 use Rattle.sj_base.specs.declared.program.Program.{Program}
@@ -7,51 +7,53 @@ use Rattle.sj_core.specs.Program.{task_of}
 use Rattle.sj_codelet.specs.Frame.{Slot}
 use Rattle.sj_machine.specs.Operands.{read_among}
 use Rattle.sj_machine.specs.Running.{evicted_at, shares_at}
+use Rattle.sj_machine.specs.Standing.{CanHappen, Standing}
+use Rattle.sj_machine.proofs.Keeping.{has-room}
 use Rattle.sj_machine.proofs.Owning.{found-can_give, found-can_work, found-few, found-keeps_run, found-run_cells, found-run_shares, found-run_unpinned}
 use Rattle.sj_machine.proofs.run_state.RunState.run.Goals as goal
 
 pub share_into-requires-clause-can : goal.share_into-requires-clause-can
 share_into-requires-clause-can g c =
     let of_task : c.items-accesses.result.now ≡ (task_of c.self.inside.program.value c.args.t).accesses = c.items-accesses.ensures ∙ ap (λ (l : Lowered). l.accesses) (c.task_at.ensures ∙ ap (λ (p : Program). task_of p c.args.t) c.deref.ensures) in
-    found-can_give _ _ _ _ _ _ _ _ c.self.invariant c.args.t c.args.w _ c.self.view_is c.requires.can c.node_of-n.result c.node_of-n.ensures c.items-accesses.result.now of_task c.deref-2.result.now c.deref-2.ensures c.deref-3.result.now c.deref-3.ensures.value
+    found-can_give _ _ _ _ _ _ _ c.self.invariant c.args.t c.args.w _ c.self.view_is c.requires.can c.node_of-n.result c.node_of-n.ensures c.items-accesses.result.now of_task c.deref-2.result.now c.deref-2.ensures c.deref-3.result.now c.deref-3.ensures.value
 
 pub lend_each-requires-clause-cells : goal.lend_each-requires-clause-cells
 lend_each-requires-clause-cells g c =
     let of_task : c.items-accesses.result.now ≡ (task_of c.self.inside.program.value c.args.t).accesses = c.items-accesses.ensures ∙ ap (λ (l : Lowered). l.accesses) (c.task_at.ensures ∙ ap (λ (p : Program). task_of p c.args.t) c.deref.ensures) in
-    found-run_cells _ _ _ _ _ _ _ _ c.self.invariant c.args.t c.args.w _ c.self.view_is c.requires.can c.node_of-n.result c.node_of-n.ensures c.items-accesses.result.now of_task c.deref-4.result.now c.deref-4.ensures c.items.result.now (c.items.ensures ∙ c.written_cells-written.ensures)
+    found-run_cells _ _ _ _ _ _ _ c.self.invariant c.args.t c.args.w _ c.self.view_is c.requires.can c.node_of-n.result c.node_of-n.ensures c.items-accesses.result.now of_task c.deref-4.result.now c.deref-4.ensures c.items.result.now (c.items.ensures ∙ c.written_cells-written.ensures)
 
 pub evict_elsewhere-requires : goal.evict_elsewhere-requires
 evict_elsewhere-requires g c =
     let of_task : c.items-accesses.result.now ≡ (task_of c.self.inside.program.value c.args.t).accesses = c.items-accesses.ensures ∙ ap (λ (l : Lowered). l.accesses) (c.task_at.ensures ∙ ap (λ (p : Program). task_of p c.args.t) c.deref.ensures) in
-    found-run_unpinned _ _ _ _ _ _ _ _ c.self.invariant c.args.t c.args.w _ c.self.view_is c.requires.can c.node_of-n.result c.node_of-n.ensures c.items-accesses.result.now of_task c.deref-4.result.now c.deref-4.ensures c.items-2.result.now (c.items-2.ensures ∙ c.written_cells-written.ensures)
+    found-run_unpinned _ _ _ _ _ _ _ c.self.invariant c.args.t c.args.w _ c.self.view_is c.requires.can c.node_of-n.result c.node_of-n.ensures c.items-accesses.result.now of_task c.deref-4.result.now c.deref-4.ensures c.items-2.result.now (c.items-2.ensures ∙ c.written_cells-written.ensures)
 
-pub invariant_of-self-2 : goal.invariant_of-self-2
-invariant_of-self-2 g c =
+pub add-requires : goal.add-requires
+add-requires g c = has-room _ _ _ _ _ _ _ c.self.invariant (Run c.args.t c.args.w) (subst (λ (b : Standing _). CanHappen b (Run c.args.t c.args.w)) (sym c.self.view_is) c.requires.can)
+
+pub invariant_of-self : goal.invariant_of-self
+invariant_of-self g c =
     let i = c.self.inside in
     let of_task : c.items-accesses.result.now ≡ (task_of i.program.value c.args.t).accesses = c.items-accesses.ensures ∙ ap (λ (l : Lowered). l.accesses) (c.task_at.ensures ∙ ap (λ (p : Program). task_of p c.args.t) c.deref.ensures) in
-    let asked : c.in-Some.room ≡ i.owed + 1 = search rules in
-    let made : c.reserve.new.self.spare ≡ max i.trace.spare c.in-Some.room = search rules in
-    let room : i.owed ≤ c.add.new.self.spare = omega (arith, c.add.ensures.room, made, asked) in
-    let told : c.add.new.self.events ≡ i.trace.events ++ Run c.args.t c.args.w ∷ [] = c.add.ensures.events ∙ ap (λ es. es ++ Run c.args.t c.args.w ∷ []) c.reserve.ensures.events in
+    let told : c.add.new.self.events ≡ i.trace.events ++ Run c.args.t c.args.w ∷ [] = c.add.ensures.events in
     let written = c.items.ensures ∙ c.written_cells-written.ensures in
     let second : c.items-2.result.now ≡ c.items.result.now = c.items-2.ensures ∙ sym c.items.ensures in
-    found-keeps_run _ _ _ _ _ _ _ _ c.self.invariant c.args.t c.args.w _ c.self.view_is c.requires.can c.node_of-n.result c.node_of-n.ensures c.items-accesses.result.now of_task c.deref-4.result.now c.deref-4.ensures c.items.result.now written c.add.new.self _ c.lend_each.new.cells.items c.evict_elsewhere.new.nodes.items told room refl c.lend_each.ensures c.evict_elsewhere.ensures.every
+    found-keeps_run _ _ _ _ _ _ _ c.self.invariant c.args.t c.args.w _ c.self.view_is c.requires.can c.node_of-n.result c.node_of-n.ensures c.items-accesses.result.now of_task c.deref-4.result.now c.deref-4.ensures c.items.result.now written c.add.new.self _ c.lend_each.new.cells.items c.evict_elsewhere.new.nodes.items told c.add.ensures.room refl c.lend_each.ensures c.evict_elsewhere.ensures.every
     (λ k d inside. c.evict_elsewhere.ensures.each k d inside ∙ ap (λ l. evicted_at c.node_of-n.result l k (get_or i.nodes.items k d)) second)
 
 pub returns-clause-shares : goal.returns-clause-shares
 returns-clause-shares g c =
     let of_task : c.items-accesses.result.now ≡ (task_of c.self.inside.program.value c.args.t).accesses = c.items-accesses.ensures ∙ ap (λ (l : Lowered). l.accesses) (c.task_at.ensures ∙ ap (λ (p : Program). task_of p c.args.t) c.deref.ensures) in
-    found-run_shares _ _ _ _ _ _ _ _ c.self.invariant c.args.t c.args.w _ c.self.view_is c.requires.can c.node_of-n.result c.node_of-n.ensures c.items-accesses.result.now of_task c.deref-2.result.now c.deref-2.ensures c.deref-3.result.now c.share_into.new.frame.slots c.args.frame.slots c.deref-3.ensures.value c.requires.empty c.in_ok-share_into.ensures.slots
+    found-run_shares _ _ _ _ _ _ _ c.self.invariant c.args.t c.args.w _ c.self.view_is c.requires.can c.node_of-n.result c.node_of-n.ensures c.items-accesses.result.now of_task c.deref-2.result.now c.deref-2.ensures c.deref-3.result.now c.share_into.new.frame.slots c.args.frame.slots c.deref-3.ensures.value c.requires.empty c.in_ok-share_into.ensures.slots
 
 pub written_cells-written-requires-clause-can : goal.written_cells-written-requires-clause-can
 written_cells-written-requires-clause-can g c =
     let of_task : c.items-accesses.result.now ≡ (task_of c.self.inside.program.value c.args.t).accesses = c.items-accesses.ensures ∙ ap (λ (l : Lowered). l.accesses) (c.task_at.ensures ∙ ap (λ (p : Program). task_of p c.args.t) c.deref.ensures) in
-    found-can_work _ _ _ _ _ _ _ _ c.self.invariant c.args.t c.args.w _ c.self.view_is c.requires.can c.node_of-n.result c.node_of-n.ensures c.items-accesses.result.now of_task c.deref-4.result.now c.deref-4.ensures
+    found-can_work _ _ _ _ _ _ _ c.self.invariant c.args.t c.args.w _ c.self.view_is c.requires.can c.node_of-n.result c.node_of-n.ensures c.items-accesses.result.now of_task c.deref-4.result.now c.deref-4.ensures
 
 pub written_cells-written-requires-clause-few : goal.written_cells-written-requires-clause-few
 written_cells-written-requires-clause-few g c =
     let of_task : c.items-accesses.result.now ≡ (task_of c.self.inside.program.value c.args.t).accesses = c.items-accesses.ensures ∙ ap (λ (l : Lowered). l.accesses) (c.task_at.ensures ∙ ap (λ (p : Program). task_of p c.args.t) c.deref.ensures) in
-    found-few _ _ _ _ _ _ _ _ c.self.invariant c.args.t c.args.w _ c.self.view_is c.requires.can c.node_of-n.result c.node_of-n.ensures c.items-accesses.result.now of_task c.deref-4.result.now c.deref-4.ensures
+    found-few _ _ _ _ _ _ _ c.self.invariant c.args.t c.args.w _ c.self.view_is c.requires.can c.node_of-n.result c.node_of-n.ensures c.items-accesses.result.now of_task c.deref-4.result.now c.deref-4.ensures
 
 pub returns-clause-room : goal.returns-clause-room
 returns-clause-room g c =
