@@ -1,11 +1,12 @@
 //! Task lines with more operands or arguments than any codelet has: what is against them is found without a list of either.
 
-ghost use Rattle.std.specs.Prelude.{◌≡◌, ◌≤◌, ◌∷◌, true, false, codes, length, Err, IfSome, MatchOption};
+ghost use Rattle.std.specs.Prelude.{◌≡◌, ◌+◌, ◌≤◌, ◌&&◌, ◌||◌, ◌∷◌, [], true, false, codes, length, nat_le, nat_lt, Err, IfSome, MatchOption};
 ghost use Rattle.std.specs.List.{list_all};
-ghost use Rattle.sj_job.specs.Crowd.{none_seen, seen_behind, with_operand};
-ghost use Rattle.sj_job.specs.Form.{with_priority};
+ghost use Rattle.sj_job.specs.Crowd.{crowd_of, shown_in, up_to_six};
+ghost use Rattle.sj_job.specs.Judge.{Scope, is_ended, is_unknown};
 ghost use Rattle.sj_job.specs.Names.{IsCounted, scope_in};
 ghost use Rattle.sj_job.specs.Reading.{act_in};
+ghost use Rattle.sj_job.specs.Sentence.{are_counts};
 ghost use Rattle.sj_job.specs.Word.{is_integer};
 
 use crate::form::{OperandForm, Piece, Pieces};
@@ -18,15 +19,15 @@ use crate::spell::{bracketed, last_priority, operand_of};
 use crate::word::integer_of;
 use sj_codelet::set::Codelets;
 
-/// More operands than any codelet has.
-const MANY: u8 = 6;
+/// How far operands are counted, and arguments up to one more: no codelet has so many.
+const COUNTED: u8 = 6;
 
-/// What is seen of operands, one after another.
+/// What shows in operands, one after another.
 #[derive(Clone, Copy, Debug, PartialEq, Eq)]
 pub struct Crowd {
     /// Each index has counts.
     numbered: bool,
-    /// A name isn't registered.
+    /// A name isn't registered, nor was it ended.
     unknown: bool,
     /// A name is ended.
     ended: bool,
@@ -36,7 +37,7 @@ pub struct Crowd {
 
 impl Crowd {
     fn none() -> Crowd
-        ensures { result ≡ none_seen }
+        ensures { (s : Scope) → result ≡ crowd_of s [] }
     {
         Crowd {
             numbered: true,
@@ -46,24 +47,34 @@ impl Crowd {
         }
     }
 
+    /// One operand more. Linear in it.
     fn add(&mut self, names: &Names, operand: &OperandForm<'_>)
-        requires { IsCounted names.now }
-        ensures { self.new ≡ with_operand (scope_in names.now) self.old operand.now }
+        requires names { IsCounted names.now }
+        requires few { self.old.count ≤ 6 }
+        ensures numbered { self.new.numbered
+            ≡ (self.old.numbered && are_counts operand.now.child) }
+        ensures unknown { self.new.unknown
+            ≡ (self.old.unknown || is_unknown (scope_in names.now) operand.now.name) }
+        ensures ended { self.new.ended
+            ≡ (self.old.ended || is_ended (scope_in names.now) operand.now.name) }
+        ensures count { self.new.count ≡ up_to_six (self.old.count + 1) }
     {
         let name = operand.name.bytes();
+        let taken = names.is_taken(name);
+        let ended = names.is_ended(name);
         self.numbered = self.numbered && are_counts(&operand.child);
-        self.unknown = self.unknown || !names.is_taken(name) && !names.is_ended(name);
-        self.ended = self.ended || names.is_ended(name);
-        if self.count < MANY {
+        self.unknown = self.unknown || (!taken && !ended);
+        self.ended = self.ended || ended;
+        if self.count < COUNTED {
             self.count += 1;
         }
     }
 }
 
-/// What is seen of the operands that words spell, and the priority behind them. Linear in the words.
+/// What shows in the operands that words spell, and the priority behind them. Linear in the words.
 fn crowd_of<'a>(names: &Names, words: &Words<'a>) -> Option<(Crowd, Option<Piece<'a>>)>
     requires { IsCounted names.now }
-    ensures { result ≡ seen_behind (scope_in names.now) none_seen (with_priority words.now) }
+    ensures { result ≡ shown_in (scope_in names.now) words.now }
 {
     let mut crowd = Crowd::none();
     let mut rest = words.again();
@@ -87,12 +98,19 @@ fn argument_count(args: &Pieces<'_>) -> Option<u8>
     let mut rest = args.again();
     while let Some((word, behind)) = rest.split_first() {
         integer_of(word)?;
-        if count <= MANY {
+        if count <= COUNTED {
             count += 1;
         }
         rest = behind;
     }
     Some(count)
+}
+
+/// Whether there are more operands than any codelet has, or more arguments, each counted up to one more than that.
+fn are_many(operands: u8, arguments: u8) -> bool
+    ensures { result ≡ (nat_le 6 operands || nat_lt 6 arguments) }
+{
+    COUNTED <= operands || COUNTED < arguments
 }
 
 /// The reason against a task line of these words behind `task`, where it comes before the counting of its operands, or where
@@ -135,7 +153,7 @@ pub fn crowd_complaint<C: Codelets>(
         Some(Reason::EndedName)
     } else if codelets.kernel_named(codelet.bytes()).is_none() {
         Some(Reason::UnknownCodelet)
-    } else if MANY <= crowd.count || MANY < count {
+    } else if are_many(crowd.count, count) {
         Some(Reason::OperandCount)
     } else {
         None

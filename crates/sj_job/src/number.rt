@@ -6,12 +6,7 @@ ghost use Rattle.sj_job.specs.Word.{count, is_count, is_integer, integer};
 ghost use Rattle.sj_job.specs.Sentence.{are_counts, is_numbered_size, is_numbered_init, is_numbered_priority, rows_of, cols_of, init_said, parts_said, index_said, priority_said};
 ghost use Rattle.sj_meaning.specs.State.{plan_with};
 
-<<<<<<< HEAD
-use crate::form::{InitForm, Piece, Size};
-=======
 use crate::form::{InitForm, Piece, Pieces, Size};
-use crate::job::Init;
->>>>>>> c2595a84 (crowd: what an earlier session left unproved)
 use crate::line::Words;
 use crate::word::{count_of, integer_of};
 use sj_base::few::Few;

@@ -3,13 +3,8 @@
 ghost use Rattle.std.specs.Prelude.{◌≡◌, ◌+◌, ◌≤◌, ◌<◌, ◌^◌, ◌∷◌, ℕ, Bool, List, length, Err, Ok, IfOk, IfErr, IfNone, IfSome, IsTrue, OnOk};
 ghost use Rattle.std.specs.Bool.{IsFalse};
 ghost use Rattle.sj_codelet.specs.declared.kernel.Kernel.{Kernel};
-<<<<<<< HEAD
-ghost use Rattle.sj_job.specs.Word.{lines};
-ghost use Rattle.sj_meaning.specs.State.{start};
-=======
 ghost use Rattle.sj_job.specs.Word.{lines, words};
-ghost use Rattle.sj_job.specs.State.{start};
->>>>>>> c2595a84 (crowd: what an earlier session left unproved)
+ghost use Rattle.sj_meaning.specs.State.{start};
 ghost use Rattle.sj_job.specs.Names.{IsCounted, scope_in};
 ghost use Rattle.sj_job.specs.Verdict.{Skipped, Passes, Begins};
 ghost use Rattle.sj_job.specs.Reading.{act_in, front_of, reading, reading_header, reading_settings, refused, with_settings, job_of, verdict_of, IsBad, IsRefusal, IsStopped};
@@ -19,11 +14,7 @@ ghost use Rattle.sj_meaning.specs.Settings.{unset, IsWithinLimits};
 ghost use Rattle.sj_meaning.specs.View.{seen_from, statements_of, job_seen, IsNumbered};
 ghost use Rattle.sj_job.specs.Well.{IsWell};
 
-<<<<<<< HEAD
-=======
 use crate::crowd::crowd_complaint;
-use crate::job::{Act, Job, Statement};
->>>>>>> c2595a84 (crowd: what an earlier session left unproved)
 use crate::line::{Words, are_allowed, is_header, is_skipped, next_line, trimmed};
 use crate::names::Names;
 use crate::reason::{LimitKind, Objection, ReadRefusal, Reason};
