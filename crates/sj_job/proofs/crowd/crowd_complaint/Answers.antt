@@ -1,6 +1,7 @@
 use Rattle.std.proofs.Common.{◌≡◌, ◌∷◌, ◌∙◌, ap, sym, not, arith, true, false, codes, w64, to_z, of_z, rules, FitsSigned, is_some}
 use Rattle.std.proofs.lemmas.Bool.Decides.{nat_tests}
 use Rattle.std.proofs.lemmas.Int.{to_z-of_z}
+use Rattle.sj_base.proofs.Bools.{not_not}
 use Rattle.sj_job.specs.Judge.{is_full, kernel_named}
 use Rattle.sj_job.specs.Names.{scope_in}
 use Rattle.sj_job.specs.Reading.{act_in}
@@ -38,7 +39,7 @@ returns-then-not-crowd g c =
     let s = scope_in c.args.names.now in
     let h = seen s c.in-Some.first.now c.in-Some.rest c.in-Some-bracketed.codelet c.in-Some-bracketed.args c.in-Some-crowd_of.crowd c.in-Some-crowd_of.priority (sym c.bracketed.ensures.parts ∙ c.in-Some-bracketed.is) (sym c.crowd_of.ensures ∙ c.in-Some-crowd_of.is) in
     ap (λ ws. act_in g.C.Codelets.has s (codes "task" ∷ ws)) c.in-Some.ensures
-    ∙ uncounted g.C.Codelets.has s _ _ _ h.1 c.if-not-crowd.true
+    ∙ uncounted g.C.Codelets.has s _ _ _ h.1 (sym (not_not c.in-Some-crowd_of.crowd.numbered) ∙ ap not c.if-not-crowd.true)
 
 pub returns-in_default-priority_of : goal.returns-in_default-priority_of
 returns-in_default-priority_of g c =
@@ -50,14 +51,14 @@ returns-in_default-priority_of g c =
 pub returns-then-names-ge-STATEMENTS : goal.returns-then-names-ge-STATEMENTS
 returns-then-names-ge-STATEMENTS g c =
     let s = scope_in c.args.names.now in
-    let n = numbered s c.in-Some.first.now c.in-Some.rest c.in-Some-bracketed.codelet c.in-Some-bracketed.args c.in-Some-crowd_of.crowd c.in-Some-crowd_of.priority (sym c.bracketed.ensures.parts ∙ c.in-Some-bracketed.is) (sym c.crowd_of.ensures ∙ c.in-Some-crowd_of.is) c.in-Some-argument_count.ensures.0 c.if-not-crowd.false c.in-Some-priority_of.ensures.0 in
+    let n = numbered s c.in-Some.first.now c.in-Some.rest c.in-Some-bracketed.codelet c.in-Some-bracketed.args c.in-Some-crowd_of.crowd c.in-Some-crowd_of.priority (sym c.bracketed.ensures.parts ∙ c.in-Some-bracketed.is) (sym c.crowd_of.ensures ∙ c.in-Some-crowd_of.is) c.in-Some-argument_count.ensures.0 (sym (not_not c.in-Some-crowd_of.crowd.numbered) ∙ ap not c.if-not-crowd.false) c.in-Some-priority_of.ensures.0 in
     ap (λ ws. act_in g.C.Codelets.has s (codes "task" ∷ ws)) c.in-Some.ensures
     ∙ at-full g.C.Codelets.has s _ _ _ n.1 (grind (arith, nat_tests, c.if-names-ge-STATEMENTS.true))
 
 pub returns-then-not-has_priority : goal.returns-then-not-has_priority
 returns-then-not-has_priority g c =
     let s = scope_in c.args.names.now in
-    let n = numbered s c.in-Some.first.now c.in-Some.rest c.in-Some-bracketed.codelet c.in-Some-bracketed.args c.in-Some-crowd_of.crowd c.in-Some-crowd_of.priority (sym c.bracketed.ensures.parts ∙ c.in-Some-bracketed.is) (sym c.crowd_of.ensures ∙ c.in-Some-crowd_of.is) c.in-Some-argument_count.ensures.0 c.if-not-crowd.false c.in-Some-priority_of.ensures.0 in
+    let n = numbered s c.in-Some.first.now c.in-Some.rest c.in-Some-bracketed.codelet c.in-Some-bracketed.args c.in-Some-crowd_of.crowd c.in-Some-crowd_of.priority (sym c.bracketed.ensures.parts ∙ c.in-Some-bracketed.is) (sym c.crowd_of.ensures ∙ c.in-Some-crowd_of.is) c.in-Some-argument_count.ensures.0 (sym (not_not c.in-Some-crowd_of.crowd.numbered) ∙ ap not c.if-not-crowd.false) c.in-Some-priority_of.ensures.0 in
     let full : is_full s ≡ false = grind (arith, nat_tests, c.if-names-ge-STATEMENTS.false) in
     let wide : FitsSigned w64 c.in-Some-priority_of.priority = search rules in
     let same = sym c.in-Some-priority_of.ensures.1 ∙ sym (to_z-of_z w64 c.in-Some-priority_of.priority wide) in
@@ -67,7 +68,7 @@ returns-then-not-has_priority g c =
 pub returns-then-crowd : goal.returns-then-crowd
 returns-then-crowd g c =
     let s = scope_in c.args.names.now in
-    let n = numbered s c.in-Some.first.now c.in-Some.rest c.in-Some-bracketed.codelet c.in-Some-bracketed.args c.in-Some-crowd_of.crowd c.in-Some-crowd_of.priority (sym c.bracketed.ensures.parts ∙ c.in-Some-bracketed.is) (sym c.crowd_of.ensures ∙ c.in-Some-crowd_of.is) c.in-Some-argument_count.ensures.0 c.if-not-crowd.false c.in-Some-priority_of.ensures.0 in
+    let n = numbered s c.in-Some.first.now c.in-Some.rest c.in-Some-bracketed.codelet c.in-Some-bracketed.args c.in-Some-crowd_of.crowd c.in-Some-crowd_of.priority (sym c.bracketed.ensures.parts ∙ c.in-Some-bracketed.is) (sym c.crowd_of.ensures ∙ c.in-Some-crowd_of.is) c.in-Some-argument_count.ensures.0 (sym (not_not c.in-Some-crowd_of.crowd.numbered) ∙ ap not c.if-not-crowd.false) c.in-Some-priority_of.ensures.0 in
     let full : is_full s ≡ false = grind (arith, nat_tests, c.if-names-ge-STATEMENTS.false) in
     let wide : FitsSigned w64 c.in-Some-priority_of.priority = search rules in
     let same = sym c.in-Some-priority_of.ensures.1 ∙ sym (to_z-of_z w64 c.in-Some-priority_of.priority wide) in
@@ -78,7 +79,7 @@ returns-then-crowd g c =
 pub returns-then-crowd-2 : goal.returns-then-crowd-2
 returns-then-crowd-2 g c =
     let s = scope_in c.args.names.now in
-    let n = numbered s c.in-Some.first.now c.in-Some.rest c.in-Some-bracketed.codelet c.in-Some-bracketed.args c.in-Some-crowd_of.crowd c.in-Some-crowd_of.priority (sym c.bracketed.ensures.parts ∙ c.in-Some-bracketed.is) (sym c.crowd_of.ensures ∙ c.in-Some-crowd_of.is) c.in-Some-argument_count.ensures.0 c.if-not-crowd.false c.in-Some-priority_of.ensures.0 in
+    let n = numbered s c.in-Some.first.now c.in-Some.rest c.in-Some-bracketed.codelet c.in-Some-bracketed.args c.in-Some-crowd_of.crowd c.in-Some-crowd_of.priority (sym c.bracketed.ensures.parts ∙ c.in-Some-bracketed.is) (sym c.crowd_of.ensures ∙ c.in-Some-crowd_of.is) c.in-Some-argument_count.ensures.0 (sym (not_not c.in-Some-crowd_of.crowd.numbered) ∙ ap not c.if-not-crowd.false) c.in-Some-priority_of.ensures.0 in
     let full : is_full s ≡ false = grind (arith, nat_tests, c.if-names-ge-STATEMENTS.false) in
     let wide : FitsSigned w64 c.in-Some-priority_of.priority = search rules in
     let same = sym c.in-Some-priority_of.ensures.1 ∙ sym (to_z-of_z w64 c.in-Some-priority_of.priority wide) in
@@ -89,7 +90,7 @@ returns-then-crowd-2 g c =
 pub returns-then-is_none : goal.returns-then-is_none
 returns-then-is_none g c =
     let s = scope_in c.args.names.now in
-    let n = numbered s c.in-Some.first.now c.in-Some.rest c.in-Some-bracketed.codelet c.in-Some-bracketed.args c.in-Some-crowd_of.crowd c.in-Some-crowd_of.priority (sym c.bracketed.ensures.parts ∙ c.in-Some-bracketed.is) (sym c.crowd_of.ensures ∙ c.in-Some-crowd_of.is) c.in-Some-argument_count.ensures.0 c.if-not-crowd.false c.in-Some-priority_of.ensures.0 in
+    let n = numbered s c.in-Some.first.now c.in-Some.rest c.in-Some-bracketed.codelet c.in-Some-bracketed.args c.in-Some-crowd_of.crowd c.in-Some-crowd_of.priority (sym c.bracketed.ensures.parts ∙ c.in-Some-bracketed.is) (sym c.crowd_of.ensures ∙ c.in-Some-crowd_of.is) c.in-Some-argument_count.ensures.0 (sym (not_not c.in-Some-crowd_of.crowd.numbered) ∙ ap not c.if-not-crowd.false) c.in-Some-priority_of.ensures.0 in
     let full : is_full s ≡ false = grind (arith, nat_tests, c.if-names-ge-STATEMENTS.false) in
     let wide : FitsSigned w64 c.in-Some-priority_of.priority = search rules in
     let same = sym c.in-Some-priority_of.ensures.1 ∙ sym (to_z-of_z w64 c.in-Some-priority_of.priority wide) in
@@ -101,7 +102,7 @@ returns-then-is_none g c =
 pub returns-then-are_many : goal.returns-then-are_many
 returns-then-are_many g c =
     let s = scope_in c.args.names.now in
-    let n = numbered s c.in-Some.first.now c.in-Some.rest c.in-Some-bracketed.codelet c.in-Some-bracketed.args c.in-Some-crowd_of.crowd c.in-Some-crowd_of.priority (sym c.bracketed.ensures.parts ∙ c.in-Some-bracketed.is) (sym c.crowd_of.ensures ∙ c.in-Some-crowd_of.is) c.in-Some-argument_count.ensures.0 c.if-not-crowd.false c.in-Some-priority_of.ensures.0 in
+    let n = numbered s c.in-Some.first.now c.in-Some.rest c.in-Some-bracketed.codelet c.in-Some-bracketed.args c.in-Some-crowd_of.crowd c.in-Some-crowd_of.priority (sym c.bracketed.ensures.parts ∙ c.in-Some-bracketed.is) (sym c.crowd_of.ensures ∙ c.in-Some-crowd_of.is) c.in-Some-argument_count.ensures.0 (sym (not_not c.in-Some-crowd_of.crowd.numbered) ∙ ap not c.if-not-crowd.false) c.in-Some-priority_of.ensures.0 in
     let full : is_full s ≡ false = grind (arith, nat_tests, c.if-names-ge-STATEMENTS.false) in
     let wide : FitsSigned w64 c.in-Some-priority_of.priority = search rules in
     let same = sym c.in-Some-priority_of.ensures.1 ∙ sym (to_z-of_z w64 c.in-Some-priority_of.priority wide) in
