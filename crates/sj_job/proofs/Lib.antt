@@ -20,3 +20,4 @@ pub mod Progressing
 pub mod Targets
 pub mod Submitting
 pub mod Reading
+pub mod Crowding

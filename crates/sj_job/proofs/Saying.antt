@@ -51,7 +51,7 @@ reductions = record { read = λ w r e. (word-found reduction_word (Plus ∷ Leas
 
 -- ---- pieces between commas
 
-abbrev is_comma : ℕ → Bool
+abbrev pub is_comma : ℕ → Bool
 is_comma b = nat_eq b 44
 
 abbrev no_bracket : ℕ → Bool

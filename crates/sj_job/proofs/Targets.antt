@@ -401,7 +401,7 @@ reasons_same has names k args os ts h e =
     (λ i. cond (not (counted i)) (Some OperandCount) (cond (missing_same names os ts h i) (Some Part) behind))
     ∙ ap (cond (not (is_counted_for k args ts)) (Some OperandCount)) (behind_part (any_missing ts) _ _ rest)
 
-abbrev line_first : Bool → Bool → Bool → Bool → Option Reason
+abbrev pub line_first : Bool → Bool → Bool → Bool → Option Reason
 line_first full early unknown ended = first_of ((full, Limit Statements) ∷ (early, Limit Priority) ∷ (unknown, UnknownName) ∷ (ended, EndedName) ∷ [])
 
 abbrev by_line : (Kernel → Bool) → Names → TaskForm → Option Reason → Result (Act (List ℕ)) Reason

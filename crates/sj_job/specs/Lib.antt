@@ -7,6 +7,7 @@ pub mod Form
 pub mod Sentence
 pub mod Judge
 pub mod Reading
+pub mod Crowd
 pub mod Names
 pub mod Sees
 pub mod Submits

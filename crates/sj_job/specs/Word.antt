@@ -29,6 +29,11 @@ is_empty w = length w == 0
 abbrev pub words : List ℕ → List (List ℕ)
 words line = filter (λ w. not (is_empty w)) (slice_split is_blank line)
 
+-- what stands between the commas of a text, if there is one
+abbrev pub pieces_in : Option (List ℕ) → List (List ℕ)
+pieces_in None = []
+pieces_in (Some text) = slice_split (λ b. b == 44) text
+
 abbrev pub begins_with : ℕ → List ℕ → Bool
 begins_with b [] = false
 begins_with b (c ∷ cs) = c == b

@@ -1,13 +1,11 @@
 //! The forms of a line: how its words are spelled, with the words that stand in the places of numbers.
 
-ghost use Rattle.std.specs.Prelude.{◌≡◌, ◌==◌, [], map, IfOk};
+ghost use Rattle.std.specs.Prelude.{◌≡◌, ◌==◌, ◌∷◌, [], MatchOption};
 ghost use Rattle.std.specs.List.{slice_split};
 
-use crate::line::Words;
+use crate::line::{Words, first_place};
 use sj_base::few::Few;
-use sj_base::memory::OutOfMemory;
 use sj_base::mode::{Mode, Policy, Reduction};
-use std::alloc::{AllocError, Global};
 use std::marker::Model;
 
 /// A word, or a part of one. Contracts see its bytes.
@@ -40,50 +38,62 @@ impl<'a> Piece<'a> {
     }
 }
 
-/// Parts of a word, in order. Contracts see a list of lists of bytes.
+/// Parts of a word, in order: what stands between the commas of a text, if there is one. Contracts see a list of lists of bytes.
 #[derive(Debug, Drop)]
 pub struct Pieces<'a> {
-    items: Vec<&'a [u8]>,
+    text: Option<&'a [u8]>,
 }
 
 impl<'a> Model for Pieces<'a> {
-    ghost use Rattle.std.specs.Prelude.{List, ℕ, map};
+    ghost use Rattle.std.specs.Prelude.{List, ℕ, option_map};
+    ghost use Rattle.sj_job.specs.Word.{pieces_in};
 
     ghost Value = { List (List ℕ) };
 
-    ghost view = { λ p. map (λ w. w.now) p.items.items };
+    ghost view = { λ p. pieces_in (option_map (λ t. t.now) p.text) };
 }
 
 impl<'a> Pieces<'a> {
     /// No piece, in constant time.
-    pub fn none(alloc: Global) -> Pieces<'a>
+    pub fn none() -> Pieces<'a>
         ensures { result ≡ [] }
     {
-        Pieces {
-            items: Vec::new(alloc),
+        Pieces { text: None }
+    }
+
+    /// What stands between the commas of a text. Constant time.
+    pub fn between_commas(text: &'a [u8]) -> Pieces<'a>
+        ensures { result ≡ slice_split (λ b. b == 44) text.now }
+    {
+        Pieces { text: Some(text) }
+    }
+
+    /// The same pieces once more. Constant time.
+    pub fn again(&self) -> Pieces<'a>
+        ensures { result ≡ self.now }
+    {
+        Pieces { text: self.text }
+    }
+
+    /// The first piece and those behind it, or `None` where there is no piece. Linear in the first.
+    pub fn split_first(&self) -> Option<(&'a [u8], Pieces<'a>)>
+        ensures { MatchOption result (self.now ≡ []) (λ cut. self.now ≡ cut.0.now ∷ cut.1) }
+    {
+        match self.text {
+            Some(text) => Some(first_piece(text)),
+            None => None,
         }
-    }
-
-    /// What stands between the commas of a text. Linear in the text.
-    pub fn between_commas(alloc: Global, text: &'a [u8]) -> Result<Pieces<'a>, OutOfMemory>
-        ensures { IfOk result (λ pieces. pieces ≡ slice_split (λ b. b == 44) text.now) }
-    {
-        let items = split_at_commas(alloc, text)?;
-        Ok(Pieces { items })
-    }
-
-    /// The pieces, in constant time.
-    pub fn items(&self) -> &[&'a [u8]]
-        ensures { map (λ w. w.now) result.now ≡ self.now }
-    {
-        &self.items
     }
 }
 
-fn split_at_commas(alloc: Global, text: &[u8]) -> Result<Vec<&[u8]>, AllocError>
-    ensures { IfOk result (λ ps. map (λ w. w.now) ps.items ≡ slice_split (λ b. b == 44) text.now) }
+fn first_piece(text: &[u8]) -> (&[u8], Pieces<'_>)
+    ensures { slice_split (λ b. b == 44) text.now ≡ result.0.now ∷ result.1 }
 {
-    text.split(|b| *b == b',').collect(alloc)
+    let at = first_place(text, b',');
+    if at == text.len() {
+        return (text, Pieces::none());
+    }
+    (&text[..at], Pieces::between_commas(&text[at + 1..]))
 }
 
 /// The first word of a statement line.

@@ -610,7 +610,8 @@ fn operand_by(target: &Target) -> Operand
     }
 }
 
-fn has_priority(priority: i64) -> bool
+/// Whether a priority is within its limits.
+pub fn has_priority(priority: i64) -> bool
     ensures { result ≡ is_priority priority }
 {
     LEAST_PRIORITY <= priority && priority <= GREATEST_PRIORITY

@@ -1,6 +1,7 @@
 //! The job language: what a job text says.
 #![tactic(auto)]
 
+pub mod crowd;
 pub mod form;
 pub mod grammar;
 pub mod judge;

@@ -6,7 +6,7 @@ ghost use Rattle.sj_job.specs.Word.{count, is_count, is_integer, integer};
 ghost use Rattle.sj_job.specs.Sentence.{are_counts, is_numbered_size, is_numbered_init, is_numbered_priority, rows_of, cols_of, init_said, parts_said, index_said, priority_said};
 ghost use Rattle.sj_meaning.specs.State.{plan_with};
 
-use crate::form::{InitForm, Piece, Size};
+use crate::form::{InitForm, Piece, Pieces, Size};
 use crate::line::Words;
 use crate::word::{count_of, integer_of};
 use sj_base::few::Few;
@@ -63,18 +63,18 @@ pub fn index_of(child: &Option<(Piece<'_>, Piece<'_>)>) -> Option<(u64, u64)>
 }
 
 /// The integers that words say, or `None` where one says none. Linear in the words.
-pub fn integers(alloc: Global, words: &[&[u8]]) -> Result<Option<Few<i64>>, OutOfMemory>
-    ensures { IfOk result (λ r. MatchOption r
-        (list_all is_integer (map (λ w. w.now) words.now) ≡ false)
-        (λ zs. (list_all is_integer (map (λ w. w.now) words.now) ≡ true)
-        × (zs ≡ map integer (map (λ w. w.now) words.now)))) }
+pub fn integers(alloc: Global, words: &Pieces<'_>) -> Result<Option<Few<i64>>, OutOfMemory>
+    ensures { IfOk result (λ r. MatchOption r (list_all is_integer words.now ≡ false)
+        (λ zs. (list_all is_integer words.now ≡ true) × (zs ≡ map integer words.now))) }
 {
     let mut values = Few::empty(alloc);
-    for word in words {
+    let mut rest = words.again();
+    while let Some((word, behind)) = rest.split_first() {
         match integer_of(word) {
             Some(value) => values.push(value)?,
             None => return Ok(None),
         }
+        rest = behind;
     }
     Ok(Some(values))
 }

@@ -1,19 +1,20 @@
 //! Reading a job text.
 
-ghost use Rattle.std.specs.Prelude.{◌≡◌, ◌+◌, ◌≤◌, ◌<◌, ◌^◌, ◌∷◌, ℕ, Bool, List, length, Ok, IfOk, IfErr, IfNone, IfSome, IsTrue, OnOk};
+ghost use Rattle.std.specs.Prelude.{◌≡◌, ◌+◌, ◌≤◌, ◌<◌, ◌^◌, ◌∷◌, ℕ, Bool, List, length, Err, Ok, IfOk, IfErr, IfNone, IfSome, IsTrue, OnOk};
 ghost use Rattle.std.specs.Bool.{IsFalse};
 ghost use Rattle.sj_codelet.specs.declared.kernel.Kernel.{Kernel};
-ghost use Rattle.sj_job.specs.Word.{lines};
+ghost use Rattle.sj_job.specs.Word.{lines, words};
 ghost use Rattle.sj_meaning.specs.State.{start};
 ghost use Rattle.sj_job.specs.Names.{IsCounted, scope_in};
 ghost use Rattle.sj_job.specs.Verdict.{Skipped, Passes, Begins};
-ghost use Rattle.sj_job.specs.Reading.{front_of, reading, reading_header, reading_settings, refused, with_settings, job_of, verdict_of, IsBad, IsRefusal, IsStopped};
+ghost use Rattle.sj_job.specs.Reading.{act_in, front_of, reading, reading_header, reading_settings, refused, with_settings, job_of, verdict_of, IsBad, IsRefusal, IsStopped};
 ghost use Rattle.sj_job.specs.Progress.{text_with};
 ghost use Rattle.sj_job.specs.Submits.{LineDoes, AreRead};
 ghost use Rattle.sj_meaning.specs.Settings.{unset, IsWithinLimits};
 ghost use Rattle.sj_meaning.specs.View.{seen_from, statements_of, job_seen, IsNumbered};
 ghost use Rattle.sj_job.specs.Well.{IsWell};
 
+use crate::crowd::crowd_complaint;
 use crate::line::{Words, are_allowed, is_header, is_skipped, next_line, trimmed};
 use crate::names::Names;
 use crate::reason::{LimitKind, Objection, ReadRefusal, Reason};
@@ -29,6 +30,26 @@ use std::alloc::Global;
 
 /// The longest text that is read, in bytes.
 pub const TEXT: usize = 67_108_864;
+
+/// The longest line that is taken apart without a look at how many operands and arguments a task in it has, in bytes.
+const LONG: usize = 4_096;
+
+/// The reason against a task line that is long, where it has too many operands or arguments for a list of them, or comes before
+/// these are counted.
+fn long_complaint<C: Codelets>(names: &Names, line: &[u8], codelets: &C) -> Option<Reason>
+    requires { IsCounted names.now }
+    ensures { IfSome result (λ why. act_in C.has (scope_in names.now) (words line.now) ≡ Err why) }
+{
+    if line.len() <= LONG {
+        return None;
+    }
+    let words = Words::of(line);
+    let (first, rest) = words.split_first()?;
+    if first != b"task".as_slice() {
+        return None;
+    }
+    crowd_complaint(names, &rest, codelets)
+}
 
 /// What a line does, `None` where it says nothing. Linear in it, but that a codelet is looked up in the table.
 fn act_of_line<C: Codelets>(
@@ -51,6 +72,9 @@ fn act_of_line<C: Codelets>(
     }
     if !are_allowed(line) {
         return Err(Objection::Bad(Reason::Word));
+    }
+    if let Some(why) = long_complaint(names, line, codelets) {
+        return Err(Objection::Bad(why));
     }
     let Some(form) = form_of(alloc, &words)? else {
         return Err(Objection::Bad(Reason::Word));

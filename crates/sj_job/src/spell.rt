@@ -132,72 +132,60 @@ fn around_last(word: &[u8], byte: u8) -> Option<(&[u8], &[u8])>
 }
 
 /// What stands between the commas of a text that a bracket closes. Linear in the text.
-fn pieces_of<'a>(
-    alloc: Global,
-    text: &'a [u8],
-    closing: u8,
-) -> Result<Option<Pieces<'a>>, OutOfMemory>
-    ensures { IfOk result (λ pieces. pieces ≡ pieces_of closing text.now) }
+fn pieces_of(text: &[u8], closing: u8) -> Option<Pieces<'_>>
+    ensures { result ≡ pieces_of closing text.now }
 {
     match text.split_last() {
         Some((last, inner)) if *last == closing && has_no_bracket(inner) => {
-            Ok(Some(Pieces::between_commas(alloc, inner)?))
+            Some(Pieces::between_commas(inner))
         }
-        _ => Ok(None),
+        _ => None,
     }
 }
 
 /// The name of `NAME(P1,P2,..)` and the pieces behind it, of which there are none where the name stands alone. Linear
 /// in the word.
-fn bracketed<'a>(
-    alloc: Global,
-    word: &'a [u8],
-    opening: u8,
-    closing: u8,
-) -> Result<Option<(Piece<'a>, Pieces<'a>)>, OutOfMemory>
-    ensures parts { IfOk result (λ parts. parts ≡ bracketed opening closing word.now) }
-    ensures name { IfOk result (λ parts. IfSome parts (λ p. IsTrue (is_name p.0))) }
+pub fn bracketed<'a>(word: &'a [u8], opening: u8, closing: u8) -> Option<(Piece<'a>, Pieces<'a>)>
+    ensures parts { result ≡ bracketed opening closing word.now }
+    ensures name { IfSome result (λ p. IsTrue (is_name p.0)) }
 {
     let (name, text) = divided(word, opening);
     if !is_name(name) {
-        return Ok(None);
+        return None;
     }
     if name.len() == word.len() {
-        return Ok(Some((Piece::of(name), Pieces::none(alloc))));
+        return Some((Piece::of(name), Pieces::none()));
     }
-    match pieces_of(alloc, text, closing)? {
-        Some(pieces) => Ok(Some((Piece::of(name), pieces))),
-        None => Ok(None),
+    match pieces_of(text, closing) {
+        Some(pieces) => Some((Piece::of(name), pieces)),
+        None => None,
     }
 }
 
-/// No index, or two numbers. Constant time.
-fn child_of<'a>(pieces: &[&'a [u8]]) -> Option<Option<(Piece<'a>, Piece<'a>)>>
-    ensures { result ≡ child_of (map (λ w. w.now) pieces.now) }
+/// No index, or two numbers. Linear in the first three pieces.
+fn child_of<'a>(pieces: &Pieces<'a>) -> Option<Option<(Piece<'a>, Piece<'a>)>>
+    ensures { result ≡ child_of pieces.now }
 {
-    match pieces {
-        [] => Some(None),
-        [i, j] => Some(Some((Piece::of(i), Piece::of(j)))),
-        _ => None,
+    let Some((i, rest)) = pieces.split_first() else {
+        return Some(None);
+    };
+    let (j, rest) = rest.split_first()?;
+    match rest.split_first() {
+        Some(_) => None,
+        None => Some(Some((Piece::of(i), Piece::of(j)))),
     }
 }
 
 /// `NAME:MODE` or `NAME[i,j]:MODE`. Linear in the word.
-fn operand_of<'a>(alloc: Global, word: &'a [u8]) -> Result<Option<OperandForm<'a>>, OutOfMemory>
-    ensures { IfOk result (λ operand. operand ≡ operand_of word.now) }
+pub fn operand_of<'a>(word: &'a [u8]) -> Option<OperandForm<'a>>
+    ensures { result ≡ operand_of word.now }
 {
-    let Some((target, mode)) = around_last(word, b':') else {
-        return Ok(None);
-    };
-    let Some((name, pieces)) = bracketed(alloc, target, b'[', b']')? else {
-        return Ok(None);
-    };
-    let Some(mode) = mode_of(mode) else {
-        return Ok(None);
-    };
-    match child_of(pieces.items()) {
-        Some(child) => Ok(Some(OperandForm { name, child, mode })),
-        None => Ok(None),
+    let (target, mode) = around_last(word, b':')?;
+    let (name, pieces) = bracketed(target, b'[', b']')?;
+    let mode = mode_of(mode)?;
+    match child_of(&pieces) {
+        Some(child) => Some(OperandForm { name, child, mode }),
+        None => None,
     }
 }
 
@@ -209,7 +197,7 @@ fn priority_of(word: &[u8]) -> Option<&[u8]>
 }
 
 /// What follows `prio=` in a word that is the last of a line. Linear in what is passed behind it.
-fn last_priority<'a>(word: &'a [u8], rest: &Words<'a>) -> Option<Piece<'a>>
+pub fn last_priority<'a>(word: &'a [u8], rest: &Words<'a>) -> Option<Piece<'a>>
     ensures { MatchOption result
         (with_priority (word.now ∷ rest.now) ≡ (word.now ∷ (with_priority rest.now).0, (with_priority rest.now).1))
         (λ p. with_priority (word.now ∷ rest.now) ≡ ([], Some p)) }
@@ -235,7 +223,7 @@ fn operands_of<'a>(
         if let Some(priority) = last_priority(word, &behind) {
             return Ok(Some((operands, Some(priority))));
         }
-        match operand_of(alloc, word)? {
+        match operand_of(word) {
             Some(operand) => operands.push(operand)?,
             None => return Ok(None),
         }
@@ -251,7 +239,7 @@ fn task_of<'a>(alloc: Global, words: &Words<'a>) -> Result<Option<TaskForm<'a>>,
     let Some((first, rest)) = words.split_first() else {
         return Ok(None);
     };
-    let Some((codelet, args)) = bracketed(alloc, first, b'(', b')')? else {
+    let Some((codelet, args)) = bracketed(first, b'(', b')') else {
         return Ok(None);
     };
     match operands_of(alloc, &rest)? {

@@ -139,7 +139,7 @@ fn submit_task<C: Codelets>(
     ensures ok { IfOk result (λ a. Submits C.has names.old (Form.Task task.now) names.new a) }
     ensures err { IfErr result (λ e. Objects e (done_in C.has (scope_in names.old) (Form.Task task.now))) }
 {
-    let Some(args) = integers(alloc, task.args.items())? else {
+    let Some(args) = integers(alloc, &task.args)? else {
         return Err(Objection::Bad(Reason::Number));
     };
     if !have_counted_children(task.operands.items()) {

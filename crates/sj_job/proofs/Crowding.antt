@@ -1,0 +1,302 @@
+-- What shows in a crowd of operands is so of their list, and tells why a task line is refused.
+use Rattle.std.proofs.Common.{◌≡◌, ◌⊎◌, inl, inr, ℕ, ◌+◌, ◌-◌, ◌≤◌, ◌<◌, ◌&&◌, ◌||◌, not, Bool, true, false, List, [], ◌∷◌, ◌++◌, length, map, take, drop, refl, ap, ◌∙◌, sym, subst, arith, Option, Some, None, is_some, option_map, cond, nat_eq, codes, length-drop, Result, Ok, Err, ℤ}
+use Rattle.std.specs.Prelude.{nat_le, nat_lt}
+use Rattle.std.specs.List.{list_all, list_any, position_or_len, slice_split, onto_first}
+use Rattle.std.proofs.lemmas.Bool.Decides.{nat_tests}
+use Rattle.std.proofs.lemmas.List.{append-nil, length-append, length-map, take_all}
+use Rattle.std.proofs.lemmas.List.Folds.{list_all-append, list_any-append}
+use Rattle.std.proofs.lemmas.List.Splits.{slice_split_first}
+use Rattle.sj_base.proofs.Bools.{and_true}
+use Rattle.sj_base.proofs.Lists.{list_any-map}
+use Rattle.sj_codelet.specs.declared.kernel.Kernel.{Kernel}
+use Rattle.sj_codelet.specs.Kernel.{arguments_of, formals_of}
+use Rattle.sj_codelet.proofs.Table.{by_table}
+use Rattle.sj_meaning.specs.Act.{Act}
+use Rattle.sj_meaning.specs.Act.{Task as Tasks}
+use Rattle.sj_job.specs.declared.crowd.Crowd.{Crowd}
+use Rattle.sj_job.specs.declared.form.Form.{Form}
+use Rattle.sj_job.specs.declared.form.Form.TheVariants as form
+use Rattle.sj_job.specs.declared.form.OperandForm.{OperandForm}
+use Rattle.sj_job.specs.declared.form.TaskForm.{TaskForm}
+use Rattle.sj_job.specs.declared.reason.Reason.{Reason}
+use Rattle.sj_job.specs.declared.reason.Reason.TheVariants.{Word, Number, UnknownName, EndedName, UnknownCodelet, OperandCount, Limit}
+use Rattle.sj_job.specs.declared.reason.LimitKind.TheVariants.{Statements, Priority}
+use Rattle.sj_job.specs.Crowd.{crowd_of, shown_in, up_to_six}
+use Rattle.sj_job.specs.Form.{bracketed, each_some, form_of, operand_of, task_of, with_priority}
+use Rattle.sj_job.specs.Judge.{Scope, first_of, is_counted, is_ended, is_full, is_unknown, judged, judged_by, judged_call, judged_task, kernel_named, operand_reasons, unless}
+use Rattle.sj_job.specs.Reading.{act_in}
+use Rattle.sj_job.specs.Sentence.{are_counts, is_numbered, is_numbered_priority, operand_said, operands_said, priority_said, said_of, task_said}
+use Rattle.sj_job.specs.Word.{integer, is_integer}
+use Rattle.sj_job.proofs.Saying.{is_comma}
+use Rattle.sj_job.proofs.Submitting.{all_numbered}
+use Rattle.sj_job.proofs.Targets.{line_first}
+use Rattle.sj_job.proofs.Walking.{said_after, walk-more}
+use Rattle.sj_meaning.specs.Sound.{is_priority}
+
+-- ---- the first piece of a text
+
+whole-by : (t : Bool) (b : ℕ) (w : List ℕ) → cond (not t) (1 + position_or_len is_comma w) 0 ≡ length (b ∷ w) → (position_or_len is_comma w ≡ length w → slice_split is_comma w ≡ w ∷ []) → cond t ([] ∷ slice_split is_comma w) (onto_first b (slice_split is_comma w)) ≡ (b ∷ w) ∷ []
+whole-by true b w e rest = absurd (omega (arith, e))
+whole-by false b w e rest = ap (onto_first b) (rest (omega (arith, e)))
+
+-- a text without a comma is one piece
+pub piece-whole : (w : List ℕ) → position_or_len is_comma w ≡ length w → slice_split is_comma w ≡ w ∷ []
+piece-whole [] e = refl
+piece-whole (b ∷ w) e = whole-by (is_comma b) b w e (piece-whole w)
+
+-- the piece before the first comma, and the text behind it, as slices
+pub piece-cut : (w : List ℕ) (n : ℕ) → n ≡ position_or_len is_comma w → n < length w → slice_split is_comma w ≡ take n w ∷ slice_split is_comma (take (length w - (n + 1)) (drop (n + 1) w))
+piece-cut w n e lt =
+    let g : length (drop (n + 1) w) ≤ length w - (n + 1) = omega (arith, length-drop (n + 1) w) in
+    slice_split_first is_comma w 0 (omega (arith, e, lt))
+    ∙ (λ i. take (sym e i) w ∷ slice_split is_comma (drop (sym e i + 1) w))
+    ∙ ap (λ t. take n w ∷ slice_split is_comma t) (sym (take_all (length w - (n + 1)) (drop (n + 1) w) g))
+
+-- ---- going over operands
+
+or-false : (b : Bool) → (b || false) ≡ b
+or-false true = refl
+or-false false = refl
+
+six-more : (n : ℕ) → up_to_six (up_to_six n + 1) ≡ up_to_six (n + 1)
+six-more n = grind (arith, nat_tests)
+
+pub up_to_six-le : (n : ℕ) → up_to_six n ≤ 6
+up_to_six-le n = grind (arith, nat_tests)
+
+-- one operand more
+pub crowd-more : (s : Scope) (os : List OperandForm) (o : OperandForm) (c d : Crowd) → c ≡ crowd_of s os → d.numbered ≡ (c.numbered && are_counts o.child) → d.unknown ≡ (c.unknown || is_unknown s o.name) → d.ended ≡ (c.ended || is_ended s o.name) → d.count ≡ up_to_six (c.count + 1) → d ≡ crowd_of s (os ++ o ∷ [])
+crowd-more s os o c d is numbered unknown ended count =
+    λ i. record { numbered = all i; unknown = any i; ended = over i; count = many i }
+  where
+    all : d.numbered ≡ list_all (λ (o : OperandForm). are_counts o.child) (os ++ o ∷ [])
+    all = numbered ∙ ap (λ (c : Crowd). c.numbered && are_counts o.child) is ∙ ap (λ b. list_all (λ (o : OperandForm). are_counts o.child) os && b) (sym (and_true (are_counts o.child))) ∙ sym (list_all-append (λ (o : OperandForm). are_counts o.child) os (o ∷ []))
+
+    any : d.unknown ≡ list_any (λ (o : OperandForm). is_unknown s o.name) (os ++ o ∷ [])
+    any = unknown ∙ ap (λ (c : Crowd). c.unknown || is_unknown s o.name) is ∙ ap (λ b. list_any (λ (o : OperandForm). is_unknown s o.name) os || b) (sym (or-false (is_unknown s o.name))) ∙ sym (list_any-append (λ (o : OperandForm). is_unknown s o.name) os (o ∷ []))
+
+    over : d.ended ≡ list_any (λ (o : OperandForm). is_ended s o.name) (os ++ o ∷ [])
+    over = ended ∙ ap (λ (c : Crowd). c.ended || is_ended s o.name) is ∙ ap (λ b. list_any (λ (o : OperandForm). is_ended s o.name) os || b) (sym (or-false (is_ended s o.name))) ∙ sym (list_any-append (λ (o : OperandForm). is_ended s o.name) os (o ∷ []))
+
+    many : d.count ≡ up_to_six (length (os ++ o ∷ []))
+    many = count ∙ ap (λ (c : Crowd). up_to_six (c.count + 1)) is ∙ six-more (length os) ∙ ap up_to_six (sym (length-append os (o ∷ [])))
+
+-- this shows in the operands of words before a rest of them
+pub record IsShown (s : Scope) (c : Crowd) (rest ws : List (List ℕ)) : Type 0 where
+  pub front : List OperandForm
+  pub crowd : c ≡ crowd_of s front
+  pub said : said_after front (with_priority rest) ≡ said_after [] (with_priority ws)
+
+pub shown-first : (s : Scope) (c : Crowd) (rest ws : List (List ℕ)) → c ≡ crowd_of s [] → rest ≡ ws → IsShown s c rest ws
+shown-first s c rest ws none same = record { front = []; crowd = none; said = ap (λ ws. said_after [] (with_priority ws)) same }
+
+pub shown-more : (s : Scope) (c d : Crowd) (w : List ℕ) (ws rest all : List (List ℕ)) (o : OperandForm) → IsShown s c rest all → with_priority rest ≡ (w ∷ (with_priority ws).0, (with_priority ws).1) → operand_of w ≡ Some o → ((os : List OperandForm) → c ≡ crowd_of s os → d ≡ crowd_of s (os ++ o ∷ [])) → IsShown s d ws all
+shown-more s c d w ws rest all o h cut e more = record {
+  front = h.front ++ o ∷ [];
+  crowd = more h.front h.crowd;
+  said = sym (walk-more h.front w (with_priority ws).0 (with_priority ws).1 o e) ∙ sym (ap (said_after h.front) cut) ∙ h.said;
+}
+
+abbrev shown_of : Scope → Option (List OperandForm × Option (List ℕ)) → Option (Crowd × Option (List ℕ))
+shown_of s o = option_map {U = Crowd × Option (List ℕ)} (λ q. (crowd_of s q.0, q.1)) o
+
+shown-whole : (s : Scope) (ws : List (List ℕ)) → shown_of s (said_after [] (with_priority ws)) ≡ shown_in s ws
+shown-whole s ws = onto (each_some operand_of (with_priority ws).0)
+  where
+    onto : (o : Option (List OperandForm)) → shown_of s (option_map {U = List OperandForm × Option (List ℕ)} (λ os. (os, (with_priority ws).1)) o) ≡ option_map {U = Crowd × Option (List ℕ)} (λ os. (crowd_of s os, (with_priority ws).1)) o
+    onto None = refl
+    onto (Some os) = refl
+
+-- no operand follows
+pub shown-end : (s : Scope) (c : Crowd) (rest ws : List (List ℕ)) (p : Option (List ℕ)) → IsShown s c rest ws → with_priority rest ≡ ([], p) → Some (c, p) ≡ shown_in s ws
+shown-end s c rest ws p h e =
+    ap (λ (c : Crowd). Some (c, p)) (h.crowd ∙ ap (crowd_of s) (sym (append-nil h.front)))
+    ∙ sym (ap (λ q. shown_of s (said_after h.front q)) e)
+    ∙ ap (shown_of s) h.said
+    ∙ shown-whole s ws
+
+-- the next word is no operand
+pub shown-none : (s : Scope) (c : Crowd) (w : List ℕ) (rest ws all : List (List ℕ)) (p : Option (List ℕ)) → IsShown s c rest all → with_priority rest ≡ (w ∷ ws, p) → operand_of w ≡ None → None ≡ shown_in s all
+shown-none s c w rest ws all p h cut e =
+    sym (ap (λ (o : Option OperandForm). shown_of s (option_map {U = List OperandForm × Option (List ℕ)} (λ os. (h.front ++ os, p)) (elim o as (λ _. Option (List OperandForm)) [ None ↦ None | Some y ↦ option_map (λ ys. y ∷ ys) (each_some operand_of ws) ]))) e)
+    ∙ sym (ap (λ q. shown_of s (said_after h.front q)) cut)
+    ∙ ap (shown_of s) h.said
+    ∙ shown-whole s all
+
+-- ---- what shows in the list
+
+-- the words behind `task` spell this form, in whose operands this shows
+pub record IsSeen (s : Scope) (ws : List (List ℕ)) (t : TaskForm) (c : Crowd) : Type 0 where
+  pub spelled : form_of (codes "task" ∷ ws) ≡ Some (form.Task t)
+  pub numbered : c.numbered ≡ list_all (λ (o : OperandForm). are_counts o.child) t.operands
+  pub unknown : c.unknown ≡ list_any (λ o. is_unknown s o.name) (operands_said t)
+  pub ended : c.ended ≡ list_any (λ o. is_ended s o.name) (operands_said t)
+  pub count : c.count ≡ up_to_six (length t.operands)
+
+abbrev task_with : List ℕ → List (List ℕ) → List OperandForm → Option (List ℕ) → TaskForm
+task_with name args os p = record { codelet = name; args = args; operands = os; priority = p }
+
+abbrev Seen : Scope → List ℕ → List (List ℕ) → List ℕ → List (List ℕ) → Crowd → Option (List ℕ) → Type 0
+Seen s w rest name args c p = (os : List OperandForm) × IsSeen s (w ∷ rest) (task_with name args os p) c
+
+seen-by : (s : Scope) (w : List ℕ) (rest : List (List ℕ)) (name : List ℕ) (args : List (List ℕ)) (c : Crowd) (p : Option (List ℕ)) (x : Option (List OperandForm)) → bracketed 40 41 w ≡ Some (name, args) → each_some operand_of (with_priority rest).0 ≡ x → option_map {U = Crowd × Option (List ℕ)} (λ os. (crowd_of s os, (with_priority rest).1)) x ≡ Some (c, p) → Seen s w rest name args c p
+seen-by s w rest name args c p None b h e = absurd (cc)
+seen-by s w rest name args c p (Some os) b h e =
+    let both : (crowd_of s os, (with_priority rest).1) ≡ (c, p) = cc in
+    let is : crowd_of s os ≡ c = ap (λ (x : Crowd × Option (List ℕ)). x.0) both in
+    let last : (with_priority rest).1 ≡ p = ap (λ (x : Crowd × Option (List ℕ)). x.1) both in (
+      os,
+      record {
+        spelled =
+            ap (λ (b : Option (List ℕ × List (List ℕ))). option_map form.Task (elim b as (λ _. Option TaskForm) [ None ↦ None | Some c ↦ option_map (λ (os : List OperandForm). task_with c.0 c.1 os (with_priority rest).1) (each_some operand_of (with_priority rest).0) ])) b
+            ∙ ap (λ (x : Option (List OperandForm)). option_map form.Task (option_map (λ (os : List OperandForm). task_with name args os (with_priority rest).1) x)) h
+            ∙ ap (λ (p : Option (List ℕ)). Some (form.Task (task_with name args os p))) last;
+        numbered = ap (λ (c : Crowd). c.numbered) (sym is);
+        unknown = ap (λ (c : Crowd). c.unknown) (sym is) ∙ sym (list_any-map (λ o. is_unknown s o.name) operand_said os);
+        ended = ap (λ (c : Crowd). c.ended) (sym is) ∙ sym (list_any-map (λ o. is_ended s o.name) operand_said os);
+        count = ap (λ (c : Crowd). c.count) (sym is);
+      },
+    )
+
+pub seen : (s : Scope) (w : List ℕ) (rest : List (List ℕ)) (name : List ℕ) (args : List (List ℕ)) (c : Crowd) (p : Option (List ℕ)) → bracketed 40 41 w ≡ Some (name, args) → shown_in s rest ≡ Some (c, p) → Seen s w rest name args c p
+seen s w rest name args c p b e = seen-by s w rest name args c p (each_some operand_of (with_priority rest).0) b refl e
+
+-- ---- the reason
+
+more-than-five : (n : ℕ) → 6 ≤ up_to_six n → 5 < n
+more-than-five n h = grind (arith, nat_tests)
+
+abbrev judged_from : (Kernel → Bool) → Scope → Option Form → Result (Act (List ℕ)) Reason
+judged_from has s o = elim (elim o as (λ _. Result Form Reason) [ None ↦ Err Word | Some f ↦ said_of f ]) as (λ _. Result (Act (List ℕ)) Reason) [ Err why ↦ Err why | Ok f ↦ judged has s f ]
+
+said-by : (has : Kernel → Bool) (s : Scope) (ws : List (List ℕ)) (t : TaskForm) (b : Bool) → form_of (codes "task" ∷ ws) ≡ Some (form.Task t) → is_numbered (form.Task t) ≡ b → act_in has s (codes "task" ∷ ws) ≡ cond b (judged_task has s t) (Err Number)
+said-by has s ws t true e h =
+    ap (judged_from has s) e ∙ ap (λ (b : Bool). elim (cond b (Ok (form.Task t)) (Err Number)) as (λ _. Result (Act (List ℕ)) Reason) [ Err why ↦ Err why | Ok f ↦ judged has s f ]) h
+said-by has s ws t false e h =
+    ap (judged_from has s) e ∙ ap (λ (b : Bool). elim (cond b (Ok (form.Task t)) (Err Number)) as (λ _. Result (Act (List ℕ)) Reason) [ Err why ↦ Err why | Ok f ↦ judged has s f ]) h
+
+-- ---- words that spell no task
+
+unspelled : (has : Kernel → Bool) (s : Scope) (ws : List (List ℕ)) → form_of (codes "task" ∷ ws) ≡ None → act_in has s (codes "task" ∷ ws) ≡ Err Word
+unspelled has s ws e = ap (judged_from has s) e
+
+pub no-words : (has : Kernel → Bool) (s : Scope) → act_in has s (codes "task" ∷ []) ≡ Err Word
+no-words has s = unspelled has s [] refl
+
+abbrev task_from : List (List ℕ) → Option (List ℕ × List (List ℕ)) → Option Form
+task_from rest b = option_map form.Task (elim b as (λ _. Option TaskForm) [ None ↦ None | Some c ↦ option_map (λ (os : List OperandForm). task_with c.0 c.1 os (with_priority rest).1) (each_some operand_of (with_priority rest).0) ])
+
+pub no-codelet : (has : Kernel → Bool) (s : Scope) (w : List ℕ) (rest : List (List ℕ)) → bracketed 40 41 w ≡ None → act_in has s (codes "task" ∷ w ∷ rest) ≡ Err Word
+no-codelet has s w rest e = unspelled has s (w ∷ rest) (ap (task_from rest) e)
+
+pub no-operands : (has : Kernel → Bool) (s : Scope) (w : List ℕ) (rest : List (List ℕ)) (b : List ℕ × List (List ℕ)) → bracketed 40 41 w ≡ Some b → shown_in s rest ≡ None → act_in has s (codes "task" ∷ w ∷ rest) ≡ Err Word
+no-operands has s w rest b e none =
+    unspelled has s (w ∷ rest) (ap (task_from rest) e ∙ onto (each_some operand_of (with_priority rest).0) none)
+  where
+    onto : (x : Option (List OperandForm)) → option_map {U = Crowd × Option (List ℕ)} (λ os. (crowd_of s os, (with_priority rest).1)) x ≡ None → option_map form.Task (option_map (λ (os : List OperandForm). task_with b.0 b.1 os (with_priority rest).1) x) ≡ None
+    onto None e = refl
+    onto (Some os) e = absurd (cc)
+
+-- ---- a place of a number without one
+
+first-false : (a b c : Bool) → a ≡ false → (a && b && c) ≡ false
+first-false a b c e = ap (λ (a : Bool). a && b && c) e
+
+last-false : (a b c : Bool) → c ≡ false → (a && b && c) ≡ false
+last-false true true c e = e
+last-false true false c e = refl
+last-false false b c e = refl
+
+middle-false : (a b c : Bool) → b ≡ false → (a && b && c) ≡ false
+middle-false true b c e = ap (λ (b : Bool). b && c) e
+middle-false false b c e = refl
+
+-- an index without counts
+pub uncounted : (has : Kernel → Bool) (s : Scope) (ws : List (List ℕ)) (t : TaskForm) (c : Crowd) → IsSeen s ws t c → c.numbered ≡ false → act_in has s (codes "task" ∷ ws) ≡ Err Number
+uncounted has s ws t c h e =
+    said-by has s ws t false h.spelled (middle-false (list_all is_integer t.args) (list_all (λ (o : OperandForm). are_counts o.child) t.operands) (is_numbered_priority t.priority) (sym h.numbered ∙ e))
+
+-- an argument that is no integer
+pub unnumbered-args : (has : Kernel → Bool) (s : Scope) (ws : List (List ℕ)) (t : TaskForm) (c : Crowd) → IsSeen s ws t c → list_all is_integer t.args ≡ false → act_in has s (codes "task" ∷ ws) ≡ Err Number
+unnumbered-args has s ws t c h e =
+    said-by has s ws t false h.spelled (first-false (list_all is_integer t.args) (list_all (λ (o : OperandForm). are_counts o.child) t.operands) (is_numbered_priority t.priority) e)
+
+-- a priority that is none
+pub unnumbered-priority : (has : Kernel → Bool) (s : Scope) (ws : List (List ℕ)) (t : TaskForm) (c : Crowd) → IsSeen s ws t c → is_numbered_priority t.priority ≡ false → act_in has s (codes "task" ∷ ws) ≡ Err Number
+unnumbered-priority has s ws t c h e =
+    said-by has s ws t false h.spelled (last-false (list_all is_integer t.args) (list_all (λ (o : OperandForm). are_counts o.child) t.operands) (is_numbered_priority t.priority) e)
+
+-- with numbers where it has numbers
+pub record IsNumbered (s : Scope) (ws : List (List ℕ)) (t : TaskForm) (c : Crowd) : Type 0 where
+  pub seen : IsSeen s ws t c
+  pub args : list_all is_integer t.args ≡ true
+  pub children : c.numbered ≡ true
+  pub priority : is_numbered_priority t.priority ≡ true
+
+abbrev Numbered : Scope → List ℕ → List (List ℕ) → List ℕ → List (List ℕ) → Crowd → Option (List ℕ) → Type 0
+Numbered s w rest name args c p = (os : List OperandForm) × IsNumbered s (w ∷ rest) (task_with name args os p) c
+
+pub numbered : (s : Scope) (w : List ℕ) (rest : List (List ℕ)) (name : List ℕ) (args : List (List ℕ)) (c : Crowd) (p : Option (List ℕ)) → bracketed 40 41 w ≡ Some (name, args) → shown_in s rest ≡ Some (c, p) → list_all is_integer args ≡ true → c.numbered ≡ true → is_numbered_priority p ≡ true → Numbered s w rest name args c p
+numbered s w rest name args c p b e a n q = let h = seen s w rest name args c p b e in (h.0, record { seen = h.1; args = a; children = n; priority = q })
+
+judged-as : (has : Kernel → Bool) (s : Scope) (ws : List (List ℕ)) (t : TaskForm) (c : Crowd) → IsNumbered s ws t c → act_in has s (codes "task" ∷ ws) ≡ judged_task has s t
+judged-as has s ws t c h =
+    said-by has s ws t true h.seen.spelled
+    (all_numbered (list_all is_integer t.args) (list_all (λ (o : OperandForm). are_counts o.child) t.operands) (is_numbered_priority t.priority) h.args (sym h.seen.numbered ∙ h.children) h.priority)
+
+module _ (has : Kernel → Bool) (s : Scope) (ws : List (List ℕ)) (t : TaskForm) (c : Crowd) (h : IsNumbered s ws t c) where
+  pub at-full : is_full s ≡ true → act_in has s (codes "task" ∷ ws) ≡ Err (Limit Statements)
+  at-full full = judged-as has s ws t c h ∙ (λ i. judged_by (line_first (full i) (not (is_priority (priority_said t.priority))) (list_any (λ o. is_unknown s o.name) (operands_said t)) (list_any (λ o. is_ended s o.name) (operands_said t))) (judged_call has s (kernel_named has t.codelet) t))
+
+  pub at-priority : is_full s ≡ false → is_priority (priority_said t.priority) ≡ false → act_in has s (codes "task" ∷ ws) ≡ Err (Limit Priority)
+  at-priority full late = judged-as has s ws t c h ∙ (λ i. judged_by (line_first (full i) (not (late i)) (list_any (λ o. is_unknown s o.name) (operands_said t)) (list_any (λ o. is_ended s o.name) (operands_said t))) (judged_call has s (kernel_named has t.codelet) t))
+
+  pub at-unknown : is_full s ≡ false → is_priority (priority_said t.priority) ≡ true → c.unknown ≡ true → act_in has s (codes "task" ∷ ws) ≡ Err UnknownName
+  at-unknown full early e = let u = sym h.seen.unknown ∙ e in judged-as has s ws t c h ∙ (λ i. judged_by (line_first (full i) (not (early i)) (u i) (list_any (λ o. is_ended s o.name) (operands_said t))) (judged_call has s (kernel_named has t.codelet) t))
+
+  pub at-ended : is_full s ≡ false → is_priority (priority_said t.priority) ≡ true → c.unknown ≡ false → c.ended ≡ true → act_in has s (codes "task" ∷ ws) ≡ Err EndedName
+  at-ended full early e f = let u = sym h.seen.unknown ∙ e in let v = sym h.seen.ended ∙ f in judged-as has s ws t c h ∙ (λ i. judged_by (line_first (full i) (not (early i)) (u i) (v i)) (judged_call has s (kernel_named has t.codelet) t))
+
+  behind-line : is_full s ≡ false → is_priority (priority_said t.priority) ≡ true → c.unknown ≡ false → c.ended ≡ false → act_in has s (codes "task" ∷ ws) ≡ judged_call has s (kernel_named has t.codelet) t
+  behind-line full early e f = let u = sym h.seen.unknown ∙ e in let v = sym h.seen.ended ∙ f in judged-as has s ws t c h ∙ (λ i. judged_by (line_first (full i) (not (early i)) (u i) (v i)) (judged_call has s (kernel_named has t.codelet) t))
+
+  pub at-codelet : is_full s ≡ false → is_priority (priority_said t.priority) ≡ true → c.unknown ≡ false → c.ended ≡ false → is_some (kernel_named has t.codelet) ≡ false → act_in has s (codes "task" ∷ ws) ≡ Err UnknownCodelet
+  at-codelet full early e f none = behind-line full early e f ∙ by-none (kernel_named has t.codelet) none
+    where
+      by-none : (o : Option Kernel) → is_some o ≡ false → judged_call has s o t ≡ Err UnknownCodelet
+      by-none None e = refl
+      by-none (Some k) e = absurd (cc)
+
+  few-of : (k : Kernel) → (nat_le (arguments_of k) 6 && nat_le (length (formals_of k)) 5) ≡ true
+  few-of k = by_table (λ k. nat_le (arguments_of k) 6 && nat_le (length (formals_of k)) 5) refl k
+
+  counted-by : (k : Kernel) → (6 < length t.args) ⊎ (5 < length t.operands) → kernel_named has t.codelet ≡ Some k → judged_call has s (kernel_named has t.codelet) t ≡ Err OperandCount
+  counted-by k more named =
+      let args : length (map integer t.args) ≡ length t.args = length-map t.args integer in
+      let os : length (operands_said t) ≡ length t.operands = length-map t.operands operand_said in
+      let few : is_counted k (map integer t.args) (operands_said t) ≡ false = none-counted (arguments_of k) (length (formals_of k)) (length (map integer t.args)) (length (operands_said t)) (few-of k) (over args os more) in
+      ap (λ (o : Option Kernel). judged_call has s o t) named
+      ∙ ap (λ (b : Bool). unless (first_of ((not b, OperandCount) ∷ drop 1 (operand_reasons has s k (map integer t.args) t.operands (operands_said t)))) (Tasks (task_said k t))) few
+    where
+      none-counted : (a b m n : ℕ) → (nat_le a 6 && nat_le b 5) ≡ true → (6 < m) ⊎ (5 < n) → (nat_eq m a && nat_eq n b) ≡ false
+      none-counted a b m n e (inl more) = grind (arith, nat_tests)
+      none-counted a b m n e (inr more) = grind (arith, nat_tests)
+
+      over : length (map integer t.args) ≡ length t.args → length (operands_said t) ≡ length t.operands → (6 < length t.args) ⊎ (5 < length t.operands) → (6 < length (map integer t.args)) ⊎ (5 < length (operands_said t))
+      over e f (inl more) = inl (omega (arith, e, more))
+      over e f (inr more) = inr (omega (arith, f, more))
+
+  some-kernel : (o : Option Kernel) → kernel_named has t.codelet ≡ o → is_some o ≡ true → (6 < length t.args) ⊎ (5 < length t.operands) → judged_call has s (kernel_named has t.codelet) t ≡ Err OperandCount
+  some-kernel None e h more = absurd (cc)
+  some-kernel (Some k) e h more = counted-by k more e
+
+  pub at-count : (n : ℕ) → n ≤ length t.args → is_full s ≡ false → is_priority (priority_said t.priority) ≡ true → c.unknown ≡ false → c.ended ≡ false → is_some (kernel_named has t.codelet) ≡ true → (nat_le 6 c.count || nat_lt 6 n) ≡ true → act_in has s (codes "task" ∷ ws) ≡ Err OperandCount
+  at-count n few full early e f some more = behind-line full early e f ∙ some-kernel (kernel_named has t.codelet) refl some (over (nat_le 6 c.count) (nat_lt 6 n) refl refl more)
+    where
+      many : c.count ≡ up_to_six (length t.operands)
+      many = h.seen.count
+
+      over : (a b : Bool) → nat_le 6 c.count ≡ a → nat_lt 6 n ≡ b → (a || b) ≡ true → (6 < length t.args) ⊎ (5 < length t.operands)
+      over true b e f h = inr (more-than-five (length t.operands) (subst (λ n. 6 ≤ n) many (grind (arith, nat_tests))))
+      over false true e f h = inl (grind (arith, nat_tests))
+      over false false e f h = absurd (cc)
