@@ -8,7 +8,7 @@ use Rattle.std.proofs.lemmas.List.Folds.{list_all-append, list_any-append}
 use Rattle.sj_base.specs.declared.mode.Policy.{Policy}
 use Rattle.sj_base.specs.declared.mode.Policy.TheVariants.{Eager, Prio, Ws}
 use Rattle.sj_pool.specs.declared.entry.Entry.{Entry}
-use Rattle.sj_pool.specs.Chunk.{place_of}
+use Rattle.sj_pool.specs.Chunk.{urgency_place}
 use Rattle.sj_pool.specs.Entry.{fits, precedes}
 use Rattle.sj_pool.specs.Pool.{put_into}
 use Rattle.sj_pool.specs.Queue.{has_fitting, first_fitting, without_first_fitting, put_by_urgency, is_by_urgency}
@@ -55,7 +55,7 @@ pub by_urgency-behind : (a b : List Entry) → IsTrue (is_by_urgency (a ++ b)) �
 by_urgency-behind [] b h = h
 by_urgency-behind (x ∷ a) b h = grind (arith, by_urgency-behind a b)
 
-pub place-le : (e : Entry) (es : List Entry) → place_of e es ≤ length es
+pub place-le : (e : Entry) (es : List Entry) → urgency_place e es ≤ length es
 place-le e [] = grind arith
 place-le e (x ∷ xs) = grind (arith, place-le e xs)
 
@@ -64,7 +64,7 @@ all-at a [] i d h l = grind arith
 all-at a (x ∷ xs) zero d h l = grind arith
 all-at a (x ∷ xs) (suc i) d h l = grind (arith, all-at a xs i d)
 
-place-all_of : (e x : Entry) (xs : List Entry) (d : Entry) → IsTrue (is_by_urgency (x ∷ xs)) → precedes (slice_index_or (x ∷ xs) (length xs) d) e ≡ true → place_of e (x ∷ xs) ≡ length (x ∷ xs)
+place-all_of : (e x : Entry) (xs : List Entry) (d : Entry) → IsTrue (is_by_urgency (x ∷ xs)) → precedes (slice_index_or (x ∷ xs) (length xs) d) e ≡ true → urgency_place e (x ∷ xs) ≡ length (x ∷ xs)
 place-all_of e x [] d s h = grind arith
 place-all_of e x (y ∷ ys) d s h =
     let rest : IsTrue (is_by_urgency (y ∷ ys)) = by_urgency-behind (x ∷ []) (y ∷ ys) s in
@@ -75,30 +75,30 @@ place-all_of e x (y ∷ ys) d s h =
     grind (arith, all, here)
 
 -- where the last entry is more urgent, all are
-pub place-all : (e : Entry) (es : List Entry) (d : Entry) → IsTrue (is_by_urgency es) → 0 < length es → precedes (slice_index_or es (length es - 1) d) e ≡ true → place_of e es ≡ length es
+pub place-all : (e : Entry) (es : List Entry) (d : Entry) → IsTrue (is_by_urgency es) → 0 < length es → precedes (slice_index_or es (length es - 1) d) e ≡ true → urgency_place e es ≡ length es
 place-all e [] d s l h = absurd (omega arith)
 place-all e (x ∷ xs) d s l h =
     let at : length (x ∷ xs) - 1 ≡ length xs = omega arith in
     place-all_of e x xs d s (subst (λ i. precedes (slice_index_or (x ∷ xs) i d) e ≡ true) at h)
 
 -- an entry that isn't behind all of the first part goes into it
-pub put-front : (e : Entry) (a b : List Entry) → place_of e a < length a → put_by_urgency e (a ++ b) ≡ put_by_urgency e a ++ b
+pub put-front : (e : Entry) (a b : List Entry) → urgency_place e a < length a → put_by_urgency e (a ++ b) ≡ put_by_urgency e a ++ b
 put-front e [] b h = grind arith
 put-front e (x ∷ a) b h = grind (arith, put-front e a b)
 
 -- one that is goes into the second
-pub put-behind : (e : Entry) (a b : List Entry) → place_of e a ≡ length a → put_by_urgency e (a ++ b) ≡ a ++ put_by_urgency e b
+pub put-behind : (e : Entry) (a b : List Entry) → urgency_place e a ≡ length a → put_by_urgency e (a ++ b) ≡ a ++ put_by_urgency e b
 put-behind e [] b h = refl
 put-behind e (x ∷ a) b h = grind (arith, put-behind e a b)
 
 -- one that goes before all of the second part goes into the first
-pub put-before : (e : Entry) (a b : List Entry) → 0 < length b → place_of e b ≡ 0 → put_by_urgency e (a ++ b) ≡ put_by_urgency e a ++ b
+pub put-before : (e : Entry) (a b : List Entry) → 0 < length b → urgency_place e b ≡ 0 → put_by_urgency e (a ++ b) ≡ put_by_urgency e a ++ b
 put-before e [] (y ∷ b) l h = grind arith
 put-before e [] [] l h = grind arith
 put-before e (x ∷ a) b l h = grind (arith, put-before e a b l h)
 
 -- one that is behind an entry is behind all before that
-place-through : (e : Entry) (a b : List Entry) → IsTrue (is_by_urgency (a ++ b)) → 0 < place_of e b → place_of e a ≡ length a
+place-through : (e : Entry) (a b : List Entry) → IsTrue (is_by_urgency (a ++ b)) → 0 < urgency_place e b → urgency_place e a ≡ length a
 place-through e [] b s h = refl
 place-through e (x ∷ a) [] s h = grind arith
 place-through e (x ∷ a) (y ∷ b) s h =
@@ -111,43 +111,43 @@ place-through e (x ∷ a) (y ∷ b) s h =
 
 -- ---- an entry put among two queues with entries between them
 
-place-append : (e : Entry) (l m : List Entry) → place_of e l ≡ length l → place_of e m ≡ length m → place_of e (l ++ m) ≡ length (l ++ m)
+place-append : (e : Entry) (l m : List Entry) → urgency_place e l ≡ length l → urgency_place e m ≡ length m → urgency_place e (l ++ m) ≡ length (l ++ m)
 place-append e [] m h k = k
 place-append e (x ∷ l) m h k = grind (arith, place-append e l m)
 
-place-behind : (e : Entry) (l m : List Entry) → place_of e (l ++ m) ≡ length (l ++ m) → place_of e m ≡ length m
+place-behind : (e : Entry) (l m : List Entry) → urgency_place e (l ++ m) ≡ length (l ++ m) → urgency_place e m ≡ length m
 place-behind e [] m h = h
 place-behind e (x ∷ l) m h = grind (arith, place-behind e l m)
 
-place-before : (e : Entry) (l m : List Entry) → 0 < length m → place_of e m ≡ 0 → place_of e (l ++ m) ≤ length l
+place-before : (e : Entry) (l m : List Entry) → 0 < length m → urgency_place e m ≡ 0 → urgency_place e (l ++ m) ≤ length l
 place-before e [] m n h = omega (arith, h)
 place-before e (x ∷ l) m n h = grind (arith, place-before e l m n h)
 
-pub put-last_part : (e : Entry) (l m r : List Entry) → IsTrue (is_by_urgency (l ++ m ++ r)) → 0 < length m → place_of e m ≡ length m → put_by_urgency e (l ++ m ++ r) ≡ l ++ m ++ put_by_urgency e r
+pub put-last_part : (e : Entry) (l m r : List Entry) → IsTrue (is_by_urgency (l ++ m ++ r)) → 0 < length m → urgency_place e m ≡ length m → put_by_urgency e (l ++ m ++ r) ≡ l ++ m ++ put_by_urgency e r
 put-last_part e l m r s n h =
-    let some : 0 < place_of e m = omega (arith, n, h) in
+    let some : 0 < urgency_place e m = omega (arith, n, h) in
     put-behind e (l ++ m) r (place-append e l m (place-through e l m (by_urgency-front (l ++ m) r s) some) h)
 
-pub put-first_part : (e : Entry) (l m r : List Entry) → 0 < length m → place_of e m ≡ 0 → put_by_urgency e (l ++ m ++ r) ≡ put_by_urgency e l ++ m ++ r
+pub put-first_part : (e : Entry) (l m r : List Entry) → 0 < length m → urgency_place e m ≡ 0 → put_by_urgency e (l ++ m ++ r) ≡ put_by_urgency e l ++ m ++ r
 put-first_part e l m r n h =
-    let within : place_of e (l ++ m) < length (l ++ m) = omega (arith, n, place-before e l m n h, length-append l m) in
+    let within : urgency_place e (l ++ m) < length (l ++ m) = omega (arith, n, place-before e l m n h, length-append l m) in
     put-front e (l ++ m) r within ∙ ap (λ z. z ++ r) (put-before e l m n h)
 
-put-in_front : (e : Entry) (m r : List Entry) → (place_of e m ≡ length m → r ≡ []) → put_by_urgency e (m ++ r) ≡ put_by_urgency e m ++ r
+put-in_front : (e : Entry) (m r : List Entry) → (urgency_place e m ≡ length m → r ≡ []) → put_by_urgency e (m ++ r) ≡ put_by_urgency e m ++ r
 put-in_front e [] r k = rw (k refl) refl
 put-in_front e (x ∷ m) r k = grind (arith, k, put-in_front e m r)
 
-pub put-in_back : (e : Entry) (l m : List Entry) → IsTrue (is_by_urgency (l ++ m)) → (place_of e m ≡ 0 → l ≡ []) → put_by_urgency e (l ++ m) ≡ l ++ put_by_urgency e m
+pub put-in_back : (e : Entry) (l m : List Entry) → IsTrue (is_by_urgency (l ++ m)) → (urgency_place e m ≡ 0 → l ≡ []) → put_by_urgency e (l ++ m) ≡ l ++ put_by_urgency e m
 put-in_back e [] m s j = refl
 put-in_back e (y ∷ l) m s j =
-    let some : 0 < place_of e m = grind (arith, j) in
+    let some : 0 < urgency_place e m = grind (arith, j) in
     put-behind e (y ∷ l) m (place-through e (y ∷ l) m s some)
 
-pub put-within : (e : Entry) (l m r : List Entry) → IsTrue (is_by_urgency (l ++ m ++ r)) → (place_of e m ≡ 0 → l ≡ []) → (place_of e m ≡ length m → r ≡ []) → put_by_urgency e (l ++ m ++ r) ≡ l ++ put_by_urgency e m ++ r
+pub put-within : (e : Entry) (l m r : List Entry) → IsTrue (is_by_urgency (l ++ m ++ r)) → (urgency_place e m ≡ 0 → l ≡ []) → (urgency_place e m ≡ length m → r ≡ []) → put_by_urgency e (l ++ m ++ r) ≡ l ++ put_by_urgency e m ++ r
 put-within e l m r s j k =
     put-in_front e (l ++ m) r (λ h. k (place-behind e l m h)) ∙ ap (λ z. z ++ r) (put-in_back e l m (by_urgency-front (l ++ m) r s) j)
 
-pub put-in_tree : (e : Entry) (l m : List Entry) → place_of e m ≡ 0 → put_by_urgency e (l ++ m) ≡ put_by_urgency e l ++ m
+pub put-in_tree : (e : Entry) (l m : List Entry) → urgency_place e m ≡ 0 → put_by_urgency e (l ++ m) ≡ put_by_urgency e l ++ m
 put-in_tree e [] [] h = refl
 put-in_tree e [] (y ∷ m) h = grind arith
 put-in_tree e (x ∷ l) m h = grind (arith, put-in_tree e l m h)

@@ -15,5 +15,5 @@ HasLeast least [] = Unit {0}
 HasLeast least (e ∷ es) = (room : ℕ) → nat_le least room ≡ has_fitting room (e ∷ es)
 
 -- the place of the first entry that isn't more urgent than one, or the length
-abbrev pub place_of : Entry → List Entry → ℕ
-place_of e es = position_or_len (λ x. not (precedes x e)) es
+abbrev pub urgency_place : Entry → List Entry → ℕ
+urgency_place e es = position_or_len (λ x. not (precedes x e)) es

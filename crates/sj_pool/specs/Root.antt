@@ -14,7 +14,7 @@ entries_of in_order None = []
 entries_of in_order (Some f) = in_order f.value
 
 -- the root's fork has an entry of its own, and the least bytes that it keeps fit a room exactly where one of its entries does
-abbrev pub IsRoot : {F : Type 0} → (F → List Entry) → (F → ℕ) → (F → List Entry) → Option (Box F) → Type 0
-IsRoot own least in_order None = Unit {0}
-IsRoot own least in_order (Some f) =
+abbrev pub IsTreeRoot : {F : Type 0} → (F → List Entry) → (F → ℕ) → (F → List Entry) → Option (Box F) → Type 0
+IsTreeRoot own least in_order None = Unit {0}
+IsTreeRoot own least in_order (Some f) =
     (0 < length (own f.value)) × ((room : ℕ) → nat_le (least f.value) room ≡ has_fitting room (in_order f.value))

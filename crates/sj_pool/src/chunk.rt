@@ -3,7 +3,7 @@
 ghost use Rattle.std.specs.Prelude.{◌≡◌, ℕ, ◌↔◌, ◌<◌, ◌≤◌, ◌++◌, [], length, take, insert, not, nat_le, IfOk, IfSome, IsTrue};
 ghost use Rattle.std.specs.List.{position};
 ghost use Rattle.std.specs.Vec.{vec_capacity};
-ghost use Rattle.sj_pool.specs.Chunk.{HasLeast, chunk_room, place_of};
+ghost use Rattle.sj_pool.specs.Chunk.{HasLeast, chunk_room, urgency_place};
 ghost use Rattle.sj_pool.specs.Entry.{fits, precedes};
 ghost use Rattle.sj_pool.specs.Queue.{has_fitting, first_fitting, without_first_fitting, is_by_urgency};
 ghost use Rattle.sj_pool.specs.Root.{IsLeast};
@@ -83,7 +83,7 @@ fn least_inserted(entries: &[Entry], least: u64, place: usize, entry: &Entry) ->
 #[tactic(auto, using(crate::proofs::Queues::last_of_all))]
 fn all_precede(entries: &[Entry], entry: &Entry) -> bool
     requires { IsTrue (is_by_urgency entries.now) }
-    ensures { IsTrue result → place_of entry.now entries.now ≡ length entries.now }
+    ensures { IsTrue result → urgency_place entry.now entries.now ≡ length entries.now }
 {
     if entries.is_empty() {
         return true;
@@ -101,9 +101,9 @@ fn place_by_urgency(entries: &[Entry], entry: &Entry) -> Option<usize>
 
 /// The place of the first entry that isn't more urgent than another, or the length. Linear time, and
 /// constant where all are more urgent.
-pub fn place_of(entries: &[Entry], entry: &Entry) -> usize
+pub fn urgency_place(entries: &[Entry], entry: &Entry) -> usize
     requires { IsTrue (is_by_urgency entries.now) }
-    ensures place { result ≡ place_of entry.now entries.now }
+    ensures place { result ≡ urgency_place entry.now entries.now }
     ensures within { result ≤ length entries.now }
 {
     if all_precede(entries, entry) {

@@ -7,7 +7,7 @@ ghost use Rattle.sj_pool.specs.declared.entry.Entry.{Entry};
 ghost use Rattle.sj_pool.specs.Queue.{queued, has_fitting, first_fitting, without_first_fitting, is_by_urgency};
 ghost use Rattle.sj_pool.specs.Pool.{put_into};
 
-use crate::chunk::{CHUNK, place_of, take_from_list};
+use crate::chunk::{CHUNK, take_from_list, urgency_place};
 use crate::entry::Entry;
 use crate::tail::Tail;
 use crate::tree::Fork;
@@ -75,7 +75,7 @@ fn place_in(list: &[Entry], policy: Policy, entry: &Entry) -> usize
         → put_into policy entry.now (list.now ++ es) ≡ list.now ++ put_into policy entry.now es }
 {
     match policy {
-        Policy::Prio => place_of(list, entry),
+        Policy::Prio => urgency_place(list, entry),
         Policy::Eager | Policy::Ws => list.len(),
     }
 }

@@ -5,7 +5,7 @@ ghost use Rattle.std.specs.Vec.{vec_capacity};
 ghost use Rattle.sj_pool.specs.Chunk.{chunk_room};
 ghost use Rattle.sj_pool.specs.Queue.{has_fitting, first_fitting, without_first_fitting, put_by_urgency, is_by_urgency};
 
-use crate::chunk::{CHUNK, Chunk, place_of};
+use crate::chunk::{CHUNK, Chunk, urgency_place};
 use crate::entry::Entry;
 use crate::tree::{Fork, Tree};
 use sj_base::memory::OutOfMemory;
@@ -79,7 +79,7 @@ fn put_urgent(tree: Tree, last: &mut Chunk, entry: Entry, spare: &mut Option<Box
     requires spare { IsSome spare.old }
     ensures { result ++ last.new ≡ put_by_urgency entry (tree ++ last.old) }
 {
-    let place = place_of(last.as_slice(), &entry);
+    let place = urgency_place(last.as_slice(), &entry);
     if goes_into_tree(&tree, place) {
         return tree.put_by_urgency(entry, spare);
     }

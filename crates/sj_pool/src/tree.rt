@@ -1,5 +1,6 @@
-//! A queue as a T-tree: a balanced search tree (an AVL tree) whose forks have several entries each, and keep the least bytes below
-//! them, so that the first entry that fits is found on one path from the root.
+//! A queue as a T-tree: a balanced search tree (an AVL tree) whose forks have several entries each. A
+//! fork keeps the least bytes here and below, so that the first entry that fits is found on one path
+//! from the root.
 
 ghost use Rattle.std.specs.Prelude.{◌≡◌, ℕ, ◌<◌, ◌≤◌, ◌+◌, ◌↔◌, [], ◌∷◌, ◌++◌, ◌||◌, nat_le, insert, false, IsTrue, IsNone, IsSome, IfSome, length};
 ghost use Rattle.std.specs.Vec.{vec_capacity};
@@ -7,7 +8,7 @@ ghost use Rattle.sj_pool.specs.Chunk.{chunk_room};
 ghost use Rattle.sj_pool.specs.Queue.{has_fitting, first_fitting, without_first_fitting, put_by_urgency, is_by_urgency};
 ghost use Rattle.sj_pool.specs.Root.{IsLeast};
 
-use crate::chunk::{CHUNK, Chunk, place_of};
+use crate::chunk::{CHUNK, Chunk, urgency_place};
 use crate::entry::Entry;
 use sj_base::memory::OutOfMemory;
 use std::alloc::Global;
@@ -37,13 +38,13 @@ impl Model for Tree {
     ghost use Rattle.std.specs.Prelude.{List, length};
     ghost use Rattle.sj_pool.specs.declared.entry.Entry.{Entry};
     ghost use Rattle.std.specs.Prelude.{◌++◌};
-    ghost use Rattle.sj_pool.specs.Root.{entries_of, IsRoot};
+    ghost use Rattle.sj_pool.specs.Root.{entries_of, IsTreeRoot};
 
     ghost Value = { List Entry };
 
     ghost view = { λ t. entries_of (λ f. f.left ++ f.entries ++ f.right) t.root };
 
-    ghost invariant = { λ t. IsRoot (λ f. f.entries) (λ f. f.least)
+    ghost invariant = { λ t. IsTreeRoot (λ f. f.entries) (λ f. f.least)
         (λ f. f.left ++ f.entries ++ f.right) t.root };
 
     ghost size = { length };
@@ -64,7 +65,7 @@ fn goes_on(side: &Tree, is_at_end: bool, is_full: bool) -> bool
 
 impl Tree {
     ghost use Rattle.sj_pool.specs.Fork.{entries, in_order};
-    ghost use Rattle.sj_pool.specs.Root.{IsRoot};
+    ghost use Rattle.sj_pool.specs.Root.{IsTreeRoot};
 
     /// No entry.
     pub fn empty() -> Tree
@@ -109,7 +110,7 @@ impl Tree {
 
     fn open(self) -> Option<Box<Fork>>
         ensures entries { entries result ≡ self }
-        ensures root { IsRoot (λ f. f.entries) (λ f. f.least) in_order result }
+        ensures root { IsTreeRoot (λ f. f.entries) (λ f. f.least) in_order result }
     {
         self.root
     }
@@ -229,7 +230,7 @@ impl Tree {
             return Tree::leaf_of(spare, entry);
         };
         let len = fork.entries.len();
-        let place = place_of(fork.entries.as_slice(), &entry);
+        let place = urgency_place(fork.entries.as_slice(), &entry);
         if goes_on(&fork.right, place == len, len == CHUNK) {
             let right = mem::replace(&mut fork.right, Tree::empty());
             let before = right.height();

@@ -3,7 +3,7 @@ use Rattle.std.proofs.lemmas.Grind.{common_steps}
 use Rattle.std.specs.List.{position}
 use Rattle.sj_pool.specs.Entry.{precedes}
 use Rattle.sj_pool.proofs.Queues.{place-or}
-use Rattle.sj_pool.proofs.chunk.place_of.Goals as goal
+use Rattle.sj_pool.proofs.chunk.urgency_place.Goals as goal
 
 pub returns-clause-place : goal.returns-clause-place
 returns-clause-place c =
