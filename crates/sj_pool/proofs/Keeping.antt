@@ -1,5 +1,5 @@
 -- A pool stays one where an entry is put into a queue or taken out of it.
-use Rattle.std.proofs.Common.{◌≡◌, ◌≢◌, ℕ, zero, suc, ◌+◌, ◌*◌, ◌<◌, ◌≤◌, Bool, true, false, not, ◌||◌, nat_eq, List, [], ◌∷◌, ◌++◌, Option, Some, None, All, IsTrue, length, replicate, slice_set, refl, sym, subst, ap, ◌∙◌, arith, length-set, length-append}
+use Rattle.std.proofs.Common.{◌≡◌, ◌≢◌, ℕ, zero, suc, ◌+◌, ◌*◌, ◌<◌, ◌≤◌, Bool, true, false, not, ◌||◌, nat_eq, List, [], ◌∷◌, ◌++◌, Option, Some, None, All, IsTrue, length, replicate, slice_set, refl, sym, subst, ap, ◌∙◌, arith, length-set}
 use Rattle.std.proofs.lemmas.Int.{ints}
 use Rattle.std.proofs.lemmas.List.{set-get_or, length-replicate}
 use Rattle.std.proofs.lemmas.List.Elements.{All-set, All-get_or, All-replicate}
@@ -12,6 +12,7 @@ use Rattle.sj_pool.specs.declared.entry.Entry.{Entry}
 use Rattle.sj_pool.specs.Entry.{precedes}
 use Rattle.sj_pool.specs.Queue.{Queued, queued, first_fitting, without_first_fitting, put_by_urgency, is_by_urgency}
 use Rattle.sj_pool.specs.Pool.{queue, home, queue_count, has_task, contains, put_into, lists, queue_at, with_entries_at, count_entries, count_failing, IsPool}
+use Rattle.sj_pool.proofs.Queues.{length-put}
 use Rattle.sj_pool.proofs.Lists.{lists-set, queue-lists, within-lists, lists-replicate}
 
 -- ---- which tasks are in the queues
@@ -74,12 +75,6 @@ by_urgency-taken room [] h = refl
 by_urgency-taken room (x ∷ xs) h = grind (arith, by_urgency-taken room xs, all-taken x room xs)
 
 -- ---- how many there are
-
-length-put : (p : Policy) (e : Entry) (es : List Entry) → length (put_into p e es) ≡ length es + 1
-length-put Eager e es = grind (arith, length-append)
-length-put Ws e es = grind (arith, length-append)
-length-put Prio e [] = refl
-length-put Prio e (x ∷ xs) = grind (arith, length-put Prio e xs)
 
 length-taken_one : (room : ℕ) (es : List Entry) (e : Entry) → first_fitting room es ≡ Some e → length (without_first_fitting room es) + 1 ≡ length es
 length-taken_one room [] e f = grind arith

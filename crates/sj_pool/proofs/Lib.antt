@@ -1,4 +1,5 @@
 pub mod Keeping
+pub mod Least
 pub mod Lists
 pub mod Queues
 pub mod Serving

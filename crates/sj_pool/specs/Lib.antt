@@ -1,3 +1,4 @@
+pub mod Chunk
 pub mod Entry
 pub mod Fork
 pub mod Pool

@@ -1,5 +1,5 @@
 -- A queue: entries in the order in which they are taken.
-use Rattle.std.specs.Prelude.{◌≡◌, ℕ, Bool, true, not, ◌&&◌, ◌⊎◌, List, [], ◌∷◌, Option, if◌then◌else◌}
+use Rattle.std.specs.Prelude.{ℕ, Bool, true, not, ◌&&◌, List, [], ◌∷◌, Option, if◌then◌else◌}
 use Rattle.std.specs.List.{list_any, list_all, find}
 use Rattle.sj_pool.specs.declared.entry.Entry.{Entry}
 use Rattle.sj_pool.specs.Entry.{fits, precedes}
@@ -11,10 +11,6 @@ pub record Queued : Type 0 where
 
 abbrev pub queued : List Entry → ℕ → Queued
 queued es n = record { entries = es; limit = n }
-
--- the entries are in a tree or in a list, and not in both
-abbrev pub OneIsEmpty : List Entry → List Entry → Type 0
-OneIsEmpty tree list = (tree ≡ []) ⊎ (list ≡ [])
 
 -- some entry fits
 abbrev pub has_fitting : ℕ → List Entry → Bool

@@ -2,7 +2,9 @@
 //! (StarPU Handbook, "Scheduling Policies": `eager`, `prio` and `ws`).
 #![tactic(auto)]
 
+mod chunk;
 pub mod entry;
 pub mod pool;
 mod queue;
+mod tail;
 mod tree;

@@ -1,7 +1,7 @@
 use Rattle.std.proofs.Common.{arith}
 use Rattle.std.proofs.lemmas.Grind.{common_steps}
 use Rattle.sj_pool.proofs.Queues.{first-at, rest-at, none-at}
-use Rattle.sj_pool.proofs.queue.take_from_list.Goals as goal
+use Rattle.sj_pool.proofs.chunk.take_from_list.Goals as goal
 
 pub returns-in-None-clause-taken : goal.returns-in-None-clause-taken
 returns-in-None-clause-taken c = grind (arith, common_steps, none-at c.args.room c.args.list.now.items)
