@@ -12,6 +12,7 @@ use Rattle.sj_base.proofs.trace.Trace.TheSendSync as Trace
 use Rattle.sj_core.proofs.progress.Progress.TheSendSync as Progress
 use Rattle.sj_deps.specs.contracts.deps.Deps as Deps
 use Rattle.sj_node.proofs.store.NodeStore.TheSendSync as NodeStore
+use Rattle.sj_pool.proofs.chunk.Chunk.TheSendSync as Chunk
 use Rattle.sj_pool.proofs.tree.Tree.TheLaws.TheKnot as Trees
 use Rattle.sj_pool.specs.contracts.pool.Pool as Pool
 use Rattle.sj_edge.specs.declared.disk.Disk.{Ghosts}
@@ -38,7 +39,7 @@ deps-send : IsSend Deps.the_row
 deps-send = search (sendable, crosses) depth 60 fits 20000
 
 pool-send : IsSend Pool.the_row
-pool-send = search (crosses, Trees.crosses, sendable) depth 60
+pool-send = search (crosses, Trees.crosses, Chunk.the_send, sendable) depth 60 fits 20000
 
 module _ (D : RattleType) (g : Ghosts D.Denot) (s : IsSend D) where
   slot-send : IsSend (Slots.the_row D)
