@@ -69,7 +69,8 @@ def case_of(rng, kind, folder):
     if kind == "full":
         words, may_end = words + ["--swap", "/dev/full"], [DONE, DISK_FAULT]
     if kind == "memory":
-        limit, may_end = rng.randint(2, 48) << 20, [DONE, OUT_OF_MEMORY]
+        # the loader wants more than 2 MiB for the C library, before the program begins
+        limit, may_end = rng.randint(4, 48) << 20, [DONE, OUT_OF_MEMORY]
     if kind == "trace":
         words += ["--trace"]
     return Case(kind, words, limit, fake, may_end, job.lines)
@@ -119,18 +120,27 @@ def fails(case, first_word):
     return False
 
 
+def left_out(case, lines, step, first_word):
+    """The lines without each so many in a row that the case fails without."""
+    at = 1
+    while at < len(lines):
+        fewer = lines[:at] + lines[at + step:]
+        if fails(case._replace(lines=fewer), first_word):
+            lines = fewer
+        else:
+            at += step
+    return lines
+
+
 def made_small(case, fault):
-    """The case without the lines that it fails without: first by halves, then by ever less."""
+    """The case without the lines that it fails without: first by halves, then by ever less, and by one until none is left out."""
     first_word, lines, step = fault.split()[0], list(case.lines), len(case.lines) // 2
-    while step >= 1:
-        at = 1
-        while at < len(lines):
-            fewer = lines[:at] + lines[at + step:]
-            if fails(case._replace(lines=fewer), first_word):
-                lines = fewer
-            else:
-                at += step
+    while step > 1:
+        lines = left_out(case, lines, step, first_word)
         step //= 2
+    # a line of which another spoke may go once that one has
+    while len(fewer := left_out(case, lines, 1, first_word)) < len(lines):
+        lines = fewer
     return case._replace(lines=lines)
 
 

@@ -202,7 +202,6 @@ def limits():
 
 def size_texts():
     """Texts of each kind, by a size that is about their bytes."""
-    values = "starjob 1\n" + "vector v%d 1000000 values" % 0
     yield "blank lines", lambda n: "starjob 1\n" + "\n" * n
     yield "comments", lambda n: "starjob 1\n" + "#\n" * (n // 2)
     yield "blanks before the header", lambda n: "\n" * n + "starjob 1\n"
@@ -227,10 +226,10 @@ def size_texts():
     yield "prio words", lambda n: "starjob 1\nvector x 1 none\ntask add" + " prio=1" * (n // 7)
     yield "registrations", lambda n: "starjob 1\n" + "".join(f"vector n{k} 1 none\n" for k in range(min(4096, n // 16)))
     yield "ended names", lambda n: "starjob 1\n" + "".join(f"vector n{k} 1 none\nunregister n{k}\n" for k in range(min(4096, n // 32)))
-    yield "plans", lambda n: "starjob 1\nmatrix x 64 64 fill 1 1\n" + "plan x 64 64\nplan x 1 1\n" * (n // 24)
-    yield "first values", lambda n: "starjob 1\nmatrix x 64 64 by 64 64 none\n" + "invalidate x\ntask fill(1,1) x[63,63]:W\n" * (n // 39)
-    yield "tasks", lambda n: "starjob 1\nvector x 1 fill 1 1\n" + "task scale(2) x:RW\n" * (n // 19)
-    yield "prints", lambda n: "starjob 1\nvector x 1 fill 1 1\n" + "print x\n" * (n // 8)
+    yield "plans", lambda n: "starjob 1\nmatrix x 64 64 fill 1 1\n" + "plan x 64 64\nplan x 1 1\n" * min(131_000, n // 24)
+    yield "first values", lambda n: "starjob 1\nmatrix x 64 64 by 64 64 none\n" + "invalidate x\ntask fill(1,1) x[63,63]:W\n" * min(131_000, n // 39)
+    yield "tasks", lambda n: "starjob 1\nvector x 1 fill 1 1\n" + "task scale(2) x:RW\n" * min(262_000, n // 19)
+    yield "prints", lambda n: "starjob 1\nvector x 1 fill 1 1\n" + "print x\n" * min(262_000, n // 8)
 
 
 def seconds_of(words, text):
@@ -249,7 +248,7 @@ def seconds_of(words, text):
 def sizes():
     tally, worst = Tally("sizes"), 0
     for name, text in size_texts():
-        small, large = text(MILLION).encode(), text(5 * MILLION).encode()
+        small, large = text(4 * MILLION).encode(), text(20 * MILLION).encode()
         if len(large) < 3 * len(small):
             # at most so many of these: at a quarter of the limit and at the limit
             small, large = text(len(large) // 4).encode(), large
@@ -316,8 +315,15 @@ def main():
     with tempfile.TemporaryDirectory() as folder:
         shim = os.path.join(folder, "serve.so")
         subprocess.run(["gcc", "-O1", "-shared", "-fPIC", "-o", shim, os.path.join(here, "serve.c")], check=True)
-        shower, runner = Program(shim, [TRACE_CHECK, "--text"]), Program(shim, [STARJOB, "--workers", "1"])
-        does = {"prefixes": lambda: prefixes(shower, runner), "bytes": lambda: changed_bytes(shower, given.step), "limits": limits, "sizes": sizes, "memory": memory}
+        # each asks for the programs that it needs
+        def shower():
+            return Program(shim, [TRACE_CHECK, "--text"])
+
+        def runner():
+            return Program(shim, [STARJOB, "--workers", "1"])
+
+        does = {"prefixes": lambda: prefixes(shower(), runner()), "bytes": lambda: changed_bytes(shower(), given.step),
+                "limits": limits, "sizes": sizes, "memory": memory}
         sys.exit(sum(does[kind]() for kind in asked) != 0)
 
 
