@@ -1,11 +1,12 @@
 #!/usr/bin/env python3
 """Runs jobs with allocations refused, and looks at what comes of it.
 
-    bench/memory/run.py [--from | --chance RUNS | --limits]
+    bench/memory/run.py [--from | --chance RUNS | --limits] [--swap FOLDER]
 
 Without a word: each example with each of its allocations refused in turn. With --from each example with all refused from one on, at some
 fifty places. With --chance so many runs of the examples by four workers on two small nodes, where each allocation is refused with the
-probability 1/50. With --limits a large job by one and by four workers with 32 to 512 MiB of address space.
+probability 1/50. With --limits a large job by one and by four workers with 32 to 512 MiB of address space. With --swap all runs but those
+of --limits have a swap file in this folder, in which nothing else may be, and two small nodes, so that a disk's calls meet refused memory.
 
 A run that is refused memory ends with 10 and writes nothing, or is as without: its output whole and status 0. None takes longer than
 twenty seconds. Build the program first, by ./run examples/first.job; STARJOB may name another.
@@ -61,50 +62,53 @@ def examples():
             yield os.path.basename(path), job.read()
 
 
-def counted(shim, folder, job):
+def counted(shim, folder, job, words):
     """What a job prints, and how many allocations it asks for."""
     told = os.path.join(folder, "count")
-    wanted = run(job, shim=shim, COUNT=told).stdout
+    wanted = run(job, words, shim, COUNT=told).stdout
     with open(told, "rb") as count:
         return wanted, int.from_bytes(count.read(), sys.byteorder)
 
 
-def each_in_turn(shim, folder):
+def each_in_turn(shim, folder, swap):
     failed = 0
     for name, job in examples():
-        (wanted, total), count = counted(shim, folder, job), Count()
+        words = words_for(job, 1, swap) if swap else []
+        (wanted, total), count = counted(shim, folder, job, words), Count()
         for number in range(1, total + 1):
-            count.judge(f"{name}: allocation {number}", run(job, shim=shim, REFUSE=number), wanted)
+            count.judge(f"{name}: allocation {number}", run(job, words, shim, REFUSE=number), wanted)
         count.told(f"{name}, {total} allocations")
         failed += count.failed
     print(f"{failed} failed")
-    figures.write("memory", [("failed", failed, "<=0", 0)])
+    figures.write("memory", [("swap.failed" if swap else "failed", failed, "<=0", 0)])
     return failed
 
 
-def all_from_one_on(shim, folder):
+def all_from_one_on(shim, folder, swap):
     failed = 0
     for name, job in examples():
-        (wanted, total), count = counted(shim, folder, job), Count()
+        words = words_for(job, 1, swap) if swap else []
+        (wanted, total), count = counted(shim, folder, job, words), Count()
         for number in range(1, total + 1, max(1, total // 50)):
-            count.judge(f"{name}: from {number} on", run(job, shim=shim, REFUSE_FROM=number), wanted)
+            count.judge(f"{name}: from {number} on", run(job, words, shim, REFUSE_FROM=number), wanted)
         count.told(f"{name}, {total} allocations")
         failed += count.failed
     return failed
 
 
-def words_for(job):
-    """Four workers on two nodes, as large as the job's greatest task: the refusal of a node that is too small says how large."""
-    said = run(job, ["--workers", "4", "--node", "8", "--nodes", "2"]).stderr.decode()
+def words_for(job, workers, swap):
+    """So many workers on two nodes, as large as the job's greatest task: the refusal of a node that is too small says how large."""
+    words = ["--workers", str(workers), "--nodes", "2", *(["--swap", swap] if swap else [])]
     node = 8
+    said = run(job, [*words, "--node", str(node)]).stderr.decode()
     while "needs" in said and "one node" in said:
         node = int(said.split("needs ")[1].split()[0])
-        said = run(job, ["--workers", "4", "--node", str(node), "--nodes", "2"]).stderr.decode()
-    return ["--workers", "4", "--node", str(node), "--nodes", "2"]
+        said = run(job, [*words, "--node", str(node)]).stderr.decode()
+    return [*words, "--node", str(node)]
 
 
-def by_chance(shim, runs):
-    jobs = [(name, job, words_for(job), run(job).stdout) for name, job in examples()]
+def by_chance(shim, runs, swap):
+    jobs = [(name, job, words_for(job, 4, swap), run(job).stdout) for name, job in examples()]
     count, rng = Count(), random.Random(1)
     for seed in range(1, runs + 1):
         name, job, words, wanted = rng.choice(jobs)
@@ -142,6 +146,7 @@ def main():
     words.add_argument("--from", action="store_true", dest="from_one_on")
     words.add_argument("--chance", type=int)
     words.add_argument("--limits", action="store_true")
+    words.add_argument("--swap")
     given = words.parse_args()
     with tempfile.TemporaryDirectory() as folder:
         shim = os.path.join(folder, "refuse.so")
@@ -149,9 +154,13 @@ def main():
         if given.limits:
             failed = within_limits()
         elif given.chance:
-            failed = by_chance(shim, given.chance)
+            failed = by_chance(shim, given.chance, given.swap)
         else:
-            failed = all_from_one_on(shim, folder) if given.from_one_on else each_in_turn(shim, folder)
+            failed = (all_from_one_on if given.from_one_on else each_in_turn)(shim, folder, given.swap)
+    left = os.listdir(given.swap) if given.swap else []
+    if left:
+        print(f"FAILED: in {given.swap} stays {', '.join(left)}")
+        failed += len(left)
     sys.exit(failed != 0)
 
 

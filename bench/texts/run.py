@@ -71,6 +71,9 @@ class Tally:
         self.failed += 1
         print(f"FAILED {self.what}, {where}: {got}", flush=True)
 
+    def passes(self, name):
+        print(f"{self.what}: behind {name} after {time.monotonic() - self.began:.0f} s, {sum(self.ends.values())} so far", flush=True)
+
     def told(self):
         ends = ", ".join(f"{count} {end}" for end, count in sorted(self.ends.items()))
         print(f"{self.what}: {ends}; {self.failed} failed, {time.monotonic() - self.began:.0f} s", flush=True)
@@ -127,6 +130,7 @@ def changed_bytes(shower, step):
                 number += 1
                 if byte != job[at] and number % step == 0:
                     try_reading(tally, f"{name}, {byte} at {at}", shower, job[:at] + bytes([byte]) + job[at + 1:])
+        tally.passes(name)
     return tally.told()
 
 

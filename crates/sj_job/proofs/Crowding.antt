@@ -1,5 +1,5 @@
 -- What shows in a crowd of operands is so of their list, and tells why a task line is refused.
-use Rattle.std.proofs.Common.{◌≡◌, ◌⊎◌, inl, inr, ℕ, ◌+◌, ◌-◌, ◌≤◌, ◌<◌, ◌&&◌, ◌||◌, not, Bool, true, false, List, [], ◌∷◌, ◌++◌, length, map, take, drop, refl, ap, ◌∙◌, sym, subst, arith, Option, Some, None, is_some, option_map, cond, nat_eq, codes, length-drop, Result, Ok, Err, ℤ}
+use Rattle.std.proofs.Common.{◌≡◌, ◌⊎◌, inl, inr, ℕ, ◌+◌, ◌-◌, ◌≤◌, ◌<◌, ◌&&◌, ◌||◌, not, Bool, true, false, List, [], ◌∷◌, ◌++◌, length, map, take, drop, refl, ap, ◌∙◌, sym, subst, arith, Option, Some, None, is_some, option_map, cond, nat_eq, codes, length-drop, Result, Ok, Err}
 use Rattle.std.specs.Prelude.{nat_le, nat_lt}
 use Rattle.std.specs.List.{list_all, list_any, position_or_len, slice_split, onto_first}
 use Rattle.std.proofs.lemmas.Bool.Decides.{nat_tests}
@@ -22,7 +22,7 @@ use Rattle.sj_job.specs.declared.reason.Reason.{Reason}
 use Rattle.sj_job.specs.declared.reason.Reason.TheVariants.{Word, Number, UnknownName, EndedName, UnknownCodelet, OperandCount, Limit}
 use Rattle.sj_job.specs.declared.reason.LimitKind.TheVariants.{Statements, Priority}
 use Rattle.sj_job.specs.Crowd.{crowd_of, shown_in, up_to_six}
-use Rattle.sj_job.specs.Form.{bracketed, each_some, form_of, operand_of, task_of, with_priority}
+use Rattle.sj_job.specs.Form.{bracketed, each_some, form_of, operand_of, with_priority}
 use Rattle.sj_job.specs.Judge.{Scope, first_of, is_counted, is_ended, is_full, is_unknown, judged, judged_by, judged_call, judged_task, kernel_named, operand_reasons, unless}
 use Rattle.sj_job.specs.Reading.{act_in}
 use Rattle.sj_job.specs.Sentence.{are_counts, is_numbered, is_numbered_priority, operand_said, operands_said, priority_said, said_of, task_said}

@@ -19,5 +19,6 @@ pub mod Welling
 pub mod Progressing
 pub mod Targets
 pub mod Submitting
+pub mod Counting
 pub mod Reading
 pub mod Crowding

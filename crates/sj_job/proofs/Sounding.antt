@@ -68,7 +68,7 @@ none_first : (b : Bool) (why : Reason) (o : Option Reason) → cond b (Some why)
 none_first true why o e = absurd (cc)
 none_first false why o e = (refl, e)
 
-none_hold : (cs : List (Bool × Reason)) → first_of cs ≡ None → NoneHolds cs
+pub none_hold : (cs : List (Bool × Reason)) → first_of cs ≡ None → NoneHolds cs
 none_hold [] e = tt
 none_hold (c ∷ cs) e = let p = none_first c.0 c.1 (first_of cs) e in (p.0, none_hold cs p.1)
 

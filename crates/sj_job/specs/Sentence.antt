@@ -1,5 +1,5 @@
 -- What the words of a line say.
-use Rattle.std.specs.Prelude.{ℕ, Bool, true, false, ◌&&◌, map, Option, Some, None, unwrap_or, Result, Ok, Err, List, [], ◌∷◌, ℤ, pos, codes, if◌then◌else◌}
+use Rattle.std.specs.Prelude.{ℕ, Bool, true, false, ◌&&◌, map, take, Option, Some, None, unwrap_or, Result, Ok, Err, List, [], ◌∷◌, ℤ, pos, codes, if◌then◌else◌}
 use Rattle.std.specs.List.{list_all}
 use Rattle.std.specs.Str.{bytes_eq}
 use Rattle.sj_codelet.specs.declared.kernel.Kernel.{Kernel}
@@ -82,6 +82,12 @@ abbrev pub init_said : InitForm → Init
 init_said (init.Values vs) = Values (map integer vs)
 init_said (init.Fill a b) = Fill (integer a) (integer b)
 init_said init.Nothing = Nothing
+
+-- the first so many of the values
+abbrev pub first_values : ℕ → Init → Init
+first_values n (Values zs) = Values (take n zs)
+first_values n (Fill a b) = Fill a b
+first_values n Nothing = Nothing
 
 -- the plan that `by r c` names; without it the array is whole
 abbrev pub parts_said : Option (List ℕ × List ℕ) → Parts

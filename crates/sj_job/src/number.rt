@@ -1,9 +1,9 @@
 //! The numbers of a form.
 
-ghost use Rattle.std.specs.Prelude.{◌≡◌, ◌&&◌, true, false, map, IfOk, IsTrue, MatchOption};
+ghost use Rattle.std.specs.Prelude.{◌≡◌, ◌&&◌, true, false, map, take, IfOk, IsTrue, MatchOption};
 ghost use Rattle.std.specs.List.{list_all};
 ghost use Rattle.sj_job.specs.Word.{count, is_count, is_integer, integer};
-ghost use Rattle.sj_job.specs.Sentence.{are_counts, is_numbered_size, is_numbered_init, is_numbered_priority, rows_of, cols_of, init_said, parts_said, index_said, priority_said};
+ghost use Rattle.sj_job.specs.Sentence.{are_counts, is_numbered_size, is_numbered_init, is_numbered_priority, rows_of, cols_of, init_said, first_values, parts_said, index_said, priority_said};
 ghost use Rattle.sj_meaning.specs.State.{plan_with};
 
 use crate::form::{InitForm, Piece, Pieces, Size};
@@ -79,22 +79,23 @@ pub fn integers(alloc: Global, words: &Pieces<'_>) -> Result<Option<Few<i64>>, O
     Ok(Some(values))
 }
 
-/// The integers that the words of a line say, or `None` where one says none; with room for so many from the start, unless the
-/// line is shorter. Linear in the words.
+/// The integers that the words of a line say, or `None` where one says none. So many of them are kept, with room for these from
+/// the start, unless the line is shorter; those behind them are only looked at. Linear in the words.
 fn values_of(
     alloc: Global,
     words: &Words<'_>,
-    count: u64,
+    most: u64,
 ) -> Result<Option<Sequence<i64>>, OutOfMemory>
     ensures { IfOk result (λ r. MatchOption r (list_all is_integer words.now ≡ false)
-        (λ zs. (list_all is_integer words.now ≡ true) × (zs ≡ map integer words.now))) }
+        (λ zs. (list_all is_integer words.now ≡ true) × (zs ≡ take most (map integer words.now)))) }
 {
-    let room = count.min(words.room() as u64) as usize;
+    let room = most.min(words.room() as u64) as usize;
     let mut values = Vec::with_capacity(alloc, room)?;
     let mut rest = words.again();
     while let Some((word, behind)) = rest.split_first() {
         match integer_of(word) {
-            Some(value) => values.push(value)?,
+            Some(value) if (values.len() as u64) < most => values.push(value)?,
+            Some(_) => {}
             None => return Ok(None),
         }
         rest = behind;
@@ -114,13 +115,13 @@ pub fn size_of(size: &Size<'_>) -> Option<(u64, u64)>
     }
 }
 
-/// The first elements, which should be so many, or `None` where a word says no integer. Linear in the words.
-pub fn init_of(alloc: Global, init: &InitForm<'_>, count: u64) -> Result<Option<Init>, OutOfMemory>
+/// The first elements, of values no more than so many, or `None` where a word says no integer. Linear in the words.
+pub fn init_of(alloc: Global, init: &InitForm<'_>, most: u64) -> Result<Option<Init>, OutOfMemory>
     ensures { IfOk result (λ r. MatchOption r (is_numbered_init init.now ≡ false)
-        (λ said. (is_numbered_init init.now ≡ true) × (said ≡ init_said init.now))) }
+        (λ said. (is_numbered_init init.now ≡ true) × (said ≡ first_values most (init_said init.now)))) }
 {
     match init {
-        InitForm::Values(values) => Ok(values_of(alloc, values, count)?.map(Init::Values)),
+        InitForm::Values(values) => Ok(values_of(alloc, values, most)?.map(Init::Values)),
         InitForm::Fill(a, b) => Ok(fill_of(a, b)),
         InitForm::Nothing => Ok(Some(Init::Nothing)),
     }

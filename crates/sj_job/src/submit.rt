@@ -1,8 +1,10 @@
 //! What a form does to the names, and what is kept of it.
 
-ghost use Rattle.std.specs.Prelude.{◌≡◌, ◌+◌, ◌<◌, ◌^◌, ◌&&◌, Bool, false, IfOk, IfErr};
+ghost use Rattle.std.specs.Prelude.{◌≡◌, ◌+◌, ◌*◌, ◌<◌, ◌^◌, ◌&&◌, Bool, false, IfOk, IfErr};
 ghost use Rattle.sj_codelet.specs.declared.kernel.Kernel.{Kernel};
+ghost use Rattle.std.specs.Bool.{IsFalse};
 ghost use Rattle.std.specs.List.{list_all};
+ghost use Rattle.sj_job.specs.Judge.{is_outside};
 ghost use Rattle.sj_job.specs.Names.{IsCounted, scope_in};
 ghost use Rattle.sj_job.specs.Reason.{Objects};
 ghost use Rattle.sj_job.specs.Sentence.{kind_of, are_counts};
@@ -11,7 +13,7 @@ ghost use Rattle.sj_job.specs.Submits.{done_in, Submits};
 
 use crate::form::{ArrayForm, Form, OperandForm, Piece, Size, TaskForm};
 use crate::judge::{
-    judge_task, named_root, planned_root, printed_root, reduced_root, register_complaint,
+    ELEMENTS, judge_task, named_root, planned_root, printed_root, reduced_root, register_complaint,
 };
 use crate::names::Names;
 use crate::number::{are_counts, init_of, integers, pair_of, parts_of, priority_of, size_of};
@@ -38,7 +40,14 @@ fn kind_of(size: &Size<'_>) -> Kind
     }
 }
 
-/// Registers a root. Linear in the words.
+/// How many first values tell whether they are as many as the elements: one more than these, in an array that isn't too large.
+fn telling_count(rows: u64, cols: u64) -> u64
+    ensures { IsFalse (is_outside rows cols) → result ≡ rows * cols + 1 }
+{
+    rows.saturating_mul(cols).min(ELEMENTS) + 1
+}
+
+/// Registers a root. Linear in the words; of values too many no more than one too many is kept.
 fn submit_array(alloc: Global, names: &mut Names, array: &ArrayForm<'_>) -> Result<Act, Objection>
     requires counted { IsCounted names.old }
     requires room { names.old.statements + 1 < 2 ^ 64 }
@@ -53,7 +62,7 @@ fn submit_array(alloc: Global, names: &mut Names, array: &ArrayForm<'_>) -> Resu
     let Some(parts) = parts_of(&array.parts) else {
         return Err(Objection::Bad(Reason::Number));
     };
-    let Some(init) = init_of(alloc, &array.init, rows.saturating_mul(cols))? else {
+    let Some(init) = init_of(alloc, &array.init, telling_count(rows, cols))? else {
         return Err(Objection::Bad(Reason::Number));
     };
     let name = array.name.bytes();

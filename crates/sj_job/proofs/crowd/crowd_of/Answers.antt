@@ -1,4 +1,4 @@
-use Rattle.std.proofs.Common.{◌≡◌, ◌∙◌, ap, sym}
+use Rattle.std.proofs.Common.{◌∙◌, ap, sym}
 use Rattle.sj_job.specs.Form.{with_priority}
 use Rattle.sj_job.specs.Names.{scope_in}
 use Rattle.sj_job.proofs.Crowding.{crowd-more, shown-first, shown-more}

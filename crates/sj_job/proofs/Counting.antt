@@ -1,0 +1,65 @@
+-- The first values, one more than the elements are, tell whether all of them are as many as these.
+use Rattle.std.proofs.Common.{◌≡◌, ◌∙◌, ℕ, ◌+◌, ◌*◌, ◌≤◌, not, Bool, true, false, List, [], ◌∷◌, Option, None, length, take, nat_eq, min, arith, refl, ap, sym}
+use Rattle.std.proofs.lemmas.Bool.Decides.{nat_tests}
+use Rattle.std.proofs.lemmas.List.{length-take, take_all}
+use Rattle.std.specs.Bool.{IsFalse}
+use Rattle.sj_base.specs.declared.tile.Dims.{Dims}
+use Rattle.sj_meaning.specs.declared.job.Init.{Init}
+use Rattle.sj_meaning.specs.declared.job.Init.TheVariants.{Values, Fill, Nothing}
+use Rattle.sj_plan.specs.declared.parts.Parts.{Parts}
+use Rattle.sj_job.specs.declared.reason.Reason.{Reason}
+use Rattle.sj_job.specs.declared.reason.Reason.TheVariants.{TakenName, Shape, Part, Limit, EndedName}
+use Rattle.sj_job.specs.declared.reason.LimitKind.TheVariants.{Statements, Names, Elements, Parts as PartsLimit}
+use Rattle.sj_job.specs.Judge.{Scope, first_of, has_names, is_crowded, is_ended, is_full, is_miscounted, is_outside, is_taken, is_uncut, register_reasons}
+use Rattle.sj_job.specs.Sentence.{first_values}
+use Rattle.sj_job.proofs.Sounding.{none_hold}
+
+-- so many first values tell, unless the array is too large
+abbrev pub Tells : ℕ → Dims → Type 0
+Tells n d = IsFalse (is_outside d.rows d.cols) → n ≡ d.rows * d.cols + 1
+
+capped : (n m : ℕ) → nat_eq (min (n + 1) m) n ≡ nat_eq m n
+capped n m = grind (arith, nat_tests)
+
+counted : (n : ℕ) (init : Init) (rows cols : ℕ) → n ≡ rows * cols + 1 → is_miscounted (first_values n init) rows cols ≡ is_miscounted init rows cols
+counted n (Values zs) rows cols e =
+    ap (λ m. not (nat_eq m (rows * cols))) (length-take n zs ∙ ap (λ n. min n (length zs)) e) ∙ ap not (capped (rows * cols) (length zs))
+counted n (Fill a b) rows cols e = refl
+counted n Nothing rows cols e = refl
+
+abbrev first_with : Scope → List ℕ → Dims → Parts → Bool → Bool → Option Reason
+first_with s name d p outside miscounted =
+    first_of (
+    (is_full s, Limit Statements)
+    ∷ (has_names s, Limit Names)
+    ∷ (outside, Limit Elements)
+    ∷ (is_crowded p, Limit PartsLimit)
+    ∷ (is_ended s name, EndedName)
+    ∷ (is_taken s name, TakenName)
+    ∷ (is_uncut d p, Part)
+    ∷ (miscounted, Shape)
+    ∷ [])
+
+pub told : (s : Scope) (name : List ℕ) (d : Dims) (p : Parts) (n : ℕ) (init : Init) → Tells n d → first_of (register_reasons s name d p (first_values n init)) ≡ first_of (register_reasons s name d p init)
+told s name d p n init h = by (is_outside d.rows d.cols) refl
+  where
+    by : (b : Bool) → is_outside d.rows d.cols ≡ b → first_of (register_reasons s name d p (first_values n init)) ≡ first_of (register_reasons s name d p init)
+    by false e = ap (first_with s name d p (is_outside d.rows d.cols)) (counted n init d.rows d.cols (h e))
+    by true e =
+        ap (λ b. first_with s name d p b (is_miscounted (first_values n init) d.rows d.cols)) e
+        ∙ ap (λ b. first_with s name d p b (is_miscounted init d.rows d.cols)) (sym e)
+
+as-many : (m n : ℕ) → not (nat_eq m n) ≡ false → m ≤ n + 1
+as-many m n e = grind (arith, nat_tests)
+
+all-kept : (n : ℕ) (init : Init) (rows cols : ℕ) → n ≡ rows * cols + 1 → is_miscounted init rows cols ≡ false → first_values n init ≡ init
+all-kept n (Values zs) rows cols e f =
+    ap (λ n. Values (take n zs)) e ∙ ap Values (take_all (rows * cols + 1) zs (as-many (length zs) (rows * cols) f))
+all-kept n (Fill a b) rows cols e f = refl
+all-kept n Nothing rows cols e f = refl
+
+-- where nothing is against them, they are all
+pub kept : (s : Scope) (name : List ℕ) (d : Dims) (p : Parts) (n : ℕ) (init : Init) → Tells n d → first_of (register_reasons s name d p init) ≡ None → first_values n init ≡ init
+kept s name d p n init h e =
+    let none = none_hold (register_reasons s name d p init) e in
+    all-kept n init d.rows d.cols (h none.1.1.0) none.1.1.1.1.1.1.1.0
