@@ -118,7 +118,8 @@ pub fn size_of(size: &Size<'_>) -> Option<(u64, u64)>
 /// The first elements, of values no more than so many, or `None` where a word says no integer. Linear in the words.
 pub fn init_of(alloc: Global, init: &InitForm<'_>, most: u64) -> Result<Option<Init>, OutOfMemory>
     ensures { IfOk result (λ r. MatchOption r (is_numbered_init init.now ≡ false)
-        (λ said. (is_numbered_init init.now ≡ true) × (said ≡ first_values most (init_said init.now)))) }
+        (λ said. (is_numbered_init init.now ≡ true) ×
+        (said ≡ first_values most (init_said init.now)))) }
 {
     match init {
         InitForm::Values(values) => Ok(values_of(alloc, values, most)?.map(Init::Values)),
