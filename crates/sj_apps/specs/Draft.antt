@@ -1,14 +1,20 @@
 -- A job in the making: what it says so far.
 use Rattle.std.specs.Prelude.{◌≡◌, ℕ, ◌+◌, nat_eq, if◌then◌else◌, List, [], ◌∷◌, ◌++◌, length}
 use Rattle.sj_meaning.specs.Act.{Act}
+<<<<<<< HEAD
 use Rattle.sj_meaning.specs.View.{seen_from, ArePlaced, count_from}
+=======
+use Rattle.sj_meaning.specs.State.{start}
+use Rattle.sj_meaning.specs.View.{seen_from, ArePlaced, count_from, values_from, values_said}
+>>>>>>> 490f421a (lowering: what an earlier session left unproved)
 use Rattle.sj_apps.specs.declared.draft.Draft.{Draft}
 use Rattle.sj_apps.specs.Generated.{numbered, first_line, name_A, name_B, name_C, name_D}
 
--- the statements speak of roots that are registered before them
+-- the statements speak of roots that are registered before them, and say which values they find
 pub record IsNumberedSoFar (d : Draft) : Type 0 where
   pub placed : ArePlaced 0 d.statements
   pub counted : count_from 0 d.statements ≡ length d.roots.names
+  pub valued : values_said d.statements ≡ values_from start (seen_from d.roots 0 d.statements)
 
 -- the new draft says these acts more, in the next lines
 pub record Tells (old new : Draft) (acts : List (Act (List ℕ))) : Type 0 where

@@ -56,13 +56,14 @@ pub fn task<const M: usize>(
     operands: [Operand; M],
 ) -> Result<Act, OutOfMemory>
     ensures { IfOk result (λ act. act
-        ≡ kept.Task (record { kernel = kernel; args = []; operands = operands.entry; priority = pos 0 })) }
+        ≡ kept.Task (record { kernel = kernel; args = []; operands = operands.entry; priority = pos 0; valued = false })) }
 {
     Ok(Act::Task(TaskLine {
         kernel,
         args: Few::empty(alloc),
         operands: Few::of(alloc, operands)?,
         priority: 0,
+        valued: false,
     }))
 }
 

@@ -1,6 +1,6 @@
 -- The reader's names go on agreeing with the state, statement by statement.
 use Rattle.std.specs.FinMap as map
-use Rattle.std.proofs.Common.{◌≡◌, ℕ, suc, ◌+◌, Bool, true, false, List, [], ◌∷◌, length, drop, refl, ap, ◌∙◌, sym, subst, inl, inr, Option, Some, None, option_map, cond, ◌||◌, arith, bytes_eq, get_or, length-append, ◌++◌, ◌<◌, get_or-set_same, get_or-set_other, map as each_of}
+use Rattle.std.proofs.Common.{◌≡◌, ℕ, suc, ◌+◌, Bool, true, false, List, [], ◌∷◌, length, drop, refl, ap, ◌∙◌, sym, subst, inl, inr, Option, Some, None, option_map, cond, ◌&&◌, ◌||◌, arith, bytes_eq, get_or, length-append, ◌++◌, ◌<◌, get_or-set_same, get_or-set_other, map as each_of}
 use Rattle.std.proofs.Math.ListN.{set}
 use Rattle.std.proofs.lemmas.List.{length-set, get_or_read}
 use Rattle.std.proofs.lemmas.Bool.{cases_eq}
@@ -8,6 +8,7 @@ use Rattle.std.specs.List.{list_any, AllByRecursion}
 use Rattle.std.specs.Ordering.{nat_cmp}
 use Rattle.std.specs.Cmp.Lexicographic.{slice_cmp, nat_list_cmp_total, texts_ties, same_text}
 use Rattle.sj_base.specs.Array.{Array}
+use Rattle.sj_base.specs.Mode.{is_redux}
 use Rattle.sj_base.specs.declared.ids.Root.{Root as RootNumber}
 use Rattle.sj_base.specs.declared.mode.Reduction.{Reduction}
 use Rattle.sj_base.specs.declared.tile.Dims.{Dims}
@@ -20,11 +21,19 @@ use Rattle.sj_job.specs.declared.names.Standing.{Standing}
 use Rattle.sj_job.specs.declared.names.Standing.TheVariants.{Live, Ended}
 use Rattle.sj_job.specs.declared.names.Names.{Names}
 use Rattle.sj_meaning.specs.Statement.{Operand}
+<<<<<<< HEAD
 use Rattle.sj_meaning.specs.State.{Root, State, root_of, start, is_valued, is_blank}
 use Rattle.sj_meaning.specs.Meaning.{no_values, registered_root, register, is_written, written_of, with_parts, with_elements, with_reduction, with_child, change, plan, reduce, put, put_all, invalidate, unregister}
 use Rattle.sj_job.specs.Judge.{known_of, scope_of}
 use Rattle.sj_job.specs.Names.{Found, IsCounted, IsPlaceIn, after_write, after_writes, child_written, ended_from, first_standing, found_in, invalidated, is_over, known_by, known_from, plan_in, planned, reduced, scope_in, standing_of}
 use Rattle.sj_meaning.specs.Sound.{IsSoundPlan, IsSoundRegistration}
+=======
+use Rattle.sj_meaning.specs.State.{Root, State, root_of, start, is_valued, is_blank, is_valued_child}
+use Rattle.sj_meaning.specs.Meaning.{no_values, registered_root, register, is_written, written_of, with_parts, with_elements, with_reduction, with_child, change, plan, reduce, put, put_all, invalidate, unregister}
+use Rattle.sj_job.specs.Judge.{Scope, known_of, scope_of}
+use Rattle.sj_job.specs.Names.{Found, IsCounted, IsPlaceIn, after_write, after_writes, child_written, ended_from, first_standing, found_in, invalidated, is_over, is_all, child_valued, found_at, known_by, known_from, plan_in, planned, reduced, scope_in, standing_of}
+use Rattle.sj_meaning.specs.Sound.{IsSoundPlan, IsSoundRegistration, has_values, has_child_values}
+>>>>>>> 490f421a (lowering: what an earlier session left unproved)
 use Rattle.sj_meaning.specs.Table.{Table, table, a_root, name_of, info_of, root_in, IsRoot, with_root}
 use Rattle.sj_job.specs.Track.{all_valued, none_valued, even}
 use Rattle.sj_meaning.specs.View.{operand_seen, registration}
@@ -55,6 +64,30 @@ same_scope names n S h = λ i. record {
   ended = λ q. h.shows.ended q i;
   known = λ q. known_found (found_in names q) (root_of S q) (h.shows.found q) i;
 }
+
+-- ---- values
+
+-- a root that was found has values where it is known to have them
+pub known-all : (names : Names) (n : ℕ) (S : State) (q : List ℕ) (r : RootNumber) → Sees names n S → root_in names.roots q ≡ Some r → is_all (standing_of names r) ≡ has_values S q
+known-all names n S q r h e = by_standing (standing_of names r) (root_of S q) (subst (λ (f : Option Found). IsFound f (root_of S q)) (ap (option_map (found_at names)) e) (h.shows.found q))
+  where
+    by_standing : (st : Standing) (o : Option Root) → StandsFor (info_of names.roots r).dims st o → is_all st ≡ (elim o as (λ _. Bool) [ None ↦ false | Some r ↦ is_valued r ])
+    by_standing (Live t by) o k = all_valued-same t k.root k.tracks ∙ sym (ap (λ (o : Option Root). elim o as (λ _. Bool) [ None ↦ false | Some r ↦ is_valued r ]) k.there)
+    by_standing Ended o k = sym (ap (λ (o : Option Root). elim o as (λ _. Bool) [ None ↦ false | Some r ↦ is_valued r ]) k)
+
+valued-in : (n : ℕ) (S : State) (o : Operand (List ℕ)) → child_valued (scope_of n S) o ≡ has_child_values S o
+valued-in n S o = by_root (root_of S o.name)
+  where
+    by_root : (x : Option Root) → (elim (option_map known_of x) as (λ _. Bool) [ None ↦ false | Some k ↦ k.child o.place ]) ≡ (elim x as (λ _. Bool) [ None ↦ false | Some r ↦ is_valued_child r o.place ])
+    by_root None = refl
+    by_root (Some r) = refl
+
+-- so has a child
+pub known-children : (names : Names) (n : ℕ) (S : State) (os : List (Operand (List ℕ))) → Sees names n S
+    → list_any (λ o. is_redux o.mode && child_valued (scope_in names) o) os ≡ list_any (λ o. is_redux o.mode && has_child_values S o) os
+known-children names n S os h =
+    ap (λ (s : Scope). list_any (λ o. is_redux o.mode && child_valued s o) os) (same_scope names n S h)
+    ∙ (λ i. list_any (λ o. is_redux o.mode && valued-in n S o i) os)
 
 -- ---- a change of one root
 

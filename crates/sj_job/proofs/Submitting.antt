@@ -1,6 +1,8 @@
 -- What forms do, and that the names follow.
 use Rattle.std.proofs.Common.{◌≡◌, ℕ, ◌+◌, ◌&&◌, Bool, true, List, [], ◌∷◌, ◌++◌, length, get_or, Some, None, cond, refl, ap, sym, subst, ◌∙◌, arith, Result, Ok, Err, All, length-append}
 use Rattle.std.specs.Prelude.{IfOk, IfErr}
+use Rattle.std.specs.List.{list_any}
+use Rattle.sj_base.specs.Mode.{is_redux}
 use Rattle.std.proofs.Math.Seq.{get_or-append_seam}
 use Rattle.sj_base.specs.declared.ids.Root.{Root as RootNumber}
 use Rattle.sj_base.specs.declared.mode.Reduction.{Reduction}
@@ -24,6 +26,7 @@ use Rattle.sj_job.specs.Sentence.{is_numbered, is_numbered_array, is_numbered_ta
 use Rattle.sj_job.specs.Word.{is_count, count}
 use Rattle.sj_meaning.specs.State.{State, plan_with}
 use Rattle.sj_meaning.specs.Meaning.{apply, register, run_task, plan, reduce, invalidate, unregister}
+<<<<<<< HEAD
 use Rattle.sj_meaning.specs.Sound.{IsSoundAct, IsSoundTask, IsSoundRegistration, IsSoundPlan}
 use Rattle.sj_job.specs.Judge.{Scope, scope_of, first_of, unless, judged, judged_task, register_reasons, plan_reasons, print_reasons, redux_reasons, name_reasons}
 use Rattle.sj_meaning.specs.Table.{Table, table, no_info, name_of, root_in, IsRoot, with_root}
@@ -33,6 +36,17 @@ use Rattle.sj_job.specs.Sees.{Sees}
 use Rattle.sj_job.specs.Submits.{done_in, act_noted, Notes, Submits}
 use Rattle.sj_meaning.proofs.Finding.{is-at}
 use Rattle.sj_job.proofs.Seen.{same_scope}
+=======
+use Rattle.sj_meaning.specs.Sound.{IsSoundAct, IsSoundTask, IsSoundRegistration, IsSoundPlan, has_values}
+use Rattle.sj_job.specs.Judge.{Scope, scope_of, first_of, unless, judged, judged_task, register_reasons, plan_reasons, print_reasons, redux_reasons, name_reasons}
+use Rattle.sj_meaning.specs.Table.{Table, table, no_info, name_of, root_in, IsRoot, with_root}
+use Rattle.sj_meaning.specs.View.{registration, task_seen, act_seen, count_after, finds_value, says_value, IsPlaced, Extends}
+use Rattle.sj_job.specs.Names.{scope_in, standing_of, is_all, child_valued}
+use Rattle.sj_job.specs.Sees.{Sees}
+use Rattle.sj_job.specs.Submits.{done_in, act_noted, Notes, Submits}
+use Rattle.sj_meaning.proofs.Finding.{is-at}
+use Rattle.sj_job.proofs.Seen.{same_scope, known-all, known-children}
+>>>>>>> 490f421a (lowering: what an earlier session left unproved)
 use Rattle.sj_job.proofs.Sounding.{sound_from_judged}
 
 pub weaker_ok : {A E : Type 0} {P Q : A → Type 0} (r : Result A E) → ((a : A) → P a → Q a) → IfOk r P → IfOk r Q
@@ -105,6 +119,10 @@ registers has old new a name info init h =
         sees = λ n S k.
             let sound = subst (λ (r : Registration (List ℕ)). IsSoundAct has S (Register r)) said (sound_done has old n S (form.Register a) (Register (registered_by a)) k done) in
             subst (λ (x : Act (List ℕ)). Sees new (n + 1) (apply x S)) (sym seen) (h.sees n S k sound);
+<<<<<<< HEAD
+=======
+        valued = λ n S k. ap (finds_value S) (sym seen);
+>>>>>>> 490f421a (lowering: what an earlier session left unproved)
       };
     }
 
@@ -127,6 +145,7 @@ pub record Runs (has : Kernel → Bool) (old new : Names) (t : TaskForm) (line :
   pub operands : All (λ o. IsRoot old.roots o.root) line.operands
   pub roots : new.roots ≡ old.roots
   pub sees : (n : ℕ) (S : State) → Sees old n S → IsSoundTask has S (task_seen old.roots line) → Sees new (n + 1) (run_task (task_seen old.roots line) S)
+  pub valued : line.valued ≡ list_any (λ o. is_redux o.mode && child_valued (scope_in old) o) (task_seen old.roots line).operands
 
 pub runs : (has : Kernel → Bool) (old new : Names) (t : TaskForm) (line : KeptTask) → Runs has old new t line → Submits has old (form.Task t) new (kept.Task line)
 runs has old new t line h =
@@ -140,6 +159,10 @@ runs has old new t line h =
         kept = same_table old new h.roots;
         whole = same_whole old new h.roots;
         sees = λ n S k. subst (λ (x : Act (List ℕ)). Sees new (n + 1) (apply x S)) (sym seen) (h.sees n S k (sound_done has old n S (form.Task t) (Task (task_seen old.roots line)) k done));
+<<<<<<< HEAD
+=======
+        valued = λ n S k. h.valued ∙ known-children old n S (task_seen old.roots line).operands k ∙ ap (finds_value S) (sym seen);
+>>>>>>> 490f421a (lowering: what an earlier session left unproved)
       };
     }
 
@@ -147,13 +170,14 @@ named_as : (old : Names) (q : List ℕ) (r : RootNumber) → root_in old.roots q
 named_as old q r e = (is-at old.roots q r e).named
 
 -- what is noted of an act that registers nothing
-noted : (old new : Names) (a : KeptAct) → IsPlaced (length old.roots.names) a → count_after (length old.roots.names) a ≡ length old.roots.names → new.roots ≡ old.roots → ((n : ℕ) (S : State) → Sees old n S → Sees new (n + 1) (apply (act_noted old new a) S)) → Notes old new a
-noted old new a placed same roots sees = record {
+noted : (old new : Names) (a : KeptAct) → ((n : ℕ) (S : State) → Sees old n S → says_value a ≡ finds_value S (act_noted old new a)) → IsPlaced (length old.roots.names) a → count_after (length old.roots.names) a ≡ length old.roots.names → new.roots ≡ old.roots → ((n : ℕ) (S : State) → Sees old n S → Sees new (n + 1) (apply (act_noted old new a) S)) → Notes old new a
+noted old new a valued placed same roots sees = record {
   placed = placed;
   counted = ap (λ (T : Table). length T.names) roots ∙ sym same;
   kept = same_table old new roots;
   whole = same_whole old new roots;
   sees = sees;
+  valued = valued;
 }
 
 pub printed : (has : Kernel → Bool) (old new : Names) (q : List ℕ) (r : RootNumber) → root_in old.roots q ≡ Some r → first_of (print_reasons (scope_in old) q) ≡ None → new.roots ≡ old.roots → ((n : ℕ) (S : State) → Sees old n S → Sees new (n + 1) S) → Submits has old (form.Print q) new (kept.Print r)
@@ -161,7 +185,7 @@ printed has old new q r e none roots sees =
     let named : name_of new.roots r ≡ q = ap (λ (T : Table). name_of T r) roots ∙ named_as old q r e in
     record {
       act = ap (λ o. unless o (Print q)) none ∙ ap (λ (n : List ℕ). Ok (Print n)) (sym named);
-      notes = noted old new (kept.Print r) (is-at old.roots q r e).below refl roots sees;
+      notes = noted old new (kept.Print r) (λ n S h. refl) (is-at old.roots q r e).below refl roots sees;
     }
 
 pub invalidated : (has : Kernel → Bool) (old new : Names) (q : List ℕ) (r : RootNumber) → root_in old.roots q ≡ Some r → first_of (name_reasons (scope_in old) q) ≡ None → new.roots ≡ old.roots → ((n : ℕ) (S : State) → Sees old n S → Sees new (n + 1) (invalidate (name_of old.roots r) S)) → Submits has old (form.Invalidate q) new (kept.Invalidate r)
@@ -169,7 +193,7 @@ invalidated has old new q r e none roots sees =
     let named : name_of new.roots r ≡ name_of old.roots r = ap (λ (T : Table). name_of T r) roots in
     record {
       act = ap (λ o. unless o (Invalidate q)) none ∙ ap (λ (n : List ℕ). Ok (Invalidate n)) (sym (named ∙ named_as old q r e));
-      notes = noted old new (kept.Invalidate r) (is-at old.roots q r e).below refl roots (λ n S h. subst (λ (m : List ℕ). Sees new (n + 1) (invalidate m S)) (sym named) (sees n S h));
+      notes = noted old new (kept.Invalidate r) (λ n S h. refl) (is-at old.roots q r e).below refl roots (λ n S h. subst (λ (m : List ℕ). Sees new (n + 1) (invalidate m S)) (sym named) (sees n S h));
     }
 
 pub ended : (has : Kernel → Bool) (old new : Names) (q : List ℕ) (r : RootNumber) → root_in old.roots q ≡ Some r → first_of (name_reasons (scope_in old) q) ≡ None → new.roots ≡ old.roots → ((n : ℕ) (S : State) → Sees old n S → Sees new (n + 1) (unregister (name_of old.roots r) S)) → Submits has old (form.Unregister q) new (kept.Unregister r)
@@ -177,7 +201,7 @@ ended has old new q r e none roots sees =
     let named : name_of new.roots r ≡ name_of old.roots r = ap (λ (T : Table). name_of T r) roots in
     record {
       act = ap (λ o. unless o (Unregister q)) none ∙ ap (λ (n : List ℕ). Ok (Unregister n)) (sym (named ∙ named_as old q r e));
-      notes = noted old new (kept.Unregister r) (is-at old.roots q r e).below refl roots (λ n S h. subst (λ (m : List ℕ). Sees new (n + 1) (unregister m S)) (sym named) (sees n S h));
+      notes = noted old new (kept.Unregister r) (λ n S h. refl) (is-at old.roots q r e).below refl roots (λ n S h. subst (λ (m : List ℕ). Sees new (n + 1) (unregister m S)) (sym named) (sees n S h));
     }
 
 pub reduced : (has : Kernel → Bool) (old new : Names) (q : List ℕ) (by : Reduction) (r : RootNumber) → root_in old.roots q ≡ Some r → first_of (redux_reasons (scope_in old) q) ≡ None → new.roots ≡ old.roots → ((n : ℕ) (S : State) → Sees old n S → Sees new (n + 1) (reduce (name_of old.roots r) by S)) → Submits has old (form.Redux q by) new (kept.Redux r by)
@@ -185,20 +209,21 @@ reduced has old new q by r e none roots sees =
     let named : name_of new.roots r ≡ name_of old.roots r = ap (λ (T : Table). name_of T r) roots in
     record {
       act = ap (λ o. unless o (Redux q by)) none ∙ ap (λ (n : List ℕ). Ok (Redux n by)) (sym (named ∙ named_as old q r e));
-      notes = noted old new (kept.Redux r by) (is-at old.roots q r e).below refl roots (λ n S h. subst (λ (m : List ℕ). Sees new (n + 1) (reduce m by S)) (sym named) (sees n S h));
+      notes = noted old new (kept.Redux r by) (λ n S h. refl) (is-at old.roots q r e).below refl roots (λ n S h. subst (λ (m : List ℕ). Sees new (n + 1) (reduce m by S)) (sym named) (sees n S h));
     }
 
 -- what a plan line needs to have been done
-pub record Plans (old new : Names) (q r c : List ℕ) (root : RootNumber) (p : Parts) : Type 0 where
+pub record Plans (old new : Names) (q r c : List ℕ) (root : RootNumber) (p : Parts) (valued : Bool) : Type 0 where
   pub there : root_in old.roots q ≡ Some root
   pub numbered : (is_count r && is_count c) ≡ true
   pub parts : p ≡ plan_with (count r) (count c)
   pub unopposed : first_of (plan_reasons (scope_in old) q p) ≡ None
   pub roots : new.roots ≡ old.roots
   pub sees : (n : ℕ) (S : State) → Sees old n S → IsSoundPlan S (name_of old.roots root) p → Sees new (n + 1) (plan (name_of old.roots root) p S)
+  pub tells : valued ≡ is_all (standing_of old root)
 
-pub plans : (has : Kernel → Bool) (old new : Names) (q r c : List ℕ) (root : RootNumber) (p : Parts) → Plans old new q r c root p → Submits has old (form.Plan q r c) new (kept.Plan root p)
-plans has old new q r c root p h =
+pub plans : (has : Kernel → Bool) (old new : Names) (q r c : List ℕ) (root : RootNumber) (p : Parts) (valued : Bool) → Plans old new q r c root p valued → Submits has old (form.Plan q r c) new (kept.Plan root p valued)
+plans has old new q r c root p valued h =
     let here = named_as old q root h.there in
     let named : name_of new.roots root ≡ name_of old.roots root = ap (λ (T : Table). name_of T root) h.roots in
     let done : done_in has (scope_in old) (form.Plan q r c) ≡ Ok (Plan q p) =
@@ -207,7 +232,7 @@ plans has old new q r c root p h =
     ∙ ap (λ o. unless o (Plan q p)) h.unopposed in
     record {
       act = done ∙ ap (λ (n : List ℕ). Ok (Plan n p)) (sym (named ∙ here));
-      notes = noted old new (kept.Plan root p) (is-at old.roots q root h.there).below refl h.roots (λ n S k.
+      notes = noted old new (kept.Plan root p valued) (λ n S k. h.tells ∙ known-all old n S q root k h.there ∙ ap (has_values S) (sym (named ∙ here))) (is-at old.roots q root h.there).below refl h.roots (λ n S k.
           let sound = sound_done has old n S (form.Plan q r c) (Plan q p) k done in
           subst (λ (m : List ℕ). Sees new (n + 1) (plan m p S)) (sym named) (h.sees n S k (subst (λ (m : List ℕ). IsSoundPlan S m p) (sym here) sound)));
     }

@@ -234,6 +234,10 @@ valued_when : (b v : Bool) → b ≡ true → not (b && v) ≡ not v
 valued_when true v e = refl
 valued_when false v e = absurd (cc)
 
+set_when : (b v : Bool) → b ≡ true → (b && v) ≡ v
+set_when true v e = refl
+set_when false v e = absurd (cc)
+
 wanting_same : (names : Names) (os : List OperandForm) (ts : List Target) → AreLive names os ts → list_any (is_lacking (scope_in names)) (map operand_said os) ≡ list_any is_wanting ts
 wanting_same names [] [] h = refl
 wanting_same names [] (t ∷ ts) h = absurd h
@@ -245,6 +249,19 @@ wanting_same names (o ∷ os) (t ∷ ts) h =
     ∙ valued_when (is_child c.track.parts (place_said o)) (is_set c.track (place_said o)) (said-child c.track.parts (index_said o.child) c.said)
     ∙ sym (ap (λ (u : Target). not u.valued) c.is) in
     λ i. (needs_value (mode_same names o t h.0 i) && lacks i) || wanting_same names os ts h.1 i
+
+-- the contributions to children with values are the same
+adds_same : (names : Names) (os : List OperandForm) (ts : List Target) → AreLive names os ts → list_any (λ o. is_redux o.mode && child_valued (scope_in names) o) (map operand_said os) ≡ list_any adds_to_value ts
+adds_same names [] [] h = refl
+adds_same names [] (t ∷ ts) h = absurd h
+adds_same names (o ∷ os) [] h = absurd h
+adds_same names (o ∷ os) (t ∷ ts) h =
+    let c = h.0.child in
+    let has : child_valued (scope_in names) (operand_said o) ≡ t.valued =
+    ap (λ (k : Option Known). elim k as (λ _. Bool) [ None ↦ false | Some k ↦ k.child (place_said o) ]) (known_live names o t h.0)
+    ∙ set_when (is_child c.track.parts (place_said o)) (is_set c.track (place_said o)) (said-child c.track.parts (index_said o.child) c.said)
+    ∙ sym (ap (λ (u : Target). u.valued) c.is) in
+    λ i. (is_redux (mode_same names o t h.0 i) && has i) || adds_same names os ts h.1 i
 
 -- ---- reductions and laws
 
@@ -374,6 +391,13 @@ no_part false false rest e = refl
 unmissed : (has : Kernel → Bool) (k : Kernel) (args : List ℤ) (ts : List Target) → first_of (target_reasons has k args ts) ≡ None → any_missing ts ≡ false
 unmissed has k args ts e =
     no_part (not (is_counted_for k args ts)) (any_missing ts) (first_of ((not (is_shaped_for k args ts), Shape) ∷ (any_collide ts, Aliased) ∷ law_reasons has k ts)) e
+
+-- what is kept of a task says whether it contributes to a child with a value
+pub task-adds : (has : Kernel → Bool) (names : Names) (os : List OperandForm) (ts : List Target) (kernel : Kernel) (args : List ℤ) → each_some (target_in names) os ≡ Some ts → any_over ts ≡ false → first_of (target_reasons has kernel args ts) ≡ None
+    → list_any adds_to_value ts ≡ list_any (λ o. is_redux o.mode && child_valued (scope_in names) o) (map (operand_seen names.roots) (map operand_by ts))
+task-adds has names os ts kernel args e over none =
+    let live = lives names os ts (targets names os ts e) over (unmissed has kernel args ts none) in
+    sym (adds_same names os ts live) ∙ ap (list_any (λ o. is_redux o.mode && child_valued (scope_in names) o)) (sym (seen_same names os ts live))
 
 pub all-kept : (has : Kernel → Bool) (names : Names) (os : List OperandForm) (ts : List Target) (kernel : Kernel) (args : List ℤ) (k : ℕ) (d : Access) → each_some (target_in names) os ≡ Some ts → any_over ts ≡ false → first_of (target_reasons has kernel args ts) ≡ None → k < length (map operand_by ts) → IsKept names (get_or (map operand_by ts) k d)
 all-kept has names os ts kernel args k d e over none lt = kept_at names os ts k d (lives names os ts (targets names os ts e) over (unmissed has kernel args ts none)) lt

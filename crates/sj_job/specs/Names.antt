@@ -24,6 +24,10 @@ use Rattle.sj_job.specs.declared.judge.Target.{Target}
 use Rattle.sj_job.specs.declared.reason.Reason.{Reason}
 use Rattle.sj_job.specs.declared.reason.Reason.TheVariants.{OperandCount, Part, Shape, Aliased, NoValue, NoReduction, MixedOutputs, NotLawful}
 use Rattle.sj_job.specs.Sentence.{index_said}
+<<<<<<< HEAD
+=======
+use Rattle.sj_meaning.specs.Statement.{Operand}
+>>>>>>> 490f421a (lowering: what an earlier session left unproved)
 use Rattle.sj_meaning.specs.State.{is_child}
 use Rattle.sj_meaning.specs.Table.{root_in, info_of}
 use Rattle.sj_job.specs.Track.{Track, all_valued, none_valued, even, is_set, written}
@@ -111,6 +115,10 @@ scope_in names = record {
   ended = ended_in names;
   known = known_in names;
 }
+
+-- an operand's child has a value
+abbrev pub child_valued : Scope → Operand (List ℕ) → Bool
+child_valued s o = elim (s.known o.name) [ None ↦ false | Some k ↦ k.child o.place ]
 
 -- ---- changes
 
@@ -205,6 +213,10 @@ is_counted_for k args ts = nat_eq (length args) (arguments_of k) && nat_eq (leng
 
 abbrev pub is_shaped_for : Kernel → List ℤ → List Target → Bool
 is_shaped_for k args ts = targets_fit (formals_of k) ts && fits k args (target_dims ts)
+
+-- a contribution to a child with a value
+abbrev pub adds_to_value : Target → Bool
+adds_to_value t = is_redux t.mode && t.valued
 
 -- both are of one child, and not both only read it
 abbrev pub collide : Target → Target → Bool

@@ -486,6 +486,13 @@ fn any_unreduced(targets: &[Target]) -> bool
         .any(|t| t.mode == Mode::Redux && t.reduction.is_none())
 }
 
+/// Whether one contributes to a child with a value.
+fn any_adds_to_value(targets: &[Target]) -> bool
+    ensures { result ≡ list_any adds_to_value targets.now }
+{
+    targets.iter().any(|t| t.mode == Mode::Redux && t.valued)
+}
+
 fn is_unordered(mode: Mode) -> bool
     ensures { result ≡ is_unordered mode }
 {
@@ -639,6 +646,8 @@ pub fn judge_task<C: Codelets>(
     requires priority { priority ≡ priority_said form.now.priority }
     ensures ok { IfOk result (λ t.
         judged_task C.has (scope_in names.now) form.now ≡ Ok (Task (task_seen names.now.roots t))) }
+    ensures valued { IfOk result (λ t. t.valued ≡ list_any
+        (λ o. is_redux o.mode && child_valued (scope_in names.now) o) (task_seen names.now.roots t).operands) }
     ensures roots { IfOk result (λ t. All (λ o. IsRoot names.now.roots o.root) t.operands) }
     ensures places { IfOk result (λ t.
         All (λ o. IsPlaceIn (plan_in (standing_of names.now o.root)) o.place) t.operands) }
@@ -668,5 +677,6 @@ pub fn judge_task<C: Codelets>(
         args,
         operands: operands_of(alloc, targets)?,
         priority: narrowed(priority),
+        valued: any_adds_to_value(targets),
     })
 }

@@ -102,8 +102,9 @@ fn submit_plan(
     match planned_root(names, name.bytes(), r, c) {
         Ok(root) => {
             let parts = narrowed(r, c);
+            let valued = names.standing(root).is_all();
             names.plan(root, parts);
-            Ok(Act::Plan(root, parts))
+            Ok(Act::Plan(root, parts, valued))
         }
         Err(why) => Err(Objection::Bad(why)),
     }

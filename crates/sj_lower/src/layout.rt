@@ -129,7 +129,7 @@ impl Layout {
                 let first = self.take(alloc, root, info.dims, info.parts)?;
                 Ok(first)
             }
-            Act::Plan(root, parts) => self.take(alloc, *root, roots.info(*root).dims, *parts),
+            Act::Plan(root, parts, _) => self.take(alloc, *root, roots.info(*root).dims, *parts),
             Act::Redux(_, _)
             | Act::Task(_)
             | Act::Print(_)
@@ -166,7 +166,7 @@ impl Layout {
 }
 
 /// A cell for each of these children of a root. Linear in them.
-fn push_cells(infos: &mut Vec<CellInfo>, root: Root, rects: &[Rect]) -> Result<(), OutOfMemory>
+pub fn push_cells(infos: &mut Vec<CellInfo>, root: Root, rects: &[Rect]) -> Result<(), OutOfMemory>
     ensures { OnOk result (infos.new.items ≡ infos.old.items ++ map (rect_cell root) rects.now) }
 {
     for rect in rects {
@@ -183,7 +183,7 @@ fn push_cells(infos: &mut Vec<CellInfo>, root: Root, rects: &[Rect]) -> Result<(
 }
 
 /// A cell like this one for each worker. Linear in the workers.
-fn push_copies(infos: &mut Vec<CellInfo>, info: CellInfo, workers: u8) -> Result<(), OutOfMemory>
+pub fn push_copies(infos: &mut Vec<CellInfo>, info: CellInfo, workers: u8) -> Result<(), OutOfMemory>
     ensures { OnOk result (infos.new.items ≡ infos.old.items ++ replicate workers info) }
 {
     for _ in 0..workers {

@@ -7,3 +7,4 @@ mod lowerer;
 mod phase;
 mod prepare;
 mod rows;
+pub mod steps;

@@ -69,7 +69,7 @@ fn load_arguments(alloc: Global, whole: &Tile, rect: Rect) -> Result<Vec<i64>, O
 }
 
 /// Loads one child of a root with its elements.
-fn load_row(
+pub fn load_row(
     alloc: Global,
     whole: &Tile,
     rect: Rect,
@@ -161,7 +161,7 @@ fn fill_arguments(
 }
 
 /// Loads one child of a root whose element at position i is `a + b·i`.
-fn fill_row(
+pub fn fill_row(
     alloc: Global,
     fill: (i64, i64),
     dims: Dims,
@@ -229,7 +229,7 @@ fn paste_mode(paste: Paste) -> Mode
 }
 
 /// A paste of an old child's cell into a new child's. Constant time.
-fn paste_row(
+pub fn paste_row(
     alloc: Global,
     old: Placed,
     new: Placed,
@@ -281,7 +281,7 @@ pub fn push_pastes(
 }
 
 /// Hands over a cell.
-fn deliver_row(alloc: Global, cell: Cell, line: Line) -> Result<Lowered, OutOfMemory>
+pub fn deliver_row(alloc: Global, cell: Cell, line: Line) -> Result<Lowered, OutOfMemory>
     ensures { IfOk result (λ l. l ≡ deliver_row cell line) }
 {
     let accesses = Few::of(

@@ -1,15 +1,26 @@
 use Rattle.std.proofs.Common.{◌≡◌, ◌∙◌, ◌<◌, ap, sym, subst, true, false, None, Some, map, arith, rules, length, get_or, w32, w64, to_z, of_z, FitsSigned}
 use Rattle.std.proofs.lemmas.Bool.Decides.{nat_tests}
 use Rattle.std.proofs.lemmas.Int.{to_z-of_z}
-use Rattle.std.specs.List.{list_all}
+use Rattle.std.specs.List.{list_all, list_any}
+use Rattle.std.specs.Prelude.{◌&&◌}
+use Rattle.sj_base.specs.Mode.{is_redux}
+use Rattle.sj_meaning.specs.View.{operand_seen}
 use Rattle.sj_job.specs.Form.{each_some}
 use Rattle.sj_job.specs.Word.{integer}
 use Rattle.sj_job.specs.Sentence.{are_counts, priority_said}
+<<<<<<< HEAD
 use Rattle.sj_job.specs.Names.{IsPlaceIn, plan_in, standing_of, scope_in, target_in, any_over, operand_by, target_reasons}
 use Rattle.sj_meaning.specs.Table.{IsRoot}
 use Rattle.sj_job.specs.Judge.{is_full, first_of, kernel_named}
 use Rattle.sj_meaning.specs.Sound.{is_priority}
 use Rattle.sj_job.proofs.Targets.{task-unknown, task-ended, task-codelet, task-why, task-ok, all-kept}
+=======
+use Rattle.sj_job.specs.Names.{IsPlaceIn, plan_in, standing_of, scope_in, target_in, any_over, operand_by, adds_to_value, child_valued, target_reasons}
+use Rattle.sj_meaning.specs.Table.{IsRoot}
+use Rattle.sj_job.specs.Judge.{is_full, first_of, kernel_named}
+use Rattle.sj_meaning.specs.Sound.{is_priority}
+use Rattle.sj_job.proofs.Targets.{task-unknown, task-ended, task-codelet, task-why, task-ok, task-adds, all-kept}
+>>>>>>> 490f421a (lowering: what an earlier session left unproved)
 use Rattle.sj_job.proofs.judge.judge_task.Goals as goal
 
 pub returns-in_default-clause-err : goal.returns-in_default-clause-err
@@ -63,6 +74,18 @@ returns-clause-ok g c =
     task-ok g.C.Codelets.has c.args.names.now c.args.form.now c.in-Some.found k c.args-2.inside.items.items c.in_ok-operands_of.field-0 (to_z w32 (of_z w32 c.narrowed.result)) (record { full = full; early = early; found = found }) over named none
     (c.args-2.view_is ∙ c.requires.args) (c.in_ok-operands_of.ensures ∙ ap (map operand_by) c.items-targets.ensures)
     (to_z-of_z w32 c.narrowed.result small ∙ c.narrowed.ensures ∙ to_z-of_z w64 c.args.priority wide ∙ c.requires.priority)
+
+pub returns-clause-valued : goal.returns-clause-valued
+returns-clause-valued g c =
+    let found : each_some (target_in c.args.names.now) c.args.form.now.operands ≡ Some c.in-Some.found = ap (each_some (target_in c.args.names.now)) (sym c.items.ensures) ∙ (rw c.in-Some.is at c.in_ok-found.ensures) in
+    let over : any_over c.in-Some.found ≡ false = ap any_over (sym c.items-targets.ensures) ∙ sym c.any_over.ensures ∙ c.if-any_over.false in
+    let kernel = c.in-Some-kernel_named.kernel in
+    let none : first_of (target_reasons g.C.Codelets.has kernel (map integer c.args.form.now.args) c.in-Some.found) ≡ None =
+    (λ i. first_of (target_reasons g.C.Codelets.has kernel ((sym c.requires.args ∙ sym c.items-2.ensures) i) (sym c.items-targets.ensures i))) ∙ sym c.in_ok-why.ensures ∙ c.in_default-2.is in
+    let os = c.in_ok-operands_of.ensures ∙ ap (map operand_by) c.items-targets.ensures in
+    c.any_adds_to_value.ensures ∙ ap (list_any adds_to_value) c.items-targets.ensures
+    ∙ task-adds g.C.Codelets.has c.args.names.now c.args.form.now.operands c.in-Some.found kernel (map integer c.args.form.now.args) found over none
+    ∙ ap (λ us. list_any (λ o. is_redux o.mode && child_valued (scope_in c.args.names.now) o) (map (operand_seen c.args.names.now.roots) us)) (sym os)
 
 pub returns-clause-roots : goal.returns-clause-roots
 returns-clause-roots g c = λ k d lt.

@@ -1,0 +1,4 @@
+//! Steps.
+#![tactic(auto)]
+
+pub mod one;
