@@ -14,14 +14,10 @@ use Rattle.sj_meaning.specs.declared.job.TaskLine.{TaskLine as KeptTask}
 use Rattle.sj_meaning.specs.declared.job.Act.TheVariants.{Task as TaskOf, Print as PrintOf}
 use Rattle.sj_meaning.specs.declared.job.Act.{Act as KeptAct}
 use Rattle.sj_meaning.specs.declared.job.Statement.{Statement as Kept}
-<<<<<<< HEAD
-use Rattle.sj_meaning.specs.View.{act_seen, task_seen, statement_seen, seen_from, count_after, count_from, IsPlaced, ArePlaced}
-=======
 use Rattle.sj_meaning.specs.State.{State, start}
 use Rattle.sj_meaning.specs.Meaning.{run_from}
 use Rattle.sj_meaning.proofs.Views.{values-push}
 use Rattle.sj_meaning.specs.View.{finds_value, says_value, values_from, values_said, act_seen, task_seen, statement_seen, seen_from, count_after, count_from, IsPlaced, ArePlaced}
->>>>>>> 490f421a (lowering: what an earlier session left unproved)
 use Rattle.sj_apps.specs.declared.draft.Draft.{Draft}
 use Rattle.sj_apps.specs.Generated.{numbered, first_line, others}
 use Rattle.sj_apps.specs.Draft.{Tells, unless_same}

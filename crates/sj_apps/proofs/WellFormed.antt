@@ -102,11 +102,7 @@ pub record IsSeen (n p : ℕ) (s : Scope) (o : Operand (List ℕ)) : Type 0 wher
 abbrev form-of : Operand (List ℕ) → OperandForm
 form-of o = record { name = o.name; child = Some (decimal o.place.0, decimal o.place.1); mode = o.mode }
 
-<<<<<<< HEAD
 module _ (n p : ℕ) (few : p < 2 ^ 63) (s : Scope) where
-=======
-module _ (n p : ℕ) (few : p < bound) (s : Scope) where
->>>>>>> 490f421a (lowering: what an earlier session left unproved)
   form-says : (o : Operand (List ℕ)) → IsSeen n p s o → operand_said (form-of o) ≡ o
   form-says o h =
       let i = decimal-counts o.place.0 (omega (arith, h.place.0)) in

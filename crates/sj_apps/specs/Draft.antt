@@ -1,12 +1,8 @@
 -- A job in the making: what it says so far.
 use Rattle.std.specs.Prelude.{◌≡◌, ℕ, ◌+◌, nat_eq, if◌then◌else◌, List, [], ◌∷◌, ◌++◌, length}
 use Rattle.sj_meaning.specs.Act.{Act}
-<<<<<<< HEAD
-use Rattle.sj_meaning.specs.View.{seen_from, ArePlaced, count_from}
-=======
 use Rattle.sj_meaning.specs.State.{start}
 use Rattle.sj_meaning.specs.View.{seen_from, ArePlaced, count_from, values_from, values_said}
->>>>>>> 490f421a (lowering: what an earlier session left unproved)
 use Rattle.sj_apps.specs.declared.draft.Draft.{Draft}
 use Rattle.sj_apps.specs.Generated.{numbered, first_line, name_A, name_B, name_C, name_D}
 

@@ -18,17 +18,10 @@ use Rattle.sj_job.specs.Sees.{Sees}
 use Rattle.sj_job.specs.Reading.{statement, verdict_of, refusal, refused, IsBad, IsRefusal}
 use Rattle.sj_job.specs.Progress.{text_with}
 use Rattle.sj_job.specs.Submits.{act_noted, LineDoes, AreRead}
-<<<<<<< HEAD
-use Rattle.sj_meaning.specs.View.{act_seen, seen_from, count_after, IsPlaced}
-use Rattle.sj_job.proofs.Seen.{same_scope}
-use Rattle.sj_job.proofs.Progressing.{text_skipped, text_bad, text_does, run_from-push}
-use Rattle.sj_meaning.proofs.Views.{count-push, seen-push, length-seen, placed-push, seen-kept}
-=======
 use Rattle.sj_meaning.specs.View.{says_value, values_from, act_seen, seen_from, count_after, IsPlaced}
 use Rattle.sj_job.proofs.Seen.{same_scope}
 use Rattle.sj_job.proofs.Progressing.{text_skipped, text_bad, text_does, run_from-push}
 use Rattle.sj_meaning.proofs.Views.{count-push, seen-push, length-seen, placed-push, values-push, seen-kept}
->>>>>>> 490f421a (lowering: what an earlier session left unproved)
 
 abbrev seen : Names → List Kept → List (Statement (List ℕ))
 seen names ss = seen_from names.roots 0 ss

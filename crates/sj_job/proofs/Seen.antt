@@ -21,19 +21,11 @@ use Rattle.sj_job.specs.declared.names.Standing.{Standing}
 use Rattle.sj_job.specs.declared.names.Standing.TheVariants.{Live, Ended}
 use Rattle.sj_job.specs.declared.names.Names.{Names}
 use Rattle.sj_meaning.specs.Statement.{Operand}
-<<<<<<< HEAD
-use Rattle.sj_meaning.specs.State.{Root, State, root_of, start, is_valued, is_blank}
-use Rattle.sj_meaning.specs.Meaning.{no_values, registered_root, register, is_written, written_of, with_parts, with_elements, with_reduction, with_child, change, plan, reduce, put, put_all, invalidate, unregister}
-use Rattle.sj_job.specs.Judge.{known_of, scope_of}
-use Rattle.sj_job.specs.Names.{Found, IsCounted, IsPlaceIn, after_write, after_writes, child_written, ended_from, first_standing, found_in, invalidated, is_over, known_by, known_from, plan_in, planned, reduced, scope_in, standing_of}
-use Rattle.sj_meaning.specs.Sound.{IsSoundPlan, IsSoundRegistration}
-=======
 use Rattle.sj_meaning.specs.State.{Root, State, root_of, start, is_valued, is_blank, is_valued_child}
 use Rattle.sj_meaning.specs.Meaning.{no_values, registered_root, register, is_written, written_of, with_parts, with_elements, with_reduction, with_child, change, plan, reduce, put, put_all, invalidate, unregister}
 use Rattle.sj_job.specs.Judge.{Scope, known_of, scope_of}
 use Rattle.sj_job.specs.Names.{Found, IsCounted, IsPlaceIn, after_write, after_writes, child_written, ended_from, first_standing, found_in, invalidated, is_over, is_all, child_valued, found_at, known_by, known_from, plan_in, planned, reduced, scope_in, standing_of}
 use Rattle.sj_meaning.specs.Sound.{IsSoundPlan, IsSoundRegistration, has_values, has_child_values}
->>>>>>> 490f421a (lowering: what an earlier session left unproved)
 use Rattle.sj_meaning.specs.Table.{Table, table, a_root, name_of, info_of, root_in, IsRoot, with_root}
 use Rattle.sj_job.specs.Track.{all_valued, none_valued, even}
 use Rattle.sj_meaning.specs.View.{operand_seen, registration}

@@ -26,17 +26,6 @@ use Rattle.sj_job.specs.Sentence.{is_numbered, is_numbered_array, is_numbered_ta
 use Rattle.sj_job.specs.Word.{is_count, count}
 use Rattle.sj_meaning.specs.State.{State, plan_with}
 use Rattle.sj_meaning.specs.Meaning.{apply, register, run_task, plan, reduce, invalidate, unregister}
-<<<<<<< HEAD
-use Rattle.sj_meaning.specs.Sound.{IsSoundAct, IsSoundTask, IsSoundRegistration, IsSoundPlan}
-use Rattle.sj_job.specs.Judge.{Scope, scope_of, first_of, unless, judged, judged_task, register_reasons, plan_reasons, print_reasons, redux_reasons, name_reasons}
-use Rattle.sj_meaning.specs.Table.{Table, table, no_info, name_of, root_in, IsRoot, with_root}
-use Rattle.sj_meaning.specs.View.{registration, task_seen, act_seen, count_after, IsPlaced, Extends}
-use Rattle.sj_job.specs.Names.{scope_in}
-use Rattle.sj_job.specs.Sees.{Sees}
-use Rattle.sj_job.specs.Submits.{done_in, act_noted, Notes, Submits}
-use Rattle.sj_meaning.proofs.Finding.{is-at}
-use Rattle.sj_job.proofs.Seen.{same_scope}
-=======
 use Rattle.sj_meaning.specs.Sound.{IsSoundAct, IsSoundTask, IsSoundRegistration, IsSoundPlan, has_values}
 use Rattle.sj_job.specs.Judge.{Scope, scope_of, first_of, unless, judged, judged_task, register_reasons, plan_reasons, print_reasons, redux_reasons, name_reasons}
 use Rattle.sj_meaning.specs.Table.{Table, table, no_info, name_of, root_in, IsRoot, with_root}
@@ -46,7 +35,6 @@ use Rattle.sj_job.specs.Sees.{Sees}
 use Rattle.sj_job.specs.Submits.{done_in, act_noted, Notes, Submits}
 use Rattle.sj_meaning.proofs.Finding.{is-at}
 use Rattle.sj_job.proofs.Seen.{same_scope, known-all, known-children}
->>>>>>> 490f421a (lowering: what an earlier session left unproved)
 use Rattle.sj_job.proofs.Sounding.{sound_from_judged}
 
 pub weaker_ok : {A E : Type 0} {P Q : A → Type 0} (r : Result A E) → ((a : A) → P a → Q a) → IfOk r P → IfOk r Q
@@ -119,10 +107,7 @@ registers has old new a name info init h =
         sees = λ n S k.
             let sound = subst (λ (r : Registration (List ℕ)). IsSoundAct has S (Register r)) said (sound_done has old n S (form.Register a) (Register (registered_by a)) k done) in
             subst (λ (x : Act (List ℕ)). Sees new (n + 1) (apply x S)) (sym seen) (h.sees n S k sound);
-<<<<<<< HEAD
-=======
         valued = λ n S k. ap (finds_value S) (sym seen);
->>>>>>> 490f421a (lowering: what an earlier session left unproved)
       };
     }
 
@@ -159,10 +144,7 @@ runs has old new t line h =
         kept = same_table old new h.roots;
         whole = same_whole old new h.roots;
         sees = λ n S k. subst (λ (x : Act (List ℕ)). Sees new (n + 1) (apply x S)) (sym seen) (h.sees n S k (sound_done has old n S (form.Task t) (Task (task_seen old.roots line)) k done));
-<<<<<<< HEAD
-=======
         valued = λ n S k. h.valued ∙ known-children old n S (task_seen old.roots line).operands k ∙ ap (finds_value S) (sym seen);
->>>>>>> 490f421a (lowering: what an earlier session left unproved)
       };
     }
 

@@ -14,11 +14,7 @@ use Rattle.sj_meaning.specs.Meaning.{apply, run_from}
 use Rattle.sj_job.specs.Judge.{Scope, judged}
 use Rattle.sj_job.specs.Names.{scope_in}
 use Rattle.sj_job.specs.Reading.{verdict_of}
-<<<<<<< HEAD
-use Rattle.sj_meaning.specs.View.{act_seen, seen_from, count_after, IsPlaced, Extends, IsNumbered}
-=======
 use Rattle.sj_meaning.specs.View.{act_seen, seen_from, count_after, finds_value, says_value, IsPlaced, Extends, IsNumbered}
->>>>>>> 490f421a (lowering: what an earlier session left unproved)
 use Rattle.sj_job.specs.Sees.{Sees}
 
 -- what a form does, or the first reason against it

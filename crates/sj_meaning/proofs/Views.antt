@@ -10,13 +10,9 @@ use Rattle.sj_meaning.specs.declared.job.Statement.{Statement as Kept}
 use Rattle.sj_meaning.specs.Statement.{Operand, TaskLine}
 use Rattle.sj_meaning.specs.Act.{Act, Register, Plan, Redux, Task, Print, Invalidate, Unregister, Statement}
 use Rattle.sj_meaning.specs.Table.{Table, table, a_root, no_info, name_of}
-<<<<<<< HEAD
-use Rattle.sj_meaning.specs.View.{operand_seen, registration, act_seen, statement_seen, seen_from, count_after, count_from, IsPlaced, ArePlaced, Extends}
-=======
 use Rattle.sj_meaning.specs.State.{State}
 use Rattle.sj_meaning.specs.Meaning.{apply, run_from}
 use Rattle.sj_meaning.specs.View.{finds_value, values_from, operand_seen, registration, act_seen, statement_seen, seen_from, count_after, count_from, IsPlaced, ArePlaced, Extends}
->>>>>>> 490f421a (lowering: what an earlier session left unproved)
 use Rattle.sj_codelet.specs.Kernel.{codelet_of}
 
 -- ---- counts

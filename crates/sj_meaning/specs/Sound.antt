@@ -23,15 +23,9 @@ use Rattle.sj_meaning.specs.declared.job.Init.{Init}
 use Rattle.sj_meaning.specs.declared.job.Init.TheVariants.{Values, Fill, Nothing}
 use Rattle.sj_meaning.specs.Statement.{Register}
 use Rattle.sj_meaning.specs.Statement.{Operand, TaskLine}
-<<<<<<< HEAD
-use Rattle.sj_meaning.specs.Act.{Act}
-use Rattle.sj_meaning.specs.Act.{Register as Registers, Plan, Redux as Reduces, Task, Print, Invalidate, Unregister}
-use Rattle.sj_meaning.specs.Meaning.{written_of}
-=======
 use Rattle.sj_meaning.specs.Act.{Act, Statement}
 use Rattle.sj_meaning.specs.Act.{Register as Registers, Plan, Redux as Reduces, Task, Print, Invalidate, Unregister}
 use Rattle.sj_meaning.specs.Meaning.{written_of, apply}
->>>>>>> 490f421a (lowering: what an earlier session left unproved)
 use Rattle.sj_meaning.specs.State.{State, root_of, is_valued, is_blank, is_child, child_rect, is_valued_child}
 
 -- ---- sizes, priorities and modes

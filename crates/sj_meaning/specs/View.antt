@@ -14,12 +14,9 @@ use Rattle.sj_meaning.specs.declared.job.Job.{Job as KeptJob}
 use Rattle.sj_meaning.specs.Job.{Job, job}
 use Rattle.sj_meaning.specs.Statement.{Register as Registration, Operand, TaskLine}
 use Rattle.sj_meaning.specs.Act.{Act, Register, Plan, Redux, Task, Print, Invalidate, Unregister, Statement}
-<<<<<<< HEAD
-=======
 use Rattle.sj_meaning.specs.State.{State, start}
 use Rattle.sj_meaning.specs.Meaning.{apply}
 use Rattle.sj_meaning.specs.Sound.{has_values, has_child_values}
->>>>>>> 490f421a (lowering: what an earlier session left unproved)
 use Rattle.sj_meaning.specs.Table.{Table, table, a_root, name_of, info_of}
 
 -- an operand with the name of its root

@@ -1,8 +1,9 @@
 //! What blocks give so far: tasks and deliveries, and the phases of contributions that are open.
 
-ghost use Rattle.std.specs.Prelude.{◌≡◌, ◌+◌, ◌≤◌, List, [], ◌∷◌, None, Some, false, fold, IfOk, IfErr, OnOk};
+ghost use Rattle.std.specs.Prelude.{◌≡◌, ◌+◌, ◌≤◌, List, [], ◌∷◌, None, Some, false, true, length, fold, IfOk, IfErr, OnOk};
 ghost use Rattle.sj_base.specs.declared.ids.Cell.{Cell};
 ghost use Rattle.sj_base.specs.declared.ids.Line.{Line};
+ghost use Rattle.sj_base.specs.declared.program.Lowered.{Lowered};
 ghost use Rattle.sj_phases.specs.Does.{IsAt, HasAt, Does};
 ghost use Rattle.sj_phases.specs.Expand.{Expansion, nothing, closed, opened, begin_rows, with_own, most, program_of};
 ghost use Rattle.sj_phases.specs.Rows.{combine_rows};
@@ -54,6 +55,9 @@ impl Expander {
 
     /// Whether there is room for so many tasks more of this line; if there is none, there are too many with it. Constant time.
     pub fn has_room(&mut self, count: u64, line: Line) -> bool
+        requires at { HasAt self.old }
+        ensures room { result ≡ true → self.new ≡ self.old }
+        ensures none { (ls : List Lowered) → length ls ≡ count → result ≡ false → Does self.old self.new line (with_own ls []) }
     {
         if self.over.is_some() {
             return false;

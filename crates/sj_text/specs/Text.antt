@@ -7,10 +7,6 @@ use Rattle.sj_meaning.specs.Job.{Job}
 use Rattle.sj_job.specs.Settings.{setting_written}
 use Rattle.sj_meaning.specs.Settings.{nodes_of, policy_set, workers_of}
 use Rattle.sj_meaning.specs.Table.{Table, a_root, name_of, undivided}
-<<<<<<< HEAD
-=======
-use Rattle.sj_job.specs.declared.form.SettingForm.{SettingForm}
->>>>>>> 490f421a (lowering: what an earlier session left unproved)
 use Rattle.sj_job.specs.declared.form.SettingForm.TheVariants.{Workers, Node, Policy}
 use Rattle.sj_meaning.specs.declared.settings.Settings.{Settings}
 use Rattle.sj_plan.specs.declared.parts.Parts.{Parts}

@@ -8,19 +8,11 @@ use Rattle.sj_meaning.specs.View.{operand_seen}
 use Rattle.sj_job.specs.Form.{each_some}
 use Rattle.sj_job.specs.Word.{integer}
 use Rattle.sj_job.specs.Sentence.{are_counts, priority_said}
-<<<<<<< HEAD
-use Rattle.sj_job.specs.Names.{IsPlaceIn, plan_in, standing_of, scope_in, target_in, any_over, operand_by, target_reasons}
-use Rattle.sj_meaning.specs.Table.{IsRoot}
-use Rattle.sj_job.specs.Judge.{is_full, first_of, kernel_named}
-use Rattle.sj_meaning.specs.Sound.{is_priority}
-use Rattle.sj_job.proofs.Targets.{task-unknown, task-ended, task-codelet, task-why, task-ok, all-kept}
-=======
 use Rattle.sj_job.specs.Names.{IsPlaceIn, plan_in, standing_of, scope_in, target_in, any_over, operand_by, adds_to_value, child_valued, target_reasons}
 use Rattle.sj_meaning.specs.Table.{IsRoot}
 use Rattle.sj_job.specs.Judge.{is_full, first_of, kernel_named}
 use Rattle.sj_meaning.specs.Sound.{is_priority}
 use Rattle.sj_job.proofs.Targets.{task-unknown, task-ended, task-codelet, task-why, task-ok, task-adds, all-kept}
->>>>>>> 490f421a (lowering: what an earlier session left unproved)
 use Rattle.sj_job.proofs.judge.judge_task.Goals as goal
 
 pub returns-in_default-clause-err : goal.returns-in_default-clause-err

@@ -1,16 +1,9 @@
 use Rattle.std.proofs.Common.{◌∙◌, ap, sym}
 use Rattle.sj_job.specs.Judge.{first_of, plan_reasons}
-<<<<<<< HEAD
-use Rattle.sj_job.specs.Names.{scope_in}
-use Rattle.sj_meaning.specs.State.{plan_with}
-use Rattle.sj_meaning.specs.Table.{root_in}
-use Rattle.sj_meaning.proofs.Finding.{is-root}
-=======
 use Rattle.sj_job.specs.Names.{scope_in, is_all}
 use Rattle.sj_meaning.specs.State.{plan_with}
 use Rattle.sj_meaning.specs.Table.{root_in}
 use Rattle.sj_meaning.proofs.Finding.{is-at, is-root}
->>>>>>> 490f421a (lowering: what an earlier session left unproved)
 use Rattle.sj_job.proofs.Submitting.{plans}
 use Rattle.sj_job.proofs.submit.submit_plan.Goals as goal
 
