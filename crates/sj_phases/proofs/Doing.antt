@@ -99,13 +99,13 @@ does-where old new line f g none same p = record {
 
 -- ---- own tasks
 
-own-nothing : (E : Expansion) → E ≡ with_own [] [] E
+pub own-nothing : (E : Expansion) → E ≡ with_own [] [] E
 own-nothing E = λ i. record { tasks = sym (append-nil E.tasks) i; deliveries = sym (append-nil E.deliveries) i; phase = E.phase }
 
-own-append : (ls ms : List Lowered) (E : Expansion) → with_own ms [] (with_own ls [] E) ≡ with_own (ls ++ ms) [] E
+pub own-append : (ls ms : List Lowered) (E : Expansion) → with_own ms [] (with_own ls [] E) ≡ with_own (ls ++ ms) [] E
 own-append ls ms E = λ i. record { tasks = append_assoc E.tasks ls ms i; deliveries = append-nil (E.deliveries ++ []) i; phase = E.phase }
 
-goes-own : (ls : List Lowered) (ds : List Delivery) (E : Expansion) → GoesOn E.tasks (with_own ls ds E).tasks
+pub goes-own : (ls : List Lowered) (ds : List Delivery) (E : Expansion) → GoesOn E.tasks (with_own ls ds E).tasks
 goes-own ls ds E = (ls, refl)
 
 -- nothing is done

@@ -11,11 +11,10 @@ use Rattle.sj_meaning.specs.Numbers.{root_at}
 use Rattle.sj_phases.specs.Plain.{Opens}
 use Rattle.sj_steps.specs.Laid.{Laid, cell_of}
 use Rattle.sj_steps.specs.SoundAt.{Lives}
+use Rattle.sj_steps.specs.Whole.{AreLaid, HaveCopies}
 use Rattle.sj_steps.proofs.Contents.{task_at, contents_before}
 use Rattle.sj_steps.proofs.Folding.{Stand}
-use Rattle.sj_steps.proofs.Copying.{HaveCopies}
 use Rattle.sj_steps.proofs.Keeping.{HasCells, HaveRoots}
-use Rattle.sj_steps.proofs.Taken.{AreLaid}
 
 -- a cell whose phase is open is that of a child of its root's active plan, which has a value, and the root has that reduction
 pub record IsOpenChild (C : Laid) (rs : List Root) (c : Cell) (by : Reduction) : Type 0 where

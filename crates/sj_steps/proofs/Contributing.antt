@@ -38,12 +38,13 @@ use Rattle.sj_phases.specs.Rows.{init_row}
 use Rattle.sj_steps.specs.Laid.{Laid, Handle, handle_at, cell_of, info_at, first_copy, with_copies}
 use Rattle.sj_steps.specs.Step.{by_number, operand_cell, contributed, opening_of, task_row, task_block}
 use Rattle.sj_steps.specs.SoundAt.{Lives, IsPlaced, IsSoundTask, has_value}
+use Rattle.sj_steps.specs.Whole.{IsTaken, AreLaid, HaveCopies}
 use Rattle.sj_steps.proofs.Contents.{first_worker, task_at, contents_before, contents-next, held-same, held-other, same_cell-itself}
-use Rattle.sj_steps.proofs.Copying.{HaveCopies, IsNoCopy, by_copies, copies-copied, laid-copied}
+use Rattle.sj_steps.proofs.Copying.{IsNoCopy, by_copies, copies-copied, laid-copied}
 use Rattle.sj_steps.proofs.Doing.{the_cell, IsReady, cell-size, ready-held, holds-task}
 use Rattle.sj_steps.proofs.Folding.{Stand, after_row, after_rows, stand-append, contents-rows}
 use Rattle.sj_steps.proofs.Keeping.{HasRoot, HaveRoots, HasCells, differs, root-kept}
-use Rattle.sj_steps.proofs.Taken.{IsTaken, AreLaid, cell-inside, cell-is, cells-apart}
+use Rattle.sj_steps.proofs.Taken.{cell-inside, cell-is, cells-apart}
 
 -- ---- at most one contribution
 

@@ -18,16 +18,10 @@ use Rattle.sj_meaning.specs.Table.{a_root}
 use Rattle.sj_base.specs.declared.ids.Root.{Root}
 use Rattle.sj_steps.specs.Cells.{number, child_cell, copy_info, with_partials}
 use Rattle.sj_steps.specs.Laid.{Laid, handle_at, taking, take, with_root, no_cells, info_at, first_copy, with_copies}
+use Rattle.sj_steps.specs.Whole.{IsTaken, AreLaid, HaveCopies}
 use Rattle.sj_steps.proofs.Growing.{Grows, row_at, grows-refl, grows-append, has-row, NoneHas, append-partials}
-use Rattle.sj_steps.proofs.Taken.{IsTaken, AreLaid, Old, New, old_or_new, none_isn't, some_is, taken-root, by_first}
+use Rattle.sj_steps.proofs.Taken.{Old, New, old_or_new, none_isn't, some_is, taken-root, by_first}
 use Rattle.sj_steps.proofs.Places.{number-below}
-
--- each cell that has partial copies has so many, which are cells of their own
-pub record HaveCopies (workers : ℕ) (C : Laid) : Type 0 where
-  pub inside : (c f : Cell) → (info_at C c).partials ≡ Some f → f.0 + workers ≤ length C.rows
-  pub copy : (c f : Cell) (w : ℕ) → (info_at C c).partials ≡ Some f → w < workers → row_at C.rows (f.0 + w) ≡ copy_info (info_at C c)
-  pub apart : (c d f g : Cell) (v w : ℕ) → (info_at C c).partials ≡ Some f → (info_at C d).partials ≡ Some g → v < workers → w < workers → f.0 + v ≡ g.0 + w → c ≡ d
-  pub beside : (c f : Cell) (w : ℕ) (q : ℕ) (d : Dims) (s : Parts) (g : ℕ) (place : ℕ × ℕ) → (info_at C c).partials ≡ Some f → w < workers → IsTaken C q d s g → IsPlace s place → f.0 + w ≡ g + number s place → ⊥
 
 pub copies-none : (workers : ℕ) → HaveCopies workers no_cells
 copies-none workers = record {

@@ -36,10 +36,10 @@ use Rattle.sj_phases.specs.Plain.{direct_mode, direct_access, direct}
 use Rattle.sj_steps.specs.Laid.{Laid, cell_of}
 use Rattle.sj_steps.specs.Step.{by_number, operand_cell, access_of, task_row}
 use Rattle.sj_steps.specs.SoundAt.{Lives, IsPlaced, IsSoundTask, child_dims, has_value, modes_fit, clashes, is_aliased}
+use Rattle.sj_steps.specs.Whole.{AreLaid}
 use Rattle.sj_steps.proofs.Contents.{first_worker, task_at, same_cell-itself}
 use Rattle.sj_steps.proofs.Elements.{child-whole}
 use Rattle.sj_steps.proofs.Keeping.{HasCells, HaveRoots, Gives, GivesAll, IsOther, same_child, cell-dims, holds-put_all, holds-later, holds-same}
-use Rattle.sj_steps.proofs.Taken.{AreLaid}
 use Rattle.sj_steps.proofs.Writing.{outputs-written, all_dims, AreWhole, out_dims, out_whole, IsCall, call_of, fit_from_fits}
 
 -- ---- words

@@ -45,6 +45,7 @@ use Rattle.sj_steps.specs.Rows.{load_row, fill_row, paste_arguments, paste_row, 
 use Rattle.sj_steps.specs.SoundAt.{Lives, IsPlaced, IsSoundTask, child_dims, has_value, clashes, is_aliased}
 use Rattle.sj_steps.specs.Step.{by_number, access_of, task_row}
 use Rattle.sj_core.specs.Fold.{Contents}
+use Rattle.sj_steps.specs.Whole.{AreLaid, IsTaken}
 use Rattle.sj_steps.proofs.Contents.{task_at, same_cell-is}
 use Rattle.sj_steps.proofs.Doing.{the_cell, the_access, cell-size, kernel_there}
 use Rattle.sj_steps.proofs.Modes.{or_none, plain-modes}
@@ -53,7 +54,7 @@ use Rattle.sj_steps.proofs.Folding.{Stand, stand-append, later}
 use Rattle.sj_steps.proofs.Keeping.{HasCells, HaveRoots, cell-dims}
 use Rattle.sj_steps.proofs.Pasting.{GoesTo, pastes-begin, pastes-go, pastes-between, paste-gives}
 use Rattle.sj_steps.proofs.Places.{place-itself}
-use Rattle.sj_steps.proofs.Taken.{AreLaid, IsTaken, cell-inside, cells-apart}
+use Rattle.sj_steps.proofs.Taken.{cell-inside, cells-apart}
 
 
 

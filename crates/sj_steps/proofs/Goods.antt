@@ -38,6 +38,7 @@ use Rattle.sj_steps.specs.Laid.{Laid, handle_of, handle_at, cell_of, first_copy,
 use Rattle.sj_steps.specs.Rows.{load_rows, load_row, fill_row, paste_row, deliver_row}
 use Rattle.sj_steps.specs.SoundAt.{Lives, IsPlaced, IsSound, IsSoundTask, IsSoundRegistration, has_value}
 use Rattle.sj_steps.specs.Step.{by_number, contributed, opening_of, operand_cell, task_row, task_block, print_block, active_cells, step_of}
+use Rattle.sj_steps.specs.Whole.{IsTaken, AreLaid}
 use Rattle.sj_steps.proofs.Agrees.{Agrees}
 use Rattle.sj_steps.proofs.Contents.{task_at, contents_before}
 use Rattle.sj_steps.proofs.Contributing.{fold-handles, roots-copied}
@@ -55,7 +56,7 @@ use Rattle.sj_steps.proofs.Pasting.{rows_to, rows-by_child}
 use Rattle.sj_steps.proofs.Places.{parts-itself}
 use Rattle.sj_steps.proofs.Starting.{planned_rows}
 use Rattle.sj_steps.proofs.Stepping.{Keeps, keeps-step, direct-loads, plain-plan, direct-delivers}
-use Rattle.sj_steps.proofs.Taken.{IsTaken, AreLaid, cell-inside, cells-apart, root-there, take-keeps, take-takes}
+use Rattle.sj_steps.proofs.Taken.{cell-inside, cells-apart, root-there, take-keeps, take-takes}
 
 -- ---- loads
 

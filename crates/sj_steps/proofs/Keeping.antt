@@ -24,10 +24,11 @@ use Rattle.sj_meaning.specs.Meaning.{integers_of, child_array, with_child}
 use Rattle.sj_meaning.specs.Numbers.{no_root, root_at, change_at, put_all_at}
 use Rattle.sj_steps.specs.Laid.{Laid, cell_of}
 use Rattle.sj_steps.specs.SoundAt.{Lives}
+use Rattle.sj_steps.specs.Whole.{IsTaken, AreLaid}
 use Rattle.sj_steps.proofs.Growing.{Grows}
 use Rattle.sj_steps.proofs.Contents.{NotAmong, held-same, held-other, held-moved, same_cell-is, task_at}
 use Rattle.sj_steps.proofs.Elements.{written-whole, written-other, written-array}
-use Rattle.sj_steps.proofs.Taken.{IsTaken, AreLaid, cell-inside, cell-is, cell-row, cells-apart}
+use Rattle.sj_steps.proofs.Taken.{cell-inside, cell-is, cell-row, cells-apart}
 use Rattle.sj_steps.proofs.Places.{place-is, place-itself}
 
 -- ---- what agrees

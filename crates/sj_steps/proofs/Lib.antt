@@ -1,3 +1,5 @@
+pub mod Children
+pub mod Pushing
 pub mod Places
 pub mod Taken
 pub mod Growing

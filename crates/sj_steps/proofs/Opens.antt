@@ -36,6 +36,7 @@ use Rattle.sj_steps.specs.Cells.{number, same_parts}
 use Rattle.sj_steps.specs.Laid.{Laid, handle_of, cell_of, take, with_root, with_print, with_copies, first_copy}
 use Rattle.sj_steps.specs.SoundAt.{Lives, IsPlaced, IsSoundTask, IsSound, child_dims}
 use Rattle.sj_steps.specs.Step.{by_number, closing, contributed, opening_of, operand_cell, task_block, active_cells, step_of}
+use Rattle.sj_steps.specs.Whole.{IsTaken, AreLaid}
 use Rattle.sj_steps.proofs.Agrees.{IsOpenChild, AreOpenChildren, Agrees}
 use Rattle.sj_steps.proofs.Contributing.{fold-handles, same-cells}
 use Rattle.sj_steps.proofs.Doing.{kernel_there, new_dims, the_cell}
@@ -46,7 +47,7 @@ use Rattle.sj_steps.proofs.Operands.{Contributes, contributes-there, none-filter
 use Rattle.sj_steps.proofs.Orderly.{shut-less}
 use Rattle.sj_steps.proofs.Places.{number-below, length-places, places-at, parts-are, place-is, place-itself}
 use Rattle.sj_steps.proofs.Starting.{pushed-beside}
-use Rattle.sj_steps.proofs.Taken.{IsTaken, AreLaid, cell-is, keeps-root, take-keeps, some_is, none_isn't}
+use Rattle.sj_steps.proofs.Taken.{cell-is, keeps-root, take-keeps, some_is, none_isn't}
 use Rattle.sj_steps.proofs.Writing.{all_dims}
 
 -- ---- places and cells

@@ -55,16 +55,16 @@ use Rattle.sj_steps.specs.Laid.{Laid, cell_of, info_at, first_copy}
 use Rattle.sj_steps.specs.Rows.{load_rows, paste_row, deliver_row}
 use Rattle.sj_steps.specs.SoundAt.{Lives, IsPlaced, IsSoundTask, clashes, is_aliased}
 use Rattle.sj_steps.specs.Step.{by_number, closing, contributed, is_other_access, opening_of, operand_cell, access_of, task_row, task_block, a_delivery, print_block}
+use Rattle.sj_steps.specs.Whole.{AreLaid, IsTaken, HaveCopies}
 use Rattle.sj_steps.proofs.Agrees.{IsOpenChild, AreOpenChildren}
 use Rattle.sj_steps.proofs.Contents.{same_cell-is}
-use Rattle.sj_steps.proofs.Copying.{HaveCopies}
 use Rattle.sj_steps.proofs.Doing.{the_cell, kernel_there}
 use Rattle.sj_steps.proofs.Keeping.{HasCells, HaveRoots}
 use Rattle.sj_steps.proofs.Modes.{or_none, contribution-modes}
 use Rattle.sj_steps.proofs.Operands.{Contributes, IsRead, contributes-there, none-filter}
 use Rattle.sj_steps.proofs.Pasting.{pastes-between}
 use Rattle.sj_steps.proofs.Places.{place-itself}
-use Rattle.sj_steps.proofs.Taken.{AreLaid, IsTaken, cell-is, cell-inside, cells-apart, some_is, none_isn't}
+use Rattle.sj_steps.proofs.Taken.{cell-is, cell-inside, cells-apart, some_is, none_isn't}
 
 -- ---- a child's cell is no partial copy
 

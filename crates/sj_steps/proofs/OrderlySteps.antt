@@ -27,10 +27,11 @@ use Rattle.sj_steps.specs.Laid.{Laid, handle_of, handle_at, cell_of, info_at, fi
 use Rattle.sj_steps.specs.Rows.{load_rows, paste_row}
 use Rattle.sj_steps.specs.SoundAt.{Lives, IsPlaced, IsSound, IsSoundTask, IsSoundRegistration}
 use Rattle.sj_steps.specs.Step.{by_number, closing, contributed, operand_cell, task_block, plan_block, active_cells, step_of}
+use Rattle.sj_steps.specs.Whole.{IsTaken, AreLaid, HaveCopies}
 use Rattle.sj_steps.proofs.Agrees.{IsOpenChild, AreOpenChildren, Agrees}
 use Rattle.sj_steps.proofs.Contents.{contents_before}
 use Rattle.sj_steps.proofs.Contributing.{fold-handles, same-cells, roots-copied}
-use Rattle.sj_steps.proofs.Copying.{HaveCopies, copied-first}
+use Rattle.sj_steps.proofs.Copying.{copied-first}
 use Rattle.sj_steps.proofs.Doing.{kernel_there, the_cell}
 use Rattle.sj_steps.proofs.Following.{IsAt}
 use Rattle.sj_steps.proofs.Keeping.{HasCells, HaveRoots, lives-below}
@@ -39,7 +40,7 @@ use Rattle.sj_steps.proofs.Operands.{Contributes, contributes-there}
 use Rattle.sj_steps.proofs.Orderly.{orderly-nothing, orderly-loads, orderly-pastes, orderly-direct, orderly-gift, orderly-prints}
 use Rattle.sj_steps.proofs.Places.{parts-itself}
 use Rattle.sj_steps.proofs.Stepping.{Keeps, keeps-step}
-use Rattle.sj_steps.proofs.Taken.{IsTaken, AreLaid, cell-inside, cells-apart, root-there, keeps-root, take-keeps, take-takes, some_is, none_isn't}
+use Rattle.sj_steps.proofs.Taken.{cell-inside, cells-apart, root-there, keeps-root, take-keeps, take-takes, some_is, none_isn't}
 
 -- a child's cell on which no phase is open: no open child is that of its root and plan
 not-open : (C D : Laid) (rs : List Root) (was : Opens) (m : ℕ) (d : Dims) (s : Parts) (f : ℕ) (place : ℕ × ℕ) → AreLaid D → AreOpenChildren C rs was → ((i : ℕ) → Lives rs i → (g : ℕ) × IsTaken C i (root_at rs i).dims (root_at rs i).parts g × IsTaken D i (root_at rs i).dims (root_at rs i).parts g)

@@ -38,9 +38,9 @@ use Rattle.sj_steps.specs.Laid.{Laid, info_at}
 use Rattle.sj_steps.specs.Cells.{copy_info}
 use Rattle.sj_steps.specs.SoundAt.{AreSound}
 use Rattle.sj_steps.specs.Step.{by_number, Step, step_of, steps_from}
+use Rattle.sj_steps.specs.Whole.{HaveCopies}
 use Rattle.sj_steps.proofs.Agrees.{Agrees}
 use Rattle.sj_steps.proofs.Contents.{task_at}
-use Rattle.sj_steps.proofs.Copying.{HaveCopies}
 use Rattle.sj_steps.proofs.Folding.{Stand, stand-append}
 use Rattle.sj_steps.proofs.Following.{IsAt, AllAgree, rows_from, laid_from}
 use Rattle.sj_steps.proofs.Good.{AreGood, IsGood, good-append, good-at}

@@ -33,13 +33,14 @@ use Rattle.sj_steps.specs.Cells.{same_parts}
 use Rattle.sj_steps.specs.Laid.{Laid, handle_of, handle_at, cell_of, take, with_root}
 use Rattle.sj_steps.specs.Rows.{load_row, fill_row, fill_arguments, paste_row, load_rows}
 use Rattle.sj_steps.specs.SoundAt.{Lives, IsSoundRegistration, IsSoundPlan}
+use Rattle.sj_steps.specs.Whole.{IsTaken, AreLaid, HaveCopies}
 use Rattle.sj_steps.proofs.Contents.{task_at, contents_before}
-use Rattle.sj_steps.proofs.Copying.{HaveCopies, copies-root, copies-take}
+use Rattle.sj_steps.proofs.Copying.{copies-root, copies-take}
 use Rattle.sj_steps.proofs.Elements.{child-within, child-window, valued-child, blank-child, no_values-blank, unwrapped, filled-window}
 use Rattle.sj_steps.proofs.Filling.{AreFilled, HaveOwn, rows-filled, rows-give, blocks-give, after_load, after_fill, gives_own}
 use Rattle.sj_steps.proofs.Folding.{Stand, after_rows, contents-rows, one_gives, given-rows}
 use Rattle.sj_steps.proofs.Keeping.{IsHeld, HasRoot, HaveRoots, HasCells, differs, root-kept, held-kept, cell-dims, lives-below, changed-here, changed-beside}
-use Rattle.sj_steps.proofs.Taken.{IsTaken, AreLaid, cells-apart, laid-root, laid-take, keeps-root, root-there, take-keeps, take-takes, take-handles}
+use Rattle.sj_steps.proofs.Taken.{cells-apart, laid-root, laid-take, keeps-root, root-there, take-keeps, take-takes, take-handles}
 use Rattle.sj_steps.proofs.Pasting.{rows_to, rows-by_child, pastes-filled, pastes-give}
 use Rattle.sj_steps.proofs.Places.{parts-are, parts-itself}
 

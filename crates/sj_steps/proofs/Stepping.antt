@@ -40,17 +40,16 @@ use Rattle.sj_steps.specs.Laid.{Laid, handle_at, cell_of, take, with_root, with_
 use Rattle.sj_steps.specs.Rows.{load_row, fill_row, paste_arguments, paste_row, deliver_row, load_rows}
 use Rattle.sj_steps.specs.SoundAt.{Lives, IsPlaced, IsSound}
 use Rattle.sj_steps.specs.Step.{by_number, active_cells, closing, plan_block, print_block, contributed, step_of}
+use Rattle.sj_steps.specs.Whole.{IsTaken, AreLaid, HaveCopies}
 use Rattle.sj_steps.proofs.Agrees.{Agrees, AreOpenChildren}
 use Rattle.sj_steps.proofs.Contents.{contents_before}
 use Rattle.sj_steps.proofs.Contributing.{fold-handles, laid-contributed, of_redux, roots-task}
-use Rattle.sj_steps.proofs.Copying.{HaveCopies}
 use Rattle.sj_steps.proofs.Doing.{the_cell}
 use Rattle.sj_steps.proofs.Elements.{blank-child, no_values-blank}
 use Rattle.sj_steps.proofs.Filling.{after_delivers}
 use Rattle.sj_steps.proofs.Folding.{Stand, after_rows, contents-rows}
 use Rattle.sj_steps.proofs.Keeping.{HasRoot, HaveRoots, HasCells, root-kept, holds-later, lives-below, changed-here, changed-beside}
 use Rattle.sj_steps.proofs.Starting.{planned_rows, laid-registered, copies-registered, counted-registered, roots-registered, laid-planned, copies-planned, counted-planned, roots-planned}
-use Rattle.sj_steps.proofs.Taken.{IsTaken, AreLaid}
 use Rattle.std.specs.List.{AllByRecursion}
 
 -- ---- the tasks that no task line names are what they are without phases

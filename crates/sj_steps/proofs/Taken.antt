@@ -20,6 +20,7 @@ use Rattle.sj_meaning.specs.Table.{a_root}
 use Rattle.sj_steps.specs.Cells.{number}
 use Rattle.sj_steps.specs.Cells.{same_parts, child_cell}
 use Rattle.sj_steps.specs.Laid.{Laid, Handle, handle_of, handle_at, cell_of, taking, take, with_root, with_print, no_cells}
+use Rattle.sj_steps.specs.Whole.{IsTaken, AreLaid}
 use Rattle.sj_steps.proofs.Places.{parts-are, parts-itself, number-below, number-apart, length-places, places-at}
 
 pub some_is : {X : Type 0} (x y : X) → Some x ≡ Some y → x ≡ y
@@ -29,19 +30,6 @@ pub none_isn't : {X : Type 0} (x : X) → None ≡ Some x → ⊥
 none_isn't x e = absurd (cc)
 
 -- ---- what is laid
-
--- a root of these dimensions has taken the plan, and its first cell is that
-pub record IsTaken (C : Laid) (n : ℕ) (d : Dims) (s : Parts) (f : ℕ) : Type 0 where
-  pub dims : (handle_at C n).dims ≡ d
-  pub first : (handle_at C n).first s ≡ Some f
-
-pub record AreLaid (C : Laid) : Type 0 where
-  pub fits : (n : ℕ) (d : Dims) (s : Parts) (f : ℕ) → IsTaken C n d s f → Fits s d
-  pub inside : (n : ℕ) (d : Dims) (s : Parts) (f : ℕ) → IsTaken C n d s f → f + s.r * s.c ≤ length C.rows
-  pub row : (n : ℕ) (d : Dims) (s : Parts) (f : ℕ) (place : ℕ × ℕ) → IsTaken C n d s f → IsPlace s place → (get_or C.rows (f + number s place) no_cell).dims ≡ dims_of (child d s place)
-  pub apart : (n m : ℕ) (d e : Dims) (s t : Parts) (f g : ℕ) (place other : ℕ × ℕ) → IsTaken C n d s f → IsTaken C m e t g → IsPlace s place → IsPlace t other → f + number s place ≡ g + number t other → (n ≡ m) × (s ≡ t) × (place ≡ other)
-  pub sized : (n : ℕ) → area (handle_at C n).dims ≤ 16777216
-  pub small : All (λ (i : CellInfo). area i.dims ≤ 2 ^ 24) C.rows
 
 -- the same of the cell of a child
 pub cell-is : (C : Laid) (n : ℕ) (d : Dims) (s : Parts) (f : ℕ) (place : ℕ × ℕ) → IsTaken C n d s f → (cell_of C n s place).0 ≡ f + number s place

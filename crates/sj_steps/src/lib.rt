@@ -1,4 +1,6 @@
-//! Steps.
+//! What the statements of a job give, one after another, by the numbers of its roots: cells, and blocks of tasks.
 #![tactic(auto)]
 
-pub mod one;
+pub mod layout;
+pub mod pushes;
+pub mod rows;
