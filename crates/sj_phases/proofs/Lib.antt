@@ -16,3 +16,4 @@ pub mod Delivered
 pub mod Expanded
 pub mod Doing
 pub mod Worked
+pub mod Fewer

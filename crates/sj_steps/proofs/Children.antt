@@ -42,7 +42,7 @@ use Rattle.sj_steps.proofs.Places.{place_at, place_at-inside, length-places, num
 abbrev pub first_children : {X : Type 0} → (ℕ × ℕ → X) → Parts → ℕ → List X
 first_children f p n = map (λ k. f (place_at p k)) (range_with_len 0 n)
 
-listed : {X : Type 0} (f : ℕ × ℕ → X) (p : Parts) → map f (places p) ≡ first_children f p (children_count p)
+pub listed : {X : Type 0} (f : ℕ × ℕ → X) (p : Parts) → map f (places p) ≡ first_children f p (children_count p)
 listed f p =
     let g = λ (k : ℕ). f (place_at p k) in
     same_lists (map f (places p)) (first_children f p (children_count p)) (length-places f p ∙ sym (length-map-range_with_len g 0 (children_count p))) (λ k d here.

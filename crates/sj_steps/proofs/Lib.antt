@@ -32,3 +32,9 @@ pub mod Proving
 pub mod Printing
 pub mod Naming
 pub mod Lowers
+pub mod Known
+pub mod Laying
+pub mod Finding
+pub mod Arms
+pub mod Values
+pub mod Running

@@ -1,5 +1,5 @@
 -- What a kept job is lowered to, by its names, is proper and delivers what it prints.
-use Rattle.std.proofs.Common.{◌≡◌, ℕ, suc, ◌+◌, ◌<◌, ◌≤◌, ◌^◌, Bool, List, [], ◌∷◌, ◌++◌, length, map, fold, drop, get_or, refl, sym, ap, subst, ◌∙◌, arith, drop-cons}
+use Rattle.std.proofs.Common.{◌≡◌, ℕ, suc, ◌+◌, ◌<◌, ◌≤◌, ◌^◌, Bool, List, [], ◌∷◌, ◌++◌, All, length, map, fold, drop, get_or, refl, sym, ap, subst, ◌∙◌, arith, drop-cons}
 use Rattle.std.proofs.lemmas.List.{drop_all}
 use Rattle.sj_base.specs.declared.ids.Line.{Line}
 use Rattle.sj_base.specs.declared.program.Program.{Program}
@@ -16,7 +16,7 @@ use Rattle.sj_meaning.specs.Meaning.{apply, printed}
 use Rattle.sj_meaning.specs.Numbers.{name_at, statement_by, statements_from, act_at, apply_at, printed_at}
 use Rattle.sj_meaning.specs.Sound.{AreSound as AreSoundByName}
 use Rattle.sj_meaning.specs.Table.{Table, AreDistinct}
-use Rattle.sj_meaning.specs.View.{act_seen, seen_from, count_after, count_from, ArePlaced, IsNumbered}
+use Rattle.sj_meaning.specs.View.{act_seen, seen_from, count_after, count_from, values_from, ArePlaced, IsNumbered}
 use Rattle.sj_meaning.proofs.Mirroring.{AreTimely, printed-by, printed_as as found_as}
 use Rattle.sj_meaning.proofs.Timely.{statements-named, timely}
 use Rattle.sj_meaning.proofs.Views.{counts-grow}
@@ -31,8 +31,13 @@ use Rattle.sj_steps.specs.Step.{by_name, by_number, names_in, names_of, Step, st
 use Rattle.sj_steps.proofs.Following.{laid_from}
 use Rattle.sj_steps.proofs.Naming.{mirror-start, AreSilent, sounds-at, AreTold, IsTold, knows-none, all-known}
 use Rattle.sj_steps.proofs.Printing.{delivers-printed}
-use Rattle.sj_steps.proofs.Proving.{blocks, are-delivered, is-proper, hands-over, all}
+use Rattle.sj_steps.proofs.Proving.{blocks, orderly, are-delivered, is-proper, hands-over, all}
 use Rattle.sj_steps.proofs.Speaking.{steps-same}
+use Rattle.sj_steps.proofs.Known.{IsKnown, HasOwn, known-all}
+use Rattle.sj_steps.proofs.Running.{are-ready}
+use Rattle.sj_steps.proofs.Values.{values-same}
+use Rattle.sj_phases.proofs.Fewer.{few-plain}
+use Rattle.sj_steps.specs.Running.{AreReady, steps_at}
 
 -- ---- the names of a numbered job are those of its table
 
@@ -114,13 +119,41 @@ module _ (T : Table) (kss : List Kept) (d : AreDistinct T.names) (numbered : IsN
   pub delivered : IsDelivered p.tasks p.deliveries
   delivered = subst (λ (x : Program). IsDelivered x.tasks x.deliveries) (sym program-is) (are-delivered has workers ns line sound-here)
 
-  pub proper : length (plain_program rows workers bs).tasks ≤ 2 ^ 22 → length rows ≤ 2 ^ 22 → length (expand workers nothing bs).tasks ≤ 2 ^ 22 → Proper p
-  proper few_plain few_cells few = subst Proper (sym program-is) (is-proper has workers ns line sound-here few_plain few_cells few)
+  abbrev q : Program
+  q = plain_program rows workers bs
 
-  pub delivers : length (plain_program rows workers bs).tasks ≤ 2 ^ 22 → length rows ≤ 2 ^ 22 → length (expand workers nothing bs).tasks ≤ 2 ^ 22 → IsLawful has p → 0 < workers → DeliversPrinted T p ss
-  delivers few_plain few_cells few lawful staffed =
+  few-here : length (expand workers nothing bs).tasks ≤ 2 ^ 22 → length q.tasks ≤ 2 ^ 22
+  few-here few = omega (arith, few, few-plain q rows workers bs (orderly has workers ns line sound-here))
+
+  pub proper : length rows ≤ 2 ^ 22 → length (expand workers nothing bs).tasks ≤ 2 ^ 22 → Proper p
+  proper few_cells few = subst Proper (sym program-is) (is-proper has workers ns line sound-here (few-here few) few_cells few)
+
+  -- it is so of p within the limits
+  pub proper-few : length p.cells ≤ 2 ^ 22 → length p.tasks ≤ 2 ^ 22 → Proper p
+  proper-few few_cells few =
+      proper (subst (λ (x : Program). length x.cells ≤ 2 ^ 22) program-is few_cells) (subst (λ (x : Program). length x.tasks ≤ 2 ^ 22) program-is few)
+
+  pub delivers : length p.cells ≤ 2 ^ 22 → length p.tasks ≤ 2 ^ 22 → IsLawful has p → 0 < workers → DeliversPrinted T p ss
+  delivers cells tasks lawful staffed =
+      let few_cells : length rows ≤ 2 ^ 22 = subst (λ (x : Program). length x.cells ≤ 2 ^ 22) program-is cells in
+      let few : length (expand workers nothing bs).tasks ≤ 2 ^ 22 = subst (λ (x : Program). length x.tasks ≤ 2 ^ 22) program-is tasks in
       subst (λ (x : Program). DeliversPrinted T x ss) (sym program-is)
       (delivers-printed T (Rattle.sj_phases.specs.Law.program_by rows workers bs) ss (printed_at [] ns)
-      (hands-over has workers ns line sound-here few_plain few_cells few (subst (IsLawful has) program-is lawful) staffed)
+      (hands-over has workers ns line sound-here (few-here few) few_cells few (subst (IsLawful has) program-is lawful) staffed)
       printed-same
-      (all-known T has (plain_program rows workers bs) ns no_cells [] 0 none_open sound-here (told-all T 0 kss (omega (arith, numbered.counted))) (knows-none T) (all has workers ns line sound-here)))
+      (all-known T has q ns no_cells [] 0 none_open sound-here (told-all T 0 kss (omega (arith, numbered.counted))) (knows-none T) (all has workers ns line sound-here)))
+
+  -- the set has its codelets
+  pub known : HasOwn has → All (IsKnown has) p.tasks
+  known own = subst (λ (x : Program). All (IsKnown has) x.tasks) (sym program-is) (known-all has workers ns [] no_cells (length rows) line own sound-here)
+
+  -- each statement may come next, for the code
+  pub ready : length T.names ≤ 4096 → AreReady T workers [] no_cells nothing kss
+  ready table =
+      are-ready T has q kss [] no_cells nothing 0 none_open table (omega (arith, numbered.counted)) sound-here (told-all T 0 kss (omega (arith, numbered.counted))) (knows-none T)
+      (numbered.valued ∙ ap (values_from start) (statements-named T 0 kss) ∙ values-same T.names d ns start [] (mirror-start T.names) in-time)
+      (all has workers ns line sound-here) (omega arith)
+
+  -- the steps by names are those that the code goes through
+  pub steps-are : steps_of workers ss ≡ steps_at workers [] no_cells T kss
+  steps-are = same-steps

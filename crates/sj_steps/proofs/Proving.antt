@@ -105,7 +105,7 @@ module _ (has : Kernel → Bool) (workers : ℕ) (ss : List (Statement ℕ)) (li
   orderly-before : AreOrderly before none_open own
   orderly-before = orderly-all has before ss no_cells [] 0 none_open sound (agrees-all has before ss sound refl (plain-tasks workers ss [] no_cells start))
 
-  orderly : AreOrderly q none_open blocks
+  pub orderly : AreOrderly q none_open blocks
   orderly = orderly-last q none_open own (last_block (length rows) line) (orderly-all has q ss no_cells [] 0 none_open sound all) (ends-orderly q (length rows) line)
 
   pub are-delivered : IsDelivered (program_by rows workers blocks).tasks (program_by rows workers blocks).deliveries

@@ -51,7 +51,7 @@ module _ (names : List (List ℕ)) (d : AreDistinct names) (S : State) (rs : Lis
   There o = IsThere names S o.name
 
   -- what is looked up of a root by name is that of its number
-  looked : {A : Type 0} (none : A) (f : Root → A) (n : ℕ) → IsThere names S n → (elim (root_of S (name_at names n)) as (λ _. A) [ None ↦ none | Some r ↦ f r ]) ≡ f (root_at rs n)
+  pub looked : {A : Type 0} (none : A) (f : Root → A) (n : ℕ) → IsThere names S n → (elim (root_of S (name_at names n)) as (λ _. A) [ None ↦ none | Some r ↦ f r ]) ≡ f (root_at rs n)
   looked {A} none f n h = ap (λ (o : Option Root). elim o as (λ _. A) [ None ↦ none | Some r ↦ f r ]) h.is ∙ ap f (sym (root-there names S rs n m h))
 
   lives : (n : ℕ) → IsThere names S n → Lives rs n

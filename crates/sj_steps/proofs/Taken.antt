@@ -111,13 +111,13 @@ pub data IsOldOrNew (C : Laid) (n : ℕ) (p : Parts) (m : ℕ) (d : Dims) (s : P
   New : n ≡ m → p ≡ s → (handle_at C n).dims ≡ d → f ≡ length C.rows → IsOldOrNew C n p m d s f
 
 -- the handle of a root that takes a plan
-abbrev Took : Laid → ℕ → Parts → Handle
+abbrev pub Took : Laid → ℕ → Parts → Handle
 Took C n p = record { dims = (handle_at C n).dims; first = λ q. cond (same_parts p q) (Some (length C.rows)) ((handle_at C n).first q) }
 
-took-there : (C : Laid) (n : ℕ) (p : Parts) → n < length C.handles → handle_at (taking n p C) n ≡ Took C n p
+pub took-there : (C : Laid) (n : ℕ) (p : Parts) → n < length C.handles → handle_at (taking n p C) n ≡ Took C n p
 took-there C n p lt = get_or-set_same C.handles n (Took C n p) _ lt
 
-took-other : (C : Laid) (n : ℕ) (p : Parts) (m : ℕ) → (m ≡ n → ⊥) → handle_at (taking n p C) m ≡ handle_at C m
+pub took-other : (C : Laid) (n : ℕ) (p : Parts) (m : ℕ) → (m ≡ n → ⊥) → handle_at (taking n p C) m ≡ handle_at C m
 took-other C n p m other = get_or-set_other C.handles n m (Took C n p) _ other
 
 pub old_or_new : (C : Laid) (n : ℕ) (p : Parts) → n < length C.handles → (m : ℕ) (d : Dims) (s : Parts) (f : ℕ) → IsTaken (taking n p C) m d s f → IsOldOrNew C n p m d s f
@@ -134,7 +134,7 @@ old_or_new C n p lt m d s f k = elim (cases_eq m n) as (λ _. IsOldOrNew C n p m
     by_plan true t e dims first = New (sym e) (parts-are p s t) dims (sym (some_is (length C.rows) f first))
     by_plan false t e dims first = Old (record { dims = ap (λ i. (handle_at C i).dims) e ∙ dims; first = ap (λ i. (handle_at C i).first s) e ∙ first })
 
-longer : (C : Laid) (n : ℕ) (p : Parts) → length (taking n p C).rows ≡ length C.rows + p.r * p.c
+pub longer : (C : Laid) (n : ℕ) (p : Parts) → length (taking n p C).rows ≡ length C.rows + p.r * p.c
 longer C n p = length-append C.rows (each_of (child_cell (a_root n) (handle_at C n).dims p) (places p)) ∙ ap (λ i. length C.rows + i) (length-places (child_cell (a_root n) (handle_at C n).dims p) p)
 
 child_area : (d : Dims) (p : Parts) (place : ℕ × ℕ) → IsPlace p place → area (dims_of (child d p place)) ≤ area d

@@ -1,6 +1,6 @@
 -- What the code has of the statements so far, and what each of its steps does.
-use Rattle.std.specs.Prelude.{◌≡◌, ◌<◌, ◌≤◌, ◌+◌, ℕ, Bool, ◌&&◌, not, nat_eq, None, Some, Unit, List, map, length, vec_len, All}
-use Rattle.std.specs.List.{slice_index_or, list_any}
+use Rattle.std.specs.Prelude.{◌≡◌, ◌<◌, ◌≤◌, ◌+◌, ℕ, Bool, ◌&&◌, not, nat_eq, None, Some, List, map, length, vec_len, All}
+use Rattle.std.specs.List.{slice_index_or}
 use Rattle.indexmap.specs.IndexMap.{get}
 use Rattle.sj_base.specs.declared.ids.Cell.{Cell}
 use Rattle.sj_base.specs.declared.ids.Line.{Line}

@@ -5,4 +5,6 @@ pub mod Step
 pub mod SoundAt
 pub mod Whole
 pub mod Follows
+pub mod Adds
+pub mod Running
 pub mod Delivering

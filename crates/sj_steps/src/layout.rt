@@ -1,7 +1,7 @@
 //! The cells of a job's roots: a plan's children get cells when their root first takes the plan, and a cell gets partial copies
 //! when it is first contributed to.
 
-ghost use Rattle.std.specs.Prelude.{◌≡◌, ◌<◌, ◌≤◌, ◌++◌, ◌∷◌, [], Some, All, List, length, map, replicate, vec_len, IfOk, IfSome, IfNone, OnOk};
+ghost use Rattle.std.specs.Prelude.{◌≡◌, ◌<◌, ◌≤◌, ◌++◌, ◌∷◌, [], Some, All, List, ℕ, length, map, replicate, vec_len, IfOk, IfSome, IfNone, OnOk};
 ghost use Rattle.sj_plan.specs.Parts.{Fits};
 ghost use Rattle.sj_meaning.specs.State.{Root as RootNow};
 ghost use Rattle.sj_meaning.specs.Statement.{Register};
