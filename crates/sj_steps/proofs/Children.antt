@@ -34,6 +34,9 @@ use Rattle.sj_phases.specs.declared.expander.Expander.{Expander}
 use Rattle.sj_phases.specs.Does.{HasAt, Does}
 use Rattle.sj_phases.specs.Expand.{Expansion, with_own, moved}
 use Rattle.sj_phases.proofs.Doing.{does-then, does-as, does-start, does-more, goes-own}
+use Rattle.sj_steps.specs.declared.rows.Placed.{Placed}
+use Rattle.sj_steps.specs.Adds.{cells_after}
+use Rattle.sj_steps.specs.Follows.{cells_by}
 use Rattle.sj_steps.specs.Step.{a_delivery}
 use Rattle.sj_steps.specs.Cells.{cells_from}
 use Rattle.sj_steps.proofs.Places.{place_at, place_at-inside, length-places, number-place_at, places-by_number}
@@ -197,3 +200,7 @@ one-load xs d p first line fits one long =
     ∙ ap (λ (r : Rect). load_row xs d r (mk (first + 0)) line ∷ []) (child-whole d)
     ∙ ap (λ ys. own_task Load ys (an_access W (mk (first + 0)) ∷ []) line ∷ []) (window-whole d xs long)
     ∙ ap (λ n. own_task Load xs (an_access W (mk n) ∷ []) line ∷ []) (let e : first + 0 ≡ first = omega arith in e)
+
+-- the cells of a plan's children stand one after another
+pub cells-listed : (x : Placed) → cells_after x.first (children_count x.parts) ≡ cells_by x
+cells-listed x = (λ i. map (λ k. cell-at x.first x.parts k i) (range_with_len 0 (children_count x.parts))) ∙ sym (listed (cells_from x.first x.parts) x.parts)

@@ -1,5 +1,5 @@
 -- The code's layout is that of the definition, after a root takes a plan or a cell gets its partial copies.
-use Rattle.std.proofs.Common.{◌≡◌, ℕ, ◌+◌, ◌*◌, ◌<◌, ◌≤◌, Bool, true, false, cond, ◌&&◌, Option, Some, None, List, [], ◌∷◌, ◌++◌, length, map as each_of, get_or, refl, sym, ap, subst, ◌∙◌, inl, inr, arith, length-append, get_or-set_same, get_or-set_other}
+use Rattle.std.proofs.Common.{◌≡◌, ℕ, ◌+◌, ◌*◌, ◌<◌, ◌≤◌, Bool, true, false, cond, ◌&&◌, Option, Some, None, List, [], ◌∷◌, ◌++◌, length, map as each_of, fold, get_or, refl, sym, ap, subst, ◌∙◌, inl, inr, arith, length-append, get_or-set_same, get_or-set_other}
 use Rattle.std.specs.Prelude.{nat_eq, replicate, set, unwrap_or}
 use Rattle.std.specs.Option.{is_some}
 use Rattle.std.proofs.Math.Seq.{get_or-append_seam}
@@ -286,3 +286,12 @@ is-inside l workers rs C o follows whole lives place = record {
   has = has-cells l workers rs C o.root.0 follows whole lives;
   place = subst (λ (p : Parts). IsPlace p o.place) (sym (follows.active.each o.root.0 lives).parts) place;
 }
+
+-- ---- print statements
+
+pub take-prints : (C : Laid) (n : ℕ) (p : Parts) → (take n p C).prints ≡ C.prints
+take-prints C n p = by_first C n p (λ (D : Laid). D.prints ≡ C.prints) (λ f e. refl) (λ e. refl)
+
+pub copies-prints : (w : ℕ) (cs : List Cell) (C : Laid) → (fold (with_copies w) C cs).prints ≡ C.prints
+copies-prints w [] C = refl
+copies-prints w (c ∷ cs) C = copies-prints w cs (with_copies w C c) ∙ by_copies w c C (λ (D : Laid). D.prints ≡ C.prints) (λ f e. refl) (λ e. refl)

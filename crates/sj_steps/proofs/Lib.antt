@@ -38,3 +38,5 @@ pub mod Finding
 pub mod Arms
 pub mod Values
 pub mod Running
+pub mod Statements
+pub mod Tasking

@@ -33,11 +33,10 @@ use Rattle.sj_steps.specs.SoundAt.{IsSound, AreSound, Lives}
 use Rattle.sj_steps.specs.Step.{Step, by_number, closing, step_of, steps_from, laid_by, last_line, blocks_by, program_by, cells_above, tasks_above, operand_cell, contributed, active_cells}
 use Rattle.sj_steps.specs.Whole.{IsWhole}
 use Rattle.sj_steps.proofs.Agrees.{Agrees}
-use Rattle.sj_steps.proofs.Copying.{by_copies}
+use Rattle.sj_steps.proofs.Laying.{take-prints, copies-prints}
 use Rattle.sj_steps.proofs.Following.{AllAgree}
 use Rattle.sj_steps.proofs.Naming.{Knows, IsTold, AreTold, knows-apply}
 use Rattle.sj_steps.proofs.Places.{length-places}
-use Rattle.sj_steps.proofs.Taken.{by_first}
 use Rattle.sj_steps.proofs.Values.{values_at}
 use Rattle.sj_steps.specs.Rows.{deliver_row, paste_row}
 use Rattle.sj_steps.specs.Cells.{same_parts}
@@ -50,13 +49,6 @@ whole-of : (q : Program) (C : Laid) (rs : List Root) (n : ℕ) (was : Opens) →
 whole-of q C rs n was g = record { laid = g.laid; copies = g.copies; counted = g.counted; taken = λ m lives. let r = g.roots m lives in (r.first, r.taken) }
 
 -- ---- each print statement gives a task
-
-take-prints : (C : Laid) (n : ℕ) (p : Parts) → (take n p C).prints ≡ C.prints
-take-prints C n p = by_first C n p (λ (D : Laid). D.prints ≡ C.prints) (λ f e. refl) (λ e. refl)
-
-copies-prints : (w : ℕ) (cs : List Cell) (C : Laid) → (fold (with_copies w) C cs).prints ≡ C.prints
-copies-prints w [] C = refl
-copies-prints w (c ∷ cs) C = copies-prints w cs (with_copies w C c) ∙ by_copies w c C (λ (D : Laid). D.prints ≡ C.prints) (λ f e. refl) (λ e. refl)
 
 positive : (a b : ℕ) → 0 < a → 0 < b → 0 < a * b
 positive a b h k = grind arith
