@@ -63,7 +63,7 @@ all-pushed f p start now n last e = e ∙ ap (λ m. start ++ first_children f p 
 -- so it is of tasks that an expander takes
 pub does-child : (f : ℕ × ℕ → Lowered) (p : Parts) (a b c : Expander) (line : Line) (l : Lowered) (n : ℕ) → Does a b line (with_own (first_children f p n) []) → Does b c line (with_own (l ∷ []) []) → l ≡ f (place_at p n) → Does a c line (with_own (first_children f p (n + 1)) [])
 does-child f p a b c line l n so step is =
-    does-more a b c line (first_children f p n) (first_children f p (n + 1)) l (child-pushed f p [] (first_children f p n) (first_children f p n ++ l ∷ []) l n refl refl is) so step
+    does-more a b c line (first_children f p n) (first_children f p (n + 1)) l (sym (child-pushed f p [] (first_children f p n) (first_children f p n ++ l ∷ []) l n refl refl is)) so step
 
 pub does-children : (f : ℕ × ℕ → Lowered) (p : Parts) (a b : Expander) (line : Line) (n : ℕ) → n ≡ children_count p → Does a b line (with_own (first_children f p n) []) → Does a b line (with_own (map f (places p)) [])
 does-children f p a b line n last so = subst (λ (ls : List Lowered). Does a b line (with_own ls [])) (ap (first_children f p) last ∙ sym (listed f p)) so

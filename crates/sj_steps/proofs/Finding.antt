@@ -25,18 +25,18 @@ none-yet p xs i d lt none other =
 pub none-at-all : {X : Type 0} (p : X → Bool) (xs : List X) (i : ℕ) → length xs ≤ i → filter p (take i xs) ≡ [] → filter p xs ≡ []
 none-at-all p xs i past none = ap (filter p) (sym (take_all i xs past)) ∙ none
 
-not-some : {X : Type 0} (x : X) (xs : List X) → x ∷ xs ≡ [] → ⊥
+pub not-some : {X : Type 0} (x : X) (xs : List X) → x ∷ xs ≡ [] → ⊥
 not-some x xs e = absurd (omega (arith, ap length e))
 
 pub first-found : {X : Type 0} (p : X → Bool) (xs : List X) (i : ℕ) (d : X) → i < length xs → filter p (take i xs) ≡ [] → p (get_or xs i d) ≡ true → (rest : List X) × (filter p xs ≡ get_or xs i d ∷ rest)
 first-found p [] i d lt none here = absurd (omega (arith, lt))
 first-found p (x ∷ xs) zero d lt none here = (filter p xs, ap (λ b. cond b (x ∷ filter p xs) (filter p xs)) here)
-first-found p (x ∷ xs) (suc i) d lt none here = by_test (p x) refl none
+first-found p (x ∷ xs) (suc i) d lt none here = by_test (p x) refl none (λ n. first-found p xs i d (omega (arith, lt)) n here)
   where
-    by_test : (b : Bool) → p x ≡ b → cond b (x ∷ filter p (take i xs)) (filter p (take i xs)) ≡ [] → (rest : List _) × (cond (p x) (x ∷ filter p xs) (filter p xs) ≡ get_or xs i d ∷ rest)
-    by_test true e none = absurd (not-some x (filter p (take i xs)) none)
-    by_test false e none =
-        let later = first-found p xs i d (omega (arith, lt)) none here in
+    by_test : (b : Bool) → p x ≡ b → cond b (x ∷ filter p (take i xs)) (filter p (take i xs)) ≡ [] → (filter p (take i xs) ≡ [] → (rest : List _) × (filter p xs ≡ get_or xs i d ∷ rest)) → (rest : List _) × (cond (p x) (x ∷ filter p xs) (filter p xs) ≡ get_or xs i d ∷ rest)
+    by_test true e none find = absurd (not-some x (filter p (take i xs)) none)
+    by_test false e none find =
+        let later = find none in
         (later.0, ap (λ b. cond b (x ∷ filter p xs) (filter p xs)) e ∙ later.1)
 
 fewer : {X : Type 0} (p q : X → Bool) (xs : List X) → ((x : X) → p x ≡ true → q x ≡ true) → length (filter p xs) ≤ length (filter q xs)

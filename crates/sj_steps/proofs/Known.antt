@@ -164,10 +164,10 @@ known-openings has rs D id (o ∷ os) law =
     let a = and_parts (is_lawful_for has id (root_at rs o.name).reduction o.mode) (list_all (λ o. is_lawful_for has id (root_at rs o.name).reduction o.mode) os) law in
     by_test (is_redux o.mode) refl a.0 (known-openings has rs D id os a.1)
   where
-    abbrev P : Opening → Type 0
+    P : Opening → Type 0
     P x = has_reduction has x.by ≡ true
 
-    abbrev rest : List (Operand ℕ)
+    rest : List (Operand ℕ)
     rest = filter (λ (o : Operand ℕ). is_redux o.mode) os
 
     one : Reduction → Opening

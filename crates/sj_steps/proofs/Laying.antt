@@ -163,24 +163,24 @@ module _ (old new : Layout) (rs : List Root) (C : Laid) (r : Register ℕ) (plac
 
 -- another plan of a root
 module _ (old new : Layout) (rs : List Root) (C : Laid) (n : ℕ) (p : Parts) (placed : Placed) (follows : Follows old rs C) (lives : Lives rs n) (counted : length C.handles ≡ length rs) where
-  abbrev mine : Active
-  mine = record { placed = placed; reduction = (active_at old.actives.items n).reduction }
+  abbrev next : Active
+  next = record { placed = placed; reduction = (active_at old.actives.items n).reduction }
 
-  below : n < length old.actives.items
-  below = omega (arith, lives-below rs n lives, counted, follows.active.counted)
+  under : n < length old.actives.items
+  under = omega (arith, lives-below rs n lives, counted, follows.active.counted)
 
-  there : n < length C.handles
-  there = omega (arith, lives-below rs n lives, counted)
+  stands : n < length C.handles
+  stands = omega (arith, lives-below rs n lives, counted)
 
-  pub follows-plan : Lays new (take n p C) → (handle_at (take n p C) n).first p ≡ Some placed.first → placed.parts ≡ p → new.actives.items ≡ set old.actives.items n mine → Follows new (change_at (with_parts p) n rs) (take n p C)
+  pub follows-plan : Lays new (take n p C) → (handle_at (take n p C) n).first p ≡ Some placed.first → placed.parts ≡ p → new.actives.items ≡ set old.actives.items n next → Follows new (change_at (with_parts p) n rs) (take n p C)
   follows-plan lays first parts actives = record {
     lays = lays;
     active = record {
-      counted = ap length actives ∙ length-set old.actives.items n mine ∙ follows.active.counted ∙ sym (take-handles C n p);
+      counted = ap length actives ∙ length-set old.actives.items n next ∙ follows.active.counted ∙ sym (take-handles C n p);
       each = λ m alive. elim (cases_eq m n) as (λ _. IsActive (take n p C) m (active_at new.actives.items m) (root_at (change_at (with_parts p) n rs) m)) [
         | inl e ↦
           let root : root_at (change_at (with_parts p) n rs) m ≡ with_parts p (root_at rs n) = ap (root_at (change_at (with_parts p) n rs)) e ∙ changed-here (with_parts p) n rs lives in
-          let active : active_at new.actives.items m ≡ mine = ap (λ as'. active_at as' m) actives ∙ ap (active_at (set old.actives.items n mine)) e ∙ get_or-set_same old.actives.items n mine no_active below in
+          let active : active_at new.actives.items m ≡ next = ap (λ as'. active_at as' m) actives ∙ ap (active_at (set old.actives.items n next)) e ∙ get_or-set_same old.actives.items n next no_active under in
           record {
             parts = ap (λ (a : Active). a.placed.parts) active ∙ parts ∙ sym (ap (λ (x : Root). x.parts) root);
             first = (λ i. (handle_at (take n p C) (e i)).first (root i).parts) ∙ first ∙ ap (λ (a : Active). Some a.placed.first) (sym active);
@@ -189,9 +189,9 @@ module _ (old new : Layout) (rs : List Root) (C : Laid) (n : ℕ) (p : Parts) (p
         | inr other ↦
           let root = changed-beside (with_parts p) n m rs other in
           let was : Lives rs m = subst (λ (x : Root). 0 < area x.dims) root alive in
-          let active : active_at new.actives.items m ≡ active_at old.actives.items m = ap (λ as'. active_at as' m) actives ∙ get_or-set_other old.actives.items n m mine no_active other in
+          let active : active_at new.actives.items m ≡ active_at old.actives.items m = ap (λ as'. active_at as' m) actives ∙ get_or-set_other old.actives.items n m next no_active other in
           subst (λ (x : Root). IsActive (take n p C) m (active_at new.actives.items m) x) (sym root) (subst (λ (a : Active). IsActive (take n p C) m a (root_at rs m)) (sym active)
-          (active-kept C (take n p C) m (active_at old.actives.items m) (root_at rs m) (λ f e. keeps-take C n p there m (root_at rs m).parts f e) (follows.active.each m was)))
+          (active-kept C (take n p C) m (active_at old.actives.items m) (root_at rs m) (λ f e. keeps-take C n p stands m (root_at rs m).parts f e) (follows.active.each m was)))
       ];
     };
   }

@@ -114,7 +114,7 @@ abbrev pub AreTold : Table → List (Statement ℕ) → Type 0
 AreTold T [] = Unit {0}
 AreTold T (s ∷ ss) = IsTold T s.act × AreTold T ss
 
-knows-apply : (T : Table) (has : Kernel → Bool) (a : Act ℕ) (rs : List Root) → IsSound has rs a → IsTold T a → Knows T rs → Knows T (apply_at a rs)
+pub knows-apply : (T : Table) (has : Kernel → Bool) (a : Act ℕ) (rs : List Root) → IsSound has rs a → IsTold T a → Knows T rs → Knows T (apply_at a rs)
 knows-apply T has (Registers r) rs s t k = λ n lives. elim (cases_eq n r.name) as (λ _. ((info_of T (a_root n)).kind ≡ (root_at (rs ++ registered_root r ∷ []) n).kind) × ((info_of T (a_root n)).dims ≡ (root_at (rs ++ registered_root r ∷ []) n).dims) × (n < length T.names)) [
   | inl e ↦
     let now = pushed-there rs (registered_root r) n (e ∙ s.next) in

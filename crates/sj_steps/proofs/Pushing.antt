@@ -21,7 +21,7 @@ pushed_all f xs start now i past e = e ∙ ap (λ ys. start ++ map f ys) (take_a
 -- the same of an expander
 pub does-pushed : {X : Type 0} (f : X → Lowered) (xs : List X) (a b c : Expander) (line : Line) (l : Lowered) (i : ℕ) (x : X) → i < length xs → Does a b line (with_own (map f (take i xs)) []) → Does b c line (with_own (l ∷ []) []) → l ≡ f x → x ≡ get_or xs i x → Does a c line (with_own (map f (take (i + 1) xs)) [])
 does-pushed f xs a b c line l i x below so step is at =
-    does-more a b c line (map f (take i xs)) (map f (take (i + 1) xs)) (f x) (pushed f xs [] (map f (take i xs)) (map f (take i xs) ++ f x ∷ []) i x below refl refl at) so (subst (λ (m : Lowered). Does b c line (with_own (m ∷ []) [])) is step)
+    does-more a b c line (map f (take i xs)) (map f (take (i + 1) xs)) (f x) (sym (pushed f xs [] (map f (take i xs)) (map f (take i xs) ++ f x ∷ []) i x below refl refl at)) so (subst (λ (m : Lowered). Does b c line (with_own (m ∷ []) [])) is step)
 
 pub does-pushed-all : {X : Type 0} (f : X → Lowered) (xs : List X) (a b : Expander) (line : Line) (i : ℕ) → length xs ≤ i → Does a b line (with_own (map f (take i xs)) []) → Does a b line (with_own (map f xs) [])
 does-pushed-all f xs a b line i past so = subst (λ (ls : List Lowered). Does a b line (with_own ls [])) (pushed_all f xs [] (map f (take i xs)) i past refl) so

@@ -26,8 +26,8 @@ use Rattle.sj_meaning.specs.declared.job.Act.{Act as KeptAct}
 use Rattle.sj_meaning.specs.declared.job.Act.TheVariants as kept
 use Rattle.sj_meaning.specs.Statement.{Register, Operand}
 use Rattle.sj_meaning.specs.State.{Root, is_valued, is_valued_child}
-use Rattle.sj_meaning.specs.Meaning.{registered_root, with_parts, with_reduction, with_elements, no_values, out, written_of}
-use Rattle.sj_meaning.specs.Numbers.{root_at, no_root, change_at, operand_at, operand_array_at, task_at, registration_at, act_at, apply_at}
+use Rattle.sj_meaning.specs.Meaning.{registered_root, with_parts, with_reduction, with_elements, no_values}
+use Rattle.sj_meaning.specs.Numbers.{root_at, no_root, change_at, registration_at, act_at, apply_at}
 use Rattle.sj_meaning.specs.Sound.{InitFits, is_lawful_for}
 use Rattle.sj_meaning.specs.Table.{Table, a_root, info_of}
 use Rattle.sj_phases.specs.declared.expander.Expander.{Expander}
@@ -153,16 +153,16 @@ module _ (T : Table) (old : Steps) (root : RootNumber) (p : Parts) (v : Bool) (h
       let fits : Fits (root_at h.roots root.0).parts (root_at h.roots root.0).dims = h.next.whole.laid.fits root.0 (root_at h.roots root.0).dims (root_at h.roots root.0).parts t.0 t.1 in
       subst (λ (d : Dims). Fits plan-old.parts d) (sym plan-dims) (subst (λ (s : Parts). Fits s (root_at h.roots root.0).dims) (sym (h.at.layout.active.each root.0 plan-lives).parts) fits)
 
-  there : root.0 < length h.cells.handles
-  there = omega (arith, lives-below h.roots root.0 plan-lives, h.next.whole.counted)
+  stands : root.0 < length h.cells.handles
+  stands = omega (arith, lives-below h.roots root.0 plan-lives, h.next.whole.counted)
 
   pub handle-dims : (handle_at h.cells root.0).dims ≡ (info_of T root).dims
   handle-dims = (h.next.whole.taken root.0 plan-lives).1.dims ∙ sym plan-dims
 
   pub plan-room : (l : Layout) (placed : Placed) → Follows l (change_at (with_parts p) root.0 h.roots) (take root.0 p h.cells) → (handle_at (take root.0 p h.cells) root.0).first p ≡ Some placed.first → placed.first + p.r * p.c ≤ most
   plan-room l placed follows first =
-      let laid = laid-take h.cells root.0 p there (subst (λ (d : Dims). Fits p d) (sym handle-dims) plan-fits) h.next.whole.laid in
-      let t : IsTaken (take root.0 p h.cells) root.0 (info_of T root).dims p placed.first = record { dims = take-dims h.cells root.0 p there root.0 ∙ handle-dims; first = first } in
+      let laid = laid-take h.cells root.0 p stands (subst (λ (d : Dims). Fits p d) (sym handle-dims) plan-fits) h.next.whole.laid in
+      let t : IsTaken (take root.0 p h.cells) root.0 (info_of T root).dims p placed.first = record { dims = take-dims h.cells root.0 p stands root.0 ∙ handle-dims; first = first } in
       omega (arith, laid.inside root.0 (info_of T root).dims p placed.first t, follows.lays.few)
 
 -- what the layout has after a plan line

@@ -13,7 +13,7 @@ use Rattle.sj_base.specs.declared.program.Codelet.{Codelet}
 use Rattle.sj_base.specs.declared.program.Lowered.{Lowered}
 use Rattle.sj_base.specs.Mode.{is_redux, is_commute}
 use Rattle.sj_codelet.specs.declared.kernel.Kernel.{Kernel}
-use Rattle.sj_codelet.specs.Kernel.{codelet_of, commutes_in, contributes_in}
+use Rattle.sj_codelet.specs.Kernel.{codelet_of, commutes_in, contributes_in, out}
 use Rattle.sj_plan.specs.declared.parts.Parts.{Parts}
 use Rattle.sj_plan.specs.Parts.{IsPlace}
 use Rattle.sj_meaning.specs.declared.job.Operand.{Operand as Kept}
@@ -21,7 +21,7 @@ use Rattle.sj_meaning.specs.declared.job.TaskLine.{TaskLine as KeptTask}
 use Rattle.sj_meaning.specs.declared.job.Act.TheVariants as kept
 use Rattle.sj_meaning.specs.Statement.{Operand}
 use Rattle.sj_meaning.specs.State.{Root, is_valued_child}
-use Rattle.sj_meaning.specs.Meaning.{out, written_of}
+use Rattle.sj_meaning.specs.Meaning.{written_of}
 use Rattle.sj_meaning.specs.Numbers.{root_at, operand_at, operand_array_at, task_at, run_task_at}
 use Rattle.sj_meaning.specs.Sound.{is_lawful_for, is_unordered}
 use Rattle.sj_meaning.specs.Table.{Table}
@@ -50,11 +50,11 @@ use Rattle.sj_steps.proofs.Taken.{some_is, none_isn't, cell-is, cell-inside}
 
 head-has : {X : Type 0} (Q : X → Type 0) (p : X → Bool) (xs : List X) (x : X) (rest : List X) → AllByRecursion Q xs → filter p xs ≡ x ∷ rest → Q x × (p x ≡ true)
 head-has Q p [] x rest h e = absurd (not-some x rest (sym e))
-head-has Q p (y ∷ ys) x rest h e = by_test (p y) refl e
+head-has Q p (y ∷ ys) x rest h e = by_test (p y) refl e (λ f. head-has Q p ys x rest h.1 f)
   where
-    by_test : (b : Bool) → p y ≡ b → cond b (y ∷ filter p ys) (filter p ys) ≡ x ∷ rest → Q x × (p x ≡ true)
-    by_test true t f = let same : y ≡ x = cc in (subst Q same h.0, ap p (sym same) ∙ t)
-    by_test false t f = head-has Q p ys x rest h.1 f
+    by_test : (b : Bool) → p y ≡ b → cond b (y ∷ filter p ys) (filter p ys) ≡ x ∷ rest → (filter p ys ≡ x ∷ rest → Q x × (p x ≡ true)) → Q x × (p x ≡ true)
+    by_test true t f later = let same : y ≡ x = cc in (subst Q same h.0, ap p (sym same) ∙ t)
+    by_test false t f later = later f
 
 all-list : {X : Type 0} (f : X → Bool) (xs : List X) → list_all f xs ≡ true → AllByRecursion (λ x. f x ≡ true) xs
 all-list f [] h = tt

@@ -1,4 +1,4 @@
-use Rattle.std.proofs.Common.{◌+◌, ℕ, refl, subst, arith, fold}
+use Rattle.std.proofs.Common.{◌≡◌, ◌+◌, ℕ, refl, subst, arith, fold}
 use Rattle.std.proofs.lemmas.List.FromFn.{map-range_with_len_more}
 use Rattle.sj_base.specs.declared.ids.Cell.{Cell}
 use Rattle.sj_phases.specs.Does.{Does}
@@ -19,7 +19,9 @@ loop-k-preserved c =
     let first = c.args.first in
     let k = c.loop-k.k in
     let mk : ℕ → Cell = λ n. record { 0 = first + n } in
-    does-close c.args.phases.now c.loop-k.phases c.close.new.phases c.args.line (cells_after first k) (cells_after first (k + 1)) (mk k) (map-range_with_len_more mk 0 k k (omega arith)) c.loop-k.invariant c.in_ok-close.ensures
+    does-close c.args.phases.now c.loop-k.phases c.close.new.self c.args.line (cells_after first k) (cells_after first (k + 1)) (mk k) (map-range_with_len_more mk 0 k k (omega arith)) c.loop-k.invariant c.in_ok-close.ensures
 
 pub returns : goal.returns
-returns c = subst (λ (n : ℕ). Does c.args.phases.now c.loop-k.phases c.args.line (λ E. fold (closed c.args.phases.now.workers) E (cells_after c.args.first n))) (omega (arith, c.loop-k.auto.k-end, c.loop-k-test.false)) c.loop-k.invariant
+returns c =
+    let last : c.loop-k.k ≡ c.args.count = omega (arith, c.loop-k.auto.k-end, c.loop-k-test.false) in
+    subst (λ (n : ℕ). Does c.args.phases.now c.loop-k.phases c.args.line (λ E. fold (closed c.args.phases.now.workers) E (cells_after c.args.first n))) last c.loop-k.invariant

@@ -13,5 +13,5 @@ pub returns-then-placed-eq1 : goal.returns-then-placed-eq1
 returns-then-placed-eq1 c =
     let values : c.into_items.result.items ≡ c.args.values = search rules in
     let same = (c.own_task.ensures ∙ (λ i. task_by (codelet_of Load) (values i) (c.in_ok-accesses.ensures i) c.args.line)) in
-    on_ok_weaker c.push.result (λ d. subst (λ (ls : List Lowered). Does c.args.phases.now c.push.new.phases c.args.line (with_own ls []))
+    on_ok_weaker c.push.result (λ d. subst (λ (ls : List Lowered). Does c.args.phases.now c.push.new.self c.args.line (with_own ls []))
     (ap (λ (t : Lowered). t ∷ []) same ∙ sym (one-load c.args.values c.args.dims c.args.placed.parts c.args.placed.first c.args.line c.requires.plan c.if-placed-eq1.true c.requires.values)) d) c.push.ensures
