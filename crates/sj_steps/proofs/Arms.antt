@@ -110,13 +110,13 @@ keeps-change f n rs h m = elim (cases_eq m n) as (λ _. Keeps rs (change_at f n 
   | inr other ↦ is (root_at rs m) (get_or-set_other rs n m (f (root_at rs n)) no_root other) (refl, refl, refl)
   | inl e ↦ elim (cases_lt n (length rs)) as (λ _. Keeps rs (change_at f n rs) m) [
     | inl lt ↦
-      let k = h (root_at rs n) in
-      is (f (root_at rs n)) (ap (root_at (change_at f n rs)) e ∙ get_or-set_same rs n (f (root_at rs n)) no_root lt)
-      (k.0 ∙ ap (λ i. (root_at rs i).dims) (sym e), k.1 ∙ ap (λ i. (root_at rs i).parts) (sym e), k.2 ∙ ap (λ i. (root_at rs i).reduction) (sym e))
+        let k = h (root_at rs n) in
+        is (f (root_at rs n)) (ap (root_at (change_at f n rs)) e ∙ get_or-set_same rs n (f (root_at rs n)) no_root lt)
+        (k.0 ∙ ap (λ i. (root_at rs i).dims) (sym e), k.1 ∙ ap (λ i. (root_at rs i).parts) (sym e), k.2 ∙ ap (λ i. (root_at rs i).reduction) (sym e))
     | inr le ↦
-      let now = get_or_past (change_at f n rs) m no_root (omega (arith, le, e, length-set rs n (f (root_at rs n)))) in
-      let was = get_or_past rs m no_root (omega (arith, le, e)) in
-      is no_root now (ap (λ (r : Root). r.dims) (sym was), ap (λ (r : Root). r.parts) (sym was), ap (λ (r : Root). r.reduction) (sym was))
+        let now = get_or_past (change_at f n rs) m no_root (omega (arith, le, e, length-set rs n (f (root_at rs n)))) in
+        let was = get_or_past rs m no_root (omega (arith, le, e)) in
+        is no_root now (ap (λ (r : Root). r.dims) (sym was), ap (λ (r : Root). r.parts) (sym was), ap (λ (r : Root). r.reduction) (sym was))
   ]
 ]
   where
@@ -139,6 +139,6 @@ pub kept-end : (rs : List Root) (n m : ℕ) → n < length rs → Lives (set rs 
 kept-end rs n m lt lives = elim (cases_eq m n) as (λ _. Lives rs m × ((root_at (set rs n no_root) m).parts ≡ (root_at rs m).parts) × ((root_at (set rs n no_root) m).reduction ≡ (root_at rs m).reduction)) [
   | inl e ↦ absurd (omega (arith, lives, ap (λ (r : Root). area r.dims) (ap (root_at (set rs n no_root)) e ∙ get_or-set_same rs n no_root no_root lt)))
   | inr other ↦
-    let now : root_at (set rs n no_root) m ≡ root_at rs m = get_or-set_other rs n m no_root no_root other in
-    (subst (λ (r : Root). 0 < area r.dims) now lives, ap (λ (r : Root). r.parts) now, ap (λ (r : Root). r.reduction) now)
+      let now : root_at (set rs n no_root) m ≡ root_at rs m = get_or-set_other rs n m no_root no_root other in
+      (subst (λ (r : Root). 0 < area r.dims) now lives, ap (λ (r : Root). r.parts) now, ap (λ (r : Root). r.reduction) now)
 ]

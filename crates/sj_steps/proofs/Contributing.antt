@@ -187,8 +187,8 @@ holds-blank q C n k rs u a laid has p blank m lives =
       held = λ place inside v.
           let h = b.held place inside v in
           let other : the_cell rs C u ≡ cell_of C m r.parts place → ⊥ = λ e.
-              (let same = cells-apart C u.name m s.dims r.dims s.parts r.parts o.first b.first u.place place laid o.taken b.taken p.place inside e in
-              false≢true (sym blank ∙ (λ i. is_valued_child (root_at rs (same.0 i)) (same.2 i)) ∙ v)) in
+          (let same = cells-apart C u.name m s.dims r.dims s.parts r.parts o.first b.first u.place place laid o.taken b.taken p.place inside e in
+          false≢true (sym blank ∙ (λ i. is_valued_child (root_at rs (same.0 i)) (same.2 i)) ∙ v)) in
           record { value = held-other q (the_cell rs C u) a k (cell_of C m r.parts place) (differs (the_cell rs C u) (cell_of C m r.parts place) other) ∙ h.value; given = h.given };
     }
 
@@ -201,8 +201,11 @@ unit-ready : (q : Program) (D : Laid) (n : ℕ) (rs : List Root) (u : Operand �
     → let o : Opening = record { cell = the_cell rs D u; by = by; copies = first_copy D (the_cell rs D u); valued = v } in Stand q n (first_units o line) → AreUnits q D n rs (u ∷ []) (first_units o line)
 unit-ready q D n rs u by line true cells laid has p m reduction valued stand = record {
   roots = λ x l. let h = has x l in subst (λ j. HasRoot q D j (contents_before q j) x (root_at rs x)) (let e : n ≡ n + 0 = omega arith in e) h;
-  ready = ((λ f. subst (λ j. held_in q (contents_before q j) (the_cell rs D u) ≡ seen_by u.mode r u.place) (let e : n ≡ n + 0 = omega arith in e)
-      (((has u.name p.lives).held u.place p.place valued).value ∙ sym (ap (λ b. cond b (child_array r u.place) (child_unit r u.place)) valued) ∙ sym (seen u.mode m))), tt);
+  ready = (
+    (λ f. subst (λ j. held_in q (contents_before q j) (the_cell rs D u) ≡ seen_by u.mode r u.place) (let e : n ≡ n + 0 = omega arith in e)
+        (((has u.name p.lives).held u.place p.place valued).value ∙ sym (ap (λ b. cond b (child_array r u.place) (child_unit r u.place)) valued) ∙ sym (seen u.mode m))),
+    tt,
+  );
 }
   where
     r : Root

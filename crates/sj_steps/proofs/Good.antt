@@ -56,9 +56,6 @@ use Rattle.sj_steps.proofs.Pasting.{GoesTo, pastes-begin, pastes-go, pastes-betw
 use Rattle.sj_steps.proofs.Places.{place-itself}
 use Rattle.sj_steps.proofs.Taken.{cell-inside, cells-apart}
 
-
-
-
 -- a task of the program is one that it may have at that number
 pub record IsGood (p : Program) (n : ℕ) (l : Lowered) : Type 0 where
   pub cells : All (λ a. a.cell.0 < length p.cells) l.accesses
@@ -241,7 +238,6 @@ good_init p n Least line c inside = record {
   unaliased = alone (λ (a b : Access). same_cell a.cell b.cell ≡ true → (a.mode ≡ R) × (b.mode ≡ R)) (an_access W c);
   values = one_alone (λ (a : Access). reads_value a.mode ≡ true → HasValueBefore p (task_at n) a.cell) (an_access W c) (λ h. absurd (false≢true h));
 }
-
 
 -- ---- tasks of task lines
 

@@ -146,9 +146,10 @@ module _ (has : Kernel → Bool) (q : Program) (D : Laid) (rs : List Root) (n : 
     by_valued true e stand = (task_at_m n (omega arith) (adds n ((roots u.name placed.lives).held u.place placed.place e).given), tt)
     by_valued false e stand =
         let b = roots u.name placed.lives in
-        let inside = cell-inside D u.name (root_at rs u.name).dims (root_at rs u.name).parts b.first u.place laid b.taken placed.place in
-        (good_init q n con.by line c (omega (arith, inside, cells.longer)),
-        (task_at_m (n + 1) (omega arith) (adds (n + 1) (task_at n, omega arith, ap (λ (x : Lowered). gives_value x c) stand.0 ∙ gives_own (init_of con.by) [] c line)), tt))
+        let inside = cell-inside D u.name (root_at rs u.name).dims (root_at rs u.name).parts b.first u.place laid b.taken placed.place in (
+          good_init q n con.by line c (omega (arith, inside, cells.longer)),
+          (task_at_m (n + 1) (omega arith) (adds (n + 1) (task_at n, omega arith, ap (λ (x : Lowered). gives_value x c) stand.0 ∙ gives_own (init_of con.by) [] c line)), tt),
+        )
 
     one_opens : flat_map (opening_of (by_number rs) D) (contributed t) ≡ opening ∷ []
     one_opens =

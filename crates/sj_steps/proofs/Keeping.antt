@@ -163,13 +163,13 @@ changed-beside f m q rs other = get_or-set_other rs m q (f (root_at rs m)) no_ro
 pub holds-put : (p : Program) (C : Laid) (n : ℕ) (k : Contents) (rs : List Root) (c : Cell) (o : Operand ℕ) (a : Array) → AreLaid C → HaveRoots p C n k rs → Gives p C n rs c o a → HaveRoots p C n ((c, a) ∷ k) (change_at (with_child o.place a) o.name rs)
 holds-put p C n k rs c o a laid has g q lives = elim (cases_eq q o.name) as (λ _. HasRoot p C n ((c, a) ∷ k) q (root_at (change_at (with_child o.place a) o.name rs) q)) [
   | inl e ↦
-    let now = ap (root_at (change_at (with_child o.place a) o.name rs)) e ∙ changed-here (with_child o.place a) o.name rs g.lives in
-    subst (λ (r : Root). HasRoot p C n ((c, a) ∷ k) q r) (sym now)
-    (subst (λ (m : ℕ). HasRoot p C n ((c, a) ∷ k) m (with_child o.place a (root_at rs o.name))) (sym e) (put_child p C n k rs c o a laid g (has o.name g.lives)))
+      let now = ap (root_at (change_at (with_child o.place a) o.name rs)) e ∙ changed-here (with_child o.place a) o.name rs g.lives in
+      subst (λ (r : Root). HasRoot p C n ((c, a) ∷ k) q r) (sym now)
+      (subst (λ (m : ℕ). HasRoot p C n ((c, a) ∷ k) m (with_child o.place a (root_at rs o.name))) (sym e) (put_child p C n k rs c o a laid g (has o.name g.lives)))
   | inr other ↦
-    let now = changed-beside (with_child o.place a) o.name q rs other in
-    subst (λ (r : Root). HasRoot p C n ((c, a) ∷ k) q r) (sym now)
-    (put_beside p C n k rs c o a q (root_at rs q) laid g (has o.name g.lives) other (has q (subst (λ (r : Root). 0 < area r.dims) now lives)))
+      let now = changed-beside (with_child o.place a) o.name q rs other in
+      subst (λ (r : Root). HasRoot p C n ((c, a) ∷ k) q r) (sym now)
+      (put_beside p C n k rs c o a q (root_at rs q) laid g (has o.name g.lives) other (has q (subst (λ (r : Root). 0 < area r.dims) now lives)))
 ]
 
 -- ---- the arrays of a task

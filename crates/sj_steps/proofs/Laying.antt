@@ -77,15 +77,14 @@ lays-new old new C r d p first s inside dims none rows firsts number few =
     let all : (m : ℕ) (q : Parts) → get same_taken new.firsts (taken m q) ≡ (handle_at (taking n p C) m).first q =
     λ m q. elim (cases_eq m n) as (λ _. get same_taken new.firsts (taken m q) ≡ (handle_at (taking n p C) m).first q) [
       | inl e ↦
-        ap (λ i. get same_taken new.firsts (taken i q)) e ∙ firsts (taken n q) ∙ ap (λ b. cond (b && (nat_eq p.r q.r && nat_eq p.c q.c)) (Some first) (get same_taken old.firsts (taken n q))) (equal n)
-        ∙ (λ i. cond (nat_eq p.r q.r && nat_eq p.c q.c) (Some (one i)) (s.firsts n q i))
-        ∙ sym (ap (λ i. (handle_at (taking n p C) i).first q) e ∙ ap (λ (h : Handle). h.first q) (took-there C n p inside))
+          ap (λ i. get same_taken new.firsts (taken i q)) e ∙ firsts (taken n q) ∙ ap (λ b. cond (b && (nat_eq p.r q.r && nat_eq p.c q.c)) (Some first) (get same_taken old.firsts (taken n q))) (equal n)
+          ∙ (λ i. cond (nat_eq p.r q.r && nat_eq p.c q.c) (Some (one i)) (s.firsts n q i))
+          ∙ sym (ap (λ i. (handle_at (taking n p C) i).first q) e ∙ ap (λ (h : Handle). h.first q) (took-there C n p inside))
       | inr other ↦
-        firsts (taken m q) ∙ ap (λ b. cond (b && (nat_eq p.r q.r && nat_eq p.c q.c)) (Some first) (get same_taken old.firsts (taken m q))) (unequal n m (λ e. other (sym e)))
-        ∙ s.firsts m q ∙ sym (ap (λ (h : Handle). h.first q) (took-other C n p m other))
+          firsts (taken m q) ∙ ap (λ b. cond (b && (nat_eq p.r q.r && nat_eq p.c q.c)) (Some first) (get same_taken old.firsts (taken m q))) (unequal n m (λ e. other (sym e)))
+          ∙ s.firsts m q ∙ sym (ap (λ (h : Handle). h.first q) (took-other C n p m other))
     ] in
-    let lays : Lays new (taking n p C) = record { rows = same_rows; few = omega (arith, few, ap length same_rows); firsts = all } in
-    (
+    let lays : Lays new (taking n p C) = record { rows = same_rows; few = omega (arith, few, ap length same_rows); firsts = all } in (
       subst (Lays new) (sym whole) lays,
       ap (λ (D : Laid). (handle_at D n).first p) whole ∙ sym (all n p) ∙ firsts (taken n p)
           ∙ (λ i. cond (equal n i && (equal p.r i && equal p.c i)) (Some first) (get same_taken old.firsts (taken n p))),
@@ -138,22 +137,22 @@ module _ (old new : Layout) (rs : List Root) (C : Laid) (r : Register ℕ) (plac
       counted = ap length actives ∙ length-append old.actives.items (mine ∷ []) ∙ ap (λ k. k + 1) follows.active.counted ∙ sym (take-handles (with_root r.dims C) n r.parts ∙ length-append C.handles (handle_of r.dims ∷ []));
       each = λ m lives. elim (cases_eq m n) as (λ _. IsActive D m (active_at new.actives.items m) (root_at (rs ++ registered_root r ∷ []) m)) [
         | inl e ↦
-          let root = pushed-there rs (registered_root r) m (e ∙ counted) in
-          let active : active_at new.actives.items m ≡ mine =
-          ap (λ as'. active_at as' m) actives ∙ ap (active_at (old.actives.items ++ mine ∷ [])) (e ∙ sym follows.active.counted) ∙ get_or-append_seam old.actives.items mine [] no_active in
-          record {
-            parts = ap (λ (a : Active). a.placed.parts) active ∙ parts ∙ sym (ap (λ (x : Root). x.parts) root);
-            first = (λ i. (handle_at D (e i)).first (root i).parts) ∙ first ∙ ap (λ (a : Active). Some a.placed.first) (sym active);
-            reduction = ap (λ (a : Active). a.reduction) active ∙ sym (ap (λ (x : Root). x.reduction) root);
-          }
+            let root = pushed-there rs (registered_root r) m (e ∙ counted) in
+            let active : active_at new.actives.items m ≡ mine =
+            ap (λ as'. active_at as' m) actives ∙ ap (active_at (old.actives.items ++ mine ∷ [])) (e ∙ sym follows.active.counted) ∙ get_or-append_seam old.actives.items mine [] no_active in
+            record {
+              parts = ap (λ (a : Active). a.placed.parts) active ∙ parts ∙ sym (ap (λ (x : Root). x.parts) root);
+              first = (λ i. (handle_at D (e i)).first (root i).parts) ∙ first ∙ ap (λ (a : Active). Some a.placed.first) (sym active);
+              reduction = ap (λ (a : Active). a.reduction) active ∙ sym (ap (λ (x : Root). x.reduction) root);
+            }
         | inr other ↦
-          let root = pushed-beside rs (registered_root r) m (λ e. other (e ∙ sym counted)) in
-          let was : Lives rs m = subst (λ (x : Root). 0 < area x.dims) root lives in
-          let below : m < length old.actives.items = omega (arith, lives-below rs m was, counted, follows.active.counted) in
-          let active : active_at new.actives.items m ≡ active_at old.actives.items m = ap (λ as'. active_at as' m) actives ∙ get_or_append_left old.actives.items (mine ∷ []) no_active m below in
-          subst (λ (x : Root). IsActive D m (active_at new.actives.items m) x) (sym root) (subst (λ (a : Active). IsActive D m a (root_at rs m)) (sym active)
-          (active-kept C D m (active_at old.actives.items m) (root_at rs m)
-          (λ f e. keeps-take (with_root r.dims C) n r.parts there m (root_at rs m).parts f (root-first C r.dims m (root_at rs m).parts ∙ e)) (follows.active.each m was)))
+            let root = pushed-beside rs (registered_root r) m (λ e. other (e ∙ sym counted)) in
+            let was : Lives rs m = subst (λ (x : Root). 0 < area x.dims) root lives in
+            let below : m < length old.actives.items = omega (arith, lives-below rs m was, counted, follows.active.counted) in
+            let active : active_at new.actives.items m ≡ active_at old.actives.items m = ap (λ as'. active_at as' m) actives ∙ get_or_append_left old.actives.items (mine ∷ []) no_active m below in
+            subst (λ (x : Root). IsActive D m (active_at new.actives.items m) x) (sym root) (subst (λ (a : Active). IsActive D m a (root_at rs m)) (sym active)
+            (active-kept C D m (active_at old.actives.items m) (root_at rs m)
+            (λ f e. keeps-take (with_root r.dims C) n r.parts there m (root_at rs m).parts f (root-first C r.dims m (root_at rs m).parts ∙ e)) (follows.active.each m was)))
       ];
     };
   }
@@ -179,19 +178,19 @@ module _ (old new : Layout) (rs : List Root) (C : Laid) (n : ℕ) (p : Parts) (p
       counted = ap length actives ∙ length-set old.actives.items n next ∙ follows.active.counted ∙ sym (take-handles C n p);
       each = λ m alive. elim (cases_eq m n) as (λ _. IsActive (take n p C) m (active_at new.actives.items m) (root_at (change_at (with_parts p) n rs) m)) [
         | inl e ↦
-          let root : root_at (change_at (with_parts p) n rs) m ≡ with_parts p (root_at rs n) = ap (root_at (change_at (with_parts p) n rs)) e ∙ changed-here (with_parts p) n rs lives in
-          let active : active_at new.actives.items m ≡ next = ap (λ as'. active_at as' m) actives ∙ ap (active_at (set old.actives.items n next)) e ∙ get_or-set_same old.actives.items n next no_active under in
-          record {
-            parts = ap (λ (a : Active). a.placed.parts) active ∙ parts ∙ sym (ap (λ (x : Root). x.parts) root);
-            first = (λ i. (handle_at (take n p C) (e i)).first (root i).parts) ∙ first ∙ ap (λ (a : Active). Some a.placed.first) (sym active);
-            reduction = ap (λ (a : Active). a.reduction) active ∙ (follows.active.each n lives).reduction ∙ sym (ap (λ (x : Root). x.reduction) root);
-          }
+            let root : root_at (change_at (with_parts p) n rs) m ≡ with_parts p (root_at rs n) = ap (root_at (change_at (with_parts p) n rs)) e ∙ changed-here (with_parts p) n rs lives in
+            let active : active_at new.actives.items m ≡ next = ap (λ as'. active_at as' m) actives ∙ ap (active_at (set old.actives.items n next)) e ∙ get_or-set_same old.actives.items n next no_active under in
+            record {
+              parts = ap (λ (a : Active). a.placed.parts) active ∙ parts ∙ sym (ap (λ (x : Root). x.parts) root);
+              first = (λ i. (handle_at (take n p C) (e i)).first (root i).parts) ∙ first ∙ ap (λ (a : Active). Some a.placed.first) (sym active);
+              reduction = ap (λ (a : Active). a.reduction) active ∙ (follows.active.each n lives).reduction ∙ sym (ap (λ (x : Root). x.reduction) root);
+            }
         | inr other ↦
-          let root = changed-beside (with_parts p) n m rs other in
-          let was : Lives rs m = subst (λ (x : Root). 0 < area x.dims) root alive in
-          let active : active_at new.actives.items m ≡ active_at old.actives.items m = ap (λ as'. active_at as' m) actives ∙ get_or-set_other old.actives.items n m next no_active other in
-          subst (λ (x : Root). IsActive (take n p C) m (active_at new.actives.items m) x) (sym root) (subst (λ (a : Active). IsActive (take n p C) m a (root_at rs m)) (sym active)
-          (active-kept C (take n p C) m (active_at old.actives.items m) (root_at rs m) (λ f e. keeps-take C n p stands m (root_at rs m).parts f e) (follows.active.each m was)))
+            let root = changed-beside (with_parts p) n m rs other in
+            let was : Lives rs m = subst (λ (x : Root). 0 < area x.dims) root alive in
+            let active : active_at new.actives.items m ≡ active_at old.actives.items m = ap (λ as'. active_at as' m) actives ∙ get_or-set_other old.actives.items n m next no_active other in
+            subst (λ (x : Root). IsActive (take n p C) m (active_at new.actives.items m) x) (sym root) (subst (λ (a : Active). IsActive (take n p C) m a (root_at rs m)) (sym active)
+            (active-kept C (take n p C) m (active_at old.actives.items m) (root_at rs m) (λ f e. keeps-take C n p stands m (root_at rs m).parts f e) (follows.active.each m was)))
       ];
     };
   }

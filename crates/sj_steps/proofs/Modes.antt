@@ -227,9 +227,10 @@ direct-modes has rs t s direct = by_test (list_any (λ o. is_commute o.mode) t.o
 -- the modes of one with a contribution, whose codelet writes one operand
 pub contribution-modes : (has : Kernel → Bool) (rs : List Root) (t : TaskLine ℕ) (s : IsSoundTask has rs t) (con : Contributes rs t (kernel_there has rs t s).call.kernel) → writes_one (kernel_there has rs t s).call.kernel × (each_of (λ (o : Operand ℕ). o.mode) t.operands ≡ modes_writing_by Redux (kernel_there has rs t s).call.kernel)
 contribution-modes has rs t s con =
-    let k = kernel_there has rs t s in
-    (outputs-count (formals_of k.call.kernel) t.operands k.modes k.count ∙ ap length con.written,
-    modes-with Redux (formals_of k.call.kernel) t.operands k.modes k.count (subst (λ (os : List (Operand ℕ)). AllByRecursion (WritesAs Redux) os) (sym con.is) (in-order con.before con.last con.reads con.redux)))
+    let k = kernel_there has rs t s in (
+      outputs-count (formals_of k.call.kernel) t.operands k.modes k.count ∙ ap length con.written,
+      modes-with Redux (formals_of k.call.kernel) t.operands k.modes k.count (subst (λ (os : List (Operand ℕ)). AllByRecursion (WritesAs Redux) os) (sym con.is) (in-order con.before con.last con.reads con.redux)),
+    )
   where
     in-order : (vs : List (Operand ℕ)) (u : Operand ℕ) → AllByRecursion IsRead vs → u.mode ≡ Redux → AllByRecursion (WritesAs Redux) (vs ++ u ∷ [])
     in-order [] u h e = (λ w. e, tt)

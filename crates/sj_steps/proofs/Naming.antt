@@ -70,13 +70,13 @@ Knows T rs = (n : ℕ) → Lives rs n → ((info_of T (a_root n)).kind ≡ (root
 knows-changed : (T : Table) (rs : List Root) (m : ℕ) (f : Root → Root) → ((r : Root) → ((f r).kind ≡ r.kind) × ((f r).dims ≡ r.dims)) → Lives rs m → Knows T rs → Knows T (change_at f m rs)
 knows-changed T rs m f keeps there k n lives = elim (cases_eq n m) as (λ _. ((info_of T (a_root n)).kind ≡ (root_at (change_at f m rs) n).kind) × ((info_of T (a_root n)).dims ≡ (root_at (change_at f m rs) n).dims) × (n < length T.names)) [
   | inl e ↦
-    let now : root_at (change_at f m rs) n ≡ f (root_at rs n) = ap (root_at (change_at f m rs)) e ∙ changed-here f m rs there ∙ ap (λ i. f (root_at rs i)) (sym e) in
-    let old = k n (subst (λ i. Lives rs i) (sym e) there) in
-    (old.0 ∙ sym (ap (λ (r : Root). r.kind) now ∙ (keeps (root_at rs n)).0), old.1 ∙ sym (ap (λ (r : Root). r.dims) now ∙ (keeps (root_at rs n)).1), old.2)
+      let now : root_at (change_at f m rs) n ≡ f (root_at rs n) = ap (root_at (change_at f m rs)) e ∙ changed-here f m rs there ∙ ap (λ i. f (root_at rs i)) (sym e) in
+      let old = k n (subst (λ i. Lives rs i) (sym e) there) in
+      (old.0 ∙ sym (ap (λ (r : Root). r.kind) now ∙ (keeps (root_at rs n)).0), old.1 ∙ sym (ap (λ (r : Root). r.dims) now ∙ (keeps (root_at rs n)).1), old.2)
   | inr other ↦
-    let now = changed-beside f m n rs other in
-    let old = k n (subst (λ (r : Root). 0 < area r.dims) now lives) in
-    (old.0 ∙ sym (ap (λ (r : Root). r.kind) now), old.1 ∙ sym (ap (λ (r : Root). r.dims) now), old.2)
+      let now = changed-beside f m n rs other in
+      let old = k n (subst (λ (r : Root). 0 < area r.dims) now lives) in
+      (old.0 ∙ sym (ap (λ (r : Root). r.kind) now), old.1 ∙ sym (ap (λ (r : Root). r.dims) now), old.2)
 ]
 
 knows-put : (T : Table) (os : List (Operand ℕ)) (xs : List Array) (rs : List Root) → Knows T rs → Knows T (put_all_at os xs rs)
@@ -88,9 +88,9 @@ knows-put T (o ∷ os) (a ∷ xs) rs k = knows-put T os xs (change_at (with_chil
     once c n lives = elim (cases_eq n o.name) as (λ _. ((info_of T (a_root n)).kind ≡ (root_at (change_at (with_child o.place a) o.name rs) n).kind) × ((info_of T (a_root n)).dims ≡ (root_at (change_at (with_child o.place a) o.name rs) n).dims) × (n < length T.names)) [
       | inl e ↦ by_case c e
       | inr other ↦
-        let now = changed-beside (with_child o.place a) o.name n rs other in
-        let old = k n (subst (λ (r : Root). 0 < area r.dims) now lives) in
-        (old.0 ∙ sym (ap (λ (r : Root). r.kind) now), old.1 ∙ sym (ap (λ (r : Root). r.dims) now), old.2)
+          let now = changed-beside (with_child o.place a) o.name n rs other in
+          let old = k n (subst (λ (r : Root). 0 < area r.dims) now lives) in
+          (old.0 ∙ sym (ap (λ (r : Root). r.kind) now), old.1 ∙ sym (ap (λ (r : Root). r.dims) now), old.2)
     ]
       where
         by_case : (o.name < length rs) ⊎ (length rs ≤ o.name) → n ≡ o.name → ((info_of T (a_root n)).kind ≡ (root_at (change_at (with_child o.place a) o.name rs) n).kind) × ((info_of T (a_root n)).dims ≡ (root_at (change_at (with_child o.place a) o.name rs) n).dims) × (n < length T.names)
@@ -117,12 +117,12 @@ AreTold T (s ∷ ss) = IsTold T s.act × AreTold T ss
 pub knows-apply : (T : Table) (has : Kernel → Bool) (a : Act ℕ) (rs : List Root) → IsSound has rs a → IsTold T a → Knows T rs → Knows T (apply_at a rs)
 knows-apply T has (Registers r) rs s t k = λ n lives. elim (cases_eq n r.name) as (λ _. ((info_of T (a_root n)).kind ≡ (root_at (rs ++ registered_root r ∷ []) n).kind) × ((info_of T (a_root n)).dims ≡ (root_at (rs ++ registered_root r ∷ []) n).dims) × (n < length T.names)) [
   | inl e ↦
-    let now = pushed-there rs (registered_root r) n (e ∙ s.next) in
-    (ap (λ i. (info_of T (a_root i)).kind) e ∙ t.0 ∙ sym (ap (λ (x : Root). x.kind) now), ap (λ i. (info_of T (a_root i)).dims) e ∙ t.1 ∙ sym (ap (λ (x : Root). x.dims) now), omega (arith, e, t.2))
+      let now = pushed-there rs (registered_root r) n (e ∙ s.next) in
+      (ap (λ i. (info_of T (a_root i)).kind) e ∙ t.0 ∙ sym (ap (λ (x : Root). x.kind) now), ap (λ i. (info_of T (a_root i)).dims) e ∙ t.1 ∙ sym (ap (λ (x : Root). x.dims) now), omega (arith, e, t.2))
   | inr other ↦
-    let now = pushed-beside rs (registered_root r) n (λ e. other (e ∙ sym s.next)) in
-    let old = k n (subst (λ (x : Root). 0 < area x.dims) now lives) in
-    (old.0 ∙ sym (ap (λ (x : Root). x.kind) now), old.1 ∙ sym (ap (λ (x : Root). x.dims) now), old.2)
+      let now = pushed-beside rs (registered_root r) n (λ e. other (e ∙ sym s.next)) in
+      let old = k n (subst (λ (x : Root). 0 < area x.dims) now lives) in
+      (old.0 ∙ sym (ap (λ (x : Root). x.kind) now), old.1 ∙ sym (ap (λ (x : Root). x.dims) now), old.2)
 ]
 knows-apply T has (Plans n p) rs s t k = knows-changed T rs n (with_parts p) (λ r. (refl, refl)) s.0.lives k
 knows-apply T has (Reduces n by) rs s t k = knows-changed T rs n (with_reduction by) (λ r. (refl, refl)) s.0 k
@@ -132,9 +132,9 @@ knows-apply T has (Invalidates n) rs s t k = knows-changed T rs n (λ r. with_el
 knows-apply T has (Unregisters m) rs s t k = λ n lives. elim (cases_eq n m) as (λ _. ((info_of T (a_root n)).kind ≡ (root_at (set rs m no_root) n).kind) × ((info_of T (a_root n)).dims ≡ (root_at (set rs m no_root) n).dims) × (n < length T.names)) [
   | inl e ↦ absurd (omega (arith, lives, ap (λ (r : Root). area r.dims) (ap (root_at (set rs m no_root)) e ∙ get_or-set_same rs m no_root no_root (lives-below rs m s))))
   | inr other ↦
-    let now : root_at (set rs m no_root) n ≡ root_at rs n = get_or-set_other rs m n no_root no_root other in
-    let old = k n (subst (λ (r : Root). 0 < area r.dims) now lives) in
-    (old.0 ∙ sym (ap (λ (r : Root). r.kind) now), old.1 ∙ sym (ap (λ (r : Root). r.dims) now), old.2)
+      let now : root_at (set rs m no_root) n ≡ root_at rs n = get_or-set_other rs m n no_root no_root other in
+      let old = k n (subst (λ (r : Root). 0 < area r.dims) now lives) in
+      (old.0 ∙ sym (ap (λ (r : Root). r.kind) now), old.1 ∙ sym (ap (λ (r : Root). r.dims) now), old.2)
 ]
 
 -- what one statement prints

@@ -92,9 +92,9 @@ record SameShape (r s : Root) : Type 0 where
 shape-put : (rs : List Root) (o : Operand ℕ) (a : Array) (m : ℕ) → Lives rs o.name → SameShape (root_at (change_at (with_child o.place a) o.name rs) m) (root_at rs m)
 shape-put rs o a m lives = elim (cases_eq m o.name) [
   | inl e ↦
-    (let now = ap (root_at (change_at (with_child o.place a) o.name rs)) e ∙ changed-here (with_child o.place a) o.name rs lives in
-    let old = ap (root_at rs) (sym e) in
-    record { dims = ap (λ (r : Root). r.dims) now ∙ ap (λ (r : Root). r.dims) old; parts = ap (λ (r : Root). r.parts) now ∙ ap (λ (r : Root). r.parts) old; reduction = ap (λ (r : Root). r.reduction) now ∙ ap (λ (r : Root). r.reduction) old })
+      (let now = ap (root_at (change_at (with_child o.place a) o.name rs)) e ∙ changed-here (with_child o.place a) o.name rs lives in
+      let old = ap (root_at rs) (sym e) in
+      record { dims = ap (λ (r : Root). r.dims) now ∙ ap (λ (r : Root). r.dims) old; parts = ap (λ (r : Root). r.parts) now ∙ ap (λ (r : Root). r.parts) old; reduction = ap (λ (r : Root). r.reduction) now ∙ ap (λ (r : Root). r.reduction) old })
   | inr other ↦ (let now = changed-beside (with_child o.place a) o.name m rs other in record { dims = ap (λ (r : Root). r.dims) now; parts = ap (λ (r : Root). r.parts) now; reduction = ap (λ (r : Root). r.reduction) now })
 ]
 
@@ -109,10 +109,10 @@ valued-put : (rs : List Root) (o : Operand ℕ) (a : Array) (m : ℕ) (place : �
 valued-put rs o a m place placed at v = elim (cases_eq m o.name) [
   | inr other ↦ ap (λ (r : Root). is_valued_child r place) (changed-beside (with_child o.place a) o.name m rs other) ∙ v
   | inl e ↦
-    (let r = root_at rs o.name in
-    let now = ap (root_at (change_at (with_child o.place a) o.name rs)) e ∙ changed-here (with_child o.place a) o.name rs placed.lives in
-    let here : IsPlace r.parts place = subst (λ (i : ℕ). IsPlace (root_at rs i).parts place) e at in
-    ap (λ (x : Root). is_valued_child x place) now ∙ by_place here (ap (λ i. is_valued_child (root_at rs i) place) (sym e) ∙ v) (same_place o.place place) refl)
+      (let r = root_at rs o.name in
+      let now = ap (root_at (change_at (with_child o.place a) o.name rs)) e ∙ changed-here (with_child o.place a) o.name rs placed.lives in
+      let here : IsPlace r.parts place = subst (λ (i : ℕ). IsPlace (root_at rs i).parts place) e at in
+      ap (λ (x : Root). is_valued_child x place) now ∙ by_place here (ap (λ i. is_valued_child (root_at rs i) place) (sym e) ∙ v) (same_place o.place place) refl)
 ]
   where
     by_place : IsPlace (root_at rs o.name).parts place → is_valued_child (root_at rs o.name) place ≡ true → (t : Bool) → same_place o.place place ≡ t → is_valued_child (with_child o.place a (root_at rs o.name)) place ≡ true

@@ -329,11 +329,14 @@ module _ (p : Program) (D : Laid) (n : ℕ) (k : Contents) (rs : List Root) (was
     pub orderly-gift : IsOrderly p was b
     orderly-gift = record {
       tasks = all-from (IsOrderlyTask p (open_at was b)) (l ∷ []) (λ x h. subst (IsOrderlyTask p (open_at was b)) (one-case l x h) its);
-      openings = subst (AreOpenings p (l ∷ []) (shut_by was b)) (sym one_opens) (record {
-        used = (l, first-has l [], gives);
-        valued = goes_on;
-        copies = cells.kept c.0 (first_copy D c) (copied.1 ∙ ap (λ (o : Option Cell). Some (unwrap_or o (record { 0 = length D.rows }))) (sym copied.1));
-      }, tt);
+      openings = subst (AreOpenings p (l ∷ []) (shut_by was b)) (sym one_opens) (
+        record {
+          used = (l, first-has l [], gives);
+          valued = goes_on;
+          copies = cells.kept c.0 (first_copy D c) (copied.1 ∙ ap (λ (o : Option Cell). Some (unwrap_or o (record { 0 = length D.rows }))) (sym copied.1));
+        },
+        tt,
+      );
       delivered = delivered-quiet (l ∷ []) silent;
     }
       where

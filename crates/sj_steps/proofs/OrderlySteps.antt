@@ -111,7 +111,7 @@ module _ (has : Kernel → Bool) (q : Program) (C : Laid) (rs : List Root) (n : 
           let b = g.roots u.name placed.lives in
           let inside = cell-inside C u.name (root_at rs u.name).dims (root_at rs u.name).parts b.first u.place g.laid b.taken placed.place in
           let one : D ≡ with_copies q.workers C c = ap (λ us. fold (with_copies q.workers) C (each_of (operand_cell (by_number rs) C) us)) con.contributed in
-          (first_copy C c, (λ i. (info_at (one i) (same-cells C D handles u.name (root_at rs u.name).parts u.place i)).partials) ∙ copied-first q.workers c C inside)) ) at.cells
+          (first_copy C c, (λ i. (info_at (one i) (same-cells C D handles u.name (root_at rs u.name).parts u.place i)).partials) ∙ copied-first q.workers c C inside))) at.cells
         where
           last_of : (u : Operand ℕ) (vs : List (Operand ℕ)) → AllByRecursion (IsPlaced rs) (vs ++ u ∷ []) → IsPlaced rs u
           last_of u [] h = h.0

@@ -119,7 +119,7 @@ pieces-of (y ∷ xs) k zero x e =
     ap (λ i. of_print i (pieces_from k (y ∷ xs))) here
     ∙ filter-append (λ (h : Handed). nat_eq h.2 k) (each_of (piece k y) (places y.1.parts)) (pieces_from (k + 1) xs)
     ∙ (λ i. filter_all (λ (h : Handed). nat_eq h.2 k) (each_of (piece k y) (places y.1.parts)) (all-piece (λ (h : Handed). nat_eq h.2 k ≡ true) k y (λ place at. (Decides-eqb k k).1 refl)) i
-      ++ filter_gone (λ (h : Handed). nat_eq h.2 k) (pieces_from (k + 1) xs) (all-pieces (λ (h : Handed). nat_eq h.2 k ≡ false) xs (k + 1) (λ j z place e at. unequal ((k + 1) + j) k (λ same. omega (arith, same)))) i)
+    ++ filter_gone (λ (h : Handed). nat_eq h.2 k) (pieces_from (k + 1) xs) (all-pieces (λ (h : Handed). nat_eq h.2 k ≡ false) xs (k + 1) (λ j z place e at. unequal ((k + 1) + j) k (λ same. omega (arith, same)))) i)
     ∙ append-nil (each_of (piece k y) (places y.1.parts))
     ∙ (λ i. each_of (piece (sym here i) (one i)) (places (one i).1.parts))
 pieces-of (y ∷ xs) k (suc j) x e =

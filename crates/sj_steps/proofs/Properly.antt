@@ -80,9 +80,9 @@ ordinary-block : (p : Program) (was : Opens) (b : Block) → IsOrderly p was b �
 ordinary-block p was b h l k a i = elim (Contains-append_cases (units b) (each_of direct b.tasks) l k) [
   | inl unit ↦ openings-plain p b.tasks (shut_by was b) b.opens b.line h.openings plain l unit a i
   | inr own ↦
-    (let x = map-from direct b.tasks l own in
-    let y = map-from direct_access x.0.accesses a (subst (λ (z : Lowered). Contains z.accesses a) (sym x.2) i) in
-    subst (IsOrdinary p) y.2 (plain x.0 x.1 y.0 y.1, direct-redux y.0.mode))
+      (let x = map-from direct b.tasks l own in
+      let y = map-from direct_access x.0.accesses a (subst (λ (z : Lowered). Contains z.accesses a) (sym x.2) i) in
+      subst (IsOrdinary p) y.2 (plain x.0 x.1 y.0 y.1, direct-redux y.0.mode))
 ]
   where
     plain : (l : Lowered) → Contains b.tasks l → (a : Access) → Contains l.accesses a → IsPlain p a.cell

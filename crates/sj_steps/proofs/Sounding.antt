@@ -99,8 +99,7 @@ module _ (names : List (List ℕ)) (d : AreDistinct names) (S : State) (rs : Lis
   placed-at : (os : List (Operand ℕ)) → AllByRecursion There os → list_all (by_name.has_child S) (map (operand_by (name_at names)) os) ≡ true → AllByRecursion (IsPlaced rs) os
   placed-at [] h e = tt
   placed-at (o ∷ os) h e =
-      let both = and_parts (by_name.has_child S (operand_by (name_at names) o)) (list_all (by_name.has_child S) (map (operand_by (name_at names)) os)) e in
-      (
+      let both = and_parts (by_name.has_child S (operand_by (name_at names) o)) (list_all (by_name.has_child S) (map (operand_by (name_at names)) os)) e in (
         record { lives = lives o.name h.0; place = place-of (root_at rs o.name).parts o.place (sym (looked false (λ r. is_child r.parts o.place) o.name h.0) ∙ both.0) },
         placed-at os h.1 both.1,
       )

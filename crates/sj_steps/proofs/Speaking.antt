@@ -141,9 +141,9 @@ module _ {N : Type 0} (L M : Lookup N) where
     where
       rest : (D : Laid) → ((D : Laid) (os : List (Operand N)) → AllByRecursion (λ o. Agree L M o.name) os → map (operand_cell L D) os ≡ map (operand_cell M D) os) → step D (task_block L D t line) ≡ step D (task_block M D t line)
       rest D cells = λ i. task_with t line D
-        (cells D (filter is_other_access t.operands) (filtered _ is_other_access t.operands h) i)
-        (flat-same (opening_of L D) (opening_of M D) (contributed t) (all-of _ _ (opening-agrees D) (contributed t) (filtered _ (λ o. is_redux o.mode) t.operands h)) i)
-        (map-same (access_of L D) (access_of M D) t.operands (all-of _ _ (λ o a. λ j. record { mode = o.mode; cell = cell-agrees D o a j }) t.operands h) i)
+          (cells D (filter is_other_access t.operands) (filtered _ is_other_access t.operands h) i)
+          (flat-same (opening_of L D) (opening_of M D) (contributed t) (all-of _ _ (opening-agrees D) (contributed t) (filtered _ (λ o. is_redux o.mode) t.operands h)) i)
+          (map-same (access_of L D) (access_of M D) t.operands (all-of _ _ (λ o a. λ j. record { mode = o.mode; cell = cell-agrees D o a j }) t.operands h) i)
   step-agree workers C line (Prints q) h = λ i. step (with_print C) (print_block (h.number i) (h.root i) (active-agrees C q h i) C.prints line)
   step-agree workers C line (Invalidates q) h = λ i. step C (closing line (active-agrees C q h i) [])
   step-agree workers C line (Unregisters q) h = λ i. step C (closing line (active-agrees C q h i) [])
@@ -173,4 +173,4 @@ steps-same workers names d S rs C (s ∷ ss) m h =
     ∙ step-agree (through (name_at names) (by_name names S)) (by_number rs) workers C s.line s.act (agrees-on names d S rs m s.act h.0) in
     ap (λ (x : Step). x ∷ steps_from workers (by_name names) apply next x.laid (map (statement_by (name_at names)) ss)) now
     ∙ ap (λ xs. step_of workers (by_number rs) C s.line s.act ∷ xs)
-      (steps-same workers names d next (apply_at s.act rs) (step_of workers (by_number rs) C s.line s.act).laid ss (mirror-apply names d s.act S rs m h.0) h.1)
+    (steps-same workers names d next (apply_at s.act rs) (step_of workers (by_number rs) C s.line s.act).laid ss (mirror-apply names d s.act S rs m h.0) h.1)

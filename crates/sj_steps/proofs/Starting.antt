@@ -150,11 +150,11 @@ module _ (q : Program) (C : Laid) (n : ℕ) (rs : List Root) (line : Line) (r : 
   pub roots-registered : HasCells q Registered → Stand q n loads → HaveRoots q Registered (n + length loads) (contents_before q (n + length loads)) (rs ++ registered_root r ∷ [])
   roots-registered cells stand u lives = elim (cases_eq u m) as (λ _. HasRoot q Registered (n + length loads) (contents_before q (n + length loads)) u (root_at (rs ++ registered_root r ∷ []) u)) [
     | inl e ↦
-      subst (λ (x : Root). HasRoot q Registered (n + length loads) (contents_before q (n + length loads)) u x) (sym (pushed-there rs (registered_root r) u (e ∙ counted)))
-      (subst (λ i. HasRoot q Registered (n + length loads) (contents_before q (n + length loads)) i (registered_root r)) (sym e) new)
+        subst (λ (x : Root). HasRoot q Registered (n + length loads) (contents_before q (n + length loads)) u x) (sym (pushed-there rs (registered_root r) u (e ∙ counted)))
+        (subst (λ i. HasRoot q Registered (n + length loads) (contents_before q (n + length loads)) i (registered_root r)) (sym e) new)
     | inr other ↦
-      let same = pushed-beside rs (registered_root r) u (λ e. other (e ∙ sym counted)) in
-      subst (λ (x : Root). HasRoot q Registered (n + length loads) (contents_before q (n + length loads)) u x) (sym same) (old u other (subst (λ (x : Root). 0 < area x.dims) same lives))
+        let same = pushed-beside rs (registered_root r) u (λ e. other (e ∙ sym counted)) in
+        subst (λ (x : Root). HasRoot q Registered (n + length loads) (contents_before q (n + length loads)) u x) (sym same) (old u other (subst (λ (x : Root). 0 < area x.dims) same lives))
   ]
     where
       left : contents_before q (n + length loads) ≡ after_rows q (contents_before q n) loads
@@ -274,11 +274,11 @@ module _ (q : Program) (C : Laid) (n : ℕ) (rs : List Root) (line : Line) (m : 
   pub roots-planned : HasCells q Planned → Stand q n pastes → HaveRoots q Planned (n + length pastes) (contents_before q (n + length pastes)) (change_at (with_parts p) m rs)
   roots-planned cells stand u lives = elim (cases_eq u m) as (λ _. HasRoot q Planned (n + length pastes) (contents_before q (n + length pastes)) u (root_at (change_at (with_parts p) m rs) u)) [
     | inl e ↦
-      subst (λ (x : Root). HasRoot q Planned (n + length pastes) (contents_before q (n + length pastes)) u x) (sym (ap (root_at (change_at (with_parts p) m rs)) e ∙ changed-here (with_parts p) m rs sound.lives))
-      (subst (λ i. HasRoot q Planned (n + length pastes) (contents_before q (n + length pastes)) i (with_parts p r)) (sym e) new)
+        subst (λ (x : Root). HasRoot q Planned (n + length pastes) (contents_before q (n + length pastes)) u x) (sym (ap (root_at (change_at (with_parts p) m rs)) e ∙ changed-here (with_parts p) m rs sound.lives))
+        (subst (λ i. HasRoot q Planned (n + length pastes) (contents_before q (n + length pastes)) i (with_parts p r)) (sym e) new)
     | inr other ↦
-      let same = changed-beside (with_parts p) m u rs other in
-      subst (λ (x : Root). HasRoot q Planned (n + length pastes) (contents_before q (n + length pastes)) u x) (sym same) (old u other (subst (λ (x : Root). 0 < area x.dims) same lives))
+        let same = changed-beside (with_parts p) m u rs other in
+        subst (λ (x : Root). HasRoot q Planned (n + length pastes) (contents_before q (n + length pastes)) u x) (sym same) (old u other (subst (λ (x : Root). 0 < area x.dims) same lives))
   ]
     where
       left : contents_before q (n + length pastes) ≡ after_rows q (contents_before q n) pastes

@@ -212,7 +212,7 @@ module _ (T : Table) (old new : Steps) (root : RootNumber) (p : Parts) (v : Bool
     pub plan-bare : same_parts was.parts p ≡ false → v ≡ false → Does old.phases new.phases line (λ F. fold (closed old.phases.workers) F (cells_by was)) → Goes old new line (change_at (with_parts p) root.0 rs) D (expanded old.phases.workers E (step.plan_block now (active_cells (by_number rs) C root.0) D root.0 p line))
     plan-bare e bare does =
         let is = same-block false (ap (λ (s : Parts). same_parts s p) (sym a.parts) ∙ e)
-            ∙ ap (λ t. closing line (active_cells (by_number rs) C root.0) (cond t (each_of (paste_row (cell_of D root.0 now.parts) (cell_of D root.0 p) line) (pastes_of now.dims now.parts p)) [])) (sym next.valued ∙ bare) in
+        ∙ ap (λ t. closing line (active_cells (by_number rs) C root.0) (cond t (each_of (paste_row (cell_of D root.0 now.parts) (cell_of D root.0 p) line) (pastes_of now.dims now.parts p)) [])) (sym next.valued ∙ bare) in
         subst (λ (b : Block). Goes old new line (change_at (with_parts p) root.0 rs) D (expanded old.phases.workers E b)) (sym is)
         (ends (closing line (active_cells (by_number rs) C root.0) []) (does-closing old.phases new.phases line (active_cells (by_number rs) C root.0) (closes-same new.phases does)))
 
@@ -221,7 +221,7 @@ module _ (T : Table) (old new : Steps) (root : RootNumber) (p : Parts) (v : Bool
         → Goes old new line (change_at (with_parts p) root.0 rs) D (expanded old.phases.workers E (step.plan_block now (active_cells (by_number rs) C root.0) D root.0 p line))
     plan-pastes mid e valued does pastes =
         let is = same-block false (ap (λ (s : Parts). same_parts s p) (sym a.parts) ∙ e)
-            ∙ ap (λ t. closing line (active_cells (by_number rs) C root.0) (cond t (each_of (paste_row (cell_of D root.0 now.parts) (cell_of D root.0 p) line) (pastes_of now.dims now.parts p)) [])) (sym next.valued ∙ valued) in
+        ∙ ap (λ t. closing line (active_cells (by_number rs) C root.0) (cond t (each_of (paste_row (cell_of D root.0 now.parts) (cell_of D root.0 p) line) (pastes_of now.dims now.parts p)) [])) (sym next.valued ∙ valued) in
         let first : placed.first ≡ first_cell D root.0 p = sym (ap (λ (o : Option ℕ). unwrap_or o 0) lays.1) in
         let rows : each_of (paste_row (cells_from was.first was.parts) (cells_from placed.first placed.parts) line) (pastes_of (info_of T root).dims was.parts placed.parts) ≡ each_of (paste_row (cell_of D root.0 now.parts) (cell_of D root.0 p) line) (pastes_of now.dims now.parts p) =
         λ i. each_of (paste_row (cells_from (sym still i) (a.parts i)) (cells_from (first i) (parts i)) line) (pastes_of (next.dims root.0 next.sound.0.lives i) (a.parts i) (parts i)) in
@@ -323,19 +323,19 @@ module _ (T : Table) (old new : Steps) (root : RootNumber) (by : Reduction) (lin
           counted = ap length actives ∙ length-set old.layout.actives.items n mine ∙ at.layout.active.counted;
           each = λ m alive. elim (cases_eq m n) as (λ _. IsActive C m (active_at new.layout.actives.items m) (root_at qs m)) [
             | inl e ↦
-              let was = at.layout.active.each n lives in
-              let is : root_at qs m ≡ with_reduction by (root_at rs n) = ap (root_at qs) e ∙ changed-here (with_reduction by) n rs lives in
-              let active : active_at new.layout.actives.items m ≡ mine = ap (λ as'. active_at as' m) actives ∙ ap (active_at (set old.layout.actives.items n mine)) e ∙ get_or-set_same old.layout.actives.items n mine no_active below in
-              record {
-                parts = ap (λ (a : Active). a.placed.parts) active ∙ was.parts ∙ sym (ap (λ (x : Root). x.parts) is);
-                first = (λ i. (handle_at C (e i)).first (is i).parts) ∙ was.first ∙ ap (λ (a : Active). Some a.placed.first) (sym active);
-                reduction = ap (λ (a : Active). a.reduction) active ∙ sym (ap (λ (x : Root). x.reduction) is);
-              }
+                let was = at.layout.active.each n lives in
+                let is : root_at qs m ≡ with_reduction by (root_at rs n) = ap (root_at qs) e ∙ changed-here (with_reduction by) n rs lives in
+                let active : active_at new.layout.actives.items m ≡ mine = ap (λ as'. active_at as' m) actives ∙ ap (active_at (set old.layout.actives.items n mine)) e ∙ get_or-set_same old.layout.actives.items n mine no_active below in
+                record {
+                  parts = ap (λ (a : Active). a.placed.parts) active ∙ was.parts ∙ sym (ap (λ (x : Root). x.parts) is);
+                  first = (λ i. (handle_at C (e i)).first (is i).parts) ∙ was.first ∙ ap (λ (a : Active). Some a.placed.first) (sym active);
+                  reduction = ap (λ (a : Active). a.reduction) active ∙ sym (ap (λ (x : Root). x.reduction) is);
+                }
             | inr other ↦
-              let is = changed-beside (with_reduction by) n m rs other in
-              let was : Lives rs m = subst (λ (x : Root). 0 < area x.dims) is alive in
-              let active : active_at new.layout.actives.items m ≡ active_at old.layout.actives.items m = ap (λ as'. active_at as' m) actives ∙ get_or-set_other old.layout.actives.items n m mine no_active other in
-              subst (λ (x : Root). IsActive C m (active_at new.layout.actives.items m) x) (sym is) (subst (λ (a : Active). IsActive C m a (root_at rs m)) (sym active) (at.layout.active.each m was))
+                let is = changed-beside (with_reduction by) n m rs other in
+                let was : Lives rs m = subst (λ (x : Root). 0 < area x.dims) is alive in
+                let active : active_at new.layout.actives.items m ≡ active_at old.layout.actives.items m = ap (λ as'. active_at as' m) actives ∙ get_or-set_other old.layout.actives.items n m mine no_active other in
+                subst (λ (x : Root). IsActive C m (active_at new.layout.actives.items m) x) (sym is) (subst (λ (a : Active). IsActive C m a (root_at rs m)) (sym active) (at.layout.active.each m was))
           ];
         };
       } in

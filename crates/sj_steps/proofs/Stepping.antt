@@ -98,19 +98,19 @@ roots-stay q C n rs h = subst (λ k. HaveRoots q C k (contents_before q k) rs) (
 changed-roots : (q : Program) (C : Laid) (n : ℕ) (rs : List Root) (m : ℕ) (f : Root → Root) → Lives rs m → HaveRoots q C n (contents_before q n) rs → (HasRoot q C n (contents_before q n) m (root_at rs m) → HasRoot q C n (contents_before q n) m (f (root_at rs m))) → HaveRoots q C n (contents_before q n) (change_at f m rs)
 changed-roots q C n rs m f there has step u lives = elim (cases_eq u m) as (λ _. HasRoot q C n (contents_before q n) u (root_at (change_at f m rs) u)) [
   | inl e ↦
-    subst (λ (r : Root). HasRoot q C n (contents_before q n) u r) (sym (ap (root_at (change_at f m rs)) e ∙ changed-here f m rs there))
-    (subst (λ i. HasRoot q C n (contents_before q n) i (f (root_at rs m))) (sym e) (step (has m there)))
+      subst (λ (r : Root). HasRoot q C n (contents_before q n) u r) (sym (ap (root_at (change_at f m rs)) e ∙ changed-here f m rs there))
+      (subst (λ i. HasRoot q C n (contents_before q n) i (f (root_at rs m))) (sym e) (step (has m there)))
   | inr other ↦
-    let same = changed-beside f m u rs other in
-    subst (λ (r : Root). HasRoot q C n (contents_before q n) u r) (sym same) (has u (subst (λ (r : Root). 0 < area r.dims) same lives))
+      let same = changed-beside f m u rs other in
+      subst (λ (r : Root). HasRoot q C n (contents_before q n) u r) (sym same) (has u (subst (λ (r : Root). 0 < area r.dims) same lives))
 ]
 
 ended-roots : (q : Program) (C : Laid) (n : ℕ) (rs : List Root) (m : ℕ) → Lives rs m → HaveRoots q C n (contents_before q n) rs → HaveRoots q C n (contents_before q n) (set rs m no_root)
 ended-roots q C n rs m there has u lives = elim (cases_eq u m) as (λ _. HasRoot q C n (contents_before q n) u (root_at (set rs m no_root) u)) [
   | inl e ↦ absurd (omega (arith, lives, ap (λ (r : Root). area r.dims) (ap (root_at (set rs m no_root)) e ∙ get_or-set_same rs m no_root no_root (lives-below rs m there))))
   | inr other ↦
-    let same : root_at (set rs m no_root) u ≡ root_at rs u = get_or-set_other rs m u no_root no_root other in
-    subst (λ (r : Root). HasRoot q C n (contents_before q n) u r) (sym same) (has u (subst (λ (r : Root). 0 < area r.dims) same lives))
+      let same : root_at (set rs m no_root) u ≡ root_at rs u = get_or-set_other rs m u no_root no_root other in
+      subst (λ (r : Root). HasRoot q C n (contents_before q n) u r) (sym same) (has u (subst (λ (r : Root). 0 < area r.dims) same lives))
 ]
 
 blank-root : (q : Program) (C : Laid) (n : ℕ) (k : Contents) (m : ℕ) (r : Root) → HasRoot q C n k m r → HasRoot q C n k m (with_elements (no_values r.dims) r)

@@ -123,11 +123,11 @@ took-other C n p m other = get_or-set_other C.handles n m (Took C n p) _ other
 pub old_or_new : (C : Laid) (n : ℕ) (p : Parts) → n < length C.handles → (m : ℕ) (d : Dims) (s : Parts) (f : ℕ) → IsTaken (taking n p C) m d s f → IsOldOrNew C n p m d s f
 old_or_new C n p lt m d s f k = elim (cases_eq m n) as (λ _. IsOldOrNew C n p m d s f) [
   | inl e ↦
-    let is = ap (handle_at (taking n p C)) e ∙ took-there C n p lt in
-    by_plan (same_parts p s) refl e (sym (ap (λ (h : Handle). h.dims) is) ∙ k.dims) (sym (ap (λ (h : Handle). h.first s) is) ∙ k.first)
+      let is = ap (handle_at (taking n p C)) e ∙ took-there C n p lt in
+      by_plan (same_parts p s) refl e (sym (ap (λ (h : Handle). h.dims) is) ∙ k.dims) (sym (ap (λ (h : Handle). h.first s) is) ∙ k.first)
   | inr other ↦
-    let is = took-other C n p m other in
-    Old (record { dims = sym (ap (λ (h : Handle). h.dims) is) ∙ k.dims; first = sym (ap (λ (h : Handle). h.first s) is) ∙ k.first })
+      let is = took-other C n p m other in
+      Old (record { dims = sym (ap (λ (h : Handle). h.dims) is) ∙ k.dims; first = sym (ap (λ (h : Handle). h.first s) is) ∙ k.first })
 ]
   where
     by_plan : (b : Bool) → same_parts p s ≡ b → m ≡ n → (handle_at C n).dims ≡ d → cond b (Some (length C.rows)) ((handle_at C n).first s) ≡ Some f → IsOldOrNew C n p m d s f
@@ -210,14 +210,14 @@ laid-take C n p there fit a = by_first C n p AreLaid (λ f e. a) (λ e. laid_new
 pub keeps-new : (C : Laid) (n : ℕ) (p : Parts) → n < length C.handles → (handle_at C n).first p ≡ None → (m : ℕ) (d : Dims) (s : Parts) (f : ℕ) → IsTaken C m d s f → IsTaken (taking n p C) m d s f
 keeps-new C n p lt none m d s f k = elim (cases_eq m n) as (λ _. IsTaken (taking n p C) m d s f) [
   | inl e ↦
-    let is = ap (handle_at (taking n p C)) e ∙ took-there C n p lt in
-    record {
-      dims = ap (λ (h : Handle). h.dims) is ∙ ap (λ i. (handle_at C i).dims) (sym e) ∙ k.dims;
-      first = ap (λ (h : Handle). h.first s) is ∙ by_plan (same_parts p s) refl (ap (λ i. (handle_at C i).first s) (sym e) ∙ k.first);
-    }
+      let is = ap (handle_at (taking n p C)) e ∙ took-there C n p lt in
+      record {
+        dims = ap (λ (h : Handle). h.dims) is ∙ ap (λ i. (handle_at C i).dims) (sym e) ∙ k.dims;
+        first = ap (λ (h : Handle). h.first s) is ∙ by_plan (same_parts p s) refl (ap (λ i. (handle_at C i).first s) (sym e) ∙ k.first);
+      }
   | inr other ↦
-    let is = took-other C n p m other in
-    record { dims = ap (λ (h : Handle). h.dims) is ∙ k.dims; first = ap (λ (h : Handle). h.first s) is ∙ k.first }
+      let is = took-other C n p m other in
+      record { dims = ap (λ (h : Handle). h.dims) is ∙ k.dims; first = ap (λ (h : Handle). h.first s) is ∙ k.first }
 ]
   where
     by_plan : (b : Bool) → same_parts p s ≡ b → (handle_at C n).first s ≡ Some f → cond b (Some (length C.rows)) ((handle_at C n).first s) ≡ Some f

@@ -232,8 +232,8 @@ module _ (T : Table) (old new : Steps) (t : KeptTask) (line : Line) (a b : Expan
           | Some by ↦ (let x : Opening = record { cell = operand_cell (by_number rs) D u; by = by; copies = first_copy D (operand_cell (by_number rs) D u); valued = is_valued_child (root_at rs o.root.0) o.place } in x) ∷ []
         ] ++ []) by.1 in
         let here = goes old new line rs qs C D E block at
-            (follows-kept old.layout new.layout rs qs C D at.layout lays handles opened_one.1 kept-roots)
-            (prints-kept old new line rs C D E (λ F. expanded w F block) at does prints (copies-prints w (c ∷ []) C)) does in
+        (follows-kept old.layout new.layout rs qs C D at.layout lays handles opened_one.1 kept-roots)
+        (prints-kept old new line rs C D E (λ F. expanded w F block) at does prints (copies-prints w (c ∷ []) C)) does in
         subst (λ (xs : List Opening). let x : Block = record { line = line; closes = cs; opens = xs; tasks = ls; deliveries = [] } in Goes old new line qs D (expanded w E x)) (sym found) here
 
     pub task-goes : Wanted (filter (λ (o : Operand ℕ). is_redux o.mode) os)

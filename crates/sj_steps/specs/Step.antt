@@ -82,8 +82,8 @@ abbrev pub opening_of : {N : Type 0} → Lookup N → Laid → Operand N → Lis
 opening_of L C o = elim (L.root o.name).reduction [
   | None ↦ []
   | Some by ↦
-    let c = operand_cell L C o in
-    record { cell = c; by = by; copies = first_copy C c; valued = is_valued_child (L.root o.name) o.place } ∷ []
+      let c = operand_cell L C o in
+      record { cell = c; by = by; copies = first_copy C c; valued = is_valued_child (L.root o.name) o.place } ∷ []
 ]
 
 abbrev pub task_row : {N : Type 0} → Lookup N → Laid → TaskLine N → Line → Lowered

@@ -71,7 +71,13 @@ pub fn close_plan(
     requires cells { placed.first + children_count placed.parts ≤ most }
     ensures { OnOk result (Does phases.old phases.new line (λ E. fold (closed phases.old.workers) E (cells_by placed))) }
 {
-    close_from(phases, alloc, placed.first, placed.parts.r * placed.parts.c, line)
+    close_from(
+        phases,
+        alloc,
+        placed.first,
+        placed.parts.r * placed.parts.c,
+        line,
+    )
 }
 
 /// Whether an operand is accessed otherwise than by a contribution; a scratch buffer is no access. Constant time.

@@ -187,4 +187,3 @@ pub fn deliver_row(alloc: Global, cell: Cell, line: Line) -> Result<Lowered, Out
     )?;
     Ok(own_task(DELIVER, Vec::new(alloc), accesses, line))
 }
-

@@ -110,7 +110,14 @@ impl Steps {
     {
         let operands = task.operands.items();
         close_operands(&mut self.phases, alloc, &self.layout, operands, line)?;
-        open_operands(&mut self.layout, &mut self.phases, alloc, operands, task.valued, line)?;
+        open_operands(
+            &mut self.layout,
+            &mut self.phases,
+            alloc,
+            operands,
+            task.valued,
+            line,
+        )?;
         let accesses = self.layout.accesses(alloc, operands)?;
         let row = Lowered {
             codelet: task.kernel.id(),
@@ -138,7 +145,15 @@ impl Steps {
         let placed = self.layout.placed(root);
         close_plan(&mut self.phases, alloc, placed, line)?;
         let dims = roots.info(root).dims;
-        push_delivers(&mut self.phases, alloc, root, dims, placed, self.prints, line)?;
+        push_delivers(
+            &mut self.phases,
+            alloc,
+            root,
+            dims,
+            placed,
+            self.prints,
+            line,
+        )?;
         if self.phases.over.is_some() {
             return Ok(());
         }

@@ -5,7 +5,6 @@ use Rattle.sj_steps.specs.Cells.{cells_from}
 use Rattle.sj_steps.specs.Rows.{paste_row}
 use Rattle.sj_steps.proofs.pushes.push_pastes.Goals as goal
 
-
 pub returns-then-not-has_room : goal.returns-then-not-has_room
 returns-then-not-has_room c =
     let a = c.args in
