@@ -47,8 +47,8 @@ TakesText said _ out out' trace = Unit {0}
 
 -- Asked is what words and job text ask for, within the limits of lowering, or the refusal. IfAsked asked P: the words are
 -- accepted, and P holds of it where it is told. IfTold asked P: the same, and it is work, which isn't refused. IsToldAnd asked P:
--- it is told, and is work with P. A source that isn't read, as the words ask for no text, counts as one at its end that never
--- fails.
+-- it is told, and is work with P. So of an untold job the first two say only that the words are accepted, and the last is false.
+-- A source that isn't read, as the words ask for no text, counts as one at its end that never fails.
 module _ {D : Type 0} {disk : DiskOf D} (asked : Asked) (before after : Devices disk) (trace : List Event) where
   -- the run came to its end: there was room, each task ran once, no disk failed, and the blocks are on the disks
   pub record RunIsWhole : Type 0 where
@@ -90,8 +90,8 @@ module _ {D : Type 0} {disk : DiskOf D} (asked : Asked) (before after : Devices 
     pub cause : IfTold asked (λ w. IsTooLarge (program_of w) w.machine line bytes)
     pub nothing_ran : NothingRan
 
-  -- each task fits, and the blocks have no places on the disks: this is what all blocks need, and what all disks have together,
-  -- which may be more where there are several
+  -- each task fits, and the blocks have no places on the disks: these are the bytes that all blocks need, and those that all
+  -- disks have together, which may be more than needed where there are several, since a block lies on one disk
   pub record SwapIsTooSmall (needed have : ℕ) : Type 0 where
     pub cause : IfTold asked (λ w. IsSwapTooSmall (program_of w) w.machine needed have)
     pub nothing_ran : NothingRan
@@ -151,8 +151,8 @@ module _ {D : Type 0} {disk : DiskOf D} (asked : Asked) (before after : Devices 
   abbrev IsReadAnd : (Work → Type 0) → Type 0
   IsReadAnd P = IsToldAnd asked P × NeverFailed before.source after.source
 
-  -- the status that is due: by what is asked for, where devices didn't fail, and where the count of a source's or a sink's faults
-  -- is greater. A disk's fault is never due, nor is want of memory
+  -- the status that is due: by what is asked for, where devices didn't fail; and a fault of source or sink where its count of
+  -- faults is greater. A disk's fault is never due, nor is want of memory; of an untold job only Usage and such a fault can be
   abbrev pub IsDue : Status → Type 0
   IsDue Usage = asked ≡ Unaccepted
   IsDue (Refused line reason) = (asked ≡ Told (Err (record { line = line; reason = reason }))) × NeverFailed before.source after.source

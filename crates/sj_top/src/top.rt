@@ -341,7 +341,8 @@ where
     ensures err_takes_the_line { TakesLine
         (seen E.taken E.faults err.old) (seen E.taken E.faults err.new) (line_of result.status) }
 
-    // The disks come back in their order, no count lower; where the run never began each is as it was.
+    // The disks come back in their order, no count lower; and each as it was at Usage, Refused, TooLarge, SwapTooSmall and
+    // SourceFault, which come before the run.
     ensures disks_come_back { ComeBack D.Disk disks.items result.disks.items result.status }
 {
     let outcome = answer_words(rt, alloc, words, source, out, disks, gate);
