@@ -1,7 +1,8 @@
 #!/usr/bin/env python3
 """Random jobs at 2 to 64 workers with small nodes, each compared with what one worker prints on an ample node.
 
-    bench/stress/run.py [--jobs N | --hours H] [--seed S] [--kinds K,K,..] [--busy K] [--swap FOLDER] [--keep FOLDER]
+    bench/stress/run.py [--jobs N | --hours H] [--seed S] [--kinds K,K,..] [--busy K] [--swap FOLDER]
+                        [--keep FOLDER] [--tries RUNS] [--minutes M]
 
 Build both programs first, by ./run --build; STARJOB and TRACE_CHECK may name others. Each job is run once by one worker; then by a
 random number of workers, under a random policy, with one to four nodes that hold between once and four times its greatest task. What
@@ -18,13 +19,15 @@ job takes one:
     trace          with the trace of the run, which trace_check has to find legal and complete
 
 --swap on a small file system makes disks that fail: then `file` may end with a disk's fault, too. A run that takes a hundred times one
-worker's time, and ten seconds at least, counts as one that hangs. --busy keeps K processors taken by other work. A job that fails is
-made small, by leaving out lines as long as it goes on failing, and kept in --keep with the command that runs it. The last line is a
-summary; the exit code is 1 where a job failed.
+worker's time, and ten seconds at least, counts as one that hangs. --busy keeps K processors taken by other work. A job that fails is kept in
+--keep with the command that runs it, and a second time made small: lines, words and options are left out, and numbers made less, as long as
+it goes on failing in the same way, until none of these can be (small.py), or after --tries runs or --minutes of it. Each hour a line says
+how far it is; the last line is a summary, also of a run that is interrupted; the exit code is 1 where a job failed.
 """
 import argparse, collections, os, random, re, resource, subprocess, sys, tempfile, time
 
 from jobs import Job
+from small import Bound, made_small
 
 HERE = os.path.dirname(os.path.abspath(__file__))
 TOP = os.path.dirname(os.path.dirname(HERE))
@@ -106,42 +109,28 @@ def tried(case):
     """How a case ends by one worker and then as it asks, and what is wrong with that, or nothing."""
     alone = run([], case.lines, 60)
     if alone.status != DONE:
-        return alone, None, None
+        return alone, alone, f"ends with {alone.status} by one worker: {alone.said.decode(errors='replace').strip()}"
     ended = run(case.words, case.lines, max(10, 100 * alone.seconds), case.limit, case.fake)
     return alone, ended, fault_of(case, ended, alone.printed)
 
 
-def fails(case, first_word):
-    """Whether the case fails in the same way, in some tries."""
-    for _ in range(TRIES):
-        fault = tried(case)[2]
-        if fault and fault.split()[0] == first_word:
-            return True
-    return False
+def sort_of(fault):
+    """What kind of fault it is, without what a program said."""
+    return fault.split(":")[0]
 
 
-def left_out(case, lines, step, first_word):
-    """The lines without each so many in a row that the case fails without."""
-    at = 1
-    while at < len(lines):
-        fewer = lines[:at] + lines[at + step:]
-        if fails(case._replace(lines=fewer), first_word):
-            lines = fewer
-        else:
-            at += step
-    return lines
-
-
-def made_small(case, fault):
-    """The case without the lines that it fails without: first by halves, then by ever less, and by one until none is left out."""
-    first_word, lines, step = fault.split()[0], list(case.lines), len(case.lines) // 2
-    while step > 1:
-        lines = left_out(case, lines, step, first_word)
-        step //= 2
-    # a line of which another spoke may go once that one has
-    while len(fewer := left_out(case, lines, 1, first_word)) < len(lines):
-        lines = fewer
-    return case._replace(lines=lines)
+def fails_so(sort, bound):
+    """Whether a case fails in this way, in some tries."""
+    def fails(case):
+        for _ in range(TRIES):
+            bound.used += 1
+            fault = tried(case)[2]
+            if fault and sort_of(fault) == sort:
+                return True
+            if bound.is_over():
+                break
+        return False
+    return fails
 
 
 def kept(case, name, folder):
@@ -181,8 +170,11 @@ def told(given, case, number, fault):
     """Says what failed, makes it small, and keeps it."""
     name = f"stress-{given.seed}-{number}"
     print(f"job {number}, {case.kind}, {fault}\n  {kept(case, name, given.keep)}", flush=True)
-    small = made_small(case, fault)
-    print(f"  made small, {len(small.lines)} of {len(case.lines)} lines: {kept(small, name + '-small', given.keep)}", flush=True)
+    bound = Bound(given.tries, 60 * given.minutes)
+    small, is_least = made_small(case, fails_so(sort_of(fault), bound), bound)
+    least = "the least" if is_least else "not to the least"
+    print(f"  made small in {bound.used} runs, {least}, {len(small.lines)} of {len(case.lines)} lines: "
+          f"{kept(small, name + '-small', given.keep)}", flush=True)
 
 
 def goes_on(given, tally):
@@ -191,20 +183,29 @@ def goes_on(given, tally):
 
 
 def try_all(given, folder):
-    tally, number = Tally(), 0
+    tally = Tally()
+    try:
+        try_each(given, folder, tally)
+    except KeyboardInterrupt:
+        print("interrupted")
+    print(tally.summary(given.seed))
+    return tally.bad
+
+
+def try_each(given, folder, tally):
+    number, said = 0, 0
     while goes_on(given, tally):
         rng = random.Random(given.seed * 1_000_000 + number)
         case = case_of(rng, rng.choice(given.kinds), folder)
         alone, ended, fault = tried(case)
-        if ended is None:
-            sys.exit(f"job {number} ends with {alone.status} by one worker: {alone.said.decode()}: {kept(case, 'stress-alone', given.keep)}")
         tally.count(case, alone, ended)
         if fault:
             tally.bad += 1
             told(given, case, number, fault)
         number += 1
-    print(tally.summary(given.seed))
-    return tally.bad
+        if tally.hours() > said + 1:
+            said = tally.hours()
+            print(f"so far: {tally.summary(given.seed)}", flush=True)
 
 
 def main():
@@ -214,6 +215,8 @@ def main():
     words.add_argument("--seed", type=int, default=1)
     words.add_argument("--kinds", type=lambda text: text.split(","), default=KINDS)
     words.add_argument("--busy", type=int, default=0)
+    words.add_argument("--tries", type=int, default=20_000)
+    words.add_argument("--minutes", type=float, default=10)
     words.add_argument("--swap")
     words.add_argument("--keep", default=os.path.join(tempfile.gettempdir(), "stress"))
     given = words.parse_args()
