@@ -44,11 +44,11 @@ expect_true() {
   fi
 }
 
-# run INPUT WORDS..: runs the program on a text
+# run INPUT WORDS..: runs the program on a text, for a minute at most
 run() {
   local input=$1
   shift
-  printf %s "$input" | "$program" "$@" > out 2> err
+  printf %s "$input" | timeout 60 "$program" "$@" > out 2> err
   code=${PIPESTATUS[1]}
 }
 
@@ -56,7 +56,7 @@ run() {
 run_limited() {
   local blocks=$1 input=$2
   shift 2
-  printf %s "$input" | (ulimit -f "$blocks" && exec "$program" "$@") > out 2> err
+  printf %s "$input" | (ulimit -f "$blocks" && exec timeout 60 "$program" "$@") > out 2> err
   code=${PIPESTATUS[1]}
 }
 
@@ -158,6 +158,9 @@ expect 'an output that takes nothing, with nothing to write' 0 '' ''
 "$program" < / > out 2> err
 code=$?
 expect "an input that can't be read" 8 '' $'starjob: reading failed\n'
+timeout 60 "$program" < /dev/zero > out 2> err
+code=$?
+expect 'an input that never ends' 3 '' $'starjob: line 0: limit Text\n'
 # 3,000 bytes of output
 run_limited 1 $'starjob 1\nvector x 300 fill 100000000 1\nprint x\n'
 [ "$(stat -c %s out)" = 1024 ] || code=torn

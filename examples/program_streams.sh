@@ -54,7 +54,7 @@ expect_true 'a swap file has its size and no more' $?
 mkdir mounted
 # run_mounted OPTIONS INPUT WORDS..
 run_mounted() {
-  printf %s "$2" | unshare -rm bash -c 'mount -t tmpfs -o "$1" none mounted && shift && exec "$@"' - "$1" "$program" "${@:3}" > out 2> err
+  printf %s "$2" | unshare -rm bash -c 'mount -t tmpfs -o "$1" none mounted && shift && exec timeout 60 "$@"' - "$1" "$program" "${@:3}" > out 2> err
   code=${PIPESTATUS[1]}
 }
 if unshare -rm mount -t tmpfs none mounted 2> /dev/null; then

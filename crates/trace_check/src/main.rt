@@ -13,6 +13,8 @@ mod showing;
 mod tests;
 #[cfg(test)]
 mod tests_of_showing;
+#[cfg(test)]
+mod tests_of_texts;
 
 ghost use Rattle.std.specs.Prelude.{IfOk};
 ghost use Rattle.sj_minplus.specs.Has.{library_has};
