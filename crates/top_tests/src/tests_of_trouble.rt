@@ -225,6 +225,9 @@ const TWO_ROUNDS: &str =
 const SCALED: &str =
     "starjob 1\nnode 64\nvector a 3 values 1 2 3\nvector b 3 values 4 5 6\nvector c 3 values 7 8 9\ntask scale(2) a:RW\ntask scale(3) b:RW\ntask scale(5) c:RW\nprint a\n";
 
+/// The first calls of a disk, more than come to it by four workers before the first fault is kept.
+const EACH: [u64; 12] = [1, 2, 3, 4, 5, 6, 7, 8, 9, 10, 11, 12];
+
 // Of two rounds x is the first that is fetched again, and z is written before. Behind x, z and y the fourth that is written, by the
 // seventh and the eighth write, is z again. Of the vectors that are scaled it is a, which is then fetched for the print.
 const DAMAGES: [Damage; 6] = [
@@ -301,6 +304,36 @@ fn a_disk_that_lies_is_damaged(rt: HostRuntime) -> Result<(), Fail> {
         is_answered(&rt, &answer, damaged, "", "a lie");
     }
     Ok(())
+}
+
+#[test]
+fn a_disk_that_keeps_all_that_is_written_is_no_liar(rt: HostRuntime) -> Result<(), Fail> {
+    let answer = answer_to_lie(&rt, rt.alloc(), "1", SCALED, Lie::Keeps(u64::MAX))?;
+    is_answered(&rt, &answer, Status::Done, "a: 2 4 6\n", "all is kept");
+    Ok(())
+}
+
+/// Vectors that are scaled by so many workers fail with a disk that refuses these calls.
+fn scaled_fails<R: Threads + Wait + Abort + Sync>(
+    rt: &R,
+    alloc: Global,
+    workers: &str,
+    refused: &[u64],
+) -> Result<(), Fail> {
+    let disk = memory(alloc, ROUND_SWAP, refused)?;
+    let disks = one(alloc, Box::new(alloc, disk)?)?;
+    let words = ["--workers", workers];
+    let answer = answer_on(rt, alloc, &words, SCALED.as_bytes(), disks, &OpenGate)?;
+    is_failed(rt, &answer);
+    assert_eq!(rt; answer.outcome.disks.len(), 1);
+    Ok(())
+}
+
+// Three vectors never fit the node together, so that four workers come to a call, too.
+#[test]
+fn vectors_that_are_scaled_fail_with_their_disk(rt: HostRuntime) -> Result<(), Fail> {
+    scaled_fails(&rt, rt.alloc(), "1", &[3])?;
+    scaled_fails(&rt, rt.alloc(), "4", &EACH)
 }
 
 /// What two rounds print.
