@@ -114,12 +114,20 @@ fn ends<R: Threads + Wait + Abort + Sync>(
     Ok(())
 }
 
-// A source gives its bytes one a call, and is called once more for its end; `out` and `err` take one a call.
-#[test]
-fn each_call_that_a_device_refuses_is_its_fault(rt: HostRuntime) -> Result<(), Fail> {
-    let alloc = rt.alloc();
-    let printed = "y: 11 22 33\n";
-    let reads = SUM.len() as u64 + 1;
+/// What a `SUM` prints.
+const PRINTED: &str = "y: 11 22 33\n";
+
+/// A `SUM` by four workers.
+const SUM_BY_FOUR: &str =
+    "starjob 1\nworkers 4\nvector x 3 values 1 2 3\nvector y 3 values 10 20 30\ntask add x:R y:RW\nprint y\n";
+
+/// Each call of a source that gives one byte is refused in turn. It is called once more for its end.
+fn source_is_at_fault<R: Threads + Wait + Abort + Sync>(
+    rt: &R,
+    alloc: Global,
+    text: &str,
+) -> Result<(), Fail> {
+    let reads = text.len() as u64 + 1;
     for source in 0..reads + 3 {
         let refused = Refused {
             source,
@@ -128,12 +136,21 @@ fn each_call_that_a_device_refuses_is_its_fault(rt: HostRuntime) -> Result<(), F
         };
         if (1..=reads).contains(&source) {
             let said = ("", "starjob: reading failed\n");
-            ends(&rt, alloc, SUM, refused, Status::SourceFault, said)?;
+            ends(rt, alloc, text, refused, Status::SourceFault, said)?;
         } else {
-            ends(&rt, alloc, SUM, refused, Status::Done, (printed, ""))?;
+            ends(rt, alloc, text, refused, Status::Done, (PRINTED, ""))?;
         }
     }
-    let writes = printed.len() as u64;
+    Ok(())
+}
+
+/// Each call of an `out` that takes one byte is refused in turn.
+fn out_is_at_fault<R: Threads + Wait + Abort + Sync>(
+    rt: &R,
+    alloc: Global,
+    text: &str,
+) -> Result<(), Fail> {
+    let writes = PRINTED.len() as u64;
     for out in 1..writes + 3 {
         let refused = Refused {
             source: 0,
@@ -141,11 +158,20 @@ fn each_call_that_a_device_refuses_is_its_fault(rt: HostRuntime) -> Result<(), F
             err: out % 5,
         };
         if out <= writes {
-            let said = (printed, "starjob: writing failed\n");
-            ends(&rt, alloc, SUM, refused, Status::SinkFault, said)?;
+            let said = (PRINTED, "starjob: writing failed\n");
+            ends(rt, alloc, text, refused, Status::SinkFault, said)?;
         } else {
-            ends(&rt, alloc, SUM, refused, Status::Done, (printed, ""))?;
+            ends(rt, alloc, text, refused, Status::Done, (PRINTED, ""))?;
         }
+    }
+    Ok(())
+}
+
+#[test]
+fn each_call_that_a_device_refuses_is_its_fault(rt: HostRuntime) -> Result<(), Fail> {
+    for text in [SUM, SUM_BY_FOUR] {
+        source_is_at_fault(&rt, rt.alloc(), text)?;
+        out_is_at_fault(&rt, rt.alloc(), text)?;
     }
     Ok(())
 }
