@@ -68,7 +68,12 @@ fn is_answered<R: Abort>(rt: &R, alloc: Global, text: &[u8]) -> Result<(), ReadR
             let again = job_shown(alloc, &said)?;
             assert_eq!(rt; again.as_slice(), said.as_slice());
         }
-        Err(ReadRefusal::Refused { line: Line(line), .. }) => {
+        Err(
+            ReadRefusal::Refused {
+                line: Line(line),
+                ..
+            },
+        ) => {
             assert!(rt; line > 0 && line <= line_behind(text));
         }
         Err(ReadRefusal::OutOfMemory) => return Err(ReadRefusal::OutOfMemory),
