@@ -1,15 +1,17 @@
 #!/usr/bin/env python3
 """Runs jobs with allocations refused, and looks at what comes of it.
 
-    bench/memory/run.py [--from | --chance RUNS | --limits] [--swap FOLDER]
+    bench/memory/run.py [--from | --chance RUNS | --limits | --check] [--swap FOLDER]
 
 Without a word: each example with each of its allocations refused in turn. With --from each example with all refused from one on, at some
 fifty places. With --chance so many runs of the examples by four workers on two small nodes, where each allocation is refused with the
-probability 1/50. With --limits a large job by one and by four workers with 32 to 512 MiB of address space. With --swap all runs but those
-of --limits have a swap file in this folder, in which nothing else may be, and two small nodes, so that a disk's calls meet refused memory.
+probability 1/50. With --limits a large job by one and by four workers with 32 to 512 MiB of address space. With --check the program
+trace_check in place of starjob, which shows each example's text and its program, and judges the trace of its run, with each of its
+allocations refused in turn. With --swap all runs but those of --limits and --check have a swap file in this folder, in which nothing else may
+be, and two small nodes, so that a disk's calls meet refused memory.
 
 A run that is refused memory ends with 10 and writes nothing, or is as without: its output whole and status 0. None takes longer than
-twenty seconds. Build the program first, by ./run examples/first.job; STARJOB may name another.
+twenty seconds. Build the programs first, by ./run --build; STARJOB and TRACE_CHECK may name others.
 """
 import argparse, collections, glob, os, random, resource, subprocess, sys, tempfile
 
@@ -19,17 +21,18 @@ sys.path.insert(0, os.path.dirname(here))
 import figures
 
 starjob = os.environ.get("STARJOB", os.path.join(top, "bin", "starjob"))
+trace_check = os.environ.get("TRACE_CHECK", os.path.join(top, "bin", "trace_check"))
 LONGEST = 20
 MEBIBYTE = 1 << 20
 
 
-def run(job, words=(), shim=None, limit=None, **more):
+def run(job, words=(), shim=None, limit=None, program=starjob, **more):
     environment = {**os.environ, **{name: str(value) for name, value in more.items()}}
     if shim:
         environment["LD_PRELOAD"] = shim
     bound = limit and (lambda: resource.setrlimit(resource.RLIMIT_AS, (limit, limit)))
     try:
-        return subprocess.run([starjob, *words], input=job, capture_output=True, env=environment, timeout=LONGEST, preexec_fn=bound)
+        return subprocess.run([program, *words], input=job, capture_output=True, env=environment, timeout=LONGEST, preexec_fn=bound)
     except subprocess.TimeoutExpired:
         return None
 
@@ -44,7 +47,7 @@ class Count:
         if got is None:
             print(f"FAILED {what}: it hangs")
             self.failed += 1
-        elif got.returncode == 10 and got.stdout == b"" and got.stderr in (b"", b"starjob: out of memory\n"):
+        elif got.returncode == 10 and got.stdout == b"" and got.stderr in (b"", b"starjob: out of memory\n", b"out of memory\n"):
             self.refused += 1
         elif (got.returncode, got.stdout, got.stderr) == (0, wanted, b""):
             self.whole += 1
@@ -62,10 +65,10 @@ def examples():
             yield os.path.basename(path), job.read()
 
 
-def counted(shim, folder, job, words):
+def counted(shim, folder, job, words, program=starjob):
     """What a job prints, and how many allocations it asks for."""
     told = os.path.join(folder, "count")
-    wanted = run(job, words, shim, COUNT=told).stdout
+    wanted = run(job, words, shim, program=program, COUNT=told).stdout
     with open(told, "rb") as count:
         return wanted, int.from_bytes(count.read(), sys.byteorder)
 
@@ -81,6 +84,23 @@ def each_in_turn(shim, folder, swap):
         failed += count.failed
     print(f"{failed} failed")
     figures.write("memory", [("swap.failed" if swap else "failed", failed, "<=0", 0)])
+    return failed
+
+
+def each_in_turn_of_check(shim, folder):
+    failed, trace = 0, os.path.join(folder, "trace")
+    for name, job in examples():
+        printed = run(job).stdout
+        with open(trace, "wb") as events:
+            events.write(run(job, ["--trace"]).stdout[len(printed) :])
+        for words in (["--text"], ["--program"], [trace]):
+            (wanted, total), count = counted(shim, folder, job, words, trace_check), Count()
+            for number in range(1, total + 1):
+                count.judge(f"{name} {words[0]}: allocation {number}", run(job, words, shim, program=trace_check, REFUSE=number), wanted)
+            count.told(f"{name} {os.path.basename(words[0])}, {total} allocations")
+            failed += count.failed
+    print(f"{failed} failed")
+    figures.write("memory", [("check.failed", failed, "<=0", 0)])
     return failed
 
 
@@ -146,6 +166,7 @@ def main():
     words.add_argument("--from", action="store_true", dest="from_one_on")
     words.add_argument("--chance", type=int)
     words.add_argument("--limits", action="store_true")
+    words.add_argument("--check", action="store_true")
     words.add_argument("--swap")
     given = words.parse_args()
     with tempfile.TemporaryDirectory() as folder:
@@ -153,6 +174,8 @@ def main():
         subprocess.run(["gcc", "-O1", "-shared", "-fPIC", "-o", shim, os.path.join(here, "refuse.c")], check=True)
         if given.limits:
             failed = within_limits()
+        elif given.check:
+            failed = each_in_turn_of_check(shim, folder)
         elif given.chance:
             failed = by_chance(shim, given.chance, given.swap)
         else:

@@ -1,14 +1,15 @@
 #!/usr/bin/env python3
 """Job texts that are made to break a reader.
 
-    bench/texts/run.py [--prefixes] [--bytes] [--step N] [--sizes] [--memory] [--limits]
+    bench/texts/run.py [--prefixes] [--bytes] [--step N] [--sizes] [--instructions] [--memory] [--limits]
 
 Build both programs first, by ./run --build; STARJOB and TRACE_CHECK may name others. Without a word all of them are done.
 
     --prefixes  each prefix of each example, read and run
     --bytes     each byte of each example changed to each of the 255 others, read; with --step N every Nth of these
     --limits    lines, names, numbers and counts at each limit and one beyond it
-    --sizes     the worst texts of each kind at two sizes, read: the ratio of the times may be that of the sizes times that of their logarithms
+    --sizes     the worst texts of each kind at two sizes, read: the ratio of the times may be that of the sizes times that of their logarithms;
+                with --instructions that of the instructions, counted by callgrind at a tenth of the sizes, which no other work changes
     --memory    bad lines of 60 MB, each beside a good one: the peak of memory
 
 A text is read as it should be where its canonical text is read to itself, or where its answer is one line on standard error that names a
@@ -249,23 +250,34 @@ def seconds_of(words, text):
     return best
 
 
-def sizes():
-    tally, worst = Tally("sizes"), 0
+def instructions_of(words, text):
+    """The instructions that reading a text takes, in thousands."""
+    with tempfile.TemporaryFile() as source:
+        source.write(text)
+        source.seek(0)
+        counting = ["valgrind", "--tool=callgrind", "--callgrind-out-file=/dev/null", *words]
+        said = subprocess.run(counting, stdin=source, stdout=subprocess.DEVNULL, stderr=subprocess.PIPE).stderr
+    return int(re.search(rb"Collected : (\d+)", said)[1]) / 1000
+
+
+def sizes(counts):
+    tally, worst = Tally("instructions" if counts else "sizes"), 0
+    cost_of, least, whole, unit = (instructions_of, 1, 2 * MILLION, "thousand instructions") if counts else (seconds_of, 0.002, 20 * MILLION, "s")
     for name, text in size_texts():
-        small, large = text(4 * MILLION).encode(), text(20 * MILLION).encode()
+        small, large = text(whole // 5).encode(), text(whole).encode()
         if len(large) < 3 * len(small):
             # at most so many of these: at a quarter of the limit and at the limit
             small, large = text(len(large) // 4).encode(), large
         # what both take for the program's start
-        start = seconds_of([TRACE_CHECK, "--text"], b"starjob 1\n")
-        times = [max(seconds_of([TRACE_CHECK, "--text"], t) - start, 0.002) for t in (small, large)]
+        start = cost_of([TRACE_CHECK, "--text"], b"starjob 1\n")
+        costs = [max(cost_of([TRACE_CHECK, "--text"], t) - start, least) for t in (small, large)]
         most = len(large) / len(small) * math.log(len(large)) / math.log(len(small))
-        ratio = times[1] / times[0]
+        ratio = costs[1] / costs[0]
         worst = max(worst, ratio / most)
-        print(f"{name}: {len(small)} bytes {1000 * times[0]:.0f} ms, {len(large)} bytes {1000 * times[1]:.0f} ms: {ratio:.1f} times, at most {most:.1f}")
-        # a fifth for what one run differs from the next
-        tally.count("within") if ratio <= 1.2 * most else tally.fails(name, f"{ratio:.1f} times")
-    figures.write("texts", [("worst_ratio", round(worst, 2), "<=1.2", 30)])
+        print(f"{name}: {len(small)} bytes {costs[0]:.4g} {unit}, {len(large)} bytes {costs[1]:.4g}: {ratio:.1f} times, at most {most:.1f}", flush=True)
+        # a fifth for what one run's time differs from the next
+        tally.count("within") if ratio <= (1 if counts else 1.2) * most else tally.fails(name, f"{ratio:.1f} times")
+    figures.write("texts", [("worst_ratio.instructions", round(worst, 2), "<=1", 5)] if counts else [("worst_ratio", round(worst, 2), "<=1.2", 30)])
     return tally.told()
 
 
@@ -310,12 +322,12 @@ def memory():
 
 def main():
     words = argparse.ArgumentParser(description=__doc__, formatter_class=argparse.RawDescriptionHelpFormatter)
-    kinds = ["prefixes", "bytes", "limits", "sizes", "memory"]
+    kinds = ["prefixes", "bytes", "limits", "sizes", "instructions", "memory"]
     for kind in kinds:
         words.add_argument("--" + kind, action="store_true")
     words.add_argument("--step", type=int, default=1)
     given = words.parse_args()
-    asked = [kind for kind in kinds if getattr(given, kind)] or kinds
+    asked = [kind for kind in kinds if getattr(given, kind) and not (kind == "sizes" and given.instructions)] or kinds
     with tempfile.TemporaryDirectory() as folder:
         shim = os.path.join(folder, "serve.so")
         subprocess.run(["gcc", "-O1", "-shared", "-fPIC", "-o", shim, os.path.join(here, "serve.c")], check=True)
@@ -327,7 +339,7 @@ def main():
             return Program(shim, [STARJOB, "--workers", "1"])
 
         does = {"prefixes": lambda: prefixes(shower(), runner()), "bytes": lambda: changed_bytes(shower(), given.step),
-                "limits": limits, "sizes": sizes, "memory": memory}
+                "limits": limits, "sizes": lambda: sizes(False), "instructions": lambda: sizes(True), "memory": memory}
         sys.exit(sum(does[kind]() for kind in asked) != 0)
 
 
