@@ -228,8 +228,8 @@ const SCALED: &str =
 /// The first calls of a disk, more than come to it by four workers before the first fault is kept.
 const EACH: [u64; 12] = [1, 2, 3, 4, 5, 6, 7, 8, 9, 10, 11, 12];
 
-// Of two rounds x is the first that is fetched again, and z is written before. Behind x, z and y the fourth that is written, by the
-// seventh and the eighth write, is z again. Of the vectors that are scaled it is a, which is then fetched for the print.
+// Of two rounds x is the first that is fetched again, and z is written before. Behind x, z and y the fourth that is written, by
+// the seventh and the eighth write, is z again. Of the vectors that are scaled it is a, which is then fetched for the print.
 const DAMAGES: [Damage; 6] = [
     Damage {
         text: TWO_ROUNDS,
@@ -339,7 +339,7 @@ fn vectors_that_are_scaled_fail_with_their_disk(rt: HostRuntime) -> Result<(), F
 /// What two rounds print.
 const TWO_ROUNDS_OUT: &str = "x: 346 692 1038\n";
 
-// Which blocks go out, and which come back, the threads decide; one is wanted back at least. A lie is found, or it doesn't matter.
+// The threads decide which blocks go out and come back; one is wanted back at least. A lie is found, or it doesn't matter.
 #[test]
 fn a_disk_that_lies_to_four_workers_is_damaged_or_out_is_right(
     rt: HostRuntime,
