@@ -21,7 +21,7 @@ ghost use Rattle.sj_machine.specs.Running.{AreResultsFor, AreSharesFor};
 ghost use Rattle.sj_machine.specs.Sound.{CanStart, FetchesMoved, IsWrittenOut, StoresMoved};
 ghost use Rattle.sj_machine.specs.Preparing.{IsOpening};
 ghost use Rattle.sj_machine.specs.Sparing.{EventsSpareUsed, Spares, SparesMoved};
-ghost use Rattle.sj_machine.specs.Standing.{AllTell, CanHappen, HasDimsMoved, IsFetching, IsMovingIn, IsMovingOut, IsShareOf, IsTileMoved, state};
+ghost use Rattle.sj_machine.specs.Standing.{AllTell, CanHappen, HasDimsMoved, IsFetching, IsMovingIn, IsMovingOut, IsShareOf, IsTileMoved, is_node, state};
 ghost use Rattle.sj_machine.specs.Counts.{AreCounted, fault_of};
 ghost use Rattle.sj_machine.specs.Todo.{AnotherGoesOn, CanBegin, HasDiskIn, IsCounted, IsMoverOf, IsTodoOf};
 ghost use Rattle.sj_machine.specs.Units.{AnotherHasUnit, lent};
@@ -403,7 +403,7 @@ impl<D: Disk> Board<D> {
 
     /// A worker begins a move of a cell, where no fault is kept: one that its claim brings, or a victim of its claim. Hands out
     /// a share of the tile at the source, where that is a node. After an `Err` the board is as before: that share was refused.
-    /// Constant time.
+    /// No memory where the source is a disk. Constant time.
     pub fn begin_move(
         &mut self,
         w: Worker,
@@ -420,6 +420,7 @@ impl<D: Disk> Board<D> {
         ensures share { IfOk result (λ share. IsShareOf D.held self.old.run cell from
             (array_in share)) }
         ensures err { OnErr result (self.new ≡ self.old) }
+        ensures only_from_a_node { OnErr result (is_node from ≡ true) }
     {
         self.run.is_sound();
         self.run.begin_move(w, cell, from, to)

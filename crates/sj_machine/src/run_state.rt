@@ -146,7 +146,8 @@ fn clear(cells: &mut Vec<Copies>, cell: Cell, n: Node)
 /// A share of the tile that is kept of a cell at a node; none of its block on a disk. Constant time.
 fn share_of(cells: &[Copies], cell: Cell, place: Place) -> Result<Option<Arc<Tile>>, OutOfMemory>
     requires { CanShare cells.now cell place }
-    ensures { IfOk result (λ share. array_in share ≡ tile_kept cells.now cell place) }
+    ensures share { IfOk result (λ share. array_in share ≡ tile_kept cells.now cell place) }
+    ensures only_from_a_node { OnErr result (is_node place ≡ true) }
 {
     match place {
         Place::Node(n) => Ok(Some(cells[cell.0 as usize].share(n)?)),
@@ -344,7 +345,8 @@ impl<D: Disk> RunState<D> {
     }
 
     /// A worker begins a move of a cell: one that its claim brings, or a victim of its claim. Hands out a share of the tile
-    /// at the source, where that is a node. After an `Err` the run is as before: that share was refused. Constant time.
+    /// at the source, where that is a node. After an `Err` the run is as before: that share was refused. No memory where the
+    /// source is a disk. Constant time.
     pub fn begin_move(
         &mut self,
         w: Worker,
@@ -358,6 +360,7 @@ impl<D: Disk> RunState<D> {
         ensures share { IfOk result (λ share. IsShareOf D.held self.old cell from
             (array_in share)) }
         ensures err { OnErr result (self.new ≡ self.old) }
+        ensures only_from_a_node { OnErr result (is_node from ≡ true) }
     {
         let share = share_of(&self.cells, cell, from)?;
         set_transfer(&mut self.workers, w, Some(Transfer { cell, from, to }));
