@@ -33,6 +33,7 @@ pub mod Lending
 pub mod Lists
 pub mod Making
 pub mod Marking
+pub mod Marked
 pub mod NextBoards
 pub mod NextRows
 pub mod NextSteps

@@ -312,7 +312,8 @@ impl<D: Disk> RunState<D> {
         if let Some(cell) = leaving_at(&self.cells, n, &self.workers) {
             return Ok(Err(Why::Leaving(cell)));
         }
-        let found = Plan::on(alloc, &self.program, &self.nodes[n.0 as usize], t, w)?;
+        let node = &self.nodes[n.0 as usize];
+        let found = Plan::on(alloc, &self.program, &self.cells, node, n, t, w)?;
         Ok(found.ok_or(Why::NoRoom))
     }
 
@@ -470,13 +471,13 @@ impl<D: Disk> RunState<D> {
         let accesses = task_at(&self.program, t).accesses.items();
         share_into(&self.program, w, &self.cells, n, accesses, &mut frame)?;
         let written = written_cells(&self.program, w, accesses);
+        evict_elsewhere(&mut self.nodes, &self.cells, written.items(), n);
         lend_each(
             &mut self.cells,
             written.items(),
             n,
             self.machine.nodes.len(),
         );
-        evict_elsewhere(&mut self.nodes, written.items(), n);
         self.tasks[t.0 as usize] = Progress::Running(w);
         self.trace.add(Event::Run(t, w));
         Ok(frame)

@@ -10,7 +10,8 @@ use Rattle.sj_machine.specs.declared.plan.Why.TheVariants.{Commute, Leaving}
 use Rattle.sj_machine.proofs.Refusing.{found-waits}
 use Rattle.sj_machine.specs.Sound.{IsSoundRun}
 use Rattle.std.specs.Prelude.{Err}
-use Rattle.sj_machine.proofs.ClaimChoice.{answer-told, choice-commuter, choice-found, choice-free, choice-leaving, choice-small}
+use Rattle.sj_machine.proofs.ClaimChoice.{answer-told, choice-commuter, choice-found, choice-free, choice-leaving, choice-node, choice-small}
+use Rattle.sj_machine.proofs.Marked.{marked-at}
 use Rattle.sj_machine.proofs.run_state.RunState.claim_plan.Goals as goal
 
 pub returns-in-Some-clause-why : goal.returns-in-Some-clause-why
@@ -35,13 +36,19 @@ returns-in-Some-leaving_at-clause-why g c =
     subst (λ (b : Standing _). IsWhy b.program b.machine (state b) a.t a.w (Leaving c.in-Some-leaving_at.cell)) c.self.view_is
     (choice-leaving _ _ _ _ _ _ _ c.self.invariant a.t a.w may n c.node_of-n.ensures free c.in-Some-leaving_at.cell leaves)
 
-pub on-requires : goal.on-requires
-on-requires g c =
+pub on-requires-clause-work : goal.on-requires-clause-work
+on-requires-clause-work g c =
     let a = c.args in
-    let i = c.self.inside in
     let n = c.node_of-n.result in
     let may = subst (λ (b : Standing _). MayClaim b.program b.machine (state b) a.t a.w) (sym c.self.view_is) c.requires in
     subst (λ (p : Program). HasSmallWork p a.t a.w) (sym c.deref-5.ensures) (choice-small _ _ _ _ _ _ _ c.self.invariant a.t a.w may n c.node_of-n.ensures)
+
+pub on-requires-clause-marked : goal.on-requires-clause-marked
+on-requires-clause-marked g c =
+    let a = c.args in
+    let n = c.node_of-n.result in
+    let may = subst (λ (b : Standing _). MayClaim b.program b.machine (state b) a.t a.w) (sym c.self.view_is) c.requires in
+    marked-at _ _ _ _ _ _ _ c.self.invariant c.deref-6.result.now c.deref-6.ensures.value n c.index-node.result.now _ (choice-node _ _ _ _ _ _ _ c.self.invariant a.t a.w may n c.node_of-n.ensures) c.index-node.ensures
 
 pub returns-clause-can : goal.returns-clause-can
 returns-clause-can g c =
@@ -53,8 +60,8 @@ returns-clause-can g c =
     let free = choice-free _ _ _ _ _ _ _ c.self.invariant a.t a.w may n c.node_of-n.ensures c.deref-2.result.now c.items-accesses.result.now c.deref-2.ensures.value of_task (sym c.in_default.ensures) in
     let told : All (λ row. NoneLeaves c.deref-3.result.now n row.victims) c.deref-4.result.now = c.in_default-leaving_at.ensures.none refl in
     let none = subst (λ (ws : List WorkerState). All (λ row. NoneLeaves i.cells.items n row.victims) ws) c.deref-4.ensures.value (subst (λ (rows : List Copies). All (λ row. NoneLeaves rows n row.victims) c.deref-4.result.now) c.deref-3.ensures.value told) in
-    let found : c.in_ok-found.found ≡ option_map (planned i.program.value c.index.result.now a.t a.w) (chosen_on i.program.value c.index.result.now a.t a.w) = c.in_ok-found.ensures ∙ ap (λ (p : Program). option_map (planned p c.index.result.now a.t a.w) (chosen_on p c.index.result.now a.t a.w)) c.deref-5.ensures in
-    let answer = choice-found _ _ _ _ _ _ _ c.self.invariant a.t a.w may n c.node_of-n.ensures free none c.index.result.now _ c.index.ensures c.in_ok-found.found found in
+    let found : c.in_ok-found.found ≡ option_map (planned i.program.value c.index-node.result.now a.t a.w) (chosen_on i.program.value c.index-node.result.now a.t a.w) = c.in_ok-found.ensures ∙ ap (λ (p : Program). option_map (planned p c.index-node.result.now a.t a.w) (chosen_on p c.index-node.result.now a.t a.w)) c.deref-5.ensures in
+    let answer = choice-found _ _ _ _ _ _ _ c.self.invariant a.t a.w may n c.node_of-n.ensures free none c.index-node.result.now _ c.index-node.ensures c.in_ok-found.found found in
     (answer-told _ _ a.t a.w _ _ c.self.view_is c.ok_or.ensures.value answer).can
 
 pub returns-clause-plan : goal.returns-clause-plan
@@ -67,8 +74,8 @@ returns-clause-plan g c =
     let free = choice-free _ _ _ _ _ _ _ c.self.invariant a.t a.w may n c.node_of-n.ensures c.deref-2.result.now c.items-accesses.result.now c.deref-2.ensures.value of_task (sym c.in_default.ensures) in
     let told : All (λ row. NoneLeaves c.deref-3.result.now n row.victims) c.deref-4.result.now = c.in_default-leaving_at.ensures.none refl in
     let none = subst (λ (ws : List WorkerState). All (λ row. NoneLeaves i.cells.items n row.victims) ws) c.deref-4.ensures.value (subst (λ (rows : List Copies). All (λ row. NoneLeaves rows n row.victims) c.deref-4.result.now) c.deref-3.ensures.value told) in
-    let found : c.in_ok-found.found ≡ option_map (planned i.program.value c.index.result.now a.t a.w) (chosen_on i.program.value c.index.result.now a.t a.w) = c.in_ok-found.ensures ∙ ap (λ (p : Program). option_map (planned p c.index.result.now a.t a.w) (chosen_on p c.index.result.now a.t a.w)) c.deref-5.ensures in
-    let answer = choice-found _ _ _ _ _ _ _ c.self.invariant a.t a.w may n c.node_of-n.ensures free none c.index.result.now _ c.index.ensures c.in_ok-found.found found in
+    let found : c.in_ok-found.found ≡ option_map (planned i.program.value c.index-node.result.now a.t a.w) (chosen_on i.program.value c.index-node.result.now a.t a.w) = c.in_ok-found.ensures ∙ ap (λ (p : Program). option_map (planned p c.index-node.result.now a.t a.w) (chosen_on p c.index-node.result.now a.t a.w)) c.deref-5.ensures in
+    let answer = choice-found _ _ _ _ _ _ _ c.self.invariant a.t a.w may n c.node_of-n.ensures free none c.index-node.result.now _ c.index-node.ensures c.in_ok-found.found found in
     (answer-told _ _ a.t a.w _ _ c.self.view_is c.ok_or.ensures.value answer).plan
 
 pub returns-clause-why : goal.returns-clause-why
@@ -81,8 +88,8 @@ returns-clause-why g c =
     let free = choice-free _ _ _ _ _ _ _ c.self.invariant a.t a.w may n c.node_of-n.ensures c.deref-2.result.now c.items-accesses.result.now c.deref-2.ensures.value of_task (sym c.in_default.ensures) in
     let told : All (λ row. NoneLeaves c.deref-3.result.now n row.victims) c.deref-4.result.now = c.in_default-leaving_at.ensures.none refl in
     let none = subst (λ (ws : List WorkerState). All (λ row. NoneLeaves i.cells.items n row.victims) ws) c.deref-4.ensures.value (subst (λ (rows : List Copies). All (λ row. NoneLeaves rows n row.victims) c.deref-4.result.now) c.deref-3.ensures.value told) in
-    let found : c.in_ok-found.found ≡ option_map (planned i.program.value c.index.result.now a.t a.w) (chosen_on i.program.value c.index.result.now a.t a.w) = c.in_ok-found.ensures ∙ ap (λ (p : Program). option_map (planned p c.index.result.now a.t a.w) (chosen_on p c.index.result.now a.t a.w)) c.deref-5.ensures in
-    let answer = choice-found _ _ _ _ _ _ _ c.self.invariant a.t a.w may n c.node_of-n.ensures free none c.index.result.now _ c.index.ensures c.in_ok-found.found found in
+    let found : c.in_ok-found.found ≡ option_map (planned i.program.value c.index-node.result.now a.t a.w) (chosen_on i.program.value c.index-node.result.now a.t a.w) = c.in_ok-found.ensures ∙ ap (λ (p : Program). option_map (planned p c.index-node.result.now a.t a.w) (chosen_on p c.index-node.result.now a.t a.w)) c.deref-5.ensures in
+    let answer = choice-found _ _ _ _ _ _ _ c.self.invariant a.t a.w may n c.node_of-n.ensures free none c.index-node.result.now _ c.index-node.ensures c.in_ok-found.found found in
     (answer-told _ _ a.t a.w _ _ c.self.view_is c.ok_or.ensures.value answer).why
 
 pub returns-in-Some-clause-another : goal.returns-in-Some-clause-another
