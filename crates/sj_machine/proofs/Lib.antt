@@ -28,6 +28,7 @@ pub mod Faulting
 pub mod Finishing
 pub mod FirstFit
 pub mod Keeping
+pub mod KnownVictims
 pub mod LastHeaders
 pub mod Lending
 pub mod Lists

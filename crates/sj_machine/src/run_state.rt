@@ -12,6 +12,7 @@ ghost use Rattle.sj_machine.specs.Agrees.{idle, transfer_in, with_transfer_of};
 ghost use Rattle.sj_machine.specs.Copies.{CanShare, none_at, row_of, stored, tile_kept, with_copy, with_row};
 ghost use Rattle.sj_machine.specs.Board.{HasCause};
 ghost use Rattle.sj_machine.specs.Counts.{AreCounted, fault_of};
+ghost use Rattle.sj_machine.specs.Gone.{KnownGone};
 ghost use Rattle.sj_machine.specs.Plan.{IsPlan};
 ghost use Rattle.sj_machine.specs.Operands.{read_among};
 ghost use Rattle.sj_machine.specs.Releasing.{IsGift};
@@ -289,9 +290,8 @@ impl<D: Disk> RunState<D> {
     }
 
     /// The plan of a claim of a ready task by an idle worker, or why the claim can't be made now: only while another worker has
-    /// a claimed or running task. Linear in the operands,
-    /// the victims, the entries that are passed and the victims of each worker's last claim, and in the workers for each
-    /// commuting operand.
+    /// a claimed or running task. Linear in the operands, the victims, the entries that are passed and the victims of each
+    /// worker's last claim, and in the workers for each commuting operand.
     pub fn claim_plan(
         &self,
         alloc: Global,
@@ -304,12 +304,32 @@ impl<D: Disk> RunState<D> {
         ensures why { IfOk result (λ found. IfErr found (IsWhy self.now.program self.now.machine (state self.now) t w)) }
         ensures another { IfOk result (λ found. OnErr found (AnotherHasTask (state self.now) w)) }
     {
+        self.claim_plan_knowing(alloc, t, w, &[])
+    }
+
+    /// The same, where so many of each worker's victims, those that go first, are known to be gone. Linear in the operands, the
+    /// victims, the entries that are passed, the workers and the others of their victims, and in the workers for each commuting
+    /// operand.
+    pub fn claim_plan_knowing(
+        &self,
+        alloc: Global,
+        t: Task,
+        w: Worker,
+        gone: &[usize],
+    ) -> Result<Result<Plan, Why>, OutOfMemory>
+        requires may { MayClaim self.now.program self.now.machine (state self.now) t w }
+        requires gone { KnownGone self.now.machine (state self.now) gone.now }
+        ensures can { IfOk result (λ found. OnOk found (CanHappen self.now (Event.Claim t w))) }
+        ensures plan { IfOk result (λ found. IfOk found (IsPlan self.now.program self.now.machine (state self.now) t w)) }
+        ensures why { IfOk result (λ found. IfErr found (IsWhy self.now.program self.now.machine (state self.now) t w)) }
+        ensures another { IfOk result (λ found. OnErr found (AnotherHasTask (state self.now) w)) }
+    {
         let accesses = task_at(&self.program, t).accesses.items();
         if let Some(cell) = commuter_held(&self.workers, accesses) {
             return Ok(Err(Why::Commute(cell)));
         }
         let n = node_of(&self.machine, w);
-        if let Some(cell) = leaving_at(&self.cells, n, &self.workers) {
+        if let Some(cell) = leaving_at(&self.cells, n, &self.workers, gone) {
             return Ok(Err(Why::Leaving(cell)));
         }
         let node = &self.nodes[n.0 as usize];
@@ -483,12 +503,14 @@ impl<D: Disk> RunState<D> {
         Ok(frame)
     }
 
-    /// The kernel of a task has ended. The frame has shares of its results, in the order of its written operands. Linear in the
-    /// operands, and no memory.
-    pub fn end(&mut self, t: Task, w: Worker, mut written: Frame)
+    /// The kernel of a task has ended. The frame has shares of its results, in the order of its written operands; it comes back
+    /// empty, with its room. Linear in the operands, and no memory.
+    pub fn end(&mut self, t: Task, w: Worker, mut written: Frame) -> Frame
         requires can { CanHappen self.old (Event.End t w) }
         requires written { AreResultsFor D.held self.old t w written.slots }
-        ensures { self.new ≡ with_event self.old (Event.End t w) }
+        ensures event { self.new ≡ with_event self.old (Event.End t w) }
+        ensures spent { result.slots ≡ [] }
+        ensures room { result.spare ≡ written.spare + length written.slots }
     {
         let n = node_of(&self.machine, w);
         let accesses = task_at(&self.program, t).accesses.items();
@@ -497,6 +519,7 @@ impl<D: Disk> RunState<D> {
         let_go(&mut self.workers, w);
         self.tasks[t.0 as usize] = Progress::Done(w);
         self.trace.add(Event::End(t, w));
+        written
     }
 
     /// No code: its contract is what is true of every run.
