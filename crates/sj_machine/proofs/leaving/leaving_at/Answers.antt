@@ -9,10 +9,6 @@ use Rattle.sj_machine.specs.Copies.{Copies}
 use Rattle.sj_machine.specs.Planning.{NoneLeaves}
 use Rattle.sj_machine.proofs.leaving.leaving_at.Goals as goal
 
-none-of : {X : Type 0} (o : Option X) → is_some o ≡ false → o ≡ None
-none-of None h = refl
-none-of (Some x) h = absurd (cc)
-
 none-left : (rows : List Copies) (n : Node) (k : ℕ) → NoneLeaves rows n (take k [])
 none-left rows n zero = λ i d inside. absurd (omega (arith, inside))
 none-left rows n (suc k) = λ i d inside. absurd (omega (arith, inside))
@@ -23,7 +19,7 @@ loop-i-preserved c =
     let n = c.args.n in
     let ws : List WorkerState = c.args.workers.now in
     let known : ℕ = get_or c.args.gone.now c.loop-i.i 0 in
-    let none = none-of c.leaving_among-found.result (sym c.is_some.ensures ∙ c.if-is_some.false) in
+    let none : c.leaving_among-found.result ≡ None = elim c.leaving_among-found.result as (λ o. is_some o ≡ false → o ≡ None) [ None ↦ λ h. refl | Some x ↦ λ h. absurd (cc) ] (sym c.is_some.ensures ∙ c.if-is_some.false) in
     let row : c.index-workers-i.result ≡ get_or ws c.loop-i.i idle = c.index-workers-i.is ∙ get_or_default ws c.loop-i.i c.index-workers-i.result idle (omega arith) in
     let many : c.saturating_sub-left.result ≡ length c.victims-victims.result.now - known = c.saturating_sub-left.ensures ∙ ap (λ (k : ℕ). length c.victims-victims.result.now - k) c.known_of.ensures in
     let victims : c.victims-victims.result.now ≡ (get_or ws c.loop-i.i idle).victims = c.victims-victims.ensures ∙ ap (λ (r : WorkerState). r.victims) row in
