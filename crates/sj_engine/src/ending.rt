@@ -1,6 +1,6 @@
 //! The end of a worker's task.
 
-ghost use Rattle.std.specs.Prelude.{◌≡◌, IsTrue, None, false, is_some};
+ghost use Rattle.std.specs.Prelude.{◌≡◌, [], IsTrue, None, false, is_some};
 ghost use Rattle.sj_base.specs.declared.trace.Event.TheVariants.{End};
 ghost use Rattle.sj_machine.specs.BoardRow.{key_of};
 ghost use Rattle.sj_engine.specs.Stage.{AreDone, IsFreeRow, RunsRow, row_in};
@@ -13,17 +13,18 @@ use sj_edge::disk::Disk;
 use sj_machine::fault::RunFault;
 
 impl<D: Disk> SharedBoard<D> {
-    /// A worker's task ends with these results. The cost of `end`.
-    pub fn finish(&mut self, w: Worker, t: Task, results: Frame)
+    /// A worker's task ends with these results. Their frame comes back empty. The cost of `end`.
+    pub fn finish(&mut self, w: Worker, t: Task, results: Frame) -> Frame
         requires worker { IsWorkerOf self.old w }
         requires runs { RunsRow w t (row_in self.old w) }
         requires results { AreDone D.held (key_of self.old) w t (row_in self.old w) results.slots }
         ensures turn { IsTurnOf D.faults D.mismatches w self.old self.new }
         ensures row { IsFreeRow (row_in self.new w) }
         ensures event { Happens (End t w) self.old self.new }
+        ensures spent { result.slots ≡ [] }
     {
         self.board.is_sound();
-        self.board.end(t, w, results);
+        self.board.end(t, w, results)
     }
 
     /// A worker fails for want of memory, and lets its task go. Constant time.

@@ -204,7 +204,7 @@ impl<R: Wait, D: Disk> Workplace<'_, R, D> {
         self.end_turn(seat, noted, Change::Freed);
     }
 
-    /// Ends the task that runs, with its results.
+    /// Ends the task that runs, with its results. The memory of their frame is given back after the turn.
     pub fn finish(&self, seat: &mut BoardSeat<D>, t: Task, results: Frame)
         requires workplace { IsWorkplace self.now }
         requires runs { IsSeated self.now (RunsRow self.now.worker t) seat.old }
@@ -215,8 +215,9 @@ impl<R: Wait, D: Disk> Workplace<'_, R, D> {
         ensures bell { MindsBell self.now.worker false seat.old seat.new }
     {
         let mut noted = self.desk.enter(self.rt, seat);
-        noted.board.finish(self.worker, t, results);
+        let spent = noted.board.finish(self.worker, t, results);
         self.end_turn(seat, noted, Change::Ended);
+        drop(spent);
     }
 
     /// Fails for want of memory, and lets the task go.

@@ -11,9 +11,10 @@ use Rattle.sj_core.specs.Laws.{IsSound}
 use Rattle.sj_core.specs.Step.{none_leaving}
 use Rattle.sj_node.specs.Store.{Store}
 use Rattle.sj_machine.specs.Agrees.{IsWide, Rows, store_of}
+use Rattle.sj_machine.specs.Gone.{KnownGone}
 use Rattle.sj_machine.specs.Operands.{first_held}
 use Rattle.sj_machine.specs.Plan.{ClaimPlan, IsPlan}
-use Rattle.sj_machine.specs.Planning.{CommutersAreFree, HasSmallWork, IsWhy, MayClaim, NoneLeaves, chosen_on, commuter_in_use, is_leaving_at, planned}
+use Rattle.sj_machine.specs.Planning.{CommutersAreFree, HasSmallWork, IsWhy, MayClaim, NoneLeavesFor, chosen_on, commuter_in_use, is_leaving_at, planned}
 use Rattle.sj_machine.specs.Sound.{Keeps}
 use Rattle.sj_machine.specs.Standing.{CanHappen, Standing, state}
 use Rattle.sj_machine.specs.declared.plan.Why.{Why}
@@ -21,8 +22,9 @@ use Rattle.sj_machine.specs.declared.plan.Why.TheVariants.{Commute, Leaving, NoR
 use Rattle.sj_machine.proofs.Commuting.{first-is}
 use Rattle.sj_machine.proofs.Prepared.{proper-small}
 use Rattle.sj_machine.proofs.Written.{can-work, works-small}
-use Rattle.sj_machine.proofs.ClaimFinding.{leaves-same, none-leaves, plan-right, plan-wrong}
+use Rattle.sj_machine.proofs.ClaimFinding.{leaves-same, plan-right, plan-wrong}
 use Rattle.sj_machine.proofs.Keeping.{sound_state}
+use Rattle.sj_machine.proofs.KnownVictims.{none-leaves}
 
 -- the answer: where it is a plan, the claim can happen and the plan is its; else the reason stands
 pub record IsAnswer {D : Type 0} (b : Standing D) (t : Task) (w : Worker) (answer : Result ClaimPlan Why) : Type 0 where
@@ -87,13 +89,13 @@ module _ {D : Type 0} (size faults mismatches : D → ℕ) (held : D → Option 
     sym (leaves-same p m s sound.coherent rows.cells keeps.agrees.marks (node_of m w) c) ∙ ap (λ (j : Node). is_leaving_at rows.cells j c) (sym at) ∙ leaves,
   )
 
-  pub choice-found : CommutersAreFree p s t → All (λ row. NoneLeaves rows.cells k row.victims) rows.workers → (store d : Store) → store ≡ get_or rows.nodes k.0 d → (found : Option ClaimPlan) → found ≡ option_map (planned p store t w) (chosen_on p store t w) → IsAnswer b t w (ok_or found NoRoom)
-  choice-found free none store d read found is = by_found found is
+  pub choice-found : CommutersAreFree p s t → (gone : List ℕ) → KnownGone m s gone → NoneLeavesFor rows.cells k rows.workers gone → (store d : Store) → store ≡ get_or rows.nodes k.0 d → (found : Option ClaimPlan) → found ≡ option_map (planned p store t w) (chosen_on p store t w) → IsAnswer b t w (ok_or found NoRoom)
+  choice-found free gone known none store d read found is = by_found found is
     where
       settled : none_leaving s (node_of m w) ≡ true
-      settled = none-leaves p m s sound.coherent rows.cells keeps.agrees.marks (node_of m w)
-          (subst (λ (j : Node). All (λ row. NoneLeaves rows.cells j row.victims) s.workers) at
-          (subst (λ (ws : List WorkerState). All (λ row. NoneLeaves rows.cells k row.victims) ws) keeps.agrees.workers none))
+      settled = none-leaves p m s sound.coherent rows.cells keeps.agrees.marks (node_of m w) gone known
+          (subst (λ (j : Node). NoneLeavesFor rows.cells j s.workers gone) at
+          (subst (λ (ws : List WorkerState). NoneLeavesFor rows.cells k ws gone) keeps.agrees.workers none))
 
       store-is : store ≡ store_of p m s (node_of m w)
       store-is = read ∙ get_or_default rows.nodes k.0 d (store_of p m s k) choice-node ∙ keeps.agrees.stores.stores k within ∙ ap (store_of p m s) at

@@ -122,25 +122,6 @@ module _ (p : Program) (m : Machine) (s : State) (coherent : Coherent p m s) (ce
   pub leaves-same : (c : Cell) → is_leaving_at cells n c ≡ is_leaving (replica s c (AtNode n))
   leaves-same c = ap is_leaving_mark (marks.marks c n) ∙ leaving-mark (replica s c (AtNode n))
 
-  -- where no victim of a worker leaves, nothing does
-  pub none-leaves : All (λ row. NoneLeaves cells n row.victims) s.workers → none_leaving s n ≡ true
-  none-leaves none = list_all-from_AllPass (λ (row : CellState). not (is_leaving (replica_in row (AtNode n)))) s.cells (λ i d inside.
-      (let c : Cell = record { 0 = i } in
-      ap (λ (row : CellState). not (is_leaving (replica_in row (AtNode n)))) (get_or_default s.cells i d no_row inside) ∙ ap not (stays c)))
-    where
-      not_victim : (v : Worker) (c : Cell) → has_cell (victims_of s v) c ≡ true → is_leaving (replica s c (AtNode n)) ≡ false
-      not_victim v c victim =
-          elim (cases_lt v.0 (length s.workers)) [
-            | inl inside ↦ sym (leaves-same c) ∙ All-of (λ d. is_leaving_at cells n d ≡ false) (victims_of s v) c (All-get_or (λ (row : WorkerState). NoneLeaves cells n row.victims) s.workers v.0 idle_row inside none) victim
-            | inr past ↦ absurd (false≢true (sym (ap (λ (row : WorkerState). has_cell row.victims c) (get_or_past s.workers v.0 idle_row past)) ∙ victim))
-          ]
-
-      stays : (c : Cell) → is_leaving (replica s c (AtNode n)) ≡ false
-      stays c = false_from_ne_true (is_leaving (replica s c (AtNode n))) (λ leaves.
-          (let by = leaving-by_some (replica s c (AtNode n)) leaves in
-          let evicted = coherent.workers.evicted by.0 c n by.1 in
-          false≢true (sym (not_victim by.0 c evicted.victim) ∙ leaves)))
-
 -- ---- the claim
 
 module _ (p : Program) (m : Machine) (s : State) (t : Task) (w : Worker) (may : MayClaim p m s t w) (free : CommutersAreFree p s t) (settled : none_leaving s (node_of m w) ≡ true) where

@@ -1,43 +1,16 @@
 -- The loops of a claim: over the cells that are marked, and over those that are taken.
-use Rattle.std.proofs.Common.{◌≡◌, ℕ, ◌+◌, ◌<◌, ◌≤◌, Bool, true, false, ◌||◌, cond, List, [], ◌∷◌, ◌++◌, filter, fold, length, drop, get_or, refl, sym, ap, ◌∙◌, subst, arith}
-use Rattle.std.specs.List.{find}
-use Rattle.std.specs.Option.{option_map_or}
-use Rattle.std.specs.Prelude.{All, Option, Some}
-use Rattle.std.proofs.lemmas.Bool.{false≢true}
+use Rattle.std.proofs.Common.{◌≡◌, ℕ, ◌+◌, ◌<◌, ◌≤◌, true, List, ◌∷◌, fold, length, drop, get_or, sym, ap, ◌∙◌, subst, arith}
+use Rattle.std.specs.Prelude.{All}
 use Rattle.std.proofs.lemmas.List.{drop_all, drop_more, length-set}
 use Rattle.std.proofs.lemmas.List.Elements.{All-get_or, All-set}
 use Rattle.sj_base.specs.declared.ids.Cell.{Cell}
 use Rattle.sj_base.specs.declared.ids.Node.{Node}
-use Rattle.sj_node.specs.Entry.{Entry, has_entry, is_of, pins_of, to_front, without}
+use Rattle.sj_node.specs.Entry.{has_entry, pins_of}
 use Rattle.sj_node.specs.Store.{Store}
 use Rattle.sj_machine.specs.declared.mark.Mark.{Mark}
 use Rattle.sj_machine.specs.Copies.{Copies, row_of, with_row}
 use Rattle.sj_machine.specs.Plan.{CanTakeAll, marked, taken, with_mark}
 use Rattle.sj_machine.proofs.Reading.{no_copies}
-
--- ---- an entry at the front
-
-has-filtered : (c : Cell) (es rest : List Entry) → has_entry es c ≡ true → has_entry (filter (is_of c) es ++ rest) c ≡ true
-has-filtered c [] rest h = absurd (false≢true h)
-has-filtered c (e ∷ es) rest h = by_cases (is_of c e) refl h (has-filtered c es rest)
-  where
-    by_cases : (b : Bool) → is_of c e ≡ b → (b || has_entry es c) ≡ true → (has_entry es c ≡ true → has_entry (filter (is_of c) es ++ rest) c ≡ true) → has_entry (cond b (e ∷ filter (is_of c) es) (filter (is_of c) es) ++ rest) c ≡ true
-    by_cases true it h later = ap (λ b. b || has_entry (filter (is_of c) es ++ rest) c) it
-    by_cases false it h later = later h
-
-find-filtered : (c : Cell) (es rest : List Entry) → has_entry es c ≡ true → find (is_of c) (filter (is_of c) es ++ rest) ≡ find (is_of c) es
-find-filtered c [] rest h = absurd (false≢true h)
-find-filtered c (e ∷ es) rest h = by_cases (is_of c e) refl h (find-filtered c es rest)
-  where
-    by_cases : (b : Bool) → is_of c e ≡ b → (b || has_entry es c) ≡ true → (has_entry es c ≡ true → find (is_of c) (filter (is_of c) es ++ rest) ≡ find (is_of c) es) → find (is_of c) (cond b (e ∷ filter (is_of c) es) (filter (is_of c) es) ++ rest) ≡ cond b (Some e) (find (is_of c) es)
-    by_cases true it h later = ap (λ b. cond b (Some e) (find (is_of c) (filter (is_of c) es ++ rest))) it
-    by_cases false it h later = later h
-
-pub has-to_front : (c : Cell) (es : List Entry) → has_entry es c ≡ true → has_entry (to_front c es) c ≡ true
-has-to_front c es h = has-filtered c es (without c es) h
-
-pub pins-to_front : (c : Cell) (es : List Entry) → has_entry es c ≡ true → pins_of (to_front c es) c ≡ pins_of es c
-pins-to_front c es h = ap (λ (o : Option Entry). option_map_or (λ (e : Entry). e.pins) o 0) (find-filtered c es (without c es) h)
 
 -- ---- taking cells
 

@@ -1,8 +1,8 @@
 -- Entries of a node that are taken away.
-use Rattle.std.proofs.Common.{◌≡◌, ◌<◌, ℕ, true, false, List, [], ◌∷◌, ◌∙◌, ap, arith, Some, inl, inr, cond, find, get_or, length, not, refl, take}
+use Rattle.std.proofs.Common.{◌≡◌, ◌<◌, ℕ, Bool, true, false, List, [], ◌∷◌, ◌∙◌, ap, arith, Some, inl, inr, cond, find, get_or, length, not, refl, take}
 use Rattle.std.specs.Prelude.{All}
 use Rattle.std.specs.Option.{option_map_or}
-use Rattle.std.proofs.lemmas.Bool.{cases_Bool, or_parts}
+use Rattle.std.proofs.lemmas.Bool.{cases_Bool, or_from, or_parts}
 use Rattle.std.proofs.lemmas.List.Elements.{All-filter, All-tail}
 use Rattle.std.proofs.lemmas.List.Folds.{list_any_at}
 use Rattle.sj_base.specs.declared.ids.Cell.{Cell}
@@ -30,3 +30,14 @@ pub unpinned-rest : (cells : List Cell) (es : List Entry) (i : ℕ) (d : Cell) �
 unpinned-rest cells es i d inside h =
     let c = get_or cells i d in
     unpinned-pins c (without_all (take i cells) es) (All-filter (λ e. not (is_among (take i cells) e)) (λ e. is_of c e ≡ true → e.pins ≡ 0) es (λ k x within is. h k x within (list_any_at (λ y. is_of y (get_or es k x)) cells i d inside is)))
+
+-- a cell without an entry, with some entries gone
+pub absent-rest : (cells : List Cell) (es : List Entry) (c : Cell) → has_entry es c ≡ false → has_entry (without_all cells es) c ≡ false
+absent-rest cells [] c h = refl
+absent-rest cells (e ∷ es) c h =
+    let parts = or_parts (is_of c e) (has_entry es c) h in
+    by_cases (not (is_among cells e)) (absent-rest cells es c parts.1)
+  where
+    by_cases : (b : Bool) → has_entry (without_all cells es) c ≡ false → has_entry (cond b (e ∷ without_all cells es) (without_all cells es)) c ≡ false
+    by_cases true rest = or_from (is_of c e) (has_entry (without_all cells es) c) (or_parts (is_of c e) (has_entry es c) h).0 rest
+    by_cases false rest = rest

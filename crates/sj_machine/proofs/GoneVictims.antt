@@ -84,7 +84,7 @@ find-rest f (x ∷ xs) (suc k) h =
     ∙ find-rest f xs k (and_rest (not (f x)) (list_all (λ c. not (f c)) (take k xs)) h)
 
 -- without so many at the end, from behind
-rest-is : (xs : List Cell) (k : ℕ) → reverse (take (length xs - k) xs) ≡ drop k (reverse xs)
+pub rest-is : (xs : List Cell) (k : ℕ) → reverse (take (length xs - k) xs) ≡ drop k (reverse xs)
 rest-is xs k = elim (cases_lt (length xs) k) [
   | inl past ↦
       ap (λ (n : ℕ). reverse (take n xs)) (let none : length xs - k ≡ 0 = omega (arith, past) in none)

@@ -28,11 +28,13 @@ pub mod Faulting
 pub mod Finishing
 pub mod FirstFit
 pub mod Keeping
+pub mod KnownVictims
 pub mod LastHeaders
 pub mod Lending
 pub mod Lists
 pub mod Making
 pub mod Marking
+pub mod Marked
 pub mod NextBoards
 pub mod NextRows
 pub mod NextSteps

@@ -17,7 +17,11 @@ AreGoneIn rows n w victims count = IsTrue (list_all (λ c. not (leaves_in rows n
 abbrev pub AreGone : Machine → State → Worker → ℕ → Type 0
 AreGone m s w count = IsTrue (list_all (is_gone m s w) (take count (reverse (victims_of s w))))
 
+-- of each worker's victims so many are gone, those that go first; where no count is given, none is said to be
+abbrev pub KnownGone : Machine → State → List ℕ → Type 0
+KnownGone m s counts = (w : Worker) → AreGone m s w (slice_index_or counts w.0 0)
+
 -- of each worker's victims so many are known to be gone
 pub record KnowsGone (workers : ℕ) (m : Machine) (s : State) (counts : List ℕ) : Type 0 where
   pub every_worker : length counts ≡ workers
-  pub gone : (w : Worker) → AreGone m s w (slice_index_or counts w.0 0)
+  pub gone : KnownGone m s counts

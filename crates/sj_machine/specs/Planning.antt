@@ -1,5 +1,5 @@
 -- Planning a claim: what it needs beside room on its node, what it finds there, and why it can't be made.
-use Rattle.std.specs.Prelude.{◌≡◌, ◌≢◌, ◌≤◌, ◌<◌, ◌+◌, ℕ, Bool, false, not, Option, Some, None, IsTrue, All, List, find, filter, map, length, option_map, reverse, sum_by}
+use Rattle.std.specs.Prelude.{◌≡◌, ◌≢◌, ◌≤◌, ◌<◌, ◌+◌, ◌-◌, ℕ, Bool, false, not, Option, Some, None, IsTrue, All, List, find, filter, map, length, option_map, reverse, slice_index_or, sum_by, take}
 use Rattle.sj_base.specs.declared.ids.Cell.{Cell}
 use Rattle.sj_base.specs.declared.ids.Node.{Node}
 use Rattle.sj_base.specs.declared.ids.Task.{Task}
@@ -7,7 +7,7 @@ use Rattle.sj_base.specs.declared.ids.Worker.{Worker}
 use Rattle.sj_base.specs.declared.ids.Place.TheVariants.{Node as AtNode}
 use Rattle.sj_base.specs.declared.program.Program.{Program}
 use Rattle.sj_base.specs.declared.program.Machine.{Machine}
-use Rattle.sj_core.specs.Machine.{State, is_idle, is_leaving, is_task_of, pins, progress, replica}
+use Rattle.sj_core.specs.Machine.{State, WorkerState, is_idle, is_leaving, is_task_of, pins, progress, replica}
 use Rattle.sj_core.specs.Needs.{footprint, node_of, node_size, scratch_bytes, tile_bytes}
 use Rattle.sj_core.specs.Operands.{cells_of, commuting_cells, worked_on}
 use Rattle.sj_core.specs.Program.{distinct, has_cell, task_of}
@@ -16,6 +16,7 @@ use Rattle.sj_core.specs.declared.progress.Progress.TheVariants.{Waiting}
 use Rattle.sj_deps.specs.Conflict.{Ready}
 use Rattle.sj_node.specs.Entry.{has_entry}
 use Rattle.sj_node.specs.Store.{Store, victims_of}
+use Rattle.sj_machine.specs.Agrees.{row_at}
 use Rattle.sj_machine.specs.Copies.{Copies, mark_at, row_of}
 use Rattle.sj_machine.specs.Mark.{is_leaving as is_leaving_mark}
 use Rattle.sj_machine.specs.Operands.{CanWorkOn}
@@ -114,3 +115,7 @@ is_leaving_at rows n c = is_leaving_mark (mark_at (row_of rows c) n)
 -- none of these does
 abbrev pub NoneLeaves : List Copies → Node → List Cell → Type 0
 NoneLeaves rows n cs = All (λ c. is_leaving_at rows n c ≡ false) cs
+
+-- of each worker's victims none does, those aside of which so many go first
+abbrev pub NoneLeavesFor : List Copies → Node → List WorkerState → List ℕ → Type 0
+NoneLeavesFor rows n ws gone = (w : Worker) → NoneLeaves rows n (take (length (row_at ws w).victims - slice_index_or gone w.0 0) (row_at ws w).victims)

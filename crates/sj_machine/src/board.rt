@@ -21,7 +21,7 @@ ghost use Rattle.sj_machine.specs.Running.{AreResultsFor, AreSharesFor};
 ghost use Rattle.sj_machine.specs.Sound.{CanStart, FetchesMoved, IsWrittenOut, StoresMoved};
 ghost use Rattle.sj_machine.specs.Preparing.{IsOpening};
 ghost use Rattle.sj_machine.specs.Sparing.{EventsSpareUsed, Spares, SparesMoved};
-ghost use Rattle.sj_machine.specs.Standing.{AllTell, CanHappen, HasDimsMoved, IsFetching, IsMovingIn, IsMovingOut, IsShareOf, IsTileMoved, state};
+ghost use Rattle.sj_machine.specs.Standing.{AllTell, CanHappen, HasDimsMoved, IsFetching, IsMovingIn, IsMovingOut, IsShareOf, IsTileMoved, is_node, state};
 ghost use Rattle.sj_machine.specs.Counts.{AreCounted, fault_of};
 ghost use Rattle.sj_machine.specs.Todo.{AnotherGoesOn, CanBegin, HasDiskIn, IsCounted, IsMoverOf, IsTodoOf};
 ghost use Rattle.sj_machine.specs.Units.{AnotherHasUnit, lent};
@@ -279,7 +279,8 @@ impl<D: Disk> Board<D> {
     /// A worker claims the task that it was given, where no fault is kept. After an `Err` the board is as before, so that the
     /// task is still in the worker's hand; `NotNow` comes only while another worker has a claimed or running task, and
     /// `OutOfMemory` where there is none for the lists of the claim's cells and victims, or for the node's entries. Linear in the
-    /// operands, the victims and the pinned entries that are passed, and in the workers for each commuting operand.
+    /// operands, the victims, the pinned entries that are passed, the workers, and those of their victims that aren't known to be
+    /// gone; and in the workers for each commuting operand.
     pub fn claim(&mut self, alloc: Global, t: Task, w: Worker) -> Result<(), ClaimRefusal>
         requires given { WasGiven self.old w t }
         requires idle { IsIdle self.old w }
@@ -294,7 +295,7 @@ impl<D: Disk> Board<D> {
         ensures lone { self.old.run.program.workers ≡ 1 → IfErr result (λ r. r ≡ ClaimRefusal.OutOfMemory) }
     {
         self.run.is_sound();
-        let Ok(found) = self.run.claim_plan(alloc, t, w) else {
+        let Ok(found) = self.run.claim_plan_knowing(alloc, t, w, &self.gone) else {
             return Err(ClaimRefusal::OutOfMemory);
         };
         let plan = match found {
@@ -312,7 +313,7 @@ impl<D: Disk> Board<D> {
     /// The kernel of the task begins that a worker has claimed, where no fault is kept. Appends to the frame shares of the
     /// operands whose old value is read, in order; of the cells that it writes, the board keeps no tile, and of what a deliver
     /// task hands over it keeps a further share. After an `Err` the board is as before: a share was refused. Linear in the
-    /// operands, and in the nodes for each written one.
+    /// operands, in the nodes for each written one, and in the victims that have gone since the worker last dropped one.
     pub fn run(&mut self, t: Task, w: Worker, frame: Frame) -> Result<Frame, OutOfMemory>
         requires task { HasTask self.old w t }
         requires no_fault { self.old.fault ≡ None }
@@ -329,21 +330,26 @@ impl<D: Disk> Board<D> {
         let gift = self.run.gift(t, w)?;
         let frame = self.run.run(t, w, frame)?;
         self.gifts.keep(w, gift);
+        let gone = self.run.gone(w, self.gone[w.0 as usize]);
+        note_gone(&mut self.gone, w, gone);
         Ok(frame)
     }
 
-    /// The kernel of a worker's task has ended. The frame has shares of its results, in the order of its written operands. The
-    /// tasks that become ready go to the pool, by number, and a deliver task hands its operand's tile over. Linear in the
-    /// operands and in the accesses that are released, and for each of these tasks logarithmic in all; no memory.
-    pub fn end(&mut self, t: Task, w: Worker, written: Frame)
+    /// The kernel of a worker's task has ended. The frame has shares of its results, in the order of its written operands; it
+    /// comes back empty, with its room. The tasks that become ready go to the pool, by number, and a deliver task hands its
+    /// operand's tile over. Linear in the operands and in the accesses that are released, and for each of these tasks logarithmic
+    /// in all; no memory.
+    pub fn end(&mut self, t: Task, w: Worker, written: Frame) -> Frame
         requires task { HasTask self.old w t }
         requires can { CanHappen self.old.run (End t w) }
         requires written { AreResultsFor D.held self.old.run t w written.slots }
         ensures ends { EndsTask D.held self.old t w self.new }
         ensures spares { Spares self.old.run (End t w) self.new.run }
+        ensures spent { result.slots ≡ [] }
+        ensures room { result.spare ≡ written.spare + length written.slots }
     {
         self.run.is_sound();
-        self.run.end(t, w, written);
+        let spent = self.run.end(t, w, written);
         release(
             &mut self.deps,
             &mut self.pool,
@@ -355,6 +361,7 @@ impl<D: Disk> Board<D> {
         let_go(&mut self.hands, w);
         hand_over(&mut self.delivered, &mut self.gifts, t, w);
         self.left -= 1;
+        spent
     }
 
     /// What a worker does next, by the state alone: of its victims that aren't gone the least recently used is written to its
@@ -403,7 +410,7 @@ impl<D: Disk> Board<D> {
 
     /// A worker begins a move of a cell, where no fault is kept: one that its claim brings, or a victim of its claim. Hands out
     /// a share of the tile at the source, where that is a node. After an `Err` the board is as before: that share was refused.
-    /// Constant time.
+    /// No memory where the source is a disk. Constant time.
     pub fn begin_move(
         &mut self,
         w: Worker,
@@ -420,6 +427,7 @@ impl<D: Disk> Board<D> {
         ensures share { IfOk result (λ share. IsShareOf D.held self.old.run cell from
             (array_in share)) }
         ensures err { OnErr result (self.new ≡ self.old) }
+        ensures only_from_a_node { OnErr result (is_node from ≡ true) }
     {
         self.run.is_sound();
         self.run.begin_move(w, cell, from, to)

@@ -43,8 +43,7 @@ fn take_all(node: &mut NodeStore, cells: &[Cell])
     ensures { node.new ≡ fold taken node.old cells.now }
 {
     for cell in cells {
-        node.touch(*cell);
-        node.pin(*cell);
+        node.touch_and_pin(*cell);
     }
 }
 

@@ -1,6 +1,6 @@
 //! What a task gives back to the rows of cells and nodes as it ends.
 
-ghost use Rattle.std.specs.Prelude.{◌≡◌, ◌<◌, ◌++◌, ◌∷◌, [], All, length, slice_set};
+ghost use Rattle.std.specs.Prelude.{◌≡◌, ◌+◌, ◌<◌, ◌++◌, ◌∷◌, [], All, length, slice_set};
 ghost use Rattle.sj_codelet.specs.Frame.{arrays, shared};
 ghost use Rattle.sj_machine.specs.Agrees.{row_at};
 ghost use Rattle.sj_machine.specs.Copies.{with_row, written_at};
@@ -24,7 +24,8 @@ use std::sync::Arc;
 fn take_shared(frame: &mut Frame) -> Arc<Tile>
     requires shared { AreShared frame.old.slots }
     requires some { 0 < length frame.old.slots }
-    ensures { frame.old.slots ≡ frame.new.slots ++ shared result.value ∷ [] }
+    ensures slots { frame.old.slots ≡ frame.new.slots ++ shared result.value ∷ [] }
+    ensures room { frame.new.spare ≡ frame.old.spare + 1 }
 {
     match frame.take_last() {
         Operand::Shared(tile) => tile,
@@ -43,7 +44,7 @@ fn rewrite(cells: &mut Vec<Copies>, cell: Cell, n: Node, tile: Arc<Tile>)
 }
 
 /// Puts the operands of a frame, the last first, in the places of the cells on which a worker works for the operands that it
-/// writes. Linear in the accesses, and no memory.
+/// writes. The frame is empty then. Linear in the accesses, and no memory.
 pub fn put_back(
     program: &Program,
     w: Worker,
@@ -53,8 +54,10 @@ pub fn put_back(
     written: &mut Frame,
 )
     requires { CanPutBack program.now w cells.old.items n accesses.now written.old.slots }
-    ensures { cells.new.items
+    ensures cells { cells.new.items
         ≡ put_each n (written_among program.now w accesses.now) (arrays written.old.slots) cells.old.items }
+    ensures spent { written.new.slots ≡ [] }
+    ensures room { written.new.spare ≡ written.old.spare + length written.old.slots }
 {
     let Some((last, before)) = accesses.split_last() else {
         return;

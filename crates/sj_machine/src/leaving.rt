@@ -1,7 +1,7 @@
 //! Copies that leave a node.
 
-ghost use Rattle.std.specs.Prelude.{◌≡◌, ◌<◌, All, IfSome, None, length, true};
-ghost use Rattle.sj_machine.specs.Planning.{NoneLeaves, is_leaving_at};
+ghost use Rattle.std.specs.Prelude.{◌≡◌, ◌<◌, All, IfSome, None, length, slice_index_or, true};
+ghost use Rattle.sj_machine.specs.Planning.{NoneLeaves, NoneLeavesFor, is_leaving_at};
 
 use crate::copies::Copies;
 use crate::hold::Hold;
@@ -32,14 +32,27 @@ fn leaving_among(cells: &[Copies], n: Node, victims: &[Cell]) -> Option<Cell>
     None
 }
 
-/// A cell of which a copy leaves a node by the claim of a worker. Linear in the victims of each worker's last claim.
-pub fn leaving_at(cells: &[Copies], n: Node, workers: &[Hold]) -> Option<Cell>
+/// How many of a worker's victims are known to be gone: none where nothing is said of the worker. Constant time.
+fn known_of(gone: &[usize], i: usize) -> usize
+    ensures { result ≡ slice_index_or gone.now i 0 }
+{
+    match gone.get(i) {
+        Some(count) => *count,
+        None => 0,
+    }
+}
+
+/// A cell of which a copy leaves a node by the claim of a worker, where so many of each worker's victims, those that go first, are
+/// known to be gone. Linear in the workers, and in the others of their victims.
+pub fn leaving_at(cells: &[Copies], n: Node, workers: &[Hold], gone: &[usize]) -> Option<Cell>
     requires { All (λ row. n.0 < length row.marks) cells.now }
     ensures some { IfSome result (λ c. is_leaving_at cells.now n c ≡ true) }
-    ensures none { result ≡ None → All (λ row. NoneLeaves cells.now n row.victims) workers.now }
+    ensures none { result ≡ None → NoneLeavesFor cells.now n workers.now gone.now }
 {
-    for worker in workers {
-        let found = leaving_among(cells, n, worker.victims());
+    for i in 0..workers.len() {
+        let victims = workers[i].victims();
+        let left = victims.len().saturating_sub(known_of(gone, i));
+        let found = leaving_among(cells, n, &victims[..left]);
         if found.is_some() {
             return found;
         }

@@ -5,14 +5,16 @@ ghost use Rattle.sj_base.specs.Array.{area};
 ghost use Rattle.sj_base.specs.Mode.{is_data, is_scratch};
 ghost use Rattle.sj_core.specs.Needs.{tile_bytes as bytes_of_tile};
 ghost use Rattle.sj_core.specs.Program.{dims_of, distinct, has_cell, task_of};
-ghost use Rattle.sj_node.specs.Entry.{has_entry};
+ghost use Rattle.sj_machine.specs.Copies.{mark_at, row_of};
+ghost use Rattle.sj_machine.specs.Mark.{is_entry};
 ghost use Rattle.sj_machine.specs.Plan.{IsSmallCell};
 
-use sj_base::ids::{Cell, Task};
+use crate::choosing::mark_at;
+use crate::copies::Copies;
+use sj_base::ids::{Cell, Node, Task};
 use sj_base::memory::OutOfMemory;
 use sj_base::mode::{Access, Mode};
 use sj_base::program::Program;
-use sj_node::store::NodeStore;
 use std::alloc::Global;
 
 /// The operands of a task. Constant time.
@@ -69,24 +71,28 @@ pub fn scratch_bytes(program: &Program, accesses: &[Access]) -> u64
     bytes
 }
 
-/// Whether a cell has no entry on a node, and isn't among those that come after it. Linear in these.
-fn is_lacking(node: &NodeStore, cell: Cell, later: &[Cell]) -> bool
-    ensures { result ≡ (not (has_cell later.now cell) && not (has_entry node.now.entries cell)) }
+/// Whether a node has no entry for a cell, by its mark, and the cell isn't among those that come after it. Linear in these.
+fn is_lacking(rows: &[Copies], n: Node, cell: Cell, later: &[Cell]) -> bool
+    requires { All (λ row. n.0 < length row.marks) rows.now }
+    ensures { result ≡ (not (has_cell later.now cell) && not (is_entry (mark_at (row_of rows.now cell) n))) }
 {
-    !later.contains(&cell) && !node.has(cell)
+    !later.contains(&cell) && !mark_at(rows, n, cell).is_entry()
 }
 
-/// The cells without an entry on a node, each once. Quadratic in the cells, which are a task's few.
+/// The cells without an entry on a node, by their marks, each once. Quadratic in the cells, which are a task's few.
 pub fn lacking_cells(
     alloc: Global,
-    node: &NodeStore,
+    rows: &[Copies],
+    n: Node,
     cells: &[Cell],
 ) -> Result<Vec<Cell>, OutOfMemory>
-    ensures { IfOk result (λ lacking. lacking.items ≡ filter (λ c. not (has_entry node.now.entries c)) (distinct cells.now)) }
+    requires { All (λ row. n.0 < length row.marks) rows.now }
+    ensures { IfOk result (λ lacking. lacking.items
+        ≡ filter (λ c. not (is_entry (mark_at (row_of rows.now c) n))) (distinct cells.now)) }
 {
     let mut lacking = Vec::new(alloc);
     for i in 0..cells.len() {
-        if is_lacking(node, cells[i], &cells[i + 1..]) {
+        if is_lacking(rows, n, cells[i], &cells[i + 1..]) {
             lacking.push(cells[i])?;
         }
     }

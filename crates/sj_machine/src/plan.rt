@@ -1,13 +1,15 @@
 //! Plans of claims.
 
-ghost use Rattle.std.specs.Prelude.{◌≡◌, IfOk, option_map, reverse};
+ghost use Rattle.std.specs.Prelude.{◌≡◌, ◌<◌, All, IfOk, length, option_map, reverse};
 ghost use Rattle.sj_node.specs.Store.{victims_of};
+ghost use Rattle.sj_machine.specs.Agrees.{AreMarked};
 ghost use Rattle.sj_machine.specs.Planning.{HasSmallWork, chosen_on, planned};
 
+use crate::copies::Copies;
 use crate::few_cells::FewCells;
 use crate::needs::{accesses_of, bytes_of, lacking_cells, scratch_bytes, total};
 use crate::operands::worked_cells;
-use sj_base::ids::{Cell, Task, Worker};
+use sj_base::ids::{Cell, Node, Task, Worker};
 use sj_base::memory::OutOfMemory;
 use sj_base::program::Program;
 use sj_node::store::NodeStore;
@@ -105,21 +107,25 @@ impl Plan {
         (self.cells, self.victims)
     }
 
-    /// The plan of a worker's task on its node, where there is room for it. Linear in the operands, the victims and the entries that
+    /// The plan of a worker's task on its node, where there is room for it. What is missing there is told by the cells' rows. Linear in the operands, the victims and the entries that
     /// are passed, each by the operands.
     pub fn on(
         alloc: Global,
         program: &Program,
+        rows: &[Copies],
         node: &NodeStore,
+        n: Node,
         t: Task,
         w: Worker,
     ) -> Result<Option<Plan>, OutOfMemory>
-        requires { HasSmallWork program.now t w }
+        requires work { HasSmallWork program.now t w }
+        requires wide { All (λ row. n.0 < length row.marks) rows.now }
+        requires marked { AreMarked rows.now n node.now.entries }
         ensures { IfOk result (λ plan. plan ≡ option_map (planned program.now node.now t w) (chosen_on program.now node.now t w)) }
     {
         let accesses = accesses_of(program, t);
         let cells = worked_cells(program, w, accesses);
-        let missing = lacking_cells(alloc, node, cells.items())?;
+        let missing = lacking_cells(alloc, rows, n, cells.items())?;
         let bytes = bytes_of(alloc, program, &missing)?;
         let scratch = scratch_bytes(program, accesses);
         let need = total(&bytes) + scratch;

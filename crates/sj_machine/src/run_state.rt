@@ -12,6 +12,7 @@ ghost use Rattle.sj_machine.specs.Agrees.{idle, transfer_in, with_transfer_of};
 ghost use Rattle.sj_machine.specs.Copies.{CanShare, none_at, row_of, stored, tile_kept, with_copy, with_row};
 ghost use Rattle.sj_machine.specs.Board.{HasCause};
 ghost use Rattle.sj_machine.specs.Counts.{AreCounted, fault_of};
+ghost use Rattle.sj_machine.specs.Gone.{KnownGone};
 ghost use Rattle.sj_machine.specs.Plan.{IsPlan};
 ghost use Rattle.sj_machine.specs.Operands.{read_among};
 ghost use Rattle.sj_machine.specs.Releasing.{IsGift};
@@ -146,7 +147,8 @@ fn clear(cells: &mut Vec<Copies>, cell: Cell, n: Node)
 /// A share of the tile that is kept of a cell at a node; none of its block on a disk. Constant time.
 fn share_of(cells: &[Copies], cell: Cell, place: Place) -> Result<Option<Arc<Tile>>, OutOfMemory>
     requires { CanShare cells.now cell place }
-    ensures { IfOk result (λ share. array_in share ≡ tile_kept cells.now cell place) }
+    ensures share { IfOk result (λ share. array_in share ≡ tile_kept cells.now cell place) }
+    ensures only_from_a_node { OnErr result (is_node place ≡ true) }
 {
     match place {
         Place::Node(n) => Ok(Some(cells[cell.0 as usize].share(n)?)),
@@ -288,9 +290,8 @@ impl<D: Disk> RunState<D> {
     }
 
     /// The plan of a claim of a ready task by an idle worker, or why the claim can't be made now: only while another worker has
-    /// a claimed or running task. Linear in the operands,
-    /// the victims, the entries that are passed and the victims of each worker's last claim, and in the workers for each
-    /// commuting operand.
+    /// a claimed or running task. Linear in the operands, the victims, the entries that are passed and the victims of each
+    /// worker's last claim, and in the workers for each commuting operand.
     pub fn claim_plan(
         &self,
         alloc: Global,
@@ -303,15 +304,36 @@ impl<D: Disk> RunState<D> {
         ensures why { IfOk result (λ found. IfErr found (IsWhy self.now.program self.now.machine (state self.now) t w)) }
         ensures another { IfOk result (λ found. OnErr found (AnotherHasTask (state self.now) w)) }
     {
+        self.claim_plan_knowing(alloc, t, w, &[])
+    }
+
+    /// The same, where so many of each worker's victims, those that go first, are known to be gone. Linear in the operands, the
+    /// victims, the entries that are passed, the workers and the others of their victims, and in the workers for each commuting
+    /// operand.
+    pub fn claim_plan_knowing(
+        &self,
+        alloc: Global,
+        t: Task,
+        w: Worker,
+        gone: &[usize],
+    ) -> Result<Result<Plan, Why>, OutOfMemory>
+        requires may { MayClaim self.now.program self.now.machine (state self.now) t w }
+        requires gone { KnownGone self.now.machine (state self.now) gone.now }
+        ensures can { IfOk result (λ found. OnOk found (CanHappen self.now (Event.Claim t w))) }
+        ensures plan { IfOk result (λ found. IfOk found (IsPlan self.now.program self.now.machine (state self.now) t w)) }
+        ensures why { IfOk result (λ found. IfErr found (IsWhy self.now.program self.now.machine (state self.now) t w)) }
+        ensures another { IfOk result (λ found. OnErr found (AnotherHasTask (state self.now) w)) }
+    {
         let accesses = task_at(&self.program, t).accesses.items();
         if let Some(cell) = commuter_held(&self.workers, accesses) {
             return Ok(Err(Why::Commute(cell)));
         }
         let n = node_of(&self.machine, w);
-        if let Some(cell) = leaving_at(&self.cells, n, &self.workers) {
+        if let Some(cell) = leaving_at(&self.cells, n, &self.workers, gone) {
             return Ok(Err(Why::Leaving(cell)));
         }
-        let found = Plan::on(alloc, &self.program, &self.nodes[n.0 as usize], t, w)?;
+        let node = &self.nodes[n.0 as usize];
+        let found = Plan::on(alloc, &self.program, &self.cells, node, n, t, w)?;
         Ok(found.ok_or(Why::NoRoom))
     }
 
@@ -344,7 +366,8 @@ impl<D: Disk> RunState<D> {
     }
 
     /// A worker begins a move of a cell: one that its claim brings, or a victim of its claim. Hands out a share of the tile
-    /// at the source, where that is a node. After an `Err` the run is as before: that share was refused. Constant time.
+    /// at the source, where that is a node. After an `Err` the run is as before: that share was refused. No memory where the
+    /// source is a disk. Constant time.
     pub fn begin_move(
         &mut self,
         w: Worker,
@@ -358,6 +381,7 @@ impl<D: Disk> RunState<D> {
         ensures share { IfOk result (λ share. IsShareOf D.held self.old cell from
             (array_in share)) }
         ensures err { OnErr result (self.new ≡ self.old) }
+        ensures only_from_a_node { OnErr result (is_node from ≡ true) }
     {
         let share = share_of(&self.cells, cell, from)?;
         set_transfer(&mut self.workers, w, Some(Transfer { cell, from, to }));
@@ -467,24 +491,26 @@ impl<D: Disk> RunState<D> {
         let accesses = task_at(&self.program, t).accesses.items();
         share_into(&self.program, w, &self.cells, n, accesses, &mut frame)?;
         let written = written_cells(&self.program, w, accesses);
+        evict_elsewhere(&mut self.nodes, &self.cells, written.items(), n);
         lend_each(
             &mut self.cells,
             written.items(),
             n,
             self.machine.nodes.len(),
         );
-        evict_elsewhere(&mut self.nodes, written.items(), n);
         self.tasks[t.0 as usize] = Progress::Running(w);
         self.trace.add(Event::Run(t, w));
         Ok(frame)
     }
 
-    /// The kernel of a task has ended. The frame has shares of its results, in the order of its written operands. Linear in the
-    /// operands, and no memory.
-    pub fn end(&mut self, t: Task, w: Worker, mut written: Frame)
+    /// The kernel of a task has ended. The frame has shares of its results, in the order of its written operands; it comes back
+    /// empty, with its room. Linear in the operands, and no memory.
+    pub fn end(&mut self, t: Task, w: Worker, mut written: Frame) -> Frame
         requires can { CanHappen self.old (Event.End t w) }
         requires written { AreResultsFor D.held self.old t w written.slots }
-        ensures { self.new ≡ with_event self.old (Event.End t w) }
+        ensures event { self.new ≡ with_event self.old (Event.End t w) }
+        ensures spent { result.slots ≡ [] }
+        ensures room { result.spare ≡ written.spare + length written.slots }
     {
         let n = node_of(&self.machine, w);
         let accesses = task_at(&self.program, t).accesses.items();
@@ -493,6 +519,7 @@ impl<D: Disk> RunState<D> {
         let_go(&mut self.workers, w);
         self.tasks[t.0 as usize] = Progress::Done(w);
         self.trace.add(Event::End(t, w));
+        written
     }
 
     /// No code: its contract is what is true of every run.

@@ -1,5 +1,5 @@
 -- The cache's own changes keep its keys apart and few.
-use Rattle.std.proofs.Common.{◌≡◌, ℕ, ◌+◌, suc, ◌-◌, ◌<◌, ◌≤◌, Bool, true, false, cond, nat_eq, List, [], ◌∷◌, take_all, length, Option, Some, None, is_some, option_to_list, refl, ap, subst, arith}
+use Rattle.std.proofs.Common.{◌≡◌, ℕ, ◌+◌, suc, ◌-◌, ◌<◌, ◌≤◌, Bool, true, false, cond, nat_eq, List, [], ◌∷◌, take_all, length, Option, Some, None, is_some, option_map, option_to_list, refl, sym, ap, ◌∙◌, subst, arith}
 use Rattle.std.specs.List.{IsDistinct}
 use Rattle.std.specs.Option.{option_map_or}
 use Rattle.std.specs.Map.{keys_of, lookup, lookup_entry, remove_entry, set_value}
@@ -83,6 +83,21 @@ module _ (k : ℕ) where
     few = let now : length (promoted test c.entries) ≤ length c.entries = first_few c.entries (lookup_entry test c.entries) refl in omega (arith, now, h.few);
     room = h.room;
   }
+
+  lookup-entry : (es : List (ℕ × Room)) → lookup test es ≡ option_map (λ (e : ℕ × Room). e.1) (lookup_entry test es)
+  lookup-entry [] = refl
+  lookup-entry (e ∷ es) = elim (nat_eq k e.0) as (λ b. cond b (Some e.1) (lookup test es) ≡ option_map (λ (x : ℕ × Room). x.1) (cond b (Some e) (lookup_entry test es))) [
+    | true ↦ refl
+    | false ↦ lookup-entry es
+  ]
+
+  first_lookup : (es : List (ℕ × Room)) (o : Option (ℕ × Room)) → lookup_entry test es ≡ o → lookup test (option_map_or (λ e. e ∷ remove_entry test es) o es) ≡ option_map (λ (e : ℕ × Room). e.1) o
+  first_lookup es None h = lookup-entry es ∙ ap (option_map (λ (e : ℕ × Room). e.1)) h
+  first_lookup es (Some e) h = ap (λ b. cond b (Some e.1) (lookup test (remove_entry test es))) (Contains-lookup_entry test es e h).1
+
+  -- what is found doesn't depend on the order
+  pub lookup-promoted : (es : List (ℕ × Room)) → lookup test (promoted test es) ≡ lookup test es
+  lookup-promoted es = first_lookup es (lookup_entry test es) refl ∙ sym (lookup-entry es)
 
   absent_entry : (es : List (ℕ × Room)) → is_some (lookup test es) ≡ false → lookup_entry test es ≡ None
   absent_entry [] h = refl

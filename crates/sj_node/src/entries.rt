@@ -150,6 +150,18 @@ impl Entries {
         }
     }
 
+    /// Brings the cell's entry before the others, with one pin more.
+    pub fn touch_and_pin(&mut self, cell: Cell)
+        requires present { IsTrue (has_entry self.old.order cell) }
+        requires few { pins_of self.old.order cell < 1024 }
+        ensures { self.new ≡
+            listed (repinned (λ n. n + 1) cell (to_front cell self.old.order)) self.old.limit }
+    {
+        if let Some(first) = self.cache.get_mut(&cell.0) {
+            first.pins += 1;
+        }
+    }
+
     /// One pin less.
     pub fn unpin(&mut self, cell: Cell)
         requires { 0 < pins_of self.old.order cell }

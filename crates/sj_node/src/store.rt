@@ -144,6 +144,16 @@ impl NodeStore {
         self.entries.pin(cell);
     }
 
+    /// Brings a cell to the front and adds a pin to it. One look-up, and no memory.
+    pub fn touch_and_pin(&mut self, cell: Cell)
+        requires present { IsTrue (has_entry self.old.entries cell) }
+        requires few { pins_of self.old.entries cell < 1024 }
+        ensures { self.new ≡
+            with_entries self.old (repinned (λ n. n + 1) cell (to_front cell self.old.entries)) }
+    {
+        self.entries.touch_and_pin(cell);
+    }
+
     /// Takes a pin off a cell. One look-up, and no memory.
     pub fn unpin(&mut self, cell: Cell)
         requires { 0 < pins_of self.old.entries cell }

@@ -1,6 +1,7 @@
-use Rattle.std.proofs.Common.{◌≡◌, ◌<◌, ◌∙◌, length, ◌++◌, ◌∷◌, [], List, ap, false, rules, sym, subst, true}
+use Rattle.std.proofs.Common.{◌≡◌, ◌<◌, ◌∙◌, length, ◌++◌, ◌∷◌, [], List, ap, arith, false, rules, sym, subst, true}
+use Rattle.std.proofs.lemmas.List.{length_push}
 use Rattle.sj_base.specs.Mode.{is_written}
-use Rattle.sj_codelet.specs.Frame.{arrays}
+use Rattle.sj_codelet.specs.Frame.{arrays, shared}
 use Rattle.sj_machine.specs.Copies.{Copies, with_row, written_at}
 use Rattle.sj_core.specs.Operands.{worked_on}
 use Rattle.sj_base.specs.declared.ids.Cell.{Cell}
@@ -9,8 +10,8 @@ use Rattle.sj_machine.specs.Running.{put_each}
 use Rattle.sj_machine.proofs.Putting.{all-last, can_put-skip, can_put-take, put_back-puts}
 use Rattle.sj_machine.proofs.ending.+put_back.Goals as goal
 
-pub returns : goal.returns
-returns t c =
+pub returns-clause-cells : goal.returns-clause-cells
+returns-clause-cells t c =
     let p = c.args.program.now in
     let w = c.args.w in
     let before = c.in-Some.before.now in
@@ -18,8 +19,8 @@ returns t c =
     let x = c.take_shared.result in
     let e : c.args.accesses.now ≡ before ++ last ∷ [] = search rules in
     let h : is_written last.mode ≡ true = search rules in
-    c.put_back-2.ensures ∙ ap (λ (rs : List Copies). put_each c.args.n (written_among p w before) (arrays c.take_shared.new.frame.slots) rs) (c.rewrite.ensures ∙ ap (λ (d : Cell). with_row c.args.cells.now.items d (λ row. written_at row c.args.n x.value)) c.worked_on-cell.ensures)
-    ∙ put_back-puts p w c.args.n c.args.accesses.now before last c.args.written.now.slots c.take_shared.new.frame.slots x.value c.args.cells.now.items e c.take_shared.ensures h c.requires.count
+    c.put_back-2.ensures.cells ∙ ap (λ (rs : List Copies). put_each c.args.n (written_among p w before) (arrays c.take_shared.new.frame.slots) rs) (c.rewrite.ensures ∙ ap (λ (d : Cell). with_row c.args.cells.now.items d (λ row. written_at row c.args.n x.value)) c.worked_on-cell.ensures)
+    ∙ put_back-puts p w c.args.n c.args.accesses.now before last c.args.written.now.slots c.take_shared.new.frame.slots x.value c.args.cells.now.items e c.take_shared.ensures.slots h c.requires.count
 
 pub put_back-requires : goal.put_back-requires
 put_back-requires t c =
@@ -41,4 +42,7 @@ pub put_back-requires-2 : goal.put_back-requires-2
 put_back-requires-2 t c =
     let e : c.args.accesses.now ≡ c.in-Some.before.now ++ c.in-Some.last.now ∷ [] = search rules in
     let h : is_written c.in-Some.last.now.mode ≡ true = search rules in
-    (search rules, can_put-take _ _ _ c.args.accesses.now c.in-Some.before.now c.in-Some.last.now c.args.written.now.slots c.take_shared.new.frame.slots c.take_shared.result.value c.args.cells.now.items c.rewrite.new.cells.items c.worked_on-cell.result e h c.take_shared.ensures c.worked_on-cell.ensures c.rewrite.ensures c.requires)
+    (search rules, can_put-take _ _ _ c.args.accesses.now c.in-Some.before.now c.in-Some.last.now c.args.written.now.slots c.take_shared.new.frame.slots c.take_shared.result.value c.args.cells.now.items c.rewrite.new.cells.items c.worked_on-cell.result e h c.take_shared.ensures.slots c.worked_on-cell.ensures c.rewrite.ensures c.requires)
+
+pub returns-clause-room : goal.returns-clause-room
+returns-clause-room t c = omega (arith, c.put_back-2.ensures.room, c.take_shared.ensures.room, ap length c.take_shared.ensures.slots, length_push c.take_shared.new.frame.slots (shared c.take_shared.result.value))

@@ -2,6 +2,8 @@ use Rattle.std.proofs.Common.{◌≡◌, ◌<◌, ◌∙◌, [], ℕ, ap, arith,
 use Rattle.std.proofs.lemmas.Bool.{cases_eq}
 use Rattle.std.proofs.lemmas.Grind.{get_or-set_at}
 use Rattle.std.proofs.lemmas.List.{get_or-set_other, length-set}
+use Rattle.sj_base.specs.declared.ids.Node.{Node}
+use Rattle.sj_node.specs.Entry.{has_entry}
 use Rattle.sj_node.specs.Store.{Store}
 use Rattle.sj_machine.specs.Running.{evicted_at}
 use Rattle.sj_machine.proofs.running.evict_elsewhere.Goals as goal
@@ -21,3 +23,8 @@ loop-k-preserved c =
       ];
       rest = λ j d above. ap (λ (xs : List Store). get_or xs j d) (next d) ∙ get_or-set_other now k j (evicted_at c.args.n c.args.written.now k (get_or now k d)) d (λ e. (omega (arith, e, above))) ∙ inv.rest j d (omega (arith, above));
     }
+
+pub evict_at-requires-clause-marked : goal.evict_at-requires-clause-marked
+evict_at-requires-clause-marked c = λ d cell.
+    let k : Node = record { 0 = c.loop-k.k } in
+    ap (λ (x : Store). has_entry x.entries cell) (c.loop-k.invariant.rest c.loop-k.k d (omega arith)) ∙ c.requires.marked k d (omega (arith, c.loop-k-test.true, c.len-k-end.ensures)) cell

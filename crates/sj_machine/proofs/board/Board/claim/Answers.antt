@@ -1,7 +1,8 @@
-use Rattle.std.proofs.Common.{refl, ◌≡◌, ◌∙◌, None, ap, subst, sym}
+use Rattle.std.proofs.Common.{refl, ℕ, List, ◌≡◌, ◌∙◌, None, ap, subst, sym}
 use Rattle.std.specs.Prelude.{IfErr, OnErr, OnOk, Result}
 use Rattle.sj_base.specs.declared.trace.Event.TheVariants.{Claim}
 use Rattle.sj_machine.specs.Board.{BoardState, IsIdle, WasGiven}
+use Rattle.sj_machine.specs.Gone.{KnownGone}
 use Rattle.sj_machine.specs.Plan.{ClaimPlan}
 use Rattle.sj_machine.specs.Planning.{AnotherHasTask, IsWhy}
 use Rattle.sj_machine.specs.Standing.{CanHappen, Standing, state}
@@ -14,8 +15,11 @@ use Rattle.sj_machine.proofs.GoneVictims.{knows-claimed}
 use Rattle.sj_machine.proofs.UnitHands.{units-event, units-set}
 use Rattle.sj_machine.proofs.board.Board.claim.Goals as goal
 
-pub claim_plan-requires : goal.claim_plan-requires
-claim_plan-requires g c =
+pub claim_plan_knowing-requires-clause-gone : goal.claim_plan_knowing-requires-clause-gone
+claim_plan_knowing-requires-clause-gone g c = subst (λ (counts : List ℕ). KnownGone c.self.inside.run.machine (state c.self.inside.run) counts) (sym c.deref.ensures.value) c.self.invariant.victims.gone
+
+pub claim_plan_knowing-requires-clause-may : goal.claim_plan_knowing-requires-clause-may
+claim_plan_knowing-requires-clause-may g c =
     let given = subst (λ (b : BoardState _). WasGiven b c.args.w c.args.t) (sym c.self.view_is) c.requires.given in
     let idle = subst (λ (b : BoardState _). IsIdle b c.args.w) (sym c.self.view_is) c.requires.idle in
     let none = subst (λ (b : BoardState _). b.fault ≡ None) (sym c.self.view_is) c.requires.no_fault in

@@ -21,7 +21,7 @@ pub release-requires-clause-can : goal.release-requires-clause-can
 release-requires-clause-can g c =
     let r = subst (λ (b : BoardState _). HasTask b c.args.w c.args.t) (sym c.self.view_is) c.requires.task in
     let can = subst (λ (b : BoardState _). CanHappen b.run (End c.args.t c.args.w)) (sym c.self.view_is) c.requires.can in
-    ends-can _ _ _ _ _ _ _ c.self.invariant.board c.is_sound.ensures c.args.w r.works c.args.t r.task can _ (c.program.ensures ∙ ap (λ (x : Standing _). x.program) c.end.ensures)
+    ends-can _ _ _ _ _ _ _ c.self.invariant.board c.is_sound.ensures c.args.w r.works c.args.t r.task can _ (c.program.ensures ∙ ap (λ (x : Standing _). x.program) c.end-spent.ensures.event)
 
 pub hand_over-requires-clause-worker : goal.hand_over-requires-clause-worker
 hand_over-requires-clause-worker g c =
@@ -43,10 +43,10 @@ invariant_of-self g c =
     let r = subst (λ (b : BoardState _). HasTask b c.args.w c.args.t) (sym c.self.view_is) c.requires.task in
     let can = subst (λ (b : BoardState _). CanHappen b.run (End c.args.t c.args.w)) (sym c.self.view_is) c.requires.can in
     record {
-      board = ends-left _ _ _ _ _ _ _ c.self.invariant.board c.is_sound.ensures c.args.w r.works c.args.t r.task can _ _ _ _ _ _ (gift_in c.self.inside.gifts c.args.w) (c.program.ensures ∙ ap (λ (x : Standing _). x.program) c.end.ensures) c.end.ensures c.let_go.ensures c.release.ensures.deps c.release.ensures.pool c.hand_over.ensures.pairs;
-      ends = ends g.D.Disk.held c.self.inside.run _ _ _ _ c.self.invariant.ends _ _ _ c.is_sound.ensures c.args.t c.args.w can _ c.end.ensures _ c.hand_over.ensures.pairs _ c.hand_over.ensures.gifts _ c.hand_over.ensures.room;
-      victims = knows-event _ _ _ _ c.self.inside.run c.is_sound.ensures _ c.self.invariant.victims (End c.args.t c.args.w) can (λ v. tt) _ c.end.ensures;
-      units = units-set _ _ _ _ c.args.w _ c.let_go.ensures refl (units-event _ _ _ _ c.end.ensures c.self.invariant.units);
+      board = ends-left _ _ _ _ _ _ _ c.self.invariant.board c.is_sound.ensures c.args.w r.works c.args.t r.task can _ _ _ _ _ _ (gift_in c.self.inside.gifts c.args.w) (c.program.ensures ∙ ap (λ (x : Standing _). x.program) c.end-spent.ensures.event) c.end-spent.ensures.event c.let_go.ensures c.release.ensures.deps c.release.ensures.pool c.hand_over.ensures.pairs;
+      ends = ends g.D.Disk.held c.self.inside.run _ _ _ _ c.self.invariant.ends _ _ _ c.is_sound.ensures c.args.t c.args.w can _ c.end-spent.ensures.event _ c.hand_over.ensures.pairs _ c.hand_over.ensures.gifts _ c.hand_over.ensures.room;
+      victims = knows-event _ _ _ _ c.self.inside.run c.is_sound.ensures _ c.self.invariant.victims (End c.args.t c.args.w) can (λ v. tt) _ c.end-spent.ensures.event;
+      units = units-set _ _ _ _ c.args.w _ c.let_go.ensures refl (units-event _ _ _ _ c.end-spent.ensures.event c.self.invariant.units);
     }
 
 pub returns-clause-ends : goal.returns-clause-ends
@@ -54,10 +54,10 @@ returns-clause-ends g c =
     let r = subst (λ (b : BoardState _). HasTask b c.args.w c.args.t) (sym c.self.view_is) c.requires.task in
     let can = subst (λ (b : BoardState _). CanHappen b.run (End c.args.t c.args.w)) (sym c.self.view_is) c.requires.can in
     let gift = ends-gift g.D.Disk.held c.self.inside.run _ _ _ _ c.self.invariant.ends _ _ _ c.is_sound.ensures c.args.t c.args.w can in
-    ends-task _ _ _ _ _ _ _ c.self.invariant.board c.is_sound.ensures c.args.w r.works c.args.t r.task can _ _ _ _ _ _ (gift_in c.self.inside.gifts c.args.w) (c.program.ensures ∙ ap (λ (x : Standing _). x.program) c.end.ensures) c.end.ensures c.let_go.ensures c.release.ensures.deps c.release.ensures.pool c.hand_over.ensures.pairs gift _ c.self.view_is
+    ends-task _ _ _ _ _ _ _ c.self.invariant.board c.is_sound.ensures c.args.w r.works c.args.t r.task can _ _ _ _ _ _ (gift_in c.self.inside.gifts c.args.w) (c.program.ensures ∙ ap (λ (x : Standing _). x.program) c.end-spent.ensures.event) c.end-spent.ensures.event c.let_go.ensures c.release.ensures.deps c.release.ensures.pool c.hand_over.ensures.pairs gift _ c.self.view_is
 
 pub returns-clause-spares : goal.returns-clause-spares
 returns-clause-spares g c =
     let can = subst (λ (b : BoardState _). CanHappen b.run (End c.args.t c.args.w)) (sym c.self.view_is) c.requires.can in
-    subst (λ (b : BoardState _). Spares b.run (End c.args.t c.args.w) c.end.new.self) c.self.view_is
-    (event-spares _ _ _ _ c.self.inside.run c.is_sound.ensures (End c.args.t c.args.w) can c.end.new.self c.end.ensures)
+    subst (λ (b : BoardState _). Spares b.run (End c.args.t c.args.w) c.end-spent.new.self) c.self.view_is
+    (event-spares _ _ _ _ c.self.inside.run c.is_sound.ensures (End c.args.t c.args.w) can c.end-spent.new.self c.end-spent.ensures.event)

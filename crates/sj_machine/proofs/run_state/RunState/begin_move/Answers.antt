@@ -44,5 +44,5 @@ returns-clause-share g c =
     let a = c.args in
     let mover = subst (λ (b : Standing _). mover_of (state b) a.cell a.from a.to ≡ a.w) (sym c.self.view_is) c.requires.mover in
     let can = subst (λ (b : Standing _). CanHappen b (Move a.cell a.from a.to)) (sym c.self.view_is) c.requires.can in
-    let share : array_in c.in_ok-share.share ≡ tile_kept c.self.inside.cells.items a.cell a.from = c.in_ok-share.ensures ∙ ap (λ (cs : List Copies). tile_kept cs a.cell a.from) c.deref.ensures.value in
+    let share : array_in c.in_ok-share.share ≡ tile_kept c.self.inside.cells.items a.cell a.from = c.in_ok-share.ensures.share ∙ ap (λ (cs : List Copies). tile_kept cs a.cell a.from) c.deref.ensures.value in
     begin-share _ _ _ _ _ _ _ c.self.invariant a.cell a.from a.to a.w mover can _ _ c.self.view_is share

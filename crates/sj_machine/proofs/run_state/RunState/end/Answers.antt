@@ -22,4 +22,4 @@ add-requires g c = has-room _ _ _ _ _ _ _ c.self.invariant (End c.args.t c.args.
 pub invariant_of-self : goal.invariant_of-self
 invariant_of-self g c =
     let of_task : c.items-accesses.result.now ≡ (task_of c.self.inside.program.value c.args.t).accesses = c.items-accesses.ensures ∙ ap (λ (l : Lowered). l.accesses) (c.task_at.ensures ∙ ap (λ (p : Program). task_of p c.args.t) c.deref.ensures) in
-    found-keeps_end _ _ _ _ _ _ _ c.self.invariant c.args.t c.args.w _ c.self.view_is c.requires.can c.node_of-n.result c.node_of-n.ensures c.items-accesses.result.now of_task c.deref-2.result.now c.deref-2.ensures c.args.written.slots c.requires.written c.add.new.self _ c.put_back.new.cells.items c.release_at.new.nodes.items c.let_go.new.workers.items c.deref-3.result.now c.deref-3.ensures.value c.add.ensures.events c.add.ensures.room refl c.put_back.ensures c.release_at.ensures c.let_go.ensures
+    found-keeps_end _ _ _ _ _ _ _ c.self.invariant c.args.t c.args.w _ c.self.view_is c.requires.can c.node_of-n.result c.node_of-n.ensures c.items-accesses.result.now of_task c.deref-2.result.now c.deref-2.ensures c.args.written.slots c.requires.written c.add.new.self _ c.put_back.new.cells.items c.release_at.new.nodes.items c.let_go.new.workers.items c.deref-3.result.now c.deref-3.ensures.value c.add.ensures.events c.add.ensures.room refl c.put_back.ensures.cells c.release_at.ensures c.let_go.ensures
