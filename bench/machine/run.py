@@ -8,7 +8,7 @@ memory is the process's own. Where the machine is small, its disk is memory too,
 product and the shortest ways by four workers that share a node, with a swap file, beside the ample node: of runs that take turns the
 middle one counts. Writes the figures into bench/figures.txt.
 """
-import os, re, statistics, subprocess, sys, tempfile, time
+import os, re, resource, statistics, subprocess, sys, tempfile, time
 from collections import OrderedDict
 
 here = os.path.dirname(os.path.abspath(__file__))
@@ -108,6 +108,24 @@ def by_four(folder, name, lines, node, goal):
     return f"four.{name}.ratio", small / ample, f"<={goal}"
 
 
+def switches(path, words):
+    """The seconds of a run, and how often its threads were put to sleep or taken off a processor."""
+    before = resource.getrusage(resource.RUSAGE_CHILDREN)
+    taken, _ = run_once(path, words)
+    after = resource.getrusage(resource.RUSAGE_CHILDREN)
+    return taken, after.ru_nvcsw + after.ru_nivcsw - before.ru_nvcsw - before.ru_nivcsw
+
+
+def by_four_nodes(folder):
+    """The product in tiles of 8 KiB by four workers, each on a small node of its own: transfers are about half of the time."""
+    path = written(folder, product(1024, 32))
+    words = ["--workers", "4", *["--node", str(192 * 1024)] * 4, "--swap-size", str(64 * MIB)]
+    times, counts = zip(*(switches(path, words) for _ in range(RUNS)))
+    taken, switched = statistics.median(times), statistics.median(counts)
+    print(f"product in tiles of 8 KiB by 4 workers on 4 nodes: {taken:.3f} s, {switched:.0f} switches", flush=True)
+    return [("nodes.product.s", taken, "<", figures.TIME), ("nodes.product.switches", switched, "<", figures.TIME)]
+
+
 def moved(folder, words, tile_bytes):
     """MiB that went out to a disk, and that came back."""
     with open(os.path.join(folder, "job")) as source:
@@ -143,6 +161,12 @@ def main():
         rows += tiled(folder, "shortest ways n 2048 tile 128 at 1/8", ways(2048, 128), 4 * MIB, 1.5)
         rows.append(by_four(folder, "product", product(2048, 128), 12 * MIB, 1.15))
         rows.append(by_four(folder, "ways", ways(2048, 128), 4 * MIB, 1.5))
+        rows += by_four_nodes(folder)
+        for workers in (2, 4):
+            words = ["--workers", str(workers), "--node", "16"]
+            taken = statistics.median(run_once(written(folder, evicting(100_000)), words)[0] for _ in range(RUNS))
+            print(f"100,000 tasks that evict, by {workers} workers: {taken:.3f} s", flush=True)
+            rows.append((f"evictions.by_{workers}.s", taken, "<", figures.TIME))
         each = []
         for n in (10_000, 100_000):
             without, _ = run(folder, evicting(0), ["--node", "16"])

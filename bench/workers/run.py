@@ -1,5 +1,6 @@
 #!/usr/bin/env python3
-"""Times jobs by several workers: small tasks, the product, shortest ways, a chain, and workers with nothing to do.
+"""Times jobs by several workers: small tasks, the product, shortest ways, a chain, forks and joins, phases of one contribution by
+many workers, and workers with nothing to do.
 
 Build `starjob` first, by ./run examples/first.job, on a machine of four processors that does nothing else. Wall time of whole
 runs, best of five unless a number is given, less that of the job without its tasks where these are small. How long these take to
@@ -18,16 +19,17 @@ starjob = os.path.join(top, "bin", "starjob")
 RUNS = int(sys.argv[1]) if len(sys.argv) > 1 else 5
 
 
-def run_once(folder, lines, workers, swap=2**20, wanted=0):
+def run_once(folder, lines, workers, swap=2**20, wanted=0, on=None):
     """The wall seconds and the processor seconds of a run that ends with the wanted status."""
     path = os.path.join(folder, "job")
     with open(path, "w") as f:
         f.write("\n".join(["starjob 1", *lines]) + "\n")
     words = ["--workers", str(workers), "--swap-size", str(swap), "--node", str(2**30)]
+    bound = None if on is None else lambda: os.sched_setaffinity(0, on)
     with open(path) as source:
         started = time.monotonic()
         said = subprocess.DEVNULL if wanted else None
-        child = subprocess.Popen([starjob, *words], stdin=source, stdout=subprocess.DEVNULL, stderr=said)
+        child = subprocess.Popen([starjob, *words], stdin=source, stdout=subprocess.DEVNULL, stderr=said, preexec_fn=bound)
         _, status, usage = os.wait4(child.pid, 0)
         wall = time.monotonic() - started
     if os.waitstatus_to_exitcode(status) != wanted:
@@ -35,10 +37,10 @@ def run_once(folder, lines, workers, swap=2**20, wanted=0):
     return wall, usage.ru_utime + usage.ru_stime
 
 
-def run(folder, lines, workers, swap=2**20):
-    """The least wall seconds, and the least processor seconds, of some runs."""
+def run(folder, lines, workers, swap=2**20, on=None):
+    """The least wall seconds, and the least processor seconds, of some runs, on these processors or on all."""
     lines = list(lines)
-    walls, works = zip(*(run_once(folder, lines, workers, swap) for _ in range(RUNS)))
+    walls, works = zip(*(run_once(folder, lines, workers, swap, on=on) for _ in range(RUNS)))
     return min(walls), min(works)
 
 
@@ -84,6 +86,20 @@ def small(n):
 def chain(n):
     yield "vector x 1 fill 1 0"
     yield from ["task scale(3) x:RW"] * n
+
+
+def fork_join(rounds):
+    """Four tasks that read one array, each into its own, and four that write it, one after the other, and so on."""
+    yield from (f"vector v{k} 1 fill {k} 0" for k in range(5))
+    for _ in range(rounds):
+        yield from (f"task axpy(1) v4:R v{k}:RW" for k in range(4))
+        yield from (f"task axpy(1) v{k}:R v4:RW" for k in range(4))
+
+
+def phases(n):
+    """Each a single contribution, which a look at the array closes: two tasks for each worker beside it."""
+    yield from ("vector s 1 fill 0 0", "redux s plus", "vector v 1 fill 1 0", "vector out 1 fill 0 0")
+    yield from ["task dot v:R v:R s:REDUX", "task axpy(1) s:R out:RW"] * n
 
 
 def long_chain(n):
@@ -141,6 +157,17 @@ def main():
         _, four = run(folder, chain(10_000), 4)
         print(f"chain of 10,000: {one:.3f} s of processors by 1, {four:.3f} s by 4, {four / one:.2f} times (goal: at most 1.3)", flush=True)
         rows.append(("chain.ratio", four / one, "<=1.3"))
+        for workers in (1, 4):
+            taken, used = run(folder, fork_join(1000), workers)
+            print(f"1,000 forks and joins by {workers}: {taken:.3f} s, {used:.3f} s of processors", flush=True)
+            rows += [(f"forks.{workers}.s", taken, "<", figures.TIME), (f"forks.{workers}.processors", used, "<", figures.TIME)]
+        one_processor = {min(os.sched_getaffinity(0))}
+        _, few = run(folder, phases(1000), 16, on=one_processor)
+        _, many = run(folder, phases(1000), 64, on=one_processor)
+        print(f"1,000 phases on one processor: {few:.3f} s of it by 16 workers, {many:.3f} by 64, {many / few:.2f} times (goal: at most 4)", flush=True)
+        taken, used = run(folder, phases(1000), 64)
+        print(f"1,000 phases by 64 workers on four: {taken:.3f} s (goal: at most 0.5), {used:.3f} s of processors", flush=True)
+        rows += [("phases.ratio", many / few, "<=4", figures.TIME), ("phases.64.s", taken, "<=0.5", figures.TIME)]
         wall, one = run(folder, long_chain(8), 1, 2**24)
         _, four = run(folder, long_chain(8), 4, 2**24)
         print(f"a chain of {wall:.1f} s: 3 idle workers take {(four - one) / wall:.3f} s of processors a second (goal: at most 0.05)")

@@ -8,6 +8,7 @@ use Rattle.atomic_table.specs.Seated.{TableId}
 use Rattle.atomic_table.specs.Table.{Me, Allows, Splits, Joins, Final, Seen, rest}
 use Rattle.sj_desk.specs.declared.view.View.{View}
 use Rattle.sj_desk.specs.declared.view.Opening.{Opening}
+use Rattle.sj_desk.specs.declared.view.Heard.{Heard}
 use Rattle.sj_desk.specs.Seats.{DeskFacts, SeatFacts, new_seat, HasRowLeft, HasEachNumber}
 use Rattle.sj_desk.specs.Views.{no_tally, IsSeated, seat_facts, left_of, sitting, ended, opening_rows, first_view, at_stage, dealing, dealt, joined, seated, desk_facts, opening_of, IsRowOf, IsIdle, IsDealer, Gathered}
 use Rattle.sj_desk.specs.Turns.{IsRuled, Fills, Opens}
@@ -87,7 +88,7 @@ module _ {T : Type 0} where
     pub rows : me.0.rows ≡ (number, left) ∷ []
     pub row : IsRowOf s (number, left)
 
-  pub taken : (ts td : TableId) (number : ℕ) (heard : Option ℕ) (me : Me (Option T) (View T)) (k : Opening T) (d : DeskFacts T) (s : SeatFacts T) → IsSeated number heard me → seat_facts ts number me.0 ≡ s → desk_facts td k ≡ d
+  pub taken : (ts td : TableId) (number : ℕ) (heard : Option Heard) (me : Me (Option T) (View T)) (k : Opening T) (d : DeskFacts T) (s : SeatFacts T) → IsSeated number heard me → seat_facts ts number me.0 ≡ s → desk_facts td k ≡ d
       → s.desk ≡ Some d → s.found ≡ None → IsTaken ts number me d s
   taken ts td number heard me k d s sat seen desk of idle =
       let at = sits ts td number heard me k None s d sat seen desk of idle in

@@ -13,8 +13,9 @@ use Rattle.atomic_table.proofs.Lists.{set_here, set_else, at_longer, exchanged}
 use Rattle.sj_desk.specs.declared.view.View.{View}
 use Rattle.sj_desk.specs.declared.view.Opening.{Opening}
 use Rattle.sj_desk.specs.declared.view.Tally.{Tally}
-use Rattle.sj_desk.specs.Views.{view, tally, no_tally, one_more, hearing_tally, rung_tally, sitting, ended, opening_rows, first_view, at_stage, found_view, dealing, dealt, joined, seated}
-use Rattle.sj_desk.specs.Turns.{IsKeptRow, IsKeptView, IsHolder, IsOpen, made, filled, IsRuled, Tries, Marks, Leaves, Hears, Rings, Rests, Fills, Opens}
+use Rattle.sj_desk.specs.declared.view.Heard.{Heard}
+use Rattle.sj_desk.specs.Views.{view, tally, heard_at, no_tally, one_more, hearing_tally, rung_tally, sitting, ended, opening_rows, first_view, at_stage, found_view, dealing, dealt, joined, seated}
+use Rattle.sj_desk.specs.Turns.{IsKeptRow, IsKeptView, IsHolder, IsOpen, made, filled, IsWith, IsRuled, Tries, Marks, Leaves, Hears, Rings, Rests, Fills, Opens}
 use Rattle.sj_desk.proofs.Lists.{within, only, only_place, at_end, after_set, each_at, opening_each, opening_weaker}
 
 -- a seat that isn't in its turn is not the holder
@@ -41,12 +42,12 @@ module _ {T R : Type 0} (row_of : T → ℕ → R) (fits : Opening T → T → T
   Ruled = IsRuled row_of fits k
 
   open_now : (s : State (Option T) (View T)) (id : ℕ) (v : View T) → Ruled s → get_elem? s.views id ≡ some v → v.stage ≡ 2 → IsOpen row_of fits k s
-  open_now s id v (inl e) at two =
-      let same : first_view k ≡ v = only (first_view k) v id (subst (λ (x : State (Option T) (View T)). get_elem? x.views id ≡ some v) e at) in
+  open_now s id v (inl is) at two =
+      let same : first_view k ≡ v = only (first_view k) v id (subst (λ (x : State (Option T) (View T)). get_elem? x.views id ≡ some v) is.2 at) in
       let stage : 0 ≡ v.stage = ap (λ (x : View T). x.stage) same in
       absurd (omega arith)
-  open_now s id v (inr (inl e)) at two =
-      let same : at_stage 1 (first_view k) ≡ v = only (at_stage 1 (first_view k)) v id (subst (λ (x : State (Option T) (View T)). get_elem? x.views id ≡ some v) e at) in
+  open_now s id v (inr (inl is)) at two =
+      let same : at_stage 1 (first_view k) ≡ v = only (at_stage 1 (first_view k)) v id (subst (λ (x : State (Option T) (View T)). get_elem? x.views id ≡ some v) is.2 at) in
       let stage : 1 ≡ v.stage = ap (λ (x : View T). x.stage) same in
       absurd (omega arith)
   open_now s id v (inr (inr o)) at two = o
@@ -58,9 +59,9 @@ module _ {T R : Type 0} (row_of : T → ℕ → R) (fits : Opening T → T → T
       let v : View T = sitting k ((number, left) ∷ []) c 2 in
       let w : View T = found_view v o.current in
       let mine = o.views id v at in
-      let word : slice_index (set s.words 0 mark) 0 ≡ mark = get_or-set_same s.words 0 mark 0 (omega (arith, o.two_words)) in
+      let word : slice_index (set s.words 0 mark) 0 ≡ mark = get_or-set_same s.words 0 mark 0 (omega (arith, o.words)) in
       record {
-        two_words = length-set s.words 0 mark ∙ o.two_words;
+        words = length-set s.words 0 mark ∙ o.words;
         owner = o.owner;
         current = o.current;
         holder = id;
@@ -79,9 +80,9 @@ module _ {T R : Type 0} (row_of : T → ℕ → R) (fits : Opening T → T → T
       let v : View T = sitting k rows c 2 in
       let w : View T = sitting k rows d 2 in
       let mine = o.views id v at in
-      let word : slice_index (set s.words 0 n) 0 ≡ n = get_or-set_same s.words 0 n 0 (omega (arith, o.two_words)) in
+      let word : slice_index (set s.words 0 n) 0 ≡ n = get_or-set_same s.words 0 n 0 (omega (arith, o.words)) in
       record {
-        two_words = length-set s.words 0 n ∙ o.two_words;
+        words = length-set s.words 0 n ∙ o.words;
         owner = o.owner;
         current = o.current;
         holder = o.holder;
@@ -154,22 +155,22 @@ module _ {T R : Type 0} (row_of : T → ℕ → R) (fits : Opening T → T → T
         record { free = λ e. absurd (busy e); busy = λ _. refl },
       ))
 
-  -- a step on the bell, which leaves the seat's rows and what it found
-  at_bell : (s : State (Option T) (View T)) (o : IsOpen row_of fits k s) (id number : ℕ) (left : T) (found : Option T) (c d : Tally) (n : ℕ)
-      → get_elem? s.views id ≡ some (view (Some k) ((number, left) ∷ []) found c 2)
-      → IsOpen row_of fits k (stepped s 1 n id [] (view (Some k) ((number, left) ∷ []) found d 2) keeps)
-  at_bell s o id number left found c d n at =
+  -- a step on a bell, which leaves the seat's rows and what it found
+  at_bell : (s : State (Option T) (View T)) (o : IsOpen row_of fits k s) (id number word : ℕ) (left : T) (found : Option T) (c d : Tally) (n : ℕ)
+      → word ≢ 0 → get_elem? s.views id ≡ some (view (Some k) ((number, left) ∷ []) found c 2)
+      → IsOpen row_of fits k (stepped s word n id [] (view (Some k) ((number, left) ∷ []) found d 2) keeps)
+  at_bell s o id number word left found c d n behind at =
       let v : View T = view (Some k) ((number, left) ∷ []) found c 2 in
       let w : View T = view (Some k) ((number, left) ∷ []) found d 2 in
       let mine = o.views id v at in
-      let word : slice_index (set s.words 1 n) 0 ≡ slice_index s.words 0 = get_or-set_other s.words 1 0 n 0 (omega arith) in
+      let same_word : slice_index (set s.words word n) 0 ≡ slice_index s.words 0 = get_or-set_other s.words word 0 n 0 (λ e. behind (sym e)) in
       record {
-        two_words = length-set s.words 1 n ∙ o.two_words;
+        words = length-set s.words word n ∙ o.words;
         owner = o.owner;
         current = o.current;
         holder = o.holder;
-        free = λ e. o.free (sym word ∙ e);
-        taken = λ ne. let h = o.taken (λ e. ne (word ∙ e)) in
+        free = λ e. o.free (sym same_word ∙ e);
+        taken = λ ne. let h = o.taken (λ e. ne (same_word ∙ e)) in
             dite (ℕ_discrete o.holder id)
             (λ here. let same : h.view ≡ v = some-injective h.view v (sym h.there ∙ ap (get_elem? s.views) here ∙ at) in
             record {
@@ -181,43 +182,60 @@ module _ {T R : Type 0} (row_of : T → ℕ → R) (fits : Opening T → T → T
               owned = h.owned;
             })
             (λ else. record { view = h.view; there = set_else s.views id o.holder w else ∙ h.there; found = h.found; number = h.number; below = h.below; owned = h.owned });
-        views = after_set (λ j u. IsKeptView row_of k.seats o.owner o.current o.holder (slice_index (set s.words 1 n) 0) j u) s.views id w
-            (record { stage = refl; rows = mine.rows; turn = λ y e. let t = mine.turn y e in ((λ z. t.0 (sym word ∙ z)), t.1, t.2) })
+        views = after_set (λ j u. IsKeptView row_of k.seats o.owner o.current o.holder (slice_index (set s.words word n) 0) j u) s.views id w
+            (record { stage = refl; rows = mine.rows; turn = λ y e. let t = mine.turn y e in ((λ z. t.0 (sym same_word ∙ z)), t.1, t.2) })
             (λ j u other there. let old = o.views j u there in
-            record { stage = old.stage; rows = old.rows; turn = λ y e. let t = old.turn y e in ((λ z. t.0 (sym word ∙ z)), t.1, t.2) });
+            record { stage = old.stage; rows = old.rows; turn = λ y e. let t = old.turn y e in ((λ z. t.0 (sym same_word ∙ z)), t.1, t.2) });
       }
 
-  pub hears : (id number : ℕ) (left : T) (found : Option T) (c : Tally) → Allows Ruled 1 id (seated k number left found c) 1 (λ n. n) (λ r n. Hears 1 (seated k number left found c) r n)
-  hears id number left found c s ruled wide at _ =
+  pub hears : (id number word bell : ℕ) (left : T) (found : Option T) (c : Tally) → word ≡ 1 + bell
+      → Allows Ruled 1 id (seated k number left found c) word (λ n. n) (λ r n. Hears word (seated k number left found c) r n)
+  hears id number word bell left found c is s ruled wide at _ =
       let o = open_now s id (view (Some k) ((number, left) ∷ []) found c 2) ruled at refl in
-      let n = slice_index s.words 1 in
-      (view (Some k) ((number, left) ∷ []) found (hearing_tally c (Some n)) 2, keeps, tt, inr (inr (at_bell s o id number left found c (hearing_tally c (Some n)) n at)), (refl, refl))
+      let n = slice_index s.words word in (
+        view (Some k) ((number, left) ∷ []) found (hearing_tally c (Some (heard_at bell n))) 2,
+        keeps,
+        tt,
+        inr (inr (at_bell s o id number word left found c (hearing_tally c (Some (heard_at bell n))) n (λ e. omega arith) at)),
+        record { bell = bell; word_is = is; seat = refl },
+      )
 
-  pub rings : (id number : ℕ) (left : T) (found : Option T) (c : Tally) → Allows Ruled 1 id (seated k number left found c) 1 (λ n. (n + 1) % 2 ^ 64) (λ _ n. Rings 1 (seated k number left found c) n)
-  rings id number left found c s ruled wide at _ =
-      let o = open_now s id (view (Some k) ((number, left) ∷ []) found c 2) ruled at refl in
-      (view (Some k) ((number, left) ∷ []) found (rung_tally c) 2, keeps, tt, inr (inr (at_bell s o id number left found c (rung_tally c) ((slice_index s.words 1 + 1) % 2 ^ 64) at)), (refl, refl))
+  pub rings : (id number word bell : ℕ) (left : T) (found : Option T) (c : Tally) → word ≡ 1 + bell
+      → Allows Ruled 1 id (seated k number left found c) word (λ n. (n + 1) % 2 ^ 64) (λ _ n. Rings word (seated k number left found c) n)
+  rings id number word bell left found c is s ruled wide at _ =
+      let o = open_now s id (view (Some k) ((number, left) ∷ []) found c 2) ruled at refl in (
+        view (Some k) ((number, left) ∷ []) found (rung_tally c bell) 2,
+        keeps,
+        tt,
+        inr (inr (at_bell s o id number word left found c (rung_tally c bell) ((slice_index s.words word + 1) % 2 ^ 64) (λ e. omega arith) at)),
+        record { bell = bell; word_is = is; seat = refl },
+      )
 
-  pub rests : (id number : ℕ) (left : T) (refusals heard rung : ℕ)
-      → let m = seated k number left None (tally refusals (Some heard) rung) in Allows Ruled 1 id m 1 (λ n. n) (λ r n. Rests 1 m r n)
-  rests id number left refusals heard rung s ruled wide at _ =
-      let c = tally refusals (Some heard) rung in
+  pub rests : (id number word bell : ℕ) (left : T) (refusals count : ℕ) (rung : List ℕ) → word ≡ 1 + bell
+      → let m = seated k number left None (tally refusals (Some (heard_at bell count)) rung) in Allows Ruled 1 id m word (λ n. n) (λ r n. Rests word m r n)
+  rests id number word bell left refusals count rung is s ruled wide at _ =
+      let c = tally refusals (Some (heard_at bell count)) rung in
       let o = open_now s id (view (Some k) ((number, left) ∷ []) None c 2) ruled at refl in
-      let n = slice_index s.words 1 in
-      dite (ℕ_discrete heard n)
+      let n = slice_index s.words word in
+      dite (ℕ_discrete count n)
       (λ same. (
         view (Some k) ((number, left) ∷ []) None c 2,
         keeps,
         tt,
-        inr (inr (at_bell s o id number left None c c n at)),
-        record { bell = refl; still = λ _. refl; rung = λ ne. absurd (ne (ap Some same)) },
+        inr (inr (at_bell s o id number word left None c c n (λ e. omega arith) at)),
+        record { bell = bell; word_is = is; still = λ _. refl; rung = λ ne. absurd (ne (ap (λ x. Some (heard_at bell x)) same)) },
       ))
       (λ other. (
         view (Some k) ((number, left) ∷ []) None (hearing_tally c None) 2,
         keeps,
         tt,
-        inr (inr (at_bell s o id number left None c (hearing_tally c None) n at)),
-        record { bell = refl; still = λ e. absurd (other (same_Some heard n e)); rung = λ _. refl },
+        inr (inr (at_bell s o id number word left None c (hearing_tally c None) n (λ e. omega arith) at)),
+        record {
+          bell = bell;
+          word_is = is;
+          still = λ e. absurd (other (ap (λ (h : Heard). h.count) (same_Some (heard_at bell count) (heard_at bell n) e)));
+          rung = λ _. refl;
+        },
       ))
 
   released : (s : State (Option T) (View T)) (o : IsOpen row_of fits k s) (id number : ℕ) (left found value : T) (c : Tally) → length s.homes ≡ 1 → fits k value
@@ -230,9 +248,9 @@ module _ {T R : Type 0} (row_of : T → ℕ → R) (fits : Opening T → T → T
       let mine = o.views id v at in
       let row = mine.rows.0 in
       let t = mine.turn found refl in
-      let word : slice_index (set s.words 0 0) 0 ≡ 0 = get_or-set_same s.words 0 0 0 (omega (arith, o.two_words)) in
+      let word : slice_index (set s.words 0 0) 0 ≡ 0 = get_or-set_same s.words 0 0 0 (omega (arith, o.words)) in
       record {
-        two_words = length-set s.words 0 0 ∙ o.two_words;
+        words = length-set s.words 0 0 ∙ o.words;
         owner = o.owner;
         current = value;
         holder = o.holder;
@@ -260,46 +278,53 @@ module _ {T R : Type 0} (row_of : T → ℕ → R) (fits : Opening T → T → T
       let o = open_now s id (view (Some k) ((number, left) ∷ []) (Some found) c 2) ruled at refl in
       (sitting k ((number, value) ∷ []) c 2, gives, tt, inr (inr (released s o id number left found value c wide fit others at)), refl)
 
-  made_now : (s : State (Option T) (View T)) (id : ℕ) → Ruled s → get_elem? s.views id ≡ some (first_view k) → s ≡ made row_of fits k
-  made_now s id (inl e) at = e
-  made_now s id (inr (inl e)) at =
-      let same : at_stage 1 (first_view k) ≡ first_view k = only (at_stage 1 (first_view k)) (first_view k) id (subst (λ (x : State (Option T) (View T)). get_elem? x.views id ≡ some (first_view k)) e at) in
+  made_now : (s : State (Option T) (View T)) (id : ℕ) → Ruled s → get_elem? s.views id ≡ some (first_view k) → IsWith row_of fits k (made row_of fits k) s
+  made_now s id (inl is) at = is
+  made_now s id (inr (inl is)) at =
+      let same : at_stage 1 (first_view k) ≡ first_view k = only (at_stage 1 (first_view k)) (first_view k) id (subst (λ (x : State (Option T) (View T)). get_elem? x.views id ≡ some (first_view k)) is.2 at) in
       let stage : ◌≡◌ {A = ℕ} 1 0 = ap (λ (x : View T). x.stage) same in
       absurd (omega arith)
   made_now s id (inr (inr o)) at = let stage : ◌≡◌ {A = ℕ} 0 2 = (o.views id (first_view k) at).stage in absurd (omega arith)
 
-  filled_now : (s : State (Option T) (View T)) (id : ℕ) → Ruled s → get_elem? s.views id ≡ some (at_stage 1 (first_view k)) → s ≡ filled row_of fits k
-  filled_now s id (inl e) at =
-      let same : first_view k ≡ at_stage 1 (first_view k) = only (first_view k) (at_stage 1 (first_view k)) id (subst (λ (x : State (Option T) (View T)). get_elem? x.views id ≡ some (at_stage 1 (first_view k))) e at) in
+  filled_now : (s : State (Option T) (View T)) (id : ℕ) → Ruled s → get_elem? s.views id ≡ some (at_stage 1 (first_view k)) → IsWith row_of fits k (filled row_of fits k) s
+  filled_now s id (inl is) at =
+      let same : first_view k ≡ at_stage 1 (first_view k) = only (first_view k) (at_stage 1 (first_view k)) id (subst (λ (x : State (Option T) (View T)). get_elem? x.views id ≡ some (at_stage 1 (first_view k))) is.2 at) in
       let stage : ◌≡◌ {A = ℕ} 0 1 = ap (λ (x : View T). x.stage) same in
       absurd (omega arith)
-  filled_now s id (inr (inl e)) at = e
+  filled_now s id (inr (inl is)) at = is
   filled_now s id (inr (inr o)) at = let stage : ◌≡◌ {A = ℕ} 1 2 = (o.views id (at_stage 1 (first_view k)) at).stage in absurd (omega arith)
 
   pub fills : (id : ℕ) → id ≡ 0 → Allows Ruled 1 id (first_view k, []) 0 (λ n. n) (λ _ n. Fills (first_view k, []) n)
   fills id first s ruled wide at _ =
       let P : ℕ → State (Option T) (View T) → Type 0 = λ i x. (w : View T) × (a : Act (Option T)) × Valid x.homes [] a × Ruled (stepped x 0 (slice_index x.words 0) i [] w a) × Fills (first_view k, []) (w, carried_after [] a) in
-      subst (λ i. P i s) (sym first) (subst (P 0) (sym (made_now s id ruled at)) (at_stage 1 (first_view k), takes 0 None, refl, inr (inl refl), refl))
+      let now = made_now s id ruled at in
+      let words = now.0 in
+      subst (λ i. P i s) (sym first) (subst (P 0) (sym now.2)
+      (at_stage 1 (first_view k), takes 0 None, refl, inr (inl (set words 0 (slice_index words 0), length-set words 0 (slice_index words 0) ∙ now.1, refl)), refl))
 
-  opened : fits k k.value → IsOpen row_of fits k (record { words = 0 ∷ 0 ∷ []; homes = some (Some k.value) ∷ []; views = at_stage 2 (first_view k) ∷ [] })
-  opened fit = record {
-    two_words = refl;
-    owner = λ _. 0;
-    current = k.value;
-    holder = 0;
-    free = λ _. (refl, fit);
-    taken = λ ne. absurd (ne refl);
-    views = after_set (λ j u. IsKeptView row_of k.seats (λ _. 0) k.value 0 0 j u) (at_stage 2 (first_view k) ∷ []) 0 (at_stage 2 (first_view k))
-        (record { stage = refl; rows = opening_each k.value (IsKeptRow row_of k.seats (λ _. 0) k.value 0) k.seats 0 (λ i low high. record { number = omega arith; owned = refl; same = refl }); turn = λ y e. absurd (none-some y e) })
-        (λ j u other there. absurd (other (only_place (at_stage 2 (first_view k)) u j there)));
-  }
+  opened : (words : List ℕ) → length words ≡ 257 → fits k k.value
+      → IsOpen row_of fits k (record { words = set words 0 0; homes = some (Some k.value) ∷ []; views = at_stage 2 (first_view k) ∷ [] })
+  opened words whole fit =
+      let word : slice_index (set words 0 0) 0 ≡ 0 = get_or-set_same words 0 0 0 (omega (arith, whole)) in
+      record {
+        words = length-set words 0 0 ∙ whole;
+        owner = λ _. 0;
+        current = k.value;
+        holder = 0;
+        free = λ _. (refl, fit);
+        taken = λ ne. absurd (ne word);
+        views = after_set (λ j u. IsKeptView row_of k.seats (λ _. 0) k.value 0 (slice_index (set words 0 0) 0) j u) (at_stage 2 (first_view k) ∷ []) 0 (at_stage 2 (first_view k))
+            (record { stage = refl; rows = opening_each k.value (IsKeptRow row_of k.seats (λ _. 0) k.value 0) k.seats 0 (λ i low high. record { number = omega arith; owned = refl; same = refl }); turn = λ y e. absurd (none-some y e) })
+            (λ j u other there. absurd (other (only_place (at_stage 2 (first_view k)) u j there)));
+      }
 
   pub opens : (id : ℕ) → id ≡ 0 → fits k k.value
       → Allows Ruled 1 id (at_stage 1 (first_view k), (0, Some k.value) ∷ []) 0 (λ _. 0) (λ _ n. Opens (at_stage 1 (first_view k), (0, Some k.value) ∷ []) n)
   opens id first fit s ruled wide at _ =
       let m : Me (Option T) (View T) = (at_stage 1 (first_view k), (0, Some k.value) ∷ []) in
       let P : ℕ → State (Option T) (View T) → Type 0 = λ i x. (w : View T) × (a : Act (Option T)) × Valid x.homes m.1 a × Ruled (stepped x 0 0 i m.1 w a) × Opens m (w, carried_after m.1 a) in
-      subst (λ i. P i s) (sym first) (subst (P 0) (sym (filled_now s id ruled at)) (at_stage 2 (first_view k), gives, tt, inr (inr (opened fit)), refl))
+      let now = filled_now s id ruled at in
+      subst (λ i. P i s) (sym first) (subst (P 0) (sym now.2) (at_stage 2 (first_view k), gives, tt, inr (inr (opened now.0 now.1 fit)), refl))
 
   pub deals : (id a n : ℕ) → let v : View T = sitting k ((a, k.value) ∷ opening_rows k.value (a + 1) n) no_tally 2 in Splits Ruled id v (dealing v) (dealt v)
   deals id a n s ruled at =
@@ -323,7 +348,7 @@ module _ {T R : Type 0} (row_of : T → ℕ → R) (fits : Opening T → T → T
       subst (λ (y : ℕ × View T). Kept y.0 y.1) (λ p. (sym (e.0 ∙ length-set s.views id l) p, e.1 p))
       (record { stage = refl; rows = (record { number = row.number; owned = either_here a a (length s.views) (o.owner a) refl; same = row.same }, tt); turn = λ y e. absurd (none-some y e) }) in
       inr (inr (record {
-        two_words = o.two_words;
+        words = o.words;
         owner = owner;
         current = o.current;
         holder = o.holder;
@@ -366,7 +391,7 @@ module _ {T R : Type 0} (row_of : T → ℕ → R) (fits : Opening T → T → T
       })
       (λ j u ne at_j else. let old = o.views j u at_j in record { stage = old.stage; rows = each-weaker (Old j) (New j) (λ x h. keep j x else h) u.rows old.rows; turn = old.turn }) in
       inr (inr (record {
-        two_words = o.two_words;
+        words = o.words;
         owner = owner;
         current = o.current;
         holder = o.holder;

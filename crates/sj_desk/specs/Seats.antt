@@ -1,8 +1,9 @@
 -- What contracts see of a desk and of its seats.
-use Rattle.std.specs.Prelude.{◌≡◌, ◌≢◌, ℕ, ◌+◌, ◌<◌, List, map, length, slice_index_or, Option, Some, None, All, Contains}
+use Rattle.std.specs.Prelude.{◌≡◌, ◌≢◌, ℕ, ◌+◌, ◌<◌, List, [], ◌∷◌, ◌++◌, map, length, slice_index_or, Option, Some, None, All, Contains}
 use Rattle.std.specs.Option.{IsSomeAnd}
 use Rattle.std.specs.List.{range_with_len}
 use Rattle.atomic_table.specs.Seated.{TableId}
+use Rattle.sj_desk.specs.declared.view.Heard.{Heard}
 
 -- a desk: its table, the value that it opened with, and how many seats it has
 pub record DeskFacts (T : Type 0) : Type 0 where
@@ -10,21 +11,21 @@ pub record DeskFacts (T : Type 0) : Type 0 where
   pub opening : T
   pub seats : ℕ
 
--- a seat: its desk, its number, how many of its tries found the turn taken, the count of the bell that it heard and hasn't
--- rested on yet, how often it rang the bell, the value that it left last, and in its turn the value that it found
+-- a seat: its desk, its number, how many of its tries found the turn taken, the bell that it heard and hasn't rested on yet, with
+-- its count, the bells that it rang, one after the other, the value that it left last, and in its turn the value that it found
 pub record SeatFacts (T : Type 0) : Type 0 where
   pub desk : Option (DeskFacts T)
   pub number : ℕ
   pub refusals : ℕ
-  pub heard : Option ℕ
-  pub rings : ℕ
+  pub heard : Option Heard
+  pub rings : List ℕ
   pub left : Option T
   pub found : Option T
 
 module _ {T : Type 0} where
   -- a seat of the desk that has had no turn yet: its row is that of the opening value
   abbrev pub new_seat : DeskFacts T → ℕ → SeatFacts T
-  new_seat desk number = record { desk = Some desk; number = number; refusals = 0; heard = None; rings = 0; left = Some desk.opening; found = None }
+  new_seat desk number = record { desk = Some desk; number = number; refusals = 0; heard = None; rings = []; left = Some desk.opening; found = None }
 
   -- the seats of the desk, each with its place for its number
   abbrev pub new_seats : DeskFacts T → List (SeatFacts T)
@@ -42,16 +43,16 @@ module _ {T : Type 0} where
   abbrev pub after_turn : SeatFacts T → T → SeatFacts T
   after_turn s value = record { desk = s.desk; number = s.number; refusals = s.refusals; heard = s.heard; rings = s.rings; left = Some value; found = None }
 
-  -- the seat that has heard the bell at this count, and the seat that has rested since
-  abbrev pub hearing : SeatFacts T → Option ℕ → SeatFacts T
+  -- the seat that has heard a bell at some count, and the seat that has rested since
+  abbrev pub hearing : SeatFacts T → Option Heard → SeatFacts T
   hearing s heard = record { desk = s.desk; number = s.number; refusals = s.refusals; heard = heard; rings = s.rings; left = s.left; found = s.found }
 
   abbrev pub rested : SeatFacts T → SeatFacts T
   rested s = hearing s None
 
-  -- the seat after it rang the bell
-  abbrev pub rung : SeatFacts T → SeatFacts T
-  rung s = record { desk = s.desk; number = s.number; refusals = s.refusals; heard = s.heard; rings = s.rings + 1; left = s.left; found = s.found }
+  -- the seat after it rang this bell
+  abbrev pub rung : SeatFacts T → ℕ → SeatFacts T
+  rung s bell = record { desk = s.desk; number = s.number; refusals = s.refusals; heard = s.heard; rings = s.rings ++ bell ∷ []; left = s.left; found = s.found }
 
   -- the value has the seat's row as the seat left it
   abbrev pub HasRowLeft : {R : Type 0} → (T → ℕ → R) → T → SeatFacts T → Type 0

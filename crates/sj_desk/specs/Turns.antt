@@ -1,12 +1,12 @@
 -- The rule of the turn, and what each step of it tells the seat that takes it.
-use Rattle.std.specs.Prelude.{◌≡◌, ◌≢◌, ℕ, ◌<◌, List, [], ◌∷◌, length, slice_index, Option, Some, None, ◌⊎◌}
+use Rattle.std.specs.Prelude.{◌≡◌, ◌≢◌, ℕ, ◌+◌, ◌<◌, List, [], ◌∷◌, length, slice_index, Option, Some, None, ◌⊎◌}
 use Rattle.std.specs.List.{AllByRecursion}
 use mathlib.Core.Option.{some, none}
 use lib.ListN.{get_elem?}
 use Rattle.atomic_table.specs.Table.{State, Me, rest}
 use Rattle.sj_desk.specs.declared.view.View.{View}
 use Rattle.sj_desk.specs.declared.view.Opening.{Opening}
-use Rattle.sj_desk.specs.Views.{first_view, at_stage, refused_view, hearing_view, rung_view, found_view, left_by}
+use Rattle.sj_desk.specs.Views.{first_view, at_stage, heard_at, refused_view, hearing_view, rung_view, found_view, left_by}
 
 -- the value has the key of the opening value, and is sound
 abbrev pub Fits : {T K : Type 0} → (T → K) → (T → Type 0) → Opening T → T → Type 0
@@ -37,7 +37,7 @@ module _ {T R : Type 0} (row_of : T → ℕ → R) where
   module _ (fits : Opening T → T → Type 0) (k : Opening T) where
     -- the desk once it is open: while the word is 0 the turn is free, and the slot at home holds a value that fits
     pub record IsOpen (s : State (Option T) (View T)) : Type 0 where
-      pub two_words : length s.words ≡ 2
+      pub words : length s.words ≡ 257
       pub owner : ℕ → ℕ
       pub current : T
       pub holder : ℕ
@@ -45,15 +45,19 @@ module _ {T R : Type 0} (row_of : T → ℕ → R) where
       pub taken : slice_index s.words 0 ≢ 0 → IsHolder k.seats owner current holder s.views
       pub views : (id : ℕ) (v : View T) → get_elem? s.views id ≡ some v → IsKeptView k.seats owner current holder (slice_index s.words 0) id v
 
-    -- the table as it is made, and then with the slot out
-    abbrev pub made : State (Option T) (View T)
-    made = record { words = 1 ∷ 0 ∷ []; homes = some None ∷ []; views = first_view k ∷ [] }
+    -- the table as it is made, with these words, and then with the slot out
+    abbrev pub made : List ℕ → State (Option T) (View T)
+    made words = record { words = words; homes = some None ∷ []; views = first_view k ∷ [] }
 
-    abbrev pub filled : State (Option T) (View T)
-    filled = record { words = 1 ∷ 0 ∷ []; homes = none ∷ []; views = at_stage 1 (first_view k) ∷ [] }
+    abbrev pub filled : List ℕ → State (Option T) (View T)
+    filled words = record { words = words; homes = none ∷ []; views = at_stage 1 (first_view k) ∷ [] }
+
+    -- it is so with some words, one for the turn and one for each bell
+    abbrev pub IsWith : (List ℕ → State (Option T) (View T)) → State (Option T) (View T) → Type 0
+    IsWith stage s = (words : List ℕ) × (length words ≡ 257) × (s ≡ stage words)
 
     abbrev pub IsRuled : State (Option T) (View T) → Type 0
-    IsRuled s = (s ≡ made) ⊎ (s ≡ filled) ⊎ IsOpen s
+    IsRuled s = IsWith made s ⊎ IsWith filled s ⊎ IsOpen s
 
   module _ (fits : Opening T → T → Type 0) where
     -- the seat found the value, which fits and has each row of the seat as the seat left it
@@ -85,16 +89,21 @@ module _ {T : Type 0} where
   abbrev pub Opens : Me (Option T) (View T) → Me (Option T) (View T) → Type 0
   Opens m n = n ≡ (at_stage 2 m.0, rest m.1)
 
-  -- the seat hears the bell, which is the word 1
-  abbrev pub Hears : ℕ → Me (Option T) (View T) → ℕ → Me (Option T) (View T) → Type 0
-  Hears word m count n = (word ≡ 1) × (n ≡ (hearing_view m.0 (Some count), m.1))
+  -- the seat hears a bell, whose word stands behind that of the turn and those of the bells before it
+  pub record Hears (word : ℕ) (m : Me (Option T) (View T)) (count : ℕ) (n : Me (Option T) (View T)) : Type 0 where
+    pub bell : ℕ
+    pub word_is : word ≡ 1 + bell
+    pub seat : n ≡ (hearing_view m.0 (Some (heard_at bell count)), m.1)
 
-  -- a ring of the bell, which the seat counts
-  abbrev pub Rings : ℕ → Me (Option T) (View T) → Me (Option T) (View T) → Type 0
-  Rings word m n = (word ≡ 1) × (n ≡ (rung_view m.0, m.1))
+  -- a ring of a bell, which the seat notes
+  pub record Rings (word : ℕ) (m : Me (Option T) (View T)) (n : Me (Option T) (View T)) : Type 0 where
+    pub bell : ℕ
+    pub word_is : word ≡ 1 + bell
+    pub seat : n ≡ (rung_view m.0 bell, m.1)
 
-  -- a look at the bell by a seat that rests: it rests on while the count is the one that it heard
+  -- a look at a bell by a seat that rests: it rests on while that is the bell that it heard, at the count that it heard
   pub record Rests (word : ℕ) (m : Me (Option T) (View T)) (count : ℕ) (n : Me (Option T) (View T)) : Type 0 where
-    pub bell : word ≡ 1
-    pub still : m.0.tally.heard ≡ Some count → n ≡ m
-    pub rung : m.0.tally.heard ≢ Some count → n ≡ (hearing_view m.0 None, m.1)
+    pub bell : ℕ
+    pub word_is : word ≡ 1 + bell
+    pub still : m.0.tally.heard ≡ Some (heard_at bell count) → n ≡ m
+    pub rung : m.0.tally.heard ≢ Some (heard_at bell count) → n ≡ (hearing_view m.0 None, m.1)

@@ -6,27 +6,32 @@ use Rattle.atomic_table.specs.Table.{Me}
 use Rattle.sj_desk.specs.declared.view.View.{View}
 use Rattle.sj_desk.specs.declared.view.Opening.{Opening}
 use Rattle.sj_desk.specs.declared.view.Tally.{Tally}
+use Rattle.sj_desk.specs.declared.view.Heard.{Heard}
 use Rattle.sj_desk.specs.Seats.{DeskFacts, SeatFacts}
 
--- a table of two words, the turn's and the bell's, and one slot, for at least one seat
+-- a table with a word for the turn and one for each of 256 bells, and one slot, for at least one seat
 abbrev pub IsOneTurn : TableId → ℕ → Type 0
-IsOneTurn table seats = (table.words ≡ 2) × (table.slots ≡ 1) × (0 < seats)
+IsOneTurn table seats = (table.words ≡ 257) × (table.slots ≡ 1) × (0 < seats)
 
--- so many tries found the turn taken, the bell was heard at this count, and so often it was rung
-abbrev pub tally : ℕ → Option ℕ → ℕ → Tally
+-- this bell, heard at this count
+abbrev pub heard_at : ℕ → ℕ → Heard
+heard_at bell count = record { bell = bell; count = count }
+
+-- so many tries found the turn taken, this bell was heard, and these were rung
+abbrev pub tally : ℕ → Option Heard → List ℕ → Tally
 tally refusals heard rings = record { refusals = refusals; heard = heard; rings = rings }
 
 abbrev pub no_tally : Tally
-no_tally = tally 0 None 0
+no_tally = tally 0 None []
 
 abbrev pub one_more : Tally → Tally
 one_more c = tally (c.refusals + 1) c.heard c.rings
 
-abbrev pub hearing_tally : Tally → Option ℕ → Tally
+abbrev pub hearing_tally : Tally → Option Heard → Tally
 hearing_tally c heard = tally c.refusals heard c.rings
 
-abbrev pub rung_tally : Tally → Tally
-rung_tally c = tally c.refusals c.heard (c.rings + 1)
+abbrev pub rung_tally : Tally → ℕ → Tally
+rung_tally c bell = tally c.refusals c.heard (c.rings ++ bell ∷ [])
 
 module _ {T : Type 0} where
   abbrev pub view : Option (Opening T) → List (ℕ × T) → Option T → Tally → ℕ → View T
@@ -55,13 +60,13 @@ module _ {T : Type 0} where
   abbrev pub refused_view : View T → View T
   refused_view v = view v.opening v.rows v.found (one_more v.tally) v.stage
 
-  -- after it heard the bell, or after it rested
-  abbrev pub hearing_view : View T → Option ℕ → View T
+  -- after it heard a bell, or after it rested
+  abbrev pub hearing_view : View T → Option Heard → View T
   hearing_view v heard = view v.opening v.rows v.found (hearing_tally v.tally heard) v.stage
 
-  -- after it rang the bell
-  abbrev pub rung_view : View T → View T
-  rung_view v = view v.opening v.rows v.found (rung_tally v.tally) v.stage
+  -- after it rang a bell
+  abbrev pub rung_view : View T → ℕ → View T
+  rung_view v bell = view v.opening v.rows v.found (rung_tally v.tally bell) v.stage
 
   -- in its turn
   abbrev pub found_view : View T → T → View T
@@ -112,7 +117,7 @@ module _ {T : Type 0} where
   seated k number left found c = (view (Some k) ((number, left) ∷ []) found c 2, slots_of found)
 
   -- the seat answers for one row, that of its number, and has heard this
-  pub record IsSeated (number : ℕ) (heard : Option ℕ) (me : Me (Option T) (View T)) : Type 0 where
+  pub record IsSeated (number : ℕ) (heard : Option Heard) (me : Me (Option T) (View T)) : Type 0 where
     pub opening : Opening T
     pub left : T
     pub found : Option T

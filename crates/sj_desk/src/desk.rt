@@ -1,6 +1,6 @@
 //! The turn lock and its calls.
 
-ghost use Rattle.std.specs.Prelude.{◌≡◌, ◌<◌, ◌≤◌, [], Some, None, All, IfOk, IfErr, OnErr, IfSome, IfNone, OnSome, MatchBool, is_some, true, vec_capacity};
+ghost use Rattle.std.specs.Prelude.{◌≡◌, ◌+◌, ◌<◌, ◌≤◌, [], Some, None, All, IfOk, IfErr, OnErr, IfSome, IfNone, OnSome, MatchBool, is_some, true, vec_capacity};
 ghost use Rattle.std.specs.Option.{IsSomeAnd};
 ghost use Rattle.std.specs.List.{AllZip};
 ghost use Rattle.sj_desk.specs.Seats.{new_seats, refused, in_turn, after_turn, retried, hearing, rested, rung, HasRowLeft, KeepsOtherRows, HasEachNumber, IsWaiting, AreInPlace};
@@ -10,7 +10,7 @@ use crate::rule::{
     Deal, Fill, Gather, Hear, Mark, Open, Release, Rest, Ring, Ticket, Try, TurnRule,
 };
 use crate::seat::DeskSeat;
-use crate::view::{Opening, View};
+use crate::view::{Heard, Opening, View};
 use atomic_table::Table;
 use sj_base::keyed::Keyed;
 use std::alloc::Global;
@@ -18,10 +18,11 @@ use std::hint::spin_loop;
 use std::marker::Model;
 use std::sync::Wait;
 
-// The words of the table.
+// The first word of the table. Behind it those of the bells stand.
 const TURN: usize = 0;
 
-const BELL: usize = 1;
+// As many as there are bells, and one.
+const WORDS: usize = 257;
 
 // The turn word: free, taken, or taken while some seat may be asleep.
 const FREE: u64 = 0;
@@ -38,8 +39,20 @@ const LOW: u64 = 1 << 32;
 // what its caches hold.
 const TRIES: u32 = 14;
 
+// How often `rest` looks at the bell before it sleeps, with such pauses too: some 10 µs, which is less than a sleep and a wake
+// take, and of an idle worker's time nothing.
+const LOOKS: u32 = 10;
+
 // For how many turns it pauses after the first try.
 const FIRST_PAUSE: u32 = 4;
+
+// The word of a bell.
+fn word_of(bell: u8) -> usize
+    ensures word { result ≡ 1 + bell }
+    ensures inside { result < 257 }
+{
+    1 + bell as usize
+}
 
 // Lets the processor rest for so many turns.
 fn pause(turns: u32) {
@@ -87,7 +100,7 @@ impl<T: Keyed> Desk<T> {
             return Err(value);
         };
         let opening = Opening { value, seats };
-        let made = Table::vacant(alloc, &[TAKEN, 0], 1, &opening);
+        let made = Table::vacant(alloc, &[TAKEN; WORDS], 1, &opening);
         let Opening { value, seats } = opening;
         let Ok((table, mut dealer)) = made else {
             list.destroy_empty();
@@ -260,59 +273,85 @@ impl<T: Keyed> Desk<T> {
         }
     }
 
-    /// Hears the bell, in a turn: every ring from here on ends the next [`Desk::rest`] of the seat, or
+    /// Hears a bell, in a turn: every ring of it from here on ends the next [`Desk::rest`] of the seat, or
     /// keeps it from beginning. One step, and no memory.
-    pub fn listen(&self, seat: &mut DeskSeat<T>)
+    pub fn listen(&self, seat: &mut DeskSeat<T>, bell: u8)
         requires of_this_desk { seat.old.desk ≡ Some self.now }
         requires in_its_turn { is_some seat.old.found ≡ true }
         ensures seat { IsSomeAnd seat.new.heard
-            (λ count. seat.new ≡ hearing seat.old (Some count)) }
+            (λ h. (h.bell ≡ bell) × (seat.new ≡ hearing seat.old (Some h))) }
     {
-        let count = self.table.shared.load::<Hear>(&mut seat.ticket, BELL);
-        seat.heard = Some(count);
+        let word = word_of(bell);
+        let count = self.table.shared.load::<Hear>(&mut seat.ticket, word);
+        seat.heard = Some(Heard { bell, count });
     }
 
-    /// Rings the bell: each seat that rests wakes, and one that heard the bell before doesn't go to
-    /// rest. To be called in the turn whose change others wait for, or after it, and never before.
-    /// One step and a wake of all that rest, and no memory: where no seat can be resting, leave it out.
-    pub fn ring(&self, seat: &mut DeskSeat<T>)
+    /// Rings a bell: each seat that rests on it wakes, and one that heard it before doesn't go to rest.
+    /// To be called in the turn whose change others wait for, or after it, and never before.
+    /// One step and a wake, and no memory: where no seat can be resting on it, leave it out.
+    pub fn ring(&self, seat: &mut DeskSeat<T>, bell: u8)
         requires of_this_desk { seat.old.desk ≡ Some self.now }
-        ensures seat { seat.new ≡ rung seat.old }
+        ensures seat { seat.new ≡ rung seat.old bell }
     {
         let turn = &self.table.shared;
-        turn.fetch_add::<Ring>(&mut seat.ticket, BELL, 1);
-        turn.wake_all(BELL);
+        let word = word_of(bell);
+        turn.fetch_add::<Ring>(&mut seat.ticket, word, 1);
+        turn.wake_all(word);
     }
 
-    // A look at the bell. Gives the count that the seat heard, if it is still that.
-    fn quiet(&self, seat: &mut DeskSeat<T>) -> Option<u64>
+    // A look at the bell that the seat heard. Gives it, if it is still at the count at which it was.
+    fn quiet(&self, seat: &mut DeskSeat<T>) -> Option<Heard>
         requires of_this_desk { seat.old.desk ≡ Some self.now }
         requires not_in_its_turn { seat.old.found ≡ None }
         requires heard { is_some seat.old.heard ≡ true }
         ensures still { OnSome result (seat.new ≡ seat.old) }
         ensures rung { IfNone result (seat.new ≡ rested seat.old) }
     {
-        let count = self.table.shared.load::<Rest>(&mut seat.ticket, BELL);
-        if seat.heard == Some(count) {
-            return Some(count);
+        let Some(heard) = seat.heard else {
+            unreachable!()
+        };
+        let word = word_of(heard.bell);
+        let count = self.table.shared.load::<Rest>(&mut seat.ticket, word);
+        if count == heard.count {
+            return Some(heard);
         }
         seat.heard = None;
         None
     }
 
-    /// Sleeps until the bell has rung since the seat listened last; returns at once if it has by now.
-    /// It doesn't wake where the bell is silent. No memory.
+    // Some looks at the bell. Whether it has rung.
+    fn watch(&self, seat: &mut DeskSeat<T>) -> bool
+        requires of_this_desk { seat.old.desk ≡ Some self.now }
+        requires not_in_its_turn { seat.old.found ≡ None }
+        requires heard { is_some seat.old.heard ≡ true }
+        ensures { MatchBool result (seat.new ≡ rested seat.old) (seat.new ≡ seat.old) }
+    {
+        for silent in 0..LOOKS {
+            if self.quiet(seat).is_none() {
+                return true;
+            }
+            pause(FIRST_PAUSE << silent);
+        }
+        false
+    }
+
+    /// Stays awake for some microseconds, and then sleeps, until the bell has rung since the seat listened
+    /// last; returns at once if it has by now. It isn't over where the bell is silent. No memory.
     pub fn rest<R: Wait>(&self, rt: &R, seat: &mut DeskSeat<T>)
         requires of_this_desk { seat.old.desk ≡ Some self.now }
         requires not_in_its_turn { seat.old.found ≡ None }
         requires heard { is_some seat.old.heard ≡ true }
         ensures seat { seat.new ≡ rested seat.old }
     {
+        if self.watch(seat) {
+            return;
+        }
         for _ in rt.forever() {
-            let Some(count) = self.quiet(seat) else {
+            let Some(heard) = self.quiet(seat) else {
                 return;
             };
-            self.table.shared.park(rt, BELL, (count % LOW) as u32);
+            let turn = &self.table.shared;
+            turn.park(rt, word_of(heard.bell), (heard.count % LOW) as u32);
         }
         unreachable!()
     }

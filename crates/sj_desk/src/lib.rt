@@ -9,11 +9,11 @@
 //!
 //! # How the turn is kept
 //!
-//! The table has two words and one slot. The *turn word* is 0 while the turn is free, 1 while it is taken, and 2 while it is
-//! taken and some seat may be asleep. The value lies in one *slot*. Each seat has a *ticket*, without bytes, which carries
-//! what the seat knows: the opening value, the rows that it answers for, each by its number and the value in which the seat
-//! left it, how many of its tries found the turn taken, the count of the bell that it heard, and in its turn the value that
-//! it found. The seat whose ticket has found a value is the *holder*.
+//! The table has a word for the turn, one for each of 256 bells, and one slot. The *turn word* is 0 while the turn is free, 1 while
+//! it is taken, and 2 while it is taken and some seat may be asleep. The value lies in one *slot*. Each seat has a *ticket*,
+//! without bytes, which carries what the seat knows: the opening value, the rows that it answers for, each by its number and the
+//! value in which the seat left it, how many of its tries found the turn taken, the bell that it heard and at which count, the
+//! bells that it rang, and in its turn the value that it found. The seat whose ticket has found a value is the *holder*.
 //!
 //! Between any two steps these hold:
 //!
@@ -24,15 +24,16 @@
 //! - A ticket that was joined to another answers for nothing, and is never the holder.
 //! - The word tells that the turn is taken, and nothing rests on what else it tells.
 //!
-//! # The bell
+//! # The bells
 //!
 //! A thread that finds nothing to do in its turn must sleep, and must not miss what another's turn
-//! brings. The second word, the *bell*, counts rings. [`Desk::listen`] reads it in the turn in
-//! which the thread looked, [`Desk::rest`] sleeps after that turn for as long as it is still at the
-//! count that was read, and [`Desk::ring`] raises it, in or after a turn that brings something, and
-//! wakes all that rest. Whoever brings something has the turn either before the one that looked,
-//! and then it was seen, or after it, and then the bell is rung at another count than the one that
-//! was read: nothing is lost between looking and sleeping. A seat may rest only once it has
+//! brings. A *bell* is a word that counts rings; there are 256, one for each number that a seat can
+//! have, and which seat listens to which is the caller's choice. [`Desk::listen`] reads one in the
+//! turn in which the thread looked, [`Desk::rest`] sleeps after that turn for as long as it is still
+//! at the count that was read, and [`Desk::ring`] raises it, in or after a turn that brings something,
+//! and wakes who rests on it. Whoever brings something has the turn either before the one that
+//! looked, and then it was seen, or after it, and then the bell is rung at another count than the one
+//! that was read: nothing is lost between looking and sleeping. A seat may rest only once it has
 //! listened, and never in its turn.
 //!
 //! # The kinds of step
@@ -45,10 +46,10 @@
 //! | a compare-exchange that takes the turn | the seat, which is now the holder |
 //! | a compare-exchange that finds the turn taken, to take it or to mark that a seat sleeps | the seat: one more try |
 //! | a compare-exchange that would mark that a seat sleeps, and finds the turn free | nobody |
-//! | a load of the bell in the seat's turn | the seat: it has heard that count |
-//! | a ring of the bell, which adds one to it | nobody |
-//! | a load of the bell by a seat that rests, which finds the count that it heard | nobody |
-//! | a load of the bell by a seat that rests, which finds another count | the seat: its rest is over |
+//! | a load of a bell in the seat's turn | the seat: it has heard that bell at that count |
+//! | a ring of a bell, which adds one to it | the seat: one more that it rang |
+//! | a load of the bell that a seat rests on, which finds the count that it heard | nobody |
+//! | a load of the bell that a seat rests on, which finds another count | the seat: its rest is over |
 //! | the value is moved out of the slot, or into it, by the holder | nobody |
 //! | the swap that gives the turn back | the holder: its row is that of the value that it left |
 //! | two tickets are joined when the desk closes | both: one answers for the rows of both |
@@ -69,4 +70,5 @@ mod view;
 
 pub use desk::{Busy, Desk};
 pub use seat::DeskSeat;
+pub use view::Heard;
 pub use sj_base::keyed::Keyed;

@@ -36,21 +36,21 @@ impl<T> Play<Option<T>, View<T>> for Release {
     ghost then = { λ st m r n. Leaves m n };
 }
 
-/// The bell is heard.
+/// A bell is heard.
 pub struct Hear;
 
 impl<T> Play<Option<T>, View<T>> for Hear {
     ghost then = { λ st m r n. Hears st.word m r n };
 }
 
-/// The bell is rung.
+/// A bell is rung.
 pub struct Ring;
 
 impl<T> Play<Option<T>, View<T>> for Ring {
     ghost then = { λ st m r n. Rings st.word m n };
 }
 
-/// A look at the bell by a seat that rests.
+/// A look at a bell by a seat that rests.
 pub struct Rest;
 
 impl<T> Play<Option<T>, View<T>> for Rest {
@@ -89,7 +89,7 @@ impl<T> Join<View<T>> for Gather {
     ghost spent = { ended };
 }
 
-/// The turn word, the bell's count and the value's slot.
+/// The turn word, the bells' counts and the value's slot.
 pub type Turn<T> = Shared<Option<T>, View<T>, Opening<T>, TurnRule>;
 
 /// The right of one seat to step.

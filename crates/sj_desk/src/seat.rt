@@ -3,17 +3,18 @@
 ghost use Rattle.std.specs.Prelude.{◌≡◌};
 
 use crate::rule::Ticket;
+use crate::view::Heard;
 use std::marker::Model;
 
 /// The right of one thread to take turns at a desk, and to change one row of its value.
 ///
-/// Contracts see its desk, its number, how many of its tries found the turn taken, the count of the
-/// bell that it heard and hasn't rested on yet, how often it rang the bell, the value that it left
-/// last, and in its turn the value that it found.
+/// Contracts see its desk, its number, how many of its tries found the turn taken, the bell that it
+/// heard and hasn't rested on yet, with its count, the bells that it rang, the value that it left last,
+/// and in its turn the value that it found.
 #[derive(Drop)]
 pub struct DeskSeat<T> {
     pub(crate) number: u8,
-    pub(crate) heard: Option<u64>,
+    pub(crate) heard: Option<Heard>,
     pub(crate) ticket: Ticket<T>,
 }
 

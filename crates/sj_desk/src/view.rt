@@ -7,12 +7,19 @@ pub struct Opening<T> {
     pub seats: u8,
 }
 
-/// What one seat counts: how many of its tries found the turn taken, the bell's count that it heard
-/// and hasn't rested on yet, and how often it rang the bell.
+/// A bell that a seat heard, and the count at which it was.
+#[derive(Clone, Copy, Debug, PartialEq, Eq)]
+pub struct Heard {
+    pub bell: u8,
+    pub count: u64,
+}
+
+/// What one seat notes: how many of its tries found the turn taken, the bell that it heard and hasn't
+/// rested on yet, and the bells that it rang, one after the other.
 pub struct Tally {
     pub refusals: u64,
-    pub heard: Option<u64>,
-    pub rings: u64,
+    pub heard: Option<Heard>,
+    pub rings: LinkedList<u8>,
 }
 
 /// What one seat knows. No value of it is ever made.

@@ -3,6 +3,7 @@ use denote.RattleType.{RattleType}
 use denote.Param.Send.{IsSend, IsSync, recorded_send, recorded_sync, sendable, shr_sync, struct_send, struct_sync}
 use denote.Ref.{NamedLft}
 use denote.Struct.Declared.{Declared, shape}
+use denote.Struct.Field.{u8-field}
 use denote.Struct.Struct.{Struct}
 use Rattle.std.proofs.Crossing.{crosses}
 use Rattle.std.specs.contracts.alloc.Global as Global
@@ -63,11 +64,14 @@ module _ (D : RattleType) (g : Ghosts D.Denot) (s : IsSend D) where
   stage-send : IsSend (Stage.the_field).row
   stage-send = search (sendable, crosses) depth 60
 
+  bell-send : IsSend u8-field.row
+  bell-send = search (sendable, crosses) depth 60
+
   -- a worker with its seat
   pub member_send : IsSend (Member.the_row D g)
   member_send =
       let T : Declared = Member.the_type D g in
-      recorded_send (Struct (shape T)) T.D T.to T.to_one (struct_send (shape T) (Seats.the_send _ noted_send, (stage-send, tt)))
+      recorded_send (Struct (shape T)) T.D T.to T.to_one (struct_send (shape T) (Seats.the_send _ noted_send, (stage-send, (bell-send, tt))))
 
   desk-sync : IsSync (Desk.the_row (NotedBoard.the_row D g) (Keyed.ghosts D g Keyed.no_dict Keyed.no_dict))
   desk-sync = Desks.the_sync _ _ noted_send

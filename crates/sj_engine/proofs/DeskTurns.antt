@@ -1,27 +1,38 @@
 -- A worker's turn at the desk: what it finds, and what it leaves.
-use Rattle.std.proofs.Common.{◌≡◌, ◌≢◌, ℕ, ◌<◌, ◌++◌, List, sym, ap, ◌∙◌, subst, Option, None, Some}
+use Rattle.std.proofs.Common.{◌≡◌, ◌≢◌, ℕ, ◌<◌, ◌++◌, List, length, sym, ap, ◌∙◌, subst, Option, None, Some}
 use Rattle.std.specs.Prelude.{IsSomeAnd}
 use Rattle.std.proofs.lemmas.List.{append_assoc}
 use Rattle.sj_base.specs.declared.ids.Worker.{Worker}
 use Rattle.sj_base.specs.declared.trace.Event.{Event}
 use Rattle.sj_base.specs.Array.{Array}
 use Rattle.sj_core.specs.declared.progress.Transfer.{Transfer}
+use Rattle.sj_desk.specs.declared.view.Heard.{Heard}
 use Rattle.sj_desk.specs.Seats.{DeskFacts, HasRowLeft, KeepsOtherRows, SeatFacts, hearing}
 use Rattle.sj_machine.specs.Board.{BoardState}
+use Rattle.sj_machine.specs.BoardSound.{IsSoundBoard}
 use Rattle.sj_machine.specs.BoardRow.{BoardKey, BoardRow, key_of, row_of_number}
-use Rattle.sj_engine.specs.Noted.{noted_key, noted_row}
+use Rattle.sj_engine.specs.Noted.{IsNotedSound, noted_key, noted_row}
 use Rattle.sj_engine.specs.Stage.{BeginsWith, GoesOn, HasLeft, IsAt, IsCarried, row_in}
 use Rattle.sj_engine.specs.Turn.{IsTurnOf, MayLeave}
+use Rattle.sj_engine.proofs.Turning.{shared-sound}
 use Rattle.sj_engine.specs.declared.noted_board.NotedBoard.{NotedBoard}
 
 -- a seat that has heard the bell is as it was
-pub heard-number : {T : Type 0} (s t : SeatFacts T) (o : Option ℕ) → IsSomeAnd o (λ k. t ≡ hearing s (Some k)) → t.number ≡ s.number
-heard-number s t None h = absurd h
-heard-number s t (Some k) h = ap (λ x. x.number) h
+pub heard-number : {T : Type 0} (bell : ℕ) (s t : SeatFacts T) (o : Option Heard) → IsSomeAnd o (λ k. (k.bell ≡ bell) × (t ≡ hearing s (Some k))) → t.number ≡ s.number
+heard-number bell s t None h = absurd h
+heard-number bell s t (Some k) h = ap (λ x. x.number) h.1
 
-pub heard-found : {T : Type 0} (s t : SeatFacts T) (o : Option ℕ) → IsSomeAnd o (λ k. t ≡ hearing s (Some k)) → t.found ≡ s.found
-heard-found s t None h = absurd h
-heard-found s t (Some k) h = ap (λ x. x.found) h
+pub heard-found : {T : Type 0} (bell : ℕ) (s t : SeatFacts T) (o : Option Heard) → IsSomeAnd o (λ k. (k.bell ≡ bell) × (t ≡ hearing s (Some k))) → t.found ≡ s.found
+heard-found bell s t None h = absurd h
+heard-found bell s t (Some k) h = ap (λ x. x.found) h.1
+
+pub heard-desk : {T : Type 0} (bell : ℕ) (s t : SeatFacts T) (o : Option Heard) → IsSomeAnd o (λ k. (k.bell ≡ bell) × (t ≡ hearing s (Some k))) → t.desk ≡ s.desk
+heard-desk bell s t None h = absurd h
+heard-desk bell s t (Some k) h = ap (λ x. x.desk) h.1
+
+pub heard-rings : {T : Type 0} (bell : ℕ) (s t : SeatFacts T) (o : Option Heard) → IsSomeAnd o (λ k. (k.bell ≡ bell) × (t ≡ hearing s (Some k))) → t.rings ≡ s.rings
+heard-rings bell s t None h = absurd h
+heard-rings bell s t (Some k) h = ap (λ x. x.rings) h.1
 
 module _ {D : Type 0} {desk : DeskFacts (NotedBoard D)} {w : Worker} where
   -- ---- what is found
@@ -89,3 +100,21 @@ other-rows {D} size faults mismatches held desk w b c s number may e = by_found 
     by_found None h = absurd h
     by_found (Some found) h =
         λ n inside other. ap (λ (k : BoardState D). row_of_number k n) e ∙ h.turn.others n (λ same. other (same ∙ sym number))
+
+-- what is left is sound, where the notes are as many as were found
+pub noted-sound : {D : Type 0} (size faults mismatches : D → ℕ) (held : D → Option (List ℕ)) (desk : DeskFacts (NotedBoard D)) (w : Worker) (b c : NotedBoard D) (o : Option (NotedBoard D))
+    → IsSomeAnd o (MayLeave size faults mismatches held desk w b) → c.board ≡ b.board → length c.sleepers ≡ length b.sleepers → IsSoundBoard size faults mismatches held c.board
+    → IsNotedSound size faults mismatches held c
+noted-sound size faults mismatches held desk w b c None may e many sound = absurd may
+noted-sound {D} size faults mismatches held desk w b c (Some found) may e many sound =
+    let turn = subst (λ (x : BoardState D). IsTurnOf faults mismatches w found.board x) (sym e) may.turn in
+    record {
+      board = shared-sound size faults mismatches held w found.board c.board may.sound turn sound;
+      staffed = many ∙ ap length may.notes ∙ may.staffed ∙ ap (λ (k : BoardKey D). k.program.workers) (sym turn.key);
+    }
+
+-- the worker has a place for its note
+pub noted-inside : {D : Type 0} (size faults mismatches : D → ℕ) (held : D → Option (List ℕ)) (desk : DeskFacts (NotedBoard D)) (w : Worker) (b : NotedBoard D) (o : Option (NotedBoard D))
+    → IsSomeAnd o (MayLeave size faults mismatches held desk w b) → w.0 < length b.sleepers
+noted-inside size faults mismatches held desk w b None may = absurd may
+noted-inside size faults mismatches held desk w b (Some found) may = subst (λ n. w.0 < n) (sym (ap length may.notes ∙ may.staffed)) may.known

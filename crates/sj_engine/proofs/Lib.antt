@@ -10,6 +10,7 @@ mod OperandLists
 mod OtherRows
 mod OwnRows
 mod ResultLists
+mod Sleeping
 mod StepFacts
 mod StepTurns
 mod Turning

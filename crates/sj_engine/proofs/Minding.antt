@@ -1,6 +1,6 @@
 -- A turn minds the bell.
-use Rattle.std.proofs.Common.{◌≡◌, ◌≢◌, ◌&&◌, ◌∙◌, ℕ, ◌+◌, Bool, true, false, Some, IsTrue, inl, inr, ap, refl, is_some}
-use Rattle.std.specs.Prelude.{MatchBool, if◌then◌else◌}
+use Rattle.std.proofs.Common.{◌≡◌, ◌≢◌, ◌&&◌, ◌∙◌, ◌++◌, ◌∷◌, [], append-nil, sym, ℕ, Bool, List, Option, true, false, None, Some, IsTrue, inl, inr, ap, refl, is_some, option_to_list}
+use Rattle.std.specs.Prelude.{MatchBool, MatchOption}
 use Rattle.std.specs.List.{list_all}
 use Rattle.sj_base.specs.declared.ids.Task.{Task}
 use Rattle.sj_base.specs.declared.ids.Worker.{Worker}
@@ -8,13 +8,13 @@ use Rattle.sj_base.specs.declared.trace.Event.{Event}
 use Rattle.sj_base.specs.declared.trace.Event.TheVariants.{Claim, Drop, Move, Run}
 use Rattle.sj_core.specs.Machine.{is_done}
 use Rattle.sj_core.specs.Needs.{node_of}
-use Rattle.sj_desk.specs.Seats.{DeskFacts, HasRowLeft, SeatFacts}
+use Rattle.sj_desk.specs.Seats.{DeskFacts, HasRowLeft, IsWaiting, SeatFacts, rung}
 use Rattle.sj_machine.specs.Board.{BoardState, IsOver}
 use Rattle.sj_machine.specs.Standing.{state}
-use Rattle.sj_engine.specs.Bell.{HasRung, IsChange, MindsBell, is_claimed, noted_after, noted_for_rest, wakes_after, wakes_for_rest}
+use Rattle.sj_engine.specs.Bell.{HasHeardBell, HasRung, IsChange, MindsBell, is_claimed, noted_after, noted_for_rest, wakes_after, wakes_for_rest}
 use Rattle.sj_engine.specs.Noted.{noted_row}
 use Rattle.sj_engine.specs.Picking.{PickMakes, finds_nothing}
-use Rattle.sj_engine.specs.Resting.{change_of, has_ready, is_over, looks, wakes, wakes_at_rest}
+use Rattle.sj_engine.specs.Resting.{Notes, change_of, has_ready, is_over, looks, noted, wakes, wakes_at_rest}
 use Rattle.sj_engine.specs.Stage.{HasLeft}
 use Rattle.sj_engine.specs.Stepping.{EndsByFault, HasDone, StepMakes, has_to_wait}
 use Rattle.sj_engine.specs.Turn.{Happens, NothingHappens}
@@ -24,16 +24,34 @@ use Rattle.sj_engine.specs.declared.picking.Picked.{Picked}
 use Rattle.sj_engine.specs.declared.picking.Picked.TheVariants.{Task as PickedTask, Nothing, Failed as PickFailed, Over}
 use Rattle.sj_engine.specs.declared.sleepers.Change.{Change}
 use Rattle.sj_engine.specs.declared.sleepers.Change.TheVariants.{Begun as Begins, Claimed, Ended, Freed}
-use Rattle.sj_engine.specs.declared.sleepers.Sleepers.{Sleepers}
 use Rattle.sj_engine.specs.declared.stepping.Step.{Step}
 use Rattle.sj_engine.specs.declared.stepping.Step.TheVariants.{Begun, Moves, Writes, Reads, Discarded, Waits, Stopped, Failed}
 
 -- a ready task counts only after a look
-pub looked : (change : Change) (over ready : Bool) (s : Sleepers) → wakes change over (looks change && ready) s ≡ wakes change over ready s
-looked Claimed over ready s = refl
-looked Begins over ready s = refl
-looked Freed over ready s = refl
-looked Ended over ready s = refl
+pub looked : (w : ℕ) (change : Change) (over ready : Bool) (s : Notes) → wakes w change over (looks change && ready) s ≡ wakes w change over ready s
+looked w Claimed over ready s = refl
+looked w Begins over ready s = refl
+looked w Freed over ready s = refl
+looked w Ended over ready s = refl
+
+pub looked-noted : (w : ℕ) (change : Change) (over ready : Bool) (s : Notes) → noted w change over (looks change && ready) s ≡ noted w change over ready s
+looked-noted w Claimed over ready s = refl
+looked-noted w Begins over ready s = refl
+looked-noted w Freed over ready s = refl
+looked-noted w Ended over ready s = refl
+
+-- a seat that has rung a bell, or none, is as it was but for that
+pub rung-by : {T : Type 0} (s t : SeatFacts T) (o : Option ℕ) → MatchOption o (t ≡ s) (λ bell. t ≡ rung s bell) → t.rings ≡ s.rings ++ option_to_list o
+rung-by s t None e = ap (λ x. x.rings) e ∙ sym (append-nil s.rings)
+rung-by s t (Some bell) e = ap (λ x. x.rings) e
+
+pub rung-heard : {T : Type 0} (s t : SeatFacts T) (o : Option ℕ) → MatchOption o (t ≡ s) (λ bell. t ≡ rung s bell) → t.heard ≡ s.heard
+rung-heard s t None e = ap (λ x. x.heard) e
+rung-heard s t (Some bell) e = ap (λ x. x.heard) e
+
+pub rung-left : {D : Type 0} {desk : DeskFacts (NotedBoard D)} {w : Worker} {b : NotedBoard D} (s t : SeatFacts (NotedBoard D)) (o : Option ℕ) → MatchOption o (t ≡ s) (λ bell. t ≡ rung s bell) → HasLeft desk w b s → HasLeft desk w b t
+rung-left s t None e h = record { waiting = (ap (λ x. x.desk) e ∙ h.waiting.0, ap (λ x. x.found) e ∙ h.waiting.1); number = ap (λ x. x.number) e ∙ h.number; left = ap (λ x. x.left) e ∙ h.left }
+rung-left s t (Some bell) e h = record { waiting = (ap (λ x. x.desk) e ∙ h.waiting.0, ap (λ x. x.found) e ∙ h.waiting.1); number = ap (λ x. x.number) e ∙ h.number; left = ap (λ x. x.left) e ∙ h.left }
 
 module _ {D : Type 0} where
   pub over-by_fault : (b : BoardState D) → IsTrue (is_some b.fault) → is_over b ≡ true
@@ -67,10 +85,10 @@ module _ {D : Type 0} where
 
   -- ---- turns
 
-  module _ {desk : DeskFacts (NotedBoard D)} {w : Worker} where
+  module _ {desk : DeskFacts (NotedBoard D)} {w : Worker} {bell : ℕ} where
     pub minds-change : (s r t : SeatFacts (NotedBoard D)) (found v : NotedBoard D) (change : Change)
         → HasRowLeft noted_row found s → r.rings ≡ s.rings → v.sleepers ≡ found.sleepers → IsChange found.board v.board change
-        → HasLeft desk w (noted_after change v) t → HasRung (wakes_after change v) r t → MindsBell w false s t
+        → HasLeft desk w (noted_after w change v) t → HasRung (wakes_after w change v) r t → MindsBell w bell false s t
     minds-change s r t found v change own same notes did left rung = record {
       found = found;
       own_row = own;
@@ -78,35 +96,36 @@ module _ {D : Type 0} where
         board = v.board;
         change = change;
         did = did;
-        left = left.left ∙ ap (λ (n : Sleepers). let x : NotedBoard D = record { board = v.board; sleepers = n } in Some (noted_after change x)) notes;
-        rung = rung ∙ ap (λ (k : ℕ). if wakes_after change v then k + 1 else k) same
-            ∙ ap (λ (n : Sleepers). if wakes change (is_over v.board) (has_ready v.board) n then s.rings + 1 else s.rings) notes;
+        left = left.left ∙ ap (λ (n : Notes). let x : NotedBoard D = record { board = v.board; sleepers = n } in Some (noted_after w change x)) notes;
+        rung = rung ∙ ap (λ (l : List ℕ). l ++ option_to_list (wakes_after w change v)) same
+            ∙ ap (λ (n : Notes). s.rings ++ option_to_list (wakes w.0 change (is_over v.board) (has_ready v.board) n)) notes;
       };
     }
 
     pub minds-rest : (s r t : SeatFacts (NotedBoard D)) (found v : NotedBoard D) (claimed : Bool)
         → HasRowLeft noted_row found s → r.rings ≡ s.rings → v.sleepers ≡ found.sleepers → NothingHappens found.board v.board → claimed ≡ is_claimed v.board w
-        → HasLeft desk w (noted_for_rest claimed v) t → HasRung (wakes_for_rest claimed v) r t → MindsBell w true s t
-    minds-rest s r t found v claimed own same notes nothing is left rung = record {
+        → HasLeft desk w (noted_for_rest w bell claimed v) t → HasRung (wakes_for_rest w claimed v) r t → HasHeardBell bell t → MindsBell w bell true s t
+    minds-rest s r t found v claimed own same notes nothing is left rung heard = record {
       found = found;
       own_row = own;
       rule = record {
         board = v.board;
         nothing = nothing;
-        left = left.left ∙ ap (λ (b : Bool). Some (noted_for_rest b v)) is
-            ∙ ap (λ (n : Sleepers). let x : NotedBoard D = record { board = v.board; sleepers = n } in Some (noted_for_rest (is_claimed v.board w) x)) notes;
-        rung = rung ∙ ap (λ (k : ℕ). if wakes_for_rest claimed v then k + 1 else k) same ∙ ap (λ (b : Bool). if wakes_for_rest b v then s.rings + 1 else s.rings) is
-            ∙ ap (λ (n : Sleepers). if wakes_at_rest (is_claimed v.board w) (has_ready v.board) n then s.rings + 1 else s.rings) notes;
+        left = left.left ∙ ap (λ (b : Bool). Some (noted_for_rest w bell b v)) is
+            ∙ ap (λ (n : Notes). let x : NotedBoard D = record { board = v.board; sleepers = n } in Some (noted_for_rest w bell (is_claimed v.board w) x)) notes;
+        rung = rung ∙ ap (λ (l : List ℕ). l ++ option_to_list (wakes_for_rest w claimed v)) same ∙ ap (λ (b : Bool). s.rings ++ option_to_list (wakes_for_rest w b v)) is
+            ∙ ap (λ (n : Notes). s.rings ++ option_to_list (wakes_at_rest w.0 (is_claimed v.board w) (has_ready v.board) n)) notes;
+        heard = heard;
       };
     }
 
-  pub minds-picked : {w : Worker} {s t : SeatFacts (NotedBoard D)} (p : Picked) → p ≢ Nothing → MindsBell w false s t → MindsBell w (finds_nothing p) s t
+  pub minds-picked : {w : Worker} {bell : ℕ} {s t : SeatFacts (NotedBoard D)} (p : Picked) → p ≢ Nothing → MindsBell w bell false s t → MindsBell w bell (finds_nothing p) s t
   minds-picked (PickedTask t) other m = m
   minds-picked Nothing other m = absurd (other refl)
   minds-picked PickFailed other m = m
   minds-picked Over other m = m
 
-  pub minds-step : {w : Worker} {s t : SeatFacts (NotedBoard D)} (x : Step D) → x ≢ Waits → MindsBell w false s t → MindsBell w (has_to_wait x) s t
+  pub minds-step : {w : Worker} {bell : ℕ} {s t : SeatFacts (NotedBoard D)} (x : Step D) → x ≢ Waits → MindsBell w bell false s t → MindsBell w bell (has_to_wait x) s t
   minds-step (Begun frame) other m = m
   minds-step (Moves cell from to share) other m = m
   minds-step (Writes cell from to writes share unit) other m = m

@@ -1,5 +1,5 @@
--- How a turn minds the bell: what it notes of those that rest, and whether it rings.
-use Rattle.std.specs.Prelude.{◌≡◌, ◌⊎◌, ◌+◌, Bool, true, Some, MatchBool, is_some, if◌then◌else◌}
+-- How a turn minds the bells: what it notes of those that rest, and which bell it rings.
+use Rattle.std.specs.Prelude.{◌≡◌, ◌⊎◌, ◌++◌, ℕ, Bool, true, Option, Some, IsSomeAnd, MatchBool, is_some, option_to_list}
 use Rattle.sj_base.specs.declared.ids.Worker.{Worker}
 use Rattle.sj_base.specs.declared.trace.Event.{Event}
 use Rattle.sj_desk.specs.Seats.{HasRowLeft, SeatFacts}
@@ -20,41 +20,47 @@ module _ {D : Type 0} where
   abbrev pub is_claimed : BoardState D → Worker → Bool
   is_claimed b w = is_some (row_in b w).hand.task
 
-  -- whether all that rest are woken at the end of a turn that did this, and the board with what is noted then
-  abbrev pub wakes_after : Change → NotedBoard D → Bool
-  wakes_after change v = wakes change (is_over v.board) (has_ready v.board) v.sleepers
+  -- the bell that is rung at the end of a turn of the worker that did this, and the board with what is noted then
+  abbrev pub wakes_after : Worker → Change → NotedBoard D → Option ℕ
+  wakes_after w change v = wakes w.0 change (is_over v.board) (has_ready v.board) v.sleepers
 
-  abbrev pub noted_after : Change → NotedBoard D → NotedBoard D
-  noted_after change v = record { board = v.board; sleepers = noted change (is_over v.board) (has_ready v.board) v.sleepers }
+  abbrev pub noted_after : Worker → Change → NotedBoard D → NotedBoard D
+  noted_after w change v = record { board = v.board; sleepers = noted w.0 change (is_over v.board) (has_ready v.board) v.sleepers }
 
-  -- and at the end of one after which the worker rests
-  abbrev pub wakes_for_rest : Bool → NotedBoard D → Bool
-  wakes_for_rest claimed v = wakes_at_rest claimed (has_ready v.board) v.sleepers
+  -- and at the end of one after which the worker rests on a bell
+  abbrev pub wakes_for_rest : Worker → Bool → NotedBoard D → Option ℕ
+  wakes_for_rest w claimed v = wakes_at_rest w.0 claimed (has_ready v.board) v.sleepers
 
-  abbrev pub noted_for_rest : Bool → NotedBoard D → NotedBoard D
-  noted_for_rest claimed v = record { board = v.board; sleepers = noted_at_rest claimed (has_ready v.board) v.sleepers }
+  abbrev pub noted_for_rest : Worker → ℕ → Bool → NotedBoard D → NotedBoard D
+  noted_for_rest w bell claimed v = record { board = v.board; sleepers = noted_at_rest w.0 bell claimed (has_ready v.board) v.sleepers }
 
-  -- the seat has rung the bell once, or not
-  abbrev pub HasRung : Bool → SeatFacts (NotedBoard D) → SeatFacts (NotedBoard D) → Type 0
-  HasRung rings s t = t.rings ≡ (if rings then s.rings + 1 else s.rings)
+  -- the seat has rung this bell, or none
+  abbrev pub HasRung : Option ℕ → SeatFacts (NotedBoard D) → SeatFacts (NotedBoard D) → Type 0
+  HasRung bell s t = t.rings ≡ s.rings ++ option_to_list bell
+
+  -- the seat has heard this bell
+  abbrev pub HasHeardBell : ℕ → SeatFacts (NotedBoard D) → Type 0
+  HasHeardBell bell s = IsSomeAnd s.heard (λ h. h.bell ≡ bell)
 
   -- the turn in which this was found did something, and the seat has noted it and rung as the rule has it
-  pub record NotesChange (found : NotedBoard D) (s t : SeatFacts (NotedBoard D)) : Type 0 where
+  pub record NotesChange (w : Worker) (found : NotedBoard D) (s t : SeatFacts (NotedBoard D)) : Type 0 where
     pub board : BoardState D
     pub change : Change
     pub did : IsChange found.board board change
-    pub left : t.left ≡ Some (noted_after change (record { board = board; sleepers = found.sleepers }))
-    pub rung : HasRung (wakes_after change (record { board = board; sleepers = found.sleepers })) s t
+    pub left : t.left ≡ Some (noted_after w change (record { board = board; sleepers = found.sleepers }))
+    pub rung : HasRung (wakes_after w change (record { board = board; sleepers = found.sleepers })) s t
 
-  -- nothing has happened in it, and the seat has noted that its worker rests, and rung as the rule has it
-  pub record NotesRest (w : Worker) (found : NotedBoard D) (s t : SeatFacts (NotedBoard D)) : Type 0 where
+  -- nothing has happened in it, and the seat has noted that its worker rests on a bell, heard it, and rung as the rule has it
+  pub record NotesRest (w : Worker) (bell : ℕ) (found : NotedBoard D) (s t : SeatFacts (NotedBoard D)) : Type 0 where
     pub board : BoardState D
     pub nothing : NothingHappens found.board board
-    pub left : t.left ≡ Some (noted_for_rest (is_claimed board w) (record { board = board; sleepers = found.sleepers }))
-    pub rung : HasRung (wakes_for_rest (is_claimed board w) (record { board = board; sleepers = found.sleepers })) s t
+    pub left : t.left ≡ Some (noted_for_rest w bell (is_claimed board w) (record { board = board; sleepers = found.sleepers }))
+    pub rung : HasRung (wakes_for_rest w (is_claimed board w) (record { board = board; sleepers = found.sleepers })) s t
+    pub heard : HasHeardBell bell t
 
-  -- the worker's turn minded the bell: in it a board was found that has the worker's row as it was left
-  pub record MindsBell (w : Worker) (rests : Bool) (s t : SeatFacts (NotedBoard D)) : Type 0 where
+  -- the turn of the worker, whose thread sleeps on this bell, minded the bells: in it a board was found that has the worker's row
+  -- as it was left
+  pub record MindsBell (w : Worker) (bell : ℕ) (rests : Bool) (s t : SeatFacts (NotedBoard D)) : Type 0 where
     pub found : NotedBoard D
     pub own_row : HasRowLeft noted_row found s
-    pub rule : MatchBool rests (NotesRest w found s t) (NotesChange found s t)
+    pub rule : MatchBool rests (NotesRest w bell found s t) (NotesChange w found s t)

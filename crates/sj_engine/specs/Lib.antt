@@ -8,6 +8,7 @@ pub mod Picking
 pub mod Posts
 pub mod Resting
 pub mod Run
+pub mod Sleeping
 pub mod Stage
 pub mod Stepping
 pub mod Turn

@@ -12,10 +12,10 @@ module _ {D : Type 0} where
   number_of (Away thread) = thread.promise.number
   number_of (Here m) = m.seat.number
 
-  -- the post is that of a worker of the desk: in a thread that is to come back with it, or here
+  -- the post is that of a worker of the desk: in a thread that is to come back with it, or here, where all listen to one bell
   abbrev pub IsOnPost : DeskFacts (NotedBoard D) → Post D → Type 0
   IsOnPost desk (Away thread) = (thread.promise.desk.value ≡ desk) × (thread.promise.number < desk.seats)
-  IsOnPost desk (Here m) = IsMember desk m
+  IsOnPost desk (Here m) = IsMember desk m × (m.bell ≡ 0)
 
   abbrev pub numbers_of_seats : List (SeatFacts (NotedBoard D)) → List ℕ
   numbers_of_seats seats = map (λ s. s.number) seats

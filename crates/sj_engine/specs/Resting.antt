@@ -1,11 +1,13 @@
--- For what workers rest, and after which change they are woken.
+-- For what workers rest, and which of them a turn wakes.
 --
--- A worker rests without a task, since it found none that it could claim, or with one that it has claimed, since another
--- worker has to go on first. Without one it waits for a task that becomes ready; where one was ready that it couldn't claim, it
--- waits for another worker too, as with a claimed one. It is noted whether such workers may rest; a bell that wakes all takes
--- these notes away.
-use Rattle.std.specs.Prelude.{Bool, true, false, not, ◌&&◌, ◌||◌, if◌then◌else◌, is_some}
+-- A worker rests without a task, since none was ready when it looked, or since it couldn't claim what was; or with one that it
+-- has claimed, since another worker has to go on first. Who rests has a note, with the bell that its thread sleeps on. The note is
+-- due where its worker is to look again. A turn wakes one worker at most, whose note goes: the next one behind the turn's own
+-- worker that is due. Who was woken has a turn in any case, and wakes the next one in it: so all that are due have a turn, one
+-- after the other, and none is forgotten.
+use Rattle.std.specs.Prelude.{ℕ, ◌+◌, Bool, true, false, not, ◌&&◌, ◌||◌, if◌then◌else◌, is_some, Option, Some, None, List, drop, map, option_and_then, option_map, position, slice_index_or, slice_set}
 use Rattle.std.specs.List.{list_all, list_any}
+use Rattle.std.specs.Option.{option_or}
 use Rattle.sj_base.specs.declared.trace.Event.{Event}
 use Rattle.sj_base.specs.declared.trace.Event.TheVariants.{Claim, Drop, End, Move, Moved, Run}
 use Rattle.sj_core.specs.Machine.{is_done}
@@ -14,11 +16,9 @@ use Rattle.sj_machine.specs.Standing.{state}
 use Rattle.sj_pool.specs.Queue.{has_fitting}
 use Rattle.sj_engine.specs.declared.sleepers.Change.{Change}
 use Rattle.sj_engine.specs.declared.sleepers.Change.TheVariants.{Claimed, Begun, Freed, Ended}
-use Rattle.sj_engine.specs.declared.sleepers.Sleepers.{Sleepers}
-
--- nobody rests
-abbrev pub nobody : Sleepers
-nobody = record { idle = false; blocked = false; ended = false }
+use Rattle.sj_engine.specs.declared.sleepers.Note.{Note}
+use Rattle.sj_engine.specs.declared.sleepers.Reason.{Reason}
+use Rattle.sj_engine.specs.declared.sleepers.Reason.TheVariants.{Idle, Blocked}
 
 -- ---- changes
 
@@ -45,11 +45,6 @@ abbrev pub looks : Change → Bool
 looks Claimed = true
 looks _ = false
 
--- tasks may have become ready
-abbrev pub ends : Change → Bool
-ends Ended = true
-ends _ = false
-
 -- ---- the board
 
 -- all tasks are done, or a fault is kept
@@ -60,30 +55,103 @@ is_over b = list_all is_done (state b.run).tasks || is_some b.fault
 abbrev pub has_ready : {D : Type 0} → BoardState D → Bool
 has_ready b = list_any (has_fitting 18446744073709551615) b.pool.queues
 
+-- ---- notes
+
+-- for each worker its note, where it rests
+abbrev pub Notes : Type 0
+Notes = List (Option Note)
+
+abbrev pub note : Reason → ℕ → Bool → Note
+note reason bell due = record { reason = reason; bell = bell; is_due = due }
+
+-- a worker rests that is to look again
+abbrev pub is_due : Option Note → Bool
+is_due None = false
+is_due (Some n) = n.is_due
+
+abbrev pub is_idle : Reason → Bool
+is_idle Idle = true
+is_idle Blocked = false
+
+-- a worker rests, and no task was ready when it looked
+abbrev pub rests_idle : Option Note → Bool
+rests_idle None = false
+rests_idle (Some n) = is_idle n.reason
+
+-- a worker rests that waits for another one
+abbrev pub rests_blocked : Option Note → Bool
+rests_blocked None = false
+rests_blocked (Some n) = not (is_idle n.reason)
+
+abbrev pub made_due : Option Note → Option Note
+made_due = option_map (λ n. note n.reason n.bell true)
+
+-- the note where all are called, or those that wait for another worker
+abbrev pub called_one : Bool → Option Note → Option Note
+called_one all n = if all || rests_blocked n then made_due n else n
+
+-- the first place behind this one at which it is so, or else the first of all
+abbrev pub place_behind : ℕ → (Option Note → Bool) → Notes → Option ℕ
+place_behind w p notes = option_or (option_map (λ k. w + 1 + k) (position p (drop (w + 1) notes))) (position p notes)
+
+abbrev pub due_at : Notes → Option ℕ → Notes
+due_at notes None = notes
+due_at notes (Some k) = slice_set notes k (made_due (slice_index_or notes k None))
+
+abbrev pub gone_at : Notes → Option ℕ → Notes
+gone_at notes None = notes
+gone_at notes (Some k) = slice_set notes k None
+
+-- the bell of the note at this place
+abbrev pub bell_at : Notes → ℕ → Option ℕ
+bell_at notes k = option_map (λ n. n.bell) (slice_index_or notes k None)
+
+-- ---- who is due
+
+-- where the run is over all that rest are due, and where a worker gives way all that wait for another one
+abbrev pub called : Bool → Bool → Notes → Notes
+called over gives notes = if over || gives then map (called_one over) notes else notes
+
+-- where a worker has looked and tasks are left that nobody was given, the first that rests for want of one is due
+abbrev pub called_for_task : Bool → Notes → Notes
+called_for_task left notes = if left then due_at notes (position rests_idle notes) else notes
+
+-- the notes in a turn of the worker, which doesn't rest
+abbrev pub due_in_turn : ℕ → Bool → Bool → Bool → Notes → Notes
+due_in_turn w over gives left notes = called_for_task left (called over gives (slice_set notes w None))
+
 -- ---- who is woken
 
-abbrev pub somebody : Sleepers → Bool
-somebody s = s.idle || s.blocked
+-- the bell that is rung at the end of a turn of the worker, where one is due, and the notes that are left
+abbrev pub woken : ℕ → Notes → Option ℕ
+woken w notes = option_and_then (bell_at notes) (place_behind w is_due notes)
 
--- All that rest are woken where the run is over; where one of them may wait for another worker, and this one gives way; and where
--- one of them may wait for a ready task, tasks have become ready, and the worker that has looked first since leaves one behind.
--- The worker whose task ended looks for one next: so an end wakes nobody for what it takes itself
-abbrev pub wakes : Change → Bool → Bool → Sleepers → Bool
-wakes change over ready s = (looks change && ready && s.ended && s.idle || gives_way change && s.blocked) || over && somebody s
+abbrev pub left_resting : ℕ → Notes → Notes
+left_resting w notes = gone_at notes (place_behind w is_due notes)
 
--- what is noted afterwards
-abbrev pub noted : Change → Bool → Bool → Sleepers → Sleepers
-noted change over ready s =
-    if wakes change over ready s then nobody
-    else record { idle = s.idle; blocked = s.blocked; ended = ends change || not (looks change) && s.ended }
+-- at the end of a turn that did this, after which the run is over or not, and a task is ready or not
+abbrev pub due_after : ℕ → Change → Bool → Bool → Notes → Notes
+due_after w change over ready notes = due_in_turn w over (gives_way change) (looks change && ready) notes
+
+abbrev pub wakes : ℕ → Change → Bool → Bool → Notes → Option ℕ
+wakes w change over ready notes = woken w (due_after w change over ready notes)
+
+abbrev pub noted : ℕ → Change → Bool → Bool → Notes → Notes
+noted w change over ready notes = left_resting w (due_after w change over ready notes)
 
 -- ---- who rests
 
--- a worker that rests without a task has looked for one: all are woken where tasks are ready, and one is that it couldn't claim
-abbrev pub wakes_at_rest : Bool → Bool → Sleepers → Bool
-wakes_at_rest claimed ready s = not claimed && ready && s.ended
+-- a worker without a task rests for want of one, where none was ready
+abbrev pub reason_of : Bool → Bool → Reason
+reason_of claimed ready = if claimed || ready then Blocked else Idle
 
-abbrev pub noted_at_rest : Bool → Bool → Sleepers → Sleepers
-noted_at_rest claimed ready s =
-    if wakes_at_rest claimed ready s then nobody
-    else record { idle = s.idle || not claimed; blocked = s.blocked || claimed || ready; ended = claimed && s.ended }
+-- a worker that rests without a task has looked for one
+abbrev pub due_at_rest : ℕ → Bool → Bool → Notes → Notes
+due_at_rest w claimed ready notes = due_in_turn w false false (not claimed && ready) notes
+
+abbrev pub wakes_at_rest : ℕ → Bool → Bool → Notes → Option ℕ
+wakes_at_rest w claimed ready notes = woken w (due_at_rest w claimed ready notes)
+
+-- it is noted last, with its bell: its own turn never wakes it
+abbrev pub noted_at_rest : ℕ → ℕ → Bool → Bool → Notes → Notes
+noted_at_rest w bell claimed ready notes = slice_set (left_resting w (due_at_rest w claimed ready notes)) w (Some (note (reason_of claimed ready) bell false))

@@ -1,5 +1,5 @@
 -- What a turn of a worker leaves on the board.
-use Rattle.std.specs.Prelude.{◌≡◌, ◌≢◌, ◌<◌, ◌++◌, ◌∷◌, [], ◌⊎◌, ℕ, Option, None, List}
+use Rattle.std.specs.Prelude.{◌≡◌, ◌≢◌, ◌<◌, ◌++◌, ◌∷◌, [], ◌⊎◌, ℕ, Option, None, List, length}
 use Rattle.sj_base.specs.declared.ids.Worker.{Worker}
 use Rattle.sj_base.specs.declared.trace.Event.{Event}
 use Rattle.sj_desk.specs.Seats.{DeskFacts}
@@ -42,12 +42,15 @@ pub record IsTurnOf {D : Type 0} (faults mismatches : D → ℕ) (w : Worker) (o
 abbrev pub IsWorkerOf : {D : Type 0} → BoardState D → Worker → Type 0
 IsWorkerOf b w = w.0 < b.run.program.workers
 
--- the worker's turn, in which it found this board, may end with that one: what was noted of those that rest is as it was found
+-- the worker's turn, in which it found this board, may end with that one: the notes of those that rest are as they were found,
+-- with a place for each worker's
 pub record MayLeave {D : Type 0} (size faults mismatches : D → ℕ) (held : D → Option (List ℕ)) (desk : DeskFacts (NotedBoard D)) (w : Worker) (b found : NotedBoard D) : Type 0 where
   pub turn : IsTurnOf faults mismatches w found.board b.board
   pub sound : IsSharedSound size faults mismatches held found.board
   pub key : key_of found.board ≡ key_of desk.opening.board
   pub notes : b.sleepers ≡ found.sleepers
+  pub staffed : length found.sleepers ≡ found.board.run.program.workers
+  pub known : IsWorkerOf found.board w
 
 -- the worker has put its unit back: the disks alone have changed, and the worker's hand
 pub record PutsUnitBack {D : Type 0} (w : Worker) (old new : BoardState D) : Type 0 where

@@ -15,6 +15,7 @@ use crate::closing::{abandoned, ended, unopened};
 use crate::noted_board::NotedBoard;
 use crate::opening::opened;
 use crate::shared_board::SharedBoard;
+use crate::sleepers::Sleepers;
 use crate::threads::worked;
 use sj_base::program::{Machine, Program};
 use sj_base::trace::Trace;
@@ -57,8 +58,11 @@ fn run_over<C: Codelets, G: Gate, D: Disk + Send, R: Threads + Wait + Sync>(
     let Ok(posts) = Vec::with_capacity(alloc, program.workers as usize) else {
         return abandoned(board);
     };
+    let Ok(sleepers) = Sleepers::new(alloc, program.workers) else {
+        return abandoned(board);
+    };
     let board = match SharedBoard::new(alloc, board) {
-        Ok(board) => NotedBoard::new(board),
+        Ok(board) => NotedBoard { board, sleepers },
         Err(board) => return abandoned(board),
     };
     let (desk, seats) = match Desk::make(alloc, board, program.workers) {

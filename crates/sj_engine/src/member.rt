@@ -37,4 +37,7 @@ impl Stage {
 pub struct Member<D: Disk> {
     pub seat: BoardSeat<D>,
     pub stage: Stage,
+    /// The bell that its thread sleeps on: of its own number where it has a thread to itself, and that of the caller's thread
+    /// where it shares it.
+    pub bell: u8,
 }

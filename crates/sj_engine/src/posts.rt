@@ -18,6 +18,9 @@ use std::sync::atomic::AtomicU64;
 use std::sync::atomic::Ordering::SeqCst;
 use std::thread::{Promise, PromisedHandle, Scope, Threads};
 
+/// The bell that the caller's thread sleeps on, whichever of its workers is woken.
+const HERE: u8 = 0;
+
 /// The promise of a thread: it comes back with this worker of the desk.
 #[derive(Drop)]
 pub(crate) struct ComesBack<D: Disk> {
@@ -127,7 +130,7 @@ impl<C: Codelets, G: Gate, R: Threads + Wait + Sync, D: Disk> Site<'_, C, G, R, 
             Post::Here(member) => member,
         };
         self.see_to_the_end(&mut member);
-        let Member { seat, stage: _ } = member;
+        let Member { seat, .. } = member;
         seat
     }
 
@@ -164,6 +167,7 @@ impl<'s, C: Codelets, G: Gate, R: Threads + Wait + Sync, D: Disk + Send> Site<'s
         let member = Member {
             seat,
             stage: Stage::Fresh,
+            bell: number,
         };
         let promise = ComesBack {
             desk: Snapshot::of(self.desk),
@@ -182,7 +186,9 @@ impl<'s, C: Codelets, G: Gate, R: Threads + Wait + Sync, D: Disk + Send> Site<'s
             Ok(thread) => Post::Away(thread),
             Err(refusal) => {
                 refused.store(number as u64 + 1, SeqCst);
-                Post::Here((refusal.value)())
+                let Member { seat, stage, .. } = (refusal.value)();
+                let bell = HERE;
+                Post::Here(Member { seat, stage, bell })
             }
         }
     }
@@ -204,6 +210,7 @@ impl<'s, C: Codelets, G: Gate, R: Threads + Wait + Sync, D: Disk + Send> Site<'s
             return Post::Here(Member {
                 seat,
                 stage: Stage::Fresh,
+                bell: HERE,
             });
         }
         self.posted(scope, refused, seat)

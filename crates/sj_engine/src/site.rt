@@ -31,6 +31,7 @@ impl<C: Codelets, G: Gate, R: Wait, D: Disk> Site<'_, C, G, R, D> {
         requires member { IsMember self.now.desk.now member.old }
         ensures member { IsMember self.now.desk.now member.new }
         ensures number { member.new.seat.number ≡ member.old.seat.number }
+        ensures bell { member.new.bell ≡ member.old.bell }
     {
         let workplace = Workplace {
             rt: self.rt,
@@ -38,6 +39,7 @@ impl<C: Codelets, G: Gate, R: Wait, D: Disk> Site<'_, C, G, R, D> {
             desk: self.desk,
             program: self.program,
             worker: Worker(member.seat.number()),
+            bell: member.bell,
         };
         if rests && member.stage.may_rest() {
             self.desk.rest(self.rt, &mut member.seat);

@@ -1,11 +1,11 @@
 //! The turns of a worker at the desk: each is one look at the board, or one event on it.
 
-ghost use Rattle.std.specs.Prelude.{◌≡◌, IfSome, IsSomeAnd, MatchBool, None, Some, false, is_some, true};
+ghost use Rattle.std.specs.Prelude.{◌≡◌, IfSome, IsSomeAnd, MatchBool, MatchOption, None, Some, false, is_some, true};
 ghost use Rattle.sj_base.specs.Array.{Array};
 ghost use Rattle.sj_machine.specs.Tiles.{array_in};
 ghost use Rattle.sj_machine.specs.Standing.{is_node};
 ghost use Rattle.sj_desk.specs.Seats.{rung};
-ghost use Rattle.sj_engine.specs.Bell.{HasRung, IsChange, MindsBell, is_claimed, noted_after, noted_for_rest, wakes_after, wakes_for_rest};
+ghost use Rattle.sj_engine.specs.Bell.{HasHeardBell, HasRung, IsChange, MindsBell, is_claimed, noted_after, noted_for_rest, wakes_after, wakes_for_rest};
 ghost use Rattle.sj_engine.specs.Picking.{AfterPick, finds_nothing};
 ghost use Rattle.sj_engine.specs.Stage.{AreDone, GoesOn, HasClaimedRow, HasLeft, HoldsRow, IsCarried, IsFetchedThrough, IsFreeRow, IsStoredThrough, MovesRow, RunsRow};
 ghost use Rattle.sj_engine.specs.Stepping.{AfterStep, HasDone, has_to_wait};
@@ -37,47 +37,48 @@ fn change_of<D: Disk>(step: &Step<D>) -> Change
 }
 
 impl<R, D: Disk> Workplace<'_, R, D> {
-    /// Rings the bell, or doesn't.
-    fn ring_where(&self, seat: &mut BoardSeat<D>, rings: bool)
+    /// Rings a bell, or none.
+    fn ring(&self, seat: &mut BoardSeat<D>, bell: Option<u8>)
         requires of_this_desk { seat.old.desk ≡ Some self.now.desk.now }
-        ensures { MatchBool rings (seat.new ≡ rung seat.old) (seat.new ≡ seat.old) }
+        ensures { MatchOption bell (seat.new ≡ seat.old) (λ b. seat.new ≡ rung seat.old b) }
     {
-        if rings {
-            self.desk.ring(seat);
+        if let Some(bell) = bell {
+            self.desk.ring(seat, bell);
         }
     }
 
-    /// Ends a turn that did this, and wakes those that rest where they may go on by it.
+    /// Ends a turn that did this, and wakes the next worker that is to look again.
     fn end_turn(&self, seat: &mut BoardSeat<D>, mut noted: NotedBoard<D>, change: Change)
         requires desk { seat.old.desk ≡ Some self.now.desk.now }
         requires number { seat.old.number ≡ self.now.worker.0 }
         requires turn { IsSomeAnd seat.old.found
             (MayLeave D.size D.faults D.mismatches D.held self.now.desk.now self.now.worker noted) }
         requires did { IsSomeAnd seat.old.found (λ found. IsChange found.board noted.board change) }
-        ensures left { HasLeft self.now.desk.now self.now.worker (noted_after change noted) seat.new }
-        ensures rung { HasRung (wakes_after change noted) seat.old seat.new }
+        ensures left { HasLeft self.now.desk.now self.now.worker (noted_after self.now.worker change noted) seat.new }
+        ensures rung { HasRung (wakes_after self.now.worker change noted) seat.old seat.new }
     {
-        let rings = noted.wakes(change);
+        let woken = noted.change(self.worker, change);
         self.desk.leave(seat, noted);
-        self.ring_where(seat, rings);
+        self.ring(seat, woken);
     }
 
-    /// Ends a turn in which the worker found nothing to do, with a claimed task or without one. The seat has heard the bell.
-    /// Where the bell is rung for others, the worker's own rest ends by that too, and it looks once more.
+    /// Ends a turn in which the worker found nothing to do, with a claimed task or without one. The seat has heard its bell.
     fn end_turn_to_rest(&self, seat: &mut BoardSeat<D>, mut noted: NotedBoard<D>, claimed: bool)
         requires desk { seat.old.desk ≡ Some self.now.desk.now }
         requires number { seat.old.number ≡ self.now.worker.0 }
         requires turn { IsSomeAnd seat.old.found
             (MayLeave D.size D.faults D.mismatches D.held self.now.desk.now self.now.worker noted) }
         requires claimed { claimed ≡ is_claimed noted.board self.now.worker }
-        ensures left { HasLeft self.now.desk.now self.now.worker (noted_for_rest claimed noted) seat.new }
-        ensures rung { HasRung (wakes_for_rest claimed noted) seat.old seat.new }
+        ensures left { HasLeft self.now.desk.now self.now.worker
+            (noted_for_rest self.now.worker self.now.bell claimed noted) seat.new }
+        ensures rung { HasRung (wakes_for_rest self.now.worker claimed noted) seat.old seat.new }
         ensures heard { is_some seat.new.heard ≡ true }
+        ensures bell { HasHeardBell self.now.bell seat.new }
     {
-        let rings = noted.rest(claimed);
-        self.desk.listen(seat);
+        let woken = noted.rest(self.worker, self.bell, claimed);
+        self.desk.listen(seat, self.bell);
         self.desk.leave(seat, noted);
-        self.ring_where(seat, rings);
+        self.ring(seat, woken);
     }
 }
 
@@ -89,7 +90,7 @@ impl<R: Wait, D: Disk> Workplace<'_, R, D> {
         ensures row { IsSeated self.now (λ r. AfterPick self.now.worker r result) seat.new }
         ensures events { GoesOn self.now.worker seat.old seat.new }
         ensures heard { result ≡ Picked.Nothing → is_some seat.new.heard ≡ true }
-        ensures bell { MindsBell self.now.worker (finds_nothing result) seat.old seat.new }
+        ensures bell { MindsBell self.now.worker self.now.bell (finds_nothing result) seat.old seat.new }
     {
         let mut noted = self.desk.enter(self.rt, seat);
         let picked = noted.board.pick(self.alloc, self.worker);
@@ -109,7 +110,7 @@ impl<R: Wait, D: Disk> Workplace<'_, R, D> {
             (λ r. AfterStep D.held (board_key self.now) self.now.worker t r result) seat.new }
         ensures events { GoesOn self.now.worker seat.old seat.new }
         ensures heard { result ≡ Step.Waits → is_some seat.new.heard ≡ true }
-        ensures bell { MindsBell self.now.worker (has_to_wait result) seat.old seat.new }
+        ensures bell { MindsBell self.now.worker self.now.bell (has_to_wait result) seat.old seat.new }
     {
         let mut noted = self.desk.enter(self.rt, seat);
         let step = noted.board.step(self.alloc, self.worker, t);
@@ -131,7 +132,7 @@ impl<R: Wait, D: Disk> Workplace<'_, R, D> {
             (λ r. IsCarried D.held (board_key self.now) x r tile.value) seat.old }
         ensures row { IsSeated self.now (HasClaimedRow self.now.worker t) seat.new }
         ensures events { GoesOn self.now.worker seat.old seat.new }
-        ensures bell { MindsBell self.now.worker false seat.old seat.new }
+        ensures bell { MindsBell self.now.worker self.now.bell false seat.old seat.new }
     {
         let mut noted = self.desk.enter(self.rt, seat);
         noted.board.arrive(self.worker, t, x, tile);
@@ -154,7 +155,7 @@ impl<R: Wait, D: Disk> Workplace<'_, R, D> {
         ensures row { IsSeated self.now
             (λ r. MatchBool result (HasClaimedRow self.now.worker t r) (IsFreeRow r)) seat.new }
         ensures events { GoesOn self.now.worker seat.old seat.new }
-        ensures bell { MindsBell self.now.worker false seat.old seat.new }
+        ensures bell { MindsBell self.now.worker self.now.bell false seat.old seat.new }
     {
         let mut noted = self.desk.enter(self.rt, seat);
         let written = noted.board.write_out(self.worker, t, x, unit, outcome);
@@ -183,7 +184,7 @@ impl<R: Wait, D: Disk> Workplace<'_, R, D> {
         ensures row { IsSeated self.now
             (λ r. MatchBool result (HasClaimedRow self.now.worker t r) (IsFreeRow r)) seat.new }
         ensures events { GoesOn self.now.worker seat.old seat.new }
-        ensures bell { MindsBell self.now.worker false seat.old seat.new }
+        ensures bell { MindsBell self.now.worker self.now.bell false seat.old seat.new }
     {
         let mut noted = self.desk.enter(self.rt, seat);
         let read = noted.board.read_in(self.worker, t, x, unit, outcome, tile);
@@ -197,7 +198,7 @@ impl<R: Wait, D: Disk> Workplace<'_, R, D> {
         requires holds { IsSeated self.now (HoldsRow self.now.worker t x unit) seat.old }
         ensures row { IsSeated self.now IsFreeRow seat.new }
         ensures events { GoesOn self.now.worker seat.old seat.new }
-        ensures bell { MindsBell self.now.worker false seat.old seat.new }
+        ensures bell { MindsBell self.now.worker self.now.bell false seat.old seat.new }
     {
         let mut noted = self.desk.enter(self.rt, seat);
         noted.board.give_unit_up(self.worker, t, x, unit);
@@ -212,7 +213,7 @@ impl<R: Wait, D: Disk> Workplace<'_, R, D> {
             (λ r. AreDone D.held (board_key self.now) self.now.worker t r results.slots) seat.old }
         ensures row { IsSeated self.now IsFreeRow seat.new }
         ensures events { GoesOn self.now.worker seat.old seat.new }
-        ensures bell { MindsBell self.now.worker false seat.old seat.new }
+        ensures bell { MindsBell self.now.worker self.now.bell false seat.old seat.new }
     {
         let mut noted = self.desk.enter(self.rt, seat);
         let spent = noted.board.finish(self.worker, t, results);
@@ -228,7 +229,7 @@ impl<R: Wait, D: Disk> Workplace<'_, R, D> {
         requires no_unit { IsSeated self.now (λ r. r.hand.unit ≡ None) seat.old }
         ensures row { IsSeated self.now IsFreeRow seat.new }
         ensures events { GoesOn self.now.worker seat.old seat.new }
-        ensures bell { MindsBell self.now.worker false seat.old seat.new }
+        ensures bell { MindsBell self.now.worker self.now.bell false seat.old seat.new }
     {
         let mut noted = self.desk.enter(self.rt, seat);
         noted.board.fail_without_memory(self.worker);

@@ -232,10 +232,7 @@ impl<R: Wait, D: Disk> Workplace<'_, R, D> {
         match self.pick(seat) {
             Picked::Task(t) => self.carry_out(seat, codelets, gate, t),
             Picked::Nothing => Stage::Idle,
-            Picked::Failed => {
-                self.desk.ring(seat);
-                Stage::Fresh
-            }
+            Picked::Failed => Stage::Fresh,
             Picked::Over => Stage::Stopped,
         }
     }

@@ -20,4 +20,6 @@ pub struct Workplace<'a, R, D: Disk> {
     pub desk: &'a BoardDesk<D>,
     pub program: &'a Program,
     pub worker: Worker,
+    /// The bell that the worker's thread sleeps on.
+    pub bell: u8,
 }

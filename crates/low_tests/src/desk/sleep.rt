@@ -15,6 +15,9 @@ use std::time::{Clock, CpuClock, Duration};
 // How many milliseconds a seat is made to sleep.
 const A_WHILE: u64 = 200;
 
+// More bells than a test has seats.
+const BELLS: u8 = 4;
+
 // What several threads tell one another: how many came to the place that the others wait for, how many are done, how
 // much processor time they used in their sleep, and whether one had to be woken by the test.
 #[derive(Drop)]
@@ -73,6 +76,17 @@ fn spent<R: CpuClock>(rt: &R) -> Duration {
     rt.thread_cpu_time().unwrap_or(Duration::ZERO)
 }
 
+// Rings all bells.
+fn ring_all(desk: &Desk<Journal>, seat: &mut DeskSeat<Journal>)
+    requires { IsWaiting desk.now seat.old }
+    ensures waits { IsWaiting desk.now seat.new }
+    ensures number { seat.new.number ≡ seat.old.number }
+{
+    for bell in 0..BELLS {
+        desk.ring(seat, bell);
+    }
+}
+
 // Rings and has a turn, by which whoever sleeps wakes, and notes it, until so many are done.
 fn see_to_the_end<R: Wait + Clock>(
     rt: &R,
@@ -90,7 +104,7 @@ fn see_to_the_end<R: Wait + Clock>(
             break;
         }
         watch.forgotten.store(1, Ordering::SeqCst);
-        desk.ring(seat);
+        ring_all(desk, seat);
         visit(rt, desk, seat);
     }
 }
@@ -203,12 +217,12 @@ fn ring<R: Wait + Clock>(
         watch.forgotten.store(1, Ordering::SeqCst);
     }
     note(rt, desk, seat, 1);
-    desk.ring(seat);
+    desk.ring(seat, 0);
     see_to_the_end(rt, desk, seat, watch, others);
 }
 
-// A turn in which the seat hears the bell.
-fn hear<R: Wait>(rt: &R, desk: &Desk<Journal>, seat: &mut DeskSeat<Journal>)
+// A turn in which the seat hears a bell.
+fn hear<R: Wait>(rt: &R, desk: &Desk<Journal>, seat: &mut DeskSeat<Journal>, bell: u8)
     requires { IsWaiting desk.now seat.old }
     ensures waits { IsWaiting desk.now seat.new }
     ensures number { seat.new.number ≡ seat.old.number }
@@ -216,22 +230,23 @@ fn hear<R: Wait>(rt: &R, desk: &Desk<Journal>, seat: &mut DeskSeat<Journal>)
 {
     let mut journal = desk.enter(rt, seat);
     journal.add(seat.number(), 1);
-    desk.listen(seat);
+    desk.listen(seat, bell);
     desk.leave(seat, journal);
 }
 
-// A turn in which the seat hears the bell, and a rest after it.
+// A turn in which the seat hears a bell, and a rest after it.
 fn rest<R: Wait + Clock + CpuClock>(
     rt: &R,
     desk: &Desk<Journal>,
     seat: &mut DeskSeat<Journal>,
     watch: &Watch,
+    bell: u8,
 )
     requires { IsWaiting desk.now seat.old }
     ensures waits { IsWaiting desk.now seat.new }
     ensures number { seat.new.number ≡ seat.old.number }
 {
-    hear(rt, desk, seat);
+    hear(rt, desk, seat, bell);
     watch.comes();
     let before = spent(rt);
     desk.rest(rt, seat);
@@ -258,7 +273,7 @@ fn ring_and_rest<R: Threads + Wait + Clock + CpuClock + Sync>(
             if i == 0 {
                 ring(rt, desk, seat, watch, others)
             } else {
-                rest(rt, desk, seat, watch)
+                rest(rt, desk, seat, watch, 0)
             }
         },
     );
@@ -278,6 +293,68 @@ fn all_that_rest_wake_when_the_bell_rings(rt: HostRuntime) -> Result<(), Fail> {
     Ok(())
 }
 
+// Rings the bell of one of two others, and then that of the other, when both rest, each on its own.
+fn ring_one<R: Wait + Clock>(
+    rt: &R,
+    desk: &Desk<Journal>,
+    seat: &mut DeskSeat<Journal>,
+    watch: &Watch,
+)
+    requires { IsWaiting desk.now seat.old }
+    ensures waits { IsWaiting desk.now seat.new }
+    ensures number { seat.new.number ≡ seat.old.number }
+{
+    watch.wait_for(rt, 2);
+    thread::sleep(rt, Duration::from_millis(A_WHILE));
+    desk.ring(seat, 2);
+    if !watch.are_done(rt, 1) {
+        watch.forgotten.store(1, Ordering::SeqCst);
+    }
+    thread::sleep(rt, Duration::from_millis(A_WHILE));
+    if watch.done.load(Ordering::SeqCst) != 1 {
+        watch.forgotten.store(1, Ordering::SeqCst);
+    }
+    desk.ring(seat, 1);
+    see_to_the_end(rt, desk, seat, watch, 2);
+}
+
+// The first seat rings while the two others rest, each in a thread of its own and on the bell of its number.
+fn ring_one_of_two<R: Threads + Wait + Clock + CpuClock + Sync>(
+    rt: &R,
+    desk: &Desk<Journal>,
+    seats: &mut [DeskSeat<Journal>],
+    watch: &Watch,
+)
+    requires { AreInPlace desk.now seats.old }
+    ensures { AreInPlace desk.now seats.new }
+{
+    thread::for_each_mut(
+        rt,
+        seats,
+        3,
+        &|i, seat| {
+            if i == 0 {
+                ring_one(rt, desk, seat, watch)
+            } else {
+                let bell = seat.number();
+                rest(rt, desk, seat, watch, bell)
+            }
+        },
+    );
+}
+
+#[test]
+fn a_ring_wakes_who_rests_on_that_bell_and_nobody_else(rt: HostRuntime) -> Result<(), Fail> {
+    let Ok((desk, mut seats)) = opened(rt.alloc(), 3) else {
+        panic!(rt; "no memory")
+    };
+    let watch = Watch::new();
+    ring_one_of_two(&rt, &desk, seats.as_mut_slice(), &watch);
+    assert_eq!(rt; watch.forgotten.load(Ordering::SeqCst), 0);
+    assert!(rt; watch.used.load(Ordering::SeqCst) < 100_000);
+    Ok(())
+}
+
 // Hears the bell, and rests once it has rung.
 fn rest_late<R: Wait + Clock>(
     rt: &R,
@@ -289,7 +366,7 @@ fn rest_late<R: Wait + Clock>(
     ensures waits { IsWaiting desk.now seat.new }
     ensures number { seat.new.number ≡ seat.old.number }
 {
-    hear(rt, desk, seat);
+    hear(rt, desk, seat, 1);
     watch.comes();
     watch.wait_for(rt, 2);
     desk.rest(rt, seat);
@@ -309,7 +386,7 @@ fn ring_early<R: Wait + Clock>(
 {
     watch.wait_for(rt, 1);
     note(rt, desk, seat, 1);
-    desk.ring(seat);
+    desk.ring(seat, 1);
     watch.comes();
     see_to_the_end(rt, desk, seat, watch, 1);
 }

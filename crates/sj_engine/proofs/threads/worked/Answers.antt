@@ -22,5 +22,5 @@ close-requires-clause-all_its_seats g c = numbers-back c.args.desk c.work_all-se
 pub returns-clause-stopped : goal.returns-clause-stopped
 returns-clause-stopped g c =
     let program : c.close.result.board.run.program ≡ c.args.program.now = ap (λ (k : BoardKey _). k.program) c.close.ensures.key ∙ c.requires.program in
-    let staffed : length c.close.result.board.hands ≡ c.args.desk.seats = c.close.ensures.sound.board.inside.hands_agree.every_worker ∙ ap (λ (p : Program). p.workers) program ∙ sym c.requires.workers in
+    let staffed : length c.close.result.board.hands ≡ c.args.desk.seats = c.close.ensures.sound.board.board.inside.hands_agree.every_worker ∙ ap (λ (p : Program). p.workers) program ∙ sym c.requires.workers in
     subst (λ (b : BoardState _). AllStopped b.hands) (sym c.into_board.ensures) (stopped-back c.args.desk c.close.result c.work_all-seats.result.items c.work_all-seats.ensures.each c.work_all-seats.ensures.seats staffed c.close.ensures.rows)

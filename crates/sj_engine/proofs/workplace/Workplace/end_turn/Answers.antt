@@ -1,6 +1,18 @@
-use Rattle.sj_engine.proofs.DeskTurns.{other-rows}
+use Rattle.std.proofs.Common.{◌∙◌, ap, length}
+use Rattle.sj_engine.proofs.DeskTurns.{noted-inside, noted-sound, other-rows}
+use Rattle.sj_engine.specs.Resting.{has_ready, is_over}
+use Rattle.sj_engine.proofs.Sleeping.{length-noted}
 use Rattle.sj_engine.proofs.workplace.Workplace.end_turn.Goals as goal
+
+pub change-woken-requires : goal.change-woken-requires
+change-woken-requires g c = record { inside = noted-inside _ _ _ _ _ _ c.args.noted _ c.requires.turn }
 
 pub leave-requires-clause-other_rows : goal.leave-requires-clause-other_rows
 leave-requires-clause-other_rows g c =
-    other-rows _ _ _ _ _ _ c.args.noted c.wakes-rings.new.self c.args.seat.now c.requires.number c.requires.turn c.wakes-rings.ensures.board
+    other-rows _ _ _ _ _ _ c.args.noted c.change-woken.new.self c.args.seat.now c.requires.number c.requires.turn c.change-woken.ensures.board
+
+pub leave-requires-clause-sound : goal.leave-requires-clause-sound
+leave-requires-clause-sound g c =
+    let found = c.args.noted in
+    let many = ap length c.change-woken.ensures.noted ∙ length-noted c.args.self.now.worker.0 c.args.change (is_over found.board) (has_ready found.board) found.sleepers in
+    noted-sound _ _ _ _ _ _ c.args.noted c.change-woken.new.self _ c.requires.turn c.change-woken.ensures.board many c.change-woken.ensures.sound
