@@ -153,7 +153,11 @@ fn operands_and_codelets_are_spelled(rt: HostRuntime) -> Result<(), Fail> {
         "task scale(b) x",
         "task scale(2) x:RW prio=b x:R",
     ];
-    all_are(&rt, &words, false, Some(Reason::Word))?;
+    all_are(&rt, &words, false, Some(Reason::Word))
+}
+
+#[test]
+fn numbers_of_tasks_are_spelled(rt: HostRuntime) -> Result<(), Fail> {
     let numbers = [
         "task scale() x:RW",
         "task fill(1,) x:W",

@@ -55,9 +55,6 @@ cut_off-below a = grind (arith, ints, clamps)
 pub cut_off-same : (a : ℤ) → a ≤ℤ greatest → cut_off a ≡ a
 cut_off-same a h = grind (arith, ints, clamps)
 
-pub below-cut_off : (a b : ℤ) → b ≤ℤ greatest → a ≤ℤ b → a ≤ℤ cut_off b
-below-cut_off a b h k = grind (arith, ints, clamps)
-
 pub plus-inf_left : (a : ℤ) → plus inf a ≡ inf
 plus-inf_left a = grind (arith, ints, clamps)
 

@@ -6,7 +6,7 @@ use Rattle.std.specs.Fmt.{decimal}
 use Rattle.std.specs.List.{AllByRecursion, filter, flat_map, list_all, list_any, range_with_len}
 use Rattle.std.specs.Cmp.Lexicographic.{slice_cmp}
 use Rattle.std.specs.Ordering.{nat_cmp}
-use Rattle.std.proofs.lemmas.Bool.{eq-eqb, not-true}
+use Rattle.std.proofs.lemmas.Bool.{eq-eqb, not-true, and_from}
 use Rattle.std.proofs.lemmas.Bool.Decides.{nat_tests}
 use Rattle.std.proofs.lemmas.List.{length-append}
 use Rattle.std.proofs.lemmas.List.FromFn.{length-map-range_with_len, length-range_with_len}
@@ -31,8 +31,7 @@ use Rattle.sj_meaning.specs.Statement.{Operand}
 use Rattle.sj_job.specs.Well.{IsWell}
 use Rattle.sj_job.specs.Word.{integer, integer_of, is_integer}
 use Rattle.sj_job.proofs.Numerals.{decimal-integer}
-use Rattle.sj_job.proofs.Spelling.{true_both}
-use Rattle.sj_apps.specs.Generated.{IsSize, apart, aparts_in_row, below, beside, diagonal, factors, first_line, gemm, gemms, gemms_at, gemms_in_row, name_A, name_B, name_C, name_D, operand, others, part_count, paths_acts, paths_statements, product_acts, product_statements, square, upto, walk_step, walk_steps, weight, weights}
+use Rattle.sj_apps.specs.Generated.{IsSize, apart, aparts_in_row, below, beside, diagonal, factors, first_line, gemm_act, gemms, gemms_at, gemms_in_row, name_A, name_B, name_C, name_D, tile_operand, others, part_count, paths_acts, paths_statements, product_acts, product_statements, square, upto, walk_step, walk_steps, weight, weights}
 use Rattle.sj_apps.proofs.Starting.{IsCut, cut-from, factors-are, multiplied, registration, ring, ring-is, root-registered}
 use Rattle.sj_apps.proofs.Tiling.{AreMatrices, Becomes, IsMatrix, apart-run, below-run, beside-run, diagonal-run, gemm-run, run, run-append}
 use Rattle.sj_apps.proofs.WellFormed.{AllAllowed, Allowed, IsSeen, IsWorded, all-append, all-each_of, all-flat, flat-length, matrix-allowed, print-allowed, task-judged, well-from}
@@ -73,11 +72,11 @@ record IsMultiplying (n p : ℕ) (S : State) : Type 0 where
   ended : S.ended ≡ []
 
 module _ (n p : ℕ) (h : IsCut n p) where
-  gemm-step : (i j k : ℕ) (T : State) → i < p → j < p → k < p → IsMultiplying n p T → Allowed T (gemm i j k) × IsMultiplying n p (apply (gemm i j k) T)
+  gemm-step : (i j k : ℕ) (T : State) → i < p → j < p → k < p → IsMultiplying n p T → Allowed T (gemm_act i j k) × IsMultiplying n p (apply (gemm_act i j k) T)
   gemm-step i j k T hi hj hk now =
       let r = gemm-run n p i j k T now.a now.b now.c hi hj hk now.are in (
-        λ c few. task-judged n p (omega (arith, h.few)) (scope_of c T) Gemm (codes "gemm") (operand name_A i k R ∷ operand name_B k j R ∷ operand name_C i j Commute ∷ []) (not-full c few) refl refl
-            (seen n p c T (operand name_A i k R) now.a now.are.first now.ended refl hi hk, (seen n p c T (operand name_B k j R) now.b now.are.second now.ended refl hk hj, (seen n p c T (operand name_C i j Commute) now.c now.are.third now.ended refl hi hj, tt)))
+        λ c few. task-judged n p (omega (arith, h.few)) (scope_of c T) Gemm (codes "gemm") (tile_operand name_A i k R ∷ tile_operand name_B k j R ∷ tile_operand name_C i j Commute ∷ []) (not-full c few) refl refl
+            (seen n p c T (tile_operand name_A i k R) now.a now.are.first now.ended refl hi hk, (seen n p c T (tile_operand name_B k j R) now.b now.are.second now.ended refl hk hj, (seen n p c T (tile_operand name_C i j Commute) now.c now.are.third now.ended refl hi hj, tt)))
             refl refl (same_three (part_len n p k) (part_len n p i) (part_len n p j)) refl (refl, (refl, (refl, tt))) refl refl,
         record { a = now.a; b = now.b; c = _; are = r.are; ended = r.keeps.ended ∙ now.ended },
       )
@@ -87,13 +86,13 @@ module _ (n p : ℕ) (h : IsCut n p) where
       let below = each-below p in
       all-flat {Q = λ i. i < p} (IsMultiplying n p) (gemms_in_row p) (λ i T hi.
       all-flat {Q = λ j. j < p} (IsMultiplying n p) (gemms_at p i) (λ j T hj.
-      all-each_of {Q = λ k. k < p} (IsMultiplying n p) (gemm i j) (λ k T hk now. gemm-step i j k T hi hj hk now) (upto p) below T) (upto p) below T) (upto p) below T now
+      all-each_of {Q = λ k. k < p} (IsMultiplying n p) (gemm_act i j) (λ k T hk now. gemm-step i j k T hi hj hk now) (upto p) below T) (upto p) below T) (upto p) below T now
 
 fill-worded : (n : ℕ) (v w : List ℕ) (a b : ℤ) → integer_of v ≡ Some a → integer_of w ≡ Some b → IsWorded n (Fill a b)
 fill-worded n v w a b e f = record {
   form = form.Fill v w;
   says = λ t. Fill (unwrap_or (e t) (pos 0)) (unwrap_or (f t) (pos 0));
-  numbers = true_both (is_integer v) (is_integer w) (ap (λ (o : Option ℤ). is_some o) e) (ap (λ (o : Option ℤ). is_some o) f);
+  numbers = and_from (is_integer v) (is_integer w) (ap (λ (o : Option ℤ). is_some o) e) (ap (λ (o : Option ℤ). is_some o) f);
   some = refl;
   counted = refl;
 }
@@ -125,7 +124,7 @@ factors-allowed n p seed h =
 gemms-few : (p : ℕ) → p ≤ 48 → length (gemms p) ≤ 110592
 gemms-few p few =
     let each = length-range_with_len 0 p in
-    let inner : (i j : ℕ) → length (gemms_at p i j) ≤ p = λ i j. omega (arith, length-map-range_with_len (gemm i j) 0 p) in
+    let inner : (i j : ℕ) → length (gemms_at p i j) ≤ p = λ i j. omega (arith, length-map-range_with_len (gemm_act i j) 0 p) in
     let row : (i : ℕ) → length (gemms_in_row p i) ≤ p * p = λ i. omega (arith, flat-length (gemms_at p i) p (inner i) (upto p), ap (λ m. m * p) each) in
     omega (arith, flat-length (gemms_in_row p) (p * p) row (upto p), ap (λ m. m * (p * p)) each, mul-le p (p * p) 48 2304 few (omega (arith, mul-le p p 48 48 few few)))
 
@@ -157,13 +156,13 @@ others_are p k =
     each-filter (IsOther p k) (λ j. not (nat_eq j k)) (upto p)
     (each-all (λ j. j < p) (λ j. not (nat_eq j k) ≡ true → IsOther p k j) (λ j below t. (below, not-true (nat_eq j k) t)) (upto p) (each-below p))
 
-beside-apart : (k j : ℕ) → nat_eq j k ≡ false → is_aliased (operand name_D k k R ∷ operand name_D k j RW ∷ []) ≡ false
+beside-apart : (k j : ℕ) → nat_eq j k ≡ false → is_aliased (tile_operand name_D k k R ∷ tile_operand name_D k j RW ∷ []) ≡ false
 beside-apart k j h = grind (arith, nat_tests)
 
-below-apart : (k i : ℕ) → nat_eq i k ≡ false → is_aliased (operand name_D k k R ∷ operand name_D i k RW ∷ []) ≡ false
+below-apart : (k i : ℕ) → nat_eq i k ≡ false → is_aliased (tile_operand name_D k k R ∷ tile_operand name_D i k RW ∷ []) ≡ false
 below-apart k i h = grind (arith, nat_tests)
 
-apart-apart : (k i j : ℕ) → nat_eq i k ≡ false → nat_eq j k ≡ false → is_aliased (operand name_D i k R ∷ operand name_D k j R ∷ operand name_D i j RW ∷ []) ≡ false
+apart-apart : (k i j : ℕ) → nat_eq i k ≡ false → nat_eq j k ≡ false → is_aliased (tile_operand name_D i k R ∷ tile_operand name_D k j R ∷ tile_operand name_D i j RW ∷ []) ≡ false
 apart-apart k i j h g = grind (arith, nat_tests)
 
 module _ (n p : ℕ) (h : IsCut n p) where
@@ -178,31 +177,31 @@ module _ (n p : ℕ) (h : IsCut n p) where
 
   diagonal-step : (k : ℕ) (T : State) → k < p → IsWalking n p T → Allowed T (diagonal k) × IsWalking n p (apply (diagonal k) T)
   diagonal-step k T hk now = (
-    λ c few. task-judged n p small (scope_of c T) FwDiag (codes "fwdiag") (operand name_D k k RW ∷ []) (not-full c few) refl refl
-        (tile-seen c k k T (operand name_D k k RW) now refl refl hk hk, tt) refl refl (eq-eqb (part_len n p k) (part_len n p k) refl) refl (refl, tt) refl refl,
+    λ c few. task-judged n p small (scope_of c T) FwDiag (codes "fwdiag") (tile_operand name_D k k RW ∷ []) (not-full c few) refl refl
+        (tile-seen c k k T (tile_operand name_D k k RW) now refl refl hk hk, tt) refl refl (eq-eqb (part_len n p k) (part_len n p k) refl) refl (refl, tt) refl refl,
     after T (apply (diagonal k) T) _ (diagonal-run n p k T now.d hk now.is) now.ended,
   )
 
   beside-step : (k j : ℕ) (T : State) → k < p → IsOther p k j → IsWalking n p T → Allowed T (beside k j) × IsWalking n p (apply (beside k j) T)
   beside-step k j T hk hj now = (
-    λ c few. task-judged n p small (scope_of c T) FwRow (codes "fwrow") (operand name_D k k R ∷ operand name_D k j RW ∷ []) (not-full c few) refl refl
-        (tile-seen c k k T (operand name_D k k R) now refl refl hk hk, (tile-seen c k j T (operand name_D k j RW) now refl refl hk hj.0, tt)) refl refl
+    λ c few. task-judged n p small (scope_of c T) FwRow (codes "fwrow") (tile_operand name_D k k R ∷ tile_operand name_D k j RW ∷ []) (not-full c few) refl refl
+        (tile-seen c k k T (tile_operand name_D k k R) now refl refl hk hk, (tile-seen c k j T (tile_operand name_D k j RW) now refl refl hk hj.0, tt)) refl refl
         (same_two (part_len n p k) (part_len n p k)) (beside-apart k j hj.1) (refl, (refl, tt)) refl refl,
     after T (apply (beside k j) T) _ (beside-run n p k j T now.d hk hj.0 now.is) now.ended,
   )
 
   below-step : (k i : ℕ) (T : State) → k < p → IsOther p k i → IsWalking n p T → Allowed T (below k i) × IsWalking n p (apply (below k i) T)
   below-step k i T hk hi now = (
-    λ c few. task-judged n p small (scope_of c T) FwCol (codes "fwcol") (operand name_D k k R ∷ operand name_D i k RW ∷ []) (not-full c few) refl refl
-        (tile-seen c k k T (operand name_D k k R) now refl refl hk hk, (tile-seen c i k T (operand name_D i k RW) now refl refl hi.0 hk, tt)) refl refl
+    λ c few. task-judged n p small (scope_of c T) FwCol (codes "fwcol") (tile_operand name_D k k R ∷ tile_operand name_D i k RW ∷ []) (not-full c few) refl refl
+        (tile-seen c k k T (tile_operand name_D k k R) now refl refl hk hk, (tile-seen c i k T (tile_operand name_D i k RW) now refl refl hi.0 hk, tt)) refl refl
         (same_two (part_len n p k) (part_len n p k)) (below-apart k i hi.1) (refl, (refl, tt)) refl refl,
     after T (apply (below k i) T) _ (below-run n p k i T now.d hk hi.0 now.is) now.ended,
   )
 
   apart-step : (k i j : ℕ) (T : State) → k < p → IsOther p k i → IsOther p k j → IsWalking n p T → Allowed T (apart k i j) × IsWalking n p (apply (apart k i j) T)
   apart-step k i j T hk hi hj now = (
-    λ c few. task-judged n p small (scope_of c T) MinGemm (codes "mingemm") (operand name_D i k R ∷ operand name_D k j R ∷ operand name_D i j RW ∷ []) (not-full c few) refl refl
-        (tile-seen c i k T (operand name_D i k R) now refl refl hi.0 hk, (tile-seen c k j T (operand name_D k j R) now refl refl hk hj.0, (tile-seen c i j T (operand name_D i j RW) now refl refl hi.0 hj.0, tt))) refl refl
+    λ c few. task-judged n p small (scope_of c T) MinGemm (codes "mingemm") (tile_operand name_D i k R ∷ tile_operand name_D k j R ∷ tile_operand name_D i j RW ∷ []) (not-full c few) refl refl
+        (tile-seen c i k T (tile_operand name_D i k R) now refl refl hi.0 hk, (tile-seen c k j T (tile_operand name_D k j R) now refl refl hk hj.0, (tile-seen c i j T (tile_operand name_D i j RW) now refl refl hi.0 hj.0, tt))) refl refl
         (same_three (part_len n p k) (part_len n p i) (part_len n p j)) (apart-apart k i j hi.1 hj.1) (refl, (refl, (refl, tt))) refl refl,
     after T (apply (apart k i j) T) _ (apart-run n p k i j T now.d hk hi.0 hj.0 now.is) now.ended,
   )
@@ -243,7 +242,7 @@ weight-reads n seed i j = by_tests (nat_eq j i) (nat_eq j ((i + 1) % n)) (nat_eq
 
 all-numbers : (g : ℕ → List ℕ) (a m : ℕ) → ((k : ℕ) → is_integer (g k) ≡ true) → list_all is_integer (each_of g (range_with_len a m)) ≡ true
 all-numbers g a zero h = refl
-all-numbers g a (suc m) h = true_both (is_integer (g a)) (list_all is_integer (each_of g (range_with_len (a + 1) m))) (h a) (all-numbers g (a + 1) m h)
+all-numbers g a (suc m) h = and_from (is_integer (g a)) (list_all is_integer (each_of g (range_with_len (a + 1) m))) (h a) (all-numbers g (a + 1) m h)
 
 some-values : (vs : List (List ℕ)) → 0 < length vs → has_values (form.Values vs) ≡ true
 some-values [] h = absurd (omega arith)

@@ -20,8 +20,8 @@ use Rattle.sj_plan.proofs.Windows.{Holds-from_true}
 use Rattle.sj_meaning.specs.declared.job.Kind.TheVariants.{Matrix}
 use Rattle.sj_meaning.specs.Meaning.{Printed, apply, array_of, found_by, printed}
 use Rattle.sj_meaning.specs.State.{Root, State, root_of, start}
-use Rattle.sj_apps.specs.Generated.{IsSize, factors, first_line, gemm, gemms, gemms_at, gemms_in_row, name_C, part_count, product_statements, square, upto}
-use Rattle.sj_apps.specs.Product.{counted, factor_A, factor_B, product}
+use Rattle.sj_apps.specs.Generated.{IsSize, factors, first_line, gemm_act, gemms, gemms_at, gemms_in_row, name_C, part_count, product_statements, square, upto}
+use Rattle.sj_apps.specs.Product.{counted_matrix, factor_A, factor_B, matrix_product}
 use Rattle.sj_apps.proofs.Starting.{counting, cut-from, factors-are, multiplied as factored}
 use Rattle.sj_apps.proofs.Tiling.{AreMatrices, IsSilent, gemm-run, printed-last, rect, root, root-array, run, run-each, run-range, tile, with_tile}
 
@@ -79,7 +79,7 @@ module _ (n p : ℕ) (a b : ℕ → ℕ → ℤ) where
       element-grid (dims_of r) (λ i j. wrap (element tc i j +ℤ exact ta tb i j)) i' j' li lj
       ∙ (λ x. wrap (own x +ℤ sums x)) ∙ int_wrap-add_left w64 (t i j) (part_sum k i j)
 
-  gemm-reached : (i j k : ℕ) (T : State) (t : ℕ → ℕ → ℤ) → i < p → j < p → k < p → Reached n p a b T t → Reached n p a b (apply (gemm i j k) T) (λ x y. t x y +ℤ in_tile n p (i, j) x y (part_sum k x y))
+  gemm-reached : (i j k : ℕ) (T : State) (t : ℕ → ℕ → ℤ) → i < p → j < p → k < p → Reached n p a b T t → Reached n p a b (apply (gemm_act i j k) T) (λ x y. t x y +ℤ in_tile n p (i, j) x y (part_sum k x y))
   gemm-reached i j k T t hi hj hk r = record {
     c = with_tile n p (i, j) (multiplied (tile n p a (i, k)) (tile n p b (k, j)) (tile n p r.c (i, j))) r.c;
     are = (gemm-run n p i j k T a b r.c hi hj hk r.are).are;
@@ -114,8 +114,8 @@ module _ (n p : ℕ) (a b : ℕ → ℕ → ℤ) where
   tile-reached some i j T t hi hj r =
       let P : ℕ → State → Type 0 = λ k T. Reached n p a b T (λ x y. t x y +ℤ in_tile n p (i, j) x y (first_sum (part_first n p k) x y)) in
       let before = reached-same n p a b T t (λ x y. t x y +ℤ in_tile n p (i, j) x y (first_sum 0 x y)) (λ x y hx hy. in_tile-none (holds (rect n p (i, j)) x y) (t x y)) r in
-      let end = run-each P (gemm i j) p T before (λ k T hk now.
-      reached-same n p a b (apply (gemm i j k) T) (λ x y. (t x y +ℤ in_tile n p (i, j) x y (first_sum (part_first n p k) x y)) +ℤ in_tile n p (i, j) x y (part_sum k x y)) (λ x y. t x y +ℤ in_tile n p (i, j) x y (first_sum (part_first n p (k + 1)) x y))
+      let end = run-each P (gemm_act i j) p T before (λ k T hk now.
+      reached-same n p a b (apply (gemm_act i j k) T) (λ x y. (t x y +ℤ in_tile n p (i, j) x y (first_sum (part_first n p k) x y)) +ℤ in_tile n p (i, j) x y (part_sum k x y)) (λ x y. t x y +ℤ in_tile n p (i, j) x y (first_sum (part_first n p (k + 1)) x y))
       (λ x y hx hy. in_tile-more (holds (rect n p (i, j)) x y) (t x y) (first_sum (part_first n p k) x y) (part_sum k x y) (first_sum (part_first n p (k + 1)) x y) (first-more k x y))
       (gemm-reached i j k T (λ x y. t x y +ℤ in_tile n p (i, j) x y (first_sum (part_first n p k) x y)) hi hj hk now)) in
       subst (λ m. Reached n p a b (run (gemms_at p i j) T) (λ x y. t x y +ℤ in_tile n p (i, j) x y (first_sum m x y))) (part_first-all n p some) end
@@ -193,20 +193,17 @@ gemms-silent p =
     let ks = upto p in
     each-flat_map IsSilent (gemms_in_row p) ks (each-of (λ i. AllByRecursion IsSilent (gemms_in_row p i)) (λ i.
     each-flat_map IsSilent (gemms_at p i) ks (each-of (λ j. AllByRecursion IsSilent (gemms_at p i j)) (λ j.
-    each-map IsSilent (gemm i j) ks (each-of (λ k. IsSilent (gemm i j k)) (λ k S. refl) ks)) ks)) ks)
+    each-map IsSilent (gemm_act i j) ks (each-of (λ k. IsSilent (gemm_act i j k)) (λ k S. refl) ks)) ks)) ks)
 
 -- an element of a factor
-factor-element : (n : ℕ) (first step : ℤ) (i j : ℕ) → i < n → j < n → element (counted n first step) i j ≡ counting n first step i j
+factor-element : (n : ℕ) (first step : ℤ) (i j : ℕ) → i < n → j < n → element (counted_matrix n first step) i j ≡ counting n first step i j
 factor-element n first step i j hi hj = element-grid (square n) (counting n first step) i j hi hj
-
-zero_first : (s : ℤ) → (pos 0 +ℤ (pos 0 *ℤ pos 0)) +ℤ s ≡ s
-zero_first s = omega (arith, ints)
 
 nothing : (x : ℕ) → pos 0 +ℤ (pos 0 *ℤ pos x) ≡ pos 0
 nothing x = omega (arith, ints)
 
 -- the statements of the product print one matrix: the product of the factors
-pub product-printed : (n tile seed : ℕ) → IsSize n tile seed → printed (product_statements n tile seed) ≡ record { name = name_C; kind = Matrix; array = product n (factor_A n seed) (factor_B n) } ∷ []
+pub product-printed : (n tile seed : ℕ) → IsSize n tile seed → printed (product_statements n tile seed) ≡ record { name = name_C; kind = Matrix; array = matrix_product n (factor_A n seed) (factor_B n) } ∷ []
 product-printed n tile seed size =
     let p = part_count n tile in
     let h = cut-from n tile seed size in
@@ -218,7 +215,7 @@ product-printed n tile seed size =
     let end = all-reached n p a b some S (λ i j. pos 0 +ℤ (pos 0 *ℤ pos (i * n + j))) first in
     let acts = factors n p seed ++ gemms p in
     let silent : AllByRecursion IsSilent acts = ((λ S. refl), ((λ S. refl), ((λ S. refl), gemms-silent p))) in
-    let elements : grid (square n) end.c ≡ product n (factor_A n seed) (factor_B n) =
+    let elements : grid (square n) end.c ≡ matrix_product n (factor_A n seed) (factor_B n) =
     same_grid (square n) end.c (λ i j. wrap (sum_below n (λ k. element (factor_A n seed) i k *ℤ element (factor_B n) k j))) (λ i j hi hj.
     end.is i j hi hj ∙ ap (λ (s : ℤ). wrap (s +ℤ sum_below n (terms a b i j))) (nothing (i * n + j)) ∙ ap wrap (int_zero-add (sum_below n (terms a b i j)))
     ∙ ap wrap (same_sum n (terms a b i j) (λ k. element (factor_A n seed) i k *ℤ element (factor_B n) k j) (λ k hk x. sym (factor-element n (pos (seed % 100)) (pos 1) i k hi hk) x *ℤ sym (factor-element n (pos 5) (negsuc 1) k j hk hj) x))) in

@@ -14,7 +14,7 @@ use Rattle.sj_plan.proofs.Tiling.{part_first-all}
 use Rattle.sj_meaning.specs.State.{State}
 use Rattle.sj_meaning.specs.Act.{Act}
 use Rattle.sj_meaning.specs.Meaning.{apply, change, with_child}
-use Rattle.sj_apps.specs.Generated.{apart_of, aparts_of, below_of, beside_of, diagonal_of, operand, others, walk_step_of, walk_steps_of}
+use Rattle.sj_apps.specs.Generated.{apart_of, aparts_of, below_of, beside_of, diagonal_of, tile_operand, others, walk_step_of, walk_steps_of}
 use Rattle.sj_apps.proofs.Tiling.{IsMatrix, tile, with_tile, run, run-append, run-each_kept, run-kept, run-range, tile-of, written-here}
 use Rattle.sj_apps.proofs.Adding.{le-trans, le-same}
 use Rattle.sj_apps.proofs.Closing.{AreLengths, IsClosed, IsBlockStep, IsOut, in_or_out, closed_more, no_greater}
@@ -43,19 +43,19 @@ put-tile name n p S f place a b e is =
 
 diagonal-runs : (name : List ℕ) (n p k : ℕ) (S : State) (f : ℕ → ℕ → ℤ) → k < p → IsMatrix n p S name f → IsMatrix n p (apply (diagonal_of name k) S) name (with_tile n p (k, k) (fwdiag (tile n p f (k, k))) f)
 diagonal-runs name n p k S f h is =
-    put-tile name n p S f (k, k) _ _ (ap fwdiag (tile-of n p S name f (k, k) (h, h) is (operand name k k RW) refl refl refl)) is
+    put-tile name n p S f (k, k) _ _ (ap fwdiag (tile-of n p S name f (k, k) (h, h) is (tile_operand name k k RW) refl refl refl)) is
 
 beside-runs : (name : List ℕ) (n p k j : ℕ) (S : State) (f : ℕ → ℕ → ℤ) → k < p → j < p → IsMatrix n p S name f → IsMatrix n p (apply (beside_of name k j) S) name (with_tile n p (k, j) (fwrow (tile n p f (k, k)) (tile n p f (k, j))) f)
 beside-runs name n p k j S f hk hj is =
-    put-tile name n p S f (k, j) _ _ (λ t. fwrow (tile-of n p S name f (k, k) (hk, hk) is (operand name k k R) refl refl refl t) (tile-of n p S name f (k, j) (hk, hj) is (operand name k j RW) refl refl refl t)) is
+    put-tile name n p S f (k, j) _ _ (λ t. fwrow (tile-of n p S name f (k, k) (hk, hk) is (tile_operand name k k R) refl refl refl t) (tile-of n p S name f (k, j) (hk, hj) is (tile_operand name k j RW) refl refl refl t)) is
 
 below-runs : (name : List ℕ) (n p k i : ℕ) (S : State) (f : ℕ → ℕ → ℤ) → k < p → i < p → IsMatrix n p S name f → IsMatrix n p (apply (below_of name k i) S) name (with_tile n p (i, k) (fwcol (tile n p f (k, k)) (tile n p f (i, k))) f)
 below-runs name n p k i S f hk hi is =
-    put-tile name n p S f (i, k) _ _ (λ t. fwcol (tile-of n p S name f (k, k) (hk, hk) is (operand name k k R) refl refl refl t) (tile-of n p S name f (i, k) (hi, hk) is (operand name i k RW) refl refl refl t)) is
+    put-tile name n p S f (i, k) _ _ (λ t. fwcol (tile-of n p S name f (k, k) (hk, hk) is (tile_operand name k k R) refl refl refl t) (tile-of n p S name f (i, k) (hi, hk) is (tile_operand name i k RW) refl refl refl t)) is
 
 apart-runs : (name : List ℕ) (n p k i j : ℕ) (S : State) (f : ℕ → ℕ → ℤ) → k < p → i < p → j < p → IsMatrix n p S name f → IsMatrix n p (apply (apart_of name k i j) S) name (with_tile n p (i, j) (mingemm (tile n p f (i, k)) (tile n p f (k, j)) (tile n p f (i, j))) f)
 apart-runs name n p k i j S f hk hi hj is =
-    put-tile name n p S f (i, j) _ _ (λ t. mingemm (tile-of n p S name f (i, k) (hi, hk) is (operand name i k R) refl refl refl t) (tile-of n p S name f (k, j) (hk, hj) is (operand name k j R) refl refl refl t) (tile-of n p S name f (i, j) (hi, hj) is (operand name i j RW) refl refl refl t)) is
+    put-tile name n p S f (i, j) _ _ (λ t. mingemm (tile-of n p S name f (i, k) (hi, hk) is (tile_operand name i k R) refl refl refl t) (tile-of n p S name f (k, j) (hk, hj) is (tile_operand name k j R) refl refl refl t) (tile-of n p S name f (i, j) (hi, hj) is (tile_operand name i j RW) refl refl refl t)) is
 
 -- ---- one after another
 

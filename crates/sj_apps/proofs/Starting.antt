@@ -12,7 +12,7 @@ use Rattle.sj_meaning.specs.declared.job.Init.TheVariants.{Values, Fill}
 use Rattle.sj_meaning.specs.Meaning.{register, registered_root}
 use Rattle.sj_meaning.specs.State.{Root, State, root_of, start}
 use Rattle.sj_meaning.specs.Statement.{Register as Registration}
-use Rattle.sj_apps.specs.Generated.{IsSize, cut, factors, matrix, name_A, name_B, name_C, name_D, part_count, square, weight, weights}
+use Rattle.sj_apps.specs.Generated.{IsSize, cut, factors, matrix_act, name_A, name_B, name_C, name_D, part_count, square, weight, weights}
 use Rattle.sj_apps.proofs.Tiling.{AreMatrices, IsMatrix, root, run}
 
 -- ---- sizes
@@ -62,7 +62,7 @@ weighted name n p seed = ap (with-elements n p) (map-map (λ x. Some x) (λ q. w
 -- ---- the states behind the registrations
 
 abbrev pub ring : ℕ → ℕ → ℕ → State
-ring n p seed = run (matrix name_D n p (Values (weights n seed)) ∷ []) start
+ring n p seed = run (matrix_act name_D n p (Values (weights n seed)) ∷ []) start
 
 pub ring-is : (n p seed : ℕ) → IsMatrix n p (ring n p seed) name_D (weight n seed)
 ring-is n p seed = root-registered (registration name_D n p (Values (weights n seed))) start name_D ∙ ap Some (weighted name_D n p seed)

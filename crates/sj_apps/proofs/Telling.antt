@@ -35,14 +35,6 @@ numbered-append line [] ys = ap (λ l. numbered l ys) (omega arith)
 numbered-append line (x ∷ xs) ys =
     ap (λ l. record { line = record { 0 = line }; act = x } ∷ l) (numbered-append (line + 1) xs ys ∙ ap (λ l. numbered (line + 1) xs ++ numbered l ys) (omega arith))
 
-pub tells-none : (d : Draft) → Tells d d []
-tells-none d = record {
-  roots = refl;
-  long = omega arith;
-  seen = sym (append-nil (seen_from d.roots 0 d.statements));
-  numbered = λ h. h;
-}
-
 pub tells-more : (a b c : Draft) (xs ys : List (Act (List ℕ))) → Tells a b xs → Tells b c ys → Tells a c (xs ++ ys)
 tells-more a b c xs ys f g = record {
   roots = g.roots ∙ f.roots;
@@ -97,10 +89,6 @@ tells-others a b c f k n h g =
 pub tells-each : (a b c : Draft) (f : ℕ → Act (List ℕ)) (k n : ℕ) → Tells a b (map f (others n k)) → Tells b c (unless_same n k (f n ∷ [])) → Tells a c (map f (others (n + 1) k))
 tells-each a b c f k n h g =
     subst (Tells a c) (flat_map_single f (others (n + 1) k)) (tells-others a b c (λ x. f x ∷ []) k n (subst (Tells a b) (sym (flat_map_single f (others n k))) h) g)
-
--- nothing more, where a number is k
-pub tells-same : (d : Draft) (j k : ℕ) (acts : List (Act (List ℕ))) → eqb j k ≡ true → Tells d d (unless_same j k acts)
-tells-same d j k acts e = subst (λ t. Tells d d (cond t [] acts)) (sym e) (tells-none d)
 
 pub tells-other : (a b : Draft) (j k : ℕ) (acts : List (Act (List ℕ))) → eqb j k ≡ false → Tells a b acts → Tells a b (unless_same j k acts)
 tells-other a b j k acts e h = subst (λ t. Tells a b (cond t [] acts)) (sym e) h

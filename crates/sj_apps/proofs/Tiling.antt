@@ -4,11 +4,10 @@ use Rattle.std.proofs.Common.{◌≡◌, ℕ, zero, suc, ◌+◌, ◌-◌, ◌/�
 use Rattle.std.specs.List.{AllByRecursion, filter, flat_map, range_with_len}
 use Rattle.std.specs.Cmp.Lexicographic.{nat_list_cmp_total, texts_ties}
 use Rattle.std.proofs.lemmas.Simd.{map-map}
-use Rattle.sj_base.specs.declared.tile.Dims.{Dims}
 use Rattle.sj_base.specs.declared.mode.Mode.TheVariants.{R, RW, Commute}
 use Rattle.sj_base.specs.Array.{Array, array, area, element, grid}
 use Rattle.sj_base.specs.Window.{in_rect, item, table}
-use Rattle.sj_base.proofs.Tables.{item-table, length-table, same_tables}
+use Rattle.sj_base.proofs.Tables.{item-table, table-same}
 use Rattle.sj_codelet.specs.Equations.{fwcol, fwdiag, fwrow, gemm as multiplied, mingemm}
 use Rattle.sj_plan.specs.declared.rect.Rect.{Rect}
 use Rattle.sj_plan.specs.Parts.{IsPlace}
@@ -20,7 +19,7 @@ use Rattle.sj_meaning.specs.Meaning.{Printed, apply, array_of, change, child_arr
 use Rattle.sj_meaning.specs.State.{Root, State, root_of}
 use Rattle.sj_meaning.specs.Statement.{Operand}
 use Rattle.sj_job.proofs.Seen.{counts_changed}
-use Rattle.sj_apps.specs.Generated.{apart, below, beside, cut, diagonal, gemm, name_A, name_B, name_C, name_D, numbered, operand, square}
+use Rattle.sj_apps.specs.Generated.{apart, below, beside, cut, diagonal, gemm_act, name_A, name_B, name_C, name_D, numbered, tile_operand, square}
 
 -- ---- acts, one after another
 
@@ -97,11 +96,6 @@ run-each_kept P t g m S now step =
 
 -- ---- tables
 
-pub table-same : {X : Type 0} (blank : X) (d : Dims) (f g : ℕ → ℕ → X) → ((i j : ℕ) → i < d.rows → j < d.cols → f i j ≡ g i j) → table d f ≡ table d g
-table-same blank d f g h =
-    same_tables blank (table d f) (table d g) d.rows d.cols (length-table d f) (length-table d g)
-    (λ i j hi hj. item-table blank d f i j hi hj ∙ h i j hi hj ∙ sym (item-table blank d g i j hi hj))
-
 -- ---- matrices
 
 -- a root that is a matrix of n by n under a plan of p by p parts, with f i j in row i and column j
@@ -111,10 +105,6 @@ root n p f = record { kind = Matrix; dims = square n; parts = cut p; reduction =
 -- its array
 pub root-array : (n p : ℕ) (f : ℕ → ℕ → ℤ) → array_of (root n p f) ≡ grid (square n) f
 root-array n p f = ap (array (square n)) (map-map (λ (e : Option ℤ). unwrap_or e (pos 0)) (λ q. Some (f (q / n) (q % n))) (range_with_len 0 (area (square n))))
-
--- two matrices of the same elements are one root
-pub root-same : (n p : ℕ) (f g : ℕ → ℕ → ℤ) → ((i j : ℕ) → i < n → j < n → f i j ≡ g i j) → root n p f ≡ root n p g
-root-same n p f g h = ap (λ (es : List (Option ℤ)). record { kind = Matrix; dims = square n; parts = cut p; reduction = None; elements = es }) (table-same None (square n) (λ i j. Some (f i j)) (λ i j. Some (g i j)) (λ i j hi hj. ap Some (h i j hi hj)))
 
 -- the rectangle of a tile
 abbrev pub rect : ℕ → ℕ → ℕ × ℕ → Rect
@@ -208,19 +198,19 @@ put-D n p S f place a b e is =
 
 pub diagonal-run : (n p k : ℕ) (S : State) (f : ℕ → ℕ → ℤ) → k < p → IsMatrix n p S name_D f → Becomes n p S (apply (diagonal k) S) (with_tile n p (k, k) (fwdiag (tile n p f (k, k))) f)
 diagonal-run n p k S f h is =
-    put-D n p S f (k, k) _ _ (ap fwdiag (tile-of n p S name_D f (k, k) (h, h) is (operand name_D k k RW) refl refl refl)) is
+    put-D n p S f (k, k) _ _ (ap fwdiag (tile-of n p S name_D f (k, k) (h, h) is (tile_operand name_D k k RW) refl refl refl)) is
 
 pub beside-run : (n p k j : ℕ) (S : State) (f : ℕ → ℕ → ℤ) → k < p → j < p → IsMatrix n p S name_D f → Becomes n p S (apply (beside k j) S) (with_tile n p (k, j) (fwrow (tile n p f (k, k)) (tile n p f (k, j))) f)
 beside-run n p k j S f hk hj is =
-    put-D n p S f (k, j) _ _ (λ i. fwrow (tile-of n p S name_D f (k, k) (hk, hk) is (operand name_D k k R) refl refl refl i) (tile-of n p S name_D f (k, j) (hk, hj) is (operand name_D k j RW) refl refl refl i)) is
+    put-D n p S f (k, j) _ _ (λ i. fwrow (tile-of n p S name_D f (k, k) (hk, hk) is (tile_operand name_D k k R) refl refl refl i) (tile-of n p S name_D f (k, j) (hk, hj) is (tile_operand name_D k j RW) refl refl refl i)) is
 
 pub below-run : (n p k i : ℕ) (S : State) (f : ℕ → ℕ → ℤ) → k < p → i < p → IsMatrix n p S name_D f → Becomes n p S (apply (below k i) S) (with_tile n p (i, k) (fwcol (tile n p f (k, k)) (tile n p f (i, k))) f)
 below-run n p k i S f hk hi is =
-    put-D n p S f (i, k) _ _ (λ t. fwcol (tile-of n p S name_D f (k, k) (hk, hk) is (operand name_D k k R) refl refl refl t) (tile-of n p S name_D f (i, k) (hi, hk) is (operand name_D i k RW) refl refl refl t)) is
+    put-D n p S f (i, k) _ _ (λ t. fwcol (tile-of n p S name_D f (k, k) (hk, hk) is (tile_operand name_D k k R) refl refl refl t) (tile-of n p S name_D f (i, k) (hi, hk) is (tile_operand name_D i k RW) refl refl refl t)) is
 
 pub apart-run : (n p k i j : ℕ) (S : State) (f : ℕ → ℕ → ℤ) → k < p → i < p → j < p → IsMatrix n p S name_D f → Becomes n p S (apply (apart k i j) S) (with_tile n p (i, j) (mingemm (tile n p f (i, k)) (tile n p f (k, j)) (tile n p f (i, j))) f)
 apart-run n p k i j S f hk hi hj is =
-    put-D n p S f (i, j) _ _ (λ t. mingemm (tile-of n p S name_D f (i, k) (hi, hk) is (operand name_D i k R) refl refl refl t) (tile-of n p S name_D f (k, j) (hk, hj) is (operand name_D k j R) refl refl refl t) (tile-of n p S name_D f (i, j) (hi, hj) is (operand name_D i j RW) refl refl refl t)) is
+    put-D n p S f (i, j) _ _ (λ t. mingemm (tile-of n p S name_D f (i, k) (hi, hk) is (tile_operand name_D i k R) refl refl refl t) (tile-of n p S name_D f (k, j) (hk, hj) is (tile_operand name_D k j R) refl refl refl t) (tile-of n p S name_D f (i, j) (hi, hj) is (tile_operand name_D i j RW) refl refl refl t)) is
 
 -- ---- the task of products
 
@@ -246,6 +236,6 @@ put-C n p S f g h place a b e are =
       keeps = change-keeps (with_child place a) name_C S;
     })
 
-pub gemm-run : (n p i j k : ℕ) (S : State) (f g h : ℕ → ℕ → ℤ) → i < p → j < p → k < p → AreMatrices n p S f g h → BecomesC n p S (apply (gemm i j k) S) f g (with_tile n p (i, j) (multiplied (tile n p f (i, k)) (tile n p g (k, j)) (tile n p h (i, j))) h)
+pub gemm-run : (n p i j k : ℕ) (S : State) (f g h : ℕ → ℕ → ℤ) → i < p → j < p → k < p → AreMatrices n p S f g h → BecomesC n p S (apply (gemm_act i j k) S) f g (with_tile n p (i, j) (multiplied (tile n p f (i, k)) (tile n p g (k, j)) (tile n p h (i, j))) h)
 gemm-run n p i j k S f g h hi hj hk are =
-    put-C n p S f g h (i, j) _ _ (λ t. multiplied (tile-of n p S name_A f (i, k) (hi, hk) are.first (operand name_A i k R) refl refl refl t) (tile-of n p S name_B g (k, j) (hk, hj) are.second (operand name_B k j R) refl refl refl t) (tile-of n p S name_C h (i, j) (hi, hj) are.third (operand name_C i j Commute) refl refl refl t)) are
+    put-C n p S f g h (i, j) _ _ (λ t. multiplied (tile-of n p S name_A f (i, k) (hi, hk) are.first (tile_operand name_A i k R) refl refl refl t) (tile-of n p S name_B g (k, j) (hk, hj) are.second (tile_operand name_B k j R) refl refl refl t) (tile-of n p S name_C h (i, j) (hi, hj) are.third (tile_operand name_C i j Commute) refl refl refl t)) are

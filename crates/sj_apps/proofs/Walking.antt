@@ -16,7 +16,7 @@ use Rattle.sj_meaning.specs.Act.{Act, Register as Registers, Plan, Redux, Task, 
 use Rattle.sj_meaning.specs.Meaning.{Printed, apply, array_of, found_by, printed, printed_from, prints, registered_root}
 use Rattle.sj_meaning.specs.Statement.{Register}
 use Rattle.sj_meaning.specs.State.{Root, State, root_of, start}
-use Rattle.sj_apps.specs.Generated.{IsSize, apart_of, aparts_of, below_of, beside_of, cut, first_line, matrix, name_D, numbered, others, part_count, paths_statements, square, upto, walk_step_of, walk_steps_of, weight, weights}
+use Rattle.sj_apps.specs.Generated.{IsSize, apart_of, aparts_of, below_of, beside_of, cut, first_line, matrix_act, name_D, numbered, others, part_count, paths_statements, square, upto, walk_step_of, walk_steps_of, weight, weights}
 use Rattle.sj_apps.specs.Walks.{AreWeights, IsShortest, StayBelowInf}
 use Rattle.sj_apps.specs.Shortest.{PrintsShortest, acts_of, unhurried, walk_acts}
 use Rattle.sj_apps.proofs.Tiling.{IsMatrix, IsSilent, printed-last, root-array, run}
@@ -42,7 +42,7 @@ steps-silent name p =
     )) (upto p))
 
 -- the matrix at its registration
-registered-is : (name : List ℕ) (n p : ℕ) (W : ℕ → ℕ → ℤ) → IsMatrix n p (apply (matrix name n p (Values (table (square n) W))) start) name W
+registered-is : (name : List ℕ) (n p : ℕ) (W : ℕ → ℕ → ℤ) → IsMatrix n p (apply (matrix_act name n p (Values (table (square n) W))) start) name W
 registered-is name n p W =
     let r : Register (List ℕ) = record { name = name; kind = Matrix; dims = square n; parts = cut p; init = Values (table (square n) W) } in
     map.get-insert nat_list_cmp_total start.roots name (registered_root r) name
@@ -60,7 +60,7 @@ found-matrix name n p S f is =
 -- in lines one after another
 numbered-print : (name : List ℕ) (n p line : ℕ) (W : ℕ → ℕ → ℤ) (xs : List ℤ) → 0 < p → xs ≡ table (square n) W → AreWeights n W → StayBelowInf n W → PrintsShortest name n W (numbered line (walk_acts name n p xs))
 numbered-print name n p line W xs some e w stay =
-    let first = apply (matrix name n p (Values (table (square n) W))) start in
+    let first = apply (matrix_act name n p (Values (table (square n) W))) start in
     let made = steps_run name n p (IsReached n W) (reached-kept n W w) some W first (registered-is name n p W) (λ i j hi hj. reached_step n W w i j hi hj) in
     let a = grid (square n) made.f in
     subst (λ ys. PrintsShortest name n W (numbered line (walk_acts name n p ys))) (sym e) (record {

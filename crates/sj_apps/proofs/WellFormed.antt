@@ -3,14 +3,14 @@ use Rattle.std.proofs.Common.{◌≡◌, ℕ, zero, suc, ◌+◌, ◌*◌, ◌/�
 use Rattle.std.specs.Prelude.{nat_le, nat_lt, ◌^◌}
 use Rattle.std.specs.Fmt.{decimal}
 use Rattle.std.specs.List.{AllByRecursion, flat_map, list_all, list_any, range_with_len}
-use Rattle.std.proofs.lemmas.Bool.{and_right, not_from_true}
+use Rattle.std.proofs.lemmas.Bool.{and_right, not_from_true, and_from}
 use Rattle.std.proofs.lemmas.Bool.Decides.{nat_tests}
 use Rattle.std.proofs.lemmas.List.{length-append}
 use Rattle.std.proofs.lemmas.Nat.{mul-le}
 use Rattle.sj_base.specs.declared.tile.Dims.{Dims}
 use Rattle.sj_base.specs.Mode.{is_redux}
 use Rattle.sj_base.specs.Window.{item, table}
-use Rattle.sj_base.proofs.Tables.{item-table}
+use Rattle.sj_base.proofs.Tables.{item-table, table-same}
 use Rattle.sj_codelet.specs.declared.kernel.Kernel.{Kernel}
 use Rattle.sj_codelet.specs.Kernel.{codelet_of, fits, formals_of}
 use Rattle.sj_plan.specs.Parts.{IsPlace}
@@ -35,11 +35,10 @@ use Rattle.sj_meaning.specs.Statement.{Operand, Register as Registration, TaskLi
 use Rattle.sj_job.specs.Well.{IsAllowed, IsWell}
 use Rattle.sj_job.specs.Word.{is_count, is_name}
 use Rattle.sj_job.proofs.Numerals.{decimal-counts, decimal-is_count, decimal-piece}
-use Rattle.sj_job.proofs.Spelling.{true_both}
 use Rattle.sj_job.proofs.Telling.{says-said}
-use Rattle.sj_apps.specs.Generated.{cut, matrix, numbered, square}
+use Rattle.sj_apps.specs.Generated.{cut, matrix_act, numbered, square}
 use Rattle.sj_apps.proofs.Starting.{IsCut, registration}
-use Rattle.sj_apps.proofs.Tiling.{rect, rect-inside, root, run, run-append, table-same}
+use Rattle.sj_apps.proofs.Tiling.{rect, rect-inside, root, run, run-append}
 
 -- ---- no reason holds
 
@@ -57,21 +56,17 @@ each-to P Q f h (x ∷ xs) a = (h x a.0, each-to P Q f h xs a.1)
 
 all-each : {X : Type 0} (t : X → Bool) (xs : List X) → AllByRecursion (λ x. t x ≡ true) xs → list_all t xs ≡ true
 all-each t [] h = refl
-all-each t (x ∷ xs) h = true_both (t x) (list_all t xs) h.0 (all-each t xs h.1)
+all-each t (x ∷ xs) h = and_from (t x) (list_all t xs) h.0 (all-each t xs h.1)
 
 each-same : {X Y : Type 0} (P : X → Type 0) (f g : X → Y) → ((x : X) → P x → f x ≡ g x) → (xs : List X) → AllByRecursion P xs → each_of f xs ≡ each_of g xs
 each-same P f g h [] a = refl
 each-same P f g h (x ∷ xs) a = λ i. h x a.0 i ∷ each-same P f g h xs a.1 i
 
-each-itself : {X : Type 0} (xs : List X) → each_of (λ x. x) xs ≡ xs
-each-itself [] = refl
-each-itself (x ∷ xs) = ap (λ ys. x ∷ ys) (each-itself xs)
-
 -- ---- what is seen of a matrix
 
 all-range : {X : Type 0} (t : X → Bool) (g : ℕ → X) (a m : ℕ) → ((k : ℕ) → t (g k) ≡ true) → list_all t (each_of g (range_with_len a m)) ≡ true
 all-range t g a zero h = refl
-all-range t g a (suc m) h = true_both (t (g a)) (list_all t (each_of g (range_with_len (a + 1) m))) (h a) (all-range t g (a + 1) m h)
+all-range t g a (suc m) h = and_from (t (g a)) (list_all t (each_of g (range_with_len (a + 1) m))) (h a) (all-range t g (a + 1) m h)
 
 pub valued : (n p : ℕ) (f : ℕ → ℕ → ℤ) → is_valued (root n p f) ≡ true
 valued n p f = all-range (λ (e : Option ℤ). is_some e) (λ q. Some (f (q / n) (q % n))) 0 (n * n) (λ k. refl)
@@ -84,7 +79,7 @@ valued-child n p f place at =
     let r = rect n p place in
     let inside = rect-inside n p place at in
     let es = table (square n) (λ i j. Some (f i j)) in
-    true_both (is_child (cut p) place) (list_all (λ (e : Option ℤ). is_some e) (table (dims_of r) (λ i j. item None n es (r.row + i) (r.col + j)))) (child-test p place at)
+    and_from (is_child (cut p) place) (list_all (λ (e : Option ℤ). is_some e) (table (dims_of r) (λ i j. item None n es (r.row + i) (r.col + j)))) (child-test p place at)
     (ap (list_all (λ (e : Option ℤ). is_some e)) (table-same None (dims_of r) (λ i j. item None n es (r.row + i) (r.col + j)) (λ i j. Some (f (r.row + i) (r.col + j))) (λ i j hi hj.
     item-table None (square n) (λ i j. Some (f i j)) (r.row + i) (r.col + j) (omega (arith, inside.0)) (omega (arith, inside.1))))
     ∙ all-range (λ (e : Option ℤ). is_some e) (λ q. Some (f (r.row + q / r.cols) (r.col + q % r.cols))) 0 (r.rows * r.cols) (λ k. refl))
@@ -113,10 +108,10 @@ module _ (n p : ℕ) (few : p < 2 ^ 63) (s : Scope) where
   form-proper o h =
       let i = decimal-piece o.place.0 (omega (arith, h.place.0)) in
       let j = decimal-piece o.place.1 (omega (arith, h.place.1)) in
-      true_both (is_name o.name) _ h.name (true_both _ _ i (true_both _ _ j refl))
+      and_from (is_name o.name) _ h.name (and_from _ _ i (and_from _ _ j refl))
 
   form-counts : (o : Operand (List ℕ)) → IsSeen n p s o → are_counts (form-of o).child ≡ true
-  form-counts o h = true_both _ _ (decimal-is_count o.place.0 (omega (arith, h.place.0))) (decimal-is_count o.place.1 (omega (arith, h.place.1)))
+  form-counts o h = and_from _ _ (decimal-is_count o.place.0 (omega (arith, h.place.0))) (decimal-is_count o.place.1 (omega (arith, h.place.1)))
 
   abbrev missing-with : Option Known → Option (ℕ × ℕ) → Bool
   missing-with known index = elim known as (λ _. Bool) [ None ↦ false | Some k ↦ not (Rattle.sj_job.specs.Judge.is_child_said k.parts index) ]
@@ -150,7 +145,7 @@ module _ (n p : ℕ) (few : p < 2 ^ 63) (s : Scope) where
       let t : TaskForm = record { codelet = codelet; args = []; operands = each_of form-of os; priority = None } in
       let says : each_of operand_said (each_of form-of os) ≡ os = says-each os seen in
       let line : first_of (line_reasons s (pos 0) os) ≡ None = first-none (line_reasons s (pos 0) os) (full, (refl, (any-none (λ o. is_unknown s o.name) os (each-all not-unknown os seen), (any-none (λ (o : Operand (List ℕ)). s.ended o.name) os (each-all (λ o h. h.unended) os seen), tt)))) in
-      let shaped : Rattle.sj_job.specs.Judge.is_shaped s k [] os ≡ true = true_both (modes_fit (formals_of k) os) _ modes (ap (fits k []) (each-same (IsSeen n p s) (dims_in s) (λ (o : Operand (List ℕ)). dims_of (rect n p o.place)) dims-seen os seen) ∙ fit) in
+      let shaped : Rattle.sj_job.specs.Judge.is_shaped s k [] os ≡ true = and_from (modes_fit (formals_of k) os) _ modes (ap (fits k []) (each-same (IsSeen n p s) (dims_in s) (λ (o : Operand (List ℕ)). dims_of (rect n p o.place)) dims-seen os seen) ∙ fit) in
       let reasons : first_of (operand_reasons (λ _. true) s k [] (each_of form-of os) os) ≡ None =
       first-none (operand_reasons (λ _. true) s k [] (each_of form-of os) os) (
         not_from_true (is_counted k [] os) counted,
@@ -175,8 +170,8 @@ module _ (n p : ℕ) (few : p < 2 ^ 63) (s : Scope) where
         words = written (form.Task t);
         form = form.Task t;
         spelled = says-said (written (form.Task t)) (Ok (form.Task t)) (record {
-          spelled = record { line = refl; proper = true_both _ _ (true_both (is_name codelet) true proper refl) (all-each is_proper_operand (each_of form-of os) (each-to (IsSeen n p s) (λ (f : OperandForm). is_proper_operand f ≡ true) form-of form-proper os seen)) };
-          numbered = true_both _ _ (all-each (λ (f : OperandForm). are_counts f.child) (each_of form-of os) (each-to (IsSeen n p s) (λ (f : OperandForm). are_counts f.child ≡ true) form-of form-counts os seen)) refl;
+          spelled = record { line = refl; proper = and_from _ _ (and_from (is_name codelet) true proper refl) (all-each is_proper_operand (each_of form-of os) (each-to (IsSeen n p s) (λ (f : OperandForm). is_proper_operand f ≡ true) form-of form-proper os seen)) };
+          numbered = and_from _ _ (all-each (λ (f : OperandForm). are_counts f.child) (each_of form-of os) (each-to (IsSeen n p s) (λ (f : OperandForm). are_counts f.child ≡ true) form-of form-counts os seen)) refl;
         });
         judged =
             ap (λ (xs : List (Operand (List ℕ))). judged_by (first_of (line_reasons s (pos 0) xs)) (judged_call (λ _. true) s (kernel_named (λ _. true) codelet) t)) says
@@ -211,17 +206,17 @@ above_test a b h = grind (arith, nat_tests)
 
 not-outside : (n p : ℕ) → IsCut n p → is_outside n n ≡ false
 not-outside n p h =
-    let side : is_side n ≡ true = true_both (nat_le 1 n) (nat_le n 1048576) (le_test 1 n h.some) (le_test n 1048576 (omega (arith, h.most))) in
+    let side : is_side n ≡ true = and_from (nat_le 1 n) (nat_le n 1048576) (le_test 1 n h.some) (le_test n 1048576 (omega (arith, h.most))) in
     let area : n * n ≤ 2048 * 2048 = mul-le n n 2048 2048 h.most h.most in
-    not_from_true (is_side n && is_side n && nat_le (n * n) 16777216) (true_both (is_side n && is_side n) _ (true_both (is_side n) (is_side n) side side) (le_test (n * n) 16777216 (omega (arith, area))))
+    not_from_true (is_side n && is_side n && nat_le (n * n) 16777216) (and_from (is_side n && is_side n) _ (and_from (is_side n) (is_side n) side side) (le_test (n * n) 16777216 (omega (arith, area))))
 
 not-crowded : (n p : ℕ) → IsCut n p → is_crowded (cut p) ≡ false
 not-crowded n p h = above_test (p * p) 4096 (omega (arith, mul-le p p 48 48 h.few h.few))
 
 not-uncut : (n p : ℕ) → IsCut n p → is_uncut (square n) (cut p) ≡ false
 not-uncut n p h =
-    let c : is_cut n p ≡ true = true_both (nat_le 1 p) (nat_le p n) (le_test 1 p h.parts) (le_test p n h.within) in
-    not_from_true (is_cut n p && is_cut n p) (true_both (is_cut n p) (is_cut n p) c c)
+    let c : is_cut n p ≡ true = and_from (nat_le 1 p) (nat_le p n) (le_test 1 p h.parts) (le_test p n h.within) in
+    not_from_true (is_cut n p && is_cut n p) (and_from (is_cut n p) (is_cut n p) c c)
 
 -- words for first elements
 pub record IsWorded (n : ℕ) (init : Init) : Type 0 where
@@ -232,7 +227,7 @@ pub record IsWorded (n : ℕ) (init : Init) : Type 0 where
   pub counted : is_miscounted init n n ≡ false
 
 pub matrix-allowed : (n p : ℕ) → IsCut n p → (name : List ℕ) (init : Init) → IsWorded n init → (s : Scope) → is_name name ≡ true → is_full s ≡ false → has_names s ≡ false → s.ended name ≡ false → is_some (s.known name) ≡ false
-    → IsAllowed (λ _. true) s (matrix name n p init)
+    → IsAllowed (λ _. true) s (matrix_act name n p init)
 matrix-allowed n p h name init worded s named full room unended new =
     let dn = decimal n in
     let dp = decimal p in
@@ -249,8 +244,8 @@ matrix-allowed n p h name init worded s named full room unended new =
       words = written (form.Register a);
       form = form.Register a;
       spelled = says-said (written (form.Register a)) (Ok (form.Register a)) (record {
-        spelled = record { line = refl; proper = true_both (is_name name) (has_values worded.form) named worded.some };
-        numbered = true_both (is_numbered_size a.size && are_counts a.parts) (is_numbered_init worded.form) (true_both (is_numbered_size a.size) (are_counts a.parts) (true_both (is_count dn) (is_count dn) isn isn) (true_both (is_count dp) (is_count dp) isp isp)) worded.numbers;
+        spelled = record { line = refl; proper = and_from (is_name name) (has_values worded.form) named worded.some };
+        numbered = and_from (is_numbered_size a.size && are_counts a.parts) (is_numbered_init worded.form) (and_from (is_numbered_size a.size) (are_counts a.parts) (and_from (is_count dn) (is_count dn) isn isn) (and_from (is_count dp) (is_count dp) isp isp)) worded.numbers;
       });
       judged = ap (λ (x : Registration (List ℕ)). unless (first_of (register_reasons s name x.dims x.parts x.init)) (Register x)) says ∙ ap (λ (o : Option Reason). unless o (Register r)) none;
     }

@@ -36,16 +36,16 @@ abbrev pub cut : ℕ → Parts
 cut p = record { r = p; c = p }
 
 -- `matrix NAME n n by p p INIT`
-abbrev pub matrix : List ℕ → ℕ → ℕ → Init → Act (List ℕ)
-matrix name n p init = Register (record { name = name; kind = Matrix; dims = square n; parts = cut p; init = init })
+abbrev pub matrix_act : List ℕ → ℕ → ℕ → Init → Act (List ℕ)
+matrix_act name n p init = Register (record { name = name; kind = Matrix; dims = square n; parts = cut p; init = init })
 
 -- `NAME[i,j]:MODE`
-abbrev pub operand : List ℕ → ℕ → ℕ → Mode → Operand (List ℕ)
-operand name i j mode = record { name = name; place = (i, j); mode = mode }
+abbrev pub tile_operand : List ℕ → ℕ → ℕ → Mode → Operand (List ℕ)
+tile_operand name i j mode = record { name = name; place = (i, j); mode = mode }
 
 -- `task CODELET OPERANDS`
-abbrev pub task : Kernel → List (Operand (List ℕ)) → Act (List ℕ)
-task kernel operands = Task (record { codelet = codelet_of kernel; args = []; operands = operands; priority = pos 0 })
+abbrev pub task_act : Kernel → List (Operand (List ℕ)) → Act (List ℕ)
+task_act kernel operands = Task (record { codelet = codelet_of kernel; args = []; operands = operands; priority = pos 0 })
 
 -- acts in the lines from this one on
 abbrev pub numbered : ℕ → List (Act (List ℕ)) → List (Statement (List ℕ))
@@ -68,11 +68,11 @@ abbrev pub name_C : List ℕ
 name_C = codes "C"
 
 -- the product of a tile of A and a tile of B comes to the tile [i, j] of C
-abbrev pub gemm : ℕ → ℕ → ℕ → Act (List ℕ)
-gemm i j k = task Gemm (operand name_A i k R ∷ operand name_B k j R ∷ operand name_C i j Commute ∷ [])
+abbrev pub gemm_act : ℕ → ℕ → ℕ → Act (List ℕ)
+gemm_act i j k = task_act Gemm (tile_operand name_A i k R ∷ tile_operand name_B k j R ∷ tile_operand name_C i j Commute ∷ [])
 
 abbrev pub gemms_at : ℕ → ℕ → ℕ → List (Act (List ℕ))
-gemms_at p i j = map (gemm i j) (upto p)
+gemms_at p i j = map (gemm_act i j) (upto p)
 
 abbrev pub gemms_in_row : ℕ → ℕ → List (Act (List ℕ))
 gemms_in_row p i = flat_map (gemms_at p i) (upto p)
@@ -83,8 +83,8 @@ gemms p = flat_map (gemms_in_row p) (upto p)
 -- A counts up from the seed's last two digits, B down from 5 by twos, and C is zero
 abbrev pub factors : ℕ → ℕ → ℕ → List (Act (List ℕ))
 factors n p seed =
-    matrix name_A n p (Fill (pos (seed % 100)) (pos 1)) ∷ matrix name_B n p (Fill (pos 5) (negsuc 1))
-    ∷ matrix name_C n p (Fill (pos 0) (pos 0)) ∷ []
+    matrix_act name_A n p (Fill (pos (seed % 100)) (pos 1)) ∷ matrix_act name_B n p (Fill (pos 5) (negsuc 1))
+    ∷ matrix_act name_C n p (Fill (pos 0) (pos 0)) ∷ []
 
 abbrev pub product_acts : ℕ → ℕ → ℕ → List (Act (List ℕ))
 product_acts n p seed = factors n p seed ++ (gemms p ++ Print name_C ∷ [])
@@ -110,19 +110,19 @@ weights n seed = table (square n) (weight n seed)
 
 -- ways through the diagonal tile of block k, within it, of the matrix of that name
 abbrev pub diagonal_of : List ℕ → ℕ → Act (List ℕ)
-diagonal_of name k = task FwDiag (operand name k k RW ∷ [])
+diagonal_of name k = task_act FwDiag (tile_operand name k k RW ∷ [])
 
 -- the same in a tile of its row
 abbrev pub beside_of : List ℕ → ℕ → ℕ → Act (List ℕ)
-beside_of name k j = task FwRow (operand name k k R ∷ operand name k j RW ∷ [])
+beside_of name k j = task_act FwRow (tile_operand name k k R ∷ tile_operand name k j RW ∷ [])
 
 -- in a tile of its column
 abbrev pub below_of : List ℕ → ℕ → ℕ → Act (List ℕ)
-below_of name k i = task FwCol (operand name k k R ∷ operand name i k RW ∷ [])
+below_of name k i = task_act FwCol (tile_operand name k k R ∷ tile_operand name i k RW ∷ [])
 
 -- and in another tile
 abbrev pub apart_of : List ℕ → ℕ → ℕ → ℕ → Act (List ℕ)
-apart_of name k i j = task MinGemm (operand name i k R ∷ operand name k j R ∷ operand name i j RW ∷ [])
+apart_of name k i j = task_act MinGemm (tile_operand name i k R ∷ tile_operand name k j R ∷ tile_operand name i j RW ∷ [])
 
 abbrev pub aparts_of : List ℕ → ℕ → ℕ → ℕ → List (Act (List ℕ))
 aparts_of name p k i = map (apart_of name k i) (others p k)
@@ -158,7 +158,7 @@ abbrev pub walk_steps : ℕ → List (Act (List ℕ))
 walk_steps p = walk_steps_of name_D p
 
 abbrev pub paths_acts : ℕ → ℕ → ℕ → List (Act (List ℕ))
-paths_acts n p seed = matrix name_D n p (Values (weights n seed)) ∷ (walk_steps p ++ Print name_D ∷ [])
+paths_acts n p seed = matrix_act name_D n p (Values (weights n seed)) ∷ (walk_steps p ++ Print name_D ∷ [])
 
 abbrev pub paths_statements : ℕ → ℕ → ℕ → List (Statement (List ℕ))
 paths_statements n tile seed = numbered first_line (paths_acts n (part_count n tile) seed)

@@ -5,12 +5,12 @@ use Rattle.sj_meaning.specs.declared.job.Init.TheVariants.{Values}
 use Rattle.sj_meaning.specs.declared.job.Kind.TheVariants.{Matrix}
 use Rattle.sj_meaning.specs.Act.{Act, Invalidate, Plan, Print, Redux, Register, Statement, Task, Unregister}
 use Rattle.sj_meaning.specs.Meaning.{printed}
-use Rattle.sj_apps.specs.Generated.{matrix, square, walk_steps_of}
+use Rattle.sj_apps.specs.Generated.{matrix_act, square, walk_steps_of}
 use Rattle.sj_apps.specs.Walks.{IsShortest}
 
 -- a matrix is cut into p by p tiles and has these elements first; then come the steps of all blocks, and it is printed
 abbrev pub walk_acts : List ℕ → ℕ → ℕ → List ℤ → List (Act (List ℕ))
-walk_acts name n p xs = matrix name n p (Values xs) ∷ (walk_steps_of name p ++ Print name ∷ [])
+walk_acts name n p xs = matrix_act name n p (Values xs) ∷ (walk_steps_of name p ++ Print name ∷ [])
 
 -- an act, with no priority of its own
 abbrev pub unhurried : Act (List ℕ) → Act (List ℕ)

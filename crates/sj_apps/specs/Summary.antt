@@ -33,8 +33,8 @@ bound_text None = codes "-"
 bound_text (Some z) = signed_decimal z
 
 -- `NAME R C: sum S min A max B inf K` and LF
-abbrev pub line_of : List ℕ → Dims → ℤ → Option ℤ → Option ℤ → ℕ → List ℕ
-line_of name dims sum lowest highest infs =
+abbrev pub tallied_line : List ℕ → Dims → ℤ → Option ℤ → Option ℤ → ℕ → List ℕ
+tallied_line name dims sum lowest highest infs =
     name ++ codes " " ++ decimal dims.rows ++ codes " " ++ decimal dims.cols ++ codes ": sum " ++ signed_decimal sum
     ++ codes " min " ++ bound_text lowest ++ codes " max " ++ bound_text highest ++ codes " inf " ++ decimal infs ++ codes "\n"
 
@@ -42,7 +42,7 @@ line_of name dims sum lowest highest infs =
 -- count
 abbrev pub summary_line : List ℕ → Array → List ℕ
 summary_line name a =
-    line_of name a.dims (wrap (total (numbers a.elements))) (minimum (numbers a.elements)) (maximum (numbers a.elements))
+    tallied_line name a.dims (wrap (total (numbers a.elements))) (minimum (numbers a.elements)) (maximum (numbers a.elements))
     (count_of_inf a.elements)
 
 -- ---- on the way through the elements

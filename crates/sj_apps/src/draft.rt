@@ -39,7 +39,8 @@ impl Draft {
         requires few { length self.old.statements < 1048576 }
         ensures roots { OnOk result (self.new.roots ≡ self.old.roots) }
         ensures said { OnOk result (self.new.statements ≡ self.old.statements
-            ++ record { line = record { 0 = length self.old.statements + first_line }; act = act } ∷ []) }
+            ++ record { line = record { 0 = length self.old.statements + first_line }; act = act }
+            ∷ []) }
     {
         let line = Line(self.statements.len() as u32 + FIRST_LINE);
         self.statements.push(Statement { line, act })
@@ -47,7 +48,11 @@ impl Draft {
 
     /// The job, without settings. Takes no memory.
     pub fn into_job(self, alloc: Global) -> Job
-        ensures { result ≡ record { settings = unset; roots = self.roots; statements = self.statements } }
+        ensures { result ≡ record {
+          settings = unset;
+          roots = self.roots;
+          statements = self.statements;
+        } }
     {
         Job {
             settings: Settings::none(alloc),

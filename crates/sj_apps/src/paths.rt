@@ -6,7 +6,7 @@ ghost use Rattle.sj_meaning.specs.Settings.{unset};
 ghost use Rattle.sj_meaning.specs.Table.{table};
 ghost use Rattle.sj_meaning.specs.View.{statements_of, seen_from, IsNumbered};
 ghost use Rattle.sj_apps.specs.Draft.{paths_names, unless_same, IsNumberedSoFar, Tells};
-ghost use Rattle.sj_apps.specs.Generated.{IsSize, apart, aparts_in_row, below, beside, diagonal, first_line, matrix, name_D, numbered, others, part_count, paths_statements, walk_step, walk_steps, weight, weights};
+ghost use Rattle.sj_apps.specs.Generated.{IsSize, apart, aparts_in_row, below, beside, diagonal, first_line, matrix_act, name_D, numbered, others, part_count, paths_statements, walk_step, walk_steps, weight, weights};
 ghost use Rattle.sj_apps.specs.Shortest.{PrintsShortest};
 ghost use Rattle.sj_meaning.specs.declared.job.Init.TheVariants.{Values};
 
@@ -200,7 +200,8 @@ impl Draft {
         requires parts { p ≤ 48 }
         requires roots { self.old.roots.names ≡ paths_names }
         requires few { length self.old.statements + 48 ≤ 1048576 }
-        ensures tells { OnOk result (Tells self.old self.new (unless_same i k (aparts_in_row p k i))) }
+        ensures tells { OnOk result (Tells self.old self.new
+            (unless_same i k (aparts_in_row p k i))) }
         ensures few { OnOk result (length self.new.statements ≤ length self.old.statements + 48) }
     {
         if i == k {
@@ -217,7 +218,8 @@ impl Draft {
         requires parts { p ≤ 48 }
         requires roots { self.old.roots.names ≡ paths_names }
         requires few { length self.old.statements + 2304 ≤ 1048576 }
-        ensures tells { OnOk result (Tells self.old self.new (flat_map (aparts_in_row p k) (others p k))) }
+        ensures tells { OnOk result (Tells self.old self.new
+            (flat_map (aparts_in_row p k) (others p k))) }
         ensures few { OnOk result (length self.new.statements ≤ length self.old.statements + 2304) }
     {
         for i in 0..p {
@@ -247,7 +249,8 @@ impl Draft {
         requires roots { self.old.roots.names ≡ paths_names }
         requires few { length self.old.statements + 115248 ≤ 1048576 }
         ensures tells { OnOk result (Tells self.old self.new (walk_steps p)) }
-        ensures few { OnOk result (length self.new.statements ≤ length self.old.statements + 115248) }
+        ensures few { OnOk result (length self.new.statements
+            ≤ length self.old.statements + 115248) }
     {
         for k in 0..p {
             self.walk_step(alloc, p, k)?;
@@ -262,7 +265,7 @@ fn ring(alloc: Global, n: u32, p: u32, seed: u64) -> Result<Draft, OutOfMemory>
     ensures names { IfOk result (λ d. d.roots.names ≡ paths_names) }
     ensures long { IfOk result (λ d. length d.statements ≡ 1) }
     ensures seen { IfOk result (λ d. seen_from d.roots 0 d.statements
-        ≡ numbered first_line (matrix name_D n p (Values (weights n seed)) ∷ [])) }
+        ≡ numbered first_line (matrix_act name_D n p (Values (weights n seed)) ∷ [])) }
     ensures numbered { IfOk result IsNumberedSoFar }
 {
     let mut roots = Roots::none(alloc);

@@ -8,7 +8,7 @@ ghost use Rattle.sj_meaning.specs.declared.job.Act.TheVariants as kept;
 ghost use Rattle.sj_meaning.specs.View.{statements_of, seen_from, IsNumbered};
 ghost use Rattle.sj_apps.specs.Solution.{PrintsProduct};
 ghost use Rattle.sj_apps.specs.Draft.{product_names, IsNumberedSoFar, Tells};
-ghost use Rattle.sj_apps.specs.Generated.{IsSize, cut, first_line, factors, gemm, gemms, gemms_at, gemms_in_row, numbered, part_count, product_statements, square};
+ghost use Rattle.sj_apps.specs.Generated.{IsSize, cut, first_line, factors, gemm_act, gemms, gemms_at, gemms_in_row, numbered, part_count, product_statements, square};
 ghost use Rattle.sj_meaning.specs.declared.job.Kind.TheVariants.{Matrix};
 
 use crate::draft::Draft;
@@ -56,7 +56,12 @@ pub fn task<const M: usize>(
     operands: [Operand; M],
 ) -> Result<Act, OutOfMemory>
     ensures { IfOk result (λ act. act
-        ≡ kept.Task (record { kernel = kernel; args = []; operands = operands.entry; priority = pos 0 })) }
+        ≡ kept.Task (record {
+          kernel = kernel;
+          args = [];
+          operands = operands.entry;
+          priority = pos 0;
+        })) }
 {
     Ok(Act::Task(TaskLine {
         kernel,
@@ -71,7 +76,7 @@ impl Draft {
     fn gemm(&mut self, alloc: Global, i: u32, j: u32, k: u32) -> Result<(), OutOfMemory>
         requires roots { self.old.roots.names ≡ product_names }
         requires few { length self.old.statements < 1048576 }
-        ensures tells { OnOk result (Tells self.old self.new (gemm i j k ∷ [])) }
+        ensures tells { OnOk result (Tells self.old self.new (gemm_act i j k ∷ [])) }
     {
         let operands = [
             Operand {
@@ -128,7 +133,8 @@ impl Draft {
         requires roots { self.old.roots.names ≡ product_names }
         requires few { length self.old.statements + 110592 ≤ 1048576 }
         ensures tells { OnOk result (Tells self.old self.new (gemms p)) }
-        ensures few { OnOk result (length self.new.statements ≤ length self.old.statements + 110592) }
+        ensures few { OnOk result (length self.new.statements
+            ≤ length self.old.statements + 110592) }
     {
         for i in 0..p {
             self.gemms_in_row(alloc, p, i)?;
@@ -152,7 +158,8 @@ fn product_roots(alloc: Global, info: RootInfo) -> Result<Roots, OutOfMemory>
 fn factors(alloc: Global, n: u32, p: u32, seed: u64) -> Result<Draft, OutOfMemory>
     ensures names { IfOk result (λ d. d.roots.names ≡ product_names) }
     ensures long { IfOk result (λ d. length d.statements ≡ 3) }
-    ensures seen { IfOk result (λ d. seen_from d.roots 0 d.statements ≡ numbered first_line (factors n p seed)) }
+    ensures seen { IfOk result (λ d. seen_from d.roots 0 d.statements
+        ≡ numbered first_line (factors n p seed)) }
     ensures numbered { IfOk result IsNumberedSoFar }
 {
     let roots = product_roots(alloc, square_matrix(n, p))?;

@@ -2,7 +2,7 @@
 
 ghost use Rattle.std.specs.Prelude.{◌≡◌, ℤ, ◌++◌, ◌∷◌, [], ◌<◌, ◌-◌, ◌^◌, List, Option, Some, None, codes, decimal, length, IfOk, OnOk, option_map};
 ghost use Rattle.std.specs.Fmt.{signed_decimal};
-ghost use Rattle.sj_apps.specs.Summary.{AreTallied, bound_text, count_of_inf, line_of, maximum, minimum, numbers, summary_line, total};
+ghost use Rattle.sj_apps.specs.Summary.{AreTallied, bound_text, count_of_inf, tallied_line, maximum, minimum, numbers, summary_line, total};
 ghost use Rattle.sj_codelet.specs.Ring.{wrap};
 
 use itoa::Buffer;
@@ -126,7 +126,7 @@ fn write_line(
     infs: u64,
 ) -> Result<(), OutOfMemory>
     ensures { OnOk result (text.new.items
-        ≡ text.old.items ++ line_of name.now dims sum bounds.0 bounds.1 infs) }
+        ≡ text.old.items ++ tallied_line name.now dims sum bounds.0 bounds.1 infs) }
 {
     text.extend_from_slice(name)?;
     write_count(text, b" ", dims.rows as u64)?;

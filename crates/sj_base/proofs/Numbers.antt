@@ -31,5 +31,10 @@ positive_product a b h k = grind arith
 pub one_by_one : {a b : ℕ} → a ≡ 1 → b ≡ 1 → a * b ≡ 1
 one_by_one {a} {b} e f = rw (e, f) refl
 
+-- a signed word, and its bits as a number
+pub of_z-below : (z : ℤ) → FitsSigned w64 z → of_z w64 z < 2 ^ 64
+of_z-below (pos n) fits = omega (arith, fits.sfits)
+of_z-below (negsuc n) fits = omega arith
+
 pub same_pair : (x y : ℕ × ℕ) → x.0 ≡ y.0 → x.1 ≡ y.1 → x ≡ y
 same_pair x y e f = λ i. (e i, f i)

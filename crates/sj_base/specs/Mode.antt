@@ -49,10 +49,6 @@ is_commute _ = false
 abbrev pub is_in_order : Mode → Bool
 is_in_order m = not (is_redux m) && not (is_commute m)
 
--- the cell itself must have a value: its old value is read, and not that of a partial copy
-abbrev pub needs_value : Mode → Bool
-needs_value m = reads_value m && not (is_redux m)
-
 -- ---- accesses
 
 abbrev pub access : Mode → Cell → Access

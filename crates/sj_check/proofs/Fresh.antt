@@ -1,11 +1,12 @@
 -- What a checker keeps beside a run on which nothing has happened.
-use Rattle.std.proofs.Common.{◌≡◌, ℕ, ◌≤◌, ◌∙◌, List, [], ◌∷◌, Option, None, ap, arith, get_or, inl, inr, length, refl, replicate, subst, sym}
+use Rattle.std.proofs.Common.{◌≡◌, ℕ, ◌≤◌, ◌∙◌, List, [], ◌∷◌, Option, None, ap, arith, get_or, length, refl, replicate, subst, sym}
 use Rattle.std.specs.Prelude.{All, IsSome}
-use Rattle.std.proofs.lemmas.Bool.{cases_lt, false≢true}
-use Rattle.std.proofs.lemmas.List.{get_or-replicate, get_or_past, length-replicate}
+use Rattle.std.proofs.lemmas.Bool.{false≢true}
+use Rattle.std.proofs.lemmas.List.{length-replicate}
 use Rattle.std.proofs.lemmas.List.Elements.{All-get_or}
 use Rattle.std.proofs.lemmas.Option.{none-some}
 use Rattle.sj_base.specs.declared.trace.Event.{Event}
+use Rattle.sj_base.proofs.Lists.{get_or-replicate_same}
 use Rattle.sj_core.proofs.Readiness.{done_tasks-done}
 use Rattle.sj_core.proofs.Words.{Machine, Program, State, Task, is_done, is_task_of, opening, progress}
 use Rattle.sj_core.specs.declared.progress.Progress.TheVariants.{Waiting}
@@ -15,13 +16,6 @@ use Rattle.sj_machine.specs.BoardSound.{CountsDone}
 use Rattle.sj_machine.specs.Standing.{Standing, state}
 use Rattle.sj_check.specs.Replay.{replay}
 use Rattle.sj_check.specs.Watching.{HasTasks, IsOpened, Watches, replay_of}
-
--- what stands in each place of a list stands there wherever one looks
-always : {X : Type 0} (n : ℕ) (x : X) (i : ℕ) → get_or (replicate n x) i x ≡ x
-always {X} n x i = elim (cases_lt i n) as (λ _. get_or (replicate n x) i x ≡ x) [
-  | inl inside ↦ get_or-replicate n i x x inside
-  | inr past ↦ get_or_past (replicate n x) i x (omega (arith, past, length-replicate n x))
-]
 
 -- some disk doesn't tell where none does
 none-tells : {D : Type 0} (held : D → Option (List ℕ)) → ((d : D) → held d ≡ None) → (ds : List D) → 1 ≤ length ds → ¬ All (λ x. IsSome (held x)) ds
@@ -33,13 +27,13 @@ module _ (p : Program) (m : Machine) where
   s = opening p m
 
   waits : (t : Task) → progress s t ≡ Waiting
-  waits t = always (length p.tasks) Waiting t.0
+  waits t = get_or-replicate_same (length p.tasks) t.0 Waiting
 
   none-has : HasTasks p s (replicate p.workers None)
   none-has = record {
     every_worker = length-replicate p.workers None;
     each = λ w t. (
-      λ e. absurd (none-some t (sym (always p.workers None w.0) ∙ e)),
+      λ e. absurd (none-some t (sym (get_or-replicate_same p.workers w.0 None) ∙ e)),
       λ has. absurd (false≢true (sym (ap (is_task_of w) (waits t)) ∙ has)),
     );
   }

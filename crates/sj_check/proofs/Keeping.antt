@@ -7,8 +7,9 @@ use Rattle.sj_base.specs.declared.trace.Event.{Event}
 use Rattle.sj_base.specs.declared.trace.Event.TheVariants.{Claim, End, Move, Moved, Run}
 use Rattle.sj_core.proofs.Advancing.{Claims-advances, Ends-advances, Runs-advances, idle-has_none}
 use Rattle.sj_core.proofs.States.{state_of-more}
-use Rattle.sj_core.proofs.Words.{AtNode, Cell, Machine, OnDisk, Place, Program, State, Task, Worker, transfer}
-use Rattle.sj_core.specs.Coherent.{Coherent}
+use Rattle.sj_core.proofs.Words.{AtNode, Cell, Machine, OnDisk, Place, Program, State, Task, Worker, transfer, worker_of}
+use Rattle.sj_core.specs.Coherent.{Coherent, is_begun}
+use Rattle.sj_core.specs.declared.progress.Progress.{Progress}
 use Rattle.sj_core.specs.Legal.{state_of}
 use Rattle.sj_core.specs.Step.{May, a_transfer, after, mover_of}
 use Rattle.sj_deps.specs.Conflict.{Ready}
@@ -19,8 +20,9 @@ use Rattle.sj_machine.specs.Standing.{AllTell, CanHappen, Standing, state, with_
 use Rattle.sj_machine.proofs.Stepping.{counts-still}
 use Rattle.sj_check.specs.Replay.{Happens, IsRefused, replay}
 use Rattle.sj_check.specs.Watching.{HasEvent, HasTasks, Watches, replay_of, task_in}
-use Rattle.sj_check.proofs.Legality.{running-ready, running-staffed}
-use Rattle.sj_check.proofs.Tasks.{counts-ended, counts-same, tasks-begun, tasks-claimed, tasks-ended, tasks-still}
+use Rattle.sj_check.proofs.Legality.{running-ready}
+use Rattle.sj_machine.proofs.Boarding.{counts-same}
+use Rattle.sj_check.proofs.Tasks.{counts-ended, tasks-begun, tasks-claimed, tasks-ended, tasks-still}
 
 pub event-of : {D : Type 0} (b b' : Standing D) (e : Event) → b' ≡ with_event b e → HasEvent b e b'
 event-of b b' e same = record {
@@ -75,7 +77,7 @@ module _ {D : Type 0} (b b' : Standing D) (e : Event) (has : HasEvent b e b') wh
   module _ (held : D → Option (List ℕ)) (tasks : List (Option Task)) (deps : Dependencies) (watches : Watches held b tasks deps) where
     -- no task goes on
     pub watches-still : (after b.program b.machine (state b) e).tasks ≡ (state b).tasks → Watches held b' tasks deps
-    watches-still same = watches-now held tasks deps watches.silent (tasks-still b.program (state b) (after b.program b.machine (state b) e) same tasks watches.tasks_agree) (counts-same b.program (state b) (after b.program b.machine (state b) e) same deps watches.counts)
+    watches-still same = watches-now held tasks deps watches.silent (tasks-still b.program (state b) (after b.program b.machine (state b) e) same tasks watches.tasks_agree) (counts-same b.program b.machine (state b) (after b.program b.machine (state b) e) same deps watches.counts)
 
 module _ {D : Type 0} (held : D → Option (List ℕ)) (b b' : Standing D) (tasks : List (Option Task)) (deps : Dependencies) (watches : Watches held b tasks deps) (c : Cell) (from : Place) where
   -- a move begins, and ends
@@ -118,7 +120,7 @@ module _ {D : Type 0} (held : D → Option (List ℕ)) (b b' : Standing D) (task
   claim-inside can = omega (arith, can.worker, watches.tasks_agree.every_worker)
 
   pub end-inside : CanHappen b (End t w) → w.0 < length tasks
-  end-inside can = omega (arith, running-staffed p m s coherent t w can, watches.tasks_agree.every_worker)
+  end-inside can = omega (arith, subst (λ (x : Progress). (worker_of x).0 < p.workers) can (coherent.state.staff.staffed t (ap is_begun can)), watches.tasks_agree.every_worker)
 
   pub end-ready : CanHappen b (End t w) → Ready deps.program deps.done t.0
   end-ready can = running-ready p m s coherent deps watches.counts t w can

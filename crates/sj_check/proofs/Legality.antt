@@ -8,24 +8,23 @@ use Rattle.std.proofs.lemmas.List.Elements.{All-from_get_or}
 use Rattle.std.proofs.lemmas.List.Folds.{list_all_at}
 use Rattle.std.proofs.lemmas.List.Sums.{list_all-from_AllPass}
 use Rattle.std.proofs.lemmas.Option.{none-some}
-use Rattle.sj_base.specs.declared.trace.Event.TheVariants.{Claim, Drop, Move, Run}
+use Rattle.sj_base.specs.declared.trace.Event.TheVariants.{Claim, Move, Run}
 use Rattle.sj_core.proofs.Advancing.{idle-has_none}
 use Rattle.sj_core.proofs.Placing.{valid-row}
 use Rattle.sj_core.proofs.Readiness.{done_tasks-done, done_tasks-has}
 use Rattle.sj_core.proofs.Reading.{no_row, progress-inside}
-use Rattle.sj_core.proofs.Replicas.{coming_by-is, leaving_by-is, same_worker-refl}
-use Rattle.sj_core.proofs.Words.{AtNode, Cell, CellState, Coming, DiskNo, Invalid, Leaving, Machine, Node, OnDisk, Place, Program, Replica, State, Task, Valid, Worker, dims_of, footprint, has_room, is_coming_by, is_done, is_leaving, is_leaving_by, is_task_of, node_of, node_size, progress, replica, transfer, worker_of, zeros}
+use Rattle.sj_core.proofs.Replicas.{leaving_by-is, same_worker-refl}
+use Rattle.sj_core.proofs.Words.{AtNode, Cell, CellState, Coming, DiskNo, Invalid, Leaving, Machine, Node, OnDisk, Place, Program, Replica, State, Task, Valid, Worker, dims_of, footprint, has_room, is_coming_by, is_done, is_leaving, is_task_of, node_of, node_size, progress, replica, zeros}
 use Rattle.sj_core.specs.Coherent.{Coherent, is_begun}
-use Rattle.sj_core.specs.declared.progress.Progress.{Progress}
 use Rattle.sj_core.specs.declared.progress.Progress.TheVariants.{Claimed, Running, Waiting}
-use Rattle.sj_core.specs.Machine.{replica_in, with_transfer}
+use Rattle.sj_core.specs.Machine.{replica_in}
 use Rattle.sj_core.specs.Operands.{commuting_cells, written_cells}
-use Rattle.sj_core.specs.Step.{CanMoveIn, CanMoveOut, May, a_transfer, claimant_of, disk_of, done_tasks, is_fresh, is_in_use, is_moving, is_present, is_read, is_valid_elsewhere, mover_of, none_leaving, source_of}
+use Rattle.sj_core.specs.Step.{May, claimant_of, done_tasks, is_in_use, is_moving, is_present, mover_of, none_leaving}
 use Rattle.sj_deps.specs.Conflict.{Ready}
 use Rattle.sj_deps.specs.Progress.{Progress as Dependencies}
 use Rattle.sj_machine.specs.BoardSound.{CountsDone}
-use Rattle.sj_machine.specs.Mark.{is_leaving as is_leaving_mark, mark_of}
-use Rattle.sj_machine.specs.declared.mark.Mark.TheVariants.{Coming as ComingMark, Leaving as LeavingMark}
+use Rattle.sj_machine.specs.Mark.{mark_of}
+use Rattle.sj_machine.specs.declared.mark.Mark.TheVariants.{Coming as ComingMark}
 use Rattle.sj_machine.specs.declared.plan.Why.{Why}
 use Rattle.sj_machine.specs.declared.plan.Why.TheVariants.{Commute, Leaving as LeavingCopy, NoRoom}
 use Rattle.sj_machine.specs.Planning.{IsWhy, MayClaim}
@@ -36,23 +35,11 @@ use Rattle.sj_check.specs.Watching.{HasTasks, claimant_in, task_in}
 
 -- ---- marks
 
-pub mark-leaving : (r : Replica) → is_leaving_mark (mark_of r) ≡ is_leaving r
-mark-leaving Invalid = refl
-mark-leaving (Coming v) = refl
-mark-leaving (Valid a) = refl
-mark-leaving (Leaving v a) = refl
-
 pub mark-coming_by : (w : Worker) (r : Replica) → ComingMark w ≡ mark_of r → r ≡ Coming w
 mark-coming_by w Invalid e = absurd (cc)
 mark-coming_by w (Coming v) e = let same : w ≡ v = cc in ap Coming (sym same)
 mark-coming_by w (Valid a) e = absurd (cc)
 mark-coming_by w (Leaving v a) e = absurd (cc)
-
-pub mark-leaving_by : (w : Worker) (r : Replica) → LeavingMark w ≡ mark_of r → is_leaving_by w r ≡ true
-mark-leaving_by w Invalid e = absurd (cc)
-mark-leaving_by w (Coming v) e = absurd (cc)
-mark-leaving_by w (Valid a) e = absurd (cc)
-mark-leaving_by w (Leaving v a) e = let same : w ≡ v = cc in subst (λ (u : Worker). is_leaving_by w (Leaving u a) ≡ true) same (same_worker-refl w)
 
 pub claimant-is : (r : Replica) → claimant_in (mark_of r) ≡ claimant_of r
 claimant-is Invalid = refl
@@ -68,10 +55,6 @@ pub none-is : (o : Option Task) → is_some o ≡ false → o ≡ None
 none-is None e = refl
 none-is (Some t) e = absurd (false≢true (sym e))
 
--- the worker by whose claim a copy leaves
-claimant-leaving : (w : Worker) (r : Replica) → is_leaving_by w r ≡ true → claimant_of r ≡ w
-claimant-leaving w r leaving = ap claimant_of (leaving_by-is w r leaving).1
-
 -- ---- tests
 
 found-fails : (test : Cell → Bool) (xs : List Cell) (c : Cell) → find test xs ≡ Some c → list_all (λ d. not (test d)) xs ≡ false
@@ -84,9 +67,6 @@ found-fails test (x ∷ xs) c e = by_test (test x) refl (found-fails test xs c)
 
 module _ (p : Program) (m : Machine) (s : State) (coherent : Coherent p m s) where
   -- ---- a drop
-
-  pub drop-can : (c : Cell) (n : Node) → is_leaving (replica s c (AtNode n)) ≡ true → is_read m s c (AtNode n) ≡ false → is_valid_elsewhere m s c (AtNode n) ≡ true → May p m s (Drop c n)
-  drop-can c n leaving unread shared = record { leaving = leaving; unread = ap not unread; shared = shared }
 
   -- ---- a run
 
@@ -107,24 +87,8 @@ module _ (p : Program) (m : Machine) (s : State) (coherent : Coherent p m s) whe
   -- ---- the beginning of a move into a node
 
   module _ (c : Cell) (from : Place) (n : Node) (w : Worker) (coming : replica s c (AtNode n) ≡ Coming w) where
-    in-mover : mover_of s c from (AtNode n) ≡ w
-    in-mover = ap claimant_of coming
-
     comes : is_coming_by w (replica s c (AtNode n)) ≡ true
     comes = ap (is_coming_by w) coming ∙ same_worker-refl w
-
-    pub in-can : transfer s w ≡ None → is_fresh p s w c ≡ false → has_room m s w ≡ true → source_of p m s c ≡ Some from → May p m s (Move c from (AtNode n))
-    in-can free fresh room source = subst (λ (v : Worker). CanMoveIn p m s c from n v) (sym in-mover) (record {
-      own_node = coherent.pins.coming_here w c n comes;
-      free = free;
-      coming = comes;
-      old_value_needed = ap not fresh;
-      room = room;
-      source = source;
-    })
-
-    pub in-begins : May p m s (Move c from (AtNode n)) → CanMoveIn p m s c from n w
-    in-begins step = subst (λ (v : Worker). CanMoveIn p m s c from n v) in-mover step
 
     -- its worker has claimed a task
     pub in-task : (tasks : List (Option Task)) → HasTasks p s tasks → (t : Task) × ((task_in tasks w ≡ Some t) × (progress s t ≡ Claimed w))
@@ -135,26 +99,7 @@ module _ (p : Program) (m : Machine) (s : State) (coherent : Coherent p m s) whe
         mine : is_task_of w (Claimed w) ≡ true
         mine = grind arith
 
-  -- where no copy comes there is none
-  pub in-none : (c : Cell) (from : Place) (n : Node) → May p m s (Move c from (AtNode n)) → (w : Worker) × (replica s c (AtNode n) ≡ Coming w)
-  in-none c from n step = (mover_of s c from (AtNode n), coming_by-is (mover_of s c from (AtNode n)) (replica s c (AtNode n)) step.coming)
-
   -- ---- the beginning of a move to a disk
-
-  module _ (c : Cell) (n : Node) (d : DiskNo) (w : Worker) (leaving : is_leaving_by w (replica s c (AtNode n)) ≡ true) where
-    out-mover : mover_of s c (AtNode n) (OnDisk d) ≡ w
-    out-mover = claimant-leaving w (replica s c (AtNode n)) leaving
-
-    pub out-can : transfer s w ≡ None → is_valid_elsewhere m s c (AtNode n) ≡ false → disk_of p m c ≡ Some d → May p m s (Move c (AtNode n) (OnDisk d))
-    out-can free only target = subst (λ (v : Worker). CanMoveOut p m s c (AtNode n) d v) (sym out-mover) (record {
-      free = free;
-      leaving = leaving;
-      only = ap not only;
-      target = target;
-    })
-
-    pub out-begins : May p m s (Move c (AtNode n) (OnDisk d)) → CanMoveOut p m s c (AtNode n) d w
-    out-begins step = subst (λ (v : Worker). CanMoveOut p m s c (AtNode n) d v) out-mover step
 
   -- nothing leaves a disk
   pub out-of_disk : (c : Cell) (k d : DiskNo) → ¬ May p m s (Move c (OnDisk k) (OnDisk d))
@@ -196,9 +141,6 @@ module _ (p : Program) (m : Machine) (s : State) (coherent : Coherent p m s) whe
       by_task None e = refl
       by_task (Some u) e = absurd (false≢true (sym (idle-has_none s w u may.idle) ∙ (has.each w u).0 e))
 
-  pub claims-may : (t : Task) (w : Worker) → May p m s (Claim t w) → MayClaim p m s t w
-  claims-may t w claim = record { worker = claim.worker; waiting = claim.waiting; ready = claim.ready; idle = claim.idle; fits = claim.fits }
-
   -- where there is a reason why it can't be made, it isn't legal
   pub why-not : (t : Task) (w : Worker) (why : Why) → IsWhy p m s t w why → ¬ May p m s (Claim t w)
   why-not t w (Commute c) is claim = false≢true (sym (found-fails (is_in_use p s) (commuting_cells p t) c is) ∙ claim.alone)
@@ -219,6 +161,3 @@ module _ (p : Program) (m : Machine) (s : State) (coherent : Coherent p m s) whe
     waiting = λ c. false≢true (sym (ap is_done running) ∙ done_tasks-done s t c);
     earlier = λ u before conflict. done_tasks-has s (record { 0 = u }) (coherent.order.earlier t (ap is_begun running) (record { 0 = u }) before conflict);
   }))
-
-  pub running-staffed : (t : Task) (w : Worker) → progress s t ≡ Running w → w.0 < p.workers
-  running-staffed t w running = subst (λ (x : Progress). (worker_of x).0 < p.workers) running (coherent.state.staff.staffed t (ap is_begun running))

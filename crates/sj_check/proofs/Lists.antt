@@ -2,7 +2,7 @@
 use Rattle.std.proofs.Common.{◌≡◌, ℕ, ◌+◌, ◌<◌, ◌≤◌, ◌∙◌, Bool, true, false, List, [], ◌∷◌, ◌++◌, Option, None, ap, arith, cond, filter, get_or, length, refl, subst, sym, take}
 use Rattle.std.specs.Prelude.{All, IfSome, IsSomeAnd, MatchBool, option_and_then, slice_get}
 use Rattle.std.specs.List.{AllZip}
-use Rattle.std.proofs.lemmas.List.{append-nil, take_all, take_more}
+use Rattle.std.proofs.lemmas.List.{append-nil, take_more}
 use Rattle.std.proofs.lemmas.List.Elements.{All-get_or, filter-append}
 use Rattle.std.proofs.lemmas.List.Sums.{count_by-le-length, length-filter}
 use Rattle.sj_base.specs.Mode.{is_written, reads_value, writes_of}
@@ -34,9 +34,6 @@ AllZip-push R (u ∷ xs) [] x y all one = absurd all
 AllZip-push R (u ∷ xs) (z ∷ ys) x y all one = (all.0, AllZip-push R xs ys x y all.1 one)
 
 module _ (p : Program) (accesses : List Access) (i : ℕ) (f : Frame) (filling : IsFilling p accesses i f) where
-  pub filling-ends : length accesses ≤ i → AllZip (IsResultIn p) (filter (λ a. is_written a.mode) accesses) f.slots
-  filling-ends past = subst (λ (xs : List Access). AllZip (IsResultIn p) (filter (λ a. is_written a.mode) xs) f.slots) (take_all i accesses past) filling.each
-
   module _ (first : Access) (inside : i < length accesses) where
     abbrev a : Access
     a = get_or accesses i first

@@ -1,7 +1,7 @@
 -- What is kept of workers' tasks and of the tasks that are done, where one task goes on.
-use Rattle.std.proofs.Common.{◌≡◌, ◌≢◌, ℕ, ◌<◌, ◌↔◌, ◌++◌, ◌∷◌, ◌∙◌, true, List, [], Option, None, Some, ap, arith, get_or, inl, inr, length, length-set, set, subst, sym}
-use Rattle.std.specs.Prelude.{IsTrue, filter}
-use Rattle.std.specs.List.{Contains, range_with_len, slice_index_or}
+use Rattle.std.proofs.Common.{◌≡◌, ◌≢◌, ℕ, ◌<◌, ◌↔◌, ◌++◌, ◌∷◌, ◌∙◌, true, List, [], Option, None, Some, ap, arith, get_or, inl, inr, length, length-set, set, sym}
+use Rattle.std.specs.Prelude.{IsTrue}
+use Rattle.std.specs.List.{Contains, slice_index_or}
 use Rattle.std.proofs.lemmas.Bool.{false≢true}
 use Rattle.std.proofs.lemmas.List.{get_or-set_other, get_or-set_same}
 use Rattle.std.proofs.lemmas.List.Elements.{Contains-append_cases, Contains-append_left, Contains-append_right}
@@ -20,27 +20,12 @@ use Rattle.sj_check.specs.Watching.{HasTasks, task_in}
 -- ---- nothing happens to tasks
 
 module _ (p : Program) (s s' : State) (same : s'.tasks ≡ s.tasks) where
-  progress-still : (u : Task) → progress s' u ≡ progress s u
-  progress-still u = ap (λ (ts : List Progress). slice_index_or ts u.0 Waiting) same
-
   pub tasks-still : (tasks : List (Option Task)) → HasTasks p s tasks → HasTasks p s' tasks
   tasks-still tasks has = record {
     every_worker = has.every_worker;
     each = λ w t. (
-      λ e. ap (is_task_of w) (progress-still t) ∙ (has.each w t).0 e,
-      λ h. (has.each w t).1 (ap (is_task_of w) (sym (progress-still t)) ∙ h),
-    );
-  }
-
-  done-still : done_tasks s' ≡ done_tasks s
-  done-still = ap (λ (ts : List Progress). filter (λ n. is_done (slice_index_or ts n Waiting)) (range_with_len 0 (length ts))) same
-
-  pub counts-same : (deps : Dependencies) → CountsDone p s deps → CountsDone p s' deps
-  counts-same deps counts = record {
-    program = counts.program;
-    done = λ n. (
-      λ c. subst (λ (ns : List ℕ). Contains ns n) (sym done-still) ((counts.done n).0 c),
-      λ c. (counts.done n).1 (subst (λ (ns : List ℕ). Contains ns n) done-still c),
+      λ e. ap (λ (ts : List Progress). is_task_of w (slice_index_or ts t.0 Waiting)) same ∙ (has.each w t).0 e,
+      λ h. (has.each w t).1 (ap (λ (ts : List Progress). is_task_of w (slice_index_or ts t.0 Waiting)) (sym same) ∙ h),
     );
   }
 

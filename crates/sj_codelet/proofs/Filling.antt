@@ -61,13 +61,6 @@ begun_step i f ys zs v e h known =
     let read = ap (λ ws. get_or ws i (pos 0)) e ∙ at-begun i f ys (pos 0) h in
     ap (λ ws. set ws i v) e ∙ ap (λ w. set (begun i f ys) i w) (known read) ∙ begun_more i f ys h
 
--- the same where the code's own words for the elements are others
-pub each_from_begun_as : (i : ℕ) (f g : ℕ → ℤ) (ys zs : List ℤ) → length ys ≤ i → i ≤ length ys → zs ≡ begun i f ys → ((k : ℕ) → k < length ys → f k ≡ g k) → zs ≡ (each (vector ys).dims g).elements
-unfolding listing
-each_from_begun_as i f g ys zs h k e same =
-    let n : i ≡ 1 * length ys = omega arith in
-    e ∙ begun_all i f ys h ∙ same_listing i f g (λ j l. same j (omega arith)) ∙ ap (λ m. map g (range_with_len 0 m)) n
-
 -- what stands past the part that a loop has written
 pub begun_read : (i : ℕ) (f : ℕ → ℤ) (ys zs : List ℤ) → zs ≡ begun i f ys → i < length ys → get_or zs i (pos 0) ≡ get_or ys i (pos 0)
 begun_read i f ys zs e h = ap (λ ws. get_or ws i (pos 0)) e ∙ at-begun i f ys (pos 0) h

@@ -11,7 +11,7 @@ use Rattle.sj_codelet.specs.declared.kernel.Kernel.{Kernel}
 use Rattle.sj_codelet.specs.declared.formal.Formal.{Formal}
 use Rattle.sj_codelet.specs.declared.formal.Formal.TheVariants.{R, W, RW, Scratch}
 use Rattle.sj_codelet.specs.Frame.{Slot, Frame, own, arrays, all_dims, IsReady, AreReady, written, AllKeep, ends_owned}
-use Rattle.sj_codelet.specs.Kernel.{formals_of, arguments_fit, dims_fit, dims_at, same, new_arrays, operand}
+use Rattle.sj_codelet.specs.Kernel.{formals_of, dims_fit, dims_at, same, new_arrays, operand}
 use Rattle.sj_codelet.specs.Equations.{vector}
 use Rattle.sj_codelet.specs.Runs.{IsReadyOf, IsRunOf}
 use Rattle.sj_codelet.specs.Laws.{IsCall}
@@ -79,9 +79,6 @@ operands_are k args slots h =
 pub dims_go : (k : Kernel) (args : List ℤ) (slots : List Slot) → IsReadyOf k args slots → dims_fit k args (all_dims slots) ≡ true
 dims_go k args slots h = let f = h.fits in grind (arith, nat_tests)
 
-pub arguments_go : (k : Kernel) (args : List ℤ) (slots : List Slot) → IsReadyOf k args slots → arguments_fit k args (all_dims slots) ≡ true
-arguments_go k args slots h = let f = h.fits in grind (arith, nat_tests)
-
 -- how many operands stand before the last one of a call
 pub operands_before : (k : Kernel) (args : List ℤ) (before : List Array) (v : Array) → IsCall k args (before ++ v ∷ []) → length before + 1 ≡ length (formals_of k)
 operands_before k args before v call =
@@ -90,14 +87,11 @@ operands_before k args before v call =
     let m = length-append before (v ∷ []) in
     grind (arith, nat_tests)
 
-abbrev dims_of : ℕ → ℕ → Dims
-dims_of r c = record { rows = r; cols = c }
-
 pub same_dims : (d e : Dims) → same d e ≡ true → d ≡ e
 same_dims d e h =
     let r : d.rows ≡ e.rows = grind (arith, nat_tests) in
     let c : d.cols ≡ e.cols = grind (arith, nat_tests) in
-    ap (λ (n : ℕ). dims_of n d.cols) r ∙ ap (λ (n : ℕ). dims_of e.rows n) c
+    λ i. record { rows = r i; cols = c i }
 
 pub dims_at-all_dims : (slots : List Slot) (i : ℕ) → dims_at (all_dims slots) i ≡ (operand (arrays slots) i).dims
 dims_at-all_dims [] i = refl

@@ -52,10 +52,6 @@ passes-at test (y ∷ xs) (suc n) x all e = passes-at test xs n x (and_rest (tes
 pub by_table : (test : Kernel → Bool) → list_all test kernels ≡ true → (k : Kernel) → test k ≡ true
 by_table test all k = passes-at test kernels (id_of k) k all (kernel_of-codelet_of k)
 
--- two codelets of one id are the same
-pub same_id : (j k : Kernel) → id_of j ≡ id_of k → j ≡ k
-same_id j k e = let at : Some j ≡ Some k = sym (kernel_of-codelet_of j) ∙ ap (λ (n : ℕ). slice_get kernels n) e ∙ kernel_of-codelet_of k in cc
-
 -- no codelet has more than five operands
 pub few-formals : (k : Kernel) → length (formals_of k) ≤ 5
 few-formals k = leb-true (length (formals_of k)) 5 (by_table (λ k. nat_le (length (formals_of k)) 5) refl k)

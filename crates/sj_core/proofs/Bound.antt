@@ -1,6 +1,6 @@
 -- A legal trace has at most three events for each task of its program and five for each operand.
 use Rattle.std.proofs.Common.{Bool, List, [], ap, arith, cond, false, get_or, length, map, refl, subst, suc, sym, true, fold}
-use Rattle.std.proofs.Common.{zero, ℕ, ◌*◌, ◌+◌, ◌<◌, ◌||◌, ◌∙◌, ◌∷◌, ◌≡◌, ◌≤◌, None, Option, Some, set, ◌++◌}
+use Rattle.std.proofs.Common.{zero, ℕ, ◌*◌, ◌+◌, ◌<◌, ◌||◌, ◌∙◌, ◌∷◌, ◌≡◌, ◌≤◌, None, Option, Some, set}
 use Rattle.std.proofs.Common.{slice_set, count_by, nat_eq, nat_le, nat_lt, sum_by, ◌&&◌, if◌then◌else◌, is_some}
 use Rattle.sj_core.proofs.Words.{Array, AtNode, Cell, CellState, Claimed, Coming, DiskNo, Done, Event, Invalid, Kernel}
 use Rattle.sj_core.proofs.Words.{Leaving, Lowered, Machine, Node, OnDisk, Place, Program, Progress, Replica, Running}
@@ -31,7 +31,7 @@ use Rattle.sj_core.proofs.Replicas.{coming_by-is, leaving-by_some, leaving_by-le
 use Rattle.sj_core.proofs.{CellLists.same_cell-sym, Blocks.disk-within, Claiming.claim-advance, Claiming.missing-absent}
 use Rattle.sj_core.proofs.{Claiming.node-inside, Placing.stays-on_disk, Placing.valid-row, Placing.valid-within}
 use Rattle.sj_core.proofs.{TaskCells.written-among_cells, Moving.Ended_moves-keep_coherence, Opening.opening-coherent}
-use Rattle.sj_core.proofs.Replaying.{Step-keeps_coherence, legal-coherent}
+use Rattle.sj_core.proofs.Replaying.{Step-keeps_coherence, legal-coherent, sound}
 use Rattle.sj_core.proofs.{Eviction.evicted-after, Eviction.evicted_by, Claimed.claimed-inside, Finding.running-inside}
 
 -- ---- sums that rise at one element, sums over a table whose rows were renewed, and sums over numbered elements
@@ -318,9 +318,6 @@ module _ (p : Program) (m : Machine) (s : State) (h : IsSound p m s) where
     abbrev row : CellState
     row = cell_state s c
 
-    target : IsTransferTo m s w c from to
-    target = h.coherent.transfers.target w (a_transfer c from to) moved
-
     -- before a disk gets the cell no disk has it
     not_on_disk : (d : DiskNo) → OnDisk d ≡ to → IsTransferTo m s w c from (OnDisk d) → is_on_disk row ≡ false
     not_on_disk d at there = false_from_ne_true (is_on_disk row) (λ some.
@@ -351,7 +348,7 @@ module _ (p : Program) (m : Machine) (s : State) (h : IsSound p m s) where
     -- and so do all replicas
     pub moved-cost : cost s' + 2 ≤ cost s
     moved-cost =
-        let falls = row-falls to refl target in
+        let falls = row-falls to refl (h.coherent.transfers.target w (a_transfer c from to) moved) in
         omega (arith, rewrites c (with_replica_in row to (Valid brought)) falls.0 2 falls.1, ap cost leaves)
 
     -- and one transfer less is under way
@@ -402,9 +399,6 @@ some-transfer s some =
     by_option b h = search (arith, false≢true)
 
 module _ (p : Program) (m : Machine) (proper : Proper p) (machine : IsMachineFor p m) where
-  sound : (s : State) → Coherent p m s → IsSound p m s
-  sound s c = record { proper = proper; machine = machine; coherent = c }
-
   -- there are no more transfers under way than what replicas may still cost: they may end, one after another
   transfers-within : (k : ℕ) (s : State) → Coherent p m s → under_way s ≡ k → under_way s ≤ cost s
   transfers-within zero s c e = omega (arith, e)
@@ -413,9 +407,9 @@ module _ (p : Program) (m : Machine) (proper : Proper p) (machine : IsMachineFor
       let w = one.0 in
       let x = one.1 in
       let next : State = with_transfer (with_replica s x.cell x.to (Valid (array_at p s x.from x.cell))) w None in
-      let fewer = moved-transfers p m s (sound s c) x.cell x.from x.to w next one.2 refl in
-      let all = transfers-within k next (Ended_moves-keep_coherence p m s (sound s c) x.cell x.from x.to w one.2) (omega (arith, e, fewer)) in
-      omega (arith, moved-cost p m s (sound s c) x.cell x.from x.to w next one.2 refl)
+      let fewer = moved-transfers p m s (sound p m proper machine s c) x.cell x.from x.to w next one.2 refl in
+      let all = transfers-within k next (Ended_moves-keep_coherence p m s (sound p m proper machine s c) x.cell x.from x.to w one.2) (omega (arith, e, fewer)) in
+      omega (arith, moved-cost p m s (sound p m proper machine s c) x.cell x.from x.to w next one.2 refl)
 
   -- ---- whole traces
 
@@ -425,7 +419,7 @@ module _ (p : Program) (m : Machine) (proper : Proper p) (machine : IsMachineFor
     trace-pays [] s coherent follows = omega arith
     trace-pays (e ∷ trace) s coherent (may, rest) =
         let all = trace-pays trace (after p m s e) (Step-keeps_coherence p m proper machine has lawful s e coherent may) rest in
-        omega (arith, Step-pays p m s (sound s coherent) e (after p m s e) may refl)
+        omega (arith, Step-pays p m s (sound p m proper machine s coherent) e (after p m s e) may refl)
 
     -- what they may still cost at the end is no less than the transfers under way
     pub legal-within_bound : (trace : List Event) → IsLegal p m trace → HasAtMostThreePerTaskAndFivePerOperand p trace

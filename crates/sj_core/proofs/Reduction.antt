@@ -106,7 +106,7 @@ codelets_fit = All-from_recursion (Fits job) job.tasks
     (also (own GemmThree _ refl refl refl) (also (own Add _ refl refl refl) (also (own Add _ refl refl refl)
     (also (own Deliver _ refl refl refl) tt))))))))))
 
-read-is : (x : Mode) → is_read_only x ≡ true → x ≡ R
+pub read-is : (x : Mode) → is_read_only x ≡ true → x ≡ R
 read-is x h = search (arith, false≢true)
 
 abbrev apart : List Access → Bool

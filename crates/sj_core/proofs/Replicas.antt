@@ -26,6 +26,13 @@ leaving-by_some r h = absurd (false≢true h)
 pub entry-cases : (r : Replica) → is_entry r ≡ true → ((w : Worker) × (r ≡ Coming w)) ⊎ ((a : Array) × (r ≡ Valid a))
 entry-cases r h = search (arith, false≢true)
 
+-- a valid replica that doesn't leave is an entry
+pub valid-entry : (r : Replica) → is_valid r ≡ true → is_leaving r ≡ false → is_entry r ≡ true
+valid-entry Invalid v l = absurd (false≢true v)
+valid-entry (Coming w) v l = absurd (false≢true v)
+valid-entry (Valid a) v l = refl
+valid-entry (Leaving w a) v l = absurd (false≢true (sym l))
+
 -- a replica that doesn't leave and is no entry is invalid
 pub invalid-is : (r : Replica) → is_entry r ≡ false → is_leaving r ≡ false → r ≡ Invalid
 invalid-is r h k = search (arith, false≢true)

@@ -176,6 +176,9 @@ held_over-sized p (d ∷ cs) (a ∷ arrays) c below tiles dims h =
     by_first : (b : Bool) → same_cell d c ≡ b → IsTile a → a.dims ≡ dims_of p d → Fills p c (held_over (zip cs arrays) c below) → Fills p c (elim (cond b (Some (d, a)) (find (λ (entry : Cell × Array). same_cell entry.0 c) (zip cs arrays))) as (λ _. Array) [ None ↦ below | Some entry ↦ entry.1 ])
     by_first b e tile dims rest = search (arith, tile, same_cell-is)
 
+pub task-fits : (p : Program) → Proper p → (t : Task) → t.0 < length p.tasks → Fits p (task_of p t)
+task-fits p proper t inside = All-get_or (Fits p) p.tasks t.0 no_task inside proper.codelets
+
 module _ (p : Program) (proper : Proper p) (arguments : All (λ l. All (FitsSigned w64) l.args) p.tasks) where
   -- the cell that is worked on is as large as the operand's
   pub worked_on-dims : (w : Worker) → w.0 < p.workers → (a : Access) → dims_of p (worked_on p w a) ≡ dims_of p a.cell
@@ -185,9 +188,6 @@ module _ (p : Program) (proper : Proper p) (arguments : All (λ l. All (FitsSign
   found-fills w staffed held sized a = search (arith, zeros-fill, worked_on-dims)
 
   module _ (t : Task) (inside : t.0 < length p.tasks) (w : Worker) (staffed : w.0 < p.workers) (held : Cell → Array) (sized : (c : Cell) → Fills p c (held c)) where
-    pub fit : Fits p (task_of p t)
-    fit = All-get_or (Fits p) p.tasks t.0 no_task inside proper.codelets
-
     abbrev pub ins : List Array
     ins = map (found p w held) (task_of p t).accesses
 
@@ -195,27 +195,27 @@ module _ (p : Program) (proper : Proper p) (arguments : All (λ l. All (FitsSign
     ins-dims = map-map (λ (x : Array). x.dims) (found p w held) (task_of p t).accesses ∙ map-agree (λ a. (found p w held a).dims) (λ a. dims_of p a.cell) (task_of p t).accesses (λ a h. (found-fills w staffed held sized a).dims)
 
     -- the operands that a task finds are such as its codelet takes
-    pub ins-fit : IsTrue (fits fit.kernel (task_of p t).args (each_dims ins))
-    ins-fit = ap (fits fit.kernel (task_of p t).args) ins-dims ∙ fit.operands
+    pub ins-fit : IsTrue (fits (task-fits p proper t inside).kernel (task_of p t).args (each_dims ins))
+    ins-fit = ap (fits (task-fits p proper t inside).kernel (task_of p t).args) ins-dims ∙ (task-fits p proper t inside).operands
 
     pub ins-tiles : All IsTile ins
     ins-tiles = All-map IsTile (found p w held) (task_of p t).accesses (λ i d l. (found-fills w staffed held sized (get_or (task_of p t).accesses i d)).tile)
 
-    made : results p t w held ≡ new_arrays fit.kernel (task_of p t).args ins
-    made = ap (λ (o : Option Kernel). elim o as (λ _. List Array) [ None ↦ [] | Some k ↦ new_arrays k (task_of p t).args ins ]) fit.codelet
+    made : results p t w held ≡ new_arrays (task-fits p proper t inside).kernel (task_of p t).args ins
+    made = ap (λ (o : Option Kernel). elim o as (λ _. List Array) [ None ↦ [] | Some k ↦ new_arrays k (task_of p t).args ins ]) (task-fits p proper t inside).codelet
 
     -- the new arrays are tiles as large as the cells that the task writes
     results-tiles : All IsTile (results p t w held)
-    results-tiles = subst (All IsTile) (sym made) (new_arrays-tiles fit.kernel (task_of p t).args ins (All-get_or (λ l. All (FitsSigned w64) l.args) p.tasks t.0 no_task inside arguments) ins-fit ins-tiles)
+    results-tiles = subst (All IsTile) (sym made) (new_arrays-tiles (task-fits p proper t inside).kernel (task_of p t).args ins (All-get_or (λ l. All (FitsSigned w64) l.args) p.tasks t.0 no_task inside arguments) ins-fit ins-tiles)
 
     results-dims : each_dims (results p t w held) ≡ map (dims_of p) (written_cells p t w)
     results-dims =
         let l = task_of p t in
-        let parts = fits-parts (length (each_dims ins)) (length (formals_of fit.kernel)) (arguments_fit fit.kernel l.args (each_dims ins)) (dims_fit fit.kernel l.args (each_dims ins)) ins-fit in
+        let parts = fits-parts (length (each_dims ins)) (length (formals_of (task-fits p proper t inside).kernel)) (arguments_fit (task-fits p proper t inside).kernel l.args (each_dims ins)) (dims_fit (task-fits p proper t inside).kernel l.args (each_dims ins)) ins-fit in
         ap each_dims made
-        ∙ new_arrays-dims fit.kernel l.args ins (sym (length-map ins (λ (x : Array). x.dims)) ∙ parts.0) parts.1
-        ∙ ap (outputs_among (formals_of fit.kernel)) ins-dims
-        ∙ outputs-written (λ a. dims_of p a.cell) (formals_of fit.kernel) l.accesses (sym (map-map is_written (λ (a : Access). a.mode) l.accesses) ∙ written-flags fit.kernel (map (λ (a : Access). a.mode) l.accesses) fit.modes)
+        ∙ new_arrays-dims (task-fits p proper t inside).kernel l.args ins (sym (length-map ins (λ (x : Array). x.dims)) ∙ parts.0) parts.1
+        ∙ ap (outputs_among (formals_of (task-fits p proper t inside).kernel)) ins-dims
+        ∙ outputs-written (λ a. dims_of p a.cell) (formals_of (task-fits p proper t inside).kernel) l.accesses (sym (map-map is_written (λ (a : Access). a.mode) l.accesses) ∙ written-flags (task-fits p proper t inside).kernel (map (λ (a : Access). a.mode) l.accesses) (task-fits p proper t inside).modes)
         ∙ map-agree (λ a. dims_of p a.cell) (λ a. dims_of p (worked_on p w a)) (filter (λ a. is_written a.mode) l.accesses) (λ a h. sym (worked_on-dims w staffed a))
         ∙ sym (map-map (dims_of p) (worked_on p w) (filter (λ a. is_written a.mode) l.accesses))
 

@@ -16,7 +16,7 @@ use Rattle.sj_core.specs.Fold.{Contents, after_chosen, after_task, held_in}
 use Rattle.sj_core.specs.Proper.{Fits, Proper}
 use Rattle.sj_core.proofs.Values.{results-complete}
 use Rattle.sj_core.proofs.Folding.{AddsTask, after_chosen-same, after_task-other, after_task-same, held-append, held_over}
-use Rattle.sj_core.proofs.Sized.{AreSized, after_chosen-sized, fit, ins-fit, ins-tiles}
+use Rattle.sj_core.proofs.Sized.{AreSized, after_chosen-sized, ins-fit, ins-tiles, task-fits}
 use Rattle.sj_core.proofs.TaskCells.{written-among_cells}
 
 -- ---- one cell that a task updates
@@ -75,7 +75,7 @@ module _ (p : Program) (proper : Proper p) (arguments : All (λ l. All (FitsSign
     pub update-call : (before : Contents) → AreSized p before → IsCall u.kernel (task_of p t).args (first_ins p t w d u (held_in p before) ++ held_in p before d ∷ [])
     update-call before sized =
         let held = held_in p before in
-        let own = fit p proper arguments t inside w staffed held sized in
+        let own = task-fits p proper t inside in
         let found_by : Some own.kernel ≡ Some u.kernel = sym own.codelet ∙ u.codelet in
         let same : own.kernel ≡ u.kernel = cc in
         record {

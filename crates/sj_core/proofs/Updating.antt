@@ -15,13 +15,14 @@ use Rattle.sj_codelet.specs.Formal.{is_output}
 use Rattle.sj_codelet.specs.Kernel.{commutes_of, contributes_of, formals_of, kernel_of}
 use Rattle.sj_codelet.specs.declared.kernel.Kernel.TheVariants.{Add, Axpy, Dot, Gemm, GemmThree, Lowest, MinGemm, Scale, Sum}
 use Rattle.sj_deps.specs.Conflict.{Uses, Conflict, IsShared as IsSharedManner}
-use Rattle.sj_core.specs.Proper.{Fits, MayHaveModes, Proper, mode_of, modes_writing_by, own_modes}
+use Rattle.sj_core.specs.Proper.{MayHaveModes, Proper, mode_of, modes_writing_by, own_modes}
 use Rattle.sj_core.specs.Laws.{IsLawful, is_known}
 use Rattle.sj_core.proofs.Words.{Access, Cell, Codelet, CommuteMode, Formal, Kernel, Least, Mode, Plus, Program, R, RW, Read, ReadFormal, Reduction, Redux, Scratch, ScratchFormal, Task, UpdateFormal, Worker, no_task, task_of, worked_on, written_cells, Commute, Contribute, Manner, Write, cells_of, has_cell, same_cell}
 use Rattle.sj_core.proofs.Dependencies.{Proper-dependencies, map-from}
 use Rattle.sj_core.proofs.Modes.{written_isn't_scratch}
 use Rattle.sj_core.proofs.Sharing.{manner_of, operand-uses, redux-has_copies, BothCommute, BothContribute, Conflict-sym, Differ, commuting-is, conflict-by, contributing-is, meeting, operand_for, written-isn't_read}
 use Rattle.sj_core.proofs.Swapping.{Updates, Apart, Exchange, MaySwap, Together, commuting-exchange}
+use Rattle.sj_core.proofs.Sized.{task-fits}
 use Rattle.sj_core.proofs.Readiness.{list_any-some, Contains-map}
 
 -- ---- a task with a COMMUTE or a REDUX operand updates one cell alone, by its last operand
@@ -118,19 +119,16 @@ module _ (p : Program) (proper : Proper p) (t : Task) (inside : t.0 < length p.t
   pub operand-used : (w : Worker) → w.0 < p.workers → (a : Access) → Contains (task_of p t).accesses a → not (is_scratch a.mode) ≡ true → Uses p t.0 (worked_on p w a).0 (manner_of (task_of p t).codelet a.mode)
   operand-used w staffed a among accessed = operand-uses p t w a.mode a.cell inside among accessed (λ redux. (let c = redux-has_copies p proper.cells t inside a.mode a.cell among redux in (staffed, c.0, c.1)))
 
-  pub own-fit : Fits p (task_of p t)
-  own-fit = All-get_or (Fits p) p.tasks t.0 no_task inside proper.codelets
-
   -- the codelet of a task with an operand out of order
-  pub shared-codelet : (a : Access) → Contains (task_of p t).accesses a → is_in_order a.mode ≡ false → IsShared own-fit.kernel (map (λ b. b.mode) (task_of p t).accesses) a.mode
-  shared-codelet a among out = shared-modes own-fit.kernel (map (λ b. b.mode) (task_of p t).accesses) a.mode own-fit.modes out (Contains-map (λ (b : Access). b.mode) (task_of p t).accesses a among)
+  pub shared-codelet : (a : Access) → Contains (task_of p t).accesses a → is_in_order a.mode ≡ false → IsShared (task-fits p proper t inside).kernel (map (λ b. b.mode) (task_of p t).accesses) a.mode
+  shared-codelet a among out = shared-modes (task-fits p proper t inside).kernel (map (λ b. b.mode) (task_of p t).accesses) a.mode (task-fits p proper t inside).modes out (Contains-map (λ (b : Access). b.mode) (task_of p t).accesses a among)
 
   module _ (a : Access) (among : Contains (task_of p t).accesses a) (out : is_in_order a.mode ≡ false) where
     abbrev pub in_place : Mode → Mode
     in_place mode = cond (is_written mode) a.mode mode
 
-    pub last_row : UpdatesLast own-fit.kernel
-    last_row = updates-last own-fit.kernel (shared-codelet a among out).commutes
+    pub last_row : UpdatesLast (task-fits p proper t inside).kernel
+    last_row = updates-last (task-fits p proper t inside).kernel (shared-codelet a among out).commutes
 
     pub ends : EndsBy (λ (b : Access). b.mode) (task_of p t).accesses (map in_place (map mode_of last_row.first)) a.mode
     ends = ends-by (λ (b : Access). b.mode) (task_of p t).accesses (map in_place (map mode_of last_row.first)) a.mode ((shared-codelet a among out).modes ∙ ap (λ (fs : List Formal). map in_place (map mode_of fs)) last_row.formals ∙ ap (map in_place) (map-append mode_of last_row.first (UpdateFormal ∷ [])) ∙ map-append in_place (map mode_of last_row.first) (RW ∷ []))
@@ -176,8 +174,8 @@ module _ (p : Program) (proper : Proper p) (t : Task) (inside : t.0 < length p.t
     -- it updates the operand's cell
     abbrev pub updates : (w : Worker) → w.0 < p.workers → Updates p t w (worked_on p w a)
     updates w staffed = record {
-      kernel = own-fit.kernel;
-      codelet = own-fit.codelet;
+      kernel = (task-fits p proper t inside).kernel;
+      codelet = (task-fits p proper t inside).codelet;
       before = ends.first;
       last = ends.last;
       accesses = ends.is;
@@ -226,8 +224,8 @@ module _ (has : Kernel → Bool) (p : Program) (proper : Proper p) (lawful : IsL
         commuting mode same j k ej ek =
             let f : Some j ≡ Some k = sym ej ∙ ap kernel_of same ∙ ek in
             let one : j ≡ k = cc in
-            let g : Some (own-fit p proper t t_in).kernel ≡ Some j = sym (own-fit p proper t t_in).codelet ∙ ej in
-            let own : (own-fit p proper t t_in).kernel ≡ j = cc in
+            let g : Some (task-fits p proper t t_in).kernel ≡ Some j = sym (task-fits p proper t t_in).codelet ∙ ej in
+            let own : (task-fits p proper t t_in).kernel ≡ j = cc in
             let known : has j ≡ true = sym (ap (λ (o : Option Kernel). elim o as (λ _. Bool) [ None ↦ false | Some kernel ↦ has kernel ]) ej) ∙ All-get_or (λ l. IsTrue (is_known has l.codelet)) p.tasks t.0 no_task t_in lawful.known in
             let commutes : commutes_of j ≡ true = ap commutes_of (sym own) ∙ (shared-codelet p proper t t_in a ta (ap is_in_order mode)).commutes in
             subst (Exchange j) one (commuting-exchange j (lawful.commuting j (and_from (has j) (commutes_of j) known commutes)))

@@ -1,9 +1,8 @@
 -- A task is counted as done: the parties that open, and the tasks that they free.
-use Rattle.std.proofs.Common.{◌≡◌, ℕ, ◌+◌, ◌<◌, ◌≤◌, List, [], length, sym, ap, ◌∙◌, subst, arith, ⊎_elim, slice_index_or, nat_lt, min}
+use Rattle.std.proofs.Common.{◌≡◌, ℕ, ◌+◌, ◌<◌, ◌≤◌, List, [], length, sym, ap, ◌∙◌, arith, ⊎_elim, slice_index_or, min}
 use Rattle.std.specs.Prelude.{All}
 use Rattle.std.specs.List.{count_by}
 use Rattle.std.proofs.lemmas.List.{get_or_default, get_or_past}
-use Rattle.std.proofs.lemmas.List.Sums.{count_by-le-length}
 use Rattle.std.proofs.lemmas.Bool.{cases_lt}
 use Rattle.sj_deps.specs.declared.counters.Counters.{Counters}
 use Rattle.sj_deps.specs.Chains.{is_party, waits_of}
@@ -13,20 +12,6 @@ use Rattle.sj_deps.proofs.Freeing.{owed_law}
 use Rattle.sj_deps.proofs.Keeping.{party_counted}
 
 module _ (c : Counters) (ledger : Ledger c) where
-  pub room_to_open : (cap n : ℕ) → n ≡ 0 → length c.tasks.items ≤ cap → n + count_by (nat_lt 0) c.waits.items ≤ cap
-  room_to_open cap n none room =
-      let few = count_by-le-length (nat_lt 0) c.waits.items in
-      let every = ledger.every_wait in
-      omega arith
-
-  pub room_to_free : (cap n : ℕ) → n ≡ 0 → length c.held.items ≤ cap → n + count_by (nat_lt 0) c.held.items ≤ cap
-  room_to_free cap n none room =
-      let few = count_by-le-length (nat_lt 0) c.held.items in
-      omega arith
-
-  pub parties_known : (t : ℕ) → All (λ n. n < length c.left.items) (parties_at c.parties.items t)
-  parties_known t = subst (λ k. All (λ n. n < k) (parties_at c.parties.items t)) (sym ledger.every_left) (ledger.parties t)
-
   module _ (w' r₀ opened : List ℕ) (fresh : r₀ ≡ []) (answers : Answers c.waits.items w' r₀ opened) where
     law : (n : ℕ) → count_by (is_party n) opened + min 1 (waits_of w' n) ≡ min 1 (waits_of c.waits.items n)
     law n =

@@ -60,14 +60,6 @@ module _ (tasks : List (List Task)) (ns : List ℕ) (i : ℕ) (h : i < length ns
       let e = so.held t in
       omega arith
 
-  pub Frees-next : (w' : List ℕ) (r' : List Task) → Frees w w' r r' (λ t. count_by (is_task t) (tasks_at tasks (slice_index_or ns i 0))) → Frees h₀ w' r₀ r' (owed tasks (take (i + 1) ns))
-  Frees-next w' r' next = record {
-    held = λ t. let more = owed_more t in let a = so.held t in let b = next.held t in omega arith;
-    len = next.len ∙ so.len;
-    ready = λ t. next.ready t ∙ so.ready t;
-    total = next.total ∙ so.total;
-  }
-
 -- sums of sums
 sum_plus : {X : Type 0} (f g : X → ℕ) (xs : List X) → sum_by (λ x. f x + g x) xs ≡ sum_by f xs + sum_by g xs
 sum_plus f g [] = refl

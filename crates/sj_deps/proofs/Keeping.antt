@@ -54,10 +54,6 @@ none_blocked w ns none i h =
     let one : cond {A = ℕ} (nat_lt 0 (waits_of w (slice_index_or ns i 0))) 1 0 ≡ 1 = cond-true _ 1 0 (lt-ltb _ _ some) in
     absurd (omega arith)) (λ free. omega arith) (cases_lt 0 (waits_of w (slice_index_or ns i 0)))
 
--- the list of a task that isn't one is empty
-pub no_parties : (parties : List (List ℕ)) (t : ℕ) → length parties ≤ t → parties_at parties t ≡ []
-no_parties parties t past = get_or_past parties t [] past
-
 module _ (P : Program) (c : Counters) (keeps : Keeps P c) where
   -- each party of a task has it
   pub has_task : (t i : ℕ) → i < length (parties_at c.parties.items t) → In c.tasks.items (slice_index_or (parties_at c.parties.items t) i 0) t
@@ -66,9 +62,6 @@ module _ (P : Program) (c : Counters) (keeps : Keeps P c) where
       let some = party_counted ns i h in
       let e = keeps.ledger.matching t (slice_index_or ns i 0) in
       listed_task c.tasks.items (slice_index_or ns i 0) t (omega arith)
-
-  pub ready_past : (t : ℕ) → length P.tasks ≤ t → Ready P c.order.items t → ⊥
-  ready_past t past ready = let task = ready.task in omega arith
 
   pub ready_done : (t : ℕ) → flag_at c.is_done.items t ≡ true → Ready P c.order.items t → ⊥
   ready_done t done ready = ready.waiting (keeps.flags.listed t done)

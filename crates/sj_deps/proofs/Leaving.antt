@@ -128,14 +128,8 @@ module _ (left : List ℕ) (n : ℕ) (known : n < length left) (some : 0 < left_
       parties = settled.parties;
     }
 
-pub SameMembers-none : (chains : List Chain) → SameMembers chains chains
-SameMembers-none chains = record { len = refl; members = λ c. refl }
-
 pub SameMembers-more : (a b c : List Chain) → SameMembers a b → SameMembers b c → SameMembers a c
 SameMembers-more a b c first second = record { len = second.len ∙ first.len; members = λ n. second.members n ∙ first.members n }
-
-pub Answers-none : (w r : List ℕ) → Answers w w r r
-Answers-none w r = record { len = refl; opened = λ n. refl; total = refl }
 
 pub Answers-next : (w₀ w w' r₀ r r' : List ℕ) → Answers w₀ w r₀ r → Answers w w' r r' → Answers w₀ w' r₀ r'
 Answers-next w₀ w w' r₀ r r' first second = record {

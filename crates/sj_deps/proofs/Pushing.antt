@@ -51,7 +51,7 @@ module _ (ms : List Member) (x : Member) where
       let long = length_push ms x in
       ⊎_elim (λ lower. subst (R p) (sym (at_old p lower)) (old p lower)) (λ same. subst (R p) (sym (at_new p same)) (subst (λ n. R n x) (sym same) new)) (below_cases p (length ms) (omega arith))
 
-abbrev moved : List Member → ℕ → ℕ → Chain
+abbrev pub moved : List Member → ℕ → ℕ → Chain
 moved ms r f = record { members = ms; released = r; finished = f }
 
 pub nothing_done : (ms : List Member) → count_by (is_done []) ms ≡ 0

@@ -10,6 +10,7 @@ use Rattle.sj_deps.specs.Chains.{no_member, no_chain, chain_at, members_at, is_d
 use Rattle.sj_deps.specs.Counts.{CanSettle, Settles, Answers}
 use Rattle.sj_deps.proofs.Waits.{wanted-set}
 use Rattle.sj_deps.proofs.Counting.{all_before, none_dropped, count_taken-le}
+use Rattle.sj_deps.proofs.Pushing.{moved}
 
 -- no more are done than are released
 pub done-le-released : (left : List ℕ) (ch : Chain) (n : ℕ) → Tracks left ch n → ch.finished + n ≤ ch.released
@@ -19,9 +20,6 @@ done-le-released left ch n tracks =
     let whole = sum_by-take-drop (λ m. cond {A = ℕ} (is_done left m) 1 0) ch.members ch.released in
     let counted = tracks.counted in
     omega arith
-
-abbrev moved : List Member → ℕ → ℕ → Chain
-moved ms r f = record { members = ms; released = r; finished = f }
 
 tracks_moved : (left : List ℕ) (ms : List Member) (r f r' n : ℕ) → Tracks left (moved ms r f) (n + 1) → (f + 1 < r → r' ≡ r) → (f + 1 ≡ r → IsRun ms r r') → Tracks left (moved ms r' (f + 1)) n
 tracks_moved left ms r f r' n tracks stays moves =

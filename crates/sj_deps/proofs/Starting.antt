@@ -11,6 +11,7 @@ use Rattle.std.proofs.lemmas.Bool.{cases_lt, both_ways, ne_eqb}
 use Rattle.sj_base.specs.declared.ids.Task.{Task}
 use Rattle.sj_base.specs.declared.program.Program.{Program}
 use Rattle.sj_base.specs.Ids.{task}
+use Rattle.sj_base.proofs.Lists.{get_or-replicate_same}
 use Rattle.sj_deps.specs.declared.manner.Manner.{Manner}
 use Rattle.sj_deps.specs.Conflict.{Uses, HasDependencies, usages}
 use Rattle.sj_deps.specs.declared.chain.Chain.{Chain}
@@ -132,9 +133,6 @@ Built-all P e begun at_end = record {
   begun = begun;
 }
 
-no_flags : (n t : ℕ) → flag_at (replicate n false) t ≡ false
-no_flags n t = ⊎_elim (λ inside. get_or-replicate n t false false inside) (λ past. get_or_past (replicate n false) t false (rw length-replicate past)) (cases_lt t n)
-
 undone_all : (flags : List Bool) → ((t : ℕ) → flag_at flags t ≡ false) → (ts : List Task) → undone flags ts ≡ length ts
 undone_all flags idle [] = refl
 undone_all flags idle (x ∷ ts) =
@@ -166,7 +164,7 @@ built_parties P e built parties matching = All-from_get_or (All (λ n. n < lengt
 
 module _ (P : Program) (c : Counters) (deps : HasDependencies P) (holds : Holds P c.chains.items c.cells.items c.tasks.items) (all : HoldsAll P c.chains.items c.tasks.items) (tracks : (d : ℕ) → Tracks [] (chain_at c.chains.items d) 0) (waits : (n : ℕ) → waits_of c.waits.items n ≡ wanted c.chains.items n) (every_wait : length c.waits.items ≡ length c.tasks.items) (left_are : c.left.items ≡ map (λ ts. length ts) c.tasks.items) (parties_len : length c.parties.items ≡ length P.tasks) (matching : Mutual c.parties.items c.tasks.items) (held_are : c.held.items ≡ map (blocked c.waits.items) c.parties.items) (unmarked : c.is_done.items ≡ replicate (length P.tasks) false) (none : c.order.items ≡ []) (room_done : length P.tasks ≤ vec_capacity c.order) (room_opened : length c.tasks.items ≤ vec_capacity c.opened) (room_ready : length P.tasks ≤ vec_capacity c.ready) where
   flag_none : (t : ℕ) → flag_at c.is_done.items t ≡ false
-  flag_none t = ap (λ fs. flag_at fs t) unmarked ∙ no_flags (length P.tasks) t
+  flag_none t = ap (λ fs. flag_at fs t) unmarked ∙ get_or-replicate_same (length P.tasks) t false
 
   left_is : (n : ℕ) → n < length c.tasks.items → left_of c.left.items n ≡ length (tasks_at c.tasks.items n)
   left_is n h = ap (λ l. left_of l n) left_are ∙ get_or-map (λ (ts : List Task). length ts) c.tasks.items n [] 1 h

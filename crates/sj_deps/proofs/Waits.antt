@@ -46,9 +46,6 @@ Releases-more w₀ w w' r₀ r r' ms first p h known some e each all so = record
   total = all ∙ so.total;
 }
 
-pub Releases-none : (w : List ℕ) (r : List ℕ) (ms : List Member) (first : ℕ) → Releases w w r r ms first first
-Releases-none w r ms first = record { waits = λ t. refl; len = refl; opened = λ t. refl; total = refl }
-
 -- the accesses that a party waits for, when one chain changes
 pub wanted-set : (chains : List Chain) (c : ℕ) (ch : Chain) (t : ℕ) → c < length chains → wanted (slice_set chains c ch) t + left_from (members_at chains c) (chain_at chains c).released t ≡ wanted chains t + left_from ch.members ch.released t
 wanted-set chains c ch t h = sum_by-set (λ x. left_from x.members x.released t) chains c ch no_chain h

@@ -1,5 +1,5 @@
 -- The bytes of headers and elements: how many there are, and that they say what they are of.
-use Rattle.std.proofs.Common.{◌≡◌, ℕ, suc, ◌+◌, ◌-◌, ◌*◌, ◌^◌, ◌<◌, ◌≤◌, inl, inr, ℤ, pos, negsuc, List, [], ◌∷◌, ◌++◌, length, take, drop, get_or, slice_range, refl, sym, ap, ◌∙◌, subst, append_assoc, arith, Fits, w8, w64, of_z, to_z, length-append, length-take, length-drop}
+use Rattle.std.proofs.Common.{◌≡◌, ℕ, suc, ◌+◌, ◌-◌, ◌*◌, ◌^◌, ◌<◌, ◌≤◌, inl, inr, ℤ, List, [], ◌∷◌, ◌++◌, length, take, drop, get_or, slice_range, refl, sym, ap, ◌∙◌, subst, append_assoc, arith, Fits, w8, w64, of_z, to_z, length-append, length-take, length-drop}
 use Rattle.std.specs.Prelude.{All, FitsSigned}
 use Rattle.std.specs.Int.{from_le_bytes}
 use Rattle.std.proofs.Math.Facts.{Fits-lt-pow, Fits-of_lt, sfits_to_z}
@@ -9,6 +9,7 @@ use Rattle.std.proofs.lemmas.Grind.{flat_map-append}
 use Rattle.std.proofs.lemmas.Int.{of_z-to_z, to_z-of_z}
 use Rattle.std.proofs.lemmas.List.{append_cancel_left, drop_all, drop-drop, get_or-drop, get_or-take, get_or_past, take-append-drop, append-nil}
 use Rattle.std.proofs.lemmas.Nat.{from_le_bytes-to_le_bytes_8, le_bytes_8}
+use Rattle.sj_base.proofs.Numbers.{of_z-below}
 use Rattle.byteorder.specs.Endian.{little_number, IsReadBy}
 use Rattle.sj_edge.proofs.Ranges.{range-rest}
 use Rattle.sj_disk.specs.declared.header.Header.{Header}
@@ -128,10 +129,6 @@ element_bytes-rest xs n = sym (element_bytes-append (take n xs) (drop n xs)) ∙
 word-same : (m n : ℕ) → m < 2 ^ 64 → n < 2 ^ 64 → word m ≡ word n → m ≡ n
 unfolding word
 word-same m n hm hn e = sym (from_le_bytes-to_le_bytes_8 m hm) ∙ ap (from_le_bytes w64) e ∙ from_le_bytes-to_le_bytes_8 n hn
-
-of_z-below : (z : ℤ) → FitsSigned w64 z → of_z w64 z < 2 ^ 64
-of_z-below (pos n) fits = omega (arith, fits.sfits)
-of_z-below (negsuc n) fits = omega arith
 
 pub element_bytes-same : (xs ys : List ℤ) → All (FitsSigned w64) xs → All (FitsSigned w64) ys → element_bytes xs ≡ element_bytes ys → xs ≡ ys
 unfolding element_bytes

@@ -69,13 +69,10 @@ module _ {D : Type 0} (size faults mismatches : D → ℕ) (held : D → Option 
     after : List (Option Extent)
     after = slice_set directory c (Some f)
 
-    known : c < length directory
-    known = within-directory directory c e ee
-
     itself : (g : Extent) → extent_of after c ≡ Some g → f ≡ g
     unfolding after
     itself g eg =
-        let now : extent_of after c ≡ Some f = get_or-set_same directory c (Some f) None known in
+        let now : extent_of after c ≡ Some f = get_or-set_same directory c (Some f) None (within-directory directory c e ee) in
         cc
 
     others : (q : ℕ) → q ≢ c → extent_of after q ≡ extent_of directory q

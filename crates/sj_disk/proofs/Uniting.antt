@@ -33,7 +33,7 @@ any-same (Some xs) at n size filled within =
     ∙ take-append-drop at xs in
     (some, many, ap Some (sym whole))
 
-length-block : (c writes : ℕ) (xs : List ℤ) → length (block c writes xs) ≡ block_bytes (length xs)
+pub length-block : (c writes : ℕ) (xs : List ℤ) → length (block c writes xs) ≡ block_bytes (length xs)
 length-block c writes xs = omega (arith, length-append (header_bytes (header c writes (length xs))) (element_bytes xs), length-header_bytes (header c writes (length xs)), length-element_bytes xs)
 
 on_ok : {A E P : Type 0} (q : Result A E) → OnOk q P → IsTrue (is_ok q) → P

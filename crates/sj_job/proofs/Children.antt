@@ -1,5 +1,5 @@
 -- The children of a root and its elements: what a change of the root does to its track.
-use Rattle.std.proofs.Common.{◌≡◌, ℕ, zero, suc, ◌+◌, ◌-◌, ◌*◌, ◌/◌, ◌%◌, ◌<◌, ◌≤◌, Bool, true, false, not, ◌&&◌, ◌||◌, cond, Option, Some, None, is_some, unwrap_or, nat_eq, nat_lt, length, get_or, refl, sym, ap, subst, ◌∙◌, arith, ℤ, get_or-set_same, get_or-set_other, List}
+use Rattle.std.proofs.Common.{◌≡◌, ℕ, ◌+◌, ◌-◌, ◌*◌, ◌/◌, ◌%◌, ◌<◌, ◌≤◌, Bool, true, false, not, ◌&&◌, ◌||◌, cond, Option, Some, None, is_some, unwrap_or, nat_eq, nat_lt, length, get_or, refl, sym, ap, subst, ◌∙◌, arith, ℤ, get_or-set_same, get_or-set_other, List}
 use Rattle.std.specs.Prelude.{is_none, pos, ◌+ℤ◌, ◌*ℤ◌}
 use Rattle.std.specs.List.{list_all}
 use Rattle.std.proofs.lemmas.List.{length-set, length-map, get_or-map, get_or-replicate, get_or_default, length-replicate}
@@ -7,14 +7,16 @@ use Rattle.std.proofs.lemmas.List.FromFn.{get_or-map-range_with_len, length-map-
 use Rattle.std.proofs.lemmas.List.Sums.{AllPass-from_list_all, list_all-from_AllPass}
 use Rattle.std.proofs.lemmas.List.Folds.{list_all_at}
 use Rattle.std.proofs.lemmas.Nat.{div_below, mod_below, div-add-mod', div-mul-add, mod-mul-add, mul-add-lt, mul-le}
-use Rattle.std.proofs.lemmas.Bool.{ltb-true, and_parts}
+use Rattle.std.proofs.lemmas.Bool.{ltb-true, and_parts, and_from, not-true, both_ways}
 use Rattle.std.proofs.lemmas.Bool.Decides.{nat_tests}
 use Rattle.sj_base.specs.declared.tile.Dims.{Dims}
 use Rattle.sj_base.specs.Array.{Array, area, element}
 use Rattle.sj_base.specs.Window.{item}
-use Rattle.sj_base.proofs.Tables.{length-table, item-table, at-table}
+use Rattle.sj_base.proofs.Tables.{length-table, item-table, at-table, item_inside}
 use Rattle.sj_codelet.specs.Ring.{wrap}
 use Rattle.sj_base.specs.declared.mode.Reduction.{Reduction}
+use Rattle.sj_base.proofs.Numbers.{some_factor}
+use Rattle.sj_base.proofs.Bools.{same_test}
 use Rattle.sj_plan.specs.declared.parts.Parts.{Parts}
 use Rattle.sj_plan.specs.Parts.{Fits, IsPlace}
 use Rattle.sj_plan.specs.Rect.{Holds, holds, child, dims_of}
@@ -63,15 +65,11 @@ first-held d p place fits =
 pub number-below : (p : Parts) (x : ℕ × ℕ) → IsPlace p x → number p x < children_count p
 number-below p x at = let h = mul-add-lt x.0 p.c x.1 p.r at.0 at.1 in omega arith
 
-number-alone : (p : Parts) (x y : ℕ × ℕ) → IsPlace p x → IsPlace p y → number p x ≡ number p y → x ≡ y
+pub number-alone : (p : Parts) (x y : ℕ × ℕ) → IsPlace p x → IsPlace p y → number p x ≡ number p y → x ≡ y
 number-alone p x y a b e =
     let r : x.0 ≡ y.0 = sym (div-mul-add x.0 p.c x.1 a.1) ∙ ap (λ n. n / p.c) e ∙ div-mul-add y.0 p.c y.1 b.1 in
     let c : x.1 ≡ y.1 = sym (mod-mul-add x.0 p.c x.1 a.1) ∙ ap (λ n. n % p.c) e ∙ mod-mul-add y.0 p.c y.1 b.1 in
     λ i. (r i, c i)
-
-some_factor : (r c k : ℕ) → k < r * c → 0 < c
-some_factor r zero k h = absurd (omega arith)
-some_factor r (suc c) k h = omega arith
 
 -- the place of a number
 placed : (p : Parts) (k : ℕ) → k < children_count p → IsPlace p (k / p.c, k % p.c)
@@ -86,19 +84,11 @@ place-from_test p place e =
 one_is_below : (n : ℕ) → nat_eq n 1 ≡ true → nat_lt 0 n ≡ true
 one_is_below n e = grind (arith, nat_tests)
 
-both_true : (b c : Bool) → (b && c) ≡ true → (b ≡ true) × (c ≡ true)
-both_true true c e = (refl, e)
-both_true false c e = absurd (cc)
-
-true_both : (b c : Bool) → b ≡ true → c ≡ true → (b && c) ≡ true
-true_both true c e f = f
-true_both false c e f = absurd (cc)
-
 -- a name alone is the first child, an index its own
 pub said-child : (p : Parts) (index : Option (ℕ × ℕ)) → is_child_said p index ≡ true → is_child p (unwrap_or index (0, 0)) ≡ true
 said-child p None e =
-    let h = both_true (nat_eq p.r 1) (nat_eq p.c 1) e in
-    true_both (nat_lt 0 p.r) (nat_lt 0 p.c) (one_is_below p.r h.0) (one_is_below p.c h.1)
+    let h = and_parts (nat_eq p.r 1) (nat_eq p.c 1) e in
+    and_from (nat_lt 0 p.r) (nat_lt 0 p.c) (one_is_below p.r h.0) (one_is_below p.c h.1)
 said-child p (Some index) e = e
 
 -- ---- elements
@@ -106,11 +96,6 @@ said-child p (Some index) e = e
 -- the element in this row and column has a value
 abbrev pub has_value : Root → ℕ → ℕ → Bool
 has_value r row col = is_some (item None r.dims.cols r.elements row col)
-
-same_bools : (b c : Bool) → (b ≡ true → c ≡ true) → (c ≡ true → b ≡ true) → b ≡ c
-same_bools true c f g = sym (f refl)
-same_bools false true f g = g refl
-same_bools false false f g = refl
 
 -- the mark of an element's child
 mark_of : (f : Bool → Bool) (t : Track) (r : Root) (row col : ℕ) → Tracks t r → list_all f t.valued ≡ true → row < r.dims.rows → col < r.dims.cols → f (has_value r row col) ≡ true
@@ -158,11 +143,11 @@ none_not_some (Some x) = refl
 -- all elements have a value where all children have one
 pub all_valued-same : (t : Track) (r : Root) → Tracks t r → all_valued t ≡ is_valued r
 all_valued-same t r h =
-    same_bools (all_valued t) (is_valued r) (elements_from_marks (λ b. b) is_some t r some_kept h) (marks_from_elements (λ b. b) is_some t r some_kept h)
+    same_test (all_valued t) (is_valued r) (elements_from_marks (λ b. b) is_some t r some_kept h) (marks_from_elements (λ b. b) is_some t r some_kept h)
 
 pub none_valued-same : (t : Track) (r : Root) → Tracks t r → none_valued t ≡ is_blank r
 none_valued-same t r h =
-    same_bools (none_valued t) (is_blank r) (elements_from_marks not is_none t r none_not_some h) (marks_from_elements not is_none t r none_not_some h)
+    same_test (none_valued t) (is_blank r) (elements_from_marks not is_none t r none_not_some h) (marks_from_elements not is_none t r none_not_some h)
 
 -- ---- a child's elements
 
@@ -224,15 +209,12 @@ tracks-even p v r e fits whole each = record {
       each row col inside.0 inside.1 ∙ sym (get_or-replicate (children_count p) (number p place) v false below);
 }
 
-position_inside : (d : Dims) (row col : ℕ) → row < d.rows → col < d.cols → row * d.cols + col < area d
-position_inside d row col in_rows in_cols = let h = mul-add-lt row d.cols col d.rows in_rows in_cols in omega arith
-
 first_value : (i : Init) (d : Dims) (k : ℕ) → InitFits i d → k < area d → is_some (get_or (first_elements i d) k None) ≡ gives_values i
 first_value (Values xs) d k h lt = ap is_some (get_or-map (λ (x : ℤ). Some x) xs k (pos 0) None (omega (arith, h)))
 first_value (Fill a b) d k h lt = ap is_some (get_or-map-range_with_len (λ p. Some (wrap (a +ℤ (b *ℤ pos p)))) 0 (area d) k k None lt (omega arith))
 first_value Nothing d k h lt = let none : Option ℤ = None in ap is_some (get_or-replicate (area d) k none none lt)
 
-first_length : (i : Init) (d : Dims) → InitFits i d → length (first_elements i d) ≡ area d
+pub first_length : (i : Init) (d : Dims) → InitFits i d → length (first_elements i d) ≡ area d
 first_length (Values xs) d h = length-map xs (λ (x : ℤ). Some x) ∙ h
 first_length (Fill a b) d h = length-map-range_with_len (λ p. Some (wrap (a +ℤ (b *ℤ pos p)))) 0 (area d)
 first_length Nothing d h = let none : Option ℤ = None in length-replicate (area d) none
@@ -240,15 +222,11 @@ first_length Nothing d h = let none : Option ℤ = None in length-replicate (are
 pub tracks-registered : (r : Register (List ℕ)) → Fits r.parts r.dims → InitFits r.init r.dims → Tracks (even r.parts (gives_values r.init)) (registered_root r)
 tracks-registered r fits h =
     tracks-even r.parts (gives_values r.init) (registered_root r) refl fits (first_length r.init r.dims h) (λ row col in_rows in_cols.
-    first_value r.init r.dims (row * r.dims.cols + col) h (position_inside r.dims row col in_rows in_cols))
+    first_value r.init r.dims (row * r.dims.cols + col) h (item_inside r.dims row col in_rows in_cols))
 
 even_value : (t : Track) (r : Root) (b : Bool) (row col : ℕ) → Tracks t r → all_valued t ≡ b → (b || none_valued t) ≡ true → row < r.dims.rows → col < r.dims.cols → has_value r row col ≡ b
 even_value t r true row col h e either in_rows in_cols = mark_of (λ b. b) t r row col h e in_rows in_cols
-even_value t r false row col h e either in_rows in_cols = not_true (has_value r row col) (mark_of not t r row col h either in_rows in_cols)
-  where
-    not_true : (b : Bool) → not b ≡ true → b ≡ false
-    not_true true e = absurd (cc)
-    not_true false e = refl
+even_value t r false row col h e either in_rows in_cols = not-true (has_value r row col) (mark_of not t r row col h either in_rows in_cols)
 
 pub tracks-planned : (p : Parts) (t : Track) (r : Root) → Tracks t r → Fits p r.dims → (all_valued t || none_valued t) ≡ true → Tracks (even p (all_valued t)) (with_parts p r)
 tracks-planned p t r h fits either =
@@ -258,7 +236,7 @@ pub tracks-invalidated : (t : Track) (r : Root) → Tracks t r → Tracks (even 
 tracks-invalidated t r h =
     let none : Option ℤ = None in
     tracks-even t.parts false (with_elements (no_values r.dims) r) (sym h.parts) (subst (λ (x : Parts). Fits x r.dims) (sym h.parts) h.fits) (length-replicate (area r.dims) none) (λ row col in_rows in_cols.
-    ap is_some (get_or-replicate (area r.dims) (row * r.dims.cols + col) none none (position_inside r.dims row col in_rows in_cols)))
+    ap is_some (get_or-replicate (area r.dims) (row * r.dims.cols + col) none none (item_inside r.dims row col in_rows in_cols)))
 
 -- ---- a child that is written
 
@@ -277,11 +255,8 @@ written_by t r place a other row col false h at there lies e =
     let apart : number t.parts other ≡ number t.parts place → ⊥ = λ k.
     let same = number-alone t.parts other place (subst (λ (x : Parts). IsPlace x other) (sym h.parts) there) (subst (λ (x : Parts). IsPlace x place) (sym h.parts) at) k in
     let yes : holds (child_rect r place) row col ≡ true = holds-true (child_rect r place) row col (subst (λ x. Holds (child_rect r x) row col) same lies) in
-    contrary (holds (child_rect r place) row col) yes e in
+    both_ways (holds (child_rect r place) row col) e yes in
     h.valued other row col there lies ∙ sym (get_or-set_other t.valued (number t.parts place) (number t.parts other) true false apart)
-  where
-    contrary : (b : Bool) → b ≡ true → b ≡ false → ⊥
-    contrary b e f = absurd (cc)
 
 pub tracks-written : (place : ℕ × ℕ) (a : Array) (t : Track) (r : Root) → Tracks t r → IsPlace r.parts place → Tracks (written t place) (with_child place a r)
 tracks-written place a t r h at = record {

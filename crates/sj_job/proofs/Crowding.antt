@@ -3,7 +3,7 @@ use Rattle.std.proofs.Common.{◌≡◌, ◌⊎◌, inl, inr, ℕ, ◌+◌, ◌-
 use Rattle.std.specs.Prelude.{nat_le, nat_lt}
 use Rattle.std.specs.List.{list_all, list_any, position_or_len, slice_split, onto_first}
 use Rattle.std.proofs.lemmas.Bool.Decides.{nat_tests}
-use Rattle.std.proofs.lemmas.List.{append-nil, length-append, length-map, take_all}
+use Rattle.std.proofs.lemmas.List.{length-append, length-map, take_all}
 use Rattle.std.proofs.lemmas.List.Folds.{list_all-append, list_any-append}
 use Rattle.std.proofs.lemmas.List.Splits.{slice_split_first}
 use Rattle.sj_base.proofs.Bools.{and_true}
@@ -61,9 +61,6 @@ or-false false = refl
 six-more : (n : ℕ) → up_to_six (up_to_six n + 1) ≡ up_to_six (n + 1)
 six-more n = grind (arith, nat_tests)
 
-pub up_to_six-le : (n : ℕ) → up_to_six n ≤ 6
-up_to_six-le n = grind (arith, nat_tests)
-
 -- one operand more
 pub crowd-more : (s : Scope) (os : List OperandForm) (o : OperandForm) (c d : Crowd) → c ≡ crowd_of s os → d.numbered ≡ (c.numbered && are_counts o.child) → d.unknown ≡ (c.unknown || is_unknown s o.name) → d.ended ≡ (c.ended || is_ended s o.name) → d.count ≡ up_to_six (c.count + 1) → d ≡ crowd_of s (os ++ o ∷ [])
 crowd-more s os o c d is numbered unknown ended count =
@@ -96,32 +93,6 @@ shown-more s c d w ws rest all o h cut e more = record {
   crowd = more h.front h.crowd;
   said = sym (walk-more h.front w (with_priority ws).0 (with_priority ws).1 o e) ∙ sym (ap (said_after h.front) cut) ∙ h.said;
 }
-
-abbrev shown_of : Scope → Option (List OperandForm × Option (List ℕ)) → Option (Crowd × Option (List ℕ))
-shown_of s o = option_map {U = Crowd × Option (List ℕ)} (λ q. (crowd_of s q.0, q.1)) o
-
-shown-whole : (s : Scope) (ws : List (List ℕ)) → shown_of s (said_after [] (with_priority ws)) ≡ shown_in s ws
-shown-whole s ws = onto (each_some operand_of (with_priority ws).0)
-  where
-    onto : (o : Option (List OperandForm)) → shown_of s (option_map {U = List OperandForm × Option (List ℕ)} (λ os. (os, (with_priority ws).1)) o) ≡ option_map {U = Crowd × Option (List ℕ)} (λ os. (crowd_of s os, (with_priority ws).1)) o
-    onto None = refl
-    onto (Some os) = refl
-
--- no operand follows
-pub shown-end : (s : Scope) (c : Crowd) (rest ws : List (List ℕ)) (p : Option (List ℕ)) → IsShown s c rest ws → with_priority rest ≡ ([], p) → Some (c, p) ≡ shown_in s ws
-shown-end s c rest ws p h e =
-    ap (λ (c : Crowd). Some (c, p)) (h.crowd ∙ ap (crowd_of s) (sym (append-nil h.front)))
-    ∙ sym (ap (λ q. shown_of s (said_after h.front q)) e)
-    ∙ ap (shown_of s) h.said
-    ∙ shown-whole s ws
-
--- the next word is no operand
-pub shown-none : (s : Scope) (c : Crowd) (w : List ℕ) (rest ws all : List (List ℕ)) (p : Option (List ℕ)) → IsShown s c rest all → with_priority rest ≡ (w ∷ ws, p) → operand_of w ≡ None → None ≡ shown_in s all
-shown-none s c w rest ws all p h cut e =
-    sym (ap (λ (o : Option OperandForm). shown_of s (option_map {U = List OperandForm × Option (List ℕ)} (λ os. (h.front ++ os, p)) (elim o as (λ _. Option (List OperandForm)) [ None ↦ None | Some y ↦ option_map (λ ys. y ∷ ys) (each_some operand_of ws) ]))) e)
-    ∙ sym (ap (λ q. shown_of s (said_after h.front q)) cut)
-    ∙ ap (shown_of s) h.said
-    ∙ shown-whole s all
 
 -- ---- what shows in the list
 

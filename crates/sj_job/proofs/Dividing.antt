@@ -9,6 +9,7 @@ use Rattle.std.proofs.lemmas.List.{take_all, drop_all, append-nil, replicate_mor
 use Rattle.std.proofs.lemmas.List.Elements.{filter-append}
 use Rattle.std.proofs.lemmas.List.Folds.{list_all-append}
 use Rattle.std.proofs.lemmas.List.Splits.{slice_split-cons_yes, slice_split-cons_no}
+use Rattle.sj_base.proofs.Bools.{and_true}
 use Rattle.sj_job.specs.Word.{words, is_blank, is_empty, is_allowed, CutsOff}
 
 -- the parts that have bytes
@@ -168,10 +169,6 @@ parts-blank (b ∷ bs) c e = parts-more b c bs (is_blank b) refl (parts-blank bs
 pub words-before_blank : (line front : List ℕ) (c : ℕ) → line ≡ front ++ c ∷ [] → is_blank c ≡ true → words front ≡ words line
 words-before_blank line front c at e =
     sym (ap words at ∙ ap full (parts-blank front c e) ∙ filter-append (λ w. not (is_empty w)) (parts_of front) ([] ∷ []) ∙ append-nil (words front))
-
-and_true : (b : Bool) → (b && true) ≡ b
-and_true true = refl
-and_true false = refl
 
 blank-allowed : (c : ℕ) (t : Bool) → is_blank c ≡ t → t ≡ true → is_allowed c ≡ true
 blank-allowed c t e f = ap (λ b. b || (nat_lt 32 c && nat_lt c 127)) (e ∙ f)

@@ -1,9 +1,10 @@
 -- Going over a list, one element more.
-use Rattle.std.proofs.Common.{◌≡◌, ℕ, zero, suc, ◌&&◌, Bool, true, false, take, ◌+◌, ◌<◌, List, [], ◌∷◌, ◌++◌, length, get_or, drop, map, refl, ap, ◌∙◌, sym, arith, Option, Some, None, option_map, append_assoc}
+use Rattle.std.proofs.Common.{◌≡◌, ℕ, suc, ◌&&◌, Bool, true, take, ◌+◌, ◌<◌, List, [], ◌∷◌, ◌++◌, length, get_or, drop, refl, ap, ◌∙◌, sym, arith, Option, Some, None, option_map, append_assoc}
 use Rattle.std.proofs.Math.Seq.{drop-cons}
 use Rattle.std.specs.List.{list_all}
-use Rattle.std.proofs.lemmas.List.{get_or-map, get_or_default, length-map, take_more, take-map, map-append}
+use Rattle.std.proofs.lemmas.List.{get_or_default, take_more}
 use Rattle.std.proofs.lemmas.List.Folds.{list_all-append}
+use Rattle.std.proofs.lemmas.Bool.{and_from}
 use Rattle.sj_job.specs.Form.{each_some}
 
 -- the tail of a list begins with the element there
@@ -43,34 +44,4 @@ each_none_at f xs i d front lt e = each_none f xs i (get_or xs i d) front lt (ge
 -- ---- a test of each
 
 pub all_more : {A : Type 0} (p : A → Bool) (xs : List A) (i : ℕ) (d : A) → i < length xs → list_all p (take i xs) ≡ true → p (get_or xs i d) ≡ true → list_all p (take (i + 1) xs) ≡ true
-all_more p xs i d lt h e = ap (list_all p) (take_more xs i d lt) ∙ list_all-append p (take i xs) (get_or xs i d ∷ []) ∙ both (list_all p (take i xs)) (p (get_or xs i d) && true) h (both (p (get_or xs i d)) true e refl)
-  where
-    both : (b c : Bool) → b ≡ true → c ≡ true → (b && c) ≡ true
-    both true c f g = g
-    both false c f g = absurd (cc)
-
--- where one fails, not all pass
-pub all_fails : {A : Type 0} (p : A → Bool) (xs : List A) (i : ℕ) (d : A) → i < length xs → p (get_or xs i d) ≡ false → list_all p xs ≡ false
-all_fails p [] i d lt e = absurd (omega arith)
-all_fails p (x ∷ xs) zero d lt e = ap (λ b. b && list_all p xs) e
-all_fails p (x ∷ xs) (suc i) d lt e = either (p x) (list_all p xs) (all_fails p xs i d (omega arith) e)
-  where
-    either : (b c : Bool) → c ≡ false → (b && c) ≡ false
-    either true c h = h
-    either false c h = refl
-
--- the same over what v reads of the elements
-pub all_more_of : {W A : Type 0} (p : A → Bool) (v : W → A) (ws : List W) (i : ℕ) (d : W) → i < length ws → list_all p (map v (take i ws)) ≡ true → p (v (get_or ws i d)) ≡ true → list_all p (map v (take (i + 1) ws)) ≡ true
-all_more_of p v ws i d lt h e =
-    let lt' : i < length (map v ws) = rw (length-map ws v) lt in
-    ap (list_all p) (sym (take-map v (i + 1) ws))
-    ∙ all_more p (map v ws) i (v (get_or ws i d)) lt' (ap (list_all p) (take-map v i ws) ∙ h) (ap p (get_or-map v ws i d (v (get_or ws i d)) lt) ∙ e)
-
-pub all_fails_of : {W A : Type 0} (p : A → Bool) (v : W → A) (ws : List W) (i : ℕ) (d : W) → i < length ws → p (v (get_or ws i d)) ≡ false → list_all p (map v ws) ≡ false
-all_fails_of p v ws i d lt e =
-    let lt' : i < length (map v ws) = rw (length-map ws v) lt in
-    all_fails p (map v ws) i (v (get_or ws i d)) lt' (ap p (get_or-map v ws i d (v (get_or ws i d)) lt) ∙ e)
-
-pub map_more_of : {W A B : Type 0} (f : A → B) (v : W → A) (ws : List W) (i : ℕ) (d : W) → i < length ws → map f (map v (take (i + 1) ws)) ≡ map f (map v (take i ws)) ++ f (v (get_or ws i d)) ∷ []
-map_more_of f v ws i d lt =
-    ap (λ us. map f (map v us)) (take_more ws i d lt) ∙ ap (map f) (map-append v (take i ws) (get_or ws i d ∷ [])) ∙ map-append f (map v (take i ws)) (v (get_or ws i d) ∷ [])
+all_more p xs i d lt h e = ap (list_all p) (take_more xs i d lt) ∙ list_all-append p (take i xs) (get_or xs i d ∷ []) ∙ and_from (list_all p (take i xs)) (p (get_or xs i d) && true) h (and_from (p (get_or xs i d)) true e refl)

@@ -5,6 +5,8 @@ use Rattle.std.proofs.Math.Seq.{drop-cons}
 use Rattle.std.proofs.lemmas.List.{get_or-drop, take-append-drop}
 use Rattle.std.proofs.lemmas.Bool.Decides.{Decides-eqb}
 use Rattle.std.specs.Option.{MatchOption}
+use Rattle.std.proofs.lemmas.Bool.{not-true, and_parts}
+use Rattle.sj_base.proofs.Bools.{nat_eq-itself}
 use Rattle.memchr.specs.Find.{IsLastByte, Nowhere, Passes, is_byte}
 use Rattle.sj_job.specs.Form.{around_last, priority_of, with_priority}
 
@@ -35,25 +37,14 @@ last-place b w (Some at) found = (found.0.high, (Decides-eqb (get_or w at 0) b).
 abbrev onto : ℕ → Bool → List ℕ → Option (List ℕ × List ℕ) → Option (List ℕ × List ℕ)
 onto c t w o = elim o as (λ _. Option (List ℕ × List ℕ)) [ Some p ↦ Some (c ∷ p.0, p.1) | None ↦ cond t (Some ([], w)) None ]
 
-both : (x y : Bool) → (x && y) ≡ true → (x ≡ true) × (y ≡ true)
-both true y e = (refl, e)
-both false y e = absurd (cc)
-
-is_false : (t : Bool) → not t ≡ true → t ≡ false
-is_false true e = absurd (cc)
-is_false false e = refl
-
 pub around-none : (b : ℕ) (w : List ℕ) → list_all (λ c. not (nat_eq c b)) w ≡ true → around_last b w ≡ None
 around-none b [] h = refl
 around-none b (c ∷ w) h =
-    let q = both (not (nat_eq c b)) (list_all (λ c. not (nat_eq c b)) w) h in
-    ap (onto c (nat_eq c b) w) (around-none b w q.1) ∙ ap (λ t. onto c t w None) (is_false (nat_eq c b) q.0)
-
-same_byte : (b : ℕ) → nat_eq b b ≡ true
-same_byte b = (Decides-eqb b b).1 refl
+    let q = and_parts (not (nat_eq c b)) (list_all (λ c. not (nat_eq c b)) w) h in
+    ap (onto c (nat_eq c b) w) (around-none b w q.1) ∙ ap (λ t. onto c t w None) (not-true (nat_eq c b) q.0)
 
 pub around-at : (b : ℕ) (front back : List ℕ) → list_all (λ c. not (nat_eq c b)) back ≡ true → around_last b (front ++ b ∷ back) ≡ Some (front, back)
-around-at b [] back h = ap (onto b (nat_eq b b) back) (around-none b back h) ∙ ap (λ t. onto b t back None) (same_byte b)
+around-at b [] back h = ap (onto b (nat_eq b b) back) (around-none b back h) ∙ ap (λ t. onto b t back None) (nat_eq-itself b)
 around-at b (c ∷ front) back h = ap (onto c (nat_eq c b) (front ++ b ∷ back)) (around-at b front back h)
 
 -- the same by the place of the byte
@@ -85,7 +76,7 @@ around-joins b (c ∷ w) front back e = around_by b c w front back (around_last 
 
 -- ---- the last word
 
-abbrev ended_by : List ℕ → Option (List ℕ) → List (List ℕ) × Option (List ℕ)
+abbrev pub ended_by : List ℕ → Option (List ℕ) → List (List ℕ) × Option (List ℕ)
 ended_by w o = elim o as (λ _. List (List ℕ) × Option (List ℕ)) [ Some p ↦ ([], Some p) | None ↦ (w ∷ [], None) ]
 
 pub priority-last : (ws : List (List ℕ)) (w p : List ℕ) → priority_of w ≡ Some p → with_priority (ws ++ w ∷ []) ≡ (ws, Some p)

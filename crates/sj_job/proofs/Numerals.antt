@@ -1,25 +1,24 @@
 -- Words that say numbers: the decimal of a number says it, and each number that a word says is within i64.
-use Rattle.std.proofs.Common.{◌≡◌, ℕ, zero, suc, ◌+◌, ◌<◌, ◌≤◌, Bool, true, false, not, cond, ◌&&◌, ◌||◌, Option, Some, None, is_some, List, [], ◌∷◌, ℤ, pos, negsuc, unwrap_or, length, codes, nat_eq, refl, ap, ◌∙◌, arith, bytes_eq}
+use Rattle.std.proofs.Common.{◌≡◌, ℕ, zero, suc, ◌<◌, ◌≤◌, Bool, true, false, not, cond, ◌&&◌, ◌||◌, Option, Some, None, is_some, List, [], ◌∷◌, ℤ, pos, negsuc, unwrap_or, length, codes, nat_eq, refl, ap, ◌∙◌, arith, bytes_eq}
 use Rattle.std.specs.Prelude.{nat_le, nat_lt, ◌^◌}
 use Rattle.std.specs.Char.{is_ascii_digit}
 use Rattle.std.specs.Fmt.{decimal}
 use Rattle.std.specs.List.{list_all}
 use Rattle.std.specs.Str.Parse.{digits_value}
-use Rattle.std.proofs.lemmas.Bool.{le-leb, lt-ltb}
+use Rattle.std.proofs.lemmas.Bool.{le-leb, lt-ltb, and_from, and_parts}
 use Rattle.std.proofs.lemmas.Bool.Decides.{nat_tests}
 use Rattle.std.proofs.lemmas.Fmt.{decimal_nonempty, digits_decimal, digits_value-decimal}
 use Rattle.sj_codelet.specs.MinPlus.{inf}
 use Rattle.sj_job.specs.Form.{is_bracket}
 use Rattle.sj_job.specs.Grammar.{is_piece}
-use Rattle.sj_job.specs.Word.{count_of, integer_of, is_count, is_digits, is_empty, is_integer, negative, negative_of}
+use Rattle.sj_job.specs.Word.{count_of, integer_of, is_count, is_digits, is_empty, negative, negative_of}
 use Rattle.sj_job.proofs.Digits.{own}
-use Rattle.sj_job.proofs.Spelling.{both_true, true_both}
 
 -- what all pass, they pass a weaker test too
 pub all-weaker : {X : Type 0} (s t : X → Bool) → ((x : X) → s x ≡ true → t x ≡ true) → (xs : List X) → list_all s xs ≡ true → list_all t xs ≡ true
 all-weaker s t h [] all = refl
 all-weaker s t h (x ∷ xs) all =
-    let both = both_true (s x) (list_all s xs) all in true_both (t x) (list_all t xs) (h x both.0) (all-weaker s t h xs both.1)
+    let both = and_parts (s x) (list_all s xs) all in and_from (t x) (list_all t xs) (h x both.0) (all-weaker s t h xs both.1)
 
 -- ---- decimal numbers
 
@@ -31,7 +30,7 @@ some-digit [] h = absurd (omega arith)
 some-digit (d ∷ ds) h = grind (arith, nat_tests)
 
 pub are-digits : (n : ℕ) → n < 2 ^ 64 → is_digits (decimal n) ≡ true
-are-digits n h = true_both (not (is_empty (decimal n))) (list_all is_ascii_digit (decimal n)) (some-digit (decimal n) (decimal_nonempty n h)) (all-digits n h)
+are-digits n h = and_from (not (is_empty (decimal n))) (list_all is_ascii_digit (decimal n)) (some-digit (decimal n) (decimal_nonempty n h)) (all-digits n h)
 
 chosen : (a : Bool) (v n : ℕ) → a ≡ true → v ≡ n → nat_lt n (2 ^ 63) ≡ true → cond (a && nat_lt v (2 ^ 63)) (Some v) None ≡ Some n
 chosen true v n e g h = ap (λ m. cond (nat_lt m (2 ^ 63)) (Some m) None) g ∙ ap (λ b. cond b (Some n) None) h
@@ -57,7 +56,7 @@ digit-no_i c b h = grind (arith, nat_tests)
 
 no-inf : (ds : List ℕ) → list_all is_ascii_digit ds ≡ true → bytes_eq ds (codes "inf") ≡ false
 no-inf [] h = refl
-no-inf (c ∷ cs) h = digit-no_i c (bytes_eq cs (codes "nf")) (both_true (is_ascii_digit c) (list_all is_ascii_digit cs) h).0
+no-inf (c ∷ cs) h = digit-no_i c (bytes_eq cs (codes "nf")) (and_parts (is_ascii_digit c) (list_all is_ascii_digit cs) h).0
 
 read : (b : Bool) (o : Option ℕ) (n : ℕ) (other : Option ℤ) → b ≡ false → o ≡ Some n → cond b (Some inf) (elim o as (λ _. Option ℤ) [ Some n ↦ Some (pos n) | None ↦ other ]) ≡ Some (pos n)
 read true o n other e f = absurd (cc)
@@ -65,9 +64,6 @@ read false o n other e f = ap (λ (o : Option ℕ). elim o as (λ _. Option ℤ)
 
 pub decimal-integer : (n : ℕ) → n < 2 ^ 63 → integer_of (decimal n) ≡ Some (pos n)
 decimal-integer n h = read (bytes_eq (decimal n) (codes "inf")) (count_of (decimal n)) n (negative_of (decimal n)) (no-inf (decimal n) (all-digits n (omega (arith, h)))) (decimal-count n h)
-
-pub decimal-is_integer : (n : ℕ) → n < 2 ^ 63 → is_integer (decimal n) ≡ true
-decimal-is_integer n h = ap (λ (o : Option ℤ). is_some o) (decimal-integer n h)
 
 -- ---- `-` and a number
 
@@ -88,7 +84,7 @@ minus-integer n h =
 -- ---- what any word says
 
 counted : (t a : Bool) (v : ℕ) → (a && nat_lt v (2 ^ 63)) ≡ t → unwrap_or (cond t (Some v) None) 0 < 2 ^ 63
-counted true a v e = let h = (both_true a (nat_lt v (2 ^ 63)) e).1 in grind (arith, nat_tests, h)
+counted true a v e = let h = (and_parts a (nat_lt v (2 ^ 63)) e).1 in grind (arith, nat_tests, h)
 counted false a v e = omega arith
 
 -- a count is below 2^63, also that of a word that says none
@@ -105,7 +101,7 @@ minus-fits zero h = omega arith
 minus-fits (suc m) h = omega (arith, h)
 
 minus-by : (t a : Bool) (v : ℕ) → (a && nat_le v (2 ^ 63)) ≡ t → IsI64 (unwrap_or (cond t (Some (negative v)) None) (pos 0))
-minus-by true a v e = minus-fits v (let h = (both_true a (nat_le v (2 ^ 63)) e).1 in grind (arith, nat_tests, h))
+minus-by true a v e = minus-fits v (let h = (and_parts a (nat_le v (2 ^ 63)) e).1 in grind (arith, nat_tests, h))
 minus-by false a v e = omega arith
 
 minus-of : (w : List ℕ) → IsI64 (unwrap_or (negative_of w) (pos 0))

@@ -1,22 +1,23 @@
 -- Names and the roots that they stand for.
-use Rattle.std.proofs.Common.{◌≡◌, ℕ, ◌+◌, ◌<◌, ◌≤◌, Bool, true, false, not, List, [], ◌∷◌, ◌++◌, length, map, get_or, nat_eq, nat_lt, position, Option, Some, None, option_map, cond, refl, ap, sym, subst, ◌∙◌, arith, length-append, get_or-set_same, get_or-set_other, bytes_eq}
+use Rattle.std.proofs.Common.{◌≡◌, ℕ, ◌+◌, ◌<◌, ◌≤◌, Bool, true, false, not, List, [], ◌∷◌, ◌++◌, length, get_or, nat_eq, nat_lt, position, Option, Some, None, option_map, cond, refl, ap, sym, subst, ◌∙◌, arith, length-append, get_or-set_same, get_or-set_other, bytes_eq}
 use Rattle.std.proofs.Math.ListN.{set}
 use Rattle.std.proofs.Math.Seq.{get_or-append_seam}
 use Rattle.std.specs.List.{position_or_len}
-use Rattle.std.proofs.lemmas.List.{length-map, get_or_append_left}
+use Rattle.std.proofs.lemmas.List.{get_or_append_left}
 use Rattle.std.proofs.lemmas.List.Folds.{position_or_len_push}
 use Rattle.std.proofs.lemmas.List.Sums.{prefix_len-le-length}
 use Rattle.std.proofs.lemmas.List.Quantifiers.{position-Some}
-use Rattle.std.proofs.lemmas.Slice.Eq.{bytes_eq-Decides}
 use Rattle.std.proofs.lemmas.Bool.Decides.{nat_tests}
+use Rattle.std.proofs.lemmas.Bool.{both_ways}
 use Rattle.sj_base.specs.declared.ids.Root.{Root}
 use Rattle.sj_base.specs.declared.tile.Dims.{Dims}
+use Rattle.sj_base.proofs.Texts.{same_text}
 use Rattle.sj_meaning.specs.declared.job.RootInfo.{RootInfo}
 use Rattle.sj_job.specs.declared.names.Standing.{Standing}
 use Rattle.sj_job.specs.declared.names.Standing.TheVariants.{Ended}
 use Rattle.sj_job.specs.Names.{Found}
 use Rattle.sj_meaning.specs.Table.{Table, a_root, name_of, no_info, info_of, root_in, IsRoot, with_root}
-use Rattle.sj_meaning.proofs.Finding.{is-at, same-text, text-itself}
+use Rattle.sj_meaning.proofs.Finding.{is-at, text-itself}
 
 -- ---- how it stands with a name
 
@@ -29,21 +30,18 @@ a_found r d st = record { root = r; dims = d; standing = st }
 abbrev pub found_with : Table → List Standing → List ℕ → Option Found
 found_with T sts q = option_map (entry T sts) (root_in T q)
 
-contrary : (b : Bool) → b ≡ true → b ≡ false → ⊥
-contrary b e f = absurd (cc)
-
 -- another standing of one root
 set_by : (T : Table) (sts : List Standing) (r : Root) (st : Standing) (q : List ℕ) (o : Option Root) (b : Bool) → IsRoot T r → r.0 < length sts → root_in T q ≡ o → bytes_eq q (name_of T r) ≡ b
     → option_map (entry T (set sts r.0 st)) o ≡ cond b (Some (a_found r (info_of T r).dims st)) (option_map (entry T sts) o)
-set_by T sts r st q None true h lt e t = absurd (let same : root_in T q ≡ Some r = ap (root_in T) (same-text q (name_of T r) t) ∙ h in cc)
+set_by T sts r st q None true h lt e t = absurd (let same : root_in T q ≡ Some r = ap (root_in T) (same_text q (name_of T r) t) ∙ h in cc)
 set_by T sts r st q None false h lt e t = refl
 set_by T sts r st q (Some s) true h lt e t =
-    let found : root_in T q ≡ Some r = ap (root_in T) (same-text q (name_of T r) t) ∙ h in
+    let found : root_in T q ≡ Some r = ap (root_in T) (same_text q (name_of T r) t) ∙ h in
     let same : s ≡ r = cc in
     ap (λ (u : Root). Some (entry T (set sts r.0 st) u)) same
     ∙ ap (λ (x : Standing). Some (a_found r (info_of T r).dims x)) (get_or-set_same sts r.0 st Ended lt)
 set_by T sts r st q (Some s) false h lt e t =
-    let other : s.0 ≡ r.0 → ⊥ = λ k. contrary (bytes_eq q (name_of T r)) (text-itself q (name_of T r) (sym (is-at T q s e).named ∙ ap (λ n. get_or T.names n []) k)) t in
+    let other : s.0 ≡ r.0 → ⊥ = λ k. both_ways (bytes_eq q (name_of T r)) t (text-itself q (name_of T r) (sym (is-at T q s e).named ∙ ap (λ n. get_or T.names n []) k)) in
     ap (λ (x : Standing). Some (a_found s (info_of T s).dims x)) (get_or-set_other sts r.0 s.0 st Ended other)
 
 pub found-set : (T : Table) (sts : List Standing) (r : Root) (st : Standing) (q : List ℕ) → IsRoot T r → r.0 < length sts
@@ -105,7 +103,7 @@ push_by : (T : Table) (sts : List Standing) (name : List ℕ) (info : RootInfo) 
     → position (bytes_eq q) T.names ≡ o → bytes_eq q name ≡ b
     → found_with (with_root name info T) (sts ++ st ∷ []) q ≡ cond b (Some (a_found (a_root (length T.names)) info.dims st)) (option_map (entry T sts) (option_map a_root o))
 push_by T sts name info st q (Some i) true k l none p t =
-    absurd (let gone : root_in T q ≡ None = ap (root_in T) (same-text q name t) ∙ none in let there : root_in T q ≡ Some (a_root i) = ap (option_map a_root) p in cc)
+    absurd (let gone : root_in T q ≡ None = ap (root_in T) (same_text q name t) ∙ none in let there : root_in T q ≡ Some (a_root i) = ap (option_map a_root) p in cc)
 push_by T sts name info st q (Some i) false k l none p t =
     let lt : i < length T.names = (position-Some (bytes_eq q) T.names i [] p).0 in
     let in_infos : i < length T.infos = omega arith in

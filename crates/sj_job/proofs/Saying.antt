@@ -8,6 +8,7 @@ use Rattle.std.proofs.lemmas.List.Folds.{list_all-append}
 use Rattle.std.proofs.lemmas.List.Splits.{join_with_byte-slice_split, length-slice_split}
 use Rattle.std.proofs.lemmas.Slice.Eq.{bytes_eq-Decides}
 use Rattle.std.proofs.lemmas.Bool.Decides.{nat_tests}
+use Rattle.std.proofs.lemmas.Bool.{and_from, or_left, and_parts, eq-eqb}
 use Rattle.sj_base.specs.declared.mode.Mode.{Mode}
 use Rattle.sj_base.specs.declared.mode.Mode.TheVariants.{R, W, RW, Scratch, Redux, Commute}
 use Rattle.sj_base.specs.declared.mode.Policy.{Policy}
@@ -18,8 +19,8 @@ use Rattle.sj_job.specs.declared.form.OperandForm.{OperandForm}
 use Rattle.sj_job.specs.Word.{is_name, is_letter, is_letter_or_digit}
 use Rattle.sj_job.specs.Form.{policy_word, reduction_word, mode_word, policy_of, reduction_of, mode_of, is_bracket, ends_with, without_last, pieces_of, bracketed, around_last, child_of, operand_with, operand_of, priority_of, with_priority}
 use Rattle.sj_job.specs.Grammar.{bracketed_word, child_pieces, operand_word, priority_words, is_piece, is_proper_operand}
-use Rattle.sj_job.proofs.Last.{around-at, around-joins, priority-last}
-use Rattle.sj_job.proofs.Spelling.{both_true, true_both, some_from, Reads, word-found, position-at, before-at, after-at, before-none, divided, is-whole, is-part, not-in-name, last-byte, without-last, ends-with}
+use Rattle.sj_job.proofs.Last.{around-at, around-joins, priority-last, ended_by}
+use Rattle.sj_job.proofs.Spelling.{some_from, Reads, word-found, position-at, before-at, after-at, before-none, divided, is-whole, is-part, not-in-name, last-byte, without-last, ends-with}
 
 -- ---- modes, policies, reductions
 
@@ -69,10 +70,10 @@ not_either false true h = absurd (cc)
 not_either false false h = (refl, refl)
 
 onto-piece : (b : ℕ) (ps : List (List ℕ)) → is_comma b ≡ false → no_bracket b ≡ true → list_all is_piece ps ≡ true → list_all is_piece (onto_first b ps) ≡ true
-onto-piece b [] e h k = true_both (is_piece (b ∷ [])) true (true_both (not (is_bracket b || is_comma b)) true (neither (is_comma b) (is_bracket b) e h) refl) refl
+onto-piece b [] e h k = and_from (is_piece (b ∷ [])) true (and_from (not (is_bracket b || is_comma b)) true (neither (is_comma b) (is_bracket b) e h) refl) refl
 onto-piece b (p ∷ ps) e h k =
-    let q = both_true (is_piece p) (list_all is_piece ps) k in
-    true_both (is_piece (b ∷ p)) (list_all is_piece ps) (true_both (not (is_bracket b || is_comma b)) (is_piece p) (neither (is_comma b) (is_bracket b) e h) q.0) q.1
+    let q = and_parts (is_piece p) (list_all is_piece ps) k in
+    and_from (is_piece (b ∷ p)) (list_all is_piece ps) (and_from (not (is_bracket b || is_comma b)) (is_piece p) (neither (is_comma b) (is_bracket b) e h) q.0) q.1
 
 cut-piece : (b : ℕ) (ps : List (List ℕ)) (t : Bool) → is_comma b ≡ t → no_bracket b ≡ true → list_all is_piece ps ≡ true → list_all is_piece (cond t ([] ∷ ps) (onto_first b ps)) ≡ true
 cut-piece b ps true e h k = k
@@ -82,41 +83,41 @@ cut-piece b ps false e h k = onto-piece b ps e h k
 split-pieces : (text : List ℕ) → list_all no_bracket text ≡ true → list_all is_piece (slice_split is_comma text) ≡ true
 split-pieces [] h = refl
 split-pieces (b ∷ text) h =
-    let q = both_true (no_bracket b) (list_all no_bracket text) h in
+    let q = and_parts (no_bracket b) (list_all no_bracket text) h in
     cut-piece b (slice_split is_comma text) (is_comma b) refl q.0 (split-pieces text q.1)
 
 split-one : (p : List ℕ) → is_piece p ≡ true → slice_split is_comma p ≡ p ∷ []
 split-one [] h = refl
 split-one (b ∷ p) h =
-    let q = both_true (not (is_bracket b || is_comma b)) (is_piece p) h in
+    let q = and_parts (not (is_bracket b || is_comma b)) (is_piece p) h in
     ap (λ t. cond t ([] ∷ slice_split is_comma p) (onto_first b (slice_split is_comma p))) (not_either (is_comma b) (is_bracket b) q.0).0
     ∙ ap (onto_first b) (split-one p q.1)
 
 split-first : (p rest : List ℕ) → is_piece p ≡ true → slice_split is_comma (p ++ 44 ∷ rest) ≡ p ∷ slice_split is_comma rest
 split-first [] rest h = refl
 split-first (b ∷ p) rest h =
-    let q = both_true (not (is_bracket b || is_comma b)) (is_piece p) h in
+    let q = and_parts (not (is_bracket b || is_comma b)) (is_piece p) h in
     ap (λ t. cond t ([] ∷ slice_split is_comma (p ++ 44 ∷ rest)) (onto_first b (slice_split is_comma (p ++ 44 ∷ rest)))) (not_either (is_comma b) (is_bracket b) q.0).0
     ∙ ap (onto_first b) (split-first p rest q.1)
 
 split-joined : (p : List ℕ) (ps : List (List ℕ)) → list_all is_piece (p ∷ ps) ≡ true → slice_split is_comma (join_with_byte 44 (p ∷ ps)) ≡ p ∷ ps
-split-joined p [] h = split-one p (both_true (is_piece p) true h).0
+split-joined p [] h = split-one p (and_parts (is_piece p) true h).0
 split-joined p (r ∷ ps) h =
-    let q = both_true (is_piece p) (list_all is_piece (r ∷ ps)) h in
+    let q = and_parts (is_piece p) (list_all is_piece (r ∷ ps)) h in
     split-first p (join_with_byte 44 (r ∷ ps)) q.0 ∙ ap (λ l. p ∷ l) (split-joined r ps q.1)
 
 unbracketed : (p : List ℕ) → is_piece p ≡ true → list_all no_bracket p ≡ true
 unbracketed [] h = refl
 unbracketed (b ∷ p) h =
-    let q = both_true (not (is_bracket b || is_comma b)) (is_piece p) h in
-    true_both (no_bracket b) (list_all no_bracket p) (not_either (is_comma b) (is_bracket b) q.0).1 (unbracketed p q.1)
+    let q = and_parts (not (is_bracket b || is_comma b)) (is_piece p) h in
+    and_from (no_bracket b) (list_all no_bracket p) (not_either (is_comma b) (is_bracket b) q.0).1 (unbracketed p q.1)
 
 unbracketed-joined : (p : List ℕ) (ps : List (List ℕ)) → list_all is_piece (p ∷ ps) ≡ true → list_all no_bracket (join_with_byte 44 (p ∷ ps)) ≡ true
-unbracketed-joined p [] h = unbracketed p (both_true (is_piece p) true h).0
+unbracketed-joined p [] h = unbracketed p (and_parts (is_piece p) true h).0
 unbracketed-joined p (r ∷ ps) h =
-    let q = both_true (is_piece p) (list_all is_piece (r ∷ ps)) h in
+    let q = and_parts (is_piece p) (list_all is_piece (r ∷ ps)) h in
     list_all-append no_bracket p (44 ∷ join_with_byte 44 (r ∷ ps))
-    ∙ true_both (list_all no_bracket p) (list_all no_bracket (join_with_byte 44 (r ∷ ps))) (unbracketed p q.0) (unbracketed-joined r ps q.1)
+    ∙ and_from (list_all no_bracket p) (list_all no_bracket (join_with_byte 44 (r ∷ ps))) (unbracketed p q.0) (unbracketed-joined r ps q.1)
 
 -- ---- pieces that a bracket closes
 
@@ -127,7 +128,7 @@ pub record ArePieces (closing : ℕ) (text : List ℕ) (ps : List (List ℕ)) : 
 
 pieces_by : (closing : ℕ) (text : List ℕ) (ps : List (List ℕ)) (t : Bool) → (ends_with closing text && list_all no_bracket (without_last text)) ≡ t → cond t (Some (slice_split is_comma (without_last text))) None ≡ Some ps → ArePieces closing text ps
 pieces_by closing text ps true h e =
-    let q = both_true (ends_with closing text) (list_all no_bracket (without_last text)) h in
+    let q = and_parts (ends_with closing text) (list_all no_bracket (without_last text)) h in
     let inner = without_last text in
     let same : slice_split is_comma inner ≡ ps = cc in
     subst (ArePieces closing text) same (record {
@@ -144,7 +145,7 @@ pieces-back : (closing : ℕ) (p : List ℕ) (ps : List (List ℕ)) → list_all
 pieces-back closing p ps h =
     let inner = join_with_byte 44 (p ∷ ps) in
     ap (λ l. cond (ends_with closing (inner ++ closing ∷ []) && list_all no_bracket l) (Some (slice_split is_comma l)) None) (without-last inner closing)
-    ∙ ap (λ t. cond t (Some (slice_split is_comma inner)) None) (true_both (ends_with closing (inner ++ closing ∷ [])) (list_all no_bracket inner) (ends-with inner closing) (unbracketed-joined p ps h))
+    ∙ ap (λ t. cond t (Some (slice_split is_comma inner)) None) (and_from (ends_with closing (inner ++ closing ∷ [])) (list_all no_bracket inner) (ends-with inner closing) (unbracketed-joined p ps h))
     ∙ ap Some (split-joined p ps h)
 
 -- ---- a name with pieces
@@ -167,7 +168,7 @@ bracketed_by opening closing w p true true n h e =
     let name = before_first (λ c. nat_eq c opening) w in
     let alone : List ℕ × List (List ℕ) = (name, []) in
     let same : alone ≡ p = cc in
-    subst (λ p. (w ≡ word_of opening closing p) × (is_proper_word p ≡ true)) same (sym (is-whole (λ c. nat_eq c opening) w h), true_both (is_name name) true n refl)
+    subst (λ p. (w ≡ word_of opening closing p) × (is_proper_word p ≡ true)) same (sym (is-whole (λ c. nat_eq c opening) w h), and_from (is_name name) true n refl)
 bracketed_by opening closing w p true false n h e =
     let name = before_first (λ c. nat_eq c opening) w in
     let text = after_first (λ c. nat_eq c opening) w in
@@ -175,14 +176,11 @@ bracketed_by opening closing w p true false n h e =
     let q = some_from with_ps (pieces_of closing text) p e in
     let a = pieces-read closing text q.0 q.1.0 in
     subst (λ p. (w ≡ word_of opening closing p) × (is_proper_word p ≡ true)) q.1.1
-    (divided opening w (is-part (λ c. nat_eq c opening) w h) ∙ ap (λ l. name ++ opening ∷ l) a.joined ∙ sym (with-pieces opening closing name q.0 a.some), true_both (is_name name) (list_all is_piece q.0) n a.pieces)
+    (divided opening w (is-part (λ c. nat_eq c opening) w h) ∙ ap (λ l. name ++ opening ∷ l) a.joined ∙ sym (with-pieces opening closing name q.0 a.some), and_from (is_name name) (list_all is_piece q.0) n a.pieces)
 bracketed_by opening closing w p false whole n h e = absurd (cc)
 
 pub bracketed-read : (opening closing : ℕ) (w : List ℕ) (p : List ℕ × List (List ℕ)) → bracketed opening closing w ≡ Some p → (w ≡ word_of opening closing p) × (is_proper_word p ≡ true)
 bracketed-read opening closing w p e = bracketed_by opening closing w p (is_name (before_first (λ c. nat_eq c opening) w)) (nat_eq (length (before_first (λ c. nat_eq c opening) w)) (length w)) refl refl e
-
-same_length : (a b : ℕ) → a ≡ b → nat_eq a b ≡ true
-same_length a b e = grind (arith, nat_tests)
 
 less_length : (a b : ℕ) → a < b → nat_eq a b ≡ false
 less_length a b e = grind (arith, nat_tests)
@@ -193,7 +191,7 @@ bracketed-alone opening closing name free n =
     let ps = pieces_of closing (after_first (λ c. nat_eq c opening) name) in
     ap (λ l. bracketed_from (is_name l) (nat_eq (length l) (length name)) l ps) b
     ∙ ap (λ t. bracketed_from t (nat_eq (length name) (length name)) name ps) n
-    ∙ ap (λ t. bracketed_from true t name ps) (same_length (length name) (length name) refl)
+    ∙ ap (λ t. bracketed_from true t name ps) (eq-eqb (length name) (length name) refl)
 
 bracketed-with : (opening closing : ℕ) (name p : List ℕ) (ps : List (List ℕ)) → list_all (λ c. not (nat_eq c opening)) name ≡ true → nat_eq opening opening ≡ true → is_name name ≡ true → list_all is_piece (p ∷ ps) ≡ true → bracketed opening closing (bracketed_word opening closing name (p ∷ ps)) ≡ Some (name, p ∷ ps)
 bracketed-with opening closing name p ps free same n h =
@@ -210,10 +208,10 @@ bracketed-with opening closing name p ps free same n h =
 
 bracketed-back : (opening closing : ℕ) (name : List ℕ) (ps : List (List ℕ)) → ((n : List ℕ) → is_name n ≡ true → list_all (λ c. not (nat_eq c opening)) n ≡ true) → nat_eq opening opening ≡ true → is_proper_word (name, ps) ≡ true → bracketed opening closing (bracketed_word opening closing name ps) ≡ Some (name, ps)
 bracketed-back opening closing name [] free same h =
-    let q = both_true (is_name name) true h in
+    let q = and_parts (is_name name) true h in
     bracketed-alone opening closing name (free name q.0) q.0
 bracketed-back opening closing name (p ∷ ps) free same h =
-    let q = both_true (is_name name) (list_all is_piece (p ∷ ps)) h in
+    let q = and_parts (is_name name) (list_all is_piece (p ∷ ps)) h in
     bracketed-with opening closing name p ps (free name q.0) same q.0 q.1
 
 -- NAME(..)
@@ -302,19 +300,15 @@ not_not false e = absurd (cc)
 all_letters : (n : List ℕ) → list_all is_letter_or_digit n ≡ true → list_all (λ b. not (not (is_letter_or_digit b))) n ≡ true
 all_letters [] e = refl
 all_letters (b ∷ n) e =
-    let q = both_true (is_letter_or_digit b) (list_all is_letter_or_digit n) e in
-    true_both (not (not (is_letter_or_digit b))) (list_all (λ b. not (not (is_letter_or_digit b))) n) (not_not (is_letter_or_digit b) q.0) (all_letters n q.1)
-
-or_true : (b c : Bool) → b ≡ true → (b || c) ≡ true
-or_true true c e = refl
-or_true false c e = absurd (cc)
+    let q = and_parts (is_letter_or_digit b) (list_all is_letter_or_digit n) e in
+    and_from (not (not (is_letter_or_digit b))) (list_all (λ b. not (not (is_letter_or_digit b))) n) (not_not (is_letter_or_digit b) q.0) (all_letters n q.1)
 
 name_letters : (n : List ℕ) → is_name n ≡ true → list_all is_letter_or_digit n ≡ true
 name_letters [] e = refl
 name_letters (b ∷ n) e =
-    let p = both_true (is_letter b && list_all is_letter_or_digit n) (nat_le (length n) 30) e in
-    let q = both_true (is_letter b) (list_all is_letter_or_digit n) p.0 in
-    true_both (is_letter_or_digit b) (list_all is_letter_or_digit n) (or_true (is_letter b) (is_ascii_digit b) q.0) q.1
+    let p = and_parts (is_letter b && list_all is_letter_or_digit n) (nat_le (length n) 30) e in
+    let q = and_parts (is_letter b) (list_all is_letter_or_digit n) p.0 in
+    and_from (is_letter_or_digit b) (list_all is_letter_or_digit n) (or_left (is_letter b) (is_ascii_digit b) q.0) q.1
 
 odd-behind : (n m : List ℕ) (b : ℕ) → is_name n ≡ true → is_letter_or_digit b ≡ false → first_odd (n ++ b ∷ m) ≡ b
 odd-behind n m b e f =
@@ -345,18 +339,15 @@ unprioritized_by w false h e = refl
 
 unprioritized : (o : OperandForm) → is_proper_operand o ≡ true → priority_of (operand_word o) ≡ None
 unprioritized o h =
-    let q = both_true (is_name o.name) (list_all is_piece (child_pieces o.child)) h in
+    let q = and_parts (is_name o.name) (list_all is_piece (child_pieces o.child)) h in
     unprioritized_by (operand_word o) (starts_with nat_eq (operand_word o) (codes "prio=")) refl (odd-operand o q.0)
-
-abbrev ended_by : List ℕ → Option (List ℕ) → List (List ℕ) × Option (List ℕ)
-ended_by w o = elim o as (λ _. List (List ℕ) × Option (List ℕ)) [ Some p ↦ ([], Some p) | None ↦ (w ∷ [], None) ]
 
 -- operands alone
 unended : (os : List OperandForm) → list_all is_proper_operand os ≡ true → with_priority (map operand_word os) ≡ (map operand_word os, None)
 unended [] h = refl
-unended (o ∷ []) h = ap (ended_by (operand_word o)) (unprioritized o (both_true (is_proper_operand o) true h).0)
+unended (o ∷ []) h = ap (ended_by (operand_word o)) (unprioritized o (and_parts (is_proper_operand o) true h).0)
 unended (o ∷ p ∷ os) h =
-    let q = both_true (is_proper_operand o) (list_all is_proper_operand (p ∷ os)) h in
+    let q = and_parts (is_proper_operand o) (list_all is_proper_operand (p ∷ os)) h in
     ap (λ (r : List (List ℕ) × Option (List ℕ)). (operand_word o ∷ r.0, r.1)) (unended (p ∷ os) q.1)
 
 append_nil : (ws : List (List ℕ)) → ws ++ [] ≡ ws

@@ -11,6 +11,7 @@ use Rattle.sj_base.specs.Array.{Array}
 use Rattle.sj_base.specs.declared.ids.Root.{Root as RootNumber}
 use Rattle.sj_base.specs.declared.mode.Reduction.{Reduction}
 use Rattle.sj_base.specs.declared.tile.Dims.{Dims}
+use Rattle.sj_base.specs.Mode.{is_written}
 use Rattle.sj_plan.specs.declared.parts.Parts.{Parts}
 use Rattle.sj_plan.specs.Parts.{Fits, IsPlace}
 use Rattle.sj_meaning.specs.declared.job.Init.{Init}
@@ -21,7 +22,7 @@ use Rattle.sj_job.specs.declared.names.Standing.TheVariants.{Live, Ended}
 use Rattle.sj_job.specs.declared.names.Names.{Names}
 use Rattle.sj_meaning.specs.Statement.{Operand}
 use Rattle.sj_meaning.specs.State.{Root, State, root_of, start, is_valued, is_blank}
-use Rattle.sj_meaning.specs.Meaning.{no_values, registered_root, register, is_written, written_of, with_parts, with_elements, with_reduction, with_child, change, plan, reduce, put, put_all, invalidate, unregister}
+use Rattle.sj_meaning.specs.Meaning.{no_values, registered_root, register, written_of, with_parts, with_elements, with_reduction, with_child, change, plan, reduce, put, put_all, invalidate, unregister}
 use Rattle.sj_job.specs.Judge.{known_of, scope_of}
 use Rattle.sj_job.specs.Names.{Found, IsCounted, IsPlaceIn, after_write, after_writes, child_written, ended_from, first_standing, found_in, invalidated, is_over, known_by, known_from, plan_in, planned, reduced, scope_in, standing_of}
 use Rattle.sj_meaning.specs.Sound.{IsSoundPlan, IsSoundRegistration}

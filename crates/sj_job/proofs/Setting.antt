@@ -1,11 +1,12 @@
 -- A settings line and the grammar: each form is read from what is written of it, and from nothing else.
 use Rattle.std.proofs.Common.{◌≡◌, ℕ, Bool, true, false, List, [], ◌∷◌, refl, ap, ◌∙◌, Option, Some, None, option_map, cond, bytes_eq, codes}
 use Rattle.sj_base.specs.declared.mode.Policy.{Policy}
+use Rattle.sj_base.proofs.Texts.{same_text}
 use Rattle.sj_job.specs.declared.form.SettingForm.{SettingForm}
 use Rattle.sj_job.specs.declared.form.SettingForm.TheVariants as form
 use Rattle.sj_job.specs.Form.{alone, policy_in, policy_of}
 use Rattle.sj_job.specs.Settings.{setting_of, setting_written}
-use Rattle.sj_job.proofs.Spelling.{some_from, same_word}
+use Rattle.sj_job.proofs.Spelling.{some_from}
 use Rattle.sj_job.proofs.Saying.{policies}
 
 alone-read : (ws : List (List ℕ)) (w : List ℕ) → alone ws ≡ Some w → ws ≡ w ∷ []
@@ -41,7 +42,7 @@ pub setting-read : (ws : List (List ℕ)) (f : SettingForm) → setting_of ws �
 setting-read [] f e = absurd (cc)
 setting-read (w ∷ ws) f e =
     by_word w ws f (bytes_eq w (codes "workers")) (bytes_eq w (codes "node")) (bytes_eq w (codes "policy"))
-    (same_word w (codes "workers")) (same_word w (codes "node")) (same_word w (codes "policy")) e
+    (same_text w (codes "workers")) (same_text w (codes "node")) (same_text w (codes "policy")) e
 
 setting_back : (f : SettingForm) → setting_of (setting_written f) ≡ Some f
 setting_back (form.Workers n) = refl

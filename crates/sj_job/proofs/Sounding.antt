@@ -4,6 +4,7 @@ use Rattle.std.specs.Prelude.{find, is_none}
 use Rattle.std.specs.List.{list_all, list_any}
 use Rattle.std.proofs.lemmas.Bool.Decides.{nat_tests}
 use Rattle.std.proofs.lemmas.Nat.{mul-le}
+use Rattle.std.proofs.lemmas.Bool.{and_from, or_parts, and_parts, not-false}
 use Rattle.sj_base.specs.declared.tile.Dims.{Dims}
 use Rattle.sj_base.specs.declared.program.Codelet.{Codelet}
 use Rattle.sj_base.specs.Array.{area}
@@ -28,34 +29,19 @@ use Rattle.sj_job.specs.declared.form.Form.TheVariants as form
 use Rattle.sj_base.specs.declared.mode.Mode.{Mode}
 use Rattle.sj_base.specs.declared.mode.Reduction.{Reduction}
 use Rattle.sj_base.specs.declared.mode.Mode.TheVariants.{R, W, RW, Scratch, Redux, Commute}
+use Rattle.sj_base.specs.Mode.{is_written}
 use Rattle.sj_meaning.specs.Act.{Register as Registers, Plan, Redux as Reduces, Task, Print, Invalidate, Unregister}
 use Rattle.sj_job.specs.Word.{integer}
 use Rattle.sj_job.specs.Sentence.{rows_of, cols_of, init_said, parts_said, index_said, registered_by, operand_said, operands_said, priority_said, task_said}
 use Rattle.sj_meaning.specs.State.{State, Root, root_of, is_valued, is_blank, is_child, child_rect, is_valued_child}
 use Rattle.sj_job.specs.Judge.{Scope, scope_of, known_of, first_of, unless, judged_by, judged_call, judged_task, judged, kernel_named, register_reasons, line_reasons, print_reasons, name_reasons, plan_reasons, redux_reasons, operand_reasons, has_mixed_outputs, is_unlawful, reduction_known, is_shaped, dims_in, dims_known, is_child_said, is_crowded, is_cut, is_uncut, is_missing, is_lacking, child_lacks_value, is_outside, is_miscounted, is_unknown, is_ended, lacks_value}
 use Rattle.sj_meaning.specs.Sound.{is_lawful_for, is_unordered, modes_fit, is_side, needs_value, is_priority}
-use Rattle.sj_meaning.specs.Meaning.{is_written, written_of}
+use Rattle.sj_meaning.specs.Meaning.{written_of}
 use Rattle.sj_job.specs.Well.{IsAllowed}
 use Rattle.sj_meaning.specs.Sound.{has_root, has_values, child_dims, has_child, has_child_values, is_lawful, reduction_of, InitFits, IsSoundRegistration, IsSoundPlan, IsSoundAct}
 use Rattle.sj_job.proofs.Children.{said-child}
 
 -- ---- tests
-
-and_parts : (b c : Bool) → (b && c) ≡ true → (b ≡ true) × (c ≡ true)
-and_parts true c e = (refl, e)
-and_parts false c e = absurd (cc)
-
-both : (b c : Bool) → b ≡ true → c ≡ true → (b && c) ≡ true
-both true c p q = q
-both false c p q = absurd (cc)
-
-not_false : (b : Bool) → not b ≡ false → b ≡ true
-not_false true e = refl
-not_false false e = absurd (cc)
-
-or_parts : (b c : Bool) → (b || c) ≡ false → (b ≡ false) × (c ≡ false)
-or_parts true c e = absurd (cc)
-or_parts false c e = (refl, e)
 
 -- ---- reasons
 
@@ -99,7 +85,7 @@ few_enough n e = grind (arith, nat_tests)
 
 inside : (rows cols : ℕ) → is_outside rows cols ≡ false → AreInside rows cols
 inside rows cols e =
-    let p = and_parts (is_side rows && is_side cols) (nat_le (rows * cols) 16777216) (not_false _ e) in
+    let p = and_parts (is_side rows && is_side cols) (nat_le (rows * cols) 16777216) (not-false _ e) in
     let q = and_parts (is_side rows) (is_side cols) p.0 in
     record { rows_in = q.0; cols_in = q.1; few = few_enough (rows * cols) p.1 }
 
@@ -126,7 +112,7 @@ part_enough n p e = grind (arith, nat_tests)
 
 pub fits_from : (d : Dims) (p : Parts) → is_crowded p ≡ false → is_uncut d p ≡ false → Fits p d
 fits_from d p crowded uncut =
-    let h = and_parts (is_cut d.rows p.r) (is_cut d.cols p.c) (not_false _ uncut) in
+    let h = and_parts (is_cut d.rows p.r) (is_cut d.cols p.c) (not-false _ uncut) in
     let r = and_parts (nat_le 1 p.r) (nat_le p.r d.rows) h.0 in
     let c = and_parts (nat_le 1 p.c) (nat_le p.c d.cols) h.1 in
     record { some_rows = some_part d.rows p.r r.0; rows = part_enough d.rows p.r r.1; some_cols = some_part d.cols p.c c.0; cols = part_enough d.cols p.c c.1; few = small_enough (p.r * p.c) crowded }
@@ -155,7 +141,7 @@ there n S name e h = root_by (root_of S name) (is_ended (scope_of n S) name) e h
 
 values_by : (o : Option Root) → (elim (option_map known_of o) as (λ _. Bool) [ None ↦ false | Some k ↦ not k.all ]) ≡ false → is_some o ≡ true → (elim o as (λ _. Bool) [ None ↦ false | Some r ↦ is_valued r ]) ≡ true
 values_by None e h = absurd (cc)
-values_by (Some r) e h = not_false (is_valued r) e
+values_by (Some r) e h = not-false (is_valued r) e
 
 valued : (n : ℕ) (S : State) (name : List ℕ) → lacks_value (scope_of n S) name ≡ false → has_root S name ≡ true → has_values S name ≡ true
 valued n S name e h = values_by (root_of S name) e h
@@ -178,7 +164,7 @@ dims_by (Some r) = refl
 
 even_by : (o : Option Root) → (elim (option_map known_of o) as (λ _. Bool) [ None ↦ false | Some k ↦ not (k.all || k.none) ]) ≡ false → is_some o ≡ true → ((elim o as (λ _. Bool) [ None ↦ false | Some r ↦ is_valued r ]) || (elim o as (λ _. Bool) [ None ↦ false | Some r ↦ is_blank r ])) ≡ true
 even_by None e h = absurd (cc)
-even_by (Some r) e h = not_false (is_valued r || is_blank r) e
+even_by (Some r) e h = not-false (is_valued r || is_blank r) e
 
 sound_plan : (n : ℕ) (S : State) (name : List ℕ) (p : Parts) → first_of (plan_reasons (scope_of n S) name p) ≡ None → IsSoundPlan S name p
 sound_plan n S name p e =
@@ -194,7 +180,7 @@ sound_plan n S name p e =
 
 placed_by : (o : Option Root) (index : Option (ℕ × ℕ)) → (elim (option_map known_of o) as (λ _. Bool) [ None ↦ false | Some k ↦ not (is_child_said k.parts index) ]) ≡ false → is_some o ≡ true → (elim o as (λ _. Bool) [ None ↦ false | Some r ↦ is_child r.parts (unwrap_or index (0, 0)) ]) ≡ true
 placed_by None index e h = absurd (cc)
-placed_by (Some r) index e h = said-child r.parts index (not_false (is_child_said r.parts index) e)
+placed_by (Some r) index e h = said-child r.parts index (not-false (is_child_said r.parts index) e)
 
 all_placed : (n : ℕ) (S : State) (os : List OperandForm) → list_any (λ o. is_unknown (scope_of n S) o.name) (map operand_said os) ≡ false → list_any (λ o. is_ended (scope_of n S) o.name) (map operand_said os) ≡ false → list_any (is_missing (scope_of n S)) os ≡ false → list_all (has_child S) (map operand_said os) ≡ true
 all_placed n S [] e h k = refl
@@ -202,7 +188,7 @@ all_placed n S (o ∷ os) e h k =
     let p = or_parts (is_unknown (scope_of n S) o.name) (list_any (λ o. is_unknown (scope_of n S) o.name) (map operand_said os)) e in
     let q = or_parts (is_ended (scope_of n S) o.name) (list_any (λ o. is_ended (scope_of n S) o.name) (map operand_said os)) h in
     let m = or_parts (is_missing (scope_of n S) o) (list_any (is_missing (scope_of n S)) os) k in
-    both (has_child S (operand_said o)) (list_all (has_child S) (map operand_said os)) (placed_by (root_of S o.name) (index_said o.child) m.0 (there n S o.name p.0 q.0)) (all_placed n S os p.1 q.1 m.1)
+    and_from (has_child S (operand_said o)) (list_all (has_child S) (map operand_said os)) (placed_by (root_of S o.name) (index_said o.child) m.0 (there n S o.name p.0 q.0)) (all_placed n S os p.1 q.1 m.1)
 
 needed_by : (b l v : Bool) → (b && l) ≡ false → (l ≡ false → v ≡ true) → (not b || v) ≡ true
 needed_by true l v e h = h e
@@ -210,14 +196,14 @@ needed_by false l v e h = refl
 
 child_values_by : (o : Option Root) (place : ℕ × ℕ) → (elim o as (λ _. Bool) [ None ↦ false | Some r ↦ is_child r.parts place ]) ≡ true → (elim (option_map known_of o) as (λ _. Bool) [ None ↦ false | Some k ↦ not (k.child place) ]) ≡ false → (elim o as (λ _. Bool) [ None ↦ false | Some r ↦ is_valued_child r place ]) ≡ true
 child_values_by None place h e = absurd (cc)
-child_values_by (Some r) place h e = not_false (is_valued_child r place) e
+child_values_by (Some r) place h e = not-false (is_valued_child r place) e
 
 all_valued : (n : ℕ) (S : State) (os : List (Operand (List ℕ))) → list_any (is_lacking (scope_of n S)) os ≡ false → list_all (has_child S) os ≡ true → list_all (λ o. not (needs_value o.mode) || has_child_values S o) os ≡ true
 all_valued n S [] e h = refl
 all_valued n S (o ∷ os) e h =
     let p = or_parts (is_lacking (scope_of n S) o) (list_any (is_lacking (scope_of n S)) os) e in
     let q = and_parts (has_child S o) (list_all (has_child S) os) h in
-    both (not (needs_value o.mode) || has_child_values S o) (list_all (λ o. not (needs_value o.mode) || has_child_values S o) os)
+    and_from (not (needs_value o.mode) || has_child_values S o) (list_all (λ o. not (needs_value o.mode) || has_child_values S o) os)
     (needed_by (needs_value o.mode) (child_lacks_value (scope_of n S) o) (has_child_values S o) p.0 (child_values_by (root_of S o.name) o.place q.0)) (all_valued n S os p.1 q.1)
 
 found_here : (p : Kernel → Bool) (x : Kernel) (ks : List Kernel) (k : Kernel) (b : Bool) → (find p ks ≡ Some k → p k ≡ true) → p x ≡ b → cond b (Some x) (find p ks) ≡ Some k → p k ≡ true
@@ -239,7 +225,7 @@ all_dims_seen : (k : ℕ) (S : State) (os : List (Operand (List ℕ))) → map (
 all_dims_seen k S os = λ i. map (λ o. dims_seen k S o i) os
 
 fits_known : (has : Kernel → Bool) (id : Codelet) (args : List ℤ) (ds : List Dims) (k : Kernel) → kernel_of id ≡ Some k → has k ≡ true → fits k args ds ≡ true → fits_in has id args ds ≡ true
-fits_known has id args ds k e h f = ap (λ (o : Option Kernel). elim o as (λ _. Bool) [ None ↦ false | Some j ↦ has j && fits j args ds ]) e ∙ both _ _ h f
+fits_known has id args ds k e h f = ap (λ (o : Option Kernel). elim o as (λ _. Bool) [ None ↦ false | Some j ↦ has j && fits j args ds ]) e ∙ and_from _ _ h f
 
 formals_known : (id : Codelet) (os : List (Operand (List ℕ))) (k : Kernel) → kernel_of id ≡ Some k → modes_fit (formals_of k) os ≡ true → modes_fit (formals_in id) os ≡ true
 formals_known id os k e m = ap (λ (o : Option Kernel). modes_fit (elim o [ None ↦ [] | Some j ↦ formals_of j ]) os) e ∙ m
@@ -257,8 +243,8 @@ all_lawful : (has : Kernel → Bool) (n : ℕ) (S : State) (k : Kernel) (os : Li
 all_lawful has n S k [] e = refl
 all_lawful has n S k (o ∷ os) e =
     let p = or_parts (is_unlawful has (scope_of n S) k o) (list_any (is_unlawful has (scope_of n S) k) os) e in
-    both (is_lawful has S (codelet_of k) o) (list_all (is_lawful has S (codelet_of k)) os)
-    (ap (λ by. is_lawful_for has (codelet_of k) by o.mode) (sym (reduction_seen n S o.name)) ∙ not_false _ p.0) (all_lawful has n S k os p.1)
+    and_from (is_lawful has S (codelet_of k) o) (list_all (is_lawful has S (codelet_of k)) os)
+    (ap (λ by. is_lawful_for has (codelet_of k) by o.mode) (sym (reduction_seen n S o.name)) ∙ not-false _ p.0) (all_lawful has n S k os p.1)
 
 unordered_written : (m : Mode) → is_unordered m ≡ true → is_written m ≡ true
 unordered_written R e = absurd (cc)
@@ -317,7 +303,7 @@ sound_task has n S t act j =
     let l = none_hold (line_reasons (scope_of n S) (priority_said t.priority) os) j.line in
     let h = none_hold (operand_reasons has (scope_of n S) k args t.operands os) j.operands in
     let has_k = (and_parts (has k) (has_name t.codelet k) (found_passes (λ k. has k && has_name t.codelet k) kernels k j.named)).0 in
-    let shaped = and_parts (modes_fit (formals_of k) os) (fits k args (map (dims_in (scope_of n S)) os)) (not_false (is_shaped (scope_of n S) k args os) h.1.1.0) in
+    let shaped = and_parts (modes_fit (formals_of k) os) (fits k args (map (dims_in (scope_of n S)) os)) (not-false (is_shaped (scope_of n S) k args os) h.1.1.0) in
     let placed = all_placed n S t.operands l.1.1.0 l.1.1.1.0 h.1.0 in
     subst (IsSoundAct has S) j.is (record {
       fits = fits_known has (codelet_of k) args (map (child_dims S) os) k (kernel_of-codelet_of k) has_k (ap (fits k args) (sym (all_dims_seen n S os)) ∙ shaped.1);
@@ -327,7 +313,7 @@ sound_task has n S t act j =
       apart = h.1.1.1.0;
       placed = placed;
       valued = all_valued n S os h.1.1.1.1.0 placed;
-      priority = not_false (is_priority (priority_said t.priority)) l.1.0;
+      priority = not-false (is_priority (priority_said t.priority)) l.1.0;
     })
 
 sound_reduction : (n : ℕ) (S : State) (name : List ℕ) → first_of (redux_reasons (scope_of n S) name) ≡ None → (is_none (reduction_of S name) ≡ true) × (has_root S name ≡ true)

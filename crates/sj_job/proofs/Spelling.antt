@@ -1,6 +1,5 @@
 -- What a word gives and how it is written, and where a word is divided.
 use Rattle.std.proofs.Common.{◌≡◌, ℕ, suc, ◌+◌, ◌-◌, ◌<◌, ◌≤◌, ◌&&◌, not, Bool, true, false, List, [], ◌∷◌, ◌++◌, length, map, take, drop, get_or, refl, ap, ◌∙◌, sym, subst, arith, Option, Some, None, option_map, cond, nat_eq, nat_lt, nat_le, length-append}
-use Rattle.std.specs.Prelude.{find}
 use Rattle.std.specs.Str.{bytes_eq}
 use Rattle.std.specs.List.{position_or_len, before_first, after_first, list_all}
 use Rattle.std.proofs.lemmas.Slice.Eq.{bytes_eq-Decides}
@@ -8,16 +7,10 @@ use Rattle.std.proofs.lemmas.List.{take_all, drop_all, take_at, drop_more, take-
 use Rattle.std.proofs.lemmas.List.Sums.{prefix_len-le-length, split_at_first, passes_at_first}
 use Rattle.std.proofs.lemmas.List.Folds.{length-prefix_len}
 use Rattle.std.proofs.lemmas.Bool.Decides.{Decides-eqb, nat_tests}
+use Rattle.std.proofs.lemmas.Bool.{and_from, and_parts}
+use Rattle.sj_base.proofs.Lists.{find-passes}
 use Rattle.sj_job.specs.Word.{is_name, is_letter, is_letter_or_digit}
 use Rattle.sj_job.specs.Form.{spelled_in, each_some, ends_with, without_last}
-
-pub both_true : (b c : Bool) → (b && c) ≡ true → (b ≡ true) × (c ≡ true)
-both_true true c e = (refl, e)
-both_true false c e = absurd (cc)
-
-pub true_both : (b c : Bool) → b ≡ true → c ≡ true → (b && c) ≡ true
-true_both true c h k = k
-true_both false c h k = absurd (cc)
 
 -- what an option was, where its image is something
 pub some_from : {A B : Type 0} (f : A → B) (o : Option A) (y : B) → option_map f o ≡ Some y → (x : A) × ((o ≡ Some x) × (f x ≡ y))
@@ -35,15 +28,8 @@ found_by : {A : Type 0} (p : A → Bool) (x y : A) (o : Option A) (t : Bool) →
 found_by p x y o true h k e = let s : x ≡ y = cc in ap p (sym s) ∙ h
 found_by p x y o false h k e = k e
 
-found-passes : {A : Type 0} (p : A → Bool) (xs : List A) (y : A) → find p xs ≡ Some y → p y ≡ true
-found-passes p [] y e = absurd (cc)
-found-passes p (x ∷ xs) y e = found_by p x y (find p xs) (p x) refl (found-passes p xs y) e
-
 pub word-found : {A : Type 0} (word : A → List ℕ) (xs : List A) (w : List ℕ) (y : A) → spelled_in word xs w ≡ Some y → w ≡ word y
-word-found word xs w y e = (bytes_eq-Decides w (word y)).0 (found-passes (λ x. bytes_eq w (word x)) xs y e)
-
-pub same_word : (v w : List ℕ) → bytes_eq v w ≡ true → v ≡ w
-same_word v w e = (bytes_eq-Decides v w).0 e
+word-found word xs w y e = (bytes_eq-Decides w (word y)).0 (find-passes (λ x. bytes_eq w (word x)) xs y e)
 
 -- ---- each word
 
@@ -57,7 +43,7 @@ each_read_by {A} {B} f write test x xs (Some y) ys h k e =
     let one = h y refl in
     let rest = k p.0 p.1.0 in
     subst (λ zs. (x ∷ xs ≡ map write zs) × (list_all test zs ≡ true)) p.1.1
-    (ap (λ z. z ∷ xs) one.0 ∙ ap (λ zs. write y ∷ zs) rest.0, true_both (test y) (list_all test p.0) one.1 rest.1)
+    (ap (λ z. z ∷ xs) one.0 ∙ ap (λ zs. write y ∷ zs) rest.0, and_from (test y) (list_all test p.0) one.1 rest.1)
 
 each_read : {A B : Type 0} (f : A → Option B) (write : B → A) (test : B → Bool) → Reads f write test → (xs : List A) (ys : List B) → each_some f xs ≡ Some ys → (xs ≡ map write ys) × (list_all test ys ≡ true)
 each_read f write test r [] [] e = (refl, refl)
@@ -67,7 +53,7 @@ each_read f write test r (x ∷ xs) ys e = each_read_by f write test x xs (f x) 
 each_back : {A B : Type 0} (f : A → Option B) (write : B → A) (test : B → Bool) → Reads f write test → (ys : List B) → list_all test ys ≡ true → each_some f (map write ys) ≡ Some ys
 each_back f write test r [] h = refl
 each_back f write test r (y ∷ ys) h =
-    let q = both_true (test y) (list_all test ys) h in
+    let q = and_parts (test y) (list_all test ys) h in
     ap (each_by f (map write ys)) (r.back y q.0) ∙ ap (option_map (λ zs. y ∷ zs)) (each_back f write test r ys q.1)
 
 pub each-reads : {A B : Type 0} (f : A → Option B) (write : B → A) (test : B → Bool) → Reads f write test → Reads (each_some f) (map write) (list_all test)
@@ -79,13 +65,13 @@ each-reads f write test r = record { read = each_read f write test r; back = eac
 pub position-at : (p : ℕ → Bool) (n : List ℕ) (b : ℕ) (m : List ℕ) → list_all (λ c. not (p c)) n ≡ true → p b ≡ true → position_or_len p (n ++ b ∷ m) ≡ length n
 position-at p [] b m f e = ap (λ t. cond (not t) (1 + position_or_len p m) 0) e
 position-at p (x ∷ n) b m f e =
-    let q = both_true (not (p x)) (list_all (λ c. not (p c)) n) f in
+    let q = and_parts (not (p x)) (list_all (λ c. not (p c)) n) f in
     ap (λ t. cond t (1 + position_or_len p (n ++ b ∷ m)) 0) q.0 ∙ omega (arith, position-at p n b m q.1 e)
 
 pub position-none : (p : ℕ → Bool) (n : List ℕ) → list_all (λ c. not (p c)) n ≡ true → position_or_len p n ≡ length n
 position-none p [] f = refl
 position-none p (x ∷ n) f =
-    let q = both_true (not (p x)) (list_all (λ c. not (p c)) n) f in
+    let q = and_parts (not (p x)) (list_all (λ c. not (p c)) n) f in
     ap (λ t. cond t (1 + position_or_len p n) 0) q.0 ∙ omega (arith, position-none p n q.1)
 
 pub before-at : (p : ℕ → Bool) (n : List ℕ) (b : ℕ) (m : List ℕ) → list_all (λ c. not (p c)) n ≡ true → p b ≡ true → before_first p (n ++ b ∷ m) ≡ n
@@ -136,22 +122,22 @@ other_byte q b c false f e h = refl
 other_bytes : (q : ℕ → Bool) (b : ℕ) (n : List ℕ) → q b ≡ false → list_all q n ≡ true → list_all (λ c. not (nat_eq c b)) n ≡ true
 other_bytes q b [] f e = refl
 other_bytes q b (c ∷ n) f e =
-    let p = both_true (q c) (list_all q n) e in
+    let p = and_parts (q c) (list_all q n) e in
     ap (λ t. t && list_all (λ c. not (nat_eq c b)) n) (other_byte q b c (nat_eq c b) f p.0 refl) ∙ other_bytes q b n f p.1
 
 -- a byte that is no letter and no digit is in no name
 pub not-in-name : (b : ℕ) (n : List ℕ) → is_letter b ≡ false → is_letter_or_digit b ≡ false → is_name n ≡ true → list_all (λ c. not (nat_eq c b)) n ≡ true
 not-in-name b [] f g e = refl
 not-in-name b (c ∷ n) f g e =
-    let p = both_true (is_letter c && list_all is_letter_or_digit n) (nat_le (length n) 30) e in
-    let q = both_true (is_letter c) (list_all is_letter_or_digit n) p.0 in
+    let p = and_parts (is_letter c && list_all is_letter_or_digit n) (nat_le (length n) 30) e in
+    let q = and_parts (is_letter c) (list_all is_letter_or_digit n) p.0 in
     ap (λ t. t && list_all (λ c. not (nat_eq c b)) n) (other_byte is_letter b c (nat_eq c b) f q.0 refl) ∙ other_bytes is_letter_or_digit b n g q.1
 
 -- ---- the last byte of a word
 
 pub last-byte : (b : ℕ) (w : List ℕ) → ends_with b w ≡ true → w ≡ without_last w ++ b ∷ []
 last-byte b w e =
-    let p = both_true (nat_lt 0 (length w)) (nat_eq (get_or w (length w - 1) 0) b) e in
+    let p = and_parts (nat_lt 0 (length w)) (nat_eq (get_or w (length w - 1) 0) b) e in
     let some : 0 < length w = let h : nat_lt 0 (length w) ≡ true = p.0 in grind (arith, nat_tests) in
     let lt : length w - 1 < length w = omega arith in
     sym (take-append-drop (length w - 1) w)

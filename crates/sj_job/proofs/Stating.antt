@@ -1,7 +1,9 @@
 -- A line and the grammar: each form is read from what is written of it, and from nothing else; and what it says.
 use Rattle.std.proofs.Common.{◌≡◌, ℕ, ◌&&◌, Bool, true, false, List, [], ◌∷◌, ◌++◌, map, refl, ap, ◌∙◌, sym, subst, Option, Some, None, option_map, cond, bytes_eq, codes}
 use Rattle.std.specs.List.{list_all}
+use Rattle.std.proofs.lemmas.Bool.{and_from, and_parts}
 use Rattle.sj_base.specs.declared.mode.Reduction.{Reduction}
+use Rattle.sj_base.proofs.Texts.{same_text}
 use Rattle.sj_job.specs.declared.form.Keyword.{Keyword}
 use Rattle.sj_job.specs.declared.form.Keyword.TheVariants as keyword
 use Rattle.sj_job.specs.declared.form.Size.{Size}
@@ -16,7 +18,7 @@ use Rattle.sj_job.specs.declared.form.Form.TheVariants.{Register, Plan, Redux, T
 use Rattle.sj_job.specs.Word.{is_name}
 use Rattle.sj_job.specs.Form.{keyword_word, keyword_of, keywords, reduction_of, reduction_word, bracketed, each_some, operand_of, with_priority, task_of, values_of, fill_of, nothing_of, init_of, with_parts, parted, layout_of, array_of, vector_of, matrix_of, name_in, plan_of, redux_of, form_behind, form_of}
 use Rattle.sj_job.specs.Grammar.{operand_word, codelet_word, priority_words, parts_words, init_words, sized, written, is_piece, has_values, is_proper_operand, is_proper}
-use Rattle.sj_job.proofs.Spelling.{both_true, true_both, some_from, Reads, word-found, same_word, each-reads}
+use Rattle.sj_job.proofs.Spelling.{some_from, Reads, word-found, each-reads}
 use Rattle.sj_job.proofs.Saying.{reductions, codelets, operands, priority-back, priority-joins}
 
 -- ---- the values of an array
@@ -42,7 +44,7 @@ init-read : (ws : List (List ℕ)) (i : InitForm) → init_of ws ≡ Some i → 
 init-read [] i e = absurd (cc)
 init-read (w ∷ ws) i e =
     init_by w ws i (bytes_eq w (codes "values")) (bytes_eq w (codes "fill")) (bytes_eq w (codes "none"))
-    (same_word w (codes "values")) (same_word w (codes "fill")) (same_word w (codes "none")) e
+    (same_text w (codes "values")) (same_text w (codes "fill")) (same_text w (codes "none")) e
 
 init-back : (i : InitForm) → has_values i ≡ true → init_of (init_words i) ≡ Some i
 init-back (Values []) h = absurd (cc)
@@ -76,7 +78,7 @@ layout_by w ws l false h e = parts_by None (w ∷ ws) l e
 
 layout-read : (ws : List (List ℕ)) (l : Layout) → layout_of ws ≡ Some l → IsLayout ws l
 layout-read [] l e = absurd (cc)
-layout-read (w ∷ ws) l e = layout_by w ws l (bytes_eq w (codes "by")) (same_word w (codes "by")) e
+layout-read (w ∷ ws) l e = layout_by w ws l (bytes_eq w (codes "by")) (same_text w (codes "by")) e
 
 layout-back : (parts : Option (List ℕ × List ℕ)) (i : InitForm) → has_values i ≡ true → layout_of (parts_words parts ++ init_words i) ≡ Some (parts, i)
 layout-back None (Values []) h = absurd (cc)
@@ -99,7 +101,7 @@ array_by name size ws a true n e =
     let p = some_from (array name size) (layout_of ws) a e in
     let l = layout-read ws p.0 p.1.0 in
     subst (λ a. IsSpelled (sized name size ws) (Register a)) p.1.1
-    (ap (sized name size) l.0, true_both (is_name name) (has_values p.0.1) n l.1)
+    (ap (sized name size) l.0, and_from (is_name name) (has_values p.0.1) n l.1)
 array_by name size ws a false n e = absurd (cc)
 
 vector-read : (ws : List (List ℕ)) (a : ArrayForm) → vector_of ws ≡ Some a → IsSpelled (codes "vector" ∷ ws) (Register a)
@@ -115,7 +117,7 @@ matrix-read (name ∷ r ∷ c ∷ ws) a e = array_by name (Matrix r c) ws a (is_
 
 array-back : (name : List ℕ) (size : Size) (parts : Option (List ℕ × List ℕ)) (i : InitForm) → (is_name name && has_values i) ≡ true → array_of name size (parts_words parts ++ init_words i) ≡ Some (array name size (parts, i))
 array-back name size parts i h =
-    let q = both_true (is_name name) (has_values i) h in
+    let q = and_parts (is_name name) (has_values i) h in
     ap (λ t. cond t (option_map (array name size) (layout_of (parts_words parts ++ init_words i))) None) q.0
     ∙ ap (option_map (array name size)) (layout-back parts i q.1)
 
@@ -135,11 +137,11 @@ all_operands : Reads (each_some operand_of) (map operand_word) (list_all is_prop
 all_operands = each-reads operand_of operand_word is_proper_operand operands
 
 three_true : (a b c : Bool) → (a && b) ≡ true → c ≡ true → (a && b && c) ≡ true
-three_true true b c h k = true_both b c h k
+three_true true b c h k = and_from b c h k
 three_true false b c h k = absurd (cc)
 
 two_and_one : (a b c : Bool) → (a && b && c) ≡ true → ((a && b) ≡ true) × (c ≡ true)
-two_and_one true b c h = both_true b c h
+two_and_one true b c h = and_parts b c h
 two_and_one false b c h = absurd (cc)
 
 task_by : (w : List ℕ) (ws : List (List ℕ)) (t : TaskForm) (c : Option (List ℕ × List (List ℕ))) → bracketed 40 41 w ≡ c → task_from c (with_priority ws) ≡ Some t → IsSpelled (codes "task" ∷ w ∷ ws) (Task t)

@@ -1,6 +1,6 @@
 -- What forms do, and that the names follow.
 use Rattle.std.proofs.Common.{◌≡◌, ℕ, ◌+◌, ◌&&◌, Bool, true, List, [], ◌∷◌, ◌++◌, length, get_or, Some, None, cond, refl, ap, sym, subst, ◌∙◌, arith, Result, Ok, Err, All, length-append}
-use Rattle.std.specs.Prelude.{IfOk, IfErr}
+use Rattle.std.specs.Prelude.{IfOk}
 use Rattle.std.proofs.Math.Seq.{get_or-append_seam}
 use Rattle.sj_base.specs.declared.ids.Root.{Root as RootNumber}
 use Rattle.sj_base.specs.declared.mode.Reduction.{Reduction}
@@ -38,10 +38,6 @@ use Rattle.sj_job.proofs.Sounding.{sound_from_judged}
 pub weaker_ok : {A E : Type 0} {P Q : A → Type 0} (r : Result A E) → ((a : A) → P a → Q a) → IfOk r P → IfOk r Q
 weaker_ok (Ok a) f h = f a h
 weaker_ok (Err e) f h = h
-
-pub weaker_err : {A E : Type 0} {P Q : E → Type 0} (r : Result A E) → ((e : E) → P e → Q e) → IfErr r P → IfErr r Q
-weaker_err (Ok a) f h = h
-weaker_err (Err e) f h = f e h
 
 -- ---- what a form does
 

@@ -2,11 +2,14 @@
 use Rattle.std.proofs.Common.{◌≡◌, ℕ, zero, suc, ◌<◌, ◌&&◌, ◌||◌, not, nat_eq, Bool, true, false, List, [], ◌∷◌, length, map, filter, get_or, nat_lt, Option, Some, None, option_map, is_some, cond, refl, ap, sym, subst, ◌∙◌, arith, ℤ, Result, Ok, Err, bytes_eq, unwrap_or}
 use Rattle.std.specs.List.{list_any}
 use Rattle.std.proofs.lemmas.Bool.Decides.{Decides-eqb}
+use Rattle.std.proofs.lemmas.Bool.{or_left, or_right, or_parts}
 use Rattle.sj_base.specs.declared.ids.Root.{Root}
 use Rattle.sj_base.specs.declared.tile.Dims.{Dims}
 use Rattle.sj_base.specs.declared.mode.Mode.{Mode}
 use Rattle.sj_base.specs.declared.mode.Reduction.{Reduction}
-use Rattle.sj_base.specs.Mode.{is_redux}
+use Rattle.sj_base.specs.Mode.{is_redux, is_read_only, is_written}
+use Rattle.sj_base.proofs.Texts.{same_text}
+use Rattle.sj_base.proofs.Bools.{same_test}
 use Rattle.sj_codelet.specs.declared.kernel.Kernel.{Kernel}
 use Rattle.sj_codelet.specs.declared.formal.Formal.{Formal}
 use Rattle.sj_codelet.specs.Kernel.{codelet_of, formals_of, arguments_of, fits}
@@ -33,12 +36,12 @@ use Rattle.sj_meaning.specs.State.{is_child}
 use Rattle.sj_meaning.specs.Table.{name_of, root_in, IsRoot}
 use Rattle.sj_job.specs.Track.{Track, is_set}
 use Rattle.sj_meaning.specs.View.{operand_seen, task_seen}
-use Rattle.sj_meaning.specs.Meaning.{is_written, written_of}
+use Rattle.sj_meaning.specs.Meaning.{written_of}
 use Rattle.sj_job.specs.Judge.{Known, first_of, is_full, is_unknown, is_ended, is_child_said, is_missing, dims_in, is_lacking, is_counted, is_shaped, has_mixed_outputs, is_unlawful, lacks_reduction, operand_reasons, reduction_known, kernel_named, judged_by, judged_call, judged_task, unless}
-use Rattle.sj_meaning.specs.Sound.{is_priority, modes_fit, mode_fits, is_read_only, clashes, is_aliased, needs_value, is_lawful_for, is_unordered}
+use Rattle.sj_meaning.specs.Sound.{is_priority, modes_fit, mode_fits, clashes, is_aliased, needs_value, is_lawful_for, is_unordered}
 use Rattle.sj_job.specs.Names.{Found, IsPlaceIn, a_target, any_collide, any_missing, any_over, are_mixed, collide, ended_from, found_at, found_in, is_counted_for, is_over, is_shaped_for, is_unlawful_for, is_unreduced, is_wanting, known_by, known_from, known_with, law_reasons, no_child, operand_by, plan_in, scope_in, standing_of, target_by, target_dims, target_in, target_reasons, targets_fit}
 use Rattle.sj_job.proofs.Children.{place-from_test, said-child}
-use Rattle.sj_meaning.proofs.Finding.{is-at, is-root, same-text, text-itself}
+use Rattle.sj_meaning.proofs.Finding.{is-at, is-root, text-itself}
 
 -- ---- each operand with its root
 
@@ -85,14 +88,6 @@ known_found names q f e = ap (λ o. not (is_some (known_from o)) && not (ended_f
 or_false : (b c : Bool) → b ≡ false → c ≡ false → (b || c) ≡ false
 or_false true c e h = absurd (cc)
 or_false false c e h = h
-
-or_right : (b c : Bool) → c ≡ true → (b || c) ≡ true
-or_right true c h = refl
-or_right false c h = h
-
-or_left : (b c : Bool) → b ≡ true → (b || c) ≡ true
-or_left true c h = refl
-or_left false c h = absurd (cc)
 
 all_known : (names : Names) (os : List OperandForm) (ts : List Target) → AreTargets names os ts → list_any (λ o. is_unknown (scope_in names) o.name) (map operand_said os) ≡ false
 all_known names [] [] h = refl
@@ -160,10 +155,6 @@ AreLive names [] [] = Unit {0}
 AreLive names [] (t ∷ ts) = ⊥
 AreLive names (o ∷ os) [] = ⊥
 AreLive names (o ∷ os) (t ∷ ts) = IsLive names o t × AreLive names os ts
-
-or_parts : (b c : Bool) → (b || c) ≡ false → (b ≡ false) × (c ≡ false)
-or_parts true c e = absurd (cc)
-or_parts false c e = (refl, e)
 
 lives : (names : Names) (os : List OperandForm) (ts : List Target) → AreTargets names os ts → any_over ts ≡ false → any_missing ts ≡ false → AreLive names os ts
 lives names [] [] h e f = tt
@@ -300,12 +291,6 @@ found-root names q f e = (found_by names q f (root_in names.roots q) refl e).0
 found-at : (names : Names) (q : List ℕ) (f : Found) → found_in names q ≡ Some f → standing_of names f.root ≡ f.standing
 found-at names q f e = ap (λ (g : Found). g.standing) (found_by names q f (root_in names.roots q) refl e).1
 
-same_bools : (b c : Bool) → (b ≡ true → c ≡ true) → (c ≡ true → b ≡ true) → b ≡ c
-same_bools true true f g = refl
-same_bools true false f g = absurd (let e : false ≡ true = f refl in cc)
-same_bools false true f g = absurd (let e : false ≡ true = g refl in cc)
-same_bools false false f g = refl
-
 roots_equal : (a b : Root) → Some a ≡ Some b → a.0 ≡ b.0
 roots_equal a b e = let same : a ≡ b = cc in ap (λ (r : Root). r.0) same
 
@@ -313,8 +298,8 @@ one_root : (names : Names) (p q : List ℕ) (f g : Found) → found_in names p �
 one_root names p q f g ef eg =
     let rp = found-root names p f ef in
     let rq = found-root names q g eg in
-    same_bools (bytes_eq p q) (nat_eq f.root.0 g.root.0)
-    (λ t. (Decides-eqb f.root.0 g.root.0).1 (roots_equal f.root g.root (sym rp ∙ ap (root_in names.roots) (same-text p q t) ∙ rq)))
+    same_test (bytes_eq p q) (nat_eq f.root.0 g.root.0)
+    (λ t. (Decides-eqb f.root.0 g.root.0).1 (roots_equal f.root g.root (sym rp ∙ ap (root_in names.roots) (same_text p q t) ∙ rq)))
     (λ t. text-itself p q (sym (is-at names.roots p f.root rp).named ∙ ap (λ n. get_or names.roots.names n []) ((Decides-eqb f.root.0 g.root.0).0 t) ∙ (is-at names.roots q g.root rq).named))
 
 root_same : (names : Names) (o : OperandForm) (t : Target) (h : IsLive names o t) → h.of.root ≡ t.root
@@ -406,12 +391,6 @@ line_first full early unknown ended = first_of ((full, Limit Statements) ∷ (ea
 
 abbrev by_line : (Kernel → Bool) → Names → TaskForm → Option Reason → Result (Act (List ℕ)) Reason
 by_line has names form o = judged_by o (judged_call has (scope_in names) (kernel_named has form.codelet) form)
-
-pub task-full : (has : Kernel → Bool) (names : Names) (form : TaskForm) → is_full (scope_in names) ≡ true → judged_task has (scope_in names) form ≡ Err (Limit Statements)
-task-full has names form full = ap (λ b. by_line has names form (line_first b (not (is_priority (priority_said form.priority))) (list_any (λ o. is_unknown (scope_in names) o.name) (operands_said form)) (list_any (λ o. is_ended (scope_in names) o.name) (operands_said form)))) full
-
-pub task-early : (has : Kernel → Bool) (names : Names) (form : TaskForm) → is_full (scope_in names) ≡ false → is_priority (priority_said form.priority) ≡ false → judged_task has (scope_in names) form ≡ Err (Limit Priority)
-task-early has names form full early = λ i. by_line has names form (line_first (full i) (not (early i)) (list_any (λ o. is_unknown (scope_in names) o.name) (operands_said form)) (list_any (λ o. is_ended (scope_in names) o.name) (operands_said form)))
 
 pub task-unknown : (has : Kernel → Bool) (names : Names) (form : TaskForm) → is_full (scope_in names) ≡ false → is_priority (priority_said form.priority) ≡ true → each_some (target_in names) form.operands ≡ None → judged_task has (scope_in names) form ≡ Err UnknownName
 task-unknown has names form full early e = λ i. by_line has names form (line_first (full i) (not (early i)) (some_unknown names form.operands e i) (list_any (λ o. is_ended (scope_in names) o.name) (operands_said form)))

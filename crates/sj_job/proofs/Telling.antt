@@ -1,5 +1,6 @@
 -- What a statement line says, by the function and by the grammar.
 use Rattle.std.proofs.Common.{◌≡◌, ℕ, not, Bool, true, false, List, ap, ◌∙◌, refl, subst, Option, Some, None, cond, Result, Ok, Err}
+use Rattle.std.proofs.lemmas.Bool.{not-true}
 use Rattle.sj_job.specs.declared.form.Form.{Form}
 use Rattle.sj_job.specs.declared.reason.Reason.{Reason}
 use Rattle.sj_job.specs.declared.reason.Reason.TheVariants.{Word, Number}
@@ -19,10 +20,6 @@ said_when numbered f = cond numbered (Ok f) (Err Number)
 
 abbrev said_from : Option Form → Result Form Reason
 said_from o = elim o as (λ _. Result Form Reason) [ None ↦ Err Word | Some f ↦ said_of f ]
-
-not_true : (b : Bool) → not b ≡ true → b ≡ false
-not_true true e = absurd (cc)
-not_true false e = refl
 
 form_says : (ws : List (List ℕ)) (f : Form) (n : Bool) → form_of ws ≡ Some f → is_numbered f ≡ n → Says ws (said_when n f)
 form_says ws f false e h = record { form = f; spelled = found-spells ws f e; unnumbered = ap not h }
@@ -45,5 +42,5 @@ word_by ws (Some f) e h = absurd (h f (found-spells ws f e))
 pub says-said : (ws : List (List ℕ)) (r : Result Form Reason) → Says ws r → said ws ≡ r
 says-said ws (Ok f) h = spelled ws f h.spelled ∙ ap (λ n. said_when n f) h.numbered
 says-said ws (Err Word) h = word_by ws (form_of ws) refl h
-says-said ws (Err Number) h = spelled ws h.form h.spelled ∙ ap (λ n. said_when n h.form) (not_true (is_numbered h.form) h.unnumbered)
+says-said ws (Err Number) h = spelled ws h.form h.spelled ∙ ap (λ n. said_when n h.form) (not-true (is_numbered h.form) h.unnumbered)
 says-said ws (Err why) h = absurd h

@@ -5,7 +5,7 @@ use Rattle.sj_base.specs.declared.ids.Root.{Root}
 use Rattle.sj_base.specs.declared.tile.Dims.{Dims}
 use Rattle.sj_base.specs.declared.mode.Mode.{Mode}
 use Rattle.sj_base.specs.declared.mode.Reduction.{Reduction}
-use Rattle.sj_base.specs.Mode.{is_redux}
+use Rattle.sj_base.specs.Mode.{is_redux, is_read_only, is_written}
 use Rattle.sj_codelet.specs.declared.kernel.Kernel.{Kernel}
 use Rattle.sj_codelet.specs.declared.formal.Formal.{Formal}
 use Rattle.sj_codelet.specs.Kernel.{codelet_of, arguments_of, formals_of, fits}
@@ -27,9 +27,8 @@ use Rattle.sj_job.specs.Sentence.{index_said}
 use Rattle.sj_meaning.specs.State.{is_child}
 use Rattle.sj_meaning.specs.Table.{root_in, info_of}
 use Rattle.sj_job.specs.Track.{Track, all_valued, none_valued, even, is_set, written}
-use Rattle.sj_meaning.specs.Meaning.{is_written}
 use Rattle.sj_job.specs.Judge.{Known, Scope, is_child_said}
-use Rattle.sj_meaning.specs.Sound.{is_read_only, is_lawful_for, is_unordered, mode_fits, needs_value}
+use Rattle.sj_meaning.specs.Sound.{is_lawful_for, is_unordered, mode_fits, needs_value}
 
 -- each root has a standing
 abbrev pub IsCounted : Names → Type 0

@@ -17,7 +17,7 @@ ghost use Rattle.sj_job.specs.Reason.{Objects};
 ghost use Rattle.sj_meaning.specs.Act.{Task};
 ghost use Rattle.sj_job.specs.Judge.{first_of, is_child_said, is_crowded, is_cut, is_miscounted, is_outside, is_uncut, judged_task, name_reasons, plan_reasons, print_reasons, redux_reasons, register_reasons};
 ghost use Rattle.sj_meaning.specs.Sound.{is_priority, is_side, mode_fits, needs_value, is_lawful_for, is_unordered};
-ghost use Rattle.sj_meaning.specs.Meaning.{is_written};
+ghost use Rattle.sj_base.specs.Mode.{is_written};
 
 use crate::form::{OperandForm, TaskForm};
 use crate::names::{Names, Standing};
@@ -112,7 +112,8 @@ pub fn register_complaint(
 ) -> Option<Reason>
     requires { IsCounted names.now }
     ensures first { result
-        ≡ first_of (register_reasons (scope_in names.now) name.now (dims_with size.0 size.1) (plan_with parts.0 parts.1) init.now) }
+        ≡ first_of (register_reasons (scope_in names.now) name.now (dims_with size.0 size.1)
+        (plan_with parts.0 parts.1) init.now) }
     ensures within { IfNone result ((size.0 ≤ SIDE) × (size.1 ≤ SIDE)) }
     ensures cut { IfNone result ((parts.0 ≤ SIDE) × (parts.1 ≤ SIDE)) }
     ensures plan { IfNone result (IsPlan (plan_with parts.0 parts.1)) }
@@ -166,7 +167,8 @@ pub fn named_root(names: &Names, name: &[u8]) -> Result<Root, Reason>
 pub fn printed_root(names: &Names, name: &[u8]) -> Result<Root, Reason>
     requires { IsCounted names.now }
     ensures root { IfOk result (λ r. root_in names.now.roots name.now ≡ Some r) }
-    ensures none { IfOk result (λ r. first_of (print_reasons (scope_in names.now) name.now) ≡ None) }
+    ensures none { IfOk result (λ r. first_of (print_reasons (scope_in names.now) name.now)
+        ≡ None) }
     ensures why { IfErr result
         (λ why. first_of (print_reasons (scope_in names.now) name.now) ≡ Some why) }
 {
@@ -184,7 +186,8 @@ pub fn planned_root(names: &Names, name: &[u8], r: u64, c: u64) -> Result<Root, 
     ensures even { IfOk result (λ root. IsEven (standing_of names.now root)) }
     ensures cut { IfOk result (λ _. (r < 2 ^ 32) × (c < 2 ^ 32)) }
     ensures plan { IfOk result (λ _. IsPlan (plan_with r c)) }
-    ensures none { IfOk result (λ _. first_of (plan_reasons (scope_in names.now) name.now (plan_with r c)) ≡ None) }
+    ensures none { IfOk result (λ _. first_of (plan_reasons (scope_in names.now) name.now
+        (plan_with r c)) ≡ None) }
     ensures why { IfErr result
         (λ why. first_of (plan_reasons (scope_in names.now) name.now (plan_with r c)) ≡ Some why) }
 {
@@ -210,7 +213,8 @@ pub fn planned_root(names: &Names, name: &[u8], r: u64, c: u64) -> Result<Root, 
 pub fn reduced_root(names: &Names, name: &[u8]) -> Result<Root, Reason>
     requires { IsCounted names.now }
     ensures root { IfOk result (λ r. root_in names.now.roots name.now ≡ Some r) }
-    ensures none { IfOk result (λ r. first_of (redux_reasons (scope_in names.now) name.now) ≡ None) }
+    ensures none { IfOk result (λ r. first_of (redux_reasons (scope_in names.now) name.now)
+        ≡ None) }
     ensures why { IfErr result
         (λ why. first_of (redux_reasons (scope_in names.now) name.now) ≡ Some why) }
 {
@@ -264,7 +268,8 @@ fn no_child(root: Root, mode: Mode, over: bool) -> Target
 /// The place of a child by its index; a name alone is the only child of its plan.
 fn child_said(parts: Parts, index: Option<(u64, u64)>) -> Option<(u32, u32)>
     ensures { MatchOption result (is_child_said parts index ≡ false) (λ place.
-        (is_child_said parts index ≡ true) × (place ≡ unwrap_or index (0, 0)) × IsPlace parts place) }
+        (is_child_said parts index ≡ true) × (place ≡ unwrap_or index (0, 0))
+        × IsPlace parts place) }
 {
     match index {
         Some((i, j)) if i < parts.r as u64 && j < parts.c as u64 => Some((i as u32, j as u32)),

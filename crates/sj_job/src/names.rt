@@ -296,7 +296,8 @@ impl Names {
         requires room { self.old.statements + 1 < 2 ^ 64 }
         requires counted { IsCounted self.old }
         requires roots { All (λ o. IsRoot self.old.roots o.root) task.now.operands }
-        requires places { All (λ o. IsPlaceIn (plan_in (standing_of self.old o.root)) o.place) task.now.operands }
+        requires places { All (λ o. IsPlaceIn (plan_in (standing_of self.old o.root)) o.place)
+            task.now.operands }
         ensures roots { OnOk result (self.new.roots ≡ self.old.roots) }
         ensures names { OnOk result ((has : Kernel → Bool) (n : ℕ) (S : State) → Sees self.old n S
             → IsSoundTask has S (task_seen self.old.roots task.now)
@@ -311,10 +312,12 @@ impl Names {
     fn write_all(&mut self, alloc: Global, operands: &[Operand]) -> Result<(), OutOfMemory>
         requires counted { IsCounted self.old }
         requires roots { All (λ o. IsRoot self.old.roots o.root) operands.now }
-        requires places { All (λ o. IsPlaceIn (plan_in (standing_of self.old o.root)) o.place) operands.now }
+        requires places { All (λ o. IsPlaceIn (plan_in (standing_of self.old o.root)) o.place)
+            operands.now }
         ensures count { OnOk result (self.new.statements ≡ self.old.statements) }
         ensures roots { OnOk result (self.new.roots ≡ self.old.roots) }
-        ensures standings { OnOk result (self.new.standings.items ≡ after_writes operands.now self.old.standings.items) }
+        ensures standings { OnOk result (self.new.standings.items
+            ≡ after_writes operands.now self.old.standings.items) }
     {
         for operand in operands {
             self.write(alloc, operand)?;
@@ -326,10 +329,12 @@ impl Names {
     fn write(&mut self, alloc: Global, operand: &Operand) -> Result<(), OutOfMemory>
         requires counted { IsCounted self.old }
         requires root { IsRoot self.old.roots operand.now.root }
-        requires place { IsPlaceIn (plan_in (standing_of self.old operand.now.root)) operand.now.place }
+        requires place { IsPlaceIn (plan_in (standing_of self.old operand.now.root))
+            operand.now.place }
         ensures count { OnOk result (self.new.statements ≡ self.old.statements) }
         ensures roots { OnOk result (self.new.roots ≡ self.old.roots) }
-        ensures standings { OnOk result (self.new.standings.items ≡ after_write operand.now self.old.standings.items) }
+        ensures standings { OnOk result (self.new.standings.items
+            ≡ after_write operand.now self.old.standings.items) }
     {
         if operand.is_written() {
             let place = operand.root.0 as usize;

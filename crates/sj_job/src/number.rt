@@ -40,7 +40,8 @@ pub fn pair_of(a: &Piece<'_>, b: &Piece<'_>) -> Option<(u64, u64)>
     Some((count_of(a.bytes())?, count_of(b.bytes())?))
 }
 
-/// The parts of rows and of columns that `by r c` says, 1 and 1 without it; `None` where a word says no count. Linear in the words.
+/// The parts of rows and of columns that `by r c` says, 1 and 1 without it; `None` where a word says no count. Linear in the
+/// words.
 pub fn parts_of(by: &Option<(Piece<'_>, Piece<'_>)>) -> Option<(u64, u64)>
     ensures { MatchOption result (are_counts by.now ≡ false)
         (λ p. (are_counts by.now ≡ true) × (plan_with p.0 p.1 ≡ parts_said by.now)) }

@@ -97,7 +97,8 @@ fn read_line<C: Codelets>(
         text_with C.has (seen_from names.old.roots 0 statements.old.items) number (line.now ∷ rest)
         ≡ text_with C.has (seen_from names.new.roots 0 statements.new.items) (number + 1) rest) }
     ensures err { IfErr result (λ e. (rest : List (List ℕ)) → IsRefusal e
-        (text_with C.has (seen_from names.old.roots 0 statements.old.items) number (line.now ∷ rest))) }
+        (text_with C.has (seen_from names.old.roots 0 statements.old.items) number
+        (line.now ∷ rest))) }
 {
     match act_of_line(alloc, names, line, codelets) {
         Ok(None) => Ok(()),
@@ -177,7 +178,8 @@ fn read_settings(
     requires { first + length text.now < 2 ^ 32 }
     ensures bound { IfOk result (λ r. r.2 + length r.1.now ≤ first + length text.now) }
     ensures within { IfOk result (λ r. IsWithinLimits r.0) }
-    ensures ok { IfOk result (λ r. (has : Kernel → Bool) → reading_settings has unset first (lines text.now)
+    ensures ok { IfOk result (λ r. (has : Kernel → Bool)
+        → reading_settings has unset first (lines text.now)
         ≡ with_settings r.0 (reading has 0 start r.2 (lines r.1.now))) }
     ensures err { IfErr result (λ e. (has : Kernel → Bool) →
         IsRefusal e (reading_settings has unset first (lines text.now))) }

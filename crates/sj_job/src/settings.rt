@@ -31,7 +31,8 @@ fn set_workers(settings: &mut Settings, word: &Piece<'_>) -> Result<(), Objectio
     ensures set { OnOk result
         (set_by settings.old (SettingForm.Workers word.now) ≡ Ok settings.new) }
     ensures within { OnOk result (IsWithinLimits settings.new) }
-    ensures why { IfErr result (λ e. Objects e (set_by settings.old (SettingForm.Workers word.now))) }
+    ensures why { IfErr result (λ e. Objects e
+        (set_by settings.old (SettingForm.Workers word.now))) }
 {
     if settings.workers.is_some() {
         return Err(Objection::Bad(Reason::Word));

@@ -199,7 +199,8 @@ fn priority_of(word: &[u8]) -> Option<&[u8]>
 /// What follows `prio=` in a word that is the last of a line. Linear in what is passed behind it.
 pub fn last_priority<'a>(word: &'a [u8], rest: &Words<'a>) -> Option<Piece<'a>>
     ensures { MatchOption result
-        (with_priority (word.now ∷ rest.now) ≡ (word.now ∷ (with_priority rest.now).0, (with_priority rest.now).1))
+        (with_priority (word.now ∷ rest.now) ≡
+        (word.now ∷ (with_priority rest.now).0, (with_priority rest.now).1))
         (λ p. with_priority (word.now ∷ rest.now) ≡ ([], Some p)) }
 {
     let priority = priority_of(word)?;
@@ -215,7 +216,8 @@ fn operands_of<'a>(
     words: &Words<'a>,
 ) -> Result<Option<(Few<OperandForm<'a>>, Option<Piece<'a>>)>, OutOfMemory>
     ensures { IfOk result (λ said. said ≡ option_map
-        (λ os. (os, (with_priority words.now).1)) (each_some operand_of (with_priority words.now).0)) }
+        (λ os. (os, (with_priority words.now).1))
+        (each_some operand_of (with_priority words.now).0)) }
 {
     let mut operands = Few::empty(alloc);
     let mut rest = words.again();

@@ -146,7 +146,8 @@ fn submit_task<C: Codelets>(
     requires counted { IsCounted names.old }
     requires room { names.old.statements + 1 < 2 ^ 64 }
     ensures ok { IfOk result (λ a. Submits C.has names.old (Form.Task task.now) names.new a) }
-    ensures err { IfErr result (λ e. Objects e (done_in C.has (scope_in names.old) (Form.Task task.now))) }
+    ensures err { IfErr result (λ e. Objects e
+        (done_in C.has (scope_in names.old) (Form.Task task.now))) }
 {
     let Some(args) = integers(alloc, &task.args)? else {
         return Err(Objection::Bad(Reason::Number));
@@ -166,7 +167,8 @@ fn submit_task<C: Codelets>(
 fn submit_print(names: &mut Names, name: &Piece<'_>) -> Result<Act, Objection>
     requires counted { IsCounted names.old }
     requires room { names.old.statements + 1 < 2 ^ 64 }
-    ensures ok { IfOk result (λ a. (has : Kernel → Bool) → Submits has names.old (Form.Print name.now) names.new a) }
+    ensures ok { IfOk result (λ a. (has : Kernel → Bool)
+        → Submits has names.old (Form.Print name.now) names.new a) }
     ensures err { IfErr result (λ e. (has : Kernel → Bool) →
         Objects e (done_in has (scope_in names.old) (Form.Print name.now))) }
 {
@@ -182,7 +184,8 @@ fn submit_print(names: &mut Names, name: &Piece<'_>) -> Result<Act, Objection>
 fn submit_invalidation(names: &mut Names, name: &Piece<'_>) -> Result<Act, Objection>
     requires counted { IsCounted names.old }
     requires room { names.old.statements + 1 < 2 ^ 64 }
-    ensures ok { IfOk result (λ a. (has : Kernel → Bool) → Submits has names.old (Form.Invalidate name.now) names.new a) }
+    ensures ok { IfOk result (λ a. (has : Kernel → Bool)
+        → Submits has names.old (Form.Invalidate name.now) names.new a) }
     ensures err { IfErr result (λ e. (has : Kernel → Bool) →
         Objects e (done_in has (scope_in names.old) (Form.Invalidate name.now))) }
 {
@@ -198,7 +201,8 @@ fn submit_invalidation(names: &mut Names, name: &Piece<'_>) -> Result<Act, Objec
 fn submit_ending(names: &mut Names, name: &Piece<'_>) -> Result<Act, Objection>
     requires counted { IsCounted names.old }
     requires room { names.old.statements + 1 < 2 ^ 64 }
-    ensures ok { IfOk result (λ a. (has : Kernel → Bool) → Submits has names.old (Form.Unregister name.now) names.new a) }
+    ensures ok { IfOk result (λ a. (has : Kernel → Bool)
+        → Submits has names.old (Form.Unregister name.now) names.new a) }
     ensures err { IfErr result (λ e. (has : Kernel → Bool) →
         Objects e (done_in has (scope_in names.old) (Form.Unregister name.now))) }
 {

@@ -141,7 +141,8 @@ fn number(parts: Parts, i: u32, j: u32) -> usize
 fn first_mark(alloc: Global, parts: Parts, place: usize) -> Result<Marks, OutOfMemory>
     requires plan { IsPlan parts }
     requires place { place < children_count parts }
-    ensures marks { IfOk result (λ m. marks_by parts m ≡ slice_set (replicate (children_count parts) false) place true) }
+    ensures marks { IfOk result (λ m. marks_by parts m
+        ≡ slice_set (replicate (children_count parts) false) place true) }
     ensures fit { IfOk result (λ m. AreMarks parts m) }
 {
     let count = parts.r as usize * parts.c as usize;

@@ -1,18 +1,15 @@
 -- Rows of a matrix product.
-use Rattle.std.proofs.Common.{◌≡◌, ℕ, ◌+◌, ◌*◌, ◌/◌, ◌%◌, ◌<◌, ℤ, pos, ◌+ℤ◌, ◌*ℤ◌, List, length, get_or, replicate, w64, FitsSigned, refl, sym, ap, ◌∙◌, arith}
-use Rattle.std.specs.List.{between}
+use Rattle.std.proofs.Common.{◌≡◌, ℕ, ◌+◌, ◌*◌, ◌<◌, ℤ, pos, ◌+ℤ◌, ◌*ℤ◌, List, length, get_or, replicate, w64, FitsSigned, refl, sym, ap, ◌∙◌, arith}
 use Rattle.std.proofs.lemmas.Int.{ints, int_wrap_fits, int_wrap-add_left, int_wrap-add_right, int_wrap-mul_left}
-use Rattle.std.proofs.lemmas.Nat.{rows, mul-add-lt}
+use Rattle.std.proofs.lemmas.Nat.{mul-add-lt}
 use Rattle.sj_base.specs.Array.{Array, at, element}
 use Rattle.sj_codelet.specs.Ring.{wrap, sum_below}
 use Rattle.sj_codelet.specs.Equations.{matrix, product, gemm, gemm3}
 use Rattle.sj_codelet.specs.Listing.{listing}
 use Rattle.sj_codelet.proofs.Integers.{int_add-zero, int_zero-add}
 use Rattle.sj_codelet.proofs.Elements.{same_grid, element-grid, element-zeros}
-use Rattle.sj_codelet.proofs.Sums.{same_sum, same_sum_wrapped, sum_below_more}
-use Rattle.sj_codelet.proofs.Filling.{begun, same_listing, listing_from_elements, at-listing}
-use Rattle.sj_codelet.proofs.Rows.{at-row, at-row_begun, length-row, grid_at}
-use Rattle.sj_kernels.specs.Rows.{row_product}
+use Rattle.sj_codelet.proofs.Sums.{same_sum_wrapped, sum_below_more}
+use Rattle.sj_codelet.proofs.Filling.{same_listing, listing_from_elements, at-listing}
 
 -- before the first term
 pub row_none : (xs : List ℤ) (f : ℕ → ℕ → ℤ) → ((j : ℕ) → j < length xs → FitsSigned w64 (get_or xs j (pos 0))) → xs ≡ listing (length xs) (λ j. wrap (at xs j +ℤ sum_below 0 (f j)))
@@ -29,28 +26,6 @@ row_more n l c zs f g e h =
     ∙ ap (λ (z : ℤ). wrap (z +ℤ f j l)) (at-listing n F j (pos 0) s)
     ∙ int_wrap-add_left w64 (at c j +ℤ sum_below l (f j)) (f j l)
     ∙ ap (λ (z : ℤ). wrap z) (omega (arith, ints, sum_below_more l (f j))))
-
--- the element of c + a b in row i and column j
-abbrev pub gemm_at : ℕ → ℕ → ℕ → List ℤ → List ℤ → List ℤ → ℕ → ℕ → ℤ
-gemm_at m k n a b c i j = wrap (element (matrix m n c) i j +ℤ product (matrix m k a) (matrix k n b) i j)
-
--- the row i of c + a b, from the rows that the code takes out
-pub gemm_row_is : (m k n i : ℕ) (a b c zs row : List ℤ) → length a ≡ m * k → length zs ≡ m * n → i < m
-    → zs ≡ begun (i * n) (λ p. gemm_at m k n a b c (p / n) (p % n)) c
-    → row ≡ listing (length (between (i * n) (i * n + n) zs)) (row_product (length (between (i * n) (i * n + n) zs)) (between (i * k) (i * k + k) a) b (between (i * n) (i * n + n) zs))
-    → row ≡ listing n (λ j. gemm_at m k n a b c ((i * n + j) / n) ((i * n + j) % n))
-gemm_row_is m k n i a b c zs row ha hz hi e r =
-    let f = gemm_at m k n a b c in
-    let rc = between (i * n) (i * n + n) zs in
-    let ra = between (i * k) (i * k + k) a in
-    let lc : length rc ≡ n = length-row i n zs (grind (arith, rows)) in
-    let la : length ra ≡ k = length-row i k a (grind (arith, rows)) in
-    r ∙ ap (λ (q : ℕ). listing q (row_product q ra b rc)) lc
-    ∙ same_listing n (row_product n ra b rc) (λ j. f ((i * n + j) / n) ((i * n + j) % n)) (λ j s.
-    ap (λ (z : ℤ). wrap (z +ℤ sum_below (length ra) (λ l. at ra l *ℤ at b (l * n + j)))) (at-row_begun i n _ c zs j e s)
-    ∙ ap (λ (q : ℕ). wrap (at c (i * n + j) +ℤ sum_below q (λ l. at ra l *ℤ at b (l * n + j)))) la
-    ∙ ap (λ (z : ℤ). wrap (at c (i * n + j) +ℤ z)) (same_sum k (λ l. at ra l *ℤ at b (l * n + j)) (λ l. at a (i * k + l) *ℤ at b (l * n + j)) (λ l t. ap (λ (z : ℤ). z *ℤ at b (l * n + j)) (at-row i k a l t)))
-    ∙ sym (grid_at n f i j s))
 
 -- the product of three, by way of the wrapped product of two
 pub gemm3_is : (m k l n : ℕ) (a b d t u c e : List ℤ) → t ≡ replicate (m * l) (pos 0)

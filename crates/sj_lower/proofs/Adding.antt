@@ -1,9 +1,10 @@
 -- What a contribution adds to a partial copy, the cell denotes more.
-use Rattle.std.proofs.Common.{◌≡◌, ℕ, zero, suc, ◌+◌, ◌<◌, ◌≤◌, Bool, true, false, ◌&&◌, Option, Some, None, List, [], ◌∷◌, refl, sym, ap, subst, ◌∙◌, arith, length}
+use Rattle.std.proofs.Common.{◌≡◌, ℕ, zero, suc, ◌+◌, ◌<◌, ◌≤◌, true, Option, Some, None, List, [], ◌∷◌, refl, sym, ap, subst, ◌∙◌, arith, length}
 use Rattle.std.specs.Prelude.{Contains, nat_eq}
 use Rattle.std.specs.List.{AllByRecursion, range_with_len}
 use Rattle.std.proofs.lemmas.Bool.Decides.{Decides-eqb}
 use Rattle.std.proofs.lemmas.List.Elements.{All-nil, All-cons}
+use Rattle.std.proofs.lemmas.Bool.{and_from}
 use Rattle.sj_base.specs.declared.ids.Cell.{Cell}
 use Rattle.sj_base.specs.declared.mode.Access.{Access}
 use Rattle.sj_base.specs.declared.mode.Mode.TheVariants.{Redux}
@@ -12,6 +13,7 @@ use Rattle.sj_base.specs.declared.mode.Reduction.TheVariants.{Plus, Least}
 use Rattle.sj_base.specs.declared.program.Program.{Program}
 use Rattle.sj_base.specs.declared.tile.Dims.{Dims}
 use Rattle.sj_base.specs.Array.{Array, zeros}
+use Rattle.sj_base.specs.Ids.{task}
 use Rattle.sj_codelet.specs.declared.kernel.Kernel.{Kernel}
 use Rattle.sj_codelet.specs.Kernel.{kernel_of, contributes_of, combine_of, same, fits}
 use Rattle.sj_codelet.specs.Laws.{IsTile, IsCall, IsReduction, combined, result_of}
@@ -28,16 +30,12 @@ use Rattle.sj_core.proofs.Updating.{one_reduction}
 use Rattle.sj_lower.specs.declared.phase.OpenPhase.{OpenPhase}
 use Rattle.sj_lower.specs.Cells.{copy_at}
 use Rattle.sj_lower.proofs.Combined.{IsTrusted, with_copy, with_all, all_workers}
-use Rattle.sj_lower.proofs.Contents.{first_worker, task_at, contents_before}
+use Rattle.sj_lower.proofs.Contents.{first_worker, contents_before}
 
 -- ---- arrays that are combined
 
 pub same-itself : (d e : Dims) → d ≡ e → same d e ≡ true
-same-itself d e h = subst (λ (x : Dims). same d x ≡ true) h (both (nat_eq d.rows d.rows) (nat_eq d.cols d.cols) ((Decides-eqb d.rows d.rows).1 refl) ((Decides-eqb d.cols d.cols).1 refl))
-  where
-    both : (a b : Bool) → a ≡ true → b ≡ true → (a && b) ≡ true
-    both true b e f = f
-    both false b e f = e
+same-itself d e h = subst (λ (x : Dims). same d x ≡ true) h (and_from (nat_eq d.rows d.rows) (nat_eq d.cols d.cols) ((Decides-eqb d.rows d.rows).1 refl) ((Decides-eqb d.cols d.cols).1 refl))
 
 -- a tile of these dimensions
 pub record IsSized (d : Dims) (a : Array) : Type 0 where
@@ -110,33 +108,30 @@ first-more p k new f d x v law copies hx hv some first others = by_count p.worke
 
 -- ---- a task that contributes
 
-module _ (p : Program) (trust : IsTrusted p) (n : ℕ) (inside : n < length p.tasks) (a : Access) (among : Contains (task_of p (task_at n)).accesses a) (redux : a.mode ≡ Redux) (f : OpenPhase) (first : (cell_info p a.cell).partials ≡ Some f.copies)
-    (kernel : Kernel) (codelet : kernel_of (task_of p (task_at n)).codelet ≡ Some kernel) (by_kernel : contributes_of kernel f.by ≡ true) where
+module _ (p : Program) (trust : IsTrusted p) (n : ℕ) (inside : n < length p.tasks) (a : Access) (among : Contains (task_of p (task n)).accesses a) (redux : a.mode ≡ Redux) (f : OpenPhase) (first : (cell_info p a.cell).partials ≡ Some f.copies)
+    (kernel : Kernel) (codelet : kernel_of (task_of p (task n)).codelet ≡ Some kernel) (by_kernel : contributes_of kernel f.by ≡ true) where
   abbrev its : Phase
-  its = (contributes p trust.proper (task_at n) a among redux).phase
+  its = (contributes p trust.proper (task n) a among redux).phase
 
-  abbrev pub updates : Updates p (task_at n) first_worker (worked_on p first_worker a)
-  updates = update trust.has p trust.proper trust.lawful its (contributes p trust.proper (task_at n) a among redux).is_phase (task_at n) inside a among redux (sym (contributes p trust.proper (task_at n) a among redux).cell) (contributes p trust.proper (task_at n) a among redux).among first_worker trust.staffed
+  abbrev pub updates : Updates p (task n) first_worker (worked_on p first_worker a)
+  updates = update trust.has p trust.proper trust.lawful its (contributes p trust.proper (task n) a among redux).is_phase (task n) inside a among redux (sym (contributes p trust.proper (task n) a among redux).cell) (contributes p trust.proper (task n) a among redux).among first_worker trust.staffed
 
   abbrev k : Contents
   k = contents_before p n
 
   abbrev new : Contents
-  new = after_task p first_worker (task_at n) k
+  new = after_task p first_worker (task n) k
 
   pub sized : AreSized p k
   sized = after_chosen-sized p trust.proper trust.lawful.arguments (λ u. true) (λ u. first_worker) (λ u. trust.staffed) n (omega (arith, inside))
 
-  one_kernel : updates.kernel ≡ kernel
-  one_kernel = let e : Some updates.kernel ≡ Some kernel = sym updates.codelet ∙ codelet in cc
-
   same_by : its.by ≡ f.by
   same_by =
-      let own = contributes p trust.proper (task_at n) a among redux in
-      one_reduction kernel its.by f.by (kernel-contributes p trust.proper (task_at n) its kernel codelet own.by_kernel) by_kernel
+      let own = contributes p trust.proper (task n) a among redux in
+      one_reduction kernel its.by f.by (kernel-contributes p trust.proper (task n) its kernel codelet own.by_kernel) by_kernel
 
   pub law : IsReduction f.by
-  law = subst IsReduction same_by (reduces p trust.proper trust.has trust.lawful its (contributes p trust.proper (task_at n) a among redux).is_phase first_worker trust.staffed)
+  law = subst IsReduction same_by (reduces p trust.proper trust.has trust.lawful its (contributes p trust.proper (task n) a among redux).is_phase first_worker trust.staffed)
 
   pub works_on : worked_on p first_worker a ≡ copy_at f.copies 0
   works_on = by_mode ∙ by_partials
@@ -149,28 +144,28 @@ module _ (p : Program) (trust : IsTrusted p) (n : ℕ) (inside : n < length p.ta
 
   -- what it adds
   abbrev pub added : Array
-  added = part trust.has p trust.proper trust.lawful its (contributes p trust.proper (task_at n) a among redux).is_phase (task_at n) inside a among redux (sym (contributes p trust.proper (task_at n) a among redux).cell) (contributes p trust.proper (task_at n) a among redux).among first_worker trust.staffed k
+  added = part trust.has p trust.proper trust.lawful its (contributes p trust.proper (task n) a among redux).is_phase (task n) inside a among redux (sym (contributes p trust.proper (task n) a among redux).cell) (contributes p trust.proper (task n) a among redux).among first_worker trust.staffed k
 
   abbrev size : Dims
   size = dims_of p a.cell
 
   pub added-sized : IsSized size added
   added-sized =
-      let own = contributes p trust.proper (task_at n) a among redux in
-      let h = part-fills trust.has p trust.proper trust.lawful its own.is_phase (task_at n) inside a among redux (sym own.cell) own.among first_worker trust.staffed k sized in
+      let own = contributes p trust.proper (task n) a among redux in
+      let h = part-fills trust.has p trust.proper trust.lawful its own.is_phase (task n) inside a among redux (sym own.cell) own.among first_worker trust.staffed k sized in
       record { tile = h.0; dims = h.1 ∙ ap (dims_of p) own.cell }
 
   added-first : held_in p new (copy_at f.copies 0) ≡ combined f.by added (held_in p k (copy_at f.copies 0))
   added-first =
-      let own = contributes p trust.proper (task_at n) a among redux in
+      let own = contributes p trust.proper (task n) a among redux in
       ap (held_in p new) (sym works_on)
-      ∙ adds trust.has p trust.proper trust.lawful its own.is_phase (task_at n) inside a among redux (sym own.cell) own.among first_worker trust.staffed k sized
+      ∙ adds trust.has p trust.proper trust.lawful its own.is_phase (task n) inside a among redux (sym own.cell) own.among first_worker trust.staffed k sized
       ∙ ap (λ (c : Cell). combined its.by added (held_in p k c)) works_on
       ∙ ap (λ (by : Reduction). combined by added (held_in p k (copy_at f.copies 0))) same_by
 
   -- other cells hold what they held
   pub others-kept : (c : Cell) → (c ≡ copy_at f.copies 0 → ⊥) → held_in p new c ≡ held_in p k c
-  others-kept c other = update-spares p trust.proper trust.lawful.arguments (task_at n) inside first_worker trust.staffed (worked_on p first_worker a) updates k c (λ e. other (e ∙ works_on))
+  others-kept c other = update-spares p trust.proper trust.lawful.arguments (task n) inside first_worker trust.staffed (worked_on p first_worker a) updates k c (λ e. other (e ∙ works_on))
 
   -- what is denoted has that more
   pub denotes-more : SizedCopies p k f size → (v : Array) → IsSized size v → with_all p new f (all_workers p) v ≡ combined f.by added (with_all p k f (all_workers p) v)
@@ -178,17 +173,17 @@ module _ (p : Program) (trust : IsTrusted p) (n : ℕ) (inside : n < length p.ta
       (λ w some below. others-kept (copy_at f.copies w) (λ e. let h : f.copies.0 + w ≡ f.copies.0 + 0 = ap (λ (c : Cell). c.0) e in omega (arith, h, some)))
 
   -- and so has the result of a run on what is denoted
-  pub result-more : (x : Array) → IsSized size x → result_of updates.kernel (task_of p (task_at n)).args (first_ins p (task_at n) first_worker (worked_on p first_worker a) updates (held_in p k)) x ≡ combined f.by added x
+  pub result-more : (x : Array) → IsSized size x → result_of updates.kernel (task_of p (task n)).args (first_ins p (task n) first_worker (worked_on p first_worker a) updates (held_in p k)) x ≡ combined f.by added x
   result-more x hx =
-      let own = contributes p trust.proper (task_at n) a among redux in
+      let own = contributes p trust.proper (task n) a among redux in
       let c = worked_on p first_worker a in
-      let ins = first_ins p (task_at n) first_worker c updates (held_in p k) in
-      let call = update-call p trust.proper trust.lawful.arguments (task_at n) inside first_worker trust.staffed c updates k sized in
-      let by = kernel-contributes p trust.proper (task_at n) its updates.kernel updates.codelet own.by_kernel in
+      let ins = first_ins p (task n) first_worker c updates (held_in p k) in
+      let call = update-call p trust.proper trust.lawful.arguments (task n) inside first_worker trust.staffed c updates k sized in
+      let by = kernel-contributes p trust.proper (task n) its updates.kernel updates.codelet own.by_kernel in
       combines its.by (reduces p trust.proper trust.has trust.lawful its own.is_phase first_worker trust.staffed) updates.kernel by
-      (does_contribute p trust.proper trust.has trust.lawful its own.is_phase first_worker trust.staffed (task_at n) inside updates.kernel updates.codelet by)
-      (task_of p (task_at n)).args ins x (zeros (dims_of p its.cell)) (hx.dims ∙ ap (dims_of p) (sym own.cell))
-      (call-with updates.kernel (task_of p (task_at n)).args ins (held_in p k c) x call hx.tile (hx.dims ∙ sym (held_dims c)))
+      (does_contribute p trust.proper trust.has trust.lawful its own.is_phase first_worker trust.staffed (task n) inside updates.kernel updates.codelet by)
+      (task_of p (task n)).args ins x (zeros (dims_of p its.cell)) (hx.dims ∙ ap (dims_of p) (sym own.cell))
+      (call-with updates.kernel (task_of p (task n)).args ins (held_in p k c) x call hx.tile (hx.dims ∙ sym (held_dims c)))
       ∙ ap (λ (by : Reduction). combined by added x) same_by
     where
       held_dims : (c : Cell) → (held_in p k (worked_on p first_worker a)).dims ≡ size

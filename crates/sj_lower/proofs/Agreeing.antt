@@ -5,8 +5,8 @@ use Rattle.std.specs.List.{AllByRecursion, list_all}
 use Rattle.std.specs.Option.{is_none}
 use Rattle.std.specs.Str.{bytes_eq}
 use Rattle.std.proofs.lemmas.Bool.{false≢true}
-use Rattle.std.proofs.lemmas.List.{length-map, length-replicate}
-use Rattle.std.proofs.lemmas.List.FromFn.{length-map-range_with_len}
+use Rattle.std.proofs.lemmas.List.{length-replicate, append-nil}
+use Rattle.std.proofs.lemmas.Option.{same_Some}
 use Rattle.sj_base.specs.declared.ids.Cell.{Cell}
 use Rattle.sj_base.specs.declared.ids.Line.{Line}
 use Rattle.sj_base.specs.declared.tile.Dims.{Dims}
@@ -19,6 +19,9 @@ use Rattle.sj_codelet.specs.declared.kernel.Kernel.TheVariants.{Load, LoadFill}
 use Rattle.sj_core.specs.Program.{same_cell}
 use Rattle.sj_core.specs.Proper.{HasValueBefore}
 use Rattle.sj_base.specs.declared.mode.Reduction.{Reduction}
+use Rattle.sj_base.proofs.SameIds.{cell_of_number}
+use Rattle.sj_base.proofs.Texts.{same_text, other_text}
+use Rattle.sj_base.specs.Ids.{task}
 use Rattle.sj_lower.specs.declared.phase.OpenPhase.{OpenPhase}
 use Rattle.sj_core.specs.Fold.{Contents, held_in}
 use Rattle.sj_plan.specs.declared.parts.Parts.{Parts}
@@ -26,6 +29,7 @@ use Rattle.sj_plan.specs.Parts.{Fits, IsPlace, places}
 use Rattle.sj_plan.specs.Paste.{pastes_of}
 use Rattle.sj_plan.specs.Rect.{child}
 use Rattle.sj_plan.specs.Window.{window}
+use Rattle.sj_plan.proofs.Repartitioning.{child-within}
 use Rattle.sj_meaning.specs.declared.job.Init.{Init}
 use Rattle.sj_meaning.specs.declared.job.Init.TheVariants.{Values, Fill, Nothing}
 use Rattle.sj_codelet.specs.Kernel.{out}
@@ -35,26 +39,23 @@ use Rattle.sj_meaning.specs.Act.{Register as Registers, Plan as Plans, Redux as 
 use Rattle.sj_meaning.specs.State.{Root, State, root_of, is_valued, is_blank, is_valued_child, start}
 use Rattle.sj_meaning.specs.Meaning.{array_of, child_array, with_child, put, put_all, written_of, operand_array, integers_of, first_elements, registered_root, register, no_values, with_parts, with_elements, with_reduction, reduce, plan, invalidate, unregister, run_task, apply}
 use Rattle.sj_meaning.specs.Sound.{has_root, has_values, has_none, reduction_of, InitFits, IsSoundTask, IsSoundRegistration, IsSoundPlan, IsSoundAct}
-use Rattle.sj_lower.specs.Cells.{Cells, Handle, same_parts, cell_of, take, with_root, next_handle, copy_at}
+use Rattle.sj_lower.specs.Cells.{Cells, Handle, same_parts, cell_of, take, with_new_root, next_handle, copy_at}
 use Rattle.sj_lower.specs.Rows.{load_row, fill_row, fill_arguments, paste_row}
-use Rattle.sj_lower.specs.Lowering.{Lowering, nothing, load_rows, parts_in, active_cell, is_idle, plan_rows, task_row, deliver_rows, add_own}
+use Rattle.sj_lower.specs.Lowering.{Lowering, nothing, load_rows, parts_in, active_cell, leaves_plan, plan_rows, task_row, deliver_rows, add_own}
 use Rattle.sj_lower.proofs.Combined.{IsTrusted, Phases, denoted-closed}
-use Rattle.sj_lower.proofs.Contents.{task_at, contents_before, contents-next}
+use Rattle.sj_lower.proofs.Contents.{contents_before, contents-next}
 use Rattle.sj_lower.proofs.Copies.{copies-none, copies-root, copies-take, take-more}
-use Rattle.sj_lower.proofs.Elements.{child-within, child-window, valued-child, blank-child, no_values-blank, unwrapped, filled-window}
+use Rattle.sj_lower.proofs.Elements.{child-window, valued-child, blank-child, no_values-blank, unwrapped, filled-window}
 use Rattle.sj_lower.proofs.Filling.{AreFilled, HaveOwn, rows-filled, rows-give, blocks-give, after_load, after_fill, after_delivers, gives_own}
 use Rattle.sj_lower.proofs.Folding.{Stand, after_rows, contents-rows, one_gives, given-rows}
 use Rattle.sj_meaning.proofs.Finding.{get-put, get-gone, root-change}
 use Rattle.sj_lower.proofs.Holding.{IsHeld, HasRoot, HaveRoots, HaveTheirs, HasCells, differs, not_copy, root-kept, held-kept, cell-dims}
-use Rattle.sj_lower.proofs.Laid.{same_name, bytes_eq-itself, some_is, none_isn't, IsTaken, AreLaid, cell-is, cells-apart, laid-none, laid-root, laid-take, root-keeps, root-there, take-keeps, take-takes}
+use Rattle.sj_lower.proofs.Laid.{none_isn't, IsTaken, AreLaid, cell-is, cells-apart, laid-none, laid-root, laid-take, root-keeps, root-there, take-keeps, take-takes}
 use Rattle.sj_lower.proofs.Pasting.{rows_to, rows-by_child, pastes-filled, pastes-give}
 use Rattle.sj_lower.proofs.Places.{parts-are, parts-itself}
 use Rattle.sj_lower.proofs.Running.{is_direct, IsClosed, root_there, holds-task}
 use Rattle.sj_lower.proofs.Stating.{Begins, stands-own, IsActiveChild, Agrees}
-
-nothing_more : {X : Type 0} (xs : List X) → xs ++ [] ≡ xs
-nothing_more [] = refl
-nothing_more (x ∷ xs) = ap (λ ys. x ∷ ys) (nothing_more xs)
+use Rattle.sj_job.proofs.Children.{first_length}
 
 pub none_of : {X : Type 0} (o : Option X) → ((x : X) → o ≡ Some x → ⊥) → o ≡ None
 none_of None h = refl
@@ -67,14 +68,11 @@ theirs_taken workers C phases name s laid h = record {
   theirs = λ c f e. (take-more C name s).kept c.0 f.copies (h.theirs c f e);
 }
 
-theirs_rooted : (workers : ℕ) (C : Cells) (phases : Phases) (name : List ℕ) (d : Dims) → HaveTheirs workers C phases → HaveTheirs workers (with_root name d C) phases
+theirs_rooted : (workers : ℕ) (C : Cells) (phases : Phases) (name : List ℕ) (d : Dims) → HaveTheirs workers C phases → HaveTheirs workers (with_new_root name d C) phases
 theirs_rooted workers C phases name d h = record { copies = copies-root workers C name d h.copies; theirs = h.theirs }
 
 pub same_child_cell : (C D : Cells) (q : List ℕ) (d e : Dims) (s : Parts) (f : ℕ) (place : ℕ × ℕ) → IsTaken C q d s f → IsTaken D q e s f → cell_of C q s place ≡ cell_of D q s place
-same_child_cell C D q d e s f place t u = one_cell (cell_of C q s place) (cell_of D q s place) (cell-is C q d s f place t ∙ sym (cell-is D q e s f place u))
-  where
-    one_cell : (c d : Cell) → c.0 ≡ d.0 → c ≡ d
-    one_cell c d e = λ i. record { 0 = e i }
+same_child_cell C D q d e s f place t u = cell_of_number (cell_of C q s place) (cell_of D q s place) (cell-is C q d s f place t ∙ sym (cell-is D q e s f place u))
 
 pub reduction-is : (S : State) (q : List ℕ) (r : Root) → root_of S q ≡ Some r → reduction_of S q ≡ r.reduction
 reduction-is S q r e = ap (λ (o : Option Root). elim o as (λ _. Option Reduction) [ None ↦ None | Some r ↦ r.reduction ]) e
@@ -89,7 +87,7 @@ put-parts o a S q r e = by_root (root_of S o.name) refl
       where
         by_test : (b : Bool) → bytes_eq o.name q ≡ b → (t : Root) × (root_of (put o a S) q ≡ Some t) × (t.parts ≡ r.parts)
         by_test true eb =
-            let one : u ≡ r = some_is u r (sym is ∙ ap (root_of S) (same_name o.name q eb) ∙ e) in
+            let one : u ≡ r = same_Some u r (sym is ∙ ap (root_of S) (same_text o.name q eb) ∙ e) in
             (with_child o.place a u, root-change (with_child o.place a) o.name S u q is ∙ ap (λ z. cond z (Some (with_child o.place a u)) (root_of S q)) eb, ap (λ (x : Root). x.parts) one)
         by_test false eb = (r, root-change (with_child o.place a) o.name S u q is ∙ ap (λ z. cond z (Some (with_child o.place a u)) (root_of S q)) eb ∙ e, refl)
 
@@ -108,14 +106,11 @@ run-parts t S q r e = puts-parts (written_of t.operands) (out t.codelet t.args (
 own_cells : (C : Cells) (q : List ℕ) (d : Dims) (s : Parts) (f : ℕ) → AreLaid C → IsTaken C q d s f → HaveOwn s (cell_of C q s)
 own_cells C q d s f laid t place other hp ho same = (cells-apart C q q d d s s f f place other laid t t hp ho same).2
 
-other_name : (a b : List ℕ) → bytes_eq a b ≡ false → a ≡ b → ⊥
-other_name a b e same = false≢true (sym e ∙ ap (bytes_eq a) (sym same) ∙ bytes_eq-itself a)
-
 -- what fills the cells of a name leaves those of another
 beside : (p : Program) (C : Cells) (k new : Contents) (name q : List ℕ) (d e : Dims) (s t : Parts) (f g : ℕ) (x : ℕ × ℕ → Array) → AreLaid C → IsTaken C name d s f → IsTaken C q e t g → bytes_eq name q ≡ false → AreFilled p k new s (cell_of C name s) x
     → (place : ℕ × ℕ) → IsPlace t place → held_in p new (cell_of C q t place) ≡ held_in p k (cell_of C q t place)
 beside p C k new name q d e s t f g x laid u v other filled place inside =
-    filled.others (cell_of C q t place) (λ from at. differs (cell_of C name s from) (cell_of C q t place) (λ same. other_name name q other (cells-apart C name q d e s t f g from place laid u v at inside same).0))
+    filled.others (cell_of C q t place) (λ from at. differs (cell_of C name s from) (cell_of C q t place) (λ same. other_text name q other (cells-apart C name q d e s t f g from place laid u v at inside same).0))
 
 -- ---- registrations
 
@@ -124,11 +119,6 @@ record Starts (p : Program) (C : Cells) (r : Register (List ℕ)) (line : Line) 
   value : (place : ℕ × ℕ) → IsPlace r.parts place → is_valued_child (registered_root r) place ≡ true → held_in p (after_rows p k (load_rows r.init r.dims r.parts (cell_of C r.name r.parts) line)) (cell_of C r.name r.parts place) ≡ child_array (registered_root r) place
   gives : (place : ℕ × ℕ) → IsPlace r.parts place → is_valued_child (registered_root r) place ≡ true → one_gives (load_rows r.init r.dims r.parts (cell_of C r.name r.parts) line) (cell_of C r.name r.parts place) ≡ true
   others : (c : Cell) → ((place : ℕ × ℕ) → IsPlace r.parts place → same_cell (cell_of C r.name r.parts place) c ≡ false) → held_in p (after_rows p k (load_rows r.init r.dims r.parts (cell_of C r.name r.parts) line)) c ≡ held_in p k c
-
-first_whole : (i : Init) (d : Dims) → InitFits i d → length (first_elements i d) ≡ area d
-first_whole (Values xs) d f = length-map xs (λ x. Some x) ∙ f
-first_whole (Fill a b) d f = length-map-range_with_len _ 0 (area d)
-first_whole Nothing d f = length-replicate (area d) None
 
 starts : (p : Program) (C : Cells) (r : Register (List ℕ)) (line : Line) (k : Contents) (i : Init) (f : ℕ) → r.init ≡ i → Fits r.parts r.dims → InitFits r.init r.dims → HasCells p C → AreLaid C → IsTaken C r.name r.dims r.parts f → Starts p C r line k
 starts p C r line k (Values xs) f e fits init cells laid t =
@@ -165,7 +155,7 @@ starts p C r line k (Fill a b) f e fits init cells laid t =
 starts p C r line k Nothing f e fits init cells laid t =
     let none : load_rows r.init r.dims r.parts (cell_of C r.name r.parts) line ≡ [] = ap (λ i. load_rows i r.dims r.parts (cell_of C r.name r.parts) line) e in
     let blank : is_blank (registered_root r) ≡ true = ap (λ i. list_all (λ (e : Option ℤ). is_none e) (first_elements i r.dims)) e ∙ no_values-blank (area r.dims) in
-    let unvalued = λ (place : ℕ × ℕ) (inside : IsPlace r.parts place) (v : is_valued_child (registered_root r) place ≡ true). blank-child (registered_root r) place (first_whole r.init r.dims init) blank fits inside v in
+    let unvalued = λ (place : ℕ × ℕ) (inside : IsPlace r.parts place) (v : is_valued_child (registered_root r) place ≡ true). blank-child (registered_root r) place (first_length r.init r.dims init) blank fits inside v in
     record {
       value = λ place inside v. absurd (unvalued place inside v);
       gives = λ place inside v. absurd (unvalued place inside v);
@@ -176,7 +166,7 @@ agrees_registered : (p : Program) (L : Lowering) (S : State) (line : Line) (r : 
 agrees_registered p L S line r b s g = record { laid = laid; theirs = theirs; opened = opened; roots = λ q t e. by_name q t (bytes_eq r.name q) refl (sym (get-put S.roots r.name (registered_root r) q) ∙ e) }
   where
     C : Cells
-    C = with_root r.name r.dims L.cells
+    C = with_new_root r.name r.dims L.cells
 
     D : Cells
     D = take r.name r.parts C
@@ -220,7 +210,7 @@ agrees_registered p L S line r b s g = record { laid = laid; theirs = theirs; op
       where
         by_test : (x : Bool) → bytes_eq r.name q ≡ x → x ≡ false
         by_test false h = refl
-        by_test true h = absurd (none_isn't t (sym s.fresh ∙ ap (root_of S) (same_name r.name q h) ∙ e))
+        by_test true h = absurd (none_isn't t (sym s.fresh ∙ ap (root_of S) (same_text r.name q h) ∙ e))
 
     kept : (q : List ℕ) (t : Root) (e : root_of S q ≡ Some t) → IsTaken D q t.dims t.parts (g.roots q t e).first
     kept q t e = let o = g.roots q t e in take-keeps C r.name r.parts (next_handle r.dims L.cells) there q t.dims t.parts o.first (root-keeps L.cells r.name r.dims q t.dims t.parts o.first (other q t e) o.taken)
@@ -245,20 +235,20 @@ agrees_registered p L S line r b s g = record { laid = laid; theirs = theirs; op
         let h = g.roots o.name o.root o.is_root in
         let same = cells-apart D r.name o.name r.dims o.root.dims r.parts o.root.parts taken.0 h.first place o.place laid taken.1 (kept o.name o.root o.is_root) inside o.placed
         (o.cell ∙ same_child_cell L.cells D o.name o.root.dims o.root.dims o.root.parts h.first o.place h.taken (kept o.name o.root o.is_root)) in
-        other_name r.name o.name (other o.name o.root o.is_root) same.0)
+        other_text r.name o.name (other o.name o.root o.is_root) same.0)
 
     by_name : (q : List ℕ) (t : Root) (c : Bool) → bytes_eq r.name q ≡ c → cond c (Some (registered_root r)) (root_of S q) ≡ Some t → HasRoot p D L.phase now (contents_before p now) q t
     by_name q t true eb e =
-        subst (λ (x : Root). HasRoot p D L.phase now (contents_before p now) q x) (some_is (registered_root r) t e)
-        (subst (λ (u : List ℕ). HasRoot p D L.phase now (contents_before p now) u (registered_root r)) (same_name r.name q eb)
+        subst (λ (x : Root). HasRoot p D L.phase now (contents_before p now) q x) (same_Some (registered_root r) t e)
+        (subst (λ (u : List ℕ). HasRoot p D L.phase now (contents_before p now) u (registered_root r)) (same_text r.name q eb)
         (record {
           fits = s.parts;
-          whole = first_whole r.init r.dims s.values;
+          whole = first_length r.init r.dims s.values;
           first = taken.0;
           taken = taken.1;
           held = λ place inside v. record {
             value = λ trust. denoted-closed p L.phase (contents_before p now) (cell_of D r.name r.parts place) (fresh place inside) ∙ ap (λ (k : Contents). held_in p k (cell_of D r.name r.parts place)) left ∙ st.value place inside v;
-            given = subst (λ (m : ℕ). HasValueBefore p (task_at m) (cell_of D r.name r.parts place)) (sym longer) (given-rows p n ls (cell_of D r.name r.parts place) stand (st.gives place inside v));
+            given = subst (λ (m : ℕ). HasValueBefore p (task m) (cell_of D r.name r.parts place)) (sym longer) (given-rows p n ls (cell_of D r.name r.parts place) stand (st.gives place inside v));
             copies = λ f e. absurd (none_isn't f (sym (fresh place inside) ∙ e));
           };
           blank = λ place inside v. fresh place inside;
@@ -270,7 +260,7 @@ agrees_registered p L S line r b s g = record { laid = laid; theirs = theirs; op
         root-kept p L.cells D L.phase L.phase n now (contents_before p n) (contents_before p now) q t o u (omega (arith, longer))
         (λ trust place inside.
         ap (λ (k : Contents). held_in p k (cell_of D q t.parts place)) left
-        ∙ st.others (cell_of D q t.parts place) (λ from at. differs (cell_of D r.name r.parts from) (cell_of D q t.parts place) (λ same. other_name r.name q eb (cells-apart D r.name q r.dims t.dims r.parts t.parts taken.0 o.first from place laid taken.1 u at inside same).0)))
+        ∙ st.others (cell_of D q t.parts place) (λ from at. differs (cell_of D r.name r.parts from) (cell_of D q t.parts place) (λ same. other_text r.name q eb (cells-apart D r.name q r.dims t.dims r.parts t.parts taken.0 o.first from place laid taken.1 u at inside same).0)))
         (λ place inside. refl)
         (λ trust place f inside is w below. ap (λ (k : Contents). held_in p k (copy_at f.copies w)) left
         ∙ st.others (copy_at f.copies w) (λ from at. not_copy p.workers D L.phase r.name r.dims r.parts taken.0 from (cell_of D q t.parts place) f w theirs taken.1 at is below))
@@ -286,7 +276,7 @@ pub plan_rows-are : (S : State) (C : Cells) (name : List ℕ) (s : Parts) (line 
     → plan_rows S C name s line ≡ cond (same_parts r.parts s || not (is_valued r)) [] (each_of (paste_row (cell_of C name r.parts) (cell_of C name s) line) (pastes_of r.dims r.parts s))
 plan_rows-are S C name s line r e = ap (λ (o : Option Root). elim o as (λ _. List Lowered) [
   | None ↦ []
-  | Some r ↦ cond (is_idle s r) [] (each_of (paste_row (cell_of C name r.parts) (cell_of C name s) line) (pastes_of r.dims r.parts s))
+  | Some r ↦ cond (leaves_plan s r) [] (each_of (paste_row (cell_of C name r.parts) (cell_of C name s) line) (pastes_of r.dims r.parts s))
 ]) e
 
 no_tasks : (n : ℕ) → n ≤ n + 0
@@ -351,7 +341,7 @@ has-taken p L S name s r g e =
     root-kept p L.cells (take name s L.cells) L.phase L.phase n n k k name r had (take-keeps L.cells name s had.taken.handle had.taken.is name r.dims r.parts had.first had.taken) (omega arith)
     (λ trust place inside. refl) (λ place inside. refl) (λ trust place f inside is w below. refl)
 
-values_are : (S : State) (name : List ℕ) (r : Root) → root_of S name ≡ Some r → (has_values S name || has_none S name) ≡ (is_valued r || is_blank r)
+pub values_are : (S : State) (name : List ℕ) (r : Root) → root_of S name ≡ Some r → (has_values S name || has_none S name) ≡ (is_valued r || is_blank r)
 values_are S name r e = ap (λ (o : Option Root). (elim o as (λ _. Bool) [ None ↦ false | Some r ↦ is_valued r ]) || (elim o as (λ _. Bool) [ None ↦ false | Some r ↦ is_blank r ])) e
 
 -- no phase is open on a child of the active plan
@@ -365,7 +355,7 @@ plan-fresh p L S name s r f g is laid taken changed place inside = none_of (L.ph
     let i = g.roots o.name o.root o.is_root in
     let kept = take-keeps L.cells name s had.taken.handle had.taken.is o.name o.root.dims o.root.parts i.first i.taken in
     let same = cells-apart D name o.name r.dims o.root.dims s o.root.parts f i.first place o.place laid taken kept inside o.placed (o.cell ∙ same_child_cell L.cells D o.name o.root.dims o.root.dims o.root.parts i.first o.place i.taken kept) in
-    let one : r ≡ o.root = some_is r o.root (sym is ∙ ap (root_of S) same.0 ∙ o.is_root) in
+    let one : r ≡ o.root = same_Some r o.root (sym is ∙ ap (root_of S) same.0 ∙ o.is_root) in
     false≢true (sym changed ∙ ap (same_parts r.parts) (same.1 ∙ ap (λ (x : Root). x.parts) (sym one)) ∙ parts-itself r.parts))
   where
     D : Cells
@@ -460,7 +450,7 @@ agrees_planned p L S line name s b sound shut g = record { laid = laid; theirs =
           cell = o.cell ∙ same_cells o.name o.root i o.place;
         }
         by_test o i true eq true changed =
-            let one : r ≡ o.root = some_is r o.root (sym root.1 ∙ ap (root_of S) (same_name name o.name eq) ∙ o.is_root) in
+            let one : r ≡ o.root = same_Some r o.root (sym root.1 ∙ ap (root_of S) (same_text name o.name eq) ∙ o.is_root) in
             let parts : o.root.parts ≡ s = ap (λ (x : Root). x.parts) (sym one) ∙ parts-are r.parts s changed in
             record {
               name = o.name;
@@ -471,9 +461,9 @@ agrees_planned p L S line name s b sound shut g = record { laid = laid; theirs =
               cell = o.cell ∙ same_cells o.name o.root i o.place ∙ ap (λ (x : Parts). cell_of D o.name x o.place) parts;
             }
         by_test o i true eq false changed =
-            let one : r ≡ o.root = some_is r o.root (sym root.1 ∙ ap (root_of S) (same_name name o.name eq) ∙ o.is_root) in
+            let one : r ≡ o.root = same_Some r o.root (sym root.1 ∙ ap (root_of S) (same_text name o.name eq) ∙ o.is_root) in
             absurd (none_isn't f (sym (shut r o.place root.1 (subst (λ (x : Root). IsPlace x.parts o.place) (sym one) o.placed) changed)
-            ∙ ap L.phase (ap (λ (q : List ℕ). cell_of L.cells q r.parts o.place) (same_name name o.name eq) ∙ ap (λ (x : Root). cell_of L.cells o.name x.parts o.place) one ∙ sym o.cell) ∙ e))
+            ∙ ap L.phase (ap (λ (q : List ℕ). cell_of L.cells q r.parts o.place) (same_text name o.name eq) ∙ ap (λ (x : Root). cell_of L.cells o.name x.parts o.place) one ∙ sym o.cell) ∙ e))
 
     st : Turns p D L.phase S name r s line k n
     st = turns_by p D L.phase S name r s line n taken.0 root.1 stand b.cells laid had_taken closed fresh taken.1
@@ -493,8 +483,8 @@ agrees_planned p L S line name s b sound shut g = record { laid = laid; theirs =
 
     by_name : (q : List ℕ) (t : Root) (c : Bool) → bytes_eq name q ≡ c → cond c (Some (with_parts s r)) (root_of S q) ≡ Some t → HasRoot p D L.phase now (contents_before p now) q t
     by_name q t true eb e =
-        subst (λ (x : Root). HasRoot p D L.phase now (contents_before p now) q x) (some_is (with_parts s r) t e)
-        (subst (λ (u : List ℕ). HasRoot p D L.phase now (contents_before p now) u (with_parts s r)) (same_name name q eb)
+        subst (λ (x : Root). HasRoot p D L.phase now (contents_before p now) q x) (same_Some (with_parts s r) t e)
+        (subst (λ (u : List ℕ). HasRoot p D L.phase now (contents_before p now) u (with_parts s r)) (same_text name q eb)
         (record {
           fits = subst (λ (d : Dims). Fits s d) had.taken.dims fit;
           whole = had.whole;
@@ -510,7 +500,7 @@ agrees_planned p L S line name s b sound shut g = record { laid = laid; theirs =
         root-kept p L.cells D L.phase L.phase n now k (contents_before p now) q t o (kept q t o) (omega (arith, longer))
         (λ trust place inside.
         ap (λ (k : Contents). held_in p k (cell_of D q t.parts place)) left
-        ∙ st.others trust (cell_of D q t.parts place) (λ from at. differs (cell_of D name s from) (cell_of D q t.parts place) (λ same. other_name name q eb (cells-apart D name q r.dims t.dims s t.parts taken.0 o.first from place laid taken.1 (kept q t o) at inside same).0)))
+        ∙ st.others trust (cell_of D q t.parts place) (λ from at. differs (cell_of D name s from) (cell_of D q t.parts place) (λ same. other_text name q eb (cells-apart D name q r.dims t.dims s t.parts taken.0 o.first from place laid taken.1 (kept q t o) at inside same).0)))
         (λ place inside. refl)
         (λ trust place f inside is w below. ap (λ (k : Contents). held_in p k (copy_at f.copies w)) left
         ∙ st.others trust (copy_at f.copies w) (λ from at. not_copy p.workers D L.phase name r.dims s taken.0 from (cell_of D q t.parts place) f w theirs taken.1 at is below))
@@ -572,7 +562,7 @@ agrees_reduced p L S line name by bare there g = record {
   laid = g.laid;
   theirs = g.theirs;
   opened = opened_kept p L S (reduce name by S) g (λ q t e place f inside is. by_opened q t e (bytes_eq name q) refl);
-  roots = same_tasks p L (reduce name by S) (L.tasks ++ []) (nothing_more L.tasks) (λ q t e. by_name q t (bytes_eq name q) refl (sym (root-change (with_reduction by) name S root.0 q root.1) ∙ e));
+  roots = same_tasks p L (reduce name by S) (L.tasks ++ []) (append-nil L.tasks) (λ q t e. by_name q t (bytes_eq name q) refl (sym (root-change (with_reduction by) name S root.0 q root.1) ∙ e));
 }
   where
     root : (r : Root) × (root_of S name ≡ Some r)
@@ -583,7 +573,7 @@ agrees_reduced p L S line name by bare there g = record {
 
     by_opened : (q : List ℕ) (t : Root) → root_of S q ≡ Some t → (x : Bool) → bytes_eq name q ≡ x → (u : Root) × (root_of (reduce name by S) q ≡ Some u) × (u.parts ≡ t.parts)
     by_opened q t e true eb =
-        let one : root.0 ≡ t = some_is root.0 t (sym root.1 ∙ ap (root_of S) (same_name name q eb) ∙ e) in
+        let one : root.0 ≡ t = same_Some root.0 t (sym root.1 ∙ ap (root_of S) (same_text name q eb) ∙ e) in
         (with_reduction by root.0, root-change (with_reduction by) name S root.0 q root.1 ∙ ap (λ z. cond z (Some (with_reduction by root.0)) (root_of S q)) eb, ap (λ (x : Root). x.parts) one)
     by_opened q t e false eb = (t, root-change (with_reduction by) name S root.0 q root.1 ∙ ap (λ z. cond z (Some (with_reduction by root.0)) (root_of S q)) eb ∙ e, refl)
 
@@ -594,8 +584,8 @@ agrees_reduced p L S line name by bare there g = record {
     by_name : (q : List ℕ) (t : Root) (c : Bool) → bytes_eq name q ≡ c → cond c (Some (with_reduction by root.0)) (root_of S q) ≡ Some t → HasRoot p L.cells L.phase n (contents_before p n) q t
     by_name q t true eb e =
         let o = g.roots name root.0 root.1 in
-        subst (λ (x : Root). HasRoot p L.cells L.phase n (contents_before p n) q x) (some_is (with_reduction by root.0) t e)
-        (subst (λ (u : List ℕ). HasRoot p L.cells L.phase n (contents_before p n) u (with_reduction by root.0)) (same_name name q eb)
+        subst (λ (x : Root). HasRoot p L.cells L.phase n (contents_before p n) q x) (same_Some (with_reduction by root.0) t e)
+        (subst (λ (u : List ℕ). HasRoot p L.cells L.phase n (contents_before p n) u (with_reduction by root.0)) (same_text name q eb)
         (record { fits = o.fits; whole = o.whole; first = o.first; taken = o.taken; held = o.held; blank = o.blank; reduced = λ place f inside is. absurd (none_there f (o.reduced place f inside is)) }))
     by_name q t false eb e = g.roots q t e
 
@@ -604,7 +594,7 @@ agrees_invalidated p L S line name there shut g = record {
   laid = g.laid;
   theirs = g.theirs;
   opened = opened_kept p L S (invalidate name S) g (λ q t e place f inside is. by_opened q t e (bytes_eq name q) refl);
-  roots = same_tasks p L (invalidate name S) (L.tasks ++ []) (nothing_more L.tasks) (λ q t e. by_name q t (bytes_eq name q) refl (sym (root-change (λ r. with_elements (no_values r.dims) r) name S root.0 q root.1) ∙ e));
+  roots = same_tasks p L (invalidate name S) (L.tasks ++ []) (append-nil L.tasks) (λ q t e. by_name q t (bytes_eq name q) refl (sym (root-change (λ r. with_elements (no_values r.dims) r) name S root.0 q root.1) ∙ e));
 }
   where
     root : (r : Root) × (root_of S name ≡ Some r)
@@ -618,7 +608,7 @@ agrees_invalidated p L S line name there shut g = record {
 
     by_opened : (q : List ℕ) (t : Root) → root_of S q ≡ Some t → (x : Bool) → bytes_eq name q ≡ x → (u : Root) × (root_of (invalidate name S) q ≡ Some u) × (u.parts ≡ t.parts)
     by_opened q t e true eb =
-        let one : root.0 ≡ t = some_is root.0 t (sym root.1 ∙ ap (root_of S) (same_name name q eb) ∙ e) in
+        let one : root.0 ≡ t = same_Some root.0 t (sym root.1 ∙ ap (root_of S) (same_text name q eb) ∙ e) in
         (empty, root-change (λ r. with_elements (no_values r.dims) r) name S root.0 q root.1 ∙ ap (λ z. cond z (Some empty) (root_of S q)) eb, ap (λ (x : Root). x.parts) one)
     by_opened q t e false eb = (t, root-change (λ r. with_elements (no_values r.dims) r) name S root.0 q root.1 ∙ ap (λ z. cond z (Some empty) (root_of S q)) eb ∙ e, refl)
 
@@ -626,8 +616,8 @@ agrees_invalidated p L S line name there shut g = record {
     by_name q t true eb e =
         let o = g.roots name root.0 root.1 in
         let whole : length (no_values root.0.dims) ≡ area root.0.dims = length-replicate (area root.0.dims) None in
-        subst (λ (x : Root). HasRoot p L.cells L.phase n (contents_before p n) q x) (some_is empty t e)
-        (subst (λ (u : List ℕ). HasRoot p L.cells L.phase n (contents_before p n) u empty) (same_name name q eb)
+        subst (λ (x : Root). HasRoot p L.cells L.phase n (contents_before p n) q x) (same_Some empty t e)
+        (subst (λ (u : List ℕ). HasRoot p L.cells L.phase n (contents_before p n) u empty) (same_text name q eb)
         (record {
           fits = o.fits;
           whole = whole;
@@ -644,12 +634,12 @@ agrees_unregistered p L S line name shut g = record {
   laid = g.laid;
   theirs = g.theirs;
   opened = opened_kept p L S (unregister name S) g (λ q t e place f inside is. by_opened q t e place f inside is (bytes_eq name q) refl);
-  roots = same_tasks p L (unregister name S) (L.tasks ++ []) (nothing_more L.tasks) (λ q t e. by_name q t (bytes_eq name q) (sym (get-gone S.roots name q) ∙ e));
+  roots = same_tasks p L (unregister name S) (L.tasks ++ []) (append-nil L.tasks) (λ q t e. by_name q t (bytes_eq name q) (sym (get-gone S.roots name q) ∙ e));
 }
   where
     by_opened : (q : List ℕ) (t : Root) → root_of S q ≡ Some t → (place : ℕ × ℕ) (f : OpenPhase) → IsPlace t.parts place → L.phase (cell_of L.cells q t.parts place) ≡ Some f → (x : Bool) → bytes_eq name q ≡ x → (u : Root) × (root_of (unregister name S) q ≡ Some u) × (u.parts ≡ t.parts)
     by_opened q t e place f inside is true eb =
-        let here = same_name name q eb in
+        let here = same_text name q eb in
         absurd (none_isn't f (sym (shut t place (ap (root_of S) here ∙ e) inside) ∙ ap (λ (u : List ℕ). L.phase (cell_of L.cells u t.parts place)) here ∙ is))
     by_opened q t e place f inside is false eb = (t, get-gone S.roots name q ∙ ap (λ z. cond z None (root_of S q)) eb ∙ e, refl)
 

@@ -1,6 +1,7 @@
 -- What a statement that lines may say has.
-use Rattle.std.proofs.Common.{◌≡◌, ℕ, ◌&&◌, ◌+◌, Bool, true, false, List, [], ◌∷◌, Some, Ok, ap, subst, sym, ◌∙◌}
+use Rattle.std.proofs.Common.{◌≡◌, ℕ, ◌&&◌, ◌+◌, Bool, true, List, [], ◌∷◌, Some, Ok, ap, subst, sym, ◌∙◌}
 use Rattle.std.proofs.lemmas.Bool.{false≢true}
+use Rattle.sj_base.proofs.Bools.{and_rest}
 use Rattle.sj_codelet.specs.declared.kernel.Kernel.{Kernel}
 use Rattle.sj_codelet.specs.declared.kernel.Kernel.TheVariants.{Deliver}
 use Rattle.sj_codelet.specs.Kernel.{kernels, kernel_of, codelet_of, has_name}
@@ -17,10 +18,6 @@ use Rattle.sj_job.specs.Well.{IsAllowed, IsWell}
 use Rattle.sj_lower.proofs.Able.{DoesNotDeliver, CanBe, AllCanBe}
 use Rattle.sj_job.proofs.Sounding.{IsJudged, unless_parts, judged-task, found_passes, sound_from_allowed}
 
-second : (b c : Bool) → (b && c) ≡ true → c ≡ true
-second true c e = e
-second false c e = absurd (cc)
-
 -- a codelet with a name doesn't deliver
 named_isn't : (name : List ℕ) (k : Kernel) → has_name name k ≡ true → kernel_of (codelet_of k) ≡ Some Deliver → ⊥
 named_isn't name k h e =
@@ -30,7 +27,7 @@ named_isn't name k h e =
 task_isn't : (has : Kernel → Bool) (s : Scope) (t : TaskForm) (act : Act (List ℕ)) → IsJudged has s t act → DoesNotDeliver act
 task_isn't has s t act j =
     let passes = found_passes (λ k. has k && has_name t.codelet k) kernels j.kernel j.named in
-    subst DoesNotDeliver j.is (named_isn't t.codelet j.kernel (second (has j.kernel) (has_name t.codelet j.kernel) passes))
+    subst DoesNotDeliver j.is (named_isn't t.codelet j.kernel (and_rest (has j.kernel) (has_name t.codelet j.kernel) passes))
 
 nameable : (has : Kernel → Bool) (s : Scope) (f : Form) (act : Act (List ℕ)) → judged has s f ≡ Ok act → DoesNotDeliver act
 nameable has s (form.Register a) act e = subst DoesNotDeliver (unless_parts (first_of (register_reasons s a.name (registered_by a).dims (parts_said a.parts) (init_said a.init))) (Register (registered_by a)) act e).1 tt

@@ -12,21 +12,21 @@ use Rattle.sj_base.specs.declared.program.Lowered.{Lowered}
 use Rattle.sj_base.specs.declared.tile.Dims.{Dims}
 use Rattle.sj_base.specs.Array.{array, area}
 use Rattle.sj_base.proofs.Tables.{table_from_items}
+use Rattle.sj_base.specs.Mode.{access}
 use Rattle.sj_codelet.specs.declared.kernel.Kernel.TheVariants.{Load}
 use Rattle.sj_plan.specs.Interval.{part_len}
 use Rattle.sj_plan.specs.Window.{window}
 use Rattle.sj_plan.proofs.Tiling.{part_first-all}
 use Rattle.sj_meaning.specs.Table.{undivided}
-use Rattle.sj_lower.specs.Rows.{an_access, load_row, own_task}
+use Rattle.sj_lower.specs.Rows.{load_row, own_task}
 use Rattle.sj_plan.specs.declared.parts.Parts.{Parts}
 use Rattle.sj_plan.specs.declared.rect.Rect.{Rect}
 use Rattle.sj_plan.specs.Parts.{Fits, places}
-use Rattle.sj_plan.specs.Rect.{Within, child, children_of}
+use Rattle.sj_plan.specs.Rect.{child, children_of}
 use Rattle.sj_plan.proofs.Lists.{pushed_more}
-use Rattle.sj_plan.proofs.Splitting.{part_end}
 use Rattle.sj_job.specs.Track.{children_count}
 use Rattle.sj_lower.specs.Cells.{cells_from}
-use Rattle.sj_lower.proofs.Places.{place_at, place_at-inside, length-places, number-place_at, places-by_number}
+use Rattle.sj_lower.proofs.Places.{place_at, length-places, number-place_at, places-by_number}
 
 -- what f gives of the first n children, by their numbers
 abbrev pub first_children : {X : Type 0} → (ℕ × ℕ → X) → Parts → ℕ → List X
@@ -56,11 +56,6 @@ cell-at first p k = ap (λ n. let c : Cell = record { 0 = first + n } in c) (sym
 
 pub length-children : (d : Dims) (p : Parts) → length (children_of d p) ≡ children_count p
 length-children d p = length-places (child d p) p
-
-pub children-within : (d : Dims) (p : Parts) (k : ℕ) → Fits p d → k < children_count p → Within (child d p (place_at p k)) d
-children-within d p k fits lt =
-    let at = place_at-inside p k lt in
-    (part_end d.rows p.r (k / p.c) at.0, part_end d.cols p.c (k % p.c) at.1)
 
 -- ---- a root of one child
 
@@ -95,12 +90,12 @@ window-whole d xs long =
     there i c j = omega arith
 
 -- the load of a root that is one child has all elements
-pub one-load : (xs : List ℤ) (d : Dims) (p : Parts) (first : ℕ) (line : Line) → Fits p d → p.r * p.c ≡ 1 → length xs ≡ area d → let c : Cell = record { 0 = first } in map (λ place. load_row xs d (child d p place) (cells_from first p place) line) (places p) ≡ own_task Load xs (an_access W c ∷ []) line ∷ []
+pub one-load : (xs : List ℤ) (d : Dims) (p : Parts) (first : ℕ) (line : Line) → Fits p d → p.r * p.c ≡ 1 → length xs ≡ area d → let c : Cell = record { 0 = first } in map (λ place. load_row xs d (child d p place) (cells_from first p place) line) (places p) ≡ own_task Load xs (access W c ∷ []) line ∷ []
 one-load xs d p first line fits one long =
     let mk : ℕ → Cell = λ n. record { 0 = n } in
     let whole : Rect = record { row = 0; col = 0; rows = d.rows; cols = d.cols } in
     let f : Parts → ℕ × ℕ → Lowered = λ p place. load_row xs d (child d p place) (cells_from first p place) line in
     listed (f p) p ∙ ap (first_children (f p) p) one ∙ ap (λ (q : Parts). f q (place_at q 0) ∷ []) (one_child p d fits one)
     ∙ ap (λ (r : Rect). load_row xs d r (mk (first + 0)) line ∷ []) (child-whole d)
-    ∙ ap (λ ys. own_task Load ys (an_access W (mk (first + 0)) ∷ []) line ∷ []) (window-whole d xs long)
-    ∙ ap (λ n. own_task Load xs (an_access W (mk n) ∷ []) line ∷ []) (let e : first + 0 ≡ first = omega arith in e)
+    ∙ ap (λ ys. own_task Load ys (access W (mk (first + 0)) ∷ []) line ∷ []) (window-whole d xs long)
+    ∙ ap (λ n. own_task Load xs (access W (mk n) ∷ []) line ∷ []) (let e : first + 0 ≡ first = omega arith in e)

@@ -12,7 +12,7 @@ use Rattle.sj_meaning.specs.Meaning.{child_array}
 use Rattle.sj_lower.specs.declared.phase.OpenPhase.{OpenPhase}
 use Rattle.sj_lower.specs.Cells.{cell_of, copy_at}
 use Rattle.sj_lower.specs.Rows.{combine_rows}
-use Rattle.sj_lower.specs.Lowering.{Lowering, with_phase, turned, closed, all_closed}
+use Rattle.sj_lower.specs.Lowering.{Lowering, with_phase, phase_turned, closed, all_closed}
 use Rattle.sj_lower.proofs.Combined.{Phases, denoted-closed, denoted-open}
 use Rattle.sj_lower.proofs.Contents.{contents_before}
 use Rattle.sj_lower.proofs.Folding.{after_rows, contents-rows, later}
@@ -25,12 +25,12 @@ use Rattle.sj_lower.proofs.Stating.{Begins, begins-less, stands-more, IsActiveCh
 -- ---- one cell
 
 abbrev pub Closed : Program → Lowering → Cell → OpenPhase → Lowering
-Closed p L c f = turned L.cells (combine_rows f c p.workers) c None L
+Closed p L c f = phase_turned L.cells (combine_rows f c p.workers) c None L
 
-pub by_phase : (workers : ℕ) (L : Lowering) (c : Cell) (P : Lowering → Type 0) → (L.phase c ≡ None → P L) → ((f : OpenPhase) → L.phase c ≡ Some f → P (turned L.cells (combine_rows f c workers) c None L)) → P (closed workers L c)
+pub by_phase : (workers : ℕ) (L : Lowering) (c : Cell) (P : Lowering → Type 0) → (L.phase c ≡ None → P L) → ((f : OpenPhase) → L.phase c ≡ Some f → P (phase_turned L.cells (combine_rows f c workers) c None L)) → P (closed workers L c)
 by_phase workers L c P none some = by_option (L.phase c) refl
   where
-    by_option : (o : Option OpenPhase) → L.phase c ≡ o → P (elim o as (λ _. Lowering) [ None ↦ L | Some f ↦ turned L.cells (combine_rows f c workers) c None L ])
+    by_option : (o : Option OpenPhase) → L.phase c ≡ o → P (elim o as (λ _. Lowering) [ None ↦ L | Some f ↦ phase_turned L.cells (combine_rows f c workers) c None L ])
     by_option None e = none e
     by_option (Some f) e = some f e
 
@@ -111,18 +111,11 @@ module _ (p : Program) (L : Lowering) (S : State) (c : Cell) (f : OpenPhase) (is
 pub begins-closed : (p : Program) (L : Lowering) (c : Cell) → Begins p (closed p.workers L c) → Begins p L
 begins-closed p L c = by_phase p.workers L c (λ (M : Lowering). Begins p M → Begins p L) (λ e b. b) (λ f e b. begins-less p L (Closed p L c f) (combine_rows f c p.workers) (grows-refl L.cells.rows) refl b)
 
-pub agrees_closed : (p : Program) (L : Lowering) (S : State) (c : Cell) → Begins p (closed p.workers L c) → Agrees p L S → Agrees p (closed p.workers L c) S
-agrees_closed p L S c = by_phase p.workers L c (λ (M : Lowering). Begins p M → Agrees p L S → Agrees p M S) (λ e b g. g) (λ f e b g. agrees_turned p L S c f e b g)
-
 -- ---- several cells
 
 pub begins-all_closed : (p : Program) (cs : List Cell) (L : Lowering) → Begins p (all_closed p.workers cs L) → Begins p L
 begins-all_closed p [] L b = b
 begins-all_closed p (c ∷ cs) L b = begins-closed p L c (begins-all_closed p cs (closed p.workers L c) b)
-
-pub agrees_all_closed : (p : Program) (cs : List Cell) (L : Lowering) (S : State) → Begins p (all_closed p.workers cs L) → Agrees p L S → Agrees p (all_closed p.workers cs L) S
-agrees_all_closed p [] L S b g = g
-agrees_all_closed p (c ∷ cs) L S b g = agrees_all_closed p cs (closed p.workers L c) S b (agrees_closed p L S c (begins-all_closed p cs (closed p.workers L c) b) g)
 
 -- ---- what stays, and what is closed
 
@@ -132,9 +125,6 @@ closed-cells workers L c = by_phase workers L c (λ (M : Lowering). M.cells ≡ 
 pub all_closed-cells : (workers : ℕ) (cs : List Cell) (L : Lowering) → (all_closed workers cs L).cells ≡ L.cells
 all_closed-cells workers [] L = refl
 all_closed-cells workers (c ∷ cs) L = all_closed-cells workers cs (closed workers L c) ∙ closed-cells workers L c
-
-pub closed-deliveries : (workers : ℕ) (L : Lowering) (c : Cell) → ((closed workers L c).deliveries ≡ L.deliveries) × ((closed workers L c).prints ≡ L.prints)
-closed-deliveries workers L c = by_phase workers L c (λ (M : Lowering). (M.deliveries ≡ L.deliveries) × (M.prints ≡ L.prints)) (λ e. (refl, refl)) (λ f e. (refl, refl))
 
 closed-own : (workers : ℕ) (L : Lowering) (c : Cell) → (closed workers L c).phase c ≡ None
 closed-own workers L c = by_phase workers L c (λ (M : Lowering). M.phase c ≡ None) (λ e. e) (λ f e. phase-own c None L.phase)

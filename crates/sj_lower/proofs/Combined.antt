@@ -4,6 +4,7 @@ use Rattle.std.specs.List.{AllByRecursion, range_with_len}
 use Rattle.sj_base.specs.declared.ids.Cell.{Cell}
 use Rattle.sj_base.specs.declared.program.Program.{Program}
 use Rattle.sj_base.specs.Array.{Array}
+use Rattle.sj_base.proofs.Numbers.{all_of}
 use Rattle.sj_codelet.specs.declared.kernel.Kernel.{Kernel}
 use Rattle.sj_codelet.specs.Laws.{combined}
 use Rattle.sj_core.specs.Fold.{Contents, held_in}
@@ -66,6 +67,3 @@ denoted-same p phases after k new c e same copies = by_phase (phases c) refl
         denoted-open p after new c f (e ∙ g) ∙ ap (with_all p new f (all_workers p)) same
         ∙ with_all-same p k new f (all_workers p) (held_in p k c) (copies f g) (range-below 0 p.workers p.workers (all_of p.workers))
         ∙ sym (denoted-open p phases k c f g)
-      where
-        all_of : (n : ℕ) → 0 + n ≤ n
-        all_of n = omega arith

@@ -2,6 +2,7 @@
 use Rattle.std.proofs.Common.{◌≡◌, ℕ, ◌+◌, ◌<◌, ◌≤◌, Bool, Some, None, List, [], ◌∷◌, All, map, length, vec_len, ap, sym, subst, ◌∙◌, arith, length-append}
 use Rattle.std.specs.List.{AllByRecursion}
 use Rattle.std.proofs.lemmas.List.Elements.{All-head, All-tail, All-from_recursion}
+use Rattle.std.proofs.lemmas.Option.{same_Some}
 use Rattle.indexmap.specs.IndexMap.{get}
 use Rattle.sj_base.specs.declared.ids.Cell.{Cell}
 use Rattle.sj_base.specs.declared.ids.Line.{Line}
@@ -24,14 +25,13 @@ use Rattle.sj_lower.specs.declared.layout.Layout.{Layout}
 use Rattle.sj_lower.specs.declared.lower.LowerRefusal.{LowerRefusal}
 use Rattle.sj_lower.specs.declared.lower.LowerRefusal.TheVariants.{TooManyCells, TooManyTasks, OutOfMemory}
 use Rattle.sj_lower.specs.declared.lower.Progress.{Progress}
-use Rattle.sj_lower.specs.Cells.{Cells, Handle, child_cell, take, with_root}
+use Rattle.sj_lower.specs.Cells.{Cells, Handle, child_cell, take, with_new_root}
 use Rattle.sj_lower.specs.Limits.{most, cells_in, tasks_in}
-use Rattle.sj_lower.specs.Lowering.{Lowering, cells_after, rows_of, prepared, add_own, lower_one}
-use Rattle.sj_lower.specs.Seen.{Lays, IsCut, IsNext, HasNext, CanPass, HasPass, Passes, HasRoom, Does, active_at, handle_in, same_taken, taken, first_after, children_after}
-use Rattle.sj_lower.specs.Progress.{AreCopied, IsAt, HasAt, IsComing, HasComing, Goes, GoesOwn, IsFull, IsFullBy, IsFullOwn, Prepares, HasActive, IsActiveOperand, NamesActives, preparing_by, over_after}
+use Rattle.sj_lower.specs.Lowering.{Lowering, cells_after, rows_added, prepared, add_own, lower_one}
+use Rattle.sj_lower.specs.Seen.{Lays, IsCut, IsNext, HasNext, CanPass, HasPass, Passes, HasRoomFor, Does, active_at, handle_in, same_taken, taken, first_after, children_after}
+use Rattle.sj_lower.specs.Progress.{AreCopied, StandsAt, HasAt, IsComing, HasComing, Goes, GoesOwn, IsFull, IsFullBy, IsFullOwn, Prepares, HasActive, IsActiveOperand, NamesActives, preparing_by, over_after}
 use Rattle.sj_lower.proofs.Copies.{by_taken, child_none}
 use Rattle.sj_lower.proofs.Growing.{row_at, append-partials}
-use Rattle.sj_lower.proofs.Laid.{some_is}
 use Rattle.sj_lower.proofs.Matching.{AreThere, seen-there, preparing-is}
 use Rattle.sj_lower.proofs.Naming.{prepared-names}
 use Rattle.sj_lower.proofs.Preparing.{over-late, over-early, over-again, over-stays}
@@ -49,7 +49,7 @@ is-next T g s S L e c = record {
   placed = c.placed;
   distinct = c.distinct;
   numbered = λ n h lt is.
-      let own : handle_in T g.layout n ≡ h = some_is (handle_in T g.layout n) h (sym (c.at.lays.handles n lt) ∙ is) in
+      let own : handle_in T g.layout n ≡ h = same_Some (handle_in T g.layout n) h (sym (c.at.lays.handles n lt) ∙ is) in
       (sym (ap (λ (h : Handle). h.root) own), sym (ap (λ (h : Handle). h.dims) own));
   few = c.few;
   table = c.table;
@@ -87,39 +87,35 @@ rows_few : (T : Table) (l : Layout) (C : Cells) → Lays T l C → vec_len l.inf
 rows_few T l C h few = omega (arith, few, l.infos.ok, ap length h.rows)
 
 pub has-room : (T : Table) (g : Progress) (new : Layout) (s : Kept) (first : ℕ) → HasComing T g s → IsLaid T g.layout new s.act first → vec_len new.infos ≤ most
-    → HasRoom T (vec_len g.lowerer.actives) s.act first
+    → HasRoomFor T (vec_len g.lowerer.actives) s.act first
 has-room T g new s first h laid few =
     let c = h.coming in
     let L = h.lowering in
     let here = laid_at T g.layout new s.act first L.cells laid c.at.lays c.distinct in
     let below : first + children_after (act_seen T L.cells.roots s.act) ≤ most = omega (arith, here.2, rows_few T new (cells_after (act_seen T L.cells.roots s.act) L.cells) here.0 few) in
-    subst (λ (n : ℕ). HasRoom T n s.act first) (sym (same_roots T g s h.state L c)) below
+    subst (λ (n : ℕ). HasRoomFor T n s.act first) (sym (same_roots T g s h.state L c)) below
 
 -- how many tasks there are with the statement's own
 pub with-tasks : (T : Table) (g : Progress) (s : Kept) (S : State) (L : Lowering) (k : ℕ) → g.over ≡ None → IsComing T g s S L
-    → ((S : State) (L : Lowering) (C : Cells) (line : Line) → IsNext T g.lowerer s.act S L → k ≡ length (rows_of S C line (act_seen T (vec_len g.lowerer.actives) s.act)))
+    → ((S : State) (L : Lowering) (C : Cells) (line : Line) → IsNext T g.lowerer s.act S L → k ≡ length (rows_added S C line (act_seen T (vec_len g.lowerer.actives) s.act)))
     → tasks_in (add_own S (statement_seen T L.cells.roots s) L) ≡ vec_len g.lowerer.tasks + k
 with-tasks T g s S L k e c count =
     let C = cells_after (act_seen T L.cells.roots s.act) L.cells in
-    let more : k ≡ length (rows_of S C s.line (act_seen T L.cells.roots s.act)) =
-    subst (λ (n : ℕ). k ≡ length (rows_of S C s.line (act_seen T n s.act))) (same_roots T g s S L c) (count S L C s.line (is-next T g s S L e c)) in
-    omega (arith, length-append L.tasks (rows_of S C s.line (act_seen T L.cells.roots s.act)), more, g.lowerer.tasks.ok, ap length (c.at.follows e).tasks)
-
--- tasks so far are within the limit
-pub few-so-far : (T : Table) (g : Progress) (s : Kept) → g.over ≡ None → HasComing T g s → vec_len g.lowerer.tasks ≤ most
-few-so-far T g s e h = let c = h.coming in omega (arith, c.at.few_tasks e, g.lowerer.tasks.ok, ap length (c.at.follows e).tasks)
+    let more : k ≡ length (rows_added S C s.line (act_seen T L.cells.roots s.act)) =
+    subst (λ (n : ℕ). k ≡ length (rows_added S C s.line (act_seen T n s.act))) (same_roots T g s S L c) (count S L C s.line (is-next T g s S L e c)) in
+    omega (arith, length-append L.tasks (rows_added S C s.line (act_seen T L.cells.roots s.act)), more, g.lowerer.tasks.ok, ap length (c.at.follows e).tasks)
 
 pub few-with : (T : Table) (g : Progress) (s : Kept) (k : ℕ) → g.over ≡ None → HasComing T g s
-    → ((S : State) (L : Lowering) (C : Cells) (line : Line) → IsNext T g.lowerer s.act S L → k ≡ length (rows_of S C line (act_seen T (vec_len g.lowerer.actives) s.act)))
+    → ((S : State) (L : Lowering) (C : Cells) (line : Line) → IsNext T g.lowerer s.act S L → k ≡ length (rows_added S C line (act_seen T (vec_len g.lowerer.actives) s.act)))
     → vec_len g.lowerer.tasks + k ≤ most
-    → (S : State) (L : Lowering) (C : Cells) → IsNext T g.lowerer s.act S L → vec_len g.lowerer.tasks + length (rows_of S C s.line (act_seen T (vec_len g.lowerer.actives) s.act)) ≤ most
+    → (S : State) (L : Lowering) (C : Cells) → IsNext T g.lowerer s.act S L → vec_len g.lowerer.tasks + length (rows_added S C s.line (act_seen T (vec_len g.lowerer.actives) s.act)) ≤ most
 few-with T g s k e h count few S L C next = omega (arith, count S L C s.line next, few)
 
 -- ---- what a statement's own tasks leave
 
 -- cells with partial copies had them before
 after-partials : (a : Act (List ℕ)) (C : Cells) (n : ℕ) (f : Cell) → (row_at (cells_after a C).rows n).partials ≡ Some f → (row_at C.rows n).partials ≡ Some f
-after-partials (Registers r) C n f e = take_partials (with_root r.name r.dims C) r.name r.parts n f e
+after-partials (Registers r) C n f e = take_partials (with_new_root r.name r.dims C) r.name r.parts n f e
   where
     take_partials : (C : Cells) (name : List ℕ) (p : Parts) (n : ℕ) (f : Cell) → (row_at (take name p C).rows n).partials ≡ Some f → (row_at C.rows n).partials ≡ Some f
     take_partials C name p n f = by_taken C name p (λ (D : Cells). (row_at D.rows n).partials ≡ Some f → (row_at C.rows n).partials ≡ Some f) (λ e. e) (λ h there e. append-partials C.rows (map (child_cell h.root h.dims p) (places p)) (child_none h p) n f e)
@@ -140,7 +136,7 @@ copied-own workers S s L h =
 
 -- the tasks aren't made any more
 at-passed : (T : Table) (old new : Progress) (s : Kept) (first : ℕ) → (new.over ≡ None → ⊥) → IsLaid T old.layout new.layout s.act first → vec_len new.layout.infos ≤ most → Passes T old.lowerer new.lowerer s.act first → new.lowerer.prints ≡ old.lowerer.prints → new.lowerer.tasks ≡ old.lowerer.tasks → new.workers ≡ old.workers
-    → (S : State) (L : Lowering) → IsComing T old s S L → IsAt T new (apply (act_seen T L.cells.roots s.act) S) (add_own S (statement_seen T L.cells.roots s) L)
+    → (S : State) (L : Lowering) → IsComing T old s S L → StandsAt T new (apply (act_seen T L.cells.roots s.act) S) (add_own S (statement_seen T L.cells.roots s) L)
 at-passed T old new s first past laid few passes prints tasks workers S L c =
     let here = laid_at T old.layout new.layout s.act first L.cells laid c.at.lays c.distinct in
     record {
@@ -194,11 +190,11 @@ goes-on T old new s first e n does prints laid few workers early = record {
 
 -- ---- a statement's roots have their active plans
 
-active-cells : (T : Table) (g : Progress) (S : State) (L : Lowering) (n : ℕ) (r : Root) → IsAt T g S L → n < L.cells.roots → root_of S (name_of T (a_root n)) ≡ Some r → HasActive g n
+active-cells : (T : Table) (g : Progress) (S : State) (L : Lowering) (n : ℕ) (r : Root) → StandsAt T g S L → n < L.cells.roots → root_of S (name_of T (a_root n)) ≡ Some r → HasActive g n
 active-cells T g S L n r at lt e =
     let a = active_at g.lowerer.actives.items n in
     let is = at.actives.each n r lt e in
-    let own : is.handle ≡ handle_in T g.layout n = some_is is.handle (handle_in T g.layout n) (sym is.named ∙ at.lays.handles n lt) in
+    let own : is.handle ≡ handle_in T g.layout n = same_Some is.handle (handle_in T g.layout n) (sym is.named ∙ at.lays.handles n lt) in
     let first : get same_taken g.layout.firsts (taken n r.parts) ≡ Some a.first = sym (ap (λ (h : Handle). h.first r.parts) own) ∙ is.taken in
     let there : a.first + children_count a.tracked.parts ≤ length L.cells.rows = subst (λ (p : Parts). a.first + children_count p ≤ length L.cells.rows) (sym is.tracks.parts) (at.lays.room n r.parts a.first first) in
     record {
@@ -206,7 +202,7 @@ active-cells T g S L n r at lt e =
       cells = omega (arith, there, g.layout.infos.ok, ap length at.lays.rows);
     }
 
-active-operands : (T : Table) (g : Progress) (S : State) (L : Lowering) (os : List KeptOperand) → IsAt T g S L → All (λ o. o.root.0 < L.cells.roots) os → AreThere S T os → AllByRecursion (IsActiveOperand g) os
+active-operands : (T : Table) (g : Progress) (S : State) (L : Lowering) (os : List KeptOperand) → StandsAt T g S L → All (λ o. o.root.0 < L.cells.roots) os → AreThere S T os → AllByRecursion (IsActiveOperand g) os
 active-operands T g S L [] at placed there = tt
 active-operands T g S L (o ∷ os) at placed there =
     let t = child_there S (operand_seen T o) there.0 in
@@ -218,7 +214,7 @@ active-operands T g S L (o ∷ os) at placed there =
       active-operands T g S L os at (All-tail (λ (o : KeptOperand). o.root.0 < L.cells.roots) o os placed) there.1,
     )
 
-names-actives : (has : Kernel → Bool) (T : Table) (g : Progress) (S : State) (L : Lowering) (a : KeptAct) → IsAt T g S L → IsPlaced L.cells.roots a → IsSoundAct has S (act_seen T L.cells.roots a) → NamesActives g a
+names-actives : (has : Kernel → Bool) (T : Table) (g : Progress) (S : State) (L : Lowering) (a : KeptAct) → StandsAt T g S L → IsPlaced L.cells.roots a → IsSoundAct has S (act_seen T L.cells.roots a) → NamesActives g a
 names-actives has T g S L (kept.Register init) at placed sound = tt
 names-actives has T g S L (kept.Plan r p) at placed sound = let there = root_there (root_of S (name_of T r)) sound.rooted in active-cells T g S L r.0 there.0 at placed there.1
 names-actives has T g S L (kept.Redux r by) at placed sound = let there = root_there (root_of S (name_of T r)) sound.1 in active-cells T g S L r.0 there.0 at placed there.1
@@ -233,7 +229,7 @@ names-actives has T g S L (kept.Unregister r) at placed sound = let there = root
 abbrev pub lasts : Progress → Line → Progress
 lasts g line = record { workers = g.workers; layout = g.layout; lowerer = g.lowerer; over = g.over; last = Some line }
 
-at-last : (T : Table) (g : Progress) (line : Line) (S : State) (L : Lowering) → IsAt T g S L → IsAt T (lasts g line) S L
+at-last : (T : Table) (g : Progress) (line : Line) (S : State) (L : Lowering) → StandsAt T g S L → StandsAt T (lasts g line) S L
 at-last T g line S L at = record { lays = at.lays; few_cells = at.few_cells; actives = at.actives; follows = at.follows; few_tasks = at.few_tasks; prints = at.prints; copied = at.copied }
 
 pub last-has : (T : Table) (g : Progress) (s : Kept) → HasComing T g s → HasAt (lasts g s.line)
@@ -279,7 +275,7 @@ module _ (T : Table) (old mid : Progress) (s : Kept) (p : Prepares (lasts old s.
 
   pub goes-whole : (new : Progress) → GoesOwn T mid new s → Goes T old new s
   goes-whole new g = record {
-    at = λ S L c. whole S L c (IsAt T new) (g.at S (after L) (still S L c));
+    at = λ S L c. whole S L c (StandsAt T new) (g.at S (after L) (still S L c));
     over = λ S L c. whole S L c (λ _ M. new.over ≡ over_after old.over s.line M)
         (g.over S (after L) (still S L c)
         ∙ ap (λ o. over_after o s.line (own S L)) (p.over T S L (at-last T old s.line S L c.at))
@@ -292,7 +288,7 @@ module _ (T : Table) (old mid : Progress) (s : Kept) (p : Prepares (lasts old s.
       more : (S : State) (L : Lowering) → tasks_in (after L) ≤ tasks_in (own S L)
       more S L =
           let a = act_seen T (after L).cells.roots s.act in
-          omega (arith, length-append (after L).tasks (rows_of S (cells_after a (after L).cells) s.line a))
+          omega (arith, length-append (after L).tasks (rows_added S (cells_after a (after L).cells) s.line a))
 
   -- there are too many cells with the statement's own
   pub full-own : (e : LowerRefusal) → IsFullOwn T mid s e → IsFull T old s e

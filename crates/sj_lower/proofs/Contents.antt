@@ -2,20 +2,14 @@
 use Rattle.std.proofs.Common.{◌≡◌, ℕ, suc, ◌+◌, Bool, true, false, cond, Some, None, List, [], ◌∷◌, ◌++◌, refl, sym, ap, ◌∙◌, arith}
 use Rattle.std.specs.List.{find, zip}
 use Rattle.std.proofs.lemmas.Bool.{false≢true}
-use Rattle.std.proofs.lemmas.Bool.Decides.{Decides-eqb}
 use Rattle.sj_base.specs.declared.ids.Cell.{Cell}
-use Rattle.sj_base.specs.declared.ids.Task.{Task}
 use Rattle.sj_base.specs.declared.ids.Worker.{Worker}
 use Rattle.sj_base.specs.declared.program.Program.{Program}
 use Rattle.sj_base.specs.Array.{Array, zeros}
+use Rattle.sj_base.proofs.SameIds.{same_cell-is, same_cell-itself}
+use Rattle.sj_base.specs.Ids.{task}
 use Rattle.sj_core.specs.Program.{same_cell, dims_of}
 use Rattle.sj_core.specs.Fold.{Contents, held_in, after_task, after_chosen}
-
-pub same_cell-is : (c d : Cell) → same_cell c d ≡ true → c ≡ d
-same_cell-is c d h = ap (λ (i : ℕ). let j : Cell = record { 0 = i } in j) ((Decides-eqb c.0 d.0).0 h)
-
-pub same_cell-itself : (c : Cell) → same_cell c c ≡ true
-same_cell-itself c = (Decides-eqb c.0 c.0).1 refl
 
 pub held-cons : (p : Program) (c : Cell) (a : Array) (contents : Contents) (d : Cell) → held_in p ((c, a) ∷ contents) d ≡ cond (same_cell c d) a (held_in p contents d)
 held-cons p c a contents d = by_cases (same_cell c d)
@@ -59,8 +53,5 @@ contents_before p n = after_chosen p (λ t. true) (λ t. record { 0 = 0 }) n
 abbrev pub first_worker : Worker
 first_worker = record { 0 = 0 }
 
-abbrev pub task_at : ℕ → Task
-task_at n = record { 0 = n }
-
-pub contents-next : (p : Program) (n m : ℕ) → m ≡ n + 1 → contents_before p m ≡ after_task p first_worker (task_at n) (contents_before p n)
+pub contents-next : (p : Program) (n m : ℕ) → m ≡ n + 1 → contents_before p m ≡ after_task p first_worker (task n) (contents_before p n)
 contents-next p n m h = let e : m ≡ suc n = omega (arith, h) in ap (contents_before p) e

@@ -6,6 +6,7 @@ use Rattle.std.specs.Option.{is_some}
 use Rattle.std.proofs.lemmas.Bool.{and_parts}
 use Rattle.std.proofs.lemmas.List.{append-nil, map-append}
 use Rattle.std.proofs.lemmas.List.Elements.{All-nil, All-cons, All-append, All-weaker, All-contains, Contains-append_cases}
+use Rattle.std.proofs.lemmas.Option.{same_Some}
 use Rattle.sj_base.specs.declared.ids.Cell.{Cell}
 use Rattle.sj_base.specs.declared.ids.Line.{Line}
 use Rattle.sj_base.specs.declared.mode.Mode.TheVariants.{Redux}
@@ -15,12 +16,14 @@ use Rattle.sj_base.specs.declared.mode.Reduction.TheVariants.{Plus, Least}
 use Rattle.sj_base.specs.declared.program.Delivery.{Delivery}
 use Rattle.sj_base.specs.declared.program.Lowered.{Lowered}
 use Rattle.sj_base.specs.declared.program.Program.{Program}
-use Rattle.sj_base.specs.Mode.{reads_value}
+use Rattle.sj_base.specs.Mode.{reads_value, access}
+use Rattle.sj_base.proofs.Lists.{one_is, each-append}
+use Rattle.sj_base.specs.Ids.{task}
 use Rattle.sj_codelet.specs.declared.kernel.Kernel.{Kernel}
 use Rattle.sj_codelet.specs.declared.kernel.Kernel.TheVariants.{Deliver}
 use Rattle.sj_codelet.specs.Kernel.{kernel_of}
 use Rattle.sj_core.specs.Program.{cell_info}
-use Rattle.sj_core.specs.Proper.{IsPlain, HasValueBefore, access}
+use Rattle.sj_core.specs.Proper.{IsPlain, HasValueBefore}
 use Rattle.sj_plan.proofs.Lists.{each-map}
 use Rattle.sj_meaning.specs.Statement.{Operand, TaskLine}
 use Rattle.sj_meaning.specs.Act.{Statement}
@@ -31,12 +34,12 @@ use Rattle.sj_meaning.specs.Sound.{needs_value}
 use Rattle.sj_meaning.specs.Sound.{IsSoundTask, has_child, has_child_values}
 use Rattle.sj_meaning.specs.Table.{Table}
 use Rattle.sj_lower.specs.declared.phase.OpenPhase.{OpenPhase}
-use Rattle.sj_lower.specs.Cells.{Handle, cell_of, cells_from, copy_at, first_copy, with_copies}
-use Rattle.sj_lower.specs.Rows.{an_access, init_row, init_rows}
-use Rattle.sj_lower.specs.Lowering.{Lowering, parts_in, access_of, task_row, add_own, turned, begun, opened, extended, begin_rows}
+use Rattle.sj_lower.specs.Cells.{Handle, cell_of, cells_from, copy_at, first_partial, with_copies}
+use Rattle.sj_lower.specs.Rows.{init_row, init_rows}
+use Rattle.sj_lower.specs.Lowering.{Lowering, parts_in, access_of, task_row, add_own, phase_turned, begun, opened, extended, begin_rows}
 use Rattle.sj_lower.proofs.Able.{CanBe}
 use Rattle.sj_lower.proofs.Agreeing.{reduction-is}
-use Rattle.sj_lower.proofs.Contents.{task_at, contents_before}
+use Rattle.sj_lower.proofs.Contents.{contents_before}
 use Rattle.sj_lower.proofs.Contributing.{agrees_contributed}
 use Rattle.sj_lower.proofs.Copies.{copied-first}
 use Rattle.sj_lower.proofs.Delivered.{AreDelivered, NoneDelivers, delivered_beside}
@@ -45,8 +48,8 @@ use Rattle.sj_lower.proofs.Folding.{Stand, stand-append, later}
 use Rattle.sj_lower.proofs.Giving.{IsGiving, log-extend, log-begin}
 use Rattle.sj_lower.proofs.Good.{IsGood, AreGood, HasItsCopies, good-all, good-append, good_init, good_task, plans-of, contribution-modes, all_given, no_copies}
 use Rattle.sj_lower.proofs.Holding.{HasRoot}
-use Rattle.sj_lower.proofs.Laid.{some_is, cell-inside}
-use Rattle.sj_lower.proofs.Logging.{Logged, IsAway, last-has, one-case}
+use Rattle.sj_lower.proofs.Laid.{cell-inside}
+use Rattle.sj_lower.proofs.Logging.{Logged, IsAway, last-has}
 use Rattle.sj_lower.proofs.Opening.{IsOpened, IsChildOf, goes_on, begins_now, by_opened}
 use Rattle.sj_lower.proofs.Operands.{IsRead, Contributes, all-before}
 use Rattle.sj_lower.proofs.Owning.{one-owner, plain-child, copy-is}
@@ -112,7 +115,7 @@ module _ (has : Kernel → Bool) (T : Table) (p : Program) (L : Lowering) (S : S
     };
     others = λ a h. elim (Contains-append_cases (each_of (access_of S L.cells) con.before) (access_of S L.cells u ∷ []) a (subst (λ (xs : List Access). Contains xs a) accesses h)) [
       | inl first ↦ inr (All-contains (IsAway p L.phase) (each_of (access_of S L.cells) con.before) a (all-away con.before placed con.reads shut) first)
-      | inr last ↦ inl (sym (one-case (access_of S L.cells u) a last) ∙ last-is)
+      | inr last ↦ inl (sym (one_is (access_of S L.cells u) a last) ∙ last-is)
     ];
   }
     where
@@ -123,17 +126,17 @@ module _ (has : Kernel → Bool) (T : Table) (p : Program) (L : Lowering) (S : S
           All-cons (IsAway p L.phase) (access_of S L.cells v) (each_of (access_of S L.cells) vs) (operand-away p L S v b g x.0 re.0.0 cl.0) (all-away vs x.1 re.1 cl.1)
 
   -- it is a good task where its phase is open
-  good : (n : ℕ) → length L.tasks ≤ n → HasValueBefore p (task_at n) c → (f : OpenPhase) → (cell_info p c).partials ≡ Some f.copies → ((w : ℕ) → w < p.workers → HasValueBefore p (task_at n) (copy_at f.copies w)) → IsGood p n l
+  good : (n : ℕ) → length L.tasks ≤ n → HasValueBefore p (task n) c → (f : OpenPhase) → (cell_info p c).partials ≡ Some f.copies → ((w : ℕ) → w < p.workers → HasValueBefore p (task n) (copy_at f.copies w)) → IsGood p n l
   good n more given f partials copies =
       good_task has p L.cells S n t line b.cells g.laid (plans-of p L.cells L.phase (length L.tasks) (contents_before p (length L.tasks)) S g.roots) s (contribution-modes has S t s con)
-      (subst (λ (xs : List Access). All (λ (a : Access). reads_value a.mode ≡ true → HasValueBefore p (task_at n) a.cell) xs) (sym accesses)
-      (All-append (λ (a : Access). reads_value a.mode ≡ true → HasValueBefore p (task_at n) a.cell) (each_of (access_of S L.cells) con.before) (access_of S L.cells u ∷ [])
-      (All-weaker (λ (a : Access). reads_value a.mode ≡ true → HasValueBefore p (task_at (length L.tasks)) a.cell) (λ (a : Access). reads_value a.mode ≡ true → HasValueBefore p (task_at n) a.cell) (λ a h e. later p (length L.tasks) n a.cell more (h e)) (each_of (access_of S L.cells) con.before)
+      (subst (λ (xs : List Access). All (λ (a : Access). reads_value a.mode ≡ true → HasValueBefore p (task n) a.cell) xs) (sym accesses)
+      (All-append (λ (a : Access). reads_value a.mode ≡ true → HasValueBefore p (task n) a.cell) (each_of (access_of S L.cells) con.before) (access_of S L.cells u ∷ [])
+      (All-weaker (λ (a : Access). reads_value a.mode ≡ true → HasValueBefore p (task (length L.tasks)) a.cell) (λ (a : Access). reads_value a.mode ≡ true → HasValueBefore p (task n) a.cell) (λ a h e. later p (length L.tasks) n a.cell more (h e)) (each_of (access_of S L.cells) con.before)
       (all_given p L.cells L.phase S (length L.tasks) (contents_before p (length L.tasks)) con.before g.roots (reads-direct con.before con.reads) placed valued))
-      (All-cons (λ (a : Access). reads_value a.mode ≡ true → HasValueBefore p (task_at n) a.cell) (access_of S L.cells u) [] (λ e. subst (λ (a : Access). HasValueBefore p (task_at n) a.cell) (sym last-is) given) (All-nil (λ (a : Access). reads_value a.mode ≡ true → HasValueBefore p (task_at n) a.cell)))))
+      (All-cons (λ (a : Access). reads_value a.mode ≡ true → HasValueBefore p (task n) a.cell) (access_of S L.cells u) [] (λ e. subst (λ (a : Access). HasValueBefore p (task n) a.cell) (sym last-is) given) (All-nil (λ (a : Access). reads_value a.mode ≡ true → HasValueBefore p (task n) a.cell)))))
       (subst (λ (xs : List Access). All (HasItsCopies p n) xs) (sym accesses)
       (All-append (HasItsCopies p n) (each_of (access_of S L.cells) con.before) (access_of S L.cells u ∷ []) (no_copies p S L.cells n con.before (reads-direct con.before con.reads))
-      (All-cons (HasItsCopies p n) (access_of S L.cells u) [] (subst (HasItsCopies p n) (sym last-is) (λ e. (ap (λ (o : Option Cell). is_some o) partials, λ w below. subst (λ (q : Cell). HasValueBefore p (task_at n) q) (sym (copy-is p c f.copies w partials)) (copies w.0 below)))) (All-nil (HasItsCopies p n)))))
+      (All-cons (HasItsCopies p n) (access_of S L.cells u) [] (subst (HasItsCopies p n) (sym last-is) (λ e. (ap (λ (o : Option Cell). is_some o) partials, λ w below. subst (λ (q : Cell). HasValueBefore p (task n) q) (sym (copy-is p c f.copies w partials)) (copies w.0 below)))) (All-nil (HasItsCopies p n)))))
       can.nameable
 
   abbrev statement : Statement (List ℕ)
@@ -150,7 +153,7 @@ module _ (has : Kernel → Bool) (T : Table) (p : Program) (L : Lowering) (S : S
             record {
               codelet = t.codelet;
               args = t.args;
-              accesses = each_of (λ o. an_access o.mode (cells_from (elim (h o.name) [ None ↦ 0 | Some i ↦ unwrap_or (i.first (parts_in S o.name)) 0 ]) (parts_in S o.name) o.place)) t.operands;
+              accesses = each_of (λ o. access o.mode (cells_from (elim (h o.name) [ None ↦ 0 | Some i ↦ unwrap_or (i.first (parts_in S o.name)) 0 ]) (parts_in S o.name) o.place)) t.operands;
               line = line;
               priority = t.priority;
             }
@@ -189,12 +192,12 @@ module _ (has : Kernel → Bool) (T : Table) (p : Program) (L : Lowering) (S : S
 
   -- ---- the phase goes on
 
-  fine_longer : (f : OpenPhase) → L.phase c ≡ Some f → Begins p (add_own S statement (turned L.cells [] c (Some (extended f line)) L)) → IsFine T p (add_own S statement (turned L.cells [] c (Some (extended f line)) L)) (run_task t S) (out ++ [])
+  fine_longer : (f : OpenPhase) → L.phase c ≡ Some f → Begins p (add_own S statement (phase_turned L.cells [] c (Some (extended f line)) L)) → IsFine T p (add_own S statement (phase_turned L.cells [] c (Some (extended f line)) L)) (run_task t S) (out ++ [])
   fine_longer f is begins =
-      let M = turned L.cells [] c (Some (extended f line)) L in
+      let M = phase_turned L.cells [] c (Some (extended f line)) L in
       let op = goes_on p L S g u.name u.place c root own con.by reduction line f is in
       fine_given M op [] refl refl refl begins (λ stand. tt) tt (λ stand.
-      log-extend p (length L.tasks) (length (add_own S statement M).tasks) L.phase c f line l is (one_more M) stand.0 plain (subst (λ (by : Reduction). IsGiving p L.phase c by l) (some_is con.by f.by (sym reduction ∙ r.reduced u.place f own.placed is)) giving) fine.logged)
+      log-extend p (length L.tasks) (length (add_own S statement M).tasks) L.phase c f line l is (one_more M) stand.0 plain (subst (λ (by : Reduction). IsGiving p L.phase c by l) (same_Some con.by f.by (sym reduction ∙ r.reduced u.place f own.placed is)) giving) fine.logged)
     where
       one_more : (M : Lowering) → length ((L.tasks ++ []) ++ task_row S L.cells line t ∷ []) ≡ length L.tasks + 1
       one_more M = length-append (L.tasks ++ []) (task_row S L.cells line t ∷ []) ∙ ap (λ (ts : List Lowered). length ts + 1) (append-nil L.tasks)
@@ -208,14 +211,10 @@ module _ (has : Kernel → Bool) (T : Table) (p : Program) (L : Lowering) (S : S
   News = begun p.workers con.by valued_now line c L
 
   abbrev first : Cell
-  first = first_copy L.cells c
+  first = first_partial L.cells c
 
   abbrev begin : List Lowered
   begin = begin_rows con.by first c valued_now p.workers line
-
-  each-append : {X : Type 0} (P : X → Type 0) (xs ys : List X) → AllByRecursion P xs → AllByRecursion P ys → AllByRecursion P (xs ++ ys)
-  each-append P [] ys h k = k
-  each-append P (x ∷ xs) ys h k = (h.0, each-append P xs ys h.1 k)
 
   each-begin : (P : Lowered → Type 0) → ((w : ℕ) → w < p.workers → P (init_row con.by line (copy_at first w))) → P (init_row con.by line c) → AllByRecursion P begin
   each-begin P inits unit =

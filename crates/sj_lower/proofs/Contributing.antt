@@ -3,7 +3,7 @@ use Rattle.std.proofs.Common.{◌≡◌, ℕ, suc, ◌+◌, ◌<◌, ◌≤◌, 
 use Rattle.std.specs.Prelude.{Contains, unwrap_or}
 use Rattle.std.specs.List.{AllByRecursion, list_all, list_any}
 use Rattle.std.specs.Str.{bytes_eq}
-use Rattle.std.proofs.lemmas.Bool.{false≢true, and_parts}
+use Rattle.std.proofs.lemmas.Bool.{false≢true, and_parts, or_parts}
 use Rattle.std.proofs.lemmas.List.{map-append}
 use Rattle.sj_base.specs.declared.ids.Cell.{Cell}
 use Rattle.sj_base.specs.declared.ids.Line.{Line}
@@ -17,6 +17,7 @@ use Rattle.sj_base.specs.Array.{Array}
 use Rattle.sj_codelet.specs.declared.kernel.Kernel.{Kernel}
 use Rattle.sj_codelet.specs.Kernel.{kernel_of, new_arrays, operand, out, contributes_of}
 use Rattle.sj_codelet.specs.Laws.{result_of, combined, IsReduction}
+use Rattle.sj_codelet.proofs.Table.{each_dims}
 use Rattle.sj_core.specs.Program.{same_cell, dims_of, task_of, cell_info}
 use Rattle.sj_core.specs.Proper.{HasValueBefore}
 use Rattle.sj_core.specs.Fold.{Contents, held_in, after_task}
@@ -24,17 +25,25 @@ use Rattle.sj_core.specs.Operands.{found, worked_on, copy_of}
 use Rattle.sj_core.proofs.Sized.{AreSized}
 use Rattle.sj_core.proofs.Swapping.{first_ins}
 use Rattle.sj_base.specs.declared.ids.Worker.{Worker}
+use Rattle.sj_base.proofs.Numbers.{all_of}
+use Rattle.sj_base.proofs.Texts.{same_text}
+use Rattle.sj_base.proofs.Bools.{implied}
+use Rattle.sj_base.proofs.SameIds.{same_cell-unlike, same_cell-itself}
+use Rattle.sj_base.specs.Ids.{task}
+use Rattle.sj_base.specs.Mode.{is_read_only}
 use Rattle.std.specs.Option.{is_some}
+use Rattle.std.proofs.lemmas.Option.{same_Some}
 use Rattle.sj_plan.specs.declared.parts.Parts.{Parts}
 use Rattle.sj_plan.specs.Parts.{IsPlace}
 use Rattle.sj_plan.specs.Paste.{same_place}
 use Rattle.sj_plan.specs.Rect.{dims_of as rect_dims}
 use Rattle.sj_plan.specs.Window.{IsWhole}
+use Rattle.sj_plan.proofs.Repartitioning.{same_place-law, same_place-refl}
 use Rattle.sj_meaning.specs.Statement.{Operand, TaskLine}
 use Rattle.sj_meaning.specs.Act.{Task as Tasks}
 use Rattle.sj_meaning.specs.State.{Root, State, root_of, child_rect, is_child, is_valued_child}
 use Rattle.sj_meaning.specs.Meaning.{child_array, contributed_to, seen_by, operand_array, written_of, with_child, put, put_all, run_task, integers_of}
-use Rattle.sj_meaning.specs.Sound.{needs_value, clashes, is_aliased, is_read_only}
+use Rattle.sj_meaning.specs.Sound.{needs_value, clashes, is_aliased}
 use Rattle.sj_meaning.specs.Sound.{IsSoundTask, has_child, has_child_values, child_dims}
 use Rattle.sj_lower.specs.declared.phase.OpenPhase.{OpenPhase}
 use Rattle.sj_lower.specs.Cells.{Handle, cell_of, cells_from, copy_at}
@@ -42,18 +51,17 @@ use Rattle.sj_lower.specs.Lowering.{Lowering, access_of, task_row, add_own}
 use Rattle.sj_lower.proofs.Adding.{IsSized, SizedCopies, sized, law, added, denotes-more, result-more, others-kept, updates, all-sized}
 use Rattle.sj_lower.proofs.Agreeing.{puts-parts, reduction-is}
 use Rattle.sj_lower.proofs.Combined.{IsTrusted, with_all, all_workers, range-below, denoted-open, denoted-closed}
-use Rattle.sj_lower.proofs.Contents.{first_worker, task_at, contents_before, contents-next, same_cell-itself}
+use Rattle.sj_lower.proofs.Contents.{first_worker, contents_before, contents-next}
 use Rattle.sj_lower.proofs.Elements.{written-whole, written-array, written-other, written-valued}
 use Rattle.sj_lower.proofs.Folding.{Stand, later}
 use Rattle.sj_meaning.proofs.Finding.{root-change}
 use Rattle.sj_lower.proofs.Holding.{IsHeld, HasRoot, HaveRoots, cell-dims, differs, not_copy, held-kept}
-use Rattle.sj_lower.proofs.Laid.{IsTaken, some_is, same_name, bytes_eq-itself, cells-apart}
+use Rattle.sj_lower.proofs.Laid.{IsTaken, bytes_eq-itself, cells-apart}
 use Rattle.sj_lower.proofs.Opening.{IsOpened, IsChildOf}
 use Rattle.sj_lower.proofs.Operands.{IsRead, Contributes, all-before, snoc-parts}
-use Rattle.sj_lower.proofs.Places.{place-is, place-itself}
-use Rattle.sj_lower.proofs.Running.{is_direct, IsClosed, kernel_there, child_there, child_dims-are, child_values-are, active_cell-is, needed, seen_there, by_mode, data_needs, or_none, new_dims, new_whole}
+use Rattle.sj_lower.proofs.Running.{is_direct, IsClosed, kernel_there, child_there, child_dims-are, child_values-are, active_cell-is, seen_there, by_mode, data_needs, new_dims, new_whole}
 use Rattle.sj_lower.proofs.Stating.{Begins, stands-own, IsActiveChild, Agrees, by_cell}
-use Rattle.sj_lower.proofs.Writing.{all_dims, AreWhole}
+use Rattle.sj_lower.proofs.Writing.{AreWhole}
 
 -- ---- what the task line leaves
 
@@ -71,15 +79,15 @@ module _ (has : Kernel → Bool) (S : State) (t : TaskLine (List ℕ)) (s : IsSo
   abbrev pub news : Array
   news = operand outs 0
 
-  one_dims : all_dims outs ≡ child_dims S o ∷ []
+  one_dims : each_dims outs ≡ child_dims S o ∷ []
   one_dims = new_dims has S t s ∙ ap (each_of (child_dims S)) con.written
 
   pub news-dims : news.dims ≡ child_dims S o
   news-dims = first outs one_dims
     where
-      first : (xs : List Array) → all_dims xs ≡ child_dims S o ∷ [] → (operand xs 0).dims ≡ child_dims S o
+      first : (xs : List Array) → each_dims xs ≡ child_dims S o ∷ [] → (operand xs 0).dims ≡ child_dims S o
       first [] e = absurd (let n : 0 ≡ 1 = ap length e in omega arith)
-      first (x ∷ xs) e = let f : x.dims ∷ all_dims xs ≡ child_dims S o ∷ [] = e in cc
+      first (x ∷ xs) e = let f : x.dims ∷ each_dims xs ≡ child_dims S o ∷ [] = e in cc
 
   pub news-whole : IsWhole news
   news-whole = first outs (new_whole has S t s)
@@ -91,7 +99,7 @@ module _ (has : Kernel → Bool) (S : State) (t : TaskLine (List ℕ)) (s : IsSo
   pub runs : run_task t S ≡ put o news S
   runs = ap (λ (os : List (Operand (List ℕ))). put_all os outs S) con.written ∙ first outs one_dims
     where
-      first : (xs : List Array) → all_dims xs ≡ child_dims S o ∷ [] → put_all (o ∷ []) xs S ≡ put o (operand xs 0) S
+      first : (xs : List Array) → each_dims xs ≡ child_dims S o ∷ [] → put_all (o ∷ []) xs S ≡ put o (operand xs 0) S
       first [] e = absurd (let n : 0 ≡ 1 = ap length e in omega arith)
       first (x ∷ xs) e = refl
 
@@ -140,7 +148,7 @@ module _ (has : Kernel → Bool) (p : Program) (L M : Lowering) (S : State) (g :
   stand : Stand p n (l ∷ [])
   stand = stands-own p S (record { line = line; act = Tasks t }) M begins
 
-  next : new ≡ after_task p first_worker (task_at n) mid
+  next : new ≡ after_task p first_worker (task n) mid
   next = contents-next p n now longer
 
   b : HasRoot p L.cells L.phase (length L.tasks) k u.name root
@@ -159,10 +167,10 @@ module _ (has : Kernel → Bool) (p : Program) (L M : Lowering) (S : State) (g :
   cell-a : a.cell ≡ c
   cell-a = active_cell-is S M.cells u.name u.place root own.is_root ∙ sym (moved u.name root.parts u.place) ∙ sym own.cell
 
-  accesses : (task_of p (task_at n)).accesses ≡ each_of (access_of S M.cells) con.before ++ a ∷ []
+  accesses : (task_of p (task n)).accesses ≡ each_of (access_of S M.cells) con.before ++ a ∷ []
   accesses = ap (λ (x : Lowered). x.accesses) stand.0 ∙ ap (each_of (access_of S M.cells)) con.is ∙ map-append (access_of S M.cells) con.before (u ∷ [])
 
-  among : Contains (task_of p (task_at n)).accesses a
+  among : Contains (task_of p (task n)).accesses a
   among = subst (λ (xs : List Access). Contains xs a) (sym accesses) (in-end (each_of (access_of S M.cells) con.before) a)
     where
       in-end : {X : Type 0} (xs : List X) (x : X) → Contains (xs ++ x ∷ []) x
@@ -172,7 +180,7 @@ module _ (has : Kernel → Bool) (p : Program) (L M : Lowering) (S : State) (g :
   partials : (cell_info p a.cell).partials ≡ Some op.f.copies
   partials = ap (λ (d : Cell). (cell_info p d).partials) cell-a ∙ begins.cells.kept c.0 op.f.copies (op.theirs.theirs c op.f op.is)
 
-  codelet : kernel_of (task_of p (task_at n)).codelet ≡ Some (kernel_there has S t s).call.kernel
+  codelet : kernel_of (task_of p (task n)).codelet ≡ Some (kernel_there has S t s).call.kernel
   codelet = ap (λ (x : Lowered). kernel_of x.codelet) stand.0 ∙ (kernel_there has S t s).call.is
 
   contributes : contributes_of (kernel_there has S t s).call.kernel op.f.by ≡ true
@@ -208,10 +216,10 @@ module _ (has : Kernel → Bool) (p : Program) (L M : Lowering) (S : State) (g :
       ∙ by_mode p mid v.mode (cell_of M.cells v.name h.root.parts v.place) h.root v.place (read_direct v reads)
       (cell-dims p M.cells v.name h.root.dims h.root.parts r.first v.place begins.cells op.laid (taken v.name h.root.dims h.root.parts r.first r.taken) h.placed)
       (λ needs.
-      child_kept trust v.name h.root v.place h.is_root h.placed (λ en ep. false≢true (sym apart ∙ clash v.mode u.mode (bytes_eq v.name u.name) (same_place v.place u.place) con.redux (ap (bytes_eq v.name) (sym en) ∙ bytes_eq-itself v.name) (ap (same_place v.place) (sym ep) ∙ place-itself v.place)))
+      child_kept trust v.name h.root v.place h.is_root h.placed (λ en ep. false≢true (sym apart ∙ clash v.mode u.mode (bytes_eq v.name u.name) (same_place v.place u.place) con.redux (ap (bytes_eq v.name) (sym en) ∙ bytes_eq-itself v.name) (ap (same_place v.place) (sym ep) ∙ same_place-refl v.place)))
       ∙ ap (held_in p k) (sym (moved v.name h.root.parts v.place))
       ∙ sym (denoted-closed p L.phase k (cell_of L.cells v.name h.root.parts v.place) (ap L.phase (sym before) ∙ closed (data_needs v.mode needs)))
-      ∙ (r.held v.place h.placed (sym (child_values-are S v h.root h.is_root) ∙ needed (needs_value v.mode) (has_child_values S v) valued needs)).value trust)
+      ∙ (r.held v.place h.placed (sym (child_values-are S v h.root h.is_root) ∙ implied (needs_value v.mode) (has_child_values S v) valued needs)).value trust)
       ∙ sym (seen_there S v h.root h.is_root)
     where
       clash : (m j : Mode) (x y : Bool) → j ≡ Redux → x ≡ true → y ≡ true → (x && y && not (is_read_only m && is_read_only j)) ≡ true
@@ -236,12 +244,12 @@ module _ (has : Kernel → Bool) (p : Program) (L M : Lowering) (S : State) (g :
   no_alias : (vs : List (Operand (List ℕ))) → is_aliased (vs ++ u ∷ []) ≡ false → AllByRecursion (λ v. clashes v u ≡ false) vs
   no_alias [] e = tt
   no_alias (v ∷ vs) e =
-      let x = or_none (list_any (clashes v) (vs ++ u ∷ [])) (is_aliased (vs ++ u ∷ [])) e in
+      let x = or_parts (list_any (clashes v) (vs ++ u ∷ [])) (is_aliased (vs ++ u ∷ [])) e in
       (last_of (clashes v) vs x.0, no_alias vs x.1)
     where
       last_of : (f : Operand (List ℕ) → Bool) (vs : List (Operand (List ℕ))) → list_any f (vs ++ u ∷ []) ≡ false → f u ≡ false
-      last_of f [] h = (or_none (f u) false h).0
-      last_of f (w ∷ vs) h = last_of f vs (or_none (f w) (list_any f (vs ++ u ∷ [])) h).1
+      last_of f [] h = (or_parts (f u) false h).0
+      last_of f (w ∷ vs) h = last_of f vs (or_parts (f w) (list_any f (vs ++ u ∷ [])) h).1
 
   inside : n < length p.tasks
   inside = stand.1
@@ -280,12 +288,9 @@ module _ (has : Kernel → Bool) (p : Program) (L M : Lowering) (S : State) (g :
     meant = op.value trust its_law is_sized
 
     x-sized : IsSized size x
-    x-sized = subst (IsSized size) meant (all-sized p mid op.f size (all_workers p) (held_in p mid c) copies_sized (range-below 0 p.workers p.workers (from_none p.workers)) own_sized)
-      where
-        from_none : (m : ℕ) → 0 + m ≤ m
-        from_none m = omega arith
+    x-sized = subst (IsSized size) meant (all-sized p mid op.f size (all_workers p) (held_in p mid c) copies_sized (range-below 0 p.workers p.workers (all_of p.workers)) own_sized)
 
-    firsts : first_ins p (task_at n) first_worker (worked_on p first_worker a) (updates p trust n inside a among con.redux op.f partials its_kernel codelet contributes) (held_in p mid) ≡ each_of (operand_array S) con.before
+    firsts : first_ins p (task n) first_worker (worked_on p first_worker a) (updates p trust n inside a among con.redux op.f partials its_kernel codelet contributes) (held_in p mid) ≡ each_of (operand_array S) con.before
     firsts =
         let up = updates p trust n inside a among con.redux op.f partials its_kernel codelet contributes in
         ap (each_of (found p first_worker (held_in p mid))) (snoc-parts up.before (each_of (access_of S M.cells) con.before) up.last a (sym up.accesses ∙ accesses)).0
@@ -306,19 +311,16 @@ module _ (has : Kernel → Bool) (p : Program) (L M : Lowering) (S : State) (g :
     own_not_copy : (w : ℕ) → w < p.workers → same_cell c (copy_at op.f.copies w) ≡ false
     own_not_copy w below = ap (λ (d : Cell). same_cell d (copy_at op.f.copies w)) (own.cell ∙ moved u.name root.parts u.place) ∙ child_beside u.name root u.place own.is_root own.placed c op.f op.is w below
 
-    unlike : (d e : Cell) → same_cell d e ≡ false → d ≡ e → ⊥
-    unlike d e h same = false≢true (sym h ∙ ap (same_cell d) (sym same) ∙ same_cell-itself d)
-
     leaves : with_all p new op.f (all_workers p) (held_in p new c) ≡ news has S t s con
     leaves =
         let up = updates p trust n inside a among con.redux op.f partials its_kernel codelet contributes in
-        ap (with_all p new op.f (all_workers p)) (rest_kept c (unlike c (copy_at op.f.copies 0) (own_not_copy 0 trust.staffed)))
+        ap (with_all p new op.f (all_workers p)) (rest_kept c (same_cell-unlike c (copy_at op.f.copies 0) (own_not_copy 0 trust.staffed)))
         ∙ ap (λ (z : Contents). with_all p z op.f (all_workers p) (held_in p mid c)) next
         ∙ denotes-more p trust n inside a among con.redux op.f partials its_kernel codelet contributes copies_sized (held_in p mid c) own_sized
         ∙ ap (combined op.f.by (added p trust n inside a among con.redux op.f partials its_kernel codelet contributes)) meant
         ∙ sym (result-more p trust n inside a among con.redux op.f partials its_kernel codelet contributes x x-sized)
-        ∙ ap (λ (j : Kernel). result_of j (task_of p (task_at n)).args (first_ins p (task_at n) first_worker (worked_on p first_worker a) up (held_in p mid)) x) same_kernel
-        ∙ ap (λ (z : Lowered). result_of its_kernel z.args (first_ins p (task_at n) first_worker (worked_on p first_worker a) up (held_in p mid)) x) stand.0
+        ∙ ap (λ (j : Kernel). result_of j (task_of p (task n)).args (first_ins p (task n) first_worker (worked_on p first_worker a) up (held_in p mid)) x) same_kernel
+        ∙ ap (λ (z : Lowered). result_of its_kernel z.args (first_ins p (task n) first_worker (worked_on p first_worker a) up (held_in p mid)) x) stand.0
         ∙ ap (λ (zs : List Array). result_of its_kernel t.args zs x) firsts
         ∙ ap (result_of its_kernel t.args (each_of (operand_array S) con.before)) (sym seen)
         ∙ sym (news-is has S t s con)
@@ -326,7 +328,7 @@ module _ (has : Kernel → Bool) (p : Program) (L M : Lowering) (S : State) (g :
     -- another child, and the partial copies of its phase
     other_kept : (q : List ℕ) (r : Root) (place : ℕ × ℕ) → root_of S q ≡ Some r → IsPlace r.parts place → ((q ≡ u.name) → (place ≡ u.place) → ⊥) → held_in p new (cell_of M.cells q r.parts place) ≡ held_in p k (cell_of M.cells q r.parts place)
     other_kept q r place e at other =
-        rest_kept (cell_of M.cells q r.parts place) (unlike (cell_of M.cells q r.parts place) (copy_at op.f.copies 0) (child_beside q r place e at c op.f op.is 0 trust.staffed))
+        rest_kept (cell_of M.cells q r.parts place) (same_cell-unlike (cell_of M.cells q r.parts place) (copy_at op.f.copies 0) (child_beside q r place e at c op.f op.is 0 trust.staffed))
         ∙ child_kept trust q r place e at other
 
     -- the copies of another cell's phase
@@ -335,7 +337,7 @@ module _ (has : Kernel → Bool) (p : Program) (L M : Lowering) (S : State) (g :
         let m_is : M.phase d ≡ Some f = op.others d other ∙ is in
         let of_d = op.theirs.theirs d f m_is in
         let of_c = op.theirs.theirs c op.f op.is in
-        let apart : (v : ℕ) → v < p.workers → (copy_at f.copies w ≡ copy_at op.f.copies v) → ⊥ = λ v h same. unlike c d other (sym (op.theirs.copies.apart d c f.copies op.f.copies w v of_d of_c below h (ap (λ (z : Cell). z.0) same))) in
+        let apart : (v : ℕ) → v < p.workers → (copy_at f.copies w ≡ copy_at op.f.copies v) → ⊥ = λ v h same. same_cell-unlike c d other (sym (op.theirs.copies.apart d c f.copies op.f.copies w v of_d of_c below h (ap (λ (z : Cell). z.0) same))) in
         rest_kept (copy_at f.copies w) (apart 0 trust.staffed)
         ∙ op.kept (copy_at f.copies w) (ap (λ (z : Cell). same_cell z (copy_at f.copies w)) (own.cell ∙ moved u.name root.parts u.place) ∙ child_beside u.name root u.place own.is_root own.placed d f m_is w below)
         (λ v h. differs (copy_at op.f.copies v) (copy_at f.copies w) (λ same. apart v h (sym same)))
@@ -355,7 +357,7 @@ module _ (has : Kernel → Bool) (p : Program) (L M : Lowering) (S : State) (g :
   own_held = record {
     value = λ trust. denoted-open p M.phase new c op.f op.is ∙ leaves trust;
     given = later p n now c (omega (arith, longer)) op.given;
-    copies = λ f e w below. subst (λ (h : OpenPhase). HasValueBefore p (task_at now) (copy_at h.copies w)) (some_is op.f f (sym op.is ∙ e)) (later p n now (copy_at op.f.copies w) (omega (arith, longer)) (op.copies_given w below));
+    copies = λ f e w below. subst (λ (h : OpenPhase). HasValueBefore p (task now) (copy_at h.copies w)) (same_Some op.f f (sym op.is ∙ e)) (later p n now (copy_at op.f.copies w) (omega (arith, longer)) (op.copies_given w below));
   }
 
   c-is : c ≡ cell_of M.cells u.name root.parts u.place
@@ -372,7 +374,7 @@ module _ (has : Kernel → Bool) (p : Program) (L M : Lowering) (S : State) (g :
   other_phase q r place e at other = op.others (cell_of M.cells q r.parts place) (child_apart q r place e at other) ∙ ap L.phase (sym (moved q r.parts place))
 
   unlike_place : (x y : ℕ × ℕ) → same_place x y ≡ false → y ≡ x → ⊥
-  unlike_place x y e same = false≢true (sym e ∙ ap (same_place x) same ∙ place-itself x)
+  unlike_place x y e same = false≢true (sym e ∙ ap (same_place x) same ∙ same_place-refl x)
 
   stays : (place : ℕ × ℕ) → IsPlace root.parts place → same_place u.place place ≡ false → is_valued_child new_root place ≡ is_valued_child root place
   stays place at other = ap (λ es. is_child root.parts place && list_all (λ (e : Option ℤ). is_some e) es) (written-other root u.place place (news has S t s con) own.placed at (λ same. unlike_place u.place place other (sym same)))
@@ -390,7 +392,7 @@ module _ (has : Kernel → Bool) (p : Program) (L M : Lowering) (S : State) (g :
     where
       by_place : (place : ℕ × ℕ) → IsPlace root.parts place → is_valued_child new_root place ≡ true → (x : Bool) → same_place u.place place ≡ x → IsHeld p M.phase now new (cell_of M.cells u.name root.parts place) (child_array new_root place)
       by_place place at v true e =
-          subst (λ (y : ℕ × ℕ). IsHeld p M.phase now new (cell_of M.cells u.name root.parts y) (child_array new_root y)) (place-is u.place place e)
+          subst (λ (y : ℕ × ℕ). IsHeld p M.phase now new (cell_of M.cells u.name root.parts y) (child_array new_root y)) (same_place-law u.place place e)
           (subst (λ (d : Cell). IsHeld p M.phase now new d (child_array new_root u.place)) c-is
           (subst (λ (z : Array). IsHeld p M.phase now new c z) (sym (written-array root u.place (news has S t s con) own.placed sized_news (news-whole has S t s con))) own_held))
       by_place place at v false e =
@@ -399,12 +401,12 @@ module _ (has : Kernel → Bool) (p : Program) (L M : Lowering) (S : State) (g :
           (other_held u.name root place own.is_root at (λ en ep. unlike_place u.place place e ep) (sym (stays place at e) ∙ v))
 
       by_blank : (place : ℕ × ℕ) → IsPlace root.parts place → is_valued_child new_root place ≡ false → (x : Bool) → same_place u.place place ≡ x → M.phase (cell_of M.cells u.name root.parts place) ≡ None
-      by_blank place at v true e = absurd (false≢true (sym v ∙ ap (is_valued_child new_root) (sym (place-is u.place place e)) ∙ written-valued root u.place (news has S t s con) own.placed))
+      by_blank place at v true e = absurd (false≢true (sym v ∙ ap (is_valued_child new_root) (sym (same_place-law u.place place e)) ∙ written-valued root u.place (news has S t s con) own.placed))
       by_blank place at v false e = other_phase u.name root place own.is_root at (λ en ep. unlike_place u.place place e ep) ∙ b.blank place at (sym (stays place at e) ∙ v)
 
       by_reduced : (place : ℕ × ℕ) (f : OpenPhase) → IsPlace root.parts place → M.phase (cell_of M.cells u.name root.parts place) ≡ Some f → (x : Bool) → same_place u.place place ≡ x → root.reduction ≡ Some f.by
       by_reduced place f at is true e =
-          let same : op.f ≡ f = some_is op.f f (sym op.is ∙ ap M.phase (c-is ∙ ap (cell_of M.cells u.name root.parts) (place-is u.place place e)) ∙ is) in
+          let same : op.f ≡ f = same_Some op.f f (sym op.is ∙ ap M.phase (c-is ∙ ap (cell_of M.cells u.name root.parts) (same_place-law u.place place e)) ∙ is) in
           sym (reduction-is S u.name root own.is_root) ∙ con.reduction ∙ ap (λ y. Some y) (sym op.of) ∙ ap (λ (h : OpenPhase). Some h.by) same
       by_reduced place f at is false e = b.reduced place f at (sym (other_phase u.name root place own.is_root at (λ en ep. unlike_place u.place place e ep)) ∙ is)
 
@@ -430,7 +432,7 @@ module _ (has : Kernel → Bool) (p : Program) (L M : Lowering) (S : State) (g :
   all_roots q r e = by_test (bytes_eq u.name q) refl (sym (after_root q) ∙ e)
     where
       by_test : (x : Bool) → bytes_eq u.name q ≡ x → cond x (Some new_root) (root_of S q) ≡ Some r → HasRoot p M.cells M.phase now new q r
-      by_test true eb e = subst (λ (y : Root). HasRoot p M.cells M.phase now new q y) (some_is new_root r e) (subst (λ (y : List ℕ). HasRoot p M.cells M.phase now new y new_root) (same_name u.name q eb) own_root)
+      by_test true eb e = subst (λ (y : Root). HasRoot p M.cells M.phase now new q y) (same_Some new_root r e) (subst (λ (y : List ℕ). HasRoot p M.cells M.phase now new y new_root) (same_text u.name q eb) own_root)
       by_test false eb e = other_root q r e eb
 
   all_opened : (d : Cell) (f : OpenPhase) → M.phase d ≡ Some f → IsActiveChild M.cells (run_task t S) d

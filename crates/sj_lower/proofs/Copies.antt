@@ -7,17 +7,19 @@ use Rattle.std.proofs.lemmas.Bool.{cases_lt, false≢true}
 use Rattle.std.proofs.lemmas.Bool.Decides.{Decides-eqb}
 use Rattle.std.proofs.lemmas.List.{get_or_append_left, get_or-append_right, get_or_past, get_or-set_same, get_or-set_other, get_or-replicate, length-set, length-replicate, set_past}
 use Rattle.std.proofs.lemmas.List.Elements.{All-map, All-append, All-set, All-replicate, All-get_or}
+use Rattle.std.proofs.lemmas.Option.{same_Some}
 use Rattle.sj_base.specs.declared.ids.Cell.{Cell}
 use Rattle.sj_base.specs.declared.tile.Dims.{Dims}
 use Rattle.sj_base.specs.declared.program.CellInfo.{CellInfo}
 use Rattle.sj_base.specs.Array.{area}
+use Rattle.sj_base.proofs.SameIds.{cell_of_number}
 use Rattle.sj_core.specs.Program.{no_cell}
 use Rattle.sj_plan.specs.declared.parts.Parts.{Parts}
 use Rattle.sj_plan.specs.Parts.{IsPlace, places}
 use Rattle.sj_job.specs.Track.{number}
-use Rattle.sj_lower.specs.Cells.{Cells, Handle, child_cell, take_by, take, with_root, no_cells, info_at, copy_info, with_partials, first_copy, with_copies}
+use Rattle.sj_lower.specs.Cells.{Cells, Handle, child_cell, take_by, take, with_new_root, no_cells, info_at, copy_info, with_partials, first_partial, with_copies}
 use Rattle.sj_lower.proofs.Growing.{Grows, row_at, grows-refl, grows-append, has-row, NoneHas, append-partials}
-use Rattle.sj_lower.proofs.Laid.{IsTaken, AreLaid, Old, New, News, old_or_new, none_isn't, some_is, taken-root}
+use Rattle.sj_lower.proofs.Laid.{IsTaken, AreLaid, Old, New, News, old_or_new, none_isn't, taken-root}
 use Rattle.sj_lower.proofs.Places.{number-below}
 
 -- each cell that has partial copies has so many, which are cells of their own
@@ -38,7 +40,7 @@ copies-none workers = record {
     no : (c f : Cell) → (info_at no_cells c).partials ≡ Some f → ⊥
     no c f e = let h = has-row [] c.0 f e in omega (arith, h)
 
-pub copies-root : (workers : ℕ) (C : Cells) (name : List ℕ) (n : Dims) → HaveCopies workers C → HaveCopies workers (with_root name n C)
+pub copies-root : (workers : ℕ) (C : Cells) (name : List ℕ) (n : Dims) → HaveCopies workers C → HaveCopies workers (with_new_root name n C)
 copies-root workers C name n h = record {
   inside = h.inside;
   copy = h.copy;
@@ -104,7 +106,7 @@ take-more C name p = by_taken C name p (λ (D : Cells). Grows C.rows D.rows) (gr
 -- the partial copies of a cell that had none
 abbrev pub Copied : ℕ → Cell → Cells → Cells
 Copied workers c C = record {
-  rows = set C.rows c.0 (with_partials (first_copy C c) (info_at C c)) ++ replicate workers (copy_info (info_at C c));
+  rows = set C.rows c.0 (with_partials (first_partial C c) (info_at C c)) ++ replicate workers (copy_info (info_at C c));
   handles = C.handles;
   roots = C.roots;
 }
@@ -113,10 +115,10 @@ Copied workers c C = record {
 abbrev pub next_cell : Cells → Cell
 next_cell C = record { 0 = length C.rows }
 
-pub first-new : (C : Cells) (c : Cell) → (info_at C c).partials ≡ None → first_copy C c ≡ next_cell C
+pub first-new : (C : Cells) (c : Cell) → (info_at C c).partials ≡ None → first_partial C c ≡ next_cell C
 first-new C c e = ap (λ (o : Option Cell). unwrap_or o (next_cell C)) e
 
-pub first-old : (C : Cells) (c f : Cell) → (info_at C c).partials ≡ Some f → first_copy C c ≡ f
+pub first-old : (C : Cells) (c f : Cell) → (info_at C c).partials ≡ Some f → first_partial C c ≡ f
 first-old C c f e = ap (λ (o : Option Cell). unwrap_or o (next_cell C)) e
 
 pub by_copies : (workers : ℕ) (c : Cell) (C : Cells) (P : Cells → Type 0) → ((f : Cell) → (info_at C c).partials ≡ Some f → P C) → ((info_at C c).partials ≡ None → P (Copied workers c C)) → P (with_copies workers c C)
@@ -132,22 +134,22 @@ IsNoCopy workers C c = (d f : Cell) (w : ℕ) → (info_at C d).partials ≡ Som
 
 module _ (workers : ℕ) (c : Cell) (C : Cells) (none : (info_at C c).partials ≡ None) (there : c.0 < length C.rows) where
   abbrev first_part : List CellInfo
-  first_part = set C.rows c.0 (with_partials (first_copy C c) (info_at C c))
+  first_part = set C.rows c.0 (with_partials (first_partial C c) (info_at C c))
 
   abbrev copies : List CellInfo
   copies = replicate workers (copy_info (info_at C c))
 
   first_length : length first_part ≡ length C.rows
-  first_length = length-set C.rows c.0 (with_partials (first_copy C c) (info_at C c))
+  first_length = length-set C.rows c.0 (with_partials (first_partial C c) (info_at C c))
 
   pub copied-length : length (Copied workers c C).rows ≡ length C.rows + workers
   copied-length = length-append first_part copies ∙ (λ i. first_length i + length-replicate workers (copy_info (info_at C c)) i)
 
-  pub copied-own : row_at (Copied workers c C).rows c.0 ≡ with_partials (first_copy C c) (info_at C c)
-  copied-own = get_or_append_left first_part copies no_cell c.0 (omega (arith, first_length, there)) ∙ get_or-set_same C.rows c.0 (with_partials (first_copy C c) (info_at C c)) no_cell there
+  pub copied-own : row_at (Copied workers c C).rows c.0 ≡ with_partials (first_partial C c) (info_at C c)
+  copied-own = get_or_append_left first_part copies no_cell c.0 (omega (arith, first_length, there)) ∙ get_or-set_same C.rows c.0 (with_partials (first_partial C c) (info_at C c)) no_cell there
 
   pub copied-other : (n : ℕ) → n < length C.rows → (n ≡ c.0 → ⊥) → row_at (Copied workers c C).rows n ≡ row_at C.rows n
-  copied-other n inside other = get_or_append_left first_part copies no_cell n (omega (arith, first_length, inside)) ∙ get_or-set_other C.rows c.0 n (with_partials (first_copy C c) (info_at C c)) no_cell other
+  copied-other n inside other = get_or_append_left first_part copies no_cell n (omega (arith, first_length, inside)) ∙ get_or-set_other C.rows c.0 n (with_partials (first_partial C c) (info_at C c)) no_cell other
 
   pub copied-copy : (n w : ℕ) → n ≡ length C.rows + w → w < workers → row_at (Copied workers c C).rows n ≡ copy_info (info_at C c)
   copied-copy n w e h =
@@ -164,7 +166,7 @@ module _ (workers : ℕ) (c : Cell) (C : Cells) (none : (info_at C c).partials �
   copied-partials n f e = elim (cases_lt n (length C.rows)) [
     | inr beyond ↦ absurd (none_isn't f (sym (past n beyond) ∙ e))
     | inl inside ↦ elim (same_number n c.0) [
-      | inl same ↦ inr (same, some_is f (next_cell C) (sym e ∙ ap (λ m. (row_at (Copied workers c C).rows m).partials) same ∙ ap (λ (i : CellInfo). i.partials) copied-own ∙ ap (λ (x : Cell). Some x) (first-new C c none)))
+      | inl same ↦ inr (same, same_Some f (next_cell C) (sym e ∙ ap (λ m. (row_at (Copied workers c C).rows m).partials) same ∙ ap (λ (i : CellInfo). i.partials) copied-own ∙ ap (λ (x : Cell). Some x) (first-new C c none)))
       | inr other ↦ inl (sym (ap (λ (i : CellInfo). i.partials) (copied-other n inside other)) ∙ e)
     ]
   ]
@@ -213,7 +215,7 @@ module _ (workers : ℕ) (c : Cell) (C : Cells) (none : (info_at C c).partials �
       ]
       | inr new ↦ elim (copied-partials e.0 g j) [
         | inl old2 ↦ absurd (let s = ap (λ (x : Cell). x.0) new.1 in omega (arith, s, same, k.inside e g old2, hw))
-        | inr new2 ↦ one_cell d e (new.0 ∙ sym new2.0)
+        | inr new2 ↦ cell_of_number d e (new.0 ∙ sym new2.0)
       ]
     ];
     beside = λ d f w q n s g place e h t hp same. elim (copied-partials d.0 f e) [
@@ -222,9 +224,6 @@ module _ (workers : ℕ) (c : Cell) (C : Cells) (none : (info_at C c).partials �
     ];
   }
     where
-      one_cell : (d e : Cell) → d.0 ≡ e.0 → d ≡ e
-      one_cell d e h = λ i. record { 0 = h i }
-
       taken : {q : List ℕ} {d : Dims} {s : Parts} {f : ℕ} → IsTaken (Copied workers c C) q d s f → IsTaken C q d s f
       taken t = record { handle = t.handle; is = t.is; dims = t.dims; first = t.first }
 
@@ -236,7 +235,7 @@ module _ (workers : ℕ) (c : Cell) (C : Cells) (none : (info_at C c).partials �
     apart = λ q u d e s t f g place other k l hp ho same. a.apart q u d e s t f g place other (taken k) (taken l) hp ho same;
     sized = a.sized;
     small = All-append (λ (i : CellInfo). area i.dims ≤ 2 ^ 24) first_part copies
-        (All-set (λ (i : CellInfo). area i.dims ≤ 2 ^ 24) C.rows c.0 (with_partials (first_copy C c) (info_at C c)) own a.small)
+        (All-set (λ (i : CellInfo). area i.dims ≤ 2 ^ 24) C.rows c.0 (with_partials (first_partial C c) (info_at C c)) own a.small)
         (All-replicate (λ (i : CellInfo). area i.dims ≤ 2 ^ 24) workers (copy_info (info_at C c)) own);
   }
     where
@@ -257,8 +256,8 @@ module _ (workers : ℕ) (c : Cell) (C : Cells) (there : c.0 < length C.rows) wh
   laid-copied a = by_copies workers c C AreLaid (λ f e. a) (λ e. laid_made workers c C e there a)
 
   -- the cell has its copies afterwards
-  pub copied-first : (info_at (with_copies workers c C) c).partials ≡ Some (first_copy C c)
-  copied-first = by_copies workers c C (λ (D : Cells). (info_at D c).partials ≡ Some (first_copy C c)) (λ f e. e ∙ ap (λ (x : Cell). Some x) (sym (first-old C c f e)))
+  pub copied-first : (info_at (with_copies workers c C) c).partials ≡ Some (first_partial C c)
+  copied-first = by_copies workers c C (λ (D : Cells). (info_at D c).partials ≡ Some (first_partial C c)) (λ f e. e ∙ ap (λ (x : Cell). Some x) (sym (first-old C c f e)))
       (λ e. ap (λ (i : CellInfo). i.partials) (copied-own workers c C e there))
 
   pub copied-handles : (with_copies workers c C).handles ≡ C.handles
@@ -272,7 +271,7 @@ pub copies-more : (workers : ℕ) (c : Cell) (C : Cells) → Grows C.rows (with_
 copies-more workers c C = elim (cases_lt c.0 (length C.rows)) [
   | inl inside ↦ copies-grow workers c C inside
   | inr past ↦ by_copies workers c C (λ (D : Cells). Grows C.rows D.rows) (λ f e. grows-refl C.rows) (λ e.
-      subst (λ (rows : List CellInfo). Grows C.rows (rows ++ replicate workers (copy_info (info_at C c)))) (sym (set_past C.rows c.0 (with_partials (first_copy C c) (info_at C c)) past)) (grows-append C.rows (replicate workers (copy_info (info_at C c))) (none (copy_info (info_at C c)) refl)))
+      subst (λ (rows : List CellInfo). Grows C.rows (rows ++ replicate workers (copy_info (info_at C c)))) (sym (set_past C.rows c.0 (with_partials (first_partial C c) (info_at C c)) past)) (grows-append C.rows (replicate workers (copy_info (info_at C c))) (none (copy_info (info_at C c)) refl)))
 ]
   where
     none : (i : CellInfo) → i.partials ≡ None → NoneHas (replicate workers i)

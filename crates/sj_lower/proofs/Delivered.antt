@@ -2,8 +2,7 @@
 use Rattle.std.proofs.Common.{◌≡◌, ℕ, zero, suc, ◌+◌, ◌-◌, ◌*◌, ◌<◌, ◌≤◌, Bool, true, false, cond, Some, None, List, [], ◌∷◌, ◌++◌, length, get_or, map as each_of, refl, sym, ap, subst, ◌∙◌, inl, inr, arith, length-append, pos}
 use Rattle.std.specs.Prelude.{◌⊎◌, nat_eq, count_by, slice_get, IsPermutation}
 use Rattle.std.specs.List.{All, AllPairs, AllByRecursion, filter}
-use Rattle.std.proofs.lemmas.Bool.{false≢true, cases_lt}
-use Rattle.std.proofs.lemmas.Bool.Decides.{Decides-eqb}
+use Rattle.std.proofs.lemmas.Bool.{false≢true, cases_lt, eq-eqb, ne_eqb}
 use Rattle.std.proofs.lemmas.List.{append-nil, length-map, length-replicate}
 use Rattle.std.proofs.lemmas.List.Elements.{All-nil, All-append, All-weaker, All-from_recursion, recursion_from_All, filter-append}
 use Rattle.std.proofs.lemmas.List.Sorted.{IsPermutation-map, All-permutation}
@@ -17,6 +16,8 @@ use Rattle.sj_base.specs.declared.program.Lowered.{Lowered}
 use Rattle.sj_base.specs.declared.program.Delivery.{Delivery}
 use Rattle.sj_base.specs.declared.program.Program.{Program}
 use Rattle.sj_base.specs.Array.{Array, area, zeros}
+use Rattle.sj_base.proofs.Numbers.{none_more, one_more, positive_product}
+use Rattle.sj_base.specs.Ids.{task}
 use Rattle.sj_codelet.specs.declared.kernel.Kernel.TheVariants.{Deliver}
 use Rattle.sj_codelet.specs.Kernel.{kernel_of}
 use Rattle.sj_core.specs.Program.{task_of, data_operands}
@@ -31,21 +32,23 @@ use Rattle.sj_plan.specs.Window.{window, gathered, IsWhole}
 use Rattle.sj_plan.proofs.Gathering.{tiling-reassembles}
 use Rattle.sj_plan.proofs.Lists.{each-map, each-places, each-of, each-all, filter_all, filter_gone, count_by-map, count_places, ordered-append, pairs-from_ordered, ordered-from_pairs}
 use Rattle.sj_plan.proofs.Tiling.{children_of-tiling}
+use Rattle.sj_plan.proofs.Repartitioning.{child-within, same_place-law, same_place-refl}
 use Rattle.sj_meaning.specs.State.{Root, State, root_of, is_valued}
 use Rattle.sj_meaning.specs.Meaning.{Printed, array_of}
 use Rattle.sj_meaning.specs.Table.{Table, info_of}
 use Rattle.sj_job.specs.Track.{number}
+use Rattle.sj_job.proofs.Children.{number-alone}
 use Rattle.sj_lower.specs.Cells.{Cells, cell_of}
 use Rattle.sj_lower.specs.Rows.{deliver_row}
 use Rattle.sj_lower.specs.Lowering.{Lowering, nothing, a_delivery}
 use Rattle.sj_lower.specs.Delivering.{part_of, printed_as, Assemble}
 use Rattle.sj_lower.proofs.Combined.{IsTrusted, Phases, denoted-closed}
-use Rattle.sj_lower.proofs.Contents.{first_worker, task_at, contents_before, contents-next}
-use Rattle.sj_lower.proofs.Elements.{child-within, child-window, valued-child}
+use Rattle.sj_lower.proofs.Contents.{first_worker, contents_before, contents-next}
+use Rattle.sj_lower.proofs.Elements.{child-window, valued-child}
 use Rattle.sj_lower.proofs.Filling.{after_deliver}
 use Rattle.sj_lower.proofs.Folding.{Stand, after_row-is}
 use Rattle.sj_lower.proofs.Holding.{HasRoot}
-use Rattle.sj_lower.proofs.Places.{place-is, place-itself, number-below, number-apart, length-places, place_at, place_at-inside, number-place_at, places-at, places-by_number}
+use Rattle.sj_lower.proofs.Places.{number-below, length-places, place_at, place_at-inside, number-place_at, places-at, places-by_number}
 
 -- ---- lists
 
@@ -73,17 +76,6 @@ slice-push (z ∷ xs) x y (suc k) e = elim (slice-push xs x y k e) [
 pairs-append : {X : Type 0} (R : X → X → Type 0) (xs ys : List X) → AllPairs R xs → AllPairs R ys → AllByRecursion (λ x. AllByRecursion (R x) ys) xs → AllPairs R (xs ++ ys)
 pairs-append R xs ys a b across = pairs-from_ordered R (xs ++ ys) (ordered-append R xs ys (ordered-from_pairs R xs a) (ordered-from_pairs R ys b) across)
 
--- tests of numbers
-unequal : (m n : ℕ) → (m ≡ n → ⊥) → nat_eq m n ≡ false
-unequal m n h = by_test (nat_eq m n) refl
-  where
-    by_test : (b : Bool) → nat_eq m n ≡ b → b ≡ false
-    by_test false e = refl
-    by_test true e = absurd (h ((Decides-eqb m n).0 e))
-
-equal : (m n : ℕ) → m ≡ n → nat_eq m n ≡ true
-equal m n e = (Decides-eqb m n).1 e
-
 -- ---- what is delivered
 
 -- deliveries hand over the pieces of what a print statement finds
@@ -99,7 +91,7 @@ abbrev pub of_print : ℕ → List Delivery → List Delivery
 of_print k ds = filter (λ d. nat_eq d.print k) ds
 
 abbrev pub Delivers : Program → ℕ → Type 0
-Delivers p n = kernel_of (task_of p (task_at n)).codelet ≡ Some Deliver
+Delivers p n = kernel_of (task_of p (task n)).codelet ≡ Some Deliver
 
 pub record AreDelivered (T : Table) (p : Program) (L : Lowering) (out : List Printed) : Type 0 where
   pub each : (k : ℕ) (x : Printed) → slice_get out k ≡ Some x → AreHanded T p (of_print k L.deliveries) x
@@ -141,7 +133,7 @@ not_among p n m [] s other lo hi e = omega arith
 not_among p n m (l ∷ ls) s other lo hi e =
     elim (cases_lt n m) [
       | inl later ↦ not_among p (n + 1) m ls s.2 other.1 (omega arith) (omega arith) e
-      | inr past ↦ (let here : n ≡ m = omega arith in other.0 (ap (λ (k : Lowered). kernel_of k.codelet) (sym s.0) ∙ ap (λ i. kernel_of (task_of p (task_at i)).codelet) here ∙ e))
+      | inr past ↦ (let here : n ≡ m = omega arith in other.0 (ap (λ (k : Lowered). kernel_of k.codelet) (sym s.0) ∙ ap (λ i. kernel_of (task_of p (task i)).codelet) here ∙ e))
     ]
 
 pub delivered_beside : (T : Table) (p : Program) (L M : Lowering) (out : List Printed) (ls : List Lowered) → M.deliveries ≡ L.deliveries → M.prints ≡ L.prints → M.tasks ≡ L.tasks ++ ls → Stand p (length L.tasks) ls → NoneDelivers ls → AreDelivered T p L out → AreDelivered T p M out
@@ -170,32 +162,20 @@ delivered_beside T p L M out ls ed ep et s other g = record {
 -- ---- the deliveries of one print statement
 
 -- a task among those that hand over
-delivers_there : (p : Program) (n i : ℕ) (cell : ℕ × ℕ → Cell) (line : Line) (ps : List (ℕ × ℕ)) → Stand p n (each_of (λ place. deliver_row (cell place) line) ps) → i < length ps → task_of p (task_at (n + i)) ≡ deliver_row (cell (get_or ps i (0, 0))) line
+delivers_there : (p : Program) (n i : ℕ) (cell : ℕ × ℕ → Cell) (line : Line) (ps : List (ℕ × ℕ)) → Stand p n (each_of (λ place. deliver_row (cell place) line) ps) → i < length ps → task_of p (task (n + i)) ≡ deliver_row (cell (get_or ps i (0, 0))) line
 delivers_there p n i cell line [] s h = absurd (omega arith)
-delivers_there p n zero cell line (q ∷ qs) s h = ap (λ m. task_of p (task_at m)) (none n) ∙ s.0
-  where
-    none : (n : ℕ) → n + 0 ≡ n
-    none n = omega arith
-delivers_there p n (suc i) cell line (q ∷ qs) s h = ap (λ m. task_of p (task_at m)) (next n i) ∙ delivers_there p (n + 1) i cell line qs s.2 (omega arith)
-  where
-    next : (n i : ℕ) → n + suc i ≡ (n + 1) + i
-    next n i = omega arith
+delivers_there p n zero cell line (q ∷ qs) s h = ap (λ m. task_of p (task m)) (none_more n) ∙ s.0
+delivers_there p n (suc i) cell line (q ∷ qs) s h = ap (λ m. task_of p (task m)) (one_more n i) ∙ delivers_there p (n + 1) i cell line qs s.2 (omega arith)
 
 -- they change nothing
 delivers_keep : (p : Program) (n i : ℕ) (cell : ℕ × ℕ → Cell) (line : Line) (ps : List (ℕ × ℕ)) → Stand p n (each_of (λ place. deliver_row (cell place) line) ps) → i ≤ length ps → contents_before p (n + i) ≡ contents_before p n
-delivers_keep p n zero cell line ps s h = ap (contents_before p) (none n)
-  where
-    none : (n : ℕ) → n + 0 ≡ n
-    none n = omega arith
+delivers_keep p n zero cell line ps s h = ap (contents_before p) (none_more n)
 delivers_keep p n (suc i) cell line [] s h = absurd (omega arith)
 delivers_keep p n (suc i) cell line (q ∷ qs) s h =
-    ap (contents_before p) (next n i) ∙ delivers_keep p (n + 1) i cell line qs s.2 (omega arith)
+    ap (contents_before p) (one_more n i) ∙ delivers_keep p (n + 1) i cell line qs s.2 (omega arith)
     ∙ contents-next p n (n + 1) refl ∙ after_row-is p n (contents_before p n) (deliver_row (cell q) line) s.0 ∙ after_deliver p (contents_before p n) (cell q) line
-  where
-    next : (n i : ℕ) → n + suc i ≡ (n + 1) + i
-    next n i = omega arith
 
-given_there : (p : Program) (m : ℕ) (c : Cell) (line : Line) → task_of p (task_at m) ≡ deliver_row c line → given p (task_at m) ≡ held_in p (contents_before p m) c
+given_there : (p : Program) (m : ℕ) (c : Cell) (line : Line) → task_of p (task m) ≡ deliver_row c line → given p (task m) ≡ held_in p (contents_before p m) c
 given_there p m c line e = ap (λ (l : Lowered). held_before p m (get_or (each_of (worked_on p first_worker) (data_operands l)) 0 (record { 0 = 0 }))) e
 
 at_child : (s : Parts) (place : ℕ × ℕ) → IsPlace s place → get_or (places s) (number s place) (0, 0) ≡ place
@@ -217,13 +197,13 @@ pub record Stands (p : Program) (C : Cells) (phases : Phases) (S : State) (name 
   pub shut : (place : ℕ × ℕ) → IsPlace r.parts place → phases (cell_of C name r.parts place) ≡ None
   pub stand : Stand p n (each_of (λ place. deliver_row (cell_of C name r.parts place) line) (places r.parts))
 
-child_task : (p : Program) (C : Cells) (phases : Phases) (S : State) (name : List ℕ) (r : Root) (n : ℕ) (line : Line) (place : ℕ × ℕ) → Stands p C phases S name r n line → IsPlace r.parts place → task_of p (task_at (n + number r.parts place)) ≡ deliver_row (cell_of C name r.parts place) line
+child_task : (p : Program) (C : Cells) (phases : Phases) (S : State) (name : List ℕ) (r : Root) (n : ℕ) (line : Line) (place : ℕ × ℕ) → Stands p C phases S name r n line → IsPlace r.parts place → task_of p (task (n + number r.parts place)) ≡ deliver_row (cell_of C name r.parts place) line
 child_task p C phases S name r n line place t h =
     delivers_there p n (number r.parts place) (cell_of C name r.parts) line (places r.parts) t.stand (omega (arith, number-below r.parts place h, many r.parts))
     ∙ ap (λ q. deliver_row (cell_of C name r.parts q) line) (at_child r.parts place h)
 
 -- a child's task hands over its window
-child_given : (p : Program) (C : Cells) (phases : Phases) (S : State) (name : List ℕ) (r : Root) (n : ℕ) (line : Line) (place : ℕ × ℕ) → IsTrusted p → Stands p C phases S name r n line → IsPlace r.parts place → given p (task_at (n + number r.parts place)) ≡ window (array_of r) (child r.dims r.parts place)
+child_given : (p : Program) (C : Cells) (phases : Phases) (S : State) (name : List ℕ) (r : Root) (n : ℕ) (line : Line) (place : ℕ × ℕ) → IsTrusted p → Stands p C phases S name r n line → IsPlace r.parts place → given p (task (n + number r.parts place)) ≡ window (array_of r) (child r.dims r.parts place)
 child_given p C phases S name r n line place trust t h =
     given_there p (n + number r.parts place) (cell_of C name r.parts place) line (child_task p C phases S name r n line place t h)
     ∙ ap (λ (k : Contents). held_in p k (cell_of C name r.parts place)) (delivers_keep p n (number r.parts place) (cell_of C name r.parts) line (places r.parts) t.stand (omega (arith, number-below r.parts place h, many r.parts)))
@@ -250,14 +230,11 @@ all_places P r n root print h = each-map P (a_delivery n root r.dims r.parts pri
 whole_array : (p : Program) (C : Cells) (phases : Phases) (n : ℕ) (k : Contents) (name : List ℕ) (r : Root) → HasRoot p C phases n k name r → IsWhole (array_of r)
 whole_array p C phases n k name r h = length-map r.elements _ ∙ h.whole
 
-positive : (a b : ℕ) → 0 < a → 0 < b → 0 < a * b
-positive a b h k = grind arith
-
 -- the deliveries hand over what the print statement finds
 pub handed : (T : Table) (p : Program) (C : Cells) (phases : Phases) (S : State) (name : List ℕ) (r : Root) (n : ℕ) (line : Line) (root : RootNumber) (print : ℕ) → Stands p C phases S name r n line → printed_as T root ≡ (name, r.kind) → (info_of T root).dims ≡ r.dims
     → AreHanded T p (deliveries_by r n root print) (record { name = name; kind = r.kind; array = array_of r })
 handed T p C phases S name r n line root print t named dims = record {
-  some = let e = length-places (a_delivery n root r.dims r.parts print) r.parts in omega (arith, e, positive r.parts.r r.parts.c t.has.fits.some_rows t.has.fits.some_cols);
+  some = let e = length-places (a_delivery n root r.dims r.parts print) r.parts in omega (arith, e, positive_product r.parts.r r.parts.c t.has.fits.some_rows t.has.fits.some_cols);
   named = All-from_recursion (λ (d : Delivery). printed_as T d.root ≡ (name, r.kind)) (deliveries_by r n root print) (all_places (λ (d : Delivery). printed_as T d.root ≡ (name, r.kind)) r n root print (λ place h. named));
   dims = All-from_recursion (λ (d : Delivery). (info_of T d.root).dims ≡ r.dims) (deliveries_by r n root print) (all_places (λ (d : Delivery). (info_of T d.root).dims ≡ r.dims) r n root print (λ place h. dims));
   within = λ trust. All-from_recursion (λ (d : Delivery). Within (part_of p d).0 r.dims) (deliveries_by r n root print) (all_places (λ (d : Delivery). Within (part_of p d).0 r.dims) r n root print (λ place h.
@@ -289,11 +266,11 @@ one_task s n m lo hi =
     here = ap (λ k. n + k) (number-place_at s (m - n)) ∙ omega arith
 
     by_test : (place : ℕ × ℕ) → IsPlace s place → (b : Bool) → same_place (place_at s (m - n)) place ≡ b → nat_eq (n + number s place) m ≡ b
-    by_test place h true e = equal (n + number s place) m (ap (λ q. n + number s q) (sym (place-is (place_at s (m - n)) place e)) ∙ here)
-    by_test place h false e = unequal (n + number s place) m (λ same.
+    by_test place h true e = eq-eqb (n + number s place) m (ap (λ q. n + number s q) (sym (same_place-law (place_at s (m - n)) place e)) ∙ here)
+    by_test place h false e = ne_eqb (n + number s place) m (λ same.
         let one : number s place ≡ number s (place_at s (m - n)) = omega (arith, same, here) in
-        let is = number-apart s place (place_at s (m - n)) h (place_at-inside s (m - n) (omega arith)) one in
-        false≢true (sym e ∙ ap (same_place (place_at s (m - n))) is ∙ place-itself (place_at s (m - n))))
+        let is = number-alone s place (place_at s (m - n)) h (place_at-inside s (m - n) (omega arith)) one in
+        false≢true (sym e ∙ ap (same_place (place_at s (m - n))) is ∙ same_place-refl (place_at s (m - n))))
 
 pub delivered_print : (T : Table) (p : Program) (L M : Lowering) (S : State) (out : List Printed) (line : Line) (name : List ℕ) (r : Root) (root : RootNumber)
     → Stands p L.cells L.phase S name r (length L.tasks) line → printed_as T root ≡ (name, r.kind) → (info_of T root).dims ≡ r.dims → root.0 < length T.names
@@ -352,11 +329,11 @@ delivered_print T p L M S out line name r root t named dims there ed ep et g = r
     each_print : (k : ℕ) (y : Printed) → (slice_get out k ≡ Some y) ⊎ ((k ≡ length out) × (x ≡ y)) → AreHanded T p (of_print k (L.deliveries ++ news)) y
     each_print k y (inl e) =
         let h = slice_get_within out k y e in
-        let gone : of_print k news ≡ [] = filter_gone (λ (d : Delivery). nat_eq d.print k) news (all_places (λ (d : Delivery). nat_eq d.print k ≡ false) r n root L.prints (λ place at. unequal L.prints k (λ same. omega (arith, same, h, g.counted)))) in
+        let gone : of_print k news ≡ [] = filter_gone (λ (d : Delivery). nat_eq d.print k) news (all_places (λ (d : Delivery). nat_eq d.print k ≡ false) r n root L.prints (λ place at. ne_eqb L.prints k (λ same. omega (arith, same, h, g.counted)))) in
         subst (λ (ds : List Delivery). AreHanded T p ds y) (sym (filter-append (λ (d : Delivery). nat_eq d.print k) L.deliveries news ∙ ap (λ ds. of_print k L.deliveries ++ ds) gone ∙ append-nil (of_print k L.deliveries))) (g.each k y e)
     each_print k y (inr e) =
-        let gone : of_print k L.deliveries ≡ [] = filter_gone (λ (d : Delivery). nat_eq d.print k) L.deliveries (each-all (λ (d : Delivery). d.print < length out) (λ (d : Delivery). nat_eq d.print k ≡ false) (λ d h. unequal d.print k (λ same. omega (arith, same, h, e.0))) L.deliveries (recursion_from_All (λ (d : Delivery). d.print < length out) L.deliveries g.printed)) in
-        let all : of_print k news ≡ news = filter_all (λ (d : Delivery). nat_eq d.print k) news (all_places (λ (d : Delivery). nat_eq d.print k ≡ true) r n root L.prints (λ place at. equal L.prints k (omega (arith, g.counted, e.0)))) in
+        let gone : of_print k L.deliveries ≡ [] = filter_gone (λ (d : Delivery). nat_eq d.print k) L.deliveries (each-all (λ (d : Delivery). d.print < length out) (λ (d : Delivery). nat_eq d.print k ≡ false) (λ d h. ne_eqb d.print k (λ same. omega (arith, same, h, e.0))) L.deliveries (recursion_from_All (λ (d : Delivery). d.print < length out) L.deliveries g.printed)) in
+        let all : of_print k news ≡ news = filter_all (λ (d : Delivery). nat_eq d.print k) news (all_places (λ (d : Delivery). nat_eq d.print k ≡ true) r n root L.prints (λ place at. eq-eqb L.prints k (omega (arith, g.counted, e.0)))) in
         subst (λ (ds : List Delivery). AreHanded T p ds y) (sym (filter-append (λ (d : Delivery). nat_eq d.print k) L.deliveries news ∙ ap (λ ds. ds ++ of_print k news) gone ∙ all))
         (subst (λ (y : Printed). AreHanded T p news y) e.1 (handed T p L.cells L.phase S name r n line root L.prints t named dims))
 
@@ -365,8 +342,8 @@ delivered_print T p L M S out line name r root t named dims there ed ep et g = r
 
     both : (m : ℕ) → m < length M.tasks → Delivers p m → (m < n) ⊎ (n ≤ m) → count_by (λ (d : Delivery). nat_eq d.task.0 m) L.deliveries + count_by (λ (d : Delivery). nat_eq d.task.0 m) news ≡ 1
     both m h e (inl old) =
-        let none = count_news m ∙ count-none (λ (place : ℕ × ℕ). nat_eq (n + number r.parts place) m) (places r.parts) (each-of (λ place. nat_eq (n + number r.parts place) m ≡ false) (λ place. unequal (n + number r.parts place) m (λ same. omega (arith, same, old))) (places r.parts)) in
+        let none = count_news m ∙ count-none (λ (place : ℕ × ℕ). nat_eq (n + number r.parts place) m) (places r.parts) (each-of (λ place. nat_eq (n + number r.parts place) m ≡ false) (λ place. ne_eqb (n + number r.parts place) m (λ same. omega (arith, same, old))) (places r.parts)) in
         omega (arith, g.once m old e, none)
     both m h e (inr new) =
-        let none = count-none (λ (d : Delivery). nat_eq d.task.0 m) L.deliveries (each-all (λ (d : Delivery). d.task.0 < n) (λ (d : Delivery). nat_eq d.task.0 m ≡ false) (λ d h. unequal d.task.0 m (λ same. omega (arith, same, h, new))) L.deliveries (recursion_from_All (λ (d : Delivery). d.task.0 < n) L.deliveries g.below)) in
+        let none = count-none (λ (d : Delivery). nat_eq d.task.0 m) L.deliveries (each-all (λ (d : Delivery). d.task.0 < n) (λ (d : Delivery). nat_eq d.task.0 m ≡ false) (λ d h. ne_eqb d.task.0 m (λ same. omega (arith, same, h, new))) L.deliveries (recursion_from_All (λ (d : Delivery). d.task.0 < n) L.deliveries g.below)) in
         omega (arith, none, count_news m ∙ one_task r.parts n m new (omega (arith, h, et)))

@@ -1,20 +1,21 @@
 -- The elements of a root's children: as windows of its array, and after a child is written.
-use Rattle.std.proofs.Common.{◌≡◌, ℕ, zero, suc, ◌+◌, ◌-◌, ◌*◌, ◌/◌, ◌%◌, ◌<◌, ◌≤◌, Bool, true, false, cond, ◌&&◌, Option, Some, None, List, [], ◌∷◌, ℤ, pos, ◌+ℤ◌, ◌*ℤ◌, length, get_or, unwrap_or, map, replicate, refl, sym, ap, ◌∙◌, arith}
+use Rattle.std.proofs.Common.{◌≡◌, ℕ, zero, suc, ◌+◌, ◌-◌, ◌*◌, ◌/◌, ◌%◌, ◌<◌, ◌≤◌, Bool, true, false, cond, Option, Some, None, List, [], ◌∷◌, ℤ, pos, ◌+ℤ◌, ◌*ℤ◌, length, get_or, unwrap_or, map, replicate, refl, sym, ap, ◌∙◌, arith}
 use Rattle.std.specs.List.{list_all, range_with_len}
 use Rattle.std.specs.Option.{is_some, is_none}
 use Rattle.std.proofs.Math.ListN.{get_or-map}
-use Rattle.std.proofs.lemmas.Bool.{false≢true, and_parts}
+use Rattle.std.proofs.lemmas.Bool.{false≢true, and_parts, and_from}
 use Rattle.std.proofs.lemmas.Bool.Decides.{nat_tests}
 use Rattle.std.proofs.lemmas.Int.{ints}
 use Rattle.std.proofs.lemmas.List.FromFn.{get_or-map-range_with_len}
 use Rattle.std.proofs.lemmas.List.Folds.{list_all_at}
-use Rattle.std.proofs.lemmas.Nat.{div_below, mod_below, mul-add-lt}
+use Rattle.std.proofs.lemmas.Nat.{div_below, mod_below}
 use Rattle.std.proofs.lemmas.Simd.{map-map}
 use Rattle.std.proofs.lemmas.Bool.{cond-true, cond-false}
 use Rattle.sj_base.specs.declared.tile.Dims.{Dims}
 use Rattle.sj_base.specs.Array.{Array, array, area, element, zeros}
 use Rattle.sj_base.specs.Window.{item, table, read_rect, in_rect}
-use Rattle.sj_base.proofs.Tables.{length-table, item-table, same_tables}
+use Rattle.sj_base.proofs.Tables.{length-table, item-table, table-same, item_inside}
+use Rattle.sj_base.proofs.Numbers.{some_factor, same_pair}
 use Rattle.sj_codelet.specs.Ring.{wrap}
 use Rattle.sj_codelet.specs.Equations.{loadfill}
 use Rattle.sj_plan.specs.declared.parts.Parts.{Parts}
@@ -22,39 +23,26 @@ use Rattle.sj_plan.specs.declared.rect.Rect.{Rect}
 use Rattle.sj_plan.specs.Parts.{Fits, IsPlace}
 use Rattle.sj_plan.specs.Rect.{child, place_of, dims_of, Within, holds}
 use Rattle.sj_plan.specs.Window.{window, IsWhole}
-use Rattle.sj_plan.proofs.Splitting.{part_end, part_len-positive, lies_alone}
+use Rattle.sj_plan.proofs.Splitting.{part_len-positive, lies_alone}
 use Rattle.sj_plan.proofs.Windows.{tabulate, IsWhole-tabulate, element-tabulate, same_arrays, holds-true, holds-false}
+use Rattle.sj_plan.proofs.Repartitioning.{child-within}
 use Rattle.sj_meaning.specs.declared.job.Init.TheVariants.{Fill}
 use Rattle.sj_meaning.specs.State.{Root, is_valued, is_blank, is_child, child_rect, child_elements, is_valued_child}
 use Rattle.sj_meaning.specs.Meaning.{integers_of, array_of, child_array, with_child, first_elements}
-use Rattle.sj_lower.proofs.Places.{same_pair}
 
 -- ---- tables
-
-pub table-same : {X : Type 0} (blank : X) (d : Dims) (f g : ℕ → ℕ → X) → ((i j : ℕ) → i < d.rows → j < d.cols → f i j ≡ g i j) → table d f ≡ table d g
-table-same blank d f g h =
-    same_tables blank (table d f) (table d g) d.rows d.cols (length-table d f) (length-table d g)
-    (λ i j hi hj. item-table blank d f i j hi hj ∙ h i j hi hj ∙ sym (item-table blank d g i j hi hj))
 
 map-table : {X Y : Type 0} (g : X → Y) (d : Dims) (f : ℕ → ℕ → X) → map g (table d f) ≡ table d (λ i j. g (f i j))
 map-table g d f = map-map g (λ p. f (p / d.cols) (p % d.cols)) (range_with_len 0 (area d))
 
 all-range : {X : Type 0} (test : X → Bool) (g : ℕ → X) (a n : ℕ) → ((k : ℕ) → a ≤ k → k < a + n → test (g k) ≡ true) → list_all test (map g (range_with_len a n)) ≡ true
 all-range test g a zero h = refl
-all-range test g a (suc n) h = both (test (g a)) (list_all test (map g (range_with_len (a + 1) n))) (h a (omega arith) (omega arith)) (all-range test g (a + 1) n (λ k lo hi. h k (omega arith) (omega arith)))
-  where
-    both : (b c : Bool) → b ≡ true → c ≡ true → (b && c) ≡ true
-    both true c e f = f
-    both false c e f = e
-
-pos_factor : (r c k : ℕ) → k < r * c → 0 < c
-pos_factor r zero k h = absurd (omega arith)
-pos_factor r (suc c) k h = omega arith
+all-range test g a (suc n) h = and_from (test (g a)) (list_all test (map g (range_with_len (a + 1) n))) (h a (omega arith) (omega arith)) (all-range test g (a + 1) n (λ k lo hi. h k (omega arith) (omega arith)))
 
 all-table : {X : Type 0} (test : X → Bool) (d : Dims) (f : ℕ → ℕ → X) → ((i j : ℕ) → i < d.rows → j < d.cols → test (f i j) ≡ true) → list_all test (table d f) ≡ true
 all-table test d f h =
     all-range test (λ p. f (p / d.cols) (p % d.cols)) 0 (area d) (λ k lo hi.
-    let some = pos_factor d.rows d.cols k (omega arith) in
+    let some = some_factor d.rows d.cols k (omega arith) in
     h (k / d.cols) (k % d.cols) (div_below k d.cols d.rows some (omega arith)) (mod_below k d.cols some))
 
 pub all-at : {X : Type 0} (test : X → Bool) (xs : List X) (i : ℕ) (d : X) → list_all test xs ≡ true → i < length xs → test (get_or xs i d) ≡ true
@@ -65,9 +53,6 @@ all-at test xs i d all h = by_test (test (get_or xs i d)) refl
     by_test false e = absurd (false≢true (sym (list_all_at test xs i d h e) ∙ all))
 
 -- ---- windows
-
-pub child-within : (d : Dims) (p : Parts) (place : ℕ × ℕ) → IsPlace p place → Within (child d p place) d
-child-within d p place h = (part_end d.rows p.r place.0 h.0, part_end d.cols p.c place.1 h.1)
 
 -- a child has an element
 pub child-rows : (d : Dims) (p : Parts) (place : ℕ × ℕ) → Fits p d → 0 < (child d p place).rows
@@ -141,22 +126,15 @@ written-array r place a hp dims whole =
 
 -- ---- children with values
 
-item_inside : (d : Dims) (row col : ℕ) → row < d.rows → col < d.cols → row * d.cols + col < area d
-item_inside d row col hr hc = omega (arith, mul-add-lt row d.cols col d.rows hr hc)
-
 is_child-from : (p : Parts) (place : ℕ × ℕ) → IsPlace p place → is_child p place ≡ true
 is_child-from p place h = grind (arith, nat_tests, h.0, h.1)
-
-both_true : (a b : Bool) → a ≡ true → b ≡ true → (a && b) ≡ true
-both_true true b e f = f
-both_true false b e f = e
 
 -- where all elements have a value, each child has
 pub valued-child : (r : Root) (place : ℕ × ℕ) → length r.elements ≡ area r.dims → is_valued r ≡ true → IsPlace r.parts place → is_valued_child r place ≡ true
 valued-child r place whole all h =
     let rect = child_rect r place in
     let inside = child-within r.dims r.parts place h in
-    both_true (is_child r.parts place) (list_all (λ (e : Option ℤ). is_some e) (child_elements r place)) (is_child-from r.parts place h)
+    and_from (is_child r.parts place) (list_all (λ (e : Option ℤ). is_some e) (child_elements r place)) (is_child-from r.parts place h)
     (all-table (λ (e : Option ℤ). is_some e) (dims_of rect) (λ i j. item None r.dims.cols r.elements (rect.row + i) (rect.col + j)) (λ i j hi hj.
     all-at (λ (e : Option ℤ). is_some e) r.elements ((rect.row + i) * r.dims.cols + (rect.col + j)) None all (omega (arith, whole, item_inside r.dims (rect.row + i) (rect.col + j) (omega (arith, inside.0)) (omega (arith, inside.1))))))
 
@@ -206,5 +184,5 @@ filled-window a b d r inside =
 -- a child has a value after an array was put into it
 pub written-valued : (r : Root) (place : ℕ × ℕ) (a : Array) → IsPlace r.parts place → is_valued_child (with_child place a r) place ≡ true
 written-valued r place a hp =
-    both_true (is_child r.parts place) (list_all (λ (e : Option ℤ). is_some e) (child_elements (with_child place a r) place)) (is_child-from r.parts place hp)
+    and_from (is_child r.parts place) (list_all (λ (e : Option ℤ). is_some e) (child_elements (with_child place a r) place)) (is_child-from r.parts place hp)
     (ap (list_all (λ (e : Option ℤ). is_some e)) (written-same r place a hp) ∙ all-table (λ (e : Option ℤ). is_some e) (dims_of (child_rect r place)) (λ i j. Some (element a i j)) (λ i j hi hj. refl))

@@ -11,6 +11,7 @@ use Rattle.sj_base.specs.declared.mode.Reduction.TheVariants.{Plus, Least}
 use Rattle.sj_base.specs.declared.program.CellInfo.{CellInfo}
 use Rattle.sj_base.specs.declared.program.Lowered.{Lowered}
 use Rattle.sj_base.specs.declared.program.Program.{Program}
+use Rattle.sj_base.specs.Ids.{task}
 use Rattle.sj_codelet.specs.declared.kernel.Kernel.TheVariants.{Deliver}
 use Rattle.sj_codelet.specs.Kernel.{kernel_of}
 use Rattle.sj_core.specs.Program.{task_of, dims_of, same_cell}
@@ -24,7 +25,7 @@ use Rattle.sj_lower.specs.Cells.{copy_at}
 use Rattle.sj_lower.specs.Rows.{combine_row, combine_rows}
 use Rattle.sj_lower.specs.Lowering.{Lowering, closed, all_closed}
 use Rattle.sj_lower.proofs.Closing.{Closed, by_phase, agrees_turned, begins-all_closed}
-use Rattle.sj_lower.proofs.Contents.{task_at, contents_before}
+use Rattle.sj_lower.proofs.Contents.{contents_before}
 use Rattle.sj_lower.proofs.Delivered.{AreDelivered, delivered_beside}
 use Rattle.sj_lower.proofs.Folding.{Stand}
 use Rattle.sj_lower.proofs.Good.{IsGood, AreGood, good-all, good-at, good_combine}
@@ -39,12 +40,12 @@ use Rattle.sj_lower.proofs.Stating.{Begins, begins-less, stands-more, IsActiveCh
 -- what holds after the statements so far
 pub record IsFine (T : Table) (p : Program) (L : Lowering) (S : State) (out : List Printed) : Type 0 where
   pub agrees : Agrees p L S
-  pub good : (n : ℕ) → n < length L.tasks → IsGood p n (task_of p (task_at n))
+  pub good : (n : ℕ) → n < length L.tasks → IsGood p n (task_of p (task n))
   pub delivered : AreDelivered T p L out
   pub logged : Logged p (length L.tasks) L.phase
 
 -- the tasks so far are good, and so are those that are more
-pub good-more : (p : Program) (L M : Lowering) (ls : List Lowered) → M.tasks ≡ L.tasks ++ ls → Stand p (length L.tasks) ls → AreGood p (length L.tasks) ls → ((n : ℕ) → n < length L.tasks → IsGood p n (task_of p (task_at n))) → (n : ℕ) → n < length M.tasks → IsGood p n (task_of p (task_at n))
+pub good-more : (p : Program) (L M : Lowering) (ls : List Lowered) → M.tasks ≡ L.tasks ++ ls → Stand p (length L.tasks) ls → AreGood p (length L.tasks) ls → ((n : ℕ) → n < length L.tasks → IsGood p n (task_of p (task n))) → (n : ℕ) → n < length M.tasks → IsGood p n (task_of p (task n))
 good-more p L M ls e s new old n h =
     let many = ap length e ∙ length-append L.tasks ls in
     elim (cases_lt n (length L.tasks)) [

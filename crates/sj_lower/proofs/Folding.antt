@@ -8,21 +8,23 @@ use Rattle.sj_base.specs.declared.program.Lowered.{Lowered}
 use Rattle.sj_base.specs.declared.program.Program.{Program}
 use Rattle.sj_base.specs.Array.{Array}
 use Rattle.sj_base.specs.Mode.{is_written}
+use Rattle.sj_base.proofs.Numbers.{none_more, length_more}
+use Rattle.sj_base.specs.Ids.{task}
 use Rattle.sj_codelet.specs.Kernel.{out}
 use Rattle.sj_core.specs.Program.{no_task, task_of, same_cell}
 use Rattle.sj_core.specs.Proper.{HasValueBefore, gives_value}
 use Rattle.sj_core.specs.Fold.{Contents, held_in, after_task}
 use Rattle.sj_core.specs.Operands.{worked_on, found}
 use Rattle.sj_plan.specs.Paste.{same_place}
-use Rattle.sj_lower.proofs.Contents.{first_worker, task_at, contents_before, contents-next}
-use Rattle.sj_lower.proofs.Places.{place-is, place-itself}
+use Rattle.sj_plan.proofs.Repartitioning.{same_place-law, same_place-refl}
+use Rattle.sj_lower.proofs.Contents.{first_worker, contents_before, contents-next}
 
 -- ---- tasks in a program
 
 -- the program has these tasks from number n on
 abbrev pub Stand : Program → ℕ → List Lowered → Type 0
 Stand p n [] = Unit {0}
-Stand p n (l ∷ ls) = (task_of p (task_at n) ≡ l) × (n < length p.tasks) × Stand p (n + 1) ls
+Stand p n (l ∷ ls) = (task_of p (task n) ≡ l) × (n < length p.tasks) × Stand p (n + 1) ls
 
 at_seam : {X : Type 0} (whole xs ys : List X) (x d : X) → whole ≡ (xs ++ x ∷ []) ++ ys → get_or whole (length xs) d ≡ x
 at_seam whole xs ys x d e =
@@ -39,38 +41,29 @@ stand-there p xs (l ∷ ls) more e =
       subst (λ (n : ℕ). Stand p n ls) longer (stand-there p (xs ++ l ∷ []) ls more split),
     )
 
-no_tasks : (n : ℕ) → n ≡ n + 0
-no_tasks n = omega arith
-
-one_task : {X : Type 0} (n : ℕ) (l : X) (ls : List X) → (n + 1) + length ls ≡ n + length (l ∷ ls)
-one_task n l ls = omega arith
-
 pub stand-append : (p : Program) (n : ℕ) (xs ys : List Lowered) → Stand p n (xs ++ ys) → Stand p n xs × Stand p (n + length xs) ys
-stand-append p n [] ys s = (tt, subst (λ (m : ℕ). Stand p m ys) (no_tasks n) s)
+stand-append p n [] ys s = (tt, subst (λ (m : ℕ). Stand p m ys) (sym (none_more n)) s)
 stand-append p n (x ∷ xs) ys s =
     let rest = stand-append p (n + 1) xs ys s.2 in
-    ((s.0, s.1, rest.0), subst (λ (m : ℕ). Stand p m ys) (one_task n x xs) rest.1)
+    ((s.0, s.1, rest.0), subst (λ (m : ℕ). Stand p m ys) (length_more n x xs) rest.1)
 
 -- the contents after a task of that row
 abbrev pub after_row : Program → Contents → Lowered → Contents
 after_row p contents l =
     zip (each_of (worked_on p first_worker) (filter (λ a. is_written a.mode) l.accesses)) (out l.codelet l.args (each_of (found p first_worker (held_in p contents)) l.accesses)) ++ contents
 
-pub after_row-is : (p : Program) (n : ℕ) (contents : Contents) (l : Lowered) → task_of p (task_at n) ≡ l → after_task p first_worker (task_at n) contents ≡ after_row p contents l
+pub after_row-is : (p : Program) (n : ℕ) (contents : Contents) (l : Lowered) → task_of p (task n) ≡ l → after_task p first_worker (task n) contents ≡ after_row p contents l
 after_row-is p n contents l e = ap (after_row p contents) e
 
 abbrev pub after_rows : Program → Contents → List Lowered → Contents
 after_rows p contents [] = contents
 after_rows p contents (l ∷ ls) = after_rows p (after_row p contents l) ls
 
-no_more : (n : ℕ) → n + 0 ≡ n
-no_more n = omega arith
-
 one_first : {X : Type 0} (n : ℕ) (l : X) (ls : List X) → n + length (l ∷ ls) ≡ (n + 1) + length ls
 one_first n l ls = omega arith
 
 pub contents-rows : (p : Program) (n : ℕ) (ls : List Lowered) → Stand p n ls → contents_before p (n + length ls) ≡ after_rows p (contents_before p n) ls
-contents-rows p n [] s = ap (contents_before p) (no_more n)
+contents-rows p n [] s = ap (contents_before p) (none_more n)
 contents-rows p n (l ∷ ls) s =
     ap (contents_before p) (one_first n l ls) ∙ contents-rows p (n + 1) ls s.2
     ∙ ap (λ k. after_rows p k ls) (contents-next p n (n + 1) refl ∙ after_row-is p n (contents_before p n) l s.0)
@@ -85,16 +78,16 @@ after_rows-append p contents (x ∷ xs) ys = after_rows-append p (after_row p co
 abbrev pub one_gives : List Lowered → Cell → Bool
 one_gives ls c = list_any (λ l. gives_value l c) ls
 
-pub later : (p : Program) (m n : ℕ) (c : Cell) → m ≤ n → HasValueBefore p (task_at m) c → HasValueBefore p (task_at n) c
+pub later : (p : Program) (m n : ℕ) (c : Cell) → m ≤ n → HasValueBefore p (task m) c → HasValueBefore p (task n) c
 later p m n c h g = (g.0, omega (arith, g.1), g.2)
 
-pub given-rows : (p : Program) (n : ℕ) (ls : List Lowered) (c : Cell) → Stand p n ls → one_gives ls c ≡ true → HasValueBefore p (task_at (n + length ls)) c
+pub given-rows : (p : Program) (n : ℕ) (ls : List Lowered) (c : Cell) → Stand p n ls → one_gives ls c ≡ true → HasValueBefore p (task (n + length ls)) c
 given-rows p n [] c s h = absurd (false≢true h)
 given-rows p n (l ∷ ls) c s h = by_cases (gives_value l c) refl h (given-rows p (n + 1) ls c s.2)
   where
-    by_cases : (b : Bool) → gives_value l c ≡ b → (b || one_gives ls c) ≡ true → (one_gives ls c ≡ true → HasValueBefore p (task_at ((n + 1) + length ls)) c) → HasValueBefore p (task_at (n + length (l ∷ ls))) c
-    by_cases true e k rest = (task_at n, omega arith, ap (λ (x : Lowered). gives_value x c) s.0 ∙ e)
-    by_cases false e k rest = subst (λ (m : ℕ). HasValueBefore p (task_at m) c) (sym (one_first n l ls)) (rest k)
+    by_cases : (b : Bool) → gives_value l c ≡ b → (b || one_gives ls c) ≡ true → (one_gives ls c ≡ true → HasValueBefore p (task ((n + 1) + length ls)) c) → HasValueBefore p (task (n + length (l ∷ ls))) c
+    by_cases true e k rest = (task n, omega arith, ap (λ (x : Lowered). gives_value x c) s.0 ∙ e)
+    by_cases false e k rest = subst (λ (m : ℕ). HasValueBefore p (task m) c) (sym (one_first n l ls)) (rest k)
 
 -- ---- tasks that fill one cell, block by block
 
@@ -107,12 +100,6 @@ pub record Fills (p : Program) (old new : Contents) (c : Cell) (x : Array) : Typ
 abbrev pub IsBlock : Program → (Contents → Type 0) → (ℕ × ℕ → List Lowered) → (ℕ × ℕ → Cell) → (ℕ × ℕ → Array) → ℕ × ℕ → Type 0
 IsBlock p I rows cell x place =
     (k : Contents) → I k → Fills p k (after_rows p k (rows place)) (cell place) (x place) × I (after_rows p k (rows place))
-
-pub blocks-keep : (p : Program) (I : Contents → Type 0) (rows : ℕ × ℕ → List Lowered) (cell : ℕ × ℕ → Cell) (x : ℕ × ℕ → Array) (ps : List (ℕ × ℕ)) (k : Contents)
-    → AllByRecursion (IsBlock p I rows cell x) ps → I k → I (after_rows p k (flat_map rows ps))
-blocks-keep p I rows cell x [] k all i = i
-blocks-keep p I rows cell x (q ∷ qs) k all i =
-    subst I (sym (after_rows-append p k (rows q) (flat_map rows qs))) (blocks-keep p I rows cell x qs (after_rows p k (rows q)) all.1 (all.0 k i).1)
 
 -- a cell that isn't among those of the blocks
 abbrev pub IsBeside : (ℕ × ℕ → Cell) → Cell → ℕ × ℕ → Type 0
@@ -141,7 +128,7 @@ beside_others cell place (q ∷ qs) none a =
 
     by_cases : (t : Bool) → same_cell (cell q) (cell place) ≡ t → same_place place q ≡ false → t ≡ false
     by_cases false e n = refl
-    by_cases true e n = absurd (false≢true (sym n ∙ ap (same_place place) (a.0 e) ∙ place-itself place))
+    by_cases true e n = absurd (false≢true (sym n ∙ ap (same_place place) (a.0 e) ∙ same_place-refl place))
 
 pub blocks-fill : (p : Program) (I : Contents → Type 0) (rows : ℕ × ℕ → List Lowered) (cell : ℕ × ℕ → Cell) (x : ℕ × ℕ → Array) (ps : List (ℕ × ℕ)) (k : Contents) (place : ℕ × ℕ)
     → AllByRecursion (IsBlock p I rows cell x) ps → I k → list_any (same_place place) ps ≡ true → AllByRecursion (IsAlone cell place) ps → held_in p (after_rows p k (flat_map rows ps)) (cell place) ≡ x place
@@ -156,6 +143,6 @@ blocks-fill p I rows cell x (q ∷ qs) k place all i h a =
     by_cases true e c f g rest = rest e
     by_cases false e false f g rest = absurd (false≢true g)
     by_cases false e true f g rest =
-        let here : place ≡ q = place-is place q f in
+        let here : place ≡ q = same_place-law place q f in
         blocks-others p I rows cell x qs (after_rows p k (rows q)) (cell place) all.1 (all.0 k i).1 (beside_others cell place qs e a.1)
         ∙ ap (λ (c : ℕ × ℕ). held_in p (after_rows p k (rows q)) (cell c)) here ∙ (all.0 k i).0.value ∙ ap x (sym here)

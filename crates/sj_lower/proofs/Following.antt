@@ -1,5 +1,5 @@
 -- What the code's steps leave is what the definition says.
-use Rattle.std.proofs.Common.{◌≡◌, ℕ, ◌+◌, ◌*◌, ◌<◌, ◌≤◌, Bool, true, false, cond, not, ◌||◌, Option, Some, None, List, [], ◌∷◌, ◌++◌, length, get_or, unwrap_or, map as each_of, refl, ap, sym, subst, ◌∙◌, inl, inr, arith, length-append, get_or-set_same, get_or-set_other}
+use Rattle.std.proofs.Common.{◌≡◌, ℕ, ◌+◌, ◌<◌, ◌≤◌, Bool, true, false, cond, not, ◌||◌, Option, Some, None, List, [], ◌∷◌, ◌++◌, length, get_or, unwrap_or, map as each_of, refl, ap, sym, subst, ◌∙◌, inl, inr, arith, length-append, get_or-set_same, get_or-set_other}
 use Rattle.std.proofs.Math.ListN.{set}
 use Rattle.std.specs.List.{All, AllByRecursion, list_all}
 use Rattle.std.specs.Str.{bytes_eq}
@@ -8,6 +8,7 @@ use Rattle.std.proofs.Math.Seq.{get_or-append_seam}
 use Rattle.std.proofs.lemmas.Bool.{and_parts, cases_lt}
 use Rattle.std.proofs.lemmas.List.{append-nil, get_or_append_left, get_or_default, length-set}
 use Rattle.std.proofs.lemmas.List.Elements.{All-head, All-tail}
+use Rattle.std.proofs.lemmas.Option.{same_Some}
 use Rattle.indexmap.specs.IndexMap.{get}
 use Rattle.sj_base.specs.declared.ids.Line.{Line}
 use Rattle.sj_base.specs.declared.ids.Cell.{Cell}
@@ -16,6 +17,9 @@ use Rattle.sj_base.specs.declared.mode.Access.{Access}
 use Rattle.sj_base.specs.declared.mode.Reduction.{Reduction}
 use Rattle.sj_base.specs.declared.tile.Dims.{Dims}
 use Rattle.sj_base.specs.declared.program.Lowered.{Lowered}
+use Rattle.sj_base.proofs.Numbers.{positive_product}
+use Rattle.sj_base.proofs.Texts.{same_text}
+use Rattle.sj_base.specs.Mode.{access}
 use Rattle.sj_codelet.specs.Kernel.{codelet_of}
 use Rattle.sj_plan.specs.declared.parts.Parts.{Parts}
 use Rattle.sj_plan.specs.Parts.{Fits, places}
@@ -26,10 +30,10 @@ use Rattle.sj_meaning.specs.declared.job.Init.{Init}
 use Rattle.sj_meaning.specs.declared.job.Operand.{Operand as KeptOperand}
 use Rattle.sj_meaning.specs.declared.job.TaskLine.{TaskLine as KeptTask}
 use Rattle.sj_meaning.specs.Statement.{Register}
-use Rattle.sj_meaning.specs.State.{Root, State, root_of, is_valued, is_blank}
+use Rattle.sj_meaning.specs.State.{Root, State, root_of}
 use Rattle.sj_meaning.specs.Meaning.{apply, registered_root, with_parts, with_elements, with_reduction, no_values, plan, reduce, invalidate}
 use Rattle.sj_job.specs.Names.{gives_values}
-use Rattle.sj_meaning.specs.Sound.{has_child, has_values, has_none, dims_of as root_dims}
+use Rattle.sj_meaning.specs.Sound.{has_child, dims_of as root_dims}
 use Rattle.sj_meaning.specs.Table.{Table, AreDistinct, a_root, name_of, info_of}
 use Rattle.sj_job.specs.Track.{IsPlan, all_valued, none_valued, children_count, even}
 use Rattle.sj_lower.proofs.Places.{length-places}
@@ -37,14 +41,14 @@ use Rattle.sj_meaning.specs.View.{operand_seen, registration, act_seen}
 use Rattle.sj_job.proofs.Children.{tracks-registered, tracks-planned, tracks-reduced, tracks-invalidated, all_valued-same, none_valued-same}
 use Rattle.sj_lower.specs.declared.lowerer.Active.{Active}
 use Rattle.sj_lower.specs.declared.lowerer.Lowerer.{Lowerer}
-use Rattle.sj_lower.specs.Cells.{Cells, Handle, same_parts, first_cell, cells_from, take, with_root, next_handle}
+use Rattle.sj_lower.specs.Cells.{Cells, Handle, same_parts, first_cell, cells_from, take, with_new_root, next_handle}
 use Rattle.sj_lower.specs.Limits.{most}
-use Rattle.sj_lower.specs.Rows.{an_access, paste_row, deliver_row}
+use Rattle.sj_lower.specs.Rows.{paste_row, deliver_row}
 use Rattle.sj_lower.specs.Lowering.{Lowering, cells_after, load_rows, access_of, plan_rows, deliver_rows, a_delivery, print_deliveries}
-use Rattle.sj_lower.specs.Seen.{no_active, active_at, pasted_by, IsActive, AreActive, IsNext, CanPass, Does, HasRoom, access_by, first_after, children_after}
-use Rattle.sj_lower.proofs.Agreeing.{plan_rows-are}
+use Rattle.sj_lower.specs.Seen.{no_active, active_at, pasted_by, IsActive, AreActive, IsNext, CanPass, Does, HasRoomFor, access_by, first_after, children_after}
+use Rattle.sj_lower.proofs.Agreeing.{plan_rows-are, values_are}
 use Rattle.sj_meaning.proofs.Finding.{get-put, get-gone, root-change}
-use Rattle.sj_lower.proofs.Laid.{same_name, bytes_eq-itself, some_is, none_isn't, IsTaken, take-keeps, take-takes, take-roots, root-keeps, root-there}
+use Rattle.sj_lower.proofs.Laid.{bytes_eq-itself, none_isn't, IsTaken, take-keeps, take-takes, take-roots, root-keeps, root-there}
 use Rattle.sj_lower.proofs.Running.{child_there, root_there, valued_there, active_cell-is}
 use Rattle.sj_lower.proofs.Whole.{deliver_rows-are, print_deliveries-are}
 
@@ -67,7 +71,7 @@ other_root T m n d hm hn other = by_test (bytes_eq (name_of T (a_root m)) (name_
   where
     by_test : (b : Bool) → bytes_eq (name_of T (a_root m)) (name_of T (a_root n)) ≡ b → b ≡ false
     by_test false e = refl
-    by_test true e = absurd (other (d m n hm hn (same_name (name_of T (a_root m)) (name_of T (a_root n)) e)))
+    by_test true e = absurd (other (d m n hm hn (same_text (name_of T (a_root m)) (name_of T (a_root n)) e)))
 
 -- the active plans after a change of one root
 pub changed-actives : (T : Table) (C D : Cells) (as' : List Active) (S : State) (i : ℕ) (f : Root → Root) (r : Root) (new : Active) → AreActive T C as' S → i < C.roots → AreDistinct T.names → C.roots ≤ length T.names → D.roots ≡ C.roots
@@ -88,7 +92,7 @@ changed-actives T C D as' S i f r new g below d few roots keeps there is M chang
     by_number n t lt (inr down) (inl more) e = beside n t lt (λ same. omega (arith, more, same)) e
     by_number n t lt (inr down) (inr up) e =
         let same : i ≡ n = omega (arith, down, up) in
-        let is_root : f r ≡ t = some_is (f r) t (sym (ap (λ b. cond b (Some (f r)) (root_of S (name_of T (a_root i)))) (bytes_eq-itself (name_of T (a_root i)))) ∙ ap (λ (m : ℕ). cond (bytes_eq (name_of T (a_root i)) (name_of T (a_root m))) (Some (f r)) (root_of S (name_of T (a_root m)))) same ∙ e) in
+        let is_root : f r ≡ t = same_Some (f r) t (sym (ap (λ b. cond b (Some (f r)) (root_of S (name_of T (a_root i)))) (bytes_eq-itself (name_of T (a_root i)))) ∙ ap (λ (m : ℕ). cond (bytes_eq (name_of T (a_root i)) (name_of T (a_root m))) (Some (f r)) (root_of S (name_of T (a_root m)))) same ∙ e) in
         subst (λ (m : ℕ). IsActive T D m (active_at (set as' i new) m) t) same
         (subst (λ (a : Active). IsActive T D i a t) (sym (get_or-set_same as' i new no_active (omega (arith, below, g.counted))))
         (subst (λ (x : Root). IsActive T D i new x) is_root is))
@@ -112,7 +116,7 @@ same_phases T old new a S L next e c = ap (λ m. get nat_eq m c.0) e ∙ next.fo
 abbrev pub registered_active : Table → Init → ℕ → ℕ → Active
 registered_active T init first n = record { tracked = even (info_of T (a_root n)).parts (gives_values init); first = first; reduction = None }
 
-pub passes-register : (T : Table) (old : Lowerer) (as' : List Active) (init : Init) (first : ℕ) → HasRoom T (length old.actives.items) (kept.Register init) first
+pub passes-register : (T : Table) (old : Lowerer) (as' : List Active) (init : Init) (first : ℕ) → HasRoomFor T (length old.actives.items) (kept.Register init) first
     → as' ≡ old.actives.items ++ registered_active T init first (length old.actives.items) ∷ [] → PassesTo T old as' (kept.Register init) first
 passes-register T old as' init first room ea S L pass place = record {
   counted = ap length ea ∙ length-append old.actives.items (active ∷ []) ∙ ap (λ m. m + 1) count ∙ sym roots;
@@ -129,7 +133,7 @@ passes-register T old as' init first room ea S L pass place = record {
     r = registration (name_of T (a_root n)) (info_of T (a_root n)) init
 
     C : Cells
-    C = with_root r.name r.dims L.cells
+    C = with_new_root r.name r.dims L.cells
 
     D : Cells
     D = take r.name r.parts C
@@ -168,12 +172,12 @@ passes-register T old as' init first room ea S L pass place = record {
         (pass.actives.each m t inside (sym (ap (λ b. cond b (Some (registered_root r)) (root_of S (name_of T (a_root m)))) apart) ∙ e)))
     by_number m t lt (inr past) e =
         let same : n ≡ m = omega (arith, lt, past) in
-        let is_root : registered_root r ≡ t = some_is (registered_root r) t (sym (ap (λ b. cond b (Some (registered_root r)) (root_of S (name_of T (a_root n)))) (bytes_eq-itself r.name)) ∙ ap (λ (k : ℕ). cond (bytes_eq r.name (name_of T (a_root k))) (Some (registered_root r)) (root_of S (name_of T (a_root k)))) same ∙ e) in
+        let is_root : registered_root r ≡ t = same_Some (registered_root r) t (sym (ap (λ b. cond b (Some (registered_root r)) (root_of S (name_of T (a_root n)))) (bytes_eq-itself r.name)) ∙ ap (λ (k : ℕ). cond (bytes_eq r.name (name_of T (a_root k))) (Some (registered_root r)) (root_of S (name_of T (a_root k)))) same ∙ e) in
         subst (λ (k : ℕ). IsActive T D k (active_at (old.actives.items ++ active ∷ []) k) t) same
         (subst (λ (a : Active). IsActive T D n a t) (sym (ap (λ k. get_or (old.actives.items ++ active ∷ []) k no_active) (sym count) ∙ get_or-append_seam old.actives.items active [] no_active ∙ ap (registered_active T init first) count))
         (subst (λ (x : Root). IsActive T D n (registered_active T init first n) x) is_root here))
 
-pub does-register : (T : Table) (old new : Lowerer) (init : Init) (first : ℕ) (line : Line) → let info = info_of T (a_root (length old.actives.items)) in HasRoom T (length old.actives.items) (kept.Register init) first
+pub does-register : (T : Table) (old new : Lowerer) (init : Init) (first : ℕ) (line : Line) → let info = info_of T (a_root (length old.actives.items)) in HasRoomFor T (length old.actives.items) (kept.Register init) first
     → new.tasks.items ≡ old.tasks.items ++ load_rows init info.dims info.parts (cells_from first info.parts) line → new.deliveries.items ≡ old.deliveries.items → new.prints ≡ old.prints → new.phases ≡ old.phases
     → new.actives.items ≡ old.actives.items ++ registered_active T init first (length old.actives.items) ∷ [] → Does T old new (kept.Register init) first line
 does-register T old new init first line room et ed ep eh ea S L next place = record {
@@ -207,9 +211,6 @@ pub record IsKnown (T : Table) (l : Lowerer) (S : State) (L : Lowering) (r : Roo
 known : (T : Table) (l : Lowerer) (a : Kept) (S : State) (L : Lowering) (r : RootNumber) → CanPass T l a S L → r.0 < L.cells.roots → (root : Root) → root_of S (name_of T r) ≡ Some root → IsKnown T l S L r
 known T l a S L r pass lt root e = record { root = root; is_root = e; active = pass.actives.each r.0 root lt e }
 
-values_are : (S : State) (name : List ℕ) (r : Root) → root_of S name ≡ Some r → (has_values S name || has_none S name) ≡ (is_valued r || is_blank r)
-values_are S name r e = ap (λ (o : Option Root). (elim o as (λ _. Bool) [ None ↦ false | Some r ↦ is_valued r ]) || (elim o as (λ _. Bool) [ None ↦ false | Some r ↦ is_blank r ])) e
-
 dims_are : (S : State) (name : List ℕ) (r : Root) → root_of S name ≡ Some r → root_dims S name ≡ r.dims
 dims_are S name r e = ap (λ (o : Option Root). elim o as (λ _. Dims) [ None ↦ record { rows = 0; cols = 0 } | Some r ↦ r.dims ]) e
 
@@ -234,7 +235,7 @@ planned_active a p first = record { tracked = even p (all_valued a.tracked); fir
 plan_keeps : (T : Table) (l : Lowerer) (S : State) (L : Lowering) (r : RootNumber) (p : Parts) → IsKnown T l S L r → (q : List ℕ) (d : Dims) (s : Parts) (g : ℕ) → IsTaken L.cells q d s g → IsTaken (take (name_of T r) p L.cells) q d s g
 plan_keeps T l S L r p k q d s g t = take-keeps L.cells (name_of T r) p k.active.handle k.active.named q d s g t
 
-pub passes-plan : (T : Table) (old : Lowerer) (as' : List Active) (r : RootNumber) (p : Parts) (first : ℕ) → HasRoom T (length old.actives.items) (kept.Plan r p) first
+pub passes-plan : (T : Table) (old : Lowerer) (as' : List Active) (r : RootNumber) (p : Parts) (first : ℕ) → HasRoomFor T (length old.actives.items) (kept.Plan r p) first
     → as' ≡ set old.actives.items r.0 (planned_active (active_at old.actives.items r.0) p first) → PassesTo T old as' (kept.Plan r p) first
 passes-plan T old as' r p first room ea S L pass place =
     subst (λ (as' : List Active). AreActive T D as' (plan name p S)) (sym ea)
@@ -269,7 +270,7 @@ passes-plan T old as' r p first room ea S L pass place =
       room = room;
     }
 
-pub does-plan : (T : Table) (old new : Lowerer) (r : RootNumber) (p : Parts) (first : ℕ) (line : Line) → let a = active_at old.actives.items r.0 in HasRoom T (length old.actives.items) (kept.Plan r p) first
+pub does-plan : (T : Table) (old new : Lowerer) (r : RootNumber) (p : Parts) (first : ℕ) (line : Line) → let a = active_at old.actives.items r.0 in HasRoomFor T (length old.actives.items) (kept.Plan r p) first
     → new.tasks.items ≡ old.tasks.items ++ pasted_by (info_of T r).dims a p first line → new.deliveries.items ≡ old.deliveries.items → new.prints ≡ old.prints → new.phases ≡ old.phases
     → new.actives.items ≡ set old.actives.items r.0 (planned_active a p first) → Does T old new (kept.Plan r p) first line
 does-plan T old new r p first line room et ed ep eh ea S L next place = record {
@@ -302,7 +303,7 @@ accesses_same T S C as' (o ∷ os) g placed there =
     let is = g.each o.root.0 t.root (All-head (λ (o : KeptOperand). o.root.0 < C.roots) o os placed) t.is_root in
     let a = active_at as' o.root.0 in
     ap (λ (x : Access). x ∷ each_of (access_of S C) (each_of (operand_seen T) os))
-    (ap (an_access o.mode) (active_cell-is S C (name_of T o.root) o.place t.root t.is_root ∙ (λ i. cells_from (active-first T C o.root.0 a t.root is i) (sym is.tracks.parts i) o.place)))
+    (ap (access o.mode) (active_cell-is S C (name_of T o.root) o.place t.root t.is_root ∙ (λ i. cells_from (active-first T C o.root.0 a t.root is i) (sym is.tracks.parts i) o.place)))
     ∙ ap (λ (xs : List Access). access_by as' o ∷ xs) (accesses_same T S C as' os g (All-tail (λ (o : KeptOperand). o.root.0 < C.roots) o os placed) there.1)
 
 pub seen-children : (T : Table) (S : State) (os : List KeptOperand) → list_all (has_child S) (each_of (operand_seen T) os) ≡ true → AllByRecursion (λ o. has_child S (operand_seen T o) ≡ true) os
@@ -425,11 +426,8 @@ does-unregister T l r line S L next place = record {
 pub at-default : (as' : List Active) (i : ℕ) (d : Active) → i < length as' → get_or as' i d ≡ active_at as' i
 at-default as' i d h = get_or_default as' i d no_active h
 
-positive : (a b : ℕ) → 0 < a → 0 < b → 0 < a * b
-positive a b h k = grind arith
-
 pub fits-plan : (p : Parts) (d : Dims) → Fits p d → IsPlan p
-fits-plan p d f = record { some = positive p.r p.c f.some_rows f.some_cols; few = f.few }
+fits-plan p d f = record { some = positive_product p.r p.c f.some_rows f.some_cols; few = f.few }
 
 -- the tasks of a print statement are as many as the children
 pub many-delivered : (T : Table) (l : Lowerer) (S : State) (L : Lowering) (r : RootNumber) (line : Line) → IsNext T l (kept.Print r) S L → length (deliver_rows S L.cells (name_of T r) line) ≡ children_count (active_at l.actives.items r.0).tracked.parts

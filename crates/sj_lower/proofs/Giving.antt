@@ -14,6 +14,9 @@ use Rattle.sj_base.specs.declared.mode.Access.{Access}
 use Rattle.sj_base.specs.declared.mode.Reduction.{Reduction}
 use Rattle.sj_base.specs.declared.program.Lowered.{Lowered}
 use Rattle.sj_base.specs.declared.program.Program.{Program}
+use Rattle.sj_base.proofs.Numbers.{none_more, none_first}
+use Rattle.sj_base.proofs.SameIds.{same_cell-unlike, same_cell-is, same_cell-itself}
+use Rattle.sj_base.proofs.Lists.{one_is}
 use Rattle.sj_codelet.specs.Kernel.{kernel_of}
 use Rattle.sj_core.specs.Program.{data_operands, same_cell}
 use Rattle.sj_core.specs.Proper.{IsCopyOf, IsPlain, IsInit, IsContribution, Touches, names_as, task_number, access}
@@ -22,9 +25,8 @@ use Rattle.sj_lower.specs.Cells.{copy_at}
 use Rattle.sj_lower.specs.Rows.{init_row, init_rows}
 use Rattle.sj_lower.specs.Lowering.{with_phase, begin_rows, extended}
 use Rattle.sj_lower.proofs.Combined.{Phases}
-use Rattle.sj_lower.proofs.Contents.{same_cell-is, same_cell-itself}
 use Rattle.sj_lower.proofs.Folding.{Stand, stand-append}
-use Rattle.sj_lower.proofs.Logging.{IsLogged, IsOpen, IsNamed, IsAdded, Logged, IsAway, away-touches, data-of, row-range, IsOwn, kernel-init, one-case, last-has, none_first}
+use Rattle.sj_lower.proofs.Logging.{IsLogged, IsOpen, IsNamed, IsAdded, Logged, IsAway, away-touches, data-of, row-range, IsOwn, kernel-init, last-has}
 use Rattle.sj_lower.proofs.Owning.{is-copy}
 use Rattle.sj_lower.proofs.Stating.{phase-own, phase-other}
 
@@ -40,9 +42,6 @@ by_which c d P own other = by_test (same_cell c d) refl
     by_test : (b : Bool) → same_cell c d ≡ b → P
     by_test true h = own (same_cell-is c d h)
     by_test false h = other h
-
-unlike : (c d : Cell) → same_cell c d ≡ false → c ≡ d → ⊥
-unlike c d h same = false≢true (sym h ∙ ap (same_cell c) (sym same) ∙ same_cell-itself c)
 
 -- another value at one cell
 with_value : {X : Type 0} → Cell → X → (Cell → X) → Cell → X
@@ -64,7 +63,7 @@ module _ (p : Program) (phases : Phases) (c : Cell) (by : Reduction) (l : Lowere
       elim (giving.others a (subst (λ (x : Lowered). Contains x.accesses a) row both.0)) [
         | inr away ↦ away-touches p phases d g a is away both.1 touches
         | inl it ↦ elim touches [
-          | inl same ↦ unlike c d other (ap (λ (b : Access). b.cell) (sym it) ∙ same)
+          | inl same ↦ same_cell-unlike c d other (ap (λ (b : Access). b.cell) (sym it) ∙ same)
           | inr copy ↦ plain d copy.0 (subst (λ (q : Cell). IsCopyOf p q d copy.0) (ap (λ (b : Access). b.cell) it) copy.1)
         ]
       ]
@@ -232,12 +231,9 @@ module _ (p : Program) (n k : ℕ) (phases : Phases) (c : Cell) (by : Reduction)
     where
       by_unit : (v : Bool) → valued ≡ v → Stand p (n + length (init_rows by first p.workers line)) (cond v [] (init_row by line c ∷ [])) → n + p.workers ≤ m → Kind m
       by_unit true is s late =
-          let count : length (begin_rows by first c valued p.workers line) ≡ p.workers = length-append (init_rows by first p.workers line) own_unit ∙ (λ i. inits-length i + length (cond (is i) [] (init_row by line c ∷ []))) ∙ no_more p.workers in
+          let count : length (begin_rows by first c valued p.workers line) ≡ p.workers = length-append (init_rows by first p.workers line) own_unit ∙ (λ i. inits-length i + length (cond (is i) [] (init_row by line c ∷ []))) ∙ none_more p.workers in
           let same : m ≡ gift = omega (arith, late, hi, e, count) in
           Gift same (ap (task_number p) same ∙ gift-row)
-        where
-          no_more : (x : ℕ) → x + 0 ≡ x
-          no_more x = omega arith
       by_unit false is s late =
           let count : length (begin_rows by first c valued p.workers line) ≡ p.workers + 1 = length-append (init_rows by first p.workers line) own_unit ∙ (λ i. inits-length i + length (cond (is i) [] (init_row by line c ∷ []))) in
           elim (cases_lt m gift) [
@@ -249,19 +245,19 @@ module _ (p : Program) (n k : ℕ) (phases : Phases) (c : Cell) (by : Reduction)
   init_is d m row = record { codelet = ap (λ (x : Lowered). kernel_of x.codelet) row ∙ kernel-init by; operands = ap (λ (x : Lowered). x.accesses) row }
 
   written : (d : Cell) (m : ℕ) (a : Access) → task_number p m ≡ init_row by line d → Contains (task_number p m).accesses a → access W d ≡ a
-  written d m a row h = one-case (access W d) a (subst (λ (x : Lowered). Contains x.accesses a) row h)
+  written d m a row h = one_is (access W d) a (subst (λ (x : Lowered). Contains x.accesses a) row h)
 
   begin-untouched : (m : ℕ) (a : Access) (d : Cell) (g : OpenPhase) → n ≤ m → m < k → Contains (data_operands (task_number p m)) a → same_cell c d ≡ false → phases d ≡ Some g → Touches p d a → ⊥
   begin-untouched m a d g lo hi h other is touches = by_kind (kind m lo hi) touches
     where
       by_kind : Kind m → Touches p d a → ⊥
       by_kind (Gift same row) touches = giving-untouched p phases c by l own.plain giving m row a d g h other is touches
-      by_kind (Own before row) (inl same) = unlike c d other (ap (λ (b : Access). b.cell) (written c m a row (data-of p m a h).0) ∙ same)
+      by_kind (Own before row) (inl same) = same_cell-unlike c d other (ap (λ (b : Access). b.cell) (written c m a row (data-of p m a h).0) ∙ same)
       by_kind (Own before row) (inr copy) = own.plain d copy.0 (subst (λ (q : Cell). IsCopyOf p q d copy.0) (ap (λ (b : Access). b.cell) (sym (written c m a row (data-of p m a h).0))) copy.1)
       by_kind (Inits early row) (inl same) =
           others d g is c (record { 0 = m - n }) (subst (λ (q : Cell). IsCopyOf p q c (record { 0 = m - n })) (ap (λ (b : Access). b.cell) (written (copy_at first (m - n)) m a row (data-of p m a h).0) ∙ same) (is-copy p c first (record { 0 = m - n }) own.partials (omega (arith, lo, early))))
       by_kind (Inits early row) (inr copy) =
-          unlike c d other (own.copies (m - n) d copy.0 (omega (arith, lo, early)) (subst (λ (q : Cell). IsCopyOf p q d copy.0) (ap (λ (b : Access). b.cell) (sym (written (copy_at first (m - n)) m a row (data-of p m a h).0))) copy.1))
+          same_cell-unlike c d other (own.copies (m - n) d copy.0 (omega (arith, lo, early)) (subst (λ (q : Cell). IsCopyOf p q d copy.0) (ap (λ (b : Access). b.cell) (sym (written (copy_at first (m - n)) m a row (data-of p m a h).0))) copy.1))
 
   fresh_log : IsLogged p k c fresh n (gift ∷ [])
   fresh_log = record {

@@ -17,14 +17,13 @@ use Rattle.sj_lower.specs.declared.lower.LowerRefusal.TheVariants.{TooManyCells,
 use Rattle.sj_lower.specs.declared.lower.Progress.{Progress}
 use Rattle.sj_lower.specs.Limits.{most, cells_in, tasks_in, first_above, above_at_end, line_or, late_tasks, late_cells, late_limit}
 use Rattle.sj_lower.specs.Lowering.{Lowering, nothing, lower_from, lower_one, finished}
-use Rattle.sj_lower.specs.Progress.{IsAt, IsComing, HasComing, HasAt, Goes, IsFull, IsOver, IsLate, Prepares, over_after}
+use Rattle.sj_lower.specs.Progress.{StandsAt, IsComing, HasComing, HasAt, Goes, IsFull, IsOverLimit, IsLate, Prepares, over_after}
 use Rattle.sj_lower.proofs.Allowed.{can_be}
 use Rattle.sj_lower.proofs.Naming.{AreNumbered, numbered-one, numbered-cut, numbered-none}
 
--- the first of two lines
-abbrev pub or_else : Option Line → Option Line → Option Line
-or_else None o = o
-or_else (Some line) o = Some line
+line_or-none : (o : Option Line) → line_or o None ≡ o
+line_or-none None = refl
+line_or-none (Some line) = refl
 
 abbrev pub lines_of : List (Statement (List ℕ)) → List Line
 lines_of ss = map (λ s. s.line) ss
@@ -35,7 +34,7 @@ pub record GoesOn (T : Table) (workers : ℕ) (g : Progress) (whole rest : List 
   pub before : ℕ
   pub state : State
   pub so_far : Lowering
-  pub at : IsAt T g state so_far
+  pub at : StandsAt T g state so_far
   pub workers_are : g.workers ≡ workers
   pub well : IsWell has before state (seen_from T so_far.cells.roots rest)
   pub placed : ArePlaced so_far.cells.roots rest
@@ -44,9 +43,9 @@ pub record GoesOn (T : Table) (workers : ℕ) (g : Progress) (whole rest : List 
   pub onward : lower_from workers state so_far (seen_from T so_far.cells.roots rest) ≡ lower_from workers start nothing (seen_from T 0 whole)
   pub last : last_or g.last (lines_of (seen_from T so_far.cells.roots rest)) ≡ last_or None (lines_of (seen_from T 0 whole))
   pub late_cells : first_above workers cells_in start nothing (seen_from T 0 whole) ≡ first_above workers cells_in state so_far (seen_from T so_far.cells.roots rest)
-  pub late_tasks : first_above workers tasks_in start nothing (seen_from T 0 whole) ≡ or_else g.over (first_above workers tasks_in state so_far (seen_from T so_far.cells.roots rest))
+  pub late_tasks : first_above workers tasks_in start nothing (seen_from T 0 whole) ≡ line_or g.over (first_above workers tasks_in state so_far (seen_from T so_far.cells.roots rest))
 
-pub going-start : (has : Kernel → Bool) (T : Table) (workers : ℕ) (g : Progress) (ss : List Kept) → IsAt T g start nothing → g.over ≡ None → g.last ≡ None → g.workers ≡ workers → IsWell has 0 start (seen_from T 0 ss) → ArePlaced 0 ss → count_from 0 ss ≡ length T.names → GoesOn T workers g ss ss
+pub going-start : (has : Kernel → Bool) (T : Table) (workers : ℕ) (g : Progress) (ss : List Kept) → StandsAt T g start nothing → g.over ≡ None → g.last ≡ None → g.workers ≡ workers → IsWell has 0 start (seen_from T 0 ss) → ArePlaced 0 ss → count_from 0 ss ≡ length T.names → GoesOn T workers g ss ss
 going-start has T workers g ss at none first workers_are well placed counted = record {
   has = has;
   before = 0;
@@ -61,7 +60,7 @@ going-start has T workers g ss at none first workers_are well placed counted = r
   onward = refl;
   last = ap (λ o. last_or o (lines_of (seen_from T 0 ss))) first;
   late_cells = refl;
-  late_tasks = sym (ap (λ o. or_else o (first_above workers tasks_in start nothing (seen_from T 0 ss))) none);
+  late_tasks = sym (ap (λ o. line_or o (first_above workers tasks_in start nothing (seen_from T 0 ss))) none);
 }
 
 pub going-coming : (T : Table) (workers : ℕ) (g : Progress) (whole rest : List Kept) (s : Kept) → IsTable T → (w : GoesOn T workers g whole (s ∷ rest)) → IsComing T g s w.state w.so_far
@@ -98,11 +97,11 @@ too_many n a b many = ap (λ t. if t then a else b) (decide n many)
     decide n many = grind (arith, nat_tests)
 
 -- the first line is kept
-kept_over : (o : Option Line) (line : Line) (L : Lowering) (rest : Option Line) → or_else o (if nat_lt most (tasks_in L) then Some line else rest) ≡ or_else (over_after o line L) rest
+kept_over : (o : Option Line) (line : Line) (L : Lowering) (rest : Option Line) → line_or o (if nat_lt most (tasks_in L) then Some line else rest) ≡ line_or (over_after o line L) rest
 kept_over (Some first) line L rest = refl
 kept_over None line L rest = by_test (nat_lt most (tasks_in L))
   where
-    by_test : (b : Bool) → (if b then Some line else rest) ≡ or_else (if b then Some line else None) rest
+    by_test : (b : Bool) → (if b then Some line else rest) ≡ line_or (if b then Some line else None) rest
     by_test true = refl
     by_test false = refl
 
@@ -115,7 +114,7 @@ going-more T workers old new whole rest s table w same line goes =
     let coming = going-coming T workers old whole rest s table w in
     let numbered = numbered-one workers T n w.so_far w.state s table.2 coming.few w.numbered in
     let roots : L.cells.roots ≡ m = numbered.roots in
-    let at : IsAt T new S L = subst (λ (k : ℕ). IsAt T new S (lower_one k w.state (statement_seen T n s) w.so_far)) w.workers_are (goes.at w.state w.so_far coming) in
+    let at : StandsAt T new S L = subst (λ (k : ℕ). StandsAt T new S (lower_one k w.state (statement_seen T n s) w.so_far)) w.workers_are (goes.at w.state w.so_far coming) in
     let over : new.over ≡ over_after old.over s.line L =
     goes.over w.state w.so_far coming ∙ ap (λ k. over_after old.over s.line (lower_one k w.state (statement_seen T n s) w.so_far)) w.workers_are in
     record {
@@ -134,8 +133,8 @@ going-more T workers old new whole rest s table w same line goes =
       late_cells = w.late_cells ∙ no_more (cells_in L) (Some s.line) (first_above workers cells_in S L (seen_from T m rest)) at.few_cells
           ∙ ap (λ m. first_above workers cells_in S L (seen_from T m rest)) (sym roots);
       late_tasks = w.late_tasks ∙ kept_over old.over s.line L (first_above workers tasks_in S L (seen_from T m rest))
-          ∙ ap (λ o. or_else o (first_above workers tasks_in S L (seen_from T m rest))) (sym over)
-          ∙ ap (λ m. or_else new.over (first_above workers tasks_in S L (seen_from T m rest))) (sym roots);
+          ∙ ap (λ o. line_or o (first_above workers tasks_in S L (seen_from T m rest))) (sym over)
+          ∙ ap (λ m. line_or new.over (first_above workers tasks_in S L (seen_from T m rest))) (sym roots);
     }
 
 -- there is not enough room for the statement
@@ -156,7 +155,7 @@ going-full T workers g whole rest s (TooManyCells line) table w full =
 pub record IsDone (T : Table) (workers : ℕ) (g : Progress) (ss : List (Statement (List ℕ))) : Type 0 where
   pub state : State
   pub lowering : Lowering
-  pub at : IsAt T g state lowering
+  pub at : StandsAt T g state lowering
   pub workers_are : g.workers ≡ workers
   pub is : lowering ≡ lower_from workers start nothing ss
   pub last : g.last ≡ last_or None (lines_of ss)
@@ -171,12 +170,8 @@ going-end T workers g whole w = record {
   is = w.onward;
   last = w.last;
   late = (λ i. late_cells (w.late_cells i) (late_tasks (line_or (w.late_tasks i) (above_at_end workers (seen_from T 0 whole)))))
-      ∙ ap (λ o. late_tasks (line_or o (above_at_end workers (seen_from T 0 whole)))) (left g.over);
+      ∙ ap (λ o. late_tasks (line_or o (above_at_end workers (seen_from T 0 whole)))) (line_or-none g.over);
 }
-  where
-    left : (o : Option Line) → or_else o None ≡ o
-    left None = refl
-    left (Some line) = refl
 
 pub done-has : (T : Table) (workers : ℕ) (g : Progress) (ss : List (Statement (List ℕ))) → IsDone T workers g ss → HasAt g
 done-has T workers g ss d = record { table = T; state = d.state; lowering = d.lowering; at = d.at }
@@ -187,7 +182,7 @@ done-has T workers g ss d = record { table = T; state = d.state; lowering = d.lo
 pub record IsShut (T : Table) (workers : ℕ) (g : Progress) (ss : List (Statement (List ℕ))) : Type 0 where
   pub state : State
   pub lowering : Lowering
-  pub at : IsAt T g state lowering
+  pub at : StandsAt T g state lowering
   pub workers_are : g.workers ≡ workers
   pub is : lowering ≡ finished workers (lower_from workers start nothing ss)
   pub late : late_limit workers ss ≡ late_tasks g.over
@@ -209,7 +204,7 @@ shut-none T workers g new ss d none same = subst (λ (h : Progress). IsShut T wo
   at = d.at;
   workers_are = d.workers_are;
   is = d.is ∙ (λ i. lower_from workers start nothing (empty i)) ∙ (λ i. finished workers (lower_from workers start nothing (sym empty i)));
-  late = d.late ∙ ap (λ o. late_tasks (line_or g.over o)) at_end ∙ ap late_tasks (left g.over);
+  late = d.late ∙ ap (λ o. late_tasks (line_or g.over o)) at_end ∙ ap late_tasks (line_or-none g.over);
 })
   where
     empty : ss ≡ []
@@ -222,16 +217,12 @@ shut-none T workers g new ss d none same = subst (λ (h : Progress). IsShut T wo
     at_end : above_at_end workers ss ≡ None
     at_end = ap (λ o. if nat_lt most (tasks_in (finished workers (lower_from workers start nothing ss))) then o else None) (sym d.last ∙ none) ∙ either (nat_lt most (tasks_in (finished workers (lower_from workers start nothing ss)))) None
 
-    left : (o : Option Line) → line_or o None ≡ o
-    left None = refl
-    left (Some line) = refl
-
 -- their tasks count for the last statement
 pub shut-last : (T : Table) (workers : ℕ) (g new : Progress) (ss : List (Statement (List ℕ))) (line : Line) → IsDone T workers g ss → g.last ≡ Some line → Prepares g new line (finished g.workers) → IsShut T workers new ss
 shut-last T workers g new ss line d is closes = record {
   state = d.state;
   lowering = finished workers d.lowering;
-  at = subst (λ (k : ℕ). IsAt T new d.state (finished k d.lowering)) d.workers_are (closes.at T d.state d.lowering d.at);
+  at = subst (λ (k : ℕ). StandsAt T new d.state (finished k d.lowering)) d.workers_are (closes.at T d.state d.lowering d.at);
   workers_are = closes.workers ∙ d.workers_are;
   is = ap (finished workers) d.is;
   late = d.late ∙ ap (λ o. late_tasks (line_or g.over o)) at_end ∙ ap late_tasks (kept g.over (finished workers d.lowering) ∙ sym over);
@@ -254,7 +245,7 @@ shut T workers g new ss d none closes = by_last g.last refl
     by_last None e = shut-none T workers g new ss d e (none e)
     by_last (Some line) e = shut-last T workers g new ss line d e (closes line e)
 
-pub shut-over : (T : Table) (workers : ℕ) (g : Progress) (ss : List (Statement (List ℕ))) (e : LowerRefusal) → IsShut T workers g ss → IsOver e g.over → IsLate e (late_limit workers ss)
+pub shut-over : (T : Table) (workers : ℕ) (g : Progress) (ss : List (Statement (List ℕ))) (e : LowerRefusal) → IsShut T workers g ss → IsOverLimit e g.over → IsLate e (late_limit workers ss)
 shut-over T workers g ss OutOfMemory d h = tt
 shut-over T workers g ss (TooManyCells line) d h = absurd h
 shut-over T workers g ss (TooManyTasks line) d h = d.late ∙ ap late_tasks h

@@ -7,7 +7,7 @@ use Rattle.sj_lower.proofs.Writing.{writes_output}
 use Rattle.std.specs.List.{All, AllPairs, AllByRecursion, flat_map, list_all, list_any}
 use Rattle.std.specs.Int.RustNames.{int_le}
 use Rattle.std.specs.Str.{bytes_eq}
-use Rattle.std.proofs.lemmas.Bool.{false≢true, and_parts, and_from, le-leb, cases_lt}
+use Rattle.std.proofs.lemmas.Bool.{false≢true, and_parts, and_from, le-leb, cases_lt, or_parts, not-true}
 use Rattle.std.proofs.lemmas.Bool.Decides.{Decides-eqb}
 use Rattle.std.proofs.lemmas.List.Elements.{All-nil, All-cons}
 use Rattle.std.proofs.lemmas.List.Kept.{AllPairs-cons, AllPairs-filter}
@@ -32,9 +32,14 @@ use Rattle.sj_base.specs.declared.ids.Worker.{Worker}
 use Rattle.sj_base.specs.declared.mode.Reduction.{Reduction}
 use Rattle.sj_base.specs.declared.mode.Reduction.TheVariants.{Plus, Least}
 use Rattle.std.specs.Option.{is_some}
-use Rattle.sj_base.specs.Mode.{is_scratch, is_redux, is_commute, is_written, reads_value}
+use Rattle.sj_base.specs.Mode.{is_scratch, is_redux, is_commute, is_written, reads_value, access, is_read_only}
+use Rattle.sj_base.proofs.Numbers.{length_more, none_more}
+use Rattle.sj_base.proofs.Bools.{or_first, implied}
+use Rattle.sj_base.proofs.SameIds.{same_cell-is}
+use Rattle.sj_base.specs.Ids.{task}
 use Rattle.sj_core.specs.Proper.{HasValueBefore, Fits, MayHaveModes, IsPlain, IsUnaliased, gives_value, mode_of}
 use Rattle.sj_core.specs.Fold.{Contents}
+use Rattle.sj_core.proofs.Reduction.{read-is}
 use Rattle.sj_plan.specs.declared.parts.Parts.{Parts}
 use Rattle.sj_plan.specs.declared.paste.Paste.{Paste}
 use Rattle.sj_plan.specs.declared.rect.Rect.{Rect}
@@ -43,15 +48,15 @@ use Rattle.sj_plan.specs.Paste.{same_place, copy_of as paste_copy, is_first, pas
 use Rattle.sj_plan.specs.Pieces.{BeginOnce}
 use Rattle.sj_plan.specs.Rect.{child, dims_of as rect_dims}
 use Rattle.sj_plan.specs.Window.{window}
+use Rattle.sj_plan.proofs.Repartitioning.{same_place-refl}
 use Rattle.sj_meaning.specs.Statement.{Operand, TaskLine}
 use Rattle.sj_meaning.specs.State.{Root, State, root_of}
-use Rattle.sj_meaning.specs.Sound.{is_unordered, mode_fits, modes_fit, needs_value, clashes, is_aliased, is_read_only}
-use Rattle.sj_meaning.specs.Meaning.{is_written as writes, written_of}
+use Rattle.sj_meaning.specs.Sound.{is_unordered, mode_fits, modes_fit, needs_value, clashes, is_aliased}
+use Rattle.sj_meaning.specs.Meaning.{written_of}
 use Rattle.sj_meaning.specs.Sound.{is_lawful, has_child, has_child_values, child_dims, IsSoundTask}
 use Rattle.sj_lower.specs.Cells.{Cells}
-use Rattle.sj_lower.specs.Rows.{an_access, own_task, load_row, fill_row, paste_arguments, paste_row, deliver_row, init_row, combine_row}
+use Rattle.sj_lower.specs.Rows.{own_task, load_row, fill_row, paste_arguments, paste_row, deliver_row, init_row, combine_row}
 use Rattle.sj_lower.specs.Lowering.{access_of, task_row}
-use Rattle.sj_lower.proofs.Contents.{task_at, same_cell-is}
 use Rattle.sj_lower.proofs.Folding.{Stand, stand-append, later}
 use Rattle.sj_lower.proofs.Holding.{HasCells, HaveRoots, cell-dims}
 use Rattle.sj_lower.proofs.Combined.{Phases}
@@ -59,19 +64,18 @@ use Rattle.sj_lower.proofs.Adding.{same-itself}
 use Rattle.sj_lower.proofs.Operands.{IsRead, Contributes}
 use Rattle.sj_lower.proofs.Laid.{AreLaid, IsTaken, bytes_eq-itself, cell-inside, cells-apart}
 use Rattle.sj_lower.proofs.Pasting.{GoesTo, pastes-begin, pastes-go, pastes-between, paste-gives}
-use Rattle.sj_lower.proofs.Places.{place-itself}
-use Rattle.sj_lower.proofs.Running.{is_direct, child_there, child_dims-are, child_values-are, active_cell-is, operand_cell, needed, or_none, kernel_there, same_writes}
+use Rattle.sj_lower.proofs.Running.{is_direct, child_there, child_dims-are, child_values-are, active_cell-is, operand_cell, kernel_there}
 
 -- where the access is a contribution, its cell has partial copies, and each has a value
 abbrev pub HasItsCopies : Program → ℕ → Access → Type 0
-HasItsCopies p n a = is_redux a.mode ≡ true → (is_some (cell_info p a.cell).partials ≡ true) × ((w : Worker) → w.0 < p.workers → HasValueBefore p (task_at n) (copy_of p a.cell w))
+HasItsCopies p n a = is_redux a.mode ≡ true → (is_some (cell_info p a.cell).partials ≡ true) × ((w : Worker) → w.0 < p.workers → HasValueBefore p (task n) (copy_of p a.cell w))
 
 -- a task of the program is one that it may have at that number
 pub record IsGood (p : Program) (n : ℕ) (l : Lowered) : Type 0 where
   pub cells : All (λ a. a.cell.0 < length p.cells) l.accesses
   pub fits : Fits p l
   pub unaliased : IsUnaliased l
-  pub values : All (λ a. reads_value a.mode ≡ true → HasValueBefore p (task_at n) a.cell) l.accesses
+  pub values : All (λ a. reads_value a.mode ≡ true → HasValueBefore p (task n) a.cell) l.accesses
   pub copies : All (HasItsCopies p n) l.accesses
   pub plain : kernel_of l.codelet ≡ Some Deliver → All (λ a. IsPlain p a.cell) l.accesses
 
@@ -100,15 +104,9 @@ good-each p m n (l ∷ ls) h g = (good-later p m n l h g.0, good-each p m (n + 1
 pub good-all : (p : Program) (n : ℕ) (ls : List Lowered) → AllByRecursion (IsGood p n) ls → AreGood p n ls
 good-all p n ls g = good-each p n n ls (omega arith) g
 
-no_more : (n : ℕ) → n ≡ n + 0
-no_more n = omega arith
-
-one_first : {X : Type 0} (n : ℕ) (l : X) (ls : List X) → (n + 1) + length ls ≡ n + length (l ∷ ls)
-one_first n l ls = omega arith
-
 pub good-append : (p : Program) (n : ℕ) (xs ys : List Lowered) → AreGood p n xs → AreGood p (n + length xs) ys → AreGood p n (xs ++ ys)
-good-append p n [] ys g h = subst (λ (m : ℕ). AreGood p m ys) (sym (no_more n)) h
-good-append p n (x ∷ xs) ys g h = (g.0, good-append p (n + 1) xs ys g.1 (subst (λ (m : ℕ). AreGood p m ys) (sym (one_first n x xs)) h))
+good-append p n [] ys g h = subst (λ (m : ℕ). AreGood p m ys) (none_more n) h
+good-append p n (x ∷ xs) ys g h = (g.0, good-append p (n + 1) xs ys g.1 (subst (λ (m : ℕ). AreGood p m ys) (sym (length_more n x xs)) h))
 
 -- blocks of tasks, each of which is good where it stands
 pub good-blocks : {X : Type 0} (p : Program) (n m : ℕ) (rows : X → List Lowered) (xs : List X) → n ≤ m → AllByRecursion (λ x. (k : ℕ) → n ≤ k → Stand p k (rows x) → AreGood p k (rows x)) xs → Stand p m (flat_map rows xs) → AreGood p m (flat_map rows xs)
@@ -118,12 +116,12 @@ good-blocks p n m rows (x ∷ xs) h g s =
     good-append p m (rows x) (flat_map rows xs) (g.0 m h both.0) (good-blocks p n (m + length (rows x)) rows xs (omega arith) g.1 both.1)
 
 -- the task of a number among them is good
-pub good-at : (p : Program) (n : ℕ) (ls : List Lowered) (i : ℕ) → AreGood p n ls → Stand p n ls → n ≤ i → i < n + length ls → IsGood p i (task_of p (task_at i))
+pub good-at : (p : Program) (n : ℕ) (ls : List Lowered) (i : ℕ) → AreGood p n ls → Stand p n ls → n ≤ i → i < n + length ls → IsGood p i (task_of p (task i))
 good-at p n [] i g s lo hi = absurd (omega arith)
 good-at p n (l ∷ ls) i g s lo hi =
     elim (cases_lt n i) [
       | inl later ↦ good-at p (n + 1) ls i g.1 s.2 (omega arith) (omega arith)
-      | inr past ↦ (let here : n ≡ i = omega arith in subst (λ (m : ℕ). IsGood p m (task_of p (task_at m))) here (subst (λ (k : Lowered). IsGood p n k) (sym s.0) g.0))
+      | inr past ↦ (let here : n ≡ i = omega arith in subst (λ (m : ℕ). IsGood p m (task_of p (task m))) here (subst (λ (k : Lowered). IsGood p n k) (sym s.0) g.0))
     ]
 
 -- ---- tasks of the runtime's own
@@ -146,32 +144,32 @@ good_load p n xs d r c line inside e =
     let args = (window a r).elements in
     let many : length args ≡ area (dims_of p c) = length-table (rect_dims r) (λ i j. element a (r.row + i) (r.col + j)) ∙ ap area (sym e) in
     record {
-      cells = one_alone (λ (a : Access). a.cell.0 < length p.cells) (an_access W c) inside;
-      copies = one_alone (HasItsCopies p n) (an_access W c) (λ h. absurd (false≢true h));
+      cells = one_alone (λ (a : Access). a.cell.0 < length p.cells) (access W c) inside;
+      copies = one_alone (HasItsCopies p n) (access W c) (λ h. absurd (false≢true h));
       plain = λ e. absurd (cc);
       fits = record { kernel = Load; codelet = refl; operands = ap (λ b. (true && b) && true) ((Decides-eqb (length args) (area (dims_of p c))).1 many); modes = MayHaveModes.Own refl };
-      unaliased = alone (λ (a b : Access). same_cell a.cell b.cell ≡ true → (a.mode ≡ R) × (b.mode ≡ R)) (an_access W c);
-      values = one_alone (λ (a : Access). reads_value a.mode ≡ true → HasValueBefore p (task_at n) a.cell) (an_access W c) (λ h. absurd (false≢true h));
+      unaliased = alone (λ (a b : Access). same_cell a.cell b.cell ≡ true → (a.mode ≡ R) × (b.mode ≡ R)) (access W c);
+      values = one_alone (λ (a : Access). reads_value a.mode ≡ true → HasValueBefore p (task n) a.cell) (access W c) (λ h. absurd (false≢true h));
     }
 
 pub good_fill : (p : Program) (n : ℕ) (a b : ℤ) (d : Dims) (r : Rect) (x : Cell) (line : Line) → x.0 < length p.cells → IsGood p n (fill_row a b d r x line)
 good_fill p n a b d r x line inside = record {
-  cells = one_alone (λ (a : Access). a.cell.0 < length p.cells) (an_access W x) inside;
-  copies = one_alone (HasItsCopies p n) (an_access W x) (λ h. absurd (false≢true h));
+  cells = one_alone (λ (a : Access). a.cell.0 < length p.cells) (access W x) inside;
+  copies = one_alone (HasItsCopies p n) (access W x) (λ h. absurd (false≢true h));
   plain = λ e. absurd (cc);
   fits = record { kernel = LoadFill; codelet = refl; operands = refl; modes = MayHaveModes.Own refl };
-  unaliased = alone (λ (a b : Access). same_cell a.cell b.cell ≡ true → (a.mode ≡ R) × (b.mode ≡ R)) (an_access W x);
-  values = one_alone (λ (a : Access). reads_value a.mode ≡ true → HasValueBefore p (task_at n) a.cell) (an_access W x) (λ h. absurd (false≢true h));
+  unaliased = alone (λ (a b : Access). same_cell a.cell b.cell ≡ true → (a.mode ≡ R) × (b.mode ≡ R)) (access W x);
+  values = one_alone (λ (a : Access). reads_value a.mode ≡ true → HasValueBefore p (task n) a.cell) (access W x) (λ h. absurd (false≢true h));
 }
 
-pub good_deliver : (p : Program) (n : ℕ) (c : Cell) (line : Line) → c.0 < length p.cells → IsPlain p c → HasValueBefore p (task_at n) c → IsGood p n (deliver_row c line)
+pub good_deliver : (p : Program) (n : ℕ) (c : Cell) (line : Line) → c.0 < length p.cells → IsPlain p c → HasValueBefore p (task n) c → IsGood p n (deliver_row c line)
 good_deliver p n c line inside bare given = record {
-  cells = one_alone (λ (a : Access). a.cell.0 < length p.cells) (an_access R c) inside;
-  copies = one_alone (HasItsCopies p n) (an_access R c) (λ h. absurd (false≢true h));
-  plain = λ e. one_alone (λ (a : Access). IsPlain p a.cell) (an_access R c) bare;
+  cells = one_alone (λ (a : Access). a.cell.0 < length p.cells) (access R c) inside;
+  copies = one_alone (HasItsCopies p n) (access R c) (λ h. absurd (false≢true h));
+  plain = λ e. one_alone (λ (a : Access). IsPlain p a.cell) (access R c) bare;
   fits = record { kernel = Deliver; codelet = refl; operands = refl; modes = MayHaveModes.Own refl };
-  unaliased = alone (λ (a b : Access). same_cell a.cell b.cell ≡ true → (a.mode ≡ R) × (b.mode ≡ R)) (an_access R c);
-  values = one_alone (λ (a : Access). reads_value a.mode ≡ true → HasValueBefore p (task_at n) a.cell) (an_access R c) (λ h. given);
+  unaliased = alone (λ (a b : Access). same_cell a.cell b.cell ≡ true → (a.mode ≡ R) × (b.mode ≡ R)) (access R c);
+  values = one_alone (λ (a : Access). reads_value a.mode ≡ true → HasValueBefore p (task n) a.cell) (access R c) (λ h. given);
 }
 
 -- ---- pastes
@@ -187,22 +185,22 @@ paste_fits d s t x o w h eo ew =
 
 -- a paste from one cell into another, which has a value unless this is the first paste to it
 good_by : (p : Program) (n : ℕ) (x : Paste) (c e : Cell) (line : Line) (b : Bool) → c.0 < length p.cells → e.0 < length p.cells → same_cell c e ≡ false → fits PasteKernel (paste_arguments x) (dims_of p c ∷ dims_of p e ∷ []) ≡ true
-    → HasValueBefore p (task_at n) c → (b ≡ false → HasValueBefore p (task_at n) e) → IsGood p n (own_task PasteKernel (paste_arguments x) (an_access R c ∷ an_access (cond b W RW) e ∷ []) line)
+    → HasValueBefore p (task n) c → (b ≡ false → HasValueBefore p (task n) e) → IsGood p n (own_task PasteKernel (paste_arguments x) (access R c ∷ access (cond b W RW) e ∷ []) line)
 good_by p n x c e line true ic ie apart fit given had = record {
-  cells = both_alone (λ (a : Access). a.cell.0 < length p.cells) (an_access R c) (an_access W e) ic ie;
-  copies = both_alone (HasItsCopies p n) (an_access R c) (an_access W e) (λ h. absurd (false≢true h)) (λ h. absurd (false≢true h));
+  cells = both_alone (λ (a : Access). a.cell.0 < length p.cells) (access R c) (access W e) ic ie;
+  copies = both_alone (HasItsCopies p n) (access R c) (access W e) (λ h. absurd (false≢true h)) (λ h. absurd (false≢true h));
   plain = λ e. absurd (cc);
   fits = record { kernel = PasteKernel; codelet = refl; operands = fit; modes = MayHaveModes.FirstPaste refl refl };
-  unaliased = pair_alone (λ (a b : Access). same_cell a.cell b.cell ≡ true → (a.mode ≡ R) × (b.mode ≡ R)) (an_access R c) (an_access W e) (λ same. absurd (false≢true (sym apart ∙ same)));
-  values = both_alone (λ (a : Access). reads_value a.mode ≡ true → HasValueBefore p (task_at n) a.cell) (an_access R c) (an_access W e) (λ h. given) (λ h. absurd (false≢true h));
+  unaliased = pair_alone (λ (a b : Access). same_cell a.cell b.cell ≡ true → (a.mode ≡ R) × (b.mode ≡ R)) (access R c) (access W e) (λ same. absurd (false≢true (sym apart ∙ same)));
+  values = both_alone (λ (a : Access). reads_value a.mode ≡ true → HasValueBefore p (task n) a.cell) (access R c) (access W e) (λ h. given) (λ h. absurd (false≢true h));
 }
 good_by p n x c e line false ic ie apart fit given had = record {
-  cells = both_alone (λ (a : Access). a.cell.0 < length p.cells) (an_access R c) (an_access RW e) ic ie;
-  copies = both_alone (HasItsCopies p n) (an_access R c) (an_access RW e) (λ h. absurd (false≢true h)) (λ h. absurd (false≢true h));
+  cells = both_alone (λ (a : Access). a.cell.0 < length p.cells) (access R c) (access RW e) ic ie;
+  copies = both_alone (HasItsCopies p n) (access R c) (access RW e) (λ h. absurd (false≢true h)) (λ h. absurd (false≢true h));
   plain = λ e. absurd (cc);
   fits = record { kernel = PasteKernel; codelet = refl; operands = fit; modes = MayHaveModes.Own refl };
-  unaliased = pair_alone (λ (a b : Access). same_cell a.cell b.cell ≡ true → (a.mode ≡ R) × (b.mode ≡ R)) (an_access R c) (an_access RW e) (λ same. absurd (false≢true (sym apart ∙ same)));
-  values = both_alone (λ (a : Access). reads_value a.mode ≡ true → HasValueBefore p (task_at n) a.cell) (an_access R c) (an_access RW e) (λ h. given) (λ h. had refl);
+  unaliased = pair_alone (λ (a b : Access). same_cell a.cell b.cell ≡ true → (a.mode ≡ R) × (b.mode ≡ R)) (access R c) (access RW e) (λ same. absurd (false≢true (sym apart ∙ same)));
+  values = both_alone (λ (a : Access). reads_value a.mode ≡ true → HasValueBefore p (task n) a.cell) (access R c) (access RW e) (λ h. given) (λ h. had refl);
 }
 
 -- what pastes between these cells stand on
@@ -212,25 +210,25 @@ pub record CanPaste (p : Program) (n : ℕ) (d : Dims) (s t : Parts) (old new : 
   pub from_dims : (from : ℕ × ℕ) → IsPlace s from → dims_of p (old from) ≡ rect_dims (child d s from)
   pub to_dims : (to : ℕ × ℕ) → IsPlace t to → dims_of p (new to) ≡ rect_dims (child d t to)
   pub apart : (from to : ℕ × ℕ) → IsPlace s from → IsPlace t to → same_cell (old from) (new to) ≡ false
-  pub given : (from : ℕ × ℕ) → IsPlace s from → HasValueBefore p (task_at n) (old from)
+  pub given : (from : ℕ × ℕ) → IsPlace s from → HasValueBefore p (task n) (old from)
 
-good_paste : (p : Program) (n m : ℕ) (d : Dims) (s t : Parts) (old new : ℕ × ℕ → Cell) (line : Line) (x : Paste) → CanPaste p n d s t old new → n ≤ m → IsBetween d s t x → (is_first x ≡ false → HasValueBefore p (task_at m) (new x.to)) → IsGood p m (paste_row old new line x)
+good_paste : (p : Program) (n m : ℕ) (d : Dims) (s t : Parts) (old new : ℕ × ℕ → Cell) (line : Line) (x : Paste) → CanPaste p n d s t old new → n ≤ m → IsBetween d s t x → (is_first x ≡ false → HasValueBefore p (task m) (new x.to)) → IsGood p m (paste_row old new line x)
 good_paste p n m d s t old new line x can h b had =
     good_by p m x (old x.from) (new x.to) line (is_first x) (can.from_inside x.from b.from) (can.to_inside x.to b.to) (can.apart x.from x.to b.from b.to)
     (paste_fits d s t x (dims_of p (old x.from)) (dims_of p (new x.to)) b (can.from_dims x.from b.from) (can.to_dims x.to b.to)) (later p n m (old x.from) h (can.given x.from b.from)) had
 
 -- further pastes to a child that has a value
-good_further : (p : Program) (n m : ℕ) (d : Dims) (s t : Parts) (old new : ℕ × ℕ → Cell) (line : Line) (to : ℕ × ℕ) (xs : List Paste) → CanPaste p n d s t old new → n ≤ m → AllByRecursion (IsBetween d s t) xs → AllByRecursion (GoesTo s to) xs → HasValueBefore p (task_at m) (new to) → AllByRecursion (IsGood p m) (each_of (paste_row old new line) xs)
+good_further : (p : Program) (n m : ℕ) (d : Dims) (s t : Parts) (old new : ℕ × ℕ → Cell) (line : Line) (to : ℕ × ℕ) (xs : List Paste) → CanPaste p n d s t old new → n ≤ m → AllByRecursion (IsBetween d s t) xs → AllByRecursion (GoesTo s to) xs → HasValueBefore p (task m) (new to) → AllByRecursion (IsGood p m) (each_of (paste_row old new line) xs)
 good_further p n m d s t old new line to [] can h bs gs had = tt
 good_further p n m d s t old new line to (x ∷ xs) can h bs gs had =
-    (good_paste p n m d s t old new line x can h bs.0 (λ e. subst (λ (q : ℕ × ℕ). HasValueBefore p (task_at m) (new q)) (sym gs.0.1) had), good_further p n m d s t old new line to xs can h bs.1 gs.1 had)
+    (good_paste p n m d s t old new line x can h bs.0 (λ e. subst (λ (q : ℕ × ℕ). HasValueBefore p (task m) (new q)) (sym gs.0.1) had), good_further p n m d s t old new line to xs can h bs.1 gs.1 had)
 
 -- all pastes to a child, of which the first gives it a value
 good_first : (p : Program) (n m : ℕ) (d : Dims) (s t : Parts) (old new : ℕ × ℕ → Cell) (line : Line) (to : ℕ × ℕ) (xs : List Paste) → CanPaste p n d s t old new → n ≤ m → AllByRecursion (IsBetween d s t) xs → AllByRecursion (GoesTo s to) xs → BeginOnce (each_of paste_copy xs)
     → Stand p m (each_of (paste_row old new line) xs) → AreGood p m (each_of (paste_row old new line) xs)
 good_first p n m d s t old new line to [] can h bs gs once stand = tt
 good_first p n m d s t old new line to (x ∷ xs) can h bs gs once stand =
-    let gives : HasValueBefore p (task_at (m + 1)) (new to) = (task_at m, omega arith, ap (λ (l : Lowered). gives_value l (new to)) stand.0 ∙ ap (λ (q : ℕ × ℕ). gives_value (paste_row old new line x) (new q)) (sym gs.0.1) ∙ paste-gives old new line x) in
+    let gives : HasValueBefore p (task (m + 1)) (new to) = (task m, omega arith, ap (λ (l : Lowered). gives_value l (new to)) stand.0 ∙ ap (λ (q : ℕ × ℕ). gives_value (paste_row old new line x) (new q)) (sym gs.0.1) ∙ paste-gives old new line x) in
     (good_paste p n m d s t old new line x can h bs.0 (λ e. absurd (false≢true (sym e ∙ once.0))), good-all p (m + 1) (each_of (paste_row old new line) xs) (good_further p n (m + 1) d s t old new line to xs can (omega arith) bs.1 gs.1 gives))
 
 pub good_pastes_to : (p : Program) (n m : ℕ) (d : Dims) (s t : Parts) (old new : ℕ × ℕ → Cell) (line : Line) (to : ℕ × ℕ) → CanPaste p n d s t old new → PlanFits s d → PlanFits t d → IsPlace t to → n ≤ m
@@ -265,17 +263,17 @@ all_inside p C S (o ∷ os) cells laid has placed =
     let cell = ap (λ (c : Cell). c.0) (active_cell-is S C o.name o.place t.root t.is_root) in
     All-cons (λ (a : Access). a.cell.0 < length p.cells) (access_of S C o) (each_of (access_of S C) os) (omega (arith, cell, cell-inside C o.name t.root.dims t.root.parts r.0 o.place laid r.1 t.placed, cells.longer)) (all_inside p C S os cells laid has b.1)
 
-pub all_given : (p : Program) (C : Cells) (phases : Phases) (S : State) (n : ℕ) (k : Contents) (os : List (Operand (List ℕ))) → HaveRoots p C phases n k S → list_all (λ o. is_direct o.mode) os ≡ true → list_all (has_child S) os ≡ true → list_all (λ o. not (needs_value o.mode) || has_child_values S o) os ≡ true → All (λ (a : Access). reads_value a.mode ≡ true → HasValueBefore p (task_at n) a.cell) (each_of (access_of S C) os)
-all_given p C phases S n k [] has h placed valued = All-nil (λ (a : Access). reads_value a.mode ≡ true → HasValueBefore p (task_at n) a.cell)
+pub all_given : (p : Program) (C : Cells) (phases : Phases) (S : State) (n : ℕ) (k : Contents) (os : List (Operand (List ℕ))) → HaveRoots p C phases n k S → list_all (λ o. is_direct o.mode) os ≡ true → list_all (has_child S) os ≡ true → list_all (λ o. not (needs_value o.mode) || has_child_values S o) os ≡ true → All (λ (a : Access). reads_value a.mode ≡ true → HasValueBefore p (task n) a.cell) (each_of (access_of S C) os)
+all_given p C phases S n k [] has h placed valued = All-nil (λ (a : Access). reads_value a.mode ≡ true → HasValueBefore p (task n) a.cell)
 all_given p C phases S n k (o ∷ os) has h placed valued =
     let a = and_parts (is_direct o.mode) (list_all (λ o. is_direct o.mode) os) h in
     let b = and_parts (has_child S o) (list_all (has_child S) os) placed in
     let c = and_parts (not (needs_value o.mode) || has_child_values S o) (list_all (λ o. not (needs_value o.mode) || has_child_values S o) os) valued in
     let t = child_there S o b.0 in
     let r = has o.name t.root t.is_root in
-    All-cons (λ (a : Access). reads_value a.mode ≡ true → HasValueBefore p (task_at n) a.cell) (access_of S C o) (each_of (access_of S C) os)
-    (λ e. subst (λ (c : Cell). HasValueBefore p (task_at n) c) (sym (active_cell-is S C o.name o.place t.root t.is_root))
-    (r.held o.place t.placed (sym (child_values-are S o t.root t.is_root) ∙ needed (needs_value o.mode) (has_child_values S o) c.0 (reading_needs o.mode a.0 e))).given)
+    All-cons (λ (a : Access). reads_value a.mode ≡ true → HasValueBefore p (task n) a.cell) (access_of S C o) (each_of (access_of S C) os)
+    (λ e. subst (λ (c : Cell). HasValueBefore p (task n) c) (sym (active_cell-is S C o.name o.place t.root t.is_root))
+    (r.held o.place t.placed (sym (child_values-are S o t.root t.is_root) ∙ implied (needs_value o.mode) (has_child_values S o) c.0 (reading_needs o.mode a.0 e))).given)
     (all_given p C phases S n k os has a.1 b.1 c.1)
 
 -- operands of which none is a contribution
@@ -288,14 +286,6 @@ no_copies p S C n (o ∷ os) h =
 -- two operands on one cell only read it
 abbrev ReadOnly : Access → Access → Type 0
 ReadOnly a b = same_cell a.cell b.cell ≡ true → (a.mode ≡ R) × (b.mode ≡ R)
-
-is_read : (m : Mode) → is_read_only m ≡ true → m ≡ R
-is_read R h = refl
-is_read W h = absurd (false≢true h)
-is_read RW h = absurd (false≢true h)
-is_read Scratch h = absurd (false≢true h)
-is_read Redux h = absurd (false≢true h)
-is_read Commute h = absurd (false≢true h)
 
 no_clash : (a b c d : Bool) → (a && b && not (c && d)) ≡ false → a ≡ true → b ≡ true → (c ≡ true) × (d ≡ true)
 no_clash true true true true e h k = (refl, refl)
@@ -312,21 +302,21 @@ pair_reads C S o q laid has ho hq e same =
     let s = has q.name u.root u.is_root in
     let cells = sym (active_cell-is S C o.name o.place t.root t.is_root) ∙ same_cell-is (operand_cell S C o) (operand_cell S C q) same ∙ active_cell-is S C q.name q.place u.root u.is_root in
     let one = cells-apart C o.name q.name t.root.dims u.root.dims t.root.parts u.root.parts r.0 s.0 o.place q.place laid r.1 s.1 t.placed u.placed cells in
-    let reads = no_clash (bytes_eq o.name q.name) (same_place o.place q.place) (is_read_only o.mode) (is_read_only q.mode) e (ap (bytes_eq o.name) (sym one.0) ∙ bytes_eq-itself o.name) (ap (same_place o.place) (sym one.2) ∙ place-itself o.place) in
-    (is_read o.mode reads.0, is_read q.mode reads.1)
+    let reads = no_clash (bytes_eq o.name q.name) (same_place o.place q.place) (is_read_only o.mode) (is_read_only q.mode) e (ap (bytes_eq o.name) (sym one.0) ∙ bytes_eq-itself o.name) (ap (same_place o.place) (sym one.2) ∙ same_place-refl o.place) in
+    (read-is o.mode reads.0, read-is q.mode reads.1)
 
 none_clash : (C : Cells) (S : State) (o : Operand (List ℕ)) (os : List (Operand (List ℕ))) → AreLaid C → HavePlans C S → has_child S o ≡ true → list_all (has_child S) os ≡ true → list_any (clashes o) os ≡ false → All (ReadOnly (access_of S C o)) (each_of (access_of S C) os)
 none_clash C S o [] laid has ho placed e = All-nil (ReadOnly (access_of S C o))
 none_clash C S o (q ∷ os) laid has ho placed e =
     let b = and_parts (has_child S q) (list_all (has_child S) os) placed in
-    let c = or_none (clashes o q) (list_any (clashes o) os) e in
+    let c = or_parts (clashes o q) (list_any (clashes o) os) e in
     All-cons (ReadOnly (access_of S C o)) (access_of S C q) (each_of (access_of S C) os) (pair_reads C S o q laid has ho b.0 c.0) (none_clash C S o os laid has ho b.1 c.1)
 
 all_apart : (C : Cells) (S : State) (os : List (Operand (List ℕ))) → AreLaid C → HavePlans C S → list_all (has_child S) os ≡ true → is_aliased os ≡ false → AllPairs ReadOnly (each_of (access_of S C) os)
 all_apart C S [] laid has placed e = λ i j d h k. absurd (omega arith)
 all_apart C S (o ∷ os) laid has placed e =
     let b = and_parts (has_child S o) (list_all (has_child S) os) placed in
-    let c = or_none (list_any (clashes o) os) (is_aliased os) e in
+    let c = or_parts (list_any (clashes o) os) (is_aliased os) e in
     AllPairs-cons ReadOnly (access_of S C o) (each_of (access_of S C) os) (none_clash C S o os laid has b.0 b.1 c.0) (all_apart C S os laid has b.1 c.1)
 
 all_dims_are : (p : Program) (C : Cells) (S : State) (os : List (Operand (List ℕ))) → HasCells p C → AreLaid C → HavePlans C S → list_all (has_child S) os ≡ true → each_of (λ (a : Access). dims_of p a.cell) (each_of (access_of S C) os) ≡ each_of (child_dims S) os
@@ -417,12 +407,8 @@ modes-own (f ∷ fs) [] e l d c = absurd (omega arith)
 modes-own (f ∷ fs) (o ∷ os) e l d c =
     let m = and_parts (mode_fits f o.mode) (modes_fit fs os) e in
     let n = and_parts (is_direct o.mode) (list_all (λ o. is_direct o.mode) os) d in
-    let k = or_none (is_commute o.mode) (list_any (λ o. is_commute o.mode) os) c in
-    ap (λ (x : Mode). x ∷ each_of (λ (o : Operand (List ℕ)). o.mode) os) (mode-own f o.mode m.0 (unnot (is_redux o.mode) n.0) k.0) ∙ ap (λ (xs : List Mode). mode_of f ∷ xs) (modes-own fs os m.1 (omega (arith, l)) n.1 k.1)
-  where
-    unnot : (b : Bool) → not b ≡ true → b ≡ false
-    unnot true e = absurd (false≢true e)
-    unnot false e = refl
+    let k = or_parts (is_commute o.mode) (list_any (λ o. is_commute o.mode) os) c in
+    ap (λ (x : Mode). x ∷ each_of (λ (o : Operand (List ℕ)). o.mode) os) (mode-own f o.mode m.0 (not-true (is_redux o.mode) n.0) k.0) ∙ ap (λ (xs : List Mode). mode_of f ∷ xs) (modes-own fs os m.1 (omega (arith, l)) n.1 k.1)
 
 -- as many formals are outputs as operands are written
 outputs-count : (fs : List Formal) (os : List (Operand (List ℕ))) → modes_fit fs os ≡ true → length os ≡ length fs → count_by is_written (each_of mode_of fs) ≡ length (written_of os)
@@ -432,10 +418,10 @@ outputs-count (f ∷ fs) [] e l = absurd (omega arith)
 outputs-count (f ∷ fs) (o ∷ os) e l =
     let m = and_parts (mode_fits f o.mode) (modes_fit fs os) e in
     sum_by-cons (λ y. cond (is_written y) 1 0) (mode_of f) (each_of mode_of fs)
-    ∙ by_test (is_written (mode_of f)) (writes o.mode) (same f o.mode m.0) (outputs-count fs os m.1 (omega (arith, l)))
+    ∙ by_test (is_written (mode_of f)) (is_written o.mode) (same f o.mode m.0) (outputs-count fs os m.1 (omega (arith, l)))
   where
-    same : (f : Formal) (m : Mode) → mode_fits f m ≡ true → is_written (mode_of f) ≡ writes m
-    same f m e = same_formal f ∙ sym (writes_output f m e) ∙ sym (same_writes m)
+    same : (f : Formal) (m : Mode) → mode_fits f m ≡ true → is_written (mode_of f) ≡ is_written m
+    same f m e = same_formal f ∙ sym (writes_output f m e)
       where
         same_formal : (f : Formal) → is_written (mode_of f) ≡ is_output f
         same_formal FormalR = refl
@@ -449,7 +435,7 @@ outputs-count (f ∷ fs) (o ∷ os) e l =
     by_test true false e rest = absurd (false≢true (sym e))
     by_test false true e rest = absurd (false≢true e)
 
-commute_writes : (m : Mode) → is_commute m ≡ true → writes m ≡ true
+commute_writes : (m : Mode) → is_commute m ≡ true → is_written m ≡ true
 commute_writes R e = absurd (false≢true e)
 commute_writes W e = absurd (false≢true e)
 commute_writes RW e = absurd (false≢true e)
@@ -467,13 +453,13 @@ is-commute Commute e = refl
 
 none-writes : (x : Mode) (os : List (Operand (List ℕ))) → length (written_of os) ≡ 0 → AllByRecursion (WritesAs x) os × (list_any (λ o. is_commute o.mode) os ≡ false)
 none-writes x [] e = (tt, refl)
-none-writes x (o ∷ os) e = by_test (writes o.mode) refl e (none-writes x os)
+none-writes x (o ∷ os) e = by_test (is_written o.mode) refl e (none-writes x os)
   where
-    by_test : (b : Bool) → writes o.mode ≡ b → length (cond b (o ∷ written_of os) (written_of os)) ≡ 0 → (length (written_of os) ≡ 0 → AllByRecursion (WritesAs x) os × (list_any (λ o. is_commute o.mode) os ≡ false)) → AllByRecursion (WritesAs x) (o ∷ os) × (list_any (λ o. is_commute o.mode) (o ∷ os) ≡ false)
+    by_test : (b : Bool) → is_written o.mode ≡ b → length (cond b (o ∷ written_of os) (written_of os)) ≡ 0 → (length (written_of os) ≡ 0 → AllByRecursion (WritesAs x) os × (list_any (λ o. is_commute o.mode) os ≡ false)) → AllByRecursion (WritesAs x) (o ∷ os) × (list_any (λ o. is_commute o.mode) (o ∷ os) ≡ false)
     by_test true w e next = absurd (omega (arith, e))
     by_test false w e next =
         let rest = next e in
-        ((λ h. absurd (false≢true (sym w ∙ same_writes o.mode ∙ h)), rest.0), by_commute (is_commute o.mode) refl rest.1)
+        ((λ h. absurd (false≢true (sym w ∙ h)), rest.0), by_commute (is_commute o.mode) refl rest.1)
       where
         by_commute : (c : Bool) → is_commute o.mode ≡ c → list_any (λ o. is_commute o.mode) os ≡ false → (c || list_any (λ o. is_commute o.mode) os) ≡ false
         by_commute true h rest = absurd (false≢true (sym w ∙ commute_writes o.mode h))
@@ -482,18 +468,14 @@ none-writes x (o ∷ os) e = by_test (writes o.mode) refl e (none-writes x os)
 -- the one operand that is written commutes
 commuting-writes : (os : List (Operand (List ℕ))) → length (written_of os) ≡ 1 → list_any (λ o. is_commute o.mode) os ≡ true → AllByRecursion (WritesAs Commute) os
 commuting-writes [] e any = absurd (false≢true any)
-commuting-writes (o ∷ os) e any = by_test (writes o.mode) refl e any (commuting-writes os)
+commuting-writes (o ∷ os) e any = by_test (is_written o.mode) refl e any (commuting-writes os)
   where
-    by_test : (b : Bool) → writes o.mode ≡ b → length (cond b (o ∷ written_of os) (written_of os)) ≡ 1 → (is_commute o.mode || list_any (λ o. is_commute o.mode) os) ≡ true
+    by_test : (b : Bool) → is_written o.mode ≡ b → length (cond b (o ∷ written_of os) (written_of os)) ≡ 1 → (is_commute o.mode || list_any (λ o. is_commute o.mode) os) ≡ true
         → (length (written_of os) ≡ 1 → list_any (λ o. is_commute o.mode) os ≡ true → AllByRecursion (WritesAs Commute) os) → AllByRecursion (WritesAs Commute) (o ∷ os)
     by_test true w e any rest =
         let none = none-writes Commute os (omega (arith, e)) in
-        (λ h. is-commute o.mode (first (is_commute o.mode) (list_any (λ o. is_commute o.mode) os) any none.1), none.0)
-      where
-        first : (a b : Bool) → (a || b) ≡ true → b ≡ false → a ≡ true
-        first true b e f = refl
-        first false b e f = absurd (false≢true (sym f ∙ e))
-    by_test false w e any rest = (λ h. absurd (false≢true (sym w ∙ same_writes o.mode ∙ h)), rest e (second (is_commute o.mode) refl any))
+        (λ h. is-commute o.mode (or_first (is_commute o.mode) (list_any (λ o. is_commute o.mode) os) any none.1), none.0)
+    by_test false w e any rest = (λ h. absurd (false≢true (sym w ∙ h)), rest e (second (is_commute o.mode) refl any))
       where
         second : (c : Bool) → is_commute o.mode ≡ c → (c || list_any (λ o. is_commute o.mode) os) ≡ true → list_any (λ o. is_commute o.mode) os ≡ true
         second true h e = absurd (false≢true (sym w ∙ commute_writes o.mode h))
@@ -548,7 +530,7 @@ contribution-modes has S t s con =
 -- ---- tasks of task lines
 
 pub good_task : (has : Kernel → Bool) (p : Program) (C : Cells) (S : State) (n : ℕ) (t : TaskLine (List ℕ)) (line : Line) → HasCells p C → AreLaid C → HavePlans C S → (s : IsSoundTask has S t) → MayHaveModes (kernel_there has S t s).call.kernel (each_of (λ (o : Operand (List ℕ)). o.mode) t.operands)
-    → All (λ (a : Access). reads_value a.mode ≡ true → HasValueBefore p (task_at n) a.cell) (each_of (access_of S C) t.operands) → All (HasItsCopies p n) (each_of (access_of S C) t.operands) → (kernel_of t.codelet ≡ Some Deliver → ⊥) → IsGood p n (task_row S C line t)
+    → All (λ (a : Access). reads_value a.mode ≡ true → HasValueBefore p (task n) a.cell) (each_of (access_of S C) t.operands) → All (HasItsCopies p n) (each_of (access_of S C) t.operands) → (kernel_of t.codelet ≡ Some Deliver → ⊥) → IsGood p n (task_row S C line t)
 good_task has p C S n t line cells laid plans s modes given copies nameable =
     let kernel = kernel_there has S t s in
     record {
@@ -569,36 +551,36 @@ good_task has p C S n t line cells laid plans s modes given copies nameable =
 
 pub good_init : (p : Program) (n : ℕ) (by : Reduction) (line : Line) (c : Cell) → c.0 < length p.cells → IsGood p n (init_row by line c)
 good_init p n Plus line c inside = record {
-  cells = one_alone (λ (a : Access). a.cell.0 < length p.cells) (an_access W c) inside;
-  copies = one_alone (HasItsCopies p n) (an_access W c) (λ h. absurd (false≢true h));
+  cells = one_alone (λ (a : Access). a.cell.0 < length p.cells) (access W c) inside;
+  copies = one_alone (HasItsCopies p n) (access W c) (λ h. absurd (false≢true h));
   plain = λ e. absurd (cc);
   fits = record { kernel = init_of Plus; codelet = refl; operands = refl; modes = MayHaveModes.Own refl };
-  unaliased = alone (λ (a b : Access). same_cell a.cell b.cell ≡ true → (a.mode ≡ R) × (b.mode ≡ R)) (an_access W c);
-  values = one_alone (λ (a : Access). reads_value a.mode ≡ true → HasValueBefore p (task_at n) a.cell) (an_access W c) (λ h. absurd (false≢true h));
+  unaliased = alone (λ (a b : Access). same_cell a.cell b.cell ≡ true → (a.mode ≡ R) × (b.mode ≡ R)) (access W c);
+  values = one_alone (λ (a : Access). reads_value a.mode ≡ true → HasValueBefore p (task n) a.cell) (access W c) (λ h. absurd (false≢true h));
 }
 good_init p n Least line c inside = record {
-  cells = one_alone (λ (a : Access). a.cell.0 < length p.cells) (an_access W c) inside;
-  copies = one_alone (HasItsCopies p n) (an_access W c) (λ h. absurd (false≢true h));
+  cells = one_alone (λ (a : Access). a.cell.0 < length p.cells) (access W c) inside;
+  copies = one_alone (HasItsCopies p n) (access W c) (λ h. absurd (false≢true h));
   plain = λ e. absurd (cc);
   fits = record { kernel = init_of Least; codelet = refl; operands = refl; modes = MayHaveModes.Own refl };
-  unaliased = alone (λ (a b : Access). same_cell a.cell b.cell ≡ true → (a.mode ≡ R) × (b.mode ≡ R)) (an_access W c);
-  values = one_alone (λ (a : Access). reads_value a.mode ≡ true → HasValueBefore p (task_at n) a.cell) (an_access W c) (λ h. absurd (false≢true h));
+  unaliased = alone (λ (a b : Access). same_cell a.cell b.cell ≡ true → (a.mode ≡ R) × (b.mode ≡ R)) (access W c);
+  values = one_alone (λ (a : Access). reads_value a.mode ≡ true → HasValueBefore p (task n) a.cell) (access W c) (λ h. absurd (false≢true h));
 }
 
-pub good_combine : (p : Program) (n : ℕ) (by : Reduction) (c : Cell) (line : Line) (q : Cell) → q.0 < length p.cells → c.0 < length p.cells → dims_of p q ≡ dims_of p c → same_cell q c ≡ false → HasValueBefore p (task_at n) q → HasValueBefore p (task_at n) c → IsGood p n (combine_row by c line q)
+pub good_combine : (p : Program) (n : ℕ) (by : Reduction) (c : Cell) (line : Line) (q : Cell) → q.0 < length p.cells → c.0 < length p.cells → dims_of p q ≡ dims_of p c → same_cell q c ≡ false → HasValueBefore p (task n) q → HasValueBefore p (task n) c → IsGood p n (combine_row by c line q)
 good_combine p n by c line q iq ic dims apart gq gc = by_reduction by
   where
-    cells_in : All (λ (a : Access). a.cell.0 < length p.cells) (an_access R q ∷ an_access RW c ∷ [])
-    cells_in = both_alone (λ (a : Access). a.cell.0 < length p.cells) (an_access R q) (an_access RW c) iq ic
+    cells_in : All (λ (a : Access). a.cell.0 < length p.cells) (access R q ∷ access RW c ∷ [])
+    cells_in = both_alone (λ (a : Access). a.cell.0 < length p.cells) (access R q) (access RW c) iq ic
 
-    copies_in : All (HasItsCopies p n) (an_access R q ∷ an_access RW c ∷ [])
-    copies_in = both_alone (HasItsCopies p n) (an_access R q) (an_access RW c) (λ h. absurd (false≢true h)) (λ h. absurd (false≢true h))
+    copies_in : All (HasItsCopies p n) (access R q ∷ access RW c ∷ [])
+    copies_in = both_alone (HasItsCopies p n) (access R q) (access RW c) (λ h. absurd (false≢true h)) (λ h. absurd (false≢true h))
 
-    pair : AllPairs (λ (a b : Access). same_cell a.cell b.cell ≡ true → (a.mode ≡ R) × (b.mode ≡ R)) (an_access R q ∷ an_access RW c ∷ [])
-    pair = pair_alone (λ (a b : Access). same_cell a.cell b.cell ≡ true → (a.mode ≡ R) × (b.mode ≡ R)) (an_access R q) (an_access RW c) (λ same. absurd (false≢true (sym apart ∙ same)))
+    pair : AllPairs (λ (a b : Access). same_cell a.cell b.cell ≡ true → (a.mode ≡ R) × (b.mode ≡ R)) (access R q ∷ access RW c ∷ [])
+    pair = pair_alone (λ (a b : Access). same_cell a.cell b.cell ≡ true → (a.mode ≡ R) × (b.mode ≡ R)) (access R q) (access RW c) (λ same. absurd (false≢true (sym apart ∙ same)))
 
-    values_in : All (λ (a : Access). reads_value a.mode ≡ true → HasValueBefore p (task_at n) a.cell) (an_access R q ∷ an_access RW c ∷ [])
-    values_in = both_alone (λ (a : Access). reads_value a.mode ≡ true → HasValueBefore p (task_at n) a.cell) (an_access R q) (an_access RW c) (λ h. gq) (λ h. gc)
+    values_in : All (λ (a : Access). reads_value a.mode ≡ true → HasValueBefore p (task n) a.cell) (access R q ∷ access RW c ∷ [])
+    values_in = both_alone (λ (a : Access). reads_value a.mode ≡ true → HasValueBefore p (task n) a.cell) (access R q) (access RW c) (λ h. gq) (λ h. gc)
 
     by_reduction : (by : Reduction) → IsGood p n (combine_row by c line q)
     by_reduction Plus = record { cells = cells_in; copies = copies_in; plain = λ e. absurd (cc); fits = record { kernel = combine_of Plus; codelet = refl; operands = same-itself (dims_of p q) (dims_of p c) dims; modes = MayHaveModes.Own refl }; unaliased = pair; values = values_in }

@@ -3,11 +3,15 @@ use Rattle.std.proofs.Common.{◌≡◌, ℕ, ◌<◌, ◌≤◌, Bool, true, fa
 use Rattle.std.specs.List.{zip, list_all}
 use Rattle.std.specs.Option.{is_some}
 use Rattle.std.specs.Str.{bytes_eq}
-use Rattle.std.proofs.lemmas.Bool.{false≢true}
+use Rattle.std.proofs.lemmas.Bool.{false≢true, and_from}
+use Rattle.std.proofs.lemmas.Option.{same_Some}
 use Rattle.sj_base.specs.declared.ids.Cell.{Cell}
 use Rattle.sj_base.specs.declared.tile.Dims.{Dims}
 use Rattle.sj_base.specs.declared.program.Program.{Program}
 use Rattle.sj_base.specs.Array.{Array, area}
+use Rattle.sj_base.proofs.SameIds.{cell_of_number, same_cell-is}
+use Rattle.sj_base.proofs.Texts.{same_text, other_text}
+use Rattle.sj_base.specs.Ids.{task}
 use Rattle.sj_lower.specs.declared.phase.OpenPhase.{OpenPhase}
 use Rattle.sj_core.specs.Program.{same_cell, dims_of}
 use Rattle.sj_core.specs.Proper.{HasValueBefore}
@@ -17,27 +21,27 @@ use Rattle.sj_plan.specs.Parts.{Fits, IsPlace}
 use Rattle.sj_plan.specs.Paste.{same_place}
 use Rattle.sj_plan.specs.Rect.{child, dims_of as rect_dims}
 use Rattle.sj_plan.specs.Window.{IsWhole}
+use Rattle.sj_plan.proofs.Repartitioning.{same_place-law, same_place-refl}
 use Rattle.sj_meaning.specs.Statement.{Operand}
 use Rattle.sj_meaning.specs.State.{Root, State, root_of, is_child, child_rect, is_valued_child}
-use Rattle.sj_meaning.specs.Meaning.{integers_of, child_array, change, with_child, put, put_all}
+use Rattle.sj_meaning.specs.Meaning.{integers_of, child_array, with_child, put, put_all}
 use Rattle.sj_meaning.proofs.Finding.{root-change}
 use Rattle.sj_lower.specs.Cells.{Cells, cell_of, info_at, copy_at}
 use Rattle.sj_lower.proofs.Combined.{IsTrusted, Phases, denoted, denoted-closed, denoted-same, SameCopies}
 use Rattle.sj_lower.proofs.Copies.{HaveCopies}
 use Rattle.sj_lower.proofs.Growing.{Grows}
-use Rattle.sj_lower.proofs.Contents.{NotAmong, held-same, held-other, held-moved, same_cell-is, task_at}
+use Rattle.sj_lower.proofs.Contents.{NotAmong, held-same, held-other, held-moved}
 use Rattle.sj_lower.proofs.Elements.{written-whole, written-other, written-array}
 use Rattle.sj_lower.proofs.Folding.{later}
-use Rattle.sj_lower.proofs.Laid.{same_name, bytes_eq-itself, some_is, none_isn't, IsTaken, AreLaid, cell-inside, cell-is, cell-row, cells-apart}
-use Rattle.sj_lower.proofs.Places.{place-is, place-itself}
+use Rattle.sj_lower.proofs.Laid.{bytes_eq-itself, none_isn't, IsTaken, AreLaid, cell-inside, cell-is, cell-row, cells-apart}
 
 -- ---- what agrees
 
 -- the cell, with the partial copies of its phase, if one is open, holds the array; tasks gave them their values
 pub record IsHeld (p : Program) (phases : Phases) (n : ℕ) (k : Contents) (c : Cell) (x : Array) : Type 0 where
   pub value : IsTrusted p → denoted p phases k c ≡ x
-  pub given : HasValueBefore p (task_at n) c
-  pub copies : (f : OpenPhase) → phases c ≡ Some f → (w : ℕ) → w < p.workers → HasValueBefore p (task_at n) (copy_at f.copies w)
+  pub given : HasValueBefore p (task n) c
+  pub copies : (f : OpenPhase) → phases c ≡ Some f → (w : ℕ) → w < p.workers → HasValueBefore p (task n) (copy_at f.copies w)
 
 -- a name's root is whole, its active plan is taken, the cells of its children hold their arrays, and a child whose phase is open
 -- has a value
@@ -102,10 +106,7 @@ root-kept p C D phases after m n k new q r b t more same phase copies = record {
 }
   where
     cell : (place : ℕ × ℕ) → cell_of C q r.parts place ≡ cell_of D q r.parts place
-    cell place = one_cell (cell_of C q r.parts place) (cell_of D q r.parts place) (cell-is C q r.dims r.parts b.first place b.taken ∙ sym (cell-is D q r.dims r.parts b.first place t))
-      where
-        one_cell : (c d : Cell) → c.0 ≡ d.0 → c ≡ d
-        one_cell c d e = λ i. record { 0 = e i }
+    cell place = cell_of_number (cell_of C q r.parts place) (cell_of D q r.parts place) (cell-is C q r.dims r.parts b.first place b.taken ∙ sym (cell-is D q r.dims r.parts b.first place t))
 
 pub holds-later : (p : Program) (C : Cells) (phases : Phases) (m n : ℕ) (k : Contents) (S : State) → m ≤ n → HaveRoots p C phases m k S → HaveRoots p C phases n k S
 holds-later p C phases m n k S h has q r e = let b = has q r e in root-kept p C C phases phases m n k k q r b b.taken h (λ trust place inside. refl) (λ place inside. refl) (λ trust place f inside g w below. refl)
@@ -128,14 +129,11 @@ pub record Gives (p : Program) (C : Cells) (phases : Phases) (n : ℕ) (S : Stat
   pub dims : a.dims ≡ rect_dims (child_rect root o.place)
   pub whole : IsWhole a
   pub cell_is : c ≡ cell_of C o.name root.parts o.place
-  pub given : HasValueBefore p (task_at n) c
+  pub given : HasValueBefore p (task n) c
   pub closed : phases c ≡ None
 
 other_place : (x y : ℕ × ℕ) → same_place x y ≡ false → x ≡ y → ⊥
-other_place x y e same = false≢true (sym e ∙ ap (same_place x) (sym same) ∙ place-itself x)
-
-other_name : (a b : List ℕ) → bytes_eq a b ≡ false → a ≡ b → ⊥
-other_name a b e same = false≢true (sym e ∙ ap (bytes_eq a) (sym same) ∙ bytes_eq-itself a)
+other_place x y e same = false≢true (sym e ∙ ap (same_place x) (sym same) ∙ same_place-refl x)
 
 -- the root itself, after a child of it was put
 put_child : (p : Program) (C : Cells) (phases : Phases) (n : ℕ) (k : Contents) (S : State) (c : Cell) (o : Operand (List ℕ)) (a : Array) → AreLaid C → HaveTheirs p.workers C phases → (g : Gives p C phases n S c o a) → HasRoot p C phases n k o.name g.root → HasRoot p C phases n ((c, a) ∷ k) o.name (with_child o.place a g.root)
@@ -151,7 +149,7 @@ put_child p C phases n k S c o a laid theirs g b = record {
   where
     by_place : (place : ℕ × ℕ) → IsPlace g.root.parts place → is_valued_child (with_child o.place a g.root) place ≡ true → (t : Bool) → same_place o.place place ≡ t → IsHeld p phases n ((c, a) ∷ k) (cell_of C o.name g.root.parts place) (child_array (with_child o.place a g.root) place)
     by_place place inside v true t =
-        let here = place-is o.place place t in
+        let here = same_place-law o.place place t in
         subst (λ (x : ℕ × ℕ). IsHeld p phases n ((c, a) ∷ k) (cell_of C o.name g.root.parts x) (child_array (with_child o.place a g.root) x)) here
         (subst (λ (d : Cell). IsHeld p phases n ((c, a) ∷ k) d (child_array (with_child o.place a g.root) o.place)) g.cell_is
         (record {
@@ -172,7 +170,7 @@ put_child p C phases n k S c o a laid theirs g b = record {
         (λ trust f e w below. held-other p c a k (copy_at f.copies w) (ap (λ (d : Cell). same_cell d (copy_at f.copies w)) g.cell_is ∙ not_copy p.workers C phases o.name g.root.dims g.root.parts b.first o.place (cell_of C o.name g.root.parts place) f w theirs b.taken g.placed e below)) old)
 
     by_blank : (place : ℕ × ℕ) → IsPlace g.root.parts place → is_valued_child (with_child o.place a g.root) place ≡ false → (t : Bool) → same_place o.place place ≡ t → phases (cell_of C o.name g.root.parts place) ≡ None
-    by_blank place inside v true t = ap (λ (x : ℕ × ℕ). phases (cell_of C o.name g.root.parts x)) (sym (place-is o.place place t)) ∙ ap phases (sym g.cell_is) ∙ g.closed
+    by_blank place inside v true t = ap (λ (x : ℕ × ℕ). phases (cell_of C o.name g.root.parts x)) (sym (same_place-law o.place place t)) ∙ ap phases (sym g.cell_is) ∙ g.closed
     by_blank place inside v false t =
         b.blank place inside (ap (λ es. is_child g.root.parts place && list_all (λ (e : Option ℤ). is_some e) es) (sym (written-other g.root o.place place a g.placed inside (other_place o.place place t))) ∙ v)
 
@@ -189,9 +187,9 @@ holds-put p C phases n k S c o a laid theirs has g q r e = by_test (bytes_eq o.n
   where
     by_test : (t : Bool) → bytes_eq o.name q ≡ t → cond t (Some (with_child o.place a g.root)) (root_of S q) ≡ Some r → HasRoot p C phases n ((c, a) ∷ k) q r
     by_test true t e =
-        subst (λ (x : Root). HasRoot p C phases n ((c, a) ∷ k) q x) (some_is (with_child o.place a g.root) r e)
-        (subst (λ (u : List ℕ). HasRoot p C phases n ((c, a) ∷ k) u (with_child o.place a g.root)) (same_name o.name q t) (put_child p C phases n k S c o a laid theirs g (has o.name g.root g.is_root)))
-    by_test false t e = put_beside p C phases n k S c o a q r laid theirs g (has o.name g.root g.is_root) (other_name o.name q t) (has q r e)
+        subst (λ (x : Root). HasRoot p C phases n ((c, a) ∷ k) q x) (same_Some (with_child o.place a g.root) r e)
+        (subst (λ (u : List ℕ). HasRoot p C phases n ((c, a) ∷ k) u (with_child o.place a g.root)) (same_text o.name q t) (put_child p C phases n k S c o a laid theirs g (has o.name g.root g.is_root)))
+    by_test false t e = put_beside p C phases n k S c o a q r laid theirs g (has o.name g.root g.is_root) (other_text o.name q t) (has q r e)
 
 -- ---- the arrays of a task
 
@@ -211,7 +209,7 @@ gives-after p C phases n S c d o u a x g h = by_test (bytes_eq o.name u.name) re
   where
     by_test : (t : Bool) → bytes_eq o.name u.name ≡ t → Gives p C phases n (put o a S) d u x
     by_test true t =
-        let same : g.root ≡ h.root = some_is g.root h.root (sym g.is_root ∙ ap (root_of S) (same_name o.name u.name t) ∙ h.is_root) in
+        let same : g.root ≡ h.root = same_Some g.root h.root (sym g.is_root ∙ ap (root_of S) (same_text o.name u.name t) ∙ h.is_root) in
         record {
           root = with_child o.place a h.root;
           is_root = root-change (with_child o.place a) o.name S g.root u.name g.is_root ∙ ap (λ b. cond b (Some (with_child o.place a g.root)) (root_of S u.name)) t ∙ ap (λ (r : Root). Some (with_child o.place a r)) same;
@@ -244,11 +242,7 @@ cell_apart p C phases n k S c d o u a x laid theirs has g h other =
     let i = has u.name h.root h.is_root in
     differs c d (λ e.
     let same = cells-apart C o.name u.name g.root.dims h.root.dims g.root.parts h.root.parts b.first i.first o.place u.place laid b.taken i.taken g.placed h.placed (sym g.cell_is ∙ e ∙ h.cell_is) in
-    false≢true (sym other ∙ both (bytes_eq o.name u.name) (same_place o.place u.place) (ap (bytes_eq o.name) (sym same.0) ∙ bytes_eq-itself o.name) (ap (same_place o.place) (sym same.2) ∙ place-itself o.place)))
-  where
-    both : (a b : Bool) → a ≡ true → b ≡ true → (a && b) ≡ true
-    both true b e f = f
-    both false b e f = e
+    false≢true (sym other ∙ and_from (bytes_eq o.name u.name) (same_place o.place u.place) (ap (bytes_eq o.name) (sym same.0) ∙ bytes_eq-itself o.name) (ap (same_place o.place) (sym same.2) ∙ same_place-refl o.place)))
 
 not_among : (p : Program) (C : Cells) (phases : Phases) (n : ℕ) (k : Contents) (S : State) (cell : Operand (List ℕ) → Cell) (o : Operand (List ℕ)) (a : Array) (us : List (Operand (List ℕ))) (xs : List Array) → AreLaid C → HaveTheirs p.workers C phases → HaveRoots p C phases n k S → Gives p C phases n S (cell o) o a → IsOther o us → GivesAll p C phases n S cell us xs → NotAmong (cell o) (each_of cell us)
 not_among p C phases n k S cell o a [] xs laid theirs has g other all = tt

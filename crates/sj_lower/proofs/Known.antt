@@ -29,9 +29,9 @@ use Rattle.sj_meaning.specs.State.{Root, State, root_of, start}
 use Rattle.sj_meaning.specs.Meaning.{apply}
 use Rattle.sj_meaning.specs.Sound.{IsSoundTask, is_lawful, reduction_of, has_child_values, child_dims}
 use Rattle.sj_lower.specs.declared.phase.OpenPhase.{OpenPhase}
-use Rattle.sj_lower.specs.Cells.{Cells, cell_of, copy_at, first_copy}
+use Rattle.sj_lower.specs.Cells.{Cells, cell_of, copy_at, first_partial}
 use Rattle.sj_lower.specs.Rows.{load_row, fill_row, paste_row, deliver_row, init_row, combine_row, init_rows, combine_rows}
-use Rattle.sj_lower.specs.Lowering.{Lowering, nothing, cells_after, load_rows, is_idle, plan_rows, parts_in, active_cell, rows_of, closed_by, closed, all_closed, begin_rows, begun, opened, opened_for, contributions, extended, turned, with_phase, prepared, lower_one, lower_from, finished}
+use Rattle.sj_lower.specs.Lowering.{Lowering, nothing, cells_after, load_rows, leaves_plan, plan_rows, parts_in, active_cell, rows_added, closed_by, closed, all_closed, begin_rows, begun, opened, opened_for, contributions, extended, phase_turned, with_phase, prepared, lower_one, lower_from, finished}
 use Rattle.sj_lower.proofs.Able.{CanBe, AllCanBe}
 use Rattle.sj_lower.proofs.Closing.{by_phase}
 use Rattle.sj_lower.proofs.Stating.{phase-own, phase-other, by_cell}
@@ -94,11 +94,11 @@ by_some has L c f own k d g h = by_cell (λ d. with_phase c (Some f) L.phase d �
 known_opened : (has : Kernel → Bool) (workers : ℕ) (by : Reduction) (v : Bool) (line : Line) (c : Cell) (L : Lowering) → has_reduction has by ≡ true → AreKnown has L → AreKnown has (opened workers by v line c L)
 known_opened has workers by v line c L own k = by_option (L.phase c) refl
   where
-    by_option : (o : Option OpenPhase) → L.phase c ≡ o → AreKnown has (elim o as (λ _. Lowering) [ None ↦ begun workers by v line c L | Some f ↦ turned L.cells [] c (Some (extended f line)) L ])
+    by_option : (o : Option OpenPhase) → L.phase c ≡ o → AreKnown has (elim o as (λ _. Lowering) [ None ↦ begun workers by v line c L | Some f ↦ phase_turned L.cells [] c (Some (extended f line)) L ])
     by_option None e = record {
-      tasks = All-append (IsKnown has) L.tasks (begin_rows by (first_copy L.cells c) c v workers line) k.tasks
-          (All-append (IsKnown has) (init_rows by (first_copy L.cells c) workers line) (cond v [] (init_row by line c ∷ [])) (all-rows has (λ w. init_row by line (copy_at (first_copy L.cells c) w)) (range_with_len 0 workers) (λ w. known-init has by line (copy_at (first_copy L.cells c) w) own)) (by_valued v));
-      reductions = by_some has L c (record { by = by; copies = first_copy L.cells c; line = line }) own k;
+      tasks = All-append (IsKnown has) L.tasks (begin_rows by (first_partial L.cells c) c v workers line) k.tasks
+          (All-append (IsKnown has) (init_rows by (first_partial L.cells c) workers line) (cond v [] (init_row by line c ∷ [])) (all-rows has (λ w. init_row by line (copy_at (first_partial L.cells c) w)) (range_with_len 0 workers) (λ w. known-init has by line (copy_at (first_partial L.cells c) w) own)) (by_valued v));
+      reductions = by_some has L c (record { by = by; copies = first_partial L.cells c; line = line }) own k;
     }
       where
         by_valued : (x : Bool) → All (IsKnown has) (cond x [] (init_row by line c ∷ []))
@@ -154,10 +154,10 @@ known-plan has S C name s line own = by_root (root_of S name)
 
     by_root : (o : Option Root) → All (IsKnown has) (elim o as (λ _. List Lowered) [
       | None ↦ []
-      | Some r ↦ cond (is_idle s r) [] (each_of (paste_row (cell_of C name r.parts) (cell_of C name s) line) (pastes_of r.dims r.parts s))
+      | Some r ↦ cond (leaves_plan s r) [] (each_of (paste_row (cell_of C name r.parts) (cell_of C name s) line) (pastes_of r.dims r.parts s))
     ])
     by_root None = All-nil (IsKnown has)
-    by_root (Some r) = by_idle (is_idle s r) r
+    by_root (Some r) = by_idle (leaves_plan s r) r
 
 known-task : (has : Kernel → Bool) (S : State) (t : TaskLine (List ℕ)) → IsSoundTask has S t → is_known has t.codelet ≡ true
 known-task has S t s = by_kernel (kernel_of t.codelet) s.fits
@@ -166,7 +166,7 @@ known-task has S t s = by_kernel (kernel_of t.codelet) s.fits
     by_kernel None h = absurd (false≢true h)
     by_kernel (Some k) h = (and_parts (has k) (fits k t.args (each_of (child_dims S) t.operands)) h).0
 
-known-rows : (has : Kernel → Bool) (S : State) (C : Cells) (line : Line) (a : Act (List ℕ)) → HasOwn has → CanBe has S a → All (IsKnown has) (rows_of S C line a)
+known-rows : (has : Kernel → Bool) (S : State) (C : Cells) (line : Line) (a : Act (List ℕ)) → HasOwn has → CanBe has S a → All (IsKnown has) (rows_added S C line a)
 known-rows has S C line (Registers r) own can = known-loads has r C line r.init own
 known-rows has S C line (Plans name s) own can = known-plan has S C name s line own
 known-rows has S C line (Reduces name by) own can = All-nil (IsKnown has)
@@ -192,7 +192,7 @@ known_from has workers S L (s ∷ ss) own can k =
     let M = prepared workers S s L in
     let m = known_prepared has workers S s.line s.act (all_closed workers (closed_by S L.cells s.act) L) can.0 (known_all_closed has workers (closed_by S L.cells s.act) L k) in
     known_from has workers (apply s.act S) (lower_one workers S s L) ss own can.1
-    (record { tasks = All-append (IsKnown has) M.tasks (rows_of S (cells_after s.act M.cells) s.line s.act) m.tasks (known-rows has S (cells_after s.act M.cells) s.line s.act own can.0); reductions = m.reductions })
+    (record { tasks = All-append (IsKnown has) M.tasks (rows_added S (cells_after s.act M.cells) s.line s.act) m.tasks (known-rows has S (cells_after s.act M.cells) s.line s.act own can.0); reductions = m.reductions })
 
 -- the set has the codelets of a job's program
 pub known : (has : Kernel → Bool) (workers : ℕ) (ss : List (Statement (List ℕ))) → HasOwn has → AllCanBe has start ss → All (IsKnown has) (finished workers (lower_from workers start nothing ss)).tasks

@@ -3,13 +3,15 @@ use Rattle.std.proofs.Common.{◌≡◌, ℕ, ◌+◌, ◌-◌, ◌*◌, ◌^◌
 use Rattle.std.specs.List.{All}
 use Rattle.std.specs.Option.{is_some}
 use Rattle.std.specs.Str.{bytes_eq}
-use Rattle.std.proofs.lemmas.List.{get_or_append_left, get_or-append_right, append-nil}
+use Rattle.std.proofs.lemmas.List.{get_or_append_left, get_or-append_right}
 use Rattle.std.proofs.lemmas.List.Elements.{All-append, All-from_recursion}
 use Rattle.std.proofs.lemmas.Slice.Eq.{bytes_eq-Decides}
+use Rattle.std.proofs.lemmas.Option.{same_Some}
 use Rattle.sj_base.specs.declared.ids.Cell.{Cell}
 use Rattle.sj_base.specs.declared.tile.Dims.{Dims}
 use Rattle.sj_base.specs.declared.program.CellInfo.{CellInfo}
 use Rattle.sj_base.specs.Array.{area}
+use Rattle.sj_base.proofs.Texts.{same_text}
 use Rattle.sj_core.specs.Program.{no_cell}
 use Rattle.sj_plan.specs.declared.parts.Parts.{Parts}
 use Rattle.sj_plan.specs.Parts.{Fits, IsPlace, places}
@@ -17,17 +19,12 @@ use Rattle.sj_plan.specs.Rect.{child, dims_of}
 use Rattle.sj_plan.proofs.Lists.{each-map, each-places}
 use Rattle.sj_plan.proofs.Splitting.{part_end}
 use Rattle.sj_job.specs.Track.{number}
-use Rattle.sj_lower.specs.Cells.{Cells, Handle, same_parts, with_handle, cell_of, taking, child_cell, take_by, take, next_handle, with_root, no_cells}
-use Rattle.sj_lower.proofs.Places.{parts-are, parts-itself, number-below, number-apart, length-places, places-at}
-
-pub same_name : (a b : List ℕ) → bytes_eq a b ≡ true → a ≡ b
-same_name a b h = (bytes_eq-Decides a b).0 h
+use Rattle.sj_job.proofs.Children.{number-alone}
+use Rattle.sj_lower.specs.Cells.{Cells, Handle, same_parts, with_handle, cell_of, taking_plan, child_cell, take_by, take, next_handle, with_new_root, no_cells}
+use Rattle.sj_lower.proofs.Places.{parts-are, parts-itself, number-below, length-places, places-at}
 
 pub bytes_eq-itself : (a : List ℕ) → bytes_eq a a ≡ true
 bytes_eq-itself a = (bytes_eq-Decides a a).1 refl
-
-pub some_is : {X : Type 0} (x y : X) → Some x ≡ Some y → x ≡ y
-some_is x y e = cc
 
 pub none_isn't : {X : Type 0} (x : X) → None ≡ Some x → ⊥
 none_isn't x e = absurd (cc)
@@ -67,8 +64,8 @@ cells-apart C q u d e s t f g place other a k l hp ho same =
 -- two first cells of one plan are one
 pub taken-once : (C : Cells) (q : List ℕ) (d e : Dims) (s : Parts) (f g : ℕ) → IsTaken C q d s f → IsTaken C q e s g → (d ≡ e) × (f ≡ g)
 taken-once C q d e s f g k l =
-    let same : k.handle ≡ l.handle = some_is k.handle l.handle (sym k.is ∙ l.is) in
-    (sym k.dims ∙ ap (λ (h : Handle). h.dims) same ∙ l.dims, some_is f g (sym k.first ∙ ap (λ (h : Handle). h.first s) same ∙ l.first))
+    let same : k.handle ≡ l.handle = same_Some k.handle l.handle (sym k.is ∙ l.is) in
+    (sym k.dims ∙ ap (λ (h : Handle). h.dims) same ∙ l.dims, same_Some f g (sym k.first ∙ ap (λ (h : Handle). h.first s) same ∙ l.first))
 
 -- ---- no cells
 
@@ -85,20 +82,20 @@ laid-none = record {
 -- ---- a root more
 
 -- a plan that is taken with the root was taken before, by another name
-pub taken-root : (C : Cells) (name : List ℕ) (n : Dims) (q : List ℕ) (d : Dims) (s : Parts) (f : ℕ) → IsTaken (with_root name n C) q d s f → IsTaken C q d s f
+pub taken-root : (C : Cells) (name : List ℕ) (n : Dims) (q : List ℕ) (d : Dims) (s : Parts) (f : ℕ) → IsTaken (with_new_root name n C) q d s f → IsTaken C q d s f
 taken-root C name n q d s f k = by_test (bytes_eq name q) k.is
   where
     by_test : (b : Bool) → cond b (Some (next_handle n C)) (C.handles q) ≡ Some k.handle → IsTaken C q d s f
-    by_test true e = absurd (none_isn't f (ap (λ (h : Handle). h.first s) (some_is (next_handle n C) k.handle e) ∙ k.first))
+    by_test true e = absurd (none_isn't f (ap (λ (h : Handle). h.first s) (same_Some (next_handle n C) k.handle e) ∙ k.first))
     by_test false e = record { handle = k.handle; is = e; dims = k.dims; first = k.first }
 
-pub root-keeps : (C : Cells) (name : List ℕ) (n : Dims) (q : List ℕ) (d : Dims) (s : Parts) (f : ℕ) → bytes_eq name q ≡ false → IsTaken C q d s f → IsTaken (with_root name n C) q d s f
+pub root-keeps : (C : Cells) (name : List ℕ) (n : Dims) (q : List ℕ) (d : Dims) (s : Parts) (f : ℕ) → bytes_eq name q ≡ false → IsTaken C q d s f → IsTaken (with_new_root name n C) q d s f
 root-keeps C name n q d s f other k = record { handle = k.handle; is = ap (λ b. cond b (Some (next_handle n C)) (C.handles q)) other ∙ k.is; dims = k.dims; first = k.first }
 
-pub root-there : (C : Cells) (name : List ℕ) (n : Dims) → (with_root name n C).handles name ≡ Some (next_handle n C)
+pub root-there : (C : Cells) (name : List ℕ) (n : Dims) → (with_new_root name n C).handles name ≡ Some (next_handle n C)
 root-there C name n = ap (λ b. cond b (Some (next_handle n C)) (C.handles name)) (bytes_eq-itself name)
 
-pub laid-root : (C : Cells) (name : List ℕ) (n : Dims) → AreLaid C → area n ≤ 16777216 → AreLaid (with_root name n C)
+pub laid-root : (C : Cells) (name : List ℕ) (n : Dims) → AreLaid C → area n ≤ 16777216 → AreLaid (with_new_root name n C)
 laid-root C name n a few = record {
   fits = λ q d s f k. a.fits q d s f (taken-root C name n q d s f k);
   inside = λ q d s f k. a.inside q d s f (taken-root C name n q d s f k);
@@ -109,7 +106,7 @@ laid-root C name n a few = record {
 }
   where
     by_test : (q : List ℕ) (h : Handle) (b : Bool) → cond b (Some (next_handle n C)) (C.handles q) ≡ Some h → area h.dims ≤ 16777216
-    by_test q h true e = subst (λ (i : Handle). area i.dims ≤ 16777216) (some_is (next_handle n C) h e) few
+    by_test q h true e = subst (λ (i : Handle). area i.dims ≤ 16777216) (same_Some (next_handle n C) h e) few
     by_test q h false e = a.sized q h e
 
 -- ---- a plan more
@@ -121,7 +118,7 @@ take-by C name p h e = ap (λ (o : Option Handle). elim o as (λ _. Cells) [ Non
 abbrev pub News : List ℕ → Parts → Handle → Cells → Cells
 News name p h C = record {
   rows = C.rows ++ each_of (child_cell h.root h.dims p) (places p);
-  handles = with_handle name (taking p (length C.rows) h) C.handles;
+  handles = with_handle name (taking_plan p (length C.rows) h) C.handles;
   roots = C.roots;
 }
 
@@ -133,14 +130,14 @@ pub data IsOldOrNew (C : Cells) (name : List ℕ) (p : Parts) (h : Handle) (q : 
 pub old_or_new : (C : Cells) (name : List ℕ) (p : Parts) (h : Handle) → C.handles name ≡ Some h → (q : List ℕ) (d : Dims) (s : Parts) (f : ℕ) (k : IsTaken (News name p h C) q d s f) → IsOldOrNew C name p h q d s f
 old_or_new C name p h there q d s f k = by_name (bytes_eq name q) refl k.is
   where
-    by_plan : (b : Bool) → same_parts p s ≡ b → name ≡ q → taking p (length C.rows) h ≡ k.handle → cond b (Some (length C.rows)) (h.first s) ≡ Some f → IsOldOrNew C name p h q d s f
-    by_plan true t named is e = New named (parts-are p s t) (ap (λ (h : Handle). h.dims) is ∙ k.dims) (sym (some_is (length C.rows) f e))
+    by_plan : (b : Bool) → same_parts p s ≡ b → name ≡ q → taking_plan p (length C.rows) h ≡ k.handle → cond b (Some (length C.rows)) (h.first s) ≡ Some f → IsOldOrNew C name p h q d s f
+    by_plan true t named is e = New named (parts-are p s t) (ap (λ (h : Handle). h.dims) is ∙ k.dims) (sym (same_Some (length C.rows) f e))
     by_plan false t named is e = Old (record { handle = h; is = ap C.handles (sym named) ∙ there; dims = ap (λ (h : Handle). h.dims) is ∙ k.dims; first = e })
 
-    by_name : (b : Bool) → bytes_eq name q ≡ b → cond b (Some (taking p (length C.rows) h)) (C.handles q) ≡ Some k.handle → IsOldOrNew C name p h q d s f
+    by_name : (b : Bool) → bytes_eq name q ≡ b → cond b (Some (taking_plan p (length C.rows) h)) (C.handles q) ≡ Some k.handle → IsOldOrNew C name p h q d s f
     by_name true t e =
-        let is = some_is (taking p (length C.rows) h) k.handle e in
-        by_plan (same_parts p s) refl (same_name name q t) is (ap (λ (h : Handle). h.first s) is ∙ k.first)
+        let is = same_Some (taking_plan p (length C.rows) h) k.handle e in
+        by_plan (same_parts p s) refl (same_text name q t) is (ap (λ (h : Handle). h.first s) is ∙ k.first)
     by_name false t e = Old (record { handle = k.handle; is = e; dims = k.dims; first = k.first })
 
 longer : (C : Cells) (p : Parts) (h : Handle) → length (C.rows ++ each_of (child_cell h.root h.dims p) (places p)) ≡ length C.rows + p.r * p.c
@@ -179,7 +176,7 @@ laid_new C name p h there none fit a = record {
     | New eq ep ed ef ↦ elim (old_or_new C name p h there u e t g l) as (λ _. (q ≡ u) × (s ≡ t) × (place ≡ other)) [
       | Old n ↦ absurd (omega (arith, ef, same, a.inside u e t g n, number-below t other ho))
       | New eq2 ep2 ed2 ef2 ↦ (let st : s ≡ t = sym ep ∙ ep2 in
-          (sym eq ∙ eq2, st, number-apart s place other hp (subst (λ (x : Parts). IsPlace x other) (sym st) ho) (equal f g (length C.rows) (number s place) (number t other) ef ef2 same ∙ ap (λ (x : Parts). number x other) (sym st))))
+          (sym eq ∙ eq2, st, number-alone s place other hp (subst (λ (x : Parts). IsPlace x other) (sym st) ho) (equal f g (length C.rows) (number s place) (number t other) ef ef2 same ∙ ap (λ (x : Parts). number x other) (sym st))))
     ]
   ];
   sized = λ q i e. by_test q i (bytes_eq name q) e;
@@ -195,8 +192,8 @@ laid_new C name p h there none fit a = record {
     equal : (f g n x y : ℕ) → f ≡ n → g ≡ n → f + x ≡ g + y → x ≡ y
     equal f g n x y ef eg e = omega arith
 
-    by_test : (q : List ℕ) (i : Handle) (b : Bool) → cond b (Some (taking p (length C.rows) h)) (C.handles q) ≡ Some i → area i.dims ≤ 16777216
-    by_test q i true e = subst (λ (x : Handle). area x.dims ≤ 16777216) (some_is (taking p (length C.rows) h) i e) (a.sized name h there)
+    by_test : (q : List ℕ) (i : Handle) (b : Bool) → cond b (Some (taking_plan p (length C.rows) h)) (C.handles q) ≡ Some i → area i.dims ≤ 16777216
+    by_test q i true e = subst (λ (x : Handle). area x.dims ≤ 16777216) (same_Some (taking_plan p (length C.rows) h) i e) (a.sized name h there)
     by_test q i false e = a.sized q i e
 
 -- by whether the plan was taken before
@@ -221,14 +218,14 @@ keeps_new C name p h there none q d s f k = by_name (bytes_eq name q) refl
 
     by_name : (b : Bool) → bytes_eq name q ≡ b → IsTaken (News name p h C) q d s f
     by_name true t =
-        let same : h ≡ k.handle = some_is h k.handle (sym there ∙ ap C.handles (same_name name q t) ∙ k.is) in
+        let same : h ≡ k.handle = same_Some h k.handle (sym there ∙ ap C.handles (same_text name q t) ∙ k.is) in
         record {
-          handle = taking p (length C.rows) h;
-          is = ap (λ b. cond b (Some (taking p (length C.rows) h)) (C.handles q)) t;
+          handle = taking_plan p (length C.rows) h;
+          is = ap (λ b. cond b (Some (taking_plan p (length C.rows) h)) (C.handles q)) t;
           dims = ap (λ (i : Handle). i.dims) same ∙ k.dims;
           first = by_plan (same_parts p s) refl (ap (λ (i : Handle). i.first s) same ∙ k.first);
         }
-    by_name false t = record { handle = k.handle; is = ap (λ b. cond b (Some (taking p (length C.rows) h)) (C.handles q)) t ∙ k.is; dims = k.dims; first = k.first }
+    by_name false t = record { handle = k.handle; is = ap (λ b. cond b (Some (taking_plan p (length C.rows) h)) (C.handles q)) t ∙ k.is; dims = k.dims; first = k.first }
 
 pub take-keeps : (C : Cells) (name : List ℕ) (p : Parts) (h : Handle) → C.handles name ≡ Some h → (q : List ℕ) (d : Dims) (s : Parts) (f : ℕ) → IsTaken C q d s f → IsTaken (take name p C) q d s f
 take-keeps C name p h there q d s f k =
@@ -242,20 +239,12 @@ take-takes C name p h there =
     (λ e. (
       length C.rows,
       record {
-        handle = taking p (length C.rows) h;
-        is = ap (λ b. cond b (Some (taking p (length C.rows) h)) (C.handles name)) (bytes_eq-itself name);
+        handle = taking_plan p (length C.rows) h;
+        is = ap (λ b. cond b (Some (taking_plan p (length C.rows) h)) (C.handles name)) (bytes_eq-itself name);
         dims = refl;
         first = ap (λ b. cond b (Some (length C.rows)) (h.first p)) (parts-itself p);
       },
     )))
-
--- cells are only added
-pub take-grows : (C : Cells) (name : List ℕ) (p : Parts) → (more : List CellInfo) × ((take name p C).rows ≡ C.rows ++ more)
-take-grows C name p = by_handle (C.handles name)
-  where
-    by_handle : (o : Option Handle) → (more : List CellInfo) × ((elim o as (λ _. Cells) [ None ↦ C | Some h ↦ take_by name p h C ]).rows ≡ C.rows ++ more)
-    by_handle None = ([], sym (append-nil C.rows))
-    by_handle (Some h) = by_first C name p h (λ (D : Cells). (more : List CellInfo) × (D.rows ≡ C.rows ++ more)) (λ f e. ([], sym (append-nil C.rows))) (λ e. (each_of (child_cell h.root h.dims p) (places p), refl))
 
 pub take-roots : (C : Cells) (name : List ℕ) (p : Parts) → (take name p C).roots ≡ C.roots
 take-roots C name p = by_handle (C.handles name)

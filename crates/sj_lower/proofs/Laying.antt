@@ -3,15 +3,17 @@ use Rattle.std.proofs.Common.{◌≡◌, ℕ, ◌+◌, ◌*◌, ◌<◌, ◌≤�
 use Rattle.std.specs.Prelude.{nat_eq, replicate, set}
 use Rattle.std.specs.Option.{is_some}
 use Rattle.std.specs.Str.{bytes_eq}
-use Rattle.std.proofs.lemmas.Bool.{false≢true, and_parts}
-use Rattle.std.proofs.lemmas.Bool.Decides.{Decides-eqb}
+use Rattle.std.proofs.lemmas.Bool.{false≢true, and_parts, and_from, ne_eqb}
 use Rattle.std.proofs.lemmas.List.{set-append_left}
 use Rattle.std.proofs.lemmas.Simd.{map-map}
+use Rattle.std.proofs.lemmas.Option.{same_Some}
 use Rattle.indexmap.specs.IndexMap.{get}
 use Rattle.sj_base.specs.declared.ids.Cell.{Cell}
 use Rattle.sj_base.specs.declared.ids.Root.{Root}
 use Rattle.sj_base.specs.declared.program.CellInfo.{CellInfo}
 use Rattle.sj_base.specs.declared.tile.Dims.{Dims}
+use Rattle.sj_base.proofs.Texts.{same_text}
+use Rattle.sj_base.proofs.Bools.{nat_eq-itself}
 use Rattle.sj_core.specs.Program.{no_cell}
 use Rattle.sj_plan.specs.declared.parts.Parts.{Parts}
 use Rattle.sj_plan.specs.Parts.{places}
@@ -19,7 +21,7 @@ use Rattle.sj_plan.specs.Rect.{child, children_of}
 use Rattle.sj_meaning.specs.Table.{Table, AreDistinct, a_root, name_of, info_of}
 use Rattle.sj_lower.specs.declared.layout.Taken.{Taken}
 use Rattle.sj_lower.specs.declared.layout.Layout.{Layout}
-use Rattle.sj_lower.specs.Cells.{Cells, Handle, same_parts, with_handle, with_first, first_cell, taking, rect_cell, child_cell, take, next_handle, with_root, info_at, copy_info, with_partials, first_copy, with_copies}
+use Rattle.sj_lower.specs.Cells.{Cells, same_parts, with_handle, with_first, first_cell, taking_plan, rect_cell, child_cell, take, next_handle, with_new_root, info_at, copy_info, with_partials, first_partial, with_copies}
 use Rattle.sj_lower.specs.Limits.{most}
 use Rattle.sj_meaning.specs.declared.job.Init.{Init}
 use Rattle.sj_meaning.specs.declared.job.RootInfo.{RootInfo}
@@ -28,31 +30,14 @@ use Rattle.sj_meaning.specs.View.{act_seen}
 use Rattle.sj_job.specs.Track.{children_count}
 use Rattle.sj_lower.specs.Lowering.{cells_after}
 use Rattle.sj_lower.specs.Seen.{taken, same_taken, handle_in, Lays, first_after, children_after}
-use Rattle.sj_lower.proofs.Laid.{same_name, bytes_eq-itself, some_is, none_isn't, take-by}
-use Rattle.sj_lower.proofs.Copies.{by_copies, copied-length, first-new, first-old}
+use Rattle.sj_lower.proofs.Laid.{bytes_eq-itself, none_isn't, take-by}
+use Rattle.sj_lower.proofs.Copies.{by_copies, copied-length, first-new}
 use Rattle.sj_lower.proofs.Places.{length-places, parts-are}
-
-first_there : (C : Cells) (name : List ℕ) (p : Parts) (h : Handle) (f : ℕ) → C.handles name ≡ Some h → h.first p ≡ Some f → first_cell C name p ≡ f
-first_there C name p h f e g = ap (λ (o : Option Handle). elim o as (λ _. ℕ) [ None ↦ 0 | Some h ↦ unwrap_or (h.first p) 0 ]) e ∙ ap (λ o. unwrap_or o 0) g
-
--- a plan that was taken before
-pub lays_old : (T : Table) (l : Layout) (C : Cells) (r : Root) (p : Parts) (f : ℕ) → Lays T l C → r.0 < C.roots → get same_taken l.firsts (taken r.0 p) ≡ Some f
-    → Lays T l (take (name_of T r) p C) × (first_cell (take (name_of T r) p C) (name_of T r) p ≡ f) × (f + children_count p ≤ length (take (name_of T r) p C).rows)
-lays_old T l C r p f s inside there =
-    let name = name_of T r in
-    let h = handle_in T l r.0 in
-    let is = s.handles r.0 inside in
-    let same : take name p C ≡ C = take-by C name p h is ∙ ap (λ (o : Option ℕ). cond (is_some o) C (record {
-      rows = C.rows ++ each_of (child_cell h.root h.dims p) (places p);
-      handles = with_handle name (taking p (length C.rows) h) C.handles;
-      roots = C.roots;
-    })) there in
-    (subst (Lays T l) (sym same) s, ap (λ (D : Cells). first_cell D name p) same ∙ first_there C name p h f is there, subst (λ (D : Cells). f + children_count p ≤ length D.rows) (sym same) (s.room r.0 p f there))
 
 -- a plan that is new
 news : (T : Table) (l : Layout) (C : Cells) (r : Root) (p : Parts) → Lays T l C → r.0 < C.roots → get same_taken l.firsts (taken r.0 p) ≡ None → take (name_of T r) p C ≡ record {
   rows = C.rows ++ each_of (child_cell r (info_of T r).dims p) (places p);
-  handles = with_handle (name_of T r) (taking p (length C.rows) (handle_in T l r.0)) C.handles;
+  handles = with_handle (name_of T r) (taking_plan p (length C.rows) (handle_in T l r.0)) C.handles;
   roots = C.roots;
 }
 news T l C r p s inside none =
@@ -60,19 +45,9 @@ news T l C r p s inside none =
     let h = handle_in T l r.0 in
     take-by C name p h (s.handles r.0 inside) ∙ ap (λ (o : Option ℕ). cond (is_some o) C (record {
       rows = C.rows ++ each_of (child_cell h.root h.dims p) (places p);
-      handles = with_handle name (taking p (length C.rows) h) C.handles;
+      handles = with_handle name (taking_plan p (length C.rows) h) C.handles;
       roots = C.roots;
     })) none
-
-equal : (n : ℕ) → nat_eq n n ≡ true
-equal n = (Decides-eqb n n).1 refl
-
-unequal : (m n : ℕ) → (m ≡ n → ⊥) → nat_eq m n ≡ false
-unequal m n h = by_test (nat_eq m n) refl
-  where
-    by_test : (b : Bool) → nat_eq m n ≡ b → b ≡ false
-    by_test false e = refl
-    by_test true e = absurd (h ((Decides-eqb m n).0 e))
 
 pub lays_new : (T : Table) (old new : Layout) (C : Cells) (r : Root) (d : Dims) (p : Parts) (first : ℕ) → Lays T old C → r.0 < C.roots → AreDistinct T.names → C.roots ≤ length T.names → (info_of T r).dims ≡ d → get same_taken old.firsts (taken r.0 p) ≡ None
     → new.infos.items ≡ old.infos.items ++ each_of (rect_cell r) (children_of d p) → ((q : Taken) → get same_taken new.firsts q ≡ cond (same_taken (taken r.0 p) q) (Some first) (get same_taken old.firsts q)) → new.roots ≡ old.roots → first ≡ length old.infos.items
@@ -88,8 +63,8 @@ lays_new T old new C r d p first s inside distinct few dims none rows firsts roo
         fresh = λ m q past. sym (there m (λ same. omega (arith, same, past, inside)) q) ∙ s.fresh m q past;
       }),
       ap (λ (D : Cells). first_cell D (name_of T r) p) whole
-          ∙ ap (λ b. elim (cond b (Some (taking p (length C.rows) (handle_in T old r.0))) (C.handles (name_of T r))) as (λ _. ℕ) [ None ↦ 0 | Some h ↦ unwrap_or (h.first p) 0 ]) (bytes_eq-itself (name_of T r))
-          ∙ ap (λ b. unwrap_or (cond b (Some (length C.rows)) (get same_taken old.firsts (taken r.0 p))) 0) (both (nat_eq p.r p.r) (nat_eq p.c p.c) (equal p.r) (equal p.c))
+          ∙ ap (λ b. elim (cond b (Some (taking_plan p (length C.rows) (handle_in T old r.0))) (C.handles (name_of T r))) as (λ _. ℕ) [ None ↦ 0 | Some h ↦ unwrap_or (h.first p) 0 ]) (bytes_eq-itself (name_of T r))
+          ∙ ap (λ b. unwrap_or (cond b (Some (length C.rows)) (get same_taken old.firsts (taken r.0 p))) 0) (and_from (nat_eq p.r p.r) (nat_eq p.c p.c) (nat_eq-itself p.r) (nat_eq-itself p.c))
           ∙ sym one,
       subst (λ (D : Cells). first + children_count p ≤ length D.rows) (sym whole) (omega (arith, one, longer)),
     )
@@ -100,26 +75,22 @@ lays_new T old new C r d p first s inside distinct few dims none rows firsts roo
     room_by : (m : ℕ) (q : Parts) (f : ℕ) (b : Bool) → same_taken (taken r.0 p) (taken m q) ≡ b → cond b (Some first) (get same_taken old.firsts (taken m q)) ≡ Some f → f + children_count q ≤ length (C.rows ++ each_of (child_cell r (info_of T r).dims p) (places p))
     room_by m q f true t e =
         let plan : p ≡ q = parts-are p q (and_parts (nat_eq r.0 m) (same_parts p q) t).1 in
-        let is : first ≡ f = some_is first f e in
+        let is : first ≡ f = same_Some first f e in
         subst (λ (x : Parts). f + children_count x ≤ length (C.rows ++ each_of (child_cell r (info_of T r).dims p) (places p))) plan (omega (arith, is, number, ap length s.rows, longer))
     room_by m q f false t e = omega (arith, s.room m q f e, longer)
-
-    both : (a b : Bool) → a ≡ true → b ≡ true → (a && b) ≡ true
-    both true b e f = f
-    both false b e f = e
 
     here : (q : Parts) → with_first p (length C.rows) (handle_in T old r.0).first q ≡ get same_taken new.firsts (taken r.0 q)
     here q =
         ap (λ n. cond (same_parts p q) (Some n) (get same_taken old.firsts (taken r.0 q))) (sym (number ∙ ap length s.rows))
-        ∙ ap (λ b. cond (b && same_parts p q) (Some first) (get same_taken old.firsts (taken r.0 q))) (sym (equal r.0)) ∙ sym (firsts (taken r.0 q))
+        ∙ ap (λ b. cond (b && same_parts p q) (Some first) (get same_taken old.firsts (taken r.0 q))) (sym (nat_eq-itself r.0)) ∙ sym (firsts (taken r.0 q))
 
     there : (m : ℕ) → (r.0 ≡ m → ⊥) → (q : Parts) → get same_taken old.firsts (taken m q) ≡ get same_taken new.firsts (taken m q)
-    there m other q = ap (λ b. cond (b && same_parts p q) (Some first) (get same_taken old.firsts (taken m q))) (sym (unequal r.0 m other)) ∙ sym (firsts (taken m q))
+    there m other q = ap (λ b. cond (b && same_parts p q) (Some first) (get same_taken old.firsts (taken m q))) (sym (ne_eqb r.0 m other)) ∙ sym (firsts (taken m q))
 
     by_name : (m : ℕ) → m < C.roots → (b : Bool) → bytes_eq (name_of T r) (name_of T (a_root m)) ≡ b
-        → cond b (Some (taking p (length C.rows) (handle_in T old r.0))) (C.handles (name_of T (a_root m))) ≡ Some (handle_in T new m)
+        → cond b (Some (taking_plan p (length C.rows) (handle_in T old r.0))) (C.handles (name_of T (a_root m))) ≡ Some (handle_in T new m)
     by_name m lt true e =
-        let same : r.0 ≡ m = distinct r.0 m (omega (arith, inside, few)) (omega (arith, lt, few)) (same_name (name_of T r) (name_of T (a_root m)) e) in
+        let same : r.0 ≡ m = distinct r.0 m (omega (arith, inside, few)) (omega (arith, lt, few)) (same_text (name_of T r) (name_of T (a_root m)) e) in
         (λ i. Some (record { root = r; dims = (info_of T r).dims; first = λ q. here q i })) ∙ ap (λ n. Some (handle_in T new n)) same
     by_name m lt false e =
         let other : r.0 ≡ m → ⊥ = λ same. false≢true (sym e ∙ ap (λ n. bytes_eq (name_of T r) (name_of T (a_root n))) (sym same) ∙ bytes_eq-itself (name_of T r)) in
@@ -134,7 +105,7 @@ lays_full T l C r p s inside none above =
 
 -- a root more, before it has taken a plan
 pub lays_root : (T : Table) (old new : Layout) (C : Cells) → Lays T old C → AreDistinct T.names → C.roots < length T.names → new.infos.items ≡ old.infos.items → new.firsts ≡ old.firsts → new.roots ≡ old.roots + 1
-    → Lays T new (with_root (name_of T (a_root C.roots)) (info_of T (a_root C.roots)).dims C)
+    → Lays T new (with_new_root (name_of T (a_root C.roots)) (info_of T (a_root C.roots)).dims C)
 lays_root T old new C s distinct few rows firsts roots = record {
   rows = rows ∙ s.rows;
   roots = roots ∙ ap (λ n. n + 1) s.roots;
@@ -146,7 +117,7 @@ lays_root T old new C s distinct few rows firsts roots = record {
     by_name : (m : ℕ) → m < C.roots + 1 → (b : Bool) → bytes_eq (name_of T (a_root C.roots)) (name_of T (a_root m)) ≡ b
         → cond b (Some (next_handle (info_of T (a_root C.roots)).dims C)) (C.handles (name_of T (a_root m))) ≡ Some (handle_in T new m)
     by_name m lt true e =
-        let same : C.roots ≡ m = distinct C.roots m few (omega (arith, lt, few)) (same_name (name_of T (a_root C.roots)) (name_of T (a_root m)) e) in
+        let same : C.roots ≡ m = distinct C.roots m few (omega (arith, lt, few)) (same_text (name_of T (a_root C.roots)) (name_of T (a_root m)) e) in
         (λ i. Some (record { root = a_root C.roots; dims = (info_of T (a_root C.roots)).dims; first = λ q. sym (s.fresh C.roots q (omega arith)) i })) ∙ (λ i. Some (record { root = a_root (same i); dims = (info_of T (a_root (same i))).dims; first = λ q. get same_taken (sym firsts i) (taken (same i) q) }))
     by_name m lt false e =
         let other : m ≡ C.roots → ⊥ = λ same. false≢true (sym e ∙ ap (λ n. bytes_eq (name_of T (a_root C.roots)) (name_of T (a_root n))) same ∙ bytes_eq-itself (name_of T (a_root C.roots))) in
@@ -160,9 +131,9 @@ lays_root T old new C s distinct few rows firsts roots = record {
 abbrev pub one_root_more : Layout → Layout
 one_root_more l = record { infos = l.infos; firsts = l.firsts; roots = l.roots + 1 }
 
-root_at : (T : Table) (old : Layout) (C : Cells) → Lays T old C → AreDistinct T.names → old.roots + 1 ≤ length T.names → Lays T (one_root_more old) (with_root (name_of T (a_root old.roots)) (info_of T (a_root old.roots)).dims C)
+root_at : (T : Table) (old : Layout) (C : Cells) → Lays T old C → AreDistinct T.names → old.roots + 1 ≤ length T.names → Lays T (one_root_more old) (with_new_root (name_of T (a_root old.roots)) (info_of T (a_root old.roots)).dims C)
 root_at T old C s distinct few =
-    subst (λ (n : ℕ). Lays T (one_root_more old) (with_root (name_of T (a_root n)) (info_of T (a_root n)).dims C)) (sym s.roots)
+    subst (λ (n : ℕ). Lays T (one_root_more old) (with_new_root (name_of T (a_root n)) (info_of T (a_root n)).dims C)) (sym s.roots)
     (lays_root T old (one_root_more old) C s distinct (omega (arith, s.roots, few)) refl refl refl)
 
 -- what the root's first plan leaves, is what the registration does
@@ -170,7 +141,7 @@ pub lays_register : (T : Table) (old new : Layout) (C : Cells) (info : RootInfo)
     → ((D : Cells) → Lays T (one_root_more old) D → old.roots < D.roots → AreDistinct T.names → D.roots ≤ length T.names → (info_of T (a_root old.roots)).dims ≡ info.dims → Lays T new (take (name_of T (a_root old.roots)) info.parts D) × (first_cell (take (name_of T (a_root old.roots)) info.parts D) (name_of T (a_root old.roots)) info.parts ≡ first) × (first + children_count info.parts ≤ length (take (name_of T (a_root old.roots)) info.parts D).rows))
     → Lays T new (cells_after (act_seen T old.roots (kept.Register init)) C) × (first_after (act_seen T old.roots (kept.Register init)) (cells_after (act_seen T old.roots (kept.Register init)) C) ≡ first) × (first + children_after (act_seen T old.roots (kept.Register init)) ≤ length (cells_after (act_seen T old.roots (kept.Register init)) C).rows)
 lays_register T old new C info init first s distinct few is takes =
-    let D = with_root (name_of T (a_root old.roots)) (info_of T (a_root old.roots)).dims C in
+    let D = with_new_root (name_of T (a_root old.roots)) (info_of T (a_root old.roots)).dims C in
     let h = takes D (root_at T old C s distinct few) (omega (arith, s.roots)) distinct (omega (arith, s.roots, few)) (ap (λ (x : RootInfo). x.dims) (sym is)) in
     subst (λ (x : RootInfo). Lays T new (take (name_of T (a_root old.roots)) x.parts D) × (first_cell (take (name_of T (a_root old.roots)) x.parts D) (name_of T (a_root old.roots)) x.parts ≡ first) × (first + children_count x.parts ≤ length (take (name_of T (a_root old.roots)) x.parts D).rows)) is h
 
@@ -178,21 +149,15 @@ pub full_register : (T : Table) (old : Layout) (C : Cells) (info : RootInfo) (in
     → ((D : Cells) → Lays T (one_root_more old) D → old.roots < D.roots → (info_of T (a_root old.roots)).dims ≡ info.dims → most < length (take (name_of T (a_root old.roots)) info.parts D).rows)
     → most < length (cells_after (act_seen T old.roots (kept.Register init)) C).rows
 full_register T old C info init s distinct few is full =
-    let D = with_root (name_of T (a_root old.roots)) (info_of T (a_root old.roots)).dims C in
+    let D = with_new_root (name_of T (a_root old.roots)) (info_of T (a_root old.roots)).dims C in
     subst (λ (x : RootInfo). most < length (take (name_of T (a_root old.roots)) x.parts D).rows) is (full D (root_at T old C s distinct few) (omega (arith, s.roots)) (ap (λ (x : RootInfo). x.dims) (sym is)))
 
 -- ---- partial copies
 
--- a cell that has its copies
-pub lays_copied : (T : Table) (l : Layout) (C : Cells) (c first : Cell) (workers : ℕ) → Lays T l C → (get_or l.infos.items c.0 no_cell).partials ≡ Some first → Lays T l (with_copies workers c C) × (first_copy C c ≡ first)
-lays_copied T l C c first workers s there =
-    let is : (info_at C c).partials ≡ Some first = ap (λ (is : List CellInfo). (get_or is c.0 no_cell).partials) (sym s.rows) ∙ there in
-    (by_copies workers c C (Lays T l) (λ f e. s) (λ e. absurd (none_isn't first (sym e ∙ is))), first-old C c first is)
-
 -- a cell that gets them
 pub lays_copies : (T : Table) (old new : Layout) (C : Cells) (c first : Cell) (workers : ℕ) → let i = get_or old.infos.items c.0 no_cell in Lays T old C → c.0 < length old.infos.items → i.partials ≡ None
     → new.infos.items ≡ set (old.infos.items ++ replicate workers i) c.0 (with_partials first i) → new.firsts ≡ old.firsts → new.roots ≡ old.roots → first.0 ≡ length old.infos.items
-    → Lays T new (with_copies workers c C) × (first_copy C c ≡ first)
+    → Lays T new (with_copies workers c C) × (first_partial C c ≡ first)
 lays_copies T old new C c first workers s there none rows firsts roots number = (
   by_copies workers c C (Lays T new) (λ f e. absurd (none_isn't f (sym none_here ∙ e))) (λ e. record {
     rows = rows ∙ set-append_left old.infos.items (replicate workers i) c.0 (with_partials first i) there ∙ (λ k. set (s.rows k) c.0 (with_partials (first_is k) (is k)) ++ replicate workers (plain k));
@@ -216,15 +181,8 @@ lays_copies T old new C c first workers s there none rows firsts roots number = 
     inside : c.0 < length C.rows
     inside = omega (arith, there, ap length s.rows)
 
-    first_is : first ≡ first_copy C c
+    first_is : first ≡ first_partial C c
     first_is = (λ k. let d : Cell = record { 0 = (number ∙ ap length s.rows) k } in d) ∙ sym (first-new C c none_here)
 
     plain : i ≡ copy_info (info_at C c)
     plain = (λ k. let j : CellInfo = record { root = i.root; dims = i.dims; partials = none k } in j) ∙ ap copy_info is
-
--- too many cells with them
-pub copies_full : (T : Table) (l : Layout) (C : Cells) (c : Cell) (workers : ℕ) → Lays T l C → c.0 < length l.infos.items → (get_or l.infos.items c.0 no_cell).partials ≡ None → most < length l.infos.items + workers → most < length (with_copies workers c C).rows
-copies_full T l C c workers s there none above =
-    let none_here : (info_at C c).partials ≡ None = ap (λ (is : List CellInfo). (get_or is c.0 no_cell).partials) (sym s.rows) ∙ none in
-    by_copies workers c C (λ (D : Cells). most < length D.rows) (λ f e. absurd (none_isn't f (sym none_here ∙ e)))
-    (λ e. omega (arith, copied-length workers c C e (omega (arith, there, ap length s.rows)), ap length s.rows, above))

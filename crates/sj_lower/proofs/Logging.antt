@@ -14,6 +14,9 @@ use Rattle.sj_base.specs.declared.mode.Reduction.TheVariants.{Plus, Least}
 use Rattle.sj_base.specs.declared.program.Lowered.{Lowered}
 use Rattle.sj_base.specs.declared.program.Program.{Program}
 use Rattle.sj_base.specs.Mode.{is_data, is_redux, is_scratch}
+use Rattle.sj_base.proofs.Numbers.{none_more, one_more, none_first}
+use Rattle.sj_base.proofs.SameIds.{same_cell-is, same_cell-itself}
+use Rattle.sj_base.proofs.Lists.{Contains-range}
 use Rattle.sj_codelet.specs.Kernel.{kernel_of, codelet_of, init_of, combine_of}
 use Rattle.sj_core.specs.Program.{data_operands, cell_info, same_cell}
 use Rattle.sj_core.specs.Operands.{copy_of}
@@ -24,7 +27,6 @@ use Rattle.sj_lower.specs.Cells.{copy_at}
 use Rattle.sj_lower.specs.Rows.{combine_row, combine_rows}
 use Rattle.sj_lower.specs.Lowering.{with_phase}
 use Rattle.sj_lower.proofs.Combined.{Phases}
-use Rattle.sj_lower.proofs.Contents.{same_cell-is, same_cell-itself}
 use Rattle.sj_lower.proofs.Folding.{Stand}
 use Rattle.sj_lower.proofs.Owning.{copy-is, is-copy}
 use Rattle.sj_lower.proofs.Stating.{phase-own, phase-other}
@@ -40,14 +42,8 @@ each-row p P n (l ∷ ls) s all m lo hi = elim (cases_lt n m) [
 
 pub row-range : (p : Program) (g : ℕ → Lowered) (a k n : ℕ) → Stand p n (map g (range_with_len a k)) → (w : ℕ) → w < k → task_number p (n + w) ≡ g (a + w)
 row-range p g a zero n s w h = absurd (omega (arith, h))
-row-range p g a (suc k) n s zero h = ap (task_number p) (no_more n) ∙ s.0 ∙ ap g (sym (no_more a))
-  where
-    no_more : (x : ℕ) → x + 0 ≡ x
-    no_more x = omega arith
+row-range p g a (suc k) n s zero h = ap (task_number p) (none_more n) ∙ s.0 ∙ ap g (sym (none_more a))
 row-range p g a (suc k) n s (suc w) h = ap (task_number p) (one_more n w) ∙ row-range p g (a + 1) k (n + 1) s.2 w (omega (arith, h)) ∙ ap g (sym (one_more a w))
-  where
-    one_more : (x w : ℕ) → x + suc w ≡ (x + 1) + w
-    one_more x w = omega arith
 
 -- ---- the log
 
@@ -162,12 +158,6 @@ log-beside p n k phases ls e stand away log = record {
 
 -- ---- lists of numbers
 
-in-range : (a n m : ℕ) → Contains (range_with_len a n) m → (a ≤ m) × (m < a + n)
-in-range a n m (k, l, e) =
-    let inside : k < n = omega (arith, l, length-range_with_len a n) in
-    let is = sym (get_or-range_with_len a n k m inside) ∙ e in
-    (omega (arith, is), omega (arith, is, inside))
-
 range-has : (a n m : ℕ) → a ≤ m → m < a + n → Contains (range_with_len a n) m
 range-has a n m lo hi = (m - a, omega (arith, lo, hi, length-range_with_len a n), get_or-range_with_len a n (m - a) m (omega (arith, lo, hi)) ∙ back)
   where
@@ -179,17 +169,10 @@ all-range P a n f k d h =
     let inside : k < n = omega (arith, h, length-range_with_len a n) in
     subst P (sym (get_or-range_with_len a n k d inside)) (f (a + k) (omega arith) (omega (arith, inside)))
 
-pub none_first : (x : ℕ) → 0 + x ≡ x
-none_first x = omega arith
-
 two-cases : {X : Type 0} (x y a : X) → Contains (x ∷ y ∷ []) a → (x ≡ a) ⊎ (y ≡ a)
 two-cases x y a (zero, l, e) = inl e
 two-cases x y a (suc zero, l, e) = inr e
 two-cases x y a (suc (suc k), l, e) = absurd (omega (arith, l))
-
-pub one-case : {X : Type 0} (x a : X) → Contains (x ∷ []) a → x ≡ a
-one-case x a (zero, l, e) = e
-one-case x a (suc k, l, e) = absurd (omega (arith, l))
 
 more-has : {X : Type 0} (x : X) (xs : List X) (y : X) → Contains xs y → Contains (x ∷ xs) y
 more-has x xs y (k, l, e) = (suc k, omega (arith, l), e)
@@ -266,10 +249,10 @@ module _ (p : Program) (n k : ℕ) (phases : Phases) (c : Cell) (f : OpenPhase) 
       order i j d before within = let x = at n i d (omega (arith, before, within)) in let y = at n j d within in omega (arith, x, y, before)
 
       begun_at : (m : ℕ) → IsOpenAt done m → log.start c ≤ m
-      begun_at m is_open = omega (arith, (in-range (log.start c) p.workers is_open.begun.0 is_open.begun.1).0, is_open.begun.2)
+      begun_at m is_open = omega (arith, (Contains-range (log.start c) p.workers is_open.begun.0 is_open.begun.1).0, is_open.begun.2)
 
       ended_at : (m : ℕ) → IsOpenAt done m → m < n + p.workers
-      ended_at m is_open = omega (arith, (in-range n p.workers is_open.unfinished.0 is_open.unfinished.1).1, is_open.unfinished.2)
+      ended_at m is_open = omega (arith, (Contains-range n p.workers is_open.unfinished.0 is_open.unfinished.1).1, is_open.unfinished.2)
 
       alone_at : (m : ℕ) (a : Access) → log.start c ≤ m → m < n + p.workers → Contains (data_operands (task_number p m)) a → Touches p c a → IsMember done m ⊎ IsFirstUnit p done m
       alone_at m a lo hi h touches = elim (cases_lt m n) [

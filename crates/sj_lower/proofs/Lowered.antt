@@ -2,7 +2,7 @@
 -- prints.
 use Rattle.std.proofs.Common.{◌≡◌, ℕ, ◌<◌, Bool, true, false, cond, not, ◌&&◌, Option, Some, None, List, [], ◌∷◌, ◌++◌, length, map as each_of, refl, sym, ap, subst, ◌∙◌, arith, append_assoc, fold}
 use Rattle.std.specs.List.{AllByRecursion, range_with_len, list_all, list_any, filter}
-use Rattle.std.proofs.lemmas.Bool.{false≢true, and_parts}
+use Rattle.std.proofs.lemmas.Bool.{false≢true, and_parts, or_parts, not-true}
 use Rattle.std.proofs.lemmas.List.{append-nil}
 use Rattle.std.proofs.lemmas.List.Elements.{All-from_recursion, All-get_or}
 use Rattle.sj_base.specs.declared.ids.Cell.{Cell}
@@ -19,11 +19,11 @@ use Rattle.sj_meaning.specs.Act.{Register as Registers, Plan as Plans, Redux as 
 use Rattle.sj_meaning.specs.State.{Root, State, root_of, is_valued_child, start}
 use Rattle.sj_meaning.specs.Meaning.{Printed, apply, prints, printed_from, printed, run_from}
 use Rattle.sj_meaning.specs.Sound.{has_child, has_child_values, reduction_of}
-use Rattle.sj_meaning.specs.Table.{Table, undivided}
+use Rattle.sj_meaning.specs.Table.{Table}
 use Rattle.sj_job.specs.Track.{number}
 use Rattle.sj_lower.specs.declared.phase.OpenPhase.{OpenPhase}
 use Rattle.sj_lower.specs.Cells.{Cells, same_parts, cell_of}
-use Rattle.sj_lower.specs.Lowering.{Lowering, nothing, parts_in, active_cell, active_cells, is_other_access, closed_by, all_closed, opened, opened_for, contributions, prepared, add_own, lower_one, lower_from, finished, lowered, turned, begun, extended}
+use Rattle.sj_lower.specs.Lowering.{Lowering, nothing, parts_in, active_cell, active_cells, is_other_access, closed_by, all_closed, opened, opened_for, contributions, prepared, add_own, lower_one, lower_from, finished, lowered, phase_turned, begun, extended}
 use Rattle.sj_lower.proofs.Able.{CanBe, AllCanBe}
 use Rattle.sj_lower.proofs.Agreeing.{IsShutBy, agrees_start}
 use Rattle.sj_lower.proofs.Closing.{begins-all_closed, all_closed-cells, all_closed-none, all_closed-own}
@@ -36,18 +36,19 @@ use Rattle.sj_lower.proofs.Logging.{logged-none}
 use Rattle.sj_lower.proofs.Operands.{IsRead, Contributes, contributes-there, all-before, each-before}
 use Rattle.sj_lower.proofs.Phasing.{each-worker}
 use Rattle.sj_lower.proofs.Places.{number-below, places-at, length-places}
-use Rattle.sj_lower.proofs.Running.{is_direct, IsClosed, child_there, child_values-are, active_cell-is, kernel_there, or_none}
+use Rattle.sj_lower.proofs.Running.{is_direct, IsClosed, child_there, child_values-are, active_cell-is, kernel_there}
 use Rattle.sj_lower.proofs.Stating.{Begins, begins-less, begins-own, Agrees}
 use Rattle.sj_lower.proofs.Whole.{IsReady, NamesAct, NamesAll, fine_own}
+use Rattle.sj_lower.proofs.Matching.{parts-of}
 
 -- ---- the program begins with each part of the lowering
 
 begins-opened : (p : Program) (by : Reduction) (v : Bool) (line : Line) (c : Cell) (L : Lowering) → Begins p (opened p.workers by v line c L) → Begins p L
 begins-opened p by v line c L = by_option (L.phase c)
   where
-    by_option : (o : Option OpenPhase) → Begins p (elim o as (λ _. Lowering) [ None ↦ begun p.workers by v line c L | Some f ↦ turned L.cells [] c (Some (extended f line)) L ]) → Begins p L
+    by_option : (o : Option OpenPhase) → Begins p (elim o as (λ _. Lowering) [ None ↦ begun p.workers by v line c L | Some f ↦ phase_turned L.cells [] c (Some (extended f line)) L ]) → Begins p L
     by_option None b = begins-less p L (begun p.workers by v line c L) _ (copies-more p.workers c L.cells) refl b
-    by_option (Some f) b = begins-less p L (turned L.cells [] c (Some (extended f line)) L) [] (grows-refl L.cells.rows) refl b
+    by_option (Some f) b = begins-less p L (phase_turned L.cells [] c (Some (extended f line)) L) [] (grows-refl L.cells.rows) refl b
 
 begins-opened_for : (p : Program) (S : State) (line : Line) (L : Lowering) (o : Operand (List ℕ)) → Begins p (opened_for p.workers S line L o) → Begins p L
 begins-opened_for p S line L o = by_option (reduction_of S o.name)
@@ -76,9 +77,6 @@ at-place P f s place all h =
     subst P (places-at f s place (record { 0 = 0 }) h)
     (All-get_or P (each_of f (places s)) (number s place) (record { 0 = 0 }) (omega (arith, length-places f s, number-below s place h)) (All-from_recursion P (each_of f (places s)) all))
 
-parts-are : (S : State) (name : List ℕ) (r : Root) → root_of S name ≡ Some r → parts_in S name ≡ r.parts
-parts-are S name r e = ap (λ (o : Option Root). elim o as (λ _. Parts) [ None ↦ undivided | Some r ↦ r.parts ]) e
-
 module _ (workers : ℕ) (L : Lowering) (S : State) where
   abbrev After : List Cell → Lowering
   After cs = all_closed workers cs L
@@ -87,10 +85,10 @@ module _ (workers : ℕ) (L : Lowering) (S : State) where
   active-shut name r place cs e is at =
       ap (λ (C : Cells). (After cs).phase (cell_of C name r.parts place)) (all_closed-cells workers cs L)
       ∙ ap (After cs).phase (sym (active_cell-is S L.cells name place r is))
-      ∙ at-place (λ (c : Cell). (After cs).phase c ≡ None) (active_cell S L.cells name) (parts_in S name) place (subst (λ (ds : List Cell). AllByRecursion (λ c. (After cs).phase c ≡ None) ds) e (all_closed-own workers cs L)) (subst (λ (x : Parts). IsPlace x place) (sym (parts-are S name r is)) at)
+      ∙ at-place (λ (c : Cell). (After cs).phase c ≡ None) (active_cell S L.cells name) (parts_in S name) place (subst (λ (ds : List Cell). AllByRecursion (λ c. (After cs).phase c ≡ None) ds) e (all_closed-own workers cs L)) (subst (λ (x : Parts). IsPlace x place) (sym (parts-of S name r is)) at)
 
   plan-shut : (name : List ℕ) (s : Parts) → IsShutBy (After (closed_by S L.cells (Plans name s))) S name s
-  plan-shut name s r place is at changed = active-shut name r place (closed_by S L.cells (Plans name s)) (ap (λ b. cond b [] (active_cells S L.cells name)) (ap (λ (x : Parts). same_parts x s) (parts-are S name r is) ∙ changed)) is at
+  plan-shut name s r place is at changed = active-shut name r place (closed_by S L.cells (Plans name s)) (ap (λ b. cond b [] (active_cells S L.cells name)) (ap (λ (x : Parts). same_parts x s) (parts-of S name r is) ∙ changed)) is at
 
   -- the operands that a task accesses otherwise than by a contribution
   operands-shut : (cs : List Cell) (os : List (Operand (List ℕ))) → AllByRecursion (λ c. (After cs).phase c ≡ None) (each_of (λ o. active_cell S L.cells o.name o.place) (filter is_other_access os)) → AllByRecursion (λ o. is_redux o.mode ≡ false → IsClosed (After cs).phase S L.cells o) os
@@ -110,7 +108,7 @@ module _ (workers : ℕ) (L : Lowering) (S : State) where
 none-redux : (os : List (Operand (List ℕ))) → list_any (λ o. is_redux o.mode) os ≡ false → (list_all (λ o. is_direct o.mode) os ≡ true) × (filter (λ o. is_redux o.mode) os ≡ [])
 none-redux [] e = (refl, refl)
 none-redux (o ∷ os) e =
-    let x = or_none (is_redux o.mode) (list_any (λ o. is_redux o.mode) os) e in
+    let x = or_parts (is_redux o.mode) (list_any (λ o. is_redux o.mode) os) e in
     let r = none-redux os x.1 in
     (ap (λ b. not b && list_all (λ o. is_direct o.mode) os) x.0 ∙ r.0, ap (λ b. cond b (o ∷ filter (λ o. is_redux o.mode) os) (filter (λ o. is_redux o.mode) os)) x.0 ∙ r.1)
 
@@ -118,11 +116,7 @@ direct-closed : (P : Operand (List ℕ) → Type 0) (os : List (Operand (List �
 direct-closed P [] d h = tt
 direct-closed P (o ∷ os) d h =
     let x = and_parts (is_direct o.mode) (list_all (λ o. is_direct o.mode) os) d in
-    (h.0 (unnot (is_redux o.mode) x.0), direct-closed P os x.1 h.1)
-  where
-    unnot : (b : Bool) → not b ≡ true → b ≡ false
-    unnot true e = absurd (false≢true e)
-    unnot false e = refl
+    (h.0 (not-true (is_redux o.mode) x.0), direct-closed P os x.1 h.1)
 
 -- ---- one statement
 

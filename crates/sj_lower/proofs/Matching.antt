@@ -1,9 +1,9 @@
 -- What comes before a statement's own tasks, by the code's active plans, is what the definition says.
-use Rattle.std.proofs.Common.{◌≡◌, ℕ, ◌+◌, ◌<◌, ◌≤◌, Bool, true, false, cond, ◌&&◌, Option, Some, None, List, [], ◌∷◌, ◌++◌, map, filter, length, take, drop, get_or, unwrap_or, refl, sym, ap, subst, ◌∙◌, arith, fold, All}
+use Rattle.std.proofs.Common.{◌≡◌, ℕ, ◌+◌, ◌<◌, ◌≤◌, Bool, true, false, cond, ◌&&◌, Option, Some, None, List, [], ◌∷◌, ◌++◌, map, filter, length, take, drop, get_or, refl, sym, ap, subst, ◌∙◌, arith, fold, All}
 use Rattle.std.specs.List.{AllByRecursion, list_all}
 use Rattle.std.specs.Option.{is_some}
 use Rattle.std.proofs.lemmas.Bool.{and_parts}
-use Rattle.std.proofs.lemmas.List.{take_more, take_all, take-append-drop}
+use Rattle.std.proofs.lemmas.List.{take_more, take-append-drop, append-nil}
 use Rattle.std.proofs.lemmas.List.Elements.{All-head, All-tail, filter-append}
 use Rattle.sj_base.specs.declared.ids.Cell.{Cell}
 use Rattle.sj_base.specs.declared.ids.Line.{Line}
@@ -24,16 +24,16 @@ use Rattle.sj_job.specs.Track.{is_set}
 use Rattle.sj_meaning.specs.View.{operand_seen, act_seen, IsPlaced}
 use Rattle.sj_job.proofs.Children.{child-valued}
 use Rattle.sj_lower.specs.declared.lowerer.Active.{Active}
-use Rattle.sj_lower.specs.Cells.{Cells, Handle, same_parts, first_cell, cells_from}
+use Rattle.sj_lower.specs.Cells.{Cells, Handle, same_parts, cells_from}
 use Rattle.sj_lower.specs.Limits.{cells_in, tasks_in}
 use Rattle.sj_lower.specs.Lowering.{Lowering, active_cell, active_cells, parts_in, closed_by, all_closed, is_other_access, contributions, opened, opened_for, prepared}
 use Rattle.sj_lower.specs.Seen.{AreActive, IsActive, active_at}
 use Rattle.sj_lower.specs.Progress.{is_other, is_contributed, cells_by, cell_by, closing_by, opening_for, opening_all, contributed_by, preparing_by}
 use Rattle.sj_lower.proofs.Closing.{all_closed-cells}
 use Rattle.sj_lower.proofs.Naming.{SameNames, opened-names}
-use Rattle.sj_lower.proofs.Preparing.{all_closed-more}
 use Rattle.sj_lower.proofs.Preparations.{opened-more}
 use Rattle.sj_lower.proofs.Running.{child_there, root_there, valued_there, active_cell-is}
+use Rattle.sj_lower.proofs.Following.{active-first}
 
 -- ---- lists
 
@@ -46,14 +46,7 @@ pub filter-passed : {X : Type 0} (f : X → Bool) (xs : List X) (i : ℕ) (x : X
 filter-passed f xs i x below is passes = filter-more f xs i x below is ∙ ap (λ b. filter f (take i xs) ++ cond b (x ∷ []) []) passes
 
 pub filter-left : {X : Type 0} (f : X → Bool) (xs : List X) (i : ℕ) (x : X) → i < length xs → x ≡ get_or xs i x → f x ≡ false → filter f (take (i + 1) xs) ≡ filter f (take i xs)
-filter-left f xs i x below is fails = filter-more f xs i x below is ∙ ap (λ b. filter f (take i xs) ++ cond b (x ∷ []) []) fails ∙ nil (filter f (take i xs))
-  where
-    nil : {X : Type 0} (ys : List X) → ys ++ [] ≡ ys
-    nil [] = refl
-    nil (y ∷ ys) = ap (λ zs. y ∷ zs) (nil ys)
-
-pub filter-whole : {X : Type 0} (f : X → Bool) (xs : List X) (i : ℕ) → length xs ≤ i → filter f (take i xs) ≡ filter f xs
-filter-whole f xs i past = ap (filter f) (take_all i xs past)
+filter-left f xs i x below is fails = filter-more f xs i x below is ∙ ap (λ b. filter f (take i xs) ++ cond b (x ∷ []) []) fails ∙ append-nil (filter f (take i xs))
 
 pub filter-parts : {X : Type 0} (f : X → Bool) (xs : List X) (i : ℕ) → filter f xs ≡ filter f (take i xs) ++ filter f (drop i xs)
 filter-parts f xs i = ap (filter f) (sym (take-append-drop i xs)) ∙ filter-append f (take i xs) (drop i xs)
@@ -93,17 +86,13 @@ pub record IsKnownAs (T : Table) (C : Cells) (as' : List Active) (S : State) (r 
 abbrev known-as : (T : Table) (C : Cells) (as' : List Active) (S : State) (r : RootNumber) → AreActive T C as' S → r.0 < C.roots → (root : Root) → root_of S (name_of T r) ≡ Some root → IsKnownAs T C as' S r
 known-as T C as' S r g lt root e = record { root = root; is_root = e; active = g.each r.0 root lt e }
 
-first-is : (T : Table) (C : Cells) (n : ℕ) (a : Active) (r : Root) → IsActive T C n a r → first_cell C (name_of T (a_root n)) r.parts ≡ a.first
-first-is T C n a r h =
-    ap (λ (o : Option Handle). elim o as (λ _. ℕ) [ None ↦ 0 | Some h ↦ unwrap_or (h.first r.parts) 0 ]) h.named ∙ ap (λ o. unwrap_or o 0) h.taken
-
-parts-of : (S : State) (name : List ℕ) (r : Root) → root_of S name ≡ Some r → parts_in S name ≡ r.parts
+pub parts-of : (S : State) (name : List ℕ) (r : Root) → root_of S name ≡ Some r → parts_in S name ≡ r.parts
 parts-of S name r e = ap (λ (o : Option Root). elim o as (λ _. Parts) [ None ↦ undivided | Some r ↦ r.parts ]) e
 
 cell-is : (T : Table) (C : Cells) (as' : List Active) (S : State) (r : RootNumber) (place : ℕ × ℕ) → (k : IsKnownAs T C as' S r) → active_cell S C (name_of T r) place ≡ cells_from (active_at as' r.0).first (active_at as' r.0).tracked.parts place
 cell-is T C as' S r place k =
     active_cell-is S C (name_of T r) place k.root k.is_root
-    ∙ (λ i. cells_from (first-is T C r.0 (active_at as' r.0) k.root k.active i) (sym k.active.tracks.parts i) place)
+    ∙ (λ i. cells_from (active-first T C r.0 (active_at as' r.0) k.root k.active i) (sym k.active.tracks.parts i) place)
 
 cells-are : (T : Table) (C : Cells) (as' : List Active) (S : State) (r : RootNumber) → (k : IsKnownAs T C as' S r) → active_cells S C (name_of T r) ≡ cells_by (active_at as' r.0)
 cells-are T C as' S r k =
@@ -232,9 +221,3 @@ preparing-is has T as' S workers line a L g placed sound =
     let cells = all_closed-cells workers (closing_by as' a) L in
     ap (λ (cs : List Cell). fold (opened_for workers S line) (all_closed workers cs L) (contributions (act_seen T n a))) same
     ∙ opening-acts has T n as' S workers line a M (ap (λ (C : Cells). C.roots) cells) (subst (λ (C : Cells). AreActive T C as' S) (sym cells) g) placed sound
-
-pub preparing-more : (workers : ℕ) (as' : List Active) (line : Line) (a : Kept) (L : Lowering) → (tasks_in L ≤ tasks_in (preparing_by workers as' line a L)) × (cells_in L ≤ cells_in (preparing_by workers as' line a L))
-preparing-more workers as' line a L =
-    let M = all_closed workers (closing_by as' a) L in
-    let more = opening_all-more workers as' line (contributed_by a) M in
-    (omega (arith, all_closed-more workers (closing_by as' a) L, more.0), omega (arith, more.1, ap (λ (C : Cells). length C.rows) (all_closed-cells workers (closing_by as' a) L)))

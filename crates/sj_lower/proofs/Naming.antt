@@ -11,6 +11,7 @@ use Rattle.sj_codelet.specs.declared.kernel.Kernel.{Kernel}
 use Rattle.sj_plan.specs.declared.parts.Parts.{Parts}
 use Rattle.sj_plan.specs.Parts.{Fits, places}
 use Rattle.std.specs.Option.{is_some}
+use Rattle.std.proofs.lemmas.Option.{same_Some}
 use Rattle.sj_meaning.specs.declared.job.Kind.{Kind}
 use Rattle.sj_meaning.specs.declared.job.Act.{Act as KeptAct}
 use Rattle.sj_meaning.specs.declared.job.Act.TheVariants as kept
@@ -21,20 +22,21 @@ use Rattle.sj_meaning.specs.View.{registration, task_seen, act_seen, statement_s
 use Rattle.sj_meaning.specs.State.{Root, State, root_of, start}
 use Rattle.sj_meaning.specs.Meaning.{registered_root, register, change, with_parts, with_elements, with_reduction, with_child, no_values, reduce, plan, invalidate, unregister, put, put_all, written_of, run_task, apply}
 use Rattle.sj_meaning.proofs.Views.{count-grows, counts-grow}
-use Rattle.sj_lower.specs.Cells.{Cells, Handle, with_handle, taking, child_cell, take_by, take, next_handle, with_root}
-use Rattle.sj_lower.specs.Lowering.{Lowering, nothing, cells_after, active_cell, closed_by, all_closed, contributions, extended, turned, begun, opened, opened_for, prepared, lower_one}
+use Rattle.sj_lower.specs.Cells.{Cells, Handle, with_handle, taking_plan, child_cell, take_by, take, next_handle, with_new_root}
+use Rattle.sj_lower.specs.Lowering.{Lowering, nothing, cells_after, active_cell, closed_by, all_closed, contributions, extended, phase_turned, begun, opened, opened_for, prepared, lower_one}
 use Rattle.sj_lower.specs.Delivering.{printed_as}
 use Rattle.sj_lower.specs.Seen.{IsCut}
 use Rattle.sj_base.specs.declared.ids.Cell.{Cell}
 use Rattle.sj_base.specs.declared.ids.Line.{Line}
 use Rattle.sj_base.specs.declared.mode.Reduction.{Reduction}
+use Rattle.sj_base.proofs.Texts.{same_text}
 use Rattle.sj_meaning.specs.Act.{Statement}
 use Rattle.sj_meaning.specs.Sound.{IsSoundAct, has_child_values, reduction_of}
 use Rattle.sj_lower.specs.declared.phase.OpenPhase.{OpenPhase}
 use Rattle.sj_lower.proofs.Closing.{all_closed-cells}
 use Rattle.sj_lower.proofs.Copies.{by_copies}
 use Rattle.sj_meaning.proofs.Finding.{get-put, get-gone, root-change}
-use Rattle.sj_lower.proofs.Laid.{same_name, bytes_eq-itself, some_is, take-roots}
+use Rattle.sj_lower.proofs.Laid.{bytes_eq-itself, take-roots}
 use Rattle.sj_lower.proofs.Whole.{NamesAct, NamesAll}
 
 -- ---- kinds
@@ -50,7 +52,7 @@ changed_kinds : (f : Root → Root) (name : List ℕ) (S : State) (q : List ℕ)
 changed_kinds f name S q keeps = by_root (root_of S name) refl
   where
     by_name : (r : Root) → root_of S name ≡ Some r → (b : Bool) → bytes_eq name q ≡ b → kind_by (cond b (Some (f r)) (root_of S q)) ≡ kind_by (root_of S q)
-    by_name r e true t = ap Some (keeps r) ∙ sym (ap kind_by (ap (root_of S) (sym (same_name name q t)) ∙ e))
+    by_name r e true t = ap Some (keeps r) ∙ sym (ap kind_by (ap (root_of S) (sym (same_text name q t)) ∙ e))
     by_name r e false t = refl
 
     by_root : (o : Option Root) → root_of S name ≡ o → kind_by (root_of (change f name S) q) ≡ kind_by (root_of S q)
@@ -82,7 +84,7 @@ Knows T n S = (q : List ℕ) (r : Root) → root_of S q ≡ Some r → HasNumber
 
 kind_from : (T : Table) (n : ℕ) (q : List ℕ) (r : Root) (o : Option Root) → kind_by (Some r) ≡ kind_by o → ((s : Root) → o ≡ Some s → HasNumber T n q (traits s)) → HasNumber T n q (traits r)
 kind_from T n q r None e h = absurd (cc)
-kind_from T n q r (Some s) e h = let same : traits r ≡ traits s = some_is (traits r) (traits s) e in subst (HasNumber T n q) (sym same) (h s refl)
+kind_from T n q r (Some s) e h = let same : traits r ≡ traits s = same_Some (traits r) (traits s) e in subst (HasNumber T n q) (sym same) (h s refl)
 
 -- a state with the same kinds
 knows_kept : (T : Table) (n : ℕ) (S new : State) → ((q : List ℕ) → kind_by (root_of new q) ≡ kind_by (root_of S q)) → Knows T n S → Knows T n new
@@ -97,7 +99,7 @@ knows_registered T n S r en ek ed k q s h = by_test (bytes_eq r.name q) refl (sy
     by_test : (b : Bool) → bytes_eq r.name q ≡ b → cond b (Some (registered_root r)) (root_of S q) ≡ Some s → HasNumber T (n + 1) q (traits s)
     by_test true t e =
         let same : registered_root r ≡ s = cc in
-        record { number = n; below = omega arith; named = en ∙ same_name r.name q t; kind = ek ∙ ap (λ (x : Root). x.kind) same; dims = ed ∙ ap (λ (x : Root). x.dims) same }
+        record { number = n; below = omega arith; named = en ∙ same_text r.name q t; kind = ek ∙ ap (λ (x : Root). x.kind) same; dims = ed ∙ ap (λ (x : Root). x.dims) same }
     by_test false t e = later T n q (traits s) (k q s e)
 
 knows_ended : (T : Table) (n : ℕ) (S : State) (name : List ℕ) → Knows T n S → Knows T n (unregister name S)
@@ -126,37 +128,37 @@ handles_taken T n C name p has i lt = by_handle (C.handles name) refl
 
     by_first : (g : Handle) → C.handles name ≡ Some g → (b : Bool) → (h : Handle) × ((cond b C (record {
       rows = C.rows ++ each_of (child_cell g.root g.dims p) (places p);
-      handles = with_handle name (taking p (length C.rows) g) C.handles;
+      handles = with_handle name (taking_plan p (length C.rows) g) C.handles;
       roots = C.roots;
     })).handles (name_of T (a_root i)) ≡ Some h) × IsHandle T i h
     by_first g e true = old
     by_first g e false = by_name (bytes_eq name (name_of T (a_root i))) refl
       where
-        by_name : (b : Bool) → bytes_eq name (name_of T (a_root i)) ≡ b → (h : Handle) × (cond b (Some (taking p (length C.rows) g)) (C.handles (name_of T (a_root i))) ≡ Some h) × IsHandle T i h
+        by_name : (b : Bool) → bytes_eq name (name_of T (a_root i)) ≡ b → (h : Handle) × (cond b (Some (taking_plan p (length C.rows) g)) (C.handles (name_of T (a_root i))) ≡ Some h) × IsHandle T i h
         by_name true t =
-            let same : g ≡ old.0 = some_is g old.0 (sym e ∙ ap C.handles (same_name name (name_of T (a_root i)) t) ∙ old.1) in
-            (taking p (length C.rows) g, refl, record { root = ap (λ (h : Handle). h.root) same ∙ old.2.root; dims = ap (λ (h : Handle). h.dims) same ∙ old.2.dims })
+            let same : g ≡ old.0 = same_Some g old.0 (sym e ∙ ap C.handles (same_text name (name_of T (a_root i)) t) ∙ old.1) in
+            (taking_plan p (length C.rows) g, refl, record { root = ap (λ (h : Handle). h.root) same ∙ old.2.root; dims = ap (λ (h : Handle). h.dims) same ∙ old.2.dims })
         by_name false t = old
 
     by_handle : (o : Option Handle) → C.handles name ≡ o → (h : Handle) × ((elim o as (λ _. Cells) [ None ↦ C | Some h ↦ take_by name p h C ]).handles (name_of T (a_root i)) ≡ Some h) × IsHandle T i h
     by_handle None e = old
     by_handle (Some g) e = by_first g e (is_some (g.first p))
 
-handles_rooted : (T : Table) (n : ℕ) (C : Cells) → AreDistinct T.names → n < length T.names → C.roots ≡ n → HasHandles T n C → HasHandles T (n + 1) (with_root (name_of T (a_root n)) (info_of T (a_root n)).dims C)
+handles_rooted : (T : Table) (n : ℕ) (C : Cells) → AreDistinct T.names → n < length T.names → C.roots ≡ n → HasHandles T n C → HasHandles T (n + 1) (with_new_root (name_of T (a_root n)) (info_of T (a_root n)).dims C)
 handles_rooted T n C d few count has i lt =
     elim (cases_lt i n) [
       | inl inside ↦ by_test inside (bytes_eq (name_of T (a_root n)) (name_of T (a_root i))) refl
-      | inr past ↦ (let same : i ≡ n = omega arith in subst (λ (m : ℕ). (h : Handle) × ((with_root (name_of T (a_root n)) (info_of T (a_root n)).dims C).handles (name_of T (a_root m)) ≡ Some h) × IsHandle T m h) (sym same) here)
+      | inr past ↦ (let same : i ≡ n = omega arith in subst (λ (m : ℕ). (h : Handle) × ((with_new_root (name_of T (a_root n)) (info_of T (a_root n)).dims C).handles (name_of T (a_root m)) ≡ Some h) × IsHandle T m h) (sym same) here)
     ]
   where
     new : Handle
     new = next_handle (info_of T (a_root n)).dims C
 
-    here : (h : Handle) × ((with_root (name_of T (a_root n)) (info_of T (a_root n)).dims C).handles (name_of T (a_root n)) ≡ Some h) × IsHandle T n h
+    here : (h : Handle) × ((with_new_root (name_of T (a_root n)) (info_of T (a_root n)).dims C).handles (name_of T (a_root n)) ≡ Some h) × IsHandle T n h
     here = (new, ap (λ b. cond b (Some new) (C.handles (name_of T (a_root n)))) (bytes_eq-itself (name_of T (a_root n))), record { root = ap a_root count; dims = refl })
 
     by_test : i < n → (b : Bool) → bytes_eq (name_of T (a_root n)) (name_of T (a_root i)) ≡ b → (h : Handle) × (cond b (Some new) (C.handles (name_of T (a_root i))) ≡ Some h) × IsHandle T i h
-    by_test inside true e = absurd (let same : n ≡ i = d n i few (omega (arith, few, inside)) (same_name (name_of T (a_root n)) (name_of T (a_root i)) e) in omega (arith, same, inside))
+    by_test inside true e = absurd (let same : n ≡ i = d n i few (omega (arith, few, inside)) (same_text (name_of T (a_root n)) (name_of T (a_root i)) e) in omega (arith, same, inside))
     by_test inside false e = has i inside
 
 -- ---- statement by statement
@@ -169,7 +171,7 @@ pub record AreNumbered (T : Table) (n : ℕ) (C : Cells) (S : State) : Type 0 wh
 pub numbered-act : (T : Table) (n : ℕ) (C : Cells) (S : State) (a : KeptAct) → AreDistinct T.names → count_after n a ≤ length T.names → AreNumbered T n C S → AreNumbered T (count_after n a) (cells_after (act_seen T n a) C) (apply (act_seen T n a) S)
 numbered-act T n C S (kept.Register init) d few t =
     let r = registration (name_of T (a_root n)) (info_of T (a_root n)) init in
-    let D = with_root r.name r.dims C in
+    let D = with_new_root r.name r.dims C in
     record {
       handles = handles_taken T (n + 1) D r.name r.parts (handles_rooted T n C d (omega (arith, few)) t.roots t.handles);
       roots = take-roots D r.name r.parts ∙ ap (λ m. m + 1) t.roots;
@@ -193,7 +195,7 @@ names_act T n C S (kept.Redux r by) d few placed t = tt
 names_act T n C S (kept.Task task) d few placed t = tt
 names_act T n C S (kept.Print r) d few placed t = λ h root there is.
     let own = t.handles r.0 placed in
-    let same : own.0 ≡ h = some_is own.0 h (sym own.1 ∙ there) in
+    let same : own.0 ≡ h = same_Some own.0 h (sym own.1 ∙ there) in
     let number : h.root ≡ r = sym (ap (λ (h : Handle). h.root) same) ∙ own.2.root in
     let k = t.knows (name_of T r) root is in
     let one : k.number ≡ r.0 = d k.number r.0 (omega (arith, k.below, few)) (omega (arith, placed, few)) k.named in
@@ -219,7 +221,7 @@ numbered-same T n C D S same t = record {
 pub opened-names : (workers : ℕ) (by : Reduction) (v : Bool) (line : Line) (c : Cell) (L : Lowering) → SameNames L.cells (opened workers by v line c L).cells
 opened-names workers by v line c L = by_option (L.phase c)
   where
-    by_option : (o : Option OpenPhase) → SameNames L.cells (elim o as (λ _. Lowering) [ None ↦ begun workers by v line c L | Some f ↦ turned L.cells [] c (Some (extended f line)) L ]).cells
+    by_option : (o : Option OpenPhase) → SameNames L.cells (elim o as (λ _. Lowering) [ None ↦ begun workers by v line c L | Some f ↦ phase_turned L.cells [] c (Some (extended f line)) L ]).cells
     by_option None = (by_copies workers c L.cells (λ (D : Cells). D.handles ≡ L.cells.handles) (λ f e. refl) (λ e. refl), by_copies workers c L.cells (λ (D : Cells). D.roots ≡ L.cells.roots) (λ f e. refl) (λ e. refl))
     by_option (Some f) = (refl, refl)
 

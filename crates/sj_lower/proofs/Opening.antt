@@ -2,6 +2,7 @@
 use Rattle.std.proofs.Common.{◌≡◌, ℕ, ◌+◌, ◌<◌, ◌≤◌, Bool, true, false, cond, Option, Some, None, List, [], ◌∷◌, ◌++◌, length, refl, sym, ap, subst, ◌∙◌, arith, length-append}
 use Rattle.std.specs.List.{AllByRecursion}
 use Rattle.std.proofs.lemmas.List.{append-nil}
+use Rattle.std.proofs.lemmas.Option.{same_Some}
 use Rattle.sj_base.specs.declared.ids.Cell.{Cell}
 use Rattle.sj_base.specs.declared.ids.Line.{Line}
 use Rattle.sj_base.specs.declared.mode.Reduction.{Reduction}
@@ -9,6 +10,8 @@ use Rattle.sj_base.specs.declared.program.CellInfo.{CellInfo}
 use Rattle.sj_base.specs.declared.program.Lowered.{Lowered}
 use Rattle.sj_base.specs.declared.program.Program.{Program}
 use Rattle.sj_base.specs.Array.{Array, zeros}
+use Rattle.sj_base.proofs.SameIds.{cell_of_number}
+use Rattle.sj_base.specs.Ids.{task}
 use Rattle.sj_codelet.specs.Laws.{IsReduction, IsTile, combined, unit_of}
 use Rattle.sj_core.specs.Program.{same_cell, dims_of}
 use Rattle.sj_core.specs.Proper.{HasValueBefore}
@@ -20,14 +23,14 @@ use Rattle.sj_plan.specs.Rect.{child, dims_of as rect_dims}
 use Rattle.sj_meaning.specs.State.{Root, State, root_of, child_rect, is_valued_child}
 use Rattle.sj_meaning.specs.Meaning.{child_array, child_unit, contributed_to}
 use Rattle.sj_lower.specs.declared.phase.OpenPhase.{OpenPhase}
-use Rattle.sj_lower.specs.Cells.{Cells, cell_of, info_at, copy_at, first_copy, with_copies}
-use Rattle.sj_lower.specs.Lowering.{Lowering, with_phase, turned, begin_rows, begun, opened, extended}
+use Rattle.sj_lower.specs.Cells.{Cells, cell_of, info_at, copy_at, first_partial, with_copies}
+use Rattle.sj_lower.specs.Lowering.{Lowering, with_phase, phase_turned, begin_rows, begun, opened, extended}
 use Rattle.sj_lower.proofs.Combined.{IsTrusted, with_all, all_workers, denoted-closed, denoted-open}
-use Rattle.sj_lower.proofs.Contents.{task_at, contents_before}
+use Rattle.sj_lower.proofs.Contents.{contents_before}
 use Rattle.sj_lower.proofs.Copies.{HaveCopies, IsNoCopy, copies-grow, copies-copied, laid-copied, copied-first, copied-handles}
 use Rattle.sj_lower.proofs.Folding.{Stand, after_rows, contents-rows, one_gives, given-rows, later}
 use Rattle.sj_lower.proofs.Holding.{IsHeld, HasRoot, HaveTheirs, differs, cell-dims}
-use Rattle.sj_lower.proofs.Laid.{AreLaid, IsTaken, none_isn't, some_is, cell-is, cell-inside}
+use Rattle.sj_lower.proofs.Laid.{AreLaid, IsTaken, none_isn't, cell-is, cell-inside}
 use Rattle.sj_lower.proofs.Phasing.{IsBeside, begin-copies, begin-own, begin-valued, begin-others, begin-gives, begin-gives_own, each-of_all}
 use Rattle.sj_lower.proofs.Stating.{Begins, stands-more, Agrees, phase-own, phase-other, by_cell}
 
@@ -42,8 +45,8 @@ pub record IsOpened (p : Program) (L M : Lowering) (c : Cell) (by : Reduction) (
   pub theirs : HaveTheirs p.workers M.cells M.phase
   pub later : length L.tasks ≤ length M.tasks
   pub kept : (d : Cell) → same_cell c d ≡ false → IsBeside p f.copies d → held_in p (contents_before p (length M.tasks)) d ≡ held_in p (contents_before p (length L.tasks)) d
-  pub given : HasValueBefore p (task_at (length M.tasks)) c
-  pub copies_given : (w : ℕ) → w < p.workers → HasValueBefore p (task_at (length M.tasks)) (copy_at f.copies w)
+  pub given : HasValueBefore p (task (length M.tasks)) c
+  pub copies_given : (w : ℕ) → w < p.workers → HasValueBefore p (task (length M.tasks)) (copy_at f.copies w)
   pub value : IsTrusted p → IsReduction f.by → AreSized p (contents_before p (length M.tasks)) → with_all p (contents_before p (length M.tasks)) f (all_workers p) (held_in p (contents_before p (length M.tasks)) c) ≡ x
 
 -- what is combined from units alone
@@ -74,7 +77,7 @@ module _ (p : Program) (L : Lowering) (S : State) (g : Agrees p L S) (name : Lis
   -- ---- the phase goes on
 
   abbrev pub Longer : OpenPhase → Lowering
-  Longer f = turned L.cells [] c (Some (extended f line)) L
+  Longer f = phase_turned L.cells [] c (Some (extended f line)) L
 
   no_more : contents_before p (length (L.tasks ++ [])) ≡ contents_before p (length L.tasks)
   no_more = ap (λ (ts : List Lowered). contents_before p (length ts)) (append-nil L.tasks)
@@ -86,14 +89,14 @@ module _ (p : Program) (L : Lowering) (S : State) (g : Agrees p L S) (name : Lis
       record {
         f = extended f line;
         is = phase-own c (Some (extended f line)) L.phase;
-        of = some_is f.by by (sym (b.reduced place f own.placed (ap L.phase (sym own.cell) ∙ is)) ∙ reduction);
+        of = same_Some f.by by (sym (b.reduced place f own.placed (ap L.phase (sym own.cell) ∙ is)) ∙ reduction);
         others = λ d e. phase-other c (Some (extended f line)) L.phase d e;
         handles = refl;
         laid = g.laid;
         theirs = record {
           copies = g.theirs.copies;
           theirs = λ d j e. by_cell (λ d. with_phase c (Some (extended f line)) L.phase d ≡ Some j → (info_at L.cells d).partials ≡ Some j.copies) c d
-              (λ k. g.theirs.theirs c f is ∙ ap (λ (x : OpenPhase). Some x.copies) (some_is (extended f line) j (sym (phase-own c (Some (extended f line)) L.phase) ∙ k)))
+              (λ k. g.theirs.theirs c f is ∙ ap (λ (x : OpenPhase). Some x.copies) (same_Some (extended f line) j (sym (phase-own c (Some (extended f line)) L.phase) ∙ k)))
               (λ other k. g.theirs.theirs _ j (sym (phase-other c (Some (extended f line)) L.phase _ other) ∙ k)) e;
         };
         later = omega (arith, length-append L.tasks []);
@@ -110,7 +113,7 @@ module _ (p : Program) (L : Lowering) (S : State) (g : Agrees p L S) (name : Lis
   New = begun p.workers by (is_valued_child root place) line c L
 
   abbrev first : Cell
-  first = first_copy L.cells c
+  first = first_partial L.cells c
 
   abbrev new : OpenPhase
   new = record { by = by; copies = first; line = line }
@@ -151,21 +154,18 @@ module _ (p : Program) (L : Lowering) (S : State) (g : Agrees p L S) (name : Lis
     stand : Stand p (length L.tasks) ls
     stand = stands-more p L New ls refl begins
 
-    given_after : (d : Cell) → HasValueBefore p (task_at (length L.tasks + length ls)) d → HasValueBefore p (task_at now) d
-    given_after d h = subst (λ (m : ℕ). HasValueBefore p (task_at m) d) (sym longer) h
+    given_after : (d : Cell) → HasValueBefore p (task (length L.tasks + length ls)) d → HasValueBefore p (task now) d
+    given_after d h = subst (λ (m : ℕ). HasValueBefore p (task m) d) (sym longer) h
 
-    given_own : (v : Bool) → is_valued_child root place ≡ v → HasValueBefore p (task_at now) c
-    given_own true e = later p (length L.tasks) now c (omega (arith, longer)) (subst (λ (d : Cell). HasValueBefore p (task_at (length L.tasks)) d) (sym own.cell) (b.held place own.placed e).given)
+    given_own : (v : Bool) → is_valued_child root place ≡ v → HasValueBefore p (task now) c
+    given_own true e = later p (length L.tasks) now c (omega (arith, longer)) (subst (λ (d : Cell). HasValueBefore p (task (length L.tasks)) d) (sym own.cell) (b.held place own.placed e).given)
     given_own false e = given_after c (given-rows p (length L.tasks) ls c stand (subst (λ v. one_gives (begin_rows by first c v p.workers line) c ≡ true) (sym e) (begin-gives_own by first c p.workers line)))
 
     size : dims_of p c ≡ rect_dims (child root.dims root.parts place)
     size = ap (dims_of p) own.cell ∙ ap (dims_of p) same ∙ cell-dims p (with_copies p.workers c L.cells) name root.dims root.parts b.first place begins.cells (laid-copied p.workers c L.cells inside g.laid) taken_after own.placed
       where
         same : cell_of L.cells name root.parts place ≡ cell_of (with_copies p.workers c L.cells) name root.parts place
-        same = one_cell (cell_of L.cells name root.parts place) (cell_of (with_copies p.workers c L.cells) name root.parts place) (cell-is L.cells name root.dims root.parts b.first place b.taken ∙ sym (cell-is (with_copies p.workers c L.cells) name root.dims root.parts b.first place taken_after))
-          where
-            one_cell : (c d : Cell) → c.0 ≡ d.0 → c ≡ d
-            one_cell c d e = λ i. record { 0 = e i }
+        same = cell_of_number (cell_of L.cells name root.parts place) (cell_of (with_copies p.workers c L.cells) name root.parts place) (cell-is L.cells name root.dims root.parts b.first place b.taken ∙ sym (cell-is (with_copies p.workers c L.cells) name root.dims root.parts b.first place taken_after))
 
     -- a partial copy is as large as the cell
     copy-size : (w : ℕ) → w < p.workers → dims_of p (copy_at first w) ≡ dims_of p c
@@ -203,7 +203,7 @@ module _ (p : Program) (L : Lowering) (S : State) (g : Agrees p L S) (name : Lis
       theirs = record {
         copies = copies_after;
         theirs = λ d j e. by_cell (λ d. with_phase c (Some new) L.phase d ≡ Some j → (info_at (with_copies p.workers c L.cells) d).partials ≡ Some j.copies) c d
-            (λ k. copied-first p.workers c L.cells inside ∙ ap (λ (x : OpenPhase). Some x.copies) (some_is new j (sym (phase-own c (Some new) L.phase) ∙ k)))
+            (λ k. copied-first p.workers c L.cells inside ∙ ap (λ (x : OpenPhase). Some x.copies) (same_Some new j (sym (phase-own c (Some new) L.phase) ∙ k)))
             (λ other k. (copies-grow p.workers c L.cells inside).kept _ j.copies (g.theirs.theirs _ j (sym (phase-other c (Some new) L.phase _ other) ∙ k))) e;
       };
       later = omega (arith, longer);
@@ -225,9 +225,6 @@ module _ (p : Program) (L : Lowering) (S : State) (g : Agrees p L S) (name : Lis
   pub by_opened : (P : Lowering → Type 0) → ((f : OpenPhase) → L.phase c ≡ Some f → P (Longer f)) → (L.phase c ≡ None → P New) → P (opened p.workers by (is_valued_child root place) line c L)
   by_opened P some none = by_option (L.phase c) refl
     where
-      by_option : (o : Option OpenPhase) → L.phase c ≡ o → P (elim o as (λ _. Lowering) [ None ↦ begun p.workers by (is_valued_child root place) line c L | Some f ↦ turned L.cells [] c (Some (extended f line)) L ])
+      by_option : (o : Option OpenPhase) → L.phase c ≡ o → P (elim o as (λ _. Lowering) [ None ↦ begun p.workers by (is_valued_child root place) line c L | Some f ↦ phase_turned L.cells [] c (Some (extended f line)) L ])
       by_option None e = none e
       by_option (Some f) e = some f e
-
-  pub is-opened : Begins p (opened p.workers by (is_valued_child root place) line c L) → IsOpened p L (opened p.workers by (is_valued_child root place) line c L) c by (contributed_to root place)
-  is-opened = by_opened (λ (M : Lowering). Begins p M → IsOpened p L M c by (contributed_to root place)) (λ f e b. goes_on f e) (λ e b. begins_now b e)

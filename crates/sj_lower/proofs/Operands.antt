@@ -6,6 +6,7 @@ use Rattle.sj_base.specs.declared.mode.Mode.{Mode}
 use Rattle.sj_base.specs.declared.mode.Mode.TheVariants.{R, W, RW, Scratch, Redux, Commute}
 use Rattle.sj_base.specs.declared.mode.Reduction.{Reduction}
 use Rattle.sj_base.specs.Mode.{is_redux, is_written, is_commute}
+use Rattle.sj_base.proofs.Bools.{or_false, and_middle}
 use Rattle.sj_codelet.specs.declared.formal.Formal.{Formal}
 use Rattle.sj_codelet.specs.declared.formal.Formal.TheVariants.{R as FormalR, W as FormalW, RW as FormalRW, Scratch as FormalScratch}
 use Rattle.sj_codelet.specs.declared.kernel.Kernel.{Kernel}
@@ -14,10 +15,10 @@ use Rattle.sj_codelet.specs.Kernel.{kernel_of, contributes_of, commutes_in, cont
 use Rattle.sj_core.proofs.Updating.{updates-last, contributing-commutes}
 use Rattle.sj_meaning.specs.Statement.{Operand, TaskLine}
 use Rattle.sj_meaning.specs.State.{State}
-use Rattle.sj_meaning.specs.Meaning.{is_written as writes, written_of}
+use Rattle.sj_meaning.specs.Meaning.{written_of}
 use Rattle.sj_meaning.specs.Sound.{mode_fits, modes_fit}
 use Rattle.sj_meaning.specs.Sound.{IsSoundTask, is_lawful, reduction_of}
-use Rattle.sj_lower.proofs.Running.{kernel_there, same_writes}
+use Rattle.sj_lower.proofs.Running.{kernel_there}
 
 -- the operand is only read, or scratch
 abbrev pub IsRead : Operand (List ℕ) → Type 0
@@ -61,11 +62,7 @@ ends-in (g ∷ fs) f (o ∷ os) e l h =
 -- ---- lists
 
 pub any-there : {X : Type 0} (f : X → Bool) (xs : List X) (x : X) → list_any f (xs ++ x ∷ []) ≡ true → AllByRecursion (λ y. f y ≡ false) xs → f x ≡ true
-any-there f [] x h all = by_test (f x) h
-  where
-    by_test : (b : Bool) → (b || false) ≡ true → b ≡ true
-    by_test true e = refl
-    by_test false e = e
+any-there f [] x h all = or_false (f x) h
 any-there f (y ∷ xs) x h all = any-there f xs x (ap (λ b. b || list_any f (xs ++ x ∷ [])) (sym all.0) ∙ h) all.1
 
 pub filter-none : {X : Type 0} (f : X → Bool) (xs : List X) (x : X) → AllByRecursion (λ y. f y ≡ false) xs → f x ≡ true → filter f (xs ++ x ∷ []) ≡ x ∷ []
@@ -124,12 +121,7 @@ contributing has S t k e (o ∷ os) h any =
     contributing_to x = elim x as (λ _. Bool) [ None ↦ false | Some by ↦ contributes_in has t.codelet by ]
 
     by_kernel : (by : Reduction) → contributes_in has t.codelet by ≡ true → contributes_of k by ≡ true
-    by_kernel by h = three (has k) (contributes_of k by) _ (sym (ap (λ (o : Option Kernel). elim o as (λ _. Bool) [ None ↦ false | Some k ↦ has k && contributes_of k by && has_reduction has by ]) e) ∙ h)
-      where
-        three : (a b c : Bool) → (a && b && c) ≡ true → b ≡ true
-        three true true c e = refl
-        three true false c e = e
-        three false b c e = absurd (false≢true e)
+    by_kernel by h = and_middle (has k) (contributes_of k by) _ (sym (ap (λ (o : Option Kernel). elim o as (λ _. Bool) [ None ↦ false | Some k ↦ has k && contributes_of k by && has_reduction has by ]) e) ∙ h)
 
     by_reduction : (x : Option Reduction) → contributing_to x ≡ true → (by : Reduction) × (contributes_of k by ≡ true)
     by_reduction None e = absurd (false≢true e)
@@ -168,7 +160,7 @@ contributes-there has S t s any =
       by = by.0;
       reduction = by.1;
       contributes = by.2;
-      written = ap (λ os. written_of os) e.is ∙ filter-none (λ o. writes o.mode) e.before e.last (each-weaker IsRead (λ o. writes o.mode ≡ false) e.before (λ o h. same_writes o.mode ∙ h.1) e.reads) (ap writes mode);
+      written = ap (λ os. written_of os) e.is ∙ filter-none (λ o. is_written o.mode) e.before e.last (each-weaker IsRead (λ o. is_written o.mode ≡ false) e.before (λ o h. h.1) e.reads) (ap is_written mode);
       contributed = ap (filter (λ o. is_redux o.mode)) e.is ∙ filter-none (λ o. is_redux o.mode) e.before e.last none redux;
     }
   where
@@ -181,12 +173,7 @@ contributes-there has S t s any =
         contributing_to x = elim x as (λ _. Bool) [ None ↦ false | Some by ↦ contributes_in has t.codelet by ]
 
         by_kernel : (by : Reduction) → contributes_in has t.codelet by ≡ true → contributes_of k by ≡ true
-        by_kernel by h = three (has k) (contributes_of k by) _ (sym (ap (λ (o : Option Kernel). elim o as (λ _. Bool) [ None ↦ false | Some k ↦ has k && contributes_of k by && has_reduction has by ]) e) ∙ h)
-          where
-            three : (a b c : Bool) → (a && b && c) ≡ true → b ≡ true
-            three true true c e = refl
-            three true false c e = e
-            three false b c e = absurd (false≢true e)
+        by_kernel by h = and_middle (has k) (contributes_of k by) _ (sym (ap (λ (o : Option Kernel). elim o as (λ _. Bool) [ None ↦ false | Some k ↦ has k && contributes_of k by && has_reduction has by ]) e) ∙ h)
 
         by_option : (x : Option Reduction) → reduction_of S o.name ≡ x → contributing_to x ≡ true → (by : Reduction) × (reduction_of S o.name ≡ Some by) × (contributes_of k by ≡ true)
         by_option None e h = absurd (false≢true h)

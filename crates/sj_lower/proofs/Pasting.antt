@@ -1,7 +1,7 @@
 -- The paste tasks of a plan line make in the new plan's cells what pastes make of the old plan's children.
 use Rattle.std.proofs.Common.{◌≡◌, ℕ, Bool, true, false, cond, ◌||◌, List, [], ◌∷◌, ◌++◌, pos, map, refl, sym, ap, subst, ◌∙◌}
 use Rattle.std.specs.List.{AllByRecursion, flat_map}
-use Rattle.std.proofs.lemmas.Bool.{false≢true}
+use Rattle.std.proofs.lemmas.Bool.{false≢true, or_left}
 use Rattle.std.proofs.lemmas.List.{map-append, length-replicate}
 use Rattle.sj_base.specs.declared.ids.Cell.{Cell}
 use Rattle.sj_base.specs.declared.ids.Line.{Line}
@@ -11,6 +11,8 @@ use Rattle.sj_base.specs.declared.program.Lowered.{Lowered}
 use Rattle.sj_base.specs.declared.program.Program.{Program}
 use Rattle.sj_base.specs.Array.{Array, area, zeros}
 use Rattle.sj_base.specs.Window.{pasted}
+use Rattle.sj_base.proofs.SameIds.{same_cell-itself}
+use Rattle.sj_base.specs.Mode.{access}
 use Rattle.sj_codelet.specs.declared.kernel.Kernel.TheVariants.{Paste as PasteKernel}
 use Rattle.sj_core.specs.Program.{same_cell, dims_of}
 use Rattle.sj_core.specs.Proper.{gives_value}
@@ -24,12 +26,11 @@ use Rattle.sj_plan.specs.Rect.{child, dims_of as rect_dims}
 use Rattle.sj_plan.specs.Window.{window}
 use Rattle.sj_plan.proofs.Copying.{copies_to-begin, copy_between-within}
 use Rattle.sj_plan.proofs.Lists.{each-map, each-filter, each-places}
-use Rattle.sj_plan.proofs.Repartitioning.{pastes_to-copies, pastes_to-make}
+use Rattle.sj_plan.proofs.Repartitioning.{pastes_to-copies, pastes_to-make, child-within}
 use Rattle.sj_plan.proofs.Splitting.{part_len-positive}
 use Rattle.sj_plan.proofs.Tiling.{children_of-tiling, children_of-order}
-use Rattle.sj_lower.specs.Rows.{an_access, own_task, paste_arguments, paste_row}
-use Rattle.sj_lower.proofs.Contents.{held-same, held-other, same_cell-itself}
-use Rattle.sj_lower.proofs.Elements.{child-within}
+use Rattle.sj_lower.specs.Rows.{own_task, paste_arguments, paste_row}
+use Rattle.sj_lower.proofs.Contents.{held-same, held-other}
 use Rattle.sj_lower.proofs.Filling.{AreFilled, HaveOwn, blocks-filled}
 use Rattle.sj_lower.proofs.Folding.{after_row, after_rows, one_gives, Fills}
 
@@ -37,7 +38,7 @@ use Rattle.sj_lower.proofs.Folding.{after_row, after_rows, one_gives, Fills}
 
 -- a paste puts what a copy makes into the new child's cell
 pasted_by : (p : Program) (k : Contents) (old new : ℕ × ℕ → Cell) (line : Line) (x : Paste) (b : Bool)
-    → after_row p k (own_task PasteKernel (paste_arguments x) (an_access R (old x.from) ∷ an_access (cond b W RW) (new x.to) ∷ []) line)
+    → after_row p k (own_task PasteKernel (paste_arguments x) (access R (old x.from) ∷ access (cond b W RW) (new x.to) ∷ []) line)
     ≡ (new x.to, pasted (held_in p k (old x.from)) x.at_from (record { rows = x.rows; cols = x.cols }) (cond b (zeros (dims_of p (new x.to))) (held_in p k (new x.to))) x.at_to) ∷ k
 pasted_by p k old new line x true = refl
 pasted_by p k old new line x false = refl
@@ -49,7 +50,7 @@ after_paste p k old new line x = pasted_by p k old new line x (is_first x)
 pub paste-gives : (old new : ℕ × ℕ → Cell) (line : Line) (x : Paste) → gives_value (paste_row old new line x) (new x.to) ≡ true
 paste-gives old new line x = by_mode (is_first x)
   where
-    by_mode : (b : Bool) → gives_value (own_task PasteKernel (paste_arguments x) (an_access R (old x.from) ∷ an_access (cond b W RW) (new x.to) ∷ []) line) (new x.to) ≡ true
+    by_mode : (b : Bool) → gives_value (own_task PasteKernel (paste_arguments x) (access R (old x.from) ∷ access (cond b W RW) (new x.to) ∷ []) line) (new x.to) ≡ true
     by_mode true = ap (λ b. b || false) (same_cell-itself (new x.to))
     by_mode false = ap (λ b. b || false) (same_cell-itself (new x.to))
 
@@ -176,7 +177,3 @@ pastes-give d s t old new line to fs ft at = first (pastes_to d s t to) (pastes-
     first : (xs : List Paste) → BeginOnce (map copy_of xs) → AllByRecursion (GoesTo s to) xs → one_gives (map (paste_row old new line) xs) (new to) ≡ true
     first [] once go = absurd once
     first (x ∷ xs) once go = or_left (gives_value (paste_row old new line x) (new to)) (one_gives (map (paste_row old new line) xs) (new to)) (ap (λ (q : ℕ × ℕ). gives_value (paste_row old new line x) (new q)) (sym go.0.1) ∙ paste-gives old new line x)
-      where
-        or_left : (a b : Bool) → a ≡ true → (a || b) ≡ true
-        or_left true b e = refl
-        or_left false b e = absurd (false≢true e)

@@ -9,6 +9,8 @@ use Rattle.sj_base.specs.declared.mode.Reduction.TheVariants.{Plus, Least}
 use Rattle.sj_base.specs.declared.program.Lowered.{Lowered}
 use Rattle.sj_base.specs.declared.program.Program.{Program}
 use Rattle.sj_base.specs.Array.{Array, zeros}
+use Rattle.sj_base.proofs.Numbers.{all_of}
+use Rattle.sj_base.proofs.SameIds.{same_cell-is, same_cell-itself, same_cell-turned}
 use Rattle.sj_codelet.specs.Laws.{combined, unit_of}
 use Rattle.sj_core.specs.Program.{same_cell, dims_of}
 use Rattle.sj_core.specs.Proper.{gives_value}
@@ -18,7 +20,7 @@ use Rattle.sj_lower.specs.Cells.{copy_at}
 use Rattle.sj_lower.specs.Rows.{init_row, init_rows, combine_row, combine_rows}
 use Rattle.sj_lower.specs.Lowering.{begin_rows}
 use Rattle.sj_lower.proofs.Combined.{with_all, all_workers, range-below, with_all-same}
-use Rattle.sj_lower.proofs.Contents.{held-same, held-other, held-cons, same_cell-is, same_cell-itself}
+use Rattle.sj_lower.proofs.Contents.{held-same, held-other, held-cons}
 use Rattle.sj_lower.proofs.Folding.{after_row, after_rows, after_rows-append, one_gives}
 
 -- ---- combining
@@ -49,9 +51,6 @@ combines-others p k f c (w ∷ ws) d other =
     let x = combined f.by (held_in p k (copy_at f.copies w)) (held_in p k c) in
     ap (λ (n : Contents). held_in p (after_rows p n (combines f c ws)) d) (after_combine p k f.by c f.line (copy_at f.copies w))
     ∙ combines-others p ((c, x) ∷ k) f c ws d other ∙ held-other p c x k d other
-
-all_of : (n : ℕ) → 0 + n ≤ n
-all_of n = omega arith
 
 -- the cell holds afterwards what it denoted, and each other cell what it held
 pub closed-value : (p : Program) (k : Contents) (f : OpenPhase) (c : Cell) → IsBare p f c → held_in p (after_rows p k (combine_rows f c p.workers)) c ≡ with_all p k f (all_workers p) (held_in p k c)
@@ -134,15 +133,8 @@ pub begin-copies : (p : Program) (k : Contents) (by : Reduction) (first c : Cell
     → held_in p (after_rows p k (begin_rows by first c valued p.workers line)) (copy_at first w) ≡ unit_at p by (copy_at first w)
 begin-copies p k by first c valued line w beside below =
     ap (λ (n : Contents). held_in p n (copy_at first w)) (begin-split p k by first c valued line)
-    ∙ own-others p (after_rows p k (init_rows by first p.workers line)) by line c valued (copy_at first w) (turned (copy_at first w) c (beside w below))
+    ∙ own-others p (after_rows p k (init_rows by first p.workers line)) by line c valued (copy_at first w) (same_cell-turned (copy_at first w) c (beside w below))
     ∙ each-worker (λ w. held_in p (after_rows p k (init_rows by first p.workers line)) (copy_at first w) ≡ unit_at p by (copy_at first w)) 0 p.workers (inits-value p k by first line (all_workers p)) w (omega arith) (omega (arith, below))
-  where
-    turned : (a b : Cell) → same_cell a b ≡ false → same_cell b a ≡ false
-    turned a b e = by_test (same_cell b a) refl
-      where
-        by_test : (t : Bool) → same_cell b a ≡ t → t ≡ false
-        by_test false g = refl
-        by_test true g = absurd (false≢true (sym e ∙ ap (same_cell a) (same_cell-is b a g) ∙ same_cell-itself a))
 
 pub begin-own : (p : Program) (k : Contents) (by : Reduction) (first c : Cell) (line : Line) → held_in p (after_rows p k (begin_rows by first c false p.workers line)) c ≡ unit_at p by c
 begin-own p k by first c line =

@@ -1,34 +1,19 @@
 -- A plan's children by their number, row by row.
-use Rattle.std.proofs.Common.{◌≡◌, ℕ, zero, suc, ◌+◌, ◌-◌, ◌*◌, ◌/◌, ◌%◌, ◌<◌, ◌≤◌, Bool, true, false, ◌&&◌, ◌++◌, map, length, get_or, refl, sym, ap, ◌∙◌, arith, length-append}
+use Rattle.std.proofs.Common.{◌≡◌, ℕ, zero, suc, ◌+◌, ◌-◌, ◌*◌, ◌/◌, ◌%◌, ◌<◌, ◌≤◌, true, ◌++◌, map, length, get_or, refl, sym, ap, ◌∙◌, arith, length-append}
 use Rattle.std.specs.Prelude.{nat_eq}
 use Rattle.std.specs.List.{flat_map, range_with_len}
-use Rattle.std.proofs.lemmas.Bool.{and_parts}
+use Rattle.std.proofs.lemmas.Bool.{and_parts, and_from}
 use Rattle.std.proofs.lemmas.Bool.Decides.{Decides-eqb}
 use Rattle.std.proofs.lemmas.List.{map-append, get_or_append_left, get_or-append_right}
 use Rattle.std.proofs.lemmas.List.FromFn.{length-map-range_with_len, get_or-map-range_with_len}
-use Rattle.std.proofs.lemmas.Nat.{div_below, mod_below, div-add-mod', div-mul-add, mod-mul-add, mul-add-lt}
+use Rattle.std.proofs.lemmas.Nat.{div_below, mod_below, div-add-mod', mul-add-lt}
 use Rattle.std.proofs.lemmas.Simd.{map-map}
+use Rattle.sj_base.proofs.Numbers.{some_factor}
 use Rattle.sj_plan.specs.declared.parts.Parts.{Parts}
 use Rattle.sj_plan.specs.Parts.{IsPlace, places}
-use Rattle.sj_plan.specs.Paste.{same_place}
 use Rattle.sj_plan.proofs.Lists.{grid_row}
 use Rattle.sj_job.specs.Track.{number}
 use Rattle.sj_lower.specs.Cells.{same_parts}
-
-pub same_pair : (x y : ℕ × ℕ) → x.0 ≡ y.0 → x.1 ≡ y.1 → x ≡ y
-same_pair x y e f = λ i. (e i, f i)
-
-pub place-is : (x y : ℕ × ℕ) → same_place x y ≡ true → x ≡ y
-place-is x y h =
-    let both = and_parts (nat_eq x.0 y.0) (nat_eq x.1 y.1) h in
-    same_pair x y ((Decides-eqb x.0 y.0).0 both.0) ((Decides-eqb x.1 y.1).0 both.1)
-
-both_true : (a b : Bool) → a ≡ true → b ≡ true → (a && b) ≡ true
-both_true true b e f = f
-both_true false b e f = e
-
-pub place-itself : (x : ℕ × ℕ) → same_place x x ≡ true
-place-itself x = both_true (nat_eq x.0 x.0) (nat_eq x.1 x.1) ((Decides-eqb x.0 x.0).1 refl) ((Decides-eqb x.1 x.1).1 refl)
 
 pub parts-are : (p q : Parts) → same_parts p q ≡ true → p ≡ q
 parts-are p q h =
@@ -38,18 +23,12 @@ parts-are p q h =
     λ i. record { r = r i; c = c i }
 
 pub parts-itself : (p : Parts) → same_parts p p ≡ true
-parts-itself p = both_true (nat_eq p.r p.r) (nat_eq p.c p.c) ((Decides-eqb p.r p.r).1 refl) ((Decides-eqb p.c p.c).1 refl)
+parts-itself p = and_from (nat_eq p.r p.r) (nat_eq p.c p.c) ((Decides-eqb p.r p.r).1 refl) ((Decides-eqb p.c p.c).1 refl)
 
 -- ---- numbers
 
 pub number-below : (p : Parts) (place : ℕ × ℕ) → IsPlace p place → number p place < p.r * p.c
 number-below p place h = omega (arith, mul-add-lt place.0 p.c place.1 p.r h.0 h.1)
-
-pub number-apart : (p : Parts) (x y : ℕ × ℕ) → IsPlace p x → IsPlace p y → number p x ≡ number p y → x ≡ y
-number-apart p x y hx hy e =
-    same_pair x y
-    (sym (div-mul-add x.0 p.c x.1 hx.1) ∙ ap (λ n. n / p.c) e ∙ div-mul-add y.0 p.c y.1 hy.1)
-    (sym (mod-mul-add x.0 p.c x.1 hx.1) ∙ ap (λ n. n % p.c) e ∙ mod-mul-add y.0 p.c y.1 hy.1)
 
 -- ---- lists
 
@@ -103,10 +82,6 @@ places-at f p place d h = rows-at f p.c 0 p.r place.0 place.1 d h.0 h.1 ∙ ap (
 -- the child of a number
 abbrev pub place_at : Parts → ℕ → ℕ × ℕ
 place_at p n = (n / p.c, n % p.c)
-
-some_factor : (r c k : ℕ) → k < r * c → 0 < c
-some_factor r zero k h = absurd (omega arith)
-some_factor r (suc c) k h = omega arith
 
 pub place_at-inside : (p : Parts) (n : ℕ) → n < p.r * p.c → IsPlace p (place_at p n)
 place_at-inside p n h = let some = some_factor p.r p.c n h in (div_below n p.c p.r some h, mod_below n p.c some)

@@ -15,13 +15,13 @@ use Rattle.sj_lower.specs.declared.layout.Layout.{Layout}
 use Rattle.sj_lower.specs.declared.lower.Progress.{Progress}
 use Rattle.sj_lower.specs.declared.lowerer.Active.{Active}
 use Rattle.sj_lower.specs.declared.phase.OpenPhase.{OpenPhase}
-use Rattle.sj_lower.specs.Cells.{Cells, Handle, info_at, first_copy, with_copies}
+use Rattle.sj_lower.specs.Cells.{Cells, Handle, info_at, first_partial, with_copies}
 use Rattle.sj_lower.specs.Limits.{most, cells_in, tasks_in}
 use Rattle.sj_lower.specs.Rows.{init_row, init_rows}
 use Rattle.sj_lower.specs.Cells.{copy_at}
-use Rattle.sj_lower.specs.Lowering.{Lowering, nothing, turned, extended, begin_rows, begun, opened}
+use Rattle.sj_lower.specs.Lowering.{Lowering, nothing, phase_turned, extended, begin_rows, begun, opened}
 use Rattle.sj_lower.specs.Seen.{AreActive, Lays}
-use Rattle.sj_lower.specs.Progress.{AreCopied, IsAt, HasAt, HasCopies, Prepares}
+use Rattle.sj_lower.specs.Progress.{AreCopied, StandsAt, HasAt, HasCopies, Prepares}
 use Rattle.sj_lower.proofs.Copies.{Copied, first-old, by_copies, copied-length, copied-partials, copied-first, copied-handles, copied-roots, copies-more}
 use Rattle.sj_lower.proofs.Growing.{row_at, has-row}
 use Rattle.sj_lower.proofs.Laid.{none_isn't}
@@ -33,20 +33,20 @@ use Rattle.sj_lower.proofs.Preparing.{IsBeside, Turns, Sets, over-kept, prepares
 with-there : (workers : ℕ) (c : Cell) (C : Cells) (f : Cell) → (info_at C c).partials ≡ Some f → with_copies workers c C ≡ C
 with-there workers c C f e = ap (λ (o : Option Cell). cond (is_some o) C (Copied workers c C)) e
 
-opened-some : (workers : ℕ) (by : Reduction) (v : Bool) (line : Line) (c : Cell) (L : Lowering) (f : OpenPhase) → L.phase c ≡ Some f → opened workers by v line c L ≡ turned L.cells [] c (Some (extended f line)) L
-opened-some workers by v line c L f e = ap (λ (o : Option OpenPhase). elim o as (λ _. Lowering) [ None ↦ begun workers by v line c L | Some f ↦ turned L.cells [] c (Some (extended f line)) L ]) e
+opened-some : (workers : ℕ) (by : Reduction) (v : Bool) (line : Line) (c : Cell) (L : Lowering) (f : OpenPhase) → L.phase c ≡ Some f → opened workers by v line c L ≡ phase_turned L.cells [] c (Some (extended f line)) L
+opened-some workers by v line c L f e = ap (λ (o : Option OpenPhase). elim o as (λ _. Lowering) [ None ↦ begun workers by v line c L | Some f ↦ phase_turned L.cells [] c (Some (extended f line)) L ]) e
 
 opened-none : (workers : ℕ) (by : Reduction) (v : Bool) (line : Line) (c : Cell) (L : Lowering) → L.phase c ≡ None → opened workers by v line c L ≡ begun workers by v line c L
-opened-none workers by v line c L e = ap (λ (o : Option OpenPhase). elim o as (λ _. Lowering) [ None ↦ begun workers by v line c L | Some f ↦ turned L.cells [] c (Some (extended f line)) L ]) e
+opened-none workers by v line c L e = ap (λ (o : Option OpenPhase). elim o as (λ _. Lowering) [ None ↦ begun workers by v line c L | Some f ↦ phase_turned L.cells [] c (Some (extended f line)) L ]) e
 
 -- a phase as it begins
 abbrev pub begins : Reduction → Cell → Line → OpenPhase
 begins by first line = record { by = by; copies = first; line = line }
 
-begun-there : (workers : ℕ) (by : Reduction) (v : Bool) (line : Line) (c : Cell) (L : Lowering) (first : Cell) → (info_at L.cells c).partials ≡ Some first → begun workers by v line c L ≡ turned L.cells (begin_rows by first c v workers line) c (Some (begins by first line)) L
+begun-there : (workers : ℕ) (by : Reduction) (v : Bool) (line : Line) (c : Cell) (L : Lowering) (first : Cell) → (info_at L.cells c).partials ≡ Some first → begun workers by v line c L ≡ phase_turned L.cells (begin_rows by first c v workers line) c (Some (begins by first line)) L
 begun-there workers by v line c L first e =
     let same = first-old L.cells c first e in
-    λ i. turned (with-there workers c L.cells first e i) (begin_rows by (same i) c v workers line) c (Some (begins by (same i) line)) L
+    λ i. phase_turned (with-there workers c L.cells first e i) (begin_rows by (same i) c v workers line) c (Some (begins by (same i) line)) L
 
 turns-some : (workers : ℕ) (by : Reduction) (v : Bool) (line : Line) (c : Cell) (L : Lowering) (f : OpenPhase) → AreCopied workers L → L.phase c ≡ Some f → Turns L (opened workers by v line c L) c [] (Some (extended f line))
 turns-some workers by v line c L f copied e = record {
@@ -148,14 +148,14 @@ copied-none workers = record {
 
 -- what the layout does
 abbrev pub IsCopying : Layout → Layout → ℕ → Cell → Cell → Type 0
-IsCopying old new workers c first = (T : Table) (C : Cells) → Lays T old C → Lays T new (with_copies workers c C) × (first_copy C c ≡ first)
+IsCopying old new workers c first = (T : Table) (C : Cells) → Lays T old C → Lays T new (with_copies workers c C) × (first_partial C c ≡ first)
 
 rows-are : (T : Table) (l : Layout) (C : Cells) → Lays T l C → vec_len l.infos ≡ length C.rows
 rows-are T l C h = omega (arith, l.infos.ok, ap length h.rows)
 
 module _ (old new : Progress) (line : Line) (c first : Cell) (there : c.0 < vec_len old.layout.infos) (copies : IsCopying old.layout new.layout old.workers c first) (few : vec_len new.layout.infos ≤ most)
     (workers : new.workers ≡ old.workers) (h : HasAt old) where
-  inside : (T : Table) (S : State) (L : Lowering) → IsAt T old S L → c.0 < length L.cells.rows
+  inside : (T : Table) (S : State) (L : Lowering) → StandsAt T old S L → c.0 < length L.cells.rows
   inside T S L at = omega (arith, there, rows-are T old.layout L.cells at.lays)
 
   pub copies-prepare : new.over ≡ old.over → new.lowerer ≡ old.lowerer → new.last ≡ old.last → Prepares old new line (copied_by old.workers c)
@@ -218,9 +218,9 @@ opened-copied workers by v line c L there h = by_phase (L.phase c) refl
     by_phase : (o : Option OpenPhase) → L.phase c ≡ o → opened workers by v line c (copied_by workers c L) ≡ opened workers by v line c L
     by_phase None e =
         let first = copied-first workers c L.cells there in
-        opened-none workers by v line c (copied_by workers c L) e ∙ begun-there workers by v line c (copied_by workers c L) (first_copy L.cells c) first ∙ sym (opened-none workers by v line c L e)
+        opened-none workers by v line c (copied_by workers c L) e ∙ begun-there workers by v line c (copied_by workers c L) (first_partial L.cells c) first ∙ sym (opened-none workers by v line c L e)
     by_phase (Some f) e =
-        opened-some workers by v line c (copied_by workers c L) f e ∙ ap (λ (C : Cells). turned C [] c (Some (extended f line)) L) (with-there workers c L.cells f.copies (h.theirs c f e)) ∙ sym (opened-some workers by v line c L f e)
+        opened-some workers by v line c (copied_by workers c L) f e ∙ ap (λ (C : Cells). phase_turned C [] c (Some (extended f line)) L) (with-there workers c L.cells f.copies (h.theirs c f e)) ∙ sym (opened-some workers by v line c L f e)
 
 -- there are too many cells with the partial copies
 pub opened-full : (workers : ℕ) (by : Reduction) (v : Bool) (line : Line) (c : Cell) (L : Lowering) → AreCopied workers L → most < length (with_copies workers c L.cells).rows → most < cells_in (opened workers by v line c L)
@@ -230,6 +230,6 @@ opened-full workers by v line c L h full = let e = ap (λ (C : Cells). length C.
 pub opened-more : (workers : ℕ) (by : Reduction) (v : Bool) (line : Line) (c : Cell) (L : Lowering) → (tasks_in L ≤ tasks_in (opened workers by v line c L)) × (cells_in L ≤ cells_in (opened workers by v line c L))
 opened-more workers by v line c L = by_phase (L.phase c)
   where
-    by_phase : (o : Option OpenPhase) → let M = elim o as (λ _. Lowering) [ None ↦ begun workers by v line c L | Some f ↦ turned L.cells [] c (Some (extended f line)) L ] in (tasks_in L ≤ tasks_in M) × (cells_in L ≤ cells_in M)
-    by_phase None = (omega (arith, length-append L.tasks (begin_rows by (first_copy L.cells c) c v workers line)), (copies-more workers c L.cells).longer)
+    by_phase : (o : Option OpenPhase) → let M = elim o as (λ _. Lowering) [ None ↦ begun workers by v line c L | Some f ↦ phase_turned L.cells [] c (Some (extended f line)) L ] in (tasks_in L ≤ tasks_in M) × (cells_in L ≤ cells_in M)
+    by_phase None = (omega (arith, length-append L.tasks (begin_rows by (first_partial L.cells c) c v workers line)), (copies-more workers c L.cells).longer)
     by_phase (Some f) = (omega (arith, length-append L.tasks []), omega arith)

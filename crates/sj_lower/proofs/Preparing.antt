@@ -14,9 +14,9 @@ use Rattle.sj_lower.specs.declared.phase.OpenPhase.{OpenPhase}
 use Rattle.sj_lower.specs.Cells.{info_at, copy_at}
 use Rattle.sj_lower.specs.Limits.{most, tasks_in}
 use Rattle.sj_lower.specs.Rows.{combine_row, combine_rows}
-use Rattle.sj_lower.specs.Lowering.{Lowering, with_phase, turned, closed, all_closed}
+use Rattle.sj_lower.specs.Lowering.{Lowering, with_phase, phase_turned, closed, all_closed}
 use Rattle.sj_lower.specs.Seen.{AreActive, Lays}
-use Rattle.sj_lower.specs.Progress.{AreCopied, IsAt, HasAt, Prepares, over_after}
+use Rattle.sj_lower.specs.Progress.{AreCopied, StandsAt, HasAt, Prepares, over_after}
 use Rattle.sj_lower.proofs.Closing.{by_phase}
 use Rattle.sj_lower.proofs.Laid.{none_isn't}
 use Rattle.sj_lower.proofs.Stating.{phase-own, phase-other, by_cell}
@@ -69,10 +69,10 @@ pub record IsBeside (old new : Progress) : Type 0 where
 
 -- the phase of a cell is this one, or none, after these tasks; its copies are there
 pub record Turns (L M : Lowering) (c : Cell) (ls : List Lowered) (o : Option OpenPhase) : Type 0 where
-  pub is : M ≡ turned L.cells ls c o L
+  pub is : M ≡ phase_turned L.cells ls c o L
   pub copies : (f : OpenPhase) → o ≡ Some f → (info_at L.cells c).partials ≡ Some f.copies
 
-copied-turned : (workers : ℕ) (L : Lowering) (c : Cell) (ls : List Lowered) (o : Option OpenPhase) → ((f : OpenPhase) → o ≡ Some f → (info_at L.cells c).partials ≡ Some f.copies) → AreCopied workers L → AreCopied workers (turned L.cells ls c o L)
+copied-turned : (workers : ℕ) (L : Lowering) (c : Cell) (ls : List Lowered) (o : Option OpenPhase) → ((f : OpenPhase) → o ≡ Some f → (info_at L.cells c).partials ≡ Some f.copies) → AreCopied workers L → AreCopied workers (phase_turned L.cells ls c o L)
 copied-turned workers L c ls o copies h = record {
   inside = h.inside;
   theirs = λ d f e. by_cell (λ d. with_phase c o L.phase d ≡ Some f → (info_at L.cells d).partials ≡ Some f.copies) c d (λ e. copies f (sym (phase-own c o L.phase) ∙ e)) (λ other e. h.theirs _ f (sym (phase-other c o L.phase _ other) ∙ e)) e;
@@ -81,8 +81,8 @@ copied-turned workers L c ls o copies h = record {
 -- ---- one step
 
 -- too many tasks before
-at-over : (T : Table) (g : Progress) (S : State) (L M : Lowering) (c : Cell) (ls : List Lowered) (o : Option OpenPhase) → (g.over ≡ None → ⊥) → Turns L M c ls o → IsAt T g S L → IsAt T g S M
-at-over T g S L M c ls o past t at = subst (λ (N : Lowering). IsAt T g S N) (sym t.is) (record {
+at-over : (T : Table) (g : Progress) (S : State) (L M : Lowering) (c : Cell) (ls : List Lowered) (o : Option OpenPhase) → (g.over ≡ None → ⊥) → Turns L M c ls o → StandsAt T g S L → StandsAt T g S M
+at-over T g S L M c ls o past t at = subst (λ (N : Lowering). StandsAt T g S N) (sym t.is) (record {
   lays = at.lays;
   few_cells = at.few_cells;
   actives = at.actives;
@@ -97,7 +97,7 @@ over-stays None line L past = absurd (past refl)
 over-stays (Some first) line L past = refl
 
 -- nothing is done any more once there are too many tasks
-pub prepares-over : (g : Progress) (line : Line) (change : Lowering → Lowering) (c : Cell) → (g.over ≡ None → ⊥) → ((T : Table) (S : State) (L : Lowering) → IsAt T g S L → (ls : List Lowered) × (o : Option OpenPhase) × Turns L (change L) c ls o) → Prepares g g line change
+pub prepares-over : (g : Progress) (line : Line) (change : Lowering → Lowering) (c : Cell) → (g.over ≡ None → ⊥) → ((T : Table) (S : State) (L : Lowering) → StandsAt T g S L → (ls : List Lowered) × (o : Option OpenPhase) × Turns L (change L) c ls o) → Prepares g g line change
 prepares-over g line change c past turns = record {
   at = λ T S L at. (let t = turns T S L at in at-over T g S L (change L) c t.0 t.1 past t.2 at);
   over = λ T S L at. over-stays g.over line (change L) past;
@@ -109,18 +109,18 @@ prepares-over g line change c past turns = record {
 
 -- too many tasks with this step
 pub prepares-late : (old new : Progress) (line : Line) (change : Lowering → Lowering) (c : Cell) → old.over ≡ None → new.over ≡ Some line → IsBeside old new → new.lowerer.tasks ≡ old.lowerer.tasks
-    → ((T : Table) (S : State) (L : Lowering) → IsAt T old S L → (ls : List Lowered) × (o : Option OpenPhase) × Turns L (change L) c ls o × (most < vec_len old.lowerer.tasks + length ls)) → Prepares old new line change
+    → ((T : Table) (S : State) (L : Lowering) → StandsAt T old S L → (ls : List Lowered) × (o : Option OpenPhase) × Turns L (change L) c ls o × (most < vec_len old.lowerer.tasks + length ls)) → Prepares old new line change
 prepares-late old new line change c none late same tasks turns = record {
   at = λ T S L at.
       let t = turns T S L at in
-      subst (λ (N : Lowering). IsAt T new S N) (sym t.2.is) (record {
+      subst (λ (N : Lowering). StandsAt T new S N) (sym t.2.is) (record {
         lays = subst (λ l. Lays T l L.cells) (sym same.layout) at.lays;
         few_cells = at.few_cells;
         actives = subst (λ as'. AreActive T L.cells as'.items S) (sym same.actives) at.actives;
         follows = λ early. absurd (past early);
         few_tasks = λ early. absurd (past early);
         prints = fewer at.prints;
-        copied = subst (λ (n : ℕ). AreCopied n (turned L.cells t.0 c t.1 L)) (sym same.workers) (copied-turned old.workers L c t.0 t.1 t.2.copies at.copied);
+        copied = subst (λ (n : ℕ). AreCopied n (phase_turned L.cells t.0 c t.1 L)) (sym same.workers) (copied-turned old.workers L c t.0 t.1 t.2.copies at.copied);
       });
   over = λ T S L at.
       let t = turns T S L at in
@@ -137,7 +137,7 @@ prepares-late old new line change c none late same tasks turns = record {
     fewer : old.lowerer.prints ≤ vec_len old.lowerer.tasks → new.lowerer.prints ≤ vec_len new.lowerer.tasks
     fewer h = let a = same.prints in let b = ap vec_len tasks in omega (arith, h, a, b)
 
-    many : (T : Table) (S : State) (L : Lowering) → IsAt T old S L → most < tasks_in (change L)
+    many : (T : Table) (S : State) (L : Lowering) → StandsAt T old S L → most < tasks_in (change L)
     many T S L at =
         let t = turns T S L at in
         let long = ap tasks_in t.2.is in
@@ -150,14 +150,14 @@ Sets old new c o = (d : ℕ) → get nat_eq new.lowerer.phases d ≡ cond (nat_e
 
 -- a step
 pub prepares-on : (old new : Progress) (line : Line) (change : Lowering → Lowering) (c : Cell) (ls : List Lowered) (o : Option OpenPhase) → old.over ≡ None → new.over ≡ None → IsBeside old new → new.lowerer.tasks.items ≡ old.lowerer.tasks.items ++ ls → Sets old new c o → vec_len new.lowerer.tasks ≤ most
-    → ((T : Table) (S : State) (L : Lowering) → IsAt T old S L → Turns L (change L) c ls o) → Prepares old new line change
+    → ((T : Table) (S : State) (L : Lowering) → StandsAt T old S L → Turns L (change L) c ls o) → Prepares old new line change
 prepares-on old new line change c ls o none early same tasks sets few turns = record {
   at = λ T S L at.
       let t = turns T S L at in
       let f = at.follows none in
       let all : new.lowerer.tasks.items ≡ L.tasks ++ ls = tasks ∙ ap (λ xs. xs ++ ls) f.tasks in
       let actives = subst (λ as'. AreActive T L.cells as'.items S) (sym same.actives) at.actives in
-      subst (λ (N : Lowering). IsAt T new S N) (sym t.is) (record {
+      subst (λ (N : Lowering). StandsAt T new S N) (sym t.is) (record {
         lays = subst (λ l. Lays T l L.cells) (sym same.layout) at.lays;
         few_cells = at.few_cells;
         actives = actives;
@@ -170,7 +170,7 @@ prepares-on old new line change c ls o none early same tasks sets few turns = re
         };
         few_tasks = λ _. omega (arith, few, new.lowerer.tasks.ok, ap length all);
         prints = fewer at.prints;
-        copied = subst (λ (n : ℕ). AreCopied n (turned L.cells ls c o L)) (sym same.workers) (copied-turned old.workers L c ls o t.copies at.copied);
+        copied = subst (λ (n : ℕ). AreCopied n (phase_turned L.cells ls c o L)) (sym same.workers) (copied-turned old.workers L c ls o t.copies at.copied);
       });
   over = λ T S L at.
       let t = turns T S L at in
@@ -187,11 +187,11 @@ prepares-on old new line change c ls o none early same tasks sets few turns = re
 
 -- nothing is changed
 pub prepares-none : (old new : Progress) (line : Line) (change : Lowering → Lowering) → new.over ≡ old.over → IsBeside old new → new.lowerer.tasks ≡ old.lowerer.tasks → ((d : ℕ) → get nat_eq new.lowerer.phases d ≡ get nat_eq old.lowerer.phases d)
-    → ((T : Table) (S : State) (L : Lowering) → IsAt T old S L → change L ≡ L) → Prepares old new line change
+    → ((T : Table) (S : State) (L : Lowering) → StandsAt T old S L → change L ≡ L) → Prepares old new line change
 prepares-none old new line change over same tasks phases is = record {
   at = λ T S L at.
       let actives = subst (λ as'. AreActive T L.cells as'.items S) (sym same.actives) at.actives in
-      subst (λ (N : Lowering). IsAt T new S N) (sym (is T S L at)) (record {
+      subst (λ (N : Lowering). StandsAt T new S N) (sym (is T S L at)) (record {
         lays = subst (λ l. Lays T l L.cells) (sym same.layout) at.lays;
         few_cells = at.few_cells;
         actives = actives;
@@ -231,9 +231,9 @@ prepares-then a b c line f g more p q = record {
 }
 
 -- another change that is the same
-pub prepares-as : (old new : Progress) (line : Line) (f g : Lowering → Lowering) → ((T : Table) (S : State) (L : Lowering) → IsAt T old S L → f L ≡ g L) → Prepares old new line f → Prepares old new line g
+pub prepares-as : (old new : Progress) (line : Line) (f g : Lowering → Lowering) → ((T : Table) (S : State) (L : Lowering) → StandsAt T old S L → f L ≡ g L) → Prepares old new line f → Prepares old new line g
 prepares-as old new line f g same p = record {
-  at = λ T S L at. subst (λ (M : Lowering). IsAt T new S M) (same T S L at) (p.at T S L at);
+  at = λ T S L at. subst (λ (M : Lowering). StandsAt T new S M) (same T S L at) (p.at T S L at);
   over = λ T S L at. p.over T S L at ∙ ap (λ (M : Lowering). over_after old.over line M) (same T S L at);
   actives = p.actives;
   workers = p.workers;
@@ -247,9 +247,6 @@ has-at old new line f p h = record { table = h.table; state = h.state; lowering 
 -- there is room for another task at most
 pub few-at : (g : Progress) → HasAt g → g.over ≡ None → vec_len g.lowerer.tasks ≤ most
 few-at g h none = omega (arith, h.at.few_tasks none, g.lowerer.tasks.ok, ap length (h.at.follows none).tasks)
-
-pub few-cells-at : (g : Progress) → HasAt g → vec_len g.layout.infos ≤ most
-few-cells-at g h = omega (arith, h.at.few_cells, g.layout.infos.ok, ap length h.at.lays.rows)
 
 -- the partial copies of an open phase are there
 pub copies-at : (g : Progress) (c : Cell) (f : OpenPhase) → HasAt g → g.over ≡ None → get nat_eq g.lowerer.phases c.0 ≡ Some f → f.copies.0 + g.workers ≤ most
@@ -266,11 +263,11 @@ pub all_closed-more : (workers : ℕ) (cs : List Cell) (L : Lowering) → tasks_
 all_closed-more workers [] L = omega arith
 all_closed-more workers (c ∷ cs) L = omega (arith, closed-more workers c L, all_closed-more workers cs (closed workers L c))
 
-closed-some : (workers : ℕ) (L : Lowering) (c : Cell) (f : OpenPhase) → L.phase c ≡ Some f → closed workers L c ≡ turned L.cells (combine_rows f c workers) c None L
-closed-some workers L c f e = ap (λ (o : Option OpenPhase). elim o as (λ _. Lowering) [ None ↦ L | Some f ↦ turned L.cells (combine_rows f c workers) c None L ]) e
+closed-some : (workers : ℕ) (L : Lowering) (c : Cell) (f : OpenPhase) → L.phase c ≡ Some f → closed workers L c ≡ phase_turned L.cells (combine_rows f c workers) c None L
+closed-some workers L c f e = ap (λ (o : Option OpenPhase). elim o as (λ _. Lowering) [ None ↦ L | Some f ↦ phase_turned L.cells (combine_rows f c workers) c None L ]) e
 
 closed-none : (workers : ℕ) (L : Lowering) (c : Cell) → L.phase c ≡ None → closed workers L c ≡ L
-closed-none workers L c e = ap (λ (o : Option OpenPhase). elim o as (λ _. Lowering) [ None ↦ L | Some f ↦ turned L.cells (combine_rows f c workers) c None L ]) e
+closed-none workers L c e = ap (λ (o : Option OpenPhase). elim o as (λ _. Lowering) [ None ↦ L | Some f ↦ phase_turned L.cells (combine_rows f c workers) c None L ]) e
 
 combines : (f : OpenPhase) (c : Cell) (workers : ℕ) → length (combine_rows f c workers) ≡ workers
 combines f c workers = length-map-range_with_len (λ w. combine_row f.by c f.line (copy_at f.copies w)) 0 workers
@@ -280,7 +277,7 @@ no_phase L c f e = absurd (none_isn't f e)
 
 pub closes-over : (g : Progress) (line : Line) (c : Cell) → (g.over ≡ None → ⊥) → Prepares g g line (λ L. closed g.workers L c)
 closes-over g line c past = record {
-  at = λ T S L at. by_phase g.workers L c (λ (M : Lowering). IsAt T g S M) (λ e. at) (λ f e. at-over T g S L (turned L.cells (combine_rows f c g.workers) c None L) c (combine_rows f c g.workers) None past (record { is = refl; copies = no_phase L c }) at);
+  at = λ T S L at. by_phase g.workers L c (λ (M : Lowering). StandsAt T g S M) (λ e. at) (λ f e. at-over T g S L (phase_turned L.cells (combine_rows f c g.workers) c None L) c (combine_rows f c g.workers) None past (record { is = refl; copies = no_phase L c }) at);
   over = λ T S L at. over-stays g.over line (closed g.workers L c) past;
   actives = refl;
   workers = refl;

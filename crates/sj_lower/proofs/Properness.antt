@@ -15,6 +15,7 @@ use Rattle.sj_base.specs.declared.program.Lowered.{Lowered}
 use Rattle.sj_base.specs.declared.program.Program.{Program}
 use Rattle.sj_base.specs.Array.{area}
 use Rattle.sj_base.specs.Mode.{is_redux, reads_value}
+use Rattle.sj_base.specs.Ids.{task}
 use Rattle.sj_codelet.specs.declared.kernel.Kernel.TheVariants.{Deliver}
 use Rattle.sj_codelet.specs.Kernel.{kernel_of}
 use Rattle.sj_core.specs.Operands.{copy_of}
@@ -26,7 +27,6 @@ use Rattle.sj_meaning.specs.Table.{Table}
 use Rattle.sj_lower.specs.Cells.{Cells, info_at, copy_info}
 use Rattle.sj_lower.specs.Delivering.{DeliversPrinted, NamesDeliverTasks, DeliversInOrder}
 use Rattle.sj_lower.proofs.Combined.{IsTrusted}
-use Rattle.sj_lower.proofs.Contents.{task_at}
 use Rattle.sj_lower.proofs.Copies.{HaveCopies}
 use Rattle.sj_lower.proofs.Delivered.{AreDelivered, AreHanded, of_print}
 use Rattle.sj_lower.proofs.Good.{IsGood}
@@ -44,10 +44,10 @@ module _ (T : Table) (p : Program) (ss : List (Statement (List ℕ))) (w : IsWho
   abbrev delivered : AreDelivered T p w.lowering (printed ss)
   delivered = w.fine.delivered
 
-  good : (n : ℕ) → n < length p.tasks → IsGood p n (task_of p (task_at n))
+  good : (n : ℕ) → n < length p.tasks → IsGood p n (task_of p (task n))
   good n h = w.fine.good n (subst (λ (ts : List Lowered). n < length ts) w.tasks h)
 
-  each_task : (P : Lowered → Type 0) → ((n : ℕ) → IsGood p n (task_of p (task_at n)) → P (task_of p (task_at n))) → All P p.tasks
+  each_task : (P : Lowered → Type 0) → ((n : ℕ) → IsGood p n (task_of p (task n)) → P (task_of p (task n))) → All P p.tasks
   each_task P f = All-from_get_or P p.tasks no_task (λ n h. f n (good n h))
 
   -- the rows of the program's cells are those of the lowering
@@ -62,7 +62,7 @@ module _ (T : Table) (p : Program) (ss : List (Statement (List ℕ))) (w : IsWho
   its_row q c v h = let o = its_first q c v h in same-info q ∙ ap (λ n. get_or C.rows n no_cell) o.2 ∙ copies.copy c o.0 v.0 o.1 h.of_worker
 
   -- what holds of each operand of each task of the program holds of each operand of any number's task
-  every_task : (P : ℕ → Access → Type 0) → ((n : ℕ) → n < length p.tasks → All (P n) (task_of p (task_at n)).accesses) → (n : ℕ) → All (P n) (task_of p (task_at n)).accesses
+  every_task : (P : ℕ → Access → Type 0) → ((n : ℕ) → n < length p.tasks → All (P n) (task_of p (task n)).accesses) → (n : ℕ) → All (P n) (task_of p (task n)).accesses
   every_task P f n =
       elim (cases_lt n (length p.tasks)) [
         | inl inside ↦ f n inside
@@ -80,8 +80,8 @@ module _ (T : Table) (p : Program) (ss : List (Statement (List ℕ))) (w : IsWho
 
   reads_values : ReadsValues p
   reads_values = record {
-    cells = λ t. every_task (λ n a. reads_value a.mode ≡ true → HasValueBefore p (task_at n) a.cell) (λ n h. (good n h).values) t.0;
-    copies = λ t. every_task (λ n a. is_redux a.mode ≡ true → (v : Worker) → v.0 < p.workers → HasValueBefore p (task_at n) (copy_of p a.cell v)) (λ n h k d l e. ((good n h).copies k d l e).1) t.0;
+    cells = λ t. every_task (λ n a. reads_value a.mode ≡ true → HasValueBefore p (task n) a.cell) (λ n h. (good n h).values) t.0;
+    copies = λ t. every_task (λ n a. is_redux a.mode ≡ true → (v : Worker) → v.0 < p.workers → HasValueBefore p (task n) (copy_of p a.cell v)) (λ n h k d l e. ((good n h).copies k d l e).1) t.0;
   }
 
   its_phases : HasPhases p
@@ -99,7 +99,7 @@ module _ (T : Table) (p : Program) (ss : List (Statement (List ℕ))) (w : IsWho
     plain = λ t e. by_task t.0 e (cases_lt t.0 (length p.tasks));
   }
     where
-      by_task : (n : ℕ) → kernel_of (task_of p (task_at n)).codelet ≡ Some Deliver → (n < length p.tasks) ⊎ (length p.tasks ≤ n) → All (λ (a : Access). IsPlain p a.cell) (task_of p (task_at n)).accesses
+      by_task : (n : ℕ) → kernel_of (task_of p (task n)).codelet ≡ Some Deliver → (n < length p.tasks) ⊎ (length p.tasks ≤ n) → All (λ (a : Access). IsPlain p a.cell) (task_of p (task n)).accesses
       by_task n e (inl inside) = (good n inside).plain e
       by_task n e (inr past) = subst (λ (l : Lowered). All (λ (a : Access). IsPlain p a.cell) l.accesses) (sym (get_or_past p.tasks n no_task past)) (All-nil (λ (a : Access). IsPlain p a.cell))
 

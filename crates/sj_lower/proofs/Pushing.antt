@@ -1,13 +1,9 @@
 -- Lists to which a loop appends.
-use Rattle.std.proofs.Common.{◌≡◌, ℕ, ◌+◌, ◌<◌, ◌≤◌, List, [], ◌∷◌, ◌++◌, map, take, get_or, length, sym, ap, ◌∙◌, append_assoc}
-use Rattle.std.proofs.lemmas.List.{take_more, take_all, map-append}
+use Rattle.std.proofs.Common.{◌≡◌, ℕ, ◌+◌, ◌<◌, List, [], ◌∷◌, ◌++◌, map, take, get_or, length, sym, ap, ◌∙◌, append_assoc}
+use Rattle.std.proofs.lemmas.List.{take_more, map-append}
 
 -- one item more
 pub pushed : {X Y : Type 0} (f : X → Y) (xs : List X) (start now next : List Y) (i : ℕ) (x : X) → i < length xs → now ≡ start ++ map f (take i xs) → next ≡ now ++ f x ∷ [] → x ≡ get_or xs i x → next ≡ start ++ map f (take (i + 1) xs)
 pushed f xs start now next i x below e more is =
     more ∙ ap (λ ys. ys ++ f x ∷ []) e ∙ append_assoc start (map f (take i xs)) (f x ∷ []) ∙ ap (λ y. start ++ (map f (take i xs) ++ f y ∷ [])) is
     ∙ ap (λ ys. start ++ ys) (sym (map-append f (take i xs) (get_or xs i x ∷ [])) ∙ ap (map f) (sym (take_more xs i x below)))
-
--- all items
-pub pushed_all : {X Y : Type 0} (f : X → Y) (xs : List X) (start now : List Y) (i : ℕ) → length xs ≤ i → now ≡ start ++ map f (take i xs) → now ≡ start ++ map f xs
-pushed_all f xs start now i past e = e ∙ ap (λ ys. start ++ map f ys) (take_all i xs past)

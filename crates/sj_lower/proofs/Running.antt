@@ -1,11 +1,9 @@
 -- A lowered task does to its cells what the task line does to its children.
 use Rattle.std.proofs.Common.{◌≡◌, ℕ, ◌+◌, Bool, true, false, not, ◌&&◌, ◌||◌, cond, Option, Some, None, List, [], ◌∷◌, ◌++◌, length, map as each_of, refl, sym, ap, ◌∙◌, arith}
-use Rattle.std.specs.Prelude.{nat_lt}
 use Rattle.std.specs.List.{AllByRecursion, zip, filter, list_all, list_any}
 use Rattle.std.specs.Option.{is_some}
 use Rattle.std.specs.Str.{bytes_eq}
-use Rattle.std.proofs.lemmas.Bool.{false≢true, and_parts}
-use Rattle.std.proofs.lemmas.Bool.Decides.{nat_tests}
+use Rattle.std.proofs.lemmas.Bool.{false≢true, and_parts, or_left, or_right, or_parts}
 use Rattle.std.proofs.lemmas.List.{length-map, length-replicate}
 use Rattle.sj_base.specs.declared.ids.Cell.{Cell}
 use Rattle.sj_base.specs.declared.tile.Dims.{Dims}
@@ -20,9 +18,13 @@ use Rattle.sj_codelet.specs.declared.kernel.Kernel.{Kernel}
 use Rattle.sj_codelet.specs.declared.formal.Formal.{Formal}
 use Rattle.sj_codelet.specs.Kernel.{formals_of, out, fits}
 use Rattle.sj_core.specs.Program.{same_cell, dims_of, task_of}
-use Rattle.sj_base.specs.Mode.{is_written, is_redux, is_data}
+use Rattle.sj_base.specs.Mode.{is_written, is_redux, is_data, is_read_only}
+use Rattle.sj_base.proofs.Bools.{implied}
+use Rattle.sj_base.proofs.SameIds.{same_cell-itself}
+use Rattle.sj_base.specs.Ids.{task}
 use Rattle.sj_codelet.specs.Formal.{outputs_among}
 use Rattle.sj_codelet.specs.Laws.{unit_of}
+use Rattle.sj_codelet.proofs.Table.{each_dims}
 use Rattle.sj_core.proofs.Combining.{unit-dims, unit-tile}
 use Rattle.sj_core.specs.Fold.{Contents, held_in, after_task}
 use Rattle.sj_core.specs.Operands.{worked_on, written_cells, found, results}
@@ -33,40 +35,21 @@ use Rattle.sj_plan.specs.Rect.{dims_of as rect_dims}
 use Rattle.sj_plan.specs.Window.{IsWhole}
 use Rattle.sj_meaning.specs.Statement.{Operand, TaskLine}
 use Rattle.sj_meaning.specs.State.{Root, State, root_of, is_valued, is_child, child_rect, is_valued_child}
-use Rattle.sj_meaning.specs.Meaning.{child_array, child_unit, seen_by, operand_array, is_written as writes, written_of as written_operands, run_task}
-use Rattle.sj_meaning.specs.Sound.{modes_fit, needs_value, clashes, is_aliased, is_read_only}
+use Rattle.sj_meaning.specs.Meaning.{child_array, child_unit, seen_by, operand_array, written_of as written_operands, run_task}
+use Rattle.sj_meaning.specs.Sound.{modes_fit, needs_value, clashes, is_aliased}
 use Rattle.sj_meaning.specs.Sound.{has_child, has_child_values, child_dims, IsSoundTask}
 use Rattle.sj_meaning.specs.Table.{undivided}
 use Rattle.sj_lower.specs.Cells.{Cells, cell_of}
 use Rattle.sj_lower.specs.Lowering.{active_cell, access_of}
-use Rattle.sj_lower.proofs.Contents.{first_worker, task_at, same_cell-itself}
+use Rattle.sj_lower.proofs.Contents.{first_worker}
 use Rattle.sj_lower.proofs.Elements.{child-whole}
 use Rattle.sj_lower.proofs.Holding.{HasCells, HaveRoots, HaveTheirs, GivesAll, IsOther, same_child, cell-dims, holds-put_all, holds-later, holds-same}
 use Rattle.sj_lower.proofs.Combined.{IsTrusted, Phases, denoted-closed}
 use Rattle.sj_lower.proofs.Laid.{AreLaid}
-use Rattle.sj_lower.proofs.Writing.{outputs-written, all_dims, AreWhole, out_dims, out_whole, IsCall, call_of, fit_from_fits}
+use Rattle.sj_lower.proofs.Writing.{outputs-written, AreWhole, out_dims, out_whole, IsCall, call_of, fit_from_fits}
+use Rattle.sj_job.proofs.Children.{place-from_test}
 
 -- ---- words
-
-pub or_left : (a b : Bool) → a ≡ true → (a || b) ≡ true
-or_left true b e = refl
-or_left false b e = absurd (false≢true e)
-
-pub or_right : (a b : Bool) → b ≡ true → (a || b) ≡ true
-or_right true b e = refl
-or_right false b e = e
-
-pub or_none : (a b : Bool) → (a || b) ≡ false → (a ≡ false) × (b ≡ false)
-or_none true b e = absurd (false≢true (sym e))
-or_none false b e = (refl, e)
-
-pub same_writes : (m : Mode) → writes m ≡ is_written m
-same_writes R = refl
-same_writes W = refl
-same_writes RW = refl
-same_writes Scratch = refl
-same_writes Redux = refl
-same_writes Commute = refl
 
 -- the operand is no contribution
 abbrev pub is_direct : Mode → Bool
@@ -90,11 +73,6 @@ valued_there (Some r) e = (r, refl, e)
 
 -- ---- operands that are children
 
-pub is_child-place : (p : Parts) (place : ℕ × ℕ) → is_child p place ≡ true → IsPlace p place
-is_child-place p place h =
-    let both = and_parts (nat_lt place.0 p.r) (nat_lt place.1 p.c) h in
-    (grind (arith, nat_tests, both.0), grind (arith, nat_tests, both.1))
-
 -- an operand's root, of which it is a child
 pub record IsThere (S : State) (o : Operand (List ℕ)) : Type 0 where
   pub root : Root
@@ -106,7 +84,7 @@ child_there S o h = by_root (root_of S o.name) refl h
   where
     by_root : (x : Option Root) → root_of S o.name ≡ x → (elim x as (λ _. Bool) [ None ↦ false | Some r ↦ is_child r.parts o.place ]) ≡ true → IsThere S o
     by_root None e h = absurd (false≢true h)
-    by_root (Some r) e h = record { root = r; is_root = e; placed = is_child-place r.parts o.place h }
+    by_root (Some r) e h = record { root = r; is_root = e; placed = place-from_test r.parts o.place h }
 
 pub child_dims-are : (S : State) (o : Operand (List ℕ)) (r : Root) → root_of S o.name ≡ Some r → child_dims S o ≡ rect_dims (child_rect r o.place)
 child_dims-are S o r e = ap (λ (x : Option Root). elim x as (λ _. Dims) [ None ↦ record { rows = 0; cols = 0 } | Some r ↦ rect_dims (child_rect r o.place) ]) e
@@ -134,10 +112,6 @@ by_mode p k RW c r place h d v = v refl
 by_mode p k Scratch c r place h d v = ap zeros d
 by_mode p k Redux c r place h d v = absurd (false≢true h)
 by_mode p k Commute c r place h d v = v refl
-
-pub needed : (a b : Bool) → (not a || b) ≡ true → a ≡ true → b ≡ true
-needed true b e h = e
-needed false b e h = absurd (false≢true h)
 
 -- no phase is open on the child of an operand that is accessed
 abbrev pub IsClosed : Phases → State → Cells → Operand (List ℕ) → Type 0
@@ -167,7 +141,7 @@ one_found p C phases n k S o trust cells laid has closed h placed valued =
     let cell = active_cell-is S C o.name o.place t.root t.is_root in
     ap (λ (c : Cell). let a : Access = record { mode = o.mode; cell = c } in found p first_worker (held_in p k) a) cell
     ∙ by_mode p k o.mode (cell_of C o.name t.root.parts o.place) t.root o.place h (cell-dims p C o.name t.root.dims t.root.parts b.first o.place cells laid b.taken t.placed)
-    (λ needs. sym (denoted-closed p phases k (cell_of C o.name t.root.parts o.place) (ap phases (sym cell) ∙ closed (data_needs o.mode needs))) ∙ (b.held o.place t.placed (sym (child_values-are S o t.root t.is_root) ∙ needed (needs_value o.mode) (has_child_values S o) valued needs)).value trust)
+    (λ needs. sym (denoted-closed p phases k (cell_of C o.name t.root.parts o.place) (ap phases (sym cell) ∙ closed (data_needs o.mode needs))) ∙ (b.held o.place t.placed (sym (child_values-are S o t.root t.is_root) ∙ implied (needs_value o.mode) (has_child_values S o) valued needs)).value trust)
     ∙ sym (seen_there S o t.root t.is_root)
 
 pub all_found : (p : Program) (C : Cells) (phases : Phases) (n : ℕ) (k : Contents) (S : State) (os : List (Operand (List ℕ))) → IsTrusted p → HasCells p C → AreLaid C → HaveRoots p C phases n k S → AllByRecursion (IsClosed phases S C) os → list_all (λ o. is_direct o.mode) os ≡ true → list_all (has_child S) os ≡ true → list_all (λ o. not (needs_value o.mode) || has_child_values S o) os ≡ true → each_of (found p first_worker (held_in p k)) (each_of (access_of S C) os) ≡ each_of (operand_array S) os
@@ -193,24 +167,22 @@ cells_written : (p : Program) (S : State) (C : Cells) (os : List (Operand (List 
 cells_written p S C [] h = refl
 cells_written p S C (o ∷ os) h =
     let a = and_parts (is_direct o.mode) (list_all (λ o. is_direct o.mode) os) h in
-    by_cases (is_written o.mode) (writes o.mode) (sym (same_writes o.mode)) a.0 (cells_written p S C os a.1)
+    by_cases (is_written o.mode) a.0 (cells_written p S C os a.1)
   where
-    by_cases : (b c : Bool) → b ≡ c → is_direct o.mode ≡ true → each_of (worked_on p first_worker) (filter (λ a. is_written a.mode) (each_of (access_of S C) os)) ≡ each_of (operand_cell S C) (written_operands os)
+    by_cases : (b : Bool) → is_direct o.mode ≡ true → each_of (worked_on p first_worker) (filter (λ a. is_written a.mode) (each_of (access_of S C) os)) ≡ each_of (operand_cell S C) (written_operands os)
         → each_of (worked_on p first_worker) (cond b (access_of S C o ∷ filter (λ a. is_written a.mode) (each_of (access_of S C) os)) (filter (λ a. is_written a.mode) (each_of (access_of S C) os)))
-        ≡ each_of (operand_cell S C) (cond c (o ∷ written_operands os) (written_operands os))
-    by_cases true true e h rest = ap (λ (c : Cell). c ∷ each_of (worked_on p first_worker) (filter (λ a. is_written a.mode) (each_of (access_of S C) os))) (worked_plain p o.mode (operand_cell S C o) h) ∙ ap (λ (cs : List Cell). operand_cell S C o ∷ cs) rest
-    by_cases true false e h rest = absurd (false≢true (sym e))
-    by_cases false true e h rest = absurd (false≢true e)
-    by_cases false false e h rest = rest
+        ≡ each_of (operand_cell S C) (cond b (o ∷ written_operands os) (written_operands os))
+    by_cases true h rest = ap (λ (c : Cell). c ∷ each_of (worked_on p first_worker) (filter (λ a. is_written a.mode) (each_of (access_of S C) os))) (worked_plain p o.mode (operand_cell S C o) h) ∙ ap (λ (cs : List Cell). operand_cell S C o ∷ cs) rest
+    by_cases false h rest = rest
 
 -- no child that is written stands in another operand
-pub other_written : (o : Operand (List ℕ)) (os : List (Operand (List ℕ))) → writes o.mode ≡ true → list_any (clashes o) os ≡ false → IsOther o (written_operands os)
+pub other_written : (o : Operand (List ℕ)) (os : List (Operand (List ℕ))) → is_written o.mode ≡ true → list_any (clashes o) os ≡ false → IsOther o (written_operands os)
 other_written o [] w h = tt
 other_written o (p ∷ os) w h =
-    let a = or_none (clashes o p) (list_any (clashes o) os) h in
-    by_cases (writes p.mode) (other_written o os w a.1) (clash o.mode p.mode (bytes_eq o.name p.name) (same_place o.place p.place) w a.0)
+    let a = or_parts (clashes o p) (list_any (clashes o) os) h in
+    by_cases (is_written p.mode) (other_written o os w a.1) (clash o.mode p.mode (bytes_eq o.name p.name) (same_place o.place p.place) w a.0)
   where
-    clash : (m k : Mode) (b c : Bool) → writes m ≡ true → (b && c && not (is_read_only m && is_read_only k)) ≡ false → (b && c) ≡ false
+    clash : (m k : Mode) (b c : Bool) → is_written m ≡ true → (b && c && not (is_read_only m && is_read_only k)) ≡ false → (b && c) ≡ false
     clash m k false c w e = refl
     clash m k true false w e = refl
     clash R k true true w e = absurd (false≢true w)
@@ -243,12 +215,12 @@ all_written : (S : State) (C : Cells) (os : List (Operand (List ℕ))) → list_
 all_written S C [] h = tt
 all_written S C (o ∷ os) h =
     let a = and_parts (is_direct o.mode) (list_all (λ o. is_direct o.mode) os) h in
-    by_cases (writes o.mode) refl a.0 (written-more S C (access_of S C o) (each_of (access_of S C) os) (written_operands os) (all_written S C os a.1))
+    by_cases (is_written o.mode) refl a.0 (written-more S C (access_of S C o) (each_of (access_of S C) os) (written_operands os) (all_written S C os a.1))
   where
-    by_cases : (b : Bool) → writes o.mode ≡ b → is_direct o.mode ≡ true → Written S C (each_of (access_of S C) (o ∷ os)) (written_operands os) → Written S C (each_of (access_of S C) (o ∷ os)) (cond b (o ∷ written_operands os) (written_operands os))
+    by_cases : (b : Bool) → is_written o.mode ≡ b → is_direct o.mode ≡ true → Written S C (each_of (access_of S C) (o ∷ os)) (written_operands os) → Written S C (each_of (access_of S C) (o ∷ os)) (cond b (o ∷ written_operands os) (written_operands os))
     by_cases true w h rest = (
       or_left (is_written o.mode && not (is_redux o.mode) && same_cell (operand_cell S C o) (operand_cell S C o)) (list_any (λ (a : Access). is_written a.mode && not (is_redux a.mode) && same_cell a.cell (operand_cell S C o)) (each_of (access_of S C) os))
-          (all_true (is_written o.mode) (is_redux o.mode) (same_cell (operand_cell S C o) (operand_cell S C o)) (sym (same_writes o.mode) ∙ w) (direct_isn't_redux o.mode h) (same_cell-itself (operand_cell S C o))),
+          (all_true (is_written o.mode) (is_redux o.mode) (same_cell (operand_cell S C o) (operand_cell S C o)) w (direct_isn't_redux o.mode h) (same_cell-itself (operand_cell S C o))),
       rest,
     )
     by_cases false w h rest = rest
@@ -260,7 +232,7 @@ pub all_placed : (S : State) (os : List (Operand (List ℕ))) → list_all (has_
 all_placed S [] h = tt
 all_placed S (o ∷ os) h =
     let b = and_parts (has_child S o) (list_all (has_child S) os) h in
-    by_cases (writes o.mode) b.0 (all_placed S os b.1)
+    by_cases (is_written o.mode) b.0 (all_placed S os b.1)
   where
     by_cases : (b : Bool) → has_child S o ≡ true → Placed S (written_operands os) → Placed S (cond b (o ∷ written_operands os) (written_operands os))
     by_cases true h rest = (h, rest)
@@ -273,10 +245,10 @@ AllOther (o ∷ os) = IsOther o os × AllOther os
 all_other : (os : List (Operand (List ℕ))) → is_aliased os ≡ false → AllOther (written_operands os)
 all_other [] h = tt
 all_other (o ∷ os) h =
-    let a = or_none (list_any (clashes o) os) (is_aliased os) h in
-    by_cases (writes o.mode) refl a.0 (all_other os a.1)
+    let a = or_parts (list_any (clashes o) os) (is_aliased os) h in
+    by_cases (is_written o.mode) refl a.0 (all_other os a.1)
   where
-    by_cases : (b : Bool) → writes o.mode ≡ b → list_any (clashes o) os ≡ false → AllOther (written_operands os) → AllOther (cond b (o ∷ written_operands os) (written_operands os))
+    by_cases : (b : Bool) → is_written o.mode ≡ b → list_any (clashes o) os ≡ false → AllOther (written_operands os) → AllOther (cond b (o ∷ written_operands os) (written_operands os))
     by_cases true w h rest = (other_written o os w h, rest)
     by_cases false w h rest = rest
 
@@ -292,13 +264,13 @@ AllClosed phases S C os = AllByRecursion (λ o. phases (operand_cell S C o) ≡ 
 
 all_closed : (phases : Phases) (S : State) (C : Cells) (os : List (Operand (List ℕ))) → AllByRecursion (IsClosed phases S C) os → AllClosed phases S C (written_operands os)
 all_closed phases S C [] h = tt
-all_closed phases S C (o ∷ os) h = by_cases (writes o.mode) refl h.0 (all_closed phases S C os h.1)
+all_closed phases S C (o ∷ os) h = by_cases (is_written o.mode) refl h.0 (all_closed phases S C os h.1)
   where
-    by_cases : (b : Bool) → writes o.mode ≡ b → IsClosed phases S C o → AllClosed phases S C (written_operands os) → AllClosed phases S C (cond b (o ∷ written_operands os) (written_operands os))
-    by_cases true w h rest = (h (data_written o.mode (sym (same_writes o.mode) ∙ w)), rest)
+    by_cases : (b : Bool) → is_written o.mode ≡ b → IsClosed phases S C o → AllClosed phases S C (written_operands os) → AllClosed phases S C (cond b (o ∷ written_operands os) (written_operands os))
+    by_cases true w h rest = (h (data_written o.mode w), rest)
     by_cases false w h rest = rest
 
-gives_all : (p : Program) (C : Cells) (phases : Phases) (n : ℕ) (S : State) (accesses : List Access) (os : List (Operand (List ℕ))) (xs : List Array) → (task_of p (task_at n)).accesses ≡ accesses → Written S C accesses os → Placed S os → AllOther os → AllClosed phases S C os → all_dims xs ≡ each_of (child_dims S) os → AreWhole xs → GivesAll p C phases (n + 1) S (operand_cell S C) os xs
+gives_all : (p : Program) (C : Cells) (phases : Phases) (n : ℕ) (S : State) (accesses : List Access) (os : List (Operand (List ℕ))) (xs : List Array) → (task_of p (task n)).accesses ≡ accesses → Written S C accesses os → Placed S os → AllOther os → AllClosed phases S C os → each_dims xs ≡ each_of (child_dims S) os → AreWhole xs → GivesAll p C phases (n + 1) S (operand_cell S C) os xs
 gives_all p C phases n S accesses [] xs t w r o z d whole = tt
 gives_all p C phases n S accesses (u ∷ us) [] t w r o z d whole = absurd (cc)
 gives_all p C phases n S accesses (u ∷ us) (a ∷ xs) t w r o z d whole =
@@ -307,14 +279,14 @@ gives_all p C phases n S accesses (u ∷ us) (a ∷ xs) t w r o z d whole =
         root = there.root;
         is_root = there.is_root;
         placed = there.placed;
-        dims = head_of a.dims (child_dims S u) (all_dims xs) (each_of (child_dims S) us) d ∙ child_dims-are S u there.root there.is_root;
+        dims = head_of a.dims (child_dims S u) (each_dims xs) (each_of (child_dims S) us) d ∙ child_dims-are S u there.root there.is_root;
         whole = whole.0;
         cell_is = active_cell-is S C u.name u.place there.root there.is_root;
-        given = (task_at n, omega arith, ap (λ (as' : List Access). list_any (λ (a : Access). is_written a.mode && not (is_redux a.mode) && same_cell a.cell (operand_cell S C u)) as') t ∙ w.0);
+        given = (task n, omega arith, ap (λ (as' : List Access). list_any (λ (a : Access). is_written a.mode && not (is_redux a.mode) && same_cell a.cell (operand_cell S C u)) as') t ∙ w.0);
         closed = z.0;
       },
       o.0,
-      gives_all p C phases n S accesses us xs t w.1 r.1 o.1 z.1 (tail_of a.dims (child_dims S u) (all_dims xs) (each_of (child_dims S) us) d) whole.1,
+      gives_all p C phases n S accesses us xs t w.1 r.1 o.1 z.1 (tail_of a.dims (child_dims S u) (each_dims xs) (each_of (child_dims S) us) d) whole.1,
     )
 
 -- ---- the task as a whole
@@ -339,9 +311,9 @@ seen_dims S o (Some r) e = by o.mode
     by Redux = contributed (is_valued_child r o.place)
     by Commute = refl
 
-all_seen_dims : (S : State) (os : List (Operand (List ℕ))) → all_dims (each_of (operand_array S) os) ≡ each_of (child_dims S) os
+all_seen_dims : (S : State) (os : List (Operand (List ℕ))) → each_dims (each_of (operand_array S) os) ≡ each_of (child_dims S) os
 all_seen_dims S [] = refl
-all_seen_dims S (o ∷ os) = ap (λ (d : Dims). d ∷ all_dims (each_of (operand_array S) os)) (seen_dims S o (root_of S o.name) refl) ∙ ap (λ (ds : List Dims). child_dims S o ∷ ds) (all_seen_dims S os)
+all_seen_dims S (o ∷ os) = ap (λ (d : Dims). d ∷ each_dims (each_of (operand_array S) os)) (seen_dims S o (root_of S o.name) refl) ∙ ap (λ (ds : List Dims). child_dims S o ∷ ds) (all_seen_dims S os)
 
 seen_whole : (S : State) (o : Operand (List ℕ)) (x : Option Root) → IsWhole (elim x as (λ _. Array) [ None ↦ array (record { rows = 0; cols = 0 }) [] | Some r ↦ seen_by o.mode r o.place ])
 seen_whole S o None = refl
@@ -370,18 +342,6 @@ all_seen_whole : (S : State) (os : List (Operand (List ℕ))) → AreWhole (each
 all_seen_whole S [] = tt
 all_seen_whole S (o ∷ os) = (seen_whole S o (root_of S o.name), all_seen_whole S os)
 
-dims_of_written : (S : State) (os : List (Operand (List ℕ))) → each_of (child_dims S) (filter (λ (o : Operand (List ℕ)). is_written o.mode) os) ≡ each_of (child_dims S) (written_operands os)
-dims_of_written S [] = refl
-dims_of_written S (o ∷ os) = by_cases (is_written o.mode) (writes o.mode) (sym (same_writes o.mode)) (dims_of_written S os)
-  where
-    by_cases : (b c : Bool) → b ≡ c → each_of (child_dims S) (filter (λ (o : Operand (List ℕ)). is_written o.mode) os) ≡ each_of (child_dims S) (written_operands os)
-        → each_of (child_dims S) (cond b (o ∷ filter (λ (o : Operand (List ℕ)). is_written o.mode) os) (filter (λ (o : Operand (List ℕ)). is_written o.mode) os))
-        ≡ each_of (child_dims S) (cond c (o ∷ written_operands os) (written_operands os))
-    by_cases true true e rest = ap (λ (ds : List Dims). child_dims S o ∷ ds) rest
-    by_cases true false e rest = absurd (false≢true (sym e))
-    by_cases false true e rest = absurd (false≢true e)
-    by_cases false false e rest = rest
-
 -- the codelet of a task, with its operands in its modes
 pub record HasKernel (t : TaskLine (List ℕ)) (S : State) : Type 0 where
   pub call : IsCall t.codelet t.args (each_of (child_dims S) t.operands)
@@ -394,7 +354,7 @@ kernel_there has S t s =
     let f = fit_from_fits c.kernel t.args (each_of (child_dims S) t.operands) c.fits in
     record { call = c; modes = ap (λ (fs : List Formal). modes_fit fs t.operands) (sym c.formals) ∙ s.modes; count = sym (length-map t.operands (child_dims S)) ∙ f.count }
 
-pub new_dims : (has : Kernel → Bool) (S : State) (t : TaskLine (List ℕ)) → IsSoundTask has S t → all_dims (out t.codelet t.args (each_of (operand_array S) t.operands)) ≡ each_of (child_dims S) (written_operands t.operands)
+pub new_dims : (has : Kernel → Bool) (S : State) (t : TaskLine (List ℕ)) → IsSoundTask has S t → each_dims (out t.codelet t.args (each_of (operand_array S) t.operands)) ≡ each_of (child_dims S) (written_operands t.operands)
 new_dims has S t s =
     let k = kernel_there has S t s in
     let ins = each_of (operand_array S) t.operands in
@@ -402,7 +362,6 @@ new_dims has S t s =
     out_dims k.call.kernel t.codelet t.args ins k.call.is (ap (fits k.call.kernel t.args) dims ∙ k.call.fits)
     ∙ ap (λ (ds : List Dims). outputs_among (formals_of k.call.kernel) ds) dims
     ∙ outputs-written (child_dims S) (formals_of k.call.kernel) t.operands k.modes k.count
-    ∙ dims_of_written S t.operands
 
 pub new_whole : (has : Kernel → Bool) (S : State) (t : TaskLine (List ℕ)) → IsSoundTask has S t → AreWhole (out t.codelet t.args (each_of (operand_array S) t.operands))
 new_whole has S t s =
@@ -412,17 +371,17 @@ new_whole has S t s =
 -- a lowered task without contributions leaves in its cells what the task line leaves in its children
 pub holds-task : (has : Kernel → Bool) (p : Program) (C : Cells) (phases : Phases) (n : ℕ) (k : Contents) (S : State) (t : TaskLine (List ℕ)) (l : Lowered)
     → HasCells p C → AreLaid C → HaveTheirs p.workers C phases → HaveRoots p C phases n k S → IsSoundTask has S t → list_all (λ o. is_direct o.mode) t.operands ≡ true → AllByRecursion (IsClosed phases S C) t.operands
-    → task_of p (task_at n) ≡ l → l.codelet ≡ t.codelet → l.args ≡ t.args → l.accesses ≡ each_of (access_of S C) t.operands
-    → HaveRoots p C phases (n + 1) (after_task p first_worker (task_at n) k) (run_task t S)
+    → task_of p (task n) ≡ l → l.codelet ≡ t.codelet → l.args ≡ t.args → l.accesses ≡ each_of (access_of S C) t.operands
+    → HaveRoots p C phases (n + 1) (after_task p first_worker (task n) k) (run_task t S)
 holds-task has p C phases n k S t l cells laid theirs roots s direct closed is ec ea eo =
-    let accesses : (task_of p (task_at n)).accesses ≡ each_of (access_of S C) t.operands = ap (λ (k : Lowered). k.accesses) is ∙ eo in
+    let accesses : (task_of p (task n)).accesses ≡ each_of (access_of S C) t.operands = ap (λ (k : Lowered). k.accesses) is ∙ eo in
     let outs = out t.codelet t.args (each_of (operand_array S) t.operands) in
     let g = gives_all p C phases n S (each_of (access_of S C) t.operands) (written_operands t.operands) outs accesses (all_written S C t.operands direct) (all_placed S t.operands s.placed) (all_other t.operands s.apart) (all_closed phases S C t.operands closed) (new_dims has S t s) (new_whole has S t s) in
     let meant = holds-put_all p C phases (n + 1) (operand_cell S C) (written_operands t.operands) outs k S laid theirs (holds-later p C phases n (n + 1) k S (omega arith) roots) g in
-    let written : written_cells p (task_at n) first_worker ≡ each_of (operand_cell S C) (written_operands t.operands) = ap (λ (as' : List Access). each_of (worked_on p first_worker) (filter (λ a. is_written a.mode) as')) accesses ∙ cells_written p S C t.operands direct in
-    let made : IsTrusted p → results p (task_at n) first_worker (held_in p k) ≡ outs = λ trust.
+    let written : written_cells p (task n) first_worker ≡ each_of (operand_cell S C) (written_operands t.operands) = ap (λ (as' : List Access). each_of (worked_on p first_worker) (filter (λ a. is_written a.mode) as')) accesses ∙ cells_written p S C t.operands direct in
+    let made : IsTrusted p → results p (task n) first_worker (held_in p k) ≡ outs = λ trust.
     ap (λ (l : Lowered). out l.codelet l.args (each_of (found p first_worker (held_in p k)) l.accesses)) is
     ∙ (λ i. out (ec i) (ea i) (each_of (found p first_worker (held_in p k)) (eo i)))
     ∙ ap (out t.codelet t.args) (all_found p C phases n k S t.operands trust cells laid roots closed direct s.placed s.valued) in
-    holds-same p C phases (n + 1) (zip (each_of (operand_cell S C) (written_operands t.operands)) outs ++ k) (after_task p first_worker (task_at n) k) (run_task t S)
+    holds-same p C phases (n + 1) (zip (each_of (operand_cell S C) (written_operands t.operands)) outs ++ k) (after_task p first_worker (task n) k) (run_task t S)
     (λ trust c. ap (λ (new : Contents). held_in p new c) (λ i. zip (written i) (made trust i) ++ k)) meant

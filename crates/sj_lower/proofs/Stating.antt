@@ -3,16 +3,17 @@ use Rattle.std.proofs.Common.{◌≡◌, ℕ, Bool, true, false, cond, Option, S
 use Rattle.sj_base.specs.declared.ids.Cell.{Cell}
 use Rattle.sj_base.specs.declared.program.Lowered.{Lowered}
 use Rattle.sj_base.specs.declared.program.Program.{Program}
+use Rattle.sj_base.proofs.SameIds.{same_cell-is, same_cell-itself}
 use Rattle.sj_core.specs.Program.{same_cell}
 use Rattle.sj_plan.specs.Parts.{IsPlace}
 use Rattle.sj_meaning.specs.Act.{Act, Statement}
 use Rattle.sj_meaning.specs.Act.{Register as Registers, Plan as Plans, Redux as Reduces, Task as Tasks, Print as Prints, Invalidate as Invalidates, Unregister as Unregisters}
 use Rattle.sj_meaning.specs.State.{Root, State, root_of}
 use Rattle.sj_lower.specs.declared.phase.OpenPhase.{OpenPhase}
-use Rattle.sj_lower.specs.Cells.{Cells, cell_of, with_root}
-use Rattle.sj_lower.specs.Lowering.{Lowering, cells_after, rows_of, add_own, with_phase}
+use Rattle.sj_lower.specs.Cells.{Cells, cell_of, with_new_root}
+use Rattle.sj_lower.specs.Lowering.{Lowering, cells_after, rows_added, add_own, with_phase}
 use Rattle.sj_lower.proofs.Combined.{Phases}
-use Rattle.sj_lower.proofs.Contents.{contents_before, same_cell-is, same_cell-itself}
+use Rattle.sj_lower.proofs.Contents.{contents_before}
 use Rattle.sj_lower.proofs.Copies.{take-more}
 use Rattle.sj_lower.proofs.Folding.{Stand, stand-there}
 use Rattle.sj_lower.proofs.Growing.{Grows, grows-refl, grows-trans}
@@ -39,7 +40,7 @@ pub stands-more : (p : Program) (L M : Lowering) (ls : List Lowered) → M.tasks
 stands-more p L M ls e b = stand-there p L.tasks ls b.tasks (b.all_tasks ∙ ap (λ ts. ts ++ b.tasks) e)
 
 pub cells-grow : (a : Act (List ℕ)) (C : Cells) → Grows C.rows (cells_after a C).rows
-cells-grow (Registers r) C = take-more (with_root r.name r.dims C) r.name r.parts
+cells-grow (Registers r) C = take-more (with_new_root r.name r.dims C) r.name r.parts
 cells-grow (Plans name p) C = take-more C name p
 cells-grow (Reduces name by) C = grows-refl C.rows
 cells-grow (Tasks t) C = grows-refl C.rows
@@ -48,10 +49,10 @@ cells-grow (Invalidates name) C = grows-refl C.rows
 cells-grow (Unregisters name) C = grows-refl C.rows
 
 pub begins-own : (p : Program) (S : State) (s : Statement (List ℕ)) (L : Lowering) → Begins p (add_own S s L) → Begins p L
-begins-own p S s L b = begins-less p L (add_own S s L) (rows_of S (cells_after s.act L.cells) s.line s.act) (cells-grow s.act L.cells) refl b
+begins-own p S s L b = begins-less p L (add_own S s L) (rows_added S (cells_after s.act L.cells) s.line s.act) (cells-grow s.act L.cells) refl b
 
-pub stands-own : (p : Program) (S : State) (s : Statement (List ℕ)) (L : Lowering) → Begins p (add_own S s L) → Stand p (length L.tasks) (rows_of S (cells_after s.act L.cells) s.line s.act)
-stands-own p S s L b = stands-more p L (add_own S s L) (rows_of S (cells_after s.act L.cells) s.line s.act) refl b
+pub stands-own : (p : Program) (S : State) (s : Statement (List ℕ)) (L : Lowering) → Begins p (add_own S s L) → Stand p (length L.tasks) (rows_added S (cells_after s.act L.cells) s.line s.act)
+stands-own p S s L b = stands-more p L (add_own S s L) (rows_added S (cells_after s.act L.cells) s.line s.act) refl b
 
 -- ---- what agrees
 

@@ -25,7 +25,7 @@ use Rattle.sj_lower.specs.Cells.{Cells, cells_from, with_copies}
 use Rattle.sj_lower.specs.Limits.{most, cells_in}
 use Rattle.sj_lower.specs.Lowering.{Lowering, closed, all_closed, opened, finished}
 use Rattle.sj_lower.specs.Seen.{Lays, active_at}
-use Rattle.sj_lower.specs.Progress.{IsAt, HasAt, Prepares, IsFullBy, HasActive, IsActiveOperand, is_other, is_contributed, cells_by, cell_by, closing_by, contributed_by, opening_for, opening_all, preparing_by}
+use Rattle.sj_lower.specs.Progress.{StandsAt, HasAt, Prepares, IsFullBy, HasActive, IsActiveOperand, is_other, is_contributed, cells_by, cell_by, closing_by, contributed_by, opening_for, opening_all, preparing_by}
 use Rattle.sj_lower.proofs.Children.{first_children, child-pushed, all-pushed}
 use Rattle.sj_lower.proofs.Following.{at-default}
 use Rattle.sj_lower.proofs.Matching.{filter-passed, filter-left, filter-parts, closed-snoc, opening-parts, opening_for-more, opening_all-more}
@@ -81,7 +81,7 @@ cell-more k c e = sym (pushed_more (λ k. let c : Cell = record { 0 = k } in c) 
 pub finishes : (old new : Progress) (line : Line) (n : ℕ) → n ≡ vec_len old.layout.infos → Prepares old new line (all_closed old.workers (first_cells n)) → Prepares old new line (finished old.workers)
 finishes old new line n e p = prepares-as old new line (all_closed old.workers (first_cells n)) (finished old.workers) (λ T S L at. ap (λ m. all_closed old.workers (first_cells m) L) (count T S L at)) p
   where
-    count : (T : Table) (S : State) (L : Lowering) → IsAt T old S L → n ≡ length L.cells.rows
+    count : (T : Table) (S : State) (L : Lowering) → StandsAt T old S L → n ≡ length L.cells.rows
     count T S L at = let rows = ap length at.lays.rows in omega (arith, e, old.layout.infos.ok, rows)
 
 -- ---- operands
@@ -103,9 +103,6 @@ still-operand old new o same more h = record {
 
 pub operand-now : (old now : Progress) (line : Line) (f : Lowering → Lowering) (o : Operand) → Prepares old now line f → IsActiveOperand old o → IsActiveOperand now o
 operand-now old now line f o p h = still-operand old now o p.actives p.cells h
-
-pub active-now : (old now : Progress) (line : Line) (f : Lowering → Lowering) (n : ℕ) → Prepares old now line f → HasActive old n → HasActive now n
-active-now old now line f n p h = still-active old now n p.actives p.cells h
 
 -- the active plan that the code reads
 pub active-is : (g : Progress) (n : ℕ) (a : Active) → HasActive g n → a ≡ get_or g.lowerer.actives.items n a → a ≡ active_at g.lowerer.actives.items n
@@ -236,7 +233,7 @@ module _ (g : Progress) (line : Line) (o : Operand) (c : Cell) (by : Reduction) 
       ∙ sym (ap (λ (x : Option Reduction). elim x as (λ _. Lowering) [ None ↦ L | Some z ↦ opened w z (is_set b.tracked o.place) line (cell_by g.lowerer.actives.items o) L ]) reduction)
 
   -- there would be too many cells with the partial copies
-  pub opens-crowded : ((T : Table) (C : Cells) → Lays T g.layout C → most < length (with_copies g.workers c C).rows) → (T : Table) (S : State) (L : Lowering) → IsAt T g S L → most < cells_in (opening_for g.workers g.lowerer.actives.items line o L)
+  pub opens-crowded : ((T : Table) (C : Cells) → Lays T g.layout C → most < length (with_copies g.workers c C).rows) → (T : Table) (S : State) (L : Lowering) → StandsAt T g S L → most < cells_in (opening_for g.workers g.lowerer.actives.items line o L)
   opens-crowded full T S L at = subst (λ (M : Lowering). most < cells_in M) (opening-is L) (opened-full g.workers by v line c L at.copied (full T L.cells at.lays))
 
   -- its phase goes on or begins
@@ -294,10 +291,6 @@ full-task old mid line a t os (TooManyCells at) is same p full = (
 )
 
 -- ---- errors
-
-pub if-err : {A E : Type 0} {P Q : E → Type 0} (r : Result A E) → ((e : E) → P e → Q e) → IfErr r P → IfErr r Q
-if-err (Ok x) f h = tt
-if-err (Err e) f h = f e h
 
 -- an error that is handed on
 pub handed-on : {A : Type 0} (r : Result A LowerRefusal) (e : LowerRefusal) (P : LowerRefusal → Type 0) → IsErrAnd r (λ x. x ≡ e) → P e → IfErr r P

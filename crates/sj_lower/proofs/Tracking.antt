@@ -1,13 +1,14 @@
 -- A task's operands and the active plans that it leaves.
-use Rattle.std.proofs.Common.{◌≡◌, ℕ, suc, ◌+◌, ◌<◌, ◌≤◌, Bool, true, false, cond, Option, Some, None, List, [], ◌∷◌, ◌++◌, length, get_or, map, refl, ap, sym, subst, ◌∙◌, arith, All, get_or-set_same, get_or-set_other, inl, inr}
+use Rattle.std.proofs.Common.{◌≡◌, ℕ, suc, ◌+◌, ◌<◌, ◌≤◌, Bool, true, false, cond, Option, Some, None, List, [], ◌∷◌, ◌++◌, length, get_or, map, refl, ap, sym, subst, ◌∙◌, arith, All}
 use Rattle.std.proofs.Math.ListN.{set}
 use Rattle.std.specs.List.{AllByRecursion}
 use Rattle.std.specs.Str.{bytes_eq}
-use Rattle.std.proofs.lemmas.Bool.{cases_eq}
-use Rattle.std.proofs.lemmas.List.{append-nil, length-map, length-set, get_or-map}
+use Rattle.std.proofs.lemmas.List.{append-nil, length-map, get_or-map}
 use Rattle.std.proofs.lemmas.List.Sums.{AllPass-from_list_all}
 use Rattle.sj_base.specs.declared.ids.Line.{Line}
 use Rattle.sj_base.specs.Array.{Array}
+use Rattle.sj_base.proofs.Texts.{same_text}
+use Rattle.sj_base.specs.Mode.{is_written}
 use Rattle.sj_codelet.specs.Kernel.{out}
 use Rattle.sj_plan.specs.declared.parts.Parts.{Parts}
 use Rattle.sj_plan.specs.Parts.{IsPlace}
@@ -16,7 +17,7 @@ use Rattle.sj_meaning.specs.declared.job.Operand.{Operand as KeptOperand}
 use Rattle.sj_meaning.specs.declared.job.TaskLine.{TaskLine as KeptTask}
 use Rattle.sj_meaning.specs.Statement.{Operand}
 use Rattle.sj_meaning.specs.State.{Root, State, root_of, is_child}
-use Rattle.sj_meaning.specs.Meaning.{is_written, operand_array, run_task, written_of, with_child, put, put_all}
+use Rattle.sj_meaning.specs.Meaning.{operand_array, run_task, written_of, with_child, put, put_all}
 use Rattle.sj_meaning.specs.Sound.{has_child}
 use Rattle.sj_meaning.specs.Table.{Table, AreDistinct, name_of}
 use Rattle.sj_job.specs.Track.{children_count, written}
@@ -28,10 +29,9 @@ use Rattle.sj_lower.specs.declared.lowerer.Lowerer.{Lowerer}
 use Rattle.sj_lower.specs.Cells.{Cells}
 use Rattle.sj_lower.specs.Limits.{most}
 use Rattle.sj_lower.specs.Lowering.{Lowering}
-use Rattle.sj_lower.specs.Seen.{no_active, active_at, AreActive, CanPass, Does, AreIn, access_by, after_write, after_writes}
+use Rattle.sj_lower.specs.Seen.{active_at, AreActive, CanPass, Does, AreIn, access_by, actives_after_writes}
 use Rattle.sj_lower.proofs.Following.{PassesTo, can-pass, changed-actives, accesses_same, lowered_task, same_phases, seen-children}
 use Rattle.sj_meaning.proofs.Finding.{root-change}
-use Rattle.sj_lower.proofs.Laid.{same_name}
 use Rattle.sj_lower.proofs.Running.{child_there}
 
 -- ---- operands
@@ -66,7 +66,7 @@ has-kept : (S : State) (o p : Operand (List ℕ)) (x : Array) (r : Root) → roo
 has-kept S o p x r e h = ap (child_by p.place) (root-change (with_child o.place x) o.name S r p.name e) ∙ by_test (bytes_eq o.name p.name) refl
   where
     by_test : (b : Bool) → bytes_eq o.name p.name ≡ b → child_by p.place (cond b (Some (with_child o.place x r)) (root_of S p.name)) ≡ true
-    by_test true t = sym (ap (child_by p.place) (ap (root_of S) (sym (same_name o.name p.name t)) ∙ e)) ∙ h
+    by_test true t = sym (ap (child_by p.place) (ap (root_of S) (sym (same_text o.name p.name t)) ∙ e)) ∙ h
     by_test false t = h
 
 all-kept : (T : Table) (S : State) (o : Operand (List ℕ)) (x : Array) (r : Root) (os : List KeptOperand) → root_of S o.name ≡ Some r → AllByRecursion (λ (p : KeptOperand). has_child S (operand_seen T p) ≡ true) os → AllByRecursion (λ (p : KeptOperand). has_child (put o x S) (operand_seen T p) ≡ true) os
@@ -91,26 +91,26 @@ seen_of T os = written_of (map (operand_seen T) os)
 
 -- where there is an array for each written operand
 abbrev Follow : Table → Cells → List KeptOperand → List Array → List Active → State → Type 0
-Follow T C os xs as' S = AreActive T C (after_writes os as') (put_all (seen_of T os) xs S)
+Follow T C os xs as' S = AreActive T C (actives_after_writes os as') (put_all (seen_of T os) xs S)
 
 write_by : (T : Table) (C : Cells) (as' : List Active) (S : State) (o : KeptOperand) (os : List KeptOperand) (xs : List Array) (b : Bool) → AreActive T C as' S → AreDistinct T.names → C.roots ≤ length T.names → o.root.0 < C.roots → has_child S (operand_seen T o) ≡ true → AllByRecursion (λ (p : KeptOperand). has_child S (operand_seen T p) ≡ true) os
     → length (cond b (operand_seen T o ∷ seen_of T os) (seen_of T os)) ≤ length xs
     → ((ys : List Array) (bs : List Active) (U : State) → AreActive T C bs U → AllByRecursion (λ (p : KeptOperand). has_child U (operand_seen T p) ≡ true) os → length (seen_of T os) ≤ length ys → Follow T C os ys bs U)
-    → AreActive T C (after_writes os (cond b (set as' o.root.0 (wrote as' o)) as')) (put_all (cond b (operand_seen T o ∷ seen_of T os) (seen_of T os)) xs S)
+    → AreActive T C (actives_after_writes os (cond b (set as' o.root.0 (wrote as' o)) as')) (put_all (cond b (operand_seen T o ∷ seen_of T os) (seen_of T os)) xs S)
 write_by T C as' S o os [] true g d few lt h hs l rest = absurd (omega (arith, l))
 write_by T C as' S o os (x ∷ xs) true g d few lt h hs l rest =
     let t = child_there S (operand_seen T o) h in
     rest xs (set as' o.root.0 (wrote as' o)) (put (operand_seen T o) x S) (write-follows T C as' S o x g d few lt h) (all-kept T S (operand_seen T o) x t.root os t.is_root hs) (omega (arith, l))
 write_by T C as' S o os xs false g d few lt h hs l rest = rest xs as' S g hs l
 
-pub writes-follow : (T : Table) (C : Cells) (as' : List Active) (S : State) (os : List KeptOperand) (xs : List Array) → AreActive T C as' S → AreDistinct T.names → C.roots ≤ length T.names → All (λ (o : KeptOperand). o.root.0 < C.roots) os → AllByRecursion (λ (o : KeptOperand). has_child S (operand_seen T o) ≡ true) os → length (written_of (map (operand_seen T) os)) ≤ length xs → AreActive T C (after_writes os as') (put_all (written_of (map (operand_seen T) os)) xs S)
+pub writes-follow : (T : Table) (C : Cells) (as' : List Active) (S : State) (os : List KeptOperand) (xs : List Array) → AreActive T C as' S → AreDistinct T.names → C.roots ≤ length T.names → All (λ (o : KeptOperand). o.root.0 < C.roots) os → AllByRecursion (λ (o : KeptOperand). has_child S (operand_seen T o) ≡ true) os → length (written_of (map (operand_seen T) os)) ≤ length xs → AreActive T C (actives_after_writes os as') (put_all (written_of (map (operand_seen T) os)) xs S)
 writes-follow T C as' S [] xs g d few lts hs l = g
 writes-follow T C as' S (o ∷ os) xs g d few lts hs l =
     write_by T C as' S o os xs (is_written o.mode) g d few (lts 0 o (omega arith)) hs.0 hs.1 l
     (λ ys bs U k hk m. writes-follow T C bs U os ys k d few (λ i e lt. lts (suc i) e (omega (arith, lt))) hk m)
 
 -- a task's children have a value from then on
-pub passes-task : (T : Table) (old : Lowerer) (as' : List Active) (t : KeptTask) (first : ℕ) → as' ≡ after_writes t.operands old.actives.items → PassesTo T old as' (kept.Task t) first
+pub passes-task : (T : Table) (old : Lowerer) (as' : List Active) (t : KeptTask) (first : ℕ) → as' ≡ actives_after_writes t.operands old.actives.items → PassesTo T old as' (kept.Task t) first
 passes-task T old as' t first ea S L pass place =
     let u = task_seen T t in
     let ins = map (operand_array S) u.operands in
@@ -119,7 +119,7 @@ passes-task T old as' t first ea S L pass place =
     (writes-follow T L.cells old.actives.items S t.operands (out u.codelet u.args ins) pass.actives pass.distinct pass.few pass.placed (seen-children T S t.operands pass.sound.placed) (omega (arith, many)))
 
 pub does-task : (T : Table) (old new : Lowerer) (t : KeptTask) (line : Line) → new.tasks.items ≡ old.tasks.items ++ lowered_task t line (map (access_by old.actives.items) t.operands) ∷ [] → new.deliveries.items ≡ old.deliveries.items → new.prints ≡ old.prints → new.phases ≡ old.phases
-    → new.actives.items ≡ after_writes t.operands old.actives.items → Does T old new (kept.Task t) 0 line
+    → new.actives.items ≡ actives_after_writes t.operands old.actives.items → Does T old new (kept.Task t) 0 line
 does-task T old new t line et ed ep eh ea S L next place = record {
   tasks = et ∙ (λ i. next.follows.tasks i ++ lowered_task t line (sym (accesses_same T S L.cells old.actives.items t.operands next.follows.actives next.placed (seen-children T S t.operands next.sound.placed)) i) ∷ []);
   deliveries = ed ∙ next.follows.deliveries ∙ sym (append-nil L.deliveries);
@@ -135,33 +135,3 @@ pub record SamePlans (old new : List Active) : Type 0 where
   pub counted : length new ≡ length old
   pub parts : (n : ℕ) → (active_at new n).tracked.parts ≡ (active_at old n).tracked.parts
   pub first : (n : ℕ) → (active_at new n).first ≡ (active_at old n).first
-
-same_set : (as' : List Active) (o : KeptOperand) → o.root.0 < length as' → SamePlans as' (set as' o.root.0 (wrote as' o))
-same_set as' o lt = record {
-  counted = length-set as' o.root.0 (wrote as' o);
-  parts = λ n. elim (cases_eq n o.root.0) as (λ _. (active_at (set as' o.root.0 (wrote as' o)) n).tracked.parts ≡ (active_at as' n).tracked.parts) [
-    | inl same ↦ ap (λ m. (active_at (set as' o.root.0 (wrote as' o)) m).tracked.parts) same ∙ ap (λ (a : Active). a.tracked.parts) (get_or-set_same as' o.root.0 (wrote as' o) no_active lt) ∙ ap (λ m. (active_at as' m).tracked.parts) (sym same)
-    | inr other ↦ ap (λ (a : Active). a.tracked.parts) (get_or-set_other as' o.root.0 n (wrote as' o) no_active other)
-  ];
-  first = λ n. elim (cases_eq n o.root.0) as (λ _. (active_at (set as' o.root.0 (wrote as' o)) n).first ≡ (active_at as' n).first) [
-    | inl same ↦ ap (λ m. (active_at (set as' o.root.0 (wrote as' o)) m).first) same ∙ ap (λ (a : Active). a.first) (get_or-set_same as' o.root.0 (wrote as' o) no_active lt) ∙ ap (λ m. (active_at as' m).first) (sym same)
-    | inr other ↦ ap (λ (a : Active). a.first) (get_or-set_other as' o.root.0 n (wrote as' o) no_active other)
-  ];
-}
-
-same_cond : (b : Bool) (as' : List Active) (o : KeptOperand) → o.root.0 < length as' → SamePlans as' (cond b (set as' o.root.0 (wrote as' o)) as')
-same_cond true as' o lt = same_set as' o lt
-same_cond false as' o lt = record { counted = refl; parts = λ n. refl; first = λ n. refl }
-
-pub same-written : (as' : List Active) (o : KeptOperand) → o.root.0 < length as' → SamePlans as' (after_write as' o)
-same-written as' o lt = same_cond (is_written o.mode) as' o lt
-
-pub same-again : (a b c : List Active) → SamePlans a b → SamePlans b c → SamePlans a c
-same-again a b c h k = record { counted = k.counted ∙ h.counted; parts = λ n. k.parts n ∙ h.parts n; first = λ n. k.first n ∙ h.first n }
-
-pub still-in : (old new : List Active) (o : KeptOperand) → SamePlans old new → AreIn old o → AreIn new o
-still-in old new o h i = record {
-  root = omega (arith, h.counted, i.root);
-  place = subst (λ (p : Parts). IsPlace p o.place) (sym (h.parts o.root.0)) i.place;
-  room = (let plan = h.parts o.root.0 in let first = h.first o.root.0 in let room = i.room in omega (arith, room, first, ap children_count plan));
-}

@@ -2,13 +2,13 @@
 use Rattle.std.proofs.Common.{◌≡◌, ℕ, ◌+◌, ◌<◌, ◌≤◌, Bool, true, false, cond, not, ◌||◌, Option, Some, None, List, [], ◌∷◌, ◌++◌, length, map as each_of, refl, sym, ap, subst, ◌∙◌, arith, length-append}
 use Rattle.std.specs.List.{All, AllByRecursion, flat_map, list_all}
 use Rattle.std.proofs.lemmas.List.Elements.{All-nil, All-cons}
-use Rattle.sj_base.specs.Mode.{is_data, is_redux}
+use Rattle.sj_base.specs.Mode.{is_data, is_redux, access}
 use Rattle.sj_base.specs.declared.ids.Cell.{Cell}
 use Rattle.sj_base.specs.declared.mode.Access.{Access}
 use Rattle.sj_base.specs.declared.mode.Mode.{Mode}
 use Rattle.sj_base.specs.declared.mode.Mode.TheVariants.{R, W, RW}
 use Rattle.std.specs.Str.{bytes_eq}
-use Rattle.std.proofs.lemmas.Bool.{false≢true, and_parts}
+use Rattle.std.proofs.lemmas.Bool.{false≢true, and_parts, not-true}
 use Rattle.std.proofs.lemmas.List.{append-nil}
 use Rattle.sj_base.specs.declared.ids.Line.{Line}
 use Rattle.sj_base.specs.declared.tile.Dims.{Dims}
@@ -34,8 +34,8 @@ use Rattle.sj_meaning.specs.State.{Root, State, root_of, is_valued}
 use Rattle.sj_meaning.specs.Meaning.{Printed, array_of, registered_root, with_parts, apply, found_by, prints}
 use Rattle.sj_meaning.specs.Table.{Table, info_of, undivided}
 use Rattle.sj_lower.specs.Cells.{Cells, Handle, same_parts, cell_of, take}
-use Rattle.sj_lower.specs.Rows.{an_access, load_row, fill_row, paste_mode, paste_row, deliver_row}
-use Rattle.sj_lower.specs.Lowering.{Lowering, cells_after, load_rows, parts_in, access_of, is_idle, plan_rows, deliver_rows, a_delivery, print_deliveries, rows_of, add_own, lower_one}
+use Rattle.sj_lower.specs.Rows.{load_row, fill_row, paste_mode, paste_row, deliver_row}
+use Rattle.sj_lower.specs.Lowering.{Lowering, cells_after, load_rows, parts_in, access_of, leaves_plan, plan_rows, deliver_rows, a_delivery, print_deliveries, rows_added, add_own, lower_one}
 use Rattle.sj_lower.specs.Delivering.{printed_as}
 use Rattle.sj_lower.proofs.Contents.{contents_before}
 use Rattle.sj_lower.proofs.Elements.{valued-child}
@@ -127,7 +127,7 @@ planned-taken : (p : Program) (L : Lowering) (S : State) (line : Line) (name : L
 planned-taken p L S line name s r e after = let h = after.roots name (with_parts s r) (there_itself S name (with_parts s r) _ (root-change (with_parts s) name S r name e)) in (h.first, h.taken)
 
 rows_good : (has : Kernel → Bool) (p : Program) (L : Lowering) (S : State) (line : Line) (a : Act (List ℕ)) → Begins p (add_own S (record { line = line; act = a }) L) → CanBe has S a → IsPrepared L S a → Agrees p L S → Agrees p (add_own S (record { line = line; act = a }) L) (apply a S)
-    → AreGood p (length L.tasks) (rows_of S (cells_after a L.cells) line a)
+    → AreGood p (length L.tasks) (rows_added S (cells_after a L.cells) line a)
 rows_good has p L S line (Registers r) b can ready g after =
     let h = registered-taken p L S line r after in
     loads_good p (cells_after (Registers r) L.cells) r line (length L.tasks) h.first r.init b.cells after.laid h.taken
@@ -170,10 +170,10 @@ plans_beside S C name s line = by_root (root_of S name)
 
     by_root : (o : Option Root) → NoneDelivers (elim o as (λ _. List Lowered) [
       | None ↦ []
-      | Some r ↦ cond (is_idle s r) [] (each_of (paste_row (cell_of C name r.parts) (cell_of C name s) line) (pastes_of r.dims r.parts s))
+      | Some r ↦ cond (leaves_plan s r) [] (each_of (paste_row (cell_of C name r.parts) (cell_of C name s) line) (pastes_of r.dims r.parts s))
     ])
     by_root None = tt
-    by_root (Some r) = by_idle (is_idle s r) r
+    by_root (Some r) = by_idle (leaves_plan s r) r
 
 -- ---- one statement
 
@@ -227,11 +227,11 @@ delivered_act : (has : Kernel → Bool) (T : Table) (p : Program) (L : Lowering)
 delivered_act has T p L S line (Registers r) out b can named ready g d =
     let s : Statement (List ℕ) = record { line = line; act = Registers r } in
     subst (λ (xs : List Printed). AreDelivered T p (add_own S s L) xs) (sym (append-nil out))
-    (delivered_beside T p L (add_own S s L) out (rows_of S (cells_after (Registers r) L.cells) line (Registers r)) (append-nil L.deliveries) refl refl (stands-own p S s L b) (loads_beside r (cells_after (Registers r) L.cells) line r.init) d)
+    (delivered_beside T p L (add_own S s L) out (rows_added S (cells_after (Registers r) L.cells) line (Registers r)) (append-nil L.deliveries) refl refl (stands-own p S s L b) (loads_beside r (cells_after (Registers r) L.cells) line r.init) d)
 delivered_act has T p L S line (Plans name parts) out b can named ready g d =
     let s : Statement (List ℕ) = record { line = line; act = Plans name parts } in
     subst (λ (xs : List Printed). AreDelivered T p (add_own S s L) xs) (sym (append-nil out))
-    (delivered_beside T p L (add_own S s L) out (rows_of S (cells_after (Plans name parts) L.cells) line (Plans name parts)) (append-nil L.deliveries) refl refl (stands-own p S s L b) (plans_beside S (cells_after (Plans name parts) L.cells) name parts line) d)
+    (delivered_beside T p L (add_own S s L) out (rows_added S (cells_after (Plans name parts) L.cells) line (Plans name parts)) (append-nil L.deliveries) refl refl (stands-own p S s L b) (plans_beside S (cells_after (Plans name parts) L.cells) name parts line) d)
 delivered_act has T p L S line (Reduces name by) out b can named ready g d =
     let s : Statement (List ℕ) = record { line = line; act = Reduces name by } in
     subst (λ (xs : List Printed). AreDelivered T p (add_own S s L) xs) (sym (append-nil out))
@@ -239,7 +239,7 @@ delivered_act has T p L S line (Reduces name by) out b can named ready g d =
 delivered_act has T p L S line (Tasks t) out b can named ready g d =
     let s : Statement (List ℕ) = record { line = line; act = Tasks t } in
     subst (λ (xs : List Printed). AreDelivered T p (add_own S s L) xs) (sym (append-nil out))
-    (delivered_beside T p L (add_own S s L) out (rows_of S L.cells line (Tasks t)) (append-nil L.deliveries) refl refl (stands-own p S s L b) (can.nameable, tt) d)
+    (delivered_beside T p L (add_own S s L) out (rows_added S L.cells line (Tasks t)) (append-nil L.deliveries) refl refl (stands-own p S s L b) (can.nameable, tt) d)
 delivered_act has T p L S line (Prints name) out b can named ready g d =
     let s : Statement (List ℕ) = record { line = line; act = Prints name } in
     let v = valued_there (root_of S name) can.sound in
@@ -276,24 +276,24 @@ away-two : (p : Program) (phases : Phases) (a b : Access) → IsAway p phases a 
 away-two p phases a b h k = All-cons (IsAway p phases) a (b ∷ []) h (away-one p phases b k)
 
 -- a child's cell on which no phase is open
-child-away : (p : Program) (C : Cells) (phases : Phases) (m : Mode) (q : List ℕ) (d : Dims) (s : Parts) (f : ℕ) (place : ℕ × ℕ) → HasCells p C → AreLaid C → HaveCopies p.workers C → IsTaken C q d s f → IsPlace s place → is_redux m ≡ false → (is_data m ≡ true → phases (cell_of C q s place) ≡ None) → IsAway p phases (an_access m (cell_of C q s place))
+child-away : (p : Program) (C : Cells) (phases : Phases) (m : Mode) (q : List ℕ) (d : Dims) (s : Parts) (f : ℕ) (place : ℕ × ℕ) → HasCells p C → AreLaid C → HaveCopies p.workers C → IsTaken C q d s f → IsPlace s place → is_redux m ≡ false → (is_data m ≡ true → phases (cell_of C q s place) ≡ None) → IsAway p phases (access m (cell_of C q s place))
 child-away p C phases m q d s f place cells laid copies t at direct shut = record { plain = plain-child p C cells copies q d s f place laid t at; direct = direct; closed = shut }
 
 loads_away : (p : Program) (C : Cells) (phases : Phases) (r : Register (List ℕ)) (line : Line) (f : ℕ) (i : Init) → HasCells p C → AreLaid C → HaveCopies p.workers C → IsTaken C r.name r.dims r.parts f → ((place : ℕ × ℕ) → IsPlace r.parts place → phases (cell_of C r.name r.parts place) ≡ None)
     → AllByRecursion (AreAway p phases) (load_rows i r.dims r.parts (cell_of C r.name r.parts) line)
 loads_away p C phases r line f (Values xs) cells laid copies t shut =
     let row = λ (place : ℕ × ℕ). load_row xs r.dims (child r.dims r.parts place) (cell_of C r.name r.parts place) line in
-    away-map p phases row (places r.parts) (each-places (λ place. AreAway p phases (row place)) r.parts (λ place h. away-one p phases (an_access W (cell_of C r.name r.parts place)) (child-away p C phases W r.name r.dims r.parts f place cells laid copies t h refl (λ e. shut place h))))
+    away-map p phases row (places r.parts) (each-places (λ place. AreAway p phases (row place)) r.parts (λ place h. away-one p phases (access W (cell_of C r.name r.parts place)) (child-away p C phases W r.name r.dims r.parts f place cells laid copies t h refl (λ e. shut place h))))
 loads_away p C phases r line f (Fill a b) cells laid copies t shut =
     let row = λ (place : ℕ × ℕ). fill_row a b r.dims (child r.dims r.parts place) (cell_of C r.name r.parts place) line in
-    away-map p phases row (places r.parts) (each-places (λ place. AreAway p phases (row place)) r.parts (λ place h. away-one p phases (an_access W (cell_of C r.name r.parts place)) (child-away p C phases W r.name r.dims r.parts f place cells laid copies t h refl (λ e. shut place h))))
+    away-map p phases row (places r.parts) (each-places (λ place. AreAway p phases (row place)) r.parts (λ place h. away-one p phases (access W (cell_of C r.name r.parts place)) (child-away p C phases W r.name r.dims r.parts f place cells laid copies t h refl (λ e. shut place h))))
 loads_away p C phases r line f Nothing cells laid copies t shut = tt
 
 -- pastes between children of two plans
 paste_away : (p : Program) (C : Cells) (phases : Phases) (name : List ℕ) (r : Root) (s : Parts) (line : Line) (g f : ℕ) (x : Paste) → HasCells p C → AreLaid C → HaveCopies p.workers C → IsTaken C name r.dims r.parts g → IsTaken C name r.dims s f
     → ((place : ℕ × ℕ) → IsPlace r.parts place → phases (cell_of C name r.parts place) ≡ None) → ((place : ℕ × ℕ) → IsPlace s place → phases (cell_of C name s place) ≡ None) → IsBetween r.dims r.parts s x → AreAway p phases (paste_row (cell_of C name r.parts) (cell_of C name s) line x)
 paste_away p C phases name r s line g f x cells laid copies t u shut fresh h =
-    away-two p phases (an_access R (cell_of C name r.parts x.from)) (an_access (paste_mode x) (cell_of C name s x.to))
+    away-two p phases (access R (cell_of C name r.parts x.from)) (access (paste_mode x) (cell_of C name s x.to))
     (child-away p C phases R name r.dims r.parts g x.from cells laid copies t h.from refl (λ e. shut x.from h.from))
     (child-away p C phases (paste_mode x) name r.dims s f x.to cells laid copies u h.to (by_first (is_first x)) (λ e. fresh x.to h.to))
   where
@@ -331,14 +331,14 @@ prints_away p L S name r line e b g shut =
     let h = g.roots name r e in
     let row = λ (place : ℕ × ℕ). deliver_row (cell_of L.cells name r.parts place) line in
     subst (AllByRecursion (AreAway p L.phase)) (sym (deliver_rows-are S L.cells name line r e))
-    (away-map p L.phase row (places r.parts) (each-places (λ place. AreAway p L.phase (row place)) r.parts (λ place at. away-one p L.phase (an_access R (cell_of L.cells name r.parts place)) (child-away p L.cells L.phase R name r.dims r.parts h.first place b.cells g.laid g.theirs.copies h.taken at refl (λ z. shut r place e at)))))
+    (away-map p L.phase row (places r.parts) (each-places (λ place. AreAway p L.phase (row place)) r.parts (λ place at. away-one p L.phase (access R (cell_of L.cells name r.parts place)) (child-away p L.cells L.phase R name r.dims r.parts h.first place b.cells g.laid g.theirs.copies h.taken at refl (λ z. shut r place e at)))))
 
 pub operand-away : (p : Program) (L : Lowering) (S : State) (o : Operand (List ℕ)) → Begins p L → Agrees p L S → has_child S o ≡ true → is_redux o.mode ≡ false → IsClosed L.phase S L.cells o → IsAway p L.phase (access_of S L.cells o)
 operand-away p L S o b g placed direct closed =
     let t = child_there S o placed in
     let h = g.roots o.name t.root t.is_root in
     let cell = active_cell-is S L.cells o.name o.place t.root t.is_root in
-    subst (λ (c : Cell). IsAway p L.phase (an_access o.mode c)) (sym cell)
+    subst (λ (c : Cell). IsAway p L.phase (access o.mode c)) (sym cell)
     (child-away p L.cells L.phase o.mode o.name t.root.dims t.root.parts h.first o.place b.cells g.laid g.theirs.copies h.taken t.placed direct (λ e. ap L.phase (sym cell) ∙ closed e))
 
 tasks_away : (p : Program) (L : Lowering) (S : State) (os : List (Operand (List ℕ))) → Begins p L → Agrees p L S → list_all (has_child S) os ≡ true → list_all (λ o. is_direct o.mode) os ≡ true → AllByRecursion (IsClosed L.phase S L.cells) os → All (IsAway p L.phase) (each_of (access_of S L.cells) os)
@@ -346,14 +346,10 @@ tasks_away p L S [] b g placed direct closed = All-nil (IsAway p L.phase)
 tasks_away p L S (o ∷ os) b g placed direct closed =
     let x = and_parts (has_child S o) (list_all (has_child S) os) placed in
     let y = and_parts (is_direct o.mode) (list_all (λ o. is_direct o.mode) os) direct in
-    All-cons (IsAway p L.phase) (access_of S L.cells o) (each_of (access_of S L.cells) os) (operand-away p L S o b g x.0 (unnot (is_redux o.mode) y.0) closed.0) (tasks_away p L S os b g x.1 y.1 closed.1)
-  where
-    unnot : (z : Bool) → not z ≡ true → z ≡ false
-    unnot true e = absurd (false≢true e)
-    unnot false e = refl
+    All-cons (IsAway p L.phase) (access_of S L.cells o) (each_of (access_of S L.cells) os) (operand-away p L S o b g x.0 (not-true (is_redux o.mode) y.0) closed.0) (tasks_away p L S os b g x.1 y.1 closed.1)
 
 rows_away : (has : Kernel → Bool) (p : Program) (L : Lowering) (S : State) (line : Line) (a : Act (List ℕ)) → Begins p (add_own S (record { line = line; act = a }) L) → CanBe has S a → IsReady L S a → Agrees p L S → Agrees p (add_own S (record { line = line; act = a }) L) (apply a S)
-    → AllByRecursion (AreAway p L.phase) (rows_of S (cells_after a L.cells) line a)
+    → AllByRecursion (AreAway p L.phase) (rows_added S (cells_after a L.cells) line a)
 rows_away has p L S line (Registers r) b can ready g after =
     let h = registered-taken p L S line r after in
     loads_away p (cells_after (Registers r) L.cells) L.phase r line h.first r.init b.cells after.laid after.theirs.copies h.taken
@@ -389,7 +385,7 @@ fine_own has T p L S line a out b can named ready f = record {
 }
   where
     ls : List Lowered
-    ls = rows_of S (cells_after a L.cells) line a
+    ls = rows_added S (cells_after a L.cells) line a
 
     after : Agrees p (add_own S (record { line = line; act = a }) L) (apply a S)
     after = agrees_act has p L S line a b can.sound (prepared-of L S a ready) f.agrees

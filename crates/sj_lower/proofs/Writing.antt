@@ -17,7 +17,7 @@ use Rattle.sj_codelet.specs.declared.formal.Formal.{Formal}
 use Rattle.sj_codelet.specs.declared.formal.Formal.TheVariants.{R as FormalR, W as FormalW, RW as FormalRW, Scratch as FormalScratch}
 use Rattle.sj_codelet.specs.Kernel.{kernel_of, formals_of, arguments_fit, dims_fit, dims_at, fits, fits_in, operand, new_arrays, out}
 use Rattle.sj_codelet.specs.Formal.{is_output, outputs_among}
-use Rattle.sj_codelet.proofs.Table.{new_arrays-dims}
+use Rattle.sj_codelet.proofs.Table.{new_arrays-dims, each_dims}
 use Rattle.sj_codelet.specs.Equations.{after_turns, paste}
 use Rattle.sj_codelet.specs.Window.{window_of}
 use Rattle.sj_codelet.specs.declared.window.Window.{Window}
@@ -75,10 +75,6 @@ outputs-written f (g ∷ fs) (o ∷ os) e l =
     by_cases true false e r = absurd (cc)
     by_cases false true e r = absurd (cc)
 
--- the dimensions of arrays
-abbrev pub all_dims : List Array → List Dims
-all_dims xs = map (λ (a : Array). a.dims) xs
-
 -- ---- whole arrays
 
 abbrev pub AreWhole : List Array → Type 0
@@ -96,7 +92,7 @@ turns_whole : (n : ℕ) (turn : ℕ → Array → Array) (a : Array) → ((k : �
 turns_whole zero turn a h w = w
 turns_whole (suc n) turn a h w = h n (after_turns n turn a)
 
-first_dims : (ins : List Array) → dims_at (all_dims ins) 0 ≡ (operand ins 0).dims
+first_dims : (ins : List Array) → dims_at (each_dims ins) 0 ≡ (operand ins 0).dims
 first_dims [] = refl
 first_dims (a ∷ ins) = refl
 
@@ -104,7 +100,7 @@ paste_whole : (w : Window) (old new : Array) → IsWhole (paste w old new)
 paste_whole w old new =
     length-table new.dims (λ i j. cond (in_rect (w.new_row, w.new_col) (record { rows = w.rows; cols = w.cols }) i j) (element old (w.old_row + (i - w.new_row)) (w.old_col + (j - w.new_col))) (item (pos 0) new.dims.cols new.elements i j))
 
-new_arrays-whole : (k : Kernel) (args : List ℤ) (ins : List Array) → arguments_fit k args (all_dims ins) ≡ true → AreWhole ins → AreWhole (new_arrays k args ins)
+new_arrays-whole : (k : Kernel) (args : List ℤ) (ins : List Array) → arguments_fit k args (each_dims ins) ≡ true → AreWhole ins → AreWhole (new_arrays k args ins)
 new_arrays-whole Fill args ins f w = (each_whole (operand ins 0).dims _, tt)
 new_arrays-whole Copy args ins f w = (operand_whole ins 0 w, tt)
 new_arrays-whole Scale args ins f w = (each_whole (operand ins 0).dims _, tt)
@@ -121,7 +117,7 @@ new_arrays-whole MinGemm args ins f w = (each_whole (operand ins 2).dims _, tt)
 new_arrays-whole FwDiag args ins f w = (turns_whole (operand ins 0).dims.rows _ (operand ins 0) (λ k m. each_whole m.dims _) (operand_whole ins 0 w), tt)
 new_arrays-whole FwRow args ins f w = (turns_whole (operand ins 0).dims.rows _ (operand ins 1) (λ k m. each_whole m.dims _) (operand_whole ins 1 w), tt)
 new_arrays-whole FwCol args ins f w = (turns_whole (operand ins 0).dims.rows _ (operand ins 1) (λ k m. each_whole m.dims _) (operand_whole ins 1 w), tt)
-new_arrays-whole Load args ins f w = ((Decides-eqb (length args) (area (dims_at (all_dims ins) 0))).0 f ∙ ap area (first_dims ins), tt)
+new_arrays-whole Load args ins f w = ((Decides-eqb (length args) (area (dims_at (each_dims ins) 0))).0 f ∙ ap area (first_dims ins), tt)
 new_arrays-whole LoadFill args ins f w = (each_whole (operand ins 0).dims _, tt)
 new_arrays-whole Paste args ins f w = (paste_whole (window_of args) (operand ins 0) (operand ins 1), tt)
 new_arrays-whole Deliver args ins f w = tt
@@ -141,17 +137,17 @@ fit_from_fits k args ds h =
     record { count = (Decides-eqb (length ds) (length (formals_of k))).0 q.0; arguments = q.1; dims = p.1 }
 
 -- the new arrays have the dimensions of the operands that are written
-pub out_dims : (k : Kernel) (id : Codelet) (args : List ℤ) (ins : List Array) → kernel_of id ≡ Some k → fits k args (all_dims ins) ≡ true → all_dims (out id args ins) ≡ outputs_among (formals_of k) (all_dims ins)
+pub out_dims : (k : Kernel) (id : Codelet) (args : List ℤ) (ins : List Array) → kernel_of id ≡ Some k → fits k args (each_dims ins) ≡ true → each_dims (out id args ins) ≡ outputs_among (formals_of k) (each_dims ins)
 out_dims k id args ins e h =
-    let f = fit_from_fits k args (all_dims ins) h in
-    ap (λ (o : Option Kernel). all_dims (elim o as (λ _. List Array) [ None ↦ [] | Some j ↦ new_arrays j args ins ])) e
+    let f = fit_from_fits k args (each_dims ins) h in
+    ap (λ (o : Option Kernel). each_dims (elim o as (λ _. List Array) [ None ↦ [] | Some j ↦ new_arrays j args ins ])) e
     ∙ new_arrays-dims k args ins (sym (length-map ins (λ (a : Array). a.dims)) ∙ f.count) f.dims
 
 -- and are whole where the operands are
-pub out_whole : (k : Kernel) (id : Codelet) (args : List ℤ) (ins : List Array) → kernel_of id ≡ Some k → fits k args (all_dims ins) ≡ true → AreWhole ins → AreWhole (out id args ins)
+pub out_whole : (k : Kernel) (id : Codelet) (args : List ℤ) (ins : List Array) → kernel_of id ≡ Some k → fits k args (each_dims ins) ≡ true → AreWhole ins → AreWhole (out id args ins)
 out_whole k id args ins e h w =
     subst (λ (o : Option Kernel). AreWhole (elim o as (λ _. List Array) [ None ↦ [] | Some j ↦ new_arrays j args ins ])) (sym e)
-    (new_arrays-whole k args ins (fit_from_fits k args (all_dims ins) h).arguments w)
+    (new_arrays-whole k args ins (fit_from_fits k args (each_dims ins) h).arguments w)
 
 -- the codelet of a sound task
 pub record IsCall (id : Codelet) (args : List ℤ) (ds : List Dims) : Type 0 where

@@ -9,7 +9,7 @@ use Rattle.sj_base.specs.declared.ids.Line.{Line}
 use Rattle.sj_base.specs.declared.ids.Root.{Root as RootNumber}
 use Rattle.sj_base.specs.declared.mode.Access.{Access}
 use Rattle.sj_base.specs.declared.mode.Reduction.{Reduction}
-use Rattle.sj_base.specs.Mode.{is_data, is_redux}
+use Rattle.sj_base.specs.Mode.{is_data, is_redux, access}
 use Rattle.sj_base.specs.declared.tile.Dims.{Dims}
 use Rattle.sj_base.specs.declared.program.Lowered.{Lowered}
 use Rattle.sj_base.specs.declared.program.Delivery.{Delivery}
@@ -30,14 +30,14 @@ use Rattle.sj_meaning.specs.Sound.{reduction_of, has_child_values}
 use Rattle.sj_meaning.specs.Table.{undivided}
 use Rattle.sj_job.specs.Track.{number}
 use Rattle.sj_lower.specs.declared.phase.OpenPhase.{OpenPhase}
-use Rattle.sj_lower.specs.Cells.{Cells, same_parts, cell_of, take, with_root, no_cells, first_copy, with_copies}
-use Rattle.sj_lower.specs.Rows.{an_access, load_row, fill_row, paste_row, deliver_row, init_row, init_rows, combine_rows}
+use Rattle.sj_lower.specs.Cells.{Cells, same_parts, cell_of, take, with_new_root, no_cells, first_partial, with_copies}
+use Rattle.sj_lower.specs.Rows.{load_row, fill_row, paste_row, deliver_row, init_row, init_rows, combine_rows}
 
 -- ---- cells
 
 -- the cells after a statement: a registration and a plan line take a plan
 abbrev pub cells_after : Act (List ℕ) → Cells → Cells
-cells_after (Registers r) C = take r.name r.parts (with_root r.name r.dims C)
+cells_after (Registers r) C = take r.name r.parts (with_new_root r.name r.dims C)
 cells_after (Plans name p) C = take name p C
 cells_after (Reduces name by) C = C
 cells_after (Tasks t) C = C
@@ -62,19 +62,19 @@ abbrev pub active_cell : State → Cells → List ℕ → ℕ × ℕ → Cell
 active_cell S C name place = cell_of C name (parts_in S name) place
 
 -- a plan line leaves the plan active that it names, or finds no values
-abbrev pub is_idle : Parts → Root → Bool
-is_idle p r = same_parts r.parts p || not (is_valued r)
+abbrev pub leaves_plan : Parts → Root → Bool
+leaves_plan p r = same_parts r.parts p || not (is_valued r)
 
 -- else the children of the active plan are pasted into those of the new one
 abbrev pub plan_rows : State → Cells → List ℕ → Parts → Line → List Lowered
 plan_rows S C name p line = elim (root_of S name) [
   | None ↦ []
-  | Some r ↦ if is_idle p r then [] else map (paste_row (cell_of C name r.parts) (cell_of C name p) line) (pastes_of r.dims r.parts p)
+  | Some r ↦ if leaves_plan p r then [] else map (paste_row (cell_of C name r.parts) (cell_of C name p) line) (pastes_of r.dims r.parts p)
 ]
 
 -- an operand as an access to its child's cell
 abbrev pub access_of : State → Cells → Operand (List ℕ) → Access
-access_of S C o = an_access o.mode (active_cell S C o.name o.place)
+access_of S C o = access o.mode (active_cell S C o.name o.place)
 
 abbrev pub task_row : State → Cells → Line → TaskLine (List ℕ) → Lowered
 task_row S C line t = record { codelet = t.codelet; args = t.args; accesses = map (access_of S C) t.operands; line = line; priority = t.priority }
@@ -83,14 +83,14 @@ task_row S C line t = record { codelet = t.codelet; args = t.args; accesses = ma
 abbrev pub deliver_rows : State → Cells → List ℕ → Line → List Lowered
 deliver_rows S C name line = map (λ place. deliver_row (active_cell S C name place) line) (places (parts_in S name))
 
-abbrev pub rows_of : State → Cells → Line → Act (List ℕ) → List Lowered
-rows_of S C line (Registers r) = load_rows r.init r.dims r.parts (cell_of C r.name r.parts) line
-rows_of S C line (Plans name p) = plan_rows S C name p line
-rows_of S C line (Reduces name by) = []
-rows_of S C line (Tasks t) = task_row S C line t ∷ []
-rows_of S C line (Prints name) = deliver_rows S C name line
-rows_of S C line (Invalidates name) = []
-rows_of S C line (Unregisters name) = []
+abbrev pub rows_added : State → Cells → Line → Act (List ℕ) → List Lowered
+rows_added S C line (Registers r) = load_rows r.init r.dims r.parts (cell_of C r.name r.parts) line
+rows_added S C line (Plans name p) = plan_rows S C name p line
+rows_added S C line (Reduces name by) = []
+rows_added S C line (Tasks t) = task_row S C line t ∷ []
+rows_added S C line (Prints name) = deliver_rows S C name line
+rows_added S C line (Invalidates name) = []
+rows_added S C line (Unregisters name) = []
 
 -- ---- deliveries
 
@@ -143,8 +143,8 @@ abbrev pub with_phase : Cell → Option OpenPhase → (Cell → Option OpenPhase
 with_phase c f phase d = if same_cell c d then f else phase d
 
 -- the cell has this open phase, or none, from now on; there are these cells, and tasks more
-abbrev pub turned : Cells → List Lowered → Cell → Option OpenPhase → Lowering → Lowering
-turned C ls c f L = record {
+abbrev pub phase_turned : Cells → List Lowered → Cell → Option OpenPhase → Lowering → Lowering
+phase_turned C ls c f L = record {
   cells = C;
   tasks = L.tasks ++ ls;
   deliveries = L.deliveries;
@@ -174,7 +174,7 @@ closed_by S C (Unregisters name) = active_cells S C name
 abbrev pub closed : ℕ → Lowering → Cell → Lowering
 closed workers L c = elim (L.phase c) [
   | None ↦ L
-  | Some f ↦ turned L.cells (combine_rows f c workers) c None L
+  | Some f ↦ phase_turned L.cells (combine_rows f c workers) c None L
 ]
 
 abbrev pub all_closed : ℕ → List Cell → Lowering → Lowering
@@ -191,14 +191,14 @@ begin_rows by first c valued workers line = init_rows by first workers line ++ (
 -- a phase of a cell begins
 abbrev pub begun : ℕ → Reduction → Bool → Line → Cell → Lowering → Lowering
 begun workers by valued line c L =
-    let first = first_copy L.cells c in
-    turned (with_copies workers c L.cells) (begin_rows by first c valued workers line) c (Some (record { by = by; copies = first; line = line })) L
+    let first = first_partial L.cells c in
+    phase_turned (with_copies workers c L.cells) (begin_rows by first c valued workers line) c (Some (record { by = by; copies = first; line = line })) L
 
 -- a contribution to a cell is to come: its phase goes on, or begins
 abbrev pub opened : ℕ → Reduction → Bool → Line → Cell → Lowering → Lowering
 opened workers by valued line c L = elim (L.phase c) [
   | None ↦ begun workers by valued line c L
-  | Some f ↦ turned L.cells [] c (Some (extended f line)) L
+  | Some f ↦ phase_turned L.cells [] c (Some (extended f line)) L
 ]
 
 -- so is an operand's, if it is one
@@ -231,7 +231,7 @@ add_own S s L =
     let C = cells_after s.act L.cells in
     record {
       cells = C;
-      tasks = L.tasks ++ rows_of S C s.line s.act;
+      tasks = L.tasks ++ rows_added S C s.line s.act;
       deliveries = L.deliveries ++ deliveries_of S C (length L.tasks) L.prints s.act;
       prints = prints_after s.act L.prints;
       phase = L.phase;
@@ -252,9 +252,9 @@ finished workers L = all_closed workers (map (λ n. record { 0 = n }) (range_wit
 
 -- ---- programs
 
-abbrev pub program_of : ℕ → Lowering → Program
-program_of workers L = record { cells = L.cells.rows; tasks = L.tasks; deliveries = L.deliveries; workers = workers }
+abbrev pub lowered_program : ℕ → Lowering → Program
+lowered_program workers L = record { cells = L.cells.rows; tasks = L.tasks; deliveries = L.deliveries; workers = workers }
 
 -- what a job is lowered to
 abbrev pub lowered : List (Statement (List ℕ)) → ℕ → Program
-lowered ss workers = program_of workers (finished workers (lower_from workers start nothing ss))
+lowered ss workers = lowered_program workers (finished workers (lower_from workers start nothing ss))

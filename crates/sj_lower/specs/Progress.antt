@@ -33,7 +33,7 @@ pub record AreCopied (workers : ℕ) (L : Lowering) : Type 0 where
   pub theirs : (c : Cell) (f : OpenPhase) → L.phase c ≡ Some f → (info_at L.cells c).partials ≡ Some f.copies
 
 -- the code has what the statements so far gave: the cells and the active plans, and the tasks unless there are too many
-pub record IsAt (T : Table) (g : Progress) (S : State) (L : Lowering) : Type 0 where
+pub record StandsAt (T : Table) (g : Progress) (S : State) (L : Lowering) : Type 0 where
   pub lays : Lays T g.layout L.cells
   pub few_cells : cells_in L ≤ most
   pub actives : AreActive T L.cells g.lowerer.actives.items S
@@ -47,12 +47,12 @@ pub record HasAt (g : Progress) : Type 0 where
   pub table : Table
   pub state : State
   pub lowering : Lowering
-  pub at : IsAt table g state lowering
+  pub at : StandsAt table g state lowering
 
 -- a statement may come next
 pub record IsComing (T : Table) (g : Progress) (s : Kept) (S : State) (L : Lowering) : Type 0 where
   pub has : Kernel → Bool
-  pub at : IsAt T g S L
+  pub at : StandsAt T g S L
   pub sound : IsSoundAct has S (act_seen T L.cells.roots s.act)
   pub placed : IsPlaced L.cells.roots s.act
   pub cut : IsCut T L.cells.roots s.act
@@ -72,7 +72,7 @@ over_after (Some first) line L = Some first
 
 -- what a statement leaves
 pub record Goes (T : Table) (old new : Progress) (s : Kept) : Type 0 where
-  pub at : (S : State) (L : Lowering) → IsComing T old s S L → IsAt T new (apply (act_seen T L.cells.roots s.act) S) (lower_one old.workers S (statement_seen T L.cells.roots s) L)
+  pub at : (S : State) (L : Lowering) → IsComing T old s S L → StandsAt T new (apply (act_seen T L.cells.roots s.act) S) (lower_one old.workers S (statement_seen T L.cells.roots s) L)
   pub over : (S : State) (L : Lowering) → IsComing T old s S L → new.over ≡ over_after old.over s.line (lower_one old.workers S (statement_seen T L.cells.roots s) L)
 
 -- there are too many cells with the statement, or memory ran out
@@ -82,10 +82,10 @@ IsFull T old s (TooManyTasks line) = ⊥
 IsFull T old s (TooManyCells line) = (line ≡ s.line) × ((S : State) (L : Lowering) → IsComing T old s S L → most < cells_in (lower_one old.workers S (statement_seen T L.cells.roots s) L))
 
 -- there are too many tasks, first with that line
-abbrev pub IsOver : LowerRefusal → Option Line → Type 0
-IsOver OutOfMemory line = ⊥
-IsOver (TooManyCells line) first = ⊥
-IsOver (TooManyTasks line) first = first ≡ Some line
+abbrev pub IsOverLimit : LowerRefusal → Option Line → Type 0
+IsOverLimit OutOfMemory line = ⊥
+IsOverLimit (TooManyCells line) first = ⊥
+IsOverLimit (TooManyTasks line) first = first ≡ Some line
 
 -- the limit that a job exceeds, and the line that first does; or memory ran out
 abbrev pub IsLate : LowerRefusal → Option Refusal → Type 0
@@ -95,7 +95,7 @@ IsLate (TooManyTasks line) limit = limit ≡ Some (over Tasks line)
 
 -- what a statement's own tasks leave
 pub record GoesOwn (T : Table) (old new : Progress) (s : Kept) : Type 0 where
-  pub at : (S : State) (L : Lowering) → IsComing T old s S L → IsAt T new (apply (act_seen T L.cells.roots s.act) S) (add_own S (statement_seen T L.cells.roots s) L)
+  pub at : (S : State) (L : Lowering) → IsComing T old s S L → StandsAt T new (apply (act_seen T L.cells.roots s.act) S) (add_own S (statement_seen T L.cells.roots s) L)
   pub over : (S : State) (L : Lowering) → IsComing T old s S L → new.over ≡ over_after old.over s.line (add_own S (statement_seen T L.cells.roots s) L)
 
 -- there are too many cells with the plan that a statement makes active, or memory ran out
@@ -108,8 +108,8 @@ IsFullOwn T old s (TooManyCells line) = (line ≡ s.line) × ((S : State) (L : L
 
 -- the code does what this change does to what is lowered so far, at this line; the active plans are as they were
 pub record Prepares (old new : Progress) (line : Line) (change : Lowering → Lowering) : Type 0 where
-  pub at : (T : Table) (S : State) (L : Lowering) → IsAt T old S L → IsAt T new S (change L)
-  pub over : (T : Table) (S : State) (L : Lowering) → IsAt T old S L → new.over ≡ over_after old.over line (change L)
+  pub at : (T : Table) (S : State) (L : Lowering) → StandsAt T old S L → StandsAt T new S (change L)
+  pub over : (T : Table) (S : State) (L : Lowering) → StandsAt T old S L → new.over ≡ over_after old.over line (change L)
   pub actives : new.lowerer.actives ≡ old.lowerer.actives
   pub workers : new.workers ≡ old.workers
   pub last : new.last ≡ old.last
@@ -120,7 +120,7 @@ pub record Prepares (old new : Progress) (line : Line) (change : Lowering → Lo
 abbrev pub IsFullBy : Progress → Line → (Lowering → Lowering) → LowerRefusal → Type 0
 IsFullBy old line change OutOfMemory = Unit {0}
 IsFullBy old line change (TooManyTasks at) = ⊥
-IsFullBy old line change (TooManyCells at) = (at ≡ line) × ((T : Table) (S : State) (L : Lowering) → IsAt T old S L → most < cells_in (change L))
+IsFullBy old line change (TooManyCells at) = (at ≡ line) × ((T : Table) (S : State) (L : Lowering) → StandsAt T old S L → most < cells_in (change L))
 
 -- the root of this number has an active plan, whose cells are there
 pub record HasActive (g : Progress) (n : ℕ) : Type 0 where
@@ -195,4 +195,4 @@ preparing_by workers actives line a L = opening_all workers actives line (contri
 -- the cell's partial copies are there, from this one on
 pub record HasCopies (g : Progress) (c first : Cell) : Type 0 where
   pub there : first.0 + g.workers ≤ most
-  pub theirs : (T : Table) (S : State) (L : Lowering) → IsAt T g S L → (info_at L.cells c).partials ≡ Some first
+  pub theirs : (T : Table) (S : State) (L : Lowering) → StandsAt T g S L → (info_at L.cells c).partials ≡ Some first

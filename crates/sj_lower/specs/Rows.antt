@@ -12,6 +12,7 @@ use Rattle.sj_base.specs.declared.tile.Dims.{Dims}
 use Rattle.sj_base.specs.declared.program.Codelet.{Codelet}
 use Rattle.sj_base.specs.declared.program.Lowered.{Lowered}
 use Rattle.sj_base.specs.Array.{array}
+use Rattle.sj_base.specs.Mode.{access}
 use Rattle.sj_codelet.specs.declared.kernel.Kernel.{Kernel}
 use Rattle.sj_codelet.specs.declared.kernel.Kernel.TheVariants.{Load, LoadFill, Paste as PasteKernel, Deliver}
 use Rattle.sj_codelet.specs.Kernel.{codelet_of, init_of, combine_of}
@@ -21,9 +22,6 @@ use Rattle.sj_plan.specs.Paste.{is_first}
 use Rattle.sj_plan.specs.Window.{window}
 use Rattle.sj_lower.specs.declared.phase.OpenPhase.{OpenPhase}
 use Rattle.sj_lower.specs.Cells.{copy_at}
-
-abbrev pub an_access : Mode → Cell → Access
-an_access mode c = record { mode = mode; cell = c }
 
 -- a task that no task line names
 abbrev pub task_by : Codelet → List ℤ → List Access → Line → Lowered
@@ -35,7 +33,7 @@ own_task k args accesses line = task_by (codelet_of k) args accesses line
 
 -- the child of a root with these elements gets its own
 abbrev pub load_row : List ℤ → Dims → Rect → Cell → Line → Lowered
-load_row xs d r c line = own_task Load (window (array d xs) r).elements (an_access W c ∷ []) line
+load_row xs d r c line = own_task Load (window (array d xs) r).elements (access W c ∷ []) line
 
 -- the arguments of `loadfill` for the child of a root of so many columns
 abbrev pub fill_arguments : ℤ → ℤ → ℕ → Rect → List ℤ
@@ -43,7 +41,7 @@ fill_arguments a b cols r = a ∷ b ∷ pos r.row ∷ pos r.col ∷ pos cols ∷
 
 -- the same of a root whose element at position i is a + b i
 abbrev pub fill_row : ℤ → ℤ → Dims → Rect → Cell → Line → Lowered
-fill_row a b d r c line = own_task LoadFill (fill_arguments a b d.cols r) (an_access W c ∷ []) line
+fill_row a b d r c line = own_task LoadFill (fill_arguments a b d.cols r) (access W c ∷ []) line
 
 abbrev pub paste_arguments : Paste → List ℤ
 paste_arguments x = pos x.at_from.0 ∷ pos x.at_from.1 ∷ pos x.at_to.0 ∷ pos x.at_to.1 ∷ pos x.rows ∷ pos x.cols ∷ []
@@ -55,15 +53,15 @@ paste_mode x = if is_first x then W else RW
 -- a paste of an old child's cell into a new child's
 abbrev pub paste_row : (ℕ × ℕ → Cell) → (ℕ × ℕ → Cell) → Line → Paste → Lowered
 paste_row old new line x =
-    own_task PasteKernel (paste_arguments x) (an_access R (old x.from) ∷ an_access (paste_mode x) (new x.to) ∷ []) line
+    own_task PasteKernel (paste_arguments x) (access R (old x.from) ∷ access (paste_mode x) (new x.to) ∷ []) line
 
 -- a cell's array is handed over
 abbrev pub deliver_row : Cell → Line → Lowered
-deliver_row c line = own_task Deliver [] (an_access R c ∷ []) line
+deliver_row c line = own_task Deliver [] (access R c ∷ []) line
 
 -- a cell gets the reduction's unit
 abbrev pub init_row : Reduction → Line → Cell → Lowered
-init_row by line c = own_task (init_of by) [] (an_access W c ∷ []) line
+init_row by line c = own_task (init_of by) [] (access W c ∷ []) line
 
 -- so do the partial copies of so many workers, by worker
 abbrev pub init_rows : Reduction → Cell → ℕ → Line → List Lowered
@@ -71,7 +69,7 @@ init_rows by first workers line = map (λ w. init_row by line (copy_at first w))
 
 -- a partial copy is combined into its cell
 abbrev pub combine_row : Reduction → Cell → Line → Cell → Lowered
-combine_row by c line q = own_task (combine_of by) [] (an_access R q ∷ an_access RW c ∷ []) line
+combine_row by c line q = own_task (combine_of by) [] (access R q ∷ access RW c ∷ []) line
 
 -- the partial copies of so many workers are combined into their cell, by worker, with the line of the last contribution
 abbrev pub combine_rows : OpenPhase → Cell → ℕ → List Lowered

@@ -11,13 +11,14 @@ use Rattle.sj_plan.specs.Parts.{Fits, IsPlace}
 use Rattle.sj_plan.specs.Paste.{pastes_of}
 use Rattle.sj_base.specs.declared.tile.Dims.{Dims}
 use Rattle.sj_base.specs.declared.program.Lowered.{Lowered}
+use Rattle.sj_base.specs.Mode.{access, is_written}
 use Rattle.sj_meaning.specs.declared.job.Act.{Act as Kept}
 use Rattle.sj_meaning.specs.declared.job.Act.TheVariants as kept
 use Rattle.sj_meaning.specs.declared.job.Operand.{Operand}
 use Rattle.sj_meaning.specs.Act.{Act}
 use Rattle.sj_meaning.specs.Act.{Register as Registers, Plan as Plans, Redux as Reduces, Task as Tasks, Print as Prints, Invalidate as Invalidates, Unregister as Unregisters}
 use Rattle.sj_meaning.specs.State.{Root, State, root_of}
-use Rattle.sj_meaning.specs.Meaning.{is_written, apply}
+use Rattle.sj_meaning.specs.Meaning.{apply}
 use Rattle.sj_meaning.specs.Sound.{IsSoundAct}
 use Rattle.sj_meaning.specs.Table.{Table, AreDistinct, a_root, name_of, info_of, undivided}
 use Rattle.sj_job.specs.Track.{Tracks, all_valued, children_count, written}
@@ -27,7 +28,7 @@ use Rattle.sj_lower.specs.declared.layout.Layout.{Layout}
 use Rattle.sj_lower.specs.declared.lowerer.Active.{Active}
 use Rattle.sj_lower.specs.declared.lowerer.Lowerer.{Lowerer}
 use Rattle.sj_lower.specs.Cells.{Cells, Handle, same_parts, first_cell, cells_from}
-use Rattle.sj_lower.specs.Rows.{an_access, paste_row}
+use Rattle.sj_lower.specs.Rows.{paste_row}
 use Rattle.sj_lower.specs.Limits.{most}
 use Rattle.sj_lower.specs.Lowering.{Lowering, cells_after, add_own}
 
@@ -159,8 +160,8 @@ Does T old new a first line =
     → Follows T new (apply act S) (add_own S (record { line = line; act = act }) L)
 
 -- the cells of the plan that an act makes active are within the limit, from this one on
-abbrev pub HasRoom : Table → ℕ → Kept → ℕ → Type 0
-HasRoom T n a first = first + children_after (act_seen T n a) ≤ most
+abbrev pub HasRoomFor : Table → ℕ → Kept → ℕ → Type 0
+HasRoomFor T n a first = first + children_after (act_seen T n a) ≤ most
 
 -- an operand is a child of its root's active plan, whose cells are within the limit
 pub record AreIn (actives : List Active) (o : Operand) : Type 0 where
@@ -172,16 +173,16 @@ pub record AreIn (actives : List Active) (o : Operand) : Type 0 where
 abbrev pub access_by : List Active → Operand → Access
 access_by actives o =
     let a = active_at actives o.root.0 in
-    an_access o.mode (cells_from a.first a.tracked.parts o.place)
+    access o.mode (cells_from a.first a.tracked.parts o.place)
 
 -- the active plans after an operand is written, if it is
-abbrev pub after_write : List Active → Operand → List Active
-after_write actives o =
+abbrev pub actives_after_write : List Active → Operand → List Active
+actives_after_write actives o =
     let a = active_at actives o.root.0 in
     if is_written o.mode then slice_set actives o.root.0 (record { tracked = written a.tracked o.place; first = a.first; reduction = a.reduction }) else actives
 
-abbrev pub after_writes : List Operand → List Active → List Active
-after_writes os actives = fold after_write actives os
+abbrev pub actives_after_writes : List Operand → List Active → List Active
+actives_after_writes os actives = fold actives_after_write actives os
 
 -- what a plan line gives, by the active plan of its root
 abbrev pub pasted_by : Dims → Active → Parts → ℕ → Line → List Lowered

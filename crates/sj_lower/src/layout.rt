@@ -5,7 +5,7 @@ ghost use Rattle.std.specs.Prelude.{◌≡◌, ◌+◌, ◌<◌, ◌≤◌, ◌+
 ghost use Rattle.sj_meaning.specs.Table.{Table, AreDistinct, name_of, info_of};
 ghost use Rattle.sj_meaning.specs.View.{IsPlaced, act_seen, count_after};
 ghost use Rattle.sj_plan.specs.Parts.{Fits};
-ghost use Rattle.sj_lower.specs.Cells.{Cells, rect_cell, first_cell, first_copy, take, no_cells, with_copies};
+ghost use Rattle.sj_lower.specs.Cells.{Cells, rect_cell, first_cell, first_partial, take, no_cells, with_copies};
 ghost use Rattle.sj_lower.specs.Limits.{most};
 ghost use Rattle.sj_lower.specs.Lowering.{cells_after};
 ghost use Rattle.sj_lower.specs.Seen.{Lays, IsCut, first_after, children_after};
@@ -68,8 +68,10 @@ impl Layout {
         requires few { vec_len self.old.infos ≤ most }
         ensures roots { OnOk result (self.new.roots ≡ self.old.roots) }
         ensures few { OnOk result (vec_len self.new.infos ≤ most) }
-        ensures taken { IfOk result (λ o. IfSome o (λ first. (T : Table) (C : Cells) → Lays T self.old C
-            → root.0 < C.roots → AreDistinct T.names → C.roots ≤ length T.names → (info_of T root).dims ≡ dims
+        ensures taken { IfOk result (λ o. IfSome o
+            (λ first. (T : Table) (C : Cells) → Lays T self.old C
+            → root.0 < C.roots → AreDistinct T.names → C.roots ≤ length T.names
+            → (info_of T root).dims ≡ dims
             → Lays T self.new (take (name_of T root) parts C)
             × (first_cell (take (name_of T root) parts C) (name_of T root) parts ≡ first)
             × (first + children_count parts ≤ length (take (name_of T root) parts C).rows))) }
@@ -145,8 +147,9 @@ impl Layout {
         requires cell { cell.0 < vec_len self.old.infos }
         ensures roots { OnOk result (self.new.roots ≡ self.old.roots) }
         ensures few { OnOk result (vec_len self.new.infos ≤ most) }
-        ensures copied { IfOk result (λ o. IfSome o (λ first. (T : Table) (C : Cells) → Lays T self.old C
-            → Lays T self.new (with_copies workers cell C) × (first_copy C cell ≡ first))) }
+        ensures copied { IfOk result (λ o. IfSome o
+            (λ first. (T : Table) (C : Cells) → Lays T self.old C
+            → Lays T self.new (with_copies workers cell C) × (first_partial C cell ≡ first))) }
         ensures full { IfOk result (λ o. IfNone o ((T : Table) (C : Cells) → Lays T self.old C
             → most < length (with_copies workers cell C).rows)) }
     {

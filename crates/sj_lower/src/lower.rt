@@ -10,8 +10,8 @@ ghost use Rattle.sj_meaning.specs.View.{statements_of, IsNumbered};
 ghost use Rattle.sj_lower.specs.Delivering.{DeliversPrinted, NamesDeliverTasks, DeliversInOrder};
 ghost use Rattle.sj_lower.specs.Job.{IsJob, IsJobIn};
 ghost use Rattle.sj_lower.specs.Limits.{most, late_limit};
-ghost use Rattle.sj_lower.specs.Lowering.{Lowering, lowered, nothing, program_of};
-ghost use Rattle.sj_lower.specs.Progress.{IsAt, HasComing, Goes, IsFull, GoesOwn, IsFullOwn, IsOver, IsLate};
+ghost use Rattle.sj_lower.specs.Lowering.{Lowering, lowered, nothing, lowered_program};
+ghost use Rattle.sj_lower.specs.Progress.{StandsAt, HasComing, Goes, IsFull, GoesOwn, IsFullOwn, IsOverLimit, IsLate};
 
 use crate::layout::{Layout, MOST};
 use crate::lowerer::Lowerer;
@@ -65,7 +65,7 @@ pub struct Progress {
 impl Progress {
     /// Before the first statement.
     fn nothing(alloc: Global, workers: u8) -> Progress
-        ensures at { (T : Table) → IsAt T result start nothing }
+        ensures at { (T : Table) → StandsAt T result start nothing }
         ensures over { result.over ≡ None }
         ensures last { result.last ≡ None }
         ensures workers { result.workers ≡ workers }
@@ -139,8 +139,9 @@ impl Progress {
     /// The program of the statements so far, or the line with which there were too many tasks. Constant time.
     fn finish(self) -> Result<Program, LowerRefusal>
         ensures ok { IfOk result (λ p. (self.over ≡ None)
-            × ((T : Table) (S : State) (L : Lowering) → IsAt T self S L → p ≡ program_of self.workers L)) }
-        ensures err { IfErr result (λ e. IsOver e self.over) }
+            × ((T : Table) (S : State) (L : Lowering) → StandsAt T self S L → p
+            ≡ lowered_program self.workers L)) }
+        ensures err { IfErr result (λ e. IsOverLimit e self.over) }
     {
         let Progress {
             workers,

@@ -14,8 +14,8 @@ ghost use Rattle.sj_job.specs.Track.{IsPlan, all_valued, none_valued, even, chil
 ghost use Rattle.sj_plan.specs.Parts.{Fits};
 ghost use Rattle.sj_lower.specs.Cells.{Cells, cells_from, same_parts};
 ghost use Rattle.sj_lower.specs.Limits.{most};
-ghost use Rattle.sj_lower.specs.Lowering.{Lowering, nothing, load_rows, rows_of};
-ghost use Rattle.sj_lower.specs.Seen.{Follows, HasNext, IsNext, HasPass, Passes, Does, HasRoom, AreIn, access_by, after_writes, pasted_by};
+ghost use Rattle.sj_lower.specs.Lowering.{Lowering, nothing, load_rows, rows_added};
+ghost use Rattle.sj_lower.specs.Seen.{Follows, HasNext, IsNext, HasPass, Passes, Does, HasRoomFor, AreIn, access_by, actives_after_writes, pasted_by};
 
 use crate::phase::OpenPhase;
 use crate::rows::{Placed, push_deliveries, push_delivers, push_fills, push_loads, push_pastes};
@@ -66,7 +66,8 @@ impl Active {
 
     /// Whether a line with this plan gives no task: it is active already, or an element has no value. Constant time.
     fn is_idle(&self, parts: Parts) -> bool
-        ensures { result ≡ (same_parts self.now.tracked.parts parts || not (all_valued self.now.tracked)) }
+        ensures { result ≡ (same_parts self.now.tracked.parts parts
+            || not (all_valued self.now.tracked)) }
     {
         let active = self.tracked.parts();
         (active.r == parts.r && active.c == parts.c) || !self.tracked.is_all()
@@ -87,7 +88,8 @@ impl Active {
 
 /// How many tasks give a root's children their first elements. Constant time.
 fn count_first(init: &Init, parts: Parts) -> u64
-    ensures { (d : Dims) (cell : ℕ × ℕ → Cell) (line : Line) → result ≡ length (load_rows init.now d parts cell line) }
+    ensures { (d : Dims) (cell : ℕ × ℕ → Cell) (line : Line) → result
+        ≡ length (load_rows init.now d parts cell line) }
 {
     let children = parts.r as u64 * parts.c as u64;
     match init {
@@ -148,7 +150,8 @@ fn write_all(
     operands: &[Operand],
 ) -> Result<(), OutOfMemory>
     requires { All (AreIn actives.old.items) operands.now }
-    ensures { OnOk result (actives.new.items ≡ after_writes operands.now actives.old.items) }
+    ensures { OnOk result (actives.new.items ≡
+        actives_after_writes operands.now actives.old.items) }
 {
     for operand in operands {
         if operand.is_written() {
@@ -178,8 +181,10 @@ impl Lowerer {
     /// How many tasks a statement gives. Constant time, but for a plan line linear in its parts of rows and of columns.
     pub fn count(&self, roots: &Roots, act: &Act) -> u64
         requires { HasNext roots.now self.now act.now }
-        ensures { (S : State) (L : Lowering) (C : Cells) (line : Line) → IsNext roots.now self.now act.now S L
-            → result ≡ length (rows_of S C line (act_seen roots.now (vec_len self.now.actives) act.now)) }
+        ensures { (S : State) (L : Lowering) (C : Cells) (line : Line)
+            → IsNext roots.now self.now act.now S L
+            → result ≡ length (rows_added S C line
+            (act_seen roots.now (vec_len self.now.actives) act.now)) }
     {
         match act {
             Act::Register(init) => {
@@ -200,8 +205,10 @@ impl Lowerer {
     /// How many pastes a plan line gives.
     fn count_plan(&self, roots: &Roots, root: Root, parts: Parts) -> u64
         requires { HasNext roots.now self.now (kept.Plan root parts) }
-        ensures { (S : State) (L : Lowering) (C : Cells) (line : Line) → IsNext roots.now self.now (kept.Plan root parts) S L
-            → result ≡ length (rows_of S C line (act_seen roots.now (vec_len self.now.actives) (kept.Plan root parts))) }
+        ensures { (S : State) (L : Lowering) (C : Cells) (line : Line)
+            → IsNext roots.now self.now (kept.Plan root parts) S L
+            → result ≡ length (rows_added S C line
+            (act_seen roots.now (vec_len self.now.actives) (kept.Plan root parts))) }
     {
         let active = &self.actives[root.0 as usize];
         if active.is_idle(parts) {
@@ -220,9 +227,10 @@ impl Lowerer {
         line: Line,
     ) -> Result<(), OutOfMemory>
         requires next { HasNext roots.now self.old (kept.Register init) }
-        requires room { HasRoom roots.now (vec_len self.old.actives) (kept.Register init) first }
+        requires room { HasRoomFor roots.now (vec_len self.old.actives) (kept.Register init) first }
         requires prints { self.old.prints ≤ vec_len self.old.tasks }
-        ensures does { OnOk result (Does roots.now self.old self.new (kept.Register init) first line) }
+        ensures does { OnOk result (Does roots.now self.old self.new
+            (kept.Register init) first line) }
         ensures prints { OnOk result (self.new.prints ≤ vec_len self.new.tasks) }
     {
         let info = roots.info(Root(self.actives.len() as u32));
@@ -250,9 +258,11 @@ impl Lowerer {
         line: Line,
     ) -> Result<(), OutOfMemory>
         requires next { HasNext roots.now self.old (kept.Plan root placed.parts) }
-        requires room { HasRoom roots.now (vec_len self.old.actives) (kept.Plan root placed.parts) placed.first }
+        requires room { HasRoomFor roots.now (vec_len self.old.actives)
+            (kept.Plan root placed.parts) placed.first }
         requires prints { self.old.prints ≤ vec_len self.old.tasks }
-        ensures does { OnOk result (Does roots.now self.old self.new (kept.Plan root placed.parts) placed.first line) }
+        ensures does { OnOk result (Does roots.now self.old self.new
+            (kept.Plan root placed.parts) placed.first line) }
         ensures prints { OnOk result (self.new.prints ≤ vec_len self.new.tasks) }
     {
         let dims = roots.info(root).dims;
@@ -297,8 +307,10 @@ impl Lowerer {
         line: Line,
     ) -> Result<(), OutOfMemory>
         requires next { HasNext roots.now self.old (kept.Print root) }
-        requires few { (S : State) (L : Lowering) (C : Cells) → IsNext roots.now self.old (kept.Print root) S L
-            → vec_len self.old.tasks + length (rows_of S C line (act_seen roots.now (vec_len self.old.actives) (kept.Print root))) ≤ most }
+        requires few { (S : State) (L : Lowering) (C : Cells)
+            → IsNext roots.now self.old (kept.Print root) S L
+            → vec_len self.old.tasks + length (rows_added S C line
+            (act_seen roots.now (vec_len self.old.actives) (kept.Print root))) ≤ most }
         requires prints { self.old.prints ≤ vec_len self.old.tasks }
         ensures does { OnOk result (Does roots.now self.old self.new (kept.Print root) 0 line) }
         ensures prints { OnOk result (self.new.prints ≤ vec_len self.new.tasks) }
@@ -349,7 +361,7 @@ impl Lowerer {
         first: u32,
     ) -> Result<(), OutOfMemory>
         requires pass { HasPass roots.now self.old act.now }
-        requires room { HasRoom roots.now (vec_len self.old.actives) act.now first }
+        requires room { HasRoomFor roots.now (vec_len self.old.actives) act.now first }
         ensures passes { OnOk result (Passes roots.now self.old self.new act.now first) }
         ensures tasks { OnOk result (self.new.tasks ≡ self.old.tasks) }
         ensures deliveries { OnOk result (self.new.deliveries ≡ self.old.deliveries) }
@@ -391,9 +403,10 @@ impl Lowerer {
         line: Line,
     ) -> Result<(), OutOfMemory>
         requires next { HasNext roots.now self.old act }
-        requires room { HasRoom roots.now (vec_len self.old.actives) act first }
+        requires room { HasRoomFor roots.now (vec_len self.old.actives) act first }
         requires few { (S : State) (L : Lowering) (C : Cells) → IsNext roots.now self.old act S L
-            → vec_len self.old.tasks + length (rows_of S C line (act_seen roots.now (vec_len self.old.actives) act)) ≤ most }
+            → vec_len self.old.tasks + length (rows_added S C line
+            (act_seen roots.now (vec_len self.old.actives) act)) ≤ most }
         requires prints { self.old.prints ≤ vec_len self.old.tasks }
         ensures does { OnOk result (Does roots.now self.old self.new act first line) }
         ensures prints { OnOk result (self.new.prints ≤ vec_len self.new.tasks) }

@@ -49,7 +49,8 @@ impl Progress {
     /// Closes the phase of a cell, if one is open. Linear in the workers.
     fn close(&mut self, alloc: Global, cell: Cell, line: Line) -> Result<(), OutOfMemory>
         requires at { HasAt self.old }
-        ensures { OnOk result (Prepares self.old self.new line (λ L. closed self.old.workers L cell)) }
+        ensures { OnOk result (Prepares self.old self.new line
+            (λ L. closed self.old.workers L cell)) }
     {
         if self.over.is_some() {
             return Ok(());
@@ -69,7 +70,8 @@ impl Progress {
         requires at { HasAt self.old }
         requires root { HasActive self.old root.0 }
         ensures { OnOk result (Prepares self.old self.new line
-            (all_closed self.old.workers (cells_by (active_at self.old.lowerer.actives.items root.0)))) }
+            (all_closed self.old.workers (cells_by
+            (active_at self.old.lowerer.actives.items root.0)))) }
     {
         if self.over.is_some() {
             return Ok(());
@@ -96,7 +98,8 @@ impl Progress {
         requires at { HasAt self.old }
         requires operands { All (IsActiveOperand self.old) operands.now }
         ensures { OnOk result (Prepares self.old self.new line
-            (all_closed self.old.workers (map (cell_by self.old.lowerer.actives.items) (filter is_other operands.now)))) }
+            (all_closed self.old.workers (map (cell_by self.old.lowerer.actives.items)
+            (filter is_other operands.now)))) }
     {
         if self.over.is_some() {
             return Ok(());
@@ -234,9 +237,11 @@ impl Progress {
         requires at { HasAt self.old }
         requires operands { All (IsActiveOperand self.old) operands.now }
         ensures opens { OnOk result (Prepares self.old self.new line
-            (opening_all self.old.workers self.old.lowerer.actives.items line (filter is_contributed operands.now))) }
+            (opening_all self.old.workers self.old.lowerer.actives.items line
+            (filter is_contributed operands.now))) }
         ensures full { IfErr result (IsFullBy self.old line
-            (opening_all self.old.workers self.old.lowerer.actives.items line (filter is_contributed operands.now))) }
+            (opening_all self.old.workers self.old.lowerer.actives.items line
+            (filter is_contributed operands.now))) }
     {
         for operand in operands {
             if is_contribution(operand) {

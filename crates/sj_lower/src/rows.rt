@@ -103,7 +103,8 @@ pub fn push_loads(
     requires cells { placed.first + children_count placed.parts ≤ 262144 }
     requires values { length values ≡ area dims }
     ensures { OnOk result (tasks.new.items ≡ tasks.old.items
-        ++ load_rows (Values values) dims placed.parts (cells_from placed.first placed.parts) line) }
+        ++ load_rows (Values values) dims placed.parts
+        (cells_from placed.first placed.parts) line) }
 {
     let write = Access {
         mode: Mode::W,
@@ -129,7 +130,8 @@ fn push_windows(
     requires plan { Fits placed.parts whole.now.dims }
     requires cells { placed.first + children_count placed.parts ≤ 262144 }
     ensures { OnOk result (tasks.new.items ≡ tasks.old.items
-        ++ load_rows (Values whole.now.elements) whole.now.dims placed.parts (cells_from placed.first placed.parts) line) }
+        ++ load_rows (Values whole.now.elements) whole.now.dims placed.parts
+        (cells_from placed.first placed.parts) line) }
 {
     let rects = children(alloc, whole.dims(), placed.parts)?;
     let count = placed.parts.r * placed.parts.c;
@@ -194,7 +196,8 @@ pub fn push_fills(
     requires plan { Fits placed.parts dims }
     requires cells { placed.first + children_count placed.parts ≤ 262144 }
     ensures { OnOk result (tasks.new.items ≡ tasks.old.items
-        ++ load_rows (Fill fill.0 fill.1) dims placed.parts (cells_from placed.first placed.parts) line) }
+        ++ load_rows (Fill fill.0 fill.1) dims placed.parts
+        (cells_from placed.first placed.parts) line) }
 {
     let rects = children(alloc, dims, placed.parts)?;
     let count = placed.parts.r * placed.parts.c;
@@ -304,7 +307,8 @@ pub fn push_delivers(
     requires plan { IsPlan placed.parts }
     requires cells { placed.first + children_count placed.parts ≤ 262144 }
     ensures { OnOk result (tasks.new.items ≡ tasks.old.items
-        ++ map (λ place. deliver_row (cells_from placed.first placed.parts place) line) (places placed.parts)) }
+        ++ map (λ place. deliver_row (cells_from placed.first placed.parts place) line)
+        (places placed.parts)) }
 {
     let count = placed.parts.r * placed.parts.c;
     for k in 0..count {

@@ -1,11 +1,11 @@
 -- What the end of a move leaves.
-use Rattle.std.proofs.Common.{◌≡◌, ◌++◌, ◌∷◌, [], ◌<◌, ◌+◌, ◌-◌, ℕ, true, List, Option, None, Some, refl, sym, ap, ◌∙◌, subst, arith, inl, inr, length, get_or, is_some, sum_by}
+use Rattle.std.proofs.Common.{◌≡◌, ◌++◌, ◌∷◌, [], ◌<◌, ◌+◌, ℕ, true, List, Option, None, Some, refl, sym, ap, ◌∙◌, subst, arith, inl, inr, length, get_or, is_some}
 use Rattle.std.specs.Prelude.{IfSome, IsSomeAnd, unwrap_or}
 use Rattle.std.proofs.lemmas.List.{length-set}
 use Rattle.std.proofs.lemmas.List.Elements.{All-get_or, All-set}
-use Rattle.std.proofs.lemmas.List.Sums.{sum_by-set}
 use Rattle.sj_base.specs.Recorded.{Recorded}
 use Rattle.sj_base.specs.declared.trace.Event.TheVariants.{Moved}
+use Rattle.sj_base.proofs.Options.{IfSome-at}
 use Rattle.sj_core.specs.declared.progress.Transfer.{Transfer}
 use Rattle.sj_core.proofs.Words.{Array, AtNode, Cell, CellState, Coming, DiskNo, Machine, Node, OnDisk, Place, Program, Replica, State, Valid, Worker, WorkerState, array_of, cell_state, dims_of, is_coming_by, is_entry, is_valid, replica, transfer, with_replica, with_transfer, writes, zeros}
 use Rattle.sj_core.proofs.Blocks.{disk-within}
@@ -23,9 +23,10 @@ use Rattle.sj_machine.specs.Copies.{Copies, mark_at, row_of, stored, tile_at, wi
 use Rattle.sj_machine.specs.Sound.{HoldsArray, HoldsBlocks, IsCopyOf, IsStored, IsWrittenOut, Keeps}
 use Rattle.sj_machine.specs.Standing.{AllTell, CanHappen, IsTileMoved, IsTileOf, Standing, state, with_event}
 use Rattle.sj_machine.proofs.Keeping.{HoldsArray-moved, HoldsBlocks-kept, IsSomeAnd-map, IsStored-kept, array-same, has-room, keeps-event, keeps-told}
-use Rattle.sj_machine.proofs.Marking.{HasMarks-copy, HasTiles-copy, cell-inside, mark-inside, on_disk, tile-inside}
+use Rattle.sj_machine.proofs.Marking.{HasMarks-copy, HasTiles-copy, cell-inside, mark-inside, on_disk}
 use Rattle.sj_machine.proofs.Reading.{no_copies, row-kept, row-other, row-same}
 use Rattle.sj_machine.proofs.Resting.{entry-cell, entry-node, rests, valid-cell}
+use Rattle.sj_machine.proofs.Storing.{at-place}
 use Rattle.sj_machine.proofs.Transferring.{new_workers, transfer-agrees}
 
 module _ {D : Type 0} (size faults mismatches : D → ℕ) (held : D → Option (List ℕ)) (b : Standing D) (rows : Rows) (spare : ℕ) (keeps : Keeps size faults mismatches held b rows spare) (w : Worker) (c : Cell) (from : Place) where
@@ -205,41 +206,34 @@ module _ {D : Type 0} (size faults mismatches : D → ℕ) (held : D → Option 
 
 -- ---- as the code finds it
 
--- an `IfSome` of a value that is there
-told-of : {X : Type 0} (P : X → Type 0) (o : Option X) (x : X) → o ≡ Some x → IfSome o P → P x
-told-of {X} P o x e h = subst (λ (k : Option X). IfSome k P) e h
-
 module _ {D : Type 0} (size faults mismatches : D → ℕ) (held : D → Option (List ℕ)) (b : Standing D) (rows : Rows) (spare : ℕ) (keeps : Keeps size faults mismatches held b rows spare) (w : Worker) (b' : Standing D) (same : b ≡ b') (ws : List WorkerState) (read : ws ≡ rows.workers) (x : Transfer) (found : transfer_in ws w ≡ Some x) where
-  moving : (to : Place) → x.to ≡ to → transfer (state b) w ≡ Some (a_transfer x.cell x.from to)
-  moving to at = ap (λ (rs : List WorkerState). transfer_in rs w) (sym (read ∙ keeps.agrees.workers)) ∙ found ∙ ap (λ (q : Place). Some (a_transfer x.cell x.from q)) at
-
   pub found-room : 0 < spare
-  found-room = end-room size faults mismatches held b rows spare keeps w x.cell x.from x.to (moving x.to refl)
+  found-room = end-room size faults mismatches held b rows spare keeps w x.cell x.from x.to (at-place size faults mismatches held b rows spare keeps w b' same ws read x found x.to refl)
 
   module _ (n : Node) (at : x.to ≡ AtNode n) (tile : Array) (given : IsTileMoved held b' w tile) where
     tile-is : IsTileOf held b x.cell x.from tile
-    tile-is = told-of (λ (y : Transfer). IsTileOf held b y.cell y.from tile) (transfer (state b) w) (a_transfer x.cell x.from (AtNode n)) (moving (AtNode n) at) (subst (λ (z : Standing D). IsTileMoved held z w tile) (sym same) given)
+    tile-is = IfSome-at (λ (y : Transfer). IsTileOf held b y.cell y.from tile) (transfer (state b) w) (a_transfer x.cell x.from (AtNode n)) (at-place size faults mismatches held b rows spare keeps w b' same ws read x found (AtNode n) at) (subst (λ (z : Standing D). IsTileMoved held z w tile) (sym same) given)
 
     pub found-node : n.0 < length (row_of rows.cells x.cell).marks
-    found-node = in-node size faults mismatches held b rows spare keeps w x.cell x.from n (moving (AtNode n) at) tile tile-is
+    found-node = in-node size faults mismatches held b rows spare keeps w x.cell x.from n (at-place size faults mismatches held b rows spare keeps w b' same ws read x found (AtNode n) at) tile tile-is
 
     pub found-moved_in : (trace' : Recorded) (cells' : List Copies) (ws' : List WorkerState) → trace'.events ≡ b.trace ++ Moved x.cell x.from x.to ∷ [] → trace'.spare + 1 ≡ spare → cells' ≡ with_row rows.cells x.cell (λ row. with_copy row n ValidMark (Some tile)) → ws' ≡ with_transfer_of rows.workers w None → Keeps size faults mismatches held (record b { trace = trace'.events }) (rows_of rows.tasks cells' rows.nodes ws') trace'.spare
     found-moved_in trace' cells' ws' told left cells workers =
         keeps-told size faults mismatches held b (Moved x.cell x.from (AtNode n)) (rows_of rows.tasks (with_row rows.cells x.cell (λ row. with_copy row n ValidMark (Some tile))) rows.nodes (with_transfer_of rows.workers w None)) (rows_of rows.tasks cells' rows.nodes ws') trace'
         (told ∙ ap (λ (q : Place). b.trace ++ Moved x.cell x.from q ∷ []) at)
         (ap (λ (cs : List Copies). rows_of rows.tasks cs rows.nodes ws') cells ∙ ap (λ (vs : List WorkerState). rows_of rows.tasks (with_row rows.cells x.cell (λ row. with_copy row n ValidMark (Some tile))) rows.nodes vs) workers)
-        (keeps-moved_in size faults mismatches held b rows spare keeps w x.cell x.from n (moving (AtNode n) at) tile tile-is trace'.spare left)
+        (keeps-moved_in size faults mismatches held b rows spare keeps w x.cell x.from n (at-place size faults mismatches held b rows spare keeps w b' same ws read x found (AtNode n) at) tile tile-is trace'.spare left)
 
   module _ (d : DiskNo) (at : x.to ≡ OnDisk d) (given : IsWrittenOut held b' w) where
     is-written : IsSomeAnd (extent_of b.disks.directory x.cell.0) (IsCopyOf held b x.cell x.from)
-    is-written = told-of (λ (y : Transfer). IsSomeAnd (extent_of b.disks.directory y.cell.0) (IsCopyOf held b y.cell y.from)) (transfer (state b) w) (a_transfer x.cell x.from (OnDisk d)) (moving (OnDisk d) at) (subst (λ (z : Standing D). IsWrittenOut held z w) (sym same) given)
+    is-written = IfSome-at (λ (y : Transfer). IsSomeAnd (extent_of b.disks.directory y.cell.0) (IsCopyOf held b y.cell y.from)) (transfer (state b) w) (a_transfer x.cell x.from (OnDisk d)) (at-place size faults mismatches held b rows spare keeps w b' same ws read x found (OnDisk d) at) (subst (λ (z : Standing D). IsWrittenOut held z w) (sym same) given)
 
     pub found-out_cell : x.cell.0 < length rows.cells
-    found-out_cell = out-cell size faults mismatches held b rows spare keeps w x.cell x.from d (moving (OnDisk d) at) is-written
+    found-out_cell = out-cell size faults mismatches held b rows spare keeps w x.cell x.from d (at-place size faults mismatches held b rows spare keeps w b' same ws read x found (OnDisk d) at) is-written
 
     pub found-moved_out : (trace' : Recorded) (cells' : List Copies) (ws' : List WorkerState) → trace'.events ≡ b.trace ++ Moved x.cell x.from x.to ∷ [] → trace'.spare + 1 ≡ spare → cells' ≡ with_row rows.cells x.cell stored → ws' ≡ with_transfer_of rows.workers w None → Keeps size faults mismatches held (record b { trace = trace'.events }) (rows_of rows.tasks cells' rows.nodes ws') trace'.spare
     found-moved_out trace' cells' ws' told left cells workers =
         keeps-told size faults mismatches held b (Moved x.cell x.from (OnDisk d)) (rows_of rows.tasks (with_row rows.cells x.cell stored) rows.nodes (with_transfer_of rows.workers w None)) (rows_of rows.tasks cells' rows.nodes ws') trace'
         (told ∙ ap (λ (q : Place). b.trace ++ Moved x.cell x.from q ∷ []) at)
         (ap (λ (cs : List Copies). rows_of rows.tasks cs rows.nodes ws') cells ∙ ap (λ (vs : List WorkerState). rows_of rows.tasks (with_row rows.cells x.cell stored) rows.nodes vs) workers)
-        (keeps-moved_out size faults mismatches held b rows spare keeps w x.cell x.from d (moving (OnDisk d) at) is-written trace'.spare left)
+        (keeps-moved_out size faults mismatches held b rows spare keeps w x.cell x.from d (at-place size faults mismatches held b rows spare keeps w b' same ws read x found (OnDisk d) at) is-written trace'.spare left)

@@ -14,9 +14,9 @@ use Rattle.sj_core.proofs.Bytes.{entry-cell, once-bytes}
 use Rattle.sj_core.proofs.CellLists.{has_cell-fronted, has_cell-without, share, sum-once, times, times-cons, times-distinct, times-filter, times-has, times-none, times-program}
 use Rattle.sj_core.proofs.ClaimKeeps.{Claims-coherent, claim-order_elsewhere, claim-order_here}
 use Rattle.sj_core.proofs.Claiming.{Claims-other_worker, Claims-worker, absent-missing, evicted-free, missing-absent, own-spared, pinned-at, pins-inside, task-cell}
-use Rattle.sj_core.proofs.Replicas.{same_worker-is, same_worker-refl}
+use Rattle.sj_core.proofs.Replicas.{same_worker-is, same_worker-refl, valid-entry}
 use Rattle.sj_core.proofs.Sums.{count-numbered, sum-agree, sum-filter, sum-filter-le, sum-plus, tally}
-use Rattle.sj_core.proofs.Words.{AtNode, Cell, Coming, Invalid, Leaving, Machine, Node, Replica, Valid, Program, State, Task, Worker, WorkerState, cells_of, cells_of_program, distinct, has_cell, is_claimed_by, is_entry, is_leaving, is_running_on, is_valid, node_of, node_size, order, pins, progress, replica, same_cell, same_worker, scratch, scratch_bytes, task_of, tile_bytes, worker_state, workers_at, workers_of}
+use Rattle.sj_core.proofs.Words.{AtNode, Cell, Machine, Node, Program, State, Task, Worker, WorkerState, cells_of, cells_of_program, distinct, has_cell, is_claimed_by, is_entry, is_running_on, is_valid, node_of, node_size, order, pins, progress, replica, same_cell, same_worker, scratch, scratch_bytes, task_of, tile_bytes, worker_state, workers_at, workers_of}
 use Rattle.sj_core.specs.Coherent.{Coherent}
 use Rattle.sj_core.specs.Laws.{IsSound}
 use Rattle.sj_core.specs.Step.{CanClaim, after_claim, missing, without}
@@ -24,10 +24,8 @@ use Rattle.sj_node.specs.Entry.{AreDistinct, Entry, has_entry, pins_of, put_all,
 use Rattle.sj_node.specs.Store.{Store, free, store, with_entries}
 use Rattle.sj_machine.specs.Agrees.{entry_of, pins_on, store_of}
 use Rattle.sj_machine.specs.Plan.{CanHold, CanTakeAll, ClaimPlan, admitting, holding, plan_with, taken, taking}
+use Rattle.sj_machine.proofs.Unpinning.{ext}
 use Rattle.sj_machine.proofs.ClaimEntries.{can_take-all, entries, entries-has, entries-pins, entries-put, entries-total, entries-without, fronted-put_first, has_cell-put_first, more, put_first, taken-all, times-put_first}
-
-abbrev ext : {A B : Type 0} {f g : A → B} → ((x : A) → f x ≡ g x) → f ≡ g
-ext h = λ i x. h x i
 
 -- ---- lists
 
@@ -237,13 +235,7 @@ module _ (p : Program) (m : Machine) (s : State) (h : IsSound p m s) (t : Task) 
     where
       -- a valid replica that is pinned doesn't leave
       valid_pinned : (v : Worker) (c : Cell) → has_cell (pins s v) c ≡ true → is_valid (replica s c (AtNode (node_of m v))) ≡ true → is_entry (replica s c (AtNode (node_of m v))) ≡ true
-      valid_pinned v c pin valid = by_replica (replica s c (AtNode (node_of m v))) valid (h.coherent.pins.stays v c pin)
-        where
-          by_replica : (r : Replica) → is_valid r ≡ true → is_leaving r ≡ false → is_entry r ≡ true
-          by_replica Invalid a b = absurd (false≢true a)
-          by_replica (Coming x) a b = absurd (false≢true a)
-          by_replica (Valid x) a b = refl
-          by_replica (Leaving x y) a b = absurd (false≢true (sym b))
+      valid_pinned v c pin valid = valid-entry (replica s c (AtNode (node_of m v))) valid (h.coherent.pins.stays v c pin)
 
   -- what has no entry isn't pinned
   absent-unpinned : (c : Cell) → has_cell (order s n) c ≡ false → pins_on m s n c ≡ 0

@@ -1,14 +1,14 @@
 -- What a store and a fetch count, and that a refusal has its cause.
-use Rattle.std.proofs.Common.{◌≡◌, ◌≢◌, ◌<◌, ◌≤◌, ℕ, ℤ, Bool, true, false, List, [], ◌∷◌, get_or, map, Option, None, Some, refl, sym, ap, ◌∙◌, subst, arith, inl, inr, length, nat_eq}
-use Rattle.std.specs.Prelude.{All, Err, IfErr, IfSome, IsSome, IsSomeAnd, MatchOption, Ok, Result, is_err, is_some, slice_get}
+use Rattle.std.proofs.Common.{◌≡◌, ◌≢◌, ◌<◌, ◌≤◌, ℕ, ℤ, true, false, List, [], ◌∷◌, get_or, map, Option, None, Some, refl, sym, ap, ◌∙◌, subst, arith, inl, inr, length, nat_eq}
+use Rattle.std.specs.Prelude.{Err, IfErr, IfSome, IsSomeAnd, MatchOption, Ok, Result, is_err, slice_get}
 use Rattle.std.specs.List.{AllZip}
 use Rattle.std.proofs.lemmas.Bool.{cases_eq, false≢true, ne_eqb}
 use Rattle.std.proofs.lemmas.List.{length-map}
 use Rattle.std.proofs.lemmas.Bool.Decides.{Decides-eqb}
-use Rattle.std.proofs.lemmas.Option.{none-some, slice_get-get_or, slice_get_within}
-use Rattle.std.proofs.lemmas.Slice.Zip.{AllZip-left, AllZip-right}
+use Rattle.std.proofs.lemmas.Option.{none-some, slice_get-get_or, same_Some}
+use Rattle.std.proofs.lemmas.Slice.Zip.{AllZip-right}
 use Rattle.sj_base.specs.declared.ids.DiskNo.{DiskNo}
-use Rattle.sj_edge.specs.Faults.{Rose, counted, last_count}
+use Rattle.sj_edge.specs.Faults.{Rose, counted}
 use Rattle.sj_edge.specs.GivenBack.{AreGivenBack, IsGivenBack}
 use Rattle.sj_disk.specs.declared.directory.Extent.{Extent}
 use Rattle.sj_disk.specs.declared.header.Header.{Header}
@@ -18,7 +18,7 @@ use Rattle.sj_disk.specs.Block.{block, header}
 use Rattle.sj_disk.specs.Calls.{Fetches, Stores}
 use Rattle.sj_disk.specs.Lending.{LendingState}
 use Rattle.sj_disk.specs.Directory.{extent_of, IsLaidOut}
-use Rattle.sj_disk.specs.Holding.{ChangesAt, Tells}
+use Rattle.sj_disk.specs.Holding.{ChangesAt}
 use Rattle.sj_disk.specs.Refusals.{RefusesFor, is_damage, is_fault}
 use Rattle.sj_disk.specs.Transfers.{Looks, Writes}
 use Rattle.sj_machine.specs.Agrees.{Rows}
@@ -27,7 +27,6 @@ use Rattle.sj_machine.specs.Counts.{AreCounted, IsCounted, differed_at, failed_a
 use Rattle.sj_machine.specs.Headers.{IsLastWritten}
 use Rattle.sj_machine.specs.Sound.{Keeps}
 use Rattle.sj_machine.specs.Standing.{AllTell, Standing, state}
-use Rattle.sj_machine.specs.declared.fault.RunFault.{RunFault}
 use Rattle.sj_machine.proofs.Storing.{tell-still}
 
 -- ---- a call of one disk
@@ -48,9 +47,6 @@ pub record NamesDisk {A : Type 0} (number : DiskNo) (result : Result A DiskRefus
 
 changes-map : {D : Type 0} (d : ℕ) (P Q : D → D → Type 0) (old new : List D) → ((x y : D) → P x y → Q x y) → ChangesAt d P old new → ChangesAt d Q old new
 changes-map d P Q old new f changes = record { as_many = changes.as_many; others_stay = changes.others_stay; there = λ x y ox oy. f x y (changes.there x y ox oy) }
-
-one-some : {D : Type 0} (x y : D) → Some x ≡ Some y → x ≡ y
-one-some x y e = cc
 
 -- each disk counts what the call answers of it
 pub call-counted : {D A : Type 0} (faults mismatches : D → ℕ) (number : DiskNo) (result : Result A DiskRefusal) (old new : List D) → NamesDisk number result → ChangesAt number.0 (IsCall faults mismatches number result) old new → AreCounted faults mismatches result old new
@@ -88,7 +84,7 @@ call-counted {D} {A} faults mismatches number result old new names changes = rec
             of_mismatches = is.of_mismatches ∙ ap (counted (mismatches x)) (sym (differed-here result names) ∙ ap (differed_at result) (sym here));
           }
       | inr far ↦
-          let same : y ≡ x = one-some y x (sym oy ∙ changes.others_stay k far ∙ ox) in
+          let same : y ≡ x = same_Some y x (sym oy ∙ changes.others_stay k far ∙ ox) in
           record {
             of_faults = ap faults same ∙ ap (counted (faults x)) (sym (failed-elsewhere result names k far));
             of_mismatches = ap mismatches same ∙ ap (counted (mismatches x)) (sym (differed-elsewhere result names k far));

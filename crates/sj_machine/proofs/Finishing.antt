@@ -8,7 +8,7 @@ use Rattle.std.proofs.lemmas.List.{get_or-set_other, get_or-set_same, length-map
 use Rattle.std.proofs.lemmas.List.Elements.{All-from_get_or, All-from_recursion, All-get_or}
 use Rattle.std.proofs.lemmas.List.Folds.{list_any_at}
 use Rattle.std.proofs.lemmas.List.FromFn.{length-map-range_with_len}
-use Rattle.std.proofs.lemmas.List.Sums.{count_by-le-length, length-filter, sum_by-set}
+use Rattle.std.proofs.lemmas.List.Sums.{count_by-le-length, length-filter}
 use Rattle.std.proofs.lemmas.Slice.Zip.{AllZip-long}
 use Rattle.sj_base.specs.Recorded.{Recorded}
 use Rattle.sj_base.specs.declared.mode.Access.{Access}
@@ -16,16 +16,16 @@ use Rattle.sj_base.specs.declared.trace.Event.TheVariants.{End}
 use Rattle.sj_base.specs.Mode.{is_written}
 use Rattle.sj_codelet.specs.Frame.{Slot, arrays}
 use Rattle.sj_core.specs.declared.progress.Progress.{Progress}
-use Rattle.sj_core.specs.declared.progress.Progress.TheVariants.{Done, Running, Waiting}
-use Rattle.sj_core.proofs.Words.{Array, AtNode, Cell, CellState, Coming, Invalid, Leaving, Machine, Node, OnDisk, Place, Program, Replica, State, Task, Valid, Worker, WorkerState, array_of, cells_of, dims_of, has_cell, is_entry, is_leaving, is_task_of, is_valid, node_of, node_size, order, pins, progress, replica, same_cell, scratch, task_of, tasks_of, tile_bytes, worked_on, worker_of, worker_state, workers_at, writes, written_cells, zeros}
+use Rattle.sj_core.specs.declared.progress.Progress.TheVariants.{Done, Running}
+use Rattle.sj_core.proofs.Words.{Array, AtNode, Cell, CellState, Machine, Node, OnDisk, Place, Program, Replica, State, Task, Valid, Worker, WorkerState, array_of, cells_of, dims_of, has_cell, is_entry, is_task_of, is_valid, node_of, node_size, order, pins, progress, replica, same_cell, scratch, task_of, tasks_of, tile_bytes, worked_on, worker_of, worker_state, workers_at, writes, written_cells, zeros}
 use Rattle.sj_core.proofs.Advancing.{Ends-advances}
 use Rattle.sj_core.proofs.CellLists.{same_cell-refl, times}
 use Rattle.sj_core.proofs.Changing.{place_differs}
 use Rattle.sj_core.proofs.Ending.{end-elsewhere, end-other, end-other_worker, end-own_worker, end-spares, end-written}
 use Rattle.sj_core.proofs.Finding.{being_written-by, being_written-here, not_written-before, running-inside}
 use Rattle.sj_core.proofs.Placing.{valid-row}
-use Rattle.sj_core.proofs.Reading.{cells-touched, cells-untouched, idle_row, same_cell-is, same_node}
-use Rattle.sj_core.proofs.Replicas.{same_worker-refl}
+use Rattle.sj_core.proofs.Reading.{cells-touched, cells-untouched, same_cell-is, same_node}
+use Rattle.sj_core.proofs.Replicas.{same_worker-refl, valid-entry}
 use Rattle.sj_core.proofs.Sized.{worked_on-dims}
 use Rattle.sj_core.proofs.TaskCells.{written-among_cells}
 use Rattle.sj_core.specs.Coherent.{IsOwnedBy, has_written, is_begun, is_being_written, written_content}
@@ -73,12 +73,6 @@ all-shared p [] (x ∷ slots) each = absurd each
 all-shared p (a ∷ ops) [] each = absurd each
 all-shared p (a ∷ ops) (x ∷ slots) each = (each.0.shared, all-shared p ops slots each.1)
 
-valid-entry : (r : Replica) → is_valid r ≡ true → is_leaving r ≡ false → is_entry r ≡ true
-valid-entry Invalid v l = absurd (false≢true v)
-valid-entry (Coming w) v l = absurd (false≢true v)
-valid-entry (Valid a) v l = refl
-valid-entry (Leaving w a) v l = absurd (false≢true (sym l))
-
 module _ {D : Type 0} (size faults mismatches : D → ℕ) (held : D → Option (List ℕ)) (b : Standing D) (rows : Rows) (spare : ℕ) (keeps : Keeps size faults mismatches held b rows spare) (t : Task) (w : Worker) (can : CanHappen b (End t w)) where
   abbrev p : Program
   p = b.program
@@ -101,14 +95,11 @@ module _ {D : Type 0} (size faults mismatches : D → ℕ) (held : D → Option 
   h : IsSound p m s
   h = sound_state size faults mismatches held b rows spare keeps
 
-  inside_task : t.0 < length p.tasks
-  inside_task = running-inside p m s t w h.coherent.state.rows ended
-
   pub end-program_task : t.0 < length p.tasks
-  end-program_task = inside_task
+  end-program_task = running-inside p m s t w h.coherent.state.rows ended
 
   pub end-task : t.0 < length rows.tasks
-  end-task = omega (arith, inside_task, h.coherent.state.rows.tasks, ap length keeps.agrees.tasks)
+  end-task = omega (arith, end-program_task, h.coherent.state.rows.tasks, ap length keeps.agrees.tasks)
 
   staffed : w.0 < p.workers
   staffed = subst (λ (x : Progress). (worker_of x).0 < p.workers) ended (h.coherent.state.staff.staffed t (ap is_begun ended))
@@ -134,13 +125,13 @@ module _ {D : Type 0} (size faults mismatches : D → ℕ) (held : D → Option 
   own c has = h.coherent.writers.owned t w c ended has
 
   being : (c : Cell) → has_cell ws c ≡ true → is_being_written p s c ≡ true
-  being c has = being_written-here p s c t w inside_task ended has
+  being c has = being_written-here p s c t w end-program_task ended has
 
   row-inside : (c : Cell) → has_cell ws c ≡ true → c.0 < length rows.cells
   row-inside c has = (let in_program = entry-cell p m s h.coherent c n (ap is_entry (own c has).valid) in omega (arith, in_program, keeps.agrees.marks.every_cell))
 
   once : (c : Cell) → times ws c ≤ 1
-  once c = written-once p keeps.sound.run.proper t inside_task w staffed c
+  once c = written-once p keeps.sound.run.proper t end-program_task w staffed c
 
   all-inside : All (λ c. c.0 < length rows.cells) ws
   all-inside = λ k d inside. row-inside (get_or ws k d) (list_any_at (λ e. same_cell e (get_or ws k d)) ws k d inside (same_cell-refl (get_or ws k d)))
@@ -151,10 +142,10 @@ module _ {D : Type 0} (size faults mismatches : D → ℕ) (held : D → Option 
   -- ---- what the code asks
 
   pub end-can_work : All (CanWorkOn p w) (task_of p t).accesses
-  end-can_work = can-work p keeps.sound.run.proper t inside_task w staffed
+  end-can_work = can-work p keeps.sound.run.proper t end-program_task w staffed
 
   pub end-cells : All (λ a. (worked_on p w a).0 < length rows.cells) (task_of p t).accesses
-  end-cells k d inside = (let worked = works-inside p keeps.sound.run.proper t inside_task w staffed k d inside in omega (arith, worked, keeps.agrees.marks.every_cell))
+  end-cells k d inside = (let worked = works-inside p keeps.sound.run.proper t end-program_task w staffed k d inside in omega (arith, worked, keeps.agrees.marks.every_cell))
 
   few-writes : (c : Cell) → writes s c ≤ 2 ^ 22
   few-writes c =

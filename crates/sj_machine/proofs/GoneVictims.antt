@@ -1,5 +1,5 @@
 -- Victims that are gone stay so until their worker claims again.
-use Rattle.std.proofs.Common.{◌≡◌, ◌≢◌, ℕ, ◌<◌, ◌≤◌, ◌+◌, ◌-◌, ◌++◌, ◌⊎◌, Bool, true, false, not, ◌&&◌, cond, List, [], ◌∷◌, Option, None, Some, length, get_or, ltb, set, suc, take, zero, drop, position, reverse, refl, sym, ap, ◌∙◌, subst, inl, inr, arith}
+use Rattle.std.proofs.Common.{◌≡◌, ◌≢◌, ℕ, ◌<◌, ◌≤◌, ◌+◌, ◌-◌, ◌++◌, Bool, true, false, not, ◌&&◌, cond, List, [], ◌∷◌, Option, None, Some, length, get_or, ltb, set, suc, take, zero, drop, position, reverse, refl, sym, ap, ◌∙◌, subst, inl, inr, arith}
 use Rattle.std.specs.Prelude.{Err, IfSome, IsSomeAnd, Ok, OnErr, OnOk, Result, replicate}
 use Rattle.std.specs.List.{find, list_all, position_or_len}
 use Rattle.std.proofs.Math.ListN.{drop_of_length-le}
@@ -12,15 +12,16 @@ use Rattle.std.proofs.lemmas.Option.{none-some}
 use Rattle.sj_core.proofs.Eviction.{evicted-after}
 use Rattle.sj_base.specs.declared.trace.Event.{Event}
 use Rattle.sj_base.specs.declared.trace.Event.TheVariants.{Claim, Drop, End, Move, Moved, Run}
+use Rattle.sj_base.proofs.Bools.{and_rest}
 use Rattle.sj_core.proofs.Claiming.{Claims-other_worker, claim-leaving}
 use Rattle.sj_core.proofs.Ending.{end-change}
 use Rattle.sj_core.proofs.Placing.{position-none, replica-cases, victims-same}
 use Rattle.sj_core.proofs.Reading.{idle_row, workers_differ}
 use Rattle.sj_core.proofs.Running.{run-leaving, run-worker}
 use Rattle.sj_core.proofs.States.{one-mover, state_of-more}
-use Rattle.sj_core.proofs.Words.{AtNode, Cell, Invalid, Machine, Node, OnDisk, Program, State, Task, Valid, Worker, WorkerState, is_gone, is_leaving_by, node_of, replica, transfer, victims_of, with_replica, with_transfer}
+use Rattle.sj_core.proofs.Words.{AtNode, Cell, Invalid, Machine, Node, OnDisk, Program, State, Task, Valid, Worker, WorkerState, is_gone, is_leaving_by, node_of, replica, transfer, victims_of, with_replica}
 use Rattle.sj_core.specs.Laws.{IsSound}
-use Rattle.sj_core.specs.Step.{May, a_transfer, after, array_at, mover_of}
+use Rattle.sj_core.specs.Step.{May, a_transfer, after, array_at}
 use Rattle.sj_core.specs.declared.progress.Transfer.{Transfer}
 use Rattle.sj_disk.specs.Directory.{DiskState}
 use Rattle.sj_machine.specs.Agrees.{Rows}
@@ -29,6 +30,7 @@ use Rattle.sj_machine.specs.Copies.{Copies}
 use Rattle.sj_machine.specs.Gone.{AreGone, AreGoneIn, KnowsGone}
 use Rattle.sj_machine.specs.Sound.{IsSoundRun, Keeps}
 use Rattle.sj_machine.specs.Standing.{CanHappen, HasMoved, Standing, starting, state, with_event}
+use Rattle.sj_machine.proofs.SparingBoards.{sound as run-sound}
 use Rattle.sj_machine.proofs.NextRows.{leaves, list_all-agree}
 
 -- ---- lists
@@ -36,10 +38,6 @@ use Rattle.sj_machine.proofs.NextRows.{leaves, list_all-agree}
 and_first : (a b : Bool) → (a && b) ≡ true → a ≡ true
 and_first true b h = refl
 and_first false b h = absurd (false≢true h)
-
-and_rest : (a b : Bool) → (a && b) ≡ true → b ≡ true
-and_rest true b h = h
-and_rest false b h = absurd (false≢true h)
 
 list_all-weaker : (f g : Cell → Bool) → ((c : Cell) → f c ≡ true → g c ≡ true) → (xs : List Cell) → list_all f xs ≡ true → list_all g xs ≡ true
 list_all-weaker f g more [] h = refl
@@ -233,11 +231,8 @@ knows-noted run run' program w stays machine gone knows count first gone' is = s
 })
 
 module _ {D : Type 0} (size faults mismatches : D → ℕ) (held : D → Option (List ℕ)) (run : Standing D) (sound : IsSoundRun size faults mismatches held run) where
-  h : IsSound run.program run.machine (state run)
-  h = record { proper = sound.run.proper; machine = sound.run.machine; coherent = sound.coherent }
-
   event-stays : (e : Event) → CanHappen run e → (v : Worker) → NotClaimedBy e v → Stays v (state run) (state (with_event run e))
-  event-stays e can v other = subst (λ (z : State). Stays v (state run) z) (sym (state_of-more run.program run.machine run.trace e)) (Step-stays run.program run.machine (state run) h v e (after run.program run.machine (state run) e) can refl other)
+  event-stays e can v other = subst (λ (z : State). Stays v (state run) z) (sym (state_of-more run.program run.machine run.trace e)) (Step-stays run.program run.machine (state run) (run-sound size faults mismatches held run sound) v e (after run.program run.machine (state run) e) can refl other)
 
   module _ (gone : List ℕ) (knows : Knows run gone) where
     -- an event that is no claim

@@ -1,21 +1,20 @@
 -- What follows of a worker's next step: that it can be made, by whom, and that a worker waits only while another goes on.
-use Rattle.std.proofs.Common.{◌≡◌, ◌≢◌, ℕ, ◌+◌, ◌<◌, Bool, true, false, not, ◌&&◌, ◌||◌, cond, List, [], ◌∷◌, ◌++◌, Option, Some, None, length, is_some, reverse, refl, sym, ap, ◌∙◌, subst, inl, inr, ◌⊎◌, arith}
+use Rattle.std.proofs.Common.{◌≡◌, ◌≢◌, ℕ, ◌<◌, Bool, true, false, not, ◌&&◌, ◌||◌, cond, List, [], ◌∷◌, Option, Some, None, length, is_some, reverse, refl, sym, ap, ◌∙◌, subst, inl, inr, ◌⊎◌, arith}
 use Rattle.std.specs.Prelude.{IsSomeAnd, MatchBool, MatchOption, if◌then◌else◌, option_map, position}
-use Rattle.std.specs.List.{find, list_all, list_any}
-use Rattle.std.proofs.lemmas.Bool.{and_from, and_parts, cases_Bool, false_from_ne_true, false≢true, not-false, not-true, true_from_ne_false}
+use Rattle.std.specs.List.{find, list_all}
+use Rattle.std.proofs.lemmas.Bool.{and_from, and_parts, cases_Bool, false_from_ne_true, false≢true, not-false}
 use Rattle.std.proofs.lemmas.List.{reverse-append}
 use Rattle.std.proofs.lemmas.List.Folds.{list_any-append}
-use Rattle.std.proofs.lemmas.List.Quantifiers.{position-Some}
 use Rattle.std.proofs.lemmas.Option.{none-some}
 use Rattle.sj_base.specs.declared.trace.Event.TheVariants.{Drop, Move, Run}
-use Rattle.sj_core.proofs.Words.{AtNode, Cell, DiskNo, Invalid, Machine, Node, OnDisk, Place, Program, Replica, State, Task, Worker, array_of, cell_state, cells_of, fresh_cells, has_cell, has_room, is_claimed_by, is_coming_by, is_entry, is_gone, is_leaving, is_leaving_by, is_task_of, is_valid, moves, node_of, progress, replica, same_cell, same_worker, transfer, victims_of, with_transfer, workers_of, written_cells, writes}
-use Rattle.sj_core.specs.declared.progress.Progress.{Progress}
+use Rattle.sj_base.proofs.Bools.{or_true, not_not}
+use Rattle.sj_core.proofs.Words.{AtNode, Cell, DiskNo, Machine, Node, OnDisk, Place, Program, State, Task, Worker, cell_state, cells_of, fresh_cells, has_cell, has_room, is_claimed_by, is_coming_by, is_entry, is_gone, is_leaving_by, is_valid, moves, node_of, progress, replica, same_cell, transfer, victims_of, workers_of, written_cells, writes}
 use Rattle.sj_core.specs.declared.progress.Progress.TheVariants.{Claimed}
 use Rattle.sj_core.specs.declared.progress.Transfer.{Transfer}
 use Rattle.sj_core.proofs.Advancing.{claimed-task_of, claimed_by-is}
 use Rattle.sj_core.proofs.Blocks.{has-disk}
 use Rattle.sj_core.proofs.CellLists.{same_cell-from, same_cell-refl}
-use Rattle.sj_core.proofs.Claimed.{claimed-inside, claimed-not_written, claimed-old_value, list_any-task}
+use Rattle.sj_core.proofs.Claimed.{claimed-inside, list_any-task}
 use Rattle.sj_core.proofs.Dependencies.{Proper-dependencies}
 use Rattle.sj_core.proofs.Placing.{valid-row}
 use Rattle.sj_core.proofs.Reading.{entry-inside, same_cell-is}
@@ -45,10 +44,6 @@ pub find-among : (test : Cell → Bool) (xs : List Cell) (c : Cell) → find tes
 find-among test [] c e = absurd (none-some c e)
 find-among test (x ∷ xs) c e = by_test (test x) refl e (find-among test xs c)
   where
-    or_true : (a : Bool) → (a || true) ≡ true
-    or_true true = refl
-    or_true false = refl
-
     by_test : (b : Bool) → test x ≡ b → cond b (Some x) (find test xs) ≡ Some c → (find test xs ≡ Some c → has_cell xs c ≡ true) → (same_cell x c || has_cell xs c) ≡ true
     by_test true passes found rest = let is : x ≡ c = cc in ap (λ b. b || has_cell xs c) (same_cell-from x c is)
     by_test false fails found rest = ap (λ b. same_cell x c || b) (rest found) ∙ or_true (same_cell x c)
@@ -78,20 +73,12 @@ has_cell-reverse (x ∷ xs) c = ap (λ (ys : List Cell). has_cell ys c) (reverse
 list_all-from : (test : Cell → Bool) (xs : List Cell) → ((c : Cell) → has_cell xs c ≡ true → test c ≡ true) → list_all test xs ≡ true
 list_all-from test [] all = refl
 list_all-from test (x ∷ xs) all = and_from (test x) (list_all test xs) (all x (ap (λ b. b || has_cell xs x) (same_cell-refl x))) (list_all-from test xs (λ c has. all c (ap (λ b. same_cell x c || b) has ∙ or_true (same_cell x c))))
-  where
-    or_true : (a : Bool) → (a || true) ≡ true
-    or_true true = refl
-    or_true false = refl
 
 -- a cell that fails, where not all of them pass
 fails-some : (test : Cell → Bool) (xs : List Cell) → list_all test xs ≡ false → (c : Cell) × (has_cell xs c ≡ true) × (test c ≡ false)
 fails-some test [] h = absurd (false≢true (sym h))
 fails-some test (x ∷ xs) h = by_test (test x) refl h (fails-some test xs)
   where
-    or_true : (a : Bool) → (a || true) ≡ true
-    or_true true = refl
-    or_true false = refl
-
     by_test : (b : Bool) → test x ≡ b → (b && list_all test xs) ≡ false → (list_all test xs ≡ false → (c : Cell) × (has_cell xs c ≡ true) × (test c ≡ false)) → (c : Cell) × (has_cell (x ∷ xs) c ≡ true) × (test c ≡ false)
     by_test false fails h rest = (x, ap (λ b. b || has_cell xs x) (same_cell-refl x), fails)
     by_test true passes h rest = let r = rest h in (r.0, ap (λ b. same_cell x r.0 || b) r.1 ∙ or_true (same_cell x r.0), r.2)
@@ -102,16 +89,12 @@ module _ (p : Program) (m : Machine) (s : State) (w : Worker) where
   abbrev n : Node
   n = node_of m w
 
-  not-not : (b : Bool) → not (not b) ≡ b
-  not-not true = refl
-  not-not false = refl
-
   pub victim-leaves : (c : Cell) → next_victim m s w ≡ Some c → is_leaving_by w (replica s c (AtNode n)) ≡ true
-  victim-leaves c e = sym (not-not (is_leaving_by w (replica s c (AtNode n)))) ∙ find-passes (λ d. not (is_gone m s w d)) (reverse (victims_of s w)) c e
+  victim-leaves c e = sym (not_not (is_leaving_by w (replica s c (AtNode n)))) ∙ find-passes (λ d. not (is_gone m s w d)) (reverse (victims_of s w)) c e
 
   -- where no victim is left, there is room
   pub none-room : next_victim m s w ≡ None → has_room m s w ≡ true
-  none-room e = list_all-from (is_gone m s w) (victims_of s w) (λ c has. sym (not-not (is_gone m s w c)) ∙ ap not (find-none (λ d. not (is_gone m s w d)) (reverse (victims_of s w)) c e (has_cell-reverse (victims_of s w) c ∙ has)))
+  none-room e = list_all-from (is_gone m s w) (victims_of s w) (λ c has. sym (not_not (is_gone m s w c)) ∙ ap not (find-none (λ d. not (is_gone m s w d)) (reverse (victims_of s w)) c e (has_cell-reverse (victims_of s w) c ∙ has)))
 
   pub cell-comes : (t : Task) (c : Cell) → next_cell p m s t w ≡ Some c → (is_coming_by w (replica s c (AtNode n)) ≡ true) × (not (is_fresh p s w c) ≡ true)
   cell-comes t c e = and_parts (is_coming_by w (replica s c (AtNode n))) (not (is_fresh p s w c)) (find-passes (is_to_come p m s w) (cells_of p t w) c e)
@@ -359,11 +342,7 @@ module _ (p : Program) (m : Machine) (s : State) (h : IsSound p m s) (swap : Has
     moved : list_all (λ c. not (is_moving m s c)) (written_cells p t w) ≡ false → AnotherGoesOn p m s w
     moved some =
         let found = fails-some (λ c. not (is_moving m s c)) (written_cells p t w) some in
-        another (carrier found.0 (moving (is_moving m s found.0) found.2))
-      where
-        moving : (b : Bool) → not b ≡ false → b ≡ true
-        moving true e = refl
-        moving false e = absurd (false≢true (sym e))
+        another (carrier found.0 (not-false (is_moving m s found.0) found.2))
 
     wait-run : next_cell p m s t w ≡ None → may_run p m s t w ≡ false → AnotherGoesOn p m s w
     wait-run none stuck = by_parts (is_present p s t w home) refl stuck

@@ -8,14 +8,14 @@ use Rattle.std.proofs.lemmas.Nat.{mod_below}
 use Rattle.std.proofs.lemmas.List.{get_or-map, get_or_past, length-map}
 use Rattle.std.proofs.lemmas.List.Elements.{All-get_or, Contains-get_or}
 use Rattle.std.proofs.lemmas.List.Folds.{list_any_at}
-use Rattle.std.proofs.lemmas.List.Sums.{sum_by-cons, sum_by-set}
+use Rattle.std.proofs.lemmas.List.Sums.{sum_by-cons}
 use Rattle.sj_base.specs.Recorded.{Recorded}
 use Rattle.sj_base.specs.declared.mode.Access.{Access}
 use Rattle.sj_base.specs.declared.trace.Event.TheVariants.{Run}
 use Rattle.sj_base.specs.Mode.{reads_value, starts_as_zeros}
 use Rattle.sj_codelet.specs.Frame.{Slot, shared}
 use Rattle.sj_core.specs.declared.progress.Progress.{Progress}
-use Rattle.sj_core.specs.declared.progress.Progress.TheVariants.{Running, Waiting}
+use Rattle.sj_core.specs.declared.progress.Progress.TheVariants.{Running}
 use Rattle.sj_core.proofs.Words.{Array, AtNode, Cell, CellState, Invalid, Machine, Node, OnDisk, Place, Program, Replica, State, Task, Valid, Worker, array_of, cell_state, cells_of, dims_of, fresh_cells, has_cell, is_entry, is_task_of, is_valid, node_of, node_size, order, pins, progress, replica, same_cell, scratch, task_of, worked_on, worker_of, workers_at, writes, written_cells, zeros}
 use Rattle.sj_core.proofs.Advancing.{same_task, task_of-worker}
 use Rattle.sj_core.proofs.CellLists.{times, times-none}
@@ -90,14 +90,11 @@ module _ {D : Type 0} (size faults mismatches : D → ℕ) (held : D → Option 
   h : IsSound p m s
   h = sound_state size faults mismatches held b rows spare keeps
 
-  inside_task : t.0 < length p.tasks
-  inside_task = claimed-inside p m s h t w run.claimed
+  pub run-program_task : t.0 < length p.tasks
+  run-program_task = claimed-inside p m s h t w run.claimed
 
   pub run-task : t.0 < length rows.tasks
-  run-task = omega (arith, inside_task, h.coherent.state.rows.tasks, ap length keeps.agrees.tasks)
-
-  pub run-program_task : t.0 < length p.tasks
-  run-program_task = inside_task
+  run-task = omega (arith, run-program_task, h.coherent.state.rows.tasks, ap length keeps.agrees.tasks)
 
   pub run-node : n.0 < length m.nodes
   run-node = mod_below w.0 (length m.nodes) (let one = keeps.sound.run.machine.some_node in omega arith)
@@ -123,7 +120,7 @@ module _ {D : Type 0} (size faults mismatches : D → ℕ) (held : D → Option 
   run-cells = λ k d inside. row-inside (get_or ws k d) (has-at ws k d inside)
 
   once : (c : Cell) → times ws c ≤ 1
-  once c = written-once p keeps.sound.run.proper t inside_task w staffed c
+  once c = written-once p keeps.sound.run.proper t run-program_task w staffed c
 
   abbrev new : List Copies
   new = lend_each n ws rows.cells
@@ -307,10 +304,10 @@ module _ {D : Type 0} (size faults mismatches : D → ℕ) (held : D → Option 
   read-there a has reads = keeps.agrees.tiles.there (worked_on p w a) n (read-rests a has reads) ∙ read-valid a has reads
 
   works : All (λ a. (worked_on p w a).0 < length p.cells) (task_of p t).accesses
-  works = works-inside p keeps.sound.run.proper t inside_task w staffed
+  works = works-inside p keeps.sound.run.proper t run-program_task w staffed
 
   pub run-can_work : All (CanWorkOn p w) (task_of p t).accesses
-  run-can_work = can-work p keeps.sound.run.proper t inside_task w staffed
+  run-can_work = can-work p keeps.sound.run.proper t run-program_task w staffed
 
   pub run-can_give : All (CanGive p w rows.cells n) (task_of p t).accesses
   run-can_give k d inside =

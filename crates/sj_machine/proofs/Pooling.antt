@@ -11,9 +11,10 @@ use Rattle.sj_base.specs.declared.mode.Policy.TheVariants.{Eager, Prio, Ws}
 use Rattle.sj_base.specs.declared.ids.Task.{Task}
 use Rattle.sj_pool.proofs.Serving.{never-none}
 use Rattle.sj_pool.specs.Entry.{fits, precedes}
-use Rattle.sj_pool.specs.Pool.{contains, has_task, home, put_into, queue, queue_count, with_entry_at, without_first_at}
+use Rattle.sj_pool.specs.Pool.{contains, has_task, put_into, queue, with_entry_at, without_first_at}
 use Rattle.sj_pool.specs.Queue.{first_fitting, has_fitting, put_by_urgency, without_first_fitting}
 use Rattle.sj_pool.specs.declared.entry.Entry.{Entry}
+pub use Rattle.sj_pool.proofs.Keeping.{home-within as home-inside}
 use Rattle.sj_machine.specs.BoardSound.{is_entry_of}
 use Rattle.sj_machine.specs.Passing.{times_of}
 
@@ -121,12 +122,6 @@ pub all-put : (P : Entry → Type 0) (p : Policy) (e : Entry) (es : List Entry) 
 all-put P Eager e es here all = all-put_last P e es here all
 all-put P Prio e es here all = all-put_by_urgency P e es here all
 all-put P Ws e es here all = all-put_last P e es here all
-
--- a worker's queue is one of them
-pub home-inside : (p : Policy) (workers w : ℕ) → w < workers → home p w < queue_count p workers
-home-inside Eager workers w h = omega arith
-home-inside Prio workers w h = omega arith
-home-inside Ws workers w h = h
 
 pub times-put : (p : Policy) (qs : List (List Entry)) (i : ℕ) (e : Entry) (t : Task) → i < length qs → times_in t (with_entry_at p qs i e) ≡ times_in t qs + cond {A = ℕ} (is_entry_of t e) 1 0
 times-put p qs i e t inside = omega (arith, sum_by-set (λ q. count_by (is_entry_of t) q) qs i (put_into p e (queue qs i)) [] inside, count-put p e (queue qs i) t)

@@ -4,7 +4,7 @@ use Rattle.std.specs.Prelude.{Err, IfSome, Ok, OnOk, Result}
 use Rattle.sj_base.specs.declared.trace.Event.{Event}
 use Rattle.sj_base.specs.declared.trace.Event.TheVariants.{Moved}
 use Rattle.sj_core.proofs.States.{one-mover, state_of-more}
-use Rattle.sj_core.proofs.Words.{State, Valid, Worker, transfer, with_replica, with_transfer}
+use Rattle.sj_core.proofs.Words.{State, Worker, transfer}
 use Rattle.sj_core.specs.Laws.{IsSound}
 use Rattle.sj_core.specs.Step.{a_transfer, after}
 use Rattle.sj_core.specs.declared.progress.Transfer.{Transfer}
@@ -14,7 +14,7 @@ use Rattle.sj_machine.specs.Standing.{CanHappen, HasMoved, Standing, state, with
 use Rattle.sj_machine.proofs.Sparing.{Step-spares}
 
 module _ {D : Type 0} (size faults mismatches : D → ℕ) (held : D → Option (List ℕ)) (b : Standing D) (run : IsSoundRun size faults mismatches held b) where
-  sound : IsSound b.program b.machine (state b)
+  pub sound : IsSound b.program b.machine (state b)
   sound = record { proper = run.run.proper; machine = run.run.machine; coherent = run.coherent }
 
   pub event-spares : (e : Event) → CanHappen b e → (b' : Standing D) → b' ≡ with_event b e → Spares b e b'

@@ -19,7 +19,7 @@ use Rattle.sj_machine.proofs.Stepping.{counts-still, not-complete, taken-before,
 claimed-waits : (w : Worker) → Claimed w ≡ Waiting → ⊥
 claimed-waits w e = absurd (cc)
 
-running-waits : (w : Worker) → Running w ≡ Waiting → ⊥
+pub running-waits : (w : Worker) → Running w ≡ Waiting → ⊥
 running-waits w e = absurd (cc)
 
 -- a running task is its worker's as a claimed one is

@@ -8,6 +8,9 @@ use Rattle.std.proofs.lemmas.List.Elements.{All-get_or, AllZip-get_or, length_al
 use Rattle.std.proofs.lemmas.Option.{get_or_from_slice_get, slice_get_within}
 use Rattle.sj_base.specs.Array.{area}
 use Rattle.sj_base.specs.declared.tile.Dims.{Dims}
+use Rattle.sj_base.proofs.Options.{IfSome-at, IfSome-from, IsSomeAnd-from, IsSomeAnd-at}
+-- (old names, by which UnitPuts still cites them)
+pub use Rattle.sj_base.proofs.Options.{IfSome-at as told-at, IfSome-from as told-from, IsSomeAnd-at as some-at}
 use Rattle.sj_core.specs.declared.progress.Transfer.{Transfer}
 use Rattle.sj_core.proofs.Words.{Array, Block, Cell, DiskNo, Machine, OnDisk, Place, Program, State, Worker, WorkerState, dims_of, is_valid, replica, transfer, writes}
 use Rattle.sj_core.proofs.Placing.{cells_differ}
@@ -16,13 +19,12 @@ use Rattle.sj_edge.specs.GivenBack.{AreGivenBack, IsGivenBack}
 use Rattle.sj_edge.proofs.GivenBackLemmas.{all_given_back-then}
 use Rattle.sj_disk.specs.declared.directory.Extent.{Extent}
 use Rattle.sj_disk.specs.declared.refusal.DiskRefusal.{DiskRefusal}
-use Rattle.sj_disk.specs.Block.{block, block_bytes, element_bytes, header, header_bytes}
+use Rattle.sj_disk.specs.Block.{block, block_bytes, header}
 use Rattle.sj_disk.specs.Calls.{Fetches, Stores}
 use Rattle.sj_disk.specs.Lending.{IsInFor, LendingState}
 use Rattle.sj_disk.specs.Directory.{extent_of, last_store, with_store}
 use Rattle.sj_disk.specs.Holding.{Holds, Tells}
-use Rattle.sj_disk.proofs.Bytes.{length-element_bytes, length-header_bytes}
-use Rattle.std.proofs.lemmas.List.{length-append}
+use Rattle.sj_disk.proofs.Uniting.{length-block}
 use Rattle.sj_machine.specs.Agrees.{Rows, transfer_in}
 use Rattle.sj_machine.specs.Headers.{IsLastWritten}
 use Rattle.sj_machine.specs.Copies.{Copies, row_of}
@@ -30,24 +32,6 @@ use Rattle.sj_machine.specs.Sound.{HoldsArray, HoldsBlocks, IsBlock, IsCopyOf, F
 use Rattle.sj_machine.specs.Units.{HasItsDiskIn, lent}
 use Rattle.sj_machine.specs.Standing.{AllTell, HasDimsMoved, IsTileMoved, IsTileOf, Standing, state}
 use Rattle.sj_machine.proofs.Resting.{valid-cell}
-
--- the block of elements has its header and eight bytes for each
-length-block : (c n : ℕ) (xs : List ℤ) → length (block c n xs) ≡ block_bytes (length xs)
-length-block c n xs = omega (arith, length-append (header_bytes (header c n (length xs))) (element_bytes xs), length-header_bytes (header c n (length xs)), length-element_bytes xs)
-
--- what is there, and what is known of it
-pub some-at : {X : Type 0} (P : X → Type 0) (o : Option X) → IsSomeAnd o P → (x : X) × (o ≡ Some x) × P x
-some-at P None h = absurd h
-some-at P (Some x) h = (x, refl, h)
-
-some-and : {X : Type 0} (P : X → Type 0) (o : Option X) (x : X) → o ≡ Some x → P x → IsSomeAnd o P
-some-and {X} P o x e h = subst (λ (k : Option X). IsSomeAnd k P) (sym e) h
-
-pub told-at : {X : Type 0} (P : X → Type 0) (o : Option X) (x : X) → o ≡ Some x → IfSome o P → P x
-told-at {X} P o x e h = subst (λ (k : Option X). IfSome k P) e h
-
-pub told-from : {X : Type 0} (P : X → Type 0) (o : Option X) (x : X) → o ≡ Some x → P x → IfSome o P
-told-from {X} P o x e h = subst (λ (k : Option X). IfSome k P) (sym e) h
 
 -- disks that all told still tell
 told_as : {X : Type 0} (a b : Option X) → is_some b ≡ is_some a → IsSome a → IsSome b
@@ -80,7 +64,7 @@ module _ {D : Type 0} (size faults mismatches : D → ℕ) (held : D → Option 
       by_block : (o : Option Block) → block_of p m c ≡ o → option_map (λ (k : Block). k.disk) o ≡ Some d → (e : Extent) × (extent_of b.disks.directory c.0 ≡ Some e) × (e.length ≡ area (dims_of p c)) × (e.disk ≡ d)
       by_block None e is = absurd (let f : ◌≡◌ {A = Option DiskNo} None (Some d) = is in cc)
       by_block (Some k) e is =
-          let found = some-at (IsBlock p c k) (extent_of b.disks.directory c.0) (told-at (λ (k : Block). IsSomeAnd (extent_of b.disks.directory c.0) (IsBlock p c k)) (block_of p m c) k e (keeps.sound.blocks.placed c)) in
+          let found = IsSomeAnd-at (IsBlock p c k) (extent_of b.disks.directory c.0) (IfSome-at (λ (k : Block). IsSomeAnd (extent_of b.disks.directory c.0) (IsBlock p c k)) (block_of p m c) k e (keeps.sound.blocks.placed c)) in
           let one : ◌≡◌ {A = Option DiskNo} (Some k.disk) (Some d) = is in
           let same : k.disk ≡ d = cc in
           (found.0, found.1, found.2.whole, found.2.disk ∙ same)
@@ -113,7 +97,7 @@ module _ {D : Type 0} (size faults mismatches : D → ℕ) (held : D → Option 
         false≢true (sym (ap is_valid (keeps.sound.coherent.transfers.target w (a_transfer c from (OnDisk d)) under_way).1) ∙ ap (λ (j : DiskNo). is_valid (replica s c (OnDisk j))) same ∙ valid)
 
     pub store-reserved : IsSomeAnd (extent_of b.disks.directory c.0) (λ e. length tile.elements ≡ e.length)
-    store-reserved = let e = extent d aimed in some-and (λ e. length tile.elements ≡ e.length) (extent_of b.disks.directory c.0) e.0 e.1 (whole ∙ ap area is.dims ∙ sym e.2)
+    store-reserved = let e = extent d aimed in IsSomeAnd-from (λ e. length tile.elements ≡ e.length) (extent_of b.disks.directory c.0) e.0 e.1 (whole ∙ ap area is.dims ∙ sym e.2)
 
     module _ {A : Type 0} (result : Result A DiskRefusal) (new : LendingState D) (stores : IfSome (extent_of b.disks.directory c.0) (Stores size faults mismatches held c.0 (writes s c) tile.elements result b.disks new.set)) where
       its : Extent
@@ -128,7 +112,7 @@ module _ {D : Type 0} (size faults mismatches : D → ℕ) (held : D → Option 
       its-whole = (extent d aimed).2
 
       of_it : Stores size faults mismatches held c.0 (writes s c) tile.elements result b.disks new.set its
-      of_it = told-at (Stores size faults mismatches held c.0 (writes s c) tile.elements result b.disks new.set) (extent_of b.disks.directory c.0) its its-is stores
+      of_it = IfSome-at (Stores size faults mismatches held c.0 (writes s c) tile.elements result b.disks new.set) (extent_of b.disks.directory c.0) its its-is stores
 
       within : c.0 < length b.disks.directory
       within = elim (cases_lt c.0 (length b.disks.directory)) [
@@ -151,8 +135,8 @@ module _ {D : Type 0} (size faults mismatches : D → ℕ) (held : D → Option 
         stored = λ x k valid. subst (λ (o : Option Extent). IsSomeAnd o (IsStored s x)) (sym (other x (apart x k valid))) (keeps.sound.blocks.stored x k valid);
         blocks = λ tells x k valid. (
             let far = apart x k valid in
-            let found = some-at (HoldsArray held b.disks.disks p s x (OnDisk k)) (extent_of b.disks.directory x.0) (keeps.sound.blocks.blocks tells x k valid) in
-            some-and (HoldsArray held new.set.disks p s x (OnDisk k)) (extent_of new.set.directory x.0) found.0 (other x far ∙ found.1) (record {
+            let found = IsSomeAnd-at (HoldsArray held b.disks.disks p s x (OnDisk k)) (extent_of b.disks.directory x.0) (keeps.sound.blocks.blocks tells x k valid) in
+            IsSomeAnd-from (HoldsArray held new.set.disks p s x (OnDisk k)) (extent_of new.set.directory x.0) found.0 (other x far ∙ found.1) (record {
               dims = found.2.dims;
               whole = found.2.whole;
               fits = found.2.fits;
@@ -168,8 +152,8 @@ module _ {D : Type 0} (size faults mismatches : D → ℕ) (held : D → Option 
               here : (o : Option Block) → IfSome o (λ k. IsSomeAnd (extent_of b.disks.directory c.0) (IsBlock p c k)) → IfSome o (λ k. IsSomeAnd (extent_of new.set.directory c.0) (IsBlock p c k))
               here None h = h
               here (Some k) h =
-                  let had = told-at (IsBlock p c k) (extent_of b.disks.directory c.0) its its-is (some-if (extent_of b.disks.directory c.0) h) in
-                  some-and (IsBlock p c k) (extent_of new.set.directory c.0) (with_store its (writes s c) (is_ok result)) now (record { disk = had.disk; position = had.position; whole = had.whole })
+                  let had = IfSome-at (IsBlock p c k) (extent_of b.disks.directory c.0) its its-is (some-if (extent_of b.disks.directory c.0) h) in
+                  IsSomeAnd-from (IsBlock p c k) (extent_of new.set.directory c.0) (with_store its (writes s c) (is_ok result)) now (record { disk = had.disk; position = had.position; whole = had.whole })
                 where
                   some-if : (o : Option Extent) → IsSomeAnd o (IsBlock p c k) → IfSome o (IsBlock p c k)
                   some-if None h = absurd h
@@ -180,8 +164,8 @@ module _ {D : Type 0} (size faults mismatches : D → ℕ) (held : D → Option 
 
       pub stored-well : is_ok result ≡ true → IsWrittenOut held (record b { disks = new.set; out = new.out }) w
       stored-well ok =
-          told-from (λ (y : Transfer). IsSomeAnd (extent_of new.set.directory y.cell.0) (IsCopyOf held (record b { disks = new.set; out = new.out }) y.cell y.from)) (transfer s w) (a_transfer c from (OnDisk d)) under_way
-          (some-and (IsCopyOf held (record b { disks = new.set; out = new.out }) c from) (extent_of new.set.directory c.0) (with_store its (writes s c) (is_ok result)) now (record {
+          IfSome-from (λ (y : Transfer). IsSomeAnd (extent_of new.set.directory y.cell.0) (IsCopyOf held (record b { disks = new.set; out = new.out }) y.cell y.from)) (transfer s w) (a_transfer c from (OnDisk d)) under_way
+          (IsSomeAnd-from (IsCopyOf held (record b { disks = new.set; out = new.out }) c from) (extent_of new.set.directory c.0) (with_store its (writes s c) (is_ok result)) now (record {
             last = record { last = ap (λ (y : Bool). Some (last_store (writes s c) y)) ok };
             array = λ tells. (
                 let same : tile ≡ array_at p s from c = is.array tells in
@@ -208,13 +192,13 @@ module _ {D : Type 0} (size faults mismatches : D → ℕ) (held : D → Option 
 
     stored_at : (e : Extent) → extent_of b.disks.directory c.0 ≡ Some e → e.last_store ≡ Some (last_store (writes s c) true)
     stored_at e is =
-        let found = some-at (IsStored s c) (extent_of b.disks.directory c.0) (keeps.sound.blocks.stored c d valid) in
+        let found = IsSomeAnd-at (IsStored s c) (extent_of b.disks.directory c.0) (keeps.sound.blocks.stored c d valid) in
         let one : Some found.0 ≡ Some e = sym found.1 ∙ is in
         let same : found.0 ≡ e = cc in
         subst (λ (x : Extent). x.last_store ≡ Some (last_store (writes s c) true)) same found.2.last
 
     pub fetch-stored : IsSomeAnd (extent_of b.disks.directory c.0) (λ e. (length tile.elements ≡ e.length) × (e.last_store ≡ Some (last_store (writes s c) true)))
-    fetch-stored = let e = its_extent in some-and (λ e. (length tile.elements ≡ e.length) × (e.last_store ≡ Some (last_store (writes s c) true))) (extent_of b.disks.directory c.0) e.0 e.1 (whole ∙ ap area dims ∙ sym e.2, stored_at e.0 e.1)
+    fetch-stored = let e = its_extent in IsSomeAnd-from (λ e. (length tile.elements ≡ e.length) × (e.last_store ≡ Some (last_store (writes s c) true))) (extent_of b.disks.directory c.0) e.0 e.1 (whole ∙ ap area dims ∙ sym e.2, stored_at e.0 e.1)
 
     pub fetch-last : (n : ℕ) → n ≡ writes s c → (e : Extent) → extent_of b.disks.directory c.0 ≡ Some e → IsLastWritten p s e.disk (header c.0 n e.length)
     fetch-last n count e is =
@@ -228,7 +212,7 @@ module _ {D : Type 0} (size faults mismatches : D → ℕ) (held : D → Option 
 
     module _ {A : Type 0} (result : Result A DiskRefusal) (got : Array) (same_dims : got.dims ≡ tile.dims) (new : LendingState D) (fetches : IfSome (extent_of b.disks.directory c.0) (Fetches size faults mismatches held c.0 (writes s c) got.elements result b.disks new.set)) where
       fetched : Fetches size faults mismatches held c.0 (writes s c) got.elements result b.disks new.set its_extent.0
-      fetched = told-at (Fetches size faults mismatches held c.0 (writes s c) got.elements result b.disks new.set) (extent_of b.disks.directory c.0) its_extent.0 its_extent.1 fetches
+      fetched = IfSome-at (Fetches size faults mismatches held c.0 (writes s c) got.elements result b.disks new.set) (extent_of b.disks.directory c.0) its_extent.0 its_extent.1 fetches
 
       same_extents : (x : Cell) → extent_of new.set.directory x.0 ≡ extent_of b.disks.directory x.0
       same_extents x = ap (λ (dir : List (Option Extent)). extent_of dir x.0) fetched.directory_stays
@@ -238,8 +222,8 @@ module _ {D : Type 0} (size faults mismatches : D → ℕ) (held : D → Option 
         placed = λ x. subst (λ (o : Option Extent). IfSome (block_of p m x) (λ k. IsSomeAnd o (IsBlock p x k))) (sym (same_extents x)) (keeps.sound.blocks.placed x);
         stored = λ x k valid. subst (λ (o : Option Extent). IsSomeAnd o (IsStored s x)) (sym (same_extents x)) (keeps.sound.blocks.stored x k valid);
         blocks = λ tells x k valid. (
-            let found = some-at (HoldsArray held b.disks.disks p s x (OnDisk k)) (extent_of b.disks.directory x.0) (keeps.sound.blocks.blocks tells x k valid) in
-            some-and (HoldsArray held new.set.disks p s x (OnDisk k)) (extent_of new.set.directory x.0) found.0 (same_extents x ∙ found.1) (record {
+            let found = IsSomeAnd-at (HoldsArray held b.disks.disks p s x (OnDisk k)) (extent_of b.disks.directory x.0) (keeps.sound.blocks.blocks tells x k valid) in
+            IsSomeAnd-from (HoldsArray held new.set.disks p s x (OnDisk k)) (extent_of new.set.directory x.0) found.0 (same_extents x ∙ found.1) (record {
               dims = found.2.dims;
               whole = found.2.whole;
               fits = found.2.fits;
@@ -254,10 +238,10 @@ module _ {D : Type 0} (size faults mismatches : D → ℕ) (held : D → Option 
       pub fetched-well : (b' : Standing D) → b ≡ b' → is_ok result ≡ true → IsTileMoved held b' w got
       fetched-well b' same ok =
           subst (λ (z : Standing D). IsTileMoved held z w got) same
-          (told-from (λ (y : Transfer). IsTileOf held b y.cell y.from got) (transfer s w) (a_transfer c (OnDisk d) to) under_way (record {
+          (IfSome-from (λ (y : Transfer). IsTileOf held b y.cell y.from got) (transfer s w) (a_transfer c (OnDisk d) to) under_way (record {
             dims = same_dims ∙ dims;
             array = λ tells. (
-                let found = some-at (HoldsArray held b.disks.disks p s c (OnDisk d)) (extent_of b.disks.directory c.0) (keeps.sound.blocks.blocks tells c d valid) in
+                let found = IsSomeAnd-at (HoldsArray held b.disks.disks p s c (OnDisk d)) (extent_of b.disks.directory c.0) (keeps.sound.blocks.blocks tells c d valid) in
                 let one : Some found.0 ≡ Some its_extent.0 = sym found.1 ∙ its_extent.1 in
                 let is : found.0 ≡ its_extent.0 = cc in
                 let has : HoldsArray held b.disks.disks p s c (OnDisk d) its_extent.0 = subst (λ (e : Extent). HoldsArray held b.disks.disks p s c (OnDisk d) e) is found.2 in
@@ -292,14 +276,14 @@ module _ {D : Type 0} (size faults mismatches : D → ℕ) (held : D → Option 
 
   -- the disk of its cell is in
   pub found-in : HasItsDiskIn b' w → IsInFor (lent b) x.cell.0
-  found-in is_in = told-at (λ (y : Transfer). IsInFor (lent b) y.cell.0) (transfer (state b) w) (a_transfer x.cell x.from x.to) (at-place x.to refl) (subst (λ (z : Standing D). HasItsDiskIn z w) (sym same) is_in)
+  found-in is_in = IfSome-at (λ (y : Transfer). IsInFor (lent b) y.cell.0) (transfer (state b) w) (a_transfer x.cell x.from x.to) (at-place x.to refl) (subst (λ (z : Standing D). HasItsDiskIn z w) (sym same) is_in)
 
   counted : (cells' : List Copies) (n : ℕ) → cells' ≡ rows.cells → n ≡ (row_of cells' x.cell).writes → n ≡ writes (state b) x.cell
   counted cells' n is count = count ∙ ap (λ (cs : List Copies). (row_of cs x.cell).writes) is ∙ keeps.agrees.marks.writes x.cell
 
   module _ (d : DiskNo) (at : x.to ≡ OnDisk d) (tile : Array) (given : IsTileMoved held b' w tile) (whole : length tile.elements ≡ area tile.dims) (fits : All (FitsSigned w64) tile.elements) where
     tile-of : IsTileOf held b x.cell x.from tile
-    tile-of = told-at (λ (y : Transfer). IsTileOf held b y.cell y.from tile) (transfer (state b) w) (a_transfer x.cell x.from (OnDisk d)) (at-place (OnDisk d) at) (subst (λ (z : Standing D). IsTileMoved held z w tile) (sym same) given)
+    tile-of = IfSome-at (λ (y : Transfer). IsTileOf held b y.cell y.from tile) (transfer (state b) w) (a_transfer x.cell x.from (OnDisk d)) (at-place (OnDisk d) at) (subst (λ (z : Standing D). IsTileMoved held z w tile) (sym same) given)
 
     pub found-reserved : IsSomeAnd (extent_of b.disks.directory x.cell.0) (λ e. length tile.elements ≡ e.length)
     found-reserved = store-reserved size faults mismatches held b rows spare keeps x.cell w x.from d (at-place (OnDisk d) at) tile tile-of whole fits
@@ -315,11 +299,11 @@ module _ {D : Type 0} (size faults mismatches : D → ℕ) (held : D → Option 
       found-stored = OnOk-from result (IsWrittenOut held (record b { disks = new.set; out = new.out }) w) (stored-well size faults mismatches held b rows spare keeps x.cell w x.from d (at-place (OnDisk d) at) tile tile-of whole fits result new its-stores)
 
       pub found-stores : StoresMoved size faults mismatches held w tile.elements result b' (record b' { disks = new.set; out = new.out })
-      found-stores = subst (λ (z : Standing D). StoresMoved size faults mismatches held w tile.elements result z (record z { disks = new.set; out = new.out })) same (told-from (λ (y : Transfer). IfSome (extent_of b.disks.directory y.cell.0) (Stores size faults mismatches held y.cell.0 (writes (state b) y.cell) tile.elements result b.disks new.set)) (transfer (state b) w) (a_transfer x.cell x.from x.to) (at-place x.to refl) its-stores)
+      found-stores = subst (λ (z : Standing D). StoresMoved size faults mismatches held w tile.elements result z (record z { disks = new.set; out = new.out })) same (IfSome-from (λ (y : Transfer). IfSome (extent_of b.disks.directory y.cell.0) (Stores size faults mismatches held y.cell.0 (writes (state b) y.cell) tile.elements result b.disks new.set)) (transfer (state b) w) (a_transfer x.cell x.from x.to) (at-place x.to refl) its-stores)
 
   module _ (d : DiskNo) (at : x.from ≡ OnDisk d) (tile : Array) (given : HasDimsMoved b' w tile.dims) (whole : length tile.elements ≡ area tile.dims) where
     dims-of : tile.dims ≡ dims_of b.program x.cell
-    dims-of = told-at (λ (y : Transfer). tile.dims ≡ dims_of b.program y.cell) (transfer (state b) w) (a_transfer x.cell x.from x.to) (at-place x.to refl) (subst (λ (z : Standing D). HasDimsMoved z w tile.dims) (sym same) given)
+    dims-of = IfSome-at (λ (y : Transfer). tile.dims ≡ dims_of b.program y.cell) (transfer (state b) w) (a_transfer x.cell x.from x.to) (at-place x.to refl) (subst (λ (z : Standing D). HasDimsMoved z w tile.dims) (sym same) given)
 
     pub found-to_fetch : (cells' : List Copies) (n : ℕ) → cells' ≡ rows.cells → n ≡ (row_of cells' x.cell).writes → IsSomeAnd (extent_of b.disks.directory x.cell.0) (λ e. (length tile.elements ≡ e.length) × (e.last_store ≡ Some (last_store n true)))
     found-to_fetch cells' n is count = subst (λ (k : ℕ). IsSomeAnd (extent_of b.disks.directory x.cell.0) (λ e. (length tile.elements ≡ e.length) × (e.last_store ≡ Some (last_store k true)))) (sym (counted cells' n is count)) (fetch-stored size faults mismatches held b rows spare keeps x.cell w d x.to (from-place (OnDisk d) at) tile dims-of whole)
@@ -339,4 +323,4 @@ module _ {D : Type 0} (size faults mismatches : D → ℕ) (held : D → Option 
       found-fetched = OnOk-from result (IsTileMoved held b' w got) (fetched-well size faults mismatches held b rows spare keeps x.cell w d x.to (from-place (OnDisk d) at) tile dims-of whole result got same_dims new its-fetches b' same)
 
       pub found-fetches : FetchesMoved size faults mismatches held w got.elements result b' (record b' { disks = new.set; out = new.out })
-      found-fetches = subst (λ (z : Standing D). FetchesMoved size faults mismatches held w got.elements result z (record z { disks = new.set; out = new.out })) same (told-from (λ (y : Transfer). IfSome (extent_of b.disks.directory y.cell.0) (Fetches size faults mismatches held y.cell.0 (writes (state b) y.cell) got.elements result b.disks new.set)) (transfer (state b) w) (a_transfer x.cell x.from x.to) (at-place x.to refl) its-fetches)
+      found-fetches = subst (λ (z : Standing D). FetchesMoved size faults mismatches held w got.elements result z (record z { disks = new.set; out = new.out })) same (IfSome-from (λ (y : Transfer). IfSome (extent_of b.disks.directory y.cell.0) (Fetches size faults mismatches held y.cell.0 (writes (state b) y.cell) got.elements result b.disks new.set)) (transfer (state b) w) (a_transfer x.cell x.from x.to) (at-place x.to refl) its-fetches)

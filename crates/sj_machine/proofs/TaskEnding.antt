@@ -34,6 +34,7 @@ use Rattle.sj_machine.specs.declared.hand.Hand.{Hand}
 use Rattle.sj_machine.proofs.PoolFilling.{IsFilled, among-cons, fill, times_among}
 use Rattle.sj_machine.proofs.Hands.{given-same, hand-set, hand-set_apart, pool_for-same}
 use Rattle.sj_machine.proofs.LastHeaders.{ended-cause}
+use Rattle.sj_machine.proofs.Starting.{running-waits}
 use Rattle.sj_machine.proofs.Stepping.{not-complete, ready-counted, ready-same}
 
 -- ---- how often a task is in a list
@@ -84,14 +85,11 @@ module _ {D : Type 0} (size faults mismatches : D → ℕ) (held : D → Option 
   step : Advances s s' t (Running w) (Done w)
   step = subst (λ (z : State). Advances s z t (Running w) (Done w)) (sym (state_of-more p m b.run.trace (End t w))) (Ends-advances p m s t w (after p m s (End t w)) can refl)
 
-  running-waits : Running w ≡ Waiting → ⊥
-  running-waits e = absurd (cc)
-
   done-waits : Done w ≡ Waiting → ⊥
   done-waits e = absurd (cc)
 
   inside-tasks : t.0 < length s.tasks
-  inside-tasks = progress-inside s t (λ e. running-waits (sym step.was ∙ e))
+  inside-tasks = progress-inside s t (λ e. running-waits w (sym step.was ∙ e))
 
   -- ---- what is done
 
@@ -265,7 +263,7 @@ module _ {D : Type 0} (size faults mismatches : D → ℕ) (held : D → Option 
     still-taken u is = record { waiting = now; ready = Ready-from p s' u is.ready.task now (EarlierAreDone-later u (Ready-earlier p s u is.ready)) }
       where
         other : u ≢ t
-        other e = running-waits (sym step.was ∙ ap (progress s) (sym e) ∙ is.waiting)
+        other e = running-waits w (sym step.was ∙ ap (progress s) (sym e) ∙ is.waiting)
 
         now : progress s' u ≡ Waiting
         now = step.others u other ∙ is.waiting

@@ -1,5 +1,5 @@
 -- A name that is new goes behind the others.
-use Rattle.std.proofs.Common.{◌≡◌, ℕ, ◌+◌, ◌<◌, ◌≤◌, Bool, true, false, ◌||◌, List, [], ◌∷◌, ◌++◌, length, map, get_or, nat_lt, position, Option, Some, None, option_map, cond, refl, ap, sym, ◌∙◌, arith, length-append, bytes_eq}
+use Rattle.std.proofs.Common.{◌≡◌, ℕ, ◌+◌, ◌<◌, ◌≤◌, Bool, true, false, List, [], ◌∷◌, ◌++◌, length, map, get_or, nat_lt, position, Option, Some, None, option_map, cond, refl, ap, sym, ◌∙◌, arith, length-append, bytes_eq}
 use Rattle.std.proofs.Math.Seq.{get_or-append_seam}
 use Rattle.std.specs.List.{position_or_len, list_any}
 use Rattle.std.proofs.lemmas.List.{get_or_append_left, map-append}
@@ -7,6 +7,7 @@ use Rattle.std.proofs.lemmas.List.Folds.{Any-from_list_any}
 use Rattle.std.proofs.lemmas.List.Sums.{fails_before_first}
 use Rattle.std.proofs.lemmas.Slice.Eq.{bytes_eq-Decides}
 use Rattle.std.proofs.lemmas.Bool.Decides.{nat_tests}
+use Rattle.sj_base.proofs.Lists.{list_any-map}
 use Rattle.indexmap.specs.IndexSet.{insert_key}
 use Rattle.sj_meaning.specs.declared.job.RootInfo.{RootInfo}
 use Rattle.sj_meaning.specs.Table.{Table, a_root, root_in, with_root, AreDistinct, IsTable}
@@ -41,14 +42,10 @@ none-any p xs e = by_any (list_any p xs) refl
         let fails : p (get_or xs a.0 a.1) ≡ false = fails_before_first p xs a.0 a.1 (omega (arith, past-all p xs e, a.2)) in
         absurd (cc)
 
-any-map : {X Y : Type 0} (p : Y → Bool) (f : X → Y) (xs : List X) → list_any p (map f xs) ≡ list_any (λ x. p (f x)) xs
-any-map p f [] = refl
-any-map p f (x ∷ xs) = ap (λ b. p (f x) || b) (any-map p f xs)
-
 -- a value whose text is new goes last
 pub key-added : {V : Type 0} (f : V → List ℕ) (ks : List V) (v : V) → position (bytes_eq (f v)) (map f ks) ≡ None → map f (insert_key (λ x y. bytes_eq (f x) (f y)) ks v) ≡ map f ks ++ f v ∷ []
 key-added f ks v e =
-    ap (λ b. map f (cond b ks (ks ++ v ∷ []))) (sym (any-map (bytes_eq (f v)) f ks) ∙ none-any (bytes_eq (f v)) (map f ks) e)
+    ap (λ b. map f (cond b ks (ks ++ v ∷ []))) (sym (list_any-map (bytes_eq (f v)) f ks) ∙ none-any (bytes_eq (f v)) (map f ks) e)
     ∙ map-append f ks (v ∷ [])
 
 -- ---- a table with a root more

@@ -41,9 +41,6 @@ is-at T q r e = at_by T q r (position (bytes_eq q) T.names) refl e
 pub is-root : (T : Table) (q : List ℕ) (r : RootNumber) → root_in T q ≡ Some r → IsRoot T r
 is-root T q r e = ap (root_in T) (is-at T q r e).named ∙ e
 
-pub same-text : (q name : List ℕ) → bytes_eq q name ≡ true → q ≡ name
-same-text q name e = (bytes_eq-Decides q name).0 e
-
 pub text-itself : (q name : List ℕ) → q ≡ name → bytes_eq q name ≡ true
 text-itself q name e = (bytes_eq-Decides q name).1 e
 

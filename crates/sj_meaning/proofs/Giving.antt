@@ -2,10 +2,12 @@
 use Rattle.std.proofs.Common.{◌≡◌, ℕ, Bool, true, false, ◌&&◌, List, [], ◌∷◌, length, refl, ◌∙◌, sym, Option, Some, None, cond, ℤ, map as each_of, filter, arith, nat_eq}
 use Rattle.std.proofs.lemmas.Bool.Decides.{nat_tests}
 use Rattle.std.proofs.lemmas.List.{length-map}
+use Rattle.std.proofs.lemmas.Bool.{and_parts}
 use Rattle.sj_base.specs.declared.tile.Dims.{Dims}
 use Rattle.sj_base.specs.declared.mode.Mode.{Mode}
 use Rattle.sj_base.specs.declared.mode.Mode.TheVariants.{R, W, RW, Scratch, Redux, Commute}
 use Rattle.sj_base.specs.Array.{Array}
+use Rattle.sj_base.specs.Mode.{is_written}
 use Rattle.sj_codelet.specs.declared.kernel.Kernel.{Kernel}
 use Rattle.sj_codelet.specs.declared.formal.Formal.{Formal}
 use Rattle.sj_codelet.specs.declared.formal.Formal.TheVariants.{R as FormalR, W as FormalW, RW as FormalRW, Scratch as FormalScratch}
@@ -14,7 +16,7 @@ use Rattle.sj_codelet.specs.Formal.{is_output}
 use Rattle.sj_codelet.proofs.Table.{new_arrays-count}
 use Rattle.sj_meaning.specs.Statement.{Operand, TaskLine}
 use Rattle.sj_meaning.specs.State.{State}
-use Rattle.sj_meaning.specs.Meaning.{is_written, written_of}
+use Rattle.sj_meaning.specs.Meaning.{written_of}
 use Rattle.sj_meaning.specs.Sound.{mode_fits, modes_fit}
 use Rattle.sj_meaning.specs.Sound.{child_dims, IsSoundTask}
 
@@ -43,10 +45,6 @@ written_as FormalScratch RW e = absurd (cc)
 written_as FormalScratch Scratch e = refl
 written_as FormalScratch Redux e = absurd (cc)
 written_as FormalScratch Commute e = absurd (cc)
-
-and_parts : (b c : Bool) → (b && c) ≡ true → (b ≡ true) × (c ≡ true)
-and_parts true c e = (refl, e)
-and_parts false c e = absurd (cc)
 
 one_more : {X Y : Type 0} (b c : Bool) (x : X) (xs : List X) (y : Y) (ys : List Y) → b ≡ c → length xs ≡ length ys → length (cond b (x ∷ xs) xs) ≡ length (cond c (y ∷ ys) ys)
 one_more true true x xs y ys e l = omega (arith, l)

@@ -1,6 +1,6 @@
 -- What a job means: its statements run one after another on plain arrays.
 use Rattle.std.specs.FinMap as map
-use Rattle.std.specs.Prelude.{ℕ, ◌+◌, Bool, true, false, Option, Some, None, List, [], ◌∷◌, ◌++◌, ℤ, pos, ◌+ℤ◌, ◌*ℤ◌, map as each_of, filter, unwrap_or, replicate, if◌then◌else◌}
+use Rattle.std.specs.Prelude.{ℕ, ◌+◌, Option, Some, None, List, [], ◌∷◌, ◌++◌, ℤ, pos, ◌+ℤ◌, ◌*ℤ◌, map as each_of, filter, unwrap_or, replicate, if◌then◌else◌}
 use Rattle.std.specs.List.{range_with_len}
 use Rattle.sj_base.specs.declared.tile.Dims.{Dims}
 use Rattle.sj_base.specs.declared.mode.Mode.{Mode}
@@ -8,6 +8,7 @@ use Rattle.sj_base.specs.declared.mode.Reduction.{Reduction}
 use Rattle.sj_base.specs.declared.mode.Mode.TheVariants.{R, W, RW, Scratch, Redux, Commute}
 use Rattle.sj_base.specs.Array.{Array, array, area, element, zeros}
 use Rattle.sj_base.specs.Window.{write_rect}
+use Rattle.sj_base.specs.Mode.{is_written}
 use Rattle.sj_plan.specs.declared.parts.Parts.{Parts}
 use Rattle.sj_plan.specs.Rect.{place_of, dims_of}
 use Rattle.sj_codelet.specs.Ring.{wrap}
@@ -100,14 +101,6 @@ operand_array S o = elim (root_of S o.name) [
   | None ↦ array (record { rows = 0; cols = 0 }) []
   | Some r ↦ seen_by o.mode r o.place
 ]
-
-abbrev pub is_written : Mode → Bool
-is_written R = false
-is_written Scratch = false
-is_written W = true
-is_written RW = true
-is_written Redux = true
-is_written Commute = true
 
 -- the operands that a task writes, in order
 abbrev pub written_of : {N : Type 0} → List (Operand N) → List (Operand N)

@@ -7,7 +7,7 @@ use Rattle.sj_base.specs.declared.tile.Dims.{Dims}
 use Rattle.sj_base.specs.declared.mode.Mode.{Mode}
 use Rattle.sj_base.specs.declared.mode.Mode.TheVariants.{R, W, RW, Scratch, Redux, Commute}
 use Rattle.sj_base.specs.declared.mode.Reduction.{Reduction}
-use Rattle.sj_base.specs.Mode.{is_redux, is_commute}
+use Rattle.sj_base.specs.Mode.{is_redux, is_commute, is_read_only}
 use Rattle.sj_base.specs.declared.program.Codelet.{Codelet}
 use Rattle.sj_base.specs.Array.{area}
 use Rattle.sj_codelet.specs.declared.kernel.Kernel.{Kernel}
@@ -51,10 +51,6 @@ mode_fits _ _ = false
 
 abbrev pub modes_fit : List Formal → List (Operand (List ℕ)) → Bool
 modes_fit fs os = list_all (λ p. mode_fits p.0 p.1.mode) (zip fs os)
-
-abbrev pub is_read_only : Mode → Bool
-is_read_only R = true
-is_read_only _ = false
 
 -- both are one child, and not both only read it
 abbrev pub clashes : Operand (List ℕ) → Operand (List ℕ) → Bool

@@ -1,7 +1,7 @@
 //! The settings and statements of a job.
 
 ghost use Rattle.std.specs.Prelude.{◌≡◌};
-ghost use Rattle.sj_meaning.specs.Meaning.{is_written};
+ghost use Rattle.sj_base.specs.Mode.{is_written};
 
 use crate::roots::Roots;
 use crate::settings::Settings;

@@ -13,12 +13,6 @@ pub fits_within : (z : ℤ) → least ≤ℤ z → z ≤ℤ inf → FitsSigned w
 fits_within (pos n) h k = record { sfits = omega (arith, ints) }
 fits_within (negsuc n) h k = record { sfits = omega (arith, ints) }
 
-low_fits : (a b : ℤ) → pos 0 ≤ℤ a → a ≤ℤ inf → pos 0 ≤ℤ b → b ≤ℤ inf → FitsSigned w64 (a +ℤ least +ℤ b)
-low_fits a b h k i j = fits_within (a +ℤ least +ℤ b) (omega (arith, ints)) (omega (arith, ints))
-
-pub short_fits : (a b : ℤ) → IsShort a → IsShort b → FitsSigned w64 (a +ℤ least +ℤ b)
-short_fits a b s t = low_fits a b s.start (short_below a s) t.start (short_below b t)
-
 -- the lesser of a number that is held lower and a sum, by the kinds of the sum's numbers
 step_inf : (b y : ℤ) → pos 0 ≤ℤ b → b ≤ℤ inf → y <ℤ pos 0 → raised (int_min y (inf +ℤ least +ℤ b)) ≡ int_min (raised y) inf
 step_inf b y h k n = omega (arith, ints, clamps)

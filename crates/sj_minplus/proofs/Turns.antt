@@ -11,9 +11,6 @@ pub dims-after_turns : (turn : ℕ → Array → Array) → KeepsDims turn → (
 dims-after_turns turn keeps zero x = refl
 dims-after_turns turn keeps (suc k) x = keeps k (after_turns k turn x) ∙ dims-after_turns turn keeps k x
 
-pub turn_none : (turn : ℕ → Array → Array) (m n : ℕ) (xs : List ℤ) → xs ≡ (after_turns 0 turn (matrix m n xs)).elements
-turn_none turn m n xs = refl
-
 pub turn_more : (turn : ℕ → Array → Array) → KeepsDims turn → (k m n : ℕ) (old xs ys : List ℤ) → xs ≡ (after_turns k turn (matrix m n old)).elements → ys ≡ (turn k (matrix m n xs)).elements → ys ≡ (after_turns (k + 1) turn (matrix m n old)).elements
 turn_more turn keeps k m n old xs ys e h =
     let x = after_turns k turn (matrix m n old) in

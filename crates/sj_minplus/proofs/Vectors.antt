@@ -7,8 +7,8 @@ use Rattle.std.proofs.lemmas.List.{get_or-map, length-map}
 use Rattle.std.proofs.lemmas.Bool.{cases_lt}
 use Rattle.std.proofs.lemmas.Simd.{length-zip2, length-sel_l, get_or-sel_l, get_or-zip2}
 use Rattle.std.proofs.lemmas.Int.{ints, clamps, to_z-of_z, wrapping_add_onto, wrapping_sub_onto, SFits-int_wrap, int_wrap_fits}
-use Rattle.std.proofs.Math.Facts.{Fits-of_z}
 use Rattle.sj_base.specs.Array.{at}
+use Rattle.sj_base.proofs.Numbers.{of_z-below}
 use Rattle.sj_codelet.specs.MinPlus.{inf, greatest, least, plus}
 use Rattle.sj_minplus.specs.Lanes.{AreLanes}
 use Rattle.sj_minplus.proofs.Rows.{all_from}
@@ -109,14 +109,11 @@ pub lanes_wrapped : (f : ℕ → ℕ → ℕ) (g : ℤ → ℤ → ℤ) → ((a 
 lanes_wrapped f g wraps x y lx ly =
     lanes_from (zipped f x y) (λ i. int_wrap w64 (g (at x i) (at y i))) (length-map (zip2 f (bits_of x) (bits_of y)) (to_z w64) ∙ length_zipped f x y lx ly) (at_wrapped f g wraps x y lx ly) (λ i h. SFits-int_wrap w64 (g (at x i) (at y i)))
 
-fits_bits : (a : ℤ) → FitsSigned w64 a → of_z w64 a < 2 ^ 64
-fits_bits a f = (Fits-of_z f).fits
-
 pub wraps_sum : (a b : ℤ) → FitsSigned w64 a → FitsSigned w64 b → to_z w64 ((of_z w64 a + of_z w64 b) % 2 ^ 64) ≡ int_wrap w64 (a +ℤ b)
-wraps_sum a b f g = wrapping_add_onto w64 (of_z w64 a) b (fits_bits a f) g ∙ ap (λ z. int_wrap w64 (z +ℤ b)) (rw to_z-of_z)
+wraps_sum a b f g = wrapping_add_onto w64 (of_z w64 a) b (of_z-below a f) g ∙ ap (λ z. int_wrap w64 (z +ℤ b)) (rw to_z-of_z)
 
 pub wraps_difference : (a b : ℤ) → FitsSigned w64 a → FitsSigned w64 b → to_z w64 ((of_z w64 a + (2 ^ 64 - of_z w64 b)) % 2 ^ 64) ≡ int_wrap w64 (a -ℤ b)
-wraps_difference a b f g = wrapping_sub_onto w64 (of_z w64 a) b (fits_bits a f) g ∙ ap (λ z. int_wrap w64 (z -ℤ b)) (rw to_z-of_z)
+wraps_difference a b f g = wrapping_sub_onto w64 (of_z w64 a) b (of_z-below a f) g ∙ ap (λ z. int_wrap w64 (z -ℤ b)) (rw to_z-of_z)
 
 -- ---- the sum of min-plus in one lane
 

@@ -1,6 +1,6 @@
 -- A task of a proper program has at most as many operands as a codelet takes, each of a cell of the program.
-use Rattle.std.proofs.Common.{◌≡◌, ℕ, ◌<◌, ◌≤◌, Bool, ◌&&◌, map, length, get_or, arith}
-use Rattle.std.specs.Prelude.{All, nat_eq}
+use Rattle.std.proofs.Common.{◌≡◌, ◌<◌, ◌≤◌, Bool, ◌&&◌, map, length, arith}
+use Rattle.std.specs.Prelude.{nat_eq}
 use Rattle.std.proofs.lemmas.Bool.{and_parts, eqb-true}
 use Rattle.std.proofs.lemmas.List.{length-map}
 use Rattle.std.proofs.lemmas.List.Elements.{All-get_or}
@@ -24,8 +24,3 @@ fitting-few p l fit =
 
 pub few-operands : (p : Program) (t : Task) → Proper p → t.0 < length p.tasks → length (task_of p t).accesses ≤ 5
 few-operands p t proper inside = fitting-few p (task_of p t) (All-get_or (Fits p) p.tasks t.0 no_task inside proper.codelets)
-
-pub operand-named : (p : Program) (t : Task) (i : ℕ) (d : Access) → Proper p → t.0 < length p.tasks → i < length (task_of p t).accesses → (get_or (task_of p t).accesses i d).cell.0 < length p.cells
-operand-named p t i d proper inside below =
-    All-get_or (λ (a : Access). a.cell.0 < length p.cells) (task_of p t).accesses i d below
-    (All-get_or (λ (l : Lowered). All (λ (a : Access). a.cell.0 < length p.cells) l.accesses) p.tasks t.0 no_task inside proper.cells.named)

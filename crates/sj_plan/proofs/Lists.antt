@@ -129,10 +129,6 @@ pub any-flat_map : {X Y : Type 0} (t : Y → Bool) (f : X → List Y) (xs : List
 any-flat_map t f [] = refl
 any-flat_map t f (x ∷ xs) = list_any-append t (f x) (flat_map f xs) ∙ ap (λ b. list_any t (f x) || b) (any-flat_map t f xs)
 
-pub any-keep : {X : Type 0} (t : X → Bool) (b : Bool) (x : X) (xs : List X) → list_any t (cond b (x ∷ xs) xs) ≡ ((b && t x) || list_any t xs)
-any-keep t true x xs = refl
-any-keep t false x xs = refl
-
 pub any-range : (t : ℕ → Bool) (n k : ℕ) → k < n → t k ≡ true → list_any t (range_with_len 0 n) ≡ true
 any-range t n k below h =
     let long = length-range_with_len 0 n in
@@ -177,10 +173,6 @@ either false b c d f g h = ap (λ x. c || x) (g h) ∙ or_true c
 pub any-implied : {X : Type 0} (s t : X → Bool) → ((x : X) → s x ≡ true → t x ≡ true) → (xs : List X) → list_any s xs ≡ true → list_any t xs ≡ true
 any-implied s t h [] some = some
 any-implied s t h (x ∷ xs) some = either (s x) (list_any s xs) (t x) (list_any t xs) (h x) (any-implied s t h xs) some
-
-counted_more : (b : Bool) (n : ℕ) (r : Bool) → 0 < cond b 1 0 + n → (0 < n → r ≡ true) → (b || r) ≡ true
-counted_more true n r h f = refl
-counted_more false n r h f = f (omega arith)
 
 -- R holds of each item and each later one
 abbrev pub Ordered : {X : Type 0} → (X → X → Type 0) → List X → Type 0

@@ -1,22 +1,17 @@
 -- Why a job isn't ready: from what refused it to what was asked for.
-use Rattle.std.proofs.Common.{◌≡◌, ℕ, Bool, List, Option, Some, None, Result, Ok, Err, IfErr, IsOkAnd, ap, subst, sym, ◌∙◌}
+use Rattle.std.proofs.Common.{◌≡◌, ℕ, List, Option, Some, None, Result, Ok, Err, IfErr, IsOkAnd, ap, subst, sym, ◌∙◌}
 use Rattle.std.specs.Prelude.{IsErrAnd}
 use Rattle.sj_base.specs.declared.program.Machine.{Machine}
 use Rattle.sj_base.specs.declared.program.Program.{Program}
 use Rattle.sj_meaning.specs.Job.{Job}
-use Rattle.sj_codelet.specs.declared.kernel.Kernel.{Kernel}
-use Rattle.sj_job.specs.Reading.{IsRefusal, Refusal, job_of}
-use Rattle.sj_job.specs.declared.reason.ReadRefusal.{ReadRefusal}
+use Rattle.sj_job.specs.Reading.{Refusal}
 use Rattle.sj_job.specs.declared.reason.ReadRefusal.TheVariants as reading
 use Rattle.sj_lower.specs.Limits.{late_limit}
-use Rattle.sj_lower.specs.Progress.{IsLate}
-use Rattle.sj_lower.specs.declared.lower.LowerRefusal.{LowerRefusal}
 use Rattle.sj_lower.specs.declared.lower.LowerRefusal.TheVariants as lowering
 use Rattle.sj_needs.specs.Shortage.{IsShortage}
 use Rattle.sj_needs.specs.declared.shortage.Shortage.{Shortage}
 use Rattle.sj_words.specs.declared.options.Options.{Options}
 use Rattle.sj_ready.specs.Ready.{IsUnready}
-use Rattle.sj_ready.specs.Unready.{after_lowering, after_reading}
 use Rattle.sj_ready.specs.declared.unready.Unready.TheVariants.{Short}
 use Rattle.sj_ready.specs.Work.{Work, WorkOrRefusal, asked_by, machine_for, program_of, within_limits}
 
@@ -25,21 +20,11 @@ pub handed : {A E : Type 0} (r : Result A E) (e : E) (P : E → Type 0) → IsEr
 handed (Ok x) e P is h = tt
 handed (Err x) e P is h = subst P (sym is) h
 
-abbrev limited : Work → Option Refusal → WorkOrRefusal
+abbrev pub limited : Work → Option Refusal → WorkOrRefusal
 limited w late = elim late [ None ↦ Ok w | Some e ↦ Err e ]
 
 pub within : (w : Work) → late_limit w.machine.workers w.statements ≡ None → within_limits w ≡ Ok w
 within w e = ap (limited w) e
-
-pub unready-lowering : (w : Work) (e : LowerRefusal) → IsLate e (late_limit w.machine.workers w.statements) → IsUnready (within_limits w) (after_lowering e)
-unready-lowering w (lowering.TooManyCells line) h = ap (limited w) h
-unready-lowering w (lowering.TooManyTasks line) h = ap (limited w) h
-unready-lowering w lowering.OutOfMemory h = tt
-
--- a line that is refused is refused before any limit of lowering
-pub unready-reading : (o : Options) (disks : List ℕ) (job : Result Job Refusal) (e : ReadRefusal) → IsRefusal e job → IsUnready (asked_by o disks job) (after_reading e)
-unready-reading o disks job (reading.Refused line reason) h = ap (asked_by o disks) h
-unready-reading o disks job reading.OutOfMemory h = tt
 
 pub unready-fitting : (asked : WorkOrRefusal) (w : Work) (p : Program) (m : Machine) (e : Shortage) → asked ≡ Ok w → p ≡ program_of w → m ≡ w.machine → IsShortage p m e → IsUnready asked (Short e)
 unready-fitting asked w p m e is same on h =

@@ -1,13 +1,13 @@
 -- Each event changes a cell as a call of a replica does.
-use Rattle.std.proofs.Common.{◌≡◌, ℕ, ◌+◌, ◌<◌, ◌∙◌, ◌⊎◌, ◌≢◌, Bool, true, false, None, Option, Some, List, [], ap, arith, cond, if◌then◌else◌, inl, inr, length, refl, replicate, subst, sym, set}
+use Rattle.std.proofs.Common.{◌≡◌, ℕ, ◌+◌, ◌<◌, ◌∙◌, ◌≢◌, Bool, true, false, None, Option, Some, List, [], ap, arith, cond, if◌then◌else◌, inl, inr, length, refl, replicate, subst, sym}
 use Rattle.std.specs.Prelude.{unwrap_or}
-use Rattle.std.proofs.lemmas.Bool.{cases_Bool, false≢true}
+use Rattle.std.proofs.lemmas.Bool.{false≢true}
 use Rattle.std.proofs.lemmas.List.{get_or-replicate, get_or-set_other, get_or-set_same, length-replicate, length-set}
 use Rattle.std.proofs.lemmas.Nat.{mod_below}
 use Rattle.sj_base.proofs.SameIds.{same_cell-is}
 use Rattle.sj_core.specs.declared.progress.Progress.TheVariants.{Running}
-use Rattle.sj_core.proofs.Words.{Array, AtNode, Cell, CellState, Claim, DiskNo, Drop, End, Event, Machine, Move, Moved, Node, OnDisk, Place, Program, Replica, Run, State, Task, Worker, cell_state, has_cell, is_entry, is_valid, node_of, progress, replica, same_cell, transfer, with_replica, writes, written_cells}
-use Rattle.sj_core.proofs.Words.{Coming as ComingReplica, Invalid as NoReplica, Leaving as LeavingReplica, Valid as ValidReplica}
+use Rattle.sj_core.proofs.Words.{Array, AtNode, Cell, CellState, Claim, DiskNo, Drop, End, Machine, Move, Moved, Node, OnDisk, Place, Program, Replica, Run, State, Task, Worker, cell_state, has_cell, is_entry, is_valid, node_of, progress, replica, same_cell, transfer, with_replica, writes, written_cells}
+use Rattle.sj_core.proofs.Words.{Coming as ComingReplica, Invalid as NoReplica, Valid as ValidReplica}
 use Rattle.sj_core.proofs.Blocks.{disk-within}
 use Rattle.sj_core.proofs.CellLists.{same_cell-from}
 use Rattle.sj_core.proofs.Changing.{place_differs}
@@ -21,23 +21,23 @@ use Rattle.sj_core.proofs.Running.{run-only, run-other, run-own}
 use Rattle.sj_core.proofs.TaskCells.{written-among_cells}
 use Rattle.sj_core.specs.Coherent.{IsTransferTo}
 use Rattle.sj_core.specs.Laws.{IsSound}
-use Rattle.sj_core.specs.Step.{CanClaim, CanDrop, CanRun, May, a_transfer, after, after_claim, after_end, after_run, array_at, disk_of, initial, leave, missing, mover_of, owned_at as owned_row, result_at, rewritten_at, victims_for}
-use Rattle.sj_replica.specs.Copies.{Copies, at, owned_at, with_at, with_move, written}
+use Rattle.sj_core.specs.Step.{CanClaim, CanDrop, CanRun, May, a_transfer, after, after_claim, after_end, after_run, array_at, initial, leave, missing, mover_of, owned_at as owned_row, result_at, rewritten_at}
+use Rattle.sj_replica.specs.Copies.{CellCopies, at_place, owned_by_node, with_at, with_move, written_again}
 use Rattle.sj_replica.specs.Events.{EventsAreCalls, IsSeenAs, at_of, event_on}
 use Rattle.sj_replica.specs.declared.state.At.{At}
 use Rattle.sj_replica.specs.declared.state.At.TheVariants.{Coming, Invalid, Leaving, Valid}
 
-module _ (p : Program) (m : Machine) (s : State) (h : IsSound p m s) (c : Cell) (k : Copies) (seen : IsSeenAs p m s c k) where
+module _ (p : Program) (m : Machine) (s : State) (h : IsSound p m s) (c : Cell) (k : CellCopies) (seen : IsSeenAs p m s c k) where
   -- ---- one mark, and none
 
-  mark-other : (n q : Node) (x : At) → q ≢ n → at (with_at k (AtNode n) x) (AtNode q) ≡ at k (AtNode q)
+  mark-other : (n q : Node) (x : At) → q ≢ n → at_place (with_at k (AtNode n) x) (AtNode q) ≡ at_place k (AtNode q)
   mark-other n q x d = get_or-set_other k.nodes n.0 q.0 x Invalid (λ e. d (ap (λ (i : ℕ). let j : Node = record { 0 = i } in j) e))
 
   -- where the cell has a mark at a node, and is as it was at each other place
   marked : (s' : State) (n : Node) (x : At) → n.0 < 16 → at_of (replica s' c (AtNode n)) ≡ x → ((q : Place) → q ≢ AtNode n → replica s' c q ≡ replica s c q) → writes s' c ≡ writes s c → IsSeenAs p m s' c (with_at k (AtNode n) x)
   marked s' n x few here elsewhere count = record {
     nodes = λ q inside. elim (same_node q n) [
-      | inl e ↦ subst (λ (j : Node). at (with_at k (AtNode n) x) (AtNode j) ≡ at_of (replica s' c (AtNode j))) (sym e) (get_or-set_same k.nodes n.0 x Invalid (omega (arith, few, seen.sixteen)) ∙ sym here)
+      | inl e ↦ subst (λ (j : Node). at_place (with_at k (AtNode n) x) (AtNode j) ≡ at_of (replica s' c (AtNode j))) (sym e) (get_or-set_same k.nodes n.0 x Invalid (omega (arith, few, seen.sixteen)) ∙ sym here)
       | inr d ↦ mark-other n q x d ∙ seen.nodes q inside ∙ ap at_of (sym (elsewhere (AtNode q) (λ e. d (cc))))
     ];
     on_disk = λ d home. seen.on_disk d home ∙ ap at_of (sym (elsewhere (OnDisk d) (λ e. (cc))));
@@ -94,22 +94,22 @@ module _ (p : Program) (m : Machine) (s : State) (h : IsSound p m s) (c : Cell) 
 
   -- ---- a transfer
 
-  at-moving : (l : Copies) (to q : Place) (from : Option Place) → at (with_move l to from) q ≡ at l q
+  at-moving : (l : CellCopies) (to q : Place) (from : Option Place) → at_place (with_move l to from) q ≡ at_place l q
   at-moving l (AtNode n) (AtNode q) from = refl
   at-moving l (AtNode n) (OnDisk e) from = refl
   at-moving l (OnDisk d) (AtNode q) from = refl
   at-moving l (OnDisk d) (OnDisk e) from = refl
 
-  wide-moving : (l : Copies) (to : Place) (from : Option Place) → length (with_move l to from).nodes ≡ length l.nodes
+  wide-moving : (l : CellCopies) (to : Place) (from : Option Place) → length (with_move l to from).nodes ≡ length l.nodes
   wide-moving l (AtNode n) from = refl
   wide-moving l (OnDisk d) from = refl
 
-  count-moving : (l : Copies) (to : Place) (from : Option Place) → (with_move l to from).writes ≡ l.writes
+  count-moving : (l : CellCopies) (to : Place) (from : Option Place) → (with_move l to from).writes ≡ l.writes
   count-moving l (AtNode n) from = refl
   count-moving l (OnDisk d) from = refl
 
   -- a transfer that begins or ends is nothing to the marks
-  moving : (s' : State) (l : Copies) (to : Place) (from : Option Place) → IsSeenAs p m s' c l → IsSeenAs p m s' c (with_move l to from)
+  moving : (s' : State) (l : CellCopies) (to : Place) (from : Option Place) → IsSeenAs p m s' c l → IsSeenAs p m s' c (with_move l to from)
   moving s' l to from now = record {
     nodes = λ q inside. at-moving l to (AtNode q) from ∙ now.nodes q inside;
     on_disk = λ d home. at-moving l to (OnDisk d) from ∙ now.on_disk d home;
@@ -157,7 +157,7 @@ module _ (p : Program) (m : Machine) (s : State) (h : IsSound p m s) (c : Cell) 
   seen-moved x from to under_way = by_test (same_cell x c) refl
     where
       -- the workers' rows are nothing to a cell
-      beside : (l : Copies) → IsSeenAs p m (with_replica s x to (ValidReplica (array_at p s from x))) c l → IsSeenAs p m (after p m s (Moved x from to)) c l
+      beside : (l : CellCopies) → IsSeenAs p m (with_replica s x to (ValidReplica (array_at p s from x))) c l → IsSeenAs p m (after p m s (Moved x from to)) c l
       beside l now = record { nodes = now.nodes; on_disk = now.on_disk; sixteen = now.sixteen; written = now.written }
 
       by_test : (b : Bool) → same_cell x c ≡ b → IsSeenAs p m (after p m s (Moved x from to)) c (if b then with_move (with_at k to Valid) to None else k)
@@ -196,14 +196,14 @@ module _ (p : Program) (m : Machine) (s : State) (h : IsSound p m s) (c : Cell) 
         either true = refl
         either false = refl
 
-    began : (b : Bool) → has_cell (written_cells p t w) c ≡ b → IsSeenAs p m s' c (if b then owned_at k (node_of m w) else k)
+    began : (b : Bool) → has_cell (written_cells p t w) c ≡ b → IsSeenAs p m s' c (if b then owned_by_node k (node_of m w) else k)
     began false spared = unmarked s' (λ q. ap at_of (run-other p m s t w s' run leaves c q spared)) run-count
     began true wrote =
         let n = node_of m w in
         let inside = entry-inside s c n (h.coherent.cells.claimed t w c run.claimed (written-among_cells p t w c wrote)) in
         record {
           nodes = λ q few. elim (same_node q n) [
-            | inl e ↦ subst (λ (j : Node). at (owned_at k n) (AtNode j) ≡ at_of (replica s' c (AtNode j))) (sym e) (get_or-set_same (replicate 16 Invalid) n.0 Valid Invalid (omega (arith, few-own w, length-replicate 16 Invalid)) ∙ sym (ap at_of (run-own p m s t w s' run leaves c wrote inside.0 inside.1)))
+            | inl e ↦ subst (λ (j : Node). at_place (owned_by_node k n) (AtNode j) ≡ at_of (replica s' c (AtNode j))) (sym e) (get_or-set_same (replicate 16 Invalid) n.0 Valid Invalid (omega (arith, few-own w, length-replicate 16 Invalid)) ∙ sym (ap at_of (run-own p m s t w s' run leaves c wrote inside.0 inside.1)))
             | inr d ↦ get_or-set_other (replicate 16 Invalid) n.0 q.0 Valid Invalid (λ e. d (ap (λ (i : ℕ). let j : Node = record { 0 = i } in j) e)) ∙ get_or-replicate 16 q.0 Invalid Invalid few ∙ sym (ap at_of (run-only p m s t w s' run leaves c (AtNode q) wrote (place_differs q n d)))
           ];
           on_disk = λ d home. sym (ap at_of (run-only p m s t w s' run leaves c (OnDisk d) wrote refl));
@@ -214,7 +214,7 @@ module _ (p : Program) (m : Machine) (s : State) (h : IsSound p m s) (c : Cell) 
   -- ---- an end
 
   module _ (t : Task) (w : Worker) (s' : State) (ended : progress s t ≡ Running w) (leaves : s' ≡ after_end p m s t w) where
-    over : (b : Bool) → has_cell (written_cells p t w) c ≡ b → IsSeenAs p m s' c (if b then written k else k)
+    over : (b : Bool) → has_cell (written_cells p t w) c ≡ b → IsSeenAs p m s' c (if b then written_again k else k)
     over false spared =
         let count = ap (λ (z : State). writes z c) leaves ∙ ap (λ (r : CellState). r.writes) (cells-untouched s (has_cell (written_cells p t w)) (λ d row. rewritten_at (node_of m w) (result_at p s t w (node_of m w) d) row) c spared) in
         unmarked s' (λ q. ap at_of (end-other p m s t w s' ended leaves c q spared)) count

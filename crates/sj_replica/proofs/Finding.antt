@@ -6,7 +6,7 @@ use Rattle.std.proofs.lemmas.Bool.{cases_eq}
 use Rattle.std.proofs.lemmas.List.Folds.{find-append}
 use Rattle.sj_base.specs.declared.ids.Place.{Place}
 use Rattle.sj_base.specs.declared.ids.Place.TheVariants.{Node as AtNode, Disk as OnDisk}
-use Rattle.sj_replica.specs.Copies.{Copies, places}
+use Rattle.sj_replica.specs.Copies.{CellCopies, own_places}
 
 abbrev pub node : ℕ → Place
 node n = AtNode (record { 0 = n })
@@ -27,10 +27,10 @@ module _ (p : Place → Bool) where
   find_no_node a zero none = refl
   find_no_node a (suc len) none = let here : p (node a) ≡ false = none a (omega arith) (omega arith) in rw here (find_no_node (a + 1) len (λ j l h. none j (omega arith) (omega arith)))
 
-  pub found_node : (s : Copies) (k : ℕ) → ((j : ℕ) → j < k → p (node j) ≡ false) → k < 16 → p (node k) ≡ true → Some (node k) ≡ find p (places s)
+  pub found_node : (s : CellCopies) (k : ℕ) → ((j : ℕ) → j < k → p (node j) ≡ false) → k < 16 → p (node k) ≡ true → Some (node k) ≡ find p (own_places s)
   found_node s k none high hit = sym (find-append p (map node (range_with_len 0 16)) (OnDisk s.disk ∷ []) ∙ ap (λ o. option_or o (find p (OnDisk s.disk ∷ []))) (find_node 0 16 k (λ j l h. none j h) (omega arith) (omega arith) hit))
 
-  pub found_disk : (s : Copies) → ((j : ℕ) → j < 16 → p (node j) ≡ false) → find p (places s) ≡ cond (p (OnDisk s.disk)) (Some (OnDisk s.disk)) None
+  pub found_disk : (s : CellCopies) → ((j : ℕ) → j < 16 → p (node j) ≡ false) → find p (own_places s) ≡ cond (p (OnDisk s.disk)) (Some (OnDisk s.disk)) None
   found_disk s none = find-append p (map node (range_with_len 0 16)) (OnDisk s.disk ∷ []) ∙ ap (λ o. option_or o (find p (OnDisk s.disk ∷ []))) (find_no_node 0 16 (λ j l h. none j (omega arith)))
 
   -- one is found exactly where one passes

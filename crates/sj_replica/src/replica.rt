@@ -4,7 +4,7 @@ ghost use Rattle.std.specs.Prelude.{◌≡◌, ◌+◌, ◌-◌, ◌<◌, ◌^�
 ghost use Rattle.std.specs.List.{list_any};
 ghost use Rattle.sj_base.specs.declared.ids.Place.TheVariants.{Node as AtNode};
 ghost use Rattle.sj_base.specs.Ids.{same_place};
-ghost use Rattle.sj_replica.specs.Copies.{none_at, IsPlace, at, pins_at, source_of, is_only_at, move_into, has_move, is_read, MayMove, with_at, with_move, with_pins, owned_at, written, is_entry, is_other};
+ghost use Rattle.sj_replica.specs.Copies.{no_copies_on, IsOwnPlace, at_place, pins_at, source_for, is_only_at, move_into, has_move, is_read_from, MayMove, with_at, with_move, with_pins, owned_by_node, written_again, is_entry_copy, is_valid_apart};
 
 use crate::state::At;
 use sj_base::ids::{DiskNo, Node, Place};
@@ -29,9 +29,9 @@ pub struct Replica {
 }
 
 impl Model for Replica {
-    ghost use Rattle.sj_replica.specs.Copies.{Copies};
+    ghost use Rattle.sj_replica.specs.Copies.{CellCopies};
 
-    ghost Value = { Copies };
+    ghost Value = { CellCopies };
 
     ghost view = { λ r. record { nodes = r.nodes; disk = r.disk; on_disk = r.on_disk; pins = r.pins; into_nodes = r.into_nodes; into_disk = r.into_disk; writes = r.writes; is_written = r.is_written } };
 }
@@ -39,7 +39,7 @@ impl Model for Replica {
 impl Replica {
     /// No copy anywhere, of a cell whose block lies on this disk.
     pub fn none(disk: DiskNo) -> Replica
-        ensures { result ≡ none_at disk }
+        ensures { result ≡ no_copies_on disk }
     {
         Replica {
             nodes: [At::Invalid; NODES],
@@ -55,8 +55,8 @@ impl Replica {
 
     /// What the cell is at a place.
     pub fn at(&self, place: Place) -> At
-        requires { IsPlace self.now place }
-        ensures { result ≡ at self.now place }
+        requires { IsOwnPlace self.now place }
+        ensures { result ≡ at_place self.now place }
     {
         match place {
             Place::Node(n) => self.nodes[n.0 as usize],
@@ -65,7 +65,7 @@ impl Replica {
     }
 
     fn set_at(&mut self, place: Place, at: At)
-        requires { IsPlace self.old place }
+        requires { IsOwnPlace self.old place }
         ensures { self.new ≡ with_at self.old place at }
     {
         match place {
@@ -75,7 +75,7 @@ impl Replica {
     }
 
     fn set_move(&mut self, to: Place, from: Option<Place>)
-        requires { IsPlace self.old to }
+        requires { IsOwnPlace self.old to }
         ensures { self.new ≡ with_move self.old to from }
     {
         match to {
@@ -87,7 +87,7 @@ impl Replica {
     /// A claim brings the cell to a node where it has no copy.
     pub fn coming(&mut self, n: Node)
         requires node { n.0 < 16 }
-        requires invalid { at self.old (AtNode n) ≡ At.Invalid }
+        requires invalid { at_place self.old (AtNode n) ≡ At.Invalid }
         ensures { self.new ≡ with_at self.old (AtNode n) At.Coming }
     {
         self.set_at(Place::Node(n), At::Coming);
@@ -96,7 +96,7 @@ impl Replica {
     /// A claim evicts the cell's unpinned copy from a node.
     pub fn leaving(&mut self, n: Node)
         requires node { n.0 < 16 }
-        requires valid { at self.old (AtNode n) ≡ At.Valid }
+        requires valid { at_place self.old (AtNode n) ≡ At.Valid }
         requires unpinned { pins_at self.old n ≡ 0 }
         ensures { self.new ≡ with_at self.old (AtNode n) At.Leaving }
     {
@@ -106,8 +106,8 @@ impl Replica {
     /// Where to fetch the cell from: the valid node with the least number, else the disk, other than the
     /// target. `None` where no copy but one at the target is valid.
     pub fn source(&self, to: Place) -> Option<Place>
-        requires { IsPlace self.now to }
-        ensures { result ≡ source_of self.now to }
+        requires { IsOwnPlace self.now to }
+        ensures { result ≡ source_for self.now to }
     {
         for n in 0..NODES as u8 {
             let place = Place::Node(Node(n));
@@ -124,8 +124,8 @@ impl Replica {
 
     /// Whether a place is not the given one and has a valid copy.
     fn is_other(&self, here: Place, place: Place) -> bool
-        requires { IsPlace self.now place }
-        ensures { result ≡ is_other self.now here place }
+        requires { IsOwnPlace self.now place }
+        ensures { result ≡ is_valid_apart self.now here place }
     {
         self.at(place).is_valid() && !is_same(place, here)
     }
@@ -133,8 +133,8 @@ impl Replica {
     /// A transfer begins: into a node where the cell is coming, from its source, or out to the disk,
     /// from where its only copy is leaving.
     pub fn move_begin(&mut self, from: Place, to: Place)
-        requires source { IsPlace self.old from }
-        requires target { IsPlace self.old to }
+        requires source { IsOwnPlace self.old from }
+        requires target { IsOwnPlace self.old to }
         requires may_begin { MayMove self.old from to }
         requires free { move_into self.old to ≡ None }
         ensures { self.new ≡ with_move self.old to (Some from) }
@@ -144,7 +144,7 @@ impl Replica {
 
     /// That transfer is over, and the copy at its target is valid.
     pub fn move_end(&mut self, from: Place, to: Place)
-        requires target { IsPlace self.old to }
+        requires target { IsOwnPlace self.old to }
         requires under_way { move_into self.old to ≡ Some from }
         ensures { self.new ≡ with_move (with_at self.old to At.Valid) to None }
     {
@@ -155,8 +155,8 @@ impl Replica {
     /// A leaving copy goes that no transfer reads, since another is valid.
     pub fn drop_copy(&mut self, n: Node)
         requires node { n.0 < 16 }
-        requires leaving { at self.old (AtNode n) ≡ At.Leaving }
-        requires unread { is_read self.old (AtNode n) ≡ false }
+        requires leaving { at_place self.old (AtNode n) ≡ At.Leaving }
+        requires unread { is_read_from self.old (AtNode n) ≡ false }
         requires shared { is_only_at self.old (AtNode n) ≡ false }
         ensures { self.new ≡ with_at self.old (AtNode n) At.Invalid }
     {
@@ -166,7 +166,7 @@ impl Replica {
     /// A claim pins the cell on a node where it is valid or coming.
     pub fn read_begin(&mut self, n: Node)
         requires node { n.0 < 16 }
-        requires entry { IsTrue (is_entry (at self.old (AtNode n))) }
+        requires entry { IsTrue (is_entry_copy (at_place self.old (AtNode n))) }
         requires few { pins_at self.old n < 1024 }
         ensures { self.new ≡ with_pins self.old n (pins_at self.old n + 1) }
     {
@@ -185,10 +185,10 @@ impl Replica {
     /// A task that writes the cell begins to run on a node: the copy there is the only one.
     pub fn write_begin(&mut self, n: Node)
         requires node { n.0 < 16 }
-        requires entry { IsTrue (is_entry (at self.old (AtNode n))) }
+        requires entry { IsTrue (is_entry_copy (at_place self.old (AtNode n))) }
         requires unmoved { has_move self.old ≡ false }
         requires unwritten { self.old.is_written ≡ false }
-        ensures { self.new ≡ owned_at self.old n }
+        ensures { self.new ≡ owned_by_node self.old n }
     {
         self.nodes = [At::Invalid; NODES];
         self.nodes[n.0 as usize] = At::Valid;
@@ -199,10 +199,10 @@ impl Replica {
     /// That task ends, and has written the cell once more.
     pub fn write_end(&mut self, n: Node)
         requires node { n.0 < 16 }
-        requires valid { at self.old (AtNode n) ≡ At.Valid }
+        requires valid { at_place self.old (AtNode n) ≡ At.Valid }
         requires written { self.old.is_written ≡ true }
         requires few { self.old.writes + 1 < 2 ^ 64 }
-        ensures { self.new ≡ written self.old }
+        ensures { self.new ≡ written_again self.old }
     {
         let _ = n;
         self.writes += 1;
@@ -211,7 +211,7 @@ impl Replica {
 
     /// Whether a place has the only valid copy.
     pub fn is_only(&self, p: Place) -> bool
-        requires { IsPlace self.now p }
+        requires { IsOwnPlace self.now p }
         ensures { result ≡ is_only_at self.now p }
     {
         self.at(p).is_valid() && self.source(p).is_none()

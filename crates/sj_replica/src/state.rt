@@ -1,7 +1,7 @@
 //! What a cell is at a place.
 
 ghost use Rattle.std.specs.Prelude.{◌≡◌};
-ghost use Rattle.sj_replica.specs.Copies.{is_valid};
+ghost use Rattle.sj_replica.specs.Copies.{is_valid_copy};
 
 /// What a cell is at a place.
 #[derive(Clone, Copy, Debug, PartialEq, Eq)]
@@ -19,7 +19,7 @@ pub enum At {
 impl At {
     /// Whether there is a copy. Constant time.
     pub fn is_valid(self) -> bool
-        ensures { result ≡ is_valid self }
+        ensures { result ≡ is_valid_copy self }
     {
         matches!(self, At::Valid | At::Leaving)
     }

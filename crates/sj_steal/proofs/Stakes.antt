@@ -1,5 +1,5 @@
 -- The stakes of a pass, one in each queue: what changes with one of them, and what is known when there is one alone.
-use Rattle.std.proofs.Common.{◌≡◌, ◌≢◌, ℕ, zero, suc, ◌<◌, ◌≤◌, ◌+◌, ◌-◌, true, false, true≢false, List, [], ◌∷◌, ◌++◌, length, get_or, set, take, drop, map, All, sum_by, Option, Some, None, IfSome, IfNone, Result, Ok, Err, OnOk, OnErr, refl, sym, ap, ◌∙◌, subst, ⊎_elim, arith, append_assoc, add-one, length-append}
+use Rattle.std.proofs.Common.{◌≡◌, ◌≢◌, ℕ, zero, suc, ◌<◌, ◌+◌, ◌-◌, true, false, true≢false, List, [], ◌∷◌, ◌++◌, length, get_or, set, take, drop, map, All, sum_by, Option, Some, None, IfSome, IfNone, Result, Ok, Err, OnOk, OnErr, refl, sym, ap, ◌∙◌, subst, ⊎_elim, arith, append_assoc, add-one, length-append}
 use Rattle.std.specs.List.{flat_map}
 use Rattle.std.proofs.lemmas.List.{append-nil, get_or-map, get_or-set_other, length-map, length-set, map-append, map-set, set-get_or, take_at}
 use Rattle.std.proofs.lemmas.List.Elements.{All-pop}
@@ -34,12 +34,6 @@ module _ {X : Type 0} (f : X → X) where
   changed_to-more (x ∷ xs) zero d lt = refl
   changed_to-more (x ∷ xs) (suc k) d lt = ap (λ l. f x ∷ l) (changed_to-more xs k d (omega arith))
 
-  pub changed_to-all : (xs : List X) (k : ℕ) → length xs ≤ k → changed_to k xs ≡ map f xs
-  changed_to-all [] zero lt = refl
-  changed_to-all [] (suc k) lt = refl
-  changed_to-all (x ∷ xs) zero lt = absurd (omega arith)
-  changed_to-all (x ∷ xs) (suc k) lt = ap (λ l. f x ∷ l) (changed_to-all xs k (omega arith))
-
   abbrev pub changed_from : ℕ → List X → List X
   changed_from k xs = take k xs ++ map f (drop k xs)
 
@@ -52,12 +46,6 @@ module _ {X : Type 0} (f : X → X) where
   changed_from-more [] k d lt = absurd (omega arith)
   changed_from-more (x ∷ xs) zero d lt = refl
   changed_from-more (x ∷ xs) (suc k) d lt = ap (λ l. x ∷ l) (changed_from-more xs k d (omega arith))
-
-  pub changed_from-none : (xs : List X) (k : ℕ) → length xs ≤ k → changed_from k xs ≡ xs
-  changed_from-none [] zero lt = refl
-  changed_from-none [] (suc k) lt = refl
-  changed_from-none (x ∷ xs) zero lt = absurd (omega arith)
-  changed_from-none (x ∷ xs) (suc k) lt = ap (λ l. x ∷ l) (changed_from-none xs k (omega arith))
 
 -- ---- lists joined
 
@@ -115,14 +103,6 @@ pub dealt_more : (xs0 xs : List StakeFacts) (k : ℕ) (s s' : StakeFacts) → xs
 dealt_more xs0 xs k s s' is lt e less =
     let at : s ≡ get_or xs0 k s = e ∙ ap (λ l. get_or l k s) is ∙ changed_to-at with_a_part_less xs0 k s lt in
     (λ i. set (is i) k ((less ∙ ap with_a_part_less at) i)) ∙ changed_to-more with_a_part_less xs0 k s lt ∙ ap (λ n. changed_to with_a_part_less n xs0) (sym (add-one k))
-
--- the last of some stakes in these queues, where `rest` came behind it
-pub last_lane : (lanes : List (SegId Global)) (xs ys rest : List StakeFacts) (s : StakeFacts) (l : SegId Global) → lanes_of xs ≡ lanes → (ys ++ s ∷ []) ++ rest ≡ xs → l ≡ get_or lanes (length ys) l → s.lane ≡ l
-last_lane lanes xs ys rest s l of all at = lane_at xs lanes (length ys) s l of (omega (arith, ap length all, length-append (ys ++ s ∷ []) rest, length-append ys (s ∷ []))) (sym (seam ys) ∙ ap (λ zs. get_or zs (length ys) s) all) at
-  where
-    seam : (zs : List StakeFacts) → get_or ((zs ++ s ∷ []) ++ rest) (length zs) s ≡ s
-    seam [] = refl
-    seam (z ∷ zs) = seam zs
 
 pub last_part : (P : ℕ → Type 0) (xs ys rest : List StakeFacts) (s : StakeFacts) → (ys ++ s ∷ []) ++ rest ≡ xs → All P (parts_of xs) → P s.account.parts
 last_part P xs ys rest s all h = part_at P xs (length ys) s (omega (arith, ap length all, length-append (ys ++ s ∷ []) rest, length-append ys (s ∷ []))) (sym (seam ys) ∙ ap (λ zs. get_or zs (length ys) s) all) h
@@ -333,9 +313,6 @@ one_each m n ns ns' e is h = subst (All (λ p. p + n ≡ 256)) (sym is) (λ k d 
   get_or-map (λ p. p + 1) ns k 0 d (omega (arith, length-map ns (λ p. p + 1))),
   h k 0 (omega (arith, length-map ns (λ p. p + 1))),
 ))
-
-pub all_some : (m : ℕ) (ns : List ℕ) → m < 256 → All (λ p. p + m ≡ 256) ns → All (λ p. 0 < p) ns
-all_some m ns few h k d lt = omega (arith, h k d lt)
 
 -- ---- stakes of which nobody made use
 

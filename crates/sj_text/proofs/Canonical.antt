@@ -6,7 +6,9 @@ use Rattle.std.specs.List.{list_all, list_any}
 use Rattle.std.specs.Ordering.{int_eq}
 use Rattle.std.specs.Str.{bytes_eq}
 use Rattle.std.proofs.lemmas.Bool.Decides.{Decides-eqb, Decides-int_eq, nat_tests}
+use Rattle.std.proofs.lemmas.Bool.{and_from, and_parts}
 use Rattle.sj_base.specs.declared.tile.Dims.{Dims}
+use Rattle.sj_base.proofs.Texts.{same_text}
 use Rattle.sj_codelet.specs.declared.kernel.Kernel.{Kernel}
 use Rattle.sj_codelet.specs.Kernel.{codelet_of, has_name, kernels, name_of}
 use Rattle.sj_codelet.proofs.Table.{kernel_of-codelet_of}
@@ -33,7 +35,6 @@ use Rattle.sj_job.specs.Well.{IsAllowed}
 use Rattle.sj_job.specs.Word.{count, is_count, is_name}
 use Rattle.sj_job.proofs.Numerals.{count-below, decimal-counts, decimal-is_count, decimal-piece}
 use Rattle.sj_job.proofs.Sounding.{found_passes, judged-task, sound_from_allowed, unless_parts}
-use Rattle.sj_job.proofs.Spelling.{both_true, same_word, true_both}
 use Rattle.sj_job.proofs.Telling.{said-says}
 use Rattle.sj_show.specs.Words.{codelet_name, inner_word, integer_word, kernel_word}
 use Rattle.sj_text.specs.Forms.{Plans, array_form, form_of_act, init_form, is_whole, operand_form, pair_under, size_form, task_form}
@@ -50,7 +51,7 @@ pub record Does (has : Kernel → Bool) (s : Scope) (f : Form) (act : Act (List 
 
 whole-parts : (p : Parts) → is_whole p ≡ true → (p.r ≡ 1) × (p.c ≡ 1)
 whole-parts p e =
-    let q = both_true (nat_eq p.r 1) (nat_eq p.c 1) e in
+    let q = and_parts (nat_eq p.r 1) (nat_eq p.c 1) e in
     ((Decides-eqb p.r 1).0 q.0, (Decides-eqb p.c 1).0 q.1)
 
 abbrev pair_by : Bool → ℕ × ℕ → Option (List ℕ × List ℕ)
@@ -58,7 +59,7 @@ pair_by b n = cond b None (Some (decimal n.0, decimal n.1))
 
 pair-counts : (b : Bool) (n : ℕ × ℕ) → n.0 < 2 ^ 63 → n.1 < 2 ^ 63 → are_counts (pair_by b n) ≡ true
 pair-counts true n h k = refl
-pair-counts false n h k = true_both (is_count (decimal n.0)) (is_count (decimal n.1)) (decimal-is_count n.0 h) (decimal-is_count n.1 k)
+pair-counts false n h k = and_from (is_count (decimal n.0)) (is_count (decimal n.1)) (decimal-is_count n.0 h) (decimal-is_count n.1 k)
 
 parts-by : (b : Bool) (p : Parts) → is_whole p ≡ b → p.r < 2 ^ 63 → p.c < 2 ^ 63 → parts_said (pair_by b (p.r, p.c)) ≡ p
 parts-by true p e h k = let w = whole-parts p e in λ i. record { r = sym w.0 i; c = sym w.1 i }
@@ -66,7 +67,7 @@ parts-by false p e h k = λ i. record { r = decimal-counts p.r h i; c = decimal-
 
 pieces-by : (b : Bool) (n : ℕ × ℕ) → n.0 < 2 ^ 63 → n.1 < 2 ^ 63 → list_all is_piece (child_pieces (pair_by b n)) ≡ true
 pieces-by true n h k = refl
-pieces-by false n h k = true_both (is_piece (decimal n.0)) (list_all is_piece (decimal n.1 ∷ [])) (decimal-piece n.0 (omega (arith, h))) (true_both (is_piece (decimal n.1)) true (decimal-piece n.1 (omega (arith, k))) refl)
+pieces-by false n h k = and_from (is_piece (decimal n.0)) (list_all is_piece (decimal n.1 ∷ [])) (decimal-piece n.0 (omega (arith, h))) (and_from (is_piece (decimal n.1)) true (decimal-piece n.1 (omega (arith, k))) refl)
 
 -- what `by r c` says is below 2^63
 said-parts-fit : (p : Option (List ℕ × List ℕ)) → ((parts_said p).r < 2 ^ 63) × ((parts_said p).c < 2 ^ 63)
@@ -87,7 +88,7 @@ init-again Nothing = refl
 
 init-numbered : (i : InitForm) → is_numbered_init (init_form (init_said i)) ≡ true
 init-numbered (Values vs) = all-integers vs
-init-numbered (Fill a b) = true_both _ _ (again-is_integer a) (again-is_integer b)
+init-numbered (Fill a b) = and_from _ _ (again-is_integer a) (again-is_integer b)
 init-numbered Nothing = refl
 
 init-valued : (i : InitForm) → has_values i ≡ true → has_values (init_form (init_said i)) ≡ true
@@ -113,7 +114,7 @@ cols-again (size.Matrix r c) = decimal-counts (count c) (count-below c)
 
 size-numbered : (s : Size) → is_numbered_size (size_form (kind_of s) (dims_said s)) ≡ true
 size-numbered (size.Vector n) = decimal-is_count (count n) (count-below n)
-size-numbered (size.Matrix r c) = true_both _ _ (decimal-is_count (count r) (count-below r)) (decimal-is_count (count c) (count-below c))
+size-numbered (size.Matrix r c) = and_from _ _ (decimal-is_count (count r) (count-below r)) (decimal-is_count (count c) (count-below c))
 
 parts-again : (o : Option (List ℕ × List ℕ)) → let p = parts_said o in parts_said (pair_under p (p.r, p.c)) ≡ p
 parts-again o = let fits = said-parts-fit o in parts-by (is_whole (parts_said o)) (parts_said o) refl fits.0 fits.1
@@ -130,11 +131,11 @@ array-again a = λ i. record {
 array-does : (has : Kernel → Bool) (s : Scope) (a : ArrayForm) → is_proper (form.Register a) ≡ true → first_of (register_reasons s a.name (registered_by a).dims (parts_said a.parts) (init_said a.init)) ≡ None → Does has s (form.Register (array_form (registered_by a))) (Register (registered_by a))
 array-does has s a h none =
     let r = registered_by a in
-    let q = both_true (is_name a.name) (has_values a.init) h in
+    let q = and_parts (is_name a.name) (has_values a.init) h in
     let fits = said-parts-fit a.parts in
     record {
-      proper = true_both (is_name a.name) (has_values (init_form r.init)) q.0 (init-valued a.init q.1);
-      numbered = true_both _ _ (true_both _ _ (size-numbered a.size) (pair-counts (is_whole r.parts) (r.parts.r, r.parts.c) fits.0 fits.1)) (init-numbered a.init);
+      proper = and_from (is_name a.name) (has_values (init_form r.init)) q.0 (init-valued a.init q.1);
+      numbered = and_from _ _ (and_from _ _ (size-numbered a.size) (pair-counts (is_whole r.parts) (r.parts.r, r.parts.c) fits.0 fits.1)) (init-numbered a.init);
       judged =
           ap (λ (x : Registration (List ℕ)). unless (first_of (register_reasons s a.name x.dims x.parts x.init)) (Register x)) (array-again a)
           ∙ ap (λ (o : Option Reason). unless o (Register r)) none;
@@ -148,7 +149,7 @@ plan-does has s name r c h none =
     let same : parts_said (Some (decimal (count r), decimal (count c))) ≡ p = λ i. record { r = decimal-counts (count r) (count-below r) i; c = decimal-counts (count c) (count-below c) i } in
     record {
       proper = h;
-      numbered = true_both _ _ (decimal-is_count (count r) (count-below r)) (decimal-is_count (count c) (count-below c));
+      numbered = and_from _ _ (decimal-is_count (count r) (count-below r)) (decimal-is_count (count c) (count-below c));
       judged = ap (λ (x : Parts). unless (first_of (plan_reasons s name x)) (Plan name x)) same ∙ ap (λ (o : Option Reason). unless o (Plan name p)) none;
     }
 
@@ -157,7 +158,7 @@ plan-does has s name r c h none =
 first-place : (p : Parts) (n : ℕ × ℕ) → is_whole p ≡ true → is_child p n ≡ true → (n.0 ≡ 0) × (n.1 ≡ 0)
 first-place p n e h =
     let w = whole-parts p e in
-    let q = both_true (nat_lt n.0 p.r) (nat_lt n.1 p.c) h in
+    let q = and_parts (nat_lt n.0 p.r) (nat_lt n.1 p.c) h in
     (below-one n.0 p.r w.0 q.0, below-one n.1 p.c w.1 q.1)
   where
     below-one : (m k : ℕ) → k ≡ 1 → nat_lt m k ≡ true → m ≡ 0
@@ -215,7 +216,7 @@ record AreAgain (n : ℕ) (S : State) (plans : Plans) (os : List OperandForm) : 
 are-again : (n : ℕ) (S : State) (plans : Plans) (os : List OperandForm) → Follows plans S → list_all (has_child S) (map operand_said os) ≡ true → AreAgain n S plans os
 are-again n S plans [] f h = record { say = refl; present = refl }
 are-again n S plans (o ∷ os) f h =
-    let q = both_true (has_child S (operand_said o)) (list_all (has_child S) (map operand_said os)) h in
+    let q = and_parts (has_child S (operand_said o)) (list_all (has_child S) (map operand_said os)) h in
     let here = is-there n S plans o f q.0 in
     let rest = are-again n S plans os f q.1 in
     record {
@@ -226,17 +227,17 @@ are-again n S plans (o ∷ os) f h =
 are-proper : (plans : Plans) (os : List OperandForm) → list_all is_proper_operand os ≡ true → list_all is_proper_operand (operand-forms plans os) ≡ true
 are-proper plans [] h = refl
 are-proper plans (o ∷ os) h =
-    let q = both_true (is_proper_operand o) (list_all is_proper_operand os) h in
+    let q = and_parts (is_proper_operand o) (list_all is_proper_operand os) h in
     let fits = index-fits o.child in
-    true_both (is_proper_operand (operand-form plans o)) (list_all is_proper_operand (operand-forms plans os))
-    (true_both (is_name o.name) _ (both_true (is_name o.name) (list_all is_piece (child_pieces o.child)) q.0).0 (pieces-by (is_whole (plans o.name)) (place_said o) fits.0 fits.1))
+    and_from (is_proper_operand (operand-form plans o)) (list_all is_proper_operand (operand-forms plans os))
+    (and_from (is_name o.name) _ (and_parts (is_name o.name) (list_all is_piece (child_pieces o.child)) q.0).0 (pieces-by (is_whole (plans o.name)) (place_said o) fits.0 fits.1))
     (are-proper plans os q.1)
 
 are-counted : (plans : Plans) (os : List OperandForm) → list_all (λ (o : OperandForm). are_counts o.child) (operand-forms plans os) ≡ true
 are-counted plans [] = refl
 are-counted plans (o ∷ os) =
     let fits = index-fits o.child in
-    true_both (are_counts (operand-form plans o).child) (list_all (λ (o : OperandForm). are_counts o.child) (operand-forms plans os))
+    and_from (are_counts (operand-form plans o).child) (list_all (λ (o : OperandForm). are_counts o.child) (operand-forms plans os))
     (pair-counts (is_whole (plans o.name)) (place_said o) fits.0 fits.1) (are-counted plans os)
 
 -- ---- a task
@@ -256,7 +257,7 @@ priority-counted (Some w) false e = again-is_integer w
 
 called-by : (name inner : List ℕ) (o : Option (List ℕ)) → (elim o as (λ _. Bool) [ None ↦ false | Some own ↦ bytes_eq own name ]) ≡ true → unwrap_or o inner ≡ name
 called-by name inner None e = absurd (cc)
-called-by name inner (Some own) e = same_word own name e
+called-by name inner (Some own) e = same_text own name e
 
 called : (k : Kernel) (name : List ℕ) → has_name name k ≡ true → codelet_name (codelet_of k) ≡ name
 called k name h =
@@ -276,17 +277,17 @@ task-does has n S plans t act f h e sound =
     let k = j.kernel in
     let line = task_said k t in
     let again = task_form plans line in
-    let name = both_true (has k) (has_name t.codelet k) (found_passes (λ k. has k && has_name t.codelet k) kernels k j.named) in
+    let name = and_parts (has k) (has_name t.codelet k) (found_passes (λ k. has k && has_name t.codelet k) kernels k j.named) in
     let same = called k t.codelet name.1 in
     let placed = subst (IsSoundAct has S) (sym j.is) sound in
     let are = are-again n S plans t.operands f placed.placed in
-    let p = both_true (is_name t.codelet && list_all is_piece t.args) (list_all is_proper_operand t.operands) h in
-    let q = both_true (is_name t.codelet) (list_all is_piece t.args) p.0 in
+    let p = and_parts (is_name t.codelet && list_all is_piece t.args) (list_all is_proper_operand t.operands) h in
+    let q = and_parts (is_name t.codelet) (list_all is_piece t.args) p.0 in
     let urged = priority-says t.priority (int_eq line.priority (pos 0)) refl in
     let says : task_said k again ≡ line = λ i. record { codelet = codelet_of k; args = all-say t.args i; operands = are.say i; priority = urged i } in
     subst (λ (a : Act (List ℕ)). Does has s (form_of_act plans a) a) j.is (record {
-      proper = true_both _ _ (true_both _ _ (ap is_name same ∙ q.0) (all-pieces t.args)) (are-proper plans t.operands p.1);
-      numbered = true_both _ _ (true_both _ _ (all-integers t.args) (are-counted plans t.operands)) (priority-counted t.priority (int_eq line.priority (pos 0)) refl);
+      proper = and_from _ _ (and_from _ _ (ap is_name same ∙ q.0) (all-pieces t.args)) (are-proper plans t.operands p.1);
+      numbered = and_from _ _ (and_from _ _ (all-integers t.args) (are-counted plans t.operands)) (priority-counted t.priority (int_eq line.priority (pos 0)) refl);
       judged =
           ap (λ (x : TaskLine (List ℕ)). judged_by (first_of (line_reasons s x.priority x.operands)) (judged_call has s (kernel_named has again.codelet) again)) says
           ∙ ap (λ (o : Option Reason). judged_by o (judged_call has s (kernel_named has again.codelet) again)) j.line

@@ -3,8 +3,7 @@ use Rattle.std.proofs.Common.{◌≡◌, ℕ, ◌+◌, ◌<◌, ◌≤◌, Bool,
 use Rattle.std.specs.Prelude.{All, nat_le, ◌^◌}
 use Rattle.std.specs.Fmt.{decimal}
 use Rattle.std.specs.List.{flat_map, join_with_byte, list_all}
-use Rattle.std.proofs.lemmas.Bool.{le-leb, lt-leb}
-use Rattle.std.proofs.lemmas.Bool.Decides.{nat_tests}
+use Rattle.std.proofs.lemmas.Bool.{le-leb, lt-leb, and_from}
 use Rattle.std.proofs.lemmas.List.Elements.{All-from_recursion, All-head, All-tail}
 use Rattle.sj_base.specs.declared.mode.Policy.{Policy}
 use Rattle.sj_base.specs.declared.mode.Policy.TheVariants.{Eager, Prio, Ws}
@@ -30,7 +29,6 @@ use Rattle.sj_job.specs.Verdict.{Front, Passes, Begins, Stops}
 use Rattle.sj_job.specs.Word.{count, is_count, is_skipped, lines, words}
 use Rattle.sj_job.proofs.Numerals.{decimal-counts, decimal-is_count}
 use Rattle.sj_job.proofs.Setting.{setting-back}
-use Rattle.sj_job.proofs.Spelling.{true_both}
 use Rattle.sj_show.specs.Words.{line_of_words}
 use Rattle.sj_text.specs.Again.{settings_said}
 use Rattle.sj_text.specs.Text.{node_line, settings_lines}
@@ -85,7 +83,7 @@ abbrev set : Option ℕ → List ℕ → Option Policy → Settings
 set w ns p = record { workers = w; nodes = ns; policy = p }
 
 decimal-words : (first : List ℕ) (n : ℕ) → n < 2 ^ 63 → is_word first ≡ true → list_all is_word (first ∷ decimal n ∷ []) ≡ true
-decimal-words first n lt h = true_both (is_word first) (list_all is_word (decimal n ∷ [])) h (true_both (is_word (decimal n)) true (count-word (decimal n) (decimal-is_count n lt)) refl)
+decimal-words first n lt h = and_from (is_word first) (list_all is_word (decimal n ∷ [])) h (and_from (is_word (decimal n)) true (count-word (decimal n) (decimal-is_count n lt)) refl)
 
 -- none of three reasons
 none-of : (a b c : Bool) (x y z : Reason) → a ≡ false → b ≡ false → c ≡ false → first_of ((a, x) ∷ (b, y) ∷ (c, z) ∷ []) ≡ None
@@ -98,7 +96,7 @@ workers-read : (has : Kernel → Bool) (m n : ℕ) (rest : List ℕ) → (1 ≤ 
 workers-read has m n rest h =
     let small : m < 2 ^ 63 = omega (arith, h.1) in
     let says : count (decimal m) ≡ m = decimal-counts m small in
-    let within : is_worker_count (count (decimal m)) ≡ true = ap is_worker_count says ∙ true_both (nat_le 1 m) (nat_le m 64) (le-leb 1 m h.0) (le-leb m 64 h.1) in
+    let within : is_worker_count (count (decimal m)) ≡ true = ap is_worker_count says ∙ and_from (nat_le 1 m) (nat_le m 64) (le-leb 1 m h.0) (le-leb m 64 h.1) in
     setting-read has unset n (Workers (decimal m)) rest (decimal-words (codes "workers") m small refl)
     (none-of false (not (is_count (decimal m))) (not (is_worker_count (count (decimal m)))) Word Number (Limit LimitKind.Workers) refl (ap not (decimal-is_count m small)) (ap not within))
     ∙ ap (λ (k : ℕ). reading_settings has (set (Some k) [] None) (n + 1) (lines rest)) says
@@ -110,7 +108,7 @@ node-read : (has : Kernel → Bool) (w : Option ℕ) (before : List ℕ) (m n : 
 node-read has w before m n rest few h =
     let small : m < 2 ^ 63 = omega (arith, h.1) in
     let says : count (decimal m) ≡ m = decimal-counts m small in
-    let within : is_node_size (count (decimal m)) ≡ true = ap is_node_size says ∙ true_both (nat_le 8 m) (nat_le m 1099511627776) (le-leb 8 m h.0) (le-leb m 1099511627776 (omega (arith, h.1))) in
+    let within : is_node_size (count (decimal m)) ≡ true = ap is_node_size says ∙ and_from (nat_le 8 m) (nat_le m 1099511627776) (le-leb 8 m h.0) (le-leb m 1099511627776 (omega (arith, h.1))) in
     setting-read has (set w before None) n (Node (decimal m)) rest (decimal-words (codes "node") m small refl)
     (none-of (not (is_count (decimal m))) (nat_le 16 (length before)) (not (is_node_size (count (decimal m)))) Number (Limit LimitKind.Nodes) (Limit LimitKind.NodeBytes) (ap not (decimal-is_count m small)) (lt-leb 16 (length before) few) (ap not within))
     ∙ ap (λ (k : ℕ). reading_settings has (set w (before ++ k ∷ []) None) (n + 1) (lines rest)) says

@@ -4,11 +4,11 @@ use Rattle.std.specs.Prelude.{◌^◌}
 use Rattle.std.specs.Fmt.{signed_decimal}
 use Rattle.std.specs.List.{list_all}
 use Rattle.std.proofs.lemmas.Bool.Decides.{nat_tests}
+use Rattle.std.proofs.lemmas.Bool.{and_from}
 use Rattle.sj_codelet.specs.MinPlus.{is_inf}
 use Rattle.sj_job.specs.Grammar.{is_piece}
 use Rattle.sj_job.specs.Word.{integer_of, is_integer}
 use Rattle.sj_job.proofs.Numerals.{IsI64, decimal-integer, decimal-piece, integer-fits, minus-integer}
-use Rattle.sj_job.proofs.Spelling.{true_both}
 use Rattle.sj_show.specs.Words.{integer_word}
 
 -- ---- an integer
@@ -63,8 +63,8 @@ all-say (w ∷ ws) = λ i. again-says w i ∷ all-say ws i
 
 pub all-integers : (ws : List (List ℕ)) → list_all is_integer (map integer_word (said_all ws)) ≡ true
 all-integers [] = refl
-all-integers (w ∷ ws) = true_both (is_integer (again w)) (list_all is_integer (map integer_word (said_all ws))) (again-is_integer w) (all-integers ws)
+all-integers (w ∷ ws) = and_from (is_integer (again w)) (list_all is_integer (map integer_word (said_all ws))) (again-is_integer w) (all-integers ws)
 
 pub all-pieces : (ws : List (List ℕ)) → list_all is_piece (map integer_word (said_all ws)) ≡ true
 all-pieces [] = refl
-all-pieces (w ∷ ws) = true_both (is_piece (again w)) (list_all is_piece (map integer_word (said_all ws))) (again-piece w) (all-pieces ws)
+all-pieces (w ∷ ws) = and_from (is_piece (again w)) (list_all is_piece (map integer_word (said_all ws))) (again-piece w) (all-pieces ws)

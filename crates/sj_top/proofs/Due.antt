@@ -7,6 +7,7 @@ use Rattle.sj_base.specs.declared.ids.Task.{Task}
 use Rattle.sj_base.specs.declared.program.Machine.{Machine}
 use Rattle.sj_base.specs.declared.program.Program.{Program}
 use Rattle.sj_base.specs.declared.trace.Event.{Event}
+use Rattle.sj_base.proofs.Options.{the}
 use Rattle.sj_core.specs.Needs.{footprint}
 use Rattle.sj_core.specs.Program.{task_of}
 use Rattle.sj_edge.specs.declared.disk.Disk.{Ghosts as DiskOf}
@@ -23,9 +24,6 @@ use Rattle.sj_top.specs.declared.status.Status.TheVariants.{Done, Usage, Refused
 use Rattle.sj_top.specs.Device.{Devices, NeverFailed, in_use}
 use Rattle.sj_top.specs.Top.{HasCause, IsDue, IsSilent, NothingFailed}
 use Rattle.sj_top.specs.Work.{Asked, Unaccepted, Untold, Told, IfAsked, IsToldAnd, asked_through, job_by, reads_source, told}
-
-the : (X : Type 0) → X → X
-the X x = x
 
 -- ---- one cause excludes the others
 

@@ -10,16 +10,12 @@ use Rattle.sj_base.specs.declared.ids.Task.{Task}
 use Rattle.sj_base.specs.declared.program.Delivery.{Delivery}
 use Rattle.sj_base.specs.declared.program.Program.{Program}
 use Rattle.sj_base.specs.Array.{Array}
+use Rattle.sj_base.proofs.Options.{the}
+use Rattle.sj_base.specs.Ids.{task}
 use Rattle.sj_top.specs.Gathering.{Finds, Handed, HandedOver, IsIndex, array_found, no_array}
 
-the : (X : Type 0) → X → X
-the X x = x
-
-abbrev tasks_in : List (Task × Array) → List Task
+abbrev pub tasks_in : List (Task × Array) → List Task
 tasks_in pairs = map (λ (pair : Task × Array). pair.0) pairs
-
-abbrev task_at : ℕ → Task
-task_at n = record { 0 = n }
 
 -- a table finds each task that handed something over
 pub finds-contained : (places : List ℕ) (pairs : List (Task × Array)) (t : Task) → IsIndex places pairs → Contains (tasks_in pairs) t → Finds places pairs t
@@ -64,7 +60,7 @@ found-among h t finds =
 pub finds-more : (places : List ℕ) (pairs : List (Task × Array)) (i : ℕ) (u t : Task) → u.0 < length places → slice_get (tasks_in pairs) i ≡ Some u → (t.0 ≢ u.0 → Finds places pairs t) → Finds (set places u.0 i) pairs t
 finds-more places pairs i u t inside at old = elim (cases_eq t.0 u.0) [
   | inl same ↦
-      let t_is : u ≡ t = ap task_at (sym same) in
+      let t_is : u ≡ t = ap task (sym same) in
       let place : get_or (set places u.0 i) t.0 0 ≡ i = ap (λ n. get_or (set places u.0 i) n 0) same ∙ get_or-set_same places u.0 i 0 inside in
       (rw (length-set places u.0 i, same) inside, ap (slice_get (tasks_in pairs)) place ∙ at ∙ ap Some t_is)
   | inr other ↦

@@ -1,5 +1,5 @@
 -- What a run hands over is what the deliver tasks have to hand over.
-use Rattle.std.proofs.Common.{◌≡◌, ℕ, suc, ◌+◌, ◌<◌, Bool, true, false, cond, List, [], ◌∷◌, length, map, get_or, refl, sym, ap, ◌∙◌, subst, arith, nat_eq, Some, inl, inr}
+use Rattle.std.proofs.Common.{◌≡◌, ℕ, suc, ◌+◌, ◌<◌, Bool, true, false, cond, List, [], ◌∷◌, length, get_or, refl, sym, ap, ◌∙◌, subst, arith, nat_eq, Some, inl, inr}
 use Rattle.std.specs.Prelude.{All, Contains, FitsSigned, IsTrue}
 use Rattle.std.specs.Int.{w64}
 use Rattle.std.specs.List.{range_with_len}
@@ -15,6 +15,8 @@ use Rattle.sj_base.specs.declared.program.Lowered.{Lowered}
 use Rattle.sj_base.specs.declared.program.Program.{Program}
 use Rattle.sj_base.specs.declared.tile.Dims.{Dims}
 use Rattle.sj_base.specs.Array.{Array, zeros}
+use Rattle.sj_base.proofs.Bools.{tally}
+use Rattle.sj_base.specs.Ids.{task}
 use Rattle.sj_codelet.specs.declared.kernel.Kernel.TheVariants.{Deliver}
 use Rattle.sj_codelet.specs.Kernel.{kernel_of}
 use Rattle.sj_core.specs.Fold.{given}
@@ -29,7 +31,7 @@ use Rattle.sj_lower.specs.Delivering.{NamesDeliverTasks, deliveries_for}
 use Rattle.sj_plan.specs.Rect.{Within}
 use Rattle.sj_plan.specs.Window.{gathered}
 use Rattle.sj_top.specs.Gathering.{AreAmong, Handed, HandedOver, IsIndex, IsShown, all_shown, array_found, part_by, prints_of, rect_at, root_of, shown}
-use Rattle.sj_top.proofs.Finding.{finds-delivery, found-among}
+use Rattle.sj_top.proofs.Finding.{finds-delivery, found-among, tasks_in}
 
 -- ---- what a table finds
 
@@ -79,25 +81,16 @@ same-shown T p pairs arrays among are = map-same (λ k. shown T arrays (deliveri
 
 -- ---- what a run hands over
 
-abbrev tasks_in : List (Task × Array) → List Task
-tasks_in pairs = map (λ (pair : Task × Array). pair.0) pairs
-
-abbrev task_at : ℕ → Task
-task_at n = record { 0 = n }
-
-abbrev counted_as : Bool → ℕ
-counted_as b = cond b 1 0
-
 -- a task that is counted is there
 one-counted : (t : Task) (pairs : List (Task × Array)) → 0 < times_delivered pairs t → Contains (tasks_in pairs) t
 one-counted t [] some = absurd (omega arith)
 one-counted t (pair ∷ pairs) some = by_first (nat_eq pair.0.0 t.0) refl (one-counted t pairs)
   where
     by_first : (b : Bool) → nat_eq pair.0.0 t.0 ≡ b → (0 < times_delivered pairs t → Contains (tasks_in pairs) t) → Contains (pair.0 ∷ tasks_in pairs) t
-    by_first true e later = (0, omega arith, ap task_at ((Decides-eqb pair.0.0 t.0).0 e))
+    by_first true e later = (0, omega arith, ap task ((Decides-eqb pair.0.0 t.0).0 e))
     by_first false e later =
-        let n : times_delivered (pair ∷ pairs) t ≡ counted_as (nat_eq pair.0.0 t.0) + times_delivered pairs t = sum_by-cons (λ (d : Task × Array). cond (nat_eq d.0.0 t.0) 1 0) pair pairs in
-        let none : counted_as (nat_eq pair.0.0 t.0) ≡ counted_as false = ap counted_as e in
+        let n : times_delivered (pair ∷ pairs) t ≡ tally (nat_eq pair.0.0 t.0) + times_delivered pairs t = sum_by-cons (λ (d : Task × Array). cond (nat_eq d.0.0 t.0) 1 0) pair pairs in
+        let none : tally (nat_eq pair.0.0 t.0) ≡ tally false = ap tally e in
         let h = later (omega (arith, n, none, some)) in
         (suc h.0, omega (arith, h.1), h.2)
 

@@ -1,17 +1,18 @@
 -- How disks come back.
-use Rattle.std.proofs.Common.{◌≡◌, ℕ, ◌<◌, List, Option, Some, None, Result, Err, IsOkAnd, length, map, get_or, refl, sym, ap, ◌∙◌, subst, arith}
-use Rattle.std.specs.Prelude.{IsSomeAnd, option_map, slice_get}
+use Rattle.std.proofs.Common.{◌≡◌, ℕ, List, Option, Some, None, Result, Err, map, get_or, refl, sym, subst, arith}
+use Rattle.std.specs.Prelude.{IsSomeAnd, slice_get}
 use Rattle.std.proofs.lemmas.List.{length-map}
-use Rattle.std.proofs.lemmas.Option.{slice_get-get_or, slice_get-map, slice_get_within}
+use Rattle.std.proofs.lemmas.Option.{slice_get_within}
 use Rattle.sj_base.specs.declared.ids.DiskNo.{DiskNo}
 use Rattle.sj_base.specs.declared.trace.Event.{Event}
+use Rattle.sj_base.proofs.Options.{the}
+use Rattle.sj_base.proofs.Lists.{get_or-map_at}
 use Rattle.sj_disk.specs.declared.header.Header.{Header}
-use Rattle.sj_disk.specs.Holding.{CountsStay}
 use Rattle.sj_edge.specs.declared.disk.Disk.{Ghosts as DiskOf}
 use Rattle.sj_edge.specs.Faults.{Rose}
 use Rattle.sj_edge.specs.GivenBack.{AreGivenBack}
 use Rattle.sj_edge.proofs.GivenBackLemmas.{all_given_back-untouched, all_untouched-same}
-use Rattle.sj_engine.specs.Outcome.{AllTell, HoldBlocks, IsCausedBy}
+use Rattle.sj_engine.specs.Outcome.{AllTell, IsCausedBy}
 use Rattle.sj_machine.specs.Board.{HasRisen}
 use Rattle.sj_machine.specs.declared.fault.RunFault.{RunFault}
 use Rattle.sj_machine.specs.declared.fault.RunFault.TheVariants as running
@@ -26,18 +27,9 @@ use Rattle.sj_top.specs.Answers.{IsBehindTheRun, IsDamage, LeavesDisks, WritesTe
 use Rattle.sj_top.specs.Device.{Device}
 use Rattle.sj_top.specs.Disks.{RoseAt}
 use Rattle.sj_top.specs.Top.{ComeBack}
-use Rattle.sj_ready.specs.Work.{WorkOrRefusal, program_of}
-
-the : (X : Type 0) → X → X
-the X x = x
+use Rattle.sj_ready.specs.Work.{WorkOrRefusal}
 
 -- ---- a count that rose
-
-at-place : {D : Type 0} (count : D → ℕ) (disks : List D) (d : ℕ) (x : D) → slice_get disks d ≡ Some x → get_or (map count disks) d 0 ≡ count x
-at-place count disks d x e =
-    let inside : d < length (map count disks) = omega (arith, slice_get_within disks d x e, length-map disks count) in
-    let at : Some (get_or (map count disks) d 0) ≡ Some (count x) = sym (slice_get-get_or (map count disks) d 0 inside) ∙ slice_get-map count disks d ∙ ap (option_map count) e in
-    grind (arith, at)
 
 pub risen-at : {D : Type 0} (count : D → ℕ) (old new : List D) (d : ℕ) → HasRisen count old new d → RoseAt d (map count old) (map count new)
 risen-at {D} count old new d risen = by_old (slice_get old d) refl risen
@@ -46,7 +38,7 @@ risen-at {D} count old new d risen = by_old (slice_get old d) refl risen
     by_new x ex None e h = absurd h
     by_new x ex (Some y) e h = record {
       is_disk = omega (arith, slice_get_within old d x ex, length-map old count);
-      count_rose = subst (λ (n : ℕ). Rose n (get_or (map count new) d 0)) (sym (at-place count old d x ex)) (subst (Rose (count x)) (sym (at-place count new d y e)) h);
+      count_rose = subst (λ (n : ℕ). Rose n (get_or (map count new) d 0)) (sym (get_or-map_at count old d x ex)) (subst (Rose (count x)) (sym (get_or-map_at count new d y e)) h);
     }
 
     by_old : (o : Option D) → slice_get old d ≡ o → IsSomeAnd o (λ x. IsSomeAnd (slice_get new d) (λ y. Rose (count x) (count y))) → RoseAt d (map count old) (map count new)
@@ -96,16 +88,6 @@ module _ {D : Type 0} (disk : DiskOf D) where
   pub leaves-no-memory : {A : Type 0} (asked : WorkOrRefusal) (text : Result A Stop) (trace : List Event) (old new : List D) → text ≡ Err stops.OutOfMemory → new ≡ old → LeavesDisks disk asked (status_of text) trace old new
   leaves-no-memory {A} asked text trace old new e same =
       subst (λ (r : Result A Stop). LeavesDisks disk asked (status_of r) trace old new) (sym e) (leaves-aside asked status.OutOfMemory trace old new memory-aside same)
-
-  -- disks of a run that came to its end
-  pub leaves-run : (asked : WorkOrRefusal) (trace : List Event) (old new : List D) → AreGivenBack disk.size disk.faults disk.mismatches disk.held old new → CountsStay disk.faults disk.mismatches old new → (AllTell disk.held old → IsOkAnd asked (λ w. HoldBlocks disk.held (program_of w) w.machine trace new)) → LeavesDisks disk asked status.Done trace old new
-  leaves-run asked trace old new back stay blocks = record {
-    come_back = record { given_back = back; untouched = λ before. absurd before };
-    counts_stay = λ h. stay;
-    blocks = λ h. blocks;
-    fault = λ number e. absurd (the ⊥ cc);
-    damage = λ number want found e. absurd (the ⊥ cc);
-  }
 
   -- of one whose text wasn't made
   pub leaves-untold : (asked : WorkOrRefusal) (trace : List Event) (old new : List D) → AreGivenBack disk.size disk.faults disk.mismatches disk.held old new → LeavesDisks disk asked status.OutOfMemory trace old new

@@ -1,6 +1,6 @@
 -- What was read of a source says what the source says.
 use Rattle.std.proofs.Common.{◌≡◌, ℕ, ◌≤◌, ◌<◌, Bool, true, false, List, [], ◌++◌, length, refl, ap, ◌∙◌, sym, arith, Option, Some, None, Result, Ok, Err, IfSome, cond, nat_lt, length-append, IsOk, IfOk, ◌+◌, drop, Vec, Global}
-use Rattle.std.proofs.lemmas.List.{append-nil, drop_all}
+use Rattle.std.proofs.lemmas.List.{drop_all}
 use Rattle.std.proofs.Math.Seq.{drop-append_seam}
 use Rattle.std.proofs.lemmas.Bool.Decides.{nat_tests}
 use Rattle.std.specs.Io.KnownBytes.{Consumes, IsAtEnd}
@@ -19,19 +19,6 @@ too_long : (has : Kernel → Bool) (text : List ℕ) → text_limit < length tex
 too_long has text lt =
     let e : nat_lt text_limit (length text) ≡ true = grind (arith, nat_tests) in
     ap (λ (b : Bool). cond b (Err (refusal 0 (Limit Text))) (reading_header has 1 (lines text))) e
-
--- what was read of a source says what the whole of it says
-pub same_job : (has : Kernel → Bool) (left after : Option (List ℕ)) (text : List ℕ) → Consumes left after text → (length text ≤ text_limit → IsAtEnd after) → IfSome left (λ whole. job_of has whole ≡ job_of has text)
-same_job has None after text h end = tt
-same_job has (Some whole) None text h end = absurd h
-same_job has (Some whole) (Some rest) text h end = by_length (nat_lt text_limit (length text)) refl where
-  by_length : (b : Bool) → nat_lt text_limit (length text) ≡ b → job_of has whole ≡ job_of has text
-  by_length true e =
-      let lt : text_limit < length text = grind (arith, nat_tests) in
-      too_long has whole (omega (arith, ap length h, length-append text rest)) ∙ sym (too_long has text lt)
-  by_length false e =
-      let le : length text ≤ text_limit = grind (arith, nat_tests) in
-      ap (job_of has) (h ∙ ap (λ l. text ++ l) (end le) ∙ append-nil text)
 
 refused_ok : (job : Result Job Refusal) (e : Refusal) → job ≡ Err e → IsOk job → ⊥
 refused_ok (Ok j) e h o = cc

@@ -21,7 +21,7 @@ use Rattle.sj_ready.specs.Ready.{IsReady}
 use Rattle.sj_top.specs.Answers.{BrokeOff, IsTextOf}
 use Rattle.sj_top.specs.Gathering.{ShowsRun, prints_of, shown}
 use Rattle.sj_top.specs.Output.{output}
-use Rattle.sj_top.specs.Top.{PrintsNothing, text_of}
+use Rattle.sj_top.specs.Top.{PrintsNothing, answer_text}
 use Rattle.sj_top.specs.Traces.{Began, BeganWork, RanWhole}
 use Rattle.sj_ready.specs.Work.{Work, WorkOrRefusal, program_of}
 use Rattle.sj_top.proofs.Handing.{same-shown}
@@ -53,7 +53,7 @@ module _ (has : Kernel → Bool) (asked : WorkOrRefusal) (r : Ready) (ready : Is
   }
 
   module _ (Tells : Type 0) (pairs : List (Task × Array)) (trace : List Event) (text : List ℕ) (each : DeliversEach p Tells pairs) (shows : ShowsRun r.shows_summary r.roots p pairs (behind r.shows_trace trace) text) where
-    told : Tells → text ≡ text_of trace w
+    told : Tells → text ≡ answer_text trace w
     told tells =
         let same = same-shown r.roots p pairs shows.shows.arrays shows.shows.among (each.arrays tells) in
         let arrays : shows.arrays_text ≡ output w.shows_summary (printed w.statements) =

@@ -1,35 +1,21 @@
 -- Bytes that go piece by piece.
-use Rattle.std.proofs.Common.{◌≡◌, ℕ, List, ◌++◌, [], refl, ap, ◌∙◌, sym, append_assoc, Option, Some, None, ◌+◌, ◌-◌, ◌≤◌, length, take, drop, arith, subst, Result, Ok, Err, OnOk, OnErr, IsErr, codes, decimal}
-use Rattle.std.proofs.lemmas.List.{append-nil, take_all, length-take, length-drop, length-append, take-append-le}
+use Rattle.std.proofs.Common.{◌≡◌, ℕ, List, ◌++◌, refl, ap, ◌∙◌, sym, append_assoc, Option, Some, None, ◌+◌, ◌-◌, ◌≤◌, length, take, drop, arith, subst, Result, Ok, Err, OnOk, OnErr, IsErr, codes, decimal}
+use Rattle.std.proofs.lemmas.List.{take_all, length-take, length-drop, length-append}
 use Rattle.std.proofs.Math.Seq.{take-add, take-append-add}
 use Rattle.sj_edge.specs.Faults.{Counts}
 use Rattle.sj_top.specs.Device.{Device}
 use Rattle.sj_top.specs.Streams.{TakesPrefix}
-use Rattle.sj_top.specs.Report.{TakesLine, line_of, reason_word, limit_word}
+use Rattle.sj_top.specs.Report.{TakesLine, status_line, reason_word, limit_word}
 use Rattle.sj_top.specs.declared.status.Status.TheVariants.{Refused}
 use Rattle.sj_base.specs.declared.ids.Line.{Line}
 use Rattle.sj_job.specs.declared.reason.Reason.{Reason}
-use Rattle.std.specs.Io.KnownBytes.{Appends, Consumes}
+use Rattle.std.specs.Io.KnownBytes.{Appends}
 
 pub appends-then : (a b c : Option (List ℕ)) (xs ys : List ℕ) → Appends a b xs → Appends b c ys → Appends a c (xs ++ ys)
 appends-then None b c xs ys h k = tt
 appends-then (Some zs) None c xs ys h k = absurd h
 appends-then (Some zs) (Some bs) None xs ys h k = absurd k
 appends-then (Some zs) (Some bs) (Some cs) xs ys h k = k ∙ ap (λ l. l ++ ys) h ∙ append_assoc zs xs ys
-
-pub consumes-then : (a b c : Option (List ℕ)) (xs ys : List ℕ) → Consumes a b xs → Consumes b c ys → Consumes a c (xs ++ ys)
-consumes-then None b c xs ys h k = tt
-consumes-then (Some zs) None c xs ys h k = absurd h
-consumes-then (Some zs) (Some bs) None xs ys h k = absurd k
-consumes-then (Some zs) (Some bs) (Some cs) xs ys h k = h ∙ ap (λ l. xs ++ l) k ∙ sym (append_assoc xs ys cs)
-
-pub appends-none : (a : Option (List ℕ)) → Appends a a []
-appends-none None = tt
-appends-none (Some zs) = sym (append-nil zs)
-
-pub consumes-none : (a : Option (List ℕ)) → Consumes a a []
-consumes-none None = tt
-consumes-none (Some zs) = refl
 
 -- a front of what follows a front makes a longer front
 pub wrote-bound : (text : List ℕ) (at n : ℕ) → at ≤ length text → n ≤ length (take (length text - at) (drop at text)) → at + n ≤ length text
@@ -39,9 +25,6 @@ pub wrote : (a b c : Option (List ℕ)) (text : List ℕ) (at n : ℕ) → at �
 wrote a b c text at n le h k l =
     let all : take (length text - at) (drop at text) ≡ drop at text = take_all (length text - at) (drop at text) (omega (arith, length-drop at text)) in
     subst (λ xs. Appends a c xs) (ap (λ ys. take at text ++ take n ys) all ∙ sym (take-add at n text)) (appends-then a b c (take at text) (take n (take (length text - at) (drop at text))) k l)
-
-pub prefix-first : (a b : Option (List ℕ)) (xs ys : List ℕ) → TakesPrefix a b xs → TakesPrefix a b (xs ++ ys)
-prefix-first a b xs ys t = (t.0, omega (arith, t.1, length-append xs ys), subst (λ l. Appends a b l) (sym (take-append-le t.0 xs ys t.1)) t.2)
 
 pub prefix-then : (a b c : Option (List ℕ)) (xs ys : List ℕ) → Appends a b xs → TakesPrefix b c ys → TakesPrefix a c (xs ++ ys)
 prefix-then a b c xs ys h t =
@@ -69,7 +52,7 @@ six : (a b c d e f : List ℕ) → a ++ (b ++ (c ++ (d ++ (e ++ f)))) ≡ a ++ b
 six a b c d e f = simp append_assoc
 
 -- the pieces of the line for a refusal
-pub refusal_line : (line : Line) (reason : Reason) (number word limit : List ℕ) → number ≡ decimal line.0 → word ≡ reason_word reason → limit ≡ limit_word reason → codes "starjob: line " ++ (number ++ (codes ": " ++ (word ++ (limit ++ codes "\n")))) ≡ line_of (Refused line reason)
+pub refusal_line : (line : Line) (reason : Reason) (number word limit : List ℕ) → number ≡ decimal line.0 → word ≡ reason_word reason → limit ≡ limit_word reason → codes "starjob: line " ++ (number ++ (codes ": " ++ (word ++ (limit ++ codes "\n")))) ≡ status_line (Refused line reason)
 refusal_line line reason number word limit n w l =
     six (codes "starjob: line ") number (codes ": ") word limit (codes "\n")
     ∙ ap (λ x. codes "starjob: line " ++ x ++ codes ": " ++ word ++ limit ++ codes "\n") n

@@ -17,6 +17,7 @@ use Rattle.sj_needs.specs.Shortage.{IsSwapTooSmall, IsTooLarge}
 use Rattle.sj_needs.specs.declared.shortage.Shortage.TheVariants as fitting
 use Rattle.sj_ready.specs.Work.{HasRoom, Work, WorkOrRefusal, asked_by, lowerable, program_of, said_by}
 use Rattle.sj_ready.specs.declared.unready.Unready.TheVariants as preparing
+use Rattle.sj_ready.proofs.Refusing.{limited}
 use Rattle.sj_words.specs.declared.options.Options.{Options}
 use Rattle.sj_top.specs.declared.status.Status.{Status}
 use Rattle.sj_top.specs.declared.status.Status.TheVariants.{Done, Usage, Refused, TooLarge, SwapTooSmall, DiskFault, Damaged, SourceFault, SinkFault, OutOfMemory}
@@ -25,7 +26,7 @@ use Rattle.sj_top.specs.declared.stop.Stop.TheVariants as stops
 use Rattle.sj_top.specs.Answers.{AnsweredText, BrokeOff, IsTextOf, IsWritten, LeavesDisks, StopsWith, WritesText, status_of_stop}
 use Rattle.sj_top.specs.Device.{Device, Devices}
 use Rattle.sj_top.specs.Streams.{IsRead, TakesPrefix}
-use Rattle.sj_top.specs.Top.{HasCause, IsSilent, MemoryRanOut, PrintsNothing, RunBrokeOff, RunIsWhole, TakesText, text_of}
+use Rattle.sj_top.specs.Top.{HasCause, IsSilent, MemoryRanOut, PrintsNothing, RunBrokeOff, RunIsWhole, TakesText, answer_text}
 use Rattle.sj_top.specs.Traces.{Began, BeganAsked, BeganWork, RanWhole}
 use Rattle.sj_top.specs.Work.{Asked, Unaccepted, Untold, Told, IfAsked, IfTold, IsToldAnd, told}
 use Rattle.sj_top.proofs.Shown.{broke-began}
@@ -46,9 +47,6 @@ ok-of P (Err e) h = absurd h
 job-ok : (o : Options) (disks : List ℕ) (job : Result Job Refusal) → IsOk (asked_by o disks job) → IsOk job
 job-ok o disks (Ok j) h = refl
 job-ok o disks (Err e) h = h
-
-abbrev limited : Work → Option Refusal → WorkOrRefusal
-limited w late = elim late [ None ↦ Ok w | Some e ↦ Err e ]
 
 unlimited : (P : Work → Type 0) (w : Work) (late : Option Refusal) → IsOkAnd (limited w late) P → P w
 unlimited P w None h = h
@@ -100,9 +98,9 @@ module _ (o : Options) (sizes : List ℕ) (jobs : Option (Result Job Refusal)) (
 
   pub printed-by : (Tells : Type 0) (status : Status) (out out' : Device) (trace : List Event) → AnsweredText (asked_by o sizes job) Tells status out out' trace → Tells → TakesText (told (option_map (said_by o sizes) jobs)) status out out' trace
   printed-by Tells Done out out' trace a tells =
-      said-told (λ w. Appends out.bytes out'.bytes (text_of trace w)) (of-work (IsWritten Tells (Appends out.bytes out'.bytes) trace) (λ w. Appends out.bytes out'.bytes (text_of trace w)) (λ w h. h.told tells) (asked_by o sizes job) a.0)
+      said-told (λ w. Appends out.bytes out'.bytes (answer_text trace w)) (of-work (IsWritten Tells (Appends out.bytes out'.bytes) trace) (λ w. Appends out.bytes out'.bytes (answer_text trace w)) (λ w h. h.told tells) (asked_by o sizes job) a.0)
   printed-by Tells SinkFault out out' trace a tells =
-      said-told (λ w. TakesPrefix out.bytes out'.bytes (text_of trace w)) (of-work (IsWritten Tells (TakesPrefix out.bytes out'.bytes) trace) (λ w. TakesPrefix out.bytes out'.bytes (text_of trace w)) (λ w h. h.told tells) (asked_by o sizes job) a.0)
+      said-told (λ w. TakesPrefix out.bytes out'.bytes (answer_text trace w)) (of-work (IsWritten Tells (TakesPrefix out.bytes out'.bytes) trace) (λ w. TakesPrefix out.bytes out'.bytes (answer_text trace w)) (λ w h. h.told tells) (asked_by o sizes job) a.0)
   printed-by Tells Usage out out' trace a tells = tt
   printed-by Tells (Refused line reason) out out' trace a tells = tt
   printed-by Tells (TooLarge line bytes) out out' trace a tells = tt

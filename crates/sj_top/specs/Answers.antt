@@ -22,7 +22,7 @@ use Rattle.sj_top.specs.declared.stop.Stop.TheVariants as stop
 use Rattle.sj_top.specs.Device.{Device, HasFailed}
 use Rattle.sj_top.specs.Disks.{RoseAt}
 use Rattle.sj_top.specs.Streams.{TakesPrefix}
-use Rattle.sj_top.specs.Top.{ComeBack, PrintsNothing, text_of}
+use Rattle.sj_top.specs.Top.{ComeBack, PrintsNothing, answer_text}
 use Rattle.sj_top.specs.Traces.{Began, BeganWork, RanWhole}
 use Rattle.sj_ready.specs.Work.{HasRoom, Work, WorkOrRefusal, program_of}
 
@@ -69,7 +69,7 @@ StopsWith asked stop.OutOfMemory trace = Began trace asked
 -- the text is the work's, where all disks tell; whether they do or not there was room, the trace is whole, and where nothing is
 -- printed there is no text
 pub record IsTextOf (Tells : Type 0) (trace : List Event) (text : List ℕ) (w : Work) : Type 0 where
-  pub told : Tells → text ≡ text_of trace w
+  pub told : Tells → text ≡ answer_text trace w
   pub had_room : HasRoom w
   pub ran : RanWhole trace w
   pub silent : PrintsNothing w → text ≡ []
@@ -105,7 +105,7 @@ pub record LeavesDisks {D : Type 0} (disk : DiskOf D) (asked : WorkOrRefusal) (e
 
 -- the sink took the work's text so, where all disks tell; whether they do or not there was room, and the trace is whole
 pub record IsWritten (Tells : Type 0) (Takes : List ℕ → Type 0) (trace : List Event) (w : Work) : Type 0 where
-  pub told : Tells → Takes (text_of trace w)
+  pub told : Tells → Takes (answer_text trace w)
   pub had_room : HasRoom w
   pub ran : RanWhole trace w
 

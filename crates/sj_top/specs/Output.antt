@@ -18,19 +18,19 @@ abbrev pub row_text : List ℤ → List ℕ
 row_text xs = join_with_byte 32 (map element_text xs) ++ codes "\n"
 
 -- the rows of an array
-abbrev pub rows_of : Array → List (List ℤ)
-rows_of a = map (λ i. take a.dims.cols (drop (i * a.dims.cols) a.elements)) (range_with_len 0 a.dims.rows)
+abbrev pub printed_rows : Array → List (List ℤ)
+printed_rows a = map (λ i. take a.dims.cols (drop (i * a.dims.cols) a.elements)) (range_with_len 0 a.dims.rows)
 
 -- a vector gives `NAME: ` and its elements; a matrix `NAME R C:` and one line per row
-abbrev pub block_of : Kind → List ℕ → Array → List ℕ
-block_of Vector name a = name ++ codes ": " ++ row_text a.elements
-block_of Matrix name a =
+abbrev pub block_text : Kind → List ℕ → Array → List ℕ
+block_text Vector name a = name ++ codes ": " ++ row_text a.elements
+block_text Matrix name a =
     name ++ codes " " ++ decimal a.dims.rows ++ codes " " ++ decimal a.dims.cols ++ codes ":\n"
-    ++ flat_map row_text (rows_of a)
+    ++ flat_map row_text (printed_rows a)
 
 -- what is written for what a print statement finds: where a summary is asked for, one line of the array
 abbrev pub printed_block : Bool → Printed → List ℕ
-printed_block summary p = if summary then summary_line p.name p.array else block_of p.kind p.name p.array
+printed_block summary p = if summary then summary_line p.name p.array else block_text p.kind p.name p.array
 
 -- what is written for the arrays that a job prints, in order
 abbrev pub output : Bool → List Printed → List ℕ

@@ -76,19 +76,19 @@ damage_line disk want found = in_a_row (
     ∷ codes "\n" ∷ [])
 
 -- the line for a status; none where the job is done
-abbrev pub line_of : Status → List ℕ
-line_of Done = []
-line_of Usage = usage_line
-line_of (Refused line reason) =
+abbrev pub status_line : Status → List ℕ
+status_line Done = []
+status_line Usage = usage_line
+status_line (Refused line reason) =
     codes "starjob: line " ++ decimal line.0 ++ codes ": " ++ reason_word reason ++ limit_word reason
     ++ codes "\n"
-line_of (TooLarge line bytes) = too_large_line line bytes
-line_of (SwapTooSmall needed have) = swap_line needed have
-line_of (DiskFault disk) = disk_line disk
-line_of (Damaged disk want found) = damage_line disk want found
-line_of SourceFault = codes "starjob: reading failed\n"
-line_of SinkFault = codes "starjob: writing failed\n"
-line_of OutOfMemory = codes "starjob: out of memory\n"
+status_line (TooLarge line bytes) = too_large_line line bytes
+status_line (SwapTooSmall needed have) = swap_line needed have
+status_line (DiskFault disk) = disk_line disk
+status_line (Damaged disk want found) = damage_line disk want found
+status_line SourceFault = codes "starjob: reading failed\n"
+status_line SinkFault = codes "starjob: writing failed\n"
+status_line OutOfMemory = codes "starjob: out of memory\n"
 
 -- a sink took a front of a line, and all of it where its count of faults didn't rise
 pub record TakesLine (err err' : Device) (line : List ℕ) : Type 0 where

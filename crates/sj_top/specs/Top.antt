@@ -25,7 +25,7 @@ use Rattle.sj_top.specs.Disks.{NoneRose, RoseAt}
 use Rattle.sj_top.specs.Output.{output}
 use Rattle.sj_top.specs.Streams.{IsRead, TakesPrefix}
 use Rattle.sj_top.specs.Traces.{BeganAsked, BeganWork, RanWhole}
-use Rattle.sj_top.specs.Work.{Asked, Unaccepted, Told, IfAsked, IfTold, IsToldAnd, asked_of, reads_source, said_of}
+use Rattle.sj_top.specs.Work.{Asked, Unaccepted, Told, IfAsked, IfTold, IsToldAnd, asked_of, reads_source, work_said}
 
 -- A device tells where contracts can name its bytes, as one in memory does: those left in a source, those taken by a sink, those
 -- held by a disk. The job is the text that its source tells; where the source doesn't tell, the job is untold.
@@ -34,13 +34,13 @@ use Rattle.sj_top.specs.Work.{Asked, Unaccepted, Told, IfAsked, IfTold, IsToldAn
 
 -- the text of what the statements print when they are run one after another on plain arrays, or its summary, and the text of the
 -- trace, each where it is asked for
-abbrev pub text_of : List Event → Work → List ℕ
-text_of trace w = output w.shows_summary (printed w.statements) ++ (if w.shows_trace then text_of_trace trace else [])
+abbrev pub answer_text : List Event → Work → List ℕ
+answer_text trace w = output w.shows_summary (printed w.statements) ++ (if w.shows_trace then text_of_trace trace else [])
 
 -- the sink took this text: the whole of it where the job is done, and a front of it where a call of the sink failed
 abbrev pub TakesText : Asked → Status → Device → Device → List Event → Type 0
-TakesText said Done out out' trace = IfTold said (λ w. Appends out.bytes out'.bytes (text_of trace w))
-TakesText said SinkFault out out' trace = IfTold said (λ w. TakesPrefix out.bytes out'.bytes (text_of trace w))
+TakesText said Done out out' trace = IfTold said (λ w. Appends out.bytes out'.bytes (answer_text trace w))
+TakesText said SinkFault out out' trace = IfTold said (λ w. TakesPrefix out.bytes out'.bytes (answer_text trace w))
 TakesText said _ out out' trace = Unit {0}
 
 -- ---- what a status means
@@ -197,20 +197,20 @@ pub record ComeBack {D : Type 0} (disk : DiskOf D) (old new : List D) (status : 
 -- and of tasks, or else the refusal that names the limit.
 module _ {D : Type 0} {disk : DiskOf D} (words : List Text) (before : Devices disk) where
   -- they ask for a job that is read
-  abbrev reads : Bool
-  reads = reads_source (options words)
+  abbrev asks_for_a_job : Bool
+  asks_for_a_job = reads_source (options words)
 
   -- where all disks tell, the sink took the text of what the job says
   abbrev pub Prints : Devices disk → Status → List Event → Type 0
-  Prints after status trace = AllTell disk.held before.disks → TakesText (said_of words before) status before.out after.out trace
+  Prints after status trace = AllTell disk.held before.disks → TakesText (work_said words before) status before.out after.out trace
 
   -- the status has its cause, in what is asked for or in a device that is used
   abbrev pub Answers : Devices disk → Status → List Event → Type 0
-  Answers after status trace = HasCause (asked_of words before) (in_use reads before) (in_use reads after) trace status
+  Answers after status trace = HasCause (asked_of words before) (in_use asks_for_a_job before) (in_use asks_for_a_job after) trace status
 
   -- the status that is due comes, unless memory runs out
   abbrev pub WhatIsDueComes : Devices disk → Status → Type 0
-  WhatIsDueComes after status = (due : Status) → IsDue (asked_of words before) (in_use reads before) (in_use reads after) due → (status ≡ due) ⊎ (status ≡ OutOfMemory)
+  WhatIsDueComes after status = (due : Status) → IsDue (asked_of words before) (in_use asks_for_a_job before) (in_use asks_for_a_job after) due → (status ≡ due) ⊎ (status ≡ OutOfMemory)
 
   -- there is nothing to write
   abbrev pub WritesNothing : Status → Type 0

@@ -41,8 +41,8 @@ reads_source (Some o) = is_none o.application
 
 module _ {D : Type 0} {disk : DiskOf D} (words : List Text) (before : Devices disk) where
   -- what the words and the job text say, by themselves
-  abbrev pub said_of : Asked
-  said_of = asked_through (λ o. said_by o (sizes before)) (options words) before.source.bytes
+  abbrev pub work_said : Asked
+  work_said = asked_through (λ o. said_by o (sizes before)) (options words) before.source.bytes
 
   -- what they ask for: what they say, within the limits of lowering
   abbrev pub asked_of : Asked

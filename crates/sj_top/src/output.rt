@@ -4,7 +4,7 @@ ghost use Rattle.std.specs.Prelude.{◌≡◌, ◌++◌, ◌∷◌, ◌*◌, if�
 ghost use Rattle.std.specs.List.{join_with_byte};
 ghost use Rattle.sj_apps.specs.Summary.{summary_line};
 ghost use Rattle.sj_base.specs.Array.{area, array};
-ghost use Rattle.sj_top.specs.Output.{element_text, row_text, rows_of, block_of};
+ghost use Rattle.sj_top.specs.Output.{element_text, row_text, printed_rows, block_text};
 
 use itoa::Buffer;
 use sj_apps::summary::write_summary;
@@ -65,7 +65,7 @@ fn write_row(text: &mut Vec<u8>, elements: &[i64]) -> Result<(), OutOfMemory>
 fn write_rows(text: &mut Vec<u8>, dims: Dims, elements: &[i64]) -> Result<(), OutOfMemory>
     requires { length elements.now ≡ area dims }
     ensures { OnOk result (text.new.items
-        ≡ text.old.items ++ flat_map row_text (rows_of (array dims elements.now))) }
+        ≡ text.old.items ++ flat_map row_text (printed_rows (array dims elements.now))) }
 {
     let cols = dims.cols as usize;
     for i in 0..dims.rows as usize {
@@ -98,7 +98,7 @@ fn write_dims(text: &mut Vec<u8>, dims: Dims) -> Result<(), OutOfMemory>
 
 /// Appends the elements of an array: `NAME: ` and those of a vector, `NAME R C:` and the rows of a matrix. Linear in the text.
 fn write_array(text: &mut Vec<u8>, name: &[u8], kind: Kind, tile: &Tile) -> Result<(), OutOfMemory>
-    ensures { OnOk result (text.new.items ≡ text.old.items ++ block_of kind name.now tile.now) }
+    ensures { OnOk result (text.new.items ≡ text.old.items ++ block_text kind name.now tile.now) }
 {
     text.extend_from_slice(name)?;
     match kind {
@@ -123,7 +123,7 @@ pub fn write_printed(
     summary: bool,
 ) -> Result<(), OutOfMemory>
     ensures { OnOk result (text.new.items ≡ text.old.items ++ (if summary
-        then summary_line name.now tile.now else block_of kind name.now tile.now)) }
+        then summary_line name.now tile.now else block_text kind name.now tile.now)) }
 {
     if summary {
         write_summary(text, name, tile)

@@ -5,7 +5,7 @@ ghost use Rattle.std.specs.Io.KnownBytes.{Appends};
 ghost use Rattle.sj_edge.specs.Faults.{Counts};
 ghost use Rattle.sj_top.specs.Device.{seen};
 ghost use Rattle.sj_top.specs.Streams.{TakesPrefix};
-ghost use Rattle.sj_top.specs.Report.{damage_line, disk_line, limit_name, reason_word, limit_word, line_of, swap_line, too_large_line, TakesLine};
+ghost use Rattle.sj_top.specs.Report.{damage_line, disk_line, limit_name, reason_word, limit_word, status_line, swap_line, too_large_line, TakesLine};
 
 use crate::sink_text::write_text;
 use crate::status::Status;
@@ -103,7 +103,7 @@ fn write_line_of<E: Sink>(err: &mut E, pieces: &[&[u8]])
 
 fn report_refusal<E: Sink>(line: Line, reason: Reason, err: &mut E)
     ensures { TakesLine (seen E.taken E.faults err.old) (seen E.taken E.faults err.new)
-        (line_of (Status.Refused line reason)) }
+        (status_line (Status.Refused line reason)) }
 {
     let mut buffer = Buffer::new();
     let number = buffer.format(line.0).as_bytes();
@@ -200,7 +200,7 @@ fn report_damage<E: Sink>(disk: DiskNo, want: Header, found: Header, err: &mut E
 /// takes whole pieces.
 pub fn report<E: Sink>(status: Status, err: &mut E)
     ensures { TakesLine (seen E.taken E.faults err.old) (seen E.taken E.faults err.new)
-        (line_of status) }
+        (status_line status) }
 {
     match status {
         Status::Done => write_line(err, &[]),

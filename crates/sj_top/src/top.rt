@@ -11,7 +11,7 @@ ghost use Rattle.sj_words.specs.Options.{IsWithinLimits as AreLimited, options a
 ghost use Rattle.sj_words.specs.Spelling.{texts};
 ghost use Rattle.sj_top.specs.Answers.{AnsweredText, LeavesDisks, WritesText};
 ghost use Rattle.sj_top.specs.Device.{devices, in_use, seen};
-ghost use Rattle.sj_top.specs.Report.{line_of, TakesLine};
+ghost use Rattle.sj_top.specs.Report.{status_line, TakesLine};
 ghost use Rattle.sj_top.specs.Solving.{Solves, TakesAnswer};
 ghost use Rattle.sj_top.specs.Top.{Answers, ComeBack, WhatIsDueComes, HasCause, IsSilent, Prints, TakesText, WritesNothing};
 ghost use Rattle.sj_top.specs.Work.{asked_through, reads_source, told, Told};
@@ -269,10 +269,10 @@ where
 }
 
 /// Runs a job: reads its text from the source, or generates that of the application that the words ask for, runs its tasks on the
-/// workers and nodes that the words or the job ask for, evicts to the disks what doesn't fit, and writes the arrays that it prints
-/// to `out`, as if its tasks had run one after another on plain arrays. Where that ends otherwise, one line goes to `err`. The
-/// disks come back in their order. `words` are those of the command line behind the program's name. The gate is called before the
-/// first task, and before and after each kernel; no clause sees what it does.
+/// workers and nodes that the words or the job ask for, evicts to the disks what doesn't fit, and writes the arrays that it
+/// prints to `out`, as if its tasks had run one after another on plain arrays. Where that ends otherwise, one line goes to `err`.
+/// The disks come back in their order. `words` are those of the command line behind the program's name. The gate is called before
+/// the first task, and before and after each kernel; no clause sees what it does.
 ///
 /// Workers are threads; the call returns when all have ended. The cost is that of reading, running and printing: linear in the
 /// text and in the elements that tasks touch, but for the look-up of names. Memory is a few times the text, the nodes' sizes, and
@@ -339,7 +339,8 @@ where
 
     // `err` takes the status's line, or a front of it where `err` fails; and nothing where the job is done.
     ensures err_takes_the_line { TakesLine
-        (seen E.taken E.faults err.old) (seen E.taken E.faults err.new) (line_of result.status) }
+        (seen E.taken E.faults err.old) (seen E.taken E.faults err.new)
+        (status_line result.status) }
 
     // The disks come back in their order, no count lower; and each as it was at Usage, Refused, TooLarge, SwapTooSmall and
     // SourceFault, which come before the run.

@@ -1,5 +1,5 @@
 -- Which events no text begins with, by the verb that stands first.
-use Rattle.std.proofs.Common.{◌≡◌, ◌≢◌, ℕ, List, ◌++◌, codes, ap, sym, ◌∙◌, arith, drop, get_or}
+use Rattle.std.proofs.Common.{◌≡◌, ℕ, List, ◌++◌, codes, ap, sym, ◌∙◌, arith, drop, get_or}
 use Rattle.sj_base.specs.declared.trace.Event.TheVariants.{Claim, Move, Moved, Drop, Run, End}
 use Rattle.sj_trace.specs.Text.{line_of}
 use Rattle.sj_trace.specs.Reading.{EventFits, TaskFits, DropFits, TransferFits, task_line, transfer_line, drop_line}
@@ -28,15 +28,3 @@ no-moved words text is none e s fits h = absurd (omega (arith, ap (λ l. get_or 
 pub no-drop : (words text : List ℕ) → codes "drop " ++ words ≡ text → NoneFirst DropFits drop_line words → NoneFirst EventFits line_of text
 no-drop words text is none (Drop c n) s fits h = none (c, n) s fits (ap (drop 5) (h ∙ sym is))
 no-drop words text is none e s fits h = absurd (omega (arith, ap (λ l. get_or l 0 0) (h ∙ sym is)))
-
--- a text does not begin with this
-abbrev pub NotFirst : List ℕ → List ℕ → Type 0
-NotFirst front text = (rest : List ℕ) → front ++ rest ≢ text
-
-pub no-verb : (text : List ℕ) → NotFirst (codes "claim ") text → NotFirst (codes "run ") text → NotFirst (codes "end ") text → NotFirst (codes "move ") text → NotFirst (codes "moved ") text → NotFirst (codes "drop ") text → NoneFirst EventFits line_of text
-no-verb text claim run end move moved drop (Claim t w) s fits h = claim (task_line (t, w) ++ s) h
-no-verb text claim run end move moved drop (Run t w) s fits h = run (task_line (t, w) ++ s) h
-no-verb text claim run end move moved drop (End t w) s fits h = end (task_line (t, w) ++ s) h
-no-verb text claim run end move moved drop (Move c from to) s fits h = move (transfer_line (c, from, to) ++ s) h
-no-verb text claim run end move moved drop (Moved c from to) s fits h = moved (transfer_line (c, from, to) ++ s) h
-no-verb text claim run end move moved drop (Drop c n) s fits h = drop (drop_line (c, n) ++ s) h

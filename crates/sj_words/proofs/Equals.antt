@@ -1,20 +1,9 @@
 -- The first `=` of a text.
-use Rattle.std.proofs.Common.{◌≡◌, ℕ, suc, ◌+◌, ◌-◌, ◌<◌, ◌≤◌, nat_eq, not, ◌||◌, Bool, true, false, List, [], ◌∷◌, length, take, drop, refl, ap, ◌∙◌, sym, cond, arith, Option, Some, None, unwrap_or}
+use Rattle.std.proofs.Common.{◌≡◌, ℕ, suc, ◌+◌, ◌-◌, ◌<◌, ◌≤◌, not, ◌||◌, Bool, true, false, List, [], ◌∷◌, length, take, drop, refl, ap, ◌∙◌, sym, cond, arith, Some, None}
 use Rattle.std.specs.List.{position_or_len, list_any}
 use Rattle.std.proofs.lemmas.List.{take_all}
-use Rattle.std.proofs.lemmas.List.Sums.{position_or_len_is}
 use Rattle.std.proofs.Math.ListN.{length-drop}
-use Rattle.std.proofs.lemmas.Bool.{false_from_ne_true}
-use Rattle.memchr.specs.Find.{IsFirstByte, is_byte}
 use Rattle.sj_words.specs.Spelling.{Text, around_equals, is_equals}
-
--- the place of the first such byte, or the length where there is none
-pub first-position : (b : ℕ) (bs : List ℕ) (r : Option ℕ) → IsFirstByte (is_byte b) bs r → unwrap_or r (length bs) ≡ position_or_len (λ c. nat_eq c b) bs
-first-position b bs None none =
-    sym (position_or_len_is (λ c. nat_eq c b) bs (length bs) 0 (omega arith) (λ k lt. false_from_ne_true _ (none k (omega arith) lt)) (λ lt. absurd (omega arith)))
-first-position b bs (Some k) found =
-    let le : k ≤ length bs = omega (arith, found.0.high) in
-    sym (position_or_len_is (λ c. nat_eq c b) bs k 0 le (λ j lt. false_from_ne_true _ (found.0.before j (omega arith) lt)) (λ lt. found.1))
 
 module _ (p : ℕ → Bool) where
   none_step : (t : Bool) (xs : List ℕ) → (position_or_len p xs ≡ length xs → list_any p xs ≡ false) → cond (not t) (1 + position_or_len p xs) 0 ≡ suc (length xs) → (t || list_any p xs) ≡ false

@@ -12,7 +12,7 @@ use Rattle.clap.specs.Walk.{Held, Walk, walked, settled_rows, has_row, finished}
 use Rattle.clap.specs.Takes.{default_passes, entered_passes, is_valid, long_passes, settle_passes, step_passes, turn_passes, walk_passes}
 use Rattle.clap.specs.Simple.{entered}
 use Rattle.clap.proofs.OnLiterals.{clap_on_literals}
-use Rattle.sj_words.specs.Spelling.{Text, is_flag, is_option, is_value, named, alone, with_next, first_then, or_else, said, stands_once}
+use Rattle.sj_words.specs.Spelling.{Text, is_flag, is_option, is_value, named, told_alone, with_next, first_then, or_else, names_said, stands_once}
 use Rattle.sj_words.specs.Command.{the_app}
 use Rattle.sj_words.proofs.Walking.{reads_option, rules, at, waits, met, use_pair, next_step, alone_step, named_whole, of_flag, mapped, picks, or_cases, is_no_dashes, is_no_long, is_no_short, are_new, put_new, new_more, all_new}
 
@@ -140,7 +140,7 @@ value_passes name word rows skip p r e =
 
 -- one thing said alone passes
 alone_passes : (word : Text) (head : Option (Text × Option Text)) (q : Text × Text) (rows : List Row) (pending : Option (Text × List Text)) (skip p : ℕ)
-    → named word ≡ head → alone head ≡ Some q → settles rows pending skip ≡ true → has_row q.0 (settled_rows rules pending rows) ≡ false → turn_passes top [] (at rows pending skip p) word ≡ true
+    → named word ≡ head → told_alone head ≡ Some q → settles rows pending skip ≡ true → has_row q.0 (settled_rows rules pending rows) ≡ false → turn_passes top [] (at rows pending skip p) word ≡ true
 alone_passes word None q rows pending skip p is e settled new = absurd (none-some q e)
 alone_passes word (Some (name, None)) q rows pending skip p is e settled new =
     let h = picks (is_flag name) (name, []) q e in
@@ -204,19 +204,19 @@ used_first q ps rows new once =
     let mine = not-true (has_row q.0 rows) both.0 in
     record { new = mine; others = ap (λ r. are_new r ps) (put_new q rows mine) ∙ new_more q rows ps both.1 (not-true (list_any (λ p. bytes_eq q.0 p.0) ps) apart.0); once = apart.1 }
 
-well_alone : (word : Text) (words : List Text) (ps : List (Text × Text)) → ((rest : List (Text × Text)) → said words ≡ Some rest → Well words rest) → (q : Text × Text) → alone (named word) ≡ Some q
-    → option_map (λ xs. q ∷ xs) (said words) ≡ Some ps → Well (word ∷ words) ps
+well_alone : (word : Text) (words : List Text) (ps : List (Text × Text)) → ((rest : List (Text × Text)) → names_said words ≡ Some rest → Well words rest) → (q : Text × Text) → told_alone (named word) ≡ Some q
+    → option_map (λ xs. q ∷ xs) (names_said words) ≡ Some ps → Well (word ∷ words) ps
 well_alone word words ps ih q e so =
-    let m = mapped q (said words) ps so in
+    let m = mapped q (names_said words) ps so in
     subst (Well (word ∷ words)) m.2 (λ rows pending skip p settled new once.
     let u = used_first q m.0 (settled_rows rules pending rows) new once in
     well_more words word (at rows pending skip p) (alone_passes word (named word) q rows pending skip p refl e settled u.new)
     (subst (EndsWell words) (sym (alone_step word (named word) q rows pending skip p refl e)) (ih m.0 m.1 (use_pair (settled_rows rules pending rows) q) None skip p refl u.others u.once)))
 
-well_next : (word next : Text) (words : List Text) (ps : List (Text × Text)) → ((rest : List (Text × Text)) → said words ≡ Some rest → Well words rest) → (q : Text × Text) → with_next (named word) next ≡ Some q
-    → option_map (λ xs. q ∷ xs) (said words) ≡ Some ps → Well (word ∷ next ∷ words) ps
+well_next : (word next : Text) (words : List Text) (ps : List (Text × Text)) → ((rest : List (Text × Text)) → names_said words ≡ Some rest → Well words rest) → (q : Text × Text) → with_next (named word) next ≡ Some q
+    → option_map (λ xs. q ∷ xs) (names_said words) ≡ Some ps → Well (word ∷ next ∷ words) ps
 well_next word next words ps ih q e so =
-    let m = mapped q (said words) ps so in
+    let m = mapped q (names_said words) ps so in
     let b = next_step word next (named word) q refl e in
     let n = next_passes_too word next (named word) q refl e in
     subst (Well (word ∷ next ∷ words)) m.2 (λ rows pending skip p settled new once.
@@ -227,13 +227,13 @@ well_next word next words ps ih q e so =
     (subst (EndsWell words) (sym (b.walks rows pending skip p))
     (ih m.0 m.1 r (Some (q.0, q.1 ∷ [])) skip p (n.settled r skip u.new) (ap (λ x. are_new x m.0) (b.settles r) ∙ u.others) u.once))))
 
-well_one : (word : Text) (a : Option (Text × Text)) (ps : List (Text × Text)) → alone (named word) ≡ a → ((rest : List (Text × Text)) → said [] ≡ Some rest → Well [] rest) → first_then a (Some []) ≡ Some ps → Well (word ∷ []) ps
+well_one : (word : Text) (a : Option (Text × Text)) (ps : List (Text × Text)) → told_alone (named word) ≡ a → ((rest : List (Text × Text)) → names_said [] ≡ Some rest → Well [] rest) → first_then a (Some []) ≡ Some ps → Well (word ∷ []) ps
 well_one word None ps is ih so = absurd (none-some ps so)
 well_one word (Some q) ps is ih so = well_alone word [] ps ih q is so
 
-well_two : (word next : Text) (words : List Text) (a b : Option (Text × Text)) (ps : List (Text × Text)) → alone (named word) ≡ a → with_next (named word) next ≡ b
-    → ((rest : List (Text × Text)) → said (next ∷ words) ≡ Some rest → Well (next ∷ words) rest) → ((rest : List (Text × Text)) → said words ≡ Some rest → Well words rest)
-    → or_else a (first_then a (said (next ∷ words))) (first_then b (said words)) ≡ Some ps → Well (word ∷ next ∷ words) ps
+well_two : (word next : Text) (words : List Text) (a b : Option (Text × Text)) (ps : List (Text × Text)) → told_alone (named word) ≡ a → with_next (named word) next ≡ b
+    → ((rest : List (Text × Text)) → names_said (next ∷ words) ≡ Some rest → Well (next ∷ words) rest) → ((rest : List (Text × Text)) → names_said words ≡ Some rest → Well words rest)
+    → or_else a (first_then a (names_said (next ∷ words))) (first_then b (names_said words)) ≡ Some ps → Well (word ∷ next ∷ words) ps
 well_two word next words (Some q) b ps is by more ih so = well_alone word (next ∷ words) ps more q is so
 well_two word next words None None ps is by more ih so = absurd (none-some ps so)
 well_two word next words None (Some q) ps is by more ih so = well_next word next words ps ih q by so
@@ -242,10 +242,10 @@ nothing_more : (rows : List Row) (pending : Option (Text × List Text)) (skip p 
 unfolding clap_on_literals
 nothing_more rows pending skip p settled = record { passes = refl; settled = settled; whole = refl }
 
-well : (words : List Text) (ps : List (Text × Text)) → said words ≡ Some ps → Well words ps
+well : (words : List Text) (ps : List (Text × Text)) → names_said words ≡ Some ps → Well words ps
 well [] ps so = λ rows pending skip p settled new once. nothing_more rows pending skip p settled
-well (word ∷ []) ps so = well_one word (alone (named word)) ps refl (well []) so
-well (word ∷ (next ∷ words)) ps so = well_two word next words (alone (named word)) (with_next (named word) next) ps refl refl (well (next ∷ words)) (well words) so
+well (word ∷ []) ps so = well_one word (told_alone (named word)) ps refl (well []) so
+well (word ∷ (next ∷ words)) ps so = well_two word next words (told_alone (named word)) (with_next (named word) next) ps refl refl (well (next ∷ words)) (well words) so
 
 -- ---- the parse succeeds
 
@@ -264,7 +264,7 @@ all_passes : (words : List Text) → parse_passes words None true true ≡ true
 unfolding clap_on_literals
 all_passes words = refl
 
-pub takes_said : (words : List Text) (ps : List (Text × Text)) → said words ≡ Some ps → stands_once ps ≡ true → takes the_app words ≡ true
+pub takes_said : (words : List Text) (ps : List (Text × Text)) → names_said words ≡ Some ps → stands_once ps ≡ true → takes the_app words ≡ true
 takes_said words ps so once =
     let e = well words ps so [] None 0 1 refl (all_new ps) once in
     takes_is words ∙ (λ i. parse_passes words (e.whole i) (e.passes i) (e.settled i)) ∙ all_passes words

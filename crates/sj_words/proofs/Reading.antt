@@ -2,13 +2,13 @@
 use Rattle.std.proofs.Common.{◌≡◌, ◌∙◌, Bool, true, false, List, map, Option, Some, None, refl, sym, ap, option_map, if◌then◌else◌}
 use Rattle.std.specs.Option.{option_and_then}
 use Rattle.std.proofs.lemmas.Option.{none-some, same_Some}
-use Rattle.sj_words.specs.Spelling.{AreSpelled, Text, said, stands_once}
+use Rattle.sj_words.specs.Spelling.{AreSpelled, Text, names_said, stands_once}
 use Rattle.sj_words.specs.Steps.{are_distinct, said_names}
 use Rattle.sj_words.specs.Options.{asked_for, options}
 use Rattle.sj_words.proofs.Spelled.{distinct_names}
 
 pub unsaid : (words : List Text) → said_names words ≡ None → options words ≡ None
-unsaid words e = go (said words) e
+unsaid words e = go (names_said words) e
   where
     go : (s : Option (List (Text × Text))) → option_map (map (λ p. p.0)) s ≡ None → option_and_then (λ ps. if stands_once ps then asked_for ps else None) s ≡ None
     go None e = refl
@@ -17,13 +17,13 @@ unsaid words e = go (said words) e
 -- the pairs whose names are said
 pub record AreSaid (words : List Text) (names : List Text) : Type 0 where
   pub ps : List (Text × Text)
-  pub said_are : said words ≡ Some ps
+  pub said_are : names_said words ≡ Some ps
   pub names_are : map (λ p. p.0) ps ≡ names
 
 pub are_said : (words names : List Text) → said_names words ≡ Some names → AreSaid words names
-are_said words names e = go (said words) refl e
+are_said words names e = go (names_said words) refl e
   where
-    go : (s : Option (List (Text × Text))) → said words ≡ s → option_map (map (λ p. p.0)) s ≡ Some names → AreSaid words names
+    go : (s : Option (List (Text × Text))) → names_said words ≡ s → option_map (map (λ p. p.0)) s ≡ Some names → AreSaid words names
     go None is e = absurd (none-some names e)
     go (Some ps) is e = record { ps = ps; said_are = is; names_are = same_Some (map (λ p. p.0) ps) names e }
 

@@ -4,11 +4,8 @@ use Rattle.std.proofs.lemmas.List.{map-append}
 use Rattle.std.proofs.lemmas.Option.{none-some}
 use Rattle.std.specs.List.{list_any}
 use Rattle.std.specs.Str.{bytes_eq}
-use Rattle.sj_words.specs.Spelling.{Text, alone, with_next, first_then, named, or_else, said, stands_once}
+use Rattle.sj_words.specs.Spelling.{Text, told_alone, with_next, first_then, named, or_else, names_said, stands_once}
 use Rattle.sj_words.specs.Steps.{are_distinct, first_said, said_alone_or, said_names, with_word_after}
-
-names_of : Option (List (Text × Text)) → Option (List Text)
-names_of = option_map (map (λ p. p.0))
 
 -- the name of a first thing, and the names behind it
 abbrev pub then_names : Option (Text × List Text) → Option (List Text)
@@ -20,17 +17,17 @@ named_first p None = refl
 named_first p (Some ps) = refl
 
 pub names_step : (word : Text) (rest : List Text) → said_names (word ∷ rest) ≡ then_names (first_said (word ∷ rest))
-names_step word [] = go (alone (named word))
+names_step word [] = go (told_alone (named word))
   where
     go : (a : Option (Text × Text)) → option_map (map (λ q. q.0)) (first_then a (Some [])) ≡ then_names (said_alone_or a [] None)
     go None = refl
     go (Some p) = refl
-names_step word (next ∷ rest) = go (alone (named word)) (with_next (named word) next)
+names_step word (next ∷ rest) = go (told_alone (named word)) (with_next (named word) next)
   where
-    go : (a b : Option (Text × Text)) → option_map (map (λ q. q.0)) (or_else a (first_then a (said (next ∷ rest))) (first_then b (said rest))) ≡ then_names (said_alone_or a (next ∷ rest) (with_word_after b rest))
+    go : (a b : Option (Text × Text)) → option_map (map (λ q. q.0)) (or_else a (first_then a (names_said (next ∷ rest))) (first_then b (names_said rest))) ≡ then_names (said_alone_or a (next ∷ rest) (with_word_after b rest))
     go None None = refl
-    go None (Some q) = named_first q (said rest)
-    go (Some p) b = named_first p (said (next ∷ rest))
+    go None (Some q) = named_first q (names_said rest)
+    go (Some p) b = named_first p (names_said (next ∷ rest))
 
 -- one more name, before those that are left
 pub names_more : (names : List Text) (name : Text) (s : Option (List Text)) → option_map (λ ns. names ++ ns) (option_map (λ ns. name ∷ ns) s) ≡ option_map (λ ns. (names ++ name ∷ []) ++ ns) s

@@ -11,13 +11,13 @@ use Rattle.std.proofs.lemmas.List.Folds.{find-append}
 use Rattle.std.proofs.lemmas.Bool.{and_parts, not-true, or_parts}
 use Rattle.clap.specs.Lexer.{long_of, short_of}
 use Rattle.clap.specs.Words.{Row, Rule, built, is_simple, matches_of, rows_of, first_of, one_of}
-use Rattle.clap.specs.Walk.{Held, Walk, Waiting, Step, idle, option, trailing, walked, settled_rows, with_values, without, at_row, with_default, has_row, after_step, long_word, short_or_plain}
+use Rattle.clap.specs.Walk.{Held, Walk, Step, idle, option, trailing, walked, settled_rows, with_values, without, at_row, with_default, has_row, after_step, long_word, short_or_plain}
 use Rattle.clap.specs.declared.builder.value_parser.Reading.TheVariants.{AsWritten}
 use Rattle.clap.specs.declared.parser.matches.ValueSource.TheVariants.{DefaultValue, CommandLine}
 use Rattle.clap.specs.declared.parser.matches.Found.{Found}
 use Rattle.clap.proofs.OnLiterals.{clap_on_literals}
 use Rattle.clap.proofs.WalkLemmas.{first_value-rows, one_text-rows}
-use Rattle.sj_words.specs.Spelling.{Text, is_flag, is_option, is_value, is_equals, around_equals, after_dash, named, alone, with_next, first_then, or_else, said, stands_once, given}
+use Rattle.sj_words.specs.Spelling.{Text, is_flag, is_option, is_value, is_equals, around_equals, after_dash, named, told_alone, with_next, first_then, or_else, names_said, stands_once, given}
 use Rattle.sj_words.specs.Command.{the_app, HoldsGiven}
 
 pub the_app_is_simple : is_simple the_app ≡ true
@@ -236,7 +236,7 @@ walked_value name word rows skip p r e =
     walked_next name word rows skip p ∙ (λ i. next_walk name word rows skip p (is_no_dashes word e i) (is_no_long word e i) (is_no_short word e i)) ∙ r.value word rows skip p
 
 pub alone_step : (word : Text) (head : Option (Text × Option Text)) (q : Text × Text) (rows : List Row) (pending : Option (Text × List Text)) (skip p : ℕ)
-    → named word ≡ head → alone head ≡ Some q → walked rules [] (at rows pending skip p) word ≡ at (use_pair (settled_rows rules pending rows) q) None skip p
+    → named word ≡ head → told_alone head ≡ Some q → walked rules [] (at rows pending skip p) word ≡ at (use_pair (settled_rows rules pending rows) q) None skip p
 alone_step word None q rows pending skip p is e = absurd (none-some q e)
 alone_step word (Some (name, None)) q rows pending skip p is e =
     let h = picks (is_flag name) (name, []) q e in
@@ -281,37 +281,37 @@ pub mapped : (q : Text × Text) (s : Option (List (Text × Text))) (ps : List (T
 mapped q None ps e = absurd (none-some ps e)
 mapped q (Some rest) ps e = (rest, refl, same_Some (q ∷ rest) ps e)
 
-ends_alone : (word : Text) (words : List Text) (a : Option (Text × Text)) (ps : List (Text × Text)) → alone (named word) ≡ a → ((rest : List (Text × Text)) → said words ≡ Some rest → Ends words rest)
-    → (q : Text × Text) → a ≡ Some q → option_map (λ xs. q ∷ xs) (said words) ≡ Some ps → Ends (word ∷ words) ps
+ends_alone : (word : Text) (words : List Text) (a : Option (Text × Text)) (ps : List (Text × Text)) → told_alone (named word) ≡ a → ((rest : List (Text × Text)) → names_said words ≡ Some rest → Ends words rest)
+    → (q : Text × Text) → a ≡ Some q → option_map (λ xs. q ∷ xs) (names_said words) ≡ Some ps → Ends (word ∷ words) ps
 ends_alone word words a ps is ih q e so =
-    let m = mapped q (said words) ps so in
+    let m = mapped q (names_said words) ps so in
     subst (Ends (word ∷ words)) m.2 (λ rows pending skip p.
     ap (λ w. end_rows (fold (walked rules []) w words)) (alone_step word (named word) q rows pending skip p refl (is ∙ e)) ∙ ih m.0 m.1 (use_pair (settled_rows rules pending rows) q) None skip p)
 
-ends_next : (word next : Text) (words : List Text) (ps : List (Text × Text)) → ((rest : List (Text × Text)) → said words ≡ Some rest → Ends words rest)
-    → (q : Text × Text) → with_next (named word) next ≡ Some q → option_map (λ xs. q ∷ xs) (said words) ≡ Some ps → Ends (word ∷ next ∷ words) ps
+ends_next : (word next : Text) (words : List Text) (ps : List (Text × Text)) → ((rest : List (Text × Text)) → names_said words ≡ Some rest → Ends words rest)
+    → (q : Text × Text) → with_next (named word) next ≡ Some q → option_map (λ xs. q ∷ xs) (names_said words) ≡ Some ps → Ends (word ∷ next ∷ words) ps
 ends_next word next words ps ih q e so =
-    let m = mapped q (said words) ps so in
+    let m = mapped q (names_said words) ps so in
     let b = next_step word next (named word) q refl e in
     subst (Ends (word ∷ next ∷ words)) m.2 (λ rows pending skip p.
     ap (λ w. end_rows (fold (walked rules []) w words)) (b.walks rows pending skip p) ∙ ih m.0 m.1 (settled_rows rules pending rows) (Some (q.0, q.1 ∷ [])) skip p
     ∙ ap (λ r. fold use_pair r m.0) (b.settles (settled_rows rules pending rows)))
 
-ends_one : (word : Text) (a : Option (Text × Text)) (ps : List (Text × Text)) → alone (named word) ≡ a → ((rest : List (Text × Text)) → said [] ≡ Some rest → Ends [] rest) → first_then a (Some []) ≡ Some ps → Ends (word ∷ []) ps
+ends_one : (word : Text) (a : Option (Text × Text)) (ps : List (Text × Text)) → told_alone (named word) ≡ a → ((rest : List (Text × Text)) → names_said [] ≡ Some rest → Ends [] rest) → first_then a (Some []) ≡ Some ps → Ends (word ∷ []) ps
 ends_one word None ps is ih so = absurd (none-some ps so)
 ends_one word (Some q) ps is ih so = ends_alone word [] (Some q) ps is ih q refl so
 
-ends_two : (word next : Text) (words : List Text) (a b : Option (Text × Text)) (ps : List (Text × Text)) → alone (named word) ≡ a → with_next (named word) next ≡ b
-    → ((rest : List (Text × Text)) → said (next ∷ words) ≡ Some rest → Ends (next ∷ words) rest) → ((rest : List (Text × Text)) → said words ≡ Some rest → Ends words rest)
-    → or_else a (first_then a (said (next ∷ words))) (first_then b (said words)) ≡ Some ps → Ends (word ∷ next ∷ words) ps
+ends_two : (word next : Text) (words : List Text) (a b : Option (Text × Text)) (ps : List (Text × Text)) → told_alone (named word) ≡ a → with_next (named word) next ≡ b
+    → ((rest : List (Text × Text)) → names_said (next ∷ words) ≡ Some rest → Ends (next ∷ words) rest) → ((rest : List (Text × Text)) → names_said words ≡ Some rest → Ends words rest)
+    → or_else a (first_then a (names_said (next ∷ words))) (first_then b (names_said words)) ≡ Some ps → Ends (word ∷ next ∷ words) ps
 ends_two word next words (Some q) b ps is by more ih so = ends_alone word (next ∷ words) (Some q) ps is more q refl so
 ends_two word next words None None ps is by more ih so = absurd (none-some ps so)
 ends_two word next words None (Some q) ps is by more ih so = ends_next word next words ps ih q by so
 
-ends : (words : List Text) (ps : List (Text × Text)) → said words ≡ Some ps → Ends words ps
+ends : (words : List Text) (ps : List (Text × Text)) → names_said words ≡ Some ps → Ends words ps
 ends [] ps so = subst (Ends []) (same_Some [] ps so) (λ rows pending skip p. refl)
-ends (word ∷ []) ps so = ends_one word (alone (named word)) ps refl (ends []) so
-ends (word ∷ (next ∷ words)) ps so = ends_two word next words (alone (named word)) (with_next (named word) next) ps refl refl (ends (next ∷ words)) (ends words) so
+ends (word ∷ []) ps so = ends_one word (told_alone (named word)) ps refl (ends []) so
+ends (word ∷ (next ∷ words)) ps so = ends_two word next words (told_alone (named word)) (with_next (named word) next) ps refl refl (ends (next ∷ words)) (ends words) so
 
 -- ---- the rows of names that stand once
 
@@ -380,7 +380,7 @@ matches_are : (words : List Text) → matches_of the_app words ≡ fold with_def
 unfolding clap_on_literals
 matches_are words = refl
 
-found_rows : (words : List Text) (ps : List (Text × Text)) → said words ≡ Some ps → stands_once ps ≡ true → matches_of the_app words ≡ both_unset (map pair_row ps)
+found_rows : (words : List Text) (ps : List (Text × Text)) → names_said words ≡ Some ps → stands_once ps ≡ true → matches_of the_app words ≡ both_unset (map pair_row ps)
 found_rows words ps so once =
     matches_are words ∙ ap (λ r. fold with_default r rules) (ends words ps so [] None 0 1 ∙ used_in_order ps [] once (all_new ps)) ∙ defaults (map pair_row ps)
 
@@ -487,7 +487,7 @@ summary_found ps =
     flag_text (codes "summary") (with_unset (codes "trace") rows) (has_row (codes "summary") (with_unset (codes "trace") rows)) refl refl
     ∙ ap flag_said (unset_else (codes "trace") (codes "summary") rows (has_row (codes "trace") rows) refl refl) ∙ flag_given (codes "summary") ps refl
 
-pub holds_given : (found : Found) (words : List Text) (ps : List (Text × Text)) → rows_of found ≡ matches_of the_app words → said words ≡ Some ps → stands_once ps ≡ true → HoldsGiven found ps
+pub holds_given : (found : Found) (words : List Text) (ps : List (Text × Text)) → rows_of found ≡ matches_of the_app words → names_said words ≡ Some ps → stands_once ps ≡ true → HoldsGiven found ps
 holds_given found words ps rows so once =
     let all = rows ∙ found_rows words ps so once in
     record {

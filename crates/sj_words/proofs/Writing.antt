@@ -6,7 +6,7 @@ use Rattle.std.specs.Str.{bytes_eq}
 use Rattle.std.proofs.lemmas.Slice.Eq.{bytes_eq-Decides}
 use Rattle.std.proofs.lemmas.Option.{none-some, same_Some}
 use Rattle.std.proofs.lemmas.Bool.{and_parts}
-use Rattle.sj_words.specs.Spelling.{Text, alone, first_then, is_flag, is_option, is_value, named, or_else, said, stands_once, with_next}
+use Rattle.sj_words.specs.Spelling.{Text, told_alone, first_then, is_flag, is_option, is_value, named, or_else, names_said, stands_once, with_next}
 use Rattle.sj_words.specs.Options.{asked_for, options}
 use Rattle.sj_words.specs.Written.{Item, flag, apart, joined, is_item, words_of, words_of_all, pair_of, AreWritten, AskFor}
 use Rattle.sj_words.specs.declared.options.Options.{Options}
@@ -22,7 +22,7 @@ written_more item words rest q ps good are pair w = (
   (λ i. pair i ∷ w.3 i),
 )
 
-alone_written : (word : Text) (rest : List Text) (head : Option (Text × Option Text)) (q : Text × Text) (ps : List (Text × Text)) → named word ≡ head → alone head ≡ Some q → AreWritten rest ps → AreWritten (word ∷ rest) (q ∷ ps)
+alone_written : (word : Text) (rest : List Text) (head : Option (Text × Option Text)) (q : Text × Text) (ps : List (Text × Text)) → named word ≡ head → told_alone head ≡ Some q → AreWritten rest ps → AreWritten (word ∷ rest) (q ∷ ps)
 alone_written word rest None q ps is e w = absurd (none-some q e)
 alone_written word rest (Some (name, None)) q ps is e w =
     let h = picks (is_flag name) (name, []) q e in
@@ -39,29 +39,29 @@ next_written word next rest (Some (name, None)) q ps is e w =
     written_more (apart name next) (word ∷ next ∷ rest) rest q ps h.0 (ap (λ x. x ∷ next ∷ rest) (named_whole word (name, None) is)) h.1 w
 
 abbrev Writes : List Text → Type 0
-Writes words = (ps : List (Text × Text)) → said words ≡ Some ps → AreWritten words ps
+Writes words = (ps : List (Text × Text)) → names_said words ≡ Some ps → AreWritten words ps
 
-first_written : (word : Text) (rest : List Text) → Writes rest → (q : Text × Text) (ps : List (Text × Text)) → alone (named word) ≡ Some q → option_map (λ xs. q ∷ xs) (said rest) ≡ Some ps → AreWritten (word ∷ rest) ps
+first_written : (word : Text) (rest : List Text) → Writes rest → (q : Text × Text) (ps : List (Text × Text)) → told_alone (named word) ≡ Some q → option_map (λ xs. q ∷ xs) (names_said rest) ≡ Some ps → AreWritten (word ∷ rest) ps
 first_written word rest ih q ps e so =
-    let m = mapped q (said rest) ps so in
+    let m = mapped q (names_said rest) ps so in
     subst (AreWritten (word ∷ rest)) m.2 (alone_written word rest (named word) q m.0 refl e (ih m.0 m.1))
 
-one_written : (word : Text) (a : Option (Text × Text)) → Writes [] → alone (named word) ≡ a → (ps : List (Text × Text)) → first_then a (Some []) ≡ Some ps → AreWritten (word ∷ []) ps
+one_written : (word : Text) (a : Option (Text × Text)) → Writes [] → told_alone (named word) ≡ a → (ps : List (Text × Text)) → first_then a (Some []) ≡ Some ps → AreWritten (word ∷ []) ps
 one_written word None ih is ps so = absurd (none-some ps so)
 one_written word (Some q) ih is ps so = first_written word [] ih q ps is so
 
-two_written : (word next : Text) (rest : List Text) (a b : Option (Text × Text)) → Writes (next ∷ rest) → Writes rest → alone (named word) ≡ a → with_next (named word) next ≡ b
-    → (ps : List (Text × Text)) → or_else a (first_then a (said (next ∷ rest))) (first_then b (said rest)) ≡ Some ps → AreWritten (word ∷ next ∷ rest) ps
+two_written : (word next : Text) (rest : List Text) (a b : Option (Text × Text)) → Writes (next ∷ rest) → Writes rest → told_alone (named word) ≡ a → with_next (named word) next ≡ b
+    → (ps : List (Text × Text)) → or_else a (first_then a (names_said (next ∷ rest))) (first_then b (names_said rest)) ≡ Some ps → AreWritten (word ∷ next ∷ rest) ps
 two_written word next rest (Some q) b more ih is by ps so = first_written word (next ∷ rest) more q ps is so
 two_written word next rest None None more ih is by ps so = absurd (none-some ps so)
 two_written word next rest None (Some q) more ih is by ps so =
-    let m = mapped q (said rest) ps so in
+    let m = mapped q (names_said rest) ps so in
     subst (AreWritten (word ∷ next ∷ rest)) m.2 (next_written word next rest (named word) q m.0 refl by (ih m.0 m.1))
 
 written : (words : List Text) → Writes words
 written [] ps so = ([], refl, refl, same_Some [] ps so)
-written (word ∷ []) ps so = one_written word (alone (named word)) (written []) refl ps so
-written (word ∷ (next ∷ rest)) ps so = two_written word next rest (alone (named word)) (with_next (named word) next) (written (next ∷ rest)) (written rest) refl refl ps so
+written (word ∷ []) ps so = one_written word (told_alone (named word)) (written []) refl ps so
+written (word ∷ (next ∷ rest)) ps so = two_written word next rest (told_alone (named word)) (with_next (named word) next) (written (next ∷ rest)) (written rest) refl refl ps so
 
 -- ---- from what is written to what is said
 
@@ -94,26 +94,26 @@ names_option name e =
     (or_cases _ _ e)
 
 -- a word that says something alone, before others
-said_alone : (word : Text) (rest : List Text) (q : Text × Text) → alone (named word) ≡ Some q → said (word ∷ rest) ≡ option_map (λ xs. q ∷ xs) (said rest)
+said_alone : (word : Text) (rest : List Text) (q : Text × Text) → told_alone (named word) ≡ Some q → names_said (word ∷ rest) ≡ option_map (λ xs. q ∷ xs) (names_said rest)
 said_alone word [] q e = ap (λ a. first_then a (Some [])) e
-said_alone word (next ∷ rest) q e = ap (λ a. or_else a (first_then a (said (next ∷ rest))) (first_then (with_next (named word) next) (said rest))) e
+said_alone word (next ∷ rest) q e = ap (λ a. or_else a (first_then a (names_said (next ∷ rest))) (first_then (with_next (named word) next) (names_said rest))) e
 
-said_next : (word next : Text) (rest : List Text) (q : Text × Text) → alone (named word) ≡ None → with_next (named word) next ≡ Some q → said (word ∷ next ∷ rest) ≡ option_map (λ xs. q ∷ xs) (said rest)
-said_next word next rest q none e = λ i. or_else (none i) (first_then (none i) (said (next ∷ rest))) (first_then (e i) (said rest))
+said_next : (word next : Text) (rest : List Text) (q : Text × Text) → told_alone (named word) ≡ None → with_next (named word) next ≡ Some q → names_said (word ∷ next ∷ rest) ≡ option_map (λ xs. q ∷ xs) (names_said rest)
+said_next word next rest q none e = λ i. or_else (none i) (first_then (none i) (names_said (next ∷ rest))) (first_then (e i) (names_said rest))
 
-item_said : (item : Item) (rest : List Text) → is_item item ≡ true → said (words_of item ++ rest) ≡ option_map (λ xs. pair_of item ∷ xs) (said rest)
+item_said : (item : Item) (rest : List Text) → is_item item ≡ true → names_said (words_of item ++ rest) ≡ option_map (λ xs. pair_of item ∷ xs) (names_said rest)
 item_said (flag name) rest good =
-    said_alone (45 ∷ 45 ∷ name) rest (name, []) (of_flag (λ n. alone (named (45 ∷ 45 ∷ n)) ≡ Some (n, [])) name refl refl good)
+    said_alone (45 ∷ 45 ∷ name) rest (name, []) (of_flag (λ n. told_alone (named (45 ∷ 45 ∷ n)) ≡ Some (n, [])) name refl refl good)
 item_said (apart name value) rest good =
     let n = names_option name (and_parts (is_option name) (is_value value) good).0 in
     said_next (45 ∷ 45 ∷ name) value rest (name, value)
-    (ap alone n.stands ∙ ap (λ b. if b then Some (name, []) else None) n.no_flag)
+    (ap told_alone n.stands ∙ ap (λ b. if b then Some (name, []) else None) n.no_flag)
     (ap (λ h. with_next h value) n.stands ∙ ap (λ b. if b then Some (name, value) else None) good)
 item_said (joined name value) rest good =
     let n = names_option name (and_parts (is_option name) (is_value value) good).0 in
-    said_alone (45 ∷ 45 ∷ (name ++ 61 ∷ value)) rest (name, value) (ap alone (n.joins value) ∙ ap (λ b. if b then Some (name, value) else None) good)
+    said_alone (45 ∷ 45 ∷ (name ++ 61 ∷ value)) rest (name, value) (ap told_alone (n.joins value) ∙ ap (λ b. if b then Some (name, value) else None) good)
 
-items_said : (items : List Item) → list_all is_item items ≡ true → said (words_of_all items) ≡ Some (map pair_of items)
+items_said : (items : List Item) → list_all is_item items ≡ true → names_said (words_of_all items) ≡ Some (map pair_of items)
 items_said [] good = refl
 items_said (item ∷ items) good =
     let both = and_parts (is_item item) (list_all is_item items) good in
@@ -122,9 +122,9 @@ items_said (item ∷ items) good =
 -- ---- the law
 
 taken : (words : List Text) (o : Options) → options words ≡ Some o → AskFor words o
-taken words o e = go (said words) refl e
+taken words o e = go (names_said words) refl e
   where
-    go : (s : Option (List (Text × Text))) → said words ≡ s → option_and_then (λ ps. if stands_once ps then asked_for ps else None) s ≡ Some o → AskFor words o
+    go : (s : Option (List (Text × Text))) → names_said words ≡ s → option_and_then (λ ps. if stands_once ps then asked_for ps else None) s ≡ Some o → AskFor words o
     go None is e = absurd (none-some o e)
     go (Some ps) is e = pick (stands_once ps) refl e
       where
@@ -134,7 +134,7 @@ taken words o e = go (said words) refl e
 
 given_so : (words : List Text) (o : Options) → AskFor words o → options words ≡ Some o
 given_so words o a =
-    let so = ap said a.1.2 ∙ items_said a.1.0 a.1.1 ∙ ap Some a.1.3 in
+    let so = ap names_said a.1.2 ∙ items_said a.1.0 a.1.1 ∙ ap Some a.1.3 in
     ap (option_and_then (λ ps. if stands_once ps then asked_for ps else None)) so ∙ ap (λ b. if b then asked_for a.0 else None) a.2 ∙ a.3
 
 pub means_what_is_written : (words : List Text) (o : Options) → (options words ≡ Some o) ↔ AskFor words o

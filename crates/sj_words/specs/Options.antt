@@ -11,7 +11,7 @@ use Rattle.sj_apps.specs.declared.application.Problem.{Problem}
 use Rattle.sj_apps.specs.declared.application.Problem.TheVariants.{Product, Paths}
 use Rattle.sj_apps.specs.Application.{IsSized}
 use Rattle.sj_apps.specs.Generated.{part_count}
-use Rattle.sj_words.specs.Spelling.{Text, said, stands_once, given}
+use Rattle.sj_words.specs.Spelling.{Text, names_said, stands_once, given}
 use Rattle.sj_words.specs.declared.options.Options.{Options}
 
 -- 1 to 19 decimal digits
@@ -24,14 +24,14 @@ number_in least greatest text =
     if is_number text && (nat_le least (digits_value 10 text) && nat_le (digits_value 10 text) greatest)
     then Some (digits_value 10 text) else None
 
-abbrev pub policy_in : Text → Option Policy
-policy_in text = if bytes_eq text (codes "eager") then Some Eager
+abbrev pub policy_named : Text → Option Policy
+policy_named text = if bytes_eq text (codes "eager") then Some Eager
     else (if bytes_eq text (codes "prio") then Some Prio else (if bytes_eq text (codes "ws") then Some Ws else None))
 
 -- the value of an option, if it is given, must be read; what isn't given asks for nothing
-abbrev pub reads : {A : Type 0} → (Text → Option A) → Option Text → Option (Option A)
-reads read None = Some None
-reads read (Some text) = option_map Some (read text)
+abbrev pub if_given : {A : Type 0} → (Text → Option A) → Option Text → Option (Option A)
+if_given read None = Some None
+if_given read (Some text) = option_map Some (read text)
 
 abbrev pub problem_in : Text → Option Problem
 problem_in text = if bytes_eq text (codes "product") then Some Product
@@ -53,10 +53,10 @@ together _ _ _ _ = None
 abbrev pub application_asked : List (Text × Text) → Option (Option Application)
 application_asked ps =
     option_and_then (λ problem. option_and_then (λ n. option_and_then (λ tile. option_and_then (λ seed. together problem n tile seed)
-    (reads (number_in 0 999999999) (given (codes "seed") ps)))
-    (reads (number_in 1 2048) (given (codes "tile") ps)))
-    (reads (number_in 1 2048) (given (codes "n") ps)))
-    (reads problem_in (given (codes "app") ps))
+    (if_given (number_in 0 999999999) (given (codes "seed") ps)))
+    (if_given (number_in 1 2048) (given (codes "tile") ps)))
+    (if_given (number_in 1 2048) (given (codes "n") ps)))
+    (if_given problem_in (given (codes "app") ps))
 
 -- what the settings ask for, where each value is of its kind, and `--nodes` stands only with `--node`
 abbrev pub asked_for : List (Text × Text) → Option Options
@@ -76,15 +76,15 @@ asked_for ps =
       application = application;
     }))
     (application_asked ps))
-    (reads (number_in 0 (2 ^ 40)) (given (codes "swap-size") ps)))
-    (reads (number_in 1 16) (given (codes "nodes") ps)))
-    (reads (number_in 8 (2 ^ 40)) (given (codes "node") ps)))
-    (reads policy_in (given (codes "sched") ps)))
-    (reads (number_in 1 64) (given (codes "workers") ps))
+    (if_given (number_in 0 (2 ^ 40)) (given (codes "swap-size") ps)))
+    (if_given (number_in 1 16) (given (codes "nodes") ps)))
+    (if_given (number_in 8 (2 ^ 40)) (given (codes "node") ps)))
+    (if_given policy_named (given (codes "sched") ps)))
+    (if_given (number_in 1 64) (given (codes "workers") ps))
 
 -- what the words ask for, or none where they aren't accepted
 abbrev pub options : List Text → Option Options
-options words = option_and_then (λ ps. if stands_once ps then asked_for ps else None) (said words)
+options words = option_and_then (λ ps. if stands_once ps then asked_for ps else None) (names_said words)
 
 -- the ranges of the numbers
 pub record IsWithinLimits (o : Options) : Type 0 where

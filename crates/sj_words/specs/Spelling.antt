@@ -47,10 +47,10 @@ abbrev pub with_value : Text → Text → Option (Text × Text)
 with_value name value = if is_option name && is_value value then Some (name, value) else None
 
 -- what a word says alone: a flag says nothing further, and an option has its value behind `=`
-abbrev pub alone : Option (Text × Option Text) → Option (Text × Text)
-alone None = None
-alone (Some (name, None)) = if is_flag name then Some (name, []) else None
-alone (Some (name, Some value)) = with_value name value
+abbrev pub told_alone : Option (Text × Option Text) → Option (Text × Text)
+told_alone None = None
+told_alone (Some (name, None)) = if is_flag name then Some (name, []) else None
+told_alone (Some (name, Some value)) = with_value name value
 
 -- what a word says with the next one: an option has its value there
 abbrev pub with_next : Option (Text × Option Text) → Text → Option (Text × Text)
@@ -69,11 +69,11 @@ or_else None found others = others
 or_else (Some a) found others = found
 
 -- what the words say, from the left: the names, each with its value, which is empty at a flag
-abbrev pub said : List Text → Option (List (Text × Text))
-said [] = Some []
-said (word ∷ []) = first_then (alone (named word)) (Some [])
-said (word ∷ (next ∷ rest)) = or_else (alone (named word)) (first_then (alone (named word)) (said (next ∷ rest)))
-    (first_then (with_next (named word) next) (said rest))
+abbrev pub names_said : List Text → Option (List (Text × Text))
+names_said [] = Some []
+names_said (word ∷ []) = first_then (told_alone (named word)) (Some [])
+names_said (word ∷ (next ∷ rest)) = or_else (told_alone (named word)) (first_then (told_alone (named word)) (names_said (next ∷ rest)))
+    (first_then (with_next (named word) next) (names_said rest))
 
 -- no name stands twice
 abbrev pub stands_once : List (Text × Text) → Bool
@@ -83,7 +83,7 @@ stands_once (p ∷ ps) = not (list_any (λ q. bytes_eq p.0 q.0) ps) && stands_on
 -- the words say something, and no name twice
 pub record AreSpelled (words : List Text) : Type 0 where
   pub ps : List (Text × Text)
-  pub said_are : said words ≡ Some ps
+  pub said_are : names_said words ≡ Some ps
   pub once : stands_once ps ≡ true
 
 -- the value of a name, where it is said

@@ -2,7 +2,7 @@
 use Rattle.std.specs.Prelude.{Bool, true, not, ◌&&◌, List, [], ◌∷◌, Option, Some, None, option_map, map}
 use Rattle.std.specs.List.{list_any}
 use Rattle.std.specs.Str.{bytes_eq}
-use Rattle.sj_words.specs.Spelling.{Text, named, alone, with_next, said}
+use Rattle.sj_words.specs.Spelling.{Text, named, told_alone, with_next, names_said}
 
 -- what the first words say, and the words behind it
 abbrev pub with_word_after : Option (Text × Text) → List Text → Option (Text × List Text)
@@ -19,11 +19,11 @@ said_alone_or (Some p) rest other = Some (p.0, rest)
 
 abbrev pub first_said : List Text → Option (Text × List Text)
 first_said [] = None
-first_said (word ∷ rest) = said_alone_or (alone (named word)) rest (said_with_next (named word) rest)
+first_said (word ∷ rest) = said_alone_or (told_alone (named word)) rest (said_with_next (named word) rest)
 
 -- the names that are said
 abbrev pub said_names : List Text → Option (List Text)
-said_names words = option_map (map (λ p. p.0)) (said words)
+said_names words = option_map (map (λ p. p.0)) (names_said words)
 
 abbrev pub are_distinct : List Text → Bool
 are_distinct [] = true

@@ -2,7 +2,7 @@
 
 ghost use Rattle.std.specs.Prelude.{◌≡◌, ℕ, List, IfOk, Some, true, false};
 ghost use Rattle.clap.specs.Words.{app_of, found_of, rule_of, with_rule};
-ghost use Rattle.sj_words.specs.Spelling.{AreSpelled, said, texts};
+ghost use Rattle.sj_words.specs.Spelling.{AreSpelled, names_said, texts};
 ghost use Rattle.sj_words.specs.Command.{HoldsGiven, flag_rule, option_rule, bare_app, the_app};
 
 use clap::error::ErrorKind;
@@ -105,7 +105,8 @@ fn command<'a>(alloc: Global) -> Result<Command<'a>, AllocError>
 /// error is want of memory. Linear in the words.
 pub fn matches_of<'a>(alloc: Global, words: &'a [String]) -> Result<ArgMatches<'a>, OutOfMemory>
     requires spelled { AreSpelled (texts words.now) }
-    ensures { IfOk result (λ m. (ps : List (List ℕ × List ℕ)) → said (texts words.now) ≡ Some ps
+    ensures { IfOk result (λ m. (ps : List (List ℕ × List ℕ)) → names_said (texts words.now)
+        ≡ Some ps
         → HoldsGiven (found_of m) ps) }
 {
     let Ok(command) = command(alloc) else {

@@ -8,7 +8,7 @@ ghost use Rattle.std.specs.Str.Parse.{digits_value};
 ghost use Rattle.clap.specs.Words.{found_of};
 ghost use Rattle.sj_words.specs.Command.{HoldsGiven};
 ghost use Rattle.sj_apps.specs.Application.{IsSized};
-ghost use Rattle.sj_words.specs.Options.{IsWithinLimits, application_asked, asked_for, is_number, number_in, options, policy_in, problem_in, reads, sized, together};
+ghost use Rattle.sj_words.specs.Options.{IsWithinLimits, application_asked, asked_for, is_number, number_in, options, policy_named, problem_in, if_given, sized, together};
 ghost use Rattle.sj_words.specs.Spelling.{texts};
 
 use crate::command::{
@@ -128,7 +128,7 @@ fn number_in(text: &str, least: u64, greatest: u64) -> Option<u64>
 }
 
 fn policy_in(text: &str) -> Option<Policy>
-    ensures { result ≡ policy_in text.now }
+    ensures { result ≡ policy_named text.now }
 {
     match text {
         "eager" => Some(Policy::Eager),
@@ -141,8 +141,8 @@ fn policy_in(text: &str) -> Option<Policy>
 // The number of an option, where it is given.
 fn number(text: Option<&str>, least: u64, greatest: u64) -> Result<Option<u64>, Unread>
     ensures value { MatchResult result
-        (λ n. reads (number_in least greatest) (option_map (λ t. t.now) text.entry) ≡ Some n)
-        (λ _. reads (number_in least greatest) (option_map (λ t. t.now) text.entry) ≡ None) }
+        (λ n. if_given (number_in least greatest) (option_map (λ t. t.now) text.entry) ≡ Some n)
+        (λ _. if_given (number_in least greatest) (option_map (λ t. t.now) text.entry) ≡ None) }
     ensures range { IfOk result (λ n. IfSome n (λ n. (least ≤ n) × (n ≤ greatest))) }
 {
     match text {
@@ -157,8 +157,8 @@ fn number(text: Option<&str>, least: u64, greatest: u64) -> Result<Option<u64>, 
 // The policy, where it is given.
 fn policy(text: Option<&str>) -> Result<Option<Policy>, Unread>
     ensures { MatchResult result
-        (λ p. reads policy_in (option_map (λ t. t.now) text.entry) ≡ Some p)
-        (λ _. reads policy_in (option_map (λ t. t.now) text.entry) ≡ None) }
+        (λ p. if_given policy_named (option_map (λ t. t.now) text.entry) ≡ Some p)
+        (λ _. if_given policy_named (option_map (λ t. t.now) text.entry) ≡ None) }
 {
     match text {
         Some(text) => match policy_in(text) {
@@ -182,8 +182,8 @@ fn problem_in(text: &str) -> Option<Problem>
 // The problem, where it is given.
 fn problem(text: Option<&str>) -> Result<Option<Problem>, Unread>
     ensures { MatchResult result
-        (λ p. reads problem_in (option_map (λ t. t.now) text.entry) ≡ Some p)
-        (λ _. reads problem_in (option_map (λ t. t.now) text.entry) ≡ None) }
+        (λ p. if_given problem_in (option_map (λ t. t.now) text.entry) ≡ Some p)
+        (λ _. if_given problem_in (option_map (λ t. t.now) text.entry) ≡ None) }
 {
     match text {
         Some(text) => match problem_in(text) {

@@ -3,7 +3,7 @@
 ghost use Rattle.std.specs.Prelude.{◌≡◌, ◌≤◌, Some, None, map, IfOk, option_map, length};
 ghost use Rattle.std.specs.List.{list_any, position_or_len};
 ghost use Rattle.std.specs.Str.{bytes_eq};
-ghost use Rattle.sj_words.specs.Spelling.{is_flag, is_option, is_equals, around_equals, after_dash, named, is_value, alone, texts};
+ghost use Rattle.sj_words.specs.Spelling.{is_flag, is_option, is_equals, around_equals, after_dash, named, is_value, told_alone, texts};
 ghost use Rattle.sj_words.specs.Steps.{first_said, said_alone_or, said_names, said_with_next, are_distinct};
 
 use memchr::memchr;
@@ -94,7 +94,7 @@ fn said_with_next<'a>(name: &'a [u8], words: &'a [String]) -> Option<(&'a [u8], 
 // The name of what a word says, alone or with the next, and the words behind it.
 fn said_by<'a>(word: &'a [u8], rest: &'a [String]) -> Option<(&'a [u8], &'a [String])>
     ensures { option_map (λ p. (p.0.now, texts p.1.now)) result
-        ≡ said_alone_or (alone (named word.now)) (texts rest.now)
+        ≡ said_alone_or (told_alone (named word.now)) (texts rest.now)
         (said_with_next (named word.now) (texts rest.now)) }
 {
     match named(word) {

@@ -4,7 +4,7 @@ use Rattle.sj_meaning.specs.declared.job.Init.TheVariants.{Values}
 use Rattle.sj_meaning.specs.View.{statements_of, IsNumbered}
 use Rattle.sj_meaning.specs.declared.job.Job.{Job}
 use Rattle.sj_apps.specs.Draft.{paths_names, Tells}
-use Rattle.sj_apps.specs.Generated.{walk_steps, matrix, weights, name_D, numbered, first_line, paths_acts, weight}
+use Rattle.sj_apps.specs.Generated.{walk_steps, matrix_act, weights, name_D, numbered, first_line, paths_acts, weight}
 use Rattle.sj_apps.specs.Shortest.{PrintsShortest}
 use Rattle.sj_apps.proofs.Telling.{print-told, whole-told}
 use Rattle.sj_apps.proofs.Walking.{paths-print}
@@ -17,7 +17,7 @@ printed_last c = print-told c.walk_steps.new.self c.say.new.self paths_names _ (
 pub returns-clause-statements : goal.returns-clause-statements
 returns-clause-statements c =
     ap statements_of c.into_job.ensures
-    ∙ whole-told c.in_ok-draft.draft c.walk_steps.new.self c.say.new.self (matrix name_D c.args.n c.part_count-p.result (Values (weights c.args.n c.args.seed)) ∷ []) (walk_steps c.part_count-p.result) (Print name_D ∷ []) c.in_ok-draft.ensures.seen c.in_ok-draft.ensures.long c.in_ok-walk_steps.ensures.tells (printed_last (goal.at.returns-clause-statements c).In_ok-say)
+    ∙ whole-told c.in_ok-draft.draft c.walk_steps.new.self c.say.new.self (matrix_act name_D c.args.n c.part_count-p.result (Values (weights c.args.n c.args.seed)) ∷ []) (walk_steps c.part_count-p.result) (Print name_D ∷ []) c.in_ok-draft.ensures.seen c.in_ok-draft.ensures.long c.in_ok-walk_steps.ensures.tells (printed_last (goal.at.returns-clause-statements c).In_ok-say)
     ∙ ap (λ p. numbered first_line (paths_acts c.args.n p c.args.seed)) c.part_count-p.ensures
 
 pub returns-clause-numbered : goal.returns-clause-numbered

@@ -1,7 +1,7 @@
 use Rattle.std.proofs.Common.{rules, ◌≡◌, ◌∙◌, ◌++◌, ℕ, List, ap, append_assoc, codes, w64, of_z, to_z}
 use Rattle.std.specs.Prelude.{decimal}
 use Rattle.std.specs.Fmt.{signed_decimal}
-use Rattle.sj_apps.specs.Summary.{bound_text, line_of}
+use Rattle.sj_apps.specs.Summary.{bound_text, tallied_line}
 use Rattle.sj_apps.proofs.summary.write_line.Goals as goal
 
 -- a label and what it names go behind what was appended
@@ -28,4 +28,4 @@ returns c =
     let e6 = behind old highest _ c.write_count-3.new.text.items (codes " inf ") (decimal a.infs) e5 c.in_ok-write_count-3.ensures in
     let same : sum ≡ a.sum = search rules in
     c.in_ok-push.ensures.items ∙ ap (λ t. t ++ codes "\n") e6 ∙ append_assoc old infs (codes "\n")
-    ∙ ap (λ z. old ++ line_of a.name.now a.dims z a.bounds.0 a.bounds.1 a.infs) same
+    ∙ ap (λ z. old ++ tallied_line a.name.now a.dims z a.bounds.0 a.bounds.1 a.infs) same

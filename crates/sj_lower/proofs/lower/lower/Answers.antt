@@ -1,4 +1,4 @@
-use Rattle.std.proofs.Common.{◌≡◌, ◌∙◌, ℕ, ◌≤◌, ◌<◌, Bool, List, [], ◌∷◌, None, Some, All, refl, ap, subst, sym, length, arith, Result, Ok, Err, IfErr, IsErrAnd}
+use Rattle.std.proofs.Common.{◌≡◌, ◌∙◌, ℕ, ◌≤◌, ◌<◌, Bool, List, [], ◌∷◌, None, Some, All, refl, ap, subst, sym, length, arith}
 use Rattle.std.specs.Vec.Iter.{into_iter_items}
 use Rattle.sj_base.specs.declared.ids.Line.{Line}
 use Rattle.sj_base.specs.declared.program.Program.{Program}
@@ -13,10 +13,11 @@ use Rattle.sj_lower.specs.declared.lower.LowerRefusal.{LowerRefusal}
 use Rattle.sj_lower.specs.declared.lower.Progress.{Progress}
 use Rattle.sj_lower.specs.Job.{IsJob, IsJobIn}
 use Rattle.sj_lower.specs.Limits.{late_limit, late_tasks}
-use Rattle.sj_lower.specs.Lowering.{Lowering, nothing, lowered, finished, program_of}
-use Rattle.sj_lower.specs.Progress.{IsAt, IsFull, IsLate, Prepares}
+use Rattle.sj_lower.specs.Lowering.{Lowering, nothing, lowered, finished, lowered_program}
+use Rattle.sj_lower.specs.Progress.{StandsAt, IsFull, IsLate, Prepares}
 use Rattle.sj_lower.proofs.Allowed.{all_can_be}
 use Rattle.sj_lower.proofs.Combined.{IsTrusted}
+use Rattle.sj_lower.proofs.Steps.{handed-on}
 use Rattle.sj_lower.proofs.Going.{GoesOn, IsDone, IsShut, going-start, going-has, going-more, going-full, going-end, done-has, shut, shut-over}
 use Rattle.sj_lower.proofs.Known.{IsKnown, known, own-of}
 use Rattle.sj_lower.proofs.Lowered.{IsWhole, whole}
@@ -60,10 +61,6 @@ loop-statement-preserved c =
       left = omega (arith, at.invariant.left, c.in-Some.ensures.steps.1, ap length c.in-Some.ensures.steps.0);
     }
 
-as_handed : {A : Type 0} (r : Result A LowerRefusal) (e : LowerRefusal) (P : LowerRefusal → Type 0) → IsErrAnd r (λ x. x ≡ e) → P e → IfErr r P
-as_handed (Ok x) e P is h = tt
-as_handed (Err x) e P is h = subst P (sym is) h
-
 pub returns-in_err-add-clause-refused : goal.returns-in_err-add-clause-refused
 returns-in_err-add-clause-refused c =
     let T = c.args.job.roots in
@@ -74,7 +71,7 @@ returns-in_err-add-clause-refused c =
     let going = subst (λ (xs : List Kept). GoesOn T c.args.workers at.progress all xs) c.in-Some.ensures.steps.0 at.invariant.going in
     let full : (e : LowerRefusal) → IsFull T at.progress c.in-Some.statement e → IsLate e (late_limit c.args.workers (statements_of c.args.job)) =
     λ e h. subst (λ (xs : List Kept). IsLate e (late_limit c.args.workers (seen_from T 0 xs))) same (going-full T c.args.workers at.progress all (into_iter_items c.next.new.self) c.in-Some.statement e table going h) in
-    as_handed c.from_residual.result c.in_err-add.field-0.0 (λ e. IsLate e (late_limit c.args.workers (statements_of c.args.job))) c.from_residual.ensures.1 (full c.in_err-add.field-0.0 c.in_err-add.ensures.full)
+    handed-on c.from_residual.result c.in_err-add.field-0.0 (λ e. IsLate e (late_limit c.args.workers (statements_of c.args.job))) c.from_residual.ensures.1 (full c.in_err-add.field-0.0 c.in_err-add.ensures.full)
 
 nothing_left : (l : List Kept) → length l ≡ 0 → l ≡ []
 nothing_left [] h = refl
@@ -118,7 +115,7 @@ returns-in_err-program-clause-refused c =
     let e = c.in_err-program.field-0.0 in
     let done = closed_all T workers at.progress c.close_last.new.self all (into_iter_items at.statement-iterator) c.args.job.statements at.invariant.going (sym at.invariant.left ∙ c.in-None.ensures.steps.0)
     (c.into_iter-statement-iterator.ensures.into_iter_gives.0 ∙ c.into_items-statement-items.ensures) c.in_ok-close_last.ensures.none c.in_ok-close_last.ensures.closes in
-    as_handed c.from_residual-in_err-program.result e (λ e. IsLate e (late_limit workers (statements_of c.args.job))) c.from_residual-in_err-program.ensures.1
+    handed-on c.from_residual-in_err-program.result e (λ e. IsLate e (late_limit workers (statements_of c.args.job))) c.from_residual-in_err-program.ensures.1
     (shut-over T workers c.close_last.new.self (statements_of c.args.job) e done c.in_err-program.ensures.err)
 
 -- the program is that of the job, and within the limits
@@ -127,11 +124,11 @@ record IsMade (T : Table) (p : Program) (ss : List (Statement (List ℕ))) (work
   few_tasks : length p.tasks ≤ 262144
   few_cells : length p.cells ≤ 262144
 
-made : (T : Table) (g : Progress) (ss : List (Statement (List ℕ))) (p : Program) (workers : ℕ) → IsShut T workers g ss → g.over ≡ None → ((T : Table) (S : State) (L : Lowering) → IsAt T g S L → p ≡ program_of g.workers L) → IsMade T p ss workers
+made : (T : Table) (g : Progress) (ss : List (Statement (List ℕ))) (p : Program) (workers : ℕ) → IsShut T workers g ss → g.over ≡ None → ((T : Table) (S : State) (L : Lowering) → StandsAt T g S L → p ≡ lowered_program g.workers L) → IsMade T p ss workers
 made T g ss p workers d none finish =
-    let is : p ≡ program_of g.workers d.lowering = finish T d.state d.lowering d.at in
+    let is : p ≡ lowered_program g.workers d.lowering = finish T d.state d.lowering d.at in
     record {
-      is = is ∙ (λ i. program_of (d.workers_are i) (d.is i));
+      is = is ∙ (λ i. lowered_program (d.workers_are i) (d.is i));
       few_tasks = omega (arith, d.at.few_tasks none, ap (λ (p : Program). length p.tasks) is);
       few_cells = omega (arith, d.at.few_cells, ap (λ (p : Program). length p.cells) is);
     }

@@ -1,5 +1,5 @@
 use Rattle.std.proofs.Common.{◌≡◌, drop}
-use Rattle.sj_lower.specs.Seen.{after_writes}
+use Rattle.sj_lower.specs.Seen.{actives_after_writes}
 use Rattle.sj_lower.proofs.Tracking.{SamePlans}
 use Rattle.sj_lower.proofs.lowerer.write_all.Given as goal
 
@@ -7,5 +7,5 @@ use Rattle.sj_lower.proofs.lowerer.write_all.Given as goal
 abbrev pub invariant-loop-operand : goal.invariant-loop-operand
 invariant-loop-operand l = record {
   same : SamePlans l.initial.actives.items l.actives.items;
-  rest : after_writes (drop l.operand-index l.operands) l.actives.items ≡ after_writes l.operands l.initial.actives.items;
+  rest : actives_after_writes (drop l.operand-index l.operands) l.actives.items ≡ actives_after_writes l.operands l.initial.actives.items;
 }

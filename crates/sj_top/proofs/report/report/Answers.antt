@@ -1,11 +1,11 @@
 use Rattle.std.proofs.Common.{◌≡◌, subst, sym}
 use Rattle.sj_top.specs.Device.{Device}
-use Rattle.sj_top.specs.Report.{line_of, TakesLine}
+use Rattle.sj_top.specs.Report.{status_line, TakesLine}
 use Rattle.sj_top.specs.declared.status.Status.{Status}
 use Rattle.sj_top.proofs.report.report.Goals as goal
 
-by_status : (err err' : Device) (s t : Status) → t ≡ s → TakesLine err err' (line_of s) → TakesLine err err' (line_of t)
-by_status err err' s t e = subst (λ (x : Status). TakesLine err err' (line_of x)) (sym e)
+by_status : (err err' : Device) (s t : Status) → t ≡ s → TakesLine err err' (status_line s) → TakesLine err err' (status_line t)
+by_status err err' s t e = subst (λ (x : Status). TakesLine err err' (status_line x)) (sym e)
 
 pub returns-in-Usage : goal.returns-in-Usage
 returns-in-Usage g c = by_status _ _ _ _ c.in-Usage.is c.write_line-in-Usage.ensures

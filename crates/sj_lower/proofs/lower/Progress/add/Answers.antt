@@ -1,7 +1,7 @@
-use Rattle.std.proofs.lemmas.Result.{on_ok_weaker}
+use Rattle.std.proofs.lemmas.Result.{IfErr-weaker, on_ok_weaker}
 use Rattle.sj_lower.specs.Progress.{IsFull}
 use Rattle.sj_lower.proofs.Coming.{last-has, last-names, still-has, goes-whole, full-own, full-before}
-use Rattle.sj_lower.proofs.Steps.{if-err, handed-on}
+use Rattle.sj_lower.proofs.Steps.{handed-on}
 use Rattle.sj_lower.proofs.lower.Progress.add.Goals as goal
 
 pub prepare-requires-clause-at : goal.prepare-requires-clause-at
@@ -23,4 +23,4 @@ pub returns-clause-goes : goal.returns-clause-goes
 returns-clause-goes c = on_ok_weaker c.add_own.result (goes-whole c.args.roots.now c.args.self.now c.prepare.new.self c.args.statement c.in_ok-prepare.ensures.prepares c.add_own.new.self) c.add_own.ensures.goes
 
 pub returns-clause-full : goal.returns-clause-full
-returns-clause-full c = if-err c.add_own.result (full-own c.args.roots.now c.args.self.now c.prepare.new.self c.args.statement c.in_ok-prepare.ensures.prepares) c.add_own.ensures.full
+returns-clause-full c = IfErr-weaker c.add_own.result _ _ (full-own c.args.roots.now c.args.self.now c.prepare.new.self c.args.statement c.in_ok-prepare.ensures.prepares) c.add_own.ensures.full

@@ -1,8 +1,8 @@
-use Rattle.std.proofs.lemmas.Result.{on_ok_weaker}
+use Rattle.std.proofs.lemmas.Result.{IfErr-weaker, on_ok_weaker}
 use Rattle.sj_lower.specs.Lowering.{all_closed}
 use Rattle.sj_lower.specs.Progress.{closing_by}
 use Rattle.sj_lower.proofs.Preparing.{has-at}
-use Rattle.sj_lower.proofs.Steps.{prepares-other, prepares-task, full-task, if-err}
+use Rattle.sj_lower.proofs.Steps.{prepares-other, prepares-task, full-task}
 use Rattle.sj_lower.proofs.lower.Progress.prepare.Goals as goal
 
 pub open_operands-requires-clause-at : goal.open_operands-requires-clause-at
@@ -17,4 +17,4 @@ pub returns-clause-prepares : goal.returns-clause-prepares
 returns-clause-prepares c = on_ok_weaker c.open_operands.result (prepares-task c.args.self.now c.close_by.new.self c.open_operands.new.self c.args.line c.args.act.now c.in-Task.task c.items.result.now c.in-Task.is c.items.ensures c.in_ok-close_by.ensures) c.open_operands.ensures.opens
 
 pub returns-clause-full : goal.returns-clause-full
-returns-clause-full c = if-err c.open_operands.result (λ e. full-task c.args.self.now c.close_by.new.self c.args.line c.args.act.now c.in-Task.task c.items.result.now e c.in-Task.is c.items.ensures c.in_ok-close_by.ensures) c.open_operands.ensures.full
+returns-clause-full c = IfErr-weaker c.open_operands.result _ _ (λ e. full-task c.args.self.now c.close_by.new.self c.args.line c.args.act.now c.in-Task.task c.items.result.now e c.in-Task.is c.items.ensures c.in_ok-close_by.ensures) c.open_operands.ensures.full

@@ -6,7 +6,7 @@ use Rattle.sj_meaning.specs.declared.job.Operand.{Operand}
 use Rattle.sj_meaning.specs.Table.{a_root, info_of}
 use Rattle.sj_job.specs.Track.{all_valued, none_valued, even}
 use Rattle.sj_lower.specs.declared.lowerer.Active.{Active}
-use Rattle.sj_lower.specs.Seen.{active_at, after_writes, AreIn, CanPass, HasRoom}
+use Rattle.sj_lower.specs.Seen.{active_at, actives_after_writes, AreIn, CanPass, HasRoomFor}
 use Rattle.sj_lower.proofs.Following.{PassesTo, passes-register, passes-plan, passes-redux, passes-invalidate, passes-unregister, planned_active, reduced_active, blank_active, plan-even, at-default}
 use Rattle.sj_lower.proofs.Tracking.{are-in, passes-task}
 use Rattle.sj_lower.proofs.lowerer.Lowerer.pass.Goals as goal
@@ -38,9 +38,9 @@ returns-in_ok-push-in-Register-clause-passes c =
     let counted : vec_len l.actives ≡ length l.actives.items = omega (arith, l.actives.ok) in
     let number : c.len.result ≡ length l.actives.items = omega (arith, c.len.ensures, l.actives.ok) in
     let info : c.info.result ≡ info_of T (a_root (length l.actives.items)) = c.info.ensures ∙ ap (λ (n : ℕ). info_of T (a_root n)) number in
-    let room = subst (λ (a : Kept). HasRoom T (vec_len l.actives) a first) c.in-Register.is c.requires.room in
+    let room = subst (λ (a : Kept). HasRoomFor T (vec_len l.actives) a first) c.in-Register.is c.requires.room in
     subst (λ (a : Kept). PassesTo T l c.push.new.self.items a first) (sym c.in-Register.is)
-    (passes-register T l c.push.new.self.items init first (subst (λ (n : ℕ). HasRoom T n (kept.Register init) first) counted room)
+    (passes-register T l c.push.new.self.items init first (subst (λ (n : ℕ). HasRoomFor T n (kept.Register init) first) counted room)
     (c.in_ok-push-in-Register.ensures.items
     ∙ ap (λ t. l.actives.items ++ record { tracked = t; first = first; reduction = None } ∷ []) (c.even.ensures ∙ (λ k. even (info k).parts (c.gives_values.ensures k)))))
 
@@ -53,7 +53,7 @@ returns-in-Plan-clause-passes c =
     let plan = c.in-Plan.parts in
     let p = c.requires.pass in
     let pass = subst (λ (a : Kept). CanPass T l a p.state p.lowering) c.in-Plan.is p.pass in
-    let room = subst (λ (a : Kept). HasRoom T (vec_len l.actives) a first) c.in-Plan.is c.requires.room in
+    let room = subst (λ (a : Kept). HasRoomFor T (vec_len l.actives) a first) c.in-Plan.is c.requires.room in
     let is : c.index_mut.result.now ≡ active_at l.actives.items r.0 = c.index_mut.ensures.value ∙ at-default l.actives.items r.0 c.index_mut.result.now (omega (arith, pass.placed, pass.actives.counted)) in
     subst (λ (a : Kept). PassesTo T l (set l.actives.items r.0 c.plan.new.self) a first) (sym c.in-Plan.is)
     (passes-plan T l (set l.actives.items r.0 c.plan.new.self) r plan first room
@@ -80,7 +80,7 @@ returns-in_ok-write_all-in-Task-clause-passes c =
     let l = c.args.self.now in
     let new = c.write_all.new.actives.items in
     subst (λ (a : Kept). PassesTo T l new a c.args.first) (sym c.in-Task.is)
-    (passes-task T l new c.in-Task.task c.args.first (c.in_ok-write_all-in-Task.ensures ∙ ap (λ (os : List Operand). after_writes os l.actives.items) c.items.ensures))
+    (passes-task T l new c.in-Task.task c.args.first (c.in_ok-write_all-in-Task.ensures ∙ ap (λ (os : List Operand). actives_after_writes os l.actives.items) c.items.ensures))
 
 pub returns-in-Invalidate-clause-passes : goal.returns-in-Invalidate-clause-passes
 returns-in-Invalidate-clause-passes c =

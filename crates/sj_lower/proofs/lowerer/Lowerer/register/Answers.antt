@@ -1,6 +1,6 @@
 use Rattle.std.proofs.Common.{◌≡◌, ◌∙◌, ◌++◌, ◌∷◌, [], ℕ, None, length, refl, ap, subst, vec_len, arith, length-append}
 use Rattle.sj_meaning.specs.declared.job.Act.TheVariants as kept
-use Rattle.sj_lower.specs.Seen.{HasRoom}
+use Rattle.sj_lower.specs.Seen.{HasRoomFor}
 use Rattle.sj_meaning.specs.Table.{a_root, info_of}
 use Rattle.sj_job.specs.Track.{even}
 use Rattle.sj_lower.specs.Cells.{cells_from}
@@ -15,7 +15,7 @@ returns-clause-does c =
     let counted : vec_len l.actives ≡ length l.actives.items = omega (arith, l.actives.ok) in
     let number : c.len.result ≡ length l.actives.items = omega (arith, c.len.ensures, l.actives.ok) in
     let info : c.info-info.result ≡ info_of T (a_root (length l.actives.items)) = c.info-info.ensures ∙ ap (λ (n : ℕ). info_of T (a_root n)) number in
-    does-register T l _ c.args.init c.args.first c.args.line (subst (λ (n : ℕ). HasRoom T n (kept.Register c.args.init) c.args.first) counted c.requires.room)
+    does-register T l _ c.args.init c.args.first c.args.line (subst (λ (n : ℕ). HasRoomFor T n (kept.Register c.args.init) c.args.first) counted c.requires.room)
     (c.in_ok-valued.ensures.tasks ∙ (λ k. l.tasks.items ++ load_rows c.args.init (info k).dims (info k).parts (cells_from c.args.first (info k).parts) c.args.line)) refl refl refl
     (c.in_ok-push.ensures.items
     ∙ ap (λ t. l.actives.items ++ record { tracked = t; first = c.args.first; reduction = None } ∷ []) (c.even.ensures ∙ (λ k. even (info k).parts (c.in_ok-valued.ensures.valued k))))

@@ -6,7 +6,7 @@ use Rattle.sj_base.specs.declared.program.Lowered.{Lowered}
 use Rattle.sj_meaning.specs.declared.job.Act.TheVariants as kept
 use Rattle.sj_meaning.specs.declared.job.Operand.{Operand}
 use Rattle.sj_lower.specs.declared.lowerer.Active.{Active}
-use Rattle.sj_lower.specs.Seen.{AreIn, access_by, after_writes}
+use Rattle.sj_lower.specs.Seen.{AreIn, access_by, actives_after_writes}
 use Rattle.sj_lower.proofs.Following.{can-pass}
 use Rattle.sj_lower.proofs.Tracking.{are-in, does-task}
 use Rattle.sj_lower.proofs.lowerer.Lowerer.task.Goals as goal
@@ -35,4 +35,4 @@ returns-clause-does c =
     does-task T old _ task c.args.line
     (c.in_ok-push.ensures.items ∙ ap (λ (l : Lowered). old.tasks.items ++ l ∷ []) (λ i. mk (c.id.ensures.id i) (accesses i) (to_z-of_z w32 task.priority fits i)))
     refl refl refl
-    (c.in_ok-write_all.ensures ∙ ap (λ (os : List Operand). after_writes os old.actives.items) c.items-operands.ensures)
+    (c.in_ok-write_all.ensures ∙ ap (λ (os : List Operand). actives_after_writes os old.actives.items) c.items-operands.ensures)
