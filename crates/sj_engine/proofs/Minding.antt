@@ -1,5 +1,5 @@
 -- A turn minds the bell.
-use Rattle.std.proofs.Common.{◌≡◌, ◌≢◌, ◌&&◌, ◌∙◌, ◌++◌, ◌∷◌, [], append-nil, sym, ℕ, Bool, List, Option, true, false, None, Some, IsTrue, inl, inr, ap, refl, is_some, option_to_list}
+use Rattle.std.proofs.Common.{◌≡◌, ◌≢◌, ◌&&◌, ◌∙◌, ◌++◌, append-nil, sym, ℕ, Bool, List, Option, true, false, None, Some, IsTrue, inl, inr, ap, refl, is_some, option_to_list}
 use Rattle.std.specs.Prelude.{MatchBool, MatchOption}
 use Rattle.std.specs.List.{list_all}
 use Rattle.sj_base.specs.declared.ids.Task.{Task}
@@ -8,7 +8,7 @@ use Rattle.sj_base.specs.declared.trace.Event.{Event}
 use Rattle.sj_base.specs.declared.trace.Event.TheVariants.{Claim, Drop, Move, Run}
 use Rattle.sj_core.specs.Machine.{is_done}
 use Rattle.sj_core.specs.Needs.{node_of}
-use Rattle.sj_desk.specs.Seats.{DeskFacts, HasRowLeft, IsWaiting, SeatFacts, rung}
+use Rattle.sj_desk.specs.Seats.{DeskFacts, HasRowLeft, SeatFacts, rung}
 use Rattle.sj_machine.specs.Board.{BoardState, IsOver}
 use Rattle.sj_machine.specs.Standing.{state}
 use Rattle.sj_engine.specs.Bell.{HasHeardBell, HasRung, IsChange, MindsBell, is_claimed, noted_after, noted_for_rest, wakes_after, wakes_for_rest}

@@ -1,5 +1,5 @@
 -- What a store or a fetch that ended well counts.
-use Rattle.std.proofs.Common.{◌≡◌, ℕ, suc, List, [], ◌∷◌, map, length, refl, sym, ap, ◌∙◌, subst, Some, arith}
+use Rattle.std.proofs.Common.{◌≡◌, ℕ, suc, List, [], ◌∷◌, map, length, refl, ap, ◌∙◌, subst, Some, arith}
 use Rattle.std.specs.Prelude.{Result, Ok, slice_get}
 use Rattle.sj_disk.specs.Holding.{CountsStay}
 use Rattle.sj_disk.specs.declared.refusal.DiskRefusal.{DiskRefusal}

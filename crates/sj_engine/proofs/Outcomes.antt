@@ -1,5 +1,5 @@
 -- What a board leaves, by what is true of it: the outcome of a run that is over, and of one that no worker has come to.
-use Rattle.std.proofs.Common.{◌≡◌, ℕ, ◌<◌, ◌∙◌, ◌⊎◌, true, false, Option, Some, None, List, [], IsTrue, ap, arith, get_or, inl, inr, length, refl, replicate, subst, sym}
+use Rattle.std.proofs.Common.{◌≡◌, ℕ, ◌<◌, ◌∙◌, ◌⊎◌, false, Option, Some, None, List, [], IsTrue, ap, arith, get_or, inl, inr, length, refl, replicate, subst, sym}
 use Rattle.std.specs.Prelude.{Err, IfSome, IsOk, IsSomeAnd, MatchOption, Ok, Result, is_some, option_map, slice_get}
 use Rattle.std.proofs.lemmas.Bool.{cases_lt, false≢true}
 use Rattle.std.proofs.lemmas.List.{get_or-replicate, get_or_past, length-replicate}

@@ -14,8 +14,7 @@ use Rattle.sj_machine.specs.BoardRow.{BoardRow, row_of_number}
 use Rattle.sj_machine.specs.Preparing.{first_hands}
 use Rattle.sj_machine.specs.declared.hand.Hand.{Hand}
 use Rattle.sj_engine.specs.Run.{AreAt, worker_at}
-use Rattle.sj_engine.specs.Stage.{IsAt, IsFreeRow, IsStoppedRow, row_in, stopped_hand}
-use Rattle.sj_engine.specs.Noted.{noted_row}
+use Rattle.sj_engine.specs.Stage.{IsAt, IsFreeRow, IsStoppedRow, row_in}
 use Rattle.sj_engine.specs.declared.noted_board.NotedBoard.{NotedBoard}
 
 module _ {D : Type 0} (desk : DeskFacts (NotedBoard D)) where

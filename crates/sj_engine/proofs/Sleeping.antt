@@ -1,5 +1,5 @@
 -- Notes of workers that rest.
-use Rattle.std.proofs.Common.{◌≡◌, ℕ, zero, suc, ◌+◌, ◌&&◌, ◌||◌, ◌∙◌, Bool, not, true, false, true≢false, Option, None, Some, List, [], ◌∷◌, ap, refl, sym, length, map, drop, get_or, set, is_some, length-set, ◌<◌, ◌≢◌, arith, ext_get_or}
+use Rattle.std.proofs.Common.{◌≡◌, ℕ, zero, suc, ◌+◌, ◌&&◌, ◌||◌, ◌∙◌, Bool, not, true, false, true≢false, Option, None, Some, [], ◌∷◌, ap, refl, sym, length, map, drop, get_or, set, is_some, length-set, ◌<◌, arith, ext_get_or}
 use Rattle.std.proofs.lemmas.List.{length-map}
 use Rattle.std.specs.Prelude.{if◌then◌else◌, option_and_then, option_map, position}
 use Rattle.std.specs.List.{list_any}

@@ -1,9 +1,8 @@
 -- A worker takes the disk out that takes part in its transfer, and puts it back in a later turn.
-use Rattle.std.proofs.Common.{◌≡◌, ◌≢◌, ℕ, ◌<◌, Bool, true, false, ◌&&◌, List, length, refl, sym, ap, ◌∙◌, subst, Option, None, Some, inl, inr}
+use Rattle.std.proofs.Common.{◌≡◌, ℕ, ◌<◌, Bool, true, false, ◌&&◌, List, length, refl, sym, ap, ◌∙◌, subst, Option, None, Some, inl, inr}
 use Rattle.std.specs.Int.{w64}
 use Rattle.sj_engine.specs.Outcome.{AllTell}
-use Rattle.std.specs.Prelude.{All, FitsSigned, IfSome, IsSomeAnd, OnOk, Result, filter, is_some, option_and_then, option_map, slice_get, slice_index_or, slice_set, if◌then◌else◌}
-use Rattle.std.proofs.lemmas.Bool.{false≢true}
+use Rattle.std.specs.Prelude.{All, FitsSigned, IfSome, IsSomeAnd, Result, filter, is_some, option_and_then, option_map, slice_get, if◌then◌else◌}
 use Rattle.std.proofs.lemmas.List.{get_or-set_same}
 use Rattle.sj_base.specs.declared.ids.Cell.{Cell}
 use Rattle.sj_base.specs.declared.ids.Task.{Task}
@@ -23,10 +22,10 @@ use Rattle.sj_machine.specs.Agrees.{idle}
 use Rattle.sj_machine.specs.Board.{BoardState, GivesUnitBack, IsBusy, empty_hand, hand_of, has_taken, transfer_of}
 use Rattle.sj_machine.specs.BoardRow.{BoardRow, arrays_for, is_event_of, key_of}
 use Rattle.sj_machine.specs.BoardSound.{IsSoundBoard}
-use Rattle.sj_machine.specs.Standing.{IsFetching, IsMovingOut, IsTileMoved, IsTileOf, is_node, state}
+use Rattle.sj_machine.specs.Standing.{IsFetching, IsMovingOut, IsTileOf, is_node, state}
 use Rattle.sj_machine.specs.Units.{HasBlockOf, HasFetchedMoved, HasItsDiskIn, HasStoredMoved, IsDiskMove, IsUnitOf, OthersKeepUnits, lent, unit_at}
 use Rattle.sj_machine.specs.declared.hand.Hand.{Hand}
-use Rattle.sj_engine.specs.Stage.{HoldsRow, IsCarried, IsFetchedThrough, IsStoredThrough, MovesRow, busy_hand, holding_hand, row_in}
+use Rattle.sj_engine.specs.Stage.{HoldsRow, IsCarried, MovesRow, holding_hand, row_in}
 use Rattle.sj_engine.specs.Stepping.{IsUnitFor}
 use Rattle.sj_engine.specs.Turn.{IsTurnOf, IsWorkerOf, NothingHappens, PutsUnitBack}
 use Rattle.sj_engine.proofs.OwnRows.{is-busy, row-transfer, some-same, transfer-of}

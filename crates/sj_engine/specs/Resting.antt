@@ -1,8 +1,8 @@
 -- For what workers rest, and which of them a turn wakes.
 --
 -- A worker rests without a task, since none was ready when it looked, or since it couldn't claim what was; or with one that it
--- has claimed, since another worker has to go on first. Who rests has a note, with the bell that its thread sleeps on. The note is
--- due where its worker is to look again. A turn wakes one worker at most, whose note goes: the next one behind the turn's own
+-- has claimed, since another worker has to go on first. Who rests has a note, with the bell that its thread sleeps on. The note
+-- is due where its worker is to look again. A turn wakes one worker at most, whose note goes: the next one behind the turn's own
 -- worker that is due. Who was woken has a turn in any case, and wakes the next one in it: so all that are due have a turn, one
 -- after the other, and none is forgotten.
 use Rattle.std.specs.Prelude.{ℕ, ◌+◌, Bool, true, false, not, ◌&&◌, ◌||◌, if◌then◌else◌, is_some, Option, Some, None, List, drop, map, option_and_then, option_map, position, slice_index_or, slice_set}

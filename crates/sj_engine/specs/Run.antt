@@ -1,5 +1,5 @@
 -- How a run begins and what it leaves: the board as it opens, the seats of its workers, and the outcome.
-use Rattle.std.specs.Prelude.{◌≡◌, ◌<◌, ℕ, true, Option, None, List, Result, All, IfErr, IsOk, length, slice_index_or}
+use Rattle.std.specs.Prelude.{◌≡◌, ◌<◌, ℕ, Option, None, List, Result, All, IfErr, IsOk, length, slice_index_or}
 use Rattle.sj_base.specs.declared.ids.Task.{Task}
 use Rattle.sj_base.specs.declared.ids.Worker.{Worker}
 use Rattle.sj_base.specs.declared.program.Program.{Program}

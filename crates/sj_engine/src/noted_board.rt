@@ -33,12 +33,13 @@ impl<D: Disk> Keyed for NotedBoard<D> {
 }
 
 impl<D: Disk> NotedBoard<D> {
-    /// Notes that a worker rests on a bell, with a claimed task or without one. The bell that is to be rung. Linear in the workers
-    /// where others rest, and under `ws`, else constant time.
+    /// Notes that a worker rests on a bell, with a claimed task or without one. The bell that is to be rung. Linear in the
+    /// workers where others rest, and under `ws`, else constant time.
     pub fn rest(&mut self, w: Worker, bell: u8, is_claimed: bool) -> Option<u8>
         requires inside { w.0 < length self.old.sleepers }
         ensures board { self.new.board ≡ self.old.board }
-        ensures woken { result ≡ wakes_at_rest w.0 is_claimed (has_ready self.old.board) self.old.sleepers }
+        ensures woken { result ≡
+            wakes_at_rest w.0 is_claimed (has_ready self.old.board) self.old.sleepers }
         ensures noted { self.new.sleepers ≡
             noted_at_rest w.0 bell is_claimed (has_ready self.old.board) self.old.sleepers }
         ensures sound { IsSoundBoard D.size D.faults D.mismatches D.held self.new.board }

@@ -244,7 +244,8 @@ impl Sleepers {
     fn pass(&mut self, w: Worker, is_over: bool, gives_way: bool, leaves: bool) -> Option<u8>
         requires inside { w.0 < length self.old }
         ensures woken { result ≡ woken w.0 (due_in_turn w.0 is_over gives_way leaves self.old) }
-        ensures noted { self.new ≡ left_resting w.0 (due_in_turn w.0 is_over gives_way leaves self.old) }
+        ensures noted { self.new ≡
+            left_resting w.0 (due_in_turn w.0 is_over gives_way leaves self.old) }
     {
         if !self.somebody {
             return None;

@@ -54,7 +54,8 @@ impl<R, D: Disk> Workplace<'_, R, D> {
         requires turn { IsSomeAnd seat.old.found
             (MayLeave D.size D.faults D.mismatches D.held self.now.desk.now self.now.worker noted) }
         requires did { IsSomeAnd seat.old.found (λ found. IsChange found.board noted.board change) }
-        ensures left { HasLeft self.now.desk.now self.now.worker (noted_after self.now.worker change noted) seat.new }
+        ensures left { HasLeft self.now.desk.now self.now.worker
+            (noted_after self.now.worker change noted) seat.new }
         ensures rung { HasRung (wakes_after self.now.worker change noted) seat.old seat.new }
     {
         let woken = noted.change(self.worker, change);
@@ -90,7 +91,8 @@ impl<R: Wait, D: Disk> Workplace<'_, R, D> {
         ensures row { IsSeated self.now (λ r. AfterPick self.now.worker r result) seat.new }
         ensures events { GoesOn self.now.worker seat.old seat.new }
         ensures heard { result ≡ Picked.Nothing → is_some seat.new.heard ≡ true }
-        ensures bell { MindsBell self.now.worker self.now.bell (finds_nothing result) seat.old seat.new }
+        ensures bell { MindsBell self.now.worker self.now.bell
+            (finds_nothing result) seat.old seat.new }
     {
         let mut noted = self.desk.enter(self.rt, seat);
         let picked = noted.board.pick(self.alloc, self.worker);
@@ -110,7 +112,8 @@ impl<R: Wait, D: Disk> Workplace<'_, R, D> {
             (λ r. AfterStep D.held (board_key self.now) self.now.worker t r result) seat.new }
         ensures events { GoesOn self.now.worker seat.old seat.new }
         ensures heard { result ≡ Step.Waits → is_some seat.new.heard ≡ true }
-        ensures bell { MindsBell self.now.worker self.now.bell (has_to_wait result) seat.old seat.new }
+        ensures bell { MindsBell self.now.worker self.now.bell
+            (has_to_wait result) seat.old seat.new }
     {
         let mut noted = self.desk.enter(self.rt, seat);
         let step = noted.board.step(self.alloc, self.worker, t);

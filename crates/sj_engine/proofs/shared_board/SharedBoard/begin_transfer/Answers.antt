@@ -1,4 +1,4 @@
-use Rattle.std.proofs.Common.{◌∙◌, ap, subst, sym, Option, Some, ℕ}
+use Rattle.std.proofs.Common.{◌∙◌, ap, subst, sym, Some, ℕ}
 use Rattle.sj_base.specs.declared.ids.Place.{Place}
 use Rattle.sj_base.specs.declared.ids.Place.TheVariants.{Node as AtNode}
 use Rattle.sj_machine.specs.BoardRow.{key_of}

@@ -1,4 +1,4 @@
-use Rattle.std.proofs.Common.{rules, ◌≡◌, ◌∙◌, false, is_some, subst, sym}
+use Rattle.std.proofs.Common.{rules, ◌≡◌, false, is_some, subst, sym}
 use Rattle.std.specs.List.{list_any}
 use Rattle.sj_engine.proofs.Sleeping.{quiet-left, quiet-woken}
 use Rattle.sj_engine.proofs.sleepers.Sleepers.pass.Goals as goal

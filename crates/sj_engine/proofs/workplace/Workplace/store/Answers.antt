@@ -1,10 +1,9 @@
-use Rattle.std.proofs.Common.{subst, sym}
+use Rattle.std.proofs.Common.{subst}
 use Rattle.std.specs.Int.{w64}
-use Rattle.std.specs.Prelude.{All, FitsSigned, IsSomeAnd}
+use Rattle.std.specs.Prelude.{All, FitsSigned}
 use Rattle.sj_base.specs.Array.{Array}
 use Rattle.sj_disk.specs.Units.{UnitStores}
-use Rattle.sj_machine.specs.Board.{BoardState}
-use Rattle.sj_engine.specs.Stage.{IsCarried, row_in}
+use Rattle.sj_engine.specs.Stage.{IsCarried}
 use Rattle.sj_engine.specs.Stepping.{IsUnitFor}
 use Rattle.sj_engine.specs.Workplace.{board_key}
 use Rattle.sj_engine.proofs.DeskTurns.{at-both}
