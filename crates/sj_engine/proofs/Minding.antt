@@ -14,7 +14,7 @@ use Rattle.sj_machine.specs.Standing.{state}
 use Rattle.sj_engine.specs.Bell.{HasHeardBell, HasRung, IsChange, MindsBell, is_claimed, noted_after, noted_for_rest, wakes_after, wakes_for_rest}
 use Rattle.sj_engine.specs.Noted.{noted_row}
 use Rattle.sj_engine.specs.Picking.{PickMakes, finds_nothing}
-use Rattle.sj_engine.specs.Resting.{Notes, change_of, has_ready, is_over, looks, noted, wakes, wakes_at_rest}
+use Rattle.sj_engine.specs.Resting.{RestNotes, change_of, has_ready, is_over, looks, noted, wakes, wakes_at_rest}
 use Rattle.sj_engine.specs.Stage.{HasLeft}
 use Rattle.sj_engine.specs.Stepping.{EndsByFault, HasDone, StepMakes, has_to_wait}
 use Rattle.sj_engine.specs.Turn.{Happens, NothingHappens}
@@ -28,13 +28,13 @@ use Rattle.sj_engine.specs.declared.stepping.Step.{Step}
 use Rattle.sj_engine.specs.declared.stepping.Step.TheVariants.{Begun, Moves, Writes, Reads, Discarded, Waits, Stopped, Failed}
 
 -- a ready task counts only after a look
-pub looked : (w : ℕ) (change : Change) (over ready : Bool) (s : Notes) → wakes w change over (looks change && ready) s ≡ wakes w change over ready s
+pub looked : (w : ℕ) (change : Change) (over ready : Bool) (s : RestNotes) → wakes w change over (looks change && ready) s ≡ wakes w change over ready s
 looked w Claimed over ready s = refl
 looked w Begins over ready s = refl
 looked w Freed over ready s = refl
 looked w Ended over ready s = refl
 
-pub looked-noted : (w : ℕ) (change : Change) (over ready : Bool) (s : Notes) → noted w change over (looks change && ready) s ≡ noted w change over ready s
+pub looked-noted : (w : ℕ) (change : Change) (over ready : Bool) (s : RestNotes) → noted w change over (looks change && ready) s ≡ noted w change over ready s
 looked-noted w Claimed over ready s = refl
 looked-noted w Begins over ready s = refl
 looked-noted w Freed over ready s = refl
@@ -96,9 +96,9 @@ module _ {D : Type 0} where
         board = v.board;
         change = change;
         did = did;
-        left = left.left ∙ ap (λ (n : Notes). let x : NotedBoard D = record { board = v.board; sleepers = n } in Some (noted_after w change x)) notes;
+        left = left.left ∙ ap (λ (n : RestNotes). let x : NotedBoard D = record { board = v.board; sleepers = n } in Some (noted_after w change x)) notes;
         rung = rung ∙ ap (λ (l : List ℕ). l ++ option_to_list (wakes_after w change v)) same
-            ∙ ap (λ (n : Notes). s.rings ++ option_to_list (wakes w.0 change (is_over v.board) (has_ready v.board) n)) notes;
+            ∙ ap (λ (n : RestNotes). s.rings ++ option_to_list (wakes w.0 change (is_over v.board) (has_ready v.board) n)) notes;
       };
     }
 
@@ -112,9 +112,9 @@ module _ {D : Type 0} where
         board = v.board;
         nothing = nothing;
         left = left.left ∙ ap (λ (b : Bool). Some (noted_for_rest w bell b v)) is
-            ∙ ap (λ (n : Notes). let x : NotedBoard D = record { board = v.board; sleepers = n } in Some (noted_for_rest w bell (is_claimed v.board w) x)) notes;
+            ∙ ap (λ (n : RestNotes). let x : NotedBoard D = record { board = v.board; sleepers = n } in Some (noted_for_rest w bell (is_claimed v.board w) x)) notes;
         rung = rung ∙ ap (λ (l : List ℕ). l ++ option_to_list (wakes_for_rest w claimed v)) same ∙ ap (λ (b : Bool). s.rings ++ option_to_list (wakes_for_rest w b v)) is
-            ∙ ap (λ (n : Notes). s.rings ++ option_to_list (wakes_at_rest w.0 (is_claimed v.board w) (has_ready v.board) n)) notes;
+            ∙ ap (λ (n : RestNotes). s.rings ++ option_to_list (wakes_at_rest w.0 (is_claimed v.board w) (has_ready v.board) n)) notes;
         heard = heard;
       };
     }

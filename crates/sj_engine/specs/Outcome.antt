@@ -29,7 +29,8 @@ IsCausedBy faults mismatches held old new (DiskFault d) = HasRisen faults old ne
 IsCausedBy faults mismatches held old new (Damaged d want found) = HasRisen mismatches old new d.0 × (want ≢ found) × ¬ AllTell held old
 IsCausedBy faults mismatches held old new OutOfMemory = Unit {0}
 
--- the header that was wanted of a disk is the one last written there of a cell with a copy on it, in the state that the events leave
+-- the header that was wanted of a disk is the one last written there of a cell with a copy on it, in the state that the events
+-- leave
 abbrev pub WantsLastWritten : Program → Machine → List Event → RunFault → Type 0
 WantsLastWritten p m trace (DiskFault d) = Unit {0}
 WantsLastWritten p m trace (Damaged d want found) = IsLastWritten p (state_of p m trace) d want

@@ -52,8 +52,8 @@ fn run_kernel<C: Codelets, G: Gate>(
 }
 
 /// Runs a task's kernel: makes its operands from shares of the tiles whose old value it reads, in operand order, and gives
-/// shares of its results, in the order of its written operands, all in the frame that it takes. The cost of the kernel, and linear in the elements of the
-/// operands that begin as zeros, and of those to be written to of which somebody else has a share.
+/// shares of its results, in the order of its written operands, all in the frame that it takes. The cost of the kernel, and linear
+/// in the elements of the operands that begin as zeros, and of those to be written to of which somebody else has a share.
 ///
 /// Whatever the cells hold: where the shares are of what the operands hold for a worker, the results are the task's.
 pub fn compute<C: Codelets, G: Gate>(

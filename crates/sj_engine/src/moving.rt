@@ -115,7 +115,8 @@ impl<D: Disk> SharedBoard<D> {
         true
     }
 
-    /// A worker has no memory for the tile of its transfer: the disk goes back as it was, and the worker has failed. Constant time.
+    /// A worker has no memory for the tile of its transfer: the disk goes back as it was, and the worker has failed. Constant
+    /// time.
     pub fn give_unit_up(&mut self, w: Worker, t: Task, x: Transfer, unit: Unit<D>)
         requires worker { IsWorkerOf self.old w }
         requires holds { HoldsRow w t x unit (row_in self.old w) }

@@ -2,7 +2,7 @@
 
 ghost use Rattle.std.specs.Prelude.{◌≡◌, ◌&&◌, ◌||◌, ◌<◌, IfOk, IfSome, None, is_some, length, map, not, position, replicate, slice_set, true};
 ghost use Rattle.std.specs.List.{list_any};
-ghost use Rattle.sj_engine.specs.Resting.{called_for_task, called_one, due_in_turn, gives_way, is_due, is_idle, left_resting, looks, made_due, noted, noted_at_rest, place_behind, reason_of, rests_blocked, rests_idle, wakes, wakes_at_rest, woken};
+ghost use Rattle.sj_engine.specs.Resting.{due_for_task, due_where, due_in_turn, gives_way, is_due, is_for_want_of_a_task, left_resting, looks, made_due, noted, noted_at_rest, place_behind, reason_of, rests_blocked, rests_idle, wakes, wakes_at_rest, woken};
 
 use sj_base::ids::Worker;
 use sj_base::memory::OutOfMemory;
@@ -24,7 +24,7 @@ pub enum Change {
 
 /// For what a worker rests.
 #[derive(Clone, Copy, Debug, PartialEq, Eq)]
-pub enum Reason {
+pub enum RestReason {
     /// For want of a task: none was ready when it looked.
     Idle,
     /// It couldn't claim a task that was ready, or has claimed one and waits for another worker.
@@ -34,7 +34,7 @@ pub enum Reason {
 /// The note of a worker that rests.
 #[derive(Clone, Copy, Debug, PartialEq, Eq)]
 pub struct Note {
-    pub reason: Reason,
+    pub reason: RestReason,
     /// The bell that its thread sleeps on.
     pub bell: u8,
     /// Whether it is to look again: the turns to come wake those that are due, one each.
@@ -83,25 +83,25 @@ impl Change {
     }
 }
 
-impl Reason {
+impl RestReason {
     /// For what a worker rests, with a claimed task or without one, where a task is ready or not. Constant time.
-    fn of(is_claimed: bool, is_ready: bool) -> Reason
+    fn of(is_claimed: bool, is_ready: bool) -> RestReason
         ensures { result ≡ reason_of is_claimed is_ready }
     {
         if is_claimed || is_ready {
-            Reason::Blocked
+            RestReason::Blocked
         } else {
-            Reason::Idle
+            RestReason::Idle
         }
     }
 
     /// Whether no task was ready. Constant time.
-    fn is_idle(&self) -> bool
-        ensures { result ≡ is_idle self.now }
+    fn is_for_want_of_a_task(&self) -> bool
+        ensures { result ≡ is_for_want_of_a_task self.now }
     {
         match self {
-            Reason::Idle => true,
-            Reason::Blocked => false,
+            RestReason::Idle => true,
+            RestReason::Blocked => false,
         }
     }
 }
@@ -122,7 +122,7 @@ fn rests_idle(note: &Option<Note>) -> bool
 {
     match note {
         None => false,
-        Some(note) => note.reason.is_idle(),
+        Some(note) => note.reason.is_for_want_of_a_task(),
     }
 }
 
@@ -132,7 +132,7 @@ fn rests_blocked(note: &Option<Note>) -> bool
 {
     match note {
         None => false,
-        Some(note) => !note.reason.is_idle(),
+        Some(note) => !note.reason.is_for_want_of_a_task(),
     }
 }
 
@@ -179,9 +179,9 @@ fn next_due(notes: &[Option<Note>], w: usize) -> Option<usize>
     }
 }
 
-/// The note where all are called, or those that wait for another worker.
-fn called_one(note: Option<Note>, all: bool) -> Option<Note>
-    ensures { result ≡ called_one all note }
+/// The note where all are made due, or those that wait for another worker.
+fn due_where(note: Option<Note>, all: bool) -> Option<Note>
+    ensures { result ≡ due_where all note }
 {
     if all || rests_blocked(&note) {
         made_due(note)
@@ -199,16 +199,16 @@ fn anybody(notes: &[Option<Note>]) -> bool
 
 /// All that rest are due, or all that wait for another worker. Linear in the workers.
 fn call(notes: &mut Vec<Option<Note>>, all: bool)
-    ensures { notes.new.items ≡ map (called_one all) notes.old.items }
+    ensures { notes.new.items ≡ map (due_where all) notes.old.items }
 {
     for k in 0..notes.len() {
-        notes[k] = called_one(notes[k], all);
+        notes[k] = due_where(notes[k], all);
     }
 }
 
 /// The first that rests for want of a task is due. Linear in the workers.
 fn call_for_task(notes: &mut Vec<Option<Note>>)
-    ensures { notes.new.items ≡ called_for_task true notes.old.items }
+    ensures { notes.new.items ≡ due_for_task true notes.old.items }
 {
     if let Some(k) = first_idle(notes) {
         notes[k] = made_due(notes[k]);
@@ -283,7 +283,7 @@ impl Sleepers {
         let woken = self.pass(w, false, false, !is_claimed && is_ready);
         self.somebody = true;
         self.notes[w.0 as usize] = Some(Note {
-            reason: Reason::of(is_claimed, is_ready),
+            reason: RestReason::of(is_claimed, is_ready),
             bell,
             is_due: false,
         });

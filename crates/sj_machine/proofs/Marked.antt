@@ -8,7 +8,7 @@ use Rattle.sj_node.specs.Entry.{has_entry}
 use Rattle.sj_node.specs.Store.{Store}
 use Rattle.sj_machine.specs.Agrees.{AreMarked, IsWide, Rows, pins_on, store_of}
 use Rattle.sj_machine.specs.Copies.{Copies, mark_at, row_of}
-use Rattle.sj_machine.specs.Mark.{is_entry as is_entry_mark, mark_of}
+use Rattle.sj_machine.specs.Mark.{is_entry_mark, mark_of}
 use Rattle.sj_machine.specs.Sound.{Keeps}
 use Rattle.sj_machine.specs.Standing.{Standing, state}
 use Rattle.sj_machine.proofs.ClaimEntries.{entries-has}

@@ -18,7 +18,7 @@ use Rattle.sj_core.specs.Step.{disk_of}
 use Rattle.sj_node.specs.Entry.{Entry, has_entry}
 use Rattle.sj_node.specs.Store.{Store, store}
 use Rattle.sj_machine.specs.Copies.{Copies, mark_at, row_of, tile_at}
-use Rattle.sj_machine.specs.Mark.{is_entry, mark_of}
+use Rattle.sj_machine.specs.Mark.{is_entry_mark, mark_of}
 
 -- what is kept: a row for each task, cell, node and worker
 pub record Rows : Type 0 where
@@ -81,7 +81,7 @@ pub record Agrees (p : Program) (m : Machine) (s : State) (Tells : Type 0) (rows
 
 -- a node's entries are those of the cells of which the marks tell so
 abbrev pub AreMarked : List Copies → Node → List Entry → Type 0
-AreMarked rows n entries = (c : Cell) → has_entry entries c ≡ is_entry (mark_at (row_of rows c) n)
+AreMarked rows n entries = (c : Cell) → has_entry entries c ≡ is_entry_mark (mark_at (row_of rows c) n)
 
 -- ---- changing rows
 

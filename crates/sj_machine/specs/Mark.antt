@@ -20,11 +20,11 @@ is_there Valid = true
 is_there (Leaving w) = true
 
 -- the node has an entry for the cell: there is a copy that stays, or one that comes
-abbrev pub is_entry : Mark → Bool
-is_entry Invalid = false
-is_entry (Coming w) = true
-is_entry Valid = true
-is_entry (Leaving w) = false
+abbrev pub is_entry_mark : Mark → Bool
+is_entry_mark Invalid = false
+is_entry_mark (Coming w) = true
+is_entry_mark Valid = true
+is_entry_mark (Leaving w) = false
 
 abbrev pub is_leaving : Mark → Bool
 is_leaving (Leaving w) = true

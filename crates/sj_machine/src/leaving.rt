@@ -42,8 +42,8 @@ fn known_of(gone: &[usize], i: usize) -> usize
     }
 }
 
-/// A cell of which a copy leaves a node by the claim of a worker, where so many of each worker's victims, those that go first, are
-/// known to be gone. Linear in the workers, and in the others of their victims.
+/// A cell of which a copy leaves a node by the claim of a worker, where so many of each worker's victims, those that go first,
+/// are known to be gone. Linear in the workers, and in the others of their victims.
 pub fn leaving_at(cells: &[Copies], n: Node, workers: &[Hold], gone: &[usize]) -> Option<Cell>
     requires { All (λ row. n.0 < length row.marks) cells.now }
     ensures some { IfSome result (λ c. is_leaving_at cells.now n c ≡ true) }

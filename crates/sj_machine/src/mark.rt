@@ -1,7 +1,7 @@
 //! What a cell is at a node.
 
 ghost use Rattle.std.specs.Prelude.{◌≡◌};
-ghost use Rattle.sj_machine.specs.Mark.{is_coming_by, is_entry, is_leaving, is_leaving_by, is_there};
+ghost use Rattle.sj_machine.specs.Mark.{is_coming_by, is_entry_mark, is_leaving, is_leaving_by, is_there};
 
 use sj_base::ids::Worker;
 
@@ -27,8 +27,8 @@ impl Mark {
     }
 
     /// Whether the node has an entry for the cell: there is a copy that stays, or one that comes. Constant time.
-    pub fn is_entry(self) -> bool
-        ensures { result ≡ is_entry self }
+    pub fn is_entry_mark(self) -> bool
+        ensures { result ≡ is_entry_mark self }
     {
         matches!(self, Mark::Valid | Mark::Coming(_))
     }

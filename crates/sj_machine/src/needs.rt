@@ -6,7 +6,7 @@ ghost use Rattle.sj_base.specs.Mode.{is_data, is_scratch};
 ghost use Rattle.sj_core.specs.Needs.{tile_bytes as bytes_of_tile};
 ghost use Rattle.sj_core.specs.Program.{dims_of, distinct, has_cell, task_of};
 ghost use Rattle.sj_machine.specs.Copies.{mark_at, row_of};
-ghost use Rattle.sj_machine.specs.Mark.{is_entry};
+ghost use Rattle.sj_machine.specs.Mark.{is_entry_mark};
 ghost use Rattle.sj_machine.specs.Plan.{IsSmallCell};
 
 use crate::choosing::mark_at;
@@ -74,9 +74,9 @@ pub fn scratch_bytes(program: &Program, accesses: &[Access]) -> u64
 /// Whether a node has no entry for a cell, by its mark, and the cell isn't among those that come after it. Linear in these.
 fn is_lacking(rows: &[Copies], n: Node, cell: Cell, later: &[Cell]) -> bool
     requires { All (λ row. n.0 < length row.marks) rows.now }
-    ensures { result ≡ (not (has_cell later.now cell) && not (is_entry (mark_at (row_of rows.now cell) n))) }
+    ensures { result ≡ (not (has_cell later.now cell) && not (is_entry_mark (mark_at (row_of rows.now cell) n))) }
 {
-    !later.contains(&cell) && !mark_at(rows, n, cell).is_entry()
+    !later.contains(&cell) && !mark_at(rows, n, cell).is_entry_mark()
 }
 
 /// The cells without an entry on a node, by their marks, each once. Quadratic in the cells, which are a task's few.
@@ -88,7 +88,7 @@ pub fn lacking_cells(
 ) -> Result<Vec<Cell>, OutOfMemory>
     requires { All (λ row. n.0 < length row.marks) rows.now }
     ensures { IfOk result (λ lacking. lacking.items
-        ≡ filter (λ c. not (is_entry (mark_at (row_of rows.now c) n))) (distinct cells.now)) }
+        ≡ filter (λ c. not (is_entry_mark (mark_at (row_of rows.now c) n))) (distinct cells.now)) }
 {
     let mut lacking = Vec::new(alloc);
     for i in 0..cells.len() {

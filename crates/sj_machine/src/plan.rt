@@ -107,8 +107,8 @@ impl Plan {
         (self.cells, self.victims)
     }
 
-    /// The plan of a worker's task on its node, where there is room for it. What is missing there is told by the cells' rows. Linear in the operands, the victims and the entries that
-    /// are passed, each by the operands.
+    /// The plan of a worker's task on its node, where there is room for it. What is missing there is told by the cells' rows. Linear
+    /// in the operands, the victims and the entries that are passed, each by the operands.
     pub fn on(
         alloc: Global,
         program: &Program,

@@ -9,7 +9,7 @@ use Rattle.sj_core.specs.Needs.{tile_bytes, scratch_bytes}
 use Rattle.sj_node.specs.Entry.{has_entry}
 use Rattle.sj_node.specs.Store.{victims_of}
 use Rattle.sj_machine.specs.Copies.{mark_at, row_of}
-use Rattle.sj_machine.specs.Mark.{is_entry}
+use Rattle.sj_machine.specs.Mark.{is_entry_mark}
 use Rattle.sj_machine.specs.Plan.{IsSmallCell}
 use Rattle.sj_machine.specs.Operands.{CanWorkOn, worked_among}
 use Rattle.sj_machine.specs.Planning.{lacking}
@@ -25,7 +25,7 @@ bytes_of-requires c =
     let accesses : c.accesses_of-accesses.result.now ≡ (task_of p t).accesses = c.accesses_of-accesses.ensures in
     let w = c.args.w in
     let names : c.worked_cells-cells.result ≡ cells_of p t w = search rules ∙ ap (worked_among p w) accesses in
-    let marked : c.in_ok-missing.missing.items ≡ filter (λ d. not (is_entry (mark_at (row_of c.args.rows.now d) c.args.n))) (distinct c.worked_cells-cells.result) = search rules in
+    let marked : c.in_ok-missing.missing.items ≡ filter (λ d. not (is_entry_mark (mark_at (row_of c.args.rows.now d) c.args.n))) (distinct c.worked_cells-cells.result) = search rules in
     let lacks : c.in_ok-missing.missing.items ≡ filter (λ d. not (has_entry s.entries d)) (distinct c.worked_cells-cells.result) = marked ∙ lacking-marked c.args.rows.now c.args.n s c.requires.marked c.worked_cells-cells.result in
     subst (λ (cs : List Cell). All (IsSmallCell p) cs) (sym (c.deref.ensures.value ∙ missing-is s (cells_of p t w) _ _ names lacks)) (lacking-small p (cells_of p t w) (work-small p t w c.requires.work) (work-few p t w c.requires.work) s)
 
@@ -37,7 +37,7 @@ total-requires c =
     let accesses : c.accesses_of-accesses.result.now ≡ (task_of p t).accesses = c.accesses_of-accesses.ensures in
     let w = c.args.w in
     let names : c.worked_cells-cells.result ≡ cells_of p t w = search rules ∙ ap (worked_among p w) accesses in
-    let marked : c.in_ok-missing.missing.items ≡ filter (λ d. not (is_entry (mark_at (row_of c.args.rows.now d) c.args.n))) (distinct c.worked_cells-cells.result) = search rules in
+    let marked : c.in_ok-missing.missing.items ≡ filter (λ d. not (is_entry_mark (mark_at (row_of c.args.rows.now d) c.args.n))) (distinct c.worked_cells-cells.result) = search rules in
     let lacks : c.in_ok-missing.missing.items ≡ filter (λ d. not (has_entry s.entries d)) (distinct c.worked_cells-cells.result) = marked ∙ lacking-marked c.args.rows.now c.args.n s c.requires.marked c.worked_cells-cells.result in
     let weighs : c.in_ok-bytes.bytes.items ≡ map (tile_bytes p) c.in_ok-missing.missing.items = search rules in
     let sum_is : sum c.deref-2.result.now ≡ sum (map (tile_bytes p) (lacking s (cells_of p t w))) = ap sum (c.deref-2.ensures.value ∙ weighs ∙ ap (map (tile_bytes p)) (missing-is s (cells_of p t w) _ _ names lacks)) in
@@ -51,7 +51,7 @@ overflow_add-need c =
     let accesses : c.accesses_of-accesses.result.now ≡ (task_of p t).accesses = c.accesses_of-accesses.ensures in
     let w = c.args.w in
     let names : c.worked_cells-cells.result ≡ cells_of p t w = search rules ∙ ap (worked_among p w) accesses in
-    let marked : c.in_ok-missing.missing.items ≡ filter (λ d. not (is_entry (mark_at (row_of c.args.rows.now d) c.args.n))) (distinct c.worked_cells-cells.result) = search rules in
+    let marked : c.in_ok-missing.missing.items ≡ filter (λ d. not (is_entry_mark (mark_at (row_of c.args.rows.now d) c.args.n))) (distinct c.worked_cells-cells.result) = search rules in
     let lacks : c.in_ok-missing.missing.items ≡ filter (λ d. not (has_entry s.entries d)) (distinct c.worked_cells-cells.result) = marked ∙ lacking-marked c.args.rows.now c.args.n s c.requires.marked c.worked_cells-cells.result in
     let weighs : c.in_ok-bytes.bytes.items ≡ map (tile_bytes p) c.in_ok-missing.missing.items = search rules in
     let sum_is : sum c.deref-2.result.now ≡ sum (map (tile_bytes p) (lacking s (cells_of p t w))) = ap sum (c.deref-2.ensures.value ∙ weighs ∙ ap (map (tile_bytes p)) (missing-is s (cells_of p t w) _ _ names lacks)) in
@@ -65,7 +65,7 @@ returns-in_default c =
     let accesses : c.accesses_of-accesses.result.now ≡ (task_of p t).accesses = c.accesses_of-accesses.ensures in
     let w = c.args.w in
     let names : c.worked_cells-cells.result ≡ cells_of p t w = search rules ∙ ap (worked_among p w) accesses in
-    let marked : c.in_ok-missing.missing.items ≡ filter (λ d. not (is_entry (mark_at (row_of c.args.rows.now d) c.args.n))) (distinct c.worked_cells-cells.result) = search rules in
+    let marked : c.in_ok-missing.missing.items ≡ filter (λ d. not (is_entry_mark (mark_at (row_of c.args.rows.now d) c.args.n))) (distinct c.worked_cells-cells.result) = search rules in
     let lacks : c.in_ok-missing.missing.items ≡ filter (λ d. not (has_entry s.entries d)) (distinct c.worked_cells-cells.result) = marked ∙ lacking-marked c.args.rows.now c.args.n s c.requires.marked c.worked_cells-cells.result in
     let weighs : c.in_ok-bytes.bytes.items ≡ map (tile_bytes p) c.in_ok-missing.missing.items = search rules in
     let holds : c.scratch_bytes-scratch.result ≡ scratch_bytes p (task_of p t) = c.scratch_bytes-scratch.ensures.bytes ∙ ap (λ (xs : List Access). sum_by (λ a. tile_bytes p a.cell) (filter (λ a. is_scratch a.mode) xs)) accesses in
@@ -80,7 +80,7 @@ returns c =
     let accesses : c.accesses_of-accesses.result.now ≡ (task_of p t).accesses = c.accesses_of-accesses.ensures in
     let w = c.args.w in
     let names : c.worked_cells-cells.result ≡ cells_of p t w = search rules ∙ ap (worked_among p w) accesses in
-    let marked : c.in_ok-missing.missing.items ≡ filter (λ d. not (is_entry (mark_at (row_of c.args.rows.now d) c.args.n))) (distinct c.worked_cells-cells.result) = search rules in
+    let marked : c.in_ok-missing.missing.items ≡ filter (λ d. not (is_entry_mark (mark_at (row_of c.args.rows.now d) c.args.n))) (distinct c.worked_cells-cells.result) = search rules in
     let lacks : c.in_ok-missing.missing.items ≡ filter (λ d. not (has_entry s.entries d)) (distinct c.worked_cells-cells.result) = marked ∙ lacking-marked c.args.rows.now c.args.n s c.requires.marked c.worked_cells-cells.result in
     let weighs : c.in_ok-bytes.bytes.items ≡ map (tile_bytes p) c.in_ok-missing.missing.items = search rules in
     let holds : c.scratch_bytes-scratch.result ≡ scratch_bytes p (task_of p t) = c.scratch_bytes-scratch.ensures.bytes ∙ ap (λ (xs : List Access). sum_by (λ a. tile_bytes p a.cell) (filter (λ a. is_scratch a.mode) xs)) accesses in
