@@ -13,6 +13,8 @@ mod tests_of_devices;
 #[cfg(test)]
 mod tests_of_machines;
 #[cfg(test)]
+mod tests_of_pieces;
+#[cfg(test)]
 mod tests_of_plans;
 #[cfg(test)]
 mod tests_of_summaries;

@@ -243,6 +243,42 @@ fn what_a_disk_sees_agrees_with_the_trace(rt: HostRuntime) -> Result<(), Fail> {
     Ok(())
 }
 
+/// The same of vectors of 10,000 elements, each of which a disk takes and gives by three pieces.
+const LARGE: &str =
+    "starjob 1\nnode 160008\nvector a 10000 fill 1 1\nvector b 10000 fill 2 1\nvector c 10000 fill 3 1\nvector s 1 fill 0 0\ntask sum a:R s:RW\nprint s\n";
+
+/// What a disk is called for as that is run: a and b are stored, and a is fetched. Each block has 80,024 bytes.
+const LARGE_CALLS: [Call; 12] = [
+    Call::Write(0, 24),
+    Call::Write(24, 32_768),
+    Call::Write(32_792, 32_768),
+    Call::Write(65_560, 14_464),
+    Call::Write(80_024, 24),
+    Call::Write(80_048, 32_768),
+    Call::Write(112_816, 32_768),
+    Call::Write(145_584, 14_464),
+    Call::Check(0),
+    Call::Read(24, 32_768),
+    Call::Read(32_792, 32_768),
+    Call::Read(65_560, 14_464),
+];
+
+#[test]
+fn a_large_block_goes_by_pieces_to_its_last_byte(rt: HostRuntime) -> Result<(), Fail> {
+    let alloc = rt.alloc();
+    let disk = NotingDisk {
+        disk: memory(alloc, 1 << 18, &[])?,
+        calls: Vec::new(alloc),
+    };
+    let run = run_on(&rt, alloc, LARGE, disk, &Library, &OpenGate)?;
+    same(&rt, run.text?.as_slice(), b"s: 50005000\n".as_slice());
+    for disk in run.disks.iter() {
+        same(&rt, disk.calls.as_slice(), LARGE_CALLS.as_slice());
+    }
+    same(&rt, run.disks.len(), 1);
+    Ok(())
+}
+
 /// What `THREE` prints with its trace: a and b fill the node, c takes the place of a, and a that of b.
 const THREE_TRACED: &str =
     "a: 1 2 3\nclaim t0 w0\nrun t0 w0\nend t0 w0\nclaim t1 w0\nrun t1 w0\nend t1 w0\nclaim t2 w0\nmove c0 n0 d0\nmoved c0 n0 d0\ndrop c0 n0\nrun t2 w0\nend t2 w0\nclaim t3 w0\nmove c1 n0 d0\nmoved c1 n0 d0\ndrop c1 n0\nmove c0 d0 n0\nmoved c0 d0 n0\nrun t3 w0\nend t3 w0\n";

@@ -2,9 +2,7 @@
 
 ghost use Rattle.std.specs.Prelude.{◌+◌, ◌≤◌, ◌^◌, None, length};
 
-use crate::test_calls::{
-    Answer, SUM, answer_on, bytes, call, calls, is_answered, memory, one, same,
-};
+use crate::test_calls::{Answer, answer_on, is_answered, memory, one, same};
 use crate::tests_of_machines::{ROUND, ROUND_OUT, ROUND_SWAP};
 use sj_base::ids::{DiskNo, Task};
 use sj_disk::header::Header;
@@ -12,10 +10,7 @@ use sj_edge::disk::{CheckFault, Disk};
 use sj_edge::file_disk::FileDisk;
 use sj_edge::gate::{Gate, OpenGate};
 use sj_edge::memory_disk::MemDisk;
-use sj_edge::memory_sink::MemSink;
-use sj_edge::memory_source::MemSource;
-use sj_edge::sink::Sink;
-use sj_edge::source::{Failed, Source};
+use sj_edge::source::Failed;
 use sj_top::status::Status;
 use sj_top::top::AnyDisk;
 use std::alloc::Global;
@@ -214,8 +209,9 @@ impl Disk for FalseDisk {
     }
 }
 
-/// A lie, and the first header that isn't the one wanted: its cell, its writes and its elements.
+/// A lie, a job to which it is told, and the first header that isn't the one wanted: its cell, its writes and its elements.
 struct Damage {
+    text: &'static str,
     lie: Lie,
     want: (u64, u64, u64),
     found: (u64, u64, u64),
@@ -225,33 +221,51 @@ struct Damage {
 const TWO_ROUNDS: &str =
     "starjob 1\nnode 48\nvector x 3 values 1 2 3\nvector y 3 values 10 20 30\nvector z 3 values 100 200 300\ntask add x:R y:RW\ntask add y:R z:RW\ntask add z:R x:RW\ntask add x:R y:RW\ntask add y:R z:RW\ntask add z:R x:RW\nprint x\n";
 
-// x is the first that is fetched again, and z is written before. Behind x, z and y the fourth that is written, by the seventh and
-// the eighth write, is z again.
-const DAMAGES: [Damage; 5] = [
+/// Three vectors on a node that holds two of them, each of them scaled.
+const SCALED: &str =
+    "starjob 1\nnode 64\nvector a 3 values 1 2 3\nvector b 3 values 4 5 6\nvector c 3 values 7 8 9\ntask scale(2) a:RW\ntask scale(3) b:RW\ntask scale(5) c:RW\nprint a\n";
+
+/// The first calls of a disk, more than come to it by four workers before the first fault is kept.
+const EACH: [u64; 12] = [1, 2, 3, 4, 5, 6, 7, 8, 9, 10, 11, 12];
+
+// Of two rounds x is the first that is fetched again, and z is written before. Behind x, z and y the fourth that is written, by
+// the seventh and the eighth write, is z again. Of the vectors that are scaled it is a, which is then fetched for the print.
+const DAMAGES: [Damage; 6] = [
     Damage {
+        text: TWO_ROUNDS,
         lie: Lie::Keeps(0),
         want: (0, 1, 3),
         found: (0, 0, 0),
     },
     Damage {
+        text: TWO_ROUNDS,
         lie: Lie::Keeps(6),
         want: (2, 2, 3),
         found: (2, 1, 3),
     },
     Damage {
+        text: TWO_ROUNDS,
         lie: Lie::Halves,
         want: (0, 1, 3),
         found: (0, 1, 0),
     },
     Damage {
+        text: TWO_ROUNDS,
         lie: Lie::WritesElsewhere,
         want: (0, 1, 3),
         found: (2, 1, 3),
     },
     Damage {
+        text: TWO_ROUNDS,
         lie: Lie::ReadsElsewhere,
         want: (0, 1, 3),
         found: (2, 1, 3),
+    },
+    Damage {
+        text: SCALED,
+        lie: Lie::Keeps(6),
+        want: (0, 2, 3),
+        found: (0, 1, 3),
     },
 ];
 
@@ -264,16 +278,24 @@ fn header((cell, writes, length): (u64, u64, u64)) -> Header {
     }
 }
 
+/// The answer to a job by so many workers on a disk that lies.
+fn answer_to_lie<R: Threads + Wait + Sync>(
+    rt: &R,
+    alloc: Global,
+    workers: &str,
+    text: &str,
+    lie: Lie,
+) -> Result<Answer, Fail> {
+    let disk = memory(alloc, ROUND_SWAP, &[])?;
+    let disks = one(alloc, Box::new(alloc, FalseDisk { disk, lie })?)?;
+    let words = ["--workers", workers];
+    answer_on(rt, alloc, &words, text.as_bytes(), disks, &OpenGate)
+}
+
 #[test]
 fn a_disk_that_lies_is_damaged(rt: HostRuntime) -> Result<(), Fail> {
     for damage in &DAMAGES {
-        let disk = FalseDisk {
-            disk: memory(rt.alloc(), ROUND_SWAP, &[])?,
-            lie: damage.lie,
-        };
-        let disks = one(rt.alloc(), Box::new(rt.alloc(), disk)?)?;
-        let text = TWO_ROUNDS.as_bytes();
-        let answer = answer_on(&rt, rt.alloc(), &[], text, disks, &OpenGate)?;
+        let answer = answer_to_lie(&rt, rt.alloc(), "1", damage.text, damage.lie)?;
         let damaged = Status::Damaged {
             disk: DiskNo(0),
             want: header(damage.want),
@@ -284,132 +306,56 @@ fn a_disk_that_lies_is_damaged(rt: HostRuntime) -> Result<(), Fail> {
     Ok(())
 }
 
-/// Gives one byte a call.
-#[derive(Drop)]
-struct ByteSource {
-    inner: MemSource,
-}
-
-impl Source for ByteSource {
-    ghost left = { λ _. None };
-
-    ghost faults = { λ s. s.inner.called.faults };
-
-    fn read(&mut self, buf: &mut [u8]) -> Result<usize, Failed> {
-        let count = buf.len().min(1);
-        self.inner.read(&mut buf[..count])
-    }
-}
-
-/// Takes one byte a call.
-#[derive(Drop)]
-struct ByteSink {
-    inner: MemSink,
-}
-
-impl Sink for ByteSink {
-    ghost taken = { λ _. None };
-
-    ghost faults = { λ s. s.inner.called.faults };
-
-    fn write(&mut self, bytes: &[u8]) -> Result<usize, Failed> {
-        self.inner.write(&bytes[..bytes.len().min(1)])
-    }
-}
-
-/// What ended where a device of bytes refuses the call with this number, 0 for none.
-#[derive(Drop)]
-struct ByteCall {
-    status: Status,
-    out: MemSink,
-    err: MemSink,
-}
-
-/// The numbers of the calls that source, `out` and `err` refuse.
-#[derive(Clone, Copy, Debug, PartialEq, Eq)]
-struct Refused {
-    source: u64,
-    out: u64,
-    err: u64,
-}
-
-/// A sink that takes a byte a call, and refuses this one.
-fn byte_sink(alloc: Global, refused: u64) -> Result<ByteSink, Fail> {
-    let inner = MemSink::new(alloc, 1000, calls(alloc, &[refused])?)?;
-    Ok(ByteSink { inner })
-}
-
-/// Runs a `SUM` on such devices.
-fn call_by_bytes<R: Threads + Wait + Sync>(
-    rt: &R,
-    alloc: Global,
-    refused: Refused,
-) -> Result<ByteCall, Fail> {
-    let inner = MemSource::new(bytes(alloc, SUM)?, calls(alloc, &[refused.source])?);
-    let mut source = ByteSource { inner };
-    let mut out = byte_sink(alloc, refused.out)?;
-    let mut err = byte_sink(alloc, refused.err)?;
-    let outcome = call(rt, alloc, &mut source, &mut out, &mut err)?;
-    Ok(ByteCall {
-        status: outcome.status,
-        out: out.inner,
-        err: err.inner,
-    })
-}
-
-/// As many first bytes of a text as a sink takes that refuses the call with this number.
-fn front(text: &str, refused: u64) -> &[u8] {
-    let bytes = text.as_bytes();
-    let count = (refused as usize).saturating_sub(1).min(bytes.len());
-    &bytes[..if refused == 0 { bytes.len() } else { count }]
-}
-
-/// The status and both outputs of such a call.
-fn ends<R: Threads + Wait + Abort + Sync>(
-    rt: &R,
-    alloc: Global,
-    refused: Refused,
-    status: Status,
-    (out, err): (&str, &str),
-) -> Result<(), Fail> {
-    let ended = call_by_bytes(rt, alloc, refused)?;
-    assert_eq!(rt; ended.status, status, "{refused:?}");
-    assert_eq!(rt; ended.out.taken(), front(out, refused.out), "{refused:?}");
-    assert_eq!(rt; ended.err.taken(), front(err, refused.err), "{refused:?}");
+#[test]
+fn a_disk_that_keeps_all_that_is_written_is_no_liar(rt: HostRuntime) -> Result<(), Fail> {
+    let answer = answer_to_lie(&rt, rt.alloc(), "1", SCALED, Lie::Keeps(u64::MAX))?;
+    is_answered(&rt, &answer, Status::Done, "a: 2 4 6\n", "all is kept");
     Ok(())
 }
 
-// A source gives its bytes one a call, and is called once more for its end; `out` and `err` take one a call.
+/// Vectors that are scaled by so many workers fail with a disk that refuses these calls.
+fn scaled_fails<R: Threads + Wait + Abort + Sync>(
+    rt: &R,
+    alloc: Global,
+    workers: &str,
+    refused: &[u64],
+) -> Result<(), Fail> {
+    let disk = memory(alloc, ROUND_SWAP, refused)?;
+    let disks = one(alloc, Box::new(alloc, disk)?)?;
+    let words = ["--workers", workers];
+    let answer = answer_on(rt, alloc, &words, SCALED.as_bytes(), disks, &OpenGate)?;
+    is_failed(rt, &answer);
+    assert_eq!(rt; answer.outcome.disks.len(), 1);
+    Ok(())
+}
+
+// Three vectors never fit the node together, so that four workers come to a call, too.
 #[test]
-fn each_call_that_a_device_refuses_is_its_fault(rt: HostRuntime) -> Result<(), Fail> {
-    let alloc = rt.alloc();
-    let printed = "y: 11 22 33\n";
-    let reads = SUM.len() as u64 + 1;
-    for source in 0..reads + 3 {
-        let refused = Refused {
-            source,
-            out: 0,
-            err: source % 30,
-        };
-        if (1..=reads).contains(&source) {
-            let said = ("", "starjob: reading failed\n");
-            ends(&rt, alloc, refused, Status::SourceFault, said)?;
-        } else {
-            ends(&rt, alloc, refused, Status::Done, (printed, ""))?;
-        }
-    }
-    let writes = printed.len() as u64;
-    for out in 1..writes + 3 {
-        let refused = Refused {
-            source: 0,
-            out,
-            err: out % 5,
-        };
-        if out <= writes {
-            let said = (printed, "starjob: writing failed\n");
-            ends(&rt, alloc, refused, Status::SinkFault, said)?;
-        } else {
-            ends(&rt, alloc, refused, Status::Done, (printed, ""))?;
+fn vectors_that_are_scaled_fail_with_their_disk(rt: HostRuntime) -> Result<(), Fail> {
+    scaled_fails(&rt, rt.alloc(), "1", &[3])?;
+    scaled_fails(&rt, rt.alloc(), "4", &EACH)
+}
+
+/// What two rounds print.
+const TWO_ROUNDS_OUT: &str = "x: 346 692 1038\n";
+
+// The threads decide which blocks go out and come back; one is wanted back at least. A lie is found, or it doesn't matter.
+#[test]
+fn a_disk_that_lies_to_four_workers_is_damaged_or_out_is_right(
+    rt: HostRuntime,
+) -> Result<(), Fail> {
+    for damage in &DAMAGES {
+        let answer = answer_to_lie(&rt, rt.alloc(), "4", TWO_ROUNDS, damage.lie)?;
+        match answer.outcome.status {
+            Status::Damaged { disk, want, found } => {
+                assert!(rt; disk == DiskNo(0) && want != found);
+                assert!(rt; answer.out.taken().is_empty());
+            }
+            status => {
+                same(&rt, status, Status::Done);
+                assert_eq!(rt; answer.out.taken(), TWO_ROUNDS_OUT.as_bytes());
+                assert!(rt; !matches!(damage.lie, Lie::Keeps(0) | Lie::Halves));
+            }
         }
     }
     Ok(())
