@@ -23,14 +23,15 @@ AMPLE = ["--node", str(1024 * MIB)]
 
 
 def product(n, tile):
-    """Its priorities let one worker take the tasks in the order in which they stand, behind all that load tiles."""
+    """Its priorities let one worker take the tasks in the order in which they stand, behind all that load tiles; where there are more
+    tiles than priorities, neighbours share one."""
     p = n // tile
     yield "policy prio"
     yield from (f"matrix A {n} {n} by {p} {p} fill 1 1", f"matrix B {n} {n} by {p} {p} fill 5 -2", f"matrix C {n} {n} by {p} {p} fill 0 0")
     for i in range(p):
         for j in range(p):
             for k in range(p):
-                yield f"task gemm A[{i},{k}]:R B[{k},{j}]:R C[{i},{j}]:RW prio={-1 - p * i - j}"
+                yield f"task gemm A[{i},{k}]:R B[{k},{j}]:R C[{i},{j}]:RW prio={-1 - (p * i + j) * 999 // max(p * p, 999)}"
 
 
 def product_by_recency(p, room):
@@ -119,7 +120,7 @@ def switches(path, words):
 def by_four_nodes(folder):
     """The product in tiles of 8 KiB by four workers, each on a small node of its own: transfers are about half of the time."""
     path = written(folder, product(1024, 32))
-    words = ["--workers", "4", *["--node", str(192 * 1024)] * 4, "--swap-size", str(64 * MIB)]
+    words = ["--workers", "4", "--nodes", "4", "--node", str(192 * 1024), "--swap-size", str(64 * MIB)]
     times, counts = zip(*(switches(path, words) for _ in range(RUNS)))
     taken, switched = statistics.median(times), statistics.median(counts)
     print(f"product in tiles of 8 KiB by 4 workers on 4 nodes: {taken:.3f} s, {switched:.0f} switches", flush=True)
