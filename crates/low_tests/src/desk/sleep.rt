@@ -318,6 +318,21 @@ fn ring_one<R: Wait + Clock>(
     see_to_the_end(rt, desk, seat, watch, 2);
 }
 
+// A turn in which the seat hears the bell of its number, and a rest after it.
+fn rest_on_its_own<R: Wait + Clock + CpuClock>(
+    rt: &R,
+    desk: &Desk<Journal>,
+    seat: &mut DeskSeat<Journal>,
+    watch: &Watch,
+)
+    requires { IsWaiting desk.now seat.old }
+    ensures waits { IsWaiting desk.now seat.new }
+    ensures number { seat.new.number ≡ seat.old.number }
+{
+    let bell = seat.number();
+    rest(rt, desk, seat, watch, bell);
+}
+
 // The first seat rings while the two others rest, each in a thread of its own and on the bell of its number.
 fn ring_one_of_two<R: Threads + Wait + Clock + CpuClock + Sync>(
     rt: &R,
@@ -336,8 +351,7 @@ fn ring_one_of_two<R: Threads + Wait + Clock + CpuClock + Sync>(
             if i == 0 {
                 ring_one(rt, desk, seat, watch)
             } else {
-                let bell = seat.number();
-                rest(rt, desk, seat, watch, bell)
+                rest_on_its_own(rt, desk, seat, watch)
             }
         },
     );
