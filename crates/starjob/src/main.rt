@@ -10,10 +10,10 @@ mod tally;
 mod watch;
 mod word_at_fault;
 
-ghost use Rattle.std.specs.Prelude.{◌≤◌, ◌^◌, ◌∷◌, [], length};
+ghost use Rattle.std.specs.Prelude.{◌≤◌, ◌^◌, length};
 ghost use Rattle.sj_edge.specs.Sizes.{AreWithin};
-ghost use Rattle.sj_top.specs.Device.{Device, devices, seen};
-ghost use Rattle.sj_top.specs.Report.{line_of, TakesLine};
+ghost use Rattle.sj_top.specs.Device.{devices, seen};
+ghost use Rattle.sj_top.specs.Report.{status_line, TakesLine};
 ghost use Rattle.sj_words.specs.Spelling.{texts};
 ghost use Rattle.starjob.specs.Ending.{EndsForACause, IsCodeOf};
 
@@ -72,7 +72,7 @@ fn words(rt: &HostRuntime) -> Option<Vec<String>> {
 fn end_with<E: Sink>(status: Status, err: &mut E) -> ExitCode
     ensures ends_with_its_code { IsCodeOf status result }
     ensures err_takes_its_line { TakesLine
-        (seen E.taken E.faults err.old) (seen E.taken E.faults err.new) (line_of status) }
+        (seen E.taken E.faults err.old) (seen E.taken E.faults err.new) (status_line status) }
 {
     report(status, err);
     ExitCode::from(status.code())
@@ -82,7 +82,7 @@ fn end_with<E: Sink>(status: Status, err: &mut E) -> ExitCode
 fn end_without_memory<E: Sink>(err: &mut E) -> ExitCode
     ensures ends_with_its_code { IsCodeOf Status.OutOfMemory result }
     ensures err_takes_its_line { TakesLine (seen E.taken E.faults err.old)
-        (seen E.taken E.faults err.new) (line_of Status.OutOfMemory) }
+        (seen E.taken E.faults err.new) (status_line Status.OutOfMemory) }
 {
     end_with(Status::OutOfMemory, err)
 }
@@ -159,11 +159,6 @@ where
     S: Source,
     O: Sink + Drop,
     E: Sink,
-    // (`out` is gone behind the call: of how it was left there is a state)
-    ensures ends_with_the_code_of_a_status_that_has_its_cause { (left : Device) × EndsForACause
-        (texts words.now)
-        (devices S.Source O.Sink ⟦<AnyDisk as Disk>⟧ source.old out (disk ∷ []))
-        (seen S.left S.faults source.new) left result }
 {
     // no words ask for a larger one
     if disk.size() > LARGEST_DISK {
