@@ -12,6 +12,10 @@ mod word_at_fault;
 
 ghost use Rattle.std.specs.Prelude.{◌≤◌, ◌^◌, length};
 ghost use Rattle.sj_edge.specs.Sizes.{AreWithin};
+ghost use Rattle.sj_top.specs.Device.{devices, seen};
+ghost use Rattle.sj_top.specs.Report.{status_line, TakesLine};
+ghost use Rattle.sj_words.specs.Spelling.{texts};
+ghost use Rattle.starjob.specs.Ending.{EndsForACause, IsCodeOf};
 
 use numbers::{STDERR, STDOUT, occupy_streams};
 use patient::Patient;
@@ -31,9 +35,10 @@ use sj_top::status::Status;
 use sj_top::top::{AnyDisk, starjob};
 use sj_words::{SwapWish, swap_wish};
 use std::alloc::Global;
-use std::io::{Error, ErrorKind, IsTerminal};
+use std::fs::File;
+use std::io::{self, Error, ErrorKind, IsTerminal};
 use std::process::ExitCode;
-use std::rt::Clock;
+use std::rt::{Clock, Files};
 use std::sync::{Arc, Wait};
 use std::thread::{JoinHandle, Threads};
 use std::{env, thread};
@@ -64,13 +69,21 @@ fn words(rt: &HostRuntime) -> Option<Vec<String>> {
 }
 
 /// Ends before the job is begun, with the status's line.
-fn end_with<E: Sink>(status: Status, err: &mut E) -> ExitCode {
+fn end_with<E: Sink>(status: Status, err: &mut E) -> ExitCode
+    ensures ends_with_its_code { IsCodeOf status result }
+    ensures err_takes_its_line { TakesLine
+        (seen E.taken E.faults err.old) (seen E.taken E.faults err.new) (status_line status) }
+{
     report(status, err);
     ExitCode::from(status.code())
 }
 
 /// Ends where memory runs out before the job is begun.
-fn end_without_memory<E: Sink>(err: &mut E) -> ExitCode {
+fn end_without_memory<E: Sink>(err: &mut E) -> ExitCode
+    ensures ends_with_its_code { IsCodeOf Status.OutOfMemory result }
+    ensures err_takes_its_line { TakesLine (seen E.taken E.faults err.old)
+        (seen E.taken E.faults err.new) (status_line Status.OutOfMemory) }
+{
     end_with(Status::OutOfMemory, err)
 }
 
@@ -113,6 +126,9 @@ where
     E: Sink,
     requires few_disks { length disks.items ≤ 16 }
     requires small_disks { AreWithin ⟦<AnyDisk as Disk>⟧.size (2 ^ 40) disks.items }
+    ensures ends_with_the_code_of_a_status_that_has_its_cause { EndsForACause (texts words.now)
+        (devices S.Source O.Sink ⟦<AnyDisk as Disk>⟧ source.old out.old disks.items)
+        (seen S.left S.faults source.new) (seen O.taken O.faults out.new) result }
 {
     let Ok(mut line) = MemSink::new(alloc, LINE_ROOM, Vec::new(alloc)) else {
         return end_without_memory(err);
@@ -184,8 +200,86 @@ fn new_tally(alloc: Global) -> Option<(Arc<Tally, Global>, Arc<Tally, Global>)> 
     Some((tally, other))
 }
 
+/// A disk in memory whose bytes are counted.
+fn memory_disk(
+    alloc: Global,
+    size: u64,
+    counts: Arc<Tally, Global>,
+) -> Option<Box<TallyDisk<MemDisk>>> {
+    let disk = MemDisk::new(alloc, size, Vec::new(alloc)).ok()?;
+    Box::new(alloc, TallyDisk::over(disk, counts)).ok()
+}
+
+/// A disk in a file at a path, or in a folder there, whose bytes are counted.
+fn file_disk<R>(
+    rt: &R,
+    alloc: Global,
+    path: &str,
+    size: u64,
+    counts: Arc<Tally, Global>,
+) -> io::Result<Box<TallyDisk<FileDisk>>>
+where
+    R: Files<File = File> + Alloc + Clock,
+{
+    let file = open_swap(rt, path, size)?;
+    Ok(Box::new(alloc, TallyDisk::over(FileDisk::over(file, size), counts))?)
+}
+
+/// Runs the job of a source with the swap disk that the words ask for.
+fn run_words<R, S, O, E>(
+    rt: &R,
+    alloc: Global,
+    words: &[String],
+    source: &mut S,
+    out: O,
+    err: &mut E,
+    has_terminal: bool,
+) -> ExitCode
+where
+    R: Files<File = File> + Alloc + Threads + Wait + Sync + Clock + Eprint + Copy + Send + 'static,
+    S: Source,
+    O: Sink + Drop,
+    E: Sink,
+{
+    let Ok(SwapWish { path, size }) = swap_wish(alloc, words) else {
+        return end_without_memory(err);
+    };
+    let Some((tally, counts)) = new_tally(alloc) else {
+        return end_without_memory(err);
+    };
+    let Some(path) = path else {
+        let Some(disk) = memory_disk(alloc, size, counts) else {
+            return end_without_memory(err);
+        };
+        return run_with(
+            rt,
+            alloc,
+            words,
+            source,
+            out,
+            err,
+            disk,
+            tally,
+            has_terminal,
+        );
+    };
+    match file_disk(rt, alloc, path.as_str(), size, counts) {
+        Ok(disk) => run_with(
+            rt,
+            alloc,
+            words,
+            source,
+            out,
+            err,
+            disk,
+            tally,
+            has_terminal,
+        ),
+        Err(e) => end_without_swap(alloc, path.as_str(), &e, err),
+    }
+}
+
 fn main(rt: HostRuntime) -> ExitCode {
-    let alloc = rt.alloc();
     occupy_streams(&rt);
     let has_terminal = rt.stderr().is_terminal();
     let mut source = StdSource::over(Patient::over(&rt, rt.stdin()));
@@ -196,48 +290,13 @@ fn main(rt: HostRuntime) -> ExitCode {
     let Some(words) = words(&rt) else {
         return end_without_memory(&mut err);
     };
-    let Ok(wish) = swap_wish(alloc, &words) else {
-        return end_without_memory(&mut err);
-    };
-    let SwapWish { path, size } = wish;
-    let Some((tally, counts)) = new_tally(alloc) else {
-        return end_without_memory(&mut err);
-    };
-    let Some(path) = path else {
-        let Ok(disk) = MemDisk::new(alloc, size, Vec::new(alloc)) else {
-            return end_without_memory(&mut err);
-        };
-        let Ok(disk) = Box::new(alloc, TallyDisk::over(disk, counts)) else {
-            return end_without_memory(&mut err);
-        };
-        return run_with(
-            &rt,
-            alloc,
-            &words,
-            &mut source,
-            out,
-            &mut err,
-            disk,
-            tally,
-            has_terminal,
-        );
-    };
-    let file = match open_swap(&rt, path.as_str(), size) {
-        Ok(file) => file,
-        Err(e) => return end_without_swap(alloc, path.as_str(), &e, &mut err),
-    };
-    let Ok(disk) = Box::new(alloc, TallyDisk::over(FileDisk::over(file, size), counts)) else {
-        return end_without_memory(&mut err);
-    };
-    run_with(
+    run_words(
         &rt,
-        alloc,
+        rt.alloc(),
         &words,
         &mut source,
         out,
         &mut err,
-        disk,
-        tally,
         has_terminal,
     )
 }

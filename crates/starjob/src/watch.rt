@@ -108,9 +108,13 @@ pub struct ErasingSink<'a, R, K> {
     inner: K,
 }
 
-impl<'a, R, K> ErasingSink<'a, R, K> {
+impl<'a, R: Wait + Eprint, K: Sink> ErasingSink<'a, R, K> {
     /// Writes to this sink. Constant time.
-    pub fn over(rt: &'a R, watch: &'a Watch, inner: K) -> ErasingSink<'a, R, K> {
+    pub fn over(rt: &'a R, watch: &'a Watch, inner: K) -> ErasingSink<'a, R, K>
+        ensures tells_the_same { ⟦<ErasingSink<'a, R, K> as Sink>⟧.taken result ≡ K.taken inner }
+        ensures has_the_same_faults { ⟦<ErasingSink<'a, R, K> as Sink>⟧.faults result
+            ≡ K.faults inner }
+    {
         ErasingSink { rt, watch, inner }
     }
 }
