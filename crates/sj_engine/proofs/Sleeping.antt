@@ -5,15 +5,15 @@ use Rattle.std.specs.Prelude.{if◌then◌else◌, option_and_then, option_map, 
 use Rattle.std.specs.List.{list_any}
 use Rattle.std.specs.Option.{option_or}
 use Rattle.std.proofs.lemmas.List.Quantifiers.{position-Some}
-use Rattle.sj_engine.specs.Resting.{RestNotes, bell_at, due_by, due_for_task, due_where, due_at, due_in_turn, gives_way, gone_at, is_due, left_resting, looks, made_due, note, noted, noted_at_rest, place_behind, reason_of, rests_idle, woken}
+use Rattle.sj_engine.specs.Resting.{RestNotes, bell_at, due_by, due_for_task, due_where, due_at, due_in_turn, gives_way, is_due, is_expected, left_resting, left_when_woken, looks, made_due, note, noted, noted_at_rest, place_behind, reason_of, rests_idle, woken, woken_at}
 use Rattle.sj_engine.specs.declared.sleepers.Change.{Change}
 use Rattle.sj_engine.specs.declared.sleepers.Note.{Note}
 
 -- ---- how many there are
 
-length-gone_at : (notes : RestNotes) (o : Option ℕ) → length (gone_at notes o) ≡ length notes
-length-gone_at notes None = refl
-length-gone_at notes (Some k) = length-set notes k None
+length-woken_at : (notes : RestNotes) (o : Option ℕ) → length (woken_at notes o) ≡ length notes
+length-woken_at notes None = refl
+length-woken_at notes (Some k) = length-set notes k (left_when_woken (get_or notes k None))
 
 length-due_at : (notes : RestNotes) (o : Option ℕ) → length (due_at notes o) ≡ length notes
 length-due_at notes None = refl
@@ -27,14 +27,18 @@ length-due_by over gives notes = by_calling (over || gives)
     by_calling false = refl
 
 length-due_for_task : (left : Bool) (notes : RestNotes) → length (due_for_task left notes) ≡ length notes
-length-due_for_task true notes = length-due_at notes (position rests_idle notes)
+length-due_for_task true notes = by_expected (not (list_any is_expected notes))
+  where
+    by_expected : (b : Bool) → length (if b then due_at notes (position rests_idle notes) else notes) ≡ length notes
+    by_expected true = length-due_at notes (position rests_idle notes)
+    by_expected false = refl
 length-due_for_task false notes = refl
 
 pub length-due_in_turn : (w : ℕ) (over gives left : Bool) (notes : RestNotes) → length (due_in_turn w over gives left notes) ≡ length notes
 length-due_in_turn w over gives left notes = length-due_for_task left (due_by over gives (set notes w None)) ∙ length-due_by over gives (set notes w None) ∙ length-set notes w None
 
 pub length-left_resting : (w : ℕ) (notes : RestNotes) → length (left_resting w notes) ≡ length notes
-length-left_resting w notes = length-gone_at notes (place_behind w is_due notes)
+length-left_resting w notes = length-woken_at notes (place_behind w is_due notes)
 
 pub length-noted : (w : ℕ) (change : Change) (over ready : Bool) (notes : RestNotes) → length (noted w change over ready notes) ≡ length notes
 length-noted w change over ready notes =
@@ -110,12 +114,16 @@ quiet-due w over gives left notes e =
     ∙ ap (due_for_task left) (quiet-due_by over gives notes e)
     ∙ by_left left
   where
+    by_expected : (b : Bool) → (if b then due_at notes (position rests_idle notes) else notes) ≡ notes
+    by_expected true = ap (due_at notes) (quiet-position rests_idle refl notes e)
+    by_expected false = refl
+
     by_left : (b : Bool) → due_for_task b notes ≡ notes
-    by_left true = ap (due_at notes) (quiet-position rests_idle refl notes e)
+    by_left true = by_expected (not (list_any is_expected notes))
     by_left false = refl
 
 pub quiet-woken : (w : ℕ) (over gives left : Bool) (notes : RestNotes) → list_any is_some notes ≡ false → woken w (due_in_turn w over gives left notes) ≡ None
 quiet-woken w over gives left notes e = ap (woken w) (quiet-due w over gives left notes e) ∙ ap (option_and_then (bell_at notes)) (quiet-place w is_due refl notes e)
 
 pub quiet-left : (w : ℕ) (over gives left : Bool) (notes : RestNotes) → list_any is_some notes ≡ false → left_resting w (due_in_turn w over gives left notes) ≡ notes
-quiet-left w over gives left notes e = ap (left_resting w) (quiet-due w over gives left notes e) ∙ ap (gone_at notes) (quiet-place w is_due refl notes e)
+quiet-left w over gives left notes e = ap (left_resting w) (quiet-due w over gives left notes e) ∙ ap (woken_at notes) (quiet-place w is_due refl notes e)

@@ -2,10 +2,13 @@
 --
 -- A worker rests without a task, since none was ready when it looked, or since it couldn't claim what was; or with one that it
 -- has claimed, since another worker has to go on first. Who rests has a note, with the bell that its thread sleeps on. The note
--- is due where its worker is to look again. A turn wakes one worker at most, whose note goes: the next one behind the turn's own
--- worker that is due. Who was woken has a turn in any case, and wakes the next one in it: so all that are due have a turn, one
--- after the other, and none is forgotten.
-use Rattle.std.specs.Prelude.{ℕ, ◌+◌, Bool, true, false, not, ◌&&◌, ◌||◌, if◌then◌else◌, is_some, Option, Some, None, List, drop, map, option_and_then, option_map, position, slice_index_or, slice_set}
+-- is due where its worker is to look again. A turn wakes one worker at most: the next one behind the turn's own worker that is
+-- due. Who was woken has a turn in any case, and wakes the next one in it: so all that are due have a turn, one after the other,
+-- and none is forgotten.
+--
+-- Who is woken has no note any more; but who had rested for want of a task has one until its turn, by which it is called. No other
+-- one is made due for a task meanwhile: in its turn it looks, and where it leaves tasks behind, calls the next one.
+use Rattle.std.specs.Prelude.{ℕ, ◌+◌, Bool, true, false, not, ◌&&◌, ◌||◌, nat_eq, if◌then◌else◌, is_some, Option, Some, None, List, drop, map, option_and_then, option_map, position, slice_index_or, slice_set}
 use Rattle.std.specs.List.{list_all, list_any}
 use Rattle.std.specs.Option.{option_or}
 use Rattle.sj_base.specs.declared.trace.Event.{Event}
@@ -18,7 +21,7 @@ use Rattle.sj_engine.specs.declared.sleepers.Change.{Change}
 use Rattle.sj_engine.specs.declared.sleepers.Change.TheVariants.{Claimed, Begun, Freed, Ended}
 use Rattle.sj_engine.specs.declared.sleepers.Note.{Note}
 use Rattle.sj_engine.specs.declared.sleepers.RestReason.{RestReason}
-use Rattle.sj_engine.specs.declared.sleepers.RestReason.TheVariants.{Idle, Blocked}
+use Rattle.sj_engine.specs.declared.sleepers.RestReason.TheVariants.{Idle, Called, Blocked}
 
 -- ---- changes
 
@@ -71,7 +74,15 @@ is_due (Some n) = n.is_due
 
 abbrev pub is_for_want_of_a_task : RestReason → Bool
 is_for_want_of_a_task Idle = true
-is_for_want_of_a_task Blocked = false
+is_for_want_of_a_task _ = false
+
+abbrev pub is_on_its_way : RestReason → Bool
+is_on_its_way Called = true
+is_on_its_way _ = false
+
+abbrev pub waits_for_another : RestReason → Bool
+waits_for_another Blocked = true
+waits_for_another _ = false
 
 -- a worker rests, and no task was ready when it looked
 abbrev pub rests_idle : Option Note → Bool
@@ -81,14 +92,19 @@ rests_idle (Some n) = is_for_want_of_a_task n.reason
 -- a worker rests that waits for another one
 abbrev pub rests_blocked : Option Note → Bool
 rests_blocked None = false
-rests_blocked (Some n) = not (is_for_want_of_a_task n.reason)
+rests_blocked (Some n) = waits_for_another n.reason
+
+-- a worker is called for a task, or is to be, and hasn't had its turn since
+abbrev pub is_expected : Option Note → Bool
+is_expected None = false
+is_expected (Some n) = is_on_its_way n.reason || (is_for_want_of_a_task n.reason && n.is_due)
 
 abbrev pub made_due : Option Note → Option Note
 made_due = option_map (λ n. note n.reason n.bell true)
 
--- the note where all are made due, or those that wait for another worker
+-- the note where all that rest are made due, or those that wait for another worker: who is called is awake already
 abbrev pub due_where : Bool → Option Note → Option Note
-due_where all n = if all || rests_blocked n then made_due n else n
+due_where all n = if rests_blocked n || (all && rests_idle n) then made_due n else n
 
 -- the first place behind this one at which it is so, or else the first of all
 abbrev pub place_behind : ℕ → (Option Note → Bool) → RestNotes → Option ℕ
@@ -98,9 +114,15 @@ abbrev pub due_at : RestNotes → Option ℕ → RestNotes
 due_at notes None = notes
 due_at notes (Some k) = slice_set notes k (made_due (slice_index_or notes k None))
 
-abbrev pub gone_at : RestNotes → Option ℕ → RestNotes
-gone_at notes None = notes
-gone_at notes (Some k) = slice_set notes k None
+-- the note of a worker that is woken: it is called, where it rested for want of a task. Who shares the caller's thread, whose bell
+-- is 0, may have its turn late, behind the others of that thread: no other one waits for it
+abbrev pub left_when_woken : Option Note → Option Note
+left_when_woken None = None
+left_when_woken (Some n) = if is_for_want_of_a_task n.reason && not (nat_eq n.bell 0) then Some (note Called n.bell false) else None
+
+abbrev pub woken_at : RestNotes → Option ℕ → RestNotes
+woken_at notes None = notes
+woken_at notes (Some k) = slice_set notes k (left_when_woken (slice_index_or notes k None))
 
 -- the bell of the note at this place
 abbrev pub bell_at : RestNotes → ℕ → Option ℕ
@@ -112,9 +134,10 @@ bell_at notes k = option_map (λ n. n.bell) (slice_index_or notes k None)
 abbrev pub due_by : Bool → Bool → RestNotes → RestNotes
 due_by over gives notes = if over || gives then map (due_where over) notes else notes
 
--- where a worker has looked and tasks are left that nobody was given, the first that rests for want of one is due
+-- where a worker has looked and tasks are left that nobody was given, and nobody is expected to look for them, the first that rests
+-- for want of one is due
 abbrev pub due_for_task : Bool → RestNotes → RestNotes
-due_for_task left notes = if left then due_at notes (position rests_idle notes) else notes
+due_for_task left notes = if left && not (list_any is_expected notes) then due_at notes (position rests_idle notes) else notes
 
 -- the notes in a turn of the worker, which doesn't rest
 abbrev pub due_in_turn : ℕ → Bool → Bool → Bool → RestNotes → RestNotes
@@ -127,7 +150,7 @@ abbrev pub woken : ℕ → RestNotes → Option ℕ
 woken w notes = option_and_then (bell_at notes) (place_behind w is_due notes)
 
 abbrev pub left_resting : ℕ → RestNotes → RestNotes
-left_resting w notes = gone_at notes (place_behind w is_due notes)
+left_resting w notes = woken_at notes (place_behind w is_due notes)
 
 -- at the end of a turn that did this, after which the run is over or not, and a task is ready or not
 abbrev pub due_after : ℕ → Change → Bool → Bool → RestNotes → RestNotes

@@ -8,6 +8,7 @@ ghost use Rattle.sj_engine.specs.Stage.{IsFreeRow, IsStoppedRow};
 
 use crate::member::{Member, Stage};
 use crate::site::Site;
+use crate::sleepers::HERE;
 use crate::workplace::{BoardDesk, BoardSeat};
 use sj_codelet::set::Codelets;
 use sj_edge::disk::Disk;
@@ -17,9 +18,6 @@ use std::sync::Wait;
 use std::sync::atomic::AtomicU64;
 use std::sync::atomic::Ordering::SeqCst;
 use std::thread::{Promise, PromisedHandle, Scope, Threads};
-
-/// The bell that the caller's thread sleeps on, whichever of its workers is woken.
-const HERE: u8 = 0;
 
 /// The promise of a thread: it comes back with this worker of the desk.
 #[derive(Drop)]

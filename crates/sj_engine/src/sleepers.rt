@@ -2,12 +2,15 @@
 
 ghost use Rattle.std.specs.Prelude.{◌≡◌, ◌&&◌, ◌||◌, ◌<◌, IfOk, IfSome, None, is_some, length, map, not, position, replicate, slice_set, true};
 ghost use Rattle.std.specs.List.{list_any};
-ghost use Rattle.sj_engine.specs.Resting.{due_for_task, due_where, due_in_turn, gives_way, is_due, is_for_want_of_a_task, left_resting, looks, made_due, noted, noted_at_rest, place_behind, reason_of, rests_blocked, rests_idle, wakes, wakes_at_rest, woken};
+ghost use Rattle.sj_engine.specs.Resting.{due_for_task, due_where, due_in_turn, gives_way, is_due, is_expected, is_for_want_of_a_task, is_on_its_way, left_resting, left_when_woken, looks, made_due, noted, noted_at_rest, place_behind, reason_of, rests_blocked, rests_idle, waits_for_another, wakes, wakes_at_rest, woken};
 
 use sj_base::ids::Worker;
 use sj_base::memory::OutOfMemory;
 use std::alloc::Global;
 use std::marker::Model;
+
+/// The bell that the caller's thread sleeps on, whichever of its workers is woken.
+pub(crate) const HERE: u8 = 0;
 
 /// What a turn did for the workers that rest.
 #[derive(Clone, Copy, Debug, PartialEq, Eq)]
@@ -27,6 +30,8 @@ pub enum Change {
 pub enum RestReason {
     /// For want of a task: none was ready when it looked.
     Idle,
+    /// No more: it was woken for a task, and hasn't had its turn since.
+    Called,
     /// It couldn't claim a task that was ready, or has claimed one and waits for another worker.
     Blocked,
 }
@@ -41,11 +46,11 @@ pub struct Note {
     pub is_due: bool,
 }
 
-/// The notes of all workers, by their numbers: none of those that don't rest. Contracts see the list.
+/// The notes of all workers, by their numbers: none of those that neither rest nor are called. Contracts see the list.
 #[derive(Drop)]
 pub struct Sleepers {
     notes: Vec<Option<Note>>,
-    // Whether somebody may rest: the first turn finds out.
+    // Whether somebody may have a note: the first turn finds out.
     somebody: bool,
 }
 
@@ -101,7 +106,27 @@ impl RestReason {
     {
         match self {
             RestReason::Idle => true,
-            RestReason::Blocked => false,
+            RestReason::Called | RestReason::Blocked => false,
+        }
+    }
+
+    /// Whether the worker is woken for a task, and hasn't had its turn since. Constant time.
+    fn is_on_its_way(&self) -> bool
+        ensures { result ≡ is_on_its_way self.now }
+    {
+        match self {
+            RestReason::Called => true,
+            RestReason::Idle | RestReason::Blocked => false,
+        }
+    }
+
+    /// Whether it waits for another worker. Constant time.
+    fn waits_for_another(&self) -> bool
+        ensures { result ≡ waits_for_another self.now }
+    {
+        match self {
+            RestReason::Blocked => true,
+            RestReason::Idle | RestReason::Called => false,
         }
     }
 }
@@ -132,7 +157,19 @@ fn rests_blocked(note: &Option<Note>) -> bool
 {
     match note {
         None => false,
-        Some(note) => !note.reason.is_for_want_of_a_task(),
+        Some(note) => note.reason.waits_for_another(),
+    }
+}
+
+/// Whether a worker is called for a task, or is to be, and hasn't had its turn since.
+fn is_expected(note: &Option<Note>) -> bool
+    ensures { result ≡ is_expected note.now }
+{
+    match note {
+        None => false,
+        Some(note) => {
+            note.reason.is_on_its_way() || (note.reason.is_for_want_of_a_task() && note.is_due)
+        }
     }
 }
 
@@ -148,6 +185,21 @@ fn made_due(note: Option<Note>) -> Option<Note>
             is_due: true,
         }),
     }
+}
+
+/// The note of a worker that is woken, until its turn. Who shares the caller's thread has none: its turn may come late.
+fn left_when_woken(note: Option<Note>) -> Option<Note>
+    ensures { result ≡ left_when_woken note }
+{
+    let Note { reason, bell, .. } = note?;
+    if !reason.is_for_want_of_a_task() || bell == HERE {
+        return None;
+    }
+    Some(Note {
+        reason: RestReason::Called,
+        bell,
+        is_due: false,
+    })
 }
 
 /// The first place of a worker that is to look again.
@@ -179,11 +231,11 @@ fn next_due(notes: &[Option<Note>], w: usize) -> Option<usize>
     }
 }
 
-/// The note where all are made due, or those that wait for another worker.
+/// The note where all that rest are made due, or those that wait for another worker.
 fn due_where(note: Option<Note>, all: bool) -> Option<Note>
     ensures { result ≡ due_where all note }
 {
-    if all || rests_blocked(&note) {
+    if rests_blocked(&note) || (all && rests_idle(&note)) {
         made_due(note)
     } else {
         note
@@ -197,6 +249,13 @@ fn anybody(notes: &[Option<Note>]) -> bool
     notes.iter().any(|note| note.is_some())
 }
 
+/// Whether somebody is called for a task, or is to be. Linear in the workers.
+fn anybody_expected(notes: &[Option<Note>]) -> bool
+    ensures { result ≡ list_any is_expected notes.now }
+{
+    notes.iter().any(|note| is_expected(note))
+}
+
 /// All that rest are due, or all that wait for another worker. Linear in the workers.
 fn call(notes: &mut Vec<Option<Note>>, all: bool)
     ensures { notes.new.items ≡ map (due_where all) notes.old.items }
@@ -206,16 +265,19 @@ fn call(notes: &mut Vec<Option<Note>>, all: bool)
     }
 }
 
-/// The first that rests for want of a task is due. Linear in the workers.
+/// The first that rests for want of a task is due, where nobody is expected to look for one. Linear in the workers.
 fn call_for_task(notes: &mut Vec<Option<Note>>)
     ensures { notes.new.items ≡ due_for_task true notes.old.items }
 {
+    if anybody_expected(notes) {
+        return;
+    }
     if let Some(k) = first_idle(notes) {
         notes[k] = made_due(notes[k]);
     }
 }
 
-/// Takes the note of the next one that is due, and gives its bell. Linear in the workers.
+/// Notes that the next one that is due is woken, and gives its bell. Linear in the workers.
 fn take_next(notes: &mut Vec<Option<Note>>, w: usize) -> Option<u8>
     requires inside { w < length notes.old.items }
     ensures woken { result ≡ woken w notes.old.items }
@@ -223,7 +285,7 @@ fn take_next(notes: &mut Vec<Option<Note>>, w: usize) -> Option<u8>
 {
     let k = next_due(notes, w)?;
     let note = notes[k];
-    notes[k] = None;
+    notes[k] = left_when_woken(note);
     note.map(|note| note.bell)
 }
 
