@@ -13,7 +13,7 @@ mod word_at_fault;
 ghost use Rattle.std.specs.Prelude.{◌≤◌, ◌^◌, ◌∷◌, [], length};
 ghost use Rattle.sj_edge.specs.Sizes.{AreWithin};
 ghost use Rattle.sj_top.specs.Device.{Device, devices, seen};
-ghost use Rattle.sj_top.specs.Report.{line_of, TakesLine};
+ghost use Rattle.sj_top.specs.Report.{status_line, TakesLine};
 ghost use Rattle.sj_words.specs.Spelling.{texts};
 ghost use Rattle.starjob.specs.Ending.{EndsForACause, IsCodeOf};
 
@@ -72,7 +72,7 @@ fn words(rt: &HostRuntime) -> Option<Vec<String>> {
 fn end_with<E: Sink>(status: Status, err: &mut E) -> ExitCode
     ensures ends_with_its_code { IsCodeOf status result }
     ensures err_takes_its_line { TakesLine
-        (seen E.taken E.faults err.old) (seen E.taken E.faults err.new) (line_of status) }
+        (seen E.taken E.faults err.old) (seen E.taken E.faults err.new) (status_line status) }
 {
     report(status, err);
     ExitCode::from(status.code())
@@ -82,7 +82,7 @@ fn end_with<E: Sink>(status: Status, err: &mut E) -> ExitCode
 fn end_without_memory<E: Sink>(err: &mut E) -> ExitCode
     ensures ends_with_its_code { IsCodeOf Status.OutOfMemory result }
     ensures err_takes_its_line { TakesLine (seen E.taken E.faults err.old)
-        (seen E.taken E.faults err.new) (line_of Status.OutOfMemory) }
+        (seen E.taken E.faults err.new) (status_line Status.OutOfMemory) }
 {
     end_with(Status::OutOfMemory, err)
 }
