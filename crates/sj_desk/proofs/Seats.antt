@@ -12,9 +12,9 @@ use Rattle.sj_desk.specs.declared.view.Opening.{Opening}
 use Rattle.sj_desk.specs.declared.view.Tally.{Tally}
 use Rattle.sj_desk.specs.declared.view.Heard.{Heard}
 use Rattle.sj_desk.specs.Seats.{DeskFacts, SeatFacts, KeepsOtherRows, hearing, rung}
-use Rattle.sj_desk.specs.Views.{view, tally, heard_at, one_more, hearing_tally, rung_tally, seated, refused_view, hearing_view, rung_view, found_view, left_by, IsSeated, desk_facts, desk_of, opening_of, seat_facts}
-use Rattle.sj_desk.specs.Turns.{IsRuled, Finds, Tries, Marks, Leaves, Hears, Rings, Rests}
-use Rattle.sj_desk.proofs.Steps.{tries, marks, leaves, hears, rings, rests}
+use Rattle.sj_desk.specs.Views.{view, tally, heard_at, one_more, hearing_tally, rung_tally, seated, refused_view, hearing_view, rung_view, found_view, left_by, renewed_by, IsSeated, desk_facts, desk_of, opening_of, seat_facts}
+use Rattle.sj_desk.specs.Turns.{IsRuled, Finds, Tries, Marks, Leaves, Renews, Hears, Rings, Rests}
+use Rattle.sj_desk.proofs.Steps.{tries, marks, leaves, renews, hears, rings, rests}
 
 pub none_heard : (o : Option Heard) → o ≡ None → is_some o ≡ true → ⊥
 none_heard o none some = true≢false (sym some ∙ ap is_some none)
@@ -152,6 +152,29 @@ module _ {T : Type 0} where
     me_is = gone ∙ ap (λ (x : Me (Option T) (View T)). (left_by x.0 x.1, rest x.1)) (put_in number left found value c k m n e is);
   }
 
+  -- the seat once its turn is renewed, with the value in the slot still, and once the value is with the caller again
+  renewed_in_slot : (number : ℕ) (left found value : T) (c : Tally) (k : Opening T) (m n o : Me (Option T) (View T)) → m ≡ seated k number left (Some found) c → n ≡ (m.0, (0, Some value) ∷ rest m.1)
+      → Renews n o → o ≡ (view (Some k) ((number, value) ∷ []) (Some value) c 2, (0, Some value) ∷ [])
+  renewed_in_slot number left found value c k m n o e is renewed =
+      renewed ∙ ap (λ (x : Me (Option T) (View T)). (renewed_by x.0 x.1, x.1)) (put_in number left found value c k m n e is)
+
+  pub renewed_out : (number : ℕ) (left found value : T) (c : Tally) (k : Opening T) (m n o : Me (Option T) (View T)) → m ≡ seated k number left (Some found) c → n ≡ (m.0, (0, Some value) ∷ rest m.1)
+      → Renews n o → o.1 ≡ (0, Some value) ∷ rest o.1
+  renewed_out number left found value c k m n o e is renewed =
+      let l : o.1 ≡ (0, Some value) ∷ [] = ap (λ (x : Me (Option T) (View T)). x.1) (renewed_in_slot number left found value c k m n o e is renewed) in
+      l ∙ ap (λ (y : List (ℕ × Option T)). (0, Some value) ∷ rest y) (sym l)
+
+  pub renewed_seated : (number : ℕ) (heard : Option Heard) (left found value : T) (c : Tally) (k : Opening T) (m n o p : Me (Option T) (View T)) → c.heard ≡ heard → m ≡ seated k number left (Some found) c
+      → n ≡ (m.0, (0, Some value) ∷ rest m.1) → Renews n o → p ≡ (o.0, (0, None) ∷ rest o.1) → IsSeated number heard p
+  renewed_seated number heard left found value c k m n o p hears e is renewed out = record {
+    opening = k;
+    left = value;
+    found = Some value;
+    tally = c;
+    hears = hears;
+    me_is = out ∙ ap (λ (x : Me (Option T) (View T)). (x.0, (0, None) ∷ rest x.1)) (renewed_in_slot number left found value c k m n o e is renewed);
+  }
+
   pub others_kept : {R : Type 0} (row_of : T → ℕ → R) (ts td : TableId) (number : ℕ) (v : View T) (k : Opening T) (s : SeatFacts T) (d : DeskFacts T) (value : T)
       → seat_facts ts number v ≡ s → desk_facts td k ≡ d → KeepsOtherRows row_of d s value → Keeps row_of number k s value
   others_kept row_of ts td number v k s d value seen desk kept =
@@ -205,6 +228,14 @@ module _ {T R : Type 0} (row_of : T → ℕ → R) (fits : Opening T → T → T
       subst (λ x. Allows (IsRuled row_of fits k) x id me 0 (λ _. 0) (λ _ n. Leaves me n)) (sym one)
       (subst (λ (y : Me (Option T) (View T)). Allows (IsRuled row_of fits k) 1 id y 0 (λ _. 0) (λ _ n. Leaves y n)) (sym e)
       (leaves row_of fits k id number left found value c fit others))
+
+  pub renews_at : (slots id number word : ℕ) (left found value : T) (c : Tally) (me : Me (Option T) (View T)) → slots ≡ 1 → word ≢ 0
+      → ((n : ℕ) → n < k.seats → n ≢ number → row_of value n ≡ row_of found n) → me ≡ (view (Some k) ((number, left) ∷ []) (Some found) c 2, (0, Some value) ∷ [])
+      → Allows (IsRuled row_of fits k) slots id me word (λ n. n) (λ _ n. Renews me n)
+  renews_at slots id number word left found value c me one behind others e =
+      subst (λ x. Allows (IsRuled row_of fits k) x id me word (λ n. n) (λ _ n. Renews me n)) (sym one)
+      (subst (λ (y : Me (Option T) (View T)). Allows (IsRuled row_of fits k) 1 id y word (λ n. n) (λ _ n. Renews y n)) (sym e)
+      (renews row_of fits k id number word left found value c behind others))
 
   -- after the try that took the turn, the slot is out with its value
   pub found_out : (m n : Me (Option T) (View T)) → (f : Finds row_of fits m n) → n.1 ≡ (0, Some f.value) ∷ rest n.1

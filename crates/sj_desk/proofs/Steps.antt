@@ -15,7 +15,7 @@ use Rattle.sj_desk.specs.declared.view.Opening.{Opening}
 use Rattle.sj_desk.specs.declared.view.Tally.{Tally}
 use Rattle.sj_desk.specs.declared.view.Heard.{Heard}
 use Rattle.sj_desk.specs.Views.{view, tally, heard_at, no_tally, one_more, hearing_tally, rung_tally, sitting, ended, opening_rows, first_view, at_stage, found_view, dealing, dealt, joined, seated}
-use Rattle.sj_desk.specs.Turns.{IsKeptRow, IsKeptView, IsHolder, IsOpen, made, filled, IsWith, IsRuled, Tries, Marks, Leaves, Hears, Rings, Rests, Fills, Opens}
+use Rattle.sj_desk.specs.Turns.{IsKeptRow, IsKeptView, IsHolder, IsOpen, made, filled, IsWith, IsRuled, Tries, Marks, Leaves, Renews, Hears, Rings, Rests, Fills, Opens}
 use Rattle.sj_desk.proofs.Lists.{within, only, only_place, at_end, after_set, each_at, opening_each, opening_weaker}
 
 -- a seat that isn't in its turn is not the holder
@@ -238,6 +238,18 @@ module _ {T R : Type 0} (row_of : T → ℕ → R) (fits : Opening T → T → T
         },
       ))
 
+  -- the rows of another seat than the holder, which the value has as the holder found them
+  rows_kept : (owner : ℕ → ℕ) (id number : ℕ) (found value current : T) → owner number ≡ id → found ≡ current → ((n : ℕ) → n < k.seats → n ≢ number → row_of value n ≡ row_of found n)
+      → (j : ℕ) (rows : List (ℕ × T)) → j ≢ id → AllByRecursion (IsKeptRow row_of k.seats owner current j) rows → AllByRecursion (IsKeptRow row_of k.seats owner value j) rows
+  rows_kept owner id number found value current owned same others j rows other =
+      each-weaker (IsKeptRow row_of k.seats owner current j) (IsKeptRow row_of k.seats owner value j)
+      (λ r kept. record {
+        number = kept.number;
+        owned = kept.owned;
+        same = others r.0 kept.number (λ e. other (sym kept.owned ∙ ap owner e ∙ owned)) ∙ ap (λ x. row_of x r.0) same ∙ kept.same;
+      })
+      rows
+
   released : (s : State (Option T) (View T)) (o : IsOpen row_of fits k s) (id number : ℕ) (left found value : T) (c : Tally) → length s.homes ≡ 1 → fits k value
       → ((n : ℕ) → n < k.seats → n ≢ number → row_of value n ≡ row_of found n)
       → get_elem? s.views id ≡ some (view (Some k) ((number, left) ∷ []) (Some found) c 2)
@@ -261,13 +273,7 @@ module _ {T R : Type 0} (row_of : T → ℕ → R) (fits : Opening T → T → T
             (λ j u other there. let old = o.views j u there in
             record {
               stage = old.stage;
-              rows = each-weaker (IsKeptRow row_of k.seats o.owner o.current j) (IsKeptRow row_of k.seats o.owner value j)
-                  (λ r kept. record {
-                    number = kept.number;
-                    owned = kept.owned;
-                    same = others r.0 kept.number (λ e. other (sym kept.owned ∙ ap o.owner e ∙ row.owned)) ∙ ap (λ x. row_of x r.0) t.2 ∙ kept.same;
-                  })
-                  u.rows old.rows;
+              rows = rows_kept o.owner id number found value o.current row.owned t.2 others j u.rows other old.rows;
               turn = λ y e. absurd (other ((old.turn y e).1 ∙ sym t.1));
             });
       }
@@ -277,6 +283,46 @@ module _ {T R : Type 0} (row_of : T → ℕ → R) (fits : Opening T → T → T
   leaves id number left found value c fit others s ruled wide at _ =
       let o = open_now s id (view (Some k) ((number, left) ∷ []) (Some found) c 2) ruled at refl in
       (sitting k ((number, value) ∷ []) c 2, gives, tt, inr (inr (released s o id number left found value c wide fit others at)), refl)
+
+  -- a step behind the turn word, by the holder, with its value in the slot
+  renewed : (s : State (Option T) (View T)) (o : IsOpen row_of fits k s) (id number word : ℕ) (left found value : T) (c : Tally) → word ≢ 0
+      → ((n : ℕ) → n < k.seats → n ≢ number → row_of value n ≡ row_of found n)
+      → get_elem? s.views id ≡ some (view (Some k) ((number, left) ∷ []) (Some found) c 2)
+      → IsOpen row_of fits k (stepped s word (slice_index s.words word) id ((0, Some value) ∷ []) (view (Some k) ((number, value) ∷ []) (Some value) c 2) keeps)
+  renewed s o id number word left found value c behind others at =
+      let v : View T = view (Some k) ((number, left) ∷ []) (Some found) c 2 in
+      let w : View T = view (Some k) ((number, value) ∷ []) (Some value) c 2 in
+      let n = slice_index s.words word in
+      let mine = o.views id v at in
+      let row = mine.rows.0 in
+      let t = mine.turn found refl in
+      let same_word : slice_index (set s.words word n) 0 ≡ slice_index s.words 0 = get_or-set_other s.words word 0 n 0 (λ e. behind (sym e)) in
+      record {
+        words = length-set s.words word n ∙ o.words;
+        owner = o.owner;
+        current = value;
+        holder = id;
+        free = λ e. absurd (t.0 (sym same_word ∙ e));
+        taken = λ _. record { view = w; there = set_here s.views id w (within s.views id v at); found = refl; number = number; below = row.number; owned = row.owned };
+        views = after_set (λ j u. IsKeptView row_of k.seats o.owner value id (slice_index (set s.words word n) 0) j u) s.views id w
+            (record {
+              stage = refl;
+              rows = (record { number = row.number; owned = row.owned; same = refl }, tt);
+              turn = λ y e. ((λ z. t.0 (sym same_word ∙ z)), refl, sym (same_Some _ _ e));
+            })
+            (λ j u other there. let old = o.views j u there in
+            record {
+              stage = old.stage;
+              rows = rows_kept o.owner id number found value o.current row.owned t.2 others j u.rows other old.rows;
+              turn = λ y e. absurd (other ((old.turn y e).1 ∙ sym t.1));
+            });
+      }
+
+  pub renews : (id number word : ℕ) (left found value : T) (c : Tally) → word ≢ 0 → ((n : ℕ) → n < k.seats → n ≢ number → row_of value n ≡ row_of found n)
+      → let m : Me (Option T) (View T) = (view (Some k) ((number, left) ∷ []) (Some found) c 2, (0, Some value) ∷ []) in Allows Ruled 1 id m word (λ n. n) (λ _ n. Renews m n)
+  renews id number word left found value c behind others s ruled wide at _ =
+      let o = open_now s id (view (Some k) ((number, left) ∷ []) (Some found) c 2) ruled at refl in
+      (view (Some k) ((number, value) ∷ []) (Some value) c 2, keeps, tt, inr (inr (renewed s o id number word left found value c behind others at)), refl)
 
   made_now : (s : State (Option T) (View T)) (id : ℕ) → Ruled s → get_elem? s.views id ≡ some (first_view k) → IsWith row_of fits k (made row_of fits k) s
   made_now s id (inl is) at = is

@@ -6,7 +6,7 @@ use lib.ListN.{get_elem?}
 use Rattle.atomic_table.specs.Table.{State, Me, rest}
 use Rattle.sj_desk.specs.declared.view.View.{View}
 use Rattle.sj_desk.specs.declared.view.Opening.{Opening}
-use Rattle.sj_desk.specs.Views.{first_view, at_stage, heard_at, refused_view, hearing_view, rung_view, found_view, left_by}
+use Rattle.sj_desk.specs.Views.{first_view, at_stage, heard_at, refused_view, hearing_view, rung_view, found_view, left_by, renewed_by}
 
 -- the value has the key of the opening value, and is sound
 abbrev pub Fits : {T K : Type 0} → (T → K) → (T → Type 0) → Opening T → T → Type 0
@@ -81,6 +81,10 @@ module _ {T : Type 0} where
   -- the seat leaves the value that it put into the slot
   abbrev pub Leaves : Me (Option T) (View T) → Me (Option T) (View T) → Type 0
   Leaves m n = n ≡ (left_by m.0 m.1, rest m.1)
+
+  -- the seat leaves the value that it put into the slot, and is in its next turn, in which it found that value
+  abbrev pub Renews : Me (Option T) (View T) → Me (Option T) (View T) → Type 0
+  Renews m n = n ≡ (renewed_by m.0 m.1, m.1)
 
   -- the first seat takes the empty slot, and gives it home with the opening value
   abbrev pub Fills : Me (Option T) (View T) → Me (Option T) (View T) → Type 0

@@ -89,6 +89,19 @@ module _ {T : Type 0} where
   left_by v [] = v
   left_by v (x ∷ xs) = left_in v x.1
 
+  -- in the next turn of the same seat, which begins with the value that it left
+  abbrev pub renewed_view : View T → T → View T
+  renewed_view v value = found_view (left_view v value) value
+
+  -- the same, with the value that is in the slot
+  abbrev pub renewed_in : View T → Option T → View T
+  renewed_in v None = v
+  renewed_in v (Some value) = renewed_view v value
+
+  abbrev pub renewed_by : View T → List (ℕ × Option T) → View T
+  renewed_by v [] = v
+  renewed_by v (x ∷ xs) = renewed_in v x.1
+
   abbrev pub first_row : List (ℕ × T) → List (ℕ × T)
   first_row [] = []
   first_row (r ∷ rs) = r ∷ []

@@ -7,7 +7,7 @@ ghost use Rattle.sj_desk.specs.Seats.{new_seats, refused, in_turn, after_turn, r
 ghost use Rattle.sj_desk.specs.Views.{IsRowOf, IsIdle, IsFirst, IsDealer, HasEachRow};
 
 use crate::rule::{
-    Deal, Fill, Gather, Hear, Mark, Open, Release, Rest, Ring, Ticket, Try, TurnRule,
+    Deal, Fill, Gather, Hear, Mark, Open, Release, Renew, Rest, Ring, Ticket, Try, TurnRule,
 };
 use crate::seat::DeskSeat;
 use crate::view::{Heard, Opening, View};
@@ -23,6 +23,9 @@ const TURN: usize = 0;
 
 // As many as there are bells, and one.
 const WORDS: usize = 257;
+
+// The word of the last bell, farthest from that of the turn, which those that try for it keep busy.
+const LAST: usize = 256;
 
 // The turn word: free, taken, or taken while some seat may be asleep.
 const FREE: u64 = 0;
@@ -271,6 +274,24 @@ impl<T: Keyed> Desk<T> {
         if turn.swap::<Release>(&mut seat.ticket, TURN, FREE) == AWAITED {
             turn.wake_one(TURN);
         }
+    }
+
+    /// Ends the turn and begins the seat's next one: no other seat has a turn in between. Constant time, and no memory.
+    pub fn renew(&self, seat: &mut DeskSeat<T>, value: T) -> T
+        requires of_this_desk { seat.old.desk ≡ Some self.now }
+        requires other_rows { KeepsOtherRows T.row_of self.now seat.old value }
+        requires key { T.key value ≡ T.key self.now.opening }
+        requires sound { T.sound value }
+        ensures same { result ≡ value }
+        ensures seat { seat.new ≡ in_turn (after_turn seat.old value) value seat.old.refusals }
+    {
+        let turn = &self.table.shared;
+        let empty = turn.exchange(&mut seat.ticket, 0, Some(value));
+        let None = empty else { unreachable!() };
+        turn.load::<Renew>(&mut seat.ticket, LAST);
+        let back = turn.exchange(&mut seat.ticket, 0, None);
+        let Some(left) = back else { unreachable!() };
+        left
     }
 
     /// Hears a bell, in a turn: every ring of it from here on ends the next [`Desk::rest`] of the seat, or

@@ -1,6 +1,6 @@
 // The rule of the turn, and the kinds of step.
 ghost use Rattle.sj_desk.specs.Views.{first_view, dealing, dealt, joined, ended};
-ghost use Rattle.sj_desk.specs.Turns.{Fits, IsRuled, Tries, Marks, Leaves, Hears, Rings, Rests, Fills, Opens};
+ghost use Rattle.sj_desk.specs.Turns.{Fits, IsRuled, Tries, Marks, Leaves, Renews, Hears, Rings, Rests, Fills, Opens};
 
 use crate::view::{Opening, View};
 use atomic_table::{Join, Play, Seat, Shared, Split, TableRule};
@@ -34,6 +34,13 @@ pub struct Release;
 
 impl<T> Play<Option<T>, View<T>> for Release {
     ghost then = { λ st m r n. Leaves m n };
+}
+
+/// A turn's end and the begin of the same seat's next one.
+pub struct Renew;
+
+impl<T> Play<Option<T>, View<T>> for Renew {
+    ghost then = { λ st m r n. Renews m n };
 }
 
 /// A bell is heard.
