@@ -35,6 +35,7 @@ use Rattle.sj_engine.specs.contracts.noted_board.NotedBoard as NotedBoard
 use Rattle.sj_engine.specs.contracts.noted_board.NotedBoardKeyed.TheImpl as Keyed
 use Rattle.sj_engine.specs.contracts.shared_board.SharedBoard as SharedBoard
 use Rattle.sj_engine.specs.contracts.site.Site as Site
+use Rattle.sj_engine.specs.contracts.worker_seat.WorkerSeat as WorkerSeat
 
 deps-send : IsSend Deps.the_row
 deps-send = search (sendable, crosses) depth 60 fits 20000
@@ -61,6 +62,9 @@ module _ (D : RattleType) (g : Ghosts D.Denot) (s : IsSend D) where
   pub noted_send : IsSend (NotedBoard.the_row D g)
   noted_send = search (sendable, crosses, shared-send) depth 60
 
+  seat-send : IsSend (WorkerSeat.the_row D g)
+  seat-send = search (sendable, crosses, noted_send, Seats.the_send) depth 60
+
   stage-send : IsSend (Stage.the_field).row
   stage-send = search (sendable, crosses) depth 60
 
@@ -71,7 +75,7 @@ module _ (D : RattleType) (g : Ghosts D.Denot) (s : IsSend D) where
   pub member_send : IsSend (Member.the_row D g)
   member_send =
       let T : Declared = Member.the_type D g in
-      recorded_send (Struct (shape T)) T.D T.to T.to_one (struct_send (shape T) (Seats.the_send _ noted_send, (stage-send, (bell-send, tt))))
+      recorded_send (Struct (shape T)) T.D T.to T.to_one (struct_send (shape T) (seat-send, (stage-send, (bell-send, tt))))
 
   desk-sync : IsSync (Desk.the_row (NotedBoard.the_row D g) (Keyed.ghosts D g Keyed.no_dict Keyed.no_dict))
   desk-sync = Desks.the_sync _ _ noted_send

@@ -13,4 +13,5 @@ pub mod Stage
 pub mod Stepping
 pub mod Turn
 pub mod Working
+pub mod WorkerSeats
 pub mod Workplace

@@ -32,11 +32,12 @@ module _ {D : Type 0} where
   abbrev pub HasHeard : Stage → SeatFacts (NotedBoard D) → Type 0
   HasHeard stage s = may_rest stage ≡ true → is_some s.heard ≡ true
 
-  -- a worker of the desk: its row is that of its stage, and where it can't go on it has heard the bell
+  -- a worker of the desk: its row is that of its stage, it keeps no turn, and where it can't go on it has heard the bell
   pub record IsMember (desk : DeskFacts (NotedBoard D)) (m : Member D) : Type 0 where
-    pub known : m.seat.number < desk.seats
-    pub row : IsAt desk (worker_at m.seat.number) (IsRowAt (worker_at m.seat.number) m.stage) m.seat
-    pub heard : HasHeard m.stage m.seat
+    pub known : m.seat.facts.number < desk.seats
+    pub row : IsAt desk (worker_at m.seat.facts.number) (IsRowAt (worker_at m.seat.facts.number) m.stage) m.seat.facts
+    pub outside : m.seat.keeps_turn ≡ false
+    pub heard : HasHeard m.stage m.seat.facts
 
   -- a seat of the desk whose worker left such a row
   pub record IsSeatOf (desk : DeskFacts (NotedBoard D)) (P : BoardRow D → Type 0) (s : SeatFacts (NotedBoard D)) : Type 0 where

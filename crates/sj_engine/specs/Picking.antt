@@ -34,3 +34,8 @@ PickMakes w old new Over = NothingHappens old new
 abbrev pub finds_nothing : Picked → Bool
 finds_nothing Nothing = true
 finds_nothing _ = false
+
+-- it has claimed a task
+abbrev pub has_claimed : Picked → Bool
+has_claimed (Task t) = true
+has_claimed _ = false

@@ -10,7 +10,7 @@ module _ {D : Type 0} where
   -- the number of the worker
   abbrev pub number_of : Post D → ℕ
   number_of (Away thread) = thread.promise.number
-  number_of (Here m) = m.seat.number
+  number_of (Here m) = m.seat.facts.number
 
   -- the post is that of a worker of the desk: in a thread that is to come back with it, or here, where all listen to one bell
   abbrev pub IsOnPost : DeskFacts (NotedBoard D) → Post D → Type 0

@@ -85,3 +85,9 @@ HasDone (Writes cell from to writes share unit) change = change ≡ Begins
 HasDone (Reads cell from to writes unit) change = change ≡ Begins
 HasDone Discarded change = change ≡ Freed
 HasDone _ change = Unit {0}
+
+-- the worker goes on at once: no kernel has begun, no disk is out, and it neither waits nor has let its task go
+abbrev pub goes_on : {D : Type 0} → Step D → Bool
+goes_on (Moves cell from to share) = true
+goes_on Discarded = true
+goes_on _ = false

@@ -1,10 +1,9 @@
 -- What a worker has at hand for the whole run.
 use Rattle.sj_core.specs.Proper.{Proper}
-use Rattle.sj_desk.specs.Seats.{SeatFacts}
 use Rattle.sj_machine.specs.BoardRow.{BoardKey, BoardRow, key_of}
 use Rattle.sj_engine.specs.Stage.{IsAt, IsDeskOf}
 use Rattle.sj_engine.specs.declared.workplace.Workplace.{Workplace}
-use Rattle.sj_engine.specs.declared.noted_board.NotedBoard.{NotedBoard}
+use Rattle.sj_engine.specs.WorkerSeats.{WorkerSeatFacts}
 
 module _ {R D : Type 0} where
   -- the program is that of the desk's board, and the worker is one of it
@@ -21,5 +20,5 @@ module _ {R D : Type 0} where
   board_key at = key_of at.desk.now.opening.board
 
   -- the worker's seat at the desk isn't in its turn, and left a row of which this is true
-  abbrev pub IsSeated : Workplace R D → (BoardRow D → Type 0) → SeatFacts (NotedBoard D) → Type 0
-  IsSeated at P s = IsAt at.desk.now at.worker P s
+  abbrev pub IsSeated : Workplace R D → (BoardRow D → Type 0) → WorkerSeatFacts D → Type 0
+  IsSeated at P s = IsAt at.desk.now at.worker P s.facts

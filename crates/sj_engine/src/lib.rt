@@ -20,4 +20,5 @@ mod stepping;
 mod threads;
 pub mod turns;
 pub mod work;
+pub mod worker_seat;
 pub mod workplace;

@@ -3,7 +3,7 @@
 ghost use Rattle.std.specs.Prelude.{◌≡◌};
 ghost use Rattle.sj_engine.specs.Member.{may_rest};
 
-use crate::workplace::BoardSeat;
+use crate::worker_seat::WorkerSeat;
 use sj_base::ids::Task;
 use sj_edge::disk::Disk;
 
@@ -35,7 +35,7 @@ impl Stage {
 /// A worker with its seat.
 #[derive(Drop)]
 pub struct Member<D: Disk> {
-    pub seat: BoardSeat<D>,
+    pub seat: WorkerSeat<D>,
     pub stage: Stage,
     /// The bell that its thread sleeps on: of its own number where it has a thread to itself, and that of the caller's thread
     /// where it shares it.

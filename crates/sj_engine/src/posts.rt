@@ -8,6 +8,7 @@ ghost use Rattle.sj_engine.specs.Stage.{IsFreeRow, IsStoppedRow};
 
 use crate::member::{Member, Stage};
 use crate::site::Site;
+use crate::worker_seat::WorkerSeat;
 use crate::workplace::{BoardDesk, BoardSeat};
 use sj_codelet::set::Codelets;
 use sj_edge::disk::Disk;
@@ -32,7 +33,7 @@ impl<D: Disk> Promise<Member<D>> for ComesBack<D> {
     ghost use Rattle.std.specs.Prelude.{◌≡◌};
     ghost use Rattle.sj_engine.specs.Member.{IsMember};
 
-    ghost kept_by = { λ p m. IsMember p.desk.value m × (m.seat.number ≡ p.number) };
+    ghost kept_by = { λ p m. IsMember p.desk.value m × (m.seat.facts.number ≡ p.number) };
 }
 
 /// Where a worker works.
@@ -63,7 +64,7 @@ impl<C: Codelets, G: Gate, R: Threads + Wait + Sync, D: Disk> Site<'_, C, G, R, 
         requires site { MayWork C.has self.now.program.now self.now.desk.now }
         requires member { IsMember self.now.desk.now member }
         ensures member { IsMember self.now.desk.now result }
-        ensures number { result.seat.number ≡ member.seat.number }
+        ensures number { result.seat.facts.number ≡ member.seat.facts.number }
     {
         if refused.load(SeqCst) != member.seat.number() as u64 + 1 {
             self.see_to_the_end(&mut member);
@@ -131,7 +132,7 @@ impl<C: Codelets, G: Gate, R: Threads + Wait + Sync, D: Disk> Site<'_, C, G, R, 
         };
         self.see_to_the_end(&mut member);
         let Member { seat, .. } = member;
-        seat
+        seat.into_seat()
     }
 
     /// The seats of all workers, once they have stopped.
@@ -165,7 +166,7 @@ impl<'s, C: Codelets, G: Gate, R: Threads + Wait + Sync, D: Disk + Send> Site<'s
     {
         let number = seat.number();
         let member = Member {
-            seat,
+            seat: WorkerSeat::new(seat),
             stage: Stage::Fresh,
             bell: number,
         };
@@ -179,7 +180,7 @@ impl<'s, C: Codelets, G: Gate, R: Threads + Wait + Sync, D: Disk + Send> Site<'s
                 requires site { MayWork C.has self.now.program.now self.now.desk.now }
                 requires member { IsMember self.now.desk.now member }
                 ensures member { IsMember self.entry.now.desk.now result }
-                ensures number { result.seat.number ≡ member.seat.number }
+                ensures number { result.seat.facts.number ≡ member.seat.facts.number }
             { self.start(refused, member) },
         );
         match started {
@@ -208,7 +209,7 @@ impl<'s, C: Codelets, G: Gate, R: Threads + Wait + Sync, D: Disk + Send> Site<'s
     {
         if is_last {
             return Post::Here(Member {
-                seat,
+                seat: WorkerSeat::new(seat),
                 stage: Stage::Fresh,
                 bell: HERE,
             });

@@ -30,7 +30,7 @@ impl<C: Codelets, G: Gate, R: Wait, D: Disk> Site<'_, C, G, R, D> {
         requires site { MayWork C.has self.now.program.now self.now.desk.now }
         requires member { IsMember self.now.desk.now member.old }
         ensures member { IsMember self.now.desk.now member.new }
-        ensures number { member.new.seat.number ≡ member.old.seat.number }
+        ensures number { member.new.seat.facts.number ≡ member.old.seat.facts.number }
         ensures bell { member.new.bell ≡ member.old.bell }
     {
         let workplace = Workplace {
@@ -42,7 +42,7 @@ impl<C: Codelets, G: Gate, R: Wait, D: Disk> Site<'_, C, G, R, D> {
             bell: member.bell,
         };
         if rests && member.stage.may_rest() {
-            self.desk.rest(self.rt, &mut member.seat);
+            member.seat.rest(self.rt, self.desk);
         }
         member.stage = workplace.work(&mut member.seat, self.codelets, self.gate, member.stage);
     }
@@ -53,7 +53,7 @@ impl<C: Codelets, G: Gate, R: Wait, D: Disk> Site<'_, C, G, R, D> {
         requires member { IsMember self.now.desk.now member.old }
         ensures member { IsMember self.now.desk.now member.new }
         ensures stopped { member.new.stage ≡ Stage.Stopped }
-        ensures number { member.new.seat.number ≡ member.old.seat.number }
+        ensures number { member.new.seat.facts.number ≡ member.old.seat.facts.number }
     {
         for _ in self.rt.forever() {
             if member.stage == Stage::Stopped {

@@ -6,9 +6,9 @@ ghost use Rattle.sj_machine.specs.Tiles.{array_in};
 ghost use Rattle.sj_machine.specs.Standing.{is_node};
 ghost use Rattle.sj_desk.specs.Seats.{rung};
 ghost use Rattle.sj_engine.specs.Bell.{HasHeardBell, HasRung, IsChange, MindsBell, is_claimed, noted_after, noted_for_rest, wakes_after, wakes_for_rest};
-ghost use Rattle.sj_engine.specs.Picking.{AfterPick, finds_nothing};
+ghost use Rattle.sj_engine.specs.Picking.{AfterPick, finds_nothing, has_claimed};
 ghost use Rattle.sj_engine.specs.Stage.{AreDone, GoesOn, HasClaimedRow, HasLeft, HoldsRow, IsCarried, IsFetchedThrough, IsFreeRow, IsStoredThrough, MovesRow, RunsRow};
-ghost use Rattle.sj_engine.specs.Stepping.{AfterStep, HasDone, has_to_wait};
+ghost use Rattle.sj_engine.specs.Stepping.{AfterStep, HasDone, goes_on, has_to_wait};
 ghost use Rattle.sj_engine.specs.Turn.{MayLeave};
 ghost use Rattle.sj_engine.specs.Workplace.{IsSeated, IsWorkplace, board_key};
 
@@ -16,7 +16,8 @@ use crate::noted_board::NotedBoard;
 use crate::picking::Picked;
 use crate::sleepers::Change;
 use crate::stepping::Step;
-use crate::workplace::{BoardSeat, Workplace};
+use crate::worker_seat::WorkerSeat;
+use crate::workplace::Workplace;
 use sj_base::ids::Task;
 use sj_base::tile::Tile;
 use sj_codelet::frame::Frame;
@@ -36,116 +37,159 @@ fn change_of<D: Disk>(step: &Step<D>) -> Change
     }
 }
 
+/// Whether a worker has claimed a task, and begins the next turn at once.
+fn has_claimed(picked: &Picked) -> bool
+    ensures { result ≡ has_claimed picked.now }
+{
+    match picked {
+        Picked::Task(_) => true,
+        Picked::Nothing | Picked::Failed | Picked::Over => false,
+    }
+}
+
+/// Whether a worker begins the next turn at once after a step.
+fn goes_on<D: Disk>(step: &Step<D>) -> bool
+    ensures { result ≡ goes_on step.now }
+{
+    match step {
+        Step::Moves { .. } | Step::Discarded => true,
+        _ => false,
+    }
+}
+
 impl<R, D: Disk> Workplace<'_, R, D> {
     /// Rings a bell, or none.
-    fn ring(&self, seat: &mut BoardSeat<D>, bell: Option<u8>)
-        requires of_this_desk { seat.old.desk ≡ Some self.now.desk.now }
-        ensures { MatchOption bell (seat.new ≡ seat.old) (λ b. seat.new ≡ rung seat.old b) }
+    fn ring(&self, seat: &mut WorkerSeat<D>, bell: Option<u8>)
+        requires of_this_desk { seat.old.facts.desk ≡ Some self.now.desk.now }
+        requires outside { seat.old.keeps_turn ≡ false }
+        ensures rung { MatchOption bell (seat.new.facts ≡ seat.old.facts)
+            (λ b. seat.new.facts ≡ rung seat.old.facts b) }
+        ensures outside { seat.new.keeps_turn ≡ false }
     {
         if let Some(bell) = bell {
-            self.desk.ring(seat, bell);
+            seat.ring(self.desk, bell);
         }
     }
 
-    /// Ends a turn that did this, and wakes the next worker that is to look again.
-    fn end_turn(&self, seat: &mut BoardSeat<D>, mut noted: NotedBoard<D>, change: Change)
-        requires desk { seat.old.desk ≡ Some self.now.desk.now }
-        requires number { seat.old.number ≡ self.now.worker.0 }
-        requires turn { IsSomeAnd seat.old.found
+    /// Ends a turn that did this, and wakes the next worker that is to look again. Where there is none, a worker that goes on
+    /// keeps the turn.
+    fn end_turn(
+        &self,
+        seat: &mut WorkerSeat<D>,
+        mut noted: NotedBoard<D>,
+        change: Change,
+        goes_on: bool,
+    )
+        requires desk { seat.old.facts.desk ≡ Some self.now.desk.now }
+        requires number { seat.old.facts.number ≡ self.now.worker.0 }
+        requires turn { IsSomeAnd seat.old.facts.found
             (MayLeave D.size D.faults D.mismatches D.held self.now.desk.now self.now.worker noted) }
-        requires did { IsSomeAnd seat.old.found (λ found. IsChange found.board noted.board change) }
+        requires did { IsSomeAnd seat.old.facts.found
+            (λ found. IsChange found.board noted.board change) }
         ensures left { HasLeft self.now.desk.now self.now.worker
-            (noted_after self.now.worker change noted) seat.new }
-        ensures rung { HasRung (wakes_after self.now.worker change noted) seat.old seat.new }
+            (noted_after self.now.worker change noted) seat.new.facts }
+        ensures rung { HasRung (wakes_after self.now.worker change noted)
+            seat.old.facts seat.new.facts }
+        ensures outside { goes_on ≡ false → seat.new.keeps_turn ≡ false }
     {
         let woken = noted.change(self.worker, change);
-        self.desk.leave(seat, noted);
+        if goes_on && woken.is_none() {
+            seat.leave_and_keep(self.desk, noted);
+            return;
+        }
+        seat.leave(self.desk, noted);
         self.ring(seat, woken);
     }
 
     /// Ends a turn in which the worker found nothing to do, with a claimed task or without one. The seat has heard its bell.
-    fn end_turn_to_rest(&self, seat: &mut BoardSeat<D>, mut noted: NotedBoard<D>, claimed: bool)
-        requires desk { seat.old.desk ≡ Some self.now.desk.now }
-        requires number { seat.old.number ≡ self.now.worker.0 }
-        requires turn { IsSomeAnd seat.old.found
+    fn end_turn_to_rest(&self, seat: &mut WorkerSeat<D>, mut noted: NotedBoard<D>, claimed: bool)
+        requires desk { seat.old.facts.desk ≡ Some self.now.desk.now }
+        requires number { seat.old.facts.number ≡ self.now.worker.0 }
+        requires turn { IsSomeAnd seat.old.facts.found
             (MayLeave D.size D.faults D.mismatches D.held self.now.desk.now self.now.worker noted) }
         requires claimed { claimed ≡ is_claimed noted.board self.now.worker }
         ensures left { HasLeft self.now.desk.now self.now.worker
-            (noted_for_rest self.now.worker self.now.bell claimed noted) seat.new }
-        ensures rung { HasRung (wakes_for_rest self.now.worker claimed noted) seat.old seat.new }
-        ensures heard { is_some seat.new.heard ≡ true }
-        ensures bell { HasHeardBell self.now.bell seat.new }
+            (noted_for_rest self.now.worker self.now.bell claimed noted) seat.new.facts }
+        ensures rung { HasRung (wakes_for_rest self.now.worker claimed noted)
+            seat.old.facts seat.new.facts }
+        ensures heard { is_some seat.new.facts.heard ≡ true }
+        ensures bell { HasHeardBell self.now.bell seat.new.facts }
+        ensures outside { seat.new.keeps_turn ≡ false }
     {
         let woken = noted.rest(self.worker, self.bell, claimed);
-        self.desk.listen(seat, self.bell);
-        self.desk.leave(seat, noted);
+        seat.listen(self.desk, self.bell);
+        seat.leave(self.desk, noted);
         self.ring(seat, woken);
     }
 }
 
 impl<R: Wait, D: Disk> Workplace<'_, R, D> {
     /// Claims a task that is ready, or stops where all is done. Where there is nothing to claim, the seat has heard the bell.
-    pub fn pick(&self, seat: &mut BoardSeat<D>) -> Picked
+    pub fn pick(&self, seat: &mut WorkerSeat<D>) -> Picked
         requires workplace { IsWorkplace self.now }
         requires free { IsSeated self.now IsFreeRow seat.old }
         ensures row { IsSeated self.now (λ r. AfterPick self.now.worker r result) seat.new }
-        ensures events { GoesOn self.now.worker seat.old seat.new }
-        ensures heard { result ≡ Picked.Nothing → is_some seat.new.heard ≡ true }
+        ensures events { GoesOn self.now.worker seat.old.facts seat.new.facts }
+        ensures heard { result ≡ Picked.Nothing → is_some seat.new.facts.heard ≡ true }
         ensures bell { MindsBell self.now.worker self.now.bell
-            (finds_nothing result) seat.old seat.new }
+            (finds_nothing result) seat.old.facts seat.new.facts }
+        ensures outside { has_claimed result ≡ false → seat.new.keeps_turn ≡ false }
     {
-        let mut noted = self.desk.enter(self.rt, seat);
+        let mut noted = seat.enter(self.rt, self.desk);
         let picked = noted.board.pick(self.alloc, self.worker);
         if picked == Picked::Nothing {
             self.end_turn_to_rest(seat, noted, false);
             return Picked::Nothing;
         }
-        self.end_turn(seat, noted, Change::Claimed);
+        let goes_on = has_claimed(&picked);
+        self.end_turn(seat, noted, Change::Claimed, goes_on);
         picked
     }
 
     /// Makes the next step for the claimed task. Where the worker must wait, the seat has heard the bell.
-    pub fn step(&self, seat: &mut BoardSeat<D>, t: Task) -> Step<D>
+    pub fn step(&self, seat: &mut WorkerSeat<D>, t: Task) -> Step<D>
         requires workplace { IsWorkplace self.now }
         requires claimed { IsSeated self.now (HasClaimedRow self.now.worker t) seat.old }
         ensures row { IsSeated self.now
             (λ r. AfterStep D.held (board_key self.now) self.now.worker t r result) seat.new }
-        ensures events { GoesOn self.now.worker seat.old seat.new }
-        ensures heard { result ≡ Step.Waits → is_some seat.new.heard ≡ true }
+        ensures events { GoesOn self.now.worker seat.old.facts seat.new.facts }
+        ensures heard { result ≡ Step.Waits → is_some seat.new.facts.heard ≡ true }
         ensures bell { MindsBell self.now.worker self.now.bell
-            (has_to_wait result) seat.old seat.new }
+            (has_to_wait result) seat.old.facts seat.new.facts }
+        ensures outside { goes_on result ≡ false → seat.new.keeps_turn ≡ false }
     {
-        let mut noted = self.desk.enter(self.rt, seat);
+        let mut noted = seat.enter(self.rt, self.desk);
         let step = noted.board.step(self.alloc, self.worker, t);
         if let Step::Waits = step {
             self.end_turn_to_rest(seat, noted, true);
             return Step::Waits;
         }
         let change = change_of(&step);
-        self.end_turn(seat, noted, change);
+        let goes_on = goes_on(&step);
+        self.end_turn(seat, noted, change, goes_on);
         step
     }
 
     /// Ends a transfer from a node to a node.
-    pub fn arrive(&self, seat: &mut BoardSeat<D>, t: Task, x: Transfer, tile: Arc<Tile>)
+    pub fn arrive(&self, seat: &mut WorkerSeat<D>, t: Task, x: Transfer, tile: Arc<Tile>)
         requires workplace { IsWorkplace self.now }
         requires moves { IsSeated self.now (MovesRow self.now.worker t x) seat.old }
         requires node { is_node x.to ≡ true }
         requires tile { IsSeated self.now
             (λ r. IsCarried D.held (board_key self.now) x r tile.value) seat.old }
         ensures row { IsSeated self.now (HasClaimedRow self.now.worker t) seat.new }
-        ensures events { GoesOn self.now.worker seat.old seat.new }
-        ensures bell { MindsBell self.now.worker self.now.bell false seat.old seat.new }
+        ensures events { GoesOn self.now.worker seat.old.facts seat.new.facts }
+        ensures bell { MindsBell self.now.worker self.now.bell false seat.old.facts seat.new.facts }
     {
-        let mut noted = self.desk.enter(self.rt, seat);
+        let mut noted = seat.enter(self.rt, self.desk);
         noted.board.arrive(self.worker, t, x, tile);
-        self.end_turn(seat, noted, Change::Freed);
+        self.end_turn(seat, noted, Change::Freed, true);
     }
 
     /// Puts a disk back on which a tile was stored, and ends its transfer. Whether it did: else the worker has failed.
     pub fn write_out(
         &self,
-        seat: &mut BoardSeat<D>,
+        seat: &mut WorkerSeat<D>,
         t: Task,
         x: Transfer,
         unit: Unit<D>,
@@ -157,19 +201,20 @@ impl<R: Wait, D: Disk> Workplace<'_, R, D> {
             (board_key self.now) self.now.worker t x r unit outcome) seat.old }
         ensures row { IsSeated self.now
             (λ r. MatchBool result (HasClaimedRow self.now.worker t r) (IsFreeRow r)) seat.new }
-        ensures events { GoesOn self.now.worker seat.old seat.new }
-        ensures bell { MindsBell self.now.worker self.now.bell false seat.old seat.new }
+        ensures events { GoesOn self.now.worker seat.old.facts seat.new.facts }
+        ensures bell { MindsBell self.now.worker self.now.bell false seat.old.facts seat.new.facts }
+        ensures outside { result ≡ false → seat.new.keeps_turn ≡ false }
     {
-        let mut noted = self.desk.enter(self.rt, seat);
+        let mut noted = seat.enter(self.rt, self.desk);
         let written = noted.board.write_out(self.worker, t, x, unit, outcome);
-        self.end_turn(seat, noted, Change::Freed);
+        self.end_turn(seat, noted, Change::Freed, written);
         written
     }
 
     /// Puts a disk back from which a tile was fetched, and ends its transfer. Whether it did: else the worker has failed.
     pub fn read_in(
         &self,
-        seat: &mut BoardSeat<D>,
+        seat: &mut WorkerSeat<D>,
         t: Task,
         x: Transfer,
         unit: Unit<D>,
@@ -186,56 +231,59 @@ impl<R: Wait, D: Disk> Workplace<'_, R, D> {
             self.now.worker t x r unit outcome a) seat.old) }
         ensures row { IsSeated self.now
             (λ r. MatchBool result (HasClaimedRow self.now.worker t r) (IsFreeRow r)) seat.new }
-        ensures events { GoesOn self.now.worker seat.old seat.new }
-        ensures bell { MindsBell self.now.worker self.now.bell false seat.old seat.new }
+        ensures events { GoesOn self.now.worker seat.old.facts seat.new.facts }
+        ensures bell { MindsBell self.now.worker self.now.bell false seat.old.facts seat.new.facts }
+        ensures outside { result ≡ false → seat.new.keeps_turn ≡ false }
     {
-        let mut noted = self.desk.enter(self.rt, seat);
+        let mut noted = seat.enter(self.rt, self.desk);
         let read = noted.board.read_in(self.worker, t, x, unit, outcome, tile);
-        self.end_turn(seat, noted, Change::Freed);
+        self.end_turn(seat, noted, Change::Freed, read);
         read
     }
 
     /// Puts a disk back as it was, and fails for want of memory.
-    pub fn give_unit_up(&self, seat: &mut BoardSeat<D>, t: Task, x: Transfer, unit: Unit<D>)
+    pub fn give_unit_up(&self, seat: &mut WorkerSeat<D>, t: Task, x: Transfer, unit: Unit<D>)
         requires workplace { IsWorkplace self.now }
         requires holds { IsSeated self.now (HoldsRow self.now.worker t x unit) seat.old }
         ensures row { IsSeated self.now IsFreeRow seat.new }
-        ensures events { GoesOn self.now.worker seat.old seat.new }
-        ensures bell { MindsBell self.now.worker self.now.bell false seat.old seat.new }
+        ensures events { GoesOn self.now.worker seat.old.facts seat.new.facts }
+        ensures bell { MindsBell self.now.worker self.now.bell false seat.old.facts seat.new.facts }
+        ensures outside { seat.new.keeps_turn ≡ false }
     {
-        let mut noted = self.desk.enter(self.rt, seat);
+        let mut noted = seat.enter(self.rt, self.desk);
         noted.board.give_unit_up(self.worker, t, x, unit);
-        self.end_turn(seat, noted, Change::Freed);
+        self.end_turn(seat, noted, Change::Freed, false);
     }
 
     /// Ends the task that runs, with its results. The memory of their frame is given back after the turn.
-    pub fn finish(&self, seat: &mut BoardSeat<D>, t: Task, results: Frame)
+    pub fn finish(&self, seat: &mut WorkerSeat<D>, t: Task, results: Frame)
         requires workplace { IsWorkplace self.now }
         requires runs { IsSeated self.now (RunsRow self.now.worker t) seat.old }
         requires results { IsSeated self.now
             (λ r. AreDone D.held (board_key self.now) self.now.worker t r results.slots) seat.old }
         ensures row { IsSeated self.now IsFreeRow seat.new }
-        ensures events { GoesOn self.now.worker seat.old seat.new }
-        ensures bell { MindsBell self.now.worker self.now.bell false seat.old seat.new }
+        ensures events { GoesOn self.now.worker seat.old.facts seat.new.facts }
+        ensures bell { MindsBell self.now.worker self.now.bell false seat.old.facts seat.new.facts }
     {
-        let mut noted = self.desk.enter(self.rt, seat);
+        let mut noted = seat.enter(self.rt, self.desk);
         let spent = noted.board.finish(self.worker, t, results);
-        self.end_turn(seat, noted, Change::Ended);
+        self.end_turn(seat, noted, Change::Ended, true);
         drop(spent);
     }
 
     /// Fails for want of memory, and lets the task go.
-    pub fn fail(&self, seat: &mut BoardSeat<D>)
+    pub fn fail(&self, seat: &mut WorkerSeat<D>)
         requires workplace { IsWorkplace self.now }
         requires works { IsSeated self.now (λ r. r.hand.has_stopped ≡ false) seat.old }
         requires none_given { IsSeated self.now (λ r. r.hand.given ≡ None) seat.old }
         requires no_unit { IsSeated self.now (λ r. r.hand.unit ≡ None) seat.old }
         ensures row { IsSeated self.now IsFreeRow seat.new }
-        ensures events { GoesOn self.now.worker seat.old seat.new }
-        ensures bell { MindsBell self.now.worker self.now.bell false seat.old seat.new }
+        ensures events { GoesOn self.now.worker seat.old.facts seat.new.facts }
+        ensures bell { MindsBell self.now.worker self.now.bell false seat.old.facts seat.new.facts }
+        ensures outside { seat.new.keeps_turn ≡ false }
     {
-        let mut noted = self.desk.enter(self.rt, seat);
+        let mut noted = seat.enter(self.rt, self.desk);
         noted.board.fail_without_memory(self.worker);
-        self.end_turn(seat, noted, Change::Ended);
+        self.end_turn(seat, noted, Change::Ended, false);
     }
 }

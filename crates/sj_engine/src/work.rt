@@ -13,7 +13,8 @@ use crate::kernel::compute;
 use crate::member::Stage;
 use crate::picking::Picked;
 use crate::stepping::Step;
-use crate::workplace::{BoardSeat, Workplace};
+use crate::worker_seat::WorkerSeat;
+use crate::workplace::Workplace;
 use sj_base::ids::Task;
 use sj_base::tile::Tile;
 use sj_codelet::frame::Frame;
@@ -56,7 +57,7 @@ impl<R: Wait, D: Disk> Workplace<'_, R, D> {
     /// failed. Linear in the tile.
     fn store(
         &self,
-        seat: &mut BoardSeat<D>,
+        seat: &mut WorkerSeat<D>,
         t: Task,
         x: Transfer,
         writes: u64,
@@ -64,13 +65,15 @@ impl<R: Wait, D: Disk> Workplace<'_, R, D> {
         mut unit: Unit<D>,
     ) -> bool
         requires workplace { IsProperWorkplace self.now }
+        requires outside { seat.old.keeps_turn ≡ false }
         requires disk { is_node x.to ≡ false }
         requires unit { IsSeated self.now (λ r. IsUnitFor (board_key self.now) self.now.worker t x r unit writes) seat.old }
         requires share { IsSeated self.now
             (λ r. IsCarried D.held (board_key self.now) x r share.value) seat.old }
         ensures row { IsSeated self.now
             (λ r. MatchBool result (HasClaimedRow self.now.worker t r) (IsFreeRow r)) seat.new }
-        ensures events { GoesOn self.now.worker seat.old seat.new }
+        ensures events { GoesOn self.now.worker seat.old.facts seat.new.facts }
+        ensures outside { result ≡ false → seat.new.keeps_turn ≡ false }
     {
         measured(&share);
         let outcome = unit.store(writes, &share);
@@ -82,20 +85,22 @@ impl<R: Wait, D: Disk> Workplace<'_, R, D> {
     /// failed. Linear in the tile.
     fn fetch(
         &self,
-        seat: &mut BoardSeat<D>,
+        seat: &mut WorkerSeat<D>,
         t: Task,
         x: Transfer,
         writes: u64,
         mut unit: Unit<D>,
     ) -> bool
         requires workplace { IsProperWorkplace self.now }
+        requires outside { seat.old.keeps_turn ≡ false }
         requires node { is_node x.to ≡ true }
         requires disk { is_node x.from ≡ false }
         requires cell { x.cell.0 < length self.now.program.now.cells }
         requires unit { IsSeated self.now (λ r. IsUnitFor (board_key self.now) self.now.worker t x r unit writes) seat.old }
         ensures row { IsSeated self.now
             (λ r. MatchBool result (HasClaimedRow self.now.worker t r) (IsFreeRow r)) seat.new }
-        ensures events { GoesOn self.now.worker seat.old seat.new }
+        ensures events { GoesOn self.now.worker seat.old.facts seat.new.facts }
+        ensures outside { result ≡ false → seat.new.keeps_turn ≡ false }
     {
         let dims = self.program.cells.items()[x.cell.0 as usize].dims;
         let Ok(mut tile) = Tile::zeros(self.alloc, dims) else {
@@ -109,13 +114,14 @@ impl<R: Wait, D: Disk> Workplace<'_, R, D> {
     }
 
     /// One step for the claimed task, with the transfer that it begins.
-    fn advance(&self, seat: &mut BoardSeat<D>, t: Task) -> Prepared
+    fn advance(&self, seat: &mut WorkerSeat<D>, t: Task) -> Prepared
         requires workplace { IsProperWorkplace self.now }
         requires claimed { IsSeated self.now (HasClaimedRow self.now.worker t) seat.old }
         ensures row { IsSeated self.now
             (λ r. AfterPrepare D.held (board_key self.now) self.now.worker t r result) seat.new }
-        ensures heard { result ≡ Prepared.Waits → is_some seat.new.heard ≡ true }
-        ensures events { GoesOn self.now.worker seat.old seat.new }
+        ensures heard { result ≡ Prepared.Waits → is_some seat.new.facts.heard ≡ true }
+        ensures events { GoesOn self.now.worker seat.old.facts seat.new.facts }
+        ensures outside { result ≢ Prepared.Further → seat.new.keeps_turn ≡ false }
     {
         match self.step(seat, t) {
             Step::Begun(frame) => Prepared::Begun(frame),
@@ -151,14 +157,15 @@ impl<R: Wait, D: Disk> Workplace<'_, R, D> {
     }
 
     /// Makes the steps for the claimed task until its kernel begins, or it must wait.
-    fn prepare(&self, seat: &mut BoardSeat<D>, t: Task) -> Prepared
+    fn prepare(&self, seat: &mut WorkerSeat<D>, t: Task) -> Prepared
         requires workplace { IsProperWorkplace self.now }
         requires claimed { IsSeated self.now (HasClaimedRow self.now.worker t) seat.old }
         ensures row { IsSeated self.now
             (λ r. AfterPrepare D.held (board_key self.now) self.now.worker t r result) seat.new }
         ensures not_further { result ≢ Prepared.Further }
-        ensures heard { result ≡ Prepared.Waits → is_some seat.new.heard ≡ true }
-        ensures events { GoesOn self.now.worker seat.old seat.new }
+        ensures heard { result ≡ Prepared.Waits → is_some seat.new.facts.heard ≡ true }
+        ensures events { GoesOn self.now.worker seat.old.facts seat.new.facts }
+        ensures outside { seat.new.keeps_turn ≡ false }
     {
         for _ in self.rt.forever() {
             match self.advance(seat, t) {
@@ -172,19 +179,20 @@ impl<R: Wait, D: Disk> Workplace<'_, R, D> {
     /// Runs the kernel of a task that has begun, outside of any turn, and ends the task. The kernel's cost.
     fn run_kernel<C: Codelets, G: Gate>(
         &self,
-        seat: &mut BoardSeat<D>,
+        seat: &mut WorkerSeat<D>,
         codelets: &C,
         gate: &G,
         t: Task,
         taken: Frame,
     )
         requires workplace { IsProperWorkplace self.now }
+        requires outside { seat.old.keeps_turn ≡ false }
         requires lawful { IsLawful C.has self.now.program.now }
         requires task { t.0 < length self.now.program.now.tasks }
         requires runs { IsSeated self.now
             (λ r. HasOperands D.held (board_key self.now) self.now.worker t r taken) seat.old }
         ensures row { IsSeated self.now IsFreeRow seat.new }
-        ensures events { GoesOn self.now.worker seat.old seat.new }
+        ensures events { GoesOn self.now.worker seat.old.facts seat.new.facts }
     {
         match compute(self.alloc, self.program, codelets, gate, t, taken) {
             Ok(results) => self.finish(seat, t, results),
@@ -196,7 +204,7 @@ impl<R: Wait, D: Disk> Workplace<'_, R, D> {
     /// then.
     fn carry_out<C: Codelets, G: Gate>(
         &self,
-        seat: &mut BoardSeat<D>,
+        seat: &mut WorkerSeat<D>,
         codelets: &C,
         gate: &G,
         t: Task,
@@ -205,8 +213,9 @@ impl<R: Wait, D: Disk> Workplace<'_, R, D> {
         requires lawful { IsLawful C.has self.now.program.now }
         requires claimed { IsSeated self.now (HasClaimedRow self.now.worker t) seat.old }
         ensures row { IsSeated self.now (IsRowAt self.now.worker result) seat.new }
-        ensures heard { HasHeard result seat.new }
-        ensures events { GoesOn self.now.worker seat.old seat.new }
+        ensures heard { HasHeard result seat.new.facts }
+        ensures events { GoesOn self.now.worker seat.old.facts seat.new.facts }
+        ensures outside { result ≢ Stage.Fresh → seat.new.keeps_turn ≡ false }
     {
         match self.prepare(seat, t) {
             Prepared::Begun(taken) => {
@@ -221,13 +230,14 @@ impl<R: Wait, D: Disk> Workplace<'_, R, D> {
     }
 
     /// The worker looks for a task and carries it out, as far as it can. The stage at which it is then.
-    fn look<C: Codelets, G: Gate>(&self, seat: &mut BoardSeat<D>, codelets: &C, gate: &G) -> Stage
+    fn look<C: Codelets, G: Gate>(&self, seat: &mut WorkerSeat<D>, codelets: &C, gate: &G) -> Stage
         requires workplace { IsProperWorkplace self.now }
         requires lawful { IsLawful C.has self.now.program.now }
         requires free { IsSeated self.now IsFreeRow seat.old }
         ensures row { IsSeated self.now (IsRowAt self.now.worker result) seat.new }
-        ensures heard { HasHeard result seat.new }
-        ensures events { GoesOn self.now.worker seat.old seat.new }
+        ensures heard { HasHeard result seat.new.facts }
+        ensures events { GoesOn self.now.worker seat.old.facts seat.new.facts }
+        ensures outside { result ≢ Stage.Fresh → seat.new.keeps_turn ≡ false }
     {
         match self.pick(seat) {
             Picked::Task(t) => self.carry_out(seat, codelets, gate, t),
@@ -240,17 +250,19 @@ impl<R: Wait, D: Disk> Workplace<'_, R, D> {
     /// The worker goes on from a stage: with the task that it has claimed, or to look for one.
     fn resume<C: Codelets, G: Gate>(
         &self,
-        seat: &mut BoardSeat<D>,
+        seat: &mut WorkerSeat<D>,
         codelets: &C,
         gate: &G,
         stage: Stage,
     ) -> Stage
         requires workplace { IsProperWorkplace self.now }
+        requires outside { seat.old.keeps_turn ≡ false }
         requires lawful { IsLawful C.has self.now.program.now }
         requires row { IsSeated self.now (IsRowAt self.now.worker stage) seat.old }
         ensures row { IsSeated self.now (IsRowAt self.now.worker result) seat.new }
-        ensures heard { HasHeard result seat.new }
-        ensures events { GoesOn self.now.worker seat.old seat.new }
+        ensures heard { HasHeard result seat.new.facts }
+        ensures events { GoesOn self.now.worker seat.old.facts seat.new.facts }
+        ensures outside { result ≢ Stage.Fresh → seat.new.keeps_turn ≡ false }
     {
         match stage {
             Stage::Fresh | Stage::Idle => self.look(seat, codelets, gate),
@@ -266,20 +278,22 @@ impl<R: Wait, D: Disk> Workplace<'_, R, D> {
     /// the turns of the workers fall. Its kernels run outside of them, between the two calls of the gate.
     pub fn work<C: Codelets, G: Gate>(
         &self,
-        seat: &mut BoardSeat<D>,
+        seat: &mut WorkerSeat<D>,
         codelets: &C,
         gate: &G,
         stage: Stage,
     ) -> Stage
         requires workplace { IsProperWorkplace self.now }
+        requires outside { seat.old.keeps_turn ≡ false }
         requires lawful { IsLawful C.has self.now.program.now }
         requires row { IsSeated self.now (IsRowAt self.now.worker stage) seat.old }
         ensures row { IsSeated self.now (IsRowAt self.now.worker result) seat.new }
         ensures looked { result ≢ Stage.Fresh }
         // Where it can't go on, its seat has heard the bell.
-        ensures heard { HasHeard result seat.new }
+        ensures heard { HasHeard result seat.new.facts }
         // Of its events none that it had is gone or has another place.
-        ensures events { GoesOn self.now.worker seat.old seat.new }
+        ensures events { GoesOn self.now.worker seat.old.facts seat.new.facts }
+        ensures outside { seat.new.keeps_turn ≡ false }
     {
         let mut stage = self.resume(seat, codelets, gate, stage);
         for _ in self.rt.forever() {

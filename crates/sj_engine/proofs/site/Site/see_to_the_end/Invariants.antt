@@ -8,5 +8,5 @@ invariant-loop g l = record {
   can : (goal.iterator-loop g).can_next l.iterator';
   ends : (goal.iterator-loop g).is_finite l.iterator';
   member : IsMember l.self.desk.now l.member;
-  number : l.member.seat.number ≡ l.fn.member.seat.number;
+  number : l.member.seat.facts.number ≡ l.fn.member.seat.facts.number;
 }

@@ -9,10 +9,20 @@ change-woken-requires g c = record { inside = noted-inside _ _ _ _ _ _ c.args.no
 
 pub leave-requires-clause-other_rows : goal.leave-requires-clause-other_rows
 leave-requires-clause-other_rows g c =
-    other-rows _ _ _ _ _ _ c.args.noted c.change-woken.new.self c.args.seat.now c.requires.number c.requires.turn c.change-woken.ensures.board
+    other-rows _ _ _ _ _ _ c.args.noted c.change-woken.new.self c.args.seat.now.facts c.requires.number c.requires.turn c.change-woken.ensures.board
 
 pub leave-requires-clause-sound : goal.leave-requires-clause-sound
 leave-requires-clause-sound g c =
+    let found = c.args.noted in
+    let many = ap length c.change-woken.ensures.noted ∙ length-noted c.args.self.now.worker.0 c.args.change (is_over found.board) (has_ready found.board) found.sleepers in
+    noted-sound _ _ _ _ _ _ c.args.noted c.change-woken.new.self _ c.requires.turn c.change-woken.ensures.board many c.change-woken.ensures.sound
+
+pub leave_and_keep-requires-clause-other_rows : goal.leave_and_keep-requires-clause-other_rows
+leave_and_keep-requires-clause-other_rows g c =
+    other-rows _ _ _ _ _ _ c.args.noted c.change-woken.new.self c.args.seat.now.facts c.requires.number c.requires.turn c.change-woken.ensures.board
+
+pub leave_and_keep-requires-clause-sound : goal.leave_and_keep-requires-clause-sound
+leave_and_keep-requires-clause-sound g c =
     let found = c.args.noted in
     let many = ap length c.change-woken.ensures.noted ∙ length-noted c.args.self.now.worker.0 c.args.change (is_over found.board) (has_ready found.board) found.sleepers in
     noted-sound _ _ _ _ _ _ c.args.noted c.change-woken.new.self _ c.requires.turn c.change-woken.ensures.board many c.change-woken.ensures.sound

@@ -11,9 +11,9 @@ rest-woken-requires g c = record { inside = noted-inside _ _ _ _ _ _ c.args.note
 
 pub leave-requires-clause-other_rows : goal.leave-requires-clause-other_rows
 leave-requires-clause-other_rows g c =
-    let seat = c.listen.new.seat in
-    let number = heard-number _ c.args.seat.now seat seat.heard c.listen.ensures.seat ∙ c.requires.number in
-    let found = heard-found _ c.args.seat.now seat seat.heard c.listen.ensures.seat in
+    let seat = c.listen.new.self.facts in
+    let number = heard-number _ c.args.seat.now.facts seat seat.heard c.listen.ensures.seat ∙ c.requires.number in
+    let found = heard-found _ c.args.seat.now.facts seat seat.heard c.listen.ensures.seat in
     let may = MayLeave g.D.Disk.size g.D.Disk.faults g.D.Disk.mismatches g.D.Disk.held c.args.self.now.desk.now c.args.self.now.worker c.args.noted in
     let turn = subst (λ o. IsSomeAnd o may) (sym found) c.requires.turn in
     other-rows _ _ _ _ _ _ c.args.noted c.rest-woken.new.self seat number turn c.rest-woken.ensures.board

@@ -12,5 +12,5 @@ returns-clause-events g c = goes-on c.enter-noted.result c.requires.runs c.enter
 pub returns-clause-bell : goal.returns-clause-bell
 returns-clause-bell g c =
     let left : NotedBoard _ = record { board = c.finish-spent.new.self; sleepers = c.enter-noted.result.sleepers } in
-    minds-change c.args.seat.now c.enter-noted.new.seat c.end_turn.new.seat c.enter-noted.result left Ended c.enter-noted.ensures.own_row (ap (λ s. s.rings) c.enter-noted.ensures.seat) refl
+    minds-change c.args.seat.now.facts c.enter-noted.new.self.facts c.end_turn.new.seat.facts c.enter-noted.result left Ended c.enter-noted.ensures.own_row (ap (λ s. s.rings) c.enter-noted.ensures.seat) refl
     (inl (End c.args.t c.args.self.now.worker, c.finish-spent.ensures.event, refl)) c.end_turn.ensures.left c.end_turn.ensures.rung

@@ -17,5 +17,5 @@ returns-clause-bell g c =
     let left : NotedBoard _ = record { board = c.pick-picked.new.self; sleepers = c.enter-noted.result.sleepers } in
     let other : c.pick-picked.result ≢ Nothing = search rules in
     minds-picked c.pick-picked.result other
-    (minds-change c.args.seat.now c.enter-noted.new.seat c.end_turn.new.seat c.enter-noted.result left Claimed c.enter-noted.ensures.own_row (ap (λ s. s.rings) c.enter-noted.ensures.seat) refl
+    (minds-change c.args.seat.now.facts c.enter-noted.new.self.facts c.end_turn.new.seat.facts c.enter-noted.result left Claimed c.enter-noted.ensures.own_row (ap (λ s. s.rings) c.enter-noted.ensures.seat) refl
     (pick-did c.args.self.now.worker c.enter-noted.result.board c.pick-picked.new.self c.pick-picked.result c.pick-picked.ensures.event c.pick-picked.ensures.failed c.pick-picked.ensures.over other) c.end_turn.ensures.left c.end_turn.ensures.rung)

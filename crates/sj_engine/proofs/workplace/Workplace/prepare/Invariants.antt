@@ -8,5 +8,5 @@ invariant-loop g l = record {
   can : (goal.iterator-loop g).can_next l.iterator';
   ends : (goal.iterator-loop g).is_finite l.iterator';
   row : IsSeated l.self (HasClaimedRow l.self.worker l.t) l.seat;
-  events : GoesOn l.self.worker l.fn.seat l.seat;
+  events : GoesOn l.self.worker l.fn.seat.facts l.seat.facts;
 }

@@ -24,5 +24,5 @@ returns-clause-bell g c =
     let left : NotedBoard _ = record { board = c.step-step.new.self; sleepers = c.enter-noted.result.sleepers } in
     let other : c.step-step.result ≢ Waits = search rules in
     minds-step c.step-step.result other
-    (minds-change c.args.seat.now c.enter-noted.new.seat c.end_turn.new.seat c.enter-noted.result left c.change_of-change.result c.enter-noted.ensures.own_row (ap (λ s. s.rings) c.enter-noted.ensures.seat) refl
+    (minds-change c.args.seat.now.facts c.enter-noted.new.self.facts c.end_turn.new.seat.facts c.enter-noted.result left c.change_of-change.result c.enter-noted.ensures.own_row (ap (λ s. s.rings) c.enter-noted.ensures.seat) refl
     (step-did c.args.self.now.worker c.args.t c.enter-noted.result.board c.step-step.new.self c.step-step.result c.change_of-change.result c.step-step.ensures.event c.step-step.ensures.failed c.change_of-change.ensures other) c.end_turn.ensures.left c.end_turn.ensures.rung)
