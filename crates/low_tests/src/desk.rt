@@ -55,13 +55,36 @@ fn note<R: Wait>(rt: &R, desk: &Desk<Journal>, seat: &mut DeskSeat<Journal>, ent
     desk.leave(seat, journal);
 }
 
+// Two turns in direct succession, in each of which the seat adds an entry.
+fn note_two<R: Wait>(
+    rt: &R,
+    desk: &Desk<Journal>,
+    seat: &mut DeskSeat<Journal>,
+    entries: (u32, u32),
+)
+    requires { IsWaiting desk.now seat.old }
+    ensures waits { IsWaiting desk.now seat.new }
+    ensures number { seat.new.number ≡ seat.old.number }
+{
+    let mut journal = desk.enter(rt, seat);
+    journal.add(seat.number(), entries.0);
+    let mut journal = desk.renew(seat, journal);
+    journal.add(seat.number(), entries.1);
+    desk.leave(seat, journal);
+}
+
+// Adds so many entries: one in a turn alone, then two in turns in direct succession, and so on.
 fn note_all<R: Wait>(rt: &R, desk: &Desk<Journal>, seat: &mut DeskSeat<Journal>, count: u32)
     requires { IsWaiting desk.now seat.old }
     ensures waits { IsWaiting desk.now seat.new }
     ensures number { seat.new.number ≡ seat.old.number }
 {
     for entry in 0..count {
-        note(rt, desk, seat, entry);
+        match entry % 3 {
+            1 if entry + 1 < count => note_two(rt, desk, seat, (entry, entry + 1)),
+            0 | 1 => note(rt, desk, seat, entry),
+            _ => {}
+        }
     }
 }
 
@@ -192,6 +215,33 @@ fn a_second_seat_is_refused_until_the_first_leaves(rt: HostRuntime) -> Result<()
         panic!(rt; "the turn wasn't given back")
     };
     assert_eq!(rt; journal.entries.as_slice(), [(0, 5)].as_slice());
+    Ok(())
+}
+
+#[test]
+fn a_second_seat_is_refused_between_turns_in_direct_succession(
+    rt: HostRuntime,
+) -> Result<(), Fail> {
+    let Ok((desk, seats)) = opened(rt.alloc(), 2) else {
+        panic!(rt; "no memory")
+    };
+    let Some((mut first, mut second)) = two_of(&desk, seats) else {
+        panic!(rt; "fewer than two seats")
+    };
+    let Ok(mut journal) = desk.try_enter(&mut first) else {
+        panic!(rt; "the turn is taken")
+    };
+    journal.add(first.number(), 5);
+    let mut journal = desk.renew(&mut first, journal);
+    let Err(Busy) = desk.try_enter(&mut second) else {
+        panic!(rt; "two are in their turn")
+    };
+    journal.add(first.number(), 6);
+    desk.leave(&mut first, journal);
+    let Ok(journal) = desk.try_enter(&mut second) else {
+        panic!(rt; "the turn wasn't given back")
+    };
+    assert_eq!(rt; journal.entries.as_slice(), [(0, 5), (0, 6)].as_slice());
     Ok(())
 }
 

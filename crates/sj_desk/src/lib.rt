@@ -5,7 +5,7 @@
 //! ([`Keyed`]). [`Desk::enter`] gives a value with the key of the opening value, sound, whose row
 //! for the caller's seat is the one that this seat left; [`Desk::leave`] asks that all other rows
 //! are as the seat found them; [`Desk::close`] gives a value in which every seat's row is as it
-//! left it.
+//! left it. [`Desk::renew`] ends a turn and begins the same seat's next one, which finds what was left.
 //!
 //! # How the turn is kept
 //!
@@ -52,6 +52,7 @@
 //! | a load of the bell that a seat rests on, which finds another count | the seat: its rest is over |
 //! | the value is moved out of the slot, or into it, by the holder | nobody |
 //! | the swap that gives the turn back | the holder: its row is that of the value that it left |
+//! | a load by the holder, the value in the slot, between two turns | the holder: its row is the value's, which it has found |
 //! | two tickets are joined when the desk closes | both: one answers for the rows of both |
 //!
 //! # What the steps can't say
