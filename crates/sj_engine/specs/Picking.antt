@@ -36,6 +36,6 @@ finds_nothing Nothing = true
 finds_nothing _ = false
 
 -- it has claimed a task
-abbrev pub has_claimed : Picked → Bool
-has_claimed (Task t) = true
-has_claimed _ = false
+abbrev pub finds_task : Picked → Bool
+finds_task (Task t) = true
+finds_task _ = false

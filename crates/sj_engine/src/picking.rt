@@ -116,11 +116,15 @@ impl<D: Disk> SharedBoard<D> {
         self.board.next(w, passed)
     }
 
-    /// Notes that a look ended with a task behind so many others. Constant time.
+    /// Notes that a look ended with a task behind so many others. Constant time. A count that stays isn't written: the value is moved
+    /// next, and would wait for the byte.
     fn note_found(&mut self, passed: usize)
         ensures { self.new ≡ self.old }
     {
-        self.misses = misses_after(self.misses, passed);
+        let misses = misses_after(self.misses, passed);
+        if misses != self.misses {
+            self.misses = misses;
+        }
     }
 
     /// Notes that a look was in vain. Constant time.

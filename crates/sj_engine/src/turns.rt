@@ -6,7 +6,7 @@ ghost use Rattle.sj_machine.specs.Tiles.{array_in};
 ghost use Rattle.sj_machine.specs.Standing.{is_node};
 ghost use Rattle.sj_desk.specs.Seats.{rung};
 ghost use Rattle.sj_engine.specs.Bell.{HasHeardBell, HasRung, IsChange, MindsBell, is_claimed, noted_after, noted_for_rest, wakes_after, wakes_for_rest};
-ghost use Rattle.sj_engine.specs.Picking.{AfterPick, finds_nothing, has_claimed};
+ghost use Rattle.sj_engine.specs.Picking.{AfterPick, finds_nothing, finds_task};
 ghost use Rattle.sj_engine.specs.Stage.{AreDone, GoesOn, HasClaimedRow, HasLeft, HoldsRow, IsCarried, IsFetchedThrough, IsFreeRow, IsStoredThrough, MovesRow, RunsRow};
 ghost use Rattle.sj_engine.specs.Stepping.{AfterStep, HasDone, goes_on, has_to_wait};
 ghost use Rattle.sj_engine.specs.Turn.{MayLeave};
@@ -38,8 +38,8 @@ fn change_of<D: Disk>(step: &Step<D>) -> Change
 }
 
 /// Whether a worker has claimed a task, and begins the next turn at once.
-fn has_claimed(picked: &Picked) -> bool
-    ensures { result ≡ has_claimed picked.now }
+fn finds_task(picked: &Picked) -> bool
+    ensures { result ≡ finds_task picked.now }
 {
     match picked {
         Picked::Task(_) => true,
@@ -133,7 +133,7 @@ impl<R: Wait, D: Disk> Workplace<'_, R, D> {
         ensures heard { result ≡ Picked.Nothing → is_some seat.new.facts.heard ≡ true }
         ensures bell { MindsBell self.now.worker self.now.bell
             (finds_nothing result) seat.old.facts seat.new.facts }
-        ensures outside { has_claimed result ≡ false → seat.new.keeps_turn ≡ false }
+        ensures outside { finds_task result ≡ false → seat.new.keeps_turn ≡ false }
     {
         let mut noted = seat.enter(self.rt, self.desk);
         let picked = noted.board.pick(self.alloc, self.worker);
@@ -141,7 +141,7 @@ impl<R: Wait, D: Disk> Workplace<'_, R, D> {
             self.end_turn_to_rest(seat, noted, false);
             return Picked::Nothing;
         }
-        let goes_on = has_claimed(&picked);
+        let goes_on = finds_task(&picked);
         self.end_turn(seat, noted, Change::Claimed, goes_on);
         picked
     }
