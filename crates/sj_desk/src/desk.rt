@@ -17,6 +17,7 @@ use std::alloc::Global;
 use std::hint::spin_loop;
 use std::marker::Model;
 use std::sync::Wait;
+use std::time::Duration;
 
 // The first word of the table. Behind it those of the bells stand.
 const TURN: usize = 0;
@@ -37,10 +38,15 @@ const AWAITED: u64 = 2;
 // A sleep on a word compares its low 32 bits.
 const LOW: u64 = 1 << 32;
 
-// How often `enter` tries before it sleeps, and after each sleep. It pauses after each try, twice as long as after the one
-// before: while the turn goes from hand to hand it is worth some 300 µs to stay awake, and the one that has it goes on with
-// what its caches hold.
+// How often `enter` tries before it sleeps until the turn is given back, and after each such sleep. It pauses after each try,
+// twice as long as after the one before, and the one that has the turn goes on with what its caches hold.
 const TRIES: u32 = 14;
+
+// After how many tries it dozes in place of a pause: until then some 10 µs went by.
+const AWAKE: u32 = 9;
+
+// How many microseconds the first doze lasts.
+const FIRST_DOZE: u64 = 32;
 
 // How often `rest` looks at the bell before it sleeps, with such pauses too: some 10 µs, which is less than a sleep and a wake
 // take, and of an idle worker's time nothing.
@@ -152,6 +158,21 @@ impl<T: Keyed> Desk<T> {
         list
     }
 
+    // Lets some time go by after so many tries that failed: awake, or in a doze that nobody ends and that asks nobody for a
+    // wake, so that the turns of others cost no more by it.
+    fn let_pass<R: Wait>(&self, rt: &R, failed: u32)
+        requires { failed < 14 }
+    {
+        if failed < AWAKE {
+            pause(FIRST_PAUSE << failed);
+            return;
+        }
+        let turn = &self.table.shared;
+        let count = turn.peek(LAST);
+        let doze = Duration::from_micros(FIRST_DOZE << (failed - AWAKE));
+        turn.park_timeout(rt, LAST, (count % LOW) as u32, doze);
+    }
+
     // One try for the turn, which leaves the mark in the turn word.
     fn attempt(&self, seat: &mut DeskSeat<T>, mark: u64) -> Option<T>
         requires mark { 0 < mark }
@@ -182,7 +203,7 @@ impl<T: Keyed> Desk<T> {
     }
 
     // Some tries for the turn, which leave the mark in the turn word.
-    fn try_for_a_while(&self, seat: &mut DeskSeat<T>, mark: u64) -> Option<T>
+    fn try_for_a_while<R: Wait>(&self, rt: &R, seat: &mut DeskSeat<T>, mark: u64) -> Option<T>
         requires mark { 0 < mark }
         requires of_this_desk { seat.old.desk ≡ Some self.now }
         requires not_in_its_turn { seat.old.found ≡ None }
@@ -197,7 +218,7 @@ impl<T: Keyed> Desk<T> {
             if let Some(value) = self.attempt(seat, mark) {
                 return Some(value);
             }
-            pause(FIRST_PAUSE << failed);
+            self.let_pass(rt, failed);
         }
         None
     }
@@ -217,7 +238,7 @@ impl<T: Keyed> Desk<T> {
             if self.mark(seat) {
                 self.table.shared.park(rt, TURN, AWAITED as u32);
             }
-            if let Some(value) = self.try_for_a_while(seat, AWAITED) {
+            if let Some(value) = self.try_for_a_while(rt, seat, AWAITED) {
                 return value;
             }
         }
@@ -237,7 +258,7 @@ impl<T: Keyed> Desk<T> {
         ensures seat { seat.new ≡ in_turn seat.old result seat.new.refusals }
         ensures tries { seat.old.refusals ≤ seat.new.refusals }
     {
-        match self.try_for_a_while(seat, TAKEN) {
+        match self.try_for_a_while(rt, seat, TAKEN) {
             Some(value) => value,
             None => self.wait_for(rt, seat),
         }
