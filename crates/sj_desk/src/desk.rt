@@ -39,13 +39,13 @@ const AWAITED: u64 = 2;
 const LOW: u64 = 1 << 32;
 
 // How often `enter` tries before it sleeps until the turn is given back, and after each such sleep. It pauses after each try,
-// twice as long as after the one before, and the one that has the turn goes on with what its caches hold.
-const TRIES: u32 = 14;
+// twice as long as after the one before, while the one that has the turn goes on with what its caches hold.
+const TRIES: u32 = 17;
 
-// After how many tries it dozes in place of a pause: until then some 10 µs went by.
-const AWAKE: u32 = 9;
+// After so many tries, which take some 50 µs, it dozes in place of a pause.
+const AWAKE: u32 = 11;
 
-// How many microseconds the first doze lasts.
+// How many microseconds the first doze lasts. Each further one lasts twice as long as the one before.
 const FIRST_DOZE: u64 = 32;
 
 // How often `rest` looks at the bell before it sleeps, with such pauses too: some 10 µs, which is less than a sleep and a wake
@@ -158,10 +158,10 @@ impl<T: Keyed> Desk<T> {
         list
     }
 
-    // Lets some time go by after so many tries that failed: awake, or in a doze that nobody ends and that asks nobody for a
-    // wake, so that the turns of others cost no more by it.
+    // Lets some time go by after so many tries that failed: awake, or in a doze, which ends by itself. Nobody has to wake it, so
+    // it costs the turns of others nothing.
     fn let_pass<R: Wait>(&self, rt: &R, failed: u32)
-        requires { failed < 14 }
+        requires { failed < 17 }
     {
         if failed < AWAKE {
             pause(FIRST_PAUSE << failed);
@@ -245,10 +245,9 @@ impl<T: Keyed> Desk<T> {
         unreachable!()
     }
 
-    /// Waits for the turn, takes it, and gives the value. Fourteen tries at most, with a pause after each
-    /// that is twice as long as the one before, and then it sleeps until the turn is given back, tries
-    /// so again, and so on.
-    /// Where the turn is free it takes one step. No memory.
+    /// Waits for the turn, takes it, and gives the value. Seventeen tries at most: eleven with pauses that double, some 50 µs in
+    /// all, then six with dozes that double, from 32 µs on; and then it sleeps until the turn is given back, tries so again, and
+    /// so on. Where the turn is free it takes one step. No memory.
     pub fn enter<R: Wait>(&self, rt: &R, seat: &mut DeskSeat<T>) -> T
         requires of_this_desk { seat.old.desk ≡ Some self.now }
         requires not_in_its_turn { seat.old.found ≡ None }
