@@ -17,6 +17,7 @@ use std::alloc::Global;
 use std::hint::spin_loop;
 use std::marker::Model;
 use std::sync::Wait;
+use std::time::Duration;
 
 // The first word of the table. Behind it those of the bells stand.
 const TURN: usize = 0;
@@ -37,10 +38,15 @@ const AWAITED: u64 = 2;
 // A sleep on a word compares its low 32 bits.
 const LOW: u64 = 1 << 32;
 
-// How often `enter` tries before it sleeps, and after each sleep. It pauses after each try, twice as long as after the one
-// before: while the turn goes from hand to hand it is worth some 300 µs to stay awake, and the one that has it goes on with
-// what its caches hold.
-const TRIES: u32 = 14;
+// How often `enter` tries before it sleeps until the turn is given back, and after each such sleep. It pauses after each try,
+// twice as long as after the one before, while the one that has the turn goes on with what its caches hold.
+const TRIES: u32 = 17;
+
+// After so many tries, which take some 50 µs, it dozes in place of a pause.
+const AWAKE: u32 = 11;
+
+// How many microseconds the first doze lasts. Each further one lasts twice as long as the one before.
+const FIRST_DOZE: u64 = 32;
 
 // How often `rest` looks at the bell before it sleeps, with such pauses too: some 10 µs, which is less than a sleep and a wake
 // take, and of an idle worker's time nothing.
@@ -152,6 +158,21 @@ impl<T: Keyed> Desk<T> {
         list
     }
 
+    // Lets some time go by after so many tries that failed: awake, or in a doze, which ends by itself. Nobody has to wake it, so
+    // it costs the turns of others nothing.
+    fn let_pass<R: Wait>(&self, rt: &R, failed: u32)
+        requires { failed < 17 }
+    {
+        if failed < AWAKE {
+            pause(FIRST_PAUSE << failed);
+            return;
+        }
+        let turn = &self.table.shared;
+        let count = turn.peek(LAST);
+        let doze = Duration::from_micros(FIRST_DOZE << (failed - AWAKE));
+        turn.park_timeout(rt, LAST, (count % LOW) as u32, doze);
+    }
+
     // One try for the turn, which leaves the mark in the turn word.
     fn attempt(&self, seat: &mut DeskSeat<T>, mark: u64) -> Option<T>
         requires mark { 0 < mark }
@@ -182,7 +203,7 @@ impl<T: Keyed> Desk<T> {
     }
 
     // Some tries for the turn, which leave the mark in the turn word.
-    fn try_for_a_while(&self, seat: &mut DeskSeat<T>, mark: u64) -> Option<T>
+    fn try_for_a_while<R: Wait>(&self, rt: &R, seat: &mut DeskSeat<T>, mark: u64) -> Option<T>
         requires mark { 0 < mark }
         requires of_this_desk { seat.old.desk ≡ Some self.now }
         requires not_in_its_turn { seat.old.found ≡ None }
@@ -197,7 +218,7 @@ impl<T: Keyed> Desk<T> {
             if let Some(value) = self.attempt(seat, mark) {
                 return Some(value);
             }
-            pause(FIRST_PAUSE << failed);
+            self.let_pass(rt, failed);
         }
         None
     }
@@ -217,17 +238,16 @@ impl<T: Keyed> Desk<T> {
             if self.mark(seat) {
                 self.table.shared.park(rt, TURN, AWAITED as u32);
             }
-            if let Some(value) = self.try_for_a_while(seat, AWAITED) {
+            if let Some(value) = self.try_for_a_while(rt, seat, AWAITED) {
                 return value;
             }
         }
         unreachable!()
     }
 
-    /// Waits for the turn, takes it, and gives the value. Fourteen tries at most, with a pause after each
-    /// that is twice as long as the one before, and then it sleeps until the turn is given back, tries
-    /// so again, and so on.
-    /// Where the turn is free it takes one step. No memory.
+    /// Waits for the turn, takes it, and gives the value. Seventeen tries at most: eleven with pauses that double, some 50 µs in
+    /// all, then six with dozes that double, from 32 µs on; and then it sleeps until the turn is given back, tries so again, and
+    /// so on. Where the turn is free it takes one step. No memory.
     pub fn enter<R: Wait>(&self, rt: &R, seat: &mut DeskSeat<T>) -> T
         requires of_this_desk { seat.old.desk ≡ Some self.now }
         requires not_in_its_turn { seat.old.found ≡ None }
@@ -237,7 +257,7 @@ impl<T: Keyed> Desk<T> {
         ensures seat { seat.new ≡ in_turn seat.old result seat.new.refusals }
         ensures tries { seat.old.refusals ≤ seat.new.refusals }
     {
-        match self.try_for_a_while(seat, TAKEN) {
+        match self.try_for_a_while(rt, seat, TAKEN) {
             Some(value) => value,
             None => self.wait_for(rt, seat),
         }
