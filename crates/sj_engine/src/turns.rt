@@ -16,6 +16,7 @@ use crate::noted_board::NotedBoard;
 use crate::picking::Picked;
 use crate::sleepers::Change;
 use crate::stepping::Step;
+use crate::tray::Tray;
 use crate::workplace::{BoardSeat, Workplace};
 use sj_base::ids::Task;
 use sj_base::tile::Tile;
@@ -104,8 +105,9 @@ impl<R: Wait, D: Disk> Workplace<'_, R, D> {
         picked
     }
 
-    /// Makes the next step for the claimed task. Where the worker must wait, the seat has heard the bell.
-    pub fn step(&self, seat: &mut BoardSeat<D>, t: Task) -> Step<D>
+    /// Makes the next step for the claimed task. Where the worker must wait, the seat has heard the bell. Tiles that the board lets go
+    /// are freed after the turn.
+    pub fn step(&self, seat: &mut BoardSeat<D>, t: Task, tray: &mut Tray) -> Step<D>
         requires workplace { IsWorkplace self.now }
         requires claimed { IsSeated self.now (HasClaimedRow self.now.worker t) seat.old }
         ensures row { IsSeated self.now
@@ -116,13 +118,14 @@ impl<R: Wait, D: Disk> Workplace<'_, R, D> {
             (has_to_wait result) seat.old seat.new }
     {
         let mut noted = self.desk.enter(self.rt, seat);
-        let step = noted.board.step(self.alloc, self.worker, t);
+        let step = noted.board.step(self.alloc, self.worker, t, tray);
         if let Step::Waits = step {
             self.end_turn_to_rest(seat, noted, true);
             return Step::Waits;
         }
         let change = change_of(&step);
         self.end_turn(seat, noted, change);
+        tray.free_spent();
         step
     }
 
@@ -208,8 +211,8 @@ impl<R: Wait, D: Disk> Workplace<'_, R, D> {
         self.end_turn(seat, noted, Change::Freed);
     }
 
-    /// Ends the task that runs, with its results. The memory of their frame is given back after the turn.
-    pub fn finish(&self, seat: &mut BoardSeat<D>, t: Task, results: Frame)
+    /// Ends the task that runs, with its results. Their frame goes back into the tray.
+    pub fn finish(&self, seat: &mut BoardSeat<D>, t: Task, results: Frame, tray: &mut Tray)
         requires workplace { IsWorkplace self.now }
         requires runs { IsSeated self.now (RunsRow self.now.worker t) seat.old }
         requires results { IsSeated self.now
@@ -221,7 +224,7 @@ impl<R: Wait, D: Disk> Workplace<'_, R, D> {
         let mut noted = self.desk.enter(self.rt, seat);
         let spent = noted.board.finish(self.worker, t, results);
         self.end_turn(seat, noted, Change::Ended);
-        drop(spent);
+        tray.keep_frame(spent);
     }
 
     /// Fails for want of memory, and lets the task go.

@@ -13,6 +13,7 @@ use crate::kernel::compute;
 use crate::member::Stage;
 use crate::picking::Picked;
 use crate::stepping::Step;
+use crate::tray::Tray;
 use crate::workplace::{BoardSeat, Workplace};
 use sj_base::ids::Task;
 use sj_base::tile::Tile;
@@ -109,7 +110,7 @@ impl<R: Wait, D: Disk> Workplace<'_, R, D> {
     }
 
     /// One step for the claimed task, with the transfer that it begins.
-    fn advance(&self, seat: &mut BoardSeat<D>, t: Task) -> Prepared
+    fn advance(&self, seat: &mut BoardSeat<D>, t: Task, tray: &mut Tray) -> Prepared
         requires workplace { IsProperWorkplace self.now }
         requires claimed { IsSeated self.now (HasClaimedRow self.now.worker t) seat.old }
         ensures row { IsSeated self.now
@@ -117,7 +118,7 @@ impl<R: Wait, D: Disk> Workplace<'_, R, D> {
         ensures heard { result ≡ Prepared.Waits → is_some seat.new.heard ≡ true }
         ensures events { GoesOn self.now.worker seat.old seat.new }
     {
-        match self.step(seat, t) {
+        match self.step(seat, t, tray) {
             Step::Begun(frame) => Prepared::Begun(frame),
             Step::Moves {
                 cell,
@@ -151,7 +152,7 @@ impl<R: Wait, D: Disk> Workplace<'_, R, D> {
     }
 
     /// Makes the steps for the claimed task until its kernel begins, or it must wait.
-    fn prepare(&self, seat: &mut BoardSeat<D>, t: Task) -> Prepared
+    fn prepare(&self, seat: &mut BoardSeat<D>, t: Task, tray: &mut Tray) -> Prepared
         requires workplace { IsProperWorkplace self.now }
         requires claimed { IsSeated self.now (HasClaimedRow self.now.worker t) seat.old }
         ensures row { IsSeated self.now
@@ -161,7 +162,7 @@ impl<R: Wait, D: Disk> Workplace<'_, R, D> {
         ensures events { GoesOn self.now.worker seat.old seat.new }
     {
         for _ in self.rt.forever() {
-            match self.advance(seat, t) {
+            match self.advance(seat, t, tray) {
                 Prepared::Further => {}
                 prepared => return prepared,
             }
@@ -177,6 +178,7 @@ impl<R: Wait, D: Disk> Workplace<'_, R, D> {
         gate: &G,
         t: Task,
         taken: Frame,
+        tray: &mut Tray,
     )
         requires workplace { IsProperWorkplace self.now }
         requires lawful { IsLawful C.has self.now.program.now }
@@ -187,7 +189,7 @@ impl<R: Wait, D: Disk> Workplace<'_, R, D> {
         ensures events { GoesOn self.now.worker seat.old seat.new }
     {
         match compute(self.alloc, self.program, codelets, gate, t, taken) {
-            Ok(results) => self.finish(seat, t, results),
+            Ok(results) => self.finish(seat, t, results, tray),
             Err(_) => self.fail(seat),
         }
     }
@@ -200,6 +202,7 @@ impl<R: Wait, D: Disk> Workplace<'_, R, D> {
         codelets: &C,
         gate: &G,
         t: Task,
+        tray: &mut Tray,
     ) -> Stage
         requires workplace { IsProperWorkplace self.now }
         requires lawful { IsLawful C.has self.now.program.now }
@@ -208,9 +211,9 @@ impl<R: Wait, D: Disk> Workplace<'_, R, D> {
         ensures heard { HasHeard result seat.new }
         ensures events { GoesOn self.now.worker seat.old seat.new }
     {
-        match self.prepare(seat, t) {
+        match self.prepare(seat, t, tray) {
             Prepared::Begun(taken) => {
-                self.run_kernel(seat, codelets, gate, t, taken);
+                self.run_kernel(seat, codelets, gate, t, taken, tray);
                 Stage::Fresh
             }
             Prepared::Waits => Stage::Blocked(t),
@@ -221,7 +224,13 @@ impl<R: Wait, D: Disk> Workplace<'_, R, D> {
     }
 
     /// The worker looks for a task and carries it out, as far as it can. The stage at which it is then.
-    fn look<C: Codelets, G: Gate>(&self, seat: &mut BoardSeat<D>, codelets: &C, gate: &G) -> Stage
+    fn look<C: Codelets, G: Gate>(
+        &self,
+        seat: &mut BoardSeat<D>,
+        codelets: &C,
+        gate: &G,
+        tray: &mut Tray,
+    ) -> Stage
         requires workplace { IsProperWorkplace self.now }
         requires lawful { IsLawful C.has self.now.program.now }
         requires free { IsSeated self.now IsFreeRow seat.old }
@@ -230,7 +239,7 @@ impl<R: Wait, D: Disk> Workplace<'_, R, D> {
         ensures events { GoesOn self.now.worker seat.old seat.new }
     {
         match self.pick(seat) {
-            Picked::Task(t) => self.carry_out(seat, codelets, gate, t),
+            Picked::Task(t) => self.carry_out(seat, codelets, gate, t, tray),
             Picked::Nothing => Stage::Idle,
             Picked::Failed => Stage::Fresh,
             Picked::Over => Stage::Stopped,
@@ -244,6 +253,7 @@ impl<R: Wait, D: Disk> Workplace<'_, R, D> {
         codelets: &C,
         gate: &G,
         stage: Stage,
+        tray: &mut Tray,
     ) -> Stage
         requires workplace { IsProperWorkplace self.now }
         requires lawful { IsLawful C.has self.now.program.now }
@@ -253,8 +263,8 @@ impl<R: Wait, D: Disk> Workplace<'_, R, D> {
         ensures events { GoesOn self.now.worker seat.old seat.new }
     {
         match stage {
-            Stage::Fresh | Stage::Idle => self.look(seat, codelets, gate),
-            Stage::Blocked(t) => self.carry_out(seat, codelets, gate, t),
+            Stage::Fresh | Stage::Idle => self.look(seat, codelets, gate, tray),
+            Stage::Blocked(t) => self.carry_out(seat, codelets, gate, t, tray),
             Stage::Stopped => Stage::Stopped,
         }
     }
@@ -281,12 +291,13 @@ impl<R: Wait, D: Disk> Workplace<'_, R, D> {
         // Of its events none that it had is gone or has another place.
         ensures events { GoesOn self.now.worker seat.old seat.new }
     {
-        let mut stage = self.resume(seat, codelets, gate, stage);
+        let mut tray = Tray::new(self.alloc);
+        let mut stage = self.resume(seat, codelets, gate, stage, &mut tray);
         for _ in self.rt.forever() {
             if stage != Stage::Fresh {
                 return stage;
             }
-            stage = self.look(seat, codelets, gate);
+            stage = self.look(seat, codelets, gate, &mut tray);
         }
         unreachable!()
     }

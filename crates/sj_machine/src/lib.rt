@@ -29,4 +29,5 @@ mod releasing;
 mod room;
 pub mod run_state;
 mod running;
+pub mod spent;
 pub mod todo;
