@@ -86,13 +86,11 @@ impl<D: Disk> SharedBoard<D> {
             self.fail_without_memory(w);
             return Step::Failed;
         };
-        match self.board.run(t, w, frame, &mut tray.spent) {
-            Ok(frame) => Step::Begun(frame),
-            Err(OutOfMemory) => {
-                self.fail_without_memory(w);
-                Step::Failed
-            }
-        }
+        let Ok(frame) = self.board.run(t, w, frame, &mut tray.spent) else {
+            self.fail_without_memory(w);
+            return Step::Failed;
+        };
+        Step::Begun(frame)
     }
 
     /// A transfer of a worker begins, where no fault is kept; after an `Err` it has failed for want of memory. The cost of
