@@ -40,7 +40,7 @@ module _ (p : Program) (cs : List Cell) (small : All (IsSmallCell p) cs) (few : 
       (let both = has_cell-filter (λ d. not (has_entry s.entries d)) (distinct cs) c lacks in
       All-of (IsSmallCell p) cs c small (sym (has_cell-distinct cs c) ∙ both.1)))
 
-  few-lacking : length (lacking s cs) ≤ 5
+  pub few-lacking : length (lacking s cs) ≤ 5
   few-lacking =
       let test : Cell → Bool = λ d. not (has_entry s.entries d) in
       omega (arith, length-filter test (distinct cs), count_by-le-length test (distinct cs), length-distinct cs, few)

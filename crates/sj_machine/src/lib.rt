@@ -10,6 +10,7 @@ pub mod copies;
 pub mod delivered;
 mod ending;
 pub mod fault;
+pub mod few_bytes;
 pub mod few_cells;
 mod filling;
 pub mod gifts;

@@ -9,6 +9,7 @@ ghost use Rattle.sj_machine.specs.Agrees.{AreMarked};
 ghost use Rattle.sj_machine.specs.Planning.{HasSmallTask, HasSmallWork, chosen_on, lacking, planned};
 
 use crate::copies::Copies;
+use crate::few_bytes::FewBytes;
 use crate::few_cells::FewCells;
 use crate::needs::{accesses_of, bytes_of, lacking_cells, scratch_bytes, total};
 use crate::operands::worked_cells;
@@ -35,8 +36,8 @@ pub enum Why {
 #[derive(Drop)]
 pub struct Plan {
     cells: FewCells,
-    missing: Vec<Cell>,
-    bytes: Vec<u64>,
+    missing: FewCells,
+    bytes: FewBytes,
     scratch: u64,
     victims: Vec<Cell>,
 }
@@ -46,7 +47,7 @@ impl Model for Plan {
 
     ghost Value = { ClaimPlan };
 
-    ghost view = { λ c. record { cells = c.cells; missing = c.missing.items; bytes = c.bytes.items; scratch = c.scratch; victims = c.victims.items } };
+    ghost view = { λ c. record { cells = c.cells; missing = c.missing; bytes = c.bytes; scratch = c.scratch; victims = c.victims.items } };
 }
 
 /// The cells on which a worker works for a task, in operand order. Linear in the operands.
@@ -67,19 +68,14 @@ fn scratch_for(program: &Program, t: Task) -> u64
 }
 
 /// Those of these cells without an entry on a node, as their rows tell, each once. Quadratic in the cells, which are a task's few.
-fn lacking_on(
-    alloc: Global,
-    rows: &[Copies],
-    node: &NodeStore,
-    n: Node,
-    cells: &[Cell],
-) -> Result<Vec<Cell>, OutOfMemory>
+fn lacking_on(rows: &[Copies], node: &NodeStore, n: Node, cells: &[Cell]) -> FewCells
     requires wide { All (λ row. n.0 < length row.marks) rows.now }
     requires marked { AreMarked rows.now n node.now.entries }
-    ensures { IfOk result (λ found. found.items ≡ lacking node.now cells.now) }
+    requires few { length cells.now ≤ 5 }
+    ensures { result ≡ lacking node.now cells.now }
 {
     let _ = node;
-    lacking_cells(alloc, rows, n, cells)
+    lacking_cells(rows, n, cells)
 }
 
 /// The victims of a need, the most recently used first, those held spared; none where there is no room. Linear in the
@@ -111,14 +107,14 @@ impl Plan {
     pub fn missing(&self) -> &[Cell]
         ensures { result.now ≡ self.now.missing }
     {
-        &self.missing
+        self.missing.items()
     }
 
     /// The bytes of each that it brings. Constant time.
     pub fn bytes(&self) -> &[u64]
         ensures { result.now ≡ self.now.bytes }
     {
-        &self.bytes
+        self.bytes.items()
     }
 
     /// The bytes of the task's scratch. Constant time.
@@ -160,10 +156,10 @@ impl Plan {
         ensures { IfOk result (λ plan. plan ≡ option_map (planned program.now node.now t w) (chosen_on program.now node.now t w)) }
     {
         let cells = cells_for(program, t, w);
-        let missing = lacking_on(alloc, rows, node, n, cells.items())?;
-        let bytes = bytes_of(alloc, program, &missing)?;
+        let missing = lacking_on(rows, node, n, cells.items());
+        let bytes = bytes_of(program, missing.items());
         let scratch = scratch_for(program, t);
-        let need = total(&bytes) + scratch;
+        let need = total(bytes.items()) + scratch;
         let Some(victims) = recent_victims(alloc, node, cells.items(), need)? else {
             return Ok(None);
         };
