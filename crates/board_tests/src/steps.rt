@@ -16,6 +16,7 @@ use sj_codelet::frame::Frame;
 use sj_edge::disk::Disk;
 use sj_machine::board::Board;
 use sj_machine::refusal::ClaimRefusal;
+use sj_machine::spent::Spent;
 use sj_machine::todo::Todo;
 use std::alloc::Global;
 use std::sync::Arc;
@@ -107,7 +108,7 @@ fn ended<D: Disk>(alloc: Global, board: &mut Board<D>, w: Worker, t: Task) -> Re
     let mut results = Frame::with_room(alloc, 1)?;
     results.push_shared(tile);
     let shares = Frame::with_room(alloc, 0)?;
-    let _shares = board.run(t, w, shares)?;
+    let _shares = board.run(t, w, shares, &mut Spent::none(alloc))?;
     board.end(t, w, results);
     Ok(())
 }

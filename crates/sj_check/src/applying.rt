@@ -17,6 +17,7 @@ use sj_codelet::frame::Frame;
 use sj_edge::disk::Disk;
 use sj_machine::needs::accesses_of;
 use sj_machine::run_state::RunState;
+use sj_machine::spent::Spent;
 use std::alloc::Global;
 
 /// The dimensions of a cell. Constant time.
@@ -74,7 +75,7 @@ pub fn begin_run<D: Disk>(
     run.is_sound();
     let operands = accesses_of(run.program(), t).len();
     let frame = Frame::with_room(alloc, operands as u8)?;
-    run.run(t, w, frame)?;
+    run.run(t, w, frame, &mut Spent::none(alloc))?;
     Ok(())
 }
 

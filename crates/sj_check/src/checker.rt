@@ -23,6 +23,7 @@ use sj_base::trace::Event;
 use sj_deps::deps::Deps;
 use sj_edge::disk::Disk;
 use sj_machine::run_state::RunState;
+use sj_machine::spent::Spent;
 use std::alloc::Global;
 use std::marker::Model;
 use std::sync::Arc;
@@ -149,13 +150,13 @@ impl Checker {
     }
 
     /// A drop. Linear in the nodes and the workers.
-    fn discard(&mut self, cell: Cell, n: Node) -> bool
+    fn discard(&mut self, alloc: Global, cell: Cell, n: Node) -> bool
         ensures { Judges self.old (Drop cell n) result self.new }
     {
         if !may_drop(&self.run, cell, n) {
             return false;
         }
-        self.run.drop_copy(cell, n);
+        self.run.drop_copy(cell, n, &mut Spent::none(alloc));
         true
     }
 
@@ -198,7 +199,7 @@ impl Checker {
             Event::Claim(t, w) => self.claim(alloc, t, w),
             Event::Move(cell, from, to) => self.begin_move(cell, from, to),
             Event::Moved(cell, from, to) => self.end_move(alloc, cell, from, to),
-            Event::Drop(cell, n) => Ok(self.discard(cell, n)),
+            Event::Drop(cell, n) => Ok(self.discard(alloc, cell, n)),
             Event::Run(t, w) => self.begin_run(alloc, t, w),
             Event::End(t, w) => self.end_run(alloc, t, w),
         }

@@ -1,6 +1,6 @@
 //! The operands of one task, as a kernel works on them.
 
-ghost use Rattle.std.specs.Prelude.{◌≡◌, ◌==◌, ◌+◌, ◌<◌, ◌++◌, ◌∷◌, [], length, slice_index_or, IsTrue, IfOk};
+ghost use Rattle.std.specs.Prelude.{◌≡◌, ◌==◌, ◌+◌, ◌<◌, ◌++◌, ◌∷◌, [], length, max, slice_index_or, IsTrue, IfOk, OnErr, OnOk};
 ghost use Rattle.sj_base.specs.Array.{area};
 ghost use Rattle.sj_codelet.specs.Frame.{frame, shared, own, ends_owned};
 ghost use Rattle.sj_codelet.specs.Slot.{slot_of};
@@ -54,6 +54,24 @@ impl Frame {
     {
         let operands = Roomy::with_room(alloc, n as u64)?;
         Ok(Frame { operands })
+    }
+
+    /// An empty frame without room. Constant time, and no memory.
+    pub fn empty(alloc: Global) -> Frame
+        ensures { result ≡ frame [] 0 }
+    {
+        let operands = Roomy::empty(alloc);
+        Frame { operands }
+    }
+
+    /// Makes room for at least `n` more operands; the room that there was stays. No memory where there was as much. Linear in the
+    /// operands where it has to move them.
+    pub fn reserve(&mut self, n: u8) -> Result<(), OutOfMemory>
+        ensures slots { self.new.slots ≡ self.old.slots }
+        ensures room { OnOk result (self.new.spare ≡ max self.old.spare n) }
+        ensures err { OnErr result (self.new ≡ self.old) }
+    {
+        self.operands.reserve(n as u64)
     }
 
     /// Appends a tile that others may read too. Constant time, and no memory.

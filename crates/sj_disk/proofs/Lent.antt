@@ -4,7 +4,6 @@ use Rattle.std.specs.Prelude.{slice_set, IfNone, IfSome, IsSome, IsSomeAnd}
 use Rattle.sj_base.specs.declared.ids.Cell.{Cell}
 use Rattle.sj_base.specs.declared.ids.DiskNo.{DiskNo}
 use Rattle.sj_base.proofs.Options.{IfSome-from}
-pub use Rattle.sj_base.proofs.Options.{IfSome-at as said-of}
 use Rattle.sj_disk.specs.declared.directory.Extent.{Extent}
 use Rattle.sj_disk.specs.declared.refusal.DiskRefusal.{DiskRefusal}
 use Rattle.sj_disk.specs.Calls.{Fetches, Stores}

@@ -14,8 +14,11 @@ use sj_base::ids::DiskNo;
 use sj_edge::disk::{CheckFault, Disk};
 use sj_edge::source::Failed;
 
-/// How many elements go through a small buffer at a time. A block with no more has one, which is cleared sooner.
-const FEW: usize = 512;
+/// How many elements go through the smallest buffer. A block with no more has it, since a buffer is cleared before it is used.
+const FEW: usize = 32;
+
+/// The same of the next one.
+const SOME: usize = 1024;
 
 /// How many elements go through a large buffer at a time, so that a disk is called seldom.
 const MANY: usize = 4096;
@@ -73,6 +76,18 @@ fn write_many<D: Disk>(disk: &mut D, at: u64, elements: &[i64]) -> Result<(), Fa
     write_pieces(disk, at, elements, MANY, &mut buffer)
 }
 
+/// Writes elements from `at` on, through a buffer of middle size.
+fn write_some<D: Disk>(disk: &mut D, at: u64, elements: &[i64]) -> Result<(), Failed>
+    requires filled { Fills (D.held disk.old) (D.size disk.old) }
+    requires in_range { at + 8 * length elements.now ≤ D.size disk.old }
+    requires fits { at + 8 * length elements.now < 2 ^ 64 }
+    ensures { Writes D.size D.faults D.mismatches D.held at (element_bytes elements.now) result
+        disk.old disk.new }
+{
+    let mut buffer = [0u8; 8 * SOME];
+    write_pieces(disk, at, elements, SOME, &mut buffer)
+}
+
 /// Writes elements from `at` on.
 fn write_elements<D: Disk>(disk: &mut D, at: u64, elements: &[i64]) -> Result<(), Failed>
     requires filled { Fills (D.held disk.old) (D.size disk.old) }
@@ -81,8 +96,11 @@ fn write_elements<D: Disk>(disk: &mut D, at: u64, elements: &[i64]) -> Result<()
     ensures { Writes D.size D.faults D.mismatches D.held at (element_bytes elements.now) result
         disk.old disk.new }
 {
-    if elements.len() > FEW {
+    if elements.len() > SOME {
         return write_many(disk, at, elements);
+    }
+    if elements.len() > FEW {
+        return write_some(disk, at, elements);
     }
     let mut buffer = [0u8; 8 * FEW];
     write_pieces(disk, at, elements, FEW, &mut buffer)
@@ -176,6 +194,19 @@ fn read_many<D: Disk>(disk: &mut D, at: u64, elements: &mut [i64]) -> Result<(),
     read_pieces(disk, at, elements, MANY, &mut buffer)
 }
 
+/// Reads the elements from `at` on, through a buffer of middle size.
+fn read_some<D: Disk>(disk: &mut D, at: u64, elements: &mut [i64]) -> Result<(), Failed>
+    requires in_range { at + 8 * length elements.old ≤ D.size disk.old }
+    requires fits { at + 8 * length elements.old < 2 ^ 64 }
+    ensures looks { Looks D.size D.faults D.mismatches D.held (is_err result) false
+        disk.old disk.new }
+    ensures gives { OnOk result (GivesHeld (D.held disk.old) at (element_bytes elements.new)) }
+    ensures in_range { OnOk result (All (FitsSigned w64) elements.new) }
+{
+    let mut buffer = [0u8; 8 * SOME];
+    read_pieces(disk, at, elements, SOME, &mut buffer)
+}
+
 /// Reads the elements from `at` on.
 fn read_elements<D: Disk>(disk: &mut D, at: u64, elements: &mut [i64]) -> Result<(), Failed>
     requires in_range { at + 8 * length elements.old ≤ D.size disk.old }
@@ -185,8 +216,11 @@ fn read_elements<D: Disk>(disk: &mut D, at: u64, elements: &mut [i64]) -> Result
     ensures gives { OnOk result (GivesHeld (D.held disk.old) at (element_bytes elements.new)) }
     ensures in_range { OnOk result (All (FitsSigned w64) elements.new) }
 {
-    if elements.len() > FEW {
+    if elements.len() > SOME {
         return read_many(disk, at, elements);
+    }
+    if elements.len() > FEW {
+        return read_some(disk, at, elements);
     }
     let mut buffer = [0u8; 8 * FEW];
     read_pieces(disk, at, elements, FEW, &mut buffer)

@@ -32,8 +32,9 @@ use Rattle.sj_core.proofs.Replicas.{same_worker-refl}
 use Rattle.sj_machine.specs.Board.{BoardState, HasTask, IsIdle, WasGiven, empty_hand, given_back, given_from, hand_of, has_claimed}
 use Rattle.sj_machine.specs.BoardRow.{key_of}
 use Rattle.sj_machine.specs.BoardSound.{IsSoundBoard, times_pooled}
+use Rattle.sj_pool.proofs.Keeping.{home-within}
 use Rattle.sj_pool.specs.Pool.{home}
-use Rattle.sj_machine.proofs.Pooling.{home-inside, times-put}
+use Rattle.sj_machine.proofs.Pooling.{times-put}
 use Rattle.sj_machine.specs.Filling.{entry_of}
 use Rattle.sj_machine.specs.Passing.{HasLost}
 use Rattle.sj_machine.specs.Releasing.{EndsTask}
@@ -197,7 +198,7 @@ module _ {D : Type 0} (size faults mismatches : D → ℕ) (held : D → Option 
           let e : y ≡ given_back b t w = q ∙ ap (λ (k : BoardState D). given_back k t w) ex in
           let fits = claim-sound.inside.pool_fits in
           let staffed : w.0 < b.pool.workers = subst (λ n. w.0 < n) (sym fits.workers) known in
-          let here : home b.pool.policy w.0 < length b.pool.queues = subst (λ n. home b.pool.policy w.0 < n) (sym fits.queues) (home-inside b.pool.policy b.pool.workers w.0 staffed) in
+          let here : home b.pool.policy w.0 < length b.pool.queues = subst (λ n. home b.pool.policy w.0 < n) (sym fits.queues) (home-within b.pool.policy b.pool.workers w.0 staffed) in
           sym (ap (λ (k : BoardState D). times_pooled k.pool u) e ∙ times-put b.pool.policy b.pool.queues (home b.pool.policy w.0) (entry_of b.run.program t) u here)
 
       pub back-fault : y ≡ given_back x t w → y.fault ≡ b.fault

@@ -1,5 +1,5 @@
 -- What a step for a claimed task needs of the board.
-use Rattle.std.proofs.Common.{◌≡◌, ℕ, ◌+◌, ◌≤◌, List, [], length, ap, ◌∙◌, subst, Option, arith}
+use Rattle.std.proofs.Common.{◌≡◌, ℕ, ◌+◌, ◌≤◌, List, length, ap, ◌∙◌, subst, Option, arith}
 use Rattle.std.specs.Prelude.{IfSome, filter}
 use Rattle.std.proofs.lemmas.List.Sums.{count_by-le-length, length-filter}
 use Rattle.sj_base.specs.declared.ids.Task.{Task}
@@ -9,7 +9,7 @@ use Rattle.sj_base.specs.declared.program.Program.{Program}
 use Rattle.sj_base.specs.declared.program.Lowered.{Lowered}
 use Rattle.sj_base.specs.declared.trace.Event.TheVariants.{Run}
 use Rattle.sj_base.specs.Mode.{reads_value}
-use Rattle.sj_codelet.specs.Frame.{Frame, frame}
+use Rattle.sj_codelet.specs.Frame.{Frame}
 use Rattle.sj_core.specs.Program.{task_of}
 use Rattle.sj_machine.specs.Board.{BoardState, hand_of}
 use Rattle.sj_machine.specs.Standing.{CanHappen}
@@ -18,18 +18,18 @@ use Rattle.sj_engine.specs.Operands.{HasRoomForOperands}
 use Rattle.sj_engine.specs.Stage.{HasClaimedRow, row_in}
 
 -- a frame with room for all operands has room for those that are read
-pub room-for : (p q : Program) (t : Task) (l : Lowered) (f : Frame) (n : ℕ) → q ≡ p → l ≡ task_of q t → n ≡ length l.accesses → f ≡ frame [] n → length (filter (λ (a : Access). reads_value a.mode) (task_of p t).accesses) ≤ f.spare
-room-for p q t l f n same is long made =
+pub room-for : (p q : Program) (t : Task) (l : Lowered) (f : Frame) (n : ℕ) → q ≡ p → l ≡ task_of q t → n ≡ length l.accesses → n ≤ f.spare → length (filter (λ (a : Access). reads_value a.mode) (task_of p t).accesses) ≤ f.spare
+room-for p q t l f n same is long room =
     let test : Access → _ = λ (a : Access). reads_value a.mode in
     let its : List Access = (task_of p t).accesses in
-    let count : f.spare ≡ length its = ap (λ (k : Frame). k.spare) made ∙ long ∙ ap (λ (k : Lowered). length k.accesses) is ∙ ap (λ (k : Program). length (task_of k t).accesses) same in
-    omega (arith, count, length-filter test its, count_by-le-length test its)
+    let count : n ≡ length its = long ∙ ap (λ (k : Lowered). length k.accesses) is ∙ ap (λ (k : Program). length (task_of k t).accesses) same in
+    omega (arith, count, room, length-filter test its, count_by-le-length test its)
 
 -- and when the shares of these are in it, room for the others
-pub room-left : (p q : Program) (t : Task) (l : Lowered) (f g : Frame) (n : ℕ) → q ≡ p → l ≡ task_of q t → n ≡ length l.accesses → f ≡ frame [] n → g.spare + length g.slots ≡ f.spare → HasRoomForOperands p t g
-room-left p q t l f g n same is long made kept =
-    let count : f.spare ≡ length (task_of p t).accesses = ap (λ (k : Frame). k.spare) made ∙ long ∙ ap (λ (k : Lowered). length k.accesses) is ∙ ap (λ (k : Program). length (task_of k t).accesses) same in
-    omega (arith, count, kept)
+pub room-left : (p q : Program) (t : Task) (l : Lowered) (f g : Frame) (n : ℕ) → q ≡ p → l ≡ task_of q t → n ≡ length l.accesses → n ≤ f.spare → g.spare + length g.slots ≡ f.spare → HasRoomForOperands p t g
+room-left p q t l f g n same is long room kept =
+    let count : n ≡ length (task_of p t).accesses = long ∙ ap (λ (k : Lowered). length k.accesses) is ∙ ap (λ (k : Program). length (task_of k t).accesses) same in
+    omega (arith, count, room, kept)
 
 module _ {D : Type 0} (w : Worker) (t : Task) (b x : BoardState D) (ex : x ≡ b) (r : HasClaimedRow w t (row_in b w)) where
   -- where the worker's task can begin to run, it is this one

@@ -18,6 +18,7 @@ pub mod site;
 pub mod sleepers;
 mod stepping;
 mod threads;
+pub mod tray;
 pub mod turns;
 pub mod work;
 pub mod worker_seat;

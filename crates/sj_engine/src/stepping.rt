@@ -17,6 +17,7 @@ ghost use Rattle.sj_engine.specs.Turn.{Happens, IsTurnOf, IsWorkerOf, NothingHap
 
 use crate::kernel::task_at;
 use crate::shared_board::SharedBoard;
+use crate::tray::Tray;
 use sj_base::ids::{Cell, Place, Task, Worker};
 use sj_base::memory::OutOfMemory;
 use sj_base::tile::Tile;
@@ -69,7 +70,7 @@ pub enum Step<D: Disk> {
 
 impl<D: Disk> SharedBoard<D> {
     /// The kernel of a worker's task begins, where no fault is kept. The cost of `run`.
-    fn begin(&mut self, alloc: Global, t: Task, w: Worker) -> Step<D>
+    fn begin(&mut self, alloc: Global, t: Task, w: Worker, tray: &mut Tray) -> Step<D>
         requires worker { IsWorkerOf self.old w }
         requires claimed { HasClaimedRow w t (row_in self.old w) }
         requires no_fault { self.old.fault ≡ None }
@@ -81,17 +82,15 @@ impl<D: Disk> SharedBoard<D> {
     {
         self.board.is_sound();
         let operands = task_at(self.board.program(), t).accesses.len();
-        let Ok(frame) = Frame::with_room(alloc, operands as u8) else {
+        let Ok(frame) = tray.take_frame(alloc, operands as u8) else {
             self.fail_without_memory(w);
             return Step::Failed;
         };
-        match self.board.run(t, w, frame) {
-            Ok(frame) => Step::Begun(frame),
-            Err(OutOfMemory) => {
-                self.fail_without_memory(w);
-                Step::Failed
-            }
-        }
+        let Ok(frame) = self.board.run(t, w, frame, &mut tray.spent) else {
+            self.fail_without_memory(w);
+            return Step::Failed;
+        };
+        Step::Begun(frame)
     }
 
     /// A transfer of a worker begins, where no fault is kept; after an `Err` it has failed for want of memory. The cost of
@@ -190,7 +189,7 @@ impl<D: Disk> SharedBoard<D> {
     }
 
     /// The copy of a victim goes. Constant time.
-    fn discard(&mut self, w: Worker, t: Task, cell: Cell) -> Step<D>
+    fn discard(&mut self, w: Worker, t: Task, cell: Cell, tray: &mut Tray) -> Step<D>
         requires worker { IsWorkerOf self.old w }
         requires claimed { HasClaimedRow w t (row_in self.old w) }
         requires can { CanHappen self.old.run (Drop cell (node_of self.old.run.machine w)) }
@@ -200,7 +199,7 @@ impl<D: Disk> SharedBoard<D> {
         ensures discards { result ≡ Step.Discarded }
     {
         self.board.is_sound();
-        self.board.drop_copy(w, cell);
+        self.board.drop_copy(w, cell, &mut tray.spent);
         Step::Discarded
     }
 
@@ -220,8 +219,8 @@ impl<D: Disk> SharedBoard<D> {
     }
 
     /// The next step of a worker for the task that it has claimed, as the plan says it; none where a fault is kept. The costs of
-    /// `plan_of` and of the step.
-    pub fn step(&mut self, alloc: Global, w: Worker, t: Task) -> Step<D>
+    /// `plan_of` and of the step. The tray's frame goes out with the kernel that begins, and tiles that the board lets go come into it.
+    pub fn step(&mut self, alloc: Global, w: Worker, t: Task, tray: &mut Tray) -> Step<D>
         requires worker { IsWorkerOf self.old w }
         requires claimed { HasClaimedRow w t (row_in self.old w) }
         ensures turn { IsTurnOf D.faults D.mismatches w self.old self.new }
@@ -233,8 +232,8 @@ impl<D: Disk> SharedBoard<D> {
             return self.give_up(w, t);
         }
         match self.board.plan_of(w) {
-            Todo::Start => self.begin(alloc, t, w),
-            Todo::Discard(cell) => self.discard(w, t, cell),
+            Todo::Start => self.begin(alloc, t, w, tray),
+            Todo::Discard(cell) => self.discard(w, t, cell, tray),
             Todo::Transfer {
                 cell,
                 from,

@@ -16,6 +16,7 @@ use crate::noted_board::NotedBoard;
 use crate::picking::Picked;
 use crate::sleepers::Change;
 use crate::stepping::Step;
+use crate::tray::Tray;
 use crate::worker_seat::WorkerSeat;
 use crate::workplace::Workplace;
 use sj_base::ids::Task;
@@ -146,8 +147,9 @@ impl<R: Wait, D: Disk> Workplace<'_, R, D> {
         picked
     }
 
-    /// Makes the next step for the claimed task. Where the worker must wait, the seat has heard the bell.
-    pub fn step(&self, seat: &mut WorkerSeat<D>, t: Task) -> Step<D>
+    /// Makes the next step for the claimed task. Where the worker must wait, the seat has heard the bell. Tiles that the board lets go
+    /// are freed when the turn was given away.
+    pub fn step(&self, seat: &mut WorkerSeat<D>, t: Task, tray: &mut Tray) -> Step<D>
         requires workplace { IsWorkplace self.now }
         requires claimed { IsSeated self.now (HasClaimedRow self.now.worker t) seat.old }
         ensures row { IsSeated self.now
@@ -159,14 +161,18 @@ impl<R: Wait, D: Disk> Workplace<'_, R, D> {
         ensures outside { goes_on result ≡ false → seat.new.keeps_turn ≡ false }
     {
         let mut noted = seat.enter(self.rt, self.desk);
-        let step = noted.board.step(self.alloc, self.worker, t);
+        let step = noted.board.step(self.alloc, self.worker, t, tray);
         if let Step::Waits = step {
             self.end_turn_to_rest(seat, noted, true);
+            tray.free_spent();
             return Step::Waits;
         }
         let change = change_of(&step);
         let goes_on = goes_on(&step);
         self.end_turn(seat, noted, change, goes_on);
+        if !goes_on {
+            tray.free_spent();
+        }
         step
     }
 
@@ -255,8 +261,8 @@ impl<R: Wait, D: Disk> Workplace<'_, R, D> {
         self.end_turn(seat, noted, Change::Freed, false);
     }
 
-    /// Ends the task that runs, with its results. The memory of their frame is given back after the turn.
-    pub fn finish(&self, seat: &mut WorkerSeat<D>, t: Task, results: Frame)
+    /// Ends the task that runs, with its results. Their frame goes back into the tray.
+    pub fn finish(&self, seat: &mut WorkerSeat<D>, t: Task, results: Frame, tray: &mut Tray)
         requires workplace { IsWorkplace self.now }
         requires runs { IsSeated self.now (RunsRow self.now.worker t) seat.old }
         requires results { IsSeated self.now
@@ -268,7 +274,7 @@ impl<R: Wait, D: Disk> Workplace<'_, R, D> {
         let mut noted = seat.enter(self.rt, self.desk);
         let spent = noted.board.finish(self.worker, t, results);
         self.end_turn(seat, noted, Change::Ended, true);
-        drop(spent);
+        tray.keep_frame(spent);
     }
 
     /// Fails for want of memory, and lets the task go.

@@ -13,6 +13,7 @@ use crate::kernel::compute;
 use crate::member::Stage;
 use crate::picking::Picked;
 use crate::stepping::Step;
+use crate::tray::Tray;
 use crate::worker_seat::WorkerSeat;
 use crate::workplace::Workplace;
 use sj_base::ids::Task;
@@ -114,7 +115,7 @@ impl<R: Wait, D: Disk> Workplace<'_, R, D> {
     }
 
     /// One step for the claimed task, with the transfer that it begins.
-    fn advance(&self, seat: &mut WorkerSeat<D>, t: Task) -> Prepared
+    fn advance(&self, seat: &mut WorkerSeat<D>, t: Task, tray: &mut Tray) -> Prepared
         requires workplace { IsProperWorkplace self.now }
         requires claimed { IsSeated self.now (HasClaimedRow self.now.worker t) seat.old }
         ensures row { IsSeated self.now
@@ -123,7 +124,7 @@ impl<R: Wait, D: Disk> Workplace<'_, R, D> {
         ensures events { GoesOn self.now.worker seat.old.facts seat.new.facts }
         ensures outside { result ≢ Prepared.Further → seat.new.keeps_turn ≡ false }
     {
-        match self.step(seat, t) {
+        match self.step(seat, t, tray) {
             Step::Begun(frame) => Prepared::Begun(frame),
             Step::Moves {
                 cell,
@@ -157,7 +158,7 @@ impl<R: Wait, D: Disk> Workplace<'_, R, D> {
     }
 
     /// Makes the steps for the claimed task until its kernel begins, or it must wait.
-    fn prepare(&self, seat: &mut WorkerSeat<D>, t: Task) -> Prepared
+    fn prepare(&self, seat: &mut WorkerSeat<D>, t: Task, tray: &mut Tray) -> Prepared
         requires workplace { IsProperWorkplace self.now }
         requires claimed { IsSeated self.now (HasClaimedRow self.now.worker t) seat.old }
         ensures row { IsSeated self.now
@@ -168,7 +169,7 @@ impl<R: Wait, D: Disk> Workplace<'_, R, D> {
         ensures outside { seat.new.keeps_turn ≡ false }
     {
         for _ in self.rt.forever() {
-            match self.advance(seat, t) {
+            match self.advance(seat, t, tray) {
                 Prepared::Further => {}
                 prepared => return prepared,
             }
@@ -184,6 +185,7 @@ impl<R: Wait, D: Disk> Workplace<'_, R, D> {
         gate: &G,
         t: Task,
         taken: Frame,
+        tray: &mut Tray,
     )
         requires workplace { IsProperWorkplace self.now }
         requires outside { seat.old.keeps_turn ≡ false }
@@ -195,7 +197,7 @@ impl<R: Wait, D: Disk> Workplace<'_, R, D> {
         ensures events { GoesOn self.now.worker seat.old.facts seat.new.facts }
     {
         match compute(self.alloc, self.program, codelets, gate, t, taken) {
-            Ok(results) => self.finish(seat, t, results),
+            Ok(results) => self.finish(seat, t, results, tray),
             Err(_) => self.fail(seat),
         }
     }
@@ -208,6 +210,7 @@ impl<R: Wait, D: Disk> Workplace<'_, R, D> {
         codelets: &C,
         gate: &G,
         t: Task,
+        tray: &mut Tray,
     ) -> Stage
         requires workplace { IsProperWorkplace self.now }
         requires lawful { IsLawful C.has self.now.program.now }
@@ -217,9 +220,9 @@ impl<R: Wait, D: Disk> Workplace<'_, R, D> {
         ensures events { GoesOn self.now.worker seat.old.facts seat.new.facts }
         ensures outside { result ≢ Stage.Fresh → seat.new.keeps_turn ≡ false }
     {
-        match self.prepare(seat, t) {
+        match self.prepare(seat, t, tray) {
             Prepared::Begun(taken) => {
-                self.run_kernel(seat, codelets, gate, t, taken);
+                self.run_kernel(seat, codelets, gate, t, taken, tray);
                 Stage::Fresh
             }
             Prepared::Waits => Stage::Blocked(t),
@@ -230,7 +233,13 @@ impl<R: Wait, D: Disk> Workplace<'_, R, D> {
     }
 
     /// The worker looks for a task and carries it out, as far as it can. The stage at which it is then.
-    fn look<C: Codelets, G: Gate>(&self, seat: &mut WorkerSeat<D>, codelets: &C, gate: &G) -> Stage
+    fn look<C: Codelets, G: Gate>(
+        &self,
+        seat: &mut WorkerSeat<D>,
+        codelets: &C,
+        gate: &G,
+        tray: &mut Tray,
+    ) -> Stage
         requires workplace { IsProperWorkplace self.now }
         requires lawful { IsLawful C.has self.now.program.now }
         requires free { IsSeated self.now IsFreeRow seat.old }
@@ -240,7 +249,7 @@ impl<R: Wait, D: Disk> Workplace<'_, R, D> {
         ensures outside { result ≢ Stage.Fresh → seat.new.keeps_turn ≡ false }
     {
         match self.pick(seat) {
-            Picked::Task(t) => self.carry_out(seat, codelets, gate, t),
+            Picked::Task(t) => self.carry_out(seat, codelets, gate, t, tray),
             Picked::Nothing => Stage::Idle,
             Picked::Failed => Stage::Fresh,
             Picked::Over => Stage::Stopped,
@@ -254,6 +263,7 @@ impl<R: Wait, D: Disk> Workplace<'_, R, D> {
         codelets: &C,
         gate: &G,
         stage: Stage,
+        tray: &mut Tray,
     ) -> Stage
         requires workplace { IsProperWorkplace self.now }
         requires outside { seat.old.keeps_turn ≡ false }
@@ -265,8 +275,8 @@ impl<R: Wait, D: Disk> Workplace<'_, R, D> {
         ensures outside { result ≢ Stage.Fresh → seat.new.keeps_turn ≡ false }
     {
         match stage {
-            Stage::Fresh | Stage::Idle => self.look(seat, codelets, gate),
-            Stage::Blocked(t) => self.carry_out(seat, codelets, gate, t),
+            Stage::Fresh | Stage::Idle => self.look(seat, codelets, gate, tray),
+            Stage::Blocked(t) => self.carry_out(seat, codelets, gate, t, tray),
             Stage::Stopped => Stage::Stopped,
         }
     }
@@ -295,12 +305,13 @@ impl<R: Wait, D: Disk> Workplace<'_, R, D> {
         ensures events { GoesOn self.now.worker seat.old.facts seat.new.facts }
         ensures outside { seat.new.keeps_turn ≡ false }
     {
-        let mut stage = self.resume(seat, codelets, gate, stage);
+        let mut tray = Tray::new(self.alloc);
+        let mut stage = self.resume(seat, codelets, gate, stage, &mut tray);
         for _ in self.rt.forever() {
             if stage != Stage::Fresh {
                 return stage;
             }
-            stage = self.look(seat, codelets, gate);
+            stage = self.look(seat, codelets, gate, &mut tray);
         }
         unreachable!()
     }

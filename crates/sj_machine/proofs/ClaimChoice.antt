@@ -1,6 +1,6 @@
 -- What is answered to a claim: its plan, or why it can't be made.
 use Rattle.std.proofs.Common.{◌≡◌, ℕ, ◌<◌, ◌≤◌, true, List, Option, Some, None, length, get_or, option_map, sym, ap, ◌∙◌, subst, arith}
-use Rattle.std.specs.Prelude.{All, Result, IfErr, IfOk, OnOk}
+use Rattle.std.specs.Prelude.{All, Result}
 use Rattle.std.specs.Option.{ok_or}
 use Rattle.std.proofs.lemmas.List.{get_or_default}
 use Rattle.std.proofs.lemmas.List.Elements.{All-weaker}
@@ -14,7 +14,7 @@ use Rattle.sj_machine.specs.Agrees.{IsWide, Rows, store_of}
 use Rattle.sj_machine.specs.Gone.{KnownGone}
 use Rattle.sj_machine.specs.Operands.{first_held}
 use Rattle.sj_machine.specs.Plan.{ClaimPlan, IsPlan}
-use Rattle.sj_machine.specs.Planning.{CommutersAreFree, HasSmallWork, IsWhy, MayClaim, NoneLeavesFor, chosen_on, commuter_in_use, is_leaving_at, planned}
+use Rattle.sj_machine.specs.Planning.{CommutersAreFree, HasSmallWork, IsAnswer, IsWhy, MayClaim, NoneLeavesFor, chosen_on, commuter_in_use, is_leaving_at, planned}
 use Rattle.sj_machine.specs.Sound.{Keeps}
 use Rattle.sj_machine.specs.Standing.{CanHappen, Standing, state}
 use Rattle.sj_machine.specs.declared.plan.Why.{Why}
@@ -25,12 +25,6 @@ use Rattle.sj_machine.proofs.Written.{can-work, works-small}
 use Rattle.sj_machine.proofs.ClaimFinding.{leaves-same, plan-right, plan-wrong}
 use Rattle.sj_machine.proofs.Keeping.{sound_state}
 use Rattle.sj_machine.proofs.KnownVictims.{none-leaves}
-
--- the answer: where it is a plan, the claim can happen and the plan is its; else the reason stands
-pub record IsAnswer {D : Type 0} (b : Standing D) (t : Task) (w : Worker) (answer : Result ClaimPlan Why) : Type 0 where
-  pub can : OnOk answer (CanHappen b (Claim t w))
-  pub plan : IfOk answer (IsPlan b.program b.machine (state b) t w)
-  pub why : IfErr answer (IsWhy b.program b.machine (state b) t w)
 
 pub answer-told : {D : Type 0} (b b' : Standing D) (t : Task) (w : Worker) (r r' : Result ClaimPlan Why) → b ≡ b' → r' ≡ r → IsAnswer b t w r → IsAnswer b' t w r'
 answer-told b b' t w r r' same is answer = subst (λ (x : Standing _). IsAnswer x t w r') same (subst (λ (x : Result ClaimPlan Why). IsAnswer b t w x) (sym is) answer)

@@ -40,7 +40,7 @@ module _ (p : Program) (cs : List Cell) (small : All (IsSmallCell p) cs) (few : 
       (let both = has_cell-filter (λ d. not (has_entry s.entries d)) (distinct cs) c lacks in
       All-of (IsSmallCell p) cs c small (sym (has_cell-distinct cs c) ∙ both.1)))
 
-  few-lacking : length (lacking s cs) ≤ 5
+  pub few-lacking : length (lacking s cs) ≤ 5
   few-lacking =
       let test : Cell → Bool = λ d. not (has_entry s.entries d) in
       omega (arith, length-filter test (distinct cs), count_by-le-length test (distinct cs), length-distinct cs, few)
@@ -61,15 +61,12 @@ work-few p t w small = few-data (worked_on p w) (task_of p t).accesses small.tas
 
 -- ---- the plan on a node
 
-pub missing-is : (s : Store) (cs cells missing : List Cell) → cells ≡ cs → missing ≡ filter (λ c. not (has_entry s.entries c)) (distinct cells) → missing ≡ lacking s cs
-missing-is s cs cells missing names lacks = lacks ∙ ap (lacking s) names
-
-module _ (p : Program) (t : Task) (w : Worker) (s : Store) (cells missing : List Cell) (bytes : List ℕ) (scratch : ℕ) (names : cells ≡ cells_of p t w) (lacks : missing ≡ filter (λ c. not (has_entry s.entries c)) (distinct cells)) (weighs : bytes ≡ map (tile_bytes p) missing) (holds : scratch ≡ scratch_bytes p (task_of p t)) where
+module _ (p : Program) (t : Task) (w : Worker) (s : Store) (cells missing : List Cell) (bytes : List ℕ) (scratch : ℕ) (names : cells ≡ cells_of p t w) (lacks : missing ≡ lacking s cells) (weighs : bytes ≡ map (tile_bytes p) missing) (holds : scratch ≡ scratch_bytes p (task_of p t)) where
   abbrev lacked : List Cell
   lacked = lacking s (cells_of p t w)
 
   are_missing : missing ≡ lacked
-  are_missing = missing-is s (cells_of p t w) cells missing names lacks
+  are_missing = lacks ∙ ap (lacking s) names
 
   need-is : sum bytes + scratch ≡ need_on p s t w
   need-is = ap (λ (n : ℕ). n + scratch) (ap sum weighs ∙ sum-map (tile_bytes p) missing ∙ ap (sum_by (tile_bytes p)) are_missing) ∙ ap (λ (n : ℕ). sum_by (tile_bytes p) lacked + n) holds

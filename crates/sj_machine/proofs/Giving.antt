@@ -4,6 +4,7 @@ use Rattle.std.proofs.lemmas.List.Sums.{get_or-le-sum_by}
 use Rattle.sj_core.proofs.Words.{Machine, Program, State, Task, Worker, footprint, is_task_of, node_of, node_size, progress}
 use Rattle.sj_core.specs.Legal.{IsComplete}
 use Rattle.sj_deps.specs.Progress.{Progress as Dependencies}
+use Rattle.sj_pool.proofs.Keeping.{home-within}
 use Rattle.sj_pool.specs.Pool.{Pooled, contains, home, with_entry}
 use Rattle.sj_base.specs.Array.{Array}
 use Rattle.sj_machine.specs.Board.{BoardState, board_state, empty_hand, given_back, given_from, hand_of, room_of}
@@ -16,7 +17,7 @@ use Rattle.sj_machine.specs.declared.hand.Hand.{Hand}
 use Rattle.std.proofs.lemmas.Bool.{cases_lt}
 use Rattle.std.proofs.lemmas.Option.{none-some}
 use Rattle.sj_machine.proofs.Hands.{given-set, hand-set, stands-same}
-use Rattle.sj_machine.proofs.Pooling.{all-pooled, home-inside, none-contains, once, times-put}
+use Rattle.sj_machine.proofs.Pooling.{all-pooled, none-contains, once, times-put}
 
 pub once-given : (t : Task) (hand : Hand) → cond {A = ℕ} (is_given t hand) 1 0 ≡ once t hand.given
 once-given t hand = by_given hand.given
@@ -140,7 +141,7 @@ module _ {D : Type 0} (faults mismatches : D → ℕ) (held : D → Option (List
     back-worker = subst (λ (n : ℕ). w.0 < n) (sym keeps.inside.pool_fits.workers) known
 
     home-here : home b.pool.policy w.0 < length b.pool.queues
-    home-here = subst (λ (n : ℕ). home b.pool.policy w.0 < n) (sym keeps.inside.pool_fits.queues) (home-inside b.pool.policy b.pool.workers w.0 back-worker)
+    home-here = subst (λ (n : ℕ). home b.pool.policy w.0 < n) (sym keeps.inside.pool_fits.queues) (home-within b.pool.policy b.pool.workers w.0 back-worker)
 
     fits-back : IsPoolFor p m (slice_set b.hands w.0 (giving None)) (with_entry b.pool (entry_of p t) w.0)
     fits-back = record {

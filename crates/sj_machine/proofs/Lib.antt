@@ -49,6 +49,7 @@ pub mod Prepared
 pub mod Putting
 pub mod Reading
 pub mod Resting
+pub mod Results
 pub mod Starting
 pub mod Stepping
 pub mod Sparing

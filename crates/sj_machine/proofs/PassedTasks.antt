@@ -8,6 +8,7 @@ use Rattle.std.proofs.lemmas.List.Elements.{All-cons, All-get_or, All-head, All-
 use Rattle.std.proofs.lemmas.List.Sums.{sum_by-cons, sum_by-set}
 use Rattle.sj_base.specs.declared.mode.Policy.TheVariants.{Prio}
 use Rattle.sj_core.proofs.Words.{Program, Task, footprint}
+use Rattle.sj_pool.proofs.Keeping.{home-within}
 use Rattle.sj_pool.proofs.Serving.{serving-fits}
 use Rattle.sj_pool.specs.Entry.{fits, precedes}
 use Rattle.sj_pool.specs.Pool.{IsMostUrgent, Pooled, count_entries, entry_for, home, queue, serves, task_for, turns, with_entry, without_entry_for}
@@ -16,7 +17,7 @@ use Rattle.sj_pool.specs.declared.entry.Entry.{Entry}
 use Rattle.sj_machine.specs.BoardSound.{IsEntry, is_entry_of, times_pooled}
 use Rattle.sj_machine.specs.Filling.{entry_of}
 use Rattle.sj_machine.specs.Passing.{HasLost, IsFirstLeft, IsLeft, IsPoolOf, IsTakenBehind, is_among, is_passed, times_of}
-use Rattle.sj_machine.proofs.Pooling.{Serves, all-pooled, all-taken, count-cons, first-all, first-fits, home-inside, queue-inside, queues-length, queues_from, task_from, times-put, times-taken, times_in}
+use Rattle.sj_machine.proofs.Pooling.{Serves, all-pooled, all-taken, count-cons, first-all, first-fits, queue-inside, queues-length, queues_from, task_from, times-put, times-taken, times_in}
 
 -- ---- a task that stands in a pool has an entry there
 
@@ -176,7 +177,7 @@ module _ (p : Program) (passed : List Task) (w room : ℕ) (old : Pooled) (is : 
       back-absent = omega (arith, is.once t, lost-given t, own, behind.lost t)
 
       home-here : home mid.policy w < length mid.queues
-      home-here = subst (λ (n : ℕ). home mid.policy w < n) (sym behind.pool.queues) (home-inside mid.policy mid.workers w back-worker)
+      home-here = subst (λ (n : ℕ). home mid.policy w < n) (sym behind.pool.queues) (home-within mid.policy mid.workers w back-worker)
 
       lost-back : HasLost other old back
       lost-back u = omega (arith, times-put mid.policy mid.queues (home mid.policy w) (entry_of p t) u home-here, behind.lost u, lost-given u)

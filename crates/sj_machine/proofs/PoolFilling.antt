@@ -4,11 +4,12 @@ use Rattle.std.specs.Prelude.{count_by}
 use Rattle.std.proofs.lemmas.List.Elements.{All-head, All-tail}
 use Rattle.std.proofs.lemmas.List.Sums.{sum_by-cons}
 use Rattle.sj_core.proofs.Words.{Machine, Program, Task, Worker}
+use Rattle.sj_pool.proofs.Keeping.{home-within}
 use Rattle.sj_pool.specs.Pool.{Pooled, home, queue, put_into}
 use Rattle.sj_machine.specs.BoardSound.{IsEntry, IsPoolFor, times_pooled}
 use Rattle.sj_machine.specs.Filling.{entry_of, CanPutEach, putter, with_each, with_task}
 use Rattle.sj_machine.specs.declared.hand.Hand.{Hand}
-use Rattle.sj_machine.proofs.Pooling.{all-pooled, home-inside, none-contains, times-put}
+use Rattle.sj_machine.proofs.Pooling.{all-pooled, none-contains, times-put}
 
 -- how often the task is among these
 abbrev pub times_among : List Task → Task → ℕ
@@ -26,7 +27,7 @@ module _ (p : Program) (m : Machine) (hands : List Hand) (by : Option Worker) (s
   home-of : (pool : Pooled) (t : Task) → IsPoolFor p m hands pool → home pool.policy (putter p by t) < length pool.queues
   home-of pool t fits =
       let known : putter p by t < pool.workers = subst (λ (n : ℕ). putter p by t < n) (sym fits.workers) (staffed t) in
-      subst (λ (n : ℕ). home pool.policy (putter p by t) < n) (sym fits.queues) (home-inside pool.policy pool.workers (putter p by t) known)
+      subst (λ (n : ℕ). home pool.policy (putter p by t) < n) (sym fits.queues) (home-within pool.policy pool.workers (putter p by t) known)
 
   -- one task more
   pub fits-put : (pool : Pooled) (t : Task) → IsPoolFor p m hands pool → IsPoolFor p m hands (with_task p by pool t)

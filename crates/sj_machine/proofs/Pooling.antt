@@ -14,7 +14,6 @@ use Rattle.sj_pool.specs.Entry.{fits, precedes}
 use Rattle.sj_pool.specs.Pool.{contains, has_task, put_into, queue, with_entry_at, without_first_at}
 use Rattle.sj_pool.specs.Queue.{first_fitting, has_fitting, put_by_urgency, without_first_fitting}
 use Rattle.sj_pool.specs.declared.entry.Entry.{Entry}
-pub use Rattle.sj_pool.proofs.Keeping.{home-within as home-inside}
 use Rattle.sj_machine.specs.BoardSound.{is_entry_of}
 use Rattle.sj_machine.specs.Passing.{times_of}
 

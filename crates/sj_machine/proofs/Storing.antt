@@ -9,8 +9,6 @@ use Rattle.std.proofs.lemmas.Option.{get_or_from_slice_get, slice_get_within}
 use Rattle.sj_base.specs.Array.{area}
 use Rattle.sj_base.specs.declared.tile.Dims.{Dims}
 use Rattle.sj_base.proofs.Options.{IfSome-at, IfSome-from, IsSomeAnd-from, IsSomeAnd-at}
--- (old names, by which UnitPuts still cites them)
-pub use Rattle.sj_base.proofs.Options.{IfSome-at as told-at, IfSome-from as told-from, IsSomeAnd-at as some-at}
 use Rattle.sj_core.specs.declared.progress.Transfer.{Transfer}
 use Rattle.sj_core.proofs.Words.{Array, Block, Cell, DiskNo, Machine, OnDisk, Place, Program, State, Worker, WorkerState, dims_of, is_valid, replica, transfer, writes}
 use Rattle.sj_core.proofs.Placing.{cells_differ}

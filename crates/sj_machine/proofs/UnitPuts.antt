@@ -2,6 +2,7 @@
 use Rattle.std.proofs.Common.{◌≡◌, ℕ, zero, suc, Bool, true, false, List, [], ◌∷◌, Option, Some, None, inl, inr, ◌⊎◌, refl, sym, ap, ◌∙◌, subst, length, map, slice_get, slice_set}
 use Rattle.std.specs.Prelude.{IfErr, IfSome, IsSome, IsSomeAnd, OnOk, Result, Ok, Err}
 use Rattle.sj_base.specs.Array.{Array, area}
+use Rattle.sj_base.proofs.Options.{IfSome-at, IfSome-from, IsSomeAnd-at}
 use Rattle.sj_core.specs.declared.progress.Transfer.{Transfer}
 use Rattle.sj_core.proofs.Words.{Cell, DiskNo, OnDisk, Place, Worker, WorkerState, dims_of, is_valid, replica, transfer, writes}
 use Rattle.sj_core.specs.Step.{a_transfer, disk_of}
@@ -19,7 +20,7 @@ use Rattle.sj_machine.specs.Sound.{IsStored, IsWrittenOut, Keeps}
 use Rattle.sj_machine.specs.Standing.{IsFetching, IsMovingOut, IsTileMoved, IsTileOf, HasDimsMoved, Standing, is_node, state}
 use Rattle.sj_machine.specs.Units.{HasBlockOf, HasFetchedMoved, HasStoredMoved, IsDiskMove, IsUnitOf, TakesUnit, lent}
 use Rattle.sj_machine.proofs.DiskCounts.{fetches-cause, fetches-counted, stores-cause, stores-counted}
-use Rattle.sj_machine.proofs.Storing.{OnOk-from, at-place, extent, fetch-last, fetched-well, keeps-fetched, keeps-stored, some-at, stored-well, told-at, told-from}
+use Rattle.sj_machine.proofs.Storing.{OnOk-from, at-place, extent, fetch-last, fetched-well, keeps-fetched, keeps-stored, stored-well}
 
 is-some : {X : Type 0} (x y : X) → ◌≡◌ {A = Option X} (Some x) (Some y) → x ≡ y
 is-some x y e = cc
@@ -81,7 +82,7 @@ module _ {D : Type 0} (size faults mismatches : D → ℕ) (held : D → Option 
     -- ---- a unit of it
     module _ (u : UnitState D) (is : IsUnitOf b w u) where
       its-cell : u.cell ≡ x.cell
-      its-cell = told-at (λ (y : Transfer). u.cell ≡ y.cell) (transfer (state b) w) x under_way is.cell
+      its-cell = IfSome-at (λ (y : Transfer). u.cell ≡ y.cell) (transfer (state b) w) x under_way is.cell
 
       its-extent : extent_of b.disks.directory x.cell.0 ≡ Some u.extent
       its-extent = ap (λ (q : Cell). extent_of b.disks.directory q.0) (sym its-cell) ∙ is.taken.its_extent
@@ -97,10 +98,10 @@ module _ {D : Type 0} (size faults mismatches : D → ℕ) (held : D → Option 
       stored = subst (λ (z : Standing D). HasStoredMoved size faults mismatches held z w u result) (sym same) stored_moved
 
       unit-stores : UnitStores size faults mismatches held (writes (state b) x.cell) stored.array.elements result stored.before u
-      unit-stores = told-at (λ (y : Transfer). UnitStores size faults mismatches held (writes (state b) y.cell) stored.array.elements result stored.before u) (transfer (state b) w) x under_way stored.stores
+      unit-stores = IfSome-at (λ (y : Transfer). UnitStores size faults mismatches held (writes (state b) y.cell) stored.array.elements result stored.before u) (transfer (state b) w) x under_way stored.stores
 
       tile-of : IsTileOf held b x.cell x.from stored.array
-      tile-of = told-at (λ (y : Transfer). IsTileOf held b y.cell y.from stored.array) (transfer (state b) w) x under_way stored.is_moved
+      tile-of = IfSome-at (λ (y : Transfer). IsTileOf held b y.cell y.from stored.array) (transfer (state b) w) x under_way stored.is_moved
 
       whole : length stored.array.elements ≡ area stored.array.dims
       whole = unit-stores.fills_the_block ∙ its-whole stored.before stored.is_its_unit d (home-target d at) ∙ sym (ap area tile-of.dims)
@@ -115,7 +116,7 @@ module _ {D : Type 0} (size faults mismatches : D → ℕ) (held : D → Option 
             (has stored.before (writes (state b) x.cell) stored.array.elements result stored.is_its_unit.taken unit-stores)
 
         told : IfSome (extent_of b.disks.directory x.cell.0) (Stores size faults mismatches held x.cell.0 (writes (state b) x.cell) stored.array.elements result b.disks new.set)
-        told = told-from (Stores size faults mismatches held x.cell.0 (writes (state b) x.cell) stored.array.elements result b.disks new.set) (extent_of b.disks.directory x.cell.0) stored.before.extent (its-extent stored.before stored.is_its_unit) wrote-stores
+        told = IfSome-from (Stores size faults mismatches held x.cell.0 (writes (state b) x.cell) stored.array.elements result b.disks new.set) (extent_of b.disks.directory x.cell.0) stored.before.extent (its-extent stored.before stored.is_its_unit) wrote-stores
 
         some : IsSomeAnd (extent_of b.disks.directory x.cell.0) (λ e. Unit {0})
         some = subst (λ (o : Option Extent). IsSomeAnd o (λ e. Unit {0})) (sym (its-extent stored.before stored.is_its_unit)) tt
@@ -143,10 +144,10 @@ module _ {D : Type 0} (size faults mismatches : D → ℕ) (held : D → Option 
         fetched = subst (λ (z : Standing D). HasFetchedMoved size faults mismatches held z w u result array) (sym same) fetched_moved
 
         unit-fetches : UnitFetches size faults mismatches held (writes (state b) x.cell) array.elements result fetched.before u
-        unit-fetches = told-at (λ (y : Transfer). UnitFetches size faults mismatches held (writes (state b) y.cell) array.elements result fetched.before u) (transfer (state b) w) x under_way fetched.fetches
+        unit-fetches = IfSome-at (λ (y : Transfer). UnitFetches size faults mismatches held (writes (state b) y.cell) array.elements result fetched.before u) (transfer (state b) w) x under_way fetched.fetches
 
         dims-of : array.dims ≡ dims_of b.program x.cell
-        dims-of = told-at (λ (y : Transfer). array.dims ≡ dims_of b.program y.cell) (transfer (state b) w) x under_way fetched.dims
+        dims-of = IfSome-at (λ (y : Transfer). array.dims ≡ dims_of b.program y.cell) (transfer (state b) w) x under_way fetched.dims
 
         pub read-comes : ComesFrom size faults mismatches held (lent b) u
         read-comes = record { before = fetched.before; taken = fetched.is_its_unit.taken; worked = unit-fetches.is_worked_on }
@@ -158,7 +159,7 @@ module _ {D : Type 0} (size faults mismatches : D → ℕ) (held : D → Option 
               (has fetched.before (writes (state b) x.cell) array.elements result fetched.is_its_unit.taken unit-fetches)
 
           told-fetch : IfSome (extent_of b.disks.directory x.cell.0) (Fetches size faults mismatches held x.cell.0 (writes (state b) x.cell) array.elements result b.disks new.set)
-          told-fetch = told-from (Fetches size faults mismatches held x.cell.0 (writes (state b) x.cell) array.elements result b.disks new.set) (extent_of b.disks.directory x.cell.0) fetched.before.extent (its-extent fetched.before fetched.is_its_unit) read-fetches
+          told-fetch = IfSome-from (Fetches size faults mismatches held x.cell.0 (writes (state b) x.cell) array.elements result b.disks new.set) (extent_of b.disks.directory x.cell.0) fetched.before.extent (its-extent fetched.before fetched.is_its_unit) read-fetches
 
           some-fetch : IsSomeAnd (extent_of b.disks.directory x.cell.0) (λ e. Unit {0})
           some-fetch = subst (λ (o : Option Extent). IsSomeAnd o (λ e. Unit {0})) (sym (its-extent fetched.before fetched.is_its_unit)) tt
@@ -219,7 +220,7 @@ module _ {D : Type 0} (size faults mismatches : D → ℕ) (held : D → Option 
         has-taken = record {
           is_its_unit = record {
             taken = takes.taken;
-            cell = told-from (λ (y : Transfer). u.cell ≡ y.cell) (transfer (state b) w) x under_way takes.of_the_cell;
+            cell = IfSome-from (λ (y : Transfer). u.cell ≡ y.cell) (transfer (state b) w) x under_way takes.of_the_cell;
           };
           was_in = takes.was_in;
           nothing_else = now-is;
@@ -235,13 +236,13 @@ module _ {D : Type 0} (size faults mismatches : D → ℕ) (held : D → Option 
 
         has-block : HasBlockOf b w u
         has-block = record {
-          whole = told-from (λ (y : Transfer). u.extent.length ≡ area (dims_of b.program y.cell)) (transfer (state b) w) x under_way (
+          whole = IfSome-from (λ (y : Transfer). u.extent.length ≡ area (dims_of b.program y.cell)) (transfer (state b) w) x under_way (
               let e = extent size faults mismatches held b rows spare keeps x.cell its-home.0 its-home.1 in
               ap (λ (k : Extent). k.length) (is-some u.extent e.0 (sym same-extent ∙ e.1)) ∙ e.2
               );
-          stored = told-from (λ (y : Transfer). is_node y.from ≡ false → u.extent.last_store ≡ Some (last_store (writes (state b) y.cell) true)) (transfer (state b) w) x under_way (λ disk.
+          stored = IfSome-from (λ (y : Transfer). is_node y.from ≡ false → u.extent.last_store ≡ Some (last_store (writes (state b) y.cell) true)) (transfer (state b) w) x under_way (λ disk.
               let from = on-disk x.from disk in
-              let found = some-at (IsStored (state b) x.cell) (extent_of b.disks.directory x.cell.0) (keeps.sound.blocks.stored x.cell from.0 (valid-source from.0 from.1)) in
+              let found = IsSomeAnd-at (IsStored (state b) x.cell) (extent_of b.disks.directory x.cell.0) (keeps.sound.blocks.stored x.cell from.0 (valid-source from.0 from.1)) in
               subst (λ (k : Extent). k.last_store ≡ Some (last_store (writes (state b) x.cell) true)) (is-some found.0 u.extent (sym found.1 ∙ same-extent)) found.2.last
               );
         }

@@ -1,5 +1,5 @@
 -- Planning a claim: what it needs beside room on its node, what it finds there, and why it can't be made.
-use Rattle.std.specs.Prelude.{◌≡◌, ◌≢◌, ◌≤◌, ◌<◌, ◌+◌, ◌-◌, ℕ, Bool, false, not, Option, Some, None, IsTrue, All, List, find, filter, map, length, option_map, reverse, slice_index_or, sum_by, take}
+use Rattle.std.specs.Prelude.{◌≡◌, ◌≢◌, ◌≤◌, ◌<◌, ◌+◌, ◌-◌, ℕ, Bool, false, not, Option, Some, None, IfErr, IfOk, IsTrue, OnOk, Result, All, List, find, filter, map, length, option_map, reverse, slice_index_or, sum_by, take}
 use Rattle.sj_base.specs.declared.ids.Cell.{Cell}
 use Rattle.sj_base.specs.declared.ids.Node.{Node}
 use Rattle.sj_base.specs.declared.ids.Task.{Task}
@@ -7,6 +7,7 @@ use Rattle.sj_base.specs.declared.ids.Worker.{Worker}
 use Rattle.sj_base.specs.declared.ids.Place.TheVariants.{Node as AtNode}
 use Rattle.sj_base.specs.declared.program.Program.{Program}
 use Rattle.sj_base.specs.declared.program.Machine.{Machine}
+use Rattle.sj_base.specs.declared.trace.Event.TheVariants.{Claim}
 use Rattle.sj_core.specs.Machine.{State, WorkerState, is_idle, is_leaving, is_task_of, pins, progress, replica}
 use Rattle.sj_core.specs.Needs.{footprint, node_of, node_size, scratch_bytes, tile_bytes}
 use Rattle.sj_core.specs.Operands.{cells_of, commuting_cells, worked_on}
@@ -20,7 +21,8 @@ use Rattle.sj_machine.specs.Agrees.{row_at}
 use Rattle.sj_machine.specs.Copies.{Copies, mark_at, row_of}
 use Rattle.sj_machine.specs.Mark.{is_leaving as is_leaving_mark}
 use Rattle.sj_machine.specs.Operands.{CanWorkOn}
-use Rattle.sj_machine.specs.Plan.{ClaimPlan, IsSmallCell}
+use Rattle.sj_machine.specs.Plan.{ClaimPlan, IsPlan, IsSmallCell}
+use Rattle.sj_machine.specs.Standing.{CanHappen, Standing, state}
 use Rattle.sj_machine.specs.declared.refusal.ClaimRefusal.{ClaimRefusal}
 use Rattle.sj_machine.specs.declared.refusal.ClaimRefusal.TheVariants.{NotNow, OutOfMemory}
 use Rattle.sj_machine.specs.declared.plan.Why.{Why}
@@ -86,6 +88,12 @@ abbrev pub IsWhy : Program → Machine → State → Task → Worker → Why →
 IsWhy p m s t w (Commute c) = commuter_in_use p s t ≡ Some c
 IsWhy p m s t w (Leaving c) = CommutersAreFree p s t × IsTrue (is_leaving (replica s c (AtNode (node_of m w))))
 IsWhy p m s t w NoRoom = CommutersAreFree p s t × IsTrue (none_leaving s (node_of m w)) × (victims_for p m s t w ≡ None)
+
+-- the answer to a claim: where it is a plan, the claim can happen and the plan is its; else the reason stands
+pub record IsAnswer {D : Type 0} (b : Standing D) (t : Task) (w : Worker) (answer : Result ClaimPlan Why) : Type 0 where
+  pub can : OnOk answer (CanHappen b (Claim t w))
+  pub plan : IfOk answer (IsPlan b.program b.machine (state b) t w)
+  pub why : IfErr answer (IsWhy b.program b.machine (state b) t w)
 
 -- why a claim isn't made: one of these reasons, or want of memory
 abbrev pub IsRefusal : Program → Machine → State → Task → Worker → ClaimRefusal → Type 0

@@ -42,6 +42,7 @@ use crate::preparing::prepare;
 use crate::refusal::ClaimRefusal;
 use crate::releasing::release;
 use crate::run_state::{RunRefusal, RunState};
+use crate::spent::Spent;
 use crate::todo::Todo;
 use sj_base::ids::{Cell, Place, Task, Worker};
 use sj_base::keyed::Keyed;
@@ -312,9 +313,16 @@ impl<D: Disk> Board<D> {
 
     /// The kernel of the task begins that a worker has claimed, where no fault is kept. Appends to the frame shares of the
     /// operands whose old value is read, in order; of the cells that it writes, the board keeps no tile, and of what a deliver
-    /// task hands over it keeps a further share. After an `Err` the board is as before: a share was refused. Linear in the
-    /// operands, in the nodes for each written one, and in the victims that have gone since the worker last dropped one.
-    pub fn run(&mut self, t: Task, w: Worker, frame: Frame) -> Result<Frame, OutOfMemory>
+    /// task hands over it keeps a further share. Tiles that it kept and are written anew are spent. After an `Err` the board is as
+    /// before: a share was refused. Linear in the operands, in the nodes for each written one, and in the victims that have gone
+    /// since the worker last dropped one.
+    pub fn run(
+        &mut self,
+        t: Task,
+        w: Worker,
+        frame: Frame,
+        spent: &mut Spent,
+    ) -> Result<Frame, OutOfMemory>
         requires task { HasTask self.old w t }
         requires no_fault { self.old.fault ≡ None }
         requires can { CanHappen self.old.run (Run t w) }
@@ -328,7 +336,7 @@ impl<D: Disk> Board<D> {
     {
         self.run.is_sound();
         let gift = self.run.gift(t, w)?;
-        let frame = self.run.run(t, w, frame)?;
+        let frame = self.run.run(t, w, frame, spent)?;
         self.gifts.keep(w, gift);
         let gone = self.run.gone(w, self.gone[w.0 as usize]);
         note_gone(&mut self.gone, w, gone);
@@ -393,9 +401,9 @@ impl<D: Disk> Board<D> {
         }
     }
 
-    /// A leaving copy goes from the worker's node, since another is valid and no transfer reads it. Linear in the victims of the
-    /// worker that are found gone, each once for a claim; no memory.
-    pub fn drop_copy(&mut self, w: Worker, cell: Cell)
+    /// A leaving copy goes from the worker's node, since another is valid and no transfer reads it; its tile is spent. Linear in the
+    /// victims of the worker that are found gone, each once for a claim; no memory.
+    pub fn drop_copy(&mut self, w: Worker, cell: Cell, spent: &mut Spent)
         requires busy { IsBusy self.old w }
         requires can { CanHappen self.old.run (Drop cell (node_of self.old.run.machine w)) }
         ensures drops { self.new ≡ has_event self.old (Drop cell (node_of self.old.run.machine w)) }
@@ -403,7 +411,7 @@ impl<D: Disk> Board<D> {
     {
         self.run.is_sound();
         let n = self.run.node_of(w);
-        self.run.drop_copy(cell, n);
+        self.run.drop_copy(cell, n, spent);
         let gone = self.run.gone(w, self.gone[w.0 as usize]);
         note_gone(&mut self.gone, w, gone);
     }

@@ -8,6 +8,7 @@ ghost use Rattle.sj_machine.specs.Plan.{with_mark};
 ghost use Rattle.sj_machine.specs.Tiles.{array_in};
 
 use crate::mark::Mark;
+use crate::spent::Spent;
 use sj_base::ids::Node;
 use sj_base::memory::OutOfMemory;
 use sj_base::tile::Tile;
@@ -80,12 +81,12 @@ fn clear_marks(marks: &mut Vec<Mark>)
     }
 }
 
-/// No tile in any of these places. Linear in them.
-fn clear_tiles(tiles: &mut Vec<Option<Arc<Tile>>>)
+/// No tile in any of these places: those that were there go. Linear in the places.
+fn clear_tiles(tiles: &mut Vec<Option<Arc<Tile>>>, spent: &mut Spent)
     ensures { tiles.new.items ≡ map (λ x. None) tiles.old.items }
 {
     for i in 0..tiles.len() {
-        tiles[i] = None;
+        spent.put(tiles[i].take());
     }
 }
 
@@ -165,6 +166,15 @@ impl Copies {
         self.tiles[n.0 as usize] = tile;
     }
 
+    /// The copy at a node goes, with its tile. Constant time.
+    pub fn clear(&mut self, n: Node, spent: &mut Spent)
+        requires { n.0 < length self.old.marks }
+        ensures { self.new ≡ with_copy self.old n Mark.Invalid None }
+    {
+        self.marks[n.0 as usize] = Mark::Invalid;
+        spent.put(self.tiles[n.0 as usize].take());
+    }
+
     /// Puts a mark at a node; the tile stays. Constant time.
     pub fn set_mark(&mut self, n: Node, mark: Mark)
         requires { n.0 < length self.old.marks }
@@ -181,12 +191,12 @@ impl Copies {
     }
 
     /// The one copy is a node's own from now on, and its tile leaves. Linear in the nodes.
-    pub fn lend(&mut self, n: Node)
+    pub fn lend(&mut self, n: Node, spent: &mut Spent)
         requires { n.0 < length self.old.marks }
         ensures { self.new ≡ lent_at self.old n }
     {
         clear_marks(&mut self.marks);
-        clear_tiles(&mut self.tiles);
+        clear_tiles(&mut self.tiles, spent);
         self.marks[n.0 as usize] = Mark::Valid;
         self.on_disk = false;
     }

@@ -1,6 +1,6 @@
 //! What a task needs on its node.
 
-ghost use Rattle.std.specs.Prelude.{◌≡◌, ◌≤◌, ◌<◌, ◌^◌, ◌*◌, ◌&&◌, ◌∷◌, [], All, IfOk, filter, length, map, not, sum, sum_by};
+ghost use Rattle.std.specs.Prelude.{◌≡◌, ◌≤◌, ◌<◌, ◌^◌, ◌*◌, ◌&&◌, ◌∷◌, [], All, filter, length, map, not, sum, sum_by};
 ghost use Rattle.sj_base.specs.Array.{area};
 ghost use Rattle.sj_base.specs.Mode.{is_data, is_scratch};
 ghost use Rattle.sj_core.specs.Needs.{tile_bytes as bytes_of_tile};
@@ -11,11 +11,11 @@ ghost use Rattle.sj_machine.specs.Plan.{IsSmallCell};
 
 use crate::choosing::mark_at;
 use crate::copies::Copies;
+use crate::few_bytes::FewBytes;
+use crate::few_cells::FewCells;
 use sj_base::ids::{Cell, Node, Task};
-use sj_base::memory::OutOfMemory;
 use sj_base::mode::{Access, Mode};
 use sj_base::program::Program;
-use std::alloc::Global;
 
 /// The operands of a task. Constant time.
 pub fn accesses_of(program: &Program, t: Task) -> &[Access]
@@ -34,15 +34,16 @@ fn tile_bytes(program: &Program, cell: Cell) -> u64
 }
 
 /// The bytes of each cell's tile. Linear in the cells.
-pub fn bytes_of(alloc: Global, program: &Program, cells: &[Cell]) -> Result<Vec<u64>, OutOfMemory>
-    requires { All (IsSmallCell program.now) cells.now }
-    ensures { IfOk result (λ bytes. bytes.items ≡ map (bytes_of_tile program.now) cells.now) }
+pub fn bytes_of(program: &Program, cells: &[Cell]) -> FewBytes
+    requires small { All (IsSmallCell program.now) cells.now }
+    requires few { length cells.now ≤ 5 }
+    ensures { result ≡ map (bytes_of_tile program.now) cells.now }
 {
-    let mut bytes = Vec::new(alloc);
+    let mut bytes = FewBytes::none();
     for cell in cells {
-        bytes.push(tile_bytes(program, *cell))?;
+        bytes.push(tile_bytes(program, *cell));
     }
-    Ok(bytes)
+    bytes
 }
 
 /// The bytes of an operand that is a scratch buffer; none of another. Constant time.
@@ -80,23 +81,19 @@ fn is_lacking(rows: &[Copies], n: Node, cell: Cell, later: &[Cell]) -> bool
 }
 
 /// The cells without an entry on a node, by their marks, each once. Quadratic in the cells, which are a task's few.
-pub fn lacking_cells(
-    alloc: Global,
-    rows: &[Copies],
-    n: Node,
-    cells: &[Cell],
-) -> Result<Vec<Cell>, OutOfMemory>
-    requires { All (λ row. n.0 < length row.marks) rows.now }
-    ensures { IfOk result (λ lacking. lacking.items
-        ≡ filter (λ c. not (is_entry_mark (mark_at (row_of rows.now c) n))) (distinct cells.now)) }
+pub fn lacking_cells(rows: &[Copies], n: Node, cells: &[Cell]) -> FewCells
+    requires wide { All (λ row. n.0 < length row.marks) rows.now }
+    requires few { length cells.now ≤ 5 }
+    ensures { result
+        ≡ filter (λ c. not (is_entry_mark (mark_at (row_of rows.now c) n))) (distinct cells.now) }
 {
-    let mut lacking = Vec::new(alloc);
+    let mut lacking = FewCells::none();
     for i in 0..cells.len() {
         if is_lacking(rows, n, cells[i], &cells[i + 1..]) {
-            lacking.push(cells[i])?;
+            lacking.push(cells[i]);
         }
     }
-    Ok(lacking)
+    lacking
 }
 
 /// The sum of these. Linear in them.

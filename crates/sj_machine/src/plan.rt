@@ -1,11 +1,15 @@
 //! Plans of claims.
 
-ghost use Rattle.std.specs.Prelude.{◌≡◌, ◌<◌, All, IfOk, length, option_map, reverse};
+ghost use Rattle.std.specs.Prelude.{◌≡◌, ◌<◌, ◌≤◌, ◌*◌, ◌^◌, All, IfOk, length, option_map, reverse};
+ghost use Rattle.sj_core.specs.Needs.{scratch_bytes};
+ghost use Rattle.sj_core.specs.Operands.{cells_of};
+ghost use Rattle.sj_core.specs.Program.{task_of};
 ghost use Rattle.sj_node.specs.Store.{victims_of};
 ghost use Rattle.sj_machine.specs.Agrees.{AreMarked};
-ghost use Rattle.sj_machine.specs.Planning.{HasSmallWork, chosen_on, planned};
+ghost use Rattle.sj_machine.specs.Planning.{HasSmallTask, HasSmallWork, chosen_on, lacking, planned};
 
 use crate::copies::Copies;
+use crate::few_bytes::FewBytes;
 use crate::few_cells::FewCells;
 use crate::needs::{accesses_of, bytes_of, lacking_cells, scratch_bytes, total};
 use crate::operands::worked_cells;
@@ -32,8 +36,8 @@ pub enum Why {
 #[derive(Drop)]
 pub struct Plan {
     cells: FewCells,
-    missing: Vec<Cell>,
-    bytes: Vec<u64>,
+    missing: FewCells,
+    bytes: FewBytes,
     scratch: u64,
     victims: Vec<Cell>,
 }
@@ -43,7 +47,35 @@ impl Model for Plan {
 
     ghost Value = { ClaimPlan };
 
-    ghost view = { λ c. record { cells = c.cells; missing = c.missing.items; bytes = c.bytes.items; scratch = c.scratch; victims = c.victims.items } };
+    ghost view = { λ c. record { cells = c.cells; missing = c.missing; bytes = c.bytes; scratch = c.scratch; victims = c.victims.items } };
+}
+
+/// The cells on which a worker works for a task, in operand order. Linear in the operands.
+fn cells_for(program: &Program, t: Task, w: Worker) -> FewCells
+    requires { HasSmallWork program.now t w }
+    ensures { result ≡ cells_of program.now t w }
+{
+    worked_cells(program, w, accesses_of(program, t))
+}
+
+/// The bytes of a task's scratch. Linear in the operands.
+fn scratch_for(program: &Program, t: Task) -> u64
+    requires { HasSmallTask program.now t }
+    ensures small { result ≤ 5 * 2 ^ 27 }
+    ensures bytes { result ≡ scratch_bytes program.now (task_of program.now t) }
+{
+    scratch_bytes(program, accesses_of(program, t))
+}
+
+/// Those of these cells without an entry on a node, as their rows tell, each once. Quadratic in the cells, which are a task's few.
+fn lacking_on(rows: &[Copies], node: &NodeStore, n: Node, cells: &[Cell]) -> FewCells
+    requires wide { All (λ row. n.0 < length row.marks) rows.now }
+    requires marked { AreMarked rows.now n node.now.entries }
+    requires few { length cells.now ≤ 5 }
+    ensures { result ≡ lacking node.now cells.now }
+{
+    let _ = node;
+    lacking_cells(rows, n, cells)
 }
 
 /// The victims of a need, the most recently used first, those held spared; none where there is no room. Linear in the
@@ -75,14 +107,14 @@ impl Plan {
     pub fn missing(&self) -> &[Cell]
         ensures { result.now ≡ self.now.missing }
     {
-        &self.missing
+        self.missing.items()
     }
 
     /// The bytes of each that it brings. Constant time.
     pub fn bytes(&self) -> &[u64]
         ensures { result.now ≡ self.now.bytes }
     {
-        &self.bytes
+        self.bytes.items()
     }
 
     /// The bytes of the task's scratch. Constant time.
@@ -123,12 +155,11 @@ impl Plan {
         requires marked { AreMarked rows.now n node.now.entries }
         ensures { IfOk result (λ plan. plan ≡ option_map (planned program.now node.now t w) (chosen_on program.now node.now t w)) }
     {
-        let accesses = accesses_of(program, t);
-        let cells = worked_cells(program, w, accesses);
-        let missing = lacking_cells(alloc, rows, n, cells.items())?;
-        let bytes = bytes_of(alloc, program, &missing)?;
-        let scratch = scratch_bytes(program, accesses);
-        let need = total(&bytes) + scratch;
+        let cells = cells_for(program, t, w);
+        let missing = lacking_on(rows, node, n, cells.items());
+        let bytes = bytes_of(program, missing.items());
+        let scratch = scratch_for(program, t);
+        let need = total(bytes.items()) + scratch;
         let Some(victims) = recent_victims(alloc, node, cells.items(), need)? else {
             return Ok(None);
         };

@@ -18,7 +18,7 @@ ghost use Rattle.sj_machine.specs.Operands.{read_among};
 ghost use Rattle.sj_machine.specs.Releasing.{IsGift};
 ghost use Rattle.sj_machine.specs.Running.{AreResultsFor, AreSharesFor};
 ghost use Rattle.sj_machine.specs.Sound.{CanStart, FetchesMoved, IsSoundRun, IsWrittenOut, OnlyDisksChange, StoresMoved};
-ghost use Rattle.sj_machine.specs.Planning.{AnotherHasTask, IsWhy, MayClaim};
+ghost use Rattle.sj_machine.specs.Planning.{AnotherHasTask, IsAnswer, IsWhy, MayClaim};
 ghost use Rattle.sj_machine.specs.Sparing.{EventsSpareUsed};
 ghost use Rattle.sj_machine.specs.Standing.{CanHappen, HasDimsMoved, HasMoved, IsFetching, IsMovingIn, IsMovingOut, IsShareOf, IsTileMoved, is_node, starting, state, with_event};
 ghost use Rattle.sj_machine.specs.Tiles.{array_in};
@@ -40,6 +40,7 @@ use crate::operands::{commuter_held, written_cells};
 use crate::plan::{Plan, Why};
 use crate::room::whole_trace;
 use crate::running::{evict_elsewhere, lend_each, share_into, task_at};
+use crate::spent::Spent;
 use sj_base::ids::{Cell, DiskNo, Node, Place, Task, Worker};
 use sj_base::memory::OutOfMemory;
 use sj_base::program::{Machine, Program};
@@ -135,13 +136,13 @@ fn idle_workers(alloc: Global, count: u8) -> Result<Vec<Hold>, OutOfMemory>
 }
 
 /// The copy of a cell at a node goes. Constant time.
-fn clear(cells: &mut Vec<Copies>, cell: Cell, n: Node)
+fn clear(cells: &mut Vec<Copies>, cell: Cell, n: Node, spent: &mut Spent)
     requires cell { cell.0 < length cells.old.items }
     requires node { n.0 < length (row_of cells.old.items cell).marks }
     ensures { cells.new.items ≡ with_row cells.old.items cell (λ row. with_copy row n Mark.Invalid None) }
 {
     let row = &mut cells[cell.0 as usize];
-    row.put(n, Mark::Invalid, None);
+    row.clear(n, spent);
 }
 
 /// A share of the tile that is kept of a cell at a node; none of its block on a disk. Constant time.
@@ -324,6 +325,22 @@ impl<D: Disk> RunState<D> {
         ensures why { IfOk result (λ found. IfErr found (IsWhy self.now.program self.now.machine (state self.now) t w)) }
         ensures another { IfOk result (λ found. OnErr found (AnotherHasTask (state self.now) w)) }
     {
+        self.is_sound();
+        self.answer_to_claim(alloc, t, w, gone)
+    }
+
+    /// What `claim_plan_knowing` answers, at its cost.
+    fn answer_to_claim(
+        &self,
+        alloc: Global,
+        t: Task,
+        w: Worker,
+        gone: &[usize],
+    ) -> Result<Result<Plan, Why>, OutOfMemory>
+        requires may { MayClaim self.now.program self.now.machine (state self.now) t w }
+        requires gone { KnownGone self.now.machine (state self.now) gone.now }
+        ensures { IfOk result (IsAnswer self.now t w) }
+    {
         let accesses = task_at(&self.program, t).accesses.items();
         if let Some(cell) = commuter_held(&self.workers, accesses) {
             return Ok(Err(Why::Commute(cell)));
@@ -356,12 +373,13 @@ impl<D: Disk> RunState<D> {
         Ok(())
     }
 
-    /// A leaving copy goes from its node, since another is valid and no transfer reads it. Constant time, and no memory.
-    pub fn drop_copy(&mut self, cell: Cell, n: Node)
+    /// A leaving copy goes from its node, since another is valid and no transfer reads it; its tile is spent. Constant time, and
+    /// no memory.
+    pub fn drop_copy(&mut self, cell: Cell, n: Node, spent: &mut Spent)
         requires { CanHappen self.old (Event.Drop cell n) }
         ensures { self.new ≡ with_event self.old (Event.Drop cell n) }
     {
-        clear(&mut self.cells, cell, n);
+        clear(&mut self.cells, cell, n, spent);
         self.trace.add(Event::Drop(cell, n));
     }
 
@@ -476,9 +494,15 @@ impl<D: Disk> RunState<D> {
     }
 
     /// The kernel of a task begins that its worker has claimed. Appends to the frame shares of the operands whose old value
-    /// is read, in order; of the cells that it writes, the run keeps no tile. After an `Err` the run is as before. Linear in
-    /// the operands, and in the nodes for each written one.
-    pub fn run(&mut self, t: Task, w: Worker, mut frame: Frame) -> Result<Frame, OutOfMemory>
+    /// is read, in order; of the cells that it writes, the run keeps no tile: those that it had are spent. After an `Err` the run
+    /// is as before. Linear in the operands, and in the nodes for each written one.
+    pub fn run(
+        &mut self,
+        t: Task,
+        w: Worker,
+        mut frame: Frame,
+        spent: &mut Spent,
+    ) -> Result<Frame, OutOfMemory>
         requires can { CanHappen self.old (Event.Run t w) }
         requires empty { frame.slots ≡ [] }
         requires room { length (read_among (task_of self.old.program t).accesses) ≤ frame.spare }
@@ -497,6 +521,7 @@ impl<D: Disk> RunState<D> {
             written.items(),
             n,
             self.machine.nodes.len(),
+            spent,
         );
         self.tasks[t.0 as usize] = Progress::Running(w);
         self.trace.add(Event::Run(t, w));

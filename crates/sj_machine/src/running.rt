@@ -14,6 +14,7 @@ ghost use Rattle.sj_node.specs.Store.{Store, with_entries};
 use crate::choosing::mark_at;
 use crate::copies::Copies;
 use crate::operands::{reads_value, worked_on};
+use crate::spent::Spent;
 use sj_base::ids::{Cell, Node, Task, Worker};
 use sj_base::memory::OutOfMemory;
 use sj_base::mode::Access;
@@ -73,7 +74,7 @@ fn share_one(
 }
 
 /// A cell becomes a node's own, and its tiles leave. Linear in the nodes.
-fn lend(cells: &mut Vec<Copies>, cell: Cell, n: Node, nodes: usize)
+fn lend(cells: &mut Vec<Copies>, cell: Cell, n: Node, nodes: usize, spent: &mut Spent)
     requires cell { cell.0 < length cells.old.items }
     requires wide { All (IsWide nodes) cells.old.items }
     requires node { n.0 < nodes }
@@ -82,18 +83,24 @@ fn lend(cells: &mut Vec<Copies>, cell: Cell, n: Node, nodes: usize)
 {
     let _ = nodes;
     let row = &mut cells[cell.0 as usize];
-    row.lend(n);
+    row.lend(n, spent);
 }
 
 /// These cells become a node's own, and their tiles leave. Linear in them, and in the nodes for each.
-pub fn lend_each(cells: &mut Vec<Copies>, written: &[Cell], n: Node, nodes: usize)
+pub fn lend_each(
+    cells: &mut Vec<Copies>,
+    written: &[Cell],
+    n: Node,
+    nodes: usize,
+    spent: &mut Spent,
+)
     requires cells { All (λ c. c.0 < length cells.old.items) written.now }
     requires wide { All (IsWide nodes) cells.old.items }
     requires node { n.0 < nodes }
     ensures { cells.new.items ≡ lend_each n written.now cells.old.items }
 {
     for cell in written {
-        lend(cells, *cell, n, nodes);
+        lend(cells, *cell, n, nodes, spent);
     }
 }
 

@@ -18,15 +18,15 @@ pub run-requires-clause-can : goal.run-requires-clause-can
 run-requires-clause-can g c = run-can g.D.Disk.size g.D.Disk.faults g.D.Disk.mismatches g.D.Disk.held c.args.w c.args.self.now c.deref.result.now c.deref_mut.result.now c.deref_mut.result.now c.args.t (c.deref.ensures ∙ c.self.view_is) (c.deref_mut.ensures.value ∙ c.self.view_is) c.is_sound.ensures c.requires.worker c.requires.claimed c.requires.can
 
 pub run-requires-clause-room : goal.run-requires-clause-room
-run-requires-clause-room g c = room-for c.deref_mut.result.now.run.program c.program.result.now c.args.t c.task_at.result.now c.in-Ok.frame c.len-operands.result (c.program.ensures ∙ ap (λ (k : BoardState g.row.D.Denot). k.run.program) (c.deref-2.ensures ∙ sym c.deref_mut.ensures.value)) c.task_at.ensures c.len-operands.ensures c.in-Ok.ensures
+run-requires-clause-room g c = room-for c.deref_mut.result.now.run.program c.program.result.now c.args.t c.task_at.result.now c.in-Ok.frame c.len-operands.result (c.program.ensures ∙ ap (λ (k : BoardState g.row.D.Denot). k.run.program) (c.deref-2.ensures ∙ sym c.deref_mut.ensures.value)) c.task_at.ensures c.len-operands.ensures c.in-Ok.ensures.room
 
-pub returns-in-Ok-run-clause-turn : goal.returns-in-Ok-run-clause-turn
-returns-in-Ok-run-clause-turn g c = begun-turn g.D.Disk.size g.D.Disk.faults g.D.Disk.mismatches g.D.Disk.held c.args.w c.args.self.now c.deref.result.now c.deref_mut.result.now c.run.new.self c.args.t (c.deref.ensures ∙ c.self.view_is) (c.deref_mut.ensures.value ∙ c.self.view_is) c.is_sound.ensures c.requires.worker c.requires.claimed c.requires.can c.in-Ok-run.ensures.ok c.in-Ok-run.ensures.spares
+pub returns-clause-turn : goal.returns-clause-turn
+returns-clause-turn g c = begun-turn g.D.Disk.size g.D.Disk.faults g.D.Disk.mismatches g.D.Disk.held c.args.w c.args.self.now c.deref.result.now c.deref_mut.result.now c.run.new.self c.args.t (c.deref.ensures ∙ c.self.view_is) (c.deref_mut.ensures.value ∙ c.self.view_is) c.is_sound.ensures c.requires.worker c.requires.claimed c.requires.can c.in-Ok-run.ensures.ok c.in-Ok-run.ensures.spares
 
-pub returns-in-Ok-run-clause-row : goal.returns-in-Ok-run-clause-row
-returns-in-Ok-run-clause-row g c =
+pub returns-clause-row : goal.returns-clause-row
+returns-clause-row g c =
     let program : c.program.result.now ≡ c.run.new.self.run.program = c.program.ensures ∙ ap (λ (k : BoardState g.row.D.Denot). k.run.program) (c.deref-2.ensures ∙ sym c.deref_mut.ensures.value) ∙ sym (ap (λ (k : BoardState g.row.D.Denot). k.run.program) c.in-Ok-run.ensures.ok) in
-    (begun-row g.D.Disk.size g.D.Disk.faults g.D.Disk.mismatches g.D.Disk.held c.args.w c.args.self.now c.deref.result.now c.deref_mut.result.now c.run.new.self c.args.t (c.deref.ensures ∙ c.self.view_is) (c.deref_mut.ensures.value ∙ c.self.view_is) c.is_sound.ensures c.requires.worker c.requires.claimed c.requires.can c.in-Ok-run.ensures.ok, begun-lent g.D.Disk.size g.D.Disk.faults g.D.Disk.mismatches g.D.Disk.held c.args.w c.args.self.now c.deref.result.now c.deref_mut.result.now c.run.new.self c.args.t (c.deref.ensures ∙ c.self.view_is) (c.deref_mut.ensures.value ∙ c.self.view_is) c.is_sound.ensures c.requires.worker c.requires.claimed c.requires.can c.in-Ok-run.ensures.ok c.in-Ok-run.frame.slots c.in-Ok-run.ensures.shares, room-left c.run.new.self.run.program c.program.result.now c.args.t c.task_at.result.now c.in-Ok.frame c.in-Ok-run.frame c.len-operands.result program c.task_at.ensures c.len-operands.ensures c.in-Ok.ensures c.in-Ok-run.ensures.room)
+    (begun-row g.D.Disk.size g.D.Disk.faults g.D.Disk.mismatches g.D.Disk.held c.args.w c.args.self.now c.deref.result.now c.deref_mut.result.now c.run.new.self c.args.t (c.deref.ensures ∙ c.self.view_is) (c.deref_mut.ensures.value ∙ c.self.view_is) c.is_sound.ensures c.requires.worker c.requires.claimed c.requires.can c.in-Ok-run.ensures.ok, begun-lent g.D.Disk.size g.D.Disk.faults g.D.Disk.mismatches g.D.Disk.held c.args.w c.args.self.now c.deref.result.now c.deref_mut.result.now c.run.new.self c.args.t (c.deref.ensures ∙ c.self.view_is) (c.deref_mut.ensures.value ∙ c.self.view_is) c.is_sound.ensures c.requires.worker c.requires.claimed c.requires.can c.in-Ok-run.ensures.ok c.in-Ok-run.frame.slots c.in-Ok-run.ensures.shares, room-left c.run.new.self.run.program c.program.result.now c.args.t c.task_at.result.now c.in-Ok.frame c.in-Ok-run.frame c.len-operands.result program c.task_at.ensures c.len-operands.ensures c.in-Ok.ensures.room c.in-Ok-run.ensures.room)
 
-pub returns-in-Ok-run-clause-event : goal.returns-in-Ok-run-clause-event
-returns-in-Ok-run-clause-event g c = happened c.args.self.now c.deref_mut.result.now c.run.new.self (c.deref_mut.ensures.value ∙ c.self.view_is) (λ k. Run c.args.t c.args.w) (ap (λ (k : BoardState g.row.D.Denot). k.run) c.in-Ok-run.ensures.ok)
+pub returns-clause-event : goal.returns-clause-event
+returns-clause-event g c = happened c.args.self.now c.deref_mut.result.now c.run.new.self (c.deref_mut.ensures.value ∙ c.self.view_is) (λ k. Run c.args.t c.args.w) (ap (λ (k : BoardState g.row.D.Denot). k.run) c.in-Ok-run.ensures.ok)

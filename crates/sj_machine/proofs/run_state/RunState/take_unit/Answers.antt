@@ -1,5 +1,6 @@
 use Rattle.std.proofs.Common.{subst}
-use Rattle.sj_disk.proofs.Lent.{is-given, said-of}
+use Rattle.sj_base.proofs.Options.{IfSome-at}
+use Rattle.sj_disk.proofs.Lent.{is-given}
 use Rattle.sj_disk.specs.Lending.{TakesOut}
 use Rattle.sj_machine.specs.Standing.{Standing}
 use Rattle.sj_machine.specs.Units.{TakesUnit}
@@ -14,10 +15,10 @@ pub unwrap-requires : goal.unwrap-requires
 unwrap-requires g c = is-given c.self.inside.disks c.take_out.new.self c.transfer_of-x.result.cell.0 c.take_out.result (found-in _ _ _ _ _ _ _ c.self.invariant c.args.w _ c.self.view_is _ c.deref.ensures.value c.transfer_of-x.result c.transfer_of-x.ensures c.requires.disk_in) c.take_out.ensures.none
 
 pub invariant_of-self : goal.invariant_of-self
-invariant_of-self g c = take-keeps _ _ _ _ _ _ _ c.self.invariant c.args.w _ c.self.view_is _ c.deref.ensures.value c.transfer_of-x.result c.transfer_of-x.ensures c.requires.moves c.unwrap.result c.take_out.new.self (said-of (λ u. TakesOut c.transfer_of-x.result.cell u c.self.inside.disks c.take_out.new.self) c.take_out.result c.unwrap.result c.unwrap.ensures c.take_out.ensures.some)
+invariant_of-self g c = take-keeps _ _ _ _ _ _ _ c.self.invariant c.args.w _ c.self.view_is _ c.deref.ensures.value c.transfer_of-x.result c.transfer_of-x.ensures c.requires.moves c.unwrap.result c.take_out.new.self (IfSome-at (λ u. TakesOut c.transfer_of-x.result.cell u c.self.inside.disks c.take_out.new.self) c.take_out.result c.unwrap.result c.unwrap.ensures c.take_out.ensures.some)
 
 pub returns-clause-takes : goal.returns-clause-takes
-returns-clause-takes g c = (take-takes _ _ _ _ _ _ _ c.self.invariant c.args.w _ c.self.view_is _ c.deref.ensures.value c.transfer_of-x.result c.transfer_of-x.ensures c.requires.moves c.unwrap.result c.take_out.new.self (said-of (λ u. TakesOut c.transfer_of-x.result.cell u c.self.inside.disks c.take_out.new.self) c.take_out.result c.unwrap.result c.unwrap.ensures c.take_out.ensures.some))
+returns-clause-takes g c = (take-takes _ _ _ _ _ _ _ c.self.invariant c.args.w _ c.self.view_is _ c.deref.ensures.value c.transfer_of-x.result c.transfer_of-x.ensures c.requires.moves c.unwrap.result c.take_out.new.self (IfSome-at (λ u. TakesOut c.transfer_of-x.result.cell u c.self.inside.disks c.take_out.new.self) c.take_out.result c.unwrap.result c.unwrap.ensures c.take_out.ensures.some))
 
 pub returns-clause-block : goal.returns-clause-block
-returns-clause-block g c = take-block _ _ _ _ _ _ _ c.self.invariant c.args.w _ c.self.view_is _ c.deref.ensures.value c.transfer_of-x.result c.transfer_of-x.ensures c.requires.moves c.unwrap.result c.take_out.new.self (said-of (λ u. TakesOut c.transfer_of-x.result.cell u c.self.inside.disks c.take_out.new.self) c.take_out.result c.unwrap.result c.unwrap.ensures c.take_out.ensures.some)
+returns-clause-block g c = take-block _ _ _ _ _ _ _ c.self.invariant c.args.w _ c.self.view_is _ c.deref.ensures.value c.transfer_of-x.result c.transfer_of-x.ensures c.requires.moves c.unwrap.result c.take_out.new.self (IfSome-at (λ u. TakesOut c.transfer_of-x.result.cell u c.self.inside.disks c.take_out.new.self) c.take_out.result c.unwrap.result c.unwrap.ensures c.take_out.ensures.some)

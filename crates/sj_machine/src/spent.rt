@@ -1,0 +1,45 @@
+//! Tiles that went out of the board in a turn, and are freed after it.
+
+use sj_base::tile::Tile;
+use std::alloc::Global;
+use std::sync::Arc;
+
+/// How many tiles are kept until they are freed.
+const MOST: usize = 16;
+
+/// Shares of tiles that the board let go. No clause speaks of them: they are kept so that no large tile is freed in a turn.
+#[derive(Drop)]
+pub struct Spent {
+    tiles: Vec<Arc<Tile>>,
+}
+
+impl Spent {
+    /// No share, and no room: each is freed as it is put. Constant time, and no memory.
+    pub fn none(alloc: Global) -> Spent {
+        Spent {
+            tiles: Vec::new(alloc),
+        }
+    }
+
+    /// No share, and room for some, where there is memory.
+    pub fn roomy(alloc: Global) -> Spent {
+        match Vec::with_capacity(alloc, MOST) {
+            Ok(tiles) => Spent { tiles },
+            Err(_) => Spent::none(alloc),
+        }
+    }
+
+    /// Keeps a share until all are freed; frees it at once where there is no room. Constant time but for that, and no memory.
+    pub fn put(&mut self, tile: Option<Arc<Tile>>) {
+        if self.tiles.len() < self.tiles.capacity() {
+            if let Some(tile) = tile {
+                let _ = self.tiles.push(tile);
+            }
+        }
+    }
+
+    /// Frees what is kept; the room stays. Linear in the shares.
+    pub fn free(&mut self) {
+        self.tiles.clear();
+    }
+}
