@@ -14,8 +14,8 @@ use sj_base::ids::{Cell, Place, Task, Worker};
 use sj_base::memory::OutOfMemory;
 use sj_base::tile::Dims;
 use sj_codelet::frame::Frame;
+use sj_core::tasks::accesses_of;
 use sj_edge::disk::Disk;
-use sj_machine::needs::accesses_of;
 use sj_machine::run_state::RunState;
 use std::alloc::Global;
 
