@@ -40,11 +40,11 @@ impl<'a> Piece<'a> {
 
 /// Parts of a word, in order: what stands between the commas of a text, if there is one. Contracts see a list of lists of bytes.
 #[derive(Debug, Drop)]
-pub struct PieceList<'a> {
+pub struct Pieces<'a> {
     text: Option<&'a [u8]>,
 }
 
-impl<'a> Model for PieceList<'a> {
+impl<'a> Model for Pieces<'a> {
     ghost use Rattle.std.specs.Prelude.{List, ℕ, option_map};
     ghost use Rattle.sj_job.specs.Word.{pieces_in};
 
@@ -53,30 +53,30 @@ impl<'a> Model for PieceList<'a> {
     ghost view = { λ p. pieces_in (option_map (λ t. t.now) p.text) };
 }
 
-impl<'a> PieceList<'a> {
+impl<'a> Pieces<'a> {
     /// No piece, in constant time.
-    pub fn none() -> PieceList<'a>
+    pub fn none() -> Pieces<'a>
         ensures { result ≡ [] }
     {
-        PieceList { text: None }
+        Pieces { text: None }
     }
 
     /// What stands between the commas of a text. Constant time.
-    pub fn between_commas(text: &'a [u8]) -> PieceList<'a>
+    pub fn between_commas(text: &'a [u8]) -> Pieces<'a>
         ensures { result ≡ slice_split (λ b. b == 44) text.now }
     {
-        PieceList { text: Some(text) }
+        Pieces { text: Some(text) }
     }
 
     /// The same pieces once more. Constant time.
-    pub fn again(&self) -> PieceList<'a>
+    pub fn again(&self) -> Pieces<'a>
         ensures { result ≡ self.now }
     {
-        PieceList { text: self.text }
+        Pieces { text: self.text }
     }
 
     /// The first piece and those behind it, or `None` where there is no piece. Linear in the first.
-    pub fn split_first(&self) -> Option<(&'a [u8], PieceList<'a>)>
+    pub fn split_first(&self) -> Option<(&'a [u8], Pieces<'a>)>
         ensures { MatchOption result (self.now ≡ []) (λ cut. self.now ≡ cut.0.now ∷ cut.1) }
     {
         match self.text {
@@ -86,14 +86,14 @@ impl<'a> PieceList<'a> {
     }
 }
 
-fn first_piece(text: &[u8]) -> (&[u8], PieceList<'_>)
+fn first_piece(text: &[u8]) -> (&[u8], Pieces<'_>)
     ensures { slice_split (λ b. b == 44) text.now ≡ result.0.now ∷ result.1 }
 {
     let at = first_place(text, b',');
     if at == text.len() {
-        return (text, PieceList::none());
+        return (text, Pieces::none());
     }
-    (&text[..at], PieceList::between_commas(&text[at + 1..]))
+    (&text[..at], Pieces::between_commas(&text[at + 1..]))
 }
 
 /// The first word of a statement line.
@@ -157,7 +157,7 @@ impl<'a> Default for OperandForm<'a> {
 pub struct TaskForm<'a> {
     pub codelet: Piece<'a>,
     /// None where the codelet's name stands alone.
-    pub args: PieceList<'a>,
+    pub args: Pieces<'a>,
     pub operands: Few<OperandForm<'a>>,
     pub priority: Option<Piece<'a>>,
 }
