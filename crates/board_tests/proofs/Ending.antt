@@ -10,7 +10,7 @@ use Rattle.sj_base.specs.Array.{Array}
 use Rattle.sj_codelet.specs.Frame.{Slot, shared}
 use Rattle.sj_core.specs.Program.{dims_of, task_of, written_operands}
 use Rattle.sj_machine.specs.Board.{BoardState, has_event}
-use Rattle.sj_machine.specs.Running.{AreResultsFor, IsResultIn}
+use Rattle.sj_machine.specs.Running.{AreResultsFor, IsShare}
 use Rattle.sj_machine.specs.Standing.{AllTell}
 
 module _ {D : Type 0} (held : D → Option (List ℕ)) (b x : BoardState D) (w : Worker) (t : Task) (ran : x ≡ has_event b (Run t w)) where
@@ -20,14 +20,14 @@ module _ {D : Type 0} (held : D → Option (List ℕ)) (b x : BoardState D) (w :
   -- one array of those dimensions
   pub results-for : (dims : Dims) (a : Array) (slots : List Slot) → map (λ (k : Access). dims_of b.run.program k.cell) (its b) ≡ dims ∷ [] → slots ≡ shared a ∷ [] → a.dims ≡ dims → ¬ AllTell held b.run → AreResultsFor held x.run t w slots
   results-for dims a slots writes are is silent = record {
-    each = subst (λ (k : BoardState D). AllZip (IsResultIn k.run.program) (its k) slots) (sym ran) (subst (AllZip (IsResultIn b.run.program) (its b)) (sym are) (one (its b) writes));
+    each = subst (λ (k : BoardState D). AllZip (IsShare k.run.program) (its k) slots) (sym ran) (subst (AllZip (IsShare b.run.program) (its b)) (sym are) (one (its b) writes));
     told = λ tell. absurd (silent (subst (λ (k : BoardState D). AllTell held k.run) ran tell));
   }
     where
       head-of : (e f : Dims) (es : List Dims) → e ∷ es ≡ f ∷ [] → e ≡ f
       head-of e f es h = cc
 
-      one : (xs : List Access) → map (λ (k : Access). dims_of b.run.program k.cell) xs ≡ dims ∷ [] → AllZip (IsResultIn b.run.program) xs (shared a ∷ [])
+      one : (xs : List Access) → map (λ (k : Access). dims_of b.run.program k.cell) xs ≡ dims ∷ [] → AllZip (IsShare b.run.program) xs (shared a ∷ [])
       one [] e = absurd (let k : ◌≡◌ {A = List Dims} [] (dims ∷ []) = e in cc)
       one (k ∷ []) e = (record { shared = refl; dims = is ∙ sym (head-of (dims_of b.run.program k.cell) dims [] e) }, tt)
       one (k ∷ j ∷ xs) e = absurd (two (dims_of b.run.program k.cell) dims (dims_of b.run.program j.cell) (map (λ (i : Access). dims_of b.run.program i.cell) xs) e)

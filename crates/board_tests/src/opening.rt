@@ -1,7 +1,6 @@
 //! Boards of job texts, on which nothing has happened.
 
-ghost use Rattle.std.specs.Prelude.{◌≡◌, ◌<◌, ◌≤◌, ◌^◌, ◌∷◌, [], All, FitsSigned, IfOk, None, OnOk, length, map};
-ghost use Rattle.std.specs.Int.{w64};
+ghost use Rattle.std.specs.Prelude.{◌≡◌, ◌<◌, ◌≤◌, ◌^◌, ◌∷◌, [], IfOk, None, OnOk, length, map};
 ghost use Rattle.sj_base.specs.declared.ids.Worker.{Worker};
 ghost use Rattle.sj_base.specs.Array.{area};
 ghost use Rattle.sj_core.specs.Proper.{HasSwapFor, IsWithinLimits};
@@ -15,6 +14,7 @@ use sj_base::ids::Cell;
 use sj_base::program::{Machine, Program};
 use sj_base::sequence::Sequence;
 use sj_base::tile::Dims;
+use sj_core::tasks::arguments_fit;
 use sj_disk::disk_set::DiskSet;
 use sj_edge::disk::Disk;
 use sj_job::read::read;
@@ -53,24 +53,6 @@ fn machine_of(alloc: Global, settings: &Settings, disk: u64) -> Result<Machine, 
         disks: Sequence::of(disks),
         policy: settings.chosen_policy(),
     })
-}
-
-/// The arguments of a task are in their type.
-fn args_fit(args: &[i64])
-    ensures { All (FitsSigned w64) args.now }
-{
-    for arg in args {
-        let _value = *arg;
-    }
-}
-
-/// The same of the arguments of all tasks.
-fn arguments_fit(program: &Program)
-    ensures { All (λ l. All (FitsSigned w64) l.args) program.now.tasks }
-{
-    for task in program.tasks.items() {
-        args_fit(task.args.items());
-    }
 }
 
 /// The program of a job text, and the machine that its settings ask for, with one disk of so many bytes.

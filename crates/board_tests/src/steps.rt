@@ -4,9 +4,9 @@ ghost use Rattle.std.specs.Prelude.{◌≡◌, ◌≤◌, ◌^◌, ◌∷◌, []
 ghost use Rattle.sj_base.specs.Array.{area};
 ghost use Rattle.sj_core.specs.Program.{dims_of, task_of, written_operands};
 ghost use Rattle.sj_machine.specs.Board.{IsFree};
-ghost use Rattle.sj_machine.specs.Operands.{read_among};
 ghost use Rattle.sj_machine.specs.Standing.{AllTell};
 ghost use Rattle.board_tests.specs.Steps.{HasClaimed, IsStepOf};
+ghost use Rattle.sj_base.specs.Mode.{reads_of};
 
 use sj_base::ids::{Task, Worker};
 use sj_base::mode::Mode;
@@ -71,7 +71,7 @@ pub fn tried<D: Disk>(
 
 /// The dimensions of the cell that a task fills, where that is its only operand.
 fn filled(program: &Program, t: Task) -> Option<Dims>
-    ensures reads_none { IfSome result (λ _. read_among (task_of program.now t).accesses ≡ []) }
+    ensures reads_none { IfSome result (λ _. reads_of (task_of program.now t).accesses ≡ []) }
     ensures writes_one { IfSome result (λ dims.
         map (λ a. dims_of program.now a.cell) (written_operands (task_of program.now t))
         ≡ dims ∷ []) }

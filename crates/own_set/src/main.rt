@@ -2,8 +2,7 @@
 //! machine too small to hold all its matrices, and the arrays that the run hands over.
 #![tactic(auto)]
 
-ghost use Rattle.std.specs.Prelude.{◌≡◌, ◌↔◌, ◌≤◌, ◌^◌, ℕ, All, FitsSigned, IsOkAnd, IsTrue, IfOk, IfErr, Result, length, map};
-ghost use Rattle.std.specs.Int.{w64};
+ghost use Rattle.std.specs.Prelude.{◌≡◌, ◌↔◌, ◌≤◌, ◌^◌, ℕ, All, IsOkAnd, IsTrue, IfOk, IfErr, Result, length, map};
 ghost use Rattle.sj_edge.specs.Sizes.{AreWithin};
 ghost use Rattle.sj_engine.specs.Outcome.{AllTell};
 ghost use Rattle.sj_meaning.specs.Job.{Job};
@@ -19,7 +18,8 @@ use sj_base::sequence::Sequence;
 use sj_codelet::frame::Frame;
 use sj_codelet::kernel::Kernel;
 use sj_codelet::set::Codelets;
-use sj_edge::disk::Disk;
+use sj_core::tasks::arguments_fit;
+use sj_edge::disk::{Disk, sizes_of};
 use sj_edge::gate::OpenGate;
 use sj_edge::memory_disk::MemDisk;
 use sj_engine::engine::{RunOutcome, run};
@@ -89,24 +89,6 @@ fn has_codelets(program: &Program) -> bool
         Some(kernel) => Turns.knows(kernel),
         None => false,
     })
-}
-
-/// The arguments of a task are in their type. Linear in them.
-fn args_fit(args: &[i64])
-    ensures { All (FitsSigned w64) args.now }
-{
-    for arg in args {
-        let _value = *arg;
-    }
-}
-
-/// The same of the arguments of all tasks.
-fn arguments_fit(program: &Program)
-    ensures { All (λ l. All (FitsSigned w64) l.args) program.now.tasks }
-{
-    for task in program.tasks.items() {
-        args_fit(task.args.items());
-    }
 }
 
 /// Why a text isn't made ready.
@@ -212,17 +194,6 @@ fn make_ready(alloc: Global, text: &[u8], disks: Vec<u64>) -> Result<Ready, NotR
     fits(alloc, &program, &machine)?;
     let program = shared(alloc, program)?;
     Ok(Ready { program, machine })
-}
-
-/// The sizes of disks. Linear in them.
-fn sizes_of<D: Disk>(alloc: Global, disks: &[D]) -> Result<Vec<u64>, memory::OutOfMemory>
-    ensures { IfOk result (λ sizes. sizes.items ≡ map D.size disks.now) }
-{
-    let mut sizes = Vec::new(alloc);
-    for disk in disks {
-        sizes.push(disk.size())?;
-    }
-    Ok(sizes)
 }
 
 /// Why a text isn't run.

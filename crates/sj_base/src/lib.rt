@@ -7,6 +7,7 @@ pub mod ids;
 pub mod keyed;
 pub mod memory;
 pub mod mode;
+pub mod places;
 pub mod program;
 pub mod roomy;
 pub mod sequence;

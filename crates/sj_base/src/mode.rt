@@ -1,5 +1,8 @@
 //! Access modes, reductions and scheduling policies (StarPU Handbook, "Data Management" and "Scheduling").
 
+ghost use Rattle.std.specs.Prelude.{◌≡◌};
+ghost use Rattle.sj_base.specs.Mode.{is_written, reads_value};
+
 use crate::ids::Cell;
 
 /// How a task accesses an operand.
@@ -17,6 +20,28 @@ pub enum Mode {
     Redux,
     /// As `RW`, in any order with other such accesses by one codelet, one at a time.
     Commute,
+}
+
+impl Mode {
+    /// Whether the operand gets a new value. Constant time.
+    pub fn is_written(self) -> bool
+        ensures { result ≡ is_written self }
+    {
+        match self {
+            Mode::R | Mode::Scratch => false,
+            Mode::W | Mode::RW | Mode::Redux | Mode::Commute => true,
+        }
+    }
+
+    /// Whether the operand's old value is read. Constant time.
+    pub fn reads_value(self) -> bool
+        ensures { result ≡ reads_value self }
+    {
+        match self {
+            Mode::W | Mode::Scratch => false,
+            Mode::R | Mode::RW | Mode::Redux | Mode::Commute => true,
+        }
+    }
 }
 
 /// What a reduction combines by.

@@ -5,7 +5,7 @@ use Rattle.std.specs.List.{AllZip}
 use Rattle.std.proofs.lemmas.List.{append-nil, take_more}
 use Rattle.std.proofs.lemmas.List.Elements.{All-get_or, filter-append}
 use Rattle.std.proofs.lemmas.List.Sums.{count_by-le-length, length-filter}
-use Rattle.sj_base.specs.Mode.{is_written, reads_value, writes_of}
+use Rattle.sj_base.specs.Mode.{is_written, reads_value, writes_of, reads_of}
 use Rattle.sj_base.specs.declared.mode.Access.{Access}
 use Rattle.sj_base.specs.declared.program.CellInfo.{CellInfo}
 use Rattle.sj_base.specs.declared.program.Lowered.{Lowered}
@@ -16,15 +16,14 @@ use Rattle.sj_core.specs.Program.{no_task}
 use Rattle.sj_core.specs.Proper.{Proper}
 use Rattle.sj_disk.specs.Directory.{extent_of}
 use Rattle.sj_disk.specs.declared.directory.Extent.{Extent}
-use Rattle.sj_machine.specs.Operands.{read_among}
 use Rattle.sj_machine.specs.Placing.{ArePlaced}
-use Rattle.sj_machine.specs.Running.{IsResultIn}
+use Rattle.sj_machine.specs.Running.{IsShare}
 use Rattle.sj_machine.specs.Sound.{IsBlock}
 use Rattle.sj_check.specs.Results.{AddsResult, AddsShare}
 
 -- there is a result for each written operand of the first i, and room for one of each that comes
 pub record IsFilling (p : Program) (accesses : List Access) (i : ℕ) (f : Frame) : Type 0 where
-  pub each : AllZip (IsResultIn p) (filter (λ a. is_written a.mode) (take i accesses)) f.slots
+  pub each : AllZip (IsShare p) (filter (λ a. is_written a.mode) (take i accesses)) f.slots
   pub room : length accesses ≤ f.spare + i
 
 AllZip-push : {X Y : Type 0} (R : X → Y → Type 0) (xs : List X) (ys : List Y) (x : X) (y : Y) → AllZip R xs ys → R x y → AllZip R (xs ++ x ∷ []) (ys ++ y ∷ [])
@@ -50,13 +49,13 @@ module _ (p : Program) (accesses : List Access) (i : ℕ) (f : Frame) (filling :
       where
         by_mode : (x : Bool) → is_written a.mode ≡ x → MatchBool x (AddsShare p a f g) (g ≡ f) → IsFilling p accesses (i + 1) g
         by_mode true e one = record {
-          each = subst (λ (xs : List Access). AllZip (IsResultIn p) xs g.slots) (sym (written-more true e))
-              (subst (λ (slots : List Slot). AllZip (IsResultIn p) (writes_of (take i accesses) ++ a ∷ []) slots) (sym one.slots)
-              (AllZip-push (IsResultIn p) (writes_of (take i accesses)) f.slots a (shared one.array) filling.each (record { shared = refl; dims = one.dims })));
+          each = subst (λ (xs : List Access). AllZip (IsShare p) xs g.slots) (sym (written-more true e))
+              (subst (λ (slots : List Slot). AllZip (IsShare p) (writes_of (take i accesses) ++ a ∷ []) slots) (sym one.slots)
+              (AllZip-push (IsShare p) (writes_of (take i accesses)) f.slots a (shared one.array) filling.each (record { shared = refl; dims = one.dims })));
           room = omega (arith, filling.room, one.room);
         }
         by_mode false e same = subst (λ (h : Frame). IsFilling p accesses (i + 1) h) (sym same) (record {
-          each = subst (λ (xs : List Access). AllZip (IsResultIn p) xs f.slots) (sym (written-more false e ∙ append-nil (writes_of (take i accesses)))) filling.each;
+          each = subst (λ (xs : List Access). AllZip (IsShare p) xs f.slots) (sym (written-more false e ∙ append-nil (writes_of (take i accesses)))) filling.each;
           room = omega (arith, filling.room);
         })
 
@@ -67,7 +66,7 @@ named-inside p proper t task accesses are i first inside =
     All-get_or (λ (a : Access). a.cell.0 < length p.cells) accesses i first inside (subst (λ (xs : List Access). All (λ a. a.cell.0 < length p.cells) xs) (sym are) named)
 
 -- there are no more reads than operands
-pub few-reads : (accesses : List Access) → length (read_among accesses) ≤ length accesses
+pub few-reads : (accesses : List Access) → length (reads_of accesses) ≤ length accesses
 few-reads accesses = omega (arith, length-filter (λ (a : Access). reads_value a.mode) accesses, count_by-le-length (λ (a : Access). reads_value a.mode) accesses)
 
 -- ---- without disks

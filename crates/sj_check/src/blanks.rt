@@ -6,7 +6,7 @@ ghost use Rattle.sj_base.specs.Array.{area};
 ghost use Rattle.sj_core.specs.Program.{task_of, written_operands};
 ghost use Rattle.sj_core.specs.Proper.{Proper};
 ghost use Rattle.sj_check.specs.Results.{AddsResult};
-ghost use Rattle.sj_machine.specs.Running.{IsResultIn};
+ghost use Rattle.sj_machine.specs.Running.{IsShare};
 
 use indexmap::IndexMap;
 use sj_base::ids::Task;
@@ -15,8 +15,7 @@ use sj_base::mode::Access;
 use sj_base::program::Program;
 use sj_base::tile::{Dims, Tile};
 use sj_codelet::frame::Frame;
-use sj_machine::needs::accesses_of;
-use sj_machine::operands::is_written;
+use sj_core::tasks::accesses_of;
 use std::alloc::Global;
 use std::sync::Arc;
 
@@ -75,7 +74,7 @@ fn add_result(
     requires room { 0 < frame.old.spare }
     ensures { OnOk result (AddsResult program.now access frame.old frame.new) }
 {
-    if is_written(access.mode) {
+    if access.mode.is_written() {
         let dims = program.cells.items()[access.cell.0 as usize].dims;
         frame.push_shared(blanks.tile(alloc, dims)?);
     }
@@ -91,7 +90,7 @@ pub fn results(
 ) -> Result<Frame, OutOfMemory>
     requires proper { Proper program.now }
     requires task { t.0 < length program.now.tasks }
-    ensures { IfOk result (λ f. AllZip (IsResultIn program.now)
+    ensures { IfOk result (λ f. AllZip (IsShare program.now)
         (written_operands (task_of program.now t)) f.slots) }
 {
     let accesses = accesses_of(program, t);

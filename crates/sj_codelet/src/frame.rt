@@ -1,6 +1,6 @@
 //! The operands of one task, as a kernel works on them.
 
-ghost use Rattle.std.specs.Prelude.{◌≡◌, ◌==◌, ◌+◌, ◌<◌, ◌++◌, ◌∷◌, [], length, max, slice_index_or, IsTrue, IfOk, OnErr, OnOk};
+ghost use Rattle.std.specs.Prelude.{◌≡◌, ◌==◌, ◌+◌, ◌<◌, ◌++◌, ◌∷◌, [], length, max, slice_index_or, IsTrue, IfOk, OnErr, OnOk, All, false};
 ghost use Rattle.sj_base.specs.Array.{area};
 ghost use Rattle.sj_codelet.specs.Frame.{frame, shared, own, ends_owned};
 ghost use Rattle.sj_codelet.specs.Slot.{slot_of};
@@ -130,6 +130,19 @@ impl Frame {
         ensures room { self.new.spare ≡ self.old.spare + 1 }
     {
         self.operands.pop()
+    }
+
+    /// Takes the last operand away, a shared one. Constant time, and no memory.
+    pub fn take_shared(&mut self) -> Arc<Tile>
+        requires shared { All (λ s. s.owned ≡ false) self.old.slots }
+        requires some { 0 < length self.old.slots }
+        ensures slots { self.old.slots ≡ self.new.slots ++ shared result.value ∷ [] }
+        ensures room { self.new.spare ≡ self.old.spare + 1 }
+    {
+        match self.take_last() {
+            Operand::Shared(tile) => tile,
+            Operand::Own(_) => unreachable!(),
+        }
     }
 
     /// Takes the last operand away, one of the task's own. Constant time, and no memory.

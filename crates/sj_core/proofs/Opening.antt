@@ -14,7 +14,7 @@ use Rattle.sj_core.proofs.Reading.{idle_row, no_row, replica_in-no_row}
 use Rattle.sj_core.proofs.{Advancing.claimed-is_mine, Replicas.same_worker-refl, Sums.sum-nothing}
 
 module _ (p : Program) (m : Machine) where
-  waits : (t : Task) → progress (opening p m) t ≡ Waiting
+  pub waits : (t : Task) → progress (opening p m) t ≡ Waiting
   waits t = get_or-replicate_same (length p.tasks) t.0 Waiting
 
   idle : (w : Worker) → worker_state (opening p m) w ≡ idle_row
@@ -26,10 +26,10 @@ module _ (p : Program) (m : Machine) where
   a_row : (c : Cell) → (cell_state (opening p m) c ≡ no_replica m) ⊎ (cell_state (opening p m) c ≡ no_row)
   a_row c = search (arith, cases_lt, get_or-replicate, no_row, get_or_past, length-replicate)
 
-  nowhere : (c : Cell) (q : Place) → replica (opening p m) c q ≡ Invalid
+  pub nowhere : (c : Cell) (q : Place) → replica (opening p m) c q ≡ Invalid
   nowhere c q = search (arith, a_row, replica_in-no_row, get_or-replicate_same)
 
-  unwritten : (c : Cell) → writes (opening p m) c ≡ 0
+  pub unwritten : (c : Cell) → writes (opening p m) c ≡ 0
   unwritten c = elim (a_row c) [ inl row ↦ ap (λ (r : CellState). r.writes) row | inr row ↦ ap (λ (r : CellState). r.writes) row ]
 
   not_leaving : (w : Worker) (c : Cell) (q : Place) → is_leaving_by w (replica (opening p m) c q) ≡ true → ⊥
@@ -53,7 +53,7 @@ module _ (p : Program) (m : Machine) where
   not_pinned : (w : Worker) (c : Cell) → has_cell (pins (opening p m) w) c ≡ true → ⊥
   not_pinned w c h = false≢true (sym (ap (λ (row : WorkerState). has_cell row.pins c) (idle w)) ∙ h)
 
-  no_scratch : (w : Worker) → scratch (opening p m) w ≡ 0
+  pub no_scratch : (w : Worker) → scratch (opening p m) w ≡ 0
   no_scratch w = ap (λ (row : WorkerState). row.scratch) (idle w)
 
   nothing_used : (n : Node) → used p m (opening p m) n ≡ 0

@@ -7,13 +7,14 @@ use Rattle.sj_core.proofs.Words.{moves, progress, replica, replica_in, same_cell
 use Rattle.sj_core.proofs.Words.{with_replica_in, with_worker, worker_state, workers_of}
 use Rattle.std.proofs.lemmas.Bool.{cases_eq, cases_lt, false_from_ne_true, false≢true, not-true}
 use Rattle.std.proofs.lemmas.List.{get_or-set_other, get_or-set_same, get_or_past}
-use Rattle.std.proofs.lemmas.{Bool.Decides.Decides-eqb, List.Folds.list_any_at, List.Sums.AllPass-from_list_all}
+use Rattle.std.proofs.lemmas.{Bool.Decides.Decides-eqb, List.Sums.AllPass-from_list_all}
 use Rattle.std.specs.List.{list_all, list_any}
 pub use Rattle.sj_base.proofs.SameIds.{same_cell-is}
 pub use Rattle.sj_base.proofs.SameIds.{workers_differ}
 pub use Rattle.sj_base.proofs.Lists.{list_any-numbered}
 use Rattle.sj_core.specs.Step.{none_leaving}
 use Rattle.sj_core.proofs.Tables.{length-renewed, renewed-at}
+pub use Rattle.sj_core.specs.Machine.{idle_row}
 
 -- ---- tasks
 
@@ -28,9 +29,6 @@ pub progress-inside : (s : State) (t : Task) → progress s t ≢ Waiting → t.
 progress-inside s t h = search (arith, cases_lt, get_or_past)
 
 -- ---- workers
-
-abbrev pub idle_row : WorkerState
-idle_row = record { pins = []; scratch = 0; victims = []; transfer = None }
 
 pub worker-same : (s : State) (w : Worker) (row : WorkerState) → w.0 < length s.workers → worker_state (with_worker s w row) w ≡ row
 worker-same s w row h = get_or-set_same s.workers w.0 row idle_row h

@@ -189,7 +189,7 @@ module _ (p : Program) (proper : Proper p) (t : Task) (inside : t.0 < length p.t
 -- ---- two tasks that don't conflict may change places
 
 -- one of the list has the cell
-has-contained : (cs : List Cell) (d : Cell) → Contains cs d → has_cell cs d ≡ true
+pub has-contained : (cs : List Cell) (d : Cell) → Contains cs d → has_cell cs d ≡ true
 has-contained cs d (k, l, e) = list_any_at (λ c. same_cell c d) cs k d l (ap (λ (c : Cell). same_cell c d) e ∙ same_cell-itself d)
 
 any-has : (test : Cell → Bool) (cs : List Cell) (d : Cell) → has_cell cs d ≡ true → test d ≡ true → list_any test cs ≡ true

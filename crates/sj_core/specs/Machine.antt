@@ -68,6 +68,10 @@ writes s c = (cell_state s c).writes
 abbrev pub order : State → Node → List Cell
 order s n = slice_index_or s.orders n.0 []
 
+-- the row of a worker with nothing in hand
+abbrev pub idle_row : WorkerState
+idle_row = record { pins = []; scratch = 0; victims = []; transfer = None }
+
 abbrev pub worker_state : State → Worker → WorkerState
 worker_state s w = slice_index_or s.workers w.0 (record { pins = []; scratch = 0; victims = []; transfer = None })
 

@@ -29,7 +29,7 @@ same_number : (d e : DiskNo) → d.0 ≡ e.0 → d ≡ e
 same_number d e h = ap (λ n. let x : DiskNo = record { 0 = n } in x) h
 
 -- an extent in the place of itself
-extent-stays : (directory : List (Option Extent)) (c : ℕ) (e : Extent) → extent_of directory c ≡ Some e → slice_set directory c (Some e) ≡ directory
+pub extent-stays : (directory : List (Option Extent)) (c : ℕ) (e : Extent) → extent_of directory c ≡ Some e → slice_set directory c (Some e) ≡ directory
 extent-stays directory c e ee = ap (λ x. slice_set directory c x) (sym ee) ∙ set-get_or directory c None
 
 -- a cell that has an extent stands in the directory

@@ -1,7 +1,7 @@
 //! Where each cell's block lies, and what was last stored there.
 
 ghost use Rattle.std.specs.Prelude.{◌≡◌, ◌≢◌, ℕ, Some, IsSome, OnOk, OnErr, length, ◌≤◌};
-ghost use Rattle.sj_disk.specs.Directory.{extent_of, first_fit};
+ghost use Rattle.sj_disk.specs.Directory.{extent_of};
 
 use sj_base::ids::{Cell, DiskNo};
 use std::alloc::AllocError;
@@ -73,11 +73,4 @@ fn make_room(directory: &mut Vec<Option<Extent>>, many: usize) -> Result<(), All
         directory.resize(many, None)?;
     }
     Ok(())
-}
-
-/// The first disk that has so many bytes beside those taken. Linear in the disks.
-pub fn first_fit(sizes: &[u64], taken: &[u64], need: u64) -> Option<usize>
-    ensures { result ≡ first_fit sizes.now taken.now need }
-{
-    sizes.iter().zip(taken).position(|(size, taken)| *taken as u128 + need as u128 <= *size as u128)
 }

@@ -10,12 +10,13 @@ ghost use Rattle.sj_disk.specs.Refusals.{is_damage, is_fault, RefusesFor};
 ghost use Rattle.sj_disk.specs.Sound.{AreFilled, IsSound};
 ghost use Rattle.sj_disk.specs.Transfers.{Looks, Writes};
 
-use crate::directory::{Extent, LastStore, add_extent, extent_of, first_fit, known_extent};
+use crate::directory::{Extent, LastStore, add_extent, extent_of, known_extent};
 use crate::header::{HEADER_BYTES, Header};
 use crate::refusal::{DiskRefusal, ReserveRefusal};
 use crate::transfer::{read_block, write_block};
 use sj_base::ids::{Cell, DiskNo};
 use sj_base::memory::OutOfMemory;
+use sj_base::places::first_fit;
 use sj_base::tile::Tile;
 use sj_edge::disk::Disk;
 use sj_edge::source::Failed;
@@ -57,8 +58,8 @@ pub(crate) struct SetParts<D: Disk> {
     pub directory: Vec<Option<Extent>>,
 }
 
-/// The sizes of disks. Linear in them.
-fn sizes_of<D: Disk>(alloc: Global, disks: &[D]) -> Result<Vec<u64>, OutOfMemory>
+/// The sizes of disks, and what follows for a set of them. Linear in them.
+fn measured<D: Disk>(alloc: Global, disks: &[D]) -> Result<Vec<u64>, OutOfMemory>
     ensures sizes { IfOk result (λ s. s.items ≡ map D.size disks.now) }
     ensures bounded { IfOk result (λ s. (k : ℕ) → slice_index_or s.items k 0 < 2 ^ 64) }
     ensures filled { OnOk result (AreFilled D.size D.held disks.now) }
@@ -132,7 +133,7 @@ impl<D: Disk> DiskSet<D> {
             (replicate (length disks.items) 0) []) }
         ensures err { IfErr result (λ back. back.items ≡ disks.items) }
     {
-        let Ok(sizes) = sizes_of(alloc, &disks) else {
+        let Ok(sizes) = measured(alloc, &disks) else {
             return Err(disks);
         };
         let Ok(taken) = zeros(alloc, disks.len()) else {

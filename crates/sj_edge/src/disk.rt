@@ -1,12 +1,13 @@
 //! What evicted data is kept on.
 
-ghost use Rattle.std.specs.Prelude.{◌≡◌, ◌+◌, ◌≤◌, ◌++◌, ◌∷◌, [], ℕ, List, Option, IsErr, IsOk, IsTrue, OnOk, OnErr, is_err, length, option_map};
+ghost use Rattle.std.specs.Prelude.{◌≡◌, ◌+◌, ◌≤◌, ◌++◌, ◌∷◌, [], ℕ, List, Option, IsErr, IsOk, IsTrue, OnOk, OnErr, is_err, length, option_map, IfOk, map};
 ghost use Rattle.sj_edge.specs.Faults.{Counts, counted};
 ghost use Rattle.sj_edge.specs.Sizes.{AreWithin};
 ghost use Rattle.sj_edge.specs.Held.{Fills, GivesHeld, written, HoldsAnyIn};
 
 use crate::source::Failed;
 use sj_base::memory::OutOfMemory;
+use std::alloc::Global;
 
 /// Why a check of a disk doesn't answer that the bytes are as they should be.
 #[derive(Clone, Copy, Debug, PartialEq, Eq)]
@@ -131,4 +132,15 @@ pub fn add_disk(
 {
     disks.push(disk)?;
     Ok(())
+}
+
+/// The sizes of disks. Linear in them.
+pub fn sizes_of<D: Disk>(alloc: Global, disks: &[D]) -> Result<Vec<u64>, OutOfMemory>
+    ensures { IfOk result (λ sizes. sizes.items ≡ map D.size disks.now) }
+{
+    let mut sizes = Vec::new(alloc);
+    for disk in disks {
+        sizes.push(disk.size())?;
+    }
+    Ok(sizes)
 }

@@ -31,15 +31,16 @@ use Rattle.sj_core.proofs.TaskCells.{written-among_cells}
 use Rattle.sj_machine.specs.Board.{BoardState, HasTask, hand_of, has_event}
 use Rattle.sj_machine.specs.BoardRow.{BoardKey, arrays_for, key_of}
 use Rattle.sj_machine.specs.BoardSound.{IsSoundBoard}
-use Rattle.sj_machine.specs.Running.{AreSharesFor, IsShareIn}
+use Rattle.sj_machine.specs.Running.{AreSharesFor, IsShareIn, IsShare}
 use Rattle.sj_machine.specs.Sparing.{Spares}
 use Rattle.sj_machine.specs.Standing.{AllTell, CanHappen, state}
 use Rattle.sj_machine.specs.declared.hand.Hand.{Hand}
-use Rattle.sj_engine.specs.Operands.{IsShare, held_for, read_operands}
+use Rattle.sj_engine.specs.Operands.{held_for, read_operands}
 use Rattle.sj_engine.specs.Stage.{AreLent, HasClaimedRow, RunsRow, row_in}
 use Rattle.sj_engine.specs.Turn.{IsTurnOf}
 use Rattle.sj_engine.proofs.BoardTurns.{has_event-turn, state-after}
 use Rattle.sj_engine.proofs.OwnRows.{has-task, runs-row}
+use Rattle.sj_engine.proofs.FoundBoards.{found-sound}
 
 module _ (p : Program) (m : Machine) (s : State) (h : IsSound p m s) (t : Task) (w : Worker) (known : w.0 < p.workers) (s' : State) (run : CanRun p m s t w) (leaves : s' ≡ after_run p m s t w) where
   -- what the task reads is there as it was
@@ -72,8 +73,8 @@ zip-arrays held b w holds tell (a ∷ accesses) (s ∷ slots) h f =
 
 module _ {D : Type 0} (size faults mismatches : D → ℕ) (held : D → Option (List ℕ)) (w : Worker) (b z x y : BoardState D) (t : Task) (ez : z ≡ b) (ex : x ≡ b)
     (sound : IsSoundBoard size faults mismatches held z) (known : w.0 < b.run.program.workers) (r : HasClaimedRow w t (row_in b w)) (can : CanHappen b.run (Run t w)) where
-  here : IsSoundBoard size faults mismatches held b
-  here = subst (λ (k : BoardState D). IsSoundBoard size faults mismatches held k) ez sound
+  abbrev here : IsSoundBoard size faults mismatches held b
+  here = found-sound size faults mismatches held z b ez sound
 
   inside : t.0 < length (state b.run).tasks
   inside = progress-inside (state b.run) t (λ e. (let f : Claimed w ≡ Waiting = sym can.claimed ∙ e in cc))

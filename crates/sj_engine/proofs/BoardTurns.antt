@@ -25,8 +25,12 @@ use Rattle.sj_machine.specs.declared.fault.RunFault.{RunFault}
 use Rattle.sj_engine.specs.Stage.{HasClaimedRow, IsCarried, IsFreeRow, IsStoppedRow, MovesRow, row_in}
 use Rattle.sj_engine.specs.Turn.{Happens, IsTurnOf, NothingHappens, PutsUnitBack}
 use Rattle.sj_engine.proofs.OtherRows.{IsBy}
-use Rattle.sj_engine.proofs.OwnRows.{claimed-row, phase-of, row-transfer, some-same, transfer-of}
+use Rattle.sj_engine.proofs.OwnRows.{claimed-row, phase-of, row-transfer, transfer-of}
 use Rattle.sj_engine.proofs.Turning.{put-quiet, turn-event, turn-hand}
+use Rattle.std.proofs.lemmas.Option.{same_Some}
+use Rattle.sj_machine.proofs.Failing.{first-not_none}
+use Rattle.sj_engine.proofs.FoundBoards.{found-sound}
+use Rattle.sj_machine.proofs.Hands.{inside-hands}
 
 -- the state after one event more
 pub state-after : {D : Type 0} (b : BoardState D) (y : BoardState D) (e : Event) → y.run ≡ with_event b.run e → state y.run ≡ after b.run.program b.run.machine (state b.run) e
@@ -47,11 +51,7 @@ module _ {D : Type 0} (size faults mismatches : D → ℕ) (held : D → Option 
   failed-turn b x y fault ex q =
       let e : y ≡ failed b w fault = q ∙ ap (λ (k : BoardState D). failed k w fault) ex in
       turn-hand faults mismatches w b (record (hand_of b w) { task = None }) y (ap (λ (k : BoardState D). k.run) e) (ap (λ (k : BoardState D). k.hands) e)
-      (λ none. absurd (first-kept b.fault fault (sym (ap (λ (k : BoardState D). k.fault) e) ∙ none)))
-    where
-      first-kept : (o : Option RunFault) (f : RunFault) → first_fault o f ≡ None → ⊥
-      first-kept None f e = (let k : ◌≡◌ {A = Option RunFault} (Some f) None = e in cc)
-      first-kept (Some g) f e = (let k : ◌≡◌ {A = Option RunFault} (Some g) None = e in cc)
+      (λ none. absurd (first-not_none b.fault fault (sym (ap (λ (k : BoardState D). k.fault) e) ∙ none)))
 
   -- what fails after the worker's unit was put back
   pub failed-after : (a b x y : BoardState D) (fault : RunFault) → x ≡ b → y ≡ failed x w fault → PutsUnitBack w a b → IsTurnOf faults mismatches w a y
@@ -68,11 +68,7 @@ module _ {D : Type 0} (size faults mismatches : D → ℕ) (held : D → Option 
       }
     where
       never : y.fault ≡ first_fault b.fault fault → y.fault ≡ None → ⊥
-      never e none = kept b.fault fault (sym e ∙ none)
-        where
-          kept : (o : Option RunFault) (f : RunFault) → first_fault o f ≡ None → ⊥
-          kept None f e = (let k : ◌≡◌ {A = Option RunFault} (Some f) None = e in cc)
-          kept (Some g) f e = (let k : ◌≡◌ {A = Option RunFault} (Some g) None = e in cc)
+      never e none = first-not_none b.fault fault (sym e ∙ none)
 
   pub stopped-turn : (b x y : BoardState D) → x ≡ b → y ≡ stopped x w → IsTurnOf faults mismatches w b y
   stopped-turn b x y ex q =
@@ -85,19 +81,19 @@ module _ {D : Type 0} (size faults mismatches : D → ℕ) (held : D → Option 
 
   -- its row then
   module _ (b z x y : BoardState D) (ez : z ≡ b) (ex : x ≡ b) (sound : IsSoundBoard size faults mismatches held z) (known : w.0 < b.run.program.workers) where
-    inside-hands : w.0 < length b.hands
-    inside-hands = subst (λ n. w.0 < n) (sym ((subst (λ (k : BoardState D). IsSoundBoard size faults mismatches held k) ez sound).inside.hands_agree.every_worker)) known
+    abbrev its-hands : w.0 < length b.hands
+    its-hands = inside-hands b.run.program (state b.run) b.hands b.fault (found-sound size faults mismatches held z b ez sound).inside.hands_agree w known
 
     pub failed-row : (fault : RunFault) → y ≡ failed x w fault → (row_in b w).hand.has_stopped ≡ false → (row_in b w).hand.given ≡ None → (row_in b w).hand.unit ≡ None → IsFreeRow (row_in y w)
     failed-row fault q goes none free =
-        hand-put b y (record (hand_of b w) { task = None }) inside-hands (ap (λ (k : BoardState D). k.hands) (q ∙ ap (λ (k : BoardState D). failed k w fault) ex))
+        hand-put b y (record (hand_of b w) { task = None }) its-hands (ap (λ (k : BoardState D). k.hands) (q ∙ ap (λ (k : BoardState D). failed k w fault) ex))
         ∙ ap (λ (g : Option Task). let h : Hand = record { given = g; task = None; unit = (hand_of b w).unit; has_stopped = (hand_of b w).has_stopped } in h) none
         ∙ ap (λ (g : Option Cell). let h : Hand = record { given = None; task = None; unit = g; has_stopped = (hand_of b w).has_stopped } in h) free
         ∙ ap (λ (g : Bool). let h : Hand = record { given = None; task = None; unit = None; has_stopped = g } in h) goes
 
     pub stopped-row : y ≡ stopped x w → (row_in b w).hand.given ≡ None → (row_in b w).hand.unit ≡ None → IsStoppedRow (row_in y w)
     stopped-row q none free =
-        hand-put b y (record (hand_of b w) { task = None; has_stopped = true }) inside-hands (ap (λ (k : BoardState D). k.hands) (q ∙ ap (λ (k : BoardState D). stopped k w) ex))
+        hand-put b y (record (hand_of b w) { task = None; has_stopped = true }) its-hands (ap (λ (k : BoardState D). k.hands) (q ∙ ap (λ (k : BoardState D). stopped k w) ex))
         ∙ ap (λ (g : Option Task). let h : Hand = record { given = g; task = None; unit = (hand_of b w).unit; has_stopped = true } in h) none
         ∙ ap (λ (g : Option Cell). let h : Hand = record { given = None; task = None; unit = g; has_stopped = true } in h) free
 
@@ -105,8 +101,8 @@ module _ {D : Type 0} (size faults mismatches : D → ℕ) (held : D → Option 
 
   module _ (b z x y : BoardState D) (e : BoardState D → Event) (ez : z ≡ b) (ex : x ≡ b) (sound : IsSoundBoard size faults mismatches held z)
       (by : IsBy b.run.machine (state b.run) w (e b)) (can : CanHappen b.run (e b)) where
-    its-sound : IsSoundBoard size faults mismatches held b
-    its-sound = subst (λ (k : BoardState D). IsSoundBoard size faults mismatches held k) ez sound
+    abbrev its-sound : IsSoundBoard size faults mismatches held b
+    its-sound = found-sound size faults mismatches held z b ez sound
 
     pub event-turn : y.run ≡ with_event x.run (e x) → ((v : Worker) → v ≢ w → hand_of y v ≡ hand_of x v) → (y.fault ≡ None → x.fault ≡ None) → Spares x.run (e x) y.run → IsTurnOf faults mismatches w b y
     event-turn run hands fault spares =
@@ -135,8 +131,8 @@ module _ {D : Type 0} (size faults mismatches : D → ℕ) (held : D → Option 
     under-way : transfer s w ≡ Some tr
     under-way = transfer-of b w t (Some tr) r.hand r.transfer
 
-    here : IsSoundBoard size faults mismatches held b
-    here = subst (λ (k : BoardState D). IsSoundBoard size faults mismatches held k) ez sound
+    abbrev here : IsSoundBoard size faults mismatches held b
+    here = found-sound size faults mismatches held z b ez sound
 
     pub moving-in : is_node tr.to ≡ true → IsMovingIn x.run w
     moving-in node = subst (λ (k : BoardState D). IsMovingIn k.run w) (sym ex) (subst (λ (o : Option Transfer). IsSomeAnd o (λ k. is_node k.to ≡ true)) (sym under-way) node)
@@ -147,7 +143,7 @@ module _ {D : Type 0} (size faults mismatches : D → ℕ) (held : D → Option 
     carried-is : (a : Array) → (row_in b w).carries ≡ Some a → a ≡ array_at b.run.program s tr.from tr.cell
     carried-is a e =
         let there : transfer_of b w ≡ Some tr = sym (row-transfer b w) ∙ r.transfer in
-        some-same a (array_at b.run.program s tr.from tr.cell) (sym e ∙ ap (option_map (λ (k : Transfer). array_at b.run.program s k.from k.cell)) there)
+        same_Some a (array_at b.run.program s tr.from tr.cell) (sym e ∙ ap (option_map (λ (k : Transfer). array_at b.run.program s k.from k.cell)) there)
 
     pub tile-moved : (a : Array) → IsCarried held (key_of b) tr (row_in b w) a → IsTileMoved held x.run w a
     tile-moved a c =

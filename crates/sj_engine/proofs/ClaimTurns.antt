@@ -1,8 +1,8 @@
 -- Claims and ends as turns of a worker.
-use Rattle.std.proofs.Common.{◌≡◌, ℕ, ◌<◌, Bool, true, false, List, [], ◌∷◌, ◌++◌, map, length, refl, sym, ap, ◌∙◌, subst, Option, None, Some, arith, zero, suc, ◌||◌}
+use Rattle.std.proofs.Common.{◌≡◌, ℕ, ◌<◌, Bool, true, false, List, [], ◌∷◌, ◌++◌, map, length, refl, sym, ap, ◌∙◌, subst, Option, None, Some, arith, zero, suc}
 use Rattle.std.specs.Prelude.{option_map, not, if◌then◌else◌}
-use Rattle.std.specs.List.{AllZip, Contains}
-use Rattle.std.proofs.lemmas.Bool.{false≢true}
+use Rattle.std.specs.List.{Contains}
+use Rattle.std.proofs.lemmas.Bool.{false≢true, or_left}
 use Rattle.std.proofs.lemmas.List.{get_or-set_other}
 use Rattle.sj_base.specs.declared.ids.Cell.{Cell}
 use Rattle.sj_base.specs.declared.ids.Place.TheVariants.{Node as AtNode}
@@ -24,7 +24,7 @@ use Rattle.sj_core.specs.declared.progress.Transfer.{Transfer}
 use Rattle.sj_core.specs.Machine.{State, WorkerState, is_claimed_by, is_running_on, is_task_of, progress, transfer}
 use Rattle.sj_core.specs.Needs.{node_of}
 use Rattle.sj_core.specs.Operands.{cells_of, found, results, worked_on}
-use Rattle.sj_core.specs.Program.{data_operands, dims_of, task_of, written_operands}
+use Rattle.sj_core.specs.Program.{data_operands, dims_of, task_of}
 use Rattle.sj_core.specs.Step.{array_at}
 use Rattle.sj_core.proofs.Reading.{progress-same, worker-same}
 use Rattle.sj_core.proofs.Readiness.{Contains-filter}
@@ -38,19 +38,22 @@ use Rattle.sj_machine.proofs.Pooling.{times-put}
 use Rattle.sj_machine.specs.Filling.{entry_of}
 use Rattle.sj_machine.specs.Passing.{HasLost}
 use Rattle.sj_machine.specs.Releasing.{EndsTask}
-use Rattle.sj_machine.specs.Running.{AreResultsFor, IsResultIn}
+use Rattle.sj_machine.specs.Running.{AreResultsFor}
 use Rattle.sj_machine.specs.Sparing.{Spares}
 use Rattle.sj_machine.specs.Standing.{CanHappen, state}
 use Rattle.sj_machine.specs.declared.hand.Hand.{Hand}
-use Rattle.sj_engine.specs.Operands.{IsShare}
 use Rattle.sj_engine.specs.Stage.{AreDone, HasClaimedRow, HoldResults, IsFreeRow, RunsRow, given_hand, row_in}
 use Rattle.sj_engine.specs.Turn.{IsTurnOf, NothingHappens}
 use Rattle.sj_engine.specs.Picking.{PickMakes}
 use Rattle.sj_engine.specs.declared.picking.Picked.{Picked}
 use Rattle.sj_engine.specs.declared.picking.Picked.TheVariants.{Task as PickedTask, Nothing, Failed, Over}
 use Rattle.sj_engine.proofs.BoardTurns.{event-turn, hand-put, state-after}
-use Rattle.sj_engine.proofs.OwnRows.{claimed-row, has-task, phase-of, some-same}
+use Rattle.sj_engine.proofs.OwnRows.{claimed-row, has-task, phase-of}
 use Rattle.sj_engine.proofs.Turning.{turn-hand}
+use Rattle.sj_base.proofs.Lists.{map-agree}
+use Rattle.std.proofs.lemmas.Option.{same_Some}
+use Rattle.sj_engine.proofs.FoundBoards.{found-sound}
+use Rattle.sj_machine.proofs.Hands.{inside-hands}
 
 -- ---- what a task finds is told by its cells
 
@@ -64,10 +67,6 @@ map-at f g (y ∷ xs) e x (suc k, l, is) = map-at f g xs (cons-tail (f y) (g y) 
   where
     cons-tail : {Y : Type 0} (a b : Y) (us vs : List Y) → a ∷ us ≡ b ∷ vs → us ≡ vs
     cons-tail a b us vs e = cc
-
-map-agree : {X Y : Type 0} (f g : X → Y) (xs : List X) → ((x : X) → Contains xs x → f x ≡ g x) → map f xs ≡ map g xs
-map-agree f g [] h = refl
-map-agree f g (x ∷ xs) h = ap (λ y. y ∷ map f xs) (h x (0, omega arith, refl)) ∙ ap (λ l. g x ∷ l) (map-agree f g xs (λ z c. h z (suc c.0, omega (arith, c.1), c.2)))
 
 map-map : {X Y Z : Type 0} (f : Y → Z) (g : X → Y) (xs : List X) → map f (map g xs) ≡ map (λ x. f (g x)) xs
 map-map f g [] = refl
@@ -94,15 +93,6 @@ results-agree p t w f g e = ap (λ (ins : List Array). out (task_of p t).codelet
     one a among false h =
         ap (λ (b : Bool). if not b then zeros (dims_of p a.cell) else f (worked_on p w a)) h ∙ sym (ap (λ (b : Bool). if not b then zeros (dims_of p a.cell) else g (worked_on p w a)) h)
 
-shares-results : (p : Program) (accesses : List Access) (slots : List Slot) → AllZip (IsShare p) accesses slots → AllZip (IsResultIn p) accesses slots
-shares-results p [] [] h = tt
-shares-results p [] (s ∷ slots) h = absurd h
-shares-results p (a ∷ accesses) [] h = absurd h
-shares-results p (a ∷ accesses) (s ∷ slots) h = (record { shared = h.0.shared; dims = h.0.dims }, shares-results p accesses slots h.1)
-
-or-left : (a c : Bool) → a ≡ true → (a || c) ≡ true
-or-left a c h = ap (λ k. k || c) h
-
 module _ {D : Type 0} (size faults mismatches : D → ℕ) (held : D → Option (List ℕ)) (w : Worker) where
   -- ---- the end of a task
 
@@ -128,12 +118,12 @@ module _ {D : Type 0} (size faults mismatches : D → ℕ) (held : D → Option 
         ∙ ap (λ (c : Bool). Some (if c then m else [])) (same_worker-refl w)
 
     told-results : HoldResults b.run.program w t (row_in b w) slots → arrays slots ≡ results b.run.program t w (array_at b.run.program (state b.run) (AtNode (node_of b.run.machine w)))
-    told-results k = k.results ∙ results-agree b.run.program t w k.holds (array_at b.run.program (state b.run) (AtNode (node_of b.run.machine w))) (some-same _ _ (sym k.cells ∙ operands-are))
+    told-results k = k.results ∙ results-agree b.run.program t w k.holds (array_at b.run.program (state b.run) (AtNode (node_of b.run.machine w))) (same_Some _ _ (sym k.cells ∙ operands-are))
 
     pub end-written : AreResultsFor held x.run t w slots
     end-written =
         subst (λ (k : BoardState D). AreResultsFor held k.run t w slots) (sym ex)
-        (record { each = shares-results b.run.program (written_operands (task_of b.run.program t)) slots done.shares; told = λ tell. told-results (done.told tell) })
+        (record { each = done.shares; told = λ tell. told-results (done.told tell) })
 
     module _ (ends : EndsTask held x t w y) (spares : Spares x.run (End t w) y.run) where
       pub ended-turn : IsTurnOf faults mismatches w b y
@@ -144,7 +134,7 @@ module _ {D : Type 0} (size faults mismatches : D → ℕ) (held : D → Option 
 
       pub ended-row : IsFreeRow (row_in y w)
       ended-row =
-          let here : IsSoundBoard size faults mismatches held b = subst (λ (k : BoardState D). IsSoundBoard size faults mismatches held k) ez sound in
+          let here : IsSoundBoard size faults mismatches held b = found-sound size faults mismatches held z b ez sound in
           let inside : w.0 < length x.hands = subst (λ n. w.0 < n) (sym (ap (λ (k : BoardState D). length k.hands) ex ∙ here.inside.hands_agree.every_worker)) known in
           hand-put size faults mismatches held w x y (record (hand_of x w) { task = None }) inside (ap (λ (k : BoardState D). k.hands) ends.leaves)
           ∙ ap (λ (h : Hand). let g : Hand = record { given = h.given; task = None; unit = h.unit; has_stopped = h.has_stopped } in g) (ap (λ (k : BoardState D). hand_of k w) ex ∙ r.hand)
@@ -152,11 +142,11 @@ module _ {D : Type 0} (size faults mismatches : D → ℕ) (held : D → Option 
   -- ---- the task that a worker is given
 
   module _ (b z x y : BoardState D) (ez : z ≡ b) (ex : x ≡ b) (sound : IsSoundBoard size faults mismatches held z) (known : w.0 < b.run.program.workers) where
-    claim-sound : IsSoundBoard size faults mismatches held b
-    claim-sound = subst (λ (k : BoardState D). IsSoundBoard size faults mismatches held k) ez sound
+    abbrev claim-sound : IsSoundBoard size faults mismatches held b
+    claim-sound = found-sound size faults mismatches held z b ez sound
 
-    inside-hands : w.0 < length b.hands
-    inside-hands = subst (λ n. w.0 < n) (sym claim-sound.inside.hands_agree.every_worker) known
+    abbrev its-hands : w.0 < length b.hands
+    its-hands = inside-hands b.run.program (state b.run) b.hands b.fault claim-sound.inside.hands_agree w known
 
     module _ (o : Option Task) (q : y ≡ given_from x w o y.pool) where
       next-is : y ≡ given_from b w o y.pool
@@ -170,7 +160,7 @@ module _ {D : Type 0} (size faults mismatches : D → ℕ) (held : D → Option 
 
       pub next-hand : IsFreeRow (row_in b w) → (r : Option Task) → o ≡ r → hand_of y w ≡ record { given = r; task = None; unit = None; has_stopped = false }
       next-hand free r is =
-          hand-put size faults mismatches held w b y (record (hand_of b w) { given = o }) inside-hands (ap (λ (k : BoardState D). k.hands) next-is)
+          hand-put size faults mismatches held w b y (record (hand_of b w) { given = o }) its-hands (ap (λ (k : BoardState D). k.hands) next-is)
           ∙ ap (λ (h : Hand). let g : Hand = record { given = o; task = h.task; unit = h.unit; has_stopped = h.has_stopped } in g) free
           ∙ ap (λ (u : Option Task). let g : Hand = record { given = u; task = None; unit = None; has_stopped = false } in g) is
 
@@ -189,7 +179,7 @@ module _ {D : Type 0} (size faults mismatches : D → ℕ) (held : D → Option 
       pub back-row : y ≡ given_back x t w → IsFreeRow (row_in y w)
       back-row q =
           let e : y ≡ given_back b t w = q ∙ ap (λ (k : BoardState D). given_back k t w) ex in
-          hand-put size faults mismatches held w b y (record (hand_of b w) { given = None }) inside-hands (ap (λ (k : BoardState D). k.hands) e)
+          hand-put size faults mismatches held w b y (record (hand_of b w) { given = None }) its-hands (ap (λ (k : BoardState D). k.hands) e)
           ∙ ap (λ (h : Hand). let g : Hand = record { given = None; task = h.task; unit = h.unit; has_stopped = h.has_stopped } in g) given
 
       -- the pool has the task again
@@ -222,7 +212,7 @@ module _ {D : Type 0} (size faults mismatches : D → ℕ) (held : D → Option 
             let inside : t.0 < length s.tasks = subst (λ n. t.0 < n) (sym claim-sound.run.coherent.state.rows.tasks) can-claim.ready.task in
             let staff : w.0 < length s.workers = subst (λ n. w.0 < n) (sym (claim-sound.run.coherent.state.rows.workers ∙ claim-sound.run.run.machine.workers)) known in
             claimed-row y w t
-            (hand-put size faults mismatches held w b y (record (hand_of b w) { given = None; task = Some t }) inside-hands (ap (λ (k : BoardState D). k.hands) e)
+            (hand-put size faults mismatches held w b y (record (hand_of b w) { given = None; task = Some t }) its-hands (ap (λ (k : BoardState D). k.hands) e)
             ∙ ap (λ (h : Hand). let g : Hand = record { given = None; task = Some t; unit = h.unit; has_stopped = h.has_stopped } in g) given)
             (ap (λ (k : State). progress k t) s' ∙ progress-same s t (Claimed w) inside)
             (ap (λ (k : State). transfer k w) s' ∙ ap (λ (k : WorkerState). k.transfer) (worker-same s w _ staff) ∙ none-moves (transfer s w) refl)
@@ -231,7 +221,7 @@ module _ {D : Type 0} (size faults mismatches : D → ℕ) (held : D → Option 
             none-moves None e = e
             none-moves (Some x) e =
                 let own = claim-sound.run.coherent.workers.moves_for_claim w x e in
-                let has : is_task_of w (progress (state b.run) own.0) ≡ true = or-left (is_claimed_by w (progress (state b.run) own.0)) (is_running_on w (progress (state b.run) own.0)) own.1 in
+                let has : is_task_of w (progress (state b.run) own.0) ≡ true = or_left (is_claimed_by w (progress (state b.run) own.0)) (is_running_on w (progress (state b.run) own.0)) own.1 in
                 let two = sym (ap (λ (h : Hand). h.task) given) ∙ claim-sound.inside.hands_agree.tells no_fault w own.0 has in
                 absurd (let k : ◌≡◌ {A = Option Task} None (Some own.0) = two in cc)
 

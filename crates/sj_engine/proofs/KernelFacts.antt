@@ -1,6 +1,6 @@
 -- A task's operands are ready for its codelet, and what its kernel leaves are the task's results.
 use Rattle.std.proofs.Common.{◌≡◌, ℕ, zero, suc, ◌<◌, ◌≤◌, Bool, true, false, ◌&&◌, cond, List, [], ◌∷◌, map, length, refl, sym, ap, ◌∙◌, subst, Option, None, Some, arith, inl, inr}
-use Rattle.std.specs.Prelude.{All, IsTrue, filter, nat_eq, not, ◌^◌}
+use Rattle.std.specs.Prelude.{All, IsTrue, nat_eq, not, ◌^◌, ◌||◌}
 use Rattle.std.specs.List.{AllZip, slice_index_or}
 use Rattle.std.proofs.lemmas.Bool.{and_parts, cases_lt, false≢true}
 use Rattle.std.proofs.lemmas.Bool.Decides.{nat_tests}
@@ -18,11 +18,10 @@ use Rattle.sj_base.specs.declared.program.Lowered.{Lowered}
 use Rattle.sj_base.specs.declared.program.Program.{Program}
 use Rattle.sj_base.specs.declared.tile.Dims.{Dims}
 use Rattle.sj_base.specs.Array.{Array, area, zeros}
-use Rattle.sj_base.specs.Mode.{is_written, reads_value}
+use Rattle.sj_base.specs.Mode.{is_written, reads_value, access, reads_of, writes_of}
 use Rattle.sj_codelet.specs.declared.formal.Formal.{Formal}
 use Rattle.sj_codelet.specs.declared.formal.Formal.TheVariants.{R as ReadFormal, W as WriteFormal, RW as UpdateFormal, Scratch as ScratchFormal}
 use Rattle.sj_codelet.specs.declared.kernel.Kernel.{Kernel}
-use Rattle.sj_codelet.specs.declared.kernel.Kernel.TheVariants.{Fill, Copy, Scale, Add, Axpy, Butterfly, Gemm, GemmThree, Transpose, Dot, Sum, Lowest, MinGemm, FwDiag, FwRow, FwCol, Load, LoadFill, Paste, Deliver, InitPlus, InitLeast}
 use Rattle.sj_codelet.specs.Frame.{AllKeep, AreReady, Frame, IsReady, Keeps, Slot, all_dims, arrays, own, shared, written}
 use Rattle.sj_codelet.specs.Kernel.{arguments_fit, commutes_of, contributes_of, dims_fit, fits, fits_in, formals_of, out}
 use Rattle.sj_codelet.specs.Runs.{IsReadyFor, IsRun, formals_in}
@@ -30,11 +29,13 @@ use Rattle.sj_core.specs.Laws.{IsLawful, is_known}
 use Rattle.sj_core.specs.Operands.{found, results, worked_on}
 use Rattle.sj_core.specs.Program.{dims_of, no_cell, no_task, task_of, written_operands}
 use Rattle.sj_core.specs.Proper.{Commuting, Contributing, FirstPaste, Fits, MayHaveModes, Own, Proper, mode_of, modes_writing_by}
-use Rattle.sj_engine.specs.Operands.{AreSharesOf, IsShare, IsSmall, first_share, held_for, later_shares, operand_from, operands_from, read_operands}
-use Rattle.sj_engine.proofs.OperandLists.{reads_of}
-
-abbrev an_access : Mode → Cell → Access
-an_access x d = record { mode = x; cell = d }
+use Rattle.sj_engine.specs.Operands.{AreSharesOf, IsSmall, first_share, held_for, later_shares, operand_from, operands_from, read_operands}
+use Rattle.sj_codelet.proofs.Table.{few-formals, by_table}
+use Rattle.sj_base.proofs.Lists.{cons_same}
+use Rattle.sj_core.proofs.Sized.{task-fits}
+use Rattle.sj_machine.specs.Running.{IsShare}
+use Rattle.sj_base.proofs.Bools.{implied}
+use Rattle.sj_base.specs.declared.mode.Reduction.TheVariants.{Plus, Least}
 
 -- ---- which modes go with which formals
 
@@ -61,52 +62,11 @@ own-suit (UpdateFormal ∷ fs) = own-suit fs
 own-suit (ScratchFormal ∷ fs) = own-suit fs
 
 commuting-suit : (k : Kernel) → commutes_of k ≡ true → all_suit (formals_of k) (modes_writing_by Commute k) ≡ true
-commuting-suit Fill h = absurd (false≢true h)
-commuting-suit Copy h = absurd (false≢true h)
-commuting-suit Scale h = refl
-commuting-suit Add h = refl
-commuting-suit Axpy h = refl
-commuting-suit Butterfly h = refl
-commuting-suit Gemm h = refl
-commuting-suit GemmThree h = refl
-commuting-suit Transpose h = absurd (false≢true h)
-commuting-suit Dot h = refl
-commuting-suit Sum h = refl
-commuting-suit Lowest h = refl
-commuting-suit MinGemm h = refl
-commuting-suit FwDiag h = refl
-commuting-suit FwRow h = refl
-commuting-suit FwCol h = refl
-commuting-suit Load h = absurd (false≢true h)
-commuting-suit LoadFill h = absurd (false≢true h)
-commuting-suit Paste h = refl
-commuting-suit Deliver h = refl
-commuting-suit InitPlus h = absurd (false≢true h)
-commuting-suit InitLeast h = absurd (false≢true h)
+commuting-suit k h = implied (commutes_of k) (all_suit (formals_of k) (modes_writing_by Commute k)) (by_table (λ k. not (commutes_of k) || all_suit (formals_of k) (modes_writing_by Commute k)) refl k) h
 
 contributing-suit : (k : Kernel) (by : Reduction) → contributes_of k by ≡ true → all_suit (formals_of k) (modes_writing_by Redux k) ≡ true
-contributing-suit Fill by h = absurd (false≢true h)
-contributing-suit Copy by h = absurd (false≢true h)
-contributing-suit Scale by h = refl
-contributing-suit Add by h = refl
-contributing-suit Axpy by h = refl
-contributing-suit Butterfly by h = refl
-contributing-suit Gemm by h = refl
-contributing-suit GemmThree by h = refl
-contributing-suit Transpose by h = absurd (false≢true h)
-contributing-suit Dot by h = refl
-contributing-suit Sum by h = refl
-contributing-suit Lowest by h = refl
-contributing-suit MinGemm by h = refl
-contributing-suit FwDiag by h = refl
-contributing-suit FwRow by h = refl
-contributing-suit FwCol by h = refl
-contributing-suit Load by h = absurd (false≢true h)
-contributing-suit LoadFill by h = absurd (false≢true h)
-contributing-suit Paste by h = refl
-contributing-suit Deliver by h = refl
-contributing-suit InitPlus by h = absurd (false≢true h)
-contributing-suit InitLeast by h = absurd (false≢true h)
+contributing-suit k Plus h = implied (contributes_of k Plus) (all_suit (formals_of k) (modes_writing_by Redux k)) (by_table (λ k. not (contributes_of k Plus) || all_suit (formals_of k) (modes_writing_by Redux k)) refl k) h
+contributing-suit k Least h = implied (contributes_of k Least) (all_suit (formals_of k) (modes_writing_by Redux k)) (by_table (λ k. not (contributes_of k Least) || all_suit (formals_of k) (modes_writing_by Redux k)) refl k) h
 
 modes-suit : (k : Kernel) (ms : List Mode) → MayHaveModes k ms → all_suit (formals_of k) ms ≡ true
 modes-suit k ms (Own e) = ap (all_suit (formals_of k)) e ∙ own-suit (formals_of k)
@@ -116,7 +76,7 @@ modes-suit k ms (Contributing by may one e) = ap (all_suit (formals_of k)) e ∙
 
 -- ---- operands made of shares
 
-ready-one : (p : Program) (f : Formal) (x : Mode) (d : Cell) (y : Array) → suits f x ≡ true → (reads_value x ≡ true → IsReady f (operand_from (an_access x d) y)) × (reads_value x ≡ false → IsReady f (own (zeros (dims_of p d))))
+ready-one : (p : Program) (f : Formal) (x : Mode) (d : Cell) (y : Array) → suits f x ≡ true → (reads_value x ≡ true → IsReady f (operand_from (access x d) y)) × (reads_value x ≡ false → IsReady f (own (zeros (dims_of p d))))
 ready-one p ReadFormal R d y h = ((λ e. tt), (λ e. tt))
 ready-one p ReadFormal W d y h = absurd (false≢true h)
 ready-one p ReadFormal RW d y h = absurd (false≢true h)
@@ -239,13 +199,7 @@ written-suits-too ScratchFormal Scratch h e s t fs new k = absurd (false≢true 
 written-suits-too ScratchFormal Redux h e s t fs new k = absurd (false≢true h)
 written-suits-too ScratchFormal Commute h e s t fs new k = absurd (false≢true h)
 
-cons-same : {X : Type 0} (x y : X) (xs ys : List X) → x ∷ xs ≡ y ∷ ys → (x ≡ y) × (xs ≡ ys)
-cons-same x y xs ys e = (cc, cc)
-
-abbrev written_in : List Access → List Access
-written_in accesses = filter (λ a. is_written a.mode) accesses
-
-results-dims : (p : Program) (fs : List Formal) (accesses : List Access) (old new : List Slot) → all_suit fs (modes_in accesses) ≡ true → all_dims old ≡ map (λ a. dims_of p a.cell) accesses → AllKeep fs old new → AllZip (IsShare p) (written_in accesses) (map shared (written fs new))
+results-dims : (p : Program) (fs : List Formal) (accesses : List Access) (old new : List Slot) → all_suit fs (modes_in accesses) ≡ true → all_dims old ≡ map (λ a. dims_of p a.cell) accesses → AllKeep fs old new → AllZip (IsShare p) (writes_of accesses) (map shared (written fs new))
 results-dims p [] [] [] [] h d k = tt
 results-dims p [] [] [] (t ∷ new) h d k = absurd k
 results-dims p [] [] (s ∷ old) [] h d k = absurd k
@@ -256,18 +210,18 @@ results-dims p (f ∷ fs) (a ∷ accesses) [] [] h d k = absurd k
 results-dims p (f ∷ fs) (a ∷ accesses) [] (t ∷ new) h d k = absurd k
 results-dims p (f ∷ fs) (a ∷ accesses) (s ∷ old) [] h d k = absurd k
 results-dims p (f ∷ fs) (a ∷ accesses) (s ∷ old) (t ∷ new) h d k =
-    by_written (is_written a.mode) refl (results-dims p fs accesses old new (and_parts (suits f a.mode) (all_suit fs (modes_in accesses)) h).1 (cons-same s.array.dims (dims_of p a.cell) (all_dims old) (map (λ (b : Access). dims_of p b.cell) accesses) d).1 k.1)
+    by_written (is_written a.mode) refl (results-dims p fs accesses old new (and_parts (suits f a.mode) (all_suit fs (modes_in accesses)) h).1 (cons_same s.array.dims (dims_of p a.cell) (all_dims old) (map (λ (b : Access). dims_of p b.cell) accesses) d).1 k.1)
   where
-    by_written : (b : Bool) → is_written a.mode ≡ b → AllZip (IsShare p) (written_in accesses) (map shared (written fs new)) → AllZip (IsShare p) (written_in (a ∷ accesses)) (map shared (written (f ∷ fs) (t ∷ new)))
+    by_written : (b : Bool) → is_written a.mode ≡ b → AllZip (IsShare p) (writes_of accesses) (map shared (written fs new)) → AllZip (IsShare p) (writes_of (a ∷ accesses)) (map shared (written (f ∷ fs) (t ∷ new)))
     by_written false e rest =
-        subst (λ (l : List Array). AllZip (IsShare p) (written_in (a ∷ accesses)) (map shared l)) (sym (written-suits f a.mode (and_parts (suits f a.mode) (all_suit fs (modes_in accesses)) h).0 e s t fs new k.0))
-        (subst (λ b. AllZip (IsShare p) (cond b (a ∷ written_in accesses) (written_in accesses)) (map shared (written fs new))) (sym e) rest)
+        subst (λ (l : List Array). AllZip (IsShare p) (writes_of (a ∷ accesses)) (map shared l)) (sym (written-suits f a.mode (and_parts (suits f a.mode) (all_suit fs (modes_in accesses)) h).0 e s t fs new k.0))
+        (subst (λ b. AllZip (IsShare p) (cond b (a ∷ writes_of accesses) (writes_of accesses)) (map shared (written fs new))) (sym e) rest)
     by_written true e rest =
         let w : Writes s t f fs new = written-suits-too f a.mode (and_parts (suits f a.mode) (all_suit fs (modes_in accesses)) h).0 e s t fs new k.0 in
-        let same : s.array.dims ≡ dims_of p a.cell = (cons-same s.array.dims (dims_of p a.cell) (all_dims old) (map (λ (b : Access). dims_of p b.cell) accesses) d).0 in
+        let same : s.array.dims ≡ dims_of p a.cell = (cons_same s.array.dims (dims_of p a.cell) (all_dims old) (map (λ (b : Access). dims_of p b.cell) accesses) d).0 in
         let first : IsShare p a (shared t.array) = record { shared = refl; dims = w.dims ∙ same } in
-        subst (λ (l : List Array). AllZip (IsShare p) (written_in (a ∷ accesses)) (map shared l)) (sym w.first)
-        (subst (λ b. AllZip (IsShare p) (cond b (a ∷ written_in accesses) (written_in accesses)) (shared t.array ∷ map shared (written fs new))) (sym e) (first, rest))
+        subst (λ (l : List Array). AllZip (IsShare p) (writes_of (a ∷ accesses)) (map shared l)) (sym w.first)
+        (subst (λ b. AllZip (IsShare p) (cond b (a ∷ writes_of accesses) (writes_of accesses)) (shared t.array ∷ map shared (written fs new))) (sym e) (first, rest))
 
 kept-length : (fs : List Formal) (old new : List Slot) → AllKeep fs old new → length fs ≡ length new
 kept-length [] [] [] k = refl
@@ -285,30 +239,6 @@ shared-arrays (x ∷ xs) = ap (λ l. x ∷ l) (shared-arrays xs)
 
 same-count : (a b : Bool) (n m : ℕ) → IsTrue (nat_eq n m && a && b) → n ≡ m
 same-count a b n m h = grind (arith, nat_tests)
-
-few-formals : (k : Kernel) → length (formals_of k) ≤ 5
-few-formals Fill = omega arith
-few-formals Copy = omega arith
-few-formals Scale = omega arith
-few-formals Add = omega arith
-few-formals Axpy = omega arith
-few-formals Butterfly = omega arith
-few-formals Gemm = omega arith
-few-formals GemmThree = omega arith
-few-formals Transpose = omega arith
-few-formals Dot = omega arith
-few-formals Sum = omega arith
-few-formals Lowest = omega arith
-few-formals MinGemm = omega arith
-few-formals FwDiag = omega arith
-few-formals FwRow = omega arith
-few-formals FwCol = omega arith
-few-formals Load = omega arith
-few-formals LoadFill = omega arith
-few-formals Paste = omega arith
-few-formals Deliver = omega arith
-few-formals InitPlus = omega arith
-few-formals InitLeast = omega arith
 
 shares-shared : (p : Program) (accesses : List Access) (slots : List Slot) → AllZip (IsShare p) accesses slots → All (λ s. s.owned ≡ false) slots
 shares-shared p accesses slots h = λ k d i. at accesses slots h k d i
@@ -328,8 +258,8 @@ shares-length p (a ∷ accesses) (s ∷ slots) h = ap suc (shares-length p acces
 -- ---- a task
 
 module _ (p : Program) (proper : Proper p) (t : Task) (inside : t.0 < length p.tasks) where
-  pub the-fit : Fits p (task_of p t)
-  the-fit = All-get_or (Fits p) p.tasks t.0 no_task inside proper.codelets
+  abbrev the-fit : Fits p (task_of p t)
+  the-fit = task-fits p proper t inside
 
   the-suit : all_suit (formals_of the-fit.kernel) (modes_in (task_of p t).accesses) ≡ true
   the-suit = modes-suit the-fit.kernel (modes_in (task_of p t).accesses) the-fit.modes

@@ -3,6 +3,7 @@ mod BeginTurns
 mod BoardTurns
 mod ClaimTurns
 mod DeskTurns
+mod FoundBoards
 mod KernelFacts
 mod Looking
 mod MoveTurns

@@ -18,7 +18,6 @@ use Rattle.sj_engine.specs.Resting.{RestNotes, change_of, has_ready, is_over, lo
 use Rattle.sj_engine.specs.Stage.{HasLeft}
 use Rattle.sj_engine.specs.Stepping.{EndsByFault, HasDone, StepMakes, has_to_wait}
 use Rattle.sj_engine.specs.Turn.{Happens, NothingHappens}
-use Rattle.sj_engine.proofs.OtherRows.{or-left, or-right}
 use Rattle.sj_engine.specs.declared.noted_board.NotedBoard.{NotedBoard}
 use Rattle.sj_engine.specs.declared.picking.Picked.{Picked}
 use Rattle.sj_engine.specs.declared.picking.Picked.TheVariants.{Task as PickedTask, Nothing, Failed as PickFailed, Over}
@@ -26,6 +25,7 @@ use Rattle.sj_engine.specs.declared.sleepers.Change.{Change}
 use Rattle.sj_engine.specs.declared.sleepers.Change.TheVariants.{Begun as Begins, Claimed, Ended, Freed}
 use Rattle.sj_engine.specs.declared.stepping.Step.{Step}
 use Rattle.sj_engine.specs.declared.stepping.Step.TheVariants.{Begun, Moves, Writes, Reads, Discarded, Waits, Stopped, Failed}
+use Rattle.std.proofs.lemmas.Bool.{or_left, or_right}
 
 -- a ready task counts only after a look
 pub looked : (w : ℕ) (change : Change) (over ready : Bool) (s : RestNotes) → wakes w change over (looks change && ready) s ≡ wakes w change over ready s
@@ -55,10 +55,10 @@ rung-left s t (Some bell) e h = record { waiting = (ap (λ x. x.desk) e ∙ h.wa
 
 module _ {D : Type 0} where
   pub over-by_fault : (b : BoardState D) → IsTrue (is_some b.fault) → is_over b ≡ true
-  over-by_fault b e = or-right (list_all is_done (state b.run).tasks) (is_some b.fault) e
+  over-by_fault b e = or_right (list_all is_done (state b.run).tasks) (is_some b.fault) e
 
   pub over-is : (b : BoardState D) → IsOver b → is_over b ≡ true
-  over-is b (inl complete) = or-left (list_all is_done (state b.run).tasks) (is_some b.fault) complete
+  over-is b (inl complete) = or_left (list_all is_done (state b.run).tasks) (is_some b.fault) complete
   over-is b (inr fault) = over-by_fault b fault
 
   -- ---- what turns did

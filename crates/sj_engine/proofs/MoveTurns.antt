@@ -1,18 +1,12 @@
 -- What a store or a fetch that ended well counts.
-use Rattle.std.proofs.Common.{◌≡◌, ℕ, suc, List, [], ◌∷◌, map, length, refl, ap, ◌∙◌, subst, Some, arith}
-use Rattle.std.specs.Prelude.{Result, Ok, slice_get}
+use Rattle.std.proofs.Common.{◌≡◌, ℕ, List, ap, ◌∙◌, subst}
+use Rattle.std.specs.Prelude.{Result, Ok}
 use Rattle.sj_disk.specs.Holding.{CountsStay}
 use Rattle.sj_disk.specs.declared.refusal.DiskRefusal.{DiskRefusal}
 use Rattle.sj_edge.specs.Faults.{counted}
 use Rattle.sj_machine.specs.Board.{BoardState}
 use Rattle.sj_machine.specs.Counts.{AreCounted, differed_at, failed_at}
-
--- lists that agree place by place under a function
-map-places : {X : Type 0} (f : X → ℕ) (xs ys : List X) → length ys ≡ length xs → ((k : ℕ) (x y : X) → slice_get xs k ≡ Some x → slice_get ys k ≡ Some y → f y ≡ f x) → map f ys ≡ map f xs
-map-places f [] [] n h = refl
-map-places f [] (y ∷ ys) n h = absurd (omega arith)
-map-places f (x ∷ xs) [] n h = absurd (omega arith)
-map-places f (x ∷ xs) (y ∷ ys) n h = ap (λ k. k ∷ map f ys) (h 0 x y refl refl) ∙ ap (λ l. f x ∷ l) (map-places f xs ys (omega arith) (λ k a b e g. h (suc k) a b e g))
+use Rattle.sj_base.proofs.Lists.{map-places}
 
 -- where the call ended well, no count has changed
 pub counts-stay : {D A : Type 0} (faults mismatches : D → ℕ) (a : A) (result : Result A DiskRefusal) (old new : List D) → result ≡ Ok a → AreCounted faults mismatches result old new → CountsStay faults mismatches old new

@@ -1,19 +1,16 @@
 -- The operands of a task made of shares, the last first.
 use Rattle.std.proofs.Common.{◌≡◌, ◌+◌, Bool, true, false, cond, List, [], ◌∷◌, ◌++◌, length, refl, sym, ap, ◌∙◌, subst, arith}
-use Rattle.std.specs.Prelude.{All, MatchBool, filter}
+use Rattle.std.specs.Prelude.{All, MatchBool}
 use Rattle.std.proofs.lemmas.List.{append-nil, length_push, map-append, length-map}
 use Rattle.std.proofs.lemmas.List.Elements.{filter-append}
 use Rattle.sj_base.specs.declared.mode.Access.{Access}
 use Rattle.sj_base.specs.declared.program.Program.{Program}
 use Rattle.sj_base.specs.Array.{Array, zeros}
-use Rattle.sj_base.specs.Mode.{reads_value}
+use Rattle.sj_base.specs.Mode.{reads_value, reads_of}
 use Rattle.sj_codelet.specs.Frame.{Slot, arrays, own, shared}
 use Rattle.sj_core.specs.Program.{dims_of}
-use Rattle.sj_engine.proofs.ResultLists.{All-front}
 use Rattle.sj_engine.specs.Operands.{IsFresh, MakesOperand, TakesLast, first_share, later_shares, operand_from, operands_from}
-
-abbrev pub reads_of : List Access → List Access
-reads_of accesses = filter (λ a. reads_value a.mode) accesses
+use Rattle.sj_base.proofs.Lists.{All-front}
 
 pub reads-push : (xs : List Access) (a : Access) → reads_of (xs ++ a ∷ []) ≡ reads_of xs ++ cond (reads_value a.mode) (a ∷ []) []
 reads-push xs a = filter-append (λ (b : Access). reads_value b.mode) xs (a ∷ [])

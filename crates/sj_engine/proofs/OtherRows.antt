@@ -1,9 +1,8 @@
 -- What an event of a worker leaves as it is of another worker's row.
-use Rattle.std.proofs.Common.{◌≡◌, ◌≢◌, ◌⊎◌, ℕ, ◌<◌, Bool, set, true, false, length, refl, sym, ap, ◌∙◌, subst, Option, None, Some, arith, inl, inr, ◌||◌, ◌&&◌}
+use Rattle.std.proofs.Common.{◌≡◌, ◌≢◌, ◌<◌, Bool, true, false, refl, sym, ap, ◌∙◌, subst, Option, None, Some, ◌&&◌}
 use Rattle.std.specs.Prelude.{is_some}
-use Rattle.std.proofs.lemmas.Bool.{cases_lt, false≢true}
+use Rattle.std.proofs.lemmas.Bool.{false≢true, or_left, or_right}
 use Rattle.std.proofs.lemmas.Bool.Decides.{Decides-eqb}
-use Rattle.std.proofs.lemmas.List.{get_or-set_other, get_or-set_same, get_or_past, length-set}
 use Rattle.sj_core.proofs.Eviction.{evicted-after}
 use Rattle.sj_base.specs.declared.ids.Cell.{Cell}
 use Rattle.sj_base.specs.declared.ids.Place.{Place}
@@ -19,20 +18,23 @@ use Rattle.sj_core.specs.declared.progress.Progress.{Progress}
 use Rattle.sj_core.specs.declared.progress.Progress.TheVariants.{Waiting, Claimed, Running, Done}
 use Rattle.sj_core.specs.declared.progress.Transfer.{Transfer}
 use Rattle.sj_core.specs.Laws.{IsSound}
-use Rattle.sj_core.specs.Machine.{CellState, State, array_of, cell_state, is_running_on, is_task_of, Invalid, Replica, Valid, progress, replica, same_worker, transfer, with_replica, with_replica_in, worker_state, writes}
+use Rattle.sj_core.specs.Machine.{CellState, State, array_of, is_running_on, is_task_of, Invalid, Valid, progress, replica, same_worker, transfer, worker_state, writes}
 use Rattle.sj_core.specs.Needs.{node_of}
 use Rattle.sj_core.specs.Operands.{cells_of, written_cells}
 use Rattle.sj_core.specs.Program.{has_cell, same_cell}
 use Rattle.sj_core.specs.Step.{May, after, array_at, initial, is_read, mover_of, owned_at, reads, result_at, rewritten_at, same_place}
 use Rattle.sj_core.proofs.Claiming.{claim-writes, pinned-at}
 use Rattle.sj_core.proofs.Ending.{end-other_worker}
-use Rattle.sj_core.proofs.Placing.{cells_differ}
-use Rattle.sj_core.proofs.Reading.{cells-untouched, no_row, list_any-worker, moves-it, progress-other, transfer-inside, worker-other}
+use Rattle.sj_core.proofs.Placing.{writes-same}
+use Rattle.sj_core.proofs.Reading.{cells-untouched, list_any-worker, moves-it, progress-other, transfer-inside, worker-other}
 use Rattle.sj_core.proofs.Dependencies.{Proper-dependencies}
 use Rattle.sj_core.proofs.Replicas.{same_worker-is, same_worker-refl}
 use Rattle.sj_core.proofs.Running.{run-spares, run-unmoved, run-worker}
 use Rattle.sj_core.proofs.Separation.{separated, worker-inside}
 use Rattle.sj_machine.specs.Sparing.{SparesUsed, is_used, writes_cell}
+use Rattle.sj_base.proofs.SameIds.{same_place-itself}
+use Rattle.sj_core.proofs.Advancing.{running_on-is}
+use Rattle.sj_base.proofs.Bools.{or_false}
 
 -- ---- whose event it is
 
@@ -48,29 +50,16 @@ IsBy m s w (End t v) = v ≡ w
 -- ---- words on a worker's task
 
 claimed-is : (w v : Worker) → is_task_of v (Claimed w) ≡ true → w ≡ v
-claimed-is w v h = same_worker-is w v (or-false (same_worker w v) h)
-  where
-    or-false : (b : Bool) → (b || false) ≡ true → b ≡ true
-    or-false true h = refl
-    or-false false h = absurd (false≢true h)
+claimed-is w v h = same_worker-is w v (or_false (same_worker w v) h)
 
 running-is : (w v : Worker) → is_task_of v (Running w) ≡ true → w ≡ v
 running-is w v h = same_worker-is w v h
-
-claimed-has : (w : Worker) → is_task_of w (Claimed w) ≡ true
-claimed-has w = ap (λ b. b || false) (same_worker-refl w)
 
 running-task : (v : Worker) (x : Progress) → is_running_on v x ≡ true → is_task_of v x ≡ true
 running-task v Waiting h = absurd (false≢true h)
 running-task v (Claimed w) h = absurd (false≢true h)
 running-task v (Running w) h = h
 running-task v (Done w) h = absurd (false≢true h)
-
-running-is_it : (v : Worker) (x : Progress) → is_running_on v x ≡ true → x ≡ Running v
-running-is_it v Waiting h = absurd (false≢true h)
-running-is_it v (Claimed w) h = absurd (false≢true h)
-running-is_it v (Running w) h = ap (λ (u : Worker). Running u) (same_worker-is w v h)
-running-is_it v (Done w) h = absurd (false≢true h)
 
 -- ---- what stays of another worker
 
@@ -86,43 +75,9 @@ valid-some : (o : Option Array) → is_some o ≡ true → (a : Array) × (o ≡
 valid-some None h = absurd (false≢true h)
 valid-some (Some a) h = (a, refl)
 
-pub or-left : (a b : Bool) → a ≡ true → (a || b) ≡ true
-or-left a b h = ap (λ x. x || b) h
-
-pub or-right : (a b : Bool) → b ≡ true → (a || b) ≡ true
-or-right true b h = refl
-or-right false b h = h
-
-same_place-refl : (q : Place) → same_place q q ≡ true
-same_place-refl (AtNode n) = (Decides-eqb n.0 n.0).1 refl
-same_place-refl (OnDisk d) = (Decides-eqb d.0 d.0).1 refl
-
 not-so : (b : Bool) → (b ≡ true → ⊥) → b ≡ false
 not-so true f = absurd (f refl)
 not-so false f = refl
-
--- each row is as before, or is the cell's with the replica written
-row-put : (s : State) (c : Cell) (q : Place) (r : Replica) (d : Cell) → (cell_state (with_replica s c q r) d ≡ cell_state s d) ⊎ ((d ≡ c) × (cell_state (with_replica s c q r) d ≡ with_replica_in (cell_state s c) q r))
-row-put s c q r d =
-    let row = with_replica_in (cell_state s c) q r in
-    elim (cells_differ d c) [
-      | inr n ↦ inl (get_or-set_other s.cells c.0 d.0 row no_row (λ e. n (ap (λ (i : ℕ). let j : Cell = record { 0 = i } in j) e)))
-      | inl e ↦ elim (cases_lt c.0 (length s.cells)) [
-        | inl inside ↦ inr (e, ap (cell_state (with_replica s c q r)) e ∙ get_or-set_same s.cells c.0 row no_row inside)
-        | inr past ↦ inl (ap (cell_state (with_replica s c q r)) e ∙ get_or_past (set s.cells c.0 row) c.0 no_row (omega (arith, length-set s.cells c.0 row)) ∙ sym (get_or_past s.cells c.0 no_row past) ∙ sym (ap (cell_state s) e))
-      ]
-    ]
-
--- a replica put somewhere leaves all write counts
-writes-put : (s : State) (c : Cell) (q : Place) (r : Replica) (d : Cell) → writes (with_replica s c q r) d ≡ writes s d
-writes-put s c q r d = elim (row-put s c q r d) [
-  | inl same ↦ ap (λ (row : CellState). row.writes) same
-  | inr (e, at) ↦ ap (λ (row : CellState). row.writes) at ∙ by_place q ∙ ap (λ (k : Cell). writes s k) (sym e)
-]
-  where
-    by_place : (q : Place) → (with_replica_in (cell_state s c) q r).writes ≡ writes s c
-    by_place (AtNode n) = refl
-    by_place (OnDisk n) = refl
 
 module _ (p : Program) (m : Machine) (s : State) (h : IsSound p m s) (v : Worker) where
   reads-used : (x : Transfer) → transfer s v ≡ Some x → is_used m s x.cell x.from ≡ true
@@ -133,14 +88,14 @@ module _ (p : Program) (m : Machine) (s : State) (h : IsSound p m s) (v : Worker
 
       own : reads s v x.cell x.from ≡ true
       own = ap (λ (o : Option Transfer). elim o as (λ _. Bool) [ None ↦ false | Some move ↦ same_cell move.cell x.cell && same_place move.from x.from ]) under_way
-          ∙ ap (λ b. b && same_place x.from x.from) ((Decides-eqb x.cell.0 x.cell.0).1 refl) ∙ same_place-refl x.from
+          ∙ ap (λ b. b && same_place x.from x.from) ((Decides-eqb x.cell.0 x.cell.0).1 refl) ∙ same_place-itself x.from
 
       by_place : (q : Place) → is_read m s x.cell q ≡ true → is_used m s x.cell q ≡ true
-      by_place (AtNode n) f = or-right _ (is_read m s x.cell (AtNode n)) f
+      by_place (AtNode n) f = or_right _ (is_read m s x.cell (AtNode n)) f
       by_place (OnDisk d) f = f
 
   pins-used : (u : Task) (c : Cell) → v.0 < m.workers → is_task_of v (progress s u) ≡ true → has_cell (cells_of p u v) c ≡ true → is_used m s c (AtNode (node_of m v)) ≡ true
-  pins-used u c inside has cell = or-left _ (is_read m s c (AtNode (node_of m v))) (pinned-at m s v (node_of m v) c inside refl (h.coherent.cells.pinned u v c has cell))
+  pins-used u c inside has cell = or_left _ (is_read m s c (AtNode (node_of m v))) (pinned-at m s v (node_of m v) c inside refl (h.coherent.cells.pinned u v c has cell))
 
   -- where the event spares what is used, and writes none of it
   module _ (s' : State) (e : Event) (spares : SparesUsed p m s e s')
@@ -152,7 +107,7 @@ module _ (p : Program) (m : Machine) (s : State) (h : IsSound p m s) (v : Worker
     spared-cells : (u : Task) (c : Cell) → is_running_on v (progress s u) ≡ true → has_cell (cells_of p u v) c ≡ true → array_of (replica s' c (AtNode (node_of m v))) ≡ array_of (replica s c (AtNode (node_of m v)))
     spared-cells u c runs cell =
         let has = running-task v (progress s u) runs in
-        let at = valid-some (array_of (replica s c (AtNode (node_of m v)))) (h.coherent.cells.running u v c (running-is_it v (progress s u) runs) cell) in
+        let at = valid-some (array_of (replica s c (AtNode (node_of m v)))) (h.coherent.cells.running u v c (running_on-is v (progress s u) runs) cell) in
         spares c (AtNode (node_of m v)) at.0 (pins-used u c (task-worker u has) has cell) at.1 (unwritten-cells u c runs cell) ∙ sym at.1
 
     spared-moved : (x : Transfer) → transfer s v ≡ Some x → array_of (replica s' x.cell x.from) ≡ array_of (replica s x.cell x.from)
@@ -195,14 +150,14 @@ module _ (p : Program) (m : Machine) (s : State) (h : IsSound p m s) (v : Worker
       holds = ap (λ (z : State). worker_state z v) leaves ∙ worker-other s (mover_of s c from to) v _ (subst (λ (k : Worker). v ≢ k) (sym by) other);
       cells = spared-cells s' (Moved c from to) spares (λ u d runs cell. refl) (λ y under_way. refl);
       carried = spared-moved s' (Moved c from to) spares (λ u d runs cell. refl) (λ y under_way. refl);
-      writes = λ y under_way. ap (λ (z : State). writes z y.cell) leaves ∙ writes-put s c to (Valid (array_at p s from c)) y.cell;
+      writes = λ y under_way. ap (λ (z : State). writes z y.cell) leaves ∙ writes-same s c to (Valid (array_at p s from c)) y.cell;
     }
     Step-stays (Drop c n) s' by step leaves spares = record {
       phase = λ u has. ap (λ (z : State). progress z u) leaves;
       holds = ap (λ (z : State). worker_state z v) leaves;
       cells = spared-cells s' (Drop c n) spares (λ u d runs cell. refl) (λ y under_way. refl);
       carried = spared-moved s' (Drop c n) spares (λ u d runs cell. refl) (λ y under_way. refl);
-      writes = λ y under_way. ap (λ (z : State). writes z y.cell) leaves ∙ writes-put s c (AtNode n) Invalid y.cell;
+      writes = λ y under_way. ap (λ (z : State). writes z y.cell) leaves ∙ writes-same s c (AtNode n) Invalid y.cell;
     }
     Step-stays (Run t x) s' by step leaves spares =
         let apart : (u : Task) → is_task_of v (progress s u) ≡ true → u ≢ t = λ u has. not-mine t u (Claimed x) step.claimed (λ k. sym by ∙ claimed-is x v k) has in

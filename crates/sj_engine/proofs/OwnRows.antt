@@ -6,15 +6,12 @@ use Rattle.sj_base.specs.declared.ids.Worker.{Worker}
 use Rattle.sj_core.specs.declared.progress.Progress.{Progress}
 use Rattle.sj_core.specs.declared.progress.Progress.TheVariants.{Claimed, Running}
 use Rattle.sj_core.specs.declared.progress.Transfer.{Transfer}
-use Rattle.sj_core.specs.Machine.{is_running_on, progress, transfer, worker_state}
-use Rattle.sj_machine.specs.Agrees.{idle}
+use Rattle.sj_core.specs.Machine.{is_running_on, progress, transfer, worker_state, idle_row}
 use Rattle.sj_machine.specs.Board.{BoardState, HasTask, IsBusy, IsFree, IsWorking, RunsNone, empty_hand, hand_of, transfer_of}
 use Rattle.sj_machine.specs.Standing.{state}
 use Rattle.sj_machine.specs.declared.hand.Hand.{Hand}
 use Rattle.sj_engine.specs.Stage.{HasClaimedRow, MovesRow, RunsRow, busy_hand, row_in}
-
-pub some-same : {X : Type 0} (x y : X) → ◌≡◌ {A = Option X} (Some x) (Some y) → x ≡ y
-some-same x y e = cc
+use Rattle.std.proofs.lemmas.Option.{same_Some}
 
 module _ {D : Type 0} (b : BoardState D) (w : Worker) where
   -- ---- from the row to the board
@@ -22,15 +19,15 @@ module _ {D : Type 0} (b : BoardState D) (w : Worker) where
   pub row-transfer : (row_in b w).holds.transfer ≡ transfer_of b w
   row-transfer = by_held (is_some (hand_of b w).task)
     where
-      by_held : (held : Bool) → (if held then worker_state (state b.run) w else idle).transfer ≡ (if held then transfer (state b.run) w else None)
+      by_held : (held : Bool) → (if held then worker_state (state b.run) w else idle_row).transfer ≡ (if held then transfer (state b.run) w else None)
       by_held true = refl
       by_held false = refl
 
   pub phase-of : (t : Task) (x : Progress) → hand_of b w ≡ busy_hand t → (row_in b w).phase ≡ Some x → progress (state b.run) t ≡ x
-  phase-of t x hand phase = some-same (progress (state b.run) t) x (sym (ap (λ (h : Hand). option_map (progress (state b.run)) h.task) hand) ∙ phase)
+  phase-of t x hand phase = same_Some (progress (state b.run) t) x (sym (ap (λ (h : Hand). option_map (progress (state b.run)) h.task) hand) ∙ phase)
 
   pub transfer-of : (t : Task) (o : Option Transfer) → hand_of b w ≡ busy_hand t → (row_in b w).holds.transfer ≡ o → transfer (state b.run) w ≡ o
-  transfer-of t o hand holds = sym (ap (λ (h : Hand). (if is_some h.task then worker_state (state b.run) w else idle).transfer) hand) ∙ holds
+  transfer-of t o hand holds = sym (ap (λ (h : Hand). (if is_some h.task then worker_state (state b.run) w else idle_row).transfer) hand) ∙ holds
 
   module _ (known : w.0 < b.run.program.workers) where
     pub works-busy : (t : Task) → hand_of b w ≡ busy_hand t → IsWorking b w
@@ -57,7 +54,7 @@ module _ {D : Type 0} (b : BoardState D) (w : Worker) where
   row-phase t x hand is = ap (λ (h : Hand). option_map (progress (state b.run)) h.task) hand ∙ ap (λ (y : Progress). Some y) is
 
   row-holds : (t : Task) (o : Option Transfer) → hand_of b w ≡ busy_hand t → transfer (state b.run) w ≡ o → (row_in b w).holds.transfer ≡ o
-  row-holds t o hand is = ap (λ (h : Hand). (if is_some h.task then worker_state (state b.run) w else idle).transfer) hand ∙ is
+  row-holds t o hand is = ap (λ (h : Hand). (if is_some h.task then worker_state (state b.run) w else idle_row).transfer) hand ∙ is
 
   pub claimed-row : (t : Task) → hand_of b w ≡ busy_hand t → progress (state b.run) t ≡ Claimed w → transfer (state b.run) w ≡ None → HasClaimedRow w t (row_in b w)
   claimed-row t hand phase rests = record { hand = hand; phase = row-phase t (Claimed w) hand phase; rests = row-holds t None hand rests }

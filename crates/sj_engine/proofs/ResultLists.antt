@@ -1,8 +1,7 @@
 -- What a kernel has written, taken from the end of its frame.
-use Rattle.std.proofs.Common.{◌≡◌, ◌+◌, true, false, List, [], ◌∷◌, ◌++◌, map, length, get_or, sym, ap, ◌∙◌, subst, refl, arith}
-use Rattle.std.specs.Prelude.{All}
+use Rattle.std.proofs.Common.{◌≡◌, ◌+◌, true, false, List, [], ◌∷◌, ◌++◌, map, length, sym, ap, ◌∙◌, refl, arith}
 use Rattle.std.proofs.lemmas.Bool.{false≢true}
-use Rattle.std.proofs.lemmas.List.{get_or_append_left, length_push, map-append}
+use Rattle.std.proofs.lemmas.List.{length_push, map-append}
 use Rattle.sj_base.specs.Array.{Array}
 use Rattle.sj_codelet.specs.declared.formal.Formal.{Formal}
 use Rattle.sj_codelet.specs.declared.formal.Formal.TheVariants.{R, W, RW, Scratch}
@@ -36,11 +35,6 @@ written_input (W ∷ fs) (x ∷ slots) f s h o = ap (λ (l : List Array). x.arra
 written_input (RW ∷ fs) (x ∷ slots) f s h o = ap (λ (l : List Array). x.array ∷ l) (written_input fs slots f s (omega arith) o)
 
 -- ---- one step of taking a frame apart
-
-pub All-front : {X : Type 0} (P : X → Type 0) (xs ys : List X) (x : X) → xs ≡ ys ++ x ∷ [] → All P xs → All P ys
-All-front P xs ys x e all =
-    λ k d h. let n : length xs ≡ length ys + 1 = ap length e ∙ length_push ys x in
-    subst P (ap (λ l. get_or l k d) e ∙ get_or_append_left ys (x ∷ []) d k h) (all k d (omega arith))
 
 pub share-skips : (formals before : List Formal) (f : Formal) (slots rest : List Slot) (s : Slot) (new : List Slot) → formals ≡ before ++ f ∷ [] → slots ≡ rest ++ s ∷ [] → length formals ≡ length slots → is_output f ≡ false →
     new ≡ map shared (written before rest) → new ≡ map shared (written formals slots)

@@ -13,9 +13,10 @@ use Rattle.sj_machine.specs.Board.{BoardState, empty_hand, hand_in}
 use Rattle.sj_machine.specs.BoardRow.{BoardRow, row_of_number}
 use Rattle.sj_machine.specs.Preparing.{first_hands}
 use Rattle.sj_machine.specs.declared.hand.Hand.{Hand}
-use Rattle.sj_engine.specs.Run.{AreAt, worker_at}
+use Rattle.sj_engine.specs.Run.{AreAt}
 use Rattle.sj_engine.specs.Stage.{IsAt, IsFreeRow, IsStoppedRow, row_in}
 use Rattle.sj_engine.specs.declared.noted_board.NotedBoard.{NotedBoard}
+use Rattle.sj_base.specs.Ids.{worker}
 
 module _ {D : Type 0} (desk : DeskFacts (NotedBoard D)) where
   -- ---- as they are dealt
@@ -29,10 +30,10 @@ module _ {D : Type 0} (desk : DeskFacts (NotedBoard D)) where
   pub dealt-free : (p : Program) → desk.opening.board.hands ≡ first_hands p → (seats : List (SeatFacts (NotedBoard D))) → seats ≡ new_seats desk → AreAt desk IsFreeRow seats
   dealt-free p e seats dealt = subst (AreAt desk IsFreeRow) (sym dealt) (record {
     count = length-map-range_with_len (new_seat desk) 0 desk.seats;
-    each = λ k d inside. subst (IsAt desk (worker_at k) IsFreeRow) (sym (get_or-map-range_with_len (new_seat desk) 0 desk.seats k k d inside (let n : 0 + k ≡ k = omega arith in n))) (record {
+    each = λ k d inside. subst (IsAt desk (worker k) IsFreeRow) (sym (get_or-map-range_with_len (new_seat desk) 0 desk.seats k k d inside (let n : 0 + k ≡ k = omega arith in n))) (record {
       waiting = (refl, refl);
       number = refl;
-      row = free-hand p e (worker_at k);
+      row = free-hand p e (worker k);
     });
   })
 
@@ -47,6 +48,6 @@ module _ {D : Type 0} (desk : DeskFacts (NotedBoard D)) where
 
   -- ---- when all have stopped
 
-  pub row-stopped : (b : BoardState D) (k : ℕ) (o : Option (NotedBoard D)) → IsSomeAnd o (λ left. IsStoppedRow (row_in left.board (worker_at k))) → IsSomeAnd o (λ left. row_of_number b k ≡ row_of_number left.board k) → IsStoppedRow (row_of_number b k)
+  pub row-stopped : (b : BoardState D) (k : ℕ) (o : Option (NotedBoard D)) → IsSomeAnd o (λ left. IsStoppedRow (row_in left.board (worker k))) → IsSomeAnd o (λ left. row_of_number b k ≡ row_of_number left.board k) → IsStoppedRow (row_of_number b k)
   row-stopped b k None stopped same = absurd stopped
   row-stopped b k (Some left) stopped same = ap (λ (r : BoardRow D). r.hand) same ∙ stopped

@@ -27,6 +27,7 @@ use Rattle.sj_engine.specs.Stepping.{IsShareCarried}
 use Rattle.sj_engine.specs.Turn.{IsTurnOf}
 use Rattle.sj_engine.proofs.BoardTurns.{has_event-turn, state-after}
 use Rattle.sj_engine.proofs.OwnRows.{moves-row, phase-of, row-transfer}
+use Rattle.sj_engine.proofs.FoundBoards.{found-sound}
 
 some-and : {X : Type 0} (P Q : X → Type 0) (o : Option X) → ((x : X) → P x → Q x) → IsSomeAnd o P → IsSomeAnd o Q
 some-and P Q None f h = absurd h
@@ -35,8 +36,8 @@ some-and P Q (Some x) f h = f x h
 module _ {D : Type 0} (size faults mismatches : D → ℕ) (held : D → Option (List ℕ)) (w : Worker) (b z x y : BoardState D) (t : Task) (c : Cell) (from to : Place) (ez : z ≡ b) (ex : x ≡ b)
     (sound : IsSoundBoard size faults mismatches held z) (known : w.0 < b.run.program.workers) (r : HasClaimedRow w t (row_in b w)) (can : CanHappen b.run (Move c from to)) (mover : mover_of (state b.run) c from to ≡ w)
     (q : y ≡ has_event x (Move c from to)) where
-  here : IsSoundBoard size faults mismatches held b
-  here = subst (λ (k : BoardState D). IsSoundBoard size faults mismatches held k) ez sound
+  abbrev here : IsSoundBoard size faults mismatches held b
+  here = found-sound size faults mismatches held z b ez sound
 
   pub move-turn : Spares x.run (Move c from to) y.run → IsTurnOf faults mismatches w b y
   move-turn spares = has_event-turn size faults mismatches held w b z x y (λ k. Move c from to) ez ex sound mover can q spares

@@ -1,12 +1,9 @@
 -- A worker's turn on the board leaves the rows of all others, in one step or in several.
-use Rattle.std.proofs.Common.{◌≡◌, ◌≢◌, ℕ, suc, Bool, true, false, cond, List, [], ◌∷◌, ◌++◌, map, refl, sym, ap, ◌∙◌, subst, Option, None, Some, arith, inl, inr, ◌⊎◌}
+use Rattle.std.proofs.Common.{◌≡◌, ◌≢◌, ℕ, Bool, true, false, cond, List, [], ◌∷◌, ◌++◌, map, refl, sym, ap, ◌∙◌, subst, Option, None, Some, inl, inr, ◌⊎◌}
 use Rattle.std.specs.Prelude.{filter, is_some, nat_eq, option_and_then, option_map, slice_set, unwrap_or, if◌then◌else◌}
-use Rattle.std.specs.List.{Contains}
 use Rattle.std.proofs.lemmas.Bool.Decides.{Decides-eqb}
 use Rattle.std.proofs.lemmas.List.{append-nil, append_assoc, get_or-set_other}
 use Rattle.std.proofs.lemmas.List.Elements.{filter-append}
-use Rattle.std.proofs.lemmas.List.Folds.{list_any_at}
-use Rattle.sj_base.specs.declared.ids.Cell.{Cell}
 use Rattle.sj_base.specs.declared.ids.Place.TheVariants.{Node as AtNode}
 use Rattle.sj_base.specs.declared.ids.Task.{Task}
 use Rattle.sj_base.specs.declared.ids.Worker.{Worker}
@@ -18,16 +15,15 @@ use Rattle.sj_base.specs.Array.{Array, zeros}
 use Rattle.sj_core.specs.declared.progress.Progress.{Progress}
 use Rattle.sj_core.specs.declared.progress.Transfer.{Transfer}
 use Rattle.sj_core.specs.Laws.{IsSound}
-use Rattle.sj_core.specs.Machine.{State, WorkerState, is_running_on, is_task_of, progress, transfer, worker_state, writes}
+use Rattle.sj_core.specs.Machine.{State, WorkerState, is_running_on, is_task_of, progress, transfer, worker_state, writes, idle_row}
 use Rattle.sj_core.specs.Needs.{node_of}
 use Rattle.sj_core.specs.Operands.{cells_of}
-use Rattle.sj_core.specs.Program.{dims_of, has_cell, same_cell}
+use Rattle.sj_core.specs.Program.{dims_of}
 use Rattle.sj_core.specs.Step.{array_at}
 use Rattle.sj_core.proofs.States.{state_of-more}
 use Rattle.sj_disk.specs.Directory.{DiskState}
 use Rattle.sj_disk.specs.Holding.{CountsStay}
 use Rattle.sj_disk.specs.Units.{UnitState}
-use Rattle.sj_machine.specs.Agrees.{idle}
 use Rattle.sj_machine.specs.Board.{BoardState, empty_hand, hand_in, hand_of, has_taken}
 use Rattle.sj_machine.specs.Units.{unit_at, unit_of}
 use Rattle.sj_machine.specs.BoardRow.{BoardKey, BoardRow, is_event_of, key_of, row_of_number}
@@ -38,9 +34,9 @@ use Rattle.sj_machine.specs.declared.hand.Hand.{Hand}
 use Rattle.sj_engine.specs.Stage.{BeginsWith, row_in}
 use Rattle.sj_engine.specs.Turn.{IsSharedSound, IsTurnOf, NothingHappens, PutsUnitBack}
 use Rattle.sj_engine.proofs.OtherRows.{IsBy, StaysFor, Step-stays}
-
-abbrev a_worker : ℕ → Worker
-a_worker n = record { 0 = n }
+use Rattle.sj_base.proofs.Lists.{map-agree}
+use Rattle.sj_core.proofs.Updating.{has-contained}
+use Rattle.sj_base.specs.Ids.{worker}
 
 -- ---- rows
 
@@ -56,13 +52,6 @@ map-option : {X Y : Type 0} (f g : X → Y) (o : Option X) → ((x : X) → o �
 map-option f g None h = refl
 map-option f g (Some x) h = ap (λ y. Some y) (h x refl)
 
-map-agree : {X Y : Type 0} (f g : X → Y) (xs : List X) → ((x : X) → Contains xs x → f x ≡ g x) → map f xs ≡ map g xs
-map-agree f g [] h = refl
-map-agree f g (x ∷ xs) h = ap (λ y. y ∷ map f xs) (h x (0, omega arith, refl)) ∙ ap (λ l. g x ∷ l) (map-agree f g xs (λ z c. h z (suc c.0, omega (arith, c.1), c.2)))
-
-contains-has : (cs : List Cell) (c : Cell) → Contains cs c → has_cell cs c ≡ true
-contains-has cs c h = list_any_at (λ d. same_cell d c) cs h.0 c h.1 (ap (λ (d : Cell). same_cell d c) h.2 ∙ (Decides-eqb c.0 c.0).1 refl)
-
 -- ---- another worker's row
 
 -- a worker's row of its parts
@@ -70,7 +59,7 @@ abbrev row_of_parts : {D : Type 0} → DiskState D → Program → Machine → S
 row_of_parts disks p m s v hand trace =
     row hand (option_and_then (unit_at disks) hand.unit) (option_map (progress s) hand.task)
     (option_map (λ t. if is_running_on v (progress s t) then map (array_at p s (AtNode (node_of m v))) (cells_of p t v) else []) hand.task)
-    (if is_some hand.task then worker_state s v else idle)
+    (if is_some hand.task then worker_state s v else idle_row)
     (option_map (λ x. array_at p s x.from x.cell) (if is_some hand.task then transfer s v else None))
     (option_map (λ x. writes s x.cell) (if is_some hand.task then transfer s v else None))
     (filter (is_event_of v.0) trace)
@@ -85,7 +74,7 @@ module _ {D : Type 0} (disks : DiskState D) (p : Program) (m : Machine) (s s' : 
   same-cells u has true runs =
       ap (λ (x : Progress). if is_running_on v x then map (array_at p s' (AtNode (node_of m v))) (cells_of p u v) else []) (stays.phase u has)
       ∙ ap (λ (b : Bool). if b then map (array_at p s' (AtNode (node_of m v))) (cells_of p u v) else []) runs
-      ∙ map-agree (array_at p s' (AtNode (node_of m v))) (array_at p s (AtNode (node_of m v))) (cells_of p u v) (λ c among. ap (λ (o : Option Array). unwrap_or o (zeros (dims_of p c))) (stays.cells u c runs (contains-has (cells_of p u v) c among)))
+      ∙ map-agree (array_at p s' (AtNode (node_of m v))) (array_at p s (AtNode (node_of m v))) (cells_of p u v) (λ c among. ap (λ (o : Option Array). unwrap_or o (zeros (dims_of p c))) (stays.cells u c runs (has-contained (cells_of p u v) c among)))
       ∙ sym (ap (λ (b : Bool). if b then map (array_at p s (AtNode (node_of m v))) (cells_of p u v) else []) runs)
   same-cells u has false runs =
       ap (λ (x : Progress). if is_running_on v x then map (array_at p s' (AtNode (node_of m v))) (cells_of p u v) else []) (stays.phase u has)
@@ -108,7 +97,7 @@ module _ {D : Type 0} (disks : DiskState D) (p : Program) (m : Machine) (s s' : 
       row-same hand hand (option_and_then (unit_at disks) hand.unit) (option_and_then (unit_at disks) hand.unit) (option_map (progress s) hand.task) (option_map (progress s') hand.task) _ _ _ _ _ _ _ _ (filter (is_event_of v.0) trace) (filter (is_event_of v.0) trace') refl refl
       (map-option (progress s') (progress s) hand.task (λ u e. stays.phase u (mine u e)))
       (map-option _ _ hand.task (λ u e. same-cells u (mine u e) (is_running_on v (progress s u)) refl))
-      (ap (λ (x : WorkerState). if is_some hand.task then x else idle) stays.holds)
+      (ap (λ (x : WorkerState). if is_some hand.task then x else idle_row) stays.holds)
       (same-carried (is_some hand.task)) (same-writes (is_some hand.task)) events
 
 -- ---- events
@@ -117,7 +106,7 @@ not-eq : (x v : Worker) → (x ≡ v → ⊥) → nat_eq x.0 v.0 ≡ false
 not-eq x v f = by_cases (nat_eq x.0 v.0) refl
   where
     by_cases : (b : Bool) → nat_eq x.0 v.0 ≡ b → b ≡ false
-    by_cases true e = absurd (f (ap (λ (n : ℕ). a_worker n) ((Decides-eqb x.0 v.0).0 e)))
+    by_cases true e = absurd (f (ap (λ (n : ℕ). worker n) ((Decides-eqb x.0 v.0).0 e)))
     by_cases false e = refl
 
 by-other : (m : Machine) (s : State) (w v : Worker) (e : Event) → v ≢ w → IsBy m s w e → is_event_of v.0 e ≡ false
@@ -166,8 +155,8 @@ module _ {D : Type 0} (faults mismatches : D → ℕ) (w : Worker) where
     where
       others : (n : ℕ) → n ≢ w.0 → row_of_number b' n ≡ row_of_number b n
       others n other =
-          ap (λ (r : Standing D). row_of_parts r.disks r.program r.machine (state r) (a_worker n) (hand_in b'.hands (a_worker n)) r.trace) run
-          ∙ ap (λ (h : Hand). row_of_parts b.run.disks b.run.program b.run.machine (state b.run) (a_worker n) h b.run.trace) (ap (λ (hs : List Hand). hand_in hs (a_worker n)) hands ∙ get_or-set_other b.hands w.0 n hand empty_hand other)
+          ap (λ (r : Standing D). row_of_parts r.disks r.program r.machine (state r) (worker n) (hand_in b'.hands (worker n)) r.trace) run
+          ∙ ap (λ (h : Hand). row_of_parts b.run.disks b.run.program b.run.machine (state b.run) (worker n) h b.run.trace) (ap (λ (hs : List Hand). hand_in hs (worker n)) hands ∙ get_or-set_other b.hands w.0 n hand empty_hand other)
 
   -- the worker's unit was put back: nothing but the disks and its hand has changed
   pub record IsQuiet (a b : BoardState D) : Type 0 where
@@ -188,7 +177,7 @@ module _ {D : Type 0} (faults mismatches : D → ℕ) (w : Worker) where
     where
       others : (n : ℕ) → n ≢ w.0 → row_of_number b n ≡ row_of_number a n
       others n other =
-          let v = a_worker n in
+          let v = worker n in
           let p = a.run.program in
           let m = a.run.machine in
           let s = state a.run in
@@ -207,7 +196,7 @@ module _ {D : Type 0} (faults mismatches : D → ℕ) (w : Worker) where
     key = ap key_of same;
     others = λ n other. (
         ap (λ (x : BoardState D). row_of_number x n) same
-        ∙ ap (λ (h : Hand). row_of_parts b.run.disks b.run.program b.run.machine (state b.run) (a_worker n) h b.run.trace) (get_or-set_other b.hands w.0 n (record (hand_of b w) { unit = Some u.cell }) empty_hand other)
+        ∙ ap (λ (h : Hand). row_of_parts b.run.disks b.run.program b.run.machine (state b.run) (worker n) h b.run.trace) (get_or-set_other b.hands w.0 n (record (hand_of b w) { unit = Some u.cell }) empty_hand other)
         );
     one_event = inl (ap (λ (x : BoardState D). x.run.trace) same);
     events = ([], ap (λ (x : BoardState D). (row_in x w).events) same ∙ sym (append-nil (row_in b w).events));
@@ -255,7 +244,7 @@ module _ {D : Type 0} (faults mismatches : D → ℕ) (w : Worker) where
 
         others : (n : ℕ) → n ≢ w.0 → row_of_number b' n ≡ row_of_number b n
         others n other =
-            let v = a_worker n in
+            let v = worker n in
             let differs : v ≢ w = λ same. other (ap (λ (x : Worker). x.0) same) in
             ap (λ (r : Standing D). row_of_parts r.disks r.program r.machine (state r) v (hand_of b' v) r.trace) run
             ∙ ap (λ (h : Hand). row_of_parts b.run.disks p m s' v h (b.run.trace ++ e ∷ [])) (hands v differs)

@@ -7,12 +7,12 @@ use Rattle.sj_core.specs.Laws.{IsLawful}
 use Rattle.sj_core.specs.Proper.{Proper}
 use Rattle.sj_desk.specs.Seats.{DeskFacts, SeatFacts}
 use Rattle.sj_machine.specs.BoardRow.{BoardRow}
-use Rattle.sj_engine.specs.Run.{worker_at}
 use Rattle.sj_engine.specs.Stage.{HasClaimedRow, IsAt, IsFreeRow, IsStoppedRow}
 use Rattle.sj_engine.specs.declared.member.Member.{Member}
 use Rattle.sj_engine.specs.declared.member.Stage.{Stage}
 use Rattle.sj_engine.specs.declared.member.Stage.TheVariants.{Fresh, Idle, Blocked, Stopped}
 use Rattle.sj_engine.specs.declared.noted_board.NotedBoard.{NotedBoard}
+use Rattle.sj_base.specs.Ids.{worker}
 
 -- the row of a worker at this stage
 abbrev pub IsRowAt : {D : Type 0} → Worker → Stage → BoardRow D → Type 0
@@ -35,14 +35,14 @@ module _ {D : Type 0} where
   -- a worker of the desk: its row is that of its stage, it keeps no turn, and where it can't go on it has heard the bell
   pub record IsMember (desk : DeskFacts (NotedBoard D)) (m : Member D) : Type 0 where
     pub known : m.seat.facts.number < desk.seats
-    pub row : IsAt desk (worker_at m.seat.facts.number) (IsRowAt (worker_at m.seat.facts.number) m.stage) m.seat.facts
+    pub row : IsAt desk (worker m.seat.facts.number) (IsRowAt (worker m.seat.facts.number) m.stage) m.seat.facts
     pub outside : m.seat.keeps_turn ≡ false
     pub heard : HasHeard m.stage m.seat.facts
 
   -- a seat of the desk whose worker left such a row
   pub record IsSeatOf (desk : DeskFacts (NotedBoard D)) (P : BoardRow D → Type 0) (s : SeatFacts (NotedBoard D)) : Type 0 where
     pub known : s.number < desk.seats
-    pub row : IsAt desk (worker_at s.number) P s
+    pub row : IsAt desk (worker s.number) P s
 
   -- the program is that of the desk's board, with a seat for each of its workers
   pub record MayWork (has : Kernel → Bool) (p : Program) (desk : DeskFacts (NotedBoard D)) : Type 0 where

@@ -13,17 +13,13 @@ use Rattle.sj_codelet.specs.declared.formal.Formal.TheVariants.{W as WriteFormal
 use Rattle.sj_codelet.specs.Frame.{Frame, Slot, own, shared}
 use Rattle.sj_core.specs.Operands.{worked_on}
 use Rattle.sj_core.specs.Program.{dims_of, task_of}
+use Rattle.sj_machine.specs.Running.{IsShare}
 
 -- ---- before the kernel
 
 -- the accesses of a task whose old value is read, in order
 abbrev pub read_operands : Program → Task → List Access
 read_operands p t = filter (λ a. reads_value a.mode) (task_of p t).accesses
-
--- the operand is a share of a tile, with the dimensions of its cell
-pub record IsShare (p : Program) (a : Access) (slot : Slot) : Type 0 where
-  pub shared : slot.owned ≡ false
-  pub dims : slot.array.dims ≡ dims_of p a.cell
 
 -- shares of the operands of a task whose old value it reads, in order
 abbrev pub AreSharesOf : Program → Task → List Slot → Type 0

@@ -1,7 +1,6 @@
 -- How a run begins and what it leaves: the board as it opens, the seats of its workers, and the outcome.
 use Rattle.std.specs.Prelude.{◌≡◌, ◌<◌, ℕ, Option, None, List, Result, All, IfErr, IsOk, length, slice_index_or}
 use Rattle.sj_base.specs.declared.ids.Task.{Task}
-use Rattle.sj_base.specs.declared.ids.Worker.{Worker}
 use Rattle.sj_base.specs.declared.program.Program.{Program}
 use Rattle.sj_base.specs.declared.program.Machine.{Machine}
 use Rattle.sj_base.specs.declared.trace.Event.{Event}
@@ -19,6 +18,7 @@ use Rattle.sj_machine.specs.declared.hand.Hand.{Hand}
 use Rattle.sj_engine.specs.Outcome.{AllTell, HoldBlocks, IsCausedBy, WantsLastWritten}
 use Rattle.sj_engine.specs.Stage.{IsAt, stopped_hand}
 use Rattle.sj_engine.specs.declared.noted_board.NotedBoard.{NotedBoard}
+use Rattle.sj_base.specs.Ids.{worker}
 
 -- ---- the board
 
@@ -45,13 +45,10 @@ NoneHasUnit hands = All (λ hand. hand.unit ≡ None) hands
 
 -- ---- seats
 
-abbrev pub worker_at : ℕ → Worker
-worker_at n = record { 0 = n }
-
 -- the seats are the desk's, each at the place of its number, and each left a row of which this is true
 pub record AreAt {D : Type 0} (desk : DeskFacts (NotedBoard D)) (P : BoardRow D → Type 0) (seats : List (SeatFacts (NotedBoard D))) : Type 0 where
   pub count : length seats ≡ desk.seats
-  pub each : (k : ℕ) (d : SeatFacts (NotedBoard D)) → k < desk.seats → IsAt desk (worker_at k) P (slice_index_or seats k d)
+  pub each : (k : ℕ) (d : SeatFacts (NotedBoard D)) → k < desk.seats → IsAt desk (worker k) P (slice_index_or seats k d)
 
 -- ---- the outcome
 

@@ -19,9 +19,10 @@ use Rattle.sj_desk.specs.Seats.{DeskFacts, IsWaiting, SeatFacts}
 use Rattle.sj_machine.specs.Board.{BoardState, empty_hand}
 use Rattle.sj_machine.specs.BoardRow.{BoardKey, BoardRow, row_of_number}
 use Rattle.sj_machine.specs.declared.hand.Hand.{Hand}
-use Rattle.sj_engine.specs.Operands.{AreSharesOf, HasRoomForOperands, IsShare, held_for, read_operands}
+use Rattle.sj_engine.specs.Operands.{AreSharesOf, HasRoomForOperands, held_for, read_operands}
 use Rattle.sj_engine.specs.Outcome.{AllTell}
 use Rattle.sj_engine.specs.declared.noted_board.NotedBoard.{NotedBoard}
+use Rattle.sj_machine.specs.Running.{IsShare}
 
 -- ---- rows
 

@@ -22,9 +22,7 @@ use Rattle.sj_engine.specs.declared.stepping.Step.{Step}
 use Rattle.sj_engine.specs.declared.stepping.Step.TheVariants.{Begun, Moves, Writes, Reads, Discarded, Waits, Stopped, Failed}
 use Rattle.sj_engine.specs.Stage.{HasClaimedRow, HasOperands, HoldsRow, IsCarried, IsFreeRow, IsStoppedRow, MovesRow}
 use Rattle.sj_engine.specs.Turn.{Happens, NothingHappens}
-
-abbrev pub transfer_of : Cell → Place → Place → Transfer
-transfer_of cell from to = record { cell = cell; from = from; to = to }
+use Rattle.sj_core.specs.Step.{a_transfer}
 
 -- the transfer brings a cell of the program from a disk into a node
 pub record IsFetch (p : Program) (x : Transfer) : Type 0 where
@@ -47,9 +45,9 @@ pub record IsUnitFor {D : Type 0} (k : BoardKey D) (w : Worker) (t : Task) (x : 
 -- its kernel has begun, or a transfer, or another step is made, or it waits; or it has let its task go
 abbrev pub AfterStep : {D : Type 0} → (D → Option (List ℕ)) → BoardKey D → Worker → Task → BoardRow D → Step D → Type 0
 AfterStep held k w t r (Begun frame) = HasOperands held k w t r frame
-AfterStep held k w t r (Moves cell from to share) = MovesRow w t (transfer_of cell from to) r × (is_node to ≡ true) × IsCarried held k (transfer_of cell from to) r share.value
-AfterStep held k w t r (Writes cell from to writes share unit) = IsUnitFor k w t (transfer_of cell from to) r unit writes × (is_node to ≡ false) × IsCarried held k (transfer_of cell from to) r share.value
-AfterStep held k w t r (Reads cell from to writes unit) = IsUnitFor k w t (transfer_of cell from to) r unit writes × (is_node from ≡ false) × IsFetch k.program (transfer_of cell from to)
+AfterStep held k w t r (Moves cell from to share) = MovesRow w t (a_transfer cell from to) r × (is_node to ≡ true) × IsCarried held k (a_transfer cell from to) r share.value
+AfterStep held k w t r (Writes cell from to writes share unit) = IsUnitFor k w t (a_transfer cell from to) r unit writes × (is_node to ≡ false) × IsCarried held k (a_transfer cell from to) r share.value
+AfterStep held k w t r (Reads cell from to writes unit) = IsUnitFor k w t (a_transfer cell from to) r unit writes × (is_node from ≡ false) × IsFetch k.program (a_transfer cell from to)
 AfterStep held k w t r Discarded = HasClaimedRow w t r
 AfterStep held k w t r Waits = HasClaimedRow w t r
 AfterStep held k w t r Stopped = IsStoppedRow r

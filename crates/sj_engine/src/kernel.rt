@@ -12,7 +12,8 @@ ghost use Rattle.sj_core.specs.Laws.{IsLawful};
 ghost use Rattle.sj_core.specs.Operands.{results};
 ghost use Rattle.sj_core.specs.Program.{task_of, written_operands};
 ghost use Rattle.sj_core.specs.Proper.{Proper};
-ghost use Rattle.sj_engine.specs.Operands.{AreSharesOf, HasRoomForOperands, IsShare, held_for, read_operands};
+ghost use Rattle.sj_engine.specs.Operands.{AreSharesOf, HasRoomForOperands, held_for, read_operands};
+ghost use Rattle.sj_machine.specs.Running.{IsShare};
 
 use crate::operands::operands;
 use crate::results::shares;
@@ -21,16 +22,9 @@ use sj_base::memory::OutOfMemory;
 use sj_base::program::{Lowered, Program};
 use sj_codelet::frame::Frame;
 use sj_codelet::set::Codelets;
+use sj_core::tasks::task_at;
 use sj_edge::gate::Gate;
 use std::alloc::Global;
-
-/// A task of a program. Constant time.
-pub fn task_at(program: &Program, t: Task) -> &Lowered
-    requires { t.0 < length program.now.tasks }
-    ensures { result.now ≡ task_of program.now t }
-{
-    &program.tasks.items()[t.0 as usize]
-}
 
 /// Runs a codelet on a task's operands, between the two calls of the gate. The kernel's cost.
 fn run_kernel<C: Codelets, G: Gate>(

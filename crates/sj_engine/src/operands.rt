@@ -1,6 +1,6 @@
 //! The operands of a task, as its kernel works on them.
 
-ghost use Rattle.std.specs.Prelude.{◌≡◌, ◌++◌, ◌∷◌, [], ◌+◌, ◌≤◌, ◌<◌, All, IfOk, IsTrue, OnOk, false, filter, length};
+ghost use Rattle.std.specs.Prelude.{◌≡◌, ◌+◌, ◌≤◌, ◌<◌, All, IfOk, IsTrue, OnOk, false, filter, length};
 ghost use Rattle.sj_base.specs.Mode.{reads_value};
 ghost use Rattle.sj_codelet.specs.Frame.{arrays, shared};
 ghost use Rattle.sj_codelet.specs.Slot.{slot_of};
@@ -24,19 +24,6 @@ fn owned(alloc: Global, tile: Arc<Tile>) -> Result<Tile, OutOfMemory>
     }
 }
 
-/// Takes the last operand of a frame away, a shared one. Constant time.
-fn take_shared(frame: &mut Frame) -> Arc<Tile>
-    requires shared { All (λ s. s.owned ≡ false) frame.old.slots }
-    requires some { 0 < length frame.old.slots }
-    ensures slots { frame.old.slots ≡ frame.new.slots ++ shared result.value ∷ [] }
-    ensures room { frame.new.spare ≡ frame.old.spare + 1 }
-{
-    match frame.take_last() {
-        Operand::Shared(tile) => tile,
-        Operand::Own(_) => unreachable!(),
-    }
-}
-
 /// One operand: the last of the shares where it is only read, zeros where its old value isn't read, and else the tile of the
 /// last share as one to write to.
 fn operand(
@@ -52,13 +39,13 @@ fn operand(
     ensures room { OnOk result (shares.new.spare + length shares.new.slots ≡ shares.old.spare + length shares.old.slots) }
 {
     match access.mode {
-        Mode::R => Ok(Operand::Shared(take_shared(shares))),
+        Mode::R => Ok(Operand::Shared(shares.take_shared())),
         Mode::W | Mode::Scratch => {
             let dims = program.cells.items()[access.cell.0 as usize].dims;
             Ok(Operand::Own(Tile::zeros(alloc, dims)?))
         }
         Mode::RW | Mode::Redux | Mode::Commute => {
-            Ok(Operand::Own(owned(alloc, take_shared(shares))?))
+            Ok(Operand::Own(owned(alloc, shares.take_shared())?))
         }
     }
 }

@@ -15,7 +15,6 @@ ghost use Rattle.sj_engine.specs.Stage.{HasClaimedRow, IsCarried, IsFreeRow, Mov
 ghost use Rattle.sj_engine.specs.Stepping.{AfterStep, EndsByFault, IsShareCarried, IsUnitFor, StepMakes};
 ghost use Rattle.sj_engine.specs.Turn.{Happens, IsTurnOf, IsWorkerOf, NothingHappens};
 
-use crate::kernel::task_at;
 use crate::shared_board::SharedBoard;
 use crate::tray::Tray;
 use sj_base::ids::{Cell, Place, Task, Worker};
@@ -23,6 +22,7 @@ use sj_base::memory::OutOfMemory;
 use sj_base::tile::Tile;
 use sj_codelet::frame::Frame;
 use sj_core::progress::Transfer;
+use sj_core::tasks::task_at;
 use sj_disk::unit::Unit;
 use sj_edge::disk::Disk;
 use sj_machine::todo::Todo;

@@ -497,19 +497,10 @@ fn is_unordered(mode: Mode) -> bool
     mode == Mode::Redux || mode == Mode::Commute
 }
 
-fn is_written(mode: Mode) -> bool
-    ensures { result ≡ is_written mode }
-{
-    match mode {
-        Mode::R | Mode::Scratch => false,
-        Mode::W | Mode::RW | Mode::Redux | Mode::Commute => true,
-    }
-}
-
 fn written_count(targets: &[Target]) -> usize
     ensures { result ≡ length (filter (λ t. is_written t.mode) targets.now) }
 {
-    targets.iter().filter(|t| is_written(t.mode)).count()
+    targets.iter().filter(|t| t.mode.is_written()).count()
 }
 
 fn any_unordered(targets: &[Target]) -> bool

@@ -3,7 +3,6 @@ use Rattle.std.proofs.Common.{◌≡◌, ℕ, ◌+◌, ◌<◌, ◌≤◌, Bool,
 use Rattle.std.specs.Prelude.{◌||◌, count_by}
 use Rattle.std.proofs.lemmas.List.Sums.{sum_by-cons}
 use Rattle.sj_codelet.specs.Formal.{is_output}
-use Rattle.sj_lower.proofs.Writing.{writes_output}
 use Rattle.std.specs.List.{All, AllPairs, AllByRecursion, flat_map, list_all, list_any}
 use Rattle.std.specs.Int.RustNames.{int_le}
 use Rattle.std.specs.Str.{bytes_eq}
@@ -65,6 +64,8 @@ use Rattle.sj_lower.proofs.Operands.{IsRead, Contributes}
 use Rattle.sj_lower.proofs.Laid.{AreLaid, IsTaken, bytes_eq-itself, cell-inside, cells-apart}
 use Rattle.sj_lower.proofs.Pasting.{GoesTo, pastes-begin, pastes-go, pastes-between, paste-gives}
 use Rattle.sj_lower.proofs.Running.{is_direct, child_there, child_dims-are, child_values-are, active_cell-is, operand_cell, kernel_there}
+use Rattle.sj_core.proofs.Modes.{commutes_is_written}
+use Rattle.sj_meaning.proofs.Giving.{written_as}
 
 -- where the access is a contribution, its cell has partial copies, and each has a value
 abbrev pub HasItsCopies : Program → ℕ → Access → Type 0
@@ -421,7 +422,7 @@ outputs-count (f ∷ fs) (o ∷ os) e l =
     ∙ by_test (is_written (mode_of f)) (is_written o.mode) (same f o.mode m.0) (outputs-count fs os m.1 (omega (arith, l)))
   where
     same : (f : Formal) (m : Mode) → mode_fits f m ≡ true → is_written (mode_of f) ≡ is_written m
-    same f m e = same_formal f ∙ sym (writes_output f m e)
+    same f m e = same_formal f ∙ sym (written_as f m e)
       where
         same_formal : (f : Formal) → is_written (mode_of f) ≡ is_output f
         same_formal FormalR = refl
@@ -434,14 +435,6 @@ outputs-count (f ∷ fs) (o ∷ os) e l =
     by_test false false e rest = omega (arith, rest)
     by_test true false e rest = absurd (false≢true (sym e))
     by_test false true e rest = absurd (false≢true e)
-
-commute_writes : (m : Mode) → is_commute m ≡ true → is_written m ≡ true
-commute_writes R e = absurd (false≢true e)
-commute_writes W e = absurd (false≢true e)
-commute_writes RW e = absurd (false≢true e)
-commute_writes Scratch e = absurd (false≢true e)
-commute_writes Redux e = absurd (false≢true e)
-commute_writes Commute e = refl
 
 is-commute : (m : Mode) → is_commute m ≡ true → m ≡ Commute
 is-commute R e = absurd (false≢true e)
@@ -462,7 +455,7 @@ none-writes x (o ∷ os) e = by_test (is_written o.mode) refl e (none-writes x o
         ((λ h. absurd (false≢true (sym w ∙ h)), rest.0), by_commute (is_commute o.mode) refl rest.1)
       where
         by_commute : (c : Bool) → is_commute o.mode ≡ c → list_any (λ o. is_commute o.mode) os ≡ false → (c || list_any (λ o. is_commute o.mode) os) ≡ false
-        by_commute true h rest = absurd (false≢true (sym w ∙ commute_writes o.mode h))
+        by_commute true h rest = absurd (false≢true (sym w ∙ commutes_is_written o.mode h))
         by_commute false h rest = rest
 
 -- the one operand that is written commutes
@@ -478,7 +471,7 @@ commuting-writes (o ∷ os) e any = by_test (is_written o.mode) refl e any (comm
     by_test false w e any rest = (λ h. absurd (false≢true (sym w ∙ h)), rest e (second (is_commute o.mode) refl any))
       where
         second : (c : Bool) → is_commute o.mode ≡ c → (c || list_any (λ o. is_commute o.mode) os) ≡ true → list_any (λ o. is_commute o.mode) os ≡ true
-        second true h e = absurd (false≢true (sym w ∙ commute_writes o.mode h))
+        second true h e = absurd (false≢true (sym w ∙ commutes_is_written o.mode h))
         second false h e = e
 
 -- the codelet of a commuting operand commutes

@@ -6,15 +6,12 @@ use Rattle.std.proofs.lemmas.List.FromFn.{length-map-range_with_len}
 use Rattle.std.proofs.lemmas.Bool.Decides.{Decides-eqb}
 use Rattle.std.proofs.lemmas.List.{length-map, length-replicate}
 use Rattle.sj_base.specs.declared.tile.Dims.{Dims}
-use Rattle.sj_base.specs.declared.mode.Mode.{Mode}
-use Rattle.sj_base.specs.declared.mode.Mode.TheVariants.{R, W, RW, Scratch, Redux, Commute}
 use Rattle.sj_base.specs.declared.program.Codelet.{Codelet}
 use Rattle.sj_base.specs.Array.{Array, area, each, element}
 use Rattle.sj_base.proofs.Tables.{length-table}
 use Rattle.sj_codelet.specs.declared.kernel.Kernel.{Kernel}
 use Rattle.sj_codelet.specs.declared.kernel.Kernel.TheVariants.{Fill, Copy, Scale, Add, Axpy, Butterfly, Gemm, GemmThree, Transpose, Dot, Sum, Lowest, MinGemm, FwDiag, FwRow, FwCol, Load, LoadFill, Paste, Deliver, InitPlus, InitLeast}
 use Rattle.sj_codelet.specs.declared.formal.Formal.{Formal}
-use Rattle.sj_codelet.specs.declared.formal.Formal.TheVariants.{R as FormalR, W as FormalW, RW as FormalRW, Scratch as FormalScratch}
 use Rattle.sj_codelet.specs.Kernel.{kernel_of, formals_of, arguments_fit, dims_fit, dims_at, fits, fits_in, operand, new_arrays, out}
 use Rattle.sj_codelet.specs.Formal.{is_output, outputs_among}
 use Rattle.sj_codelet.proofs.Table.{new_arrays-dims, each_dims}
@@ -28,35 +25,9 @@ use Rattle.sj_plan.specs.Window.{IsWhole}
 use Rattle.sj_meaning.specs.Statement.{Operand}
 use Rattle.sj_meaning.specs.Sound.{mode_fits, modes_fit}
 use Rattle.std.proofs.lemmas.Bool.{and_parts}
+use Rattle.sj_meaning.proofs.Giving.{written_as}
 
 -- ---- modes
-
--- what an operand writes is what its formal gives
-pub writes_output : (f : Formal) (m : Mode) → mode_fits f m ≡ true → is_written m ≡ is_output f
-writes_output FormalR R e = refl
-writes_output FormalR W e = absurd (cc)
-writes_output FormalR RW e = absurd (cc)
-writes_output FormalR Scratch e = absurd (cc)
-writes_output FormalR Redux e = absurd (cc)
-writes_output FormalR Commute e = absurd (cc)
-writes_output FormalW R e = absurd (cc)
-writes_output FormalW W e = refl
-writes_output FormalW RW e = absurd (cc)
-writes_output FormalW Scratch e = absurd (cc)
-writes_output FormalW Redux e = refl
-writes_output FormalW Commute e = refl
-writes_output FormalRW R e = absurd (cc)
-writes_output FormalRW W e = absurd (cc)
-writes_output FormalRW RW e = refl
-writes_output FormalRW Scratch e = absurd (cc)
-writes_output FormalRW Redux e = refl
-writes_output FormalRW Commute e = refl
-writes_output FormalScratch R e = absurd (cc)
-writes_output FormalScratch W e = absurd (cc)
-writes_output FormalScratch RW e = absurd (cc)
-writes_output FormalScratch Scratch e = refl
-writes_output FormalScratch Redux e = absurd (cc)
-writes_output FormalScratch Commute e = absurd (cc)
 
 -- ---- new arrays
 
@@ -67,7 +38,7 @@ outputs-written f [] (o ∷ os) e l = absurd (omega arith)
 outputs-written f (g ∷ fs) [] e l = absurd (omega arith)
 outputs-written f (g ∷ fs) (o ∷ os) e l =
     let m = and_parts (mode_fits g o.mode) (modes_fit fs os) e in
-    by_cases (is_output g) (is_written o.mode) (sym (writes_output g o.mode m.0)) (outputs-written f fs os m.1 (omega (arith, l)))
+    by_cases (is_output g) (is_written o.mode) (sym (written_as g o.mode m.0)) (outputs-written f fs os m.1 (omega (arith, l)))
   where
     by_cases : (b c : Bool) → b ≡ c → outputs_among fs (map f os) ≡ map f (filter (λ (o : Operand (List ℕ)). is_written o.mode) os) → cond b (f o ∷ outputs_among fs (map f os)) (outputs_among fs (map f os)) ≡ map f (cond c (o ∷ filter (λ (o : Operand (List ℕ)). is_written o.mode) os) (filter (λ (o : Operand (List ℕ)). is_written o.mode) os))
     by_cases true true e r = ap (λ xs. f o ∷ xs) r

@@ -1,11 +1,10 @@
 -- What the ends of tasks leave on a board, as its events happen.
-use Rattle.std.proofs.Common.{◌≡◌, ◌∙◌, ◌++◌, ◌∷◌, ◌<◌, ◌+◌, ◌-◌, ◌*◌, ℕ, [], List, Option, None, Some, Bool, true, false, ◌&&◌, ap, arith, cond, inl, inr, is_some, length, map, not, refl, replicate, set, subst, sum_by, sym}
+use Rattle.std.proofs.Common.{◌≡◌, ◌∙◌, ◌++◌, ◌<◌, ◌+◌, ◌-◌, ◌*◌, ℕ, [], List, Option, None, Some, true, ◌&&◌, ap, arith, cond, is_some, length, map, not, refl, replicate, set, subst, sum_by, sym}
 use Rattle.std.specs.Prelude.{IfSome, IsSomeAnd, OnErr, OnOk, Ok, Err, Result, if◌then◌else◌}
-use Rattle.std.proofs.lemmas.Bool.{cases_lt}
-use Rattle.std.proofs.lemmas.List.{ext_get_or, get_or-replicate, get_or_past, get_or-map, length-map, length-replicate}
+use Rattle.std.proofs.lemmas.List.{ext_get_or, get_or-map, length-map, length-replicate}
 use Rattle.std.proofs.lemmas.List.Folds.{sum_by-replicate}
 use Rattle.std.proofs.lemmas.List.FromFn.{get_or-map-range_with_len, length-map-range_with_len}
-use Rattle.std.proofs.lemmas.List.Sums.{AllPass-from_list_all, sum_by-cons}
+use Rattle.std.proofs.lemmas.List.Sums.{AllPass-from_list_all}
 use Rattle.sj_core.proofs.Eviction.{evicted-after}
 use Rattle.sj_base.specs.declared.program.Lowered.{Lowered}
 use Rattle.sj_base.specs.declared.trace.Event.{Event}
@@ -37,6 +36,9 @@ use Rattle.sj_machine.specs.Standing.{AllTell, CanHappen, HasMoved, Standing, st
 use Rattle.sj_machine.proofs.Commuting.{holds-alone}
 use Rattle.sj_machine.proofs.Delivering.{deliver-inside, gift-kept, kept-gift, run-has}
 use Rattle.sj_machine.proofs.Ends.{delivers-each, ends-begun, ends-claimed, ends-ended, ends-same, ends-some_left, ends-spare}
+use Rattle.sj_base.proofs.Bools.{and_true}
+use Rattle.sj_base.proofs.Lists.{sum_by-map}
+use Rattle.sj_core.proofs.Opening.{waits}
 
 -- of a run as it stands
 abbrev pub Keeps : {D : Type 0} → (D → Option (List ℕ)) → Standing D → List (Task × Array) → List (Option Array) → ℕ → ℕ → Type 0
@@ -162,26 +164,12 @@ each-task p =
     ext_get_or no_task (map (task_of p) (tasks_of p)) p.tasks long (λ i inside.
     get_or-map (task_of p) (tasks_of p) i (number 0) no_task (omega (arith, inside, long, all)) ∙ ap (task_of p) (get_or-map-range_with_len number 0 (length p.tasks) i i (number 0) (omega (arith, inside, long)) (omega arith)))
 
-sum-mapped : {X Y : Type 0} (f : Y → ℕ) (g : X → Y) (xs : List X) → sum_by f (map g xs) ≡ sum_by (λ x. f (g x)) xs
-sum-mapped f g [] = refl
-sum-mapped f g (x ∷ xs) = sum_by-cons f (g x) (map g xs) ∙ ap (λ k. f (g x) + k) (sum-mapped f g xs) ∙ sym (sum_by-cons (λ y. f (g y)) x xs)
-
 module _ (p : Program) (m : Machine) (Tells : Type 0) where
-  waits : (t : Task) → progress (opening p m) t ≡ Waiting
-  waits t = elim (cases_lt t.0 (length p.tasks)) as (λ _. progress (opening p m) t ≡ Waiting) [
-    | inl inside ↦ get_or-replicate (length p.tasks) t.0 Waiting Waiting inside
-    | inr past ↦ get_or_past (replicate (length p.tasks) Waiting) t.0 Waiting (omega (arith, past, length-replicate (length p.tasks) Waiting))
-  ]
-
   undelivered-first : undelivered p (opening p m) ≡ delivery_count p
   undelivered-first =
       let f : Lowered → ℕ = λ l. tally (is_delivery l.codelet) in
-      sum-agree (λ t. tally (is_deliver_task p t && not (done_in (opening p m) t))) (λ t. f (task_of p t)) (λ t. ap (λ x. tally (is_deliver_task p t && not (is_done x))) (waits t) ∙ ap tally (and_true (is_deliver_task p t))) (tasks_of p)
-      ∙ sym (sum-mapped f (task_of p) (tasks_of p)) ∙ ap (sum_by f) (each-task p)
-    where
-      and_true : (b : Bool) → (b && true) ≡ b
-      and_true true = refl
-      and_true false = refl
+      sum-agree (λ t. tally (is_deliver_task p t && not (done_in (opening p m) t))) (λ t. f (task_of p t)) (λ t. ap (λ x. tally (is_deliver_task p t && not (is_done x))) (waits p m t) ∙ ap tally (and_true (is_deliver_task p t))) (tasks_of p)
+      ∙ sym (sum_by-map f (task_of p) (tasks_of p)) ∙ ap (sum_by f) (each-task p)
 
   pub opens : (gifts : List (Option Array)) → gifts ≡ replicate p.workers None → (pairs : List (Task × Array)) → pairs ≡ [] → (spare : ℕ) → spare ≡ delivery_count p → (left : ℕ) → left ≡ length p.tasks → KeepsEnds p (opening p m) Tells pairs gifts spare left
   opens gifts none pairs nothing spare room left all =
@@ -189,13 +177,13 @@ module _ (p : Program) (m : Machine) (Tells : Type 0) where
       (subst (λ (ds : List (Task × Array)). KeepsEnds p (opening p m) Tells ds (replicate p.workers None) spare left) (sym nothing) (record {
         delivered = record {
           only = λ i d inside. absurd (omega (arith, inside));
-          once = λ t hands. ap (λ x. if is_done x then 1 else 0) (sym (waits t));
+          once = λ t hands. ap (λ x. if is_done x then 1 else 0) (sym (waits p m t));
           dims = λ i d inside. absurd (omega (arith, inside));
           arrays = λ tells i d inside. absurd (omega (arith, inside));
         };
         gifts_kept = record {
           every_worker = length-replicate p.workers None;
-          kept = λ w t runs. absurd (let e : Waiting ≡ Running w = sym (waits t) ∙ runs in cc);
+          kept = λ w t runs. absurd (let e : Waiting ≡ Running w = sym (waits p m t) ∙ runs in cc);
         };
         room = omega (arith, undelivered-first, room);
         counted = (let n : undone (opening p m) ≡ length p.tasks * 1 = sum_by-replicate (λ (x : Progress). cond (not (is_done x)) 1 0) (length p.tasks) Waiting in let k : undone (opening p m) ≡ left = omega (arith, n, all) in k);

@@ -15,9 +15,8 @@ use Rattle.sj_node.proofs.CallerLemmas.{filter-map}
 use Rattle.sj_node.specs.Entry.{Entry, has_entry, is_among, is_of, pins_of, put_all, repinned, to_front as entry_to_front, total, without as without_entry, without_all}
 use Rattle.sj_node.specs.Store.{Store, with_entries}
 use Rattle.sj_machine.specs.Plan.{CanTakeAll, taken}
-
-abbrev ext : {A B : Type 0} {f g : A → B} → ((x : A) → f x ≡ g x) → f ≡ g
-ext h = λ i x. h x i
+use Rattle.std.proofs.Math.Path.{fun_ext}
+use Rattle.sj_base.proofs.Bools.{tally-le}
 
 -- ---- lists of cells
 
@@ -146,12 +145,12 @@ module _ (bytes : Cell → ℕ) where
 
   -- and so do all, one after another
   pub taken-all : (s : Store) (pins : Cell → ℕ) (ds cs : List Cell) → ((c : Cell) → has_cell ds c ≡ true → has_cell cs c ≡ true) → ((c : Cell) → times cs c ≤ 1) → fold taken (with_entries s (entries pins cs)) ds ≡ with_entries s (entries (more pins ds) (fold to_front cs ds))
-  taken-all s pins [] cs there once = ap (λ (f : Cell → ℕ). with_entries s (entries f cs)) (ext {f = pins} {g = more pins []} (λ c. (omega arith)))
+  taken-all s pins [] cs there once = ap (λ (f : Cell → ℕ). with_entries s (entries f cs)) (fun_ext {f = pins} {g = more pins []} (λ c. (omega arith)))
   taken-all s pins (d ∷ ds) cs there once =
       let here : has_cell cs d ≡ true = there d (ap (λ b. b || has_cell ds d) (same_cell-refl d)) in
       ap (λ (x : Store). fold taken x ds) (entries-taken s pins d cs here (once d))
       ∙ taken-all s (bumped pins d) ds (to_front cs d) (λ c h. has_cell-to_front cs d c ∙ or_right (same_cell d c) (has_cell cs c) (there c (or_right (same_cell d c) (has_cell ds c) h))) (λ c. times-to_front cs d c (once c))
-      ∙ ap (λ (f : Cell → ℕ). with_entries s (entries f (fold to_front (to_front cs d) ds))) (ext {f = more (bumped pins d) ds} {g = more pins (d ∷ ds)} (λ c. (let a = times-cons d ds c in omega arith)))
+      ∙ ap (λ (f : Cell → ℕ). with_entries s (entries f (fold to_front (to_front cs d) ds))) (fun_ext {f = more (bumped pins d) ds} {g = more pins (d ∷ ds)} (λ c. (let a = times-cons d ds c in omega arith)))
 
   pub can_take-all : (s : Store) (pins : Cell → ℕ) (ds cs : List Cell) → ((c : Cell) → has_cell ds c ≡ true → has_cell cs c ≡ true) → ((c : Cell) → times cs c ≤ 1) → ((c : Cell) → pins c + length ds ≤ 1024) → CanTakeAll (with_entries s (entries pins cs)) ds
   can_take-all s pins [] cs there once few = tt
@@ -162,7 +161,3 @@ module _ (bytes : Cell → ℕ) where
         subst (λ (x : Store). CanTakeAll x ds) (sym (entries-taken s pins d cs here (once d)))
             (can_take-all s (bumped pins d) ds (to_front cs d) (λ c h. has_cell-to_front cs d c ∙ or_right (same_cell d c) (has_cell cs c) (there c (or_right (same_cell d c) (has_cell ds c) h))) (λ c. times-to_front cs d c (once c)) (λ c. (let bound = few c in let most = tally-le (same_cell d c) in omega arith))),
       )
-    where
-      tally-le : (b : Bool) → tally b ≤ 1
-      tally-le true = omega arith
-      tally-le false = omega arith

@@ -1,10 +1,9 @@
 -- The rows of cells after a claim marked its victims and the cells that it brings.
-use Rattle.std.proofs.Common.{◌≡◌, ◌≢◌, ℕ, ◌+◌, ◌<◌, ◌≤◌, Bool, true, false, ◌||◌, List, [], ◌∷◌, length, refl, sym, ap, ◌∙◌, arith, inl, inr, sum_by}
+use Rattle.std.proofs.Common.{◌≡◌, ◌≢◌, ℕ, ◌<◌, Bool, true, false, ◌||◌, List, [], ◌∷◌, length, refl, sym, ap, ◌∙◌, arith, inl, inr}
 use Rattle.std.specs.Prelude.{All}
 use Rattle.std.proofs.lemmas.Bool.{false≢true, or_right, or_parts}
 use Rattle.std.proofs.lemmas.List.{get_or-set_other, get_or-set_same, length-set}
 use Rattle.std.proofs.lemmas.List.Elements.{All-get_or, All-set}
-use Rattle.std.proofs.lemmas.List.Sums.{sum_by-cons, sum_by-set}
 use Rattle.sj_base.specs.declared.ids.Cell.{Cell}
 use Rattle.sj_base.specs.declared.ids.Node.{Node}
 use Rattle.sj_core.proofs.CellLists.{same_cell-from, same_cell-refl}
@@ -17,9 +16,7 @@ use Rattle.sj_machine.specs.Agrees.{IsWide}
 use Rattle.sj_machine.specs.Copies.{Copies, mark_at, row_of, with_row}
 use Rattle.sj_machine.specs.Plan.{marked, with_mark}
 use Rattle.sj_machine.proofs.Reading.{no_copies, row-other, row-same}
-
-node_number : (n k : Node) → k ≢ n → k.0 ≢ n.0
-node_number n k h e = h (ap (λ (i : ℕ). let j : Node = record { 0 = i } in j) e)
+use Rattle.sj_base.proofs.SameIds.{other_node}
 
 module _ (n : Node) (x : Mark) (width : ℕ) (within : n.0 < width) where
   abbrev mark_one : List Copies → Cell → List Copies
@@ -70,7 +67,7 @@ module _ (n : Node) (x : Mark) (width : ℕ) (within : n.0 < width) where
 
   -- at other nodes
   pub marked-elsewhere : (rows : List Copies) (cs : List Cell) (d : Cell) (k : Node) → k ≢ n → ((c : Cell) → has_cell cs c ≡ true → c.0 < length rows) → mark_at (row_of (marked rows cs n x) d) k ≡ mark_at (row_of rows d) k
-  marked-elsewhere rows cs d k other inside = field-marked (λ row. mark_at row k) (λ row. get_or-set_other row.marks n.0 k.0 x Invalid (node_number n k other)) rows cs d inside
+  marked-elsewhere rows cs d k other inside = field-marked (λ row. mark_at row k) (λ row. get_or-set_other row.marks n.0 k.0 x Invalid (other_node n k other)) rows cs d inside
 
   -- of other cells
   pub marked-other : (rows : List Copies) (cs : List Cell) (d : Cell) → has_cell cs d ≡ false → row_of (marked rows cs n x) d ≡ row_of rows d

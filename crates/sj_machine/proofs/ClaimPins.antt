@@ -12,8 +12,6 @@ use Rattle.sj_base.specs.declared.program.Lowered.{Lowered}
 use Rattle.sj_base.specs.declared.trace.Event.{Event}
 use Rattle.sj_base.specs.declared.trace.Event.TheVariants.{Claim, Move, Moved, Drop, Run, End}
 use Rattle.sj_codelet.specs.Kernel.{arguments_fit, dims_fit, formals_of}
-use Rattle.sj_codelet.specs.declared.kernel.Kernel.{Kernel}
-use Rattle.sj_codelet.specs.declared.kernel.Kernel.TheVariants.{Fill, Copy, Scale, Add, Axpy, Butterfly, Gemm, GemmThree, Transpose, Dot, Sum, Lowest, MinGemm, FwDiag, FwRow, FwCol, Load, LoadFill, Paste, Deliver, InitPlus, InitLeast}
 use Rattle.sj_core.proofs.Placing.{pins-same}
 use Rattle.sj_core.proofs.Reading.{idle_row}
 use Rattle.sj_core.proofs.Words.{AtNode, Cell, Machine, Node, OnDisk, Program, State, Task, Valid, Worker, WorkerState, cells_of, data_operands, dims_of, no_task, node_of, opening, pins, same_cell, task_of, with_replica, worked_on, workers_at, workers_of}
@@ -21,32 +19,9 @@ use Rattle.sj_core.specs.Legal.{state_of}
 use Rattle.sj_core.specs.Proper.{Fits, IsMachineFor, Proper}
 use Rattle.sj_core.specs.Step.{after, array_at}
 use Rattle.sj_machine.specs.Agrees.{pins_on}
+use Rattle.sj_codelet.proofs.Table.{few-formals}
 
 -- ---- operands
-
-few-formals : (k : Kernel) → length (formals_of k) ≤ 5
-few-formals Fill = omega arith
-few-formals Copy = omega arith
-few-formals Scale = omega arith
-few-formals Add = omega arith
-few-formals Axpy = omega arith
-few-formals Butterfly = omega arith
-few-formals Gemm = omega arith
-few-formals GemmThree = omega arith
-few-formals Transpose = omega arith
-few-formals Dot = omega arith
-few-formals Sum = omega arith
-few-formals Lowest = omega arith
-few-formals MinGemm = omega arith
-few-formals FwDiag = omega arith
-few-formals FwRow = omega arith
-few-formals FwCol = omega arith
-few-formals Load = omega arith
-few-formals LoadFill = omega arith
-few-formals Paste = omega arith
-few-formals Deliver = omega arith
-few-formals InitPlus = omega arith
-few-formals InitLeast = omega arith
 
 pub few-operands : (p : Program) → Proper p → (t : Task) → length (task_of p t).accesses ≤ 5
 few-operands p proper t =

@@ -24,8 +24,8 @@ use Rattle.sj_node.specs.Entry.{AreDistinct, Entry, has_entry, pins_of, put_all,
 use Rattle.sj_node.specs.Store.{Store, free, store, with_entries}
 use Rattle.sj_machine.specs.Agrees.{entry_of, pins_on, store_of}
 use Rattle.sj_machine.specs.Plan.{CanHold, CanTakeAll, ClaimPlan, admitting, holding, plan_with, taken, taking}
-use Rattle.sj_machine.proofs.Unpinning.{ext}
 use Rattle.sj_machine.proofs.ClaimEntries.{can_take-all, entries, entries-has, entries-pins, entries-put, entries-total, entries-without, fronted-put_first, has_cell-put_first, more, put_first, taken-all, times-put_first}
+use Rattle.std.proofs.Math.Path.{fun_ext}
 
 -- ---- lists
 
@@ -204,7 +204,7 @@ module _ (p : Program) (m : Machine) (s : State) (h : IsSound p m s) (t : Task) 
   pub store-elsewhere : (k : Node) → k ≢ n → store_of p m s' k ≡ store_of p m s k
   store-elsewhere k other =
       ap (λ (held : ℕ). store_by k held (pins_on m s' k) (order s' k)) (sum-at m k (scratch s') (scratch s) (λ v at. ap (λ (row : WorkerState). row.scratch) (kept v at)))
-      ∙ ap (λ (f : Cell → ℕ). store_by k (sum_by (scratch s) (workers_at m k)) f (order s' k)) (ext {f = pins_on m s' k} {g = pins_on m s k} (λ c. sum-at m k (λ v. times (pins s' v) c) (λ v. times (pins s v) c) (λ v at. ap (λ (row : WorkerState). times row.pins c) (kept v at))))
+      ∙ ap (λ (f : Cell → ℕ). store_by k (sum_by (scratch s) (workers_at m k)) f (order s' k)) (fun_ext {f = pins_on m s' k} {g = pins_on m s k} (λ c. sum-at m k (λ v. times (pins s' v) c) (λ v. times (pins s v) c) (λ v at. ap (λ (row : WorkerState). times row.pins c) (kept v at))))
       ∙ ap (store_by k (sum_by (scratch s) (workers_at m k)) (pins_on m s k)) (claim-order_elsewhere p m s h t w s' claim leaves k other)
     where
       kept : (v : Worker) → node_of m v ≡ k → worker_state s' v ≡ worker_state s v
@@ -312,7 +312,7 @@ module _ (p : Program) (m : Machine) (s : State) (h : IsSound p m s) (t : Task) 
   holding-is =
       ap (λ (x : Store). record x { scratch = x.scratch + plan.scratch }) taking-is
       ∙ ap (λ (held : ℕ). store_by n held (more bytes (pins_on m s n) own) (order s' n)) (sym scratch-after)
-      ∙ ap (λ (f : Cell → ℕ). store_by n (sum_by (scratch s') (workers_at m n)) f (order s' n)) (ext {f = more bytes (pins_on m s n) own} {g = pins_on m s' n} (λ c. sym (pins-after c)))
+      ∙ ap (λ (f : Cell → ℕ). store_by n (sum_by (scratch s') (workers_at m n)) f (order s' n)) (fun_ext {f = more bytes (pins_on m s n) own} {g = pins_on m s' n} (λ c. sym (pins-after c)))
 
   -- ---- that it can
 

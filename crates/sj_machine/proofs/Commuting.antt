@@ -1,10 +1,10 @@
 -- The commuting cells of a task that a claimed or running task has: those that a worker pins.
-use Rattle.std.proofs.Common.{◌≡◌, ◌≢◌, ◌<◌, ◌+◌, ◌++◌, ◌∷◌, ◌&&◌, [], ℕ, suc, Bool, true, false, not, List, Some, None, ◌∙◌, ap, arith, cond, find, filter, get_or, inl, inr, length, map, refl, sym, take, drop}
+use Rattle.std.proofs.Common.{◌≡◌, ◌≢◌, ◌<◌, ◌+◌, ◌++◌, ◌∷◌, ◌&&◌, [], ℕ, suc, Bool, true, false, not, List, Some, None, ◌∙◌, ap, arith, cond, find, filter, get_or, length, map, refl, sym, take, drop}
 use Rattle.std.specs.List.{list_all}
 use Rattle.std.specs.Option.{option_or}
 use Rattle.std.proofs.Math.Seq.{drop-cons}
-use Rattle.std.proofs.lemmas.Bool.{and_parts, cases_lt, false_from_ne_true, false≢true}
-use Rattle.std.proofs.lemmas.List.{get_or_default, get_or_past, map-append, take-append-drop, take_more}
+use Rattle.std.proofs.lemmas.Bool.{and_parts, false_from_ne_true, false≢true}
+use Rattle.std.proofs.lemmas.List.{get_or_default, map-append, take-append-drop, take_more}
 use Rattle.std.proofs.lemmas.List.Elements.{filter-append}
 use Rattle.std.proofs.lemmas.List.Folds.{find-append, list_any_at}
 use Rattle.sj_base.specs.Mode.{is_commute}
@@ -22,6 +22,7 @@ use Rattle.sj_core.specs.Operands.{commuting_cells}
 use Rattle.sj_core.specs.Step.{is_in_use}
 use Rattle.sj_machine.specs.Operands.{commuting_among, first_held, is_held}
 use Rattle.sj_machine.specs.Planning.{CommutersAreFree, HoldsCommutersAlone, commuter_in_use}
+use Rattle.sj_core.proofs.Claiming.{pins-inside}
 
 -- ---- lists
 
@@ -67,12 +68,6 @@ found-none f (x ∷ xs) none = by_case (f x) refl none (found-none f xs)
 -- ---- who holds a cell
 
 module _ (p : Program) (m : Machine) (s : State) (coherent : Coherent p m s) where
-  pinned-inside : (v : Worker) (c : Cell) → has_cell (pins s v) c ≡ true → v.0 < length s.workers
-  pinned-inside v c has = elim (cases_lt v.0 (length s.workers)) [
-    | inl inside ↦ inside
-    | inr past ↦ absurd (false≢true (sym (ap (λ (row : WorkerState). has_cell row.pins c) (get_or_past s.workers v.0 idle_row past)) ∙ has))
-  ]
-
   task-known : (u : Task) (v : Worker) → is_task_of v (progress s u) ≡ true → u.0 < length p.tasks
   task-known u v has = omega (arith, progress-inside s u (λ e. active-isn't_waiting (progress s u) (task_of-active v (progress s u) has) e), coherent.state.rows.tasks)
     where
@@ -98,7 +93,7 @@ module _ (p : Program) (m : Machine) (s : State) (coherent : Coherent p m s) whe
           let v = worker_of (progress s found.0) in
           let both = and_parts (is_task_of v (progress s found.0)) (has_cell (cells_of p found.0 v) c) found.2 in
           let pinned = coherent.cells.pinned found.0 v c both.0 both.1 in
-          list_any_at (λ (row : WorkerState). has_cell row.pins c) s.workers v.0 idle_row (pinned-inside v c pinned) pinned
+          list_any_at (λ (row : WorkerState). has_cell row.pins c) s.workers v.0 idle_row (pins-inside s v c pinned) pinned
 
   -- so the first commuting cell that a worker pins is the first that is in use
   pub first-is : (t : Task) → first_held s.workers (task_of p t).accesses ≡ commuter_in_use p s t

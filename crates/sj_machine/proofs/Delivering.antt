@@ -11,7 +11,7 @@ use Rattle.sj_base.specs.declared.program.Lowered.{Lowered}
 use Rattle.sj_base.specs.declared.trace.Event.TheVariants.{Run}
 use Rattle.sj_base.specs.Mode.{is_data}
 use Rattle.sj_codelet.specs.declared.kernel.Kernel.{Kernel}
-use Rattle.sj_codelet.specs.declared.kernel.Kernel.TheVariants.{Fill, Copy, Scale, Add, Axpy, Butterfly, Gemm, GemmThree, Transpose, Dot, Sum, Lowest, MinGemm, FwDiag, FwRow, FwCol, Load, LoadFill, Paste, Deliver, InitPlus, InitLeast}
+use Rattle.sj_codelet.specs.declared.kernel.Kernel.TheVariants.{Deliver}
 use Rattle.sj_core.proofs.Claimed.{claimed-staffed}
 use Rattle.sj_core.proofs.Folding.{read-among_cells}
 use Rattle.sj_core.proofs.Found.{found-not_fresh}
@@ -30,27 +30,7 @@ use Rattle.sj_machine.specs.Standing.{AllTell, CanHappen, IsTileOf, Standing, st
 
 delivers : (k : Kernel) → is_deliver k ≡ true → k ≡ Deliver
 delivers Deliver e = refl
-delivers Fill e = absurd (false≢true e)
-delivers Copy e = absurd (false≢true e)
-delivers Scale e = absurd (false≢true e)
-delivers Add e = absurd (false≢true e)
-delivers Axpy e = absurd (false≢true e)
-delivers Butterfly e = absurd (false≢true e)
-delivers Gemm e = absurd (false≢true e)
-delivers GemmThree e = absurd (false≢true e)
-delivers Transpose e = absurd (false≢true e)
-delivers Dot e = absurd (false≢true e)
-delivers Sum e = absurd (false≢true e)
-delivers Lowest e = absurd (false≢true e)
-delivers MinGemm e = absurd (false≢true e)
-delivers FwDiag e = absurd (false≢true e)
-delivers FwRow e = absurd (false≢true e)
-delivers FwCol e = absurd (false≢true e)
-delivers Load e = absurd (false≢true e)
-delivers LoadFill e = absurd (false≢true e)
-delivers Paste e = absurd (false≢true e)
-delivers InitPlus e = absurd (false≢true e)
-delivers InitLeast e = absurd (false≢true e)
+delivers k e = absurd (false≢true e)
 
 -- it has its codelet's own mode: R alone
 deliver-modes : (modes : List Mode) → MayHaveModes Deliver modes → modes ≡ R ∷ []

@@ -14,7 +14,8 @@ use Rattle.sj_machine.specs.BoardSound.{HandsAgree, KeepsBoard, StopsAtTheEnd, t
 use Rattle.sj_machine.specs.Standing.{state}
 use Rattle.sj_machine.specs.declared.fault.RunFault.{RunFault}
 use Rattle.sj_machine.specs.declared.hand.Hand.{Hand}
-use Rattle.sj_machine.proofs.Hands.{given-same, hand-set, pool_for-same, stands-same}
+use Rattle.sj_machine.proofs.Hands.{given-same, hand-set, pool_for-same, stands-same, inside-hands}
+use Rattle.std.proofs.lemmas.Option.{none-some}
 
 -- there is a fault from then on, and it has its cause
 pub first-some : (kept : Option RunFault) (fault : RunFault) → is_some (first_fault kept fault) ≡ true
@@ -25,12 +26,9 @@ pub first-cause : (P : RunFault → Type 0) (kept : Option RunFault) (fault : Ru
 first-cause P None fault had has = has
 first-cause P (Some first) fault had has = had
 
-first-not_none : (kept : Option RunFault) (fault : RunFault) → first_fault kept fault ≡ None → ⊥
+pub first-not_none : (kept : Option RunFault) (fault : RunFault) → first_fault kept fault ≡ None → ⊥
 first-not_none None fault e = absurd (cc)
 first-not_none (Some first) fault e = absurd (cc)
-
-none-some : (t : Task) → None ≡ Some t → ⊥
-none-some t e = absurd (cc)
 
 pub done-no_task : (x : Progress) (w : Worker) → is_done x ≡ true → is_task_of w x ≡ false
 done-no_task Waiting w h = refl
@@ -48,8 +46,8 @@ module _ {D : Type 0} (faults mismatches : D → ℕ) (held : D → Option (List
   abbrev s : State
   s = state b.run
 
-  inside : w.0 < length b.hands
-  inside = subst (λ (n : ℕ). w.0 < n) (sym keeps.inside.hands_agree.every_worker) works.known
+  abbrev inside : w.0 < length b.hands
+  inside = inside-hands p s b.hands b.fault keeps.inside.hands_agree w works.known
 
   pub failed-hands : (fault : RunFault) → HandsAgree p s (failed b w fault).hands (first_fault b.fault fault)
   failed-hands fault = record {

@@ -40,7 +40,7 @@ use Rattle.sj_machine.specs.Agrees.{HasMarks, HasStores, HasTiles, IsWide, Rows,
 use Rattle.sj_machine.specs.Copies.{Copies, mark_at, row_of, tile_at, written_at}
 use Rattle.sj_machine.specs.Plan.{store_at}
 use Rattle.sj_machine.specs.Operands.{CanWorkOn, written_among}
-use Rattle.sj_machine.specs.Running.{AreResultsFor, AreShared, CanPutBack, CanRelease, CanRewrite, IsResultIn, let_go, put_each, released}
+use Rattle.sj_machine.specs.Running.{AreResultsFor, AreShared, CanPutBack, CanRelease, CanRewrite, IsShare, let_go, put_each, released}
 use Rattle.sj_machine.specs.Sound.{HoldsBlocks, Keeps}
 use Rattle.sj_machine.specs.Standing.{AllTell, CanHappen, Standing, state}
 use Rattle.sj_machine.proofs.ClaimEntries.{entries}
@@ -51,14 +51,15 @@ use Rattle.sj_machine.proofs.Owning.{get-any}
 use Rattle.sj_machine.proofs.Putting.{length-put_each, put-row, put-row_none, wide-put_each}
 use Rattle.sj_machine.proofs.Reading.{no_copies}
 use Rattle.sj_machine.proofs.Resting.{entry-cell}
-use Rattle.sj_machine.proofs.Unpinning.{all-less, can-unpin, ext}
+use Rattle.sj_machine.proofs.Unpinning.{all-less, can-unpin}
 use Rattle.sj_machine.proofs.Written.{can-work, works-inside, written-once}
+use Rattle.std.proofs.Math.Path.{fun_ext}
 
 -- the array of a written cell has its dimensions
 abbrev found-put : (p : Program) (w : Worker) (ops : List Access) (slots : List Slot) (a : Access) (x : Slot) (c : Cell) → Bool → Array
 found-put p w ops slots a x c b = elim (cond b (Some (worked_on p w a, x.array)) (find (λ entry. same_cell entry.0 c) (zip (map (worked_on p w) ops) (arrays slots)))) as (λ _. Array) [ None ↦ zeros (dims_of p c) | Some entry ↦ entry.1 ]
 
-held-dims : (p : Program) (w : Worker) → ((a : Access) → dims_of p (worked_on p w a) ≡ dims_of p a.cell) → (ops : List Access) (slots : List Slot) (c : Cell) → AllZip (IsResultIn p) ops slots → has_cell (map (worked_on p w) ops) c ≡ true → (held_in p (zip (map (worked_on p w) ops) (arrays slots)) c).dims ≡ dims_of p c
+held-dims : (p : Program) (w : Worker) → ((a : Access) → dims_of p (worked_on p w a) ≡ dims_of p a.cell) → (ops : List Access) (slots : List Slot) (c : Cell) → AllZip (IsShare p) ops slots → has_cell (map (worked_on p w) ops) c ≡ true → (held_in p (zip (map (worked_on p w) ops) (arrays slots)) c).dims ≡ dims_of p c
 held-dims p w worked [] slots c each h = absurd (false≢true h)
 held-dims p w worked (a ∷ ops) [] c each h = absurd each
 held-dims p w worked (a ∷ ops) (x ∷ slots) c each h = by_case (same_cell (worked_on p w a) c) refl h (held-dims p w worked ops slots c each.1)
@@ -67,7 +68,7 @@ held-dims p w worked (a ∷ ops) (x ∷ slots) c each h = by_case (same_cell (wo
     by_case true e has rest = ap (λ b. (found-put p w ops slots a x c b).dims) e ∙ each.0.dims ∙ sym (worked a) ∙ ap (dims_of p) (same_cell-is (worked_on p w a) c e)
     by_case false e has rest = ap (λ b. (found-put p w ops slots a x c b).dims) e ∙ rest has
 
-all-shared : (p : Program) (ops : List Access) (slots : List Slot) → AllZip (IsResultIn p) ops slots → AllByRecursion (λ (x : Slot). x.owned ≡ false) slots
+all-shared : (p : Program) (ops : List Access) (slots : List Slot) → AllZip (IsShare p) ops slots → AllByRecursion (λ (x : Slot). x.owned ≡ false) slots
 all-shared p [] [] each = tt
 all-shared p [] (x ∷ slots) each = absurd each
 all-shared p (a ∷ ops) [] each = absurd each
@@ -207,13 +208,13 @@ module _ {D : Type 0} (size faults mismatches : D → ℕ) (held : D → Option 
   released-is : released (pins s w) (scratch s w) (store_of p m s n) ≡ store_of p m s' n
   released-is =
       ap (λ es. store (node_size m n) (sum_by (scratch s) (workers_at m n) - scratch s w) (length p.cells) es) (all-less (tile_bytes p) (pins s w) (pins_on m s n) (order s n)
-      ∙ ap (λ (f : Cell → ℕ). entries (tile_bytes p) f (order s n)) (ext {f = λ c. pins_on m s n c - times (pins s w) c} {g = pins_on m s' n} (λ c. (let e = pins-before c in let z : pins_on m s n c - times (pins s w) c ≡ pins_on m s' n c = omega arith in z))))
+      ∙ ap (λ (f : Cell → ℕ). entries (tile_bytes p) f (order s n)) (fun_ext {f = λ c. pins_on m s n c - times (pins s w) c} {g = pins_on m s' n} (λ c. (let e = pins-before c in let z : pins_on m s n c - times (pins s w) c ≡ pins_on m s' n c = omega arith in z))))
       ∙ ap (λ (k : ℕ). store (node_size m n) k (length p.cells) (entries (tile_bytes p) (pins_on m s' n) (order s n))) (let z : sum_by (scratch s) (workers_at m n) - scratch s w ≡ sum_by (scratch s') (workers_at m n) = omega (arith, scratch-before) in z)
 
   store-elsewhere : (k : Node) → k ≢ n → store_of p m s' k ≡ store_of p m s k
   store-elsewhere k far =
       ap (λ (x : ℕ). store (node_size m k) x (length p.cells) (entries (tile_bytes p) (pins_on m s' k) (order s k))) (sum-at m k (scratch s') (scratch s) (λ v at. ap (λ (row : WorkerState). row.scratch) (same v at)))
-      ∙ ap (λ (f : Cell → ℕ). store (node_size m k) (sum_by (scratch s) (workers_at m k)) (length p.cells) (entries (tile_bytes p) f (order s k))) (ext {f = pins_on m s' k} {g = pins_on m s k} (λ c. sum-at m k (λ v. times (pins s' v) c) (λ v. times (pins s v) c) (λ v at. ap (λ (row : WorkerState). times row.pins c) (same v at))))
+      ∙ ap (λ (f : Cell → ℕ). store (node_size m k) (sum_by (scratch s) (workers_at m k)) (length p.cells) (entries (tile_bytes p) f (order s k))) (fun_ext {f = pins_on m s' k} {g = pins_on m s k} (λ c. sum-at m k (λ v. times (pins s' v) c) (λ v. times (pins s v) c) (λ v at. ap (λ (row : WorkerState). times row.pins c) (same v at))))
     where
       same : (v : Worker) → node_of m v ≡ k → worker_state s' v ≡ worker_state s v
       same v at = end-other_worker p m s t w s' ended refl v (λ e. far (sym at ∙ ap (node_of m) e))
@@ -258,7 +259,7 @@ module _ {D : Type 0} (size faults mismatches : D → ℕ) (held : D → Option 
     end-shared = All-from_recursion (λ (x : Slot). x.owned ≡ false) slots (all-shared p (written_operands (task_of p t)) slots results'.each)
 
     pub end-count : length slots ≡ length ws
-    end-count = AllZip-long (IsResultIn p) (written_operands (task_of p t)) slots results'.each ∙ sym (length-map (written_operands (task_of p t)) (worked_on p w))
+    end-count = AllZip-long (IsShare p) (written_operands (task_of p t)) slots results'.each ∙ sym (length-map (written_operands (task_of p t)) (worked_on p w))
 
     many : length ws ≡ length xs
     many = sym end-count ∙ sym (length-map slots (λ (x : Slot). x.array))

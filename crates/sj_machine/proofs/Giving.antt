@@ -16,8 +16,8 @@ use Rattle.sj_machine.specs.declared.fault.RunFault.{RunFault}
 use Rattle.sj_machine.specs.declared.hand.Hand.{Hand}
 use Rattle.std.proofs.lemmas.Bool.{cases_lt}
 use Rattle.std.proofs.lemmas.Option.{none-some}
-use Rattle.sj_machine.proofs.Hands.{given-set, hand-set, stands-same}
-use Rattle.sj_machine.proofs.Pooling.{all-pooled, none-contains, once, times-put}
+use Rattle.sj_machine.proofs.Hands.{given-set, hand-set, stands-same, inside-hands}
+use Rattle.sj_machine.proofs.Pooling.{all-pooled, home-inside, none-contains, once, times-put}
 
 pub once-given : (t : Task) (hand : Hand) → cond {A = ℕ} (is_given t hand) 1 0 ≡ once t hand.given
 once-given t hand = by_given hand.given
@@ -42,8 +42,8 @@ module _ {D : Type 0} (faults mismatches : D → ℕ) (held : D → Option (List
   abbrev s : State
   s = state b.run
 
-  pub hand-inside : w.0 < length b.hands
-  hand-inside = subst (λ (n : ℕ). w.0 < n) (sym keeps.inside.hands_agree.every_worker) known
+  abbrev hand-inside : w.0 < length b.hands
+  hand-inside = inside-hands p s b.hands b.fault keeps.inside.hands_agree w known
 
   abbrev giving : Option Task → Hand
   giving g = record (hand_of b w) { given = g }

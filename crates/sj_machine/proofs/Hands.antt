@@ -6,8 +6,13 @@ use Rattle.std.proofs.lemmas.List.Sums.{sum_by-set}
 use Rattle.sj_core.proofs.Words.{Machine, Program, State, Task, Worker, footprint, node_of, node_size}
 use Rattle.sj_pool.specs.Pool.{Pooled}
 use Rattle.sj_machine.specs.Board.{empty_hand, hand_in}
-use Rattle.sj_machine.specs.BoardSound.{IsPoolFor, StandsOnce, is_given, times_given, times_pooled}
+use Rattle.sj_machine.specs.BoardSound.{IsPoolFor, StandsOnce, is_given, times_given, times_pooled, HandsAgree}
 use Rattle.sj_machine.specs.declared.hand.Hand.{Hand}
+use Rattle.sj_machine.specs.declared.fault.RunFault.{RunFault}
+
+-- each worker has a hand
+pub inside-hands : (p : Program) (s : State) (hands : List Hand) (fault : Option RunFault) → HandsAgree p s hands fault → (w : Worker) → w.0 < p.workers → w.0 < length hands
+inside-hands p s hands fault agree w known = subst (λ (n : ℕ). w.0 < n) (sym agree.every_worker) known
 
 -- what is so of a new hand of one worker, and of the old ones of the others, is so of each worker's
 pub hand-set_apart : (P : Worker → Hand → Type 0) (hands : List Hand) (w : Worker) (h : Hand) → w.0 < length hands → P w h → ((v : Worker) → v ≢ w → P v (hand_in hands v)) → (v : Worker) → P v (hand_in (slice_set hands w.0 h) v)

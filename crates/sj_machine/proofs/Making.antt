@@ -1,5 +1,5 @@
 -- A run on which nothing has happened.
-use Rattle.std.proofs.Common.{◌≡◌, ◌≤◌, ◌+◌, ◌*◌, ◌∙◌, ℕ, zero, suc, true, false, List, [], ◌∷◌, Option, None, Some, refl, sym, ap, subst, arith, inl, inr, length, map, get_or, replicate, sum_by, is_some}
+use Rattle.std.proofs.Common.{◌≡◌, ◌≤◌, ◌+◌, ◌*◌, ◌∙◌, ℕ, true, false, List, [], ◌∷◌, Option, None, Some, refl, sym, ap, subst, arith, inl, inr, length, map, replicate, sum_by, is_some}
 use Rattle.std.specs.Prelude.{IfSome, IsSomeAnd, fold}
 use Rattle.std.proofs.lemmas.Bool.{cases_lt, false≢true}
 use Rattle.std.proofs.lemmas.List.{get_or-map, get_or-replicate, get_or_past, length-map, length-replicate}
@@ -9,9 +9,9 @@ use Rattle.sj_base.specs.Recorded.{Recorded}
 use Rattle.sj_base.specs.declared.trace.Event.{Event}
 use Rattle.sj_core.specs.declared.progress.Progress.{Progress}
 use Rattle.sj_core.specs.declared.progress.Progress.TheVariants.{Waiting}
-use Rattle.sj_core.proofs.Words.{Array, AtNode, Cell, CellState, DiskNo, Invalid, Machine, Node, OnDisk, Place, Program, Worker, WorkerState, array_of, dims_of, is_valid, no_replica, node_size, opening, order, progress, replica, replica_in, scratch, workers_at, writes}
-use Rattle.sj_core.proofs.Opening.{opening-coherent}
-use Rattle.sj_core.proofs.Reading.{idle_row, no_row, replica_in-no_row}
+use Rattle.sj_core.proofs.Words.{Array, AtNode, Cell, DiskNo, Machine, Node, OnDisk, Program, WorkerState, array_of, dims_of, is_valid, node_size, opening, order, progress, replica, scratch, workers_at, writes}
+use Rattle.sj_core.proofs.Opening.{opening-coherent, nowhere, unwritten, no_scratch}
+use Rattle.sj_core.proofs.Reading.{idle_row}
 use Rattle.sj_core.proofs.Finding.{being_written-by}
 use Rattle.sj_core.specs.Coherent.{is_being_written}
 use Rattle.sj_edge.proofs.GivenBackLemmas.{all_given_back-untouched, all_untouched-same}
@@ -25,11 +25,7 @@ use Rattle.sj_machine.specs.Copies.{Copies, mark_at, none_at, row_of, tile_at}
 use Rattle.sj_machine.specs.Sound.{IsBlock, IsRunOf, Keeps, block_of, most_events}
 use Rattle.sj_machine.specs.Standing.{AllTell, Standing, standing, starting}
 use Rattle.sj_machine.proofs.Reading.{no_copies}
-
-all_same : {X : Type 0} (n i : ℕ) (a : X) → get_or (replicate n a) i a ≡ a
-all_same zero i a = refl
-all_same (suc n) zero a = refl
-all_same (suc n) (suc i) a = all_same n i a
+use Rattle.sj_base.proofs.Lists.{get_or-replicate_same}
 
 sum-none : {X : Type 0} (f : X → ℕ) (n : ℕ) (x : X) → f x ≡ 0 → sum_by f (replicate n x) ≡ 0
 sum-none f n x e = sum_by-replicate f n x ∙ ap (λ k. n * k) e ∙ (let z : n * 0 ≡ 0 = omega arith in z)
@@ -39,28 +35,10 @@ sum-all_none f none a [] = refl
 sum-all_none f none a (x ∷ xs) = ap (λ b. fold (λ c y. c + f y) b xs) (let e = none x in omega arith) ∙ sum-all_none f none a xs
 
 module _ (p : Program) (m : Machine) where
-  nowhere : (c : Cell) (q : Place) → replica (opening p m) c q ≡ Invalid
-  nowhere c q =
-      elim (cases_lt c.0 (length p.cells)) [
-        | inl inside ↦ ap (λ (r : CellState). replica_in r q) (get_or-replicate (length p.cells) c.0 (no_replica m) no_row inside) ∙ none q
-        | inr past ↦ ap (λ (r : CellState). replica_in r q) (get_or_past (replicate (length p.cells) (no_replica m)) c.0 no_row (omega (arith, length-replicate (length p.cells) (no_replica m)))) ∙ replica_in-no_row q
-      ]
-    where
-      none : (q : Place) → replica_in (no_replica m) q ≡ Invalid
-      none (AtNode n) = all_same (length m.nodes) n.0 Invalid
-      none (OnDisk d) = all_same (length m.disks) d.0 Invalid
-
-  unwritten : (c : Cell) → writes (opening p m) c ≡ 0
-  unwritten c =
-      elim (cases_lt c.0 (length p.cells)) [
-        | inl inside ↦ ap (λ (r : CellState). r.writes) (get_or-replicate (length p.cells) c.0 (no_replica m) no_row inside)
-        | inr past ↦ ap (λ (r : CellState). r.writes) (get_or_past (replicate (length p.cells) (no_replica m)) c.0 no_row (omega (arith, length-replicate (length p.cells) (no_replica m))))
-      ]
-
   resting : (c : Cell) → is_being_written p (opening p m) c ≡ true → ⊥
   resting c h =
       let by = being_written-by p (opening p m) c h in
-      let waits : progress (opening p m) by.0 ≡ Waiting = all_same (length p.tasks) by.0.0 Waiting in
+      let waits : progress (opening p m) by.0 ≡ Waiting = get_or-replicate_same (length p.tasks) by.0.0 Waiting in
       let run = sym waits ∙ by.1 in
       cc
 
@@ -76,21 +54,18 @@ module _ (p : Program) (m : Machine) where
       ]
 
   no_mark : (c : Cell) (n : Node) → mark_at (row_of no_rows c) n ≡ NoMark
-  no_mark c n = row_is (λ row. mark_at row n ≡ NoMark) (all_same (length m.nodes) n.0 NoMark) refl c
+  no_mark c n = row_is (λ row. mark_at row n ≡ NoMark) (get_or-replicate_same (length m.nodes) n.0 NoMark) refl c
 
   no_tile : (c : Cell) (n : Node) → tile_at (row_of no_rows c) n ≡ None
-  no_tile c n = row_is (λ row. tile_at row n ≡ None) (all_same (length m.nodes) n.0 None) refl c
+  no_tile c n = row_is (λ row. tile_at row n ≡ None) (get_or-replicate_same (length m.nodes) n.0 None) refl c
 
   abbrev first_rows : Rows
   first_rows = rows_of (replicate (length p.tasks) Waiting) no_rows (map (λ size. empty size (length p.cells)) m.nodes) (replicate m.workers idle_row)
 
-  no_scratch : (w : Worker) → scratch (opening p m) w ≡ 0
-  no_scratch w = ap (λ (row : WorkerState). row.scratch) (all_same m.workers w.0 idle_row)
-
   first_store : (n : Node) → store_of p m (opening p m) n ≡ empty (node_size m n) (length p.cells)
   first_store n =
-      ap (λ k. store (node_size m n) k (length p.cells) (map (entry_of p m (opening p m) n) (order (opening p m) n))) (sum-all_none (scratch (opening p m)) no_scratch 0 (workers_at m n))
-      ∙ ap (λ (cs : List Cell). store (node_size m n) 0 (length p.cells) (map (entry_of p m (opening p m) n) cs)) (all_same (length m.nodes) n.0 [])
+      ap (λ k. store (node_size m n) k (length p.cells) (map (entry_of p m (opening p m) n) (order (opening p m) n))) (sum-all_none (scratch (opening p m)) (no_scratch p m) 0 (workers_at m n))
+      ∙ ap (λ (cs : List Cell). store (node_size m n) 0 (length p.cells) (map (entry_of p m (opening p m) n) cs)) (get_or-replicate_same (length m.nodes) n.0 [])
 
   first_agrees : (Tells : Type 0) → Agrees p m (opening p m) Tells first_rows
   first_agrees Tells = record {
@@ -99,12 +74,12 @@ module _ (p : Program) (m : Machine) where
     marks = record {
       every_cell = length-replicate (length p.cells) (none_at (length m.nodes));
       wide = All-replicate (IsWide (length m.nodes)) (length p.cells) (none_at (length m.nodes)) (record { marks = length-replicate (length m.nodes) NoMark; tiles = length-replicate (length m.nodes) None });
-      marks = λ c n. no_mark c n ∙ ap mark_of (sym (nowhere c (AtNode n)));
-      on_disk = λ c d home. row_is (λ row. row.on_disk ≡ false) refl refl c ∙ ap is_valid (sym (nowhere c (OnDisk d)));
-      writes = λ c. row_is (λ row. row.writes ≡ 0) refl refl c ∙ sym (unwritten c);
+      marks = λ c n. no_mark c n ∙ ap mark_of (sym (nowhere p m c (AtNode n)));
+      on_disk = λ c d home. row_is (λ row. row.on_disk ≡ false) refl refl c ∙ ap is_valid (sym (nowhere p m c (OnDisk d)));
+      writes = λ c. row_is (λ row. row.writes ≡ 0) refl refl c ∙ sym (unwritten p m c);
     };
     tiles = record {
-      there = λ c n rests. ap is_some (no_tile c n) ∙ ap is_valid (sym (nowhere c (AtNode n)));
+      there = λ c n rests. ap is_some (no_tile c n) ∙ ap is_valid (sym (nowhere p m c (AtNode n)));
       out = λ c n written. no_tile c n;
       dims = λ c n. subst (λ (o : Option Array). IfSome o (λ a. a.dims ≡ dims_of p c)) (sym (no_tile c n)) tt;
       arrays = λ tells c n. subst (λ (o : Option Array). IfSome o (λ a. array_of (replica (opening p m) c (AtNode n)) ≡ Some a)) (sym (no_tile c n)) tt;

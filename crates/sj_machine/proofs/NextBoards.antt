@@ -1,11 +1,10 @@
 -- What follows of a board's next step for a worker.
-use Rattle.std.proofs.Common.{arith, ◌≡◌, ◌∙◌, ◌||◌, ℕ, Bool, true, false, List, Option, None, Some, ap, cond, refl, subst, sym, get_or}
+use Rattle.std.proofs.Common.{arith, ◌≡◌, ◌∙◌, ℕ, false, List, Option, None, Some, ap, subst, sym, get_or}
 use Rattle.std.specs.Prelude.{IfSome, is_some, if◌then◌else◌}
 use Rattle.std.proofs.lemmas.List.{get_or_default}
 use Rattle.sj_base.specs.declared.trace.Event.TheVariants.{Run}
-use Rattle.sj_core.proofs.Words.{Machine, Program, State, Task, Worker, is_claimed_by, is_running_on, is_task_of, progress, transfer}
+use Rattle.sj_core.proofs.Words.{Machine, Program, State, Task, Worker, is_claimed_by, is_running_on, progress, transfer}
 use Rattle.sj_core.specs.declared.progress.Progress.TheVariants.{Claimed}
-use Rattle.sj_core.specs.declared.progress.Transfer.{Transfer}
 use Rattle.sj_core.proofs.Advancing.{claimed_by-is}
 use Rattle.sj_core.specs.Laws.{IsSound}
 use Rattle.sj_deps.specs.Progress.{Progress as Dependencies}
@@ -18,6 +17,7 @@ use Rattle.sj_machine.specs.Todo.{AnotherGoesOn, CanBegin, IsMoverOf, IsNext}
 use Rattle.sj_machine.specs.declared.todo.Todo.{Todo}
 use Rattle.sj_machine.specs.declared.todo.Todo.TheVariants.{Discard, Nothing, Start, Transfer as TransferNext, Wait}
 use Rattle.sj_machine.proofs.NextSteps.{IsPossible, next-possible, wait-ends}
+use Rattle.sj_base.proofs.Bools.{or_first}
 
 -- what is read of the worker's hand
 pub hand-read : {D : Type 0} (faults mismatches : D → ℕ) (held : D → Option (List ℕ)) (b : BoardState D) (deps : Dependencies) (footprints : List ℕ) → KeepsBoard faults mismatches held b deps footprints → (w : Worker) → IsWorking b w → (x d : Hand) → x ≡ get_or b.hands w.0 d → (t : Task) → x.task ≡ Some t → (hand_of b w).task ≡ Some t
@@ -37,11 +37,7 @@ module _ {D : Type 0} (faults mismatches : D → ℕ) (held : D → Option (List
   sound = record { proper = run.run.proper; machine = run.run.machine; coherent = run.coherent }
 
   claimed : progress s t ≡ Claimed w
-  claimed = claimed_by-is w (progress s t) (by_parts (is_claimed_by w (progress s t)) (is_running_on w (progress s t)) (keeps.inside.hands_agree.has w t has) (subst (λ (o : Option Task). IfSome o (λ u. is_running_on w (progress s u) ≡ false)) has runs_none))
-    where
-      by_parts : (x y : Bool) → (x || y) ≡ true → y ≡ false → x ≡ true
-      by_parts true y h e = refl
-      by_parts false y h e = absurd (let clash : true ≡ false = sym h ∙ e in cc)
+  claimed = claimed_by-is w (progress s t) (or_first (is_claimed_by w (progress s t)) (is_running_on w (progress s t)) (keeps.inside.hands_agree.has w t has) (subst (λ (o : Option Task). IfSome o (λ u. is_running_on w (progress s u) ≡ false)) has runs_none))
 
   free : transfer s w ≡ None
   free = sym (ap (λ (o : Option Task). if is_some o then transfer s w else None) has) ∙ moves_none

@@ -1,37 +1,33 @@
 -- What the rows say of a worker's next step is what the state says.
-use Rattle.std.proofs.Common.{◌≡◌, ℕ, ◌<◌, ◌≤◌, ◌^◌, ◌+◌, Bool, true, false, not, ◌&&◌, ◌||◌, cond, List, [], ◌∷◌, Option, Some, None, length, get_or, is_some, map, reverse, refl, sym, ap, ◌∙◌, subst, inl, inr, arith, nat_eq}
-use Rattle.std.specs.Prelude.{All, IfSome, IsSomeAnd, MatchBool, MatchOption, if◌then◌else◌, nat_lt, option_and_then, option_map, position, slice_get}
+use Rattle.std.proofs.Common.{◌≡◌, ℕ, ◌<◌, ◌^◌, ◌+◌, Bool, true, false, not, ◌&&◌, ◌||◌, cond, List, [], ◌∷◌, Option, Some, None, length, get_or, is_some, map, reverse, refl, sym, ap, ◌∙◌, subst, arith, nat_eq}
+use Rattle.std.specs.Prelude.{IfSome, IsSomeAnd, MatchBool, MatchOption, if◌then◌else◌, nat_lt, option_map, position}
 use Rattle.std.specs.List.{find, list_all, list_any, position_or_len, range_with_len, slice_index_or}
-use Rattle.std.proofs.lemmas.Bool.{cases_Bool, false_from_ne_true, false≢true, not-true}
+use Rattle.std.proofs.lemmas.Bool.{false_from_ne_true, false≢true}
 use Rattle.std.proofs.lemmas.List.{get_or_default}
 use Rattle.std.proofs.lemmas.List.Elements.{All-get_or}
-use Rattle.std.proofs.lemmas.List.Folds.{list_any-append, list_any_at}
-use Rattle.std.proofs.lemmas.List.FromFn.{fill_by_all, get_or-map-range_with_len, length-map-range_with_len}
+use Rattle.std.proofs.lemmas.List.Folds.{list_any-append}
+use Rattle.std.proofs.lemmas.List.FromFn.{fill_by_all}
 use Rattle.std.proofs.lemmas.List.Sums.{fails_before_first, passes_at_first, position_or_len_is, prefix_len-le-length}
 use Rattle.std.proofs.lemmas.Option.{none-some}
-use Rattle.sj_base.specs.Mode.{is_data, is_written, starts_as_zeros}
 use Rattle.sj_base.specs.declared.mode.Access.{Access}
 use Rattle.sj_base.specs.declared.program.CellInfo.{CellInfo}
-use Rattle.sj_core.proofs.Words.{AtNode, Block, Cell, CellState, Coming, DiskNo, Invalid, Leaving, Machine, Node, OnDisk, Place, Program, Replica, State, Task, Valid, Worker, WorkerState, cell_info, cell_state, cells_of, copy_of, fresh_cells, has_cell, is_coming_by, is_entry, is_gone, is_leaving, is_leaving_by, is_valid, node_of, place, progress, replica, same_cell, task_of, victims_of, workers_of, written_cells, writes}
+use Rattle.sj_core.proofs.Words.{AtNode, Block, Cell, CellState, Coming, DiskNo, Invalid, Leaving, Machine, Node, OnDisk, Place, Program, Replica, State, Task, Valid, Worker, WorkerState, cell_info, cell_state, cells_of, fresh_cells, has_cell, is_coming_by, is_entry, is_gone, is_leaving, is_leaving_by, is_valid, node_of, place, progress, replica, task_of, victims_of, written_cells, writes}
 use Rattle.sj_core.specs.declared.progress.Progress.TheVariants.{Claimed}
-use Rattle.sj_core.specs.declared.progress.Transfer.{Transfer}
 use Rattle.sj_core.proofs.Blocks.{disk-within, has-disk}
 use Rattle.sj_core.proofs.Claimed.{claimed-staffed}
 use Rattle.sj_core.proofs.Readiness.{list_any-map, list_any-some}
 use Rattle.sj_core.proofs.Reading.{idle_row, no_row}
 use Rattle.sj_core.proofs.Replicas.{coming_by-is}
-use Rattle.sj_core.specs.Coherent.{Coherent}
 use Rattle.sj_core.specs.Laws.{IsSound}
 use Rattle.sj_core.specs.Proper.{IsCopyOf}
-use Rattle.sj_core.specs.Step.{disk_of, is_fresh, is_moving, is_present, is_read, is_valid_elsewhere, same_place, source_of}
+use Rattle.sj_core.specs.Step.{disk_of, is_moving, is_present, is_read, is_valid_elsewhere, same_place, source_of}
 use Rattle.sj_disk.specs.declared.directory.Extent.{Extent}
 use Rattle.sj_disk.specs.Directory.{extent_of}
 use Rattle.sj_machine.specs.Agrees.{IsWide, Rows}
 use Rattle.sj_machine.specs.Choosing.{HasNumbers, are_present, are_unmoved, comes_in, fresh_among, is_brought, is_moving_in, is_there_in, leaves_in, moves_in, reads_in}
 use Rattle.sj_machine.specs.Operands.{worked_among}
-use Rattle.sj_machine.specs.Copies.{Copies, first_node, is_copy_beside, is_elsewhere, mark_at, row_of}
+use Rattle.sj_machine.specs.Copies.{Copies, first_node, is_copy_beside, is_elsewhere, row_of}
 use Rattle.sj_machine.specs.Mark.{is_coming_by as is_coming_mark, is_leaving_by as is_leaving_mark, is_there, mark_of}
-use Rattle.sj_machine.specs.declared.mark.Mark.{Mark}
 use Rattle.sj_machine.specs.declared.mark.Mark.TheVariants.{Invalid as NoMark}
 use Rattle.sj_machine.specs.Sound.{IsBlock, Keeps, block_of}
 use Rattle.sj_machine.specs.Standing.{Standing, state}
@@ -42,6 +38,8 @@ use Rattle.sj_machine.proofs.Keeping.{sound_state}
 use Rattle.sj_machine.proofs.NextSteps.{cell-comes, fresh-is, victim-leaves}
 use Rattle.sj_machine.proofs.Reading.{no_copies}
 use Rattle.sj_machine.proofs.Resting.{entry-cell, leaving-valid, valid-cell}
+use Rattle.sj_base.proofs.Bools.{not_not}
+use Rattle.sj_base.proofs.Lists.{list_any-numbered}
 
 -- ---- lists
 
@@ -61,10 +59,6 @@ find-agree f g same (x ∷ xs) = ap (λ b. cond b (Some x) (find f xs)) (same x)
 -- a test of each element is one of each place
 pub list_any-places : {X : Type 0} (test : X → Bool) (xs : List X) (d : X) (n : ℕ) → length xs ≡ n → list_any test xs ≡ list_any (λ k. test (slice_index_or xs k d)) (range_with_len 0 n)
 list_any-places test xs d n many = ap (list_any test) (fill_by_all (λ k. get_or xs k d) xs n d many (λ k inside. refl)) ∙ list_any-map test (λ k. get_or xs k d) (range_with_len 0 n)
-
--- one of the first n numbers passes
-list_any-numbered : {X : Type 0} (f : ℕ → X) (test : X → Bool) (k n : ℕ) → k < n → test (f k) ≡ true → list_any test (map f (range_with_len 0 n)) ≡ true
-list_any-numbered f test k n inside passes = list_any_at test (map f (range_with_len 0 n)) k (f k) (omega (arith, inside, length-map-range_with_len f 0 n)) (ap test (get_or-map-range_with_len f 0 n k k (f k) inside (omega arith)) ∙ passes)
 
 -- the first place is the same where tests agree place by place
 position-agree : {X Y : Type 0} (f : X → Bool) (g : Y → Bool) (xs : List X) (ys : List Y) (d : X) (e : Y) → length xs ≡ length ys → ((k : ℕ) → f (get_or xs k d) ≡ g (get_or ys k e)) → position f xs ≡ position g ys
@@ -97,10 +91,6 @@ or_comm true true = refl
 or_comm true false = refl
 or_comm false true = refl
 or_comm false false = refl
-
-not_not : (b : Bool) → not (not b) ≡ b
-not_not true = refl
-not_not false = refl
 
 module _ {D : Type 0} (size faults mismatches : D → ℕ) (held : D → Option (List ℕ)) (b : Standing D) (rows : Rows) (spare : ℕ) (keeps : Keeps size faults mismatches held b rows spare) where
   abbrev p : Program

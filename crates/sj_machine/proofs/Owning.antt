@@ -12,7 +12,7 @@ use Rattle.std.proofs.lemmas.List.Sums.{sum_by-cons}
 use Rattle.sj_base.specs.Recorded.{Recorded}
 use Rattle.sj_base.specs.declared.mode.Access.{Access}
 use Rattle.sj_base.specs.declared.trace.Event.TheVariants.{Run}
-use Rattle.sj_base.specs.Mode.{reads_value, starts_as_zeros}
+use Rattle.sj_base.specs.Mode.{reads_value, starts_as_zeros, reads_of}
 use Rattle.sj_codelet.specs.Frame.{Slot, shared}
 use Rattle.sj_core.specs.declared.progress.Progress.{Progress}
 use Rattle.sj_core.specs.declared.progress.Progress.TheVariants.{Running}
@@ -38,7 +38,7 @@ use Rattle.sj_node.specs.Store.{Store, store, with_entries}
 use Rattle.sj_machine.specs.Mark.{mark_of}
 use Rattle.sj_machine.specs.Agrees.{HasMarks, HasStores, HasTiles, IsWide, Rows, entry_of, pins_on, rows_of, store_of}
 use Rattle.sj_machine.specs.Copies.{Copies, lent_at, mark_at, row_of, tile_at}
-use Rattle.sj_machine.specs.Operands.{CanWorkOn, read_among, written_among}
+use Rattle.sj_machine.specs.Operands.{CanWorkOn, written_among}
 use Rattle.sj_machine.specs.Running.{AreSharesFor, AreUnpinned, CanGive, IsShareIn, evicted_at, kept_at, lend_each, shares_at}
 use Rattle.sj_machine.specs.Sound.{HoldsBlocks, Keeps}
 use Rattle.sj_machine.specs.Standing.{AllTell, CanHappen, IsTileOf, Standing, state}
@@ -330,7 +330,7 @@ module _ {D : Type 0} (size faults mismatches : D → ℕ) (held : D → Option 
   run-shares b' slots same is =
       subst (λ (x : Standing D). AreSharesFor held x t w slots) same
       (subst (λ (l : List Slot). AreSharesFor held b t w l) (sym is)
-      (zipped (IsShareIn held b w) (λ (a : Access). shared (kept_at rows.cells n (worked_on p w a))) (read_among (task_of p t).accesses) (λ a h. share a (Contains-from_filter (λ (x : Access). reads_value x.mode) (task_of p t).accesses a h) (filter-Contains (λ (x : Access). reads_value x.mode) (task_of p t).accesses a h))))
+      (zipped (IsShareIn held b w) (λ (a : Access). shared (kept_at rows.cells n (worked_on p w a))) (reads_of (task_of p t).accesses) (λ a h. share a (Contains-from_filter (λ (x : Access). reads_value x.mode) (task_of p t).accesses a h) (filter-Contains (λ (x : Access). reads_value x.mode) (task_of p t).accesses a h))))
     where
       share : (a : Access) → Contains (task_of p t).accesses a → reads_value a.mode ≡ true → IsShareIn held b w a (shared (kept_at rows.cells n (worked_on p w a)))
       share a has reads =

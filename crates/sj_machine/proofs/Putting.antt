@@ -1,11 +1,10 @@
 -- The rows of cells after new tiles of some were put.
-use Rattle.std.proofs.Common.{◌≡◌, ◌<◌, ◌≤◌, ◌+◌, ℕ, suc, Bool, true, false, List, [], ◌∷◌, ◌++◌, None, Some, ◌∙◌, ap, arith, cond, find, length, map, refl, subst, sum_by, sym, ◌||◌}
+use Rattle.std.proofs.Common.{◌≡◌, ◌<◌, ◌≤◌, ◌+◌, ℕ, suc, Bool, true, false, List, [], ◌∷◌, ◌++◌, None, Some, ◌∙◌, ap, arith, cond, find, length, map, refl, subst, sym, ◌||◌}
 use Rattle.std.specs.Prelude.{All, filter}
 use Rattle.std.specs.List.{zip}
 use Rattle.std.proofs.lemmas.Bool.{false_from_ne_true, false≢true, or_parts}
-use Rattle.std.proofs.lemmas.List.{append-nil, get_or_append_left, get_or_push, length-map, length-set, length_push, map-append}
+use Rattle.std.proofs.lemmas.List.{append-nil, get_or_push, length-map, length-set, length_push, map-append}
 use Rattle.std.proofs.lemmas.List.Elements.{All-get_or, All-set, All-weaker, filter-append}
-use Rattle.std.proofs.lemmas.List.Sums.{sum_by-set}
 use Rattle.sj_base.specs.Array.{Array, zeros}
 use Rattle.sj_base.specs.Mode.{is_written}
 use Rattle.sj_base.specs.declared.mode.Access.{Access}
@@ -15,20 +14,16 @@ use Rattle.sj_core.proofs.CellLists.{same_cell-refl, times, times-cons, times-ha
 use Rattle.sj_core.proofs.Reading.{same_cell-is}
 use Rattle.sj_core.proofs.Sums.{tally}
 use Rattle.sj_core.specs.Fold.{held_in}
-use Rattle.sj_machine.specs.declared.mark.Mark.TheVariants.{Invalid, Valid}
+use Rattle.sj_machine.specs.declared.mark.Mark.TheVariants.{Valid}
 use Rattle.sj_machine.specs.Agrees.{IsWide}
-use Rattle.sj_machine.specs.Copies.{Copies, mark_at, row_of, with_row, written_at}
+use Rattle.sj_machine.specs.Copies.{Copies, row_of, with_row, written_at}
 use Rattle.sj_core.specs.Operands.{worked_on}
 use Rattle.sj_machine.specs.Operands.{CanWorkOn, written_among}
 use Rattle.sj_machine.specs.Running.{CanPutBack, CanRewrite, put_each}
 use Rattle.sj_machine.proofs.Reading.{no_copies, row-other, row-same}
+use Rattle.sj_base.proofs.Lists.{All-front}
 
 -- ---- the operands from the last to the first
-
--- what is so of all is so of those before the last, and of the last
-pub all-before : {X : Type 0} (P : X → Type 0) (xs before : List X) (last : X) → xs ≡ before ++ last ∷ [] → All P xs → All P before
-all-before P xs before last e all i d inside =
-    subst P (get_or_append_left before (last ∷ []) d i inside) (subst (All P) e all i d (omega (arith, inside, length_push before last)))
 
 pub all-last : {X : Type 0} (P : X → Type 0) (xs before : List X) (last : X) → xs ≡ before ++ last ∷ [] → All P xs → P last
 all-last P xs before last e all =
@@ -65,8 +60,8 @@ pub can_put-skip : (p : Program) (w : Worker) (n : Node) (accesses before : List
 can_put-skip p w n accesses before last slots rows e stays can =
     let same : written_among p w accesses ≡ written_among p w before = ap (written_among p w) e ∙ among_unwritten p w before last stays in
     record {
-      works = all-before (CanWorkOn p w) accesses before last e can.works;
-      cells = all-before (λ a. (worked_on p w a).0 < length rows) accesses before last e can.cells;
+      works = All-front (CanWorkOn p w) accesses before last e can.works;
+      cells = All-front (λ a. (worked_on p w a).0 < length rows) accesses before last e can.cells;
       rewrites = subst (λ (l : List Cell). All (CanRewrite n (length l)) rows) same can.rewrites;
       shares = can.shares;
       count = can.count ∙ ap length same;
@@ -82,10 +77,10 @@ can_put-take p w n accesses before last slots slots' x rows rows' c e writes mad
     let fewer : All (CanRewrite n (length (written_among p w before))) rows = All-weaker (CanRewrite n (length (written_among p w accesses))) (CanRewrite n (length (written_among p w before))) (λ row is. record { node = is.node; few = omega (arith, is.few, more) }) rows can.rewrites in
     let here : CanRewrite n (length (written_among p w accesses)) (row_of rows c) = All-get_or (CanRewrite n (length (written_among p w accesses))) rows c.0 no_copies inside can.rewrites in
     record {
-      works = all-before (CanWorkOn p w) accesses before last e can.works;
-      cells = subst (λ k. All (λ a. (worked_on p w a).0 < k) before) (sym long) (all-before (λ a. (worked_on p w a).0 < length rows) accesses before last e can.cells);
+      works = All-front (CanWorkOn p w) accesses before last e can.works;
+      cells = subst (λ k. All (λ a. (worked_on p w a).0 < k) before) (sym long) (All-front (λ a. (worked_on p w a).0 < length rows) accesses before last e can.cells);
       rewrites = subst (All (CanRewrite n (length (written_among p w before)))) (sym now) (All-set (CanRewrite n (length (written_among p w before))) rows c.0 (written_at (row_of rows c) n x) (record { node = omega (arith, here.node, length-set (row_of rows c).marks n.0 Valid); few = omega (arith, here.few, more) }) fewer);
-      shares = all-before (λ (y : Slot). y.owned ≡ false) slots slots' (shared x) made can.shares;
+      shares = All-front (λ (y : Slot). y.owned ≡ false) slots slots' (shared x) made can.shares;
       count = omega (arith, can.count, more, ap length made, length_push slots' (shared x));
     }
 

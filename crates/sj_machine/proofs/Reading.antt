@@ -1,9 +1,8 @@
 -- Reading the rows of cells after one of them was written.
-use Rattle.std.proofs.Common.{◌≡◌, ◌≢◌, ℕ, ◌+◌, ◌<◌, List, [], Option, None, length, sym, ap, ◌∙◌, subst, inl, inr, arith, sum_by}
+use Rattle.std.proofs.Common.{◌≡◌, ◌≢◌, ℕ, ◌<◌, List, [], Option, None, length, sym, ap, ◌∙◌, subst, inl, inr}
 use Rattle.std.specs.Prelude.{All}
 use Rattle.std.proofs.lemmas.List.{get_or-set_other, get_or-set_same, length-set}
 use Rattle.std.proofs.lemmas.List.Elements.{All-get_or, All-set}
-use Rattle.std.proofs.lemmas.List.Sums.{sum_by-set}
 use Rattle.sj_base.specs.declared.ids.Cell.{Cell}
 use Rattle.sj_base.specs.declared.ids.Node.{Node}
 use Rattle.sj_base.specs.Array.{Array}
@@ -13,12 +12,10 @@ use Rattle.sj_machine.specs.declared.mark.Mark.{Mark}
 use Rattle.sj_machine.specs.declared.mark.Mark.TheVariants.{Invalid}
 use Rattle.sj_machine.specs.Agrees.{IsWide}
 use Rattle.sj_machine.specs.Copies.{Copies, mark_at, row_of, tile_at, with_copy, with_row}
+use Rattle.sj_base.proofs.SameIds.{other_node}
 
 cell_number : (c d : Cell) → d ≢ c → d.0 ≢ c.0
 cell_number c d h e = h (ap (λ (i : ℕ). let j : Cell = record { 0 = i } in j) e)
-
-node_number : (n k : Node) → k ≢ n → k.0 ≢ n.0
-node_number n k h e = h (ap (λ (i : ℕ). let j : Node = record { 0 = i } in j) e)
 
 abbrev pub no_copies : Copies
 no_copies = row_of [] (record { 0 = 0 })
@@ -62,7 +59,7 @@ module _ (rows : List Copies) (c : Cell) (n : Node) (x : Mark) (tile : Option Ar
             let back : row_of rows c ≡ row_of rows d = ap (row_of rows) (sym e) in
             elim (same_node k n) [
               | inl at ↦ Here e at (ap (λ (r : Copies). mark_at r k) row ∙ ap (mark_at (change (row_of rows c))) at ∙ get_or-set_same (row_of rows c).marks n.0 x Invalid marks) (ap (λ (r : Copies). tile_at r k) row ∙ ap (tile_at (change (row_of rows c))) at ∙ get_or-set_same (row_of rows c).tiles n.0 tile None tiles)
-              | inr far ↦ There (λ both. far both.1) (ap (λ (r : Copies). mark_at r k) row ∙ get_or-set_other (row_of rows c).marks n.0 k.0 x Invalid (node_number n k far) ∙ ap (λ (r : Copies). mark_at r k) back) (ap (λ (r : Copies). tile_at r k) row ∙ get_or-set_other (row_of rows c).tiles n.0 k.0 tile None (node_number n k far) ∙ ap (λ (r : Copies). tile_at r k) back)
+              | inr far ↦ There (λ both. far both.1) (ap (λ (r : Copies). mark_at r k) row ∙ get_or-set_other (row_of rows c).marks n.0 k.0 x Invalid (other_node n k far) ∙ ap (λ (r : Copies). mark_at r k) back) (ap (λ (r : Copies). tile_at r k) row ∙ get_or-set_other (row_of rows c).tiles n.0 k.0 tile None (other_node n k far) ∙ ap (λ (r : Copies). tile_at r k) back)
             ]
             )
       ]

@@ -1,6 +1,6 @@
 -- A claim is refused only while another worker has a task: where none has one, nothing is in use, nothing leaves, and the node
 -- has room.
-use Rattle.std.proofs.Common.{◌≡◌, ◌∙◌, ◌∷◌, ◌<◌, ◌≤◌, ◌+◌, ◌*◌, ◌&&◌, ℕ, suc, [], List, Option, None, Some, Bool, true, false, not, IsTrue, ap, arith, cond, filter, find, get_or, inl, inr, length, map, refl, sum_by, sym}
+use Rattle.std.proofs.Common.{◌≡◌, ◌∙◌, ◌∷◌, ◌<◌, ◌≤◌, ◌+◌, ◌*◌, ◌&&◌, ℕ, suc, [], List, Option, None, Some, Bool, true, false, not, IsTrue, ap, arith, cond, filter, get_or, inl, inr, length, map, refl, sum_by, sym}
 use Rattle.std.specs.Prelude.{AllPairs, Contains, Err, IfErr, Ok, OnErr, Result, if◌then◌else◌}
 use Rattle.std.proofs.lemmas.Bool.{and_parts, cases_Bool, false_from_ne_true, false≢true, le-leb}
 use Rattle.std.proofs.lemmas.List.Elements.{filter_agree}
@@ -36,16 +36,10 @@ use Rattle.sj_machine.specs.Standing.{Standing, state}
 use Rattle.sj_machine.specs.declared.plan.Why.{Why}
 use Rattle.sj_machine.specs.declared.plan.Why.TheVariants.{Commute, Leaving, NoRoom}
 use Rattle.sj_machine.specs.declared.refusal.ClaimRefusal.TheVariants.{NotNow, OutOfMemory}
+use Rattle.sj_base.proofs.Bools.{and_swap}
+use Rattle.sj_base.proofs.Lists.{find-passes}
 
 -- ---- lists
-
-found-some : {X : Type 0} (f : X → Bool) (xs : List X) (x : X) → find f xs ≡ Some x → f x ≡ true
-found-some f [] x e = absurd (cc)
-found-some f (y ∷ xs) x e = by_case (f y) refl e (found-some f xs x)
-  where
-    by_case : (b : Bool) → f y ≡ b → cond b (Some y) (find f xs) ≡ Some x → (find f xs ≡ Some x → f x ≡ true) → f x ≡ true
-    by_case true is e rest = (let same : y ≡ x = cc in ap f (sym same) ∙ is)
-    by_case false is e rest = rest e
 
 sum-zero : {X : Type 0} (f : X → ℕ) (xs : List X) → ((x : X) → f x ≡ 0) → sum_by f xs ≡ 0
 sum-zero f [] none = refl
@@ -61,12 +55,6 @@ sum-split {X} f test xs =
     by_case : (x : X) (b : Bool) → f x ≡ cond b (f x) 0 + cond (not b) (f x) 0
     by_case x true = omega arith
     by_case x false = omega arith
-
-and-swap : (a b : Bool) → (a && b) ≡ (b && a)
-and-swap true true = refl
-and-swap true false = refl
-and-swap false true = refl
-and-swap false false = refl
 
 -- ---- what a task brings is no more than what it needs
 
@@ -116,7 +104,7 @@ module _ (p : Program) (m : Machine) (s : State) (h : IsSound p m s) (has : Kern
 
   no-commuter : (c : Cell) → commuter_in_use p s t ≡ Some c → ⊥
   no-commuter c found =
-      let used = list_any-some (λ (u : Task). is_task_of (worker_of (progress s u)) (progress s u) && has_cell (cells_of p u (worker_of (progress s u))) c) (tasks_of p) (found-some (is_in_use p s) _ c found) in
+      let used = list_any-some (λ (u : Task). is_task_of (worker_of (progress s u)) (progress s u) && has_cell (cells_of p u (worker_of (progress s u))) c) (tasks_of p) (find-passes (is_in_use p s) _ c found) in
       nobody (worker_of (progress s used.0)) used.0 (and_parts (is_task_of (worker_of (progress s used.0)) (progress s used.0)) (has_cell (cells_of p used.0 (worker_of (progress s used.0))) c) used.2).0
 
   no-leaving : (c : Cell) → is_leaving (replica s c (AtNode n)) ≡ true → ⊥
@@ -145,7 +133,7 @@ module _ (p : Program) (m : Machine) (s : State) (h : IsSound p m s) (has : Kern
   entries =
       once-bytes p (filter (has_cell cells) (order s n)) (λ c x. entry-cell p m s h.coherent.state n c (and_parts (has_cell cells c) (has_cell (order s n) c) (sym (has_cell-filter_is (has_cell cells) (order s n) c) ∙ x)).1)
       (λ c. omega (arith, times-filter (has_cell cells) (order s n) c, h.coherent.state.entries.once n c))
-      ∙ ap (bytes_where p) (λ i c. (has_cell-filter_is (has_cell cells) (order s n) c ∙ and-swap (has_cell cells c) (has_cell (order s n) c) ∙ ap (λ b. has_cell (order s n) c && b) (sym (has_cell-distinct cells c)) ∙ sym (has_cell-filter_is (has_cell (order s n)) (distinct cells) c)) i)
+      ∙ ap (bytes_where p) (λ i c. (has_cell-filter_is (has_cell cells) (order s n) c ∙ and_swap (has_cell cells c) (has_cell (order s n) c) ∙ ap (λ b. has_cell (order s n) c && b) (sym (has_cell-distinct cells c)) ∙ sym (has_cell-filter_is (has_cell (order s n)) (distinct cells) c)) i)
       ∙ sym (once-bytes p (filter (has_cell (order s n)) (distinct cells)) (λ c x. entry-cell p m s h.coherent.state n c (and_parts (has_cell (order s n) c) (has_cell (distinct cells) c) (sym (has_cell-filter_is (has_cell (order s n)) (distinct cells) c) ∙ x)).0)
       (λ c. omega (arith, times-filter (has_cell (order s n)) (distinct cells) c, times-distinct cells c)))
 

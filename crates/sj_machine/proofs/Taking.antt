@@ -19,8 +19,8 @@ use Rattle.sj_machine.specs.Planning.{MayClaim}
 use Rattle.sj_machine.specs.Sound.{IsSoundRun}
 use Rattle.sj_machine.specs.Standing.{CanHappen, Standing, state, with_event}
 use Rattle.sj_machine.specs.declared.hand.Hand.{Hand}
-use Rattle.sj_machine.proofs.Giving.{back-taken, hand-inside, once-given}
-use Rattle.sj_machine.proofs.Hands.{given-set, hand-set, hand-set_apart}
+use Rattle.sj_machine.proofs.Giving.{back-taken, once-given}
+use Rattle.sj_machine.proofs.Hands.{given-set, hand-set, hand-set_apart, inside-hands}
 use Rattle.sj_machine.proofs.Pooling.{once}
 use Rattle.sj_machine.proofs.LastHeaders.{none-caused}
 use Rattle.sj_machine.proofs.Stepping.{counts-still, not-complete, taken-before, taken-still}
@@ -63,8 +63,8 @@ module _ {D : Type 0} (size faults mismatches : D → ℕ) (held : D → Option 
   abbrev claiming : Hand
   claiming = record (hand_of b w) { given = None; task = Some t }
 
-  inside : w.0 < length b.hands
-  inside = hand-inside faults mismatches held b deps footprints keeps w works.known
+  abbrev inside : w.0 < length b.hands
+  inside = inside-hands p s b.hands b.fault keeps.inside.hands_agree w works.known
 
   module _ (can : CanHappen b.run (Claim t w)) where
     abbrev s' : State

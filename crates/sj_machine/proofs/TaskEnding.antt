@@ -32,7 +32,7 @@ use Rattle.sj_machine.specs.Sound.{IsSoundRun}
 use Rattle.sj_machine.specs.Standing.{CanHappen, Standing, state, with_event}
 use Rattle.sj_machine.specs.declared.hand.Hand.{Hand}
 use Rattle.sj_machine.proofs.PoolFilling.{IsFilled, among-cons, fill, times_among}
-use Rattle.sj_machine.proofs.Hands.{given-same, hand-set, hand-set_apart, pool_for-same}
+use Rattle.sj_machine.proofs.Hands.{given-same, hand-set, hand-set_apart, pool_for-same, inside-hands}
 use Rattle.sj_machine.proofs.LastHeaders.{ended-cause}
 use Rattle.sj_machine.proofs.Starting.{running-waits}
 use Rattle.sj_machine.proofs.Stepping.{not-complete, ready-counted, ready-same}
@@ -193,8 +193,8 @@ module _ {D : Type 0} (size faults mismatches : D → ℕ) (held : D → Option 
     abbrev hand' : Hand
     hand' = record (hand_of b w) { task = None }
 
-    inside : w.0 < length b.hands
-    inside = subst (λ (n : ℕ). w.0 < n) (sym keeps.inside.hands_agree.every_worker) works.known
+    abbrev inside : w.0 < length b.hands
+    inside = inside-hands p s b.hands b.fault keeps.inside.hands_agree w works.known
 
     ended-hands : HandsAgree p s' (has_ended b t w ts gift).hands b.fault
     ended-hands = record {

@@ -1,15 +1,11 @@
 -- The rows agree with a state after a worker's transfer was written in both.
-use Rattle.std.proofs.Common.{◌≡◌, ◌<◌, ◌+◌, ℕ, List, Option, length, map, get_or, sym, ap, ◌∙◌, subst, sum_by, count_by}
-use Rattle.std.proofs.lemmas.List.Sums.{sum_by-set}
+use Rattle.std.proofs.Common.{◌≡◌, ℕ, List, Option, length, map, get_or, sym, ap, ◌∙◌, subst, sum_by, count_by}
 use Rattle.sj_core.proofs.Words.{Cell, Machine, Node, Program, State, Worker, WorkerState, node_size, order, pins, same_cell, scratch, tile_bytes, with_transfer, workers_at}
 use Rattle.sj_core.specs.declared.progress.Transfer.{Transfer}
 use Rattle.sj_core.proofs.Placing.{pins-same, scratch-same}
-use Rattle.sj_core.proofs.Reading.{idle_row}
 use Rattle.sj_node.specs.Store.{Store, store}
 use Rattle.sj_machine.specs.Agrees.{Agrees, HasStores, Rows, rows_of, store_of, with_transfer_of}
-
-abbrev fun_ext : {A B : Type 0} {f g : A → B} → ((x : A) → f x ≡ g x) → f ≡ g
-fun_ext h = λ i x. h x i
+use Rattle.std.proofs.Math.Path.{fun_ext}
 
 -- a node's store depends on its order and on what its workers pin and hold
 store_from : (p : Program) (m : Machine) (s : State) (n : Node) → (Worker → List Cell) → (Worker → ℕ) → Store

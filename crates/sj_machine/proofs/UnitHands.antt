@@ -10,17 +10,16 @@ use Rattle.sj_core.proofs.Words.{Cell, Program, Worker, transfer}
 use Rattle.sj_core.specs.declared.progress.Transfer.{Transfer}
 use Rattle.sj_disk.specs.declared.directory.Extent.{Extent}
 use Rattle.sj_disk.specs.Directory.{DiskState, extent_of}
-use Rattle.sj_disk.specs.Lending.{IsTaken, LendingState, NoneIsOut, has_back}
+use Rattle.sj_disk.specs.Lending.{NoneIsOut}
 use Rattle.sj_disk.specs.Rack.{is_out}
 use Rattle.sj_disk.specs.Units.{UnitState, unit_state}
 use Rattle.sj_machine.specs.Board.{empty_hand, hand_in}
 use Rattle.sj_machine.specs.Preparing.{first_hands}
-use Rattle.sj_machine.specs.Standing.{HasMoved, Standing, starting, state, with_event}
+use Rattle.sj_machine.specs.Standing.{HasMoved, Standing, state, with_event}
 use Rattle.sj_machine.specs.Units.{IsInHand, UnitsStand, lent, unit_at}
 use Rattle.sj_machine.specs.declared.hand.Hand.{Hand}
-
-the : (X : Type 0) → X → X
-the X x = x
+use Rattle.std.proofs.lemmas.Option.{same_Some, none-some}
+use Rattle.sj_base.proofs.Options.{the}
 
 -- ---- where no unit is taken or put
 
@@ -61,9 +60,6 @@ units-moved {D} run run' hands w Q some moved stand = by_move (transfer (state r
 
 -- ---- at the beginning and at the end
 
-none-some : {X : Type 0} (x : X) → ◌≡◌ {A = Option X} None (Some x) → ⊥
-none-some x e = absurd (cc)
-
 always : (n k : ℕ) → is_out (replicate n false) k ≡ false
 always n k = elim (cases_lt k n) [
   | inl inside ↦ get_or-replicate n k false false inside
@@ -98,9 +94,6 @@ units-none run hands stand none d = by_out (is_out run.out d) refl
     by_out true e = let one = stand.out_is_in_hand d e in absurd (none-some one.cell (sym (empty one.worker.0) ∙ one.in_hand))
 
 -- ---- a unit is taken
-
-is-some : {X : Type 0} (x y : X) → ◌≡◌ {A = Option X} (Some x) (Some y) → x ≡ y
-is-some x y e = cc
 
 worker-is : (v w : Worker) → v.0 ≡ w.0 → v ≡ w
 worker-is v w e = ap (λ (n : ℕ). (let x : Worker = record { 0 = n } in x)) e
@@ -157,13 +150,13 @@ module _ {D : Type 0} (disks : DiskState D) (out : List Bool) (hands : List Hand
     theirs v far = ap (λ (h : Hand). h.unit) (other-hand (record (hand_in hands w) { unit = Some c }) v far)
 
     same-cell : (d : Cell) (v : Worker) → v ≡ w → (hand_in hands' v).unit ≡ Some d → d ≡ c
-    same-cell d v e is = is-some d c (sym is ∙ mine v e)
+    same-cell d v e is = same_Some d c (sym is ∙ mine v e)
 
     -- what another has in hand is another disk
     apart : (v : Worker) (d : Cell) (f : Extent) → v ≢ w → (hand_in hands' v).unit ≡ Some d → extent_of disks.directory d.0 ≡ Some f → f.disk.0 ≢ x.disk.0
     apart v d f far is ext same =
         let was = known-of (λ e. is_out out e.disk.0 ≡ true) (extent_of disks.directory d.0) (stand.in_hand_is_out v d (sym (theirs v far) ∙ is)) in
-        let one : was.0 ≡ f = is-some was.0 f (sym was.1 ∙ ext) in
+        let one : was.0 ≡ f = same_Some was.0 f (sym was.1 ∙ ext) in
         false≢true (sym was_in ∙ ap (is_out out) (sym same) ∙ ap (λ (e : Extent). is_out out e.disk.0) (sym one) ∙ was.2)
 
     pub units-taken : UnitsStand disks (slice_set out x.disk.0 true) (slice_set hands w.0 (record (hand_in hands w) { unit = Some c }))
@@ -180,7 +173,7 @@ module _ {D : Type 0} (disks : DiskState D) (out : List Bool) (hands : List Hand
             known-at (λ e. is_out out' e.disk.0 ≡ true) (extent_of disks.directory d.0) was.0 was.1 (still-out out x.disk.0 was.0.disk.0 was.2)
 
         mine-at : (v : Worker) (d : Cell) (e : Extent) → v ≡ w → (hand_in hands' v).unit ≡ Some d → extent_of disks.directory d.0 ≡ Some e → e ≡ x
-        mine-at v d e mv iv ed = is-some e x (sym ed ∙ ap (λ (q : Cell). extent_of disks.directory q.0) (same-cell d v mv iv) ∙ its)
+        mine-at v d e mv iv ed = same_Some e x (sym ed ∙ ap (λ (q : Cell). extent_of disks.directory q.0) (same-cell d v mv iv) ∙ its)
 
         one_hand : (v u : Worker) (d f : Cell) (e g : Extent) → (hand_in hands' v).unit ≡ Some d → (hand_in hands' u).unit ≡ Some f → extent_of disks.directory d.0 ≡ Some e → extent_of disks.directory f.0 ≡ Some g → e.disk.0 ≡ g.disk.0 → (v ≡ w) ⊎ (v ≢ w) → (u ≡ w) ⊎ (u ≢ w) → v ≡ u
         one_hand v u d f e g iv iu ed ef same (inl mv) (inl mu) = mv ∙ sym mu
@@ -268,7 +261,7 @@ module _ {D : Type 0} (disks : DiskState D) (out : List Bool) (hands : List Hand
             elim (which one.worker) as (λ _. IsInHand disks' given d) [
               | inl e ↦ absurd (
                   let has : Some c ≡ Some one.cell = sym held ∙ ap (λ (v : Worker). (hand_in hands v).unit) (sym e) ∙ one.in_hand in
-                  let same : one.extent ≡ x = is-some one.extent x (sym one.its_extent ∙ ap (λ (q : Cell). extent_of disks.directory q.0) (sym (is-some c one.cell has)) ∙ its) in
+                  let same : one.extent ≡ x = same_Some one.extent x (sym one.its_extent ∙ ap (λ (q : Cell). extent_of disks.directory q.0) (sym (same_Some c one.cell has)) ∙ its) in
                   far (sym one.its_disk ∙ ap (λ (k : Extent). k.disk.0) same)
                   )
               | inr f ↦ record { worker = one.worker; cell = one.cell; extent = one.extent; in_hand = kept one.worker f ∙ one.in_hand; its_extent = stays one.worker one.cell f one.in_hand ∙ one.its_extent; its_disk = one.its_disk }

@@ -1,5 +1,5 @@
 -- A unit that a worker takes for its move, works on and puts back: the run holds what it held, and what was stored or fetched.
-use Rattle.std.proofs.Common.{◌≡◌, ℕ, zero, suc, Bool, true, false, List, [], ◌∷◌, Option, Some, None, inl, inr, ◌⊎◌, refl, sym, ap, ◌∙◌, subst, length, map, slice_get, slice_set}
+use Rattle.std.proofs.Common.{◌≡◌, ℕ, Bool, true, false, List, Option, Some, inl, inr, refl, sym, ap, ◌∙◌, subst, length, map, slice_set}
 use Rattle.std.specs.Prelude.{IfErr, IfSome, IsSome, IsSomeAnd, OnOk, Result, Ok, Err}
 use Rattle.sj_base.specs.Array.{Array, area}
 use Rattle.sj_base.proofs.Options.{IfSome-at, IfSome-from, IsSomeAnd-at}
@@ -10,20 +10,20 @@ use Rattle.sj_edge.specs.GivenBack.{AreGivenBack}
 use Rattle.sj_disk.specs.declared.directory.Extent.{Extent}
 use Rattle.sj_disk.specs.declared.refusal.DiskRefusal.{DiskRefusal}
 use Rattle.sj_disk.specs.Calls.{Fetches, Stores}
-use Rattle.sj_disk.specs.Directory.{DiskState, IsLaidOut, extent_of, last_store}
-use Rattle.sj_disk.specs.Lending.{ComesFrom, HasFetched, HasStored, IsTaken, LendingState, TakesOut, has_back, lending}
+use Rattle.sj_disk.specs.Directory.{IsLaidOut, extent_of, last_store}
+use Rattle.sj_disk.specs.Lending.{ComesFrom, HasFetched, HasStored, IsTaken, LendingState, TakesOut, has_back}
 use Rattle.sj_disk.specs.Units.{IsWorkedOn, UnitFetches, UnitState, UnitStores}
 use Rattle.sj_machine.specs.Agrees.{Rows, transfer_in}
 use Rattle.sj_machine.specs.Board.{HasCause}
 use Rattle.sj_machine.specs.Counts.{AreCounted, fault_of}
 use Rattle.sj_machine.specs.Sound.{IsStored, IsWrittenOut, Keeps}
-use Rattle.sj_machine.specs.Standing.{IsFetching, IsMovingOut, IsTileMoved, IsTileOf, HasDimsMoved, Standing, is_node, state}
+use Rattle.sj_machine.specs.Standing.{IsFetching, IsMovingOut, IsTileMoved, IsTileOf, Standing, is_node, state}
 use Rattle.sj_machine.specs.Units.{HasBlockOf, HasFetchedMoved, HasStoredMoved, IsDiskMove, IsUnitOf, TakesUnit, lent}
 use Rattle.sj_machine.proofs.DiskCounts.{fetches-cause, fetches-counted, stores-cause, stores-counted}
 use Rattle.sj_machine.proofs.Storing.{OnOk-from, at-place, extent, fetch-last, fetched-well, keeps-fetched, keeps-stored, stored-well}
-
-is-some : {X : Type 0} (x y : X) → ◌≡◌ {A = Option X} (Some x) (Some y) → x ≡ y
-is-some x y e = cc
+use Rattle.std.proofs.lemmas.Option.{same_Some}
+use Rattle.sj_disk.proofs.Returning.{extent-stays}
+use Rattle.sj_base.proofs.Lists.{set-slice_get}
 
 -- which disks are out is no matter of what a run keeps
 pub keeps-out : {D : Type 0} (size faults mismatches : D → ℕ) (held : D → Option (List ℕ)) (b : Standing D) (rows : Rows) (spare : ℕ) (out : List Bool) → Keeps size faults mismatches held b rows spare → Keeps size faults mismatches held (record b { out = out }) rows spare
@@ -35,20 +35,10 @@ keeps-out size faults mismatches held b rows spare out keeps = record {
 
 -- ---- a unit that nothing was done with
 
-stays-get : {X : Type 0} (xs : List X) (i : ℕ) (x : X) → slice_get xs i ≡ Some x → slice_set xs i x ≡ xs
-stays-get [] i x e = refl
-stays-get (y ∷ xs) zero x e = ap (λ z. z ∷ xs) (sym (is-some y x e))
-stays-get (y ∷ xs) (suc i) x e = ap (λ ys. y ∷ ys) (stays-get xs i x e)
-
-stays-extent : (directory : List (Option Extent)) (c : ℕ) (e : Extent) → extent_of directory c ≡ Some e → slice_set directory c (Some e) ≡ directory
-stays-extent [] c e h = refl
-stays-extent (o ∷ directory) zero e h = ap (λ z. z ∷ directory) (sym h)
-stays-extent (o ∷ directory) (suc c) e h = ap (λ ys. o ∷ ys) (stays-extent directory c e h)
-
 pub same-back : {D : Type 0} (s : LendingState D) (u : UnitState D) → IsTaken s u → has_back s u ≡ record s { out = slice_set s.out u.extent.disk.0 false }
 same-back {D} s u is =
-    ap (λ (ds : List D). (let l : LendingState D = record { set = record s.set { disks = ds; directory = slice_set s.set.directory u.cell.0 (Some u.extent) }; out = slice_set s.out u.extent.disk.0 false } in l)) (stays-get s.set.disks u.extent.disk.0 u.disk is.its_disk)
-    ∙ ap (λ (es : List (Option Extent)). (let l : LendingState D = record { set = record s.set { directory = es }; out = slice_set s.out u.extent.disk.0 false } in l)) (stays-extent s.set.directory u.cell.0 u.extent is.its_extent)
+    ap (λ (ds : List D). (let l : LendingState D = record { set = record s.set { disks = ds; directory = slice_set s.set.directory u.cell.0 (Some u.extent) }; out = slice_set s.out u.extent.disk.0 false } in l)) (set-slice_get s.set.disks u.extent.disk.0 u.disk is.its_disk)
+    ∙ ap (λ (es : List (Option Extent)). (let l : LendingState D = record { set = record s.set { directory = es }; out = slice_set s.out u.extent.disk.0 false } in l)) (extent-stays s.set.directory u.cell.0 u.extent is.its_extent)
 
 module _ {D : Type 0} (size faults mismatches : D → ℕ) (held : D → Option (List ℕ)) (b : Standing D) (rows : Rows) (spare : ℕ) (keeps : Keeps size faults mismatches held b rows spare) where
   -- ---- the worker's move
@@ -90,7 +80,7 @@ module _ {D : Type 0} (size faults mismatches : D → ℕ) (held : D → Option 
       its-whole : (d : DiskNo) → disk_of b.program b.machine x.cell ≡ Some d → u.extent.length ≡ area (dims_of b.program x.cell)
       its-whole d home =
           let e = extent size faults mismatches held b rows spare keeps x.cell d home in
-          ap (λ (k : Extent). k.length) (is-some u.extent e.0 (sym its-extent ∙ e.1)) ∙ e.2
+          ap (λ (k : Extent). k.length) (same_Some u.extent e.0 (sym its-extent ∙ e.1)) ∙ e.2
 
     -- ---- stored through a unit
     module _ (u : UnitState D) (result : Result (Unit {0}) DiskRefusal) (stored_moved : HasStoredMoved size faults mismatches held b' w u result) (d : DiskNo) (at : x.to ≡ OnDisk d) where
@@ -238,12 +228,12 @@ module _ {D : Type 0} (size faults mismatches : D → ℕ) (held : D → Option 
         has-block = record {
           whole = IfSome-from (λ (y : Transfer). u.extent.length ≡ area (dims_of b.program y.cell)) (transfer (state b) w) x under_way (
               let e = extent size faults mismatches held b rows spare keeps x.cell its-home.0 its-home.1 in
-              ap (λ (k : Extent). k.length) (is-some u.extent e.0 (sym same-extent ∙ e.1)) ∙ e.2
+              ap (λ (k : Extent). k.length) (same_Some u.extent e.0 (sym same-extent ∙ e.1)) ∙ e.2
               );
           stored = IfSome-from (λ (y : Transfer). is_node y.from ≡ false → u.extent.last_store ≡ Some (last_store (writes (state b) y.cell) true)) (transfer (state b) w) x under_way (λ disk.
               let from = on-disk x.from disk in
               let found = IsSomeAnd-at (IsStored (state b) x.cell) (extent_of b.disks.directory x.cell.0) (keeps.sound.blocks.stored x.cell from.0 (valid-source from.0 from.1)) in
-              subst (λ (k : Extent). k.last_store ≡ Some (last_store (writes (state b) x.cell) true)) (is-some found.0 u.extent (sym found.1 ∙ same-extent)) found.2.last
+              subst (λ (k : Extent). k.last_store ≡ Some (last_store (writes (state b) x.cell) true)) (same_Some found.0 u.extent (sym found.1 ∙ same-extent)) found.2.last
               );
         }
 

@@ -12,9 +12,7 @@ use Rattle.sj_core.proofs.Sums.{tally}
 use Rattle.sj_node.specs.Entry.{Entry, is_of, pins_of, repinned}
 use Rattle.sj_machine.specs.Running.{unpinned_each}
 use Rattle.sj_machine.proofs.ClaimEntries.{entries, entry}
-
-abbrev pub ext : {A B : Type 0} {f g : A → B} → ((x : A) → f x ≡ g x) → f ≡ g
-ext h = λ i x. h x i
+use Rattle.std.proofs.Math.Path.{fun_ext}
 
 module _ (bytes : Cell → ℕ) where
   -- one pin less for a cell
@@ -34,10 +32,10 @@ module _ (bytes : Cell → ℕ) where
 
   -- one for each of these
   pub all-less : (ds : List Cell) (f : Cell → ℕ) (cs : List Cell) → unpinned_each ds (entries bytes f cs) ≡ entries bytes (λ c. f c - times ds c) cs
-  all-less [] f cs = ap (λ (g : Cell → ℕ). entries bytes g cs) (ext {f = f} {g = λ c. f c - 0} (λ c. (let z : f c ≡ f c - 0 = omega arith in z)))
+  all-less [] f cs = ap (λ (g : Cell → ℕ). entries bytes g cs) (fun_ext {f = f} {g = λ c. f c - 0} (λ c. (let z : f c ≡ f c - 0 = omega arith in z)))
   all-less (d ∷ ds) f cs =
       ap (λ (es : List Entry). unpinned_each ds es) (one-less f d cs) ∙ all-less ds (λ c. f c - tally (same_cell d c)) cs
-      ∙ ap (λ (g : Cell → ℕ). entries bytes g cs) (ext {f = λ c. f c - tally (same_cell d c) - times ds c} {g = λ c. f c - times (d ∷ ds) c} (λ c. (let t = times-cons d ds c in let z : f c - tally (same_cell d c) - times ds c ≡ f c - times (d ∷ ds) c = omega arith in z)))
+      ∙ ap (λ (g : Cell → ℕ). entries bytes g cs) (fun_ext {f = λ c. f c - tally (same_cell d c) - times ds c} {g = λ c. f c - times (d ∷ ds) c} (λ c. (let t = times-cons d ds c in let z : f c - tally (same_cell d c) - times ds c ≡ f c - times (d ∷ ds) c = omega arith in z)))
 
   -- the pins of an entry that is there
   pins-there : (f : Cell → ℕ) (cs : List Cell) (d : Cell) → has_cell cs d ≡ true → pins_of (entries bytes f cs) d ≡ f d

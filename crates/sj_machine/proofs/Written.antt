@@ -17,7 +17,7 @@ use Rattle.sj_core.proofs.Dependencies.{Proper-dependencies}
 use Rattle.sj_core.proofs.Modes.{written_isn't_scratch}
 use Rattle.sj_core.proofs.Reading.{same_cell-is}
 use Rattle.sj_core.proofs.Readiness.{Contains-from_filter, list_any-map, list_any-some}
-use Rattle.sj_core.proofs.Sharing.{manner_of, redux-has_copies}
+use Rattle.sj_core.proofs.Sharing.{manner_of, redux-has_copies, contributing-is}
 use Rattle.sj_core.proofs.Sums.{tally}
 use Rattle.sj_core.proofs.TaskCells.{filter-filter}
 use Rattle.sj_core.proofs.Updating.{operand-used}
@@ -25,7 +25,6 @@ use Rattle.sj_core.proofs.Words.{Cell, Program, Task, Worker, cell_info, copy_of
 use Rattle.sj_core.specs.Program.{no_cell}
 use Rattle.sj_core.specs.Proper.{Proper}
 use Rattle.sj_deps.specs.Conflict.{Uses}
-use Rattle.sj_deps.specs.declared.manner.Manner.TheVariants.{Contribute}
 use Rattle.sj_machine.specs.Operands.{CanWorkOn}
 use Rattle.sj_machine.specs.Plan.{IsSmallCell}
 
@@ -65,15 +64,6 @@ written-data Commute = refl
 written_isn't_read : (x : Mode) → is_written x ≡ true → x ≡ R → ⊥
 written_isn't_read x w e = false≢true (sym (ap is_written e) ∙ w)
 
--- only a contribution uses its cell as one
-contributes-redux : (k : Codelet) (x : Mode) → manner_of k x ≡ Contribute → x ≡ Redux
-contributes-redux k R e = absurd (cc)
-contributes-redux k W e = absurd (cc)
-contributes-redux k RW e = absurd (cc)
-contributes-redux k Scratch e = absurd (cc)
-contributes-redux k Redux e = refl
-contributes-redux k Commute e = absurd (cc)
-
 module _ (p : Program) (proper : Proper p) (t : Task) (inside : t.0 < length p.tasks) (w : Worker) (staffed : w.0 < p.workers) where
   abbrev k : Codelet
   k = (task_of p t).codelet
@@ -88,7 +78,7 @@ module _ (p : Program) (proper : Proper p) (t : Task) (inside : t.0 < length p.t
           (subst (λ (q : Cell). Uses p t.0 q.0 (manner_of k b.mode)) (sym same) (operand-used p proper t inside w staffed b hb (written_isn't_scratch b.mode wb)))
 
       both : (x y : Mode) → manner_of k x ≡ manner_of k y → x ≡ Redux → y ≡ Redux
-      both x y m e = contributes-redux k y (sym m ∙ ap (manner_of k) e)
+      both x y m e = contributing-is k y (sym m ∙ ap (manner_of k) e)
 
       copies : (x : Access) → Contains (task_of p t).accesses x → x.mode ≡ Redux → (is_some (cell_info p x.cell).partials ≡ true) × (worked_on p w x ≡ copy_of p x.cell w)
       copies x hx e =

@@ -11,7 +11,7 @@ use Rattle.sj_core.specs.declared.progress.Progress.{Progress}
 use Rattle.sj_core.specs.declared.progress.Progress.TheVariants.{Claimed, Running}
 use Rattle.sj_core.specs.declared.progress.Transfer.{Transfer}
 use Rattle.sj_core.specs.Coherent.{is_being_written}
-use Rattle.sj_core.specs.Machine.{State, WorkerState, array_of, is_valid, order, pins, replica, scratch, workers_at, writes}
+use Rattle.sj_core.specs.Machine.{State, WorkerState, array_of, is_valid, order, pins, replica, scratch, workers_at, writes, idle_row}
 use Rattle.sj_core.specs.Needs.{node_size, tile_bytes}
 use Rattle.sj_core.specs.Program.{dims_of, same_cell}
 use Rattle.sj_core.specs.Step.{disk_of}
@@ -85,13 +85,9 @@ AreMarked rows n entries = (c : Cell) → has_entry entries c ≡ is_entry_mark 
 
 -- ---- changing rows
 
--- a worker with nothing in hand
-abbrev pub idle : WorkerState
-idle = record { pins = []; scratch = 0; victims = []; transfer = None }
-
 -- the row of a worker
 abbrev pub row_at : List WorkerState → Worker → WorkerState
-row_at ws w = slice_index_or ws w.0 idle
+row_at ws w = slice_index_or ws w.0 idle_row
 
 -- the transfer of a worker
 abbrev pub transfer_in : List WorkerState → Worker → Option Transfer

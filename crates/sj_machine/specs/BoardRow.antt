@@ -8,12 +8,11 @@ use Rattle.sj_base.specs.declared.program.Machine.{Machine}
 use Rattle.sj_base.specs.declared.trace.Event.{Event}
 use Rattle.sj_base.specs.declared.trace.Event.TheVariants.{Claim, Run, End}
 use Rattle.sj_base.specs.Array.{Array}
-use Rattle.sj_core.specs.Machine.{WorkerState, is_running_on, progress, worker_state, writes}
+use Rattle.sj_core.specs.Machine.{WorkerState, is_running_on, progress, worker_state, writes, idle_row}
 use Rattle.sj_core.specs.Needs.{node_of}
 use Rattle.sj_core.specs.Operands.{cells_of}
 use Rattle.sj_core.specs.Step.{array_at}
 use Rattle.sj_core.specs.declared.progress.Progress.{Progress}
-use Rattle.sj_machine.specs.Agrees.{idle}
 use Rattle.sj_machine.specs.Board.{BoardState, hand_of, transfer_of}
 use Rattle.sj_machine.specs.Standing.{state}
 use Rattle.sj_machine.specs.Units.{unit_of}
@@ -59,7 +58,7 @@ row_for b w = record {
   unit = unit_of b w;
   phase = option_map (progress (state b.run)) (hand_of b w).task;
   operands = option_map (arrays_for b w) (hand_of b w).task;
-  holds = if is_some (hand_of b w).task then worker_state (state b.run) w else idle;
+  holds = if is_some (hand_of b w).task then worker_state (state b.run) w else idle_row;
   carries = option_map (λ x. array_at b.run.program (state b.run) x.from x.cell) (transfer_of b w);
   writes = option_map (λ x. writes (state b.run) x.cell) (transfer_of b w);
   events = filter (is_event_of w.0) b.run.trace;

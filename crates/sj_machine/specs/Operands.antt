@@ -5,7 +5,7 @@ use Rattle.sj_base.specs.declared.ids.Cell.{Cell}
 use Rattle.sj_base.specs.declared.ids.Worker.{Worker}
 use Rattle.sj_base.specs.declared.mode.Access.{Access}
 use Rattle.sj_base.specs.declared.program.Program.{Program}
-use Rattle.sj_base.specs.Mode.{is_commute, is_data, is_written, reads_value}
+use Rattle.sj_base.specs.Mode.{is_commute, is_data, is_written}
 use Rattle.sj_core.specs.Machine.{WorkerState}
 use Rattle.sj_core.specs.Operands.{worked_on}
 use Rattle.sj_core.specs.Program.{has_cell}
@@ -22,10 +22,6 @@ worked_among p w accesses = map (worked_on p w) (filter (λ a. is_data a.mode) a
 -- the cells among them that are written, in order
 abbrev pub written_among : Program → Worker → List Access → List Cell
 written_among p w accesses = map (worked_on p w) (filter (λ a. is_written a.mode) accesses)
-
--- the accesses whose old value is read, in order
-abbrev pub read_among : List Access → List Access
-read_among accesses = filter (λ a. reads_value a.mode) accesses
 
 -- the cells of the commuting accesses, in order
 abbrev pub commuting_among : List Access → List Cell

@@ -10,7 +10,7 @@ use Rattle.sj_base.specs.declared.mode.Access.{Access}
 use Rattle.sj_base.specs.declared.program.Program.{Program}
 use Rattle.sj_base.specs.Array.{Array}
 use Rattle.sj_codelet.specs.Frame.{Slot, arrays, shared}
-use Rattle.sj_base.specs.Mode.{reads_value}
+use Rattle.sj_base.specs.Mode.{reads_value, reads_of}
 use Rattle.sj_core.specs.Machine.{WorkerState}
 use Rattle.sj_core.specs.Needs.{node_of}
 use Rattle.sj_core.specs.Program.{dims_of, task_of, written_operands}
@@ -20,7 +20,7 @@ use Rattle.sj_node.specs.Entry.{Entry, is_among, pins_of, repinned, without_all}
 use Rattle.sj_node.specs.Store.{Store, with_entries}
 use Rattle.sj_machine.specs.Agrees.{row_at}
 use Rattle.sj_machine.specs.Copies.{Copies, lent_at, row_of, tile_at, with_row, written_at}
-use Rattle.sj_machine.specs.Operands.{CanWorkOn, read_among, written_among}
+use Rattle.sj_machine.specs.Operands.{CanWorkOn, written_among}
 use Rattle.sj_machine.specs.Standing.{AllTell, Standing, state}
 
 -- ---- shares
@@ -31,7 +31,7 @@ kept_at rows n c = unwrap_or (tile_at (row_of rows c) n) (record { dims = record
 
 -- shares of the tiles at a node on which a worker works for those operands whose old value is read, in order
 abbrev pub shares_at : Program → Worker → List Copies → Node → List Access → List Slot
-shares_at p w rows n accesses = map (λ a. shared (kept_at rows n (worked_on p w a))) (read_among accesses)
+shares_at p w rows n accesses = map (λ a. shared (kept_at rows n (worked_on p w a))) (reads_of accesses)
 
 -- a share can be given of what a worker works on for the operand: its row and place are there and, where the old value is
 -- read, a tile
@@ -50,7 +50,7 @@ pub record IsShareIn {D : Type 0} (held : D → Option (List ℕ)) (b : Standing
 
 -- shares of the operands of a task whose old value is read, in order
 abbrev pub AreSharesFor : {D : Type 0} → (D → Option (List ℕ)) → Standing D → Task → Worker → List Slot → Type 0
-AreSharesFor held b t w slots = AllZip (IsShareIn held b w) (read_among (task_of b.program t).accesses) slots
+AreSharesFor held b t w slots = AllZip (IsShareIn held b w) (reads_of (task_of b.program t).accesses) slots
 
 -- ---- what is left
 
@@ -73,13 +73,13 @@ abbrev pub AreShared : List Slot → Type 0
 AreShared slots = All (λ s. s.owned ≡ false) slots
 
 -- the operand is a share, of its cell's dimensions
-pub record IsResultIn (p : Program) (a : Access) (slot : Slot) : Type 0 where
+pub record IsShare (p : Program) (a : Access) (slot : Slot) : Type 0 where
   pub shared : slot.owned ≡ false
   pub dims : slot.array.dims ≡ dims_of p a.cell
 
 -- shares of a running task's results, in the order of its written operands
 pub record AreResultsFor {D : Type 0} (held : D → Option (List ℕ)) (b : Standing D) (t : Task) (w : Worker) (slots : List Slot) : Type 0 where
-  pub each : AllZip (IsResultIn b.program) (written_operands (task_of b.program t)) slots
+  pub each : AllZip (IsShare b.program) (written_operands (task_of b.program t)) slots
   pub told : AllTell held b → arrays slots ≡ results b.program t w (array_at b.program (state b) (AtNode (node_of b.machine w)))
 
 -- a row can take a new tile at a node, so many times

@@ -13,7 +13,6 @@ ghost use Rattle.sj_core.specs.Program.{task_of};
 ghost use Rattle.sj_machine.specs.BoardSound.{IsSoundBoard};
 ghost use Rattle.sj_core.specs.Legal.{IsComplete};
 ghost use Rattle.sj_machine.specs.Delivered.{DeliversEach, gift_in, handed};
-ghost use Rattle.sj_machine.specs.Operands.{read_among};
 ghost use Rattle.sj_machine.specs.Passing.{HasLost, IsFirstLeft, IsLeft, NoneIsLeft, is_passed};
 ghost use Rattle.sj_machine.specs.Planning.{HoldsCommutersAlone, IsRefusal, WaitsForAnother};
 ghost use Rattle.sj_machine.specs.Releasing.{EndsTask};
@@ -27,6 +26,7 @@ ghost use Rattle.sj_machine.specs.Todo.{AnotherGoesOn, CanBegin, HasDiskIn, IsCo
 ghost use Rattle.sj_machine.specs.Units.{AnotherHasUnit, lent};
 ghost use Rattle.sj_disk.specs.Lending.{NoneIsOut};
 ghost use Rattle.sj_machine.specs.Tiles.{array_in};
+ghost use Rattle.sj_base.specs.Mode.{reads_of};
 
 mod admitting;
 mod lending;
@@ -327,7 +327,7 @@ impl<D: Disk> Board<D> {
         requires no_fault { self.old.fault ≡ None }
         requires can { CanHappen self.old.run (Run t w) }
         requires empty { frame.slots ≡ [] }
-        requires room { length (read_among (task_of self.old.run.program t).accesses) ≤ frame.spare }
+        requires room { length (reads_of (task_of self.old.run.program t).accesses) ≤ frame.spare }
         ensures ok { OnOk result (self.new ≡ has_event self.old (Run t w)) }
         ensures spares { OnOk result (Spares self.old.run (Run t w) self.new.run) }
         ensures shares { IfOk result (λ f. AreSharesFor D.held self.old.run t w f.slots) }

@@ -12,7 +12,7 @@ ghost use Rattle.sj_machine.specs.Operands.{worked_among};
 use crate::copies::Copies;
 use crate::hold::Hold;
 use crate::mark::Mark;
-use crate::operands::{is_written, reads_value, worked_on};
+use crate::operands::worked_on;
 use sj_base::ids::{Cell, Node, Place, Worker};
 use sj_base::mode::{Access, Mode};
 use sj_base::program::Program;
@@ -114,7 +114,7 @@ pub fn is_fresh(program: &Program, w: Worker, accesses: &[Access], cell: Cell) -
     accesses
         .iter()
         .filter(|a| a.mode != Mode::Scratch)
-        .filter(|a| !reads_value(a.mode))
+        .filter(|a| !a.mode.reads_value())
         .map(|a| cell_for(program, w, *a))
         .any(|c| c == cell)
 }
@@ -159,7 +159,7 @@ fn are_unmoved(workers: &[Hold], program: &Program, w: Worker, accesses: &[Acces
 {
     accesses
         .iter()
-        .filter(|a| is_written(a.mode))
+        .filter(|a| a.mode.is_written())
         .map(|a| cell_for(program, w, *a))
         .all(|c| !is_moving(workers, c))
 }

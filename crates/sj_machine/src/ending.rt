@@ -1,37 +1,24 @@
 //! What a task gives back to the rows of cells and nodes as it ends.
 
-ghost use Rattle.std.specs.Prelude.{◌≡◌, ◌+◌, ◌<◌, ◌++◌, ◌∷◌, [], All, length, slice_set};
-ghost use Rattle.sj_codelet.specs.Frame.{arrays, shared};
+ghost use Rattle.std.specs.Prelude.{◌≡◌, ◌+◌, ◌<◌, [], All, length, slice_set};
+ghost use Rattle.sj_codelet.specs.Frame.{arrays};
 ghost use Rattle.sj_machine.specs.Agrees.{row_at};
 ghost use Rattle.sj_machine.specs.Copies.{with_row, written_at};
 ghost use Rattle.sj_machine.specs.Plan.{store_at};
 ghost use Rattle.sj_machine.specs.Operands.{written_among};
-ghost use Rattle.sj_machine.specs.Running.{AreShared, CanPutBack, CanRelease, CanRewrite, CanUnpin, let_go, put_each, released, unpinned_each};
+ghost use Rattle.sj_machine.specs.Running.{CanPutBack, CanRelease, CanRewrite, CanUnpin, let_go, put_each, released, unpinned_each};
 ghost use Rattle.sj_node.specs.Store.{with_entries};
 
 use crate::copies::Copies;
 use crate::hold::Hold;
-use crate::operands::{is_written, worked_on};
+use crate::operands::worked_on;
 use sj_base::ids::{Cell, Node, Worker};
 use sj_base::mode::Access;
 use sj_base::program::Program;
 use sj_base::tile::Tile;
-use sj_codelet::frame::{Frame, Operand};
+use sj_codelet::frame::Frame;
 use sj_node::store::NodeStore;
 use std::sync::Arc;
-
-/// Takes the last operand of a frame away, a shared one. Constant time.
-fn take_shared(frame: &mut Frame) -> Arc<Tile>
-    requires shared { AreShared frame.old.slots }
-    requires some { 0 < length frame.old.slots }
-    ensures slots { frame.old.slots ≡ frame.new.slots ++ shared result.value ∷ [] }
-    ensures room { frame.new.spare ≡ frame.old.spare + 1 }
-{
-    match frame.take_last() {
-        Operand::Shared(tile) => tile,
-        Operand::Own(_) => unreachable!(),
-    }
-}
 
 /// A cell has a new tile at a node, and is written once more. Constant time.
 fn rewrite(cells: &mut Vec<Copies>, cell: Cell, n: Node, tile: Arc<Tile>)
@@ -62,12 +49,12 @@ pub fn put_back(
     let Some((last, before)) = accesses.split_last() else {
         return;
     };
-    if !is_written(last.mode) {
+    if !last.mode.is_written() {
         put_back(program, w, cells, before, n, written);
         return;
     }
     let cell = worked_on(program, w, *last);
-    rewrite(cells, cell, n, take_shared(written));
+    rewrite(cells, cell, n, written.take_shared());
     put_back(program, w, cells, before, n, written);
 }
 

@@ -2,9 +2,9 @@
 
 ghost use Rattle.std.specs.Prelude.{◌≡◌, ◌≤◌, ◌<◌, ◌^◌, ◌*◌, ◌&&◌, ◌∷◌, [], All, filter, length, map, not, sum, sum_by};
 ghost use Rattle.sj_base.specs.Array.{area};
-ghost use Rattle.sj_base.specs.Mode.{is_data, is_scratch};
+ghost use Rattle.sj_base.specs.Mode.{is_scratch};
 ghost use Rattle.sj_core.specs.Needs.{tile_bytes as bytes_of_tile};
-ghost use Rattle.sj_core.specs.Program.{dims_of, distinct, has_cell, task_of};
+ghost use Rattle.sj_core.specs.Program.{distinct, has_cell};
 ghost use Rattle.sj_machine.specs.Copies.{mark_at, row_of};
 ghost use Rattle.sj_machine.specs.Mark.{is_entry_mark};
 ghost use Rattle.sj_machine.specs.Plan.{IsSmallCell};
@@ -13,17 +13,9 @@ use crate::choosing::mark_at;
 use crate::copies::Copies;
 use crate::few_bytes::FewBytes;
 use crate::few_cells::FewCells;
-use sj_base::ids::{Cell, Node, Task};
+use sj_base::ids::{Cell, Node};
 use sj_base::mode::{Access, Mode};
 use sj_base::program::Program;
-
-/// The operands of a task. Constant time.
-pub fn accesses_of(program: &Program, t: Task) -> &[Access]
-    requires { t.0 < length program.now.tasks }
-    ensures { result.now ≡ (task_of program.now t).accesses }
-{
-    program.tasks.items()[t.0 as usize].accesses.items()
-}
 
 /// The bytes of a cell's tile. Constant time.
 fn tile_bytes(program: &Program, cell: Cell) -> u64

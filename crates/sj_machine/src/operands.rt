@@ -1,7 +1,7 @@
 //! The operands of a task as its worker works on them.
 
 ghost use Rattle.std.specs.Prelude.{◌≡◌, ◌≤◌, ◌&&◌, All, length};
-ghost use Rattle.sj_base.specs.Mode.{is_commute, is_written as is_written_mode, reads_value as reads_value_of};
+ghost use Rattle.sj_base.specs.Mode.{is_commute};
 ghost use Rattle.sj_core.specs.Operands.{worked_on as cell_worked_on};
 ghost use Rattle.sj_machine.specs.Operands.{CanWorkOn, first_held, is_held, worked_among, written_among};
 
@@ -10,26 +10,6 @@ use crate::hold::Hold;
 use sj_base::ids::{Cell, Worker};
 use sj_base::mode::{Access, Mode};
 use sj_base::program::Program;
-
-/// Whether an operand of this mode gets a new value.
-pub fn is_written(mode: Mode) -> bool
-    ensures { result ≡ is_written_mode mode }
-{
-    match mode {
-        Mode::R | Mode::Scratch => false,
-        Mode::W | Mode::RW | Mode::Redux | Mode::Commute => true,
-    }
-}
-
-/// Whether the old value of an operand of this mode is read.
-pub fn reads_value(mode: Mode) -> bool
-    ensures { result ≡ reads_value_of mode }
-{
-    match mode {
-        Mode::W | Mode::Scratch => false,
-        Mode::R | Mode::RW | Mode::Redux | Mode::Commute => true,
-    }
-}
 
 /// The cell on which a worker works for an operand: its own partial copy of a cell to which it contributes, and the cell
 /// itself for any other operand. Constant time.
@@ -69,7 +49,7 @@ pub fn written_cells(program: &Program, w: Worker, accesses: &[Access]) -> FewCe
 {
     let mut cells = FewCells::none();
     for access in accesses {
-        if is_written(access.mode) {
+        if access.mode.is_written() {
             cells.push(worked_on(program, w, *access));
         }
     }

@@ -11,11 +11,12 @@ ghost use Rattle.sj_machine.specs.Planning.{HasSmallTask, HasSmallWork, chosen_o
 use crate::copies::Copies;
 use crate::few_bytes::FewBytes;
 use crate::few_cells::FewCells;
-use crate::needs::{accesses_of, bytes_of, lacking_cells, scratch_bytes, total};
+use crate::needs::{bytes_of, lacking_cells, scratch_bytes, total};
 use crate::operands::worked_cells;
 use sj_base::ids::{Cell, Node, Task, Worker};
 use sj_base::memory::OutOfMemory;
 use sj_base::program::Program;
+use sj_core::tasks::accesses_of;
 use sj_node::store::NodeStore;
 use std::alloc::Global;
 use std::marker::Model;

@@ -8,13 +8,12 @@ ghost use Rattle.sj_core.specs.Program.{task_of};
 ghost use Rattle.sj_core.specs.Step.{mover_of};
 ghost use Rattle.sj_edge.specs.GivenBack.{AreGivenBack};
 ghost use Rattle.sj_node.specs.Store.{empty};
-ghost use Rattle.sj_machine.specs.Agrees.{idle, transfer_in, with_transfer_of};
+ghost use Rattle.sj_machine.specs.Agrees.{transfer_in, with_transfer_of};
 ghost use Rattle.sj_machine.specs.Copies.{CanShare, none_at, row_of, stored, tile_kept, with_copy, with_row};
 ghost use Rattle.sj_machine.specs.Board.{HasCause};
 ghost use Rattle.sj_machine.specs.Counts.{AreCounted, fault_of};
 ghost use Rattle.sj_machine.specs.Gone.{KnownGone};
 ghost use Rattle.sj_machine.specs.Plan.{IsPlan};
-ghost use Rattle.sj_machine.specs.Operands.{read_among};
 ghost use Rattle.sj_machine.specs.Releasing.{IsGift};
 ghost use Rattle.sj_machine.specs.Running.{AreResultsFor, AreSharesFor};
 ghost use Rattle.sj_machine.specs.Sound.{CanStart, FetchesMoved, IsSoundRun, IsWrittenOut, OnlyDisksChange, StoresMoved};
@@ -23,6 +22,8 @@ ghost use Rattle.sj_machine.specs.Sparing.{EventsSpareUsed};
 ghost use Rattle.sj_machine.specs.Standing.{CanHappen, HasDimsMoved, HasMoved, IsFetching, IsMovingIn, IsMovingOut, IsShareOf, IsTileMoved, is_node, starting, state, with_event};
 ghost use Rattle.sj_machine.specs.Tiles.{array_in};
 ghost use Rattle.sj_machine.specs.Units.{HasItsDiskIn};
+ghost use Rattle.sj_base.specs.Mode.{reads_of};
+ghost use Rattle.sj_core.specs.Machine.{idle_row};
 
 mod asking;
 mod lending;
@@ -39,7 +40,7 @@ use crate::mark::Mark;
 use crate::operands::{commuter_held, written_cells};
 use crate::plan::{Plan, Why};
 use crate::room::whole_trace;
-use crate::running::{evict_elsewhere, lend_each, share_into, task_at};
+use crate::running::{evict_elsewhere, lend_each, share_into};
 use crate::spent::Spent;
 use sj_base::ids::{Cell, DiskNo, Node, Place, Task, Worker};
 use sj_base::memory::OutOfMemory;
@@ -48,6 +49,7 @@ use sj_base::tile::Tile;
 use sj_base::trace::{Event, Trace};
 use sj_codelet::frame::Frame;
 use sj_core::progress::{Progress, Transfer};
+use sj_core::tasks::task_at;
 use sj_disk::disk_set::DiskSet;
 use sj_disk::lending_set::LendingSet;
 use sj_disk::refusal::DiskRefusal;
@@ -126,7 +128,7 @@ fn empty_nodes(alloc: Global, sizes: &[u64], cells: u32) -> Result<Vec<NodeStore
 
 /// Workers with nothing in hand. Linear in them.
 fn idle_workers(alloc: Global, count: u8) -> Result<Vec<Hold>, OutOfMemory>
-    ensures { IfOk result (λ v. v.items ≡ replicate count idle) }
+    ensures { IfOk result (λ v. v.items ≡ replicate count idle_row) }
 {
     let mut workers = Vec::new(alloc);
     for _i in 0..count {
@@ -505,7 +507,7 @@ impl<D: Disk> RunState<D> {
     ) -> Result<Frame, OutOfMemory>
         requires can { CanHappen self.old (Event.Run t w) }
         requires empty { frame.slots ≡ [] }
-        requires room { length (read_among (task_of self.old.program t).accesses) ≤ frame.spare }
+        requires room { length (reads_of (task_of self.old.program t).accesses) ≤ frame.spare }
         ensures ok { OnOk result (self.new ≡ with_event self.old (Event.Run t w)) }
         ensures shares { IfOk result (λ f. AreSharesFor D.held self.old t w f.slots) }
         ensures room { IfOk result (λ f. f.spare + length f.slots ≡ frame.spare) }
@@ -516,13 +518,7 @@ impl<D: Disk> RunState<D> {
         share_into(&self.program, w, &self.cells, n, accesses, &mut frame)?;
         let written = written_cells(&self.program, w, accesses);
         evict_elsewhere(&mut self.nodes, &self.cells, written.items(), n);
-        lend_each(
-            &mut self.cells,
-            written.items(),
-            n,
-            self.machine.nodes.len(),
-            spent,
-        );
+        lend_each(&mut self.cells, written.items(), n, spent);
         self.tasks[t.0 as usize] = Progress::Running(w);
         self.trace.add(Event::Run(t, w));
         Ok(frame)

@@ -1,34 +1,25 @@
 //! What a task takes from the rows of cells and nodes as it begins to run.
 
 ghost use Rattle.std.specs.Prelude.{◌≡◌, ◌≢◌, ℕ, ◌+◌, ◌<◌, ◌≤◌, ◌++◌, ◌∷◌, [], All, OnOk, false, length, slice_index_or, slice_set};
-ghost use Rattle.sj_core.specs.Program.{task_of};
 ghost use Rattle.sj_base.specs.declared.ids.Node.{Node};
-ghost use Rattle.sj_machine.specs.Agrees.{AreMarked, IsWide};
+ghost use Rattle.sj_machine.specs.Agrees.{AreMarked};
 ghost use Rattle.sj_machine.specs.Copies.{lent_at, mark_at, row_of, with_row};
 ghost use Rattle.sj_machine.specs.Mark.{is_entry_mark};
-ghost use Rattle.sj_machine.specs.Operands.{read_among};
 ghost use Rattle.sj_machine.specs.Running.{AreUnpinned, CanGive, evicted_at, lend_each, shares_at};
 ghost use Rattle.sj_node.specs.Entry.{has_entry, pins_of, without, without_all};
 ghost use Rattle.sj_node.specs.Store.{Store, with_entries};
+ghost use Rattle.sj_base.specs.Mode.{reads_of};
 
 use crate::choosing::mark_at;
 use crate::copies::Copies;
-use crate::operands::{reads_value, worked_on};
+use crate::operands::worked_on;
 use crate::spent::Spent;
-use sj_base::ids::{Cell, Node, Task, Worker};
+use sj_base::ids::{Cell, Node, Worker};
 use sj_base::memory::OutOfMemory;
 use sj_base::mode::Access;
-use sj_base::program::{Lowered, Program};
+use sj_base::program::Program;
 use sj_codelet::frame::Frame;
 use sj_node::store::NodeStore;
-
-/// A task of a program. Constant time.
-pub fn task_at(program: &Program, t: Task) -> &Lowered
-    requires { t.0 < length program.now.tasks }
-    ensures { result.now ≡ task_of program.now t }
-{
-    &program.tasks.items()[t.0 as usize]
-}
 
 /// Appends shares of the tiles at a node on which a worker works for those operands whose old value is read. Linear in the
 /// operands.
@@ -40,10 +31,10 @@ pub fn share_into(
     accesses: &[Access],
     frame: &mut Frame,
 ) -> Result<(), OutOfMemory>
-    requires room { length (read_among accesses.now) ≤ frame.old.spare }
+    requires room { length (reads_of accesses.now) ≤ frame.old.spare }
     requires can { All (CanGive program.now w cells.now n) accesses.now }
     ensures slots { OnOk result (frame.new.slots ≡ frame.old.slots ++ shares_at program.now w cells.now n accesses.now) }
-    ensures room { OnOk result (frame.new.spare + length (read_among accesses.now) ≡ frame.old.spare) }
+    ensures room { OnOk result (frame.new.spare + length (reads_of accesses.now) ≡ frame.old.spare) }
 {
     for access in accesses {
         share_one(program, w, cells, n, *access, frame)?;
@@ -60,12 +51,12 @@ fn share_one(
     access: Access,
     frame: &mut Frame,
 ) -> Result<(), OutOfMemory>
-    requires room { length (read_among (access ∷ [])) ≤ frame.old.spare }
+    requires room { length (reads_of (access ∷ [])) ≤ frame.old.spare }
     requires can { CanGive program.now w cells.now n access }
     ensures slots { OnOk result (frame.new.slots ≡ frame.old.slots ++ shares_at program.now w cells.now n (access ∷ [])) }
-    ensures room { OnOk result (frame.new.spare + length (read_among (access ∷ [])) ≡ frame.old.spare) }
+    ensures room { OnOk result (frame.new.spare + length (reads_of (access ∷ [])) ≡ frame.old.spare) }
 {
-    if reads_value(access.mode) {
+    if access.mode.reads_value() {
         let cell = worked_on(program, w, access);
         let row = &cells[cell.0 as usize];
         frame.push_shared(row.share(n)?);
@@ -74,33 +65,24 @@ fn share_one(
 }
 
 /// A cell becomes a node's own, and its tiles leave. Linear in the nodes.
-fn lend(cells: &mut Vec<Copies>, cell: Cell, n: Node, nodes: usize, spent: &mut Spent)
+fn lend(cells: &mut Vec<Copies>, cell: Cell, n: Node, spent: &mut Spent)
     requires cell { cell.0 < length cells.old.items }
-    requires wide { All (IsWide nodes) cells.old.items }
-    requires node { n.0 < nodes }
+    requires node { All (λ row. n.0 < length row.marks) cells.old.items }
     ensures cells { cells.new.items ≡ with_row cells.old.items cell (λ row. lent_at row n) }
-    ensures wide { All (IsWide nodes) cells.new.items }
+    ensures node { All (λ row. n.0 < length row.marks) cells.new.items }
 {
-    let _ = nodes;
     let row = &mut cells[cell.0 as usize];
     row.lend(n, spent);
 }
 
 /// These cells become a node's own, and their tiles leave. Linear in them, and in the nodes for each.
-pub fn lend_each(
-    cells: &mut Vec<Copies>,
-    written: &[Cell],
-    n: Node,
-    nodes: usize,
-    spent: &mut Spent,
-)
+pub fn lend_each(cells: &mut Vec<Copies>, written: &[Cell], n: Node, spent: &mut Spent)
     requires cells { All (λ c. c.0 < length cells.old.items) written.now }
-    requires wide { All (IsWide nodes) cells.old.items }
-    requires node { n.0 < nodes }
+    requires node { All (λ row. n.0 < length row.marks) cells.old.items }
     ensures { cells.new.items ≡ lend_each n written.now cells.old.items }
 {
     for cell in written {
-        lend(cells, *cell, n, nodes, spent);
+        lend(cells, *cell, n, spent);
     }
 }
 

@@ -20,7 +20,7 @@ use Rattle.sj_meaning.specs.Meaning.{written_of}
 use Rattle.sj_meaning.specs.Sound.{mode_fits, modes_fit}
 use Rattle.sj_meaning.specs.Sound.{child_dims, IsSoundTask}
 
-written_as : (f : Formal) (m : Mode) → mode_fits f m ≡ true → is_written m ≡ is_output f
+pub written_as : (f : Formal) (m : Mode) → mode_fits f m ≡ true → is_written m ≡ is_output f
 written_as FormalR R e = refl
 written_as FormalR W e = absurd (cc)
 written_as FormalR RW e = absurd (cc)

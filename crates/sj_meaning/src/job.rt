@@ -65,10 +65,7 @@ impl Operand {
     pub fn is_written(&self) -> bool
         ensures { result ≡ is_written self.now.mode }
     {
-        match self.mode {
-            Mode::R | Mode::Scratch => false,
-            Mode::W | Mode::RW | Mode::Redux | Mode::Commute => true,
-        }
+        self.mode.is_written()
     }
 }
 

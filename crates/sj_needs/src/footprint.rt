@@ -2,13 +2,13 @@
 
 ghost use Rattle.std.specs.Prelude.{◌≡◌, ◌≤◌, ◌<◌, ◌^◌, ◌*◌, length};
 ghost use Rattle.sj_core.specs.Needs.{footprint, tile_bytes as bytes_of_tile};
-ghost use Rattle.sj_core.specs.Program.{task_of};
 ghost use Rattle.sj_core.specs.Proper.{IsWithinLimits, Proper};
 ghost use Rattle.sj_needs.specs.Operands.{bytes_before, is_accessed};
 
 use sj_base::ids::{Cell, Task};
 use sj_base::mode::{Access, Mode};
 use sj_base::program::Program;
+use sj_core::tasks::accesses_of;
 
 /// The bytes of a cell's tile. Constant time.
 fn tile_bytes(program: &Program, cell: Cell) -> u64
@@ -40,14 +40,6 @@ fn bytes_before(program: &Program, later: &[Access], access: Access) -> u64
         return 0;
     }
     tile_bytes(program, access.cell)
-}
-
-/// The operands of a task. Constant time.
-fn accesses_of(program: &Program, t: Task) -> &[Access]
-    requires { t.0 < length program.now.tasks }
-    ensures { result.now ≡ (task_of program.now t).accesses }
-{
-    program.tasks.items()[t.0 as usize].accesses.items()
 }
 
 /// The bytes that a task needs on its node: those of each cell that it accesses, once, and of its scratch buffers. A partial

@@ -2,10 +2,11 @@
 
 ghost use Rattle.std.specs.Prelude.{◌≡◌, ◌≤◌, ◌<◌, ◌^◌, ◌*◌, ◌+◌, All, IfOk, is_some, length, replicate, sum};
 ghost use Rattle.sj_base.specs.Array.{area};
-ghost use Rattle.sj_core.specs.Needs.{block_bytes, first_fit, place, swap_need};
+ghost use Rattle.sj_core.specs.Needs.{block_bytes, place, swap_need};
 ghost use Rattle.sj_core.specs.Proper.{IsWithinLimits};
 
 use sj_base::memory::OutOfMemory;
+use sj_base::places::first_fit;
 use sj_base::program::{CellInfo, Program};
 use std::alloc::Global;
 
@@ -41,13 +42,6 @@ pub fn bytes_of_all(disks: &[u64]) -> u64
         all += *disk;
     }
     all
-}
-
-/// The first disk that has so many bytes beside those taken. Linear in the disks.
-fn first_fit(sizes: &[u64], taken: &[u64], need: u64) -> Option<usize>
-    ensures { result ≡ first_fit sizes.now taken.now need }
-{
-    sizes.iter().zip(taken).position(|(size, taken)| *taken as u128 + need as u128 <= *size as u128)
 }
 
 /// Nothing taken, of so many disks.

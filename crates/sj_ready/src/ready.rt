@@ -1,8 +1,7 @@
 //! A job made ready: its program, and the machine that is to run it.
 
-ghost use Rattle.std.specs.Prelude.{◌≡◌, ◌<◌, ◌≤◌, ◌^◌, Bool, true, IsTrue, All, FitsSigned, IfOk, IfErr, None, Ok, length};
+ghost use Rattle.std.specs.Prelude.{◌≡◌, ◌<◌, ◌≤◌, ◌^◌, Bool, true, IsTrue, All, IfOk, IfErr, None, Ok, length};
 ghost use Rattle.sj_apps.specs.Application.{job_for, IsSized};
-ghost use Rattle.std.specs.Int.{w64};
 ghost use Rattle.sj_codelet.specs.Laws.{CommutingCommute, ContributingContribute, ReductionsReduce};
 ghost use Rattle.sj_codelet.specs.declared.kernel.Kernel.{Kernel};
 ghost use Rattle.sj_core.specs.Laws.{IsLawful, is_known};
@@ -30,6 +29,7 @@ use sj_base::memory::OutOfMemory;
 use sj_base::program::{Machine, Program};
 use sj_base::sequence::Sequence;
 use sj_codelet::set::Codelets;
+use sj_core::tasks::arguments_fit;
 use sj_job::read::read;
 use sj_job::reason::ReadRefusal;
 use sj_lower::lower::{LoweredJob, lower};
@@ -75,24 +75,6 @@ fn machine_for(
         settings.chosen_policy(),
         Sequence::of(disks),
     )
-}
-
-/// The arguments of a task are in their type. Linear in them.
-fn args_fit(args: &[i64])
-    ensures { All (FitsSigned w64) args.now }
-{
-    for arg in args {
-        let _value = *arg;
-    }
-}
-
-/// The same of the arguments of all tasks.
-fn arguments_fit(program: &Program)
-    ensures { All (λ l. All (FitsSigned w64) l.args) program.now.tasks }
-{
-    for task in program.tasks.items() {
-        args_fit(task.args.items());
-    }
 }
 
 /// No code: its contract is what a set of codelets obeys.

@@ -18,7 +18,7 @@ use sj_base::program::Program;
 use sj_base::trace::Trace;
 use sj_codelet::set::Codelets;
 use sj_core::laws::finishes;
-use sj_edge::disk::Disk;
+use sj_edge::disk::{Disk, sizes_of};
 use sj_edge::gate::Gate;
 use sj_engine::engine::{RunOutcome, run};
 use sj_machine::delivered::Delivered;
@@ -50,17 +50,6 @@ fn nothing_run<D: Drop>(alloc: Global, stop: Stop, disks: Vec<D>) -> Run<D>
         trace: Trace::empty(alloc),
         disks,
     }
-}
-
-/// The sizes of disks. Linear in them.
-fn sizes_of<D: Disk>(alloc: Global, disks: &[D]) -> Result<Vec<u64>, OutOfMemory>
-    ensures { IfOk result (λ sizes. sizes.items ≡ map D.size disks.now) }
-{
-    let mut sizes = Vec::new(alloc);
-    for disk in disks {
-        sizes.push(disk.size())?;
-    }
-    Ok(sizes)
 }
 
 /// A program to be run, and to be looked at afterwards.

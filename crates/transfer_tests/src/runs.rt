@@ -9,7 +9,7 @@ ghost use Rattle.sj_words.specs.Options.{IsWithinLimits};
 
 use sj_base::memory::OutOfMemory;
 use sj_codelet::set::Codelets;
-use sj_edge::disk::Disk;
+use sj_edge::disk::{Disk, sizes_of};
 use sj_edge::gate::Gate;
 use sj_engine::engine::{RunOutcome, run};
 use sj_ready::input::Input;
@@ -41,17 +41,6 @@ pub fn two<D: Disk>(alloc: Global, first: D, second: D) -> Result<Vec<D>, OutOfM
     let mut disks = one(alloc, first)?;
     disks.push(second)?;
     Ok(disks)
-}
-
-/// The sizes of disks.
-fn sizes_of<D: Disk>(alloc: Global, disks: &[D]) -> Result<Vec<u64>, OutOfMemory>
-    ensures { IfOk result (λ sizes. sizes.items ≡ map D.size disks.now) }
-{
-    let mut sizes = Vec::new(alloc);
-    for disk in disks {
-        sizes.push(disk.size())?;
-    }
-    Ok(sizes)
 }
 
 /// Runs what was made ready.

@@ -4,8 +4,8 @@ use super::RunState;
 use crate::choosing::{are_gone, is_fresh, is_read, mark_at, may_run};
 use crate::claiming::node_of;
 use crate::mark::Mark;
-use crate::running::task_at;
 use sj_base::ids::{Cell, DiskNo, Node, Task, Worker};
+use sj_core::tasks::task_at;
 use sj_edge::disk::Disk;
 
 impl<D: Disk> RunState<D> {

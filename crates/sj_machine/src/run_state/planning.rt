@@ -4,9 +4,9 @@ use super::RunState;
 use crate::choosing::{first_brought, is_read, last_leaving, may_run};
 use crate::claiming::node_of;
 use crate::gone::gone_among;
-use crate::running::task_at;
 use crate::todo::Todo;
 use sj_base::ids::{Cell, Node, Place, Task, Worker};
+use sj_core::tasks::task_at;
 use sj_edge::disk::Disk;
 
 impl<D: Disk> RunState<D> {

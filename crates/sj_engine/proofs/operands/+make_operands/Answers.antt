@@ -3,8 +3,8 @@ use Rattle.std.proofs.lemmas.List.{length_push}
 use Rattle.sj_codelet.specs.Slot.{slot_of}
 use Rattle.sj_engine.specs.Operands.{IsSmall}
 use Rattle.sj_engine.proofs.OperandLists.{count-before, operands-are, shared-before}
-use Rattle.sj_engine.proofs.ResultLists.{All-front}
 use Rattle.sj_engine.proofs.operands.+make_operands.Goals as goal
+use Rattle.sj_base.proofs.Lists.{All-front}
 
 pub make_operands-requires : goal.make_operands-requires
 make_operands-requires t c =

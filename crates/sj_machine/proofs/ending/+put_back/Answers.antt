@@ -19,8 +19,8 @@ returns-clause-cells t c =
     let x = c.take_shared.result in
     let e : c.args.accesses.now ≡ before ++ last ∷ [] = search rules in
     let h : is_written last.mode ≡ true = search rules in
-    c.put_back-2.ensures.cells ∙ ap (λ (rs : List Copies). put_each c.args.n (written_among p w before) (arrays c.take_shared.new.frame.slots) rs) (c.rewrite.ensures ∙ ap (λ (d : Cell). with_row c.args.cells.now.items d (λ row. written_at row c.args.n x.value)) c.worked_on-cell.ensures)
-    ∙ put_back-puts p w c.args.n c.args.accesses.now before last c.args.written.now.slots c.take_shared.new.frame.slots x.value c.args.cells.now.items e c.take_shared.ensures.slots h c.requires.count
+    c.put_back-2.ensures.cells ∙ ap (λ (rs : List Copies). put_each c.args.n (written_among p w before) (arrays c.take_shared.new.self.slots) rs) (c.rewrite.ensures ∙ ap (λ (d : Cell). with_row c.args.cells.now.items d (λ row. written_at row c.args.n x.value)) c.worked_on-cell.ensures)
+    ∙ put_back-puts p w c.args.n c.args.accesses.now before last c.args.written.now.slots c.take_shared.new.self.slots x.value c.args.cells.now.items e c.take_shared.ensures.slots h c.requires.count
 
 pub put_back-requires : goal.put_back-requires
 put_back-requires t c =
@@ -42,7 +42,7 @@ pub put_back-requires-2 : goal.put_back-requires-2
 put_back-requires-2 t c =
     let e : c.args.accesses.now ≡ c.in-Some.before.now ++ c.in-Some.last.now ∷ [] = search rules in
     let h : is_written c.in-Some.last.now.mode ≡ true = search rules in
-    (search rules, can_put-take _ _ _ c.args.accesses.now c.in-Some.before.now c.in-Some.last.now c.args.written.now.slots c.take_shared.new.frame.slots c.take_shared.result.value c.args.cells.now.items c.rewrite.new.cells.items c.worked_on-cell.result e h c.take_shared.ensures.slots c.worked_on-cell.ensures c.rewrite.ensures c.requires)
+    (search rules, can_put-take _ _ _ c.args.accesses.now c.in-Some.before.now c.in-Some.last.now c.args.written.now.slots c.take_shared.new.self.slots c.take_shared.result.value c.args.cells.now.items c.rewrite.new.cells.items c.worked_on-cell.result e h c.take_shared.ensures.slots c.worked_on-cell.ensures c.rewrite.ensures c.requires)
 
 pub returns-clause-room : goal.returns-clause-room
-returns-clause-room t c = omega (arith, c.put_back-2.ensures.room, c.take_shared.ensures.room, ap length c.take_shared.ensures.slots, length_push c.take_shared.new.frame.slots (shared c.take_shared.result.value))
+returns-clause-room t c = omega (arith, c.put_back-2.ensures.room, c.take_shared.ensures.room, ap length c.take_shared.ensures.slots, length_push c.take_shared.new.self.slots (shared c.take_shared.result.value))

@@ -1,5 +1,4 @@
-use Rattle.std.proofs.Common.{◌≡◌, All, length, take}
-use Rattle.sj_machine.specs.Agrees.{IsWide}
+use Rattle.std.proofs.Common.{◌≡◌, ◌<◌, All, length, take}
 use Rattle.sj_machine.specs.Running.{lend_each}
 use Rattle.sj_machine.proofs.running.lend_each.Given as goal
 
@@ -7,5 +6,5 @@ abbrev pub invariant-loop-cell : goal.invariant-loop-cell
 invariant-loop-cell l = record {
   rows : l.cells.items ≡ lend_each l.n (take l.cell-index l.written) l.fn.cells.items;
   every : length l.cells.items ≡ length l.fn.cells.items;
-  wide : All (IsWide l.nodes) l.cells.items;
+  node : All (λ row. l.n.0 < length row.marks) l.cells.items;
 }

@@ -5,13 +5,13 @@ use Rattle.sj_base.specs.declared.program.Program.{Program}
 use Rattle.sj_base.specs.declared.trace.Event.TheVariants.{Run}
 use Rattle.sj_core.specs.Program.{task_of}
 use Rattle.sj_codelet.specs.Frame.{Slot}
-use Rattle.sj_machine.specs.Operands.{read_among}
 use Rattle.sj_machine.specs.Running.{evicted_at, shares_at}
 use Rattle.sj_machine.specs.Standing.{CanHappen, Standing}
 use Rattle.sj_machine.proofs.Keeping.{has-room}
 use Rattle.sj_machine.proofs.Marked.{marked-at, marked-few, marked-wide}
 use Rattle.sj_machine.proofs.Owning.{found-can_give, found-can_work, found-few, found-keeps_run, found-run_cells, found-run_shares, found-run_unpinned}
 use Rattle.sj_machine.proofs.run_state.RunState.run.Goals as goal
+use Rattle.sj_base.specs.Mode.{reads_of}
 
 pub share_into-requires-clause-can : goal.share_into-requires-clause-can
 share_into-requires-clause-can g c =
@@ -69,5 +69,5 @@ pub returns-clause-room : goal.returns-clause-room
 returns-clause-room g c =
     let given : List Slot = shares_at c.deref-2.result.now c.args.w c.deref-3.result.now c.node_of-n.result c.items-accesses.result.now in
     let slots : c.share_into.new.frame.slots ≡ given = c.in_ok-share_into.ensures.slots ∙ ap (λ (l : List Slot). l ++ given) c.requires.empty in
-    let count : length c.share_into.new.frame.slots ≡ length (read_among c.items-accesses.result.now) = ap length slots ∙ length-map (read_among c.items-accesses.result.now) _ in
+    let count : length c.share_into.new.frame.slots ≡ length (reads_of c.items-accesses.result.now) = ap length slots ∙ length-map (reads_of c.items-accesses.result.now) _ in
     omega (arith, count, c.in_ok-share_into.ensures.room)

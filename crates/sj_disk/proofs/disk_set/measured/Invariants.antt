@@ -1,7 +1,7 @@
 use Rattle.std.proofs.Common.{◌≡◌, ◌<◌, ◌^◌, ℕ, get_or, map, take, Some}
 use Rattle.std.specs.Prelude.{slice_get}
 use Rattle.sj_edge.specs.Held.{Fills}
-use Rattle.sj_disk.proofs.disk_set.sizes_of.Given as goal
+use Rattle.sj_disk.proofs.disk_set.measured.Given as goal
 
 abbrev pub invariant-loop-disk : goal.invariant-loop-disk
 invariant-loop-disk g l =

@@ -2,7 +2,7 @@ use Rattle.std.proofs.Common.{◌≡◌, ◌++◌, ◌∷◌, [], Fits, w64, ap,
 use Rattle.std.proofs.Math.Facts.{Fits-lt-pow}
 use Rattle.std.proofs.lemmas.Option.{slice_get_within}
 use Rattle.sj_disk.proofs.Reserving.{bounded-more, filled-more, sizes-more}
-use Rattle.sj_disk.proofs.disk_set.sizes_of.Goals as goal
+use Rattle.sj_disk.proofs.disk_set.measured.Goals as goal
 
 pub loop-disk-preserved : goal.loop-disk-preserved
 loop-disk-preserved g c =

@@ -2,7 +2,7 @@ use Rattle.std.proofs.Common.{arith, pos}
 use Rattle.std.specs.Prelude.{FitsSigned}
 use Rattle.std.specs.Int.{w64}
 use Rattle.std.proofs.lemmas.List.Elements.{All-from_get_or}
-use Rattle.own_set.proofs.args_fit.Goals as goal
+use Rattle.sj_core.proofs.tasks.args_fit.Goals as goal
 
 pub returns : goal.returns
 returns c = All-from_get_or (FitsSigned w64) c.args.args.now (pos 0) (λ k h. c.loop-arg.invariant k (omega (arith, h)))
