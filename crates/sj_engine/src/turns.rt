@@ -105,8 +105,8 @@ impl<R: Wait, D: Disk> Workplace<'_, R, D> {
         picked
     }
 
-    /// Makes the next step for the claimed task. Where the worker must wait, the seat has heard the bell. Tiles that the board lets go
-    /// are freed after the turn.
+    /// Makes the next step for the claimed task. Where the worker must wait, the seat has heard the bell. Tiles that the board
+    /// lets go are freed after the turn.
     pub fn step(&self, seat: &mut BoardSeat<D>, t: Task, tray: &mut Tray) -> Step<D>
         requires workplace { IsWorkplace self.now }
         requires claimed { IsSeated self.now (HasClaimedRow self.now.worker t) seat.old }
