@@ -219,7 +219,8 @@ impl<D: Disk> SharedBoard<D> {
     }
 
     /// The next step of a worker for the task that it has claimed, as the plan says it; none where a fault is kept. The costs of
-    /// `plan_of` and of the step. The tray's frame goes out with the kernel that begins, and tiles that the board lets go come into it.
+    /// `plan_of` and of the step. The tray's frame goes out with the kernel that begins, and tiles that the board lets go come
+    /// into it.
     pub fn step(&mut self, alloc: Global, w: Worker, t: Task, tray: &mut Tray) -> Step<D>
         requires worker { IsWorkerOf self.old w }
         requires claimed { HasClaimedRow w t (row_in self.old w) }

@@ -12,8 +12,8 @@ use std::mem;
 /// The most operands that a task has.
 const MOST: u8 = 5;
 
-/// An empty frame for the operands of a worker's next task, and the tiles that its turn made needless: so a turn takes no memory for
-/// the one, and gives none back for the others.
+/// An empty frame for the operands of a worker's next task, and the tiles that its turn made needless: so a turn takes no memory
+/// for the one, and gives none back for the others.
 #[derive(Drop)]
 pub struct Tray {
     frame: Frame,

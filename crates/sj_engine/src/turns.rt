@@ -147,8 +147,8 @@ impl<R: Wait, D: Disk> Workplace<'_, R, D> {
         picked
     }
 
-    /// Makes the next step for the claimed task. Where the worker must wait, the seat has heard the bell. Tiles that the board lets go
-    /// are freed when the turn was given away.
+    /// Makes the next step for the claimed task. Where the worker must wait, the seat has heard the bell. Tiles that the board
+    /// lets go are freed when the turn was given away.
     pub fn step(&self, seat: &mut WorkerSeat<D>, t: Task, tray: &mut Tray) -> Step<D>
         requires workplace { IsWorkplace self.now }
         requires claimed { IsSeated self.now (HasClaimedRow self.now.worker t) seat.old }

@@ -313,9 +313,9 @@ impl<D: Disk> Board<D> {
 
     /// The kernel of the task begins that a worker has claimed, where no fault is kept. Appends to the frame shares of the
     /// operands whose old value is read, in order; of the cells that it writes, the board keeps no tile, and of what a deliver
-    /// task hands over it keeps a further share. Tiles that it kept and are written anew are spent. After an `Err` the board is as
-    /// before: a share was refused. Linear in the operands, in the nodes for each written one, and in the victims that have gone
-    /// since the worker last dropped one.
+    /// task hands over it keeps a further share. Tiles that it kept and are written anew are spent. After an `Err` the board is
+    /// as before: a share was refused. Linear in the operands, in the nodes for each written one, and in the victims that have
+    /// gone since the worker last dropped one.
     pub fn run(
         &mut self,
         t: Task,
@@ -401,8 +401,8 @@ impl<D: Disk> Board<D> {
         }
     }
 
-    /// A leaving copy goes from the worker's node, since another is valid and no transfer reads it; its tile is spent. Linear in the
-    /// victims of the worker that are found gone, each once for a claim; no memory.
+    /// A leaving copy goes from the worker's node, since another is valid and no transfer reads it; its tile is spent. Linear in
+    /// the victims of the worker that are found gone, each once for a claim; no memory.
     pub fn drop_copy(&mut self, w: Worker, cell: Cell, spent: &mut Spent)
         requires busy { IsBusy self.old w }
         requires can { CanHappen self.old.run (Drop cell (node_of self.old.run.machine w)) }

@@ -68,7 +68,8 @@ fn scratch_for(program: &Program, t: Task) -> u64
     scratch_bytes(program, accesses_of(program, t))
 }
 
-/// Those of these cells without an entry on a node, as their rows tell, each once. Quadratic in the cells, which are a task's few.
+/// Those of these cells without an entry on a node, as their rows tell, each once. Quadratic in the cells, which are a task's
+/// few.
 fn lacking_on(rows: &[Copies], node: &NodeStore, n: Node, cells: &[Cell]) -> FewCells
     requires wide { All (λ row. n.0 < length row.marks) rows.now }
     requires marked { AreMarked rows.now n node.now.entries }
