@@ -62,10 +62,12 @@ impl Tray {
         self.frame = frame;
     }
 
-    /// Frees the tiles that the last turn made needless, outside of any turn.
-    pub fn free_spent(&mut self)
+    /// Frees the tiles that turns made needless, unless the worker keeps the turn.
+    pub fn free_outside(&mut self, keeps_turn: bool)
         ensures { self.new ≡ self.old }
     {
-        self.spent.free();
+        if !keeps_turn {
+            self.spent.free();
+        }
     }
 }

@@ -164,15 +164,13 @@ impl<R: Wait, D: Disk> Workplace<'_, R, D> {
         let step = noted.board.step(self.alloc, self.worker, t, tray);
         if let Step::Waits = step {
             self.end_turn_to_rest(seat, noted, true);
-            tray.free_spent();
+            tray.free_outside(false);
             return Step::Waits;
         }
         let change = change_of(&step);
         let goes_on = goes_on(&step);
         self.end_turn(seat, noted, change, goes_on);
-        if !goes_on {
-            tray.free_spent();
-        }
+        tray.free_outside(goes_on);
         step
     }
 

@@ -17,7 +17,7 @@ use Rattle.sj_machine.specs.declared.hand.Hand.{Hand}
 use Rattle.std.proofs.lemmas.Bool.{cases_lt}
 use Rattle.std.proofs.lemmas.Option.{none-some}
 use Rattle.sj_machine.proofs.Hands.{given-set, hand-set, stands-same, inside-hands}
-use Rattle.sj_machine.proofs.Pooling.{all-pooled, home-inside, none-contains, once, times-put}
+use Rattle.sj_machine.proofs.Pooling.{all-pooled, none-contains, once, times-put}
 
 pub once-given : (t : Task) (hand : Hand) → cond {A = ℕ} (is_given t hand) 1 0 ≡ once t hand.given
 once-given t hand = by_given hand.given
