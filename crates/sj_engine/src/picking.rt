@@ -116,8 +116,8 @@ impl<D: Disk> SharedBoard<D> {
         self.board.next(w, passed)
     }
 
-    /// Notes that a look ended with a task behind so many others. Constant time. A count that stays isn't written: the value is moved
-    /// next, and would wait for the byte.
+    /// Notes that a look ended with a task behind so many others. Constant time. A count that stays isn't written: the value is
+    /// moved next, and would wait for the byte.
     fn note_found(&mut self, passed: usize)
         ensures { self.new ≡ self.old }
     {
