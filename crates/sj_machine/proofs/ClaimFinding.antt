@@ -1,17 +1,16 @@
 -- What a plan on a node says of the claim in the state: its cells, its victims, and why it can't be made.
-use Rattle.std.proofs.Common.{◌≡◌, ℕ, ◌+◌, ◌-◌, Bool, true, false, not, ◌&&◌, ◌||◌, List, [], ◌∷◌, ◌++◌, Option, Some, None, map, filter, length, reverse, option_map, refl, sym, ap, ◌∙◌, subst, arith, inl, inr, sum_by, nat_eq, is_some}
+use Rattle.std.proofs.Common.{◌≡◌, ℕ, ◌+◌, ◌-◌, Bool, true, false, not, ◌&&◌, ◌||◌, List, [], ◌∷◌, ◌++◌, Option, Some, None, map, filter, reverse, option_map, refl, sym, ap, ◌∙◌, subst, arith, sum_by, nat_eq, is_some}
 use Rattle.std.specs.List.{list_any}
 use Rattle.std.specs.Bool.{then_some}
 use Rattle.std.specs.Option.{option_or}
-use Rattle.std.specs.Prelude.{All, unwrap_or}
-use Rattle.std.proofs.lemmas.Bool.{cases_lt, false_from_ne_true, false≢true, ne_eqb}
-use Rattle.std.proofs.lemmas.List.{get_or_default, get_or_past, map-append, reverse-append, reverse-reverse}
-use Rattle.std.proofs.lemmas.List.Elements.{All-get_or, All-head, All-tail, filter_agree}
-use Rattle.std.proofs.lemmas.List.Sums.{list_all-from_AllPass, sum_by-cons}
+use Rattle.std.specs.Prelude.{All}
+use Rattle.std.proofs.lemmas.Bool.{false≢true, ne_eqb}
+use Rattle.std.proofs.lemmas.List.{map-append, reverse-append, reverse-reverse}
+use Rattle.std.proofs.lemmas.List.Elements.{All-head, All-tail, filter_agree}
+use Rattle.std.proofs.lemmas.List.Sums.{sum_by-cons}
 use Rattle.sj_core.proofs.CellLists.{times, times-has, times-none}
-use Rattle.sj_core.proofs.Reading.{idle_row, no_row, same_cell-is}
-use Rattle.sj_core.proofs.Replicas.{leaving-by_some}
-use Rattle.sj_core.proofs.Words.{AtNode, Cell, CellState, Coming, Invalid, Leaving, Machine, Node, Program, Replica, State, Task, Valid, Worker, WorkerState, cells_of, distinct, free, has_cell, is_leaving, is_pinned, node_of, node_size, order, pins, replica, replica_in, same_cell, scratch, scratch_bytes, task_of, tile_bytes, victims_of, workers_at}
+use Rattle.sj_core.proofs.Reading.{same_cell-is}
+use Rattle.sj_core.proofs.Words.{AtNode, Cell, Coming, Invalid, Leaving, Machine, Node, Program, Replica, State, Task, Valid, Worker, cells_of, distinct, free, has_cell, is_leaving, is_pinned, node_of, node_size, order, pins, replica, same_cell, scratch, scratch_bytes, task_of, tile_bytes, workers_at}
 use Rattle.sj_core.specs.Coherent.{Coherent}
 use Rattle.sj_core.specs.Step.{May, missing, none_leaving, to_come, victims_for}
 use Rattle.sj_core.specs.Victims.{covers, shortest_suffix, victims}
@@ -24,7 +23,7 @@ use Rattle.sj_machine.specs.Agrees.{HasMarks, pins_on, store_of}
 use Rattle.sj_machine.specs.Copies.{Copies}
 use Rattle.sj_machine.specs.Mark.{is_leaving as is_leaving_mark, mark_of}
 use Rattle.sj_machine.specs.Plan.{ClaimPlan, IsPlan, plan_with}
-use Rattle.sj_machine.specs.Planning.{CommutersAreFree, MayClaim, NoneLeaves, chosen_on, is_leaving_at, lacking, need_on, planned}
+use Rattle.sj_machine.specs.Planning.{CommutersAreFree, MayClaim, chosen_on, is_leaving_at, lacking, need_on, planned}
 use Rattle.sj_machine.proofs.Commuting.{commuters-alone}
 use Rattle.sj_machine.proofs.ClaimEntries.{entries, entries-has, entries-total, entry}
 

@@ -1,11 +1,10 @@
 -- What follows of a board's next step for a worker.
-use Rattle.std.proofs.Common.{arith, ◌≡◌, ◌∙◌, ◌||◌, ℕ, Bool, true, false, List, Option, None, Some, ap, cond, refl, subst, sym, get_or}
+use Rattle.std.proofs.Common.{arith, ◌≡◌, ◌∙◌, ◌||◌, ℕ, Bool, true, false, List, Option, None, Some, ap, refl, subst, sym, get_or}
 use Rattle.std.specs.Prelude.{IfSome, is_some, if◌then◌else◌}
 use Rattle.std.proofs.lemmas.List.{get_or_default}
 use Rattle.sj_base.specs.declared.trace.Event.TheVariants.{Run}
-use Rattle.sj_core.proofs.Words.{Machine, Program, State, Task, Worker, is_claimed_by, is_running_on, is_task_of, progress, transfer}
+use Rattle.sj_core.proofs.Words.{Machine, Program, State, Task, Worker, is_claimed_by, is_running_on, progress, transfer}
 use Rattle.sj_core.specs.declared.progress.Progress.TheVariants.{Claimed}
-use Rattle.sj_core.specs.declared.progress.Transfer.{Transfer}
 use Rattle.sj_core.proofs.Advancing.{claimed_by-is}
 use Rattle.sj_core.specs.Laws.{IsSound}
 use Rattle.sj_deps.specs.Progress.{Progress as Dependencies}

@@ -1,37 +1,33 @@
 -- What the rows say of a worker's next step is what the state says.
-use Rattle.std.proofs.Common.{◌≡◌, ℕ, ◌<◌, ◌≤◌, ◌^◌, ◌+◌, Bool, true, false, not, ◌&&◌, ◌||◌, cond, List, [], ◌∷◌, Option, Some, None, length, get_or, is_some, map, reverse, refl, sym, ap, ◌∙◌, subst, inl, inr, arith, nat_eq}
-use Rattle.std.specs.Prelude.{All, IfSome, IsSomeAnd, MatchBool, MatchOption, if◌then◌else◌, nat_lt, option_and_then, option_map, position, slice_get}
+use Rattle.std.proofs.Common.{◌≡◌, ℕ, ◌<◌, ◌^◌, ◌+◌, Bool, true, false, not, ◌&&◌, ◌||◌, cond, List, [], ◌∷◌, Option, Some, None, length, get_or, is_some, map, reverse, refl, sym, ap, ◌∙◌, subst, arith, nat_eq}
+use Rattle.std.specs.Prelude.{IfSome, IsSomeAnd, MatchBool, MatchOption, if◌then◌else◌, nat_lt, option_map, position}
 use Rattle.std.specs.List.{find, list_all, list_any, position_or_len, range_with_len, slice_index_or}
-use Rattle.std.proofs.lemmas.Bool.{cases_Bool, false_from_ne_true, false≢true, not-true}
+use Rattle.std.proofs.lemmas.Bool.{false_from_ne_true, false≢true}
 use Rattle.std.proofs.lemmas.List.{get_or_default}
 use Rattle.std.proofs.lemmas.List.Elements.{All-get_or}
 use Rattle.std.proofs.lemmas.List.Folds.{list_any-append, list_any_at}
 use Rattle.std.proofs.lemmas.List.FromFn.{fill_by_all, get_or-map-range_with_len, length-map-range_with_len}
 use Rattle.std.proofs.lemmas.List.Sums.{fails_before_first, passes_at_first, position_or_len_is, prefix_len-le-length}
 use Rattle.std.proofs.lemmas.Option.{none-some}
-use Rattle.sj_base.specs.Mode.{is_data, is_written, starts_as_zeros}
 use Rattle.sj_base.specs.declared.mode.Access.{Access}
 use Rattle.sj_base.specs.declared.program.CellInfo.{CellInfo}
-use Rattle.sj_core.proofs.Words.{AtNode, Block, Cell, CellState, Coming, DiskNo, Invalid, Leaving, Machine, Node, OnDisk, Place, Program, Replica, State, Task, Valid, Worker, WorkerState, cell_info, cell_state, cells_of, copy_of, fresh_cells, has_cell, is_coming_by, is_entry, is_gone, is_leaving, is_leaving_by, is_valid, node_of, place, progress, replica, same_cell, task_of, victims_of, workers_of, written_cells, writes}
+use Rattle.sj_core.proofs.Words.{AtNode, Block, Cell, CellState, Coming, DiskNo, Invalid, Leaving, Machine, Node, OnDisk, Place, Program, Replica, State, Task, Valid, Worker, WorkerState, cell_info, cell_state, cells_of, fresh_cells, has_cell, is_coming_by, is_entry, is_gone, is_leaving, is_leaving_by, is_valid, node_of, progress, replica, task_of, victims_of, written_cells, writes}
 use Rattle.sj_core.specs.declared.progress.Progress.TheVariants.{Claimed}
-use Rattle.sj_core.specs.declared.progress.Transfer.{Transfer}
 use Rattle.sj_core.proofs.Blocks.{disk-within, has-disk}
 use Rattle.sj_core.proofs.Claimed.{claimed-staffed}
 use Rattle.sj_core.proofs.Readiness.{list_any-map, list_any-some}
 use Rattle.sj_core.proofs.Reading.{idle_row, no_row}
 use Rattle.sj_core.proofs.Replicas.{coming_by-is}
-use Rattle.sj_core.specs.Coherent.{Coherent}
 use Rattle.sj_core.specs.Laws.{IsSound}
 use Rattle.sj_core.specs.Proper.{IsCopyOf}
-use Rattle.sj_core.specs.Step.{disk_of, is_fresh, is_moving, is_present, is_read, is_valid_elsewhere, same_place, source_of}
+use Rattle.sj_core.specs.Step.{disk_of, is_moving, is_present, is_read, is_valid_elsewhere, same_place, source_of}
 use Rattle.sj_disk.specs.declared.directory.Extent.{Extent}
 use Rattle.sj_disk.specs.Directory.{extent_of}
 use Rattle.sj_machine.specs.Agrees.{IsWide, Rows}
 use Rattle.sj_machine.specs.Choosing.{HasNumbers, are_present, are_unmoved, comes_in, fresh_among, is_brought, is_moving_in, is_there_in, leaves_in, moves_in, reads_in}
 use Rattle.sj_machine.specs.Operands.{worked_among}
-use Rattle.sj_machine.specs.Copies.{Copies, first_node, is_copy_beside, is_elsewhere, mark_at, row_of}
+use Rattle.sj_machine.specs.Copies.{Copies, first_node, is_copy_beside, is_elsewhere, row_of}
 use Rattle.sj_machine.specs.Mark.{is_coming_by as is_coming_mark, is_leaving_by as is_leaving_mark, is_there, mark_of}
-use Rattle.sj_machine.specs.declared.mark.Mark.{Mark}
 use Rattle.sj_machine.specs.declared.mark.Mark.TheVariants.{Invalid as NoMark}
 use Rattle.sj_machine.specs.Sound.{IsBlock, Keeps, block_of}
 use Rattle.sj_machine.specs.Standing.{Standing, state}

@@ -1,11 +1,10 @@
 -- The rows of cells after new tiles of some were put.
-use Rattle.std.proofs.Common.{◌≡◌, ◌<◌, ◌≤◌, ◌+◌, ℕ, suc, Bool, true, false, List, [], ◌∷◌, ◌++◌, None, Some, ◌∙◌, ap, arith, cond, find, length, map, refl, subst, sum_by, sym, ◌||◌}
+use Rattle.std.proofs.Common.{◌≡◌, ◌<◌, ◌≤◌, ◌+◌, ℕ, suc, Bool, true, false, List, [], ◌∷◌, ◌++◌, None, Some, ◌∙◌, ap, arith, cond, find, length, map, refl, subst, sym, ◌||◌}
 use Rattle.std.specs.Prelude.{All, filter}
 use Rattle.std.specs.List.{zip}
 use Rattle.std.proofs.lemmas.Bool.{false_from_ne_true, false≢true, or_parts}
 use Rattle.std.proofs.lemmas.List.{append-nil, get_or_append_left, get_or_push, length-map, length-set, length_push, map-append}
 use Rattle.std.proofs.lemmas.List.Elements.{All-get_or, All-set, All-weaker, filter-append}
-use Rattle.std.proofs.lemmas.List.Sums.{sum_by-set}
 use Rattle.sj_base.specs.Array.{Array, zeros}
 use Rattle.sj_base.specs.Mode.{is_written}
 use Rattle.sj_base.specs.declared.mode.Access.{Access}
@@ -15,9 +14,9 @@ use Rattle.sj_core.proofs.CellLists.{same_cell-refl, times, times-cons, times-ha
 use Rattle.sj_core.proofs.Reading.{same_cell-is}
 use Rattle.sj_core.proofs.Sums.{tally}
 use Rattle.sj_core.specs.Fold.{held_in}
-use Rattle.sj_machine.specs.declared.mark.Mark.TheVariants.{Invalid, Valid}
+use Rattle.sj_machine.specs.declared.mark.Mark.TheVariants.{Valid}
 use Rattle.sj_machine.specs.Agrees.{IsWide}
-use Rattle.sj_machine.specs.Copies.{Copies, mark_at, row_of, with_row, written_at}
+use Rattle.sj_machine.specs.Copies.{Copies, row_of, with_row, written_at}
 use Rattle.sj_core.specs.Operands.{worked_on}
 use Rattle.sj_machine.specs.Operands.{CanWorkOn, written_among}
 use Rattle.sj_machine.specs.Running.{CanPutBack, CanRewrite, put_each}

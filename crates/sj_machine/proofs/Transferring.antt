@@ -1,10 +1,8 @@
 -- The rows agree with a state after a worker's transfer was written in both.
-use Rattle.std.proofs.Common.{◌≡◌, ◌<◌, ◌+◌, ℕ, List, Option, length, map, get_or, sym, ap, ◌∙◌, subst, sum_by, count_by}
-use Rattle.std.proofs.lemmas.List.Sums.{sum_by-set}
+use Rattle.std.proofs.Common.{◌≡◌, ℕ, List, Option, length, map, get_or, sym, ap, ◌∙◌, subst, sum_by, count_by}
 use Rattle.sj_core.proofs.Words.{Cell, Machine, Node, Program, State, Worker, WorkerState, node_size, order, pins, same_cell, scratch, tile_bytes, with_transfer, workers_at}
 use Rattle.sj_core.specs.declared.progress.Transfer.{Transfer}
 use Rattle.sj_core.proofs.Placing.{pins-same, scratch-same}
-use Rattle.sj_core.proofs.Reading.{idle_row}
 use Rattle.sj_node.specs.Store.{Store, store}
 use Rattle.sj_machine.specs.Agrees.{Agrees, HasStores, Rows, rows_of, store_of, with_transfer_of}
 

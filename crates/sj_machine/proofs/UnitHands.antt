@@ -10,12 +10,12 @@ use Rattle.sj_core.proofs.Words.{Cell, Program, Worker, transfer}
 use Rattle.sj_core.specs.declared.progress.Transfer.{Transfer}
 use Rattle.sj_disk.specs.declared.directory.Extent.{Extent}
 use Rattle.sj_disk.specs.Directory.{DiskState, extent_of}
-use Rattle.sj_disk.specs.Lending.{IsTaken, LendingState, NoneIsOut, has_back}
+use Rattle.sj_disk.specs.Lending.{NoneIsOut}
 use Rattle.sj_disk.specs.Rack.{is_out}
 use Rattle.sj_disk.specs.Units.{UnitState, unit_state}
 use Rattle.sj_machine.specs.Board.{empty_hand, hand_in}
 use Rattle.sj_machine.specs.Preparing.{first_hands}
-use Rattle.sj_machine.specs.Standing.{HasMoved, Standing, starting, state, with_event}
+use Rattle.sj_machine.specs.Standing.{HasMoved, Standing, state, with_event}
 use Rattle.sj_machine.specs.Units.{IsInHand, UnitsStand, lent, unit_at}
 use Rattle.sj_machine.specs.declared.hand.Hand.{Hand}
 

@@ -1,5 +1,5 @@
 -- A unit that a worker takes for its move, works on and puts back: the run holds what it held, and what was stored or fetched.
-use Rattle.std.proofs.Common.{◌≡◌, ℕ, zero, suc, Bool, true, false, List, [], ◌∷◌, Option, Some, None, inl, inr, ◌⊎◌, refl, sym, ap, ◌∙◌, subst, length, map, slice_get, slice_set}
+use Rattle.std.proofs.Common.{◌≡◌, ℕ, zero, suc, Bool, true, false, List, [], ◌∷◌, Option, Some, inl, inr, refl, sym, ap, ◌∙◌, subst, length, map, slice_get, slice_set}
 use Rattle.std.specs.Prelude.{IfErr, IfSome, IsSome, IsSomeAnd, OnOk, Result, Ok, Err}
 use Rattle.sj_base.specs.Array.{Array, area}
 use Rattle.sj_base.proofs.Options.{IfSome-at, IfSome-from, IsSomeAnd-at}
@@ -10,14 +10,14 @@ use Rattle.sj_edge.specs.GivenBack.{AreGivenBack}
 use Rattle.sj_disk.specs.declared.directory.Extent.{Extent}
 use Rattle.sj_disk.specs.declared.refusal.DiskRefusal.{DiskRefusal}
 use Rattle.sj_disk.specs.Calls.{Fetches, Stores}
-use Rattle.sj_disk.specs.Directory.{DiskState, IsLaidOut, extent_of, last_store}
-use Rattle.sj_disk.specs.Lending.{ComesFrom, HasFetched, HasStored, IsTaken, LendingState, TakesOut, has_back, lending}
+use Rattle.sj_disk.specs.Directory.{IsLaidOut, extent_of, last_store}
+use Rattle.sj_disk.specs.Lending.{ComesFrom, HasFetched, HasStored, IsTaken, LendingState, TakesOut, has_back}
 use Rattle.sj_disk.specs.Units.{IsWorkedOn, UnitFetches, UnitState, UnitStores}
 use Rattle.sj_machine.specs.Agrees.{Rows, transfer_in}
 use Rattle.sj_machine.specs.Board.{HasCause}
 use Rattle.sj_machine.specs.Counts.{AreCounted, fault_of}
 use Rattle.sj_machine.specs.Sound.{IsStored, IsWrittenOut, Keeps}
-use Rattle.sj_machine.specs.Standing.{IsFetching, IsMovingOut, IsTileMoved, IsTileOf, HasDimsMoved, Standing, is_node, state}
+use Rattle.sj_machine.specs.Standing.{IsFetching, IsMovingOut, IsTileMoved, IsTileOf, Standing, is_node, state}
 use Rattle.sj_machine.specs.Units.{HasBlockOf, HasFetchedMoved, HasStoredMoved, IsDiskMove, IsUnitOf, TakesUnit, lent}
 use Rattle.sj_machine.proofs.DiskCounts.{fetches-cause, fetches-counted, stores-cause, stores-counted}
 use Rattle.sj_machine.proofs.Storing.{OnOk-from, at-place, extent, fetch-last, fetched-well, keeps-fetched, keeps-stored, stored-well}

@@ -1,6 +1,6 @@
 -- A worker's next step, for which it waits while another has the disk in hand that it needs.
-use Rattle.std.proofs.Common.{◌≡◌, ◌≢◌, ◌&&◌, ◌⊎◌, ◌∙◌, Bool, true, false, Option, None, Some, ap, inl, inr, not, refl, subst, sym, is_some}
-use Rattle.std.specs.Prelude.{IfSome, IsSomeAnd, IsTrue, MatchBool, MatchOption, if◌then◌else◌}
+use Rattle.std.proofs.Common.{◌≡◌, ◌&&◌, ◌⊎◌, ◌∙◌, Bool, true, false, Option, None, Some, ap, inl, inr, not, refl, subst, sym}
+use Rattle.std.specs.Prelude.{IfSome, IsSomeAnd, MatchBool, MatchOption, if◌then◌else◌}
 use Rattle.std.proofs.lemmas.Bool.{false≢true}
 use Rattle.sj_core.proofs.Words.{AtNode, Cell, DiskNo, Machine, OnDisk, Place, Program, State, Task, Worker, node_of, transfer, writes}
 use Rattle.sj_core.specs.Step.{disk_of, is_read, is_valid_elsewhere, source_of}
@@ -8,7 +8,7 @@ use Rattle.sj_disk.specs.declared.directory.Extent.{Extent}
 use Rattle.sj_disk.specs.Directory.{extent_of}
 use Rattle.sj_disk.specs.Lending.{IsInFor}
 use Rattle.sj_disk.specs.Rack.{is_out}
-use Rattle.sj_machine.specs.Board.{BoardState, IsBusy, IsWorking, hand_of}
+use Rattle.sj_machine.specs.Board.{BoardState, hand_of}
 use Rattle.sj_core.specs.declared.progress.Transfer.{Transfer}
 use Rattle.sj_machine.specs.Standing.{Standing, is_node, state}
 use Rattle.sj_machine.specs.Todo.{AnotherGoesOn, Brings, CanBegin, Evicts, HasDiskIn, IsCounted, IsMoverOf, IsNext, IsStepFor, IsTodoOf, is_out_for, may_run, needs_disk_out, next_cell, next_victim}
