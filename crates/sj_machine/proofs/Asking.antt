@@ -1,5 +1,5 @@
 -- What is asked of a run's state is read from its rows.
-use Rattle.std.proofs.Common.{◌≡◌, ℕ, ◌<◌, ◌≤◌, Bool, not, List, Option, length, get_or, refl, sym, ap, ◌∙◌, inl, inr, arith}
+use Rattle.std.proofs.Common.{◌≡◌, ℕ, ◌<◌, ◌≤◌, not, List, Option, length, get_or, sym, ap, ◌∙◌, inl, inr, arith}
 use Rattle.std.specs.List.{list_all, list_any, range_with_len, slice_index_or}
 use Rattle.std.proofs.lemmas.Bool.{cases_lt}
 use Rattle.std.proofs.lemmas.List.{get_or_default, get_or_past}
@@ -15,7 +15,6 @@ use Rattle.sj_machine.specs.Agrees.{IsWide, Rows}
 use Rattle.sj_machine.specs.Choosing.{fresh_among, leaves_in, reads_in}
 use Rattle.sj_machine.specs.Copies.{Copies, mark_at, row_of}
 use Rattle.sj_machine.specs.Mark.{mark_of}
-use Rattle.sj_machine.specs.declared.mark.Mark.{Mark}
 use Rattle.sj_machine.specs.declared.mark.Mark.TheVariants.{Invalid as NoMark}
 use Rattle.sj_machine.specs.Sound.{Keeps}
 use Rattle.sj_machine.specs.Standing.{Standing, state}

@@ -1,16 +1,15 @@
 -- What the beginning of a move leaves.
-use Rattle.std.proofs.Common.{◌≡◌, ◌≤◌, ◌<◌, ◌+◌, ℕ, true, false, List, Option, None, Some, refl, sym, ap, ◌∙◌, subst, arith, length, get_or, is_some, position}
+use Rattle.std.proofs.Common.{◌≡◌, ◌<◌, ◌+◌, ℕ, true, false, List, Option, None, Some, refl, sym, ap, ◌∙◌, subst, arith, length, is_some, position}
 use Rattle.std.specs.Prelude.{IfSome, IsSomeAnd, unwrap_or, option_map}
 use Rattle.std.proofs.lemmas.List.Quantifiers.{position-Some}
 use Rattle.std.proofs.lemmas.Bool.{false≢true}
 use Rattle.sj_base.specs.declared.trace.Event.TheVariants.{Move}
-use Rattle.sj_core.proofs.Words.{Array, AtNode, Cell, DiskNo, Invalid, Machine, Node, OnDisk, Place, Program, State, Task, Worker, WorkerState, array_of, cell_state, dims_of, is_coming_by, is_leaving, is_leaving_by, is_valid, progress, replica, transfer, with_transfer, worker_of, zeros}
+use Rattle.sj_core.proofs.Words.{Array, AtNode, Cell, DiskNo, Invalid, Machine, Node, OnDisk, Place, Program, State, Task, Worker, array_of, cell_state, dims_of, is_coming_by, is_leaving, is_leaving_by, is_valid, progress, replica, transfer, with_transfer, worker_of, zeros}
 use Rattle.sj_core.specs.declared.progress.Progress.{Progress}
 use Rattle.sj_core.specs.declared.progress.Progress.TheVariants.{Claimed}
 use Rattle.sj_core.specs.declared.progress.Transfer.{Transfer}
 use Rattle.sj_core.proofs.Advancing.{claimed_by-is}
 use Rattle.sj_core.proofs.Replicas.{leaving_by-is, leaving_by-leaves}
-use Rattle.sj_core.proofs.Reading.{idle_row}
 use Rattle.sj_core.specs.Coherent.{Coherent, is_begun, is_being_written}
 use Rattle.sj_core.specs.Step.{CanMoveIn, CanMoveOut, a_transfer, after, disk_of, mover_of, source_of}
 use Rattle.sj_machine.specs.Agrees.{Agrees, Rows, rows_of}

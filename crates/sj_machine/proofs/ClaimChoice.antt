@@ -5,7 +5,6 @@ use Rattle.std.specs.Option.{ok_or}
 use Rattle.std.proofs.lemmas.List.{get_or_default}
 use Rattle.std.proofs.lemmas.List.Elements.{All-weaker}
 use Rattle.sj_base.specs.declared.mode.Access.{Access}
-use Rattle.sj_base.specs.declared.trace.Event.TheVariants.{Claim}
 use Rattle.sj_core.proofs.Words.{Cell, Machine, Node, Program, State, Task, Worker, WorkerState, node_of, task_of}
 use Rattle.sj_core.specs.Laws.{IsSound}
 use Rattle.sj_core.specs.Step.{none_leaving}
@@ -13,10 +12,10 @@ use Rattle.sj_node.specs.Store.{Store}
 use Rattle.sj_machine.specs.Agrees.{IsWide, Rows, store_of}
 use Rattle.sj_machine.specs.Gone.{KnownGone}
 use Rattle.sj_machine.specs.Operands.{first_held}
-use Rattle.sj_machine.specs.Plan.{ClaimPlan, IsPlan}
+use Rattle.sj_machine.specs.Plan.{ClaimPlan}
 use Rattle.sj_machine.specs.Planning.{CommutersAreFree, HasSmallWork, IsAnswer, IsWhy, MayClaim, NoneLeavesFor, chosen_on, commuter_in_use, is_leaving_at, planned}
 use Rattle.sj_machine.specs.Sound.{Keeps}
-use Rattle.sj_machine.specs.Standing.{CanHappen, Standing, state}
+use Rattle.sj_machine.specs.Standing.{Standing, state}
 use Rattle.sj_machine.specs.declared.plan.Why.{Why}
 use Rattle.sj_machine.specs.declared.plan.Why.TheVariants.{Commute, Leaving, NoRoom}
 use Rattle.sj_machine.proofs.Commuting.{first-is}

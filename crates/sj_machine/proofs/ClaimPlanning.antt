@@ -11,7 +11,7 @@ use Rattle.sj_core.proofs.Words.{Cell, Program, Task, Worker, cells_of, distinct
 use Rattle.sj_node.specs.Entry.{has_entry}
 use Rattle.sj_node.specs.Store.{Store, victims_of}
 use Rattle.sj_machine.specs.Plan.{ClaimPlan, IsSmallCell}
-use Rattle.sj_machine.specs.Planning.{HasSmallTask, HasSmallWork, chosen_on, lacking, need_on, planned}
+use Rattle.sj_machine.specs.Planning.{HasSmallWork, chosen_on, lacking, need_on, planned}
 use Rattle.sj_machine.proofs.ClaimFinding.{All-of}
 use Rattle.sj_machine.proofs.ClaimStores.{All-has}
 

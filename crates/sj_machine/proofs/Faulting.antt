@@ -1,5 +1,5 @@
 -- A fault that is kept has its cause still where disks were used: their counts never fall.
-use Rattle.std.proofs.Common.{ℕ, ◌<◌, ◌≤◌, Bool, Option, Some, None, List, sym, subst, arith}
+use Rattle.std.proofs.Common.{ℕ, ◌≤◌, Bool, Option, Some, None, List, sym, subst, arith}
 use Rattle.std.specs.Prelude.{IfSome, IsSomeAnd, Result, ℤ, MatchOption, slice_get}
 use Rattle.std.specs.List.{AllZip}
 use Rattle.std.proofs.lemmas.Slice.Zip.{AllZip-left}

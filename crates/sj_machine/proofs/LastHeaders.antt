@@ -1,6 +1,6 @@
 -- What was last written of a cell with a copy on a disk stays so by each event that writes no cell and takes no copy from a disk,
 -- and by the end of a task: a cell that a running task writes has no copy there.
-use Rattle.std.proofs.Common.{◌≡◌, ◌≢◌, ℕ, Bool, true, false, not, Option, None, Some, List, [], ap, inl, inr, refl, subst, sym, ◌∙◌, ◌⊎◌, length, get_or}
+use Rattle.std.proofs.Common.{◌≡◌, ℕ, true, false, Option, None, Some, List, ap, inl, inr, refl, subst, sym, ◌∙◌, get_or}
 use Rattle.std.specs.Prelude.{IfSome, slice_set}
 use Rattle.std.proofs.lemmas.Bool.{cases_eq, false_from_ne_true, false≢true}
 use Rattle.std.proofs.lemmas.List.{get_or-set_other, get_or-set_same}

@@ -1,10 +1,8 @@
 -- The rows of cells after some became one node's own.
-use Rattle.std.proofs.Common.{◌≡◌, ◌≢◌, ◌<◌, ◌≤◌, ◌+◌, ℕ, zero, suc, List, [], ◌∷◌, Option, None, ◌∙◌, ap, arith, get_or, inl, inr, length, map, refl, set, sum_by}
+use Rattle.std.proofs.Common.{◌≡◌, ◌≢◌, ◌<◌, ◌≤◌, ℕ, zero, suc, List, [], ◌∷◌, Option, None, ◌∙◌, ap, arith, get_or, length, map, refl}
 use Rattle.std.specs.Prelude.{All, if◌then◌else◌}
-use Rattle.std.proofs.lemmas.Bool.{cases_lt}
 use Rattle.std.proofs.lemmas.List.{get_or-set_other, get_or-set_same, length-map, length-set}
 use Rattle.std.proofs.lemmas.List.Elements.{All-get_or, All-set}
-use Rattle.std.proofs.lemmas.List.Sums.{sum_by-cons, sum_by-set}
 use Rattle.sj_base.specs.Array.{Array}
 use Rattle.sj_core.proofs.Words.{Cell, Node, has_cell}
 use Rattle.sj_core.proofs.CellLists.{cells-written, times}

@@ -1,10 +1,9 @@
 -- A board stays sound where a worker takes a unit, and where it puts it back.
-use Rattle.std.proofs.Common.{◌≡◌, ◌≢◌, ℕ, ◌+◌, ◌<◌, true, false, Bool, IsTrue, Option, Some, None, List, refl, sym, subst, ap, ◌∙◌, length, length-set, slice_set, is_some, ◌⊎◌}
-use Rattle.std.specs.Prelude.{IfSome, IsSomeAnd, OnOk, Result, Ok, Err}
+use Rattle.std.proofs.Common.{◌≡◌, ℕ, ◌+◌, ◌<◌, true, false, IsTrue, Option, Some, None, List, refl, sym, subst, ap, ◌∙◌, length, length-set, slice_set, is_some, ◌⊎◌}
+use Rattle.std.specs.Prelude.{IfSome, OnOk, Result, Ok, Err}
 use Rattle.sj_base.specs.Array.{Array}
-use Rattle.sj_base.specs.declared.ids.DiskNo.{DiskNo}
 use Rattle.sj_base.specs.declared.ids.Task.{Task}
-use Rattle.sj_core.proofs.Words.{Cell, Machine, Program, State, Worker, is_task_of, progress, transfer}
+use Rattle.sj_core.proofs.Words.{Cell, State, Worker, is_task_of, progress, transfer}
 use Rattle.sj_core.specs.declared.progress.Transfer.{Transfer}
 use Rattle.sj_core.specs.Legal.{IsComplete}
 use Rattle.sj_deps.specs.Progress.{Progress as Dependencies}

@@ -1,5 +1,5 @@
 -- What the rows say of a worker's next step.
-use Rattle.std.specs.Prelude.{ℕ, ◌+◌, ◌^◌, ◌<◌, Bool, false, not, ◌&&◌, ◌||◌, Some, None, IfSome, All, List, filter, map}
+use Rattle.std.specs.Prelude.{◌+◌, ◌^◌, ◌<◌, Bool, false, not, ◌&&◌, ◌||◌, Some, None, IfSome, All, List, filter, map}
 use Rattle.std.specs.List.{list_all, list_any}
 use Rattle.sj_base.specs.declared.ids.Cell.{Cell}
 use Rattle.sj_base.specs.declared.ids.Node.{Node}

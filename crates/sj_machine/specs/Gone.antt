@@ -1,5 +1,5 @@
 -- How many of each worker's victims are gone, of those that go first.
-use Rattle.std.specs.Prelude.{◌≡◌, ℕ, Bool, not, IsTrue, List, length, reverse, slice_index_or, take}
+use Rattle.std.specs.Prelude.{◌≡◌, ℕ, not, IsTrue, List, length, reverse, slice_index_or, take}
 use Rattle.std.specs.List.{list_all}
 use Rattle.sj_base.specs.declared.ids.Cell.{Cell}
 use Rattle.sj_base.specs.declared.ids.Node.{Node}

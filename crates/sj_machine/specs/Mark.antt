@@ -1,5 +1,5 @@
 -- What a cell is at a node, its array aside.
-use Rattle.std.specs.Prelude.{ℕ, Bool, true, false}
+use Rattle.std.specs.Prelude.{Bool, true, false}
 use Rattle.sj_base.specs.declared.ids.Worker.{Worker}
 use Rattle.sj_core.specs.Machine.{Replica, Invalid as NoReplica, Coming as ComingReplica, Valid as ValidReplica, Leaving as LeavingReplica, same_worker}
 use Rattle.sj_machine.specs.declared.mark.Mark.{Mark}

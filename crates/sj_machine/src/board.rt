@@ -279,9 +279,9 @@ impl<D: Disk> Board<D> {
 
     /// A worker claims the task that it was given, where no fault is kept. After an `Err` the board is as before, so that the
     /// task is still in the worker's hand; `NotNow` comes only while another worker has a claimed or running task, and
-    /// `OutOfMemory` where there is none for the lists of the claim's cells and victims, or for the node's entries. Linear in the
-    /// operands, the victims, the pinned entries that are passed, the workers, and those of their victims that aren't known to be
-    /// gone; and in the workers for each commuting operand.
+    /// `OutOfMemory` where there is none for the list of the claim's victims, or for the node's entries. Linear in the operands,
+    /// the victims, the pinned entries that are passed, the workers, and those of their victims that aren't known to be gone; and
+    /// in the workers for each commuting operand.
     pub fn claim(&mut self, alloc: Global, t: Task, w: Worker) -> Result<(), ClaimRefusal>
         requires given { WasGiven self.old w t }
         requires idle { IsIdle self.old w }

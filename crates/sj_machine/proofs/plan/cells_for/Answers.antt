@@ -1,4 +1,4 @@
-use Rattle.std.proofs.Common.{◌≡◌, ◌≤◌, ◌∙◌, List, ap, length, subst, sym}
+use Rattle.std.proofs.Common.{◌≤◌, ◌∙◌, List, ap, length, subst, sym}
 use Rattle.std.specs.Prelude.{All}
 use Rattle.sj_base.specs.declared.mode.Access.{Access}
 use Rattle.sj_machine.specs.Operands.{CanWorkOn, worked_among}

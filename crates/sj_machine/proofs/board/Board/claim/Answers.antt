@@ -5,7 +5,7 @@ use Rattle.sj_machine.specs.Board.{BoardState, IsIdle, WasGiven}
 use Rattle.sj_machine.specs.Gone.{KnownGone}
 use Rattle.sj_machine.specs.Plan.{ClaimPlan}
 use Rattle.sj_machine.specs.Planning.{AnotherHasTask, IsWhy}
-use Rattle.sj_machine.specs.Standing.{CanHappen, Standing, state}
+use Rattle.sj_machine.specs.Standing.{CanHappen, state}
 use Rattle.sj_machine.specs.declared.plan.Why.{Why}
 use Rattle.sj_machine.proofs.BoardEnds.{claims-alone, stays-claimed}
 use Rattle.sj_machine.proofs.Refusing.{lone-refusal}

@@ -1,5 +1,4 @@
-use Rattle.std.proofs.Common.{◌≡◌, ◌∙◌, IsTrue, refl, subst, sym}
-use Rattle.sj_core.specs.Machine.{progress}
+use Rattle.std.proofs.Common.{◌∙◌, subst, sym}
 use Rattle.sj_machine.specs.Board.{BoardState}
 use Rattle.sj_machine.specs.BoardSound.{IsToBeTaken}
 use Rattle.sj_machine.specs.Standing.{state}

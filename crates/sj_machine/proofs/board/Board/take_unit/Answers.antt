@@ -1,9 +1,8 @@
-use Rattle.std.proofs.Common.{◌≡◌, ◌∙◌, ◌<◌, None, Option, Some, ap, arith, length, subst, sym}
+use Rattle.std.proofs.Common.{◌≡◌, ◌∙◌, ◌<◌, None, Some, ap, arith, length, subst, sym}
 use Rattle.sj_base.specs.declared.ids.Cell.{Cell}
 use Rattle.sj_machine.specs.Board.{BoardState, IsBusy, hand_in, hand_of, has_taken}
 use Rattle.sj_machine.specs.Standing.{Standing}
 use Rattle.sj_machine.specs.Units.{HasBlockOf}
-use Rattle.sj_machine.specs.declared.hand.Hand.{Hand}
 use Rattle.std.specs.List.{slice_set}
 use Rattle.sj_machine.proofs.BoardEnds.{stays-stored}
 use Rattle.sj_machine.proofs.GoneVictims.{knows-stored}

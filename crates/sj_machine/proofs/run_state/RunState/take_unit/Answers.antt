@@ -1,9 +1,6 @@
-use Rattle.std.proofs.Common.{subst}
 use Rattle.sj_base.proofs.Options.{IfSome-at}
 use Rattle.sj_disk.proofs.Lent.{is-given}
 use Rattle.sj_disk.specs.Lending.{TakesOut}
-use Rattle.sj_machine.specs.Standing.{Standing}
-use Rattle.sj_machine.specs.Units.{TakesUnit}
 use Rattle.sj_machine.proofs.Storing.{found-in}
 use Rattle.sj_machine.proofs.UnitPuts.{take-block, take-keeps, take-reserved, take-takes}
 use Rattle.sj_machine.proofs.run_state.RunState.take_unit.Goals as goal
