@@ -245,9 +245,9 @@ impl<T: Keyed> Desk<T> {
         unreachable!()
     }
 
-    /// Waits for the turn, takes it, and gives the value. Eighteen tries at most: fourteen with pauses that double, some 300 µs in
-    /// all, then four with dozes that double, from 128 µs on; and then it sleeps until the turn is given back, tries so again, and
-    /// so on. Where the turn is free it takes one step. No memory.
+    /// Waits for the turn, takes it, and gives the value. Eighteen tries at most: fourteen with pauses that double, some 300 µs
+    /// in all, then four with dozes that double, from 128 µs on; and then it sleeps until the turn is given back, tries so
+    /// again, and so on. Where the turn is free it takes one step. No memory.
     pub fn enter<R: Wait>(&self, rt: &R, seat: &mut DeskSeat<T>) -> T
         requires of_this_desk { seat.old.desk ≡ Some self.now }
         requires not_in_its_turn { seat.old.found ≡ None }
