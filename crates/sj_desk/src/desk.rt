@@ -40,13 +40,13 @@ const LOW: u64 = 1 << 32;
 
 // How often `enter` tries before it sleeps until the turn is given back, and after each such sleep. It pauses after each try,
 // twice as long as after the one before, while the one that has the turn goes on with what its caches hold.
-const TRIES: u32 = 17;
+const TRIES: u32 = 18;
 
-// After so many tries, which take some 50 µs, it dozes in place of a pause.
-const AWAKE: u32 = 11;
+// After so many tries, which take some 300 µs, it dozes in place of a pause.
+const AWAKE: u32 = 14;
 
 // How many microseconds the first doze lasts. Each further one lasts twice as long as the one before.
-const FIRST_DOZE: u64 = 32;
+const FIRST_DOZE: u64 = 128;
 
 // How often `rest` looks at the bell before it sleeps, with such pauses too: some 10 µs, which is less than a sleep and a wake
 // take, and of an idle worker's time nothing.
@@ -161,7 +161,7 @@ impl<T: Keyed> Desk<T> {
     // Lets some time go by after so many tries that failed: awake, or in a doze, which ends by itself. Nobody has to wake it, so
     // it costs the turns of others nothing.
     fn let_pass<R: Wait>(&self, rt: &R, failed: u32)
-        requires { failed < 17 }
+        requires { failed < 18 }
     {
         if failed < AWAKE {
             pause(FIRST_PAUSE << failed);
@@ -245,9 +245,9 @@ impl<T: Keyed> Desk<T> {
         unreachable!()
     }
 
-    /// Waits for the turn, takes it, and gives the value. Seventeen tries at most: eleven with pauses that double, some 50 µs in
-    /// all, then six with dozes that double, from 32 µs on; and then it sleeps until the turn is given back, tries so again, and
-    /// so on. Where the turn is free it takes one step. No memory.
+    /// Waits for the turn, takes it, and gives the value. Eighteen tries at most: fourteen with pauses that double, some 300 µs
+    /// in all, then four with dozes that double, from 128 µs on; and then it sleeps until the turn is given back, tries so
+    /// again, and so on. Where the turn is free it takes one step. No memory.
     pub fn enter<R: Wait>(&self, rt: &R, seat: &mut DeskSeat<T>) -> T
         requires of_this_desk { seat.old.desk ≡ Some self.now }
         requires not_in_its_turn { seat.old.found ≡ None }
