@@ -1,10 +1,8 @@
 -- A task's operands are ready for its codelet, and what its kernel leaves are the task's results.
-use Rattle.std.proofs.Common.{◌≡◌, ℕ, zero, suc, ◌<◌, ◌≤◌, Bool, true, false, ◌&&◌, cond, List, [], ◌∷◌, map, length, refl, sym, ap, ◌∙◌, subst, Option, None, Some, arith, inl, inr}
-use Rattle.std.specs.Prelude.{All, IsTrue, filter, nat_eq, not, ◌^◌}
+use Rattle.std.proofs.Common.{◌≡◌, ℕ, zero, suc, ◌<◌, Bool, true, false, ◌&&◌, cond, List, [], ◌∷◌, map, length, refl, sym, ap, ◌∙◌, subst, Option, None, Some, arith}
+use Rattle.std.specs.Prelude.{All, IsTrue, filter, not}
 use Rattle.std.specs.List.{AllZip, slice_index_or}
-use Rattle.std.proofs.lemmas.Bool.{and_parts, cases_lt, false≢true}
-use Rattle.std.proofs.lemmas.Bool.Decides.{nat_tests}
-use Rattle.std.proofs.lemmas.List.{get_or_past, length-map}
+use Rattle.std.proofs.lemmas.Bool.{and_parts, false≢true}
 use Rattle.std.proofs.lemmas.List.Elements.{All-get_or}
 use Rattle.sj_base.specs.declared.ids.Cell.{Cell}
 use Rattle.sj_base.specs.declared.ids.Task.{Task}
@@ -13,24 +11,23 @@ use Rattle.sj_base.specs.declared.mode.Access.{Access}
 use Rattle.sj_base.specs.declared.mode.Mode.{Mode}
 use Rattle.sj_base.specs.declared.mode.Mode.TheVariants.{R, W, RW, Scratch, Redux, Commute}
 use Rattle.sj_base.specs.declared.mode.Reduction.{Reduction}
-use Rattle.sj_base.specs.declared.program.CellInfo.{CellInfo}
 use Rattle.sj_base.specs.declared.program.Lowered.{Lowered}
 use Rattle.sj_base.specs.declared.program.Program.{Program}
 use Rattle.sj_base.specs.declared.tile.Dims.{Dims}
-use Rattle.sj_base.specs.Array.{Array, area, zeros}
+use Rattle.sj_base.specs.Array.{Array, zeros}
 use Rattle.sj_base.specs.Mode.{is_written, reads_value}
 use Rattle.sj_codelet.specs.declared.formal.Formal.{Formal}
 use Rattle.sj_codelet.specs.declared.formal.Formal.TheVariants.{R as ReadFormal, W as WriteFormal, RW as UpdateFormal, Scratch as ScratchFormal}
 use Rattle.sj_codelet.specs.declared.kernel.Kernel.{Kernel}
 use Rattle.sj_codelet.specs.declared.kernel.Kernel.TheVariants.{Fill, Copy, Scale, Add, Axpy, Butterfly, Gemm, GemmThree, Transpose, Dot, Sum, Lowest, MinGemm, FwDiag, FwRow, FwCol, Load, LoadFill, Paste, Deliver, InitPlus, InitLeast}
 use Rattle.sj_codelet.specs.Frame.{AllKeep, AreReady, Frame, IsReady, Keeps, Slot, all_dims, arrays, own, shared, written}
-use Rattle.sj_codelet.specs.Kernel.{arguments_fit, commutes_of, contributes_of, dims_fit, fits, fits_in, formals_of, out}
+use Rattle.sj_codelet.specs.Kernel.{commutes_of, contributes_of, fits, fits_in, formals_of, out}
 use Rattle.sj_codelet.specs.Runs.{IsReadyFor, IsRun, formals_in}
 use Rattle.sj_core.specs.Laws.{IsLawful, is_known}
 use Rattle.sj_core.specs.Operands.{found, results, worked_on}
-use Rattle.sj_core.specs.Program.{dims_of, no_cell, no_task, task_of, written_operands}
+use Rattle.sj_core.specs.Program.{dims_of, no_task, task_of, written_operands}
 use Rattle.sj_core.specs.Proper.{Commuting, Contributing, FirstPaste, Fits, MayHaveModes, Own, Proper, mode_of, modes_writing_by}
-use Rattle.sj_engine.specs.Operands.{AreSharesOf, IsShare, IsSmall, first_share, held_for, later_shares, operand_from, operands_from, read_operands}
+use Rattle.sj_engine.specs.Operands.{AreSharesOf, IsShare, first_share, held_for, later_shares, operand_from, operands_from, read_operands}
 use Rattle.sj_engine.proofs.OperandLists.{reads_of}
 
 abbrev an_access : Mode → Cell → Access
@@ -283,33 +280,6 @@ shared-arrays : (xs : List Array) → arrays (map shared xs) ≡ xs
 shared-arrays [] = refl
 shared-arrays (x ∷ xs) = ap (λ l. x ∷ l) (shared-arrays xs)
 
-same-count : (a b : Bool) (n m : ℕ) → IsTrue (nat_eq n m && a && b) → n ≡ m
-same-count a b n m h = grind (arith, nat_tests)
-
-few-formals : (k : Kernel) → length (formals_of k) ≤ 5
-few-formals Fill = omega arith
-few-formals Copy = omega arith
-few-formals Scale = omega arith
-few-formals Add = omega arith
-few-formals Axpy = omega arith
-few-formals Butterfly = omega arith
-few-formals Gemm = omega arith
-few-formals GemmThree = omega arith
-few-formals Transpose = omega arith
-few-formals Dot = omega arith
-few-formals Sum = omega arith
-few-formals Lowest = omega arith
-few-formals MinGemm = omega arith
-few-formals FwDiag = omega arith
-few-formals FwRow = omega arith
-few-formals FwCol = omega arith
-few-formals Load = omega arith
-few-formals LoadFill = omega arith
-few-formals Paste = omega arith
-few-formals Deliver = omega arith
-few-formals InitPlus = omega arith
-few-formals InitLeast = omega arith
-
 shares-shared : (p : Program) (accesses : List Access) (slots : List Slot) → AllZip (IsShare p) accesses slots → All (λ s. s.owned ≡ false) slots
 shares-shared p accesses slots h = λ k d i. at accesses slots h k d i
   where
@@ -336,28 +306,6 @@ module _ (p : Program) (proper : Proper p) (t : Task) (inside : t.0 < length p.t
 
   the-formals : formals_in (task_of p t).codelet ≡ formals_of the-fit.kernel
   the-formals = ap (λ (o : Option Kernel). elim o as (λ _. List Formal) [ None ↦ [] | Some k ↦ formals_of k ]) the-fit.codelet
-
-  pub few-accesses : length (task_of p t).accesses ≤ 5
-  few-accesses =
-      let l = task_of p t in
-      let ds = map (λ (a : Access). dims_of p a.cell) l.accesses in
-      let e : length ds ≡ length (formals_of the-fit.kernel) = same-count (arguments_fit the-fit.kernel l.args ds) (dims_fit the-fit.kernel l.args ds) (length ds) (length (formals_of the-fit.kernel)) the-fit.operands in
-      let few = few-formals the-fit.kernel in
-      omega (arith, length-map l.accesses (λ (a : Access). dims_of p a.cell))
-
-  tile-small : (c : Cell) → area (dims_of p c) ≤ 2 ^ 24
-  tile-small c =
-      elim (cases_lt c.0 (length p.cells)) [
-        | inl here ↦ All-get_or (λ (i : CellInfo). area i.dims ≤ 2 ^ 24) p.cells c.0 no_cell here proper.limits.elements
-        | inr past ↦ subst (λ (i : CellInfo). area i.dims ≤ 2 ^ 24) (sym (get_or_past p.cells c.0 no_cell past)) (omega arith)
-      ]
-
-  pub all-small : All (IsSmall p) (task_of p t).accesses
-  all-small = λ k d h. (let a = slice_index_or (task_of p t).accesses k d in
-      record {
-        cell = All-get_or (λ (l : Lowered). All (λ (b : Access). b.cell.0 < length p.cells) l.accesses) p.tasks t.0 no_task inside proper.cells.named k d h;
-        small = tile-small a.cell;
-      })
 
   module _ (taken : List Slot) (shares : AreSharesOf p t taken) where
     pub taken-shared : All (λ s. s.owned ≡ false) taken

@@ -57,9 +57,6 @@ claimed-is w v h = same_worker-is w v (or-false (same_worker w v) h)
 running-is : (w v : Worker) → is_task_of v (Running w) ≡ true → w ≡ v
 running-is w v h = same_worker-is w v h
 
-claimed-has : (w : Worker) → is_task_of w (Claimed w) ≡ true
-claimed-has w = ap (λ b. b || false) (same_worker-refl w)
-
 running-task : (v : Worker) (x : Progress) → is_running_on v x ≡ true → is_task_of v x ≡ true
 running-task v Waiting h = absurd (false≢true h)
 running-task v (Claimed w) h = absurd (false≢true h)

@@ -108,9 +108,6 @@ module _ {D : Type 0} (held : D → Option (List ℕ)) (w : Worker) (b x : Board
     inside : w.0 < length b.hands
     inside = subst (λ n. w.0 < n) (sym here.inside.hands_agree.every_worker) known
 
-    abbrev its-hand : Hand
-    its-hand = record (hand_of b w) { unit = Some u.cell }
-
     row-is : row_in y w ≡ row_with b b.run.disks w (record (hand_of b w) { unit = Some u.cell })
     row-is =
         ap (λ (k : BoardState D). row_in k w) taken-is

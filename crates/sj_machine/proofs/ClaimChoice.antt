@@ -1,16 +1,15 @@
 -- What is answered to a claim: its plan, or why it can't be made.
-use Rattle.std.proofs.Common.{◌≡◌, ℕ, ◌<◌, ◌≤◌, true, List, Option, Some, None, length, get_or, option_map, sym, ap, ◌∙◌, subst, arith}
-use Rattle.std.specs.Prelude.{All, Result, IfErr, IfOk, OnOk}
+use Rattle.std.proofs.Common.{◌≡◌, ℕ, ◌<◌, true, List, Option, Some, None, length, get_or, option_map, sym, ap, ◌∙◌, subst, arith}
+use Rattle.std.specs.Prelude.{Result, IfErr, IfOk, OnOk}
 use Rattle.std.specs.Option.{ok_or}
 use Rattle.std.proofs.lemmas.List.{get_or_default}
-use Rattle.std.proofs.lemmas.List.Elements.{All-weaker}
 use Rattle.sj_base.specs.declared.mode.Access.{Access}
 use Rattle.sj_base.specs.declared.trace.Event.TheVariants.{Claim}
 use Rattle.sj_core.proofs.Words.{Cell, Machine, Node, Program, State, Task, Worker, WorkerState, node_of, task_of}
 use Rattle.sj_core.specs.Laws.{IsSound}
 use Rattle.sj_core.specs.Step.{none_leaving}
 use Rattle.sj_node.specs.Store.{Store}
-use Rattle.sj_machine.specs.Agrees.{IsWide, Rows, store_of}
+use Rattle.sj_machine.specs.Agrees.{Rows, store_of}
 use Rattle.sj_machine.specs.Gone.{KnownGone}
 use Rattle.sj_machine.specs.Operands.{first_held}
 use Rattle.sj_machine.specs.Plan.{ClaimPlan, IsPlan}
@@ -50,20 +49,11 @@ module _ {D : Type 0} (size faults mismatches : D → ℕ) (held : D → Option 
 
   -- ---- that it can be answered
 
-  pub choice-some_node : 0 < length m.nodes
-  choice-some_node = omega (arith, sound.machine.some_node)
-
-  pub choice-few_nodes : length m.nodes ≤ 16
-  choice-few_nodes = sound.machine.few_nodes
-
   within : k.0 < length m.nodes
   within = subst (λ (j : Node). j.0 < length m.nodes) (sym at) (let some = sound.machine.some_node in omega arith)
 
   pub choice-node : k.0 < length rows.nodes
   choice-node = omega (arith, within, keeps.agrees.stores.every_node)
-
-  pub choice-wide : All (λ row. k.0 < length row.marks) rows.cells
-  choice-wide = All-weaker (IsWide (length m.nodes)) (λ row. k.0 < length row.marks) (λ row is. omega (arith, is.marks, within)) rows.cells keeps.agrees.marks.wide
 
   pub choice-small : HasSmallWork p t w
   choice-small = record {

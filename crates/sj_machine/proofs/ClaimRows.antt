@@ -1,20 +1,19 @@
 -- What a claim leaves: rows that agree with the state after it.
-use Rattle.std.proofs.Common.{◌≡◌, ◌≢◌, ℕ, ◌+◌, ◌<◌, ◌≤◌, Bool, true, false, List, [], ◌∷◌, Option, Some, cond, length, get_or, set, refl, sym, ap, ◌∙◌, subst, arith, inl, inr, is_some, sum_by}
+use Rattle.std.proofs.Common.{◌≡◌, ◌≢◌, ℕ, ◌+◌, ◌<◌, ◌≤◌, Bool, true, false, List, Option, Some, cond, length, get_or, set, refl, sym, ap, ◌∙◌, subst, arith, inl, inr, is_some}
 use Rattle.std.specs.Prelude.{All, IfSome}
 use Rattle.std.proofs.lemmas.Bool.{false≢true, true_from_ne_false}
 use Rattle.std.proofs.lemmas.List.{get_or-set_other, get_or-set_same, get_or_default, length-set}
 use Rattle.std.proofs.lemmas.List.Elements.{All-weaker}
-use Rattle.std.proofs.lemmas.List.Sums.{sum_by-cons, sum_by-set}
 use Rattle.sj_core.proofs.Eviction.{evicted-after, evicted-chosen, evicted_by}
 use Rattle.sj_base.specs.declared.trace.Event.TheVariants.{Claim}
 use Rattle.sj_core.proofs.Bytes.{entry-cell}
 use Rattle.sj_core.proofs.ClaimKeeps.{claim-rested, claim-rests}
 use Rattle.sj_core.proofs.Claiming.{ClaimCase, Comes, Leaves, Stays, claim-array, claim-cases, claim-elsewhere, claim-here, claim-on_disk, claim-own_cells, claim-writes, evicted-free, missing-absent, task-cell, victim-valid}
-use Rattle.sj_core.proofs.Reading.{entry-inside, idle_row, same_node}
+use Rattle.sj_core.proofs.Reading.{entry-inside, same_node}
 use Rattle.sj_core.proofs.Replicas.{coming_by-is}
 use Rattle.sj_core.proofs.Words.{Array, AtNode, Cell, Coming, Leaving, Machine, Node, Place, Program, State, Task, Worker, WorkerState, array_of, cells_of, dims_of, has_cell, is_entry, is_valid, node_of, replica}
 use Rattle.sj_core.specs.declared.progress.Progress.{Progress}
-use Rattle.sj_core.specs.declared.progress.Progress.TheVariants.{Claimed, Waiting}
+use Rattle.sj_core.specs.declared.progress.Progress.TheVariants.{Claimed}
 use Rattle.sj_core.specs.Coherent.{is_being_written}
 use Rattle.sj_core.specs.Laws.{IsSound}
 use Rattle.sj_core.specs.Step.{CanClaim, after, leave, missing}
@@ -67,23 +66,11 @@ module _ {D : Type 0} (size faults mismatches : D → ℕ) (held : D → Option 
 
   -- ---- that the changes can be made
 
-  pub claim-some_node : 0 < length m.nodes
-  claim-some_node = omega (arith, sound.machine.some_node)
-
-  pub claim-few_nodes : length m.nodes ≤ 16
-  claim-few_nodes = sound.machine.few_nodes
-
   within : n.0 < length m.nodes
   within = (let some = sound.machine.some_node in omega arith)
 
   pub claim-node : n.0 < length rows.nodes
   claim-node = omega (arith, within, keeps.agrees.stores.every_node)
-
-  pub claim-task : t.0 < length rows.tasks
-  claim-task = omega (arith, claim.ready.task, sound.coherent.state.rows.tasks, ap length keeps.agrees.tasks)
-
-  pub claim-worker : w.0 < length rows.workers
-  claim-worker = omega (arith, claim.worker, sound.machine.workers, sound.coherent.state.rows.workers, ap length keeps.agrees.workers)
 
   store-is : store_at rows.nodes n ≡ store_of p m s n
   store-is = get_or_default rows.nodes n.0 (empty 0 0) (store_of p m s n) claim-node ∙ keeps.agrees.stores.stores n within

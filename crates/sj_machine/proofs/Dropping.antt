@@ -1,22 +1,20 @@
 -- What a drop leaves.
-use Rattle.std.proofs.Common.{◌≡◌, ◌++◌, ◌∷◌, [], ◌<◌, ◌+◌, ◌-◌, ℕ, true, false, List, Option, None, refl, sym, ap, ◌∙◌, subst, arith, inl, inr, length}
+use Rattle.std.proofs.Common.{◌≡◌, ◌++◌, ◌∷◌, [], ◌<◌, ◌+◌, ◌-◌, ℕ, true, false, List, Option, None, refl, ap, inl, inr, length}
 use Rattle.sj_base.specs.declared.ids.Cell.{Cell}
 use Rattle.sj_base.specs.declared.ids.Node.{Node}
 use Rattle.sj_base.specs.Recorded.{Recorded}
-use Rattle.sj_base.specs.declared.trace.Event.{Event}
 use Rattle.sj_base.specs.declared.trace.Event.TheVariants.{Drop}
-use Rattle.sj_core.proofs.Words.{AtNode, Coming, DiskNo, Invalid, Leaving, Valid, Machine, OnDisk, Program, Replica, State, is_leaving, is_valid, replica, with_replica}
+use Rattle.sj_core.proofs.Words.{AtNode, DiskNo, Invalid, Machine, OnDisk, Program, State, is_leaving, is_valid, replica, with_replica}
 use Rattle.sj_core.proofs.Placing.{replica-cases, writes-same}
 use Rattle.sj_core.specs.Step.{CanDrop, after}
 use Rattle.sj_core.specs.Coherent.{is_being_written}
-use Rattle.sj_machine.specs.Mark.{mark_of}
 use Rattle.sj_machine.specs.declared.mark.Mark.TheVariants.{Invalid as NoMark}
 use Rattle.sj_machine.specs.Agrees.{Agrees, Rows, rows_of}
-use Rattle.sj_machine.specs.Copies.{Copies, mark_at, row_of, with_copy, with_row}
+use Rattle.sj_machine.specs.Copies.{Copies, with_copy, with_row}
 use Rattle.sj_machine.specs.Sound.{HoldsBlocks, Keeps}
-use Rattle.sj_machine.specs.Standing.{AllTell, CanHappen, Standing, state, with_event}
+use Rattle.sj_machine.specs.Standing.{AllTell, CanHappen, Standing, state}
 use Rattle.sj_machine.proofs.Keeping.{HoldsBlocks-kept, keeps-event, keeps-told}
-use Rattle.sj_machine.proofs.Marking.{HasMarks-copy, HasTiles-copy, cell-inside, mark-inside, tile-inside}
+use Rattle.sj_machine.proofs.Marking.{HasMarks-copy, HasTiles-copy}
 use Rattle.sj_machine.proofs.Resting.{leaving-valid, rests, valid-cell, valid-node}
 
 module _ {D : Type 0} (size faults mismatches : D → ℕ) (held : D → Option (List ℕ)) (b : Standing D) (rows : Rows) (spare : ℕ) (keeps : Keeps size faults mismatches held b rows spare) (c : Cell) (n : Node) (can : CanHappen b (Drop c n)) where
@@ -43,12 +41,6 @@ module _ {D : Type 0} (size faults mismatches : D → ℕ) (held : D → Option 
 
   resting : is_being_written p s c ≡ false
   resting = rests p m s keeps.sound.coherent is_leaving (λ a. refl) refl c (AtNode n) drop.leaving
-
-  pub drop-cell : c.0 < length rows.cells
-  drop-cell = cell-inside p m s keeps.sound.coherent.state.rows rows.cells keeps.agrees.marks c n of_program of_machine
-
-  pub drop-node : n.0 < length (row_of rows.cells c).marks
-  drop-node = mark-inside p m s keeps.sound.coherent.state.rows rows.cells keeps.agrees.marks c n of_program of_machine
 
   abbrev after_drop : Rows
   after_drop = rows_of rows.tasks (with_row rows.cells c (λ row. with_copy row n NoMark None)) rows.nodes rows.workers

@@ -1,9 +1,9 @@
 -- Blocks by first fit: how a set of disks stands while the cells of a program get theirs in order.
-use Rattle.std.proofs.Common.{◌≡◌, ◌≢◌, ℕ, ◌+◌, ◌*◌, ◌<◌, ◌≤◌, ◌∙◌, ◌⊎◌, Option, Some, None, List, [], ◌∷◌, true, ap, arith, drop, get_or, inl, inr, length, map, refl, replicate, set, subst, sym}
+use Rattle.std.proofs.Common.{◌≡◌, ◌≢◌, ℕ, ◌+◌, ◌<◌, ◌≤◌, ◌∙◌, Option, Some, None, List, [], ◌∷◌, true, ap, arith, drop, get_or, inl, inr, length, map, refl, replicate, set, subst, sym}
 use Rattle.std.specs.Prelude.{IfSome, IsSome, IsSomeAnd, is_some, option_and_then, option_map, slice_get}
 use Rattle.std.specs.List.{slice_index_or}
 use Rattle.std.proofs.lemmas.Bool.{cases_lt, false≢true}
-use Rattle.std.proofs.lemmas.List.{drop_all, drop_more, get_or-drop, get_or_past, length-drop}
+use Rattle.std.proofs.lemmas.List.{drop_all, drop_more, get_or-drop, length-drop}
 use Rattle.std.proofs.lemmas.Option.{none-some, same_Some, slice_get-get_or, slice_get_past}
 use lib.Seq.{drop-drop}
 use Rattle.sj_base.specs.declared.ids.Cell.{Cell}
@@ -17,9 +17,9 @@ use Rattle.sj_core.specs.Program.{cell_info, dims_of, no_cell}
 use Rattle.sj_core.specs.Proper.{HasSwapFor}
 use Rattle.sj_disk.specs.Block.{block_bytes as bytes_of_block}
 use Rattle.sj_disk.specs.Calls.{Reserves}
-use Rattle.sj_disk.specs.Directory.{DiskState, extent_at, extent_of, first_fit as first_that_fits}
+use Rattle.sj_disk.specs.Directory.{DiskState, extent_of, first_fit as first_that_fits}
 use Rattle.sj_disk.specs.declared.directory.Extent.{Extent}
-use Rattle.sj_machine.specs.Sound.{IsBlock, block_of}
+use Rattle.sj_machine.specs.Sound.{IsBlock}
 use Rattle.sj_machine.specs.Placing.{ArePlaced, IsEmptySet, ReservesSome}
 
 -- the cells before the i-th have their blocks on these disks, those from it on have none, and the blocks of these are as if
@@ -87,9 +87,6 @@ module _ {D : Type 0} (size : D → ℕ) (p : Program) (m : Machine) (disks : Li
       }
 
   module _ (i : ℕ) (s : DiskState D) (is : IsPlacing p m disks i s) where
-    pub none-yet : extent_of s.directory i ≡ None
-    none-yet = is.behind i (omega arith)
-
     module _ (inside : i < length p.cells) where
       abbrev pub cell : Cell
       cell = record { 0 = i }

@@ -1,19 +1,16 @@
 -- A run on which nothing has happened.
-use Rattle.std.proofs.Common.{◌≡◌, ◌≤◌, ◌+◌, ◌*◌, ◌∙◌, ℕ, zero, suc, true, false, List, [], ◌∷◌, Option, None, Some, refl, sym, ap, subst, arith, inl, inr, length, map, get_or, replicate, sum_by, is_some}
+use Rattle.std.proofs.Common.{◌≡◌, ◌≤◌, ◌+◌, ◌∙◌, ℕ, zero, suc, true, false, List, [], ◌∷◌, Option, None, Some, refl, sym, ap, subst, arith, inl, inr, length, map, get_or, replicate, is_some}
 use Rattle.std.specs.Prelude.{IfSome, IsSomeAnd, fold}
 use Rattle.std.proofs.lemmas.Bool.{cases_lt, false≢true}
 use Rattle.std.proofs.lemmas.List.{get_or-map, get_or-replicate, get_or_past, length-map, length-replicate}
-use Rattle.std.proofs.lemmas.List.Folds.{sum_by-replicate}
 use Rattle.std.proofs.lemmas.List.Elements.{All-replicate}
 use Rattle.sj_base.specs.Recorded.{Recorded}
 use Rattle.sj_base.specs.declared.trace.Event.{Event}
 use Rattle.sj_core.specs.declared.progress.Progress.{Progress}
 use Rattle.sj_core.specs.declared.progress.Progress.TheVariants.{Waiting}
-use Rattle.sj_core.proofs.Words.{Array, AtNode, Cell, CellState, DiskNo, Invalid, Machine, Node, OnDisk, Place, Program, Worker, WorkerState, array_of, dims_of, is_valid, no_replica, node_size, opening, order, progress, replica, replica_in, scratch, workers_at, writes}
+use Rattle.sj_core.proofs.Words.{Array, AtNode, Cell, CellState, DiskNo, Invalid, Machine, Node, OnDisk, Place, Program, Worker, WorkerState, array_of, dims_of, is_valid, no_replica, node_size, opening, order, replica, replica_in, scratch, workers_at, writes}
 use Rattle.sj_core.proofs.Opening.{opening-coherent}
 use Rattle.sj_core.proofs.Reading.{idle_row, no_row, replica_in-no_row}
-use Rattle.sj_core.proofs.Finding.{being_written-by}
-use Rattle.sj_core.specs.Coherent.{is_being_written}
 use Rattle.sj_edge.proofs.GivenBackLemmas.{all_given_back-untouched, all_untouched-same}
 use Rattle.sj_disk.specs.Lending.{LendingState, lending}
 use Rattle.sj_disk.specs.Directory.{DiskState, extent_of}
@@ -30,9 +27,6 @@ all_same : {X : Type 0} (n i : ℕ) (a : X) → get_or (replicate n a) i a ≡ a
 all_same zero i a = refl
 all_same (suc n) zero a = refl
 all_same (suc n) (suc i) a = all_same n i a
-
-sum-none : {X : Type 0} (f : X → ℕ) (n : ℕ) (x : X) → f x ≡ 0 → sum_by f (replicate n x) ≡ 0
-sum-none f n x e = sum_by-replicate f n x ∙ ap (λ k. n * k) e ∙ (let z : n * 0 ≡ 0 = omega arith in z)
 
 sum-all_none : {X : Type 0} (f : X → ℕ) → ((x : X) → f x ≡ 0) → (a : ℕ) (xs : List X) → fold (λ b x. b + f x) a xs ≡ a
 sum-all_none f none a [] = refl
@@ -56,13 +50,6 @@ module _ (p : Program) (m : Machine) where
         | inl inside ↦ ap (λ (r : CellState). r.writes) (get_or-replicate (length p.cells) c.0 (no_replica m) no_row inside)
         | inr past ↦ ap (λ (r : CellState). r.writes) (get_or_past (replicate (length p.cells) (no_replica m)) c.0 no_row (omega (arith, length-replicate (length p.cells) (no_replica m))))
       ]
-
-  resting : (c : Cell) → is_being_written p (opening p m) c ≡ true → ⊥
-  resting c h =
-      let by = being_written-by p (opening p m) c h in
-      let waits : progress (opening p m) by.0 ≡ Waiting = all_same (length p.tasks) by.0.0 Waiting in
-      let run = sym waits ∙ by.1 in
-      cc
 
   abbrev no_rows : List Copies
   no_rows = replicate (length p.cells) (none_at (length m.nodes))

@@ -1,5 +1,5 @@
 -- What a board has beside its run when nothing has happened.
-use Rattle.std.proofs.Common.{◌≡◌, ℕ, ◌+◌, ◌<◌, ◌≤◌, ◌^◌, ◌↔◌, List, [], ◌∷◌, ◌++◌, All, inl, inr, refl, sym, subst, ap, ◌∙◌, arith, length, map, get_or}
+use Rattle.std.proofs.Common.{◌≡◌, ℕ, ◌+◌, ◌<◌, ◌≤◌, ◌^◌, ◌↔◌, List, [], ◌∷◌, ◌++◌, All, inl, inr, sym, subst, ap, arith, length, map, get_or}
 use Rattle.std.specs.Prelude.{AllPairs}
 use Rattle.std.specs.List.{Contains}
 use Rattle.std.proofs.lemmas.Bool.{cases_eq}
@@ -21,12 +21,6 @@ use Rattle.sj_machine.proofs.ClaimPins.{few-operands}
 use Rattle.sj_machine.specs.Preparing.{AreReadyBelow}
 
 -- ---- the tasks that are ready
-
-pub ready-none : (p : Program) (done : List ℕ) → AreReadyBelow p done 0 []
-ready-none p done = record {
-  each = λ u. (λ (i, l, e). absurd (omega (arith, l)), λ (below, r). absurd (omega (arith, below)));
-  by_number = λ k within. absurd (omega (arith, within));
-}
 
 module _ (p : Program) (done : List ℕ) (n : ℕ) (ts : List Task) (so_far : AreReadyBelow p done n ts) where
   abbrev next : Task

@@ -10,12 +10,12 @@ use Rattle.sj_core.proofs.Words.{Cell, Program, Worker, transfer}
 use Rattle.sj_core.specs.declared.progress.Transfer.{Transfer}
 use Rattle.sj_disk.specs.declared.directory.Extent.{Extent}
 use Rattle.sj_disk.specs.Directory.{DiskState, extent_of}
-use Rattle.sj_disk.specs.Lending.{IsTaken, LendingState, NoneIsOut, has_back}
+use Rattle.sj_disk.specs.Lending.{NoneIsOut}
 use Rattle.sj_disk.specs.Rack.{is_out}
 use Rattle.sj_disk.specs.Units.{UnitState, unit_state}
 use Rattle.sj_machine.specs.Board.{empty_hand, hand_in}
 use Rattle.sj_machine.specs.Preparing.{first_hands}
-use Rattle.sj_machine.specs.Standing.{HasMoved, Standing, starting, state, with_event}
+use Rattle.sj_machine.specs.Standing.{HasMoved, Standing, state, with_event}
 use Rattle.sj_machine.specs.Units.{IsInHand, UnitsStand, lent, unit_at}
 use Rattle.sj_machine.specs.declared.hand.Hand.{Hand}
 
@@ -141,9 +141,6 @@ module _ {D : Type 0} (disks : DiskState D) (out : List Bool) (hands : List Hand
   ]
 
   module _ (none : (hand_in hands w).unit ≡ None) (c : Cell) (x : Extent) (its : extent_of disks.directory c.0 ≡ Some x) (was_in : is_out out x.disk.0 ≡ false) (now_out : is_out (slice_set out x.disk.0 true) x.disk.0 ≡ true) where
-    taking : Hand
-    taking = record (hand_in hands w) { unit = Some c }
-
     abbrev hands' : List Hand
     hands' = slice_set hands w.0 (record (hand_in hands w) { unit = Some c })
 

@@ -1,6 +1,6 @@
 -- A worker's next step, for which it waits while another has the disk in hand that it needs.
-use Rattle.std.proofs.Common.{◌≡◌, ◌≢◌, ◌&&◌, ◌⊎◌, ◌∙◌, Bool, true, false, Option, None, Some, ap, inl, inr, not, refl, subst, sym, is_some}
-use Rattle.std.specs.Prelude.{IfSome, IsSomeAnd, IsTrue, MatchBool, MatchOption, if◌then◌else◌}
+use Rattle.std.proofs.Common.{◌≡◌, ◌≢◌, ◌&&◌, ◌⊎◌, ◌∙◌, Bool, true, false, Option, None, Some, ap, inl, inr, not, refl, subst, sym}
+use Rattle.std.specs.Prelude.{IfSome, IsSomeAnd, MatchBool, MatchOption, if◌then◌else◌}
 use Rattle.std.proofs.lemmas.Bool.{false≢true}
 use Rattle.sj_core.proofs.Words.{AtNode, Cell, DiskNo, Machine, OnDisk, Place, Program, State, Task, Worker, node_of, transfer, writes}
 use Rattle.sj_core.specs.Step.{disk_of, is_read, is_valid_elsewhere, source_of}
@@ -8,7 +8,7 @@ use Rattle.sj_disk.specs.declared.directory.Extent.{Extent}
 use Rattle.sj_disk.specs.Directory.{extent_of}
 use Rattle.sj_disk.specs.Lending.{IsInFor}
 use Rattle.sj_disk.specs.Rack.{is_out}
-use Rattle.sj_machine.specs.Board.{BoardState, IsBusy, IsWorking, hand_of}
+use Rattle.sj_machine.specs.Board.{BoardState, hand_of}
 use Rattle.sj_core.specs.declared.progress.Transfer.{Transfer}
 use Rattle.sj_machine.specs.Standing.{Standing, is_node, state}
 use Rattle.sj_machine.specs.Todo.{AnotherGoesOn, Brings, CanBegin, Evicts, HasDiskIn, IsCounted, IsMoverOf, IsNext, IsStepFor, IsTodoOf, is_out_for, may_run, needs_disk_out, next_cell, next_victim}
@@ -48,10 +48,6 @@ next-case P waits starts discards p m s t w transfers todo next = by_victim (nex
     by_victim None is = by_cell (next_cell p m s t w) is
     by_victim (Some c) is = by_copies c (is_valid_elsewhere m s c (AtNode (node_of m w))) is
 
--- for a claimed task there is a step
-not-nothing : (p : Program) (m : Machine) (s : State) (t : Task) (w : Worker) (todo : Todo) → IsNext p m s t w todo → todo ≡ Nothing → ⊥
-not-nothing p m s t w todo next = next-case (λ x. x ≡ Nothing → ⊥) (λ e. (let clash : Wait ≡ Nothing = e in cc)) (λ e. (let clash : Start ≡ Nothing = e in cc)) (λ c e. (let clash : Discard c ≡ Nothing = e in cc)) p m s t w (λ c from to e. (let clash : TransferNext c from to (writes s c) ≡ Nothing = e in cc)) todo next
-
 none-some : {X : Type 0} (x : X) → ◌≡◌ {A = Option X} None (Some x) → ⊥
 none-some x e = absurd (cc)
 
@@ -69,9 +65,6 @@ module _ {D : Type 0} (b : BoardState D) (w : Worker) (t : Task) (has : (hand_of
 
   pub step-todo : IsTodoOf b w todo
   step-todo = subst (λ (o : Option Task). MatchOption o (todo ≡ Nothing) (λ u. IsStepFor b.run u w todo)) (sym has) (record { first = first; next = next; or_waits = or_waits })
-
-  pub step-some : todo ≡ Nothing → ⊥
-  step-some e = by-step (λ x. x ≡ Nothing → ⊥) (λ k. (let clash : Wait ≡ Nothing = k in cc)) (not-nothing b.run.program b.run.machine (state b.run) t w first next) e
 
   pub step-can : CanBegin b w first → CanBegin b w todo
   step-can can = by-step (CanBegin b w) tt can
