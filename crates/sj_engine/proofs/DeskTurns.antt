@@ -26,14 +26,6 @@ pub heard-found : {T : Type 0} (bell : ℕ) (s t : SeatFacts T) (o : Option Hear
 heard-found bell s t None h = absurd h
 heard-found bell s t (Some k) h = ap (λ x. x.found) h.1
 
-pub heard-desk : {T : Type 0} (bell : ℕ) (s t : SeatFacts T) (o : Option Heard) → IsSomeAnd o (λ k. (k.bell ≡ bell) × (t ≡ hearing s (Some k))) → t.desk ≡ s.desk
-heard-desk bell s t None h = absurd h
-heard-desk bell s t (Some k) h = ap (λ x. x.desk) h.1
-
-pub heard-rings : {T : Type 0} (bell : ℕ) (s t : SeatFacts T) (o : Option Heard) → IsSomeAnd o (λ k. (k.bell ≡ bell) × (t ≡ hearing s (Some k))) → t.rings ≡ s.rings
-heard-rings bell s t None h = absurd h
-heard-rings bell s t (Some k) h = ap (λ x. x.rings) h.1
-
 module _ {D : Type 0} {desk : DeskFacts (NotedBoard D)} {w : Worker} where
   -- ---- what is found
 

@@ -1,6 +1,6 @@
 -- A turn minds the bell.
-use Rattle.std.proofs.Common.{◌≡◌, ◌≢◌, ◌&&◌, ◌∙◌, ◌++◌, append-nil, sym, ℕ, Bool, List, Option, true, false, None, Some, IsTrue, inl, inr, ap, refl, is_some, option_to_list}
-use Rattle.std.specs.Prelude.{MatchBool, MatchOption}
+use Rattle.std.proofs.Common.{◌≡◌, ◌≢◌, ◌∙◌, ◌++◌, ℕ, Bool, List, true, false, Some, IsTrue, inl, inr, ap, refl, is_some, option_to_list}
+use Rattle.std.specs.Prelude.{MatchBool}
 use Rattle.std.specs.List.{list_all}
 use Rattle.sj_base.specs.declared.ids.Task.{Task}
 use Rattle.sj_base.specs.declared.ids.Worker.{Worker}
@@ -11,10 +11,10 @@ use Rattle.sj_core.specs.Needs.{node_of}
 use Rattle.sj_desk.specs.Seats.{DeskFacts, HasRowLeft, SeatFacts, rung}
 use Rattle.sj_machine.specs.Board.{BoardState, IsOver}
 use Rattle.sj_machine.specs.Standing.{state}
-use Rattle.sj_engine.specs.Bell.{HasHeardBell, HasRung, IsChange, MindsBell, is_claimed, noted_after, noted_for_rest, wakes_after, wakes_for_rest}
+use Rattle.sj_engine.specs.Bell.{HasRung, IsChange, MindsBell, noted_after, wakes_after}
 use Rattle.sj_engine.specs.Noted.{noted_row}
 use Rattle.sj_engine.specs.Picking.{PickMakes, finds_nothing}
-use Rattle.sj_engine.specs.Resting.{RestNotes, change_of, has_ready, is_over, looks, noted, wakes, wakes_at_rest}
+use Rattle.sj_engine.specs.Resting.{RestNotes, change_of, has_ready, is_over, wakes}
 use Rattle.sj_engine.specs.Stage.{HasLeft}
 use Rattle.sj_engine.specs.Stepping.{EndsByFault, HasDone, StepMakes, has_to_wait}
 use Rattle.sj_engine.specs.Turn.{Happens, NothingHappens}
@@ -22,36 +22,10 @@ use Rattle.sj_engine.specs.declared.noted_board.NotedBoard.{NotedBoard}
 use Rattle.sj_engine.specs.declared.picking.Picked.{Picked}
 use Rattle.sj_engine.specs.declared.picking.Picked.TheVariants.{Task as PickedTask, Nothing, Failed as PickFailed, Over}
 use Rattle.sj_engine.specs.declared.sleepers.Change.{Change}
-use Rattle.sj_engine.specs.declared.sleepers.Change.TheVariants.{Begun as Begins, Claimed, Ended, Freed}
+use Rattle.sj_engine.specs.declared.sleepers.Change.TheVariants.{Claimed, Freed}
 use Rattle.sj_engine.specs.declared.stepping.Step.{Step}
 use Rattle.sj_engine.specs.declared.stepping.Step.TheVariants.{Begun, Moves, Writes, Reads, Discarded, Waits, Stopped, Failed}
 use Rattle.std.proofs.lemmas.Bool.{or_left, or_right}
-
--- a ready task counts only after a look
-pub looked : (w : ℕ) (change : Change) (over ready : Bool) (s : RestNotes) → wakes w change over (looks change && ready) s ≡ wakes w change over ready s
-looked w Claimed over ready s = refl
-looked w Begins over ready s = refl
-looked w Freed over ready s = refl
-looked w Ended over ready s = refl
-
-pub looked-noted : (w : ℕ) (change : Change) (over ready : Bool) (s : RestNotes) → noted w change over (looks change && ready) s ≡ noted w change over ready s
-looked-noted w Claimed over ready s = refl
-looked-noted w Begins over ready s = refl
-looked-noted w Freed over ready s = refl
-looked-noted w Ended over ready s = refl
-
--- a seat that has rung a bell, or none, is as it was but for that
-pub rung-by : {T : Type 0} (s t : SeatFacts T) (o : Option ℕ) → MatchOption o (t ≡ s) (λ bell. t ≡ rung s bell) → t.rings ≡ s.rings ++ option_to_list o
-rung-by s t None e = ap (λ x. x.rings) e ∙ sym (append-nil s.rings)
-rung-by s t (Some bell) e = ap (λ x. x.rings) e
-
-pub rung-heard : {T : Type 0} (s t : SeatFacts T) (o : Option ℕ) → MatchOption o (t ≡ s) (λ bell. t ≡ rung s bell) → t.heard ≡ s.heard
-rung-heard s t None e = ap (λ x. x.heard) e
-rung-heard s t (Some bell) e = ap (λ x. x.heard) e
-
-pub rung-left : {D : Type 0} {desk : DeskFacts (NotedBoard D)} {w : Worker} {b : NotedBoard D} (s t : SeatFacts (NotedBoard D)) (o : Option ℕ) → MatchOption o (t ≡ s) (λ bell. t ≡ rung s bell) → HasLeft desk w b s → HasLeft desk w b t
-rung-left s t None e h = record { waiting = (ap (λ x. x.desk) e ∙ h.waiting.0, ap (λ x. x.found) e ∙ h.waiting.1); number = ap (λ x. x.number) e ∙ h.number; left = ap (λ x. x.left) e ∙ h.left }
-rung-left s t (Some bell) e h = record { waiting = (ap (λ x. x.desk) e ∙ h.waiting.0, ap (λ x. x.found) e ∙ h.waiting.1); number = ap (λ x. x.number) e ∙ h.number; left = ap (λ x. x.left) e ∙ h.left }
 
 module _ {D : Type 0} where
   pub over-by_fault : (b : BoardState D) → IsTrue (is_some b.fault) → is_over b ≡ true
@@ -99,23 +73,6 @@ module _ {D : Type 0} where
         left = left.left ∙ ap (λ (n : RestNotes). let x : NotedBoard D = record { board = v.board; sleepers = n } in Some (noted_after w change x)) notes;
         rung = rung ∙ ap (λ (l : List ℕ). l ++ option_to_list (wakes_after w change v)) same
             ∙ ap (λ (n : RestNotes). s.rings ++ option_to_list (wakes w.0 change (is_over v.board) (has_ready v.board) n)) notes;
-      };
-    }
-
-    pub minds-rest : (s r t : SeatFacts (NotedBoard D)) (found v : NotedBoard D) (claimed : Bool)
-        → HasRowLeft noted_row found s → r.rings ≡ s.rings → v.sleepers ≡ found.sleepers → NothingHappens found.board v.board → claimed ≡ is_claimed v.board w
-        → HasLeft desk w (noted_for_rest w bell claimed v) t → HasRung (wakes_for_rest w claimed v) r t → HasHeardBell bell t → MindsBell w bell true s t
-    minds-rest s r t found v claimed own same notes nothing is left rung heard = record {
-      found = found;
-      own_row = own;
-      rule = record {
-        board = v.board;
-        nothing = nothing;
-        left = left.left ∙ ap (λ (b : Bool). Some (noted_for_rest w bell b v)) is
-            ∙ ap (λ (n : RestNotes). let x : NotedBoard D = record { board = v.board; sleepers = n } in Some (noted_for_rest w bell (is_claimed v.board w) x)) notes;
-        rung = rung ∙ ap (λ (l : List ℕ). l ++ option_to_list (wakes_for_rest w claimed v)) same ∙ ap (λ (b : Bool). s.rings ++ option_to_list (wakes_for_rest w b v)) is
-            ∙ ap (λ (n : RestNotes). s.rings ++ option_to_list (wakes_at_rest w.0 (is_claimed v.board w) (has_ready v.board) n)) notes;
-        heard = heard;
       };
     }
 

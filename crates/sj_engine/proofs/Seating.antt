@@ -1,14 +1,14 @@
 -- The seats of a run: as they are dealt, and what a board tells when all of them have stopped.
 use Rattle.std.proofs.Common.{◌≡◌, ℕ, ◌+◌, ◌<◌, ◌∙◌, Option, Some, None, List, ap, arith, inl, inr, refl, subst, sym}
-use Rattle.std.specs.Prelude.{All, IsSomeAnd}
+use Rattle.std.specs.Prelude.{IsSomeAnd}
 use Rattle.std.specs.List.{slice_index_or}
 use Rattle.std.proofs.lemmas.Bool.{cases_lt}
 use Rattle.std.proofs.lemmas.List.{get_or-replicate, get_or_past, length-replicate}
-use Rattle.std.proofs.lemmas.List.Elements.{All-from_get_or, Contains-get_or}
+use Rattle.std.proofs.lemmas.List.Elements.{Contains-get_or}
 use Rattle.std.proofs.lemmas.List.FromFn.{get_or-map-range_with_len, length-map-range_with_len}
 use Rattle.sj_base.specs.declared.ids.Worker.{Worker}
 use Rattle.sj_base.specs.declared.program.Program.{Program}
-use Rattle.sj_desk.specs.Seats.{DeskFacts, HasEachNumber, IsWaiting, SeatFacts, new_seat, new_seats}
+use Rattle.sj_desk.specs.Seats.{DeskFacts, HasEachNumber, SeatFacts, new_seat, new_seats}
 use Rattle.sj_machine.specs.Board.{BoardState, empty_hand, hand_in}
 use Rattle.sj_machine.specs.BoardRow.{BoardRow, row_of_number}
 use Rattle.sj_machine.specs.Preparing.{first_hands}
@@ -40,9 +40,6 @@ module _ {D : Type 0} (desk : DeskFacts (NotedBoard D)) where
   -- ---- when each left such a row
 
   module _ (P : BoardRow D → Type 0) (seats : List (SeatFacts (NotedBoard D))) (at : AreAt desk P seats) where
-    pub all-waiting : All (IsWaiting desk) seats
-    all-waiting = All-from_get_or (IsWaiting desk) seats (new_seat desk 0) (λ i inside. (at.each i (new_seat desk 0) (subst (λ (n : ℕ). i < n) at.count inside)).waiting)
-
     pub each-number : HasEachNumber desk seats
     each-number n below = (slice_index_or seats n (new_seat desk 0), Contains-get_or seats n (new_seat desk 0) (subst (λ (k : ℕ). n < k) (sym at.count) below), (at.each n (new_seat desk 0) below).number)
 

@@ -128,9 +128,6 @@ events-more n trace e = (filter (is_event_of n) (e ∷ []), filter-append (is_ev
 -- ---- turns
 
 module _ {D : Type 0} (faults mismatches : D → ℕ) (w : Worker) where
-  pub turn-same : (b : BoardState D) → IsTurnOf faults mismatches w b b
-  turn-same b = record { key = refl; others = λ n other. refl; one_event = inl refl; events = ([], sym (append-nil (row_in b w).events)); no_fault = λ e. e; counts = λ e. (refl, refl) }
-
   -- two turns of which the first makes no event
   pub turn-then : (a b c : BoardState D) → NothingHappens a b → IsTurnOf faults mismatches w a b → IsTurnOf faults mismatches w b c → IsTurnOf faults mismatches w a c
   turn-then a b c nothing x y = record {
@@ -202,17 +199,6 @@ module _ {D : Type 0} (faults mismatches : D → ℕ) (w : Worker) where
     events = ([], ap (λ (x : BoardState D). (row_in x w).events) same ∙ sym (append-nil (row_in b w).events));
     no_fault = λ e. sym (ap (λ (x : BoardState D). x.fault) same) ∙ e;
     counts = λ e. (ap (λ (x : BoardState D). map faults x.run.disks.disks) same, ap (λ (x : BoardState D). map mismatches x.run.disks.disks) same);
-  }
-
-  -- two turns of which the second makes no event
-  pub turn-before : (a b c : BoardState D) → NothingHappens b c → IsTurnOf faults mismatches w a b → IsTurnOf faults mismatches w b c → IsTurnOf faults mismatches w a c
-  turn-before a b c nothing x y = record {
-    key = y.key ∙ x.key;
-    others = λ n other. y.others n other ∙ x.others n other;
-    one_event = subst (λ (l : List Event). (l ≡ a.run.trace) ⊎ ((e : Event) × (l ≡ a.run.trace ++ e ∷ []))) (sym nothing) x.one_event;
-    events = (x.events.0 ++ y.events.0, y.events.1 ∙ ap (λ (l : List Event). l ++ y.events.0) x.events.1 ∙ append_assoc (row_in a w).events x.events.0 y.events.0);
-    no_fault = λ e. x.no_fault (y.no_fault e);
-    counts = λ e. (let one = x.counts (y.no_fault e) in let two = y.counts e in (two.0 ∙ one.0, two.1 ∙ one.1));
   }
 
   module _ (size : D → ℕ) (held : D → Option (List ℕ)) (b : BoardState D) (sound : IsSoundBoard size faults mismatches held b) where

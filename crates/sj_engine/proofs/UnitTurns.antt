@@ -98,9 +98,6 @@ module _ {D : Type 0} (held : D → Option (List ℕ)) (w : Worker) (b x : Board
     abbrev inside : w.0 < length b.hands
     inside = inside-hands b.run.program (state b.run) b.hands b.fault here.inside.hands_agree w known
 
-    abbrev its-hand : Hand
-    its-hand = record (hand_of b w) { unit = Some u.cell }
-
     row-is : row_in y w ≡ row_with b b.run.disks w (record (hand_of b w) { unit = Some u.cell })
     row-is =
         ap (λ (k : BoardState D). row_in k w) taken-is

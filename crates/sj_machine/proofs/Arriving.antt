@@ -1,5 +1,5 @@
 -- What the end of a move leaves.
-use Rattle.std.proofs.Common.{◌≡◌, ◌++◌, ◌∷◌, [], ◌<◌, ◌+◌, ℕ, true, List, Option, None, Some, refl, sym, ap, ◌∙◌, subst, arith, inl, inr, length, get_or, is_some}
+use Rattle.std.proofs.Common.{◌≡◌, ◌++◌, ◌∷◌, [], ◌<◌, ◌+◌, ℕ, true, List, Option, None, Some, refl, sym, ap, ◌∙◌, subst, arith, inl, inr, length, is_some}
 use Rattle.std.specs.Prelude.{IfSome, IsSomeAnd, unwrap_or}
 use Rattle.std.proofs.lemmas.List.{length-set}
 use Rattle.std.proofs.lemmas.List.Elements.{All-get_or, All-set}
@@ -10,7 +10,7 @@ use Rattle.sj_core.specs.declared.progress.Transfer.{Transfer}
 use Rattle.sj_core.proofs.Words.{Array, AtNode, Cell, CellState, Coming, DiskNo, Machine, Node, OnDisk, Place, Program, Replica, State, Valid, Worker, WorkerState, array_of, cell_state, dims_of, is_coming_by, is_entry, is_valid, replica, transfer, with_replica, with_transfer, writes, zeros}
 use Rattle.sj_core.proofs.Blocks.{disk-within}
 use Rattle.sj_core.proofs.Placing.{cells_differ, replica-cases, replica-on_disk, writes-same}
-use Rattle.sj_core.proofs.Reading.{idle_row, no_row, transfer-inside}
+use Rattle.sj_core.proofs.Reading.{no_row}
 use Rattle.sj_core.proofs.Replicas.{coming_by-is}
 use Rattle.sj_core.proofs.States.{one-mover}
 use Rattle.sj_core.specs.Coherent.{Coherent}
@@ -23,7 +23,7 @@ use Rattle.sj_machine.specs.Copies.{Copies, mark_at, row_of, stored, tile_at, wi
 use Rattle.sj_machine.specs.Sound.{HoldsArray, HoldsBlocks, IsCopyOf, IsStored, IsWrittenOut, Keeps}
 use Rattle.sj_machine.specs.Standing.{AllTell, CanHappen, IsTileMoved, IsTileOf, Standing, state, with_event}
 use Rattle.sj_machine.proofs.Keeping.{HoldsArray-moved, HoldsBlocks-kept, IsSomeAnd-map, IsStored-kept, array-same, has-room, keeps-event, keeps-told}
-use Rattle.sj_machine.proofs.Marking.{HasMarks-copy, HasTiles-copy, cell-inside, mark-inside, on_disk}
+use Rattle.sj_machine.proofs.Marking.{HasMarks-copy, HasTiles-copy, mark-inside, on_disk}
 use Rattle.sj_machine.proofs.Reading.{no_copies, row-kept, row-other, row-same}
 use Rattle.sj_machine.proofs.Resting.{entry-cell, entry-node, rests, valid-cell}
 use Rattle.sj_machine.proofs.Storing.{at-place}
@@ -59,12 +59,6 @@ module _ {D : Type 0} (size faults mismatches : D → ℕ) (held : D → Option 
     can : CanHappen b (Moved c from to)
     can = subst (λ (v : Worker). transfer s v ≡ Some (a_transfer c from to)) mover under_way
 
-    pub end-worker : w.0 < length rows.workers
-    end-worker = omega (arith, transfer-inside s w (a_transfer c from to) under_way, ap length keeps.agrees.workers)
-
-    pub end-under_way : (get_or rows.workers w.0 idle_row).transfer ≡ Some (a_transfer c from to)
-    end-under_way = ap (λ (ws : List WorkerState). (get_or ws w.0 idle_row).transfer) keeps.agrees.workers ∙ under_way
-
     pub end-room : 0 < spare
     end-room = has-room size faults mismatches held b rows spare keeps (Moved c from to) can
 
@@ -92,9 +86,6 @@ module _ {D : Type 0} (size faults mismatches : D → ℕ) (held : D → Option 
 
     in_node : n.0 < length m.nodes
     in_node = entry-node p m s coherent c n (ap is_entry came)
-
-    pub in-cell : c.0 < length rows.cells
-    in-cell = cell-inside p m s coherent.state.rows rows.cells keeps.agrees.marks c n in_cell in_node
 
     pub in-node : n.0 < length (row_of rows.cells c).marks
     in-node = mark-inside p m s coherent.state.rows rows.cells keeps.agrees.marks c n in_cell in_node

@@ -101,9 +101,6 @@ module _ {D : Type 0} (held : D → Option (List ℕ)) (run : Standing D) (pairs
         (claimed-staffed p m s h t w can.claimed) (one (claimed-task_of s t w can.claimed)) gift
         (gift-kept size faults mismatches held run sound t w gift (run-has size faults mismatches held run sound t w can) is_gift)))
 
-    pub begins-staffed : CanHappen run (Run t w) → w.0 < length gifts
-    begins-staffed can = (let i = claimed-staffed p m s h t w can.claimed in omega (arith, i, keeps.gifts_kept.every_worker))
-
     -- as it ends
     module _ (can : CanHappen run (End t w)) where
       abbrev s' : State

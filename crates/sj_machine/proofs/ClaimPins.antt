@@ -67,9 +67,6 @@ set-few ws w v row few had =
     ]
 
 module _ (p : Program) (m : Machine) (proper : Proper p) where
-  same-few : (s s' : State) → ((v : Worker) → pins s' v ≡ pins s v) → HasFew s → HasFew s'
-  same-few s s' same had v = subst (λ (cs : List Cell). length cs ≤ 5) (sym (same v)) (had v)
-
   step-few : (s : State) (e : Event) → HasFew s → HasFew (after p m s e)
   step-few s (Claim t w) had v = set-few s.workers w v _ (few-cells p proper t w) (had v)
   step-few s (Move c from (AtNode n)) had v = subst (λ (cs : List Cell). length cs ≤ 5) (sym (pins-same s _ _ v)) (had v)

@@ -66,23 +66,11 @@ module _ {D : Type 0} (size faults mismatches : D → ℕ) (held : D → Option 
 
   -- ---- that the changes can be made
 
-  pub claim-some_node : 0 < length m.nodes
-  claim-some_node = omega (arith, sound.machine.some_node)
-
-  pub claim-few_nodes : length m.nodes ≤ 16
-  claim-few_nodes = sound.machine.few_nodes
-
   within : n.0 < length m.nodes
   within = (let some = sound.machine.some_node in omega arith)
 
   pub claim-node : n.0 < length rows.nodes
   claim-node = omega (arith, within, keeps.agrees.stores.every_node)
-
-  pub claim-task : t.0 < length rows.tasks
-  claim-task = omega (arith, claim.ready.task, sound.coherent.state.rows.tasks, ap length keeps.agrees.tasks)
-
-  pub claim-worker : w.0 < length rows.workers
-  claim-worker = omega (arith, claim.worker, sound.machine.workers, sound.coherent.state.rows.workers, ap length keeps.agrees.workers)
 
   store-is : store_at rows.nodes n ≡ store_of p m s n
   store-is = get_or_default rows.nodes n.0 (empty 0 0) (store_of p m s n) claim-node ∙ keeps.agrees.stores.stores n within

@@ -99,17 +99,11 @@ module _ {D : Type 0} (size faults mismatches : D → ℕ) (held : D → Option 
   pub end-program_task : t.0 < length p.tasks
   end-program_task = running-inside p m s t w h.coherent.state.rows ended
 
-  pub end-task : t.0 < length rows.tasks
-  end-task = omega (arith, end-program_task, h.coherent.state.rows.tasks, ap length keeps.agrees.tasks)
-
   staffed : w.0 < p.workers
   staffed = subst (λ (x : Progress). (worker_of x).0 < p.workers) ended (h.coherent.state.staff.staffed t (ap is_begun ended))
 
   end-worker : w.0 < m.workers
   end-worker = omega (arith, staffed, keeps.sound.run.machine.workers)
-
-  pub end-worker_row : w.0 < length rows.workers
-  end-worker_row = omega (arith, end-worker, h.coherent.state.rows.workers, ap length keeps.agrees.workers)
 
   pub end-node : n.0 < length m.nodes
   end-node = mod_below w.0 (length m.nodes) (let one = keeps.sound.run.machine.some_node in omega arith)
@@ -385,18 +379,6 @@ module _ {D : Type 0} (size faults mismatches : D → ℕ) (held : D → Option 
 module _ {D : Type 0} (size faults mismatches : D → ℕ) (held : D → Option (List ℕ)) (b : Standing D) (rows : Rows) (spare : ℕ) (keeps : Keeps size faults mismatches held b rows spare) (t : Task) (w : Worker) (b' : Standing D) (same : b ≡ b') (can' : CanHappen b' (End t w)) (at : Node) (bound : at ≡ node_of b.machine w) where
   now-can : CanHappen b (End t w)
   now-can = subst (λ (x : Standing D). CanHappen x (End t w)) (sym same) can'
-
-  pub found-end_program_task : t.0 < length b.program.tasks
-  found-end_program_task = end-program_task size faults mismatches held b rows spare keeps t w now-can
-
-  pub found-end_task : t.0 < length rows.tasks
-  found-end_task = end-task size faults mismatches held b rows spare keeps t w now-can
-
-  pub found-end_worker : w.0 < length rows.workers
-  found-end_worker = end-worker_row size faults mismatches held b rows spare keeps t w now-can
-
-  pub found-end_node : at.0 < length rows.nodes
-  found-end_node = omega (arith, ap (λ (j : Node). j.0) bound, end-node_row size faults mismatches held b rows spare keeps t w now-can)
 
   pub found-can_release : (workers : List WorkerState) → workers ≡ rows.workers → CanRelease (row_at workers w).pins (row_at workers w).scratch (store_at rows.nodes at)
   found-can_release workers is =

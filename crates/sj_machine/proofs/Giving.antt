@@ -1,5 +1,5 @@
 -- A board stays sound where a worker is given a task from the pool, and where it gives one back.
-use Rattle.std.proofs.Common.{◌≡◌, ℕ, ◌+◌, ◌<◌, ◌≤◌, true, false, IsTrue, ◌⊎◌, Option, Some, None, IfSome, List, cond, inl, inr, refl, sym, subst, ap, ◌∙◌, arith, length, length-set, slice_set, is_some}
+use Rattle.std.proofs.Common.{◌≡◌, ℕ, ◌+◌, ◌<◌, ◌≤◌, true, false, IsTrue, ◌⊎◌, Option, Some, None, IfSome, List, cond, refl, sym, subst, ap, ◌∙◌, arith, length, length-set, slice_set, is_some}
 use Rattle.std.proofs.lemmas.List.Sums.{get_or-le-sum_by}
 use Rattle.sj_core.proofs.Words.{Machine, Program, State, Task, Worker, footprint, is_task_of, node_of, node_size, progress}
 use Rattle.sj_core.specs.Legal.{IsComplete}
@@ -10,11 +10,10 @@ use Rattle.sj_base.specs.Array.{Array}
 use Rattle.sj_machine.specs.Board.{BoardState, board_state, empty_hand, given_back, given_from, hand_of, room_of}
 use Rattle.sj_machine.specs.Filling.{entry_of}
 use Rattle.sj_machine.specs.BoardSound.{IsEntry, IsPoolFor, IsToBeTaken, KeepsBoard, is_given, times_given, times_pooled}
-use Rattle.sj_machine.specs.Passing.{IsLeft, IsPoolOf, IsTakenBehind}
+use Rattle.sj_machine.specs.Passing.{IsLeft, IsTakenBehind}
 use Rattle.sj_machine.specs.Standing.{Standing, state}
 use Rattle.sj_machine.specs.declared.fault.RunFault.{RunFault}
 use Rattle.sj_machine.specs.declared.hand.Hand.{Hand}
-use Rattle.std.proofs.lemmas.Bool.{cases_lt}
 use Rattle.std.proofs.lemmas.Option.{none-some}
 use Rattle.sj_machine.proofs.Hands.{given-set, hand-set, stands-same, inside-hands}
 use Rattle.sj_machine.proofs.Pooling.{all-pooled, none-contains, once, times-put}
@@ -73,24 +72,6 @@ module _ {D : Type 0} (faults mismatches : D → ℕ) (held : D → Option (List
 
   abbrev room : ℕ
   room = room_of b w
-
-  -- the pool alone
-  pub pool-kept : IsPoolOf p b.pool
-  pool-kept = record {
-    workers = keeps.inside.pool_fits.workers;
-    tasks = keeps.inside.pool_fits.tasks;
-    queues = keeps.inside.pool_fits.queues;
-    entries = keeps.inside.pool_fits.entries;
-    known = λ t h. (keeps.inside.stands_once.only t (omega (arith, h))).ready.task;
-    once = at-most-once;
-  }
-    where
-      at-most-once : (t : Task) → times_pooled b.pool t ≤ 1
-      at-most-once t =
-          elim (cases_lt 0 (times_pooled b.pool t)) as (λ _. times_pooled b.pool t ≤ 1) [
-            | inl some ↦ omega (arith, keeps.inside.stands_once.once t (keeps.inside.stands_once.only t (omega (arith, some))))
-            | inr none ↦ omega (arith, none)
-          ]
 
   module _ (passed : List Task) (g : Option Task) (pool' : Pooled) (behind : IsTakenBehind p passed w.0 room b.pool pool' g) where
     fits-next : IsPoolFor p m (slice_set b.hands w.0 (giving g)) pool'

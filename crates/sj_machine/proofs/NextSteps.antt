@@ -13,7 +13,7 @@ use Rattle.sj_core.specs.declared.progress.Progress.TheVariants.{Claimed}
 use Rattle.sj_core.specs.declared.progress.Transfer.{Transfer}
 use Rattle.sj_core.proofs.Advancing.{claimed-task_of, claimed_by-is}
 use Rattle.sj_core.proofs.Blocks.{has-disk}
-use Rattle.sj_core.proofs.CellLists.{same_cell-from, same_cell-refl}
+use Rattle.sj_core.proofs.CellLists.{same_cell-refl}
 use Rattle.sj_core.proofs.Claimed.{claimed-inside, list_any-task}
 use Rattle.sj_core.proofs.Dependencies.{Proper-dependencies}
 use Rattle.sj_core.proofs.Placing.{valid-row}
@@ -39,14 +39,6 @@ find-passes test (x ∷ xs) c e = by_test (test x) refl e (find-passes test xs c
     by_test : (b : Bool) → test x ≡ b → cond b (Some x) (find test xs) ≡ Some c → (find test xs ≡ Some c → test c ≡ true) → test c ≡ true
     by_test true passes found rest = let is : x ≡ c = cc in ap test (sym is) ∙ passes
     by_test false fails found rest = rest found
-
-pub find-among : (test : Cell → Bool) (xs : List Cell) (c : Cell) → find test xs ≡ Some c → has_cell xs c ≡ true
-find-among test [] c e = absurd (none-some c e)
-find-among test (x ∷ xs) c e = by_test (test x) refl e (find-among test xs c)
-  where
-    by_test : (b : Bool) → test x ≡ b → cond b (Some x) (find test xs) ≡ Some c → (find test xs ≡ Some c → has_cell xs c ≡ true) → (same_cell x c || has_cell xs c) ≡ true
-    by_test true passes found rest = let is : x ≡ c = cc in ap (λ b. b || has_cell xs c) (same_cell-from x c is)
-    by_test false fails found rest = ap (λ b. same_cell x c || b) (rest found) ∙ or_true (same_cell x c)
 
 pub find-none : (test : Cell → Bool) (xs : List Cell) (c : Cell) → find test xs ≡ None → has_cell xs c ≡ true → test c ≡ false
 find-none test [] c e has = absurd (false≢true has)

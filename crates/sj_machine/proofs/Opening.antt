@@ -23,7 +23,7 @@ use Rattle.sj_base.specs.Array.{Array}
 use Rattle.sj_machine.specs.Board.{board_state, empty_hand, hand_in}
 use Rattle.sj_machine.specs.BoardSound.{AreFootprints, IsEntry, IsPoolFor, KeepsBoard, is_entry_of, is_given, times_given, times_pooled}
 use Rattle.sj_machine.specs.Filling.{CanPutEach, putter, with_each}
-use Rattle.sj_machine.specs.Preparing.{AreFirst, IsOpening, IsPrepared, first_hands, first_pool}
+use Rattle.sj_machine.specs.Preparing.{AreFirst, IsPrepared, first_hands, first_pool}
 use Rattle.sj_machine.specs.Standing.{Standing, starting}
 use Rattle.sj_machine.specs.declared.hand.Hand.{Hand}
 use Rattle.sj_machine.proofs.PoolFilling.{IsFilled, fill, times_among}
@@ -147,10 +147,3 @@ opens-with {D} faults mismatches held p m disks some run deps footprints hands p
     (subst (λ (q : Pooled). KeepsBoard faults mismatches held (board_state (starting p m disks) (first_hands p) q None []) deps footprints) (sym parts.pool_is)
     (subst (λ (d : Dependencies). KeepsBoard faults mismatches held (board_state (starting p m disks) (first_hands p) (first_pool p m.policy parts.ready) None []) d footprints) (sym parts.deps_are)
     (keeps-opening p m some parts.ready parts.first faults mismatches held disks footprints parts.bytes)))))
-
-pub is-opening : {D : Type 0} (p : Program) (m : Machine) (disks : DiskState D) (run : Standing D) (deps : Dependencies) (footprints : List ℕ) (hands : List Hand) (pool : Pooled) (pairs : List (Task × Array)) → pairs ≡ [] → run ≡ starting p m disks → IsPrepared p m.policy deps footprints hands pool → IsOpening p m disks (board_state run hands pool None pairs)
-is-opening {D} p m disks run deps footprints hands pool pairs none starts parts = record {
-  ready = parts.ready;
-  first = parts.first;
-  opens = ap (λ (ds : List (Task × Array)). board_state run hands pool None ds) none ∙ ap (λ (r : Standing D). board_state r hands pool None []) starts ∙ ap (λ (hs : List Hand). board_state (starting p m disks) hs pool None []) parts.hands_are ∙ ap (λ (q : Pooled). board_state (starting p m disks) (first_hands p) q None []) parts.pool_is;
-}

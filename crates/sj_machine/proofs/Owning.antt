@@ -93,9 +93,6 @@ module _ {D : Type 0} (size faults mismatches : D → ℕ) (held : D → Option 
   pub run-program_task : t.0 < length p.tasks
   run-program_task = claimed-inside p m s h t w run.claimed
 
-  pub run-task : t.0 < length rows.tasks
-  run-task = omega (arith, run-program_task, h.coherent.state.rows.tasks, ap length keeps.agrees.tasks)
-
   pub run-node : n.0 < length m.nodes
   run-node = mod_below w.0 (length m.nodes) (let one = keeps.sound.run.machine.some_node in omega arith)
 
@@ -342,9 +339,6 @@ module _ {D : Type 0} (size faults mismatches : D → ℕ) (held : D → Option 
 module _ {D : Type 0} (size faults mismatches : D → ℕ) (held : D → Option (List ℕ)) (b : Standing D) (rows : Rows) (spare : ℕ) (keeps : Keeps size faults mismatches held b rows spare) (t : Task) (w : Worker) (b' : Standing D) (same : b ≡ b') (can' : CanHappen b' (Run t w)) (at : Node) (bound : at ≡ node_of b.machine w) (accesses : List Access) (of_task : accesses ≡ (task_of b.program t).accesses) (q : Program) (program : q ≡ b.program) where
   now-can : CanHappen b (Run t w)
   now-can = subst (λ (x : Standing D). CanHappen x (Run t w)) (sym same) can'
-
-  pub found-run_task : t.0 < length rows.tasks
-  found-run_task = run-task size faults mismatches held b rows spare keeps t w now-can
 
   pub found-can_work : All (CanWorkOn q w) accesses
   found-can_work =

@@ -22,12 +22,6 @@ use Rattle.sj_machine.specs.Preparing.{AreReadyBelow}
 
 -- ---- the tasks that are ready
 
-pub ready-none : (p : Program) (done : List ℕ) → AreReadyBelow p done 0 []
-ready-none p done = record {
-  each = λ u. (λ (i, l, e). absurd (omega (arith, l)), λ (below, r). absurd (omega (arith, below)));
-  by_number = λ k within. absurd (omega (arith, within));
-}
-
 module _ (p : Program) (done : List ℕ) (n : ℕ) (ts : List Task) (so_far : AreReadyBelow p done n ts) where
   abbrev next : Task
   next = record { 0 = n }

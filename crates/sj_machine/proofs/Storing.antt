@@ -26,7 +26,7 @@ use Rattle.sj_disk.proofs.Uniting.{length-block}
 use Rattle.sj_machine.specs.Agrees.{Rows, transfer_in}
 use Rattle.sj_machine.specs.Headers.{IsLastWritten}
 use Rattle.sj_machine.specs.Copies.{Copies, row_of}
-use Rattle.sj_machine.specs.Sound.{HoldsArray, HoldsBlocks, IsBlock, IsCopyOf, FetchesMoved, IsStored, IsWrittenOut, Keeps, StoresMoved, block_of}
+use Rattle.sj_machine.specs.Sound.{HoldsArray, HoldsBlocks, IsBlock, IsCopyOf, IsStored, IsWrittenOut, Keeps, block_of}
 use Rattle.sj_machine.specs.Units.{HasItsDiskIn, lent}
 use Rattle.sj_machine.specs.Standing.{AllTell, HasDimsMoved, IsTileMoved, IsTileOf, Standing, state}
 use Rattle.sj_machine.proofs.Resting.{valid-cell}
@@ -296,9 +296,6 @@ module _ {D : Type 0} (size faults mismatches : D → ℕ) (held : D → Option 
       pub found-stored : OnOk result (IsWrittenOut held (record b { disks = new.set; out = new.out }) w)
       found-stored = OnOk-from result (IsWrittenOut held (record b { disks = new.set; out = new.out }) w) (stored-well size faults mismatches held b rows spare keeps x.cell w x.from d (at-place (OnDisk d) at) tile tile-of whole fits result new its-stores)
 
-      pub found-stores : StoresMoved size faults mismatches held w tile.elements result b' (record b' { disks = new.set; out = new.out })
-      found-stores = subst (λ (z : Standing D). StoresMoved size faults mismatches held w tile.elements result z (record z { disks = new.set; out = new.out })) same (IfSome-from (λ (y : Transfer). IfSome (extent_of b.disks.directory y.cell.0) (Stores size faults mismatches held y.cell.0 (writes (state b) y.cell) tile.elements result b.disks new.set)) (transfer (state b) w) (a_transfer x.cell x.from x.to) (at-place x.to refl) its-stores)
-
   module _ (d : DiskNo) (at : x.from ≡ OnDisk d) (tile : Array) (given : HasDimsMoved b' w tile.dims) (whole : length tile.elements ≡ area tile.dims) where
     dims-of : tile.dims ≡ dims_of b.program x.cell
     dims-of = IfSome-at (λ (y : Transfer). tile.dims ≡ dims_of b.program y.cell) (transfer (state b) w) (a_transfer x.cell x.from x.to) (at-place x.to refl) (subst (λ (z : Standing D). HasDimsMoved z w tile.dims) (sym same) given)
@@ -319,6 +316,3 @@ module _ {D : Type 0} (size faults mismatches : D → ℕ) (held : D → Option 
 
       pub found-fetched : OnOk result (IsTileMoved held b' w got)
       found-fetched = OnOk-from result (IsTileMoved held b' w got) (fetched-well size faults mismatches held b rows spare keeps x.cell w d x.to (from-place (OnDisk d) at) tile dims-of whole result got same_dims new its-fetches b' same)
-
-      pub found-fetches : FetchesMoved size faults mismatches held w got.elements result b' (record b' { disks = new.set; out = new.out })
-      found-fetches = subst (λ (z : Standing D). FetchesMoved size faults mismatches held w got.elements result z (record z { disks = new.set; out = new.out })) same (IfSome-from (λ (y : Transfer). IfSome (extent_of b.disks.directory y.cell.0) (Fetches size faults mismatches held y.cell.0 (writes (state b) y.cell) got.elements result b.disks new.set)) (transfer (state b) w) (a_transfer x.cell x.from x.to) (at-place x.to refl) its-fetches)

@@ -134,9 +134,6 @@ module _ {D : Type 0} (disks : DiskState D) (out : List Bool) (hands : List Hand
   ]
 
   module _ (none : (hand_in hands w).unit ≡ None) (c : Cell) (x : Extent) (its : extent_of disks.directory c.0 ≡ Some x) (was_in : is_out out x.disk.0 ≡ false) (now_out : is_out (slice_set out x.disk.0 true) x.disk.0 ≡ true) where
-    taking : Hand
-    taking = record (hand_in hands w) { unit = Some c }
-
     abbrev hands' : List Hand
     hands' = slice_set hands w.0 (record (hand_in hands w) { unit = Some c })
 

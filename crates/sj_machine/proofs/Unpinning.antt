@@ -4,7 +4,6 @@ use Rattle.std.specs.Option.{option_map_or}
 use Rattle.std.proofs.lemmas.Bool.{false≢true}
 use Rattle.std.proofs.lemmas.List.{take-append-drop, take_more}
 use Rattle.std.proofs.lemmas.List.Folds.{list_any_at}
-use Rattle.std.proofs.lemmas.List.Sums.{fold-append}
 use Rattle.sj_core.proofs.Words.{Cell, has_cell, same_cell}
 use Rattle.sj_core.proofs.CellLists.{same_cell-refl, same_cell-sym, times, times-append, times-cons, times-has}
 use Rattle.sj_core.proofs.Reading.{same_cell-is}
@@ -60,7 +59,3 @@ module _ (bytes : Cell → ℕ) where
     where
       times-take : (xs : List Cell) (k : ℕ) (c : Cell) → times (take k xs) c ≤ times xs c
       times-take xs k c = (let split : times (take k xs ++ drop k xs) c ≡ times (take k xs) c + times (drop k xs) c = times-append (take k xs) (drop k xs) c in let whole : times (take k xs ++ drop k xs) c ≡ times xs c = ap (λ (l : List Cell). times l c) (take-append-drop k xs) in omega arith)
-
--- one cell more
-pub unpinned-more : (ds : List Cell) (i : ℕ) (d : Cell) (es : List Entry) → i < length ds → unpinned_each (take (i + 1) ds) es ≡ repinned (λ k. k - 1) (get_or ds i d) (unpinned_each (take i ds) es)
-unpinned-more ds i d es inside = ap (λ (l : List Cell). unpinned_each l es) (take_more ds i d inside) ∙ fold-append (λ (xs : List Entry) (c : Cell). repinned (λ k. k - 1) c xs) es (take i ds) (get_or ds i d ∷ [])
