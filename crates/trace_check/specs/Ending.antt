@@ -20,8 +20,8 @@ abbrev pub code_of_check : CheckRefusal → ℕ
 code_of_check checking.OutOfMemory = 10
 code_of_check _ = 1
 
--- 0 where the trace is legal and complete, 1 where it isn't, 2 where job or trace aren't read or the job can't be run, 10 for want
--- of memory
+-- 0 where the trace is legal and complete, 1 where it isn't, 2 where job or trace aren't read or the job can't be run, 10 for
+-- want of memory
 abbrev pub code_of_outcome : {A : Type 0} → Result A JudgeRefusal → ℕ
 code_of_outcome (Ok _) = 0
 code_of_outcome (Err (refusal.Unready why)) = code_of_unready why
