@@ -10,12 +10,13 @@ mod tally;
 mod watch;
 mod word_at_fault;
 
-ghost use Rattle.std.specs.Prelude.{◌≡◌, ◌≤◌, ◌^◌, ◌∷◌, [], length, IfSome};
+ghost use Rattle.std.specs.Prelude.{◌≡◌, ◌≤◌, ◌^◌, ◌∷◌, [], length, IfOk, IfSome, IsSome, Some};
 ghost use Rattle.sj_edge.specs.Sizes.{AreWithin};
 ghost use Rattle.sj_top.specs.Device.{devices, seen};
 ghost use Rattle.sj_top.specs.Report.{status_line, TakesLine};
+ghost use Rattle.sj_words.specs.Machine.{swap_by};
 ghost use Rattle.sj_words.specs.Spelling.{texts};
-ghost use Rattle.starjob.specs.Ending.{EndsByAStatus, IsCodeOf, LacksTheDisk};
+ghost use Rattle.starjob.specs.Ending.{EndsAsWished, EndsByAStatus, IsCodeOf, LacksTheDisk};
 
 use numbers::{STDERR, STDOUT, occupy_streams};
 use patient::Patient;
@@ -236,7 +237,10 @@ fn new_tally(alloc: Global) -> Option<(Arc<Tally, Global>, Arc<Tally, Global>)> 
 }
 
 /// A disk in memory whose bytes are counted.
-fn memory_disk(alloc: Global, size: u64, counts: Arc<Tally, Global>) -> Option<TallyDisk<MemDisk>> {
+fn memory_disk(alloc: Global, size: u64, counts: Arc<Tally, Global>) -> Option<TallyDisk<MemDisk>>
+    ensures size { IfSome result (λ d. ⟦<TallyDisk<MemDisk> as Disk>⟧.size d ≡ size) }
+    ensures tells { IfSome result (λ d. IsSome (⟦<TallyDisk<MemDisk> as Disk>⟧.held d)) }
+{
     let disk = MemDisk::new(alloc, size, Vec::new(alloc)).ok()?;
     Some(TallyDisk::over(disk, counts))
 }
@@ -250,9 +254,97 @@ fn file_disk<R>(
 ) -> io::Result<TallyDisk<FileDisk>>
 where
     R: Files<File = File> + Alloc + Clock,
+    ensures size { IfOk result (λ d. ⟦<TallyDisk<FileDisk> as Disk>⟧.size d ≡ size) }
 {
     let file = open_swap(rt, path, size)?;
     Ok(TallyDisk::over(FileDisk::over(file, size), counts))
+}
+
+/// Runs the job of a source with a swap disk in memory of so many bytes, as the words ask for.
+fn run_in_memory<R, S, O, E>(
+    rt: &R,
+    alloc: Global,
+    words: &[String],
+    source: &mut S,
+    out: O,
+    err: &mut E,
+    size: u64,
+    has_terminal: bool,
+) -> Ended<O>
+where
+    R: Files<File = File> + Alloc + Threads + Wait + Sync + Clock + Eprint + Copy + Send + 'static,
+    S: Source,
+    O: Sink + Drop,
+    E: Sink,
+    requires size_is_wished { size ≡ (swap_by (texts words.now)).size }
+    ensures ends_as_wished { EndsAsWished ⟦<TallyDisk<MemDisk> as Disk>⟧
+        ⟦<TallyDisk<FileDisk> as Disk>⟧ (texts words.now)
+        (seen S.left S.faults source.old) (seen O.taken O.faults out)
+        (seen S.left S.faults source.new) (seen O.taken O.faults result.out) result.code }
+{
+    let Some((tally, counts)) = new_tally(alloc) else {
+        return ended_without_memory(out, err);
+    };
+    let Some(disk) = memory_disk(alloc, size, counts) else {
+        return ended_without_memory(out, err);
+    };
+    run_with(
+        rt,
+        alloc,
+        words,
+        source,
+        out,
+        err,
+        disk,
+        tally,
+        has_terminal,
+    )
+}
+
+/// Runs the job of a source with a swap disk in a file of so many bytes at a path, as the words ask for.
+fn run_in_file<R, S, O, E>(
+    rt: &R,
+    alloc: Global,
+    words: &[String],
+    source: &mut S,
+    out: O,
+    err: &mut E,
+    path: &str,
+    size: u64,
+    has_terminal: bool,
+) -> Ended<O>
+where
+    R: Files<File = File> + Alloc + Threads + Wait + Sync + Clock + Eprint + Copy + Send + 'static,
+    S: Source,
+    O: Sink + Drop,
+    E: Sink,
+    requires path_is_wished { Some path.now ≡ (swap_by (texts words.now)).path }
+    requires size_is_wished { size ≡ (swap_by (texts words.now)).size }
+    ensures ends_as_wished { EndsAsWished ⟦<TallyDisk<MemDisk> as Disk>⟧
+        ⟦<TallyDisk<FileDisk> as Disk>⟧ (texts words.now)
+        (seen S.left S.faults source.old) (seen O.taken O.faults out)
+        (seen S.left S.faults source.new) (seen O.taken O.faults result.out) result.code }
+{
+    let Some((tally, counts)) = new_tally(alloc) else {
+        return ended_without_memory(out, err);
+    };
+    match file_disk(rt, path, size, counts) {
+        Ok(disk) => run_with(
+            rt,
+            alloc,
+            words,
+            source,
+            out,
+            err,
+            disk,
+            tally,
+            has_terminal,
+        ),
+        Err(e) => {
+            let code = end_without_swap(alloc, path, &e, err);
+            Ended { code, out }
+        }
+    }
 }
 
 /// Runs the job of a source with the swap disk that the words ask for.
@@ -270,46 +362,28 @@ where
     S: Source,
     O: Sink + Drop,
     E: Sink,
+    ensures ends_as_wished { EndsAsWished ⟦<TallyDisk<MemDisk> as Disk>⟧
+        ⟦<TallyDisk<FileDisk> as Disk>⟧ (texts words.now)
+        (seen S.left S.faults source.old) (seen O.taken O.faults out)
+        (seen S.left S.faults source.new) (seen O.taken O.faults result.out) result.code }
 {
     let Ok(SwapWish { path, size }) = swap_wish(alloc, words) else {
         return ended_without_memory(out, err);
     };
-    let Some((tally, counts)) = new_tally(alloc) else {
-        return ended_without_memory(out, err);
-    };
     let Some(path) = path else {
-        let Some(disk) = memory_disk(alloc, size, counts) else {
-            return ended_without_memory(out, err);
-        };
-        return run_with(
-            rt,
-            alloc,
-            words,
-            source,
-            out,
-            err,
-            disk,
-            tally,
-            has_terminal,
-        );
+        return run_in_memory(rt, alloc, words, source, out, err, size, has_terminal);
     };
-    match file_disk(rt, path.as_str(), size, counts) {
-        Ok(disk) => run_with(
-            rt,
-            alloc,
-            words,
-            source,
-            out,
-            err,
-            disk,
-            tally,
-            has_terminal,
-        ),
-        Err(e) => {
-            let code = end_without_swap(alloc, path.as_str(), &e, err);
-            Ended { code, out }
-        }
-    }
+    run_in_file(
+        rt,
+        alloc,
+        words,
+        source,
+        out,
+        err,
+        path.as_str(),
+        size,
+        has_terminal,
+    )
 }
 
 fn main(rt: HostRuntime) -> ExitCode {
