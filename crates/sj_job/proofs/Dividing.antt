@@ -10,21 +10,21 @@ use Rattle.std.proofs.lemmas.List.Elements.{filter-append}
 use Rattle.std.proofs.lemmas.List.Folds.{list_all-append}
 use Rattle.std.proofs.lemmas.List.Splits.{slice_split-cons_yes, slice_split-cons_no}
 use Rattle.sj_base.proofs.Bools.{and_true}
-use Rattle.sj_job.specs.Word.{words, is_blank, is_empty, is_allowed, CutsOff}
+use Rattle.sj_job.specs.Word.{words, is_space, is_empty, is_allowed, CutsOff}
 
 -- the parts that have bytes
 abbrev full : List (List ℕ) → List (List ℕ)
 full parts = filter (λ w. not (is_empty w)) parts
 
 abbrev parts_of : List ℕ → List (List ℕ)
-parts_of line = slice_split is_blank line
+parts_of line = slice_split is_space line
 
 -- how many bytes stand before the first blank, and how many blanks in front
 abbrev word_len : List ℕ → ℕ
-word_len line = position_or_len is_blank line
+word_len line = position_or_len is_space line
 
 abbrev blanks : List ℕ → ℕ
-blanks line = position_or_len (λ b. not (is_blank b)) line
+blanks line = position_or_len (λ b. not (is_space b)) line
 
 drop-more : (b : ℕ) (bs : List ℕ) (m : ℕ) → drop (1 + m) (b ∷ bs) ≡ drop m bs
 drop-more b bs m =
@@ -38,26 +38,26 @@ take-more b bs m =
 
 -- ---- blanks in front
 
-pub words-blank : (b : ℕ) (bs : List ℕ) → is_blank b ≡ true → words (b ∷ bs) ≡ words bs
-words-blank b bs e = ap full (slice_split-cons_yes is_blank b bs e)
+pub words-blank : (b : ℕ) (bs : List ℕ) → is_space b ≡ true → words (b ∷ bs) ≡ words bs
+words-blank b bs e = ap full (slice_split-cons_yes is_space b bs e)
 
-blank-more : (b : ℕ) (bs : List ℕ) (m : ℕ) (t : Bool) → is_blank b ≡ t → words bs ≡ words (drop m bs) → words (b ∷ bs) ≡ words (drop (cond (not (not t)) (1 + m) 0) (b ∷ bs))
+blank-more : (b : ℕ) (bs : List ℕ) (m : ℕ) (t : Bool) → is_space b ≡ t → words bs ≡ words (drop m bs) → words (b ∷ bs) ≡ words (drop (cond (not (not t)) (1 + m) 0) (b ∷ bs))
 blank-more b bs m true e h = words-blank b bs e ∙ h ∙ ap words (sym (drop-more b bs m))
 blank-more b bs m false e h = refl
 
 -- blanks in front don't matter
 pub words-behind_blanks : (line : List ℕ) → words line ≡ words (drop (blanks line) line)
 words-behind_blanks [] = refl
-words-behind_blanks (b ∷ bs) = blank-more b bs (blanks bs) (is_blank b) refl (words-behind_blanks bs)
+words-behind_blanks (b ∷ bs) = blank-more b bs (blanks bs) (is_space b) refl (words-behind_blanks bs)
 
-begins : (b : ℕ) (bs : List ℕ) (m : ℕ) (t : Bool) → is_blank b ≡ t → (0 < length (drop m bs) → 0 < word_len (drop m bs)) → 0 < length (drop (cond (not (not t)) (1 + m) 0) (b ∷ bs)) → 0 < word_len (drop (cond (not (not t)) (1 + m) 0) (b ∷ bs))
+begins : (b : ℕ) (bs : List ℕ) (m : ℕ) (t : Bool) → is_space b ≡ t → (0 < length (drop m bs) → 0 < word_len (drop m bs)) → 0 < length (drop (cond (not (not t)) (1 + m) 0) (b ∷ bs)) → 0 < word_len (drop (cond (not (not t)) (1 + m) 0) (b ∷ bs))
 begins b bs m true e h some = rw (drop-more b bs m) (h (rw (sym (drop-more b bs m)) some))
 begins b bs m false e h some = rw e (omega arith)
 
 -- behind the blanks in front begins a word
 pub word_len-behind_blanks : (line : List ℕ) → 0 < length (drop (blanks line) line) → 0 < word_len (drop (blanks line) line)
 word_len-behind_blanks [] some = absurd (omega arith)
-word_len-behind_blanks (b ∷ bs) some = begins b bs (blanks bs) (is_blank b) refl (word_len-behind_blanks bs) some
+word_len-behind_blanks (b ∷ bs) some = begins b bs (blanks bs) (is_space b) refl (word_len-behind_blanks bs) some
 
 -- ---- the first word
 
@@ -67,26 +67,26 @@ record FirstWord (line : List ℕ) : Type 0 where
   parts : parts_of line ≡ take (word_len line) line ∷ behind
   words_behind : words (drop (word_len line) line) ≡ full behind
 
-cut-more : (b : ℕ) (bs : List ℕ) (t : Bool) → is_blank b ≡ t → FirstWord bs → FirstWord (b ∷ bs)
+cut-more : (b : ℕ) (bs : List ℕ) (t : Bool) → is_space b ≡ t → FirstWord bs → FirstWord (b ∷ bs)
 cut-more b bs true e cut =
     let none : word_len (b ∷ bs) ≡ 0 = rw e refl in
     record {
       behind = parts_of bs;
-      parts = slice_split-cons_yes is_blank b bs e ∙ ap (λ n. take n (b ∷ bs) ∷ parts_of bs) (sym none);
+      parts = slice_split-cons_yes is_space b bs e ∙ ap (λ n. take n (b ∷ bs) ∷ parts_of bs) (sym none);
       words_behind = ap (λ n. words (drop n (b ∷ bs))) none ∙ words-blank b bs e;
     }
 cut-more b bs false e cut =
     let more : word_len (b ∷ bs) ≡ 1 + word_len bs = rw e refl in
     record {
       behind = cut.behind;
-      parts = slice_split-cons_no is_blank b bs e ∙ ap (onto_first b) cut.parts
+      parts = slice_split-cons_no is_space b bs e ∙ ap (onto_first b) cut.parts
           ∙ ap (λ w. w ∷ cut.behind) (sym (take-more b bs (word_len bs)) ∙ ap (λ n. take n (b ∷ bs)) (sym more));
       words_behind = ap (λ n. words (drop n (b ∷ bs))) more ∙ ap words (drop-more b bs (word_len bs)) ∙ cut.words_behind;
     }
 
 cut_of : (line : List ℕ) → FirstWord line
 cut_of [] = record { behind = []; parts = refl; words_behind = refl }
-cut_of (b ∷ bs) = cut-more b bs (is_blank b) refl (cut_of bs)
+cut_of (b ∷ bs) = cut-more b bs (is_space b) refl (cut_of bs)
 
 nonempty : (b : ℕ) (w : List ℕ) → is_empty (b ∷ w) ≡ false
 nonempty b w = grind (arith, nat_tests)
@@ -99,7 +99,7 @@ full-cons (b ∷ w) parts some = ap (λ t. cond (not t) ((b ∷ w) ∷ full part
 pub words-cut : (line : List ℕ) → 0 < word_len line → words line ≡ take (word_len line) line ∷ words (drop (word_len line) line)
 words-cut line some =
     let cut = cut_of line in
-    let within : word_len line ≤ length line = prefix_len-le-length (λ b. not (is_blank b)) line in
+    let within : word_len line ≤ length line = prefix_len-le-length (λ b. not (is_space b)) line in
     let has_bytes : 0 < length (take (word_len line) line) = omega (arith, length-take (word_len line) line) in
     ap full cut.parts ∙ full-cons (take (word_len line) line) cut.behind has_bytes ∙ ap (λ ws. take (word_len line) line ∷ ws) (sym cut.words_behind)
 
@@ -118,7 +118,7 @@ or-len n len true le h = refl
 or-len n len false le h = grind (arith, nat_tests)
 
 -- a line of blanks has no word
-pub words-none : (line : List ℕ) → None ≡ position (λ b. not (is_blank b)) line → words line ≡ []
+pub words-none : (line : List ℕ) → None ≡ position (λ b. not (is_space b)) line → words line ≡ []
 words-none line h = words-behind_blanks line ∙ ap words (drop_all (blanks line) line (is-none _ _ _ refl h))
 
 -- what stands behind a place, as a slice
@@ -138,44 +138,44 @@ cut-rest line rest end e some at =
     )
 
 -- a line whose first word begins at a place, and ends where the first blank behind it stands or the line ends
-pub next-word : (line : List ℕ) (start end : ℕ) → Some start ≡ position (λ b. not (is_blank b)) line →
+pub next-word : (line : List ℕ) (start end : ℕ) → Some start ≡ position (λ b. not (is_space b)) line →
     let rest = take (length line - start) (drop start line) in
-    end ≡ unwrap_or (position is_blank rest) (length rest) → CutsOff words line (take end rest) (take (length rest - end) (drop end rest))
+    end ≡ unwrap_or (position is_space rest) (length rest) → CutsOff words line (take end rest) (take (length rest - end) (drop end rest))
 next-word line start end h at =
     let rest = take (length line - start) (drop start line) in
     let first = is-first (blanks line) (length line) start _ refl h in
     let from_first : rest ≡ drop (blanks line) line = behind line start ∙ ap (λ k. drop k line) first.0 in
     let some : 0 < length rest = subst (λ l. 0 < length l) (sym from_first) (omega (arith, length-drop (blanks line) line, first.1)) in
-    cut-rest line rest end from_first some (at ∙ or-len _ _ _ (prefix_len-le-length (λ b. not (is_blank b)) rest) refl)
+    cut-rest line rest end from_first some (at ∙ or-len _ _ _ (prefix_len-le-length (λ b. not (is_space b)) rest) refl)
 
 -- ---- blanks at the end
 
 onto-append : (b : ℕ) (ps w : List (List ℕ)) (v : List ℕ) (behind : List (List ℕ)) → ps ≡ v ∷ behind → onto_first b (ps ++ w) ≡ onto_first b ps ++ w
 onto-append b ps w v behind e = subst (λ qs. onto_first b (qs ++ w) ≡ onto_first b qs ++ w) (sym e) refl
 
-parts-more : (b c : ℕ) (bs : List ℕ) (t : Bool) → is_blank b ≡ t → parts_of (bs ++ c ∷ []) ≡ parts_of bs ++ [] ∷ [] → parts_of ((b ∷ bs) ++ c ∷ []) ≡ parts_of (b ∷ bs) ++ [] ∷ []
+parts-more : (b c : ℕ) (bs : List ℕ) (t : Bool) → is_space b ≡ t → parts_of (bs ++ c ∷ []) ≡ parts_of bs ++ [] ∷ [] → parts_of ((b ∷ bs) ++ c ∷ []) ≡ parts_of (b ∷ bs) ++ [] ∷ []
 parts-more b c bs true e h =
-    slice_split-cons_yes is_blank b (bs ++ c ∷ []) e ∙ ap (λ ps. [] ∷ ps) h ∙ ap (λ ps. ps ++ [] ∷ []) (sym (slice_split-cons_yes is_blank b bs e))
+    slice_split-cons_yes is_space b (bs ++ c ∷ []) e ∙ ap (λ ps. [] ∷ ps) h ∙ ap (λ ps. ps ++ [] ∷ []) (sym (slice_split-cons_yes is_space b bs e))
 parts-more b c bs false e h =
     let cut = cut_of bs in
-    slice_split-cons_no is_blank b (bs ++ c ∷ []) e ∙ ap (onto_first b) h ∙ onto-append b (parts_of bs) ([] ∷ []) (take (word_len bs) bs) cut.behind cut.parts
-    ∙ ap (λ ps. ps ++ [] ∷ []) (sym (slice_split-cons_no is_blank b bs e))
+    slice_split-cons_no is_space b (bs ++ c ∷ []) e ∙ ap (onto_first b) h ∙ onto-append b (parts_of bs) ([] ∷ []) (take (word_len bs) bs) cut.behind cut.parts
+    ∙ ap (λ ps. ps ++ [] ∷ []) (sym (slice_split-cons_no is_space b bs e))
 
-parts-blank : (bs : List ℕ) (c : ℕ) → is_blank c ≡ true → parts_of (bs ++ c ∷ []) ≡ parts_of bs ++ [] ∷ []
-parts-blank [] c e = slice_split-cons_yes is_blank c [] e
-parts-blank (b ∷ bs) c e = parts-more b c bs (is_blank b) refl (parts-blank bs c e)
+parts-blank : (bs : List ℕ) (c : ℕ) → is_space c ≡ true → parts_of (bs ++ c ∷ []) ≡ parts_of bs ++ [] ∷ []
+parts-blank [] c e = slice_split-cons_yes is_space c [] e
+parts-blank (b ∷ bs) c e = parts-more b c bs (is_space b) refl (parts-blank bs c e)
 
 -- a blank at the end doesn't matter
-pub words-before_blank : (line front : List ℕ) (c : ℕ) → line ≡ front ++ c ∷ [] → is_blank c ≡ true → words front ≡ words line
+pub words-before_blank : (line front : List ℕ) (c : ℕ) → line ≡ front ++ c ∷ [] → is_space c ≡ true → words front ≡ words line
 words-before_blank line front c at e =
     sym (ap words at ∙ ap full (parts-blank front c e) ∙ filter-append (λ w. not (is_empty w)) (parts_of front) ([] ∷ []) ∙ append-nil (words front))
 
-blank-allowed : (c : ℕ) (t : Bool) → is_blank c ≡ t → t ≡ true → is_allowed c ≡ true
+blank-allowed : (c : ℕ) (t : Bool) → is_space c ≡ t → t ≡ true → is_allowed c ≡ true
 blank-allowed c t e f = ap (λ b. b || (nat_lt 32 c && nat_lt c 127)) (e ∙ f)
 
-pub allowed-before_blank : (line front : List ℕ) (c : ℕ) → line ≡ front ++ c ∷ [] → is_blank c ≡ true → list_all is_allowed front ≡ list_all is_allowed line
+pub allowed-before_blank : (line front : List ℕ) (c : ℕ) → line ≡ front ++ c ∷ [] → is_space c ≡ true → list_all is_allowed front ≡ list_all is_allowed line
 allowed-before_blank line front c at e =
-    sym (ap (list_all is_allowed) at ∙ list_all-append is_allowed front (c ∷ []) ∙ ap (λ b. list_all is_allowed front && (b && true)) (blank-allowed c (is_blank c) refl e) ∙ and_true (list_all is_allowed front))
+    sym (ap (list_all is_allowed) at ∙ list_all-append is_allowed front (c ∷ []) ∙ ap (λ b. list_all is_allowed front && (b && true)) (blank-allowed c (is_space c) refl e) ∙ and_true (list_all is_allowed front))
 
 one-more : (front : List ℕ) (c n : ℕ) → front ++ replicate (suc n) c ≡ (front ++ replicate n c) ++ c ∷ []
 one-more front c n =
@@ -183,12 +183,12 @@ one-more front c n =
     ap (λ k. front ++ replicate k c) e ∙ ap (λ ys. front ++ ys) (sym (replicate_more n c)) ∙ sym (append_assoc front (replicate n c) (c ∷ []))
 
 -- blanks at the end don't matter, however many
-pub words-before_blanks : (front : List ℕ) (c n : ℕ) → is_blank c ≡ true → words front ≡ words (front ++ replicate n c)
+pub words-before_blanks : (front : List ℕ) (c n : ℕ) → is_space c ≡ true → words front ≡ words (front ++ replicate n c)
 words-before_blanks front c zero e = ap words (sym (append-nil front))
 words-before_blanks front c (suc n) e =
     words-before_blanks front c n e ∙ words-before_blank (front ++ replicate (suc n) c) (front ++ replicate n c) c (one-more front c n) e
 
-pub allowed-before_blanks : (front : List ℕ) (c n : ℕ) → is_blank c ≡ true → list_all is_allowed front ≡ list_all is_allowed (front ++ replicate n c)
+pub allowed-before_blanks : (front : List ℕ) (c n : ℕ) → is_space c ≡ true → list_all is_allowed front ≡ list_all is_allowed (front ++ replicate n c)
 allowed-before_blanks front c zero e = ap (list_all is_allowed) (sym (append-nil front))
 allowed-before_blanks front c (suc n) e =
     allowed-before_blanks front c n e ∙ allowed-before_blank (front ++ replicate (suc n) c) (front ++ replicate n c) c (one-more front c n) e

@@ -32,7 +32,7 @@ use Rattle.sj_base.specs.declared.mode.Mode.TheVariants.{R, W, RW, Scratch, Redu
 use Rattle.sj_base.specs.Mode.{is_written}
 use Rattle.sj_meaning.specs.Act.{Register as Registers, Plan, Redux as Reduces, Task, Print, Invalidate, Unregister}
 use Rattle.sj_job.specs.Word.{integer}
-use Rattle.sj_job.specs.Sentence.{rows_of, cols_of, init_said, parts_said, index_said, registered_by, operand_said, operands_said, priority_said, task_said}
+use Rattle.sj_job.specs.Sentence.{rows_said, cols_said, init_said, parts_said, index_said, registered_by, operand_said, operands_said, priority_said, task_said}
 use Rattle.sj_meaning.specs.State.{State, Root, root_of, is_valued, is_blank, is_child, child_rect, is_valued_child}
 use Rattle.sj_job.specs.Judge.{Scope, scope_of, known_of, first_of, unless, judged_by, judged_call, judged_task, judged, kernel_named, register_reasons, line_reasons, print_reasons, name_reasons, plan_reasons, redux_reasons, operand_reasons, has_mixed_outputs, is_unlawful, reduction_known, is_shaped, dims_in, dims_known, is_child_said, is_crowded, is_cut, is_uncut, is_missing, is_lacking, child_lacks_value, is_outside, is_miscounted, is_unknown, is_ended, lacks_value}
 use Rattle.sj_meaning.specs.Sound.{is_lawful_for, is_unordered, modes_fit, is_side, needs_value, is_priority}
@@ -120,13 +120,13 @@ fits_from d p crowded uncut =
 sound_registration : (n : ℕ) (S : State) (a : ArrayForm) → first_of (register_reasons (scope_of n S) a.name (registered_by a).dims (parts_said a.parts) (init_said a.init)) ≡ None → IsSoundRegistration S (registered_by a)
 sound_registration n S a e =
     let h = none_hold (register_reasons (scope_of n S) a.name (registered_by a).dims (parts_said a.parts) (init_said a.init)) e in
-    let i = inside (rows_of a.size) (cols_of a.size) h.1.1.0 in
+    let i = inside (rows_said a.size) (cols_said a.size) h.1.1.0 in
     record {
       rows = i.rows_in;
       cols = i.cols_in;
       elements = i.few;
       parts = fits_from (registered_by a).dims (parts_said a.parts) h.1.1.1.0 h.1.1.1.1.1.1.0;
-      values = fits_init (init_said a.init) (rows_of a.size) (cols_of a.size) h.1.1.1.1.1.1.1.0;
+      values = fits_init (init_said a.init) (rows_said a.size) (cols_said a.size) h.1.1.1.1.1.1.1.0;
       fresh = not_taken (root_of S a.name) h.1.1.1.1.1.0;
     }
 

@@ -16,7 +16,7 @@ use Rattle.sj_job.specs.declared.form.TaskForm.{TaskForm}
 use Rattle.sj_job.specs.declared.form.Form.{Form}
 use Rattle.sj_job.specs.declared.form.Form.TheVariants.{Register, Plan, Redux, Task, Print, Invalidate, Unregister}
 use Rattle.sj_job.specs.Word.{is_name}
-use Rattle.sj_job.specs.Form.{keyword_word, keyword_of, keywords, reduction_of, reduction_word, bracketed, each_some, operand_of, with_priority, task_of, values_of, fill_of, nothing_of, init_of, with_parts, parted, layout_of, array_of, vector_of, matrix_of, name_in, plan_of, redux_of, form_behind, form_of}
+use Rattle.sj_job.specs.Form.{keyword_word, keyword_of, keywords, reduction_spelled, reduction_word, bracketed, each_some, operand_of, with_priority, task_spelled, values_of, fill_of, nothing_of, init_spelled, laid_out, parted, layout_of, array_spelled, vector_of, matrix_of, name_in, plan_of, redux_of, form_behind, form_of}
 use Rattle.sj_job.specs.Grammar.{operand_word, codelet_word, priority_words, parts_words, init_words, sized, written, is_piece, has_values, is_proper_operand, is_proper}
 use Rattle.sj_job.proofs.Spelling.{some_from, Reads, word-found, each-reads}
 use Rattle.sj_job.proofs.Saying.{reductions, codelets, operands, priority-back, priority-joins}
@@ -40,13 +40,13 @@ init_by w [] i false false true f g h e =
 init_by w (x ∷ ws) i false false true f g h e = absurd (cc)
 init_by w ws i false false false f g h e = absurd (cc)
 
-init-read : (ws : List (List ℕ)) (i : InitForm) → init_of ws ≡ Some i → (ws ≡ init_words i) × (has_values i ≡ true)
+init-read : (ws : List (List ℕ)) (i : InitForm) → init_spelled ws ≡ Some i → (ws ≡ init_words i) × (has_values i ≡ true)
 init-read [] i e = absurd (cc)
 init-read (w ∷ ws) i e =
     init_by w ws i (bytes_eq w (codes "values")) (bytes_eq w (codes "fill")) (bytes_eq w (codes "none"))
     (same_text w (codes "values")) (same_text w (codes "fill")) (same_text w (codes "none")) e
 
-init-back : (i : InitForm) → has_values i ≡ true → init_of (init_words i) ≡ Some i
+init-back : (i : InitForm) → has_values i ≡ true → init_spelled (init_words i) ≡ Some i
 init-back (Values []) h = absurd (cc)
 init-back (Values (v ∷ vs)) h = refl
 init-back (Fill a b) h = refl
@@ -63,14 +63,14 @@ layout_words l = parts_words l.0 ++ init_words l.1
 abbrev IsLayout : List (List ℕ) → Layout → Type 0
 IsLayout ws l = (ws ≡ layout_words l) × (has_values l.1 ≡ true)
 
-parts_by : (parts : Option (List ℕ × List ℕ)) (ws : List (List ℕ)) (l : Layout) → with_parts parts ws ≡ Some l → IsLayout (parts_words parts ++ ws) l
+parts_by : (parts : Option (List ℕ × List ℕ)) (ws : List (List ℕ)) (l : Layout) → laid_out parts ws ≡ Some l → IsLayout (parts_words parts ++ ws) l
 parts_by parts ws l e =
     let make : InitForm → Layout = λ init. (parts, init) in
-    let p = some_from make (init_of ws) l e in
+    let p = some_from make (init_spelled ws) l e in
     let i = init-read ws p.0 p.1.0 in
     subst (IsLayout (parts_words parts ++ ws)) p.1.1 (ap (λ ws. parts_words parts ++ ws) i.0, i.1)
 
-layout_by : (w : List ℕ) (ws : List (List ℕ)) (l : Layout) (t : Bool) → (t ≡ true → w ≡ codes "by") → cond t (parted ws) (with_parts None (w ∷ ws)) ≡ Some l → IsLayout (w ∷ ws) l
+layout_by : (w : List ℕ) (ws : List (List ℕ)) (l : Layout) (t : Bool) → (t ≡ true → w ≡ codes "by") → cond t (parted ws) (laid_out None (w ∷ ws)) ≡ Some l → IsLayout (w ∷ ws) l
 layout_by w [] l true h e = absurd (cc)
 layout_by w (r ∷ []) l true h e = absurd (cc)
 layout_by w (r ∷ c ∷ ws) l true h e = subst (λ w. IsLayout (w ∷ r ∷ c ∷ ws) l) (sym (h refl)) (parts_by (Some (r, c)) ws l e)
@@ -115,7 +115,7 @@ matrix-read (name ∷ []) a e = absurd (cc)
 matrix-read (name ∷ r ∷ []) a e = absurd (cc)
 matrix-read (name ∷ r ∷ c ∷ ws) a e = array_by name (Matrix r c) ws a (is_name name) refl e
 
-array-back : (name : List ℕ) (size : Size) (parts : Option (List ℕ × List ℕ)) (i : InitForm) → (is_name name && has_values i) ≡ true → array_of name size (parts_words parts ++ init_words i) ≡ Some (array name size (parts, i))
+array-back : (name : List ℕ) (size : Size) (parts : Option (List ℕ × List ℕ)) (i : InitForm) → (is_name name && has_values i) ≡ true → array_spelled name size (parts_words parts ++ init_words i) ≡ Some (array name size (parts, i))
 array-back name size parts i h =
     let q = and_parts (is_name name) (has_values i) h in
     ap (λ t. cond t (option_map (array name size) (layout_of (parts_words parts ++ init_words i))) None) q.0
@@ -156,7 +156,7 @@ task_by w ws t (Some c) h e =
       three_true (is_name c.0) (list_all is_piece c.1) (list_all is_proper_operand p.0) name.1 os.1,
     )
 
-task-read : (ws : List (List ℕ)) (t : TaskForm) → task_of ws ≡ Some t → IsSpelled (codes "task" ∷ ws) (Task t)
+task-read : (ws : List (List ℕ)) (t : TaskForm) → task_spelled ws ≡ Some t → IsSpelled (codes "task" ∷ ws) (Task t)
 task-read [] t e = absurd (cc)
 task-read (w ∷ ws) t e = task_by w ws t (bracketed 40 41 w) refl e
 
@@ -201,7 +201,7 @@ plan-read (name ∷ r ∷ []) f e = absurd (cc)
 plan-read (name ∷ r ∷ c ∷ []) f e = plan_by name r c f (is_name name) refl e
 plan-read (name ∷ r ∷ c ∷ w ∷ ws) f e = absurd (cc)
 
-redux_by : (name w : List ℕ) (f : Form) (t : Bool) (o : Option Reduction) → is_name name ≡ t → reduction_of w ≡ o → cond t (option_map (Redux name) o) None ≡ Some f → IsSpelled (codes "redux" ∷ name ∷ w ∷ []) f
+redux_by : (name w : List ℕ) (f : Form) (t : Bool) (o : Option Reduction) → is_name name ≡ t → reduction_spelled w ≡ o → cond t (option_map (Redux name) o) None ≡ Some f → IsSpelled (codes "redux" ∷ name ∷ w ∷ []) f
 redux_by name w f true None h k e = absurd (cc)
 redux_by name w f true (Some by) h k e =
     let same : Redux name by ≡ f = cc in
@@ -211,12 +211,12 @@ redux_by name w f false o h k e = absurd (cc)
 redux-read : (ws : List (List ℕ)) (f : Form) → redux_of ws ≡ Some f → IsSpelled (codes "redux" ∷ ws) f
 redux-read [] f e = absurd (cc)
 redux-read (name ∷ []) f e = absurd (cc)
-redux-read (name ∷ w ∷ []) f e = redux_by name w f (is_name name) (reduction_of w) refl refl e
+redux-read (name ∷ w ∷ []) f e = redux_by name w f (is_name name) (reduction_spelled w) refl refl e
 redux-read (name ∷ w ∷ v ∷ ws) f e = absurd (cc)
 
 redux-back : (name : List ℕ) (by : Reduction) → is_name name ≡ true → redux_of (name ∷ reduction_word by ∷ []) ≡ Some (Redux name by)
 redux-back name by h =
-    ap (λ t. cond t (option_map (Redux name) (reduction_of (reduction_word by))) None) h
+    ap (λ t. cond t (option_map (Redux name) (reduction_spelled (reduction_word by))) None) h
     ∙ ap (option_map (Redux name)) (reductions.back by refl)
 
 -- ---- a line
@@ -226,7 +226,7 @@ behind-read keyword.Vector ws f e = let p = some_from Register (vector_of ws) f 
 behind-read keyword.Matrix ws f e = let p = some_from Register (matrix_of ws) f e in subst (IsSpelled (codes "matrix" ∷ ws)) p.1.1 (matrix-read ws p.0 p.1.0)
 behind-read keyword.Plan ws f e = plan-read ws f e
 behind-read keyword.Redux ws f e = redux-read ws f e
-behind-read keyword.Task ws f e = let p = some_from Task (task_of ws) f e in subst (IsSpelled (codes "task" ∷ ws)) p.1.1 (task-read ws p.0 p.1.0)
+behind-read keyword.Task ws f e = let p = some_from Task (task_spelled ws) f e in subst (IsSpelled (codes "task" ∷ ws)) p.1.1 (task-read ws p.0 p.1.0)
 behind-read keyword.Print ws f e = named_by Print (codes "print") (λ n h. (refl, h)) ws f e
 behind-read keyword.Invalidate ws f e = named_by Invalidate (codes "invalidate") (λ n h. (refl, h)) ws f e
 behind-read keyword.Unregister ws f e = named_by Unregister (codes "unregister") (λ n h. (refl, h)) ws f e

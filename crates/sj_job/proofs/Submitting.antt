@@ -20,7 +20,7 @@ use Rattle.sj_job.specs.declared.reason.Reason.{Reason}
 use Rattle.sj_job.specs.declared.reason.Reason.TheVariants.{Number}
 use Rattle.sj_meaning.specs.Statement.{Register as Registration}
 use Rattle.sj_meaning.specs.Act.{Act, Register, Plan, Redux, Task, Print, Invalidate, Unregister}
-use Rattle.sj_job.specs.Sentence.{is_numbered, is_numbered_array, is_numbered_task, kind_of, rows_of, cols_of, init_said, parts_said, registered_by, said_of}
+use Rattle.sj_job.specs.Sentence.{is_numbered, is_numbered_array, is_numbered_task, kind_of, rows_said, cols_said, init_said, parts_said, registered_by, said_of}
 use Rattle.sj_job.specs.Word.{is_count, count}
 use Rattle.sj_meaning.specs.State.{State, plan_with}
 use Rattle.sj_meaning.specs.Meaning.{apply, register, run_task, plan, reduce, invalidate, unregister}
@@ -63,7 +63,7 @@ sound_done has old n S f act h e =
 -- ---- registrations
 
 abbrev pub info_by : ArrayForm → RootInfo
-info_by a = record { kind = kind_of a.size; dims = record { rows = rows_of a.size; cols = cols_of a.size }; parts = parts_said a.parts }
+info_by a = record { kind = kind_of a.size; dims = record { rows = rows_said a.size; cols = cols_said a.size }; parts = parts_said a.parts }
 
 pub all_numbered : (a b c : Bool) → a ≡ true → b ≡ true → c ≡ true → (a && b && c) ≡ true
 all_numbered a b c x y z = λ i. x i && y i && z i

@@ -70,13 +70,13 @@ kind_of (size.Vector n) = kind.Vector
 kind_of (size.Matrix r c) = kind.Matrix
 
 -- a vector is one row
-abbrev pub rows_of : Size → ℕ
-rows_of (size.Vector n) = 1
-rows_of (size.Matrix r c) = count r
+abbrev pub rows_said : Size → ℕ
+rows_said (size.Vector n) = 1
+rows_said (size.Matrix r c) = count r
 
-abbrev pub cols_of : Size → ℕ
-cols_of (size.Vector n) = count n
-cols_of (size.Matrix r c) = count c
+abbrev pub cols_said : Size → ℕ
+cols_said (size.Vector n) = count n
+cols_said (size.Matrix r c) = count c
 
 abbrev pub init_said : InitForm → Init
 init_said (init.Values vs) = Values (map integer vs)
@@ -98,7 +98,7 @@ abbrev pub registered_by : ArrayForm → Register (List ℕ)
 registered_by a = record {
   name = a.name;
   kind = kind_of a.size;
-  dims = record { rows = rows_of a.size; cols = cols_of a.size };
+  dims = record { rows = rows_said a.size; cols = cols_said a.size };
   parts = parts_said a.parts;
   init = init_said a.init;
 }

@@ -16,18 +16,18 @@ abbrev pub CutsOff : (List ℕ → List (List ℕ)) → List ℕ → List ℕ �
 CutsOff parts text part rest = (parts text ≡ part ∷ parts rest) × (length rest < length text)
 
 -- space, tab and CR
-abbrev pub is_blank : ℕ → Bool
-is_blank b = b == 32 || b == 9 || b == 13
+abbrev pub is_space : ℕ → Bool
+is_space b = b == 32 || b == 9 || b == 13
 
 abbrev pub is_allowed : ℕ → Bool
-is_allowed b = is_blank b || (nat_lt 32 b && nat_lt b 127)
+is_allowed b = is_space b || (nat_lt 32 b && nat_lt b 127)
 
 abbrev pub is_empty : List ℕ → Bool
 is_empty w = length w == 0
 
 -- the words of a line: what stands between its blanks
 abbrev pub words : List ℕ → List (List ℕ)
-words line = filter (λ w. not (is_empty w)) (slice_split is_blank line)
+words line = filter (λ w. not (is_empty w)) (slice_split is_space line)
 
 -- what stands between the commas of a text, if there is one
 abbrev pub pieces_in : Option (List ℕ) → List (List ℕ)

@@ -9,7 +9,7 @@ ghost use Rattle.sj_job.specs.Reading.{act_in};
 ghost use Rattle.sj_job.specs.Sentence.{are_counts};
 ghost use Rattle.sj_job.specs.Word.{is_integer};
 
-use crate::form::{OperandForm, Piece, Pieces};
+use crate::form::{OperandForm, Piece, PieceList};
 use crate::judge::{STATEMENTS, has_priority};
 use crate::line::Words;
 use crate::names::Names;
@@ -90,7 +90,7 @@ fn crowd_of<'a>(names: &Names, words: &Words<'a>) -> Option<(Crowd, Option<Piece
 }
 
 /// How many arguments there are, up to seven, or `None` where one is no integer. Linear in them.
-fn argument_count(args: &Pieces<'_>) -> Option<u8>
+fn argument_count(args: &PieceList<'_>) -> Option<u8>
     ensures { MatchOption result (list_all is_integer args.now ≡ false)
         (λ n. (list_all is_integer args.now ≡ true) × (n ≤ length args.now)) }
 {

@@ -40,11 +40,11 @@ impl<'a> Piece<'a> {
 
 /// Parts of a word, in order: what stands between the commas of a text, if there is one. Contracts see a list of lists of bytes.
 #[derive(Debug, Drop)]
-pub struct Pieces<'a> {
+pub struct PieceList<'a> {
     text: Option<&'a [u8]>,
 }
 
-impl<'a> Model for Pieces<'a> {
+impl<'a> Model for PieceList<'a> {
     ghost use Rattle.std.specs.Prelude.{List, ℕ, option_map};
     ghost use Rattle.sj_job.specs.Word.{pieces_in};
 
@@ -53,30 +53,30 @@ impl<'a> Model for Pieces<'a> {
     ghost view = { λ p. pieces_in (option_map (λ t. t.now) p.text) };
 }
 
-impl<'a> Pieces<'a> {
+impl<'a> PieceList<'a> {
     /// No piece, in constant time.
-    pub fn none() -> Pieces<'a>
+    pub fn none() -> PieceList<'a>
         ensures { result ≡ [] }
     {
-        Pieces { text: None }
+        PieceList { text: None }
     }
 
     /// What stands between the commas of a text. Constant time.
-    pub fn between_commas(text: &'a [u8]) -> Pieces<'a>
+    pub fn between_commas(text: &'a [u8]) -> PieceList<'a>
         ensures { result ≡ slice_split (λ b. b == 44) text.now }
     {
-        Pieces { text: Some(text) }
+        PieceList { text: Some(text) }
     }
 
     /// The same pieces once more. Constant time.
-    pub fn again(&self) -> Pieces<'a>
+    pub fn again(&self) -> PieceList<'a>
         ensures { result ≡ self.now }
     {
-        Pieces { text: self.text }
+        PieceList { text: self.text }
     }
 
     /// The first piece and those behind it, or `None` where there is no piece. Linear in the first.
-    pub fn split_first(&self) -> Option<(&'a [u8], Pieces<'a>)>
+    pub fn split_first(&self) -> Option<(&'a [u8], PieceList<'a>)>
         ensures { MatchOption result (self.now ≡ []) (λ cut. self.now ≡ cut.0.now ∷ cut.1) }
     {
         match self.text {
@@ -86,14 +86,14 @@ impl<'a> Pieces<'a> {
     }
 }
 
-fn first_piece(text: &[u8]) -> (&[u8], Pieces<'_>)
+fn first_piece(text: &[u8]) -> (&[u8], PieceList<'_>)
     ensures { slice_split (λ b. b == 44) text.now ≡ result.0.now ∷ result.1 }
 {
     let at = first_place(text, b',');
     if at == text.len() {
-        return (text, Pieces::none());
+        return (text, PieceList::none());
     }
-    (&text[..at], Pieces::between_commas(&text[at + 1..]))
+    (&text[..at], PieceList::between_commas(&text[at + 1..]))
 }
 
 /// The first word of a statement line.
@@ -157,7 +157,7 @@ impl<'a> Default for OperandForm<'a> {
 pub struct TaskForm<'a> {
     pub codelet: Piece<'a>,
     /// None where the codelet's name stands alone.
-    pub args: Pieces<'a>,
+    pub args: PieceList<'a>,
     pub operands: Few<OperandForm<'a>>,
     pub priority: Option<Piece<'a>>,
 }

@@ -1,7 +1,7 @@
 //! The lines of a text and the words of a line.
 
 ghost use Rattle.std.specs.Prelude.{◌≡◌, ◌==◌, ◌≤◌, ◌∷◌, ◌++◌, [], length, replicate, not, position, MatchOption, IfSome};
-ghost use Rattle.sj_job.specs.Word.{lines, words, is_blank, is_allowed, is_empty, is_skipped, begins_with, CutsOff};
+ghost use Rattle.sj_job.specs.Word.{lines, words, is_space, is_allowed, is_empty, is_skipped, begins_with, CutsOff};
 ghost use Rattle.std.specs.List.{list_all, position_or_len};
 ghost use Rattle.sj_job.specs.Sentence.{is_header};
 
@@ -32,8 +32,8 @@ pub fn first_place(text: &[u8], byte: u8) -> usize
 }
 
 /// Whether a byte divides words. Constant time.
-pub fn is_blank(byte: u8) -> bool
-    ensures { result ≡ is_blank byte }
+pub fn is_space(byte: u8) -> bool
+    ensures { result ≡ is_space byte }
 {
     byte == b' ' || byte == b'\t' || byte == b'\r'
 }
@@ -48,7 +48,7 @@ pub fn trimmed(line: &[u8]) -> &[u8]
 {
     let mut rest = without_eights(line);
     while let Some((last, front)) = rest.split_last() {
-        if !is_blank(*last) {
+        if !is_space(*last) {
             return rest;
         }
         rest = front;
@@ -100,16 +100,16 @@ fn is_allowed(byte: u8) -> bool
 
 /// The place of the first byte that is no blank. Linear up to it.
 fn first_of_word(line: &[u8]) -> Option<usize>
-    ensures { result ≡ position (λ b. not (is_blank b)) line.now }
+    ensures { result ≡ position (λ b. not (is_space b)) line.now }
 {
-    line.iter().position(|b| !is_blank(*b))
+    line.iter().position(|b| !is_space(*b))
 }
 
 /// The place of the first blank. Linear up to it.
 fn first_blank(line: &[u8]) -> Option<usize>
-    ensures { result ≡ position is_blank line.now }
+    ensures { result ≡ position is_space line.now }
 {
-    line.iter().position(|b| is_blank(*b))
+    line.iter().position(|b| is_space(*b))
 }
 
 /// The first word of a line and what follows it, or `None` where there is no word. Linear in what it passes.

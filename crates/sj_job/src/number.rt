@@ -3,10 +3,10 @@
 ghost use Rattle.std.specs.Prelude.{◌≡◌, ◌&&◌, true, false, map, take, IfOk, IsTrue, MatchOption};
 ghost use Rattle.std.specs.List.{list_all};
 ghost use Rattle.sj_job.specs.Word.{count, is_count, is_integer, integer};
-ghost use Rattle.sj_job.specs.Sentence.{are_counts, is_numbered_size, is_numbered_init, is_numbered_priority, rows_of, cols_of, init_said, first_values, parts_said, index_said, priority_said};
+ghost use Rattle.sj_job.specs.Sentence.{are_counts, is_numbered_size, is_numbered_init, is_numbered_priority, rows_said, cols_said, init_said, first_values, parts_said, index_said, priority_said};
 ghost use Rattle.sj_meaning.specs.State.{plan_with};
 
-use crate::form::{InitForm, Piece, Pieces, Size};
+use crate::form::{InitForm, Piece, PieceList, Size};
 use crate::line::Words;
 use crate::word::{count_of, integer_of};
 use sj_base::few::Few;
@@ -64,7 +64,7 @@ pub fn index_of(child: &Option<(Piece<'_>, Piece<'_>)>) -> Option<(u64, u64)>
 }
 
 /// The integers that words say, or `None` where one says none. Linear in the words.
-pub fn integers(alloc: Global, words: &Pieces<'_>) -> Result<Option<Few<i64>>, OutOfMemory>
+pub fn integers(alloc: Global, words: &PieceList<'_>) -> Result<Option<Few<i64>>, OutOfMemory>
     ensures { IfOk result (λ r. MatchOption r (list_all is_integer words.now ≡ false)
         (λ zs. (list_all is_integer words.now ≡ true) × (zs ≡ map integer words.now))) }
 {
@@ -108,7 +108,7 @@ fn values_of(
 pub fn size_of(size: &Size<'_>) -> Option<(u64, u64)>
     ensures { MatchOption result (is_numbered_size size.now ≡ false)
         (λ p. (is_numbered_size size.now ≡ true)
-        × (p.0 ≡ rows_of size.now) × (p.1 ≡ cols_of size.now)) }
+        × (p.0 ≡ rows_said size.now) × (p.1 ≡ cols_said size.now)) }
 {
     match size {
         Size::Vector(n) => Some((1, count_of(n.bytes())?)),

@@ -11,8 +11,8 @@ unset = record { workers = None; nodes = []; policy = None }
 -- ---- what a line that isn't there stands for
 
 -- one worker
-abbrev pub workers_of : Settings → ℕ
-workers_of g = unwrap_or g.workers 1
+abbrev pub workers_set : Settings → ℕ
+workers_set g = unwrap_or g.workers 1
 
 -- one node of 2^28 bytes
 abbrev pub default_nodes : List ℕ

@@ -1,7 +1,7 @@
 //! The settings of a job: how many workers, the sizes of the nodes, and the policy of the pool.
 
 ghost use Rattle.std.specs.Prelude.{◌≡◌, IfOk};
-ghost use Rattle.sj_meaning.specs.Settings.{unset, workers_of, nodes_of, policy_set, IsWithinLimits};
+ghost use Rattle.sj_meaning.specs.Settings.{unset, workers_set, nodes_of, policy_set, IsWithinLimits};
 
 use sj_base::memory::OutOfMemory;
 use sj_base::mode::Policy;
@@ -49,7 +49,7 @@ impl Settings {
 
     /// The number of workers: 1 where no line sets it. Constant time.
     pub fn worker_count(&self) -> u8
-        ensures { result ≡ workers_of self.now }
+        ensures { result ≡ workers_set self.now }
     {
         self.workers.unwrap_or(1)
     }

@@ -6,7 +6,7 @@ use Rattle.std.specs.List.{join_with_byte, list_all, onto_first, slice_split}
 use Rattle.std.proofs.lemmas.Bool.Decides.{nat_tests}
 use Rattle.std.proofs.lemmas.List.Folds.{list_all-append}
 use Rattle.std.proofs.lemmas.Bool.{and_from, and_parts}
-use Rattle.sj_job.specs.Word.{is_allowed, is_blank, is_empty, lines, words}
+use Rattle.sj_job.specs.Word.{is_allowed, is_space, is_empty, lines, words}
 use Rattle.sj_job.proofs.Numerals.{all-weaker}
 use Rattle.sj_show.specs.Words.{line_of_words}
 
@@ -18,7 +18,7 @@ is_visible b = nat_lt 32 b && nat_lt b 127
 abbrev pub is_word : List ℕ → Bool
 is_word w = not (is_empty w) && list_all is_visible w
 
-visible-unblank : (b : ℕ) → is_visible b ≡ true → is_blank b ≡ false
+visible-unblank : (b : ℕ) → is_visible b ≡ true → is_space b ≡ false
 visible-unblank b h = grind (arith, nat_tests)
 
 pub visible-allowed : (b : ℕ) → is_visible b ≡ true → is_allowed b ≡ true
@@ -29,17 +29,17 @@ allowed-inline b h = grind (arith, nat_tests)
 
 -- ---- the words of a line
 
-split-word : (w : List ℕ) → list_all is_visible w ≡ true → slice_split is_blank w ≡ w ∷ []
+split-word : (w : List ℕ) → list_all is_visible w ≡ true → slice_split is_space w ≡ w ∷ []
 split-word [] h = refl
 split-word (b ∷ w) h =
     let q = and_parts (is_visible b) (list_all is_visible w) h in
-    ap (λ t. cond t ([] ∷ slice_split is_blank w) (onto_first b (slice_split is_blank w))) (visible-unblank b q.0) ∙ ap (onto_first b) (split-word w q.1)
+    ap (λ t. cond t ([] ∷ slice_split is_space w) (onto_first b (slice_split is_space w))) (visible-unblank b q.0) ∙ ap (onto_first b) (split-word w q.1)
 
-split-space : (w rest : List ℕ) → list_all is_visible w ≡ true → slice_split is_blank (w ++ 32 ∷ rest) ≡ w ∷ slice_split is_blank rest
+split-space : (w rest : List ℕ) → list_all is_visible w ≡ true → slice_split is_space (w ++ 32 ∷ rest) ≡ w ∷ slice_split is_space rest
 split-space [] rest h = refl
 split-space (b ∷ w) rest h =
     let q = and_parts (is_visible b) (list_all is_visible w) h in
-    ap (λ t. cond t ([] ∷ slice_split is_blank (w ++ 32 ∷ rest)) (onto_first b (slice_split is_blank (w ++ 32 ∷ rest)))) (visible-unblank b q.0)
+    ap (λ t. cond t ([] ∷ slice_split is_space (w ++ 32 ∷ rest)) (onto_first b (slice_split is_space (w ++ 32 ∷ rest)))) (visible-unblank b q.0)
     ∙ ap (onto_first b) (split-space w rest q.1)
 
 kept : (w : List ℕ) (ws vs : List (List ℕ)) → is_word w ≡ true → filter (λ w. not (is_empty w)) ws ≡ vs → filter (λ w. not (is_empty w)) (w ∷ ws) ≡ w ∷ vs
@@ -55,7 +55,7 @@ words-joined (w ∷ []) h =
 words-joined (w ∷ v ∷ ws) h =
     let q = and_parts (is_word w) (list_all is_word (v ∷ ws)) h in
     ap (filter (λ w. not (is_empty w))) (split-space w (join_with_byte 32 (v ∷ ws)) (and_parts (not (is_empty w)) (list_all is_visible w) q.0).1)
-    ∙ kept w (slice_split is_blank (join_with_byte 32 (v ∷ ws))) (v ∷ ws) q.0 (words-joined (v ∷ ws) q.1)
+    ∙ kept w (slice_split is_space (join_with_byte 32 (v ∷ ws))) (v ∷ ws) q.0 (words-joined (v ∷ ws) q.1)
 
 word-allowed : (w : List ℕ) → is_word w ≡ true → list_all is_allowed w ≡ true
 word-allowed w h = all-weaker is_visible is_allowed visible-allowed w (and_parts (not (is_empty w)) (list_all is_visible w) h).1

@@ -27,7 +27,7 @@ use Rattle.sj_job.specs.declared.reason.Reason.TheVariants.{OperandCount, Part}
 use Rattle.sj_meaning.specs.Act.{Act, Register, Plan, Redux, Task, Print, Invalidate, Unregister}
 use Rattle.sj_job.specs.Grammar.{child_pieces, has_values, is_piece, is_proper, is_proper_operand}
 use Rattle.sj_job.specs.Judge.{Scope, first_of, is_child_said, is_counted, is_missing, judged, judged_by, judged_call, kernel_named, known_of, line_reasons, name_reasons, operand_reasons, plan_reasons, print_reasons, redux_reasons, register_reasons, scope_of, unless}
-use Rattle.sj_job.specs.Sentence.{are_counts, index_said, init_said, is_numbered, is_numbered_init, is_numbered_priority, is_numbered_size, kind_of, operand_said, cols_of, parts_said, place_said, priority_said, registered_by, rows_of, task_said}
+use Rattle.sj_job.specs.Sentence.{are_counts, index_said, init_said, is_numbered, is_numbered_init, is_numbered_priority, is_numbered_size, kind_of, operand_said, cols_said, parts_said, place_said, priority_said, registered_by, rows_said, task_said}
 use Rattle.sj_meaning.specs.Sound.{IsSoundAct, has_child}
 use Rattle.sj_meaning.specs.State.{Root, State, is_child, root_of}
 use Rattle.sj_meaning.specs.Statement.{Operand, Register as Registration, TaskLine}
@@ -98,17 +98,17 @@ init-valued (Fill a b) h = refl
 init-valued Nothing h = refl
 
 abbrev dims_said : Size → Dims
-dims_said s = record { rows = rows_of s; cols = cols_of s }
+dims_said s = record { rows = rows_said s; cols = cols_said s }
 
 kind-again : (s : Size) → kind_of (size_form (kind_of s) (dims_said s)) ≡ kind_of s
 kind-again (size.Vector n) = refl
 kind-again (size.Matrix r c) = refl
 
-rows-again : (s : Size) → rows_of (size_form (kind_of s) (dims_said s)) ≡ rows_of s
+rows-again : (s : Size) → rows_said (size_form (kind_of s) (dims_said s)) ≡ rows_said s
 rows-again (size.Vector n) = refl
 rows-again (size.Matrix r c) = decimal-counts (count r) (count-below r)
 
-cols-again : (s : Size) → cols_of (size_form (kind_of s) (dims_said s)) ≡ cols_of s
+cols-again : (s : Size) → cols_said (size_form (kind_of s) (dims_said s)) ≡ cols_said s
 cols-again (size.Vector n) = decimal-counts (count n) (count-below n)
 cols-again (size.Matrix r c) = decimal-counts (count c) (count-below c)
 

@@ -23,7 +23,7 @@ use Rattle.sj_meaning.specs.Job.{Job}
 use Rattle.sj_job.specs.Judge.{first_of}
 use Rattle.sj_job.specs.Reading.{Refusal, front_of, reading, reading_settings, refusal, setting_in, with_settings}
 use Rattle.sj_job.specs.Settings.{set_by, setting_of, setting_reasons, setting_written, with_setting}
-use Rattle.sj_meaning.specs.Settings.{IsWithinLimits, default_nodes, is_node_size, is_worker_count, nodes_of, policy_set, unset, workers_of}
+use Rattle.sj_meaning.specs.Settings.{IsWithinLimits, default_nodes, is_node_size, is_worker_count, nodes_of, policy_set, unset, workers_set}
 use Rattle.sj_meaning.specs.State.{start}
 use Rattle.sj_job.specs.Verdict.{Front, Passes, Begins, Stops}
 use Rattle.sj_job.specs.Word.{count, is_count, is_skipped, lines, words}
@@ -141,7 +141,7 @@ nodes-within (n ∷ ns) few h = (few, h)
 
 pub settings-read : (has : Kernel → Bool) (g : Settings) (n : ℕ) (rest : List ℕ) → IsWithinLimits g → reading_settings has unset n (lines (settings_lines g ++ rest)) ≡ reading_settings has (settings_said g) (length (nodes_of g) + n + 2) (lines rest)
 settings-read has g n rest h =
-    let w = workers_of g in
+    let w = workers_set g in
     let ns = nodes_of g in
     let p = policy_set g in
     let first = line_of_words (setting_written (Workers (decimal w))) in

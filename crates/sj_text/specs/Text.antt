@@ -5,7 +5,7 @@ use Rattle.sj_meaning.specs.Act.{Act, Statement}
 use Rattle.sj_job.specs.Grammar.{written}
 use Rattle.sj_meaning.specs.Job.{Job}
 use Rattle.sj_job.specs.Settings.{setting_written}
-use Rattle.sj_meaning.specs.Settings.{nodes_of, policy_set, workers_of}
+use Rattle.sj_meaning.specs.Settings.{nodes_of, policy_set, workers_set}
 use Rattle.sj_meaning.specs.Table.{Table, a_root, name_of, undivided}
 use Rattle.sj_job.specs.declared.form.SettingForm.TheVariants.{Workers, Node, Policy}
 use Rattle.sj_meaning.specs.declared.settings.Settings.{Settings}
@@ -24,7 +24,7 @@ node_line n = line_of_words (setting_written (Node (decimal n)))
 -- `workers N`, a `node` line for each node, and `policy P`: also what no line of the job sets
 abbrev pub settings_lines : Settings → List ℕ
 settings_lines g =
-    line_of_words (setting_written (Workers (decimal (workers_of g))))
+    line_of_words (setting_written (Workers (decimal (workers_set g))))
     ++ flat_map node_line (nodes_of g)
     ++ line_of_words (setting_written (Policy (policy_set g)))
 
