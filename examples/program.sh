@@ -166,6 +166,11 @@ run_limited 1 $'starjob 1\nvector x 300 fill 100000000 1\nprint x\n'
 [ "$(stat -c %s out)" = 1024 ] || code=torn
 : > out
 expect 'an output beyond the limit of file sizes' 9 '' $'starjob: writing failed\n'
+printf 'starjob 1\nvector x 300 fill 100000000 1\nprint x\n' | (ulimit -f 1 && exec timeout 60 "$program") > out 2>&1
+code=${PIPESTATUS[1]}
+[ "$(stat -c %s out)" = 1024 ] || code=torn
+: > out > err
+expect 'both streams in one file beyond that limit' 9 '' ''
 # a run of three seconds or so; and one that waits for its job for longer than a second
 if command -v script > /dev/null; then
   {

@@ -10,19 +10,19 @@ mod tally;
 mod watch;
 mod word_at_fault;
 
-ghost use Rattle.std.specs.Prelude.{◌≤◌, ◌^◌, length};
+ghost use Rattle.std.specs.Prelude.{◌≡◌, ◌≤◌, ◌^◌, ◌∷◌, [], length, IfOk, IfSome, IsSome};
 ghost use Rattle.sj_edge.specs.Sizes.{AreWithin};
 ghost use Rattle.sj_top.specs.Device.{devices, seen};
 ghost use Rattle.sj_top.specs.Report.{status_line, TakesLine};
 ghost use Rattle.sj_words.specs.Spelling.{texts};
-ghost use Rattle.starjob.specs.Ending.{EndsForACause, IsCodeOf};
+ghost use Rattle.starjob.specs.Ending.{EndsAsWished, EndsByAStatus, IsCodeOf, LacksTheDisk};
 
 use numbers::{STDERR, STDOUT, occupy_streams};
 use patient::Patient;
 use remark::{no_swap, remark, write_remark};
-use room::{BoundedSink, room_of};
+use room::BoundedSink;
 use sj_base::ids::DiskNo;
-use sj_edge::disk::{Disk, add_disk};
+use sj_edge::disk::Disk;
 use sj_edge::file_disk::FileDisk;
 use sj_edge::memory_disk::MemDisk;
 use sj_edge::memory_sink::MemSink;
@@ -32,7 +32,7 @@ use sj_edge::standard::{StdSink, StdSource};
 use sj_top::report::report;
 use sj_top::sink_text::write_text;
 use sj_top::status::Status;
-use sj_top::top::{AnyDisk, starjob};
+use sj_top::top::starjob;
 use sj_words::{SwapWish, swap_wish};
 use std::alloc::Global;
 use std::fs::File;
@@ -68,6 +68,13 @@ fn words(rt: &HostRuntime) -> Option<Vec<String>> {
     Some(words)
 }
 
+/// With which code the process is to end, and the output that it wrote to.
+#[derive(Drop)]
+struct Ended<O> {
+    code: ExitCode,
+    out: O,
+}
+
 /// Ends before the job is begun, with the status's line.
 fn end_with<E: Sink>(status: Status, err: &mut E) -> ExitCode
     ensures ends_with_its_code { IsCodeOf status result }
@@ -87,8 +94,19 @@ fn end_without_memory<E: Sink>(err: &mut E) -> ExitCode
     end_with(Status::OutOfMemory, err)
 }
 
+/// The same, with the output as it was.
+fn ended_without_memory<O, E: Sink>(out: O, err: &mut E) -> Ended<O>
+    ensures ends_with_its_code { IsCodeOf Status.OutOfMemory result.code }
+    ensures out_stays { result.out ≡ out }
+{
+    let code = end_without_memory(err);
+    Ended { code, out }
+}
+
 /// Ends where there is no swap disk at a path, and says why.
-fn end_without_swap<E: Sink>(alloc: Global, path: &str, error: &Error, err: &mut E) -> ExitCode {
+fn end_without_swap<E: Sink>(alloc: Global, path: &str, error: &Error, err: &mut E) -> ExitCode
+    ensures ends_for_want_of_memory_or_of_a_disk { LacksTheDisk result }
+{
     if error.kind() == ErrorKind::OutOfMemory {
         return end_without_memory(err);
     }
@@ -108,14 +126,14 @@ where
 
 /// Runs the job of a source with these disks, under a gate. The line of the status is kept until the line of the run is off
 /// the terminal, and the further line that a person needs goes before it.
-fn run_on<R, S, O, E>(
+fn run_on<R, S, O, E, D>(
     rt: &R,
     alloc: Global,
     words: &[String],
     source: &mut S,
     out: &mut O,
     err: &mut E,
-    disks: Vec<AnyDisk>,
+    disks: Vec<D>,
     gate: &TallyGate<'_>,
     watch: &Watch,
 ) -> ExitCode
@@ -124,10 +142,11 @@ where
     S: Source,
     O: Sink,
     E: Sink,
+    D: Disk + Send,
     requires few_disks { length disks.items ≤ 16 }
-    requires small_disks { AreWithin ⟦<AnyDisk as Disk>⟧.size (2 ^ 40) disks.items }
-    ensures ends_with_the_code_of_a_status_that_has_its_cause { EndsForACause (texts words.now)
-        (devices S.Source O.Sink ⟦<AnyDisk as Disk>⟧ source.old out.old disks.items)
+    requires small_disks { AreWithin D.size (2 ^ 40) disks.items }
+    ensures ends_by_a_status_that_has_its_cause { EndsByAStatus (texts words.now)
+        (devices S.Source O.Sink D.Disk source.old out.old disks.items)
         (seen S.left S.faults source.new) (seen O.taken O.faults out.new) result }
 {
     let Ok(mut line) = MemSink::new(alloc, LINE_ROOM, Vec::new(alloc)) else {
@@ -142,34 +161,49 @@ where
     ExitCode::from(outcome.status.code())
 }
 
+/// The list of a single disk.
+fn one_disk<D: Disk>(alloc: Global, disk: D) -> Option<Vec<D>>
+    requires small { D.size disk ≤ 2 ^ 40 }
+    ensures alone { IfSome result (λ disks. disks.items ≡ disk ∷ []) }
+    ensures is_one { IfSome result (λ disks. length disks.items ≡ 1) }
+    ensures is_small { IfSome result (λ disks. AreWithin D.size (2 ^ 40) disks.items) }
+{
+    let mut disks = Vec::new(alloc);
+    disks.push(disk).ok()?;
+    Some(disks)
+}
+
 /// Runs the job of a source with this swap disk, and shows how far it is where there is a terminal for that.
-fn run_with<R, S, O, E>(
+fn run_with<R, S, O, E, D>(
     rt: &R,
     alloc: Global,
     words: &[String],
     source: &mut S,
     out: O,
     err: &mut E,
-    disk: AnyDisk,
+    disk: D,
     tally: Arc<Tally, Global>,
     has_terminal: bool,
-) -> ExitCode
+) -> Ended<O>
 where
     R: Threads + Wait + Sync + Clock + Eprint + Copy + Send + 'static,
     S: Source,
     O: Sink + Drop,
     E: Sink,
+    D: Disk + Send,
+    ensures ends_by_a_status_that_has_its_cause { EndsByAStatus (texts words.now)
+        (devices S.Source O.Sink D.Disk source.old out (disk ∷ []))
+        (seen S.left S.faults source.new) (seen O.taken O.faults result.out) result.code }
 {
     // no words ask for a larger one
     if disk.size() > LARGEST_DISK {
-        return end_without_memory(err);
+        return ended_without_memory(out, err);
     }
-    let mut disks = Vec::new(alloc);
-    if add_disk(&mut disks, disk).is_err() {
-        return end_without_memory(err);
-    }
+    let Some(disks) = one_disk(alloc, disk) else {
+        return ended_without_memory(out, err);
+    };
     let Some(watch) = new_watch(alloc, &tally) else {
-        return end_without_memory(err);
+        return ended_without_memory(out, err);
     };
     let shower = if has_terminal {
         start_to_show(rt, alloc, &watch)
@@ -181,10 +215,11 @@ where
     let code = run_on(
         rt, alloc, words, source, &mut out, err, disks, &gate, &watch,
     );
+    let out = out.into_inner();
     if let Some(shower) = shower {
         shower.join(rt);
     }
-    code
+    Ended { code, out }
 }
 
 /// The line of a run that is counted here.
@@ -201,28 +236,27 @@ fn new_tally(alloc: Global) -> Option<(Arc<Tally, Global>, Arc<Tally, Global>)> 
 }
 
 /// A disk in memory whose bytes are counted.
-fn memory_disk(
-    alloc: Global,
-    size: u64,
-    counts: Arc<Tally, Global>,
-) -> Option<Box<TallyDisk<MemDisk>>> {
+fn memory_disk(alloc: Global, size: u64, counts: Arc<Tally, Global>) -> Option<TallyDisk<MemDisk>>
+    ensures size { IfSome result (λ d. ⟦<TallyDisk<MemDisk> as Disk>⟧.size d ≡ size) }
+    ensures tells { IfSome result (λ d. IsSome (⟦<TallyDisk<MemDisk> as Disk>⟧.held d)) }
+{
     let disk = MemDisk::new(alloc, size, Vec::new(alloc)).ok()?;
-    Box::new(alloc, TallyDisk::over(disk, counts)).ok()
+    Some(TallyDisk::over(disk, counts))
 }
 
 /// A disk in a file at a path, or in a folder there, whose bytes are counted.
 fn file_disk<R>(
     rt: &R,
-    alloc: Global,
     path: &str,
     size: u64,
     counts: Arc<Tally, Global>,
-) -> io::Result<Box<TallyDisk<FileDisk>>>
+) -> io::Result<TallyDisk<FileDisk>>
 where
     R: Files<File = File> + Alloc + Clock,
+    ensures size { IfOk result (λ d. ⟦<TallyDisk<FileDisk> as Disk>⟧.size d ≡ size) }
 {
     let file = open_swap(rt, path, size)?;
-    Ok(Box::new(alloc, TallyDisk::over(FileDisk::over(file, size), counts))?)
+    Ok(TallyDisk::over(FileDisk::over(file, size), counts))
 }
 
 /// Runs the job of a source with the swap disk that the words ask for.
@@ -234,22 +268,26 @@ fn run_words<R, S, O, E>(
     out: O,
     err: &mut E,
     has_terminal: bool,
-) -> ExitCode
+) -> Ended<O>
 where
     R: Files<File = File> + Alloc + Threads + Wait + Sync + Clock + Eprint + Copy + Send + 'static,
     S: Source,
     O: Sink + Drop,
     E: Sink,
+    ensures ends_as_wished { EndsAsWished ⟦<TallyDisk<MemDisk> as Disk>⟧
+        ⟦<TallyDisk<FileDisk> as Disk>⟧ (texts words.now)
+        (seen S.left S.faults source.old) (seen O.taken O.faults out)
+        (seen S.left S.faults source.new) (seen O.taken O.faults result.out) result.code }
 {
     let Ok(SwapWish { path, size }) = swap_wish(alloc, words) else {
-        return end_without_memory(err);
+        return ended_without_memory(out, err);
     };
     let Some((tally, counts)) = new_tally(alloc) else {
-        return end_without_memory(err);
+        return ended_without_memory(out, err);
     };
     let Some(path) = path else {
         let Some(disk) = memory_disk(alloc, size, counts) else {
-            return end_without_memory(err);
+            return ended_without_memory(out, err);
         };
         return run_with(
             rt,
@@ -263,7 +301,7 @@ where
             has_terminal,
         );
     };
-    match file_disk(rt, alloc, path.as_str(), size, counts) {
+    match file_disk(rt, path.as_str(), size, counts) {
         Ok(disk) => run_with(
             rt,
             alloc,
@@ -275,7 +313,10 @@ where
             tally,
             has_terminal,
         ),
-        Err(e) => end_without_swap(alloc, path.as_str(), &e, err),
+        Err(e) => {
+            let code = end_without_swap(alloc, path.as_str(), &e, err);
+            Ended { code, out }
+        }
     }
 }
 
@@ -284,13 +325,13 @@ fn main(rt: HostRuntime) -> ExitCode {
     let has_terminal = rt.stderr().is_terminal();
     let mut source = StdSource::over(Patient::over(&rt, rt.stdin()));
     let out = StdSink::over(Patient::over(&rt, rt.stdout()));
-    let out = BoundedSink::over(out, room_of(&rt, STDOUT));
+    let out = BoundedSink::over(&rt, STDOUT, out);
     let err = StdSink::over(Patient::over(&rt, rt.stderr()));
-    let mut err = BoundedSink::over(err, room_of(&rt, STDERR));
+    let mut err = BoundedSink::over(&rt, STDERR, err);
     let Some(words) = words(&rt) else {
         return end_without_memory(&mut err);
     };
-    run_words(
+    let ended = run_words(
         &rt,
         rt.alloc(),
         &words,
@@ -298,5 +339,6 @@ fn main(rt: HostRuntime) -> ExitCode {
         out,
         &mut err,
         has_terminal,
-    )
+    );
+    ended.code
 }

@@ -39,7 +39,7 @@ fn position<R: Files + Alloc>(rt: &R, stream: u8, length: u64) -> Option<u64> {
 
 /// How many bytes a stream of this process takes before the system's limit of file sizes, where it is a regular file and
 /// there is a limit.
-pub fn room_of<R: Files + Alloc>(rt: &R, stream: u8) -> Option<u64> {
+fn room_of<R: Files + Alloc>(rt: &R, stream: u8) -> Option<u64> {
     let limit = file_size_limit(rt)?;
     let path = format!(in rt.alloc(); "/proc/self/fd/{stream}").ok()?;
     let found = fs::metadata(rt, path.as_str()).ok()?;
@@ -50,22 +50,35 @@ pub fn room_of<R: Files + Alloc>(rt: &R, stream: u8) -> Option<u64> {
     Some(limit.saturating_sub(at))
 }
 
-/// A sink that refuses what is beyond its room, in place of a write that would end the process. Tells nothing.
+/// A sink that refuses what is beyond the room of its stream, in place of a write that would end the process. Tells nothing.
+///
+/// Where there is a limit the room is asked for anew before each write, since another stream may have written to the same file.
 #[derive(Drop)]
-pub struct BoundedSink<K> {
+pub struct BoundedSink<'a, R, K> {
+    rt: &'a R,
+    stream: u8,
     inner: K,
     room: Option<u64>,
     faults: u64,
 }
 
-impl<K> BoundedSink<K> {
-    /// Writes to this sink, as many bytes as there is room for, or as many as come. Constant time.
-    pub fn over(inner: K, room: Option<u64>) -> BoundedSink<K> {
+impl<'a, R: Files + Alloc, K> BoundedSink<'a, R, K> {
+    /// Writes to this sink, which is a stream of the process, as many bytes as there is room for, or as many as come.
+    pub fn over(rt: &'a R, stream: u8, inner: K) -> BoundedSink<'a, R, K> {
         BoundedSink {
+            rt,
+            stream,
             inner,
-            room,
+            room: room_of(rt, stream),
             faults: 0,
         }
+    }
+
+    /// The room that there is now: no more than there was.
+    fn room_left(&self) -> Option<u64> {
+        let room = self.room?;
+        let now = room_of(self.rt, self.stream).unwrap_or(room);
+        Some(room.min(now))
     }
 }
 
@@ -79,24 +92,25 @@ fn that_fit(bytes: &[u8], room: Option<u64>) -> &[u8]
     }
 }
 
-impl<K: Sink> BoundedSink<K> {
+impl<R: Files + Alloc, K: Sink> BoundedSink<'_, R, K> {
     /// Writes the first bytes that there is room for: at least one, where there is one.
     fn write_some(&mut self, bytes: &[u8]) -> Result<usize, Failed>
         ensures at_most { WritesAtMost result bytes.now }
         ensures at_least_one { 0 < length bytes.now → IfOk result (λ n. 0 < n) }
         ensures counts_no_fault { self.new.faults ≡ self.old.faults }
     {
-        let bytes_that_fit = that_fit(bytes, self.room);
+        let room = self.room_left();
+        let bytes_that_fit = that_fit(bytes, room);
         if bytes_that_fit.is_empty() && !bytes.is_empty() {
             return Err(Failed);
         }
         let taken = self.inner.write(bytes_that_fit)?;
-        self.room = self.room.map(|room| room.saturating_sub(taken as u64));
+        self.room = room.map(|room| room.saturating_sub(taken as u64));
         Ok(taken)
     }
 }
 
-impl<K: Sink> Sink for BoundedSink<K> {
+impl<R: Files + Alloc, K: Sink> Sink for BoundedSink<'_, R, K> {
     ghost taken = { λ _. None };
 
     ghost faults = { λ s. s.faults };

@@ -141,6 +141,7 @@ impl<D: Telling> TallyDisk<D> {
     /// The same disk, with its bytes counted. Constant time.
     pub fn over(disk: D, tally: Arc<Tally, Global>) -> TallyDisk<D>
         ensures size { ⟦<TallyDisk<D> as Disk>⟧.size result ≡ D.size disk }
+        ensures tells_the_same { ⟦<TallyDisk<D> as Disk>⟧.held result ≡ D.held disk }
     {
         TallyDisk { disk, tally }
     }

@@ -117,6 +117,16 @@ impl<'a, R: Wait + Eprint, K: Sink> ErasingSink<'a, R, K> {
     {
         ErasingSink { rt, watch, inner }
     }
+
+    /// The sink that it wrote to. Constant time.
+    pub fn into_inner(self) -> K
+        ensures tells_the_same { K.taken result
+            ≡ ⟦<ErasingSink<'a, R, K> as Sink>⟧.taken self.entry }
+        ensures has_the_same_faults { K.faults result
+            ≡ ⟦<ErasingSink<'a, R, K> as Sink>⟧.faults self.entry }
+    {
+        self.inner
+    }
 }
 
 impl<R: Wait + Eprint, K: Sink> Sink for ErasingSink<'_, R, K> {

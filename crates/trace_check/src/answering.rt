@@ -6,7 +6,7 @@ ghost use Rattle.sj_ready.specs.Input.{HasJob};
 ghost use Rattle.sj_words.specs.Options.{IsWithinLimits};
 
 use crate::showing::{job_shown, program_shown};
-use crate::{OUT_OF_MEMORY, REFUSED, refused, unready};
+use crate::{REFUSED, out_of_memory, refused, unready};
 use sj_job::reason::ReadRefusal;
 use sj_ready::input::Input;
 use sj_words::Options;
@@ -41,6 +41,6 @@ pub fn show_job(rt: &HostRuntime, job: &[u8]) -> u8 {
             let _ = eprintln!(rt; "line {} of the job is refused", line.0);
             REFUSED
         }
-        Err(ReadRefusal::OutOfMemory) => OUT_OF_MEMORY,
+        Err(ReadRefusal::OutOfMemory) => out_of_memory(rt),
     }
 }

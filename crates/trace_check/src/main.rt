@@ -16,10 +16,11 @@ mod tests_of_showing;
 #[cfg(test)]
 mod tests_of_texts;
 
-ghost use Rattle.std.specs.Prelude.{IfOk};
+ghost use Rattle.std.specs.Prelude.{◌≡◌, IfOk};
 ghost use Rattle.sj_minplus.specs.Has.{library_has};
 ghost use Rattle.sj_ready.specs.Input.{HasJob};
 ghost use Rattle.sj_words.specs.Options.{IsWithinLimits};
+ghost use Rattle.trace_check.specs.Ending.{code_of_check, code_of_outcome, code_of_unready};
 
 use answering::{show_job, show_program};
 use judging::judged;
@@ -61,13 +62,17 @@ const REFUSED: u8 = 2;
 const OUT_OF_MEMORY: u8 = 10;
 
 /// Says why nothing was checked.
-fn refused(rt: &HostRuntime, why: &str) -> u8 {
+fn refused(rt: &HostRuntime, why: &str) -> u8
+    ensures { result ≡ 2 }
+{
     let _ = eprintln!(rt; "{why}");
     REFUSED
 }
 
 /// Says that memory ran out.
-fn out_of_memory(rt: &HostRuntime) -> u8 {
+fn out_of_memory(rt: &HostRuntime) -> u8
+    ensures { result ≡ 10 }
+{
     let _ = eprintln!(rt; "out of memory");
     OUT_OF_MEMORY
 }
@@ -132,7 +137,9 @@ fn line(text: &[u8], number: u64) -> &[u8] {
 }
 
 /// Says why the job of a trace can't be run.
-fn unready(rt: &HostRuntime, why: Unready) -> u8 {
+fn unready(rt: &HostRuntime, why: Unready) -> u8
+    ensures { result ≡ code_of_unready why }
+{
     let _ = match why {
         Unready::Refused { line, .. } => eprintln!(rt; "line {} of the job is refused", line.0),
         Unready::Short(Shortage::TooLarge { line, .. }) => {
@@ -147,7 +154,9 @@ fn unready(rt: &HostRuntime, why: Unready) -> u8 {
 }
 
 /// Says what is wrong with the events of a trace that has this text.
-fn wrong(rt: &HostRuntime, text: &[u8], why: CheckRefusal) -> u8 {
+fn wrong(rt: &HostRuntime, text: &[u8], why: CheckRefusal) -> u8
+    ensures { result ≡ code_of_check why }
+{
     let _ = match why {
         CheckRefusal::BadEvent { index } => {
             let event = std::str::from_utf8(line(text, index)).unwrap_or("");
@@ -163,7 +172,9 @@ fn wrong(rt: &HostRuntime, text: &[u8], why: CheckRefusal) -> u8 {
 }
 
 /// Says what the check of a trace with this text came to.
-fn told(rt: &HostRuntime, text: &[u8], outcome: Result<(), JudgeRefusal>) -> u8 {
+fn told(rt: &HostRuntime, text: &[u8], outcome: Result<(), JudgeRefusal>) -> u8
+    ensures { result ≡ code_of_outcome outcome }
+{
     match outcome {
         Ok(()) => {
             let _ = println!(rt; "legal and complete");
