@@ -1,6 +1,6 @@
 -- A worker's turn on the board leaves the rows of all others, in one step or in several.
 use Rattle.std.proofs.Common.{◌≡◌, ◌≢◌, ℕ, suc, Bool, true, false, cond, List, [], ◌∷◌, ◌++◌, map, refl, sym, ap, ◌∙◌, subst, Option, None, Some, arith, inl, inr, ◌⊎◌}
-use Rattle.std.specs.Prelude.{filter, is_some, nat_eq, option_and_then, option_map, slice_set, unwrap_or, if◌then◌else◌}
+use Rattle.std.specs.Prelude.{filter, is_some, nat_eq, option_and_then, option_map, slice_set, if◌then◌else◌}
 use Rattle.std.specs.List.{Contains}
 use Rattle.std.proofs.lemmas.Bool.Decides.{Decides-eqb}
 use Rattle.std.proofs.lemmas.List.{append-nil, append_assoc, get_or-set_other}
@@ -14,15 +14,14 @@ use Rattle.sj_base.specs.declared.program.Program.{Program}
 use Rattle.sj_base.specs.declared.program.Machine.{Machine}
 use Rattle.sj_base.specs.declared.trace.Event.{Event}
 use Rattle.sj_base.specs.declared.trace.Event.TheVariants.{Claim, Move, Moved, Drop, Run, End}
-use Rattle.sj_base.specs.Array.{Array, zeros}
+use Rattle.sj_base.specs.Array.{Array}
 use Rattle.sj_core.specs.declared.progress.Progress.{Progress}
 use Rattle.sj_core.specs.declared.progress.Transfer.{Transfer}
 use Rattle.sj_core.specs.Laws.{IsSound}
 use Rattle.sj_core.specs.Machine.{State, WorkerState, is_running_on, is_task_of, progress, transfer, worker_state, writes}
 use Rattle.sj_core.specs.Needs.{node_of}
 use Rattle.sj_core.specs.Operands.{cells_of}
-use Rattle.sj_core.specs.Program.{dims_of, has_cell, same_cell}
-use Rattle.sj_core.specs.Step.{array_at}
+use Rattle.sj_core.specs.Program.{has_cell, same_cell}
 use Rattle.sj_core.proofs.States.{state_of-more}
 use Rattle.sj_disk.specs.Directory.{DiskState}
 use Rattle.sj_disk.specs.Holding.{CountsStay}
@@ -33,11 +32,12 @@ use Rattle.sj_machine.specs.Units.{unit_at, unit_of}
 use Rattle.sj_machine.specs.BoardRow.{BoardKey, BoardRow, is_event_of, key_of, row_of_number}
 use Rattle.sj_machine.specs.BoardSound.{IsSoundBoard}
 use Rattle.sj_machine.specs.Sparing.{SparesUsed, Spares}
-use Rattle.sj_machine.specs.Standing.{CanHappen, Standing, state, with_event}
+use Rattle.sj_machine.specs.Standing.{CanHappen, Standing, state, with_event, run_arrays}
 use Rattle.sj_machine.specs.declared.hand.Hand.{Hand}
 use Rattle.sj_engine.specs.Stage.{BeginsWith, row_in}
 use Rattle.sj_engine.specs.Turn.{IsSharedSound, IsTurnOf, NothingHappens, PutsUnitBack}
 use Rattle.sj_engine.proofs.OtherRows.{IsBy, StaysFor, Step-stays}
+use Rattle.sj_core.specs.Arrays.{Arrays, held_at}
 
 abbrev a_worker : ℕ → Worker
 a_worker n = record { 0 = n }
@@ -66,36 +66,36 @@ contains-has cs c h = list_any_at (λ d. same_cell d c) cs h.0 c h.1 (ap (λ (d 
 -- ---- another worker's row
 
 -- a worker's row of its parts
-abbrev row_of_parts : {D : Type 0} → DiskState D → Program → Machine → State → Worker → Hand → List Event → BoardRow D
-row_of_parts disks p m s v hand trace =
+abbrev row_of_parts : {D : Type 0} → DiskState D → Program → Machine → State → Arrays → Worker → Hand → List Event → BoardRow D
+row_of_parts disks p m s A v hand trace =
     row hand (option_and_then (unit_at disks) hand.unit) (option_map (progress s) hand.task)
-    (option_map (λ t. if is_running_on v (progress s t) then map (array_at p s (AtNode (node_of m v))) (cells_of p t v) else []) hand.task)
+    (option_map (λ t. if is_running_on v (progress s t) then map (held_at A (AtNode (node_of m v))) (cells_of p t v) else []) hand.task)
     (if is_some hand.task then worker_state s v else idle)
-    (option_map (λ x. array_at p s x.from x.cell) (if is_some hand.task then transfer s v else None))
+    (option_map (λ x. A x.cell x.from) (if is_some hand.task then transfer s v else None))
     (option_map (λ x. writes s x.cell) (if is_some hand.task then transfer s v else None))
     (filter (is_event_of v.0) trace)
 
-module _ {D : Type 0} (disks : DiskState D) (p : Program) (m : Machine) (s s' : State) (v : Worker) (hand : Hand) (trace trace' : List Event) (stays : StaysFor p m s s' v)
+module _ {D : Type 0} (disks : DiskState D) (p : Program) (m : Machine) (s s' : State) (A A' : Arrays) (v : Worker) (hand : Hand) (trace trace' : List Event) (stays : StaysFor p m s s' A A' v)
     (mine : (u : Task) → hand.task ≡ Some u → is_task_of v (progress s u) ≡ true) (events : filter (is_event_of v.0) trace' ≡ filter (is_event_of v.0) trace) where
   same-transfer : transfer s' v ≡ transfer s v
   same-transfer = ap (λ (x : WorkerState). x.transfer) stays.holds
 
   same-cells : (u : Task) → is_task_of v (progress s u) ≡ true → (b : Bool) → is_running_on v (progress s u) ≡ b →
-      (if is_running_on v (progress s' u) then map (array_at p s' (AtNode (node_of m v))) (cells_of p u v) else []) ≡ (if is_running_on v (progress s u) then map (array_at p s (AtNode (node_of m v))) (cells_of p u v) else [])
+      (if is_running_on v (progress s' u) then map (held_at A' (AtNode (node_of m v))) (cells_of p u v) else []) ≡ (if is_running_on v (progress s u) then map (held_at A (AtNode (node_of m v))) (cells_of p u v) else [])
   same-cells u has true runs =
-      ap (λ (x : Progress). if is_running_on v x then map (array_at p s' (AtNode (node_of m v))) (cells_of p u v) else []) (stays.phase u has)
-      ∙ ap (λ (b : Bool). if b then map (array_at p s' (AtNode (node_of m v))) (cells_of p u v) else []) runs
-      ∙ map-agree (array_at p s' (AtNode (node_of m v))) (array_at p s (AtNode (node_of m v))) (cells_of p u v) (λ c among. ap (λ (o : Option Array). unwrap_or o (zeros (dims_of p c))) (stays.cells u c runs (contains-has (cells_of p u v) c among)))
-      ∙ sym (ap (λ (b : Bool). if b then map (array_at p s (AtNode (node_of m v))) (cells_of p u v) else []) runs)
+      ap (λ (x : Progress). if is_running_on v x then map (held_at A' (AtNode (node_of m v))) (cells_of p u v) else []) (stays.phase u has)
+      ∙ ap (λ (b : Bool). if b then map (held_at A' (AtNode (node_of m v))) (cells_of p u v) else []) runs
+      ∙ map-agree (held_at A' (AtNode (node_of m v))) (held_at A (AtNode (node_of m v))) (cells_of p u v) (λ c among. stays.cells u c runs (contains-has (cells_of p u v) c among))
+      ∙ sym (ap (λ (b : Bool). if b then map (held_at A (AtNode (node_of m v))) (cells_of p u v) else []) runs)
   same-cells u has false runs =
-      ap (λ (x : Progress). if is_running_on v x then map (array_at p s' (AtNode (node_of m v))) (cells_of p u v) else []) (stays.phase u has)
-      ∙ ap (λ (b : Bool). if b then map (array_at p s' (AtNode (node_of m v))) (cells_of p u v) else []) runs
-      ∙ sym (ap (λ (b : Bool). if b then map (array_at p s (AtNode (node_of m v))) (cells_of p u v) else []) runs)
+      ap (λ (x : Progress). if is_running_on v x then map (held_at A' (AtNode (node_of m v))) (cells_of p u v) else []) (stays.phase u has)
+      ∙ ap (λ (b : Bool). if b then map (held_at A' (AtNode (node_of m v))) (cells_of p u v) else []) runs
+      ∙ sym (ap (λ (b : Bool). if b then map (held_at A (AtNode (node_of m v))) (cells_of p u v) else []) runs)
 
-  same-carried : (held : Bool) → option_map (λ x. array_at p s' x.from x.cell) (if held then transfer s' v else None) ≡ option_map (λ x. array_at p s x.from x.cell) (if held then transfer s v else None)
+  same-carried : (held : Bool) → option_map (λ x. A' x.cell x.from) (if held then transfer s' v else None) ≡ option_map (λ x. A x.cell x.from) (if held then transfer s v else None)
   same-carried true =
-      ap (option_map (λ x. array_at p s' x.from x.cell)) same-transfer
-      ∙ map-option (λ (x : Transfer). array_at p s' x.from x.cell) (λ (x : Transfer). array_at p s x.from x.cell) (transfer s v) (λ x e. ap (λ (o : Option Array). unwrap_or o (zeros (dims_of p x.cell))) (stays.carried x e))
+      ap (option_map (λ x. A' x.cell x.from)) same-transfer
+      ∙ map-option (λ (x : Transfer). A' x.cell x.from) (λ (x : Transfer). A x.cell x.from) (transfer s v) (λ x e. stays.carried x e)
   same-carried false = refl
 
   same-writes : (held : Bool) → option_map (λ x. writes s' x.cell) (if held then transfer s' v else None) ≡ option_map (λ x. writes s x.cell) (if held then transfer s v else None)
@@ -103,7 +103,7 @@ module _ {D : Type 0} (disks : DiskState D) (p : Program) (m : Machine) (s s' : 
       ap (option_map (λ x. writes s' x.cell)) same-transfer ∙ map-option (λ (x : Transfer). writes s' x.cell) (λ (x : Transfer). writes s x.cell) (transfer s v) (λ x e. stays.writes x e)
   same-writes false = refl
 
-  pub row-kept : row_of_parts disks p m s' v hand trace' ≡ row_of_parts disks p m s v hand trace
+  pub row-kept : row_of_parts disks p m s' A' v hand trace' ≡ row_of_parts disks p m s A v hand trace
   row-kept =
       row-same hand hand (option_and_then (unit_at disks) hand.unit) (option_and_then (unit_at disks) hand.unit) (option_map (progress s) hand.task) (option_map (progress s') hand.task) _ _ _ _ _ _ _ _ (filter (is_event_of v.0) trace) (filter (is_event_of v.0) trace') refl refl
       (map-option (progress s') (progress s) hand.task (λ u e. stays.phase u (mine u e)))
@@ -163,8 +163,8 @@ module _ {D : Type 0} (faults mismatches : D → ℕ) (w : Worker) where
     where
       others : (n : ℕ) → n ≢ w.0 → row_of_number b' n ≡ row_of_number b n
       others n other =
-          ap (λ (r : Standing D). row_of_parts r.disks r.program r.machine (state r) (a_worker n) (hand_in b'.hands (a_worker n)) r.trace) run
-          ∙ ap (λ (h : Hand). row_of_parts b.run.disks b.run.program b.run.machine (state b.run) (a_worker n) h b.run.trace) (ap (λ (hs : List Hand). hand_in hs (a_worker n)) hands ∙ get_or-set_other b.hands w.0 n hand empty_hand other)
+          ap (λ (r : Standing D). row_of_parts r.disks r.program r.machine (state r) (run_arrays r) (a_worker n) (hand_in b'.hands (a_worker n)) r.trace) run
+          ∙ ap (λ (h : Hand). row_of_parts b.run.disks b.run.program b.run.machine (state b.run) (run_arrays b.run) (a_worker n) h b.run.trace) (ap (λ (hs : List Hand). hand_in hs (a_worker n)) hands ∙ get_or-set_other b.hands w.0 n hand empty_hand other)
 
   -- the worker's unit was put back: nothing but the disks and its hand has changed
   pub record IsQuiet (a b : BoardState D) : Type 0 where
@@ -191,7 +191,7 @@ module _ {D : Type 0} (faults mismatches : D → ℕ) (w : Worker) where
           let s = state a.run in
           ap (λ (u : Option (UnitState D)). record (row_of_number b n) { unit = u }) (put.others v (λ same. other (ap (λ (x : Worker). x.0) same)))
           ∙ ap (λ (x : BoardState D). record (row_of_number x n) { unit = unit_of a v }) put.back
-          ∙ ap (λ (h : Hand). record (row_of_parts a.run.disks p m s v h a.run.trace) { unit = unit_of a v }) (get_or-set_other a.hands w.0 n (record (hand_of a w) { unit = None }) empty_hand other)
+          ∙ ap (λ (h : Hand). record (row_of_parts a.run.disks p m s (run_arrays a.run) v h a.run.trace) { unit = unit_of a v }) (get_or-set_other a.hands w.0 n (record (hand_of a w) { unit = None }) empty_hand other)
 
   pub put-turn : (a b : BoardState D) → PutsUnitBack w a b → CountsStay faults mismatches a.run.disks.disks b.run.disks.disks → IsTurnOf faults mismatches w a b
   put-turn a b put counts =
@@ -204,7 +204,7 @@ module _ {D : Type 0} (faults mismatches : D → ℕ) (w : Worker) where
     key = ap key_of same;
     others = λ n other. (
         ap (λ (x : BoardState D). row_of_number x n) same
-        ∙ ap (λ (h : Hand). row_of_parts b.run.disks b.run.program b.run.machine (state b.run) (a_worker n) h b.run.trace) (get_or-set_other b.hands w.0 n (record (hand_of b w) { unit = Some u.cell }) empty_hand other)
+        ∙ ap (λ (h : Hand). row_of_parts b.run.disks b.run.program b.run.machine (state b.run) (run_arrays b.run) (a_worker n) h b.run.trace) (get_or-set_other b.hands w.0 n (record (hand_of b w) { unit = Some u.cell }) empty_hand other)
         );
     one_event = inl (ap (λ (x : BoardState D). x.run.trace) same);
     events = ([], ap (λ (x : BoardState D). (row_in x w).events) same ∙ sym (append-nil (row_in b w).events));
@@ -236,16 +236,19 @@ module _ {D : Type 0} (faults mismatches : D → ℕ) (w : Worker) where
         s' : State
         s' = state (with_event b.run e)
 
-        spared : SparesUsed p m (state b.run) e s'
-        spared = subst (λ (r : Standing D). SparesUsed p m (state b.run) e (state r)) run spares
+        A' : Arrays
+        A' = run_arrays (with_event b.run e)
+
+        spared : SparesUsed p m (state b.run) (run_arrays b.run) e s' A'
+        spared = subst (λ (r : Standing D). SparesUsed p m (state b.run) (run_arrays b.run) e (state r) (run_arrays r)) run spares
 
         others : (n : ℕ) → n ≢ w.0 → row_of_number b' n ≡ row_of_number b n
         others n other =
             let v = a_worker n in
             let differs : v ≢ w = λ same. other (ap (λ (x : Worker). x.0) same) in
-            ap (λ (r : Standing D). row_of_parts r.disks r.program r.machine (state r) v (hand_of b' v) r.trace) run
-            ∙ ap (λ (h : Hand). row_of_parts b.run.disks p m s' v h (b.run.trace ++ e ∷ [])) (hands v differs)
-            ∙ row-kept b.run.disks p m (state b.run) s' v (hand_of b v) b.run.trace (b.run.trace ++ e ∷ []) (Step-stays p m (state b.run) the-state v w differs e s' by can (state_of-more p m b.run.trace e) spared)
+            ap (λ (r : Standing D). row_of_parts r.disks r.program r.machine (state r) (run_arrays r) v (hand_of b' v) r.trace) run
+            ∙ ap (λ (h : Hand). row_of_parts b.run.disks p m s' A' v h (b.run.trace ++ e ∷ [])) (hands v differs)
+            ∙ row-kept b.run.disks p m (state b.run) s' (run_arrays b.run) A' v (hand_of b v) b.run.trace (b.run.trace ++ e ∷ []) (Step-stays p m (state b.run) (run_arrays b.run) the-state v w differs e s' A' by can (state_of-more p m b.run.trace e) spared)
             (λ u has. sound.inside.hands_agree.has v u has) (events-other n b.run.trace e (by-other m (state b.run) w v e differs by))
 
 -- the board is sound for the desk after a turn

@@ -1,5 +1,5 @@
 -- A run on which nothing has happened.
-use Rattle.std.proofs.Common.{◌≡◌, ◌≤◌, ◌+◌, ◌∙◌, ℕ, zero, suc, true, false, List, [], ◌∷◌, Option, None, Some, refl, sym, ap, subst, arith, inl, inr, length, map, get_or, replicate, is_some}
+use Rattle.std.proofs.Common.{◌≡◌, ◌≤◌, ◌+◌, ◌∙◌, ℕ, zero, suc, true, false, List, [], ◌∷◌, Option, None, refl, sym, ap, subst, arith, inl, inr, length, map, get_or, replicate, is_some}
 use Rattle.std.specs.Prelude.{IfSome, IsSomeAnd, fold}
 use Rattle.std.proofs.lemmas.Bool.{cases_lt, false≢true}
 use Rattle.std.proofs.lemmas.List.{get_or-map, get_or-replicate, get_or_past, length-map, length-replicate}
@@ -8,8 +8,8 @@ use Rattle.sj_base.specs.Recorded.{Recorded}
 use Rattle.sj_base.specs.declared.trace.Event.{Event}
 use Rattle.sj_core.specs.declared.progress.Progress.{Progress}
 use Rattle.sj_core.specs.declared.progress.Progress.TheVariants.{Waiting}
-use Rattle.sj_core.proofs.Words.{Array, AtNode, Cell, CellState, DiskNo, Invalid, Machine, Node, OnDisk, Place, Program, Worker, WorkerState, array_of, dims_of, is_valid, no_replica, node_size, opening, order, replica, replica_in, scratch, workers_at, writes}
-use Rattle.sj_core.proofs.Opening.{opening-coherent}
+use Rattle.sj_core.proofs.Words.{Array, AtNode, Cell, CellState, DiskNo, Invalid, Machine, Node, OnDisk, Place, Program, Worker, WorkerState, dims_of, is_valid, no_replica, node_size, opening, order, replica, replica_in, scratch, workers_at, writes}
+use Rattle.sj_core.proofs.Opening.{opening-coherent, opening-content}
 use Rattle.sj_core.proofs.Reading.{idle_row, no_row, replica_in-no_row}
 use Rattle.sj_edge.proofs.GivenBackLemmas.{all_given_back-untouched, all_untouched-same}
 use Rattle.sj_disk.specs.Lending.{LendingState, lending}
@@ -20,8 +20,9 @@ use Rattle.sj_machine.specs.Mark.{mark_of}
 use Rattle.sj_machine.specs.Agrees.{Agrees, IsWide, Rows, entry_of, rows_of, store_of}
 use Rattle.sj_machine.specs.Copies.{Copies, mark_at, none_at, row_of, tile_at}
 use Rattle.sj_machine.specs.Sound.{IsBlock, IsRunOf, Keeps, block_of, most_events}
-use Rattle.sj_machine.specs.Standing.{AllTell, Standing, standing, starting}
+use Rattle.sj_machine.specs.Standing.{AllTell, Standing, standing, starting, run_arrays}
 use Rattle.sj_machine.proofs.Reading.{no_copies}
+use Rattle.sj_core.specs.Arrays.{Arrays}
 
 all_same : {X : Type 0} (n i : ℕ) (a : X) → get_or (replicate n a) i a ≡ a
 all_same zero i a = refl
@@ -79,8 +80,8 @@ module _ (p : Program) (m : Machine) where
       ap (λ k. store (node_size m n) k (length p.cells) (map (entry_of p m (opening p m) n) (order (opening p m) n))) (sum-all_none (scratch (opening p m)) no_scratch 0 (workers_at m n))
       ∙ ap (λ (cs : List Cell). store (node_size m n) 0 (length p.cells) (map (entry_of p m (opening p m) n) cs)) (all_same (length m.nodes) n.0 [])
 
-  first_agrees : (Tells : Type 0) → Agrees p m (opening p m) Tells first_rows
-  first_agrees Tells = record {
+  first_agrees : (A : Arrays) (Tells : Type 0) → Agrees p m (opening p m) A Tells first_rows
+  first_agrees A Tells = record {
     tasks = refl;
     workers = refl;
     marks = record {
@@ -94,7 +95,7 @@ module _ (p : Program) (m : Machine) where
       there = λ c n rests. ap is_some (no_tile c n) ∙ ap is_valid (sym (nowhere c (AtNode n)));
       out = λ c n written. no_tile c n;
       dims = λ c n. subst (λ (o : Option Array). IfSome o (λ a. a.dims ≡ dims_of p c)) (sym (no_tile c n)) tt;
-      arrays = λ tells c n. subst (λ (o : Option Array). IfSome o (λ a. array_of (replica (opening p m) c (AtNode n)) ≡ Some a)) (sym (no_tile c n)) tt;
+      arrays = λ tells c n. subst (λ (o : Option Array). IfSome o (λ a. a ≡ A c (AtNode n))) (sym (no_tile c n)) tt;
     };
     stores = record {
       every_node = length-map m.nodes (λ size. empty size (length p.cells));
@@ -115,6 +116,7 @@ module _ {D : Type 0} (size faults mismatches : D → ℕ) (held : D → Option 
       run = run;
       legal = tt;
       coherent = opening-coherent p m;
+      content = opening-content p m;
       blocks = record {
         placed = placed;
         stored = λ c d valid. absurd (not_valid c d valid);
@@ -122,7 +124,7 @@ module _ {D : Type 0} (size faults mismatches : D → ℕ) (held : D → Option 
       };
       given_back = all_given_back-untouched size faults mismatches held disks.disks disks.disks (all_untouched-same size faults mismatches held disks.disks);
     };
-    agrees = first_agrees p m (AllTell held b);
+    agrees = first_agrees p m (run_arrays b) (AllTell held b);
     room = (let r : most_events p ≤ 0 + spare = omega (arith, room) in r);
   }
 
