@@ -212,12 +212,12 @@ module _ (n p : ℕ) (h : IsCut n p) where
       let are = others_are p k in
       let one = diagonal-step k T hk now in
       let two = all-each_of {Q = IsOther p k} (IsWalking n p) (beside k) (λ j T hj now. beside-step k j T hk hj now) os are (apply (diagonal k) T) one.1 in
-      let T2 = run (each_of (beside k) os) (apply (diagonal k) T) in
-      let three = all-each_of {Q = IsOther p k} (IsWalking n p) (below k) (λ i T hi now. below-step k i T hk hi now) os are T2 two.1 in
-      let T3 = run (each_of (below k) os) T2 in
-      let four = all-flat {Q = IsOther p k} (IsWalking n p) (aparts_in_row p k) (λ i T hi now. all-each_of {Q = IsOther p k} (IsWalking n p) (apart k i) (λ j T hj now. apart-step k i j T hk hi hj now) os are T now) os are T3 three.1 in (
-        (one.0, all-append (each_of (beside k) os) (each_of (below k) os ++ flat_map (aparts_in_row p k) os) (apply (diagonal k) T) two.0 (all-append (each_of (below k) os) (flat_map (aparts_in_row p k) os) T2 three.0 four.0)),
-        subst (IsWalking n p) (sym (run-append (each_of (beside k) os) (each_of (below k) os ++ flat_map (aparts_in_row p k) os) (apply (diagonal k) T) ∙ run-append (each_of (below k) os) (flat_map (aparts_in_row p k) os) T2)) four.1,
+      let after_beside = run (each_of (beside k) os) (apply (diagonal k) T) in
+      let three = all-each_of {Q = IsOther p k} (IsWalking n p) (below k) (λ i T hi now. below-step k i T hk hi now) os are after_beside two.1 in
+      let after_below = run (each_of (below k) os) after_beside in
+      let four = all-flat {Q = IsOther p k} (IsWalking n p) (aparts_in_row p k) (λ i T hi now. all-each_of {Q = IsOther p k} (IsWalking n p) (apart k i) (λ j T hj now. apart-step k i j T hk hi hj now) os are T now) os are after_below three.1 in (
+        (one.0, all-append (each_of (beside k) os) (each_of (below k) os ++ flat_map (aparts_in_row p k) os) (apply (diagonal k) T) two.0 (all-append (each_of (below k) os) (flat_map (aparts_in_row p k) os) after_beside three.0 four.0)),
+        subst (IsWalking n p) (sym (run-append (each_of (beside k) os) (each_of (below k) os ++ flat_map (aparts_in_row p k) os) (apply (diagonal k) T) ∙ run-append (each_of (below k) os) (flat_map (aparts_in_row p k) os) after_beside)) four.1,
       )
 
   walk_steps-allowed : (T : State) → IsWalking n p T → AllAllowed T (walk_steps p) × IsWalking n p (run (walk_steps p) T)
