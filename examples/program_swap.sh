@@ -36,6 +36,9 @@ run "$evicts" --swap $'no\nwhere/\e[31m'
 expect 'a path with a line end in it' 6 '' $'starjob: swap no\\?where/\\?\\[31m: No such file or directory\n'"$failed_disk"
 run "$evicts" --swap pipe
 expect 'a pipe to swap to' 6 '' $'starjob: swap pipe: Illegal seek\n'"$failed_disk"
+python3 -c 'import socket; socket.socket(socket.AF_UNIX).bind("socket")'
+run "$evicts" --swap socket
+expect 'a socket to swap to' 6 '' $'starjob: swap socket: Illegal seek\n'"$failed_disk"
 printf %s "$good" | timeout 10 "$program" --swap /dev/stdin > out 2> err
 code=${PIPESTATUS[1]}
 expect 'the input as its own swap' 6 '' $'starjob: swap /dev/stdin: Illegal seek\n'"$failed_disk"

@@ -29,6 +29,8 @@ mod replica;
 #[cfg(test)]
 mod show;
 #[cfg(test)]
+mod steal;
+#[cfg(test)]
 mod summaries;
 #[cfg(test)]
 mod trace;

@@ -89,6 +89,14 @@ impl Tile {
         &self.elements
     }
 
+    /// Its elements alone, row by row. Constant time.
+    pub fn into_elements(self) -> Vec<i64>
+        ensures { result.items ≡ self.elements }
+    {
+        let Tile { dims: _, elements } = self;
+        elements
+    }
+
     /// Its elements, to write to. Constant time.
     pub fn elements_mut(&mut self) -> &mut [i64]
         ensures* writes_back { sem 𝓛 (LendsElements self.entry result) }

@@ -6,3 +6,4 @@ pub mod Rows
 pub mod Elements
 pub mod Names
 pub mod Table
+pub mod NewArrays

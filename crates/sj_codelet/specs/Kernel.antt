@@ -217,6 +217,16 @@ out id args ins = elim (kernel_of id) [ None ↦ [] | Some k ↦ new_arrays k ar
 abbrev pub name_in : (Kernel → Bool) → Codelet → Option (List ℕ)
 name_in has id = elim (kernel_of id) [ None ↦ None | Some k ↦ if has k then name_of k else None ]
 
+-- it is one of min-plus: the others are of ring arithmetic, or move elements as they are
+abbrev pub is_min_plus : Kernel → Bool
+is_min_plus Lowest = true
+is_min_plus MinGemm = true
+is_min_plus FwDiag = true
+is_min_plus FwRow = true
+is_min_plus FwCol = true
+is_min_plus InitLeast = true
+is_min_plus _ = false
+
 -- two runs of it on one array may change places
 abbrev pub commutes_of : Kernel → Bool
 commutes_of Scale = true

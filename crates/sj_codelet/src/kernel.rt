@@ -1,11 +1,18 @@
-//! The table of codelets: their ids and names. A new codelet is one more variant here and one more row in each
-//! column of the table.
+//! The table of codelets. A new codelet is one more variant here, and its place in each column of the table.
 
-ghost use Rattle.std.specs.Prelude.{◌≡◌, option_map};
+ghost use Rattle.std.specs.Prelude.{◌≡◌, ◌<◌, length, slice_get, option_map, IfOk, IsTrue};
 ghost use Rattle.sj_codelet.specs.Kernel.{kernels, kernel_of, codelet_of, name_of, has_name, commutes_of, contributes_of, init_of, combine_of};
+ghost use Rattle.sj_codelet.specs.Kernel.{arguments_of, formals_of, dims_fit, arguments_fit, fits, is_min_plus};
+ghost use Rattle.sj_codelet.specs.Runs.{shape_of};
 
+use crate::formal::{Formal, Shape};
+use crate::shape::{is_single, is_square, is_transposed, multiply, same, window_fits};
+use sj_base::memory::OutOfMemory;
 use sj_base::mode::Reduction;
 use sj_base::program::Codelet;
+use sj_base::sequence::Sequence;
+use sj_base::tile::Dims;
+use std::alloc::Global;
 
 pub const FILL: Codelet = Codelet(0);
 
@@ -108,6 +115,15 @@ pub static KERNELS: [Kernel; 22] = [
     Kernel::InitLeast,
 ];
 
+/// The codelet at a place of the table. Constant time.
+#[tactic(auto, using(crate::proofs::Table::kernel_at))]
+fn kernel_at(place: usize) -> Kernel
+    requires { place < length kernels }
+    ensures { slice_get kernels place ≡ Some result }
+{
+    KERNELS[place]
+}
+
 impl Kernel {
     /// The codelet of an id, or `None` for an id that no codelet has. Constant time.
     pub fn of(id: Codelet) -> Option<Kernel>
@@ -115,7 +131,7 @@ impl Kernel {
     {
         let place = id.0 as usize;
         if place < KERNELS.len() {
-            Some(KERNELS[place])
+            Some(kernel_at(place))
         } else {
             None
         }
@@ -192,6 +208,93 @@ impl Kernel {
         }
     }
 
+    /// How many arguments it takes; `load` takes as many as its operand has elements, which isn't counted here.
+    pub fn arguments(self) -> usize
+        ensures { result ≡ arguments_of self }
+    {
+        match self {
+            Kernel::Fill => 2,
+            Kernel::Scale | Kernel::Axpy => 1,
+            Kernel::LoadFill => 5,
+            Kernel::Paste => 6,
+            _ => 0,
+        }
+    }
+
+    /// The modes of its operands in order. Constant time.
+    pub fn formals(self) -> &'static [Formal]
+        ensures { result.now ≡ formals_of self }
+    {
+        match self {
+            Kernel::Fill | Kernel::Load | Kernel::LoadFill | Kernel::InitPlus | Kernel::InitLeast =>
+                &[Formal::W],
+            Kernel::Copy | Kernel::Transpose => &[Formal::R, Formal::W],
+            Kernel::Scale | Kernel::FwDiag => &[Formal::RW],
+            Kernel::Butterfly => &[Formal::RW, Formal::RW],
+            Kernel::Add
+            | Kernel::Axpy
+            | Kernel::Sum
+            | Kernel::Lowest
+            | Kernel::FwRow
+            | Kernel::FwCol
+            | Kernel::Paste => &[Formal::R, Formal::RW],
+            Kernel::Gemm | Kernel::Dot | Kernel::MinGemm => &[Formal::R, Formal::R, Formal::RW],
+            Kernel::GemmThree => &[Formal::R, Formal::R, Formal::R, Formal::Scratch, Formal::RW],
+            Kernel::Deliver => &[Formal::R],
+        }
+    }
+
+    /// Whether these dimensions, as many as its operands, go together. Constant time.
+    pub fn dims_fit(self, args: &[i64], dims: &[Dims]) -> bool
+        requires arguments { IsTrue (arguments_fit self args.now dims.now) }
+        requires operands { length dims.now ≡ length (formals_of self) }
+        ensures { result ≡ dims_fit self args.now dims.now }
+    {
+        match self {
+            Kernel::Copy | Kernel::Add | Kernel::Axpy | Kernel::Butterfly | Kernel::Lowest => {
+                same(dims[0], dims[1])
+            }
+            Kernel::Gemm | Kernel::MinGemm => multiply(dims[0], dims[1], dims[2]),
+            Kernel::GemmThree => {
+                multiply(dims[0], dims[1], dims[3]) && multiply(dims[3], dims[2], dims[4])
+            }
+            Kernel::Transpose => is_transposed(dims[0], dims[1]),
+            Kernel::Dot => same(dims[0], dims[1]) && is_single(dims[2]),
+            Kernel::Sum => is_single(dims[1]),
+            Kernel::FwDiag => is_square(dims[0]),
+            Kernel::FwRow => is_square(dims[0]) && dims[0].cols == dims[1].rows,
+            Kernel::FwCol => is_square(dims[0]) && dims[1].cols == dims[0].rows,
+            Kernel::Paste => window_fits(args, dims[0], dims[1]),
+            _ => true,
+        }
+    }
+
+    /// Whether the number of arguments is the codelet's. Constant time.
+    pub fn arguments_fit(self, args: &[i64], dims: &[Dims]) -> bool
+        requires { length dims.now ≡ length (formals_of self) }
+        ensures { result ≡ arguments_fit self args.now dims.now }
+    {
+        match self {
+            Kernel::Load => args.len() as u64 == dims[0].area(),
+            _ => args.len() == self.arguments(),
+        }
+    }
+
+    /// Whether it is a codelet of min-plus: the others are of ring arithmetic, or move elements as they are. Constant time.
+    pub fn is_min_plus(self) -> bool
+        ensures { result ≡ is_min_plus self }
+    {
+        matches!(
+            self,
+            Kernel::Lowest
+                | Kernel::MinGemm
+                | Kernel::FwDiag
+                | Kernel::FwRow
+                | Kernel::FwCol
+                | Kernel::InitLeast
+        )
+    }
+
     /// Whether two runs of it on one array may change places. Constant time.
     pub fn commutes(self) -> bool
         ensures { result ≡ commutes_of self }
@@ -246,5 +349,25 @@ impl Kernel {
             Reduction::Plus => Kernel::Add,
             Reduction::Least => Kernel::Lowest,
         }
+    }
+
+    /// Its shape.
+    pub fn shape(self, alloc: Global) -> Result<Shape, OutOfMemory>
+        ensures { IfOk result (λ shape. shape ≡ shape_of self) }
+    {
+        let formals = Vec::from_slice(alloc, self.formals())?;
+        Ok(Shape {
+            args: self.arguments() as u32,
+            formals: Sequence::of(formals),
+        })
+    }
+
+    /// Whether arguments and operands are as many as the codelet has, and the dimensions go together. Constant time.
+    pub fn fits(self, args: &[i64], dims: &[Dims]) -> bool
+        ensures { result ≡ fits self args.now dims.now }
+    {
+        dims.len() == self.formals().len()
+            && self.arguments_fit(args, dims)
+            && self.dims_fit(args, dims)
     }
 }

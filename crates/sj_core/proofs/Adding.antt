@@ -15,7 +15,8 @@ use Rattle.sj_core.proofs.Combining.{call-with, combines, contribution, contribu
 use Rattle.sj_core.proofs.Swapping.{Updates, first_ins, update-call, updated}
 use Rattle.sj_core.proofs.{Copies.copy-bare, Copies.direct-cell}
 use Rattle.sj_core.proofs.{Phases.does_contribute, Phases.kernel-contributes, Phases.reduces, Sized.AreSized}
-use Rattle.sj_core.proofs.{Sized.worked_on-dims, Sized.zeros-tile, Updating.updates}
+use Rattle.sj_codelet.proofs.NewArrays.{zeros-tile}
+use Rattle.sj_core.proofs.{Sized.worked_on-dims, Updating.updates}
 
 module _ (has : Kernel → Bool) (p : Program) (proper : Proper p) (lawful : IsLawful has p) (f : Phase) (phase : IsPhase p f) where
   -- ---- contributions

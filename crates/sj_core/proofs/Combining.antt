@@ -10,7 +10,8 @@ use Rattle.sj_codelet.specs.Kernel.{arguments_fit, commutes_of, contributes_of, 
 use Rattle.sj_codelet.specs.Kernel.{operand}
 use Rattle.sj_codelet.specs.Laws.{DoesContribute, IsCall, IsReduction, IsTile, combined, result_of, unit_of}
 use Rattle.sj_codelet.specs.Formal.{is_output, outputs_among}
-use Rattle.sj_core.proofs.Sized.{fits-parts, inf-long, new_arrays-tiles, operand-tile, tile, zeros-tile}
+use Rattle.sj_codelet.proofs.NewArrays.{inf-long, new_arrays-tiles, operand-tile, tile, zeros-tile}
+use Rattle.sj_core.proofs.Sized.{fits-parts}
 use Rattle.sj_core.proofs.{Swapping.Exchange, Updating.contributing-commutes, Updating.updates-last}
 
 -- ---- what a commuting codelet makes

@@ -1,7 +1,7 @@
 -- A task with a COMMUTE or a REDUX operand updates one cell alone, by its last operand.
-use Rattle.std.proofs.Common.{Bool, List, [], ap, arith, cond, false, inl, inr, length, map, not, refl, subst, suc, sym, true, ◌++◌, ◌<◌, ◌||◌, ◌∙◌, ◌∷◌, ◌≡◌, ◌≢◌, ◌⊎◌, None, Option, Some, Contains, filter, IsTrue}
+use Rattle.std.proofs.Common.{◌&&◌, Bool, List, [], ap, arith, cond, false, inl, inr, length, map, not, refl, subst, suc, sym, true, ◌++◌, ◌<◌, ◌||◌, ◌∙◌, ◌∷◌, ◌≡◌, ◌≢◌, ◌⊎◌, None, Option, Some, Contains, filter, IsTrue}
 use Rattle.std.specs.List.{list_all, list_any}
-use Rattle.std.proofs.lemmas.Bool.{cases_Bool, false≢true, true≢false, not-true, and_from}
+use Rattle.std.proofs.lemmas.Bool.{cases_Bool, false≢true, true≢false, not-true, and_from, and_parts}
 use Rattle.std.proofs.lemmas.List.{map-append}
 use Rattle.std.proofs.lemmas.List.Elements.{All-get_or, Contains-append_cases, Contains-append_left}
 use Rattle.std.proofs.lemmas.List.Sums.{AllPass-from_list_all}
@@ -13,11 +13,10 @@ use Rattle.sj_base.proofs.SameIds.{same_cell-is, same_cell-itself}
 use Rattle.sj_codelet.proofs.Table.{by_table}
 use Rattle.sj_codelet.specs.Formal.{is_output}
 use Rattle.sj_codelet.specs.Kernel.{commutes_of, contributes_of, formals_of, kernel_of}
-use Rattle.sj_codelet.specs.declared.kernel.Kernel.TheVariants.{Add, Axpy, Dot, Gemm, GemmThree, Lowest, MinGemm, Scale, Sum}
 use Rattle.sj_deps.specs.Conflict.{Uses, Conflict, IsShared as IsSharedManner}
 use Rattle.sj_core.specs.Proper.{MayHaveModes, Proper, mode_of, modes_writing_by, own_modes}
 use Rattle.sj_core.specs.Laws.{IsLawful, is_known}
-use Rattle.sj_core.proofs.Words.{Access, Cell, Codelet, CommuteMode, Formal, Kernel, Least, Mode, Plus, Program, R, RW, Read, ReadFormal, Reduction, Redux, Scratch, ScratchFormal, Task, UpdateFormal, Worker, no_task, task_of, worked_on, written_cells, Commute, Contribute, Manner, Write, cells_of, has_cell, same_cell}
+use Rattle.sj_core.proofs.Words.{Access, Cell, Codelet, CommuteMode, Formal, Kernel, Least, Mode, Plus, Program, R, RW, Read, Reduction, Redux, Scratch, Task, UpdateFormal, Worker, no_task, task_of, worked_on, written_cells, Commute, Contribute, Manner, Write, cells_of, has_cell, same_cell}
 use Rattle.sj_core.proofs.Dependencies.{Proper-dependencies, map-from}
 use Rattle.sj_core.proofs.Modes.{written_isn't_scratch}
 use Rattle.sj_core.proofs.Sharing.{manner_of, operand-uses, redux-has_copies, BothCommute, BothContribute, Conflict-sym, Differ, commuting-is, conflict-by, contributing-is, meeting, operand_for, written-isn't_read}
@@ -35,17 +34,25 @@ pub record UpdatesLast (k : Kernel) : Type 0 where
   pub formals : formals_of k ≡ first ++ UpdateFormal ∷ []
   pub read_only : list_all (λ f. not (is_output f)) first ≡ true
 
+-- some operands that get no new array, and behind them one that is updated
+abbrev end_in_update : List Formal → Bool
+end_in_update [] = false
+end_in_update (UpdateFormal ∷ []) = true
+end_in_update (f ∷ fs) = not (is_output f) && end_in_update fs
+
+update-last : (fs : List Formal) → end_in_update fs ≡ true → (first : List Formal) × (fs ≡ first ++ UpdateFormal ∷ []) × (list_all (λ f. not (is_output f)) first ≡ true)
+update-last [] h = absurd (false≢true h)
+update-last (UpdateFormal ∷ []) h = ([], refl, refl)
+update-last (f ∷ fs) h =
+    let parts = and_parts (not (is_output f)) (end_in_update fs) h in
+    let rest = update-last fs parts.1 in
+    (f ∷ rest.0, ap (λ gs. f ∷ gs) rest.1, and_from (not (is_output f)) (list_all (λ g. not (is_output g)) rest.0) parts.0 rest.2)
+
 pub updates-last : (k : Kernel) → commutes_of k ≡ true → UpdatesLast k
-updates-last Scale h = record { first = []; formals = refl; read_only = refl }
-updates-last Add h = record { first = ReadFormal ∷ []; formals = refl; read_only = refl }
-updates-last Axpy h = record { first = ReadFormal ∷ []; formals = refl; read_only = refl }
-updates-last Gemm h = record { first = ReadFormal ∷ ReadFormal ∷ []; formals = refl; read_only = refl }
-updates-last GemmThree h = record { first = ReadFormal ∷ ReadFormal ∷ ReadFormal ∷ ScratchFormal ∷ []; formals = refl; read_only = refl }
-updates-last Dot h = record { first = ReadFormal ∷ ReadFormal ∷ []; formals = refl; read_only = refl }
-updates-last Sum h = record { first = ReadFormal ∷ []; formals = refl; read_only = refl }
-updates-last Lowest h = record { first = ReadFormal ∷ []; formals = refl; read_only = refl }
-updates-last MinGemm h = record { first = ReadFormal ∷ ReadFormal ∷ []; formals = refl; read_only = refl }
-updates-last k h = absurd (false≢true h)
+updates-last k h =
+    let rows = by_table (λ j. not (commutes_of j) || end_in_update (formals_of j)) refl k in
+    let ends = update-last (formals_of k) (implied (commutes_of k) (end_in_update (formals_of k)) rows h) in
+    record { first = ends.0; formals = ends.1; read_only = ends.2 }
 
 -- a contributing codelet commutes
 pub contributing-commutes : (k : Kernel) (by : Reduction) → contributes_of k by ≡ true → commutes_of k ≡ true

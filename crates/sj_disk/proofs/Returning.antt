@@ -23,7 +23,7 @@ use Rattle.sj_disk.specs.Transfers.{Looks, Writes}
 use Rattle.sj_disk.specs.Lending.{IsTaken, has_back, lending}
 use Rattle.sj_disk.specs.Units.{IsSoundUnit, IsWorkedOn, UnitFetches, UnitState, UnitStores, unit_state}
 use Rattle.sj_disk.proofs.Bytes.{length-header_bytes}
-use Rattle.sj_disk.proofs.Sounding.{back-look, back-write, before, changes-set, counts-look, counts-write, each, get-set, inside-disk, inside-fits, keeps-look, keeps-range}
+use Rattle.sj_disk.proofs.Sounding.{back-look, back-write, before, changes-set, counts-look, counts-write, each, get-set, inside-disk, inside-fits, keeps-look, keeps-range, laid-still}
 
 same_number : (d e : DiskNo) → d.0 ≡ e.0 → d ≡ e
 same_number d e h = ap (λ n. let x : DiskNo = record { 0 = n } in x) h
@@ -88,25 +88,6 @@ module _ {D : Type 0} (size faults mismatches : D → ℕ) (held : D → Option 
       | inr ne ↦ (g, sym (others q ne) ∙ eg, refl, refl, refl)
     ]
 
-    laid-back : IsLaidOut sizes taken after
-    laid-back = record {
-      as_many = s.laid_out.as_many;
-      within = s.laid_out.within;
-      on_a_disk = λ q g eg. let h = was q g eg in subst (λ (d : DiskNo). d.0 < length sizes) h.2 (s.laid_out.on_a_disk q h.0 h.1);
-      inside = λ q g eg.
-          let h = was q g eg in
-          let i : h.0.position + block_bytes h.0.length ≤ get_or taken h.0.disk.0 0 = s.laid_out.inside q h.0 h.1 in
-          let same : get_or taken h.0.disk.0 0 ≡ get_or taken g.disk.0 0 = ap (λ (d : DiskNo). get_or taken d.0 0) h.2 in
-          omega (arith, h.3, h.4);
-      apart = λ a b g i ne eg ei same.
-          let x = was a g eg in
-          let y = was b i ei in
-          elim (s.laid_out.apart a b x.0 y.0 ne x.1 y.1 (x.2 ∙ same ∙ sym y.2)) [
-            | inl h ↦ inl (omega (arith, x.3, x.4, y.3, y.4))
-            | inr h ↦ inr (omega (arith, x.3, x.4, y.3, y.4))
-          ];
-    }
-
     module _ (headed : (l : LastStore) → f.last_store ≡ Some l → IsTrue l.ended_ok → Holds held new f (header_bytes (header c l.writes f.length))) where
       headers-back : HaveHeaders held new after
       headers-back q g l eg el ok = elim (cases_eq q c) [
@@ -128,7 +109,7 @@ module _ {D : Type 0} (size faults mismatches : D → ℕ) (held : D → Option 
         filled = λ k y ey.
             let x = before (IsReworked e) e.disk.0 old new ch k y ey in
             each (IsReworked e) (λ x y. Fills (held x) (size x) → Fills (held y) (size y)) e.disk.0 old new ch (λ x h. h) (λ x y ex p h. p.1) k x.0 y x.1 ey (s.filled k x.0 x.1);
-        laid_out = laid-back;
+        laid_out = laid-still sizes taken directory after s.laid_out was;
         headers = headers-back;
       }
 

@@ -133,6 +133,28 @@ gives-same (Some zs) at c writes xs ys n fx fy told hx hy =
     let front : block c writes xs ≡ header_bytes (header c writes (length ys)) ++ element_bytes xs = ap (λ k. header_bytes (header c writes k) ++ element_bytes xs) n in
     element_bytes-same xs ys fx fy (append_cancel_left (header_bytes (header c writes (length ys))) (element_bytes xs) (element_bytes ys) (sym front ∙ same))
 
+-- where each extent lies where one lay before, the layout stays
+pub laid-still : (sizes taken : List ℕ) (old new : List (Option Extent)) → IsLaidOut sizes taken old
+    → ((q : ℕ) (f : Extent) → extent_of new q ≡ Some f → (g : Extent) × (extent_of old q ≡ Some g) × (g.disk ≡ f.disk) × (g.position ≡ f.position) × (g.length ≡ f.length))
+    → IsLaidOut sizes taken new
+laid-still sizes taken old new l was = record {
+  as_many = l.as_many;
+  within = l.within;
+  on_a_disk = λ q f ef. let g = was q f ef in subst (λ (d : DiskNo). d.0 < length sizes) g.2 (l.on_a_disk q g.0 g.1);
+  inside = λ q f ef.
+      let g = was q f ef in
+      let h : g.0.position + block_bytes g.0.length ≤ get_or taken g.0.disk.0 0 = l.inside q g.0 g.1 in
+      let same : get_or taken g.0.disk.0 0 ≡ get_or taken f.disk.0 0 = ap (λ (d : DiskNo). get_or taken d.0 0) g.2 in
+      omega (arith, g.3, g.4);
+  apart = λ a b f g ne ef eg same.
+      let x = was a f ef in
+      let y = was b g eg in
+      elim (l.apart a b x.0 y.0 ne x.1 y.1 (x.2 ∙ same ∙ sym y.2)) [
+        | inl h ↦ inl (omega (arith, x.3, x.4, y.3, y.4))
+        | inr h ↦ inr (omega (arith, x.3, x.4, y.3, y.4))
+      ];
+}
+
 module _ {D : Type 0} (size faults mismatches : D → ℕ) (held : D → Option (List ℕ)) where
   pub tells-still : (a b : Option (List ℕ)) (at n : ℕ) → HoldsAnyIn at n a b → is_some b ≡ is_some a
   tells-still None b at n any = ap is_some any.2
@@ -274,25 +296,6 @@ module _ {D : Type 0} (size faults mismatches : D → ℕ) (held : D → Option 
       | inr ne ↦ (f, sym (others q ne) ∙ ef, refl, refl, refl)
     ]
 
-    laid-store : IsLaidOut sizes taken after
-    laid-store = record {
-      as_many = s.laid_out.as_many;
-      within = s.laid_out.within;
-      on_a_disk = λ q f ef. let g = was q f ef in subst (λ (d : DiskNo). d.0 < length sizes) g.2 (s.laid_out.on_a_disk q g.0 g.1);
-      inside = λ q f ef.
-          let g = was q f ef in
-          let h : g.0.position + block_bytes g.0.length ≤ get_or taken g.0.disk.0 0 = s.laid_out.inside q g.0 g.1 in
-          let same : get_or taken g.0.disk.0 0 ≡ get_or taken f.disk.0 0 = ap (λ (d : DiskNo). get_or taken d.0 0) g.2 in
-          omega (arith, g.3, g.4);
-      apart = λ a b f g ne ef eg same.
-          let x = was a f ef in
-          let y = was b g eg in
-          elim (s.laid_out.apart a b x.0 y.0 ne x.1 y.1 (x.2 ∙ same ∙ sym y.2)) [
-            | inl h ↦ inl (omega (arith, x.3, x.4, y.3, y.4))
-            | inr h ↦ inr (omega (arith, x.3, x.4, y.3, y.4))
-          ];
-    }
-
     put-held : (x y : D) → IsTrue (is_ok r) → W x y → held y ≡ option_map (written e.position (block c writes xs)) (held x)
     unfolding W
     put-held x y ok p = on_ok r ok p.puts_the_bytes
@@ -333,7 +336,7 @@ module _ {D : Type 0} (size faults mismatches : D → ℕ) (held : D → Option 
       filled = λ k y ey.
           let x = before W e.disk.0 old new ch k y ey in
           each W (λ x y. Fills (held x) (size x) → Fills (held y) (size y)) e.disk.0 old new ch (λ x h. h) (λ x y ex p h. subst (λ n. Fills (held y) n) (sym p.size_stays) (subst (λ n. Fills (held y) n) p.size_stays (p.told_bytes_fill_the_size h))) k x.0 y x.1 ey (s.filled k x.0 x.1);
-      laid_out = laid-store;
+      laid_out = laid-still sizes taken directory after s.laid_out was;
       headers = headers-store;
     }
 

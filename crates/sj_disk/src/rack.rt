@@ -69,7 +69,8 @@ impl<D: Drop> Shelf<D> {
 /// Puts each disk on a shelf of its own, in their order. Linear in them; takes no memory.
 fn fill<D: Drop>(disks: &mut Vec<D>, shelves: &mut Vec<Shelf<D>>)
     requires room { vec_len shelves.old + vec_len disks.old ≤ vec_capacity shelves.old }
-    ensures shelves { shelves.new.items ≡ shelves.old.items ++ map (λ x. shelved x false) disks.old.items }
+    ensures shelves { shelves.new.items
+        ≡ shelves.old.items ++ map (λ x. shelved x false) disks.old.items }
     ensures room_is_kept { vec_capacity shelves.old ≤ vec_capacity shelves.new }
     ensures none_left { vec_len disks.new ≡ 0 }
     ensures room_stays { vec_capacity disks.new ≡ vec_capacity disks.old }

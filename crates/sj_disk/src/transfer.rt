@@ -14,14 +14,14 @@ use sj_base::ids::DiskNo;
 use sj_edge::disk::{CheckFault, Disk};
 use sj_edge::source::Failed;
 
-/// How many elements go through the smallest buffer. A block with no more has it, since a buffer is cleared before it is used.
-const FEW: usize = 32;
+/// The bytes of the smallest buffer. A block whose elements have no more has it, since a buffer is cleared before it is used.
+const SMALL: usize = 256;
 
-/// The same of the next one.
-const SOME: usize = 1024;
+/// Those of the next one.
+const MIDDLE: usize = 8_192;
 
-/// How many elements go through a large buffer at a time, so that a disk is called seldom.
-const MANY: usize = 4096;
+/// Those of a large buffer, through which so much goes at a time that a disk is called seldom.
+const LARGE: usize = 32_768;
 
 fn write_piece<D: Disk>(
     disk: &mut D,
@@ -64,28 +64,22 @@ fn write_pieces<D: Disk>(
     Ok(())
 }
 
-/// Writes elements from `at` on, through a large buffer.
-fn write_many<D: Disk>(disk: &mut D, at: u64, elements: &[i64]) -> Result<(), Failed>
+/// Writes elements from `at` on, through a buffer of so many bytes.
+fn write_through<const BYTES: usize, D: Disk>(
+    disk: &mut D,
+    at: u64,
+    elements: &[i64],
+) -> Result<(), Failed>
     requires filled { Fills (D.held disk.old) (D.size disk.old) }
     requires in_range { at + 8 * length elements.now ≤ D.size disk.old }
     requires fits { at + 8 * length elements.now < 2 ^ 64 }
+    requires some { 8 ≤ BYTES }
+    requires few { BYTES < 2 ^ 63 }
     ensures { Writes D.size D.faults D.mismatches D.held at (element_bytes elements.now) result
         disk.old disk.new }
 {
-    let mut buffer = [0u8; 8 * MANY];
-    write_pieces(disk, at, elements, MANY, &mut buffer)
-}
-
-/// Writes elements from `at` on, through a buffer of middle size.
-fn write_some<D: Disk>(disk: &mut D, at: u64, elements: &[i64]) -> Result<(), Failed>
-    requires filled { Fills (D.held disk.old) (D.size disk.old) }
-    requires in_range { at + 8 * length elements.now ≤ D.size disk.old }
-    requires fits { at + 8 * length elements.now < 2 ^ 64 }
-    ensures { Writes D.size D.faults D.mismatches D.held at (element_bytes elements.now) result
-        disk.old disk.new }
-{
-    let mut buffer = [0u8; 8 * SOME];
-    write_pieces(disk, at, elements, SOME, &mut buffer)
+    let mut buffer = [0u8; BYTES];
+    write_pieces(disk, at, elements, BYTES / 8, &mut buffer)
 }
 
 /// Writes elements from `at` on.
@@ -96,14 +90,13 @@ fn write_elements<D: Disk>(disk: &mut D, at: u64, elements: &[i64]) -> Result<()
     ensures { Writes D.size D.faults D.mismatches D.held at (element_bytes elements.now) result
         disk.old disk.new }
 {
-    if elements.len() > SOME {
-        return write_many(disk, at, elements);
+    if elements.len() > MIDDLE / 8 {
+        write_through::<LARGE, D>(disk, at, elements)
+    } else if elements.len() > SMALL / 8 {
+        write_through::<MIDDLE, D>(disk, at, elements)
+    } else {
+        write_through::<SMALL, D>(disk, at, elements)
     }
-    if elements.len() > FEW {
-        return write_some(disk, at, elements);
-    }
-    let mut buffer = [0u8; 8 * FEW];
-    write_pieces(disk, at, elements, FEW, &mut buffer)
 }
 
 fn write_header<D: Disk>(disk: &mut D, at: u64, header: Header) -> Result<(), Failed>
@@ -181,30 +174,23 @@ fn read_pieces<D: Disk>(
     Ok(())
 }
 
-/// Reads the elements from `at` on, through a large buffer.
-fn read_many<D: Disk>(disk: &mut D, at: u64, elements: &mut [i64]) -> Result<(), Failed>
+/// Reads the elements from `at` on, through a buffer of so many bytes.
+fn read_through<const BYTES: usize, D: Disk>(
+    disk: &mut D,
+    at: u64,
+    elements: &mut [i64],
+) -> Result<(), Failed>
     requires in_range { at + 8 * length elements.old ≤ D.size disk.old }
     requires fits { at + 8 * length elements.old < 2 ^ 64 }
+    requires some { 8 ≤ BYTES }
+    requires few { BYTES < 2 ^ 63 }
     ensures looks { Looks D.size D.faults D.mismatches D.held (is_err result) false
         disk.old disk.new }
     ensures gives { OnOk result (GivesHeld (D.held disk.old) at (element_bytes elements.new)) }
     ensures in_range { OnOk result (All (FitsSigned w64) elements.new) }
 {
-    let mut buffer = [0u8; 8 * MANY];
-    read_pieces(disk, at, elements, MANY, &mut buffer)
-}
-
-/// Reads the elements from `at` on, through a buffer of middle size.
-fn read_some<D: Disk>(disk: &mut D, at: u64, elements: &mut [i64]) -> Result<(), Failed>
-    requires in_range { at + 8 * length elements.old ≤ D.size disk.old }
-    requires fits { at + 8 * length elements.old < 2 ^ 64 }
-    ensures looks { Looks D.size D.faults D.mismatches D.held (is_err result) false
-        disk.old disk.new }
-    ensures gives { OnOk result (GivesHeld (D.held disk.old) at (element_bytes elements.new)) }
-    ensures in_range { OnOk result (All (FitsSigned w64) elements.new) }
-{
-    let mut buffer = [0u8; 8 * SOME];
-    read_pieces(disk, at, elements, SOME, &mut buffer)
+    let mut buffer = [0u8; BYTES];
+    read_pieces(disk, at, elements, BYTES / 8, &mut buffer)
 }
 
 /// Reads the elements from `at` on.
@@ -216,14 +202,13 @@ fn read_elements<D: Disk>(disk: &mut D, at: u64, elements: &mut [i64]) -> Result
     ensures gives { OnOk result (GivesHeld (D.held disk.old) at (element_bytes elements.new)) }
     ensures in_range { OnOk result (All (FitsSigned w64) elements.new) }
 {
-    if elements.len() > SOME {
-        return read_many(disk, at, elements);
+    if elements.len() > MIDDLE / 8 {
+        read_through::<LARGE, D>(disk, at, elements)
+    } else if elements.len() > SMALL / 8 {
+        read_through::<MIDDLE, D>(disk, at, elements)
+    } else {
+        read_through::<SMALL, D>(disk, at, elements)
     }
-    if elements.len() > FEW {
-        return read_some(disk, at, elements);
-    }
-    let mut buffer = [0u8; 8 * FEW];
-    read_pieces(disk, at, elements, FEW, &mut buffer)
 }
 
 /// Asks the disk whether this header stands at `at`.

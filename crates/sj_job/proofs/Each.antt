@@ -1,10 +1,7 @@
 -- Going over a list, one element more.
-use Rattle.std.proofs.Common.{◌≡◌, ℕ, suc, ◌&&◌, Bool, true, take, ◌+◌, ◌<◌, List, [], ◌∷◌, ◌++◌, length, get_or, drop, refl, ap, ◌∙◌, sym, arith, Option, Some, None, option_map, append_assoc}
+use Rattle.std.proofs.Common.{◌≡◌, ℕ, suc, ◌+◌, ◌<◌, List, [], ◌∷◌, ◌++◌, length, get_or, drop, refl, ap, ◌∙◌, sym, arith, Option, Some, None, option_map, append_assoc}
 use Rattle.std.proofs.Math.Seq.{drop-cons}
-use Rattle.std.specs.List.{list_all}
-use Rattle.std.proofs.lemmas.List.{get_or_default, take_more}
-use Rattle.std.proofs.lemmas.List.Folds.{list_all-append}
-use Rattle.std.proofs.lemmas.Bool.{and_from}
+use Rattle.std.proofs.lemmas.List.{get_or_default}
 use Rattle.sj_job.specs.Form.{each_some}
 
 -- the tail of a list begins with the element there
@@ -40,8 +37,3 @@ each_more_at f xs i d y front lt e = each_more f xs i (get_or xs i d) y front lt
 
 pub each_none_at : {A B : Type 0} (f : A → Option B) (xs : List A) (i : ℕ) (d : A) (front : List B) → i < length xs → f (get_or xs i d) ≡ None → option_map (λ ys. front ++ ys) (each_some f (drop i xs)) ≡ None
 each_none_at f xs i d front lt e = each_none f xs i (get_or xs i d) front lt (get_or_default xs i (get_or xs i d) d lt) e
-
--- ---- a test of each
-
-pub all_more : {A : Type 0} (p : A → Bool) (xs : List A) (i : ℕ) (d : A) → i < length xs → list_all p (take i xs) ≡ true → p (get_or xs i d) ≡ true → list_all p (take (i + 1) xs) ≡ true
-all_more p xs i d lt h e = ap (list_all p) (take_more xs i d lt) ∙ list_all-append p (take i xs) (get_or xs i d ∷ []) ∙ and_from (list_all p (take i xs)) (p (get_or xs i d) && true) h (and_from (p (get_or xs i d)) true e refl)

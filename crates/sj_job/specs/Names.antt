@@ -17,6 +17,7 @@ use Rattle.sj_job.specs.declared.form.OperandForm.{OperandForm}
 use Rattle.sj_meaning.specs.declared.job.Init.{Init}
 use Rattle.sj_meaning.specs.declared.job.Init.TheVariants.{Values, Fill, Nothing}
 use Rattle.sj_meaning.specs.declared.job.Operand.{Operand as Access}
+use Rattle.sj_meaning.specs.declared.job.TaskLine.{TaskLine}
 use Rattle.sj_job.specs.declared.names.Standing.{Standing}
 use Rattle.sj_job.specs.declared.names.Standing.TheVariants.{Live, Ended}
 use Rattle.sj_job.specs.declared.names.Names.{Names}
@@ -186,6 +187,10 @@ target_in names o = option_map (λ f. target_by f.root f.dims o.mode (index_said
 -- what is kept of it
 abbrev pub operand_by : Target → Access
 operand_by t = record { root = t.root; place = t.place; mode = t.mode }
+
+-- a task as it is kept
+abbrev pub kept_task : Kernel → List ℤ → List Access → ℤ → TaskLine
+kept_task k args os p = record { kernel = k; args = args; operands = os; priority = p }
 
 abbrev pub any_over : List Target → Bool
 any_over ts = list_any (λ t. t.over) ts

@@ -23,7 +23,7 @@ use sj_codelet::set::Codelets;
 const COUNTED: u8 = 6;
 
 /// What shows in operands, one after another.
-#[derive(Clone, Copy, Debug, PartialEq, Eq)]
+#[derive(Clone, Copy)]
 pub struct Crowd {
     /// Each index has counts.
     numbered: bool,

@@ -9,7 +9,7 @@ use sj_base::mode::{Mode, Policy, Reduction};
 use std::marker::Model;
 
 /// A word, or a part of one. Contracts see its bytes.
-#[derive(Debug, Drop)]
+#[derive(Drop)]
 pub struct Piece<'a> {
     bytes: &'a [u8],
 }
@@ -39,7 +39,7 @@ impl<'a> Piece<'a> {
 }
 
 /// Parts of a word, in order: what stands between the commas of a text, if there is one. Contracts see a list of lists of bytes.
-#[derive(Debug, Drop)]
+#[derive(Drop)]
 pub struct Pieces<'a> {
     text: Option<&'a [u8]>,
 }
@@ -97,7 +97,7 @@ fn first_piece(text: &[u8]) -> (&[u8], Pieces<'_>)
 }
 
 /// The first word of a statement line.
-#[derive(Clone, Copy, Debug, PartialEq, Eq)]
+#[derive(Clone, Copy)]
 pub enum Keyword {
     Vector,
     Matrix,
@@ -110,14 +110,14 @@ pub enum Keyword {
 }
 
 /// The dimensions that a registration names: `vector NAME N` or `matrix NAME R C`.
-#[derive(Debug, Drop)]
+#[derive(Drop)]
 pub enum Size<'a> {
     Vector(Piece<'a>),
     Matrix(Piece<'a>, Piece<'a>),
 }
 
 /// `values V1 V2 ..`, `fill A B` or `none`.
-#[derive(Debug, Drop)]
+#[derive(Drop)]
 pub enum InitForm<'a> {
     Values(Words<'a>),
     Fill(Piece<'a>, Piece<'a>),
@@ -125,7 +125,7 @@ pub enum InitForm<'a> {
 }
 
 /// `vector NAME N INIT` or `matrix NAME R C INIT`, with `by r c` before the values or without.
-#[derive(Debug, Drop)]
+#[derive(Drop)]
 pub struct ArrayForm<'a> {
     pub name: Piece<'a>,
     pub size: Size<'a>,
@@ -134,7 +134,7 @@ pub struct ArrayForm<'a> {
 }
 
 /// `NAME:MODE` or `NAME[i,j]:MODE`.
-#[derive(Debug, Drop)]
+#[derive(Drop)]
 pub struct OperandForm<'a> {
     pub name: Piece<'a>,
     pub child: Option<(Piece<'a>, Piece<'a>)>,
@@ -153,7 +153,7 @@ impl<'a> Default for OperandForm<'a> {
 }
 
 /// `CODELET OPERANDS` or `CODELET(ARGUMENTS) OPERANDS`, with `prio=P` behind or without.
-#[derive(Debug, Drop)]
+#[derive(Drop)]
 pub struct TaskForm<'a> {
     pub codelet: Piece<'a>,
     /// None where the codelet's name stands alone.
@@ -163,7 +163,7 @@ pub struct TaskForm<'a> {
 }
 
 /// A settings line: `workers N`, `node BYTES` or `policy P`.
-#[derive(Debug, Drop)]
+#[derive(Drop)]
 pub enum SettingForm<'a> {
     Workers(Piece<'a>),
     Node(Piece<'a>),
@@ -171,7 +171,7 @@ pub enum SettingForm<'a> {
 }
 
 /// A statement line.
-#[derive(Debug, Drop)]
+#[derive(Drop)]
 pub enum Form<'a> {
     Register(ArrayForm<'a>),
     Plan(Piece<'a>, Piece<'a>, Piece<'a>),

@@ -1,27 +1,26 @@
 //! Why a form is refused.
 
 ghost use Rattle.std.specs.Prelude.{◌≡◌, ◌*◌, ◌^◌, Ok, ◌<◌, ◌≤◌, None, Some, true, false, filter, map, length, unwrap_or, All, IfOk, IfErr, IfNone, IsTrue, MatchOption};
-ghost use Rattle.std.specs.List.{list_all, list_any};
+ghost use Rattle.std.specs.List.{list_any};
 ghost use Rattle.sj_codelet.specs.Kernel.{fits};
 ghost use Rattle.sj_plan.specs.Parts.{IsPlace};
 ghost use Rattle.sj_job.specs.declared.names.Names.{Names};
 ghost use Rattle.sj_job.specs.Form.{each_some};
-ghost use Rattle.sj_job.specs.Sentence.{are_counts, priority_said};
+ghost use Rattle.sj_job.specs.Sentence.{index_said, priority_said};
 ghost use Rattle.sj_job.specs.Word.{integer};
-ghost use Rattle.sj_job.specs.Names.{IsCounted, IsEven, IsPlaceIn, any_collide, any_missing, any_over, collide, is_counted_for, is_shaped_for, is_wanting, is_unreduced, is_unlawful_for, are_mixed, law_reasons, no_child, operand_by, plan_in, scope_in, standing_of, target_by, target_dims, target_in, target_reasons, target_under, targets_fit};
+ghost use Rattle.sj_job.specs.Names.{IsCounted, IsEven, IsPlaceIn, any_collide, any_missing, any_over, collide, is_counted_for, is_shaped_for, is_wanting, is_unreduced, is_unlawful_for, are_mixed, kept_task, law_reasons, no_child, operand_by, plan_in, scope_in, standing_of, target_by, target_dims, target_in, target_reasons, target_under, targets_fit};
 ghost use Rattle.sj_meaning.specs.State.{dims_with, plan_with};
 ghost use Rattle.sj_meaning.specs.Table.{root_in, IsRoot};
 ghost use Rattle.sj_job.specs.Track.{IsPlan};
 ghost use Rattle.sj_meaning.specs.View.{task_seen};
 ghost use Rattle.sj_job.specs.Reason.{Objects};
 ghost use Rattle.sj_meaning.specs.Act.{Task};
-ghost use Rattle.sj_job.specs.Judge.{first_of, is_child_said, is_crowded, is_cut, is_miscounted, is_outside, is_uncut, judged_task, name_reasons, plan_reasons, print_reasons, redux_reasons, register_reasons};
+ghost use Rattle.sj_job.specs.Judge.{first_of, is_child_said, is_crowded, is_cut, is_full, is_miscounted, is_outside, is_uncut, judged_task, name_reasons, plan_reasons, print_reasons, redux_reasons, register_reasons};
 ghost use Rattle.sj_meaning.specs.Sound.{is_priority, is_side, mode_fits, needs_value, is_lawful_for, is_unordered};
 ghost use Rattle.sj_base.specs.Mode.{is_written};
 
 use crate::form::{OperandForm, TaskForm};
 use crate::names::{Names, Standing};
-use crate::number::index_of;
 use crate::reason::{LimitKind, Objection, Reason};
 use crate::track::Tracked;
 use sj_base::few::Few;
@@ -226,7 +225,7 @@ pub fn reduced_root(names: &Names, name: &[u8]) -> Result<Root, Reason>
 }
 
 /// An operand of a task line whose root was found.
-#[derive(Clone, Copy, Debug, PartialEq, Eq)]
+#[derive(Clone, Copy)]
 pub struct Target {
     pub root: Root,
     pub mode: Mode,
@@ -325,33 +324,33 @@ fn target_by(
     }
 }
 
-/// An operand with its root, or `None` where its name has none. Linear in its words.
-fn target_of(names: &Names, operand: &OperandForm<'_>) -> Option<Target>
+/// An operand of this index with its root, or `None` where its name has none. Linear in its name.
+fn target_of(names: &Names, operand: &OperandForm<'_>, index: Option<(u64, u64)>) -> Option<Target>
     requires counted { IsCounted names.now }
-    requires numbered { IsTrue (are_counts operand.now.child) }
+    requires index { index ≡ index_said operand.now.child }
     ensures { result ≡ target_in names.now operand.now }
 {
     let root = names.find(operand.name.bytes())?;
     let dims = names.roots.info(root).dims;
-    let index = index_of(&operand.child);
     Some(target_by(root, dims, operand.mode, index, names.standing(root)))
 }
 
-/// The operands with their roots, or `None` where a name has none. Linear in the operands and their words.
+/// The operands of these indexes with their roots, or `None` where a name has none. Linear in the operands and their names.
 fn targets_of(
     alloc: Global,
     names: &Names,
     operands: &[OperandForm<'_>],
+    indexes: &[Option<(u64, u64)>],
 ) -> Result<Option<Few<Target>>, OutOfMemory>
     requires counted { IsCounted names.now }
-    requires numbered { IsTrue (list_all (λ o. are_counts o.child) operands.now) }
+    requires indexes { indexes.now ≡ map (λ o. index_said o.child) operands.now }
     ensures { IfOk result (λ r. MatchOption r
         (each_some (target_in names.now) operands.now ≡ None)
         (λ ts. each_some (target_in names.now) operands.now ≡ Some ts)) }
 {
     let mut targets = Few::empty(alloc);
-    for operand in operands {
-        match target_of(names, operand) {
+    for (n, operand) in operands.iter().enumerate() {
+        match target_of(names, operand, indexes[n]) {
             Some(target) => targets.push(target)?,
             None => return Ok(None),
         }
@@ -620,18 +619,58 @@ fn narrowed(priority: i64) -> i32
     priority as i32
 }
 
-/// The task of a form with these arguments and this priority, or why there is none. Linear in its words, but that the name of
-/// the codelet is looked up in the table.
+/// The codelet and the operands of a task line whose number and priority are within their limits, with these arguments and
+/// indexes of its operands; or why it has none. Linear in its names, but that the codelet's is looked up in the table.
+fn judge_call<C: Codelets>(
+    alloc: Global,
+    names: &Names,
+    form: &TaskForm<'_>,
+    args: &[i64],
+    indexes: &[Option<(u64, u64)>],
+    codelets: &C,
+) -> Result<(Kernel, Few<Operand>), Objection>
+    requires counted { IsCounted names.now }
+    requires room { is_full (scope_in names.now) ≡ false }
+    requires priority { is_priority (priority_said form.now.priority) ≡ true }
+    requires args { args.now ≡ map integer form.now.args }
+    requires indexes { indexes.now ≡ map (λ o. index_said o.child) form.now.operands }
+    ensures ok { IfOk result (λ call.
+        judged_task C.has (scope_in names.now) form.now ≡ Ok (Task (task_seen names.now.roots
+        (kept_task call.0 (map integer form.now.args) call.1 (priority_said form.now.priority))))) }
+    ensures roots { IfOk result (λ call. All (λ o. IsRoot names.now.roots o.root) call.1) }
+    ensures places { IfOk result (λ call.
+        All (λ o. IsPlaceIn (plan_in (standing_of names.now o.root)) o.place) call.1) }
+    ensures err { IfErr result (λ e. Objects e (judged_task C.has (scope_in names.now) form.now)) }
+{
+    let Some(found) = targets_of(alloc, names, form.operands.items(), indexes)? else {
+        return Err(Objection::Bad(Reason::UnknownName));
+    };
+    let targets = found.items();
+    if any_over(targets) {
+        return Err(Objection::Bad(Reason::EndedName));
+    }
+    let Some(kernel) = codelets.kernel_named(form.codelet.bytes()) else {
+        return Err(Objection::Bad(Reason::UnknownCodelet));
+    };
+    if let Some(why) = target_complaint(alloc, codelets, kernel, args, targets)? {
+        return Err(Objection::Bad(why));
+    }
+    Ok((kernel, operands_of(alloc, targets)?))
+}
+
+/// The task of a form with these arguments, indexes of its operands and this priority, or why there is none. Linear in its
+/// names, but that the codelet's is looked up in the table.
 pub fn judge_task<C: Codelets>(
     alloc: Global,
     names: &Names,
     form: &TaskForm<'_>,
     args: Few<i64>,
+    indexes: &[Option<(u64, u64)>],
     priority: i64,
     codelets: &C,
 ) -> Result<TaskLine, Objection>
     requires counted { IsCounted names.now }
-    requires children { IsTrue (list_all (λ o. are_counts o.child) form.now.operands) }
+    requires indexes { indexes.now ≡ map (λ o. index_said o.child) form.now.operands }
     requires args { args ≡ map integer form.now.args }
     requires priority { priority ≡ priority_said form.now.priority }
     ensures ok { IfOk result (λ t.
@@ -647,23 +686,11 @@ pub fn judge_task<C: Codelets>(
     if !has_priority(priority) {
         return Err(Objection::Bad(Reason::Limit(LimitKind::Priority)));
     }
-    let Some(found) = targets_of(alloc, names, form.operands.items())? else {
-        return Err(Objection::Bad(Reason::UnknownName));
-    };
-    let targets = found.items();
-    if any_over(targets) {
-        return Err(Objection::Bad(Reason::EndedName));
-    }
-    let Some(kernel) = codelets.kernel_named(form.codelet.bytes()) else {
-        return Err(Objection::Bad(Reason::UnknownCodelet));
-    };
-    if let Some(why) = target_complaint(alloc, codelets, kernel, args.items(), targets)? {
-        return Err(Objection::Bad(why));
-    }
+    let (kernel, operands) = judge_call(alloc, names, form, args.items(), indexes, codelets)?;
     Ok(TaskLine {
         kernel,
         args,
-        operands: operands_of(alloc, targets)?,
+        operands,
         priority: narrowed(priority),
     })
 }

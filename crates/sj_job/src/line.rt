@@ -124,7 +124,7 @@ fn next_word(line: &[u8]) -> Option<(&[u8], &[u8])>
 }
 
 /// The words of a line, or those behind some of them, in order. Contracts see the list of them.
-#[derive(Debug, Drop)]
+#[derive(Drop)]
 pub struct Words<'a> {
     line: &'a [u8],
 }

@@ -1,12 +1,12 @@
 //! The numbers of a form.
 
-ghost use Rattle.std.specs.Prelude.{◌≡◌, ◌&&◌, true, false, map, take, IfOk, IsTrue, MatchOption};
+ghost use Rattle.std.specs.Prelude.{◌≡◌, ◌&&◌, true, false, map, take, IfOk, MatchOption};
 ghost use Rattle.std.specs.List.{list_all};
 ghost use Rattle.sj_job.specs.Word.{count, is_count, is_integer, integer};
 ghost use Rattle.sj_job.specs.Sentence.{are_counts, is_numbered_size, is_numbered_init, is_numbered_priority, rows_of, cols_of, init_said, first_values, parts_said, index_said, priority_said};
 ghost use Rattle.sj_meaning.specs.State.{plan_with};
 
-use crate::form::{InitForm, Piece, Pieces, Size};
+use crate::form::{InitForm, OperandForm, Piece, Pieces, Size};
 use crate::line::Words;
 use crate::word::{count_of, integer_of};
 use sj_base::few::Few;
@@ -52,15 +52,35 @@ pub fn parts_of(by: &Option<(Piece<'_>, Piece<'_>)>) -> Option<(u64, u64)>
     }
 }
 
-/// The index that two words say, where there are two. Linear in the words.
-pub fn index_of(child: &Option<(Piece<'_>, Piece<'_>)>) -> Option<(u64, u64)>
-    requires { IsTrue (are_counts child.now) }
-    ensures { result ≡ index_said child.now }
+/// The index that two words say, where there are two; `None` where a word says no count. Linear in the words.
+fn index_of(child: &Option<(Piece<'_>, Piece<'_>)>) -> Option<Option<(u64, u64)>>
+    ensures { MatchOption result (are_counts child.now ≡ false)
+        (λ index. (are_counts child.now ≡ true) × (index ≡ index_said child.now)) }
 {
     match child {
-        Some((i, j)) => pair_of(i, j),
-        None => None,
+        Some((i, j)) => Some(Some(pair_of(i, j)?)),
+        None => Some(None),
     }
+}
+
+/// The index of each operand, or `None` where a word says no count. Linear in the words; no memory for up to three operands.
+pub fn indexes_of(
+    alloc: Global,
+    operands: &[OperandForm<'_>],
+) -> Result<Option<Few<Option<(u64, u64)>>>, OutOfMemory>
+    ensures { IfOk result (λ r. MatchOption r
+        (list_all (λ o. are_counts o.child) operands.now ≡ false)
+        (λ indexes. (list_all (λ o. are_counts o.child) operands.now ≡ true)
+        × (indexes ≡ map (λ o. index_said o.child) operands.now))) }
+{
+    let mut indexes = Few::empty(alloc);
+    for operand in operands {
+        match index_of(&operand.child) {
+            Some(index) => indexes.push(index)?,
+            None => return Ok(None),
+        }
+    }
+    Ok(Some(indexes))
 }
 
 /// The integers that words say, or `None` where one says none. Linear in the words.

@@ -3,20 +3,19 @@
 ghost use Rattle.std.specs.Prelude.{◌≡◌, ◌+◌, ◌*◌, ◌<◌, ◌^◌, ◌&&◌, Bool, false, IfOk, IfErr};
 ghost use Rattle.sj_codelet.specs.declared.kernel.Kernel.{Kernel};
 ghost use Rattle.std.specs.Bool.{IsFalse};
-ghost use Rattle.std.specs.List.{list_all};
 ghost use Rattle.sj_job.specs.Judge.{is_outside};
 ghost use Rattle.sj_job.specs.Names.{IsCounted, scope_in};
 ghost use Rattle.sj_job.specs.Reason.{Objects};
-ghost use Rattle.sj_job.specs.Sentence.{kind_of, are_counts};
+ghost use Rattle.sj_job.specs.Sentence.{kind_of};
 ghost use Rattle.sj_meaning.specs.State.{plan_with};
 ghost use Rattle.sj_job.specs.Submits.{done_in, Submits};
 
-use crate::form::{ArrayForm, Form, OperandForm, Piece, Size, TaskForm};
+use crate::form::{ArrayForm, Form, Piece, Size, TaskForm};
 use crate::judge::{
     ELEMENTS, judge_task, named_root, planned_root, printed_root, reduced_root, register_complaint,
 };
 use crate::names::Names;
-use crate::number::{are_counts, init_of, integers, pair_of, parts_of, priority_of, size_of};
+use crate::number::{indexes_of, init_of, integers, pair_of, parts_of, priority_of, size_of};
 use crate::reason::{Objection, Reason};
 use sj_base::mode::Reduction;
 use sj_base::tile::Dims;
@@ -24,12 +23,6 @@ use sj_codelet::set::Codelets;
 use sj_meaning::job::{Act, Kind, RootInfo};
 use sj_plan::parts::Parts;
 use std::alloc::Global;
-
-fn have_counted_children(operands: &[OperandForm<'_>]) -> bool
-    ensures { result ≡ list_all (λ o. are_counts o.child) operands.now }
-{
-    operands.iter().all(|o| are_counts(&o.child))
-}
 
 fn kind_of(size: &Size<'_>) -> Kind
     ensures { result ≡ kind_of size.now }
@@ -152,13 +145,21 @@ fn submit_task<C: Codelets>(
     let Some(args) = integers(alloc, &task.args)? else {
         return Err(Objection::Bad(Reason::Number));
     };
-    if !have_counted_children(task.operands.items()) {
+    let Some(indexes) = indexes_of(alloc, task.operands.items())? else {
         return Err(Objection::Bad(Reason::Number));
-    }
+    };
     let Some(priority) = priority_of(&task.priority) else {
         return Err(Objection::Bad(Reason::Number));
     };
-    let task = judge_task(alloc, names, task, args, priority, codelets)?;
+    let task = judge_task(
+        alloc,
+        names,
+        task,
+        args,
+        indexes.items(),
+        priority,
+        codelets,
+    )?;
     names.run(alloc, &task)?;
     Ok(Act::Task(task))
 }

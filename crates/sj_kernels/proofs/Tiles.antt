@@ -1,21 +1,14 @@
 -- What a kernel over slices makes of a whole tile.
-use Rattle.std.proofs.Common.{◌≡◌, ℕ, ℤ, ◌+ℤ◌, ◌*ℤ◌, List, [], ◌∷◌, ◌++◌, length, to_z, of_z, w64, FitsSigned, refl, sym, ap, ◌∙◌, arith}
-use Rattle.std.proofs.lemmas.List.{length-append}
+use Rattle.std.proofs.Common.{◌≡◌, ℕ, ℤ, ◌+ℤ◌, ◌*ℤ◌, List, length, to_z, of_z, w64, FitsSigned, sym, ap, ◌∙◌, arith}
 use Rattle.std.proofs.lemmas.Int.{to_z-of_z}
 use Rattle.sj_base.specs.declared.tile.Dims.{Dims}
 use Rattle.sj_base.specs.Array.{Array, array, area, at, each}
 use Rattle.sj_base.specs.Lending.{with_elements}
-use Rattle.sj_codelet.specs.declared.kernel.Kernel.TheVariants.{GemmThree}
-use Rattle.sj_codelet.specs.declared.formal.Formal.TheVariants.{R, RW, Scratch}
 use Rattle.sj_codelet.specs.declared.window.Window.{Window}
 use Rattle.sj_codelet.specs.Ring.{wrap, sum_below}
-use Rattle.sj_codelet.specs.Frame.{Slot, Frame, own, arrays, all_dims, written, AllKeep}
-use Rattle.sj_codelet.specs.Kernel.{new_arrays, operand, dims_at}
-use Rattle.sj_codelet.specs.Runs.{IsReadyOf, IsRunOf}
 use Rattle.sj_codelet.specs.Equations.{vector, matrix, axpy, dot, gemm3, loadfill, paste}
-use Rattle.sj_codelet.proofs.Operands.{each_of_elements, with_all, operands_are, dims_go, dims_at-all_dims}
+use Rattle.sj_codelet.proofs.Operands.{each_of_elements, with_all}
 use Rattle.std.proofs.lemmas.List.FromFn.{length-map-range_with_len}
-use Rattle.std.proofs.lemmas.Bool.Decides.{nat_tests}
 
 -- a number as a call passes it on
 abbrev pub passed : ℤ → ℤ
@@ -33,29 +26,6 @@ dot_on_tiles x y s xs ys ss new ex ey es wx ws e =
     ap (λ (zs : List ℤ). with_elements s zs) (e ∙ ap (λ (zs : List ℤ). (dot (vector zs) (vector ys) (vector ss)).elements) ex ∙ ap (λ (zs : List ℤ). (dot (vector x.elements) (vector zs) (vector ss)).elements) ey ∙ ap (λ (zs : List ℤ). (dot (vector x.elements) (vector y.elements) (vector zs)).elements) es)
     ∙ each_of_elements s (f (area (vector x.elements).dims)) ws ∙ ap (λ (k : ℕ). each s.dims (f k)) n
 
-ran_three : (before : List Slot) (t u y z : Array) → length before ≡ 3 → u.dims ≡ t.dims → z.dims ≡ y.dims
-    → (written (R ∷ R ∷ R ∷ Scratch ∷ RW ∷ []) ((before ++ own u ∷ []) ++ own z ∷ []) ≡ z ∷ []) × AllKeep (R ∷ R ∷ R ∷ Scratch ∷ RW ∷ []) ((before ++ own t ∷ []) ++ own y ∷ []) ((before ++ own u ∷ []) ++ own z ∷ [])
-ran_three [] t u y z l du dz = absurd (omega arith)
-ran_three (a ∷ []) t u y z l du dz = absurd (omega arith)
-ran_three (a ∷ b ∷ []) t u y z l du dz = absurd (omega arith)
-ran_three (a ∷ b ∷ d ∷ []) t u y z l du dz = (refl, (refl, (refl, (refl, ((refl, du), ((refl, dz), tt))))))
-ran_three (a ∷ b ∷ d ∷ e ∷ before) t u y z l du dz = absurd (omega arith)
-
--- a run that writes the scratch operand and the last one
-pub ran_with_scratch : (args : List ℤ) (old new : Frame) (before : List Slot) (t u y z : Array) → IsReadyOf GemmThree args old.slots
-    → old.slots ≡ (before ++ own t ∷ []) ++ own y ∷ [] → new.slots ≡ (before ++ own u ∷ []) ++ own z ∷ []
-    → new.spare ≡ old.spare → u.dims ≡ t.dims → z.dims ≡ y.dims → new_arrays GemmThree args (arrays old.slots) ≡ z ∷ [] → IsRunOf GemmThree args old new
-ran_with_scratch args old new before t u y z ready e e' r du dz o =
-    let n = operands_are GemmThree args old.slots ready in
-    let m = length-append (before ++ own t ∷ []) (own y ∷ []) in
-    let k = length-append before (own t ∷ []) in
-    let both = ran_three before t u y z (omega (arith, ap length e)) du dz in
-    record {
-      written = ap (written (R ∷ R ∷ R ∷ Scratch ∷ RW ∷ [])) e' ∙ both.0 ∙ sym o;
-      kept = rw (e, e') both.1;
-      room = r;
-    }
-
 pub gemm3_on_tiles : (m k l n : ℕ) (a b d y : Array) (as' bs ds ys new : List ℤ) → as' ≡ a.elements → bs ≡ b.elements → ds ≡ d.elements → ys ≡ y.elements
     → m ≡ y.dims.rows → k ≡ a.dims.cols → l ≡ b.dims.cols → n ≡ y.dims.cols → d.dims.cols ≡ y.dims.cols → length y.elements ≡ area y.dims
     → new ≡ (gemm3 (matrix m k as') (matrix k l bs) (matrix l n ds) (matrix m n ys)).elements → with_elements y new ≡ gemm3 a b d y
@@ -69,19 +39,6 @@ gemm3_on_tiles m k l n a b d y as' bs ds ys new ea eb ed ey em ek el en cols who
     ∙ ap (λ (q : ℕ). v y.dims.rows a.dims.cols b.dims.cols d.dims.cols q a.elements b.elements d.elements y.elements) en in
     let long : length (gemm3 a b d y).elements ≡ length y.elements = length-map-range_with_len _ 0 (area y.dims) ∙ sym whole in
     ap (λ (zs : List ℤ). with_elements y zs) same ∙ with_all y (gemm3 a b d y).elements long
-
-pub gemm3_dims : (args : List ℤ) (slots : List Slot) → IsReadyOf GemmThree args slots
-    → ((operand (arrays slots) 3).dims.rows ≡ (operand (arrays slots) 4).dims.rows) × ((operand (arrays slots) 3).dims.cols ≡ (operand (arrays slots) 1).dims.cols) × ((operand (arrays slots) 2).dims.cols ≡ (operand (arrays slots) 4).dims.cols)
-gemm3_dims args slots ready =
-    let ds = all_dims slots in
-    let go = dims_go GemmThree args slots ready in
-    let rows : (dims_at ds 3).rows ≡ (dims_at ds 4).rows = grind (arith, nat_tests) in
-    let inner : (dims_at ds 1).cols ≡ (dims_at ds 3).cols = grind (arith, nat_tests) in
-    let cols : (dims_at ds 2).cols ≡ (dims_at ds 4).cols = grind (arith, nat_tests) in
-    let at' = dims_at-all_dims slots in
-    let r = λ (d : Dims). d.rows in
-    let k = λ (d : Dims). d.cols in
-    (sym (ap r (at' 3)) ∙ rows ∙ ap r (at' 4), sym (ap k (at' 3)) ∙ sym inner ∙ ap k (at' 1), sym (ap k (at' 2)) ∙ cols ∙ ap k (at' 4))
 
 pub loadfill_on_tile : (args : List ℤ) (x : Array) (xs new : List ℤ) (d : Dims) → xs ≡ x.elements → d ≡ x.dims → length x.elements ≡ area x.dims
     → FitsSigned w64 (at args 0) → FitsSigned w64 (at args 1) → FitsSigned w64 (at args 2) → FitsSigned w64 (at args 3) → FitsSigned w64 (at args 4)

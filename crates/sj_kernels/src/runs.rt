@@ -1,6 +1,8 @@
 //! Each kernel on a task's frame: what it writes is taken out, written, and put back.
 
+ghost use Rattle.std.specs.Prelude.{IsTrue};
 ghost use Rattle.sj_codelet.specs.Runs.{IsReadyOf, IsRunOf};
+ghost use Rattle.sj_kernels.specs.Has.{ring_has};
 
 use crate::elementwise::{add, axpy, butterfly, copy, fill, scale};
 use crate::placement::{loadfill, paste, transpose};
@@ -9,6 +11,33 @@ use crate::reduction::{dot, sum};
 use sj_codelet::frame::Frame;
 use sj_codelet::kernel::Kernel;
 use sj_codelet::window::Window;
+
+/// Runs a kernel of the set on a frame.
+pub(crate) fn run_kernel(kernel: Kernel, args: &[i64], frame: &mut Frame)
+    requires known { IsTrue (ring_has kernel) }
+    requires ready { IsReadyOf kernel args.now frame.old.slots }
+    ensures { IsRunOf kernel args.now frame.old frame.new }
+{
+    match kernel {
+        Kernel::Fill => run_fill(args, frame),
+        Kernel::Copy => run_copy(args, frame),
+        Kernel::Scale => run_scale(args, frame),
+        Kernel::Add => run_add(args, frame),
+        Kernel::Axpy => run_axpy(args, frame),
+        Kernel::Butterfly => run_butterfly(args, frame),
+        Kernel::Gemm => run_gemm(args, frame),
+        Kernel::GemmThree => run_gemm3(args, frame),
+        Kernel::Transpose => run_transpose(args, frame),
+        Kernel::Dot => run_dot(args, frame),
+        Kernel::Sum => run_sum(args, frame),
+        Kernel::Load => run_load(args, frame),
+        Kernel::LoadFill => run_loadfill(args, frame),
+        Kernel::Paste => run_paste(args, frame),
+        Kernel::Deliver => run_deliver(args, frame),
+        Kernel::InitPlus => run_init_plus(args, frame),
+        _ => unreachable!(),
+    }
+}
 
 pub fn run_fill(args: &[i64], frame: &mut Frame)
     requires { IsReadyOf Kernel.Fill args.now frame.old.slots }

@@ -61,7 +61,7 @@ use Rattle.sj_lower.proofs.Opening.{IsOpened, IsChildOf}
 use Rattle.sj_lower.proofs.Operands.{IsRead, Contributes, all-before, snoc-parts}
 use Rattle.sj_lower.proofs.Running.{is_direct, IsClosed, kernel_there, child_there, child_dims-are, child_values-are, active_cell-is, seen_there, by_mode, data_needs, new_dims, new_whole}
 use Rattle.sj_lower.proofs.Stating.{Begins, stands-own, IsActiveChild, Agrees, by_cell}
-use Rattle.sj_lower.proofs.Writing.{AreWhole}
+use Rattle.sj_codelet.proofs.NewArrays.{AreWhole}
 
 -- ---- what the task line leaves
 

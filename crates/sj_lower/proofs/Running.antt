@@ -46,7 +46,8 @@ use Rattle.sj_lower.proofs.Elements.{child-whole}
 use Rattle.sj_lower.proofs.Holding.{HasCells, HaveRoots, HaveTheirs, GivesAll, IsOther, same_child, cell-dims, holds-put_all, holds-later, holds-same}
 use Rattle.sj_lower.proofs.Combined.{IsTrusted, Phases, denoted-closed}
 use Rattle.sj_lower.proofs.Laid.{AreLaid}
-use Rattle.sj_lower.proofs.Writing.{outputs-written, AreWhole, out_dims, out_whole, IsCall, call_of, fit_from_fits}
+use Rattle.sj_codelet.proofs.NewArrays.{AreWhole}
+use Rattle.sj_lower.proofs.Writing.{outputs-written, out_dims, out_whole, IsCall, call_of, fit_from_fits}
 use Rattle.sj_job.proofs.Children.{place-from_test}
 
 -- ---- words

@@ -27,7 +27,7 @@ use std::alloc::Global;
 pub const MOST: usize = 262_144;
 
 /// A plan that a root has taken: the root's number, and how many parts of rows and of columns.
-#[derive(Clone, Copy, Debug, PartialEq, Eq, Hash)]
+#[derive(Clone, Copy, PartialEq, Eq, Hash)]
 pub struct Taken {
     pub root: u32,
     pub r: u32,

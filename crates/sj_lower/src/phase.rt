@@ -1,22 +1,21 @@
 //! Phases of contributions to a cell, and the tasks that begin and close them.
 
 ghost use Rattle.std.specs.Prelude.{◌≡◌, ◌+◌, ◌≤◌, ◌++◌, IfOk, OnOk};
-ghost use Rattle.sj_codelet.specs.Kernel.{codelet_of, init_of, combine_of};
 ghost use Rattle.sj_lower.specs.Lowering.{begin_rows};
 ghost use Rattle.sj_lower.specs.Rows.{init_row, init_rows, combine_row, combine_rows};
 
-use crate::rows::own_task;
+use crate::rows::{own_task, task_on};
 use sj_base::few::Few;
 use sj_base::ids::{Cell, Line};
 use sj_base::memory::OutOfMemory;
 use sj_base::mode::{Access, Mode, Reduction};
-use sj_base::program::{Codelet, Lowered};
+use sj_base::program::Lowered;
 use sj_codelet::kernel::Kernel;
 use std::alloc::Global;
 
 /// A phase of contributions to a cell that is open: partial copies of the cell get them, and are combined into it when the phase
 /// is closed (StarPU: REDUX).
-#[derive(Clone, Copy, Debug, PartialEq, Eq)]
+#[derive(Clone, Copy)]
 pub struct OpenPhase {
     pub by: Reduction,
     /// The first of the cell's partial copies, which are one for each worker.
@@ -25,38 +24,12 @@ pub struct OpenPhase {
     pub line: Line,
 }
 
-/// The codelet that makes a reduction's unit.
-fn init_codelet(by: Reduction) -> Codelet
-    ensures { result ≡ codelet_of (init_of by) }
-{
-    match by {
-        Reduction::Plus => Kernel::InitPlus.id(),
-        Reduction::Least => Kernel::InitLeast.id(),
-    }
-}
-
-/// The codelet that combines a partial copy into another array.
-fn combine_codelet(by: Reduction) -> Codelet
-    ensures { result ≡ codelet_of (combine_of by) }
-{
-    match by {
-        Reduction::Plus => Kernel::Add.id(),
-        Reduction::Least => Kernel::Lowest.id(),
-    }
-}
-
 /// Gives a cell the reduction's unit.
 fn init_row(alloc: Global, by: Reduction, line: Line, cell: Cell) -> Result<Lowered, OutOfMemory>
     ensures { IfOk result (λ l. l ≡ init_row by line cell) }
 {
-    let accesses = Few::of(
-        alloc,
-        [Access {
-            mode: Mode::W,
-            cell,
-        }],
-    )?;
-    Ok(own_task(init_codelet(by), Vec::new(alloc), accesses, line))
+    let unit = Kernel::init(by).id();
+    task_on(alloc, unit, Vec::new(alloc), Mode::W, cell, line)
 }
 
 /// Gives the partial copies of so many workers, from the first on, the reduction's unit. Linear in the workers.
@@ -118,7 +91,7 @@ fn combine_row(
         cell,
     };
     let accesses = Few::of(alloc, [from, to])?;
-    Ok(own_task(combine_codelet(by), Vec::new(alloc), accesses, line))
+    Ok(own_task(Kernel::combine(by).id(), Vec::new(alloc), accesses, line))
 }
 
 /// Closes a phase of a cell: its partial copies are combined into it, by worker. Linear in the workers.

@@ -1,14 +1,14 @@
 //! The tasks that no task line names, for the children of a root.
 
-ghost use Rattle.std.specs.Prelude.{◌≡◌, ◌+◌, ◌<◌, ◌≤◌, ◌++◌, length, map, IfOk, OnOk};
+ghost use Rattle.std.specs.Prelude.{◌≡◌, ◌+◌, ◌<◌, ◌≤◌, ◌++◌, ◌∷◌, [], length, map, IfOk, OnOk};
 ghost use Rattle.sj_base.specs.Array.{area};
+ghost use Rattle.sj_base.specs.Mode.{access};
 ghost use Rattle.sj_base.specs.declared.tile.Dims.{Dims};
 ghost use Rattle.sj_meaning.specs.declared.job.Init.TheVariants.{Values, Fill};
 ghost use Rattle.sj_job.specs.Track.{children_count, IsPlan};
 ghost use Rattle.sj_plan.specs.Parts.{Fits, IsPlace, places};
 ghost use Rattle.sj_plan.specs.Paste.{pastes_of};
 ghost use Rattle.sj_plan.specs.Rect.{Within};
-ghost use Rattle.sj_plan.specs.Window.{window};
 ghost use Rattle.sj_lower.specs.Cells.{cells_from};
 ghost use Rattle.sj_lower.specs.Rows.{task_by, load_row, fill_arguments, fill_row, paste_row, deliver_row, paste_arguments, paste_mode};
 ghost use Rattle.sj_lower.specs.Lowering.{load_rows, a_delivery};
@@ -29,7 +29,7 @@ use sj_plan::tiles::split;
 use std::alloc::Global;
 
 /// A plan whose children have cells, from this one on, row by row.
-#[derive(Clone, Copy, Debug, PartialEq, Eq)]
+#[derive(Clone, Copy)]
 pub struct Placed {
     pub parts: Parts,
     pub first: u32,
@@ -59,16 +59,22 @@ pub fn own_task(codelet: Codelet, args: Vec<i64>, accesses: Few<Access>, line: L
     }
 }
 
-/// A root's elements at one child: the arguments of its load. Linear in the child's elements.
-fn load_arguments(alloc: Global, whole: &Tile, rect: Rect) -> Result<Vec<i64>, OutOfMemory>
-    requires { Within rect whole.now.dims }
-    ensures { IfOk result (λ args. args.items ≡ (window whole.now rect).elements) }
+/// A task of the runtime's own codelets that accesses one cell.
+pub fn task_on(
+    alloc: Global,
+    codelet: Codelet,
+    args: Vec<i64>,
+    mode: Mode,
+    cell: Cell,
+    line: Line,
+) -> Result<Lowered, OutOfMemory>
+    ensures { IfOk result (λ l. l ≡ task_by codelet args.items (access mode cell ∷ []) line) }
 {
-    let child = split(alloc, whole, rect)?;
-    Ok(Vec::from_slice(alloc, child.elements())?)
+    let accesses = Few::of(alloc, [Access { mode, cell }])?;
+    Ok(own_task(codelet, args, accesses, line))
 }
 
-/// Loads one child of a root with its elements.
+/// Loads one child of a root with its elements, which are copied once. Linear in them.
 fn load_row(
     alloc: Global,
     whole: &Tile,
@@ -79,15 +85,8 @@ fn load_row(
     requires { Within rect whole.now.dims }
     ensures { IfOk result (λ l. l ≡ load_row whole.now.elements whole.now.dims rect cell line) }
 {
-    let args = load_arguments(alloc, whole, rect)?;
-    let accesses = Few::of(
-        alloc,
-        [Access {
-            mode: Mode::W,
-            cell,
-        }],
-    )?;
-    Ok(own_task(LOAD, args, accesses, line))
+    let child = split(alloc, whole, rect)?;
+    task_on(alloc, LOAD, child.into_elements(), Mode::W, cell, line)
 }
 
 /// Loads each child of a root with these elements. Linear in the elements; a root of one child gives its own list away.
@@ -106,13 +105,10 @@ pub fn push_loads(
         ++ load_rows (Values values) dims placed.parts
         (cells_from placed.first placed.parts) line) }
 {
-    let write = Access {
-        mode: Mode::W,
-        cell: Cell(placed.first),
-    };
     if placed.parts.r * placed.parts.c == 1 {
-        let accesses = Few::of(alloc, [write])?;
-        tasks.push(own_task(LOAD, values.into_items(), accesses, line))?;
+        let cell = Cell(placed.first);
+        let args = values.into_items();
+        tasks.push(task_on(alloc, LOAD, args, Mode::W, cell, line)?)?;
         return Ok(());
     }
     let whole = Tile::of(dims, values.into_items());
@@ -174,14 +170,7 @@ fn fill_row(
     ensures { IfOk result (λ l. l ≡ fill_row fill.0 fill.1 dims rect cell line) }
 {
     let args = fill_arguments(alloc, fill, dims.cols, rect)?;
-    let accesses = Few::of(
-        alloc,
-        [Access {
-            mode: Mode::W,
-            cell,
-        }],
-    )?;
-    Ok(own_task(LOADFILL, args, accesses, line))
+    task_on(alloc, LOADFILL, args, Mode::W, cell, line)
 }
 
 /// Loads each child of a root whose element at position i is `a + b·i`. Linear in the children.
@@ -287,14 +276,7 @@ pub fn push_pastes(
 fn deliver_row(alloc: Global, cell: Cell, line: Line) -> Result<Lowered, OutOfMemory>
     ensures { IfOk result (λ l. l ≡ deliver_row cell line) }
 {
-    let accesses = Few::of(
-        alloc,
-        [Access {
-            mode: Mode::R,
-            cell,
-        }],
-    )?;
-    Ok(own_task(DELIVER, Vec::new(alloc), accesses, line))
+    task_on(alloc, DELIVER, Vec::new(alloc), Mode::R, cell, line)
 }
 
 /// Hands over the cell of each child of a plan. Linear in the children.

@@ -1,10 +1,14 @@
 -- Why the codelets of `least` meet the laws of a set.
-use Rattle.std.proofs.Common.{◌≡◌, ◌+◌, ◌≤ℤ◌, List, [], ◌∷◌, ◌++◌, ℤ, pos, negsuc, length, sym, arith, FitsSigned}
+use Rattle.std.proofs.Common.{◌≡◌, true, ◌&&◌, ◌+◌, ◌≤ℤ◌, List, [], ◌∷◌, ◌++◌, ℤ, pos, negsuc, length, sym, arith, FitsSigned}
 use Rattle.std.specs.Int.{w64}
 use Rattle.std.proofs.lemmas.Int.{ints}
+use Rattle.std.proofs.lemmas.Bool.{false≢true}
+use Rattle.sj_base.specs.declared.mode.Reduction.{Reduction}
 use Rattle.sj_base.specs.declared.mode.Reduction.TheVariants.{Least}
 use Rattle.sj_base.specs.Array.{Array, at}
 use Rattle.sj_codelet.specs.declared.kernel.Kernel.TheVariants.{Lowest, MinGemm}
+use Rattle.sj_codelet.specs.declared.kernel.Kernel.{Kernel}
+use Rattle.sj_codelet.specs.Kernel.{is_min_plus, commutes_of, contributes_of}
 use Rattle.sj_codelet.specs.MinPlus.{inf}
 use Rattle.sj_codelet.specs.Laws.{IsTile, IsCall, result_of, unit_of, combined, DoCommute, DoesContribute, IsReduction}
 use Rattle.sj_codelet.proofs.Operands.{operands_before}
@@ -29,7 +33,7 @@ lowest_order args args' (x ∷ y ∷ before) before' v e f = absurd (omega arith
 lowest_order args args' (x ∷ []) [] v e f = absurd (omega arith)
 lowest_order args args' (x ∷ []) (y ∷ z ∷ before') v e f = absurd (omega arith)
 
-pub lowest_commutes : DoCommute Lowest
+lowest_commutes : DoCommute Lowest
 lowest_commutes = record {
   either_order = λ args args' before before' v c c'. lowest_order args args' before before' v (operands_before Lowest args before v c) (operands_before Lowest args' before' v c');
 }
@@ -39,7 +43,7 @@ lowest_through args (x ∷ []) v e c = lowest_contributes x v (tile_below v (c.t
 lowest_through args [] v e c = absurd (omega arith)
 lowest_through args (x ∷ y ∷ before) v e c = absurd (omega arith)
 
-pub lowest_adds : DoesContribute Lowest Least
+lowest_adds : DoesContribute Lowest Least
 lowest_adds = record { through_unit = λ args before v c. lowest_through args before v (operands_before Lowest args before v c) c }
 
 -- ---- mingemm
@@ -53,7 +57,7 @@ mingemm_order args args' (a ∷ b ∷ []) [] v h f = absurd (omega arith)
 mingemm_order args args' (a ∷ b ∷ []) (d ∷ []) v h f = absurd (omega arith)
 mingemm_order args args' (a ∷ b ∷ []) (d ∷ e ∷ g ∷ before') v h f = absurd (omega arith)
 
-pub mingemm_commutes : DoCommute MinGemm
+mingemm_commutes : DoCommute MinGemm
 mingemm_commutes = record {
   either_order = λ args args' before before' v c c'. mingemm_order args args' before before' v (operands_before MinGemm args before v c) (operands_before MinGemm args' before' v c');
 }
@@ -64,8 +68,20 @@ mingemm_through args [] v h c = absurd (omega arith)
 mingemm_through args (a ∷ []) v h c = absurd (omega arith)
 mingemm_through args (a ∷ b ∷ g ∷ before) v h c = absurd (omega arith)
 
-pub mingemm_adds : DoesContribute MinGemm Least
+mingemm_adds : DoesContribute MinGemm Least
 mingemm_adds = record { through_unit = λ args before v c. mingemm_through args before v (operands_before MinGemm args before v c) c }
+
+-- ---- of a codelet of min-plus
+
+pub least_commuting : (k : Kernel) → (is_min_plus k && commutes_of k) ≡ true → DoCommute k
+least_commuting Lowest h = lowest_commutes
+least_commuting MinGemm h = mingemm_commutes
+least_commuting k h = absurd (false≢true h)
+
+pub least_contributing : (k : Kernel) (by : Reduction) → (is_min_plus k && contributes_of k by) ≡ true → DoesContribute k by
+least_contributing Lowest Least h = lowest_adds
+least_contributing MinGemm Least h = mingemm_adds
+least_contributing k by h = absurd (false≢true h)
 
 -- ---- the reduction
 

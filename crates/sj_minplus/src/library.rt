@@ -1,12 +1,10 @@
 //! The set of all codelets.
 
-ghost use Rattle.std.specs.Prelude.{◌≡◌, IsTrue, not};
-ghost use Rattle.sj_codelet.specs.Runs.{IsReadyOf, IsRunOf};
-ghost use Rattle.sj_kernels.specs.Has.{ring_has};
+ghost use Rattle.std.specs.Prelude.{◌≡◌};
 ghost use Rattle.sj_minplus.specs.Has.{library_has};
 ghost use Rattle.sj_minplus.specs.LibraryLaws.{library_commuting, library_contributing, library_reducing};
 
-use crate::runs::{run_fwcol, run_fwdiag, run_fwrow, run_init_least, run_lowest, run_mingemm};
+use crate::runs::run_kernel;
 use sj_base::memory::OutOfMemory;
 use sj_base::program::Codelet;
 use sj_codelet::frame::Frame;
@@ -46,22 +44,5 @@ impl Codelets for Library {
             }
             _ => Ring.run(alloc, id, args, frame),
         }
-    }
-}
-
-/// Runs a codelet of min-plus on a frame.
-fn run_kernel(kernel: Kernel, args: &[i64], frame: &mut Frame)
-    requires known { IsTrue (not (ring_has kernel)) }
-    requires ready { IsReadyOf kernel args.now frame.old.slots }
-    ensures { IsRunOf kernel args.now frame.old frame.new }
-{
-    match kernel {
-        Kernel::Lowest => run_lowest(args, frame),
-        Kernel::MinGemm => run_mingemm(args, frame),
-        Kernel::FwDiag => run_fwdiag(args, frame),
-        Kernel::FwRow => run_fwrow(args, frame),
-        Kernel::FwCol => run_fwcol(args, frame),
-        Kernel::InitLeast => run_init_least(args, frame),
-        _ => unreachable!(),
     }
 }

@@ -1,12 +1,31 @@
 //! Each min-plus kernel on a task's frame: the last operand is taken out, written, and put back.
 
+ghost use Rattle.std.specs.Prelude.{IsTrue, not};
 ghost use Rattle.sj_codelet.specs.Runs.{IsReadyOf, IsRunOf};
+ghost use Rattle.sj_kernels.specs.Has.{ring_has};
 
 use crate::least::{init_least, lowest};
 use crate::product::mingemm;
 use crate::ways::{fwcol, fwdiag, fwrow};
 use sj_codelet::frame::Frame;
 use sj_codelet::kernel::Kernel;
+
+/// Runs a codelet of min-plus on a frame.
+pub(crate) fn run_kernel(kernel: Kernel, args: &[i64], frame: &mut Frame)
+    requires known { IsTrue (not (ring_has kernel)) }
+    requires ready { IsReadyOf kernel args.now frame.old.slots }
+    ensures { IsRunOf kernel args.now frame.old frame.new }
+{
+    match kernel {
+        Kernel::Lowest => run_lowest(args, frame),
+        Kernel::MinGemm => run_mingemm(args, frame),
+        Kernel::FwDiag => run_fwdiag(args, frame),
+        Kernel::FwRow => run_fwrow(args, frame),
+        Kernel::FwCol => run_fwcol(args, frame),
+        Kernel::InitLeast => run_init_least(args, frame),
+        _ => unreachable!(),
+    }
+}
 
 pub fn run_lowest(_args: &[i64], frame: &mut Frame)
     requires { IsReadyOf Kernel.Lowest _args.now frame.old.slots }

@@ -5,9 +5,7 @@ use Rattle.sj_base.specs.declared.program.Machine.{Machine}
 use Rattle.sj_base.specs.declared.program.Program.{Program}
 use Rattle.sj_meaning.specs.Job.{Job}
 use Rattle.sj_job.specs.Reading.{Refusal}
-use Rattle.sj_job.specs.declared.reason.ReadRefusal.TheVariants as reading
 use Rattle.sj_lower.specs.Limits.{late_limit}
-use Rattle.sj_lower.specs.declared.lower.LowerRefusal.TheVariants as lowering
 use Rattle.sj_needs.specs.Shortage.{IsShortage}
 use Rattle.sj_needs.specs.declared.shortage.Shortage.{Shortage}
 use Rattle.sj_words.specs.declared.options.Options.{Options}

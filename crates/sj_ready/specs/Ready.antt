@@ -1,5 +1,5 @@
 -- A job that is made ready, and why one isn't.
-use Rattle.std.specs.Prelude.{◌≡◌, ℕ, Bool, IsTrue, Ok, Err, IsOkAnd}
+use Rattle.std.specs.Prelude.{◌≡◌, Bool, IsTrue, Ok, Err, IsOkAnd}
 use Rattle.sj_codelet.specs.declared.kernel.Kernel.{Kernel}
 use Rattle.sj_codelet.specs.declared.kernel.Kernel.TheVariants.{Load, LoadFill, Paste, Deliver}
 use Rattle.sj_core.specs.Laws.{IsLawful}

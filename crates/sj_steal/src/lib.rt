@@ -5,5 +5,3 @@ mod account;
 mod lane;
 mod lanes;
 pub mod shared;
-#[cfg(test)]
-mod tests;

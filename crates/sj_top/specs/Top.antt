@@ -176,6 +176,11 @@ IsSilent asked Done = IsToldAnd asked PrintsNothing
 IsSilent asked SinkFault = IsToldAnd asked PrintsNothing
 IsSilent asked _ = Unit {0}
 
+-- the status refuses no text
+abbrev pub IsNotRefused : Status → Type 0
+IsNotRefused (Refused line reason) = ⊥
+IsNotRefused _ = Unit {0}
+
 -- the run hadn't begun
 abbrev pub IsBeforeTheRun : Status → Type 0
 IsBeforeTheRun Usage = Unit {0}

@@ -13,7 +13,7 @@ ghost use Rattle.sj_top.specs.Answers.{AnsweredText, LeavesDisks, WritesText};
 ghost use Rattle.sj_top.specs.Device.{devices, in_use, seen};
 ghost use Rattle.sj_top.specs.Report.{status_line, TakesLine};
 ghost use Rattle.sj_top.specs.Solving.{Solves, TakesAnswer};
-ghost use Rattle.sj_top.specs.Top.{Answers, ComeBack, WhatIsDueComes, HasCause, IsSilent, Prints, TakesText, WritesNothing};
+ghost use Rattle.sj_top.specs.Top.{Answers, ComeBack, WhatIsDueComes, HasCause, IsNotRefused, IsSilent, Prints, TakesText, WritesNothing};
 ghost use Rattle.sj_top.specs.Work.{asked_through, reads_source, told, Told};
 
 use crate::report::report;
@@ -203,6 +203,8 @@ where
         result.status (seen O.taken O.faults out.old) (seen O.taken O.faults out.new)
         result.trace.events }
     ensures reads_nothing { reads_source (Some options.now) ≡ false → source.new ≡ source.old }
+    ensures refuses_no_application { reads_source (Some options.now) ≡ false →
+        IsNotRefused result.status }
     ensures out_stays { IsSilent
         (asked_through (λ o. asked_by o (map D.size disks.items)) (Some options.now)
         (S.left source.old))
@@ -256,6 +258,8 @@ where
         result.status result.trace.events }
     ensures reads_nothing { reads_source (options_of (texts words.now)) ≡ false →
         source.new ≡ source.old }
+    ensures refuses_no_application { reads_source (options_of (texts words.now)) ≡ false →
+        IsNotRefused result.status }
     ensures out_stays { WritesNothing (texts words.now)
         (devices S.Source O.Sink D.Disk source.old out.old disks.items) result.status →
         out.new ≡ out.old }
@@ -331,6 +335,10 @@ where
     // No text is read where the words ask for none: where they aren't accepted, or ask for an application.
     ensures reads_nothing { reads_source (options_of (texts words.now)) ≡ false →
         source.new ≡ source.old }
+
+    // Nor is any text refused then: the job of an application is within the limits at every size.
+    ensures refuses_no_application { reads_source (options_of (texts words.now)) ≡ false →
+        IsNotRefused result.status }
 
     // `out` is as it was at every end but Done and SinkFault, and there too where there is nothing to write.
     ensures out_stays { WritesNothing (texts words.now)

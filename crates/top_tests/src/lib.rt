@@ -11,13 +11,21 @@ mod tests_of_contributions;
 #[cfg(test)]
 mod tests_of_devices;
 #[cfg(test)]
+mod tests_of_judging;
+#[cfg(test)]
 mod tests_of_machines;
 #[cfg(test)]
 mod tests_of_pieces;
 #[cfg(test)]
 mod tests_of_plans;
 #[cfg(test)]
+mod tests_of_scaling;
+#[cfg(test)]
+mod tests_of_showing;
+#[cfg(test)]
 mod tests_of_summaries;
+#[cfg(test)]
+mod tests_of_texts;
 #[cfg(test)]
 mod tests_of_threads;
 #[cfg(test)]

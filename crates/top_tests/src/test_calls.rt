@@ -1,6 +1,6 @@
 //! The calls that the tests of whole jobs make, with devices and disks in memory, and what is answered.
 
-ghost use Rattle.std.specs.Prelude.{◌≡◌, ◌≤◌, ◌^◌, IfOk, length};
+ghost use Rattle.std.specs.Prelude.{◌≡◌, ◌+◌, ◌≤◌, ◌^◌, IfOk, length};
 ghost use Rattle.sj_edge.specs.Sizes.{AreWithin};
 
 use sj_base::memory::OutOfMemory;
@@ -32,8 +32,8 @@ const ROOM: u64 = 1 << 19;
 
 /// How a call ended, and what was written.
 #[derive(Drop)]
-pub struct Answer {
-    pub outcome: Outcome<AnyDisk>,
+pub struct Answer<D = AnyDisk> {
+    pub outcome: Outcome<D>,
     pub out: MemSink,
     pub err: MemSink,
 }
@@ -65,6 +65,18 @@ pub fn one(alloc: Global, disk: AnyDisk) -> Result<Vec<AnyDisk>, OutOfMemory>
         AreWithin ⟦<AnyDisk as Disk>⟧.size (2 ^ 40) disks.items) }
 {
     let mut disks = Vec::new(alloc);
+    add_disk(&mut disks, disk)?;
+    Ok(disks)
+}
+
+/// The same disks, and one more.
+pub fn with_one_more(mut disks: Vec<AnyDisk>, disk: AnyDisk) -> Result<Vec<AnyDisk>, OutOfMemory>
+    requires small { AreWithin ⟦<AnyDisk as Disk>⟧.size (2 ^ 40) disks.items }
+    requires disk { ⟦<AnyDisk as Disk>⟧.size disk ≤ 2 ^ 40 }
+    ensures one_more { IfOk result (λ all. length all.items ≡ length disks.items + 1) }
+    ensures small { IfOk result (λ all.
+        AreWithin ⟦<AnyDisk as Disk>⟧.size (2 ^ 40) all.items) }
+{
     add_disk(&mut disks, disk)?;
     Ok(disks)
 }
@@ -110,16 +122,16 @@ pub fn call<R: Threads + Wait + Sync, S: Source, O: Sink, E: Sink>(
 }
 
 /// The answer to words and a job text on these disks.
-pub fn answer_on<G: Gate, R: Threads + Wait + Sync>(
+pub fn answer_on<G: Gate, D: Disk + Send, R: Threads + Wait + Sync>(
     rt: &R,
     alloc: Global,
     words: &[&str],
     text: &[u8],
-    disks: Vec<AnyDisk>,
+    disks: Vec<D>,
     gate: &G,
-) -> Result<Answer, Fail>
+) -> Result<Answer<D>, Fail>
     requires few { length disks.items ≤ 16 }
-    requires small { AreWithin ⟦<AnyDisk as Disk>⟧.size (2 ^ 40) disks.items }
+    requires small { AreWithin D.size (2 ^ 40) disks.items }
 {
     let words = words_of(alloc, words)?;
     let mut source = MemSource::new(Vec::from_slice(alloc, text)?, Vec::new(alloc));
@@ -154,7 +166,13 @@ pub fn same<R: Abort, T: PartialEq + Debug + Drop>(rt: &R, found: T, wanted: T) 
 }
 
 /// A call has ended so, and `out` took this.
-pub fn is_answered<R: Abort>(rt: &R, answer: &Answer, status: Status, out: &str, shows: &str) {
+pub fn is_answered<D, R: Abort>(
+    rt: &R,
+    answer: &Answer<D>,
+    status: Status,
+    out: &str,
+    shows: &str,
+) {
     assert_eq!(rt; answer.outcome.status, status, "{shows}");
     assert_eq!(rt; answer.out.taken(), out.as_bytes(), "{shows}");
 }

@@ -2,11 +2,11 @@
 
 use crate::test_calls::{
     Printing, Refusal, SUM, all_are_refused, all_print, answer_on, answer_to, bytes, call, calls,
-    is_answered, memory, same, whole,
+    is_answered, memory, same, whole, with_one_more,
 };
 use sj_base::ids::{Line, Task, Worker};
 use sj_base::trace::Event;
-use sj_edge::disk::{Disk, add_disk};
+use sj_edge::disk::Disk;
 use sj_edge::gate::OpenGate;
 use sj_edge::memory_sink::MemSink;
 use sj_edge::memory_source::MemSource;
@@ -493,8 +493,8 @@ fn an_out_that_fails_gives_its_fault_and_a_failing_err_is_ignored(
 #[test]
 fn words_are_not_accepted_and_disks_come_back_in_order(rt: HostRuntime) -> Result<(), Fail> {
     let alloc = rt.alloc();
-    let mut disks = whole(alloc, 64)?;
-    add_disk(&mut disks, Box::new(alloc, memory(alloc, 32, &[])?)?)?;
+    let second = Box::new(alloc, memory(alloc, 32, &[])?)?;
+    let disks = with_one_more(whole(alloc, 64)?, second)?;
     let words = ["--workers"];
     let answer = answer_on(&rt, alloc, &words, SUM.as_bytes(), disks, &OpenGate)?;
     is_answered(&rt, &answer, Status::Usage, "", "words");

@@ -5,12 +5,11 @@ ghost use Rattle.sj_edge.specs.Faults.{last_count};
 ghost use Rattle.sj_edge.specs.Sizes.{AreWithin};
 
 use crate::test_calls::{
-    Answer, SUM, answer_on, bytes, call, calls, is_answered, memory, one, same,
+    Answer, SUM, answer_on, bytes, call, calls, is_answered, memory, one, same, with_one_more,
 };
 use crate::tests_of_machines::{ROUND, ROUND_OUT, ROUND_SWAP};
 use sj_base::ids::DiskNo;
-use sj_base::memory::OutOfMemory;
-use sj_edge::disk::{CheckFault, Disk, add_disk};
+use sj_edge::disk::{CheckFault, Disk};
 use sj_edge::file_disk::FileDisk;
 use sj_edge::gate::OpenGate;
 use sj_edge::memory_disk::MemDisk;
@@ -103,18 +102,6 @@ fn name_of<D: Disk>(disk: &mut D) -> Option<u8> {
     let mut name = [0];
     disk.read(BLOCK, &mut name).ok()?;
     Some(name[0])
-}
-
-/// The same disks, and one more.
-fn with_one_more(mut disks: Vec<AnyDisk>, disk: AnyDisk) -> Result<Vec<AnyDisk>, OutOfMemory>
-    requires small { AreWithin ⟦<AnyDisk as Disk>⟧.size (2 ^ 40) disks.items }
-    requires disk { ⟦<AnyDisk as Disk>⟧.size disk ≤ 2 ^ 40 }
-    ensures one_more { IfOk result (λ all. length all.items ≡ length disks.items + 1) }
-    ensures small { IfOk result (λ all.
-        AreWithin ⟦<AnyDisk as Disk>⟧.size (2 ^ 40) all.items) }
-{
-    add_disk(&mut disks, disk)?;
-    Ok(disks)
 }
 
 const FILE: &str = "a_disk_with_a_name";

@@ -5,6 +5,7 @@ use sj_base::ids::{Cell, DiskNo, Line, Node, Place, Task, Worker};
 use sj_base::trace::Event;
 use sj_edge::gate::{Gate, OpenGate};
 use sj_top::status::Status;
+use sj_top::top::AnyDisk;
 use std::alloc::Global;
 use std::process::Abort;
 use std::sync::Wait;
@@ -168,7 +169,7 @@ fn without_a_disk_no_job_with_cells_is_run(rt: HostRuntime) -> Result<(), Fail> 
         have: 0,
     };
     for (text, status) in [(ROUND, lacking), ("starjob 1\n", Status::Done)] {
-        let disks = Vec::new(alloc);
+        let disks: Vec<AnyDisk> = Vec::new(alloc);
         let answer = answer_on(&rt, alloc, &[], text.as_bytes(), disks, &OpenGate)?;
         is_answered(&rt, &answer, status, "", text);
         same(&rt, answer.outcome.trace.len(), 0);

@@ -144,7 +144,7 @@ const BLOCK: u64 = 48;
 
 /// A call of a disk: where its bytes begin, and how many they are.
 #[derive(Clone, Copy, Debug, PartialEq, Eq)]
-enum Call {
+pub enum Call {
     Write(u64, u64),
     Read(u64, u64),
     /// Of a header.
@@ -164,14 +164,26 @@ fn calls_of(event: Event) -> Option<(Call, Call)> {
     }
 }
 
-/// A disk that notes each of its calls.
-#[derive(Drop)]
-struct NotingDisk {
-    disk: MemDisk,
-    calls: Vec<Call>,
+/// The calls that a trace's transfers make of a disk on which these blocks lie one behind another.
+pub fn calls_of_trace(alloc: Global, trace: &Trace) -> Result<Vec<Call>, Fail> {
+    let mut calls = Vec::new(alloc);
+    for i in 0..trace.len() {
+        if let Some((first, second)) = calls_of(trace.get(i)) {
+            calls.push(first)?;
+            calls.push(second)?;
+        }
+    }
+    Ok(calls)
 }
 
-impl NotingDisk {
+/// A disk that notes each of its calls.
+#[derive(Drop)]
+pub struct NotingDisk<D: Disk> {
+    pub disk: D,
+    pub calls: Vec<Call>,
+}
+
+impl<D: Disk> NotingDisk<D> {
     fn note(&mut self, call: Call)
         ensures { self.new.disk ≡ self.old.disk }
     {
@@ -179,14 +191,14 @@ impl NotingDisk {
     }
 }
 
-impl Disk for NotingDisk {
-    ghost size = { λ d. length d.disk.bytes };
+impl<D: Disk> Disk for NotingDisk<D> {
+    ghost size = { λ d. D.size d.disk };
 
-    ghost held = { λ d. Some d.disk.bytes };
+    ghost held = { λ d. D.held d.disk };
 
-    ghost faults = { λ d. d.disk.called.faults };
+    ghost faults = { λ d. D.faults d.disk };
 
-    ghost mismatches = { λ d. d.disk.mismatches };
+    ghost mismatches = { λ d. D.mismatches d.disk };
 
     fn size(&self) -> u64 {
         self.disk.size()
@@ -228,13 +240,7 @@ fn what_a_disk_sees_agrees_with_the_trace(rt: HostRuntime) -> Result<(), Fail> {
     let run = run_on(&rt, alloc, THREE, disk, &Library, &OpenGate)?;
     let Run { text, trace, disks } = run;
     same(&rt, text?.as_slice(), b"a: 1 2 3\n".as_slice());
-    let mut calls = Vec::new(alloc);
-    for i in 0..trace.len() {
-        if let Some((first, second)) = calls_of(trace.get(i)) {
-            calls.push(first)?;
-            calls.push(second)?;
-        }
-    }
+    let calls = calls_of_trace(alloc, &trace)?;
     same(&rt, calls.as_slice(), CALLS.as_slice());
     same(&rt, disks.len(), 1);
     for disk in disks.iter() {

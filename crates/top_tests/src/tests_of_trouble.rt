@@ -2,7 +2,7 @@
 
 ghost use Rattle.std.specs.Prelude.{◌+◌, ◌≤◌, ◌^◌, None, length};
 
-use crate::test_calls::{Answer, answer_on, is_answered, memory, one, same};
+use crate::test_calls::{Answer, answer_on, is_answered, memory, one, only, same};
 use crate::tests_of_machines::{ROUND, ROUND_OUT, ROUND_SWAP};
 use sj_base::ids::{DiskNo, Task};
 use sj_disk::header::Header;
@@ -22,103 +22,115 @@ use std::sync::Wait;
 use std::test::Fail;
 use std::thread::Threads;
 
-/// The answer to a `ROUND` by so many workers on a node that holds two of its vectors, with this disk.
+/// The answer to a `ROUND` on a node that holds two of its vectors, with this disk.
 fn answer_tight<G: Gate, R: Threads + Wait + Sync>(
     rt: &R,
     alloc: Global,
-    workers: &str,
     disk: AnyDisk,
     gate: &G,
 ) -> Result<Answer, Fail>
     requires { ⟦<AnyDisk as Disk>⟧.size disk ≤ 2 ^ 40 }
 {
-    let words = ["--workers", workers, "--node", "48"];
+    let words = ["--node", "48"];
     let disks = one(alloc, disk)?;
     answer_on(rt, alloc, &words, ROUND.as_bytes(), disks, gate)
 }
 
 /// The disk is to blame, and nothing is written.
-fn is_failed<R: Abort>(rt: &R, answer: &Answer) {
+fn is_failed<D, R: Abort>(rt: &R, answer: &Answer<D>) {
     let fault = Status::DiskFault { disk: DiskNo(0) };
     is_answered(rt, answer, fault, "", "a fault");
 }
 
-/// Whether a disk still refuses one of so many calls.
-fn refuses<D: Disk>(disk: &mut D, calls: u64) -> bool {
-    for _ in 0..calls {
-        if disk.size() > 0 && disk.read(0, &mut [0]).is_err() {
-            return true;
-        }
-    }
-    false
+/// A job whose vectors don't fit its node together, what it prints, and how often it calls its disk by one worker.
+struct Evicting {
+    text: &'static str,
+    out: &'static str,
+    calls: u64,
 }
 
-/// Runs a `ROUND` on a disk that refuses one call. Whether that came to it: then the disk is to blame and nothing is written.
-fn is_refused<R: Threads + Wait + Abort + Sync>(
+/// Three vectors on a node that holds two of them, each of them scaled.
+pub const SCALED: &str =
+    "starjob 1\nnode 64\nvector a 3 values 1 2 3\nvector b 3 values 4 5 6\nvector c 3 values 7 8 9\ntask scale(2) a:RW\ntask scale(3) b:RW\ntask scale(5) c:RW\nprint a\n";
+
+/// What that prints.
+pub const SCALED_OUT: &str = "a: 2 4 6\n";
+
+const EVICTING: [Evicting; 2] = [
+    Evicting {
+        // a `ROUND` on a node that holds two of its vectors
+        text: "starjob 1\nnode 48\nvector x 3 values 1 2 3\nvector y 3 values 10 20 30\nvector z 3 values 100 200 300\ntask add x:R y:RW\ntask add y:R z:RW\ntask add z:R x:RW\nprint x\nprint y\nprint z\n",
+        out: ROUND_OUT,
+        calls: 12,
+    },
+    Evicting {
+        text: SCALED,
+        out: SCALED_OUT,
+        calls: 18,
+    },
+];
+
+/// The faults of a disk that refuses these calls. With one the disk is to blame and nothing is written, else the job is done.
+fn faults_of<R: Threads + Wait + Abort + Sync>(
     rt: &R,
     alloc: Global,
+    job: &Evicting,
     workers: &str,
-    call: u64,
-) -> Result<bool, Fail> {
-    let disk = Box::new(alloc, memory(alloc, ROUND_SWAP, &[call])?)?;
-    let mut answer = answer_tight(rt, alloc, workers, disk, &OpenGate)?;
+    refused: &[u64],
+) -> Result<u64, Fail> {
+    let words = ["--workers", workers];
+    let disks = only(alloc, memory(alloc, ROUND_SWAP, refused)?)?;
+    let answer = answer_on(rt, alloc, &words, job.text.as_bytes(), disks, &OpenGate)?;
     assert_eq!(rt; answer.outcome.disks.len(), 1);
-    if refuses(&mut answer.outcome.disks[0], call) {
-        is_answered(rt, &answer, Status::Done, ROUND_OUT, workers);
-        return Ok(false);
+    let faults = answer.outcome.disks[0].faults();
+    if faults > 0 {
+        is_failed(rt, &answer);
+    } else {
+        is_answered(rt, &answer, Status::Done, job.out, workers);
     }
-    is_failed(rt, &answer);
-    Ok(true)
+    Ok(faults)
 }
 
-/// The same on a disk that refuses each call from this one on.
-fn is_refused_from<R: Threads + Wait + Abort + Sync>(
+/// The faults where one call is refused, and where each from that one on is.
+fn faults_at<R: Threads + Wait + Abort + Sync>(
     rt: &R,
     alloc: Global,
+    job: &Evicting,
     workers: &str,
     call: u64,
-) -> Result<bool, Fail> {
-    let mut numbers = Vec::new(alloc);
+) -> Result<(u64, u64), Fail> {
+    let mut from = Vec::new(alloc);
     for number in call..100 {
-        numbers.push(number)?;
+        from.push(number)?;
     }
-    let disk = Box::new(alloc, memory(alloc, ROUND_SWAP, &numbers)?)?;
-    let answer = answer_tight(rt, alloc, workers, disk, &OpenGate)?;
-    if answer.outcome.status == Status::Done {
-        is_answered(rt, &answer, Status::Done, ROUND_OUT, workers);
-        return Ok(false);
-    }
-    is_failed(rt, &answer);
-    Ok(true)
+    let one = faults_of(rt, alloc, job, workers, &[call])?;
+    Ok((one, faults_of(rt, alloc, job, workers, &from)?))
 }
 
 #[test]
-fn each_call_that_a_disk_refuses_one_worker_ends_the_run(rt: HostRuntime) -> Result<(), Fail> {
-    let mut refused = 0;
-    for before in 0..40 {
-        let came = is_refused(&rt, rt.alloc(), "1", before + 1)?;
-        same(
-            &rt,
-            is_refused_from(&rt, rt.alloc(), "1", before + 1)?,
-            came,
-        );
-        if came {
-            same(&rt, refused, before);
-            refused = before + 1;
+fn each_call_that_a_disk_refuses_one_worker_is_its_one_fault(rt: HostRuntime) -> Result<(), Fail> {
+    for job in &EVICTING {
+        for call in 1..=job.calls.saturating_add(2) {
+            let faults = u64::from(call <= job.calls);
+            let came = faults_at(&rt, rt.alloc(), job, "1", call)?;
+            same(&rt, (call, came), (call, (faults, faults)));
         }
     }
-    same(&rt, (6..40).contains(&refused), true);
     Ok(())
 }
 
+// The threads decide how many calls there are: two at least, since a vector that goes out is stored. From a call on that is
+// refused, a worker meets one fault at most.
 #[test]
-fn a_call_that_a_disk_refuses_four_workers_ends_the_run_or_never_comes(
+fn a_call_that_a_disk_refuses_four_workers_is_a_fault_or_never_comes(
     rt: HostRuntime,
 ) -> Result<(), Fail> {
-    for call in 1..=16 {
-        let came = is_refused(&rt, rt.alloc(), "4", call)?;
-        let came_from = is_refused_from(&rt, rt.alloc(), "4", call)?;
-        assert!(rt; came && came_from || call > 1);
+    for job in &EVICTING {
+        for call in 1..=job.calls {
+            let (one, from) = faults_at(&rt, rt.alloc(), job, "4", call)?;
+            assert!(rt; one <= 1 && from <= 4, "{one} and {from} at {call}");
+            assert!(rt; one > 0 && from > 0 || call > 2, "at {call}");
+        }
     }
     Ok(())
 }
@@ -130,10 +142,10 @@ enum Lie {
     Keeps(u64),
     /// Of each write it keeps the first half.
     Halves,
-    /// It writes the first of three blocks of 48 bytes in place of the last, and the other way round.
-    WritesElsewhere,
+    /// It writes the first block in place of the one that begins so many bytes behind, and the other way round.
+    WritesElsewhere(u64),
     /// It reads them so.
-    ReadsElsewhere,
+    ReadsElsewhere(u64),
 }
 
 /// A disk that answers `Ok` all the same.
@@ -143,15 +155,20 @@ struct FalseDisk {
     lie: Lie,
 }
 
-/// The place that is taken in place of another one, for so many bytes of a disk of this size.
-fn elsewhere(at: u64, count: u64, size: u64) -> u64
+/// The bytes of a block: a header of 24 and three elements of 8.
+const BLOCK: u64 = 48;
+
+/// The place that is taken in place of another one, for so many bytes of a disk of this size: blocks so far apart change places.
+fn elsewhere(at: u64, count: u64, size: u64, apart: u64) -> u64
     requires { at + count ≤ size }
     ensures { result + count ≤ size }
 {
-    let other = match at {
-        0..48 => at + 96,
-        96..144 => at - 96,
-        _ => at,
+    let other = if at < BLOCK {
+        at.saturating_add(apart)
+    } else if at >= apart && at - apart < BLOCK {
+        at - apart
+    } else {
+        at
     };
     if other <= size - count { other } else { at }
 }
@@ -162,10 +179,10 @@ impl FalseDisk {
         requires { at + count ≤ length self.now.disk.bytes }
         ensures { result + count ≤ length self.now.disk.bytes }
     {
-        if self.lie != Lie::ReadsElsewhere {
-            return at;
+        match self.lie {
+            Lie::ReadsElsewhere(apart) => elsewhere(at, count, self.disk.size(), apart),
+            _ => at,
         }
-        elsewhere(at, count, self.disk.size())
     }
 }
 
@@ -195,11 +212,11 @@ impl Disk for FalseDisk {
                 self.disk.write(at, bytes)
             }
             Lie::Halves => self.disk.write(at, &bytes[..bytes.len() / 2]),
-            Lie::WritesElsewhere => {
-                let place = elsewhere(at, bytes.len() as u64, self.disk.size());
+            Lie::WritesElsewhere(apart) => {
+                let place = elsewhere(at, bytes.len() as u64, self.disk.size(), apart);
                 self.disk.write(place, bytes)
             }
-            Lie::ReadsElsewhere => self.disk.write(at, bytes),
+            Lie::ReadsElsewhere(_) => self.disk.write(at, bytes),
         }
     }
 
@@ -221,16 +238,10 @@ struct Damage {
 const TWO_ROUNDS: &str =
     "starjob 1\nnode 48\nvector x 3 values 1 2 3\nvector y 3 values 10 20 30\nvector z 3 values 100 200 300\ntask add x:R y:RW\ntask add y:R z:RW\ntask add z:R x:RW\ntask add x:R y:RW\ntask add y:R z:RW\ntask add z:R x:RW\nprint x\n";
 
-/// Three vectors on a node that holds two of them, each of them scaled.
-const SCALED: &str =
-    "starjob 1\nnode 64\nvector a 3 values 1 2 3\nvector b 3 values 4 5 6\nvector c 3 values 7 8 9\ntask scale(2) a:RW\ntask scale(3) b:RW\ntask scale(5) c:RW\nprint a\n";
-
-/// The first calls of a disk, more than come to it by four workers before the first fault is kept.
-const EACH: [u64; 12] = [1, 2, 3, 4, 5, 6, 7, 8, 9, 10, 11, 12];
-
 // Of two rounds x is the first that is fetched again, and z is written before. Behind x, z and y the fourth that is written, by
-// the seventh and the eighth write, is z again. Of the vectors that are scaled it is a, which is then fetched for the print.
-const DAMAGES: [Damage; 6] = [
+// the seventh and the eighth write, is z again. Of the vectors that are scaled a is the first that is fetched again, and b is
+// written before; a, b, c, a and b go out, and the last that is fetched is a, for the print.
+const DAMAGES: [Damage; 12] = [
     Damage {
         text: TWO_ROUNDS,
         lie: Lie::Keeps(0),
@@ -251,15 +262,33 @@ const DAMAGES: [Damage; 6] = [
     },
     Damage {
         text: TWO_ROUNDS,
-        lie: Lie::WritesElsewhere,
+        lie: Lie::WritesElsewhere(2 * BLOCK),
         want: (0, 1, 3),
         found: (2, 1, 3),
     },
     Damage {
         text: TWO_ROUNDS,
-        lie: Lie::ReadsElsewhere,
+        lie: Lie::ReadsElsewhere(2 * BLOCK),
         want: (0, 1, 3),
         found: (2, 1, 3),
+    },
+    Damage {
+        text: SCALED,
+        lie: Lie::Keeps(0),
+        want: (0, 1, 3),
+        found: (0, 0, 0),
+    },
+    Damage {
+        text: SCALED,
+        lie: Lie::Keeps(2),
+        want: (1, 1, 3),
+        found: (0, 0, 0),
+    },
+    Damage {
+        text: SCALED,
+        lie: Lie::Keeps(4),
+        want: (2, 1, 3),
+        found: (0, 0, 0),
     },
     Damage {
         text: SCALED,
@@ -267,10 +296,28 @@ const DAMAGES: [Damage; 6] = [
         want: (0, 2, 3),
         found: (0, 1, 3),
     },
+    Damage {
+        text: SCALED,
+        lie: Lie::Halves,
+        want: (0, 1, 3),
+        found: (0, 1, 0),
+    },
+    Damage {
+        text: SCALED,
+        lie: Lie::WritesElsewhere(BLOCK),
+        want: (0, 1, 3),
+        found: (1, 1, 3),
+    },
+    Damage {
+        text: SCALED,
+        lie: Lie::ReadsElsewhere(BLOCK),
+        want: (0, 1, 3),
+        found: (1, 1, 3),
+    },
 ];
 
 /// The header with this cell, these writes and these elements.
-fn header((cell, writes, length): (u64, u64, u64)) -> Header {
+pub fn header((cell, writes, length): (u64, u64, u64)) -> Header {
     Header {
         cell,
         writes,
@@ -306,56 +353,42 @@ fn a_disk_that_lies_is_damaged(rt: HostRuntime) -> Result<(), Fail> {
     Ok(())
 }
 
+// The block of b that goes out last isn't wanted back.
 #[test]
-fn a_disk_that_keeps_all_that_is_written_is_no_liar(rt: HostRuntime) -> Result<(), Fail> {
-    let answer = answer_to_lie(&rt, rt.alloc(), "1", SCALED, Lie::Keeps(u64::MAX))?;
-    is_answered(&rt, &answer, Status::Done, "a: 2 4 6\n", "all is kept");
+fn a_disk_whose_lies_do_not_matter_is_no_liar(rt: HostRuntime) -> Result<(), Fail> {
+    for kept in [u64::MAX, 8] {
+        let answer = answer_to_lie(&rt, rt.alloc(), "1", SCALED, Lie::Keeps(kept))?;
+        is_answered(&rt, &answer, Status::Done, SCALED_OUT, "all is kept");
+    }
     Ok(())
-}
-
-/// Vectors that are scaled by so many workers fail with a disk that refuses these calls.
-fn scaled_fails<R: Threads + Wait + Abort + Sync>(
-    rt: &R,
-    alloc: Global,
-    workers: &str,
-    refused: &[u64],
-) -> Result<(), Fail> {
-    let disk = memory(alloc, ROUND_SWAP, refused)?;
-    let disks = one(alloc, Box::new(alloc, disk)?)?;
-    let words = ["--workers", workers];
-    let answer = answer_on(rt, alloc, &words, SCALED.as_bytes(), disks, &OpenGate)?;
-    is_failed(rt, &answer);
-    assert_eq!(rt; answer.outcome.disks.len(), 1);
-    Ok(())
-}
-
-// Three vectors never fit the node together, so that four workers come to a call, too.
-#[test]
-fn vectors_that_are_scaled_fail_with_their_disk(rt: HostRuntime) -> Result<(), Fail> {
-    scaled_fails(&rt, rt.alloc(), "1", &[3])?;
-    scaled_fails(&rt, rt.alloc(), "4", &EACH)
 }
 
 /// What two rounds print.
 const TWO_ROUNDS_OUT: &str = "x: 346 692 1038\n";
 
-// The threads decide which blocks go out and come back; one is wanted back at least. A lie is found, or it doesn't matter.
+/// A lie was found and nothing is written, or it doesn't matter. Whether it was found.
+pub fn is_found<D, R: Abort>(rt: &R, answer: &Answer<D>, out: &str) -> bool {
+    let Status::Damaged { disk, want, found } = answer.outcome.status else {
+        is_answered(rt, answer, Status::Done, out, "a lie that doesn't matter");
+        return false;
+    };
+    assert!(rt; disk == DiskNo(0) && want != found);
+    assert!(rt; answer.out.taken().is_empty());
+    true
+}
+
+// The threads decide which blocks go out and come back. Of two rounds' one is wanted back at least.
 #[test]
 fn a_disk_that_lies_to_four_workers_is_damaged_or_out_is_right(
     rt: HostRuntime,
 ) -> Result<(), Fail> {
     for damage in &DAMAGES {
-        let answer = answer_to_lie(&rt, rt.alloc(), "4", TWO_ROUNDS, damage.lie)?;
-        match answer.outcome.status {
-            Status::Damaged { disk, want, found } => {
-                assert!(rt; disk == DiskNo(0) && want != found);
-                assert!(rt; answer.out.taken().is_empty());
-            }
-            status => {
-                same(&rt, status, Status::Done);
-                assert_eq!(rt; answer.out.taken(), TWO_ROUNDS_OUT.as_bytes());
-                assert!(rt; !matches!(damage.lie, Lie::Keeps(0) | Lie::Halves));
-            }
+        let answer = answer_to_lie(&rt, rt.alloc(), "4", damage.text, damage.lie)?;
+        if damage.text == SCALED {
+            is_found(&rt, &answer, SCALED_OUT);
+        } else {
+            let is_sure = matches!(damage.lie, Lie::Keeps(0) | Lie::Halves);
+            assert!(rt; is_found(&rt, &answer, TWO_ROUNDS_OUT) || !is_sure);
         }
     }
     Ok(())
@@ -365,7 +398,7 @@ fn a_disk_that_lies_to_four_workers_is_damaged_or_out_is_right(
 fn a_device_without_room_is_a_fault(rt: HostRuntime) -> Result<(), Fail> {
     let disk = FileDisk::at(&rt, "/dev/full", ROUND_SWAP as u64);
     let disk = Box::new(rt.alloc(), disk)?;
-    let answer = answer_tight(&rt, rt.alloc(), "1", disk, &OpenGate)?;
+    let answer = answer_tight(&rt, rt.alloc(), disk, &OpenGate)?;
     is_failed(&rt, &answer);
     Ok(())
 }
@@ -396,7 +429,7 @@ fn a_file_that_is_cut_off_is_a_fault(rt: HostRuntime) -> Result<(), Fail> {
     let _ = fs::remove_file(&rt, FILE);
     let disk = FileDisk::at(&rt, FILE, ROUND_SWAP as u64);
     let disk = Box::new(rt.alloc(), disk)?;
-    let answer = answer_tight(&rt, rt.alloc(), "1", disk, &Cutting { rt: &rt })?;
+    let answer = answer_tight(&rt, rt.alloc(), disk, &Cutting { rt: &rt })?;
     is_failed(&rt, &answer);
     fs::remove_file(&rt, FILE)?;
     Ok(())

@@ -6,8 +6,8 @@ use Rattle.sj_needs.specs.declared.shortage.Shortage.TheVariants as fitting
 use Rattle.sj_ready.specs.declared.unready.Unready.{Unready}
 use Rattle.sj_ready.specs.declared.unready.Unready.TheVariants as preparing
 use Rattle.sj_trace.specs.declared.read.TraceRefusal.TheVariants as reading
-use Rattle.trace_check.specs.declared.refusal.JudgeRefusal.{JudgeRefusal}
-use Rattle.trace_check.specs.declared.refusal.JudgeRefusal.TheVariants as refusal
+use Rattle.sj_judge.specs.declared.refusal.JudgeRefusal.{JudgeRefusal}
+use Rattle.sj_judge.specs.declared.refusal.JudgeRefusal.TheVariants as refusal
 
 -- the job can't be run: 2, or 10 for want of memory
 abbrev pub code_of_unready : Unready → ℕ

@@ -5,9 +5,9 @@ ghost use Rattle.sj_minplus.specs.Has.{library_has};
 ghost use Rattle.sj_ready.specs.Input.{HasJob};
 ghost use Rattle.sj_words.specs.Options.{IsWithinLimits};
 
-use crate::showing::{job_shown, program_shown};
 use crate::{REFUSED, out_of_memory, refused, unready};
 use sj_job::reason::ReadRefusal;
+use sj_judge::showing::{job_shown, program_shown};
 use sj_ready::input::Input;
 use sj_words::Options;
 use std::io::Write;

@@ -6,15 +6,6 @@
 #![tactic(auto)]
 
 mod answering;
-mod judging;
-mod refusal;
-mod showing;
-#[cfg(test)]
-mod tests;
-#[cfg(test)]
-mod tests_of_showing;
-#[cfg(test)]
-mod tests_of_texts;
 
 ghost use Rattle.std.specs.Prelude.{◌≡◌, IfOk};
 ghost use Rattle.sj_minplus.specs.Has.{library_has};
@@ -23,9 +14,10 @@ ghost use Rattle.sj_words.specs.Options.{IsWithinLimits};
 ghost use Rattle.trace_check.specs.Ending.{code_of_check, code_of_outcome, code_of_unready};
 
 use answering::{show_job, show_program};
-use judging::judged;
-use refusal::JudgeRefusal;
 use sj_check::check::CheckRefusal;
+use sj_judge::judging::judged;
+use sj_judge::lines::line;
+use sj_judge::refusal::JudgeRefusal;
 use sj_needs::shortage::Shortage;
 use sj_ready::input::Input;
 use sj_ready::unready::Unready;
@@ -128,12 +120,6 @@ fn job_for(rt: &HostRuntime, options: &Options) -> io::Result<Input>
         Some(application) => Ok(Input::Generated(application)),
         None => Ok(Input::Text(input(rt)?)),
     }
-}
-
-/// The line of a text with a number, from 0; nothing where there are fewer.
-fn line(text: &[u8], number: u64) -> &[u8] {
-    let mut lines = text.split(|byte| *byte == b'\n');
-    lines.nth(number as usize).unwrap_or(b"")
 }
 
 /// Says why the job of a trace can't be run.

@@ -4,6 +4,6 @@ use Rattle.sj_job.specs.Names.{target_in}
 use Rattle.sj_job.proofs.judge.targets_of.Given as goal
 
 -- what is found so far goes before what the rest gives
-abbrev pub invariant-loop-operand : goal.invariant-loop-operand
-invariant-loop-operand l =
-    option_map (λ rest. l.targets ++ rest) (each_some (target_in l.names) (drop l.operand-index l.operands)) ≡ each_some (target_in l.names) l.operands
+abbrev pub invariant-loop-n : goal.invariant-loop-n
+invariant-loop-n l =
+    option_map (λ rest. l.targets ++ rest) (each_some (target_in l.names) (drop l.n l.operands)) ≡ each_some (target_in l.names) l.operands

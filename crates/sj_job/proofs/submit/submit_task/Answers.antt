@@ -9,7 +9,8 @@ pub returns-clause-ok : goal.returns-clause-ok
 returns-clause-ok g c =
     let t = c.args.task.now in
     let args = rw c.in-Some.is at c.in_ok-args.ensures in
-    let counted = ap (list_all (λ o. are_counts o.child)) (sym c.items.ensures) ∙ sym c.have_counted_children.ensures ∙ c.if-not-have_counted_children.false in
+    let indexes = rw c.in-Some-2.is at c.in_ok-indexes.ensures in
+    let counted = ap (list_all (λ o. are_counts o.child)) (sym c.items.ensures) ∙ indexes.0 in
     runs g.C.Codelets.has c.args.names.now _ t c.in_ok-task.task (record {
       numbered = all_numbered (list_all is_integer t.args) (list_all (λ o. are_counts o.child) t.operands) (is_numbered_priority t.priority)
           args.0 counted c.in-Some-priority_of.ensures.0;

@@ -1,16 +1,54 @@
-use Rattle.std.proofs.Common.{ℕ, ◌*◌, ◌<◌, ◌≡◌, pos, List, [], ◌∷◌, ◌++◌, length, get_or, replicate, refl, sym, ap, ◌∙◌, arith}
+use Rattle.std.proofs.Common.{ℕ, ℤ, ◌*◌, ◌<◌, ◌≡◌, pos, List, [], ◌∷◌, ◌++◌, length, get_or, replicate, refl, sym, ap, ◌∙◌, arith}
+use Rattle.std.proofs.lemmas.Bool.Decides.{nat_tests}
 use Rattle.std.proofs.lemmas.List.{length-append, append_assoc, get_or_append_left}
 use Rattle.sj_base.specs.Lending.{with_elements}
 use Rattle.sj_base.specs.declared.tile.Dims.{Dims}
 use Rattle.sj_base.specs.Array.{Array}
 use Rattle.sj_codelet.specs.declared.kernel.Kernel.TheVariants.{GemmThree}
 use Rattle.sj_codelet.specs.declared.formal.Formal.TheVariants.{R, RW, Scratch}
-use Rattle.sj_codelet.specs.Frame.{Slot, own, arrays}
-use Rattle.sj_codelet.specs.Kernel.{operand}
+use Rattle.sj_codelet.specs.Frame.{Slot, Frame, own, arrays, all_dims, written, AllKeep}
+use Rattle.sj_codelet.specs.Kernel.{new_arrays, operand, dims_at}
+use Rattle.sj_codelet.specs.Runs.{IsReadyOf, IsRunOf}
 use Rattle.sj_codelet.specs.Equations.{gemm3}
-use Rattle.sj_codelet.proofs.Operands.{operands_are, ready_before, ready_at, ends_owned_from_ready, tile_is, last_is, operand_shift}
-use Rattle.sj_kernels.proofs.Tiles.{gemm3_on_tiles, gemm3_dims, ran_with_scratch}
+use Rattle.sj_codelet.proofs.Operands.{operands_are, dims_go, dims_at-all_dims, ready_before, ready_at, ends_owned_from_ready, tile_is, last_is, operand_shift}
+use Rattle.sj_kernels.proofs.Tiles.{gemm3_on_tiles}
 use Rattle.sj_kernels.proofs.runs.run_gemm3.Goals as goal
+
+ran_three : (before : List Slot) (t u y z : Array) → length before ≡ 3 → u.dims ≡ t.dims → z.dims ≡ y.dims
+    → (written (R ∷ R ∷ R ∷ Scratch ∷ RW ∷ []) ((before ++ own u ∷ []) ++ own z ∷ []) ≡ z ∷ []) × AllKeep (R ∷ R ∷ R ∷ Scratch ∷ RW ∷ []) ((before ++ own t ∷ []) ++ own y ∷ []) ((before ++ own u ∷ []) ++ own z ∷ [])
+ran_three [] t u y z l du dz = absurd (omega arith)
+ran_three (a ∷ []) t u y z l du dz = absurd (omega arith)
+ran_three (a ∷ b ∷ []) t u y z l du dz = absurd (omega arith)
+ran_three (a ∷ b ∷ d ∷ []) t u y z l du dz = (refl, (refl, (refl, (refl, ((refl, du), ((refl, dz), tt))))))
+ran_three (a ∷ b ∷ d ∷ e ∷ before) t u y z l du dz = absurd (omega arith)
+
+-- a run that writes the scratch operand and the last one
+ran_with_scratch : (args : List ℤ) (old new : Frame) (before : List Slot) (t u y z : Array) → IsReadyOf GemmThree args old.slots
+    → old.slots ≡ (before ++ own t ∷ []) ++ own y ∷ [] → new.slots ≡ (before ++ own u ∷ []) ++ own z ∷ []
+    → new.spare ≡ old.spare → u.dims ≡ t.dims → z.dims ≡ y.dims → new_arrays GemmThree args (arrays old.slots) ≡ z ∷ [] → IsRunOf GemmThree args old new
+ran_with_scratch args old new before t u y z ready e e' r du dz o =
+    let n = operands_are GemmThree args old.slots ready in
+    let m = length-append (before ++ own t ∷ []) (own y ∷ []) in
+    let k = length-append before (own t ∷ []) in
+    let both = ran_three before t u y z (omega (arith, ap length e)) du dz in
+    record {
+      written = ap (written (R ∷ R ∷ R ∷ Scratch ∷ RW ∷ [])) e' ∙ both.0 ∙ sym o;
+      kept = rw (e, e') both.1;
+      room = r;
+    }
+
+gemm3_dims : (args : List ℤ) (slots : List Slot) → IsReadyOf GemmThree args slots
+    → ((operand (arrays slots) 3).dims.rows ≡ (operand (arrays slots) 4).dims.rows) × ((operand (arrays slots) 3).dims.cols ≡ (operand (arrays slots) 1).dims.cols) × ((operand (arrays slots) 2).dims.cols ≡ (operand (arrays slots) 4).dims.cols)
+gemm3_dims args slots ready =
+    let ds = all_dims slots in
+    let go = dims_go GemmThree args slots ready in
+    let rows : (dims_at ds 3).rows ≡ (dims_at ds 4).rows = grind (arith, nat_tests) in
+    let inner : (dims_at ds 1).cols ≡ (dims_at ds 3).cols = grind (arith, nat_tests) in
+    let cols : (dims_at ds 2).cols ≡ (dims_at ds 4).cols = grind (arith, nat_tests) in
+    let at' = dims_at-all_dims slots in
+    let r = λ (d : Dims). d.rows in
+    let k = λ (d : Dims). d.cols in
+    (sym (ap r (at' 3)) ∙ rows ∙ ap r (at' 4), sym (ap k (at' 3)) ∙ sym inner ∙ ap k (at' 1), sym (ap k (at' 2)) ∙ cols ∙ ap k (at' 4))
 
 count_front : (slots before front : List Slot) (s t : Slot) → length slots ≡ 5 → slots ≡ before ++ s ∷ [] → before ≡ front ++ t ∷ [] → (length before ≡ 4) × (length front ≡ 3)
 count_front slots before front s t n e f =

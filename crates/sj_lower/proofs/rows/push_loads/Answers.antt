@@ -1,5 +1,8 @@
 use Rattle.std.proofs.Common.{◌≡◌, ◌∙◌, ◌++◌, ◌∷◌, [], ap, sym, rules}
+use Rattle.sj_base.specs.declared.ids.Cell.{Cell}
+use Rattle.sj_base.specs.declared.mode.Mode.TheVariants.{W}
 use Rattle.sj_base.specs.declared.program.Lowered.{Lowered}
+use Rattle.sj_base.specs.Mode.{access}
 use Rattle.sj_codelet.specs.declared.kernel.Kernel.TheVariants.{Load}
 use Rattle.sj_codelet.specs.Kernel.{codelet_of}
 use Rattle.sj_lower.specs.Rows.{task_by}
@@ -8,7 +11,8 @@ use Rattle.sj_lower.proofs.rows.push_loads.Goals as goal
 
 pub returns-then-placed-eq1 : goal.returns-then-placed-eq1
 returns-then-placed-eq1 c =
-    let values : c.into_items.result.items ≡ c.args.values = search rules in
+    let values : c.into_items-args.result.items ≡ c.args.values = search rules in
+    let cell : Cell = record { 0 = c.args.placed.first } in
     c.in_ok-push.ensures.items
-    ∙ ap (λ (t : Lowered). c.args.tasks.now.items ++ t ∷ []) (c.own_task.ensures ∙ (λ i. task_by (codelet_of Load) (values i) (c.in_ok-accesses.ensures i) c.args.line))
+    ∙ ap (λ (t : Lowered). c.args.tasks.now.items ++ t ∷ []) (c.in_ok-task_on.ensures ∙ ap (λ zs. task_by (codelet_of Load) zs (access W cell ∷ []) c.args.line) values)
     ∙ ap (λ ts. c.args.tasks.now.items ++ ts) (sym (one-load c.args.values c.args.dims c.args.placed.parts c.args.placed.first c.args.line c.requires.plan c.if-placed-eq1.true c.requires.values))

@@ -1,8 +1,6 @@
 use Rattle.std.proofs.Common.{subst}
 use Rattle.std.proofs.lemmas.Result.{IfOk-weaker}
 use Rattle.sj_meaning.specs.View.{statements_of}
-use Rattle.sj_ready.specs.declared.input.Input.{Input}
-use Rattle.sj_ready.specs.declared.input.Input.TheVariants.{Generated}
 use Rattle.sj_ready.specs.Input.{CanBeGenerated, HasJob}
 use Rattle.sj_ready.proofs.Known.{well-in}
 use Rattle.sj_ready.proofs.ready.job_of.Goals as goal

@@ -1,7 +1,7 @@
 use Rattle.std.proofs.Common.{◌≡◌, false, map, refl, subst, sym, Option, Some, Ok}
-use Rattle.std.specs.Prelude.{is_none, option_map}
+use Rattle.std.specs.Prelude.{IfSome, is_none, option_map}
 use Rattle.std.proofs.lemmas.Bool.{true≢false}
-use Rattle.sj_apps.specs.Application.{job_for}
+use Rattle.sj_apps.specs.Application.{IsSized, job_for}
 use Rattle.sj_apps.specs.declared.application.Application.{Application}
 use Rattle.sj_engine.specs.Outcome.{AllTell}
 use Rattle.sj_top.specs.Device.{devices, in_use, seen}
@@ -10,6 +10,7 @@ use Rattle.sj_ready.specs.Work.{asked_by, said_by}
 use Rattle.sj_top.specs.Work.{job_by, told}
 use Rattle.sj_top.proofs.Solving.{solved}
 use Rattle.sj_top.proofs.Tops.{caused-by, printed-by, silent-by}
+use Rattle.sj_top.proofs.Unrefused.{unrefused}
 use Rattle.sj_top.proofs.top.answer_options.Goals as goal
 
 -- ---- with an application
@@ -60,6 +61,12 @@ returns-in-Some-clause-solved g c = λ tells.
     (subst (λ (x : Option Application). TakesText (told (option_map (said_by o sizes) (job_by x left))) r.status out out' r.trace.events)
     (sym c.in-Some.is) (printed-by o sizes (Some job) job refl (AllTell g.D.Disk.held c.args.disks.items) r.status out out' r.trace.events c.answer_input.ensures.answered tells))
 
+pub returns-in-Some-clause-refuses_no_application : goal.returns-in-Some-clause-refuses_no_application
+returns-in-Some-clause-refuses_no_application g c = λ none.
+    let r = c.answer_input.result in
+    unrefused c.args.options.now (map g.D.Disk.size c.args.disks.items) c.in-Some.application
+    (subst (λ (x : Option Application). IfSome x IsSized) c.in-Some.is c.requires.options.application) (AllTell g.D.Disk.held c.args.disks.items) r.status _ _ r.trace.events c.answer_input.ensures.answered
+
 -- ---- without
 
 pub returns-in-None-clause-printed : goal.returns-in-None-clause-printed
@@ -82,6 +89,10 @@ returns-in-None-clause-answered g c =
 
 pub returns-in-None-clause-reads_nothing : goal.returns-in-None-clause-reads_nothing
 returns-in-None-clause-reads_nothing g c = λ none.
+    absurd (true≢false (subst (λ (x : Option Application). is_none x ≡ false) c.in-None.is none))
+
+pub returns-in-None-clause-refuses_no_application : goal.returns-in-None-clause-refuses_no_application
+returns-in-None-clause-refuses_no_application g c = λ none.
     absurd (true≢false (subst (λ (x : Option Application). is_none x ≡ false) c.in-None.is none))
 
 pub returns-in-None-clause-out_stays : goal.returns-in-None-clause-out_stays

@@ -39,6 +39,10 @@ pub returns-in-Ok-clause-reads_nothing : goal.returns-in-Ok-clause-reads_nothing
 returns-in-Ok-clause-reads_nothing g c = λ none.
     c.answer_options.ensures.reads_nothing (subst (λ (o : Option Options). reads_source o ≡ false) c.in-Ok.ensures.ok none)
 
+pub returns-in-Ok-clause-refuses_no_application : goal.returns-in-Ok-clause-refuses_no_application
+returns-in-Ok-clause-refuses_no_application g c = λ none.
+    c.answer_options.ensures.refuses_no_application (subst (λ (o : Option Options). reads_source o ≡ false) c.in-Ok.ensures.ok none)
+
 pub returns-in-Ok-clause-out_stays : goal.returns-in-Ok-clause-out_stays
 returns-in-Ok-clause-out_stays g c = λ silent.
     let sizes = map g.D.Disk.size c.args.disks.items in
