@@ -12,15 +12,17 @@ evicting() {
   printf 'print %s\n' a b c d
 }
 
-# swap_file PID: the file that a run swaps to, once something is in it
+# swap_file PID: the file that a run swaps to, once something is in it; none where the run has ended before
 swap_file() {
   local link
   for _ in {1..1000}; do
+    [ -e /proc/$1/exe ] || return 1
     for link in /proc/$1/fd/*; do
       [[ $(readlink "$link") == *' (deleted)' ]] && [ "$(stat -L -c %b "$link")" != 0 ] && echo "$link" && return
     done
     sleep 0.02
   done
+  return 1
 }
 
 # Blocks of many sizes, to their last byte, each by a run that evicts and one that doesn't.
@@ -68,22 +70,30 @@ if unshare -rm mount -t tmpfs none mounted 2> /dev/null; then
   expect 'a folder that is read only' 6 '' $'starjob: swap mounted: Read-only file system\n'"$failed_disk"
 fi
 
-# A file that is cut short, or written to, while a run of some seconds uses it, which would go on for longer otherwise.
+# A file that is cut short, or written to, in the run. The program is stopped meanwhile, and goes on through many transfers more. A run
+# that ends before its file is found, or before it is stopped, tells nothing, and is tried again.
 long() {
   evicting 512 | sed '/^print/d'
   yes $'task add a:R b:RW\ntask add c:R d:RW\ntask add b:R a:RW\ntask add d:R c:RW' | head -n 100000
   printf 'print a\n'
 }
 long > long.job
-# changed COMMAND..: while the program runs, the command is given its swap file again and again
-changed() {
+# change COMMAND..: stops the run of $running where it stands, and gives its swap file to the command
+change() {
   local file
-  "$program" --swap swap < long.job > out 2> err &
-  running=$!
-  file=$(swap_file $running)
-  while kill -0 $running 2> /dev/null && [ -e "$file" ]; do "$@" "$file"; done 2> /dev/null
-  wait $running
-  code=$?
+  file=$(swap_file $running) && kill -STOP $running && "$@" "$file"
+  kill -CONT $running
+}
+# changed COMMAND..: a run whose swap file the command was given
+changed() {
+  for _ in {1..20}; do
+    "$program" --swap swap < long.job > out 2> err &
+    running=$!
+    change "$@" 2> /dev/null
+    wait $running
+    code=$?
+    [ $code = 0 ] || return
+  done
 }
 cut() { truncate -s 0 "$1"; }
 overwrite() { dd if=/dev/zero of="$1" bs=4096 count=8 conv=notrunc status=none; }
