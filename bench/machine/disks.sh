@@ -25,7 +25,7 @@ ghost use Rattle.sj_edge.specs.Sizes.{AreWithin};
 ghost use Rattle.sj_ready.specs.Input.{HasJob};
 ghost use Rattle.sj_ready.specs.Ready.{HasOwnCodelets, IsReady};
 ghost use Rattle.sj_ready.specs.Work.{WorkOrRefusal};
-ghost use Rattle.sj_words.specs.Options.{IsWithinLimits};
+ghost use Rattle.sj_words.specs.Options.{OptionsAreInRange};
 
 use sj_base::ids::Place;
 use sj_base::memory::OutOfMemory;
@@ -37,7 +37,7 @@ use sj_edge::gate::OpenGate;
 use sj_engine::engine::{RunOutcome, run};
 use sj_minplus::library::Library;
 use sj_ready::input::Input;
-use sj_ready::ready::{Ready, prepare};
+use sj_ready::ready::{ReadyJob, ready_job};
 use sj_words::{Options, read_words};
 use std::alloc::Global;
 use std::env;
@@ -117,14 +117,14 @@ fn sizes_of<D: Disk>(alloc: Global, disks: &[D]) -> Result<Vec<u64>, OutOfMemory
 fn run_ready<C: Codelets, D: Disk + Send, R: Threads + Wait + Clock + Sync>(
     rt: &R,
     alloc: Global,
-    ready: Ready,
+    ready: ReadyJob,
     disks: Vec<D>,
     codelets: &C,
 ) -> Option<Taken>
     requires ready { (asked : WorkOrRefusal) × IsReady C.has asked ready }
     requires disks { ready.machine.disks ≡ map D.size disks.items }
 {
-    let Ready {
+    let ReadyJob {
         program, machine, ..
     } = ready;
     let start = Instant::now(rt).ok()?;
@@ -146,14 +146,14 @@ fn run_on<C: Codelets, D: Disk + Send, R: Threads + Wait + Clock + Sync>(
     codelets: &C,
 ) -> Option<Taken>
     requires own { HasOwnCodelets C.has }
-    requires options { IsWithinLimits options.now }
+    requires options { OptionsAreInRange options.now }
     requires few { length disks.items ≤ 16 }
     requires small { AreWithin D.size (2 ^ 40) disks.items }
 {
     let Ok(sizes) = sizes_of(alloc, &disks) else {
         return None;
     };
-    match prepare(alloc, Input::Text(text), options, sizes, codelets) {
+    match ready_job(alloc, Input::Text(text), options, sizes, codelets) {
         Ok(ready) => run_ready(rt, alloc, ready, disks, codelets),
         Err(_) => None,
     }
@@ -216,8 +216,8 @@ use Rattle.std.specs.Prelude.{All}
 use Rattle.std.proofs.lemmas.List.Elements.{All-map}
 use Rattle.disks.proofs.run_on.Goals as goal
 
-pub prepare-requires-clause-small : goal.prepare-requires-clause-small
-prepare-requires-clause-small g c κs within =
+pub ready_job-requires-clause-small : goal.ready_job-requires-clause-small
+ready_job-requires-clause-small g c κs within =
     let sizes = c.in-Ok.ensures ∙ ap (map g.D.Disk.size) c.deref.ensures.value in
     subst (λ (ns : List ℕ). All (λ n. n ≤ 2 ^ 40) ns) (sym sizes) (All-map (λ n. n ≤ 2 ^ 40) g.D.Disk.size c.args.disks.items c.requires.small)
 ANTT

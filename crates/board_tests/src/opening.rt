@@ -7,7 +7,7 @@ ghost use Rattle.sj_core.specs.Proper.{HasSwapFor, IsWithinLimits};
 ghost use Rattle.sj_disk.specs.Directory.{extent_of};
 ghost use Rattle.sj_machine.specs.Placing.{ArePlaced, IsEmptySet, ReservesSome};
 ghost use Rattle.sj_machine.specs.Board.{IsFree};
-ghost use Rattle.sj_machine.specs.Sound.{IsRunOf};
+ghost use Rattle.sj_machine.specs.Sound.{IsRunnableOn};
 ghost use Rattle.sj_machine.specs.Standing.{AllTell};
 
 use sj_base::ids::Cell;
@@ -58,7 +58,7 @@ fn machine_of(alloc: Global, settings: &Settings, disk: u64) -> Result<Machine, 
 /// The program of a job text, and the machine that its settings ask for, with one disk of so many bytes.
 fn parts_of(alloc: Global, text: &str, disk: u64) -> Result<Parts, Fail>
     requires small { disk ≤ 2 ^ 40 }
-    ensures run { IfOk result (λ r. IsRunOf r.program.value r.machine) }
+    ensures run { IfOk result (λ r. IsRunnableOn r.program.value r.machine) }
     ensures disks { IfOk result (λ r. r.machine.disks ≡ disk ∷ []) }
 {
     let job = read(alloc, text.as_bytes(), &Ring)?;
@@ -105,7 +105,7 @@ fn place_cells<D: Disk>(
 
 /// The board of these parts, on which nothing has happened.
 fn board_of<D: Disk>(alloc: Global, parts: Parts, disks: Vec<D>) -> Result<Board<D>, Fail>
-    requires run { IsRunOf parts.program.value parts.machine }
+    requires run { IsRunnableOn parts.program.value parts.machine }
     requires sizes { parts.machine.disks ≡ map D.size disks.items }
     ensures free { IfOk result (λ b. (w : Worker) → w.0 < b.run.program.workers → IsFree b w) }
     ensures no_fault { IfOk result (λ b. b.fault ≡ None) }

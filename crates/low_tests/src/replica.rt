@@ -1,14 +1,14 @@
 //! A copy of a cell through claims, transfers, a run and an end.
 
 use sj_base::ids::{DiskNo, Node, Place};
-use sj_replica::replica::Replica;
+use sj_replica::replica::CellReplicas;
 use sj_replica::state::At;
 
 #[test]
 fn a_written_cell_is_evicted_and_fetched_again(rt: HostRuntime) {
     let (near, far) = (Node(0), Node(3));
     let disk = Place::Disk(DiskNo(1));
-    let mut cell = Replica::none(DiskNo(1));
+    let mut cell = CellReplicas::none(DiskNo(1));
     assert_eq!(rt; cell.source(Place::Node(near)), None);
     cell.coming(near);
     cell.read_begin(near);

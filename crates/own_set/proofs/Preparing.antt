@@ -7,19 +7,19 @@ use Rattle.sj_base.specs.declared.program.Program.{Program}
 use Rattle.sj_core.specs.Proper.{HasSwapFor, IsMachineFor, Proper}
 use Rattle.sj_meaning.specs.Job.{Job}
 use Rattle.sj_job.specs.Reading.{Refusal}
-use Rattle.own_set.specs.declared.Ready.{Ready}
-use Rattle.own_set.specs.NotRun.{IsReady}
-use Rattle.own_set.specs.Turns.{HasCodelets, program_of, small_machine, turns_commuting, turns_contributing, turns_reducing}
+use Rattle.own_set.specs.declared.SetRun.{SetRun}
+use Rattle.own_set.specs.NotRun.{IsSetRun}
+use Rattle.own_set.specs.Turns.{HasCodelets, small_program, small_machine, turns_commuting, turns_contributing, turns_reducing}
 
 abbrev HasFittingArguments : Program → Type 0
 HasFittingArguments p = All (λ l. All (FitsSigned w64) l.args) p.tasks
 
-pub ready-by : (job : Result Job Refusal) (j : Job) (p : Program) (disks : List ℕ) (r : Ready) → job ≡ Ok j → p ≡ program_of j.statements → r.program.value ≡ p → r.machine ≡ small_machine disks
-    → Proper p → HasCodelets p → All (λ l. All (FitsSigned w64) l.args) p.tasks → length disks ≤ 16 → HasSwapFor p r.machine → IsReady job disks r
+pub ready-by : (job : Result Job Refusal) (j : Job) (p : Program) (disks : List ℕ) (r : SetRun) → job ≡ Ok j → p ≡ small_program j.statements → r.program.value ≡ p → r.machine ≡ small_machine disks
+    → Proper p → HasCodelets p → All (λ l. All (FitsSigned w64) l.args) p.tasks → length disks ≤ 16 → HasSwapFor p r.machine → IsSetRun job disks r
 ready-by job j p disks r read is same on proper known arguments few swap =
     let workers : r.program.value.workers ≡ 2 = ap (λ (q : Program). q.workers) (same ∙ is) in
     record {
-      program = subst (λ (o : Result Job Refusal). IsOkAnd o (λ i. r.program.value ≡ program_of i.statements)) (sym read) (same ∙ is);
+      program = subst (λ (o : Result Job Refusal). IsOkAnd o (λ i. r.program.value ≡ small_program i.statements)) (sym read) (same ∙ is);
       machine = on;
       proper = subst Proper (sym same) proper;
       lawful = record {

@@ -4,7 +4,7 @@ use Rattle.sj_core.specs.Laws.{IsLawful}
 use Rattle.sj_core.specs.Proper.{HasSwapFor, IsMachineFor, Proper}
 use Rattle.sj_engine.specs.Outcome.{IsCausedBy}
 use Rattle.sj_meaning.specs.Job.{Job}
-use Rattle.sj_job.specs.Reading.{IsRefusal, Refusal}
+use Rattle.sj_job.specs.Reading.{IsReadRefusal, Refusal}
 use Rattle.sj_lower.specs.Limits.{late_limit}
 use Rattle.sj_lower.specs.Progress.{IsLate}
 use Rattle.sj_needs.specs.Shortage.{IsShortage}
@@ -12,12 +12,12 @@ use Rattle.own_set.specs.declared.NotReady.{NotReady}
 use Rattle.own_set.specs.declared.NotReady.TheVariants.{Text, Limit, Codelet, Lacking, OutOfMemory}
 use Rattle.own_set.specs.declared.NotRun.{NotRun}
 use Rattle.own_set.specs.declared.NotRun.TheVariants as not_run
-use Rattle.own_set.specs.declared.Ready.{Ready}
-use Rattle.own_set.specs.Turns.{HasCodelets, program_of, small_machine, turns_has}
+use Rattle.own_set.specs.declared.SetRun.{SetRun}
+use Rattle.own_set.specs.Turns.{HasCodelets, small_program, small_machine, turns_has}
 
 -- the program is that of the job, and can be run by the set of the example on its machine with disks of these sizes
-pub record IsReady (job : Result Job Refusal) (disks : List ℕ) (r : Ready) : Type 0 where
-  pub program : IsOkAnd job (λ j. r.program.value ≡ program_of j.statements)
+pub record IsSetRun (job : Result Job Refusal) (disks : List ℕ) (r : SetRun) : Type 0 where
+  pub program : IsOkAnd job (λ j. r.program.value ≡ small_program j.statements)
   pub machine : r.machine ≡ small_machine disks
   pub proper : Proper r.program.value
   pub lawful : IsLawful turns_has r.program.value
@@ -27,10 +27,10 @@ pub record IsReady (job : Result Job Refusal) (disks : List ℕ) (r : Ready) : T
 -- a line of it is bad, or its statements exceed a limit of lowering, or the set lacks one of its codelets, or the machine lacks
 -- room for it, or memory ran out
 abbrev pub IsNotReady : NotReady → Result Job Refusal → List ℕ → Type 0
-IsNotReady (Text e) job disks = IsRefusal e job
+IsNotReady (Text e) job disks = IsReadRefusal e job
 IsNotReady (Limit e) job disks = IsOkAnd job (λ j. IsLate e (late_limit (small_machine disks).workers j.statements))
-IsNotReady Codelet job disks = IsOkAnd job (λ j. ¬ HasCodelets (program_of j.statements))
-IsNotReady (Lacking s) job disks = IsOkAnd job (λ j. IsShortage (program_of j.statements) (small_machine disks) s)
+IsNotReady Codelet job disks = IsOkAnd job (λ j. ¬ HasCodelets (small_program j.statements))
+IsNotReady (Lacking s) job disks = IsOkAnd job (λ j. IsShortage (small_program j.statements) (small_machine disks) s)
 IsNotReady OutOfMemory job disks = Unit {0}
 
 -- it isn't ready, or its run broke off for this cause: of a fault the count of a disk rose between the disks as they were handed

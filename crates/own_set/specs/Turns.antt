@@ -31,8 +31,8 @@ abbrev pub small_machine : List ℕ → Machine
 small_machine disks = record { workers = 2; nodes = 96 ∷ []; disks = disks; policy = Eager }
 
 -- the program of statements for that machine's workers
-abbrev pub program_of : List (Statement (List ℕ)) → Program
-program_of ss = lowered ss 2
+abbrev pub small_program : List (Statement (List ℕ)) → Program
+small_program ss = lowered ss 2
 
 pub turns_commuting : CommutingCommute turns_has
 turns_commuting Transpose h = absurd (false≢true h)

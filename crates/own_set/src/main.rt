@@ -4,12 +4,12 @@
 
 ghost use Rattle.std.specs.Prelude.{◌≡◌, ◌↔◌, ◌≤◌, ◌^◌, ℕ, All, IsOkAnd, IsTrue, IfOk, IfErr, Result, length, map};
 ghost use Rattle.sj_edge.specs.Sizes.{AreWithin};
-ghost use Rattle.sj_engine.specs.Outcome.{AllTell};
+ghost use Rattle.sj_engine.specs.Outcome.{AllDisksTell};
 ghost use Rattle.sj_meaning.specs.Job.{Job};
 ghost use Rattle.sj_job.specs.Reading.{Refusal, job_of};
 ghost use Rattle.sj_machine.specs.Delivered.{DeliversEach};
-ghost use Rattle.own_set.specs.NotRun.{IsNotReady, IsNotRun, IsReady};
-ghost use Rattle.own_set.specs.Turns.{HasCodelets, program_of, small_machine, turns_has};
+ghost use Rattle.own_set.specs.NotRun.{IsNotReady, IsNotRun, IsSetRun};
+ghost use Rattle.own_set.specs.Turns.{HasCodelets, small_program, small_machine, turns_has};
 
 use sj_base::memory;
 use sj_base::mode::Policy;
@@ -40,13 +40,13 @@ const JOB: &[u8] =
     b"starjob 1\nmatrix A 2 3 fill 1 1\nmatrix B 3 2 none\nmatrix C 2 3 none\ntask transpose A:R B:W\ntask transpose B:R C:W\nprint B\n";
 
 /// The workers of the example's machine.
-const WORKERS: u8 = 2;
+const WORKER_COUNT: u8 = 2;
 
 /// The bytes of its one node: two of the three matrices, each of six elements of 8 bytes.
-const NODE: u64 = 96;
+const NODE_BYTES: u64 = 96;
 
 /// The bytes of its disk: a block for each of the three matrices, with a header of 24 bytes.
-const SWAP: u64 = 216;
+const DISK_BYTES: u64 = 216;
 
 /// A set of one's own: `transpose` alone, beside what registrations and print statements are lowered to. Its kernels are those
 /// of the ring; one's own would stand in `run`.
@@ -151,7 +151,7 @@ impl From<memory::OutOfMemory> for NotReady {
 
 /// A program that the set runs, and the machine for it.
 #[derive(Drop)]
-struct Ready {
+struct SetRun {
     program: Arc<Program>,
     machine: Machine,
 }
@@ -161,9 +161,9 @@ fn machine(alloc: Global, disks: Vec<u64>) -> Result<Machine, memory::OutOfMemor
     ensures { IfOk result (λ m. m ≡ small_machine disks.items) }
 {
     let mut nodes = Vec::new(alloc);
-    nodes.push(NODE)?;
+    nodes.push(NODE_BYTES)?;
     Ok(Machine {
-        workers: WORKERS,
+        workers: WORKER_COUNT,
         nodes: Sequence::of(nodes),
         disks: Sequence::of(disks),
         policy: Policy::Eager,
@@ -178,14 +178,14 @@ fn shared(alloc: Global, program: Program) -> Result<Arc<Program>, memory::OutOf
 }
 
 /// The program of a text, and the machine for it with disks of these sizes. The cost of reading and lowering.
-fn make_ready(alloc: Global, text: &[u8], disks: Vec<u64>) -> Result<Ready, NotReady>
+fn make_ready(alloc: Global, text: &[u8], disks: Vec<u64>) -> Result<SetRun, NotReady>
     requires few { length disks.items ≤ 16 }
     requires small { All (λ n. n ≤ 2 ^ 40) disks.items }
-    ensures ok { IfOk result (IsReady (job_of turns_has text.now) disks.items) }
+    ensures ok { IfOk result (IsSetRun (job_of turns_has text.now) disks.items) }
     ensures err { IfErr result (λ e. IsNotReady e (job_of turns_has text.now) disks.items) }
 {
     let job = read(alloc, text, &Turns)?;
-    let LoweredJob { program, .. } = lower(alloc, job, WORKERS)?;
+    let LoweredJob { program, .. } = lower(alloc, job, WORKER_COUNT)?;
     if !has_codelets(&program) {
         return Err(NotReady::Codelet);
     }
@@ -193,7 +193,7 @@ fn make_ready(alloc: Global, text: &[u8], disks: Vec<u64>) -> Result<Ready, NotR
     let machine = machine(alloc, disks)?;
     fits(alloc, &program, &machine)?;
     let program = shared(alloc, program)?;
-    Ok(Ready { program, machine })
+    Ok(SetRun { program, machine })
 }
 
 /// Why a text isn't run.
@@ -216,17 +216,18 @@ struct Turned<D> {
 fn run_ready<D: Disk + Send, R: Threads + Wait + Sync>(
     rt: &R,
     alloc: Global,
-    ready: Ready,
+    ready: SetRun,
     disks: Vec<D>,
 ) -> Turned<D>
-    requires ready { (job : Result Job Refusal) × IsReady job (map D.size disks.items) ready }
-    ensures ok { (job : Result Job Refusal) → IsReady job (map D.size disks.items) ready →
+    requires ready { (job : Result Job Refusal) × IsSetRun job (map D.size disks.items) ready }
+    ensures ok { (job : Result Job Refusal) → IsSetRun job (map D.size disks.items) ready →
         IfOk result.handed (λ handed. IsOkAnd job
-        (λ j. DeliversEach (program_of j.statements) (AllTell D.held disks.items) handed.pairs)) }
+        (λ j. DeliversEach (small_program j.statements) (AllDisksTell D.held disks.items)
+        handed.pairs)) }
     ensures err { (job : Result Job Refusal) → IfErr result.handed (λ e. IsNotRun D.faults
         D.mismatches D.held e job (map D.size disks.items) disks.items result.disks.items) }
 {
-    let Ready { program, machine } = ready;
+    let SetRun { program, machine } = ready;
     let RunOutcome {
         result,
         delivered,
@@ -255,8 +256,8 @@ fn run_text<D: Disk + Send, R: Threads + Wait + Sync>(
     requires few { length disks.items ≤ 16 }
     requires small { AreWithin D.size (2 ^ 40) disks.items }
     ensures ok { IfOk result.handed (λ handed. IsOkAnd (job_of turns_has text.now)
-        (λ job. DeliversEach (program_of job.statements)
-        (AllTell D.held disks.items) handed.pairs)) }
+        (λ job. DeliversEach (small_program job.statements)
+        (AllDisksTell D.held disks.items) handed.pairs)) }
     ensures err { IfErr result.handed (λ e. IsNotRun D.faults D.mismatches D.held e
         (job_of turns_has text.now) (map D.size disks.items) disks.items result.disks.items) }
 {
@@ -281,7 +282,7 @@ fn one_disk(alloc: Global) -> Result<Vec<MemDisk>, memory::OutOfMemory>
         × AreWithin ⟦<MemDisk as Disk>⟧.size (2 ^ 40) disks.items) }
 {
     let mut disks = Vec::new(alloc);
-    disks.push(MemDisk::new(alloc, SWAP, Vec::new(alloc))?)?;
+    disks.push(MemDisk::new(alloc, DISK_BYTES, Vec::new(alloc))?)?;
     Ok(disks)
 }
 

@@ -26,7 +26,7 @@ use Rattle.sj_job.specs.Judge.{known_of, scope_of}
 use Rattle.sj_meaning.specs.Sound.{is_aliased}
 use Rattle.sj_job.specs.Grammar.{has_values}
 use Rattle.sj_meaning.specs.Meaning.{apply, register}
-use Rattle.sj_meaning.specs.State.{State, root_of, start}
+use Rattle.sj_meaning.specs.State.{JobState, root_of, start}
 use Rattle.sj_meaning.specs.Statement.{Operand}
 use Rattle.sj_job.specs.Well.{IsWell}
 use Rattle.sj_job.specs.Word.{integer, integer_of, is_integer}
@@ -53,7 +53,7 @@ each-below : (p : ℕ) → AllByRecursion (λ k. k < p) (upto p)
 each-below p = each-below_from p 0 p (omega arith)
 
 -- a matrix of that name, seen at a place
-seen : (n p c : ℕ) (S : State) (o : Operand (List ℕ)) (f : ℕ → ℕ → ℤ) → IsMatrix n p S o.name f → S.ended ≡ [] → Rattle.sj_job.specs.Word.is_name o.name ≡ true → o.place.0 < p → o.place.1 < p → IsSeen n p (scope_of c S) o
+seen : (n p c : ℕ) (S : JobState) (o : Operand (List ℕ)) (f : ℕ → ℕ → ℤ) → IsMatrix n p S o.name f → S.ended ≡ [] → Rattle.sj_job.specs.Word.is_name o.name ≡ true → o.place.0 < p → o.place.1 < p → IsSeen n p (scope_of c S) o
 seen n p c S o f is ended named hi hj = record {
   elements = f;
   known = ap (option_map known_of) is;
@@ -64,7 +64,7 @@ seen n p c S o f is ended named hi hj = record {
 
 -- ---- the product
 
-record IsMultiplying (n p : ℕ) (S : State) : Type 0 where
+record IsMultiplying (n p : ℕ) (S : JobState) : Type 0 where
   a : ℕ → ℕ → ℤ
   b : ℕ → ℕ → ℤ
   c : ℕ → ℕ → ℤ
@@ -72,7 +72,7 @@ record IsMultiplying (n p : ℕ) (S : State) : Type 0 where
   ended : S.ended ≡ []
 
 module _ (n p : ℕ) (h : IsCut n p) where
-  gemm-step : (i j k : ℕ) (T : State) → i < p → j < p → k < p → IsMultiplying n p T → Allowed T (gemm_act i j k) × IsMultiplying n p (apply (gemm_act i j k) T)
+  gemm-step : (i j k : ℕ) (T : JobState) → i < p → j < p → k < p → IsMultiplying n p T → Allowed T (gemm_act i j k) × IsMultiplying n p (apply (gemm_act i j k) T)
   gemm-step i j k T hi hj hk now =
       let r = gemm-run n p i j k T now.a now.b now.c hi hj hk now.are in (
         λ c few. task-judged n p (omega (arith, h.few)) (scope_of c T) Gemm (codes "gemm") (tile_operand name_A i k R ∷ tile_operand name_B k j R ∷ tile_operand name_C i j Commute ∷ []) (not-full c few) refl refl
@@ -81,7 +81,7 @@ module _ (n p : ℕ) (h : IsCut n p) where
         record { a = now.a; b = now.b; c = _; are = r.are; ended = r.keeps.ended ∙ now.ended },
       )
 
-  gemms-allowed : (T : State) → IsMultiplying n p T → AllAllowed T (gemms p) × IsMultiplying n p (run (gemms p) T)
+  gemms-allowed : (T : JobState) → IsMultiplying n p T → AllAllowed T (gemms p) × IsMultiplying n p (run (gemms p) T)
   gemms-allowed T now =
       let below = each-below p in
       all-flat {Q = λ i. i < p} (IsMultiplying n p) (gemms_in_row p) (λ i T hi.
@@ -142,7 +142,7 @@ product-well n tile seed size =
 
 -- ---- shortest walks
 
-record IsWalking (n p : ℕ) (S : State) : Type 0 where
+record IsWalking (n p : ℕ) (S : JobState) : Type 0 where
   d : ℕ → ℕ → ℤ
   is : IsMatrix n p S name_D d
   ended : S.ended ≡ []
@@ -169,20 +169,20 @@ module _ (n p : ℕ) (h : IsCut n p) where
   small : p < 2 ^ 63
   small = omega (arith, h.few)
 
-  tile-seen : (c i j : ℕ) (T : State) (o : Operand (List ℕ)) (now : IsWalking n p T) → o.name ≡ name_D → o.place ≡ (i, j) → i < p → j < p → IsSeen n p (scope_of c T) o
+  tile-seen : (c i j : ℕ) (T : JobState) (o : Operand (List ℕ)) (now : IsWalking n p T) → o.name ≡ name_D → o.place ≡ (i, j) → i < p → j < p → IsSeen n p (scope_of c T) o
   tile-seen c i j T o now named placed hi hj = seen n p c T o now.d (ap (root_of T) named ∙ now.is) now.ended (ap Rattle.sj_job.specs.Word.is_name named) (subst (λ (x : ℕ × ℕ). x.0 < p) (sym placed) hi) (subst (λ (x : ℕ × ℕ). x.1 < p) (sym placed) hj)
 
-  after : (S T : State) (g : ℕ → ℕ → ℤ) → Becomes n p S T g → S.ended ≡ [] → IsWalking n p T
+  after : (S T : JobState) (g : ℕ → ℕ → ℤ) → Becomes n p S T g → S.ended ≡ [] → IsWalking n p T
   after S T g b e = record { d = g; is = b.is; ended = b.keeps.ended ∙ e }
 
-  diagonal-step : (k : ℕ) (T : State) → k < p → IsWalking n p T → Allowed T (diagonal k) × IsWalking n p (apply (diagonal k) T)
+  diagonal-step : (k : ℕ) (T : JobState) → k < p → IsWalking n p T → Allowed T (diagonal k) × IsWalking n p (apply (diagonal k) T)
   diagonal-step k T hk now = (
     λ c few. task-judged n p small (scope_of c T) FwDiag (codes "fwdiag") (tile_operand name_D k k RW ∷ []) (not-full c few) refl refl
         (tile-seen c k k T (tile_operand name_D k k RW) now refl refl hk hk, tt) refl refl (eq-eqb (part_len n p k) (part_len n p k) refl) refl (refl, tt) refl refl,
     after T (apply (diagonal k) T) _ (diagonal-run n p k T now.d hk now.is) now.ended,
   )
 
-  beside-step : (k j : ℕ) (T : State) → k < p → IsOther p k j → IsWalking n p T → Allowed T (beside k j) × IsWalking n p (apply (beside k j) T)
+  beside-step : (k j : ℕ) (T : JobState) → k < p → IsOther p k j → IsWalking n p T → Allowed T (beside k j) × IsWalking n p (apply (beside k j) T)
   beside-step k j T hk hj now = (
     λ c few. task-judged n p small (scope_of c T) FwRow (codes "fwrow") (tile_operand name_D k k R ∷ tile_operand name_D k j RW ∷ []) (not-full c few) refl refl
         (tile-seen c k k T (tile_operand name_D k k R) now refl refl hk hk, (tile-seen c k j T (tile_operand name_D k j RW) now refl refl hk hj.0, tt)) refl refl
@@ -190,7 +190,7 @@ module _ (n p : ℕ) (h : IsCut n p) where
     after T (apply (beside k j) T) _ (beside-run n p k j T now.d hk hj.0 now.is) now.ended,
   )
 
-  below-step : (k i : ℕ) (T : State) → k < p → IsOther p k i → IsWalking n p T → Allowed T (below k i) × IsWalking n p (apply (below k i) T)
+  below-step : (k i : ℕ) (T : JobState) → k < p → IsOther p k i → IsWalking n p T → Allowed T (below k i) × IsWalking n p (apply (below k i) T)
   below-step k i T hk hi now = (
     λ c few. task-judged n p small (scope_of c T) FwCol (codes "fwcol") (tile_operand name_D k k R ∷ tile_operand name_D i k RW ∷ []) (not-full c few) refl refl
         (tile-seen c k k T (tile_operand name_D k k R) now refl refl hk hk, (tile-seen c i k T (tile_operand name_D i k RW) now refl refl hi.0 hk, tt)) refl refl
@@ -198,7 +198,7 @@ module _ (n p : ℕ) (h : IsCut n p) where
     after T (apply (below k i) T) _ (below-run n p k i T now.d hk hi.0 now.is) now.ended,
   )
 
-  apart-step : (k i j : ℕ) (T : State) → k < p → IsOther p k i → IsOther p k j → IsWalking n p T → Allowed T (apart k i j) × IsWalking n p (apply (apart k i j) T)
+  apart-step : (k i j : ℕ) (T : JobState) → k < p → IsOther p k i → IsOther p k j → IsWalking n p T → Allowed T (apart k i j) × IsWalking n p (apply (apart k i j) T)
   apart-step k i j T hk hi hj now = (
     λ c few. task-judged n p small (scope_of c T) MinGemm (codes "mingemm") (tile_operand name_D i k R ∷ tile_operand name_D k j R ∷ tile_operand name_D i j RW ∷ []) (not-full c few) refl refl
         (tile-seen c i k T (tile_operand name_D i k R) now refl refl hi.0 hk, (tile-seen c k j T (tile_operand name_D k j R) now refl refl hk hj.0, (tile-seen c i j T (tile_operand name_D i j RW) now refl refl hi.0 hj.0, tt))) refl refl
@@ -206,7 +206,7 @@ module _ (n p : ℕ) (h : IsCut n p) where
     after T (apply (apart k i j) T) _ (apart-run n p k i j T now.d hk hi.0 hj.0 now.is) now.ended,
   )
 
-  walk_step-allowed : (k : ℕ) (T : State) → k < p → IsWalking n p T → AllAllowed T (walk_step p k) × IsWalking n p (run (walk_step p k) T)
+  walk_step-allowed : (k : ℕ) (T : JobState) → k < p → IsWalking n p T → AllAllowed T (walk_step p k) × IsWalking n p (run (walk_step p k) T)
   walk_step-allowed k T hk now =
       let os = others p k in
       let are = others_are p k in
@@ -220,7 +220,7 @@ module _ (n p : ℕ) (h : IsCut n p) where
         subst (IsWalking n p) (sym (run-append (each_of (beside k) os) (each_of (below k) os ++ flat_map (aparts_in_row p k) os) (apply (diagonal k) T) ∙ run-append (each_of (below k) os) (flat_map (aparts_in_row p k) os) after_beside)) four.1,
       )
 
-  walk_steps-allowed : (T : State) → IsWalking n p T → AllAllowed T (walk_steps p) × IsWalking n p (run (walk_steps p) T)
+  walk_steps-allowed : (T : JobState) → IsWalking n p T → AllAllowed T (walk_steps p) × IsWalking n p (run (walk_steps p) T)
   walk_steps-allowed T now = all-flat {Q = λ k. k < p} (IsWalking n p) (walk_step p) (λ k T hk now. walk_step-allowed k T hk now) (upto p) (each-below p) T now
 
 -- ---- the weights as words

@@ -13,13 +13,13 @@ use Rattle.sj_codelet.proofs.Elements.{element-grid, same_grid}
 use Rattle.sj_codelet.proofs.Integers.{int_add-zero, int_zero-add}
 use Rattle.sj_codelet.proofs.Sums.{same_sum}
 use Rattle.sj_plan.specs.Interval.{part_first, part_len}
-use Rattle.sj_plan.specs.Rect.{dims_of, holds}
+use Rattle.sj_plan.specs.Rect.{rect_dims, holds}
 use Rattle.sj_plan.proofs.Lists.{each-flat_map, each-map, each-of}
 use Rattle.sj_plan.proofs.Tiling.{part_first-all}
-use Rattle.sj_plan.proofs.Windows.{Holds-from_true}
+use Rattle.sj_plan.proofs.Windows.{HasElement-from_true}
 use Rattle.sj_meaning.specs.declared.job.Kind.TheVariants.{Matrix}
-use Rattle.sj_meaning.specs.Meaning.{Printed, apply, array_of, found_by, printed}
-use Rattle.sj_meaning.specs.State.{Root, State, root_of, start}
+use Rattle.sj_meaning.specs.Meaning.{Printed, apply, root_array, found_by, printed}
+use Rattle.sj_meaning.specs.State.{RootState, JobState, root_of, start}
 use Rattle.sj_apps.specs.Generated.{IsSize, factors, first_line, gemm_act, gemms, gemms_at, gemms_in_row, name_C, part_count, product_statements, square, upto}
 use Rattle.sj_apps.specs.Product.{counted_matrix, factor_A, factor_B, matrix_product}
 use Rattle.sj_apps.proofs.Starting.{counting, cut-from, factors-are, multiplied as factored}
@@ -33,12 +33,12 @@ add_assoc a b c = omega (arith, ints)
 -- ---- matrices up to wrapping
 
 -- the factors are a and b, and C has these numbers, wrapped
-record Reached (n p : ℕ) (a b : ℕ → ℕ → ℤ) (T : State) (t : ℕ → ℕ → ℤ) : Type 0 where
+record Reached (n p : ℕ) (a b : ℕ → ℕ → ℤ) (T : JobState) (t : ℕ → ℕ → ℤ) : Type 0 where
   c : ℕ → ℕ → ℤ
   are : AreMatrices n p T a b c
   is : (i j : ℕ) → i < n → j < n → c i j ≡ wrap (t i j)
 
-reached-same : (n p : ℕ) (a b : ℕ → ℕ → ℤ) (T : State) (t u : ℕ → ℕ → ℤ) → ((i j : ℕ) → i < n → j < n → t i j ≡ u i j) → Reached n p a b T t → Reached n p a b T u
+reached-same : (n p : ℕ) (a b : ℕ → ℕ → ℤ) (T : JobState) (t u : ℕ → ℕ → ℤ) → ((i j : ℕ) → i < n → j < n → t i j ≡ u i j) → Reached n p a b T t → Reached n p a b T u
 reached-same n p a b T t u h r = record { c = r.c; are = r.are; is = λ i j hi hj. r.is i j hi hj ∙ ap wrap (h i j hi hj) }
 
 -- the terms of a product
@@ -62,7 +62,7 @@ module _ (n p : ℕ) (a b : ℕ → ℕ → ℤ) where
   gemm-element i0 j0 k c t h0 h1 hk is i j hi hj false e = is i j hi hj ∙ ap wrap (sym (int_add-zero (t i j)))
   gemm-element i0 j0 k c t h0 h1 hk is i j hi hj true e =
       let r = rect n p (i0, j0) in
-      let inside = Holds-from_true r i j e in
+      let inside = HasElement-from_true r i j e in
       let i' = i - r.row in
       let j' = j - r.col in
       let li : i' < r.rows = omega (arith, inside.0.0, inside.0.1) in
@@ -72,14 +72,14 @@ module _ (n p : ℕ) (a b : ℕ → ℕ → ℤ) where
       let ta = tile n p a (i0, k) in
       let tb = tile n p b (k, j0) in
       let tc = tile n p c (i0, j0) in
-      let own : element tc i' j' ≡ wrap (t i j) = element-grid (dims_of r) (λ i j. c (r.row + i) (r.col + j)) i' j' li lj ∙ (λ x. c (bi x) (bj x)) ∙ is i j hi hj in
+      let own : element tc i' j' ≡ wrap (t i j) = element-grid (rect_dims r) (λ i j. c (r.row + i) (r.col + j)) i' j' li lj ∙ (λ x. c (bi x) (bj x)) ∙ is i j hi hj in
       let sums : exact ta tb i' j' ≡ part_sum k i j = same_sum (part_len n p k) (λ l. element ta i' l *ℤ element tb l j') (λ l. terms a b i j (part_first n p k + l)) (λ l hl x.
-      (element-grid (dims_of (rect n p (i0, k))) (λ i j. a (r.row + i) (part_first n p k + j)) i' l li hl ∙ (λ y. a (bi y) (part_first n p k + l))) x
-      *ℤ (element-grid (dims_of (rect n p (k, j0))) (λ i j. b (part_first n p k + i) (r.col + j)) l j' hl lj ∙ (λ y. b (part_first n p k + l) (bj y))) x) in
-      element-grid (dims_of r) (λ i j. wrap (element tc i j +ℤ exact ta tb i j)) i' j' li lj
+      (element-grid (rect_dims (rect n p (i0, k))) (λ i j. a (r.row + i) (part_first n p k + j)) i' l li hl ∙ (λ y. a (bi y) (part_first n p k + l))) x
+      *ℤ (element-grid (rect_dims (rect n p (k, j0))) (λ i j. b (part_first n p k + i) (r.col + j)) l j' hl lj ∙ (λ y. b (part_first n p k + l) (bj y))) x) in
+      element-grid (rect_dims r) (λ i j. wrap (element tc i j +ℤ exact ta tb i j)) i' j' li lj
       ∙ (λ x. wrap (own x +ℤ sums x)) ∙ int_wrap-add_left w64 (t i j) (part_sum k i j)
 
-  gemm-reached : (i j k : ℕ) (T : State) (t : ℕ → ℕ → ℤ) → i < p → j < p → k < p → Reached n p a b T t → Reached n p a b (apply (gemm_act i j k) T) (λ x y. t x y +ℤ in_tile n p (i, j) x y (part_sum k x y))
+  gemm-reached : (i j k : ℕ) (T : JobState) (t : ℕ → ℕ → ℤ) → i < p → j < p → k < p → Reached n p a b T t → Reached n p a b (apply (gemm_act i j k) T) (λ x y. t x y +ℤ in_tile n p (i, j) x y (part_sum k x y))
   gemm-reached i j k T t hi hj hk r = record {
     c = with_tile n p (i, j) (multiplied (tile n p a (i, k)) (tile n p b (k, j)) (tile n p r.c (i, j))) r.c;
     are = (gemm-run n p i j k T a b r.c hi hj hk r.are).are;
@@ -110,9 +110,9 @@ module _ (n p : ℕ) (a b : ℕ → ℕ → ℤ) where
   in_tile-none true t = sym (int_add-zero t)
   in_tile-none false t = sym (int_add-zero t)
 
-  tile-reached : (some : 0 < p) (i j : ℕ) (T : State) (t : ℕ → ℕ → ℤ) → i < p → j < p → Reached n p a b T t → Reached n p a b (run (gemms_at p i j) T) (λ x y. t x y +ℤ in_tile n p (i, j) x y (first_sum n x y))
+  tile-reached : (some : 0 < p) (i j : ℕ) (T : JobState) (t : ℕ → ℕ → ℤ) → i < p → j < p → Reached n p a b T t → Reached n p a b (run (gemms_at p i j) T) (λ x y. t x y +ℤ in_tile n p (i, j) x y (first_sum n x y))
   tile-reached some i j T t hi hj r =
-      let P : ℕ → State → Type 0 = λ k T. Reached n p a b T (λ x y. t x y +ℤ in_tile n p (i, j) x y (first_sum (part_first n p k) x y)) in
+      let P : ℕ → JobState → Type 0 = λ k T. Reached n p a b T (λ x y. t x y +ℤ in_tile n p (i, j) x y (first_sum (part_first n p k) x y)) in
       let before = reached-same n p a b T t (λ x y. t x y +ℤ in_tile n p (i, j) x y (first_sum 0 x y)) (λ x y hx hy. in_tile-none (holds (rect n p (i, j)) x y) (t x y)) r in
       let end = run-each P (gemm_act i j) p T before (λ k T hk now.
       reached-same n p a b (apply (gemm_act i j k) T) (λ x y. (t x y +ℤ in_tile n p (i, j) x y (first_sum (part_first n p k) x y)) +ℤ in_tile n p (i, j) x y (part_sum k x y)) (λ x y. t x y +ℤ in_tile n p (i, j) x y (first_sum (part_first n p (k + 1)) x y))
@@ -144,10 +144,10 @@ module _ (n p : ℕ) (a b : ℕ → ℕ → ℤ) where
   abbrev in_row : ℕ → ℕ → Bool
   in_row i x = is_within x (part_first n p i) (part_len n p i)
 
-  row-reached : (some : 0 < p) (i : ℕ) (T : State) (t : ℕ → ℕ → ℤ) → i < p → Reached n p a b T t → Reached n p a b (run (gemms_in_row p i) T) (λ x y. t x y +ℤ cond (in_row i x) (first_sum n x y) (pos 0))
+  row-reached : (some : 0 < p) (i : ℕ) (T : JobState) (t : ℕ → ℕ → ℤ) → i < p → Reached n p a b T t → Reached n p a b (run (gemms_in_row p i) T) (λ x y. t x y +ℤ cond (in_row i x) (first_sum n x y) (pos 0))
   row-reached some i T t hi r =
       let part : ℕ → ℕ → ℕ → ℤ = λ j x y. cond (in_row i x && nat_lt y (part_first n p j)) (first_sum n x y) (pos 0) in
-      let P : ℕ → State → Type 0 = λ j T. Reached n p a b T (λ x y. t x y +ℤ part j x y) in
+      let P : ℕ → JobState → Type 0 = λ j T. Reached n p a b T (λ x y. t x y +ℤ part j x y) in
       let before = reached-same n p a b T t (λ x y. t x y +ℤ part 0 x y) (λ x y hx hy. none_left (in_row i x) y (first_sum n x y) (t x y)) r in
       let end = run-range P (gemms_at p i) p T before (λ j T hj now.
       reached-same n p a b (run (gemms_at p i j) T) (λ x y. (t x y +ℤ part j x y) +ℤ in_tile n p (i, j) x y (first_sum n x y)) (λ x y. t x y +ℤ part (j + 1) x y)
@@ -165,10 +165,10 @@ module _ (n p : ℕ) (a b : ℕ → ℕ → ℤ) where
       and_true true t s = refl
       and_true false t s = refl
 
-  all-reached : (some : 0 < p) (T : State) (t : ℕ → ℕ → ℤ) → Reached n p a b T t → Reached n p a b (run (gemms p) T) (λ x y. t x y +ℤ first_sum n x y)
+  all-reached : (some : 0 < p) (T : JobState) (t : ℕ → ℕ → ℤ) → Reached n p a b T t → Reached n p a b (run (gemms p) T) (λ x y. t x y +ℤ first_sum n x y)
   all-reached some T t r =
       let part : ℕ → ℕ → ℕ → ℤ = λ i x y. cond (true && nat_lt x (part_first n p i)) (first_sum n x y) (pos 0) in
-      let P : ℕ → State → Type 0 = λ i T. Reached n p a b T (λ x y. t x y +ℤ part i x y) in
+      let P : ℕ → JobState → Type 0 = λ i T. Reached n p a b T (λ x y. t x y +ℤ part i x y) in
       let before = reached-same n p a b T t (λ x y. t x y +ℤ part 0 x y) (λ x y hx hy. none_above x (first_sum n x y) (t x y)) r in
       let end = run-range P (gemms_in_row p) p T before (λ i T hi now.
       reached-same n p a b (run (gemms_in_row p i) T) (λ x y. (t x y +ℤ part i x y) +ℤ cond (in_row i x) (first_sum n x y) (pos 0)) (λ x y. t x y +ℤ part (i + 1) x y)
@@ -183,9 +183,9 @@ module _ (n p : ℕ) (a b : ℕ → ℕ → ℤ) where
 
 -- ---- what is printed
 
-found-matrix : (n p : ℕ) (S : State) (name : List ℕ) (f : ℕ → ℕ → ℤ) → root_of S name ≡ Some (root n p f) → found_by S name ≡ record { name = name; kind = Matrix; array = grid (square n) f } ∷ []
+found-matrix : (n p : ℕ) (S : JobState) (name : List ℕ) (f : ℕ → ℕ → ℤ) → root_of S name ≡ Some (root n p f) → found_by S name ≡ record { name = name; kind = Matrix; array = grid (square n) f } ∷ []
 found-matrix n p S name f is =
-    ap (λ (o : Option Root). elim o as (λ _. List Printed) [ None ↦ [] | Some r ↦ record { name = name; kind = r.kind; array = array_of r } ∷ [] ]) is
+    ap (λ (o : Option RootState). elim o as (λ _. List Printed) [ None ↦ [] | Some r ↦ record { name = name; kind = r.kind; array = root_array r } ∷ [] ]) is
     ∙ ap (λ (a : Array). record { name = name; kind = Matrix; array = a } ∷ []) (root-array n p f)
 
 gemms-silent : (p : ℕ) → AllByRecursion IsSilent (gemms p)

@@ -11,7 +11,7 @@ use Rattle.sj_codelet.specs.Equations.{fwdiag, fwrow, fwcol, mingemm}
 use Rattle.sj_plan.specs.Interval.{part_first, part_len}
 use Rattle.sj_plan.proofs.Splitting.{part_end}
 use Rattle.sj_plan.proofs.Tiling.{part_first-all}
-use Rattle.sj_meaning.specs.State.{State}
+use Rattle.sj_meaning.specs.State.{JobState}
 use Rattle.sj_meaning.specs.Act.{Act}
 use Rattle.sj_meaning.specs.Meaning.{apply, change, with_child}
 use Rattle.sj_apps.specs.Generated.{apart_of, aparts_of, below_of, beside_of, diagonal_of, tile_operand, others, walk_step_of, walk_steps_of}
@@ -23,7 +23,7 @@ use Rattle.sj_apps.proofs.Blocking.{InCols, InRows, IsChanged, IsIn, OffCols, Of
 use Rattle.sj_apps.proofs.Stepping.{ChangesDown, ChangesRow, ChangesRows, ChangesTile, InPart, IsWithinPart, OffPart, AllSo, IsWithin, below_best, beside_best, part_last, part_next, parts_apart, rest_best, sound_after, tile-at, tile-local, tile_changed, with-inside, with-outside, within-same}
 
 -- the name has a matrix of which P is said at each element, and Q as a whole
-pub record Stands (name : List ℕ) (n p : ℕ) (P : ℕ → ℕ → ℤ → Type 0) (Q : (ℕ → ℕ → ℤ) → Type 0) (S : State) : Type 0 where
+pub record Stands (name : List ℕ) (n p : ℕ) (P : ℕ → ℕ → ℤ → Type 0) (Q : (ℕ → ℕ → ℤ) → Type 0) (S : JobState) : Type 0 where
   pub f : ℕ → ℕ → ℤ
   pub is : IsMatrix n p S name f
   pub sound : AllSo P n f
@@ -37,23 +37,23 @@ other-false m k h = grind (arith, nat_tests)
 
 -- ---- each task, of any matrix
 
-put-tile : (name : List ℕ) (n p : ℕ) (S : State) (f : ℕ → ℕ → ℤ) (place : ℕ × ℕ) (a b : Array) → a ≡ b → IsMatrix n p S name f → IsMatrix n p (change (with_child place a) name S) name (with_tile n p place b f)
+put-tile : (name : List ℕ) (n p : ℕ) (S : JobState) (f : ℕ → ℕ → ℤ) (place : ℕ × ℕ) (a b : Array) → a ≡ b → IsMatrix n p S name f → IsMatrix n p (change (with_child place a) name S) name (with_tile n p place b f)
 put-tile name n p S f place a b e is =
     subst (λ (x : Array). IsMatrix n p (change (with_child place a) name S) name (with_tile n p place x f)) e (written-here n p S name f place a ((bytes_eq-Decides name name).1 refl) is)
 
-diagonal-runs : (name : List ℕ) (n p k : ℕ) (S : State) (f : ℕ → ℕ → ℤ) → k < p → IsMatrix n p S name f → IsMatrix n p (apply (diagonal_of name k) S) name (with_tile n p (k, k) (fwdiag (tile n p f (k, k))) f)
+diagonal-runs : (name : List ℕ) (n p k : ℕ) (S : JobState) (f : ℕ → ℕ → ℤ) → k < p → IsMatrix n p S name f → IsMatrix n p (apply (diagonal_of name k) S) name (with_tile n p (k, k) (fwdiag (tile n p f (k, k))) f)
 diagonal-runs name n p k S f h is =
     put-tile name n p S f (k, k) _ _ (ap fwdiag (tile-of n p S name f (k, k) (h, h) is (tile_operand name k k RW) refl refl refl)) is
 
-beside-runs : (name : List ℕ) (n p k j : ℕ) (S : State) (f : ℕ → ℕ → ℤ) → k < p → j < p → IsMatrix n p S name f → IsMatrix n p (apply (beside_of name k j) S) name (with_tile n p (k, j) (fwrow (tile n p f (k, k)) (tile n p f (k, j))) f)
+beside-runs : (name : List ℕ) (n p k j : ℕ) (S : JobState) (f : ℕ → ℕ → ℤ) → k < p → j < p → IsMatrix n p S name f → IsMatrix n p (apply (beside_of name k j) S) name (with_tile n p (k, j) (fwrow (tile n p f (k, k)) (tile n p f (k, j))) f)
 beside-runs name n p k j S f hk hj is =
     put-tile name n p S f (k, j) _ _ (λ t. fwrow (tile-of n p S name f (k, k) (hk, hk) is (tile_operand name k k R) refl refl refl t) (tile-of n p S name f (k, j) (hk, hj) is (tile_operand name k j RW) refl refl refl t)) is
 
-below-runs : (name : List ℕ) (n p k i : ℕ) (S : State) (f : ℕ → ℕ → ℤ) → k < p → i < p → IsMatrix n p S name f → IsMatrix n p (apply (below_of name k i) S) name (with_tile n p (i, k) (fwcol (tile n p f (k, k)) (tile n p f (i, k))) f)
+below-runs : (name : List ℕ) (n p k i : ℕ) (S : JobState) (f : ℕ → ℕ → ℤ) → k < p → i < p → IsMatrix n p S name f → IsMatrix n p (apply (below_of name k i) S) name (with_tile n p (i, k) (fwcol (tile n p f (k, k)) (tile n p f (i, k))) f)
 below-runs name n p k i S f hk hi is =
     put-tile name n p S f (i, k) _ _ (λ t. fwcol (tile-of n p S name f (k, k) (hk, hk) is (tile_operand name k k R) refl refl refl t) (tile-of n p S name f (i, k) (hi, hk) is (tile_operand name i k RW) refl refl refl t)) is
 
-apart-runs : (name : List ℕ) (n p k i j : ℕ) (S : State) (f : ℕ → ℕ → ℤ) → k < p → i < p → j < p → IsMatrix n p S name f → IsMatrix n p (apply (apart_of name k i j) S) name (with_tile n p (i, j) (mingemm (tile n p f (i, k)) (tile n p f (k, j)) (tile n p f (i, j))) f)
+apart-runs : (name : List ℕ) (n p k i j : ℕ) (S : JobState) (f : ℕ → ℕ → ℤ) → k < p → i < p → j < p → IsMatrix n p S name f → IsMatrix n p (apply (apart_of name k i j) S) name (with_tile n p (i, j) (mingemm (tile n p f (i, k)) (tile n p f (k, j)) (tile n p f (i, j))) f)
 apart-runs name n p k i j S f hk hi hj is =
     put-tile name n p S f (i, j) _ _ (λ t. mingemm (tile-of n p S name f (i, k) (hi, hk) is (tile_operand name i k R) refl refl refl t) (tile-of n p S name f (k, j) (hk, hj) is (tile_operand name k j R) refl refl refl t) (tile-of n p S name f (i, j) (hi, hj) is (tile_operand name i j RW) refl refl refl t)) is
 
@@ -67,8 +67,8 @@ pub record IsDiagonal (n lo hi : ℕ) (d0 d1 : ℕ → ℕ → ℤ) : Type 0 whe
 
 module _ (name : List ℕ) (n p : ℕ) (P : ℕ → ℕ → ℤ → Type 0) (keeps : IsKept P n) (some : 0 < p) where
   -- the tiles of a row but the block's
-  rows_run : (k r : ℕ) (act : ℕ → Act (List ℕ)) (g : ℕ → ℕ → ℤ) (S : State) → k < p
-      → ((c : ℕ) (S' : State) (f : ℕ → ℕ → ℤ) → c < p → IsMatrix n p S' name f → AllSo P n f → IsWithinPart n p k f
+  rows_run : (k r : ℕ) (act : ℕ → Act (List ℕ)) (g : ℕ → ℕ → ℤ) (S : JobState) → k < p
+      → ((c : ℕ) (S' : JobState) (f : ℕ → ℕ → ℤ) → c < p → IsMatrix n p S' name f → AllSo P n f → IsWithinPart n p k f
       → Stands name n p P (ChangesTile n p k r c f) (apply (act c) S'))
       → IsMatrix n p S name g → AllSo P n g → IsWithinPart n p k g
       → Stands name n p P (ChangesRows n p k r g) (run (map act (others p k)) S)
@@ -79,7 +79,7 @@ module _ (name : List ℕ) (n p : ℕ) (P : ℕ → ℕ → ℤ → Type 0) (kee
       let r1 = part_last n p r in
       let fits = part_end n p k hk in
       let so = λ (e : ℕ). IsChanged n lo hi (InRows lo hi r0 r1 e) (OffRows lo hi r0 r1 e) g in
-      let Now = λ (m : ℕ) (S' : State). Stands name n p P (so (part_first n p m)) S' in
+      let Now = λ (m : ℕ) (S' : JobState). Stands name n p P (so (part_first n p m)) S' in
       let all : Now p (run (map act (others p k)) S) = run-each_kept Now (λ j. not (eqb j k)) act p S (record { f = g; is = is; sound = sound; so = rows_none n lo hi r0 r1 g })
       (λ m S' hm now. (
         (λ t. let made = one m S' now.f hm now.is now.sound (within-same lo hi g now.f (λ a b ha hb. now.so.there a b (omega (arith, ha.1)) (omega (arith, hb.1)) (inr (inr hb))) within) in
@@ -100,8 +100,8 @@ module _ (name : List ℕ) (n p : ℕ) (P : ℕ → ℕ → ℤ → Type 0) (kee
       subst (λ e. Stands name n p P (so e) (run (map act (others p k)) S)) (part_first-all n p some) all
 
   -- the rows but the block's
-  down_run : (k : ℕ) (C N : ℕ → Type 0) (acts : ℕ → List (Act (List ℕ))) (g : ℕ → ℕ → ℤ) (S : State) → k < p
-      → ((r : ℕ) (S' : State) (f : ℕ → ℕ → ℤ) → r < p → IsMatrix n p S' name f → AllSo P n f → IsWithinPart n p k f
+  down_run : (k : ℕ) (C N : ℕ → Type 0) (acts : ℕ → List (Act (List ℕ))) (g : ℕ → ℕ → ℤ) (S : JobState) → k < p
+      → ((r : ℕ) (S' : JobState) (f : ℕ → ℕ → ℤ) → r < p → IsMatrix n p S' name f → AllSo P n f → IsWithinPart n p k f
       → Stands name n p P (ChangesRow n p k r C N f) (run (acts r) S'))
       → IsMatrix n p S name g → AllSo P n g → IsWithinPart n p k g
       → Stands name n p P (ChangesDown n p k C N g) (run (flat_map acts (others p k)) S)
@@ -110,7 +110,7 @@ module _ (name : List ℕ) (n p : ℕ) (P : ℕ → ℕ → ℤ → Type 0) (kee
       let hi = part_last n p k in
       let fits = part_end n p k hk in
       let so = λ (e : ℕ). IsChanged n lo hi (λ a b. (a < e) × IsOut lo hi a × C b) (λ a b. (e ≤ a) ⊎ (IsIn lo hi a ⊎ N b)) g in
-      let Now = λ (m : ℕ) (S' : State). Stands name n p P (so (part_first n p m)) S' in
+      let Now = λ (m : ℕ) (S' : JobState). Stands name n p P (so (part_first n p m)) S' in
       let all : Now p (run (flat_map acts (others p k)) S) = run-kept Now (λ j. not (eqb j k)) acts p S (record { f = g; is = is; sound = sound; so = down_none n lo hi C N g })
       (λ m S' hm now. (
         (λ t. let made = one m S' now.f hm now.is now.sound (within-same lo hi g now.f (λ a b ha hb. now.so.there a b (omega (arith, ha.1)) (omega (arith, hb.1)) (inr (inl ha))) within) in
@@ -131,7 +131,7 @@ module _ (name : List ℕ) (n p : ℕ) (P : ℕ → ℕ → ℤ → Type 0) (kee
       subst (λ e. Stands name n p P (so e) (run (flat_map acts (others p k)) S)) (part_first-all n p some) all
 
   -- one task
-  a_tile : (k r c : ℕ) (a : Array) (S' : State) (f : ℕ → ℕ → ℤ) → k < p → IsMatrix n p S' name (with_tile n p (r, c) a f) → AllSo P n f
+  a_tile : (k r c : ℕ) (a : Array) (S' : JobState) (f : ℕ → ℕ → ℤ) → k < p → IsMatrix n p S' name (with_tile n p (r, c) a f) → AllSo P n f
       → ChangesTile n p k r c f (with_tile n p (r, c) a f)
       → Stands name n p P (ChangesTile n p k r c f) S'
   a_tile k r c a S' f hk is sound changed = record {
@@ -141,13 +141,13 @@ module _ (name : List ℕ) (n p : ℕ) (P : ℕ → ℕ → ℤ → Type 0) (kee
     so = changed;
   }
 
-  besides_run : (k : ℕ) (g : ℕ → ℕ → ℤ) (S : State) → k < p → IsMatrix n p S name g → AllSo P n g → IsWithinPart n p k g
+  besides_run : (k : ℕ) (g : ℕ → ℕ → ℤ) (S : JobState) → k < p → IsMatrix n p S name g → AllSo P n g → IsWithinPart n p k g
       → Stands name n p P (ChangesRows n p k k g) (run (map (beside_of name k) (others p k)) S)
   besides_run k g S hk = rows_run k k (beside_of name k) g S hk (λ c S' f hc is sound within.
       (let a = fwrow (tile n p f (k, k)) (tile n p f (k, c)) in
       a_tile k k c a (apply (beside_of name k c) S') f hk (beside-runs name n p k c S' f hk hc is) sound (tile_changed n p P keeps k k c a f (beside_best n p P keeps k c f hk hc sound within))))
 
-  belows_run : (k : ℕ) (g : ℕ → ℕ → ℤ) (S : State) → k < p → IsMatrix n p S name g → AllSo P n g → IsWithinPart n p k g
+  belows_run : (k : ℕ) (g : ℕ → ℕ → ℤ) (S : JobState) → k < p → IsMatrix n p S name g → AllSo P n g → IsWithinPart n p k g
       → Stands name n p P (ChangesDown n p k (InPart n p k) (OffPart n p k) g) (run (map (below_of name k) (others p k)) S)
   belows_run k g S hk is sound within =
       let lo = part_first n p k in
@@ -158,7 +158,7 @@ module _ (name : List ℕ) (n p : ℕ) (P : ℕ → ℕ → ℤ → Type 0) (kee
       a_tile k r k a (apply (below_of name k r) S') f hk (below-runs name n p k r S' f hk hr is) sound (tile_changed n p P keeps k r k a f (below_best n p P keeps k r f hk hr sound within))))
       is sound within)
 
-  aparts_run : (k : ℕ) (g : ℕ → ℕ → ℤ) (S : State) → k < p → IsMatrix n p S name g → AllSo P n g → IsWithinPart n p k g
+  aparts_run : (k : ℕ) (g : ℕ → ℕ → ℤ) (S : JobState) → k < p → IsMatrix n p S name g → AllSo P n g → IsWithinPart n p k g
       → Stands name n p P (ChangesDown n p k (OffPart n p k) (InPart n p k) g) (run (flat_map (aparts_of name p k) (others p k)) S)
   aparts_run k g S hk =
       let lo = part_first n p k in
@@ -175,7 +175,7 @@ module _ (name : List ℕ) (n p : ℕ) (P : ℕ → ℕ → ℤ → Type 0) (kee
         so = record { here = λ a b ha hb s. row.so.here a b ha hb (s.0, hb, s.1); there = λ a b ha hb o. row.so.there a b ha hb (⊎_elim inl (λ i. inr (inr i)) o) };
       }))
 
-  diagonal_run : (k : ℕ) (g : ℕ → ℕ → ℤ) (S : State) → k < p → IsMatrix n p S name g → AllSo P n g → Stands name n p P (IsDiagonal n (part_first n p k) (part_last n p k) g) (apply (diagonal_of name k) S)
+  diagonal_run : (k : ℕ) (g : ℕ → ℕ → ℤ) (S : JobState) → k < p → IsMatrix n p S name g → AllSo P n g → Stands name n p P (IsDiagonal n (part_first n p k) (part_last n p k) g) (apply (diagonal_of name k) S)
   diagonal_run k g S hk is sound =
       let lo = part_first n p k in
       let s = part_len n p k in
@@ -204,7 +204,7 @@ module _ (name : List ℕ) (n p : ℕ) (P : ℕ → ℕ → ℤ → Type 0) (kee
       }
 
   -- a block's step
-  pub step_run : (k : ℕ) (g : ℕ → ℕ → ℤ) (S : State) → k < p → IsMatrix n p S name g → AllSo P n g → Stands name n p P (IsBlockStep n (part_first n p k) (part_last n p k) g) (run (walk_step_of name p k) S)
+  pub step_run : (k : ℕ) (g : ℕ → ℕ → ℤ) (S : JobState) → k < p → IsMatrix n p S name g → AllSo P n g → Stands name n p P (IsBlockStep n (part_first n p k) (part_last n p k) g) (run (walk_step_of name p k) S)
   step_run k g S hk is sound =
       let lo = part_first n p k in
       let hi = part_last n p k in
@@ -233,10 +233,10 @@ module _ (name : List ℕ) (n p : ℕ) (P : ℕ → ℕ → ℤ → Type 0) (kee
   lengths_of f sound = record { natural = λ i j hi hj. keeps.natural i j (f i j) hi hj (sound i j hi hj); below = λ i j hi hj. keeps.below i j (f i j) hi hj (sound i j hi hj) }
 
   -- all of them: the matrix is closed, and no element is greater than it was
-  pub steps_run : (g : ℕ → ℕ → ℤ) (S : State) → IsMatrix n p S name g → AllSo P n g → Stands name n p P (λ f. IsClosed n n f × ((i j : ℕ) → i < n → j < n → f i j ≤ℤ g i j)) (run (walk_steps_of name p) S)
+  pub steps_run : (g : ℕ → ℕ → ℤ) (S : JobState) → IsMatrix n p S name g → AllSo P n g → Stands name n p P (λ f. IsClosed n n f × ((i j : ℕ) → i < n → j < n → f i j ≤ℤ g i j)) (run (walk_steps_of name p) S)
   steps_run g S is sound =
       let so = λ (e : ℕ) (f : ℕ → ℕ → ℤ). IsClosed n e f × ((i j : ℕ) → i < n → j < n → f i j ≤ℤ g i j) in
-      let Now = λ (m : ℕ) (S' : State). Stands name n p P (so (part_first n p m)) S' in
+      let Now = λ (m : ℕ) (S' : JobState). Stands name n p P (so (part_first n p m)) S' in
       let all : Now p (run (walk_steps_of name p) S) = run-range Now (walk_step_of name p) p S
       (record { f = g; is = is; sound = sound; so = (record { through = λ v i j hv hi hj. absurd (omega arith) }, λ i j hi hj. (let e : g i j ≡ g i j = refl in le-same e)) })
       (λ k S' hk now.

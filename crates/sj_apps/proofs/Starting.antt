@@ -10,7 +10,7 @@ use Rattle.sj_meaning.specs.declared.job.Kind.TheVariants.{Matrix}
 use Rattle.sj_meaning.specs.declared.job.Init.{Init}
 use Rattle.sj_meaning.specs.declared.job.Init.TheVariants.{Values, Fill}
 use Rattle.sj_meaning.specs.Meaning.{register, registered_root}
-use Rattle.sj_meaning.specs.State.{Root, State, root_of, start}
+use Rattle.sj_meaning.specs.State.{RootState, JobState, root_of, start}
 use Rattle.sj_meaning.specs.Statement.{Register as Registration}
 use Rattle.sj_apps.specs.Generated.{IsSize, cut, factors, matrix_act, name_A, name_B, name_C, name_D, part_count, square, weight, weights}
 use Rattle.sj_apps.proofs.Tiling.{AreMatrices, IsMatrix, root, run}
@@ -42,11 +42,11 @@ cut-from n tile seed h =
 abbrev pub registration : List ℕ → ℕ → ℕ → Init → Registration (List ℕ)
 registration name n p init = record { name = name; kind = Matrix; dims = square n; parts = cut p; init = init }
 
-pub root-registered : (r : Registration (List ℕ)) (S : State) (q : List ℕ) → root_of (register r S) q ≡ cond (bytes_eq q r.name) (Some (registered_root r)) (root_of S q)
+pub root-registered : (r : Registration (List ℕ)) (S : JobState) (q : List ℕ) → root_of (register r S) q ≡ cond (bytes_eq q r.name) (Some (registered_root r)) (root_of S q)
 root-registered r S q =
     map.get-insert nat_list_cmp_total S.roots r.name (registered_root r) q ∙ ap (λ b. cond b (Some (registered_root r)) (root_of S q)) (sym (texts_ties q r.name))
 
-abbrev with-elements : ℕ → ℕ → List (Option ℤ) → Root
+abbrev with-elements : ℕ → ℕ → List (Option ℤ) → RootState
 with-elements n p es = record { kind = Matrix; dims = square n; parts = cut p; reduction = None; elements = es }
 
 -- the matrix that counts from a first element on
@@ -61,13 +61,13 @@ weighted name n p seed = ap (with-elements n p) (map-map (λ x. Some x) (λ q. w
 
 -- ---- the states behind the registrations
 
-abbrev pub ring : ℕ → ℕ → ℕ → State
+abbrev pub ring : ℕ → ℕ → ℕ → JobState
 ring n p seed = run (matrix_act name_D n p (Values (weights n seed)) ∷ []) start
 
 pub ring-is : (n p seed : ℕ) → IsMatrix n p (ring n p seed) name_D (weight n seed)
 ring-is n p seed = root-registered (registration name_D n p (Values (weights n seed))) start name_D ∙ ap Some (weighted name_D n p seed)
 
-abbrev pub multiplied : ℕ → ℕ → ℕ → State
+abbrev pub multiplied : ℕ → ℕ → ℕ → JobState
 multiplied n p seed = run (factors n p seed) start
 
 pub factors-are : (n p seed : ℕ) → AreMatrices n p (multiplied n p seed) (counting n (pos (seed % 100)) (pos 1)) (counting n (pos 5) (negsuc 1)) (counting n (pos 0) (pos 0))

@@ -6,7 +6,7 @@ use Rattle.sj_codelet.specs.MinPlus.{plus}
 use Rattle.sj_codelet.specs.Equations.{fwrow, fwcol, mingemm}
 use Rattle.sj_codelet.proofs.Elements.{element-grid}
 use Rattle.sj_plan.specs.Interval.{part_first, part_len}
-use Rattle.sj_plan.specs.Rect.{dims_of}
+use Rattle.sj_plan.specs.Rect.{rect_dims}
 use Rattle.sj_plan.proofs.Splitting.{ends_before, part_end}
 use Rattle.sj_plan.proofs.Windows.{holds-true, holds-false}
 use Rattle.sj_apps.proofs.Tiling.{tile, rect, with_tile}
@@ -34,7 +34,7 @@ OffPart n p k a = IsOut (part_first n p k) (part_last n p k) a
 -- ---- the elements of tiles
 
 pub tile-local : (n p : ℕ) (f : ℕ → ℕ → ℤ) (r c a b : ℕ) → a < part_len n p r → b < part_len n p c → element (tile n p f (r, c)) a b ≡ f (part_first n p r + a) (part_first n p c + b)
-tile-local n p f r c a b ha hb = element-grid (dims_of (rect n p (r, c))) (λ i j. f (part_first n p r + i) (part_first n p c + j)) a b ha hb
+tile-local n p f r c a b ha hb = element-grid (rect_dims (rect n p (r, c))) (λ i j. f (part_first n p r + i) (part_first n p c + j)) a b ha hb
 
 tile-row : (n p : ℕ) (f : ℕ → ℕ → ℤ) (r c i b : ℕ) → InPart n p r i → b < part_len n p c → element (tile n p f (r, c)) (i - part_first n p r) b ≡ f i (part_first n p c + b)
 tile-row n p f r c i b hi hb =

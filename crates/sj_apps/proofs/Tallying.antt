@@ -10,7 +10,7 @@ use Rattle.std.proofs.lemmas.List.Elements.{All-append, All-filter, All-cons, Al
 use Rattle.std.proofs.lemmas.List.Sums.{count_by-le-length, fold-append, length-filter}
 use Rattle.sj_codelet.specs.MinPlus.{inf, is_inf, least}
 use Rattle.sj_codelet.specs.Ring.{wrap}
-use Rattle.sj_apps.specs.Summary.{AreTallied, count_of_inf, maximum, minimum, numbers, total}
+use Rattle.sj_apps.specs.Summary.{AreTallied, count_of_inf, maximum, minimum, numbers, exact_sum}
 
 -- ---- which elements are `inf`
 
@@ -42,7 +42,7 @@ tallied_inf xs x infs infs' sum lowest highest sum' lowest' highest' f is more s
     record {
       fit = All-append (FitsSigned w64) xs (x ∷ []) t.fit (All-cons (FitsSigned w64) x [] f (All-nil (FitsSigned w64)));
       infs_are = more ∙ ap (λ n. n + 1) t.infs_are ∙ sym (infs_more xs x e);
-      sum_is = s ∙ t.sum_is ∙ ap (λ ns. wrap (total ns)) (sym same);
+      sum_is = s ∙ t.sum_is ∙ ap (λ ns. wrap (exact_sum ns)) (sym same);
       lowest_is = l ∙ t.lowest_is ∙ ap (fold int_min inf) (sym same);
       highest_is = h ∙ t.highest_is ∙ ap (fold int_max least) (sym same);
     }
@@ -55,8 +55,8 @@ tallied_number xs x infs sum lowest highest sum' lowest' highest' f e s l h t =
       fit = All-append (FitsSigned w64) xs (x ∷ []) t.fit (All-cons (FitsSigned w64) x [] f (All-nil (FitsSigned w64)));
       infs_are = t.infs_are ∙ sym (infs_same xs x e);
       sum_is =
-          s ∙ ap (λ z. wrap (z +ℤ x)) t.sum_is ∙ int_wrap-add_left w64 (total (numbers xs)) x
-          ∙ ap wrap (sym (fold-append (λ a y. a +ℤ y) (pos 0) (numbers xs) (x ∷ [])) ∙ ap total (sym more));
+          s ∙ ap (λ z. wrap (z +ℤ x)) t.sum_is ∙ int_wrap-add_left w64 (exact_sum (numbers xs)) x
+          ∙ ap wrap (sym (fold-append (λ a y. a +ℤ y) (pos 0) (numbers xs) (x ∷ [])) ∙ ap exact_sum (sym more));
       lowest_is = l ∙ ap (λ z. int_min z x) t.lowest_is ∙ sym (fold-append int_min inf (numbers xs) (x ∷ [])) ∙ ap (fold int_min inf) (sym more);
       highest_is = h ∙ ap (λ z. int_max z x) t.highest_is ∙ sym (fold-append int_max least (numbers xs) (x ∷ [])) ∙ ap (fold int_max least) (sym more);
     }

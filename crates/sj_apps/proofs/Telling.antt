@@ -8,12 +8,12 @@ use Rattle.std.proofs.lemmas.Grind.{flat_map-append}
 use Rattle.sj_plan.proofs.Lists.{range_more}
 use Rattle.sj_base.specs.declared.ids.Root.{Root}
 use Rattle.sj_meaning.specs.Act.{Act, Task, Print}
-use Rattle.sj_meaning.specs.Table.{Table, table, name_of}
+use Rattle.sj_meaning.specs.Table.{Table, table_of, name_of}
 use Rattle.sj_meaning.specs.declared.job.TaskLine.{TaskLine as KeptTask}
 use Rattle.sj_meaning.specs.declared.job.Act.TheVariants.{Task as TaskOf, Print as PrintOf}
 use Rattle.sj_meaning.specs.declared.job.Act.{Act as KeptAct}
 use Rattle.sj_meaning.specs.declared.job.Statement.{Statement as Kept}
-use Rattle.sj_meaning.specs.View.{act_seen, task_seen, statement_seen, seen_from, count_after, count_from, IsPlaced, ArePlaced}
+use Rattle.sj_meaning.specs.View.{act_seen, task_seen, statement_seen, seen_from, count_after, count_from, IsPlaced, ActsArePlaced}
 use Rattle.sj_apps.specs.declared.draft.Draft.{Draft}
 use Rattle.sj_apps.specs.Generated.{numbered, first_line, others}
 use Rattle.sj_apps.specs.Draft.{Tells, unless_same}
@@ -26,7 +26,7 @@ count_from-append : (k : ℕ) (xs ys : List Kept) → count_from k (xs ++ ys) �
 count_from-append k [] ys = refl
 count_from-append k (x ∷ xs) ys = count_from-append (count_after k x.act) xs ys
 
-placed-append : (k : ℕ) (xs ys : List Kept) → ArePlaced k xs → ArePlaced (count_from k xs) ys → ArePlaced k (xs ++ ys)
+placed-append : (k : ℕ) (xs ys : List Kept) → ActsArePlaced k xs → ActsArePlaced (count_from k xs) ys → ActsArePlaced k (xs ++ ys)
 placed-append k [] ys h g = g
 placed-append k (x ∷ xs) ys h g = (h.0, placed-append (count_after k x.act) xs ys h.1 g)
 
@@ -61,7 +61,7 @@ tells-one a b kept act s r e =
       seen = ap (λ T. seen_from T 0 b.statements) r ∙ ap (seen_from a.roots 0) e ∙ seen_from-append a.roots 0 a.statements (last ∷ [])
           ∙ ap (λ x. seen_from a.roots 0 a.statements ++ record { line = record { 0 = length a.statements + first_line }; act = x } ∷ []) (s.seen (count_from 0 a.statements));
       numbered = λ h. record {
-        placed = subst (ArePlaced 0) (sym e) (placed-append 0 a.statements (last ∷ []) h.placed (subst (λ k. IsPlaced k kept) (sym h.counted) s.placed, tt));
+        placed = subst (ActsArePlaced 0) (sym e) (placed-append 0 a.statements (last ∷ []) h.placed (subst (λ k. IsPlaced k kept) (sym h.counted) s.placed, tt));
         counted = ap (count_from 0) e ∙ count_from-append 0 a.statements (last ∷ []) ∙ s.count (count_from 0 a.statements) ∙ h.counted ∙ ap (λ (T : Table). length T.names) (sym r);
       };
     }
@@ -94,19 +94,19 @@ pub tells-other : (a b : Draft) (j k : ℕ) (acts : List (Act (List ℕ))) → e
 tells-other a b j k acts e h = subst (λ t. Tells a b (cond t [] acts)) (sym e) h
 
 -- a task of roots of these names
-pub task-told : (a b : Draft) (names : List (List ℕ)) (t : KeptTask) (kept : KeptAct) → a.roots.names ≡ names → b.roots ≡ a.roots → kept ≡ TaskOf t → AllByRecursion (λ o. o.root.0 < length names) t.operands → b.statements ≡ a.statements ++ record { line = record { 0 = length a.statements + first_line }; act = kept } ∷ [] → Tells a b (Task (task_seen (table names []) t) ∷ [])
+pub task-told : (a b : Draft) (names : List (List ℕ)) (t : KeptTask) (kept : KeptAct) → a.roots.names ≡ names → b.roots ≡ a.roots → kept ≡ TaskOf t → AllByRecursion (λ o. o.root.0 < length names) t.operands → b.statements ≡ a.statements ++ record { line = record { 0 = length a.statements + first_line }; act = kept } ∷ [] → Tells a b (Task (task_seen (table_of names []) t) ∷ [])
 task-told a b names t kept e r is placed s =
-    tells-one a b (TaskOf t) (Task (task_seen (table names []) t)) (record {
-      seen = λ k. ap (λ ns. Task (task_seen (table ns []) t)) e;
+    tells-one a b (TaskOf t) (Task (task_seen (table_of names []) t)) (record {
+      seen = λ k. ap (λ ns. Task (task_seen (table_of ns []) t)) e;
       count = λ k. refl;
       placed = subst (λ (ns : List (List ℕ)). All (λ o. o.root.0 < length ns) t.operands) (sym e) (All-from_recursion (λ o. o.root.0 < length names) t.operands placed);
     }) r (s ∙ ap (λ x. a.statements ++ record { line = record { 0 = length a.statements + first_line }; act = x } ∷ []) is)
 
 -- a root that is printed
-pub print-told : (a b : Draft) (names : List (List ℕ)) (root : Root) → a.roots.names ≡ names → b.roots ≡ a.roots → root.0 < length names → b.statements ≡ a.statements ++ record { line = record { 0 = length a.statements + first_line }; act = PrintOf root } ∷ [] → Tells a b (Print (name_of (table names []) root) ∷ [])
+pub print-told : (a b : Draft) (names : List (List ℕ)) (root : Root) → a.roots.names ≡ names → b.roots ≡ a.roots → root.0 < length names → b.statements ≡ a.statements ++ record { line = record { 0 = length a.statements + first_line }; act = PrintOf root } ∷ [] → Tells a b (Print (name_of (table_of names []) root) ∷ [])
 print-told a b names root e r placed s =
-    tells-one a b (PrintOf root) (Print (name_of (table names []) root)) (record {
-      seen = λ k. ap (λ ns. Print (name_of (table ns []) root)) e;
+    tells-one a b (PrintOf root) (Print (name_of (table_of names []) root)) (record {
+      seen = λ k. ap (λ ns. Print (name_of (table_of ns []) root)) e;
       count = λ k. refl;
       placed = subst (λ (ns : List (List ℕ)). root.0 < length ns) (sym e) placed;
     }) r s

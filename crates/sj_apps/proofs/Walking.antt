@@ -13,9 +13,9 @@ use Rattle.sj_plan.proofs.Lists.{each-append, each-flat_map, each-map, each-of}
 use Rattle.sj_meaning.specs.declared.job.Init.TheVariants.{Values}
 use Rattle.sj_meaning.specs.declared.job.Kind.TheVariants.{Matrix}
 use Rattle.sj_meaning.specs.Act.{Act, Register as Registers, Plan, Redux, Task, Print, Invalidate, Unregister, Statement}
-use Rattle.sj_meaning.specs.Meaning.{Printed, apply, array_of, found_by, printed, printed_from, prints, registered_root}
+use Rattle.sj_meaning.specs.Meaning.{Printed, apply, root_array, found_by, printed, printed_from, prints, registered_root}
 use Rattle.sj_meaning.specs.Statement.{Register}
-use Rattle.sj_meaning.specs.State.{Root, State, root_of, start}
+use Rattle.sj_meaning.specs.State.{RootState, JobState, root_of, start}
 use Rattle.sj_apps.specs.Generated.{IsSize, apart_of, aparts_of, below_of, beside_of, cut, first_line, matrix_act, name_D, numbered, others, part_count, paths_statements, square, upto, walk_step_of, walk_steps_of, weight, weights}
 use Rattle.sj_apps.specs.Walks.{AreWeights, IsShortest, StayBelowInf}
 use Rattle.sj_apps.specs.Shortest.{PrintsShortest, acts_of, unhurried, walk_acts}
@@ -47,13 +47,13 @@ registered-is name n p W =
     let r : Register (List ℕ) = record { name = name; kind = Matrix; dims = square n; parts = cut p; init = Values (table (square n) W) } in
     map.get-insert nat_list_cmp_total start.roots name (registered_root r) name
     ∙ ap (λ b. cond b (Some (registered_root r)) (root_of start name)) (sym (texts_ties name name) ∙ (bytes_eq-Decides name name).1 refl)
-    ∙ ap (λ (es : List (Option ℤ)). let x : Root = record { kind = Matrix; dims = square n; parts = cut p; reduction = None; elements = es } in Some x) (map-map Some (λ q. W (q / n) (q % n)) (range_with_len 0 (area (square n))))
+    ∙ ap (λ (es : List (Option ℤ)). let x : RootState = record { kind = Matrix; dims = square n; parts = cut p; reduction = None; elements = es } in Some x) (map-map Some (λ q. W (q / n) (q % n)) (range_with_len 0 (area (square n))))
 
-found-matrix : (name : List ℕ) (n p : ℕ) (S : State) (f : ℕ → ℕ → ℤ) → IsMatrix n p S name f → found_by S name ≡ record { name = name; kind = Matrix; array = grid (square n) f } ∷ []
+found-matrix : (name : List ℕ) (n p : ℕ) (S : JobState) (f : ℕ → ℕ → ℤ) → IsMatrix n p S name f → found_by S name ≡ record { name = name; kind = Matrix; array = grid (square n) f } ∷ []
 found-matrix name n p S f is =
-    ap (λ (o : Option Root). elim o as (λ _. List Printed) [
+    ap (λ (o : Option RootState). elim o as (λ _. List Printed) [
       | None ↦ []
-      | Some r ↦ record { name = name; kind = r.kind; array = array_of r } ∷ []
+      | Some r ↦ record { name = name; kind = r.kind; array = root_array r } ∷ []
     ]) is
     ∙ ap (λ (a : Array). record { name = name; kind = Matrix; array = a } ∷ []) (root-array n p f)
 
@@ -75,7 +75,7 @@ numbered-print name n p line W xs some e w stay =
 
 -- ---- whatever the lines and priorities
 
-apply-unhurried : (a : Act (List ℕ)) (S : State) → apply (unhurried a) S ≡ apply a S
+apply-unhurried : (a : Act (List ℕ)) (S : JobState) → apply (unhurried a) S ≡ apply a S
 apply-unhurried (Registers r) S = refl
 apply-unhurried (Plan name parts) S = refl
 apply-unhurried (Redux name by) S = refl
@@ -84,7 +84,7 @@ apply-unhurried (Print name) S = refl
 apply-unhurried (Invalidate name) S = refl
 apply-unhurried (Unregister name) S = refl
 
-prints-unhurried : (a : Act (List ℕ)) (S : State) → prints (unhurried a) S ≡ prints a S
+prints-unhurried : (a : Act (List ℕ)) (S : JobState) → prints (unhurried a) S ≡ prints a S
 prints-unhurried (Registers r) S = refl
 prints-unhurried (Plan name parts) S = refl
 prints-unhurried (Redux name by) S = refl
@@ -93,11 +93,11 @@ prints-unhurried (Print name) S = refl
 prints-unhurried (Invalidate name) S = refl
 prints-unhurried (Unregister name) S = refl
 
-printed-acts_of : (ss : List (Statement (List ℕ))) (line : ℕ) (S : State) → printed_from S (numbered line (acts_of ss)) ≡ printed_from S ss
+printed-acts_of : (ss : List (Statement (List ℕ))) (line : ℕ) (S : JobState) → printed_from S (numbered line (acts_of ss)) ≡ printed_from S ss
 printed-acts_of [] line S = refl
 printed-acts_of (s ∷ ss) line S =
     ap (λ (ps : List Printed). ps ++ printed_from (apply (unhurried s.act) S) (numbered (line + 1) (acts_of ss))) (prints-unhurried s.act S)
-    ∙ ap (λ (T : State). prints s.act S ++ printed_from T (numbered (line + 1) (acts_of ss))) (apply-unhurried s.act S)
+    ∙ ap (λ (T : JobState). prints s.act S ++ printed_from T (numbered (line + 1) (acts_of ss))) (apply-unhurried s.act S)
     ∙ ap (λ (ps : List Printed). prints s.act S ++ ps) (printed-acts_of ss (line + 1) (apply s.act S))
 
 -- for any weights of which none is negative and whose walks stay below `inf`

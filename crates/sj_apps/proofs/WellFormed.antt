@@ -14,7 +14,7 @@ use Rattle.sj_base.proofs.Tables.{item-table, table-same}
 use Rattle.sj_codelet.specs.declared.kernel.Kernel.{Kernel}
 use Rattle.sj_codelet.specs.Kernel.{codelet_of, fits, formals_of}
 use Rattle.sj_plan.specs.Parts.{IsPlace}
-use Rattle.sj_plan.specs.Rect.{dims_of}
+use Rattle.sj_plan.specs.Rect.{rect_dims}
 use Rattle.sj_job.specs.declared.form.ArrayForm.{ArrayForm}
 use Rattle.sj_job.specs.declared.form.InitForm.{InitForm}
 use Rattle.sj_job.specs.declared.form.OperandForm.{OperandForm}
@@ -25,12 +25,12 @@ use Rattle.sj_job.specs.declared.form.TaskForm.{TaskForm}
 use Rattle.sj_job.specs.declared.form.Form.TheVariants as form
 use Rattle.sj_job.specs.declared.reason.Reason.{Reason}
 use Rattle.sj_meaning.specs.Act.{Act, Register, Task, Print}
-use Rattle.sj_job.specs.Grammar.{has_values, is_proper_operand, written}
+use Rattle.sj_job.specs.Grammar.{has_values, is_proper_operand, form_words}
 use Rattle.sj_job.specs.Judge.{Known, Scope, child_lacks_value, dims_in, first_of, has_mixed_outputs, has_names, is_counted, is_crowded, is_cut, is_full, is_lacking, is_miscounted, is_missing, is_outside, is_uncut, is_unknown, is_unlawful, judged, judged_by, judged_call, kernel_named, known_of, lacks_reduction, line_reasons, operand_reasons, print_reasons, register_reasons, scope_of, unless}
 use Rattle.sj_meaning.specs.Sound.{is_aliased, is_side, modes_fit, needs_value}
 use Rattle.sj_meaning.specs.Meaning.{apply}
 use Rattle.sj_job.specs.Sentence.{are_counts, init_said, is_numbered_init, is_numbered_size, operand_said, registered_by}
-use Rattle.sj_meaning.specs.State.{State, is_child, is_valued, is_valued_child}
+use Rattle.sj_meaning.specs.State.{JobState, is_child, is_valued, is_valued_child}
 use Rattle.sj_meaning.specs.Statement.{Operand, Register as Registration, TaskLine}
 use Rattle.sj_job.specs.Well.{IsAllowed, IsWell}
 use Rattle.sj_job.specs.Word.{is_count, is_name}
@@ -79,8 +79,8 @@ valued-child n p f place at =
     let r = rect n p place in
     let inside = rect-inside n p place at in
     let es = table (square n) (λ i j. Some (f i j)) in
-    and_from (is_child (cut p) place) (list_all (λ (e : Option ℤ). is_some e) (table (dims_of r) (λ i j. item None n es (r.row + i) (r.col + j)))) (child-test p place at)
-    (ap (list_all (λ (e : Option ℤ). is_some e)) (table-same None (dims_of r) (λ i j. item None n es (r.row + i) (r.col + j)) (λ i j. Some (f (r.row + i) (r.col + j))) (λ i j hi hj.
+    and_from (is_child (cut p) place) (list_all (λ (e : Option ℤ). is_some e) (table (rect_dims r) (λ i j. item None n es (r.row + i) (r.col + j)))) (child-test p place at)
+    (ap (list_all (λ (e : Option ℤ). is_some e)) (table-same None (rect_dims r) (λ i j. item None n es (r.row + i) (r.col + j)) (λ i j. Some (f (r.row + i) (r.col + j))) (λ i j hi hj.
     item-table None (square n) (λ i j. Some (f i j)) (r.row + i) (r.col + j) (omega (arith, inside.0)) (omega (arith, inside.1))))
     ∙ all-range (λ (e : Option ℤ). is_some e) (λ q. Some (f (r.row + q / r.cols) (r.col + q % r.cols))) 0 (r.rows * r.cols) (λ k. refl))
 
@@ -122,8 +122,8 @@ module _ (n p : ℕ) (few : p < 2 ^ 63) (s : Scope) where
       let j = decimal-counts o.place.1 (omega (arith, h.place.1)) in
       (λ t. missing-with (h.known t) (Some (i t, j t))) ∙ not_from_true (is_child (cut p) o.place) (child-test p o.place h.place)
 
-  dims-seen : (o : Operand (List ℕ)) → IsSeen n p s o → dims_in s o ≡ dims_of (rect n p o.place)
-  dims-seen o h = ap (λ (x : Option Known). elim x as (λ _. Dims) [ None ↦ record { rows = 0; cols = 0 } | Some k ↦ dims_of (Rattle.sj_plan.specs.Rect.child k.dims k.parts o.place) ]) h.known
+  dims-seen : (o : Operand (List ℕ)) → IsSeen n p s o → dims_in s o ≡ rect_dims (rect n p o.place)
+  dims-seen o h = ap (λ (x : Option Known). elim x as (λ _. Dims) [ None ↦ record { rows = 0; cols = 0 } | Some k ↦ rect_dims (Rattle.sj_plan.specs.Rect.child k.dims k.parts o.place) ]) h.known
 
   not-lacking : (o : Operand (List ℕ)) → IsSeen n p s o → is_lacking s o ≡ false
   not-lacking o h =
@@ -138,14 +138,14 @@ module _ (n p : ℕ) (few : p < 2 ^ 63) (s : Scope) where
 
   -- a task whose operands are tiles of matrices
   pub task-judged : (k : Kernel) (codelet : List ℕ) (os : List (Operand (List ℕ))) → is_full s ≡ false → kernel_named (λ _. true) codelet ≡ Some k → is_name codelet ≡ true → AllByRecursion (IsSeen n p s) os
-      → is_counted k [] os ≡ true → modes_fit (formals_of k) os ≡ true → fits k [] (each_of (λ (o : Operand (List ℕ)). dims_of (rect n p o.place)) os) ≡ true → is_aliased os ≡ false
+      → is_counted k [] os ≡ true → modes_fit (formals_of k) os ≡ true → fits k [] (each_of (λ (o : Operand (List ℕ)). rect_dims (rect n p o.place)) os) ≡ true → is_aliased os ≡ false
       → AllByRecursion (λ (o : Operand (List ℕ)). is_redux o.mode ≡ false) os → has_mixed_outputs os ≡ false → list_any (is_unlawful (λ _. true) s k) os ≡ false
       → IsAllowed (λ _. true) s (Task (record { codelet = codelet_of k; args = []; operands = os; priority = pos 0 }))
   task-judged k codelet os full named proper seen counted modes fit alone plain mixed lawful =
       let t : TaskForm = record { codelet = codelet; args = []; operands = each_of form-of os; priority = None } in
       let says : each_of operand_said (each_of form-of os) ≡ os = says-each os seen in
       let line : first_of (line_reasons s (pos 0) os) ≡ None = first-none (line_reasons s (pos 0) os) (full, (refl, (any-none (λ o. is_unknown s o.name) os (each-all not-unknown os seen), (any-none (λ (o : Operand (List ℕ)). s.ended o.name) os (each-all (λ o h. h.unended) os seen), tt)))) in
-      let shaped : Rattle.sj_job.specs.Judge.is_shaped s k [] os ≡ true = and_from (modes_fit (formals_of k) os) _ modes (ap (fits k []) (each-same (IsSeen n p s) (dims_in s) (λ (o : Operand (List ℕ)). dims_of (rect n p o.place)) dims-seen os seen) ∙ fit) in
+      let shaped : Rattle.sj_job.specs.Judge.is_shaped s k [] os ≡ true = and_from (modes_fit (formals_of k) os) _ modes (ap (fits k []) (each-same (IsSeen n p s) (dims_in s) (λ (o : Operand (List ℕ)). rect_dims (rect n p o.place)) dims-seen os seen) ∙ fit) in
       let reasons : first_of (operand_reasons (λ _. true) s k [] (each_of form-of os) os) ≡ None =
       first-none (operand_reasons (λ _. true) s k [] (each_of form-of os) os) (
         not_from_true (is_counted k [] os) counted,
@@ -167,9 +167,9 @@ module _ (n p : ℕ) (few : p < 2 ^ 63) (s : Scope) where
         ),
       ) in
       record {
-        words = written (form.Task t);
+        words = form_words (form.Task t);
         form = form.Task t;
-        spelled = says-said (written (form.Task t)) (Ok (form.Task t)) (record {
+        spelled = says-said (form_words (form.Task t)) (Ok (form.Task t)) (record {
           spelled = record { line = refl; proper = and_from _ _ (and_from (is_name codelet) true proper refl) (all-each is_proper_operand (each_of form-of os) (each-to (IsSeen n p s) (λ (f : OperandForm). is_proper_operand f ≡ true) form-of form-proper os seen)) };
           numbered = and_from _ _ (all-each (λ (f : OperandForm). are_counts f.child) (each_of form-of os) (each-to (IsSeen n p s) (λ (f : OperandForm). are_counts f.child ≡ true) form-of form-counts os seen)) refl;
         });
@@ -241,9 +241,9 @@ matrix-allowed n p h name init worded s named full room unended new =
     let none : first_of (register_reasons s name (square n) (cut p) init) ≡ None = first-none (register_reasons s name (square n) (cut p) init)
     (full, (room, (not-outside n p h, (not-crowded n p h, (unended, (new, (not-uncut n p h, (worded.counted, tt)))))))) in
     record {
-      words = written (form.Register a);
+      words = form_words (form.Register a);
       form = form.Register a;
-      spelled = says-said (written (form.Register a)) (Ok (form.Register a)) (record {
+      spelled = says-said (form_words (form.Register a)) (Ok (form.Register a)) (record {
         spelled = record { line = refl; proper = and_from (is_name name) (has_values worded.form) named worded.some };
         numbered = and_from (is_numbered_size a.size && are_counts a.parts) (is_numbered_init worded.form) (and_from (is_numbered_size a.size) (are_counts a.parts) (and_from (is_count dn) (is_count dn) isn isn) (and_from (is_count dp) (is_count dp) isp isp)) worded.numbers;
       });
@@ -265,40 +265,40 @@ print-allowed n p f name s named full unended known =
       ),
     ) in
     record {
-      words = written (form.Print name);
+      words = form_words (form.Print name);
       form = form.Print name;
-      spelled = says-said (written (form.Print name)) (Ok (form.Print name)) (record { spelled = record { line = refl; proper = named }; numbered = refl });
+      spelled = says-said (form_words (form.Print name)) (Ok (form.Print name)) (record { spelled = record { line = refl; proper = named }; numbered = refl });
       judged = ap (λ (o : Option Reason). unless o (Print name)) none;
     }
 
 -- ---- one statement after another
 
 -- the act is allowed in a state, however many statements stand before it
-abbrev pub Allowed : State → Act (List ℕ) → Type 0
+abbrev pub Allowed : JobState → Act (List ℕ) → Type 0
 Allowed S a = (k : ℕ) → k < 262144 → IsAllowed (λ _. true) (scope_of k S) a
 
 -- each of the acts is, in the state that those before it leave
-abbrev pub AllAllowed : State → List (Act (List ℕ)) → Type 0
+abbrev pub AllAllowed : JobState → List (Act (List ℕ)) → Type 0
 AllAllowed S [] = Unit {0}
 AllAllowed S (a ∷ acts) = Allowed S a × AllAllowed (apply a S) acts
 
-pub well-from : (k line : ℕ) (acts : List (Act (List ℕ))) (S : State) → k + length acts ≤ 262144 → AllAllowed S acts → IsWell (λ _. true) k S (numbered line acts)
+pub well-from : (k line : ℕ) (acts : List (Act (List ℕ))) (S : JobState) → k + length acts ≤ 262144 → AllAllowed S acts → IsWell (λ _. true) k S (numbered line acts)
 well-from k line [] S few h = tt
 well-from k line (a ∷ acts) S few h = (h.0 k (omega arith), well-from (k + 1) (line + 1) acts (apply a S) (omega arith) h.1)
 
-pub all-append : (acts more : List (Act (List ℕ))) (S : State) → AllAllowed S acts → AllAllowed (run acts S) more → AllAllowed S (acts ++ more)
+pub all-append : (acts more : List (Act (List ℕ))) (S : JobState) → AllAllowed S acts → AllAllowed (run acts S) more → AllAllowed S (acts ++ more)
 all-append [] more S h g = g
 all-append (a ∷ acts) more S h g = (h.0, all-append acts more (apply a S) h.1 g)
 
 -- acts for one number after another, each of which keeps P
-pub all-flat : {Q : ℕ → Type 0} (P : State → Type 0) (f : ℕ → List (Act (List ℕ))) → ((k : ℕ) (T : State) → Q k → P T → AllAllowed T (f k) × P (run (f k) T)) → (ks : List ℕ) → AllByRecursion Q ks → (S : State) → P S → AllAllowed S (flat_map f ks) × P (run (flat_map f ks) S)
+pub all-flat : {Q : ℕ → Type 0} (P : JobState → Type 0) (f : ℕ → List (Act (List ℕ))) → ((k : ℕ) (T : JobState) → Q k → P T → AllAllowed T (f k) × P (run (f k) T)) → (ks : List ℕ) → AllByRecursion Q ks → (S : JobState) → P S → AllAllowed S (flat_map f ks) × P (run (flat_map f ks) S)
 all-flat P f step [] h S now = (tt, now)
 all-flat {Q = Q} P f step (k ∷ ks) h S now =
     let one = step k S h.0 now in
     let rest = all-flat {Q = Q} P f step ks h.1 (run (f k) S) one.1 in
     (all-append (f k) (flat_map f ks) S one.0 rest.0, subst P (sym (run-append (f k) (flat_map f ks) S)) rest.1)
 
-pub all-each_of : {Q : ℕ → Type 0} (P : State → Type 0) (g : ℕ → Act (List ℕ)) → ((k : ℕ) (T : State) → Q k → P T → Allowed T (g k) × P (apply (g k) T)) → (ks : List ℕ) → AllByRecursion Q ks → (S : State) → P S → AllAllowed S (each_of g ks) × P (run (each_of g ks) S)
+pub all-each_of : {Q : ℕ → Type 0} (P : JobState → Type 0) (g : ℕ → Act (List ℕ)) → ((k : ℕ) (T : JobState) → Q k → P T → Allowed T (g k) × P (apply (g k) T)) → (ks : List ℕ) → AllByRecursion Q ks → (S : JobState) → P S → AllAllowed S (each_of g ks) × P (run (each_of g ks) S)
 all-each_of P g step [] h S now = (tt, now)
 all-each_of {Q = Q} P g step (k ∷ ks) h S now =
     let one = step k S h.0 now in

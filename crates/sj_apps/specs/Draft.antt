@@ -1,13 +1,13 @@
 -- A job in the making: what it says so far.
 use Rattle.std.specs.Prelude.{◌≡◌, ℕ, ◌+◌, nat_eq, if◌then◌else◌, List, [], ◌∷◌, ◌++◌, length}
 use Rattle.sj_meaning.specs.Act.{Act}
-use Rattle.sj_meaning.specs.View.{seen_from, ArePlaced, count_from}
+use Rattle.sj_meaning.specs.View.{seen_from, ActsArePlaced, count_from}
 use Rattle.sj_apps.specs.declared.draft.Draft.{Draft}
 use Rattle.sj_apps.specs.Generated.{numbered, first_line, name_A, name_B, name_C, name_D}
 
 -- the statements speak of roots that are registered before them
 pub record IsNumberedSoFar (d : Draft) : Type 0 where
-  pub placed : ArePlaced 0 d.statements
+  pub placed : ActsArePlaced 0 d.statements
   pub counted : count_from 0 d.statements ≡ length d.roots.names
 
 -- the new draft says these acts more, in the next lines

@@ -17,8 +17,8 @@ abbrev pub count_of_inf : List ℤ → ℕ
 count_of_inf xs = length (filter is_inf xs)
 
 -- the exact sum of numbers; 0 where there is none
-abbrev pub total : List ℤ → ℤ
-total xs = fold (λ a x. a +ℤ x) (pos 0) xs
+abbrev pub exact_sum : List ℤ → ℤ
+exact_sum xs = fold (λ a x. a +ℤ x) (pos 0) xs
 
 -- the least and the greatest of numbers, where there is one
 abbrev pub minimum : List ℤ → Option ℤ
@@ -42,7 +42,7 @@ tallied_line name dims sum lowest highest infs =
 -- count
 abbrev pub summary_line : List ℕ → Array → List ℕ
 summary_line name a =
-    tallied_line name a.dims (wrap (total (numbers a.elements))) (minimum (numbers a.elements)) (maximum (numbers a.elements))
+    tallied_line name a.dims (wrap (exact_sum (numbers a.elements))) (minimum (numbers a.elements)) (maximum (numbers a.elements))
     (count_of_inf a.elements)
 
 -- ---- on the way through the elements
@@ -51,6 +51,6 @@ summary_line name a =
 pub record AreTallied (xs : List ℤ) (infs : ℕ) (sum lowest highest : ℤ) : Type 0 where
   pub fit : All (FitsSigned w64) xs
   pub infs_are : infs ≡ count_of_inf xs
-  pub sum_is : sum ≡ wrap (total (numbers xs))
+  pub sum_is : sum ≡ wrap (exact_sum (numbers xs))
   pub lowest_is : lowest ≡ fold int_min inf (numbers xs)
   pub highest_is : highest ≡ fold int_max least (numbers xs)

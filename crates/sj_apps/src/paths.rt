@@ -3,7 +3,7 @@
 ghost use Rattle.std.specs.Prelude.{◌≡◌, ℕ, ◌+◌, ◌%◌, ◌<◌, ◌≤◌, ◌∷◌, ◌++◌, [], pos, length, map, IfOk, OnOk};
 ghost use Rattle.std.specs.List.{range_with_len, flat_map};
 ghost use Rattle.sj_meaning.specs.Settings.{unset};
-ghost use Rattle.sj_meaning.specs.Table.{table};
+ghost use Rattle.sj_meaning.specs.Table.{table_of};
 ghost use Rattle.sj_meaning.specs.View.{statements_of, seen_from, IsNumbered};
 ghost use Rattle.sj_apps.specs.Draft.{paths_names, unless_same, IsNumberedSoFar, Tells};
 ghost use Rattle.sj_apps.specs.Generated.{IsSize, apart, aparts_in_row, below, beside, diagonal, first_line, matrix_act, name_D, numbered, others, part_count, paths_statements, walk_step, walk_steps, weight, weights};
@@ -11,7 +11,7 @@ ghost use Rattle.sj_apps.specs.Shortest.{PrintsShortest};
 ghost use Rattle.sj_meaning.specs.declared.job.Init.TheVariants.{Values};
 
 use crate::draft::Draft;
-use crate::product::{part_count, square_matrix, task};
+use crate::product::{codelet_task, part_count, square_matrix};
 use sj_base::ids::Root;
 use sj_base::memory::OutOfMemory;
 use sj_base::mode::Mode;
@@ -80,7 +80,7 @@ impl Draft {
             place: (k, k),
             mode: Mode::RW,
         }];
-        self.say(task(alloc, Kernel::FwDiag, operands)?)?;
+        self.say(codelet_task(alloc, Kernel::FwDiag, operands)?)?;
         Ok(())
     }
 
@@ -106,7 +106,7 @@ impl Draft {
                 mode: Mode::RW,
             },
         ];
-        self.say(task(alloc, Kernel::FwRow, operands)?)?;
+        self.say(codelet_task(alloc, Kernel::FwRow, operands)?)?;
         Ok(())
     }
 
@@ -132,7 +132,7 @@ impl Draft {
                 mode: Mode::RW,
             },
         ];
-        self.say(task(alloc, Kernel::FwCol, operands)?)?;
+        self.say(codelet_task(alloc, Kernel::FwCol, operands)?)?;
         Ok(())
     }
 
@@ -163,7 +163,7 @@ impl Draft {
                 mode: Mode::RW,
             },
         ];
-        self.say(task(alloc, Kernel::MinGemm, operands)?)?;
+        self.say(codelet_task(alloc, Kernel::MinGemm, operands)?)?;
         Ok(())
     }
 

@@ -3,7 +3,7 @@
 
 ghost use Rattle.std.specs.Prelude.{◌≡◌, ◌+◌, ◌<◌, ◌≤◌, ◌∷◌, [], pos, length, IfOk, OnOk};
 ghost use Rattle.sj_meaning.specs.Settings.{unset};
-ghost use Rattle.sj_meaning.specs.Table.{table};
+ghost use Rattle.sj_meaning.specs.Table.{table_of};
 ghost use Rattle.sj_meaning.specs.declared.job.Act.TheVariants as kept;
 ghost use Rattle.sj_meaning.specs.View.{statements_of, seen_from, IsNumbered};
 ghost use Rattle.sj_apps.specs.Solution.{PrintsProduct};
@@ -50,7 +50,7 @@ pub fn square_matrix(n: u32, p: u32) -> RootInfo
 }
 
 /// `task CODELET OPERANDS`. Constant time.
-pub fn task<const M: usize>(
+pub fn codelet_task<const M: usize>(
     alloc: Global,
     kernel: Kernel,
     operands: [Operand; M],
@@ -95,7 +95,7 @@ impl Draft {
                 mode: Mode::Commute,
             },
         ];
-        self.say(task(alloc, Kernel::Gemm, operands)?)?;
+        self.say(codelet_task(alloc, Kernel::Gemm, operands)?)?;
         Ok(())
     }
 
@@ -145,7 +145,7 @@ impl Draft {
 
 /// The roots A, B and C. Takes constant time.
 fn product_roots(alloc: Global, info: RootInfo) -> Result<Roots, OutOfMemory>
-    ensures { IfOk result (λ roots. roots ≡ table product_names (info ∷ info ∷ info ∷ [])) }
+    ensures { IfOk result (λ roots. roots ≡ table_of product_names (info ∷ info ∷ info ∷ [])) }
 {
     let mut roots = Roots::none(alloc);
     roots.add(alloc, b"A", info)?;

@@ -2,7 +2,7 @@
 
 ghost use Rattle.std.specs.Prelude.{◌≡◌, ℤ, ◌++◌, ◌∷◌, [], ◌<◌, ◌-◌, ◌^◌, List, Option, Some, None, codes, decimal, length, IfOk, OnOk, option_map};
 ghost use Rattle.std.specs.Fmt.{signed_decimal};
-ghost use Rattle.sj_apps.specs.Summary.{AreTallied, bound_text, count_of_inf, tallied_line, maximum, minimum, numbers, summary_line, total};
+ghost use Rattle.sj_apps.specs.Summary.{AreTallied, bound_text, count_of_inf, tallied_line, maximum, minimum, numbers, summary_line, exact_sum};
 ghost use Rattle.sj_codelet.specs.Ring.{wrap};
 
 use itoa::Buffer;
@@ -12,7 +12,7 @@ use std::alloc::Global;
 
 /// What is known of the elements gone through. An element `inf` counts alone, and stays out of the rest.
 #[derive(Clone, Copy)]
-struct Tally {
+struct SummaryTally {
     infs: u64,
     /// With wrapping.
     sum: i64,
@@ -22,12 +22,12 @@ struct Tally {
     highest: i64,
 }
 
-impl Tally {
+impl SummaryTally {
     /// Of no element.
-    fn of_none() -> Tally
+    fn of_none() -> SummaryTally
         ensures { AreTallied [] result.infs result.sum result.lowest result.highest }
     {
-        Tally {
+        SummaryTally {
             infs: 0,
             sum: 0,
             lowest: i64::MAX,
@@ -36,18 +36,18 @@ impl Tally {
     }
 
     /// With one element more. Constant time.
-    fn with(self, element: i64) -> Tally
+    fn with(self, element: i64) -> SummaryTally
         requires { self.infs < 2 ^ 64 - 1 }
         ensures { (xs : List ℤ) → AreTallied xs self.infs self.sum self.lowest self.highest →
             AreTallied (xs ++ element ∷ []) result.infs result.sum result.lowest result.highest }
     {
         if element == i64::MAX {
-            return Tally {
+            return SummaryTally {
                 infs: self.infs + 1,
                 ..self
             };
         }
-        Tally {
+        SummaryTally {
             infs: self.infs,
             sum: self.sum.wrapping_add(element),
             lowest: self.lowest.min(element),
@@ -56,10 +56,10 @@ impl Tally {
     }
 
     /// Of these elements. One pass; no memory.
-    fn of(elements: &[i64]) -> Tally
+    fn of(elements: &[i64]) -> SummaryTally
         ensures { AreTallied elements.now result.infs result.sum result.lowest result.highest }
     {
-        let mut tally = Tally::of_none();
+        let mut tally = SummaryTally::of_none();
         for element in elements {
             tally = tally.with(*element);
         }
@@ -145,7 +145,7 @@ fn write_line(
 pub fn write_summary(text: &mut Vec<u8>, name: &[u8], tile: &Tile) -> Result<(), OutOfMemory>
     ensures { OnOk result (text.new.items ≡ text.old.items ++ summary_line name.now tile.now) }
 {
-    let tally = Tally::of(tile.elements());
+    let tally = SummaryTally::of(tile.elements());
     let bounds = (tally.least(), tally.greatest());
     write_line(text, name, tile.dims(), tally.sum, bounds, tally.infs)
 }

@@ -5,9 +5,9 @@ use Rattle.sj_base.specs.Array.{Array, array}
 use Rattle.sj_base.specs.contracts.tile.Tile.{the_row}
 
 -- the array with xs written over its elements, as many as there are
-abbrev pub with_elements : Array → List ℤ → Array
-with_elements a xs = array a.dims (take (length a.elements) (xs ++ drop (length xs) a.elements))
+abbrev pub written_over : Array → List ℤ → Array
+written_over a xs = array a.dims (take (length a.elements) (xs ++ drop (length xs) a.elements))
 
 -- the tile ends with the last elements behind r
 abbrev pub LendsElements : MutBor Array → MutBor (List ℤ) → Fml
-LendsElements t r = Lends the_row (Slice i64 0) t r (with_elements t.now)
+LendsElements t r = Lends the_row (Slice i64 0) t r (written_over t.now)

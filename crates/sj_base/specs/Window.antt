@@ -31,8 +31,8 @@ write_rect blank dims xs at d f =
     table dims (λ i j. if in_rect at d i j then f (i - at.0) (j - at.1) else item blank dims.cols xs i j)
 
 -- the array of a rectangle's elements
-abbrev pub window : Array → ℕ × ℕ → Dims → Array
-window a at d = array d (read_rect (pos 0) a.dims.cols a.elements at d)
+abbrev pub window_at : Array → ℕ × ℕ → Dims → Array
+window_at a at d = array d (read_rect (pos 0) a.dims.cols a.elements at d)
 
 -- the new array with a rectangle of the old one pasted in: from there, of these dimensions, to here
 abbrev pub pasted : Array → ℕ × ℕ → Dims → Array → ℕ × ℕ → Array

@@ -11,11 +11,11 @@ use Rattle.sj_core.proofs.Readiness.{done_tasks-done}
 use Rattle.sj_core.proofs.Words.{Machine, Program, State, Task, is_done, is_task_of, opening, progress}
 use Rattle.sj_core.specs.declared.progress.Progress.TheVariants.{Waiting}
 use Rattle.sj_core.specs.Legal.{state_of}
-use Rattle.sj_deps.specs.Progress.{Progress as Dependencies, progress as dependencies}
+use Rattle.sj_deps.specs.Progress.{Dependencies, dependencies}
 use Rattle.sj_machine.specs.BoardSound.{CountsDone}
 use Rattle.sj_machine.specs.Standing.{Standing, state}
 use Rattle.sj_check.specs.Replay.{replay}
-use Rattle.sj_check.specs.Watching.{HasTasks, IsOpened, Watches, replay_of}
+use Rattle.sj_check.specs.Watching.{HasTasks, IsFreshRun, Watches, replay_of}
 
 -- some disk doesn't tell where none does
 none-tells : {D : Type 0} (held : D → Option (List ℕ)) → ((d : D) → held d ≡ None) → (ds : List D) → 1 ≤ length ds → ¬ All (λ x. IsSome (held x)) ds
@@ -45,7 +45,7 @@ module _ (p : Program) (m : Machine) where
   }
 
 -- no worker has a task, and no task is done
-pub watches-opened : {D : Type 0} (held : D → Option (List ℕ)) → ((d : D) → held d ≡ None) → (p : Program) (m : Machine) (b : Standing D) → IsOpened p m b → (tasks : List (Option Task)) → tasks ≡ replicate p.workers None → (deps : Dependencies) → deps ≡ dependencies p [] → Watches held b tasks deps
+pub watches-opened : {D : Type 0} (held : D → Option (List ℕ)) → ((d : D) → held d ≡ None) → (p : Program) (m : Machine) (b : Standing D) → IsFreshRun p m b → (tasks : List (Option Task)) → tasks ≡ replicate p.workers None → (deps : Dependencies) → deps ≡ dependencies p [] → Watches held b tasks deps
 watches-opened held never p m b opened tasks none deps fresh = record {
   silent = none-tells held never b.opened opened.some_disk;
   tasks_agree =
@@ -64,7 +64,7 @@ watches-opened held never p m b opened tasks none deps fresh = record {
         ∙ ap (λ (n : Machine). state_of p n b.trace) opened.machine
         ∙ ap (λ (es : List Event). state_of p m es) opened.no_event
 
-pub replay-opened : {D : Type 0} (p : Program) (m : Machine) (b : Standing D) → IsOpened p m b → replay_of b ≡ replay p m []
+pub replay-opened : {D : Type 0} (p : Program) (m : Machine) (b : Standing D) → IsFreshRun p m b → replay_of b ≡ replay p m []
 replay-opened p m b opened =
     ap (λ (q : Program). replay q b.machine b.trace) opened.program
     ∙ ap (λ (n : Machine). replay p n b.trace) opened.machine

@@ -13,12 +13,12 @@ use Rattle.sj_core.specs.declared.progress.Progress.{Progress}
 use Rattle.sj_core.specs.Legal.{state_of}
 use Rattle.sj_core.specs.Step.{May, a_transfer, after, mover_of}
 use Rattle.sj_deps.specs.Conflict.{Ready}
-use Rattle.sj_deps.specs.Progress.{Progress as Dependencies, after as after_done}
+use Rattle.sj_deps.specs.Progress.{Dependencies, after_done}
 use Rattle.sj_machine.specs.BoardSound.{CountsDone}
 use Rattle.sj_machine.specs.Sound.{OnlyDisksChange}
 use Rattle.sj_machine.specs.Standing.{AllTell, CanHappen, Standing, state, with_event}
 use Rattle.sj_machine.proofs.Stepping.{counts-still}
-use Rattle.sj_check.specs.Replay.{Happens, IsRefused, replay}
+use Rattle.sj_check.specs.Replay.{HappensLegally, IsRefused, replay}
 use Rattle.sj_check.specs.Watching.{HasEvent, HasTasks, Watches, replay_of, task_in}
 use Rattle.sj_check.proofs.Legality.{running-ready}
 use Rattle.sj_machine.proofs.Boarding.{counts-same}
@@ -57,7 +57,7 @@ module _ {D : Type 0} (b b' : Standing D) (e : Event) (has : HasEvent b e b') wh
       ∙ ap (λ (es : List Event). state_of b.program b.machine es) has.events
       ∙ state_of-more b.program b.machine b.trace e
 
-  pub judges-good : CanHappen b e → Happens (replay_of b) e (replay_of b')
+  pub judges-good : CanHappen b e → HappensLegally (replay_of b) e (replay_of b')
   judges-good can = record {
     legal = can;
     happens =

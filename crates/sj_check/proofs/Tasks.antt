@@ -13,7 +13,7 @@ use Rattle.sj_core.proofs.Words.{Program, State, Task, Worker, done_in, is_done,
 use Rattle.sj_core.specs.declared.progress.Progress.{Progress}
 use Rattle.sj_core.specs.declared.progress.Progress.TheVariants.{Claimed, Done, Running, Waiting}
 use Rattle.sj_core.specs.Step.{done_tasks}
-use Rattle.sj_deps.specs.Progress.{Progress as Dependencies, after as after_done}
+use Rattle.sj_deps.specs.Progress.{Dependencies, after_done}
 use Rattle.sj_machine.specs.BoardSound.{CountsDone}
 use Rattle.sj_check.specs.Watching.{HasTasks, task_in}
 

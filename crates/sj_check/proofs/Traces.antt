@@ -12,7 +12,7 @@ use Rattle.sj_core.specs.Coherent.{Coherent}
 use Rattle.sj_core.specs.Laws.{HoldsFinal}
 use Rattle.sj_core.specs.Legal.{IsComplete, IsLegal, state_of}
 use Rattle.sj_core.specs.Step.{May}
-use Rattle.sj_machine.specs.Sound.{IsRunOf}
+use Rattle.sj_machine.specs.Sound.{IsRunnableOn}
 use Rattle.sj_check.specs.Refusal.{IsFirstBad, IsUnfinished}
 
 take-one : (trace : List Event) (i : ℕ) (e : Event) → slice_get trace i ≡ Some e → take (suc i) trace ≡ take i trace ++ e ∷ []
@@ -30,7 +30,7 @@ take-next trace i e got = ap (λ (n : ℕ). take n trace) (let more : i + 1 ≡ 
 pub fronts-legal : (p : Program) (m : Machine) (trace : List Event) → IsLegal p m trace → (n : ℕ) → IsLegal p m (take n trace)
 fronts-legal p m trace legal n = legal-front p m (take n trace) (drop n trace) (subst (λ (es : List Event). IsLegal p m es) (sym (take-append-drop n trace)) legal)
 
-module _ (p : Program) (m : Machine) (run : IsRunOf p m) (trace : List Event) (legal : IsLegal p m trace) where
+module _ (p : Program) (m : Machine) (run : IsRunnableOn p m) (trace : List Event) (legal : IsLegal p m trace) where
   -- and leaves a coherent state
   pub fronts-coherent : (n : ℕ) → Coherent p m (state_of p m (take n trace))
   fronts-coherent n = legal-coherent p m run.proper run.machine run.has run.lawful (take n trace) (fronts-legal p m trace legal n)

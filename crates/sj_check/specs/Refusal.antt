@@ -19,7 +19,7 @@ pub record IsUnfinished (p : Program) (m : Machine) (trace : List Event) : Type 
   pub undone : ¬ IsFinished p m trace
 
 -- the refusal has its reason; want of memory has none
-abbrev pub IsRefusal : Program → Machine → List Event → CheckRefusal → Type 0
-IsRefusal p m trace (BadEvent i) = IsFirstBad p m trace i
-IsRefusal p m trace Unfinished = IsUnfinished p m trace
-IsRefusal p m trace OutOfMemory = Unit {0}
+abbrev pub IsCheckRefusal : Program → Machine → List Event → CheckRefusal → Type 0
+IsCheckRefusal p m trace (BadEvent i) = IsFirstBad p m trace i
+IsCheckRefusal p m trace Unfinished = IsUnfinished p m trace
+IsCheckRefusal p m trace OutOfMemory = Unit {0}

@@ -7,7 +7,7 @@ use Rattle.sj_core.specs.Coherent.{Coherent}
 use Rattle.sj_core.specs.Legal.{IsLegal, state_of}
 use Rattle.sj_core.specs.Machine.{State}
 use Rattle.sj_core.specs.Step.{May}
-use Rattle.sj_machine.specs.Sound.{IsRunOf}
+use Rattle.sj_machine.specs.Sound.{IsRunnableOn}
 
 pub record Replay : Type 0 where
   pub program : Program
@@ -18,33 +18,33 @@ abbrev pub replay : Program → Machine → List Event → Replay
 replay p m events = record { program = p; machine = m; events = events }
 
 -- the state that the events leave
-abbrev pub state : Replay → State
-state r = state_of r.program r.machine r.events
+abbrev pub replay_state : Replay → State
+replay_state r = state_of r.program r.machine r.events
 
 -- the event may happen now
-abbrev pub IsNext : Replay → Event → Type 0
-IsNext r e = May r.program r.machine (state r) e
+abbrev pub MayFollow : Replay → Event → Type 0
+MayFollow r e = May r.program r.machine (replay_state r) e
 
 -- one event more
-abbrev pub with_event : Replay → Event → Replay
-with_event r e = record r { events = r.events ++ e ∷ [] }
+abbrev pub replay_with_event : Replay → Event → Replay
+replay_with_event r e = record r { events = r.events ++ e ∷ [] }
 
 -- the event has happened
-pub record Happens (old : Replay) (e : Event) (new : Replay) : Type 0 where
-  pub legal : IsNext old e
-  pub happens : new ≡ with_event old e
+pub record HappensLegally (old : Replay) (e : Event) (new : Replay) : Type 0 where
+  pub legal : MayFollow old e
+  pub happens : new ≡ replay_with_event old e
 
 -- the event isn't legal, and nothing has happened
 pub record IsRefused (old : Replay) (e : Event) (new : Replay) : Type 0 where
-  pub illegal : ¬ IsNext old e
+  pub illegal : ¬ MayFollow old e
   pub nothing : new ≡ old
 
 -- the event has happened where it is legal, and else nothing has
 abbrev pub Judges : Replay → Event → Bool → Replay → Type 0
-Judges old e legal new = MatchBool legal (Happens old e new) (IsRefused old e new)
+Judges old e legal new = MatchBool legal (HappensLegally old e new) (IsRefused old e new)
 
 -- the events are legal, of a program that can be run on the machine, and leave a coherent state
 pub record IsSoundReplay (r : Replay) : Type 0 where
-  pub run : IsRunOf r.program r.machine
+  pub run : IsRunnableOn r.program r.machine
   pub legal : IsLegal r.program r.machine r.events
-  pub coherent : Coherent r.program r.machine (state r)
+  pub coherent : Coherent r.program r.machine (replay_state r)

@@ -7,7 +7,7 @@ use Rattle.sj_base.specs.declared.program.Machine.{Machine}
 use Rattle.sj_base.specs.declared.trace.Event.{Event}
 use Rattle.sj_base.specs.declared.trace.Event.TheVariants.{Claim}
 use Rattle.sj_core.specs.Machine.{State, is_task_of, progress}
-use Rattle.sj_deps.specs.Progress.{Progress as Dependencies}
+use Rattle.sj_deps.specs.Progress.{Dependencies}
 use Rattle.sj_machine.specs.BoardSound.{CountsDone}
 use Rattle.sj_machine.specs.declared.mark.Mark.{Mark}
 use Rattle.sj_machine.specs.declared.mark.Mark.TheVariants.{Coming, Leaving}
@@ -35,7 +35,7 @@ pub record Watches {D : Type 0} (held : D → Option (List ℕ)) (b : Standing D
   pub counts : CountsDone b.program (state b) deps
 
 -- a run of the program on the machine on which nothing has happened, with a disk at least
-pub record IsOpened {D : Type 0} (p : Program) (m : Machine) (b : Standing D) : Type 0 where
+pub record IsFreshRun {D : Type 0} (p : Program) (m : Machine) (b : Standing D) : Type 0 where
   pub program : b.program ≡ p
   pub machine : b.machine ≡ m
   pub no_event : b.trace ≡ []

@@ -5,8 +5,8 @@ ghost use Rattle.sj_core.specs.Bound.{HasAtMostThreePerTaskAndFivePerOperand};
 ghost use Rattle.sj_core.specs.Coherent.{Coherent};
 ghost use Rattle.sj_core.specs.Laws.{HoldsFinal};
 ghost use Rattle.sj_core.specs.Legal.{IsFinished, state_of};
-ghost use Rattle.sj_machine.specs.Sound.{IsRunOf};
-ghost use Rattle.sj_check.specs.Refusal.{IsRefusal};
+ghost use Rattle.sj_machine.specs.Sound.{IsRunnableOn};
+ghost use Rattle.sj_check.specs.Refusal.{IsCheckRefusal};
 
 use crate::checker::Checker;
 use sj_base::memory;
@@ -49,9 +49,9 @@ pub fn check(
     machine: Machine,
     trace: &Trace,
 ) -> Result<(), CheckRefusal>
-    requires run { IsRunOf program.value machine }
+    requires run { IsRunnableOn program.value machine }
     ensures finished { IsOk result → IsFinished program.value machine trace.now.events }
-    ensures refused { IfErr result (IsRefusal program.value machine trace.now.events) }
+    ensures refused { IfErr result (IsCheckRefusal program.value machine trace.now.events) }
     ensures each_state_is_coherent { IsOk result → (n : ℕ) →
         Coherent program.value machine (state_of program.value machine (take n trace.now.events)) }
     ensures holds_what_all_tasks_leave { IsOk result →

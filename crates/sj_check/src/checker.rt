@@ -5,15 +5,15 @@ ghost use Rattle.sj_base.specs.declared.trace.Event.TheVariants.{Claim, Drop, En
 ghost use Rattle.sj_core.specs.Legal.{IsComplete};
 ghost use Rattle.sj_core.specs.Proper.{Proper};
 ghost use Rattle.sj_deps.specs.Conflict.{Ready};
-ghost use Rattle.sj_deps.specs.Progress.{after, progress};
-ghost use Rattle.sj_machine.specs.Sound.{IsRunOf};
-ghost use Rattle.sj_check.specs.Replay.{IsSoundReplay, Judges, replay, state};
+ghost use Rattle.sj_deps.specs.Progress.{after_done, dependencies};
+ghost use Rattle.sj_machine.specs.Sound.{IsRunnableOn};
+ghost use Rattle.sj_check.specs.Replay.{IsSoundReplay, Judges, replay, replay_state};
 
 use crate::applying::{begin_run, end_move, end_run};
 use crate::blanks::Blanks;
 use crate::hollow::Hollow;
 use crate::judging::{
-    are_done, may_drop, may_end, may_end_move, may_move, may_run, mover, plan_of,
+    are_done, may_drop, may_end, may_end_move, may_move, mover, plan_of, run_is_legal,
 };
 use crate::opening::opened;
 use sj_base::ids::{Cell, Node, Place, Task, Worker};
@@ -60,7 +60,7 @@ fn set_task(tasks: &mut Vec<Option<Task>>, w: Worker, task: Option<Task>)
 /// A task is done from now on. Linear in the accesses that are released.
 fn set_done(deps: &mut Deps, t: Task)
     requires { Ready deps.old.program deps.old.done t.0 }
-    ensures { deps.new ≡ after deps.old t.0 }
+    ensures { deps.new ≡ after_done deps.old t.0 }
 {
     let _ = deps.done(t);
 }
@@ -75,7 +75,7 @@ fn no_tasks(alloc: Global, workers: u8) -> Result<Vec<Option<Task>>, OutOfMemory
 /// No task is done. Linear in the tasks and their accesses.
 fn none_done(alloc: Global, program: &Program) -> Result<Deps, OutOfMemory>
     requires { Proper program.now }
-    ensures { IfOk result (λ deps. deps ≡ progress program.now []) }
+    ensures { IfOk result (λ deps. deps ≡ dependencies program.now []) }
 {
     Deps::of(alloc, program)
 }
@@ -88,7 +88,7 @@ impl Checker {
         program: Arc<Program>,
         machine: Machine,
     ) -> Result<Checker, OutOfMemory>
-        requires { IsRunOf program.value machine }
+        requires { IsRunnableOn program.value machine }
         ensures { IfOk result (λ c. c ≡ replay program.value machine []) }
     {
         let deps = none_done(alloc, &program)?;
@@ -165,7 +165,7 @@ impl Checker {
     fn begin_run(&mut self, alloc: Global, t: Task, w: Worker) -> Result<bool, OutOfMemory>
         ensures { IfOk result (λ legal. Judges self.old (Run t w) legal self.new) }
     {
-        if !may_run(&self.run, t, w) {
+        if !run_is_legal(&self.run, t, w) {
             return Ok(false);
         }
         self.run.is_sound();
@@ -207,7 +207,7 @@ impl Checker {
 
     /// Whether all tasks are done. Linear in them.
     pub fn is_complete(&self) -> bool
-        ensures { IsTrue result ↔ IsComplete (state self.now) }
+        ensures { IsTrue result ↔ IsComplete (replay_state self.now) }
     {
         are_done(&self.run)
     }

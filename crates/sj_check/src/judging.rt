@@ -219,7 +219,7 @@ pub fn may_move<D: Disk>(
 
 /// Whether the beginning of a task's kernel is legal. Quadratic in the operands, which are a task's few, and linear in the
 /// victims, and in the workers for each written operand.
-pub fn may_run<D: Disk>(run: &RunState<D>, t: Task, w: Worker) -> bool
+pub fn run_is_legal<D: Disk>(run: &RunState<D>, t: Task, w: Worker) -> bool
     ensures { IsTrue result ↔ CanHappen run.now (Run t w) }
 {
     run.is_sound();

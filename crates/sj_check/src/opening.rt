@@ -3,8 +3,8 @@
 ghost use Rattle.std.specs.Prelude.{◌≡◌, ◌≤◌, IfOk, List, Option, length, map};
 ghost use Rattle.sj_disk.specs.declared.directory.Extent.{Extent};
 ghost use Rattle.sj_machine.specs.Placing.{ArePlaced};
-ghost use Rattle.sj_machine.specs.Sound.{IsRunOf};
-ghost use Rattle.sj_check.specs.Watching.{IsOpened};
+ghost use Rattle.sj_machine.specs.Sound.{IsRunnableOn};
+ghost use Rattle.sj_check.specs.Watching.{IsFreshRun};
 
 use crate::hollow::Hollow;
 use sj_base::memory::OutOfMemory;
@@ -54,7 +54,7 @@ fn blocks(
     program: &Program,
     machine: &Machine,
 ) -> Result<DiskSet<Hollow>, OutOfMemory>
-    requires { IsRunOf program.now machine.now }
+    requires { IsRunnableOn program.now machine.now }
     ensures placed { IfOk result (λ set. ArePlaced program.now machine.now set.directory) }
     ensures some { IfOk result (λ set. 1 ≤ length set.disks) }
 {
@@ -76,8 +76,8 @@ pub fn opened(
     program: Arc<Program>,
     machine: Machine,
 ) -> Result<RunState<Hollow>, OutOfMemory>
-    requires { IsRunOf program.value machine }
-    ensures { IfOk result (IsOpened program.value machine) }
+    requires { IsRunnableOn program.value machine }
+    ensures { IfOk result (IsFreshRun program.value machine) }
 {
     let set = blocks(alloc, &program, &machine)?;
     match RunState::make(alloc, program, machine, set) {

@@ -8,7 +8,7 @@ use Rattle.std.proofs.lemmas.Bool.Decides.{Decides-eqb}
 use Rattle.std.proofs.lemmas.Slice.Eq.{bytes_eq-Decides}
 use Rattle.sj_base.proofs.Bools.{implied}
 use Rattle.sj_codelet.specs.declared.kernel.Kernel.{Kernel}
-use Rattle.sj_codelet.specs.Kernel.{kernels, id_of, name_of, has_name, kernel_of, codelet_of, named_in}
+use Rattle.sj_codelet.specs.Kernel.{kernels, id_of, kernel_name, has_name, kernel_of, codelet_of, named_in}
 use Rattle.sj_codelet.proofs.Table.{kernel_of-codelet_of, by_table, passes-at}
 use Rattle.sj_base.specs.declared.program.Codelet.{Codelet}
 
@@ -35,9 +35,9 @@ codelet_at n = record { 0 = n }
 
 -- of two codelets the first has the second's name only where it has its id too
 abbrev are_apart : Kernel → Kernel → Bool
-are_apart j k = not (elim (name_of k) [ None ↦ false | Some name ↦ has_name name j ]) || nat_eq (id_of j) (id_of k)
+are_apart j k = not (elim (kernel_name k) [ None ↦ false | Some name ↦ has_name name j ]) || nat_eq (id_of j) (id_of k)
 
-named_alike : (j k : Kernel) (n : List ℕ) → name_of k ≡ Some n → has_name n j ≡ true → j ≡ k
+named_alike : (j k : Kernel) (n : List ℕ) → kernel_name k ≡ Some n → has_name n j ≡ true → j ≡ k
 named_alike j k n own named =
     let row = by_table (λ i. list_all (are_apart i) kernels) refl j in
     let apart = passes-at (are_apart j) kernels (id_of k) k row (kernel_of-codelet_of k) in
@@ -57,7 +57,7 @@ find-only test (j ∷ ks) n k e h only = by_test (test j) refl n e (λ m there. 
     by_test false fails (suc m) there rest = rest m there
 
 -- the codelet that is found by its own name
-pub found_by_name : (has : Kernel → Bool) (k : Kernel) (n : List ℕ) → has k ≡ true → name_of k ≡ Some n → find (λ j. has j && has_name n j) kernels ≡ Some k
+pub found_by_name : (has : Kernel → Bool) (k : Kernel) (n : List ℕ) → has k ≡ true → kernel_name k ≡ Some n → find (λ j. has j && has_name n j) kernels ≡ Some k
 found_by_name has k n h e =
     let itself : has_name n k ≡ true = subst (λ (o : Option (List ℕ)). (elim o as (λ _. Bool) [ None ↦ false | Some own ↦ bytes_eq own n ]) ≡ true) (sym e) ((bytes_eq-Decides n n).1 refl) in
     find-only (λ j. has j && has_name n j) kernels (id_of k) k (kernel_of-codelet_of k) (and_from (has k) (has_name n k) h itself)
@@ -68,7 +68,7 @@ pub id_of_kernel : (id : Codelet) (k : Kernel) → kernel_of id ≡ Some k → c
 id_of_kernel id k e = ap (λ (n : ℕ). codelet_at n) (id_of_place id.0 k e)
 
 -- the codelet that a set finds by its own name
-pub named_by_own : (has : Kernel → Bool) (id : Codelet) (k : Kernel) (n : List ℕ) → kernel_of id ≡ Some k → has k ≡ true → name_of k ≡ Some n → named_in has n ≡ Some id
+pub named_by_own : (has : Kernel → Bool) (id : Codelet) (k : Kernel) (n : List ℕ) → kernel_of id ≡ Some k → has k ≡ true → kernel_name k ≡ Some n → named_in has n ≡ Some id
 named_by_own has id k n e h own =
     ap (λ (r : Option Kernel). option_map codelet_of r) (found_by_name has k n h own) ∙ ap (λ (i : Codelet). Some i) (id_of_kernel id k e)
 

@@ -6,11 +6,11 @@ use Rattle.std.proofs.lemmas.List.FromFn.{length-map-range_with_len}
 use Rattle.std.proofs.lemmas.Bool.Decides.{nat_tests}
 use Rattle.sj_base.specs.declared.tile.Dims.{Dims}
 use Rattle.sj_base.specs.Array.{Array, array, area, each}
-use Rattle.sj_base.specs.Lending.{with_elements}
+use Rattle.sj_base.specs.Lending.{written_over}
 use Rattle.sj_codelet.specs.declared.kernel.Kernel.{Kernel}
 use Rattle.sj_codelet.specs.declared.formal.Formal.{Formal}
 use Rattle.sj_codelet.specs.declared.formal.Formal.TheVariants.{R, W, RW, Scratch}
-use Rattle.sj_codelet.specs.Frame.{Slot, Frame, own, arrays, all_dims, IsReady, AreReady, written, AllKeep, ends_owned}
+use Rattle.sj_codelet.specs.Frame.{Slot, Frame, own, arrays, all_dims, SuitsFormal, AreReady, written_arrays, AllKeep, ends_owned}
 use Rattle.sj_codelet.specs.Kernel.{formals_of, dims_fit, dims_at, same, new_arrays, operand}
 use Rattle.sj_codelet.specs.Equations.{vector}
 use Rattle.sj_codelet.specs.Runs.{IsReadyOf, IsRunOf}
@@ -51,7 +51,7 @@ ends_owned_from_ready (f ∷ []) (s ∷ t ∷ slots) w l r = absurd (omega arith
 ends_owned_from_ready (f ∷ g ∷ fs) (s ∷ []) w l r = absurd (omega arith)
 ends_owned_from_ready (f ∷ g ∷ fs) (s ∷ t ∷ slots) w l r = ends_owned_from_ready (g ∷ fs) (t ∷ slots) w (omega arith) r.1
 
-pub ran_last : (fs : List Formal) (before : List Slot) (y z : Array) → writes_last fs ≡ true → length before + 1 ≡ length fs → z.dims ≡ y.dims → (written fs (before ++ own z ∷ []) ≡ z ∷ []) × AllKeep fs (before ++ own y ∷ []) (before ++ own z ∷ [])
+pub ran_last : (fs : List Formal) (before : List Slot) (y z : Array) → writes_last fs ≡ true → length before + 1 ≡ length fs → z.dims ≡ y.dims → (written_arrays fs (before ++ own z ∷ []) ≡ z ∷ []) × AllKeep fs (before ++ own y ∷ []) (before ++ own z ∷ [])
 ran_last [] before y z w l d = absurd (omega arith)
 ran_last (RW ∷ []) [] y z w l d = (refl, ((refl, d), tt))
 ran_last (W ∷ []) [] y z w l d = (refl, ((refl, d), tt))
@@ -115,13 +115,13 @@ last_is slots before s i e h =
     ∙ get_or_at (arrays before) s.array [] d i (length-map before (λ (t : Slot). t.array) ∙ h)
 
 -- a tile whose elements were all written
-pub with_all : (y : Array) (xs : List ℤ) → length xs ≡ length y.elements → with_elements y xs ≡ array y.dims xs
+pub with_all : (y : Array) (xs : List ℤ) → length xs ≡ length y.elements → written_over y xs ≡ array y.dims xs
 with_all y xs h =
     ap (λ (zs : List ℤ). array y.dims (take (length y.elements) (xs ++ zs))) (drop_all (length xs) y.elements (omega arith))
     ∙ ap (λ (zs : List ℤ). array y.dims zs) (take_at xs [] (length y.elements) h)
 
 -- the same by a kernel that takes them for a vector
-pub each_of_elements : (y : Array) (f : ℕ → ℤ) → length y.elements ≡ area y.dims → with_elements y (each (vector y.elements).dims f).elements ≡ each y.dims f
+pub each_of_elements : (y : Array) (f : ℕ → ℤ) → length y.elements ≡ area y.dims → written_over y (each (vector y.elements).dims f).elements ≡ each y.dims f
 each_of_elements y f h =
     let n = length-map-range_with_len f 0 (area (vector y.elements).dims) in
     let m : area (vector y.elements).dims ≡ area y.dims = omega arith in
@@ -133,7 +133,7 @@ ran k args old new before y z w ready e e' r d o =
     let m = length-append before (own y ∷ []) in
     let both = ran_last (formals_of k) before y z w (omega (arith, ap length e)) d in
     record {
-      written = ap (written (formals_of k)) e' ∙ both.0 ∙ sym o;
+      written = ap (written_arrays (formals_of k)) e' ∙ both.0 ∙ sym o;
       kept = rw (e, e') both.1;
       room = r;
     }
@@ -144,7 +144,7 @@ ready_before [] gs before after l r = tt
 ready_before (f ∷ fs) gs [] after l r = absurd (omega arith)
 ready_before (f ∷ fs) gs (s ∷ before) after l r = (r.0, ready_before fs gs before after (omega arith) r.1)
 
-pub ready_at : (fs gs : List Formal) (f : Formal) (before after : List Slot) (s : Slot) → length before ≡ length fs → AreReady (fs ++ f ∷ gs) (before ++ s ∷ after) → IsReady f s
+pub ready_at : (fs gs : List Formal) (f : Formal) (before after : List Slot) (s : Slot) → length before ≡ length fs → AreReady (fs ++ f ∷ gs) (before ++ s ∷ after) → SuitsFormal f s
 ready_at [] gs f [] after s l r = r.0
 ready_at [] gs f (t ∷ before) after s l r = absurd (omega arith)
 ready_at (g ∷ fs) gs f [] after s l r = absurd (omega arith)

@@ -31,37 +31,37 @@ abbrev pub all_dims : List Slot → List Dims
 all_dims slots = map (λ s. s.array.dims) slots
 
 -- an operand is as its formal needs it before a run
-abbrev pub IsReady : Formal → Slot → Type 0
-IsReady R s = Unit {0}
-IsReady RW s = IsTrue s.owned
-IsReady W s = IsTrue s.owned × (s.array ≡ zeros s.array.dims)
-IsReady Scratch s = IsTrue s.owned × (s.array ≡ zeros s.array.dims)
+abbrev pub SuitsFormal : Formal → Slot → Type 0
+SuitsFormal R s = Unit {0}
+SuitsFormal RW s = IsTrue s.owned
+SuitsFormal W s = IsTrue s.owned × (s.array ≡ zeros s.array.dims)
+SuitsFormal Scratch s = IsTrue s.owned × (s.array ≡ zeros s.array.dims)
 
 -- written and scratch operands are the task's own, and those whose old value isn't read are zeros
 abbrev pub AreReady : List Formal → List Slot → Type 0
 AreReady [] slots = Unit {0}
 AreReady (f ∷ fs) [] = Unit {0}
-AreReady (f ∷ fs) (s ∷ slots) = IsReady f s × AreReady fs slots
+AreReady (f ∷ fs) (s ∷ slots) = SuitsFormal f s × AreReady fs slots
 
 -- the arrays of the written operands in order
-abbrev pub written : List Formal → List Slot → List Array
-written [] slots = []
-written (f ∷ fs) [] = []
-written (R ∷ fs) (s ∷ slots) = written fs slots
-written (Scratch ∷ fs) (s ∷ slots) = written fs slots
-written (W ∷ fs) (s ∷ slots) = s.array ∷ written fs slots
-written (RW ∷ fs) (s ∷ slots) = s.array ∷ written fs slots
+abbrev pub written_arrays : List Formal → List Slot → List Array
+written_arrays [] slots = []
+written_arrays (f ∷ fs) [] = []
+written_arrays (R ∷ fs) (s ∷ slots) = written_arrays fs slots
+written_arrays (Scratch ∷ fs) (s ∷ slots) = written_arrays fs slots
+written_arrays (W ∷ fs) (s ∷ slots) = s.array ∷ written_arrays fs slots
+written_arrays (RW ∷ fs) (s ∷ slots) = s.array ∷ written_arrays fs slots
 
 -- an operand after a run: what is only read stays, and each keeps its dimensions and its owner
-abbrev pub Keeps : Formal → Slot → Slot → Type 0
-Keeps R old new = new ≡ old
-Keeps W old new = (new.owned ≡ old.owned) × (new.array.dims ≡ old.array.dims)
-Keeps RW old new = (new.owned ≡ old.owned) × (new.array.dims ≡ old.array.dims)
-Keeps Scratch old new = (new.owned ≡ old.owned) × (new.array.dims ≡ old.array.dims)
+abbrev pub KeepsOperand : Formal → Slot → Slot → Type 0
+KeepsOperand R old new = new ≡ old
+KeepsOperand W old new = (new.owned ≡ old.owned) × (new.array.dims ≡ old.array.dims)
+KeepsOperand RW old new = (new.owned ≡ old.owned) × (new.array.dims ≡ old.array.dims)
+KeepsOperand Scratch old new = (new.owned ≡ old.owned) × (new.array.dims ≡ old.array.dims)
 
 abbrev pub AllKeep : List Formal → List Slot → List Slot → Type 0
 AllKeep [] [] [] = Unit {0}
-AllKeep (f ∷ fs) (s ∷ old) (t ∷ new) = Keeps f s t × AllKeep fs old new
+AllKeep (f ∷ fs) (s ∷ old) (t ∷ new) = KeepsOperand f s t × AllKeep fs old new
 AllKeep _ _ _ = ⊥
 
 -- the last operand is the task's own

@@ -52,32 +52,32 @@ abbrev pub codelet_of : Kernel → Codelet
 codelet_of k = record { 0 = id_of k }
 
 -- the name by which a job calls it; the runtime's own codelets have none
-abbrev pub name_of : Kernel → Option (List ℕ)
-name_of Fill = Some (codes "fill")
-name_of Copy = Some (codes "copy")
-name_of Scale = Some (codes "scale")
-name_of Add = Some (codes "add")
-name_of Axpy = Some (codes "axpy")
-name_of Butterfly = Some (codes "butterfly")
-name_of Gemm = Some (codes "gemm")
-name_of GemmThree = Some (codes "gemm3")
-name_of Transpose = Some (codes "transpose")
-name_of Dot = Some (codes "dot")
-name_of Sum = Some (codes "sum")
-name_of Lowest = Some (codes "lowest")
-name_of MinGemm = Some (codes "mingemm")
-name_of FwDiag = Some (codes "fwdiag")
-name_of FwRow = Some (codes "fwrow")
-name_of FwCol = Some (codes "fwcol")
-name_of Load = None
-name_of LoadFill = None
-name_of Paste = None
-name_of Deliver = None
-name_of InitPlus = None
-name_of InitLeast = None
+abbrev pub kernel_name : Kernel → Option (List ℕ)
+kernel_name Fill = Some (codes "fill")
+kernel_name Copy = Some (codes "copy")
+kernel_name Scale = Some (codes "scale")
+kernel_name Add = Some (codes "add")
+kernel_name Axpy = Some (codes "axpy")
+kernel_name Butterfly = Some (codes "butterfly")
+kernel_name Gemm = Some (codes "gemm")
+kernel_name GemmThree = Some (codes "gemm3")
+kernel_name Transpose = Some (codes "transpose")
+kernel_name Dot = Some (codes "dot")
+kernel_name Sum = Some (codes "sum")
+kernel_name Lowest = Some (codes "lowest")
+kernel_name MinGemm = Some (codes "mingemm")
+kernel_name FwDiag = Some (codes "fwdiag")
+kernel_name FwRow = Some (codes "fwrow")
+kernel_name FwCol = Some (codes "fwcol")
+kernel_name Load = None
+kernel_name LoadFill = None
+kernel_name Paste = None
+kernel_name Deliver = None
+kernel_name InitPlus = None
+kernel_name InitLeast = None
 
 abbrev pub has_name : List ℕ → Kernel → Bool
-has_name name k = elim (name_of k) [ None ↦ false | Some own ↦ bytes_eq own name ]
+has_name name k = elim (kernel_name k) [ None ↦ false | Some own ↦ bytes_eq own name ]
 
 -- the codelet of that name in a set that knows these
 abbrev pub named_in : (Kernel → Bool) → List ℕ → Option Codelet
@@ -215,7 +215,7 @@ out id args ins = elim (kernel_of id) [ None ↦ [] | Some k ↦ new_arrays k ar
 
 -- the name of an id in a set that has these codelets
 abbrev pub name_in : (Kernel → Bool) → Codelet → Option (List ℕ)
-name_in has id = elim (kernel_of id) [ None ↦ None | Some k ↦ if has k then name_of k else None ]
+name_in has id = elim (kernel_of id) [ None ↦ None | Some k ↦ if has k then kernel_name k else None ]
 
 -- it is one of min-plus: the others are of ring arithmetic, or move elements as they are
 abbrev pub is_min_plus : Kernel → Bool

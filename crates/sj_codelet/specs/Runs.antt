@@ -5,7 +5,7 @@ use Rattle.sj_codelet.specs.declared.kernel.Kernel.{Kernel}
 use Rattle.sj_codelet.specs.declared.formal.Formal.{Formal}
 use Rattle.sj_codelet.specs.declared.formal.Shape.{Shape}
 use Rattle.sj_codelet.specs.Kernel.{kernel_of, arguments_of, formals_of, fits, new_arrays, out}
-use Rattle.sj_codelet.specs.Frame.{Slot, Frame, arrays, all_dims, AreReady, written, AllKeep}
+use Rattle.sj_codelet.specs.Frame.{Slot, Frame, arrays, all_dims, AreReady, written_arrays, AllKeep}
 
 -- the shape of a codelet
 abbrev pub shape_of : Kernel → Shape
@@ -25,7 +25,7 @@ pub record IsReadyFor (id : Codelet) (slots : List Slot) : Type 0 where
 
 -- the written operands hold the codelet's new arrays, and the others what `AllKeep` says
 pub record IsRun (id : Codelet) (args : List ℤ) (old new : Frame) : Type 0 where
-  pub written : written (formals_in id) new.slots ≡ out id args (arrays old.slots)
+  pub written : written_arrays (formals_in id) new.slots ≡ out id args (arrays old.slots)
   pub kept : AllKeep (formals_in id) old.slots new.slots
   pub room : new.spare ≡ old.spare
 
@@ -35,6 +35,6 @@ pub record IsReadyOf (k : Kernel) (args : List ℤ) (slots : List Slot) : Type 0
   pub ready : AreReady (formals_of k) slots
 
 pub record IsRunOf (k : Kernel) (args : List ℤ) (old new : Frame) : Type 0 where
-  pub written : written (formals_of k) new.slots ≡ new_arrays k args (arrays old.slots)
+  pub written : written_arrays (formals_of k) new.slots ≡ new_arrays k args (arrays old.slots)
   pub kept : AllKeep (formals_of k) old.slots new.slots
   pub room : new.spare ≡ old.spare

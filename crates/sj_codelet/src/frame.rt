@@ -14,19 +14,19 @@ use std::sync::Arc;
 
 /// One operand: shared with others to read, or the task's own to write.
 #[derive(Debug, Drop)]
-pub enum Operand {
+pub enum FrameOperand {
     Shared(Arc<Tile>),
     Own(Tile),
 }
 
-impl Operand {
+impl FrameOperand {
     /// The operand's tile. Constant time.
     pub fn tile(&self) -> &Tile
         ensures { result.now ≡ (slot_of self.now).array }
     {
         match self {
-            Operand::Shared(tile) => tile,
-            Operand::Own(tile) => tile,
+            FrameOperand::Shared(tile) => tile,
+            FrameOperand::Own(tile) => tile,
         }
     }
 }
@@ -34,7 +34,7 @@ impl Operand {
 /// A task's operands in order, with room for some more.
 #[derive(Debug, Drop)]
 pub struct Frame {
-    operands: Roomy<Operand>,
+    operands: Roomy<FrameOperand>,
 }
 
 impl Model for Frame {
@@ -80,7 +80,7 @@ impl Frame {
         ensures slots { self.new.slots ≡ self.old.slots ++ shared tile.value ∷ [] }
         ensures room { self.new.spare + 1 ≡ self.old.spare }
     {
-        self.push(Operand::Shared(tile));
+        self.push(FrameOperand::Shared(tile));
     }
 
     /// Appends a tile of the task's own. Constant time, and no memory.
@@ -89,11 +89,11 @@ impl Frame {
         ensures slots { self.new.slots ≡ self.old.slots ++ own tile ∷ [] }
         ensures room { self.new.spare + 1 ≡ self.old.spare }
     {
-        self.push(Operand::Own(tile));
+        self.push(FrameOperand::Own(tile));
     }
 
     /// Appends an operand. Constant time, and no memory.
-    pub fn push(&mut self, operand: Operand)
+    pub fn push(&mut self, operand: FrameOperand)
         requires { 0 < self.old.spare }
         ensures slots { self.new.slots ≡ self.old.slots ++ slot_of operand ∷ [] }
         ensures room { self.new.spare + 1 ≡ self.old.spare }
@@ -124,7 +124,7 @@ impl Frame {
     }
 
     /// Takes the last operand away. Constant time, and no memory.
-    pub fn take_last(&mut self) -> Operand
+    pub fn take_last(&mut self) -> FrameOperand
         requires { 0 < length self.old.slots }
         ensures slots { self.old.slots ≡ self.new.slots ++ slot_of result ∷ [] }
         ensures room { self.new.spare ≡ self.old.spare + 1 }
@@ -140,8 +140,8 @@ impl Frame {
         ensures room { self.new.spare ≡ self.old.spare + 1 }
     {
         match self.take_last() {
-            Operand::Shared(tile) => tile,
-            Operand::Own(_) => unreachable!(),
+            FrameOperand::Shared(tile) => tile,
+            FrameOperand::Own(_) => unreachable!(),
         }
     }
 
@@ -153,11 +153,11 @@ impl Frame {
         ensures whole { length result.elements ≡ area result.dims }
     {
         match self.take_last() {
-            Operand::Own(tile) => {
+            FrameOperand::Own(tile) => {
                 let _whole = tile.dims();
                 tile
             }
-            Operand::Shared(_) => unreachable!(),
+            FrameOperand::Shared(_) => unreachable!(),
         }
     }
 }

@@ -1,7 +1,7 @@
 //! The table of codelets. A new codelet is one more variant here, and its place in each column of the table.
 
 ghost use Rattle.std.specs.Prelude.{◌≡◌, ◌<◌, length, slice_get, option_map, IfOk, IsTrue};
-ghost use Rattle.sj_codelet.specs.Kernel.{kernels, kernel_of, codelet_of, name_of, has_name, commutes_of, contributes_of, init_of, combine_of};
+ghost use Rattle.sj_codelet.specs.Kernel.{kernels, kernel_of, codelet_of, kernel_name, has_name, commutes_of, contributes_of, init_of, combine_of};
 ghost use Rattle.sj_codelet.specs.Kernel.{arguments_of, formals_of, dims_fit, arguments_fit, fits, is_min_plus};
 ghost use Rattle.sj_codelet.specs.Runs.{shape_of};
 
@@ -170,7 +170,7 @@ impl Kernel {
 
     /// The name by which a job calls it, or `None` for one of the runtime's own. Constant time.
     pub fn name(self) -> Option<&'static [u8]>
-        ensures { option_map (λ name. name.now) result ≡ name_of self }
+        ensures { option_map (λ name. name.now) result ≡ kernel_name self }
     {
         match self {
             Kernel::Fill => Some(b"fill"),

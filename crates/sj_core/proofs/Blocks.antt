@@ -1,7 +1,7 @@
 -- Where blocks lie: each cell's on one of the machine's disks, if all fit there.
 use Rattle.std.proofs.Common.{◌≡◌, ℕ, ◌+◌, ◌<◌, true, Option, None, Some, List, [], ◌∷◌, length, set, refl, ap, subst}
 use Rattle.std.proofs.Common.{arith, All, is_some, option_and_then, option_map, slice_get, slice_index_or, zip}
-use Rattle.sj_core.proofs.Words.{Block, Cell, CellInfo, DiskNo, Machine, Program, block_bytes, first_fit, place}
+use Rattle.sj_core.proofs.Words.{Block, Cell, CellInfo, DiskNo, Machine, Program, cell_block_bytes, first_fit, place}
 use Rattle.sj_core.proofs.Words.{place_after}
 use Rattle.std.proofs.lemmas.List.Elements.{All-nil, All-cons}
 use Rattle.std.proofs.lemmas.Option.{slice_get-get_or, slice_get_within, get_or_from_slice_get}
@@ -14,19 +14,19 @@ ArePlaced sizes cells blocks = (length blocks ≡ length cells) × All (λ b. b.
 
 placed : (sizes taken : List ℕ) (cells : List CellInfo) (blocks : List Block) → place_after sizes taken cells ≡ Some blocks → ArePlaced sizes cells blocks
 placed sizes taken [] blocks e = subst (ArePlaced sizes []) (let f : [] ≡ blocks = cc in f) (refl, All-nil (λ b. b.disk.0 < length sizes))
-placed sizes taken (c ∷ cells) blocks e = by_disk (first_fit sizes taken (block_bytes c)) refl e (λ taken' bs later. placed sizes taken' cells bs later)
+placed sizes taken (c ∷ cells) blocks e = by_disk (first_fit sizes taken (cell_block_bytes c)) refl e (λ taken' bs later. placed sizes taken' cells bs later)
   where
     all : (d : ℕ) → d < length sizes → (rest : Option (List Block)) → ((bs : List Block) → rest ≡ Some bs → ArePlaced sizes cells bs) → option_map (λ bs. (record { disk = record { 0 = d }; position = slice_index_or taken d 0 }) ∷ bs) rest ≡ Some blocks → ArePlaced sizes (c ∷ cells) blocks
     all d fits x rest e = search (arith, ArePlaced, All-cons)
 
-    by_disk : (o : Option ℕ) → first_fit sizes taken (block_bytes c) ≡ o → elim o as (λ _. Option (List Block)) [
+    by_disk : (o : Option ℕ) → first_fit sizes taken (cell_block_bytes c) ≡ o → elim o as (λ _. Option (List Block)) [
       | None ↦ None
-      | Some d ↦ option_map (λ bs. (record { disk = record { 0 = d }; position = slice_index_or taken d 0 }) ∷ bs) (place_after sizes (set taken d (slice_index_or taken d 0 + block_bytes c)) cells)
+      | Some d ↦ option_map (λ bs. (record { disk = record { 0 = d }; position = slice_index_or taken d 0 }) ∷ bs) (place_after sizes (set taken d (slice_index_or taken d 0 + cell_block_bytes c)) cells)
     ] ≡ Some blocks → ((taken' : List ℕ) (bs : List Block) → place_after sizes taken' cells ≡ Some bs → ArePlaced sizes cells bs) → ArePlaced sizes (c ∷ cells) blocks
     by_disk None f e rest = absurd (let g : ◌≡◌ {A = Option (List Block)} None (Some blocks) = e in cc)
     by_disk (Some d) f e rest =
         let first = position-Some _ (zip sizes taken) d (0, 0) f in
-        all d (omega (arith, first.0, length-zip sizes taken)) (place_after sizes (set taken d (slice_index_or taken d 0 + block_bytes c)) cells) (rest (set taken d (slice_index_or taken d 0 + block_bytes c))) e
+        all d (omega (arith, first.0, length-zip sizes taken)) (place_after sizes (set taken d (slice_index_or taken d 0 + cell_block_bytes c)) cells) (rest (set taken d (slice_index_or taken d 0 + cell_block_bytes c))) e
 
 module _ (p : Program) (m : Machine) (c : Cell) where
   abbrev disk_in : Option (List Block) → Option DiskNo

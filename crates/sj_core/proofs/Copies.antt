@@ -8,7 +8,7 @@ use Rattle.std.proofs.lemmas.{List.get_or_default, List.Elements.All-contains, L
 use Rattle.sj_base.specs.Mode.{is_redux, is_scratch, starts_as_zeros, access}
 use Rattle.sj_base.specs.Ids.{task}
 use Rattle.sj_base.proofs.Lists.{one_is}
-use Rattle.sj_core.specs.Proper.{IsCombine, IsContribution, IsCopyOf, IsFirstUnit, IsInit, IsMember, IsOpenAt, IsPhase}
+use Rattle.sj_core.specs.Proper.{IsCombine, IsContribution, IsCopyOf, IsFirstUnit, IsInit, IsOfPhase, IsOpenAt, IsPhase}
 use Rattle.sj_core.specs.Proper.{Phase, Proper, Touches, task_number}
 use Rattle.sj_core.proofs.Phases.{combine-after, combine-among, combine-reads, combine_at, contributes, copy-of}
 use Rattle.sj_core.proofs.Phases.{init-among, init-before, init_at}
@@ -81,7 +81,7 @@ module _ (p : Program) (proper : Proper p) where
         member : Touches p f.cell a → Contains f.contributions n ⊎ Contains f.combines n
         member there = by_kind (phase.alone n a is_open in_data there)
           where
-            by_kind : IsMember f n ⊎ IsFirstUnit p f n → Contains f.contributions n ⊎ Contains f.combines n
+            by_kind : IsOfPhase f n ⊎ IsFirstUnit p f n → Contains f.contributions n ⊎ Contains f.combines n
             by_kind x = search (arith, All-contains)
 
         -- an operand of a combine
@@ -183,7 +183,7 @@ module _ (p : Program) (proper : Proper p) where
             (Contains-filter (λ b. not (is_scratch b.mode)) (task_number p (combine_at p proper f phase x x_in)).accesses (access R (copy_of p f.cell x)) refl reads)
             (inr (x, record { has_copies = has; of_worker = x_in; is = ap (λ (c : Cell). copy_of p c x) (sym cell) })))
           where
-            by_kind : IsMember g (combine_at p proper f phase x x_in) ⊎ IsFirstUnit p g (combine_at p proper f phase x x_in) → ⊥
+            by_kind : IsOfPhase g (combine_at p proper f phase x x_in) ⊎ IsFirstUnit p g (combine_at p proper f phase x x_in) → ⊥
             by_kind (inl (inl init)) = let own = init-of g later has (combine_at p proper f phase x x_in) init in combines-two f phase has_copies (combine_at p proper f phase x x_in) (copy_of p g.cell own.0) among own.1.operands
             by_kind (inl (inr (inl own))) = own-of_phase p proper f phase (combine_at p proper f phase x x_in) (inr among) (access Redux g.cell) (All-contains (λ i. IsContribution g.by g.cell (task_number p i)) g.contributions (combine_at p proper f phase x x_in) later.contributions own).operand refl
             by_kind (inl (inr (inr own))) =

@@ -14,7 +14,7 @@ use Rattle.sj_base.specs.Mode.{is_in_order, is_redux, is_scratch, is_written, re
 use Rattle.sj_base.proofs.Lists.{one_is}
 use Rattle.sj_deps.specs.Conflict.{Conflict}
 use Rattle.sj_core.specs.Laws.{Brought, HasAtHand, HoldsFinal, IsLawful, IsSettled, IsSound, Works, final}
-use Rattle.sj_core.specs.Proper.{IsContribution, IsFirstUnit, IsMember, IsOpenAt, IsPhase, IsPlain, Phase, Proper}
+use Rattle.sj_core.specs.Proper.{IsContribution, IsFirstUnit, IsOfPhase, IsOpenAt, IsPhase, IsPlain, Phase, Proper}
 use Rattle.sj_core.specs.Proper.{gives_value, task_number}
 use Rattle.sj_core.specs.Coherent.{content, has_written, is_begun, is_being_written}
 use Rattle.sj_core.specs.Fold.{given, held_before, held_in}
@@ -68,7 +68,7 @@ module _ (p : Program) (proper : Proper p) where
           let e : access R c ∷ [] ≡ access R (copy_of p f.cell own.0) ∷ access RW f.cell ∷ [] = sym alone ∙ own.2.operands in
           cc
 
-      by_kind : (f : Phase) → IsPhase p f → IsMember f t.0 ⊎ IsFirstUnit p f t.0 → ⊥
+      by_kind : (f : Phase) → IsPhase p f → IsOfPhase f t.0 ⊎ IsFirstUnit p f t.0 → ⊥
       by_kind f phase x = search (arith, of_phase, All-contains, one_is, fills_not)
 
 -- ---- what a task finds

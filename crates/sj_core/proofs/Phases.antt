@@ -11,7 +11,7 @@ use Rattle.sj_codelet.specs.Kernel.{combine_of, contributes_of, has_reduction, i
 use Rattle.sj_codelet.specs.Laws.{DoesContribute, IsReduction}
 use Rattle.sj_deps.specs.Conflict.{Conflict, Uses}
 use Rattle.sj_core.specs.Laws.{IsLawful, is_known}
-use Rattle.sj_core.specs.Proper.{IsContribution, IsCopyOf, IsFirstUnit, IsMember, IsOpenAt, IsPhase, Phase, Proper}
+use Rattle.sj_core.specs.Proper.{IsContribution, IsCopyOf, IsFirstUnit, IsOfPhase, IsOpenAt, IsPhase, Phase, Proper}
 use Rattle.sj_core.specs.Proper.{task_number}
 use Rattle.sj_core.proofs.Dependencies.{Proper-dependencies, own-of_phase}
 use Rattle.sj_core.proofs.Updating.{ContributionsExchange, operand-used}
@@ -74,7 +74,7 @@ module _ (p : Program) (proper : Proper p) where
         let is_open : IsOpenAt f k = record { begun = (init_at, init-among, omega (arith, init-before n has, later)); unfinished = (combine_at, combine-among, before) } in
         by_kind (phase.alone k a is_open (Contains-filter (λ b. not (is_scratch b.mode)) (task_number p k).accesses a (ap (λ (m : Mode). not (is_scratch m)) redux) h) (inl same))
       where
-        by_kind : IsMember f k ⊎ IsFirstUnit p f k → Contains f.contributions k
+        by_kind : IsOfPhase f k ⊎ IsFirstUnit p f k → Contains f.contributions k
         by_kind (inl (inl init)) = absurd (own-of_phase p proper f phase k (inl init) a h redux)
         by_kind (inl (inr (inl own))) = own
         by_kind (inl (inr (inr combine))) = absurd (own-of_phase p proper f phase k (inr combine) a h redux)

@@ -16,8 +16,8 @@ use Rattle.sj_base.specs.Ids.{cell, worker}
 use Rattle.sj_base.proofs.Bools.{implied}
 use Rattle.sj_codelet.specs.Kernel.{fits, kernel_of}
 use Rattle.sj_codelet.specs.declared.kernel.Kernel.TheVariants.{Add, Deliver, GemmThree, InitPlus, Load, Sum}
-use Rattle.sj_core.specs.Proper.{Contributing, Fits, HasDeliveries, HasPhases, HasValueBefore, IsCombine}
-use Rattle.sj_core.specs.Proper.{IsContribution, IsCopyOf, IsInit, IsMember, IsPhase, IsUnaliased, IsWithinLimits}
+use Rattle.sj_core.specs.Proper.{Contributing, FitsCodelet, HasDeliveries, HasPhases, HasValueBefore, IsCombine}
+use Rattle.sj_core.specs.Proper.{IsContribution, IsCopyOf, IsInit, IsOfPhase, IsPhase, IsUnaliased, IsWithinLimits}
 use Rattle.sj_core.specs.Proper.{NamesCells, Own, Phase, Proper, ReadsValues, Touches, gives_value, own_modes}
 use Rattle.sj_core.specs.Proper.{task_number}
 use Rattle.sj_core.proofs.Worked.{a_task, access, columns}
@@ -92,14 +92,14 @@ names_cells =
 
 -- ---- codelets, aliases, values
 
-own : (k : Kernel) (l : Lowered) → kernel_of l.codelet ≡ Some k → fits k l.args (map (λ a. dims_of job a.cell) l.accesses) ≡ true → map (λ a. a.mode) l.accesses ≡ own_modes k → Fits job l
+own : (k : Kernel) (l : Lowered) → kernel_of l.codelet ≡ Some k → fits k l.args (map (λ a. dims_of job a.cell) l.accesses) ≡ true → map (λ a. a.mode) l.accesses ≡ own_modes k → FitsCodelet job l
 own k l codelet operands modes = record { kernel = k; codelet = codelet; operands = operands; modes = Own modes }
 
 also : {A B : Type 0} → A → B → A × B
 also a b = (a, b)
 
-codelets_fit : All (Fits job) job.tasks
-codelets_fit = All-from_recursion (Fits job) job.tasks
+codelets_fit : All (FitsCodelet job) job.tasks
+codelets_fit = All-from_recursion (FitsCodelet job) job.tasks
     (also (own Load _ refl refl refl) (also (own Load _ refl refl refl) (also (own Load _ refl refl refl)
     (also (own InitPlus _ refl refl refl) (also (own InitPlus _ refl refl refl)
     (also (record { kernel = Sum; codelet = refl; operands = refl; modes = Contributing Plus refl refl refl })
@@ -177,7 +177,7 @@ is_phase = record {
     touched : (a : Access) → Touches job (cell 2) a → touches_s a.cell.0 ≡ true
     touched a b = search (arith, copies_are, cell)
 
-    member : (n : ℕ) → has (3 ∷ 4 ∷ 5 ∷ 7 ∷ 8 ∷ []) n ≡ true → IsMember phase n
+    member : (n : ℕ) → has (3 ∷ 4 ∷ 5 ∷ 7 ∷ 8 ∷ []) n ≡ true → IsOfPhase phase n
     member n h = elim (Contains-append_cases phase.inits (5 ∷ 7 ∷ 8 ∷ []) n (among (3 ∷ 4 ∷ 5 ∷ 7 ∷ 8 ∷ []) n h)) [
       | inl first ↦ inl first
       | inr rest ↦ inr (Contains-append_cases phase.contributions phase.combines n rest)

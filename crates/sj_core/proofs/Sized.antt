@@ -18,7 +18,7 @@ use Rattle.sj_codelet.specs.{Laws.IsTile, Formal.is_output, Formal.outputs_among
 use Rattle.sj_codelet.proofs.Table.{each_dims, new_arrays-dims}
 use Rattle.sj_codelet.proofs.NewArrays.{new_arrays-tiles, zeros-tile}
 use Rattle.sj_core.specs.Fold.{Contents, after_chosen, after_task, held_in}
-use Rattle.sj_core.specs.Proper.{Fits, MayHaveModes, Proper, mode_of, modes_writing_by}
+use Rattle.sj_core.specs.Proper.{FitsCodelet, MayHaveModes, Proper, mode_of, modes_writing_by}
 use Rattle.sj_core.proofs.{Folding.held-append, Folding.held_over}
 
 -- what fits has as many arguments as formals, and its dimensions fit
@@ -77,8 +77,8 @@ held_over-sized p (d ∷ cs) (a ∷ arrays) c below tiles dims h =
     by_first : (b : Bool) → same_cell d c ≡ b → IsTile a → a.dims ≡ dims_of p d → Fills p c (held_over (zip cs arrays) c below) → Fills p c (elim (cond b (Some (d, a)) (find (λ (entry : Cell × Array). same_cell entry.0 c) (zip cs arrays))) as (λ _. Array) [ None ↦ below | Some entry ↦ entry.1 ])
     by_first b e tile dims rest = search (arith, tile, same_cell-is)
 
-pub task-fits : (p : Program) → Proper p → (t : Task) → t.0 < length p.tasks → Fits p (task_of p t)
-task-fits p proper t inside = All-get_or (Fits p) p.tasks t.0 no_task inside proper.codelets
+pub task-fits : (p : Program) → Proper p → (t : Task) → t.0 < length p.tasks → FitsCodelet p (task_of p t)
+task-fits p proper t inside = All-get_or (FitsCodelet p) p.tasks t.0 no_task inside proper.codelets
 
 module _ (p : Program) (proper : Proper p) (arguments : All (λ l. All (FitsSigned w64) l.args) p.tasks) where
   -- the cell that is worked on is as large as the operand's

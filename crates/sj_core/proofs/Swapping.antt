@@ -13,7 +13,7 @@ use Rattle.sj_codelet.specs.Kernel.{fits, kernel_of, new_arrays, operand}
 use Rattle.sj_codelet.specs.Laws.{DoCommute, IsCall, IsTile, result_of}
 use Rattle.sj_core.proofs.Words.{Access, Array, Cell, Kernel, Program, Task, Worker, cells_of, dims_of, found, has_cell, no_task, results, same_cell, task_of, worked_on, written_cells, zeros}
 use Rattle.sj_core.specs.Fold.{Contents, after_chosen, after_task, held_in}
-use Rattle.sj_core.specs.Proper.{Fits, Proper}
+use Rattle.sj_core.specs.Proper.{FitsCodelet, Proper}
 use Rattle.sj_core.proofs.Values.{results-complete}
 use Rattle.sj_core.proofs.Folding.{AddsTask, after_chosen-same, after_task-other, after_task-same, held-append, held_over}
 use Rattle.sj_core.proofs.Sized.{AreSized, after_chosen-sized, ins-fit, ins-tiles, task-fits}
@@ -61,7 +61,7 @@ module _ (p : Program) (proper : Proper p) (arguments : All (λ l. All (FitsSign
         let held = held_in p before in
         let l = task_of p t in
         let made : results p t w held ≡ new_arrays u.kernel l.args (first_ins p t w d u held ++ held d ∷ []) = ap (λ (o : Option Kernel). elim o as (λ _. List Array) [ None ↦ [] | Some k ↦ new_arrays k l.args (map (found p w held) l.accesses) ]) u.codelet ∙ ap (new_arrays u.kernel l.args) (ins-are held) in
-        let many : length (results p t w held) ≡ 1 = results-complete p t w held (All-get_or (Fits p) p.tasks t.0 no_task inside proper.codelets) ∙ ap length u.written in
+        let many : length (results p t w held) ≡ 1 = results-complete p t w held (All-get_or (FitsCodelet p) p.tasks t.0 no_task inside proper.codelets) ∙ ap length u.written in
         held-append p (zip (written_cells p t w) (results p t w held)) before d
         ∙ ap (λ (cs : List Cell). held_over (zip cs (results p t w held)) d (held d)) u.written
         ∙ first (results p t w held) many (held d)

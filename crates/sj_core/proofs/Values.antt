@@ -13,7 +13,7 @@ use Rattle.sj_codelet.specs.Kernel.{new_arrays}
 use Rattle.sj_base.specs.Mode.{is_written, is_redux, is_scratch, reads_value, starts_as_zeros, access}
 use Rattle.sj_base.proofs.Lists.{list_any-numbered, sum_by-agree, sum_by-map}
 use Rattle.sj_base.proofs.SameIds.{same_cell-is}
-use Rattle.sj_core.specs.Proper.{Fits, MayHaveModes, own_modes, modes_writing_by, HasValueBefore, Proper}
+use Rattle.sj_core.specs.Proper.{FitsCodelet, MayHaveModes, own_modes, modes_writing_by, HasValueBefore, Proper}
 use Rattle.sj_core.specs.Proper.{gives_value}
 use Rattle.sj_core.specs.{Coherent.WritesAreCounted, Coherent.has_written, Step.EarlierAreDone}
 use Rattle.sj_deps.specs.Conflict.{Conflict, IsShared, Uses}
@@ -41,7 +41,7 @@ modes-count : (k : Kernel) (modes : List Mode) → MayHaveModes k modes → coun
 modes-count k modes x = search (arith, writing_by-count)
 
 -- a task that fits its codelet has as many results as written cells
-pub results-complete : (p : Program) (t : Task) (w : Worker) (held : Cell → Array) → Fits p (task_of p t) → length (results p t w held) ≡ length (written_cells p t w)
+pub results-complete : (p : Program) (t : Task) (w : Worker) (held : Cell → Array) → FitsCodelet p (task_of p t) → length (results p t w held) ≡ length (written_cells p t w)
 results-complete p t w held fit =
     let l = task_of p t in
     let ins : List Array = map (found p w held) l.accesses in

@@ -15,7 +15,7 @@ use Rattle.sj_base.specs.Ids.{task}
 use Rattle.sj_base.proofs.Bools.{or_false}
 use Rattle.sj_base.proofs.SameIds.{same_cell-is, same_cell-itself}
 use Rattle.sj_deps.specs.Conflict.{Conflict, IsShared, Uses}
-use Rattle.sj_core.specs.Proper.{Fits, Proper, IsCombine, IsOpenAt, IsPhase, IsPlain, Phase, task_number}
+use Rattle.sj_core.specs.Proper.{FitsCodelet, Proper, IsCombine, IsOpenAt, IsPhase, IsPlain, Phase, task_number}
 use Rattle.sj_core.specs.{Fold.Contents, Fold.after_chosen, Fold.after_task, Fold.held_in, Laws.IsLawful}
 use Rattle.sj_codelet.specs.Laws.{IsReduction, IsTile, combined}
 use Rattle.sj_core.proofs.Folding.{after_task-other, held-append, held_over, held_over-own, read-among_cells}
@@ -47,7 +47,7 @@ step-same p proper t inside w before before' c reads other = elim (cases_Bool (h
       let arrays = results p t w (held_in p before) in
       let arrays' = results p t w (held_in p before') in
       let finds : arrays ≡ arrays' = results-same p t w w (held_in p before) (held_in p before') (reads writes) in
-      let complete = results-complete p t w (held_in p before') (All-get_or (Fits p) p.tasks t.0 no_task inside proper.codelets) in
+      let complete = results-complete p t w (held_in p before') (All-get_or (FitsCodelet p) p.tasks t.0 no_task inside proper.codelets) in
       held-append p (zip cs arrays) before c
       ∙ ap (λ (xs : List Array). held_over (zip cs xs) c (held_in p before c)) finds
       ∙ held_over-own cs arrays' c (held_in p before c) (held_in p before' c) writes (omega (arith, complete))

@@ -30,12 +30,12 @@ footprint p t =
     sum_by (tile_bytes p) (distinct (map (λ a. a.cell) (data_operands (task_of p t)))) + scratch_bytes p (task_of p t)
 
 -- the bytes of a cell's block on a disk: a header of 24 and the elements
-abbrev pub block_bytes : CellInfo → ℕ
-block_bytes c = 24 + 8 * area c.dims
+abbrev pub cell_block_bytes : CellInfo → ℕ
+cell_block_bytes c = 24 + 8 * area c.dims
 
 -- the bytes of all blocks
 abbrev pub swap_need : Program → ℕ
-swap_need p = sum_by block_bytes p.cells
+swap_need p = sum_by cell_block_bytes p.cells
 
 -- where a block lies: its disk, and the position of its first byte there
 pub record Block : Type 0 where
@@ -45,9 +45,9 @@ pub record Block : Type 0 where
 -- the blocks of these cells in order, each on the first disk that it fits, behind what is taken there
 abbrev pub place_after : List ℕ → List ℕ → List CellInfo → Option (List Block)
 place_after sizes taken [] = Some []
-place_after sizes taken (c ∷ cs) = elim (first_fit sizes taken (block_bytes c)) [
+place_after sizes taken (c ∷ cs) = elim (first_fit sizes taken (cell_block_bytes c)) [
   | None ↦ None
-  | Some d ↦ option_map (λ blocks. (record { disk = record { 0 = d }; position = slice_index_or taken d 0 }) ∷ blocks) (place_after sizes (slice_set taken d (slice_index_or taken d 0 + block_bytes c)) cs)
+  | Some d ↦ option_map (λ blocks. (record { disk = record { 0 = d }; position = slice_index_or taken d 0 }) ∷ blocks) (place_after sizes (slice_set taken d (slice_index_or taken d 0 + cell_block_bytes c)) cs)
 ]
 
 -- the block of each cell by first fit, in cell order, on disks of these sizes; none where one fits nowhere

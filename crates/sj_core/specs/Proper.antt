@@ -70,7 +70,7 @@ pub data MayHaveModes (k : Kernel) (modes : List Mode) : Type 0 where
   Contributing : (by : Reduction) → IsTrue (contributes_of k by) → writes_one k → modes ≡ modes_writing_by Redux k → MayHaveModes k modes
 
 -- arguments, dimensions and modes of a task are those of a codelet of the table
-pub record Fits (p : Program) (l : Lowered) : Type 0 where
+pub record FitsCodelet (p : Program) (l : Lowered) : Type 0 where
   pub kernel : Kernel
   pub codelet : kernel_of l.codelet ≡ Some kernel
   pub operands : IsTrue (fits kernel l.args (map (λ a. dims_of p a.cell) l.accesses))
@@ -135,8 +135,8 @@ abbrev pub Touches : Program → Cell → Access → Type 0
 Touches p c a = (a.cell ≡ c) ⊎ ((w : Worker) × IsCopyOf p a.cell c w)
 
 -- the task is one of the phase's own
-abbrev pub IsMember : Phase → ℕ → Type 0
-IsMember f n = Contains f.inits n ⊎ (Contains f.contributions n ⊎ Contains f.combines n)
+abbrev pub IsOfPhase : Phase → ℕ → Type 0
+IsOfPhase f n = Contains f.inits n ⊎ (Contains f.contributions n ⊎ Contains f.combines n)
 
 -- the task gives the phase's cell the unit, before the first contribution
 pub record IsFirstUnit (p : Program) (f : Phase) (n : ℕ) : Type 0 where
@@ -160,7 +160,7 @@ pub record IsPhase (p : Program) (f : Phase) : Type 0 where
   pub inits_first : All (λ i. All (λ n. i < n) f.contributions) f.inits
   pub combines_last : All (λ n. All (λ k. n < k) f.combines) f.contributions
   pub in_worker_order : AllPairs (λ j k. j < k) f.combines
-  pub alone : (n : ℕ) (a : Access) → IsOpenAt f n → Contains (data_operands (task_number p n)) a → Touches p f.cell a → IsMember f n ⊎ IsFirstUnit p f n
+  pub alone : (n : ℕ) (a : Access) → IsOpenAt f n → Contains (data_operands (task_number p n)) a → Touches p f.cell a → IsOfPhase f n ⊎ IsFirstUnit p f n
 
 pub record HasPhases (p : Program) : Type 0 where
   pub phases : List Phase
@@ -185,7 +185,7 @@ pub record IsWithinLimits (p : Program) : Type 0 where
 
 pub record Proper (p : Program) : Type 0 where
   pub cells : NamesCells p
-  pub codelets : All (Fits p) p.tasks
+  pub codelets : All (FitsCodelet p) p.tasks
   pub unaliased : All IsUnaliased p.tasks
   pub values : ReadsValues p
   pub phases : HasPhases p

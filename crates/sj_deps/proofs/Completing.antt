@@ -6,13 +6,13 @@ use Rattle.std.proofs.lemmas.List.{get_or_default, get_or_past}
 use Rattle.std.proofs.lemmas.Bool.{cases_lt}
 use Rattle.sj_deps.specs.declared.counters.Counters.{Counters}
 use Rattle.sj_deps.specs.Chains.{is_party, waits_of}
-use Rattle.sj_deps.specs.Counts.{Answers, blocked, owed, parties_at}
+use Rattle.sj_deps.specs.Counts.{ListsReady, blocked, owed, parties_at}
 use Rattle.sj_deps.specs.Progress.{Ledger}
 use Rattle.sj_deps.proofs.Freeing.{owed_law}
 use Rattle.sj_deps.proofs.Keeping.{party_counted}
 
 module _ (c : Counters) (ledger : Ledger c) where
-  module _ (w' r₀ opened : List ℕ) (fresh : r₀ ≡ []) (answers : Answers c.waits.items w' r₀ opened) where
+  module _ (w' r₀ opened : List ℕ) (fresh : r₀ ≡ []) (answers : ListsReady c.waits.items w' r₀ opened) where
     law : (n : ℕ) → count_by (is_party n) opened + min 1 (waits_of w' n) ≡ min 1 (waits_of c.waits.items n)
     law n =
         let e = answers.opened n in

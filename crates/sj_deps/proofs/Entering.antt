@@ -18,7 +18,7 @@ use Rattle.sj_deps.specs.declared.chain.Chain.{Chain}
 use Rattle.sj_deps.specs.declared.chain.Member.{Member}
 use Rattle.sj_deps.specs.declared.entry.Entered.{Entered}
 use Rattle.sj_deps.specs.Chains.{member, no_member, member_at, party_at, manner_at, members_at, is_of}
-use Rattle.sj_deps.specs.Counts.{Begun, Holds, Present, Entering, Appends, Opens, Joins, In, IsPhase, IsOpen, tasks_at, cells_at, ends_with}
+use Rattle.sj_deps.specs.Counts.{Begun, HoldsAccesses, Present, Entering, Appends, Opens, JoinsParty, In, IsPhaseParty, IsOpen, tasks_at, cells_at, ends_with_party}
 use Rattle.sj_deps.proofs.Counting.{some_counted}
 use Rattle.sj_deps.proofs.Pushing.{each_pushed, at_old, at_new, closed_at}
 
@@ -77,11 +77,11 @@ module _ (P : Program) (deps : HasDependencies P) (t : ℕ) (task_in : t < lengt
   abbrev ms_of : ℕ → List Member
   ms_of c = members_at e.chains.items c
 
-  abbrev holds : Holds P e.chains.items e.cells.items e.tasks.items
+  abbrev holds : HoldsAccesses P e.chains.items e.cells.items e.tasks.items
   holds = entering.holds
 
   -- a party's accesses to these cells are appended, with this task alone
-  module _ (new : Entered) (n : ℕ) (m : Manner) (first k : ℕ) (len : length new.chains.items ≡ length e.chains.items) (pushed : (c : ℕ) → first ≤ c → c < first + k → members_at new.chains.items c ≡ ms_of c ++ member n m ∷ []) (others : (c : ℕ) → (c < first) ⊎ (first + k ≤ c) → members_at new.chains.items c ≡ ms_of c) (tasks_n : tasks_at new.tasks.items n ≡ task t ∷ []) (tasks_o : (u : ℕ) → u < length e.tasks.items → tasks_at new.tasks.items u ≡ tasks_at e.tasks.items u) (cells_n : cells_at new.cells.items n ≡ cells_at e.cells.items n ++ range_with_len first k) (cells_o : (u : ℕ) → (n ≡ u → ⊥) → cells_at new.cells.items u ≡ cells_at e.cells.items u) (longer : length e.tasks.items ≤ length new.tasks.items) (n_known : n < length new.tasks.items) (only_n : (u : ℕ) → u < length new.tasks.items → (u < length e.tasks.items) ⊎ (u ≡ n)) (every : length new.cells.items ≡ length new.tasks.items) (uses : (c : ℕ) → first ≤ c → c < first + k → Uses P t c m) (own_n : (m ≡ Contribute) ⊎ (n ≡ t)) (phase : m ≡ Contribute → IsPhase P new.cells.items n) (no_phase : (u : ℕ) → u < length e.tasks.items → length P.tasks ≤ u → n ≡ u → ⊥) (fresh : (c i : ℕ) → first ≤ c → c < first + k → i < length (ms_of c) → In e.tasks.items (party_at (ms_of c) i) t → manner_at (ms_of c) i ≡ Contribute) where
+  module _ (new : Entered) (n : ℕ) (m : Manner) (first k : ℕ) (len : length new.chains.items ≡ length e.chains.items) (pushed : (c : ℕ) → first ≤ c → c < first + k → members_at new.chains.items c ≡ ms_of c ++ member n m ∷ []) (others : (c : ℕ) → (c < first) ⊎ (first + k ≤ c) → members_at new.chains.items c ≡ ms_of c) (tasks_n : tasks_at new.tasks.items n ≡ task t ∷ []) (tasks_o : (u : ℕ) → u < length e.tasks.items → tasks_at new.tasks.items u ≡ tasks_at e.tasks.items u) (cells_n : cells_at new.cells.items n ≡ cells_at e.cells.items n ++ range_with_len first k) (cells_o : (u : ℕ) → (n ≡ u → ⊥) → cells_at new.cells.items u ≡ cells_at e.cells.items u) (longer : length e.tasks.items ≤ length new.tasks.items) (n_known : n < length new.tasks.items) (only_n : (u : ℕ) → u < length new.tasks.items → (u < length e.tasks.items) ⊎ (u ≡ n)) (every : length new.cells.items ≡ length new.tasks.items) (uses : (c : ℕ) → first ≤ c → c < first + k → Uses P t c m) (own_n : (m ≡ Contribute) ⊎ (n ≡ t)) (phase : m ≡ Contribute → IsPhaseParty P new.cells.items n) (no_phase : (u : ℕ) → u < length e.tasks.items → length P.tasks ≤ u → n ≡ u → ⊥) (fresh : (c i : ℕ) → first ≤ c → c < first + k → i < length (ms_of c) → In e.tasks.items (party_at (ms_of c) i) t → manner_at (ms_of c) i ≡ Contribute) where
     abbrev x : Member
     x = member n m
 
@@ -119,15 +119,15 @@ module _ (P : Program) (deps : HasDependencies P) (t : ℕ) (task_in : t < lengt
     once' c i j u order within by_i by_j =
         each (λ c ms. (j : ℕ) → j < length ms → (i u : ℕ) → i < j → In new.tasks.items (party_at ms i) u → In new.tasks.items (party_at ms j) u → manner_at ms i ≡ Contribute) (λ c j within i u order by_i by_j. holds.once c i j u order within (was_in c i u (omega arith) by_i) (was_in c j u within by_j)) (λ c low high. each_pushed (ms_of c) x (λ j y. (i u : ℕ) → i < j → In new.tasks.items (party_at (ms_of c ++ x ∷ []) i) u → In new.tasks.items y.party u → manner_at (ms_of c ++ x ∷ []) i ≡ Contribute) (λ j within i u order by_i by_j. ap (λ (y : Member). y.manner) (at_old (ms_of c) x i (omega arith)) ∙ holds.once c i j u order within (was_in c i u (omega arith) (subst (λ (y : Member). In new.tasks.items y.party u) (at_old (ms_of c) x i (omega arith)) by_i)) (was_in c j u within by_j)) (λ i u order by_i by_j. ap (λ (y : Member). y.manner) (at_old (ms_of c) x i order) ∙ fresh c i low high order (subst (In e.tasks.items (party_at (ms_of c) i)) (is_t u by_j) (was_in c i u order (subst (λ (y : Member). In new.tasks.items y.party u) (at_old (ms_of c) x i order) by_i))))) c j within i u order by_i by_j
 
-    IsPhase-kept : (u : ℕ) → u < length e.tasks.items → IsPhase P e.cells.items u → IsPhase P new.cells.items u
+    IsPhase-kept : (u : ℕ) → u < length e.tasks.items → IsPhaseParty P e.cells.items u → IsPhaseParty P new.cells.items u
     IsPhase-kept u known is = record {
       later = is.later;
       first = is.first;
       copies = cells_o u (no_phase u known is.later) ∙ is.copies;
     }
 
-    phases' : (c p : ℕ) → p < length (members_at new.chains.items c) → manner_at (members_at new.chains.items c) p ≡ Contribute → IsPhase P new.cells.items (party_at (members_at new.chains.items c) p)
-    phases' = each (λ c ms. (p : ℕ) → p < length ms → manner_at ms p ≡ Contribute → IsPhase P new.cells.items (party_at ms p)) (λ c p h yes. IsPhase-kept _ (holds.known c p h) (holds.phases c p h yes)) (λ c low high. each_pushed (ms_of c) x (λ p y. y.manner ≡ Contribute → IsPhase P new.cells.items y.party) (λ p h yes. IsPhase-kept _ (holds.known c p h) (holds.phases c p h yes)) phase)
+    phases' : (c p : ℕ) → p < length (members_at new.chains.items c) → manner_at (members_at new.chains.items c) p ≡ Contribute → IsPhaseParty P new.cells.items (party_at (members_at new.chains.items c) p)
+    phases' = each (λ c ms. (p : ℕ) → p < length ms → manner_at ms p ≡ Contribute → IsPhaseParty P new.cells.items (party_at ms p)) (λ c p h yes. IsPhase-kept _ (holds.known c p h) (holds.phases c p h yes)) (λ c low high. each_pushed (ms_of c) x (λ p y. y.manner ≡ Contribute → IsPhaseParty P new.cells.items y.party) (λ p h yes. IsPhase-kept _ (holds.known c p h) (holds.phases c p h yes)) phase)
 
     listed' : (u c : ℕ) → count_by (λ d. nat_eq d c) (cells_at new.cells.items u) ≡ count_by (is_of u) (members_at new.chains.items c)
     listed' u c =
@@ -151,7 +151,7 @@ module _ (P : Program) (deps : HasDependencies P) (t : ℕ) (task_in : t < lengt
         let now : count_by (is_of u) (members_at new.chains.items c) ≡ count_by (is_of u) (ms_of c) = ap (count_by (is_of u)) (others c outer) in
         omega arith) (range_cases first k c)) (cases_eq n u)
 
-    holds' : Holds P new.chains.items new.cells.items new.tasks.items
+    holds' : HoldsAccesses P new.chains.items new.cells.items new.tasks.items
     holds' =
         let enough = holds.every_task in
         record {
@@ -206,12 +206,12 @@ module _ (P : Program) (deps : HasDependencies P) (t : ℕ) (task_in : t < lengt
     }
 
   -- where a list ends with a party
-  ends_some : (ms : List Member) (n : ℕ) → ends_with ms n ≡ true → (0 < length ms) × (party_at ms (length ms - 1) ≡ n)
+  ends_some : (ms : List Member) (n : ℕ) → ends_with_party ms n ≡ true → (0 < length ms) × (party_at ms (length ms - 1) ≡ n)
   ends_some ms n h =
       ⊎_elim (λ none. absurd (both_ways _ (cond-true _ false (is_of n (member_at ms (length ms - 1))) none) h)) (λ some.
       (⊎_elim (λ order. order) (λ short. absurd (both_ways _ some (eq-eqb (length ms) 0 (omega arith)))) (cases_lt 0 (length ms)), eqb-true _ _ (sym (cond-false _ false (is_of n (member_at ms (length ms - 1))) some) ∙ h))) (cases_Bool (length ms == 0))
 
-  ends_other : (ms : List Member) (n : ℕ) → ends_with ms n ≡ false → 0 < length ms → party_at ms (length ms - 1) ≡ n → ⊥
+  ends_other : (ms : List Member) (n : ℕ) → ends_with_party ms n ≡ false → 0 < length ms → party_at ms (length ms - 1) ≡ n → ⊥
   ends_other ms n h some same =
       let long : (length ms == 0) ≡ false = ne_eqb (length ms) 0 (λ none. omega arith) in
       both_ways _ (sym (cond-false _ false (is_of n (member_at ms (length ms - 1))) long) ∙ h) (eq-eqb _ _ same)
@@ -221,7 +221,7 @@ module _ (P : Program) (deps : HasDependencies P) (t : ℕ) (task_in : t < lengt
 
   module _ (m : Manner) (c : ℕ) (uses : Uses P t c m) (plain : m ≡ Contribute → ⊥) where
     -- the task stands at the end already
-    pub Entering-skip : ends_with (ms_of c) t ≡ true → Entering P t (us ++ usage m c ∷ []) e
+    pub Entering-skip : ends_with_party (ms_of c) t ≡ true → Entering P t (us ++ usage m c ∷ []) e
     Entering-skip ends =
         let last = ends_some (ms_of c) t ends in
         let p : ℕ = length (ms_of c) - 1 in
@@ -236,7 +236,7 @@ module _ (P : Program) (deps : HasDependencies P) (t : ℕ) (task_in : t < lengt
           upto = entering.upto;
         }
 
-    fresh_here : ends_with (ms_of c) t ≡ false → (i : ℕ) → i < length (ms_of c) → In e.tasks.items (party_at (ms_of c) i) t → manner_at (ms_of c) i ≡ Contribute
+    fresh_here : ends_with_party (ms_of c) t ≡ false → (i : ℕ) → i < length (ms_of c) → In e.tasks.items (party_at (ms_of c) i) t → manner_at (ms_of c) i ≡ Contribute
     fresh_here ends i h by =
         let l : ℕ = length (ms_of c) - 1 in
         let other = ends_other (ms_of c) t ends (omega arith) in
@@ -251,7 +251,7 @@ module _ (P : Program) (deps : HasDependencies P) (t : ℕ) (task_in : t < lengt
         absurd (other (sym same ∙ itself))) (cases_lt i l)) (holds.own c i t h by)
 
     -- the task's own access is appended
-    pub Entering-own : (new : Entered) → ends_with (ms_of c) t ≡ false → t < length e.cells.items → Appends e new (member t m) c 1 → Entering P t (us ++ usage m c ∷ []) new
+    pub Entering-own : (new : Entered) → ends_with_party (ms_of c) t ≡ false → t < length e.cells.items → Appends e new (member t m) c 1 → Entering P t (us ++ usage m c ∷ []) new
     Entering-own new ends listed app =
         let row : List ℕ = cells_at e.cells.items t ++ range_with_len c 1 in
         let long : length new.tasks.items ≡ length e.tasks.items = ap length app.tasks in
@@ -277,15 +277,15 @@ module _ (P : Program) (deps : HasDependencies P) (t : ℕ) (task_in : t < lengt
         Entering-appended new n Contribute first k (opens.appends.len ∙ ap length opens.adds.chains) (λ c low high. opens.appends.pushed c low high ∙ ap (λ (cs : List Chain). members_at cs c ++ member n Contribute ∷ []) opens.adds.chains) (λ c outer. opens.appends.others c outer ∙ ap (λ (cs : List Chain). members_at cs c) opens.adds.chains) (ap (λ (ts : List (List Task)). tasks_at ts n) new_tasks ∙ get_or_push e.tasks.items (task t ∷ []) [] n refl) (λ u known. ap (λ (ts : List (List Task)). tasks_at ts u) new_tasks ∙ get_or_append_left e.tasks.items ((task t ∷ []) ∷ []) [] u known) (row_is ∙ ap (λ (cs : List ℕ). cs ++ range_with_len first k) (sym e_none)) (λ u other. ap (λ (cs : List (List ℕ)). cells_at cs u) opens.appends.cells ∙ get_or-set_other b.cells.items n u row [] (λ q. other (sym q)) ∙ ap (λ (cs : List (List ℕ)). cells_at cs u) opens.adds.cells ∙ ⊎_elim (λ lower. get_or_append_left e.cells.items ([] ∷ []) [] u lower) (λ past. get_or_past (e.cells.items ++ [] ∷ []) u [] (let l = length_push e.cells.items [] in ⊎_elim (λ less. absurd (other (omega arith))) (λ more. more) (cases_lt u (length (e.cells.items ++ [] ∷ [])))) ∙ sym (get_or_past e.cells.items u [] past)) (cases_lt u (length e.cells.items))) (omega arith) (omega arith) (λ u h. ⊎_elim (λ less. inl less) (λ more. inr (omega arith)) (cases_lt u n)) (ap length opens.appends.cells ∙ length-set b.cells.items n row ∙ b_long ∙ ap (λ x. x + 1) cells_len ∙ sym long) uses (inl refl) (λ yes. record { later = enough; first = first; copies = row_is ∙ ap (range_with_len first) (sym workers) }) (λ u known later same. absurd (omega arith)) (λ c i low high h by. deps.manners t c _ Contribute (holds.sound c i t h by) (uses c low high))
 
     -- or joined
-    module _ (some : 0 < k) (begun : Begun e) (n : ℕ) (is : IsOpen e first n) (new : Entered) (joins : Joins e new n t) where
+    module _ (some : 0 < k) (begun : Begun e) (n : ℕ) (is : IsOpen e first n) (new : Entered) (joins : JoinsParty e new n t) where
       at_first : is.ends.place < length (ms_of first)
       at_first = let last = is.ends.last in omega arith
 
       n_known : n < length e.tasks.items
       n_known = subst (λ u. u < length e.tasks.items) is.ends.party (holds.known first is.ends.place at_first)
 
-      phase_is : IsPhase P e.cells.items n
-      phase_is = subst (IsPhase P e.cells.items) is.ends.party (holds.phases first is.ends.place at_first is.ends.manner)
+      phase_is : IsPhaseParty P e.cells.items n
+      phase_is = subst (IsPhaseParty P e.cells.items) is.ends.party (holds.phases first is.ends.place at_first is.ends.manner)
 
       copies_are : cells_at e.cells.items n ≡ range_with_len first k
       copies_are =
@@ -342,7 +342,7 @@ module _ (P : Program) (deps : HasDependencies P) (t : ℕ) (task_in : t < lengt
       uses_there : (c p : ℕ) → p < length (ms_of c) → party_at (ms_of c) p ≡ n → Uses P t c Contribute
       uses_there c p h same = let r = in_copies c p h same in uses c r.0 r.1
 
-      holds_joined : Holds P e.chains.items e.cells.items new.tasks.items
+      holds_joined : HoldsAccesses P e.chains.items e.cells.items new.tasks.items
       holds_joined =
           let enough = holds.every_task in
           let later = phase_is.later in
@@ -384,7 +384,7 @@ module _ (P : Program) (deps : HasDependencies P) (t : ℕ) (task_in : t < lengt
       Entering-joined =
           let moved : (cs : List Chain) → cs ≡ e.chains.items → (u c : ℕ) (w : Manner) → Present e.chains.items new.tasks.items u c w → Present cs new.tasks.items u c w = λ cs same u c w. subst (λ (ds : List Chain). Present ds new.tasks.items u c w) (sym same) in
           record {
-            holds = subst (λ (cs : List Chain). Holds P cs new.cells.items new.tasks.items) (sym joins.chains) (subst (λ (rows : List (List ℕ)). Holds P e.chains.items rows new.tasks.items) (sym joins.cells) holds_joined);
+            holds = subst (λ (cs : List Chain). HoldsAccesses P cs new.cells.items new.tasks.items) (sym joins.chains) (subst (λ (rows : List (List ℕ)). HoldsAccesses P e.chains.items rows new.tasks.items) (sym joins.cells) holds_joined);
             before = λ u c w below used. moved new.chains.items joins.chains u c w (Present-joined u c w (entering.before u c w below used));
             current = λ c w h. moved new.chains.items joins.chains t c w (⊎_elim (λ old. Present-joined t c w (entering.current c w old)) (λ more. there c w more) (Contains-append_cases us (map (usage Contribute) (range_with_len first k)) (usage w c) h));
             upto = subst (λ (cs : List Chain). (c p u : ℕ) → p < length (members_at cs c) → In new.tasks.items (party_at (members_at cs c) p) u → u ≤ t) (sym joins.chains) (λ c p u h by. ⊎_elim (λ old. entering.upto c p u h old) (λ now. let same = now.1 in omega arith) (in_cases _ u by));

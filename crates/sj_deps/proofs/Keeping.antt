@@ -17,8 +17,8 @@ use Rattle.sj_deps.specs.declared.chain.Chain.{Chain}
 use Rattle.sj_deps.specs.declared.chain.Member.{Member}
 use Rattle.sj_deps.specs.declared.counters.Counters.{Counters}
 use Rattle.sj_deps.specs.Chains.{party_at, manner_at, is_of, is_party, left_of, waits_of}
-use Rattle.sj_deps.specs.Counts.{Holds, Present, Flags, In, IsPhase, SameMembers, is_task, tasks_at, parties_at, undone, blocked}
-use Rattle.sj_deps.specs.Progress.{Keeps, Completes}
+use Rattle.sj_deps.specs.Counts.{HoldsAccesses, Present, Flags, In, IsPhaseParty, SameMembers, is_task, tasks_at, parties_at, undone_among, blocked}
+use Rattle.sj_deps.specs.Progress.{KeepsCounts, Completes}
 use Rattle.sj_deps.proofs.Counting.{none_dropped, some_counted, two_counted}
 use Rattle.sj_deps.proofs.Readiness.{flag_at, ready-waits, waits-ready}
 
@@ -54,7 +54,7 @@ none_blocked w ns none i h =
     let one : cond {A = ℕ} (nat_lt 0 (waits_of w (slice_index_or ns i 0))) 1 0 ≡ 1 = cond-true _ 1 0 (lt-ltb _ _ some) in
     absurd (omega arith)) (λ free. omega arith) (cases_lt 0 (waits_of w (slice_index_or ns i 0)))
 
-module _ (P : Program) (c : Counters) (keeps : Keeps P c) where
+module _ (P : Program) (c : Counters) (keeps : KeepsCounts P c) where
   -- each party of a task has it
   pub has_task : (t i : ℕ) → i < length (parties_at c.parties.items t) → In c.tasks.items (slice_index_or (parties_at c.parties.items t) i 0) t
   has_task t i h =
@@ -113,7 +113,7 @@ module _ (flags : List Bool) (t : ℕ) (known : t < length flags) (idle : flag_a
       let none : cond {A = ℕ} (is_task t x) 1 0 ≡ 0 = cond-false _ 1 0 (ne_eqb _ _ (λ e. other (sym e))) in
       omega arith) (cases_eq t x.0)
 
-  pub undone_marked : (ts : List Task) → undone flags ts ≡ undone marked ts + count_by (is_task t) ts
+  pub undone_marked : (ts : List Task) → undone_among flags ts ≡ undone_among marked ts + count_by (is_task t) ts
   undone_marked [] = refl
   undone_marked (x ∷ ts) =
       let a = sum_by-cons (λ (y : Task). cond {A = ℕ} (not (flag_at flags y.0)) 1 0) x ts in
@@ -136,8 +136,8 @@ module _ (flags : List Bool) (t : ℕ) (known : t < length flags) (idle : flag_a
   }
 
 -- the same chains, but for their counts
-Holds-same : (P : Program) (old new : List Chain) (cells : List (List ℕ)) (tasks : List (List Task)) → SameMembers old new → Holds P old cells tasks → Holds P new cells tasks
-Holds-same P old new cells tasks same holds = record {
+HoldsAccesses-same : (P : Program) (old new : List Chain) (cells : List (List ℕ)) (tasks : List (List Task)) → SameMembers old new → HoldsAccesses P old cells tasks → HoldsAccesses P new cells tasks
+HoldsAccesses-same P old new cells tasks same holds = record {
   every_cell = same.len ∙ holds.every_cell;
   every_party = holds.every_party;
   every_task = holds.every_task;
@@ -149,7 +149,7 @@ Holds-same P old new cells tasks same holds = record {
   ordered = λ c. subst (λ (ms : List Member). (i j u t : ℕ) → i < j → j < length ms → In tasks (party_at ms i) u → In tasks (party_at ms j) t → u ≤ t) (sym (same.members c)) (holds.ordered c);
   own = λ c. subst (λ (ms : List Member). (p t : ℕ) → p < length ms → In tasks (party_at ms p) t → (manner_at ms p ≡ Contribute) ⊎ (party_at ms p ≡ t)) (sym (same.members c)) (holds.own c);
   once = λ c. subst (λ (ms : List Member). (i j t : ℕ) → i < j → j < length ms → In tasks (party_at ms i) t → In tasks (party_at ms j) t → manner_at ms i ≡ Contribute) (sym (same.members c)) (holds.once c);
-  phases = λ c. subst (λ (ms : List Member). (p : ℕ) → p < length ms → manner_at ms p ≡ Contribute → IsPhase P cells (party_at ms p)) (sym (same.members c)) (holds.phases c);
+  phases = λ c. subst (λ (ms : List Member). (p : ℕ) → p < length ms → manner_at ms p ≡ Contribute → IsPhaseParty P cells (party_at ms p)) (sym (same.members c)) (holds.phases c);
   listed = λ n c. holds.listed n c ∙ ap (count_by (is_of n)) (sym (same.members c));
 }
 
@@ -161,7 +161,7 @@ Present-same old new tasks same t c m here = record {
   manner = ap (λ (ms : List Member). manner_at ms here.place) (same.members c) ∙ here.manner;
 }
 
-module _ (P : Program) (c : Counters) (keeps : Keeps P c) (t : ℕ) (ready : Ready P c.order.items t) where
+module _ (P : Program) (c : Counters) (keeps : KeepsCounts P c) (t : ℕ) (ready : Ready P c.order.items t) where
   pub known_task : t < length c.held.items
   known_task = let task = ready.task in let every = keeps.every_task in omega arith
 
@@ -188,13 +188,13 @@ module _ (P : Program) (c : Counters) (keeps : Keeps P c) (t : ℕ) (ready : Rea
       omega arith
 
   module _ (new : Counters) (done : Completes c new t) where
-    pub keeps_after : Keeps P new
+    pub keeps_after : KeepsCounts P new
     keeps_after =
         let idle = ready_flag P c keeps t ready in
         let marked_is : new.is_done.items ≡ slice_set c.is_done.items t true = done.flags in
         record {
           program = keeps.program;
-          holds = subst (λ (ts : List (List Task)). Holds P new.chains.items new.cells.items ts) (sym done.tasks) (subst (λ (cs : List (List ℕ)). Holds P new.chains.items cs c.tasks.items) (sym done.cells) (Holds-same P c.chains.items new.chains.items c.cells.items c.tasks.items done.chains keeps.holds));
+          holds = subst (λ (ts : List (List Task)). HoldsAccesses P new.chains.items new.cells.items ts) (sym done.tasks) (subst (λ (cs : List (List ℕ)). HoldsAccesses P new.chains.items cs c.tasks.items) (sym done.cells) (HoldsAccesses-same P c.chains.items new.chains.items c.cells.items c.tasks.items done.chains keeps.holds));
           all = record { complete = λ u d m uses. subst (λ (ts : List (List Task)). Present new.chains.items ts u d m) (sym done.tasks) (Present-same c.chains.items new.chains.items c.tasks.items done.chains u d m (keeps.all.complete u d m uses)) };
           ledger = done.ledger;
           left = λ n known.
@@ -203,7 +203,7 @@ module _ (P : Program) (c : Counters) (keeps : Keeps P c) (t : ℕ) (ready : Rea
               let law = done.left n in
               let e = keeps.ledger.matching t n in
               let one = undone_marked c.is_done.items t known_flag idle (tasks_at c.tasks.items n) in
-              let now : undone new.is_done.items (tasks_at new.tasks.items n) ≡ undone (slice_set c.is_done.items t true) (tasks_at c.tasks.items n) = rw (done.tasks, marked_is) refl in
+              let now : undone_among new.is_done.items (tasks_at new.tasks.items n) ≡ undone_among (slice_set c.is_done.items t true) (tasks_at c.tasks.items n) = rw (done.tasks, marked_is) refl in
               omega arith;
           flags = subst (λ fs. Flags fs new.order.items) (sym marked_is) (subst (Flags (slice_set c.is_done.items t true)) (sym done.order) (flags_marked c.is_done.items t known_flag idle c.order.items keeps.flags));
           free = λ u marked.

@@ -6,23 +6,23 @@ use Rattle.std.proofs.lemmas.List.Sums.{sum_by-cons, sum_by_more, sum_by-take-le
 use Rattle.std.proofs.lemmas.Bool.{cases_lt, cases_eq, eq-eqb, ne_eqb, cond-true, cond-false}
 use Rattle.sj_deps.specs.declared.chain.Chain.{Chain}
 use Rattle.sj_deps.specs.declared.chain.Member.{Member}
-use Rattle.sj_deps.specs.Chains.{no_chain, member_at, party_at, chain_at, members_at, is_of, is_party, is_done, left_of, waits_of, Tracks}
-use Rattle.sj_deps.specs.Counts.{CanSettle, Settles, SameMembers, Answers, Fits, cells_at}
+use Rattle.sj_deps.specs.Chains.{no_chain, member_at, party_at, chain_at, members_at, is_of, is_party, is_member_done, left_of, waits_of, CountsChain}
+use Rattle.sj_deps.specs.Counts.{CanSettle, Settles, SameMembers, ListsReady, CountsFit, cells_at}
 use Rattle.sj_deps.proofs.Settling.{done-le-released}
 use Rattle.sj_deps.proofs.Places.{wanted_some, inside_of}
 
-count_agree : (l l' : List ℕ) → ((m : Member) → is_done l' m ≡ is_done l m) → (ms : List Member) → count_by (is_done l') ms ≡ count_by (is_done l) ms
+count_agree : (l l' : List ℕ) → ((m : Member) → is_member_done l' m ≡ is_member_done l m) → (ms : List Member) → count_by (is_member_done l') ms ≡ count_by (is_member_done l) ms
 count_agree l l' same [] = refl
 count_agree l l' same (m ∷ ms) =
-    let a = sum_by-cons (λ x. cond {A = ℕ} (is_done l' x) 1 0) m ms in
-    let b = sum_by-cons (λ x. cond {A = ℕ} (is_done l x) 1 0) m ms in
+    let a = sum_by-cons (λ x. cond {A = ℕ} (is_member_done l' x) 1 0) m ms in
+    let b = sum_by-cons (λ x. cond {A = ℕ} (is_member_done l x) 1 0) m ms in
     let rest = count_agree l l' same ms in
-    let one : cond {A = ℕ} (is_done l' m) 1 0 ≡ cond {A = ℕ} (is_done l m) 1 0 = ap (λ b. cond {A = ℕ} b 1 0) (same m) in
+    let one : cond {A = ℕ} (is_member_done l' m) 1 0 ≡ cond {A = ℕ} (is_member_done l m) 1 0 = ap (λ b. cond {A = ℕ} b 1 0) (same m) in
     omega arith
 
 -- only which parties are done matters to a chain
-pub Tracks-agree : (l l' : List ℕ) → ((m : Member) → is_done l' m ≡ is_done l m) → (ch : Chain) (n : ℕ) → Tracks l ch n → Tracks l' ch n
-Tracks-agree l l' same ch n tracks = record {
+pub CountsChain-agree : (l l' : List ℕ) → ((m : Member) → is_member_done l' m ≡ is_member_done l m) → (ch : Chain) (n : ℕ) → CountsChain l ch n → CountsChain l' ch n
+CountsChain-agree l l' same ch n tracks = record {
   within = tracks.within;
   counted = tracks.counted ∙ sym (count_agree l l' same ch.members);
   later = λ p late within. same (member_at ch.members p) ∙ tracks.later p late within;
@@ -39,7 +39,7 @@ module _ (left : List ℕ) (n : ℕ) (known : n < length left) (some : 0 < left_
   left_other v u other = get_or-set_other left n u v 1 (λ e. other (sym e))
 
   -- not its last task
-  still : (v : ℕ) → 0 < v → (m : Member) → is_done (slice_set left n v) m ≡ is_done left m
+  still : (v : ℕ) → 0 < v → (m : Member) → is_member_done (slice_set left n v) m ≡ is_member_done left m
   still v more m =
       ⊎_elim (λ same.
       let now : left_of (slice_set left n v) m.party ≡ v = subst (λ u. left_of (slice_set left n v) u ≡ v) same (left_same v) in
@@ -49,34 +49,34 @@ module _ (left : List ℕ) (n : ℕ) (known : n < length left) (some : 0 < left_
   abbrev zeroed : List ℕ
   zeroed = slice_set left n 0
 
-  one_more : (m : Member) → cond {A = ℕ} (is_done zeroed m) 1 0 ≡ cond (is_done left m) 1 0 + cond {A = ℕ} (is_of n m) 1 0
+  one_more : (m : Member) → cond {A = ℕ} (is_member_done zeroed m) 1 0 ≡ cond (is_member_done left m) 1 0 + cond {A = ℕ} (is_of n m) 1 0
   one_more m =
       ⊎_elim (λ same.
-      let now : cond {A = ℕ} (is_done zeroed m) 1 0 ≡ 1 = cond-true _ 1 0 (eq-eqb _ _ (subst (λ u. left_of zeroed u ≡ 0) same (left_same 0))) in
+      let now : cond {A = ℕ} (is_member_done zeroed m) 1 0 ≡ 1 = cond-true _ 1 0 (eq-eqb _ _ (subst (λ u. left_of zeroed u ≡ 0) same (left_same 0))) in
       let idle : 0 < left_of left m.party = subst (λ u. 0 < left_of left u) same some in
-      let was : cond {A = ℕ} (is_done left m) 1 0 ≡ 0 = cond-false _ 1 0 (ne_eqb _ _ (λ e. omega arith)) in
+      let was : cond {A = ℕ} (is_member_done left m) 1 0 ≡ 0 = cond-false _ 1 0 (ne_eqb _ _ (λ e. omega arith)) in
       let one : cond {A = ℕ} (is_of n m) 1 0 ≡ 1 = cond-true _ 1 0 (eq-eqb _ _ (sym same)) in
       omega arith) (λ other.
-      let now : cond {A = ℕ} (is_done zeroed m) 1 0 ≡ cond {A = ℕ} (is_done left m) 1 0 = ap (λ k. cond {A = ℕ} (nat_eq k 0) 1 0) (left_other 0 m.party other) in
+      let now : cond {A = ℕ} (is_member_done zeroed m) 1 0 ≡ cond {A = ℕ} (is_member_done left m) 1 0 = ap (λ k. cond {A = ℕ} (nat_eq k 0) 1 0) (left_other 0 m.party other) in
       let none : cond {A = ℕ} (is_of n m) 1 0 ≡ 0 = cond-false _ 1 0 (ne_eqb _ _ (λ e. other (sym e))) in
       omega arith) (cases_eq n m.party)
 
-  count_zeroed : (ms : List Member) → count_by (is_done zeroed) ms ≡ count_by (is_done left) ms + count_by (is_of n) ms
+  count_zeroed : (ms : List Member) → count_by (is_member_done zeroed) ms ≡ count_by (is_member_done left) ms + count_by (is_of n) ms
   count_zeroed [] = refl
   count_zeroed (m ∷ ms) =
-      let a = sum_by-cons (λ x. cond {A = ℕ} (is_done zeroed x) 1 0) m ms in
-      let b = sum_by-cons (λ x. cond {A = ℕ} (is_done left x) 1 0) m ms in
+      let a = sum_by-cons (λ x. cond {A = ℕ} (is_member_done zeroed x) 1 0) m ms in
+      let b = sum_by-cons (λ x. cond {A = ℕ} (is_member_done left x) 1 0) m ms in
       let d = sum_by-cons (λ x. cond {A = ℕ} (is_of n x) 1 0) m ms in
       let rest = count_zeroed ms in
       let one = one_more m in
       omega arith
 
-  done_more : (m : Member) → is_done left m ≡ true → is_done zeroed m ≡ true
+  done_more : (m : Member) → is_member_done left m ≡ true → is_member_done zeroed m ≡ true
   done_more m h =
       ⊎_elim (λ same. eq-eqb _ _ (subst (λ u. left_of zeroed u ≡ 0) same (left_same 0))) (λ other. ap (λ k. nat_eq k 0) (left_other 0 m.party other) ∙ h) (cases_eq n m.party)
 
   -- the chain's counts fit but for the accesses of the party, all of which are released
-  tracks_zeroed : (ch : Chain) → Tracks left ch 0 → ((q : ℕ) → ch.released ≤ q → q < length ch.members → party_at ch.members q ≡ n → ⊥) → Tracks zeroed ch (count_by (is_of n) ch.members)
+  tracks_zeroed : (ch : Chain) → CountsChain left ch 0 → ((q : ℕ) → ch.released ≤ q → q < length ch.members → party_at ch.members q ≡ n → ⊥) → CountsChain zeroed ch (count_by (is_of n) ch.members)
   tracks_zeroed ch tracks free = record {
     within = tracks.within;
     counted = let e = tracks.counted in let m = count_zeroed ch.members in omega arith;
@@ -86,10 +86,10 @@ module _ (left : List ℕ) (n : ℕ) (known : n < length left) (some : 0 < left_
     waiting = tracks.waiting;
   }
 
-  module _ (chains : List Chain) (cells : List (List ℕ)) (w : List ℕ) (fits : Fits left chains cells w) (free : waits_of w n ≡ 0) where
-    pub Fits-still : (v : ℕ) → 0 < v → Fits (slice_set left n v) chains cells w
+  module _ (chains : List Chain) (cells : List (List ℕ)) (w : List ℕ) (fits : CountsFit left chains cells w) (free : waits_of w n ≡ 0) where
+    pub Fits-still : (v : ℕ) → 0 < v → CountsFit (slice_set left n v) chains cells w
     Fits-still v more = record {
-      tracks = λ c. Tracks-agree left (slice_set left n v) (still v more) (chain_at chains c) 0 (fits.tracks c);
+      tracks = λ c. CountsChain-agree left (slice_set left n v) (still v more) (chain_at chains c) 0 (fits.tracks c);
       waits = fits.waits;
       listed = fits.listed;
       parties = fits.parties;
@@ -101,8 +101,8 @@ module _ (left : List ℕ) (n : ℕ) (known : n < length left) (some : 0 < left_
         let waits = fits.waits n in
         absurd (omega arith)
 
-    tracks_left : (c : ℕ) → Tracks zeroed (chain_at chains c) (count_by (λ d. nat_eq d c) (cells_at cells n))
-    tracks_left c = subst (Tracks zeroed (chain_at chains c)) (sym (fits.listed n c)) (tracks_zeroed (chain_at chains c) (fits.tracks c) (released_all c))
+    tracks_left : (c : ℕ) → CountsChain zeroed (chain_at chains c) (count_by (λ d. nat_eq d c) (cells_at cells n))
+    tracks_left c = subst (CountsChain zeroed (chain_at chains c)) (sym (fits.listed n c)) (tracks_zeroed (chain_at chains c) (fits.tracks c) (released_all c))
 
     pub can_settle : CanSettle chains w (cells_at cells n)
     can_settle = record {
@@ -120,7 +120,7 @@ module _ (left : List ℕ) (n : ℕ) (known : n < length left) (some : 0 < left_
       waits = fits.waits;
     }
 
-    pub Fits-settled : (new : List Chain) (w' : List ℕ) → Settles chains new (cells_at cells n) [] → CanSettle new w' [] → Fits zeroed new cells w'
+    pub Fits-settled : (new : List Chain) (w' : List ℕ) → Settles chains new (cells_at cells n) [] → CanSettle new w' [] → CountsFit zeroed new cells w'
     Fits-settled new w' settles settled = record {
       tracks = settles.tracks zeroed tracks_left;
       waits = settled.waits;
@@ -131,8 +131,8 @@ module _ (left : List ℕ) (n : ℕ) (known : n < length left) (some : 0 < left_
 pub SameMembers-more : (a b c : List Chain) → SameMembers a b → SameMembers b c → SameMembers a c
 SameMembers-more a b c first second = record { len = second.len ∙ first.len; members = λ n. second.members n ∙ first.members n }
 
-pub Answers-next : (w₀ w w' r₀ r r' : List ℕ) → Answers w₀ w r₀ r → Answers w w' r r' → Answers w₀ w' r₀ r'
-Answers-next w₀ w w' r₀ r r' first second = record {
+pub ListsReady-next : (w₀ w w' r₀ r r' : List ℕ) → ListsReady w₀ w r₀ r → ListsReady w w' r r' → ListsReady w₀ w' r₀ r'
+ListsReady-next w₀ w w' r₀ r r' first second = record {
   len = second.len ∙ first.len;
   opened = λ n. second.opened n ∙ first.opened n;
   total = second.total ∙ first.total;
@@ -172,7 +172,7 @@ module _ (parties : List ℕ) (i : ℕ) (h : i < length parties) where
         omega arith) (cases_eq nth k)
 
 -- a party that doesn't wait goes on so
-pub still_free : (w₀ w r₀ r : List ℕ) → r₀ ≡ [] → Answers w₀ w r₀ r → (n : ℕ) → waits_of w₀ n ≡ 0 → waits_of w n ≡ 0
+pub still_free : (w₀ w r₀ r : List ℕ) → r₀ ≡ [] → ListsReady w₀ w r₀ r → (n : ℕ) → waits_of w₀ n ≡ 0 → waits_of w n ≡ 0
 still_free w₀ w r₀ r fresh answers n free =
     let law = answers.opened n in
     let none : count_by (is_party n) r₀ ≡ 0 = ap (count_by (is_party n)) fresh in

@@ -12,7 +12,7 @@ use Rattle.sj_deps.specs.declared.manner.Manner.TheVariants.{Contribute}
 use Rattle.sj_deps.specs.declared.manner.Usage.{Usage}
 use Rattle.sj_deps.specs.Chains.{joins}
 use Rattle.sj_deps.specs.Conflict.{HasDependencies, Uses, usage, usages_of}
-use Rattle.sj_deps.specs.Counts.{Entering, Holds}
+use Rattle.sj_deps.specs.Counts.{Entering, HoldsAccesses}
 use Rattle.sj_deps.proofs.Accessing.{plain_of}
 
 pub usages_by : (P : Program) (k : Codelet) (a : Access) (w : Mode) → a.mode ≡ w → usages_of P k a ≡ usages_of P k (record { mode = w; cell = a.cell })
@@ -22,7 +22,7 @@ module _ (P : Program) (k : Codelet) (t : ℕ) (a : Access) (m : Manner) (one : 
   used : Uses P t a.cell.0 m
   used = uses a.cell.0 m (subst (λ (us : List Usage). Contains us (usage m a.cell.0)) (sym one) (Contains-push [] (usage m a.cell.0)))
 
-  pub cell_within : (e : Entered) → Holds P e.chains.items e.cells.items e.tasks.items → a.cell.0 < length e.chains.items
+  pub cell_within : (e : Entered) → HoldsAccesses P e.chains.items e.cells.items e.tasks.items → a.cell.0 < length e.chains.items
   cell_within e holds =
       let below = deps.cells t a.cell.0 m used in
       let len = holds.every_cell in

@@ -7,7 +7,7 @@ use Rattle.std.proofs.lemmas.Bool.{cases_lt, cases_eq, cases_Bool, both_ways, eq
 use Rattle.sj_deps.specs.declared.chain.Chain.{Chain}
 use Rattle.sj_deps.specs.declared.chain.Member.{Member}
 use Rattle.sj_deps.specs.declared.entry.Entered.{Entered}
-use Rattle.sj_deps.specs.Chains.{joins, joined, joins_last, no_chain, no_member, member_at, party_at, manner_at, chain_at, members_at, is_of, is_done, left_from, wanted, waits_of, Tracks, Pushes}
+use Rattle.sj_deps.specs.Chains.{joins, joined, joins_last, no_chain, no_member, member_at, party_at, manner_at, chain_at, members_at, is_of, is_member_done, left_from, wanted, waits_of, CountsChain, Pushes}
 use Rattle.sj_deps.specs.Counts.{Begun}
 use Rattle.sj_deps.proofs.Counting.{none_dropped, below_cases}
 use Rattle.sj_deps.proofs.Waits.{wanted-set}
@@ -54,15 +54,15 @@ module _ (ms : List Member) (x : Member) where
 abbrev pub moved : List Member → ℕ → ℕ → Chain
 moved ms r f = record { members = ms; released = r; finished = f }
 
-pub nothing_done : (ms : List Member) → count_by (is_done []) ms ≡ 0
-nothing_done ms = none_dropped (is_done []) ms no_member 0 (λ p from below. refl)
+pub nothing_done : (ms : List Member) → count_by (is_member_done []) ms ≡ 0
+nothing_done ms = none_dropped (is_member_done []) ms no_member 0 (λ p from below. refl)
 
-tracks_at_once : (ms : List Member) (x : Member) (r f r' : ℕ) → Tracks [] (moved ms r f) 0 → r' ≡ r + 1 → r ≡ length ms → joins_last ms x ≡ true → Tracks [] (moved (ms ++ x ∷ []) r' f) 0
+tracks_at_once : (ms : List Member) (x : Member) (r f r' : ℕ) → CountsChain [] (moved ms r f) 0 → r' ≡ r + 1 → r ≡ length ms → joins_last ms x ≡ true → CountsChain [] (moved (ms ++ x ∷ []) r' f) 0
 tracks_at_once ms x r f r' tracks e all joins_it =
     let long = length_push ms x in
     let none = nothing_done ms in
     let none' = nothing_done (ms ++ x ∷ []) in
-    let counted : f + 0 ≡ count_by (is_done []) ms = tracks.counted in
+    let counted : f + 0 ≡ count_by (is_member_done []) ms = tracks.counted in
     record {
       within = omega arith;
       counted = omega arith;
@@ -72,12 +72,12 @@ tracks_at_once ms x r f r' tracks e all joins_it =
       waiting = λ within. absurd (omega arith);
     }
 
-tracks_later : (ms : List Member) (x : Member) (r f r' : ℕ) → Tracks [] (moved ms r f) 0 → r' ≡ r → (r ≡ length ms → joins_last ms x ≡ false) → Tracks [] (moved (ms ++ x ∷ []) r' f) 0
+tracks_later : (ms : List Member) (x : Member) (r f r' : ℕ) → CountsChain [] (moved ms r f) 0 → r' ≡ r → (r ≡ length ms → joins_last ms x ≡ false) → CountsChain [] (moved (ms ++ x ∷ []) r' f) 0
 tracks_later ms x r f r' tracks e cut_at =
     let long = length_push ms x in
     let none = nothing_done ms in
     let none' = nothing_done (ms ++ x ∷ []) in
-    let counted : f + 0 ≡ count_by (is_done []) ms = tracks.counted in
+    let counted : f + 0 ≡ count_by (is_member_done []) ms = tracks.counted in
     let old_within : r ≤ length ms = tracks.within in
     record {
       within = omega arith;
@@ -88,10 +88,10 @@ tracks_later ms x r f r' tracks e cut_at =
       waiting = λ within. ⊎_elim (λ lower. let before : f < r = tracks.waiting lower in omega arith) (λ last. let some = joins_last_some ms x (cut_at (omega arith)) in omega arith) (cases_lt r (length ms));
     }
 
-tracks_pushed : (old new : Chain) (x : Member) (b : Bool) → Tracks [] old 0 → Pushes old new x b → Tracks [] new 0
+tracks_pushed : (old new : Chain) (x : Member) (b : Bool) → CountsChain [] old 0 → Pushes old new x b → CountsChain [] new 0
 tracks_pushed old new x b tracks pushed =
     let same : moved (old.members ++ x ∷ []) new.released old.finished ≡ new = rw (← pushed.members, ← pushed.finished) refl in
-    subst (λ (ch : Chain). Tracks [] ch 0) same (⊎_elim (λ at_once.
+    subst (λ (ch : Chain). CountsChain [] ch 0) same (⊎_elim (λ at_once.
     let both = and_parts (old.released == length old.members) (joins_last old.members x) (sym pushed.at_once ∙ at_once) in
     tracks_at_once old.members x old.released old.finished new.released tracks (pushed.released ∙ cond-true b (old.released + 1) old.released at_once) (eqb-true _ _ both.0) both.1) (λ waits.
     tracks_later old.members x old.released old.finished new.released tracks (pushed.released ∙ cond-false b (old.released + 1) old.released waits) (λ all. ⊎_elim (λ short. absurd (both_ways _ short (eq-eqb _ _ all))) (λ cut. cut) (and_cases (old.released == length old.members) (joins_last old.members x) (sym pushed.at_once ∙ waits)))) (cases_Bool b))
@@ -151,7 +151,7 @@ Begun-pushed old new x c chain b begun inside known pushed chains_are tasks_len 
     let waits_known : x.party < length old.waits.items = let e = begun.every_wait in omega arith in
     let Each : (Q : ℕ → Chain → Type 0) → Q c chain → ((d : ℕ) → (c ≡ d → ⊥) → Q d (chain_at chains d)) → (d : ℕ) → Q d (chain_at new.chains.items d) = λ Q at_c others d. subst (λ (cs : List Chain). Q d (chain_at cs d)) (sym chains_are) (each_set chains c chain inside Q at_c others d) in
     record {
-      tracks = Each (λ d ch. Tracks [] ch 0) (tracks_pushed (chain_at chains c) chain x b (begun.tracks c) pushed) (λ d other. begun.tracks d);
+      tracks = Each (λ d ch. CountsChain [] ch 0) (tracks_pushed (chain_at chains c) chain x b (begun.tracks c) pushed) (λ d other. begun.tracks d);
       waits = λ u.
           let set = wanted-set chains c chain u inside in
           let left = left_after (chain_at chains c) chain x u b (begun.tracks c).within pushed in

@@ -11,19 +11,19 @@ use Rattle.sj_deps.specs.declared.manner.Manner.TheVariants.{Read, Contribute}
 use Rattle.sj_deps.specs.Conflict.{Uses, IsShared, Conflict, Ready, HasDependencies}
 use Rattle.sj_deps.specs.declared.chain.Chain.{Chain}
 use Rattle.sj_deps.specs.declared.chain.Member.{Member}
-use Rattle.sj_deps.specs.Chains.{joins, joined, no_member, member_at, party_at, manner_at, chain_at, members_at, is_done, left_of, waits_of, Tracks}
-use Rattle.sj_deps.specs.Counts.{Holds, HoldsAll, Flags, Fits, In, tasks_at, undone}
+use Rattle.sj_deps.specs.Chains.{joins, joined, no_member, member_at, party_at, manner_at, chain_at, members_at, is_member_done, left_of, waits_of, CountsChain}
+use Rattle.sj_deps.specs.Counts.{HoldsAccesses, HoldsAll, Flags, CountsFit, In, tasks_at, undone_among}
 use Rattle.sj_deps.proofs.Counting.{some_fails, some_counted}
 use Rattle.sj_deps.proofs.Places.{inside_of, wanted_some, wanted_none}
 use Rattle.sj_deps.proofs.Runs.{joins_cases, joins_shared, all_joined, same_manner, run_before}
 
 -- an access before an unreleased one that isn't joined to it and isn't done
-hindrance : (left : List ℕ) (ch : Chain) (q : ℕ) → Tracks left ch 0 → ch.released ≤ q → q < length ch.members → (x : ℕ) × (x < q) × (is_done left (member_at ch.members x) ≡ false) × (joins (manner_at ch.members x) (manner_at ch.members q) ≡ false)
+hindrance : (left : List ℕ) (ch : Chain) (q : ℕ) → CountsChain left ch 0 → ch.released ≤ q → q < length ch.members → (x : ℕ) × (x < q) × (is_member_done left (member_at ch.members x) ≡ false) × (joins (manner_at ch.members x) (manner_at ch.members q) ≡ false)
 hindrance left ch q tracks late within =
     let unreleased : ch.released < length ch.members = omega arith in
     let some : ch.finished < ch.released = tracks.waiting unreleased in
     let counted = tracks.counted in
-    let idle = some_fails (is_done left) ch.members no_member ch.released tracks.within (omega arith) in
+    let idle = some_fails (is_member_done left) ch.members no_member ch.released tracks.within (omega arith) in
     let e : ℕ = ch.released - 1 in
     let edge : joined ch.members e ≡ false = tracks.boundary e (omega arith) unreleased in
     let run = run_before ch.members e (q - (e + 1)) edge in
@@ -44,21 +44,21 @@ abbrev is_undone : List Bool → Task → Bool
 is_undone flags x = not (flag_at flags x.0)
 
 -- a party has a task that isn't done, or none of its tasks is left
-pub undone_some : (flags : List Bool) (tasks : List (List Task)) (n : ℕ) → 0 < undone flags (tasks_at tasks n) → (t : ℕ) × In tasks n t × (flag_at flags t ≡ false)
+pub undone_some : (flags : List Bool) (tasks : List (List Task)) (n : ℕ) → 0 < undone_among flags (tasks_at tasks n) → (t : ℕ) × In tasks n t × (flag_at flags t ≡ false)
 undone_some flags tasks n h =
     let found = some_counted (is_undone flags) (task 0) (tasks_at tasks n) h in
     let x : Task = slice_index_or (tasks_at tasks n) found.0 (task 0) in
     let no : not (flag_at flags x.0) ≡ true = found.2 in
     (x.0, (found.0, found.1, get_or_default (tasks_at tasks n) found.0 (task x.0) (task 0) found.1), ⊎_elim (λ yes. absurd (both_ways _ (ap not yes) no)) (λ none. none) (cases_Bool (flag_at flags x.0)))
 
-pub undone_none : (flags : List Bool) (tasks : List (List Task)) (n t : ℕ) → undone flags (tasks_at tasks n) ≡ 0 → In tasks n t → flag_at flags t ≡ true
+pub undone_none : (flags : List Bool) (tasks : List (List Task)) (n t : ℕ) → undone_among flags (tasks_at tasks n) ≡ 0 → In tasks n t → flag_at flags t ≡ true
 undone_none flags tasks n t none here =
     true_from_ne_false _ (λ idle.
     let part = get_or-le-sum_by (λ x. cond {A = ℕ} (is_undone flags x) 1 0) (tasks_at tasks n) here.0 (task t) here.1 in
     let one : cond {A = ℕ} (is_undone flags (slice_index_or (tasks_at tasks n) here.0 (task t))) 1 0 ≡ 1 = ap (λ (x : Task). cond {A = ℕ} (is_undone flags x) 1 0) here.2 ∙ ap (λ b. cond {A = ℕ} (not b) 1 0) idle in
     absurd (omega arith))
 
-module _ (P : Program) (deps : HasDependencies P) (chains : List Chain) (cells : List (List ℕ)) (tasks : List (List Task)) (holds : Holds P chains cells tasks) where
+module _ (P : Program) (deps : HasDependencies P) (chains : List Chain) (cells : List (List ℕ)) (tasks : List (List Task)) (holds : HoldsAccesses P chains cells tasks) where
   abbrev ms_of : ℕ → List Member
   ms_of c = members_at chains c
 
@@ -109,7 +109,7 @@ module _ (P : Program) (deps : HasDependencies P) (chains : List Chain) (cells :
             sym x.manner ∙ alike x.place after_p before_q ∙ manner_p) (λ outer. absurd (omega arith)) between;
       })) cases
 
-  module _ (flags : List Bool) (done : List ℕ) (marks : Flags flags done) (left : List ℕ) (counts : (n : ℕ) → n < length tasks → left_of left n ≡ undone flags (tasks_at tasks n)) (w : List ℕ) (fits : Fits left chains cells w) where
+  module _ (flags : List Bool) (done : List ℕ) (marks : Flags flags done) (left : List ℕ) (counts : (n : ℕ) → n < length tasks → left_of left n ≡ undone_among flags (tasks_at tasks n)) (w : List ℕ) (fits : CountsFit left chains cells w) where
     pub ready-waits : (t n : ℕ) → In tasks n t → Ready P done t → waits_of w n ≡ 0
     ready-waits t n by ready =
         fits.waits n ∙ wanted_none chains n (λ c q inside late within same.
@@ -121,7 +121,7 @@ module _ (P : Program) (deps : HasDependencies P) (chains : List Chain) (cells :
         ⊎_elim (λ some.
         let u = undone_some flags tasks party some in
         let earlier : u.0 < t = in_order c x.0 q u.0 t x.1 within u.1 by_q x.3 in
-        both_ways _ u.2 (marks.flagged _ (ready.earlier _ earlier (apart c x.0 q u.0 t (omega arith) within u.1 by_q x.3)))) (λ none. both_ways _ x.2 (eq-eqb _ _ (omega arith))) (cases_lt 0 (undone flags (tasks_at tasks party))))
+        both_ways _ u.2 (marks.flagged _ (ready.earlier _ earlier (apart c x.0 q u.0 t (omega arith) within u.1 by_q x.3)))) (λ none. both_ways _ x.2 (eq-eqb _ _ (omega arith))) (cases_lt 0 (undone_among flags (tasks_at tasks party))))
 
     pub waits-ready : (t : ℕ) → HoldsAll P chains tasks → t < length P.tasks → flag_at flags t ≡ false → ((n : ℕ) → In tasks n t → waits_of w n ≡ 0) → Ready P done t
     waits-ready t all inside idle none = record {

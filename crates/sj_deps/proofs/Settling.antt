@@ -6,25 +6,25 @@ use Rattle.std.proofs.lemmas.List.Sums.{sum_by-take-drop, sum_by-drop_more}
 use Rattle.std.proofs.lemmas.Bool.{cases_lt, cases_eq, both_ways, eq-eqb, ne_eqb}
 use Rattle.sj_deps.specs.declared.chain.Chain.{Chain}
 use Rattle.sj_deps.specs.declared.chain.Member.{Member}
-use Rattle.sj_deps.specs.Chains.{no_member, no_chain, chain_at, members_at, is_done, left_from, Tracks, IsRun, Finishes, Releases}
-use Rattle.sj_deps.specs.Counts.{CanSettle, Settles, Answers}
+use Rattle.sj_deps.specs.Chains.{no_member, no_chain, chain_at, members_at, is_member_done, left_from, CountsChain, IsLongestRun, Finishes, TakesWaits}
+use Rattle.sj_deps.specs.Counts.{CanSettle, Settles, ListsReady}
 use Rattle.sj_deps.proofs.Waits.{wanted-set}
 use Rattle.sj_deps.proofs.Counting.{all_before, none_dropped, count_taken-le}
 use Rattle.sj_deps.proofs.Pushing.{moved}
 
 -- no more are done than are released
-pub done-le-released : (left : List ℕ) (ch : Chain) (n : ℕ) → Tracks left ch n → ch.finished + n ≤ ch.released
+pub done-le-released : (left : List ℕ) (ch : Chain) (n : ℕ) → CountsChain left ch n → ch.finished + n ≤ ch.released
 done-le-released left ch n tracks =
-    let none = none_dropped (is_done left) ch.members no_member ch.released tracks.later in
-    let some = count_taken-le (is_done left) ch.members no_member ch.released tracks.within in
-    let whole = sum_by-take-drop (λ m. cond {A = ℕ} (is_done left m) 1 0) ch.members ch.released in
+    let none = none_dropped (is_member_done left) ch.members no_member ch.released tracks.later in
+    let some = count_taken-le (is_member_done left) ch.members no_member ch.released tracks.within in
+    let whole = sum_by-take-drop (λ m. cond {A = ℕ} (is_member_done left m) 1 0) ch.members ch.released in
     let counted = tracks.counted in
     omega arith
 
-tracks_moved : (left : List ℕ) (ms : List Member) (r f r' n : ℕ) → Tracks left (moved ms r f) (n + 1) → (f + 1 < r → r' ≡ r) → (f + 1 ≡ r → IsRun ms r r') → Tracks left (moved ms r' (f + 1)) n
+tracks_moved : (left : List ℕ) (ms : List Member) (r f r' n : ℕ) → CountsChain left (moved ms r f) (n + 1) → (f + 1 < r → r' ≡ r) → (f + 1 ≡ r → IsLongestRun ms r r') → CountsChain left (moved ms r' (f + 1)) n
 tracks_moved left ms r f r' n tracks stays moves =
     let most : f + (n + 1) ≤ r = done-le-released left (moved ms r f) (n + 1) tracks in
-    let counted : f + (n + 1) ≡ count_by (is_done left) ms = tracks.counted in
+    let counted : f + (n + 1) ≡ count_by (is_member_done left) ms = tracks.counted in
     ⊎_elim (λ less.
     let same : r' ≡ r = stays less in
     record {
@@ -36,9 +36,9 @@ tracks_moved left ms r f r' n tracks stays moves =
       waiting = λ within. omega arith;
     }) (λ last.
     let all : f + 1 ≡ r = omega arith in
-    let run : IsRun ms r r' = moves all in
-    let whole : count_by (is_done left) ms ≡ r = omega arith in
-    let full = all_before (is_done left) ms no_member r tracks.within tracks.later whole in
+    let run : IsLongestRun ms r r' = moves all in
+    let whole : count_by (is_member_done left) ms ≡ r = omega arith in
+    let full = all_before (is_member_done left) ms no_member r tracks.within tracks.later whole in
     let grows = run.grows in
     record {
       within = run.within;
@@ -49,11 +49,11 @@ tracks_moved left ms r f r' n tracks stays moves =
       waiting = λ within. let some : r < r' = run.some (omega arith) in omega arith;
     }) (cases_lt (f + 1) r)
 
-pub Tracks-finish : (left : List ℕ) (old new : Chain) (n : ℕ) → Tracks left old (n + 1) → Finishes old new → Tracks left new n
-Tracks-finish left old new n tracks fin =
+pub CountsChain-finish : (left : List ℕ) (old new : Chain) (n : ℕ) → CountsChain left old (n + 1) → Finishes old new → CountsChain left new n
+CountsChain-finish left old new n tracks fin =
     let next = tracks_moved left old.members old.released old.finished new.released n tracks fin.stays fin.moves in
     let same : moved old.members new.released (old.finished + 1) ≡ new = rw (← fin.members, ← fin.finished) refl in
-    subst (λ (ch : Chain). Tracks left ch n) same next
+    subst (λ (ch : Chain). CountsChain left ch n) same next
 
 abbrev cell_at : List ℕ → ℕ → ℕ
 cell_at cells i = slice_index_or cells i 0
@@ -112,7 +112,7 @@ module _ (chains : List Chain) (w : List ℕ) (cells : List ℕ) (i : ℕ) (with
         let old_within : old.released ≤ length old.members = subst (λ (ch : Chain). ch.released ≤ length ch.members) (sym old_is) (can.within (cell_at cells i)) in
         ⊎_elim (λ less. let e = fin.stays less in (omega arith, omega arith)) (λ last. let run = fin.moves (omega arith) in (run.grows, run.within)) (cases_lt (old.finished + 1) old.released)
 
-    pub CanSettle-more : (w' : List ℕ) (r r' : List ℕ) → Releases w w' r r' old.members old.released new.released → CanSettle after w' (drop (i + 1) cells)
+    pub CanSettle-more : (w' : List ℕ) (r r' : List ℕ) → TakesWaits w w' r r' old.members old.released new.released → CanSettle after w' (drop (i + 1) cells)
     CanSettle-more w' r r' rel =
         let same_len : length after ≡ length chains = length-set chains (cell_at cells i) new in
         record {
@@ -148,11 +148,11 @@ module _ (chains : List Chain) (w : List ℕ) (cells : List ℕ) (i : ℕ) (with
         len = length-set chains (cell_at cells i) new ∙ so.same.len;
         members = λ c. kept_members c ∙ so.same.members c;
       };
-      tracks = λ left before. each (λ c ch. Tracks left ch (count_by (is_cell c) (drop (i + 1) cells))) (Tracks-finish left old new _ (subst (λ (ch : Chain). Tracks left ch (count_by (is_cell (cell_at cells i)) (drop (i + 1) cells) + 1)) (sym old_is) (subst (Tracks left (chain_at chains (cell_at cells i))) (left-same cells i (cell_at cells i) within refl) (so.tracks left before (cell_at cells i)))) fin) (λ c other. subst (Tracks left (chain_at chains c)) (left-other cells i c within other) (so.tracks left before c));
+      tracks = λ left before. each (λ c ch. CountsChain left ch (count_by (is_cell c) (drop (i + 1) cells))) (CountsChain-finish left old new _ (subst (λ (ch : Chain). CountsChain left ch (count_by (is_cell (cell_at cells i)) (drop (i + 1) cells) + 1)) (sym old_is) (subst (CountsChain left (chain_at chains (cell_at cells i))) (left-same cells i (cell_at cells i) within refl) (so.tracks left before (cell_at cells i)))) fin) (λ c other. subst (CountsChain left (chain_at chains c)) (left-other cells i c within other) (so.tracks left before c));
     }
 
-pub Answers-more : (w₀ w w' : List ℕ) (r₀ r r' : List ℕ) (ms : List Member) (first last : ℕ) → Releases w w' r r' ms first last → Answers w₀ w r₀ r → Answers w₀ w' r₀ r'
-Answers-more w₀ w w' r₀ r r' ms first last rel so = record {
+pub ListsReady-more : (w₀ w w' : List ℕ) (r₀ r r' : List ℕ) (ms : List Member) (first last : ℕ) → TakesWaits w w' r r' ms first last → ListsReady w₀ w r₀ r → ListsReady w₀ w' r₀ r'
+ListsReady-more w₀ w w' r₀ r r' ms first last rel so = record {
   len = rel.len ∙ so.len;
   opened = λ t. rel.opened t ∙ so.opened t;
   total = rel.total ∙ so.total;

@@ -18,13 +18,13 @@ use Rattle.sj_deps.specs.declared.chain.Chain.{Chain}
 use Rattle.sj_deps.specs.declared.chain.Member.{Member}
 use Rattle.sj_deps.specs.declared.counters.Counters.{Counters}
 use Rattle.sj_deps.specs.declared.entry.Entered.{Entered}
-use Rattle.sj_deps.specs.Chains.{no_chain, no_member, chain_at, members_at, is_of, left_of, waits_of, wanted, Tracks}
-use Rattle.sj_deps.specs.Counts.{Begun, Built, Entering, Holds, HoldsAll, In, Mutual, Present, blocked, cells_at, is_task, parties_at, tasks_at, undone}
-use Rattle.sj_deps.specs.Progress.{Keeps}
+use Rattle.sj_deps.specs.Chains.{no_chain, no_member, chain_at, members_at, is_of, left_of, waits_of, wanted, CountsChain}
+use Rattle.sj_deps.specs.Counts.{Begun, Built, Entering, HoldsAccesses, HoldsAll, In, Mutual, Present, blocked, cells_at, is_task, parties_at, tasks_at, undone_among}
+use Rattle.sj_deps.specs.Progress.{KeepsCounts}
 use Rattle.sj_deps.proofs.Counting.{below_cases}
 use Rattle.sj_deps.proofs.Entering.{single_is}
 use Rattle.sj_deps.proofs.Keeping.{party_counted}
-use Rattle.sj_deps.proofs.Leaving.{Tracks-agree}
+use Rattle.sj_deps.proofs.Leaving.{CountsChain-agree}
 use Rattle.sj_deps.proofs.Places.{wanted_none}
 use Rattle.sj_deps.proofs.Readiness.{flag_at}
 
@@ -37,7 +37,7 @@ Entering-next P t e at_end = record {
   upto = λ c p u h by. let most = at_end.upto c p u h by in omega arith;
 }
 
-no_tracks : Tracks [] no_chain 0
+no_tracks : CountsChain [] no_chain 0
 no_tracks = record {
   within = omega arith;
   counted = refl;
@@ -95,7 +95,7 @@ module _ (P : Program) (e : Entered) (chains_are : e.chains.items ≡ replicate 
 
   pub Begun-none : Begun e
   Begun-none = record {
-    tracks = λ c. subst (λ (ch : Chain). Tracks [] ch 0) (sym (empty c)) no_tracks;
+    tracks = λ c. subst (λ (ch : Chain). CountsChain [] ch 0) (sym (empty c)) no_tracks;
     waits = λ n. no_waits n ∙ sym (wanted_none e.chains.items n (λ c q inside late within same. let z = none c in omega arith));
     closed = λ c p h. absurd (let z = none c in omega arith);
     every_wait = ap length waits_are ∙ length-replicate (length P.tasks) 0 ∙ sym tasks_len;
@@ -133,7 +133,7 @@ Built-all P e begun at_end = record {
   begun = begun;
 }
 
-undone_all : (flags : List Bool) → ((t : ℕ) → flag_at flags t ≡ false) → (ts : List Task) → undone flags ts ≡ length ts
+undone_all : (flags : List Bool) → ((t : ℕ) → flag_at flags t ≡ false) → (ts : List Task) → undone_among flags ts ≡ length ts
 undone_all flags idle [] = refl
 undone_all flags idle (x ∷ ts) =
     let a = sum_by-cons (λ (y : Task). cond {A = ℕ} (not (flag_at flags y.0)) 1 0) x ts in
@@ -162,7 +162,7 @@ built_tasks P e built n = λ i d h.
 pub built_parties : (P : Program) (e : Entered) → Built P e → (parties : List (List ℕ)) → Mutual parties e.tasks.items → All (All (λ n. n < length e.waits.items)) parties
 built_parties P e built parties matching = All-from_get_or (All (λ n. n < length e.waits.items)) parties [] (λ t h i d inner. let below = party_below parties e.tasks.items matching t i d inner in let every = built.begun.every_wait in omega arith)
 
-module _ (P : Program) (c : Counters) (deps : HasDependencies P) (holds : Holds P c.chains.items c.cells.items c.tasks.items) (all : HoldsAll P c.chains.items c.tasks.items) (tracks : (d : ℕ) → Tracks [] (chain_at c.chains.items d) 0) (waits : (n : ℕ) → waits_of c.waits.items n ≡ wanted c.chains.items n) (every_wait : length c.waits.items ≡ length c.tasks.items) (left_are : c.left.items ≡ map (λ ts. length ts) c.tasks.items) (parties_len : length c.parties.items ≡ length P.tasks) (matching : Mutual c.parties.items c.tasks.items) (held_are : c.held.items ≡ map (blocked c.waits.items) c.parties.items) (unmarked : c.is_done.items ≡ replicate (length P.tasks) false) (none : c.order.items ≡ []) (room_done : length P.tasks ≤ vec_capacity c.order) (room_opened : length c.tasks.items ≤ vec_capacity c.opened) (room_ready : length P.tasks ≤ vec_capacity c.ready) where
+module _ (P : Program) (c : Counters) (deps : HasDependencies P) (holds : HoldsAccesses P c.chains.items c.cells.items c.tasks.items) (all : HoldsAll P c.chains.items c.tasks.items) (tracks : (d : ℕ) → CountsChain [] (chain_at c.chains.items d) 0) (waits : (n : ℕ) → waits_of c.waits.items n ≡ wanted c.chains.items n) (every_wait : length c.waits.items ≡ length c.tasks.items) (left_are : c.left.items ≡ map (λ ts. length ts) c.tasks.items) (parties_len : length c.parties.items ≡ length P.tasks) (matching : Mutual c.parties.items c.tasks.items) (held_are : c.held.items ≡ map (blocked c.waits.items) c.parties.items) (unmarked : c.is_done.items ≡ replicate (length P.tasks) false) (none : c.order.items ≡ []) (room_done : length P.tasks ≤ vec_capacity c.order) (room_opened : length c.tasks.items ≤ vec_capacity c.opened) (room_ready : length P.tasks ≤ vec_capacity c.ready) where
   flag_none : (t : ℕ) → flag_at c.is_done.items t ≡ false
   flag_none t = ap (λ fs. flag_at fs t) unmarked ∙ get_or-replicate_same (length P.tasks) t false
 
@@ -202,7 +202,7 @@ module _ (P : Program) (c : Counters) (deps : HasDependencies P) (holds : Holds 
       let inside = holds.inside n x.0 (i, h, get_or_default ts i (task x.0) d h) in
       omega arith
 
-  pub Keeps-start : Keeps P c
+  pub Keeps-start : KeepsCounts P c
   Keeps-start =
       let flags_len : length c.is_done.items ≡ length P.tasks = ap length unmarked ∙ length-replicate (length P.tasks) false in
       let few = count_by-le-length not c.is_done.items in
@@ -214,7 +214,7 @@ module _ (P : Program) (c : Counters) (deps : HasDependencies P) (holds : Holds 
         all = all;
         ledger = record {
           fits = record {
-            tracks = λ d. Tracks-agree [] c.left.items (λ m. ne_eqb _ _ (λ e. let some = left_some m.party in omega arith)) (chain_at c.chains.items d) 0 (tracks d);
+            tracks = λ d. CountsChain-agree [] c.left.items (λ m. ne_eqb _ _ (λ e. let some = left_some m.party in omega arith)) (chain_at c.chains.items d) 0 (tracks d);
             waits = waits;
             listed = holds.listed;
             parties = λ d p m h. let known = holds.known d p h in subst (λ (y : Member). y.party < length c.waits.items) (get_or_default (members_at c.chains.items d) p no_member m h) (omega arith);

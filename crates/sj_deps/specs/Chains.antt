@@ -65,20 +65,20 @@ wanted chains n = sum_by (λ ch. left_from ch.members ch.released n) chains
 abbrev pub left_of : List ℕ → ℕ → ℕ
 left_of left n = slice_index_or left n 1
 
-abbrev pub is_done : List ℕ → Member → Bool
-is_done left m = nat_eq (left_of left m.party) 0
+abbrev pub is_member_done : List ℕ → Member → Bool
+is_member_done left m = nat_eq (left_of left m.party) 0
 
 -- the counts of one chain fit the parties that are done, but for so many of the open accesses, which are done and not yet counted
-pub record Tracks (left : List ℕ) (ch : Chain) (uncounted : ℕ) : Type 0 where
+pub record CountsChain (left : List ℕ) (ch : Chain) (uncounted : ℕ) : Type 0 where
   pub within : ch.released ≤ length ch.members
-  pub counted : ch.finished + uncounted ≡ count_by (is_done left) ch.members
-  pub later : (p : ℕ) → ch.released ≤ p → p < length ch.members → is_done left (member_at ch.members p) ≡ false
-  pub earlier : (p q : ℕ) → p + 1 < ch.released → joined ch.members p ≡ false → q ≤ p → is_done left (member_at ch.members q) ≡ true
+  pub counted : ch.finished + uncounted ≡ count_by (is_member_done left) ch.members
+  pub later : (p : ℕ) → ch.released ≤ p → p < length ch.members → is_member_done left (member_at ch.members p) ≡ false
+  pub earlier : (p q : ℕ) → p + 1 < ch.released → joined ch.members p ≡ false → q ≤ p → is_member_done left (member_at ch.members q) ≡ true
   pub boundary : (p : ℕ) → p + 1 ≡ ch.released → ch.released < length ch.members → joined ch.members p ≡ false
   pub waiting : ch.released < length ch.members → ch.finished < ch.released
 
 -- places first to last - 1 are one run, which is as long as it can be after first
-pub record IsRun (ms : List Member) (first last : ℕ) : Type 0 where
+pub record IsLongestRun (ms : List Member) (first last : ℕ) : Type 0 where
   pub grows : first ≤ last
   pub within : last ≤ length ms
   pub some : first < length ms → first < last
@@ -101,7 +101,7 @@ pub record Finishes (old new : Chain) : Type 0 where
   pub members : new.members ≡ old.members
   pub finished : new.finished ≡ old.finished + 1
   pub stays : old.finished + 1 < old.released → new.released ≡ old.released
-  pub moves : old.finished + 1 ≡ old.released → IsRun old.members old.released new.released
+  pub moves : old.finished + 1 ≡ old.released → IsLongestRun old.members old.released new.released
 
 abbrev pub waits_of : List ℕ → ℕ → ℕ
 waits_of waits n = slice_index_or waits n 0
@@ -110,7 +110,7 @@ abbrev pub is_party : ℕ → ℕ → Bool
 is_party n x = nat_eq x n
 
 -- the accesses at places first to last - 1 take one wait each of their parties; those that wait no more are appended
-pub record Releases (w w' : List ℕ) (r r' : List ℕ) (ms : List Member) (first last : ℕ) : Type 0 where
+pub record TakesWaits (w w' : List ℕ) (r r' : List ℕ) (ms : List Member) (first last : ℕ) : Type 0 where
   pub waits : (n : ℕ) → waits_of w' n + left_from ms first n ≡ waits_of w n + left_from ms last n
   pub len : length w' ≡ length w
   pub opened : (n : ℕ) → count_by (is_party n) r' + min 1 (waits_of w' n) ≡ count_by (is_party n) r + min 1 (waits_of w n)

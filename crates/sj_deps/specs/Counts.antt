@@ -11,7 +11,7 @@ use Rattle.sj_deps.specs.Conflict.{Uses, usage}
 use Rattle.sj_deps.specs.declared.entry.Entered.{Entered}
 use Rattle.sj_deps.specs.declared.chain.Member.{Member}
 use Rattle.sj_deps.specs.declared.chain.Chain.{Chain}
-use Rattle.sj_deps.specs.Chains.{member, member_at, party_at, manner_at, members_at, is_of, is_party, chain_at, waits_of, wanted, Tracks}
+use Rattle.sj_deps.specs.Chains.{member, member_at, party_at, manner_at, members_at, is_of, is_party, chain_at, waits_of, wanted, CountsChain}
 
 abbrev pub is_task : ℕ → Task → Bool
 is_task t x = nat_eq x.0 t
@@ -30,13 +30,13 @@ abbrev pub In : List (List Task) → ℕ → ℕ → Type 0
 In tasks n t = Contains (tasks_at tasks n) (task t)
 
 -- party n is a reduction phase: it accesses all partial copies of a cell
-pub record IsPhase (P : Program) (cells : List (List ℕ)) (n : ℕ) : Type 0 where
+pub record IsPhaseParty (P : Program) (cells : List (List ℕ)) (n : ℕ) : Type 0 where
   pub later : length P.tasks ≤ n
   pub first : ℕ
   pub copies : cells_at cells n ≡ range_with_len first P.workers
 
 -- the chains hold accesses of P alone, and each cell's in the order of tasks; a party is a task by itself or a phase
-pub record Holds (P : Program) (chains : List Chain) (cells : List (List ℕ)) (tasks : List (List Task)) : Type 0 where
+pub record HoldsAccesses (P : Program) (chains : List Chain) (cells : List (List ℕ)) (tasks : List (List Task)) : Type 0 where
   pub every_cell : length chains ≡ length P.cells
   pub every_party : length cells ≡ length tasks
   pub every_task : length P.tasks ≤ length tasks
@@ -48,7 +48,7 @@ pub record Holds (P : Program) (chains : List Chain) (cells : List (List ℕ)) (
   pub ordered : (c i j u t : ℕ) → i < j → j < length (members_at chains c) → In tasks (party_at (members_at chains c) i) u → In tasks (party_at (members_at chains c) j) t → u ≤ t
   pub own : (c p t : ℕ) → p < length (members_at chains c) → In tasks (party_at (members_at chains c) p) t → (manner_at (members_at chains c) p ≡ Contribute) ⊎ (party_at (members_at chains c) p ≡ t)
   pub once : (c i j t : ℕ) → i < j → j < length (members_at chains c) → In tasks (party_at (members_at chains c) i) t → In tasks (party_at (members_at chains c) j) t → manner_at (members_at chains c) i ≡ Contribute
-  pub phases : (c p : ℕ) → p < length (members_at chains c) → manner_at (members_at chains c) p ≡ Contribute → IsPhase P cells (party_at (members_at chains c) p)
+  pub phases : (c p : ℕ) → p < length (members_at chains c) → manner_at (members_at chains c) p ≡ Contribute → IsPhaseParty P cells (party_at (members_at chains c) p)
   pub listed : (n c : ℕ) → count_by (λ d. nat_eq d c) (cells_at cells n) ≡ count_by (is_of n) (members_at chains c)
 
 -- the access of task t to cell c in the manner m is in the chain
@@ -83,24 +83,24 @@ pub record SameMembers (old new : List Chain) : Type 0 where
 -- and counts that fitted but for these cells now fit but for those left
 pub record Settles (old new : List Chain) (cells left : List ℕ) : Type 0 where
   pub same : SameMembers old new
-  pub tracks : (done : List ℕ) → ((c : ℕ) → Tracks done (chain_at old c) (count_by (λ d. nat_eq d c) cells)) → (c : ℕ) → Tracks done (chain_at new c) (count_by (λ d. nat_eq d c) left)
+  pub tracks : (done : List ℕ) → ((c : ℕ) → CountsChain done (chain_at old c) (count_by (λ d. nat_eq d c) cells)) → (c : ℕ) → CountsChain done (chain_at new c) (count_by (λ d. nat_eq d c) left)
 
 -- the parties whose last wait is gone are appended
-pub record Answers (w w' : List ℕ) (r r' : List ℕ) : Type 0 where
+pub record ListsReady (w w' : List ℕ) (r r' : List ℕ) : Type 0 where
   pub len : length w' ≡ length w
   pub opened : (n : ℕ) → count_by (is_party n) r' + min 1 (waits_of w' n) ≡ count_by (is_party n) r + min 1 (waits_of w n)
   pub total : length r' + count_by (nat_lt 0) w' ≡ length r + count_by (nat_lt 0) w
 
 -- each chain's counts fit the parties that are done, and each party's waits are its accesses that may not begin yet
-pub record Fits (left : List ℕ) (chains : List Chain) (cells : List (List ℕ)) (w : List ℕ) : Type 0 where
-  pub tracks : (c : ℕ) → Tracks left (chain_at chains c) 0
+pub record CountsFit (left : List ℕ) (chains : List Chain) (cells : List (List ℕ)) (w : List ℕ) : Type 0 where
+  pub tracks : (c : ℕ) → CountsChain left (chain_at chains c) 0
   pub waits : (n : ℕ) → waits_of w n ≡ wanted chains n
   pub listed : (n c : ℕ) → count_by (λ d. nat_eq d c) (cells_at cells n) ≡ count_by (is_of n) (members_at chains c)
   pub parties : (c : ℕ) → All (λ m. m.party < length w) (members_at chains c)
 
 -- the chains while accesses are entered, with nothing done: a party that isn't the last of each of its chains is closed
 pub record Begun (e : Entered) : Type 0 where
-  pub tracks : (c : ℕ) → Tracks [] (chain_at e.chains.items c) 0
+  pub tracks : (c : ℕ) → CountsChain [] (chain_at e.chains.items c) 0
   pub waits : (n : ℕ) → waits_of e.waits.items n ≡ wanted e.chains.items n
   pub closed : (c p : ℕ) → p + 1 < length (members_at e.chains.items c) → slice_index_or e.is_closed.items (party_at (members_at e.chains.items c) p) true ≡ true
   pub every_wait : length e.waits.items ≡ length e.tasks.items
@@ -109,14 +109,14 @@ pub record Begun (e : Entered) : Type 0 where
 
 -- the accesses of the tasks below t and these of task t are entered
 pub record Entering (P : Program) (t : ℕ) (us : List Usage) (e : Entered) : Type 0 where
-  pub holds : Holds P e.chains.items e.cells.items e.tasks.items
+  pub holds : HoldsAccesses P e.chains.items e.cells.items e.tasks.items
   pub before : (u c : ℕ) (m : Manner) → u < t → Uses P u c m → Present e.chains.items e.tasks.items u c m
   pub current : (c : ℕ) (m : Manner) → Contains us (usage m c) → Present e.chains.items e.tasks.items t c m
   pub upto : (c p u : ℕ) → p < length (members_at e.chains.items c) → In e.tasks.items (party_at (members_at e.chains.items c) p) u → u ≤ t
 
 -- the last access is one of party n
-abbrev pub ends_with : List Member → ℕ → Bool
-ends_with ms n = if length ms == 0 then false else is_of n (member_at ms (length ms - 1))
+abbrev pub ends_with_party : List Member → ℕ → Bool
+ends_with_party ms n = if length ms == 0 then false else is_of n (member_at ms (length ms - 1))
 
 -- the party's accesses to the cells from first on are appended to their chains
 pub record Appends (old new : Entered) (x : Member) (first count : ℕ) : Type 0 where
@@ -139,7 +139,7 @@ pub record Opens (old new : Entered) (t first count : ℕ) : Type 0 where
   pub appends : Appends between new (member (length old.tasks.items) Contribute) first count
 
 -- one task more in a party
-pub record Joins (old new : Entered) (n t : ℕ) : Type 0 where
+pub record JoinsParty (old new : Entered) (n t : ℕ) : Type 0 where
   pub chains : new.chains.items ≡ old.chains.items
   pub cells : new.cells.items ≡ old.cells.items
   pub tasks : new.tasks.items ≡ slice_set old.tasks.items n (tasks_at old.tasks.items n ++ task t ∷ [])
@@ -160,13 +160,13 @@ pub record IsOpen (e : Entered) (first n : ℕ) : Type 0 where
 
 -- all accesses of P are entered, and none is finished
 pub record Built (P : Program) (e : Entered) : Type 0 where
-  pub holds : Holds P e.chains.items e.cells.items e.tasks.items
+  pub holds : HoldsAccesses P e.chains.items e.cells.items e.tasks.items
   pub all : HoldsAll P e.chains.items e.tasks.items
   pub begun : Begun e
 
 -- how many tasks of a party aren't done
-abbrev pub undone : List Bool → List Task → ℕ
-undone flags ts = count_by (λ (x : Task). not (slice_index_or flags x.0 false)) ts
+abbrev pub undone_among : List Bool → List Task → ℕ
+undone_among flags ts = count_by (λ (x : Task). not (slice_index_or flags x.0 false)) ts
 
 -- how many of these parties wait
 abbrev pub blocked : List ℕ → List ℕ → ℕ

@@ -5,6 +5,6 @@ use Rattle.sj_deps.specs.declared.crew.Tasks.{Tasks}
 use Rattle.sj_deps.specs.declared.crew.Tasks.TheVariants.{Single, Several}
 
 -- the tasks of a party, in order
-abbrev pub tasks_of : Tasks → List Task
-tasks_of (Single t) = t ∷ []
-tasks_of (Several ts) = ts
+abbrev pub crew_tasks : Tasks → List Task
+crew_tasks (Single t) = t ∷ []
+crew_tasks (Several ts) = ts

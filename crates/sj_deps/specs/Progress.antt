@@ -8,19 +8,19 @@ use Rattle.sj_base.specs.declared.program.Program.{Program}
 use Rattle.sj_deps.specs.Conflict.{HasDependencies, Ready}
 use Rattle.sj_deps.specs.declared.counters.Counters.{Counters}
 use Rattle.sj_deps.specs.Chains.{is_party, left_of, waits_of}
-use Rattle.sj_deps.specs.Counts.{Holds, HoldsAll, Flags, Fits, SameMembers, Mutual, blocked, undone, parties_at, tasks_at, is_task}
+use Rattle.sj_deps.specs.Counts.{HoldsAccesses, HoldsAll, Flags, CountsFit, SameMembers, Mutual, blocked, undone_among, parties_at, tasks_at, is_task}
 
 -- a program, and the tasks that are done, in the order in which they were
-pub record Progress : Type 0 where
+pub record Dependencies : Type 0 where
   pub program : Program
   pub done : List ℕ
 
-abbrev pub progress : Program → List ℕ → Progress
-progress P done = record { program = P; done = done }
+abbrev pub dependencies : Program → List ℕ → Dependencies
+dependencies P done = record { program = P; done = done }
 
 -- the chains, the parties and the tasks fit each other, with room for the parties that open and for the answers
 pub record Ledger (c : Counters) : Type 0 where
-  pub fits : Fits c.left.items c.chains.items c.cells.items c.waits.items
+  pub fits : CountsFit c.left.items c.chains.items c.cells.items c.waits.items
   pub matching : Mutual c.parties.items c.tasks.items
   pub held : (t : ℕ) → waits_of c.held.items t ≡ blocked c.waits.items (parties_at c.parties.items t)
   pub tasks : (n : ℕ) → All (λ (x : Task). x.0 < length c.held.items) (tasks_at c.tasks.items n)
@@ -34,12 +34,12 @@ pub record Ledger (c : Counters) : Type 0 where
   pub room_ready : length c.held.items ≤ vec_capacity c.ready
 
 -- the counters of a program after the tasks in `order` are done, with room for the others
-pub record Keeps (P : Program) (c : Counters) : Type 0 where
+pub record KeepsCounts (P : Program) (c : Counters) : Type 0 where
   pub program : HasDependencies P
-  pub holds : Holds P c.chains.items c.cells.items c.tasks.items
+  pub holds : HoldsAccesses P c.chains.items c.cells.items c.tasks.items
   pub all : HoldsAll P c.chains.items c.tasks.items
   pub ledger : Ledger c
-  pub left : (n : ℕ) → n < length c.tasks.items → left_of c.left.items n ≡ undone c.is_done.items (tasks_at c.tasks.items n)
+  pub left : (n : ℕ) → n < length c.tasks.items → left_of c.left.items n ≡ undone_among c.is_done.items (tasks_at c.tasks.items n)
   pub flags : Flags c.is_done.items c.order.items
   pub free : (t : ℕ) → slice_index_or c.is_done.items t false ≡ true → waits_of c.held.items t ≡ 0
   pub every_task : length c.held.items ≡ length P.tasks
@@ -60,10 +60,10 @@ pub record Completes (old new : Counters) (t : ℕ) : Type 0 where
   pub sorted : IsNonDecreasingBy (λ (x : Task). x.0) new.ready.items
   pub room_done : vec_capacity old.order ≤ vec_capacity new.order
 
-abbrev pub after : Progress → ℕ → Progress
-after p t = progress p.program (p.done ++ t ∷ [])
+abbrev pub after_done : Dependencies → ℕ → Dependencies
+after_done p t = dependencies p.program (p.done ++ t ∷ [])
 
 -- task u is ready once t is done, and isn't ready before
-pub record BecomesReady (p : Progress) (t u : ℕ) : Type 0 where
+pub record BecomesReady (p : Dependencies) (t u : ℕ) : Type 0 where
   pub now : Ready p.program (p.done ++ t ∷ []) u
   pub before : ¬ Ready p.program p.done u

@@ -1,7 +1,7 @@
 //! Chains: the accesses to one cell in the order of tasks, and which of them may begin.
 
 ghost use Rattle.std.specs.Prelude.{◌≡◌, ◌+◌, ◌<◌, ◌≤◌, ◌&&◌, ◌==◌, ℕ, All, IfOk, OnErr, length, vec_capacity, count_by, nat_lt, slice_set, ◌-◌, min};
-ghost use Rattle.sj_deps.specs.Chains.{joins, no_chain, joins_last, waits_of, is_party, left_from, Pushes, IsRun, Releases, Finishes};
+ghost use Rattle.sj_deps.specs.Chains.{joins, no_chain, joins_last, waits_of, is_party, left_from, Pushes, IsLongestRun, TakesWaits, Finishes};
 
 use crate::manner::Manner;
 use sj_base::few::Few;
@@ -61,7 +61,7 @@ fn joins_last(members: &[Member], next: Member) -> bool
 /// Where the run ends that begins at a place.
 fn run_end(members: &[Member], first: usize) -> usize
     requires { first ≤ length members.now }
-    ensures { IsRun members.now first result }
+    ensures { IsLongestRun members.now first result }
 {
     if first == members.len() {
         return first;
@@ -109,7 +109,7 @@ fn release(
     requires waiting { (n : ℕ) → left_from members.now first n ≤ waits_of waits.old.items n }
     requires room { length opened.old.items + count_by (nat_lt 0) waits.old.items
         ≤ vec_capacity opened.old }
-    ensures released { Releases waits.old.items waits.new.items opened.old.items opened.new.items
+    ensures released { TakesWaits waits.old.items waits.new.items opened.old.items opened.new.items
         members.now first last }
     ensures capacity { vec_capacity opened.old ≤ vec_capacity opened.new }
 {
@@ -154,7 +154,7 @@ impl Chain {
         requires room { length opened.old.items + count_by (nat_lt 0) waits.old.items
             ≤ vec_capacity opened.old }
         ensures finished { Finishes self.old self.new }
-        ensures released { Releases waits.old.items waits.new.items opened.old.items
+        ensures released { TakesWaits waits.old.items waits.new.items opened.old.items
             opened.new.items self.old.members
             self.old.released self.new.released }
         ensures capacity { vec_capacity opened.old ≤ vec_capacity opened.new }

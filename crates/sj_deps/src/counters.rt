@@ -45,13 +45,13 @@ pub struct Counters {
 }
 
 impl Counters {
-    ghost use Rattle.sj_deps.specs.Progress.{Keeps, Completes, Ledger};
+    ghost use Rattle.sj_deps.specs.Progress.{KeepsCounts, Completes, Ledger};
 
     /// The counters of a program, with no task done and room for all of them. Linear in the accesses, and in
     /// the workers for each phase.
     pub fn of(alloc: Global, program: &Program) -> Result<Counters, OutOfMemory>
         requires { HasDependencies program.now }
-        ensures keeps { IfOk result (Keeps program.now) }
+        ensures keeps { IfOk result (KeepsCounts program.now) }
         ensures none_done { IfOk result (λ c. c.order.items ≡ []) }
     {
         let count = program.tasks.len();

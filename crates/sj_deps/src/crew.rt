@@ -24,11 +24,11 @@ pub struct Crew {
 impl Model for Crew {
     ghost use Rattle.std.specs.Prelude.{List};
     ghost use Rattle.sj_base.specs.declared.ids.Task.{Task};
-    ghost use Rattle.sj_deps.specs.Crews.{tasks_of};
+    ghost use Rattle.sj_deps.specs.Crews.{crew_tasks};
 
     ghost Value = { List Task };
 
-    ghost view = { λ crew. tasks_of crew.tasks };
+    ghost view = { λ crew. crew_tasks crew.tasks };
 }
 
 impl Crew {

@@ -27,13 +27,13 @@ pub struct Deps {
 }
 
 impl Model for Deps {
-    ghost use Rattle.sj_deps.specs.Progress.{Progress, progress, Keeps};
+    ghost use Rattle.sj_deps.specs.Progress.{Dependencies, dependencies, KeepsCounts};
 
-    ghost Value = { Progress };
+    ghost Value = { Dependencies };
 
-    ghost view = { λ d. progress d.program.value d.counters.order.items };
+    ghost view = { λ d. dependencies d.program.value d.counters.order.items };
 
-    ghost invariant = { λ d. Keeps d.program.value d.counters };
+    ghost invariant = { λ d. KeepsCounts d.program.value d.counters };
 }
 
 impl Deps {

@@ -7,7 +7,7 @@ ghost use Rattle.sj_base.specs.Ids.{task};
 ghost use Rattle.sj_deps.specs.declared.manner.Usage.{Usage};
 ghost use Rattle.sj_deps.specs.Conflict.{HasDependencies, Uses, usages_of, usage, copies_of, first_copy};
 ghost use Rattle.sj_deps.specs.Chains.{no_chain, party_at};
-ghost use Rattle.sj_deps.specs.Counts.{Entering, Begun, Built, Holds, Adds, Appends, Joins, Opens, EndsInPhase, IsOpen, ends_with};
+ghost use Rattle.sj_deps.specs.Counts.{Entering, Begun, Built, HoldsAccesses, Adds, Appends, JoinsParty, Opens, EndsInPhase, IsOpen, ends_with_party};
 
 use crate::chain::{Chain, Member};
 use crate::crew::Crew;
@@ -142,7 +142,7 @@ fn enter_access(
     requires uses { (c : ℕ) (m : Manner) →
         Contains (usages_of program.now codelet access) (usage m c) →
         Uses program.now t c m }
-    requires holds { Holds program.now entered.old.chains.items entered.old.cells.items
+    requires holds { HoldsAccesses program.now entered.old.chains.items entered.old.cells.items
         entered.old.tasks.items }
     requires begun { Begun entered.old }
     ensures begun { OnOk result (Begun entered.new) }
@@ -171,15 +171,15 @@ fn enter(entered: &mut Entered, t: usize, manner: Manner, cell: usize) -> Result
         t < length P.tasks → Uses P t cell manner → ¬ (manner ≡ Manner.Contribute) →
         Entering P t us entered.old → Entering P t (us ++ usage manner cell ∷ []) entered.new) }
 {
-    if ends_with(&entered.chains[cell], t) {
+    if ends_with_party(&entered.chains[cell], t) {
         return Ok(());
     }
     append(entered, Member { party: t, manner }, cell, 1)
 }
 
 /// Whether the last access is one of a party.
-fn ends_with(chain: &Chain, party: usize) -> bool
-    ensures { result ≡ ends_with chain.now.members party }
+fn ends_with_party(chain: &Chain, party: usize) -> bool
+    ensures { result ≡ ends_with_party chain.now.members party }
 {
     match chain.members.items().last() {
         Some(last) => last.party == party,
@@ -294,7 +294,7 @@ fn join(alloc: Global, entered: &mut Entered, party: usize, t: usize) -> Result<
     requires party { party < length entered.old.tasks.items }
     requires begun { Begun entered.old }
     ensures begun { OnOk result (Begun entered.new) }
-    ensures joins { OnOk result (Joins entered.old entered.new party t) }
+    ensures joins { OnOk result (JoinsParty entered.old entered.new party t) }
 {
     entered.tasks[party].push(alloc, Task(t as u32))?;
     Ok(())

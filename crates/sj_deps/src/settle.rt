@@ -3,7 +3,7 @@
 ghost use Rattle.std.specs.Prelude.{◌≡◌, ◌+◌, ◌-◌, ◌<◌, ◌≤◌, [], ℕ, All, length, count_by, nat_lt, vec_capacity, slice_set};
 ghost use Rattle.std.specs.List.{sum_by};
 ghost use Rattle.sj_deps.specs.Chains.{is_party, left_of, waits_of};
-ghost use Rattle.sj_deps.specs.Counts.{CanSettle, Settles, SameMembers, Answers, Fits};
+ghost use Rattle.sj_deps.specs.Counts.{CanSettle, Settles, SameMembers, ListsReady, CountsFit};
 
 use crate::chain::Chain;
 use sj_base::few::Few;
@@ -16,7 +16,7 @@ fn settle(chains: &mut Vec<Chain>, waits: &mut Vec<usize>, opened: &mut Vec<usiz
         ≤ vec_capacity opened.old }
     ensures settled { CanSettle chains.new.items waits.new.items [] }
     ensures chains { Settles chains.old.items chains.new.items cells.now [] }
-    ensures answers { Answers waits.old.items waits.new.items opened.old.items opened.new.items }
+    ensures answers { ListsReady waits.old.items waits.new.items opened.old.items opened.new.items }
     ensures capacity { vec_capacity opened.old ≤ vec_capacity opened.new }
 {
     for cell in cells {
@@ -33,18 +33,18 @@ fn leave(
     cells: &[Few<usize>],
     party: usize,
 )
-    requires fits { Fits left.old.items chains.old.items cells.now waits.old.items }
+    requires fits { CountsFit left.old.items chains.old.items cells.now waits.old.items }
     requires party { party < length left.old.items }
     requires listed { party < length cells.now }
     requires some { 0 < left_of left.old.items party }
     requires free { waits_of waits.old.items party ≡ 0 }
     requires room { length opened.old.items + count_by (nat_lt 0) waits.old.items
         ≤ vec_capacity opened.old }
-    ensures fits { Fits left.new.items chains.new.items cells.now waits.new.items }
+    ensures fits { CountsFit left.new.items chains.new.items cells.now waits.new.items }
     ensures left { left.new.items
         ≡ slice_set left.old.items party (left_of left.old.items party - 1) }
     ensures chains { SameMembers chains.old.items chains.new.items }
-    ensures answers { Answers waits.old.items waits.new.items opened.old.items opened.new.items }
+    ensures answers { ListsReady waits.old.items waits.new.items opened.old.items opened.new.items }
     ensures capacity { vec_capacity opened.old ≤ vec_capacity opened.new }
 {
     let rest = left[party] - 1;
@@ -64,7 +64,7 @@ pub fn leave_all(
     cells: &[Few<usize>],
     parties: &[usize],
 )
-    requires fits { Fits left.old.items chains.old.items cells.now waits.old.items }
+    requires fits { CountsFit left.old.items chains.old.items cells.now waits.old.items }
     requires known { All (λ n. n < length left.old.items) parties.now }
     requires listed { length cells.now ≡ length left.old.items }
     requires enough { (n : ℕ) → count_by (is_party n) parties.now ≤ left_of left.old.items n }
@@ -72,12 +72,12 @@ pub fn leave_all(
     requires fresh { opened.old.items ≡ [] }
     requires room { length opened.old.items + count_by (nat_lt 0) waits.old.items
         ≤ vec_capacity opened.old }
-    ensures fits { Fits left.new.items chains.new.items cells.now waits.new.items }
+    ensures fits { CountsFit left.new.items chains.new.items cells.now waits.new.items }
     ensures left { (n : ℕ) → left_of left.new.items n + count_by (is_party n) parties.now
         ≡ left_of left.old.items n }
     ensures len { length left.new.items ≡ length left.old.items }
     ensures chains { SameMembers chains.old.items chains.new.items }
-    ensures answers { Answers waits.old.items waits.new.items opened.old.items opened.new.items }
+    ensures answers { ListsReady waits.old.items waits.new.items opened.old.items opened.new.items }
     ensures capacity { vec_capacity opened.old ≤ vec_capacity opened.new }
 {
     for party in parties {

@@ -10,8 +10,8 @@ use Rattle.sj_desk.specs.declared.view.View.{View}
 use Rattle.sj_desk.specs.declared.view.Opening.{Opening}
 use Rattle.sj_desk.specs.declared.view.Heard.{Heard}
 use Rattle.sj_desk.specs.Seats.{DeskFacts, SeatFacts, new_seat, HasRowLeft, HasEachNumber}
-use Rattle.sj_desk.specs.Views.{no_tally, IsSeated, seat_facts, left_of, sitting, ended, opening_rows, first_view, at_stage, dealing, dealt, joined, seated, desk_facts, opening_of, IsRowOf, IsIdle, IsDealer, Gathered}
-use Rattle.sj_desk.specs.Turns.{IsRuled, Fills, Opens}
+use Rattle.sj_desk.specs.Views.{no_tally, HasOwnRow, seat_facts, value_left, sitting, ended, opening_rows, first_view, at_stage, dealing, dealt, joined_seat, seated, desk_facts, opening_of, IsRowOf, IsOutOfTurn, IsDealer, Gathered}
+use Rattle.sj_desk.specs.Turns.{IsRuled, FillsSlot, OpensDesk}
 use Rattle.sj_desk.proofs.Lists.{opening_next}
 use Rattle.std.proofs.lemmas.List.FromFn.{map-range_with_len_more}
 use Rattle.sj_base.proofs.Options.{IsSomeAnd-from}
@@ -83,12 +83,12 @@ module _ {T : Type 0} where
   -- a seat that was taken from the list
   pub record IsTaken (ts : TableId) (number : ℕ) (me : Me (Option T) (View T)) (d : DeskFacts T) (s : SeatFacts T) : Type 0 where
     pub table : ts ≡ d.table
-    pub idle : IsIdle d me.0.rows me
+    pub idle : IsOutOfTurn d me.0.rows me
     pub left : T
     pub rows : me.0.rows ≡ (number, left) ∷ []
     pub row : IsRowOf s (number, left)
 
-  pub taken : (ts td : TableId) (number : ℕ) (heard : Option Heard) (me : Me (Option T) (View T)) (k : Opening T) (d : DeskFacts T) (s : SeatFacts T) → IsSeated number heard me → seat_facts ts number me.0 ≡ s → desk_facts td k ≡ d
+  pub taken : (ts td : TableId) (number : ℕ) (heard : Option Heard) (me : Me (Option T) (View T)) (k : Opening T) (d : DeskFacts T) (s : SeatFacts T) → HasOwnRow number heard me → seat_facts ts number me.0 ≡ s → desk_facts td k ≡ d
       → s.desk ≡ Some d → s.found ≡ None → IsTaken ts number me d s
   taken ts td number heard me k d s sat seen desk of idle =
       let at = sits ts td number heard me k None s d sat seen desk of idle in
@@ -99,16 +99,16 @@ module _ {T : Type 0} where
         idle = (at.tally, at.me_is ∙ (λ i. (sitting (key i) (sym rows i) at.tally 2, [])));
         left = at.left;
         rows = rows;
-        row = (ap (λ (x : SeatFacts T). x.number) (sym seen), ap (λ (x : SeatFacts T). x.left) (sym seen) ∙ ap left_of rows);
+        row = (ap (λ (x : SeatFacts T). x.number) (sym seen), ap (λ (x : SeatFacts T). x.left) (sym seen) ∙ ap value_left rows);
       }
 
-  pub joined_idle : (d : DeskFacts T) (m n : Me (Option T) (View T)) (w : View T) → IsIdle d m.0.rows m → n ≡ (joined m.0 w, m.1) → IsIdle d n.0.rows n
+  pub joined_idle : (d : DeskFacts T) (m n : Me (Option T) (View T)) (w : View T) → IsOutOfTurn d m.0.rows m → n ≡ (joined_seat m.0 w, m.1) → IsOutOfTurn d n.0.rows n
   joined_idle d m n w idle is =
-      let e : n ≡ (sitting (opening_of d) (w.rows ++ m.0.rows) idle.0 2, []) = is ∙ ap (λ (x : Me (Option T) (View T)). (joined x.0 w, x.1)) idle.1 in
+      let e : n ≡ (sitting (opening_of d) (w.rows ++ m.0.rows) idle.0 2, []) = is ∙ ap (λ (x : Me (Option T) (View T)). (joined_seat x.0 w, x.1)) idle.1 in
       let rows : n.0.rows ≡ w.rows ++ m.0.rows = ap (λ (x : Me (Option T) (View T)). x.0.rows) e in
       (idle.0, e ∙ ap (λ (l : List (ℕ × T)). (sitting (opening_of d) l idle.0 2, [])) (sym rows))
 
-  pub joined_rows : (m n : Me (Option T) (View T)) (w : View T) (r : ℕ × T) → w.rows ≡ r ∷ [] → n ≡ (joined m.0 w, m.1) → n.0.rows ≡ r ∷ m.0.rows
+  pub joined_rows : (m n : Me (Option T) (View T)) (w : View T) (r : ℕ × T) → w.rows ≡ r ∷ [] → n ≡ (joined_seat m.0 w, m.1) → n.0.rows ≡ r ∷ m.0.rows
   joined_rows m n w r e is = ap (λ (x : Me (Option T) (View T)). x.0.rows) is ∙ ap (λ (l : List (ℕ × T)). l ++ m.0.rows) e
 
 module _ {T R : Type 0} (row_of : T → ℕ → R) (fits : Opening T → T → Type 0) (k : Opening T) (td : TableId) (d : DeskFacts T) (desk : desk_facts td k ≡ d) where
@@ -116,26 +116,26 @@ module _ {T R : Type 0} (row_of : T → ℕ → R) (fits : Opening T → T → T
   same_key = ap (λ (x : DeskFacts T). opening_of x) (sym desk)
 
   pub fills_at : (slots id : ℕ) (me : Me (Option T) (View T)) → slots ≡ 1 → id ≡ 0 → me ≡ (first_view (opening_of d), [])
-      → Allows (IsRuled row_of fits k) slots id me 0 (λ n. n) (λ _ n. Fills me n)
+      → Allows (IsRuled row_of fits k) slots id me 0 (λ n. n) (λ _ n. FillsSlot me n)
   fills_at slots id me one first e =
-      subst (λ x. Allows (IsRuled row_of fits k) x id me 0 (λ n. n) (λ _ n. Fills me n)) (sym one)
-      (subst (λ (y : Me (Option T) (View T)). Allows (IsRuled row_of fits k) 1 id y 0 (λ n. n) (λ _ n. Fills y n)) (sym (e ∙ ap (λ (x : Opening T). (first_view x, [])) same_key))
+      subst (λ x. Allows (IsRuled row_of fits k) x id me 0 (λ n. n) (λ _ n. FillsSlot me n)) (sym one)
+      (subst (λ (y : Me (Option T) (View T)). Allows (IsRuled row_of fits k) 1 id y 0 (λ n. n) (λ _ n. FillsSlot y n)) (sym (e ∙ ap (λ (x : Opening T). (first_view x, [])) same_key))
       (fills row_of fits k id first))
 
-  pub filled_in : (value : T) (m n o : Me (Option T) (View T)) → m ≡ (first_view (opening_of d), []) → Fills m n → o ≡ (n.0, (0, Some value) ∷ rest n.1) → value ≡ d.opening
+  pub filled_in : (value : T) (m n o : Me (Option T) (View T)) → m ≡ (first_view (opening_of d), []) → FillsSlot m n → o ≡ (n.0, (0, Some value) ∷ rest n.1) → value ≡ d.opening
       → o ≡ (at_stage 1 (first_view k), (0, Some k.value) ∷ [])
   filled_in value m n o e f is opening =
       is ∙ ap (λ (x : Me (Option T) (View T)). (x.0, (0, Some value) ∷ rest x.1)) (f ∙ ap (λ (x : Me (Option T) (View T)). (at_stage 1 x.0, (0, None) ∷ x.1)) (e ∙ ap (λ (x : Opening T). (first_view x, [])) same_key))
       ∙ ap (λ (x : T). (at_stage 1 (first_view k), (0, Some x) ∷ [])) (opening ∙ ap (λ (x : DeskFacts T). x.opening) (sym desk))
 
   pub opens_at : (slots id : ℕ) (me : Me (Option T) (View T)) → slots ≡ 1 → id ≡ 0 → fits k k.value → me ≡ (at_stage 1 (first_view k), (0, Some k.value) ∷ [])
-      → Allows (IsRuled row_of fits k) slots id me 0 (λ _. 0) (λ _ n. Opens me n)
+      → Allows (IsRuled row_of fits k) slots id me 0 (λ _. 0) (λ _ n. OpensDesk me n)
   opens_at slots id me one first fit e =
-      subst (λ x. Allows (IsRuled row_of fits k) x id me 0 (λ _. 0) (λ _ n. Opens me n)) (sym one)
-      (subst (λ (y : Me (Option T) (View T)). Allows (IsRuled row_of fits k) 1 id y 0 (λ _. 0) (λ _ n. Opens y n)) (sym e)
+      subst (λ x. Allows (IsRuled row_of fits k) x id me 0 (λ _. 0) (λ _ n. OpensDesk me n)) (sym one)
+      (subst (λ (y : Me (Option T) (View T)). Allows (IsRuled row_of fits k) 1 id y 0 (λ _. 0) (λ _ n. OpensDesk y n)) (sym e)
       (opens row_of fits k id first fit))
 
-  pub opened_in : (m n : Me (Option T) (View T)) → m ≡ (at_stage 1 (first_view k), (0, Some k.value) ∷ []) → Opens m n → IsDealer d 0 n
+  pub opened_in : (m n : Me (Option T) (View T)) → m ≡ (at_stage 1 (first_view k), (0, Some k.value) ∷ []) → OpensDesk m n → IsDealer d 0 n
   opened_in m n e f =
       let whole : k.seats ≡ k.seats - 0 = omega arith in
       f ∙ ap (λ (x : Me (Option T) (View T)). (at_stage 2 x.0, rest x.1)) e ∙ ap (λ (n : ℕ). (sitting k (opening_rows k.value 0 n) no_tally 2, [])) whole
@@ -150,16 +150,16 @@ module _ {T R : Type 0} (row_of : T → ℕ → R) (fits : Opening T → T → T
       ap (λ (x : Me (Option T) (View T)). x.0) e ∙ ap (λ (l : List (ℕ × T)). sitting (opening_of d) l no_tally 2) (opening_next d.opening a d.seats below) ∙ to_key in
       subst (λ (y : View T). Splits (IsRuled row_of fits k) id y (dealing y) (dealt y)) (sym v) (deals row_of fits k id a (d.seats - (a + 1)))
 
-  pub joins_at : (id other : ℕ) (m n : Me (Option T) (View T)) (rows more : List (ℕ × T)) → IsIdle d rows m → IsIdle d more n
-      → Joins (IsRuled row_of fits k) id m.0 other n.0 (joined m.0 n.0) ended
+  pub joins_at : (id other : ℕ) (m n : Me (Option T) (View T)) (rows more : List (ℕ × T)) → IsOutOfTurn d rows m → IsOutOfTurn d more n
+      → Joins (IsRuled row_of fits k) id m.0 other n.0 (joined_seat m.0 n.0) ended
   joins_at id other m n rows more idle idle' =
       let v : m.0 ≡ sitting k rows idle.0 2 = ap (λ (x : Me (Option T) (View T)). x.0) idle.1 ∙ ap (λ (x : Opening T). sitting x rows idle.0 2) same_key in
       let w : n.0 ≡ sitting k more idle'.0 2 = ap (λ (x : Me (Option T) (View T)). x.0) idle'.1 ∙ ap (λ (x : Opening T). sitting x more idle'.0 2) same_key in
-      subst (λ (y : View T). Joins (IsRuled row_of fits k) id y other n.0 (joined y n.0) ended) (sym v)
-      (subst (λ (y : View T). Joins (IsRuled row_of fits k) id (sitting k rows idle.0 2) other y (joined (sitting k rows idle.0 2) y) ended) (sym w)
+      subst (λ (y : View T). Joins (IsRuled row_of fits k) id y other n.0 (joined_seat y n.0) ended) (sym v)
+      (subst (λ (y : View T). Joins (IsRuled row_of fits k) id (sitting k rows idle.0 2) other y (joined_seat (sitting k rows idle.0 2) y) ended) (sym w)
       (gathers row_of fits k id other rows more idle.0 idle'.0))
 
-  pub closes_at : (id : ℕ) (me : Me (Option T) (View T)) (words : List ℕ) (slots : List (Option T)) → IsIdle d me.0.rows me
+  pub closes_at : (id : ℕ) (me : Me (Option T) (View T)) (words : List ℕ) (slots : List (Option T)) → IsOutOfTurn d me.0.rows me
       → ((n : ℕ) → n < d.seats → (r : ℕ × T) × Contains me.0.rows r × (r.0 ≡ n)) → Final (Seen (IsRuled row_of fits k) id me.0) words slots → Closes row_of fits k me.0.rows slots
   closes_at id me words slots idle whole final =
       let v : me.0 ≡ sitting k me.0.rows idle.0 2 = ap (λ (x : Me (Option T) (View T)). x.0) idle.1 ∙ ap (λ (x : Opening T). sitting x me.0.rows idle.0 2) same_key in

@@ -12,8 +12,8 @@ use Rattle.sj_desk.specs.declared.view.Opening.{Opening}
 use Rattle.sj_desk.specs.declared.view.Tally.{Tally}
 use Rattle.sj_desk.specs.declared.view.Heard.{Heard}
 use Rattle.sj_desk.specs.Seats.{DeskFacts, SeatFacts, KeepsOtherRows, hearing, rung}
-use Rattle.sj_desk.specs.Views.{view, tally, heard_at, one_more, hearing_tally, rung_tally, seated, refused_view, hearing_view, rung_view, found_view, left_by, renewed_by, IsSeated, desk_facts, desk_of, opening_of, seat_facts}
-use Rattle.sj_desk.specs.Turns.{IsRuled, Finds, Tries, Marks, Leaves, Renews, Hears, Rings, Rests}
+use Rattle.sj_desk.specs.Views.{view, tally, heard_at, one_refusal_more, hearing_tally, rung_tally, seated, refused_view, hearing_view, rung_view, found_view, left_by, renewed_by, HasOwnRow, desk_facts, desk_of, opening_of, seat_facts}
+use Rattle.sj_desk.specs.Turns.{IsRuled, FindsValue, Tries, MarksWaiting, Leaves, Renews, Hears, Rings, Rests}
 use Rattle.sj_desk.proofs.Steps.{tries, marks, leaves, renews, hears, rings, rests}
 
 pub none_heard : (o : Option Heard) → o ≡ None → is_some o ≡ true → ⊥
@@ -29,7 +29,7 @@ module _ {T : Type 0} where
     pub me_is : me ≡ seated k number left found tally
 
   pub sits : (ts td : TableId) (number : ℕ) (heard : Option Heard) (me : Me (Option T) (View T)) (k : Opening T) (found : Option T) (s : SeatFacts T) (d : DeskFacts T)
-      → IsSeated number heard me → seat_facts ts number me.0 ≡ s → desk_facts td k ≡ d → s.desk ≡ Some d → s.found ≡ found → SitsAt ts td number heard me k found
+      → HasOwnRow number heard me → seat_facts ts number me.0 ≡ s → desk_facts td k ≡ d → s.desk ≡ Some d → s.found ≡ found → SitsAt ts td number heard me k found
   sits ts td number heard me k found s d sat seen desk of is =
       let e : desk_facts ts sat.opening ≡ desk_facts td k =
       same_Some (desk_facts ts sat.opening) (desk_facts td k) (ap (λ (m : Me (Option T) (View T)). desk_of ts m.0.opening) (sym sat.me_is) ∙ ap (λ (x : SeatFacts T). x.desk) seen ∙ of ∙ ap Some (sym desk)) in
@@ -44,7 +44,7 @@ module _ {T : Type 0} where
       }
 
   -- the bell that the seat heard is the one that contracts see
-  pub heard_seen : (ts : TableId) (number : ℕ) (heard : Option Heard) (me : Me (Option T) (View T)) (s : SeatFacts T) → IsSeated number heard me → seat_facts ts number me.0 ≡ s → heard ≡ s.heard
+  pub heard_seen : (ts : TableId) (number : ℕ) (heard : Option Heard) (me : Me (Option T) (View T)) (s : SeatFacts T) → HasOwnRow number heard me → seat_facts ts number me.0 ≡ s → heard ≡ s.heard
   heard_seen ts number heard me s sat seen = sym sat.hears ∙ ap (λ (m : Me (Option T) (View T)). m.0.tally.heard) (sym sat.me_is) ∙ ap (λ (x : SeatFacts T). x.heard) seen
 
   -- what the seat found in its turn, and the rows that are kept
@@ -63,24 +63,24 @@ module _ {T : Type 0} where
   same_out l x y d e = ap first_out (sym d ∙ e)
 
   pub busy_seated : (number : ℕ) (heard : Option Heard) (left : T) (c : Tally) (k : Opening T) (m n : Me (Option T) (View T)) → c.heard ≡ heard → m ≡ seated k number left None c
-      → n ≡ (refused_view m.0, m.1) → IsSeated number heard n
+      → n ≡ (refused_view m.0, m.1) → HasOwnRow number heard n
   busy_seated number heard left c k m n hears e busy = record {
     opening = k;
     left = left;
     found = None;
-    tally = one_more c;
+    tally = one_refusal_more c;
     hears = hears;
     me_is = busy ∙ ap (λ (x : Me (Option T) (View T)). (refused_view x.0, x.1)) e;
   }
 
   pub marked_seated : (number : ℕ) (heard : Option Heard) (left : T) (c : Tally) (k : Opening T) (m n : Me (Option T) (View T)) (r : ℕ) → c.heard ≡ heard → m ≡ seated k number left None c
-      → Marks m r n → IsSeated number heard n
+      → MarksWaiting m r n → HasOwnRow number heard n
   marked_seated number heard left c k m n r hears e marked = dite (ℕ_discrete r 0)
       (λ free. record { opening = k; left = left; found = None; tally = c; hears = hears; me_is = marked.free free ∙ e })
       (λ busy. busy_seated number heard left c k m n hears e (marked.busy busy))
 
   pub hearing_seated : (number word bell : ℕ) (left : T) (found : Option T) (c : Tally) (k : Opening T) (m n : Me (Option T) (View T)) (r : ℕ) → word ≡ 1 + bell → m ≡ seated k number left found c
-      → Hears word m r n → IsSeated number (Some (heard_at bell r)) n
+      → Hears word m r n → HasOwnRow number (Some (heard_at bell r)) n
   hearing_seated number word bell left found c k m n r is e heard =
       let same : heard.bell ≡ bell = (let told = heard.word_is in omega (arith, told, is)) in
       record {
@@ -100,7 +100,7 @@ module _ {T : Type 0} where
       ap (λ (x : Me (Option T) (View T)). seat_facts ts number x.0) heard.seat ∙ (λ p. hearing (seen p) (Some (heard_at (same p) r)))
 
   pub rung_seated : (number word : ℕ) (heard : Option Heard) (left : T) (found : Option T) (c : Tally) (k : Opening T) (m n : Me (Option T) (View T)) → c.heard ≡ heard
-      → m ≡ seated k number left found c → Rings word m n → IsSeated number heard n
+      → m ≡ seated k number left found c → Rings word m n → HasOwnRow number heard n
   rung_seated number word heard left found c k m n hears e rang = record {
     opening = k;
     left = left;
@@ -116,7 +116,7 @@ module _ {T : Type 0} where
       let same : rang.bell ≡ bell = (let told = rang.word_is in omega (arith, told, is)) in
       ap (λ (x : Me (Option T) (View T)). seat_facts ts number x.0) rang.seat ∙ (λ p. rung (seen p) (same p))
 
-  pub rested_seated : (number : ℕ) (left : T) (c : Tally) (k : Opening T) (m n : Me (Option T) (View T)) → m ≡ seated k number left None c → n ≡ (hearing_view m.0 None, m.1) → IsSeated number None n
+  pub rested_seated : (number : ℕ) (left : T) (c : Tally) (k : Opening T) (m n : Me (Option T) (View T)) → m ≡ seated k number left None c → n ≡ (hearing_view m.0 None, m.1) → HasOwnRow number None n
   rested_seated number left c k m n e rung = record {
     opening = k;
     left = left;
@@ -142,7 +142,7 @@ module _ {T : Type 0} where
   put_in number left found value c k m n e is = is ∙ ap (λ (x : Me (Option T) (View T)). (x.0, (0, Some value) ∷ rest x.1)) e
 
   pub left_seated : (number : ℕ) (heard : Option Heard) (left found value : T) (c : Tally) (k : Opening T) (m n o : Me (Option T) (View T)) → c.heard ≡ heard → m ≡ seated k number left (Some found) c → n ≡ (m.0, (0, Some value) ∷ rest m.1)
-      → Leaves n o → IsSeated number heard o
+      → Leaves n o → HasOwnRow number heard o
   left_seated number heard left found value c k m n o hears e is gone = record {
     opening = k;
     left = value;
@@ -165,7 +165,7 @@ module _ {T : Type 0} where
       l ∙ ap (λ (y : List (ℕ × Option T)). (0, Some value) ∷ rest y) (sym l)
 
   pub renewed_seated : (number : ℕ) (heard : Option Heard) (left found value : T) (c : Tally) (k : Opening T) (m n o p : Me (Option T) (View T)) → c.heard ≡ heard → m ≡ seated k number left (Some found) c
-      → n ≡ (m.0, (0, Some value) ∷ rest m.1) → Renews n o → p ≡ (o.0, (0, None) ∷ rest o.1) → IsSeated number heard p
+      → n ≡ (m.0, (0, Some value) ∷ rest m.1) → Renews n o → p ≡ (o.0, (0, None) ∷ rest o.1) → HasOwnRow number heard p
   renewed_seated number heard left found value c k m n o p hears e is renewed out = record {
     opening = k;
     left = value;
@@ -194,10 +194,10 @@ module _ {T R : Type 0} (row_of : T → ℕ → R) (fits : Opening T → T → T
       (tries row_of fits k id number left c mark marked))
 
   pub marks_at : (slots id number : ℕ) (left : T) (c : Tally) (me : Me (Option T) (View T)) → slots ≡ 1 → me ≡ seated k number left None c
-      → Allows (IsRuled row_of fits k) slots id me 0 (λ n. either (n == 1) 2 n) (λ r n. Marks me r n)
+      → Allows (IsRuled row_of fits k) slots id me 0 (λ n. either (n == 1) 2 n) (λ r n. MarksWaiting me r n)
   marks_at slots id number left c me one e =
-      subst (λ x. Allows (IsRuled row_of fits k) x id me 0 (λ n. either (n == 1) 2 n) (λ r n. Marks me r n)) (sym one)
-      (subst (λ (y : Me (Option T) (View T)). Allows (IsRuled row_of fits k) 1 id y 0 (λ n. either (n == 1) 2 n) (λ r n. Marks y r n)) (sym e)
+      subst (λ x. Allows (IsRuled row_of fits k) x id me 0 (λ n. either (n == 1) 2 n) (λ r n. MarksWaiting me r n)) (sym one)
+      (subst (λ (y : Me (Option T) (View T)). Allows (IsRuled row_of fits k) 1 id y 0 (λ n. either (n == 1) 2 n) (λ r n. MarksWaiting y r n)) (sym e)
       (marks row_of fits k id number left c))
 
   pub hears_at : (slots id number word bell : ℕ) (left : T) (found : Option T) (c : Tally) (me : Me (Option T) (View T)) → slots ≡ 1 → word ≡ 1 + bell → me ≡ seated k number left found c
@@ -238,11 +238,11 @@ module _ {T R : Type 0} (row_of : T → ℕ → R) (fits : Opening T → T → T
       (renews row_of fits k id number word left found value c behind others))
 
   -- after the try that took the turn, the slot is out with its value
-  pub found_out : (m n : Me (Option T) (View T)) → (f : Finds row_of fits m n) → n.1 ≡ (0, Some f.value) ∷ rest n.1
+  pub found_out : (m n : Me (Option T) (View T)) → (f : FindsValue row_of fits m n) → n.1 ≡ (0, Some f.value) ∷ rest n.1
   found_out m n f = let e : n.1 ≡ (0, Some f.value) ∷ m.1 = ap (λ (x : Me (Option T) (View T)). x.1) f.seat in e ∙ ap (λ (l : List (ℕ × Option T)). (0, Some f.value) ∷ rest l) (sym e)
 
-  pub found_seated : (number : ℕ) (heard : Option Heard) (left : T) (c : Tally) (m n o : Me (Option T) (View T)) → c.heard ≡ heard → m ≡ seated k number left None c → Finds row_of fits m n → o ≡ (n.0, (0, None) ∷ rest n.1)
-      → IsSeated number heard o
+  pub found_seated : (number : ℕ) (heard : Option Heard) (left : T) (c : Tally) (m n o : Me (Option T) (View T)) → c.heard ≡ heard → m ≡ seated k number left None c → FindsValue row_of fits m n → o ≡ (n.0, (0, None) ∷ rest n.1)
+      → HasOwnRow number heard o
   found_seated number heard left c m n o hears e f is = record {
     opening = k;
     left = left;
@@ -252,5 +252,5 @@ module _ {T R : Type 0} (row_of : T → ℕ → R) (fits : Opening T → T → T
     me_is = is ∙ ap (λ (x : Me (Option T) (View T)). (x.0, (0, None) ∷ rest x.1)) (f.seat ∙ ap (λ (x : Me (Option T) (View T)). (found_view x.0 f.value, (0, Some f.value) ∷ x.1)) e);
   }
 
-  pub found_fits : (m n : Me (Option T) (View T)) (r : Option T) (P : T → Type 0) → (f : Finds row_of fits m n) → n.1 ≡ (0, r) ∷ rest n.1 → P f.value → IfSome r P
+  pub found_fits : (m n : Me (Option T) (View T)) (r : Option T) (P : T → Type 0) → (f : FindsValue row_of fits m n) → n.1 ≡ (0, r) ∷ rest n.1 → P f.value → IfSome r P
   found_fits m n r P f e p = subst (λ x. IfSome x P) (same_out n.1 (Some f.value) r (found_out m n f) e) p

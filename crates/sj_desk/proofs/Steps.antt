@@ -14,8 +14,8 @@ use Rattle.sj_desk.specs.declared.view.View.{View}
 use Rattle.sj_desk.specs.declared.view.Opening.{Opening}
 use Rattle.sj_desk.specs.declared.view.Tally.{Tally}
 use Rattle.sj_desk.specs.declared.view.Heard.{Heard}
-use Rattle.sj_desk.specs.Views.{view, tally, heard_at, no_tally, one_more, hearing_tally, rung_tally, sitting, ended, opening_rows, first_view, at_stage, found_view, dealing, dealt, joined, seated}
-use Rattle.sj_desk.specs.Turns.{IsKeptRow, IsKeptView, IsHolder, IsOpen, made, filled, IsWith, IsRuled, Tries, Marks, Leaves, Renews, Hears, Rings, Rests, Fills, Opens}
+use Rattle.sj_desk.specs.Views.{view, tally, heard_at, no_tally, one_refusal_more, hearing_tally, rung_tally, sitting, ended, opening_rows, first_view, at_stage, found_view, dealing, dealt, joined_seat, seated}
+use Rattle.sj_desk.specs.Turns.{IsKeptRow, IsKeptView, IsHolder, IsDeskOpen, made, filled, IsWith, IsRuled, Tries, MarksWaiting, Leaves, Renews, Hears, Rings, Rests, FillsSlot, OpensDesk}
 use Rattle.sj_desk.proofs.Lists.{within, only, only_place, at_end, after_set, each_at, opening_each, opening_weaker}
 
 -- a seat that isn't in its turn is not the holder
@@ -41,7 +41,7 @@ module _ {T R : Type 0} (row_of : T → ℕ → R) (fits : Opening T → T → T
   abbrev Ruled : State (Option T) (View T) → Type 0
   Ruled = IsRuled row_of fits k
 
-  open_now : (s : State (Option T) (View T)) (id : ℕ) (v : View T) → Ruled s → get_elem? s.views id ≡ some v → v.stage ≡ 2 → IsOpen row_of fits k s
+  open_now : (s : State (Option T) (View T)) (id : ℕ) (v : View T) → Ruled s → get_elem? s.views id ≡ some v → v.stage ≡ 2 → IsDeskOpen row_of fits k s
   open_now s id v (inl is) at two =
       let same : first_view k ≡ v = only (first_view k) v id (subst (λ (x : State (Option T) (View T)). get_elem? x.views id ≡ some v) is.2 at) in
       let stage : 0 ≡ v.stage = ap (λ (x : View T). x.stage) same in
@@ -52,9 +52,9 @@ module _ {T R : Type 0} (row_of : T → ℕ → R) (fits : Opening T → T → T
       absurd (omega arith)
   open_now s id v (inr (inr o)) at two = o
 
-  seized : (s : State (Option T) (View T)) (o : IsOpen row_of fits k s) (id number : ℕ) (left : T) (c : Tally) (mark : ℕ) → mark ≢ 0 → slice_index s.words 0 ≡ 0
+  seized : (s : State (Option T) (View T)) (o : IsDeskOpen row_of fits k s) (id number : ℕ) (left : T) (c : Tally) (mark : ℕ) → mark ≢ 0 → slice_index s.words 0 ≡ 0
       → get_elem? s.views id ≡ some (sitting k ((number, left) ∷ []) c 2)
-      → IsOpen row_of fits k (stepped s 0 mark id [] (found_view (sitting k ((number, left) ∷ []) c 2) o.current) (takes 0 (Some o.current)))
+      → IsDeskOpen row_of fits k (stepped s 0 mark id [] (found_view (sitting k ((number, left) ∷ []) c 2) o.current) (takes 0 (Some o.current)))
   seized s o id number left c mark marked free at =
       let v : View T = sitting k ((number, left) ∷ []) c 2 in
       let w : View T = found_view v o.current in
@@ -73,9 +73,9 @@ module _ {T R : Type 0} (row_of : T → ℕ → R) (fits : Opening T → T → T
       }
 
   -- a step of a seat that isn't in its turn, which leaves a free word free and a taken one taken
-  watched : (s : State (Option T) (View T)) (o : IsOpen row_of fits k s) (id : ℕ) (rows : List (ℕ × T)) (c d : Tally) (n : ℕ)
+  watched : (s : State (Option T) (View T)) (o : IsDeskOpen row_of fits k s) (id : ℕ) (rows : List (ℕ × T)) (c d : Tally) (n : ℕ)
       → get_elem? s.views id ≡ some (sitting k rows c 2) → (n ≡ 0 → slice_index s.words 0 ≡ 0) → (slice_index s.words 0 ≡ 0 → n ≡ 0)
-      → IsOpen row_of fits k (stepped s 0 n id [] (sitting k rows d 2) keeps)
+      → IsDeskOpen row_of fits k (stepped s 0 n id [] (sitting k rows d 2) keeps)
   watched s o id rows c d n at back forth =
       let v : View T = sitting k rows c 2 in
       let w : View T = sitting k rows d 2 in
@@ -126,15 +126,15 @@ module _ {T R : Type 0} (row_of : T → ℕ → R) (fits : Opening T → T → T
         },
       ))
       (λ busy. (
-        sitting k ((number, left) ∷ []) (one_more c) 2,
+        sitting k ((number, left) ∷ []) (one_refusal_more c) 2,
         keeps,
         tt,
-        inr (inr (watched s o id ((number, left) ∷ []) c (one_more c) n at (λ e. e) (λ e. e))),
+        inr (inr (watched s o id ((number, left) ∷ []) c (one_refusal_more c) n at (λ e. e) (λ e. e))),
         record { taken = λ free. absurd (busy free); busy = λ _. refl },
       ))
 
   pub marks : (id number : ℕ) (left : T) (c : Tally)
-      → Allows Ruled 1 id (seated k number left None c) 0 (λ n. either (n == 1) 2 n) (λ r n. Marks (seated k number left None c) r n)
+      → Allows Ruled 1 id (seated k number left None c) 0 (λ n. either (n == 1) 2 n) (λ r n. MarksWaiting (seated k number left None c) r n)
   marks id number left c s ruled wide at _ =
       let v : View T = sitting k ((number, left) ∷ []) c 2 in
       let o = open_now s id v ruled at refl in
@@ -148,17 +148,17 @@ module _ {T R : Type 0} (row_of : T → ℕ → R) (fits : Opening T → T → T
         record { free = λ _. refl; busy = λ ne. absurd (ne free) },
       ))
       (λ busy. (
-        sitting k ((number, left) ∷ []) (one_more c) 2,
+        sitting k ((number, left) ∷ []) (one_refusal_more c) 2,
         keeps,
         tt,
-        inr (inr (watched s o id ((number, left) ∷ []) c (one_more c) (either (eqb n 1) 2 n) at (free_marked n) (marked_free n))),
+        inr (inr (watched s o id ((number, left) ∷ []) c (one_refusal_more c) (either (eqb n 1) 2 n) at (free_marked n) (marked_free n))),
         record { free = λ e. absurd (busy e); busy = λ _. refl },
       ))
 
   -- a step on a bell, which leaves the seat's rows and what it found
-  at_bell : (s : State (Option T) (View T)) (o : IsOpen row_of fits k s) (id number word : ℕ) (left : T) (found : Option T) (c d : Tally) (n : ℕ)
+  at_bell : (s : State (Option T) (View T)) (o : IsDeskOpen row_of fits k s) (id number word : ℕ) (left : T) (found : Option T) (c d : Tally) (n : ℕ)
       → word ≢ 0 → get_elem? s.views id ≡ some (view (Some k) ((number, left) ∷ []) found c 2)
-      → IsOpen row_of fits k (stepped s word n id [] (view (Some k) ((number, left) ∷ []) found d 2) keeps)
+      → IsDeskOpen row_of fits k (stepped s word n id [] (view (Some k) ((number, left) ∷ []) found d 2) keeps)
   at_bell s o id number word left found c d n behind at =
       let v : View T = view (Some k) ((number, left) ∷ []) found c 2 in
       let w : View T = view (Some k) ((number, left) ∷ []) found d 2 in
@@ -250,10 +250,10 @@ module _ {T R : Type 0} (row_of : T → ℕ → R) (fits : Opening T → T → T
       })
       rows
 
-  released : (s : State (Option T) (View T)) (o : IsOpen row_of fits k s) (id number : ℕ) (left found value : T) (c : Tally) → length s.homes ≡ 1 → fits k value
+  released : (s : State (Option T) (View T)) (o : IsDeskOpen row_of fits k s) (id number : ℕ) (left found value : T) (c : Tally) → length s.homes ≡ 1 → fits k value
       → ((n : ℕ) → n < k.seats → n ≢ number → row_of value n ≡ row_of found n)
       → get_elem? s.views id ≡ some (view (Some k) ((number, left) ∷ []) (Some found) c 2)
-      → IsOpen row_of fits k (stepped s 0 0 id ((0, Some value) ∷ []) (sitting k ((number, value) ∷ []) c 2) gives)
+      → IsDeskOpen row_of fits k (stepped s 0 0 id ((0, Some value) ∷ []) (sitting k ((number, value) ∷ []) c 2) gives)
   released s o id number left found value c wide fit others at =
       let v : View T = view (Some k) ((number, left) ∷ []) (Some found) c 2 in
       let w : View T = sitting k ((number, value) ∷ []) c 2 in
@@ -285,10 +285,10 @@ module _ {T R : Type 0} (row_of : T → ℕ → R) (fits : Opening T → T → T
       (sitting k ((number, value) ∷ []) c 2, gives, tt, inr (inr (released s o id number left found value c wide fit others at)), refl)
 
   -- a step behind the turn word, by the holder, with its value in the slot
-  renewed : (s : State (Option T) (View T)) (o : IsOpen row_of fits k s) (id number word : ℕ) (left found value : T) (c : Tally) → word ≢ 0
+  renewed : (s : State (Option T) (View T)) (o : IsDeskOpen row_of fits k s) (id number word : ℕ) (left found value : T) (c : Tally) → word ≢ 0
       → ((n : ℕ) → n < k.seats → n ≢ number → row_of value n ≡ row_of found n)
       → get_elem? s.views id ≡ some (view (Some k) ((number, left) ∷ []) (Some found) c 2)
-      → IsOpen row_of fits k (stepped s word (slice_index s.words word) id ((0, Some value) ∷ []) (view (Some k) ((number, value) ∷ []) (Some value) c 2) keeps)
+      → IsDeskOpen row_of fits k (stepped s word (slice_index s.words word) id ((0, Some value) ∷ []) (view (Some k) ((number, value) ∷ []) (Some value) c 2) keeps)
   renewed s o id number word left found value c behind others at =
       let v : View T = view (Some k) ((number, left) ∷ []) (Some found) c 2 in
       let w : View T = view (Some k) ((number, value) ∷ []) (Some value) c 2 in
@@ -340,16 +340,16 @@ module _ {T R : Type 0} (row_of : T → ℕ → R) (fits : Opening T → T → T
   filled_now s id (inr (inl is)) at = is
   filled_now s id (inr (inr o)) at = let stage : ◌≡◌ {A = ℕ} 1 2 = (o.views id (at_stage 1 (first_view k)) at).stage in absurd (omega arith)
 
-  pub fills : (id : ℕ) → id ≡ 0 → Allows Ruled 1 id (first_view k, []) 0 (λ n. n) (λ _ n. Fills (first_view k, []) n)
+  pub fills : (id : ℕ) → id ≡ 0 → Allows Ruled 1 id (first_view k, []) 0 (λ n. n) (λ _ n. FillsSlot (first_view k, []) n)
   fills id first s ruled wide at _ =
-      let P : ℕ → State (Option T) (View T) → Type 0 = λ i x. (w : View T) × (a : Act (Option T)) × Valid x.homes [] a × Ruled (stepped x 0 (slice_index x.words 0) i [] w a) × Fills (first_view k, []) (w, carried_after [] a) in
+      let P : ℕ → State (Option T) (View T) → Type 0 = λ i x. (w : View T) × (a : Act (Option T)) × Valid x.homes [] a × Ruled (stepped x 0 (slice_index x.words 0) i [] w a) × FillsSlot (first_view k, []) (w, carried_after [] a) in
       let now = made_now s id ruled at in
       let words = now.0 in
       subst (λ i. P i s) (sym first) (subst (P 0) (sym now.2)
       (at_stage 1 (first_view k), takes 0 None, refl, inr (inl (set words 0 (slice_index words 0), length-set words 0 (slice_index words 0) ∙ now.1, refl)), refl))
 
   opened : (words : List ℕ) → length words ≡ 257 → fits k k.value
-      → IsOpen row_of fits k (record { words = set words 0 0; homes = some (Some k.value) ∷ []; views = at_stage 2 (first_view k) ∷ [] })
+      → IsDeskOpen row_of fits k (record { words = set words 0 0; homes = some (Some k.value) ∷ []; views = at_stage 2 (first_view k) ∷ [] })
   opened words whole fit =
       let word : slice_index (set words 0 0) 0 ≡ 0 = get_or-set_same words 0 0 0 (omega (arith, whole)) in
       record {
@@ -365,10 +365,10 @@ module _ {T R : Type 0} (row_of : T → ℕ → R) (fits : Opening T → T → T
       }
 
   pub opens : (id : ℕ) → id ≡ 0 → fits k k.value
-      → Allows Ruled 1 id (at_stage 1 (first_view k), (0, Some k.value) ∷ []) 0 (λ _. 0) (λ _ n. Opens (at_stage 1 (first_view k), (0, Some k.value) ∷ []) n)
+      → Allows Ruled 1 id (at_stage 1 (first_view k), (0, Some k.value) ∷ []) 0 (λ _. 0) (λ _ n. OpensDesk (at_stage 1 (first_view k), (0, Some k.value) ∷ []) n)
   opens id first fit s ruled wide at _ =
       let m : Me (Option T) (View T) = (at_stage 1 (first_view k), (0, Some k.value) ∷ []) in
-      let P : ℕ → State (Option T) (View T) → Type 0 = λ i x. (w : View T) × (a : Act (Option T)) × Valid x.homes m.1 a × Ruled (stepped x 0 0 i m.1 w a) × Opens m (w, carried_after m.1 a) in
+      let P : ℕ → State (Option T) (View T) → Type 0 = λ i x. (w : View T) × (a : Act (Option T)) × Valid x.homes m.1 a × Ruled (stepped x 0 0 i m.1 w a) × OpensDesk m (w, carried_after m.1 a) in
       let now = filled_now s id ruled at in
       subst (λ i. P i s) (sym first) (subst (P 0) (sym now.2) (at_stage 2 (first_view k), gives, tt, inr (inr (opened now.0 now.1 fit)), refl))
 
@@ -411,11 +411,11 @@ module _ {T R : Type 0} (row_of : T → ℕ → R) (fits : Opening T → T → T
         views = λ j u there. ⊎_elim (others j u) (last j u) (at_end (set s.views id l) r u j there);
       }))
 
-  pub gathers : (id other : ℕ) (rows more : List (ℕ × T)) (c d : Tally) → let v : View T = sitting k rows c 2 in let w : View T = sitting k more d 2 in Joins Ruled id v other w (joined v w) ended
+  pub gathers : (id other : ℕ) (rows more : List (ℕ × T)) (c d : Tally) → let v : View T = sitting k rows c 2 in let w : View T = sitting k more d 2 in Joins Ruled id v other w (joined_seat v w) ended
   gathers id other rows more c d s ruled at apart there =
       let v : View T = sitting k rows c 2 in
       let w : View T = sitting k more d 2 in
-      let both : View T = joined v w in
+      let both : View T = joined_seat v w in
       let o = open_now s id v ruled at refl in
       let mine = o.views id v at in
       let there' : get_elem? s.views other ≡ some w = sym (set_else s.views id other both apart) ∙ there in

@@ -32,8 +32,8 @@ module _ {T : Type 0} where
   new_seats desk = map (new_seat desk) (range_with_len 0 desk.seats)
 
   -- the seat, after a try that found the turn taken
-  abbrev pub refused : SeatFacts T → SeatFacts T
-  refused s = record { desk = s.desk; number = s.number; refusals = s.refusals + 1; heard = s.heard; rings = s.rings; left = s.left; found = s.found }
+  abbrev pub after_refusal : SeatFacts T → SeatFacts T
+  after_refusal s = record { desk = s.desk; number = s.number; refusals = s.refusals + 1; heard = s.heard; rings = s.rings; left = s.left; found = s.found }
 
   -- the seat in its turn, in which it found the value, after so many tries that found the turn taken
   abbrev pub in_turn : SeatFacts T → T → ℕ → SeatFacts T

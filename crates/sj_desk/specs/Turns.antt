@@ -9,8 +9,8 @@ use Rattle.sj_desk.specs.declared.view.Opening.{Opening}
 use Rattle.sj_desk.specs.Views.{first_view, at_stage, heard_at, refused_view, hearing_view, rung_view, found_view, left_by, renewed_by}
 
 -- the value has the key of the opening value, and is sound
-abbrev pub Fits : {T K : Type 0} → (T → K) → (T → Type 0) → Opening T → T → Type 0
-Fits key_of sound k value = (key_of value ≡ key_of k.value) × sound value
+abbrev pub FitsOpening : {T K : Type 0} → (T → K) → (T → Type 0) → Opening T → T → Type 0
+FitsOpening key_of sound k value = (key_of value ≡ key_of k.value) × sound value
 
 -- the holder is in its turn, has found the value, and owns a row
 pub record IsHolder {T : Type 0} (seats : ℕ) (owner : ℕ → ℕ) (current : T) (holder : ℕ) (views : List (View T)) : Type 0 where
@@ -36,7 +36,7 @@ module _ {T R : Type 0} (row_of : T → ℕ → R) where
 
   module _ (fits : Opening T → T → Type 0) (k : Opening T) where
     -- the desk once it is open: while the word is 0 the turn is free, and the slot at home holds a value that fits
-    pub record IsOpen (s : State (Option T) (View T)) : Type 0 where
+    pub record IsDeskOpen (s : State (Option T) (View T)) : Type 0 where
       pub words : length s.words ≡ 257
       pub owner : ℕ → ℕ
       pub current : T
@@ -57,11 +57,11 @@ module _ {T R : Type 0} (row_of : T → ℕ → R) where
     IsWith stage s = (words : List ℕ) × (length words ≡ 257) × (s ≡ stage words)
 
     abbrev pub IsRuled : State (Option T) (View T) → Type 0
-    IsRuled s = IsWith made s ⊎ IsWith filled s ⊎ IsOpen s
+    IsRuled s = IsWith made s ⊎ IsWith filled s ⊎ IsDeskOpen s
 
   module _ (fits : Opening T → T → Type 0) where
     -- the seat found the value, which fits and has each row of the seat as the seat left it
-    pub record Finds (m : Me (Option T) (View T)) (n : Me (Option T) (View T)) : Type 0 where
+    pub record FindsValue (m : Me (Option T) (View T)) (n : Me (Option T) (View T)) : Type 0 where
       pub value : T
       pub seat : n ≡ (found_view m.0 value, (0, Some value) ∷ m.1)
       pub fitting : (k : Opening T) → m.0.opening ≡ Some k → fits k value
@@ -69,12 +69,12 @@ module _ {T R : Type 0} (row_of : T → ℕ → R) where
 
     -- a try for the turn: taken where the word was 0, and else one more try that found it taken
     pub record Tries (m : Me (Option T) (View T)) (word : ℕ) (n : Me (Option T) (View T)) : Type 0 where
-      pub taken : word ≡ 0 → Finds m n
+      pub taken : word ≡ 0 → FindsValue m n
       pub busy : word ≢ 0 → n ≡ (refused_view m.0, m.1)
 
 module _ {T : Type 0} where
   -- a mark for the holder that the seat waits: the turn was taken, or it was free and nothing changed
-  pub record Marks (m : Me (Option T) (View T)) (word : ℕ) (n : Me (Option T) (View T)) : Type 0 where
+  pub record MarksWaiting (m : Me (Option T) (View T)) (word : ℕ) (n : Me (Option T) (View T)) : Type 0 where
     pub free : word ≡ 0 → n ≡ m
     pub busy : word ≢ 0 → n ≡ (refused_view m.0, m.1)
 
@@ -87,11 +87,11 @@ module _ {T : Type 0} where
   Renews m n = n ≡ (renewed_by m.0 m.1, m.1)
 
   -- the first seat takes the empty slot, and gives it home with the opening value
-  abbrev pub Fills : Me (Option T) (View T) → Me (Option T) (View T) → Type 0
-  Fills m n = n ≡ (at_stage 1 m.0, (0, None) ∷ m.1)
+  abbrev pub FillsSlot : Me (Option T) (View T) → Me (Option T) (View T) → Type 0
+  FillsSlot m n = n ≡ (at_stage 1 m.0, (0, None) ∷ m.1)
 
-  abbrev pub Opens : Me (Option T) (View T) → Me (Option T) (View T) → Type 0
-  Opens m n = n ≡ (at_stage 2 m.0, rest m.1)
+  abbrev pub OpensDesk : Me (Option T) (View T) → Me (Option T) (View T) → Type 0
+  OpensDesk m n = n ≡ (at_stage 2 m.0, rest m.1)
 
   -- the seat hears a bell, whose word stands behind that of the turn and those of the bells before it
   pub record Hears (word : ℕ) (m : Me (Option T) (View T)) (count : ℕ) (n : Me (Option T) (View T)) : Type 0 where

@@ -24,8 +24,8 @@ tally refusals heard rings = record { refusals = refusals; heard = heard; rings 
 abbrev pub no_tally : Tally
 no_tally = tally 0 None []
 
-abbrev pub one_more : Tally → Tally
-one_more c = tally (c.refusals + 1) c.heard c.rings
+abbrev pub one_refusal_more : Tally → Tally
+one_refusal_more c = tally (c.refusals + 1) c.heard c.rings
 
 abbrev pub hearing_tally : Tally → Option Heard → Tally
 hearing_tally c heard = tally c.refusals heard c.rings
@@ -58,7 +58,7 @@ module _ {T : Type 0} where
 
   -- after a try that found the turn taken
   abbrev pub refused_view : View T → View T
-  refused_view v = view v.opening v.rows v.found (one_more v.tally) v.stage
+  refused_view v = view v.opening v.rows v.found (one_refusal_more v.tally) v.stage
 
   -- after it heard a bell, or after it rested
   abbrev pub hearing_view : View T → Option Heard → View T
@@ -118,8 +118,8 @@ module _ {T : Type 0} where
   dealt v = view v.opening (first_row v.rows) None no_tally v.stage
 
   -- a seat that answers for another's rows too
-  abbrev pub joined : View T → View T → View T
-  joined v w = view v.opening (w.rows ++ v.rows) v.found v.tally v.stage
+  abbrev pub joined_seat : View T → View T → View T
+  joined_seat v w = view v.opening (w.rows ++ v.rows) v.found v.tally v.stage
 
   -- the slot is out with a seat in its turn, and empty while the value is with the caller
   abbrev pub slots_of : Option T → List (ℕ × Option T)
@@ -130,7 +130,7 @@ module _ {T : Type 0} where
   seated k number left found c = (view (Some k) ((number, left) ∷ []) found c 2, slots_of found)
 
   -- the seat answers for one row, that of its number, and has heard this
-  pub record IsSeated (number : ℕ) (heard : Option Heard) (me : Me (Option T) (View T)) : Type 0 where
+  pub record HasOwnRow (number : ℕ) (heard : Option Heard) (me : Me (Option T) (View T)) : Type 0 where
     pub opening : Opening T
     pub left : T
     pub found : Option T
@@ -145,13 +145,13 @@ module _ {T : Type 0} where
   desk_of table None = None
   desk_of table (Some k) = Some (desk_facts table k)
 
-  abbrev pub left_of : List (ℕ × T) → Option T
-  left_of [] = None
-  left_of (r ∷ rs) = Some r.1
+  abbrev pub value_left : List (ℕ × T) → Option T
+  value_left [] = None
+  value_left (r ∷ rs) = Some r.1
 
   -- a seat as contracts see it
   abbrev pub seat_facts : TableId → ℕ → View T → SeatFacts T
-  seat_facts table number v = record { desk = desk_of table v.opening; number = number; refusals = v.tally.refusals; heard = v.tally.heard; rings = v.tally.rings; left = left_of v.rows; found = v.found }
+  seat_facts table number v = record { desk = desk_of table v.opening; number = number; refusals = v.tally.refusals; heard = v.tally.heard; rings = v.tally.rings; left = value_left v.rows; found = v.found }
 
   abbrev pub opening_of : DeskFacts T → Opening T
   opening_of desk = record { value = desk.opening; seats = desk.seats }
@@ -172,8 +172,8 @@ module _ {T : Type 0} where
   HasEachRow desk rows = (n : ℕ) → n < desk.seats → (r : ℕ × T) × Contains rows r × (r.0 ≡ n)
 
   -- a seat that isn't in its turn, and answers for these rows
-  abbrev pub IsIdle : DeskFacts T → List (ℕ × T) → Me (Option T) (View T) → Type 0
-  IsIdle desk rows me = (c : Tally) × (me ≡ (sitting (opening_of desk) rows c 2, []))
+  abbrev pub IsOutOfTurn : DeskFacts T → List (ℕ × T) → Me (Option T) (View T) → Type 0
+  IsOutOfTurn desk rows me = (c : Tally) × (me ≡ (sitting (opening_of desk) rows c 2, []))
 
   -- some seats of the list are left, and the rows are those of the others
   abbrev pub Gathered : List (SeatFacts T) → List (SeatFacts T) → List (ℕ × T) → Type 0

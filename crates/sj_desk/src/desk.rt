@@ -3,11 +3,12 @@
 ghost use Rattle.std.specs.Prelude.{◌≡◌, ◌+◌, ◌<◌, ◌≤◌, [], Some, None, All, IfOk, IfErr, OnErr, IfSome, IfNone, OnSome, MatchBool, is_some, true, vec_capacity};
 ghost use Rattle.std.specs.Option.{IsSomeAnd};
 ghost use Rattle.std.specs.List.{AllZip};
-ghost use Rattle.sj_desk.specs.Seats.{new_seats, refused, in_turn, after_turn, retried, hearing, rested, rung, HasRowLeft, KeepsOtherRows, HasEachNumber, IsWaiting, AreInPlace};
-ghost use Rattle.sj_desk.specs.Views.{IsRowOf, IsIdle, IsFirst, IsDealer, HasEachRow};
+ghost use Rattle.sj_desk.specs.Seats.{new_seats, after_refusal, in_turn, after_turn, retried, hearing, rested, rung, HasRowLeft, KeepsOtherRows, HasEachNumber, IsWaiting, AreInPlace};
+ghost use Rattle.sj_desk.specs.Views.{IsRowOf, IsOutOfTurn, IsFirst, IsDealer, HasEachRow};
 
 use crate::rule::{
-    Deal, Fill, Gather, Hear, Mark, Open, Release, Renew, Rest, Ring, Ticket, Try, TurnRule,
+    Deal, Fill, Gather, Hear, MarkWaiting, Open, Release, Renew, Rest, RingBell, Ticket, Try,
+    TurnRule,
 };
 use crate::seat::DeskSeat;
 use crate::view::{Heard, Opening, View};
@@ -40,7 +41,7 @@ const LOW: u64 = 1 << 32;
 
 // How often `enter` tries before it sleeps until the turn is given back, and after each such sleep. It pauses after each try,
 // twice as long as after the one before, while the one that has the turn goes on with what its caches hold.
-const TRIES: u32 = 18;
+const ENTER_TRIES: u32 = 18;
 
 // After so many tries, which take some 300 µs, it dozes in place of a pause.
 const AWAKE: u32 = 14;
@@ -182,7 +183,7 @@ impl<T: Keyed> Desk<T> {
         ensures sound { IfSome result (λ v. T.sound v) }
         ensures own_row { IfSome result (λ v. HasRowLeft T.row_of v seat.old) }
         ensures seat { IfSome result (λ v. seat.new ≡ in_turn seat.old v seat.old.refusals) }
-        ensures none { IfNone result (seat.new ≡ refused seat.old) }
+        ensures none { IfNone result (seat.new ≡ after_refusal seat.old) }
     {
         let turn = &self.table.shared;
         let found = turn.compare_exchange::<Try>(&mut seat.ticket, TURN, FREE, mark);
@@ -196,10 +197,10 @@ impl<T: Keyed> Desk<T> {
     fn mark(&self, seat: &mut DeskSeat<T>) -> bool
         requires of_this_desk { seat.old.desk ≡ Some self.now }
         requires not_in_its_turn { seat.old.found ≡ None }
-        ensures { MatchBool result (seat.new ≡ refused seat.old) (seat.new ≡ seat.old) }
+        ensures { MatchBool result (seat.new ≡ after_refusal seat.old) (seat.new ≡ seat.old) }
     {
         let turn = &self.table.shared;
-        turn.compare_exchange::<Mark>(&mut seat.ticket, TURN, TAKEN, AWAITED) != FREE
+        turn.compare_exchange::<MarkWaiting>(&mut seat.ticket, TURN, TAKEN, AWAITED) != FREE
     }
 
     // Some tries for the turn, which leave the mark in the turn word.
@@ -271,7 +272,7 @@ impl<T: Keyed> Desk<T> {
         ensures sound { IfOk result (λ v. T.sound v) }
         ensures own_row { IfOk result (λ v. HasRowLeft T.row_of v seat.old) }
         ensures seat { IfOk result (λ v. seat.new ≡ in_turn seat.old v seat.old.refusals) }
-        ensures busy { OnErr result (seat.new ≡ refused seat.old) }
+        ensures busy { OnErr result (seat.new ≡ after_refusal seat.old) }
     {
         match self.attempt(seat, TAKEN) {
             Some(value) => Ok(value),
@@ -336,7 +337,7 @@ impl<T: Keyed> Desk<T> {
     {
         let turn = &self.table.shared;
         let word = word_of(bell);
-        turn.fetch_add::<Ring>(&mut seat.ticket, word, 1);
+        turn.fetch_add::<RingBell>(&mut seat.ticket, word, 1);
         turn.wake_all(word);
     }
 
@@ -414,7 +415,7 @@ impl<T: Keyed> Desk<T> {
         requires waiting { All (IsWaiting self.now) seats.items }
         requires all_its_seats { HasEachNumber self.now seats.items }
         ensures table { result.table_id ≡ self.now.table }
-        ensures idle { IsIdle self.now result.me.0.rows result.me }
+        ensures idle { IsOutOfTurn self.now result.me.0.rows result.me }
         ensures rows { AllZip IsRowOf seats.items result.me.0.rows }
     {
         let turn = &self.table.shared;
@@ -441,7 +442,7 @@ impl<T: Keyed> Desk<T> {
     // Takes the value out of the table, whose turn is free.
     fn end(self, ticket: Ticket<T>) -> T
         requires table { ticket.table_id ≡ self.table }
-        requires idle { IsIdle self ticket.me.0.rows ticket.me }
+        requires idle { IsOutOfTurn self ticket.me.0.rows ticket.me }
         requires all_rows { HasEachRow self ticket.me.0.rows }
         ensures key { T.key result ≡ T.key self.opening }
         ensures sound { T.sound result }

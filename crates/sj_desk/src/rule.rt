@@ -1,6 +1,6 @@
 // The rule of the turn, and the kinds of step.
-ghost use Rattle.sj_desk.specs.Views.{first_view, dealing, dealt, joined, ended};
-ghost use Rattle.sj_desk.specs.Turns.{Fits, IsRuled, Tries, Marks, Leaves, Renews, Hears, Rings, Rests, Fills, Opens};
+ghost use Rattle.sj_desk.specs.Views.{first_view, dealing, dealt, joined_seat, ended};
+ghost use Rattle.sj_desk.specs.Turns.{FitsOpening, IsRuled, Tries, MarksWaiting, Leaves, Renews, Hears, Rings, Rests, FillsSlot, OpensDesk};
 
 use crate::view::{Opening, View};
 use atomic_table::{Join, Play, Seat, Shared, Split, TableRule};
@@ -10,7 +10,7 @@ use sj_base::keyed::Keyed;
 pub struct TurnRule;
 
 impl<T: Keyed> TableRule<Option<T>, View<T>, Opening<T>> for TurnRule {
-    ghost holds = { λ k. IsRuled T.row_of (Fits T.key T.sound) k };
+    ghost holds = { λ k. IsRuled T.row_of (FitsOpening T.key T.sound) k };
 
     ghost first = { first_view };
 }
@@ -19,14 +19,14 @@ impl<T: Keyed> TableRule<Option<T>, View<T>, Opening<T>> for TurnRule {
 pub struct Try;
 
 impl<T: Keyed> Play<Option<T>, View<T>> for Try {
-    ghost then = { λ st m r n. Tries T.row_of (Fits T.key T.sound) m r n };
+    ghost then = { λ st m r n. Tries T.row_of (FitsOpening T.key T.sound) m r n };
 }
 
 /// A mark, for the holder, that a seat waits.
-pub struct Mark;
+pub struct MarkWaiting;
 
-impl<T> Play<Option<T>, View<T>> for Mark {
-    ghost then = { λ st m r n. Marks m r n };
+impl<T> Play<Option<T>, View<T>> for MarkWaiting {
+    ghost then = { λ st m r n. MarksWaiting m r n };
 }
 
 /// The release of the turn.
@@ -51,9 +51,9 @@ impl<T> Play<Option<T>, View<T>> for Hear {
 }
 
 /// A bell is rung.
-pub struct Ring;
+pub struct RingBell;
 
-impl<T> Play<Option<T>, View<T>> for Ring {
+impl<T> Play<Option<T>, View<T>> for RingBell {
     ghost then = { λ st m r n. Rings st.word m n };
 }
 
@@ -68,14 +68,14 @@ impl<T> Play<Option<T>, View<T>> for Rest {
 pub struct Fill;
 
 impl<T> Play<Option<T>, View<T>> for Fill {
-    ghost then = { λ st m r n. Fills m n };
+    ghost then = { λ st m r n. FillsSlot m n };
 }
 
 /// The first seat gives the slot home, with the opening value.
 pub struct Open;
 
 impl<T> Play<Option<T>, View<T>> for Open {
-    ghost then = { λ st m r n. Opens m n };
+    ghost then = { λ st m r n. OpensDesk m n };
 }
 
 /// One seat is dealt its row.
@@ -91,7 +91,7 @@ impl<T> Split<View<T>> for Deal {
 pub struct Gather;
 
 impl<T> Join<View<T>> for Gather {
-    ghost both = { joined };
+    ghost both = { joined_seat };
 
     ghost spent = { ended };
 }

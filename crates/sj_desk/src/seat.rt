@@ -20,13 +20,13 @@ pub struct DeskSeat<T> {
 
 impl<T> Model for DeskSeat<T> {
     ghost use Rattle.sj_desk.specs.Seats.{SeatFacts};
-    ghost use Rattle.sj_desk.specs.Views.{seat_facts, IsSeated};
+    ghost use Rattle.sj_desk.specs.Views.{seat_facts, HasOwnRow};
 
     ghost Value = { SeatFacts T };
 
     ghost view = { λ s. seat_facts s.ticket.table_id s.number s.ticket.me.0 };
 
-    ghost invariant = { λ s. IsSeated s.number s.heard s.ticket.me };
+    ghost invariant = { λ s. HasOwnRow s.number s.heard s.ticket.me };
 }
 
 impl<T> DeskSeat<T> {

@@ -12,7 +12,7 @@ use Rattle.sj_disk.specs.declared.directory.Extent.{Extent}
 use Rattle.sj_disk.specs.Block.{block_bytes}
 use Rattle.sj_disk.specs.Calls.{Reserves}
 use Rattle.sj_disk.specs.Directory.{IsLaidOut, disk_state, extent_at, extent_of, first_fit}
-use Rattle.sj_disk.specs.Sound.{AreFilled, IsSound}
+use Rattle.sj_disk.specs.Sound.{AreFilled, AreSoundDisks}
 
 -- ---- the first that fits
 
@@ -55,7 +55,7 @@ module _ {D : Type 0} (size : D → ℕ) (held : D → Option (List ℕ)) where
   none-there : (c : ℕ) (e : Extent) → extent_of [] c ≡ Some e → ⊥
   none-there c e h = cc
 
-  pub sound-made : (disks : List D) (sizes : List ℕ) → length disks ≤ 16 → sizes ≡ map size disks → ((k : ℕ) → get_or sizes k 0 < 2 ^ 64) → AreFilled size held disks → IsSound size held disks sizes (none-of (length disks)) []
+  pub sound-made : (disks : List D) (sizes : List ℕ) → length disks ≤ 16 → sizes ≡ map size disks → ((k : ℕ) → get_or sizes k 0 < 2 ^ 64) → AreFilled size held disks → AreSoundDisks size held disks sizes (none-of (length disks)) []
   sound-made disks sizes few sized bounded filled = record {
     few = few;
     sized = sized;
@@ -79,7 +79,7 @@ module _ {D : Type 0} (size : D → ℕ) (held : D → Option (List ℕ)) where
       none-taken (suc n) zero z e = e
       none-taken (suc n) (suc d) z e = none-taken n d z e
 
-  module _ (disks : List D) (sizes taken : List ℕ) (directory after : List (Option Extent)) (c n d : ℕ) (s : IsSound size held disks sizes taken directory) (first : first_fit sizes taken (block_bytes n) ≡ Some d) (gives : extent_of after c ≡ Some (extent_at d (get_or taken d 0) n)) (others : (q : ℕ) → q ≢ c → extent_of after q ≡ extent_of directory q) where
+  module _ (disks : List D) (sizes taken : List ℕ) (directory after : List (Option Extent)) (c n d : ℕ) (s : AreSoundDisks size held disks sizes taken directory) (first : first_fit sizes taken (block_bytes n) ≡ Some d) (gives : extent_of after c ≡ Some (extent_at d (get_or taken d 0) n)) (others : (q : ℕ) → q ≢ c → extent_of after q ≡ extent_of directory q) where
     more : List ℕ
     more = slice_set taken d (get_or taken d 0 + block_bytes n)
 
@@ -152,7 +152,7 @@ module _ {D : Type 0} (size : D → ℕ) (held : D → Option (List ℕ)) where
       ];
     }
 
-    pub sound-reserve : IsSound size held disks sizes (slice_set taken d (get_or taken d 0 + block_bytes n)) after
+    pub sound-reserve : AreSoundDisks size held disks sizes (slice_set taken d (get_or taken d 0 + block_bytes n)) after
     unfolding more Which
     sound-reserve = record {
       few = s.few;

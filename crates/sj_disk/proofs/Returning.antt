@@ -18,7 +18,7 @@ use Rattle.sj_disk.specs.Calls.{Fetches, Stores}
 use Rattle.sj_disk.specs.Directory.{IsLaidOut, disk_state, extent_of}
 use Rattle.sj_disk.specs.Holding.{ChangesAt, CountsStay, HaveHeaders, Holds, KeepsBlock}
 use Rattle.sj_disk.specs.Refusals.{is_damage, is_fault}
-use Rattle.sj_disk.specs.Sound.{IsSound}
+use Rattle.sj_disk.specs.Sound.{AreSoundDisks}
 use Rattle.sj_disk.specs.Transfers.{Looks, Writes}
 use Rattle.sj_disk.specs.Lending.{IsTaken, has_back, lending}
 use Rattle.sj_disk.specs.Units.{IsSoundUnit, IsWorkedOn, UnitFetches, UnitState, UnitStores, unit_state}
@@ -44,7 +44,7 @@ module _ {D : Type 0} (size faults mismatches : D → ℕ) (held : D → Option 
   abbrev IsReworked : Extent → D → D → Type 0
   IsReworked e x y = (size y ≡ size x) × Fills (held y) (size y) × HoldsAnyIn e.position (block_bytes e.length) (held x) (held y)
 
-  module _ (old new : List D) (sizes taken : List ℕ) (directory : List (Option Extent)) (c : ℕ) (e f : Extent) (ee : extent_of directory c ≡ Some e) (s : IsSound size held old sizes taken directory) (ch : ChangesAt e.disk.0 (IsReworked e) old new) (its_disk : f.disk ≡ e.disk) (its_position : f.position ≡ e.position) (its_length : f.length ≡ e.length) where
+  module _ (old new : List D) (sizes taken : List ℕ) (directory : List (Option Extent)) (c : ℕ) (e f : Extent) (ee : extent_of directory c ≡ Some e) (s : AreSoundDisks size held old sizes taken directory) (ch : ChangesAt e.disk.0 (IsReworked e) old new) (its_disk : f.disk ≡ e.disk) (its_position : f.position ≡ e.position) (its_length : f.length ≡ e.length) where
     same_size : (k : ℕ) (x y : D) → slice_get old k ≡ Some x → slice_get new k ≡ Some y → size y ≡ size x
     same_size = each (IsReworked e) (λ x y. size y ≡ size x) e.disk.0 old new ch (λ x. refl) (λ x y ex p. p.0)
 
@@ -100,7 +100,7 @@ module _ {D : Type 0} (size faults mismatches : D → ℕ) (held : D → Option 
             keeps-apart g (header_bytes (header q l.writes g.length)) (λ same. elim (apart-from q g ne eg' same) [ inl after ↦ inl after | inr ahead ↦ inr (omega (arith, length-header_bytes (header q l.writes g.length))) ]) (s.headers q g l eg' el ok)
       ]
 
-      pub sound-back : IsSound size held new sizes taken (slice_set directory c (Some f))
+      pub sound-back : AreSoundDisks size held new sizes taken (slice_set directory c (Some f))
       unfolding after
       sound-back = record {
         few = omega (arith, s.few, ch.as_many);
@@ -116,7 +116,7 @@ module _ {D : Type 0} (size faults mismatches : D → ℕ) (held : D → Option 
   -- ---- taken out
 
   -- a cell's block, on its disk, is sound as a unit
-  pub sound-taken : (disks : List D) (sizes taken : List ℕ) (directory : List (Option Extent)) (c : Cell) (e : Extent) (x : D) → IsSound size held disks sizes taken directory → extent_of directory c.0 ≡ Some e → slice_get disks e.disk.0 ≡ Some x → IsSoundUnit size held (unit_state x c e)
+  pub sound-taken : (disks : List D) (sizes taken : List ℕ) (directory : List (Option Extent)) (c : Cell) (e : Extent) (x : D) → AreSoundDisks size held disks sizes taken directory → extent_of directory c.0 ≡ Some e → slice_get disks e.disk.0 ≡ Some x → IsSoundUnit size held (unit_state x c e)
   sound-taken disks sizes taken directory c e x s ee ex = record {
     inside = inside-disk size faults mismatches held disks sizes taken directory c.0 e x s ee ex;
     fits = inside-fits size faults mismatches held disks sizes taken directory c.0 e s ee;
@@ -126,7 +126,7 @@ module _ {D : Type 0} (size faults mismatches : D → ℕ) (held : D → Option 
 
   -- ---- back again
 
-  module _ (disks : List D) (sizes taken : List ℕ) (directory : List (Option Extent)) (out : List Bool) (s : IsSound size held disks sizes taken directory) (b u : UnitState D) (is : IsTaken (lending (disk_state disks taken directory) out) b) (su : IsSoundUnit size held u) (worked : IsWorkedOn size faults mismatches held b u) where
+  module _ (disks : List D) (sizes taken : List ℕ) (directory : List (Option Extent)) (out : List Bool) (s : AreSoundDisks size held disks sizes taken directory) (b u : UnitState D) (is : IsTaken (lending (disk_state disks taken directory) out) b) (su : IsSoundUnit size held u) (worked : IsWorkedOn size faults mismatches held b u) where
     reworked : IsReworked b.extent b.disk u.disk
     reworked = (worked.disk_is_given_back.size_stays, su.filled, worked.changes_no_byte_outside)
 
@@ -145,11 +145,11 @@ module _ {D : Type 0} (size faults mismatches : D → ℕ) (held : D → Option 
         let ey' : slice_get (slice_set disks b.extent.disk.0 u.disk) b.extent.disk.0 ≡ Some y = subst (λ (d : DiskNo). slice_get (slice_set disks b.extent.disk.0 u.disk) d.0 ≡ Some y) worked.disk_number_stays ey in
         subst (λ (c : Cell). GivesHeld (held y) u.extent.position (header_bytes (header c.0 l.writes u.extent.length))) worked.cell_stays (subst (λ x. GivesHeld (held x) u.extent.position (header_bytes (header u.cell.0 l.writes u.extent.length))) (is-there y ey') (su.headed l el ok))
 
-    pub is-sound-back : IsSound size held (slice_set disks u.extent.disk.0 u.disk) sizes taken (slice_set directory u.cell.0 (Some u.extent))
+    pub is-sound-back : AreSoundDisks size held (slice_set disks u.extent.disk.0 u.disk) sizes taken (slice_set directory u.cell.0 (Some u.extent))
     is-sound-back =
-        let sound : IsSound size held (slice_set disks b.extent.disk.0 u.disk) sizes taken (slice_set directory b.cell.0 (Some u.extent)) =
+        let sound : AreSoundDisks size held (slice_set disks b.extent.disk.0 u.disk) sizes taken (slice_set directory b.cell.0 (Some u.extent)) =
         sound-back disks (slice_set disks b.extent.disk.0 u.disk) sizes taken directory b.cell.0 b.extent u.extent is.its_extent s at-its-place worked.disk_number_stays worked.position_stays worked.length_stays headed-there in
-        subst (λ (c : Cell). IsSound size held (slice_set disks u.extent.disk.0 u.disk) sizes taken (slice_set directory c.0 (Some u.extent))) (sym worked.cell_stays) (subst (λ (d : DiskNo). IsSound size held (slice_set disks d.0 u.disk) sizes taken (slice_set directory b.cell.0 (Some u.extent))) (sym worked.disk_number_stays) sound)
+        subst (λ (c : Cell). AreSoundDisks size held (slice_set disks u.extent.disk.0 u.disk) sizes taken (slice_set directory c.0 (Some u.extent))) (sym worked.cell_stays) (subst (λ (d : DiskNo). AreSoundDisks size held (slice_set disks d.0 u.disk) sizes taken (slice_set directory b.cell.0 (Some u.extent))) (sym worked.disk_number_stays) sound)
 
     -- the set with the unit back, said by where the unit was
     placed : slice_set disks u.extent.disk.0 u.disk ≡ slice_set disks b.extent.disk.0 u.disk

@@ -20,9 +20,9 @@ use Rattle.sj_disk.specs.Calls.{Fetches, Stores}
 use Rattle.sj_disk.specs.Directory.{DiskState, IsLaidOut, disk_state, extent_of, last_store, with_store}
 use Rattle.sj_disk.specs.declared.refusal.DiskRefusal.{DiskRefusal}
 use Rattle.sj_disk.specs.declared.refusal.DiskRefusal.TheVariants.{DiskFault}
-use Rattle.sj_disk.specs.Holding.{ChangesAt, CountsStay, HaveHeaders, Holds, KeepsBlock, Tells}
+use Rattle.sj_disk.specs.Holding.{ChangesAt, CountsStay, HaveHeaders, Holds, KeepsBlock, TellsBytes}
 use Rattle.sj_disk.specs.Refusals.{is_damage, is_fault, RefusesFor}
-use Rattle.sj_disk.specs.Sound.{IsSound}
+use Rattle.sj_disk.specs.Sound.{AreSoundDisks}
 use Rattle.sj_disk.specs.Transfers.{Looks, Writes}
 use Rattle.sj_disk.proofs.Bytes.{element_bytes-same, length-element_bytes, length-header_bytes}
 
@@ -165,7 +165,7 @@ module _ {D : Type 0} (size faults mismatches : D → ℕ) (held : D → Option 
 
   -- ---- a look changes nothing that is held
 
-  pub sound-look : (failed differed : Bool) (d : ℕ) (old new : List D) (sizes taken : List ℕ) (directory : List (Option Extent)) → ChangesAt d (Looks size faults mismatches held failed differed) old new → IsSound size held old sizes taken directory → IsSound size held new sizes taken directory
+  pub sound-look : (failed differed : Bool) (d : ℕ) (old new : List D) (sizes taken : List ℕ) (directory : List (Option Extent)) → ChangesAt d (Looks size faults mismatches held failed differed) old new → AreSoundDisks size held old sizes taken directory → AreSoundDisks size held new sizes taken directory
   sound-look failed differed d old new sizes taken directory ch s =
       let P : D → D → Type 0 = Looks size faults mismatches held failed differed in
       let same_size : (k : ℕ) (x y : D) → slice_get old k ≡ Some x → slice_get new k ≡ Some y → size y ≡ size x =
@@ -227,15 +227,15 @@ module _ {D : Type 0} (size faults mismatches : D → ℕ) (held : D → Option 
   -- ---- a store
 
   -- the extent of a cell lies on a disk and within it
-  pub inside-disk : (disks : List D) (sizes taken : List ℕ) (directory : List (Option Extent)) (c : ℕ) (e : Extent) (x : D) → IsSound size held disks sizes taken directory → extent_of directory c ≡ Some e → slice_get disks e.disk.0 ≡ Some x → e.position + block_bytes e.length ≤ size x
+  pub inside-disk : (disks : List D) (sizes taken : List ℕ) (directory : List (Option Extent)) (c : ℕ) (e : Extent) (x : D) → AreSoundDisks size held disks sizes taken directory → extent_of directory c ≡ Some e → slice_get disks e.disk.0 ≡ Some x → e.position + block_bytes e.length ≤ size x
   inside-disk disks sizes taken directory c e x s ee ex =
       let most : get_or sizes e.disk.0 0 ≡ size x = ap (λ ns. get_or ns e.disk.0 0) s.sized ∙ get_or-map_at size disks e.disk.0 x ex in
       omega (arith, s.laid_out.inside c e ee, s.laid_out.within e.disk.0, most)
 
-  pub inside-fits : (disks : List D) (sizes taken : List ℕ) (directory : List (Option Extent)) (c : ℕ) (e : Extent) → IsSound size held disks sizes taken directory → extent_of directory c ≡ Some e → e.position + block_bytes e.length < 2 ^ 64
+  pub inside-fits : (disks : List D) (sizes taken : List ℕ) (directory : List (Option Extent)) (c : ℕ) (e : Extent) → AreSoundDisks size held disks sizes taken directory → extent_of directory c ≡ Some e → e.position + block_bytes e.length < 2 ^ 64
   inside-fits disks sizes taken directory c e s ee = omega (arith, s.laid_out.inside c e ee, s.laid_out.within e.disk.0, s.bounded e.disk.0)
 
-  module _ {A : Type 0} (old new : List D) (sizes taken : List ℕ) (directory : List (Option Extent)) (c : ℕ) (e : Extent) (writes : ℕ) (xs : List ℤ) (r : Result A DiskRefusal) (ee : extent_of directory c ≡ Some e) (many : length xs ≡ e.length) (s : IsSound size held old sizes taken directory) (ch : ChangesAt e.disk.0 (Writes size faults mismatches held e.position (block c writes xs) r) old new) where
+  module _ {A : Type 0} (old new : List D) (sizes taken : List ℕ) (directory : List (Option Extent)) (c : ℕ) (e : Extent) (writes : ℕ) (xs : List ℤ) (r : Result A DiskRefusal) (ee : extent_of directory c ≡ Some e) (many : length xs ≡ e.length) (s : AreSoundDisks size held old sizes taken directory) (ch : ChangesAt e.disk.0 (Writes size faults mismatches held e.position (block c writes xs) r) old new) where
     W : D → D → Type 0
     W = Writes size faults mismatches held e.position (block c writes xs) r
 
@@ -327,7 +327,7 @@ module _ {D : Type 0} (size faults mismatches : D → ℕ) (held : D → Option 
           keeps-apart f (header_bytes (header q l.writes f.length)) (λ same. elim (s.laid_out.apart c q e f (λ eq. ne (sym eq)) ee ef' (same_disk f same)) [ inl after ↦ inl after | inr ahead ↦ inr (omega (arith, length-header_bytes (header q l.writes f.length))) ]) (s.headers q f l ef' el ok)
     ]
 
-    pub sound-store : IsSound size held new sizes taken (slice_set directory c (Some (with_store e writes (is_ok r))))
+    pub sound-store : AreSoundDisks size held new sizes taken (slice_set directory c (Some (with_store e writes (is_ok r))))
     unfolding W after
     sound-store = record {
       few = omega (arith, s.few, ch.as_many);
@@ -365,12 +365,12 @@ module _ {D : Type 0} (size faults mismatches : D → ℕ) (held : D → Option 
 
   -- ---- a fetch
 
-  module _ {A : Type 0} (old new : List D) (sizes taken : List ℕ) (directory : List (Option Extent)) (c : ℕ) (e : Extent) (writes : ℕ) (xs : List ℤ) (r : Result A DiskRefusal) (ee : extent_of directory c ≡ Some e) (many : length xs ≡ e.length) (last : e.last_store ≡ Some (last_store writes true)) (s : IsSound size held old sizes taken directory) (ch : ChangesAt e.disk.0 (Looks size faults mismatches held (is_fault r) (is_damage r)) old new) (gives : OnOk r (Holds held old e (header_bytes (header c writes e.length) ++ element_bytes xs))) (refuses : RefusesFor e.disk (header c writes e.length) r) (undamaged : Tells held old e → Holds held old e (header_bytes (header c writes e.length)) → is_damage r ≡ false) where
+  module _ {A : Type 0} (old new : List D) (sizes taken : List ℕ) (directory : List (Option Extent)) (c : ℕ) (e : Extent) (writes : ℕ) (xs : List ℤ) (r : Result A DiskRefusal) (ee : extent_of directory c ≡ Some e) (many : length xs ≡ e.length) (last : e.last_store ≡ Some (last_store writes true)) (s : AreSoundDisks size held old sizes taken directory) (ch : ChangesAt e.disk.0 (Looks size faults mismatches held (is_fault r) (is_damage r)) old new) (gives : OnOk r (Holds held old e (header_bytes (header c writes e.length) ++ element_bytes xs))) (refuses : RefusesFor e.disk (header c writes e.length) r) (undamaged : TellsBytes held old e → Holds held old e (header_bytes (header c writes e.length)) → is_damage r ≡ false) where
     its-block : Holds held old e (header_bytes (header c writes e.length) ++ element_bytes xs) → Holds held old e (block c writes xs)
     its-block h = subst (λ n. Holds held old e (header_bytes (header c writes n) ++ element_bytes xs)) (sym many) h
 
     -- two blocks that stand there, of one length, have the same elements
-    same-elements : (ys : List ℤ) → All (FitsSigned w64) xs → All (FitsSigned w64) ys → length ys ≡ e.length → Tells held old e → Holds held old e (block c writes ys) → Holds held old e (block c writes xs) → xs ≡ ys
+    same-elements : (ys : List ℤ) → All (FitsSigned w64) xs → All (FitsSigned w64) ys → length ys ≡ e.length → TellsBytes held old e → Holds held old e (block c writes ys) → Holds held old e (block c writes xs) → xs ≡ ys
     same-elements ys fx fy n tells hy hx =
         let x = found old e.disk.0 (omega (arith, s.laid_out.on_a_disk c e ee, ap length s.sized, length-map old size)) in
         gives-same (held x.0) e.position c writes xs ys (many ∙ sym n) fx fy (tells x.0 x.1) (hx x.0 x.1) (hy x.0 x.1)

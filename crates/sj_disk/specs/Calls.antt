@@ -11,7 +11,7 @@ use Rattle.sj_disk.specs.declared.refusal.DiskRefusal.{DiskRefusal}
 use Rattle.sj_disk.specs.declared.refusal.DiskRefusal.TheVariants.{DiskFault}
 use Rattle.sj_disk.specs.Block.{block, block_bytes, header}
 use Rattle.sj_disk.specs.Directory.{DiskState, extent_at, extent_of, first_fit, with_store}
-use Rattle.sj_disk.specs.Holding.{ChangesAt, CountsStay, Holds, KeepsBlock, Tells}
+use Rattle.sj_disk.specs.Holding.{ChangesAt, CountsStay, Holds, KeepsBlock, TellsBytes}
 use Rattle.sj_disk.specs.Refusals.{is_damage, is_fault, RefusesFor}
 use Rattle.sj_disk.specs.Transfers.{Looks, Writes}
 
@@ -46,6 +46,6 @@ pub record Fetches {D A : Type 0} (size faults mismatches : D → ℕ) (held : D
   pub takes_no_more : new.taken ≡ old.taken
   pub gives_what_is_held : OnOk result (Holds held old.disks e (block c writes xs))
   pub gives_what_was_stored :
-      OnOk result ((ys : List ℤ) → All (FitsSigned w64) ys → length ys ≡ e.length → Tells held old.disks e → Holds held old.disks e (block c writes ys) → xs ≡ ys)
+      OnOk result ((ys : List ℤ) → All (FitsSigned w64) ys → length ys ≡ e.length → TellsBytes held old.disks e → Holds held old.disks e (block c writes ys) → xs ≡ ys)
   pub refused_by_its_disk : RefusesFor e.disk (header c writes e.length) result
-  pub undamaged_where_it_tells : Tells held old.disks e → is_damage result ≡ false
+  pub undamaged_where_it_tells : TellsBytes held old.disks e → is_damage result ≡ false

@@ -18,8 +18,8 @@ abbrev pub Holds : {D : Type 0} → (D → Option (List ℕ)) → List D → Ext
 Holds {D} held disks e bytes = (x : D) → slice_get disks e.disk.0 ≡ Some x → GivesHeld (held x) e.position bytes
 
 -- the disk of an extent tells its bytes
-abbrev pub Tells : {D : Type 0} → (D → Option (List ℕ)) → List D → Extent → Type 0
-Tells {D} held disks e = (x : D) → slice_get disks e.disk.0 ≡ Some x → IsSome (held x)
+abbrev pub TellsBytes : {D : Type 0} → (D → Option (List ℕ)) → List D → Extent → Type 0
+TellsBytes {D} held disks e = (x : D) → slice_get disks e.disk.0 ≡ Some x → IsSome (held x)
 
 -- the block of so many elements in an extent lies within its disk
 abbrev pub IsInside : {D : Type 0} → (D → ℕ) → List D → Extent → ℕ → Type 0

@@ -10,7 +10,7 @@ use Rattle.sj_disk.specs.Holding.{HaveHeaders}
 abbrev pub AreFilled : {D : Type 0} → (D → ℕ) → (D → Option (List ℕ)) → List D → Type 0
 AreFilled {D} size held disks = (k : ℕ) (x : D) → slice_get disks k ≡ Some x → Fills (held x) (size x)
 
-pub record IsSound {D : Type 0} (size : D → ℕ) (held : D → Option (List ℕ)) (disks : List D) (sizes taken : List ℕ) (directory : List (Option Extent)) : Type 0 where
+pub record AreSoundDisks {D : Type 0} (size : D → ℕ) (held : D → Option (List ℕ)) (disks : List D) (sizes taken : List ℕ) (directory : List (Option Extent)) : Type 0 where
   pub few : length disks ≤ 16
   pub sized : sizes ≡ map size disks
   pub bounded : (k : ℕ) → slice_index_or sizes k 0 < 2 ^ 64

@@ -5,9 +5,9 @@ ghost use Rattle.std.specs.Int.{w64};
 ghost use Rattle.sj_disk.specs.Block.{block_bytes, element_bytes, header_bytes};
 ghost use Rattle.sj_disk.specs.Calls.{Fetches, Reserves, Stores};
 ghost use Rattle.sj_disk.specs.Directory.{disk_state, extent_of, first_fit, last_store, IsLaidOut};
-ghost use Rattle.sj_disk.specs.Holding.{ChangesAt, Holds, IsInside, Tells};
+ghost use Rattle.sj_disk.specs.Holding.{ChangesAt, Holds, IsInside, TellsBytes};
 ghost use Rattle.sj_disk.specs.Refusals.{is_damage, is_fault, RefusesFor};
-ghost use Rattle.sj_disk.specs.Sound.{AreFilled, IsSound};
+ghost use Rattle.sj_disk.specs.Sound.{AreFilled, AreSoundDisks};
 ghost use Rattle.sj_disk.specs.Transfers.{Looks, Writes};
 
 use crate::directory::{Extent, LastStore, add_extent, extent_of, known_extent};
@@ -39,13 +39,13 @@ pub struct DiskSet<D: Disk> {
 
 impl<D: Disk> Model for DiskSet<D> {
     ghost use Rattle.sj_disk.specs.Directory.{DiskState, disk_state};
-    ghost use Rattle.sj_disk.specs.Sound.{IsSound};
+    ghost use Rattle.sj_disk.specs.Sound.{AreSoundDisks};
 
     ghost Value = { DiskState D };
 
     ghost view = { λ s. disk_state s.disks.items s.taken.items s.directory.items };
 
-    ghost invariant = { λ s. IsSound D.size D.held s.disks.items s.sizes.items s.taken.items
+    ghost invariant = { λ s. AreSoundDisks D.size D.held s.disks.items s.sizes.items s.taken.items
         s.directory.items };
 }
 
@@ -117,7 +117,7 @@ fn fetch_on<D: Disk>(
         (header_bytes want ++ element_bytes elements.new)) }
     ensures fits { OnOk result (All (FitsSigned w64) elements.new) }
     ensures refused { RefusesFor extent.now.disk want result }
-    ensures undamaged { Tells D.held disks.old.items extent.now →
+    ensures undamaged { TellsBytes D.held disks.old.items extent.now →
         Holds D.held disks.old.items extent.now (header_bytes want) → is_damage result ≡ false }
 {
     let disk = &mut disks[extent.disk.0 as usize];
@@ -244,7 +244,7 @@ impl<D: Disk> DiskSet<D> {
     pub(crate) fn into_parts(self) -> SetParts<D>
         ensures parts { disk_state result.disks.items result.taken.items result.directory.items
             ≡ self }
-        ensures sound { IsSound D.size D.held result.disks.items result.sizes.items
+        ensures sound { AreSoundDisks D.size D.held result.disks.items result.sizes.items
             result.taken.items result.directory.items }
     {
         let DiskSet {
@@ -263,7 +263,7 @@ impl<D: Disk> DiskSet<D> {
 
     /// A set of these parts. Constant time.
     pub(crate) fn of_parts(parts: SetParts<D>) -> DiskSet<D>
-        requires { IsSound D.size D.held parts.disks.items parts.sizes.items parts.taken.items
+        requires { AreSoundDisks D.size D.held parts.disks.items parts.sizes.items parts.taken.items
             parts.directory.items }
         ensures { result ≡ disk_state parts.disks.items parts.taken.items
             parts.directory.items }

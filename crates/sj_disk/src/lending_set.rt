@@ -32,14 +32,14 @@ pub struct LendingSet<D: Disk> {
 impl<D: Disk> Model for LendingSet<D> {
     ghost use Rattle.sj_disk.specs.Directory.{disk_state};
     ghost use Rattle.sj_disk.specs.Lending.{LendingState, lending};
-    ghost use Rattle.sj_disk.specs.Sound.{IsSound};
+    ghost use Rattle.sj_disk.specs.Sound.{AreSoundDisks};
 
     ghost Value = { LendingState D };
 
     ghost view = { λ s. lending (disk_state s.rack.disks s.taken.items s.directory.items)
         s.rack.out };
 
-    ghost invariant = { λ s. IsSound D.size D.held s.rack.disks s.sizes.items s.taken.items
+    ghost invariant = { λ s. AreSoundDisks D.size D.held s.rack.disks s.sizes.items s.taken.items
         s.directory.items };
 }
 

@@ -12,14 +12,14 @@ use std::snapshot::Snapshot;
 
 /// A disk, where it is in.
 #[derive(Drop)]
-struct Slot<D: Drop> {
+struct DiskSlot<D: Drop> {
     disk: Option<D>,
 }
 
 /// The place of one disk.
 #[derive(Drop)]
 struct Shelf<D: Drop> {
-    slot: Slot<D>,
+    slot: DiskSlot<D>,
     /// The disk, as it was taken out where it is out.
     known: Snapshot<D>,
 }
@@ -40,7 +40,7 @@ impl<D: Drop> Shelf<D> {
         ensures { result ≡ shelved disk false }
     {
         let known = Snapshot::of(&disk);
-        let slot = Slot { disk: Some(disk) };
+        let slot = DiskSlot { disk: Some(disk) };
         Shelf { slot, known }
     }
 

@@ -7,8 +7,8 @@ pub record Reading : Type 0 where
   pub left : List ℕ
   pub called : Called
 
-abbrev pub reading : List ℕ → Called → Reading
-reading xs c = record { left = xs; called = c }
+abbrev pub reading_of : List ℕ → Called → Reading
+reading_of xs c = record { left = xs; called = c }
 
 -- a sink: the bytes taken, how many more it has room for, and its calls
 pub record Writing : Type 0 where

@@ -5,7 +5,7 @@ ghost use Rattle.std.specs.Io.{ReadsAtMost};
 ghost use Rattle.std.specs.Io.KnownBytes.{ReadConsumes};
 ghost use Rattle.sj_edge.specs.Faults.{Counts};
 ghost use Rattle.sj_edge.specs.Called.{uncalled, IsNextRefused, after_call};
-ghost use Rattle.sj_edge.specs.Memory.{reading};
+ghost use Rattle.sj_edge.specs.Memory.{reading_of};
 
 use crate::calls::Calls;
 use crate::pieces::copy_front;
@@ -22,11 +22,11 @@ pub struct MemSource {
 
 impl Model for MemSource {
     ghost use Rattle.std.specs.Prelude.{◌≤◌, length, drop};
-    ghost use Rattle.sj_edge.specs.Memory.{Reading, reading};
+    ghost use Rattle.sj_edge.specs.Memory.{Reading, reading_of};
 
     ghost Value = { Reading };
 
-    ghost view = { λ s. reading (drop s.at s.bytes.items) s.calls };
+    ghost view = { λ s. reading_of (drop s.at s.bytes.items) s.calls };
 
     ghost invariant = { λ s. s.at ≤ length s.bytes.items };
 }
@@ -35,7 +35,7 @@ impl MemSource {
     /// Gives these bytes, and refuses each read whose number, from 1, stands in `fail`.
     /// Constant time.
     pub fn new(bytes: Vec<u8>, fail: Vec<u64>) -> MemSource
-        ensures { result ≡ reading bytes.items (uncalled fail.items) }
+        ensures { result ≡ reading_of bytes.items (uncalled fail.items) }
     {
         MemSource {
             bytes,

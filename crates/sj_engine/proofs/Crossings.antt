@@ -17,8 +17,8 @@ use Rattle.sj_pool.proofs.chunk.Chunk.TheSendSync as Chunk
 use Rattle.sj_pool.proofs.tree.Tree.TheLaws.TheKnot as Trees
 use Rattle.sj_pool.specs.contracts.pool.Pool as Pool
 use Rattle.sj_edge.specs.declared.disk.Disk.{Ghosts}
-use Rattle.sj_disk.proofs.rack.Slot.TheSendSync as Slot
-use Rattle.sj_disk.specs.contracts.rack.Slot as Slots
+use Rattle.sj_disk.proofs.rack.DiskSlot.TheSendSync as Slot
+use Rattle.sj_disk.specs.contracts.rack.DiskSlot as Slots
 use Rattle.sj_disk.specs.contracts.lending_set.LendingSet as LendingSet
 use Rattle.sj_machine.proofs.copies.Copies.TheSendSync as Copies
 use Rattle.sj_machine.proofs.delivered.Delivered.TheSendSync as Delivered
@@ -30,7 +30,7 @@ use Rattle.sj_desk.proofs.desk.Desk.TheSendSync as Desks
 use Rattle.sj_desk.proofs.seat.DeskSeat.TheSendSync as Seats
 use Rattle.sj_desk.specs.contracts.desk.Desk as Desk
 use Rattle.sj_engine.specs.contracts.member.Stage as Stage
-use Rattle.sj_engine.specs.contracts.member.Member as Member
+use Rattle.sj_engine.specs.contracts.member.SeatedWorker as SeatedWorkers
 use Rattle.sj_engine.specs.contracts.noted_board.NotedBoard as NotedBoard
 use Rattle.sj_engine.specs.contracts.noted_board.NotedBoardKeyed.TheImpl as Keyed
 use Rattle.sj_engine.specs.contracts.shared_board.SharedBoard as SharedBoard
@@ -72,9 +72,9 @@ module _ (D : RattleType) (g : Ghosts D.Denot) (s : IsSend D) where
   bell-send = search (sendable, crosses) depth 60
 
   -- a worker with its seat
-  pub member_send : IsSend (Member.the_row D g)
+  pub member_send : IsSend (SeatedWorkers.the_row D g)
   member_send =
-      let T : Declared = Member.the_type D g in
+      let T : Declared = SeatedWorkers.the_type D g in
       recorded_send (Struct (shape T)) T.D T.to T.to_one (struct_send (shape T) (seat-send, (stage-send, (bell-send, tt))))
 
   desk-sync : IsSync (Desk.the_row (NotedBoard.the_row D g) (Keyed.ghosts D g Keyed.no_dict Keyed.no_dict))

@@ -22,13 +22,13 @@ use Rattle.sj_base.specs.Mode.{is_written, reads_value, access, reads_of, writes
 use Rattle.sj_codelet.specs.declared.formal.Formal.{Formal}
 use Rattle.sj_codelet.specs.declared.formal.Formal.TheVariants.{R as ReadFormal, W as WriteFormal, RW as UpdateFormal, Scratch as ScratchFormal}
 use Rattle.sj_codelet.specs.declared.kernel.Kernel.{Kernel}
-use Rattle.sj_codelet.specs.Frame.{AllKeep, AreReady, Frame, IsReady, Keeps, Slot, all_dims, arrays, own, shared, written}
+use Rattle.sj_codelet.specs.Frame.{AllKeep, AreReady, Frame, SuitsFormal, KeepsOperand, Slot, all_dims, arrays, own, shared, written_arrays}
 use Rattle.sj_codelet.specs.Kernel.{arguments_fit, commutes_of, contributes_of, dims_fit, fits, fits_in, formals_of, out}
 use Rattle.sj_codelet.specs.Runs.{IsReadyFor, IsRun, formals_in}
 use Rattle.sj_core.specs.Laws.{IsLawful, is_known}
 use Rattle.sj_core.specs.Operands.{found, results, worked_on}
 use Rattle.sj_core.specs.Program.{dims_of, no_cell, no_task, task_of, written_operands}
-use Rattle.sj_core.specs.Proper.{Commuting, Contributing, FirstPaste, Fits, MayHaveModes, Own, Proper, mode_of, modes_writing_by}
+use Rattle.sj_core.specs.Proper.{Commuting, Contributing, FirstPaste, FitsCodelet, MayHaveModes, Own, Proper, mode_of, modes_writing_by}
 use Rattle.sj_engine.specs.Operands.{AreSharesOf, IsSmall, first_share, held_for, later_shares, operand_from, operands_from, read_operands}
 use Rattle.sj_codelet.proofs.Table.{few-formals, by_table}
 use Rattle.sj_base.proofs.Lists.{cons_same}
@@ -76,7 +76,7 @@ modes-suit k ms (Contributing by may one e) = ap (all_suit (formals_of k)) e ∙
 
 -- ---- operands made of shares
 
-ready-one : (p : Program) (f : Formal) (x : Mode) (d : Cell) (y : Array) → suits f x ≡ true → (reads_value x ≡ true → IsReady f (operand_from (access x d) y)) × (reads_value x ≡ false → IsReady f (own (zeros (dims_of p d))))
+ready-one : (p : Program) (f : Formal) (x : Mode) (d : Cell) (y : Array) → suits f x ≡ true → (reads_value x ≡ true → SuitsFormal f (operand_from (access x d) y)) × (reads_value x ≡ false → SuitsFormal f (own (zeros (dims_of p d))))
 ready-one p ReadFormal R d y h = ((λ e. tt), (λ e. tt))
 ready-one p ReadFormal W d y h = absurd (false≢true h)
 ready-one p ReadFormal RW d y h = absurd (false≢true h)
@@ -110,7 +110,7 @@ ready-from p [] accesses xs h = tt
 ready-from p (f ∷ fs) [] xs h = tt
 ready-from p (f ∷ fs) (a ∷ accesses) xs h = by_reads (reads_value a.mode) refl (λ ys. ready-from p fs accesses ys (and_parts (suits f a.mode) (all_suit fs (modes_in accesses)) h).1)
   where
-    one : (y : Array) → (reads_value a.mode ≡ true → IsReady f (operand_from a y)) × (reads_value a.mode ≡ false → IsReady f (own (zeros (dims_of p a.cell))))
+    one : (y : Array) → (reads_value a.mode ≡ true → SuitsFormal f (operand_from a y)) × (reads_value a.mode ≡ false → SuitsFormal f (own (zeros (dims_of p a.cell))))
     one y = ready-one p f a.mode a.cell y (and_parts (suits f a.mode) (all_suit fs (modes_in accesses)) h).0
 
     by_reads : (b : Bool) → reads_value a.mode ≡ b → ((ys : List Array) → AreReady fs (operands_from p accesses ys)) → AreReady (f ∷ fs) (operands_from p (a ∷ accesses) xs)
@@ -163,7 +163,7 @@ arrays-from p w held (a ∷ accesses) = by_reads (reads_value a.mode) refl (arra
 
 -- ---- what a kernel leaves
 
-written-suits : (f : Formal) (x : Mode) → suits f x ≡ true → is_written x ≡ false → (s t : Slot) (fs : List Formal) (new : List Slot) → Keeps f s t → written (f ∷ fs) (t ∷ new) ≡ written fs new
+written-suits : (f : Formal) (x : Mode) → suits f x ≡ true → is_written x ≡ false → (s t : Slot) (fs : List Formal) (new : List Slot) → KeepsOperand f s t → written_arrays (f ∷ fs) (t ∷ new) ≡ written_arrays fs new
 written-suits ReadFormal x h e s t fs new k = refl
 written-suits ScratchFormal x h e s t fs new k = refl
 written-suits WriteFormal R h e s t fs new k = absurd (false≢true h)
@@ -180,10 +180,10 @@ written-suits UpdateFormal Redux h e s t fs new k = absurd (false≢true (sym e)
 written-suits UpdateFormal Commute h e s t fs new k = absurd (false≢true (sym e))
 
 record Writes (s t : Slot) (f : Formal) (fs : List Formal) (new : List Slot) : Type 0 where
-  pub first : written (f ∷ fs) (t ∷ new) ≡ t.array ∷ written fs new
+  pub first : written_arrays (f ∷ fs) (t ∷ new) ≡ t.array ∷ written_arrays fs new
   pub dims : t.array.dims ≡ s.array.dims
 
-written-suits-too : (f : Formal) (x : Mode) → suits f x ≡ true → is_written x ≡ true → (s t : Slot) (fs : List Formal) (new : List Slot) → Keeps f s t → Writes s t f fs new
+written-suits-too : (f : Formal) (x : Mode) → suits f x ≡ true → is_written x ≡ true → (s t : Slot) (fs : List Formal) (new : List Slot) → KeepsOperand f s t → Writes s t f fs new
 written-suits-too WriteFormal x h e s t fs new k = record { first = refl; dims = k.1 }
 written-suits-too UpdateFormal x h e s t fs new k = record { first = refl; dims = k.1 }
 written-suits-too ReadFormal R h e s t fs new k = absurd (false≢true e)
@@ -199,7 +199,7 @@ written-suits-too ScratchFormal Scratch h e s t fs new k = absurd (false≢true 
 written-suits-too ScratchFormal Redux h e s t fs new k = absurd (false≢true h)
 written-suits-too ScratchFormal Commute h e s t fs new k = absurd (false≢true h)
 
-results-dims : (p : Program) (fs : List Formal) (accesses : List Access) (old new : List Slot) → all_suit fs (modes_in accesses) ≡ true → all_dims old ≡ map (λ a. dims_of p a.cell) accesses → AllKeep fs old new → AllZip (IsShare p) (writes_of accesses) (map shared (written fs new))
+results-dims : (p : Program) (fs : List Formal) (accesses : List Access) (old new : List Slot) → all_suit fs (modes_in accesses) ≡ true → all_dims old ≡ map (λ a. dims_of p a.cell) accesses → AllKeep fs old new → AllZip (IsShare p) (writes_of accesses) (map shared (written_arrays fs new))
 results-dims p [] [] [] [] h d k = tt
 results-dims p [] [] [] (t ∷ new) h d k = absurd k
 results-dims p [] [] (s ∷ old) [] h d k = absurd k
@@ -212,16 +212,16 @@ results-dims p (f ∷ fs) (a ∷ accesses) (s ∷ old) [] h d k = absurd k
 results-dims p (f ∷ fs) (a ∷ accesses) (s ∷ old) (t ∷ new) h d k =
     by_written (is_written a.mode) refl (results-dims p fs accesses old new (and_parts (suits f a.mode) (all_suit fs (modes_in accesses)) h).1 (cons_same s.array.dims (dims_of p a.cell) (all_dims old) (map (λ (b : Access). dims_of p b.cell) accesses) d).1 k.1)
   where
-    by_written : (b : Bool) → is_written a.mode ≡ b → AllZip (IsShare p) (writes_of accesses) (map shared (written fs new)) → AllZip (IsShare p) (writes_of (a ∷ accesses)) (map shared (written (f ∷ fs) (t ∷ new)))
+    by_written : (b : Bool) → is_written a.mode ≡ b → AllZip (IsShare p) (writes_of accesses) (map shared (written_arrays fs new)) → AllZip (IsShare p) (writes_of (a ∷ accesses)) (map shared (written_arrays (f ∷ fs) (t ∷ new)))
     by_written false e rest =
         subst (λ (l : List Array). AllZip (IsShare p) (writes_of (a ∷ accesses)) (map shared l)) (sym (written-suits f a.mode (and_parts (suits f a.mode) (all_suit fs (modes_in accesses)) h).0 e s t fs new k.0))
-        (subst (λ b. AllZip (IsShare p) (cond b (a ∷ writes_of accesses) (writes_of accesses)) (map shared (written fs new))) (sym e) rest)
+        (subst (λ b. AllZip (IsShare p) (cond b (a ∷ writes_of accesses) (writes_of accesses)) (map shared (written_arrays fs new))) (sym e) rest)
     by_written true e rest =
         let w : Writes s t f fs new = written-suits-too f a.mode (and_parts (suits f a.mode) (all_suit fs (modes_in accesses)) h).0 e s t fs new k.0 in
         let same : s.array.dims ≡ dims_of p a.cell = (cons_same s.array.dims (dims_of p a.cell) (all_dims old) (map (λ (b : Access). dims_of p b.cell) accesses) d).0 in
         let first : IsShare p a (shared t.array) = record { shared = refl; dims = w.dims ∙ same } in
         subst (λ (l : List Array). AllZip (IsShare p) (writes_of (a ∷ accesses)) (map shared l)) (sym w.first)
-        (subst (λ b. AllZip (IsShare p) (cond b (a ∷ writes_of accesses) (writes_of accesses)) (shared t.array ∷ map shared (written fs new))) (sym e) (first, rest))
+        (subst (λ b. AllZip (IsShare p) (cond b (a ∷ writes_of accesses) (writes_of accesses)) (shared t.array ∷ map shared (written_arrays fs new))) (sym e) (first, rest))
 
 kept-length : (fs : List Formal) (old new : List Slot) → AllKeep fs old new → length fs ≡ length new
 kept-length [] [] [] k = refl
@@ -258,7 +258,7 @@ shares-length p (a ∷ accesses) (s ∷ slots) h = ap suc (shares-length p acces
 -- ---- a task
 
 module _ (p : Program) (proper : Proper p) (t : Task) (inside : t.0 < length p.tasks) where
-  abbrev the-fit : Fits p (task_of p t)
+  abbrev the-fit : FitsCodelet p (task_of p t)
   the-fit = task-fits p proper t inside
 
   the-suit : all_suit (formals_of the-fit.kernel) (modes_in (task_of p t).accesses) ≡ true
@@ -317,16 +317,16 @@ module _ (p : Program) (proper : Proper p) (t : Task) (inside : t.0 < length p.t
       pub ran-length : length (formals_in (task_of p t).codelet) ≡ length new.slots
       ran-length = kept-length (formals_in (task_of p t).codelet) old.slots new.slots ran.kept
 
-      pub ran-dims : AllZip (IsShare p) (written_operands (task_of p t)) (map shared (written (formals_in (task_of p t).codelet) new.slots))
+      pub ran-dims : AllZip (IsShare p) (written_operands (task_of p t)) (map shared (written_arrays (formals_in (task_of p t).codelet) new.slots))
       ran-dims =
           let fs = formals_in (task_of p t).codelet in
           let suit : all_suit fs (modes_in (task_of p t).accesses) ≡ true = ap (λ (l : List Formal). all_suit l (modes_in (task_of p t).accesses)) the-formals ∙ the-suit in
           results-dims p fs (task_of p t).accesses old.slots new.slots suit (ap all_dims made ∙ frame-dims) ran.kept
 
-      pub ran-results : (w : Worker) (held : Cell → Array) → arrays taken ≡ held_for p w held (read_operands p t) → arrays (map shared (written (formals_in (task_of p t).codelet) new.slots)) ≡ results p t w held
+      pub ran-results : (w : Worker) (held : Cell → Array) → arrays taken ≡ held_for p w held (read_operands p t) → arrays (map shared (written_arrays (formals_in (task_of p t).codelet) new.slots)) ≡ results p t w held
       ran-results w held e =
           let l = task_of p t in
-          shared-arrays (written (formals_in l.codelet) new.slots) ∙ ran.written
+          shared-arrays (written_arrays (formals_in l.codelet) new.slots) ∙ ran.written
           ∙ ap (λ (ins : List Array). out l.codelet l.args ins) (ap arrays made ∙ ap (λ (xs : List Array). arrays (operands_from p l.accesses xs)) e ∙ arrays-from p w held l.accesses)
 
 -- the same of the task as it is read
@@ -355,9 +355,9 @@ module _ (p : Program) (proper : Proper p) (t : Task) (inside : t.0 < length p.t
       pub compute-length : length (formals_in l.codelet) ≡ length new.slots
       compute-length = ap (λ (x : Lowered). length (formals_in x.codelet)) is ∙ ran-length p proper t inside taken shares old new its-slots its-run
 
-      module _ (f : Frame) (given : f.slots ≡ map shared (written (formals_in l.codelet) new.slots)) where
-        its-given : f.slots ≡ map shared (written (formals_in (task_of p t).codelet) new.slots)
-        its-given = given ∙ ap (λ (x : Lowered). map shared (written (formals_in x.codelet) new.slots)) is
+      module _ (f : Frame) (given : f.slots ≡ map shared (written_arrays (formals_in l.codelet) new.slots)) where
+        its-given : f.slots ≡ map shared (written_arrays (formals_in (task_of p t).codelet) new.slots)
+        its-given = given ∙ ap (λ (x : Lowered). map shared (written_arrays (formals_in x.codelet) new.slots)) is
 
         pub compute-dims : AllZip (IsShare p) (written_operands (task_of p t)) f.slots
         compute-dims = subst (λ (xs : List Slot). AllZip (IsShare p) (written_operands (task_of p t)) xs) (sym its-given) (ran-dims p proper t inside taken shares old new its-slots its-run)

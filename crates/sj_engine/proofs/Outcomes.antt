@@ -28,11 +28,11 @@ use Rattle.sj_machine.specs.Board.{BoardState, HasCause}
 use Rattle.sj_machine.specs.BoardSound.{IsSoundBoard}
 use Rattle.sj_machine.specs.Delivered.{DeliversEach}
 use Rattle.sj_machine.specs.Sound.{HoldsArray, IsBlock, block_of}
-use Rattle.sj_machine.specs.Standing.{AllTell as AllTellIn, state}
+use Rattle.sj_machine.specs.Standing.{AllTell, state}
 use Rattle.sj_machine.specs.declared.fault.RunFault.{RunFault}
 use Rattle.sj_machine.specs.declared.fault.RunFault.TheVariants.{Damaged, DiskFault, OutOfMemory}
 use Rattle.sj_machine.specs.declared.hand.Hand.{Hand}
-use Rattle.sj_engine.specs.Outcome.{AllTell, HoldBlocks, HoldsBlockAt, IsCausedBy, WantsLastWritten}
+use Rattle.sj_engine.specs.Outcome.{AllDisksTell, HoldBlocks, HoldsBlockAt, IsCausedBy, WantsLastWritten}
 use Rattle.sj_engine.specs.Run.{AllStopped, IsOutcome, NoneHasTask, NoneHasUnit}
 use Rattle.sj_engine.specs.Stage.{stopped_hand}
 
@@ -58,7 +58,7 @@ module _ {D : Type 0} (size faults mismatches : D → ℕ) (held : D → Option 
     in-block c d k None is holds = absurd is
     in-block c d k (Some e) is holds = λ x there. subst (λ (at : ℕ). GivesHeld (held x) at (block c.0 (writes s c) (array_at p s (OnDisk d) c).elements)) is.position (holds.told x (ap (λ (n : DiskNo). slice_get b.run.disks.disks n.0) is.disk ∙ there))
 
-    blocks : AllTell held b.run.opened → HoldBlocks held p m b.run.trace b.run.disks.disks
+    blocks : AllDisksTell held b.run.opened → HoldBlocks held p m b.run.trace b.run.disks.disks
     blocks tells c d valid = by_block (block_of p m c) refl (sound.run.coherent.state.blocks.home c d valid) (sound.run.blocks.placed c)
       where
         by_block : (o : Option Block) → block_of p m c ≡ o → option_map (λ k. k.disk) o ≡ Some d → IfSome o (λ k. IsSomeAnd (extent_of b.run.disks.directory c.0) (IsBlock p c k)) → IsSomeAnd o (HoldsBlockAt held b.run.disks.disks p s c d)
@@ -113,7 +113,7 @@ module _ {D : Type 0} (size faults mismatches : D → ℕ) (held : D → Option 
         | inr kept ↦ absurd (false≢true (sym (ap is_some none) ∙ kept))
       ]
 
-      module _ {A : Type 0} (pairs : List (Task × Array)) (each : IsComplete s → DeliversEach p (AllTellIn held b.run) pairs) where
+      module _ {A : Type 0} (pairs : List (Task × Array)) (each : IsComplete s → DeliversEach p (AllTell held b.run) pairs) where
         by_fault : (fault : Option RunFault) → b.fault ≡ fault → (result : Result A RunFault) → MatchOption fault (IsOk result) (λ f. result ≡ Err f) → IsOutcome size faults mismatches held p m b.run.opened result pairs b.run.trace b.run.disks.disks
         by_fault None e (Err f) ok = absurd (false≢true ok)
         by_fault None e (Ok x) ok = record {

@@ -25,7 +25,7 @@ use Rattle.sj_disk.specs.Directory.{DiskState}
 use Rattle.sj_disk.specs.Holding.{CountsStay}
 use Rattle.sj_disk.specs.Units.{UnitState}
 use Rattle.sj_machine.specs.Board.{BoardState, empty_hand, hand_in, hand_of, has_taken}
-use Rattle.sj_machine.specs.Units.{unit_at, unit_of}
+use Rattle.sj_machine.specs.Units.{unit_at, unit_in_hand}
 use Rattle.sj_machine.specs.BoardRow.{BoardKey, BoardRow, is_event_of, key_of, row_of_number}
 use Rattle.sj_machine.specs.BoardSound.{IsSoundBoard}
 use Rattle.sj_machine.specs.Sparing.{SparesUsed, Spares}
@@ -179,8 +179,8 @@ module _ {D : Type 0} (faults mismatches : D → ℕ) (w : Worker) where
           let m = a.run.machine in
           let s = state a.run in
           ap (λ (u : Option (UnitState D)). record (row_of_number b n) { unit = u }) (put.others v (λ same. other (ap (λ (x : Worker). x.0) same)))
-          ∙ ap (λ (x : BoardState D). record (row_of_number x n) { unit = unit_of a v }) put.back
-          ∙ ap (λ (h : Hand). record (row_of_parts a.run.disks p m s v h a.run.trace) { unit = unit_of a v }) (get_or-set_other a.hands w.0 n (record (hand_of a w) { unit = None }) empty_hand other)
+          ∙ ap (λ (x : BoardState D). record (row_of_number x n) { unit = unit_in_hand a v }) put.back
+          ∙ ap (λ (h : Hand). record (row_of_parts a.run.disks p m s v h a.run.trace) { unit = unit_in_hand a v }) (get_or-set_other a.hands w.0 n (record (hand_of a w) { unit = None }) empty_hand other)
 
   pub put-turn : (a b : BoardState D) → PutsUnitBack w a b → CountsStay faults mismatches a.run.disks.disks b.run.disks.disks → IsTurnOf faults mismatches w a b
   put-turn a b put counts =

@@ -1,7 +1,7 @@
 -- A worker takes the disk out that takes part in its transfer, and puts it back in a later turn.
 use Rattle.std.proofs.Common.{◌≡◌, ℕ, ◌<◌, Bool, true, false, ◌&&◌, List, length, refl, sym, ap, ◌∙◌, subst, Option, None, Some, inl, inr}
 use Rattle.std.specs.Int.{w64}
-use Rattle.sj_engine.specs.Outcome.{AllTell}
+use Rattle.sj_engine.specs.Outcome.{AllDisksTell}
 use Rattle.std.specs.Prelude.{All, FitsSigned, IsSomeAnd, Result, filter, is_some, option_and_then, option_map, slice_get, if◌then◌else◌}
 use Rattle.std.proofs.lemmas.List.{get_or-set_same}
 use Rattle.sj_base.specs.declared.ids.Cell.{Cell}
@@ -134,7 +134,7 @@ module _ {D : Type 0} (held : D → Option (List ℕ)) (w : Worker) (b x : Board
     pub took-carried : (a : Array) → IsCarried held (key_of b) tr (row_in b w) a → IsCarried held (key_of y) tr (row_in y w) a
     took-carried a c = record {
       dims = c.dims ∙ ap (λ (k : BoardState D). dims_of k.run.program tr.cell) (sym taken-is);
-      told = λ tell. ap (λ (k : BoardRow D). k.carries) row-is ∙ c.told (subst (λ (k : BoardState D). AllTell held (key_of k).opened) taken-is tell);
+      told = λ tell. ap (λ (k : BoardRow D). k.carries) row-is ∙ c.told (subst (λ (k : BoardState D). AllDisksTell held (key_of k).opened) taken-is tell);
     }
 
 -- ---- a unit comes back

@@ -8,7 +8,7 @@ use Rattle.sj_core.specs.Proper.{Proper}
 use Rattle.sj_desk.specs.Seats.{DeskFacts, SeatFacts}
 use Rattle.sj_machine.specs.BoardRow.{BoardRow}
 use Rattle.sj_engine.specs.Stage.{HasClaimedRow, IsAt, IsFreeRow, IsStoppedRow}
-use Rattle.sj_engine.specs.declared.member.Member.{Member}
+use Rattle.sj_engine.specs.declared.member.SeatedWorker.{SeatedWorker}
 use Rattle.sj_engine.specs.declared.member.Stage.{Stage}
 use Rattle.sj_engine.specs.declared.member.Stage.TheVariants.{Fresh, Idle, Blocked, Stopped}
 use Rattle.sj_engine.specs.declared.noted_board.NotedBoard.{NotedBoard}
@@ -33,7 +33,7 @@ module _ {D : Type 0} where
   HasHeard stage s = may_rest stage ≡ true → is_some s.heard ≡ true
 
   -- a worker of the desk: its row is that of its stage, it keeps no turn, and where it can't go on it has heard the bell
-  pub record IsMember (desk : DeskFacts (NotedBoard D)) (m : Member D) : Type 0 where
+  pub record IsMember (desk : DeskFacts (NotedBoard D)) (m : SeatedWorker D) : Type 0 where
     pub known : m.seat.facts.number < desk.seats
     pub row : IsAt desk (worker m.seat.facts.number) (IsRowAt (worker m.seat.facts.number) m.stage) m.seat.facts
     pub outside : m.seat.keeps_turn ≡ false

@@ -1,5 +1,5 @@
--- The operands of a task, from shares of the tiles whose old value it reads, and what its codelet makes of them.
-use Rattle.std.specs.Prelude.{◌≡◌, ◌+◌, ◌++◌, ◌≤◌, ◌<◌, ◌^◌, Bool, true, false, List, [], ◌∷◌, length, map, filter, MatchBool, if◌then◌else◌}
+-- The operands of a task, from shares of the tiles whose old value it reads.
+use Rattle.std.specs.Prelude.{◌≡◌, ◌+◌, ◌++◌, ◌≤◌, ◌<◌, ◌^◌, List, [], ◌∷◌, length, map, filter, MatchBool, if◌then◌else◌}
 use Rattle.std.specs.List.{AllZip}
 use Rattle.sj_base.specs.declared.ids.Cell.{Cell}
 use Rattle.sj_base.specs.declared.ids.Task.{Task}
@@ -8,14 +8,10 @@ use Rattle.sj_base.specs.declared.mode.Access.{Access}
 use Rattle.sj_base.specs.declared.program.Program.{Program}
 use Rattle.sj_base.specs.Array.{Array, area, zeros}
 use Rattle.sj_base.specs.Mode.{is_written, reads_value}
-use Rattle.sj_codelet.specs.declared.formal.Formal.{Formal}
-use Rattle.sj_codelet.specs.declared.formal.Formal.TheVariants.{W as WriteFormal, RW as UpdateFormal}
 use Rattle.sj_codelet.specs.Frame.{Frame, Slot, own, shared}
 use Rattle.sj_core.specs.Operands.{worked_on}
 use Rattle.sj_core.specs.Program.{dims_of, task_of}
 use Rattle.sj_machine.specs.Running.{IsShare}
-
--- ---- before the kernel
 
 -- the accesses of a task whose old value is read, in order
 abbrev pub read_operands : Program → Task → List Access
@@ -70,11 +66,3 @@ HasRoomForOperands p t f = length (task_of p t).accesses ≤ f.spare + length f.
 pub record IsSmall (p : Program) (a : Access) : Type 0 where
   pub cell : a.cell.0 < length p.cells
   pub small : area (dims_of p a.cell) ≤ 2 ^ 24
-
--- ---- after it
-
--- an operand of this mode gets a new value
-abbrev pub is_output : Formal → Bool
-is_output WriteFormal = true
-is_output UpdateFormal = true
-is_output _ = false

@@ -19,14 +19,14 @@ use Rattle.sj_machine.specs.declared.fault.RunFault.{RunFault}
 use Rattle.sj_machine.specs.declared.fault.RunFault.TheVariants.{Damaged, DiskFault, OutOfMemory}
 
 -- all disks tell their bytes; the function is the member `held` of their type
-abbrev pub AllTell : {D : Type 0} → (D → Option (List ℕ)) → List D → Type 0
-AllTell held disks = All (λ x. IsSome (held x)) disks
+abbrev pub AllDisksTell : {D : Type 0} → (D → Option (List ℕ)) → List D → Type 0
+AllDisksTell held disks = All (λ x. IsSome (held x)) disks
 
 -- the cause of a fault: the disk's count rose between the disks as they were handed in and as they come back; where it
 -- held another header, not all disks tell, and the headers differ. Want of memory has no cause that is told
 abbrev pub IsCausedBy : {D : Type 0} → (D → ℕ) → (D → ℕ) → (D → Option (List ℕ)) → List D → List D → RunFault → Type 0
 IsCausedBy faults mismatches held old new (DiskFault d) = HasRisen faults old new d.0
-IsCausedBy faults mismatches held old new (Damaged d want found) = HasRisen mismatches old new d.0 × (want ≢ found) × ¬ AllTell held old
+IsCausedBy faults mismatches held old new (Damaged d want found) = HasRisen mismatches old new d.0 × (want ≢ found) × ¬ AllDisksTell held old
 IsCausedBy faults mismatches held old new OutOfMemory = Unit {0}
 
 -- the header that was wanted of a disk is the one last written there of a cell with a copy on it, in the state that the events

@@ -15,7 +15,7 @@ use Rattle.sj_machine.specs.Delivered.{DeliversEach}
 use Rattle.sj_machine.specs.Preparing.{first_hands}
 use Rattle.sj_machine.specs.declared.fault.RunFault.{RunFault}
 use Rattle.sj_machine.specs.declared.hand.Hand.{Hand}
-use Rattle.sj_engine.specs.Outcome.{AllTell, HoldBlocks, IsCausedBy, WantsLastWritten}
+use Rattle.sj_engine.specs.Outcome.{AllDisksTell, HoldBlocks, IsCausedBy, WantsLastWritten}
 use Rattle.sj_engine.specs.Stage.{IsAt, stopped_hand}
 use Rattle.sj_engine.specs.declared.noted_board.NotedBoard.{NotedBoard}
 use Rattle.sj_base.specs.Ids.{worker}
@@ -58,8 +58,8 @@ pub record IsOutcome {D A : Type 0} (size faults mismatches : D → ℕ) (held :
   pub legal : IsLegal p m events
   pub given_back : AreGivenBack size faults mismatches held disks back
   pub finished : IsOk result → IsFinished p m events
-  pub delivers : IsOk result → DeliversEach p (AllTell held disks) pairs
+  pub delivers : IsOk result → DeliversEach p (AllDisksTell held disks) pairs
   pub no_fault_is_swallowed : IsOk result → CountsStay faults mismatches disks back
-  pub blocks : AllTell held disks → HoldBlocks held p m events back
+  pub blocks : AllDisksTell held disks → HoldBlocks held p m events back
   pub cause : IfErr result (IsCausedBy faults mismatches held disks back)
   pub wanted : IfErr result (WantsLastWritten p m events)

@@ -20,7 +20,7 @@ use Rattle.sj_machine.specs.Board.{BoardState, empty_hand}
 use Rattle.sj_machine.specs.BoardRow.{BoardKey, BoardRow, row_of_number}
 use Rattle.sj_machine.specs.declared.hand.Hand.{Hand}
 use Rattle.sj_engine.specs.Operands.{AreSharesOf, HasRoomForOperands, held_for, read_operands}
-use Rattle.sj_engine.specs.Outcome.{AllTell}
+use Rattle.sj_engine.specs.Outcome.{AllDisksTell}
 use Rattle.sj_engine.specs.declared.noted_board.NotedBoard.{NotedBoard}
 use Rattle.sj_machine.specs.Running.{IsShare}
 
@@ -78,7 +78,7 @@ pub record RunsRow {D : Type 0} (w : Worker) (t : Task) (r : BoardRow D) : Type 
 -- the array is the one that the worker's transfer carries, with its cell's dimensions; it is told where all disks tell
 pub record IsCarried {D : Type 0} (held : D → Option (List ℕ)) (k : BoardKey D) (x : Transfer) (r : BoardRow D) (a : Array) : Type 0 where
   pub dims : a.dims ≡ dims_of k.program x.cell
-  pub told : AllTell held k.opened → r.carries ≡ Some a
+  pub told : AllDisksTell held k.opened → r.carries ≡ Some a
 
 -- the transfer's tile was stored through the unit, which the worker has in hand, with this outcome
 pub record IsStoredThrough {D A : Type 0} (size faults mismatches : D → ℕ) (held : D → Option (List ℕ)) (k : BoardKey D) (w : Worker) (t : Task) (x : Transfer) (r : BoardRow D) (u : UnitState D) (result : Result A DiskRefusal) : Type 0 where
@@ -114,7 +114,7 @@ pub record HoldShares {D : Type 0} (p : Program) (w : Worker) (t : Task) (r : Bo
 pub record AreLent {D : Type 0} (held : D → Option (List ℕ)) (k : BoardKey D) (w : Worker) (t : Task) (r : BoardRow D) (slots : List Slot) : Type 0 where
   pub inside : t.0 < length k.program.tasks
   pub shares : AreSharesOf k.program t slots
-  pub told : AllTell held k.opened → HoldShares k.program w t r slots
+  pub told : AllDisksTell held k.opened → HoldShares k.program w t r slots
 
 -- the task runs, and the frame has shares of the operands that it reads, and room for the others
 abbrev pub HasOperands : {D : Type 0} → (D → Option (List ℕ)) → BoardKey D → Worker → Task → BoardRow D → Frame → Type 0
@@ -128,7 +128,7 @@ pub record HoldResults {D : Type 0} (p : Program) (w : Worker) (t : Task) (r : B
 
 pub record AreDone {D : Type 0} (held : D → Option (List ℕ)) (k : BoardKey D) (w : Worker) (t : Task) (r : BoardRow D) (slots : List Slot) : Type 0 where
   pub shares : AllZip (IsShare k.program) (written_operands (task_of k.program t)) slots
-  pub told : AllTell held k.opened → HoldResults k.program w t r slots
+  pub told : AllDisksTell held k.opened → HoldResults k.program w t r slots
 
 -- ---- boards, in a turn
 

@@ -7,7 +7,7 @@ ghost use Rattle.sj_core.specs.Legal.{IsFinished, IsLegal};
 ghost use Rattle.sj_core.specs.Proper.{HasSwapFor, IsMachineFor, Proper};
 ghost use Rattle.sj_disk.specs.Holding.{CountsStay};
 ghost use Rattle.sj_edge.specs.GivenBack.{AreGivenBack};
-ghost use Rattle.sj_engine.specs.Outcome.{AllTell, HoldBlocks, IsCausedBy, WantsLastWritten};
+ghost use Rattle.sj_engine.specs.Outcome.{AllDisksTell, HoldBlocks, IsCausedBy, WantsLastWritten};
 ghost use Rattle.sj_engine.specs.Run.{IsOpened, IsOutcome};
 ghost use Rattle.sj_machine.specs.Delivered.{DeliversEach};
 
@@ -97,11 +97,12 @@ pub fn run<C: Codelets, G: Gate, D: Disk + Send, R: Threads + Wait + Sync>(
     ensures bounded { HasAtMostThreePerTaskAndFivePerOperand program.value result.trace.events }
     ensures given_back { AreGivenBack D.size D.faults D.mismatches D.held disks.items result.disks.items }
     ensures finished { IsOk result.result → IsFinished program.value machine result.trace.events }
-    ensures delivers { IsOk result.result → DeliversEach program.value (AllTell D.held disks.items)
+    ensures delivers { IsOk result.result
+        → DeliversEach program.value (AllDisksTell D.held disks.items)
         result.delivered.pairs }
     ensures no_fault_is_swallowed { IsOk result.result →
         CountsStay D.faults D.mismatches disks.items result.disks.items }
-    ensures blocks { AllTell D.held disks.items →
+    ensures blocks { AllDisksTell D.held disks.items →
         HoldBlocks D.held program.value machine result.trace.events result.disks.items }
     ensures cause { IfErr result.result (IsCausedBy D.faults D.mismatches D.held disks.items result.disks.items) }
     // Of a disk that held another header: the one that was wanted is the one last written there.

@@ -34,7 +34,7 @@ impl Stage {
 
 /// A worker with its seat.
 #[derive(Drop)]
-pub struct Member<D: Disk> {
+pub struct SeatedWorker<D: Disk> {
     pub seat: WorkerSeat<D>,
     pub stage: Stage,
     /// The bell that its thread sleeps on: of its own number where it has a thread to itself, and that of the caller's thread

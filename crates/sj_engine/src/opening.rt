@@ -4,7 +4,7 @@ ghost use Rattle.std.specs.Prelude.{◌≡◌, IfErr, IfOk, map};
 ghost use Rattle.sj_core.specs.Laws.{IsLawful};
 ghost use Rattle.sj_core.specs.Proper.{HasSwapFor, IsMachineFor, Proper};
 ghost use Rattle.sj_engine.specs.Run.{IsOpened};
-ghost use Rattle.sj_machine.specs.Sound.{IsRunOf};
+ghost use Rattle.sj_machine.specs.Sound.{IsRunnableOn};
 
 use sj_base::program::{Machine, Program};
 use sj_edge::disk::Disk;
@@ -22,7 +22,7 @@ pub(crate) fn opened<D: Disk>(
     machine: Machine,
     disks: Vec<D>,
 ) -> Result<Board<D>, Vec<D>>
-    requires run { IsRunOf program.value machine }
+    requires run { IsRunnableOn program.value machine }
     requires sizes { machine.disks ≡ map D.size disks.items }
     ensures ok { IfOk result (IsOpened program.value machine disks.items) }
     ensures err { IfErr result (λ back. back.items ≡ disks.items) }

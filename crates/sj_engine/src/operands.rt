@@ -10,7 +10,7 @@ use sj_base::memory::OutOfMemory;
 use sj_base::mode::{Access, Mode};
 use sj_base::program::Program;
 use sj_base::tile::Tile;
-use sj_codelet::frame::{Frame, Operand};
+use sj_codelet::frame::{Frame, FrameOperand};
 use std::alloc::Global;
 use std::sync::Arc;
 
@@ -31,7 +31,7 @@ fn operand(
     program: &Program,
     access: Access,
     shares: &mut Frame,
-) -> Result<Operand, OutOfMemory>
+) -> Result<FrameOperand, OutOfMemory>
     requires small { IsSmall program.now access }
     requires shared { All (λ s. s.owned ≡ false) shares.old.slots }
     requires there { IsTrue (reads_value access.mode) → 0 < length shares.old.slots }
@@ -39,13 +39,13 @@ fn operand(
     ensures room { OnOk result (shares.new.spare + length shares.new.slots ≡ shares.old.spare + length shares.old.slots) }
 {
     match access.mode {
-        Mode::R => Ok(Operand::Shared(shares.take_shared())),
+        Mode::R => Ok(FrameOperand::Shared(shares.take_shared())),
         Mode::W | Mode::Scratch => {
             let dims = program.cells.items()[access.cell.0 as usize].dims;
-            Ok(Operand::Own(Tile::zeros(alloc, dims)?))
+            Ok(FrameOperand::Own(Tile::zeros(alloc, dims)?))
         }
         Mode::RW | Mode::Redux | Mode::Commute => {
-            Ok(Operand::Own(owned(alloc, shares.take_shared())?))
+            Ok(FrameOperand::Own(owned(alloc, shares.take_shared())?))
         }
     }
 }

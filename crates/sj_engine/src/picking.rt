@@ -29,7 +29,7 @@ pub enum Picked {
 
 /// The most tasks that a look tries, and the fewest, where so many are left: tasks that can't be claimed now, as those of a
 /// commuting cell that is in use, aren't to hide the others, nor is a look in vain to keep the turn for long.
-const MOST: usize = 64;
+const MOST_TRIED: usize = 64;
 
 const FEWEST: usize = 4;
 
@@ -39,7 +39,7 @@ fn tries_after(misses: u8) -> usize
     ensures few { result ≤ 64 }
 {
     match misses {
-        0 => MOST,
+        0 => MOST_TRIED,
         1 => 32,
         2 => 16,
         3 => 8,
@@ -146,7 +146,7 @@ impl<D: Disk> SharedBoard<D> {
         ensures looked { result ≡ Picked.Nothing → HasLooked self.old w }
     {
         let tries = tries_after(self.misses);
-        let mut passed = [Task(0); MOST];
+        let mut passed = [Task(0); MOST_TRIED];
         for i in 0..tries {
             let Some(t) = self.give_next(w, &passed[..i]) else {
                 return Picked::Nothing;

@@ -6,7 +6,7 @@ ghost use Rattle.sj_engine.specs.Member.{IsMember, IsSeatOf, MayWork};
 ghost use Rattle.sj_engine.specs.Posts.{HasEachWorker, IsOnPost, number_of, numbers_of_posts};
 ghost use Rattle.sj_engine.specs.Stage.{IsFreeRow, IsStoppedRow};
 
-use crate::member::{Member, Stage};
+use crate::member::{SeatedWorker, Stage};
 use crate::site::Site;
 use crate::worker_seat::WorkerSeat;
 use crate::workplace::{BoardDesk, BoardSeat};
@@ -29,7 +29,7 @@ pub(crate) struct ComesBack<D: Disk> {
     number: u8,
 }
 
-impl<D: Disk> Promise<Member<D>> for ComesBack<D> {
+impl<D: Disk> Promise<SeatedWorker<D>> for ComesBack<D> {
     ghost use Rattle.std.specs.Prelude.{◌≡◌};
     ghost use Rattle.sj_engine.specs.Member.{IsMember};
 
@@ -40,9 +40,9 @@ impl<D: Disk> Promise<Member<D>> for ComesBack<D> {
 #[derive(Drop)]
 pub(crate) enum Post<D: Disk> {
     /// In a thread of its own.
-    Away(PromisedHandle<Member<D>, ComesBack<D>>),
+    Away(PromisedHandle<SeatedWorker<D>, ComesBack<D>>),
     /// In the caller's thread.
-    Here(Member<D>),
+    Here(SeatedWorker<D>),
 }
 
 impl<D: Disk> Post<D> {
@@ -60,7 +60,7 @@ pub(crate) type Refused = AtomicU64;
 
 impl<C: Codelets, G: Gate, R: Threads + Wait + Sync, D: Disk> Site<'_, C, G, R, D> {
     /// What the thread of a worker does: its work to the end. Where there is no such thread, nothing.
-    fn start(&self, refused: &Refused, mut member: Member<D>) -> Member<D>
+    fn start(&self, refused: &Refused, mut member: SeatedWorker<D>) -> SeatedWorker<D>
         requires site { MayWork C.has self.now.program.now self.now.desk.now }
         requires member { IsMember self.now.desk.now member }
         ensures member { IsMember self.now.desk.now result }
@@ -131,7 +131,7 @@ impl<C: Codelets, G: Gate, R: Threads + Wait + Sync, D: Disk> Site<'_, C, G, R, 
             Post::Here(member) => member,
         };
         self.see_to_the_end(&mut member);
-        let Member { seat, .. } = member;
+        let SeatedWorker { seat, .. } = member;
         seat.into_seat()
     }
 
@@ -165,7 +165,7 @@ impl<'s, C: Codelets, G: Gate, R: Threads + Wait + Sync, D: Disk + Send> Site<'s
         ensures number { number_of result ≡ seat.number }
     {
         let number = seat.number();
-        let member = Member {
+        let member = SeatedWorker {
             seat: WorkerSeat::new(seat),
             stage: Stage::Fresh,
             bell: number,
@@ -176,7 +176,7 @@ impl<'s, C: Codelets, G: Gate, R: Threads + Wait + Sync, D: Disk + Send> Site<'s
         };
         let started = scope.spawn_with(
             promise,
-            move || -> Member<D>
+            move || -> SeatedWorker<D>
                 requires site { MayWork C.has self.now.program.now self.now.desk.now }
                 requires member { IsMember self.now.desk.now member }
                 ensures member { IsMember self.entry.now.desk.now result }
@@ -187,9 +187,9 @@ impl<'s, C: Codelets, G: Gate, R: Threads + Wait + Sync, D: Disk + Send> Site<'s
             Ok(thread) => Post::Away(thread),
             Err(refusal) => {
                 refused.store(number as u64 + 1, SeqCst);
-                let Member { seat, stage, .. } = (refusal.value)();
+                let SeatedWorker { seat, stage, .. } = (refusal.value)();
                 let bell = HERE;
-                Post::Here(Member { seat, stage, bell })
+                Post::Here(SeatedWorker { seat, stage, bell })
             }
         }
     }
@@ -208,7 +208,7 @@ impl<'s, C: Codelets, G: Gate, R: Threads + Wait + Sync, D: Disk + Send> Site<'s
         ensures number { number_of result ≡ seat.number }
     {
         if is_last {
-            return Post::Here(Member {
+            return Post::Here(SeatedWorker {
                 seat: WorkerSeat::new(seat),
                 stage: Stage::Fresh,
                 bell: HERE,

@@ -1,28 +1,28 @@
 //! What a task wrote, made ready to be kept.
 
 ghost use Rattle.std.specs.Prelude.{◌≡◌, ◌≤◌, ◌<◌, ◌+◌, ◌++◌, IfOk, OnOk, length, map};
-ghost use Rattle.sj_codelet.specs.Frame.{arrays, shared, written};
+ghost use Rattle.sj_codelet.specs.Frame.{arrays, shared, written_arrays};
 ghost use Rattle.sj_codelet.specs.Kernel.{formals_of};
 ghost use Rattle.sj_codelet.specs.Runs.{formals_in};
 ghost use Rattle.sj_codelet.specs.Slot.{slot_of};
-ghost use Rattle.sj_engine.specs.Operands.{is_output};
+ghost use Rattle.sj_codelet.specs.Formal.{is_output};
 
 use sj_base::memory::OutOfMemory;
 use sj_base::program::Codelet;
 use sj_base::tile::Tile;
 use sj_codelet::formal::Formal;
-use sj_codelet::frame::{Frame, Operand};
+use sj_codelet::frame::{Frame, FrameOperand};
 use sj_codelet::kernel::Kernel;
 use std::alloc::Global;
 use std::sync::Arc;
 
 /// An operand's tile to be shared with others. Constant time.
-fn share(alloc: Global, operand: Operand) -> Result<Arc<Tile>, OutOfMemory>
+fn share(alloc: Global, operand: FrameOperand) -> Result<Arc<Tile>, OutOfMemory>
     ensures { IfOk result (λ t. t.value ≡ (slot_of operand).array) }
 {
     match operand {
-        Operand::Shared(tile) => Ok(tile),
-        Operand::Own(tile) => Ok(Arc::new(alloc, tile)?),
+        FrameOperand::Shared(tile) => Ok(tile),
+        FrameOperand::Own(tile) => Ok(Arc::new(alloc, tile)?),
     }
 }
 
@@ -39,7 +39,8 @@ fn is_output(formal: Formal) -> bool
 /// Leaves of a frame the written operands, as shared tiles.
 fn share_written(alloc: Global, formals: &[Formal], frame: &mut Frame) -> Result<(), OutOfMemory>
     requires { length formals.now ≡ length frame.old.slots }
-    ensures slots { OnOk result (frame.new.slots ≡ map shared (written formals.now frame.old.slots)) }
+    ensures slots { OnOk result
+        (frame.new.slots ≡ map shared (written_arrays formals.now frame.old.slots)) }
     ensures room { OnOk result (frame.old.spare ≤ frame.new.spare) }
 {
     let Some((last, before)) = formals.split_last() else {
@@ -58,7 +59,8 @@ fn share_written(alloc: Global, formals: &[Formal], frame: &mut Frame) -> Result
 /// the operands.
 pub fn shares(alloc: Global, codelet: Codelet, mut frame: Frame) -> Result<Frame, OutOfMemory>
     requires { length (formals_in codelet) ≡ length frame.slots }
-    ensures { IfOk result (λ f. f.slots ≡ map shared (written (formals_in codelet) frame.slots)) }
+    ensures { IfOk result
+        (λ f. f.slots ≡ map shared (written_arrays (formals_in codelet) frame.slots)) }
 {
     let Some(kernel) = Kernel::of(codelet) else {
         return Ok(frame);

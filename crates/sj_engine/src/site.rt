@@ -3,7 +3,7 @@
 ghost use Rattle.std.specs.Prelude.{◌≡◌};
 ghost use Rattle.sj_engine.specs.Member.{IsMember, MayWork};
 
-use crate::member::{Member, Stage};
+use crate::member::{SeatedWorker, Stage};
 use crate::workplace::{BoardDesk, Workplace};
 use sj_base::ids::Worker;
 use sj_base::program::Program;
@@ -26,7 +26,7 @@ pub struct Site<'a, C, G, R, D: Disk> {
 
 impl<C: Codelets, G: Gate, R: Wait, D: Disk> Site<'_, C, G, R, D> {
     /// Goes on with a worker until it can't, or has stopped. Where it couldn't go on before and may rest, it rests first.
-    pub(crate) fn go_on(&self, member: &mut Member<D>, rests: bool)
+    pub(crate) fn go_on(&self, member: &mut SeatedWorker<D>, rests: bool)
         requires site { MayWork C.has self.now.program.now self.now.desk.now }
         requires member { IsMember self.now.desk.now member.old }
         ensures member { IsMember self.now.desk.now member.new }
@@ -48,7 +48,7 @@ impl<C: Codelets, G: Gate, R: Wait, D: Disk> Site<'_, C, G, R, D> {
     }
 
     /// Works for one worker until it has stopped, and rests where it can't go on.
-    pub(crate) fn see_to_the_end(&self, member: &mut Member<D>)
+    pub(crate) fn see_to_the_end(&self, member: &mut SeatedWorker<D>)
         requires site { MayWork C.has self.now.program.now self.now.desk.now }
         requires member { IsMember self.now.desk.now member.old }
         ensures member { IsMember self.now.desk.now member.new }

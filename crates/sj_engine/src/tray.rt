@@ -10,7 +10,7 @@ use std::marker::Model;
 use std::mem;
 
 /// The most operands that a task has.
-const MOST: u8 = 5;
+const FRAME_ROOM: u8 = 5;
 
 /// An empty frame for the operands of a worker's next task, and the tiles that its turn made needless: so a turn takes no memory
 /// for the one, and gives none back for the others.
@@ -35,7 +35,7 @@ impl Tray {
     /// A frame with room for any task's operands, and room for tiles, where there is memory for them.
     pub fn new(alloc: Global) -> Tray {
         let spent = Spent::roomy(alloc);
-        match Frame::with_room(alloc, MOST) {
+        match Frame::with_room(alloc, FRAME_ROOM) {
             Ok(frame) => Tray { frame, spent },
             Err(OutOfMemory) => Tray {
                 frame: Frame::empty(alloc),

@@ -8,7 +8,7 @@ use Rattle.sj_plan.specs.declared.parts.Parts.{Parts}
 use Rattle.sj_plan.specs.Parts.{IsPlace}
 use Rattle.sj_job.specs.declared.track.Marks.{Marks}
 use Rattle.sj_job.specs.declared.track.Marks.TheVariants.{All, Blank, Mixed}
-use Rattle.sj_job.specs.Track.{Track, AreMarks, AreMixed, all_valued, children_count, is_set, none_valued, number, track_by, written}
+use Rattle.sj_job.specs.Track.{Track, AreMarks, AreMixed, all_valued, children_count, is_set, none_valued, number, track_by, with_child_valued}
 use Rattle.sj_job.proofs.Children.{number-below}
 
 -- ---- lists of marks
@@ -95,18 +95,18 @@ set-in-all p m t place v e at =
 
 -- ---- a child that is written
 
-pub wrote-in-all : (p : Parts) (m : Marks) (t : Track) (place : ℕ × ℕ) → track_by p m ≡ t → m ≡ All → IsPlace t.parts place → track_by p m ≡ written t place
+pub wrote-in-all : (p : Parts) (m : Marks) (t : Track) (place : ℕ × ℕ) → track_by p m ≡ t → m ≡ All → IsPlace t.parts place → track_by p m ≡ with_child_valued t place
 wrote-in-all p m t place v e at =
     let n = children_count p in
     let k = number p place in
     let track : List Bool → Track = λ xs. record { parts = p; valued = xs } in
     let there = get_or-replicate n k true false (below_in p m t place v at) in
     let same : replicate n true ≡ set (replicate n true) k true = sym (set-get_or (replicate n true) k false) ∙ ap (set (replicate n true) k) there in
-    ap (track_by p) e ∙ ap track same ∙ ap (λ m. written (track_by p m) place) (sym e) ∙ ap (λ (x : Track). written x place) v
+    ap (track_by p) e ∙ ap track same ∙ ap (λ m. with_child_valued (track_by p m) place) (sym e) ∙ ap (λ (x : Track). with_child_valued x place) v
 
-pub wrote-last : (p : Parts) (marks : List Bool) (blank : ℕ) (t : Track) (place : ℕ × ℕ) (k : ℕ) → AreMixed p marks blank → (let x : Track = record { parts = p; valued = marks } in x ≡ t) → IsPlace t.parts place → k ≡ number p place → get_or marks k false ≡ false → blank ≡ 1 → track_by p All ≡ written t place
+pub wrote-last : (p : Parts) (marks : List Bool) (blank : ℕ) (t : Track) (place : ℕ × ℕ) (k : ℕ) → AreMixed p marks blank → (let x : Track = record { parts = p; valued = marks } in x ≡ t) → IsPlace t.parts place → k ≡ number p place → get_or marks k false ≡ false → blank ≡ 1 → track_by p All ≡ with_child_valued t place
 wrote-last p marks blank t place k h v at here unset last =
     let track : List Bool → Track = λ xs. record { parts = p; valued = xs } in
     let below = number-below p place (subst (λ (x : Track). IsPlace x.parts place) (sym v) at) in
     let filled : set marks k true ≡ replicate (length marks) true = last_blank marks k (omega (arith, here, below, h.counted)) unset (h.blanks ∙ last) in
-    ap track (ap (λ n. replicate n true) (sym h.counted) ∙ sym filled ∙ ap (λ n. set marks n true) here) ∙ ap (λ (x : Track). written x place) v
+    ap track (ap (λ n. replicate n true) (sym h.counted) ∙ sym filled ∙ ap (λ n. set marks n true) here) ∙ ap (λ (x : Track). with_child_valued x place) v

@@ -9,12 +9,12 @@ use Rattle.sj_job.specs.declared.reason.Objection.{Objection}
 use Rattle.sj_job.specs.declared.reason.Objection.TheVariants.{Bad as Objected, OutOfMemory as NoMemory}
 use Rattle.sj_meaning.specs.Act.{Statement}
 use Rattle.sj_job.specs.Verdict.{Verdict, Skipped, Does, Bad}
-use Rattle.sj_meaning.specs.State.{State, start}
+use Rattle.sj_meaning.specs.State.{JobState, start}
 use Rattle.sj_meaning.specs.Meaning.{run_from}
 use Rattle.sj_job.specs.Judge.{Scope, scope_of}
 use Rattle.sj_job.specs.Names.{scope_in}
 use Rattle.sj_job.specs.Sees.{Sees}
-use Rattle.sj_job.specs.Reading.{statement, verdict_of, refusal, refused, IsBad, IsRefusal}
+use Rattle.sj_job.specs.Reading.{statement, verdict_of, refusal, refused, IsBad, IsReadRefusal}
 use Rattle.sj_job.specs.Progress.{text_with}
 use Rattle.sj_job.specs.Submits.{act_noted, LineDoes, AreRead}
 use Rattle.sj_meaning.specs.View.{act_seen, seen_from, count_after, IsPlaced}
@@ -37,7 +37,7 @@ pub read-bad : (has : Kernel → Bool) (names : Names) (ss : List Kept) (n : ℕ
 read-bad has names ss n line rest why h e = text_bad has (seen names ss) n line rest why (verdict has names ss line (Bad why) h e)
 
 -- a bad line, or want of memory
-pub read-refused : (has : Kernel → Bool) (names : Names) (ss : List Kept) (n : ℕ) (line : List ℕ) (rest : List (List ℕ)) (e : Objection) → AreRead names ss → IsBad e (verdict_of has (scope_in names) line) → IsRefusal (refused n e) (text_with has (seen names ss) n (line ∷ rest))
+pub read-refused : (has : Kernel → Bool) (names : Names) (ss : List Kept) (n : ℕ) (line : List ℕ) (rest : List (List ℕ)) (e : Objection) → AreRead names ss → IsBad e (verdict_of has (scope_in names) line) → IsReadRefusal (refused n e) (text_with has (seen names ss) n (line ∷ rest))
 read-refused has names ss n line rest NoMemory h bad = tt
 read-refused has names ss n line rest (Objected why) h bad = read-bad has names ss n line rest why h bad
 
@@ -59,7 +59,7 @@ read-more has old new ss n line a h d = record {
   whole = d.notes.whole h.whole;
   sees =
       subst (λ (k : ℕ). Sees new k (run_from start (seen new (ss ++ a_kept n a ∷ [])))) (sym (length-append ss (a_kept n a ∷ [])))
-      (subst (λ (S : State). Sees new (length ss + 1) S) (sym (ap (run_from start) (seen-more has old new ss n line a h d) ∙ run_from-push start (seen old ss) (statement n (act_noted old new a))))
+      (subst (λ (S : JobState). Sees new (length ss + 1) S) (sym (ap (run_from start) (seen-more has old new ss n line a h d) ∙ run_from-push start (seen old ss) (statement n (act_noted old new a))))
       (d.notes.sees (length ss) (run_from start (seen old ss)) h.sees));
 }
 

@@ -17,14 +17,14 @@ use Rattle.sj_base.specs.declared.mode.Reduction.{Reduction}
 use Rattle.sj_base.specs.declared.mode.Reduction.TheVariants.{Plus, Least}
 use Rattle.sj_job.specs.declared.form.OperandForm.{OperandForm}
 use Rattle.sj_job.specs.Word.{is_name, is_letter, is_letter_or_digit}
-use Rattle.sj_job.specs.Form.{policy_word, reduction_word, mode_word, policy_of, reduction_of, mode_of, is_bracket, ends_with, without_last, pieces_of, bracketed, around_last, child_of, operand_with, operand_of, priority_of, with_priority}
+use Rattle.sj_job.specs.Form.{policy_word, reduction_word, mode_word, policy_of, reduction_spelled, mode_spelled, is_bracket, ends_with, without_last, pieces_of, bracketed, around_last, child_of, operand_with, operand_of, priority_of, with_priority}
 use Rattle.sj_job.specs.Grammar.{bracketed_word, child_pieces, operand_word, priority_words, is_piece, is_proper_operand}
 use Rattle.sj_job.proofs.Last.{around-at, around-joins, priority-last, ended_by}
 use Rattle.sj_job.proofs.Spelling.{some_from, Reads, word-found, position-at, before-at, after-at, before-none, divided, is-whole, is-part, not-in-name, last-byte, without-last, ends-with}
 
 -- ---- modes, policies, reductions
 
-mode-back : (m : Mode) → mode_of (mode_word m) ≡ Some m
+mode-back : (m : Mode) → mode_spelled (mode_word m) ≡ Some m
 mode-back R = refl
 mode-back W = refl
 mode-back RW = refl
@@ -32,7 +32,7 @@ mode-back Scratch = refl
 mode-back Redux = refl
 mode-back Commute = refl
 
-pub modes : Reads mode_of mode_word (λ m. true)
+pub modes : Reads mode_spelled mode_word (λ m. true)
 modes = record { read = λ w m e. (word-found mode_word (R ∷ W ∷ RW ∷ Scratch ∷ Redux ∷ Commute ∷ []) w m e, refl); back = λ m t. mode-back m }
 
 policy-back : (p : Policy) → policy_of (policy_word p) ≡ Some p
@@ -43,11 +43,11 @@ policy-back Ws = refl
 pub policies : Reads policy_of policy_word (λ p. true)
 policies = record { read = λ w p e. (word-found policy_word (Eager ∷ Prio ∷ Ws ∷ []) w p e, refl); back = λ p t. policy-back p }
 
-reduction-back : (r : Reduction) → reduction_of (reduction_word r) ≡ Some r
+reduction-back : (r : Reduction) → reduction_spelled (reduction_word r) ≡ Some r
 reduction-back Plus = refl
 reduction-back Least = refl
 
-pub reductions : Reads reduction_of reduction_word (λ r. true)
+pub reductions : Reads reduction_spelled reduction_word (λ r. true)
 reductions = record { read = λ w r e. (word-found reduction_word (Plus ∷ Least ∷ []) w r e, refl); back = λ r t. reduction-back r }
 
 -- ---- pieces between commas
@@ -238,7 +238,7 @@ abbrev operand_at : Option (List ℕ × List (List ℕ)) → Option Mode → Opt
 operand_at t m = elim t as (λ _. Option OperandForm) [ None ↦ None | Some t ↦ option_and_then (operand_with t) m ]
 
 abbrev operand_in : Option (List ℕ × List ℕ) → Option OperandForm
-operand_in parts = elim parts as (λ _. Option OperandForm) [ None ↦ None | Some p ↦ operand_at (bracketed 91 93 p.0) (mode_of p.1) ]
+operand_in parts = elim parts as (λ _. Option OperandForm) [ None ↦ None | Some p ↦ operand_at (bracketed 91 93 p.0) (mode_spelled p.1) ]
 
 abbrev IsOperand : List ℕ → OperandForm → Type 0
 IsOperand w o = (w ≡ operand_word o) × (is_proper_operand o ≡ true)
@@ -253,7 +253,7 @@ operand_made front back t m o h k e =
       ap (λ ps. is_name t.0 && list_all is_piece ps) (sym same) ∙ h.1,
     )
 
-operand_by : (front back : List ℕ) (o : OperandForm) (t : Option (List ℕ × List (List ℕ))) (m : Option Mode) → bracketed 91 93 front ≡ t → mode_of back ≡ m → operand_at t m ≡ Some o → IsOperand (front ++ 58 ∷ back) o
+operand_by : (front back : List ℕ) (o : OperandForm) (t : Option (List ℕ × List (List ℕ))) (m : Option Mode) → bracketed 91 93 front ≡ t → mode_spelled back ≡ m → operand_at t m ≡ Some o → IsOperand (front ++ 58 ∷ back) o
 operand_by front back o None m h k e = absurd (cc)
 operand_by front back o (Some t) None h k e = absurd (cc)
 operand_by front back o (Some t) (Some m) h k e = operand_made front back t m o (targets.read front t h) (modes.read back m k).0 e
@@ -261,7 +261,7 @@ operand_by front back o (Some t) (Some m) h k e = operand_made front back t m o 
 operand_in_by : (w : List ℕ) (o : OperandForm) (parts : Option (List ℕ × List ℕ)) → around_last 58 w ≡ parts → operand_in parts ≡ Some o → IsOperand w o
 operand_in_by w o None h e = absurd (cc)
 operand_in_by w o (Some p) h e =
-    subst (λ w. IsOperand w o) (sym (around-joins 58 w p.0 p.1 h)) (operand_by p.0 p.1 o (bracketed 91 93 p.0) (mode_of p.1) refl refl e)
+    subst (λ w. IsOperand w o) (sym (around-joins 58 w p.0 p.1 h)) (operand_by p.0 p.1 o (bracketed 91 93 p.0) (mode_spelled p.1) refl refl e)
 
 mode-free : (m : Mode) → list_all (λ c. not (nat_eq c 58)) (mode_word m) ≡ true
 mode-free R = refl
@@ -276,7 +276,7 @@ operand-back o h =
     let front = bracketed_word 91 93 o.name (child_pieces o.child) in
     let make : Option (List ℕ × List ℕ) → OperandForm = λ child. record { name = o.name; child = child; mode = o.mode } in
     ap operand_in (around-at 58 front (mode_word o.mode) (mode-free o.mode))
-    ∙ ap (λ t. operand_at t (mode_of (mode_word o.mode))) (targets.back (o.name, child_pieces o.child) h)
+    ∙ ap (λ t. operand_at t (mode_spelled (mode_word o.mode))) (targets.back (o.name, child_pieces o.child) h)
     ∙ ap (operand_at (Some (o.name, child_pieces o.child))) (mode-back o.mode)
     ∙ ap (option_map make) (child-back o.child)
 

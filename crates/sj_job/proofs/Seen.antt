@@ -8,7 +8,7 @@ use Rattle.std.specs.List.{list_any, AllByRecursion}
 use Rattle.std.specs.Ordering.{nat_cmp}
 use Rattle.std.specs.Cmp.Lexicographic.{slice_cmp, nat_list_cmp_total, texts_ties, same_text}
 use Rattle.sj_base.specs.Array.{Array}
-use Rattle.sj_base.specs.declared.ids.Root.{Root as RootNumber}
+use Rattle.sj_base.specs.declared.ids.Root.{Root}
 use Rattle.sj_base.specs.declared.mode.Reduction.{Reduction}
 use Rattle.sj_base.specs.declared.tile.Dims.{Dims}
 use Rattle.sj_base.specs.Mode.{is_written}
@@ -17,39 +17,39 @@ use Rattle.sj_plan.specs.Parts.{Fits, IsPlace}
 use Rattle.sj_meaning.specs.declared.job.Init.{Init}
 use Rattle.sj_meaning.specs.declared.job.Operand.{Operand as Access}
 use Rattle.sj_meaning.specs.declared.job.RootInfo.{RootInfo}
-use Rattle.sj_job.specs.declared.names.Standing.{Standing}
-use Rattle.sj_job.specs.declared.names.Standing.TheVariants.{Live, Ended}
+use Rattle.sj_job.specs.declared.names.RootStanding.{RootStanding}
+use Rattle.sj_job.specs.declared.names.RootStanding.TheVariants.{Live, Ended}
 use Rattle.sj_job.specs.declared.names.Names.{Names}
 use Rattle.sj_meaning.specs.Statement.{Operand}
-use Rattle.sj_meaning.specs.State.{Root, State, root_of, start, is_valued, is_blank}
+use Rattle.sj_meaning.specs.State.{RootState, JobState, root_of, start, is_valued, has_no_value}
 use Rattle.sj_meaning.specs.Meaning.{no_values, registered_root, register, written_of, with_parts, with_elements, with_reduction, with_child, change, plan, reduce, put, put_all, invalidate, unregister}
 use Rattle.sj_job.specs.Judge.{known_of, scope_of}
-use Rattle.sj_job.specs.Names.{Found, IsCounted, IsPlaceIn, after_write, after_writes, child_written, ended_from, first_standing, found_in, invalidated, is_over, known_by, known_from, plan_in, planned, reduced, scope_in, standing_of}
+use Rattle.sj_job.specs.Names.{Found, HasStandings, IsPlaceIn, after_write, after_writes, child_written, ended_from, first_standing, found_in, invalidated, is_name_ended, known_by, known_from, plan_in, replanned, reduced, scope_in, standing_of}
 use Rattle.sj_meaning.specs.Sound.{IsSoundPlan, IsSoundRegistration}
-use Rattle.sj_meaning.specs.Table.{Table, table, a_root, name_of, info_of, root_in, IsRoot, with_root}
+use Rattle.sj_meaning.specs.Table.{Table, table_of, a_root, name_of, info_of, root_in, IsRoot, with_root}
 use Rattle.sj_job.specs.Track.{all_valued, none_valued, even}
 use Rattle.sj_meaning.specs.View.{operand_seen, registration}
 use Rattle.sj_job.specs.Sees.{StandsFor, IsFound, Sees, Shows}
-use Rattle.sj_job.proofs.Children.{all_valued-same, none_valued-same, tracks-known, tracks-registered, tracks-planned, tracks-reduced, tracks-invalidated, tracks-written}
+use Rattle.sj_job.proofs.Children.{all_valued-same, none_valued-same, tracks-known, tracks-registered, tracks-planned, tracks-reduced, tracks-invalidated, tracks-with_child_valued}
 use Rattle.sj_job.proofs.Places.{a_found, entry, found_with, found-set, found-pushed}
 use Rattle.sj_meaning.proofs.Finding.{is-at}
 
 -- what is found of each name is so of its root
-abbrev pub AllFound : Table → List Standing → State → Type 0
+abbrev pub AllFound : Table → List RootStanding → JobState → Type 0
 AllFound T sts S = (q : List ℕ) → IsFound (found_with T sts q) (root_of S q)
 
 -- ---- what the reasons see
 
-known_standing : (d : Dims) (st : Standing) (o : Option Root) → StandsFor d st o → known_by d st ≡ option_map known_of o
+known_standing : (d : Dims) (st : RootStanding) (o : Option RootState) → StandsFor d st o → known_by d st ≡ option_map known_of o
 known_standing d (Live t by) o h = ap Some (tracks-known d t by h.root h.dims h.reduction h.tracks) ∙ sym (ap (option_map known_of) h.there)
 known_standing d Ended o h = sym (ap (option_map known_of) h)
 
-known_found : (f : Option Found) (o : Option Root) → IsFound f o → known_from f ≡ option_map known_of o
+known_found : (f : Option Found) (o : Option RootState) → IsFound f o → known_from f ≡ option_map known_of o
 known_found None o h = sym (ap (option_map known_of) h)
 known_found (Some f) o h = known_standing f.dims f.standing o h
 
 -- the reasons see the same scope
-pub same_scope : (names : Names) (n : ℕ) (S : State) → Sees names n S → scope_in names ≡ scope_of n S
+pub same_scope : (names : Names) (n : ℕ) (S : JobState) → Sees names n S → scope_in names ≡ scope_of n S
 same_scope names n S h = λ i. record {
   statements = h.statements i;
   registered = h.shows.registered i;
@@ -59,44 +59,44 @@ same_scope names n S h = λ i. record {
 
 -- ---- a change of one root
 
-changed_by : (Root → Root) → List ℕ → State → Option Root → State
+changed_by : (RootState → RootState) → List ℕ → JobState → Option RootState → JobState
 changed_by f name S o = elim o [
   | None ↦ S
   | Some r ↦ record { registered = S.registered; ended = S.ended; roots = map.insert S.roots name (f r) }
 ]
 
-nothing_there : (b : Bool) (o : Option Root) → (b ≡ true → o ≡ None) → o ≡ cond b None o
+nothing_there : (b : Bool) (o : Option RootState) → (b ≡ true → o ≡ None) → o ≡ cond b None o
 nothing_there true o h = h refl
 nothing_there false o h = refl
 
-root_by : (f : Root → Root) (S : State) (name q : List ℕ) (o : Option Root) → root_of S name ≡ o → root_of (changed_by f name S o) q ≡ cond (bytes_eq q name) (option_map f o) (root_of S q)
+root_by : (f : RootState → RootState) (S : JobState) (name q : List ℕ) (o : Option RootState) → root_of S name ≡ o → root_of (changed_by f name S o) q ≡ cond (bytes_eq q name) (option_map f o) (root_of S q)
 unfolding changed_by
 root_by f S name q None e = nothing_there (bytes_eq q name) (root_of S q) (λ t. ap (root_of S) (same_text q name (sym t)) ∙ e)
 root_by f S name q (Some r) e =
     map.get-insert nat_list_cmp_total S.roots name (f r) q ∙ ap (λ b. cond b (Some (f r)) (root_of S q)) (sym (texts_ties q name))
 
-pub root_changed : (f : Root → Root) (S : State) (name q : List ℕ) → root_of (change f name S) q ≡ cond (bytes_eq q name) (option_map f (root_of S name)) (root_of S q)
+pub root_changed : (f : RootState → RootState) (S : JobState) (name q : List ℕ) → root_of (change f name S) q ≡ cond (bytes_eq q name) (option_map f (root_of S name)) (root_of S q)
 unfolding changed_by
 root_changed f S name q = root_by f S name q (root_of S name) refl
 
-counts_by : (f : Root → Root) (S : State) (name : List ℕ) (o : Option Root) → ((changed_by f name S o).registered ≡ S.registered) × ((changed_by f name S o).ended ≡ S.ended)
+counts_by : (f : RootState → RootState) (S : JobState) (name : List ℕ) (o : Option RootState) → ((changed_by f name S o).registered ≡ S.registered) × ((changed_by f name S o).ended ≡ S.ended)
 unfolding changed_by
 counts_by f S name None = (refl, refl)
 counts_by f S name (Some r) = (refl, refl)
 
-pub counts_changed : (f : Root → Root) (S : State) (name : List ℕ) → ((change f name S).registered ≡ S.registered) × ((change f name S).ended ≡ S.ended)
+pub counts_changed : (f : RootState → RootState) (S : JobState) (name : List ℕ) → ((change f name S).registered ≡ S.registered) × ((change f name S).ended ≡ S.ended)
 unfolding changed_by
 counts_changed f S name = counts_by f S name (root_of S name)
 
-found_by : (b : Bool) (f : Found) (o : Option Found) (x y : Option Root) → (b ≡ true → StandsFor f.dims f.standing x) → IsFound o y → IsFound (cond b (Some f) o) (cond b x y)
+found_by : (b : Bool) (f : Found) (o : Option Found) (x y : Option RootState) → (b ≡ true → StandsFor f.dims f.standing x) → IsFound o y → IsFound (cond b (Some f) o) (cond b x y)
 found_by true f o x y h k = h refl
 found_by false f o x y h k = k
 
-found_there : (T : Table) (sts : List Standing) (r : RootNumber) → IsRoot T r → found_with T sts (name_of T r) ≡ Some (a_found r (info_of T r).dims (get_or sts r.0 Ended))
+found_there : (T : Table) (sts : List RootStanding) (r : Root) → IsRoot T r → found_with T sts (name_of T r) ≡ Some (a_found r (info_of T r).dims (get_or sts r.0 Ended))
 found_there T sts r h = ap (option_map (entry T sts)) h
 
 -- how it stands with one root changes as the root does
-found-changed : (T : Table) (sts : List Standing) (S : State) (r : RootNumber) (st : Standing) (f : Root → Root) → IsRoot T r → r.0 < length sts → AllFound T sts S
+found-changed : (T : Table) (sts : List RootStanding) (S : JobState) (r : Root) (st : RootStanding) (f : RootState → RootState) → IsRoot T r → r.0 < length sts → AllFound T sts S
     → (StandsFor (info_of T r).dims (get_or sts r.0 Ended) (root_of S (name_of T r)) → StandsFor (info_of T r).dims st (option_map f (root_of S (name_of T r))))
     → AllFound T (set sts r.0 st) (change f (name_of T r) S)
 found-changed T sts S r st f root below h step q =
@@ -112,29 +112,29 @@ abbrev unplanned : Option Parts → Bool
 unplanned None = true
 unplanned (Some p) = false
 
-over_plan : (st : Standing) → is_over st ≡ unplanned (plan_in st)
+over_plan : (st : RootStanding) → is_name_ended st ≡ unplanned (plan_in st)
 over_plan (Live t by) = refl
 over_plan Ended = refl
 
-ended_by : (T : Table) (sts new : List Standing) (o : Option RootNumber) → ((n : ℕ) → is_over (get_or new n Ended) ≡ is_over (get_or sts n Ended)) → ended_from (option_map (entry T new) o) ≡ ended_from (option_map (entry T sts) o)
+ended_by : (T : Table) (sts new : List RootStanding) (o : Option Root) → ((n : ℕ) → is_name_ended (get_or new n Ended) ≡ is_name_ended (get_or sts n Ended)) → ended_from (option_map (entry T new) o) ≡ ended_from (option_map (entry T sts) o)
 ended_by T sts new None h = refl
 ended_by T sts new (Some r) h = h r.0
 
-over_set : (sts : List Standing) (k : ℕ) (st : Standing) (n : ℕ) → k < length sts → is_over st ≡ is_over (get_or sts k Ended) → is_over (get_or (set sts k st) n Ended) ≡ is_over (get_or sts n Ended)
-over_set sts k st n lt e = elim (cases_eq n k) as (λ _. is_over (get_or (set sts k st) n Ended) ≡ is_over (get_or sts n Ended)) [
-  | inl same ↦ ap (λ m. is_over (get_or (set sts k st) m Ended)) same ∙ ap is_over (get_or-set_same sts k st Ended lt) ∙ e ∙ ap (λ m. is_over (get_or sts m Ended)) (sym same)
-  | inr other ↦ ap is_over (get_or-set_other sts k n st Ended other)
+over_set : (sts : List RootStanding) (k : ℕ) (st : RootStanding) (n : ℕ) → k < length sts → is_name_ended st ≡ is_name_ended (get_or sts k Ended) → is_name_ended (get_or (set sts k st) n Ended) ≡ is_name_ended (get_or sts n Ended)
+over_set sts k st n lt e = elim (cases_eq n k) as (λ _. is_name_ended (get_or (set sts k st) n Ended) ≡ is_name_ended (get_or sts n Ended)) [
+  | inl same ↦ ap (λ m. is_name_ended (get_or (set sts k st) m Ended)) same ∙ ap is_name_ended (get_or-set_same sts k st Ended lt) ∙ e ∙ ap (λ m. is_name_ended (get_or sts m Ended)) (sym same)
+  | inr other ↦ ap is_name_ended (get_or-set_other sts k n st Ended other)
 ]
 
 -- the standing of one root is another one
-pub record IsSet (old new : Names) (r : RootNumber) (st : Standing) : Type 0 where
+pub record IsSet (old new : Names) (r : Root) (st : RootStanding) : Type 0 where
   pub roots : new.roots ≡ old.roots
   pub standings : new.standings.items ≡ set old.standings.items r.0 st
   pub root : IsRoot old.roots r
   pub below : r.0 < length old.standings.items
 
 -- a root changes, and its standing with it
-shows_changed : (old new : Names) (S : State) (r : RootNumber) (st : Standing) (f : Root → Root) → Shows old S → IsSet old new r st → IsCounted new → is_over st ≡ is_over (standing_of old r)
+shows_changed : (old new : Names) (S : JobState) (r : Root) (st : RootStanding) (f : RootState → RootState) → Shows old S → IsSet old new r st → HasStandings new → is_name_ended st ≡ is_name_ended (standing_of old r)
     → (StandsFor (info_of old.roots r).dims (standing_of old r) (root_of S (name_of old.roots r)) → StandsFor (info_of old.roots r).dims st (option_map f (root_of S (name_of old.roots r))))
     → Shows new (change f (name_of old.roots r) S)
 shows_changed old new S r st f h k counted over step =
@@ -153,11 +153,11 @@ shows_changed old new S r st f h k counted over step =
 
 -- ---- another plan
 
-over_planned : (p : Parts) (st : Standing) → is_over (planned p st) ≡ is_over st
+over_planned : (p : Parts) (st : RootStanding) → is_name_ended (replanned p st) ≡ is_name_ended st
 over_planned p (Live t by) = refl
 over_planned p Ended = refl
 
-planned_step : (p : Parts) (d : Dims) (st : Standing) (o : Option Root) → ((r : Root) → o ≡ Some r → Fits p r.dims × (((is_valued r) || (is_blank r)) ≡ true)) → StandsFor d st o → StandsFor d (planned p st) (option_map (with_parts p) o)
+planned_step : (p : Parts) (d : Dims) (st : RootStanding) (o : Option RootState) → ((r : RootState) → o ≡ Some r → Fits p r.dims × (((is_valued r) || (has_no_value r)) ≡ true)) → StandsFor d st o → StandsFor d (replanned p st) (option_map (with_parts p) o)
 planned_step p d (Live t by) o sound h =
     let s = sound h.root h.there in
     let either : (all_valued t || none_valued t) ≡ true = (λ i. all_valued-same t h.root h.tracks i || none_valued-same t h.root h.tracks i) ∙ s.1 in
@@ -165,49 +165,49 @@ planned_step p d (Live t by) o sound h =
 planned_step p d Ended o sound h = ap (option_map (with_parts p)) h
 
 -- what a plan line needs, of the root
-sound_there : (p : Parts) (o : Option Root) (r : Root) → Fits p (elim o as (λ _. Dims) [ None ↦ record { rows = 0; cols = 0 } | Some r ↦ r.dims ]) → ((elim o as (λ _. Bool) [ None ↦ false | Some r ↦ is_valued r ]) || (elim o as (λ _. Bool) [ None ↦ false | Some r ↦ is_blank r ])) ≡ true → o ≡ Some r → Fits p r.dims × ((is_valued r || is_blank r) ≡ true)
+sound_there : (p : Parts) (o : Option RootState) (r : RootState) → Fits p (elim o as (λ _. Dims) [ None ↦ record { rows = 0; cols = 0 } | Some r ↦ r.dims ]) → ((elim o as (λ _. Bool) [ None ↦ false | Some r ↦ is_valued r ]) || (elim o as (λ _. Bool) [ None ↦ false | Some r ↦ has_no_value r ])) ≡ true → o ≡ Some r → Fits p r.dims × ((is_valued r || has_no_value r) ≡ true)
 sound_there p None r fits even e = absurd (cc)
-sound_there p (Some x) r fits even e = let same : x ≡ r = cc in subst (λ (y : Root). Fits p y.dims × ((is_valued y || is_blank y) ≡ true)) same (fits, even)
+sound_there p (Some x) r fits even e = let same : x ≡ r = cc in subst (λ (y : RootState). Fits p y.dims × ((is_valued y || has_no_value y) ≡ true)) same (fits, even)
 
-pub shows_planned : (old new : Names) (S : State) (r : RootNumber) (p : Parts) → Shows old S → IsSet old new r (planned p (standing_of old r)) → IsCounted new → IsSoundPlan S (name_of old.roots r) p → Shows new (plan (name_of old.roots r) p S)
+pub shows_planned : (old new : Names) (S : JobState) (r : Root) (p : Parts) → Shows old S → IsSet old new r (replanned p (standing_of old r)) → HasStandings new → IsSoundPlan S (name_of old.roots r) p → Shows new (plan (name_of old.roots r) p S)
 shows_planned old new S r p h k counted sound =
-    shows_changed old new S r (planned p (standing_of old r)) (with_parts p) h k counted (over_planned p (standing_of old r))
+    shows_changed old new S r (replanned p (standing_of old r)) (with_parts p) h k counted (over_planned p (standing_of old r))
     (planned_step p (info_of old.roots r).dims (standing_of old r) (root_of S (name_of old.roots r)) (λ x e. sound_there p (root_of S (name_of old.roots r)) x sound.parts sound.even e))
 
 -- ---- a reduction
 
-over_reduced : (by : Reduction) (st : Standing) → is_over (reduced by st) ≡ is_over st
+over_reduced : (by : Reduction) (st : RootStanding) → is_name_ended (reduced by st) ≡ is_name_ended st
 over_reduced by (Live t old) = refl
 over_reduced by Ended = refl
 
-reduced_step : (by : Reduction) (d : Dims) (st : Standing) (o : Option Root) → StandsFor d st o → StandsFor d (reduced by st) (option_map (with_reduction by) o)
+reduced_step : (by : Reduction) (d : Dims) (st : RootStanding) (o : Option RootState) → StandsFor d st o → StandsFor d (reduced by st) (option_map (with_reduction by) o)
 reduced_step by d (Live t old) o h = record { root = with_reduction by h.root; there = ap (option_map (with_reduction by)) h.there; dims = h.dims; reduction = refl; tracks = tracks-reduced by t h.root h.tracks }
 reduced_step by d Ended o h = ap (option_map (with_reduction by)) h
 
-pub shows_reduced : (old new : Names) (S : State) (r : RootNumber) (by : Reduction) → Shows old S → IsSet old new r (reduced by (standing_of old r)) → IsCounted new → Shows new (reduce (name_of old.roots r) by S)
+pub shows_reduced : (old new : Names) (S : JobState) (r : Root) (by : Reduction) → Shows old S → IsSet old new r (reduced by (standing_of old r)) → HasStandings new → Shows new (reduce (name_of old.roots r) by S)
 shows_reduced old new S r by h k counted =
     shows_changed old new S r (reduced by (standing_of old r)) (with_reduction by) h k counted (over_reduced by (standing_of old r))
     (reduced_step by (info_of old.roots r).dims (standing_of old r) (root_of S (name_of old.roots r)))
 
 -- ---- no values
 
-over_invalidated : (st : Standing) → is_over (invalidated st) ≡ is_over st
+over_invalidated : (st : RootStanding) → is_name_ended (invalidated st) ≡ is_name_ended st
 over_invalidated (Live t by) = refl
 over_invalidated Ended = refl
 
-invalidated_step : (d : Dims) (st : Standing) (o : Option Root) → StandsFor d st o → StandsFor d (invalidated st) (option_map (λ (r : Root). with_elements (no_values r.dims) r) o)
+invalidated_step : (d : Dims) (st : RootStanding) (o : Option RootState) → StandsFor d st o → StandsFor d (invalidated st) (option_map (λ (r : RootState). with_elements (no_values r.dims) r) o)
 invalidated_step d (Live t by) o h =
-    record { root = with_elements (no_values h.root.dims) h.root; there = ap (option_map (λ (r : Root). with_elements (no_values r.dims) r)) h.there; dims = h.dims; reduction = h.reduction; tracks = tracks-invalidated t h.root h.tracks }
-invalidated_step d Ended o h = ap (option_map (λ (r : Root). with_elements (no_values r.dims) r)) h
+    record { root = with_elements (no_values h.root.dims) h.root; there = ap (option_map (λ (r : RootState). with_elements (no_values r.dims) r)) h.there; dims = h.dims; reduction = h.reduction; tracks = tracks-invalidated t h.root h.tracks }
+invalidated_step d Ended o h = ap (option_map (λ (r : RootState). with_elements (no_values r.dims) r)) h
 
-pub shows_invalidated : (old new : Names) (S : State) (r : RootNumber) → Shows old S → IsSet old new r (invalidated (standing_of old r)) → IsCounted new → Shows new (invalidate (name_of old.roots r) S)
+pub shows_invalidated : (old new : Names) (S : JobState) (r : Root) → Shows old S → IsSet old new r (invalidated (standing_of old r)) → HasStandings new → Shows new (invalidate (name_of old.roots r) S)
 shows_invalidated old new S r h k counted =
-    shows_changed old new S r (invalidated (standing_of old r)) (λ (x : Root). with_elements (no_values x.dims) x) h k counted (over_invalidated (standing_of old r))
+    shows_changed old new S r (invalidated (standing_of old r)) (λ (x : RootState). with_elements (no_values x.dims) x) h k counted (over_invalidated (standing_of old r))
     (invalidated_step (info_of old.roots r).dims (standing_of old r) (root_of S (name_of old.roots r)))
 
 -- ---- a root less
 
-less_by : (b : Bool) (d : Dims) (r : RootNumber) (o : Option Found) (y : Option Root) → IsFound o y → IsFound (cond b (Some (a_found r d Ended)) o) (cond b None y)
+less_by : (b : Bool) (d : Dims) (r : Root) (o : Option Found) (y : Option RootState) → IsFound o y → IsFound (cond b (Some (a_found r d Ended)) o) (cond b None y)
 less_by true d r o y h = refl
 less_by false d r o y h = h
 
@@ -215,11 +215,11 @@ either : (b k : Bool) → cond b true k ≡ (b || k)
 either true k = refl
 either false k = refl
 
-ended_over : (b : Bool) (n : RootNumber) (d : Dims) (o : Option Found) → ended_from (cond b (Some (a_found n d Ended)) o) ≡ cond b true (ended_from o)
+ended_over : (b : Bool) (n : Root) (d : Dims) (o : Option Found) → ended_from (cond b (Some (a_found n d Ended)) o) ≡ cond b true (ended_from o)
 ended_over true n d o = refl
 ended_over false n d o = refl
 
-pub shows_ended : (old new : Names) (S : State) (r : RootNumber) → Shows old S → IsSet old new r Ended → IsCounted new → Shows new (unregister (name_of old.roots r) S)
+pub shows_ended : (old new : Names) (S : JobState) (r : Root) → Shows old S → IsSet old new r Ended → HasStandings new → Shows new (unregister (name_of old.roots r) S)
 shows_ended old new S r h k counted =
     let name = name_of old.roots r in
     let d = (info_of old.roots r).dims in
@@ -241,12 +241,12 @@ shows_ended old new S r h k counted =
 
 -- ---- a root more
 
-ended_pushed : (b : Bool) (p : Parts) (i : Init) (n : RootNumber) (d : Dims) (o : Option Found) → (b ≡ true → o ≡ None) → ended_from (cond b (Some (a_found n d (first_standing p i))) o) ≡ ended_from o
+ended_pushed : (b : Bool) (p : Parts) (i : Init) (n : Root) (d : Dims) (o : Option Found) → (b ≡ true → o ≡ None) → ended_from (cond b (Some (a_found n d (first_standing p i))) o) ≡ ended_from o
 ended_pushed true p i n d o h = sym (ap ended_from (h refl))
 ended_pushed false p i n d o h = refl
 
-pub shows_registered : (old new : Names) (S : State) (name : List ℕ) (info : RootInfo) (init : Init) → IsSoundRegistration S (registration name info init) → Shows old S → root_in old.roots name ≡ None → length old.roots.infos ≡ length old.roots.names
-    → new.roots ≡ with_root name info old.roots → new.standings.items ≡ old.standings.items ++ first_standing info.parts init ∷ [] → IsCounted new → Shows new (register (registration name info init) S)
+pub shows_registered : (old new : Names) (S : JobState) (name : List ℕ) (info : RootInfo) (init : Init) → IsSoundRegistration S (registration name info init) → Shows old S → root_in old.roots name ≡ None → length old.roots.infos ≡ length old.roots.names
+    → new.roots ≡ with_root name info old.roots → new.standings.items ≡ old.standings.items ++ first_standing info.parts init ∷ [] → HasStandings new → Shows new (register (registration name info init) S)
 shows_registered old new S name info init sound h none k e s counted =
     let r = registration name info init in
     let here = a_found (a_root (length old.roots.names)) info.dims (first_standing info.parts init) in
@@ -270,11 +270,11 @@ shows_registered old new S name info init sound h none k e s counted =
 
 -- ---- what a task writes
 
-plan_written : (place : ℕ × ℕ) (st : Standing) → plan_in (child_written place st) ≡ plan_in st
+plan_written : (place : ℕ × ℕ) (st : RootStanding) → plan_in (child_written place st) ≡ plan_in st
 plan_written place (Live t by) = refl
 plan_written place Ended = refl
 
-plan_set : (place : ℕ × ℕ) (sts : List Standing) (k n : ℕ) → k < length sts → plan_in (get_or (set sts k (child_written place (get_or sts k Ended))) n Ended) ≡ plan_in (get_or sts n Ended)
+plan_set : (place : ℕ × ℕ) (sts : List RootStanding) (k n : ℕ) → k < length sts → plan_in (get_or (set sts k (child_written place (get_or sts k Ended))) n Ended) ≡ plan_in (get_or sts n Ended)
 plan_set place sts k n lt = elim (cases_eq n k) as (λ _. plan_in (get_or (set sts k (child_written place (get_or sts k Ended))) n Ended) ≡ plan_in (get_or sts n Ended)) [
   | inl same ↦
       let st = child_written place (get_or sts k Ended) in
@@ -282,47 +282,47 @@ plan_set place sts k n lt = elim (cases_eq n k) as (λ _. plan_in (get_or (set s
   | inr other ↦ ap plan_in (get_or-set_other sts k n (child_written place (get_or sts k Ended)) Ended other)
 ]
 
-plan_cond : (b : Bool) (place : ℕ × ℕ) (sts : List Standing) (k n : ℕ) → k < length sts → plan_in (get_or (cond b (set sts k (child_written place (get_or sts k Ended))) sts) n Ended) ≡ plan_in (get_or sts n Ended)
+plan_cond : (b : Bool) (place : ℕ × ℕ) (sts : List RootStanding) (k n : ℕ) → k < length sts → plan_in (get_or (cond b (set sts k (child_written place (get_or sts k Ended))) sts) n Ended) ≡ plan_in (get_or sts n Ended)
 plan_cond true place sts k n lt = plan_set place sts k n lt
 plan_cond false place sts k n lt = refl
 
-length_cond : (b : Bool) (sts : List Standing) (k : ℕ) (st : Standing) → length (cond b (set sts k st) sts) ≡ length sts
+length_cond : (b : Bool) (sts : List RootStanding) (k : ℕ) (st : RootStanding) → length (cond b (set sts k st) sts) ≡ length sts
 length_cond true sts k st = length-set sts k st
 length_cond false sts k st = refl
 
-pub length-written : (o : Access) (sts : List Standing) → length (after_write o sts) ≡ length sts
+pub length-written : (o : Access) (sts : List RootStanding) → length (after_write o sts) ≡ length sts
 length-written o sts = length_cond (is_written o.mode) sts o.root.0 (child_written o.place (get_or sts o.root.0 Ended))
 
-pub plan-written : (o : Access) (sts : List Standing) (n : ℕ) → o.root.0 < length sts → plan_in (get_or (after_write o sts) n Ended) ≡ plan_in (get_or sts n Ended)
+pub plan-written : (o : Access) (sts : List RootStanding) (n : ℕ) → o.root.0 < length sts → plan_in (get_or (after_write o sts) n Ended) ≡ plan_in (get_or sts n Ended)
 plan-written o sts n lt = plan_cond (is_written o.mode) o.place sts o.root.0 n lt
 
 -- an operand is of a root, and its place is one of the active plan
-pub record FitsIn (T : Table) (sts : List Standing) (o : Access) : Type 0 where
+pub record FitsIn (T : Table) (sts : List RootStanding) (o : Access) : Type 0 where
   pub root : IsRoot T o.root
   pub below : o.root.0 < length sts
   pub place : IsPlaceIn (plan_in (get_or sts o.root.0 Ended)) o.place
 
-fits_written : (T : Table) (o p : Access) (sts : List Standing) → o.root.0 < length sts → FitsIn T sts p → FitsIn T (after_write o sts) p
+fits_written : (T : Table) (o p : Access) (sts : List RootStanding) → o.root.0 < length sts → FitsIn T sts p → FitsIn T (after_write o sts) p
 fits_written T o p sts lt h = record {
   root = h.root;
   below = subst (λ n. p.root.0 < n) (sym (length-written o sts)) h.below;
   place = subst (λ x. IsPlaceIn x p.place) (sym (plan-written o sts p.root.0 lt)) h.place;
 }
 
-all_fit_written : (T : Table) (o : Access) (os : List Access) (sts : List Standing) → o.root.0 < length sts → AllByRecursion (FitsIn T sts) os → AllByRecursion (FitsIn T (after_write o sts)) os
+all_fit_written : (T : Table) (o : Access) (os : List Access) (sts : List RootStanding) → o.root.0 < length sts → AllByRecursion (FitsIn T sts) os → AllByRecursion (FitsIn T (after_write o sts)) os
 all_fit_written T o [] sts lt h = h
 all_fit_written T o (p ∷ os) sts lt h = (fits_written T o p sts lt h.0, all_fit_written T o os sts lt h.1)
 
-plans_kept : (T : Table) (os : List Access) (sts : List Standing) (n : ℕ) → AllByRecursion (FitsIn T sts) os → plan_in (get_or (after_writes os sts) n Ended) ≡ plan_in (get_or sts n Ended)
+plans_kept : (T : Table) (os : List Access) (sts : List RootStanding) (n : ℕ) → AllByRecursion (FitsIn T sts) os → plan_in (get_or (after_writes os sts) n Ended) ≡ plan_in (get_or sts n Ended)
 plans_kept T [] sts n h = refl
 plans_kept T (o ∷ os) sts n h = plans_kept T os (after_write o sts) n (all_fit_written T o os sts h.0.below h.1) ∙ plan-written o sts n h.0.below
 
-written_step : (a : Array) (place : ℕ × ℕ) (d : Dims) (st : Standing) (o : Option Root) → IsPlaceIn (plan_in st) place → StandsFor d st o → StandsFor d (child_written place st) (option_map (with_child place a) o)
+written_step : (a : Array) (place : ℕ × ℕ) (d : Dims) (st : RootStanding) (o : Option RootState) → IsPlaceIn (plan_in st) place → StandsFor d st o → StandsFor d (child_written place st) (option_map (with_child place a) o)
 written_step a place d (Live t by) o at h =
-    record { root = with_child place a h.root; there = ap (option_map (with_child place a)) h.there; dims = h.dims; reduction = h.reduction; tracks = tracks-written place a t h.root h.tracks (subst (λ (p : Parts). IsPlace p place) h.tracks.parts at) }
+    record { root = with_child place a h.root; there = ap (option_map (with_child place a)) h.there; dims = h.dims; reduction = h.reduction; tracks = tracks-with_child_valued place a t h.root h.tracks (subst (λ (p : Parts). IsPlace p place) h.tracks.parts at) }
 written_step a place d Ended o at h = ap (option_map (with_child place a)) h
 
-found_put : (T : Table) (sts : List Standing) (S : State) (o : Access) (a : Array) → FitsIn T sts o → AllFound T sts S → AllFound T (set sts o.root.0 (child_written o.place (get_or sts o.root.0 Ended))) (put (operand_seen T o) a S)
+found_put : (T : Table) (sts : List RootStanding) (S : JobState) (o : Access) (a : Array) → FitsIn T sts o → AllFound T sts S → AllFound T (set sts o.root.0 (child_written o.place (get_or sts o.root.0 Ended))) (put (operand_seen T o) a S)
 found_put T sts S o a fit h =
     found-changed T sts S o.root (child_written o.place (get_or sts o.root.0 Ended)) (with_child o.place a) fit.root fit.below h
     (written_step a o.place (info_of T o.root).dims (get_or sts o.root.0 Ended) (root_of S (name_of T o.root)) fit.place)
@@ -331,19 +331,19 @@ abbrev seen : Table → List Access → List (Operand (List ℕ))
 seen T os = each_of (operand_seen T) os
 
 -- with as many arrays as operands are written, the children of these have their values
-put_by : (T : Table) (b : Bool) (o : Access) (os : List Access) (arrays : List Array) (sts : List Standing) (S : State) → FitsIn T sts o → AllFound T sts S → length arrays ≡ length (cond b (operand_seen T o ∷ written_of (seen T os)) (written_of (seen T os)))
-    → ((xs : List Array) (us : List Standing) (U : State) → us ≡ cond b (set sts o.root.0 (child_written o.place (get_or sts o.root.0 Ended))) sts → AllFound T us U → length xs ≡ length (written_of (seen T os)) → AllFound T (after_writes os us) (put_all (written_of (seen T os)) xs U))
+put_by : (T : Table) (b : Bool) (o : Access) (os : List Access) (arrays : List Array) (sts : List RootStanding) (S : JobState) → FitsIn T sts o → AllFound T sts S → length arrays ≡ length (cond b (operand_seen T o ∷ written_of (seen T os)) (written_of (seen T os)))
+    → ((xs : List Array) (us : List RootStanding) (U : JobState) → us ≡ cond b (set sts o.root.0 (child_written o.place (get_or sts o.root.0 Ended))) sts → AllFound T us U → length xs ≡ length (written_of (seen T os)) → AllFound T (after_writes os us) (put_all (written_of (seen T os)) xs U))
     → AllFound T (after_writes os (cond b (set sts o.root.0 (child_written o.place (get_or sts o.root.0 Ended))) sts)) (put_all (cond b (operand_seen T o ∷ written_of (seen T os)) (written_of (seen T os))) arrays S)
 put_by T true o os [] sts S fit h l rest = absurd (omega (arith, l))
 put_by T true o os (a ∷ arrays) sts S fit h l rest = rest arrays _ (put (operand_seen T o) a S) refl (found_put T sts S o a fit h) (omega (arith, l))
 put_by T false o os arrays sts S fit h l rest = rest arrays sts S refl h l
 
-all_put : (T : Table) (os : List Access) (arrays : List Array) (sts : List Standing) (S : State) → AllByRecursion (FitsIn T sts) os → AllFound T sts S → length arrays ≡ length (written_of (seen T os)) → AllFound T (after_writes os sts) (put_all (written_of (seen T os)) arrays S)
+all_put : (T : Table) (os : List Access) (arrays : List Array) (sts : List RootStanding) (S : JobState) → AllByRecursion (FitsIn T sts) os → AllFound T sts S → length arrays ≡ length (written_of (seen T os)) → AllFound T (after_writes os sts) (put_all (written_of (seen T os)) arrays S)
 all_put T [] arrays sts S fit h l = h
 all_put T (o ∷ os) arrays sts S fit h l =
-    put_by T (is_written o.mode) o os arrays sts S fit.0 h l (λ xs us U e k m. all_put T os xs us U (subst (λ (zs : List Standing). AllByRecursion (FitsIn T zs) os) (sym e) (all_fit_written T o os sts fit.0.below fit.1)) k m)
+    put_by T (is_written o.mode) o os arrays sts S fit.0 h l (λ xs us U e k m. all_put T os xs us U (subst (λ (zs : List RootStanding). AllByRecursion (FitsIn T zs) os) (sym e) (all_fit_written T o os sts fit.0.below fit.1)) k m)
 
-put_counts : (os : List (Operand (List ℕ))) (arrays : List Array) (S : State) → ((put_all os arrays S).registered ≡ S.registered) × ((put_all os arrays S).ended ≡ S.ended)
+put_counts : (os : List (Operand (List ℕ))) (arrays : List Array) (S : JobState) → ((put_all os arrays S).registered ≡ S.registered) × ((put_all os arrays S).ended ≡ S.ended)
 put_counts [] arrays S = (refl, refl)
 put_counts (o ∷ os) [] S = (refl, refl)
 put_counts (o ∷ os) (a ∷ arrays) S =
@@ -351,13 +351,13 @@ put_counts (o ∷ os) (a ∷ arrays) S =
     let f = counts_changed (with_child o.place a) S o.name in
     (e.0 ∙ f.0, e.1 ∙ f.1)
 
-fit_from : (T : Table) (sts : List Standing) (os : List Access) → ((k : ℕ) (d : Access) → k < length os → FitsIn T sts (get_or os k d)) → AllByRecursion (FitsIn T sts) os
+fit_from : (T : Table) (sts : List RootStanding) (os : List Access) → ((k : ℕ) (d : Access) → k < length os → FitsIn T sts (get_or os k d)) → AllByRecursion (FitsIn T sts) os
 fit_from T sts [] h = tt
 fit_from T sts (o ∷ os) h = (h 0 o (omega arith), fit_from T sts os (λ k d lt. h (suc k) d (omega (arith, lt))))
 
 -- ---- whole scopes
 
-pub shows_put : (old new : Names) (S : State) (os : List Access) (arrays : List Array) → length arrays ≡ length (written_of (each_of (operand_seen old.roots) os)) → Shows old S → IsCounted new → new.roots ≡ old.roots → new.standings.items ≡ after_writes os old.standings.items
+pub shows_put : (old new : Names) (S : JobState) (os : List Access) (arrays : List Array) → length arrays ≡ length (written_of (each_of (operand_seen old.roots) os)) → Shows old S → HasStandings new → new.roots ≡ old.roots → new.standings.items ≡ after_writes os old.standings.items
     → ((k : ℕ) (d : Access) → k < length os → FitsIn old.roots old.standings.items (get_or os k d))
     → Shows new (put_all (written_of (each_of (operand_seen old.roots) os)) arrays S)
 shows_put old new S os arrays l h counted roots standings fits =
@@ -377,7 +377,7 @@ shows_put old new S os arrays l h counted roots standings fits =
     }
 
 -- before the first statement
-pub sees_start : (new : Names) → new.statements ≡ 0 → new.roots ≡ table [] [] → new.standings.items ≡ [] → Sees new 0 start
+pub sees_start : (new : Names) → new.statements ≡ 0 → new.roots ≡ table_of [] [] → new.standings.items ≡ [] → Sees new 0 start
 sees_start new s e d =
     let nothing : (q : List ℕ) → found_in new q ≡ None = λ q. ap (λ (T : Table). found_with T new.standings.items q) e in
     record {
@@ -391,29 +391,29 @@ sees_start new s e d =
     }
 
 -- a standing more
-pub written_more : (os : List Access) (i : ℕ) (o : Access) (now new : List Standing) → drop i os ≡ o ∷ drop (i + 1) os → new ≡ after_write o now → after_writes (drop (i + 1) os) new ≡ after_writes (drop i os) now
+pub written_more : (os : List Access) (i : ℕ) (o : Access) (now new : List RootStanding) → drop i os ≡ o ∷ drop (i + 1) os → new ≡ after_write o now → after_writes (drop (i + 1) os) new ≡ after_writes (drop i os) now
 written_more os i o now new e h = ap (after_writes (drop (i + 1) os)) h ∙ ap (λ l. after_writes l now) (sym e)
 
 -- ---- the list of standings
 
 -- the standing of a root that was read
-pub at-standing : (sts : List Standing) (k : ℕ) (st : Standing) → k < length sts → st ≡ get_or sts k st → st ≡ get_or sts k Ended
+pub at-standing : (sts : List RootStanding) (k : ℕ) (st : RootStanding) → k < length sts → st ≡ get_or sts k st → st ≡ get_or sts k Ended
 at-standing sts k st lt e = get_or_read sts k st lt e Ended
 
-pub below-length : (names : Names) (r : RootNumber) → IsCounted names → IsRoot names.roots r → r.0 < length names.standings.items
+pub below-length : (names : Names) (r : Root) → HasStandings names → IsRoot names.roots r → r.0 < length names.standings.items
 below-length names r counted root = omega (arith, names.standings.ok, counted, (is-at names.roots (name_of names.roots r) r root).below)
 
-pub fits-in : (names : Names) (o : Access) → IsCounted names → IsRoot names.roots o.root → IsPlaceIn (plan_in (standing_of names o.root)) o.place → FitsIn names.roots names.standings.items o
+pub fits-in : (names : Names) (o : Access) → HasStandings names → IsRoot names.roots o.root → IsPlaceIn (plan_in (standing_of names o.root)) o.place → FitsIn names.roots names.standings.items o
 fits-in names o counted root place = record { root = root; below = below-length names o.root counted root; place = place }
 
-pub counted-once : (old new : Names) (o : Access) → IsCounted old → new.roots ≡ old.roots → new.standings.items ≡ after_write o old.standings.items → IsCounted new
+pub counted-once : (old new : Names) (o : Access) → HasStandings old → new.roots ≡ old.roots → new.standings.items ≡ after_write o old.standings.items → HasStandings new
 counted-once old new o h roots standings =
     omega (arith, h, old.standings.ok, new.standings.ok, ap length standings, length-written o old.standings.items, ap (λ (T : Table). length T.names) roots)
 
-length-all : (os : List Access) (sts : List Standing) → length (after_writes os sts) ≡ length sts
+length-all : (os : List Access) (sts : List RootStanding) → length (after_writes os sts) ≡ length sts
 length-all [] sts = refl
 length-all (o ∷ os) sts = length-all os (after_write o sts) ∙ length-written o sts
 
-pub counted-written : (old new : Names) (os : List Access) → IsCounted old → new.roots ≡ old.roots → new.standings.items ≡ after_writes os old.standings.items → IsCounted new
+pub counted-written : (old new : Names) (os : List Access) → HasStandings old → new.roots ≡ old.roots → new.standings.items ≡ after_writes os old.standings.items → HasStandings new
 counted-written old new os h roots standings =
     omega (arith, h, old.standings.ok, new.standings.ok, ap length standings, length-all os old.standings.items, ap (λ (T : Table). length T.names) roots)

@@ -14,7 +14,7 @@ use Rattle.sj_codelet.specs.Runs.{formals_in}
 use Rattle.sj_codelet.proofs.Table.{kernel_of-codelet_of}
 use Rattle.sj_plan.specs.declared.parts.Parts.{Parts}
 use Rattle.sj_plan.specs.Parts.{Fits}
-use Rattle.sj_plan.specs.Rect.{child, dims_of as rect_dims}
+use Rattle.sj_plan.specs.Rect.{child, rect_dims}
 use Rattle.sj_meaning.specs.declared.job.Init.{Init}
 use Rattle.sj_meaning.specs.declared.job.Init.TheVariants.{Values, Fill, Nothing}
 use Rattle.sj_meaning.specs.Statement.{Register}
@@ -32,13 +32,13 @@ use Rattle.sj_base.specs.declared.mode.Mode.TheVariants.{R, W, RW, Scratch, Redu
 use Rattle.sj_base.specs.Mode.{is_written}
 use Rattle.sj_meaning.specs.Act.{Register as Registers, Plan, Redux as Reduces, Task, Print, Invalidate, Unregister}
 use Rattle.sj_job.specs.Word.{integer}
-use Rattle.sj_job.specs.Sentence.{rows_of, cols_of, init_said, parts_said, index_said, registered_by, operand_said, operands_said, priority_said, task_said}
-use Rattle.sj_meaning.specs.State.{State, Root, root_of, is_valued, is_blank, is_child, child_rect, is_valued_child}
+use Rattle.sj_job.specs.Sentence.{row_count, col_count, init_said, parts_said, index_said, registered_by, operand_said, operands_said, priority_said, task_said}
+use Rattle.sj_meaning.specs.State.{JobState, RootState, root_of, is_valued, has_no_value, is_child, child_rect, is_valued_child}
 use Rattle.sj_job.specs.Judge.{Scope, scope_of, known_of, first_of, unless, judged_by, judged_call, judged_task, judged, kernel_named, register_reasons, line_reasons, print_reasons, name_reasons, plan_reasons, redux_reasons, operand_reasons, has_mixed_outputs, is_unlawful, reduction_known, is_shaped, dims_in, dims_known, is_child_said, is_crowded, is_cut, is_uncut, is_missing, is_lacking, child_lacks_value, is_outside, is_miscounted, is_unknown, is_ended, lacks_value}
 use Rattle.sj_meaning.specs.Sound.{is_lawful_for, is_unordered, modes_fit, is_side, needs_value, is_priority}
 use Rattle.sj_meaning.specs.Meaning.{written_of}
 use Rattle.sj_job.specs.Well.{IsAllowed}
-use Rattle.sj_meaning.specs.Sound.{has_root, has_values, child_dims, has_child, has_child_values, is_lawful, reduction_of, InitFits, IsSoundRegistration, IsSoundPlan, IsSoundAct}
+use Rattle.sj_meaning.specs.Sound.{has_root, has_valued_root, child_dims, has_child, has_child_values, is_lawful, reduction_of, InitFits, IsSoundRegistration, IsSoundPlan, IsSoundAct}
 use Rattle.sj_job.proofs.Children.{said-child}
 
 -- ---- tests
@@ -93,10 +93,10 @@ positive : (n : ℕ) → is_side n ≡ true → 1 ≤ n
 positive n e = let p = and_parts (nat_le 1 n) (nat_le n 1048576) e in let q = p.0 in grind (arith, nat_tests, q)
 
 -- a registered root has an element
-pub has_elements : (S : State) (r : Register (List ℕ)) → IsSoundRegistration S r → 1 ≤ area r.dims
+pub has_elements : (S : JobState) (r : Register (List ℕ)) → IsSoundRegistration S r → 1 ≤ area r.dims
 has_elements S r h = mul-le 1 1 r.dims.rows r.dims.cols (positive r.dims.rows h.rows) (positive r.dims.cols h.cols)
 
-not_taken : (o : Option Root) → is_some (option_map known_of o) ≡ false → o ≡ None
+not_taken : (o : Option RootState) → is_some (option_map known_of o) ≡ false → o ≡ None
 not_taken None e = refl
 not_taken (Some r) e = absurd (cc)
 
@@ -117,39 +117,39 @@ fits_from d p crowded uncut =
     let c = and_parts (nat_le 1 p.c) (nat_le p.c d.cols) h.1 in
     record { some_rows = some_part d.rows p.r r.0; rows = part_enough d.rows p.r r.1; some_cols = some_part d.cols p.c c.0; cols = part_enough d.cols p.c c.1; few = small_enough (p.r * p.c) crowded }
 
-sound_registration : (n : ℕ) (S : State) (a : ArrayForm) → first_of (register_reasons (scope_of n S) a.name (registered_by a).dims (parts_said a.parts) (init_said a.init)) ≡ None → IsSoundRegistration S (registered_by a)
+sound_registration : (n : ℕ) (S : JobState) (a : ArrayForm) → first_of (register_reasons (scope_of n S) a.name (registered_by a).dims (parts_said a.parts) (init_said a.init)) ≡ None → IsSoundRegistration S (registered_by a)
 sound_registration n S a e =
     let h = none_hold (register_reasons (scope_of n S) a.name (registered_by a).dims (parts_said a.parts) (init_said a.init)) e in
-    let i = inside (rows_of a.size) (cols_of a.size) h.1.1.0 in
+    let i = inside (row_count a.size) (col_count a.size) h.1.1.0 in
     record {
       rows = i.rows_in;
       cols = i.cols_in;
       elements = i.few;
       parts = fits_from (registered_by a).dims (parts_said a.parts) h.1.1.1.0 h.1.1.1.1.1.1.0;
-      values = fits_init (init_said a.init) (rows_of a.size) (cols_of a.size) h.1.1.1.1.1.1.1.0;
+      values = fits_init (init_said a.init) (row_count a.size) (col_count a.size) h.1.1.1.1.1.1.1.0;
       fresh = not_taken (root_of S a.name) h.1.1.1.1.1.0;
     }
 
 -- ---- names
 
-root_by : (o : Option Root) (ended : Bool) → (not (is_some (option_map known_of o)) && not ended) ≡ false → ended ≡ false → is_some o ≡ true
+root_by : (o : Option RootState) (ended : Bool) → (not (is_some (option_map known_of o)) && not ended) ≡ false → ended ≡ false → is_some o ≡ true
 root_by None ended e h = absurd (cc)
 root_by (Some r) ended e h = refl
 
-there : (n : ℕ) (S : State) (name : List ℕ) → is_unknown (scope_of n S) name ≡ false → is_ended (scope_of n S) name ≡ false → has_root S name ≡ true
+there : (n : ℕ) (S : JobState) (name : List ℕ) → is_unknown (scope_of n S) name ≡ false → is_ended (scope_of n S) name ≡ false → has_root S name ≡ true
 there n S name e h = root_by (root_of S name) (is_ended (scope_of n S) name) e h
 
-values_by : (o : Option Root) → (elim (option_map known_of o) as (λ _. Bool) [ None ↦ false | Some k ↦ not k.all ]) ≡ false → is_some o ≡ true → (elim o as (λ _. Bool) [ None ↦ false | Some r ↦ is_valued r ]) ≡ true
+values_by : (o : Option RootState) → (elim (option_map known_of o) as (λ _. Bool) [ None ↦ false | Some k ↦ not k.all ]) ≡ false → is_some o ≡ true → (elim o as (λ _. Bool) [ None ↦ false | Some r ↦ is_valued r ]) ≡ true
 values_by None e h = absurd (cc)
 values_by (Some r) e h = not-false (is_valued r) e
 
-valued : (n : ℕ) (S : State) (name : List ℕ) → lacks_value (scope_of n S) name ≡ false → has_root S name ≡ true → has_values S name ≡ true
+valued : (n : ℕ) (S : JobState) (name : List ℕ) → lacks_value (scope_of n S) name ≡ false → has_root S name ≡ true → has_valued_root S name ≡ true
 valued n S name e h = values_by (root_of S name) e h
 
-sound_name : (n : ℕ) (S : State) (name : List ℕ) → first_of (name_reasons (scope_of n S) name) ≡ None → has_root S name ≡ true
+sound_name : (n : ℕ) (S : JobState) (name : List ℕ) → first_of (name_reasons (scope_of n S) name) ≡ None → has_root S name ≡ true
 sound_name n S name e = let h = none_hold (name_reasons (scope_of n S) name) e in there n S name h.1.0 h.1.1.0
 
-sound_print : (n : ℕ) (S : State) (name : List ℕ) → first_of (print_reasons (scope_of n S) name) ≡ None → has_values S name ≡ true
+sound_print : (n : ℕ) (S : JobState) (name : List ℕ) → first_of (print_reasons (scope_of n S) name) ≡ None → has_valued_root S name ≡ true
 sound_print n S name e = let h = none_hold (print_reasons (scope_of n S) name) e in valued n S name h.1.1.1.0 (there n S name h.1.0 h.1.1.0)
 
 no_reduction : (o : Option Reduction) → is_some o ≡ false → is_none o ≡ true
@@ -158,15 +158,15 @@ no_reduction (Some by) e = absurd (cc)
 
 -- ---- plans
 
-dims_by : (o : Option Root) → (elim (option_map known_of o) as (λ _. Dims) [ None ↦ record { rows = 0; cols = 0 } | Some k ↦ k.dims ]) ≡ (elim o as (λ _. Dims) [ None ↦ record { rows = 0; cols = 0 } | Some r ↦ r.dims ])
+dims_by : (o : Option RootState) → (elim (option_map known_of o) as (λ _. Dims) [ None ↦ record { rows = 0; cols = 0 } | Some k ↦ k.dims ]) ≡ (elim o as (λ _. Dims) [ None ↦ record { rows = 0; cols = 0 } | Some r ↦ r.dims ])
 dims_by None = refl
 dims_by (Some r) = refl
 
-even_by : (o : Option Root) → (elim (option_map known_of o) as (λ _. Bool) [ None ↦ false | Some k ↦ not (k.all || k.none) ]) ≡ false → is_some o ≡ true → ((elim o as (λ _. Bool) [ None ↦ false | Some r ↦ is_valued r ]) || (elim o as (λ _. Bool) [ None ↦ false | Some r ↦ is_blank r ])) ≡ true
+even_by : (o : Option RootState) → (elim (option_map known_of o) as (λ _. Bool) [ None ↦ false | Some k ↦ not (k.all || k.none) ]) ≡ false → is_some o ≡ true → ((elim o as (λ _. Bool) [ None ↦ false | Some r ↦ is_valued r ]) || (elim o as (λ _. Bool) [ None ↦ false | Some r ↦ has_no_value r ])) ≡ true
 even_by None e h = absurd (cc)
-even_by (Some r) e h = not-false (is_valued r || is_blank r) e
+even_by (Some r) e h = not-false (is_valued r || has_no_value r) e
 
-sound_plan : (n : ℕ) (S : State) (name : List ℕ) (p : Parts) → first_of (plan_reasons (scope_of n S) name p) ≡ None → IsSoundPlan S name p
+sound_plan : (n : ℕ) (S : JobState) (name : List ℕ) (p : Parts) → first_of (plan_reasons (scope_of n S) name p) ≡ None → IsSoundPlan S name p
 sound_plan n S name p e =
     let h = none_hold (plan_reasons (scope_of n S) name p) e in
     let rooted = there n S name h.1.1.0 h.1.1.1.0 in
@@ -178,11 +178,11 @@ sound_plan n S name p e =
 
 -- ---- tasks
 
-placed_by : (o : Option Root) (index : Option (ℕ × ℕ)) → (elim (option_map known_of o) as (λ _. Bool) [ None ↦ false | Some k ↦ not (is_child_said k.parts index) ]) ≡ false → is_some o ≡ true → (elim o as (λ _. Bool) [ None ↦ false | Some r ↦ is_child r.parts (unwrap_or index (0, 0)) ]) ≡ true
+placed_by : (o : Option RootState) (index : Option (ℕ × ℕ)) → (elim (option_map known_of o) as (λ _. Bool) [ None ↦ false | Some k ↦ not (is_child_said k.parts index) ]) ≡ false → is_some o ≡ true → (elim o as (λ _. Bool) [ None ↦ false | Some r ↦ is_child r.parts (unwrap_or index (0, 0)) ]) ≡ true
 placed_by None index e h = absurd (cc)
 placed_by (Some r) index e h = said-child r.parts index (not-false (is_child_said r.parts index) e)
 
-all_placed : (n : ℕ) (S : State) (os : List OperandForm) → list_any (λ o. is_unknown (scope_of n S) o.name) (map operand_said os) ≡ false → list_any (λ o. is_ended (scope_of n S) o.name) (map operand_said os) ≡ false → list_any (is_missing (scope_of n S)) os ≡ false → list_all (has_child S) (map operand_said os) ≡ true
+all_placed : (n : ℕ) (S : JobState) (os : List OperandForm) → list_any (λ o. is_unknown (scope_of n S) o.name) (map operand_said os) ≡ false → list_any (λ o. is_ended (scope_of n S) o.name) (map operand_said os) ≡ false → list_any (is_missing (scope_of n S)) os ≡ false → list_all (has_child S) (map operand_said os) ≡ true
 all_placed n S [] e h k = refl
 all_placed n S (o ∷ os) e h k =
     let p = or_parts (is_unknown (scope_of n S) o.name) (list_any (λ o. is_unknown (scope_of n S) o.name) (map operand_said os)) e in
@@ -194,11 +194,11 @@ needed_by : (b l v : Bool) → (b && l) ≡ false → (l ≡ false → v ≡ tru
 needed_by true l v e h = h e
 needed_by false l v e h = refl
 
-child_values_by : (o : Option Root) (place : ℕ × ℕ) → (elim o as (λ _. Bool) [ None ↦ false | Some r ↦ is_child r.parts place ]) ≡ true → (elim (option_map known_of o) as (λ _. Bool) [ None ↦ false | Some k ↦ not (k.child place) ]) ≡ false → (elim o as (λ _. Bool) [ None ↦ false | Some r ↦ is_valued_child r place ]) ≡ true
+child_values_by : (o : Option RootState) (place : ℕ × ℕ) → (elim o as (λ _. Bool) [ None ↦ false | Some r ↦ is_child r.parts place ]) ≡ true → (elim (option_map known_of o) as (λ _. Bool) [ None ↦ false | Some k ↦ not (k.child place) ]) ≡ false → (elim o as (λ _. Bool) [ None ↦ false | Some r ↦ is_valued_child r place ]) ≡ true
 child_values_by None place h e = absurd (cc)
 child_values_by (Some r) place h e = not-false (is_valued_child r place) e
 
-all_valued : (n : ℕ) (S : State) (os : List (Operand (List ℕ))) → list_any (is_lacking (scope_of n S)) os ≡ false → list_all (has_child S) os ≡ true → list_all (λ o. not (needs_value o.mode) || has_child_values S o) os ≡ true
+all_valued : (n : ℕ) (S : JobState) (os : List (Operand (List ℕ))) → list_any (is_lacking (scope_of n S)) os ≡ false → list_all (has_child S) os ≡ true → list_all (λ o. not (needs_value o.mode) || has_child_values S o) os ≡ true
 all_valued n S [] e h = refl
 all_valued n S (o ∷ os) e h =
     let p = or_parts (is_lacking (scope_of n S) o) (list_any (is_lacking (scope_of n S)) os) e in
@@ -214,14 +214,14 @@ pub found_passes : (p : Kernel → Bool) (ks : List Kernel) (k : Kernel) → fin
 found_passes p [] k e = absurd (cc)
 found_passes p (x ∷ ks) k e = found_here p x ks k (p x) (found_passes p ks k) refl e
 
-by_root : (o : Option Root) (place : ℕ × ℕ) → (elim (option_map known_of o) as (λ _. Dims) [ None ↦ record { rows = 0; cols = 0 } | Some k ↦ rect_dims (child k.dims k.parts place) ]) ≡ (elim o as (λ _. Dims) [ None ↦ record { rows = 0; cols = 0 } | Some r ↦ rect_dims (child_rect r place) ])
+by_root : (o : Option RootState) (place : ℕ × ℕ) → (elim (option_map known_of o) as (λ _. Dims) [ None ↦ record { rows = 0; cols = 0 } | Some k ↦ rect_dims (child k.dims k.parts place) ]) ≡ (elim o as (λ _. Dims) [ None ↦ record { rows = 0; cols = 0 } | Some r ↦ rect_dims (child_rect r place) ])
 by_root None place = refl
 by_root (Some r) place = refl
 
-dims_seen : (k : ℕ) (S : State) (o : Operand (List ℕ)) → dims_in (scope_of k S) o ≡ child_dims S o
+dims_seen : (k : ℕ) (S : JobState) (o : Operand (List ℕ)) → dims_in (scope_of k S) o ≡ child_dims S o
 dims_seen k S o = by_root (root_of S o.name) o.place
 
-all_dims_seen : (k : ℕ) (S : State) (os : List (Operand (List ℕ))) → map (dims_in (scope_of k S)) os ≡ map (child_dims S) os
+all_dims_seen : (k : ℕ) (S : JobState) (os : List (Operand (List ℕ))) → map (dims_in (scope_of k S)) os ≡ map (child_dims S) os
 all_dims_seen k S os = λ i. map (λ o. dims_seen k S o i) os
 
 fits_known : (has : Kernel → Bool) (id : Codelet) (args : List ℤ) (ds : List Dims) (k : Kernel) → kernel_of id ≡ Some k → has k ≡ true → fits k args ds ≡ true → fits_in has id args ds ≡ true
@@ -232,14 +232,14 @@ formals_known id os k e m = ap (λ (o : Option Kernel). modes_fit (elim o [ None
 
 -- ---- laws
 
-reduction_by : (o : Option Root) → (elim (option_map known_of o) as (λ _. Option Reduction) [ None ↦ None | Some k ↦ k.reduction ]) ≡ (elim o as (λ _. Option Reduction) [ None ↦ None | Some r ↦ r.reduction ])
+reduction_by : (o : Option RootState) → (elim (option_map known_of o) as (λ _. Option Reduction) [ None ↦ None | Some k ↦ k.reduction ]) ≡ (elim o as (λ _. Option Reduction) [ None ↦ None | Some r ↦ r.reduction ])
 reduction_by None = refl
 reduction_by (Some r) = refl
 
-reduction_seen : (n : ℕ) (S : State) (name : List ℕ) → reduction_known (scope_of n S) name ≡ reduction_of S name
+reduction_seen : (n : ℕ) (S : JobState) (name : List ℕ) → reduction_known (scope_of n S) name ≡ reduction_of S name
 reduction_seen n S name = reduction_by (root_of S name)
 
-all_lawful : (has : Kernel → Bool) (n : ℕ) (S : State) (k : Kernel) (os : List (Operand (List ℕ))) → list_any (is_unlawful has (scope_of n S) k) os ≡ false → list_all (is_lawful has S (codelet_of k)) os ≡ true
+all_lawful : (has : Kernel → Bool) (n : ℕ) (S : JobState) (k : Kernel) (os : List (Operand (List ℕ))) → list_any (is_unlawful has (scope_of n S) k) os ≡ false → list_all (is_lawful has S (codelet_of k)) os ≡ true
 all_lawful has n S k [] e = refl
 all_lawful has n S k (o ∷ os) e =
     let p = or_parts (is_unlawful has (scope_of n S) k o) (list_any (is_unlawful has (scope_of n S) k) os) e in
@@ -295,7 +295,7 @@ judged-task has s t act e =
     let p = by_parts (first_of (line_reasons s (priority_said t.priority) (operands_said t))) (judged_call has s (kernel_named has t.codelet) t) act e in
     by_kernel has s t act (kernel_named has t.codelet) refl p.0 p.1
 
-sound_task : (has : Kernel → Bool) (n : ℕ) (S : State) (t : TaskForm) (act : Act (List ℕ)) → IsJudged has (scope_of n S) t act → IsSoundAct has S act
+sound_task : (has : Kernel → Bool) (n : ℕ) (S : JobState) (t : TaskForm) (act : Act (List ℕ)) → IsJudged has (scope_of n S) t act → IsSoundAct has S act
 sound_task has n S t act j =
     let k = j.kernel in
     let os = operands_said t in
@@ -316,14 +316,14 @@ sound_task has n S t act j =
       priority = not-false (is_priority (priority_said t.priority)) l.1.0;
     })
 
-sound_reduction : (n : ℕ) (S : State) (name : List ℕ) → first_of (redux_reasons (scope_of n S) name) ≡ None → (is_none (reduction_of S name) ≡ true) × (has_root S name ≡ true)
+sound_reduction : (n : ℕ) (S : JobState) (name : List ℕ) → first_of (redux_reasons (scope_of n S) name) ≡ None → (is_none (reduction_of S name) ≡ true) × (has_root S name ≡ true)
 sound_reduction n S name e =
     let h = none_hold (redux_reasons (scope_of n S) name) e in
     (no_reduction (reduction_of S name) (ap is_some (sym (reduction_seen n S name)) ∙ h.1.1.1.0), there n S name h.1.0 h.1.1.0)
 
 -- ---- acts
 
-pub sound_from_judged : (has : Kernel → Bool) (n : ℕ) (S : State) (f : Form) (act : Act (List ℕ)) → judged has (scope_of n S) f ≡ Ok act → IsSoundAct has S act
+pub sound_from_judged : (has : Kernel → Bool) (n : ℕ) (S : JobState) (f : Form) (act : Act (List ℕ)) → judged has (scope_of n S) f ≡ Ok act → IsSoundAct has S act
 sound_from_judged has n S (form.Register a) act e =
     let p = unless_parts (first_of (register_reasons (scope_of n S) a.name (registered_by a).dims (parts_said a.parts) (init_said a.init))) (Registers (registered_by a)) act e in
     subst (IsSoundAct has S) p.1 (sound_registration n S a p.0)
@@ -340,5 +340,5 @@ sound_from_judged has n S (form.Invalidate name) act e =
 sound_from_judged has n S (form.Unregister name) act e =
     let p = unless_parts (first_of (name_reasons (scope_of n S) name)) (Unregister name) act e in subst (IsSoundAct has S) p.1 (sound_name n S name p.0)
 
-pub sound_from_allowed : (has : Kernel → Bool) (n : ℕ) (S : State) (act : Act (List ℕ)) → IsAllowed has (scope_of n S) act → IsSoundAct has S act
+pub sound_from_allowed : (has : Kernel → Bool) (n : ℕ) (S : JobState) (act : Act (List ℕ)) → IsAllowed has (scope_of n S) act → IsSoundAct has S act
 sound_from_allowed has n S act h = sound_from_judged has n S h.form act h.judged

@@ -16,8 +16,8 @@ use Rattle.sj_job.specs.declared.form.TaskForm.{TaskForm}
 use Rattle.sj_job.specs.declared.form.Form.{Form}
 use Rattle.sj_job.specs.declared.form.Form.TheVariants.{Register, Plan, Redux, Task, Print, Invalidate, Unregister}
 use Rattle.sj_job.specs.Word.{is_name}
-use Rattle.sj_job.specs.Form.{keyword_word, keyword_of, keywords, reduction_of, reduction_word, bracketed, each_some, operand_of, with_priority, task_of, values_of, fill_of, nothing_of, init_of, with_parts, parted, layout_of, array_of, vector_of, matrix_of, name_in, plan_of, redux_of, form_behind, form_of}
-use Rattle.sj_job.specs.Grammar.{operand_word, codelet_word, priority_words, parts_words, init_words, sized, written, is_piece, has_values, is_proper_operand, is_proper}
+use Rattle.sj_job.specs.Form.{keyword_word, keyword_of, keywords, reduction_spelled, reduction_word, bracketed, each_some, operand_of, with_priority, task_form_of, values_of, fill_of, nothing_of, init_form_of, layout_with, parted, layout_of, array_form_of, vector_of, matrix_of, only_name, plan_of, redux_of, form_behind, form_of}
+use Rattle.sj_job.specs.Grammar.{operand_word, codelet_word, priority_words, parts_words, init_words, sized, form_words, is_piece, has_values, is_proper_operand, is_proper}
 use Rattle.sj_job.proofs.Spelling.{some_from, Reads, word-found, each-reads}
 use Rattle.sj_job.proofs.Saying.{reductions, codelets, operands, priority-back, priority-joins}
 
@@ -40,13 +40,13 @@ init_by w [] i false false true f g h e =
 init_by w (x ∷ ws) i false false true f g h e = absurd (cc)
 init_by w ws i false false false f g h e = absurd (cc)
 
-init-read : (ws : List (List ℕ)) (i : InitForm) → init_of ws ≡ Some i → (ws ≡ init_words i) × (has_values i ≡ true)
+init-read : (ws : List (List ℕ)) (i : InitForm) → init_form_of ws ≡ Some i → (ws ≡ init_words i) × (has_values i ≡ true)
 init-read [] i e = absurd (cc)
 init-read (w ∷ ws) i e =
     init_by w ws i (bytes_eq w (codes "values")) (bytes_eq w (codes "fill")) (bytes_eq w (codes "none"))
     (same_text w (codes "values")) (same_text w (codes "fill")) (same_text w (codes "none")) e
 
-init-back : (i : InitForm) → has_values i ≡ true → init_of (init_words i) ≡ Some i
+init-back : (i : InitForm) → has_values i ≡ true → init_form_of (init_words i) ≡ Some i
 init-back (Values []) h = absurd (cc)
 init-back (Values (v ∷ vs)) h = refl
 init-back (Fill a b) h = refl
@@ -63,14 +63,14 @@ layout_words l = parts_words l.0 ++ init_words l.1
 abbrev IsLayout : List (List ℕ) → Layout → Type 0
 IsLayout ws l = (ws ≡ layout_words l) × (has_values l.1 ≡ true)
 
-parts_by : (parts : Option (List ℕ × List ℕ)) (ws : List (List ℕ)) (l : Layout) → with_parts parts ws ≡ Some l → IsLayout (parts_words parts ++ ws) l
+parts_by : (parts : Option (List ℕ × List ℕ)) (ws : List (List ℕ)) (l : Layout) → layout_with parts ws ≡ Some l → IsLayout (parts_words parts ++ ws) l
 parts_by parts ws l e =
     let make : InitForm → Layout = λ init. (parts, init) in
-    let p = some_from make (init_of ws) l e in
+    let p = some_from make (init_form_of ws) l e in
     let i = init-read ws p.0 p.1.0 in
     subst (IsLayout (parts_words parts ++ ws)) p.1.1 (ap (λ ws. parts_words parts ++ ws) i.0, i.1)
 
-layout_by : (w : List ℕ) (ws : List (List ℕ)) (l : Layout) (t : Bool) → (t ≡ true → w ≡ codes "by") → cond t (parted ws) (with_parts None (w ∷ ws)) ≡ Some l → IsLayout (w ∷ ws) l
+layout_by : (w : List ℕ) (ws : List (List ℕ)) (l : Layout) (t : Bool) → (t ≡ true → w ≡ codes "by") → cond t (parted ws) (layout_with None (w ∷ ws)) ≡ Some l → IsLayout (w ∷ ws) l
 layout_by w [] l true h e = absurd (cc)
 layout_by w (r ∷ []) l true h e = absurd (cc)
 layout_by w (r ∷ c ∷ ws) l true h e = subst (λ w. IsLayout (w ∷ r ∷ c ∷ ws) l) (sym (h refl)) (parts_by (Some (r, c)) ws l e)
@@ -94,7 +94,7 @@ array name size l = record { name = name; size = size; parts = l.0; init = l.1 }
 
 -- the words spell the form
 abbrev IsSpelled : List (List ℕ) → Form → Type 0
-IsSpelled ws f = (ws ≡ written f) × (is_proper f ≡ true)
+IsSpelled ws f = (ws ≡ form_words f) × (is_proper f ≡ true)
 
 array_by : (name : List ℕ) (size : Size) (ws : List (List ℕ)) (a : ArrayForm) (t : Bool) → is_name name ≡ t → cond t (option_map (array name size) (layout_of ws)) None ≡ Some a → IsSpelled (sized name size ws) (Register a)
 array_by name size ws a true n e =
@@ -115,7 +115,7 @@ matrix-read (name ∷ []) a e = absurd (cc)
 matrix-read (name ∷ r ∷ []) a e = absurd (cc)
 matrix-read (name ∷ r ∷ c ∷ ws) a e = array_by name (Matrix r c) ws a (is_name name) refl e
 
-array-back : (name : List ℕ) (size : Size) (parts : Option (List ℕ × List ℕ)) (i : InitForm) → (is_name name && has_values i) ≡ true → array_of name size (parts_words parts ++ init_words i) ≡ Some (array name size (parts, i))
+array-back : (name : List ℕ) (size : Size) (parts : Option (List ℕ × List ℕ)) (i : InitForm) → (is_name name && has_values i) ≡ true → array_form_of name size (parts_words parts ++ init_words i) ≡ Some (array name size (parts, i))
 array-back name size parts i h =
     let q = and_parts (is_name name) (has_values i) h in
     ap (λ t. cond t (option_map (array name size) (layout_of (parts_words parts ++ init_words i))) None) q.0
@@ -156,11 +156,11 @@ task_by w ws t (Some c) h e =
       three_true (is_name c.0) (list_all is_piece c.1) (list_all is_proper_operand p.0) name.1 os.1,
     )
 
-task-read : (ws : List (List ℕ)) (t : TaskForm) → task_of ws ≡ Some t → IsSpelled (codes "task" ∷ ws) (Task t)
+task-read : (ws : List (List ℕ)) (t : TaskForm) → task_form_of ws ≡ Some t → IsSpelled (codes "task" ∷ ws) (Task t)
 task-read [] t e = absurd (cc)
 task-read (w ∷ ws) t e = task_by w ws t (bracketed 40 41 w) refl e
 
-task-back : (t : TaskForm) → is_proper (Task t) ≡ true → form_of (written (Task t)) ≡ Some (Task t)
+task-back : (t : TaskForm) → is_proper (Task t) ≡ true → form_of (form_words (Task t)) ≡ Some (Task t)
 task-back t h =
     let q = two_and_one (is_name t.codelet) (list_all is_piece t.args) (list_all is_proper_operand t.operands) h in
     let behind = map operand_word t.operands ++ priority_words t.priority in
@@ -175,19 +175,19 @@ name_by : (w n : List ℕ) (t : Bool) → is_name w ≡ t → cond t (Some w) No
 name_by w n true h e = let same : w ≡ n = cc in (same, sym (ap is_name same) ∙ h)
 name_by w n false h e = absurd (cc)
 
-name-read : (ws : List (List ℕ)) (n : List ℕ) → name_in ws ≡ Some n → (ws ≡ n ∷ []) × (is_name n ≡ true)
+name-read : (ws : List (List ℕ)) (n : List ℕ) → only_name ws ≡ Some n → (ws ≡ n ∷ []) × (is_name n ≡ true)
 name-read [] n e = absurd (cc)
 name-read (w ∷ []) n e = let p = name_by w n (is_name w) refl e in (ap (λ w. w ∷ []) p.0, p.1)
 name-read (w ∷ v ∷ ws) n e = absurd (cc)
 
 -- a name alone behind a first word
-named_by : (make : List ℕ → Form) (first : List ℕ) → ((n : List ℕ) → is_name n ≡ true → IsSpelled (first ∷ n ∷ []) (make n)) → (ws : List (List ℕ)) (f : Form) → option_map make (name_in ws) ≡ Some f → IsSpelled (first ∷ ws) f
+named_by : (make : List ℕ → Form) (first : List ℕ) → ((n : List ℕ) → is_name n ≡ true → IsSpelled (first ∷ n ∷ []) (make n)) → (ws : List (List ℕ)) (f : Form) → option_map make (only_name ws) ≡ Some f → IsSpelled (first ∷ ws) f
 named_by make first spelled ws f e =
-    let p = some_from make (name_in ws) f e in
+    let p = some_from make (only_name ws) f e in
     let n = name-read ws p.0 p.1.0 in
     subst (λ ws. IsSpelled (first ∷ ws) f) (sym n.0) (subst (IsSpelled (first ∷ p.0 ∷ [])) p.1.1 (spelled p.0 n.1))
 
-name-back : (n : List ℕ) → is_name n ≡ true → name_in (n ∷ []) ≡ Some n
+name-back : (n : List ℕ) → is_name n ≡ true → only_name (n ∷ []) ≡ Some n
 name-back n h = ap (λ t. cond t (Some n) None) h
 
 plan_by : (name r c : List ℕ) (f : Form) (t : Bool) → is_name name ≡ t → cond t (Some (Plan name r c)) None ≡ Some f → IsSpelled (codes "plan" ∷ name ∷ r ∷ c ∷ []) f
@@ -201,7 +201,7 @@ plan-read (name ∷ r ∷ []) f e = absurd (cc)
 plan-read (name ∷ r ∷ c ∷ []) f e = plan_by name r c f (is_name name) refl e
 plan-read (name ∷ r ∷ c ∷ w ∷ ws) f e = absurd (cc)
 
-redux_by : (name w : List ℕ) (f : Form) (t : Bool) (o : Option Reduction) → is_name name ≡ t → reduction_of w ≡ o → cond t (option_map (Redux name) o) None ≡ Some f → IsSpelled (codes "redux" ∷ name ∷ w ∷ []) f
+redux_by : (name w : List ℕ) (f : Form) (t : Bool) (o : Option Reduction) → is_name name ≡ t → reduction_spelled w ≡ o → cond t (option_map (Redux name) o) None ≡ Some f → IsSpelled (codes "redux" ∷ name ∷ w ∷ []) f
 redux_by name w f true None h k e = absurd (cc)
 redux_by name w f true (Some by) h k e =
     let same : Redux name by ≡ f = cc in
@@ -211,12 +211,12 @@ redux_by name w f false o h k e = absurd (cc)
 redux-read : (ws : List (List ℕ)) (f : Form) → redux_of ws ≡ Some f → IsSpelled (codes "redux" ∷ ws) f
 redux-read [] f e = absurd (cc)
 redux-read (name ∷ []) f e = absurd (cc)
-redux-read (name ∷ w ∷ []) f e = redux_by name w f (is_name name) (reduction_of w) refl refl e
+redux-read (name ∷ w ∷ []) f e = redux_by name w f (is_name name) (reduction_spelled w) refl refl e
 redux-read (name ∷ w ∷ v ∷ ws) f e = absurd (cc)
 
 redux-back : (name : List ℕ) (by : Reduction) → is_name name ≡ true → redux_of (name ∷ reduction_word by ∷ []) ≡ Some (Redux name by)
 redux-back name by h =
-    ap (λ t. cond t (option_map (Redux name) (reduction_of (reduction_word by))) None) h
+    ap (λ t. cond t (option_map (Redux name) (reduction_spelled (reduction_word by))) None) h
     ∙ ap (option_map (Redux name)) (reductions.back by refl)
 
 -- ---- a line
@@ -226,7 +226,7 @@ behind-read keyword.Vector ws f e = let p = some_from Register (vector_of ws) f 
 behind-read keyword.Matrix ws f e = let p = some_from Register (matrix_of ws) f e in subst (IsSpelled (codes "matrix" ∷ ws)) p.1.1 (matrix-read ws p.0 p.1.0)
 behind-read keyword.Plan ws f e = plan-read ws f e
 behind-read keyword.Redux ws f e = redux-read ws f e
-behind-read keyword.Task ws f e = let p = some_from Task (task_of ws) f e in subst (IsSpelled (codes "task" ∷ ws)) p.1.1 (task-read ws p.0 p.1.0)
+behind-read keyword.Task ws f e = let p = some_from Task (task_form_of ws) f e in subst (IsSpelled (codes "task" ∷ ws)) p.1.1 (task-read ws p.0 p.1.0)
 behind-read keyword.Print ws f e = named_by Print (codes "print") (λ n h. (refl, h)) ws f e
 behind-read keyword.Invalidate ws f e = named_by Invalidate (codes "invalidate") (λ n h. (refl, h)) ws f e
 behind-read keyword.Unregister ws f e = named_by Unregister (codes "unregister") (λ n h. (refl, h)) ws f e
@@ -239,7 +239,7 @@ pub form-read : (ws : List (List ℕ)) (f : Form) → form_of ws ≡ Some f → 
 form-read [] f e = absurd (cc)
 form-read (w ∷ ws) f e = line_by w ws f (keyword_of w) refl e
 
-pub form-back : (f : Form) → is_proper f ≡ true → form_of (written f) ≡ Some f
+pub form-back : (f : Form) → is_proper f ≡ true → form_of (form_words f) ≡ Some f
 form-back (Register a) h = register-back a.name a.size a.parts a.init h
 form-back (Plan name r c) h = ap (λ t. cond t (Some (Plan name r c)) None) h
 form-back (Redux name by) h = redux-back name by h

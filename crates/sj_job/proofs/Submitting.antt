@@ -2,7 +2,7 @@
 use Rattle.std.proofs.Common.{◌≡◌, ℕ, ◌+◌, ◌&&◌, Bool, true, List, [], ◌∷◌, ◌++◌, length, get_or, Some, None, cond, refl, ap, sym, subst, ◌∙◌, arith, Result, Ok, Err, All, length-append}
 use Rattle.std.specs.Prelude.{IfOk}
 use Rattle.std.proofs.Math.Seq.{get_or-append_seam}
-use Rattle.sj_base.specs.declared.ids.Root.{Root as RootNumber}
+use Rattle.sj_base.specs.declared.ids.Root.{Root}
 use Rattle.sj_base.specs.declared.mode.Reduction.{Reduction}
 use Rattle.sj_codelet.specs.declared.kernel.Kernel.{Kernel}
 use Rattle.sj_plan.specs.declared.parts.Parts.{Parts}
@@ -20,17 +20,17 @@ use Rattle.sj_job.specs.declared.reason.Reason.{Reason}
 use Rattle.sj_job.specs.declared.reason.Reason.TheVariants.{Number}
 use Rattle.sj_meaning.specs.Statement.{Register as Registration}
 use Rattle.sj_meaning.specs.Act.{Act, Register, Plan, Redux, Task, Print, Invalidate, Unregister}
-use Rattle.sj_job.specs.Sentence.{is_numbered, is_numbered_array, is_numbered_task, kind_of, rows_of, cols_of, init_said, parts_said, registered_by, said_of}
+use Rattle.sj_job.specs.Sentence.{is_numbered, is_numbered_array, is_numbered_task, kind_of, row_count, col_count, init_said, parts_said, registered_by, said_of}
 use Rattle.sj_job.specs.Word.{is_count, count}
-use Rattle.sj_meaning.specs.State.{State, plan_with}
+use Rattle.sj_meaning.specs.State.{JobState, plan_of_parts}
 use Rattle.sj_meaning.specs.Meaning.{apply, register, run_task, plan, reduce, invalidate, unregister}
 use Rattle.sj_meaning.specs.Sound.{IsSoundAct, IsSoundTask, IsSoundRegistration, IsSoundPlan}
 use Rattle.sj_job.specs.Judge.{Scope, scope_of, first_of, unless, judged, judged_task, register_reasons, plan_reasons, print_reasons, redux_reasons, name_reasons}
-use Rattle.sj_meaning.specs.Table.{Table, table, no_info, name_of, root_in, IsRoot, with_root}
+use Rattle.sj_meaning.specs.Table.{Table, table_of, no_info, name_of, root_in, IsRoot, with_root}
 use Rattle.sj_meaning.specs.View.{registration, task_seen, act_seen, count_after, IsPlaced, Extends}
 use Rattle.sj_job.specs.Names.{scope_in}
 use Rattle.sj_job.specs.Sees.{Sees}
-use Rattle.sj_job.specs.Submits.{done_in, act_noted, Notes, Submits}
+use Rattle.sj_job.specs.Submits.{act_of_form, act_noted, Notes, Submits}
 use Rattle.sj_meaning.proofs.Finding.{is-at}
 use Rattle.sj_job.proofs.Seen.{same_scope}
 use Rattle.sj_job.proofs.Sounding.{sound_from_judged}
@@ -47,23 +47,23 @@ done_from has s r = elim r [ Err why ↦ Err why | Ok g ↦ judged has s g ]
 said_whole : (f : Form) → is_numbered f ≡ true → said_of f ≡ Ok f
 said_whole f n = ap (λ b. cond b (Ok f) (Err Number)) n
 
-pub done_whole : (has : Kernel → Bool) (s : Scope) (f : Form) → is_numbered f ≡ true → done_in has s f ≡ judged has s f
+pub done_whole : (has : Kernel → Bool) (s : Scope) (f : Form) → is_numbered f ≡ true → act_of_form has s f ≡ judged has s f
 unfolding done_from
 done_whole has s f n = ap (done_from has s) (said_whole f n)
 
-sound_by : (has : Kernel → Bool) (n : ℕ) (S : State) (f : Form) (act : Act (List ℕ)) (r : Result Form Reason) → said_of f ≡ r → (elim r as (λ _. Result (Act (List ℕ)) Reason) [ Err why ↦ Err why | Ok g ↦ judged has (scope_of n S) g ]) ≡ Ok act → IsSoundAct has S act
+sound_by : (has : Kernel → Bool) (n : ℕ) (S : JobState) (f : Form) (act : Act (List ℕ)) (r : Result Form Reason) → said_of f ≡ r → (elim r as (λ _. Result (Act (List ℕ)) Reason) [ Err why ↦ Err why | Ok g ↦ judged has (scope_of n S) g ]) ≡ Ok act → IsSoundAct has S act
 sound_by has n S f act (Err why) p e = absurd (cc)
 sound_by has n S f act (Ok g) p e = sound_from_judged has n S g act e
 
 -- what is done is sound
-pub sound_done : (has : Kernel → Bool) (old : Names) (n : ℕ) (S : State) (f : Form) (act : Act (List ℕ)) → Sees old n S → done_in has (scope_in old) f ≡ Ok act → IsSoundAct has S act
+pub sound_done : (has : Kernel → Bool) (old : Names) (n : ℕ) (S : JobState) (f : Form) (act : Act (List ℕ)) → Sees old n S → act_of_form has (scope_in old) f ≡ Ok act → IsSoundAct has S act
 sound_done has old n S f act h e =
-    sound_by has n S f act (said_of f) refl (ap (λ (s : Scope). done_in has s f) (sym (same_scope old n S h)) ∙ e)
+    sound_by has n S f act (said_of f) refl (ap (λ (s : Scope). act_of_form has s f) (sym (same_scope old n S h)) ∙ e)
 
 -- ---- registrations
 
 abbrev pub info_by : ArrayForm → RootInfo
-info_by a = record { kind = kind_of a.size; dims = record { rows = rows_of a.size; cols = cols_of a.size }; parts = parts_said a.parts }
+info_by a = record { kind = kind_of a.size; dims = record { rows = row_count a.size; cols = col_count a.size }; parts = parts_said a.parts }
 
 pub all_numbered : (a b c : Bool) → a ≡ true → b ≡ true → c ≡ true → (a && b && c) ≡ true
 all_numbered a b c x y z = λ i. x i && y i && z i
@@ -83,13 +83,13 @@ pub record Registers (old new : Names) (a : ArrayForm) (name : List ℕ) (info :
   pub unopposed : first_of (register_reasons (scope_in old) a.name (info_by a).dims (parts_said a.parts) (init_said a.init)) ≡ None
   pub whole : length old.roots.infos ≡ length old.roots.names
   pub roots : new.roots ≡ with_root name info old.roots
-  pub sees : (n : ℕ) (S : State) → Sees old n S → IsSoundRegistration S (registration name info init) → Sees new (n + 1) (register (registration name info init) S)
+  pub sees : (n : ℕ) (S : JobState) → Sees old n S → IsSoundRegistration S (registration name info init) → Sees new (n + 1) (register (registration name info init) S)
 
 pub registers : (has : Kernel → Bool) (old new : Names) (a : ArrayForm) (name : List ℕ) (info : RootInfo) (init : Init) → Registers old new a name info init → Submits has old (form.Register a) new (kept.Register init)
 registers has old new a name info init h =
     let said : registered_by a ≡ registration name info init = λ i. registration (sym h.name_is i) (sym h.info_is i) (sym h.init_is i) in
     let seen : act_noted old new (kept.Register init) ≡ Register (registration name info init) = ap (λ (T : Table). act_seen T (length old.roots.names) (kept.Register init)) h.roots ∙ last_seen old.roots name info init h.whole in
-    let done : done_in has (scope_in old) (form.Register a) ≡ Ok (Register (registered_by a)) =
+    let done : act_of_form has (scope_in old) (form.Register a) ≡ Ok (Register (registered_by a)) =
     done_whole has (scope_in old) (form.Register a) h.numbered ∙ ap (λ o. unless o (Register (registered_by a))) h.unopposed in
     record {
       act = done ∙ ap (λ r. Ok (Register r)) said ∙ ap Ok (sym seen);
@@ -111,7 +111,7 @@ append_none [] = refl
 append_none (x ∷ xs) = ap (λ ys. x ∷ ys) (append_none xs)
 
 same_table : (old new : Names) → new.roots ≡ old.roots → Extends old.roots new.roots
-same_table old new e = ([], [], e ∙ (λ i. table (append_none old.roots.names i) (append_none old.roots.infos i)))
+same_table old new e = ([], [], e ∙ (λ i. table_of (append_none old.roots.names i) (append_none old.roots.infos i)))
 
 same_whole : (old new : Names) → new.roots ≡ old.roots → length old.roots.infos ≡ length old.roots.names → length new.roots.infos ≡ length new.roots.names
 same_whole old new e h = ap (λ (T : Table). length T.infos) e ∙ h ∙ ap (λ (T : Table). length T.names) (sym e)
@@ -122,12 +122,12 @@ pub record Runs (has : Kernel → Bool) (old new : Names) (t : TaskForm) (line :
   pub judged : judged_task has (scope_in old) t ≡ Ok (Task (task_seen old.roots line))
   pub operands : All (λ o. IsRoot old.roots o.root) line.operands
   pub roots : new.roots ≡ old.roots
-  pub sees : (n : ℕ) (S : State) → Sees old n S → IsSoundTask has S (task_seen old.roots line) → Sees new (n + 1) (run_task (task_seen old.roots line) S)
+  pub sees : (n : ℕ) (S : JobState) → Sees old n S → IsSoundTask has S (task_seen old.roots line) → Sees new (n + 1) (run_task (task_seen old.roots line) S)
 
 pub runs : (has : Kernel → Bool) (old new : Names) (t : TaskForm) (line : KeptTask) → Runs has old new t line → Submits has old (form.Task t) new (kept.Task line)
 runs has old new t line h =
     let seen : act_noted old new (kept.Task line) ≡ Task (task_seen old.roots line) = ap (λ (T : Table). act_seen T (length old.roots.names) (kept.Task line)) h.roots in
-    let done : done_in has (scope_in old) (form.Task t) ≡ Ok (Task (task_seen old.roots line)) = done_whole has (scope_in old) (form.Task t) h.numbered ∙ h.judged in
+    let done : act_of_form has (scope_in old) (form.Task t) ≡ Ok (Task (task_seen old.roots line)) = done_whole has (scope_in old) (form.Task t) h.numbered ∙ h.judged in
     record {
       act = done ∙ ap Ok (sym seen);
       notes = record {
@@ -139,11 +139,11 @@ runs has old new t line h =
       };
     }
 
-named_as : (old : Names) (q : List ℕ) (r : RootNumber) → root_in old.roots q ≡ Some r → name_of old.roots r ≡ q
+named_as : (old : Names) (q : List ℕ) (r : Root) → root_in old.roots q ≡ Some r → name_of old.roots r ≡ q
 named_as old q r e = (is-at old.roots q r e).named
 
 -- what is noted of an act that registers nothing
-noted : (old new : Names) (a : KeptAct) → IsPlaced (length old.roots.names) a → count_after (length old.roots.names) a ≡ length old.roots.names → new.roots ≡ old.roots → ((n : ℕ) (S : State) → Sees old n S → Sees new (n + 1) (apply (act_noted old new a) S)) → Notes old new a
+noted : (old new : Names) (a : KeptAct) → IsPlaced (length old.roots.names) a → count_after (length old.roots.names) a ≡ length old.roots.names → new.roots ≡ old.roots → ((n : ℕ) (S : JobState) → Sees old n S → Sees new (n + 1) (apply (act_noted old new a) S)) → Notes old new a
 noted old new a placed same roots sees = record {
   placed = placed;
   counted = ap (λ (T : Table). length T.names) roots ∙ sym same;
@@ -152,7 +152,7 @@ noted old new a placed same roots sees = record {
   sees = sees;
 }
 
-pub printed : (has : Kernel → Bool) (old new : Names) (q : List ℕ) (r : RootNumber) → root_in old.roots q ≡ Some r → first_of (print_reasons (scope_in old) q) ≡ None → new.roots ≡ old.roots → ((n : ℕ) (S : State) → Sees old n S → Sees new (n + 1) S) → Submits has old (form.Print q) new (kept.Print r)
+pub printed : (has : Kernel → Bool) (old new : Names) (q : List ℕ) (r : Root) → root_in old.roots q ≡ Some r → first_of (print_reasons (scope_in old) q) ≡ None → new.roots ≡ old.roots → ((n : ℕ) (S : JobState) → Sees old n S → Sees new (n + 1) S) → Submits has old (form.Print q) new (kept.Print r)
 printed has old new q r e none roots sees =
     let named : name_of new.roots r ≡ q = ap (λ (T : Table). name_of T r) roots ∙ named_as old q r e in
     record {
@@ -160,7 +160,7 @@ printed has old new q r e none roots sees =
       notes = noted old new (kept.Print r) (is-at old.roots q r e).below refl roots sees;
     }
 
-pub invalidated : (has : Kernel → Bool) (old new : Names) (q : List ℕ) (r : RootNumber) → root_in old.roots q ≡ Some r → first_of (name_reasons (scope_in old) q) ≡ None → new.roots ≡ old.roots → ((n : ℕ) (S : State) → Sees old n S → Sees new (n + 1) (invalidate (name_of old.roots r) S)) → Submits has old (form.Invalidate q) new (kept.Invalidate r)
+pub invalidated : (has : Kernel → Bool) (old new : Names) (q : List ℕ) (r : Root) → root_in old.roots q ≡ Some r → first_of (name_reasons (scope_in old) q) ≡ None → new.roots ≡ old.roots → ((n : ℕ) (S : JobState) → Sees old n S → Sees new (n + 1) (invalidate (name_of old.roots r) S)) → Submits has old (form.Invalidate q) new (kept.Invalidate r)
 invalidated has old new q r e none roots sees =
     let named : name_of new.roots r ≡ name_of old.roots r = ap (λ (T : Table). name_of T r) roots in
     record {
@@ -168,7 +168,7 @@ invalidated has old new q r e none roots sees =
       notes = noted old new (kept.Invalidate r) (is-at old.roots q r e).below refl roots (λ n S h. subst (λ (m : List ℕ). Sees new (n + 1) (invalidate m S)) (sym named) (sees n S h));
     }
 
-pub ended : (has : Kernel → Bool) (old new : Names) (q : List ℕ) (r : RootNumber) → root_in old.roots q ≡ Some r → first_of (name_reasons (scope_in old) q) ≡ None → new.roots ≡ old.roots → ((n : ℕ) (S : State) → Sees old n S → Sees new (n + 1) (unregister (name_of old.roots r) S)) → Submits has old (form.Unregister q) new (kept.Unregister r)
+pub ended : (has : Kernel → Bool) (old new : Names) (q : List ℕ) (r : Root) → root_in old.roots q ≡ Some r → first_of (name_reasons (scope_in old) q) ≡ None → new.roots ≡ old.roots → ((n : ℕ) (S : JobState) → Sees old n S → Sees new (n + 1) (unregister (name_of old.roots r) S)) → Submits has old (form.Unregister q) new (kept.Unregister r)
 ended has old new q r e none roots sees =
     let named : name_of new.roots r ≡ name_of old.roots r = ap (λ (T : Table). name_of T r) roots in
     record {
@@ -176,7 +176,7 @@ ended has old new q r e none roots sees =
       notes = noted old new (kept.Unregister r) (is-at old.roots q r e).below refl roots (λ n S h. subst (λ (m : List ℕ). Sees new (n + 1) (unregister m S)) (sym named) (sees n S h));
     }
 
-pub reduced : (has : Kernel → Bool) (old new : Names) (q : List ℕ) (by : Reduction) (r : RootNumber) → root_in old.roots q ≡ Some r → first_of (redux_reasons (scope_in old) q) ≡ None → new.roots ≡ old.roots → ((n : ℕ) (S : State) → Sees old n S → Sees new (n + 1) (reduce (name_of old.roots r) by S)) → Submits has old (form.Redux q by) new (kept.Redux r by)
+pub reduced : (has : Kernel → Bool) (old new : Names) (q : List ℕ) (by : Reduction) (r : Root) → root_in old.roots q ≡ Some r → first_of (redux_reasons (scope_in old) q) ≡ None → new.roots ≡ old.roots → ((n : ℕ) (S : JobState) → Sees old n S → Sees new (n + 1) (reduce (name_of old.roots r) by S)) → Submits has old (form.Redux q by) new (kept.Redux r by)
 reduced has old new q by r e none roots sees =
     let named : name_of new.roots r ≡ name_of old.roots r = ap (λ (T : Table). name_of T r) roots in
     record {
@@ -185,19 +185,19 @@ reduced has old new q by r e none roots sees =
     }
 
 -- what a plan line needs to have been done
-pub record Plans (old new : Names) (q r c : List ℕ) (root : RootNumber) (p : Parts) : Type 0 where
+pub record Plans (old new : Names) (q r c : List ℕ) (root : Root) (p : Parts) : Type 0 where
   pub there : root_in old.roots q ≡ Some root
   pub numbered : (is_count r && is_count c) ≡ true
-  pub parts : p ≡ plan_with (count r) (count c)
+  pub parts : p ≡ plan_of_parts (count r) (count c)
   pub unopposed : first_of (plan_reasons (scope_in old) q p) ≡ None
   pub roots : new.roots ≡ old.roots
-  pub sees : (n : ℕ) (S : State) → Sees old n S → IsSoundPlan S (name_of old.roots root) p → Sees new (n + 1) (plan (name_of old.roots root) p S)
+  pub sees : (n : ℕ) (S : JobState) → Sees old n S → IsSoundPlan S (name_of old.roots root) p → Sees new (n + 1) (plan (name_of old.roots root) p S)
 
-pub plans : (has : Kernel → Bool) (old new : Names) (q r c : List ℕ) (root : RootNumber) (p : Parts) → Plans old new q r c root p → Submits has old (form.Plan q r c) new (kept.Plan root p)
+pub plans : (has : Kernel → Bool) (old new : Names) (q r c : List ℕ) (root : Root) (p : Parts) → Plans old new q r c root p → Submits has old (form.Plan q r c) new (kept.Plan root p)
 plans has old new q r c root p h =
     let here = named_as old q root h.there in
     let named : name_of new.roots root ≡ name_of old.roots root = ap (λ (T : Table). name_of T root) h.roots in
-    let done : done_in has (scope_in old) (form.Plan q r c) ≡ Ok (Plan q p) =
+    let done : act_of_form has (scope_in old) (form.Plan q r c) ≡ Ok (Plan q p) =
     done_whole has (scope_in old) (form.Plan q r c) h.numbered
     ∙ (λ i. unless (first_of (plan_reasons (scope_in old) q (sym h.parts i))) (Plan q (sym h.parts i)))
     ∙ ap (λ o. unless o (Plan q p)) h.unopposed in

@@ -14,15 +14,15 @@ use Rattle.sj_codelet.specs.declared.kernel.Kernel.{Kernel}
 use Rattle.sj_codelet.specs.declared.formal.Formal.{Formal}
 use Rattle.sj_codelet.specs.Kernel.{codelet_of, formals_of, arguments_of, fits}
 use Rattle.sj_plan.specs.Parts.{IsPlace}
-use Rattle.sj_plan.specs.Paste.{same_place}
-use Rattle.sj_plan.specs.Rect.{child, dims_of}
+use Rattle.sj_plan.specs.Paste.{same_child_place}
+use Rattle.sj_plan.specs.Rect.{child, rect_dims}
 use Rattle.sj_job.specs.declared.form.OperandForm.{OperandForm}
 use Rattle.sj_job.specs.declared.form.TaskForm.{TaskForm}
 use Rattle.sj_meaning.specs.declared.job.Operand.{Operand as Access}
 use Rattle.sj_meaning.specs.declared.job.TaskLine.{TaskLine as KeptTask}
 use Rattle.sj_job.specs.declared.judge.Target.{Target}
-use Rattle.sj_job.specs.declared.names.Standing.{Standing}
-use Rattle.sj_job.specs.declared.names.Standing.TheVariants.{Live, Ended}
+use Rattle.sj_job.specs.declared.names.RootStanding.{RootStanding}
+use Rattle.sj_job.specs.declared.names.RootStanding.TheVariants.{Live, Ended}
 use Rattle.sj_job.specs.declared.names.Names.{Names}
 use Rattle.sj_job.specs.declared.reason.Reason.{Reason}
 use Rattle.sj_job.specs.declared.reason.Reason.TheVariants.{UnknownName, UnknownCodelet, OperandCount, Part, Shape, Aliased, NoValue, NoReduction, MixedOutputs, NotLawful, Limit, EndedName}
@@ -39,7 +39,7 @@ use Rattle.sj_meaning.specs.View.{operand_seen, task_seen}
 use Rattle.sj_meaning.specs.Meaning.{written_of}
 use Rattle.sj_job.specs.Judge.{Known, first_of, is_full, is_unknown, is_ended, is_child_said, is_missing, dims_in, is_lacking, is_counted, is_shaped, has_mixed_outputs, is_unlawful, lacks_reduction, operand_reasons, reduction_known, kernel_named, judged_by, judged_call, judged_task, unless}
 use Rattle.sj_meaning.specs.Sound.{is_priority, modes_fit, mode_fits, clashes, is_aliased, needs_value, is_lawful_for, is_unordered}
-use Rattle.sj_job.specs.Names.{Found, IsPlaceIn, a_target, any_collide, any_missing, any_over, are_mixed, collide, ended_from, found_at, found_in, is_counted_for, is_over, is_shaped_for, is_unlawful_for, is_unreduced, is_wanting, known_by, known_from, known_with, law_reasons, no_child, operand_by, plan_in, scope_in, standing_of, target_by, target_dims, target_in, target_reasons, targets_fit}
+use Rattle.sj_job.specs.Names.{Found, IsPlaceIn, a_target, any_collide, any_missing, any_over, are_mixed, collide, ended_from, found_at, found_in, is_counted_for, is_name_ended, is_shaped_for, is_unlawful_for, is_unreduced, is_wanting, known_by, known_from, known_with, law_reasons, no_child, operand_by, plan_in, scope_in, standing_of, target_by, target_dims, target_in, target_reasons, targets_fit}
 use Rattle.sj_job.proofs.Children.{place-from_test, said-child}
 use Rattle.sj_meaning.proofs.Finding.{is-at, is-root, text-itself}
 
@@ -78,7 +78,7 @@ targets names (o ∷ os) ts e = targets_cons names o os ts (found_in names o.nam
 
 -- ---- unknown names
 
-unknown_by : (d : Dims) (st : Standing) → (not (is_some (known_by d st)) && not (is_over st)) ≡ false
+unknown_by : (d : Dims) (st : RootStanding) → (not (is_some (known_by d st)) && not (is_name_ended st)) ≡ false
 unknown_by d (Live t by) = refl
 unknown_by d Ended = refl
 
@@ -110,9 +110,9 @@ over_by : (b : Bool) (x y : Target) → x.over ≡ false → y.over ≡ false �
 over_by true x y e f = e
 over_by false x y e f = f
 
-over_target : (r : Root) (d : Dims) (m : Mode) (index : Option (ℕ × ℕ)) (st : Standing) → is_over st ≡ (target_by r d m index st).over
+over_target : (r : Root) (d : Dims) (m : Mode) (index : Option (ℕ × ℕ)) (st : RootStanding) → is_name_ended st ≡ (target_by r d m index st).over
 over_target r d m index (Live t by) =
-    sym (over_by (is_child_said t.parts index) (a_target r m false false (unwrap_or index (0, 0)) (dims_of (child d t.parts (unwrap_or index (0, 0)))) (is_set t (unwrap_or index (0, 0))) by) (no_child r m false) refl refl)
+    sym (over_by (is_child_said t.parts index) (a_target r m false false (unwrap_or index (0, 0)) (rect_dims (child d t.parts (unwrap_or index (0, 0)))) (is_set t (unwrap_or index (0, 0))) by) (no_child r m false) refl refl)
 over_target r d m index Ended = refl
 
 missing_by : (b : Bool) (x y : Target) → x.missing ≡ false → y.missing ≡ true → not b ≡ (cond b x y).missing
@@ -122,25 +122,25 @@ missing_by false x y e f = sym f
 abbrev lost : Option (ℕ × ℕ) → Option Known → Bool
 lost index o = elim o as (λ _. Bool) [ None ↦ false | Some k ↦ not (is_child_said k.parts index) ]
 
-missing_target : (r : Root) (d : Dims) (m : Mode) (index : Option (ℕ × ℕ)) (st : Standing) → lost index (known_by d st) ≡ (target_by r d m index st).missing
+missing_target : (r : Root) (d : Dims) (m : Mode) (index : Option (ℕ × ℕ)) (st : RootStanding) → lost index (known_by d st) ≡ (target_by r d m index st).missing
 missing_target r d m index (Live t by) =
-    missing_by (is_child_said t.parts index) (a_target r m false false (unwrap_or index (0, 0)) (dims_of (child d t.parts (unwrap_or index (0, 0)))) (is_set t (unwrap_or index (0, 0))) by) (no_child r m false) refl refl
+    missing_by (is_child_said t.parts index) (a_target r m false false (unwrap_or index (0, 0)) (rect_dims (child d t.parts (unwrap_or index (0, 0)))) (is_set t (unwrap_or index (0, 0))) by) (no_child r m false) refl refl
 missing_target r d m index Ended = refl
 
 -- a child of an active plan
-record IsChildOf (r : Root) (d : Dims) (m : Mode) (index : Option (ℕ × ℕ)) (st : Standing) (t : Target) : Type 0 where
+record IsChildOf (r : Root) (d : Dims) (m : Mode) (index : Option (ℕ × ℕ)) (st : RootStanding) (t : Target) : Type 0 where
   track : Track
   by : Option Reduction
   live : st ≡ Live track by
   said : is_child_said track.parts index ≡ true
-  is : t ≡ a_target r m false false (unwrap_or index (0, 0)) (dims_of (child d track.parts (unwrap_or index (0, 0)))) (is_set track (unwrap_or index (0, 0))) by
+  is : t ≡ a_target r m false false (unwrap_or index (0, 0)) (rect_dims (child d track.parts (unwrap_or index (0, 0)))) (is_set track (unwrap_or index (0, 0))) by
 
 child_by : (r : Root) (d : Dims) (m : Mode) (index : Option (ℕ × ℕ)) (track : Track) (by : Option Reduction) (b : Bool) → is_child_said track.parts index ≡ b
-    → let t = cond b (a_target r m false false (unwrap_or index (0, 0)) (dims_of (child d track.parts (unwrap_or index (0, 0)))) (is_set track (unwrap_or index (0, 0))) by) (no_child r m false) in t.missing ≡ false → IsChildOf r d m index (Live track by) t
+    → let t = cond b (a_target r m false false (unwrap_or index (0, 0)) (rect_dims (child d track.parts (unwrap_or index (0, 0)))) (is_set track (unwrap_or index (0, 0))) by) (no_child r m false) in t.missing ≡ false → IsChildOf r d m index (Live track by) t
 child_by r d m index track by true e h = record { track = track; by = by; live = refl; said = e; is = refl }
 child_by r d m index track by false e h = absurd (cc)
 
-child_target : (r : Root) (d : Dims) (m : Mode) (index : Option (ℕ × ℕ)) (st : Standing) → (target_by r d m index st).over ≡ false → (target_by r d m index st).missing ≡ false → IsChildOf r d m index st (target_by r d m index st)
+child_target : (r : Root) (d : Dims) (m : Mode) (index : Option (ℕ × ℕ)) (st : RootStanding) → (target_by r d m index st).over ≡ false → (target_by r d m index st).missing ≡ false → IsChildOf r d m index st (target_by r d m index st)
 child_target r d m index (Live t by) e h = child_by r d m index t by (is_child_said t.parts index) refl h
 child_target r d m index Ended e h = absurd (cc)
 
@@ -217,7 +217,7 @@ dims_same names [] (t ∷ ts) h = absurd h
 dims_same names (o ∷ os) [] h = absurd h
 dims_same names (o ∷ os) (t ∷ ts) h =
     let here : dims_in (scope_in names) (operand_said o) ≡ t.dims =
-    ap (λ (k : Option Known). elim k as (λ _. Dims) [ None ↦ record { rows = 0; cols = 0 } | Some k ↦ dims_of (child k.dims k.parts (place_said o)) ]) (known_live names o t h.0)
+    ap (λ (k : Option Known). elim k as (λ _. Dims) [ None ↦ record { rows = 0; cols = 0 } | Some k ↦ rect_dims (child k.dims k.parts (place_said o)) ]) (known_live names o t h.0)
     ∙ sym (ap (λ (u : Target). u.dims) h.0.child.is) in
     λ i. here i ∷ dims_same names os ts h.1 i
 
@@ -312,7 +312,7 @@ clash_same names o t (p ∷ os) [] k h = absurd h
 clash_same names o t (p ∷ os) (u ∷ ts) k h =
     let named : bytes_eq o.name p.name ≡ nat_eq t.root.0 u.root.0 =
     one_root names o.name p.name k.of h.0.of k.found h.0.found ∙ (λ i. nat_eq (root_same names o t k i).0 (root_same names p u h.0 i).0) in
-    λ i. (named i && same_place (place_same names o t k i) (place_same names p u h.0 i) && not (is_read_only (mode_same names o t k i) && is_read_only (mode_same names p u h.0 i))) || clash_same names o t os ts k h.1 i
+    λ i. (named i && same_child_place (place_same names o t k i) (place_same names p u h.0 i) && not (is_read_only (mode_same names o t k i) && is_read_only (mode_same names p u h.0 i))) || clash_same names o t os ts k h.1 i
 
 aliased_same : (names : Names) (os : List OperandForm) (ts : List Target) → AreLive names os ts → is_aliased (map operand_said os) ≡ any_collide ts
 aliased_same names [] [] h = refl

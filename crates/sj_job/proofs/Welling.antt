@@ -9,7 +9,7 @@ use Rattle.sj_job.specs.declared.reason.Reason.TheVariants.{Word}
 use Rattle.sj_job.specs.declared.form.Form.{Form}
 use Rattle.sj_job.specs.Verdict.{Verdict}
 use Rattle.sj_job.specs.Verdict.{Skipped, Does, Bad}
-use Rattle.sj_meaning.specs.State.{State}
+use Rattle.sj_meaning.specs.State.{JobState}
 use Rattle.sj_meaning.specs.Meaning.{apply}
 use Rattle.sj_job.specs.Word.{words, is_allowed, is_skipped}
 use Rattle.sj_job.specs.Sentence.{said}
@@ -34,7 +34,7 @@ by_skipped has scope l act false (Ok a) p e = by_allowed has scope l act (not (l
 pub allowed_from_verdict : (has : Kernel → Bool) (scope : Scope) (l : List ℕ) (act : Act (List ℕ)) → verdict_of has scope l ≡ Does act → IsAllowed has scope act
 allowed_from_verdict has scope l act e = by_skipped has scope l act (is_skipped (words l)) (statement_in has scope l) refl e
 
-well_before : (has : Kernel → Bool) (k : ℕ) (S : State) (s : Statement (List ℕ)) (ss : List (Statement (List ℕ))) (r : Result (List (Statement (List ℕ))) Refusal) → before s r ≡ Ok ss → IsAllowed has (scope_of k S) s.act → ((ts : List (Statement (List ℕ))) → r ≡ Ok ts → IsWell has (k + 1) (apply s.act S) ts) → IsWell has k S ss
+well_before : (has : Kernel → Bool) (k : ℕ) (S : JobState) (s : Statement (List ℕ)) (ss : List (Statement (List ℕ))) (r : Result (List (Statement (List ℕ))) Refusal) → before s r ≡ Ok ss → IsAllowed has (scope_of k S) s.act → ((ts : List (Statement (List ℕ))) → r ≡ Ok ts → IsWell has (k + 1) (apply s.act S) ts) → IsWell has k S ss
 well_before has k S s ss (Err e) h a rest = absurd (cc)
 well_before has k S s [] (Ok ts) h a rest = absurd (cc)
 well_before has k S s (t ∷ us) (Ok ts) h a rest =
@@ -42,7 +42,7 @@ well_before has k S s (t ∷ us) (Ok ts) h a rest =
     let f : ts ≡ us = cc in
     subst (λ (x : Statement (List ℕ)). IsAllowed has (scope_of k S) x.act × IsWell has (k + 1) (apply x.act S) us) e (a, subst (λ (xs : List (Statement (List ℕ))). IsWell has (k + 1) (apply s.act S) xs) f (rest ts refl))
 
-well_by_verdict : (has : Kernel → Bool) (k : ℕ) (S : State) (n : ℕ) (l : List ℕ) (ls : List (List ℕ)) (ss : List (Statement (List ℕ))) → ((j : ℕ) (T : State) (ts : List (Statement (List ℕ))) → reading has j T (n + 1) ls ≡ Ok ts → IsWell has j T ts) → (v : Verdict) → verdict_of has (scope_of k S) l ≡ v → (elim v as (λ _. Result (List (Statement (List ℕ))) Refusal) [
+well_by_verdict : (has : Kernel → Bool) (k : ℕ) (S : JobState) (n : ℕ) (l : List ℕ) (ls : List (List ℕ)) (ss : List (Statement (List ℕ))) → ((j : ℕ) (T : JobState) (ts : List (Statement (List ℕ))) → reading has j T (n + 1) ls ≡ Ok ts → IsWell has j T ts) → (v : Verdict) → verdict_of has (scope_of k S) l ≡ v → (elim v as (λ _. Result (List (Statement (List ℕ))) Refusal) [
   | Skipped ↦ reading has k S (n + 1) ls
   | Bad why ↦ Err (refusal n why)
   | Does act ↦ before (statement n act) (reading has (k + 1) (apply act S) (n + 1) ls)
@@ -52,7 +52,7 @@ well_by_verdict has k S n l ls ss rest (Bad why) v e = absurd (cc)
 well_by_verdict has k S n l ls ss rest (Does act) v e =
     well_before has k S (statement n act) ss (reading has (k + 1) (apply act S) (n + 1) ls) e (allowed_from_verdict has (scope_of k S) l act v) (rest (k + 1) (apply act S))
 
-pub well_from_reading : (has : Kernel → Bool) (k : ℕ) (S : State) (n : ℕ) (ls : List (List ℕ)) (ss : List (Statement (List ℕ))) → reading has k S n ls ≡ Ok ss → IsWell has k S ss
+pub well_from_reading : (has : Kernel → Bool) (k : ℕ) (S : JobState) (n : ℕ) (ls : List (List ℕ)) (ss : List (Statement (List ℕ))) → reading has k S n ls ≡ Ok ss → IsWell has k S ss
 well_from_reading has k S n [] [] e = tt
 well_from_reading has k S n [] (s ∷ ss) e = absurd (cc)
 well_from_reading has k S n (l ∷ ls) ss e =

@@ -66,11 +66,11 @@ keyword_of w = spelled_in keyword_word keywords w
 abbrev pub policy_of : List ℕ → Option Policy
 policy_of w = spelled_in policy_word (Eager ∷ Prio ∷ Ws ∷ []) w
 
-abbrev pub reduction_of : List ℕ → Option Reduction
-reduction_of w = spelled_in reduction_word (Plus ∷ Least ∷ []) w
+abbrev pub reduction_spelled : List ℕ → Option Reduction
+reduction_spelled w = spelled_in reduction_word (Plus ∷ Least ∷ []) w
 
-abbrev pub mode_of : List ℕ → Option Mode
-mode_of w = spelled_in mode_word (R ∷ W ∷ RW ∷ Scratch ∷ Redux ∷ Commute ∷ []) w
+abbrev pub mode_spelled : List ℕ → Option Mode
+mode_spelled w = spelled_in mode_word (R ∷ W ∷ RW ∷ Scratch ∷ Redux ∷ Commute ∷ []) w
 
 -- ---- parts of a word
 
@@ -128,7 +128,7 @@ operand_of w = elim (around_last 58 w) [
   | None ↦ None
   | Some p ↦ (elim (bracketed 91 93 p.0) [
     | None ↦ None
-    | Some t ↦ option_and_then (operand_with t) (mode_of p.1)
+    | Some t ↦ option_and_then (operand_with t) (mode_spelled p.1)
   ])
 ]
 
@@ -150,9 +150,9 @@ with_priority (w ∷ []) = elim (priority_of w) [ Some p ↦ ([], Some p) | None
 with_priority (w ∷ v ∷ ws) = (w ∷ (with_priority (v ∷ ws)).0, (with_priority (v ∷ ws)).1)
 
 -- CODELET OPERANDS
-abbrev pub task_of : List (List ℕ) → Option TaskForm
-task_of [] = None
-task_of (w ∷ ws) = elim (bracketed 40 41 w) [
+abbrev pub task_form_of : List (List ℕ) → Option TaskForm
+task_form_of [] = None
+task_form_of (w ∷ ws) = elim (bracketed 40 41 w) [
   | None ↦ None
   | Some c ↦ option_map
       (λ os. record { codelet = c.0; args = c.1; operands = os; priority = (with_priority ws).1 })
@@ -175,30 +175,30 @@ abbrev pub nothing_of : List (List ℕ) → Option InitForm
 nothing_of [] = Some Nothing
 nothing_of (w ∷ ws) = None
 
-abbrev pub init_of : List (List ℕ) → Option InitForm
-init_of [] = None
-init_of (w ∷ ws) =
+abbrev pub init_form_of : List (List ℕ) → Option InitForm
+init_form_of [] = None
+init_form_of (w ∷ ws) =
     if bytes_eq w (codes "values") then values_of ws
     else if bytes_eq w (codes "fill") then fill_of ws
     else if bytes_eq w (codes "none") then nothing_of ws
     else None
 
-abbrev pub with_parts :
+abbrev pub layout_with :
     Option (List ℕ × List ℕ) → List (List ℕ) → Option (Option (List ℕ × List ℕ) × InitForm)
-with_parts parts ws = option_map (λ init. (parts, init)) (init_of ws)
+layout_with parts ws = option_map (λ init. (parts, init)) (init_form_of ws)
 
 abbrev pub parted : List (List ℕ) → Option (Option (List ℕ × List ℕ) × InitForm)
 parted [] = None
 parted (r ∷ []) = None
-parted (r ∷ c ∷ ws) = with_parts (Some (r, c)) ws
+parted (r ∷ c ∷ ws) = layout_with (Some (r, c)) ws
 
 -- what follows the size: `by r c` or nothing, and then the values
 abbrev pub layout_of : List (List ℕ) → Option (Option (List ℕ × List ℕ) × InitForm)
 layout_of [] = None
-layout_of (w ∷ ws) = if bytes_eq w (codes "by") then parted ws else with_parts None (w ∷ ws)
+layout_of (w ∷ ws) = if bytes_eq w (codes "by") then parted ws else layout_with None (w ∷ ws)
 
-abbrev pub array_of : List ℕ → Size → List (List ℕ) → Option ArrayForm
-array_of name size ws =
+abbrev pub array_form_of : List ℕ → Size → List (List ℕ) → Option ArrayForm
+array_form_of name size ws =
     if is_name name
     then option_map (λ l. record { name = name; size = size; parts = l.0; init = l.1 }) (layout_of ws)
     else None
@@ -206,13 +206,13 @@ array_of name size ws =
 abbrev pub vector_of : List (List ℕ) → Option ArrayForm
 vector_of [] = None
 vector_of (name ∷ []) = None
-vector_of (name ∷ n ∷ ws) = array_of name (Vector n) ws
+vector_of (name ∷ n ∷ ws) = array_form_of name (Vector n) ws
 
 abbrev pub matrix_of : List (List ℕ) → Option ArrayForm
 matrix_of [] = None
 matrix_of (name ∷ []) = None
 matrix_of (name ∷ r ∷ []) = None
-matrix_of (name ∷ r ∷ c ∷ ws) = array_of name (Matrix r c) ws
+matrix_of (name ∷ r ∷ c ∷ ws) = array_form_of name (Matrix r c) ws
 
 -- ---- the other lines
 
@@ -225,10 +225,10 @@ alone (w ∷ v ∷ ws) = None
 abbrev pub policy_in : List (List ℕ) → Option Policy
 policy_in ws = option_and_then policy_of (alone ws)
 
-abbrev pub name_in : List (List ℕ) → Option (List ℕ)
-name_in [] = None
-name_in (name ∷ []) = if is_name name then Some name else None
-name_in (name ∷ w ∷ ws) = None
+abbrev pub only_name : List (List ℕ) → Option (List ℕ)
+only_name [] = None
+only_name (name ∷ []) = if is_name name then Some name else None
+only_name (name ∷ w ∷ ws) = None
 
 abbrev pub plan_of : List (List ℕ) → Option Form
 plan_of [] = None
@@ -240,7 +240,7 @@ plan_of (name ∷ r ∷ c ∷ w ∷ ws) = None
 abbrev pub redux_of : List (List ℕ) → Option Form
 redux_of [] = None
 redux_of (name ∷ []) = None
-redux_of (name ∷ by ∷ []) = if is_name name then option_map (form.Redux name) (reduction_of by) else None
+redux_of (name ∷ by ∷ []) = if is_name name then option_map (form.Redux name) (reduction_spelled by) else None
 redux_of (name ∷ by ∷ w ∷ ws) = None
 
 -- the form of a statement line that begins with this word
@@ -249,10 +249,10 @@ form_behind keyword.Vector ws = option_map form.Register (vector_of ws)
 form_behind keyword.Matrix ws = option_map form.Register (matrix_of ws)
 form_behind keyword.Plan ws = plan_of ws
 form_behind keyword.Redux ws = redux_of ws
-form_behind keyword.Task ws = option_map form.Task (task_of ws)
-form_behind keyword.Print ws = option_map form.Print (name_in ws)
-form_behind keyword.Invalidate ws = option_map form.Invalidate (name_in ws)
-form_behind keyword.Unregister ws = option_map form.Unregister (name_in ws)
+form_behind keyword.Task ws = option_map form.Task (task_form_of ws)
+form_behind keyword.Print ws = option_map form.Print (only_name ws)
+form_behind keyword.Invalidate ws = option_map form.Invalidate (only_name ws)
+form_behind keyword.Unregister ws = option_map form.Unregister (only_name ws)
 
 -- the statement that these words spell
 abbrev pub form_of : List (List ℕ) → Option Form

@@ -57,14 +57,14 @@ sized name (Vector n) ws = codes "vector" ∷ name ∷ n ∷ ws
 sized name (Matrix r c) ws = codes "matrix" ∷ name ∷ r ∷ c ∷ ws
 
 -- the words of a form
-abbrev pub written : Form → List (List ℕ)
-written (Register a) = sized a.name a.size (parts_words a.parts ++ init_words a.init)
-written (Plan name r c) = codes "plan" ∷ name ∷ r ∷ c ∷ []
-written (Redux name by) = codes "redux" ∷ name ∷ reduction_word by ∷ []
-written (Task t) = codes "task" ∷ codelet_word t ∷ (map operand_word t.operands ++ priority_words t.priority)
-written (Print name) = codes "print" ∷ name ∷ []
-written (Invalidate name) = codes "invalidate" ∷ name ∷ []
-written (Unregister name) = codes "unregister" ∷ name ∷ []
+abbrev pub form_words : Form → List (List ℕ)
+form_words (Register a) = sized a.name a.size (parts_words a.parts ++ init_words a.init)
+form_words (Plan name r c) = codes "plan" ∷ name ∷ r ∷ c ∷ []
+form_words (Redux name by) = codes "redux" ∷ name ∷ reduction_word by ∷ []
+form_words (Task t) = codes "task" ∷ codelet_word t ∷ (map operand_word t.operands ++ priority_words t.priority)
+form_words (Print name) = codes "print" ∷ name ∷ []
+form_words (Invalidate name) = codes "invalidate" ∷ name ∷ []
+form_words (Unregister name) = codes "unregister" ∷ name ∷ []
 
 -- ---- which words stand where
 
@@ -94,7 +94,7 @@ is_proper (Unregister name) = is_name name
 
 -- these words spell this form
 pub record Spells (ws : List (List ℕ)) (f : Form) : Type 0 where
-  pub line : ws ≡ written f
+  pub line : ws ≡ form_words f
   pub proper : IsTrue (is_proper f)
 
 -- ---- what a statement line says

@@ -8,7 +8,7 @@ use Rattle.sj_base.specs.Mode.{is_redux}
 use Rattle.sj_codelet.specs.declared.kernel.Kernel.{Kernel}
 use Rattle.sj_codelet.specs.Kernel.{kernels, has_name, codelet_of, arguments_of, formals_of, fits}
 use Rattle.sj_plan.specs.declared.parts.Parts.{Parts}
-use Rattle.sj_plan.specs.Rect.{child, dims_of}
+use Rattle.sj_plan.specs.Rect.{child, rect_dims}
 use Rattle.sj_meaning.specs.declared.job.Init.{Init}
 use Rattle.sj_meaning.specs.declared.job.Init.TheVariants.{Values, Fill, Nothing}
 use Rattle.sj_meaning.specs.Statement.{Operand}
@@ -24,7 +24,7 @@ use Rattle.sj_job.specs.declared.reason.LimitKind.TheVariants.{Statements, Names
 use Rattle.sj_job.specs.Sentence.{init_said, parts_said, index_said, registered_by, operands_said, priority_said, task_said}
 use Rattle.sj_meaning.specs.Meaning.{written_of}
 use Rattle.sj_meaning.specs.Sound.{is_side, is_priority, modes_fit, is_aliased, needs_value, is_unordered, is_lawful_for}
-use Rattle.sj_meaning.specs.State.{Root, State, root_of, is_valued, is_blank, is_child, is_valued_child}
+use Rattle.sj_meaning.specs.State.{RootState, JobState, root_of, is_valued, has_no_value, is_child, is_valued_child}
 
 -- what the reasons look at in a root: its reduction, whether all its elements have a value, whether none has, and which
 -- children of the active plan have one at each element
@@ -36,8 +36,8 @@ pub record Known : Type 0 where
   pub none : Bool
   pub child : ℕ × ℕ → Bool
 
-abbrev pub known_of : Root → Known
-known_of r = record { dims = r.dims; parts = r.parts; reduction = r.reduction; all = is_valued r; none = is_blank r; child = is_valued_child r }
+abbrev pub known_of : RootState → Known
+known_of r = record { dims = r.dims; parts = r.parts; reduction = r.reduction; all = is_valued r; none = has_no_value r; child = is_valued_child r }
 
 -- how many statements stand before a line, how many names were registered, whether a name was ended,
 -- what is known of the others
@@ -48,7 +48,7 @@ pub record Scope : Type 0 where
   pub known : List ℕ → Option Known
 
 -- what a state shows the reasons, after so many statements
-abbrev pub scope_of : ℕ → State → Scope
+abbrev pub scope_of : ℕ → JobState → Scope
 scope_of n S = record {
   statements = n;
   registered = S.registered;
@@ -155,7 +155,7 @@ is_missing s o = elim (s.known o.name) [ None ↦ false | Some k ↦ not (is_chi
 
 -- the dimensions of an operand's child
 abbrev pub dims_in : Scope → Operand (List ℕ) → Dims
-dims_in s o = elim (s.known o.name) [ None ↦ record { rows = 0; cols = 0 } | Some k ↦ dims_of (child k.dims k.parts o.place) ]
+dims_in s o = elim (s.known o.name) [ None ↦ record { rows = 0; cols = 0 } | Some k ↦ rect_dims (child k.dims k.parts o.place) ]
 
 abbrev pub is_shaped : Scope → Kernel → List ℤ → List (Operand (List ℕ)) → Bool
 is_shaped s k args os = modes_fit (formals_of k) os && fits k args (map (dims_in s) os)

@@ -11,15 +11,15 @@ use Rattle.sj_codelet.specs.declared.formal.Formal.{Formal}
 use Rattle.sj_codelet.specs.Kernel.{codelet_of, arguments_of, formals_of, fits}
 use Rattle.sj_plan.specs.declared.parts.Parts.{Parts}
 use Rattle.sj_plan.specs.Parts.{IsPlace}
-use Rattle.sj_plan.specs.Paste.{same_place}
-use Rattle.sj_plan.specs.Rect.{child, dims_of}
+use Rattle.sj_plan.specs.Paste.{same_child_place}
+use Rattle.sj_plan.specs.Rect.{child, rect_dims}
 use Rattle.sj_job.specs.declared.form.OperandForm.{OperandForm}
 use Rattle.sj_meaning.specs.declared.job.Init.{Init}
 use Rattle.sj_meaning.specs.declared.job.Init.TheVariants.{Values, Fill, Nothing}
 use Rattle.sj_meaning.specs.declared.job.Operand.{Operand as Access}
 use Rattle.sj_meaning.specs.declared.job.TaskLine.{TaskLine}
-use Rattle.sj_job.specs.declared.names.Standing.{Standing}
-use Rattle.sj_job.specs.declared.names.Standing.TheVariants.{Live, Ended}
+use Rattle.sj_job.specs.declared.names.RootStanding.{RootStanding}
+use Rattle.sj_job.specs.declared.names.RootStanding.TheVariants.{Live, Ended}
 use Rattle.sj_job.specs.declared.names.Names.{Names}
 use Rattle.sj_job.specs.declared.judge.Target.{Target}
 use Rattle.sj_job.specs.declared.reason.Reason.{Reason}
@@ -27,22 +27,22 @@ use Rattle.sj_job.specs.declared.reason.Reason.TheVariants.{OperandCount, Part, 
 use Rattle.sj_job.specs.Sentence.{index_said}
 use Rattle.sj_meaning.specs.State.{is_child}
 use Rattle.sj_meaning.specs.Table.{root_in, info_of}
-use Rattle.sj_job.specs.Track.{Track, all_valued, none_valued, even, is_set, written}
+use Rattle.sj_job.specs.Track.{Track, all_valued, none_valued, even, is_set, with_child_valued}
 use Rattle.sj_job.specs.Judge.{Known, Scope, is_child_said}
 use Rattle.sj_meaning.specs.Sound.{is_lawful_for, is_unordered, mode_fits, needs_value}
 
 -- each root has a standing
-abbrev pub IsCounted : Names → Type 0
-IsCounted names = vec_len names.standings ≡ length names.roots.names
+abbrev pub HasStandings : Names → Type 0
+HasStandings names = vec_len names.standings ≡ length names.roots.names
 
-abbrev pub standing_of : Names → Root → Standing
+abbrev pub standing_of : Names → Root → RootStanding
 standing_of names r = slice_index_or names.standings.items r.0 Ended
 
 -- a root that was found by its name
 pub record Found : Type 0 where
   pub root : Root
   pub dims : Dims
-  pub standing : Standing
+  pub standing : RootStanding
 
 abbrev pub found_at : Names → Root → Found
 found_at names r = record { root = r; dims = (info_of names.roots r).dims; standing = standing_of names r }
@@ -53,25 +53,25 @@ found_in names q = option_map (found_at names) (root_in names.roots q)
 
 -- ---- how it stands with a root
 
-abbrev pub is_over : Standing → Bool
-is_over (Live t by) = false
-is_over Ended = true
+abbrev pub is_name_ended : RootStanding → Bool
+is_name_ended (Live t by) = false
+is_name_ended Ended = true
 
-abbrev pub is_all : Standing → Bool
+abbrev pub is_all : RootStanding → Bool
 is_all (Live t by) = all_valued t
 is_all Ended = false
 
-abbrev pub is_none : Standing → Bool
+abbrev pub is_none : RootStanding → Bool
 is_none (Live t by) = none_valued t
 is_none Ended = false
 
 -- the active plan
-abbrev pub plan_in : Standing → Option Parts
+abbrev pub plan_in : RootStanding → Option Parts
 plan_in (Live t by) = Some t.parts
 plan_in Ended = None
 
 -- the reduction, where there is one
-abbrev pub reduction_in : Standing → Option Reduction
+abbrev pub reduction_in : RootStanding → Option Reduction
 reduction_in (Live t by) = by
 reduction_in Ended = None
 
@@ -86,7 +86,7 @@ known_with d t by = record {
   child = λ place. is_child t.parts place && is_set t place;
 }
 
-abbrev pub known_by : Dims → Standing → Option Known
+abbrev pub known_by : Dims → RootStanding → Option Known
 known_by d (Live t by) = Some (known_with d t by)
 known_by d Ended = None
 
@@ -96,7 +96,7 @@ known_from (Some f) = known_by f.dims f.standing
 
 abbrev pub ended_from : Option Found → Bool
 ended_from None = false
-ended_from (Some f) = is_over f.standing
+ended_from (Some f) = is_name_ended f.standing
 
 abbrev pub known_in : Names → List ℕ → Option Known
 known_in names name = known_from (found_in names name)
@@ -120,28 +120,28 @@ gives_values (Values zs) = true
 gives_values (Fill a b) = true
 gives_values Nothing = false
 
-abbrev pub first_standing : Parts → Init → Standing
+abbrev pub first_standing : Parts → Init → RootStanding
 first_standing p init = Live (even p (gives_values init)) None
 
-abbrev pub planned : Parts → Standing → Standing
-planned p (Live t by) = Live (even p (all_valued t)) by
-planned p Ended = Ended
+abbrev pub replanned : Parts → RootStanding → RootStanding
+replanned p (Live t by) = Live (even p (all_valued t)) by
+replanned p Ended = Ended
 
 -- a root gets its reduction
-abbrev pub reduced : Reduction → Standing → Standing
+abbrev pub reduced : Reduction → RootStanding → RootStanding
 reduced by (Live t old) = Live t (Some by)
 reduced by Ended = Ended
 
-abbrev pub invalidated : Standing → Standing
+abbrev pub invalidated : RootStanding → RootStanding
 invalidated (Live t by) = Live (even t.parts false) by
 invalidated Ended = Ended
 
-abbrev pub child_written : ℕ × ℕ → Standing → Standing
-child_written place (Live t by) = Live (written t place) by
+abbrev pub child_written : ℕ × ℕ → RootStanding → RootStanding
+child_written place (Live t by) = Live (with_child_valued t place) by
 child_written place Ended = Ended
 
 -- all its children have a value, or none has
-abbrev pub IsEven : Standing → Type 0
+abbrev pub IsEven : RootStanding → Type 0
 IsEven (Live t by) = IsTrue (all_valued t || none_valued t)
 IsEven Ended = Unit {0}
 
@@ -151,11 +151,11 @@ IsPlaceIn None place = Unit {0}
 IsPlaceIn (Some p) place = IsPlace p place
 
 -- the operand's child has a value from now on, if the task writes it
-abbrev pub after_write : Access → List Standing → List Standing
+abbrev pub after_write : Access → List RootStanding → List RootStanding
 after_write o sts =
     if is_written o.mode then slice_set sts o.root.0 (child_written o.place (slice_index_or sts o.root.0 Ended)) else sts
 
-abbrev pub after_writes : List Access → List Standing → List Standing
+abbrev pub after_writes : List Access → List RootStanding → List RootStanding
 after_writes [] sts = sts
 after_writes (o ∷ os) sts = after_writes os (after_write o sts)
 
@@ -173,10 +173,10 @@ no_child r m over = a_target r m over (not over) (0, 0) (record { rows = 0; cols
 abbrev pub target_under : Root → Dims → Mode → Option (ℕ × ℕ) → Track → Option Reduction → Target
 target_under r d m index t by =
     if is_child_said t.parts index
-    then a_target r m false false (unwrap_or index (0, 0)) (dims_of (child d t.parts (unwrap_or index (0, 0)))) (is_set t (unwrap_or index (0, 0))) by
+    then a_target r m false false (unwrap_or index (0, 0)) (rect_dims (child d t.parts (unwrap_or index (0, 0)))) (is_set t (unwrap_or index (0, 0))) by
     else no_child r m false
 
-abbrev pub target_by : Root → Dims → Mode → Option (ℕ × ℕ) → Standing → Target
+abbrev pub target_by : Root → Dims → Mode → Option (ℕ × ℕ) → RootStanding → Target
 target_by r d m index (Live t by) = target_under r d m index t by
 target_by r d m index Ended = no_child r m true
 
@@ -213,7 +213,7 @@ is_shaped_for k args ts = targets_fit (formals_of k) ts && fits k args (target_d
 -- both are of one child, and not both only read it
 abbrev pub collide : Target → Target → Bool
 collide t u =
-    nat_eq t.root.0 u.root.0 && same_place t.place u.place && not (is_read_only t.mode && is_read_only u.mode)
+    nat_eq t.root.0 u.root.0 && same_child_place t.place u.place && not (is_read_only t.mode && is_read_only u.mode)
 
 abbrev pub any_collide : List Target → Bool
 any_collide [] = false

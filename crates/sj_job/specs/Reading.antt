@@ -21,7 +21,7 @@ use Rattle.sj_job.specs.declared.reason.Reason.TheVariants.{Header, Word, Limit}
 use Rattle.sj_job.specs.declared.reason.LimitKind.TheVariants.{Text}
 use Rattle.sj_job.specs.Word.{lines, words, is_allowed, is_skipped}
 use Rattle.sj_job.specs.Sentence.{said, is_header}
-use Rattle.sj_meaning.specs.State.{State, start}
+use Rattle.sj_meaning.specs.State.{JobState, start}
 use Rattle.sj_meaning.specs.Meaning.{apply}
 use Rattle.sj_job.specs.Judge.{Scope, scope_of, judged}
 
@@ -57,7 +57,7 @@ verdict_of set scope line =
     else (elim (statement_in set scope line) [ Err why ↦ Bad why | Ok act ↦ Does act ])
 
 -- what the statement lines from line n on say, after so many statements, which leave the state S
-abbrev pub reading : (Kernel → Bool) → ℕ → State → ℕ → List (List ℕ) → Result (List (Statement (List ℕ))) Refusal
+abbrev pub reading : (Kernel → Bool) → ℕ → JobState → ℕ → List (List ℕ) → Result (List (Statement (List ℕ))) Refusal
 reading set k S n [] = Ok []
 reading set k S n (l ∷ ls) = elim (verdict_of set (scope_of k S) l) [
   | Skipped ↦ reading set k S (n + 1) ls
@@ -129,6 +129,6 @@ IsStopped NoMemory v = Unit {0}
 IsStopped (Objected why) v = v ≡ Stops why
 
 -- a text is refused at its first bad line for its first reason, or memory ran out
-abbrev pub IsRefusal : {A : Type 0} → ReadRefusal → Result A Refusal → Type 0
-IsRefusal OutOfMemory job = Unit {0}
-IsRefusal (Refused line reason) job = job ≡ Err (record { line = line; reason = reason })
+abbrev pub IsReadRefusal : {A : Type 0} → ReadRefusal → Result A Refusal → Type 0
+IsReadRefusal OutOfMemory job = Unit {0}
+IsReadRefusal (Refused line reason) job = job ≡ Err (record { line = line; reason = reason })

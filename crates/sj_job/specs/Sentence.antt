@@ -70,13 +70,13 @@ kind_of (size.Vector n) = kind.Vector
 kind_of (size.Matrix r c) = kind.Matrix
 
 -- a vector is one row
-abbrev pub rows_of : Size → ℕ
-rows_of (size.Vector n) = 1
-rows_of (size.Matrix r c) = count r
+abbrev pub row_count : Size → ℕ
+row_count (size.Vector n) = 1
+row_count (size.Matrix r c) = count r
 
-abbrev pub cols_of : Size → ℕ
-cols_of (size.Vector n) = count n
-cols_of (size.Matrix r c) = count c
+abbrev pub col_count : Size → ℕ
+col_count (size.Vector n) = count n
+col_count (size.Matrix r c) = count c
 
 abbrev pub init_said : InitForm → Init
 init_said (init.Values vs) = Values (map integer vs)
@@ -98,7 +98,7 @@ abbrev pub registered_by : ArrayForm → Register (List ℕ)
 registered_by a = record {
   name = a.name;
   kind = kind_of a.size;
-  dims = record { rows = rows_of a.size; cols = cols_of a.size };
+  dims = record { rows = row_count a.size; cols = col_count a.size };
   parts = parts_said a.parts;
   init = init_said a.init;
 }

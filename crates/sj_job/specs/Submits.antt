@@ -9,7 +9,7 @@ use Rattle.sj_job.specs.declared.reason.Reason.{Reason}
 use Rattle.sj_meaning.specs.Act.{Act}
 use Rattle.sj_job.specs.Verdict.{Does}
 use Rattle.sj_job.specs.Sentence.{said_of}
-use Rattle.sj_meaning.specs.State.{State, start}
+use Rattle.sj_meaning.specs.State.{JobState, start}
 use Rattle.sj_meaning.specs.Meaning.{apply, run_from}
 use Rattle.sj_job.specs.Judge.{Scope, judged}
 use Rattle.sj_job.specs.Names.{scope_in}
@@ -18,8 +18,8 @@ use Rattle.sj_meaning.specs.View.{act_seen, seen_from, count_after, IsPlaced, Ex
 use Rattle.sj_job.specs.Sees.{Sees}
 
 -- what a form does, or the first reason against it
-abbrev pub done_in : (Kernel → Bool) → Scope → Form → Result (Act (List ℕ)) Reason
-done_in has s f = elim (said_of f) [ Err why ↦ Err why | Ok g ↦ judged has s g ]
+abbrev pub act_of_form : (Kernel → Bool) → Scope → Form → Result (Act (List ℕ)) Reason
+act_of_form has s f = elim (said_of f) [ Err why ↦ Err why | Ok g ↦ judged has s g ]
 
 -- the act as contracts see it, once the names have followed
 abbrev pub act_noted : Names → Names → KeptAct → Act (List ℕ)
@@ -31,11 +31,11 @@ pub record Notes (old new : Names) (a : KeptAct) : Type 0 where
   pub counted : length new.roots.names ≡ count_after (length old.roots.names) a
   pub kept : Extends old.roots new.roots
   pub whole : length old.roots.infos ≡ length old.roots.names → length new.roots.infos ≡ length new.roots.names
-  pub sees : (n : ℕ) (S : State) → Sees old n S → Sees new (n + 1) (apply (act_noted old new a) S)
+  pub sees : (n : ℕ) (S : JobState) → Sees old n S → Sees new (n + 1) (apply (act_noted old new a) S)
 
 -- a form does this, and the names have followed
 pub record Submits (has : Kernel → Bool) (old : Names) (f : Form) (new : Names) (a : KeptAct) : Type 0 where
-  pub act : done_in has (scope_in old) f ≡ Ok (act_noted old new a)
+  pub act : act_of_form has (scope_in old) f ≡ Ok (act_noted old new a)
   pub notes : Notes old new a
 
 -- a line does this, and the names have followed

@@ -5,10 +5,10 @@ use Rattle.sj_base.specs.Array.{area}
 use Rattle.sj_base.specs.Window.{item}
 use Rattle.sj_plan.specs.declared.parts.Parts.{Parts}
 use Rattle.sj_plan.specs.Parts.{Fits, IsPlace}
-use Rattle.sj_plan.specs.Rect.{Holds}
+use Rattle.sj_plan.specs.Rect.{HasElement}
 use Rattle.sj_job.specs.declared.track.Marks.{Marks}
 use Rattle.sj_job.specs.declared.track.Marks.TheVariants.{All, Blank, Mixed}
-use Rattle.sj_meaning.specs.State.{Root, child_rect}
+use Rattle.sj_meaning.specs.State.{RootState, child_rect}
 
 -- the active plan, and of each of its children, row by row, whether it has a value
 pub record Track : Type 0 where
@@ -36,13 +36,13 @@ abbrev pub even : Parts → Bool → Track
 even p valued = record { parts = p; valued = replicate (children_count p) valued }
 
 -- one child has a value from now on
-abbrev pub written : Track → ℕ × ℕ → Track
-written t place = record { parts = t.parts; valued = slice_set t.valued (number t.parts place) true }
+abbrev pub with_child_valued : Track → ℕ × ℕ → Track
+with_child_valued t place = record { parts = t.parts; valued = slice_set t.valued (number t.parts place) true }
 
 -- ---- the form in which a track is kept
 
 -- a plan within its limits
-pub record IsPlan (p : Parts) : Type 0 where
+pub record IsSmallPlan (p : Parts) : Type 0 where
   pub some : 0 < children_count p
   pub few : children_count p ≤ 4096
 
@@ -67,14 +67,14 @@ FitMarks p Blank = Unit {0}
 FitMarks p (Mixed marks blank) = AreMixed p marks.items blank
 
 abbrev pub AreMarks : Parts → Marks → Type 0
-AreMarks p m = IsPlan p × FitMarks p m
+AreMarks p m = IsSmallPlan p × FitMarks p m
 
 -- ---- a root's track
 
 -- the track is that of the root: an element has a value exactly where its child has one
-pub record Tracks (t : Track) (r : Root) : Type 0 where
+pub record Tracks (t : Track) (r : RootState) : Type 0 where
   pub parts : t.parts ≡ r.parts
   pub fits : Fits r.parts r.dims
   pub whole : length r.elements ≡ area r.dims
   pub counted : length t.valued ≡ children_count r.parts
-  pub valued : (place : ℕ × ℕ) (row col : ℕ) → IsPlace r.parts place → Holds (child_rect r place) row col → is_some (item None r.dims.cols r.elements row col) ≡ is_set t place
+  pub valued : (place : ℕ × ℕ) (row col : ℕ) → IsPlace r.parts place → HasElement (child_rect r place) row col → is_some (item None r.dims.cols r.elements row col) ≡ is_set t place

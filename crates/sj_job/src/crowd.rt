@@ -4,7 +4,7 @@ ghost use Rattle.std.specs.Prelude.{◌≡◌, ◌+◌, ◌≤◌, ◌&&◌, ◌
 ghost use Rattle.std.specs.List.{list_all};
 ghost use Rattle.sj_job.specs.Crowd.{crowd_of, shown_in, up_to_six};
 ghost use Rattle.sj_job.specs.Judge.{Scope, is_ended, is_unknown};
-ghost use Rattle.sj_job.specs.Names.{IsCounted, scope_in};
+ghost use Rattle.sj_job.specs.Names.{HasStandings, scope_in};
 ghost use Rattle.sj_job.specs.Reading.{act_in};
 ghost use Rattle.sj_job.specs.Sentence.{are_counts};
 ghost use Rattle.sj_job.specs.Word.{is_integer};
@@ -49,7 +49,7 @@ impl Crowd {
 
     /// One operand more. Linear in it.
     fn add(&mut self, names: &Names, operand: &OperandForm<'_>)
-        requires names { IsCounted names.now }
+        requires names { HasStandings names.now }
         requires few { self.old.count ≤ 6 }
         ensures numbered { self.new.numbered
             ≡ (self.old.numbered && are_counts operand.now.child) }
@@ -73,7 +73,7 @@ impl Crowd {
 
 /// What shows in the operands that words spell, and the priority behind them. Linear in the words.
 fn crowd_of<'a>(names: &Names, words: &Words<'a>) -> Option<(Crowd, Option<Piece<'a>>)>
-    requires { IsCounted names.now }
+    requires { HasStandings names.now }
     ensures { result ≡ shown_in (scope_in names.now) words.now }
 {
     let mut crowd = Crowd::none();
@@ -121,7 +121,7 @@ pub fn crowd_complaint<C: Codelets>(
     words: &Words<'_>,
     codelets: &C,
 ) -> Option<Reason>
-    requires { IsCounted names.now }
+    requires { HasStandings names.now }
     ensures { IfSome result (λ why.
         act_in C.has (scope_in names.now) (codes "task" ∷ words.now) ≡ Err why) }
 {

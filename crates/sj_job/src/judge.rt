@@ -8,10 +8,10 @@ ghost use Rattle.sj_job.specs.declared.names.Names.{Names};
 ghost use Rattle.sj_job.specs.Form.{each_some};
 ghost use Rattle.sj_job.specs.Sentence.{index_said, priority_said};
 ghost use Rattle.sj_job.specs.Word.{integer};
-ghost use Rattle.sj_job.specs.Names.{IsCounted, IsEven, IsPlaceIn, any_collide, any_missing, any_over, collide, is_counted_for, is_shaped_for, is_wanting, is_unreduced, is_unlawful_for, are_mixed, kept_task, law_reasons, no_child, operand_by, plan_in, scope_in, standing_of, target_by, target_dims, target_in, target_reasons, target_under, targets_fit};
-ghost use Rattle.sj_meaning.specs.State.{dims_with, plan_with};
+ghost use Rattle.sj_job.specs.Names.{HasStandings, IsEven, IsPlaceIn, any_collide, any_missing, any_over, collide, is_counted_for, is_shaped_for, is_wanting, is_unreduced, is_unlawful_for, are_mixed, kept_task, law_reasons, no_child, operand_by, plan_in, scope_in, standing_of, target_by, target_dims, target_in, target_reasons, target_under, targets_fit};
+ghost use Rattle.sj_meaning.specs.State.{dims_with, plan_of_parts};
 ghost use Rattle.sj_meaning.specs.Table.{root_in, IsRoot};
-ghost use Rattle.sj_job.specs.Track.{IsPlan};
+ghost use Rattle.sj_job.specs.Track.{IsSmallPlan};
 ghost use Rattle.sj_meaning.specs.View.{task_seen};
 ghost use Rattle.sj_job.specs.Reason.{Objects};
 ghost use Rattle.sj_meaning.specs.Act.{Task};
@@ -20,7 +20,7 @@ ghost use Rattle.sj_meaning.specs.Sound.{is_priority, is_side, mode_fits, needs_
 ghost use Rattle.sj_base.specs.Mode.{is_written};
 
 use crate::form::{OperandForm, TaskForm};
-use crate::names::{Names, Standing};
+use crate::names::{Names, RootStanding};
 use crate::reason::{LimitKind, Objection, Reason};
 use crate::track::Tracked;
 use sj_base::few::Few;
@@ -81,7 +81,7 @@ fn is_miscounted(init: &Init, rows: u64, cols: u64) -> bool
 }
 
 fn is_crowded(r: u64, c: u64) -> bool
-    ensures { result ≡ is_crowded (plan_with r c) }
+    ensures { result ≡ is_crowded (plan_of_parts r c) }
 {
     match r.checked_mul(c) {
         Some(children) => CHILDREN < children,
@@ -96,7 +96,7 @@ fn is_cut(items: u64, parts: u64) -> bool
 }
 
 fn is_uncut(rows: u64, cols: u64, r: u64, c: u64) -> bool
-    ensures { result ≡ is_uncut (dims_with rows cols) (plan_with r c) }
+    ensures { result ≡ is_uncut (dims_with rows cols) (plan_of_parts r c) }
 {
     !(is_cut(rows, r) && is_cut(cols, c))
 }
@@ -109,13 +109,13 @@ pub fn register_complaint(
     parts: (u64, u64),
     init: &Init,
 ) -> Option<Reason>
-    requires { IsCounted names.now }
+    requires { HasStandings names.now }
     ensures first { result
         ≡ first_of (register_reasons (scope_in names.now) name.now (dims_with size.0 size.1)
-        (plan_with parts.0 parts.1) init.now) }
+        (plan_of_parts parts.0 parts.1) init.now) }
     ensures within { IfNone result ((size.0 ≤ SIDE) × (size.1 ≤ SIDE)) }
     ensures cut { IfNone result ((parts.0 ≤ SIDE) × (parts.1 ≤ SIDE)) }
-    ensures plan { IfNone result (IsPlan (plan_with parts.0 parts.1)) }
+    ensures plan { IfNone result (IsSmallPlan (plan_of_parts parts.0 parts.1)) }
     ensures few { IfNone result (length names.now.roots.names < NAMES) }
     ensures fresh { IfNone result (root_in names.now.roots name.now ≡ None) }
 {
@@ -144,7 +144,7 @@ pub fn register_complaint(
 
 /// The root of a name, or the first reason against a statement that needs a name and nothing else. Linear in the name.
 pub fn named_root(names: &Names, name: &[u8]) -> Result<Root, Reason>
-    requires { IsCounted names.now }
+    requires { HasStandings names.now }
     ensures root { IfOk result (λ r. root_in names.now.roots name.now ≡ Some r) }
     ensures none { IfOk result (λ r. first_of (name_reasons (scope_in names.now) name.now) ≡ None) }
     ensures why { IfErr result
@@ -164,7 +164,7 @@ pub fn named_root(names: &Names, name: &[u8]) -> Result<Root, Reason>
 
 /// The root of a name, or the first reason against printing it. Linear in the name.
 pub fn printed_root(names: &Names, name: &[u8]) -> Result<Root, Reason>
-    requires { IsCounted names.now }
+    requires { HasStandings names.now }
     ensures root { IfOk result (λ r. root_in names.now.roots name.now ≡ Some r) }
     ensures none { IfOk result (λ r. first_of (print_reasons (scope_in names.now) name.now)
         ≡ None) }
@@ -180,15 +180,16 @@ pub fn printed_root(names: &Names, name: &[u8]) -> Result<Root, Reason>
 
 /// The root of a name, or the first reason against a plan of r by c parts for it. Linear in the name.
 pub fn planned_root(names: &Names, name: &[u8], r: u64, c: u64) -> Result<Root, Reason>
-    requires { IsCounted names.now }
+    requires { HasStandings names.now }
     ensures root { IfOk result (λ root. root_in names.now.roots name.now ≡ Some root) }
     ensures even { IfOk result (λ root. IsEven (standing_of names.now root)) }
     ensures cut { IfOk result (λ _. (r < 2 ^ 32) × (c < 2 ^ 32)) }
-    ensures plan { IfOk result (λ _. IsPlan (plan_with r c)) }
+    ensures plan { IfOk result (λ _. IsSmallPlan (plan_of_parts r c)) }
     ensures none { IfOk result (λ _. first_of (plan_reasons (scope_in names.now) name.now
-        (plan_with r c)) ≡ None) }
+        (plan_of_parts r c)) ≡ None) }
     ensures why { IfErr result
-        (λ why. first_of (plan_reasons (scope_in names.now) name.now (plan_with r c)) ≡ Some why) }
+        (λ why.
+        first_of (plan_reasons (scope_in names.now) name.now (plan_of_parts r c)) ≡ Some why) }
 {
     if STATEMENTS <= names.statements {
         return Err(Reason::Limit(LimitKind::Statements));
@@ -210,7 +211,7 @@ pub fn planned_root(names: &Names, name: &[u8], r: u64, c: u64) -> Result<Root, 
 
 /// The root of a name, or the first reason against giving it a reduction. Linear in the name.
 pub fn reduced_root(names: &Names, name: &[u8]) -> Result<Root, Reason>
-    requires { IsCounted names.now }
+    requires { HasStandings names.now }
     ensures root { IfOk result (λ r. root_in names.now.roots name.now ≡ Some r) }
     ensures none { IfOk result (λ r. first_of (redux_reasons (scope_in names.now) name.now)
         ≡ None) }
@@ -312,21 +313,21 @@ fn target_by(
     dims: Dims,
     mode: Mode,
     index: Option<(u64, u64)>,
-    standing: &Standing,
+    standing: &RootStanding,
 ) -> Target
     ensures { result ≡ target_by root dims mode index standing.now }
 {
     match standing {
-        Standing::Live { track, reduction } => {
+        RootStanding::Live { track, reduction } => {
             target_under(root, dims, mode, index, track, *reduction)
         }
-        Standing::Ended => no_child(root, mode, true),
+        RootStanding::Ended => no_child(root, mode, true),
     }
 }
 
 /// An operand of this index with its root, or `None` where its name has none. Linear in its name.
 fn target_of(names: &Names, operand: &OperandForm<'_>, index: Option<(u64, u64)>) -> Option<Target>
-    requires counted { IsCounted names.now }
+    requires counted { HasStandings names.now }
     requires index { index ≡ index_said operand.now.child }
     ensures { result ≡ target_in names.now operand.now }
 {
@@ -342,7 +343,7 @@ fn targets_of(
     operands: &[OperandForm<'_>],
     indexes: &[Option<(u64, u64)>],
 ) -> Result<Option<Few<Target>>, OutOfMemory>
-    requires counted { IsCounted names.now }
+    requires counted { HasStandings names.now }
     requires indexes { indexes.now ≡ map (λ o. index_said o.child) operands.now }
     ensures { IfOk result (λ r. MatchOption r
         (each_some (target_in names.now) operands.now ≡ None)
@@ -629,7 +630,7 @@ fn judge_call<C: Codelets>(
     indexes: &[Option<(u64, u64)>],
     codelets: &C,
 ) -> Result<(Kernel, Few<Operand>), Objection>
-    requires counted { IsCounted names.now }
+    requires counted { HasStandings names.now }
     requires room { is_full (scope_in names.now) ≡ false }
     requires priority { is_priority (priority_said form.now.priority) ≡ true }
     requires args { args.now ≡ map integer form.now.args }
@@ -669,7 +670,7 @@ pub fn judge_task<C: Codelets>(
     priority: i64,
     codelets: &C,
 ) -> Result<TaskLine, Objection>
-    requires counted { IsCounted names.now }
+    requires counted { HasStandings names.now }
     requires indexes { indexes.now ≡ map (λ o. index_said o.child) form.now.operands }
     requires args { args ≡ map integer form.now.args }
     requires priority { priority ≡ priority_said form.now.priority }

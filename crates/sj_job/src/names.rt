@@ -2,11 +2,11 @@
 
 ghost use Rattle.std.specs.Prelude.{◌≡◌, ◌+◌, ◌<◌, ◌^◌, ℕ, Bool, None, All, length, OnOk, slice_set};
 ghost use Rattle.sj_codelet.specs.declared.kernel.Kernel.{Kernel};
-ghost use Rattle.sj_job.specs.Names.{IsCounted, IsEven, IsPlaceIn, after_write, after_writes, child_written, first_standing, invalidated, is_all, is_none, is_over, plan_in, planned, reduced, reduction_in, scope_in, standing_of};
-ghost use Rattle.sj_meaning.specs.State.{State, start};
+ghost use Rattle.sj_job.specs.Names.{HasStandings, IsEven, IsPlaceIn, after_write, after_writes, child_written, first_standing, invalidated, is_all, is_none, is_name_ended, plan_in, replanned, reduced, reduction_in, scope_in, standing_of};
+ghost use Rattle.sj_meaning.specs.State.{JobState, start};
 ghost use Rattle.sj_meaning.specs.Meaning.{register, run_task, invalidate, plan, reduce, unregister};
 ghost use Rattle.sj_meaning.specs.Table.{name_of, root_in, with_root, IsRoot};
-ghost use Rattle.sj_job.specs.Track.{IsPlan};
+ghost use Rattle.sj_job.specs.Track.{IsSmallPlan};
 ghost use Rattle.sj_meaning.specs.View.{task_seen, registration};
 ghost use Rattle.sj_job.specs.Sees.{Sees};
 ghost use Rattle.sj_meaning.specs.Sound.{IsSoundPlan, IsSoundTask, IsSoundRegistration};
@@ -23,7 +23,7 @@ use std::alloc::Global;
 
 /// How it stands with a root: which children of its active plan have a value, and its reduction; or that its name is ended.
 #[derive(Drop)]
-pub enum Standing {
+pub enum RootStanding {
     Live {
         track: Tracked,
         reduction: Option<Reduction>,
@@ -31,14 +31,14 @@ pub enum Standing {
     Ended,
 }
 
-impl Standing {
+impl RootStanding {
     /// Whether the name is ended. Constant time, as are all calls but `write`.
     pub fn is_over(&self) -> bool
-        ensures { result ≡ is_over self.now }
+        ensures { result ≡ is_name_ended self.now }
     {
         match self {
-            Standing::Live { .. } => false,
-            Standing::Ended => true,
+            RootStanding::Live { .. } => false,
+            RootStanding::Ended => true,
         }
     }
 
@@ -47,8 +47,8 @@ impl Standing {
         ensures { result ≡ is_all self.now }
     {
         match self {
-            Standing::Live { track, .. } => track.is_all(),
-            Standing::Ended => false,
+            RootStanding::Live { track, .. } => track.is_all(),
+            RootStanding::Ended => false,
         }
     }
 
@@ -57,8 +57,8 @@ impl Standing {
         ensures { result ≡ is_none self.now }
     {
         match self {
-            Standing::Live { track, .. } => track.is_none(),
-            Standing::Ended => false,
+            RootStanding::Live { track, .. } => track.is_none(),
+            RootStanding::Ended => false,
         }
     }
 
@@ -67,8 +67,8 @@ impl Standing {
         ensures { result ≡ reduction_in self.now }
     {
         match self {
-            Standing::Live { reduction, .. } => *reduction,
-            Standing::Ended => None,
+            RootStanding::Live { reduction, .. } => *reduction,
+            RootStanding::Ended => None,
         }
     }
 
@@ -77,20 +77,20 @@ impl Standing {
         ensures { self.new ≡ reduced by self.old }
     {
         match self {
-            Standing::Live { reduction, .. } => *reduction = Some(by),
-            Standing::Ended => {}
+            RootStanding::Live { reduction, .. } => *reduction = Some(by),
+            RootStanding::Ended => {}
         }
     }
 
     /// Another plan is active from now on.
     fn plan(&mut self, parts: Parts)
-        requires plan { IsPlan parts }
+        requires plan { IsSmallPlan parts }
         requires even { IsEven self.old }
-        ensures { self.new ≡ planned parts self.old }
+        ensures { self.new ≡ replanned parts self.old }
     {
         match self {
-            Standing::Live { track, .. } => track.plan(parts),
-            Standing::Ended => {}
+            RootStanding::Live { track, .. } => track.plan(parts),
+            RootStanding::Ended => {}
         }
     }
 
@@ -99,8 +99,8 @@ impl Standing {
         ensures { self.new ≡ invalidated self.old }
     {
         match self {
-            Standing::Live { track, .. } => track.invalidate(),
-            Standing::Ended => {}
+            RootStanding::Live { track, .. } => track.invalidate(),
+            RootStanding::Ended => {}
         }
     }
 
@@ -110,22 +110,22 @@ impl Standing {
         ensures { OnOk result (self.new ≡ child_written place self.old) }
     {
         match self {
-            Standing::Live { track, .. } => track.write(alloc, place.0, place.1),
-            Standing::Ended => Ok(()),
+            RootStanding::Live { track, .. } => track.write(alloc, place.0, place.1),
+            RootStanding::Ended => Ok(()),
         }
     }
 }
 
 /// How it stands with a root from its registration on.
-fn first_standing(parts: Parts, init: &Init) -> Standing
-    requires { IsPlan parts }
+fn first_standing(parts: Parts, init: &Init) -> RootStanding
+    requires { IsSmallPlan parts }
     ensures { result ≡ first_standing parts init.now }
 {
     let valued = match init {
         Init::Values(_) | Init::Fill(_, _) => true,
         Init::Nothing => false,
     };
-    Standing::Live {
+    RootStanding::Live {
         track: Tracked::even(parts, valued),
         reduction: None,
     }
@@ -136,7 +136,7 @@ fn first_standing(parts: Parts, init: &Init) -> Standing
 pub struct Names {
     pub statements: u64,
     pub roots: Roots,
-    pub standings: Vec<Standing>,
+    pub standings: Vec<RootStanding>,
 }
 
 impl Names {
@@ -160,7 +160,7 @@ impl Names {
 
     /// Whether a name is registered, and not ended.
     pub fn is_taken(&self, name: &[u8]) -> bool
-        requires { IsCounted self.now }
+        requires { HasStandings self.now }
         ensures { result ≡ is_taken (scope_in self.now) name.now }
     {
         match self.find(name) {
@@ -171,7 +171,7 @@ impl Names {
 
     /// Whether a name was ended.
     pub fn is_ended(&self, name: &[u8]) -> bool
-        requires { IsCounted self.now }
+        requires { HasStandings self.now }
         ensures { result ≡ is_ended (scope_in self.now) name.now }
     {
         match self.find(name) {
@@ -181,8 +181,8 @@ impl Names {
     }
 
     /// How it stands with a root. Constant time.
-    pub fn standing(&self, root: Root) -> &Standing
-        requires counted { IsCounted self.now }
+    pub fn standing(&self, root: Root) -> &RootStanding
+        requires counted { HasStandings self.now }
         requires root { root.0 < length self.now.roots.names }
         ensures { result.now ≡ standing_of self.now root }
     {
@@ -200,11 +200,11 @@ impl Names {
         requires room { self.old.statements + 1 < 2 ^ 64 }
         requires fresh { root_in self.old.roots name.now ≡ None }
         requires few { length self.old.roots.names < 4096 }
-        requires plan { IsPlan info.parts }
-        requires counted { IsCounted self.old }
+        requires plan { IsSmallPlan info.parts }
+        requires counted { HasStandings self.old }
         ensures whole { length self.old.roots.infos ≡ length self.old.roots.names }
         ensures roots { OnOk result (self.new.roots ≡ with_root name.now info self.old.roots) }
-        ensures names { OnOk result ((n : ℕ) (S : State) → Sees self.old n S
+        ensures names { OnOk result ((n : ℕ) (S : JobState) → Sees self.old n S
             → IsSoundRegistration S (registration name.now info init.now)
             → Sees self.new (n + 1) (register (registration name.now info init.now) S)) }
     {
@@ -218,7 +218,7 @@ impl Names {
     pub fn print(&mut self)
         requires { self.old.statements + 1 < 2 ^ 64 }
         ensures roots { self.new.roots ≡ self.old.roots }
-        ensures names { (n : ℕ) (S : State) → Sees self.old n S → Sees self.new (n + 1) S }
+        ensures names { (n : ℕ) (S : JobState) → Sees self.old n S → Sees self.new (n + 1) S }
     {
         self.statements += 1;
     }
@@ -226,12 +226,12 @@ impl Names {
     /// Notes that another plan is active from now on.
     pub fn plan(&mut self, root: Root, parts: Parts)
         requires room { self.old.statements + 1 < 2 ^ 64 }
-        requires counted { IsCounted self.old }
+        requires counted { HasStandings self.old }
         requires root { IsRoot self.old.roots root }
-        requires plan { IsPlan parts }
+        requires plan { IsSmallPlan parts }
         requires even { IsEven (standing_of self.old root) }
         ensures roots { self.new.roots ≡ self.old.roots }
-        ensures names { (n : ℕ) (S : State) → Sees self.old n S
+        ensures names { (n : ℕ) (S : JobState) → Sees self.old n S
             → IsSoundPlan S (name_of self.old.roots root) parts
             → Sees self.new (n + 1) (plan (name_of self.old.roots root) parts S) }
     {
@@ -245,10 +245,10 @@ impl Names {
     /// Notes that a root has this reduction from now on.
     pub fn reduce(&mut self, root: Root, by: Reduction)
         requires room { self.old.statements + 1 < 2 ^ 64 }
-        requires counted { IsCounted self.old }
+        requires counted { HasStandings self.old }
         requires root { IsRoot self.old.roots root }
         ensures roots { self.new.roots ≡ self.old.roots }
-        ensures names { (n : ℕ) (S : State) → Sees self.old n S
+        ensures names { (n : ℕ) (S : JobState) → Sees self.old n S
             → Sees self.new (n + 1) (reduce (name_of self.old.roots root) by S) }
     {
         let place = root.0 as usize;
@@ -261,10 +261,10 @@ impl Names {
     /// Notes that a root has no values from now on.
     pub fn invalidate(&mut self, root: Root)
         requires room { self.old.statements + 1 < 2 ^ 64 }
-        requires counted { IsCounted self.old }
+        requires counted { HasStandings self.old }
         requires root { IsRoot self.old.roots root }
         ensures roots { self.new.roots ≡ self.old.roots }
-        ensures names { (n : ℕ) (S : State) → Sees self.old n S
+        ensures names { (n : ℕ) (S : JobState) → Sees self.old n S
             → Sees self.new (n + 1) (invalidate (name_of self.old.roots root) S) }
     {
         let place = root.0 as usize;
@@ -277,16 +277,16 @@ impl Names {
     /// Notes that a name is ended.
     pub fn unregister(&mut self, root: Root)
         requires room { self.old.statements + 1 < 2 ^ 64 }
-        requires counted { IsCounted self.old }
+        requires counted { HasStandings self.old }
         requires root { IsRoot self.old.roots root }
         ensures roots { self.new.roots ≡ self.old.roots }
-        ensures names { (n : ℕ) (S : State) → Sees self.old n S
+        ensures names { (n : ℕ) (S : JobState) → Sees self.old n S
             → Sees self.new (n + 1) (unregister (name_of self.old.roots root) S) }
     {
         let place = root.0 as usize;
         let count = self.standings.len();
         prove!(place < count);
-        self.standings[place] = Standing::Ended;
+        self.standings[place] = RootStanding::Ended;
         self.statements += 1;
     }
 
@@ -294,12 +294,13 @@ impl Names {
     /// root takes time linear in its children.
     pub fn run(&mut self, alloc: Global, task: &TaskLine) -> Result<(), OutOfMemory>
         requires room { self.old.statements + 1 < 2 ^ 64 }
-        requires counted { IsCounted self.old }
+        requires counted { HasStandings self.old }
         requires roots { All (λ o. IsRoot self.old.roots o.root) task.now.operands }
         requires places { All (λ o. IsPlaceIn (plan_in (standing_of self.old o.root)) o.place)
             task.now.operands }
         ensures roots { OnOk result (self.new.roots ≡ self.old.roots) }
-        ensures names { OnOk result ((has : Kernel → Bool) (n : ℕ) (S : State) → Sees self.old n S
+        ensures names { OnOk result ((has : Kernel → Bool) (n : ℕ) (S : JobState)
+            → Sees self.old n S
             → IsSoundTask has S (task_seen self.old.roots task.now)
             → Sees self.new (n + 1) (run_task (task_seen self.old.roots task.now) S)) }
     {
@@ -310,7 +311,7 @@ impl Names {
 
     /// The written operands' children have a value from now on.
     fn write_all(&mut self, alloc: Global, operands: &[Operand]) -> Result<(), OutOfMemory>
-        requires counted { IsCounted self.old }
+        requires counted { HasStandings self.old }
         requires roots { All (λ o. IsRoot self.old.roots o.root) operands.now }
         requires places { All (λ o. IsPlaceIn (plan_in (standing_of self.old o.root)) o.place)
             operands.now }
@@ -327,7 +328,7 @@ impl Names {
 
     /// The same of one operand.
     fn write(&mut self, alloc: Global, operand: &Operand) -> Result<(), OutOfMemory>
-        requires counted { IsCounted self.old }
+        requires counted { HasStandings self.old }
         requires root { IsRoot self.old.roots operand.now.root }
         requires place { IsPlaceIn (plan_in (standing_of self.old operand.now.root))
             operand.now.place }

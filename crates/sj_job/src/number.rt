@@ -3,8 +3,8 @@
 ghost use Rattle.std.specs.Prelude.{◌≡◌, ◌&&◌, true, false, map, take, IfOk, MatchOption};
 ghost use Rattle.std.specs.List.{list_all};
 ghost use Rattle.sj_job.specs.Word.{count, is_count, is_integer, integer};
-ghost use Rattle.sj_job.specs.Sentence.{are_counts, is_numbered_size, is_numbered_init, is_numbered_priority, rows_of, cols_of, init_said, first_values, parts_said, index_said, priority_said};
-ghost use Rattle.sj_meaning.specs.State.{plan_with};
+ghost use Rattle.sj_job.specs.Sentence.{are_counts, is_numbered_size, is_numbered_init, is_numbered_priority, row_count, col_count, init_said, first_values, parts_said, index_said, priority_said};
+ghost use Rattle.sj_meaning.specs.State.{plan_of_parts};
 
 use crate::form::{InitForm, OperandForm, Piece, Pieces, Size};
 use crate::line::Words;
@@ -44,7 +44,7 @@ pub fn pair_of(a: &Piece<'_>, b: &Piece<'_>) -> Option<(u64, u64)>
 /// words.
 pub fn parts_of(by: &Option<(Piece<'_>, Piece<'_>)>) -> Option<(u64, u64)>
     ensures { MatchOption result (are_counts by.now ≡ false)
-        (λ p. (are_counts by.now ≡ true) × (plan_with p.0 p.1 ≡ parts_said by.now)) }
+        (λ p. (are_counts by.now ≡ true) × (plan_of_parts p.0 p.1 ≡ parts_said by.now)) }
 {
     match by {
         Some((r, c)) => pair_of(r, c),
@@ -128,7 +128,7 @@ fn values_of(
 pub fn size_of(size: &Size<'_>) -> Option<(u64, u64)>
     ensures { MatchOption result (is_numbered_size size.now ≡ false)
         (λ p. (is_numbered_size size.now ≡ true)
-        × (p.0 ≡ rows_of size.now) × (p.1 ≡ cols_of size.now)) }
+        × (p.0 ≡ row_count size.now) × (p.1 ≡ col_count size.now)) }
 {
     match size {
         Size::Vector(n) => Some((1, count_of(n.bytes())?)),

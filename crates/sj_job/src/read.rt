@@ -5,12 +5,12 @@ ghost use Rattle.std.specs.Bool.{IsFalse};
 ghost use Rattle.sj_codelet.specs.declared.kernel.Kernel.{Kernel};
 ghost use Rattle.sj_job.specs.Word.{lines, words};
 ghost use Rattle.sj_meaning.specs.State.{start};
-ghost use Rattle.sj_job.specs.Names.{IsCounted, scope_in};
+ghost use Rattle.sj_job.specs.Names.{HasStandings, scope_in};
 ghost use Rattle.sj_job.specs.Verdict.{Skipped, Passes, Begins};
-ghost use Rattle.sj_job.specs.Reading.{act_in, front_of, reading, reading_header, reading_settings, refused, with_settings, job_of, verdict_of, IsBad, IsRefusal, IsStopped};
+ghost use Rattle.sj_job.specs.Reading.{act_in, front_of, reading, reading_header, reading_settings, refused, with_settings, job_of, verdict_of, IsBad, IsReadRefusal, IsStopped};
 ghost use Rattle.sj_job.specs.Progress.{text_with};
 ghost use Rattle.sj_job.specs.Submits.{LineDoes, AreRead};
-ghost use Rattle.sj_meaning.specs.Settings.{unset, IsWithinLimits};
+ghost use Rattle.sj_meaning.specs.Settings.{unset, SettingsAreInRange};
 ghost use Rattle.sj_meaning.specs.View.{seen_from, statements_of, job_seen, IsNumbered};
 ghost use Rattle.sj_job.specs.Well.{IsWell};
 
@@ -37,7 +37,7 @@ const LONG: usize = 4_096;
 /// The reason against a task line that is long, where it has too many operands or arguments for a list of them, or comes before
 /// these are counted.
 fn long_complaint<C: Codelets>(names: &Names, line: &[u8], codelets: &C) -> Option<Reason>
-    requires { IsCounted names.now }
+    requires { HasStandings names.now }
     ensures { IfSome result (λ why. act_in C.has (scope_in names.now) (words line.now) ≡ Err why) }
 {
     if line.len() <= LONG {
@@ -58,7 +58,7 @@ fn act_of_line<C: Codelets>(
     line: &[u8],
     codelets: &C,
 ) -> Result<Option<Act>, Objection>
-    requires counted { IsCounted names.old }
+    requires counted { HasStandings names.old }
     requires room { names.old.statements + 1 < 2 ^ 64 }
     ensures skips { IfOk result (λ a. IfNone a
         ((names.new ≡ names.old) × (verdict_of C.has (scope_in names.old) line.now ≡ Skipped))) }
@@ -96,7 +96,7 @@ fn read_line<C: Codelets>(
     ensures ok { OnOk result ((rest : List (List ℕ)) →
         text_with C.has (seen_from names.old.roots 0 statements.old.items) number (line.now ∷ rest)
         ≡ text_with C.has (seen_from names.new.roots 0 statements.new.items) (number + 1) rest) }
-    ensures err { IfErr result (λ e. (rest : List (List ℕ)) → IsRefusal e
+    ensures err { IfErr result (λ e. (rest : List (List ℕ)) → IsReadRefusal e
         (text_with C.has (seen_from names.old.roots 0 statements.old.items) number
         (line.now ∷ rest))) }
 {
@@ -127,7 +127,8 @@ fn read_statements<C: Codelets>(
     ensures ok { IfOk result (λ job.
         reading C.has 0 start first (lines text.now) ≡ Ok (statements_of job)) }
     ensures numbered { IfOk result (λ job. IsNumbered job.roots job.statements) }
-    ensures err { IfErr result (λ e. IsRefusal e (reading C.has 0 start first (lines text.now))) }
+    ensures err { IfErr result
+        (λ e. IsReadRefusal e (reading C.has 0 start first (lines text.now))) }
 {
     let mut names = Names::none(alloc);
     let mut statements = Vec::new(alloc);
@@ -147,8 +148,8 @@ fn read_statements<C: Codelets>(
 
 /// What a line does before the first statement: whether the settings go on behind it. Linear in the line.
 fn set_by_line(settings: &mut Settings, line: &[u8]) -> Result<bool, Objection>
-    requires { IsWithinLimits settings.old }
-    ensures within { OnOk result (IsWithinLimits settings.new) }
+    requires { SettingsAreInRange settings.old }
+    ensures within { OnOk result (SettingsAreInRange settings.new) }
     ensures passes { IfOk result (λ passes. IsTrue passes →
         front_of settings.old line.now ≡ Passes settings.new) }
     ensures begins { IfOk result (λ passes. IsFalse passes →
@@ -177,12 +178,12 @@ fn read_settings(
 ) -> Result<(Settings, &[u8], u32), ReadRefusal>
     requires { first + length text.now < 2 ^ 32 }
     ensures bound { IfOk result (λ r. r.2 + length r.1.now ≤ first + length text.now) }
-    ensures within { IfOk result (λ r. IsWithinLimits r.0) }
+    ensures within { IfOk result (λ r. SettingsAreInRange r.0) }
     ensures ok { IfOk result (λ r. (has : Kernel → Bool)
         → reading_settings has unset first (lines text.now)
         ≡ with_settings r.0 (reading has 0 start r.2 (lines r.1.now))) }
     ensures err { IfErr result (λ e. (has : Kernel → Bool) →
-        IsRefusal e (reading_settings has unset first (lines text.now))) }
+        IsReadRefusal e (reading_settings has unset first (lines text.now))) }
 {
     let mut settings = Settings::none(alloc);
     let mut rest = text;
@@ -220,7 +221,7 @@ fn skip_header(text: &[u8]) -> Result<(&[u8], u32), ReadRefusal>
     ensures ok { IfOk result (λ r. (has : Kernel → Bool) →
         reading_header has 1 (lines text.now) ≡ reading_settings has unset r.1 (lines r.0.now)) }
     ensures err { IfErr result (λ e. (has : Kernel → Bool) →
-        IsRefusal e (reading_header has 1 (lines text.now))) }
+        IsReadRefusal e (reading_header has 1 (lines text.now))) }
 {
     let mut rest = text;
     let mut number = 1;
@@ -247,8 +248,8 @@ fn skip_header(text: &[u8]) -> Result<(&[u8], u32), ReadRefusal>
 /// Reads a job text: one pass over it. Each name is looked up once, in time linear in it, and each codelet in the table.
 pub fn read<C: Codelets>(alloc: Global, text: &[u8], codelets: &C) -> Result<Job, ReadRefusal>
     ensures ok { IfOk result (λ job. job_of C.has text.now ≡ Ok (job_seen job)) }
-    ensures err { IfErr result (λ e. IsRefusal e (job_of C.has text.now)) }
-    ensures within { IfOk result (λ job. IsWithinLimits job.settings) }
+    ensures err { IfErr result (λ e. IsReadRefusal e (job_of C.has text.now)) }
+    ensures within { IfOk result (λ job. SettingsAreInRange job.settings) }
     ensures well { IfOk result (λ job. IsWell C.has 0 start (statements_of job)) }
     ensures numbered { IfOk result (λ job. IsNumbered job.roots job.statements) }
 {

@@ -1,7 +1,7 @@
 //! Why a job text is refused.
 
 ghost use Rattle.std.specs.Prelude.{◌≡◌};
-ghost use Rattle.sj_job.specs.Reason.{code_of};
+ghost use Rattle.sj_job.specs.Reason.{reason_code};
 
 use sj_base::ids::Line;
 use sj_base::memory;
@@ -62,7 +62,7 @@ pub enum Reason {
 impl Reason {
     /// The reason's number. Constant time.
     pub fn code(&self) -> u8
-        ensures { result ≡ code_of self.now }
+        ensures { result ≡ reason_code self.now }
     {
         match self {
             Reason::Header => 1,

@@ -3,19 +3,19 @@
 ghost use Rattle.std.specs.Prelude.{◌≡◌, IfErr, OnOk};
 ghost use Rattle.sj_job.specs.Reason.{Objects};
 ghost use Rattle.sj_job.specs.Settings.{set_by};
-ghost use Rattle.sj_meaning.specs.Settings.{is_worker_count, is_node_size, IsWithinLimits};
+ghost use Rattle.sj_meaning.specs.Settings.{is_worker_count, is_node_size, SettingsAreInRange};
 
 use crate::form::{Piece, SettingForm};
 use crate::reason::{LimitKind, Objection, Reason};
 use crate::word::count_of;
 use sj_base::mode::Policy;
-use sj_meaning::settings::{GREATEST_NODE, LEAST_NODE, NODES, Settings, WORKERS};
+use sj_meaning::settings::{GREATEST_NODE, LEAST_NODE, MOST_NODES, MOST_WORKERS, Settings};
 
 /// Does what a settings line says, or says why not. Linear in the line.
 pub fn set(settings: &mut Settings, form: &SettingForm<'_>) -> Result<(), Objection>
-    requires { IsWithinLimits settings.old }
+    requires { SettingsAreInRange settings.old }
     ensures set { OnOk result (set_by settings.old form.now ≡ Ok settings.new) }
-    ensures within { OnOk result (IsWithinLimits settings.new) }
+    ensures within { OnOk result (SettingsAreInRange settings.new) }
     ensures why { IfErr result (λ e. Objects e (set_by settings.old form.now)) }
 {
     match form {
@@ -27,10 +27,10 @@ pub fn set(settings: &mut Settings, form: &SettingForm<'_>) -> Result<(), Object
 
 /// `workers N`, once.
 fn set_workers(settings: &mut Settings, word: &Piece<'_>) -> Result<(), Objection>
-    requires { IsWithinLimits settings.old }
+    requires { SettingsAreInRange settings.old }
     ensures set { OnOk result
         (set_by settings.old (SettingForm.Workers word.now) ≡ Ok settings.new) }
-    ensures within { OnOk result (IsWithinLimits settings.new) }
+    ensures within { OnOk result (SettingsAreInRange settings.new) }
     ensures why { IfErr result (λ e. Objects e
         (set_by settings.old (SettingForm.Workers word.now))) }
 {
@@ -49,15 +49,15 @@ fn set_workers(settings: &mut Settings, word: &Piece<'_>) -> Result<(), Objectio
 
 /// `node BYTES`.
 fn add_node(settings: &mut Settings, word: &Piece<'_>) -> Result<(), Objection>
-    requires { IsWithinLimits settings.old }
+    requires { SettingsAreInRange settings.old }
     ensures set { OnOk result (set_by settings.old (SettingForm.Node word.now) ≡ Ok settings.new) }
-    ensures within { OnOk result (IsWithinLimits settings.new) }
+    ensures within { OnOk result (SettingsAreInRange settings.new) }
     ensures why { IfErr result (λ e. Objects e (set_by settings.old (SettingForm.Node word.now))) }
 {
     let Some(bytes) = count_of(word.bytes()) else {
         return Err(Objection::Bad(Reason::Number));
     };
-    if settings.nodes.len() >= NODES {
+    if settings.nodes.len() >= MOST_NODES {
         return Err(Objection::Bad(Reason::Limit(LimitKind::Nodes)));
     }
     if !is_node_size(bytes) {
@@ -69,9 +69,9 @@ fn add_node(settings: &mut Settings, word: &Piece<'_>) -> Result<(), Objection>
 
 /// `policy P`, once.
 fn set_policy(settings: &mut Settings, policy: Policy) -> Result<(), Objection>
-    requires { IsWithinLimits settings.old }
+    requires { SettingsAreInRange settings.old }
     ensures set { OnOk result (set_by settings.old (SettingForm.Policy policy) ≡ Ok settings.new) }
-    ensures within { OnOk result (IsWithinLimits settings.new) }
+    ensures within { OnOk result (SettingsAreInRange settings.new) }
     ensures why { IfErr result (λ e. Objects e (set_by settings.old (SettingForm.Policy policy))) }
 {
     if settings.policy.is_some() {
@@ -84,7 +84,7 @@ fn set_policy(settings: &mut Settings, policy: Policy) -> Result<(), Objection>
 fn is_worker_count(count: u64) -> bool
     ensures { result ≡ is_worker_count count }
 {
-    1 <= count && count <= WORKERS
+    1 <= count && count <= MOST_WORKERS
 }
 
 fn is_node_size(bytes: u64) -> bool

@@ -3,7 +3,7 @@
 ghost use Rattle.std.specs.Prelude.{◌≡◌, ◌==◌, ◌+◌, ◌<◌, ◌∷◌, [], not, map, drop, length, slice_index, true, IsTrue, IfOk, IfSome, MatchOption, option_map};
 ghost use Rattle.std.specs.List.{before_first, after_first, list_all};
 ghost use Rattle.sj_job.specs.Word.{is_name};
-ghost use Rattle.sj_job.specs.Form.{keyword_of, policy_of, reduction_of, mode_of, is_bracket, pieces_of, bracketed, around_last, child_of, operand_of, each_some, priority_of, with_priority, task_of, values_of, fill_of, nothing_of, init_of, with_parts, parted, layout_of, array_of, vector_of, matrix_of, alone, policy_in, name_in, plan_of, redux_of, form_behind, form_of};
+ghost use Rattle.sj_job.specs.Form.{keyword_of, policy_of, reduction_spelled, mode_spelled, is_bracket, pieces_of, bracketed, around_last, child_of, operand_of, each_some, priority_of, with_priority, task_form_of, values_of, fill_of, nothing_of, init_form_of, layout_with, parted, layout_of, array_form_of, vector_of, matrix_of, alone, policy_in, only_name, plan_of, redux_of, form_behind, form_of};
 ghost use Rattle.sj_job.specs.Settings.{setting_of};
 
 use crate::form::{
@@ -58,8 +58,8 @@ fn policy_of(word: &[u8]) -> Option<Policy>
     }
 }
 
-fn reduction_of(word: &[u8]) -> Option<Reduction>
-    ensures { result ≡ reduction_of word.now }
+fn reduction_spelled(word: &[u8]) -> Option<Reduction>
+    ensures { result ≡ reduction_spelled word.now }
 {
     if word == b"plus".as_slice() {
         Some(Reduction::Plus)
@@ -70,8 +70,8 @@ fn reduction_of(word: &[u8]) -> Option<Reduction>
     }
 }
 
-fn mode_of(word: &[u8]) -> Option<Mode>
-    ensures { result ≡ mode_of word.now }
+fn mode_spelled(word: &[u8]) -> Option<Mode>
+    ensures { result ≡ mode_spelled word.now }
 {
     if word == b"R".as_slice() {
         Some(Mode::R)
@@ -182,7 +182,7 @@ pub fn operand_of<'a>(word: &'a [u8]) -> Option<OperandForm<'a>>
 {
     let (target, mode) = around_last(word, b':')?;
     let (name, pieces) = bracketed(target, b'[', b']')?;
-    let mode = mode_of(mode)?;
+    let mode = mode_spelled(mode)?;
     match child_of(&pieces) {
         Some(child) => Some(OperandForm { name, child, mode }),
         None => None,
@@ -235,8 +235,8 @@ fn operands_of<'a>(
 }
 
 /// `CODELET OPERANDS`. Linear in the words.
-fn task_of<'a>(alloc: Global, words: &Words<'a>) -> Result<Option<TaskForm<'a>>, OutOfMemory>
-    ensures { IfOk result (λ task. task ≡ task_of words.now) }
+fn task_form_of<'a>(alloc: Global, words: &Words<'a>) -> Result<Option<TaskForm<'a>>, OutOfMemory>
+    ensures { IfOk result (λ task. task ≡ task_form_of words.now) }
 {
     let Some((first, rest)) = words.split_first() else {
         return Ok(None);
@@ -256,8 +256,8 @@ fn task_of<'a>(alloc: Global, words: &Words<'a>) -> Result<Option<TaskForm<'a>>,
 }
 
 /// `values V1 V2 ..`, `fill A B` or `none`. Linear in the first words.
-fn init_of<'a>(words: &Words<'a>) -> Option<InitForm<'a>>
-    ensures { result ≡ init_of words.now }
+fn init_form_of<'a>(words: &Words<'a>) -> Option<InitForm<'a>>
+    ensures { result ≡ init_form_of words.now }
 {
     let (first, rest) = words.split_first()?;
     if first == b"values".as_slice() {
@@ -310,7 +310,7 @@ fn layout_of<'a>(words: &Words<'a>) -> Option<Layout<'a>>
     if first == b"by".as_slice() {
         return parted(&rest);
     }
-    with_parts(None, words)
+    layout_with(None, words)
 }
 
 /// `r c` and then the values.
@@ -319,22 +319,22 @@ fn parted<'a>(words: &Words<'a>) -> Option<Layout<'a>>
 {
     let (r, rest) = words.split_first()?;
     let (c, rest) = rest.split_first()?;
-    with_parts(Some((Piece::of(r), Piece::of(c))), &rest)
+    layout_with(Some((Piece::of(r), Piece::of(c))), &rest)
 }
 
 /// The values behind the parts.
-fn with_parts<'a>(parts: Option<(Piece<'a>, Piece<'a>)>, words: &Words<'a>) -> Option<Layout<'a>>
-    ensures { result ≡ with_parts parts.entry words.now }
+fn layout_with<'a>(parts: Option<(Piece<'a>, Piece<'a>)>, words: &Words<'a>) -> Option<Layout<'a>>
+    ensures { result ≡ layout_with parts.entry words.now }
 {
-    match init_of(words) {
+    match init_form_of(words) {
         Some(init) => Some((parts, init)),
         None => None,
     }
 }
 
 /// A name and a size, and what follows them.
-fn array_of<'a>(name: &'a [u8], size: Size<'a>, words: &Words<'a>) -> Option<ArrayForm<'a>>
-    ensures { result ≡ array_of name.now size.entry words.now }
+fn array_form_of<'a>(name: &'a [u8], size: Size<'a>, words: &Words<'a>) -> Option<ArrayForm<'a>>
+    ensures { result ≡ array_form_of name.now size.entry words.now }
 {
     if !is_name(name) {
         return None;
@@ -356,7 +356,7 @@ fn vector_of<'a>(words: &Words<'a>) -> Option<ArrayForm<'a>>
 {
     let (name, rest) = words.split_first()?;
     let (n, rest) = rest.split_first()?;
-    array_of(name, Size::Vector(Piece::of(n)), &rest)
+    array_form_of(name, Size::Vector(Piece::of(n)), &rest)
 }
 
 /// `NAME R C INIT`.
@@ -366,7 +366,7 @@ fn matrix_of<'a>(words: &Words<'a>) -> Option<ArrayForm<'a>>
     let (name, rest) = words.split_first()?;
     let (r, rest) = rest.split_first()?;
     let (c, rest) = rest.split_first()?;
-    array_of(name, Size::Matrix(Piece::of(r), Piece::of(c)), &rest)
+    array_form_of(name, Size::Matrix(Piece::of(r), Piece::of(c)), &rest)
 }
 
 /// One word.
@@ -381,8 +381,8 @@ fn alone<'a>(words: &Words<'a>) -> Option<Piece<'a>>
 }
 
 /// `NAME`.
-fn name_in<'a>(words: &Words<'a>) -> Option<Piece<'a>>
-    ensures { result ≡ name_in words.now }
+fn only_name<'a>(words: &Words<'a>) -> Option<Piece<'a>>
+    ensures { result ≡ only_name words.now }
 {
     let (name, rest) = words.split_first()?;
     match rest.split_first() {
@@ -413,7 +413,7 @@ fn redux_of<'a>(words: &Words<'a>) -> Option<Form<'a>>
     if rest.split_first().is_some() || !is_name(name) {
         return None;
     }
-    match reduction_of(by) {
+    match reduction_spelled(by) {
         Some(by) => Some(Form::Redux(Piece::of(name), by)),
         None => None,
     }
@@ -458,10 +458,10 @@ fn form_behind<'a>(
         Keyword::Matrix => Ok(matrix_of(words).map(Form::Register)),
         Keyword::Plan => Ok(plan_of(words)),
         Keyword::Redux => Ok(redux_of(words)),
-        Keyword::Task => Ok(task_of(alloc, words)?.map(Form::Task)),
-        Keyword::Print => Ok(name_in(words).map(Form::Print)),
-        Keyword::Invalidate => Ok(name_in(words).map(Form::Invalidate)),
-        Keyword::Unregister => Ok(name_in(words).map(Form::Unregister)),
+        Keyword::Task => Ok(task_form_of(alloc, words)?.map(Form::Task)),
+        Keyword::Print => Ok(only_name(words).map(Form::Print)),
+        Keyword::Invalidate => Ok(only_name(words).map(Form::Invalidate)),
+        Keyword::Unregister => Ok(only_name(words).map(Form::Unregister)),
     }
 }
 

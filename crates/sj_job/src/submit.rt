@@ -4,11 +4,11 @@ ghost use Rattle.std.specs.Prelude.{◌≡◌, ◌+◌, ◌*◌, ◌<◌, ◌^�
 ghost use Rattle.sj_codelet.specs.declared.kernel.Kernel.{Kernel};
 ghost use Rattle.std.specs.Bool.{IsFalse};
 ghost use Rattle.sj_job.specs.Judge.{is_outside};
-ghost use Rattle.sj_job.specs.Names.{IsCounted, scope_in};
+ghost use Rattle.sj_job.specs.Names.{HasStandings, scope_in};
 ghost use Rattle.sj_job.specs.Reason.{Objects};
 ghost use Rattle.sj_job.specs.Sentence.{kind_of};
-ghost use Rattle.sj_meaning.specs.State.{plan_with};
-ghost use Rattle.sj_job.specs.Submits.{done_in, Submits};
+ghost use Rattle.sj_meaning.specs.State.{plan_of_parts};
+ghost use Rattle.sj_job.specs.Submits.{act_of_form, Submits};
 
 use crate::form::{ArrayForm, Form, Piece, Size, TaskForm};
 use crate::judge::{
@@ -42,12 +42,12 @@ fn telling_count(rows: u64, cols: u64) -> u64
 
 /// Registers a root. Linear in the words; of values too many no more than one too many is kept.
 fn submit_array(alloc: Global, names: &mut Names, array: &ArrayForm<'_>) -> Result<Act, Objection>
-    requires counted { IsCounted names.old }
+    requires counted { HasStandings names.old }
     requires room { names.old.statements + 1 < 2 ^ 64 }
     ensures ok { IfOk result (λ a. (has : Kernel → Bool) →
         Submits has names.old (Form.Register array.now) names.new a) }
     ensures err { IfErr result (λ e. (has : Kernel → Bool) →
-        Objects e (done_in has (scope_in names.old) (Form.Register array.now))) }
+        Objects e (act_of_form has (scope_in names.old) (Form.Register array.now))) }
 {
     let Some((rows, cols)) = size_of(&array.size) else {
         return Err(Objection::Bad(Reason::Number));
@@ -76,7 +76,7 @@ fn submit_array(alloc: Global, names: &mut Names, array: &ArrayForm<'_>) -> Resu
 fn narrowed(r: u64, c: u64) -> Parts
     requires rows { r < 2 ^ 32 }
     requires cols { c < 2 ^ 32 }
-    ensures { result ≡ plan_with r c }
+    ensures { result ≡ plan_of_parts r c }
 {
     Parts {
         r: r as u32,
@@ -91,12 +91,12 @@ fn submit_plan(
     r: &Piece<'_>,
     c: &Piece<'_>,
 ) -> Result<Act, Objection>
-    requires counted { IsCounted names.old }
+    requires counted { HasStandings names.old }
     requires room { names.old.statements + 1 < 2 ^ 64 }
     ensures ok { IfOk result (λ a. (has : Kernel → Bool) →
         Submits has names.old (Form.Plan name.now r.now c.now) names.new a) }
     ensures err { IfErr result (λ e. (has : Kernel → Bool) →
-        Objects e (done_in has (scope_in names.old) (Form.Plan name.now r.now c.now))) }
+        Objects e (act_of_form has (scope_in names.old) (Form.Plan name.now r.now c.now))) }
 {
     let Some((r, c)) = pair_of(r, c) else {
         return Err(Objection::Bad(Reason::Number));
@@ -113,12 +113,12 @@ fn submit_plan(
 
 /// Gives a root its reduction. Linear in the name.
 fn submit_reduction(names: &mut Names, name: &Piece<'_>, by: Reduction) -> Result<Act, Objection>
-    requires counted { IsCounted names.old }
+    requires counted { HasStandings names.old }
     requires room { names.old.statements + 1 < 2 ^ 64 }
     ensures ok { IfOk result (λ a. (has : Kernel → Bool) →
         Submits has names.old (Form.Redux name.now by) names.new a) }
     ensures err { IfErr result (λ e. (has : Kernel → Bool) →
-        Objects e (done_in has (scope_in names.old) (Form.Redux name.now by))) }
+        Objects e (act_of_form has (scope_in names.old) (Form.Redux name.now by))) }
 {
     match reduced_root(names, name.bytes()) {
         Ok(root) => {
@@ -136,11 +136,11 @@ fn submit_task<C: Codelets>(
     task: &TaskForm<'_>,
     codelets: &C,
 ) -> Result<Act, Objection>
-    requires counted { IsCounted names.old }
+    requires counted { HasStandings names.old }
     requires room { names.old.statements + 1 < 2 ^ 64 }
     ensures ok { IfOk result (λ a. Submits C.has names.old (Form.Task task.now) names.new a) }
     ensures err { IfErr result (λ e. Objects e
-        (done_in C.has (scope_in names.old) (Form.Task task.now))) }
+        (act_of_form C.has (scope_in names.old) (Form.Task task.now))) }
 {
     let Some(args) = integers(alloc, &task.args)? else {
         return Err(Objection::Bad(Reason::Number));
@@ -166,12 +166,12 @@ fn submit_task<C: Codelets>(
 
 /// Submits a print statement. Linear in the name, as are the next two.
 fn submit_print(names: &mut Names, name: &Piece<'_>) -> Result<Act, Objection>
-    requires counted { IsCounted names.old }
+    requires counted { HasStandings names.old }
     requires room { names.old.statements + 1 < 2 ^ 64 }
     ensures ok { IfOk result (λ a. (has : Kernel → Bool)
         → Submits has names.old (Form.Print name.now) names.new a) }
     ensures err { IfErr result (λ e. (has : Kernel → Bool) →
-        Objects e (done_in has (scope_in names.old) (Form.Print name.now))) }
+        Objects e (act_of_form has (scope_in names.old) (Form.Print name.now))) }
 {
     match printed_root(names, name.bytes()) {
         Ok(root) => {
@@ -183,12 +183,12 @@ fn submit_print(names: &mut Names, name: &Piece<'_>) -> Result<Act, Objection>
 }
 
 fn submit_invalidation(names: &mut Names, name: &Piece<'_>) -> Result<Act, Objection>
-    requires counted { IsCounted names.old }
+    requires counted { HasStandings names.old }
     requires room { names.old.statements + 1 < 2 ^ 64 }
     ensures ok { IfOk result (λ a. (has : Kernel → Bool)
         → Submits has names.old (Form.Invalidate name.now) names.new a) }
     ensures err { IfErr result (λ e. (has : Kernel → Bool) →
-        Objects e (done_in has (scope_in names.old) (Form.Invalidate name.now))) }
+        Objects e (act_of_form has (scope_in names.old) (Form.Invalidate name.now))) }
 {
     match named_root(names, name.bytes()) {
         Ok(root) => {
@@ -200,12 +200,12 @@ fn submit_invalidation(names: &mut Names, name: &Piece<'_>) -> Result<Act, Objec
 }
 
 fn submit_ending(names: &mut Names, name: &Piece<'_>) -> Result<Act, Objection>
-    requires counted { IsCounted names.old }
+    requires counted { HasStandings names.old }
     requires room { names.old.statements + 1 < 2 ^ 64 }
     ensures ok { IfOk result (λ a. (has : Kernel → Bool)
         → Submits has names.old (Form.Unregister name.now) names.new a) }
     ensures err { IfErr result (λ e. (has : Kernel → Bool) →
-        Objects e (done_in has (scope_in names.old) (Form.Unregister name.now))) }
+        Objects e (act_of_form has (scope_in names.old) (Form.Unregister name.now))) }
 {
     match named_root(names, name.bytes()) {
         Ok(root) => {
@@ -223,10 +223,10 @@ pub fn submit<C: Codelets>(
     form: &Form<'_>,
     codelets: &C,
 ) -> Result<Act, Objection>
-    requires counted { IsCounted names.old }
+    requires counted { HasStandings names.old }
     requires room { names.old.statements + 1 < 2 ^ 64 }
     ensures ok { IfOk result (λ a. Submits C.has names.old form.now names.new a) }
-    ensures err { IfErr result (λ e. Objects e (done_in C.has (scope_in names.old) form.now)) }
+    ensures err { IfErr result (λ e. Objects e (act_of_form C.has (scope_in names.old) form.now)) }
 {
     match form {
         Form::Plan(name, r, c) => submit_plan(names, name, r, c),

@@ -2,7 +2,7 @@
 
 ghost use Rattle.std.specs.Prelude.{◌≡◌, ◌<◌, ◌||◌, true, false, IsTrue, IfOk, OnOk, replicate, slice_set};
 ghost use Rattle.sj_plan.specs.Parts.{IsPlace};
-ghost use Rattle.sj_job.specs.Track.{AreMarks, IsPlan, all_valued, children_count, even, is_set, marks_by, none_valued, number, written};
+ghost use Rattle.sj_job.specs.Track.{AreMarks, IsSmallPlan, all_valued, children_count, even, is_set, marks_by, none_valued, number, with_child_valued};
 
 use sj_base::memory::OutOfMemory;
 use sj_plan::parts::Parts;
@@ -41,7 +41,7 @@ impl Model for Tracked {
 impl Tracked {
     /// All children of the plan have a value, or none has. Constant time, as are all calls but `write`.
     pub fn even(parts: Parts, valued: bool) -> Tracked
-        requires { IsPlan parts }
+        requires { IsSmallPlan parts }
         ensures { result ≡ even parts valued }
     {
         let marks = if valued { Marks::All } else { Marks::Blank };
@@ -51,7 +51,7 @@ impl Tracked {
     /// The active plan.
     pub fn parts(&self) -> Parts
         ensures parts { result ≡ self.now.parts }
-        ensures plan { IsPlan result }
+        ensures plan { IsSmallPlan result }
     {
         self.parts
     }
@@ -85,7 +85,7 @@ impl Tracked {
     /// Child `[i, j]` has a value from now on. Constant time, but linear in the children where it is the first with a value.
     pub fn write(&mut self, alloc: Global, i: u32, j: u32) -> Result<(), OutOfMemory>
         requires { IsPlace self.old.parts (i, j) }
-        ensures { OnOk result (self.new ≡ written self.old (i, j)) }
+        ensures { OnOk result (self.new ≡ with_child_valued self.old (i, j)) }
     {
         let place = number(self.parts, i, j);
         match &mut self.marks {
@@ -111,7 +111,7 @@ impl Tracked {
 
     /// Another plan is active from now on. Each child of it has a value where all elements have one.
     pub fn plan(&mut self, parts: Parts)
-        requires plan { IsPlan parts }
+        requires plan { IsSmallPlan parts }
         requires even { IsTrue (all_valued self.old || none_valued self.old) }
         ensures { self.new ≡ even parts (all_valued self.old) }
     {
@@ -129,7 +129,7 @@ impl Tracked {
 
 /// The place of child `[i, j]` in the list of a plan's children.
 fn number(parts: Parts, i: u32, j: u32) -> usize
-    requires plan { IsPlan parts }
+    requires plan { IsSmallPlan parts }
     requires place { IsPlace parts (i, j) }
     ensures number { result ≡ number parts (i, j) }
     ensures below { result < children_count parts }
@@ -139,7 +139,7 @@ fn number(parts: Parts, i: u32, j: u32) -> usize
 
 /// One child has a value, and no other has.
 fn first_mark(alloc: Global, parts: Parts, place: usize) -> Result<Marks, OutOfMemory>
-    requires plan { IsPlan parts }
+    requires plan { IsSmallPlan parts }
     requires place { place < children_count parts }
     ensures marks { IfOk result (λ m. marks_by parts m
         ≡ slice_set (replicate (children_count parts) false) place true) }

@@ -4,7 +4,7 @@ use Rattle.sj_base.specs.declared.program.Machine.{Machine}
 use Rattle.sj_base.specs.declared.program.Program.{Program}
 use Rattle.sj_base.specs.declared.trace.Event.{Event}
 use Rattle.sj_check.proofs.Traces.{fronts-legal}
-use Rattle.sj_check.specs.Refusal.{IsRefusal}
+use Rattle.sj_check.specs.Refusal.{IsCheckRefusal}
 use Rattle.sj_check.specs.declared.check.CheckRefusal.{CheckRefusal}
 use Rattle.sj_check.specs.declared.check.CheckRefusal.TheVariants as checking
 use Rattle.sj_core.specs.Legal.{IsFinished}
@@ -18,7 +18,7 @@ use Rattle.sj_ready.specs.declared.unready.Unready.TheVariants as preparing
 use Rattle.sj_judge.specs.Judged.{IsWantOfMemory, TraceIsWhole}
 use Rattle.sj_judge.specs.declared.refusal.JudgeRefusal.TheVariants as refusal
 
-pub checked-whole : (p : Program) (m : Machine) (events : List Event) (wrong : CheckRefusal) → IsFinished p m events → IsRefusal p m events wrong → IsWantOfMemory (refusal.Wrong wrong)
+pub checked-whole : (p : Program) (m : Machine) (events : List Event) (wrong : CheckRefusal) → IsFinished p m events → IsCheckRefusal p m events wrong → IsWantOfMemory (refusal.Wrong wrong)
 checked-whole p m events (checking.BadEvent index) finished h = absurd (h.bad (fronts-legal p m events finished.legal (index + 1)))
 checked-whole p m events checking.Unfinished finished h = absurd (h.undone finished)
 checked-whole p m events checking.OutOfMemory finished h = tt

@@ -19,8 +19,8 @@ use Rattle.sj_judge.specs.declared.refusal.JudgeRefusal.{JudgeRefusal}
 use Rattle.sj_judge.specs.declared.refusal.JudgeRefusal.TheVariants as refusal
 
 -- what options and a job text, or an application, ask for, of the codelets of the program and one disk of this size
-abbrev pub asked_of : Options → ℕ → Input → WorkOrRefusal
-asked_of o swap job = work_in library_has o (swap ∷ []) job
+abbrev pub work_asked_for : Options → ℕ → Input → WorkOrRefusal
+work_asked_for o swap job = work_in library_has o (swap ∷ []) job
 
 -- ---- why the trace isn't read
 
@@ -74,15 +74,15 @@ pub record TraceIsCutShort (asked : WorkOrRefusal) (text : List ℕ) : Type 0 wh
 -- ---- the same by the answer
 
 -- the reason has its cause: in the job, and else in the trace's text or its events; want of memory needs none
-abbrev pub HasCause : WorkOrRefusal → List ℕ → JudgeRefusal → Type 0
-HasCause asked text (refusal.Unready why) = IsUnready asked why
-HasCause asked text refusal.TooLong = TextIsTooLong asked text
-HasCause asked text (refusal.Unread (reading.BadLine line)) = LineIsNoEvent asked text line
-HasCause asked text (refusal.Wrong (checking.BadEvent index)) = EventIsBad asked text index
-HasCause asked text (refusal.Wrong checking.Unfinished) = TraceIsCutShort asked text
-HasCause asked text (refusal.Unread reading.OutOfMemory) = Unit {0}
-HasCause asked text (refusal.Wrong checking.OutOfMemory) = Unit {0}
-HasCause asked text refusal.OutOfMemory = Unit {0}
+abbrev pub RefusalHasCause : WorkOrRefusal → List ℕ → JudgeRefusal → Type 0
+RefusalHasCause asked text (refusal.Unready why) = IsUnready asked why
+RefusalHasCause asked text refusal.TooLong = TextIsTooLong asked text
+RefusalHasCause asked text (refusal.Unread (reading.BadLine line)) = LineIsNoEvent asked text line
+RefusalHasCause asked text (refusal.Wrong (checking.BadEvent index)) = EventIsBad asked text index
+RefusalHasCause asked text (refusal.Wrong checking.Unfinished) = TraceIsCutShort asked text
+RefusalHasCause asked text (refusal.Unread reading.OutOfMemory) = Unit {0}
+RefusalHasCause asked text (refusal.Wrong checking.OutOfMemory) = Unit {0}
+RefusalHasCause asked text refusal.OutOfMemory = Unit {0}
 
 -- an allocation was refused, wherever
 abbrev pub IsWantOfMemory : JudgeRefusal → Type 0

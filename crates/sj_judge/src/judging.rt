@@ -6,8 +6,8 @@ ghost use Rattle.sj_minplus.specs.Has.{library_has};
 ghost use Rattle.sj_ready.specs.Input.{work_in, HasJob};
 ghost use Rattle.sj_ready.specs.Work.{Work, WorkOrRefusal};
 ghost use Rattle.sj_trace.specs.Reading.{IsTextOf};
-ghost use Rattle.sj_words.specs.Options.{IsWithinLimits};
-ghost use Rattle.sj_judge.specs.Judged.{CanBeRun, HasCause, IsWantOfMemory, TraceIsWhole, asked_of};
+ghost use Rattle.sj_words.specs.Options.{OptionsAreInRange};
+ghost use Rattle.sj_judge.specs.Judged.{CanBeRun, RefusalHasCause, IsWantOfMemory, TraceIsWhole, work_asked_for};
 
 use crate::refusal::JudgeRefusal;
 use sj_base::memory::OutOfMemory;
@@ -15,7 +15,7 @@ use sj_base::trace::Trace;
 use sj_check::check::check;
 use sj_minplus::library::Library;
 use sj_ready::input::Input;
-use sj_ready::ready::prepare;
+use sj_ready::ready::ready_job;
 use sj_trace::read::read_trace;
 use sj_words::Options;
 use std::alloc::Global;
@@ -32,7 +32,7 @@ fn events_of(alloc: Global, text: &[u8]) -> Result<Trace, JudgeRefusal>
     ensures short { IsOk result → length text.now < 2 ^ 32 }
     ensures written { IfOk result (λ trace. IsTextOf text.now trace.events) }
     ensures cause { IfErr result (λ why. (asked : WorkOrRefusal) → (w : Work) →
-        CanBeRun asked w → HasCause asked text.now why) }
+        CanBeRun asked w → RefusalHasCause asked text.now why) }
     ensures reads_back { (events : List Event) → IsTextOf text.now events →
         IfOk result (λ trace. trace.events ≡ events) }
     ensures refuses_no_trace { (events : List Event) → IsTextOf text.now events →
@@ -53,19 +53,19 @@ fn judged_on(
     job: Input,
     trace: &[u8],
 ) -> Result<(), JudgeRefusal>
-    requires options { IsWithinLimits options.now }
+    requires options { OptionsAreInRange options.now }
     requires few { length disks.items ≤ 16 }
     requires small { All (λ n. n ≤ 2 ^ 40) disks.items }
     requires job { HasJob library_has job }
     ensures whole { IsOk result →
         TraceIsWhole (work_in library_has options.now disks.items job) trace.now }
     ensures cause { IfErr result
-        (HasCause (work_in library_has options.now disks.items job) trace.now) }
+        (RefusalHasCause (work_in library_has options.now disks.items job) trace.now) }
     ensures complete { TraceIsWhole
         (work_in library_has options.now disks.items job) trace.now →
         IfErr result IsWantOfMemory }
 {
-    let ready = prepare(alloc, job, options, disks, &Library)?;
+    let ready = ready_job(alloc, job, options, disks, &Library)?;
     let events = events_of(alloc, trace)?;
     check(alloc, ready.program, ready.machine, &events)?;
     Ok(())
@@ -84,19 +84,19 @@ pub fn judged(
     job: Input,
     trace: &[u8],
 ) -> Result<(), JudgeRefusal>
-    requires options { IsWithinLimits options.now }
+    requires options { OptionsAreInRange options.now }
     requires swap { swap ≤ 2 ^ 40 }
     requires job { HasJob library_has job }
 
     // Ok means that the trace is one of the job, and that nothing is missing.
     ensures legal_and_complete { IsOk result →
-        TraceIsWhole (asked_of options.now swap job) trace.now }
+        TraceIsWhole (work_asked_for options.now swap job) trace.now }
 
     // Each other answer has its cause, but want of memory.
-    ensures cause { IfErr result (HasCause (asked_of options.now swap job) trace.now) }
+    ensures cause { IfErr result (RefusalHasCause (work_asked_for options.now swap job) trace.now) }
 
     // A trace that is whole is found to be so, unless memory runs out.
-    ensures complete { TraceIsWhole (asked_of options.now swap job) trace.now →
+    ensures complete { TraceIsWhole (work_asked_for options.now swap job) trace.now →
         IfErr result IsWantOfMemory }
 {
     let disks = one_disk(alloc, swap)?;

@@ -1,12 +1,12 @@
 //! A job shown: its lowered program, or its canonical text.
 
 ghost use Rattle.std.specs.Prelude.{◌≡◌, ◌<◌, ◌≤◌, ◌^◌, ◌∷◌, [], All, IfErr, IfOk, length};
-ghost use Rattle.sj_job.specs.Reading.{IsRefusal, job_of};
+ghost use Rattle.sj_job.specs.Reading.{IsReadRefusal, job_of};
 ghost use Rattle.sj_minplus.specs.Has.{library_has};
 ghost use Rattle.sj_ready.specs.Input.{work_in, HasJob};
 ghost use Rattle.sj_ready.specs.Ready.{IsUnready};
-ghost use Rattle.sj_words.specs.Options.{IsWithinLimits};
-ghost use Rattle.sj_judge.specs.Judged.{asked_of};
+ghost use Rattle.sj_words.specs.Options.{OptionsAreInRange};
+ghost use Rattle.sj_judge.specs.Judged.{work_asked_for};
 ghost use Rattle.sj_judge.specs.Shown.{IsProgramText, IsTextOfJob};
 
 use crate::judging::one_disk;
@@ -14,7 +14,7 @@ use sj_job::read::read;
 use sj_job::reason::ReadRefusal;
 use sj_minplus::library::Library;
 use sj_ready::input::Input;
-use sj_ready::ready::prepare;
+use sj_ready::ready::ready_job;
 use sj_ready::unready::Unready;
 use sj_show::program::program_text;
 use sj_text::text::job_text;
@@ -28,7 +28,7 @@ fn program_on(
     disks: Vec<u64>,
     job: Input,
 ) -> Result<Vec<u8>, Unready>
-    requires options { IsWithinLimits options.now }
+    requires options { OptionsAreInRange options.now }
     requires few { length disks.items ≤ 16 }
     requires small { All (λ n. n ≤ 2 ^ 40) disks.items }
     requires job { HasJob library_has job }
@@ -37,7 +37,7 @@ fn program_on(
     ensures cause { IfErr result (IsUnready
         (work_in library_has options.now disks.items job)) }
 {
-    let ready = prepare(alloc, job, options, disks, &Library)?;
+    let ready = ready_job(alloc, job, options, disks, &Library)?;
     let text = program_text(alloc, &ready.program)?;
     Ok(text)
 }
@@ -54,12 +54,12 @@ pub fn program_shown(
     swap: u64,
     job: Input,
 ) -> Result<Vec<u8>, Unready>
-    requires options { IsWithinLimits options.now }
+    requires options { OptionsAreInRange options.now }
     requires swap { swap ≤ 2 ^ 40 }
     requires job { HasJob library_has job }
     ensures shown { IfOk result (λ text.
-        IsProgramText (asked_of options.now swap job) text.items) }
-    ensures cause { IfErr result (IsUnready (asked_of options.now swap job)) }
+        IsProgramText (work_asked_for options.now swap job) text.items) }
+    ensures cause { IfErr result (IsUnready (work_asked_for options.now swap job)) }
 {
     let disks = one_disk(alloc, swap)?;
     program_on(alloc, options, disks, job)
@@ -72,7 +72,7 @@ pub fn program_shown(
 /// The first bad line with the first reason against it, or that an allocation was refused.
 pub fn job_shown(alloc: Global, job: &[u8]) -> Result<Vec<u8>, ReadRefusal>
     ensures shown { IfOk result (λ text. IsTextOfJob job.now text.items) }
-    ensures cause { IfErr result (λ why. IsRefusal why (job_of library_has job.now)) }
+    ensures cause { IfErr result (λ why. IsReadRefusal why (job_of library_has job.now)) }
 {
     let job = read(alloc, job, &Library)?;
     let text = job_text(alloc, &job)?;

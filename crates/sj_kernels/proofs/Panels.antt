@@ -18,7 +18,7 @@ use Rattle.sj_codelet.proofs.Filling.{begun, listing_from_elements, at-listing, 
 use Rattle.sj_kernels.proofs.Places.{passed_start}
 use Rattle.sj_kernels.specs.declared.product.Span.{Span}
 use Rattle.sj_kernels.specs.declared.product.Sums.{Sums}
-use Rattle.sj_kernels.specs.Panels.{column_sum, part, terms, with_terms, with_terms_within, row_within}
+use Rattle.sj_kernels.specs.Panels.{column_sum, panel_element, terms, with_terms, with_terms_within, row_within}
 use Rattle.sj_kernels.specs.Rows.{row_product}
 use Rattle.sj_kernels.specs.declared.product.Sides.{Sides}
 use Rattle.sj_codelet.proofs.Rows.{grid_at, listing-add}
@@ -137,11 +137,11 @@ column_of n j l a b start s v h e =
     passed_start v (s +ℤ sum_below l (λ q. at a q *ℤ at b (q * n + j))) h ∙ ap (λ (z : ℤ). column_sum n a b j l z) e
 
 -- a row of a part
-pub part_row : (n l s k : ℕ) (columns : Span) (b row : List ℤ) → row ≡ between s k b → s ≡ l * n + columns.first → k ≡ s + columns.len → k ≤ length b → row ≡ listing columns.len (λ j. part n columns b (l * columns.len + j))
+pub part_row : (n l s k : ℕ) (columns : Span) (b row : List ℤ) → row ≡ between s k b → s ≡ l * n + columns.first → k ≡ s + columns.len → k ≤ length b → row ≡ listing columns.len (λ j. panel_element n columns b (l * columns.len + j))
 part_row n l s k columns b row e start end fits =
     let w = columns.len in
     let long : length row ≡ w = ap (λ (xs : List ℤ). length xs) e ∙ length-between b s k fits ∙ omega arith in
-    listing_from_elements w (λ j. part n columns b (l * w + j)) row long (λ j lt.
+    listing_from_elements w (λ j. panel_element n columns b (l * w + j)) row long (λ j lt.
     ap (λ (xs : List ℤ). get_or xs j (pos 0)) e ∙ get_or-between b s k j (pos 0) (omega arith)
     ∙ ap (λ (q : ℕ). at b q) (let same : s + j ≡ l * n + columns.first + j = omega arith in same)
     ∙ sym (grid_at w (λ r q. at b (r * n + columns.first + q)) l j lt))
@@ -243,7 +243,7 @@ whole_width sides rows a b c p h =
 
 -- the terms from a tile are those from the panel
 tile_terms : (sides : Sides) (rows columns : Span) (a panel tile : List ℤ) (i j : ℕ) → columns.first ≤ j → j < columns.first + columns.len
-    → tile ≡ listing (rows.len * columns.len) (part sides.n columns panel) → terms sides rows columns.len a tile i (j - columns.first) ≡ terms sides rows sides.n a panel i j
+    → tile ≡ listing (rows.len * columns.len) (panel_element sides.n columns panel) → terms sides rows columns.len a tile i (j - columns.first) ≡ terms sides rows sides.n a panel i j
 tile_terms sides rows columns a panel tile i j low high e =
     let w = columns.len in
     let q = j - columns.first in
@@ -251,12 +251,12 @@ tile_terms sides rows columns a panel tile i j low high e =
     same_sum rows.len (λ l. x l *ℤ at tile (l * w + q)) (λ l. x l *ℤ at panel (l * sides.n + j)) (λ l h.
     let place : l * sides.n + columns.first + q ≡ l * sides.n + j = omega arith in
     ap (λ (z : ℤ). x l *ℤ z)
-    (ap (λ (xs : List ℤ). at xs (l * w + q)) e ∙ at-listing (rows.len * w) (part sides.n columns panel) (l * w + q) (pos 0) (omega (arith, mul-add-lt l w q rows.len h (let in_width : q < w = omega arith in in_width)))
+    (ap (λ (xs : List ℤ). at xs (l * w + q)) e ∙ at-listing (rows.len * w) (panel_element sides.n columns panel) (l * w + q) (pos 0) (omega (arith, mul-add-lt l w q rows.len h (let in_width : q < w = omega arith in in_width)))
     ∙ grid_at w (λ r u. at panel (r * sides.n + columns.first + u)) l q (omega arith) ∙ ap (λ (p : ℕ). at panel p) place))
 
 -- one tile more
 pub tile_more : (sides : Sides) (rows columns : Span) (a panel tile c zs : List ℤ) (t p : ℕ) → p < sides.m * sides.n → columns.first ≡ t * 64 → columns.len ≡ min (sides.n - columns.first) 64
-    → tile ≡ listing (rows.len * columns.len) (part sides.n columns panel)
+    → tile ≡ listing (rows.len * columns.len) (panel_element sides.n columns panel)
     → at zs p ≡ cond (nat_lt (p % sides.n) (t * 64)) (with_terms sides rows a panel c p) (at c p)
     → with_terms_within columns sides rows a tile zs p ≡ cond (nat_lt (p % sides.n) ((t + 1) * 64)) (with_terms sides rows a panel c p) (at c p)
 tile_more sides rows columns a panel tile c zs t p h first len e read =

@@ -25,8 +25,8 @@ with_terms_within columns sides rows a b c p =
     then wrap (at c p +ℤ terms sides rows columns.len a b (p / sides.n) (p % sides.n - columns.first)) else at c p
 
 -- the element at a position of some columns of a matrix with n columns
-abbrev pub part : ℕ → Span → List ℤ → ℕ → ℤ
-part n columns b p = at b (p / columns.len * n + columns.first + p % columns.len)
+abbrev pub panel_element : ℕ → Span → List ℤ → ℕ → ℤ
+panel_element n columns b p = at b (p / columns.len * n + columns.first + p % columns.len)
 
 -- the element in column j of c + a b, where a and c are rows and b holds only some columns; c stays in the others
 abbrev pub row_within : Span → List ℤ → List ℤ → List ℤ → ℕ → ℤ

@@ -25,22 +25,22 @@ use Rattle.sj_codelet.proofs.Operands.{operands_before}
 use Rattle.sj_kernels.specs.Has.{ring_has}
 
 -- v with f added to it, position by position
-abbrev plus : (ℕ → ℤ) → Array → Array
-plus f v = each v.dims (λ p. wrap (at v.elements p +ℤ f p))
+abbrev plus_each : (ℕ → ℤ) → Array → Array
+plus_each f v = each v.dims (λ p. wrap (at v.elements p +ℤ f p))
 
-two_sums : (v : Array) (f g : ℕ → ℤ) → plus g (plus f v) ≡ each v.dims (λ p. wrap ((at v.elements p +ℤ f p) +ℤ g p))
-two_sums v f g = same_each v.dims (λ p. wrap (at (plus f v).elements p +ℤ g p)) (λ p. wrap ((at v.elements p +ℤ f p) +ℤ g p)) (λ p l.
+two_sums : (v : Array) (f g : ℕ → ℤ) → plus_each g (plus_each f v) ≡ each v.dims (λ p. wrap ((at v.elements p +ℤ f p) +ℤ g p))
+two_sums v f g = same_each v.dims (λ p. wrap (at (plus_each f v).elements p +ℤ g p)) (λ p. wrap ((at v.elements p +ℤ f p) +ℤ g p)) (λ p l.
     ap (λ (z : ℤ). wrap (z +ℤ g p)) (at-each v.dims (λ q. wrap (at v.elements q +ℤ f q)) p l) ∙ int_wrap-add_left w64 (at v.elements p +ℤ f p) (g p))
 
-plus_swap : (v : Array) (f g : ℕ → ℤ) → plus g (plus f v) ≡ plus f (plus g v)
+plus_swap : (v : Array) (f g : ℕ → ℤ) → plus_each g (plus_each f v) ≡ plus_each f (plus_each g v)
 plus_swap v f g =
     two_sums v f g
     ∙ same_each v.dims (λ p. wrap ((at v.elements p +ℤ f p) +ℤ g p)) (λ p. wrap ((at v.elements p +ℤ g p) +ℤ f p)) (λ p l. ap (λ (z : ℤ). wrap z) (omega (arith, ints)))
     ∙ sym (two_sums v g f)
 
-plus_through_unit : (v : Array) (f : ℕ → ℤ) → plus f v ≡ add (plus f (zeros v.dims)) v
-plus_through_unit v f = same_each v.dims (λ p. wrap (at v.elements p +ℤ f p)) (λ p. wrap (at v.elements p +ℤ at (plus f (zeros v.dims)).elements p)) (λ p l.
-    let u : at (plus f (zeros v.dims)).elements p ≡ wrap (f p) =
+plus_through_unit : (v : Array) (f : ℕ → ℤ) → plus_each f v ≡ add (plus_each f (zeros v.dims)) v
+plus_through_unit v f = same_each v.dims (λ p. wrap (at v.elements p +ℤ f p)) (λ p. wrap (at v.elements p +ℤ at (plus_each f (zeros v.dims)).elements p)) (λ p l.
+    let u : at (plus_each f (zeros v.dims)).elements p ≡ wrap (f p) =
     at-each v.dims (λ q. wrap (at (zeros v.dims).elements q +ℤ f q)) p l ∙ ap (λ (z : ℤ). wrap (z +ℤ f p)) (element-zeros v.dims p l) ∙ ap (λ (z : ℤ). wrap z) (int_zero-add (f p)) in
     sym (int_wrap-add_right w64 (at v.elements p) (f p)) ∙ ap (λ (z : ℤ). wrap (at v.elements p +ℤ z)) (sym u))
 
@@ -62,12 +62,12 @@ back : (before : List Array) (v : Array) (i : ℕ) → length before ≡ i → o
 back before v i l = get_or_at before v [] (array (record { rows = 0; cols = 0 }) []) i l
 
 -- the element at a position, by its row and column
-placed : (v : Array) (f : ℕ → ℤ) → each v.dims (λ p. wrap (element v (p / v.dims.cols) (p % v.dims.cols) +ℤ f p)) ≡ plus f v
+placed : (v : Array) (f : ℕ → ℤ) → each v.dims (λ p. wrap (element v (p / v.dims.cols) (p % v.dims.cols) +ℤ f p)) ≡ plus_each f v
 placed v f = same_each v.dims (λ p. wrap (element v (p / v.dims.cols) (p % v.dims.cols) +ℤ f p)) (λ p. wrap (at v.elements p +ℤ f p)) (λ p l.
     ap (λ (q : ℕ). wrap (at v.elements q +ℤ f p)) (div-add-mod' p v.dims.cols))
 
 -- a contributing codelet of the ring is such a sum
-adds : (k : Kernel) (args : List ℤ) (before : List Array) (v : Array) → contributes_of k Plus ≡ true → length before + 1 ≡ length (formals_of k) → result_of k args before v ≡ plus (added k args before v.dims) v
+adds : (k : Kernel) (args : List ℤ) (before : List Array) (v : Array) → contributes_of k Plus ≡ true → length before + 1 ≡ length (formals_of k) → result_of k args before v ≡ plus_each (added k args before v.dims) v
 adds Add args before v c l =
     ap (λ (a : Array). add a (operand (before ++ v ∷ []) 1)) (front before v 0 (omega arith)) ∙ ap (λ (a : Array). add (operand before 0) a) (back before v 1 (omega arith))
 adds Axpy args before v c l =
@@ -99,9 +99,9 @@ sums_commute k c = record {
       let f = added k args before v.dims in
       let g = added k args' before' v.dims in
       ap (λ (a : Array). result_of k args' before' a) (adds k args before v c n)
-      ∙ adds k args' before' (plus f v) c n'
+      ∙ adds k args' before' (plus_each f v) c n'
       ∙ plus_swap v f g
-      ∙ sym (adds k args before (plus g v) c n)
+      ∙ sym (adds k args before (plus_each g v) c n)
       ∙ sym (ap (λ (a : Array). result_of k args before a) (adds k args' before' v c n'));
 }
 

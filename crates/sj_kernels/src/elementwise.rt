@@ -6,7 +6,7 @@ ghost use Rattle.sj_codelet.specs.Ring.{wrap};
 ghost use Rattle.sj_codelet.specs.Listing.{listing};
 ghost use Rattle.sj_codelet.specs.Equations.{vector, fill, scale, add, subtract, axpy};
 
-use crate::scalar::{product, with_product};
+use crate::scalar::{with_product, wrapped_product};
 
 /// `x(i) = a + b i`, wrapping. Linear in `x`.
 pub fn fill(a: i64, b: i64, x: &mut [i64])
@@ -31,7 +31,7 @@ pub fn scale(a: i64, x: &mut [i64])
         scale_eight(a, &mut x[j..j + 8]);
     }
     for j in n / 8 * 8..n {
-        x[j] = product(a, x[j]);
+        x[j] = wrapped_product(a, x[j]);
     }
 }
 
@@ -41,14 +41,14 @@ fn scale_eight(a: i64, x: &mut [i64])
     ensures { x.new ≡ listing 8 (λ q. wrap (a *ℤ at x.old q)) }
 {
     let scaled = [
-        product(a, x[0]),
-        product(a, x[1]),
-        product(a, x[2]),
-        product(a, x[3]),
-        product(a, x[4]),
-        product(a, x[5]),
-        product(a, x[6]),
-        product(a, x[7]),
+        wrapped_product(a, x[0]),
+        wrapped_product(a, x[1]),
+        wrapped_product(a, x[2]),
+        wrapped_product(a, x[3]),
+        wrapped_product(a, x[4]),
+        wrapped_product(a, x[5]),
+        wrapped_product(a, x[6]),
+        wrapped_product(a, x[7]),
     ];
     x.copy_from_slice(&scaled);
 }

@@ -8,7 +8,7 @@ ghost use Rattle.sj_codelet.specs.Ring.{wrap};
 ghost use Rattle.sj_codelet.specs.Equations.{matrix, gemm, gemm3};
 ghost use Rattle.sj_codelet.specs.Listing.{listing};
 ghost use Rattle.sj_kernels.specs.Rows.{row_product};
-ghost use Rattle.sj_kernels.specs.Panels.{with_terms, with_terms_within, part, column_sum, row_within};
+ghost use Rattle.sj_kernels.specs.Panels.{with_terms, with_terms_within, panel_element, column_sum, row_within};
 
 use crate::elementwise::axpy;
 use crate::scalar::with_product;
@@ -17,7 +17,7 @@ use crate::scalar::with_product;
 const PANEL: usize = 32;
 
 /// How many columns of a panel are multiplied at a time.
-const TILE: usize = 64;
+const TILE_COLUMNS: usize = 64;
 
 /// A panel's elements in so many columns: 16 KiB.
 const PACKED: usize = 2048;
@@ -104,15 +104,15 @@ fn add_panel(a: &[i64], panel: &[i64], c: &mut [i64], sides: Sides, rows: Span)
     ensures { c.new ≡ listing (length c.old) (with_terms sides rows a.now panel.now c.old) }
 {
     let n = sides.n;
-    if n <= TILE || rows.len == 1 {
+    if n <= TILE_COLUMNS || rows.len == 1 {
         let all = Span { first: 0, len: n };
         add_tile(a, panel, c, sides, rows, all);
         return;
     }
     let mut packed = [0i64; PACKED];
-    for t in 0..n.div_ceil(TILE) {
-        let first = t * TILE;
-        let len = (n - first).min(TILE);
+    for t in 0..n.div_ceil(TILE_COLUMNS) {
+        let first = t * TILE_COLUMNS;
+        let len = (n - first).min(TILE_COLUMNS);
         let columns = Span { first, len };
         let tile = &mut packed[..rows.len * len];
         pack(panel, n, columns, tile, rows.len);
@@ -125,7 +125,7 @@ fn pack(matrix: &[i64], n: usize, columns: Span, tile: &mut [i64], rows: usize)
     requires whole { length matrix.now ≡ rows * n }
     requires within { columns.first + columns.len ≤ n }
     requires target { length tile.old ≡ rows * columns.len }
-    ensures { tile.new ≡ listing (length tile.old) (part n columns matrix.now) }
+    ensures { tile.new ≡ listing (length tile.old) (panel_element n columns matrix.now) }
 {
     let w = columns.len;
     for l in 0..rows {

@@ -5,7 +5,7 @@ ghost use Rattle.sj_codelet.specs.Ring.{wrap};
 
 /// `x y`.
 #[inline(always)]
-pub fn product(x: i64, y: i64) -> i64
+pub fn wrapped_product(x: i64, y: i64) -> i64
     ensures { result ≡ wrap (x *ℤ y) }
 {
     x.wrapping_mul(y)

@@ -36,9 +36,9 @@ use Rattle.sj_codelet.specs.Kernel.{out}
 use Rattle.sj_meaning.specs.Statement.{Register, Operand, TaskLine}
 use Rattle.sj_meaning.specs.Act.{Act}
 use Rattle.sj_meaning.specs.Act.{Register as Registers, Plan as Plans, Redux as Reduces, Task as Tasks, Print as Prints, Invalidate as Invalidates, Unregister as Unregisters}
-use Rattle.sj_meaning.specs.State.{Root, State, root_of, is_valued, is_blank, is_valued_child, start}
-use Rattle.sj_meaning.specs.Meaning.{array_of, child_array, with_child, put, put_all, written_of, operand_array, integers_of, first_elements, registered_root, register, no_values, with_parts, with_elements, with_reduction, reduce, plan, invalidate, unregister, run_task, apply}
-use Rattle.sj_meaning.specs.Sound.{has_root, has_values, has_none, reduction_of, InitFits, IsSoundTask, IsSoundRegistration, IsSoundPlan, IsSoundAct}
+use Rattle.sj_meaning.specs.State.{RootState, JobState, root_of, is_valued, has_no_value, is_valued_child, start}
+use Rattle.sj_meaning.specs.Meaning.{root_array, child_array, with_child, put, put_all, written_of, operand_array, integers_of, first_elements, registered_root, register, no_values, with_parts, with_elements, with_reduction, reduce, plan, invalidate, unregister, run_task, apply}
+use Rattle.sj_meaning.specs.Sound.{has_root, has_valued_root, has_none, reduction_of, InitFits, IsSoundTask, IsSoundRegistration, IsSoundPlan, IsSoundAct}
 use Rattle.sj_lower.specs.Cells.{Cells, Handle, same_parts, cell_of, take, with_new_root, next_handle, copy_at}
 use Rattle.sj_lower.specs.Rows.{load_row, fill_row, fill_arguments, paste_row}
 use Rattle.sj_lower.specs.Lowering.{Lowering, nothing, load_rows, parts_in, active_cell, leaves_plan, plan_rows, task_row, deliver_rows, add_own}
@@ -74,24 +74,24 @@ theirs_rooted workers C phases name d h = record { copies = copies-root workers 
 pub same_child_cell : (C D : Cells) (q : List ℕ) (d e : Dims) (s : Parts) (f : ℕ) (place : ℕ × ℕ) → IsTaken C q d s f → IsTaken D q e s f → cell_of C q s place ≡ cell_of D q s place
 same_child_cell C D q d e s f place t u = cell_of_number (cell_of C q s place) (cell_of D q s place) (cell-is C q d s f place t ∙ sym (cell-is D q e s f place u))
 
-pub reduction-is : (S : State) (q : List ℕ) (r : Root) → root_of S q ≡ Some r → reduction_of S q ≡ r.reduction
-reduction-is S q r e = ap (λ (o : Option Root). elim o as (λ _. Option Reduction) [ None ↦ None | Some r ↦ r.reduction ]) e
+pub reduction-is : (S : JobState) (q : List ℕ) (r : RootState) → root_of S q ≡ Some r → reduction_of S q ≡ r.reduction
+reduction-is S q r e = ap (λ (o : Option RootState). elim o as (λ _. Option Reduction) [ None ↦ None | Some r ↦ r.reduction ]) e
 
 -- a task leaves the plans of roots
-put-parts : (o : Operand (List ℕ)) (a : Array) (S : State) (q : List ℕ) (r : Root) → root_of S q ≡ Some r → (t : Root) × (root_of (put o a S) q ≡ Some t) × (t.parts ≡ r.parts)
+put-parts : (o : Operand (List ℕ)) (a : Array) (S : JobState) (q : List ℕ) (r : RootState) → root_of S q ≡ Some r → (t : RootState) × (root_of (put o a S) q ≡ Some t) × (t.parts ≡ r.parts)
 put-parts o a S q r e = by_root (root_of S o.name) refl
   where
-    by_root : (x : Option Root) → root_of S o.name ≡ x → (t : Root) × (root_of (put o a S) q ≡ Some t) × (t.parts ≡ r.parts)
-    by_root None is = (r, ap (λ (T : State). root_of T q) (ap (λ (x : Option Root). elim x as (λ _. State) [ None ↦ S | Some r ↦ record S { roots = map.insert S.roots o.name (with_child o.place a r) } ]) is) ∙ e, refl)
+    by_root : (x : Option RootState) → root_of S o.name ≡ x → (t : RootState) × (root_of (put o a S) q ≡ Some t) × (t.parts ≡ r.parts)
+    by_root None is = (r, ap (λ (T : JobState). root_of T q) (ap (λ (x : Option RootState). elim x as (λ _. JobState) [ None ↦ S | Some r ↦ record S { roots = map.insert S.roots o.name (with_child o.place a r) } ]) is) ∙ e, refl)
     by_root (Some u) is = by_test (bytes_eq o.name q) refl
       where
-        by_test : (b : Bool) → bytes_eq o.name q ≡ b → (t : Root) × (root_of (put o a S) q ≡ Some t) × (t.parts ≡ r.parts)
+        by_test : (b : Bool) → bytes_eq o.name q ≡ b → (t : RootState) × (root_of (put o a S) q ≡ Some t) × (t.parts ≡ r.parts)
         by_test true eb =
             let one : u ≡ r = same_Some u r (sym is ∙ ap (root_of S) (same_text o.name q eb) ∙ e) in
-            (with_child o.place a u, root-change (with_child o.place a) o.name S u q is ∙ ap (λ z. cond z (Some (with_child o.place a u)) (root_of S q)) eb, ap (λ (x : Root). x.parts) one)
+            (with_child o.place a u, root-change (with_child o.place a) o.name S u q is ∙ ap (λ z. cond z (Some (with_child o.place a u)) (root_of S q)) eb, ap (λ (x : RootState). x.parts) one)
         by_test false eb = (r, root-change (with_child o.place a) o.name S u q is ∙ ap (λ z. cond z (Some (with_child o.place a u)) (root_of S q)) eb ∙ e, refl)
 
-pub puts-parts : (os : List (Operand (List ℕ))) (xs : List Array) (S : State) (q : List ℕ) (r : Root) → root_of S q ≡ Some r → (t : Root) × (root_of (put_all os xs S) q ≡ Some t) × (t.parts ≡ r.parts)
+pub puts-parts : (os : List (Operand (List ℕ))) (xs : List Array) (S : JobState) (q : List ℕ) (r : RootState) → root_of S q ≡ Some r → (t : RootState) × (root_of (put_all os xs S) q ≡ Some t) × (t.parts ≡ r.parts)
 puts-parts [] xs S q r e = (r, e, refl)
 puts-parts (o ∷ os) [] S q r e = (r, e, refl)
 puts-parts (o ∷ os) (a ∷ xs) S q r e =
@@ -99,7 +99,7 @@ puts-parts (o ∷ os) (a ∷ xs) S q r e =
     let i = puts-parts os xs (put o a S) q h.0 h.1 in
     (i.0, i.1, i.2 ∙ h.2)
 
-run-parts : (t : TaskLine (List ℕ)) (S : State) (q : List ℕ) (r : Root) → root_of S q ≡ Some r → (u : Root) × (root_of (run_task t S) q ≡ Some u) × (u.parts ≡ r.parts)
+run-parts : (t : TaskLine (List ℕ)) (S : JobState) (q : List ℕ) (r : RootState) → root_of S q ≡ Some r → (u : RootState) × (root_of (run_task t S) q ≡ Some u) × (u.parts ≡ r.parts)
 run-parts t S q r e = puts-parts (written_of t.operands) (out t.codelet t.args (each_of (operand_array S) t.operands)) S q r e
 
 -- two children of a plan have two cells
@@ -154,7 +154,7 @@ starts p C r line k (Fill a b) f e fits init cells laid t =
     }
 starts p C r line k Nothing f e fits init cells laid t =
     let none : load_rows r.init r.dims r.parts (cell_of C r.name r.parts) line ≡ [] = ap (λ i. load_rows i r.dims r.parts (cell_of C r.name r.parts) line) e in
-    let blank : is_blank (registered_root r) ≡ true = ap (λ i. list_all (λ (e : Option ℤ). is_none e) (first_elements i r.dims)) e ∙ no_values-blank (area r.dims) in
+    let blank : has_no_value (registered_root r) ≡ true = ap (λ i. list_all (λ (e : Option ℤ). is_none e) (first_elements i r.dims)) e ∙ no_values-blank (area r.dims) in
     let unvalued = λ (place : ℕ × ℕ) (inside : IsPlace r.parts place) (v : is_valued_child (registered_root r) place ≡ true). blank-child (registered_root r) place (first_length r.init r.dims init) blank fits inside v in
     record {
       value = λ place inside v. absurd (unvalued place inside v);
@@ -162,7 +162,7 @@ starts p C r line k Nothing f e fits init cells laid t =
       others = λ c away. ap (λ ls. held_in p (after_rows p k ls) c) none;
     }
 
-agrees_registered : (p : Program) (L : Lowering) (S : State) (line : Line) (r : Register (List ℕ)) → Begins p (add_own S (record { line = line; act = Registers r }) L) → IsSoundRegistration S r → Agrees p L S → Agrees p (add_own S (record { line = line; act = Registers r }) L) (register r S)
+agrees_registered : (p : Program) (L : Lowering) (S : JobState) (line : Line) (r : Register (List ℕ)) → Begins p (add_own S (record { line = line; act = Registers r }) L) → IsSoundRegistration S r → Agrees p L S → Agrees p (add_own S (record { line = line; act = Registers r }) L) (register r S)
 agrees_registered p L S line r b s g = record { laid = laid; theirs = theirs; opened = opened; roots = λ q t e. by_name q t (bytes_eq r.name q) refl (sym (get-put S.roots r.name (registered_root r) q) ∙ e) }
   where
     C : Cells
@@ -205,14 +205,14 @@ agrees_registered p L S line r b s g = record { laid = laid; theirs = theirs; op
     theirs = theirs_taken p.workers C L.phase r.name r.parts (laid-root L.cells r.name r.dims g.laid s.elements) (theirs_rooted p.workers L.cells L.phase r.name r.dims g.theirs)
 
     -- another name's root is there
-    other : (q : List ℕ) (t : Root) → root_of S q ≡ Some t → bytes_eq r.name q ≡ false
+    other : (q : List ℕ) (t : RootState) → root_of S q ≡ Some t → bytes_eq r.name q ≡ false
     other q t e = by_test (bytes_eq r.name q) refl
       where
         by_test : (x : Bool) → bytes_eq r.name q ≡ x → x ≡ false
         by_test false h = refl
         by_test true h = absurd (none_isn't t (sym s.fresh ∙ ap (root_of S) (same_text r.name q h) ∙ e))
 
-    kept : (q : List ℕ) (t : Root) (e : root_of S q ≡ Some t) → IsTaken D q t.dims t.parts (g.roots q t e).first
+    kept : (q : List ℕ) (t : RootState) (e : root_of S q ≡ Some t) → IsTaken D q t.dims t.parts (g.roots q t e).first
     kept q t e = let o = g.roots q t e in take-keeps C r.name r.parts (next_handle r.dims L.cells) there q t.dims t.parts o.first (root-keeps L.cells r.name r.dims q t.dims t.parts o.first (other q t e) o.taken)
 
     opened : (c : Cell) (f : OpenPhase) → L.phase c ≡ Some f → IsActiveChild D (register r S) c
@@ -237,9 +237,9 @@ agrees_registered p L S line r b s g = record { laid = laid; theirs = theirs; op
         (o.cell ∙ same_child_cell L.cells D o.name o.root.dims o.root.dims o.root.parts h.first o.place h.taken (kept o.name o.root o.is_root)) in
         other_text r.name o.name (other o.name o.root o.is_root) same.0)
 
-    by_name : (q : List ℕ) (t : Root) (c : Bool) → bytes_eq r.name q ≡ c → cond c (Some (registered_root r)) (root_of S q) ≡ Some t → HasRoot p D L.phase now (contents_before p now) q t
+    by_name : (q : List ℕ) (t : RootState) (c : Bool) → bytes_eq r.name q ≡ c → cond c (Some (registered_root r)) (root_of S q) ≡ Some t → HasRoot p D L.phase now (contents_before p now) q t
     by_name q t true eb e =
-        subst (λ (x : Root). HasRoot p D L.phase now (contents_before p now) q x) (same_Some (registered_root r) t e)
+        subst (λ (x : RootState). HasRoot p D L.phase now (contents_before p now) q x) (same_Some (registered_root r) t e)
         (subst (λ (u : List ℕ). HasRoot p D L.phase now (contents_before p now) u (registered_root r)) (same_text r.name q eb)
         (record {
           fits = s.parts;
@@ -268,13 +268,13 @@ agrees_registered p L S line r b s g = record { laid = laid; theirs = theirs; op
 -- ---- plans
 
 -- what the tasks of a plan line leave
-record Turns (p : Program) (C : Cells) (phases : Phases) (S : State) (name : List ℕ) (r : Root) (s : Parts) (line : Line) (k : Contents) (n : ℕ) : Type 0 where
+record Turns (p : Program) (C : Cells) (phases : Phases) (S : JobState) (name : List ℕ) (r : RootState) (s : Parts) (line : Line) (k : Contents) (n : ℕ) : Type 0 where
   held : (place : ℕ × ℕ) → IsPlace s place → is_valued_child (with_parts s r) place ≡ true → IsHeld p phases (n + length (plan_rows S C name s line)) (after_rows p k (plan_rows S C name s line)) (cell_of C name s place) (child_array (with_parts s r) place)
   others : IsTrusted p → (c : Cell) → ((place : ℕ × ℕ) → IsPlace s place → same_cell (cell_of C name s place) c ≡ false) → held_in p (after_rows p k (plan_rows S C name s line)) c ≡ held_in p k c
 
-pub plan_rows-are : (S : State) (C : Cells) (name : List ℕ) (s : Parts) (line : Line) (r : Root) → root_of S name ≡ Some r
+pub plan_rows-are : (S : JobState) (C : Cells) (name : List ℕ) (s : Parts) (line : Line) (r : RootState) → root_of S name ≡ Some r
     → plan_rows S C name s line ≡ cond (same_parts r.parts s || not (is_valued r)) [] (each_of (paste_row (cell_of C name r.parts) (cell_of C name s) line) (pastes_of r.dims r.parts s))
-plan_rows-are S C name s line r e = ap (λ (o : Option Root). elim o as (λ _. List Lowered) [
+plan_rows-are S C name s line r e = ap (λ (o : Option RootState). elim o as (λ _. List Lowered) [
   | None ↦ []
   | Some r ↦ cond (leaves_plan s r) [] (each_of (paste_row (cell_of C name r.parts) (cell_of C name s) line) (pastes_of r.dims r.parts s))
 ]) e
@@ -283,7 +283,7 @@ no_tasks : (n : ℕ) → n ≤ n + 0
 no_tasks n = omega arith
 
 -- a plan line that gives no task
-turns_idle : (p : Program) (C : Cells) (phases : Phases) (S : State) (name : List ℕ) (r : Root) (s : Parts) (line : Line) (k : Contents) (n : ℕ) → plan_rows S C name s line ≡ []
+turns_idle : (p : Program) (C : Cells) (phases : Phases) (S : JobState) (name : List ℕ) (r : RootState) (s : Parts) (line : Line) (k : Contents) (n : ℕ) → plan_rows S C name s line ≡ []
     → ((place : ℕ × ℕ) → IsPlace s place → is_valued_child (with_parts s r) place ≡ true → IsHeld p phases n k (cell_of C name s place) (child_array (with_parts s r) place)) → Turns p C phases S name r s line k n
 turns_idle p C phases S name r s line k n none holds = record {
   held = λ place inside v. held-kept p phases phases n (n + length (plan_rows S C name s line)) k (after_rows p k (plan_rows S C name s line)) (cell_of C name s place) (child_array (with_parts s r) place) (omega arith) refl
@@ -292,7 +292,7 @@ turns_idle p C phases S name r s line k n none holds = record {
 }
 
 -- one that pastes
-turns_pasted : (p : Program) (C : Cells) (phases : Phases) (S : State) (name : List ℕ) (r : Root) (s : Parts) (line : Line) (n f : ℕ) → let k = contents_before p n in plan_rows S C name s line ≡ each_of (paste_row (cell_of C name r.parts) (cell_of C name s) line) (pastes_of r.dims r.parts s)
+turns_pasted : (p : Program) (C : Cells) (phases : Phases) (S : JobState) (name : List ℕ) (r : RootState) (s : Parts) (line : Line) (n f : ℕ) → let k = contents_before p n in plan_rows S C name s line ≡ each_of (paste_row (cell_of C name r.parts) (cell_of C name s) line) (pastes_of r.dims r.parts s)
     → Stand p n (plan_rows S C name s line) → HasCells p C → AreLaid C → (b : HasRoot p C phases n k name r) → ((place : ℕ × ℕ) → IsPlace r.parts place → phases (cell_of C name r.parts place) ≡ None) → ((place : ℕ × ℕ) → IsPlace s place → phases (cell_of C name s place) ≡ None)
     → IsTaken C name r.dims s f → same_parts r.parts s ≡ false → is_valued r ≡ true → Turns p C phases S name r s line k n
 turns_pasted p C phases S name r s line n f rows stand cells laid b shut fresh t changed valued =
@@ -302,8 +302,8 @@ turns_pasted p C phases S name r s line n f rows stand cells laid b shut fresh t
     let new = cell_of C name s in
     let fit = laid.fits name d s f t in
     let other : r.parts ≡ s → ⊥ = λ e. false≢true (sym changed ∙ ap (same_parts r.parts) (sym e) ∙ parts-itself r.parts) in
-    let filled : IsTrusted p → AreFilled p k (after_rows p k (plan_rows S C name s line)) s new (λ to. window (array_of r) (child d s to)) = λ trust. subst (λ (ls : List Lowered). AreFilled p k (after_rows p k ls) s new (λ to. window (array_of r) (child d s to))) (sym rows)
-    (pastes-filled p d r.parts s old new (array_of r) line k b.fits fit
+    let filled : IsTrusted p → AreFilled p k (after_rows p k (plan_rows S C name s line)) s new (λ to. window (root_array r) (child d s to)) = λ trust. subst (λ (ls : List Lowered). AreFilled p k (after_rows p k ls) s new (λ to. window (root_array r) (child d s to))) (sym rows)
+    (pastes-filled p d r.parts s old new (root_array r) line k b.fits fit
     (λ from at. sym (denoted-closed p phases k (old from) (shut from at)) ∙ (b.held from at (valued-child r from b.whole valued at)).value trust ∙ child-window r from)
     (λ to at. cell-dims p C name d s f to cells laid t at)
     (λ to at from there. differs (new to) (old from) (λ e. other (sym (cells-apart C name name d d s r.parts f b.first to from laid t b.taken at there e).1)))
@@ -318,9 +318,9 @@ turns_pasted p C phases S name r s line n f rows stand cells laid b shut fresh t
       others = λ trust. (filled trust).others;
     }
 
-turns_by : (p : Program) (C : Cells) (phases : Phases) (S : State) (name : List ℕ) (r : Root) (s : Parts) (line : Line) (n f : ℕ) → let k = contents_before p n in root_of S name ≡ Some r → Stand p n (plan_rows S C name s line) → HasCells p C → AreLaid C → HasRoot p C phases n k name r
+turns_by : (p : Program) (C : Cells) (phases : Phases) (S : JobState) (name : List ℕ) (r : RootState) (s : Parts) (line : Line) (n f : ℕ) → let k = contents_before p n in root_of S name ≡ Some r → Stand p n (plan_rows S C name s line) → HasCells p C → AreLaid C → HasRoot p C phases n k name r
     → (same_parts r.parts s ≡ false → (place : ℕ × ℕ) → IsPlace r.parts place → phases (cell_of C name r.parts place) ≡ None) → (same_parts r.parts s ≡ false → (place : ℕ × ℕ) → IsPlace s place → phases (cell_of C name s place) ≡ None) → IsTaken C name r.dims s f
-    → (is_valued r || is_blank r) ≡ true → (a c : Bool) → same_parts r.parts s ≡ a → is_valued r ≡ c → Turns p C phases S name r s line k n
+    → (is_valued r || has_no_value r) ≡ true → (a c : Bool) → same_parts r.parts s ≡ a → is_valued r ≡ c → Turns p C phases S name r s line k n
 turns_by p C phases S name r s line n f e stand cells laid b shut fresh t even true c same v =
     let here : r.parts ≡ s = parts-are r.parts s same in
     turns_idle p C phases S name r s line (contents_before p n) n (plan_rows-are S C name s line r e ∙ ap (λ x. cond (x || not (is_valued r)) [] (each_of (paste_row (cell_of C name r.parts) (cell_of C name s) line) (pastes_of r.dims r.parts s))) same)
@@ -328,12 +328,12 @@ turns_by p C phases S name r s line n f e stand cells laid b shut fresh t even t
 turns_by p C phases S name r s line n f e stand cells laid b shut fresh t even false true same v =
     turns_pasted p C phases S name r s line n f (plan_rows-are S C name s line r e ∙ (λ i. cond (same i || not (v i)) [] (each_of (paste_row (cell_of C name r.parts) (cell_of C name s) line) (pastes_of r.dims r.parts s)))) stand cells laid b (shut same) (fresh same) t same v
 turns_by p C phases S name r s line n f e stand cells laid b shut fresh t even false false same v =
-    let blank : is_blank r ≡ true = sym (ap (λ x. x || is_blank r) v) ∙ even in
+    let blank : has_no_value r ≡ true = sym (ap (λ x. x || has_no_value r) v) ∙ even in
     turns_idle p C phases S name r s line (contents_before p n) n (plan_rows-are S C name s line r e ∙ (λ i. cond (same i || not (v i)) [] (each_of (paste_row (cell_of C name r.parts) (cell_of C name s) line) (pastes_of r.dims r.parts s))))
     (λ place inside h. absurd (blank-child (with_parts s r) place b.whole blank (laid.fits name r.dims s f t) inside h))
 
 -- a root is as it was after its name took another plan
-pub has-taken : (p : Program) (L : Lowering) (S : State) (name : List ℕ) (s : Parts) (r : Root) → Agrees p L S → root_of S name ≡ Some r → HasRoot p (take name s L.cells) L.phase (length L.tasks) (contents_before p (length L.tasks)) name r
+pub has-taken : (p : Program) (L : Lowering) (S : JobState) (name : List ℕ) (s : Parts) (r : RootState) → Agrees p L S → root_of S name ≡ Some r → HasRoot p (take name s L.cells) L.phase (length L.tasks) (contents_before p (length L.tasks)) name r
 has-taken p L S name s r g e =
     let n = length L.tasks in
     let k = contents_before p n in
@@ -341,22 +341,22 @@ has-taken p L S name s r g e =
     root-kept p L.cells (take name s L.cells) L.phase L.phase n n k k name r had (take-keeps L.cells name s had.taken.handle had.taken.is name r.dims r.parts had.first had.taken) (omega arith)
     (λ trust place inside. refl) (λ place inside. refl) (λ trust place f inside is w below. refl)
 
-pub values_are : (S : State) (name : List ℕ) (r : Root) → root_of S name ≡ Some r → (has_values S name || has_none S name) ≡ (is_valued r || is_blank r)
-values_are S name r e = ap (λ (o : Option Root). (elim o as (λ _. Bool) [ None ↦ false | Some r ↦ is_valued r ]) || (elim o as (λ _. Bool) [ None ↦ false | Some r ↦ is_blank r ])) e
+pub values_are : (S : JobState) (name : List ℕ) (r : RootState) → root_of S name ≡ Some r → (has_valued_root S name || has_none S name) ≡ (is_valued r || has_no_value r)
+values_are S name r e = ap (λ (o : Option RootState). (elim o as (λ _. Bool) [ None ↦ false | Some r ↦ is_valued r ]) || (elim o as (λ _. Bool) [ None ↦ false | Some r ↦ has_no_value r ])) e
 
 -- no phase is open on a child of the active plan
-abbrev pub IsShut : Lowering → State → List ℕ → Type 0
-IsShut L S name = (r : Root) (place : ℕ × ℕ) → root_of S name ≡ Some r → IsPlace r.parts place → L.phase (cell_of L.cells name r.parts place) ≡ None
+abbrev pub IsShut : Lowering → JobState → List ℕ → Type 0
+IsShut L S name = (r : RootState) (place : ℕ × ℕ) → root_of S name ≡ Some r → IsPlace r.parts place → L.phase (cell_of L.cells name r.parts place) ≡ None
 
 -- no phase is open on a child of a plan that isn't active
-pub plan-fresh : (p : Program) (L : Lowering) (S : State) (name : List ℕ) (s : Parts) (r : Root) (f : ℕ) → Agrees p L S → root_of S name ≡ Some r → AreLaid (take name s L.cells) → IsTaken (take name s L.cells) name r.dims s f → same_parts r.parts s ≡ false → (place : ℕ × ℕ) → IsPlace s place → L.phase (cell_of (take name s L.cells) name s place) ≡ None
+pub plan-fresh : (p : Program) (L : Lowering) (S : JobState) (name : List ℕ) (s : Parts) (r : RootState) (f : ℕ) → Agrees p L S → root_of S name ≡ Some r → AreLaid (take name s L.cells) → IsTaken (take name s L.cells) name r.dims s f → same_parts r.parts s ≡ false → (place : ℕ × ℕ) → IsPlace s place → L.phase (cell_of (take name s L.cells) name s place) ≡ None
 plan-fresh p L S name s r f g is laid taken changed place inside = none_of (L.phase (cell_of D name s place)) (λ j e.
     let o = g.opened (cell_of D name s place) j e in
     let i = g.roots o.name o.root o.is_root in
     let kept = take-keeps L.cells name s had.taken.handle had.taken.is o.name o.root.dims o.root.parts i.first i.taken in
     let same = cells-apart D name o.name r.dims o.root.dims s o.root.parts f i.first place o.place laid taken kept inside o.placed (o.cell ∙ same_child_cell L.cells D o.name o.root.dims o.root.dims o.root.parts i.first o.place i.taken kept) in
     let one : r ≡ o.root = same_Some r o.root (sym is ∙ ap (root_of S) same.0 ∙ o.is_root) in
-    false≢true (sym changed ∙ ap (same_parts r.parts) (same.1 ∙ ap (λ (x : Root). x.parts) (sym one)) ∙ parts-itself r.parts))
+    false≢true (sym changed ∙ ap (same_parts r.parts) (same.1 ∙ ap (λ (x : RootState). x.parts) (sym one)) ∙ parts-itself r.parts))
   where
     D : Cells
     D = take name s L.cells
@@ -365,16 +365,16 @@ plan-fresh p L S name s r f g is laid taken changed place inside = none_of (L.ph
     had = g.roots name r is
 
 -- or the plan is active already
-abbrev pub IsShutBy : Lowering → State → List ℕ → Parts → Type 0
-IsShutBy L S name s = (r : Root) (place : ℕ × ℕ) → root_of S name ≡ Some r → IsPlace r.parts place → same_parts r.parts s ≡ false → L.phase (cell_of L.cells name r.parts place) ≡ None
+abbrev pub IsShutBy : Lowering → JobState → List ℕ → Parts → Type 0
+IsShutBy L S name s = (r : RootState) (place : ℕ × ℕ) → root_of S name ≡ Some r → IsPlace r.parts place → same_parts r.parts s ≡ false → L.phase (cell_of L.cells name r.parts place) ≡ None
 
-agrees_planned : (p : Program) (L : Lowering) (S : State) (line : Line) (name : List ℕ) (s : Parts) → Begins p (add_own S (record { line = line; act = Plans name s }) L) → IsSoundPlan S name s → IsShutBy L S name s → Agrees p L S → Agrees p (add_own S (record { line = line; act = Plans name s }) L) (plan name s S)
+agrees_planned : (p : Program) (L : Lowering) (S : JobState) (line : Line) (name : List ℕ) (s : Parts) → Begins p (add_own S (record { line = line; act = Plans name s }) L) → IsSoundPlan S name s → IsShutBy L S name s → Agrees p L S → Agrees p (add_own S (record { line = line; act = Plans name s }) L) (plan name s S)
 agrees_planned p L S line name s b sound shut g = record { laid = laid; theirs = theirs; opened = λ c f e. by_same_opened c f e (same_parts r.parts s) refl; roots = λ q t e. by_name q t (bytes_eq name q) refl (sym (root-change (with_parts s) name S root.0 q root.1) ∙ e) }
   where
-    root : (r : Root) × (root_of S name ≡ Some r)
+    root : (r : RootState) × (root_of S name ≡ Some r)
     root = root_there (root_of S name) sound.rooted
 
-    r : Root
+    r : RootState
     r = root.0
 
     had : HasRoot p L.cells L.phase (length L.tasks) (contents_before p (length L.tasks)) name r
@@ -387,7 +387,7 @@ agrees_planned p L S line name s b sound shut g = record { laid = laid; theirs =
     h = had.taken.handle
 
     fit : Fits s h.dims
-    fit = subst (λ (d : Dims). Fits s d) (ap (λ (o : Option Root). elim o as (λ _. Dims) [ None ↦ record { rows = 0; cols = 0 } | Some r ↦ r.dims ]) root.1 ∙ sym had.taken.dims) sound.parts
+    fit = subst (λ (d : Dims). Fits s d) (ap (λ (o : Option RootState). elim o as (λ _. Dims) [ None ↦ record { rows = 0; cols = 0 } | Some r ↦ r.dims ]) root.1 ∙ sym had.taken.dims) sound.parts
 
     laid : AreLaid D
     laid = laid-take L.cells name s h had.taken.is fit g.laid
@@ -419,13 +419,13 @@ agrees_planned p L S line name s b sound shut g = record { laid = laid; theirs =
     left : contents_before p now ≡ after_rows p k ls
     left = ap (contents_before p) longer ∙ contents-rows p n ls stand
 
-    kept : (q : List ℕ) (t : Root) (o : HasRoot p L.cells L.phase n k q t) → IsTaken D q t.dims t.parts o.first
+    kept : (q : List ℕ) (t : RootState) (o : HasRoot p L.cells L.phase n k q t) → IsTaken D q t.dims t.parts o.first
     kept q t o = take-keeps L.cells name s h had.taken.is q t.dims t.parts o.first o.taken
 
     had_taken : HasRoot p D L.phase n k name r
     had_taken = has-taken p L S name s r g root.1
 
-    same_cells : (q : List ℕ) (t : Root) (o : HasRoot p L.cells L.phase n k q t) (place : ℕ × ℕ) → cell_of L.cells q t.parts place ≡ cell_of D q t.parts place
+    same_cells : (q : List ℕ) (t : RootState) (o : HasRoot p L.cells L.phase n k q t) (place : ℕ × ℕ) → cell_of L.cells q t.parts place ≡ cell_of D q t.parts place
     same_cells q t o place = same_child_cell L.cells D q t.dims t.dims t.parts o.first place o.taken (kept q t o)
 
     closed : same_parts r.parts s ≡ false → (place : ℕ × ℕ) → IsPlace r.parts place → L.phase (cell_of D name r.parts place) ≡ None
@@ -451,7 +451,7 @@ agrees_planned p L S line name s b sound shut g = record { laid = laid; theirs =
         }
         by_test o i true eq true changed =
             let one : r ≡ o.root = same_Some r o.root (sym root.1 ∙ ap (root_of S) (same_text name o.name eq) ∙ o.is_root) in
-            let parts : o.root.parts ≡ s = ap (λ (x : Root). x.parts) (sym one) ∙ parts-are r.parts s changed in
+            let parts : o.root.parts ≡ s = ap (λ (x : RootState). x.parts) (sym one) ∙ parts-are r.parts s changed in
             record {
               name = o.name;
               root = with_parts s r;
@@ -462,8 +462,8 @@ agrees_planned p L S line name s b sound shut g = record { laid = laid; theirs =
             }
         by_test o i true eq false changed =
             let one : r ≡ o.root = same_Some r o.root (sym root.1 ∙ ap (root_of S) (same_text name o.name eq) ∙ o.is_root) in
-            absurd (none_isn't f (sym (shut r o.place root.1 (subst (λ (x : Root). IsPlace x.parts o.place) (sym one) o.placed) changed)
-            ∙ ap L.phase (ap (λ (q : List ℕ). cell_of L.cells q r.parts o.place) (same_text name o.name eq) ∙ ap (λ (x : Root). cell_of L.cells o.name x.parts o.place) one ∙ sym o.cell) ∙ e))
+            absurd (none_isn't f (sym (shut r o.place root.1 (subst (λ (x : RootState). IsPlace x.parts o.place) (sym one) o.placed) changed)
+            ∙ ap L.phase (ap (λ (q : List ℕ). cell_of L.cells q r.parts o.place) (same_text name o.name eq) ∙ ap (λ (x : RootState). cell_of L.cells o.name x.parts o.place) one ∙ sym o.cell) ∙ e))
 
     st : Turns p D L.phase S name r s line k n
     st = turns_by p D L.phase S name r s line n taken.0 root.1 stand b.cells laid had_taken closed fresh taken.1
@@ -481,9 +481,9 @@ agrees_planned p L S line name s b sound shut g = record { laid = laid; theirs =
         subst (λ (x : Parts). IsPlace x place → L.phase (cell_of D name x place) ≡ Some f → r.reduction ≡ Some f.by) here (had_taken.reduced place f) inside e
     reduced_after place f inside e false same = absurd (none_isn't f (sym (fresh same place inside) ∙ e))
 
-    by_name : (q : List ℕ) (t : Root) (c : Bool) → bytes_eq name q ≡ c → cond c (Some (with_parts s r)) (root_of S q) ≡ Some t → HasRoot p D L.phase now (contents_before p now) q t
+    by_name : (q : List ℕ) (t : RootState) (c : Bool) → bytes_eq name q ≡ c → cond c (Some (with_parts s r)) (root_of S q) ≡ Some t → HasRoot p D L.phase now (contents_before p now) q t
     by_name q t true eb e =
-        subst (λ (x : Root). HasRoot p D L.phase now (contents_before p now) q x) (same_Some (with_parts s r) t e)
+        subst (λ (x : RootState). HasRoot p D L.phase now (contents_before p now) q x) (same_Some (with_parts s r) t e)
         (subst (λ (u : List ℕ). HasRoot p D L.phase now (contents_before p now) u (with_parts s r)) (same_text name q eb)
         (record {
           fits = subst (λ (d : Dims). Fits s d) had.taken.dims fit;
@@ -508,7 +508,7 @@ agrees_planned p L S line name s b sound shut g = record { laid = laid; theirs =
 -- ---- the other statements
 
 -- an open phase stays that of an active child where roots keep their plans
-opened_kept : (p : Program) (L : Lowering) (S T : State) → Agrees p L S → ((q : List ℕ) (r : Root) → root_of S q ≡ Some r → (place : ℕ × ℕ) (f : OpenPhase) → IsPlace r.parts place → L.phase (cell_of L.cells q r.parts place) ≡ Some f → (t : Root) × (root_of T q ≡ Some t) × (t.parts ≡ r.parts))
+opened_kept : (p : Program) (L : Lowering) (S T : JobState) → Agrees p L S → ((q : List ℕ) (r : RootState) → root_of S q ≡ Some r → (place : ℕ × ℕ) (f : OpenPhase) → IsPlace r.parts place → L.phase (cell_of L.cells q r.parts place) ≡ Some f → (t : RootState) × (root_of T q ≡ Some t) × (t.parts ≡ r.parts))
     → (c : Cell) (f : OpenPhase) → L.phase c ≡ Some f → IsActiveChild L.cells T c
 opened_kept p L S T g same c f e =
     let o = g.opened c f e in
@@ -522,7 +522,7 @@ opened_kept p L S T g same c f e =
       cell = o.cell ∙ ap (λ (x : Parts). cell_of L.cells o.name x o.place) (sym u.2);
     }
 
-agrees_task : (has : Kernel → Bool) (p : Program) (L : Lowering) (S : State) (line : Line) (t : TaskLine (List ℕ)) → Begins p (add_own S (record { line = line; act = Tasks t }) L) → IsSoundTask has S t → list_all (λ o. is_direct o.mode) t.operands ≡ true → AllByRecursion (IsClosed L.phase S L.cells) t.operands
+agrees_task : (has : Kernel → Bool) (p : Program) (L : Lowering) (S : JobState) (line : Line) (t : TaskLine (List ℕ)) → Begins p (add_own S (record { line = line; act = Tasks t }) L) → IsSoundTask has S t → list_all (λ o. is_direct o.mode) t.operands ≡ true → AllByRecursion (IsClosed L.phase S L.cells) t.operands
     → Agrees p L S → Agrees p (add_own S (record { line = line; act = Tasks t }) L) (run_task t S)
 agrees_task has p L S line t b s direct closed g =
     let n = length L.tasks in
@@ -538,7 +538,7 @@ agrees_task has p L S line t b s direct closed g =
           (subst (λ (c : Contents). HaveRoots p L.cells L.phase (n + 1) c (run_task t S)) (sym (contents-next p n (length (L.tasks ++ l ∷ [])) longer)) ran);
     }
 
-agrees_print : (p : Program) (L : Lowering) (S : State) (line : Line) (name : List ℕ) → Begins p (add_own S (record { line = line; act = Prints name }) L) → Agrees p L S → Agrees p (add_own S (record { line = line; act = Prints name }) L) S
+agrees_print : (p : Program) (L : Lowering) (S : JobState) (line : Line) (name : List ℕ) → Begins p (add_own S (record { line = line; act = Prints name }) L) → Agrees p L S → Agrees p (add_own S (record { line = line; act = Prints name }) L) S
 agrees_print p L S line name b g =
     let n = length L.tasks in
     let ls = deliver_rows S L.cells name line in
@@ -554,10 +554,10 @@ agrees_print p L S line name b g =
     }
 
 -- a statement without tasks
-same_tasks : (p : Program) (L : Lowering) (S : State) (xs : List Lowered) → xs ≡ L.tasks → HaveRoots p L.cells L.phase (length L.tasks) (contents_before p (length L.tasks)) S → HaveRoots p L.cells L.phase (length xs) (contents_before p (length xs)) S
+same_tasks : (p : Program) (L : Lowering) (S : JobState) (xs : List Lowered) → xs ≡ L.tasks → HaveRoots p L.cells L.phase (length L.tasks) (contents_before p (length L.tasks)) S → HaveRoots p L.cells L.phase (length xs) (contents_before p (length xs)) S
 same_tasks p L S xs e h = subst (λ (ts : List Lowered). HaveRoots p L.cells L.phase (length ts) (contents_before p (length ts)) S) (sym e) h
 
-agrees_reduced : (p : Program) (L : Lowering) (S : State) (line : Line) (name : List ℕ) (by : Reduction) → is_none (reduction_of S name) ≡ true → has_root S name ≡ true → Agrees p L S → Agrees p (add_own S (record { line = line; act = Reduces name by }) L) (reduce name by S)
+agrees_reduced : (p : Program) (L : Lowering) (S : JobState) (line : Line) (name : List ℕ) (by : Reduction) → is_none (reduction_of S name) ≡ true → has_root S name ≡ true → Agrees p L S → Agrees p (add_own S (record { line = line; act = Reduces name by }) L) (reduce name by S)
 agrees_reduced p L S line name by bare there g = record {
   laid = g.laid;
   theirs = g.theirs;
@@ -565,31 +565,31 @@ agrees_reduced p L S line name by bare there g = record {
   roots = same_tasks p L (reduce name by S) (L.tasks ++ []) (append-nil L.tasks) (λ q t e. by_name q t (bytes_eq name q) refl (sym (root-change (with_reduction by) name S root.0 q root.1) ∙ e));
 }
   where
-    root : (r : Root) × (root_of S name ≡ Some r)
+    root : (r : RootState) × (root_of S name ≡ Some r)
     root = root_there (root_of S name) there
 
     n : ℕ
     n = length L.tasks
 
-    by_opened : (q : List ℕ) (t : Root) → root_of S q ≡ Some t → (x : Bool) → bytes_eq name q ≡ x → (u : Root) × (root_of (reduce name by S) q ≡ Some u) × (u.parts ≡ t.parts)
+    by_opened : (q : List ℕ) (t : RootState) → root_of S q ≡ Some t → (x : Bool) → bytes_eq name q ≡ x → (u : RootState) × (root_of (reduce name by S) q ≡ Some u) × (u.parts ≡ t.parts)
     by_opened q t e true eb =
         let one : root.0 ≡ t = same_Some root.0 t (sym root.1 ∙ ap (root_of S) (same_text name q eb) ∙ e) in
-        (with_reduction by root.0, root-change (with_reduction by) name S root.0 q root.1 ∙ ap (λ z. cond z (Some (with_reduction by root.0)) (root_of S q)) eb, ap (λ (x : Root). x.parts) one)
+        (with_reduction by root.0, root-change (with_reduction by) name S root.0 q root.1 ∙ ap (λ z. cond z (Some (with_reduction by root.0)) (root_of S q)) eb, ap (λ (x : RootState). x.parts) one)
     by_opened q t e false eb = (t, root-change (with_reduction by) name S root.0 q root.1 ∙ ap (λ z. cond z (Some (with_reduction by root.0)) (root_of S q)) eb ∙ e, refl)
 
     -- a root that gets its reduction has no open phase
     none_there : (f : OpenPhase) → root.0.reduction ≡ Some f.by → ⊥
     none_there f e = false≢true (sym (ap (λ (o : Option Reduction). is_none o) (reduction-is S name root.0 root.1 ∙ e)) ∙ bare)
 
-    by_name : (q : List ℕ) (t : Root) (c : Bool) → bytes_eq name q ≡ c → cond c (Some (with_reduction by root.0)) (root_of S q) ≡ Some t → HasRoot p L.cells L.phase n (contents_before p n) q t
+    by_name : (q : List ℕ) (t : RootState) (c : Bool) → bytes_eq name q ≡ c → cond c (Some (with_reduction by root.0)) (root_of S q) ≡ Some t → HasRoot p L.cells L.phase n (contents_before p n) q t
     by_name q t true eb e =
         let o = g.roots name root.0 root.1 in
-        subst (λ (x : Root). HasRoot p L.cells L.phase n (contents_before p n) q x) (same_Some (with_reduction by root.0) t e)
+        subst (λ (x : RootState). HasRoot p L.cells L.phase n (contents_before p n) q x) (same_Some (with_reduction by root.0) t e)
         (subst (λ (u : List ℕ). HasRoot p L.cells L.phase n (contents_before p n) u (with_reduction by root.0)) (same_text name q eb)
         (record { fits = o.fits; whole = o.whole; first = o.first; taken = o.taken; held = o.held; blank = o.blank; reduced = λ place f inside is. absurd (none_there f (o.reduced place f inside is)) }))
     by_name q t false eb e = g.roots q t e
 
-agrees_invalidated : (p : Program) (L : Lowering) (S : State) (line : Line) (name : List ℕ) → has_root S name ≡ true → IsShut L S name → Agrees p L S → Agrees p (add_own S (record { line = line; act = Invalidates name }) L) (invalidate name S)
+agrees_invalidated : (p : Program) (L : Lowering) (S : JobState) (line : Line) (name : List ℕ) → has_root S name ≡ true → IsShut L S name → Agrees p L S → Agrees p (add_own S (record { line = line; act = Invalidates name }) L) (invalidate name S)
 agrees_invalidated p L S line name there shut g = record {
   laid = g.laid;
   theirs = g.theirs;
@@ -597,26 +597,26 @@ agrees_invalidated p L S line name there shut g = record {
   roots = same_tasks p L (invalidate name S) (L.tasks ++ []) (append-nil L.tasks) (λ q t e. by_name q t (bytes_eq name q) refl (sym (root-change (λ r. with_elements (no_values r.dims) r) name S root.0 q root.1) ∙ e));
 }
   where
-    root : (r : Root) × (root_of S name ≡ Some r)
+    root : (r : RootState) × (root_of S name ≡ Some r)
     root = root_there (root_of S name) there
 
-    empty : Root
+    empty : RootState
     empty = with_elements (no_values root.0.dims) root.0
 
     n : ℕ
     n = length L.tasks
 
-    by_opened : (q : List ℕ) (t : Root) → root_of S q ≡ Some t → (x : Bool) → bytes_eq name q ≡ x → (u : Root) × (root_of (invalidate name S) q ≡ Some u) × (u.parts ≡ t.parts)
+    by_opened : (q : List ℕ) (t : RootState) → root_of S q ≡ Some t → (x : Bool) → bytes_eq name q ≡ x → (u : RootState) × (root_of (invalidate name S) q ≡ Some u) × (u.parts ≡ t.parts)
     by_opened q t e true eb =
         let one : root.0 ≡ t = same_Some root.0 t (sym root.1 ∙ ap (root_of S) (same_text name q eb) ∙ e) in
-        (empty, root-change (λ r. with_elements (no_values r.dims) r) name S root.0 q root.1 ∙ ap (λ z. cond z (Some empty) (root_of S q)) eb, ap (λ (x : Root). x.parts) one)
+        (empty, root-change (λ r. with_elements (no_values r.dims) r) name S root.0 q root.1 ∙ ap (λ z. cond z (Some empty) (root_of S q)) eb, ap (λ (x : RootState). x.parts) one)
     by_opened q t e false eb = (t, root-change (λ r. with_elements (no_values r.dims) r) name S root.0 q root.1 ∙ ap (λ z. cond z (Some empty) (root_of S q)) eb ∙ e, refl)
 
-    by_name : (q : List ℕ) (t : Root) (c : Bool) → bytes_eq name q ≡ c → cond c (Some empty) (root_of S q) ≡ Some t → HasRoot p L.cells L.phase n (contents_before p n) q t
+    by_name : (q : List ℕ) (t : RootState) (c : Bool) → bytes_eq name q ≡ c → cond c (Some empty) (root_of S q) ≡ Some t → HasRoot p L.cells L.phase n (contents_before p n) q t
     by_name q t true eb e =
         let o = g.roots name root.0 root.1 in
         let whole : length (no_values root.0.dims) ≡ area root.0.dims = length-replicate (area root.0.dims) None in
-        subst (λ (x : Root). HasRoot p L.cells L.phase n (contents_before p n) q x) (same_Some empty t e)
+        subst (λ (x : RootState). HasRoot p L.cells L.phase n (contents_before p n) q x) (same_Some empty t e)
         (subst (λ (u : List ℕ). HasRoot p L.cells L.phase n (contents_before p n) u empty) (same_text name q eb)
         (record {
           fits = o.fits;
@@ -629,7 +629,7 @@ agrees_invalidated p L S line name there shut g = record {
         }))
     by_name q t false eb e = g.roots q t e
 
-agrees_unregistered : (p : Program) (L : Lowering) (S : State) (line : Line) (name : List ℕ) → IsShut L S name → Agrees p L S → Agrees p (add_own S (record { line = line; act = Unregisters name }) L) (unregister name S)
+agrees_unregistered : (p : Program) (L : Lowering) (S : JobState) (line : Line) (name : List ℕ) → IsShut L S name → Agrees p L S → Agrees p (add_own S (record { line = line; act = Unregisters name }) L) (unregister name S)
 agrees_unregistered p L S line name shut g = record {
   laid = g.laid;
   theirs = g.theirs;
@@ -637,13 +637,13 @@ agrees_unregistered p L S line name shut g = record {
   roots = same_tasks p L (unregister name S) (L.tasks ++ []) (append-nil L.tasks) (λ q t e. by_name q t (bytes_eq name q) (sym (get-gone S.roots name q) ∙ e));
 }
   where
-    by_opened : (q : List ℕ) (t : Root) → root_of S q ≡ Some t → (place : ℕ × ℕ) (f : OpenPhase) → IsPlace t.parts place → L.phase (cell_of L.cells q t.parts place) ≡ Some f → (x : Bool) → bytes_eq name q ≡ x → (u : Root) × (root_of (unregister name S) q ≡ Some u) × (u.parts ≡ t.parts)
+    by_opened : (q : List ℕ) (t : RootState) → root_of S q ≡ Some t → (place : ℕ × ℕ) (f : OpenPhase) → IsPlace t.parts place → L.phase (cell_of L.cells q t.parts place) ≡ Some f → (x : Bool) → bytes_eq name q ≡ x → (u : RootState) × (root_of (unregister name S) q ≡ Some u) × (u.parts ≡ t.parts)
     by_opened q t e place f inside is true eb =
         let here = same_text name q eb in
         absurd (none_isn't f (sym (shut t place (ap (root_of S) here ∙ e) inside) ∙ ap (λ (u : List ℕ). L.phase (cell_of L.cells u t.parts place)) here ∙ is))
     by_opened q t e place f inside is false eb = (t, get-gone S.roots name q ∙ ap (λ z. cond z None (root_of S q)) eb ∙ e, refl)
 
-    by_name : (q : List ℕ) (t : Root) (c : Bool) → cond c None (root_of S q) ≡ Some t → HasRoot p L.cells L.phase (length L.tasks) (contents_before p (length L.tasks)) q t
+    by_name : (q : List ℕ) (t : RootState) (c : Bool) → cond c None (root_of S q) ≡ Some t → HasRoot p L.cells L.phase (length L.tasks) (contents_before p (length L.tasks)) q t
     by_name q t true e = absurd (none_isn't t e)
     by_name q t false e = g.roots q t e
 
@@ -657,7 +657,7 @@ agrees_start p = record {
 }
 
 -- the phases that an act closes are closed
-abbrev pub IsPrepared : Lowering → State → Act (List ℕ) → Type 0
+abbrev pub IsPrepared : Lowering → JobState → Act (List ℕ) → Type 0
 IsPrepared L S (Registers r) = Unit {0}
 IsPrepared L S (Plans name s) = IsShutBy L S name s
 IsPrepared L S (Reduces name by) = Unit {0}
@@ -667,7 +667,7 @@ IsPrepared L S (Invalidates name) = IsShut L S name
 IsPrepared L S (Unregisters name) = IsShut L S name
 
 -- after one statement more that contributes to nothing
-pub agrees_act : (has : Kernel → Bool) (p : Program) (L : Lowering) (S : State) (line : Line) (a : Act (List ℕ)) → Begins p (add_own S (record { line = line; act = a }) L) → IsSoundAct has S a → IsPrepared L S a → Agrees p L S → Agrees p (add_own S (record { line = line; act = a }) L) (apply a S)
+pub agrees_act : (has : Kernel → Bool) (p : Program) (L : Lowering) (S : JobState) (line : Line) (a : Act (List ℕ)) → Begins p (add_own S (record { line = line; act = a }) L) → IsSoundAct has S a → IsPrepared L S a → Agrees p L S → Agrees p (add_own S (record { line = line; act = a }) L) (apply a S)
 agrees_act has p L S line (Registers r) b s ready g = agrees_registered p L S line r b s g
 agrees_act has p L S line (Plans name parts) b s ready g = agrees_planned p L S line name parts b s ready g
 agrees_act has p L S line (Reduces name by) b s ready g = agrees_reduced p L S line name by s.0 s.1 g

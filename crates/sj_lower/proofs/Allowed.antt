@@ -12,7 +12,7 @@ use Rattle.sj_job.specs.declared.form.TaskForm.{TaskForm}
 use Rattle.sj_job.specs.declared.form.Form.{Form}
 use Rattle.sj_job.specs.declared.form.Form.TheVariants as form
 use Rattle.sj_job.specs.Sentence.{init_said, parts_said, registered_by}
-use Rattle.sj_meaning.specs.State.{State}
+use Rattle.sj_meaning.specs.State.{JobState}
 use Rattle.sj_job.specs.Judge.{Scope, scope_of, first_of, judged, register_reasons, plan_reasons, print_reasons, name_reasons, redux_reasons}
 use Rattle.sj_job.specs.Well.{IsAllowed, IsWell}
 use Rattle.sj_lower.proofs.Able.{DoesNotDeliver, CanBe, AllCanBe}
@@ -38,10 +38,10 @@ nameable has s (form.Print name) act e = subst DoesNotDeliver (unless_parts (fir
 nameable has s (form.Invalidate name) act e = subst DoesNotDeliver (unless_parts (first_of (name_reasons s name)) (Invalidate name) act e).1 tt
 nameable has s (form.Unregister name) act e = subst DoesNotDeliver (unless_parts (first_of (name_reasons s name)) (Unregister name) act e).1 tt
 
-pub can_be : (has : Kernel → Bool) (k : ℕ) (S : State) (a : Act (List ℕ)) → IsAllowed has (scope_of k S) a → CanBe has S a
+pub can_be : (has : Kernel → Bool) (k : ℕ) (S : JobState) (a : Act (List ℕ)) → IsAllowed has (scope_of k S) a → CanBe has S a
 can_be has k S a h = record { sound = sound_from_allowed has k S a h; nameable = nameable has (scope_of k S) h.form a h.judged }
 
 -- and so have all that are allowed one after another
-pub all_can_be : (has : Kernel → Bool) (k : ℕ) (S : State) (ss : List (Statement (List ℕ))) → IsWell has k S ss → AllCanBe has S ss
+pub all_can_be : (has : Kernel → Bool) (k : ℕ) (S : JobState) (ss : List (Statement (List ℕ))) → IsWell has k S ss → AllCanBe has S ss
 all_can_be has k S [] w = tt
 all_can_be has k S (s ∷ ss) w = (can_be has k S s.act w.0, all_can_be has (k + 1) (apply s.act S) ss w.1)

@@ -7,7 +7,7 @@ use Rattle.sj_base.specs.declared.program.Program.{Program}
 use Rattle.sj_base.specs.Array.{Array}
 use Rattle.sj_core.specs.Program.{same_cell}
 use Rattle.sj_core.specs.Fold.{Contents, held_in}
-use Rattle.sj_meaning.specs.State.{State}
+use Rattle.sj_meaning.specs.State.{JobState}
 use Rattle.sj_meaning.specs.Meaning.{child_array}
 use Rattle.sj_lower.specs.declared.phase.OpenPhase.{OpenPhase}
 use Rattle.sj_lower.specs.Cells.{cell_of, copy_at}
@@ -34,7 +34,7 @@ by_phase workers L c P none some = by_option (L.phase c) refl
     by_option None e = none e
     by_option (Some f) e = some f e
 
-module _ (p : Program) (L : Lowering) (S : State) (c : Cell) (f : OpenPhase) (is : L.phase c ≡ Some f) (b : Begins p (Closed p L c f)) (g : Agrees p L S) where
+module _ (p : Program) (L : Lowering) (S : JobState) (c : Cell) (f : OpenPhase) (is : L.phase c ≡ Some f) (b : Begins p (Closed p L c f)) (g : Agrees p L S) where
   own : IsActiveChild L.cells S c
   own = g.opened c f is
 

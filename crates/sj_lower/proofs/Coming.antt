@@ -16,7 +16,7 @@ use Rattle.sj_meaning.specs.declared.job.Statement.{Statement as Kept}
 use Rattle.sj_meaning.specs.Act.{Act, Statement}
 use Rattle.sj_meaning.specs.Act.{Register as Registers, Plan as Plans, Redux as Reduces, Task as Tasks, Print as Prints, Invalidate as Invalidates, Unregister as Unregisters}
 use Rattle.sj_meaning.specs.Meaning.{apply}
-use Rattle.sj_meaning.specs.State.{Root, State, root_of}
+use Rattle.sj_meaning.specs.State.{RootState, JobState, root_of}
 use Rattle.sj_meaning.specs.Sound.{IsSoundAct}
 use Rattle.sj_meaning.specs.Table.{Table, AreDistinct, a_root, name_of}
 use Rattle.sj_job.specs.Track.{children_count}
@@ -24,11 +24,11 @@ use Rattle.sj_meaning.specs.View.{act_seen, operand_seen, statement_seen, count_
 use Rattle.sj_lower.specs.declared.layout.Layout.{Layout}
 use Rattle.sj_lower.specs.declared.lower.LowerRefusal.{LowerRefusal}
 use Rattle.sj_lower.specs.declared.lower.LowerRefusal.TheVariants.{TooManyCells, TooManyTasks, OutOfMemory}
-use Rattle.sj_lower.specs.declared.lower.Progress.{Progress}
+use Rattle.sj_lower.specs.declared.lower.LoweringProgress.{LoweringProgress}
 use Rattle.sj_lower.specs.Cells.{Cells, Handle, child_cell, take, with_new_root}
 use Rattle.sj_lower.specs.Limits.{most, cells_in, tasks_in}
 use Rattle.sj_lower.specs.Lowering.{Lowering, cells_after, rows_added, prepared, add_own, lower_one}
-use Rattle.sj_lower.specs.Seen.{Lays, IsCut, IsNext, HasNext, CanPass, HasPass, Passes, HasRoomFor, Does, active_at, handle_in, same_taken, taken, first_after, children_after}
+use Rattle.sj_lower.specs.Seen.{Lays, IsCut, MayComeNext, HasNext, CanPass, HasPass, Passes, HasRoomFor, Does, active_at, handle_in, same_taken, plan_taken, first_after, children_after}
 use Rattle.sj_lower.specs.Progress.{AreCopied, StandsAt, HasAt, IsComing, HasComing, Goes, GoesOwn, IsFull, IsFullBy, IsFullOwn, Prepares, HasActive, IsActiveOperand, NamesActives, preparing_by, over_after}
 use Rattle.sj_lower.proofs.Copies.{by_taken, child_none}
 use Rattle.sj_lower.proofs.Growing.{row_at, append-partials}
@@ -41,7 +41,7 @@ use Rattle.sj_lower.proofs.Stating.{cells-grow}
 -- ---- what a statement needs
 
 -- no statement so far is the first with too many tasks: the next one's tasks may be made
-pub is-next : (T : Table) (g : Progress) (s : Kept) (S : State) (L : Lowering) → g.over ≡ None → IsComing T g s S L → IsNext T g.lowerer s.act S L
+pub is-next : (T : Table) (g : LoweringProgress) (s : Kept) (S : JobState) (L : Lowering) → g.over ≡ None → IsComing T g s S L → MayComeNext T g.lowerer s.act S L
 is-next T g s S L e c = record {
   has = c.has;
   follows = c.at.follows e;
@@ -55,17 +55,17 @@ is-next T g s S L e c = record {
   table = c.table;
 }
 
-pub has-next : (T : Table) (g : Progress) (s : Kept) → g.over ≡ None → HasComing T g s → HasNext T g.lowerer s.act
+pub has-next : (T : Table) (g : LoweringProgress) (s : Kept) → g.over ≡ None → HasComing T g s → HasNext T g.lowerer s.act
 has-next T g s e h = record { state = h.state; lowering = h.lowering; next = is-next T g s h.state h.lowering e h.coming }
 
-can-pass : (T : Table) (g : Progress) (s : Kept) (S : State) (L : Lowering) → IsComing T g s S L → CanPass T g.lowerer s.act S L
+can-pass : (T : Table) (g : LoweringProgress) (s : Kept) (S : JobState) (L : Lowering) → IsComing T g s S L → CanPass T g.lowerer s.act S L
 can-pass T g s S L c = record { has = c.has; actives = c.at.actives; sound = c.sound; placed = c.placed; distinct = c.distinct; few = c.few; table = c.table }
 
-pub has-pass : (T : Table) (g : Progress) (s : Kept) → HasComing T g s → HasPass T g.lowerer s.act
+pub has-pass : (T : Table) (g : LoweringProgress) (s : Kept) → HasComing T g s → HasPass T g.lowerer s.act
 has-pass T g s h = record { state = h.state; lowering = h.lowering; pass = can-pass T g s h.state h.lowering h.coming }
 
 -- the active plans are as many as the roots
-same_roots : (T : Table) (g : Progress) (s : Kept) (S : State) (L : Lowering) → IsComing T g s S L → vec_len g.lowerer.actives ≡ L.cells.roots
+same_roots : (T : Table) (g : LoweringProgress) (s : Kept) (S : JobState) (L : Lowering) → IsComing T g s S L → vec_len g.lowerer.actives ≡ L.cells.roots
 same_roots T g s S L c = g.lowerer.actives.ok.0 ∙ c.at.actives.counted
 
 -- what the cells of a statement are, from its layout
@@ -86,7 +86,7 @@ laid_at T old new a first C laid l d =
 rows_few : (T : Table) (l : Layout) (C : Cells) → Lays T l C → vec_len l.infos ≤ most → length C.rows ≤ most
 rows_few T l C h few = omega (arith, few, l.infos.ok, ap length h.rows)
 
-pub has-room : (T : Table) (g : Progress) (new : Layout) (s : Kept) (first : ℕ) → HasComing T g s → IsLaid T g.layout new s.act first → vec_len new.infos ≤ most
+pub has-room : (T : Table) (g : LoweringProgress) (new : Layout) (s : Kept) (first : ℕ) → HasComing T g s → IsLaid T g.layout new s.act first → vec_len new.infos ≤ most
     → HasRoomFor T (vec_len g.lowerer.actives) s.act first
 has-room T g new s first h laid few =
     let c = h.coming in
@@ -96,8 +96,8 @@ has-room T g new s first h laid few =
     subst (λ (n : ℕ). HasRoomFor T n s.act first) (sym (same_roots T g s h.state L c)) below
 
 -- how many tasks there are with the statement's own
-pub with-tasks : (T : Table) (g : Progress) (s : Kept) (S : State) (L : Lowering) (k : ℕ) → g.over ≡ None → IsComing T g s S L
-    → ((S : State) (L : Lowering) (C : Cells) (line : Line) → IsNext T g.lowerer s.act S L → k ≡ length (rows_added S C line (act_seen T (vec_len g.lowerer.actives) s.act)))
+pub with-tasks : (T : Table) (g : LoweringProgress) (s : Kept) (S : JobState) (L : Lowering) (k : ℕ) → g.over ≡ None → IsComing T g s S L
+    → ((S : JobState) (L : Lowering) (C : Cells) (line : Line) → MayComeNext T g.lowerer s.act S L → k ≡ length (rows_added S C line (act_seen T (vec_len g.lowerer.actives) s.act)))
     → tasks_in (add_own S (statement_seen T L.cells.roots s) L) ≡ vec_len g.lowerer.tasks + k
 with-tasks T g s S L k e c count =
     let C = cells_after (act_seen T L.cells.roots s.act) L.cells in
@@ -105,10 +105,10 @@ with-tasks T g s S L k e c count =
     subst (λ (n : ℕ). k ≡ length (rows_added S C s.line (act_seen T n s.act))) (same_roots T g s S L c) (count S L C s.line (is-next T g s S L e c)) in
     omega (arith, length-append L.tasks (rows_added S C s.line (act_seen T L.cells.roots s.act)), more, g.lowerer.tasks.ok, ap length (c.at.follows e).tasks)
 
-pub few-with : (T : Table) (g : Progress) (s : Kept) (k : ℕ) → g.over ≡ None → HasComing T g s
-    → ((S : State) (L : Lowering) (C : Cells) (line : Line) → IsNext T g.lowerer s.act S L → k ≡ length (rows_added S C line (act_seen T (vec_len g.lowerer.actives) s.act)))
+pub few-with : (T : Table) (g : LoweringProgress) (s : Kept) (k : ℕ) → g.over ≡ None → HasComing T g s
+    → ((S : JobState) (L : Lowering) (C : Cells) (line : Line) → MayComeNext T g.lowerer s.act S L → k ≡ length (rows_added S C line (act_seen T (vec_len g.lowerer.actives) s.act)))
     → vec_len g.lowerer.tasks + k ≤ most
-    → (S : State) (L : Lowering) (C : Cells) → IsNext T g.lowerer s.act S L → vec_len g.lowerer.tasks + length (rows_added S C s.line (act_seen T (vec_len g.lowerer.actives) s.act)) ≤ most
+    → (S : JobState) (L : Lowering) (C : Cells) → MayComeNext T g.lowerer s.act S L → vec_len g.lowerer.tasks + length (rows_added S C s.line (act_seen T (vec_len g.lowerer.actives) s.act)) ≤ most
 few-with T g s k e h count few S L C next = omega (arith, count S L C s.line next, few)
 
 -- ---- what a statement's own tasks leave
@@ -126,7 +126,7 @@ after-partials (Prints name) C n f e = e
 after-partials (Invalidates name) C n f e = e
 after-partials (Unregisters name) C n f e = e
 
-copied-own : (workers : ℕ) (S : State) (s : Statement (List ℕ)) (L : Lowering) → AreCopied workers L → AreCopied workers (add_own S s L)
+copied-own : (workers : ℕ) (S : JobState) (s : Statement (List ℕ)) (L : Lowering) → AreCopied workers L → AreCopied workers (add_own S s L)
 copied-own workers S s L h =
     let grows = cells-grow s.act L.cells in
     record {
@@ -135,8 +135,8 @@ copied-own workers S s L h =
     }
 
 -- the tasks aren't made any more
-at-passed : (T : Table) (old new : Progress) (s : Kept) (first : ℕ) → (new.over ≡ None → ⊥) → IsLaid T old.layout new.layout s.act first → vec_len new.layout.infos ≤ most → Passes T old.lowerer new.lowerer s.act first → new.lowerer.prints ≡ old.lowerer.prints → new.lowerer.tasks ≡ old.lowerer.tasks → new.workers ≡ old.workers
-    → (S : State) (L : Lowering) → IsComing T old s S L → StandsAt T new (apply (act_seen T L.cells.roots s.act) S) (add_own S (statement_seen T L.cells.roots s) L)
+at-passed : (T : Table) (old new : LoweringProgress) (s : Kept) (first : ℕ) → (new.over ≡ None → ⊥) → IsLaid T old.layout new.layout s.act first → vec_len new.layout.infos ≤ most → Passes T old.lowerer new.lowerer s.act first → new.lowerer.prints ≡ old.lowerer.prints → new.lowerer.tasks ≡ old.lowerer.tasks → new.workers ≡ old.workers
+    → (S : JobState) (L : Lowering) → IsComing T old s S L → StandsAt T new (apply (act_seen T L.cells.roots s.act) S) (add_own S (statement_seen T L.cells.roots s) L)
 at-passed T old new s first past laid few passes prints tasks workers S L c =
     let here = laid_at T old.layout new.layout s.act first L.cells laid c.at.lays c.distinct in
     record {
@@ -150,7 +150,7 @@ at-passed T old new s first past laid few passes prints tasks workers S L c =
     }
 
 -- a statement behind the first with too many tasks
-pub goes-past : (T : Table) (old new : Progress) (s : Kept) (first : ℕ) → (old.over ≡ None → ⊥) → new.over ≡ old.over → IsLaid T old.layout new.layout s.act first → vec_len new.layout.infos ≤ most → Passes T old.lowerer new.lowerer s.act first → new.lowerer.prints ≡ old.lowerer.prints → new.lowerer.tasks ≡ old.lowerer.tasks → new.workers ≡ old.workers
+pub goes-past : (T : Table) (old new : LoweringProgress) (s : Kept) (first : ℕ) → (old.over ≡ None → ⊥) → new.over ≡ old.over → IsLaid T old.layout new.layout s.act first → vec_len new.layout.infos ≤ most → Passes T old.lowerer new.lowerer s.act first → new.lowerer.prints ≡ old.lowerer.prints → new.lowerer.tasks ≡ old.lowerer.tasks → new.workers ≡ old.workers
     → GoesOwn T old new s
 goes-past T old new s first past same laid few passes prints tasks workers = record {
   at = at-passed T old new s first (λ none. past (sym same ∙ none)) laid few passes prints tasks workers;
@@ -158,8 +158,8 @@ goes-past T old new s first past same laid few passes prints tasks workers = rec
 }
 
 -- the first statement with too many tasks
-pub goes-late : (T : Table) (old new : Progress) (s : Kept) (first : ℕ) → old.over ≡ None → new.over ≡ Some s.line → IsLaid T old.layout new.layout s.act first → vec_len new.layout.infos ≤ most → Passes T old.lowerer new.lowerer s.act first → new.lowerer.prints ≡ old.lowerer.prints → new.lowerer.tasks ≡ old.lowerer.tasks → new.workers ≡ old.workers
-    → ((S : State) (L : Lowering) → IsComing T old s S L → most < tasks_in (add_own S (statement_seen T L.cells.roots s) L)) → GoesOwn T old new s
+pub goes-late : (T : Table) (old new : LoweringProgress) (s : Kept) (first : ℕ) → old.over ≡ None → new.over ≡ Some s.line → IsLaid T old.layout new.layout s.act first → vec_len new.layout.infos ≤ most → Passes T old.lowerer new.lowerer s.act first → new.lowerer.prints ≡ old.lowerer.prints → new.lowerer.tasks ≡ old.lowerer.tasks → new.workers ≡ old.workers
+    → ((S : JobState) (L : Lowering) → IsComing T old s S L → most < tasks_in (add_own S (statement_seen T L.cells.roots s) L)) → GoesOwn T old new s
 goes-late T old new s first e n laid few passes prints tasks workers late = record {
   at = at-passed T old new s first past laid few passes prints tasks workers;
   over = λ S L c. n ∙ sym (ap (λ o. over_after o s.line (add_own S (statement_seen T L.cells.roots s) L)) e ∙ over-late s.line (add_own S (statement_seen T L.cells.roots s) L) (late S L c));
@@ -169,9 +169,9 @@ goes-late T old new s first e n laid few passes prints tasks workers late = reco
     past none = absurd (cc (none, n))
 
 -- a statement more
-pub goes-on : (T : Table) (old new : Progress) (s : Kept) (first : ℕ) → old.over ≡ None → new.over ≡ None → Does T old.lowerer new.lowerer s.act first s.line → new.lowerer.prints ≤ vec_len new.lowerer.tasks
+pub goes-on : (T : Table) (old new : LoweringProgress) (s : Kept) (first : ℕ) → old.over ≡ None → new.over ≡ None → Does T old.lowerer new.lowerer s.act first s.line → new.lowerer.prints ≤ vec_len new.lowerer.tasks
     → IsLaid T old.layout new.layout s.act first → vec_len new.layout.infos ≤ most → new.workers ≡ old.workers
-    → ((S : State) (L : Lowering) → IsComing T old s S L → tasks_in (add_own S (statement_seen T L.cells.roots s) L) ≤ most) → GoesOwn T old new s
+    → ((S : JobState) (L : Lowering) → IsComing T old s S L → tasks_in (add_own S (statement_seen T L.cells.roots s) L) ≤ most) → GoesOwn T old new s
 goes-on T old new s first e n does prints laid few workers early = record {
   at = λ S L c.
       let here = laid_at T old.layout new.layout s.act first L.cells laid c.at.lays c.distinct in
@@ -190,19 +190,19 @@ goes-on T old new s first e n does prints laid few workers early = record {
 
 -- ---- a statement's roots have their active plans
 
-active-cells : (T : Table) (g : Progress) (S : State) (L : Lowering) (n : ℕ) (r : Root) → StandsAt T g S L → n < L.cells.roots → root_of S (name_of T (a_root n)) ≡ Some r → HasActive g n
+active-cells : (T : Table) (g : LoweringProgress) (S : JobState) (L : Lowering) (n : ℕ) (r : RootState) → StandsAt T g S L → n < L.cells.roots → root_of S (name_of T (a_root n)) ≡ Some r → HasActive g n
 active-cells T g S L n r at lt e =
     let a = active_at g.lowerer.actives.items n in
     let is = at.actives.each n r lt e in
     let own : is.handle ≡ handle_in T g.layout n = same_Some is.handle (handle_in T g.layout n) (sym is.named ∙ at.lays.handles n lt) in
-    let first : get same_taken g.layout.firsts (taken n r.parts) ≡ Some a.first = sym (ap (λ (h : Handle). h.first r.parts) own) ∙ is.taken in
+    let first : get same_taken g.layout.firsts (plan_taken n r.parts) ≡ Some a.first = sym (ap (λ (h : Handle). h.first r.parts) own) ∙ is.taken in
     let there : a.first + children_count a.tracked.parts ≤ length L.cells.rows = subst (λ (p : Parts). a.first + children_count p ≤ length L.cells.rows) (sym is.tracks.parts) (at.lays.room n r.parts a.first first) in
     record {
       root = omega (arith, lt, at.actives.counted, g.lowerer.actives.ok.0);
       cells = omega (arith, there, g.layout.infos.ok, ap length at.lays.rows);
     }
 
-active-operands : (T : Table) (g : Progress) (S : State) (L : Lowering) (os : List KeptOperand) → StandsAt T g S L → All (λ o. o.root.0 < L.cells.roots) os → AreThere S T os → AllByRecursion (IsActiveOperand g) os
+active-operands : (T : Table) (g : LoweringProgress) (S : JobState) (L : Lowering) (os : List KeptOperand) → StandsAt T g S L → All (λ o. o.root.0 < L.cells.roots) os → AreThere S T os → AllByRecursion (IsActiveOperand g) os
 active-operands T g S L [] at placed there = tt
 active-operands T g S L (o ∷ os) at placed there =
     let t = child_there S (operand_seen T o) there.0 in
@@ -214,7 +214,7 @@ active-operands T g S L (o ∷ os) at placed there =
       active-operands T g S L os at (All-tail (λ (o : KeptOperand). o.root.0 < L.cells.roots) o os placed) there.1,
     )
 
-names-actives : (has : Kernel → Bool) (T : Table) (g : Progress) (S : State) (L : Lowering) (a : KeptAct) → StandsAt T g S L → IsPlaced L.cells.roots a → IsSoundAct has S (act_seen T L.cells.roots a) → NamesActives g a
+names-actives : (has : Kernel → Bool) (T : Table) (g : LoweringProgress) (S : JobState) (L : Lowering) (a : KeptAct) → StandsAt T g S L → IsPlaced L.cells.roots a → IsSoundAct has S (act_seen T L.cells.roots a) → NamesActives g a
 names-actives has T g S L (kept.Register init) at placed sound = tt
 names-actives has T g S L (kept.Plan r p) at placed sound = let there = root_there (root_of S (name_of T r)) sound.rooted in active-cells T g S L r.0 there.0 at placed there.1
 names-actives has T g S L (kept.Redux r by) at placed sound = let there = root_there (root_of S (name_of T r)) sound.1 in active-cells T g S L r.0 there.0 at placed there.1
@@ -226,30 +226,30 @@ names-actives has T g S L (kept.Unregister r) at placed sound = let there = root
 -- ---- a whole statement
 
 -- the line of the last statement is this one
-abbrev pub lasts : Progress → Line → Progress
+abbrev pub lasts : LoweringProgress → Line → LoweringProgress
 lasts g line = record { workers = g.workers; layout = g.layout; lowerer = g.lowerer; over = g.over; last = Some line }
 
-at-last : (T : Table) (g : Progress) (line : Line) (S : State) (L : Lowering) → StandsAt T g S L → StandsAt T (lasts g line) S L
+at-last : (T : Table) (g : LoweringProgress) (line : Line) (S : JobState) (L : Lowering) → StandsAt T g S L → StandsAt T (lasts g line) S L
 at-last T g line S L at = record { lays = at.lays; few_cells = at.few_cells; actives = at.actives; follows = at.follows; few_tasks = at.few_tasks; prints = at.prints; copied = at.copied }
 
-pub last-has : (T : Table) (g : Progress) (s : Kept) → HasComing T g s → HasAt (lasts g s.line)
+pub last-has : (T : Table) (g : LoweringProgress) (s : Kept) → HasComing T g s → HasAt (lasts g s.line)
 last-has T g s h = record { table = T; state = h.state; lowering = h.lowering; at = at-last T g s.line h.state h.lowering h.coming.at }
 
-pub last-names : (T : Table) (g : Progress) (s : Kept) → HasComing T g s → NamesActives (lasts g s.line) s.act
+pub last-names : (T : Table) (g : LoweringProgress) (s : Kept) → HasComing T g s → NamesActives (lasts g s.line) s.act
 last-names T g s h = let c = h.coming in names-actives c.has T (lasts g s.line) h.state h.lowering s.act (at-last T g s.line h.state h.lowering c.at) c.placed c.sound
 
-module _ (T : Table) (old mid : Progress) (s : Kept) (p : Prepares (lasts old s.line) mid s.line (preparing_by old.workers old.lowerer.actives.items s.line s.act)) where
+module _ (T : Table) (old mid : LoweringProgress) (s : Kept) (p : Prepares (lasts old s.line) mid s.line (preparing_by old.workers old.lowerer.actives.items s.line s.act)) where
   -- what is prepared
   abbrev after : Lowering → Lowering
   after L = preparing_by old.workers old.lowerer.actives.items s.line s.act L
 
-  same : (S : State) (L : Lowering) → IsComing T old s S L → prepared old.workers S (statement_seen T L.cells.roots s) L ≡ after L
+  same : (S : JobState) (L : Lowering) → IsComing T old s S L → prepared old.workers S (statement_seen T L.cells.roots s) L ≡ after L
   same S L c = preparing-is c.has T old.lowerer.actives.items S old.workers s.line s.act L c.at.actives c.placed c.sound
 
-  roots : (S : State) (L : Lowering) → IsComing T old s S L → (after L).cells.roots ≡ L.cells.roots
+  roots : (S : JobState) (L : Lowering) → IsComing T old s S L → (after L).cells.roots ≡ L.cells.roots
   roots S L c = ap (λ (M : Lowering). M.cells.roots) (sym (same S L c)) ∙ (prepared-names old.workers S (statement_seen T L.cells.roots s) L).1
 
-  still : (S : State) (L : Lowering) → IsComing T old s S L → IsComing T mid s S (after L)
+  still : (S : JobState) (L : Lowering) → IsComing T old s S L → IsComing T mid s S (after L)
   still S L c =
       let e = sym (roots S L c) in
       record {
@@ -267,13 +267,13 @@ module _ (T : Table) (old mid : Progress) (s : Kept) (p : Prepares (lasts old s.
   still-has h = record { state = h.state; lowering = after h.lowering; coming = still h.state h.lowering h.coming }
 
   -- with the statement's own tasks
-  whole : (S : State) (L : Lowering) → IsComing T old s S L → (P : State → Lowering → Type 0) → P (apply (act_seen T (after L).cells.roots s.act) S) (add_own S (statement_seen T (after L).cells.roots s) (after L)) → P (apply (act_seen T L.cells.roots s.act) S) (lower_one old.workers S (statement_seen T L.cells.roots s) L)
+  whole : (S : JobState) (L : Lowering) → IsComing T old s S L → (P : JobState → Lowering → Type 0) → P (apply (act_seen T (after L).cells.roots s.act) S) (add_own S (statement_seen T (after L).cells.roots s) (after L)) → P (apply (act_seen T L.cells.roots s.act) S) (lower_one old.workers S (statement_seen T L.cells.roots s) L)
   whole S L c P h =
       let n = L.cells.roots in
       subst (λ (M : Lowering). P (apply (act_seen T n s.act) S) (add_own S (statement_seen T n s) M)) (sym (same S L c))
       (subst (λ (k : ℕ). P (apply (act_seen T k s.act) S) (add_own S (statement_seen T k s) (after L))) (roots S L c) h)
 
-  pub goes-whole : (new : Progress) → GoesOwn T mid new s → Goes T old new s
+  pub goes-whole : (new : LoweringProgress) → GoesOwn T mid new s → Goes T old new s
   goes-whole new g = record {
     at = λ S L c. whole S L c (StandsAt T new) (g.at S (after L) (still S L c));
     over = λ S L c. whole S L c (λ _ M. new.over ≡ over_after old.over s.line M)
@@ -282,10 +282,10 @@ module _ (T : Table) (old mid : Progress) (s : Kept) (p : Prepares (lasts old s.
         ∙ over-again old.over s.line (after L) (own S L) (more S L));
   }
     where
-      own : State → Lowering → Lowering
+      own : JobState → Lowering → Lowering
       own S L = add_own S (statement_seen T (after L).cells.roots s) (after L)
 
-      more : (S : State) (L : Lowering) → tasks_in (after L) ≤ tasks_in (own S L)
+      more : (S : JobState) (L : Lowering) → tasks_in (after L) ≤ tasks_in (own S L)
       more S L =
           let a = act_seen T (after L).cells.roots s.act in
           omega (arith, length-append (after L).tasks (rows_added S (cells_after a (after L).cells) s.line a))
@@ -297,7 +297,7 @@ module _ (T : Table) (old mid : Progress) (s : Kept) (p : Prepares (lasts old s.
   full-own (TooManyCells line) f = (f.0, λ S L c. whole S L c (λ _ M. most < cells_in M) (f.1 S (after L) (still S L c)))
 
 -- there are too many cells with the partial copies that a statement needs
-pub full-before : (T : Table) (old : Progress) (s : Kept) (e : LowerRefusal) → IsFullBy (lasts old s.line) s.line (preparing_by old.workers old.lowerer.actives.items s.line s.act) e → IsFull T old s e
+pub full-before : (T : Table) (old : LoweringProgress) (s : Kept) (e : LowerRefusal) → IsFullBy (lasts old s.line) s.line (preparing_by old.workers old.lowerer.actives.items s.line s.act) e → IsFull T old s e
 full-before T old s OutOfMemory f = tt
 full-before T old s (TooManyTasks line) f = f
 full-before T old s (TooManyCells line) f = (

@@ -28,7 +28,7 @@ use Rattle.sj_plan.proofs.Lists.{each-map}
 use Rattle.sj_meaning.specs.Statement.{Operand, TaskLine}
 use Rattle.sj_meaning.specs.Act.{Statement}
 use Rattle.sj_meaning.specs.Act.{Task as Tasks}
-use Rattle.sj_meaning.specs.State.{State, Root, root_of, is_valued_child}
+use Rattle.sj_meaning.specs.State.{JobState, RootState, root_of, is_valued_child}
 use Rattle.sj_meaning.specs.Meaning.{Printed, contributed_to, run_task}
 use Rattle.sj_meaning.specs.Sound.{needs_value}
 use Rattle.sj_meaning.specs.Sound.{IsSoundTask, has_child, has_child_values}
@@ -66,8 +66,8 @@ none-init : (by : Reduction) (line : Line) (c : Cell) → kernel_of (init_row by
 none-init Plus line c e = absurd (cc)
 none-init Least line c e = absurd (cc)
 
-module _ (has : Kernel → Bool) (T : Table) (p : Program) (L : Lowering) (S : State) (line : Line) (t : TaskLine (List ℕ)) (out : List Printed) (can : CanBe has S (Tasks t)) (con : Contributes S t (kernel_there has S t can.sound).call.kernel)
-    (root : Root) (is_root : root_of S con.last.name ≡ Some root) (own : IsChildOf L.cells S con.last.name con.last.place (cell_of L.cells con.last.name root.parts con.last.place) root) (shut : AllByRecursion (IsClosed L.phase S L.cells) con.before) (fine : IsFine T p L S out) (b : Begins p L) where
+module _ (has : Kernel → Bool) (T : Table) (p : Program) (L : Lowering) (S : JobState) (line : Line) (t : TaskLine (List ℕ)) (out : List Printed) (can : CanBe has S (Tasks t)) (con : Contributes S t (kernel_there has S t can.sound).call.kernel)
+    (root : RootState) (is_root : root_of S con.last.name ≡ Some root) (own : IsChildOf L.cells S con.last.name con.last.place (cell_of L.cells con.last.name root.parts con.last.place) root) (shut : AllByRecursion (IsClosed L.phase S L.cells) con.before) (fine : IsFine T p L S out) (b : Begins p L) where
   abbrev u : Operand (List ℕ)
   u = con.last
 

@@ -35,13 +35,13 @@ use Rattle.std.specs.Option.{is_some}
 use Rattle.std.proofs.lemmas.Option.{same_Some}
 use Rattle.sj_plan.specs.declared.parts.Parts.{Parts}
 use Rattle.sj_plan.specs.Parts.{IsPlace}
-use Rattle.sj_plan.specs.Paste.{same_place}
-use Rattle.sj_plan.specs.Rect.{dims_of as rect_dims}
+use Rattle.sj_plan.specs.Paste.{same_child_place}
+use Rattle.sj_plan.specs.Rect.{rect_dims}
 use Rattle.sj_plan.specs.Window.{IsWhole}
-use Rattle.sj_plan.proofs.Repartitioning.{same_place-law, same_place-refl}
+use Rattle.sj_plan.proofs.Repartitioning.{same_child_place-law, same_child_place-refl}
 use Rattle.sj_meaning.specs.Statement.{Operand, TaskLine}
 use Rattle.sj_meaning.specs.Act.{Task as Tasks}
-use Rattle.sj_meaning.specs.State.{Root, State, root_of, child_rect, is_child, is_valued_child}
+use Rattle.sj_meaning.specs.State.{RootState, JobState, root_of, child_rect, is_child, is_valued_child}
 use Rattle.sj_meaning.specs.Meaning.{child_array, contributed_to, seen_by, operand_array, written_of, with_child, put, put_all, run_task, integers_of}
 use Rattle.sj_meaning.specs.Sound.{needs_value, clashes, is_aliased}
 use Rattle.sj_meaning.specs.Sound.{IsSoundTask, has_child, has_child_values, child_dims}
@@ -65,7 +65,7 @@ use Rattle.sj_codelet.proofs.NewArrays.{AreWhole}
 
 -- ---- what the task line leaves
 
-module _ (has : Kernel → Bool) (S : State) (t : TaskLine (List ℕ)) (s : IsSoundTask has S t) (con : Contributes S t (kernel_there has S t s).call.kernel) where
+module _ (has : Kernel → Bool) (S : JobState) (t : TaskLine (List ℕ)) (s : IsSoundTask has S t) (con : Contributes S t (kernel_there has S t s).call.kernel) where
   abbrev pub o : Operand (List ℕ)
   o = con.last
 
@@ -118,8 +118,8 @@ read_direct u h = ap not h.0
 
 -- ---- the task as a whole
 
-module _ (has : Kernel → Bool) (p : Program) (L M : Lowering) (S : State) (g : Agrees p L S) (t : TaskLine (List ℕ)) (line : Line) (s : IsSoundTask has S t) (con : Contributes S t (kernel_there has S t s).call.kernel)
-    (c : Cell) (root : Root) (own : IsChildOf L.cells S con.last.name con.last.place c root) (op : IsOpened p L M c con.by (contributed_to root con.last.place)) (shut : AllByRecursion (IsClosed L.phase S L.cells) con.before)
+module _ (has : Kernel → Bool) (p : Program) (L M : Lowering) (S : JobState) (g : Agrees p L S) (t : TaskLine (List ℕ)) (line : Line) (s : IsSoundTask has S t) (con : Contributes S t (kernel_there has S t s).call.kernel)
+    (c : Cell) (root : RootState) (own : IsChildOf L.cells S con.last.name con.last.place c root) (op : IsOpened p L M c con.by (contributed_to root con.last.place)) (shut : AllByRecursion (IsClosed L.phase S L.cells) con.before)
     (begins : Begins p (add_own S (record { line = line; act = Tasks t }) M)) where
   abbrev u : Operand (List ℕ)
   u = con.last
@@ -187,7 +187,7 @@ module _ (has : Kernel → Bool) (p : Program) (L M : Lowering) (S : State) (g :
   contributes = ap (contributes_of (kernel_there has S t s).call.kernel) op.of ∙ con.contributes
 
   -- a child other than that of the contribution
-  child_apart : (q : List ℕ) (r : Root) (place : ℕ × ℕ) → root_of S q ≡ Some r → IsPlace r.parts place → ((q ≡ u.name) → (place ≡ u.place) → ⊥) → same_cell c (cell_of M.cells q r.parts place) ≡ false
+  child_apart : (q : List ℕ) (r : RootState) (place : ℕ × ℕ) → root_of S q ≡ Some r → IsPlace r.parts place → ((q ≡ u.name) → (place ≡ u.place) → ⊥) → same_cell c (cell_of M.cells q r.parts place) ≡ false
   child_apart q r place e inside other =
       let h = g.roots q r e in
       differs c (cell_of M.cells q r.parts place) (λ same.
@@ -195,13 +195,13 @@ module _ (has : Kernel → Bool) (p : Program) (L M : Lowering) (S : State) (g :
       other (sym one.0) (sym one.2))
 
   -- a child's cell is none of the partial copies
-  child_beside : (q : List ℕ) (r : Root) (place : ℕ × ℕ) → root_of S q ≡ Some r → IsPlace r.parts place → (e : Cell) (f : OpenPhase) → M.phase e ≡ Some f → (w : ℕ) → w < p.workers → same_cell (cell_of M.cells q r.parts place) (copy_at f.copies w) ≡ false
+  child_beside : (q : List ℕ) (r : RootState) (place : ℕ × ℕ) → root_of S q ≡ Some r → IsPlace r.parts place → (e : Cell) (f : OpenPhase) → M.phase e ≡ Some f → (w : ℕ) → w < p.workers → same_cell (cell_of M.cells q r.parts place) (copy_at f.copies w) ≡ false
   child_beside q r place e inside d f is w below = not_copy p.workers M.cells M.phase q r.dims r.parts (g.roots q r e).first place d f w op.theirs (taken q r.dims r.parts (g.roots q r e).first (g.roots q r e).taken) inside is below
 
   turned : (x y : Cell) → same_cell x y ≡ false → same_cell y x ≡ false
   turned x y e = differs y x (λ same. false≢true (sym e ∙ ap (same_cell x) same ∙ same_cell-itself x))
 
-  child_kept : IsTrusted p → (q : List ℕ) (r : Root) (place : ℕ × ℕ) → root_of S q ≡ Some r → IsPlace r.parts place → ((q ≡ u.name) → (place ≡ u.place) → ⊥) → held_in p mid (cell_of M.cells q r.parts place) ≡ held_in p k (cell_of M.cells q r.parts place)
+  child_kept : IsTrusted p → (q : List ℕ) (r : RootState) (place : ℕ × ℕ) → root_of S q ≡ Some r → IsPlace r.parts place → ((q ≡ u.name) → (place ≡ u.place) → ⊥) → held_in p mid (cell_of M.cells q r.parts place) ≡ held_in p k (cell_of M.cells q r.parts place)
   child_kept trust q r place e inside other =
       op.kept (cell_of M.cells q r.parts place) (child_apart q r place e inside other) (λ w below. turned (cell_of M.cells q r.parts place) (copy_at op.f.copies w) (child_beside q r place e inside c op.f op.is w below))
 
@@ -216,7 +216,7 @@ module _ (has : Kernel → Bool) (p : Program) (L M : Lowering) (S : State) (g :
       ∙ by_mode p mid v.mode (cell_of M.cells v.name h.root.parts v.place) h.root v.place (read_direct v reads)
       (cell-dims p M.cells v.name h.root.dims h.root.parts r.first v.place begins.cells op.laid (taken v.name h.root.dims h.root.parts r.first r.taken) h.placed)
       (λ needs.
-      child_kept trust v.name h.root v.place h.is_root h.placed (λ en ep. false≢true (sym apart ∙ clash v.mode u.mode (bytes_eq v.name u.name) (same_place v.place u.place) con.redux (ap (bytes_eq v.name) (sym en) ∙ bytes_eq-itself v.name) (ap (same_place v.place) (sym ep) ∙ same_place-refl v.place)))
+      child_kept trust v.name h.root v.place h.is_root h.placed (λ en ep. false≢true (sym apart ∙ clash v.mode u.mode (bytes_eq v.name u.name) (same_child_place v.place u.place) con.redux (ap (bytes_eq v.name) (sym en) ∙ bytes_eq-itself v.name) (ap (same_child_place v.place) (sym ep) ∙ same_child_place-refl v.place)))
       ∙ ap (held_in p k) (sym (moved v.name h.root.parts v.place))
       ∙ sym (denoted-closed p L.phase k (cell_of L.cells v.name h.root.parts v.place) (ap L.phase (sym before) ∙ closed (data_needs v.mode needs)))
       ∙ (r.held v.place h.placed (sym (child_values-are S v h.root h.is_root) ∙ implied (needs_value v.mode) (has_child_values S v) valued needs)).value trust)
@@ -326,7 +326,7 @@ module _ (has : Kernel → Bool) (p : Program) (L M : Lowering) (S : State) (g :
         ∙ sym (news-is has S t s con)
 
     -- another child, and the partial copies of its phase
-    other_kept : (q : List ℕ) (r : Root) (place : ℕ × ℕ) → root_of S q ≡ Some r → IsPlace r.parts place → ((q ≡ u.name) → (place ≡ u.place) → ⊥) → held_in p new (cell_of M.cells q r.parts place) ≡ held_in p k (cell_of M.cells q r.parts place)
+    other_kept : (q : List ℕ) (r : RootState) (place : ℕ × ℕ) → root_of S q ≡ Some r → IsPlace r.parts place → ((q ≡ u.name) → (place ≡ u.place) → ⊥) → held_in p new (cell_of M.cells q r.parts place) ≡ held_in p k (cell_of M.cells q r.parts place)
     other_kept q r place e at other =
         rest_kept (cell_of M.cells q r.parts place) (same_cell-unlike (cell_of M.cells q r.parts place) (copy_at op.f.copies 0) (child_beside q r place e at c op.f op.is 0 trust.staffed))
         ∙ child_kept trust q r place e at other
@@ -347,7 +347,7 @@ module _ (has : Kernel → Bool) (p : Program) (L M : Lowering) (S : State) (g :
   more : length L.tasks ≤ now
   more = omega (arith, op.later, longer)
 
-  abbrev new_root : Root
+  abbrev new_root : RootState
   new_root = with_child u.place (news has S t s con) root
 
   sized_news : (news has S t s con).dims ≡ rect_dims (child_rect root u.place)
@@ -364,19 +364,19 @@ module _ (has : Kernel → Bool) (p : Program) (L M : Lowering) (S : State) (g :
   c-is = own.cell ∙ moved u.name root.parts u.place
 
   -- a child that isn't the contribution's
-  other_held : (q : List ℕ) (r : Root) (place : ℕ × ℕ) → root_of S q ≡ Some r → IsPlace r.parts place → ((q ≡ u.name) → (place ≡ u.place) → ⊥) → is_valued_child r place ≡ true → IsHeld p M.phase now new (cell_of M.cells q r.parts place) (child_array r place)
+  other_held : (q : List ℕ) (r : RootState) (place : ℕ × ℕ) → root_of S q ≡ Some r → IsPlace r.parts place → ((q ≡ u.name) → (place ≡ u.place) → ⊥) → is_valued_child r place ≡ true → IsHeld p M.phase now new (cell_of M.cells q r.parts place) (child_array r place)
   other_held q r place e at other v =
       held-kept p L.phase M.phase (length L.tasks) now k new (cell_of M.cells q r.parts place) (child_array r place) more (op.others (cell_of M.cells q r.parts place) (child_apart q r place e at other))
       (λ trust. other_kept trust q r place e at other) (λ trust f is w below. copies_kept trust (cell_of M.cells q r.parts place) f (child_apart q r place e at other) is w below)
       (subst (λ (d : Cell). IsHeld p L.phase (length L.tasks) k d (child_array r place)) (moved q r.parts place) ((g.roots q r e).held place at v))
 
-  other_phase : (q : List ℕ) (r : Root) (place : ℕ × ℕ) → root_of S q ≡ Some r → IsPlace r.parts place → ((q ≡ u.name) → (place ≡ u.place) → ⊥) → M.phase (cell_of M.cells q r.parts place) ≡ L.phase (cell_of L.cells q r.parts place)
+  other_phase : (q : List ℕ) (r : RootState) (place : ℕ × ℕ) → root_of S q ≡ Some r → IsPlace r.parts place → ((q ≡ u.name) → (place ≡ u.place) → ⊥) → M.phase (cell_of M.cells q r.parts place) ≡ L.phase (cell_of L.cells q r.parts place)
   other_phase q r place e at other = op.others (cell_of M.cells q r.parts place) (child_apart q r place e at other) ∙ ap L.phase (sym (moved q r.parts place))
 
-  unlike_place : (x y : ℕ × ℕ) → same_place x y ≡ false → y ≡ x → ⊥
-  unlike_place x y e same = false≢true (sym e ∙ ap (same_place x) same ∙ same_place-refl x)
+  unlike_place : (x y : ℕ × ℕ) → same_child_place x y ≡ false → y ≡ x → ⊥
+  unlike_place x y e same = false≢true (sym e ∙ ap (same_child_place x) same ∙ same_child_place-refl x)
 
-  stays : (place : ℕ × ℕ) → IsPlace root.parts place → same_place u.place place ≡ false → is_valued_child new_root place ≡ is_valued_child root place
+  stays : (place : ℕ × ℕ) → IsPlace root.parts place → same_child_place u.place place ≡ false → is_valued_child new_root place ≡ is_valued_child root place
   stays place at other = ap (λ es. is_child root.parts place && list_all (λ (e : Option ℤ). is_some e) es) (written-other root u.place place (news has S t s con) own.placed at (λ same. unlike_place u.place place other (sym same)))
 
   own_root : HasRoot p M.cells M.phase now new u.name new_root
@@ -385,14 +385,14 @@ module _ (has : Kernel → Bool) (p : Program) (L M : Lowering) (S : State) (g :
     whole = written-whole root u.place (news has S t s con);
     first = b.first;
     taken = taken u.name root.dims root.parts b.first b.taken;
-    held = λ place at v. by_place place at v (same_place u.place place) refl;
-    blank = λ place at v. by_blank place at v (same_place u.place place) refl;
-    reduced = λ place f at e. by_reduced place f at e (same_place u.place place) refl;
+    held = λ place at v. by_place place at v (same_child_place u.place place) refl;
+    blank = λ place at v. by_blank place at v (same_child_place u.place place) refl;
+    reduced = λ place f at e. by_reduced place f at e (same_child_place u.place place) refl;
   }
     where
-      by_place : (place : ℕ × ℕ) → IsPlace root.parts place → is_valued_child new_root place ≡ true → (x : Bool) → same_place u.place place ≡ x → IsHeld p M.phase now new (cell_of M.cells u.name root.parts place) (child_array new_root place)
+      by_place : (place : ℕ × ℕ) → IsPlace root.parts place → is_valued_child new_root place ≡ true → (x : Bool) → same_child_place u.place place ≡ x → IsHeld p M.phase now new (cell_of M.cells u.name root.parts place) (child_array new_root place)
       by_place place at v true e =
-          subst (λ (y : ℕ × ℕ). IsHeld p M.phase now new (cell_of M.cells u.name root.parts y) (child_array new_root y)) (same_place-law u.place place e)
+          subst (λ (y : ℕ × ℕ). IsHeld p M.phase now new (cell_of M.cells u.name root.parts y) (child_array new_root y)) (same_child_place-law u.place place e)
           (subst (λ (d : Cell). IsHeld p M.phase now new d (child_array new_root u.place)) c-is
           (subst (λ (z : Array). IsHeld p M.phase now new c z) (sym (written-array root u.place (news has S t s con) own.placed sized_news (news-whole has S t s con))) own_held))
       by_place place at v false e =
@@ -400,18 +400,18 @@ module _ (has : Kernel → Bool) (p : Program) (L M : Lowering) (S : State) (g :
           (ap (λ es. record { dims = rect_dims (child_rect root place); elements = integers_of es }) (sym (written-other root u.place place (news has S t s con) own.placed at (λ same. unlike_place u.place place e (sym same)))))
           (other_held u.name root place own.is_root at (λ en ep. unlike_place u.place place e ep) (sym (stays place at e) ∙ v))
 
-      by_blank : (place : ℕ × ℕ) → IsPlace root.parts place → is_valued_child new_root place ≡ false → (x : Bool) → same_place u.place place ≡ x → M.phase (cell_of M.cells u.name root.parts place) ≡ None
-      by_blank place at v true e = absurd (false≢true (sym v ∙ ap (is_valued_child new_root) (sym (same_place-law u.place place e)) ∙ written-valued root u.place (news has S t s con) own.placed))
+      by_blank : (place : ℕ × ℕ) → IsPlace root.parts place → is_valued_child new_root place ≡ false → (x : Bool) → same_child_place u.place place ≡ x → M.phase (cell_of M.cells u.name root.parts place) ≡ None
+      by_blank place at v true e = absurd (false≢true (sym v ∙ ap (is_valued_child new_root) (sym (same_child_place-law u.place place e)) ∙ written-valued root u.place (news has S t s con) own.placed))
       by_blank place at v false e = other_phase u.name root place own.is_root at (λ en ep. unlike_place u.place place e ep) ∙ b.blank place at (sym (stays place at e) ∙ v)
 
-      by_reduced : (place : ℕ × ℕ) (f : OpenPhase) → IsPlace root.parts place → M.phase (cell_of M.cells u.name root.parts place) ≡ Some f → (x : Bool) → same_place u.place place ≡ x → root.reduction ≡ Some f.by
+      by_reduced : (place : ℕ × ℕ) (f : OpenPhase) → IsPlace root.parts place → M.phase (cell_of M.cells u.name root.parts place) ≡ Some f → (x : Bool) → same_child_place u.place place ≡ x → root.reduction ≡ Some f.by
       by_reduced place f at is true e =
-          let same : op.f ≡ f = same_Some op.f f (sym op.is ∙ ap M.phase (c-is ∙ ap (cell_of M.cells u.name root.parts) (same_place-law u.place place e)) ∙ is) in
+          let same : op.f ≡ f = same_Some op.f f (sym op.is ∙ ap M.phase (c-is ∙ ap (cell_of M.cells u.name root.parts) (same_child_place-law u.place place e)) ∙ is) in
           sym (reduction-is S u.name root own.is_root) ∙ con.reduction ∙ ap (λ y. Some y) (sym op.of) ∙ ap (λ (h : OpenPhase). Some h.by) same
       by_reduced place f at is false e = b.reduced place f at (sym (other_phase u.name root place own.is_root at (λ en ep. unlike_place u.place place e ep)) ∙ is)
 
   -- another name's root
-  other_root : (q : List ℕ) (r : Root) → root_of S q ≡ Some r → bytes_eq u.name q ≡ false → HasRoot p M.cells M.phase now new q r
+  other_root : (q : List ℕ) (r : RootState) → root_of S q ≡ Some r → bytes_eq u.name q ≡ false → HasRoot p M.cells M.phase now new q r
   other_root q r e other =
       let h = g.roots q r e in
       let no = λ (en : q ≡ u.name). false≢true (sym other ∙ ap (bytes_eq u.name) en ∙ bytes_eq-itself u.name) in
@@ -426,13 +426,13 @@ module _ (has : Kernel → Bool) (p : Program) (L M : Lowering) (S : State) (g :
       }
 
   after_root : (q : List ℕ) → root_of (run_task t S) q ≡ cond (bytes_eq u.name q) (Some new_root) (root_of S q)
-  after_root q = ap (λ (T : State). root_of T q) (runs has S t s con) ∙ root-change (with_child u.place (news has S t s con)) u.name S root q own.is_root
+  after_root q = ap (λ (T : JobState). root_of T q) (runs has S t s con) ∙ root-change (with_child u.place (news has S t s con)) u.name S root q own.is_root
 
   all_roots : HaveRoots p M.cells M.phase now new (run_task t S)
   all_roots q r e = by_test (bytes_eq u.name q) refl (sym (after_root q) ∙ e)
     where
       by_test : (x : Bool) → bytes_eq u.name q ≡ x → cond x (Some new_root) (root_of S q) ≡ Some r → HasRoot p M.cells M.phase now new q r
-      by_test true eb e = subst (λ (y : Root). HasRoot p M.cells M.phase now new q y) (same_Some new_root r e) (subst (λ (y : List ℕ). HasRoot p M.cells M.phase now new y new_root) (same_text u.name q eb) own_root)
+      by_test true eb e = subst (λ (y : RootState). HasRoot p M.cells M.phase now new q y) (same_Some new_root r e) (subst (λ (y : List ℕ). HasRoot p M.cells M.phase now new y new_root) (same_text u.name q eb) own_root)
       by_test false eb e = other_root q r e eb
 
   all_opened : (d : Cell) (f : OpenPhase) → M.phase d ≡ Some f → IsActiveChild M.cells (run_task t S) d

@@ -1,14 +1,14 @@
 -- How many tasks a statement gives.
 use Rattle.std.proofs.Common.{◌≡◌, ℕ, ◌*◌, true, false, not, ◌||◌, cond, List, [], length, map, ap, sym, subst, ◌∙◌, Option, Some, None}
 use Rattle.sj_base.specs.declared.ids.Line.{Line}
-use Rattle.sj_base.specs.declared.ids.Root.{Root as RootNumber}
+use Rattle.sj_base.specs.declared.ids.Root.{Root}
 use Rattle.sj_base.specs.declared.tile.Dims.{Dims}
 use Rattle.sj_plan.specs.declared.parts.Parts.{Parts}
 use Rattle.sj_plan.specs.Parts.{Fits, places}
 use Rattle.sj_plan.specs.Paste.{pastes_of}
 use Rattle.std.proofs.lemmas.List.{length-map}
 use Rattle.sj_meaning.specs.declared.job.Act.TheVariants as kept
-use Rattle.sj_meaning.specs.State.{Root, State, root_of, is_valued}
+use Rattle.sj_meaning.specs.State.{RootState, JobState, root_of, is_valued}
 use Rattle.sj_meaning.specs.Table.{Table, name_of, info_of, undivided}
 use Rattle.sj_job.specs.Track.{all_valued}
 use Rattle.sj_job.proofs.Children.{all_valued-same}
@@ -16,35 +16,35 @@ use Rattle.sj_lower.specs.declared.lowerer.Lowerer.{Lowerer}
 use Rattle.sj_lower.specs.Cells.{Cells, same_parts, cell_of}
 use Rattle.sj_lower.specs.Rows.{paste_row, deliver_row}
 use Rattle.sj_lower.specs.Lowering.{Lowering, deliver_rows, plan_rows, active_cell}
-use Rattle.sj_lower.specs.Seen.{active_at, IsActive, IsNext}
+use Rattle.sj_lower.specs.Seen.{active_at, IsActive, MayComeNext}
 use Rattle.sj_lower.proofs.Agreeing.{plan_rows-are}
 use Rattle.sj_lower.proofs.Places.{length-places}
 use Rattle.sj_lower.proofs.Running.{root_there, valued_there}
 
 -- the root that an act speaks of, with its active plan
-pub record Speaks (T : Table) (l : Lowerer) (r : RootNumber) (S : State) (L : Lowering) : Type 0 where
-  pub root : Root
+pub record Speaks (T : Table) (l : Lowerer) (r : Root) (S : JobState) (L : Lowering) : Type 0 where
+  pub root : RootState
   pub there : root_of S (name_of T r) ≡ Some root
   pub active : IsActive T L.cells r.0 (active_at l.actives.items r.0) root
 
-pub speaks-print : (T : Table) (l : Lowerer) (r : RootNumber) (S : State) (L : Lowering) → IsNext T l (kept.Print r) S L → Speaks T l r S L
+pub speaks-print : (T : Table) (l : Lowerer) (r : Root) (S : JobState) (L : Lowering) → MayComeNext T l (kept.Print r) S L → Speaks T l r S L
 speaks-print T l r S L next =
     let x = valued_there (root_of S (name_of T r)) next.sound in
     record { root = x.0; there = x.1; active = next.follows.actives.each r.0 x.0 next.placed x.1 }
 
-pub speaks-plan : (T : Table) (l : Lowerer) (r : RootNumber) (p : Parts) (S : State) (L : Lowering) → IsNext T l (kept.Plan r p) S L → Speaks T l r S L
+pub speaks-plan : (T : Table) (l : Lowerer) (r : Root) (p : Parts) (S : JobState) (L : Lowering) → MayComeNext T l (kept.Plan r p) S L → Speaks T l r S L
 speaks-plan T l r p S L next =
     let x = root_there (root_of S (name_of T r)) next.sound.rooted in
     record { root = x.0; there = x.1; active = next.follows.actives.each r.0 x.0 next.placed x.1 }
 
 -- ---- print statements
 
-deliver_count : (S : State) (C : Cells) (name : List ℕ) (line : Line) (r : Root) → root_of S name ≡ Some r → length (deliver_rows S C name line) ≡ r.parts.r * r.parts.c
+deliver_count : (S : JobState) (C : Cells) (name : List ℕ) (line : Line) (r : RootState) → root_of S name ≡ Some r → length (deliver_rows S C name line) ≡ r.parts.r * r.parts.c
 deliver_count S C name line r e =
-    ap (λ (o : Option Root). length (map (λ place. deliver_row (active_cell S C name place) line) (places (elim o as (λ _. Parts) [ None ↦ undivided | Some r ↦ r.parts ])))) e
+    ap (λ (o : Option RootState). length (map (λ place. deliver_row (active_cell S C name place) line) (places (elim o as (λ _. Parts) [ None ↦ undivided | Some r ↦ r.parts ])))) e
     ∙ length-places (λ place. deliver_row (active_cell S C name place) line) r.parts
 
-pub count-print : (T : Table) (l : Lowerer) (r : RootNumber) (S : State) (L : Lowering) (C : Cells) (line : Line) → IsNext T l (kept.Print r) S L → let p = (active_at l.actives.items r.0).tracked.parts in p.r * p.c ≡ length (deliver_rows S C (name_of T r) line)
+pub count-print : (T : Table) (l : Lowerer) (r : Root) (S : JobState) (L : Lowering) (C : Cells) (line : Line) → MayComeNext T l (kept.Print r) S L → let p = (active_at l.actives.items r.0).tracked.parts in p.r * p.c ≡ length (deliver_rows S C (name_of T r) line)
 count-print T l r S L C line next =
     let x = speaks-print T l r S L next in
     ap (λ (p : Parts). p.r * p.c) x.active.tracks.parts ∙ sym (deliver_count S C (name_of T r) line x.root x.there)
@@ -52,17 +52,17 @@ count-print T l r S L C line next =
 -- ---- plan lines
 
 -- whether a plan line gives no task
-pub idle-same : (T : Table) (l : Lowerer) (r : RootNumber) (p : Parts) (S : State) (L : Lowering) (x : Speaks T l r S L) → let t = (active_at l.actives.items r.0).tracked in (same_parts t.parts p || not (all_valued t)) ≡ (same_parts x.root.parts p || not (is_valued x.root))
+pub idle-same : (T : Table) (l : Lowerer) (r : Root) (p : Parts) (S : JobState) (L : Lowering) (x : Speaks T l r S L) → let t = (active_at l.actives.items r.0).tracked in (same_parts t.parts p || not (all_valued t)) ≡ (same_parts x.root.parts p || not (is_valued x.root))
 idle-same T l r p S L x =
     let t = (active_at l.actives.items r.0).tracked in
     λ i. same_parts (x.active.tracks.parts i) p || not (all_valued-same t x.root x.active.tracks i)
 
-pub count-idle : (T : Table) (l : Lowerer) (r : RootNumber) (p : Parts) (S : State) (L : Lowering) (C : Cells) (line : Line) → IsNext T l (kept.Plan r p) S L → (let t = (active_at l.actives.items r.0).tracked in (same_parts t.parts p || not (all_valued t)) ≡ true) → 0 ≡ length (plan_rows S C (name_of T r) p line)
+pub count-idle : (T : Table) (l : Lowerer) (r : Root) (p : Parts) (S : JobState) (L : Lowering) (C : Cells) (line : Line) → MayComeNext T l (kept.Plan r p) S L → (let t = (active_at l.actives.items r.0).tracked in (same_parts t.parts p || not (all_valued t)) ≡ true) → 0 ≡ length (plan_rows S C (name_of T r) p line)
 count-idle T l r p S L C line next idle =
     let x = speaks-plan T l r p S L next in
     sym (ap length (plan_rows-are S C (name_of T r) p line x.root x.there ∙ ap (λ b. cond b [] (map (paste_row (cell_of C (name_of T r) x.root.parts) (cell_of C (name_of T r) p) line) (pastes_of x.root.dims x.root.parts p))) (sym (idle-same T l r p S L x) ∙ idle)))
 
-pub count-pastes : (T : Table) (l : Lowerer) (r : RootNumber) (p : Parts) (S : State) (L : Lowering) (C : Cells) (line : Line) → IsNext T l (kept.Plan r p) S L → (let t = (active_at l.actives.items r.0).tracked in (same_parts t.parts p || not (all_valued t)) ≡ false)
+pub count-pastes : (T : Table) (l : Lowerer) (r : Root) (p : Parts) (S : JobState) (L : Lowering) (C : Cells) (line : Line) → MayComeNext T l (kept.Plan r p) S L → (let t = (active_at l.actives.items r.0).tracked in (same_parts t.parts p || not (all_valued t)) ≡ false)
     → length (pastes_of (info_of T r).dims (active_at l.actives.items r.0).tracked.parts p) ≡ length (plan_rows S C (name_of T r) p line)
 count-pastes T l r p S L C line next busy =
     let x = speaks-plan T l r p S L next in
@@ -72,13 +72,13 @@ count-pastes T l r p S L C line next busy =
     ∙ sym (ap length (plan_rows-are S C (name_of T r) p line x.root x.there ∙ ap (λ b. cond b [] (map row (pastes_of x.root.dims x.root.parts p))) (sym (idle-same T l r p S L x) ∙ busy)))
 
 -- both plans cut the root
-root_dims : (S : State) (name : List ℕ) (r : Root) → root_of S name ≡ Some r → (elim (root_of S name) as (λ _. Dims) [ None ↦ record { rows = 0; cols = 0 } | Some r ↦ r.dims ]) ≡ r.dims
-root_dims S name r e = ap (λ (o : Option Root). elim o as (λ _. Dims) [ None ↦ record { rows = 0; cols = 0 } | Some r ↦ r.dims ]) e
+root_dims : (S : JobState) (name : List ℕ) (r : RootState) → root_of S name ≡ Some r → (elim (root_of S name) as (λ _. Dims) [ None ↦ record { rows = 0; cols = 0 } | Some r ↦ r.dims ]) ≡ r.dims
+root_dims S name r e = ap (λ (o : Option RootState). elim o as (λ _. Dims) [ None ↦ record { rows = 0; cols = 0 } | Some r ↦ r.dims ]) e
 
-pub fits-active : (T : Table) (l : Lowerer) (r : RootNumber) (S : State) (L : Lowering) → Speaks T l r S L → Fits (active_at l.actives.items r.0).tracked.parts (info_of T r).dims
+pub fits-active : (T : Table) (l : Lowerer) (r : Root) (S : JobState) (L : Lowering) → Speaks T l r S L → Fits (active_at l.actives.items r.0).tracked.parts (info_of T r).dims
 fits-active T l r S L x = subst (λ (d : Dims). Fits (active_at l.actives.items r.0).tracked.parts d) x.active.dims (subst (λ (p : Parts). Fits p x.root.dims) (sym x.active.tracks.parts) x.active.tracks.fits)
 
-pub fits-new : (T : Table) (l : Lowerer) (r : RootNumber) (p : Parts) (S : State) (L : Lowering) → IsNext T l (kept.Plan r p) S L → Fits p (info_of T r).dims
+pub fits-new : (T : Table) (l : Lowerer) (r : Root) (p : Parts) (S : JobState) (L : Lowering) → MayComeNext T l (kept.Plan r p) S L → Fits p (info_of T r).dims
 fits-new T l r p S L next =
     let x = speaks-plan T l r p S L next in
     subst (Fits p) (root_dims S (name_of T r) x.root x.there ∙ x.active.dims) next.sound.parts

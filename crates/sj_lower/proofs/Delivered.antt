@@ -11,7 +11,7 @@ use Rattle.std.proofs.lemmas.Option.{slice_get_within}
 use Rattle.std.proofs.lemmas.Simd.{map-map}
 use Rattle.sj_base.specs.declared.ids.Cell.{Cell}
 use Rattle.sj_base.specs.declared.ids.Line.{Line}
-use Rattle.sj_base.specs.declared.ids.Root.{Root as RootNumber}
+use Rattle.sj_base.specs.declared.ids.Root.{Root}
 use Rattle.sj_base.specs.declared.program.Lowered.{Lowered}
 use Rattle.sj_base.specs.declared.program.Delivery.{Delivery}
 use Rattle.sj_base.specs.declared.program.Program.{Program}
@@ -26,15 +26,15 @@ use Rattle.sj_core.specs.Fold.{Contents, given, held_before, held_in}
 use Rattle.sj_plan.specs.declared.parts.Parts.{Parts}
 use Rattle.sj_plan.specs.declared.rect.Rect.{Rect}
 use Rattle.sj_plan.specs.Parts.{IsPlace, places}
-use Rattle.sj_plan.specs.Paste.{same_place}
+use Rattle.sj_plan.specs.Paste.{same_child_place}
 use Rattle.sj_plan.specs.Rect.{child, children_of, Within}
 use Rattle.sj_plan.specs.Window.{window, gathered, IsWhole}
 use Rattle.sj_plan.proofs.Gathering.{tiling-reassembles}
 use Rattle.sj_plan.proofs.Lists.{each-map, each-places, each-of, each-all, filter_all, filter_gone, count_by-map, count_places, ordered-append, pairs-from_ordered, ordered-from_pairs}
 use Rattle.sj_plan.proofs.Tiling.{children_of-tiling}
-use Rattle.sj_plan.proofs.Repartitioning.{child-within, same_place-law, same_place-refl}
-use Rattle.sj_meaning.specs.State.{Root, State, root_of, is_valued}
-use Rattle.sj_meaning.specs.Meaning.{Printed, array_of}
+use Rattle.sj_plan.proofs.Repartitioning.{child-within, same_child_place-law, same_child_place-refl}
+use Rattle.sj_meaning.specs.State.{RootState, JobState, root_of, is_valued}
+use Rattle.sj_meaning.specs.Meaning.{Printed, root_array}
 use Rattle.sj_meaning.specs.Table.{Table, info_of}
 use Rattle.sj_job.specs.Track.{number}
 use Rattle.sj_job.proofs.Children.{number-alone}
@@ -190,49 +190,49 @@ many : (s : Parts) → length (places s) ≡ s.r * s.c
 many s = sym (length-map (places s) (λ q. q)) ∙ length-places (λ q. q) s
 
 -- what holds where the tasks of a print statement stand
-pub record Stands (p : Program) (C : Cells) (phases : Phases) (S : State) (name : List ℕ) (r : Root) (n : ℕ) (line : Line) : Type 0 where
+pub record Stands (p : Program) (C : Cells) (phases : Phases) (S : JobState) (name : List ℕ) (r : RootState) (n : ℕ) (line : Line) : Type 0 where
   pub valued : is_valued r ≡ true
   pub is_root : root_of S name ≡ Some r
   pub has : HasRoot p C phases n (contents_before p n) name r
   pub shut : (place : ℕ × ℕ) → IsPlace r.parts place → phases (cell_of C name r.parts place) ≡ None
   pub stand : Stand p n (each_of (λ place. deliver_row (cell_of C name r.parts place) line) (places r.parts))
 
-child_task : (p : Program) (C : Cells) (phases : Phases) (S : State) (name : List ℕ) (r : Root) (n : ℕ) (line : Line) (place : ℕ × ℕ) → Stands p C phases S name r n line → IsPlace r.parts place → task_of p (task (n + number r.parts place)) ≡ deliver_row (cell_of C name r.parts place) line
+child_task : (p : Program) (C : Cells) (phases : Phases) (S : JobState) (name : List ℕ) (r : RootState) (n : ℕ) (line : Line) (place : ℕ × ℕ) → Stands p C phases S name r n line → IsPlace r.parts place → task_of p (task (n + number r.parts place)) ≡ deliver_row (cell_of C name r.parts place) line
 child_task p C phases S name r n line place t h =
     delivers_there p n (number r.parts place) (cell_of C name r.parts) line (places r.parts) t.stand (omega (arith, number-below r.parts place h, many r.parts))
     ∙ ap (λ q. deliver_row (cell_of C name r.parts q) line) (at_child r.parts place h)
 
 -- a child's task hands over its window
-child_given : (p : Program) (C : Cells) (phases : Phases) (S : State) (name : List ℕ) (r : Root) (n : ℕ) (line : Line) (place : ℕ × ℕ) → IsTrusted p → Stands p C phases S name r n line → IsPlace r.parts place → given p (task (n + number r.parts place)) ≡ window (array_of r) (child r.dims r.parts place)
+child_given : (p : Program) (C : Cells) (phases : Phases) (S : JobState) (name : List ℕ) (r : RootState) (n : ℕ) (line : Line) (place : ℕ × ℕ) → IsTrusted p → Stands p C phases S name r n line → IsPlace r.parts place → given p (task (n + number r.parts place)) ≡ window (root_array r) (child r.dims r.parts place)
 child_given p C phases S name r n line place trust t h =
     given_there p (n + number r.parts place) (cell_of C name r.parts place) line (child_task p C phases S name r n line place t h)
     ∙ ap (λ (k : Contents). held_in p k (cell_of C name r.parts place)) (delivers_keep p n (number r.parts place) (cell_of C name r.parts) line (places r.parts) t.stand (omega (arith, number-below r.parts place h, many r.parts)))
     ∙ sym (denoted-closed p phases (contents_before p n) (cell_of C name r.parts place) (t.shut place h)) ∙ (t.has.held place h (valued-child r place t.has.whole t.valued h)).value trust ∙ child-window r place
 
-abbrev piece_of : Root → ℕ × ℕ → Rect × Array
-piece_of r place = (child r.dims r.parts place, window (array_of r) (child r.dims r.parts place))
+abbrev piece_of : RootState → ℕ × ℕ → Rect × Array
+piece_of r place = (child r.dims r.parts place, window (root_array r) (child r.dims r.parts place))
 
-abbrev IsPiece : Root → Rect × Array → Type 0
-IsPiece r part = part.1 ≡ window (array_of r) part.0
+abbrev IsPiece : RootState → Rect × Array → Type 0
+IsPiece r part = part.1 ≡ window (root_array r) part.0
 
-child_part : (p : Program) (C : Cells) (phases : Phases) (S : State) (name : List ℕ) (r : Root) (n : ℕ) (line : Line) (root : RootNumber) (print : ℕ) (place : ℕ × ℕ) → IsTrusted p → Stands p C phases S name r n line → IsPlace r.parts place → part_of p (a_delivery n root r.dims r.parts print place) ≡ piece_of r place
+child_part : (p : Program) (C : Cells) (phases : Phases) (S : JobState) (name : List ℕ) (r : RootState) (n : ℕ) (line : Line) (root : Root) (print : ℕ) (place : ℕ × ℕ) → IsTrusted p → Stands p C phases S name r n line → IsPlace r.parts place → part_of p (a_delivery n root r.dims r.parts print place) ≡ piece_of r place
 child_part p C phases S name r n line root print place trust t h =
     let c = child r.dims r.parts place in
     let part : Array → Rect × Array = λ a. (record { row = c.row; col = c.col; rows = a.dims.rows; cols = a.dims.cols }, a) in
     ap part (child_given p C phases S name r n line place trust t h)
 
-abbrev pub deliveries_by : Root → ℕ → RootNumber → ℕ → List Delivery
+abbrev pub deliveries_by : RootState → ℕ → Root → ℕ → List Delivery
 deliveries_by r n root print = each_of (a_delivery n root r.dims r.parts print) (places r.parts)
 
-all_places : (P : Delivery → Type 0) (r : Root) (n : ℕ) (root : RootNumber) (print : ℕ) → ((place : ℕ × ℕ) → IsPlace r.parts place → P (a_delivery n root r.dims r.parts print place)) → AllByRecursion P (deliveries_by r n root print)
+all_places : (P : Delivery → Type 0) (r : RootState) (n : ℕ) (root : Root) (print : ℕ) → ((place : ℕ × ℕ) → IsPlace r.parts place → P (a_delivery n root r.dims r.parts print place)) → AllByRecursion P (deliveries_by r n root print)
 all_places P r n root print h = each-map P (a_delivery n root r.dims r.parts print) (places r.parts) (each-places (λ place. P (a_delivery n root r.dims r.parts print place)) r.parts h)
 
-whole_array : (p : Program) (C : Cells) (phases : Phases) (n : ℕ) (k : Contents) (name : List ℕ) (r : Root) → HasRoot p C phases n k name r → IsWhole (array_of r)
+whole_array : (p : Program) (C : Cells) (phases : Phases) (n : ℕ) (k : Contents) (name : List ℕ) (r : RootState) → HasRoot p C phases n k name r → IsWhole (root_array r)
 whole_array p C phases n k name r h = length-map r.elements _ ∙ h.whole
 
 -- the deliveries hand over what the print statement finds
-pub handed : (T : Table) (p : Program) (C : Cells) (phases : Phases) (S : State) (name : List ℕ) (r : Root) (n : ℕ) (line : Line) (root : RootNumber) (print : ℕ) → Stands p C phases S name r n line → printed_as T root ≡ (name, r.kind) → (info_of T root).dims ≡ r.dims
-    → AreHanded T p (deliveries_by r n root print) (record { name = name; kind = r.kind; array = array_of r })
+pub handed : (T : Table) (p : Program) (C : Cells) (phases : Phases) (S : JobState) (name : List ℕ) (r : RootState) (n : ℕ) (line : Line) (root : Root) (print : ℕ) → Stands p C phases S name r n line → printed_as T root ≡ (name, r.kind) → (info_of T root).dims ≡ r.dims
+    → AreHanded T p (deliveries_by r n root print) (record { name = name; kind = r.kind; array = root_array r })
 handed T p C phases S name r n line root print t named dims = record {
   some = let e = length-places (a_delivery n root r.dims r.parts print) r.parts in omega (arith, e, positive_product r.parts.r r.parts.c t.has.fits.some_rows t.has.fits.some_cols);
   named = All-from_recursion (λ (d : Delivery). printed_as T d.root ≡ (name, r.kind)) (deliveries_by r n root print) (all_places (λ (d : Delivery). printed_as T d.root ≡ (name, r.kind)) r n root print (λ place h. named));
@@ -246,9 +246,9 @@ handed T p C phases S name r n line root print t named dims = record {
     pieces trust = map-map (part_of p) (a_delivery n root r.dims r.parts print) (places r.parts)
         ∙ map-same (λ place. part_of p (a_delivery n root r.dims r.parts print place)) (piece_of r) (places r.parts) (each-places (λ place. part_of p (a_delivery n root r.dims r.parts print place) ≡ piece_of r place) r.parts (λ place h. child_part p C phases S name r n line root print place trust t h))
 
-    assembled : (parts : List (Rect × Array)) → IsPermutation (each_of (piece_of r) (places r.parts)) parts → gathered (zeros r.dims) parts ≡ array_of r
+    assembled : (parts : List (Rect × Array)) → IsPermutation (each_of (piece_of r) (places r.parts)) parts → gathered (zeros r.dims) parts ≡ root_array r
     assembled parts order =
-        tiling-reassembles r.dims (children_of r.dims r.parts) (children_of-tiling r.dims r.parts t.has.fits) (array_of r) (zeros r.dims) parts refl (whole_array p C phases n (contents_before p n) name r t.has) refl (length-replicate (area r.dims) (pos 0))
+        tiling-reassembles r.dims (children_of r.dims r.parts) (children_of-tiling r.dims r.parts t.has.fits) (root_array r) (zeros r.dims) parts refl (whole_array p C phases n (contents_before p n) name r t.has) refl (length-replicate (area r.dims) (pos 0))
         (subst (λ (xs : List Rect). IsPermutation xs (each_of (λ (part : Rect × Array). part.0) parts)) (map-map (λ (part : Rect × Array). part.0) (piece_of r) (places r.parts)) (IsPermutation-map (λ (part : Rect × Array). part.0) (each_of (piece_of r) (places r.parts)) parts order))
         (All-permutation (IsPiece r) (each_of (piece_of r) (places r.parts)) parts order (All-from_recursion (IsPiece r) (each_of (piece_of r) (places r.parts)) (each-map (IsPiece r) (piece_of r) (places r.parts) (each-of (λ place. IsPiece r (piece_of r place)) (λ place. refl) (places r.parts)))))
 
@@ -259,23 +259,23 @@ one_task : (s : Parts) (n m : ℕ) → n ≤ m → m < n + s.r * s.c → count_b
 one_task s n m lo hi =
     let q = place_at s (m - n) in
     let inside = place_at-inside s (m - n) (omega arith) in
-    count-same (λ (place : ℕ × ℕ). nat_eq (n + number s place) m) (same_place q) (places s) (each-places (λ place. nat_eq (n + number s place) m ≡ same_place q place) s (λ place h. by_test place h (same_place q place) refl))
+    count-same (λ (place : ℕ × ℕ). nat_eq (n + number s place) m) (same_child_place q) (places s) (each-places (λ place. nat_eq (n + number s place) m ≡ same_child_place q place) s (λ place h. by_test place h (same_child_place q place) refl))
     ∙ count_places s q inside
   where
     here : n + number s (place_at s (m - n)) ≡ m
     here = ap (λ k. n + k) (number-place_at s (m - n)) ∙ omega arith
 
-    by_test : (place : ℕ × ℕ) → IsPlace s place → (b : Bool) → same_place (place_at s (m - n)) place ≡ b → nat_eq (n + number s place) m ≡ b
-    by_test place h true e = eq-eqb (n + number s place) m (ap (λ q. n + number s q) (sym (same_place-law (place_at s (m - n)) place e)) ∙ here)
+    by_test : (place : ℕ × ℕ) → IsPlace s place → (b : Bool) → same_child_place (place_at s (m - n)) place ≡ b → nat_eq (n + number s place) m ≡ b
+    by_test place h true e = eq-eqb (n + number s place) m (ap (λ q. n + number s q) (sym (same_child_place-law (place_at s (m - n)) place e)) ∙ here)
     by_test place h false e = ne_eqb (n + number s place) m (λ same.
         let one : number s place ≡ number s (place_at s (m - n)) = omega (arith, same, here) in
         let is = number-alone s place (place_at s (m - n)) h (place_at-inside s (m - n) (omega arith)) one in
-        false≢true (sym e ∙ ap (same_place (place_at s (m - n))) is ∙ same_place-refl (place_at s (m - n))))
+        false≢true (sym e ∙ ap (same_child_place (place_at s (m - n))) is ∙ same_child_place-refl (place_at s (m - n))))
 
-pub delivered_print : (T : Table) (p : Program) (L M : Lowering) (S : State) (out : List Printed) (line : Line) (name : List ℕ) (r : Root) (root : RootNumber)
+pub delivered_print : (T : Table) (p : Program) (L M : Lowering) (S : JobState) (out : List Printed) (line : Line) (name : List ℕ) (r : RootState) (root : Root)
     → Stands p L.cells L.phase S name r (length L.tasks) line → printed_as T root ≡ (name, r.kind) → (info_of T root).dims ≡ r.dims → root.0 < length T.names
     → M.deliveries ≡ L.deliveries ++ deliveries_by r (length L.tasks) root L.prints → M.prints ≡ L.prints + 1 → length M.tasks ≡ length L.tasks + r.parts.r * r.parts.c
-    → AreDelivered T p L out → AreDelivered T p M (out ++ record { name = name; kind = r.kind; array = array_of r } ∷ [])
+    → AreDelivered T p L out → AreDelivered T p M (out ++ record { name = name; kind = r.kind; array = root_array r } ∷ [])
 delivered_print T p L M S out line name r root t named dims there ed ep et g = record {
   each = λ k y e. subst (λ (ds : List Delivery). AreHanded T p (of_print k ds) y) (sym ed) (each_print k y (slice-push out x y k e));
   counted = ep ∙ ap (λ n. n + 1) g.counted ∙ sym more_out;
@@ -302,7 +302,7 @@ delivered_print T p L M S out line name r root t named dims there ed ep et g = r
     n = length L.tasks
 
     x : Printed
-    x = record { name = name; kind = r.kind; array = array_of r }
+    x = record { name = name; kind = r.kind; array = root_array r }
 
     news : List Delivery
     news = deliveries_by r n root L.prints

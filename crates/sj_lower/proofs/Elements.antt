@@ -21,14 +21,14 @@ use Rattle.sj_codelet.specs.Equations.{loadfill}
 use Rattle.sj_plan.specs.declared.parts.Parts.{Parts}
 use Rattle.sj_plan.specs.declared.rect.Rect.{Rect}
 use Rattle.sj_plan.specs.Parts.{Fits, IsPlace}
-use Rattle.sj_plan.specs.Rect.{child, place_of, dims_of, Within, holds}
+use Rattle.sj_plan.specs.Rect.{child, place_of, rect_dims, Within, holds}
 use Rattle.sj_plan.specs.Window.{window, IsWhole}
 use Rattle.sj_plan.proofs.Splitting.{part_len-positive, lies_alone}
 use Rattle.sj_plan.proofs.Windows.{tabulate, IsWhole-tabulate, element-tabulate, same_arrays, holds-true, holds-false}
 use Rattle.sj_plan.proofs.Repartitioning.{child-within}
 use Rattle.sj_meaning.specs.declared.job.Init.TheVariants.{Fill}
-use Rattle.sj_meaning.specs.State.{Root, is_valued, is_blank, is_child, child_rect, child_elements, is_valued_child}
-use Rattle.sj_meaning.specs.Meaning.{integers_of, array_of, child_array, with_child, first_elements}
+use Rattle.sj_meaning.specs.State.{RootState, is_valued, has_no_value, is_child, child_rect, child_elements, is_valued_child}
+use Rattle.sj_meaning.specs.Meaning.{integers_of, root_array, child_array, with_child, first_elements}
 
 -- ---- tables
 
@@ -67,36 +67,36 @@ integers-read es cols at d =
     ∙ (λ k. table d (λ i j. sym (get_or-map (λ (e : Option ℤ). unwrap_or e (pos 0)) es ((at.0 + i) * cols + (at.1 + j)) None) k))
 
 -- a child's array is the window of the whole array
-pub child-window : (r : Root) (place : ℕ × ℕ) → child_array r place ≡ window (array_of r) (child_rect r place)
+pub child-window : (r : RootState) (place : ℕ × ℕ) → child_array r place ≡ window (root_array r) (child_rect r place)
 child-window r place =
     let rect = child_rect r place in
-    ap (array (dims_of rect)) (integers-read r.elements r.dims.cols (place_of rect) (dims_of rect))
+    ap (array (rect_dims rect)) (integers-read r.elements r.dims.cols (place_of rect) (rect_dims rect))
 
-pub child-whole : (r : Root) (place : ℕ × ℕ) → IsWhole (child_array r place)
+pub child-whole : (r : RootState) (place : ℕ × ℕ) → IsWhole (child_array r place)
 child-whole r place =
     let rect = child_rect r place in
-    ap length (integers-read r.elements r.dims.cols (place_of rect) (dims_of rect)) ∙ length-table (dims_of rect) (λ i j. item (pos 0) r.dims.cols (integers_of r.elements) (rect.row + i) (rect.col + j))
+    ap length (integers-read r.elements r.dims.cols (place_of rect) (rect_dims rect)) ∙ length-table (rect_dims rect) (λ i j. item (pos 0) r.dims.cols (integers_of r.elements) (rect.row + i) (rect.col + j))
 
 -- ---- a child that is written
 
-written_item : (r : Root) (place : ℕ × ℕ) (a : Array) (row col : ℕ) → row < r.dims.rows → col < r.dims.cols
+written_item : (r : RootState) (place : ℕ × ℕ) (a : Array) (row col : ℕ) → row < r.dims.rows → col < r.dims.cols
     → item None r.dims.cols (with_child place a r).elements row col ≡ cond (holds (child_rect r place) row col) (Some (element a (row - (child_rect r place).row) (col - (child_rect r place).col))) (item None r.dims.cols r.elements row col)
 written_item r place a row col hr hc =
     let rect = child_rect r place in
-    item-table None r.dims (λ i j. cond (in_rect (place_of rect) (dims_of rect) i j) (Some (element a (i - rect.row) (j - rect.col))) (item None r.dims.cols r.elements i j)) row col hr hc
+    item-table None r.dims (λ i j. cond (in_rect (place_of rect) (rect_dims rect) i j) (Some (element a (i - rect.row) (j - rect.col))) (item None r.dims.cols r.elements i j)) row col hr hc
 
-pub written-whole : (r : Root) (place : ℕ × ℕ) (a : Array) → length (with_child place a r).elements ≡ area r.dims
+pub written-whole : (r : RootState) (place : ℕ × ℕ) (a : Array) → length (with_child place a r).elements ≡ area r.dims
 written-whole r place a =
     let rect = child_rect r place in
-    length-table r.dims (λ i j. cond (in_rect (place_of rect) (dims_of rect) i j) (Some (element a (i - rect.row) (j - rect.col))) (item None r.dims.cols r.elements i j))
+    length-table r.dims (λ i j. cond (in_rect (place_of rect) (rect_dims rect) i j) (Some (element a (i - rect.row) (j - rect.col))) (item None r.dims.cols r.elements i j))
 
 -- another child has the elements that it had
-pub written-other : (r : Root) (place other : ℕ × ℕ) (a : Array) → IsPlace r.parts place → IsPlace r.parts other → (place ≡ other → ⊥) → child_elements (with_child place a r) other ≡ child_elements r other
+pub written-other : (r : RootState) (place other : ℕ × ℕ) (a : Array) → IsPlace r.parts place → IsPlace r.parts other → (place ≡ other → ⊥) → child_elements (with_child place a r) other ≡ child_elements r other
 written-other r place other a hp ho apart =
     let rect = child_rect r place in
     let there = child_rect r other in
     let inside = child-within r.dims r.parts other ho in
-    table-same None (dims_of there) (λ i j. item None r.dims.cols (with_child place a r).elements (there.row + i) (there.col + j)) (λ i j. item None r.dims.cols r.elements (there.row + i) (there.col + j)) (λ i j hi hj.
+    table-same None (rect_dims there) (λ i j. item None r.dims.cols (with_child place a r).elements (there.row + i) (there.col + j)) (λ i j. item None r.dims.cols r.elements (there.row + i) (there.col + j)) (λ i j hi hj.
     written_item r place a (there.row + i) (there.col + j) (omega (arith, inside.0)) (omega (arith, inside.1))
     ∙ cond-false (holds rect (there.row + i) (there.col + j)) (Some (element a (there.row + i - rect.row) (there.col + j - rect.col))) (item None r.dims.cols r.elements (there.row + i) (there.col + j))
     (holds-false rect (there.row + i) (there.col + j) (λ h. apart (same_pair place other
@@ -104,11 +104,11 @@ written-other r place other a hp ho apart =
     (lies_alone r.dims.cols r.parts.c (there.col + j) place.1 other.1 h.1 (omega arith, omega arith))))))
 
 -- the child itself has the array's
-pub written-same : (r : Root) (place : ℕ × ℕ) (a : Array) → IsPlace r.parts place → child_elements (with_child place a r) place ≡ table (dims_of (child_rect r place)) (λ i j. Some (element a i j))
+pub written-same : (r : RootState) (place : ℕ × ℕ) (a : Array) → IsPlace r.parts place → child_elements (with_child place a r) place ≡ table (rect_dims (child_rect r place)) (λ i j. Some (element a i j))
 written-same r place a hp =
     let rect = child_rect r place in
     let inside = child-within r.dims r.parts place hp in
-    table-same None (dims_of rect) (λ i j. item None r.dims.cols (with_child place a r).elements (rect.row + i) (rect.col + j)) (λ i j. Some (element a i j)) (λ i j hi hj.
+    table-same None (rect_dims rect) (λ i j. item None r.dims.cols (with_child place a r).elements (rect.row + i) (rect.col + j)) (λ i j. Some (element a i j)) (λ i j hi hj.
     written_item r place a (rect.row + i) (rect.col + j) (omega (arith, inside.0)) (omega (arith, inside.1))
     ∙ cond-true (holds rect (rect.row + i) (rect.col + j)) (Some (element a (rect.row + i - rect.row) (rect.col + j - rect.col))) (item None r.dims.cols r.elements (rect.row + i) (rect.col + j))
     (holds-true rect (rect.row + i) (rect.col + j) ((omega arith, omega arith), (omega arith, omega arith)))
@@ -117,12 +117,12 @@ written-same r place a hp =
     back : (m i : ℕ) → m + i - m ≡ i
     back m i = omega arith
 
-pub written-array : (r : Root) (place : ℕ × ℕ) (a : Array) → IsPlace r.parts place → a.dims ≡ dims_of (child_rect r place) → IsWhole a → child_array (with_child place a r) place ≡ a
+pub written-array : (r : RootState) (place : ℕ × ℕ) (a : Array) → IsPlace r.parts place → a.dims ≡ rect_dims (child_rect r place) → IsWhole a → child_array (with_child place a r) place ≡ a
 written-array r place a hp dims whole =
     let rect = child_rect r place in
-    ap (λ es. array (dims_of rect) (integers_of es)) (written-same r place a hp)
-    ∙ ap (array (dims_of rect)) (map-table (λ e. unwrap_or e (pos 0)) (dims_of rect) (λ i j. Some (element a i j)))
-    ∙ same_arrays (tabulate (dims_of rect) (element a)) a (sym dims) (IsWhole-tabulate (dims_of rect) (element a)) whole (λ i j hi hj. element-tabulate (dims_of rect) (element a) i j hi hj)
+    ap (λ es. array (rect_dims rect) (integers_of es)) (written-same r place a hp)
+    ∙ ap (array (rect_dims rect)) (map-table (λ e. unwrap_or e (pos 0)) (rect_dims rect) (λ i j. Some (element a i j)))
+    ∙ same_arrays (tabulate (rect_dims rect) (element a)) a (sym dims) (IsWhole-tabulate (rect_dims rect) (element a)) whole (λ i j hi hj. element-tabulate (rect_dims rect) (element a) i j hi hj)
 
 -- ---- children with values
 
@@ -130,12 +130,12 @@ is_child-from : (p : Parts) (place : ℕ × ℕ) → IsPlace p place → is_chil
 is_child-from p place h = grind (arith, nat_tests, h.0, h.1)
 
 -- where all elements have a value, each child has
-pub valued-child : (r : Root) (place : ℕ × ℕ) → length r.elements ≡ area r.dims → is_valued r ≡ true → IsPlace r.parts place → is_valued_child r place ≡ true
+pub valued-child : (r : RootState) (place : ℕ × ℕ) → length r.elements ≡ area r.dims → is_valued r ≡ true → IsPlace r.parts place → is_valued_child r place ≡ true
 valued-child r place whole all h =
     let rect = child_rect r place in
     let inside = child-within r.dims r.parts place h in
     and_from (is_child r.parts place) (list_all (λ (e : Option ℤ). is_some e) (child_elements r place)) (is_child-from r.parts place h)
-    (all-table (λ (e : Option ℤ). is_some e) (dims_of rect) (λ i j. item None r.dims.cols r.elements (rect.row + i) (rect.col + j)) (λ i j hi hj.
+    (all-table (λ (e : Option ℤ). is_some e) (rect_dims rect) (λ i j. item None r.dims.cols r.elements (rect.row + i) (rect.col + j)) (λ i j hi hj.
     all-at (λ (e : Option ℤ). is_some e) r.elements ((rect.row + i) * r.dims.cols + (rect.col + j)) None all (omega (arith, whole, item_inside r.dims (rect.row + i) (rect.col + j) (omega (arith, inside.0)) (omega (arith, inside.1))))))
 
 not_both : (o : Option ℤ) → is_some o ≡ true → is_none o ≡ true → ⊥
@@ -143,7 +143,7 @@ not_both None e f = false≢true e
 not_both (Some x) e f = false≢true f
 
 -- where no element has a value, no child has
-pub blank-child : (r : Root) (place : ℕ × ℕ) → length r.elements ≡ area r.dims → is_blank r ≡ true → Fits r.parts r.dims → IsPlace r.parts place → is_valued_child r place ≡ true → ⊥
+pub blank-child : (r : RootState) (place : ℕ × ℕ) → length r.elements ≡ area r.dims → has_no_value r ≡ true → Fits r.parts r.dims → IsPlace r.parts place → is_valued_child r place ≡ true → ⊥
 blank-child r place whole blank fits h v =
     let rect = child_rect r place in
     let inside = child-within r.dims r.parts place h in
@@ -151,9 +151,9 @@ blank-child r place whole blank fits h v =
     let cols = child-cols r.dims r.parts place fits in
     let f = λ (i j : ℕ). item None r.dims.cols r.elements (rect.row + i) (rect.col + j) in
     let parts = and_parts (is_child r.parts place) (list_all (λ (e : Option ℤ). is_some e) (child_elements r place)) v in
-    let here : list_all (λ (e : Option ℤ). is_some e) (table (dims_of rect) f) ≡ true = parts.1 in
-    let first : 0 * rect.cols + 0 < length (table (dims_of rect) f) = omega (arith, length-table (dims_of rect) f, item_inside (dims_of rect) 0 0 rows cols) in
-    let some = sym (ap (λ (e : Option ℤ). is_some e) (item-table None (dims_of rect) f 0 0 rows cols)) ∙ all-at (λ (e : Option ℤ). is_some e) (table (dims_of rect) f) (0 * rect.cols + 0) None here first in
+    let here : list_all (λ (e : Option ℤ). is_some e) (table (rect_dims rect) f) ≡ true = parts.1 in
+    let first : 0 * rect.cols + 0 < length (table (rect_dims rect) f) = omega (arith, length-table (rect_dims rect) f, item_inside (rect_dims rect) 0 0 rows cols) in
+    let some = sym (ap (λ (e : Option ℤ). is_some e) (item-table None (rect_dims rect) f 0 0 rows cols)) ∙ all-at (λ (e : Option ℤ). is_some e) (table (rect_dims rect) f) (0 * rect.cols + 0) None here first in
     let none = all-at (λ (e : Option ℤ). is_none e) r.elements ((rect.row + 0) * r.dims.cols + (rect.col + 0)) None blank (omega (arith, whole, item_inside r.dims (rect.row + 0) (rect.col + 0) (omega (arith, inside.0, rows)) (omega (arith, inside.1, cols)))) in
     not_both (f 0 0) some none
 
@@ -174,15 +174,15 @@ exact : (r i c l j : ℕ) → ((pos r +ℤ pos i) *ℤ pos c) +ℤ (pos l +ℤ p
 exact r i c l j = omega (arith, ints)
 
 -- what `loadfill` makes of a rectangle is the window of the filled array
-pub filled-window : (a b : ℤ) (d : Dims) (r : Rect) → Within r d → loadfill a b (pos r.row) (pos r.col) (pos d.cols) (zeros (dims_of r)) ≡ window (array d (integers_of (first_elements (Fill a b) d))) r
+pub filled-window : (a b : ℤ) (d : Dims) (r : Rect) → Within r d → loadfill a b (pos r.row) (pos r.col) (pos d.cols) (zeros (rect_dims r)) ≡ window (array d (integers_of (first_elements (Fill a b) d))) r
 filled-window a b d r inside =
-    ap (array (dims_of r)) (table-same (pos 0) (dims_of r) (λ i j. wrap (a +ℤ (b *ℤ (((pos r.row +ℤ pos i) *ℤ pos d.cols) +ℤ (pos r.col +ℤ pos j))))) (λ i j. item (pos 0) d.cols (integers_of (first_elements (Fill a b) d)) (r.row + i) (r.col + j)) (λ i j hi hj.
+    ap (array (rect_dims r)) (table-same (pos 0) (rect_dims r) (λ i j. wrap (a +ℤ (b *ℤ (((pos r.row +ℤ pos i) *ℤ pos d.cols) +ℤ (pos r.col +ℤ pos j))))) (λ i j. item (pos 0) d.cols (integers_of (first_elements (Fill a b) d)) (r.row + i) (r.col + j)) (λ i j hi hj.
     ap (λ z. wrap (a +ℤ (b *ℤ z))) (exact r.row i d.cols r.col j)
     ∙ sym (ap (λ xs. get_or xs ((r.row + i) * d.cols + (r.col + j)) (pos 0)) (filled a b (range_with_len 0 (area d)))
     ∙ get_or-map-range_with_len (λ p. wrap (a +ℤ (b *ℤ pos p))) 0 (area d) ((r.row + i) * d.cols + (r.col + j)) ((r.row + i) * d.cols + (r.col + j)) (pos 0) (item_inside d (r.row + i) (r.col + j) (omega (arith, inside.0)) (omega (arith, inside.1))) (omega arith))))
 
 -- a child has a value after an array was put into it
-pub written-valued : (r : Root) (place : ℕ × ℕ) (a : Array) → IsPlace r.parts place → is_valued_child (with_child place a r) place ≡ true
+pub written-valued : (r : RootState) (place : ℕ × ℕ) (a : Array) → IsPlace r.parts place → is_valued_child (with_child place a r) place ≡ true
 written-valued r place a hp =
     and_from (is_child r.parts place) (list_all (λ (e : Option ℤ). is_some e) (child_elements (with_child place a r) place)) (is_child-from r.parts place hp)
-    (ap (list_all (λ (e : Option ℤ). is_some e)) (written-same r place a hp) ∙ all-table (λ (e : Option ℤ). is_some e) (dims_of (child_rect r place)) (λ i j. Some (element a i j)) (λ i j hi hj. refl))
+    (ap (list_all (λ (e : Option ℤ). is_some e)) (written-same r place a hp) ∙ all-table (λ (e : Option ℤ). is_some e) (rect_dims (child_rect r place)) (λ i j. Some (element a i j)) (λ i j hi hj. refl))

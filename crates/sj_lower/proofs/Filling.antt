@@ -19,10 +19,10 @@ use Rattle.sj_core.specs.Fold.{Contents, held_in}
 use Rattle.sj_plan.specs.declared.parts.Parts.{Parts}
 use Rattle.sj_plan.specs.declared.rect.Rect.{Rect}
 use Rattle.sj_plan.specs.Parts.{IsPlace, places}
-use Rattle.sj_plan.specs.Paste.{same_place}
+use Rattle.sj_plan.specs.Paste.{same_child_place}
 use Rattle.sj_plan.specs.Window.{window}
 use Rattle.sj_plan.proofs.Lists.{each-places, any-places, any-map, any-flat_map}
-use Rattle.sj_plan.proofs.Repartitioning.{same_place-refl}
+use Rattle.sj_plan.proofs.Repartitioning.{same_child_place-refl}
 use Rattle.sj_lower.specs.Rows.{own_task, load_row, fill_row, deliver_row}
 use Rattle.sj_lower.proofs.Contents.{held-same, held-other}
 use Rattle.sj_lower.proofs.Folding.{after_row, after_rows, one_gives, IsBlock, IsBeside, IsAlone, blocks-others, blocks-fill}
@@ -43,7 +43,7 @@ pub blocks-filled : (p : Program) (I : Contents → Type 0) (rows : ℕ × ℕ �
 blocks-filled p I rows cell x s k blocks i own =
     let all = each-places (IsBlock p I rows cell x) s blocks in
     record {
-      value = λ place inside. blocks-fill p I rows cell x (places s) k place all i (any-places (same_place place) s place inside (same_place-refl place)) (each-places (IsAlone cell place) s (λ q hq e. own q place hq inside (same_cell-is (cell q) (cell place) e)));
+      value = λ place inside. blocks-fill p I rows cell x (places s) k place all i (any-places (same_child_place place) s place inside (same_child_place-refl place)) (each-places (IsAlone cell place) s (λ q hq e. own q place hq inside (same_cell-is (cell q) (cell place) e)));
       others = λ d beside. blocks-others p I rows cell x (places s) k d all i (each-places (IsBeside cell d) s beside);
     }
 

@@ -17,7 +17,7 @@ use Rattle.sj_codelet.specs.Kernel.{kernel_of}
 use Rattle.sj_core.specs.Program.{task_of, dims_of, same_cell}
 use Rattle.sj_core.specs.Proper.{IsPlain}
 use Rattle.sj_plan.proofs.Lists.{each-map}
-use Rattle.sj_meaning.specs.State.{State, is_valued_child}
+use Rattle.sj_meaning.specs.State.{JobState, is_valued_child}
 use Rattle.sj_meaning.specs.Meaning.{Printed, child_array}
 use Rattle.sj_meaning.specs.Table.{Table}
 use Rattle.sj_lower.specs.declared.phase.OpenPhase.{OpenPhase}
@@ -38,7 +38,7 @@ use Rattle.sj_lower.proofs.Phasing.{each-of_all}
 use Rattle.sj_lower.proofs.Stating.{Begins, begins-less, stands-more, IsActiveChild, Agrees}
 
 -- what holds after the statements so far
-pub record IsFine (T : Table) (p : Program) (L : Lowering) (S : State) (out : List Printed) : Type 0 where
+pub record IsFine (T : Table) (p : Program) (L : Lowering) (S : JobState) (out : List Printed) : Type 0 where
   pub agrees : Agrees p L S
   pub good : (n : ℕ) → n < length L.tasks → IsGood p n (task_of p (task n))
   pub delivered : AreDelivered T p L out
@@ -55,7 +55,7 @@ good-more p L M ls e s new old n h =
 
 -- ---- cells with open phases
 
-module _ (p : Program) (L : Lowering) (S : State) (b : Begins p L) (g : Agrees p L S) (c : Cell) (f : OpenPhase) (is : L.phase c ≡ Some f) where
+module _ (p : Program) (L : Lowering) (S : JobState) (b : Begins p L) (g : Agrees p L S) (c : Cell) (f : OpenPhase) (is : L.phase c ≡ Some f) where
   abbrev child : IsActiveChild L.cells S c
   child = g.opened c f is
 
@@ -114,7 +114,7 @@ none-deliver Least c line q e = absurd (cc)
 
 -- ---- closing
 
-module _ (T : Table) (p : Program) (L : Lowering) (S : State) (out : List Printed) (c : Cell) (f : OpenPhase) (is : L.phase c ≡ Some f) (b : Begins p (Closed p L c f)) (fine : IsFine T p L S out) where
+module _ (T : Table) (p : Program) (L : Lowering) (S : JobState) (out : List Printed) (c : Cell) (f : OpenPhase) (is : L.phase c ≡ Some f) (b : Begins p (Closed p L c f)) (fine : IsFine T p L S out) where
   abbrev ls : List Lowered
   ls = combine_rows f c p.workers
 
@@ -138,9 +138,9 @@ module _ (T : Table) (p : Program) (L : Lowering) (S : State) (out : List Printe
     logged = log-close p (length L.tasks) (length (L.tasks ++ ls)) L.phase c f is (length-append L.tasks ls ∙ ap (λ k. length L.tasks + k) many) stand (open-own p L S before fine.agrees c f is) (λ d g e. open-plain p L S before fine.agrees d g e) fine.logged;
   }
 
-pub fine_closed : (T : Table) (p : Program) (L : Lowering) (S : State) (out : List Printed) (c : Cell) → Begins p (closed p.workers L c) → IsFine T p L S out → IsFine T p (closed p.workers L c) S out
+pub fine_closed : (T : Table) (p : Program) (L : Lowering) (S : JobState) (out : List Printed) (c : Cell) → Begins p (closed p.workers L c) → IsFine T p L S out → IsFine T p (closed p.workers L c) S out
 fine_closed T p L S out c = by_phase p.workers L c (λ (M : Lowering). Begins p M → IsFine T p L S out → IsFine T p M S out) (λ e b f. f) (λ f e b fine. fine_turned T p L S out c f e b fine)
 
-pub fine_all_closed : (T : Table) (p : Program) (cs : List Cell) (L : Lowering) (S : State) (out : List Printed) → Begins p (all_closed p.workers cs L) → IsFine T p L S out → IsFine T p (all_closed p.workers cs L) S out
+pub fine_all_closed : (T : Table) (p : Program) (cs : List Cell) (L : Lowering) (S : JobState) (out : List Printed) → Begins p (all_closed p.workers cs L) → IsFine T p L S out → IsFine T p (all_closed p.workers cs L) S out
 fine_all_closed T p [] L S out b f = f
 fine_all_closed T p (c ∷ cs) L S out b f = fine_all_closed T p cs (closed p.workers L c) S out b (fine_closed T p L S out c (begins-all_closed p cs (closed p.workers L c) b) f)

@@ -15,8 +15,8 @@ use Rattle.sj_core.specs.Program.{no_task, task_of, same_cell}
 use Rattle.sj_core.specs.Proper.{HasValueBefore, gives_value}
 use Rattle.sj_core.specs.Fold.{Contents, held_in, after_task}
 use Rattle.sj_core.specs.Operands.{worked_on, found}
-use Rattle.sj_plan.specs.Paste.{same_place}
-use Rattle.sj_plan.proofs.Repartitioning.{same_place-law, same_place-refl}
+use Rattle.sj_plan.specs.Paste.{same_child_place}
+use Rattle.sj_plan.proofs.Repartitioning.{same_child_place-law, same_child_place-refl}
 use Rattle.sj_lower.proofs.Contents.{first_worker, contents_before, contents-next}
 
 -- ---- tasks in a program
@@ -116,33 +116,33 @@ blocks-others p I rows cell x (q ∷ qs) k d all i o =
 abbrev pub IsAlone : (ℕ × ℕ → Cell) → ℕ × ℕ → ℕ × ℕ → Type 0
 IsAlone cell place q = same_cell (cell q) (cell place) ≡ true → q ≡ place
 
-beside_others : (cell : ℕ × ℕ → Cell) (place : ℕ × ℕ) (qs : List (ℕ × ℕ)) → list_any (same_place place) qs ≡ false → AllByRecursion (IsAlone cell place) qs → AllByRecursion (IsBeside cell (cell place)) qs
+beside_others : (cell : ℕ × ℕ → Cell) (place : ℕ × ℕ) (qs : List (ℕ × ℕ)) → list_any (same_child_place place) qs ≡ false → AllByRecursion (IsAlone cell place) qs → AllByRecursion (IsBeside cell (cell place)) qs
 beside_others cell place [] none a = tt
 beside_others cell place (q ∷ qs) none a =
-    let both = neither (same_place place q) (list_any (same_place place) qs) none in
+    let both = neither (same_child_place place q) (list_any (same_child_place place) qs) none in
     (by_cases (same_cell (cell q) (cell place)) refl both.0, beside_others cell place qs both.1 a.1)
   where
     neither : (a b : Bool) → (a || b) ≡ false → (a ≡ false) × (b ≡ false)
     neither true b e = absurd (false≢true (sym e))
     neither false b e = (refl, e)
 
-    by_cases : (t : Bool) → same_cell (cell q) (cell place) ≡ t → same_place place q ≡ false → t ≡ false
+    by_cases : (t : Bool) → same_cell (cell q) (cell place) ≡ t → same_child_place place q ≡ false → t ≡ false
     by_cases false e n = refl
-    by_cases true e n = absurd (false≢true (sym n ∙ ap (same_place place) (a.0 e) ∙ same_place-refl place))
+    by_cases true e n = absurd (false≢true (sym n ∙ ap (same_child_place place) (a.0 e) ∙ same_child_place-refl place))
 
 pub blocks-fill : (p : Program) (I : Contents → Type 0) (rows : ℕ × ℕ → List Lowered) (cell : ℕ × ℕ → Cell) (x : ℕ × ℕ → Array) (ps : List (ℕ × ℕ)) (k : Contents) (place : ℕ × ℕ)
-    → AllByRecursion (IsBlock p I rows cell x) ps → I k → list_any (same_place place) ps ≡ true → AllByRecursion (IsAlone cell place) ps → held_in p (after_rows p k (flat_map rows ps)) (cell place) ≡ x place
+    → AllByRecursion (IsBlock p I rows cell x) ps → I k → list_any (same_child_place place) ps ≡ true → AllByRecursion (IsAlone cell place) ps → held_in p (after_rows p k (flat_map rows ps)) (cell place) ≡ x place
 blocks-fill p I rows cell x [] k place all i h a = absurd (false≢true h)
 blocks-fill p I rows cell x (q ∷ qs) k place all i h a =
-    ap (λ (n : Contents). held_in p n (cell place)) (after_rows-append p k (rows q) (flat_map rows qs)) ∙ by_cases (list_any (same_place place) qs) refl (same_place place q) refl h
+    ap (λ (n : Contents). held_in p n (cell place)) (after_rows-append p k (rows q) (flat_map rows qs)) ∙ by_cases (list_any (same_child_place place) qs) refl (same_child_place place q) refl h
     (λ e. blocks-fill p I rows cell x qs (after_rows p k (rows q)) place all.1 (all.0 k i).1 e a.1)
   where
-    by_cases : (b : Bool) → list_any (same_place place) qs ≡ b → (c : Bool) → same_place place q ≡ c → (c || b) ≡ true
-        → (list_any (same_place place) qs ≡ true → held_in p (after_rows p (after_rows p k (rows q)) (flat_map rows qs)) (cell place) ≡ x place)
+    by_cases : (b : Bool) → list_any (same_child_place place) qs ≡ b → (c : Bool) → same_child_place place q ≡ c → (c || b) ≡ true
+        → (list_any (same_child_place place) qs ≡ true → held_in p (after_rows p (after_rows p k (rows q)) (flat_map rows qs)) (cell place) ≡ x place)
         → held_in p (after_rows p (after_rows p k (rows q)) (flat_map rows qs)) (cell place) ≡ x place
     by_cases true e c f g rest = rest e
     by_cases false e false f g rest = absurd (false≢true g)
     by_cases false e true f g rest =
-        let here : place ≡ q = same_place-law place q f in
+        let here : place ≡ q = same_child_place-law place q f in
         blocks-others p I rows cell x qs (after_rows p k (rows q)) (cell place) all.1 (all.0 k i).1 (beside_others cell place qs e a.1)
         ∙ ap (λ (c : ℕ × ℕ). held_in p (after_rows p k (rows q)) (cell c)) here ∙ (all.0 k i).0.value ∙ ap x (sym here)

@@ -12,7 +12,7 @@ use Rattle.std.proofs.lemmas.Option.{same_Some}
 use Rattle.indexmap.specs.IndexMap.{get}
 use Rattle.sj_base.specs.declared.ids.Line.{Line}
 use Rattle.sj_base.specs.declared.ids.Cell.{Cell}
-use Rattle.sj_base.specs.declared.ids.Root.{Root as RootNumber}
+use Rattle.sj_base.specs.declared.ids.Root.{Root}
 use Rattle.sj_base.specs.declared.mode.Access.{Access}
 use Rattle.sj_base.specs.declared.mode.Reduction.{Reduction}
 use Rattle.sj_base.specs.declared.tile.Dims.{Dims}
@@ -30,12 +30,12 @@ use Rattle.sj_meaning.specs.declared.job.Init.{Init}
 use Rattle.sj_meaning.specs.declared.job.Operand.{Operand as KeptOperand}
 use Rattle.sj_meaning.specs.declared.job.TaskLine.{TaskLine as KeptTask}
 use Rattle.sj_meaning.specs.Statement.{Register}
-use Rattle.sj_meaning.specs.State.{Root, State, root_of}
+use Rattle.sj_meaning.specs.State.{RootState, JobState, root_of}
 use Rattle.sj_meaning.specs.Meaning.{apply, registered_root, with_parts, with_elements, with_reduction, no_values, plan, reduce, invalidate}
 use Rattle.sj_job.specs.Names.{gives_values}
-use Rattle.sj_meaning.specs.Sound.{has_child, dims_of as root_dims}
+use Rattle.sj_meaning.specs.Sound.{has_child, root_dims}
 use Rattle.sj_meaning.specs.Table.{Table, AreDistinct, a_root, name_of, info_of}
-use Rattle.sj_job.specs.Track.{IsPlan, all_valued, none_valued, children_count, even}
+use Rattle.sj_job.specs.Track.{IsSmallPlan, all_valued, none_valued, children_count, even}
 use Rattle.sj_lower.proofs.Places.{length-places}
 use Rattle.sj_meaning.specs.View.{operand_seen, registration, act_seen}
 use Rattle.sj_job.proofs.Children.{tracks-registered, tracks-planned, tracks-reduced, tracks-invalidated, all_valued-same, none_valued-same}
@@ -45,7 +45,7 @@ use Rattle.sj_lower.specs.Cells.{Cells, Handle, same_parts, first_cell, cells_fr
 use Rattle.sj_lower.specs.Limits.{most}
 use Rattle.sj_lower.specs.Rows.{paste_row, deliver_row}
 use Rattle.sj_lower.specs.Lowering.{Lowering, cells_after, load_rows, access_of, plan_rows, deliver_rows, a_delivery, print_deliveries}
-use Rattle.sj_lower.specs.Seen.{no_active, active_at, pasted_by, IsActive, AreActive, IsNext, CanPass, Does, HasRoomFor, access_by, first_after, children_after}
+use Rattle.sj_lower.specs.Seen.{no_active, active_at, pasted_by, IsActive, AreActive, MayComeNext, CanPass, Does, HasRoomFor, access_by, first_after, children_after}
 use Rattle.sj_lower.proofs.Agreeing.{plan_rows-are, values_are}
 use Rattle.sj_meaning.proofs.Finding.{get-put, get-gone, root-change}
 use Rattle.sj_lower.proofs.Laid.{bytes_eq-itself, none_isn't, IsTaken, take-keeps, take-takes, take-roots, root-keeps, root-there}
@@ -55,12 +55,12 @@ use Rattle.sj_lower.proofs.Whole.{deliver_rows-are, print_deliveries-are}
 -- ---- active plans
 
 -- the plan's cells are those of its name
-pub active-first : (T : Table) (C : Cells) (n : ℕ) (a : Active) (r : Root) → IsActive T C n a r → first_cell C (name_of T (a_root n)) r.parts ≡ a.first
+pub active-first : (T : Table) (C : Cells) (n : ℕ) (a : Active) (r : RootState) → IsActive T C n a r → first_cell C (name_of T (a_root n)) r.parts ≡ a.first
 active-first T C n a r h =
     ap (λ (o : Option Handle). elim o as (λ _. ℕ) [ None ↦ 0 | Some h ↦ unwrap_or (h.first r.parts) 0 ]) h.named ∙ ap (λ o. unwrap_or o 0) h.taken
 
 -- it stays so where the name keeps what it has taken
-kept-active : (T : Table) (C D : Cells) (n : ℕ) (a : Active) (r : Root) → ((d : Dims) (s : Parts) (f : ℕ) → IsTaken C (name_of T (a_root n)) d s f → IsTaken D (name_of T (a_root n)) d s f) → IsActive T C n a r → IsActive T D n a r
+kept-active : (T : Table) (C D : Cells) (n : ℕ) (a : Active) (r : RootState) → ((d : Dims) (s : Parts) (f : ℕ) → IsTaken C (name_of T (a_root n)) d s f → IsTaken D (name_of T (a_root n)) d s f) → IsActive T C n a r → IsActive T D n a r
 kept-active T C D n a r keeps h =
     let t = keeps h.handle.dims r.parts a.first (record { handle = h.handle; is = h.named; dims = refl; first = h.taken }) in
     record { dims = h.dims; tracks = h.tracks; reduction = h.reduction; handle = t.handle; named = t.is; taken = t.first; room = h.room }
@@ -74,20 +74,20 @@ other_root T m n d hm hn other = by_test (bytes_eq (name_of T (a_root m)) (name_
     by_test true e = absurd (other (d m n hm hn (same_text (name_of T (a_root m)) (name_of T (a_root n)) e)))
 
 -- the active plans after a change of one root
-pub changed-actives : (T : Table) (C D : Cells) (as' : List Active) (S : State) (i : ℕ) (f : Root → Root) (r : Root) (new : Active) → AreActive T C as' S → i < C.roots → AreDistinct T.names → C.roots ≤ length T.names → D.roots ≡ C.roots
+pub changed-actives : (T : Table) (C D : Cells) (as' : List Active) (S : JobState) (i : ℕ) (f : RootState → RootState) (r : RootState) (new : Active) → AreActive T C as' S → i < C.roots → AreDistinct T.names → C.roots ≤ length T.names → D.roots ≡ C.roots
     → ((q : List ℕ) (d : Dims) (s : Parts) (g : ℕ) → IsTaken C q d s g → IsTaken D q d s g) → root_of S (name_of T (a_root i)) ≡ Some r → IsActive T D i new (f r)
-    → (M : State) → ((q : List ℕ) → root_of M q ≡ cond (bytes_eq (name_of T (a_root i)) q) (Some (f r)) (root_of S q)) → AreActive T D (set as' i new) M
+    → (M : JobState) → ((q : List ℕ) → root_of M q ≡ cond (bytes_eq (name_of T (a_root i)) q) (Some (f r)) (root_of S q)) → AreActive T D (set as' i new) M
 changed-actives T C D as' S i f r new g below d few roots keeps there is M change = record {
   counted = length-set as' i new ∙ g.counted ∙ sym roots;
   each = λ n t lt e. by_number n t (omega (arith, lt, roots)) (cases_lt n i) (cases_lt i n) (sym (change (name_of T (a_root n))) ∙ e);
 }
   where
-    beside : (n : ℕ) (t : Root) → n < C.roots → (i ≡ n → ⊥) → cond (bytes_eq (name_of T (a_root i)) (name_of T (a_root n))) (Some (f r)) (root_of S (name_of T (a_root n))) ≡ Some t → IsActive T D n (active_at (set as' i new) n) t
+    beside : (n : ℕ) (t : RootState) → n < C.roots → (i ≡ n → ⊥) → cond (bytes_eq (name_of T (a_root i)) (name_of T (a_root n))) (Some (f r)) (root_of S (name_of T (a_root n))) ≡ Some t → IsActive T D n (active_at (set as' i new) n) t
     beside n t lt other e =
         subst (λ (a : Active). IsActive T D n a t) (sym (get_or-set_other as' i n new no_active (λ e. other (sym e))))
         (kept-active T C D n (active_at as' n) t (λ d s f k. keeps (name_of T (a_root n)) d s f k) (g.each n t lt (sym (ap (λ b. cond b (Some (f r)) (root_of S (name_of T (a_root n)))) (other_root T i n d (omega (arith, below, few)) (omega (arith, lt, few)) other)) ∙ e)))
 
-    by_number : (n : ℕ) (t : Root) → n < C.roots → (n < i) ⊎ (i ≤ n) → (i < n) ⊎ (n ≤ i) → cond (bytes_eq (name_of T (a_root i)) (name_of T (a_root n))) (Some (f r)) (root_of S (name_of T (a_root n))) ≡ Some t → IsActive T D n (active_at (set as' i new) n) t
+    by_number : (n : ℕ) (t : RootState) → n < C.roots → (n < i) ⊎ (i ≤ n) → (i < n) ⊎ (n ≤ i) → cond (bytes_eq (name_of T (a_root i)) (name_of T (a_root n))) (Some (f r)) (root_of S (name_of T (a_root n))) ≡ Some t → IsActive T D n (active_at (set as' i new) n) t
     by_number n t lt (inl less) up e = beside n t lt (λ same. omega (arith, less, same)) e
     by_number n t lt (inr down) (inl more) e = beside n t lt (λ same. omega (arith, more, same)) e
     by_number n t lt (inr down) (inr up) e =
@@ -95,19 +95,19 @@ changed-actives T C D as' S i f r new g below d few roots keeps there is M chang
         let is_root : f r ≡ t = same_Some (f r) t (sym (ap (λ b. cond b (Some (f r)) (root_of S (name_of T (a_root i)))) (bytes_eq-itself (name_of T (a_root i)))) ∙ ap (λ (m : ℕ). cond (bytes_eq (name_of T (a_root i)) (name_of T (a_root m))) (Some (f r)) (root_of S (name_of T (a_root m)))) same ∙ e) in
         subst (λ (m : ℕ). IsActive T D m (active_at (set as' i new) m) t) same
         (subst (λ (a : Active). IsActive T D i a t) (sym (get_or-set_same as' i new no_active (omega (arith, below, g.counted))))
-        (subst (λ (x : Root). IsActive T D i new x) is_root is))
+        (subst (λ (x : RootState). IsActive T D i new x) is_root is))
 
 -- these active plans are those after a statement, if the plan that it makes active has this first cell
 abbrev pub PassesTo : Table → Lowerer → List Active → Kept → ℕ → Type 0
 PassesTo T old as' a first =
-    (S : State) (L : Lowering) → CanPass T old a S L → let act = act_seen T L.cells.roots a in first_after act (cells_after act L.cells) ≡ first → AreActive T (cells_after act L.cells) as' (apply act S)
+    (S : JobState) (L : Lowering) → CanPass T old a S L → let act = act_seen T L.cells.roots a in first_after act (cells_after act L.cells) ≡ first → AreActive T (cells_after act L.cells) as' (apply act S)
 
 -- what is known of the active plans where tasks are made
-pub can-pass : (T : Table) (l : Lowerer) (a : Kept) (S : State) (L : Lowering) → IsNext T l a S L → CanPass T l a S L
+pub can-pass : (T : Table) (l : Lowerer) (a : Kept) (S : JobState) (L : Lowering) → MayComeNext T l a S L → CanPass T l a S L
 can-pass T l a S L next = record { has = next.has; actives = next.follows.actives; sound = next.sound; placed = next.placed; distinct = next.distinct; few = next.few; table = next.table }
 
 -- the phases are what they were
-pub same_phases : (T : Table) (old new : Lowerer) (a : Kept) (S : State) (L : Lowering) → IsNext T old a S L → new.phases ≡ old.phases → (c : Cell) → get nat_eq new.phases c.0 ≡ L.phase c
+pub same_phases : (T : Table) (old new : Lowerer) (a : Kept) (S : JobState) (L : Lowering) → MayComeNext T old a S L → new.phases ≡ old.phases → (c : Cell) → get nat_eq new.phases c.0 ≡ L.phase c
 same_phases T old new a S L next e c = ap (λ m. get nat_eq m c.0) e ∙ next.follows.phases c
 
 -- ---- registrations
@@ -164,7 +164,7 @@ passes-register T old as' init first room ea S L pass place = record {
       room = subst (λ (m : ℕ). first + children_after (act_seen T m (kept.Register init)) ≤ most) count room;
     }
 
-    by_number : (m : ℕ) (t : Root) → m < n + 1 → (m < n) ⊎ (n ≤ m) → cond (bytes_eq r.name (name_of T (a_root m))) (Some (registered_root r)) (root_of S (name_of T (a_root m))) ≡ Some t → IsActive T D m (active_at (old.actives.items ++ active ∷ []) m) t
+    by_number : (m : ℕ) (t : RootState) → m < n + 1 → (m < n) ⊎ (n ≤ m) → cond (bytes_eq r.name (name_of T (a_root m))) (Some (registered_root r)) (root_of S (name_of T (a_root m))) ≡ Some t → IsActive T D m (active_at (old.actives.items ++ active ∷ []) m) t
     by_number m t lt (inl inside) e =
         let apart = other_root T n m pass.distinct (omega (arith, pass.few)) (omega (arith, inside, pass.few)) (λ same. omega (arith, same, inside)) in
         subst (λ (a : Active). IsActive T D m a t) (sym (get_or_append_left old.actives.items (active ∷ []) no_active m (omega (arith, count, inside))))
@@ -175,7 +175,7 @@ passes-register T old as' init first room ea S L pass place = record {
         let is_root : registered_root r ≡ t = same_Some (registered_root r) t (sym (ap (λ b. cond b (Some (registered_root r)) (root_of S (name_of T (a_root n)))) (bytes_eq-itself r.name)) ∙ ap (λ (k : ℕ). cond (bytes_eq r.name (name_of T (a_root k))) (Some (registered_root r)) (root_of S (name_of T (a_root k)))) same ∙ e) in
         subst (λ (k : ℕ). IsActive T D k (active_at (old.actives.items ++ active ∷ []) k) t) same
         (subst (λ (a : Active). IsActive T D n a t) (sym (ap (λ k. get_or (old.actives.items ++ active ∷ []) k no_active) (sym count) ∙ get_or-append_seam old.actives.items active [] no_active ∙ ap (registered_active T init first) count))
-        (subst (λ (x : Root). IsActive T D n (registered_active T init first n) x) is_root here))
+        (subst (λ (x : RootState). IsActive T D n (registered_active T init first n) x) is_root here))
 
 pub does-register : (T : Table) (old new : Lowerer) (init : Init) (first : ℕ) (line : Line) → let info = info_of T (a_root (length old.actives.items)) in HasRoomFor T (length old.actives.items) (kept.Register init) first
     → new.tasks.items ≡ old.tasks.items ++ load_rows init info.dims info.parts (cells_from first info.parts) line → new.deliveries.items ≡ old.deliveries.items → new.prints ≡ old.prints → new.phases ≡ old.phases
@@ -197,31 +197,31 @@ does-register T old new init first line room et ed ep eh ea S L next place = rec
 
 -- ---- plans
 
-pub plan_rows-by : (T : Table) (C : Cells) (S : State) (r : RootNumber) (p : Parts) (first : ℕ) (line : Line) (a : Active) (root : Root) → root_of S (name_of T r) ≡ Some root → IsActive T C r.0 a root → first_cell C (name_of T r) p ≡ first → plan_rows S C (name_of T r) p line ≡ pasted_by (info_of T r).dims a p first line
+pub plan_rows-by : (T : Table) (C : Cells) (S : JobState) (r : Root) (p : Parts) (first : ℕ) (line : Line) (a : Active) (root : RootState) → root_of S (name_of T r) ≡ Some root → IsActive T C r.0 a root → first_cell C (name_of T r) p ≡ first → plan_rows S C (name_of T r) p line ≡ pasted_by (info_of T r).dims a p first line
 plan_rows-by T C S r p first line a root there is place =
     plan_rows-are S C (name_of T r) p line root there
     ∙ (λ i. cond (same_parts (sym is.tracks.parts i) p || not (sym (all_valued-same a.tracked root is.tracks) i)) [] (each_of (paste_row (cells_from (active-first T C r.0 a root is i) (sym is.tracks.parts i)) (cells_from (place i) p) line) (pastes_of (is.dims i) (sym is.tracks.parts i) p)))
 
 -- a root with its active plan
-pub record IsKnown (T : Table) (l : Lowerer) (S : State) (L : Lowering) (r : RootNumber) : Type 0 where
-  pub root : Root
+pub record IsKnown (T : Table) (l : Lowerer) (S : JobState) (L : Lowering) (r : Root) : Type 0 where
+  pub root : RootState
   pub is_root : root_of S (name_of T r) ≡ Some root
   pub active : IsActive T L.cells r.0 (active_at l.actives.items r.0) root
 
-known : (T : Table) (l : Lowerer) (a : Kept) (S : State) (L : Lowering) (r : RootNumber) → CanPass T l a S L → r.0 < L.cells.roots → (root : Root) → root_of S (name_of T r) ≡ Some root → IsKnown T l S L r
+known : (T : Table) (l : Lowerer) (a : Kept) (S : JobState) (L : Lowering) (r : Root) → CanPass T l a S L → r.0 < L.cells.roots → (root : RootState) → root_of S (name_of T r) ≡ Some root → IsKnown T l S L r
 known T l a S L r pass lt root e = record { root = root; is_root = e; active = pass.actives.each r.0 root lt e }
 
-dims_are : (S : State) (name : List ℕ) (r : Root) → root_of S name ≡ Some r → root_dims S name ≡ r.dims
-dims_are S name r e = ap (λ (o : Option Root). elim o as (λ _. Dims) [ None ↦ record { rows = 0; cols = 0 } | Some r ↦ r.dims ]) e
+dims_are : (S : JobState) (name : List ℕ) (r : RootState) → root_of S name ≡ Some r → root_dims S name ≡ r.dims
+dims_are S name r e = ap (λ (o : Option RootState). elim o as (λ _. Dims) [ None ↦ record { rows = 0; cols = 0 } | Some r ↦ r.dims ]) e
 
 -- a plan line's root, its plan and its values
-pub plan-known : (T : Table) (l : Lowerer) (S : State) (L : Lowering) (r : RootNumber) (p : Parts) → CanPass T l (kept.Plan r p) S L → IsKnown T l S L r
+pub plan-known : (T : Table) (l : Lowerer) (S : JobState) (L : Lowering) (r : Root) (p : Parts) → CanPass T l (kept.Plan r p) S L → IsKnown T l S L r
 plan-known T l S L r p pass = let there = root_there (root_of S (name_of T r)) pass.sound.rooted in known T l (kept.Plan r p) S L r pass pass.placed there.0 there.1
 
-pub plan-fits : (T : Table) (l : Lowerer) (S : State) (L : Lowering) (r : RootNumber) (p : Parts) (pass : CanPass T l (kept.Plan r p) S L) → Fits p (plan-known T l S L r p pass).root.dims
+pub plan-fits : (T : Table) (l : Lowerer) (S : JobState) (L : Lowering) (r : Root) (p : Parts) (pass : CanPass T l (kept.Plan r p) S L) → Fits p (plan-known T l S L r p pass).root.dims
 plan-fits T l S L r p pass = let k = plan-known T l S L r p pass in subst (λ (d : Dims). Fits p d) (dims_are S (name_of T r) k.root k.is_root) pass.sound.parts
 
-pub plan-even : (T : Table) (l : Lowerer) (S : State) (L : Lowering) (r : RootNumber) (p : Parts) → CanPass T l (kept.Plan r p) S L → (all_valued (active_at l.actives.items r.0).tracked || none_valued (active_at l.actives.items r.0).tracked) ≡ true
+pub plan-even : (T : Table) (l : Lowerer) (S : JobState) (L : Lowering) (r : Root) (p : Parts) → CanPass T l (kept.Plan r p) S L → (all_valued (active_at l.actives.items r.0).tracked || none_valued (active_at l.actives.items r.0).tracked) ≡ true
 plan-even T l S L r p pass =
     let k = plan-known T l S L r p pass in
     let t = (active_at l.actives.items r.0).tracked in
@@ -232,10 +232,10 @@ abbrev pub planned_active : Active → Parts → ℕ → Active
 planned_active a p first = record { tracked = even p (all_valued a.tracked); first = first; reduction = a.reduction }
 
 -- names keep the plans that they have taken
-plan_keeps : (T : Table) (l : Lowerer) (S : State) (L : Lowering) (r : RootNumber) (p : Parts) → IsKnown T l S L r → (q : List ℕ) (d : Dims) (s : Parts) (g : ℕ) → IsTaken L.cells q d s g → IsTaken (take (name_of T r) p L.cells) q d s g
+plan_keeps : (T : Table) (l : Lowerer) (S : JobState) (L : Lowering) (r : Root) (p : Parts) → IsKnown T l S L r → (q : List ℕ) (d : Dims) (s : Parts) (g : ℕ) → IsTaken L.cells q d s g → IsTaken (take (name_of T r) p L.cells) q d s g
 plan_keeps T l S L r p k q d s g t = take-keeps L.cells (name_of T r) p k.active.handle k.active.named q d s g t
 
-pub passes-plan : (T : Table) (old : Lowerer) (as' : List Active) (r : RootNumber) (p : Parts) (first : ℕ) → HasRoomFor T (length old.actives.items) (kept.Plan r p) first
+pub passes-plan : (T : Table) (old : Lowerer) (as' : List Active) (r : Root) (p : Parts) (first : ℕ) → HasRoomFor T (length old.actives.items) (kept.Plan r p) first
     → as' ≡ set old.actives.items r.0 (planned_active (active_at old.actives.items r.0) p first) → PassesTo T old as' (kept.Plan r p) first
 passes-plan T old as' r p first room ea S L pass place =
     subst (λ (as' : List Active). AreActive T D as' (plan name p S)) (sym ea)
@@ -270,7 +270,7 @@ passes-plan T old as' r p first room ea S L pass place =
       room = room;
     }
 
-pub does-plan : (T : Table) (old new : Lowerer) (r : RootNumber) (p : Parts) (first : ℕ) (line : Line) → let a = active_at old.actives.items r.0 in HasRoomFor T (length old.actives.items) (kept.Plan r p) first
+pub does-plan : (T : Table) (old new : Lowerer) (r : Root) (p : Parts) (first : ℕ) (line : Line) → let a = active_at old.actives.items r.0 in HasRoomFor T (length old.actives.items) (kept.Plan r p) first
     → new.tasks.items ≡ old.tasks.items ++ pasted_by (info_of T r).dims a p first line → new.deliveries.items ≡ old.deliveries.items → new.prints ≡ old.prints → new.phases ≡ old.phases
     → new.actives.items ≡ set old.actives.items r.0 (planned_active a p first) → Does T old new (kept.Plan r p) first line
 does-plan T old new r p first line room et ed ep eh ea S L next place = record {
@@ -295,7 +295,7 @@ does-plan T old new r p first line room et ed ep eh ea S L next place = record {
 
 -- ---- tasks
 
-pub accesses_same : (T : Table) (S : State) (C : Cells) (as' : List Active) (os : List KeptOperand) → AreActive T C as' S → All (λ o. o.root.0 < C.roots) os → AllByRecursion (λ o. has_child S (operand_seen T o) ≡ true) os
+pub accesses_same : (T : Table) (S : JobState) (C : Cells) (as' : List Active) (os : List KeptOperand) → AreActive T C as' S → All (λ o. o.root.0 < C.roots) os → AllByRecursion (λ o. has_child S (operand_seen T o) ≡ true) os
     → each_of (access_of S C) (each_of (operand_seen T) os) ≡ each_of (access_by as') os
 accesses_same T S C as' [] g placed there = refl
 accesses_same T S C as' (o ∷ os) g placed there =
@@ -306,7 +306,7 @@ accesses_same T S C as' (o ∷ os) g placed there =
     (ap (access o.mode) (active_cell-is S C (name_of T o.root) o.place t.root t.is_root ∙ (λ i. cells_from (active-first T C o.root.0 a t.root is i) (sym is.tracks.parts i) o.place)))
     ∙ ap (λ (xs : List Access). access_by as' o ∷ xs) (accesses_same T S C as' os g (All-tail (λ (o : KeptOperand). o.root.0 < C.roots) o os placed) there.1)
 
-pub seen-children : (T : Table) (S : State) (os : List KeptOperand) → list_all (has_child S) (each_of (operand_seen T) os) ≡ true → AllByRecursion (λ o. has_child S (operand_seen T o) ≡ true) os
+pub seen-children : (T : Table) (S : JobState) (os : List KeptOperand) → list_all (has_child S) (each_of (operand_seen T) os) ≡ true → AllByRecursion (λ o. has_child S (operand_seen T o) ≡ true) os
 seen-children T S [] h = tt
 seen-children T S (o ∷ os) h = let both = and_parts (has_child S (operand_seen T o)) (list_all (has_child S) (each_of (operand_seen T) os)) h in (both.0, seen-children T S os both.1)
 
@@ -316,7 +316,7 @@ lowered_task t line accesses = record { codelet = codelet_of t.kernel; args = t.
 
 -- ---- prints
 
-pub print-known : (T : Table) (l : Lowerer) (S : State) (L : Lowering) (r : RootNumber) → IsNext T l (kept.Print r) S L → IsKnown T l S L r
+pub print-known : (T : Table) (l : Lowerer) (S : JobState) (L : Lowering) (r : Root) → MayComeNext T l (kept.Print r) S L → IsKnown T l S L r
 print-known T l S L r next =
     let there = valued_there (root_of S (name_of T r)) next.sound in
     known T l (kept.Print r) S L r (can-pass T l (kept.Print r) S L next) next.placed there.0 there.1
@@ -325,15 +325,15 @@ print-known T l S L r next =
 abbrev pub delivered_by : Active → Line → List Lowered
 delivered_by a line = each_of (λ place. deliver_row (cells_from a.first a.tracked.parts place) line) (places a.tracked.parts)
 
-pub deliver_rows-by : (T : Table) (C : Cells) (S : State) (r : RootNumber) (line : Line) (a : Active) (root : Root) → root_of S (name_of T r) ≡ Some root → IsActive T C r.0 a root → deliver_rows S C (name_of T r) line ≡ delivered_by a line
+pub deliver_rows-by : (T : Table) (C : Cells) (S : JobState) (r : Root) (line : Line) (a : Active) (root : RootState) → root_of S (name_of T r) ≡ Some root → IsActive T C r.0 a root → deliver_rows S C (name_of T r) line ≡ delivered_by a line
 deliver_rows-by T C S r line a root there is =
     deliver_rows-are S C (name_of T r) line root there
     ∙ (λ i. each_of (λ place. deliver_row (cells_from (active-first T C r.0 a root is i) (sym is.tracks.parts i) place) line) (places (sym is.tracks.parts i)))
 
-pub passes-print : (T : Table) (old : Lowerer) (as' : List Active) (r : RootNumber) (first : ℕ) → as' ≡ old.actives.items → PassesTo T old as' (kept.Print r) first
+pub passes-print : (T : Table) (old : Lowerer) (as' : List Active) (r : Root) (first : ℕ) → as' ≡ old.actives.items → PassesTo T old as' (kept.Print r) first
 passes-print T old as' r first ea S L pass place = subst (λ (as' : List Active). AreActive T L.cells as' S) (sym ea) pass.actives
 
-pub does-print : (T : Table) (old new : Lowerer) (r : RootNumber) (line : Line) → let a = active_at old.actives.items r.0 in new.tasks.items ≡ old.tasks.items ++ delivered_by a line
+pub does-print : (T : Table) (old new : Lowerer) (r : Root) (line : Line) → let a = active_at old.actives.items r.0 in new.tasks.items ≡ old.tasks.items ++ delivered_by a line
     → new.deliveries.items ≡ old.deliveries.items ++ each_of (a_delivery (length old.tasks.items) r (info_of T r).dims a.tracked.parts old.prints) (places a.tracked.parts) → new.prints ≡ old.prints + 1 → new.phases ≡ old.phases
     → new.actives.items ≡ old.actives.items → Does T old new (kept.Print r) 0 line
 does-print T old new r line et ed ep eh ea S L next place =
@@ -358,7 +358,7 @@ does-print T old new r line et ed ep eh ea S L next place =
 abbrev pub reduced_active : Active → Reduction → Active
 reduced_active a by = record { tracked = a.tracked; first = a.first; reduction = Some by }
 
-pub passes-redux : (T : Table) (old : Lowerer) (as' : List Active) (r : RootNumber) (by : Reduction) (first : ℕ) → as' ≡ set old.actives.items r.0 (reduced_active (active_at old.actives.items r.0) by) → PassesTo T old as' (kept.Redux r by) first
+pub passes-redux : (T : Table) (old : Lowerer) (as' : List Active) (r : Root) (by : Reduction) (first : ℕ) → as' ≡ set old.actives.items r.0 (reduced_active (active_at old.actives.items r.0) by) → PassesTo T old as' (kept.Redux r by) first
 passes-redux T old as' r by first ea S L pass place =
     let there = root_there (root_of S (name_of T r)) pass.sound.1 in
     let k = known T old (kept.Redux r by) S L r pass pass.placed there.0 there.1 in
@@ -368,7 +368,7 @@ passes-redux T old as' r by first ea S L pass place =
     (record { dims = k.active.dims; tracks = tracks-reduced by a.tracked k.root k.active.tracks; reduction = refl; handle = k.active.handle; named = k.active.named; taken = k.active.taken; room = k.active.room })
     (reduce (name_of T r) by S) (λ q. root-change (with_reduction by) (name_of T r) S k.root q k.is_root))
 
-pub does-redux : (T : Table) (old new : Lowerer) (r : RootNumber) (by : Reduction) (line : Line) → new.tasks.items ≡ old.tasks.items → new.deliveries.items ≡ old.deliveries.items → new.prints ≡ old.prints → new.phases ≡ old.phases
+pub does-redux : (T : Table) (old new : Lowerer) (r : Root) (by : Reduction) (line : Line) → new.tasks.items ≡ old.tasks.items → new.deliveries.items ≡ old.deliveries.items → new.prints ≡ old.prints → new.phases ≡ old.phases
     → new.actives.items ≡ set old.actives.items r.0 (reduced_active (active_at old.actives.items r.0) by) → Does T old new (kept.Redux r by) 0 line
 does-redux T old new r by line et ed ep eh ea S L next place = record {
   tasks = et ∙ next.follows.tasks ∙ sym (append-nil L.tasks);
@@ -382,18 +382,18 @@ does-redux T old new r by line et ed ep eh ea S L next place = record {
 abbrev pub blank_active : Active → Active
 blank_active a = record { tracked = even a.tracked.parts false; first = a.first; reduction = a.reduction }
 
-pub passes-invalidate : (T : Table) (old : Lowerer) (as' : List Active) (r : RootNumber) (first : ℕ) → as' ≡ set old.actives.items r.0 (blank_active (active_at old.actives.items r.0)) → PassesTo T old as' (kept.Invalidate r) first
+pub passes-invalidate : (T : Table) (old : Lowerer) (as' : List Active) (r : Root) (first : ℕ) → as' ≡ set old.actives.items r.0 (blank_active (active_at old.actives.items r.0)) → PassesTo T old as' (kept.Invalidate r) first
 passes-invalidate T old as' r first ea S L pass place =
     let there = root_there (root_of S (name_of T r)) pass.sound in
     let k = known T old (kept.Invalidate r) S L r pass pass.placed there.0 there.1 in
     let a = active_at old.actives.items r.0 in
-    let empty = λ (r : Root). with_elements (no_values r.dims) r in
+    let empty = λ (r : RootState). with_elements (no_values r.dims) r in
     subst (λ (as' : List Active). AreActive T L.cells as' (invalidate (name_of T r) S)) (sym ea)
     (changed-actives T L.cells L.cells old.actives.items S r.0 empty k.root (blank_active a) pass.actives pass.placed pass.distinct pass.few refl (λ q d s g t. t) k.is_root
     (record { dims = k.active.dims; tracks = tracks-invalidated a.tracked k.root k.active.tracks; reduction = k.active.reduction; handle = k.active.handle; named = k.active.named; taken = k.active.taken; room = k.active.room })
     (invalidate (name_of T r) S) (λ q. root-change empty (name_of T r) S k.root q k.is_root))
 
-pub does-invalidate : (T : Table) (old new : Lowerer) (r : RootNumber) (line : Line) → new.tasks.items ≡ old.tasks.items → new.deliveries.items ≡ old.deliveries.items → new.prints ≡ old.prints → new.phases ≡ old.phases
+pub does-invalidate : (T : Table) (old new : Lowerer) (r : Root) (line : Line) → new.tasks.items ≡ old.tasks.items → new.deliveries.items ≡ old.deliveries.items → new.prints ≡ old.prints → new.phases ≡ old.phases
     → new.actives.items ≡ set old.actives.items r.0 (blank_active (active_at old.actives.items r.0)) → Does T old new (kept.Invalidate r) 0 line
 does-invalidate T old new r line et ed ep eh ea S L next place = record {
   tasks = et ∙ next.follows.tasks ∙ sym (append-nil L.tasks);
@@ -403,17 +403,17 @@ does-invalidate T old new r line et ed ep eh ea S L next place = record {
   actives = passes-invalidate T old new.actives.items r 0 ea S L (can-pass T old (kept.Invalidate r) S L next) place;
 }
 
-pub passes-unregister : (T : Table) (old : Lowerer) (as' : List Active) (r : RootNumber) (first : ℕ) → as' ≡ old.actives.items → PassesTo T old as' (kept.Unregister r) first
+pub passes-unregister : (T : Table) (old : Lowerer) (as' : List Active) (r : Root) (first : ℕ) → as' ≡ old.actives.items → PassesTo T old as' (kept.Unregister r) first
 passes-unregister T old as' r first ea S L pass place = record {
   counted = ap length ea ∙ pass.actives.counted;
   each = λ n t lt e. subst (λ (as' : List Active). IsActive T L.cells n (active_at as' n) t) (sym ea) (by_test n t lt (bytes_eq (name_of T r) (name_of T (a_root n))) (sym (get-gone S.roots (name_of T r) (name_of T (a_root n))) ∙ e));
 }
   where
-    by_test : (n : ℕ) (t : Root) → n < L.cells.roots → (b : Bool) → cond b None (root_of S (name_of T (a_root n))) ≡ Some t → IsActive T L.cells n (active_at old.actives.items n) t
+    by_test : (n : ℕ) (t : RootState) → n < L.cells.roots → (b : Bool) → cond b None (root_of S (name_of T (a_root n))) ≡ Some t → IsActive T L.cells n (active_at old.actives.items n) t
     by_test n t lt true e = absurd (none_isn't t e)
     by_test n t lt false e = pass.actives.each n t lt e
 
-pub does-unregister : (T : Table) (l : Lowerer) (r : RootNumber) (line : Line) → Does T l l (kept.Unregister r) 0 line
+pub does-unregister : (T : Table) (l : Lowerer) (r : Root) (line : Line) → Does T l l (kept.Unregister r) 0 line
 does-unregister T l r line S L next place = record {
   tasks = next.follows.tasks ∙ sym (append-nil L.tasks);
   deliveries = next.follows.deliveries ∙ sym (append-nil L.deliveries);
@@ -426,11 +426,11 @@ does-unregister T l r line S L next place = record {
 pub at-default : (as' : List Active) (i : ℕ) (d : Active) → i < length as' → get_or as' i d ≡ active_at as' i
 at-default as' i d h = get_or_default as' i d no_active h
 
-pub fits-plan : (p : Parts) (d : Dims) → Fits p d → IsPlan p
+pub fits-plan : (p : Parts) (d : Dims) → Fits p d → IsSmallPlan p
 fits-plan p d f = record { some = positive_product p.r p.c f.some_rows f.some_cols; few = f.few }
 
 -- the tasks of a print statement are as many as the children
-pub many-delivered : (T : Table) (l : Lowerer) (S : State) (L : Lowering) (r : RootNumber) (line : Line) → IsNext T l (kept.Print r) S L → length (deliver_rows S L.cells (name_of T r) line) ≡ children_count (active_at l.actives.items r.0).tracked.parts
+pub many-delivered : (T : Table) (l : Lowerer) (S : JobState) (L : Lowering) (r : Root) (line : Line) → MayComeNext T l (kept.Print r) S L → length (deliver_rows S L.cells (name_of T r) line) ≡ children_count (active_at l.actives.items r.0).tracked.parts
 many-delivered T l S L r line next =
     let k = print-known T l S L r next in
     let a = active_at l.actives.items r.0 in

@@ -6,15 +6,15 @@ use Rattle.sj_base.specs.declared.ids.Line.{Line}
 use Rattle.sj_codelet.specs.declared.kernel.Kernel.{Kernel}
 use Rattle.sj_meaning.specs.declared.job.Statement.{Statement as Kept}
 use Rattle.sj_meaning.specs.Act.{Statement}
-use Rattle.sj_meaning.specs.State.{State, start}
+use Rattle.sj_meaning.specs.State.{JobState, start}
 use Rattle.sj_meaning.specs.Meaning.{apply}
 use Rattle.sj_meaning.specs.Table.{Table, IsTable}
-use Rattle.sj_meaning.specs.View.{ArePlaced, count_after, count_from, act_seen, statement_seen, seen_from}
+use Rattle.sj_meaning.specs.View.{ActsArePlaced, count_after, count_from, act_seen, statement_seen, seen_from}
 use Rattle.sj_job.specs.Well.{IsWell}
 use Rattle.sj_meaning.proofs.Views.{counts-grow, count-grows}
 use Rattle.sj_lower.specs.declared.lower.LowerRefusal.{LowerRefusal}
 use Rattle.sj_lower.specs.declared.lower.LowerRefusal.TheVariants.{TooManyCells, TooManyTasks, OutOfMemory}
-use Rattle.sj_lower.specs.declared.lower.Progress.{Progress}
+use Rattle.sj_lower.specs.declared.lower.LoweringProgress.{LoweringProgress}
 use Rattle.sj_lower.specs.Limits.{most, cells_in, tasks_in, first_above, above_at_end, line_or, late_tasks, late_cells, late_limit}
 use Rattle.sj_lower.specs.Lowering.{Lowering, nothing, lower_from, lower_one, finished}
 use Rattle.sj_lower.specs.Progress.{StandsAt, IsComing, HasComing, HasAt, Goes, IsFull, IsOverLimit, IsLate, Prepares, over_after}
@@ -29,15 +29,15 @@ abbrev pub lines_of : List (Statement (List ℕ)) → List Line
 lines_of ss = map (λ s. s.line) ss
 
 -- what is lowered so far for so many workers, and how the rest goes on from it
-pub record GoesOn (T : Table) (workers : ℕ) (g : Progress) (whole rest : List Kept) : Type 0 where
+pub record GoesOn (T : Table) (workers : ℕ) (g : LoweringProgress) (whole rest : List Kept) : Type 0 where
   pub has : Kernel → Bool
   pub before : ℕ
-  pub state : State
+  pub state : JobState
   pub so_far : Lowering
   pub at : StandsAt T g state so_far
   pub workers_are : g.workers ≡ workers
   pub well : IsWell has before state (seen_from T so_far.cells.roots rest)
-  pub placed : ArePlaced so_far.cells.roots rest
+  pub placed : ActsArePlaced so_far.cells.roots rest
   pub counted : count_from so_far.cells.roots rest ≡ length T.names
   pub numbered : AreNumbered T so_far.cells.roots so_far.cells state
   pub onward : lower_from workers state so_far (seen_from T so_far.cells.roots rest) ≡ lower_from workers start nothing (seen_from T 0 whole)
@@ -45,7 +45,7 @@ pub record GoesOn (T : Table) (workers : ℕ) (g : Progress) (whole rest : List 
   pub late_cells : first_above workers cells_in start nothing (seen_from T 0 whole) ≡ first_above workers cells_in state so_far (seen_from T so_far.cells.roots rest)
   pub late_tasks : first_above workers tasks_in start nothing (seen_from T 0 whole) ≡ line_or g.over (first_above workers tasks_in state so_far (seen_from T so_far.cells.roots rest))
 
-pub going-start : (has : Kernel → Bool) (T : Table) (workers : ℕ) (g : Progress) (ss : List Kept) → StandsAt T g start nothing → g.over ≡ None → g.last ≡ None → g.workers ≡ workers → IsWell has 0 start (seen_from T 0 ss) → ArePlaced 0 ss → count_from 0 ss ≡ length T.names → GoesOn T workers g ss ss
+pub going-start : (has : Kernel → Bool) (T : Table) (workers : ℕ) (g : LoweringProgress) (ss : List Kept) → StandsAt T g start nothing → g.over ≡ None → g.last ≡ None → g.workers ≡ workers → IsWell has 0 start (seen_from T 0 ss) → ActsArePlaced 0 ss → count_from 0 ss ≡ length T.names → GoesOn T workers g ss ss
 going-start has T workers g ss at none first workers_are well placed counted = record {
   has = has;
   before = 0;
@@ -63,7 +63,7 @@ going-start has T workers g ss at none first workers_are well placed counted = r
   late_tasks = sym (ap (λ o. line_or o (first_above workers tasks_in start nothing (seen_from T 0 ss))) none);
 }
 
-pub going-coming : (T : Table) (workers : ℕ) (g : Progress) (whole rest : List Kept) (s : Kept) → IsTable T → (w : GoesOn T workers g whole (s ∷ rest)) → IsComing T g s w.state w.so_far
+pub going-coming : (T : Table) (workers : ℕ) (g : LoweringProgress) (whole rest : List Kept) (s : Kept) → IsTable T → (w : GoesOn T workers g whole (s ∷ rest)) → IsComing T g s w.state w.so_far
 going-coming T workers g whole rest s table w =
     let n = w.so_far.cells.roots in
     let sound = (can_be w.has w.before w.state (act_seen T n s.act) w.well.0).sound in
@@ -81,7 +81,7 @@ going-coming T workers g whole rest s table w =
       table = table.1;
     }
 
-pub going-has : (T : Table) (workers : ℕ) (g : Progress) (whole rest : List Kept) (s : Kept) → IsTable T → GoesOn T workers g whole (s ∷ rest) → HasComing T g s
+pub going-has : (T : Table) (workers : ℕ) (g : LoweringProgress) (whole rest : List Kept) (s : Kept) → IsTable T → GoesOn T workers g whole (s ∷ rest) → HasComing T g s
 going-has T workers g whole rest s table w = record { state = w.state; lowering = w.so_far; coming = going-coming T workers g whole rest s table w }
 
 no_more : (n : ℕ) (a b : Option Line) → n ≤ most → (if nat_lt most n then a else b) ≡ b
@@ -105,7 +105,7 @@ kept_over None line L rest = by_test (nat_lt most (tasks_in L))
     by_test true = refl
     by_test false = refl
 
-pub going-more : (T : Table) (workers : ℕ) (old new : Progress) (whole rest : List Kept) (s : Kept) → IsTable T → GoesOn T workers old whole (s ∷ rest) → new.workers ≡ old.workers → new.last ≡ Some s.line → Goes T old new s → GoesOn T workers new whole rest
+pub going-more : (T : Table) (workers : ℕ) (old new : LoweringProgress) (whole rest : List Kept) (s : Kept) → IsTable T → GoesOn T workers old whole (s ∷ rest) → new.workers ≡ old.workers → new.last ≡ Some s.line → Goes T old new s → GoesOn T workers new whole rest
 going-more T workers old new whole rest s table w same line goes =
     let n = w.so_far.cells.roots in
     let m = count_after n s.act in
@@ -125,7 +125,7 @@ going-more T workers old new whole rest s table w same line goes =
       at = at;
       workers_are = same ∙ w.workers_are;
       well = subst (λ (m : ℕ). IsWell w.has (w.before + 1) S (seen_from T m rest)) (sym roots) w.well.1;
-      placed = subst (λ (m : ℕ). ArePlaced m rest) (sym roots) w.placed.1;
+      placed = subst (λ (m : ℕ). ActsArePlaced m rest) (sym roots) w.placed.1;
       counted = ap (λ m. count_from m rest) roots ∙ w.counted;
       numbered = subst (λ (m : ℕ). AreNumbered T m L.cells S) (sym roots) numbered;
       onward = ap (λ m. lower_from workers S L (seen_from T m rest)) roots ∙ w.onward;
@@ -138,7 +138,7 @@ going-more T workers old new whole rest s table w same line goes =
     }
 
 -- there is not enough room for the statement
-pub going-full : (T : Table) (workers : ℕ) (g : Progress) (whole rest : List Kept) (s : Kept) (e : LowerRefusal) → IsTable T → GoesOn T workers g whole (s ∷ rest) → IsFull T g s e → IsLate e (late_limit workers (seen_from T 0 whole))
+pub going-full : (T : Table) (workers : ℕ) (g : LoweringProgress) (whole rest : List Kept) (s : Kept) (e : LowerRefusal) → IsTable T → GoesOn T workers g whole (s ∷ rest) → IsFull T g s e → IsLate e (late_limit workers (seen_from T 0 whole))
 going-full T workers g whole rest s OutOfMemory table w full = tt
 going-full T workers g whole rest s (TooManyTasks line) table w full = absurd full
 going-full T workers g whole rest s (TooManyCells line) table w full =
@@ -152,8 +152,8 @@ going-full T workers g whole rest s (TooManyCells line) table w full =
     ap (λ o. late_cells o (late_tasks (line_or (first_above workers tasks_in start nothing (seen_from T 0 whole)) (above_at_end workers (seen_from T 0 whole))))) first
 
 -- nothing is left
-pub record IsDone (T : Table) (workers : ℕ) (g : Progress) (ss : List (Statement (List ℕ))) : Type 0 where
-  pub state : State
+pub record IsDone (T : Table) (workers : ℕ) (g : LoweringProgress) (ss : List (Statement (List ℕ))) : Type 0 where
+  pub state : JobState
   pub lowering : Lowering
   pub at : StandsAt T g state lowering
   pub workers_are : g.workers ≡ workers
@@ -161,7 +161,7 @@ pub record IsDone (T : Table) (workers : ℕ) (g : Progress) (ss : List (Stateme
   pub last : g.last ≡ last_or None (lines_of ss)
   pub late : late_limit workers ss ≡ late_tasks (line_or g.over (above_at_end workers ss))
 
-pub going-end : (T : Table) (workers : ℕ) (g : Progress) (whole : List Kept) → GoesOn T workers g whole [] → IsDone T workers g (seen_from T 0 whole)
+pub going-end : (T : Table) (workers : ℕ) (g : LoweringProgress) (whole : List Kept) → GoesOn T workers g whole [] → IsDone T workers g (seen_from T 0 whole)
 going-end T workers g whole w = record {
   state = w.state;
   lowering = w.so_far;
@@ -173,14 +173,14 @@ going-end T workers g whole w = record {
       ∙ ap (λ o. late_tasks (line_or o (above_at_end workers (seen_from T 0 whole)))) (line_or-none g.over);
 }
 
-pub done-has : (T : Table) (workers : ℕ) (g : Progress) (ss : List (Statement (List ℕ))) → IsDone T workers g ss → HasAt g
+pub done-has : (T : Table) (workers : ℕ) (g : LoweringProgress) (ss : List (Statement (List ℕ))) → IsDone T workers g ss → HasAt g
 done-has T workers g ss d = record { table = T; state = d.state; lowering = d.lowering; at = d.at }
 
 -- ---- the phases that are open at the end
 
 -- they are closed
-pub record IsShut (T : Table) (workers : ℕ) (g : Progress) (ss : List (Statement (List ℕ))) : Type 0 where
-  pub state : State
+pub record IsShut (T : Table) (workers : ℕ) (g : LoweringProgress) (ss : List (Statement (List ℕ))) : Type 0 where
+  pub state : JobState
   pub lowering : Lowering
   pub at : StandsAt T g state lowering
   pub workers_are : g.workers ≡ workers
@@ -197,8 +197,8 @@ no_statement [] e = refl
 no_statement (s ∷ ss) e = absurd (some_last s.line (lines_of ss) e)
 
 -- there was no statement
-pub shut-none : (T : Table) (workers : ℕ) (g new : Progress) (ss : List (Statement (List ℕ))) → IsDone T workers g ss → g.last ≡ None → new ≡ g → IsShut T workers new ss
-shut-none T workers g new ss d none same = subst (λ (h : Progress). IsShut T workers h ss) (sym same) (record {
+pub shut-none : (T : Table) (workers : ℕ) (g new : LoweringProgress) (ss : List (Statement (List ℕ))) → IsDone T workers g ss → g.last ≡ None → new ≡ g → IsShut T workers new ss
+shut-none T workers g new ss d none same = subst (λ (h : LoweringProgress). IsShut T workers h ss) (sym same) (record {
   state = d.state;
   lowering = d.lowering;
   at = d.at;
@@ -218,7 +218,7 @@ shut-none T workers g new ss d none same = subst (λ (h : Progress). IsShut T wo
     at_end = ap (λ o. if nat_lt most (tasks_in (finished workers (lower_from workers start nothing ss))) then o else None) (sym d.last ∙ none) ∙ either (nat_lt most (tasks_in (finished workers (lower_from workers start nothing ss)))) None
 
 -- their tasks count for the last statement
-pub shut-last : (T : Table) (workers : ℕ) (g new : Progress) (ss : List (Statement (List ℕ))) (line : Line) → IsDone T workers g ss → g.last ≡ Some line → Prepares g new line (finished g.workers) → IsShut T workers new ss
+pub shut-last : (T : Table) (workers : ℕ) (g new : LoweringProgress) (ss : List (Statement (List ℕ))) (line : Line) → IsDone T workers g ss → g.last ≡ Some line → Prepares g new line (finished g.workers) → IsShut T workers new ss
 shut-last T workers g new ss line d is closes = record {
   state = d.state;
   lowering = finished workers d.lowering;
@@ -238,14 +238,14 @@ shut-last T workers g new ss line d is closes = record {
     kept None L = refl
     kept (Some first) L = refl
 
-pub shut : (T : Table) (workers : ℕ) (g new : Progress) (ss : List (Statement (List ℕ))) → IsDone T workers g ss → (g.last ≡ None → new ≡ g) → ((line : Line) → g.last ≡ Some line → Prepares g new line (finished g.workers)) → IsShut T workers new ss
+pub shut : (T : Table) (workers : ℕ) (g new : LoweringProgress) (ss : List (Statement (List ℕ))) → IsDone T workers g ss → (g.last ≡ None → new ≡ g) → ((line : Line) → g.last ≡ Some line → Prepares g new line (finished g.workers)) → IsShut T workers new ss
 shut T workers g new ss d none closes = by_last g.last refl
   where
     by_last : (o : Option Line) → g.last ≡ o → IsShut T workers new ss
     by_last None e = shut-none T workers g new ss d e (none e)
     by_last (Some line) e = shut-last T workers g new ss line d e (closes line e)
 
-pub shut-over : (T : Table) (workers : ℕ) (g : Progress) (ss : List (Statement (List ℕ))) (e : LowerRefusal) → IsShut T workers g ss → IsOverLimit e g.over → IsLate e (late_limit workers ss)
+pub shut-over : (T : Table) (workers : ℕ) (g : LoweringProgress) (ss : List (Statement (List ℕ))) (e : LowerRefusal) → IsShut T workers g ss → IsOverLimit e g.over → IsLate e (late_limit workers ss)
 shut-over T workers g ss OutOfMemory d h = tt
 shut-over T workers g ss (TooManyCells line) d h = absurd h
 shut-over T workers g ss (TooManyTasks line) d h = d.late ∙ ap late_tasks h

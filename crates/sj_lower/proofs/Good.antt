@@ -36,20 +36,20 @@ use Rattle.sj_base.proofs.Numbers.{length_more, none_more}
 use Rattle.sj_base.proofs.Bools.{or_first, implied}
 use Rattle.sj_base.proofs.SameIds.{same_cell-is}
 use Rattle.sj_base.specs.Ids.{task}
-use Rattle.sj_core.specs.Proper.{HasValueBefore, Fits, MayHaveModes, IsPlain, IsUnaliased, gives_value, mode_of}
+use Rattle.sj_core.specs.Proper.{HasValueBefore, FitsCodelet, MayHaveModes, IsPlain, IsUnaliased, gives_value, mode_of}
 use Rattle.sj_core.specs.Fold.{Contents}
 use Rattle.sj_core.proofs.Reduction.{read-is}
 use Rattle.sj_plan.specs.declared.parts.Parts.{Parts}
 use Rattle.sj_plan.specs.declared.paste.Paste.{Paste}
 use Rattle.sj_plan.specs.declared.rect.Rect.{Rect}
-use Rattle.sj_plan.specs.Parts.{IsPlace, Fits as PlanFits}
-use Rattle.sj_plan.specs.Paste.{same_place, copy_of as paste_copy, is_first, pastes_to, IsBetween}
+use Rattle.sj_plan.specs.Parts.{IsPlace, Fits}
+use Rattle.sj_plan.specs.Paste.{same_child_place, paste_copy, is_first, pastes_to, IsPasteBetween}
 use Rattle.sj_plan.specs.Pieces.{BeginOnce}
-use Rattle.sj_plan.specs.Rect.{child, dims_of as rect_dims}
+use Rattle.sj_plan.specs.Rect.{child, rect_dims}
 use Rattle.sj_plan.specs.Window.{window}
-use Rattle.sj_plan.proofs.Repartitioning.{same_place-refl}
+use Rattle.sj_plan.proofs.Repartitioning.{same_child_place-refl}
 use Rattle.sj_meaning.specs.Statement.{Operand, TaskLine}
-use Rattle.sj_meaning.specs.State.{Root, State, root_of}
+use Rattle.sj_meaning.specs.State.{RootState, JobState, root_of}
 use Rattle.sj_meaning.specs.Sound.{is_unordered, mode_fits, modes_fit, needs_value, clashes, is_aliased}
 use Rattle.sj_meaning.specs.Meaning.{written_of}
 use Rattle.sj_meaning.specs.Sound.{is_lawful, has_child, has_child_values, child_dims, IsSoundTask}
@@ -74,7 +74,7 @@ HasItsCopies p n a = is_redux a.mode ≡ true → (is_some (cell_info p a.cell).
 -- a task of the program is one that it may have at that number
 pub record IsGood (p : Program) (n : ℕ) (l : Lowered) : Type 0 where
   pub cells : All (λ a. a.cell.0 < length p.cells) l.accesses
-  pub fits : Fits p l
+  pub fits : FitsCodelet p l
   pub unaliased : IsUnaliased l
   pub values : All (λ a. reads_value a.mode ≡ true → HasValueBefore p (task n) a.cell) l.accesses
   pub copies : All (HasItsCopies p n) l.accesses
@@ -179,7 +179,7 @@ good_deliver p n c line inside bare given = record {
 counts_pass : (a b c d e f : ℕ) → list_all (int_le (pos 0)) (pos a ∷ pos b ∷ pos c ∷ pos d ∷ pos e ∷ pos f ∷ []) ≡ true
 counts_pass a b c d e f = and_from _ _ (le-leb 0 a (omega arith)) (and_from _ _ (le-leb 0 b (omega arith)) (and_from _ _ (le-leb 0 c (omega arith)) (and_from _ _ (le-leb 0 d (omega arith)) (and_from _ _ (le-leb 0 e (omega arith)) (and_from _ _ (le-leb 0 f (omega arith)) refl)))))
 
-paste_fits : (d : Dims) (s t : Parts) (x : Paste) (o w : Dims) → IsBetween d s t x → o ≡ rect_dims (child d s x.from) → w ≡ rect_dims (child d t x.to) → fits PasteKernel (paste_arguments x) (o ∷ w ∷ []) ≡ true
+paste_fits : (d : Dims) (s t : Parts) (x : Paste) (o w : Dims) → IsPasteBetween d s t x → o ≡ rect_dims (child d s x.from) → w ≡ rect_dims (child d t x.to) → fits PasteKernel (paste_arguments x) (o ∷ w ∷ []) ≡ true
 paste_fits d s t x o w h eo ew =
     ap (λ (o : Dims). fits PasteKernel (paste_arguments x) (o ∷ w ∷ [])) eo ∙ ap (λ (w : Dims). fits PasteKernel (paste_arguments x) (rect_dims (child d s x.from) ∷ w ∷ [])) ew
     ∙ and_from _ _ (and_from _ _ (counts_pass x.at_from.0 x.at_from.1 x.at_to.0 x.at_to.1 x.rows x.cols) (and_from _ _ (le-leb _ _ h.in_old.0) (le-leb _ _ h.in_old.1))) (and_from _ _ (le-leb _ _ h.in_new.0) (le-leb _ _ h.in_new.1))
@@ -213,26 +213,26 @@ pub record CanPaste (p : Program) (n : ℕ) (d : Dims) (s t : Parts) (old new : 
   pub apart : (from to : ℕ × ℕ) → IsPlace s from → IsPlace t to → same_cell (old from) (new to) ≡ false
   pub given : (from : ℕ × ℕ) → IsPlace s from → HasValueBefore p (task n) (old from)
 
-good_paste : (p : Program) (n m : ℕ) (d : Dims) (s t : Parts) (old new : ℕ × ℕ → Cell) (line : Line) (x : Paste) → CanPaste p n d s t old new → n ≤ m → IsBetween d s t x → (is_first x ≡ false → HasValueBefore p (task m) (new x.to)) → IsGood p m (paste_row old new line x)
+good_paste : (p : Program) (n m : ℕ) (d : Dims) (s t : Parts) (old new : ℕ × ℕ → Cell) (line : Line) (x : Paste) → CanPaste p n d s t old new → n ≤ m → IsPasteBetween d s t x → (is_first x ≡ false → HasValueBefore p (task m) (new x.to)) → IsGood p m (paste_row old new line x)
 good_paste p n m d s t old new line x can h b had =
     good_by p m x (old x.from) (new x.to) line (is_first x) (can.from_inside x.from b.from) (can.to_inside x.to b.to) (can.apart x.from x.to b.from b.to)
     (paste_fits d s t x (dims_of p (old x.from)) (dims_of p (new x.to)) b (can.from_dims x.from b.from) (can.to_dims x.to b.to)) (later p n m (old x.from) h (can.given x.from b.from)) had
 
 -- further pastes to a child that has a value
-good_further : (p : Program) (n m : ℕ) (d : Dims) (s t : Parts) (old new : ℕ × ℕ → Cell) (line : Line) (to : ℕ × ℕ) (xs : List Paste) → CanPaste p n d s t old new → n ≤ m → AllByRecursion (IsBetween d s t) xs → AllByRecursion (GoesTo s to) xs → HasValueBefore p (task m) (new to) → AllByRecursion (IsGood p m) (each_of (paste_row old new line) xs)
+good_further : (p : Program) (n m : ℕ) (d : Dims) (s t : Parts) (old new : ℕ × ℕ → Cell) (line : Line) (to : ℕ × ℕ) (xs : List Paste) → CanPaste p n d s t old new → n ≤ m → AllByRecursion (IsPasteBetween d s t) xs → AllByRecursion (GoesTo s to) xs → HasValueBefore p (task m) (new to) → AllByRecursion (IsGood p m) (each_of (paste_row old new line) xs)
 good_further p n m d s t old new line to [] can h bs gs had = tt
 good_further p n m d s t old new line to (x ∷ xs) can h bs gs had =
     (good_paste p n m d s t old new line x can h bs.0 (λ e. subst (λ (q : ℕ × ℕ). HasValueBefore p (task m) (new q)) (sym gs.0.1) had), good_further p n m d s t old new line to xs can h bs.1 gs.1 had)
 
 -- all pastes to a child, of which the first gives it a value
-good_first : (p : Program) (n m : ℕ) (d : Dims) (s t : Parts) (old new : ℕ × ℕ → Cell) (line : Line) (to : ℕ × ℕ) (xs : List Paste) → CanPaste p n d s t old new → n ≤ m → AllByRecursion (IsBetween d s t) xs → AllByRecursion (GoesTo s to) xs → BeginOnce (each_of paste_copy xs)
+good_first : (p : Program) (n m : ℕ) (d : Dims) (s t : Parts) (old new : ℕ × ℕ → Cell) (line : Line) (to : ℕ × ℕ) (xs : List Paste) → CanPaste p n d s t old new → n ≤ m → AllByRecursion (IsPasteBetween d s t) xs → AllByRecursion (GoesTo s to) xs → BeginOnce (each_of paste_copy xs)
     → Stand p m (each_of (paste_row old new line) xs) → AreGood p m (each_of (paste_row old new line) xs)
 good_first p n m d s t old new line to [] can h bs gs once stand = tt
 good_first p n m d s t old new line to (x ∷ xs) can h bs gs once stand =
     let gives : HasValueBefore p (task (m + 1)) (new to) = (task m, omega arith, ap (λ (l : Lowered). gives_value l (new to)) stand.0 ∙ ap (λ (q : ℕ × ℕ). gives_value (paste_row old new line x) (new q)) (sym gs.0.1) ∙ paste-gives old new line x) in
     (good_paste p n m d s t old new line x can h bs.0 (λ e. absurd (false≢true (sym e ∙ once.0))), good-all p (m + 1) (each_of (paste_row old new line) xs) (good_further p n (m + 1) d s t old new line to xs can (omega arith) bs.1 gs.1 gives))
 
-pub good_pastes_to : (p : Program) (n m : ℕ) (d : Dims) (s t : Parts) (old new : ℕ × ℕ → Cell) (line : Line) (to : ℕ × ℕ) → CanPaste p n d s t old new → PlanFits s d → PlanFits t d → IsPlace t to → n ≤ m
+pub good_pastes_to : (p : Program) (n m : ℕ) (d : Dims) (s t : Parts) (old new : ℕ × ℕ → Cell) (line : Line) (to : ℕ × ℕ) → CanPaste p n d s t old new → Fits s d → Fits t d → IsPlace t to → n ≤ m
     → Stand p m (each_of (paste_row old new line) (pastes_to d s t to)) → AreGood p m (each_of (paste_row old new line) (pastes_to d s t to))
 good_pastes_to p n m d s t old new line to can fs ft at h stand =
     good_first p n m d s t old new line to (pastes_to d s t to) can h (pastes-between d s t to at) (pastes-go d s t to) (pastes-begin d s t to fs ft at) stand
@@ -248,14 +248,14 @@ reading_needs Redux h e = absurd (false≢true h)
 reading_needs Commute h e = refl
 
 -- each root has taken its active plan
-abbrev pub HavePlans : Cells → State → Type 0
-HavePlans C S = (q : List ℕ) (r : Root) → root_of S q ≡ Some r → (f : ℕ) × IsTaken C q r.dims r.parts f
+abbrev pub HavePlans : Cells → JobState → Type 0
+HavePlans C S = (q : List ℕ) (r : RootState) → root_of S q ≡ Some r → (f : ℕ) × IsTaken C q r.dims r.parts f
 
-pub plans-of : (p : Program) (C : Cells) (phases : Phases) (n : ℕ) (k : Contents) (S : State) → HaveRoots p C phases n k S → HavePlans C S
+pub plans-of : (p : Program) (C : Cells) (phases : Phases) (n : ℕ) (k : Contents) (S : JobState) → HaveRoots p C phases n k S → HavePlans C S
 plans-of p C phases n k S has q r e = let b = has q r e in (b.first, b.taken)
 
 -- the operands' cells are there
-all_inside : (p : Program) (C : Cells) (S : State) (os : List (Operand (List ℕ))) → HasCells p C → AreLaid C → HavePlans C S → list_all (has_child S) os ≡ true → All (λ (a : Access). a.cell.0 < length p.cells) (each_of (access_of S C) os)
+all_inside : (p : Program) (C : Cells) (S : JobState) (os : List (Operand (List ℕ))) → HasCells p C → AreLaid C → HavePlans C S → list_all (has_child S) os ≡ true → All (λ (a : Access). a.cell.0 < length p.cells) (each_of (access_of S C) os)
 all_inside p C S [] cells laid has placed = All-nil (λ (a : Access). a.cell.0 < length p.cells)
 all_inside p C S (o ∷ os) cells laid has placed =
     let b = and_parts (has_child S o) (list_all (has_child S) os) placed in
@@ -264,7 +264,7 @@ all_inside p C S (o ∷ os) cells laid has placed =
     let cell = ap (λ (c : Cell). c.0) (active_cell-is S C o.name o.place t.root t.is_root) in
     All-cons (λ (a : Access). a.cell.0 < length p.cells) (access_of S C o) (each_of (access_of S C) os) (omega (arith, cell, cell-inside C o.name t.root.dims t.root.parts r.0 o.place laid r.1 t.placed, cells.longer)) (all_inside p C S os cells laid has b.1)
 
-pub all_given : (p : Program) (C : Cells) (phases : Phases) (S : State) (n : ℕ) (k : Contents) (os : List (Operand (List ℕ))) → HaveRoots p C phases n k S → list_all (λ o. is_direct o.mode) os ≡ true → list_all (has_child S) os ≡ true → list_all (λ o. not (needs_value o.mode) || has_child_values S o) os ≡ true → All (λ (a : Access). reads_value a.mode ≡ true → HasValueBefore p (task n) a.cell) (each_of (access_of S C) os)
+pub all_given : (p : Program) (C : Cells) (phases : Phases) (S : JobState) (n : ℕ) (k : Contents) (os : List (Operand (List ℕ))) → HaveRoots p C phases n k S → list_all (λ o. is_direct o.mode) os ≡ true → list_all (has_child S) os ≡ true → list_all (λ o. not (needs_value o.mode) || has_child_values S o) os ≡ true → All (λ (a : Access). reads_value a.mode ≡ true → HasValueBefore p (task n) a.cell) (each_of (access_of S C) os)
 all_given p C phases S n k [] has h placed valued = All-nil (λ (a : Access). reads_value a.mode ≡ true → HasValueBefore p (task n) a.cell)
 all_given p C phases S n k (o ∷ os) has h placed valued =
     let a = and_parts (is_direct o.mode) (list_all (λ o. is_direct o.mode) os) h in
@@ -278,7 +278,7 @@ all_given p C phases S n k (o ∷ os) has h placed valued =
     (all_given p C phases S n k os has a.1 b.1 c.1)
 
 -- operands of which none is a contribution
-pub no_copies : (p : Program) (S : State) (C : Cells) (n : ℕ) (os : List (Operand (List ℕ))) → list_all (λ o. is_direct o.mode) os ≡ true → All (HasItsCopies p n) (each_of (access_of S C) os)
+pub no_copies : (p : Program) (S : JobState) (C : Cells) (n : ℕ) (os : List (Operand (List ℕ))) → list_all (λ o. is_direct o.mode) os ≡ true → All (HasItsCopies p n) (each_of (access_of S C) os)
 no_copies p S C n [] h = All-nil (HasItsCopies p n)
 no_copies p S C n (o ∷ os) h =
     let a = and_parts (is_direct o.mode) (list_all (λ o. is_direct o.mode) os) h in
@@ -295,7 +295,7 @@ no_clash true true false d e h k = absurd (false≢true (sym e))
 no_clash true false c d e h k = absurd (false≢true k)
 no_clash false b c d e h k = absurd (false≢true h)
 
-pair_reads : (C : Cells) (S : State) (o q : Operand (List ℕ)) → AreLaid C → HavePlans C S → has_child S o ≡ true → has_child S q ≡ true → clashes o q ≡ false → ReadOnly (access_of S C o) (access_of S C q)
+pair_reads : (C : Cells) (S : JobState) (o q : Operand (List ℕ)) → AreLaid C → HavePlans C S → has_child S o ≡ true → has_child S q ≡ true → clashes o q ≡ false → ReadOnly (access_of S C o) (access_of S C q)
 pair_reads C S o q laid has ho hq e same =
     let t = child_there S o ho in
     let u = child_there S q hq in
@@ -303,24 +303,24 @@ pair_reads C S o q laid has ho hq e same =
     let s = has q.name u.root u.is_root in
     let cells = sym (active_cell-is S C o.name o.place t.root t.is_root) ∙ same_cell-is (operand_cell S C o) (operand_cell S C q) same ∙ active_cell-is S C q.name q.place u.root u.is_root in
     let one = cells-apart C o.name q.name t.root.dims u.root.dims t.root.parts u.root.parts r.0 s.0 o.place q.place laid r.1 s.1 t.placed u.placed cells in
-    let reads = no_clash (bytes_eq o.name q.name) (same_place o.place q.place) (is_read_only o.mode) (is_read_only q.mode) e (ap (bytes_eq o.name) (sym one.0) ∙ bytes_eq-itself o.name) (ap (same_place o.place) (sym one.2) ∙ same_place-refl o.place) in
+    let reads = no_clash (bytes_eq o.name q.name) (same_child_place o.place q.place) (is_read_only o.mode) (is_read_only q.mode) e (ap (bytes_eq o.name) (sym one.0) ∙ bytes_eq-itself o.name) (ap (same_child_place o.place) (sym one.2) ∙ same_child_place-refl o.place) in
     (read-is o.mode reads.0, read-is q.mode reads.1)
 
-none_clash : (C : Cells) (S : State) (o : Operand (List ℕ)) (os : List (Operand (List ℕ))) → AreLaid C → HavePlans C S → has_child S o ≡ true → list_all (has_child S) os ≡ true → list_any (clashes o) os ≡ false → All (ReadOnly (access_of S C o)) (each_of (access_of S C) os)
+none_clash : (C : Cells) (S : JobState) (o : Operand (List ℕ)) (os : List (Operand (List ℕ))) → AreLaid C → HavePlans C S → has_child S o ≡ true → list_all (has_child S) os ≡ true → list_any (clashes o) os ≡ false → All (ReadOnly (access_of S C o)) (each_of (access_of S C) os)
 none_clash C S o [] laid has ho placed e = All-nil (ReadOnly (access_of S C o))
 none_clash C S o (q ∷ os) laid has ho placed e =
     let b = and_parts (has_child S q) (list_all (has_child S) os) placed in
     let c = or_parts (clashes o q) (list_any (clashes o) os) e in
     All-cons (ReadOnly (access_of S C o)) (access_of S C q) (each_of (access_of S C) os) (pair_reads C S o q laid has ho b.0 c.0) (none_clash C S o os laid has ho b.1 c.1)
 
-all_apart : (C : Cells) (S : State) (os : List (Operand (List ℕ))) → AreLaid C → HavePlans C S → list_all (has_child S) os ≡ true → is_aliased os ≡ false → AllPairs ReadOnly (each_of (access_of S C) os)
+all_apart : (C : Cells) (S : JobState) (os : List (Operand (List ℕ))) → AreLaid C → HavePlans C S → list_all (has_child S) os ≡ true → is_aliased os ≡ false → AllPairs ReadOnly (each_of (access_of S C) os)
 all_apart C S [] laid has placed e = λ i j d h k. absurd (omega arith)
 all_apart C S (o ∷ os) laid has placed e =
     let b = and_parts (has_child S o) (list_all (has_child S) os) placed in
     let c = or_parts (list_any (clashes o) os) (is_aliased os) e in
     AllPairs-cons ReadOnly (access_of S C o) (each_of (access_of S C) os) (none_clash C S o os laid has b.0 b.1 c.0) (all_apart C S os laid has b.1 c.1)
 
-all_dims_are : (p : Program) (C : Cells) (S : State) (os : List (Operand (List ℕ))) → HasCells p C → AreLaid C → HavePlans C S → list_all (has_child S) os ≡ true → each_of (λ (a : Access). dims_of p a.cell) (each_of (access_of S C) os) ≡ each_of (child_dims S) os
+all_dims_are : (p : Program) (C : Cells) (S : JobState) (os : List (Operand (List ℕ))) → HasCells p C → AreLaid C → HavePlans C S → list_all (has_child S) os ≡ true → each_of (λ (a : Access). dims_of p a.cell) (each_of (access_of S C) os) ≡ each_of (child_dims S) os
 all_dims_are p C S [] cells laid has placed = refl
 all_dims_are p C S (o ∷ os) cells laid has placed =
     let b = and_parts (has_child S o) (list_all (has_child S) os) placed in
@@ -329,7 +329,7 @@ all_dims_are p C S (o ∷ os) cells laid has placed =
     ap (λ (d : Dims). d ∷ each_of (λ (a : Access). dims_of p a.cell) (each_of (access_of S C) os)) (ap (dims_of p) (active_cell-is S C o.name o.place t.root t.is_root) ∙ cell-dims p C o.name t.root.dims t.root.parts r.0 o.place cells laid r.1 t.placed ∙ sym (child_dims-are S o t.root t.is_root))
     ∙ ap (λ (ds : List Dims). child_dims S o ∷ ds) (all_dims_are p C S os cells laid has b.1)
 
-modes_of_accesses : (S : State) (C : Cells) (os : List (Operand (List ℕ))) → each_of (λ (a : Access). a.mode) (each_of (access_of S C) os) ≡ each_of (λ (o : Operand (List ℕ)). o.mode) os
+modes_of_accesses : (S : JobState) (C : Cells) (os : List (Operand (List ℕ))) → each_of (λ (a : Access). a.mode) (each_of (access_of S C) os) ≡ each_of (λ (o : Operand (List ℕ)). o.mode) os
 modes_of_accesses S C [] = refl
 modes_of_accesses S C (o ∷ os) = ap (λ (ms : List Mode). o.mode ∷ ms) (modes_of_accesses S C os)
 
@@ -475,7 +475,7 @@ commuting-writes (o ∷ os) e any = by_test (is_written o.mode) refl e any (comm
         second false h e = e
 
 -- the codelet of a commuting operand commutes
-commuting-codelet : (has : Kernel → Bool) (S : State) (t : TaskLine (List ℕ)) (k : Kernel) → kernel_of t.codelet ≡ Some k → (os : List (Operand (List ℕ))) → list_all (is_lawful has S t.codelet) os ≡ true → list_any (λ o. is_commute o.mode) os ≡ true → commutes_of k ≡ true
+commuting-codelet : (has : Kernel → Bool) (S : JobState) (t : TaskLine (List ℕ)) (k : Kernel) → kernel_of t.codelet ≡ Some k → (os : List (Operand (List ℕ))) → list_all (is_lawful has S t.codelet) os ≡ true → list_any (λ o. is_commute o.mode) os ≡ true → commutes_of k ≡ true
 commuting-codelet has S t k e [] law any = absurd (false≢true any)
 commuting-codelet has S t k e (o ∷ os) law any =
     let a = and_parts (is_lawful has S t.codelet o) (list_all (is_lawful has S t.codelet) os) law in
@@ -498,7 +498,7 @@ any-unordered (o ∷ os) e = by_test (is_redux o.mode) (is_commute o.mode) e (an
     by_test false false e rest = rest e
 
 -- the modes of a task without contributions
-pub direct-modes : (has : Kernel → Bool) (S : State) (t : TaskLine (List ℕ)) (s : IsSoundTask has S t) → list_all (λ o. is_direct o.mode) t.operands ≡ true → MayHaveModes (kernel_there has S t s).call.kernel (each_of (λ (o : Operand (List ℕ)). o.mode) t.operands)
+pub direct-modes : (has : Kernel → Bool) (S : JobState) (t : TaskLine (List ℕ)) (s : IsSoundTask has S t) → list_all (λ o. is_direct o.mode) t.operands ≡ true → MayHaveModes (kernel_there has S t s).call.kernel (each_of (λ (o : Operand (List ℕ)). o.mode) t.operands)
 direct-modes has S t s direct = by_test (list_any (λ o. is_commute o.mode) t.operands) refl
   where
     by_test : (b : Bool) → list_any (λ o. is_commute o.mode) t.operands ≡ b → MayHaveModes (kernel_there has S t s).call.kernel (each_of (λ (o : Operand (List ℕ)). o.mode) t.operands)
@@ -510,7 +510,7 @@ direct-modes has S t s direct = by_test (list_any (λ o. is_commute o.mode) t.op
         (modes-with Commute (formals_of k.call.kernel) t.operands k.modes k.count (commuting-writes t.operands one any))
 
 -- the modes of one with a contribution
-pub contribution-modes : (has : Kernel → Bool) (S : State) (t : TaskLine (List ℕ)) (s : IsSoundTask has S t) → Contributes S t (kernel_there has S t s).call.kernel → MayHaveModes (kernel_there has S t s).call.kernel (each_of (λ (o : Operand (List ℕ)). o.mode) t.operands)
+pub contribution-modes : (has : Kernel → Bool) (S : JobState) (t : TaskLine (List ℕ)) (s : IsSoundTask has S t) → Contributes S t (kernel_there has S t s).call.kernel → MayHaveModes (kernel_there has S t s).call.kernel (each_of (λ (o : Operand (List ℕ)). o.mode) t.operands)
 contribution-modes has S t s con =
     let k = kernel_there has S t s in
     MayHaveModes.Contributing con.by con.contributes (outputs-count (formals_of k.call.kernel) t.operands k.modes k.count ∙ ap length con.written)
@@ -522,7 +522,7 @@ contribution-modes has S t s con =
 
 -- ---- tasks of task lines
 
-pub good_task : (has : Kernel → Bool) (p : Program) (C : Cells) (S : State) (n : ℕ) (t : TaskLine (List ℕ)) (line : Line) → HasCells p C → AreLaid C → HavePlans C S → (s : IsSoundTask has S t) → MayHaveModes (kernel_there has S t s).call.kernel (each_of (λ (o : Operand (List ℕ)). o.mode) t.operands)
+pub good_task : (has : Kernel → Bool) (p : Program) (C : Cells) (S : JobState) (n : ℕ) (t : TaskLine (List ℕ)) (line : Line) → HasCells p C → AreLaid C → HavePlans C S → (s : IsSoundTask has S t) → MayHaveModes (kernel_there has S t s).call.kernel (each_of (λ (o : Operand (List ℕ)). o.mode) t.operands)
     → All (λ (a : Access). reads_value a.mode ≡ true → HasValueBefore p (task n) a.cell) (each_of (access_of S C) t.operands) → All (HasItsCopies p n) (each_of (access_of S C) t.operands) → (kernel_of t.codelet ≡ Some Deliver → ⊥) → IsGood p n (task_row S C line t)
 good_task has p C S n t line cells laid plans s modes given copies nameable =
     let kernel = kernel_there has S t s in

@@ -18,12 +18,12 @@ use Rattle.sj_core.specs.Proper.{HasValueBefore}
 use Rattle.sj_core.specs.Fold.{Contents, held_in}
 use Rattle.sj_plan.specs.declared.parts.Parts.{Parts}
 use Rattle.sj_plan.specs.Parts.{Fits, IsPlace}
-use Rattle.sj_plan.specs.Paste.{same_place}
-use Rattle.sj_plan.specs.Rect.{child, dims_of as rect_dims}
+use Rattle.sj_plan.specs.Paste.{same_child_place}
+use Rattle.sj_plan.specs.Rect.{child, rect_dims}
 use Rattle.sj_plan.specs.Window.{IsWhole}
-use Rattle.sj_plan.proofs.Repartitioning.{same_place-law, same_place-refl}
+use Rattle.sj_plan.proofs.Repartitioning.{same_child_place-law, same_child_place-refl}
 use Rattle.sj_meaning.specs.Statement.{Operand}
-use Rattle.sj_meaning.specs.State.{Root, State, root_of, is_child, child_rect, is_valued_child}
+use Rattle.sj_meaning.specs.State.{RootState, JobState, root_of, is_child, child_rect, is_valued_child}
 use Rattle.sj_meaning.specs.Meaning.{integers_of, child_array, with_child, put, put_all}
 use Rattle.sj_meaning.proofs.Finding.{root-change}
 use Rattle.sj_lower.specs.Cells.{Cells, cell_of, info_at, copy_at}
@@ -45,7 +45,7 @@ pub record IsHeld (p : Program) (phases : Phases) (n : ℕ) (k : Contents) (c : 
 
 -- a name's root is whole, its active plan is taken, the cells of its children hold their arrays, and a child whose phase is open
 -- has a value
-pub record HasRoot (p : Program) (C : Cells) (phases : Phases) (n : ℕ) (k : Contents) (q : List ℕ) (r : Root) : Type 0 where
+pub record HasRoot (p : Program) (C : Cells) (phases : Phases) (n : ℕ) (k : Contents) (q : List ℕ) (r : RootState) : Type 0 where
   pub fits : Fits r.parts r.dims
   pub whole : length r.elements ≡ area r.dims
   pub first : ℕ
@@ -54,8 +54,8 @@ pub record HasRoot (p : Program) (C : Cells) (phases : Phases) (n : ℕ) (k : Co
   pub blank : (place : ℕ × ℕ) → IsPlace r.parts place → is_valued_child r place ≡ false → phases (cell_of C q r.parts place) ≡ None
   pub reduced : (place : ℕ × ℕ) (f : OpenPhase) → IsPlace r.parts place → phases (cell_of C q r.parts place) ≡ Some f → r.reduction ≡ Some f.by
 
-abbrev pub HaveRoots : Program → Cells → Phases → ℕ → Contents → State → Type 0
-HaveRoots p C phases n k S = (q : List ℕ) (r : Root) → root_of S q ≡ Some r → HasRoot p C phases n k q r
+abbrev pub HaveRoots : Program → Cells → Phases → ℕ → Contents → JobState → Type 0
+HaveRoots p C phases n k S = (q : List ℕ) (r : RootState) → root_of S q ≡ Some r → HasRoot p C phases n k q r
 
 -- the partial copies of the open phases are those of their cells
 pub record HaveTheirs (workers : ℕ) (C : Cells) (phases : Phases) : Type 0 where
@@ -90,7 +90,7 @@ held-kept p phases after m n k new c x more e same copies h = record {
 }
 
 -- a root whose cells hold what they held
-pub root-kept : (p : Program) (C D : Cells) (phases after : Phases) (m n : ℕ) (k new : Contents) (q : List ℕ) (r : Root) → (b : HasRoot p C phases m k q r) → IsTaken D q r.dims r.parts b.first → m ≤ n
+pub root-kept : (p : Program) (C D : Cells) (phases after : Phases) (m n : ℕ) (k new : Contents) (q : List ℕ) (r : RootState) → (b : HasRoot p C phases m k q r) → IsTaken D q r.dims r.parts b.first → m ≤ n
     → (IsTrusted p → (place : ℕ × ℕ) → IsPlace r.parts place → held_in p new (cell_of D q r.parts place) ≡ held_in p k (cell_of D q r.parts place))
     → ((place : ℕ × ℕ) → IsPlace r.parts place → after (cell_of D q r.parts place) ≡ phases (cell_of D q r.parts place))
     → (IsTrusted p → (place : ℕ × ℕ) (f : OpenPhase) → IsPlace r.parts place → phases (cell_of D q r.parts place) ≡ Some f → SameCopies p k new f) → HasRoot p D after n new q r
@@ -108,22 +108,22 @@ root-kept p C D phases after m n k new q r b t more same phase copies = record {
     cell : (place : ℕ × ℕ) → cell_of C q r.parts place ≡ cell_of D q r.parts place
     cell place = cell_of_number (cell_of C q r.parts place) (cell_of D q r.parts place) (cell-is C q r.dims r.parts b.first place b.taken ∙ sym (cell-is D q r.dims r.parts b.first place t))
 
-pub holds-later : (p : Program) (C : Cells) (phases : Phases) (m n : ℕ) (k : Contents) (S : State) → m ≤ n → HaveRoots p C phases m k S → HaveRoots p C phases n k S
+pub holds-later : (p : Program) (C : Cells) (phases : Phases) (m n : ℕ) (k : Contents) (S : JobState) → m ≤ n → HaveRoots p C phases m k S → HaveRoots p C phases n k S
 holds-later p C phases m n k S h has q r e = let b = has q r e in root-kept p C C phases phases m n k k q r b b.taken h (λ trust place inside. refl) (λ place inside. refl) (λ trust place f inside g w below. refl)
 
 -- contents that hold the same
-pub holds-same : (p : Program) (C : Cells) (phases : Phases) (n : ℕ) (k new : Contents) (S : State) → (IsTrusted p → (c : Cell) → held_in p new c ≡ held_in p k c) → HaveRoots p C phases n k S → HaveRoots p C phases n new S
+pub holds-same : (p : Program) (C : Cells) (phases : Phases) (n : ℕ) (k new : Contents) (S : JobState) → (IsTrusted p → (c : Cell) → held_in p new c ≡ held_in p k c) → HaveRoots p C phases n k S → HaveRoots p C phases n new S
 holds-same p C phases n k new S same has q r e = let b = has q r e in root-kept p C C phases phases n n k new q r b b.taken (omega arith) (λ trust place inside. same trust (cell_of C q r.parts place)) (λ place inside. refl) (λ trust place f inside g w below. same trust (copy_at f.copies w))
 
 -- ---- one array put
 
 -- both are one child
 abbrev pub same_child : Operand (List ℕ) → Operand (List ℕ) → Bool
-same_child o u = bytes_eq o.name u.name && same_place o.place u.place
+same_child o u = bytes_eq o.name u.name && same_child_place o.place u.place
 
 -- an operand is a child, which gets this array in this cell
-pub record Gives (p : Program) (C : Cells) (phases : Phases) (n : ℕ) (S : State) (c : Cell) (o : Operand (List ℕ)) (a : Array) : Type 0 where
-  pub root : Root
+pub record Gives (p : Program) (C : Cells) (phases : Phases) (n : ℕ) (S : JobState) (c : Cell) (o : Operand (List ℕ)) (a : Array) : Type 0 where
+  pub root : RootState
   pub is_root : root_of S o.name ≡ Some root
   pub placed : IsPlace root.parts o.place
   pub dims : a.dims ≡ rect_dims (child_rect root o.place)
@@ -132,24 +132,24 @@ pub record Gives (p : Program) (C : Cells) (phases : Phases) (n : ℕ) (S : Stat
   pub given : HasValueBefore p (task n) c
   pub closed : phases c ≡ None
 
-other_place : (x y : ℕ × ℕ) → same_place x y ≡ false → x ≡ y → ⊥
-other_place x y e same = false≢true (sym e ∙ ap (same_place x) (sym same) ∙ same_place-refl x)
+other_place : (x y : ℕ × ℕ) → same_child_place x y ≡ false → x ≡ y → ⊥
+other_place x y e same = false≢true (sym e ∙ ap (same_child_place x) (sym same) ∙ same_child_place-refl x)
 
 -- the root itself, after a child of it was put
-put_child : (p : Program) (C : Cells) (phases : Phases) (n : ℕ) (k : Contents) (S : State) (c : Cell) (o : Operand (List ℕ)) (a : Array) → AreLaid C → HaveTheirs p.workers C phases → (g : Gives p C phases n S c o a) → HasRoot p C phases n k o.name g.root → HasRoot p C phases n ((c, a) ∷ k) o.name (with_child o.place a g.root)
+put_child : (p : Program) (C : Cells) (phases : Phases) (n : ℕ) (k : Contents) (S : JobState) (c : Cell) (o : Operand (List ℕ)) (a : Array) → AreLaid C → HaveTheirs p.workers C phases → (g : Gives p C phases n S c o a) → HasRoot p C phases n k o.name g.root → HasRoot p C phases n ((c, a) ∷ k) o.name (with_child o.place a g.root)
 put_child p C phases n k S c o a laid theirs g b = record {
   fits = b.fits;
   whole = written-whole g.root o.place a;
   first = b.first;
   taken = b.taken;
-  held = λ place inside v. by_place place inside v (same_place o.place place) refl;
-  blank = λ place inside v. by_blank place inside v (same_place o.place place) refl;
+  held = λ place inside v. by_place place inside v (same_child_place o.place place) refl;
+  blank = λ place inside v. by_blank place inside v (same_child_place o.place place) refl;
   reduced = λ place f inside e. b.reduced place f inside e;
 }
   where
-    by_place : (place : ℕ × ℕ) → IsPlace g.root.parts place → is_valued_child (with_child o.place a g.root) place ≡ true → (t : Bool) → same_place o.place place ≡ t → IsHeld p phases n ((c, a) ∷ k) (cell_of C o.name g.root.parts place) (child_array (with_child o.place a g.root) place)
+    by_place : (place : ℕ × ℕ) → IsPlace g.root.parts place → is_valued_child (with_child o.place a g.root) place ≡ true → (t : Bool) → same_child_place o.place place ≡ t → IsHeld p phases n ((c, a) ∷ k) (cell_of C o.name g.root.parts place) (child_array (with_child o.place a g.root) place)
     by_place place inside v true t =
-        let here = same_place-law o.place place t in
+        let here = same_child_place-law o.place place t in
         subst (λ (x : ℕ × ℕ). IsHeld p phases n ((c, a) ∷ k) (cell_of C o.name g.root.parts x) (child_array (with_child o.place a g.root) x)) here
         (subst (λ (d : Cell). IsHeld p phases n ((c, a) ∷ k) d (child_array (with_child o.place a g.root) o.place)) g.cell_is
         (record {
@@ -169,25 +169,25 @@ put_child p C phases n k S c o a laid theirs g b = record {
         (λ trust. held-other p c a k (cell_of C o.name g.root.parts place) (differs c (cell_of C o.name g.root.parts place) (λ e. apart (cells-apart C o.name o.name g.root.dims g.root.dims g.root.parts g.root.parts b.first b.first o.place place laid b.taken b.taken g.placed inside (sym g.cell_is ∙ e)).2)))
         (λ trust f e w below. held-other p c a k (copy_at f.copies w) (ap (λ (d : Cell). same_cell d (copy_at f.copies w)) g.cell_is ∙ not_copy p.workers C phases o.name g.root.dims g.root.parts b.first o.place (cell_of C o.name g.root.parts place) f w theirs b.taken g.placed e below)) old)
 
-    by_blank : (place : ℕ × ℕ) → IsPlace g.root.parts place → is_valued_child (with_child o.place a g.root) place ≡ false → (t : Bool) → same_place o.place place ≡ t → phases (cell_of C o.name g.root.parts place) ≡ None
-    by_blank place inside v true t = ap (λ (x : ℕ × ℕ). phases (cell_of C o.name g.root.parts x)) (sym (same_place-law o.place place t)) ∙ ap phases (sym g.cell_is) ∙ g.closed
+    by_blank : (place : ℕ × ℕ) → IsPlace g.root.parts place → is_valued_child (with_child o.place a g.root) place ≡ false → (t : Bool) → same_child_place o.place place ≡ t → phases (cell_of C o.name g.root.parts place) ≡ None
+    by_blank place inside v true t = ap (λ (x : ℕ × ℕ). phases (cell_of C o.name g.root.parts x)) (sym (same_child_place-law o.place place t)) ∙ ap phases (sym g.cell_is) ∙ g.closed
     by_blank place inside v false t =
         b.blank place inside (ap (λ es. is_child g.root.parts place && list_all (λ (e : Option ℤ). is_some e) es) (sym (written-other g.root o.place place a g.placed inside (other_place o.place place t))) ∙ v)
 
 -- another name's root
-put_beside : (p : Program) (C : Cells) (phases : Phases) (n : ℕ) (k : Contents) (S : State) (c : Cell) (o : Operand (List ℕ)) (a : Array) (q : List ℕ) (r : Root) → AreLaid C → HaveTheirs p.workers C phases → (g : Gives p C phases n S c o a) → HasRoot p C phases n k o.name g.root → (o.name ≡ q → ⊥) → HasRoot p C phases n k q r → HasRoot p C phases n ((c, a) ∷ k) q r
+put_beside : (p : Program) (C : Cells) (phases : Phases) (n : ℕ) (k : Contents) (S : JobState) (c : Cell) (o : Operand (List ℕ)) (a : Array) (q : List ℕ) (r : RootState) → AreLaid C → HaveTheirs p.workers C phases → (g : Gives p C phases n S c o a) → HasRoot p C phases n k o.name g.root → (o.name ≡ q → ⊥) → HasRoot p C phases n k q r → HasRoot p C phases n ((c, a) ∷ k) q r
 put_beside p C phases n k S c o a q r laid theirs g b apart h =
     root-kept p C C phases phases n n k ((c, a) ∷ k) q r h h.taken (omega arith)
     (λ trust place inside. held-other p c a k (cell_of C q r.parts place) (differs c (cell_of C q r.parts place) (λ e. apart (cells-apart C o.name q g.root.dims r.dims g.root.parts r.parts b.first h.first o.place place laid b.taken h.taken g.placed inside (sym g.cell_is ∙ e)).0)))
     (λ place inside. refl)
     (λ trust place f inside e w below. held-other p c a k (copy_at f.copies w) (ap (λ (d : Cell). same_cell d (copy_at f.copies w)) g.cell_is ∙ not_copy p.workers C phases o.name g.root.dims g.root.parts b.first o.place (cell_of C q r.parts place) f w theirs b.taken g.placed e below))
 
-pub holds-put : (p : Program) (C : Cells) (phases : Phases) (n : ℕ) (k : Contents) (S : State) (c : Cell) (o : Operand (List ℕ)) (a : Array) → AreLaid C → HaveTheirs p.workers C phases → HaveRoots p C phases n k S → Gives p C phases n S c o a → HaveRoots p C phases n ((c, a) ∷ k) (put o a S)
+pub holds-put : (p : Program) (C : Cells) (phases : Phases) (n : ℕ) (k : Contents) (S : JobState) (c : Cell) (o : Operand (List ℕ)) (a : Array) → AreLaid C → HaveTheirs p.workers C phases → HaveRoots p C phases n k S → Gives p C phases n S c o a → HaveRoots p C phases n ((c, a) ∷ k) (put o a S)
 holds-put p C phases n k S c o a laid theirs has g q r e = by_test (bytes_eq o.name q) refl (sym (root-change (with_child o.place a) o.name S g.root q g.is_root) ∙ e)
   where
     by_test : (t : Bool) → bytes_eq o.name q ≡ t → cond t (Some (with_child o.place a g.root)) (root_of S q) ≡ Some r → HasRoot p C phases n ((c, a) ∷ k) q r
     by_test true t e =
-        subst (λ (x : Root). HasRoot p C phases n ((c, a) ∷ k) q x) (same_Some (with_child o.place a g.root) r e)
+        subst (λ (x : RootState). HasRoot p C phases n ((c, a) ∷ k) q x) (same_Some (with_child o.place a g.root) r e)
         (subst (λ (u : List ℕ). HasRoot p C phases n ((c, a) ∷ k) u (with_child o.place a g.root)) (same_text o.name q t) (put_child p C phases n k S c o a laid theirs g (has o.name g.root g.is_root)))
     by_test false t e = put_beside p C phases n k S c o a q r laid theirs g (has o.name g.root g.is_root) (other_text o.name q t) (has q r e)
 
@@ -199,12 +199,12 @@ IsOther o [] = Unit {0}
 IsOther o (u ∷ us) = (same_child o u ≡ false) × IsOther o us
 
 -- arrays for operands, each another child
-abbrev pub GivesAll : Program → Cells → Phases → ℕ → State → ((Operand (List ℕ)) → Cell) → List (Operand (List ℕ)) → List Array → Type 0
+abbrev pub GivesAll : Program → Cells → Phases → ℕ → JobState → ((Operand (List ℕ)) → Cell) → List (Operand (List ℕ)) → List Array → Type 0
 GivesAll p C phases n S cell [] xs = Unit {0}
 GivesAll p C phases n S cell (o ∷ os) [] = ⊥
 GivesAll p C phases n S cell (o ∷ os) (a ∷ xs) = Gives p C phases n S (cell o) o a × IsOther o os × GivesAll p C phases n S cell os xs
 
-gives-after : (p : Program) (C : Cells) (phases : Phases) (n : ℕ) (S : State) (c d : Cell) (o u : Operand (List ℕ)) (a x : Array) → Gives p C phases n S c o a → Gives p C phases n S d u x → Gives p C phases n (put o a S) d u x
+gives-after : (p : Program) (C : Cells) (phases : Phases) (n : ℕ) (S : JobState) (c d : Cell) (o u : Operand (List ℕ)) (a x : Array) → Gives p C phases n S c o a → Gives p C phases n S d u x → Gives p C phases n (put o a S) d u x
 gives-after p C phases n S c d o u a x g h = by_test (bytes_eq o.name u.name) refl
   where
     by_test : (t : Bool) → bytes_eq o.name u.name ≡ t → Gives p C phases n (put o a S) d u x
@@ -212,7 +212,7 @@ gives-after p C phases n S c d o u a x g h = by_test (bytes_eq o.name u.name) re
         let same : g.root ≡ h.root = same_Some g.root h.root (sym g.is_root ∙ ap (root_of S) (same_text o.name u.name t) ∙ h.is_root) in
         record {
           root = with_child o.place a h.root;
-          is_root = root-change (with_child o.place a) o.name S g.root u.name g.is_root ∙ ap (λ b. cond b (Some (with_child o.place a g.root)) (root_of S u.name)) t ∙ ap (λ (r : Root). Some (with_child o.place a r)) same;
+          is_root = root-change (with_child o.place a) o.name S g.root u.name g.is_root ∙ ap (λ b. cond b (Some (with_child o.place a g.root)) (root_of S u.name)) t ∙ ap (λ (r : RootState). Some (with_child o.place a r)) same;
           placed = h.placed;
           dims = h.dims;
           whole = h.whole;
@@ -231,26 +231,26 @@ gives-after p C phases n S c d o u a x g h = by_test (bytes_eq o.name u.name) re
       closed = h.closed;
     }
 
-all-after : (p : Program) (C : Cells) (phases : Phases) (n : ℕ) (S : State) (cell : Operand (List ℕ) → Cell) (c : Cell) (o : Operand (List ℕ)) (a : Array) (us : List (Operand (List ℕ))) (xs : List Array) → Gives p C phases n S c o a → GivesAll p C phases n S cell us xs → GivesAll p C phases n (put o a S) cell us xs
+all-after : (p : Program) (C : Cells) (phases : Phases) (n : ℕ) (S : JobState) (cell : Operand (List ℕ) → Cell) (c : Cell) (o : Operand (List ℕ)) (a : Array) (us : List (Operand (List ℕ))) (xs : List Array) → Gives p C phases n S c o a → GivesAll p C phases n S cell us xs → GivesAll p C phases n (put o a S) cell us xs
 all-after p C phases n S cell c o a [] xs g all = tt
 all-after p C phases n S cell c o a (u ∷ us) [] g all = absurd all
 all-after p C phases n S cell c o a (u ∷ us) (x ∷ xs) g all = (gives-after p C phases n S c (cell u) o u a x g all.0, all.1, all-after p C phases n S cell c o a us xs g all.2)
 
-cell_apart : (p : Program) (C : Cells) (phases : Phases) (n : ℕ) (k : Contents) (S : State) (c d : Cell) (o u : Operand (List ℕ)) (a x : Array) → AreLaid C → HaveTheirs p.workers C phases → HaveRoots p C phases n k S → Gives p C phases n S c o a → Gives p C phases n S d u x → same_child o u ≡ false → same_cell c d ≡ false
+cell_apart : (p : Program) (C : Cells) (phases : Phases) (n : ℕ) (k : Contents) (S : JobState) (c d : Cell) (o u : Operand (List ℕ)) (a x : Array) → AreLaid C → HaveTheirs p.workers C phases → HaveRoots p C phases n k S → Gives p C phases n S c o a → Gives p C phases n S d u x → same_child o u ≡ false → same_cell c d ≡ false
 cell_apart p C phases n k S c d o u a x laid theirs has g h other =
     let b = has o.name g.root g.is_root in
     let i = has u.name h.root h.is_root in
     differs c d (λ e.
     let same = cells-apart C o.name u.name g.root.dims h.root.dims g.root.parts h.root.parts b.first i.first o.place u.place laid b.taken i.taken g.placed h.placed (sym g.cell_is ∙ e ∙ h.cell_is) in
-    false≢true (sym other ∙ and_from (bytes_eq o.name u.name) (same_place o.place u.place) (ap (bytes_eq o.name) (sym same.0) ∙ bytes_eq-itself o.name) (ap (same_place o.place) (sym same.2) ∙ same_place-refl o.place)))
+    false≢true (sym other ∙ and_from (bytes_eq o.name u.name) (same_child_place o.place u.place) (ap (bytes_eq o.name) (sym same.0) ∙ bytes_eq-itself o.name) (ap (same_child_place o.place) (sym same.2) ∙ same_child_place-refl o.place)))
 
-not_among : (p : Program) (C : Cells) (phases : Phases) (n : ℕ) (k : Contents) (S : State) (cell : Operand (List ℕ) → Cell) (o : Operand (List ℕ)) (a : Array) (us : List (Operand (List ℕ))) (xs : List Array) → AreLaid C → HaveTheirs p.workers C phases → HaveRoots p C phases n k S → Gives p C phases n S (cell o) o a → IsOther o us → GivesAll p C phases n S cell us xs → NotAmong (cell o) (each_of cell us)
+not_among : (p : Program) (C : Cells) (phases : Phases) (n : ℕ) (k : Contents) (S : JobState) (cell : Operand (List ℕ) → Cell) (o : Operand (List ℕ)) (a : Array) (us : List (Operand (List ℕ))) (xs : List Array) → AreLaid C → HaveTheirs p.workers C phases → HaveRoots p C phases n k S → Gives p C phases n S (cell o) o a → IsOther o us → GivesAll p C phases n S cell us xs → NotAmong (cell o) (each_of cell us)
 not_among p C phases n k S cell o a [] xs laid theirs has g other all = tt
 not_among p C phases n k S cell o a (u ∷ us) [] laid theirs has g other all = absurd all
 not_among p C phases n k S cell o a (u ∷ us) (x ∷ xs) laid theirs has g other all =
     (cell_apart p C phases n k S (cell o) (cell u) o u a x laid theirs has g all.0 other.0, not_among p C phases n k S cell o a us xs laid theirs has g other.1 all.2)
 
-pub holds-put_all : (p : Program) (C : Cells) (phases : Phases) (n : ℕ) (cell : Operand (List ℕ) → Cell) (os : List (Operand (List ℕ))) (xs : List Array) (k : Contents) (S : State) → AreLaid C → HaveTheirs p.workers C phases → HaveRoots p C phases n k S → GivesAll p C phases n S cell os xs → HaveRoots p C phases n (zip (each_of cell os) xs ++ k) (put_all os xs S)
+pub holds-put_all : (p : Program) (C : Cells) (phases : Phases) (n : ℕ) (cell : Operand (List ℕ) → Cell) (os : List (Operand (List ℕ))) (xs : List Array) (k : Contents) (S : JobState) → AreLaid C → HaveTheirs p.workers C phases → HaveRoots p C phases n k S → GivesAll p C phases n S cell os xs → HaveRoots p C phases n (zip (each_of cell os) xs ++ k) (put_all os xs S)
 holds-put_all p C phases n cell [] xs k S laid theirs has all = has
 holds-put_all p C phases n cell (o ∷ os) [] k S laid theirs has all = absurd all
 holds-put_all p C phases n cell (o ∷ os) (a ∷ xs) k S laid theirs has all =

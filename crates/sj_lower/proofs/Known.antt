@@ -25,7 +25,7 @@ use Rattle.sj_meaning.specs.declared.job.Init.TheVariants.{Values, Fill, Nothing
 use Rattle.sj_meaning.specs.Statement.{Operand, Register, TaskLine}
 use Rattle.sj_meaning.specs.Act.{Act, Statement}
 use Rattle.sj_meaning.specs.Act.{Register as Registers, Plan as Plans, Redux as Reduces, Task as Tasks, Print as Prints, Invalidate as Invalidates, Unregister as Unregisters}
-use Rattle.sj_meaning.specs.State.{Root, State, root_of, start}
+use Rattle.sj_meaning.specs.State.{RootState, JobState, root_of, start}
 use Rattle.sj_meaning.specs.Meaning.{apply}
 use Rattle.sj_meaning.specs.Sound.{IsSoundTask, is_lawful, reduction_of, has_child_values, child_dims}
 use Rattle.sj_lower.specs.declared.phase.OpenPhase.{OpenPhase}
@@ -110,7 +110,7 @@ known_opened has workers by v line c L own k = by_option (L.phase c) refl
     }
 
 -- a contribution's reduction is one of the set's
-known-reduction : (has : Kernel → Bool) (S : State) (id : Codelet) (o : Operand (List ℕ)) (by : Reduction) → is_lawful has S id o ≡ true → is_redux o.mode ≡ true → reduction_of S o.name ≡ Some by → has_reduction has by ≡ true
+known-reduction : (has : Kernel → Bool) (S : JobState) (id : Codelet) (o : Operand (List ℕ)) (by : Reduction) → is_lawful has S id o ≡ true → is_redux o.mode ≡ true → reduction_of S o.name ≡ Some by → has_reduction has by ≡ true
 known-reduction has S id o by law redux e = by_kernel (kernel_of id) contributes
   where
     contributes : contributes_in has id by ≡ true
@@ -123,7 +123,7 @@ known-reduction has S id o by law redux e = by_kernel (kernel_of id) contributes
     by_kernel None h = absurd (false≢true h)
     by_kernel (Some k) h = (and_parts (has k && contributes_of k by) (has_reduction has by) h).1
 
-known_opened_for : (has : Kernel → Bool) (workers : ℕ) (S : State) (id : Codelet) (line : Line) (os : List (Operand (List ℕ))) (L : Lowering) → list_all (is_lawful has S id) os ≡ true → AreKnown has L → AreKnown has (fold (opened_for workers S line) L (filter (λ o. is_redux o.mode) os))
+known_opened_for : (has : Kernel → Bool) (workers : ℕ) (S : JobState) (id : Codelet) (line : Line) (os : List (Operand (List ℕ))) (L : Lowering) → list_all (is_lawful has S id) os ≡ true → AreKnown has L → AreKnown has (fold (opened_for workers S line) L (filter (λ o. is_redux o.mode) os))
 known_opened_for has workers S id line [] L law k = k
 known_opened_for has workers S id line (o ∷ os) L law k =
     let a = and_parts (is_lawful has S id o) (list_all (is_lawful has S id) os) law in
@@ -145,28 +145,28 @@ known-loads has r C line (Values xs) own = all-rows has (λ place. load_row xs r
 known-loads has r C line (Fill a b) own = all-rows has (λ place. fill_row a b r.dims (child r.dims r.parts place) (cell_of C r.name r.parts place) line) (places r.parts) (λ place. own.load_fill)
 known-loads has r C line Nothing own = All-nil (IsKnown has)
 
-known-plan : (has : Kernel → Bool) (S : State) (C : Cells) (name : List ℕ) (s : Parts) (line : Line) → HasOwn has → All (IsKnown has) (plan_rows S C name s line)
+known-plan : (has : Kernel → Bool) (S : JobState) (C : Cells) (name : List ℕ) (s : Parts) (line : Line) → HasOwn has → All (IsKnown has) (plan_rows S C name s line)
 known-plan has S C name s line own = by_root (root_of S name)
   where
-    by_idle : (b : Bool) (r : Root) → All (IsKnown has) (cond b [] (each_of (paste_row (cell_of C name r.parts) (cell_of C name s) line) (pastes_of r.dims r.parts s)))
+    by_idle : (b : Bool) (r : RootState) → All (IsKnown has) (cond b [] (each_of (paste_row (cell_of C name r.parts) (cell_of C name s) line) (pastes_of r.dims r.parts s)))
     by_idle true r = All-nil (IsKnown has)
     by_idle false r = all-rows has (paste_row (cell_of C name r.parts) (cell_of C name s) line) (pastes_of r.dims r.parts s) (λ x. own.paste)
 
-    by_root : (o : Option Root) → All (IsKnown has) (elim o as (λ _. List Lowered) [
+    by_root : (o : Option RootState) → All (IsKnown has) (elim o as (λ _. List Lowered) [
       | None ↦ []
       | Some r ↦ cond (leaves_plan s r) [] (each_of (paste_row (cell_of C name r.parts) (cell_of C name s) line) (pastes_of r.dims r.parts s))
     ])
     by_root None = All-nil (IsKnown has)
     by_root (Some r) = by_idle (leaves_plan s r) r
 
-known-task : (has : Kernel → Bool) (S : State) (t : TaskLine (List ℕ)) → IsSoundTask has S t → is_known has t.codelet ≡ true
+known-task : (has : Kernel → Bool) (S : JobState) (t : TaskLine (List ℕ)) → IsSoundTask has S t → is_known has t.codelet ≡ true
 known-task has S t s = by_kernel (kernel_of t.codelet) s.fits
   where
     by_kernel : (x : Option Kernel) → (elim x as (λ _. Bool) [ None ↦ false | Some k ↦ has k && fits k t.args (each_of (child_dims S) t.operands) ]) ≡ true → (elim x as (λ _. Bool) [ None ↦ false | Some k ↦ has k ]) ≡ true
     by_kernel None h = absurd (false≢true h)
     by_kernel (Some k) h = (and_parts (has k) (fits k t.args (each_of (child_dims S) t.operands)) h).0
 
-known-rows : (has : Kernel → Bool) (S : State) (C : Cells) (line : Line) (a : Act (List ℕ)) → HasOwn has → CanBe has S a → All (IsKnown has) (rows_added S C line a)
+known-rows : (has : Kernel → Bool) (S : JobState) (C : Cells) (line : Line) (a : Act (List ℕ)) → HasOwn has → CanBe has S a → All (IsKnown has) (rows_added S C line a)
 known-rows has S C line (Registers r) own can = known-loads has r C line r.init own
 known-rows has S C line (Plans name s) own can = known-plan has S C name s line own
 known-rows has S C line (Reduces name by) own can = All-nil (IsKnown has)
@@ -177,7 +177,7 @@ known-rows has S C line (Unregisters name) own can = All-nil (IsKnown has)
 
 -- ---- all statements
 
-known_prepared : (has : Kernel → Bool) (workers : ℕ) (S : State) (line : Line) (a : Act (List ℕ)) (L : Lowering) → CanBe has S a → AreKnown has L → AreKnown has (fold (opened_for workers S line) L (contributions a))
+known_prepared : (has : Kernel → Bool) (workers : ℕ) (S : JobState) (line : Line) (a : Act (List ℕ)) (L : Lowering) → CanBe has S a → AreKnown has L → AreKnown has (fold (opened_for workers S line) L (contributions a))
 known_prepared has workers S line (Registers r) L can k = k
 known_prepared has workers S line (Plans name s) L can k = k
 known_prepared has workers S line (Reduces name by) L can k = k
@@ -186,7 +186,7 @@ known_prepared has workers S line (Prints name) L can k = k
 known_prepared has workers S line (Invalidates name) L can k = k
 known_prepared has workers S line (Unregisters name) L can k = k
 
-pub known_from : (has : Kernel → Bool) (workers : ℕ) (S : State) (L : Lowering) (ss : List (Statement (List ℕ))) → HasOwn has → AllCanBe has S ss → AreKnown has L → AreKnown has (lower_from workers S L ss)
+pub known_from : (has : Kernel → Bool) (workers : ℕ) (S : JobState) (L : Lowering) (ss : List (Statement (List ℕ))) → HasOwn has → AllCanBe has S ss → AreKnown has L → AreKnown has (lower_from workers S L ss)
 known_from has workers S L [] own can k = k
 known_from has workers S L (s ∷ ss) own can k =
     let M = prepared workers S s L in

@@ -15,7 +15,7 @@ use Rattle.sj_base.proofs.Texts.{same_text}
 use Rattle.sj_core.specs.Program.{no_cell}
 use Rattle.sj_plan.specs.declared.parts.Parts.{Parts}
 use Rattle.sj_plan.specs.Parts.{Fits, IsPlace, places}
-use Rattle.sj_plan.specs.Rect.{child, dims_of}
+use Rattle.sj_plan.specs.Rect.{child, rect_dims}
 use Rattle.sj_plan.proofs.Lists.{each-map, each-places}
 use Rattle.sj_plan.proofs.Splitting.{part_end}
 use Rattle.sj_job.specs.Track.{number}
@@ -41,7 +41,7 @@ pub record IsTaken (C : Cells) (q : List ℕ) (d : Dims) (s : Parts) (f : ℕ) :
 pub record AreLaid (C : Cells) : Type 0 where
   pub fits : (q : List ℕ) (d : Dims) (s : Parts) (f : ℕ) → IsTaken C q d s f → Fits s d
   pub inside : (q : List ℕ) (d : Dims) (s : Parts) (f : ℕ) → IsTaken C q d s f → f + s.r * s.c ≤ length C.rows
-  pub row : (q : List ℕ) (d : Dims) (s : Parts) (f : ℕ) (place : ℕ × ℕ) → IsTaken C q d s f → IsPlace s place → (get_or C.rows (f + number s place) no_cell).dims ≡ dims_of (child d s place)
+  pub row : (q : List ℕ) (d : Dims) (s : Parts) (f : ℕ) (place : ℕ × ℕ) → IsTaken C q d s f → IsPlace s place → (get_or C.rows (f + number s place) no_cell).dims ≡ rect_dims (child d s place)
   pub apart : (q u : List ℕ) (d e : Dims) (s t : Parts) (f g : ℕ) (place other : ℕ × ℕ) → IsTaken C q d s f → IsTaken C u e t g → IsPlace s place → IsPlace t other → f + number s place ≡ g + number t other → (q ≡ u) × (s ≡ t) × (place ≡ other)
   pub sized : (q : List ℕ) (h : Handle) → C.handles q ≡ Some h → area h.dims ≤ 16777216
   pub small : All (λ (i : CellInfo). area i.dims ≤ 2 ^ 24) C.rows
@@ -54,7 +54,7 @@ cell-is C q d s f place k =
 pub cell-inside : (C : Cells) (q : List ℕ) (d : Dims) (s : Parts) (f : ℕ) (place : ℕ × ℕ) → AreLaid C → IsTaken C q d s f → IsPlace s place → (cell_of C q s place).0 < length C.rows
 cell-inside C q d s f place a k h = omega (arith, cell-is C q d s f place k, a.inside q d s f k, number-below s place h)
 
-pub cell-row : (C : Cells) (q : List ℕ) (d : Dims) (s : Parts) (f : ℕ) (place : ℕ × ℕ) → AreLaid C → IsTaken C q d s f → IsPlace s place → (get_or C.rows (cell_of C q s place).0 no_cell).dims ≡ dims_of (child d s place)
+pub cell-row : (C : Cells) (q : List ℕ) (d : Dims) (s : Parts) (f : ℕ) (place : ℕ × ℕ) → AreLaid C → IsTaken C q d s f → IsPlace s place → (get_or C.rows (cell_of C q s place).0 no_cell).dims ≡ rect_dims (child d s place)
 cell-row C q d s f place a k h = ap (λ n. (get_or C.rows n no_cell).dims) (cell-is C q d s f place k) ∙ a.row q d s f place k h
 
 pub cells-apart : (C : Cells) (q u : List ℕ) (d e : Dims) (s t : Parts) (f g : ℕ) (place other : ℕ × ℕ) → AreLaid C → IsTaken C q d s f → IsTaken C u e t g → IsPlace s place → IsPlace t other → cell_of C q s place ≡ cell_of C u t other → (q ≡ u) × (s ≡ t) × (place ≡ other)
@@ -143,8 +143,8 @@ old_or_new C name p h there q d s f k = by_name (bytes_eq name q) refl k.is
 longer : (C : Cells) (p : Parts) (h : Handle) → length (C.rows ++ each_of (child_cell h.root h.dims p) (places p)) ≡ length C.rows + p.r * p.c
 longer C p h = length-append C.rows (each_of (child_cell h.root h.dims p) (places p)) ∙ ap (λ n. length C.rows + n) (length-places (child_cell h.root h.dims p) p)
 
-child_area : (d : Dims) (p : Parts) (place : ℕ × ℕ) → IsPlace p place → area (dims_of (child d p place)) ≤ area d
-child_area d p place h = product (dims_of (child d p place)).rows d.rows (dims_of (child d p place)).cols d.cols (omega (arith, part_end d.rows p.r place.0 h.0)) (omega (arith, part_end d.cols p.c place.1 h.1))
+child_area : (d : Dims) (p : Parts) (place : ℕ × ℕ) → IsPlace p place → area (rect_dims (child d p place)) ≤ area d
+child_area d p place h = product (rect_dims (child d p place)).rows d.rows (rect_dims (child d p place)).cols d.cols (omega (arith, part_end d.rows p.r place.0 h.0)) (omega (arith, part_end d.cols p.c place.1 h.1))
   where
     product : (a b c d : ℕ) → a ≤ b → c ≤ d → a * c ≤ b * d
     product a b c d h k = grind arith
@@ -159,14 +159,14 @@ laid_new C name p h there none fit a = record {
     | Old o ↦ omega (arith, a.inside q d s f o, longer C p h)
     | New eq ep ed ef ↦ subst (λ (x : Parts). f + x.r * x.c ≤ length (News name p h C).rows) ep (omega (arith, ef, longer C p h))
   ];
-  row = λ q d s f place k hp. elim (old_or_new C name p h there q d s f k) as (λ _. (get_or (News name p h C).rows (f + number s place) no_cell).dims ≡ dims_of (child d s place)) [
+  row = λ q d s f place k hp. elim (old_or_new C name p h there q d s f k) as (λ _. (get_or (News name p h C).rows (f + number s place) no_cell).dims ≡ rect_dims (child d s place)) [
     | Old o ↦ ap (λ (i : CellInfo). i.dims) (get_or_append_left C.rows (each_of (child_cell h.root h.dims p) (places p)) no_cell (f + number s place) (omega (arith, a.inside q d s f o, number-below s place hp)))
         ∙ a.row q d s f place o hp
     | New eq ep ed ef ↦ ap (λ (i : CellInfo). i.dims) (get_or-append_right C.rows (each_of (child_cell h.root h.dims p) (places p)) (length C.rows) (f + number s place) no_cell refl (omega (arith, ef))
         ∙ ap (λ n. get_or (each_of (child_cell h.root h.dims p) (places p)) n no_cell) (past f (length C.rows) (number s place) ef)
         ∙ ap (λ (x : Parts). get_or (each_of (child_cell h.root h.dims p) (places p)) (number x place) no_cell) (sym ep)
         ∙ places-at (child_cell h.root h.dims p) p place no_cell (subst (λ (x : Parts). IsPlace x place) (sym ep) hp))
-        ∙ (λ i. dims_of (child (ed i) (ep i) place))
+        ∙ (λ i. rect_dims (child (ed i) (ep i) place))
   ];
   apart = λ q u d e s t f g place other k l hp ho same. elim (old_or_new C name p h there q d s f k) as (λ _. (q ≡ u) × (s ≡ t) × (place ≡ other)) [
     | Old o ↦ elim (old_or_new C name p h there u e t g l) as (λ _. (q ≡ u) × (s ≡ t) × (place ≡ other)) [
@@ -183,7 +183,7 @@ laid_new C name p h there none fit a = record {
   small = All-append (λ (i : CellInfo). area i.dims ≤ 2 ^ 24) C.rows (each_of (child_cell h.root h.dims p) (places p)) a.small
       (All-from_recursion (λ (i : CellInfo). area i.dims ≤ 2 ^ 24) (each_of (child_cell h.root h.dims p) (places p))
       (each-map (λ (i : CellInfo). area i.dims ≤ 2 ^ 24) (child_cell h.root h.dims p) (places p)
-      (each-places (λ place. area (dims_of (child h.dims p place)) ≤ 2 ^ 24) p (λ place hp. omega (arith, child_area h.dims p place hp, a.sized name h there)))));
+      (each-places (λ place. area (rect_dims (child h.dims p place)) ≤ 2 ^ 24) p (λ place hp. omega (arith, child_area h.dims p place hp, a.sized name h there)))));
 }
   where
     past : (f n m : ℕ) → f ≡ n → (f + m) - n ≡ m

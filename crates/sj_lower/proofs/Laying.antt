@@ -29,13 +29,13 @@ use Rattle.sj_meaning.specs.declared.job.Act.TheVariants as kept
 use Rattle.sj_meaning.specs.View.{act_seen}
 use Rattle.sj_job.specs.Track.{children_count}
 use Rattle.sj_lower.specs.Lowering.{cells_after}
-use Rattle.sj_lower.specs.Seen.{taken, same_taken, handle_in, Lays, first_after, children_after}
+use Rattle.sj_lower.specs.Seen.{plan_taken, same_taken, handle_in, Lays, first_after, children_after}
 use Rattle.sj_lower.proofs.Laid.{bytes_eq-itself, none_isn't, take-by}
 use Rattle.sj_lower.proofs.Copies.{by_copies, copied-length, first-new}
 use Rattle.sj_lower.proofs.Places.{length-places, parts-are}
 
 -- a plan that is new
-news : (T : Table) (l : Layout) (C : Cells) (r : Root) (p : Parts) → Lays T l C → r.0 < C.roots → get same_taken l.firsts (taken r.0 p) ≡ None → take (name_of T r) p C ≡ record {
+news : (T : Table) (l : Layout) (C : Cells) (r : Root) (p : Parts) → Lays T l C → r.0 < C.roots → get same_taken l.firsts (plan_taken r.0 p) ≡ None → take (name_of T r) p C ≡ record {
   rows = C.rows ++ each_of (child_cell r (info_of T r).dims p) (places p);
   handles = with_handle (name_of T r) (taking_plan p (length C.rows) (handle_in T l r.0)) C.handles;
   roots = C.roots;
@@ -49,8 +49,8 @@ news T l C r p s inside none =
       roots = C.roots;
     })) none
 
-pub lays_new : (T : Table) (old new : Layout) (C : Cells) (r : Root) (d : Dims) (p : Parts) (first : ℕ) → Lays T old C → r.0 < C.roots → AreDistinct T.names → C.roots ≤ length T.names → (info_of T r).dims ≡ d → get same_taken old.firsts (taken r.0 p) ≡ None
-    → new.infos.items ≡ old.infos.items ++ each_of (rect_cell r) (children_of d p) → ((q : Taken) → get same_taken new.firsts q ≡ cond (same_taken (taken r.0 p) q) (Some first) (get same_taken old.firsts q)) → new.roots ≡ old.roots → first ≡ length old.infos.items
+pub lays_new : (T : Table) (old new : Layout) (C : Cells) (r : Root) (d : Dims) (p : Parts) (first : ℕ) → Lays T old C → r.0 < C.roots → AreDistinct T.names → C.roots ≤ length T.names → (info_of T r).dims ≡ d → get same_taken old.firsts (plan_taken r.0 p) ≡ None
+    → new.infos.items ≡ old.infos.items ++ each_of (rect_cell r) (children_of d p) → ((q : Taken) → get same_taken new.firsts q ≡ cond (same_taken (plan_taken r.0 p) q) (Some first) (get same_taken old.firsts q)) → new.roots ≡ old.roots → first ≡ length old.infos.items
     → Lays T new (take (name_of T r) p C) × (first_cell (take (name_of T r) p C) (name_of T r) p ≡ first) × (first + children_count p ≤ length (take (name_of T r) p C).rows)
 lays_new T old new C r d p first s inside distinct few dims none rows firsts roots number =
     let whole = news T old C r p s inside none in
@@ -59,12 +59,12 @@ lays_new T old new C r d p first s inside distinct few dims none rows firsts roo
         rows = rows ∙ (λ i. s.rows i ++ each_of (rect_cell r) (children_of (sym dims i) p)) ∙ ap (λ is. C.rows ++ is) (map-map (rect_cell r) (child (info_of T r).dims p) (places p));
         roots = roots ∙ s.roots;
         handles = λ m lt. by_name m lt (bytes_eq (name_of T r) (name_of T (a_root m))) refl;
-        room = λ m q f e. room_by m q f (same_taken (taken r.0 p) (taken m q)) refl (sym (firsts (taken m q)) ∙ e);
+        room = λ m q f e. room_by m q f (same_taken (plan_taken r.0 p) (plan_taken m q)) refl (sym (firsts (plan_taken m q)) ∙ e);
         fresh = λ m q past. sym (there m (λ same. omega (arith, same, past, inside)) q) ∙ s.fresh m q past;
       }),
       ap (λ (D : Cells). first_cell D (name_of T r) p) whole
           ∙ ap (λ b. elim (cond b (Some (taking_plan p (length C.rows) (handle_in T old r.0))) (C.handles (name_of T r))) as (λ _. ℕ) [ None ↦ 0 | Some h ↦ unwrap_or (h.first p) 0 ]) (bytes_eq-itself (name_of T r))
-          ∙ ap (λ b. unwrap_or (cond b (Some (length C.rows)) (get same_taken old.firsts (taken r.0 p))) 0) (and_from (nat_eq p.r p.r) (nat_eq p.c p.c) (nat_eq-itself p.r) (nat_eq-itself p.c))
+          ∙ ap (λ b. unwrap_or (cond b (Some (length C.rows)) (get same_taken old.firsts (plan_taken r.0 p))) 0) (and_from (nat_eq p.r p.r) (nat_eq p.c p.c) (nat_eq-itself p.r) (nat_eq-itself p.c))
           ∙ sym one,
       subst (λ (D : Cells). first + children_count p ≤ length D.rows) (sym whole) (omega (arith, one, longer)),
     )
@@ -72,20 +72,20 @@ lays_new T old new C r d p first s inside distinct few dims none rows firsts roo
     longer : length (C.rows ++ each_of (child_cell r (info_of T r).dims p) (places p)) ≡ length C.rows + children_count p
     longer = length-append C.rows (each_of (child_cell r (info_of T r).dims p) (places p)) ∙ ap (λ n. length C.rows + n) (length-places (child_cell r (info_of T r).dims p) p)
 
-    room_by : (m : ℕ) (q : Parts) (f : ℕ) (b : Bool) → same_taken (taken r.0 p) (taken m q) ≡ b → cond b (Some first) (get same_taken old.firsts (taken m q)) ≡ Some f → f + children_count q ≤ length (C.rows ++ each_of (child_cell r (info_of T r).dims p) (places p))
+    room_by : (m : ℕ) (q : Parts) (f : ℕ) (b : Bool) → same_taken (plan_taken r.0 p) (plan_taken m q) ≡ b → cond b (Some first) (get same_taken old.firsts (plan_taken m q)) ≡ Some f → f + children_count q ≤ length (C.rows ++ each_of (child_cell r (info_of T r).dims p) (places p))
     room_by m q f true t e =
         let plan : p ≡ q = parts-are p q (and_parts (nat_eq r.0 m) (same_parts p q) t).1 in
         let is : first ≡ f = same_Some first f e in
         subst (λ (x : Parts). f + children_count x ≤ length (C.rows ++ each_of (child_cell r (info_of T r).dims p) (places p))) plan (omega (arith, is, number, ap length s.rows, longer))
     room_by m q f false t e = omega (arith, s.room m q f e, longer)
 
-    here : (q : Parts) → with_first p (length C.rows) (handle_in T old r.0).first q ≡ get same_taken new.firsts (taken r.0 q)
+    here : (q : Parts) → with_first p (length C.rows) (handle_in T old r.0).first q ≡ get same_taken new.firsts (plan_taken r.0 q)
     here q =
-        ap (λ n. cond (same_parts p q) (Some n) (get same_taken old.firsts (taken r.0 q))) (sym (number ∙ ap length s.rows))
-        ∙ ap (λ b. cond (b && same_parts p q) (Some first) (get same_taken old.firsts (taken r.0 q))) (sym (nat_eq-itself r.0)) ∙ sym (firsts (taken r.0 q))
+        ap (λ n. cond (same_parts p q) (Some n) (get same_taken old.firsts (plan_taken r.0 q))) (sym (number ∙ ap length s.rows))
+        ∙ ap (λ b. cond (b && same_parts p q) (Some first) (get same_taken old.firsts (plan_taken r.0 q))) (sym (nat_eq-itself r.0)) ∙ sym (firsts (plan_taken r.0 q))
 
-    there : (m : ℕ) → (r.0 ≡ m → ⊥) → (q : Parts) → get same_taken old.firsts (taken m q) ≡ get same_taken new.firsts (taken m q)
-    there m other q = ap (λ b. cond (b && same_parts p q) (Some first) (get same_taken old.firsts (taken m q))) (sym (ne_eqb r.0 m other)) ∙ sym (firsts (taken m q))
+    there : (m : ℕ) → (r.0 ≡ m → ⊥) → (q : Parts) → get same_taken old.firsts (plan_taken m q) ≡ get same_taken new.firsts (plan_taken m q)
+    there m other q = ap (λ b. cond (b && same_parts p q) (Some first) (get same_taken old.firsts (plan_taken m q))) (sym (ne_eqb r.0 m other)) ∙ sym (firsts (plan_taken m q))
 
     by_name : (m : ℕ) → m < C.roots → (b : Bool) → bytes_eq (name_of T r) (name_of T (a_root m)) ≡ b
         → cond b (Some (taking_plan p (length C.rows) (handle_in T old r.0))) (C.handles (name_of T (a_root m))) ≡ Some (handle_in T new m)
@@ -97,7 +97,7 @@ lays_new T old new C r d p first s inside distinct few dims none rows firsts roo
         s.handles m lt ∙ (λ i. Some (record { root = a_root m; dims = (info_of T (a_root m)).dims; first = λ q. there m other q i }))
 
 -- too many cells
-pub lays_full : (T : Table) (l : Layout) (C : Cells) (r : Root) (p : Parts) → Lays T l C → r.0 < C.roots → get same_taken l.firsts (taken r.0 p) ≡ None → most < length l.infos.items + p.r * p.c → most < length (take (name_of T r) p C).rows
+pub lays_full : (T : Table) (l : Layout) (C : Cells) (r : Root) (p : Parts) → Lays T l C → r.0 < C.roots → get same_taken l.firsts (plan_taken r.0 p) ≡ None → most < length l.infos.items + p.r * p.c → most < length (take (name_of T r) p C).rows
 lays_full T l C r p s inside none above =
     let e = ap (λ (D : Cells). length D.rows) (news T l C r p s inside none) in
     let longer = length-append C.rows (each_of (child_cell r (info_of T r).dims p) (places p)) in
@@ -110,18 +110,18 @@ lays_root T old new C s distinct few rows firsts roots = record {
   rows = rows ∙ s.rows;
   roots = roots ∙ ap (λ n. n + 1) s.roots;
   handles = λ m lt. by_name m lt (bytes_eq (name_of T (a_root C.roots)) (name_of T (a_root m))) refl;
-  room = λ m q f e. s.room m q f (ap (λ x. get same_taken x (taken m q)) (sym firsts) ∙ e);
-  fresh = λ m q past. ap (λ f. get same_taken f (taken m q)) firsts ∙ s.fresh m q (omega (arith, past));
+  room = λ m q f e. s.room m q f (ap (λ x. get same_taken x (plan_taken m q)) (sym firsts) ∙ e);
+  fresh = λ m q past. ap (λ f. get same_taken f (plan_taken m q)) firsts ∙ s.fresh m q (omega (arith, past));
 }
   where
     by_name : (m : ℕ) → m < C.roots + 1 → (b : Bool) → bytes_eq (name_of T (a_root C.roots)) (name_of T (a_root m)) ≡ b
         → cond b (Some (next_handle (info_of T (a_root C.roots)).dims C)) (C.handles (name_of T (a_root m))) ≡ Some (handle_in T new m)
     by_name m lt true e =
         let same : C.roots ≡ m = distinct C.roots m few (omega (arith, lt, few)) (same_text (name_of T (a_root C.roots)) (name_of T (a_root m)) e) in
-        (λ i. Some (record { root = a_root C.roots; dims = (info_of T (a_root C.roots)).dims; first = λ q. sym (s.fresh C.roots q (omega arith)) i })) ∙ (λ i. Some (record { root = a_root (same i); dims = (info_of T (a_root (same i))).dims; first = λ q. get same_taken (sym firsts i) (taken (same i) q) }))
+        (λ i. Some (record { root = a_root C.roots; dims = (info_of T (a_root C.roots)).dims; first = λ q. sym (s.fresh C.roots q (omega arith)) i })) ∙ (λ i. Some (record { root = a_root (same i); dims = (info_of T (a_root (same i))).dims; first = λ q. get same_taken (sym firsts i) (plan_taken (same i) q) }))
     by_name m lt false e =
         let other : m ≡ C.roots → ⊥ = λ same. false≢true (sym e ∙ ap (λ n. bytes_eq (name_of T (a_root C.roots)) (name_of T (a_root n))) same ∙ bytes_eq-itself (name_of T (a_root C.roots))) in
-        s.handles m (below other lt) ∙ (λ i. Some (record { root = a_root m; dims = (info_of T (a_root m)).dims; first = λ q. get same_taken (sym firsts i) (taken m q) }))
+        s.handles m (below other lt) ∙ (λ i. Some (record { root = a_root m; dims = (info_of T (a_root m)).dims; first = λ q. get same_taken (sym firsts i) (plan_taken m q) }))
       where
         below : (m ≡ C.roots → ⊥) → m < C.roots + 1 → m < C.roots
         below other lt = omega (arith, other, lt)
@@ -162,9 +162,9 @@ lays_copies T old new C c first workers s there none rows firsts roots number = 
   by_copies workers c C (Lays T new) (λ f e. absurd (none_isn't f (sym none_here ∙ e))) (λ e. record {
     rows = rows ∙ set-append_left old.infos.items (replicate workers i) c.0 (with_partials first i) there ∙ (λ k. set (s.rows k) c.0 (with_partials (first_is k) (is k)) ++ replicate workers (plain k));
     roots = roots ∙ s.roots;
-    handles = λ n lt. s.handles n lt ∙ (λ k. Some (record { root = a_root n; dims = (info_of T (a_root n)).dims; first = λ p. get same_taken (sym firsts k) (taken n p) }));
-    room = λ n p f h. omega (arith, s.room n p f (ap (λ m. get same_taken m (taken n p)) (sym firsts) ∙ h), copied-length workers c C e inside);
-    fresh = λ n p past. ap (λ m. get same_taken m (taken n p)) firsts ∙ s.fresh n p past;
+    handles = λ n lt. s.handles n lt ∙ (λ k. Some (record { root = a_root n; dims = (info_of T (a_root n)).dims; first = λ p. get same_taken (sym firsts k) (plan_taken n p) }));
+    room = λ n p f h. omega (arith, s.room n p f (ap (λ m. get same_taken m (plan_taken n p)) (sym firsts) ∙ h), copied-length workers c C e inside);
+    fresh = λ n p past. ap (λ m. get same_taken m (plan_taken n p)) firsts ∙ s.fresh n p past;
   }),
   sym first_is,
 )

@@ -20,7 +20,7 @@ use Rattle.sj_base.proofs.Lists.{Contains-range}
 use Rattle.sj_codelet.specs.Kernel.{kernel_of, codelet_of, init_of, combine_of}
 use Rattle.sj_core.specs.Program.{data_operands, cell_info, same_cell}
 use Rattle.sj_core.specs.Operands.{copy_of}
-use Rattle.sj_core.specs.Proper.{IsCopyOf, IsPlain, Phase, IsPhase, HasPhases, IsInit, IsCombine, IsContribution, IsMember, IsFirstUnit, IsOpenAt, Touches, names_as, task_number, access}
+use Rattle.sj_core.specs.Proper.{IsCopyOf, IsPlain, Phase, IsPhase, HasPhases, IsInit, IsCombine, IsContribution, IsOfPhase, IsFirstUnit, IsOpenAt, Touches, names_as, task_number, access}
 use Rattle.sj_core.proofs.Readiness.{filter-Contains, Contains-from_filter}
 use Rattle.sj_lower.specs.declared.phase.OpenPhase.{OpenPhase}
 use Rattle.sj_lower.specs.Cells.{copy_at}
@@ -254,7 +254,7 @@ module _ (p : Program) (n k : ℕ) (phases : Phases) (c : Cell) (f : OpenPhase) 
       ended_at : (m : ℕ) → IsOpenAt done m → m < n + p.workers
       ended_at m is_open = omega (arith, (Contains-range n p.workers is_open.unfinished.0 is_open.unfinished.1).1, is_open.unfinished.2)
 
-      alone_at : (m : ℕ) (a : Access) → log.start c ≤ m → m < n + p.workers → Contains (data_operands (task_number p m)) a → Touches p c a → IsMember done m ⊎ IsFirstUnit p done m
+      alone_at : (m : ℕ) (a : Access) → log.start c ≤ m → m < n + p.workers → Contains (data_operands (task_number p m)) a → Touches p c a → IsOfPhase done m ⊎ IsFirstUnit p done m
       alone_at m a lo hi h touches = elim (cases_lt m n) [
         | inr late ↦ inl (inr (inr (range-has n p.workers m late hi)))
         | inl early ↦ elim (mine.alone m a lo early h touches) [

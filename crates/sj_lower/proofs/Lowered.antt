@@ -16,7 +16,7 @@ use Rattle.sj_plan.specs.Parts.{IsPlace, places}
 use Rattle.sj_meaning.specs.Statement.{Operand, TaskLine}
 use Rattle.sj_meaning.specs.Act.{Act, Statement}
 use Rattle.sj_meaning.specs.Act.{Register as Registers, Plan as Plans, Redux as Reduces, Task as Tasks, Print as Prints, Invalidate as Invalidates, Unregister as Unregisters}
-use Rattle.sj_meaning.specs.State.{Root, State, root_of, is_valued_child, start}
+use Rattle.sj_meaning.specs.State.{RootState, JobState, root_of, is_valued_child, start}
 use Rattle.sj_meaning.specs.Meaning.{Printed, apply, prints, printed_from, printed, run_from}
 use Rattle.sj_meaning.specs.Sound.{has_child, has_child_values, reduction_of}
 use Rattle.sj_meaning.specs.Table.{Table}
@@ -50,23 +50,23 @@ begins-opened p by v line c L = by_option (L.phase c)
     by_option None b = begins-less p L (begun p.workers by v line c L) _ (copies-more p.workers c L.cells) refl b
     by_option (Some f) b = begins-less p L (phase_turned L.cells [] c (Some (extended f line)) L) [] (grows-refl L.cells.rows) refl b
 
-begins-opened_for : (p : Program) (S : State) (line : Line) (L : Lowering) (o : Operand (List ℕ)) → Begins p (opened_for p.workers S line L o) → Begins p L
+begins-opened_for : (p : Program) (S : JobState) (line : Line) (L : Lowering) (o : Operand (List ℕ)) → Begins p (opened_for p.workers S line L o) → Begins p L
 begins-opened_for p S line L o = by_option (reduction_of S o.name)
   where
     by_option : (x : Option Reduction) → Begins p (elim x as (λ _. Lowering) [ None ↦ L | Some by ↦ opened p.workers by (has_child_values S o) line (active_cell S L.cells o.name o.place) L ]) → Begins p L
     by_option None b = b
     by_option (Some by) b = begins-opened p by (has_child_values S o) line (active_cell S L.cells o.name o.place) L b
 
-begins-all_opened : (p : Program) (S : State) (line : Line) (os : List (Operand (List ℕ))) (L : Lowering) → Begins p (fold (opened_for p.workers S line) L os) → Begins p L
+begins-all_opened : (p : Program) (S : JobState) (line : Line) (os : List (Operand (List ℕ))) (L : Lowering) → Begins p (fold (opened_for p.workers S line) L os) → Begins p L
 begins-all_opened p S line [] L b = b
 begins-all_opened p S line (o ∷ os) L b = begins-opened_for p S line L o (begins-all_opened p S line os (opened_for p.workers S line L o) b)
 
-begins-one : (p : Program) (S : State) (s : Statement (List ℕ)) (L : Lowering) → Begins p (lower_one p.workers S s L) → Begins p L
+begins-one : (p : Program) (S : JobState) (s : Statement (List ℕ)) (L : Lowering) → Begins p (lower_one p.workers S s L) → Begins p L
 begins-one p S s L b =
     begins-all_closed p (closed_by S L.cells s.act) L
     (begins-all_opened p S s.line (contributions s.act) (all_closed p.workers (closed_by S L.cells s.act) L) (begins-own p S s (prepared p.workers S s L) b))
 
-begins-from : (p : Program) (S : State) (L : Lowering) (ss : List (Statement (List ℕ))) → Begins p (lower_from p.workers S L ss) → Begins p L
+begins-from : (p : Program) (S : JobState) (L : Lowering) (ss : List (Statement (List ℕ))) → Begins p (lower_from p.workers S L ss) → Begins p L
 begins-from p S L [] b = b
 begins-from p S L (s ∷ ss) b = begins-one p S s L (begins-from p (apply s.act S) (lower_one p.workers S s L) ss b)
 
@@ -77,11 +77,11 @@ at-place P f s place all h =
     subst P (places-at f s place (record { 0 = 0 }) h)
     (All-get_or P (each_of f (places s)) (number s place) (record { 0 = 0 }) (omega (arith, length-places f s, number-below s place h)) (All-from_recursion P (each_of f (places s)) all))
 
-module _ (workers : ℕ) (L : Lowering) (S : State) where
+module _ (workers : ℕ) (L : Lowering) (S : JobState) where
   abbrev After : List Cell → Lowering
   After cs = all_closed workers cs L
 
-  active-shut : (name : List ℕ) (r : Root) (place : ℕ × ℕ) (cs : List Cell) → cs ≡ active_cells S L.cells name → root_of S name ≡ Some r → IsPlace r.parts place → (After cs).phase (cell_of (After cs).cells name r.parts place) ≡ None
+  active-shut : (name : List ℕ) (r : RootState) (place : ℕ × ℕ) (cs : List Cell) → cs ≡ active_cells S L.cells name → root_of S name ≡ Some r → IsPlace r.parts place → (After cs).phase (cell_of (After cs).cells name r.parts place) ≡ None
   active-shut name r place cs e is at =
       ap (λ (C : Cells). (After cs).phase (cell_of C name r.parts place)) (all_closed-cells workers cs L)
       ∙ ap (After cs).phase (sym (active_cell-is S L.cells name place r is))
@@ -121,7 +121,7 @@ direct-closed P (o ∷ os) d h =
 -- ---- one statement
 
 -- one that contributes to nothing
-fine_plain : (has : Kernel → Bool) (T : Table) (p : Program) (L : Lowering) (S : State) (s : Statement (List ℕ)) (out : List Printed) → contributions s.act ≡ [] → IsReady (all_closed p.workers (closed_by S L.cells s.act) L) S s.act → Begins p (lower_one p.workers S s L) → CanBe has S s.act → NamesAct T S L.cells s.act → IsFine T p L S out
+fine_plain : (has : Kernel → Bool) (T : Table) (p : Program) (L : Lowering) (S : JobState) (s : Statement (List ℕ)) (out : List Printed) → contributions s.act ≡ [] → IsReady (all_closed p.workers (closed_by S L.cells s.act) L) S s.act → Begins p (lower_one p.workers S s L) → CanBe has S s.act → NamesAct T S L.cells s.act → IsFine T p L S out
     → IsFine T p (lower_one p.workers S s L) (apply s.act S) (out ++ prints s.act S)
 fine_plain has T p L S s out none ready b can named f =
     let M = all_closed p.workers (closed_by S L.cells s.act) L in
@@ -132,7 +132,7 @@ fine_plain has T p L S s out none ready b can named f =
     (fine_own has T p M S s.line s.act out begins can (subst (λ (C : Cells). NamesAct T S C s.act) (sym (all_closed-cells p.workers (closed_by S L.cells s.act) L)) named) ready fine)
 
 -- a task that contributes
-fine_adding : (has : Kernel → Bool) (T : Table) (p : Program) (L : Lowering) (S : State) (line : Line) (t : TaskLine (List ℕ)) (out : List Printed) → list_any (λ o. is_redux o.mode) t.operands ≡ true → Begins p (lower_one p.workers S (record { line = line; act = Tasks t }) L) → CanBe has S (Tasks t) → IsFine T p L S out
+fine_adding : (has : Kernel → Bool) (T : Table) (p : Program) (L : Lowering) (S : JobState) (line : Line) (t : TaskLine (List ℕ)) (out : List Printed) → list_any (λ o. is_redux o.mode) t.operands ≡ true → Begins p (lower_one p.workers S (record { line = line; act = Tasks t }) L) → CanBe has S (Tasks t) → IsFine T p L S out
     → IsFine T p (lower_one p.workers S (record { line = line; act = Tasks t }) L) (apply (Tasks t) S) (out ++ [])
 fine_adding has T p L S line t out any b can f =
     let s : Statement (List ℕ) = record { line = line; act = Tasks t } in
@@ -159,7 +159,7 @@ fine_adding has T p L S line t out any b can f =
     reads-shut M [] re h = tt
     reads-shut M (v ∷ vs) re h = (h.0 re.0.0, reads-shut M vs re.1 h.1)
 
-fine_one : (has : Kernel → Bool) (T : Table) (p : Program) (L : Lowering) (S : State) (line : Line) (a : Act (List ℕ)) (out : List Printed) → let s : Statement (List ℕ) = record { line = line; act = a } in Begins p (lower_one p.workers S s L) → CanBe has S a → NamesAct T S L.cells a → IsFine T p L S out
+fine_one : (has : Kernel → Bool) (T : Table) (p : Program) (L : Lowering) (S : JobState) (line : Line) (a : Act (List ℕ)) (out : List Printed) → let s : Statement (List ℕ) = record { line = line; act = a } in Begins p (lower_one p.workers S s L) → CanBe has S a → NamesAct T S L.cells a → IsFine T p L S out
     → IsFine T p (lower_one p.workers S s L) (apply a S) (out ++ prints a S)
 fine_one has T p L S line (Registers r) out b can named f = fine_plain has T p L S (record { line = line; act = Registers r }) out refl tt b can named f
 fine_one has T p L S line (Plans name s) out b can named f = fine_plain has T p L S (record { line = line; act = Plans name s }) out refl (plan-shut p.workers L S name s) b can named f
@@ -178,7 +178,7 @@ fine_one has T p L S line (Unregisters name) out b can named f = fine_plain has 
 
 -- ---- all statements
 
-fine_from : (has : Kernel → Bool) (T : Table) (p : Program) (L : Lowering) (S : State) (out : List Printed) (ss : List (Statement (List ℕ))) → Begins p (lower_from p.workers S L ss) → AllCanBe has S ss → NamesAll p.workers T S L ss → IsFine T p L S out
+fine_from : (has : Kernel → Bool) (T : Table) (p : Program) (L : Lowering) (S : JobState) (out : List Printed) (ss : List (Statement (List ℕ))) → Begins p (lower_from p.workers S L ss) → AllCanBe has S ss → NamesAll p.workers T S L ss → IsFine T p L S out
     → IsFine T p (lower_from p.workers S L ss) (run_from S ss) (out ++ printed_from S ss)
 fine_from has T p L S out [] b can named f = subst (λ (xs : List Printed). IsFine T p L S xs) (sym (append-nil out)) f
 fine_from has T p L S out (s ∷ ss) b can named f =
@@ -187,7 +187,7 @@ fine_from has T p L S out (s ∷ ss) b can named f =
     (fine_from has T p (lower_one p.workers S s L) (apply s.act S) (out ++ prints s.act S) ss b can.1 named.1 next)
 
 -- at the end no phase is open
-all-shut : (p : Program) (L : Lowering) (S : State) → Begins p L → Agrees p L S → (c : Cell) → (finished p.workers L).phase c ≡ None
+all-shut : (p : Program) (L : Lowering) (S : JobState) → Begins p L → Agrees p L S → (c : Cell) → (finished p.workers L).phase c ≡ None
 all-shut p L S b g c = by_option (L.phase c) refl
   where
     cells : List Cell
@@ -207,7 +207,7 @@ all-shut p L S b g c = by_option (L.phase c) refl
 -- the program of a job
 pub record IsWhole (T : Table) (p : Program) (ss : List (Statement (List ℕ))) : Type 0 where
   pub lowering : Lowering
-  pub state : State
+  pub state : JobState
   pub cells : p.cells ≡ lowering.cells.rows
   pub tasks : p.tasks ≡ lowering.tasks
   pub deliveries : p.deliveries ≡ lowering.deliveries

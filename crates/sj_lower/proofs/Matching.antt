@@ -7,7 +7,7 @@ use Rattle.std.proofs.lemmas.List.{take_more, take-append-drop, append-nil}
 use Rattle.std.proofs.lemmas.List.Elements.{All-head, All-tail, filter-append}
 use Rattle.sj_base.specs.declared.ids.Cell.{Cell}
 use Rattle.sj_base.specs.declared.ids.Line.{Line}
-use Rattle.sj_base.specs.declared.ids.Root.{Root as RootNumber}
+use Rattle.sj_base.specs.declared.ids.Root.{Root}
 use Rattle.sj_base.specs.declared.mode.Reduction.{Reduction}
 use Rattle.sj_base.specs.Mode.{is_redux}
 use Rattle.sj_codelet.specs.declared.kernel.Kernel.{Kernel}
@@ -17,7 +17,7 @@ use Rattle.sj_meaning.specs.declared.job.Act.{Act as Kept}
 use Rattle.sj_meaning.specs.declared.job.Act.TheVariants as kept
 use Rattle.sj_meaning.specs.declared.job.Operand.{Operand as KeptOperand}
 use Rattle.sj_meaning.specs.Statement.{Operand}
-use Rattle.sj_meaning.specs.State.{Root, State, root_of, is_child, is_valued_child, child_elements}
+use Rattle.sj_meaning.specs.State.{RootState, JobState, root_of, is_child, is_valued_child, child_elements}
 use Rattle.sj_meaning.specs.Sound.{IsSoundAct, has_child, has_child_values, reduction_of}
 use Rattle.sj_meaning.specs.Table.{Table, a_root, name_of, undivided}
 use Rattle.sj_job.specs.Track.{is_set}
@@ -78,23 +78,23 @@ opening_all-more workers as' line (o ∷ os) L =
 -- ---- active plans
 
 -- a root's active plan, as the code has it
-pub record IsKnownAs (T : Table) (C : Cells) (as' : List Active) (S : State) (r : RootNumber) : Type 0 where
-  pub root : Root
+pub record IsKnownAs (T : Table) (C : Cells) (as' : List Active) (S : JobState) (r : Root) : Type 0 where
+  pub root : RootState
   pub is_root : root_of S (name_of T r) ≡ Some root
   pub active : IsActive T C r.0 (active_at as' r.0) root
 
-abbrev known-as : (T : Table) (C : Cells) (as' : List Active) (S : State) (r : RootNumber) → AreActive T C as' S → r.0 < C.roots → (root : Root) → root_of S (name_of T r) ≡ Some root → IsKnownAs T C as' S r
+abbrev known-as : (T : Table) (C : Cells) (as' : List Active) (S : JobState) (r : Root) → AreActive T C as' S → r.0 < C.roots → (root : RootState) → root_of S (name_of T r) ≡ Some root → IsKnownAs T C as' S r
 known-as T C as' S r g lt root e = record { root = root; is_root = e; active = g.each r.0 root lt e }
 
-pub parts-of : (S : State) (name : List ℕ) (r : Root) → root_of S name ≡ Some r → parts_in S name ≡ r.parts
-parts-of S name r e = ap (λ (o : Option Root). elim o as (λ _. Parts) [ None ↦ undivided | Some r ↦ r.parts ]) e
+pub parts-of : (S : JobState) (name : List ℕ) (r : RootState) → root_of S name ≡ Some r → parts_in S name ≡ r.parts
+parts-of S name r e = ap (λ (o : Option RootState). elim o as (λ _. Parts) [ None ↦ undivided | Some r ↦ r.parts ]) e
 
-cell-is : (T : Table) (C : Cells) (as' : List Active) (S : State) (r : RootNumber) (place : ℕ × ℕ) → (k : IsKnownAs T C as' S r) → active_cell S C (name_of T r) place ≡ cells_from (active_at as' r.0).first (active_at as' r.0).tracked.parts place
+cell-is : (T : Table) (C : Cells) (as' : List Active) (S : JobState) (r : Root) (place : ℕ × ℕ) → (k : IsKnownAs T C as' S r) → active_cell S C (name_of T r) place ≡ cells_from (active_at as' r.0).first (active_at as' r.0).tracked.parts place
 cell-is T C as' S r place k =
     active_cell-is S C (name_of T r) place k.root k.is_root
     ∙ (λ i. cells_from (active-first T C r.0 (active_at as' r.0) k.root k.active i) (sym k.active.tracks.parts i) place)
 
-cells-are : (T : Table) (C : Cells) (as' : List Active) (S : State) (r : RootNumber) → (k : IsKnownAs T C as' S r) → active_cells S C (name_of T r) ≡ cells_by (active_at as' r.0)
+cells-are : (T : Table) (C : Cells) (as' : List Active) (S : JobState) (r : Root) → (k : IsKnownAs T C as' S r) → active_cells S C (name_of T r) ≡ cells_by (active_at as' r.0)
 cells-are T C as' S r k =
     (λ i. map (λ place. cell-is T C as' S r place k i) (places (parts-of S (name_of T r) k.root k.is_root i)))
     ∙ ap (λ (p : Parts). map (cells_from (active_at as' r.0).first (active_at as' r.0).tracked.parts) (places p)) (sym k.active.tracks.parts)
@@ -102,10 +102,10 @@ cells-are T C as' S r k =
 -- ---- what is closed
 
 -- what is known of the operands of a task
-abbrev pub AreThere : State → Table → List KeptOperand → Type 0
+abbrev pub AreThere : JobState → Table → List KeptOperand → Type 0
 AreThere S T os = AllByRecursion (λ o. has_child S (operand_seen T o) ≡ true) os
 
-others-are : (T : Table) (C : Cells) (as' : List Active) (S : State) (os : List KeptOperand) → AreActive T C as' S → All (λ o. o.root.0 < C.roots) os → AreThere S T os
+others-are : (T : Table) (C : Cells) (as' : List Active) (S : JobState) (os : List KeptOperand) → AreActive T C as' S → All (λ o. o.root.0 < C.roots) os → AreThere S T os
     → map (λ (o : Operand (List ℕ)). active_cell S C o.name o.place) (filter is_other_access (map (operand_seen T) os)) ≡ map (cell_by as') (filter is_other os)
 others-are T C as' S [] g placed there = refl
 others-are T C as' S (o ∷ os) g placed there =
@@ -121,11 +121,11 @@ others-are T C as' S (o ∷ os) g placed there =
     by_test true rest = (λ i. here i ∷ rest i)
     by_test false rest = rest
 
-pub seen-there : (T : Table) (S : State) (os : List KeptOperand) → list_all (has_child S) (map (operand_seen T) os) ≡ true → AreThere S T os
+pub seen-there : (T : Table) (S : JobState) (os : List KeptOperand) → list_all (has_child S) (map (operand_seen T) os) ≡ true → AreThere S T os
 seen-there T S [] h = tt
 seen-there T S (o ∷ os) h = let both = and_parts (has_child S (operand_seen T o)) (list_all (has_child S) (map (operand_seen T) os)) h in (both.0, seen-there T S os both.1)
 
-pub closing-is : (has : Kernel → Bool) (T : Table) (C : Cells) (as' : List Active) (S : State) (a : Kept) → AreActive T C as' S → IsPlaced C.roots a → IsSoundAct has S (act_seen T C.roots a) → closed_by S C (act_seen T C.roots a) ≡ closing_by as' a
+pub closing-is : (has : Kernel → Bool) (T : Table) (C : Cells) (as' : List Active) (S : JobState) (a : Kept) → AreActive T C as' S → IsPlaced C.roots a → IsSoundAct has S (act_seen T C.roots a) → closed_by S C (act_seen T C.roots a) ≡ closing_by as' a
 closing-is has T C as' S (kept.Register init) g placed sound = refl
 closing-is has T C as' S (kept.Plan r p) g placed sound =
     let there = root_there (root_of S (name_of T r)) sound.rooted in
@@ -147,7 +147,7 @@ closing-is has T C as' S (kept.Unregister r) g placed sound =
 -- ---- what is opened
 
 -- active plans stay where the names keep their handles
-same-actives : (T : Table) (C D : Cells) (as' : List Active) (S : State) → SameNames C D → AreActive T C as' S → AreActive T D as' S
+same-actives : (T : Table) (C D : Cells) (as' : List Active) (S : JobState) → SameNames C D → AreActive T C as' S → AreActive T D as' S
 same-actives T C D as' S same a = record {
   counted = a.counted ∙ sym same.1;
   each = λ n r lt e. (let x = a.each n r (omega (arith, lt, same.1)) e in record {
@@ -161,21 +161,21 @@ same-actives T C D as' S same a = record {
   });
 }
 
-values-are : (T : Table) (C : Cells) (as' : List Active) (S : State) (o : KeptOperand) → (k : IsKnownAs T C as' S o.root) → IsPlace k.root.parts o.place → is_child k.root.parts o.place ≡ true → has_child_values S (operand_seen T o) ≡ is_set (active_at as' o.root.0).tracked o.place
+values-are : (T : Table) (C : Cells) (as' : List Active) (S : JobState) (o : KeptOperand) → (k : IsKnownAs T C as' S o.root) → IsPlace k.root.parts o.place → is_child k.root.parts o.place ≡ true → has_child_values S (operand_seen T o) ≡ is_set (active_at as' o.root.0).tracked o.place
 values-are T C as' S o k at child =
-    ap (λ (x : Option Root). elim x as (λ _. Bool) [ None ↦ false | Some r ↦ is_valued_child r o.place ]) k.is_root
+    ap (λ (x : Option RootState). elim x as (λ _. Bool) [ None ↦ false | Some r ↦ is_valued_child r o.place ]) k.is_root
     ∙ ap (λ b. b && list_all is_some (child_elements k.root o.place)) child
     ∙ child-valued (active_at as' o.root.0).tracked k.root o.place k.active.tracks at
 
-child-test : (S : State) (o : Operand (List ℕ)) (r : Root) → root_of S o.name ≡ Some r → has_child S o ≡ true → is_child r.parts o.place ≡ true
-child-test S o r e h = sym (ap (λ (x : Option Root). elim x as (λ _. Bool) [ None ↦ false | Some r ↦ is_child r.parts o.place ]) e) ∙ h
+child-test : (S : JobState) (o : Operand (List ℕ)) (r : RootState) → root_of S o.name ≡ Some r → has_child S o ≡ true → is_child r.parts o.place ≡ true
+child-test S o r e h = sym (ap (λ (x : Option RootState). elim x as (λ _. Bool) [ None ↦ false | Some r ↦ is_child r.parts o.place ]) e) ∙ h
 
-opening-one : (T : Table) (as' : List Active) (S : State) (workers : ℕ) (line : Line) (o : KeptOperand) (L : Lowering) → AreActive T L.cells as' S → o.root.0 < L.cells.roots → has_child S (operand_seen T o) ≡ true → opened_for workers S line L (operand_seen T o) ≡ opening_for workers as' line o L
+opening-one : (T : Table) (as' : List Active) (S : JobState) (workers : ℕ) (line : Line) (o : KeptOperand) (L : Lowering) → AreActive T L.cells as' S → o.root.0 < L.cells.roots → has_child S (operand_seen T o) ≡ true → opened_for workers S line L (operand_seen T o) ≡ opening_for workers as' line o L
 opening-one T as' S workers line o L g lt there =
     let t = child_there S (operand_seen T o) there in
     let k = known-as T L.cells as' S o.root g lt t.root t.is_root in
     let a = active_at as' o.root.0 in
-    let by : reduction_of S (name_of T o.root) ≡ a.reduction = ap (λ (x : Option Root). elim x as (λ _. Option Reduction) [ None ↦ None | Some r ↦ r.reduction ]) t.is_root ∙ sym k.active.reduction in
+    let by : reduction_of S (name_of T o.root) ≡ a.reduction = ap (λ (x : Option RootState). elim x as (λ _. Option Reduction) [ None ↦ None | Some r ↦ r.reduction ]) t.is_root ∙ sym k.active.reduction in
     let valued = values-are T L.cells as' S o k t.placed (child-test S (operand_seen T o) t.root t.is_root there) in
     let cell = cell-is T L.cells as' S o.root o.place k in
     λ i. elim (by i) as (λ _. Lowering) [ None ↦ L | Some b ↦ opened workers b (valued i) line (cell i) L ]
@@ -187,7 +187,7 @@ opening_for-names workers as' line o L = by_reduction (active_at as' o.root.0).r
     by_reduction None = (refl, refl)
     by_reduction (Some by) = opened-names workers by (is_set (active_at as' o.root.0).tracked o.place) line (cell_by as' o) L
 
-opening-are : (T : Table) (as' : List Active) (S : State) (workers : ℕ) (line : Line) (os : List KeptOperand) (L : Lowering) → AreActive T L.cells as' S → All (λ o. o.root.0 < L.cells.roots) os → AreThere S T os
+opening-are : (T : Table) (as' : List Active) (S : JobState) (workers : ℕ) (line : Line) (os : List KeptOperand) (L : Lowering) → AreActive T L.cells as' S → All (λ o. o.root.0 < L.cells.roots) os → AreThere S T os
     → fold (opened_for workers S line) L (filter (λ o. is_redux o.mode) (map (operand_seen T) os)) ≡ opening_all workers as' line (filter is_contributed os) L
 opening-are T as' S workers line [] L g placed there = refl
 opening-are T as' S workers line (o ∷ os) L g placed there =
@@ -200,7 +200,7 @@ opening-are T as' S workers line (o ∷ os) L g placed there =
         ∙ left (opening_for workers as' line o L) (opening_for-names workers as' line o L)
     by_test false left = left L (refl, refl)
 
-opening-acts : (has : Kernel → Bool) (T : Table) (n : ℕ) (as' : List Active) (S : State) (workers : ℕ) (line : Line) (a : Kept) (L : Lowering) → L.cells.roots ≡ n → AreActive T L.cells as' S → IsPlaced n a → IsSoundAct has S (act_seen T n a)
+opening-acts : (has : Kernel → Bool) (T : Table) (n : ℕ) (as' : List Active) (S : JobState) (workers : ℕ) (line : Line) (a : Kept) (L : Lowering) → L.cells.roots ≡ n → AreActive T L.cells as' S → IsPlaced n a → IsSoundAct has S (act_seen T n a)
     → fold (opened_for workers S line) L (contributions (act_seen T n a)) ≡ opening_all workers as' line (contributed_by a) L
 opening-acts has T n as' S workers line (kept.Register init) L e g placed sound = refl
 opening-acts has T n as' S workers line (kept.Plan r p) L e g placed sound = refl
@@ -212,7 +212,7 @@ opening-acts has T n as' S workers line (kept.Unregister r) L e g placed sound =
 
 -- ---- a statement
 
-pub preparing-is : (has : Kernel → Bool) (T : Table) (as' : List Active) (S : State) (workers : ℕ) (line : Line) (a : Kept) (L : Lowering) → AreActive T L.cells as' S → IsPlaced L.cells.roots a → IsSoundAct has S (act_seen T L.cells.roots a)
+pub preparing-is : (has : Kernel → Bool) (T : Table) (as' : List Active) (S : JobState) (workers : ℕ) (line : Line) (a : Kept) (L : Lowering) → AreActive T L.cells as' S → IsPlaced L.cells.roots a → IsSoundAct has S (act_seen T L.cells.roots a)
     → prepared workers S (record { line = line; act = act_seen T L.cells.roots a }) L ≡ preparing_by workers as' line a L
 preparing-is has T as' S workers line a L g placed sound =
     let n = L.cells.roots in

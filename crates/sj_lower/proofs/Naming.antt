@@ -4,7 +4,7 @@ use Rattle.std.proofs.Common.{◌≡◌, ℕ, ◌+◌, ◌<◌, ◌≤◌, Bool,
 use Rattle.std.proofs.lemmas.Bool.{cases_lt}
 use Rattle.std.specs.Ordering.{nat_cmp}
 use Rattle.std.specs.Cmp.Lexicographic.{slice_cmp}
-use Rattle.sj_base.specs.declared.ids.Root.{Root as RootNumber}
+use Rattle.sj_base.specs.declared.ids.Root.{Root}
 use Rattle.sj_base.specs.declared.tile.Dims.{Dims}
 use Rattle.sj_base.specs.Array.{Array}
 use Rattle.sj_codelet.specs.declared.kernel.Kernel.{Kernel}
@@ -18,8 +18,8 @@ use Rattle.sj_meaning.specs.declared.job.Act.TheVariants as kept
 use Rattle.sj_meaning.specs.declared.job.Statement.{Statement as Kept}
 use Rattle.sj_meaning.specs.Statement.{Register as Registration, Operand, TaskLine}
 use Rattle.sj_meaning.specs.Table.{Table, a_root, name_of, info_of, AreDistinct}
-use Rattle.sj_meaning.specs.View.{registration, task_seen, act_seen, statement_seen, seen_from, count_after, count_from, IsPlaced, ArePlaced}
-use Rattle.sj_meaning.specs.State.{Root, State, root_of, start}
+use Rattle.sj_meaning.specs.View.{registration, task_seen, act_seen, statement_seen, seen_from, count_after, count_from, IsPlaced, ActsArePlaced}
+use Rattle.sj_meaning.specs.State.{RootState, JobState, root_of, start}
 use Rattle.sj_meaning.specs.Meaning.{registered_root, register, change, with_parts, with_elements, with_reduction, with_child, no_values, reduce, plan, invalidate, unregister, put, put_all, written_of, run_task, apply}
 use Rattle.sj_meaning.proofs.Views.{count-grows, counts-grow}
 use Rattle.sj_lower.specs.Cells.{Cells, Handle, with_handle, taking_plan, child_cell, take_by, take, next_handle, with_new_root}
@@ -41,33 +41,33 @@ use Rattle.sj_lower.proofs.Whole.{NamesAct, NamesAll}
 
 -- ---- kinds
 
-abbrev traits : Root → Kind × Dims
+abbrev traits : RootState → Kind × Dims
 traits r = (r.kind, r.dims)
 
-abbrev kind_by : Option Root → Option (Kind × Dims)
+abbrev kind_by : Option RootState → Option (Kind × Dims)
 kind_by o = option_map traits o
 
 -- a change that keeps a root's kind and dimensions keeps those of all
-changed_kinds : (f : Root → Root) (name : List ℕ) (S : State) (q : List ℕ) → ((r : Root) → traits (f r) ≡ traits r) → kind_by (root_of (change f name S) q) ≡ kind_by (root_of S q)
+changed_kinds : (f : RootState → RootState) (name : List ℕ) (S : JobState) (q : List ℕ) → ((r : RootState) → traits (f r) ≡ traits r) → kind_by (root_of (change f name S) q) ≡ kind_by (root_of S q)
 changed_kinds f name S q keeps = by_root (root_of S name) refl
   where
-    by_name : (r : Root) → root_of S name ≡ Some r → (b : Bool) → bytes_eq name q ≡ b → kind_by (cond b (Some (f r)) (root_of S q)) ≡ kind_by (root_of S q)
+    by_name : (r : RootState) → root_of S name ≡ Some r → (b : Bool) → bytes_eq name q ≡ b → kind_by (cond b (Some (f r)) (root_of S q)) ≡ kind_by (root_of S q)
     by_name r e true t = ap Some (keeps r) ∙ sym (ap kind_by (ap (root_of S) (sym (same_text name q t)) ∙ e))
     by_name r e false t = refl
 
-    by_root : (o : Option Root) → root_of S name ≡ o → kind_by (root_of (change f name S) q) ≡ kind_by (root_of S q)
-    by_root None e = ap (λ (o : Option Root). kind_by (root_of (elim o as (λ _. State) [
+    by_root : (o : Option RootState) → root_of S name ≡ o → kind_by (root_of (change f name S) q) ≡ kind_by (root_of S q)
+    by_root None e = ap (λ (o : Option RootState). kind_by (root_of (elim o as (λ _. JobState) [
       | None ↦ S
       | Some r ↦ record { registered = S.registered; ended = S.ended; roots = map.insert S.roots name (f r) }
     ]) q)) e
     by_root (Some r) e = ap kind_by (root-change f name S r q e) ∙ by_name r e (bytes_eq name q) refl
 
-put_all_kinds : (os : List (Operand (List ℕ))) (arrays : List Array) (S : State) (q : List ℕ) → kind_by (root_of (put_all os arrays S) q) ≡ kind_by (root_of S q)
+put_all_kinds : (os : List (Operand (List ℕ))) (arrays : List Array) (S : JobState) (q : List ℕ) → kind_by (root_of (put_all os arrays S) q) ≡ kind_by (root_of S q)
 put_all_kinds [] arrays S q = refl
 put_all_kinds (o ∷ os) [] S q = refl
 put_all_kinds (o ∷ os) (a ∷ arrays) S q = put_all_kinds os arrays (put o a S) q ∙ changed_kinds (with_child o.place a) o.name S q (λ r. refl)
 
-task_kinds : (t : TaskLine (List ℕ)) (S : State) (q : List ℕ) → kind_by (root_of (run_task t S) q) ≡ kind_by (root_of S q)
+task_kinds : (t : TaskLine (List ℕ)) (S : JobState) (q : List ℕ) → kind_by (root_of (run_task t S) q) ≡ kind_by (root_of S q)
 task_kinds t S q = put_all_kinds (written_of t.operands) _ S q
 
 -- ---- the roots of a state have numbers
@@ -79,30 +79,30 @@ record HasNumber (T : Table) (n : ℕ) (q : List ℕ) (k : Kind × Dims) : Type 
   kind : (info_of T (a_root number)).kind ≡ k.0
   dims : (info_of T (a_root number)).dims ≡ k.1
 
-abbrev Knows : Table → ℕ → State → Type 0
-Knows T n S = (q : List ℕ) (r : Root) → root_of S q ≡ Some r → HasNumber T n q (traits r)
+abbrev Knows : Table → ℕ → JobState → Type 0
+Knows T n S = (q : List ℕ) (r : RootState) → root_of S q ≡ Some r → HasNumber T n q (traits r)
 
-kind_from : (T : Table) (n : ℕ) (q : List ℕ) (r : Root) (o : Option Root) → kind_by (Some r) ≡ kind_by o → ((s : Root) → o ≡ Some s → HasNumber T n q (traits s)) → HasNumber T n q (traits r)
+kind_from : (T : Table) (n : ℕ) (q : List ℕ) (r : RootState) (o : Option RootState) → kind_by (Some r) ≡ kind_by o → ((s : RootState) → o ≡ Some s → HasNumber T n q (traits s)) → HasNumber T n q (traits r)
 kind_from T n q r None e h = absurd (cc)
 kind_from T n q r (Some s) e h = let same : traits r ≡ traits s = same_Some (traits r) (traits s) e in subst (HasNumber T n q) (sym same) (h s refl)
 
 -- a state with the same kinds
-knows_kept : (T : Table) (n : ℕ) (S new : State) → ((q : List ℕ) → kind_by (root_of new q) ≡ kind_by (root_of S q)) → Knows T n S → Knows T n new
+knows_kept : (T : Table) (n : ℕ) (S new : JobState) → ((q : List ℕ) → kind_by (root_of new q) ≡ kind_by (root_of S q)) → Knows T n S → Knows T n new
 knows_kept T n S new e k q r h = kind_from T n q r (root_of S q) (sym (ap kind_by h) ∙ e q) (k q)
 
 later : (T : Table) (n : ℕ) (q : List ℕ) (k : Kind × Dims) → HasNumber T n q k → HasNumber T (n + 1) q k
 later T n q k h = record { number = h.number; below = omega (arith, h.below); named = h.named; kind = h.kind; dims = h.dims }
 
-knows_registered : (T : Table) (n : ℕ) (S : State) (r : Registration (List ℕ)) → name_of T (a_root n) ≡ r.name → (info_of T (a_root n)).kind ≡ r.kind → (info_of T (a_root n)).dims ≡ r.dims → Knows T n S → Knows T (n + 1) (register r S)
+knows_registered : (T : Table) (n : ℕ) (S : JobState) (r : Registration (List ℕ)) → name_of T (a_root n) ≡ r.name → (info_of T (a_root n)).kind ≡ r.kind → (info_of T (a_root n)).dims ≡ r.dims → Knows T n S → Knows T (n + 1) (register r S)
 knows_registered T n S r en ek ed k q s h = by_test (bytes_eq r.name q) refl (sym (get-put S.roots r.name (registered_root r) q) ∙ h)
   where
     by_test : (b : Bool) → bytes_eq r.name q ≡ b → cond b (Some (registered_root r)) (root_of S q) ≡ Some s → HasNumber T (n + 1) q (traits s)
     by_test true t e =
         let same : registered_root r ≡ s = cc in
-        record { number = n; below = omega arith; named = en ∙ same_text r.name q t; kind = ek ∙ ap (λ (x : Root). x.kind) same; dims = ed ∙ ap (λ (x : Root). x.dims) same }
+        record { number = n; below = omega arith; named = en ∙ same_text r.name q t; kind = ek ∙ ap (λ (x : RootState). x.kind) same; dims = ed ∙ ap (λ (x : RootState). x.dims) same }
     by_test false t e = later T n q (traits s) (k q s e)
 
-knows_ended : (T : Table) (n : ℕ) (S : State) (name : List ℕ) → Knows T n S → Knows T n (unregister name S)
+knows_ended : (T : Table) (n : ℕ) (S : JobState) (name : List ℕ) → Knows T n S → Knows T n (unregister name S)
 knows_ended T n S name k q s h = by_test (bytes_eq name q) (sym (get-gone S.roots name q) ∙ h)
   where
     by_test : (b : Bool) → cond b None (root_of S q) ≡ Some s → HasNumber T n q (traits s)
@@ -163,12 +163,12 @@ handles_rooted T n C d few count has i lt =
 
 -- ---- statement by statement
 
-pub record AreNumbered (T : Table) (n : ℕ) (C : Cells) (S : State) : Type 0 where
+pub record AreNumbered (T : Table) (n : ℕ) (C : Cells) (S : JobState) : Type 0 where
   pub handles : HasHandles T n C
   pub roots : C.roots ≡ n
   knows : Knows T n S
 
-pub numbered-act : (T : Table) (n : ℕ) (C : Cells) (S : State) (a : KeptAct) → AreDistinct T.names → count_after n a ≤ length T.names → AreNumbered T n C S → AreNumbered T (count_after n a) (cells_after (act_seen T n a) C) (apply (act_seen T n a) S)
+pub numbered-act : (T : Table) (n : ℕ) (C : Cells) (S : JobState) (a : KeptAct) → AreDistinct T.names → count_after n a ≤ length T.names → AreNumbered T n C S → AreNumbered T (count_after n a) (cells_after (act_seen T n a) C) (apply (act_seen T n a) S)
 numbered-act T n C S (kept.Register init) d few t =
     let r = registration (name_of T (a_root n)) (info_of T (a_root n)) init in
     let D = with_new_root r.name r.dims C in
@@ -188,7 +188,7 @@ numbered-act T n C S (kept.Print r) d few t = t
 numbered-act T n C S (kept.Invalidate r) d few t = record { handles = t.handles; roots = t.roots; knows = knows_kept T n S (invalidate (name_of T r) S) (λ q. changed_kinds (λ r. with_elements (no_values r.dims) r) (name_of T r) S q (λ r. refl)) t.knows }
 numbered-act T n C S (kept.Unregister r) d few t = record { handles = t.handles; roots = t.roots; knows = knows_ended T n S (name_of T r) t.knows }
 
-names_act : (T : Table) (n : ℕ) (C : Cells) (S : State) (a : KeptAct) → AreDistinct T.names → n ≤ length T.names → IsPlaced n a → AreNumbered T n C S → NamesAct T S C (act_seen T n a)
+names_act : (T : Table) (n : ℕ) (C : Cells) (S : JobState) (a : KeptAct) → AreDistinct T.names → n ≤ length T.names → IsPlaced n a → AreNumbered T n C S → NamesAct T S C (act_seen T n a)
 names_act T n C S (kept.Register init) d few placed t = tt
 names_act T n C S (kept.Plan r p) d few placed t = tt
 names_act T n C S (kept.Redux r by) d few placed t = tt
@@ -201,8 +201,8 @@ names_act T n C S (kept.Print r) d few placed t = λ h root there is.
     let one : k.number ≡ r.0 = d k.number r.0 (omega (arith, k.below, few)) (omega (arith, placed, few)) k.named in
     let kind : (info_of T r).kind ≡ root.kind = ap (λ m. (info_of T (a_root m)).kind) (sym one) ∙ k.kind in (
       ap (printed_as T) number ∙ (λ i. (name_of T r, kind i)),
-      ap (λ (x : RootNumber). (info_of T x).dims) number ∙ sym own.2.dims ∙ ap (λ (h : Handle). h.dims) same,
-      subst (λ (x : RootNumber). x.0 < length T.names) (sym number) (omega (arith, placed, few)),
+      ap (λ (x : Root). (info_of T x).dims) number ∙ sym own.2.dims ∙ ap (λ (h : Handle). h.dims) same,
+      subst (λ (x : Root). x.0 < length T.names) (sym number) (omega (arith, placed, few)),
     )
 names_act T n C S (kept.Invalidate r) d few placed t = tt
 names_act T n C S (kept.Unregister r) d few placed t = tt
@@ -211,7 +211,7 @@ names_act T n C S (kept.Unregister r) d few placed t = tt
 abbrev pub SameNames : Cells → Cells → Type 0
 SameNames C D = (D.handles ≡ C.handles) × (D.roots ≡ C.roots)
 
-numbered-same : (T : Table) (n : ℕ) (C D : Cells) (S : State) → SameNames C D → AreNumbered T n C S → AreNumbered T n D S
+numbered-same : (T : Table) (n : ℕ) (C D : Cells) (S : JobState) → SameNames C D → AreNumbered T n C S → AreNumbered T n D S
 numbered-same T n C D S same t = record {
   handles = λ i inside. (let h = t.handles i inside in (h.0, ap (λ f. f (name_of T (a_root i))) same.0 ∙ h.1, h.2));
   roots = same.1 ∙ t.roots;
@@ -225,7 +225,7 @@ opened-names workers by v line c L = by_option (L.phase c)
     by_option None = (by_copies workers c L.cells (λ (D : Cells). D.handles ≡ L.cells.handles) (λ f e. refl) (λ e. refl), by_copies workers c L.cells (λ (D : Cells). D.roots ≡ L.cells.roots) (λ f e. refl) (λ e. refl))
     by_option (Some f) = (refl, refl)
 
-opened_for-names : (workers : ℕ) (S : State) (line : Line) (os : List (Operand (List ℕ))) (L : Lowering) → SameNames L.cells (fold (opened_for workers S line) L os).cells
+opened_for-names : (workers : ℕ) (S : JobState) (line : Line) (os : List (Operand (List ℕ))) (L : Lowering) → SameNames L.cells (fold (opened_for workers S line) L os).cells
 opened_for-names workers S line [] L = (refl, refl)
 opened_for-names workers S line (o ∷ os) L =
     let here = by_option (reduction_of S o.name) in
@@ -236,19 +236,19 @@ opened_for-names workers S line (o ∷ os) L =
     by_option None = (refl, refl)
     by_option (Some by) = opened-names workers by (has_child_values S o) line (active_cell S L.cells o.name o.place) L
 
-pub prepared-names : (workers : ℕ) (S : State) (s : Statement (List ℕ)) (L : Lowering) → SameNames L.cells (prepared workers S s L).cells
+pub prepared-names : (workers : ℕ) (S : JobState) (s : Statement (List ℕ)) (L : Lowering) → SameNames L.cells (prepared workers S s L).cells
 prepared-names workers S s L =
     let M = all_closed workers (closed_by S L.cells s.act) L in
     let same = all_closed-cells workers (closed_by S L.cells s.act) L in
     let more = opened_for-names workers S s.line (contributions s.act) M in
     (more.0 ∙ ap (λ (C : Cells). C.handles) same, more.1 ∙ ap (λ (C : Cells). C.roots) same)
 
-pub numbered-one : (workers : ℕ) (T : Table) (n : ℕ) (L : Lowering) (S : State) (s : Kept) → AreDistinct T.names → count_after n s.act ≤ length T.names → AreNumbered T n L.cells S → AreNumbered T (count_after n s.act) (lower_one workers S (statement_seen T n s) L).cells (apply (act_seen T n s.act) S)
+pub numbered-one : (workers : ℕ) (T : Table) (n : ℕ) (L : Lowering) (S : JobState) (s : Kept) → AreDistinct T.names → count_after n s.act ≤ length T.names → AreNumbered T n L.cells S → AreNumbered T (count_after n s.act) (lower_one workers S (statement_seen T n s) L).cells (apply (act_seen T n s.act) S)
 numbered-one workers T n L S s d few t =
     let M = prepared workers S (statement_seen T n s) L in
     numbered-act T n M.cells S s.act d few (numbered-same T n L.cells M.cells S (prepared-names workers S (statement_seen T n s) L) t)
 
-pub names-all : (workers : ℕ) (T : Table) (n : ℕ) (L : Lowering) (S : State) (ss : List Kept) → AreDistinct T.names → count_from n ss ≤ length T.names → ArePlaced n ss → AreNumbered T n L.cells S → NamesAll workers T S L (seen_from T n ss)
+pub names-all : (workers : ℕ) (T : Table) (n : ℕ) (L : Lowering) (S : JobState) (ss : List Kept) → AreDistinct T.names → count_from n ss ≤ length T.names → ActsArePlaced n ss → AreNumbered T n L.cells S → NamesAll workers T S L (seen_from T n ss)
 names-all workers T n L S [] d few placed t = tt
 names-all workers T n L S (s ∷ ss) d few placed t =
     let m = count_after n s.act in
@@ -267,11 +267,11 @@ numbered-none T = record {
 
 -- ---- the plan that an act makes active
 
-pub numbered-cut : (has : Kernel → Bool) (T : Table) (n : ℕ) (C : Cells) (S : State) (a : KeptAct) → AreDistinct T.names → n ≤ length T.names → IsPlaced n a → AreNumbered T n C S → IsSoundAct has S (act_seen T n a) → IsCut T n a
+pub numbered-cut : (has : Kernel → Bool) (T : Table) (n : ℕ) (C : Cells) (S : JobState) (a : KeptAct) → AreDistinct T.names → n ≤ length T.names → IsPlaced n a → AreNumbered T n C S → IsSoundAct has S (act_seen T n a) → IsCut T n a
 numbered-cut has T n C S (kept.Register init) d few placed t sound = sound.parts
 numbered-cut has T n C S (kept.Plan r p) d few placed t sound = by_root (root_of S (name_of T r)) refl sound.rooted sound.parts
   where
-    by_root : (o : Option Root) → root_of S (name_of T r) ≡ o → is_some o ≡ true → Fits p (elim o as (λ _. Dims) [ None ↦ record { rows = 0; cols = 0 } | Some x ↦ x.dims ]) → Fits p (info_of T r).dims
+    by_root : (o : Option RootState) → root_of S (name_of T r) ≡ o → is_some o ≡ true → Fits p (elim o as (λ _. Dims) [ None ↦ record { rows = 0; cols = 0 } | Some x ↦ x.dims ]) → Fits p (info_of T r).dims
     by_root None is rooted fits = absurd (cc)
     by_root (Some x) is rooted fits =
         let k = t.knows (name_of T r) x is in

@@ -19,8 +19,8 @@ use Rattle.sj_core.specs.Fold.{Contents, held_in}
 use Rattle.sj_core.proofs.Combining.{unit-same}
 use Rattle.sj_core.proofs.Sized.{AreSized}
 use Rattle.sj_plan.specs.Parts.{IsPlace}
-use Rattle.sj_plan.specs.Rect.{child, dims_of as rect_dims}
-use Rattle.sj_meaning.specs.State.{Root, State, root_of, child_rect, is_valued_child}
+use Rattle.sj_plan.specs.Rect.{child, rect_dims}
+use Rattle.sj_meaning.specs.State.{RootState, JobState, root_of, child_rect, is_valued_child}
 use Rattle.sj_meaning.specs.Meaning.{child_array, child_unit, contributed_to}
 use Rattle.sj_lower.specs.declared.phase.OpenPhase.{OpenPhase}
 use Rattle.sj_lower.specs.Cells.{Cells, cell_of, info_at, copy_at, first_partial, with_copies}
@@ -58,12 +58,12 @@ all-units p k f (w ∷ ws) v law tile all =
     ap (with_all p k f ws) here ∙ all-units p k f ws v law tile all.1
 
 -- a child of a name's active plan
-pub record IsChildOf (C : Cells) (S : State) (name : List ℕ) (place : ℕ × ℕ) (c : Cell) (root : Root) : Type 0 where
+pub record IsChildOf (C : Cells) (S : JobState) (name : List ℕ) (place : ℕ × ℕ) (c : Cell) (root : RootState) : Type 0 where
   pub is_root : root_of S name ≡ Some root
   pub placed : IsPlace root.parts place
   pub cell : c ≡ cell_of C name root.parts place
 
-module _ (p : Program) (L : Lowering) (S : State) (g : Agrees p L S) (name : List ℕ) (place : ℕ × ℕ) (c : Cell) (root : Root) (own : IsChildOf L.cells S name place c root) (by : Reduction) (reduction : root.reduction ≡ Some by) (line : Line) where
+module _ (p : Program) (L : Lowering) (S : JobState) (g : Agrees p L S) (name : List ℕ) (place : ℕ × ℕ) (c : Cell) (root : RootState) (own : IsChildOf L.cells S name place c root) (by : Reduction) (reduction : root.reduction ≡ Some by) (line : Line) where
   abbrev b : HasRoot p L.cells L.phase (length L.tasks) (contents_before p (length L.tasks)) name root
   b = g.roots name root own.is_root
 

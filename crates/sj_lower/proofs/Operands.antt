@@ -14,7 +14,7 @@ use Rattle.sj_codelet.specs.Formal.{is_output}
 use Rattle.sj_codelet.specs.Kernel.{kernel_of, contributes_of, commutes_in, contributes_in, has_reduction}
 use Rattle.sj_core.proofs.Updating.{updates-last, contributing-commutes}
 use Rattle.sj_meaning.specs.Statement.{Operand, TaskLine}
-use Rattle.sj_meaning.specs.State.{State}
+use Rattle.sj_meaning.specs.State.{JobState}
 use Rattle.sj_meaning.specs.Meaning.{written_of}
 use Rattle.sj_meaning.specs.Sound.{mode_fits, modes_fit}
 use Rattle.sj_meaning.specs.Sound.{IsSoundTask, is_lawful, reduction_of}
@@ -98,7 +98,7 @@ snoc-parts (z ∷ xs) (w ∷ ys) x y e =
 -- ---- tasks
 
 -- the operand to which a task contributes is its last, and the only one that it writes
-pub record Contributes (S : State) (t : TaskLine (List ℕ)) (kernel : Kernel) : Type 0 where
+pub record Contributes (S : JobState) (t : TaskLine (List ℕ)) (kernel : Kernel) : Type 0 where
   pub before : List (Operand (List ℕ))
   pub last : Operand (List ℕ)
   pub is : t.operands ≡ before ++ last ∷ []
@@ -111,7 +111,7 @@ pub record Contributes (S : State) (t : TaskLine (List ℕ)) (kernel : Kernel) :
   pub contributed : filter (λ o. is_redux o.mode) t.operands ≡ last ∷ []
 
 -- a task with a contribution, by the codelet of its line
-contributing : (has : Kernel → Bool) (S : State) (t : TaskLine (List ℕ)) (k : Kernel) → kernel_of t.codelet ≡ Some k → (os : List (Operand (List ℕ))) → list_all (is_lawful has S t.codelet) os ≡ true → list_any (λ o. is_redux o.mode) os ≡ true → (by : Reduction) × (contributes_of k by ≡ true)
+contributing : (has : Kernel → Bool) (S : JobState) (t : TaskLine (List ℕ)) (k : Kernel) → kernel_of t.codelet ≡ Some k → (os : List (Operand (List ℕ))) → list_all (is_lawful has S t.codelet) os ≡ true → list_any (λ o. is_redux o.mode) os ≡ true → (by : Reduction) × (contributes_of k by ≡ true)
 contributing has S t k e [] h any = absurd (false≢true any)
 contributing has S t k e (o ∷ os) h any =
     let a = and_parts (is_lawful has S t.codelet o) (list_all (is_lawful has S t.codelet) os) h in
@@ -139,7 +139,7 @@ is-redux Scratch e = absurd (false≢true e)
 is-redux Redux e = refl
 is-redux Commute e = absurd (false≢true e)
 
-pub contributes-there : (has : Kernel → Bool) (S : State) (t : TaskLine (List ℕ)) (s : IsSoundTask has S t) → list_any (λ o. is_redux o.mode) t.operands ≡ true → Contributes S t (kernel_there has S t s).call.kernel
+pub contributes-there : (has : Kernel → Bool) (S : JobState) (t : TaskLine (List ℕ)) (s : IsSoundTask has S t) → list_any (λ o. is_redux o.mode) t.operands ≡ true → Contributes S t (kernel_there has S t s).call.kernel
 contributes-there has S t s any =
     let kernel = kernel_there has S t s in
     let k = kernel.call.kernel in

@@ -20,9 +20,9 @@ use Rattle.sj_core.specs.Fold.{Contents, held_in}
 use Rattle.sj_plan.specs.declared.parts.Parts.{Parts}
 use Rattle.sj_plan.specs.declared.paste.Paste.{Paste}
 use Rattle.sj_plan.specs.Parts.{Fits, IsPlace, places}
-use Rattle.sj_plan.specs.Paste.{pieces, copy_of, paste_at, overlaps, is_first, pastes_to, pastes_of, IsBetween}
+use Rattle.sj_plan.specs.Paste.{pieces, paste_copy, paste_at, overlaps, is_first, pastes_to, pastes_of, IsPasteBetween}
 use Rattle.sj_plan.specs.Pieces.{Copy, begins, copied, all_copied, BeginOnce}
-use Rattle.sj_plan.specs.Rect.{child, dims_of as rect_dims}
+use Rattle.sj_plan.specs.Rect.{child, rect_dims}
 use Rattle.sj_plan.specs.Window.{window}
 use Rattle.sj_plan.proofs.Copying.{copies_to-begin, copy_between-within}
 use Rattle.sj_plan.proofs.Lists.{each-map, each-filter, each-places}
@@ -77,19 +77,19 @@ record AreMade (p : Program) (d : Dims) (s : Parts) (old : ℕ × ℕ → Cell) 
 
 -- one paste, into a cell with what it held before, of the cell's dimensions
 made_by : (p : Program) (d : Dims) (s : Parts) (old new : ℕ × ℕ → Cell) (a : Array) (line : Line) (to : ℕ × ℕ) (k : Contents) (w : Array) (x : Paste) → w.dims ≡ dims_of p (new to) → (is_first x ≡ false → held_in p k (new to) ≡ w) → HoldOld p d s old a k → IsNoOld s old (new to) → GoesTo s to x
-    → AreMade p d s old a k (after_row p k (paste_row old new line x)) (new to) (copied (windows_of d s a) w (copy_of x))
+    → AreMade p d s old a k (after_row p k (paste_row old new line x)) (new to) (copied (windows_of d s a) w (paste_copy x))
 made_by p d s old new a line to k w x dims here holds none goes =
     let there : (new x.to) ≡ new to = ap new goes.1 in
-    let row : after_row p k (paste_row old new line x) ≡ (new to, copied (windows_of d s a) w (copy_of x)) ∷ k =
+    let row : after_row p k (paste_row old new line x) ≡ (new to, copied (windows_of d s a) w (paste_copy x)) ∷ k =
     after_paste p k old new line x
     ∙ (λ i. (there i, pasted (holds x.from goes.0 i) x.at_from (record { rows = x.rows; cols = x.cols }) (cond (is_first x) (zeros (dims_of p (there i))) (held_in p k (there i))) x.at_to) ∷ k)
     ∙ ap (λ (y : Array). (new to, pasted (window a (child d s x.from)) x.at_from (record { rows = x.rows; cols = x.cols }) y x.at_to) ∷ k) (by_first (is_first x) refl) in
     record {
       fills = record {
-        value = ap (λ (n : Contents). held_in p n (new to)) row ∙ held-same p (new to) (copied (windows_of d s a) w (copy_of x)) k;
-        others = λ c beside. ap (λ (n : Contents). held_in p n c) row ∙ held-other p (new to) (copied (windows_of d s a) w (copy_of x)) k c beside;
+        value = ap (λ (n : Contents). held_in p n (new to)) row ∙ held-same p (new to) (copied (windows_of d s a) w (paste_copy x)) k;
+        others = λ c beside. ap (λ (n : Contents). held_in p n c) row ∙ held-other p (new to) (copied (windows_of d s a) w (paste_copy x)) k c beside;
       };
-      holds = λ from inside. ap (λ (n : Contents). held_in p n (old from)) row ∙ held-other p (new to) (copied (windows_of d s a) w (copy_of x)) k (old from) (none from inside) ∙ holds from inside;
+      holds = λ from inside. ap (λ (n : Contents). held_in p n (old from)) row ∙ held-other p (new to) (copied (windows_of d s a) w (paste_copy x)) k (old from) (none from inside) ∙ holds from inside;
     }
   where
     by_first : (b : Bool) → is_first x ≡ b → cond (is_first x) (zeros (dims_of p (new to))) (held_in p k (new to)) ≡ cond (is_first x) (zeros w.dims) w
@@ -105,23 +105,23 @@ copied_dims old w c = by_first (begins c)
 
 -- further pastes to a child
 further_made : (p : Program) (d : Dims) (s : Parts) (old new : ℕ × ℕ → Cell) (a : Array) (line : Line) (to : ℕ × ℕ) (xs : List Paste) (k : Contents) (w : Array) → w.dims ≡ dims_of p (new to) → held_in p k (new to) ≡ w → HoldOld p d s old a k → IsNoOld s old (new to) → AllByRecursion (GoesTo s to) xs
-    → AreMade p d s old a k (after_rows p k (map (paste_row old new line) xs)) (new to) (all_copied (windows_of d s a) w (map copy_of xs))
+    → AreMade p d s old a k (after_rows p k (map (paste_row old new line) xs)) (new to) (all_copied (windows_of d s a) w (map paste_copy xs))
 further_made p d s old new a line to [] k w dims here holds none go = record { fills = record { value = here; others = λ c beside. refl }; holds = holds }
 further_made p d s old new a line to (x ∷ xs) k w dims here holds none go =
     let one = made_by p d s old new a line to k w x dims (λ e. here) holds none go.0 in
-    let made = copied (windows_of d s a) w (copy_of x) in
-    let rest = further_made p d s old new a line to xs (after_row p k (paste_row old new line x)) made (copied_dims (windows_of d s a) w (copy_of x) ∙ dims) one.fills.value one.holds none go.1 in
+    let made = copied (windows_of d s a) w (paste_copy x) in
+    let rest = further_made p d s old new a line to xs (after_row p k (paste_row old new line x)) made (copied_dims (windows_of d s a) w (paste_copy x) ∙ dims) one.fills.value one.holds none go.1 in
     record { fills = record { value = rest.fills.value; others = λ c beside. rest.fills.others c beside ∙ one.fills.others c beside }; holds = rest.holds }
 
 -- all pastes to a child, of which the first begins it
-all_made : (p : Program) (d : Dims) (s : Parts) (old new : ℕ × ℕ → Cell) (a : Array) (line : Line) (to : ℕ × ℕ) (xs : List Paste) (k : Contents) → BeginOnce (map copy_of xs) → HoldOld p d s old a k → IsNoOld s old (new to) → AllByRecursion (GoesTo s to) xs
-    → AreMade p d s old a k (after_rows p k (map (paste_row old new line) xs)) (new to) (all_copied (windows_of d s a) (zeros (dims_of p (new to))) (map copy_of xs))
+all_made : (p : Program) (d : Dims) (s : Parts) (old new : ℕ × ℕ → Cell) (a : Array) (line : Line) (to : ℕ × ℕ) (xs : List Paste) (k : Contents) → BeginOnce (map paste_copy xs) → HoldOld p d s old a k → IsNoOld s old (new to) → AllByRecursion (GoesTo s to) xs
+    → AreMade p d s old a k (after_rows p k (map (paste_row old new line) xs)) (new to) (all_copied (windows_of d s a) (zeros (dims_of p (new to))) (map paste_copy xs))
 all_made p d s old new a line to [] k once holds none go = absurd once
 all_made p d s old new a line to (x ∷ xs) k once holds none go =
     let w = zeros (dims_of p (new to)) in
     let one = made_by p d s old new a line to k w x refl (λ e. absurd (false≢true (sym e ∙ once.0))) holds none go.0 in
-    let made = copied (windows_of d s a) w (copy_of x) in
-    let rest = further_made p d s old new a line to xs (after_row p k (paste_row old new line x)) made (copied_dims (windows_of d s a) w (copy_of x)) one.fills.value one.holds none go.1 in
+    let made = copied (windows_of d s a) w (paste_copy x) in
+    let rest = further_made p d s old new a line to xs (after_row p k (paste_row old new line x)) made (copied_dims (windows_of d s a) w (paste_copy x)) one.fills.value one.holds none go.1 in
     record { fills = record { value = rest.fills.value; others = λ c beside. rest.fills.others c beside ∙ one.fills.others c beside }; holds = rest.holds }
 
 -- what holds of the paste of each old child that overlaps holds of each paste to the new one
@@ -133,13 +133,13 @@ each-to Q d s t to h =
 pub pastes-go : (d : Dims) (s t : Parts) (to : ℕ × ℕ) → AllByRecursion (GoesTo s to) (pastes_to d s t to)
 pastes-go d s t to = each-to (GoesTo s to) d s t to (λ from inside meets. (inside, refl))
 
-pub pastes-between : (d : Dims) (s t : Parts) (to : ℕ × ℕ) → IsPlace t to → AllByRecursion (IsBetween d s t) (pastes_to d s t to)
+pub pastes-between : (d : Dims) (s t : Parts) (to : ℕ × ℕ) → IsPlace t to → AllByRecursion (IsPasteBetween d s t) (pastes_to d s t to)
 pastes-between d s t to at =
-    each-to (IsBetween d s t) d s t to (λ from inside meets.
+    each-to (IsPasteBetween d s t) d s t to (λ from inside meets.
     let within = copy_between-within (pieces d s) (pieces d t) from to meets in
     record { from = inside; to = at; rows = within.0; cols = within.1; in_old = within.2; in_new = within.3 })
 
-pub pastes-begin : (d : Dims) (s t : Parts) (to : ℕ × ℕ) → Fits s d → Fits t d → IsPlace t to → BeginOnce (map copy_of (pastes_to d s t to))
+pub pastes-begin : (d : Dims) (s t : Parts) (to : ℕ × ℕ) → Fits s d → Fits t d → IsPlace t to → BeginOnce (map paste_copy (pastes_to d s t to))
 pastes-begin d s t to fs ft at =
     subst BeginOnce (sym (pastes_to-copies d s t to))
     (copies_to-begin (pieces d s) (pieces d t) to (part_len-positive d.rows t.r to.0 ft.some_rows ft.rows) (part_len-positive d.cols t.c to.1 ft.some_cols ft.cols) d (children_of-tiling d s fs) (children_of-order d s) (child-within d t to at))
@@ -166,7 +166,7 @@ pastes-filled p d s t old new a line k fs ft holds dims none own =
     subst (λ (ls : List Lowered). AreFilled p k (after_rows p k ls) t new (λ to. window a (child d t to))) (sym (rows-by_child d s t old new line))
     (blocks-filled p (HoldOld p d s old a) (rows_to d s t old new line) new (λ to. window a (child d t to)) t k (λ to at k i.
     let made = all_made p d s old new a line to (pastes_to d s t to) k (pastes-begin d s t to fs ft at) i (none to at) (pastes-go d s t to) in
-    let is : all_copied (windows_of d s a) (zeros (dims_of p (new to))) (map copy_of (pastes_to d s t to)) ≡ window a (child d t to) =
+    let is : all_copied (windows_of d s a) (zeros (dims_of p (new to))) (map paste_copy (pastes_to d s t to)) ≡ window a (child d t to) =
     pastes_to-make d s t to a (windows_of d s a) (zeros (dims_of p (new to))) fs ft at (λ from inside. refl) (length-replicate (area (dims_of p (new to))) (pos 0)) (dims to at) in
     (record { value = made.fills.value ∙ is; others = made.fills.others }, made.holds)) holds own)
 
@@ -174,6 +174,6 @@ pastes-filled p d s t old new a line k fs ft holds dims none own =
 pub pastes-give : (d : Dims) (s t : Parts) (old new : ℕ × ℕ → Cell) (line : Line) (to : ℕ × ℕ) → Fits s d → Fits t d → IsPlace t to → one_gives (rows_to d s t old new line to) (new to) ≡ true
 pastes-give d s t old new line to fs ft at = first (pastes_to d s t to) (pastes-begin d s t to fs ft at) (pastes-go d s t to)
   where
-    first : (xs : List Paste) → BeginOnce (map copy_of xs) → AllByRecursion (GoesTo s to) xs → one_gives (map (paste_row old new line) xs) (new to) ≡ true
+    first : (xs : List Paste) → BeginOnce (map paste_copy xs) → AllByRecursion (GoesTo s to) xs → one_gives (map (paste_row old new line) xs) (new to) ≡ true
     first [] once go = absurd once
     first (x ∷ xs) once go = or_left (gives_value (paste_row old new line x) (new to)) (one_gives (map (paste_row old new line) xs) (new to)) (ap (λ (q : ℕ × ℕ). gives_value (paste_row old new line x) (new q)) (sym go.0.1) ∙ paste-gives old new line x)

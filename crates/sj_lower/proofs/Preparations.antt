@@ -9,10 +9,10 @@ use Rattle.sj_base.specs.declared.ids.Line.{Line}
 use Rattle.sj_base.specs.declared.mode.Reduction.{Reduction}
 use Rattle.sj_base.specs.declared.program.CellInfo.{CellInfo}
 use Rattle.sj_base.specs.declared.program.Lowered.{Lowered}
-use Rattle.sj_meaning.specs.State.{State}
+use Rattle.sj_meaning.specs.State.{JobState}
 use Rattle.sj_meaning.specs.Table.{Table, a_root, name_of}
 use Rattle.sj_lower.specs.declared.layout.Layout.{Layout}
-use Rattle.sj_lower.specs.declared.lower.Progress.{Progress}
+use Rattle.sj_lower.specs.declared.lower.LoweringProgress.{LoweringProgress}
 use Rattle.sj_lower.specs.declared.lowerer.Active.{Active}
 use Rattle.sj_lower.specs.declared.phase.OpenPhase.{OpenPhase}
 use Rattle.sj_lower.specs.Cells.{Cells, Handle, info_at, first_partial, with_copies}
@@ -78,16 +78,16 @@ begin-unvalued by first c v workers line e =
     length-append (init_rows by first workers line) (cond v [] (init_row by line c ∷ [])) ∙ ap (λ b. length (init_rows by first workers line) + length (cond b [] (init_row by line c ∷ []))) e
     ∙ (let n = length-map-range_with_len (λ w. init_row by line (copy_at first w)) 0 workers in omega (arith, n))
 
-pub opens-over : (g : Progress) (by : Reduction) (v : Bool) (line : Line) (c first : Cell) → (g.over ≡ None → ⊥) → HasCopies g c first → Prepares g g line (opened g.workers by v line c)
+pub opens-over : (g : LoweringProgress) (by : Reduction) (v : Bool) (line : Line) (c first : Cell) → (g.over ≡ None → ⊥) → HasCopies g c first → Prepares g g line (opened g.workers by v line c)
 opens-over g by v line c first past copies = prepares-over g line (opened g.workers by v line c) c past (λ T S L at. turns g.workers by v line c L first at.copied (copies.theirs T S L at))
 
-pub opens-more : (old new : Progress) (by : Reduction) (v : Bool) (line : Line) (c : Cell) (f : OpenPhase) → HasAt old → old.over ≡ None → new.over ≡ None → IsBeside old new → new.lowerer.tasks ≡ old.lowerer.tasks → Sets old new c (Some (extended f line)) → get nat_eq old.lowerer.phases c.0 ≡ Some f → Prepares old new line (opened old.workers by v line c)
+pub opens-more : (old new : LoweringProgress) (by : Reduction) (v : Bool) (line : Line) (c : Cell) (f : OpenPhase) → HasAt old → old.over ≡ None → new.over ≡ None → IsBeside old new → new.lowerer.tasks ≡ old.lowerer.tasks → Sets old new c (Some (extended f line)) → get nat_eq old.lowerer.phases c.0 ≡ Some f → Prepares old new line (opened old.workers by v line c)
 opens-more old new by v line c f h none early same tasks sets there =
     prepares-on old new line (opened old.workers by v line c) c [] (Some (extended f line)) none early same (ap (λ ts. ts.items) tasks ∙ sym (append-nil old.lowerer.tasks.items)) sets
     (let few = few-at old h none in omega (arith, few, ap vec_len tasks))
     (λ T S L at. turns-some old.workers by v line c L f at.copied (sym ((at.follows none).phases c) ∙ there))
 
-pub opens-late : (old new : Progress) (by : Reduction) (v : Bool) (line : Line) (c first : Cell) (k : ℕ) → k ≡ length (begin_rows by first c v old.workers line) → HasCopies old c first → old.over ≡ None → new.over ≡ Some line → IsBeside old new → new.lowerer.tasks ≡ old.lowerer.tasks → get nat_eq old.lowerer.phases c.0 ≡ None → most < vec_len old.lowerer.tasks + k → Prepares old new line (opened old.workers by v line c)
+pub opens-late : (old new : LoweringProgress) (by : Reduction) (v : Bool) (line : Line) (c first : Cell) (k : ℕ) → k ≡ length (begin_rows by first c v old.workers line) → HasCopies old c first → old.over ≡ None → new.over ≡ Some line → IsBeside old new → new.lowerer.tasks ≡ old.lowerer.tasks → get nat_eq old.lowerer.phases c.0 ≡ None → most < vec_len old.lowerer.tasks + k → Prepares old new line (opened old.workers by v line c)
 opens-late old new by v line c first k count copies none late same tasks absent many =
     prepares-late old new line (opened old.workers by v line c) c none late same tasks
     (λ T S L at. (
@@ -97,7 +97,7 @@ opens-late old new by v line c first k count copies none late same tasks absent 
       omega (arith, many, count),
     ))
 
-pub opens-on : (old new : Progress) (by : Reduction) (v : Bool) (line : Line) (c first : Cell) (k : ℕ) → k ≡ length (begin_rows by first c v old.workers line) → HasCopies old c first → old.over ≡ None → new.over ≡ None → IsBeside old new → new.lowerer.tasks.items ≡ old.lowerer.tasks.items ++ begin_rows by first c v old.workers line → Sets old new c (Some (begins by first line)) → get nat_eq old.lowerer.phases c.0 ≡ None → vec_len old.lowerer.tasks + k ≤ most → Prepares old new line (opened old.workers by v line c)
+pub opens-on : (old new : LoweringProgress) (by : Reduction) (v : Bool) (line : Line) (c first : Cell) (k : ℕ) → k ≡ length (begin_rows by first c v old.workers line) → HasCopies old c first → old.over ≡ None → new.over ≡ None → IsBeside old new → new.lowerer.tasks.items ≡ old.lowerer.tasks.items ++ begin_rows by first c v old.workers line → Sets old new c (Some (begins by first line)) → get nat_eq old.lowerer.phases c.0 ≡ None → vec_len old.lowerer.tasks + k ≤ most → Prepares old new line (opened old.workers by v line c)
 opens-on old new by v line c first k count copies none early same tasks sets absent few =
     prepares-on old new line (opened old.workers by v line c) c (begin_rows by first c v old.workers line) (Some (begins by first line)) none early same tasks sets
     (omega (arith, few, new.lowerer.tasks.ok, old.lowerer.tasks.ok, ap length tasks, length-append old.lowerer.tasks.items (begin_rows by first c v old.workers line), count))
@@ -123,7 +123,7 @@ copied-copied workers c L there h = record {
   theirs = λ d f e. (copies-more workers c L.cells).kept d.0 f.copies (h.theirs d f e);
 }
 
-actives-copied : (T : Table) (workers : ℕ) (c : Cell) (C : Cells) (as' : List Active) (S : State) → c.0 < length C.rows → AreActive T C as' S → AreActive T (with_copies workers c C) as' S
+actives-copied : (T : Table) (workers : ℕ) (c : Cell) (C : Cells) (as' : List Active) (S : JobState) → c.0 < length C.rows → AreActive T C as' S → AreActive T (with_copies workers c C) as' S
 actives-copied T workers c C as' S there a =
     let roots = copied-roots workers c C there in
     record {
@@ -153,9 +153,9 @@ IsCopying old new workers c first = (T : Table) (C : Cells) → Lays T old C →
 rows-are : (T : Table) (l : Layout) (C : Cells) → Lays T l C → vec_len l.infos ≡ length C.rows
 rows-are T l C h = omega (arith, l.infos.ok, ap length h.rows)
 
-module _ (old new : Progress) (line : Line) (c first : Cell) (there : c.0 < vec_len old.layout.infos) (copies : IsCopying old.layout new.layout old.workers c first) (few : vec_len new.layout.infos ≤ most)
+module _ (old new : LoweringProgress) (line : Line) (c first : Cell) (there : c.0 < vec_len old.layout.infos) (copies : IsCopying old.layout new.layout old.workers c first) (few : vec_len new.layout.infos ≤ most)
     (workers : new.workers ≡ old.workers) (h : HasAt old) where
-  inside : (T : Table) (S : State) (L : Lowering) → StandsAt T old S L → c.0 < length L.cells.rows
+  inside : (T : Table) (S : JobState) (L : Lowering) → StandsAt T old S L → c.0 < length L.cells.rows
   inside T S L at = omega (arith, there, rows-are T old.layout L.cells at.lays)
 
   pub copies-prepare : new.over ≡ old.over → new.lowerer ≡ old.lowerer → new.last ≡ old.last → Prepares old new line (copied_by old.workers c)

@@ -7,9 +7,9 @@ use Rattle.indexmap.specs.IndexMap.{get}
 use Rattle.sj_base.specs.declared.ids.Cell.{Cell}
 use Rattle.sj_base.specs.declared.ids.Line.{Line}
 use Rattle.sj_base.specs.declared.program.Lowered.{Lowered}
-use Rattle.sj_meaning.specs.State.{State}
+use Rattle.sj_meaning.specs.State.{JobState}
 use Rattle.sj_meaning.specs.Table.{Table}
-use Rattle.sj_lower.specs.declared.lower.Progress.{Progress}
+use Rattle.sj_lower.specs.declared.lower.LoweringProgress.{LoweringProgress}
 use Rattle.sj_lower.specs.declared.phase.OpenPhase.{OpenPhase}
 use Rattle.sj_lower.specs.Cells.{info_at, copy_at}
 use Rattle.sj_lower.specs.Limits.{most, tasks_in}
@@ -59,7 +59,7 @@ none-over (Some line) b is none = absurd (cc (is, none))
 -- ---- what stays
 
 -- all but the tasks, the phases and the line with too many tasks
-pub record IsBeside (old new : Progress) : Type 0 where
+pub record IsBeside (old new : LoweringProgress) : Type 0 where
   pub layout : new.layout ≡ old.layout
   pub workers : new.workers ≡ old.workers
   pub last : new.last ≡ old.last
@@ -81,7 +81,7 @@ copied-turned workers L c ls o copies h = record {
 -- ---- one step
 
 -- too many tasks before
-at-over : (T : Table) (g : Progress) (S : State) (L M : Lowering) (c : Cell) (ls : List Lowered) (o : Option OpenPhase) → (g.over ≡ None → ⊥) → Turns L M c ls o → StandsAt T g S L → StandsAt T g S M
+at-over : (T : Table) (g : LoweringProgress) (S : JobState) (L M : Lowering) (c : Cell) (ls : List Lowered) (o : Option OpenPhase) → (g.over ≡ None → ⊥) → Turns L M c ls o → StandsAt T g S L → StandsAt T g S M
 at-over T g S L M c ls o past t at = subst (λ (N : Lowering). StandsAt T g S N) (sym t.is) (record {
   lays = at.lays;
   few_cells = at.few_cells;
@@ -97,7 +97,7 @@ over-stays None line L past = absurd (past refl)
 over-stays (Some first) line L past = refl
 
 -- nothing is done any more once there are too many tasks
-pub prepares-over : (g : Progress) (line : Line) (change : Lowering → Lowering) (c : Cell) → (g.over ≡ None → ⊥) → ((T : Table) (S : State) (L : Lowering) → StandsAt T g S L → (ls : List Lowered) × (o : Option OpenPhase) × Turns L (change L) c ls o) → Prepares g g line change
+pub prepares-over : (g : LoweringProgress) (line : Line) (change : Lowering → Lowering) (c : Cell) → (g.over ≡ None → ⊥) → ((T : Table) (S : JobState) (L : Lowering) → StandsAt T g S L → (ls : List Lowered) × (o : Option OpenPhase) × Turns L (change L) c ls o) → Prepares g g line change
 prepares-over g line change c past turns = record {
   at = λ T S L at. (let t = turns T S L at in at-over T g S L (change L) c t.0 t.1 past t.2 at);
   over = λ T S L at. over-stays g.over line (change L) past;
@@ -108,8 +108,8 @@ prepares-over g line change c past turns = record {
 }
 
 -- too many tasks with this step
-pub prepares-late : (old new : Progress) (line : Line) (change : Lowering → Lowering) (c : Cell) → old.over ≡ None → new.over ≡ Some line → IsBeside old new → new.lowerer.tasks ≡ old.lowerer.tasks
-    → ((T : Table) (S : State) (L : Lowering) → StandsAt T old S L → (ls : List Lowered) × (o : Option OpenPhase) × Turns L (change L) c ls o × (most < vec_len old.lowerer.tasks + length ls)) → Prepares old new line change
+pub prepares-late : (old new : LoweringProgress) (line : Line) (change : Lowering → Lowering) (c : Cell) → old.over ≡ None → new.over ≡ Some line → IsBeside old new → new.lowerer.tasks ≡ old.lowerer.tasks
+    → ((T : Table) (S : JobState) (L : Lowering) → StandsAt T old S L → (ls : List Lowered) × (o : Option OpenPhase) × Turns L (change L) c ls o × (most < vec_len old.lowerer.tasks + length ls)) → Prepares old new line change
 prepares-late old new line change c none late same tasks turns = record {
   at = λ T S L at.
       let t = turns T S L at in
@@ -137,7 +137,7 @@ prepares-late old new line change c none late same tasks turns = record {
     fewer : old.lowerer.prints ≤ vec_len old.lowerer.tasks → new.lowerer.prints ≤ vec_len new.lowerer.tasks
     fewer h = let a = same.prints in let b = ap vec_len tasks in omega (arith, h, a, b)
 
-    many : (T : Table) (S : State) (L : Lowering) → StandsAt T old S L → most < tasks_in (change L)
+    many : (T : Table) (S : JobState) (L : Lowering) → StandsAt T old S L → most < tasks_in (change L)
     many T S L at =
         let t = turns T S L at in
         let long = ap tasks_in t.2.is in
@@ -145,12 +145,12 @@ prepares-late old new line change c none late same tasks turns = record {
         omega (arith, long, length-append L.tasks t.0, ap length here, old.lowerer.tasks.ok, t.3)
 
 -- the phases afterwards
-abbrev pub Sets : Progress → Progress → Cell → Option OpenPhase → Type 0
+abbrev pub Sets : LoweringProgress → LoweringProgress → Cell → Option OpenPhase → Type 0
 Sets old new c o = (d : ℕ) → get nat_eq new.lowerer.phases d ≡ cond (nat_eq c.0 d) o (get nat_eq old.lowerer.phases d)
 
 -- a step
-pub prepares-on : (old new : Progress) (line : Line) (change : Lowering → Lowering) (c : Cell) (ls : List Lowered) (o : Option OpenPhase) → old.over ≡ None → new.over ≡ None → IsBeside old new → new.lowerer.tasks.items ≡ old.lowerer.tasks.items ++ ls → Sets old new c o → vec_len new.lowerer.tasks ≤ most
-    → ((T : Table) (S : State) (L : Lowering) → StandsAt T old S L → Turns L (change L) c ls o) → Prepares old new line change
+pub prepares-on : (old new : LoweringProgress) (line : Line) (change : Lowering → Lowering) (c : Cell) (ls : List Lowered) (o : Option OpenPhase) → old.over ≡ None → new.over ≡ None → IsBeside old new → new.lowerer.tasks.items ≡ old.lowerer.tasks.items ++ ls → Sets old new c o → vec_len new.lowerer.tasks ≤ most
+    → ((T : Table) (S : JobState) (L : Lowering) → StandsAt T old S L → Turns L (change L) c ls o) → Prepares old new line change
 prepares-on old new line change c ls o none early same tasks sets few turns = record {
   at = λ T S L at.
       let t = turns T S L at in
@@ -186,8 +186,8 @@ prepares-on old new line change c ls o none early same tasks sets few turns = re
     fewer h = omega (arith, h, same.prints, new.lowerer.tasks.ok, old.lowerer.tasks.ok, ap length tasks, length-append old.lowerer.tasks.items ls)
 
 -- nothing is changed
-pub prepares-none : (old new : Progress) (line : Line) (change : Lowering → Lowering) → new.over ≡ old.over → IsBeside old new → new.lowerer.tasks ≡ old.lowerer.tasks → ((d : ℕ) → get nat_eq new.lowerer.phases d ≡ get nat_eq old.lowerer.phases d)
-    → ((T : Table) (S : State) (L : Lowering) → StandsAt T old S L → change L ≡ L) → Prepares old new line change
+pub prepares-none : (old new : LoweringProgress) (line : Line) (change : Lowering → Lowering) → new.over ≡ old.over → IsBeside old new → new.lowerer.tasks ≡ old.lowerer.tasks → ((d : ℕ) → get nat_eq new.lowerer.phases d ≡ get nat_eq old.lowerer.phases d)
+    → ((T : Table) (S : JobState) (L : Lowering) → StandsAt T old S L → change L ≡ L) → Prepares old new line change
 prepares-none old new line change over same tasks phases is = record {
   at = λ T S L at.
       let actives = subst (λ as'. AreActive T L.cells as'.items S) (sym same.actives) at.actives in
@@ -220,7 +220,7 @@ prepares-none old new line change over same tasks phases is = record {
 
 -- ---- steps one after another
 
-pub prepares-then : (a b c : Progress) (line : Line) (f g : Lowering → Lowering) → ((L : Lowering) → tasks_in L ≤ tasks_in (g L)) → Prepares a b line f → Prepares b c line g → Prepares a c line (λ L. g (f L))
+pub prepares-then : (a b c : LoweringProgress) (line : Line) (f g : Lowering → Lowering) → ((L : Lowering) → tasks_in L ≤ tasks_in (g L)) → Prepares a b line f → Prepares b c line g → Prepares a c line (λ L. g (f L))
 prepares-then a b c line f g more p q = record {
   at = λ T S L at. q.at T S (f L) (p.at T S L at);
   over = λ T S L at. q.over T S (f L) (p.at T S L at) ∙ ap (λ o. over_after o line (g (f L))) (p.over T S L at) ∙ over-again a.over line (f L) (g (f L)) (more (f L));
@@ -231,7 +231,7 @@ prepares-then a b c line f g more p q = record {
 }
 
 -- another change that is the same
-pub prepares-as : (old new : Progress) (line : Line) (f g : Lowering → Lowering) → ((T : Table) (S : State) (L : Lowering) → StandsAt T old S L → f L ≡ g L) → Prepares old new line f → Prepares old new line g
+pub prepares-as : (old new : LoweringProgress) (line : Line) (f g : Lowering → Lowering) → ((T : Table) (S : JobState) (L : Lowering) → StandsAt T old S L → f L ≡ g L) → Prepares old new line f → Prepares old new line g
 prepares-as old new line f g same p = record {
   at = λ T S L at. subst (λ (M : Lowering). StandsAt T new S M) (same T S L at) (p.at T S L at);
   over = λ T S L at. p.over T S L at ∙ ap (λ (M : Lowering). over_after old.over line M) (same T S L at);
@@ -241,15 +241,15 @@ prepares-as old new line f g same p = record {
   cells = p.cells;
 }
 
-pub has-at : (old new : Progress) (line : Line) (f : Lowering → Lowering) → Prepares old new line f → HasAt old → HasAt new
+pub has-at : (old new : LoweringProgress) (line : Line) (f : Lowering → Lowering) → Prepares old new line f → HasAt old → HasAt new
 has-at old new line f p h = record { table = h.table; state = h.state; lowering = f h.lowering; at = p.at h.table h.state h.lowering h.at }
 
 -- there is room for another task at most
-pub few-at : (g : Progress) → HasAt g → g.over ≡ None → vec_len g.lowerer.tasks ≤ most
+pub few-at : (g : LoweringProgress) → HasAt g → g.over ≡ None → vec_len g.lowerer.tasks ≤ most
 few-at g h none = omega (arith, h.at.few_tasks none, g.lowerer.tasks.ok, ap length (h.at.follows none).tasks)
 
 -- the partial copies of an open phase are there
-pub copies-at : (g : Progress) (c : Cell) (f : OpenPhase) → HasAt g → g.over ≡ None → get nat_eq g.lowerer.phases c.0 ≡ Some f → f.copies.0 + g.workers ≤ most
+pub copies-at : (g : LoweringProgress) (c : Cell) (f : OpenPhase) → HasAt g → g.over ≡ None → get nat_eq g.lowerer.phases c.0 ≡ Some f → f.copies.0 + g.workers ≤ most
 copies-at g c f h none is =
     let here = sym ((h.at.follows none).phases c) ∙ is in
     omega (arith, h.at.copied.inside c f.copies (h.at.copied.theirs c f here), h.at.few_cells)
@@ -275,7 +275,7 @@ combines f c workers = length-map-range_with_len (λ w. combine_row f.by c f.lin
 no_phase : (L : Lowering) (c : Cell) (f : OpenPhase) → None ≡ Some f → (info_at L.cells c).partials ≡ Some f.copies
 no_phase L c f e = absurd (none_isn't f e)
 
-pub closes-over : (g : Progress) (line : Line) (c : Cell) → (g.over ≡ None → ⊥) → Prepares g g line (λ L. closed g.workers L c)
+pub closes-over : (g : LoweringProgress) (line : Line) (c : Cell) → (g.over ≡ None → ⊥) → Prepares g g line (λ L. closed g.workers L c)
 closes-over g line c past = record {
   at = λ T S L at. by_phase g.workers L c (λ (M : Lowering). StandsAt T g S M) (λ e. at) (λ f e. at-over T g S L (phase_turned L.cells (combine_rows f c g.workers) c None L) c (combine_rows f c g.workers) None past (record { is = refl; copies = no_phase L c }) at);
   over = λ T S L at. over-stays g.over line (closed g.workers L c) past;
@@ -285,10 +285,10 @@ closes-over g line c past = record {
   cells = omega arith;
 }
 
-pub closes-none : (old new : Progress) (line : Line) (c : Cell) → old.over ≡ None → new.over ≡ old.over → IsBeside old new → new.lowerer.tasks ≡ old.lowerer.tasks → ((d : ℕ) → get nat_eq new.lowerer.phases d ≡ get nat_eq old.lowerer.phases d) → get nat_eq old.lowerer.phases c.0 ≡ None → Prepares old new line (λ L. closed old.workers L c)
+pub closes-none : (old new : LoweringProgress) (line : Line) (c : Cell) → old.over ≡ None → new.over ≡ old.over → IsBeside old new → new.lowerer.tasks ≡ old.lowerer.tasks → ((d : ℕ) → get nat_eq new.lowerer.phases d ≡ get nat_eq old.lowerer.phases d) → get nat_eq old.lowerer.phases c.0 ≡ None → Prepares old new line (λ L. closed old.workers L c)
 closes-none old new line c none over same tasks phases absent = prepares-none old new line (λ L. closed old.workers L c) over same tasks phases (λ T S L at. closed-none old.workers L c (sym ((at.follows none).phases c) ∙ absent))
 
-pub closes-late : (old new : Progress) (line : Line) (c : Cell) (f : OpenPhase) → old.over ≡ None → new.over ≡ Some line → IsBeside old new → new.lowerer.tasks ≡ old.lowerer.tasks → get nat_eq old.lowerer.phases c.0 ≡ Some f → most < vec_len old.lowerer.tasks + old.workers → Prepares old new line (λ L. closed old.workers L c)
+pub closes-late : (old new : LoweringProgress) (line : Line) (c : Cell) (f : OpenPhase) → old.over ≡ None → new.over ≡ Some line → IsBeside old new → new.lowerer.tasks ≡ old.lowerer.tasks → get nat_eq old.lowerer.phases c.0 ≡ Some f → most < vec_len old.lowerer.tasks + old.workers → Prepares old new line (λ L. closed old.workers L c)
 closes-late old new line c f none late same tasks there many = prepares-late old new line (λ L. closed old.workers L c) c none late same tasks (λ T S L at. (
   combine_rows f c old.workers,
   None,
@@ -296,7 +296,7 @@ closes-late old new line c f none late same tasks there many = prepares-late old
   omega (arith, many, combines f c old.workers),
 ))
 
-pub closes-on : (old new : Progress) (line : Line) (c : Cell) (f : OpenPhase) → old.over ≡ None → new.over ≡ None → IsBeside old new → new.lowerer.tasks.items ≡ old.lowerer.tasks.items ++ combine_rows f c old.workers → Sets old new c None → get nat_eq old.lowerer.phases c.0 ≡ Some f → vec_len old.lowerer.tasks + old.workers ≤ most → Prepares old new line (λ L. closed old.workers L c)
+pub closes-on : (old new : LoweringProgress) (line : Line) (c : Cell) (f : OpenPhase) → old.over ≡ None → new.over ≡ None → IsBeside old new → new.lowerer.tasks.items ≡ old.lowerer.tasks.items ++ combine_rows f c old.workers → Sets old new c None → get nat_eq old.lowerer.phases c.0 ≡ Some f → vec_len old.lowerer.tasks + old.workers ≤ most → Prepares old new line (λ L. closed old.workers L c)
 closes-on old new line c f none early same tasks sets there few = prepares-on old new line (λ L. closed old.workers L c) c (combine_rows f c old.workers) None none early same tasks sets
     (omega (arith, few, new.lowerer.tasks.ok, old.lowerer.tasks.ok, ap length tasks, length-append old.lowerer.tasks.items (combine_rows f c old.workers), combines f c old.workers))
     (λ T S L at. record { is = closed-some old.workers L c f (sym ((at.follows none).phases c) ∙ there); copies = no_phase L c })

@@ -20,7 +20,7 @@ use Rattle.sj_codelet.specs.declared.kernel.Kernel.TheVariants.{Deliver}
 use Rattle.sj_codelet.specs.Kernel.{kernel_of}
 use Rattle.sj_core.specs.Operands.{copy_of}
 use Rattle.sj_core.specs.Program.{no_cell, no_task, cell_info, task_of}
-use Rattle.sj_core.specs.Proper.{Proper, NamesCells, IsCopyOf, IsPlain, Fits, IsUnaliased, HasValueBefore, ReadsValues, HasPhases, HasDeliveries, IsWithinLimits, task_number}
+use Rattle.sj_core.specs.Proper.{Proper, NamesCells, IsCopyOf, IsPlain, FitsCodelet, IsUnaliased, HasValueBefore, ReadsValues, HasPhases, HasDeliveries, IsWithinLimits, task_number}
 use Rattle.sj_meaning.specs.Act.{Statement}
 use Rattle.sj_meaning.specs.Meaning.{printed}
 use Rattle.sj_meaning.specs.Table.{Table}
@@ -113,7 +113,7 @@ module _ (T : Table) (p : Program) (ss : List (Statement (List ℕ))) (w : IsWho
   pub proper : length p.tasks ≤ 262144 → length p.cells ≤ 262144 → Proper p
   proper few_tasks few_cells = record {
     cells = names_cells;
-    codelets = each_task (Fits p) (λ n g. g.fits);
+    codelets = each_task (FitsCodelet p) (λ n g. g.fits);
     unaliased = each_task IsUnaliased (λ n g. g.unaliased);
     values = reads_values;
     phases = its_phases;

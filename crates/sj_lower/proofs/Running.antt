@@ -30,11 +30,11 @@ use Rattle.sj_core.specs.Fold.{Contents, held_in, after_task}
 use Rattle.sj_core.specs.Operands.{worked_on, written_cells, found, results}
 use Rattle.sj_plan.specs.declared.parts.Parts.{Parts}
 use Rattle.sj_plan.specs.Parts.{IsPlace}
-use Rattle.sj_plan.specs.Paste.{same_place}
-use Rattle.sj_plan.specs.Rect.{dims_of as rect_dims}
+use Rattle.sj_plan.specs.Paste.{same_child_place}
+use Rattle.sj_plan.specs.Rect.{rect_dims}
 use Rattle.sj_plan.specs.Window.{IsWhole}
 use Rattle.sj_meaning.specs.Statement.{Operand, TaskLine}
-use Rattle.sj_meaning.specs.State.{Root, State, root_of, is_valued, is_child, child_rect, is_valued_child}
+use Rattle.sj_meaning.specs.State.{RootState, JobState, root_of, is_valued, is_child, child_rect, is_valued_child}
 use Rattle.sj_meaning.specs.Meaning.{child_array, child_unit, seen_by, operand_array, written_of as written_operands, run_task}
 use Rattle.sj_meaning.specs.Sound.{modes_fit, needs_value, clashes, is_aliased}
 use Rattle.sj_meaning.specs.Sound.{has_child, has_child_values, child_dims, IsSoundTask}
@@ -64,48 +64,48 @@ direct_isn't_redux Scratch e = refl
 direct_isn't_redux Redux e = absurd (false≢true e)
 direct_isn't_redux Commute e = refl
 
-pub root_there : (o : Option Root) → is_some o ≡ true → (r : Root) × (o ≡ Some r)
+pub root_there : (o : Option RootState) → is_some o ≡ true → (r : RootState) × (o ≡ Some r)
 root_there None e = absurd (false≢true e)
 root_there (Some r) e = (r, refl)
 
-pub valued_there : (o : Option Root) → (elim o as (λ _. Bool) [ None ↦ false | Some r ↦ is_valued r ]) ≡ true → (r : Root) × (o ≡ Some r) × (is_valued r ≡ true)
+pub valued_there : (o : Option RootState) → (elim o as (λ _. Bool) [ None ↦ false | Some r ↦ is_valued r ]) ≡ true → (r : RootState) × (o ≡ Some r) × (is_valued r ≡ true)
 valued_there None e = absurd (false≢true e)
 valued_there (Some r) e = (r, refl, e)
 
 -- ---- operands that are children
 
 -- an operand's root, of which it is a child
-pub record IsThere (S : State) (o : Operand (List ℕ)) : Type 0 where
-  pub root : Root
+pub record IsThere (S : JobState) (o : Operand (List ℕ)) : Type 0 where
+  pub root : RootState
   pub is_root : root_of S o.name ≡ Some root
   pub placed : IsPlace root.parts o.place
 
-pub child_there : (S : State) (o : Operand (List ℕ)) → has_child S o ≡ true → IsThere S o
+pub child_there : (S : JobState) (o : Operand (List ℕ)) → has_child S o ≡ true → IsThere S o
 child_there S o h = by_root (root_of S o.name) refl h
   where
-    by_root : (x : Option Root) → root_of S o.name ≡ x → (elim x as (λ _. Bool) [ None ↦ false | Some r ↦ is_child r.parts o.place ]) ≡ true → IsThere S o
+    by_root : (x : Option RootState) → root_of S o.name ≡ x → (elim x as (λ _. Bool) [ None ↦ false | Some r ↦ is_child r.parts o.place ]) ≡ true → IsThere S o
     by_root None e h = absurd (false≢true h)
     by_root (Some r) e h = record { root = r; is_root = e; placed = place-from_test r.parts o.place h }
 
-pub child_dims-are : (S : State) (o : Operand (List ℕ)) (r : Root) → root_of S o.name ≡ Some r → child_dims S o ≡ rect_dims (child_rect r o.place)
-child_dims-are S o r e = ap (λ (x : Option Root). elim x as (λ _. Dims) [ None ↦ record { rows = 0; cols = 0 } | Some r ↦ rect_dims (child_rect r o.place) ]) e
+pub child_dims-are : (S : JobState) (o : Operand (List ℕ)) (r : RootState) → root_of S o.name ≡ Some r → child_dims S o ≡ rect_dims (child_rect r o.place)
+child_dims-are S o r e = ap (λ (x : Option RootState). elim x as (λ _. Dims) [ None ↦ record { rows = 0; cols = 0 } | Some r ↦ rect_dims (child_rect r o.place) ]) e
 
-pub child_values-are : (S : State) (o : Operand (List ℕ)) (r : Root) → root_of S o.name ≡ Some r → has_child_values S o ≡ is_valued_child r o.place
-child_values-are S o r e = ap (λ (x : Option Root). elim x as (λ _. Bool) [ None ↦ false | Some r ↦ is_valued_child r o.place ]) e
+pub child_values-are : (S : JobState) (o : Operand (List ℕ)) (r : RootState) → root_of S o.name ≡ Some r → has_child_values S o ≡ is_valued_child r o.place
+child_values-are S o r e = ap (λ (x : Option RootState). elim x as (λ _. Bool) [ None ↦ false | Some r ↦ is_valued_child r o.place ]) e
 
-pub active_cell-is : (S : State) (C : Cells) (name : List ℕ) (place : ℕ × ℕ) (r : Root) → root_of S name ≡ Some r → active_cell S C name place ≡ cell_of C name r.parts place
-active_cell-is S C name place r e = ap (λ (x : Option Root). cell_of C name (elim x as (λ _. Parts) [ None ↦ undivided | Some r ↦ r.parts ]) place) e
+pub active_cell-is : (S : JobState) (C : Cells) (name : List ℕ) (place : ℕ × ℕ) (r : RootState) → root_of S name ≡ Some r → active_cell S C name place ≡ cell_of C name r.parts place
+active_cell-is S C name place r e = ap (λ (x : Option RootState). cell_of C name (elim x as (λ _. Parts) [ None ↦ undivided | Some r ↦ r.parts ]) place) e
 
 -- the cell of an operand
-abbrev pub operand_cell : State → Cells → Operand (List ℕ) → Cell
+abbrev pub operand_cell : JobState → Cells → Operand (List ℕ) → Cell
 operand_cell S C o = active_cell S C o.name o.place
 
 -- ---- what a task reads
 
-pub seen_there : (S : State) (o : Operand (List ℕ)) (r : Root) → root_of S o.name ≡ Some r → operand_array S o ≡ seen_by o.mode r o.place
-seen_there S o r e = ap (λ (x : Option Root). elim x as (λ _. Array) [ None ↦ array (record { rows = 0; cols = 0 }) [] | Some r ↦ seen_by o.mode r o.place ]) e
+pub seen_there : (S : JobState) (o : Operand (List ℕ)) (r : RootState) → root_of S o.name ≡ Some r → operand_array S o ≡ seen_by o.mode r o.place
+seen_there S o r e = ap (λ (x : Option RootState). elim x as (λ _. Array) [ None ↦ array (record { rows = 0; cols = 0 }) [] | Some r ↦ seen_by o.mode r o.place ]) e
 
-pub by_mode : (p : Program) (k : Contents) (m : Mode) (c : Cell) (r : Root) (place : ℕ × ℕ) → is_direct m ≡ true → dims_of p c ≡ rect_dims (child_rect r place) → (needs_value m ≡ true → held_in p k c ≡ child_array r place)
+pub by_mode : (p : Program) (k : Contents) (m : Mode) (c : Cell) (r : RootState) (place : ℕ × ℕ) → is_direct m ≡ true → dims_of p c ≡ rect_dims (child_rect r place) → (needs_value m ≡ true → held_in p k c ≡ child_array r place)
     → let a : Access = record { mode = m; cell = c } in found p first_worker (held_in p k) a ≡ seen_by m r place
 by_mode p k R c r place h d v = v refl
 by_mode p k W c r place h d v = ap zeros d
@@ -115,7 +115,7 @@ by_mode p k Redux c r place h d v = absurd (false≢true h)
 by_mode p k Commute c r place h d v = v refl
 
 -- no phase is open on the child of an operand that is accessed
-abbrev pub IsClosed : Phases → State → Cells → Operand (List ℕ) → Type 0
+abbrev pub IsClosed : Phases → JobState → Cells → Operand (List ℕ) → Type 0
 IsClosed phases S C o = is_data o.mode ≡ true → phases (operand_cell S C o) ≡ None
 
 pub data_needs : (m : Mode) → needs_value m ≡ true → is_data m ≡ true
@@ -135,7 +135,7 @@ data_written Redux e = refl
 data_written Commute e = refl
 
 -- an operand that is a child, with values where they are read
-pub one_found : (p : Program) (C : Cells) (phases : Phases) (n : ℕ) (k : Contents) (S : State) (o : Operand (List ℕ)) → IsTrusted p → HasCells p C → AreLaid C → HaveRoots p C phases n k S → IsClosed phases S C o → is_direct o.mode ≡ true → has_child S o ≡ true → (not (needs_value o.mode) || has_child_values S o) ≡ true → found p first_worker (held_in p k) (access_of S C o) ≡ operand_array S o
+pub one_found : (p : Program) (C : Cells) (phases : Phases) (n : ℕ) (k : Contents) (S : JobState) (o : Operand (List ℕ)) → IsTrusted p → HasCells p C → AreLaid C → HaveRoots p C phases n k S → IsClosed phases S C o → is_direct o.mode ≡ true → has_child S o ≡ true → (not (needs_value o.mode) || has_child_values S o) ≡ true → found p first_worker (held_in p k) (access_of S C o) ≡ operand_array S o
 one_found p C phases n k S o trust cells laid has closed h placed valued =
     let t = child_there S o placed in
     let b = has o.name t.root t.is_root in
@@ -145,7 +145,7 @@ one_found p C phases n k S o trust cells laid has closed h placed valued =
     (λ needs. sym (denoted-closed p phases k (cell_of C o.name t.root.parts o.place) (ap phases (sym cell) ∙ closed (data_needs o.mode needs))) ∙ (b.held o.place t.placed (sym (child_values-are S o t.root t.is_root) ∙ implied (needs_value o.mode) (has_child_values S o) valued needs)).value trust)
     ∙ sym (seen_there S o t.root t.is_root)
 
-pub all_found : (p : Program) (C : Cells) (phases : Phases) (n : ℕ) (k : Contents) (S : State) (os : List (Operand (List ℕ))) → IsTrusted p → HasCells p C → AreLaid C → HaveRoots p C phases n k S → AllByRecursion (IsClosed phases S C) os → list_all (λ o. is_direct o.mode) os ≡ true → list_all (has_child S) os ≡ true → list_all (λ o. not (needs_value o.mode) || has_child_values S o) os ≡ true → each_of (found p first_worker (held_in p k)) (each_of (access_of S C) os) ≡ each_of (operand_array S) os
+pub all_found : (p : Program) (C : Cells) (phases : Phases) (n : ℕ) (k : Contents) (S : JobState) (os : List (Operand (List ℕ))) → IsTrusted p → HasCells p C → AreLaid C → HaveRoots p C phases n k S → AllByRecursion (IsClosed phases S C) os → list_all (λ o. is_direct o.mode) os ≡ true → list_all (has_child S) os ≡ true → list_all (λ o. not (needs_value o.mode) || has_child_values S o) os ≡ true → each_of (found p first_worker (held_in p k)) (each_of (access_of S C) os) ≡ each_of (operand_array S) os
 all_found p C phases n k S [] trust cells laid has closed h placed valued = refl
 all_found p C phases n k S (o ∷ os) trust cells laid has closed h placed valued =
     let a = and_parts (is_direct o.mode) (list_all (λ o. is_direct o.mode) os) h in
@@ -164,7 +164,7 @@ worked_plain p Scratch c h = refl
 worked_plain p Redux c h = absurd (false≢true h)
 worked_plain p Commute c h = refl
 
-cells_written : (p : Program) (S : State) (C : Cells) (os : List (Operand (List ℕ))) → list_all (λ o. is_direct o.mode) os ≡ true → each_of (worked_on p first_worker) (filter (λ a. is_written a.mode) (each_of (access_of S C) os)) ≡ each_of (operand_cell S C) (written_operands os)
+cells_written : (p : Program) (S : JobState) (C : Cells) (os : List (Operand (List ℕ))) → list_all (λ o. is_direct o.mode) os ≡ true → each_of (worked_on p first_worker) (filter (λ a. is_written a.mode) (each_of (access_of S C) os)) ≡ each_of (operand_cell S C) (written_operands os)
 cells_written p S C [] h = refl
 cells_written p S C (o ∷ os) h =
     let a = and_parts (is_direct o.mode) (list_all (λ o. is_direct o.mode) os) h in
@@ -181,7 +181,7 @@ pub other_written : (o : Operand (List ℕ)) (os : List (Operand (List ℕ))) �
 other_written o [] w h = tt
 other_written o (p ∷ os) w h =
     let a = or_parts (clashes o p) (list_any (clashes o) os) h in
-    by_cases (is_written p.mode) (other_written o os w a.1) (clash o.mode p.mode (bytes_eq o.name p.name) (same_place o.place p.place) w a.0)
+    by_cases (is_written p.mode) (other_written o os w a.1) (clash o.mode p.mode (bytes_eq o.name p.name) (same_child_place o.place p.place) w a.0)
   where
     clash : (m k : Mode) (b c : Bool) → is_written m ≡ true → (b && c && not (is_read_only m && is_read_only k)) ≡ false → (b && c) ≡ false
     clash m k false c w e = refl
@@ -198,11 +198,11 @@ other_written o (p ∷ os) w h =
     by_cases false rest e = rest
 
 -- each written child's cell is one to which the accesses give a value
-abbrev Written : State → Cells → List Access → List (Operand (List ℕ)) → Type 0
+abbrev Written : JobState → Cells → List Access → List (Operand (List ℕ)) → Type 0
 Written S C accesses [] = Unit {0}
 Written S C accesses (o ∷ os) = (list_any (λ (a : Access). is_written a.mode && not (is_redux a.mode) && same_cell a.cell (operand_cell S C o)) accesses ≡ true) × Written S C accesses os
 
-written-more : (S : State) (C : Cells) (a : Access) (accesses : List Access) (os : List (Operand (List ℕ))) → Written S C accesses os → Written S C (a ∷ accesses) os
+written-more : (S : JobState) (C : Cells) (a : Access) (accesses : List Access) (os : List (Operand (List ℕ))) → Written S C accesses os → Written S C (a ∷ accesses) os
 written-more S C a accesses [] w = tt
 written-more S C a accesses (o ∷ os) w =
     (or_right (is_written a.mode && not (is_redux a.mode) && same_cell a.cell (operand_cell S C o)) (list_any (λ (a : Access). is_written a.mode && not (is_redux a.mode) && same_cell a.cell (operand_cell S C o)) accesses) w.0, written-more S C a accesses os w.1)
@@ -212,7 +212,7 @@ all_true true false c x y z = z
 all_true true true c x y z = absurd (false≢true (sym y))
 all_true false b c x y z = absurd (false≢true x)
 
-all_written : (S : State) (C : Cells) (os : List (Operand (List ℕ))) → list_all (λ o. is_direct o.mode) os ≡ true → Written S C (each_of (access_of S C) os) (written_operands os)
+all_written : (S : JobState) (C : Cells) (os : List (Operand (List ℕ))) → list_all (λ o. is_direct o.mode) os ≡ true → Written S C (each_of (access_of S C) os) (written_operands os)
 all_written S C [] h = tt
 all_written S C (o ∷ os) h =
     let a = and_parts (is_direct o.mode) (list_all (λ o. is_direct o.mode) os) h in
@@ -226,10 +226,10 @@ all_written S C (o ∷ os) h =
     )
     by_cases false w h rest = rest
 
-abbrev Placed : State → List (Operand (List ℕ)) → Type 0
+abbrev Placed : JobState → List (Operand (List ℕ)) → Type 0
 Placed S os = AllByRecursion (λ o. has_child S o ≡ true) os
 
-pub all_placed : (S : State) (os : List (Operand (List ℕ))) → list_all (has_child S) os ≡ true → Placed S (written_operands os)
+pub all_placed : (S : JobState) (os : List (Operand (List ℕ))) → list_all (has_child S) os ≡ true → Placed S (written_operands os)
 all_placed S [] h = tt
 all_placed S (o ∷ os) h =
     let b = and_parts (has_child S o) (list_all (has_child S) os) h in
@@ -260,10 +260,10 @@ tail_of : (d e : Dims) (ds es : List Dims) → (d ∷ ds) ≡ (e ∷ es) → ds 
 tail_of d e ds es h = cc
 
 -- the phases of what is written are closed
-abbrev AllClosed : Phases → State → Cells → List (Operand (List ℕ)) → Type 0
+abbrev AllClosed : Phases → JobState → Cells → List (Operand (List ℕ)) → Type 0
 AllClosed phases S C os = AllByRecursion (λ o. phases (operand_cell S C o) ≡ None) os
 
-all_closed : (phases : Phases) (S : State) (C : Cells) (os : List (Operand (List ℕ))) → AllByRecursion (IsClosed phases S C) os → AllClosed phases S C (written_operands os)
+all_closed : (phases : Phases) (S : JobState) (C : Cells) (os : List (Operand (List ℕ))) → AllByRecursion (IsClosed phases S C) os → AllClosed phases S C (written_operands os)
 all_closed phases S C [] h = tt
 all_closed phases S C (o ∷ os) h = by_cases (is_written o.mode) refl h.0 (all_closed phases S C os h.1)
   where
@@ -271,7 +271,7 @@ all_closed phases S C (o ∷ os) h = by_cases (is_written o.mode) refl h.0 (all_
     by_cases true w h rest = (h (data_written o.mode w), rest)
     by_cases false w h rest = rest
 
-gives_all : (p : Program) (C : Cells) (phases : Phases) (n : ℕ) (S : State) (accesses : List Access) (os : List (Operand (List ℕ))) (xs : List Array) → (task_of p (task n)).accesses ≡ accesses → Written S C accesses os → Placed S os → AllOther os → AllClosed phases S C os → each_dims xs ≡ each_of (child_dims S) os → AreWhole xs → GivesAll p C phases (n + 1) S (operand_cell S C) os xs
+gives_all : (p : Program) (C : Cells) (phases : Phases) (n : ℕ) (S : JobState) (accesses : List Access) (os : List (Operand (List ℕ))) (xs : List Array) → (task_of p (task n)).accesses ≡ accesses → Written S C accesses os → Placed S os → AllOther os → AllClosed phases S C os → each_dims xs ≡ each_of (child_dims S) os → AreWhole xs → GivesAll p C phases (n + 1) S (operand_cell S C) os xs
 gives_all p C phases n S accesses [] xs t w r o z d whole = tt
 gives_all p C phases n S accesses (u ∷ us) [] t w r o z d whole = absurd (cc)
 gives_all p C phases n S accesses (u ∷ us) (a ∷ xs) t w r o z d whole =
@@ -292,7 +292,7 @@ gives_all p C phases n S accesses (u ∷ us) (a ∷ xs) t w r o z d whole =
 
 -- ---- the task as a whole
 
-seen_dims : (S : State) (o : Operand (List ℕ)) (x : Option Root) → root_of S o.name ≡ x → (elim x as (λ _. Array) [ None ↦ array (record { rows = 0; cols = 0 }) [] | Some r ↦ seen_by o.mode r o.place ]).dims ≡ (elim x as (λ _. Dims) [ None ↦ record { rows = 0; cols = 0 } | Some r ↦ rect_dims (child_rect r o.place) ])
+seen_dims : (S : JobState) (o : Operand (List ℕ)) (x : Option RootState) → root_of S o.name ≡ x → (elim x as (λ _. Array) [ None ↦ array (record { rows = 0; cols = 0 }) [] | Some r ↦ seen_by o.mode r o.place ]).dims ≡ (elim x as (λ _. Dims) [ None ↦ record { rows = 0; cols = 0 } | Some r ↦ rect_dims (child_rect r o.place) ])
 seen_dims S o None e = refl
 seen_dims S o (Some r) e = by o.mode
   where
@@ -312,11 +312,11 @@ seen_dims S o (Some r) e = by o.mode
     by Redux = contributed (is_valued_child r o.place)
     by Commute = refl
 
-all_seen_dims : (S : State) (os : List (Operand (List ℕ))) → each_dims (each_of (operand_array S) os) ≡ each_of (child_dims S) os
+all_seen_dims : (S : JobState) (os : List (Operand (List ℕ))) → each_dims (each_of (operand_array S) os) ≡ each_of (child_dims S) os
 all_seen_dims S [] = refl
 all_seen_dims S (o ∷ os) = ap (λ (d : Dims). d ∷ each_dims (each_of (operand_array S) os)) (seen_dims S o (root_of S o.name) refl) ∙ ap (λ (ds : List Dims). child_dims S o ∷ ds) (all_seen_dims S os)
 
-seen_whole : (S : State) (o : Operand (List ℕ)) (x : Option Root) → IsWhole (elim x as (λ _. Array) [ None ↦ array (record { rows = 0; cols = 0 }) [] | Some r ↦ seen_by o.mode r o.place ])
+seen_whole : (S : JobState) (o : Operand (List ℕ)) (x : Option RootState) → IsWhole (elim x as (λ _. Array) [ None ↦ array (record { rows = 0; cols = 0 }) [] | Some r ↦ seen_by o.mode r o.place ])
 seen_whole S o None = refl
 seen_whole S o (Some r) = by o.mode
   where
@@ -339,23 +339,23 @@ seen_whole S o (Some r) = by o.mode
     by Redux = contributed (is_valued_child r o.place)
     by Commute = child-whole r o.place
 
-all_seen_whole : (S : State) (os : List (Operand (List ℕ))) → AreWhole (each_of (operand_array S) os)
+all_seen_whole : (S : JobState) (os : List (Operand (List ℕ))) → AreWhole (each_of (operand_array S) os)
 all_seen_whole S [] = tt
 all_seen_whole S (o ∷ os) = (seen_whole S o (root_of S o.name), all_seen_whole S os)
 
 -- the codelet of a task, with its operands in its modes
-pub record HasKernel (t : TaskLine (List ℕ)) (S : State) : Type 0 where
+pub record HasKernel (t : TaskLine (List ℕ)) (S : JobState) : Type 0 where
   pub call : IsCall t.codelet t.args (each_of (child_dims S) t.operands)
   pub modes : modes_fit (formals_of call.kernel) t.operands ≡ true
   pub count : length t.operands ≡ length (formals_of call.kernel)
 
-pub kernel_there : (has : Kernel → Bool) (S : State) (t : TaskLine (List ℕ)) → IsSoundTask has S t → HasKernel t S
+pub kernel_there : (has : Kernel → Bool) (S : JobState) (t : TaskLine (List ℕ)) → IsSoundTask has S t → HasKernel t S
 kernel_there has S t s =
     let c = call_of has t.codelet t.args (each_of (child_dims S) t.operands) s.fits in
     let f = fit_from_fits c.kernel t.args (each_of (child_dims S) t.operands) c.fits in
     record { call = c; modes = ap (λ (fs : List Formal). modes_fit fs t.operands) (sym c.formals) ∙ s.modes; count = sym (length-map t.operands (child_dims S)) ∙ f.count }
 
-pub new_dims : (has : Kernel → Bool) (S : State) (t : TaskLine (List ℕ)) → IsSoundTask has S t → each_dims (out t.codelet t.args (each_of (operand_array S) t.operands)) ≡ each_of (child_dims S) (written_operands t.operands)
+pub new_dims : (has : Kernel → Bool) (S : JobState) (t : TaskLine (List ℕ)) → IsSoundTask has S t → each_dims (out t.codelet t.args (each_of (operand_array S) t.operands)) ≡ each_of (child_dims S) (written_operands t.operands)
 new_dims has S t s =
     let k = kernel_there has S t s in
     let ins = each_of (operand_array S) t.operands in
@@ -364,13 +364,13 @@ new_dims has S t s =
     ∙ ap (λ (ds : List Dims). outputs_among (formals_of k.call.kernel) ds) dims
     ∙ outputs-written (child_dims S) (formals_of k.call.kernel) t.operands k.modes k.count
 
-pub new_whole : (has : Kernel → Bool) (S : State) (t : TaskLine (List ℕ)) → IsSoundTask has S t → AreWhole (out t.codelet t.args (each_of (operand_array S) t.operands))
+pub new_whole : (has : Kernel → Bool) (S : JobState) (t : TaskLine (List ℕ)) → IsSoundTask has S t → AreWhole (out t.codelet t.args (each_of (operand_array S) t.operands))
 new_whole has S t s =
     let k = kernel_there has S t s in
     out_whole k.call.kernel t.codelet t.args (each_of (operand_array S) t.operands) k.call.is (ap (fits k.call.kernel t.args) (all_seen_dims S t.operands) ∙ k.call.fits) (all_seen_whole S t.operands)
 
 -- a lowered task without contributions leaves in its cells what the task line leaves in its children
-pub holds-task : (has : Kernel → Bool) (p : Program) (C : Cells) (phases : Phases) (n : ℕ) (k : Contents) (S : State) (t : TaskLine (List ℕ)) (l : Lowered)
+pub holds-task : (has : Kernel → Bool) (p : Program) (C : Cells) (phases : Phases) (n : ℕ) (k : Contents) (S : JobState) (t : TaskLine (List ℕ)) (l : Lowered)
     → HasCells p C → AreLaid C → HaveTheirs p.workers C phases → HaveRoots p C phases n k S → IsSoundTask has S t → list_all (λ o. is_direct o.mode) t.operands ≡ true → AllByRecursion (IsClosed phases S C) t.operands
     → task_of p (task n) ≡ l → l.codelet ≡ t.codelet → l.args ≡ t.args → l.accesses ≡ each_of (access_of S C) t.operands
     → HaveRoots p C phases (n + 1) (after_task p first_worker (task n) k) (run_task t S)

@@ -8,7 +8,7 @@ use Rattle.sj_core.specs.Program.{same_cell}
 use Rattle.sj_plan.specs.Parts.{IsPlace}
 use Rattle.sj_meaning.specs.Act.{Act, Statement}
 use Rattle.sj_meaning.specs.Act.{Register as Registers, Plan as Plans, Redux as Reduces, Task as Tasks, Print as Prints, Invalidate as Invalidates, Unregister as Unregisters}
-use Rattle.sj_meaning.specs.State.{Root, State, root_of}
+use Rattle.sj_meaning.specs.State.{RootState, JobState, root_of}
 use Rattle.sj_lower.specs.declared.phase.OpenPhase.{OpenPhase}
 use Rattle.sj_lower.specs.Cells.{Cells, cell_of, with_new_root}
 use Rattle.sj_lower.specs.Lowering.{Lowering, cells_after, rows_added, add_own, with_phase}
@@ -48,24 +48,24 @@ cells-grow (Prints name) C = grows-refl C.rows
 cells-grow (Invalidates name) C = grows-refl C.rows
 cells-grow (Unregisters name) C = grows-refl C.rows
 
-pub begins-own : (p : Program) (S : State) (s : Statement (List ℕ)) (L : Lowering) → Begins p (add_own S s L) → Begins p L
+pub begins-own : (p : Program) (S : JobState) (s : Statement (List ℕ)) (L : Lowering) → Begins p (add_own S s L) → Begins p L
 begins-own p S s L b = begins-less p L (add_own S s L) (rows_added S (cells_after s.act L.cells) s.line s.act) (cells-grow s.act L.cells) refl b
 
-pub stands-own : (p : Program) (S : State) (s : Statement (List ℕ)) (L : Lowering) → Begins p (add_own S s L) → Stand p (length L.tasks) (rows_added S (cells_after s.act L.cells) s.line s.act)
+pub stands-own : (p : Program) (S : JobState) (s : Statement (List ℕ)) (L : Lowering) → Begins p (add_own S s L) → Stand p (length L.tasks) (rows_added S (cells_after s.act L.cells) s.line s.act)
 stands-own p S s L b = stands-more p L (add_own S s L) (rows_added S (cells_after s.act L.cells) s.line s.act) refl b
 
 -- ---- what agrees
 
 -- the cell is that of a child of a name's active plan
-pub record IsActiveChild (C : Cells) (S : State) (c : Cell) : Type 0 where
+pub record IsActiveChild (C : Cells) (S : JobState) (c : Cell) : Type 0 where
   pub name : List ℕ
-  pub root : Root
+  pub root : RootState
   pub is_root : root_of S name ≡ Some root
   pub place : ℕ × ℕ
   pub placed : IsPlace root.parts place
   pub cell : c ≡ cell_of C name root.parts place
 
-pub record Agrees (p : Program) (L : Lowering) (S : State) : Type 0 where
+pub record Agrees (p : Program) (L : Lowering) (S : JobState) : Type 0 where
   pub laid : AreLaid L.cells
   pub theirs : HaveTheirs p.workers L.cells L.phase
   pub roots : HaveRoots p L.cells L.phase (length L.tasks) (contents_before p (length L.tasks)) S

@@ -16,13 +16,13 @@ use Rattle.sj_meaning.specs.declared.job.Act.TheVariants as kept
 use Rattle.sj_meaning.specs.declared.job.Operand.{Operand as KeptOperand}
 use Rattle.sj_meaning.specs.declared.job.TaskLine.{TaskLine as KeptTask}
 use Rattle.sj_meaning.specs.Statement.{Operand}
-use Rattle.sj_meaning.specs.State.{Root, State, root_of, is_child}
+use Rattle.sj_meaning.specs.State.{RootState, JobState, root_of, is_child}
 use Rattle.sj_meaning.specs.Meaning.{operand_array, run_task, written_of, with_child, put, put_all}
 use Rattle.sj_meaning.specs.Sound.{has_child}
 use Rattle.sj_meaning.specs.Table.{Table, AreDistinct, name_of}
-use Rattle.sj_job.specs.Track.{children_count, written}
+use Rattle.sj_job.specs.Track.{children_count, with_child_valued}
 use Rattle.sj_meaning.specs.View.{operand_seen, task_seen}
-use Rattle.sj_job.proofs.Children.{tracks-written}
+use Rattle.sj_job.proofs.Children.{tracks-with_child_valued}
 use Rattle.sj_meaning.proofs.Giving.{gives_all}
 use Rattle.sj_lower.specs.declared.lowerer.Active.{Active}
 use Rattle.sj_lower.specs.declared.lowerer.Lowerer.{Lowerer}
@@ -37,7 +37,7 @@ use Rattle.sj_lower.proofs.Running.{child_there}
 -- ---- operands
 
 -- a child of its name's active plan is one of its root's
-child-in : (T : Table) (C : Cells) (as' : List Active) (S : State) (o : KeptOperand) → AreActive T C as' S → o.root.0 < C.roots → has_child S (operand_seen T o) ≡ true → AreIn as' o
+child-in : (T : Table) (C : Cells) (as' : List Active) (S : JobState) (o : KeptOperand) → AreActive T C as' S → o.root.0 < C.roots → has_child S (operand_seen T o) ≡ true → AreIn as' o
 child-in T C as' S o g lt h =
     let t = child_there S (operand_seen T o) h in
     let a = g.each o.root.0 t.root lt t.is_root in
@@ -47,7 +47,7 @@ child-in T C as' S o g lt h =
       room = subst (λ (p : Parts). (active_at as' o.root.0).first + children_count p ≤ most) (sym a.tracks.parts) a.room;
     }
 
-pub are-in : (T : Table) (l : Lowerer) (t : KeptTask) (S : State) (L : Lowering) → CanPass T l (kept.Task t) S L → All (AreIn l.actives.items) t.operands
+pub are-in : (T : Table) (l : Lowerer) (t : KeptTask) (S : JobState) (L : Lowering) → CanPass T l (kept.Task t) S L → All (AreIn l.actives.items) t.operands
 are-in T l t S L pass = λ k d lt.
     let os = t.operands in
     let seen = operand_seen T in
@@ -58,44 +58,44 @@ are-in T l t S L pass = λ k d lt.
 
 -- ---- what a task writes
 
-abbrev child_by : ℕ × ℕ → Option Root → Bool
+abbrev child_by : ℕ × ℕ → Option RootState → Bool
 child_by place o = elim o as (λ _. Bool) [ None ↦ false | Some r ↦ is_child r.parts place ]
 
 -- children stay children
-has-kept : (S : State) (o p : Operand (List ℕ)) (x : Array) (r : Root) → root_of S o.name ≡ Some r → has_child S p ≡ true → has_child (put o x S) p ≡ true
+has-kept : (S : JobState) (o p : Operand (List ℕ)) (x : Array) (r : RootState) → root_of S o.name ≡ Some r → has_child S p ≡ true → has_child (put o x S) p ≡ true
 has-kept S o p x r e h = ap (child_by p.place) (root-change (with_child o.place x) o.name S r p.name e) ∙ by_test (bytes_eq o.name p.name) refl
   where
     by_test : (b : Bool) → bytes_eq o.name p.name ≡ b → child_by p.place (cond b (Some (with_child o.place x r)) (root_of S p.name)) ≡ true
     by_test true t = sym (ap (child_by p.place) (ap (root_of S) (sym (same_text o.name p.name t)) ∙ e)) ∙ h
     by_test false t = h
 
-all-kept : (T : Table) (S : State) (o : Operand (List ℕ)) (x : Array) (r : Root) (os : List KeptOperand) → root_of S o.name ≡ Some r → AllByRecursion (λ (p : KeptOperand). has_child S (operand_seen T p) ≡ true) os → AllByRecursion (λ (p : KeptOperand). has_child (put o x S) (operand_seen T p) ≡ true) os
+all-kept : (T : Table) (S : JobState) (o : Operand (List ℕ)) (x : Array) (r : RootState) (os : List KeptOperand) → root_of S o.name ≡ Some r → AllByRecursion (λ (p : KeptOperand). has_child S (operand_seen T p) ≡ true) os → AllByRecursion (λ (p : KeptOperand). has_child (put o x S) (operand_seen T p) ≡ true) os
 all-kept T S o x r [] e h = tt
 all-kept T S o x r (p ∷ os) e h = (has-kept S o (operand_seen T p) x r e h.0, all-kept T S o x r os e h.1)
 
 -- the active plan of a root, one of whose children is written
 abbrev wrote : List Active → KeptOperand → Active
-wrote as' o = record { tracked = written (active_at as' o.root.0).tracked o.place; first = (active_at as' o.root.0).first; reduction = (active_at as' o.root.0).reduction }
+wrote as' o = record { tracked = with_child_valued (active_at as' o.root.0).tracked o.place; first = (active_at as' o.root.0).first; reduction = (active_at as' o.root.0).reduction }
 
-write-follows : (T : Table) (C : Cells) (as' : List Active) (S : State) (o : KeptOperand) (x : Array) → AreActive T C as' S → AreDistinct T.names → C.roots ≤ length T.names → o.root.0 < C.roots → has_child S (operand_seen T o) ≡ true → AreActive T C (set as' o.root.0 (wrote as' o)) (put (operand_seen T o) x S)
+write-follows : (T : Table) (C : Cells) (as' : List Active) (S : JobState) (o : KeptOperand) (x : Array) → AreActive T C as' S → AreDistinct T.names → C.roots ≤ length T.names → o.root.0 < C.roots → has_child S (operand_seen T o) ≡ true → AreActive T C (set as' o.root.0 (wrote as' o)) (put (operand_seen T o) x S)
 write-follows T C as' S o x g d few lt h =
     let t = child_there S (operand_seen T o) h in
     let a = g.each o.root.0 t.root lt t.is_root in
     let f = with_child o.place x in
     changed-actives T C C as' S o.root.0 f t.root (wrote as' o) g lt d few refl (λ q d s g k. k) t.is_root
-    (record { dims = a.dims; tracks = tracks-written o.place x (active_at as' o.root.0).tracked t.root a.tracks t.placed; reduction = a.reduction; handle = a.handle; named = a.named; taken = a.taken; room = a.room })
+    (record { dims = a.dims; tracks = tracks-with_child_valued o.place x (active_at as' o.root.0).tracked t.root a.tracks t.placed; reduction = a.reduction; handle = a.handle; named = a.named; taken = a.taken; room = a.room })
     (put (operand_seen T o) x S) (λ q. root-change f (name_of T o.root) S t.root q t.is_root)
 
 abbrev seen_of : Table → List KeptOperand → List (Operand (List ℕ))
 seen_of T os = written_of (map (operand_seen T) os)
 
 -- where there is an array for each written operand
-abbrev Follow : Table → Cells → List KeptOperand → List Array → List Active → State → Type 0
+abbrev Follow : Table → Cells → List KeptOperand → List Array → List Active → JobState → Type 0
 Follow T C os xs as' S = AreActive T C (actives_after_writes os as') (put_all (seen_of T os) xs S)
 
-write_by : (T : Table) (C : Cells) (as' : List Active) (S : State) (o : KeptOperand) (os : List KeptOperand) (xs : List Array) (b : Bool) → AreActive T C as' S → AreDistinct T.names → C.roots ≤ length T.names → o.root.0 < C.roots → has_child S (operand_seen T o) ≡ true → AllByRecursion (λ (p : KeptOperand). has_child S (operand_seen T p) ≡ true) os
+write_by : (T : Table) (C : Cells) (as' : List Active) (S : JobState) (o : KeptOperand) (os : List KeptOperand) (xs : List Array) (b : Bool) → AreActive T C as' S → AreDistinct T.names → C.roots ≤ length T.names → o.root.0 < C.roots → has_child S (operand_seen T o) ≡ true → AllByRecursion (λ (p : KeptOperand). has_child S (operand_seen T p) ≡ true) os
     → length (cond b (operand_seen T o ∷ seen_of T os) (seen_of T os)) ≤ length xs
-    → ((ys : List Array) (bs : List Active) (U : State) → AreActive T C bs U → AllByRecursion (λ (p : KeptOperand). has_child U (operand_seen T p) ≡ true) os → length (seen_of T os) ≤ length ys → Follow T C os ys bs U)
+    → ((ys : List Array) (bs : List Active) (U : JobState) → AreActive T C bs U → AllByRecursion (λ (p : KeptOperand). has_child U (operand_seen T p) ≡ true) os → length (seen_of T os) ≤ length ys → Follow T C os ys bs U)
     → AreActive T C (actives_after_writes os (cond b (set as' o.root.0 (wrote as' o)) as')) (put_all (cond b (operand_seen T o ∷ seen_of T os) (seen_of T os)) xs S)
 write_by T C as' S o os [] true g d few lt h hs l rest = absurd (omega (arith, l))
 write_by T C as' S o os (x ∷ xs) true g d few lt h hs l rest =
@@ -103,7 +103,7 @@ write_by T C as' S o os (x ∷ xs) true g d few lt h hs l rest =
     rest xs (set as' o.root.0 (wrote as' o)) (put (operand_seen T o) x S) (write-follows T C as' S o x g d few lt h) (all-kept T S (operand_seen T o) x t.root os t.is_root hs) (omega (arith, l))
 write_by T C as' S o os xs false g d few lt h hs l rest = rest xs as' S g hs l
 
-pub writes-follow : (T : Table) (C : Cells) (as' : List Active) (S : State) (os : List KeptOperand) (xs : List Array) → AreActive T C as' S → AreDistinct T.names → C.roots ≤ length T.names → All (λ (o : KeptOperand). o.root.0 < C.roots) os → AllByRecursion (λ (o : KeptOperand). has_child S (operand_seen T o) ≡ true) os → length (written_of (map (operand_seen T) os)) ≤ length xs → AreActive T C (actives_after_writes os as') (put_all (written_of (map (operand_seen T) os)) xs S)
+pub writes-follow : (T : Table) (C : Cells) (as' : List Active) (S : JobState) (os : List KeptOperand) (xs : List Array) → AreActive T C as' S → AreDistinct T.names → C.roots ≤ length T.names → All (λ (o : KeptOperand). o.root.0 < C.roots) os → AllByRecursion (λ (o : KeptOperand). has_child S (operand_seen T o) ≡ true) os → length (written_of (map (operand_seen T) os)) ≤ length xs → AreActive T C (actives_after_writes os as') (put_all (written_of (map (operand_seen T) os)) xs S)
 writes-follow T C as' S [] xs g d few lts hs l = g
 writes-follow T C as' S (o ∷ os) xs g d few lts hs l =
     write_by T C as' S o os xs (is_written o.mode) g d few (lts 0 o (omega arith)) hs.0 hs.1 l

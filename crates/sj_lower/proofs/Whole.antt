@@ -21,7 +21,7 @@ use Rattle.sj_codelet.specs.Kernel.{kernel_of}
 use Rattle.sj_plan.specs.declared.parts.Parts.{Parts}
 use Rattle.sj_plan.specs.declared.paste.Paste.{Paste}
 use Rattle.sj_plan.specs.Parts.{IsPlace, places}
-use Rattle.sj_plan.specs.Paste.{pastes_of, pastes_to, is_first, IsBetween}
+use Rattle.sj_plan.specs.Paste.{pastes_of, pastes_to, is_first, IsPasteBetween}
 use Rattle.sj_plan.specs.Rect.{child}
 use Rattle.sj_plan.proofs.Lists.{each-map, each-of, each-places}
 use Rattle.sj_meaning.specs.declared.job.Init.{Init}
@@ -30,8 +30,8 @@ use Rattle.sj_meaning.specs.Statement.{Operand, Register}
 use Rattle.sj_meaning.specs.Sound.{has_child}
 use Rattle.sj_meaning.specs.Act.{Act, Statement}
 use Rattle.sj_meaning.specs.Act.{Register as Registers, Plan as Plans, Redux as Reduces, Task as Tasks, Print as Prints, Invalidate as Invalidates, Unregister as Unregisters}
-use Rattle.sj_meaning.specs.State.{Root, State, root_of, is_valued}
-use Rattle.sj_meaning.specs.Meaning.{Printed, array_of, registered_root, with_parts, apply, found_by, prints}
+use Rattle.sj_meaning.specs.State.{RootState, JobState, root_of, is_valued}
+use Rattle.sj_meaning.specs.Meaning.{Printed, root_array, registered_root, with_parts, apply, found_by, prints}
 use Rattle.sj_meaning.specs.Table.{Table, info_of, undivided}
 use Rattle.sj_lower.specs.Cells.{Cells, Handle, same_parts, cell_of, take}
 use Rattle.sj_lower.specs.Rows.{load_row, fill_row, paste_mode, paste_row, deliver_row}
@@ -73,7 +73,7 @@ loads_good p C r line n f (Fill a b) cells laid t =
     good_fill p n a b r.dims (child r.dims r.parts place) (cell_of C r.name r.parts place) line (cell_below p C r.name r.dims r.parts f place cells laid t h))))
 loads_good p C r line n f Nothing cells laid t = tt
 
-pastes_good : (p : Program) (C : Cells) (phases : Phases) (name : List ℕ) (r : Root) (s : Parts) (line : Line) (n f : ℕ) → HasCells p C → AreLaid C → HasRoot p C phases n (contents_before p n) name r → IsTaken C name r.dims s f → same_parts r.parts s ≡ false → is_valued r ≡ true
+pastes_good : (p : Program) (C : Cells) (phases : Phases) (name : List ℕ) (r : RootState) (s : Parts) (line : Line) (n f : ℕ) → HasCells p C → AreLaid C → HasRoot p C phases n (contents_before p n) name r → IsTaken C name r.dims s f → same_parts r.parts s ≡ false → is_valued r ≡ true
     → Stand p n (each_of (paste_row (cell_of C name r.parts) (cell_of C name s) line) (pastes_of r.dims r.parts s)) → AreGood p n (each_of (paste_row (cell_of C name r.parts) (cell_of C name s) line) (pastes_of r.dims r.parts s))
 pastes_good p C phases name r s line n f cells laid b t changed valued stand =
     let d = r.dims in
@@ -94,7 +94,7 @@ pastes_good p C phases name r s line n f cells laid b t changed valued stand =
     (each-places (λ to. (m : ℕ) → n ≤ m → Stand p m (rows_to d r.parts s old new line to) → AreGood p m (rows_to d r.parts s old new line to)) s (λ to h m lo stand. good_pastes_to p n m d r.parts s old new line to can b.fits fit h lo stand))
     (subst (Stand p n) rows stand))
 
-plans_good : (p : Program) (C : Cells) (phases : Phases) (S : State) (name : List ℕ) (r : Root) (s : Parts) (line : Line) (n f : ℕ) → root_of S name ≡ Some r → HasCells p C → AreLaid C → HasRoot p C phases n (contents_before p n) name r → IsTaken C name r.dims s f → Stand p n (plan_rows S C name s line) → AreGood p n (plan_rows S C name s line)
+plans_good : (p : Program) (C : Cells) (phases : Phases) (S : JobState) (name : List ℕ) (r : RootState) (s : Parts) (line : Line) (n f : ℕ) → root_of S name ≡ Some r → HasCells p C → AreLaid C → HasRoot p C phases n (contents_before p n) name r → IsTaken C name r.dims s f → Stand p n (plan_rows S C name s line) → AreGood p n (plan_rows S C name s line)
 plans_good p C phases S name r s line n f e cells laid b t stand =
     let rows = plan_rows-are S C name s line r e in
     subst (AreGood p n) (sym rows) (by_cases (same_parts r.parts s) (is_valued r) refl refl (subst (Stand p n) rows stand))
@@ -106,27 +106,27 @@ plans_good p C phases S name r s line n f e cells laid b t stand =
     by_cases false true ec ev stand = pastes_good p C phases name r s line n f cells laid b t ec ev stand
 
 -- the tasks of a print statement, by its root
-pub deliver_rows-are : (S : State) (C : Cells) (name : List ℕ) (line : Line) (r : Root) → root_of S name ≡ Some r → deliver_rows S C name line ≡ each_of (λ place. deliver_row (cell_of C name r.parts place) line) (places r.parts)
-deliver_rows-are S C name line r e = ap (λ (o : Option Root). let s = (elim o as (λ _. Parts) [ None ↦ undivided | Some r ↦ r.parts ]) in each_of (λ place. deliver_row (cell_of C name s place) line) (places s)) e
+pub deliver_rows-are : (S : JobState) (C : Cells) (name : List ℕ) (line : Line) (r : RootState) → root_of S name ≡ Some r → deliver_rows S C name line ≡ each_of (λ place. deliver_row (cell_of C name r.parts place) line) (places r.parts)
+deliver_rows-are S C name line r e = ap (λ (o : Option RootState). let s = (elim o as (λ _. Parts) [ None ↦ undivided | Some r ↦ r.parts ]) in each_of (λ place. deliver_row (cell_of C name s place) line) (places s)) e
 
-prints_good : (p : Program) (C : Cells) (phases : Phases) (S : State) (name : List ℕ) (r : Root) (line : Line) (n : ℕ) → root_of S name ≡ Some r → is_valued r ≡ true → HasCells p C → AreLaid C → HaveCopies p.workers C → HasRoot p C phases n (contents_before p n) name r → AreGood p n (deliver_rows S C name line)
+prints_good : (p : Program) (C : Cells) (phases : Phases) (S : JobState) (name : List ℕ) (r : RootState) (line : Line) (n : ℕ) → root_of S name ≡ Some r → is_valued r ≡ true → HasCells p C → AreLaid C → HaveCopies p.workers C → HasRoot p C phases n (contents_before p n) name r → AreGood p n (deliver_rows S C name line)
 prints_good p C phases S name r line n e valued cells laid copies b =
     let row = λ (place : ℕ × ℕ). deliver_row (cell_of C name r.parts place) line in
     subst (AreGood p n) (sym (deliver_rows-are S C name line r e))
     (good-all p n (each_of row (places r.parts)) (each-map (IsGood p n) row (places r.parts) (each-places (λ place. IsGood p n (row place)) r.parts (λ place h.
     good_deliver p n (cell_of C name r.parts place) line (cell_below p C name r.dims r.parts b.first place cells laid b.taken h) (plain-child p C cells copies name r.dims r.parts b.first place laid b.taken h) (b.held place h (valued-child r place b.whole valued h)).given))))
 
-there_itself : (S : State) (q : List ℕ) (new : Root) (o : Option Root) → o ≡ cond (bytes_eq q q) (Some new) (root_of S q) → o ≡ Some new
+there_itself : (S : JobState) (q : List ℕ) (new : RootState) (o : Option RootState) → o ≡ cond (bytes_eq q q) (Some new) (root_of S q) → o ≡ Some new
 there_itself S q new o e = e ∙ ap (λ b. cond b (Some new) (root_of S q)) (bytes_eq-itself q)
 
 -- the new root of a registration has taken its plan
-registered-taken : (p : Program) (L : Lowering) (S : State) (line : Line) (r : Register (List ℕ)) (after : Agrees p (add_own S (record { line = line; act = Registers r }) L) (apply (Registers r) S)) → HasRoot p (cells_after (Registers r) L.cells) L.phase (length (add_own S (record { line = line; act = Registers r }) L).tasks) (contents_before p (length (add_own S (record { line = line; act = Registers r }) L).tasks)) r.name (registered_root r)
+registered-taken : (p : Program) (L : Lowering) (S : JobState) (line : Line) (r : Register (List ℕ)) (after : Agrees p (add_own S (record { line = line; act = Registers r }) L) (apply (Registers r) S)) → HasRoot p (cells_after (Registers r) L.cells) L.phase (length (add_own S (record { line = line; act = Registers r }) L).tasks) (contents_before p (length (add_own S (record { line = line; act = Registers r }) L).tasks)) r.name (registered_root r)
 registered-taken p L S line r after = after.roots r.name (registered_root r) (there_itself S r.name (registered_root r) _ (get-put S.roots r.name (registered_root r) r.name))
 
-planned-taken : (p : Program) (L : Lowering) (S : State) (line : Line) (name : List ℕ) (s : Parts) (r : Root) (e : root_of S name ≡ Some r) (after : Agrees p (add_own S (record { line = line; act = Plans name s }) L) (apply (Plans name s) S)) → (f : ℕ) × IsTaken (take name s L.cells) name r.dims s f
+planned-taken : (p : Program) (L : Lowering) (S : JobState) (line : Line) (name : List ℕ) (s : Parts) (r : RootState) (e : root_of S name ≡ Some r) (after : Agrees p (add_own S (record { line = line; act = Plans name s }) L) (apply (Plans name s) S)) → (f : ℕ) × IsTaken (take name s L.cells) name r.dims s f
 planned-taken p L S line name s r e after = let h = after.roots name (with_parts s r) (there_itself S name (with_parts s r) _ (root-change (with_parts s) name S r name e)) in (h.first, h.taken)
 
-rows_good : (has : Kernel → Bool) (p : Program) (L : Lowering) (S : State) (line : Line) (a : Act (List ℕ)) → Begins p (add_own S (record { line = line; act = a }) L) → CanBe has S a → IsPrepared L S a → Agrees p L S → Agrees p (add_own S (record { line = line; act = a }) L) (apply a S)
+rows_good : (has : Kernel → Bool) (p : Program) (L : Lowering) (S : JobState) (line : Line) (a : Act (List ℕ)) → Begins p (add_own S (record { line = line; act = a }) L) → CanBe has S a → IsPrepared L S a → Agrees p L S → Agrees p (add_own S (record { line = line; act = a }) L) (apply a S)
     → AreGood p (length L.tasks) (rows_added S (cells_after a L.cells) line a)
 rows_good has p L S line (Registers r) b can ready g after =
     let h = registered-taken p L S line r after in
@@ -158,17 +158,17 @@ loads_beside r C line (Fill a b) =
     each-map (λ (l : Lowered). kernel_of l.codelet ≡ Some Deliver → ⊥) row (places r.parts) (each-of (λ place. kernel_of (row place).codelet ≡ Some Deliver → ⊥) (λ place e. absurd (cc)) (places r.parts))
 loads_beside r C line Nothing = tt
 
-plans_beside : (S : State) (C : Cells) (name : List ℕ) (s : Parts) (line : Line) → NoneDelivers (plan_rows S C name s line)
+plans_beside : (S : JobState) (C : Cells) (name : List ℕ) (s : Parts) (line : Line) → NoneDelivers (plan_rows S C name s line)
 plans_beside S C name s line = by_root (root_of S name)
   where
-    pastes : (r : Root) (xs : List Paste) → NoneDelivers (each_of (paste_row (cell_of C name r.parts) (cell_of C name s) line) xs)
+    pastes : (r : RootState) (xs : List Paste) → NoneDelivers (each_of (paste_row (cell_of C name r.parts) (cell_of C name s) line) xs)
     pastes r xs = each-map (λ (l : Lowered). kernel_of l.codelet ≡ Some Deliver → ⊥) (paste_row (cell_of C name r.parts) (cell_of C name s) line) xs (each-of (λ x. kernel_of (paste_row (cell_of C name r.parts) (cell_of C name s) line x).codelet ≡ Some Deliver → ⊥) (λ x e. absurd (cc)) xs)
 
-    by_idle : (b : Bool) (r : Root) → NoneDelivers (cond b [] (each_of (paste_row (cell_of C name r.parts) (cell_of C name s) line) (pastes_of r.dims r.parts s)))
+    by_idle : (b : Bool) (r : RootState) → NoneDelivers (cond b [] (each_of (paste_row (cell_of C name r.parts) (cell_of C name s) line) (pastes_of r.dims r.parts s)))
     by_idle true r = tt
     by_idle false r = pastes r (pastes_of r.dims r.parts s)
 
-    by_root : (o : Option Root) → NoneDelivers (elim o as (λ _. List Lowered) [
+    by_root : (o : Option RootState) → NoneDelivers (elim o as (λ _. List Lowered) [
       | None ↦ []
       | Some r ↦ cond (leaves_plan s r) [] (each_of (paste_row (cell_of C name r.parts) (cell_of C name s) line) (pastes_of r.dims r.parts s))
     ])
@@ -178,33 +178,33 @@ plans_beside S C name s line = by_root (root_of S name)
 -- ---- one statement
 
 -- the handle of a name that is printed has the number under which the table knows the name
-abbrev pub NamesAct : Table → State → Cells → Act (List ℕ) → Type 0
+abbrev pub NamesAct : Table → JobState → Cells → Act (List ℕ) → Type 0
 NamesAct T S C (Registers r) = Unit {0}
 NamesAct T S C (Plans name s) = Unit {0}
 NamesAct T S C (Reduces name by) = Unit {0}
 NamesAct T S C (Tasks t) = Unit {0}
-NamesAct T S C (Prints name) = (h : Handle) (r : Root) → C.handles name ≡ Some h → root_of S name ≡ Some r → (printed_as T h.root ≡ (name, r.kind)) × ((info_of T h.root).dims ≡ h.dims) × (h.root.0 < length T.names)
+NamesAct T S C (Prints name) = (h : Handle) (r : RootState) → C.handles name ≡ Some h → root_of S name ≡ Some r → (printed_as T h.root ≡ (name, r.kind)) × ((info_of T h.root).dims ≡ h.dims) × (h.root.0 < length T.names)
 NamesAct T S C (Invalidates name) = Unit {0}
 NamesAct T S C (Unregisters name) = Unit {0}
 
-abbrev pub NamesAll : ℕ → Table → State → Lowering → List (Statement (List ℕ)) → Type 0
+abbrev pub NamesAll : ℕ → Table → JobState → Lowering → List (Statement (List ℕ)) → Type 0
 NamesAll workers T S L [] = Unit {0}
 NamesAll workers T S L (s ∷ ss) = NamesAct T S L.cells s.act × NamesAll workers T (apply s.act S) (lower_one workers S s L) ss
 
-found_there : (S : State) (name : List ℕ) (r : Root) → root_of S name ≡ Some r → found_by S name ≡ record { name = name; kind = r.kind; array = array_of r } ∷ []
-found_there S name r e = ap (λ (o : Option Root). elim o as (λ _. List Printed) [ None ↦ [] | Some r ↦ record { name = name; kind = r.kind; array = array_of r } ∷ [] ]) e
+found_there : (S : JobState) (name : List ℕ) (r : RootState) → root_of S name ≡ Some r → found_by S name ≡ record { name = name; kind = r.kind; array = root_array r } ∷ []
+found_there S name r e = ap (λ (o : Option RootState). elim o as (λ _. List Printed) [ None ↦ [] | Some r ↦ record { name = name; kind = r.kind; array = root_array r } ∷ [] ]) e
 
-pub print_deliveries-are : (S : State) (C : Cells) (name : List ℕ) (n print : ℕ) (h : Handle) (r : Root) → C.handles name ≡ Some h → root_of S name ≡ Some r → h.dims ≡ r.dims → print_deliveries S C name n print ≡ deliveries_by r n h.root print
+pub print_deliveries-are : (S : JobState) (C : Cells) (name : List ℕ) (n print : ℕ) (h : Handle) (r : RootState) → C.handles name ≡ Some h → root_of S name ≡ Some r → h.dims ≡ r.dims → print_deliveries S C name n print ≡ deliveries_by r n h.root print
 print_deliveries-are S C name n print h r eh er ed =
     ap (λ (o : Option Handle). elim o as (λ _. List Delivery) [ None ↦ [] | Some h ↦ each_of (a_delivery n h.root h.dims (parts_in S name) print) (places (parts_in S name)) ]) eh
-    ∙ ap (λ (o : Option Root). let s = (elim o as (λ _. Parts) [ None ↦ undivided | Some r ↦ r.parts ]) in each_of (a_delivery n h.root h.dims s print) (places s)) er
+    ∙ ap (λ (o : Option RootState). let s = (elim o as (λ _. Parts) [ None ↦ undivided | Some r ↦ r.parts ]) in each_of (a_delivery n h.root h.dims s print) (places s)) er
     ∙ ap (λ (d : Dims). each_of (a_delivery n h.root d r.parts print) (places r.parts)) ed
 
 none_more : {X : Type 0} (xs ys : List X) → ys ≡ [] → xs ++ ys ≡ xs
 none_more xs ys e = ap (λ zs. xs ++ zs) e ∙ append-nil xs
 
 -- what a statement finds: the phases that it closes are closed
-abbrev pub IsReady : Lowering → State → Act (List ℕ) → Type 0
+abbrev pub IsReady : Lowering → JobState → Act (List ℕ) → Type 0
 IsReady L S (Registers r) = Unit {0}
 IsReady L S (Plans name s) = IsShutBy L S name s
 IsReady L S (Reduces name by) = Unit {0}
@@ -213,7 +213,7 @@ IsReady L S (Prints name) = IsShut L S name
 IsReady L S (Invalidates name) = IsShut L S name
 IsReady L S (Unregisters name) = IsShut L S name
 
-prepared-of : (L : Lowering) (S : State) (a : Act (List ℕ)) → IsReady L S a → IsPrepared L S a
+prepared-of : (L : Lowering) (S : JobState) (a : Act (List ℕ)) → IsReady L S a → IsPrepared L S a
 prepared-of L S (Registers r) h = tt
 prepared-of L S (Plans name s) h = h
 prepared-of L S (Reduces name by) h = tt
@@ -222,7 +222,7 @@ prepared-of L S (Prints name) h = tt
 prepared-of L S (Invalidates name) h = h
 prepared-of L S (Unregisters name) h = h
 
-delivered_act : (has : Kernel → Bool) (T : Table) (p : Program) (L : Lowering) (S : State) (line : Line) (a : Act (List ℕ)) (out : List Printed) → Begins p (add_own S (record { line = line; act = a }) L) → CanBe has S a → NamesAct T S L.cells a → IsReady L S a → Agrees p L S → AreDelivered T p L out
+delivered_act : (has : Kernel → Bool) (T : Table) (p : Program) (L : Lowering) (S : JobState) (line : Line) (a : Act (List ℕ)) (out : List Printed) → Begins p (add_own S (record { line = line; act = a }) L) → CanBe has S a → NamesAct T S L.cells a → IsReady L S a → Agrees p L S → AreDelivered T p L out
     → AreDelivered T p (add_own S (record { line = line; act = a }) L) (out ++ prints a S)
 delivered_act has T p L S line (Registers r) out b can named ready g d =
     let s : Statement (List ℕ) = record { line = line; act = Registers r } in
@@ -290,8 +290,8 @@ loads_away p C phases r line f (Fill a b) cells laid copies t shut =
 loads_away p C phases r line f Nothing cells laid copies t shut = tt
 
 -- pastes between children of two plans
-paste_away : (p : Program) (C : Cells) (phases : Phases) (name : List ℕ) (r : Root) (s : Parts) (line : Line) (g f : ℕ) (x : Paste) → HasCells p C → AreLaid C → HaveCopies p.workers C → IsTaken C name r.dims r.parts g → IsTaken C name r.dims s f
-    → ((place : ℕ × ℕ) → IsPlace r.parts place → phases (cell_of C name r.parts place) ≡ None) → ((place : ℕ × ℕ) → IsPlace s place → phases (cell_of C name s place) ≡ None) → IsBetween r.dims r.parts s x → AreAway p phases (paste_row (cell_of C name r.parts) (cell_of C name s) line x)
+paste_away : (p : Program) (C : Cells) (phases : Phases) (name : List ℕ) (r : RootState) (s : Parts) (line : Line) (g f : ℕ) (x : Paste) → HasCells p C → AreLaid C → HaveCopies p.workers C → IsTaken C name r.dims r.parts g → IsTaken C name r.dims s f
+    → ((place : ℕ × ℕ) → IsPlace r.parts place → phases (cell_of C name r.parts place) ≡ None) → ((place : ℕ × ℕ) → IsPlace s place → phases (cell_of C name s place) ≡ None) → IsPasteBetween r.dims r.parts s x → AreAway p phases (paste_row (cell_of C name r.parts) (cell_of C name s) line x)
 paste_away p C phases name r s line g f x cells laid copies t u shut fresh h =
     away-two p phases (access R (cell_of C name r.parts x.from)) (access (paste_mode x) (cell_of C name s x.to))
     (child-away p C phases R name r.dims r.parts g x.from cells laid copies t h.from refl (λ e. shut x.from h.from))
@@ -309,7 +309,7 @@ each-flat {X} P f (q ∷ qs) h = join (f q) (flat_map f qs) h.0 (each-flat P f q
     join [] ys a b = b
     join (x ∷ xs) ys a b = (a.0, join xs ys a.1 b)
 
-plans_away : (p : Program) (C : Cells) (phases : Phases) (S : State) (name : List ℕ) (r : Root) (s : Parts) (line : Line) (g f : ℕ) → root_of S name ≡ Some r → HasCells p C → AreLaid C → HaveCopies p.workers C → IsTaken C name r.dims r.parts g → IsTaken C name r.dims s f
+plans_away : (p : Program) (C : Cells) (phases : Phases) (S : JobState) (name : List ℕ) (r : RootState) (s : Parts) (line : Line) (g f : ℕ) → root_of S name ≡ Some r → HasCells p C → AreLaid C → HaveCopies p.workers C → IsTaken C name r.dims r.parts g → IsTaken C name r.dims s f
     → (same_parts r.parts s ≡ false → (place : ℕ × ℕ) → IsPlace r.parts place → phases (cell_of C name r.parts place) ≡ None) → (same_parts r.parts s ≡ false → (place : ℕ × ℕ) → IsPlace s place → phases (cell_of C name s place) ≡ None) → AllByRecursion (AreAway p phases) (plan_rows S C name s line)
 plans_away p C phases S name r s line g f e cells laid copies t u shut fresh = subst (AllByRecursion (AreAway p phases)) (sym (plan_rows-are S C name s line r e)) (by_cases (same_parts r.parts s) (is_valued r) refl)
   where
@@ -320,20 +320,20 @@ plans_away p C phases S name r s line g f e cells laid copies t u shut fresh = s
         subst (AllByRecursion (AreAway p phases)) (sym (rows-by_child r.dims r.parts s (cell_of C name r.parts) (cell_of C name s) line))
         (each-flat (AreAway p phases) (rows_to r.dims r.parts s (cell_of C name r.parts) (cell_of C name s) line) (places s) (each-places (λ to. AllByRecursion (AreAway p phases) (rows_to r.dims r.parts s (cell_of C name r.parts) (cell_of C name s) line to)) s (λ to h.
         away-map p phases (paste_row (cell_of C name r.parts) (cell_of C name s) line) (pastes_to r.dims r.parts s to)
-        (each-one (IsBetween r.dims r.parts s) (λ x. AreAway p phases (paste_row (cell_of C name r.parts) (cell_of C name s) line x)) (pastes_to r.dims r.parts s to) (λ x b. paste_away p C phases name r s line g f x cells laid copies t u (shut ec) (fresh ec) b) (pastes-between r.dims r.parts s to h)))))
+        (each-one (IsPasteBetween r.dims r.parts s) (λ x. AreAway p phases (paste_row (cell_of C name r.parts) (cell_of C name s) line x)) (pastes_to r.dims r.parts s to) (λ x b. paste_away p C phases name r s line g f x cells laid copies t u (shut ec) (fresh ec) b) (pastes-between r.dims r.parts s to h)))))
       where
         each-one : (P Q : Paste → Type 0) (xs : List Paste) → ((x : Paste) → P x → Q x) → AllByRecursion P xs → AllByRecursion Q xs
         each-one P Q [] f h = tt
         each-one P Q (x ∷ xs) f h = (f x h.0, each-one P Q xs f h.1)
 
-prints_away : (p : Program) (L : Lowering) (S : State) (name : List ℕ) (r : Root) (line : Line) → root_of S name ≡ Some r → Begins p L → Agrees p L S → IsShut L S name → AllByRecursion (AreAway p L.phase) (deliver_rows S L.cells name line)
+prints_away : (p : Program) (L : Lowering) (S : JobState) (name : List ℕ) (r : RootState) (line : Line) → root_of S name ≡ Some r → Begins p L → Agrees p L S → IsShut L S name → AllByRecursion (AreAway p L.phase) (deliver_rows S L.cells name line)
 prints_away p L S name r line e b g shut =
     let h = g.roots name r e in
     let row = λ (place : ℕ × ℕ). deliver_row (cell_of L.cells name r.parts place) line in
     subst (AllByRecursion (AreAway p L.phase)) (sym (deliver_rows-are S L.cells name line r e))
     (away-map p L.phase row (places r.parts) (each-places (λ place. AreAway p L.phase (row place)) r.parts (λ place at. away-one p L.phase (access R (cell_of L.cells name r.parts place)) (child-away p L.cells L.phase R name r.dims r.parts h.first place b.cells g.laid g.theirs.copies h.taken at refl (λ z. shut r place e at)))))
 
-pub operand-away : (p : Program) (L : Lowering) (S : State) (o : Operand (List ℕ)) → Begins p L → Agrees p L S → has_child S o ≡ true → is_redux o.mode ≡ false → IsClosed L.phase S L.cells o → IsAway p L.phase (access_of S L.cells o)
+pub operand-away : (p : Program) (L : Lowering) (S : JobState) (o : Operand (List ℕ)) → Begins p L → Agrees p L S → has_child S o ≡ true → is_redux o.mode ≡ false → IsClosed L.phase S L.cells o → IsAway p L.phase (access_of S L.cells o)
 operand-away p L S o b g placed direct closed =
     let t = child_there S o placed in
     let h = g.roots o.name t.root t.is_root in
@@ -341,14 +341,14 @@ operand-away p L S o b g placed direct closed =
     subst (λ (c : Cell). IsAway p L.phase (access o.mode c)) (sym cell)
     (child-away p L.cells L.phase o.mode o.name t.root.dims t.root.parts h.first o.place b.cells g.laid g.theirs.copies h.taken t.placed direct (λ e. ap L.phase (sym cell) ∙ closed e))
 
-tasks_away : (p : Program) (L : Lowering) (S : State) (os : List (Operand (List ℕ))) → Begins p L → Agrees p L S → list_all (has_child S) os ≡ true → list_all (λ o. is_direct o.mode) os ≡ true → AllByRecursion (IsClosed L.phase S L.cells) os → All (IsAway p L.phase) (each_of (access_of S L.cells) os)
+tasks_away : (p : Program) (L : Lowering) (S : JobState) (os : List (Operand (List ℕ))) → Begins p L → Agrees p L S → list_all (has_child S) os ≡ true → list_all (λ o. is_direct o.mode) os ≡ true → AllByRecursion (IsClosed L.phase S L.cells) os → All (IsAway p L.phase) (each_of (access_of S L.cells) os)
 tasks_away p L S [] b g placed direct closed = All-nil (IsAway p L.phase)
 tasks_away p L S (o ∷ os) b g placed direct closed =
     let x = and_parts (has_child S o) (list_all (has_child S) os) placed in
     let y = and_parts (is_direct o.mode) (list_all (λ o. is_direct o.mode) os) direct in
     All-cons (IsAway p L.phase) (access_of S L.cells o) (each_of (access_of S L.cells) os) (operand-away p L S o b g x.0 (not-true (is_redux o.mode) y.0) closed.0) (tasks_away p L S os b g x.1 y.1 closed.1)
 
-rows_away : (has : Kernel → Bool) (p : Program) (L : Lowering) (S : State) (line : Line) (a : Act (List ℕ)) → Begins p (add_own S (record { line = line; act = a }) L) → CanBe has S a → IsReady L S a → Agrees p L S → Agrees p (add_own S (record { line = line; act = a }) L) (apply a S)
+rows_away : (has : Kernel → Bool) (p : Program) (L : Lowering) (S : JobState) (line : Line) (a : Act (List ℕ)) → Begins p (add_own S (record { line = line; act = a }) L) → CanBe has S a → IsReady L S a → Agrees p L S → Agrees p (add_own S (record { line = line; act = a }) L) (apply a S)
     → AllByRecursion (AreAway p L.phase) (rows_added S (cells_after a L.cells) line a)
 rows_away has p L S line (Registers r) b can ready g after =
     let h = registered-taken p L S line r after in
@@ -365,7 +365,7 @@ rows_away has p L S line (Plans name s) b can ready g after =
     (λ changed place at. ap L.phase (sym (same_child_cell L.cells D name r.dims r.dims r.parts had.first place had.taken (subst (λ f. IsTaken D name r.dims r.parts f) (same_first had old) old.taken))) ∙ ready r place root.1 at changed)
     (λ changed place at. plan-fresh p L S name s r new.0 g root.1 after.laid new.1 changed place at)
   where
-    same_first : {r : Root} (had : HasRoot p L.cells L.phase (length L.tasks) (contents_before p (length L.tasks)) name r) (old : HasRoot p (take name s L.cells) L.phase (length L.tasks) (contents_before p (length L.tasks)) name r) → old.first ≡ had.first
+    same_first : {r : RootState} (had : HasRoot p L.cells L.phase (length L.tasks) (contents_before p (length L.tasks)) name r) (old : HasRoot p (take name s L.cells) L.phase (length L.tasks) (contents_before p (length L.tasks)) name r) → old.first ≡ had.first
     same_first {r} had old = (taken-once (take name s L.cells) name r.dims r.dims r.parts old.first had.first old.taken (take-keeps L.cells name s had.taken.handle had.taken.is name r.dims r.parts had.first had.taken)).1
 rows_away has p L S line (Reduces name by) b can ready g after = tt
 rows_away has p L S line (Tasks t) b can ready g after = (tasks_away p L S t.operands (begins-own p S (record { line = line; act = Tasks t }) L b) g can.sound.placed ready.0 ready.1, tt)
@@ -375,7 +375,7 @@ rows_away has p L S line (Unregisters name) b can ready g after = tt
 
 -- ---- one statement that contributes to nothing
 
-pub fine_own : (has : Kernel → Bool) (T : Table) (p : Program) (L : Lowering) (S : State) (line : Line) (a : Act (List ℕ)) (out : List Printed) → Begins p (add_own S (record { line = line; act = a }) L) → CanBe has S a → NamesAct T S L.cells a → IsReady L S a → IsFine T p L S out
+pub fine_own : (has : Kernel → Bool) (T : Table) (p : Program) (L : Lowering) (S : JobState) (line : Line) (a : Act (List ℕ)) (out : List Printed) → Begins p (add_own S (record { line = line; act = a }) L) → CanBe has S a → NamesAct T S L.cells a → IsReady L S a → IsFine T p L S out
     → IsFine T p (add_own S (record { line = line; act = a }) L) (apply a S) (out ++ prints a S)
 fine_own has T p L S line a out b can named ready f = record {
   agrees = after;

@@ -11,7 +11,7 @@ use Rattle.sj_core.specs.Program.{no_cell}
 use Rattle.sj_plan.specs.declared.parts.Parts.{Parts}
 use Rattle.sj_plan.specs.declared.rect.Rect.{Rect}
 use Rattle.sj_plan.specs.Parts.{places}
-use Rattle.sj_plan.specs.Rect.{child, dims_of}
+use Rattle.sj_plan.specs.Rect.{child, rect_dims}
 use Rattle.sj_job.specs.Track.{number}
 
 abbrev pub same_parts : Parts → Parts → Bool
@@ -58,7 +58,7 @@ taking_plan p n h = record { root = h.root; dims = h.dims; first = with_first p 
 
 -- the cell of a rectangle of a root
 abbrev pub rect_cell : Root → Rect → CellInfo
-rect_cell root r = record { root = root; dims = dims_of r; partials = None }
+rect_cell root r = record { root = root; dims = rect_dims r; partials = None }
 
 -- the cell of a child
 abbrev pub child_cell : Root → Dims → Parts → ℕ × ℕ → CellInfo

@@ -3,7 +3,7 @@ use Rattle.std.specs.Prelude.{ℕ, nat_lt, Option, Some, None, List, [], ◌∷�
 use Rattle.std.specs.List.{last_or}
 use Rattle.sj_base.specs.declared.ids.Line.{Line}
 use Rattle.sj_meaning.specs.Act.{Statement}
-use Rattle.sj_meaning.specs.State.{State, start}
+use Rattle.sj_meaning.specs.State.{JobState, start}
 use Rattle.sj_meaning.specs.Meaning.{apply}
 use Rattle.sj_job.specs.declared.reason.LimitKind.{LimitKind}
 use Rattle.sj_job.specs.declared.reason.LimitKind.TheVariants.{Cells, Tasks}
@@ -22,7 +22,7 @@ abbrev pub tasks_in : Lowering → ℕ
 tasks_in L = length L.tasks
 
 -- the line of the first statement with which there are too many of what is counted
-abbrev pub first_above : ℕ → (Lowering → ℕ) → State → Lowering → List (Statement (List ℕ)) → Option Line
+abbrev pub first_above : ℕ → (Lowering → ℕ) → JobState → Lowering → List (Statement (List ℕ)) → Option Line
 first_above workers count S L [] = None
 first_above workers count S L (s ∷ ss) =
     if nat_lt most (count (lower_one workers S s L)) then Some s.line

@@ -6,7 +6,7 @@ use Rattle.std.specs.Prelude.{ℕ, ◌+◌, Bool, ◌||◌, ◌&&◌, not, Optio
 use Rattle.std.specs.List.{range_with_len}
 use Rattle.sj_base.specs.declared.ids.Cell.{Cell}
 use Rattle.sj_base.specs.declared.ids.Line.{Line}
-use Rattle.sj_base.specs.declared.ids.Root.{Root as RootNumber}
+use Rattle.sj_base.specs.declared.ids.Root.{Root}
 use Rattle.sj_base.specs.declared.mode.Access.{Access}
 use Rattle.sj_base.specs.declared.mode.Reduction.{Reduction}
 use Rattle.sj_base.specs.Mode.{is_data, is_redux, access}
@@ -24,7 +24,7 @@ use Rattle.sj_meaning.specs.declared.job.Init.TheVariants.{Values, Fill, Nothing
 use Rattle.sj_meaning.specs.Statement.{Operand, TaskLine}
 use Rattle.sj_meaning.specs.Act.{Act, Statement}
 use Rattle.sj_meaning.specs.Act.{Register as Registers, Plan as Plans, Redux as Reduces, Task as Tasks, Print as Prints, Invalidate as Invalidates, Unregister as Unregisters}
-use Rattle.sj_meaning.specs.State.{Root, State, start, root_of, is_valued}
+use Rattle.sj_meaning.specs.State.{RootState, JobState, start, root_of, is_valued}
 use Rattle.sj_meaning.specs.Meaning.{apply}
 use Rattle.sj_meaning.specs.Sound.{reduction_of, has_child_values}
 use Rattle.sj_meaning.specs.Table.{undivided}
@@ -54,36 +54,36 @@ load_rows (Fill a b) d p cell line = map (λ place. fill_row a b d (child d p pl
 load_rows Nothing d p cell line = []
 
 -- the active plan of a name
-abbrev pub parts_in : State → List ℕ → Parts
+abbrev pub parts_in : JobState → List ℕ → Parts
 parts_in S name = elim (root_of S name) [ None ↦ undivided | Some r ↦ r.parts ]
 
 -- the cell of a child of a name's active plan
-abbrev pub active_cell : State → Cells → List ℕ → ℕ × ℕ → Cell
+abbrev pub active_cell : JobState → Cells → List ℕ → ℕ × ℕ → Cell
 active_cell S C name place = cell_of C name (parts_in S name) place
 
 -- a plan line leaves the plan active that it names, or finds no values
-abbrev pub leaves_plan : Parts → Root → Bool
+abbrev pub leaves_plan : Parts → RootState → Bool
 leaves_plan p r = same_parts r.parts p || not (is_valued r)
 
 -- else the children of the active plan are pasted into those of the new one
-abbrev pub plan_rows : State → Cells → List ℕ → Parts → Line → List Lowered
+abbrev pub plan_rows : JobState → Cells → List ℕ → Parts → Line → List Lowered
 plan_rows S C name p line = elim (root_of S name) [
   | None ↦ []
   | Some r ↦ if leaves_plan p r then [] else map (paste_row (cell_of C name r.parts) (cell_of C name p) line) (pastes_of r.dims r.parts p)
 ]
 
 -- an operand as an access to its child's cell
-abbrev pub access_of : State → Cells → Operand (List ℕ) → Access
+abbrev pub access_of : JobState → Cells → Operand (List ℕ) → Access
 access_of S C o = access o.mode (active_cell S C o.name o.place)
 
-abbrev pub task_row : State → Cells → Line → TaskLine (List ℕ) → Lowered
+abbrev pub task_row : JobState → Cells → Line → TaskLine (List ℕ) → Lowered
 task_row S C line t = record { codelet = t.codelet; args = t.args; accesses = map (access_of S C) t.operands; line = line; priority = t.priority }
 
 -- each child of the active plan is handed over, row by row
-abbrev pub deliver_rows : State → Cells → List ℕ → Line → List Lowered
+abbrev pub deliver_rows : JobState → Cells → List ℕ → Line → List Lowered
 deliver_rows S C name line = map (λ place. deliver_row (active_cell S C name place) line) (places (parts_in S name))
 
-abbrev pub rows_added : State → Cells → Line → Act (List ℕ) → List Lowered
+abbrev pub rows_added : JobState → Cells → Line → Act (List ℕ) → List Lowered
 rows_added S C line (Registers r) = load_rows r.init r.dims r.parts (cell_of C r.name r.parts) line
 rows_added S C line (Plans name p) = plan_rows S C name p line
 rows_added S C line (Reduces name by) = []
@@ -95,17 +95,17 @@ rows_added S C line (Unregisters name) = []
 -- ---- deliveries
 
 -- where a child belongs in its root, which a task hands over for a print statement
-abbrev pub a_delivery : ℕ → RootNumber → Dims → Parts → ℕ → ℕ × ℕ → Delivery
+abbrev pub a_delivery : ℕ → Root → Dims → Parts → ℕ → ℕ × ℕ → Delivery
 a_delivery task root d p print place = record { task = record { 0 = task + number p place }; root = root; place = place_of (child d p place); print = print }
 
 -- the deliveries of a print statement, whose first task has this number
-abbrev pub print_deliveries : State → Cells → List ℕ → ℕ → ℕ → List Delivery
+abbrev pub print_deliveries : JobState → Cells → List ℕ → ℕ → ℕ → List Delivery
 print_deliveries S C name task print = elim (C.handles name) [
   | None ↦ []
   | Some h ↦ map (a_delivery task h.root h.dims (parts_in S name) print) (places (parts_in S name))
 ]
 
-abbrev pub deliveries_of : State → Cells → ℕ → ℕ → Act (List ℕ) → List Delivery
+abbrev pub deliveries_of : JobState → Cells → ℕ → ℕ → Act (List ℕ) → List Delivery
 deliveries_of S C task print (Registers r) = []
 deliveries_of S C task print (Plans name p) = []
 deliveries_of S C task print (Reduces name by) = []
@@ -153,7 +153,7 @@ phase_turned C ls c f L = record {
 }
 
 -- the children of a name's active plan, row by row
-abbrev pub active_cells : State → Cells → List ℕ → List Cell
+abbrev pub active_cells : JobState → Cells → List ℕ → List Cell
 active_cells S C name = map (active_cell S C name) (places (parts_in S name))
 
 -- the operand is an access to its child other than a contribution; a scratch buffer is none
@@ -161,7 +161,7 @@ abbrev pub is_other_access : Operand (List ℕ) → Bool
 is_other_access o = is_data o.mode && not (is_redux o.mode)
 
 -- the cells whose phases a statement closes, in order
-abbrev pub closed_by : State → Cells → Act (List ℕ) → List Cell
+abbrev pub closed_by : JobState → Cells → Act (List ℕ) → List Cell
 closed_by S C (Registers r) = []
 closed_by S C (Plans name p) = if same_parts (parts_in S name) p then [] else active_cells S C name
 closed_by S C (Reduces name by) = []
@@ -202,7 +202,7 @@ opened workers by valued line c L = elim (L.phase c) [
 ]
 
 -- so is an operand's, if it is one
-abbrev pub opened_for : ℕ → State → Line → Lowering → Operand (List ℕ) → Lowering
+abbrev pub opened_for : ℕ → JobState → Line → Lowering → Operand (List ℕ) → Lowering
 opened_for workers S line L o = elim (reduction_of S o.name) [
   | None ↦ L
   | Some by ↦ opened workers by (has_child_values S o) line (active_cell S L.cells o.name o.place) L
@@ -219,14 +219,14 @@ contributions (Invalidates name) = []
 contributions (Unregisters name) = []
 
 -- what there is before a statement's own tasks: the phases that it closes are closed, and that of its contribution is open
-abbrev pub prepared : ℕ → State → Statement (List ℕ) → Lowering → Lowering
+abbrev pub prepared : ℕ → JobState → Statement (List ℕ) → Lowering → Lowering
 prepared workers S s L =
     fold (opened_for workers S s.line) (all_closed workers (closed_by S L.cells s.act) L) (contributions s.act)
 
 -- ---- statements
 
 -- what a statement's own tasks give
-abbrev pub add_own : State → Statement (List ℕ) → Lowering → Lowering
+abbrev pub add_own : JobState → Statement (List ℕ) → Lowering → Lowering
 add_own S s L =
     let C = cells_after s.act L.cells in
     record {
@@ -238,11 +238,11 @@ add_own S s L =
     }
 
 -- what one statement more gives
-abbrev pub lower_one : ℕ → State → Statement (List ℕ) → Lowering → Lowering
+abbrev pub lower_one : ℕ → JobState → Statement (List ℕ) → Lowering → Lowering
 lower_one workers S s L = add_own S s (prepared workers S s L)
 
 -- what statements give after others
-abbrev pub lower_from : ℕ → State → Lowering → List (Statement (List ℕ)) → Lowering
+abbrev pub lower_from : ℕ → JobState → Lowering → List (Statement (List ℕ)) → Lowering
 lower_from workers S L [] = L
 lower_from workers S L (s ∷ ss) = lower_from workers (apply s.act S) (lower_one workers S s L) ss
 

@@ -9,7 +9,7 @@ use Rattle.sj_meaning.specs.declared.job.Act.TheVariants as kept
 use Rattle.sj_meaning.specs.declared.job.Operand.{Operand}
 use Rattle.sj_meaning.specs.declared.job.Statement.{Statement as Kept}
 use Rattle.sj_job.specs.declared.reason.LimitKind.TheVariants.{Cells, Tasks}
-use Rattle.sj_meaning.specs.State.{State}
+use Rattle.sj_meaning.specs.State.{JobState}
 use Rattle.sj_meaning.specs.Meaning.{apply}
 use Rattle.sj_job.specs.Reading.{Refusal}
 use Rattle.sj_meaning.specs.Sound.{IsSoundAct}
@@ -20,7 +20,7 @@ use Rattle.sj_plan.specs.Parts.{IsPlace, places}
 use Rattle.sj_lower.specs.declared.lowerer.Active.{Active}
 use Rattle.sj_lower.specs.declared.lower.LowerRefusal.{LowerRefusal}
 use Rattle.sj_lower.specs.declared.lower.LowerRefusal.TheVariants.{TooManyCells, TooManyTasks, OutOfMemory}
-use Rattle.sj_lower.specs.declared.lower.Progress.{Progress}
+use Rattle.sj_lower.specs.declared.lower.LoweringProgress.{LoweringProgress}
 use Rattle.sj_lower.specs.declared.phase.OpenPhase.{OpenPhase}
 use Rattle.sj_lower.specs.Cells.{same_parts, cells_from, info_at}
 use Rattle.sj_lower.specs.Limits.{most, over, cells_in, tasks_in}
@@ -33,7 +33,7 @@ pub record AreCopied (workers : ℕ) (L : Lowering) : Type 0 where
   pub theirs : (c : Cell) (f : OpenPhase) → L.phase c ≡ Some f → (info_at L.cells c).partials ≡ Some f.copies
 
 -- the code has what the statements so far gave: the cells and the active plans, and the tasks unless there are too many
-pub record StandsAt (T : Table) (g : Progress) (S : State) (L : Lowering) : Type 0 where
+pub record StandsAt (T : Table) (g : LoweringProgress) (S : JobState) (L : Lowering) : Type 0 where
   pub lays : Lays T g.layout L.cells
   pub few_cells : cells_in L ≤ most
   pub actives : AreActive T L.cells g.lowerer.actives.items S
@@ -43,14 +43,14 @@ pub record StandsAt (T : Table) (g : Progress) (S : State) (L : Lowering) : Type
   pub copied : AreCopied g.workers L
 
 -- the code has what some statements gave
-pub record HasAt (g : Progress) : Type 0 where
+pub record HasAt (g : LoweringProgress) : Type 0 where
   pub table : Table
-  pub state : State
+  pub state : JobState
   pub lowering : Lowering
   pub at : StandsAt table g state lowering
 
 -- a statement may come next
-pub record IsComing (T : Table) (g : Progress) (s : Kept) (S : State) (L : Lowering) : Type 0 where
+pub record IsComing (T : Table) (g : LoweringProgress) (s : Kept) (S : JobState) (L : Lowering) : Type 0 where
   pub has : Kernel → Bool
   pub at : StandsAt T g S L
   pub sound : IsSoundAct has S (act_seen T L.cells.roots s.act)
@@ -60,8 +60,8 @@ pub record IsComing (T : Table) (g : Progress) (s : Kept) (S : State) (L : Lower
   pub few : count_after L.cells.roots s.act ≤ length T.names
   pub table : length T.names ≤ 4096
 
-pub record HasComing (T : Table) (g : Progress) (s : Kept) : Type 0 where
-  pub state : State
+pub record HasComing (T : Table) (g : LoweringProgress) (s : Kept) : Type 0 where
+  pub state : JobState
   pub lowering : Lowering
   pub coming : IsComing T g s state lowering
 
@@ -71,15 +71,15 @@ over_after None line L = if nat_lt most (tasks_in L) then Some line else None
 over_after (Some first) line L = Some first
 
 -- what a statement leaves
-pub record Goes (T : Table) (old new : Progress) (s : Kept) : Type 0 where
-  pub at : (S : State) (L : Lowering) → IsComing T old s S L → StandsAt T new (apply (act_seen T L.cells.roots s.act) S) (lower_one old.workers S (statement_seen T L.cells.roots s) L)
-  pub over : (S : State) (L : Lowering) → IsComing T old s S L → new.over ≡ over_after old.over s.line (lower_one old.workers S (statement_seen T L.cells.roots s) L)
+pub record Goes (T : Table) (old new : LoweringProgress) (s : Kept) : Type 0 where
+  pub at : (S : JobState) (L : Lowering) → IsComing T old s S L → StandsAt T new (apply (act_seen T L.cells.roots s.act) S) (lower_one old.workers S (statement_seen T L.cells.roots s) L)
+  pub over : (S : JobState) (L : Lowering) → IsComing T old s S L → new.over ≡ over_after old.over s.line (lower_one old.workers S (statement_seen T L.cells.roots s) L)
 
 -- there are too many cells with the statement, or memory ran out
-abbrev pub IsFull : Table → Progress → Kept → LowerRefusal → Type 0
+abbrev pub IsFull : Table → LoweringProgress → Kept → LowerRefusal → Type 0
 IsFull T old s OutOfMemory = Unit {0}
 IsFull T old s (TooManyTasks line) = ⊥
-IsFull T old s (TooManyCells line) = (line ≡ s.line) × ((S : State) (L : Lowering) → IsComing T old s S L → most < cells_in (lower_one old.workers S (statement_seen T L.cells.roots s) L))
+IsFull T old s (TooManyCells line) = (line ≡ s.line) × ((S : JobState) (L : Lowering) → IsComing T old s S L → most < cells_in (lower_one old.workers S (statement_seen T L.cells.roots s) L))
 
 -- there are too many tasks, first with that line
 abbrev pub IsOverLimit : LowerRefusal → Option Line → Type 0
@@ -94,22 +94,22 @@ IsLate (TooManyCells line) limit = limit ≡ Some (over Cells line)
 IsLate (TooManyTasks line) limit = limit ≡ Some (over Tasks line)
 
 -- what a statement's own tasks leave
-pub record GoesOwn (T : Table) (old new : Progress) (s : Kept) : Type 0 where
-  pub at : (S : State) (L : Lowering) → IsComing T old s S L → StandsAt T new (apply (act_seen T L.cells.roots s.act) S) (add_own S (statement_seen T L.cells.roots s) L)
-  pub over : (S : State) (L : Lowering) → IsComing T old s S L → new.over ≡ over_after old.over s.line (add_own S (statement_seen T L.cells.roots s) L)
+pub record GoesOwn (T : Table) (old new : LoweringProgress) (s : Kept) : Type 0 where
+  pub at : (S : JobState) (L : Lowering) → IsComing T old s S L → StandsAt T new (apply (act_seen T L.cells.roots s.act) S) (add_own S (statement_seen T L.cells.roots s) L)
+  pub over : (S : JobState) (L : Lowering) → IsComing T old s S L → new.over ≡ over_after old.over s.line (add_own S (statement_seen T L.cells.roots s) L)
 
 -- there are too many cells with the plan that a statement makes active, or memory ran out
-abbrev pub IsFullOwn : Table → Progress → Kept → LowerRefusal → Type 0
+abbrev pub IsFullOwn : Table → LoweringProgress → Kept → LowerRefusal → Type 0
 IsFullOwn T old s OutOfMemory = Unit {0}
 IsFullOwn T old s (TooManyTasks line) = ⊥
-IsFullOwn T old s (TooManyCells line) = (line ≡ s.line) × ((S : State) (L : Lowering) → IsComing T old s S L → most < cells_in (add_own S (statement_seen T L.cells.roots s) L))
+IsFullOwn T old s (TooManyCells line) = (line ≡ s.line) × ((S : JobState) (L : Lowering) → IsComing T old s S L → most < cells_in (add_own S (statement_seen T L.cells.roots s) L))
 
 -- ---- before a statement's own tasks
 
 -- the code does what this change does to what is lowered so far, at this line; the active plans are as they were
-pub record Prepares (old new : Progress) (line : Line) (change : Lowering → Lowering) : Type 0 where
-  pub at : (T : Table) (S : State) (L : Lowering) → StandsAt T old S L → StandsAt T new S (change L)
-  pub over : (T : Table) (S : State) (L : Lowering) → StandsAt T old S L → new.over ≡ over_after old.over line (change L)
+pub record Prepares (old new : LoweringProgress) (line : Line) (change : Lowering → Lowering) : Type 0 where
+  pub at : (T : Table) (S : JobState) (L : Lowering) → StandsAt T old S L → StandsAt T new S (change L)
+  pub over : (T : Table) (S : JobState) (L : Lowering) → StandsAt T old S L → new.over ≡ over_after old.over line (change L)
   pub actives : new.lowerer.actives ≡ old.lowerer.actives
   pub workers : new.workers ≡ old.workers
   pub last : new.last ≡ old.last
@@ -117,23 +117,23 @@ pub record Prepares (old new : Progress) (line : Line) (change : Lowering → Lo
   pub cells : vec_len old.layout.infos ≤ vec_len new.layout.infos
 
 -- the change would make too many cells, or memory ran out
-abbrev pub IsFullBy : Progress → Line → (Lowering → Lowering) → LowerRefusal → Type 0
+abbrev pub IsFullBy : LoweringProgress → Line → (Lowering → Lowering) → LowerRefusal → Type 0
 IsFullBy old line change OutOfMemory = Unit {0}
 IsFullBy old line change (TooManyTasks at) = ⊥
-IsFullBy old line change (TooManyCells at) = (at ≡ line) × ((T : Table) (S : State) (L : Lowering) → StandsAt T old S L → most < cells_in (change L))
+IsFullBy old line change (TooManyCells at) = (at ≡ line) × ((T : Table) (S : JobState) (L : Lowering) → StandsAt T old S L → most < cells_in (change L))
 
 -- the root of this number has an active plan, whose cells are there
-pub record HasActive (g : Progress) (n : ℕ) : Type 0 where
+pub record HasActive (g : LoweringProgress) (n : ℕ) : Type 0 where
   pub root : n < vec_len g.lowerer.actives
   pub cells : (active_at g.lowerer.actives.items n).first + children_count (active_at g.lowerer.actives.items n).tracked.parts ≤ vec_len g.layout.infos
 
 -- an operand is a child of its root's active plan, whose cells are there
-pub record IsActiveOperand (g : Progress) (o : Operand) : Type 0 where
+pub record IsActiveOperand (g : LoweringProgress) (o : Operand) : Type 0 where
   pub active : HasActive g o.root.0
   pub place : IsPlace (active_at g.lowerer.actives.items o.root.0).tracked.parts o.place
 
 -- the roots of an act have such plans
-abbrev pub NamesActives : Progress → Act → Type 0
+abbrev pub NamesActives : LoweringProgress → Act → Type 0
 NamesActives g (kept.Register init) = Unit {0}
 NamesActives g (kept.Plan r p) = HasActive g r.0
 NamesActives g (kept.Redux r by) = HasActive g r.0
@@ -193,6 +193,6 @@ abbrev pub preparing_by : ℕ → List Active → Line → Act → Lowering → 
 preparing_by workers actives line a L = opening_all workers actives line (contributed_by a) (all_closed workers (closing_by actives a) L)
 
 -- the cell's partial copies are there, from this one on
-pub record HasCopies (g : Progress) (c first : Cell) : Type 0 where
+pub record HasCopies (g : LoweringProgress) (c first : Cell) : Type 0 where
   pub there : first.0 + g.workers ≤ most
-  pub theirs : (T : Table) (S : State) (L : Lowering) → StandsAt T g S L → (info_at L.cells c).partials ≡ Some first
+  pub theirs : (T : Table) (S : JobState) (L : Lowering) → StandsAt T g S L → (info_at L.cells c).partials ≡ Some first

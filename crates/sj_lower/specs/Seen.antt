@@ -17,11 +17,11 @@ use Rattle.sj_meaning.specs.declared.job.Act.TheVariants as kept
 use Rattle.sj_meaning.specs.declared.job.Operand.{Operand}
 use Rattle.sj_meaning.specs.Act.{Act}
 use Rattle.sj_meaning.specs.Act.{Register as Registers, Plan as Plans, Redux as Reduces, Task as Tasks, Print as Prints, Invalidate as Invalidates, Unregister as Unregisters}
-use Rattle.sj_meaning.specs.State.{Root, State, root_of}
+use Rattle.sj_meaning.specs.State.{RootState, JobState, root_of}
 use Rattle.sj_meaning.specs.Meaning.{apply}
 use Rattle.sj_meaning.specs.Sound.{IsSoundAct}
 use Rattle.sj_meaning.specs.Table.{Table, AreDistinct, a_root, name_of, info_of, undivided}
-use Rattle.sj_job.specs.Track.{Tracks, all_valued, children_count, written}
+use Rattle.sj_job.specs.Track.{Tracks, all_valued, children_count, with_child_valued}
 use Rattle.sj_meaning.specs.View.{act_seen, count_after, IsPlaced}
 use Rattle.sj_lower.specs.declared.layout.Taken.{Taken}
 use Rattle.sj_lower.specs.declared.layout.Layout.{Layout}
@@ -34,15 +34,15 @@ use Rattle.sj_lower.specs.Lowering.{Lowering, cells_after, add_own}
 
 -- ---- cells
 
-abbrev pub taken : ℕ → Parts → Taken
-taken n p = record { root = n; r = p.r; c = p.c }
+abbrev pub plan_taken : ℕ → Parts → Taken
+plan_taken n p = record { root = n; r = p.r; c = p.c }
 
 abbrev pub same_taken : Taken → Taken → Bool
 same_taken x y = nat_eq x.root y.root && (nat_eq x.r y.r && nat_eq x.c y.c)
 
 -- the handle of the root of a number
 abbrev pub handle_in : Table → Layout → ℕ → Handle
-handle_in T l n = record { root = a_root n; dims = (info_of T (a_root n)).dims; first = λ p. get same_taken l.firsts (taken n p) }
+handle_in T l n = record { root = a_root n; dims = (info_of T (a_root n)).dims; first = λ p. get same_taken l.firsts (plan_taken n p) }
 
 -- the cells so far are these, and the roots' handles say which plans they have taken
 pub record Lays (T : Table) (l : Layout) (C : Cells) : Type 0 where
@@ -50,9 +50,9 @@ pub record Lays (T : Table) (l : Layout) (C : Cells) : Type 0 where
   pub roots : l.roots ≡ C.roots
   pub handles : (n : ℕ) → n < C.roots → C.handles (name_of T (a_root n)) ≡ Some (handle_in T l n)
   -- the cells of each plan that a root has taken are there
-  pub room : (n : ℕ) (p : Parts) (f : ℕ) → get same_taken l.firsts (taken n p) ≡ Some f → f + children_count p ≤ length C.rows
+  pub room : (n : ℕ) (p : Parts) (f : ℕ) → get same_taken l.firsts (plan_taken n p) ≡ Some f → f + children_count p ≤ length C.rows
   -- no root to come has taken a plan
-  pub fresh : (n : ℕ) (p : Parts) → C.roots ≤ n → get same_taken l.firsts (taken n p) ≡ None
+  pub fresh : (n : ℕ) (p : Parts) → C.roots ≤ n → get same_taken l.firsts (plan_taken n p) ≡ None
 
 -- the plan that an act makes active cuts its root
 abbrev pub IsCut : Table → ℕ → Kept → Type 0
@@ -94,7 +94,7 @@ abbrev pub active_at : List Active → ℕ → Active
 active_at actives n = slice_index_or actives n no_active
 
 -- the active plan of a root: which children have a value, the first cell, as in the handle of its name, and the reduction
-pub record IsActive (T : Table) (C : Cells) (n : ℕ) (a : Active) (r : Root) : Type 0 where
+pub record IsActive (T : Table) (C : Cells) (n : ℕ) (a : Active) (r : RootState) : Type 0 where
   pub dims : r.dims ≡ (info_of T (a_root n)).dims
   pub tracks : Tracks a.tracked r
   pub reduction : a.reduction ≡ r.reduction
@@ -104,12 +104,12 @@ pub record IsActive (T : Table) (C : Cells) (n : ℕ) (a : Active) (r : Root) : 
   pub room : a.first + children_count r.parts ≤ most
 
 -- there is one for each root
-pub record AreActive (T : Table) (C : Cells) (actives : List Active) (S : State) : Type 0 where
+pub record AreActive (T : Table) (C : Cells) (actives : List Active) (S : JobState) : Type 0 where
   pub counted : length actives ≡ C.roots
-  pub each : (n : ℕ) (r : Root) → n < C.roots → root_of S (name_of T (a_root n)) ≡ Some r → IsActive T C n (active_at actives n) r
+  pub each : (n : ℕ) (r : RootState) → n < C.roots → root_of S (name_of T (a_root n)) ≡ Some r → IsActive T C n (active_at actives n) r
 
 -- the code has the tasks, the deliveries and the open phases of the definition, and the active plans of the state
-pub record Follows (T : Table) (l : Lowerer) (S : State) (L : Lowering) : Type 0 where
+pub record Follows (T : Table) (l : Lowerer) (S : JobState) (L : Lowering) : Type 0 where
   pub tasks : l.tasks.items ≡ L.tasks
   pub deliveries : l.deliveries.items ≡ L.deliveries
   pub prints : l.prints ≡ L.prints
@@ -117,7 +117,7 @@ pub record Follows (T : Table) (l : Lowerer) (S : State) (L : Lowering) : Type 0
   pub actives : AreActive T L.cells l.actives.items S
 
 -- an act may come next
-pub record IsNext (T : Table) (l : Lowerer) (a : Kept) (S : State) (L : Lowering) : Type 0 where
+pub record MayComeNext (T : Table) (l : Lowerer) (a : Kept) (S : JobState) (L : Lowering) : Type 0 where
   pub has : Kernel → Bool
   pub follows : Follows T l S L
   pub sound : IsSoundAct has S (act_seen T L.cells.roots a)
@@ -128,12 +128,12 @@ pub record IsNext (T : Table) (l : Lowerer) (a : Kept) (S : State) (L : Lowering
   pub table : length T.names ≤ 4096
 
 pub record HasNext (T : Table) (l : Lowerer) (a : Kept) : Type 0 where
-  pub state : State
+  pub state : JobState
   pub lowering : Lowering
-  pub next : IsNext T l a state lowering
+  pub next : MayComeNext T l a state lowering
 
 -- an act may come next by the active plans alone
-pub record CanPass (T : Table) (l : Lowerer) (a : Kept) (S : State) (L : Lowering) : Type 0 where
+pub record CanPass (T : Table) (l : Lowerer) (a : Kept) (S : JobState) (L : Lowering) : Type 0 where
   pub has : Kernel → Bool
   pub actives : AreActive T L.cells l.actives.items S
   pub sound : IsSoundAct has S (act_seen T L.cells.roots a)
@@ -143,20 +143,20 @@ pub record CanPass (T : Table) (l : Lowerer) (a : Kept) (S : State) (L : Lowerin
   pub table : length T.names ≤ 4096
 
 pub record HasPass (T : Table) (l : Lowerer) (a : Kept) : Type 0 where
-  pub state : State
+  pub state : JobState
   pub lowering : Lowering
   pub pass : CanPass T l a state lowering
 
 -- the active plans are those after a statement, if the plan that it makes active has this first cell
 abbrev pub Passes : Table → Lowerer → Lowerer → Kept → ℕ → Type 0
 Passes T old new a first =
-    (S : State) (L : Lowering) → CanPass T old a S L → let act = act_seen T L.cells.roots a in first_after act (cells_after act L.cells) ≡ first
+    (S : JobState) (L : Lowering) → CanPass T old a S L → let act = act_seen T L.cells.roots a in first_after act (cells_after act L.cells) ≡ first
     → AreActive T (cells_after act L.cells) new.actives.items (apply act S)
 
 -- the code does with a statement's own tasks what the definition does, if the plan that it makes active has this first cell
 abbrev pub Does : Table → Lowerer → Lowerer → Kept → ℕ → Line → Type 0
 Does T old new a first line =
-    (S : State) (L : Lowering) → IsNext T old a S L → let act = act_seen T L.cells.roots a in first_after act (cells_after act L.cells) ≡ first
+    (S : JobState) (L : Lowering) → MayComeNext T old a S L → let act = act_seen T L.cells.roots a in first_after act (cells_after act L.cells) ≡ first
     → Follows T new (apply act S) (add_own S (record { line = line; act = act }) L)
 
 -- the cells of the plan that an act makes active are within the limit, from this one on
@@ -179,7 +179,7 @@ access_by actives o =
 abbrev pub actives_after_write : List Active → Operand → List Active
 actives_after_write actives o =
     let a = active_at actives o.root.0 in
-    if is_written o.mode then slice_set actives o.root.0 (record { tracked = written a.tracked o.place; first = a.first; reduction = a.reduction }) else actives
+    if is_written o.mode then slice_set actives o.root.0 (record { tracked = with_child_valued a.tracked o.place; first = a.first; reduction = a.reduction }) else actives
 
 abbrev pub actives_after_writes : List Operand → List Active → List Active
 actives_after_writes os actives = fold actives_after_write actives os

@@ -24,7 +24,7 @@ use sj_plan::rect::Rect;
 use std::alloc::Global;
 
 /// The most cells that a job may have, and the most tasks.
-pub const MOST: usize = 262_144;
+pub const MOST_PER_JOB: usize = 262_144;
 
 /// A plan that a root has taken: the root's number, and how many parts of rows and of columns.
 #[derive(Clone, Copy, PartialEq, Eq, Hash)]
@@ -88,7 +88,7 @@ impl Layout {
             return Ok(Some(*first));
         }
         let first = self.infos.len();
-        if first + parts.r as usize * parts.c as usize > MOST {
+        if first + parts.r as usize * parts.c as usize > MOST_PER_JOB {
             return Ok(None);
         }
         let rects = children(alloc, dims, parts)?;
@@ -158,7 +158,7 @@ impl Layout {
             return Ok(Some(first));
         }
         let first = self.infos.len();
-        if first + workers as usize > MOST {
+        if first + workers as usize > MOST_PER_JOB {
             return Ok(None);
         }
         push_copies(&mut self.infos, info, workers)?;

@@ -4,7 +4,7 @@ ghost use Rattle.std.specs.Prelude.{◌≡◌, ◌+◌, ◌<◌, ◌≤◌, Bool
 ghost use Rattle.sj_codelet.specs.declared.kernel.Kernel.{Kernel};
 ghost use Rattle.sj_core.specs.Laws.{IsLawful, is_known};
 ghost use Rattle.sj_core.specs.Proper.{Proper};
-ghost use Rattle.sj_meaning.specs.State.{State, start};
+ghost use Rattle.sj_meaning.specs.State.{JobState, start};
 ghost use Rattle.sj_meaning.specs.Table.{Table};
 ghost use Rattle.sj_meaning.specs.View.{statements_of, IsNumbered};
 ghost use Rattle.sj_lower.specs.Delivering.{DeliversPrinted, NamesDeliverTasks, DeliversInOrder};
@@ -13,7 +13,7 @@ ghost use Rattle.sj_lower.specs.Limits.{most, late_limit};
 ghost use Rattle.sj_lower.specs.Lowering.{Lowering, lowered, nothing, lowered_program};
 ghost use Rattle.sj_lower.specs.Progress.{StandsAt, HasComing, Goes, IsFull, GoesOwn, IsFullOwn, IsOverLimit, IsLate};
 
-use crate::layout::{Layout, MOST};
+use crate::layout::{Layout, MOST_PER_JOB};
 use crate::lowerer::Lowerer;
 use sj_base::ids::Line;
 use sj_base::memory;
@@ -54,7 +54,7 @@ pub struct LoweredJob {
 /// How far a job is lowered, for so many workers, and the line of the last statement. Once there are too many tasks, at a line,
 /// none is made any more, and only cells are counted.
 #[derive(Drop)]
-pub struct Progress {
+pub struct LoweringProgress {
     pub workers: u8,
     pub layout: Layout,
     pub lowerer: Lowerer,
@@ -62,15 +62,15 @@ pub struct Progress {
     pub last: Option<Line>,
 }
 
-impl Progress {
+impl LoweringProgress {
     /// Before the first statement.
-    fn nothing(alloc: Global, workers: u8) -> Progress
+    fn nothing(alloc: Global, workers: u8) -> LoweringProgress
         ensures at { (T : Table) → StandsAt T result start nothing }
         ensures over { result.over ≡ None }
         ensures last { result.last ≡ None }
         ensures workers { result.workers ≡ workers }
     {
-        Progress {
+        LoweringProgress {
             workers,
             layout: Layout::none(alloc),
             lowerer: Lowerer::nothing(alloc),
@@ -133,17 +133,17 @@ impl Progress {
         requires few { vec_len self.now.lowerer.tasks ≤ most }
         ensures { result ≡ nat_le (vec_len self.now.lowerer.tasks + count) most }
     {
-        count <= (MOST - self.lowerer.tasks.len()) as u64
+        count <= (MOST_PER_JOB - self.lowerer.tasks.len()) as u64
     }
 
     /// The program of the statements so far, or the line with which there were too many tasks. Constant time.
     fn finish(self) -> Result<Program, LowerRefusal>
         ensures ok { IfOk result (λ p. (self.over ≡ None)
-            × ((T : Table) (S : State) (L : Lowering) → StandsAt T self S L → p
+            × ((T : Table) (S : JobState) (L : Lowering) → StandsAt T self S L → p
             ≡ lowered_program self.workers L)) }
         ensures err { IfErr result (λ e. IsOverLimit e self.over) }
     {
-        let Progress {
+        let LoweringProgress {
             workers,
             layout,
             lowerer,
@@ -194,7 +194,7 @@ pub fn lower(alloc: Global, job: Job, workers: u8) -> Result<LoweredJob, LowerRe
         statements,
     } = job;
     drop(settings);
-    let mut progress = Progress::nothing(alloc, workers);
+    let mut progress = LoweringProgress::nothing(alloc, workers);
     for statement in statements.into_items() {
         progress.add(alloc, &roots, statement)?;
     }

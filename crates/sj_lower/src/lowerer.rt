@@ -2,7 +2,7 @@
 
 ghost use Rattle.std.specs.Prelude.{◌≡◌, ◌+◌, ◌<◌, ◌≤◌, ◌++◌, ◌||◌, not, ℕ, All, IsTrue, length, map, vec_len, IfOk, OnOk};
 ghost use Rattle.sj_base.specs.declared.ids.Line.{Line};
-ghost use Rattle.sj_meaning.specs.State.{State, start};
+ghost use Rattle.sj_meaning.specs.State.{JobState, start};
 ghost use Rattle.sj_meaning.specs.Table.{Table};
 ghost use Rattle.sj_meaning.specs.View.{act_seen};
 ghost use Rattle.sj_meaning.specs.declared.job.Act.TheVariants as kept;
@@ -10,12 +10,12 @@ ghost use Rattle.sj_job.specs.Names.{gives_values};
 ghost use Rattle.sj_meaning.specs.Sound.{InitFits};
 ghost use Rattle.sj_base.specs.declared.ids.Cell.{Cell};
 ghost use Rattle.sj_base.specs.declared.tile.Dims.{Dims};
-ghost use Rattle.sj_job.specs.Track.{IsPlan, all_valued, none_valued, even, children_count};
+ghost use Rattle.sj_job.specs.Track.{IsSmallPlan, all_valued, none_valued, even, children_count};
 ghost use Rattle.sj_plan.specs.Parts.{Fits};
 ghost use Rattle.sj_lower.specs.Cells.{Cells, cells_from, same_parts};
 ghost use Rattle.sj_lower.specs.Limits.{most};
 ghost use Rattle.sj_lower.specs.Lowering.{Lowering, nothing, load_rows, rows_added};
-ghost use Rattle.sj_lower.specs.Seen.{Follows, HasNext, IsNext, HasPass, Passes, Does, HasRoomFor, AreIn, access_by, actives_after_writes, pasted_by};
+ghost use Rattle.sj_lower.specs.Seen.{Follows, HasNext, MayComeNext, HasPass, Passes, Does, HasRoomFor, AreIn, access_by, actives_after_writes, pasted_by};
 
 use crate::phase::OpenPhase;
 use crate::rows::{Placed, push_deliveries, push_delivers, push_fills, push_loads, push_pastes};
@@ -75,7 +75,7 @@ impl Active {
 
     /// Another plan is active from now on. Constant time.
     fn plan(&mut self, placed: Placed)
-        requires plan { IsPlan placed.parts }
+        requires plan { IsSmallPlan placed.parts }
         requires even { IsTrue (all_valued self.old.tracked || none_valued self.old.tracked) }
         ensures tracked { self.new.tracked ≡ even placed.parts (all_valued self.old.tracked) }
         ensures first { self.new.first ≡ placed.first }
@@ -181,8 +181,8 @@ impl Lowerer {
     /// How many tasks a statement gives. Constant time, but for a plan line linear in its parts of rows and of columns.
     pub fn count(&self, roots: &Roots, act: &Act) -> u64
         requires { HasNext roots.now self.now act.now }
-        ensures { (S : State) (L : Lowering) (C : Cells) (line : Line)
-            → IsNext roots.now self.now act.now S L
+        ensures { (S : JobState) (L : Lowering) (C : Cells) (line : Line)
+            → MayComeNext roots.now self.now act.now S L
             → result ≡ length (rows_added S C line
             (act_seen roots.now (vec_len self.now.actives) act.now)) }
     {
@@ -205,8 +205,8 @@ impl Lowerer {
     /// How many pastes a plan line gives.
     fn count_plan(&self, roots: &Roots, root: Root, parts: Parts) -> u64
         requires { HasNext roots.now self.now (kept.Plan root parts) }
-        ensures { (S : State) (L : Lowering) (C : Cells) (line : Line)
-            → IsNext roots.now self.now (kept.Plan root parts) S L
+        ensures { (S : JobState) (L : Lowering) (C : Cells) (line : Line)
+            → MayComeNext roots.now self.now (kept.Plan root parts) S L
             → result ≡ length (rows_added S C line
             (act_seen roots.now (vec_len self.now.actives) (kept.Plan root parts))) }
     {
@@ -307,8 +307,8 @@ impl Lowerer {
         line: Line,
     ) -> Result<(), OutOfMemory>
         requires next { HasNext roots.now self.old (kept.Print root) }
-        requires few { (S : State) (L : Lowering) (C : Cells)
-            → IsNext roots.now self.old (kept.Print root) S L
+        requires few { (S : JobState) (L : Lowering) (C : Cells)
+            → MayComeNext roots.now self.old (kept.Print root) S L
             → vec_len self.old.tasks + length (rows_added S C line
             (act_seen roots.now (vec_len self.old.actives) (kept.Print root))) ≤ most }
         requires prints { self.old.prints ≤ vec_len self.old.tasks }
@@ -404,7 +404,8 @@ impl Lowerer {
     ) -> Result<(), OutOfMemory>
         requires next { HasNext roots.now self.old act }
         requires room { HasRoomFor roots.now (vec_len self.old.actives) act first }
-        requires few { (S : State) (L : Lowering) (C : Cells) → IsNext roots.now self.old act S L
+        requires few { (S : JobState) (L : Lowering) (C : Cells)
+            → MayComeNext roots.now self.old act S L
             → vec_len self.old.tasks + length (rows_added S C line
             (act_seen roots.now (vec_len self.old.actives) act)) ≤ most }
         requires prints { self.old.prints ≤ vec_len self.old.tasks }

@@ -9,7 +9,7 @@ ghost use Rattle.sj_lower.specs.Lowering.{closed, all_closed, begin_rows, opened
 ghost use Rattle.sj_lower.specs.Progress.{HasAt, Prepares, IsFullBy, HasActive, IsActiveOperand, NamesActives, HasCopies, is_other, is_contributed, cells_by, cell_by, closing_by, opening_for, opening_all, preparing_by};
 ghost use Rattle.sj_lower.specs.Seen.{active_at};
 
-use crate::lower::{LowerRefusal, Progress};
+use crate::lower::{LowerRefusal, LoweringProgress};
 use crate::phase::{OpenPhase, push_begin, push_close};
 use sj_base::ids::{Cell, Line, Root};
 use sj_base::memory::OutOfMemory;
@@ -45,7 +45,7 @@ fn begin_count(workers: u8, valued: bool) -> u64
     workers as u64 + 1
 }
 
-impl Progress {
+impl LoweringProgress {
     /// Closes the phase of a cell, if one is open. Linear in the workers.
     fn close(&mut self, alloc: Global, cell: Cell, line: Line) -> Result<(), OutOfMemory>
         requires at { HasAt self.old }

@@ -5,7 +5,7 @@ ghost use Rattle.sj_base.specs.Array.{area};
 ghost use Rattle.sj_base.specs.Mode.{access};
 ghost use Rattle.sj_base.specs.declared.tile.Dims.{Dims};
 ghost use Rattle.sj_meaning.specs.declared.job.Init.TheVariants.{Values, Fill};
-ghost use Rattle.sj_job.specs.Track.{children_count, IsPlan};
+ghost use Rattle.sj_job.specs.Track.{children_count, IsSmallPlan};
 ghost use Rattle.sj_plan.specs.Parts.{Fits, IsPlace, places};
 ghost use Rattle.sj_plan.specs.Paste.{pastes_of};
 ghost use Rattle.sj_plan.specs.Rect.{Within};
@@ -286,7 +286,7 @@ pub fn push_delivers(
     placed: Placed,
     line: Line,
 ) -> Result<(), OutOfMemory>
-    requires plan { IsPlan placed.parts }
+    requires plan { IsSmallPlan placed.parts }
     requires cells { placed.first + children_count placed.parts ≤ 262144 }
     ensures { OnOk result (tasks.new.items ≡ tasks.old.items
         ++ map (λ place. deliver_row (cells_from placed.first placed.parts place) line)

@@ -20,7 +20,7 @@ use Rattle.sj_machine.specs.Mark.{mark_of}
 use Rattle.sj_machine.specs.declared.mark.Mark.TheVariants.{Valid as ValidMark}
 use Rattle.sj_machine.specs.Agrees.{Agrees, IsWide, Rows, rows_of, transfer_in, with_transfer_of}
 use Rattle.sj_machine.specs.Copies.{Copies, mark_at, row_of, stored, tile_at, with_copy, with_row}
-use Rattle.sj_machine.specs.Sound.{HoldsArray, HoldsBlocks, IsCopyOf, IsStored, IsWrittenOut, Keeps}
+use Rattle.sj_machine.specs.Sound.{HoldsArray, HoldsBlocks, IsBlockCopyOf, IsStored, IsWrittenOut, Keeps}
 use Rattle.sj_machine.specs.Standing.{AllTell, CanHappen, IsTileMoved, IsTileOf, Standing, state, with_event}
 use Rattle.sj_machine.proofs.Keeping.{HoldsArray-moved, HoldsBlocks-kept, IsSomeAnd-map, IsStored-kept, array-same, has-room, keeps-event, keeps-told}
 use Rattle.sj_machine.proofs.Marking.{HasMarks-copy, HasTiles-copy, mark-inside, on_disk}
@@ -107,7 +107,7 @@ module _ {D : Type 0} (size faults mismatches : D → ℕ) (held : D → Option 
         spare' left
 
   -- a move out to a disk
-  module _ (d : DiskNo) (under_way : transfer s w ≡ Some (a_transfer c from (OnDisk d))) (written : IsSomeAnd (extent_of b.disks.directory c.0) (IsCopyOf held b c from)) where
+  module _ (d : DiskNo) (under_way : transfer s w ≡ Some (a_transfer c from (OnDisk d))) (written : IsSomeAnd (extent_of b.disks.directory c.0) (IsBlockCopyOf held b c from)) where
     abbrev out : Array
     out = array_at p s from c
 
@@ -177,12 +177,12 @@ module _ {D : Type 0} (size faults mismatches : D → ℕ) (held : D → Option 
       placed = keeps.sound.blocks.placed;
       stored = λ x k valid. elim (replica-cases s c (OnDisk d) (Valid out) x (OnDisk k)) [
         | inl same ↦ IsSomeAnd-map (IsStored s x) (IsStored s1 x) (λ e is. IsStored-kept s s1 x e (count x) is) (extent_of b.disks.directory x.0) (keeps.sound.blocks.stored x k (ap is_valid (sym same) ∙ valid))
-        | inr (e, at, is) ↦ subst (λ (y : Cell). IsSomeAnd (extent_of b.disks.directory y.0) (IsStored s1 y)) (sym e) (IsSomeAnd-map (IsCopyOf held b c from) (IsStored s1 c) (λ f copy. IsStored-kept s s1 c f (count c) copy.last) (extent_of b.disks.directory c.0) written)
+        | inr (e, at, is) ↦ subst (λ (y : Cell). IsSomeAnd (extent_of b.disks.directory y.0) (IsStored s1 y)) (sym e) (IsSomeAnd-map (IsBlockCopyOf held b c from) (IsStored s1 c) (λ f copy. IsStored-kept s s1 c f (count c) copy.last) (extent_of b.disks.directory c.0) written)
       ];
       blocks = λ tells x k valid. elim (replica-cases s c (OnDisk d) (Valid out) x (OnDisk k)) [
         | inl same ↦ IsSomeAnd-map (HoldsArray held b.disks.disks p s x (OnDisk k)) (HoldsArray held b.disks.disks p s1 x (OnDisk k)) (λ e is. HoldsArray-moved held b.disks.disks p s s1 x (OnDisk k) (OnDisk k) e (array-same p s s1 x (OnDisk k) same) (count x) is) (extent_of b.disks.directory x.0) (keeps.sound.blocks.blocks tells x k (ap is_valid (sym same) ∙ valid))
         | inr (e, at, is) ↦ subst (λ (y : Cell). IsSomeAnd (extent_of b.disks.directory y.0) (HoldsArray held b.disks.disks p s1 y (OnDisk k))) (sym e)
-            (IsSomeAnd-map (IsCopyOf held b c from) (HoldsArray held b.disks.disks p s1 c (OnDisk k)) (λ f copy. HoldsArray-moved held b.disks.disks p s s1 c from (OnDisk k) f (here_now k (ap (λ (y : Cell). replica s1 y (OnDisk k)) (sym e) ∙ is)) (count c) (copy.array tells)) (extent_of b.disks.directory c.0) written)
+            (IsSomeAnd-map (IsBlockCopyOf held b c from) (HoldsArray held b.disks.disks p s1 c (OnDisk k)) (λ f copy. HoldsArray-moved held b.disks.disks p s s1 c from (OnDisk k) f (here_now k (ap (λ (y : Cell). replica s1 y (OnDisk k)) (sym e) ∙ is)) (count c) (copy.array tells)) (extent_of b.disks.directory c.0) written)
       ];
     }
       where
@@ -216,8 +216,8 @@ module _ {D : Type 0} (size faults mismatches : D → ℕ) (held : D → Option 
         (keeps-moved_in size faults mismatches held b rows spare keeps w x.cell x.from n (at-place size faults mismatches held b rows spare keeps w b' same ws read x found (AtNode n) at) tile tile-is trace'.spare left)
 
   module _ (d : DiskNo) (at : x.to ≡ OnDisk d) (given : IsWrittenOut held b' w) where
-    is-written : IsSomeAnd (extent_of b.disks.directory x.cell.0) (IsCopyOf held b x.cell x.from)
-    is-written = IfSome-at (λ (y : Transfer). IsSomeAnd (extent_of b.disks.directory y.cell.0) (IsCopyOf held b y.cell y.from)) (transfer (state b) w) (a_transfer x.cell x.from (OnDisk d)) (at-place size faults mismatches held b rows spare keeps w b' same ws read x found (OnDisk d) at) (subst (λ (z : Standing D). IsWrittenOut held z w) (sym same) given)
+    is-written : IsSomeAnd (extent_of b.disks.directory x.cell.0) (IsBlockCopyOf held b x.cell x.from)
+    is-written = IfSome-at (λ (y : Transfer). IsSomeAnd (extent_of b.disks.directory y.cell.0) (IsBlockCopyOf held b y.cell y.from)) (transfer (state b) w) (a_transfer x.cell x.from (OnDisk d)) (at-place size faults mismatches held b rows spare keeps w b' same ws read x found (OnDisk d) at) (subst (λ (z : Standing D). IsWrittenOut held z w) (sym same) given)
 
     pub found-out_cell : x.cell.0 < length rows.cells
     found-out_cell = out-cell size faults mismatches held b rows spare keeps w x.cell x.from d (at-place size faults mismatches held b rows spare keeps w b' same ws read x found (OnDisk d) at) is-written

@@ -16,7 +16,7 @@ use Rattle.sj_core.specs.declared.progress.Progress.{Progress}
 use Rattle.sj_core.specs.declared.progress.Progress.TheVariants.{Waiting}
 use Rattle.sj_core.specs.declared.progress.Transfer.{Transfer}
 use Rattle.sj_deps.specs.Conflict.{Ready}
-use Rattle.sj_deps.specs.Progress.{Progress as Dependencies}
+use Rattle.sj_deps.specs.Progress.{Dependencies}
 use Rattle.sj_pool.specs.Pool.{Pooled}
 use Rattle.sj_machine.specs.Board.{BoardState, HasCause, has_event}
 use Rattle.sj_machine.specs.BoardSound.{CountsDone, IsSoundIn, IsToBeTaken, KeepsBoard}

@@ -12,7 +12,7 @@ use Rattle.sj_core.proofs.Reading.{same_cell-is}
 use Rattle.sj_core.proofs.Sums.{tally}
 use Rattle.sj_core.specs.Step.{to_front, without}
 use Rattle.sj_node.proofs.CallerLemmas.{filter-map}
-use Rattle.sj_node.specs.Entry.{Entry, has_entry, is_among, is_of, pins_of, put_all, repinned, to_front as entry_to_front, total, without as without_entry, without_all}
+use Rattle.sj_node.specs.Entry.{NodeEntry, has_entry, is_of_cells, is_of_cell, pins_of, put_cells, repinned, entry_to_front, total, without_entry, without_all}
 use Rattle.sj_node.specs.Store.{Store, with_entries}
 use Rattle.sj_machine.specs.Plan.{CanTakeAll, taken}
 use Rattle.std.proofs.Math.Path.{fun_ext}
@@ -88,10 +88,10 @@ filter-one c (x ∷ cs) h once = by_cases (same_cell x c) refl h (filter-one c c
 -- ---- entries by cell
 
 module _ (bytes : Cell → ℕ) where
-  abbrev pub entry : (Cell → ℕ) → Cell → Entry
+  abbrev pub entry : (Cell → ℕ) → Cell → NodeEntry
   entry pins c = record { cell = c; bytes = bytes c; pins = pins c }
 
-  abbrev pub entries : (Cell → ℕ) → List Cell → List Entry
+  abbrev pub entries : (Cell → ℕ) → List Cell → List NodeEntry
   entries pins cs = map (entry pins) cs
 
   pub entries-has : (pins : Cell → ℕ) (cs : List Cell) (c : Cell) → has_entry (entries pins cs) c ≡ has_cell cs c
@@ -100,30 +100,30 @@ module _ (bytes : Cell → ℕ) where
 
   pub entries-pins : (pins : Cell → ℕ) (cs : List Cell) (c : Cell) → pins_of (entries pins cs) c ≤ pins c
   entries-pins pins [] c = omega arith
-  entries-pins pins (x ∷ cs) c = by_cases (is_of c (entry pins x)) refl (entries-pins pins cs c)
+  entries-pins pins (x ∷ cs) c = by_cases (is_of_cell c (entry pins x)) refl (entries-pins pins cs c)
     where
-      by_cases : (b : Bool) → is_of c (entry pins x) ≡ b → pins_of (entries pins cs) c ≤ pins c → option_map_or (λ (e : Entry). e.pins) (cond b (Some (entry pins x)) (find (is_of c) (entries pins cs))) 0 ≤ pins c
+      by_cases : (b : Bool) → is_of_cell c (entry pins x) ≡ b → pins_of (entries pins cs) c ≤ pins c → option_map_or (λ (e : NodeEntry). e.pins) (cond b (Some (entry pins x)) (find (is_of_cell c) (entries pins cs))) 0 ≤ pins c
       by_cases true e rest = let same : pins x ≡ pins c = ap pins (sym (same_cell-is c x e)) in omega arith
       by_cases false e rest = rest
 
   pub entries-total : (pins : Cell → ℕ) (cs : List Cell) → total (entries pins cs) ≡ sum_by bytes cs
   entries-total pins [] = refl
-  entries-total pins (x ∷ cs) = let a = sum_by-cons (λ (e : Entry). e.bytes) (entry pins x) (entries pins cs) in let b = sum_by-cons bytes x cs in let rest = entries-total pins cs in omega arith
+  entries-total pins (x ∷ cs) = let a = sum_by-cons (λ (e : NodeEntry). e.bytes) (entry pins x) (entries pins cs) in let b = sum_by-cons bytes x cs in let rest = entries-total pins cs in omega arith
 
   pub entries-without : (pins : Cell → ℕ) (vs cs : List Cell) → without_all vs (entries pins cs) ≡ entries pins (without vs cs)
-  entries-without pins vs cs = filter-map (entry pins) (λ e. not (is_among vs e)) cs
+  entries-without pins vs cs = filter-map (entry pins) (λ e. not (is_of_cells vs e)) cs
 
-  pub entries-put : (pins : Cell → ℕ) (new cs : List Cell) → ((c : Cell) → has_cell new c ≡ true → pins c ≡ 0) → put_all new (map bytes new) (entries pins cs) ≡ entries pins (put_first new cs)
+  pub entries-put : (pins : Cell → ℕ) (new cs : List Cell) → ((c : Cell) → has_cell new c ≡ true → pins c ≡ 0) → put_cells new (map bytes new) (entries pins cs) ≡ entries pins (put_first new cs)
   entries-put pins [] cs none = refl
   entries-put pins (x ∷ new) cs none =
-      ap (λ (k : ℕ). put_all new (map bytes new) ((record { cell = x; bytes = bytes x; pins = k }) ∷ entries pins cs)) (sym (none x (ap (λ b. b || has_cell new x) (same_cell-refl x))))
+      ap (λ (k : ℕ). put_cells new (map bytes new) ((record { cell = x; bytes = bytes x; pins = k }) ∷ entries pins cs)) (sym (none x (ap (λ b. b || has_cell new x) (same_cell-refl x))))
       ∙ entries-put pins new (x ∷ cs) (λ c h. none c (or_right (same_cell x c) (has_cell new c) h))
 
   entries-to_front : (pins : Cell → ℕ) (c : Cell) (cs : List Cell) → has_cell cs c ≡ true → times cs c ≤ 1 → entry_to_front c (entries pins cs) ≡ entries pins (to_front cs c)
   entries-to_front pins c cs h once =
-      let ours : filter (is_of c) (entries pins cs) ≡ entries pins (c ∷ []) = filter-map (entry pins) (is_of c) cs ∙ ap (entries pins) (filter_agree (λ d. nat_eq c.0 d.0) (λ d. same_cell d c) (λ d. same_cell-sym c d) cs ∙ filter-one c cs h once) in
-      let rest : without_entry c (entries pins cs) ≡ entries pins (filter (λ d. not (same_cell d c)) cs) = filter-map (entry pins) (λ e. not (is_of c e)) cs ∙ ap (entries pins) (filter_agree (λ d. not (nat_eq c.0 d.0)) (λ d. not (same_cell d c)) (λ d. ap not (same_cell-sym c d)) cs) in
-      ap (λ (es : List Entry). es ++ without_entry c (entries pins cs)) ours ∙ ap (λ (es : List Entry). entry pins c ∷ es) rest
+      let ours : filter (is_of_cell c) (entries pins cs) ≡ entries pins (c ∷ []) = filter-map (entry pins) (is_of_cell c) cs ∙ ap (entries pins) (filter_agree (λ d. nat_eq c.0 d.0) (λ d. same_cell d c) (λ d. same_cell-sym c d) cs ∙ filter-one c cs h once) in
+      let rest : without_entry c (entries pins cs) ≡ entries pins (filter (λ d. not (same_cell d c)) cs) = filter-map (entry pins) (λ e. not (is_of_cell c e)) cs ∙ ap (entries pins) (filter_agree (λ d. not (nat_eq c.0 d.0)) (λ d. not (same_cell d c)) (λ d. ap not (same_cell-sym c d)) cs) in
+      ap (λ (es : List NodeEntry). es ++ without_entry c (entries pins cs)) ours ∙ ap (λ (es : List NodeEntry). entry pins c ∷ es) rest
 
   abbrev pub more : (Cell → ℕ) → List Cell → Cell → ℕ
   more pins ds c = pins c + times ds c
@@ -133,15 +133,15 @@ module _ (bytes : Cell → ℕ) where
 
   entries-repinned : (pins : Cell → ℕ) (c : Cell) (cs : List Cell) → repinned (λ n. n + 1) c (entries pins cs) ≡ entries (bumped pins c) cs
   entries-repinned pins c [] = refl
-  entries-repinned pins c (x ∷ cs) = ap (λ (es : List Entry). cond (is_of c (entry pins x)) (record (entry pins x) { pins = pins x + 1 }) (entry pins x) ∷ es) (entries-repinned pins c cs) ∙ ap (λ (e : Entry). e ∷ entries (bumped pins c) cs) (by_cases (same_cell c x))
+  entries-repinned pins c (x ∷ cs) = ap (λ (es : List NodeEntry). cond (is_of_cell c (entry pins x)) (record (entry pins x) { pins = pins x + 1 }) (entry pins x) ∷ es) (entries-repinned pins c cs) ∙ ap (λ (e : NodeEntry). e ∷ entries (bumped pins c) cs) (by_cases (same_cell c x))
     where
       by_cases : (b : Bool) → cond b (record (entry pins x) { pins = pins x + 1 }) (entry pins x) ≡ record { cell = x; bytes = bytes x; pins = pins x + tally b }
       by_cases true = refl
-      by_cases false = ap (λ (k : ℕ). let e : Entry = record { cell = x; bytes = bytes x; pins = k } in e) (omega arith)
+      by_cases false = ap (λ (k : ℕ). let e : NodeEntry = record { cell = x; bytes = bytes x; pins = k } in e) (omega arith)
 
   -- one cell comes to the front and is pinned
   entries-taken : (s : Store) (pins : Cell → ℕ) (c : Cell) (cs : List Cell) → has_cell cs c ≡ true → times cs c ≤ 1 → taken (with_entries s (entries pins cs)) c ≡ with_entries s (entries (bumped pins c) (to_front cs c))
-  entries-taken s pins c cs h once = ap (λ (es : List Entry). with_entries s (repinned (λ n. n + 1) c es)) (entries-to_front pins c cs h once) ∙ ap (with_entries s) (entries-repinned pins c (to_front cs c))
+  entries-taken s pins c cs h once = ap (λ (es : List NodeEntry). with_entries s (repinned (λ n. n + 1) c es)) (entries-to_front pins c cs h once) ∙ ap (with_entries s) (entries-repinned pins c (to_front cs c))
 
   -- and so do all, one after another
   pub taken-all : (s : Store) (pins : Cell → ℕ) (ds cs : List Cell) → ((c : Cell) → has_cell ds c ≡ true → has_cell cs c ≡ true) → ((c : Cell) → times cs c ≤ 1) → fold taken (with_entries s (entries pins cs)) ds ≡ with_entries s (entries (more pins ds) (fold to_front cs ds))

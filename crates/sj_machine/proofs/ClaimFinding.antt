@@ -16,12 +16,12 @@ use Rattle.sj_core.specs.Step.{May, missing, none_leaving, to_come, victims_for}
 use Rattle.sj_core.specs.Victims.{covers, shortest_suffix, victims}
 use Rattle.sj_base.specs.declared.trace.Event.TheVariants.{Claim}
 use Rattle.sj_node.proofs.CallerLemmas.{victims-map}
-use Rattle.sj_node.specs.Entry.{Entry, has_entry, is_spare}
-use Rattle.sj_node.specs.Store.{Store, free as free_bytes}
+use Rattle.sj_node.specs.Entry.{NodeEntry, has_entry, is_spare}
+use Rattle.sj_node.specs.Store.{Store, free_bytes}
 use Rattle.sj_node.specs.Victims.{shortest_suffix as shortest_end, victims as victims_among}
 use Rattle.sj_machine.specs.Agrees.{HasMarks, pins_on, store_of}
 use Rattle.sj_machine.specs.Copies.{Copies}
-use Rattle.sj_machine.specs.Mark.{is_leaving as is_leaving_mark, mark_of}
+use Rattle.sj_machine.specs.Mark.{is_leaving_mark, mark_of}
 use Rattle.sj_machine.specs.Plan.{ClaimPlan, IsPlan, plan_with}
 use Rattle.sj_machine.specs.Planning.{CommutersAreFree, MayClaim, chosen_on, is_leaving_at, lacking, need_on, planned}
 use Rattle.sj_machine.proofs.Commuting.{commuters-alone}
@@ -82,11 +82,11 @@ module _ (p : Program) (m : Machine) (s : State) (t : Task) (w : Worker) where
   free-same : free_bytes own ≡ free p m s n
   free-same = ap (λ (k : ℕ). node_size m n - (k + sum_by (scratch s) (workers_at m n))) (entries-total (tile_bytes p) (pins_on m s n) (order s n))
 
-  turned : (o : Option (List Cell)) → option_map reverse (option_map (λ vs. map (λ (e : Entry). e.cell) (reverse vs)) (option_map (entries (tile_bytes p) (pins_on m s n)) o)) ≡ o
+  turned : (o : Option (List Cell)) → option_map reverse (option_map (λ vs. map (λ (e : NodeEntry). e.cell) (reverse vs)) (option_map (entries (tile_bytes p) (pins_on m s n)) o)) ≡ o
   turned None = refl
-  turned (Some vs) = ap Some (ap reverse (map-reverse (λ (e : Entry). e.cell) (entries (tile_bytes p) (pins_on m s n) vs) ∙ ap reverse (same_cells vs)) ∙ reverse-reverse vs)
+  turned (Some vs) = ap Some (ap reverse (map-reverse (λ (e : NodeEntry). e.cell) (entries (tile_bytes p) (pins_on m s n) vs) ∙ ap reverse (same_cells vs)) ∙ reverse-reverse vs)
     where
-      same_cells : (cs : List Cell) → map (λ (e : Entry). e.cell) (entries (tile_bytes p) (pins_on m s n) cs) ≡ cs
+      same_cells : (cs : List Cell) → map (λ (e : NodeEntry). e.cell) (entries (tile_bytes p) (pins_on m s n) cs) ≡ cs
       same_cells [] = refl
       same_cells (c ∷ cs) = ap (λ (ds : List Cell). c ∷ ds) (same_cells cs)
 
@@ -97,7 +97,7 @@ module _ (p : Program) (m : Machine) (s : State) (t : Task) (w : Worker) where
       let spare : Cell → Bool = λ c. is_spare (cells_of p t w) (f c) in
       let free_of : Cell → Bool = λ c. not (is_pinned m s n c) && not (has_cell (cells_of p t w) c) in
       let same_test : (c : Cell) → spare c ≡ free_of c = λ c. ap (λ b. b && not (has_cell (cells_of p t w) c)) (unpinned-is s c (workers_at m n)) in
-      ap (λ o. option_map reverse (option_map (λ vs. map (λ (e : Entry). e.cell) (reverse vs)) o)) (victims-map f (λ e. e.bytes) (is_spare (cells_of p t w)) (order s n) (free_bytes own) (need_on p own t w))
+      ap (λ o. option_map reverse (option_map (λ vs. map (λ (e : NodeEntry). e.cell) (reverse vs)) o)) (victims-map f (λ e. e.bytes) (is_spare (cells_of p t w)) (order s n) (free_bytes own) (need_on p own t w))
       ∙ turned (victims_among bytes spare (order s n) (free_bytes own) (need_on p own t w))
       ∙ same_end (covers bytes (free_bytes own) (need_on p own t w)) (filter spare (order s n))
       ∙ ap (shortest_suffix (covers bytes (free_bytes own) (need_on p own t w))) (filter_agree spare free_of same_test (order s n))

@@ -16,7 +16,7 @@ use Rattle.sj_core.proofs.Placing.{pins-same}
 use Rattle.sj_core.proofs.Reading.{idle_row}
 use Rattle.sj_core.proofs.Words.{AtNode, Cell, Machine, Node, OnDisk, Program, State, Task, Valid, Worker, WorkerState, cells_of, data_operands, dims_of, no_task, node_of, opening, pins, same_cell, task_of, with_replica, worked_on, workers_at, workers_of}
 use Rattle.sj_core.specs.Legal.{state_of}
-use Rattle.sj_core.specs.Proper.{Fits, IsMachineFor, Proper}
+use Rattle.sj_core.specs.Proper.{FitsCodelet, IsMachineFor, Proper}
 use Rattle.sj_core.specs.Step.{after, array_at}
 use Rattle.sj_machine.specs.Agrees.{pins_on}
 use Rattle.sj_codelet.proofs.Table.{few-formals}
@@ -26,11 +26,11 @@ use Rattle.sj_codelet.proofs.Table.{few-formals}
 pub few-operands : (p : Program) → Proper p → (t : Task) → length (task_of p t).accesses ≤ 5
 few-operands p proper t =
     elim (cases_lt t.0 (length p.tasks)) [
-      | inl inside ↦ of_fits (task_of p t) (All-get_or (Fits p) p.tasks t.0 no_task inside proper.codelets)
+      | inl inside ↦ of_fits (task_of p t) (All-get_or (FitsCodelet p) p.tasks t.0 no_task inside proper.codelets)
       | inr past ↦ subst (λ (l : Lowered). length l.accesses ≤ 5) (sym (get_or_past p.tasks t.0 no_task past)) (omega arith)
     ]
   where
-    of_fits : (l : Lowered) → Fits p l → length l.accesses ≤ 5
+    of_fits : (l : Lowered) → FitsCodelet p l → length l.accesses ≤ 5
     of_fits l fit =
         let ds = map (λ (a : Access). dims_of p a.cell) l.accesses in
         let counted : Bool = nat_eq (length ds) (length (formals_of fit.kernel)) in

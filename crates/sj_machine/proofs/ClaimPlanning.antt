@@ -9,7 +9,7 @@ use Rattle.sj_base.specs.declared.mode.Access.{Access}
 use Rattle.sj_core.proofs.CellLists.{has_cell-distinct, has_cell-filter}
 use Rattle.sj_core.proofs.Words.{Cell, Program, Task, Worker, cells_of, distinct, has_cell, scratch_bytes, task_of, tile_bytes, worked_on}
 use Rattle.sj_node.specs.Entry.{has_entry}
-use Rattle.sj_node.specs.Store.{Store, victims_of}
+use Rattle.sj_node.specs.Store.{Store, need_victims}
 use Rattle.sj_machine.specs.Plan.{ClaimPlan, IsSmallCell}
 use Rattle.sj_machine.specs.Planning.{HasSmallWork, chosen_on, lacking, need_on, planned}
 use Rattle.sj_machine.proofs.ClaimFinding.{All-of}
@@ -71,13 +71,13 @@ module _ (p : Program) (t : Task) (w : Worker) (s : Store) (cells missing : List
   need-is : sum bytes + scratch ≡ need_on p s t w
   need-is = ap (λ (n : ℕ). n + scratch) (ap sum weighs ∙ sum-map (tile_bytes p) missing ∙ ap (sum_by (tile_bytes p)) are_missing) ∙ ap (λ (n : ℕ). sum_by (tile_bytes p) lacked + n) holds
 
-  victims-are : victims_of cells s (sum bytes + scratch) ≡ victims_of (cells_of p t w) s (need_on p s t w)
-  victims-are = ap (λ (cs : List Cell). victims_of cs s (sum bytes + scratch)) names ∙ ap (victims_of (cells_of p t w) s) need-is
+  victims-are : need_victims cells s (sum bytes + scratch) ≡ need_victims (cells_of p t w) s (need_on p s t w)
+  victims-are = ap (λ (cs : List Cell). need_victims cs s (sum bytes + scratch)) names ∙ ap (need_victims (cells_of p t w) s) need-is
 
-  pub planned-none : None ≡ option_map reverse (victims_of cells s (sum bytes + scratch)) → None ≡ option_map (planned p s t w) (chosen_on p s t w)
+  pub planned-none : None ≡ option_map reverse (need_victims cells s (sum bytes + scratch)) → None ≡ option_map (planned p s t w) (chosen_on p s t w)
   planned-none none = ap (option_map (planned p s t w)) (none ∙ ap (option_map reverse) victims-are)
 
-  pub planned-some : (victims : List Cell) → Some victims ≡ option_map reverse (victims_of cells s (sum bytes + scratch)) → Some (let plan : ClaimPlan = record { cells = cells; missing = missing; bytes = bytes; scratch = scratch; victims = victims } in plan) ≡ option_map (planned p s t w) (chosen_on p s t w)
+  pub planned-some : (victims : List Cell) → Some victims ≡ option_map reverse (need_victims cells s (sum bytes + scratch)) → Some (let plan : ClaimPlan = record { cells = cells; missing = missing; bytes = bytes; scratch = scratch; victims = victims } in plan) ≡ option_map (planned p s t w) (chosen_on p s t w)
   planned-some victims some =
       ap (λ (cs : List Cell). Some (let plan : ClaimPlan = record { cells = cs; missing = missing; bytes = bytes; scratch = scratch; victims = victims } in plan)) names
       ∙ ap (λ (bs : List ℕ). Some (let plan : ClaimPlan = record { cells = cells_of p t w; missing = missing; bytes = bs; scratch = scratch; victims = victims } in plan)) weighs

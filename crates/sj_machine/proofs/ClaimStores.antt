@@ -20,9 +20,9 @@ use Rattle.sj_core.proofs.Words.{AtNode, Cell, Machine, Node, Program, State, Ta
 use Rattle.sj_core.specs.Coherent.{Coherent}
 use Rattle.sj_core.specs.Laws.{IsSound}
 use Rattle.sj_core.specs.Step.{CanClaim, after_claim, missing, without}
-use Rattle.sj_node.specs.Entry.{AreDistinct, Entry, has_entry, pins_of, put_all, total, without_all}
-use Rattle.sj_node.specs.Store.{Store, free, store, with_entries}
-use Rattle.sj_machine.specs.Agrees.{entry_of, pins_on, store_of}
+use Rattle.sj_node.specs.Entry.{AreDistinctCells, NodeEntry, has_entry, pins_of, put_cells, total, without_all}
+use Rattle.sj_node.specs.Store.{Store, free_bytes, store, with_entries}
+use Rattle.sj_machine.specs.Agrees.{node_entry_of, pins_on, store_of}
 use Rattle.sj_machine.specs.Plan.{CanHold, CanTakeAll, ClaimPlan, admitting, holding, plan_with, taken, taking}
 use Rattle.sj_machine.proofs.ClaimEntries.{can_take-all, entries, entries-has, entries-pins, entries-put, entries-total, entries-without, fronted-put_first, has_cell-put_first, more, put_first, taken-all, times-put_first}
 use Rattle.std.proofs.Math.Path.{fun_ext}
@@ -33,7 +33,7 @@ use Rattle.std.proofs.Math.Path.{fun_ext}
 pub All-has : (P : Cell → Type 0) (xs : List Cell) → ((c : Cell) → has_cell xs c ≡ true → P c) → All P xs
 All-has P xs h = λ i d inside. h (get_or xs i d) (list_any_at (λ e. same_cell e (get_or xs i d)) xs i d inside ((Decides-eqb (get_or xs i d).0 (get_or xs i d).0).1 refl))
 
-distinct-from_times : (xs : List Cell) → ((c : Cell) → times xs c ≤ 1) → AreDistinct xs
+distinct-from_times : (xs : List Cell) → ((c : Cell) → times xs c ≤ 1) → AreDistinctCells xs
 unfolding IsDistinct
 distinct-from_times [] once = tt
 distinct-from_times (x ∷ xs) once = (
@@ -298,7 +298,7 @@ module _ (p : Program) (m : Machine) (s : State) (h : IsSound p m s) (t : Task) 
 
   admitting-is : admitting before plan ≡ with_entries before (entries bytes (pins_on m s n) first)
   admitting-is =
-      ap (λ (es : List Entry). with_entries before (put_all brought (map bytes brought) es)) (entries-without bytes (pins_on m s n) evicted (order s n))
+      ap (λ (es : List NodeEntry). with_entries before (put_cells brought (map bytes brought) es)) (entries-without bytes (pins_on m s n) evicted (order s n))
       ∙ ap (with_entries before) (entries-put bytes (pins_on m s n) brought rest brought-unpinned)
 
   taking-is : taking before plan ≡ with_entries before (entries bytes (more bytes (pins_on m s n) own) (order s' n))
@@ -336,7 +336,7 @@ module _ (p : Program) (m : Machine) (s : State) (h : IsSound p m s) (t : Task) 
           ap (λ (cs : List Cell). has_cell cs c) (claim-order_here p m s h t w s' claim leaves ∙ sym (fronted-put_first own brought rest brought-own))
           ∙ has_cell-fronted own first c ∙ either (has_cell own c) (has_cell first c) (own-there c)
 
-  can-fit : sum (map bytes brought) ≤ free (with_entries before (without_all evicted before.entries))
+  can-fit : sum (map bytes brought) ≤ free_bytes (with_entries before (without_all evicted before.entries))
   can-fit =
       let new = sum-map bytes brought in
       let all = first-bytes in
@@ -347,7 +347,7 @@ module _ (p : Program) (m : Machine) (s : State) (h : IsSound p m s) (t : Task) 
 
   can-be_few : length before.entries + length brought ≤ length p.cells
   can-be_few =
-      let as_many = length-map (order s n) (entry_of p m s n) in
+      let as_many = length-map (order s n) (node_entry_of p m s n) in
       let both = length-put_first brought (order s n) in
       let few = length-once p (put_first brought (order s n)) inside (put-once (order s n) (λ c. (omega arith))) in
       omega arith
@@ -359,8 +359,8 @@ module _ (p : Program) (m : Machine) (s : State) (h : IsSound p m s) (t : Task) 
           by_cases true lacks all = omega (arith, task-cell p m s h t w s' claim leaves c (brought-own c lacks), h.coherent.state.rows.cells)
           by_cases false none all = entry-cell p m s h.coherent.state n c all
 
-  can-hold_scratch : scratch_bytes p (task_of p t) ≤ free (taking before plan)
-  can-hold_scratch = subst (λ (x : Store). scratch_bytes p (task_of p t) ≤ free x) (sym taking-is)
+  can-hold_scratch : scratch_bytes p (task_of p t) ≤ free_bytes (taking before plan)
+  can-hold_scratch = subst (λ (x : Store). scratch_bytes p (task_of p t) ≤ free_bytes x) (sym taking-is)
       (let held = scratch-after in
       let enough = after_state.bytes.entries n in
       let all = entries-total bytes (more bytes (pins_on m s n) own) (order s' n) in

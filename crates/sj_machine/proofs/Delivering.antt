@@ -20,7 +20,7 @@ use Rattle.sj_core.proofs.Reading.{list_all-has}
 use Rattle.sj_core.proofs.Words.{Array, AtNode, Cell, Node, Program, Task, Worker, cells_of, fresh_cells, has_cell, is_valid, no_task, node_of, progress, replica, task_of, worked_on}
 use Rattle.sj_core.specs.Fold.{given}
 use Rattle.sj_core.specs.Laws.{Brought, HasAtHand, IsSound, Works}
-use Rattle.sj_core.specs.Proper.{Commuting, Contributing, FirstPaste, Fits, MayHaveModes, Own, Proper, access}
+use Rattle.sj_core.specs.Proper.{Commuting, Contributing, FirstPaste, FitsCodelet, MayHaveModes, Own, Proper, access}
 use Rattle.sj_core.specs.Step.{array_at}
 use Rattle.sj_core.specs.declared.progress.Progress.TheVariants.{Running}
 use Rattle.sj_machine.specs.Delivered.{IsDeliveryOf, IsKeptFor, delivered_cell, is_deliver, is_deliver_task, is_delivery}
@@ -52,8 +52,8 @@ module _ (p : Program) (proper : Proper p) (t : Task) (hands_over : is_deliver_t
     | inr past ↦ absurd (false≢true (sym (ap (λ (l : Lowered). is_delivery l.codelet) (get_or_past p.tasks t.0 no_task past)) ∙ hands_over))
   ]
 
-  fit : Fits p (task_of p t)
-  fit = All-get_or (Fits p) p.tasks t.0 no_task deliver-inside proper.codelets
+  fit : FitsCodelet p (task_of p t)
+  fit = All-get_or (FitsCodelet p) p.tasks t.0 no_task deliver-inside proper.codelets
 
   kernel : fit.kernel ≡ Deliver
   kernel = delivers fit.kernel (sym (ap (λ (o : Option Kernel). elim o as (λ _. Bool) [ None ↦ false | Some k ↦ is_deliver k ]) fit.codelet) ∙ hands_over)

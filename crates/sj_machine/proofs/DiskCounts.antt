@@ -23,7 +23,7 @@ use Rattle.sj_disk.specs.Refusals.{RefusesFor, is_damage, is_fault}
 use Rattle.sj_disk.specs.Transfers.{Looks, Writes}
 use Rattle.sj_machine.specs.Agrees.{Rows}
 use Rattle.sj_machine.specs.Board.{HasCause, HasRisen}
-use Rattle.sj_machine.specs.Counts.{AreCounted, IsCounted, differed_at, failed_at, fault_of}
+use Rattle.sj_machine.specs.Counts.{AreCounted, CountsFaults, differed_at, failed_at, fault_of}
 use Rattle.sj_machine.specs.Headers.{IsLastWritten}
 use Rattle.sj_machine.specs.Sound.{Keeps}
 use Rattle.sj_machine.specs.Standing.{AllTell, Standing, state}
@@ -75,7 +75,7 @@ call-counted {D} {A} faults mismatches number result old new names changes = rec
     differed-elsewhere (Err (DiskFault d)) n k far = refl
     differed-elsewhere (Err (Damaged d want found)) n k far = apart d k (n.damage d want found refl).0 far
 
-    each : (k : ℕ) (x y : D) → slice_get old k ≡ Some x → slice_get new k ≡ Some y → IsCounted faults mismatches (failed_at result k) (differed_at result k) x y
+    each : (k : ℕ) (x y : D) → slice_get old k ≡ Some x → slice_get new k ≡ Some y → CountsFaults faults mismatches (failed_at result k) (differed_at result k) x y
     each k x y ox oy = elim (cases_eq k number.0) [
       | inl here ↦
           let is = changes.there x y (ap (slice_get old) (sym here) ∙ ox) (ap (slice_get new) (sym here) ∙ oy) in

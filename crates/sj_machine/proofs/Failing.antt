@@ -8,7 +8,7 @@ use Rattle.sj_core.specs.declared.progress.Progress.{Progress}
 use Rattle.sj_core.specs.declared.progress.Progress.TheVariants.{Claimed, Done, Running, Waiting}
 use Rattle.sj_core.proofs.Words.{Machine, Program, State, Task, Worker, is_done, is_task_of, progress}
 use Rattle.sj_core.specs.Legal.{IsComplete}
-use Rattle.sj_deps.specs.Progress.{Progress as Dependencies}
+use Rattle.sj_deps.specs.Progress.{Dependencies}
 use Rattle.sj_machine.specs.Board.{BoardState, HasCause, IsOver, IsWorking, failed, first_fault, hand_of, stopped, with_hand}
 use Rattle.sj_machine.specs.BoardSound.{HandsAgree, KeepsBoard, StopsAtTheEnd, times_pooled}
 use Rattle.sj_machine.specs.Standing.{state}

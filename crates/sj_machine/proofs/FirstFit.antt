@@ -12,10 +12,10 @@ use Rattle.sj_base.specs.declared.program.CellInfo.{CellInfo}
 use Rattle.sj_base.specs.declared.program.Machine.{Machine}
 use Rattle.sj_base.specs.declared.program.Program.{Program}
 use Rattle.sj_base.specs.Array.{area}
-use Rattle.sj_core.specs.Needs.{Block, block_bytes, first_fit, place, place_after}
+use Rattle.sj_core.specs.Needs.{Block, cell_block_bytes, first_fit, place, place_after}
 use Rattle.sj_core.specs.Program.{cell_info, dims_of, no_cell}
 use Rattle.sj_core.specs.Proper.{HasSwapFor}
-use Rattle.sj_disk.specs.Block.{block_bytes as bytes_of_block}
+use Rattle.sj_disk.specs.Block.{block_bytes}
 use Rattle.sj_disk.specs.Calls.{Reserves}
 use Rattle.sj_disk.specs.Directory.{DiskState, extent_of, first_fit as first_that_fits}
 use Rattle.sj_disk.specs.declared.directory.Extent.{Extent}
@@ -38,26 +38,26 @@ abbrev block_at : List ℕ → ℕ → Block
 block_at taken d = record { disk = record { 0 = d }; position = slice_index_or taken d 0 }
 
 abbrev taking : List ℕ → ℕ → CellInfo → List ℕ
-taking taken d c = set taken d (slice_index_or taken d 0 + block_bytes c)
+taking taken d c = set taken d (slice_index_or taken d 0 + cell_block_bytes c)
 
 -- the first of some cells gets the first of their blocks, and the others get the others
 record GetsFirst (sizes taken : List ℕ) (c : CellInfo) (cs : List CellInfo) (blocks : List Block) : Type 0 where
   disk : ℕ
-  fits : first_fit sizes taken (block_bytes c) ≡ Some disk
+  fits : first_fit sizes taken (cell_block_bytes c) ≡ Some disk
   later : List Block
   after : place_after sizes (taking taken disk c) cs ≡ Some later
   are : blocks ≡ block_at taken disk ∷ later
 
 gets-first : (sizes taken : List ℕ) (c : CellInfo) (cs : List CellInfo) (blocks : List Block) → place_after sizes taken (c ∷ cs) ≡ Some blocks → GetsFirst sizes taken c cs blocks
-gets-first sizes taken c cs blocks e = by_disk (first_fit sizes taken (block_bytes c)) refl e
+gets-first sizes taken c cs blocks e = by_disk (first_fit sizes taken (cell_block_bytes c)) refl e
   where
-    by_rest : (d : ℕ) → first_fit sizes taken (block_bytes c) ≡ Some d → (o : Option (List Block)) → place_after sizes (taking taken d c) cs ≡ o → option_map (λ bs. block_at taken d ∷ bs) o ≡ Some blocks → GetsFirst sizes taken c cs blocks
+    by_rest : (d : ℕ) → first_fit sizes taken (cell_block_bytes c) ≡ Some d → (o : Option (List Block)) → place_after sizes (taking taken d c) cs ≡ o → option_map (λ bs. block_at taken d ∷ bs) o ≡ Some blocks → GetsFirst sizes taken c cs blocks
     by_rest d f None g e = absurd (none-some blocks e)
     by_rest d f (Some bs) g e = record { disk = d; fits = f; later = bs; after = g; are = sym (same_Some (block_at taken d ∷ bs) blocks e) }
 
-    by_disk : (o : Option ℕ) → first_fit sizes taken (block_bytes c) ≡ o → elim o as (λ _. Option (List Block)) [
+    by_disk : (o : Option ℕ) → first_fit sizes taken (cell_block_bytes c) ≡ o → elim o as (λ _. Option (List Block)) [
       | None ↦ None
-      | Some d ↦ option_map (λ bs. (record { disk = record { 0 = d }; position = slice_index_or taken d 0 }) ∷ bs) (place_after sizes (set taken d (slice_index_or taken d 0 + block_bytes c)) cs)
+      | Some d ↦ option_map (λ bs. (record { disk = record { 0 = d }; position = slice_index_or taken d 0 }) ∷ bs) (place_after sizes (set taken d (slice_index_or taken d 0 + cell_block_bytes c)) cs)
     ] ≡ Some blocks → GetsFirst sizes taken c cs blocks
     by_disk None f e = absurd (none-some blocks e)
     by_disk (Some d) f e = by_rest d f (place_after sizes (taking taken d c) cs) refl e
@@ -100,10 +100,10 @@ module _ {D : Type 0} (size : D → ℕ) (p : Program) (m : Machine) (disks : Li
       sizes-now : map size s.disks ≡ m.disks
       sizes-now = ap (λ (ds : List D). map size ds) is.disks_stay ∙ sym sizes
 
-      fits-now : first_that_fits (map size s.disks) s.taken (bytes_of_block (area (dims_of p cell))) ≡ Some first.disk
-      fits-now = ap (λ (ns : List ℕ). first_that_fits ns s.taken (bytes_of_block (area (dims_of p cell)))) sizes-now ∙ first.fits
+      fits-now : first_that_fits (map size s.disks) s.taken (block_bytes (area (dims_of p cell))) ≡ Some first.disk
+      fits-now = ap (λ (ns : List ℕ). first_that_fits ns s.taken (block_bytes (area (dims_of p cell)))) sizes-now ∙ first.fits
 
-      pub one-fits : IsSome (first_that_fits (map size s.disks) s.taken (bytes_of_block (area (dims_of p cell))))
+      pub one-fits : IsSome (first_that_fits (map size s.disks) s.taken (block_bytes (area (dims_of p cell))))
       one-fits = ap is_some fits-now
 
       its-block : slice_get is.blocks i ≡ Some (block_at s.taken first.disk)

@@ -3,7 +3,7 @@ use Rattle.std.proofs.Common.{◌≡◌, ℕ, ◌+◌, ◌<◌, ◌≤◌, true,
 use Rattle.std.proofs.lemmas.List.Sums.{get_or-le-sum_by}
 use Rattle.sj_core.proofs.Words.{Machine, Program, State, Task, Worker, footprint, is_task_of, node_of, node_size, progress}
 use Rattle.sj_core.specs.Legal.{IsComplete}
-use Rattle.sj_deps.specs.Progress.{Progress as Dependencies}
+use Rattle.sj_deps.specs.Progress.{Dependencies}
 use Rattle.sj_pool.proofs.Keeping.{home-within}
 use Rattle.sj_pool.specs.Pool.{Pooled, contains, home, with_entry}
 use Rattle.sj_base.specs.Array.{Array}

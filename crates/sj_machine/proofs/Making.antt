@@ -20,9 +20,9 @@ use Rattle.sj_disk.specs.Directory.{DiskState, extent_of}
 use Rattle.sj_node.specs.Store.{Store, empty, store}
 use Rattle.sj_machine.specs.declared.mark.Mark.TheVariants.{Invalid as NoMark}
 use Rattle.sj_machine.specs.Mark.{mark_of}
-use Rattle.sj_machine.specs.Agrees.{Agrees, IsWide, Rows, entry_of, rows_of, store_of}
+use Rattle.sj_machine.specs.Agrees.{Agrees, IsWide, Rows, node_entry_of, rows_of, store_of}
 use Rattle.sj_machine.specs.Copies.{Copies, mark_at, none_at, row_of, tile_at}
-use Rattle.sj_machine.specs.Sound.{IsBlock, IsRunOf, Keeps, block_of, most_events}
+use Rattle.sj_machine.specs.Sound.{IsBlock, IsRunnableOn, Keeps, block_of, most_events}
 use Rattle.sj_machine.specs.Standing.{AllTell, Standing, standing, starting}
 use Rattle.sj_machine.proofs.Reading.{no_copies}
 use Rattle.sj_base.proofs.Lists.{get_or-replicate_same}
@@ -64,8 +64,8 @@ module _ (p : Program) (m : Machine) where
 
   first_store : (n : Node) → store_of p m (opening p m) n ≡ empty (node_size m n) (length p.cells)
   first_store n =
-      ap (λ k. store (node_size m n) k (length p.cells) (map (entry_of p m (opening p m) n) (order (opening p m) n))) (sum-all_none (scratch (opening p m)) (no_scratch p m) 0 (workers_at m n))
-      ∙ ap (λ (cs : List Cell). store (node_size m n) 0 (length p.cells) (map (entry_of p m (opening p m) n) cs)) (get_or-replicate_same (length m.nodes) n.0 [])
+      ap (λ k. store (node_size m n) k (length p.cells) (map (node_entry_of p m (opening p m) n) (order (opening p m) n))) (sum-all_none (scratch (opening p m)) (no_scratch p m) 0 (workers_at m n))
+      ∙ ap (λ (cs : List Cell). store (node_size m n) 0 (length p.cells) (map (node_entry_of p m (opening p m) n) cs)) (get_or-replicate_same (length m.nodes) n.0 [])
 
   first_agrees : (Tells : Type 0) → Agrees p m (opening p m) Tells first_rows
   first_agrees Tells = record {
@@ -90,7 +90,7 @@ module _ (p : Program) (m : Machine) where
     };
   }
 
-module _ {D : Type 0} (size faults mismatches : D → ℕ) (held : D → Option (List ℕ)) (p : Program) (m : Machine) (run : IsRunOf p m) (disks : DiskState D) (placed : (c : Cell) → IfSome (block_of p m c) (λ b. IsSomeAnd (extent_of disks.directory c.0) (IsBlock p c b))) where
+module _ {D : Type 0} (size faults mismatches : D → ℕ) (held : D → Option (List ℕ)) (p : Program) (m : Machine) (run : IsRunnableOn p m) (disks : DiskState D) (placed : (c : Cell) → IfSome (block_of p m c) (λ b. IsSomeAnd (extent_of disks.directory c.0) (IsBlock p c b))) where
   abbrev b : Standing D
   b = starting p m disks
 

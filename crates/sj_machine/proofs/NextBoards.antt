@@ -7,7 +7,7 @@ use Rattle.sj_core.proofs.Words.{Machine, Program, State, Task, Worker, is_claim
 use Rattle.sj_core.specs.declared.progress.Progress.TheVariants.{Claimed}
 use Rattle.sj_core.proofs.Advancing.{claimed_by-is}
 use Rattle.sj_core.specs.Laws.{IsSound}
-use Rattle.sj_deps.specs.Progress.{Progress as Dependencies}
+use Rattle.sj_deps.specs.Progress.{Dependencies}
 use Rattle.sj_machine.specs.Board.{BoardState, IsWorking, RunsNone, empty_hand, hand_of, transfer_of}
 use Rattle.sj_machine.specs.declared.hand.Hand.{Hand}
 use Rattle.sj_machine.specs.BoardSound.{KeepsBoard}

@@ -27,7 +27,7 @@ use Rattle.sj_machine.specs.Agrees.{IsWide, Rows}
 use Rattle.sj_machine.specs.Choosing.{HasNumbers, are_present, are_unmoved, comes_in, fresh_among, is_brought, is_moving_in, is_there_in, leaves_in, moves_in, reads_in}
 use Rattle.sj_machine.specs.Operands.{worked_among}
 use Rattle.sj_machine.specs.Copies.{Copies, first_node, is_copy_beside, is_elsewhere, row_of}
-use Rattle.sj_machine.specs.Mark.{is_coming_by as is_coming_mark, is_leaving_by as is_leaving_mark, is_there, mark_of}
+use Rattle.sj_machine.specs.Mark.{is_coming_mark_by, is_leaving_mark_by, is_there, mark_of}
 use Rattle.sj_machine.specs.declared.mark.Mark.TheVariants.{Invalid as NoMark}
 use Rattle.sj_machine.specs.Sound.{IsBlock, Keeps, block_of}
 use Rattle.sj_machine.specs.Standing.{Standing, state}
@@ -74,13 +74,13 @@ there-is (Coming v) = refl
 there-is (Valid a) = refl
 there-is (Leaving v a) = refl
 
-leaving-is : (w : Worker) (r : Replica) → is_leaving_mark w (mark_of r) ≡ is_leaving_by w r
+leaving-is : (w : Worker) (r : Replica) → is_leaving_mark_by w (mark_of r) ≡ is_leaving_by w r
 leaving-is w Invalid = refl
 leaving-is w (Coming v) = refl
 leaving-is w (Valid a) = refl
 leaving-is w (Leaving v a) = refl
 
-coming-is : (w : Worker) (r : Replica) → is_coming_mark w (mark_of r) ≡ is_coming_by w r
+coming-is : (w : Worker) (r : Replica) → is_coming_mark_by w (mark_of r) ≡ is_coming_by w r
 coming-is w Invalid = refl
 coming-is w (Coming v) = refl
 coming-is w (Valid a) = refl
@@ -111,10 +111,10 @@ module _ {D : Type 0} (size faults mismatches : D → ℕ) (held : D → Option 
   there c n = ap is_there (keeps.agrees.marks.marks c n) ∙ there-is (replica s c (AtNode n))
 
   pub leaves : (w : Worker) (c : Cell) (n : Node) → leaves_in rows.cells n w c ≡ is_leaving_by w (replica s c (AtNode n))
-  leaves w c n = ap (is_leaving_mark w) (keeps.agrees.marks.marks c n) ∙ leaving-is w (replica s c (AtNode n))
+  leaves w c n = ap (is_leaving_mark_by w) (keeps.agrees.marks.marks c n) ∙ leaving-is w (replica s c (AtNode n))
 
   comes : (w : Worker) (c : Cell) (n : Node) → comes_in rows.cells n w c ≡ is_coming_by w (replica s c (AtNode n))
-  comes w c n = ap (is_coming_mark w) (keeps.agrees.marks.marks c n) ∙ coming-is w (replica s c (AtNode n))
+  comes w c n = ap (is_coming_mark_by w) (keeps.agrees.marks.marks c n) ∙ coming-is w (replica s c (AtNode n))
 
   -- the disk of a cell's block is the one that the directory has
   pub home-is : (c : Cell) → c.0 < length p.cells → option_map (λ (e : Extent). e.disk) (extent_of b.disks.directory c.0) ≡ disk_of p m c

@@ -15,9 +15,9 @@ use Rattle.sj_core.proofs.Words.{Machine, Program, State, Task, Worker, is_done,
 use Rattle.sj_core.specs.declared.progress.Progress.TheVariants.{Waiting}
 use Rattle.sj_core.specs.Step.{done_tasks}
 use Rattle.sj_deps.specs.Conflict.{Ready}
-use Rattle.sj_deps.specs.Progress.{Progress as Dependencies, progress as dependencies}
+use Rattle.sj_deps.specs.Progress.{Dependencies, dependencies}
 use Rattle.sj_disk.specs.Directory.{DiskState}
-use Rattle.sj_pool.specs.Pool.{Pooled, empty, queue_count}
+use Rattle.sj_pool.specs.Pool.{Pooled, empty_pool, queue_count}
 use Rattle.sj_pool.specs.declared.entry.Entry.{Entry}
 use Rattle.sj_base.specs.Array.{Array}
 use Rattle.sj_machine.specs.Board.{board_state, empty_hand, hand_in}
@@ -44,13 +44,13 @@ module _ (p : Program) (m : Machine) (some : 0 < p.workers) where
   first-hand : (w : Worker) → hand_in (first_hands p) w ≡ empty_hand
   first-hand w = always p.workers empty_hand w.0
 
-  none-pooled : (policy : Policy) (t : Task) → times_pooled (empty policy p.workers (length p.tasks)) t ≡ 0
+  none-pooled : (policy : Policy) (t : Task) → times_pooled (empty_pool policy p.workers (length p.tasks)) t ≡ 0
   none-pooled policy t = omega (arith, sum_by-replicate (λ (q : List Entry). count_by (is_entry_of t) q) (queue_count policy p.workers) [])
 
   none-given : (t : Task) → times_given (first_hands p) t ≡ 0
   none-given t = omega (arith, sum_by-replicate (λ (h : Hand). cond {A = ℕ} (is_given t h) 1 0) p.workers empty_hand)
 
-  empty-fits : IsPoolFor p m (first_hands p) (empty m.policy p.workers (length p.tasks))
+  empty-fits : IsPoolFor p m (first_hands p) (empty_pool m.policy p.workers (length p.tasks))
   empty-fits = record {
     policy = refl;
     workers = refl;
@@ -61,8 +61,8 @@ module _ (p : Program) (m : Machine) (some : 0 < p.workers) where
   }
 
   module _ (ready : List Task) (first : AreFirst p ready) where
-    pub first-filled : IsFilled p m (first_hands p) None staffed (empty m.policy p.workers (length p.tasks)) ready
-    first-filled = fill p m (first_hands p) None staffed ready (empty m.policy p.workers (length p.tasks)) empty-fits
+    pub first-filled : IsFilled p m (first_hands p) None staffed (empty_pool m.policy p.workers (length p.tasks)) ready
+    first-filled = fill p m (first_hands p) None staffed ready (empty_pool m.policy p.workers (length p.tasks)) empty-fits
         (All-from_get_or (λ (k : Task). k.0 < length p.tasks) ready (record { 0 = 0 }) (λ i l. ((first.each (get_or ready i (record { 0 = 0 }))).0 (All-get_or (Contains ready) ready i (record { 0 = 0 }) l (All-contains_itself ready))).task))
         (λ u. omega (arith, none-pooled m.policy u, few u))
       where
@@ -112,7 +112,7 @@ module _ (p : Program) (m : Machine) (some : 0 < p.workers) where
 abbrev machine_with : Policy → Machine
 machine_with policy = record { workers = 0; nodes = []; disks = []; policy = policy }
 
-module _ (p : Program) (policy : Policy) (some : 0 < p.workers) (deps : Dependencies) (program : deps.program ≡ p) (none : deps.done ≡ []) (listed ready : List Task) (same : listed ≡ ready) (each : (u : Task) → Contains ready u ↔ Ready deps.program deps.done u.0) (rising : IsStrictlyIncreasing (map (λ u. u.0) ready)) (pool : Pooled) (n : ℕ) (count : n ≡ length p.tasks) (made : pool ≡ empty policy p.workers n) where
+module _ (p : Program) (policy : Policy) (some : 0 < p.workers) (deps : Dependencies) (program : deps.program ≡ p) (none : deps.done ≡ []) (listed ready : List Task) (same : listed ≡ ready) (each : (u : Task) → Contains ready u ↔ Ready deps.program deps.done u.0) (rising : IsStrictlyIncreasing (map (λ u. u.0) ready)) (pool : Pooled) (n : ℕ) (count : n ≡ length p.tasks) (made : pool ≡ empty_pool policy p.workers n) where
   first : AreFirst p ready
   first = record {
     each = λ u. (
@@ -122,8 +122,8 @@ module _ (p : Program) (policy : Policy) (some : 0 < p.workers) (deps : Dependen
     by_number = rising;
   }
 
-  pool-is : pool ≡ empty policy p.workers (length p.tasks)
-  pool-is = made ∙ ap (empty policy p.workers) count
+  pool-is : pool ≡ empty_pool policy p.workers (length p.tasks)
+  pool-is = made ∙ ap (empty_pool policy p.workers) count
 
   pub first-can : CanPutEach p None pool listed
   first-can = subst (λ (ts : List Task). CanPutEach p None pool ts) (sym same) (subst (λ (q : Pooled). CanPutEach p None q ready) (sym pool-is) (first-filled p (machine_with policy) some ready first).can)

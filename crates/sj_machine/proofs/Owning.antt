@@ -33,10 +33,10 @@ use Rattle.sj_core.specs.Laws.{IsSound}
 use Rattle.sj_core.specs.Needs.{workers_of}
 use Rattle.sj_core.specs.Step.{CanRun, after_run, initial, owned_at, same_place}
 use Rattle.sj_node.proofs.CallerLemmas.{filter-map}
-use Rattle.sj_node.specs.Entry.{Entry, is_among, without_all}
+use Rattle.sj_node.specs.Entry.{NodeEntry, is_of_cells, without_all}
 use Rattle.sj_node.specs.Store.{Store, store, with_entries}
 use Rattle.sj_machine.specs.Mark.{mark_of}
-use Rattle.sj_machine.specs.Agrees.{HasMarks, HasStores, HasTiles, IsWide, Rows, entry_of, pins_on, rows_of, store_of}
+use Rattle.sj_machine.specs.Agrees.{HasMarks, HasStores, HasTiles, IsWide, Rows, node_entry_of, pins_on, rows_of, store_of}
 use Rattle.sj_machine.specs.Copies.{Copies, lent_at, mark_at, row_of, tile_at}
 use Rattle.sj_machine.specs.Operands.{CanWorkOn, written_among}
 use Rattle.sj_machine.specs.Running.{AreSharesFor, AreUnpinned, CanGive, IsShareIn, evicted_at, kept_at, lend_each, shares_at}
@@ -239,17 +239,17 @@ module _ {D : Type 0} (size faults mismatches : D → ℕ) (held : D → Option 
       let j : Node = record { 0 = k } in
       subst (λ (x : Store). AreUnpinned ws x.entries) (sym (store-at k d inside)) (λ i e within among.
       (let c0 : Cell = record { 0 = 0 } in
-      let here : i < length (order s j) = omega (arith, within, length-map (order s j) (entry_of p m s j)) in
-      let is : get_or (map (entry_of p m s j) (order s j)) i e ≡ entry_of p m s j (get_or (order s j) i c0) = get_or-map (entry_of p m s j) (order s j) i c0 e here in
-      ap (λ (x : Entry). x.pins) is ∙ unpinned j (λ same. far (ap (λ (x : Node). x.0) same)) (get_or (order s j) i c0) (sym (ap (is_among ws) is) ∙ among)))
+      let here : i < length (order s j) = omega (arith, within, length-map (order s j) (node_entry_of p m s j)) in
+      let is : get_or (map (node_entry_of p m s j) (order s j)) i e ≡ node_entry_of p m s j (get_or (order s j) i c0) = get_or-map (node_entry_of p m s j) (order s j) i c0 e here in
+      ap (λ (x : NodeEntry). x.pins) is ∙ unpinned j (λ same. far (ap (λ (x : Node). x.0) same)) (get_or (order s j) i c0) (sym (ap (is_of_cells ws) is) ∙ among)))
 
   store-here : store_of p m s' n ≡ store_of p m s n
-  store-here = ap (λ (cs : List Cell). store (node_size m n) (sum_by (scratch s) (workers_at m n)) (length p.cells) (map (entry_of p m s n) cs)) (run-order_here p m s t w s' run refl)
+  store-here = ap (λ (cs : List Cell). store (node_size m n) (sum_by (scratch s) (workers_at m n)) (length p.cells) (map (node_entry_of p m s n) cs)) (run-order_here p m s t w s' run refl)
 
   store-there : (k : Node) → k ≢ n → store_of p m s' k ≡ with_entries (store_of p m s k) (without_all ws (store_of p m s k).entries)
   store-there k far =
-      ap (λ (cs : List Cell). store (node_size m k) (sum_by (scratch s) (workers_at m k)) (length p.cells) (map (entry_of p m s k) cs)) (run-order_elsewhere p m s t w s' run refl k far)
-      ∙ ap (λ (es : List Entry). store (node_size m k) (sum_by (scratch s) (workers_at m k)) (length p.cells) es) (sym (filter-map (entry_of p m s k) (λ (e : Entry). not (is_among ws e)) (order s k)))
+      ap (λ (cs : List Cell). store (node_size m k) (sum_by (scratch s) (workers_at m k)) (length p.cells) (map (node_entry_of p m s k) cs)) (run-order_elsewhere p m s t w s' run refl k far)
+      ∙ ap (λ (es : List NodeEntry). store (node_size m k) (sum_by (scratch s) (workers_at m k)) (length p.cells) es) (sym (filter-map (node_entry_of p m s k) (λ (e : NodeEntry). not (is_of_cells ws e)) (order s k)))
 
   stores-agree : (nodes' : List Store) → length nodes' ≡ length rows.nodes → ((k : ℕ) (d : Store) → k < length rows.nodes → get_or nodes' k d ≡ evicted_at n ws k (get_or rows.nodes k d)) → HasStores p m s' nodes'
   stores-agree nodes' every each = record {

@@ -10,7 +10,7 @@ use Rattle.sj_base.specs.declared.mode.Policy.TheVariants.{Prio}
 use Rattle.sj_core.proofs.Words.{Program, Task, footprint}
 use Rattle.sj_pool.proofs.Keeping.{home-within}
 use Rattle.sj_pool.proofs.Serving.{serving-fits}
-use Rattle.sj_pool.specs.Entry.{fits, precedes}
+use Rattle.sj_pool.specs.Entry.{fits_room, precedes}
 use Rattle.sj_pool.specs.Pool.{IsMostUrgent, Pooled, count_entries, entry_for, home, queue, serves, task_for, turns, with_entry, without_entry_for}
 use Rattle.sj_pool.specs.Queue.{first_fitting, has_fitting, without_first_fitting}
 use Rattle.sj_pool.specs.declared.entry.Entry.{Entry}
@@ -54,7 +54,7 @@ none-any f (e ∷ es) h =
     All-cons (λ x. f x ≡ false) e es here (none-any f es rest)
 
 -- what is so of each entry is so of the one that is taken, and that one fits
-entry-taken : (P : Entry → Type 0) (qs : List (List Entry)) (room : ℕ) (o : Option ℕ) (e : Entry) → Serves qs room o → All (All P) qs → option_and_then (λ i. first_fitting room (queue qs i)) o ≡ Some e → (fits room e ≡ true) × P e
+entry-taken : (P : Entry → Type 0) (qs : List (List Entry)) (room : ℕ) (o : Option ℕ) (e : Entry) → Serves qs room o → All (All P) qs → option_and_then (λ i. first_fitting room (queue qs i)) o ≡ Some e → (fits_room room e ≡ true) × P e
 entry-taken P qs room None e serves all is = absurd (cc)
 entry-taken P qs room (Some i) e serves all is = (first-fits room (queue qs i) e is, first-all P room (queue qs i) e (All-get_or (All P) qs i [] (queue-inside qs room i (serves i refl)) all) is)
 
@@ -103,14 +103,14 @@ module _ (p : Program) (passed : List Task) (w room : ℕ) (old : Pooled) (is : 
     where
       no-entry : (t : Task) → IsLeft p passed room old t → ⊥
       no-entry t l =
-          let found = entry-among (λ e. IsEntry p e × (fits room e ≡ false)) old.queues t (λ i d h j k g. (is.entries i d h j k g, none-any (fits room) _ (unfit i d h) j k g)) l.stands in
+          let found = entry-among (λ e. IsEntry p e × (fits_room room e ≡ false)) old.queues t (λ i d h j k g. (is.entries i d h j k g, none-any (fits_room room) _ (unfit i d h) j k g)) l.stands in
           let bytes : found.0.bytes ≡ footprint p t = ap (λ (e : Entry). e.bytes) found.2.0 ∙ ap (footprint p) found.1 in
           let fitting : found.0.bytes ≤ room = subst (λ (n : ℕ). n ≤ room) (sym bytes) l.fits in
           let unfits : nat_le found.0.bytes room ≡ false = found.2.1 in
           absurd (let k : false ≡ true = grind arith in false≢true k)
 
   module _ (t : Task) (gives : task_for old w room ≡ Some t) where
-    entry-given : (P : Entry → Type 0) → All (All P) old.queues → (e : Entry) → entry_for old w room ≡ Some e → (fits room e ≡ true) × P e
+    entry-given : (P : Entry → Type 0) → All (All P) old.queues → (e : Entry) → entry_for old w room ≡ Some e → (fits_room room e ≡ true) × P e
     entry-given P all e some = entry-taken P old.queues room (serves old w room) e serving all some
 
     lost-given : HasLost (Some t) old taken
@@ -140,7 +140,7 @@ module _ (p : Program) (passed : List Task) (w room : ℕ) (old : Pooled) (is : 
         let has = entry-given (IsEntry p) is.entries e some in
         let same : e.task ≡ t = cc in
         let here : e ≡ entry_of p t = has.1 ∙ ap (entry_of p) same in
-        let found = entry-among (λ x. IsEntry p x × (IsTrue (fits room x) → precedes x e ≡ false)) old.queues u (λ i d h j k g. (is.entries i d h j k g, law i d h j k g)) l.stands in
+        let found = entry-among (λ x. IsEntry p x × (IsTrue (fits_room room x) → precedes x e ≡ false)) old.queues u (λ i d h j k g. (is.entries i d h j k g, law i d h j k g)) l.stands in
         let other : found.0 ≡ entry_of p u = found.2.0 ∙ ap (entry_of p) found.1 in
         let bytes : found.0.bytes ≡ footprint p u = ap (λ (x : Entry). x.bytes) other in
         let least : found.0.bytes ≤ room = subst (λ (n : ℕ). n ≤ room) (sym bytes) l.fits in

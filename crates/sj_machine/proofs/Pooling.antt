@@ -10,7 +10,7 @@ use Rattle.sj_base.specs.declared.mode.Policy.{Policy}
 use Rattle.sj_base.specs.declared.mode.Policy.TheVariants.{Eager, Prio, Ws}
 use Rattle.sj_base.specs.declared.ids.Task.{Task}
 use Rattle.sj_pool.proofs.Serving.{never-none}
-use Rattle.sj_pool.specs.Entry.{fits, precedes}
+use Rattle.sj_pool.specs.Entry.{fits_room, precedes}
 use Rattle.sj_pool.specs.Pool.{contains, has_task, put_into, queue, with_entry_at, without_first_at}
 use Rattle.sj_pool.specs.Queue.{first_fitting, has_fitting, put_by_urgency, without_first_fitting}
 use Rattle.sj_pool.specs.declared.entry.Entry.{Entry}
@@ -30,7 +30,7 @@ pub count-taken : (room : ℕ) (es : List Entry) (e : Entry) (t : Task) → firs
 count-taken room [] e t f = grind arith
 count-taken room (x ∷ xs) e t f = grind (arith, count-taken room xs e t, count-cons t x xs, count-cons t x (without_first_fitting room xs))
 
-pub first-fits : (room : ℕ) (es : List Entry) (e : Entry) → first_fitting room es ≡ Some e → fits room e ≡ true
+pub first-fits : (room : ℕ) (es : List Entry) (e : Entry) → first_fitting room es ≡ Some e → fits_room room e ≡ true
 first-fits room [] e f = grind arith
 first-fits room (x ∷ xs) e f = grind (arith, first-fits room xs e)
 
@@ -72,15 +72,15 @@ queues-length qs room (Some i) = length-set qs i (without_first_fitting room (qu
 -- what is so of each entry is so of the one that is taken, and of those that are left
 pub first-all : (P : Entry → Type 0) (room : ℕ) (es : List Entry) (e : Entry) → All P es → first_fitting room es ≡ Some e → P e
 first-all P room [] e all f = absurd (cc)
-first-all P room (x ∷ xs) e all f = by_fit (fits room x) refl (first-all P room xs e (All-tail P x xs all))
+first-all P room (x ∷ xs) e all f = by_fit (fits_room room x) refl (first-all P room xs e (All-tail P x xs all))
   where
-    by_fit : (b : Bool) → fits room x ≡ b → (first_fitting room xs ≡ Some e → P e) → P e
+    by_fit : (b : Bool) → fits_room room x ≡ b → (first_fitting room xs ≡ Some e → P e) → P e
     by_fit true is rest = let same : x ≡ e = grind arith in subst P same (All-head P x xs all)
     by_fit false is rest = let later : first_fitting room xs ≡ Some e = grind arith in rest later
 
 pub all-left : (P : Entry → Type 0) (room : ℕ) (es : List Entry) → All P es → All P (without_first_fitting room es)
 all-left P room [] all = all
-all-left P room (x ∷ xs) all = by_fit (fits room x) (all-left P room xs (All-tail P x xs all))
+all-left P room (x ∷ xs) all = by_fit (fits_room room x) (all-left P room xs (All-tail P x xs all))
   where
     by_fit : (b : Bool) → All P (without_first_fitting room xs) → All P (cond b xs (x ∷ without_first_fitting room xs))
     by_fit true rest = All-tail P x xs all

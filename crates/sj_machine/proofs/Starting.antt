@@ -9,7 +9,7 @@ use Rattle.sj_core.proofs.Words.{Machine, Program, State, Task, Worker, is_done,
 use Rattle.sj_core.specs.declared.progress.Progress.TheVariants.{Claimed, Running, Waiting}
 use Rattle.sj_core.specs.Legal.{IsComplete}
 use Rattle.sj_core.specs.Step.{after}
-use Rattle.sj_deps.specs.Progress.{Progress as Dependencies}
+use Rattle.sj_deps.specs.Progress.{Dependencies}
 use Rattle.sj_machine.specs.Board.{BoardState, has_event}
 use Rattle.sj_machine.specs.BoardSound.{IsToBeTaken, KeepsBoard}
 use Rattle.sj_machine.specs.Standing.{CanHappen, Standing, state, with_event}

@@ -11,7 +11,7 @@ use Rattle.sj_core.specs.declared.progress.Progress.TheVariants.{Waiting}
 use Rattle.sj_core.specs.Legal.{IsComplete}
 use Rattle.sj_core.specs.Step.{done_tasks}
 use Rattle.sj_deps.specs.Conflict.{Ready}
-use Rattle.sj_deps.specs.Progress.{Progress as Dependencies}
+use Rattle.sj_deps.specs.Progress.{Dependencies}
 use Rattle.sj_machine.specs.BoardSound.{CountsDone, IsToBeTaken}
 
 -- a task is ready where the same tasks are done

@@ -21,12 +21,12 @@ use Rattle.sj_disk.specs.Block.{block, block_bytes, header}
 use Rattle.sj_disk.specs.Calls.{Fetches, Stores}
 use Rattle.sj_disk.specs.Lending.{IsInFor, LendingState}
 use Rattle.sj_disk.specs.Directory.{extent_of, last_store, with_store}
-use Rattle.sj_disk.specs.Holding.{Holds, Tells}
+use Rattle.sj_disk.specs.Holding.{Holds, TellsBytes}
 use Rattle.sj_disk.proofs.Uniting.{length-block}
 use Rattle.sj_machine.specs.Agrees.{Rows, transfer_in}
 use Rattle.sj_machine.specs.Headers.{IsLastWritten}
 use Rattle.sj_machine.specs.Copies.{Copies, row_of}
-use Rattle.sj_machine.specs.Sound.{HoldsArray, HoldsBlocks, IsBlock, IsCopyOf, IsStored, IsWrittenOut, Keeps, block_of}
+use Rattle.sj_machine.specs.Sound.{HoldsArray, HoldsBlocks, IsBlock, IsBlockCopyOf, IsStored, IsWrittenOut, Keeps, block_of}
 use Rattle.sj_machine.specs.Units.{HasItsDiskIn, lent}
 use Rattle.sj_machine.specs.Standing.{AllTell, HasDimsMoved, IsTileMoved, IsTileOf, Standing, state}
 use Rattle.sj_machine.proofs.Resting.{valid-cell}
@@ -162,8 +162,8 @@ module _ {D : Type 0} (size faults mismatches : D → ℕ) (held : D → Option 
 
       pub stored-well : is_ok result ≡ true → IsWrittenOut held (record b { disks = new.set; out = new.out }) w
       stored-well ok =
-          IfSome-from (λ (y : Transfer). IsSomeAnd (extent_of new.set.directory y.cell.0) (IsCopyOf held (record b { disks = new.set; out = new.out }) y.cell y.from)) (transfer s w) (a_transfer c from (OnDisk d)) under_way
-          (IsSomeAnd-from (IsCopyOf held (record b { disks = new.set; out = new.out }) c from) (extent_of new.set.directory c.0) (with_store its (writes s c) (is_ok result)) now (record {
+          IfSome-from (λ (y : Transfer). IsSomeAnd (extent_of new.set.directory y.cell.0) (IsBlockCopyOf held (record b { disks = new.set; out = new.out }) y.cell y.from)) (transfer s w) (a_transfer c from (OnDisk d)) under_way
+          (IsSomeAnd-from (IsBlockCopyOf held (record b { disks = new.set; out = new.out }) c from) (extent_of new.set.directory c.0) (with_store its (writes s c) (is_ok result)) now (record {
             last = record { last = ap (λ (y : Bool). Some (last_store (writes s c) y)) ok };
             array = λ tells. (
                 let same : tile ≡ array_at p s from c = is.array tells in
@@ -243,13 +243,13 @@ module _ {D : Type 0} (size faults mismatches : D → ℕ) (held : D → Option 
                 let one : Some found.0 ≡ Some its_extent.0 = sym found.1 ∙ its_extent.1 in
                 let is : found.0 ≡ its_extent.0 = cc in
                 let has : HoldsArray held b.disks.disks p s c (OnDisk d) its_extent.0 = subst (λ (e : Extent). HoldsArray held b.disks.disks p s c (OnDisk d) e) is found.2 in
-                let tell : Tells held b.disks.disks its_extent.0 = λ x there. tell-still size faults mismatches held b.opened b.disks.disks keeps.sound.given_back tells its_extent.0.disk.0 x there in
+                let tell : TellsBytes held b.disks.disks its_extent.0 = λ x there. tell-still size faults mismatches held b.opened b.disks.disks keeps.sound.given_back tells its_extent.0.disk.0 x there in
                 let elements : got.elements ≡ (array_at p s (OnDisk d) c).elements = on_ok result ok fetched.gives_what_was_stored (array_at p s (OnDisk d) c).elements has.fits has.whole tell has.told in
                 ap (λ (xs : List ℤ). (let a : Array = record { dims = got.dims; elements = xs } in a)) elements ∙ ap (λ (ds : Dims). (let a : Array = record { dims = ds; elements = (array_at p s (OnDisk d) c).elements } in a)) (same_dims ∙ dims ∙ sym has.dims)
                 );
           }))
         where
-          on_ok : (r : Result A DiskRefusal) → is_ok r ≡ true → OnOk r ((ys : List ℤ) → All (FitsSigned w64) ys → length ys ≡ its_extent.0.length → Tells held b.disks.disks its_extent.0 → Holds held b.disks.disks its_extent.0 (block c.0 (writes s c) ys) → got.elements ≡ ys) → (ys : List ℤ) → All (FitsSigned w64) ys → length ys ≡ its_extent.0.length → Tells held b.disks.disks its_extent.0 → Holds held b.disks.disks its_extent.0 (block c.0 (writes s c) ys) → got.elements ≡ ys
+          on_ok : (r : Result A DiskRefusal) → is_ok r ≡ true → OnOk r ((ys : List ℤ) → All (FitsSigned w64) ys → length ys ≡ its_extent.0.length → TellsBytes held b.disks.disks its_extent.0 → Holds held b.disks.disks its_extent.0 (block c.0 (writes s c) ys) → got.elements ≡ ys) → (ys : List ℤ) → All (FitsSigned w64) ys → length ys ≡ its_extent.0.length → TellsBytes held b.disks.disks its_extent.0 → Holds held b.disks.disks its_extent.0 (block c.0 (writes s c) ys) → got.elements ≡ ys
           on_ok (Ok u) e h = h
           on_ok (Err x) e h = absurd (false≢true e)
 

@@ -12,7 +12,7 @@ use Rattle.sj_core.proofs.Words.{Machine, Program, State, Task, Worker, footprin
 use Rattle.sj_core.specs.declared.progress.Progress.TheVariants.{Claimed, Waiting}
 use Rattle.sj_core.specs.Legal.{IsComplete}
 use Rattle.sj_core.specs.Step.{after}
-use Rattle.sj_deps.specs.Progress.{Progress as Dependencies}
+use Rattle.sj_deps.specs.Progress.{Dependencies}
 use Rattle.sj_machine.specs.Board.{BoardState, IsWorking, hand_in, hand_of, has_claimed}
 use Rattle.sj_machine.specs.BoardSound.{HandsAgree, IsToBeTaken, KeepsBoard, StandsOnce, StopsAtTheEnd, times_given, times_pooled}
 use Rattle.sj_machine.specs.Planning.{MayClaim}

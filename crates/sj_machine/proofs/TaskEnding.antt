@@ -20,7 +20,7 @@ use Rattle.sj_core.specs.Step.{EarlierAreDone, after, done_tasks}
 use Rattle.sj_core.specs.declared.progress.Progress.{Progress}
 use Rattle.sj_core.specs.declared.progress.Progress.TheVariants.{Claimed, Done, Running, Waiting}
 use Rattle.sj_deps.specs.Conflict.{Ready}
-use Rattle.sj_deps.specs.Progress.{Progress as Dependencies, after as after_done}
+use Rattle.sj_deps.specs.Progress.{Dependencies, after_done}
 use Rattle.sj_pool.specs.Pool.{Pooled}
 use Rattle.sj_machine.specs.Board.{BoardState, IsWorking, board_state, hand_in, hand_of, has_ended}
 use Rattle.sj_machine.specs.BoardSound.{HandsAgree, IsToBeTaken, KeepsBoard, StandsOnce, StopsAtTheEnd, times_given, times_pooled}

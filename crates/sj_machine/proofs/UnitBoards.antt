@@ -6,7 +6,7 @@ use Rattle.sj_base.specs.declared.ids.Task.{Task}
 use Rattle.sj_core.proofs.Words.{Cell, State, Worker, is_task_of, progress, transfer}
 use Rattle.sj_core.specs.declared.progress.Transfer.{Transfer}
 use Rattle.sj_core.specs.Legal.{IsComplete}
-use Rattle.sj_deps.specs.Progress.{Progress as Dependencies}
+use Rattle.sj_deps.specs.Progress.{Dependencies}
 use Rattle.sj_edge.specs.GivenBack.{AreGivenBack}
 use Rattle.sj_edge.proofs.GivenBackLemmas.{all_given_back-untouched, all_untouched-same}
 use Rattle.sj_disk.specs.declared.refusal.DiskRefusal.{DiskRefusal}
@@ -19,7 +19,7 @@ use Rattle.sj_machine.specs.Board.{BoardState, GivesUnitBack, board_state, hand_
 use Rattle.sj_machine.specs.BoardSound.{KeepsBoard, times_pooled}
 use Rattle.sj_machine.specs.Sound.{OnlyDisksChange}
 use Rattle.sj_machine.specs.Standing.{IsFetching, IsMovingOut, IsTileMoved, IsTileOf, Standing, state}
-use Rattle.sj_machine.specs.Units.{HasFetchedMoved, HasStoredMoved, IsUnitOf, OthersKeepUnits, TakesUnit, UnitsStand, lent, unit_of}
+use Rattle.sj_machine.specs.Units.{HasFetchedMoved, HasStoredMoved, IsUnitOf, OthersKeepUnits, TakesUnit, UnitsStand, lent, unit_in_hand}
 use Rattle.sj_machine.specs.declared.fault.RunFault.{RunFault}
 use Rattle.sj_machine.specs.declared.hand.Hand.{Hand}
 use Rattle.sj_machine.proofs.Faulting.{keeps-disks, some-if}
@@ -105,8 +105,8 @@ module _ {D : Type 0} (run run' : Standing D) (w : Worker) (hands hands' : List 
 
     keep-others : (pool : Pooled) (fault : Option RunFault) (delivered : List (Task × Array)) → OthersKeepUnits w (board_state run hands pool fault delivered) (board_state run' hands' pool fault delivered)
     keep-others pool fault delivered v far =
-        ap (λ (hs : List Hand). unit_of (board_state run' hs pool fault delivered) v) is
-        ∙ ap (λ (l : LendingState D). unit_of (board_state (record run { disks = l.set }) (slice_set hands w.0 (record (hand_in hands w) { unit = None })) pool fault delivered) v) back
+        ap (λ (hs : List Hand). unit_in_hand (board_state run' hs pool fault delivered) v) is
+        ∙ ap (λ (l : LendingState D). unit_in_hand (board_state (record run { disks = l.set }) (slice_set hands w.0 (record (hand_in hands w) { unit = None })) pool fault delivered) v) back
         ∙ others-keep run.disks run.out hands stand w inside u.cell held before.extent u.extent its disk u.disk v far
 
     pub put-others : (pool : Pooled) (fault : Option RunFault) (delivered : List (Task × Array)) (b : BoardState D) → board_state run hands pool fault delivered ≡ b → OthersKeepUnits w b (board_state run' hands' pool fault delivered)

@@ -14,7 +14,7 @@ use Rattle.sj_core.specs.Machine.{State, WorkerState, array_of, is_valid, order,
 use Rattle.sj_core.specs.Needs.{node_size, tile_bytes}
 use Rattle.sj_core.specs.Program.{dims_of, same_cell}
 use Rattle.sj_core.specs.Step.{disk_of}
-use Rattle.sj_node.specs.Entry.{Entry, has_entry}
+use Rattle.sj_node.specs.Entry.{NodeEntry, has_entry}
 use Rattle.sj_node.specs.Store.{Store, store}
 use Rattle.sj_machine.specs.Copies.{Copies, mark_at, row_of, tile_at}
 use Rattle.sj_machine.specs.Mark.{is_entry_mark, mark_of}
@@ -35,12 +35,12 @@ rows_of tasks cells nodes workers = record { tasks = tasks; cells = cells; nodes
 abbrev pub pins_on : Machine → State → Node → Cell → ℕ
 pins_on m s n c = sum_by (λ w. count_by (λ d. same_cell d c) (pins s w)) (workers_at m n)
 
-abbrev pub entry_of : Program → Machine → State → Node → Cell → Entry
-entry_of p m s n c = record { cell = c; bytes = tile_bytes p c; pins = pins_on m s n c }
+abbrev pub node_entry_of : Program → Machine → State → Node → Cell → NodeEntry
+node_entry_of p m s n c = record { cell = c; bytes = tile_bytes p c; pins = pins_on m s n c }
 
 -- what a node's store is in a state
 abbrev pub store_of : Program → Machine → State → Node → Store
-store_of p m s n = store (node_size m n) (sum_by (scratch s) (workers_at m n)) (length p.cells) (map (entry_of p m s n) (order s n))
+store_of p m s n = store (node_size m n) (sum_by (scratch s) (workers_at m n)) (length p.cells) (map (node_entry_of p m s n) (order s n))
 
 -- ---- the rows
 
@@ -79,7 +79,7 @@ pub record Agrees (p : Program) (m : Machine) (s : State) (Tells : Type 0) (rows
   pub stores : HasStores p m s rows.nodes
 
 -- a node's entries are those of the cells of which the marks tell so
-abbrev pub AreMarked : List Copies → Node → List Entry → Type 0
+abbrev pub AreMarked : List Copies → Node → List NodeEntry → Type 0
 AreMarked rows n entries = (c : Cell) → has_entry entries c ≡ is_entry_mark (mark_at (row_of rows c) n)
 
 -- ---- changing rows

@@ -15,7 +15,7 @@ use Rattle.sj_core.specs.Step.{array_at}
 use Rattle.sj_core.specs.declared.progress.Progress.{Progress}
 use Rattle.sj_machine.specs.Board.{BoardState, hand_of, transfer_of}
 use Rattle.sj_machine.specs.Standing.{state}
-use Rattle.sj_machine.specs.Units.{unit_of}
+use Rattle.sj_machine.specs.Units.{unit_in_hand}
 use Rattle.sj_disk.specs.Units.{UnitState}
 use Rattle.sj_machine.specs.declared.hand.Hand.{Hand}
 
@@ -55,7 +55,7 @@ pub record BoardRow (D : Type 0) : Type 0 where
 abbrev pub row_for : {D : Type 0} → BoardState D → Worker → BoardRow D
 row_for b w = record {
   hand = hand_of b w;
-  unit = unit_of b w;
+  unit = unit_in_hand b w;
   phase = option_map (progress (state b.run)) (hand_of b w).task;
   operands = option_map (arrays_for b w) (hand_of b w).task;
   holds = if is_some (hand_of b w).task then worker_state (state b.run) w else idle_row;

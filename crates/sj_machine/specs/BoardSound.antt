@@ -12,7 +12,7 @@ use Rattle.sj_core.specs.Needs.{footprint, node_of, node_size}
 use Rattle.sj_core.specs.Step.{done_tasks}
 use Rattle.sj_core.specs.declared.progress.Progress.TheVariants.{Waiting}
 use Rattle.sj_deps.specs.Conflict.{Ready}
-use Rattle.sj_deps.specs.Progress.{Progress as Dependencies}
+use Rattle.sj_deps.specs.Progress.{Dependencies}
 use Rattle.sj_pool.specs.Pool.{Pooled, queue_count}
 use Rattle.sj_pool.specs.declared.entry.Entry.{Entry}
 use Rattle.sj_machine.specs.Board.{BoardState, HasCause, hand_in}

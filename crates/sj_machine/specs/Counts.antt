@@ -19,14 +19,14 @@ differed_at (Err (DiskFault d)) k = false
 differed_at (Err (Damaged d want found)) k = nat_eq d.0 k
 
 -- one fault more where the disk failed, and one mismatch more where it differed; else the counts are as they were
-pub record IsCounted {D : Type 0} (faults mismatches : D → ℕ) (failed differed : Bool) (old new : D) : Type 0 where
+pub record CountsFaults {D : Type 0} (faults mismatches : D → ℕ) (failed differed : Bool) (old new : D) : Type 0 where
   pub of_faults : faults new ≡ counted (faults old) failed
   pub of_mismatches : mismatches new ≡ counted (mismatches old) differed
 
 -- each disk has counted what the call answers of it
 pub record AreCounted {D A : Type 0} (faults mismatches : D → ℕ) (result : Result A DiskRefusal) (old new : List D) : Type 0 where
   pub as_many : length new ≡ length old
-  pub each : (k : ℕ) (x y : D) → slice_get old k ≡ Some x → slice_get new k ≡ Some y → IsCounted faults mismatches (failed_at result k) (differed_at result k) x y
+  pub each : (k : ℕ) (x y : D) → slice_get old k ≡ Some x → slice_get new k ≡ Some y → CountsFaults faults mismatches (failed_at result k) (differed_at result k) x y
 
 -- the fault of a run that a refusal is
 abbrev pub fault_of : DiskRefusal → RunFault

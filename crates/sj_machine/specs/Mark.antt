@@ -26,16 +26,16 @@ is_entry_mark (Coming w) = true
 is_entry_mark Valid = true
 is_entry_mark (Leaving w) = false
 
-abbrev pub is_leaving : Mark → Bool
-is_leaving (Leaving w) = true
-is_leaving _ = false
+abbrev pub is_leaving_mark : Mark → Bool
+is_leaving_mark (Leaving w) = true
+is_leaving_mark _ = false
 
 -- a copy leaves by the worker's claim
-abbrev pub is_leaving_by : Worker → Mark → Bool
-is_leaving_by w (Leaving v) = same_worker v w
-is_leaving_by w _ = false
+abbrev pub is_leaving_mark_by : Worker → Mark → Bool
+is_leaving_mark_by w (Leaving v) = same_worker v w
+is_leaving_mark_by w _ = false
 
 -- a copy comes by the worker's claim
-abbrev pub is_coming_by : Worker → Mark → Bool
-is_coming_by w (Coming v) = same_worker v w
-is_coming_by w _ = false
+abbrev pub is_coming_mark_by : Worker → Mark → Bool
+is_coming_mark_by w (Coming v) = same_worker v w
+is_coming_mark_by w _ = false

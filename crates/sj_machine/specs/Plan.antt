@@ -12,8 +12,8 @@ use Rattle.sj_core.specs.Needs.{node_of, scratch_bytes, tile_bytes}
 use Rattle.sj_core.specs.Operands.{cells_of}
 use Rattle.sj_core.specs.Program.{dims_of, task_of}
 use Rattle.sj_core.specs.Step.{missing, victims_for}
-use Rattle.sj_node.specs.Entry.{AreDistinct, admitted, has_entry, pins_of, repinned, to_front, without_all}
-use Rattle.sj_node.specs.Store.{Store, empty, free, with_entries}
+use Rattle.sj_node.specs.Entry.{AreDistinctCells, admitted, has_entry, pins_of, repinned, entry_to_front, without_all}
+use Rattle.sj_node.specs.Store.{Store, empty, free_bytes, with_entries}
 use Rattle.sj_machine.specs.Copies.{Copies, with_row}
 use Rattle.sj_machine.specs.declared.mark.Mark.{Mark}
 
@@ -62,7 +62,7 @@ marked rows cs n x = fold (λ kept c. with_row kept c (λ row. with_mark row n x
 
 -- a cell of the node comes to the front, with one pin more
 abbrev pub taken : Store → Cell → Store
-taken s c = with_entries s (repinned (λ n. n + 1) c (to_front c s.entries))
+taken s c = with_entries s (repinned (λ n. n + 1) c (entry_to_front c s.entries))
 
 -- each of these cells can be taken, one after another
 abbrev pub CanTakeAll : Store → List Cell → Type 0
@@ -85,13 +85,13 @@ holding s plan = record (taking s plan) { scratch = (taking s plan).scratch + pl
 pub record CanHold (s : Store) (plan : ClaimPlan) : Type 0 where
   pub victims_there : All (λ c. IsTrue (has_entry s.entries c)) plan.victims
   pub victims_unpinned : All (λ c. pins_of s.entries c ≡ 0) plan.victims
-  pub cells_differ : AreDistinct plan.missing
+  pub cells_differ : AreDistinctCells plan.missing
   pub cells_absent : All (λ c. has_entry s.entries c ≡ false) plan.missing
   pub paired : length plan.missing ≡ length plan.bytes
-  pub fits : sum plan.bytes ≤ free (with_entries s (without_all plan.victims s.entries))
+  pub fits : sum plan.bytes ≤ free_bytes (with_entries s (without_all plan.victims s.entries))
   pub few : length s.entries + length plan.missing ≤ s.limit
   pub cells : CanTakeAll (admitting s plan) plan.cells
-  pub scratch : plan.scratch ≤ free (taking s plan)
+  pub scratch : plan.scratch ≤ free_bytes (taking s plan)
 
 abbrev pub store_at : List Store → Node → Store
 store_at nodes n = slice_index_or nodes n.0 (empty 0 0)

@@ -16,10 +16,10 @@ use Rattle.sj_core.specs.Step.{done_tasks, is_in_use, none_leaving, victims_for}
 use Rattle.sj_core.specs.declared.progress.Progress.TheVariants.{Waiting}
 use Rattle.sj_deps.specs.Conflict.{Ready}
 use Rattle.sj_node.specs.Entry.{has_entry}
-use Rattle.sj_node.specs.Store.{Store, victims_of}
+use Rattle.sj_node.specs.Store.{Store, need_victims}
 use Rattle.sj_machine.specs.Agrees.{row_at}
 use Rattle.sj_machine.specs.Copies.{Copies, mark_at, row_of}
-use Rattle.sj_machine.specs.Mark.{is_leaving as is_leaving_mark}
+use Rattle.sj_machine.specs.Mark.{is_leaving_mark}
 use Rattle.sj_machine.specs.Operands.{CanWorkOn}
 use Rattle.sj_machine.specs.Plan.{ClaimPlan, IsPlan, IsSmallCell}
 use Rattle.sj_machine.specs.Standing.{CanHappen, Standing, state}
@@ -52,7 +52,7 @@ need_on p s t w = sum_by (tile_bytes p) (lacking s (cells_of p t w)) + scratch_b
 
 -- the victims of a worker's task on a node, most recent first
 abbrev pub chosen_on : Program → Store → Task → Worker → Option (List Cell)
-chosen_on p s t w = option_map reverse (victims_of (cells_of p t w) s (need_on p s t w))
+chosen_on p s t w = option_map reverse (need_victims (cells_of p t w) s (need_on p s t w))
 
 -- the plan of a worker's task on a node that evicts these
 abbrev pub planned : Program → Store → Task → Worker → List Cell → ClaimPlan

@@ -7,9 +7,9 @@ use Rattle.sj_base.specs.declared.mode.Policy.{Policy}
 use Rattle.sj_base.specs.declared.program.Program.{Program}
 use Rattle.sj_base.specs.declared.program.Machine.{Machine}
 use Rattle.sj_base.specs.Array.{Array}
-use Rattle.sj_deps.specs.Progress.{Progress as Dependencies, progress}
+use Rattle.sj_deps.specs.Progress.{Dependencies, dependencies}
 use Rattle.sj_disk.specs.Directory.{DiskState}
-use Rattle.sj_pool.specs.Pool.{Pooled, empty}
+use Rattle.sj_pool.specs.Pool.{Pooled, empty_pool}
 use Rattle.sj_machine.specs.Board.{BoardState, board_state, empty_hand}
 use Rattle.sj_machine.specs.BoardSound.{AreFootprints}
 use Rattle.sj_machine.specs.Delivered.{Deliveries, deliveries, is_delivery}
@@ -32,14 +32,14 @@ pub record AreFirst (p : Program) (ready : List Task) : Type 0 where
 
 -- the pool of a program whose tasks are these: each is put by the worker of its number, modulo the workers
 abbrev pub first_pool : Program → Policy → List Task → Pooled
-first_pool p policy ready = with_each p None (empty policy p.workers (length p.tasks)) ready
+first_pool p policy ready = with_each p None (empty_pool policy p.workers (length p.tasks)) ready
 
 abbrev pub first_hands : Program → List Hand
 first_hands p = replicate p.workers empty_hand
 
 -- the parts beside the run
 pub record IsPrepared (p : Program) (policy : Policy) (deps : Dependencies) (footprints : List ℕ) (hands : List Hand) (pool : Pooled) : Type 0 where
-  pub deps_are : deps ≡ progress p []
+  pub deps_are : deps ≡ dependencies p []
   pub bytes : AreFootprints p footprints
   pub hands_are : hands ≡ first_hands p
   pub ready : List Task

@@ -12,7 +12,7 @@ use Rattle.sj_core.specs.Machine.{State}
 use Rattle.sj_core.specs.Needs.{node_of}
 use Rattle.sj_core.specs.Step.{done_tasks}
 use Rattle.sj_deps.specs.Conflict.{Ready}
-use Rattle.sj_deps.specs.Progress.{BecomesReady, Progress as Dependencies}
+use Rattle.sj_deps.specs.Progress.{BecomesReady, Dependencies}
 use Rattle.sj_pool.specs.Pool.{Pooled}
 use Rattle.sj_machine.specs.Board.{BoardState, has_ended}
 use Rattle.sj_machine.specs.Delivered.{delivered_cell, is_deliver_task}

@@ -16,7 +16,7 @@ use Rattle.sj_core.specs.Needs.{node_of}
 use Rattle.sj_core.specs.Program.{dims_of, task_of, written_operands}
 use Rattle.sj_core.specs.Operands.{results, worked_on}
 use Rattle.sj_core.specs.Step.{array_at}
-use Rattle.sj_node.specs.Entry.{Entry, is_among, pins_of, repinned, without_all}
+use Rattle.sj_node.specs.Entry.{NodeEntry, is_of_cells, pins_of, repinned, without_all}
 use Rattle.sj_node.specs.Store.{Store, with_entries}
 use Rattle.sj_machine.specs.Agrees.{row_at}
 use Rattle.sj_machine.specs.Copies.{Copies, lent_at, row_of, tile_at, with_row, written_at}
@@ -59,8 +59,8 @@ abbrev pub lend_each : Node → List Cell → List Copies → List Copies
 lend_each n cells rows = fold (λ rs c. with_row rs c (λ row. lent_at row n)) rows cells
 
 -- none of these cells has a pinned entry
-abbrev pub AreUnpinned : List Cell → List Entry → Type 0
-AreUnpinned cells entries = All (λ e. is_among cells e ≡ true → e.pins ≡ 0) entries
+abbrev pub AreUnpinned : List Cell → List NodeEntry → Type 0
+AreUnpinned cells entries = All (λ e. is_of_cells cells e ≡ true → e.pins ≡ 0) entries
 
 -- a node's store without the entries of these cells, but for the one node, which keeps them
 abbrev pub evicted_at : Node → List Cell → ℕ → Store → Store
@@ -102,11 +102,11 @@ pub record CanPutBack (p : Program) (w : Worker) (rows : List Copies) (n : Node)
   pub count : length slots ≡ length (written_among p w accesses)
 
 -- entries with one pin less for each of these cells
-abbrev pub unpinned_each : List Cell → List Entry → List Entry
+abbrev pub unpinned_each : List Cell → List NodeEntry → List NodeEntry
 unpinned_each cells entries = fold (λ es c. repinned (λ k. k - 1) c es) entries cells
 
 -- there is a pin to take off for each of these cells
-abbrev pub CanUnpin : List Cell → List Entry → Type 0
+abbrev pub CanUnpin : List Cell → List NodeEntry → Type 0
 CanUnpin cells entries = (i : ℕ) (d : Cell) → i < length cells → 0 < pins_of (unpinned_each (take i cells) entries) (slice_index_or cells i d)
 
 -- a node's store when a worker lets these pins and so much scratch go

@@ -65,7 +65,7 @@ pub record HoldsBlocks {D : Type 0} (held : D → Option (List ℕ)) (p : Progra
 
 -- the program is proper, with codelets of a set that obeys the laws of a set, and the machine is one for it, with room for
 -- its blocks
-pub record IsRunOf (p : Program) (m : Machine) : Type 0 where
+pub record IsRunnableOn (p : Program) (m : Machine) : Type 0 where
   pub proper : Proper p
   pub has : Kernel → Bool
   pub lawful : IsLawful has p
@@ -74,7 +74,7 @@ pub record IsRunOf (p : Program) (m : Machine) : Type 0 where
 
 -- the trace is legal and its state coherent, the disks hold their blocks, and came back from each call
 pub record IsSoundRun {D : Type 0} (size faults mismatches : D → ℕ) (held : D → Option (List ℕ)) (b : Standing D) : Type 0 where
-  pub run : IsRunOf b.program b.machine
+  pub run : IsRunnableOn b.program b.machine
   pub legal : IsLegal b.program b.machine b.trace
   pub coherent : Coherent b.program b.machine (state b)
   pub blocks : HoldsBlocks held b.program b.machine (state b) (AllTell held b) b.disks
@@ -92,19 +92,19 @@ pub record Keeps {D : Type 0} (size faults mismatches : D → ℕ) (held : D →
 
 -- a run of the program can be made on the machine with these disks: each cell has its block
 pub record CanStart {D : Type 0} (p : Program) (m : Machine) (disks : DiskState D) : Type 0 where
-  pub run : IsRunOf p m
+  pub run : IsRunnableOn p m
   pub placed : (c : Cell) → IfSome (block_of p m c) (λ b. IsSomeAnd (extent_of disks.directory c.0) (IsBlock p c b))
 
 -- ---- disk transfers
 
 -- the last store of the cell ended well, and is its array at a place
-pub record IsCopyOf {D : Type 0} (held : D → Option (List ℕ)) (b : Standing D) (c : Cell) (q : Place) (e : Extent) : Type 0 where
+pub record IsBlockCopyOf {D : Type 0} (held : D → Option (List ℕ)) (b : Standing D) (c : Cell) (q : Place) (e : Extent) : Type 0 where
   pub last : IsStored (state b) c e
   pub array : AllTell held b → HoldsArray held b.disks.disks b.program (state b) c q e
 
 -- the block of the cell of the worker's transfer is what stands at its source
 abbrev pub IsWrittenOut : {D : Type 0} → (D → Option (List ℕ)) → Standing D → Worker → Type 0
-IsWrittenOut held b w = IfSome (transfer (state b) w) (λ x. IsSomeAnd (extent_of b.disks.directory x.cell.0) (IsCopyOf held b x.cell x.from))
+IsWrittenOut held b w = IfSome (transfer (state b) w) (λ x. IsSomeAnd (extent_of b.disks.directory x.cell.0) (IsBlockCopyOf held b x.cell x.from))
 
 -- no event has happened: the disks alone may have changed
 abbrev pub OnlyDisksChange : {D : Type 0} → Standing D → Standing D → Type 0

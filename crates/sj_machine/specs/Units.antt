@@ -73,8 +73,8 @@ abbrev pub unit_at : {D : Type 0} → DiskState D → Cell → Option (UnitState
 unit_at disks c = option_and_then (λ (e : Extent). option_map (λ x. unit_state x c e) (slice_get disks.disks e.disk.0)) (extent_of disks.directory c.0)
 
 -- the unit that a worker has in hand, as it was taken out
-abbrev pub unit_of : {D : Type 0} → BoardState D → Worker → Option (UnitState D)
-unit_of b w = option_and_then (unit_at b.run.disks) (hand_of b w).unit
+abbrev pub unit_in_hand : {D : Type 0} → BoardState D → Worker → Option (UnitState D)
+unit_in_hand b w = option_and_then (unit_at b.run.disks) (hand_of b w).unit
 
 -- the disk is in a worker's hand
 pub record IsInHand {D : Type 0} (disks : DiskState D) (hands : List Hand) (d : ℕ) : Type 0 where
@@ -102,4 +102,4 @@ pub record AnotherHasUnit {D : Type 0} (b : BoardState D) (w : Worker) : Type 0 
 
 -- the units in the hands of all other workers are as they were
 abbrev pub OthersKeepUnits : {D : Type 0} → Worker → BoardState D → BoardState D → Type 0
-OthersKeepUnits w old new = (v : Worker) → v ≢ w → unit_of new v ≡ unit_of old v
+OthersKeepUnits w old new = (v : Worker) → v ≢ w → unit_in_hand new v ≡ unit_in_hand old v

@@ -2,13 +2,13 @@
 
 ghost use Rattle.std.specs.Prelude.{◌≡◌, ◌<◌, ◌++◌, ◌∷◌, [], length};
 
-use crate::few_cells::MOST;
+use crate::few_cells::MOST_OPERANDS;
 use std::marker::Model;
 
 /// Five numbers at most, in order. They lie in the value itself.
 #[derive(Debug, Drop)]
 pub struct FewBytes {
-    bytes: [u64; MOST],
+    bytes: [u64; MOST_OPERANDS],
     count: usize,
 }
 
@@ -28,7 +28,7 @@ impl FewBytes {
         ensures { result ≡ [] }
     {
         FewBytes {
-            bytes: [0; MOST],
+            bytes: [0; MOST_OPERANDS],
             count: 0,
         }
     }

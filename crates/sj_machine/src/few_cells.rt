@@ -6,12 +6,12 @@ use sj_base::ids::Cell;
 use std::marker::Model;
 
 /// The most operands of a task.
-pub const MOST: usize = 5;
+pub const MOST_OPERANDS: usize = 5;
 
 /// Five cells at most, in order. They lie in the value itself.
 #[derive(Debug, Drop)]
 pub struct FewCells {
-    cells: [Cell; MOST],
+    cells: [Cell; MOST_OPERANDS],
     count: usize,
 }
 
@@ -32,7 +32,7 @@ impl FewCells {
         ensures { result ≡ [] }
     {
         FewCells {
-            cells: [Cell(0); MOST],
+            cells: [Cell(0); MOST_OPERANDS],
             count: 0,
         }
     }

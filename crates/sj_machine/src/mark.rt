@@ -1,7 +1,7 @@
 //! What a cell is at a node.
 
 ghost use Rattle.std.specs.Prelude.{◌≡◌};
-ghost use Rattle.sj_machine.specs.Mark.{is_coming_by, is_entry_mark, is_leaving, is_leaving_by, is_there};
+ghost use Rattle.sj_machine.specs.Mark.{is_coming_mark_by, is_entry_mark, is_leaving_mark, is_leaving_mark_by, is_there};
 
 use sj_base::ids::Worker;
 
@@ -35,14 +35,14 @@ impl Mark {
 
     /// Whether there is a copy that leaves. Constant time.
     pub fn is_leaving(self) -> bool
-        ensures { result ≡ is_leaving self }
+        ensures { result ≡ is_leaving_mark self }
     {
         matches!(self, Mark::Leaving(_))
     }
 
     /// Whether there is a copy that leaves by the claim of this worker. Constant time.
     pub fn is_leaving_by(self, w: Worker) -> bool
-        ensures { result ≡ is_leaving_by w self }
+        ensures { result ≡ is_leaving_mark_by w self }
     {
         match self {
             Mark::Leaving(v) => v == w,
@@ -52,7 +52,7 @@ impl Mark {
 
     /// Whether a copy comes by the claim of this worker. Constant time.
     pub fn is_coming_by(self, w: Worker) -> bool
-        ensures { result ≡ is_coming_by w self }
+        ensures { result ≡ is_coming_mark_by w self }
     {
         match self {
             Mark::Coming(v) => v == w,

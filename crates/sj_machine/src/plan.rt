@@ -4,7 +4,7 @@ ghost use Rattle.std.specs.Prelude.{◌≡◌, ◌<◌, ◌≤◌, ◌*◌, ◌^
 ghost use Rattle.sj_core.specs.Needs.{scratch_bytes};
 ghost use Rattle.sj_core.specs.Operands.{cells_of};
 ghost use Rattle.sj_core.specs.Program.{task_of};
-ghost use Rattle.sj_node.specs.Store.{victims_of};
+ghost use Rattle.sj_node.specs.Store.{need_victims};
 ghost use Rattle.sj_machine.specs.Agrees.{AreMarked};
 ghost use Rattle.sj_machine.specs.Planning.{HasSmallTask, HasSmallWork, chosen_on, lacking, planned};
 
@@ -88,7 +88,7 @@ fn recent_victims(
     held: &[Cell],
     need: u64,
 ) -> Result<Option<Vec<Cell>>, OutOfMemory>
-    ensures { IfOk result (λ found. option_map (λ v. v.items) found ≡ option_map reverse (victims_of held.now node.now need)) }
+    ensures { IfOk result (λ found. option_map (λ v. v.items) found ≡ option_map reverse (need_victims held.now node.now need)) }
 {
     let Some(mut victims) = node.victims(alloc, held, need)? else {
         return Ok(None);

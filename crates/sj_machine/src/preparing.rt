@@ -60,7 +60,7 @@ pub fn ready_tasks(alloc: Global, deps: &Deps, count: u32) -> Result<Vec<Task>, 
 
 /// What a board has beside its run.
 #[derive(Drop)]
-pub struct Parts {
+pub struct BoardParts {
     pub deps: Deps,
     pub footprints: Vec<u64>,
     pub hands: Vec<Hand>,
@@ -71,7 +71,7 @@ pub struct Parts {
 
 /// What a board has beside its run when nothing has happened: its ready tasks are in the pool, and there is room for what its
 /// deliver tasks hand over. Linear in the tasks and their accesses, and for each ready task logarithmic in all.
-pub fn prepare(alloc: Global, program: &Program, policy: Policy) -> Result<Parts, OutOfMemory>
+pub fn prepare(alloc: Global, program: &Program, policy: Policy) -> Result<BoardParts, OutOfMemory>
     requires proper { Proper program.now }
     requires workers { 0 < program.now.workers }
     ensures prepared { IfOk result (λ r. IsPrepared program.now policy r.deps r.footprints.items r.hands.items r.pool) }
@@ -86,7 +86,7 @@ pub fn prepare(alloc: Global, program: &Program, policy: Policy) -> Result<Parts
     let mut pool = Pool::make(alloc, policy, program.workers, count)?;
     let ready = ready_tasks(alloc, &deps, count)?;
     put_each(&mut pool, program, &footprints, &ready, None);
-    Ok(Parts {
+    Ok(BoardParts {
         deps,
         footprints,
         hands,

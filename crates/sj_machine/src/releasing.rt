@@ -3,7 +3,7 @@
 ghost use Rattle.std.specs.Prelude.{◌≡◌, ◌<◌, List, Some};
 ghost use Rattle.sj_base.specs.declared.ids.Task.{Task};
 ghost use Rattle.sj_deps.specs.Conflict.{Ready};
-ghost use Rattle.sj_deps.specs.Progress.{after};
+ghost use Rattle.sj_deps.specs.Progress.{after_done};
 ghost use Rattle.sj_machine.specs.BoardSound.{AreFootprints};
 ghost use Rattle.sj_machine.specs.Filling.{CanPutEach};
 ghost use Rattle.sj_machine.specs.Releasing.{AreReleased, Releases};
@@ -28,7 +28,7 @@ pub fn release(
     requires workers { 0 < program.now.workers }
     requires bytes { AreFootprints program.now footprints.now }
     requires can { (ts : List Task) → AreReleased deps.old t ts → CanPutEach program.now (Some w) pool.old ts }
-    ensures deps { deps.new ≡ after deps.old t.0 }
+    ensures deps { deps.new ≡ after_done deps.old t.0 }
     ensures pool { Releases program.now deps.old t w pool.old pool.new }
 {
     let ready = deps.done(t);

@@ -6,7 +6,7 @@ ghost use Rattle.sj_machine.specs.Agrees.{AreMarked};
 ghost use Rattle.sj_machine.specs.Copies.{lent_at, mark_at, row_of, with_row};
 ghost use Rattle.sj_machine.specs.Mark.{is_entry_mark};
 ghost use Rattle.sj_machine.specs.Running.{AreUnpinned, CanGive, evicted_at, lend_each, shares_at};
-ghost use Rattle.sj_node.specs.Entry.{has_entry, pins_of, without, without_all};
+ghost use Rattle.sj_node.specs.Entry.{has_entry, pins_of, without_entry, without_all};
 ghost use Rattle.sj_node.specs.Store.{Store, with_entries};
 ghost use Rattle.sj_base.specs.Mode.{reads_of};
 
@@ -91,7 +91,7 @@ fn remove_entry(node: &mut NodeStore, rows: &[Copies], k: Node, cell: Cell)
     requires wide { All (λ row. k.0 < length row.marks) rows.now }
     requires absent { is_entry_mark (mark_at (row_of rows.now cell) k) ≡ false → has_entry node.old.entries cell ≡ false }
     requires unpinned { pins_of node.old.entries cell ≡ 0 }
-    ensures { node.new ≡ with_entries node.old (without cell node.old.entries) }
+    ensures { node.new ≡ with_entries node.old (without_entry cell node.old.entries) }
 {
     if !mark_at(rows, k, cell).is_entry_mark() {
         return;

@@ -5,7 +5,7 @@ use std::alloc::Global;
 use std::sync::Arc;
 
 /// How many tiles are kept until they are freed.
-const MOST: usize = 16;
+const MOST_SPENT: usize = 16;
 
 /// Shares of tiles that the board let go. No clause speaks of them: they are kept so that no large tile is freed in a turn.
 #[derive(Drop)]
@@ -23,7 +23,7 @@ impl Spent {
 
     /// No share, and room for some, where there is memory.
     pub fn roomy(alloc: Global) -> Spent {
-        match Vec::with_capacity(alloc, MOST) {
+        match Vec::with_capacity(alloc, MOST_SPENT) {
             Ok(tiles) => Spent { tiles },
             Err(_) => Spent::none(alloc),
         }

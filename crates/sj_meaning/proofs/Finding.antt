@@ -8,8 +8,8 @@ use Rattle.std.proofs.lemmas.Map.Text.{is_eq-slice_cmp}
 use Rattle.std.proofs.lemmas.List.{length-map}
 use Rattle.std.proofs.lemmas.List.Quantifiers.{position-Some}
 use Rattle.std.proofs.lemmas.Slice.Eq.{bytes_eq-Decides}
-use Rattle.sj_base.specs.declared.ids.Root.{Root as RootNumber}
-use Rattle.sj_meaning.specs.State.{Root, Roots, State, root_of}
+use Rattle.sj_base.specs.declared.ids.Root.{Root}
+use Rattle.sj_meaning.specs.State.{RootState, Roots, JobState, root_of}
 use Rattle.sj_meaning.specs.Meaning.{change}
 use Rattle.sj_meaning.specs.Table.{Table, a_root, name_of, root_in, IsRoot}
 
@@ -24,21 +24,21 @@ position-map p f xs = λ i. cond (nat_lt (len-map p f xs i) (length-map xs f i))
 
 -- ---- the root of a name
 
-pub record IsAt (T : Table) (q : List ℕ) (r : RootNumber) : Type 0 where
+pub record IsAt (T : Table) (q : List ℕ) (r : Root) : Type 0 where
   pub below : r.0 < length T.names
   pub named : name_of T r ≡ q
 
-at_by : (T : Table) (q : List ℕ) (r : RootNumber) (o : Option ℕ) → position (bytes_eq q) T.names ≡ o → option_map a_root o ≡ Some r → IsAt T q r
+at_by : (T : Table) (q : List ℕ) (r : Root) (o : Option ℕ) → position (bytes_eq q) T.names ≡ o → option_map a_root o ≡ Some r → IsAt T q r
 at_by T q r None p e = absurd (cc)
 at_by T q r (Some i) p e =
     let at = position-Some (bytes_eq q) T.names i [] p in
     let same : a_root i ≡ r = cc in
-    subst (λ (s : RootNumber). IsAt T q s) same (record { below = at.0; named = sym ((bytes_eq-Decides q (get_or T.names i [])).0 at.1) })
+    subst (λ (s : Root). IsAt T q s) same (record { below = at.0; named = sym ((bytes_eq-Decides q (get_or T.names i [])).0 at.1) })
 
-pub is-at : (T : Table) (q : List ℕ) (r : RootNumber) → root_in T q ≡ Some r → IsAt T q r
+pub is-at : (T : Table) (q : List ℕ) (r : Root) → root_in T q ≡ Some r → IsAt T q r
 is-at T q r e = at_by T q r (position (bytes_eq q) T.names) refl e
 
-pub is-root : (T : Table) (q : List ℕ) (r : RootNumber) → root_in T q ≡ Some r → IsRoot T r
+pub is-root : (T : Table) (q : List ℕ) (r : Root) → root_in T q ≡ Some r → IsRoot T r
 is-root T q r e = ap (root_in T) (is-at T q r e).named ∙ e
 
 pub text-itself : (q name : List ℕ) → q ≡ name → bytes_eq q name ≡ true
@@ -50,7 +50,7 @@ pub bytes_eq-sym : (a b : List ℕ) → bytes_eq a b ≡ bytes_eq b a
 bytes_eq-sym a b = sym (is_eq-slice_cmp a b) ∙ (eq_by_cmp_equiv nat_list_cmp_total).symm a b ∙ is_eq-slice_cmp b a
 
 -- what a name's root is after another root was put
-pub get-put : (M : Roots) (name : List ℕ) (root : Root) (q : List ℕ) → map.get (map.insert M name root) q ≡ cond (bytes_eq name q) (Some root) (map.get M q)
+pub get-put : (M : Roots) (name : List ℕ) (root : RootState) (q : List ℕ) → map.get (map.insert M name root) q ≡ cond (bytes_eq name q) (Some root) (map.get M q)
 get-put M name root q =
     map.get-insert nat_list_cmp_total M name root q ∙ ap (λ b. cond b (Some root) (map.get M q)) (is_eq-slice_cmp q name ∙ bytes_eq-sym q name)
 
@@ -58,12 +58,12 @@ pub get-gone : (M : Roots) (name : List ℕ) (q : List ℕ) → map.get (map.rem
 get-gone M name q =
     map.get-remove nat_list_cmp_total M name q ∙ ap (λ b. cond b None (map.get M q)) (is_eq-slice_cmp q name ∙ bytes_eq-sym q name)
 
-change-there : (f : Root → Root) (name : List ℕ) (S : State) (r : Root) → root_of S name ≡ Some r → change f name S ≡ record { registered = S.registered; ended = S.ended; roots = map.insert S.roots name (f r) }
-change-there f name S r e = ap (λ (o : Option Root). elim o as (λ _. State) [
+change-there : (f : RootState → RootState) (name : List ℕ) (S : JobState) (r : RootState) → root_of S name ≡ Some r → change f name S ≡ record { registered = S.registered; ended = S.ended; roots = map.insert S.roots name (f r) }
+change-there f name S r e = ap (λ (o : Option RootState). elim o as (λ _. JobState) [
   | None ↦ S
   | Some r ↦ record { registered = S.registered; ended = S.ended; roots = map.insert S.roots name (f r) }
 ]) e
 
 -- the roots after a change of one
-pub root-change : (f : Root → Root) (name : List ℕ) (S : State) (r : Root) (q : List ℕ) → root_of S name ≡ Some r → root_of (change f name S) q ≡ cond (bytes_eq name q) (Some (f r)) (root_of S q)
-root-change f name S r q e = ap (λ (T : State). root_of T q) (change-there f name S r e) ∙ get-put S.roots name (f r) q
+pub root-change : (f : RootState → RootState) (name : List ℕ) (S : JobState) (r : RootState) (q : List ℕ) → root_of S name ≡ Some r → root_of (change f name S) q ≡ cond (bytes_eq name q) (Some (f r)) (root_of S q)
+root-change f name S r q e = ap (λ (T : JobState). root_of T q) (change-there f name S r e) ∙ get-put S.roots name (f r) q

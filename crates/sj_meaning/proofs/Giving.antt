@@ -15,7 +15,7 @@ use Rattle.sj_codelet.specs.Kernel.{kernel_of, formals_of, arguments_fit, dims_f
 use Rattle.sj_codelet.specs.Formal.{is_output}
 use Rattle.sj_codelet.proofs.Table.{new_arrays-count}
 use Rattle.sj_meaning.specs.Statement.{Operand, TaskLine}
-use Rattle.sj_meaning.specs.State.{State}
+use Rattle.sj_meaning.specs.State.{JobState}
 use Rattle.sj_meaning.specs.Meaning.{written_of}
 use Rattle.sj_meaning.specs.Sound.{mode_fits, modes_fit}
 use Rattle.sj_meaning.specs.Sound.{child_dims, IsSoundTask}
@@ -73,6 +73,6 @@ by_kernel has args ds os ins (Some k) l f m =
     let as_many : length os ≡ length (formals_of k) = sym l ∙ same_length (length ds) (length (formals_of k)) counted in
     new_arrays-count k args ins ∙ sym (written_length (formals_of k) os as_many m)
 
-pub gives_all : (has : Kernel → Bool) (S : State) (t : TaskLine (List ℕ)) (ins : List Array) → IsSoundTask has S t → length (out t.codelet t.args ins) ≡ length (written_of t.operands)
+pub gives_all : (has : Kernel → Bool) (S : JobState) (t : TaskLine (List ℕ)) (ins : List Array) → IsSoundTask has S t → length (out t.codelet t.args ins) ≡ length (written_of t.operands)
 gives_all has S t ins h =
     by_kernel has t.args (each_of (child_dims S) t.operands) t.operands ins (kernel_of t.codelet) (length-map t.operands (child_dims S)) h.fits h.modes

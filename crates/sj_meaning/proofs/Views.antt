@@ -9,8 +9,8 @@ use Rattle.sj_meaning.specs.declared.job.Act.TheVariants as kept
 use Rattle.sj_meaning.specs.declared.job.Statement.{Statement as Kept}
 use Rattle.sj_meaning.specs.Statement.{Operand, TaskLine}
 use Rattle.sj_meaning.specs.Act.{Act, Register, Plan, Redux, Task, Print, Invalidate, Unregister, Statement}
-use Rattle.sj_meaning.specs.Table.{Table, table, a_root, no_info, name_of}
-use Rattle.sj_meaning.specs.View.{operand_seen, registration, act_seen, statement_seen, seen_from, count_after, count_from, IsPlaced, ArePlaced, Extends}
+use Rattle.sj_meaning.specs.Table.{Table, table_of, a_root, no_info, name_of}
+use Rattle.sj_meaning.specs.View.{operand_seen, registration, act_seen, statement_seen, seen_from, count_after, count_from, IsPlaced, ActsArePlaced, Extends}
 use Rattle.sj_codelet.specs.Kernel.{codelet_of}
 
 -- ---- counts
@@ -40,16 +40,16 @@ pub length-seen : (T : Table) (k : ℕ) (ss : List Kept) → length (seen_from T
 length-seen T k [] = refl
 length-seen T k (s ∷ ss) = ap suc (length-seen T (count_after k s.act) ss)
 
-pub placed-push : (k : ℕ) (ss : List Kept) (s : Kept) → ArePlaced k ss → IsPlaced (count_from k ss) s.act → ArePlaced k (ss ++ s ∷ [])
+pub placed-push : (k : ℕ) (ss : List Kept) (s : Kept) → ActsArePlaced k ss → IsPlaced (count_from k ss) s.act → ActsArePlaced k (ss ++ s ∷ [])
 placed-push k [] s h p = (p, tt)
 placed-push k (t ∷ ts) s h p = (h.0, placed-push (count_after k t.act) ts s h.1 p)
 
 -- ---- a table that has grown
 
-name-kept : (T : Table) (names : List (List ℕ)) (infos : List RootInfo) (r : Root) → r.0 < length T.names → name_of (table (T.names ++ names) (T.infos ++ infos)) r ≡ name_of T r
+name-kept : (T : Table) (names : List (List ℕ)) (infos : List RootInfo) (r : Root) → r.0 < length T.names → name_of (table_of (T.names ++ names) (T.infos ++ infos)) r ≡ name_of T r
 name-kept T names infos r lt = get_or_append_left T.names names [] r.0 lt
 
-operands-kept : (T : Table) (names : List (List ℕ)) (infos : List RootInfo) (os : List Access) → All (λ o. o.root.0 < length T.names) os → map (operand_seen (table (T.names ++ names) (T.infos ++ infos))) os ≡ map (operand_seen T) os
+operands-kept : (T : Table) (names : List (List ℕ)) (infos : List RootInfo) (os : List Access) → All (λ o. o.root.0 < length T.names) os → map (operand_seen (table_of (T.names ++ names) (T.infos ++ infos))) os ≡ map (operand_seen T) os
 operands-kept T names infos [] h = refl
 operands-kept T names infos (o ∷ os) h =
     let mk : List ℕ → Operand (List ℕ) = λ n. record { name = n; place = o.place; mode = o.mode } in
@@ -58,7 +58,7 @@ operands-kept T names infos (o ∷ os) h =
 all_within : (os : List Access) (k n : ℕ) → k ≤ n → All (λ o. o.root.0 < k) os → All (λ o. o.root.0 < n) os
 all_within os k n le h = λ i d lt. omega (arith, h i d lt)
 
-act-kept : (T : Table) (names : List (List ℕ)) (infos : List RootInfo) (k : ℕ) (a : KeptAct) → length T.infos ≡ length T.names → count_after k a ≤ length T.names → IsPlaced k a → act_seen (table (T.names ++ names) (T.infos ++ infos)) k a ≡ act_seen T k a
+act-kept : (T : Table) (names : List (List ℕ)) (infos : List RootInfo) (k : ℕ) (a : KeptAct) → length T.infos ≡ length T.names → count_after k a ≤ length T.names → IsPlaced k a → act_seen (table_of (T.names ++ names) (T.infos ++ infos)) k a ≡ act_seen T k a
 act-kept T names infos k (kept.Register init) e le h =
     let in_names : k < length T.names = omega arith in
     let in_infos : k < length T.infos = omega arith in
@@ -72,12 +72,12 @@ act-kept T names infos k (kept.Print r) e le h = ap Print (name-kept T names inf
 act-kept T names infos k (kept.Invalidate r) e le h = ap Invalidate (name-kept T names infos r (omega arith))
 act-kept T names infos k (kept.Unregister r) e le h = ap Unregister (name-kept T names infos r (omega arith))
 
-kept_in : (T : Table) (names : List (List ℕ)) (infos : List RootInfo) (k : ℕ) (ss : List Kept) → length T.infos ≡ length T.names → count_from k ss ≤ length T.names → ArePlaced k ss → seen_from (table (T.names ++ names) (T.infos ++ infos)) k ss ≡ seen_from T k ss
+kept_in : (T : Table) (names : List (List ℕ)) (infos : List RootInfo) (k : ℕ) (ss : List Kept) → length T.infos ≡ length T.names → count_from k ss ≤ length T.names → ActsArePlaced k ss → seen_from (table_of (T.names ++ names) (T.infos ++ infos)) k ss ≡ seen_from T k ss
 kept_in T names infos k [] e le h = refl
 kept_in T names infos k (s ∷ ss) e le h =
     let mk : Act (List ℕ) → Statement (List ℕ) = λ a. record { line = s.line; act = a } in
     λ i. mk (act-kept T names infos k s.act e (omega (arith, counts-grow (count_after k s.act) ss)) h.0 i)
     ∷ kept_in T names infos (count_after k s.act) ss e le h.1 i
 
-pub seen-kept : (old new : Table) (k : ℕ) (ss : List Kept) → length old.infos ≡ length old.names → Extends old new → count_from k ss ≤ length old.names → ArePlaced k ss → seen_from new k ss ≡ seen_from old k ss
+pub seen-kept : (old new : Table) (k : ℕ) (ss : List Kept) → length old.infos ≡ length old.names → Extends old new → count_from k ss ≤ length old.names → ActsArePlaced k ss → seen_from new k ss ≡ seen_from old k ss
 seen-kept old new k ss e x le h = ap (λ (T : Table). seen_from T k ss) x.2 ∙ kept_in old x.0 x.1 k ss e le h

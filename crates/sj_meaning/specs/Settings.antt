@@ -11,8 +11,8 @@ unset = record { workers = None; nodes = []; policy = None }
 -- ---- what a line that isn't there stands for
 
 -- one worker
-abbrev pub workers_of : Settings → ℕ
-workers_of g = unwrap_or g.workers 1
+abbrev pub worker_count : Settings → ℕ
+worker_count g = unwrap_or g.workers 1
 
 -- one node of 2^28 bytes
 abbrev pub default_nodes : List ℕ
@@ -40,7 +40,7 @@ abbrev pub has_nodes : Settings → Bool
 has_nodes g = nat_le 16 (length g.nodes)
 
 -- 1 to 64 workers, and at most 16 nodes of 8 to 2^40 bytes
-pub record IsWithinLimits (g : Settings) : Type 0 where
+pub record SettingsAreInRange (g : Settings) : Type 0 where
   pub workers : IfSome g.workers (λ n. (1 ≤ n) × (n ≤ 64))
   pub few_nodes : length g.nodes ≤ 16
   pub nodes : All (λ n. (8 ≤ n) × (n ≤ 2 ^ 40)) g.nodes

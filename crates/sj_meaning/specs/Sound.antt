@@ -17,8 +17,8 @@ use Rattle.sj_codelet.specs.Kernel.{fits_in, commutes_in, contributes_in}
 use Rattle.sj_codelet.specs.Runs.{formals_in}
 use Rattle.sj_plan.specs.declared.parts.Parts.{Parts}
 use Rattle.sj_plan.specs.Parts.{Fits}
-use Rattle.sj_plan.specs.Paste.{same_place}
-use Rattle.sj_plan.specs.Rect.{dims_of as rect_dims}
+use Rattle.sj_plan.specs.Paste.{same_child_place}
+use Rattle.sj_plan.specs.Rect.{rect_dims}
 use Rattle.sj_meaning.specs.declared.job.Init.{Init}
 use Rattle.sj_meaning.specs.declared.job.Init.TheVariants.{Values, Fill, Nothing}
 use Rattle.sj_meaning.specs.Statement.{Register}
@@ -26,7 +26,7 @@ use Rattle.sj_meaning.specs.Statement.{Operand, TaskLine}
 use Rattle.sj_meaning.specs.Act.{Act}
 use Rattle.sj_meaning.specs.Act.{Register as Registers, Plan, Redux as Reduces, Task, Print, Invalidate, Unregister}
 use Rattle.sj_meaning.specs.Meaning.{written_of}
-use Rattle.sj_meaning.specs.State.{State, root_of, is_valued, is_blank, is_child, child_rect, is_valued_child}
+use Rattle.sj_meaning.specs.State.{JobState, root_of, is_valued, has_no_value, is_child, child_rect, is_valued_child}
 
 -- ---- sizes, priorities and modes
 
@@ -54,7 +54,7 @@ modes_fit fs os = list_all (λ p. mode_fits p.0 p.1.mode) (zip fs os)
 
 -- both are one child, and not both only read it
 abbrev pub clashes : Operand (List ℕ) → Operand (List ℕ) → Bool
-clashes o p = bytes_eq o.name p.name && same_place o.place p.place && not (is_read_only o.mode && is_read_only p.mode)
+clashes o p = bytes_eq o.name p.name && same_child_place o.place p.place && not (is_read_only o.mode && is_read_only p.mode)
 
 abbrev pub is_aliased : List (Operand (List ℕ)) → Bool
 is_aliased [] = false
@@ -79,44 +79,44 @@ is_lawful_for has id by m =
 -- ---- roots
 
 -- the dimensions of a name's root, or none by none
-abbrev pub dims_of : State → List ℕ → Dims
-dims_of S name = elim (root_of S name) [ None ↦ record { rows = 0; cols = 0 } | Some r ↦ r.dims ]
+abbrev pub root_dims : JobState → List ℕ → Dims
+root_dims S name = elim (root_of S name) [ None ↦ record { rows = 0; cols = 0 } | Some r ↦ r.dims ]
 
-abbrev pub has_root : State → List ℕ → Bool
+abbrev pub has_root : JobState → List ℕ → Bool
 has_root S name = is_some (root_of S name)
 
 -- a name has a root with a value at each element
-abbrev pub has_values : State → List ℕ → Bool
-has_values S name = elim (root_of S name) [ None ↦ false | Some r ↦ is_valued r ]
+abbrev pub has_valued_root : JobState → List ℕ → Bool
+has_valued_root S name = elim (root_of S name) [ None ↦ false | Some r ↦ is_valued r ]
 
 -- a name has a root without any value
-abbrev pub has_none : State → List ℕ → Bool
-has_none S name = elim (root_of S name) [ None ↦ false | Some r ↦ is_blank r ]
+abbrev pub has_none : JobState → List ℕ → Bool
+has_none S name = elim (root_of S name) [ None ↦ false | Some r ↦ has_no_value r ]
 
 -- ---- operands
 
 -- the dimensions of an operand's child
-abbrev pub child_dims : State → Operand (List ℕ) → Dims
+abbrev pub child_dims : JobState → Operand (List ℕ) → Dims
 child_dims S o = elim (root_of S o.name) [ None ↦ record { rows = 0; cols = 0 } | Some r ↦ rect_dims (child_rect r o.place) ]
 
 -- an operand is a child of its name's active plan
-abbrev pub has_child : State → Operand (List ℕ) → Bool
+abbrev pub has_child : JobState → Operand (List ℕ) → Bool
 has_child S o = elim (root_of S o.name) [ None ↦ false | Some r ↦ is_child r.parts o.place ]
 
 -- a child with a value at each element
-abbrev pub has_child_values : State → Operand (List ℕ) → Bool
+abbrev pub has_child_values : JobState → Operand (List ℕ) → Bool
 has_child_values S o = elim (root_of S o.name) [ None ↦ false | Some r ↦ is_valued_child r o.place ]
 
 -- the reduction of a name's root, if it has one
-abbrev pub reduction_of : State → List ℕ → Option Reduction
+abbrev pub reduction_of : JobState → List ℕ → Option Reduction
 reduction_of S name = elim (root_of S name) [ None ↦ None | Some r ↦ r.reduction ]
 
 -- a contribution's codelet adds to what the reduction of its root combines, and a commuting one's runs may change places
-abbrev pub is_lawful : (Kernel → Bool) → State → Codelet → Operand (List ℕ) → Bool
+abbrev pub is_lawful : (Kernel → Bool) → JobState → Codelet → Operand (List ℕ) → Bool
 is_lawful has S id o = is_lawful_for has id (reduction_of S o.name) o.mode
 
 -- codelet, arguments, dimensions and modes of a task go together, and what it reads is there
-pub record IsSoundTask (has : Kernel → Bool) (S : State) (t : TaskLine (List ℕ)) : Type 0 where
+pub record IsSoundTask (has : Kernel → Bool) (S : JobState) (t : TaskLine (List ℕ)) : Type 0 where
   pub fits : IsTrue (fits_in has t.codelet t.args (map (child_dims S) t.operands))
   pub modes : IsTrue (modes_fit (formals_in t.codelet) t.operands)
   -- an operand that is contributed to or commutes is the only written one
@@ -134,7 +134,7 @@ InitFits (Fill a b) d = Unit {0}
 InitFits Nothing d = Unit {0}
 
 -- the dimensions are within their limits, the plan cuts them, and the name is new
-pub record IsSoundRegistration (S : State) (r : Register (List ℕ)) : Type 0 where
+pub record IsSoundRegistration (S : JobState) (r : Register (List ℕ)) : Type 0 where
   pub rows : IsTrue (is_side r.dims.rows)
   pub cols : IsTrue (is_side r.dims.cols)
   pub elements : area r.dims ≤ 16777216
@@ -143,17 +143,17 @@ pub record IsSoundRegistration (S : State) (r : Register (List ℕ)) : Type 0 wh
   pub fresh : root_of S r.name ≡ None
 
 -- the plan cuts the array, whose elements all have a value, or none has
-pub record IsSoundPlan (S : State) (name : List ℕ) (p : Parts) : Type 0 where
+pub record IsSoundPlan (S : JobState) (name : List ℕ) (p : Parts) : Type 0 where
   pub rooted : IsTrue (has_root S name)
-  pub parts : Fits p (dims_of S name)
-  pub even : IsTrue (has_values S name || has_none S name)
+  pub parts : Fits p (root_dims S name)
+  pub even : IsTrue (has_valued_root S name || has_none S name)
 
 -- what an act needs of the state before it
-abbrev pub IsSoundAct : (Kernel → Bool) → State → Act (List ℕ) → Type 0
+abbrev pub IsSoundAct : (Kernel → Bool) → JobState → Act (List ℕ) → Type 0
 IsSoundAct has S (Registers r) = IsSoundRegistration S r
 IsSoundAct has S (Plan name p) = IsSoundPlan S name p
 IsSoundAct has S (Reduces name by) = IsTrue (is_none (reduction_of S name)) × IsTrue (has_root S name)
 IsSoundAct has S (Task t) = IsSoundTask has S t
-IsSoundAct has S (Print name) = IsTrue (has_values S name)
+IsSoundAct has S (Print name) = IsTrue (has_valued_root S name)
 IsSoundAct has S (Invalidate name) = IsTrue (has_root S name)
 IsSoundAct has S (Unregister name) = IsTrue (has_root S name)

@@ -12,8 +12,8 @@ pub record Table : Type 0 where
   pub names : List (List ℕ)
   pub infos : List RootInfo
 
-abbrev pub table : List (List ℕ) → List RootInfo → Table
-table names infos = record { names = names; infos = infos }
+abbrev pub table_of : List (List ℕ) → List RootInfo → Table
+table_of names infos = record { names = names; infos = infos }
 
 abbrev pub a_root : ℕ → Root
 a_root n = record { 0 = n }
@@ -50,4 +50,4 @@ IsTable T = (length T.infos ≡ length T.names) × (length T.names ≤ 4096) × 
 
 -- a root more
 abbrev pub with_root : List ℕ → RootInfo → Table → Table
-with_root name info T = table (T.names ++ name ∷ []) (T.infos ++ info ∷ [])
+with_root name info T = table_of (T.names ++ name ∷ []) (T.infos ++ info ∷ [])

@@ -12,7 +12,7 @@ use Rattle.sj_meaning.specs.declared.job.Job.{Job as KeptJob}
 use Rattle.sj_meaning.specs.Job.{Job, job}
 use Rattle.sj_meaning.specs.Statement.{Register as Registration, Operand, TaskLine}
 use Rattle.sj_meaning.specs.Act.{Act, Register, Plan, Redux, Task, Print, Invalidate, Unregister, Statement}
-use Rattle.sj_meaning.specs.Table.{Table, table, a_root, name_of, info_of}
+use Rattle.sj_meaning.specs.Table.{Table, table_of, a_root, name_of, info_of}
 
 -- an operand with the name of its root
 abbrev pub operand_seen : Table → Access → Operand (List ℕ)
@@ -74,15 +74,15 @@ IsPlaced k (kept.Print r) = r.0 < k
 IsPlaced k (kept.Invalidate r) = r.0 < k
 IsPlaced k (kept.Unregister r) = r.0 < k
 
-abbrev pub ArePlaced : ℕ → List Kept → Type 0
-ArePlaced k [] = Unit {0}
-ArePlaced k (s ∷ ss) = IsPlaced k s.act × ArePlaced (count_after k s.act) ss
+abbrev pub ActsArePlaced : ℕ → List Kept → Type 0
+ActsArePlaced k [] = Unit {0}
+ActsArePlaced k (s ∷ ss) = IsPlaced k s.act × ActsArePlaced (count_after k s.act) ss
 
 -- an act changes the table from `old` to `new`: a registration adds a root
 abbrev pub Extends : Table → Table → Type 0
-Extends old new = (names : List (List ℕ)) × (infos : List RootInfo) × (new ≡ table (old.names ++ names) (old.infos ++ infos))
+Extends old new = (names : List (List ℕ)) × (infos : List RootInfo) × (new ≡ table_of (old.names ++ names) (old.infos ++ infos))
 
 -- the statements register the roots of the table, and speak of each behind its registration
 pub record IsNumbered (T : Table) (ss : List Kept) : Type 0 where
-  pub placed : ArePlaced 0 ss
+  pub placed : ActsArePlaced 0 ss
   pub counted : count_from 0 ss ≡ length T.names

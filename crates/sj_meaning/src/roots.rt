@@ -1,7 +1,7 @@
 //! The roots of a job by name and by number.
 
 ghost use Rattle.std.specs.Prelude.{◌≡◌, ◌<◌, ◌≤◌, [], None, length, IfSome, OnOk};
-ghost use Rattle.sj_meaning.specs.Table.{table, name_of, info_of, root_in, with_root, AreDistinct};
+ghost use Rattle.sj_meaning.specs.Table.{table_of, name_of, info_of, root_in, with_root, AreDistinct};
 
 use crate::job::RootInfo;
 use indexmap::IndexSet;
@@ -20,19 +20,19 @@ pub struct Roots {
 
 impl Model for Roots {
     ghost use Rattle.std.specs.Prelude.{map};
-    ghost use Rattle.sj_meaning.specs.Table.{Table, table, IsTable};
+    ghost use Rattle.sj_meaning.specs.Table.{Table, table_of, IsTable};
 
     ghost Value = { Table };
 
-    ghost view = { λ r. table (map (λ k. k.items) r.names.keys) r.infos.items };
+    ghost view = { λ r. table_of (map (λ k. k.items) r.names.keys) r.infos.items };
 
-    ghost invariant = { λ r. IsTable (table (map (λ k. k.items) r.names.keys) r.infos.items) };
+    ghost invariant = { λ r. IsTable (table_of (map (λ k. k.items) r.names.keys) r.infos.items) };
 }
 
 impl Roots {
     /// No root. Constant time.
     pub fn none(alloc: Global) -> Roots
-        ensures { result ≡ table [] [] }
+        ensures { result ≡ table_of [] [] }
     {
         Roots {
             names: IndexSet::new(alloc),

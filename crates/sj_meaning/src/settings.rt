@@ -1,7 +1,7 @@
 //! The settings of a job: how many workers, the sizes of the nodes, and the policy of the pool.
 
 ghost use Rattle.std.specs.Prelude.{◌≡◌, IfOk};
-ghost use Rattle.sj_meaning.specs.Settings.{unset, workers_of, nodes_of, policy_set, IsWithinLimits};
+ghost use Rattle.sj_meaning.specs.Settings.{unset, worker_count, nodes_of, policy_set, SettingsAreInRange};
 
 use sj_base::memory::OutOfMemory;
 use sj_base::mode::Policy;
@@ -9,10 +9,10 @@ use sj_base::sequence::Sequence;
 use std::alloc::Global;
 
 /// The most workers.
-pub const WORKERS: u64 = 64;
+pub const MOST_WORKERS: u64 = 64;
 
 /// The most nodes.
-pub const NODES: usize = 16;
+pub const MOST_NODES: usize = 16;
 
 /// The fewest bytes of a node.
 pub const LEAST_NODE: u64 = 8;
@@ -38,7 +38,7 @@ impl Settings {
     /// Nothing is set. Takes no memory.
     pub fn none(alloc: Global) -> Settings
         ensures unset { result ≡ unset }
-        ensures within { IsWithinLimits result }
+        ensures within { SettingsAreInRange result }
     {
         Settings {
             workers: None,
@@ -49,7 +49,7 @@ impl Settings {
 
     /// The number of workers: 1 where no line sets it. Constant time.
     pub fn worker_count(&self) -> u8
-        ensures { result ≡ workers_of self.now }
+        ensures { result ≡ worker_count self.now }
     {
         self.workers.unwrap_or(1)
     }

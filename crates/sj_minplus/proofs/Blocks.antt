@@ -4,7 +4,7 @@ use Rattle.std.proofs.lemmas.List.{length-append}
 use Rattle.std.proofs.lemmas.Bool.Decides.{nat_tests}
 use Rattle.sj_base.specs.declared.tile.Dims.{Dims}
 use Rattle.sj_base.specs.Array.{Array, array}
-use Rattle.sj_base.specs.Lending.{with_elements}
+use Rattle.sj_base.specs.Lending.{written_over}
 use Rattle.sj_codelet.specs.declared.kernel.Kernel.{Kernel}
 use Rattle.sj_codelet.specs.declared.kernel.Kernel.TheVariants.{FwDiag, FwRow, FwCol}
 use Rattle.sj_codelet.specs.Frame.{Slot, Frame, own, arrays, all_dims}
@@ -16,10 +16,10 @@ use Rattle.sj_minplus.specs.Turns.{diagonal_turn, row_turn, column_turn}
 use Rattle.sj_minplus.proofs.Turns.{dims-after_turns}
 
 -- a kernel whose last operand ends as `made`
-block_ran : (k : Kernel) (args : List ℤ) (old new : Frame) (before : List Slot) (y made : Array) (xs : List ℤ) → writes_last (formals_of k) ≡ true → IsReadyOf k args old.slots → old.slots ≡ before ++ own y ∷ [] → new.slots ≡ before ++ own (with_elements y xs) ∷ [] → new.spare ≡ old.spare → length xs ≡ length y.elements → made.dims ≡ y.dims → xs ≡ made.elements → new_arrays k args (arrays old.slots) ≡ made ∷ [] → IsRunOf k args old new
+block_ran : (k : Kernel) (args : List ℤ) (old new : Frame) (before : List Slot) (y made : Array) (xs : List ℤ) → writes_last (formals_of k) ≡ true → IsReadyOf k args old.slots → old.slots ≡ before ++ own y ∷ [] → new.slots ≡ before ++ own (written_over y xs) ∷ [] → new.spare ≡ old.spare → length xs ≡ length y.elements → made.dims ≡ y.dims → xs ≡ made.elements → new_arrays k args (arrays old.slots) ≡ made ∷ [] → IsRunOf k args old new
 block_ran k args old new before y made xs w ready e e' r long d x o =
-    let written : with_elements y xs ≡ made = with_all y xs long ∙ ap (array y.dims) x ∙ ap (λ q. array q made.elements) (sym d) in
-    ran k args old new before y (with_elements y xs) w ready e e' r refl (o ∙ ap (λ a. a ∷ []) (sym written))
+    let written : written_over y xs ≡ made = with_all y xs long ∙ ap (array y.dims) x ∙ ap (λ q. array q made.elements) (sym d) in
+    ran k args old new before y (written_over y xs) w ready e e' r refl (o ∙ ap (λ a. a ∷ []) (sym written))
 
 matrix_is : (x : Array) (m n : ℕ) (xs : List ℤ) → m ≡ x.dims.rows → n ≡ x.dims.cols → xs ≡ x.elements → matrix m n xs ≡ x
 matrix_is x m n xs r c e =
@@ -28,7 +28,7 @@ matrix_is x m n xs r c e =
 square_rows : (d : Dims) → is_square d ≡ true → d.rows ≡ d.cols
 square_rows d h = grind (arith, nat_tests)
 
-pub fwdiag_ran : (args : List ℤ) (old new : Frame) (before : List Slot) (y : Array) (n : ℕ) (ys xs : List ℤ) → IsReadyOf FwDiag args old.slots → old.slots ≡ before ++ own y ∷ [] → new.slots ≡ before ++ own (with_elements y xs) ∷ [] → new.spare ≡ old.spare → n ≡ y.dims.rows → ys ≡ y.elements → length xs ≡ length ys → xs ≡ (fwdiag (matrix n n ys)).elements → IsRunOf FwDiag args old new
+pub fwdiag_ran : (args : List ℤ) (old new : Frame) (before : List Slot) (y : Array) (n : ℕ) (ys xs : List ℤ) → IsReadyOf FwDiag args old.slots → old.slots ≡ before ++ own y ∷ [] → new.slots ≡ before ++ own (written_over y xs) ∷ [] → new.spare ≡ old.spare → n ≡ y.dims.rows → ys ≡ y.elements → length xs ≡ length ys → xs ≡ (fwdiag (matrix n n ys)).elements → IsRunOf FwDiag args old new
 fwdiag_ran args old new before y n ys xs ready e e' r rows whole long x =
     let one = operands_are FwDiag args old.slots ready in
     let first : length before ≡ 0 = omega (arith, ap length e, length-append before (own y ∷ [])) in
@@ -50,7 +50,7 @@ beside_row d e h = record { rows = grind (arith, nat_tests); cols = grind (arith
 beside_col : (d e : Dims) → (is_square d && nat_eq e.cols d.rows) ≡ true → IsBeside d e.cols
 beside_col d e h = record { rows = grind (arith, nat_tests); cols = grind (arith, nat_tests) }
 
-pub fwrow_ran : (args : List ℤ) (old new : Frame) (before : List Slot) (b y : Array) (n m : ℕ) (bs ys xs : List ℤ) → IsReadyOf FwRow args old.slots → old.slots ≡ before ++ own y ∷ [] → new.slots ≡ before ++ own (with_elements y xs) ∷ [] → new.spare ≡ old.spare → b ≡ (get_or before 0 (own b)).array → n ≡ y.dims.rows → m ≡ y.dims.cols → bs ≡ b.elements → ys ≡ y.elements → length xs ≡ length ys → xs ≡ (fwrow (matrix n n bs) (matrix n m ys)).elements → IsRunOf FwRow args old new
+pub fwrow_ran : (args : List ℤ) (old new : Frame) (before : List Slot) (b y : Array) (n m : ℕ) (bs ys xs : List ℤ) → IsReadyOf FwRow args old.slots → old.slots ≡ before ++ own y ∷ [] → new.slots ≡ before ++ own (written_over y xs) ∷ [] → new.spare ≡ old.spare → b ≡ (get_or before 0 (own b)).array → n ≡ y.dims.rows → m ≡ y.dims.cols → bs ≡ b.elements → ys ≡ y.elements → length xs ≡ length ys → xs ≡ (fwrow (matrix n n bs) (matrix n m ys)).elements → IsRunOf FwRow args old new
 fwrow_ran args old new before b y n m bs ys xs ready e e' r read rows cols whole_b whole long x =
     let two = operands_are FwRow args old.slots ready in
     let first : length before ≡ 1 = omega (arith, ap length e, length-append before (own y ∷ [])) in
@@ -64,7 +64,7 @@ fwrow_ran args old new before b y n m bs ys xs ready e e' r read rows cols whole
     let y_is : matrix n m ys ≡ y = matrix_is y n m ys rows cols whole in
     block_ran FwRow args old new before y (fwrow b y) xs refl ready e e' r (long ∙ ap length whole) (dims-after_turns (row_turn b) (λ k a. refl) b.dims.rows y) (x ∙ ap (λ a. (fwrow a (matrix n m ys)).elements) b_is ∙ ap (λ a. (fwrow b a).elements) y_is) (ap (λ a. fwrow a (operand (arrays old.slots) 1) ∷ []) (sym block) ∙ ap (λ a. fwrow b a ∷ []) last)
 
-pub fwcol_ran : (args : List ℤ) (old new : Frame) (before : List Slot) (b y : Array) (n m : ℕ) (bs ys xs : List ℤ) → IsReadyOf FwCol args old.slots → old.slots ≡ before ++ own y ∷ [] → new.slots ≡ before ++ own (with_elements y xs) ∷ [] → new.spare ≡ old.spare → b ≡ (get_or before 0 (own b)).array → n ≡ y.dims.cols → m ≡ y.dims.rows → bs ≡ b.elements → ys ≡ y.elements → length xs ≡ length ys → xs ≡ (fwcol (matrix n n bs) (matrix m n ys)).elements → IsRunOf FwCol args old new
+pub fwcol_ran : (args : List ℤ) (old new : Frame) (before : List Slot) (b y : Array) (n m : ℕ) (bs ys xs : List ℤ) → IsReadyOf FwCol args old.slots → old.slots ≡ before ++ own y ∷ [] → new.slots ≡ before ++ own (written_over y xs) ∷ [] → new.spare ≡ old.spare → b ≡ (get_or before 0 (own b)).array → n ≡ y.dims.cols → m ≡ y.dims.rows → bs ≡ b.elements → ys ≡ y.elements → length xs ≡ length ys → xs ≡ (fwcol (matrix n n bs) (matrix m n ys)).elements → IsRunOf FwCol args old new
 fwcol_ran args old new before b y n m bs ys xs ready e e' r read cols rows whole_b whole long x =
     let two = operands_are FwCol args old.slots ready in
     let first : length before ≡ 1 = omega (arith, ap length e, length-append before (own y ∷ [])) in

@@ -8,7 +8,7 @@ ghost use Rattle.sj_codelet.specs.Equations.{matrix, mingemm};
 ghost use Rattle.sj_minplus.specs.Short.{IsShort, NotNegative, IsNegative, raised};
 
 use crate::row::relax;
-use crate::short::{are_short, lower, none_negative, raise, relax_low, relax_low_twice};
+use crate::short::{are_short, lower_row, none_negative, raise, relax_low, relax_low_twice};
 
 /// `c[j]` becomes the least of itself and all `a[l] + b[l,j]`, where `b` has a row for each element of `a`. `short` is
 /// known of `b`: that all its elements are short.
@@ -45,7 +45,7 @@ fn relax_by_short(a: &[i64], b: &[i64], c: &mut [i64])
     ensures { (j : ℕ) → j < length c.old → at c.new j ≡ least_below (length a.now) (at c.old j)
         (λ l. plus (at a.now l) (at b.now (l * length c.old + j))) }
 {
-    lower(c);
+    lower_row(c);
     relax_by_pairs(a, b, c);
     raise(c);
 }

@@ -68,7 +68,7 @@ pub fn none_negative_of(xs: &[i64], ys: &[i64]) -> bool
 }
 
 /// Each number is held 2^63 lower.
-pub fn lower(row: &mut [i64])
+pub fn lower_row(row: &mut [i64])
     requires { All NotNegative row.old }
     ensures value { (j : ℕ) → j < length row.old → raised (at row.new j) ≡ at row.old j }
     ensures low { All IsNegative row.new }

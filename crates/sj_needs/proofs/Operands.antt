@@ -11,9 +11,9 @@ use Rattle.sj_base.specs.declared.program.Program.{Program}
 use Rattle.sj_codelet.specs.Kernel.{arguments_fit, dims_fit, formals_of}
 use Rattle.sj_codelet.proofs.Table.{few-formals}
 use Rattle.sj_core.specs.Program.{dims_of, no_task, task_of}
-use Rattle.sj_core.specs.Proper.{Fits, Proper}
+use Rattle.sj_core.specs.Proper.{FitsCodelet, Proper}
 
-fitting-few : (p : Program) (l : Lowered) → Fits p l → length l.accesses ≤ 5
+fitting-few : (p : Program) (l : Lowered) → FitsCodelet p l → length l.accesses ≤ 5
 fitting-few p l fit =
     let ds = map (λ (a : Access). dims_of p a.cell) l.accesses in
     let counted : Bool = nat_eq (length ds) (length (formals_of fit.kernel)) in
@@ -23,4 +23,4 @@ fitting-few p l fit =
     omega (arith, few-formals fit.kernel, length-map l.accesses (λ (a : Access). dims_of p a.cell))
 
 pub few-operands : (p : Program) (t : Task) → Proper p → t.0 < length p.tasks → length (task_of p t).accesses ≤ 5
-few-operands p t proper inside = fitting-few p (task_of p t) (All-get_or (Fits p) p.tasks t.0 no_task inside proper.codelets)
+few-operands p t proper inside = fitting-few p (task_of p t) (All-get_or (FitsCodelet p) p.tasks t.0 no_task inside proper.codelets)

@@ -2,7 +2,7 @@
 
 ghost use Rattle.std.specs.Prelude.{◌≡◌, ◌≤◌, ◌<◌, ◌^◌, ◌*◌, ◌+◌, All, IfOk, is_some, length, replicate, sum};
 ghost use Rattle.sj_base.specs.Array.{area};
-ghost use Rattle.sj_core.specs.Needs.{block_bytes, place, swap_need};
+ghost use Rattle.sj_core.specs.Needs.{cell_block_bytes, place, swap_need};
 ghost use Rattle.sj_core.specs.Proper.{IsWithinLimits};
 
 use sj_base::memory::OutOfMemory;
@@ -11,9 +11,9 @@ use sj_base::program::{CellInfo, Program};
 use std::alloc::Global;
 
 /// The bytes of a cell's block on a disk: a header of 24, and eight for each element. Constant time.
-fn block_bytes(cell: &CellInfo) -> u64
+fn cell_block_bytes(cell: &CellInfo) -> u64
     requires { area cell.now.dims ≤ 2 ^ 24 }
-    ensures bytes { result ≡ block_bytes cell.now }
+    ensures bytes { result ≡ cell_block_bytes cell.now }
     ensures small { result ≤ 2 ^ 28 }
 {
     24 + 8 * cell.dims.area()
@@ -26,7 +26,7 @@ pub fn swap_need(program: &Program) -> u64
 {
     let mut need = 0;
     for cell in program.cells.items() {
-        need += block_bytes(cell);
+        need += cell_block_bytes(cell);
     }
     need
 }
@@ -59,7 +59,7 @@ pub fn has_places(alloc: Global, program: &Program, disks: &[u64]) -> Result<boo
 {
     let mut taken = none_taken(alloc, disks.len())?;
     for cell in program.cells.items() {
-        let need = block_bytes(cell);
+        let need = cell_block_bytes(cell);
         let Some(d) = first_fit(disks, &taken, need) else {
             return Ok(false);
         };

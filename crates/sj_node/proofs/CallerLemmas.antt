@@ -8,10 +8,10 @@ use Rattle.std.proofs.lemmas.List.Folds.{fold-map}
 use Rattle.std.proofs.lemmas.List.Sums.{sum_by-cons}
 use Rattle.sj_base.specs.declared.ids.Cell.{Cell}
 use Rattle.sj_base.specs.Ids.{same_cell}
-use Rattle.sj_node.specs.Entry.{Entry, without_all}
+use Rattle.sj_node.specs.Entry.{NodeEntry, without_all}
 use Rattle.sj_node.specs.Victims.{covers, shortest_suffix, victims}
 
-abbrev pub cells_of : List Entry → List Cell
+abbrev pub cells_of : List NodeEntry → List Cell
 cells_of = map (λ e. e.cell)
 
 -- a filter by a test of what is shown
@@ -33,8 +33,8 @@ shortest_suffix-map {X = X} f test (x ∷ xs) = rw (shortest_suffix-map f test x
 
 -- ---- the order as a list of cells
 
-pub cells_of-without_all : (vs : List Cell) (es : List Entry) → cells_of (without_all vs es) ≡ filter (λ d. not (list_any (λ v. same_cell v d) vs)) (cells_of es)
-cells_of-without_all vs es = sym (filter-map (λ (e : Entry). e.cell) (λ d. not (list_any (λ v. same_cell v d) vs)) es)
+pub cells_of-without_all : (vs : List Cell) (es : List NodeEntry) → cells_of (without_all vs es) ≡ filter (λ d. not (list_any (λ v. same_cell v d) vs)) (cells_of es)
+cells_of-without_all vs es = sym (filter-map (λ (e : NodeEntry). e.cell) (λ d. not (list_any (λ v. same_cell v d) vs)) es)
 
 -- ---- the victims of an order, where bytes and pins are told by the cell
 

@@ -7,7 +7,7 @@ use Rattle.std.proofs.lemmas.List.{map-append, reverse-append}
 use Rattle.std.proofs.lemmas.List.Elements.{filter-append}
 use Rattle.std.proofs.lemmas.List.Sums.{sum_by-cons}
 use Rattle.sj_base.specs.declared.ids.Cell.{Cell}
-use Rattle.sj_node.specs.Entry.{Entry, is_among, is_spare, is_unpinned, total, victim_cells}
+use Rattle.sj_node.specs.Entry.{NodeEntry, is_of_cells, is_spare, is_unpinned, total, victim_cells}
 use Rattle.sj_node.specs.Victims.{covers, shortest_suffix}
 
 -- an end that passes is the shortest of each longer list, where it is of itself
@@ -24,28 +24,28 @@ then true x = refl
 then false x = refl
 
 -- an entry that nothing pins and that isn't held is spare
-pub spare : (held : List Cell) (e : Entry) → is_unpinned e ≡ true → not (is_among held e) ≡ true → is_spare held e ≡ true
-spare held e free apart = and_from (is_unpinned e) (not (is_among held e)) free apart
+pub spare : (held : List Cell) (e : NodeEntry) → is_unpinned e ≡ true → not (is_of_cells held e) ≡ true → is_spare held e ≡ true
+spare held e free apart = and_from (is_unpinned e) (not (is_of_cells held e)) free apart
 
 module _ (held : List Cell) (free need : ℕ) where
-  abbrev test : List Entry → Bool
+  abbrev test : List NodeEntry → Bool
   test = covers (λ e. e.bytes) free need
 
-  abbrev is_it : List Entry → ℕ → Option (List Entry)
+  abbrev is_it : List NodeEntry → ℕ → Option (List NodeEntry)
   is_it vs lacking = cond (nat_eq lacking 0) (Some vs) None
 
   -- the entries behind `rest` were passed: `found` are the unpinned ones among them, and so much is lacking
-  pub record IsSearch (order rest : List Entry) (found : List Cell) (lacking : ℕ) : Type 0 where
-    pub passed : List Entry
+  pub record IsSearch (order rest : List NodeEntry) (found : List Cell) (lacking : ℕ) : Type 0 where
+    pub passed : List NodeEntry
     pub parts : rest ++ passed ≡ order
     pub cells : found ≡ map (λ e. e.cell) (reverse (filter (is_spare held) passed))
     pub left : lacking ≡ need - (free + total (filter (is_spare held) passed))
     pub shortest : shortest_suffix test (filter (is_spare held) passed) ≡ is_it (filter (is_spare held) passed) lacking
 
-  covered : (vs : List Entry) (lacking : ℕ) → lacking ≡ need - (free + total vs) → then_some (test vs) vs ≡ is_it vs lacking
+  covered : (vs : List NodeEntry) (lacking : ℕ) → lacking ≡ need - (free + total vs) → then_some (test vs) vs ≡ is_it vs lacking
   covered vs lacking h = rw h (then (test vs) vs ∙ ap (λ b. cond b (Some vs) None) (none_lacking need (free + total vs)))
 
-  pub search_begins : (order : List Entry) → IsSearch order order [] (need - free)
+  pub search_begins : (order : List NodeEntry) → IsSearch order order [] (need - free)
   search_begins order = record {
     passed = [];
     parts = append-nil order;
@@ -54,7 +54,7 @@ module _ (held : List Cell) (free need : ℕ) where
     shortest = covered [] (need - free) (omega arith);
   }
 
-  pub search_passes : (order rest : List Entry) (e : Entry) (found : List Cell) (lacking : ℕ) → is_spare held e ≡ false → IsSearch order (rest ++ e ∷ []) found lacking → IsSearch order rest found lacking
+  pub search_passes : (order rest : List NodeEntry) (e : NodeEntry) (found : List Cell) (lacking : ℕ) → is_spare held e ≡ false → IsSearch order (rest ++ e ∷ []) found lacking → IsSearch order rest found lacking
   search_passes order rest e found lacking pinned s = record {
     passed = e ∷ s.passed;
     parts = sym (append_assoc rest (e ∷ []) s.passed) ∙ s.parts;
@@ -63,20 +63,20 @@ module _ (held : List Cell) (free need : ℕ) where
     shortest = rw pinned s.shortest;
   }
 
-  pub search_takes : (order rest : List Entry) (e : Entry) (found : List Cell) (lacking : ℕ) → is_spare held e ≡ true → 0 < lacking → IsSearch order (rest ++ e ∷ []) found lacking → IsSearch order rest (found ++ e.cell ∷ []) (lacking - e.bytes)
+  pub search_takes : (order rest : List NodeEntry) (e : NodeEntry) (found : List Cell) (lacking : ℕ) → is_spare held e ≡ true → 0 < lacking → IsSearch order (rest ++ e ∷ []) found lacking → IsSearch order rest (found ++ e.cell ∷ []) (lacking - e.bytes)
   search_takes order rest e found lacking unpinned some s =
       let vs = filter (is_spare held) s.passed in
       let none : shortest_suffix test vs ≡ None = s.shortest ∙ (let b : nat_eq lacking 0 ≡ false = grind (arith, nat_tests) in rw b refl) in
-      let less : lacking - e.bytes ≡ need - (free + total (e ∷ vs)) = omega (arith, s.left, sum_by-cons (λ (x : Entry). x.bytes) e vs) in
+      let less : lacking - e.bytes ≡ need - (free + total (e ∷ vs)) = omega (arith, s.left, sum_by-cons (λ (x : NodeEntry). x.bytes) e vs) in
       record {
         passed = e ∷ s.passed;
         parts = sym (append_assoc rest (e ∷ []) s.passed) ∙ s.parts;
-        cells = rw (unpinned, reverse-append (e ∷ []) vs) (ap (λ cs. cs ++ e.cell ∷ []) s.cells ∙ sym (map-append (λ (x : Entry). x.cell) (reverse vs) (e ∷ [])));
+        cells = rw (unpinned, reverse-append (e ∷ []) vs) (ap (λ cs. cs ++ e.cell ∷ []) s.cells ∙ sym (map-append (λ (x : NodeEntry). x.cell) (reverse vs) (e ∷ [])));
         left = rw unpinned less;
         shortest = rw (unpinned, none) (covered (e ∷ vs) (lacking - e.bytes) less);
       }
 
-  pub search_finds : (order rest : List Entry) (found : List Cell) (lacking : ℕ) → lacking ≡ 0 → IsSearch order rest found lacking → Some found ≡ victim_cells held order free need
+  pub search_finds : (order rest : List NodeEntry) (found : List Cell) (lacking : ℕ) → lacking ≡ 0 → IsSearch order rest found lacking → Some found ≡ victim_cells held order free need
   search_finds order rest found lacking all s =
       let vs = filter (is_spare held) s.passed in
       let here : shortest_suffix test vs ≡ Some vs = s.shortest ∙ rw all refl in
@@ -84,7 +84,7 @@ module _ (held : List Cell) (free need : ℕ) where
       let chosen : shortest_suffix test (filter (is_spare held) order) ≡ Some vs = rw whole (shortest_suffix-append test (filter (is_spare held) rest) vs vs here) in
       rw chosen (ap Some s.cells)
 
-  pub search_fails : (order : List Entry) (found : List Cell) (lacking : ℕ) → 0 < lacking → IsSearch order [] found lacking → None ≡ victim_cells held order free need
+  pub search_fails : (order : List NodeEntry) (found : List Cell) (lacking : ℕ) → 0 < lacking → IsSearch order [] found lacking → None ≡ victim_cells held order free need
   search_fails order found lacking some s =
       let none : shortest_suffix test (filter (is_spare held) order) ≡ None = ap (λ es. shortest_suffix test (filter (is_spare held) es)) (sym s.parts) ∙ s.shortest ∙ (let b : nat_eq lacking 0 ≡ false = grind (arith, nat_tests) in rw b refl) in
       rw none refl

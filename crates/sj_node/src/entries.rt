@@ -1,7 +1,7 @@
 //! The entries of a node in order of recency.
 
 ghost use Rattle.std.specs.Prelude.{◌≡◌, ◌+◌, ◌-◌, ◌<◌, ◌≤◌, ◌∷◌, [], All, IsTrue, OnOk, OnErr, IfOk, length, option_map, false};
-ghost use Rattle.sj_node.specs.Entry.{AreDistinct, has_entry, pins_of, total, without, without_all, to_front, repinned, put_all, unpinned, victim_cells};
+ghost use Rattle.sj_node.specs.Entry.{AreDistinctCells, has_entry, pins_of, total, without_entry, without_all, entry_to_front, repinned, put_cells, unpinned, victim_cells};
 ghost use Rattle.sj_node.specs.Entries.{listed};
 
 use lru::LruCache;
@@ -27,11 +27,11 @@ pub struct Entries {
 
 impl Model for Entries {
     ghost use Rattle.std.specs.Prelude.{map};
-    ghost use Rattle.sj_node.specs.Entries.{Listed, listed, shown, IsListed};
+    ghost use Rattle.sj_node.specs.Entries.{Listed, listed, as_entry, IsListed};
 
     ghost Value = { Listed };
 
-    ghost view = { λ e. listed (map shown e.cache.entries) e.limit };
+    ghost view = { λ e. listed (map as_entry e.cache.entries) e.limit };
 
     ghost invariant = { λ e. IsListed e.cache e.limit };
 }
@@ -67,7 +67,7 @@ impl Entries {
 
     /// Takes the cell's entry out, where it has one, and gives its bytes.
     pub fn take_out(&mut self, cell: Cell) -> u64
-        ensures entries { self.new ≡ listed (without cell self.old.order) self.old.limit }
+        ensures entries { self.new ≡ listed (without_entry cell self.old.order) self.old.limit }
         ensures bytes { result + total self.new.order ≡ total self.old.order }
     {
         match self.cache.pop(&cell.0) {
@@ -87,12 +87,12 @@ impl Entries {
 
     /// Puts entries without pins before the others, one after another.
     pub fn put_all(&mut self, cells: &[Cell], bytes: &[u64]) -> Result<(), OutOfMemory>
-        requires distinct { AreDistinct cells.now }
+        requires distinct { AreDistinctCells cells.now }
         requires absent { All (λ c. has_entry self.old.order c ≡ false) cells.now }
         requires paired { length cells.now ≡ length bytes.now }
         requires few { length self.old.order + length cells.now ≤ self.old.limit }
         ensures ok { OnOk result
-            (self.new ≡ listed (put_all cells.now bytes.now self.old.order) self.old.limit) }
+            (self.new ≡ listed (put_cells cells.now bytes.now self.old.order) self.old.limit) }
         ensures err { OnErr result (self.new ≡ self.old) }
     {
         for i in 0..cells.len() {
@@ -106,7 +106,7 @@ impl Entries {
 
     /// Brings the cell's entry before the others, where it has one.
     pub fn touch(&mut self, cell: Cell)
-        ensures { self.new ≡ listed (to_front cell self.old.order) self.old.limit }
+        ensures { self.new ≡ listed (entry_to_front cell self.old.order) self.old.limit }
     {
         let _ = self.cache.promote(&cell.0);
     }
@@ -155,7 +155,8 @@ impl Entries {
         requires present { IsTrue (has_entry self.old.order cell) }
         requires few { pins_of self.old.order cell < 1024 }
         ensures { self.new ≡
-            listed (repinned (λ n. n + 1) cell (to_front cell self.old.order)) self.old.limit }
+            listed (repinned (λ n. n + 1) cell (entry_to_front cell self.old.order))
+            self.old.limit }
     {
         if let Some(first) = self.cache.get_mut(&cell.0) {
             first.pins += 1;

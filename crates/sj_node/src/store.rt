@@ -1,8 +1,8 @@
 //! A memory node: its size, its entries and its scratch.
 
 ghost use Rattle.std.specs.Prelude.{◌≡◌, ◌+◌, ◌-◌, ◌<◌, ◌≤◌, ◌∷◌, All, IsTrue, OnOk, OnErr, IfOk, length, option_map, sum, false};
-ghost use Rattle.sj_node.specs.Entry.{AreDistinct, has_entry, pins_of, without, without_all, to_front, repinned, admitted, unpinned};
-ghost use Rattle.sj_node.specs.Store.{empty, with_entries, used, free, victims_of};
+ghost use Rattle.sj_node.specs.Entry.{AreDistinctCells, has_entry, pins_of, without_entry, without_all, entry_to_front, repinned, admitted, unpinned};
+ghost use Rattle.sj_node.specs.Store.{empty, with_entries, used_bytes, free_bytes, need_victims};
 
 use crate::entries::Entries;
 use sj_base::ids::Cell;
@@ -48,7 +48,7 @@ impl NodeStore {
 
     /// The bytes that neither entries nor scratch take. Constant time, and no memory.
     pub fn free(&self) -> u64
-        ensures { result + used self.now ≡ self.now.size }
+        ensures { result + used_bytes self.now ≡ self.now.size }
     {
         self.size - self.filled - self.scratch
     }
@@ -63,7 +63,7 @@ impl NodeStore {
     /// Puts a cell of so many bytes to the front, without pins. One look-up.
     pub fn insert(&mut self, cell: Cell, bytes: u64) -> Result<(), OutOfMemory>
         requires absent { has_entry self.old.entries cell ≡ false }
-        requires fits { bytes ≤ free self.old }
+        requires fits { bytes ≤ free_bytes self.old }
         requires few { length self.old.entries < self.old.limit }
         ensures ok { OnOk result
             (self.new ≡ with_entries self.old (unpinned cell bytes ∷ self.old.entries)) }
@@ -84,11 +84,11 @@ impl NodeStore {
     ) -> Result<(), OutOfMemory>
         requires victims_there { All (λ c. IsTrue (has_entry self.old.entries c)) victims.now }
         requires victims_unpinned { All (λ c. pins_of self.old.entries c ≡ 0) victims.now }
-        requires cells_differ { AreDistinct cells.now }
+        requires cells_differ { AreDistinctCells cells.now }
         requires cells_absent { All (λ c. has_entry self.old.entries c ≡ false) cells.now }
         requires paired { length cells.now ≡ length bytes.now }
         requires fits { sum bytes.now
-            ≤ free (with_entries self.old (without_all victims.now self.old.entries)) }
+            ≤ free_bytes (with_entries self.old (without_all victims.now self.old.entries)) }
         requires few { length self.old.entries + length cells.now ≤ self.old.limit }
         ensures ok { OnOk result
             (self.new ≡ with_entries self.old
@@ -113,7 +113,7 @@ impl NodeStore {
         need: u64,
     ) -> Result<Option<Vec<Cell>>, OutOfMemory>
         ensures { IfOk result
-            (λ found. option_map (λ v. v.items) found ≡ victims_of held.now self.now need) }
+            (λ found. option_map (λ v. v.items) found ≡ need_victims held.now self.now need) }
     {
         self.entries.victims(alloc, held, self.free(), need)
     }
@@ -121,7 +121,7 @@ impl NodeStore {
     /// Brings a cell to the front. One look-up, and no memory.
     pub fn touch(&mut self, cell: Cell)
         requires { IsTrue (has_entry self.old.entries cell) }
-        ensures { self.new ≡ with_entries self.old (to_front cell self.old.entries) }
+        ensures { self.new ≡ with_entries self.old (entry_to_front cell self.old.entries) }
     {
         self.entries.touch(cell);
     }
@@ -130,7 +130,7 @@ impl NodeStore {
     pub fn remove(&mut self, cell: Cell)
         requires present { IsTrue (has_entry self.old.entries cell) }
         requires unpinned { pins_of self.old.entries cell ≡ 0 }
-        ensures { self.new ≡ with_entries self.old (without cell self.old.entries) }
+        ensures { self.new ≡ with_entries self.old (without_entry cell self.old.entries) }
     {
         self.filled -= self.entries.take_out(cell);
     }
@@ -149,7 +149,8 @@ impl NodeStore {
         requires present { IsTrue (has_entry self.old.entries cell) }
         requires few { pins_of self.old.entries cell < 1024 }
         ensures { self.new ≡
-            with_entries self.old (repinned (λ n. n + 1) cell (to_front cell self.old.entries)) }
+            with_entries self.old
+            (repinned (λ n. n + 1) cell (entry_to_front cell self.old.entries)) }
     {
         self.entries.touch_and_pin(cell);
     }
@@ -164,7 +165,7 @@ impl NodeStore {
 
     /// Holds scratch. Constant time, and no memory.
     pub fn hold(&mut self, bytes: u64)
-        requires { bytes ≤ free self.old }
+        requires { bytes ≤ free_bytes self.old }
         ensures { self.new ≡ record self.old { scratch = self.old.scratch + bytes } }
     {
         self.scratch += bytes;

@@ -14,12 +14,12 @@ use Rattle.sj_base.proofs.Tables.{item-table, length-table}
 use Rattle.sj_base.proofs.Lists.{each-weaker, list_any-map, list_any-filter, counted_some}
 use Rattle.sj_plan.specs.declared.interval.Interval.{Interval}
 use Rattle.sj_plan.specs.declared.rect.Rect.{Rect}
-use Rattle.sj_plan.specs.Interval.{Lies, shared}
-use Rattle.sj_plan.specs.Rect.{holds, rows_of, cols_of, dims_of, Within, Overlap}
+use Rattle.sj_plan.specs.Interval.{Lies, overlap}
+use Rattle.sj_plan.specs.Rect.{holds, row_interval, col_interval, rect_dims, Within, Overlap}
 use Rattle.sj_plan.specs.Window.{window, IsWhole}
-use Rattle.sj_plan.specs.Pieces.{IsTiling, AreInOrder, Precedes, Pieces, rects_of, Copy, copy_between, has_elements, copies_to, copies, begins, copied, all_copied, BeginOnce, after_copy, after_copies}
+use Rattle.sj_plan.specs.Pieces.{IsTiling, AreInOrder, Precedes, NamedRects, rects_of, Copy, copy_between, has_elements, copies_to, copies, begins, copied, all_copied, BeginOnce, after_copy, after_copies}
 use Rattle.sj_plan.proofs.Lists.{any-implied, each-of, each-map, each-filter, filter_all, filter_gone, Ordered, ordered-from_map, ordered-from_pairs}
-use Rattle.sj_plan.proofs.Windows.{cond_same, cond_twice, element-window, holds-true, Holds-from_true, IsWhole-tabulate, same_arrays}
+use Rattle.sj_plan.proofs.Windows.{cond_same, cond_twice, element-window, holds-true, HasElement-from_true, IsWhole-tabulate, same_arrays}
 
 -- ---- one copy
 
@@ -87,36 +87,36 @@ element-made old target i j (c ∷ cs) right once new in_rows in_cols some =
 
 -- ---- which rectangles are copied
 
-shared-first : (o n : Interval) → 0 < (shared o n).len → Lies (shared o n).first o × Lies (shared o n).first n
-shared-first o n some = ((omega arith, omega arith), (omega arith, omega arith))
+overlap-first : (o n : Interval) → 0 < (overlap o n).len → Lies (overlap o n).first o × Lies (overlap o n).first n
+overlap-first o n some = ((omega arith, omega arith), (omega arith, omega arith))
 
-shared-some : (o n : Interval) (x : ℕ) → Lies x o → Lies x n → 0 < (shared o n).len
-shared-some o n x a b = omega (arith, a.0, a.1, b.0, b.1)
+overlap-some : (o n : Interval) (x : ℕ) → Lies x o → Lies x n → 0 < (overlap o n).len
+overlap-some o n x a b = omega (arith, a.0, a.1, b.0, b.1)
 
-pub Overlap-from_test : {C : Type 0} (olds news : Pieces C) (from to : C) → has_elements (copy_between olds news from to) ≡ true → Overlap (olds.rect from) (news.rect to)
+pub Overlap-from_test : {C : Type 0} (olds news : NamedRects C) (from to : C) → has_elements (copy_between olds news from to) ≡ true → Overlap (olds.rect from) (news.rect to)
 Overlap-from_test olds news from to meets =
     let o = olds.rect from in
     let n = news.rect to in
     let c = copy_between olds news from to in
     let both = and_parts (ltb 0 c.dims.rows) (ltb 0 c.dims.cols) meets in
-    let rows = shared-first (rows_of o) (rows_of n) (ltb-true 0 c.dims.rows both.0) in
-    let cols = shared-first (cols_of o) (cols_of n) (ltb-true 0 c.dims.cols both.1) in
-    ((shared (rows_of o) (rows_of n)).first, (shared (cols_of o) (cols_of n)).first, ((rows.0, cols.0), (rows.1, cols.1)))
+    let rows = overlap-first (row_interval o) (row_interval n) (ltb-true 0 c.dims.rows both.0) in
+    let cols = overlap-first (col_interval o) (col_interval n) (ltb-true 0 c.dims.cols both.1) in
+    ((overlap (row_interval o) (row_interval n)).first, (overlap (col_interval o) (col_interval n)).first, ((rows.0, cols.0), (rows.1, cols.1)))
 
-pub has_elements-true : {C : Type 0} (olds news : Pieces C) (from to : C) → Overlap (olds.rect from) (news.rect to) → has_elements (copy_between olds news from to) ≡ true
+pub has_elements-true : {C : Type 0} (olds news : NamedRects C) (from to : C) → Overlap (olds.rect from) (news.rect to) → has_elements (copy_between olds news from to) ≡ true
 has_elements-true olds news from to common =
     let o = olds.rect from in
     let n = news.rect to in
     let c = copy_between olds news from to in
     let in_old = common.2.0 in
     let in_new = common.2.1 in
-    and_from _ _ (lt-ltb 0 c.dims.rows (shared-some (rows_of o) (rows_of n) common.0 in_old.0 in_new.0)) (lt-ltb 0 c.dims.cols (shared-some (cols_of o) (cols_of n) common.1 in_old.1 in_new.1))
+    and_from _ _ (lt-ltb 0 c.dims.rows (overlap-some (row_interval o) (row_interval n) common.0 in_old.0 in_new.0)) (lt-ltb 0 c.dims.cols (overlap-some (col_interval o) (col_interval n) common.1 in_old.1 in_new.1))
 
-shared-within : (o n : Interval) → 0 < (shared o n).len → ((shared o n).first - o.first + (shared o n).len ≤ o.len) × ((shared o n).first - n.first + (shared o n).len ≤ n.len)
-shared-within o n some = (omega arith, omega arith)
+overlap-within : (o n : Interval) → 0 < (overlap o n).len → ((overlap o n).first - o.first + (overlap o n).len ≤ o.len) × ((overlap o n).first - n.first + (overlap o n).len ≤ n.len)
+overlap-within o n some = (omega arith, omega arith)
 
 -- a copy with elements lies in both its rectangles
-pub copy_between-within : {C : Type 0} (olds news : Pieces C) (from to : C) → has_elements (copy_between olds news from to) ≡ true → let c = copy_between olds news from to in (0 < c.dims.rows) × (0 < c.dims.cols) × Within (place_rect c.at_from c.dims) (dims_of (olds.rect from)) × Within (place_rect c.at_to c.dims) (dims_of (news.rect to))
+pub copy_between-within : {C : Type 0} (olds news : NamedRects C) (from to : C) → has_elements (copy_between olds news from to) ≡ true → let c = copy_between olds news from to in (0 < c.dims.rows) × (0 < c.dims.cols) × Within (place_rect c.at_from c.dims) (rect_dims (olds.rect from)) × Within (place_rect c.at_to c.dims) (rect_dims (news.rect to))
 copy_between-within olds news from to meets =
     let o = olds.rect from in
     let n = news.rect to in
@@ -124,46 +124,46 @@ copy_between-within olds news from to meets =
     let both = and_parts (ltb 0 c.dims.rows) (ltb 0 c.dims.cols) meets in
     let some_rows = ltb-true 0 c.dims.rows both.0 in
     let some_cols = ltb-true 0 c.dims.cols both.1 in
-    let rows = shared-within (rows_of o) (rows_of n) some_rows in
-    let cols = shared-within (cols_of o) (cols_of n) some_cols in
+    let rows = overlap-within (row_interval o) (row_interval n) some_rows in
+    let cols = overlap-within (col_interval o) (col_interval n) some_cols in
     (some_rows, some_cols, (rows.0, cols.0), (rows.1, cols.1))
 
 -- ---- copies between rectangles
 
 -- an index of what two intervals share, in the coordinates of each
-shared-inside : (o n : Interval) (i : ℕ) → (shared o n).first - n.first ≤ i → i < (shared o n).first - n.first + (shared o n).len → (shared o n).first - o.first + (i - ((shared o n).first - n.first)) < o.len
-shared-inside o n i from upto = omega arith
+overlap-inside : (o n : Interval) (i : ℕ) → (overlap o n).first - n.first ≤ i → i < (overlap o n).first - n.first + (overlap o n).len → (overlap o n).first - o.first + (i - ((overlap o n).first - n.first)) < o.len
+overlap-inside o n i from upto = omega arith
 
-shared-same : (o n : Interval) (i : ℕ) → (shared o n).first - n.first ≤ i → o.first + ((shared o n).first - o.first + (i - ((shared o n).first - n.first))) ≡ n.first + i
-shared-same o n i from = omega arith
+overlap-same : (o n : Interval) (i : ℕ) → (overlap o n).first - n.first ≤ i → o.first + ((overlap o n).first - o.first + (i - ((overlap o n).first - n.first))) ≡ n.first + i
+overlap-same o n i from = omega arith
 
-copy_between-right : {C : Type 0} (olds news : Pieces C) (a : Array) (old : C → Array) (from to : C) (i j : ℕ) → old from ≡ window a (olds.rect from) → Right old (element a ((news.rect to).row + i) ((news.rect to).col + j)) i j (copy_between olds news from to)
+copy_between-right : {C : Type 0} (olds news : NamedRects C) (a : Array) (old : C → Array) (from to : C) (i j : ℕ) → old from ≡ window a (olds.rect from) → Right old (element a ((news.rect to).row + i) ((news.rect to).col + j)) i j (copy_between olds news from to)
 copy_between-right olds news a old from to i j is covered =
     let o = olds.rect from in
     let n = news.rect to in
     let c = copy_between olds news from to in
-    let inside = Holds-from_true (place_rect c.at_to c.dims) i j covered in
+    let inside = HasElement-from_true (place_rect c.at_to c.dims) i j covered in
     let u = i - c.at_to.0 in
     let v = j - c.at_to.1 in
     ap (λ (x : Array). element x (c.at_from.0 + u) (c.at_from.1 + v)) is
-    ∙ element-window a o (c.at_from.0 + u) (c.at_from.1 + v) (shared-inside (rows_of o) (rows_of n) i inside.0.0 inside.0.1) (shared-inside (cols_of o) (cols_of n) j inside.1.0 inside.1.1)
-    ∙ ap (λ (x : ℕ). element a x (o.col + (c.at_from.1 + v))) (shared-same (rows_of o) (rows_of n) i inside.0.0) ∙ ap (λ (y : ℕ). element a (n.row + i) y) (shared-same (cols_of o) (cols_of n) j inside.1.0)
+    ∙ element-window a o (c.at_from.0 + u) (c.at_from.1 + v) (overlap-inside (row_interval o) (row_interval n) i inside.0.0 inside.0.1) (overlap-inside (col_interval o) (col_interval n) j inside.1.0 inside.1.1)
+    ∙ ap (λ (x : ℕ). element a x (o.col + (c.at_from.1 + v))) (overlap-same (row_interval o) (row_interval n) i inside.0.0) ∙ ap (λ (y : ℕ). element a (n.row + i) y) (overlap-same (col_interval o) (col_interval n) j inside.1.0)
 
-shared-holds : (o n : Interval) (i : ℕ) → i < n.len → Lies (n.first + i) o → (0 < (shared o n).len) × Lies i (record { first = (shared o n).first - n.first; len = (shared o n).len })
-shared-holds o n i in_new in_old = (omega arith, (omega arith, omega arith))
+overlap-holds : (o n : Interval) (i : ℕ) → i < n.len → Lies (n.first + i) o → (0 < (overlap o n).len) × Lies i (record { first = (overlap o n).first - n.first; len = (overlap o n).len })
+overlap-holds o n i in_new in_old = (omega arith, (omega arith, omega arith))
 
 -- what holds an element of the new rectangle gives a copy that writes it
-copy_between-covers : {C : Type 0} (olds news : Pieces C) (from to : C) (i j : ℕ) → i < (news.rect to).rows → j < (news.rect to).cols → holds (olds.rect from) ((news.rect to).row + i) ((news.rect to).col + j) ≡ true → (has_elements (copy_between olds news from to) && covers i j (copy_between olds news from to)) ≡ true
+copy_between-covers : {C : Type 0} (olds news : NamedRects C) (from to : C) (i j : ℕ) → i < (news.rect to).rows → j < (news.rect to).cols → holds (olds.rect from) ((news.rect to).row + i) ((news.rect to).col + j) ≡ true → (has_elements (copy_between olds news from to) && covers i j (copy_between olds news from to)) ≡ true
 copy_between-covers olds news from to i j in_rows in_cols held =
     let o = olds.rect from in
     let n = news.rect to in
     let c = copy_between olds news from to in
-    let h = Holds-from_true o (n.row + i) (n.col + j) held in
-    let rows = shared-holds (rows_of o) (rows_of n) i in_rows h.0 in
-    let cols = shared-holds (cols_of o) (cols_of n) j in_cols h.1 in
+    let h = HasElement-from_true o (n.row + i) (n.col + j) held in
+    let rows = overlap-holds (row_interval o) (row_interval n) i in_rows h.0 in
+    let cols = overlap-holds (col_interval o) (col_interval n) j in_cols h.1 in
     and_from _ _ (and_from _ _ (lt-ltb 0 c.dims.rows rows.0) (lt-ltb 0 c.dims.cols cols.0)) (holds-true (place_rect c.at_to c.dims) i j (rows.1, cols.1))
 
-copies_to-cover : {C : Type 0} (d : Dims) (olds news : Pieces C) (to : C) (i j : ℕ) → IsTiling d (rects_of olds) → Within (news.rect to) d → i < (news.rect to).rows → j < (news.rect to).cols → list_any (covers i j) (copies_to olds news to) ≡ true
+copies_to-cover : {C : Type 0} (d : Dims) (olds news : NamedRects C) (to : C) (i j : ℕ) → IsTiling d (rects_of olds) → Within (news.rect to) d → i < (news.rect to).rows → j < (news.rect to).cols → list_any (covers i j) (copies_to olds news to) ≡ true
 copies_to-cover d olds news to i j tiling within in_rows in_cols =
     let n = news.rect to in
     let make = copy_between olds news in
@@ -175,19 +175,19 @@ copies_to-cover d olds news to i j tiling within in_rows in_cols =
 
 -- ---- the first copy to a rectangle
 
-none-shared : (o n : Interval) (x : ℕ) → o.first + o.len ≤ x → x ≤ n.first → (shared o n).len ≤ 0
-none-shared o n x before from = omega arith
+none-overlap : (o n : Interval) (x : ℕ) → o.first + o.len ≤ x → x ≤ n.first → (overlap o n).len ≤ 0
+none-overlap o n x before from = omega arith
 
-starts-inside : (o n : Interval) → o.first ≤ n.first → (shared o n).first - n.first ≡ 0
+starts-inside : (o n : Interval) → o.first ≤ n.first → (overlap o n).first - n.first ≡ 0
 starts-inside o n h = omega arith
 
-starts-past : (o n : Interval) → n.first < o.first → 0 < (shared o n).first - n.first
+starts-past : (o n : Interval) → n.first < o.first → 0 < (overlap o n).first - n.first
 starts-past o n h = omega arith
 
 not_zero : (x : ℕ) → 0 < x → eqb x 0 ≡ false
 not_zero x h = grind (arith, nat_tests)
 
-module _ {C : Type 0} (olds news : Pieces C) (to : C) (some_rows : 0 < (news.rect to).rows) (some_cols : 0 < (news.rect to).cols) where
+module _ {C : Type 0} (olds news : NamedRects C) (to : C) (some_rows : 0 < (news.rect to).rows) (some_cols : 0 < (news.rect to).cols) where
   abbrev made : C → Copy C
   made from = copy_between olds news from to
 
@@ -198,27 +198,27 @@ module _ {C : Type 0} (olds news : Pieces C) (to : C) (some_rows : 0 < (news.rec
   -- what precedes the old rectangle that does shares nothing with the new one
   passed_over : (from other : C) → Precedes (olds.rect from) (olds.rect other) → holds_first other ≡ true → has_elements (made from) ≡ false
   passed_over from other (inl above) held =
-      let h = Holds-from_true (olds.rect other) (news.rect to).row (news.rect to).col held in
-      and_left (ltb 0 (made from).dims.rows) (ltb 0 (made from).dims.cols) (le-ltb 0 (made from).dims.rows (none-shared (rows_of (olds.rect from)) (rows_of (news.rect to)) (olds.rect other).row above h.0.0))
+      let h = HasElement-from_true (olds.rect other) (news.rect to).row (news.rect to).col held in
+      and_left (ltb 0 (made from).dims.rows) (ltb 0 (made from).dims.cols) (le-ltb 0 (made from).dims.rows (none-overlap (row_interval (olds.rect from)) (row_interval (news.rect to)) (olds.rect other).row above h.0.0))
   passed_over from other (inr left) held =
-      let h = Holds-from_true (olds.rect other) (news.rect to).row (news.rect to).col held in
-      and_right (ltb 0 (made from).dims.rows) (ltb 0 (made from).dims.cols) (le-ltb 0 (made from).dims.cols (none-shared (cols_of (olds.rect from)) (cols_of (news.rect to)) (olds.rect other).col left h.1.0))
+      let h = HasElement-from_true (olds.rect other) (news.rect to).row (news.rect to).col held in
+      and_right (ltb 0 (made from).dims.rows) (ltb 0 (made from).dims.cols) (le-ltb 0 (made from).dims.cols (none-overlap (col_interval (olds.rect from)) (col_interval (news.rect to)) (olds.rect other).col left h.1.0))
 
   -- what it precedes begins further down or further right
   begins_later : (first other : C) → holds_first first ≡ true → Precedes (olds.rect first) (olds.rect other) → begins (made other) ≡ false
   begins_later first other held (inl above) =
-      let h = Holds-from_true (olds.rect first) (news.rect to).row (news.rect to).col held in
-      and_left (eqb (made other).at_to.0 0) (eqb (made other).at_to.1 0) (not_zero (made other).at_to.0 (starts-past (rows_of (olds.rect other)) (rows_of (news.rect to)) (omega (arith, above, h.0.1))))
+      let h = HasElement-from_true (olds.rect first) (news.rect to).row (news.rect to).col held in
+      and_left (eqb (made other).at_to.0 0) (eqb (made other).at_to.1 0) (not_zero (made other).at_to.0 (starts-past (row_interval (olds.rect other)) (row_interval (news.rect to)) (omega (arith, above, h.0.1))))
   begins_later first other held (inr left) =
-      let h = Holds-from_true (olds.rect first) (news.rect to).row (news.rect to).col held in
-      and_right (eqb (made other).at_to.0 0) (eqb (made other).at_to.1 0) (not_zero (made other).at_to.1 (starts-past (cols_of (olds.rect other)) (cols_of (news.rect to)) (omega (arith, left, h.1.1))))
+      let h = HasElement-from_true (olds.rect first) (news.rect to).row (news.rect to).col held in
+      and_right (eqb (made other).at_to.0 0) (eqb (made other).at_to.1 0) (not_zero (made other).at_to.1 (starts-past (col_interval (olds.rect other)) (col_interval (news.rect to)) (omega (arith, left, h.1.1))))
 
   begins_here : (first : C) → holds_first first ≡ true → (has_elements (made first) ≡ true) × (begins (made first) ≡ true)
   begins_here first held =
       let n = news.rect to in
-      let h = Holds-from_true (olds.rect first) n.row n.col held in (
+      let h = HasElement-from_true (olds.rect first) n.row n.col held in (
         has_elements-true olds news first to (n.row, n.col, (h, ((omega arith, omega arith), (omega arith, omega arith)))),
-        and_from _ _ (eq-eqb (made first).at_to.0 0 (starts-inside (rows_of (olds.rect first)) (rows_of n) h.0.0)) (eq-eqb (made first).at_to.1 0 (starts-inside (cols_of (olds.rect first)) (cols_of n) h.1.0)),
+        and_from _ _ (eq-eqb (made first).at_to.0 0 (starts-inside (row_interval (olds.rect first)) (row_interval n) h.0.0)) (eq-eqb (made first).at_to.1 0 (starts-inside (col_interval (olds.rect first)) (col_interval n) h.1.0)),
       )
 
   abbrev of_names : List C → List (Copy C)
@@ -254,15 +254,15 @@ module _ {C : Type 0} (olds news : Pieces C) (to : C) (some_rows : 0 < (news.rec
 -- ---- what they make
 
 -- the copies to a new rectangle, from the old ones that tile an array, make its window of it, whatever was there before
-pub copies_to-make : {C : Type 0} (d : Dims) (olds news : Pieces C) (to : C) (a : Array) (old : C → Array) (new : Array)
+pub copies_to-make : {C : Type 0} (d : Dims) (olds news : NamedRects C) (to : C) (a : Array) (old : C → Array) (new : Array)
     → IsTiling d (rects_of olds) → AreInOrder (rects_of olds) → Within (news.rect to) d → 0 < (news.rect to).rows → 0 < (news.rect to).cols → AllByRecursion (λ c. old c ≡ window a (olds.rect c)) olds.names
-    → IsWhole new → new.dims ≡ dims_of (news.rect to) → all_copied old new (copies_to olds news to) ≡ window a (news.rect to)
+    → IsWhole new → new.dims ≡ rect_dims (news.rect to) → all_copied old new (copies_to olds news to) ≡ window a (news.rect to)
 copies_to-make {C} d olds news to a old new tiling order within some_rows some_cols are whole dims =
     let n = news.rect to in
     let once = copies_to-begin olds news to some_rows some_cols d tiling order within in
     let cs = copies_to olds news to in
     let same = dims-all_copied old cs new ∙ dims in
-    same_arrays (all_copied old new cs) (window a n) same (IsWhole-all_copied old cs new whole) (IsWhole-tabulate (dims_of n) (λ i j. element a (n.row + i) (n.col + j))) (λ i j in_rows in_cols.
+    same_arrays (all_copied old new cs) (window a n) same (IsWhole-all_copied old cs new whole) (IsWhole-tabulate (rect_dims n) (λ i j. element a (n.row + i) (n.col + j))) (λ i j in_rows in_cols.
     let in_new_rows : i < n.rows = omega (arith, ap (λ (e : Dims). e.rows) same) in
     let in_new_cols : j < n.cols = omega (arith, ap (λ (e : Dims). e.cols) same) in
     let target = element a (n.row + i) (n.col + j) in
@@ -293,14 +293,14 @@ one_sum true n h = inl (refl, omega arith)
 one_sum false n h = inr (refl, omega arith)
 
 -- each copy to a rectangle goes to it
-each-copy_to : {C : Type 0} (Q : Copy C → Type 0) (olds news : Pieces C) (to : C) → ((from : C) → Q (copy_between olds news from to)) → AllByRecursion Q (copies_to olds news to)
+each-copy_to : {C : Type 0} (Q : Copy C → Type 0) (olds news : NamedRects C) (to : C) → ((from : C) → Q (copy_between olds news from to)) → AllByRecursion Q (copies_to olds news to)
 each-copy_to {C} Q olds news to h =
     each-filter Q has_elements (map (λ from. copy_between olds news from to) olds.names) (each-map (λ c. has_elements c ≡ true → Q c) (λ from. copy_between olds news from to) olds.names (each-of (λ from. has_elements (copy_between olds news from to) ≡ true → Q (copy_between olds news from to)) (λ from _. h from) olds.names))
 
 abbrev going : {C : Type 0} → (C → C → Bool) → C → List (Copy C) → List (Copy C)
 going same to cs = filter (λ c. same to c.to) cs
 
-going-none : {C : Type 0} (same : C → C → Bool) (olds news : Pieces C) (to : C) (names : List C) → count_by (same to) names ≡ 0 → going same to (flat_map (copies_to olds news) names) ≡ []
+going-none : {C : Type 0} (same : C → C → Bool) (olds news : NamedRects C) (to : C) (names : List C) → count_by (same to) names ≡ 0 → going same to (flat_map (copies_to olds news) names) ≡ []
 going-none same olds news to [] h = refl
 going-none same olds news to (n ∷ ns) h =
     let both = zero_sum (same to n) (count_by (same to) ns) (sym (sum_by-cons (λ x. cond (same to x) 1 0) n ns) ∙ h) in
@@ -309,7 +309,7 @@ going-none same olds news to (n ∷ ns) h =
     ∙ going-none same olds news to ns both.1
 
 -- where names are told apart, the copies that go to a rectangle are those to it
-pub going-one : {C : Type 0} (same : C → C → Bool) → ((x y : C) → same x y ≡ true → x ≡ y) → (olds news : Pieces C) (to : C) (names : List C) → count_by (same to) names ≡ 1 → going same to (flat_map (copies_to olds news) names) ≡ copies_to olds news to
+pub going-one : {C : Type 0} (same : C → C → Bool) → ((x y : C) → same x y ≡ true → x ≡ y) → (olds news : NamedRects C) (to : C) (names : List C) → count_by (same to) names ≡ 1 → going same to (flat_map (copies_to olds news) names) ≡ copies_to olds news to
 going-one same law olds news to [] h = absurd (omega arith)
 going-one same law olds news to (n ∷ ns) h = elim (one_sum (same to n) (count_by (same to) ns) (sym (sum_by-cons (λ x. cond (same to x) 1 0) n ns) ∙ h)) as (λ _. going same to (flat_map (copies_to olds news) (n ∷ ns)) ≡ copies_to olds news to) [
   | inl here ↦ filter-append (λ c. same to c.to) (copies_to olds news n) (flat_map (copies_to olds news) ns)
@@ -321,9 +321,9 @@ going-one same law olds news to (n ∷ ns) h = elim (one_sum (same to n) (count_
 ]
 
 -- all copies, in order, make each new rectangle's window of the array that the old ones tile
-pub copies-repartition : {C : Type 0} (same : C → C → Bool) → ((x y : C) → same x y ≡ true → x ≡ y) → (d : Dims) (olds news : Pieces C) (to : C) (a : Array) (old new : C → Array)
+pub copies-repartition : {C : Type 0} (same : C → C → Bool) → ((x y : C) → same x y ≡ true → x ≡ y) → (d : Dims) (olds news : NamedRects C) (to : C) (a : Array) (old new : C → Array)
     → count_by (same to) news.names ≡ 1 → IsTiling d (rects_of olds) → AreInOrder (rects_of olds) → Within (news.rect to) d → 0 < (news.rect to).rows → 0 < (news.rect to).cols → AllByRecursion (λ c. old c ≡ window a (olds.rect c)) olds.names
-    → IsWhole (new to) → (new to).dims ≡ dims_of (news.rect to) → after_copies same old new (copies olds news) to ≡ window a (news.rect to)
+    → IsWhole (new to) → (new to).dims ≡ rect_dims (news.rect to) → after_copies same old new (copies olds news) to ≡ window a (news.rect to)
 copies-repartition same law d olds news to a old new named tiling order within some_rows some_cols are whole dims =
     after_copies-to same old to (copies olds news) new ∙ ap (λ cs. all_copied old (new to) cs) (going-one same law olds news to news.names named)
     ∙ copies_to-make d olds news to a old (new to) tiling order within some_rows some_cols are whole dims

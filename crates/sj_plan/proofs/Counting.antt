@@ -9,7 +9,7 @@ use Rattle.sj_base.proofs.Numbers.{suc-add}
 use Rattle.sj_base.proofs.Lists.{sum_by-agree}
 use Rattle.sj_plan.specs.declared.interval.Interval.{Interval}
 use Rattle.sj_plan.specs.declared.parts.Parts.{Parts}
-use Rattle.sj_plan.specs.Interval.{Lies, meeting, meetings, part, shared}
+use Rattle.sj_plan.specs.Interval.{Lies, meeting, meetings, part, overlap}
 use Rattle.sj_plan.specs.Parts.{places}
 use Rattle.sj_plan.specs.Paste.{overlaps, paste_at, pastes_to, pastes_of}
 use Rattle.sj_plan.proofs.Lists.{count_by-map, count_grid, grid_row, range_more}
@@ -33,7 +33,7 @@ count_upto a v (suc m) h =
 
 pub meeting_is : (n p : ℕ) (of v : Interval) → AreOverlapping n p of v → v.first + v.len ≤ p → meeting n p of ≡ v.len
 meeting_is n p of v exactly inside =
-    count_upto (λ k. ltb 0 (shared (part n p k) of).len) v p (λ k below. (λ lies. lt-ltb 0 (shared (part n p k) of).len ((exactly k below).0 lies), λ outside. le-ltb 0 (shared (part n p k) of).len (apart n p of v k exactly below outside))) ∙ omega arith
+    count_upto (λ k. ltb 0 (overlap (part n p k) of).len) v p (λ k below. (λ lies. lt-ltb 0 (overlap (part n p k) of).len ((exactly k below).0 lies), λ outside. le-ltb 0 (overlap (part n p k) of).len (apart n p of v k exactly below outside))) ∙ omega arith
 
 pub one_part_more : (f : ℕ → ℕ) (total len k : ℕ) → total ≡ sum_by f (range_with_len 0 k) → f k ≡ len → total + len ≡ sum_by f (range_with_len 0 (k + 1))
 one_part_more f total len k e h =
@@ -60,8 +60,8 @@ sum_grid f g c (x ∷ xs) =
 
 pastes_to-count : (d : Dims) (old new : Parts) (to : ℕ × ℕ) → length (pastes_to d old new to) ≡ meeting d.rows old.r (part d.rows new.r to.0) * meeting d.cols old.c (part d.cols new.c to.1)
 pastes_to-count d old new to =
-    let rows = λ (k : ℕ). ltb 0 (shared (part d.rows old.r k) (part d.rows new.r to.0)).len in
-    let cols = λ (l : ℕ). ltb 0 (shared (part d.cols old.c l) (part d.cols new.c to.1)).len in
+    let rows = λ (k : ℕ). ltb 0 (overlap (part d.rows old.r k) (part d.rows new.r to.0)).len in
+    let cols = λ (l : ℕ). ltb 0 (overlap (part d.cols old.c l) (part d.cols new.c to.1)).len in
     length-filter overlaps (map (λ from. paste_at d old new from to) (places old)) ∙ count_by-map overlaps (λ from. paste_at d old new from to) (places old) ∙ count_grid rows cols old.c (range_with_len 0 old.r)
 
 pub pastes_of-count : (d : Dims) (old new : Parts) → length (pastes_of d old new) ≡ meetings d.rows old.r new.r * meetings d.cols old.c new.c

@@ -11,7 +11,7 @@ use Rattle.sj_plan.specs.declared.rect.Rect.{Rect}
 use Rattle.sj_plan.specs.Pieces.{IsTiling}
 use Rattle.sj_plan.specs.Rect.{holds}
 use Rattle.sj_plan.specs.Window.{window, with_window, gathered, IsWhole, Reassemble}
-use Rattle.sj_plan.proofs.Windows.{cond_same, cond_twice, element-with_window, element-window, Holds-from_true, IsWhole-with_window, same_arrays}
+use Rattle.sj_plan.proofs.Windows.{cond_same, cond_twice, element-with_window, element-window, HasElement-from_true, IsWhole-with_window, same_arrays}
 
 abbrev IsPart : Array → Rect × Array → Type 0
 IsPart a part = part.1 ≡ window a part.0
@@ -20,7 +20,7 @@ element-put_back : (a b : Array) (part : Rect × Array) (i j : ℕ) → IsPart a
 element-put_back a b part i j is in_rows in_cols =
     let r = part.0 in
     element-with_window b r part.1 i j in_rows in_cols ∙ cond_same (holds r i j) _ (element a i j) (element b i j) (λ t.
-    let h = Holds-from_true r i j t in
+    let h = HasElement-from_true r i j t in
     ap (λ (x : Array). element x (0 + (i - r.row)) (0 + (j - r.col))) is ∙ ap (λ n. element (window a r) n (0 + (j - r.col))) (omega arith) ∙ ap (λ n. element (window a r) (i - r.row) n) (omega arith)
     ∙ element-window a r (i - r.row) (j - r.col) (omega (arith, h.0.0, h.0.1)) (omega (arith, h.1.0, h.1.1)) ∙ ap (λ n. element a n (r.col + (j - r.col))) (omega (arith, h.0.0)) ∙ ap (λ n. element a i n) (omega (arith, h.1.0)))
 

@@ -11,16 +11,16 @@ use Rattle.sj_base.specs.declared.tile.Dims.{Dims}
 use Rattle.sj_plan.specs.declared.interval.Interval.{Interval}
 use Rattle.sj_plan.specs.declared.parts.Parts.{Parts}
 use Rattle.sj_plan.specs.declared.paste.Paste.{Paste}
-use Rattle.sj_plan.specs.Interval.{Lies, part, shared}
+use Rattle.sj_plan.specs.Interval.{Lies, part, overlap}
 use Rattle.sj_plan.specs.Paste.{overlaps, paste_at, pastes_of, pastes_to}
 use Rattle.sj_plan.proofs.Lists.{grid_row, nothing_before, nothing_after, filter_none}
 
 -- v has the numbers of the parts of n items in p parts that share an index with an interval
 abbrev pub AreOverlapping : ℕ → ℕ → Interval → Interval → Type 0
-AreOverlapping n p of v = (k : ℕ) → k < p → (Lies k v ↔ (0 < (shared (part n p k) of).len))
+AreOverlapping n p of v = (k : ℕ) → k < p → (Lies k v ↔ (0 < (overlap (part n p k) of).len))
 
-pub apart : (n p : ℕ) (of v : Interval) (k : ℕ) → AreOverlapping n p of v → k < p → (Lies k v → ⊥) → (shared (part n p k) of).len ≤ 0
-apart n p of v k exactly below outside = elim (cases_lt 0 (shared (part n p k) of).len) as (λ _. (shared (part n p k) of).len ≤ 0) [
+pub apart : (n p : ℕ) (of v : Interval) (k : ℕ) → AreOverlapping n p of v → k < p → (Lies k v → ⊥) → (overlap (part n p k) of).len ≤ 0
+apart n p of v k exactly below outside = elim (cases_lt 0 (overlap (part n p k) of).len) as (λ _. (overlap (part n p k) of).len ≤ 0) [
   | inl meets ↦ absurd (outside ((exactly k below).1 meets))
   | inr none ↦ none
 ]
@@ -34,10 +34,10 @@ from_row-append d old new k to xs ys =
     ap (filter overlaps) (map-append (λ l. paste_at d old new (k, l) to) xs ys) ∙ filter-append overlaps (map (λ l. paste_at d old new (k, l) to) xs) (map (λ l. paste_at d old new (k, l) to) ys)
 
 abbrev row_meets : Dims → Parts → Parts → ℕ → ℕ → ℕ
-row_meets d old new k i = (shared (part d.rows old.r k) (part d.rows new.r i)).len
+row_meets d old new k i = (overlap (part d.rows old.r k) (part d.rows new.r i)).len
 
 abbrev col_meets : Dims → Parts → Parts → ℕ → ℕ → ℕ
-col_meets d old new l j = (shared (part d.cols old.c l) (part d.cols new.c j)).len
+col_meets d old new l j = (overlap (part d.cols old.c l) (part d.cols new.c j)).len
 
 from_row-apart : (d : Dims) (old new : Parts) (k : ℕ) (to : ℕ × ℕ) (l : ℕ) → col_meets d old new l to.1 ≤ 0 → from_row d old new k to (l ∷ []) ≡ []
 from_row-apart d old new k to l none =

@@ -5,7 +5,7 @@ use Rattle.std.proofs.lemmas.Bool.{cases_lt, cases_order, lt-ltb, le-ltb}
 use Rattle.std.proofs.lemmas.Nat.{div_below, le-div}
 use Rattle.sj_base.proofs.Numbers.{some_factor}
 use Rattle.sj_plan.specs.declared.interval.Interval.{Interval}
-use Rattle.sj_plan.specs.Interval.{Lies, part, part_first, part_len, shared}
+use Rattle.sj_plan.specs.Interval.{Lies, part, part_first, part_len, overlap}
 
 abbrev interval : ℕ → ℕ → Interval
 interval first len = record { first = first; len = len }
@@ -112,14 +112,14 @@ ends_after n p j k x from first = elim (cases_order j k) as (λ _. x < part_firs
 
 -- the parts from the one that holds the interval's first index to the one that holds its last
 -- are those that share an index with it
-pub overlap_from_between : (n p j m k : ℕ) (v : Interval) → 0 < p → p ≤ n → 0 < v.len → Lies v.first (part n p j) → Lies (v.first + (v.len - 1)) (part n p m) → j ≤ k → k ≤ m → 0 < (shared (part n p k) v).len
+pub overlap_from_between : (n p j m k : ℕ) (v : Interval) → 0 < p → p ≤ n → 0 < v.len → Lies v.first (part n p j) → Lies (v.first + (v.len - 1)) (part n p m) → j ≤ k → k ≤ m → 0 < (overlap (part n p k) v).len
 overlap_from_between n p j m k v some enough long first last from upto =
     let here = part_len-positive n p k some enough in
     let starts : part_first n p k < v.first + v.len = starts_before n p k m (v.first + (v.len - 1)) _ upto last (omega arith) in
     let ends : v.first < part_first n p k + part_len n p k = ends_after n p j k v.first from first in
     omega arith
 
-pub between_from_overlap : (n p j m k : ℕ) (v : Interval) → 0 < v.len → Lies v.first (part n p j) → Lies (v.first + (v.len - 1)) (part n p m) → 0 < (shared (part n p k) v).len → (j ≤ k) × (k ≤ m)
+pub between_from_overlap : (n p j m k : ℕ) (v : Interval) → 0 < v.len → Lies v.first (part n p j) → Lies (v.first + (v.len - 1)) (part n p m) → 0 < (overlap (part n p k) v).len → (j ≤ k) × (k ≤ m)
 between_from_overlap n p j m k v long first last meets =
     let starts : part_first n p k < v.first + v.len = omega arith in
     let ends : v.first < part_first n p k + part_len n p k = omega arith in (

@@ -13,7 +13,7 @@ use Rattle.sj_base.specs.Window.{table}
 use Rattle.sj_base.proofs.Pasting.{pasted_step}
 use Rattle.sj_base.proofs.Tables.{item-table, length-table, same_tables}
 use Rattle.sj_plan.specs.declared.rect.Rect.{Rect}
-use Rattle.sj_plan.specs.Rect.{Holds, Within, holds, dims_of, place_of}
+use Rattle.sj_plan.specs.Rect.{HasElement, Within, holds, rect_dims, place_of}
 use Rattle.sj_plan.specs.Window.{window, with_window, IsWhole}
 use Rattle.sj_plan.proofs.Lists.{appended_more}
 
@@ -114,29 +114,29 @@ element-with_window a r b i j in_rows in_cols = element-tabulate a.dims (written
 pub IsWhole-with_window : (a : Array) (r : Rect) (b : Array) → IsWhole (with_window a r b)
 IsWhole-with_window a r b = IsWhole-tabulate a.dims (written a r b)
 
-pub holds-true : (r : Rect) (i j : ℕ) → Holds r i j → holds r i j ≡ true
+pub holds-true : (r : Rect) (i j : ℕ) → HasElement r i j → holds r i j ≡ true
 holds-true r i j h =
     and_from _ _ (and_from _ _ (le-leb r.row i h.0.0) (lt-ltb i (r.row + r.rows) h.0.1)) (and_from _ _ (le-leb r.col j h.1.0) (lt-ltb j (r.col + r.cols) h.1.1))
 
-pub Holds-from_true : (r : Rect) (i j : ℕ) → holds r i j ≡ true → Holds r i j
-Holds-from_true r i j h =
+pub HasElement-from_true : (r : Rect) (i j : ℕ) → holds r i j ≡ true → HasElement r i j
+HasElement-from_true r i j h =
     let both = and_parts (leb r.row i && ltb i (r.row + r.rows)) (leb r.col j && ltb j (r.col + r.cols)) h in
     let rows = and_parts (leb r.row i) (ltb i (r.row + r.rows)) both.0 in
     let cols = and_parts (leb r.col j) (ltb j (r.col + r.cols)) both.1 in
     ((leb-true r.row i rows.0, ltb-true i (r.row + r.rows) rows.1), (leb-true r.col j cols.0, ltb-true j (r.col + r.cols) cols.1))
 
-pub holds-false : (r : Rect) (i j : ℕ) → (Holds r i j → ⊥) → holds r i j ≡ false
-holds-false r i j h = false_from_ne_true (holds r i j) (λ t. h (Holds-from_true r i j t))
+pub holds-false : (r : Rect) (i j : ℕ) → (HasElement r i j → ⊥) → holds r i j ≡ false
+holds-false r i j h = false_from_ne_true (holds r i j) (λ t. h (HasElement-from_true r i j t))
 
-pub written-inside : (a : Array) (r : Rect) (b : Array) (i j : ℕ) → Holds r i j → written a r b i j ≡ element b (i - r.row) (j - r.col)
+pub written-inside : (a : Array) (r : Rect) (b : Array) (i j : ℕ) → HasElement r i j → written a r b i j ≡ element b (i - r.row) (j - r.col)
 written-inside a r b i j h =
     cond-true (holds r i j) _ _ (holds-true r i j h) ∙ ap (λ n. element b n (0 + (j - r.col))) (omega arith) ∙ ap (λ n. element b (i - r.row) n) (omega arith)
 
-pub written-outside : (a : Array) (r : Rect) (b : Array) (i j : ℕ) → (Holds r i j → ⊥) → written a r b i j ≡ element a i j
+pub written-outside : (a : Array) (r : Rect) (b : Array) (i j : ℕ) → (HasElement r i j → ⊥) → written a r b i j ≡ element a i j
 written-outside a r b i j h = cond-false (holds r i j) _ _ (holds-false r i j h)
 
 -- one row more of a rectangle that is written, as `gather` copies it
-pub gathered_more : (a : Array) (r : Rect) (b : Array) (k : ℕ) (now row : List ℤ) (d : Dims) (xs : List ℤ) → Within r a.dims → IsWhole b → b.dims ≡ dims_of r → d ≡ a.dims → xs ≡ b.elements → k < r.rows → now ≡ (with_window a (record r { rows = k }) b).elements → row ≡ take (k * r.cols + r.cols - k * r.cols) (drop (k * r.cols) xs) → put_mid ((r.row + k) * d.cols + r.col) ((r.row + k) * d.cols + r.col + r.cols - ((r.row + k) * d.cols + r.col)) now row ≡ (with_window a (record r { rows = k + 1 }) b).elements
+pub gathered_more : (a : Array) (r : Rect) (b : Array) (k : ℕ) (now row : List ℤ) (d : Dims) (xs : List ℤ) → Within r a.dims → IsWhole b → b.dims ≡ rect_dims r → d ≡ a.dims → xs ≡ b.elements → k < r.rows → now ≡ (with_window a (record r { rows = k }) b).elements → row ≡ take (k * r.cols + r.cols - k * r.cols) (drop (k * r.cols) xs) → put_mid ((r.row + k) * d.cols + r.col) ((r.row + k) * d.cols + r.col + r.cols - ((r.row + k) * d.cols + r.col)) now row ≡ (with_window a (record r { rows = k + 1 }) b).elements
 gathered_more a r b k now row d xs within whole dims same_dims same_elements h e f =
     let long : length now ≡ area a.dims = ap length e ∙ IsWhole-with_window a (record r { rows = k }) b in
     let start : k * r.cols ≡ (0 + k) * b.dims.cols + 0 = ap (λ (x : Dims). k * x.cols) (sym dims) ∙ omega arith in
@@ -144,7 +144,7 @@ gathered_more a r b k now row d xs within whole dims same_dims same_elements h e
     let long_b : length b.elements ≡ r.rows * r.cols = whole ∙ ap area dims in
     let inside_b = row_fits k r.cols r.rows r.cols h (omega arith) in
     let first : (r.row + k) * d.cols + r.col ≡ (r.row + k) * a.dims.cols + r.col = ap (λ (x : Dims). (r.row + k) * x.cols + r.col) same_dims in
-    pasted_step b (0, 0) (dims_of r) a (place_of r) k _ _ _ _ now row long within.1 first (omega arith) start (omega arith) (omega arith) (omega arith) (f ∙ ap (λ ys. take (k * r.cols + r.cols - k * r.cols) (drop (k * r.cols) ys)) same_elements) e
+    pasted_step b (0, 0) (rect_dims r) a (place_of r) k _ _ _ _ now row long within.1 first (omega arith) start (omega arith) (omega arith) (omega arith) (f ∙ ap (λ ys. take (k * r.cols + r.cols - k * r.cols) (drop (k * r.cols) ys)) same_elements) e
 
 -- a list lent whole and written back
 pub written_back : (a : Array) (r : Rect) (b : Array) (xs : List ℤ) (k : ℕ) → IsWhole a → k ≡ r.rows → xs ≡ (with_window a (record r { rows = k }) b).elements → array a.dims (take (length a.elements) (xs ++ drop (length xs) a.elements)) ≡ with_window a r b
@@ -154,18 +154,18 @@ written_back a r b xs k whole last e =
     ap (array a.dims) (take_at xs (drop (length xs) a.elements) (length a.elements) long ∙ all)
 
 -- the rectangle of an array that got a window is that window
-pub window-with_window : (a : Array) (r : Rect) (b : Array) → Within r a.dims → IsWhole b → b.dims ≡ dims_of r → window (with_window a r b) r ≡ b
+pub window-with_window : (a : Array) (r : Rect) (b : Array) → Within r a.dims → IsWhole b → b.dims ≡ rect_dims r → window (with_window a r b) r ≡ b
 window-with_window a r b within whole dims =
     let inner = with_window a r b in
-    same_arrays (window inner r) b (sym dims) (IsWhole-tabulate (dims_of r) (λ i j. element inner (r.row + i) (r.col + j))) whole (λ i j in_rows in_cols.
-    element-tabulate (dims_of r) (λ i j. element inner (r.row + i) (r.col + j)) i j in_rows in_cols ∙ element-with_window a r b (r.row + i) (r.col + j) (omega (arith, within.0)) (omega (arith, within.1)) ∙ written-inside a r b (r.row + i) (r.col + j) ((omega arith, omega arith), (omega arith, omega arith)) ∙ ap (λ n. element b n (r.col + j - r.col)) (omega arith) ∙ ap (λ n. element b i n) (omega arith))
+    same_arrays (window inner r) b (sym dims) (IsWhole-tabulate (rect_dims r) (λ i j. element inner (r.row + i) (r.col + j))) whole (λ i j in_rows in_cols.
+    element-tabulate (rect_dims r) (λ i j. element inner (r.row + i) (r.col + j)) i j in_rows in_cols ∙ element-with_window a r b (r.row + i) (r.col + j) (omega (arith, within.0)) (omega (arith, within.1)) ∙ written-inside a r b (r.row + i) (r.col + j) ((omega arith, omega arith), (omega arith, omega arith)) ∙ ap (λ n. element b n (r.col + j - r.col)) (omega arith) ∙ ap (λ n. element b i n) (omega arith))
 
 -- all rows of a window
-pub window_all : (a : Array) (r : Rect) (i : ℕ) (taken : List ℤ) → i ≡ r.rows → taken ≡ flat_map (table_row (λ i j. element a (r.row + i) (r.col + j)) r.cols) (range_with_len 0 i) → array (dims_of r) taken ≡ window a r
+pub window_all : (a : Array) (r : Rect) (i : ℕ) (taken : List ℤ) → i ≡ r.rows → taken ≡ flat_map (table_row (λ i j. element a (r.row + i) (r.col + j)) r.cols) (range_with_len 0 i) → array (rect_dims r) taken ≡ window a r
 window_all a r i taken last e =
     let f = λ (i j : ℕ). element a (r.row + i) (r.col + j) in
-    ap (array (dims_of r)) (e ∙ ap (λ n. flat_map (table_row f r.cols) (range_with_len 0 n)) last ∙ table-rows (dims_of r) f)
+    ap (array (rect_dims r)) (e ∙ ap (λ n. flat_map (table_row f r.cols) (range_with_len 0 n)) last ∙ table-rows (rect_dims r) f)
 
 pub element-window : (a : Array) (r : Rect) (i j : ℕ) → i < r.rows → j < r.cols → element (window a r) i j ≡ element a (r.row + i) (r.col + j)
 element-window a r i j in_rows in_cols =
-    element-tabulate (dims_of r) (λ i j. element a (r.row + i) (r.col + j)) i j in_rows in_cols
+    element-tabulate (rect_dims r) (λ i j. element a (r.row + i) (r.col + j)) i j in_rows in_cols

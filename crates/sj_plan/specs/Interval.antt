@@ -21,14 +21,14 @@ abbrev pub part : ℕ → ℕ → ℕ → Interval
 part n p k = record { first = part_first n p k; len = part_len n p k }
 
 -- the indices that two intervals share, none where they have none in common
-abbrev pub shared : Interval → Interval → Interval
-shared a b =
+abbrev pub overlap : Interval → Interval → Interval
+overlap a b =
     let first = max a.first b.first in
     record { first = first; len = min (a.first + a.len) (b.first + b.len) - first }
 
 -- how many of p parts of n items share an index with an interval
 abbrev pub meeting : ℕ → ℕ → Interval → ℕ
-meeting n p v = count_by (λ k. nat_lt 0 (shared (part n p k) v).len) (range_with_len 0 p)
+meeting n p v = count_by (λ k. nat_lt 0 (overlap (part n p k) v).len) (range_with_len 0 p)
 
 -- how many pairs of one of p parts and one of q parts share an index
 abbrev pub meetings : ℕ → ℕ → ℕ → ℕ

@@ -6,8 +6,8 @@ use Rattle.sj_base.specs.declared.tile.Dims.{Dims}
 use Rattle.sj_base.specs.Array.{Array, zeros}
 use Rattle.sj_base.specs.Window.{pasted}
 use Rattle.sj_plan.specs.declared.rect.Rect.{Rect}
-use Rattle.sj_plan.specs.Interval.{shared}
-use Rattle.sj_plan.specs.Rect.{Within, holds, rows_of, cols_of}
+use Rattle.sj_plan.specs.Interval.{overlap}
+use Rattle.sj_plan.specs.Rect.{Within, holds, row_interval, col_interval}
 
 -- the rectangles tile an array of these dimensions: all lie in it, and each element lies in exactly one
 pub record IsTiling (d : Dims) (rects : List Rect) : Type 0 where
@@ -23,11 +23,11 @@ abbrev pub AreInOrder : List Rect → Type 0
 AreInOrder rects = AllPairs Precedes rects
 
 -- names in order, and the rectangle of each
-pub record Pieces (C : Type 0) : Type 0 where
+pub record NamedRects (C : Type 0) : Type 0 where
   pub names : List C
   pub rect : C → Rect
 
-abbrev pub rects_of : {C : Type 0} → Pieces C → List Rect
+abbrev pub rects_of : {C : Type 0} → NamedRects C → List Rect
 rects_of ps = map ps.rect ps.names
 
 -- a copy of an old rectangle's elements to a new one: from a place in the one to a place in the other
@@ -39,12 +39,12 @@ pub record Copy (C : Type 0) : Type 0 where
   pub dims : Dims
 
 -- what an old and a new rectangle share, in the coordinates of each
-abbrev pub copy_between : {C : Type 0} → Pieces C → Pieces C → C → C → Copy C
+abbrev pub copy_between : {C : Type 0} → NamedRects C → NamedRects C → C → C → Copy C
 copy_between olds news from to =
     let o = olds.rect from in
     let n = news.rect to in
-    let rows = shared (rows_of o) (rows_of n) in
-    let cols = shared (cols_of o) (cols_of n) in
+    let rows = overlap (row_interval o) (row_interval n) in
+    let cols = overlap (col_interval o) (col_interval n) in
     record {
       from = from;
       to = to;
@@ -58,11 +58,11 @@ abbrev pub has_elements : {C : Type 0} → Copy C → Bool
 has_elements c = nat_lt 0 c.dims.rows && nat_lt 0 c.dims.cols
 
 -- the copies to one new rectangle, by old rectangle: those of the pairs that overlap
-abbrev pub copies_to : {C : Type 0} → Pieces C → Pieces C → C → List (Copy C)
+abbrev pub copies_to : {C : Type 0} → NamedRects C → NamedRects C → C → List (Copy C)
 copies_to olds news to = filter has_elements (map (λ from. copy_between olds news from to) olds.names)
 
 -- all copies, by new rectangle, then old rectangle
-abbrev pub copies : {C : Type 0} → Pieces C → Pieces C → List (Copy C)
+abbrev pub copies : {C : Type 0} → NamedRects C → NamedRects C → List (Copy C)
 copies olds news = flat_map (copies_to olds news) news.names
 
 -- the copy begins its new rectangle: it holds the first element of it

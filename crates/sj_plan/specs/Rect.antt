@@ -12,30 +12,30 @@ use Rattle.sj_plan.specs.Parts.{IsPlace, places}
 abbrev pub across : Interval → Interval → Rect
 across rows cols = record { row = rows.first; col = cols.first; rows = rows.len; cols = cols.len }
 
-abbrev pub rows_of : Rect → Interval
-rows_of r = record { first = r.row; len = r.rows }
+abbrev pub row_interval : Rect → Interval
+row_interval r = record { first = r.row; len = r.rows }
 
-abbrev pub cols_of : Rect → Interval
-cols_of r = record { first = r.col; len = r.cols }
+abbrev pub col_interval : Rect → Interval
+col_interval r = record { first = r.col; len = r.cols }
 
 -- element (row, col) is one of the rectangle's
-abbrev pub Holds : Rect → ℕ → ℕ → Type 0
-Holds r row col = Lies row (rows_of r) × Lies col (cols_of r)
+abbrev pub HasElement : Rect → ℕ → ℕ → Type 0
+HasElement r row col = Lies row (row_interval r) × Lies col (col_interval r)
 
 -- the place of its first row and column
 abbrev pub place_of : Rect → ℕ × ℕ
 place_of r = (r.row, r.col)
 
-abbrev pub dims_of : Rect → Dims
-dims_of r = record { rows = r.rows; cols = r.cols }
+abbrev pub rect_dims : Rect → Dims
+rect_dims r = record { rows = r.rows; cols = r.cols }
 
 -- the same as a test
 abbrev pub holds : Rect → ℕ → ℕ → Bool
-holds r row col = in_rect (place_of r) (dims_of r) row col
+holds r row col = in_rect (place_of r) (rect_dims r) row col
 
 -- two rectangles have an element in common
 abbrev pub Overlap : Rect → Rect → Type 0
-Overlap r s = (row : ℕ) × (col : ℕ) × (Holds r row col × Holds s row col)
+Overlap r s = (row : ℕ) × (col : ℕ) × (HasElement r row col × HasElement s row col)
 
 -- the rectangle lies in an array of these dimensions
 abbrev pub Within : Rect → Dims → Type 0
@@ -52,5 +52,5 @@ children_of d p = map (child d p) (places p)
 -- the element lies in that child and in no other
 pub record IsOnlyChild (d : Dims) (p : Parts) (row col : ℕ) (place : ℕ × ℕ) : Type 0 where
   pub is_place : IsPlace p place
-  pub holds : Holds (child d p place) row col
-  pub only : (other : ℕ × ℕ) → IsPlace p other → Holds (child d p other) row col → other ≡ place
+  pub holds : HasElement (child d p place) row col
+  pub only : (other : ℕ × ℕ) → IsPlace p other → HasElement (child d p other) row col → other ≡ place

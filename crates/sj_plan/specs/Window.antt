@@ -3,17 +3,17 @@ use Rattle.std.specs.Prelude.{◌≡◌, All, IsPermutation, List, length, map}
 use Rattle.std.specs.List.{fold}
 use Rattle.sj_base.specs.declared.tile.Dims.{Dims}
 use Rattle.sj_base.specs.Array.{Array, area}
-use Rattle.sj_base.specs.Window.{window as window_at, pasted}
+use Rattle.sj_base.specs.Window.{window_at, pasted}
 use Rattle.sj_plan.specs.declared.rect.Rect.{Rect}
-use Rattle.sj_plan.specs.Rect.{place_of, dims_of}
+use Rattle.sj_plan.specs.Rect.{place_of, rect_dims}
 
 -- the array of a rectangle's elements
 abbrev pub window : Array → Rect → Array
-window a r = window_at a (place_of r) (dims_of r)
+window a r = window_at a (place_of r) (rect_dims r)
 
 -- a with the elements of b in the rectangle, and its own elsewhere
 abbrev pub with_window : Array → Rect → Array → Array
-with_window a r b = pasted b (0, 0) (dims_of r) a (place_of r)
+with_window a r b = pasted b (0, 0) (rect_dims r) a (place_of r)
 
 -- a with arrays put into their rectangles, one after another
 abbrev pub gathered : Array → List (Rect × Array) → Array

@@ -1,7 +1,7 @@
 //! Intervals of indices, and how items are split into parts, one after another.
 
 ghost use Rattle.std.specs.Prelude.{◌≡◌, ◌+◌, ◌*◌, ◌/◌, ◌%◌, ◌^◌, ◌<◌, ◌≤◌, ◌↔◌, ℕ, min};
-ghost use Rattle.sj_plan.specs.Interval.{Lies, part, shared};
+ghost use Rattle.sj_plan.specs.Interval.{Lies, part, overlap};
 
 /// `len` indices in a row, from `first` on.
 #[derive(Clone, Copy, Debug, PartialEq, Eq)]
@@ -13,10 +13,10 @@ pub struct Interval {
 impl Interval {
     /// What it shares with another interval; of no length where they have no index in common.
     /// Constant time.
-    pub fn shared(self, other: Interval) -> Interval
+    pub fn overlap(self, other: Interval) -> Interval
         requires own_end { self.first + self.len < 2 ^ 32 }
         requires other_end { other.first + other.len < 2 ^ 32 }
-        ensures shared { result ≡ shared self other }
+        ensures shared { result ≡ overlap self other }
         ensures both { (x : ℕ) → (Lies x result ↔ (Lies x self × Lies x other)) }
     {
         let first = self.first.max(other.first);
@@ -74,7 +74,7 @@ pub fn parts_overlapping(items: u32, parts: u32, of: Interval) -> Interval
     requires inside { of.first + of.len ≤ items }
     ensures in_parts { result.first + result.len ≤ parts }
     ensures exactly { (k : ℕ) → k < parts →
-        (Lies k result ↔ (0 < (shared (part items parts k) of).len)) }
+        (Lies k result ↔ (0 < (overlap (part items parts k) of).len)) }
 {
     let first = part_holding(items, parts, of.first);
     let last = part_holding(items, parts, of.first + (of.len - 1));

@@ -2,10 +2,10 @@
 
 ghost use Rattle.std.specs.Prelude.{◌≡◌, ◌<◌, ◌++◌, ◌↔◌, ℕ, All, Any, map, IfOk, OnOk};
 ghost use Rattle.std.specs.List.{filter, flat_map, range_with_len};
-ghost use Rattle.sj_plan.specs.Interval.{part, shared};
+ghost use Rattle.sj_plan.specs.Interval.{part, overlap};
 ghost use Rattle.sj_plan.specs.Parts.{Fits, IsPlace};
 ghost use Rattle.sj_plan.specs.Rect.{Overlap, child};
-ghost use Rattle.sj_plan.specs.Paste.{BeginEachOnce, IsBetween, Joins, Repartition, is_first, overlaps, paste_at, pastes_of, pastes_to};
+ghost use Rattle.sj_plan.specs.Paste.{BeginEachOnce, IsPasteBetween, Joins, Repartition, is_first, overlaps, paste_at, pastes_of, pastes_to};
 
 use crate::children::rect;
 use crate::interval::{part, parts_overlapping};
@@ -50,7 +50,7 @@ pub fn pastes(
     requires old_plan { Fits old dims }
     requires new_plan { Fits new dims }
     ensures pastes { IfOk result (λ pastes. pastes ≡ pastes_of dims old new) }
-    ensures fit { IfOk result (All (IsBetween dims old new)) }
+    ensures fit { IfOk result (All (IsPasteBetween dims old new)) }
 
     // There is one exactly for those pairs of children that have an element in common.
     ensures exactly { IfOk result (λ pastes. (from to : ℕ × ℕ) → IsPlace old from → IsPlace new to →
@@ -124,7 +124,7 @@ fn push_between(
     requires new_plan { Fits new dims }
     requires place { IsPlace new to }
     requires row_part { k < old.r }
-    requires overlapping { 0 < (shared (part dims.rows old.r k) (part dims.rows new.r to.0)).len }
+    requires overlapping { 0 < (overlap (part dims.rows old.r k) (part dims.rows new.r to.0)).len }
     ensures { OnOk result (found.new.items ≡ found.old.items
         ++ filter overlaps (map (λ l. paste_at dims old new (k, l) to) (range_with_len 0 old.c))) }
 {
@@ -146,8 +146,8 @@ fn between(dims: Dims, old: Parts, new: Parts, from: (u32, u32), to: (u32, u32))
 {
     let old_child = rect(dims, old, from.0, from.1);
     let new_child = rect(dims, new, to.0, to.1);
-    let rows = old_child.row_interval().shared(new_child.row_interval());
-    let cols = old_child.col_interval().shared(new_child.col_interval());
+    let rows = old_child.row_interval().overlap(new_child.row_interval());
+    let cols = old_child.col_interval().overlap(new_child.col_interval());
     Paste {
         from,
         to,

@@ -1,7 +1,7 @@
 //! Rectangles of an array.
 
 ghost use Rattle.std.specs.Prelude.{◌≡◌, ◌↔◌, IsTrue};
-ghost use Rattle.sj_plan.specs.Rect.{Within, rows_of, cols_of};
+ghost use Rattle.sj_plan.specs.Rect.{Within, row_interval, col_interval};
 
 use crate::interval::Interval;
 use sj_base::tile::Dims;
@@ -18,7 +18,7 @@ pub struct Rect {
 impl Rect {
     /// The indices of its rows. Constant time.
     pub fn row_interval(&self) -> Interval
-        ensures { result ≡ rows_of self.now }
+        ensures { result ≡ row_interval self.now }
     {
         Interval {
             first: self.row,
@@ -28,7 +28,7 @@ impl Rect {
 
     /// The indices of its columns. Constant time.
     pub fn col_interval(&self) -> Interval
-        ensures { result ≡ cols_of self.now }
+        ensures { result ≡ col_interval self.now }
     {
         Interval {
             first: self.col,

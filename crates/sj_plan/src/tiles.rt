@@ -2,7 +2,7 @@
 
 ghost use Rattle.std.specs.Prelude.{◌≡◌, ◌+◌, ◌<◌, ℕ, IfOk};
 ghost use Rattle.sj_base.specs.Array.{element};
-ghost use Rattle.sj_plan.specs.Rect.{Holds, Within, dims_of};
+ghost use Rattle.sj_plan.specs.Rect.{HasElement, Within, rect_dims};
 ghost use Rattle.sj_plan.specs.Window.{window, with_window};
 
 use crate::rect::Rect;
@@ -38,11 +38,11 @@ pub fn split(alloc: Global, tile: &Tile, rect: Rect) -> Result<Tile, OutOfMemory
 /// rectangle's elements, which are copied row by row; no memory.
 pub fn gather(into: &mut Tile, rect: Rect, child: &Tile)
     requires within { Within rect into.old.dims }
-    requires dims { child.now.dims ≡ dims_of rect }
+    requires dims { child.now.dims ≡ rect_dims rect }
     ensures with_window { into.new ≡ with_window into.old rect child.now }
     ensures child_there { window into.new rect ≡ child.now }
     ensures others_stay { (i j : ℕ) → i < into.old.dims.rows → j < into.old.dims.cols →
-        ¬ (Holds rect i j) → element into.new i j ≡ element into.old i j }
+        ¬ (HasElement rect i j) → element into.new i j ≡ element into.old i j }
 {
     let across = into.dims().cols as usize;
     let width = rect.cols as usize;

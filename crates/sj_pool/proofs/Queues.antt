@@ -9,7 +9,7 @@ use Rattle.sj_base.specs.declared.mode.Policy.{Policy}
 use Rattle.sj_base.specs.declared.mode.Policy.TheVariants.{Eager, Prio, Ws}
 use Rattle.sj_pool.specs.declared.entry.Entry.{Entry}
 use Rattle.sj_pool.specs.Chunk.{urgency_place}
-use Rattle.sj_pool.specs.Entry.{fits, precedes}
+use Rattle.sj_pool.specs.Entry.{fits_room, precedes}
 use Rattle.sj_pool.specs.Pool.{put_into}
 use Rattle.sj_pool.specs.Queue.{has_fitting, first_fitting, without_first_fitting, put_by_urgency, is_by_urgency}
 
@@ -154,11 +154,11 @@ put-in_tree e (x ∷ l) m h = grind (arith, put-in_tree e l m h)
 
 -- ---- which entries fit
 
-pub has_fitting-put : (room : ℕ) (e : Entry) (es : List Entry) → has_fitting room (put_by_urgency e es) ≡ (fits room e || has_fitting room es)
+pub has_fitting-put : (room : ℕ) (e : Entry) (es : List Entry) → has_fitting room (put_by_urgency e es) ≡ (fits_room room e || has_fitting room es)
 has_fitting-put room e [] = refl
 has_fitting-put room e (x ∷ xs) = grind (arith, has_fitting-put room e xs)
 
-pub has_fitting-insert : (room i : ℕ) (e : Entry) (es : List Entry) → has_fitting room (insert es i e) ≡ (fits room e || has_fitting room es)
+pub has_fitting-insert : (room i : ℕ) (e : Entry) (es : List Entry) → has_fitting room (insert es i e) ≡ (fits_room room e || has_fitting room es)
 has_fitting-insert room zero e es = refl
 has_fitting-insert room (suc i) e [] = grind arith
 has_fitting-insert room (suc i) e (x ∷ xs) = grind (arith, has_fitting-insert room i e xs)
@@ -216,7 +216,7 @@ pub put-at : (e : Entry) (es : List Entry) → insert es (position_or_len (λ x.
 put-at e [] = refl
 put-at e (x ∷ xs) = insert-more (precedes x e) e x xs (position_or_len (λ y. not (precedes y e)) xs) ∙ ap (λ ys. cond (precedes x e) (x ∷ ys) (e ∷ x ∷ xs)) (put-at e xs)
 
-pub first-at : (room : ℕ) (es : List Entry) (d : Entry) → position_or_len (fits room) es < length es → first_fitting room es ≡ Some (slice_index_or es (position_or_len (fits room) es) d)
+pub first-at : (room : ℕ) (es : List Entry) (d : Entry) → position_or_len (fits_room room) es < length es → first_fitting room es ≡ Some (slice_index_or es (position_or_len (fits_room room) es) d)
 first-at room [] d h = grind arith
 first-at room (x ∷ xs) d h = grind (arith, first-at room xs d)
 
@@ -224,11 +224,11 @@ remove-more : (b : Bool) (x : Entry) (xs : List Entry) (i : ℕ) → remove (x �
 remove-more true x xs i = refl
 remove-more false x xs i = let h : 1 + i ≡ suc i = omega arith in rw h refl
 
-pub rest-at : (room : ℕ) (es : List Entry) → without_first_fitting room es ≡ remove es (position_or_len (fits room) es)
+pub rest-at : (room : ℕ) (es : List Entry) → without_first_fitting room es ≡ remove es (position_or_len (fits_room room) es)
 rest-at room [] = refl
-rest-at room (x ∷ xs) = ap (λ ys. cond (fits room x) xs (x ∷ ys)) (rest-at room xs) ∙ sym (remove-more (fits room x) x xs (position_or_len (fits room) xs))
+rest-at room (x ∷ xs) = ap (λ ys. cond (fits_room room x) xs (x ∷ ys)) (rest-at room xs) ∙ sym (remove-more (fits_room room x) x xs (position_or_len (fits_room room) xs))
 
-pub none-at : (room : ℕ) (es : List Entry) → length es ≤ position_or_len (fits room) es → (first_fitting room es ≡ None) × (without_first_fitting room es ≡ es)
+pub none-at : (room : ℕ) (es : List Entry) → length es ≤ position_or_len (fits_room room) es → (first_fitting room es ≡ None) × (without_first_fitting room es ≡ es)
 none-at room [] h = (refl, refl)
 none-at room (x ∷ xs) h = grind (arith, none-at room xs)
 

@@ -6,7 +6,7 @@ use Rattle.std.specs.List.{list_all, AllByRecursion}
 use Rattle.std.specs.Option.{option_and_then}
 use Rattle.sj_base.specs.declared.mode.Policy.TheVariants.{Prio}
 use Rattle.sj_pool.specs.declared.entry.Entry.{Entry}
-use Rattle.sj_pool.specs.Entry.{fits, precedes}
+use Rattle.sj_pool.specs.Entry.{fits_room, precedes}
 use Rattle.sj_pool.specs.Queue.{has_fitting, first_fitting, is_by_urgency}
 use Rattle.sj_pool.specs.Pool.{pooled, queue, entry_for, IsMostUrgent}
 
@@ -16,7 +16,7 @@ either false = inr refl
 
 -- an entry that fits isn't more urgent
 abbrev NotMoreUrgent : ℕ → Entry → Entry → Type 0
-NotMoreUrgent room e x = IsTrue (fits room x) → precedes x e ≡ false
+NotMoreUrgent room e x = IsTrue (fits_room room x) → precedes x e ≡ false
 
 not-itself : (e : Entry) → precedes e e ≡ false
 not-itself e = grind (arith, ints)
@@ -31,7 +31,7 @@ none-precedes room e (x ∷ xs) h =
 first-most_urgent : (room : ℕ) (es : List Entry) (e : Entry) → is_by_urgency es ≡ true → first_fitting room es ≡ Some e → AllByRecursion (NotMoreUrgent room e) es
 first-most_urgent room [] e h f = tt
 first-most_urgent room (x ∷ xs) e h f =
-    elim (either (fits room x)) as (λ _. AllByRecursion (NotMoreUrgent room e) (x ∷ xs)) [
+    elim (either (fits_room room x)) as (λ _. AllByRecursion (NotMoreUrgent room e) (x ∷ xs)) [
       | inl t ↦
           let same : x ≡ e = grind arith in
           let all : list_all (λ y. not (precedes y x)) xs ≡ true = grind arith in

@@ -7,8 +7,8 @@ abbrev pub entry : Task → ℤ → ℕ → Entry
 entry t priority bytes = record { task = t; priority = priority; bytes = bytes }
 
 -- the entry has at most so many bytes
-abbrev pub fits : ℕ → Entry → Bool
-fits room e = nat_le e.bytes room
+abbrev pub fits_room : ℕ → Entry → Bool
+fits_room room e = nat_le e.bytes room
 
 -- the first is more urgent: its priority is greater, or the same, and its task number lesser
 abbrev pub precedes : Entry → Entry → Bool

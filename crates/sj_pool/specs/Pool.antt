@@ -6,7 +6,7 @@ use Rattle.sj_base.specs.declared.ids.Task.{Task}
 use Rattle.sj_base.specs.declared.mode.Policy.{Policy}
 use Rattle.sj_base.specs.declared.mode.Policy.TheVariants.{Prio, Ws}
 use Rattle.sj_pool.specs.declared.entry.Entry.{Entry}
-use Rattle.sj_pool.specs.Entry.{fits, precedes}
+use Rattle.sj_pool.specs.Entry.{fits_room, precedes}
 use Rattle.sj_pool.specs.Queue.{Queued, queued, has_fitting, first_fitting, without_first_fitting, put_by_urgency, is_by_urgency}
 
 pub record Pooled : Type 0 where
@@ -24,8 +24,8 @@ queue_count Ws workers = workers
 queue_count _ workers = 1
 
 -- no entry
-abbrev pub empty : Policy → ℕ → ℕ → Pooled
-empty p w n = pooled p w n (replicate (queue_count p w) [])
+abbrev pub empty_pool : Policy → ℕ → ℕ → Pooled
+empty_pool p w n = pooled p w n (replicate (queue_count p w) [])
 
 -- the number of a worker's queue
 abbrev pub home : Policy → ℕ → ℕ
@@ -95,7 +95,7 @@ without_entry_for p w room =
 
 -- no entry that fits is more urgent
 abbrev pub IsMostUrgent : Entry → ℕ → List (List Entry) → Type 0
-IsMostUrgent e room qs = All (All (λ x. IsTrue (fits room x) → precedes x e ≡ false)) qs
+IsMostUrgent e room qs = All (All (λ x. IsTrue (fits_room room x) → precedes x e ≡ false)) qs
 
 -- ---- what a pool keeps
 

@@ -2,7 +2,7 @@
 use Rattle.std.specs.Prelude.{ℕ, Bool, true, not, ◌&&◌, List, [], ◌∷◌, Option, if◌then◌else◌}
 use Rattle.std.specs.List.{list_any, list_all, find}
 use Rattle.sj_pool.specs.declared.entry.Entry.{Entry}
-use Rattle.sj_pool.specs.Entry.{fits, precedes}
+use Rattle.sj_pool.specs.Entry.{fits_room, precedes}
 
 -- a queue as contracts see it: its entries, and how many it can have
 pub record Queued : Type 0 where
@@ -14,16 +14,16 @@ queued es n = record { entries = es; limit = n }
 
 -- some entry fits
 abbrev pub has_fitting : ℕ → List Entry → Bool
-has_fitting room es = list_any (fits room) es
+has_fitting room es = list_any (fits_room room) es
 
 -- the first entry that fits
 abbrev pub first_fitting : ℕ → List Entry → Option Entry
-first_fitting room es = find (fits room) es
+first_fitting room es = find (fits_room room) es
 
 -- the others, where the first entry that fits is taken out
 abbrev pub without_first_fitting : ℕ → List Entry → List Entry
 without_first_fitting room [] = []
-without_first_fitting room (e ∷ es) = if fits room e then es else e ∷ without_first_fitting room es
+without_first_fitting room (e ∷ es) = if fits_room room e then es else e ∷ without_first_fitting room es
 
 -- the entry stands behind those at the head that are more urgent, and before the others
 abbrev pub put_by_urgency : Entry → List Entry → List Entry

@@ -5,8 +5,8 @@ use Rattle.sj_pool.specs.declared.entry.Entry.{Entry}
 use Rattle.sj_pool.specs.Queue.{has_fitting}
 
 -- the least of some bytes and those of the entries
-abbrev pub IsLeast : ℕ → ℕ → List Entry → Type 0
-IsLeast least bytes es = (room : ℕ) → nat_le least room ≡ (nat_le bytes room || has_fitting room es)
+abbrev pub IsLeastBytes : ℕ → ℕ → List Entry → Type 0
+IsLeastBytes least bytes es = (room : ℕ) → nat_le least room ≡ (nat_le bytes room || has_fitting room es)
 
 -- the entries of the root's fork, where there is one
 abbrev pub entries_of : {F : Type 0} → (F → List Entry) → Option (Box F) → List Entry

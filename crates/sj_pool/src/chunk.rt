@@ -4,9 +4,9 @@ ghost use Rattle.std.specs.Prelude.{◌≡◌, ℕ, ◌↔◌, ◌<◌, ◌≤�
 ghost use Rattle.std.specs.List.{position};
 ghost use Rattle.std.specs.Vec.{vec_capacity};
 ghost use Rattle.sj_pool.specs.Chunk.{HasLeast, chunk_room, urgency_place};
-ghost use Rattle.sj_pool.specs.Entry.{fits, precedes};
+ghost use Rattle.sj_pool.specs.Entry.{fits_room, precedes};
 ghost use Rattle.sj_pool.specs.Queue.{has_fitting, first_fitting, without_first_fitting, is_by_urgency};
-ghost use Rattle.sj_pool.specs.Root.{IsLeast};
+ghost use Rattle.sj_pool.specs.Root.{IsLeastBytes};
 
 use crate::entry::Entry;
 use sj_base::memory::OutOfMemory;
@@ -41,7 +41,7 @@ impl Model for Chunk {
 
 /// The least of some bytes and those of the entries.
 fn least_of(entries: &[Entry], bytes: u64) -> u64
-    ensures { IsLeast result bytes entries.now }
+    ensures { IsLeastBytes result bytes entries.now }
 {
     let mut least = bytes;
     for i in 0..entries.len() {
@@ -63,7 +63,7 @@ fn least_among(entries: &[Entry]) -> u64
 /// The least of some bytes and those of the entries, of which the least is known. Constant time.
 fn least_with(entries: &[Entry], least: u64, bytes: u64) -> u64
     requires { HasLeast least entries.now }
-    ensures { IsLeast result bytes entries.now }
+    ensures { IsLeastBytes result bytes entries.now }
 {
     if entries.is_empty() {
         return bytes;
@@ -114,7 +114,7 @@ pub fn urgency_place(entries: &[Entry], entry: &Entry) -> usize
 
 /// The place of the first entry that fits.
 pub fn place_of_fitting(entries: &[Entry], room: u64) -> Option<usize>
-    ensures place { result ≡ position (fits room) entries.now }
+    ensures place { result ≡ position (fits_room room) entries.now }
     ensures within { IfSome result (λ i. i < length entries.now) }
 {
     entries.iter().position(|entry| entry.fits(room))

@@ -1,7 +1,7 @@
 //! What a pool keeps of a task.
 
 ghost use Rattle.std.specs.Prelude.{◌≡◌};
-ghost use Rattle.sj_pool.specs.Entry.{fits, precedes};
+ghost use Rattle.sj_pool.specs.Entry.{fits_room, precedes};
 
 use sj_base::ids::Task;
 
@@ -17,7 +17,7 @@ pub struct Entry {
 impl Entry {
     /// Whether the entry fits a node with so much room.
     pub fn fits(&self, room: u64) -> bool
-        ensures { result ≡ fits room self.now }
+        ensures { result ≡ fits_room room self.now }
     {
         self.bytes <= room
     }

@@ -5,7 +5,7 @@ ghost use Rattle.std.specs.List.{list_any, range_with_len};
 ghost use Rattle.sj_base.specs.declared.mode.Policy.TheVariants.{Prio};
 ghost use Rattle.sj_pool.specs.Entry.{entry};
 ghost use Rattle.sj_pool.specs.Queue.{queued, has_fitting, first_fitting, without_first_fitting, is_by_urgency};
-ghost use Rattle.sj_pool.specs.Pool.{empty, queue_count, home, queue, contains, put_into, with_entry, turns, serving, first_task, without_first_at, entry_for, task_for, without_entry_for, IsMostUrgent, lists, queue_at, with_entries_at};
+ghost use Rattle.sj_pool.specs.Pool.{empty_pool, queue_count, home, queue, contains, put_into, with_entry, turns, serving, first_task, without_first_at, entry_for, task_for, without_entry_for, IsMostUrgent, lists, queue_at, with_entries_at};
 
 use crate::entry::Entry;
 use crate::queue::Queue;
@@ -145,7 +145,7 @@ impl Pool {
     #[tactic(auto, using(crate::proofs::Lists::of_lists))]
     pub fn make(alloc: Global, policy: Policy, workers: u8, tasks: u32) -> Result<Pool, OutOfMemory>
         requires { 0 < workers }
-        ensures { IfOk result (λ p. p ≡ empty policy workers tasks) }
+        ensures { IfOk result (λ p. p ≡ empty_pool policy workers tasks) }
     {
         let queues = empty_queues(alloc, queue_count(policy, workers), tasks)?;
         Ok(Pool {

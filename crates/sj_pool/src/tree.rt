@@ -6,7 +6,7 @@ ghost use Rattle.std.specs.Prelude.{◌≡◌, ℕ, ◌<◌, ◌≤◌, ◌+◌,
 ghost use Rattle.std.specs.Vec.{vec_capacity};
 ghost use Rattle.sj_pool.specs.Chunk.{chunk_room};
 ghost use Rattle.sj_pool.specs.Queue.{has_fitting, first_fitting, without_first_fitting, put_by_urgency, is_by_urgency};
-ghost use Rattle.sj_pool.specs.Root.{IsLeast};
+ghost use Rattle.sj_pool.specs.Root.{IsLeastBytes};
 
 use crate::chunk::{CHUNK, Chunk, urgency_place};
 use crate::entry::Entry;
@@ -90,7 +90,7 @@ impl Tree {
 
     /// The least of some bytes and those of the entries. Constant time.
     fn least(&self, bytes: u64) -> u64
-        ensures { IsLeast result bytes self.now }
+        ensures { IsLeastBytes result bytes self.now }
     {
         match &self.root {
             None => bytes,

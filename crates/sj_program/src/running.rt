@@ -10,7 +10,7 @@ ghost use Rattle.sj_words.specs.Spelling.{texts};
 
 use crate::remark::{no_swap, remark, write_remark};
 use crate::swap::open_swap;
-use crate::tally::{Tally, TallyDisk, TallyGate};
+use crate::tally::{RunTally, TallyDisk, TallyGate};
 use crate::watch::{ErasingSink, Watch};
 use sj_base::ids::DiskNo;
 use sj_edge::disk::Disk;
@@ -150,7 +150,7 @@ fn run_with<R, S, O, E, D>(
     out: O,
     err: &mut E,
     disk: D,
-    tally: Arc<Tally, Global>,
+    tally: Arc<RunTally, Global>,
     has_terminal: bool,
 ) -> Ended<O>
 where
@@ -192,20 +192,24 @@ where
 }
 
 /// The line of a run that is counted here.
-fn new_watch(alloc: Global, tally: &Arc<Tally, Global>) -> Option<Arc<Watch, Global>> {
+fn new_watch(alloc: Global, tally: &Arc<RunTally, Global>) -> Option<Arc<Watch, Global>> {
     let tally = Arc::try_clone(tally).ok()?;
     Arc::new(alloc, Watch::over(tally)).ok()
 }
 
 /// The counts of a run, for its disk and for its gate.
-fn new_tally(alloc: Global) -> Option<(Arc<Tally, Global>, Arc<Tally, Global>)> {
-    let tally = Arc::new(alloc, Tally::new()).ok()?;
+fn new_tally(alloc: Global) -> Option<(Arc<RunTally, Global>, Arc<RunTally, Global>)> {
+    let tally = Arc::new(alloc, RunTally::new()).ok()?;
     let other = Arc::try_clone(&tally).ok()?;
     Some((tally, other))
 }
 
 /// A disk in memory whose bytes are counted.
-fn memory_disk(alloc: Global, size: u64, counts: Arc<Tally, Global>) -> Option<TallyDisk<MemDisk>>
+fn memory_disk(
+    alloc: Global,
+    size: u64,
+    counts: Arc<RunTally, Global>,
+) -> Option<TallyDisk<MemDisk>>
     ensures size { IfSome result (λ d. ⟦<TallyDisk<MemDisk> as Disk>⟧.size d ≡ size) }
     ensures tells { IfSome result (λ d. IsSome (⟦<TallyDisk<MemDisk> as Disk>⟧.held d)) }
 {
@@ -218,7 +222,7 @@ fn file_disk<R>(
     rt: &R,
     path: &str,
     size: u64,
-    counts: Arc<Tally, Global>,
+    counts: Arc<RunTally, Global>,
 ) -> io::Result<TallyDisk<FileDisk>>
 where
     R: Files<File = File> + Alloc + Clock,

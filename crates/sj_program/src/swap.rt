@@ -20,7 +20,7 @@ const ILLEGAL_SEEK: i32 = 29;
 const FILE_TOO_LARGE: i32 = 27;
 
 /// What a path is, where it is to be swapped to.
-enum Place {
+enum PathKind {
     Nothing,
     Folder,
     Regular,
@@ -34,13 +34,13 @@ fn is_stream(kind: FileType) -> bool {
 }
 
 /// What there is at a path.
-fn place_at(files: &impl Files, path: &str) -> io::Result<Place> {
+fn place_at(files: &impl Files, path: &str) -> io::Result<PathKind> {
     match fs::metadata(files, path) {
-        Ok(found) if found.is_dir() => Ok(Place::Folder),
-        Ok(found) if found.is_file() => Ok(Place::Regular),
-        Ok(found) if is_stream(found.file_type()) => Ok(Place::Stream),
-        Ok(_) => Ok(Place::Device),
-        Err(e) if e.kind() == ErrorKind::NotFound => Ok(Place::Nothing),
+        Ok(found) if found.is_dir() => Ok(PathKind::Folder),
+        Ok(found) if found.is_file() => Ok(PathKind::Regular),
+        Ok(found) if is_stream(found.file_type()) => Ok(PathKind::Stream),
+        Ok(_) => Ok(PathKind::Device),
+        Err(e) if e.kind() == ErrorKind::NotFound => Ok(PathKind::Nothing),
         Err(e) => Err(e),
     }
 }
@@ -55,11 +55,11 @@ where
     R: Files<File = File> + Alloc + Clock,
 {
     match place_at(rt, path)? {
-        Place::Nothing => private_file(rt, path, size),
-        Place::Folder => private_file_in(rt, path, size),
-        Place::Regular => Err(Error::from_raw_os_error(FILE_EXISTS)),
-        Place::Stream => Err(Error::from_raw_os_error(ILLEGAL_SEEK)),
-        Place::Device => open_as_it_is(rt, path),
+        PathKind::Nothing => private_file(rt, path, size),
+        PathKind::Folder => private_file_in(rt, path, size),
+        PathKind::Regular => Err(Error::from_raw_os_error(FILE_EXISTS)),
+        PathKind::Stream => Err(Error::from_raw_os_error(ILLEGAL_SEEK)),
+        PathKind::Device => open_as_it_is(rt, path),
     }
 }
 

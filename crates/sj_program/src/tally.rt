@@ -38,7 +38,7 @@ impl Telling for FileDisk {
 /// The tasks of a run, the kernels that have begun and ended, the bytes that went to the swap disk and came from it, and the
 /// system's number of the cause of its last fault, or 0.
 #[derive(Drop)]
-pub struct Tally {
+pub struct RunTally {
     tasks: AtomicU64,
     begun: AtomicU64,
     ended: AtomicU64,
@@ -47,10 +47,10 @@ pub struct Tally {
     cause: AtomicU64,
 }
 
-impl Tally {
+impl RunTally {
     /// Nothing yet.
-    pub fn new() -> Tally {
-        Tally {
+    pub fn new() -> RunTally {
+        RunTally {
             tasks: AtomicU64::new(0),
             begun: AtomicU64::new(0),
             ended: AtomicU64::new(0),
@@ -83,7 +83,7 @@ fn read(count: &AtomicU64) -> u64 {
     count.load(Ordering::SeqCst)
 }
 
-impl fmt::Display for Tally {
+impl fmt::Display for RunTally {
     fn fmt<W: fmt::Write>(&self, f: &mut fmt::Formatter<W>) -> fmt::Result {
         let tasks = read(&self.tasks);
         let ended = read(&self.ended);
@@ -100,12 +100,12 @@ impl fmt::Display for Tally {
 /// Counts kernels where the run is watched, and else returns at once.
 #[derive(Drop)]
 pub struct TallyGate<'a> {
-    tally: Option<&'a Tally>,
+    tally: Option<&'a RunTally>,
 }
 
 impl<'a> TallyGate<'a> {
     /// Counts for this tally, where there is one.
-    pub fn over(tally: Option<&'a Tally>) -> TallyGate<'a> {
+    pub fn over(tally: Option<&'a RunTally>) -> TallyGate<'a> {
         TallyGate { tally }
     }
 }
@@ -134,12 +134,12 @@ impl Gate for TallyGate<'_> {
 #[derive(Drop)]
 pub struct TallyDisk<D> {
     disk: D,
-    tally: Arc<Tally, Global>,
+    tally: Arc<RunTally, Global>,
 }
 
 impl<D: Telling> TallyDisk<D> {
     /// The same disk, with its bytes counted. Constant time.
-    pub fn over(disk: D, tally: Arc<Tally, Global>) -> TallyDisk<D>
+    pub fn over(disk: D, tally: Arc<RunTally, Global>) -> TallyDisk<D>
         ensures size { ⟦<TallyDisk<D> as Disk>⟧.size result ≡ D.size disk }
         ensures tells_the_same { ⟦<TallyDisk<D> as Disk>⟧.held result ≡ D.held disk }
     {

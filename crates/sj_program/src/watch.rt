@@ -2,7 +2,7 @@
 
 ghost use Rattle.std.specs.Prelude.{◌≡◌};
 
-use crate::tally::Tally;
+use crate::tally::RunTally;
 use sj_edge::sink::Sink;
 use sj_edge::source::Failed;
 use std::alloc::Global;
@@ -30,14 +30,14 @@ struct Shown {
 /// The line of a run, which one thread shows while the others count.
 #[derive(Drop)]
 pub struct Watch {
-    tally: Arc<Tally, Global>,
+    tally: Arc<RunTally, Global>,
     shown: Mutex<Shown>,
     ends: Condvar,
 }
 
 impl Watch {
     /// Shows what this tally says. Nothing has been shown yet.
-    pub fn over(tally: Arc<Tally, Global>) -> Watch {
+    pub fn over(tally: Arc<RunTally, Global>) -> Watch {
         Watch {
             tally,
             shown: Mutex::new(Shown {

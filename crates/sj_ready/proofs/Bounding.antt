@@ -25,7 +25,7 @@ use Rattle.sj_meaning.specs.declared.job.Init.{Init}
 use Rattle.sj_meaning.specs.declared.job.Init.TheVariants.{Values, Fill, Nothing}
 use Rattle.sj_meaning.specs.Act.{Act, Statement, Register, Plan, Redux, Task, Print, Invalidate, Unregister}
 use Rattle.sj_meaning.specs.Meaning.{apply, operand_array, put, put_all, register, registered_root, with_child, written_of}
-use Rattle.sj_meaning.specs.State.{Root, State, root_of, start}
+use Rattle.sj_meaning.specs.State.{RootState, JobState, root_of, start}
 use Rattle.sj_meaning.specs.Statement.{Operand, Register as Registration}
 use Rattle.sj_meaning.specs.Table.{undivided}
 use Rattle.sj_lower.specs.declared.phase.OpenPhase.{OpenPhase}
@@ -83,50 +83,50 @@ plain-one q (Unregister name) h = absurd h
 -- ---- plans
 
 -- the root's plan has at most q parts
-abbrev IsCutTo : ℕ → Option Root → Type 0
+abbrev IsCutTo : ℕ → Option RootState → Type 0
 IsCutTo q o = let p = elim o as (λ _. Parts) [ None ↦ undivided | Some r ↦ r.parts ] in p.r * p.c ≤ q
 
 -- so has that of each name
-abbrev AreCutTo : ℕ → State → Type 0
+abbrev AreCutTo : ℕ → JobState → Type 0
 AreCutTo q S = (name : List ℕ) → IsCutTo q (root_of S name)
 
 cut-start : (q : ℕ) → 1 ≤ q → AreCutTo q start
 cut-start q some name = subst (IsCutTo q) (sym (map.get-empty (slice_cmp nat_cmp) name)) (omega (arith, some))
 
-cut-put : (q : ℕ) (o : Operand (List ℕ)) (a : Array) (S : State) → AreCutTo q S → AreCutTo q (put o a S)
+cut-put : (q : ℕ) (o : Operand (List ℕ)) (a : Array) (S : JobState) → AreCutTo q S → AreCutTo q (put o a S)
 cut-put q o a S cut name = by_root (root_of S o.name) refl
   where
-    with-root : Option Root → State
-    with-root x = elim x as (λ _. State) [
+    with-root : Option RootState → JobState
+    with-root x = elim x as (λ _. JobState) [
       | None ↦ S
       | Some r ↦ record { registered = S.registered; ended = S.ended; roots = map.insert S.roots o.name (with_child o.place a r) }
     ]
 
-    by_test : (b : Bool) (r : Root) → root_of S o.name ≡ Some r → IsCutTo q (cond b (Some (with_child o.place a r)) (root_of S name))
+    by_test : (b : Bool) (r : RootState) → root_of S o.name ≡ Some r → IsCutTo q (cond b (Some (with_child o.place a r)) (root_of S name))
     by_test true r e = subst (IsCutTo q) e (cut o.name)
     by_test false r e = cut name
 
-    by_root : (x : Option Root) → root_of S o.name ≡ x → IsCutTo q (root_of (put o a S) name)
-    by_root None e = subst (λ (T : State). IsCutTo q (root_of T name)) (sym (ap with-root e)) (cut name)
+    by_root : (x : Option RootState) → root_of S o.name ≡ x → IsCutTo q (root_of (put o a S) name)
+    by_root None e = subst (λ (T : JobState). IsCutTo q (root_of T name)) (sym (ap with-root e)) (cut name)
     by_root (Some r) e =
         let v = with_child o.place a r in
-        subst (λ (T : State). IsCutTo q (root_of T name)) (sym (ap with-root e))
+        subst (λ (T : JobState). IsCutTo q (root_of T name)) (sym (ap with-root e))
         (subst (IsCutTo q) (sym (map.get-insert nat_list_cmp_total S.roots o.name v name ∙ ap (λ b. cond b (Some v) (root_of S name)) (sym (texts_ties name o.name))))
         (by_test (bytes_eq name o.name) r e))
 
-cut-put_all : (q : ℕ) (os : List (Operand (List ℕ))) (xs : List Array) (S : State) → AreCutTo q S → AreCutTo q (put_all os xs S)
+cut-put_all : (q : ℕ) (os : List (Operand (List ℕ))) (xs : List Array) (S : JobState) → AreCutTo q S → AreCutTo q (put_all os xs S)
 cut-put_all q [] xs S cut = cut
 cut-put_all q (o ∷ os) [] S cut = cut
 cut-put_all q (o ∷ os) (x ∷ xs) S cut = cut-put_all q os xs (put o x S) (cut-put q o x S cut)
 
-cut-registered : (q : ℕ) (r : Registration (List ℕ)) (S : State) → r.parts.r * r.parts.c ≤ q → AreCutTo q S → AreCutTo q (register r S)
+cut-registered : (q : ℕ) (r : Registration (List ℕ)) (S : JobState) → r.parts.r * r.parts.c ≤ q → AreCutTo q S → AreCutTo q (register r S)
 cut-registered q r S h cut name = subst (IsCutTo q) (sym (root-registered r S name)) (by_test (bytes_eq name r.name))
   where
     by_test : (b : Bool) → IsCutTo q (cond b (Some (registered_root r)) (root_of S name))
     by_test true = h
     by_test false = cut name
 
-cut-applied : (q : ℕ) (S : State) (a : Act (List ℕ)) → IsOrdinary q a → AreCutTo q S → AreCutTo q (apply a S)
+cut-applied : (q : ℕ) (S : JobState) (a : Act (List ℕ)) → IsOrdinary q a → AreCutTo q S → AreCutTo q (apply a S)
 cut-applied q S (Register r) h cut = cut-registered q r S h cut
 cut-applied q S (Task t) h cut = cut-put_all q (written_of t.operands) (out t.codelet t.args (each_of (operand_array S) t.operands)) S cut
 cut-applied q S (Print name) h cut = cut
@@ -168,7 +168,7 @@ loads-few (Values xs) d p cell line = omega (arith, length-places (λ place. loa
 loads-few (Fill a b) d p cell line = omega (arith, length-places (λ place. fill_row a b d (child d p place) (cell place) line) p)
 loads-few Nothing d p cell line = omega arith
 
-rows-few : (q : ℕ) (S : State) (C : Cells) (line : Line) (a : Act (List ℕ)) → IsOrdinary q a → AreCutTo q S → length (rows_added S C line a) ≤ tasks_given q a
+rows-few : (q : ℕ) (S : JobState) (C : Cells) (line : Line) (a : Act (List ℕ)) → IsOrdinary q a → AreCutTo q S → length (rows_added S C line a) ≤ tasks_given q a
 rows-few q S C line (Register r) h cut = omega (arith, h, loads-few r.init r.dims r.parts (cell_of C r.name r.parts) line)
 rows-few q S C line (Task t) h cut = omega arith
 rows-few q S C line (Print name) h cut = omega (arith, cut name, length-places (λ place. deliver_row (active_cell S C name place) line) (parts_in S name))
@@ -189,7 +189,7 @@ module _ (workers : ℕ) where
       ap (λ (o : Option OpenPhase). fold (closed workers) (elim o as (λ _. Lowering) [ None ↦ L | Some f ↦ phase_turned L.cells (combine_rows f c workers) c None L ]) cs) (none c)
       ∙ all_closed-stays cs L none
 
-  prepared-stays : (q : ℕ) (S : State) (line : Line) (a : Act (List ℕ)) (L : Lowering) → IsOrdinary q a → NoneIsOpen L → prepared workers S (record { line = line; act = a }) L ≡ L
+  prepared-stays : (q : ℕ) (S : JobState) (line : Line) (a : Act (List ℕ)) (L : Lowering) → IsOrdinary q a → NoneIsOpen L → prepared workers S (record { line = line; act = a }) L ≡ L
   prepared-stays q S line (Register r) L h none = refl
   prepared-stays q S line (Task t) L h none =
       let s : Statement (List ℕ) = record { line = line; act = Task t } in
@@ -208,7 +208,7 @@ module _ (workers : ℕ) where
     cells : cells_in M ≤ cells_in L + cells_given q a
     tasks : tasks_in M ≤ tasks_in L + tasks_given q a
 
-  grows : (q : ℕ) (S : State) (line : Line) (a : Act (List ℕ)) (L : Lowering) → IsOrdinary q a → AreCutTo q S → NoneIsOpen L → Grows q a L (lower_one workers S (record { line = line; act = a }) L)
+  grows : (q : ℕ) (S : JobState) (line : Line) (a : Act (List ℕ)) (L : Lowering) → IsOrdinary q a → AreCutTo q S → NoneIsOpen L → Grows q a L (lower_one workers S (record { line = line; act = a }) L)
   grows q S line a L h cut none =
       let s : Statement (List ℕ) = record { line = line; act = a } in
       let C = cells_after a L.cells in
@@ -223,13 +223,13 @@ module _ (workers : ℕ) where
   not-above : (n : ℕ) → n ≤ 262144 → nat_lt most n ≡ false
   not-above n h = grind (arith, nat_tests)
 
-  record AreFew (S : State) (L : Lowering) (ss : List (Statement (List ℕ))) : Type 0 where
+  record AreFew (S : JobState) (L : Lowering) (ss : List (Statement (List ℕ))) : Type 0 where
     cells : first_above workers cells_in S L ss ≡ None
     tasks : first_above workers tasks_in S L ss ≡ None
     none : NoneIsOpen (lower_from workers S L ss)
     all_tasks : tasks_in (lower_from workers S L ss) ≤ 262144
 
-  walk : (q : ℕ) (acts : List (Act (List ℕ))) (line : ℕ) (S : State) (L : Lowering) → AllByRecursion (IsOrdinary q) acts → AreCutTo q S → NoneIsOpen L → cells_in L + sum_by (cells_given q) acts ≤ 262144 → tasks_in L + sum_by (tasks_given q) acts ≤ 262144 → AreFew S L (numbered line acts)
+  walk : (q : ℕ) (acts : List (Act (List ℕ))) (line : ℕ) (S : JobState) (L : Lowering) → AllByRecursion (IsOrdinary q) acts → AreCutTo q S → NoneIsOpen L → cells_in L + sum_by (cells_given q) acts ≤ 262144 → tasks_in L + sum_by (tasks_given q) acts ≤ 262144 → AreFew S L (numbered line acts)
   walk q [] line S L ordinary cut none cells tasks = record { cells = refl; tasks = refl; none = none; all_tasks = omega (arith, tasks) }
   walk q (a ∷ acts) line S L ordinary cut none cells tasks =
       let s : Statement (List ℕ) = record { line = record { 0 = line }; act = a } in

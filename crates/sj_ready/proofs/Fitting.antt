@@ -17,7 +17,7 @@ use Rattle.sj_codelet.specs.declared.kernel.Kernel.{Kernel}
 use Rattle.sj_core.specs.Proper.{HasSwapFor}
 use Rattle.sj_ready.specs.Ready.{IsReady}
 use Rattle.sj_ready.specs.Work.{HasRoom, Work, WorkOrRefusal, program_of}
-use Rattle.sj_ready.specs.declared.ready.Ready.{Ready}
+use Rattle.sj_ready.specs.declared.ready.ReadyJob.{ReadyJob}
 
 -- what is found passes
 found-passes : {X : Type 0} (test : X → Bool) (xs : List X) (x : X) → find test xs ≡ Some x → (test x ≡ true) × Contains xs x
@@ -42,7 +42,7 @@ none-some-placed None e h = cc
 none-some-placed (Some x) e h = cc
 
 -- the machine that is ready has room for the work that is asked for
-pub ready-room : (has : Kernel → Bool) (asked : WorkOrRefusal) (r : Ready) (ready : IsReady has asked r) → HasRoom ready.work
+pub ready-room : (has : Kernel → Bool) (asked : WorkOrRefusal) (r : ReadyJob) (ready : IsReady has asked r) → HasRoom ready.work
 ready-room has asked r ready = record { tasks_fit = of_work FitRoom ready.tasks_fit; blocks_have_places = of_work HasSwapFor ready.blocks_have_places }
   where
     of_work : (P : Program → Machine → Type 0) → P r.program.value r.machine → P (program_of ready.work) ready.work.machine

@@ -6,7 +6,7 @@ use Rattle.sj_core.specs.Laws.{IsLawful}
 use Rattle.sj_core.specs.Proper.{HasSwapFor, IsMachineFor, Proper}
 use Rattle.sj_lower.specs.Delivering.{DeliversPrinted, NamesDeliverTasks}
 use Rattle.sj_needs.specs.Shortage.{FitRoom, IsShortage}
-use Rattle.sj_ready.specs.declared.ready.Ready.{Ready}
+use Rattle.sj_ready.specs.declared.ready.ReadyJob.{ReadyJob}
 use Rattle.sj_ready.specs.declared.unready.Unready.{Unready}
 use Rattle.sj_ready.specs.declared.unready.Unready.TheVariants.{Refused, Short, OutOfMemory}
 use Rattle.sj_ready.specs.Work.{Work, WorkOrRefusal, program_of}
@@ -19,7 +19,7 @@ pub record HasOwnCodelets (has : Kernel → Bool) : Type 0 where
   pub deliver : IsTrue (has Deliver)
 
 -- the program is that of the work that is asked for, and can be run on its machine by the codelets of a set
-pub record IsReady (has : Kernel → Bool) (asked : WorkOrRefusal) (r : Ready) : Type 0 where
+pub record IsReady (has : Kernel → Bool) (asked : WorkOrRefusal) (r : ReadyJob) : Type 0 where
   pub work : Work
   pub asked_for : asked ≡ Ok work
   pub program_is : r.program.value ≡ program_of work

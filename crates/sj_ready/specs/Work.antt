@@ -6,7 +6,7 @@ use Rattle.sj_core.specs.Proper.{HasSwapFor}
 use Rattle.sj_meaning.specs.Act.{Statement}
 use Rattle.sj_meaning.specs.Job.{Job}
 use Rattle.sj_job.specs.Reading.{Refusal}
-use Rattle.sj_meaning.specs.Settings.{nodes_of, policy_set, workers_of}
+use Rattle.sj_meaning.specs.Settings.{nodes_of, policy_set, worker_count}
 use Rattle.sj_meaning.specs.declared.settings.Settings.{Settings}
 use Rattle.sj_lower.specs.Limits.{late_limit}
 use Rattle.sj_lower.specs.Lowering.{lowered}
@@ -28,7 +28,7 @@ program_of w = lowered w.statements w.machine.workers
 
 -- the number of workers, the nodes and the policy that words ask for, else a job's settings; and disks of these sizes
 abbrev pub machine_for : Options → List ℕ → Settings → Machine
-machine_for o disks g = machine_by o (workers_of g) (nodes_of g) (policy_set g) disks
+machine_for o disks g = machine_by o (worker_count g) (nodes_of g) (policy_set g) disks
 
 -- work, or the first bad line of the job text and the first reason against it
 abbrev pub WorkOrRefusal : Type 0

@@ -6,7 +6,7 @@ ghost use Rattle.sj_codelet.specs.Laws.{CommutingCommute, ContributingContribute
 ghost use Rattle.sj_codelet.specs.declared.kernel.Kernel.{Kernel};
 ghost use Rattle.sj_core.specs.Laws.{IsLawful, is_known};
 ghost use Rattle.sj_core.specs.Proper.{Proper};
-ghost use Rattle.sj_job.specs.Reading.{job_of, IsRefusal};
+ghost use Rattle.sj_job.specs.Reading.{job_of, IsReadRefusal};
 ghost use Rattle.sj_meaning.specs.State.{start};
 ghost use Rattle.sj_meaning.specs.View.{statements_of, job_seen, IsNumbered};
 ghost use Rattle.sj_job.specs.Well.{IsWell};
@@ -14,9 +14,9 @@ ghost use Rattle.sj_lower.specs.Delivering.{DeliversPrinted, NamesDeliverTasks};
 ghost use Rattle.sj_lower.specs.Job.{IsJob, IsJobIn};
 ghost use Rattle.sj_lower.specs.Limits.{late_limit};
 ghost use Rattle.sj_lower.specs.Lowering.{lowered};
-ghost use Rattle.sj_meaning.specs.Settings.{IsWithinLimits};
-ghost use Rattle.sj_words.specs.Machine.{HasNodes, HasWorkers};
-ghost use Rattle.sj_words.specs.Options.{IsWithinLimits as AreLimited};
+ghost use Rattle.sj_meaning.specs.Settings.{SettingsAreInRange};
+ghost use Rattle.sj_words.specs.Machine.{HasNodes, IsWorkerCount};
+ghost use Rattle.sj_words.specs.Options.{OptionsAreInRange};
 ghost use Rattle.sj_job.specs.declared.reason.ReadRefusal.{ReadRefusal};
 ghost use Rattle.sj_ready.specs.Input.{job_in, work_in, HasJob};
 ghost use Rattle.sj_ready.specs.Ready.{HasOwnCodelets, IsReady, IsUnready};
@@ -43,7 +43,7 @@ use std::sync::Arc;
 
 /// A job's program, to be shared, its roots, and the machine that is to run it.
 #[derive(Drop)]
-pub struct Ready {
+pub struct ReadyJob {
     pub program: Arc<Program>,
     pub roots: Roots,
     pub machine: Machine,
@@ -60,10 +60,10 @@ fn machine_for(
     settings: &Settings,
     disks: Vec<u64>,
 ) -> Result<Machine, OutOfMemory>
-    requires options { AreLimited options.now }
-    requires settings { IsWithinLimits settings.now }
+    requires options { OptionsAreInRange options.now }
+    requires settings { SettingsAreInRange settings.now }
     ensures machine { IfOk result (λ m. m ≡ machine_for options.now disks.items settings.now) }
-    ensures workers { IfOk result (λ m. HasWorkers m.workers) }
+    ensures workers { IfOk result (λ m. IsWorkerCount m.workers) }
     ensures nodes { IfOk result (λ m. HasNodes m.nodes) }
 {
     let nodes = settings.node_sizes(alloc)?;
@@ -98,7 +98,7 @@ fn lowered_for(
     machine: Machine,
     shows_summary: bool,
     shows_trace: bool,
-) -> Result<Ready, Unready>
+) -> Result<ReadyJob, Unready>
     requires job { IsJob (statements_of job) }
     requires numbered { IsNumbered job.roots job.statements }
     ensures within { IfOk result (λ _. late_limit machine.workers (statements_of job) ≡ None) }
@@ -118,7 +118,7 @@ fn lowered_for(
 {
     let LoweredJob { program, roots } = lower(alloc, job, machine.workers)?;
     let program = shareable(alloc, program)?;
-    Ok(Ready {
+    Ok(ReadyJob {
         program,
         roots,
         machine,
@@ -130,8 +130,8 @@ fn lowered_for(
 /// The job of a text, whose memory is given back. Linear in the text, but that codelets are looked up in the table.
 fn read_whole<C: Codelets>(alloc: Global, text: Vec<u8>, codelets: &C) -> Result<Job, ReadRefusal>
     ensures ok { IfOk result (λ job. job_of C.has text.items ≡ Ok (job_seen job)) }
-    ensures err { IfErr result (λ e. IsRefusal e (job_of C.has text.items)) }
-    ensures within { IfOk result (λ job. IsWithinLimits job.settings) }
+    ensures err { IfErr result (λ e. IsReadRefusal e (job_of C.has text.items)) }
+    ensures within { IfOk result (λ job. SettingsAreInRange job.settings) }
     ensures well { IfOk result (λ job. IsWell C.has 0 start (statements_of job)) }
     ensures numbered { IfOk result (λ job. IsNumbered job.roots job.statements) }
 {
@@ -143,7 +143,7 @@ fn generated(alloc: Global, application: Application) -> Result<Job, ReadRefusal
     requires size { IsSized application }
     ensures seen { IfOk result (λ job. job_seen job ≡ job_for application) }
     ensures err { IfErr result (λ e. e ≡ ReadRefusal.OutOfMemory) }
-    ensures within { IfOk result (λ job. IsWithinLimits job.settings) }
+    ensures within { IfOk result (λ job. SettingsAreInRange job.settings) }
     ensures well { IfOk result (λ job. IsWell (λ _. true) 0 start (statements_of job)) }
     ensures numbered { IfOk result (λ job. IsNumbered job.roots job.statements) }
 {
@@ -157,8 +157,8 @@ fn generated(alloc: Global, application: Application) -> Result<Job, ReadRefusal
 fn job_of<C: Codelets>(alloc: Global, input: Input, codelets: &C) -> Result<Job, ReadRefusal>
     requires input { HasJob C.has input }
     ensures ok { IfOk result (λ job. job_in C.has input ≡ Ok (job_seen job)) }
-    ensures err { IfErr result (λ e. IsRefusal e (job_in C.has input)) }
-    ensures within { IfOk result (λ job. IsWithinLimits job.settings) }
+    ensures err { IfErr result (λ e. IsReadRefusal e (job_in C.has input)) }
+    ensures within { IfOk result (λ job. SettingsAreInRange job.settings) }
     ensures well { IfOk result (λ job. IsWell C.has 0 start (statements_of job)) }
     ensures numbered { IfOk result (λ job. IsNumbered job.roots job.statements) }
 {
@@ -176,16 +176,16 @@ fn job_of<C: Codelets>(alloc: Global, input: Input, codelets: &C) -> Result<Job,
 ///
 /// The first bad line with the first reason against it, or the limit that is exceeded; the first task that fits no node; that the
 /// blocks have no places on the disks; that an allocation was refused. In this order.
-pub fn prepare<C: Codelets>(
+pub fn ready_job<C: Codelets>(
     alloc: Global,
     input: Input,
     options: &Options,
     disks: Vec<u64>,
     codelets: &C,
-) -> Result<Ready, Unready>
+) -> Result<ReadyJob, Unready>
     requires own { HasOwnCodelets C.has }
     requires input { HasJob C.has input }
-    requires options { AreLimited options.now }
+    requires options { OptionsAreInRange options.now }
     requires few { length disks.items ≤ 16 }
     requires small { All (λ n. n ≤ 2 ^ 40) disks.items }
     ensures ready { IfOk result (IsReady C.has

@@ -1,4 +1,4 @@
-//! That each event of a run changes a cell as a call of `Replica` does.
+//! That each event of a run changes a cell as a call of `CellReplicas` does.
 
 ghost use Rattle.sj_replica.specs.Events.{EventsAreCalls};
 

@@ -11,24 +11,24 @@ use sj_base::ids::{DiskNo, Node, Place};
 use std::marker::Model;
 
 /// The most memory nodes of a machine.
-pub const NODES: usize = 16;
+pub const REPLICA_NODES: usize = 16;
 
 /// The copies of one cell at sixteen nodes and on one disk. No call takes memory, and each takes
 /// constant time: at most one step a place.
 #[derive(Debug, Drop)]
-pub struct Replica {
-    nodes: [At; NODES],
+pub struct CellReplicas {
+    nodes: [At; REPLICA_NODES],
     disk: DiskNo,
     on_disk: At,
-    pins: [u16; NODES],
+    pins: [u16; REPLICA_NODES],
     /// From where a transfer brings the cell to each node.
-    into_nodes: [Option<Place>; NODES],
+    into_nodes: [Option<Place>; REPLICA_NODES],
     into_disk: Option<Place>,
     writes: u64,
     is_written: bool,
 }
 
-impl Model for Replica {
+impl Model for CellReplicas {
     ghost use Rattle.sj_replica.specs.Copies.{CellCopies};
 
     ghost Value = { CellCopies };
@@ -36,17 +36,17 @@ impl Model for Replica {
     ghost view = { λ r. record { nodes = r.nodes; disk = r.disk; on_disk = r.on_disk; pins = r.pins; into_nodes = r.into_nodes; into_disk = r.into_disk; writes = r.writes; is_written = r.is_written } };
 }
 
-impl Replica {
+impl CellReplicas {
     /// No copy anywhere, of a cell whose block lies on this disk.
-    pub fn none(disk: DiskNo) -> Replica
+    pub fn none(disk: DiskNo) -> CellReplicas
         ensures { result ≡ no_copies_on disk }
     {
-        Replica {
-            nodes: [At::Invalid; NODES],
+        CellReplicas {
+            nodes: [At::Invalid; REPLICA_NODES],
             disk,
             on_disk: At::Invalid,
-            pins: [0; NODES],
-            into_nodes: [None; NODES],
+            pins: [0; REPLICA_NODES],
+            into_nodes: [None; REPLICA_NODES],
             into_disk: None,
             writes: 0,
             is_written: false,
@@ -190,7 +190,7 @@ impl Replica {
         requires unwritten { self.old.is_written ≡ false }
         ensures { self.new ≡ owned_by_node self.old n }
     {
-        self.nodes = [At::Invalid; NODES];
+        self.nodes = [At::Invalid; REPLICA_NODES];
         self.nodes[n.0 as usize] = At::Valid;
         self.on_disk = At::Invalid;
         self.is_written = true;

@@ -3,7 +3,7 @@ use Rattle.std.specs.Prelude.{ℕ, ℤ, Some, None, unwrap_or, List, [], ◌∷�
 use Rattle.std.specs.Fmt.{signed_decimal}
 use Rattle.std.specs.List.{join_with_byte}
 use Rattle.sj_base.specs.declared.program.Codelet.{Codelet}
-use Rattle.sj_codelet.specs.Kernel.{kernel_of, name_of}
+use Rattle.sj_codelet.specs.Kernel.{kernel_of, kernel_name}
 use Rattle.sj_codelet.specs.MinPlus.{is_inf}
 use Rattle.sj_codelet.specs.declared.kernel.Kernel.{Kernel}
 use Rattle.sj_codelet.specs.declared.kernel.Kernel.TheVariants.{Load, LoadFill, Paste, Deliver, InitPlus, InitLeast}
@@ -25,7 +25,7 @@ inner_word k = []
 
 -- the name by which a job calls a codelet, else that one
 abbrev pub kernel_word : Kernel → List ℕ
-kernel_word k = unwrap_or (name_of k) (inner_word k)
+kernel_word k = unwrap_or (kernel_name k) (inner_word k)
 
 -- the same of an id; the number of one that no codelet has
 abbrev pub codelet_name : Codelet → List ℕ

@@ -10,7 +10,7 @@ use Rattle.std.proofs.lemmas.Bool.{and_from, and_parts}
 use Rattle.sj_base.specs.declared.tile.Dims.{Dims}
 use Rattle.sj_base.proofs.Texts.{same_text}
 use Rattle.sj_codelet.specs.declared.kernel.Kernel.{Kernel}
-use Rattle.sj_codelet.specs.Kernel.{codelet_of, has_name, kernels, name_of}
+use Rattle.sj_codelet.specs.Kernel.{codelet_of, has_name, kernels, kernel_name}
 use Rattle.sj_codelet.proofs.Table.{kernel_of-codelet_of}
 use Rattle.sj_plan.specs.declared.parts.Parts.{Parts}
 use Rattle.sj_job.specs.declared.form.ArrayForm.{ArrayForm}
@@ -27,9 +27,9 @@ use Rattle.sj_job.specs.declared.reason.Reason.TheVariants.{OperandCount, Part}
 use Rattle.sj_meaning.specs.Act.{Act, Register, Plan, Redux, Task, Print, Invalidate, Unregister}
 use Rattle.sj_job.specs.Grammar.{child_pieces, has_values, is_piece, is_proper, is_proper_operand}
 use Rattle.sj_job.specs.Judge.{Scope, first_of, is_child_said, is_counted, is_missing, judged, judged_by, judged_call, kernel_named, known_of, line_reasons, name_reasons, operand_reasons, plan_reasons, print_reasons, redux_reasons, register_reasons, scope_of, unless}
-use Rattle.sj_job.specs.Sentence.{are_counts, index_said, init_said, is_numbered, is_numbered_init, is_numbered_priority, is_numbered_size, kind_of, operand_said, cols_of, parts_said, place_said, priority_said, registered_by, rows_of, task_said}
+use Rattle.sj_job.specs.Sentence.{are_counts, index_said, init_said, is_numbered, is_numbered_init, is_numbered_priority, is_numbered_size, kind_of, operand_said, col_count, parts_said, place_said, priority_said, registered_by, row_count, task_said}
 use Rattle.sj_meaning.specs.Sound.{IsSoundAct, has_child}
-use Rattle.sj_meaning.specs.State.{Root, State, is_child, root_of}
+use Rattle.sj_meaning.specs.State.{RootState, JobState, is_child, root_of}
 use Rattle.sj_meaning.specs.Statement.{Operand, Register as Registration, TaskLine}
 use Rattle.sj_job.specs.Well.{IsAllowed}
 use Rattle.sj_job.specs.Word.{count, is_count, is_name}
@@ -98,17 +98,17 @@ init-valued (Fill a b) h = refl
 init-valued Nothing h = refl
 
 abbrev dims_said : Size → Dims
-dims_said s = record { rows = rows_of s; cols = cols_of s }
+dims_said s = record { rows = row_count s; cols = col_count s }
 
 kind-again : (s : Size) → kind_of (size_form (kind_of s) (dims_said s)) ≡ kind_of s
 kind-again (size.Vector n) = refl
 kind-again (size.Matrix r c) = refl
 
-rows-again : (s : Size) → rows_of (size_form (kind_of s) (dims_said s)) ≡ rows_of s
+rows-again : (s : Size) → row_count (size_form (kind_of s) (dims_said s)) ≡ row_count s
 rows-again (size.Vector n) = refl
 rows-again (size.Matrix r c) = decimal-counts (count r) (count-below r)
 
-cols-again : (s : Size) → cols_of (size_form (kind_of s) (dims_said s)) ≡ cols_of s
+cols-again : (s : Size) → col_count (size_form (kind_of s) (dims_said s)) ≡ col_count s
 cols-again (size.Vector n) = decimal-counts (count n) (count-below n)
 cols-again (size.Matrix r c) = decimal-counts (count c) (count-below c)
 
@@ -173,13 +173,13 @@ said-by true p n e c h k = e
 said-by false p n e c h k = (λ i. is_child p (decimal-counts n.0 h i, decimal-counts n.1 k i)) ∙ c
 
 -- the operand's name has a root whose plan is active, with this child
-record IsThere (n : ℕ) (S : State) (plans : Plans) (o : Operand (List ℕ)) : Type 0 where
-  root : Root
+record IsThere (n : ℕ) (S : JobState) (plans : Plans) (o : Operand (List ℕ)) : Type 0 where
+  root : RootState
   there : root_of S o.name ≡ Some root
   under : plans o.name ≡ root.parts
   child : is_child (plans o.name) o.place ≡ true
 
-there-by : (n : ℕ) (S : State) (plans : Plans) (o : Operand (List ℕ)) (x : Option Root) → root_of S o.name ≡ x → Follows plans S → (elim x as (λ _. Bool) [ None ↦ false | Some r ↦ is_child r.parts o.place ]) ≡ true → IsThere n S plans o
+there-by : (n : ℕ) (S : JobState) (plans : Plans) (o : Operand (List ℕ)) (x : Option RootState) → root_of S o.name ≡ x → Follows plans S → (elim x as (λ _. Bool) [ None ↦ false | Some r ↦ is_child r.parts o.place ]) ≡ true → IsThere n S plans o
 there-by n S plans o None e f h = absurd (cc)
 there-by n S plans o (Some r) e f h = record { root = r; there = e; under = f o.name r e; child = ap (λ (p : Parts). is_child p o.place) (f o.name r e) ∙ h }
 
@@ -189,31 +189,31 @@ operand-form plans o = operand_form plans (operand_said o)
 abbrev operand-forms : Plans → List OperandForm → List OperandForm
 operand-forms plans os = map (operand_form plans) (map operand_said os)
 
-is-there : (n : ℕ) (S : State) (plans : Plans) (o : OperandForm) → Follows plans S → has_child S (operand_said o) ≡ true → IsThere n S plans (operand_said o)
+is-there : (n : ℕ) (S : JobState) (plans : Plans) (o : OperandForm) → Follows plans S → has_child S (operand_said o) ≡ true → IsThere n S plans (operand_said o)
 is-there n S plans o f h = there-by n S plans (operand_said o) (root_of S o.name) refl f h
 
-operand-says : (n : ℕ) (S : State) (plans : Plans) (o : OperandForm) → IsThere n S plans (operand_said o) → operand_said (operand-form plans o) ≡ operand_said o
+operand-says : (n : ℕ) (S : JobState) (plans : Plans) (o : OperandForm) → IsThere n S plans (operand_said o) → operand_said (operand-form plans o) ≡ operand_said o
 operand-says n S plans o h =
     let fits = index-fits o.child in
     λ i. record { name = o.name; place = place-by (is_whole (plans o.name)) (plans o.name) (place_said o) refl h.child fits.0 fits.1 i; mode = o.mode }
 
-abbrev missing-by : Option Root → Option (ℕ × ℕ) → Bool
+abbrev missing-by : Option RootState → Option (ℕ × ℕ) → Bool
 missing-by x index = elim (option_map known_of x) as (λ _. Bool) [ None ↦ false | Some k ↦ not (is_child_said k.parts index) ]
 
-not-missing : (n : ℕ) (S : State) (plans : Plans) (o : OperandForm) → IsThere n S plans (operand_said o) → is_missing (scope_of n S) (operand-form plans o) ≡ false
+not-missing : (n : ℕ) (S : JobState) (plans : Plans) (o : OperandForm) → IsThere n S plans (operand_said o) → is_missing (scope_of n S) (operand-form plans o) ≡ false
 not-missing n S plans o h =
     let fits = index-fits o.child in
     let index = index_said (pair_under (plans o.name) (place_said o)) in
-    ap (λ (x : Option Root). missing-by x index) h.there
+    ap (λ (x : Option RootState). missing-by x index) h.there
     ∙ ap (λ (p : Parts). not (is_child_said p index)) (sym h.under)
     ∙ ap not (said-by (is_whole (plans o.name)) (plans o.name) (place_said o) refl h.child fits.0 fits.1)
 
 -- what holds of all operands' forms
-record AreAgain (n : ℕ) (S : State) (plans : Plans) (os : List OperandForm) : Type 0 where
+record AreAgain (n : ℕ) (S : JobState) (plans : Plans) (os : List OperandForm) : Type 0 where
   say : map operand_said (operand-forms plans os) ≡ map operand_said os
   present : list_any (is_missing (scope_of n S)) (operand-forms plans os) ≡ false
 
-are-again : (n : ℕ) (S : State) (plans : Plans) (os : List OperandForm) → Follows plans S → list_all (has_child S) (map operand_said os) ≡ true → AreAgain n S plans os
+are-again : (n : ℕ) (S : JobState) (plans : Plans) (os : List OperandForm) → Follows plans S → list_all (has_child S) (map operand_said os) ≡ true → AreAgain n S plans os
 are-again n S plans [] f h = record { say = refl; present = refl }
 are-again n S plans (o ∷ os) f h =
     let q = and_parts (has_child S (operand_said o)) (list_all (has_child S) (map operand_said os)) h in
@@ -262,7 +262,7 @@ called-by name inner (Some own) e = same_text own name e
 called : (k : Kernel) (name : List ℕ) → has_name name k ≡ true → codelet_name (codelet_of k) ≡ name
 called k name h =
     ap (λ (o : Option Kernel). elim o as (λ _. List ℕ) [ None ↦ decimal (codelet_of k).0 | Some k ↦ kernel_word k ]) (kernel_of-codelet_of k)
-    ∙ called-by name (inner_word k) (name_of k) h
+    ∙ called-by name (inner_word k) (kernel_name k) h
 
 -- another second condition, which doesn't hold either
 none-besides : (a b c : Bool) (x y : Reason) (cs : List (Bool × Reason)) → first_of ((a, x) ∷ (b, y) ∷ cs) ≡ None → c ≡ false → first_of ((a, x) ∷ (c, y) ∷ cs) ≡ None
@@ -270,7 +270,7 @@ none-besides true b c x y cs e h = absurd (cc)
 none-besides false true c x y cs e h = absurd (cc)
 none-besides false false c x y cs e h = ap (λ (t : Bool). first_of ((t, y) ∷ cs)) h ∙ e
 
-task-does : (has : Kernel → Bool) (n : ℕ) (S : State) (plans : Plans) (t : TaskForm) (act : Act (List ℕ)) → Follows plans S → is_proper (form.Task t) ≡ true → judged has (scope_of n S) (form.Task t) ≡ Ok act → IsSoundAct has S act → Does has (scope_of n S) (form_of_act plans act) act
+task-does : (has : Kernel → Bool) (n : ℕ) (S : JobState) (plans : Plans) (t : TaskForm) (act : Act (List ℕ)) → Follows plans S → is_proper (form.Task t) ≡ true → judged has (scope_of n S) (form.Task t) ≡ Ok act → IsSoundAct has S act → Does has (scope_of n S) (form_of_act plans act) act
 task-does has n S plans t act f h e sound =
     let s = scope_of n S in
     let j = judged-task has s t act e in
@@ -299,7 +299,7 @@ task-does has n S plans t act f h e sound =
 
 -- ---- an act
 
-by-form : (has : Kernel → Bool) (n : ℕ) (S : State) (plans : Plans) (f : Form) (act : Act (List ℕ)) → Follows plans S → is_proper f ≡ true → is_numbered f ≡ true → judged has (scope_of n S) f ≡ Ok act → IsSoundAct has S act → Does has (scope_of n S) (form_of_act plans act) act
+by-form : (has : Kernel → Bool) (n : ℕ) (S : JobState) (plans : Plans) (f : Form) (act : Act (List ℕ)) → Follows plans S → is_proper f ≡ true → is_numbered f ≡ true → judged has (scope_of n S) f ≡ Ok act → IsSoundAct has S act → Does has (scope_of n S) (form_of_act plans act) act
 by-form has n S plans (form.Register a) act f h k e sound =
     let s = scope_of n S in
     let p = unless_parts (first_of (register_reasons s a.name (registered_by a).dims (parts_said a.parts) (init_said a.init))) (Register (registered_by a)) act e in
@@ -327,7 +327,7 @@ by-form has n S plans (form.Unregister name) act f h k e sound =
     let p = unless_parts (first_of (name_reasons s name)) (Unregister name) act e in
     subst (λ (a : Act (List ℕ)). Does has s (form_of_act plans a) a) p.1 (record { proper = h; numbered = refl; judged = ap (λ (o : Option Reason). unless o (Unregister name)) p.0 })
 
-pub canonical-does : (has : Kernel → Bool) (n : ℕ) (S : State) (plans : Plans) (act : Act (List ℕ)) → Follows plans S → IsAllowed has (scope_of n S) act → Does has (scope_of n S) (form_of_act plans act) act
+pub canonical-does : (has : Kernel → Bool) (n : ℕ) (S : JobState) (plans : Plans) (act : Act (List ℕ)) → Follows plans S → IsAllowed has (scope_of n S) act → Does has (scope_of n S) (form_of_act plans act) act
 canonical-does has n S plans act f h =
     let says = said-says h.words (Ok h.form) h.spelled in
     by-form has n S plans h.form act f says.spelled.proper says.numbered h.judged (sound_from_allowed has n S act h)

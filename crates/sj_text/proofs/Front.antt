@@ -18,12 +18,12 @@ use Rattle.sj_job.specs.declared.reason.LimitKind.TheVariants as LimitKind
 use Rattle.sj_job.specs.declared.reason.Reason.{Reason}
 use Rattle.sj_job.specs.declared.reason.Reason.TheVariants.{Word, Number, Limit}
 use Rattle.sj_meaning.specs.declared.settings.Settings.{Settings}
-use Rattle.sj_job.specs.Grammar.{init_words, parts_words, sized, written}
+use Rattle.sj_job.specs.Grammar.{init_words, parts_words, sized, form_words}
 use Rattle.sj_meaning.specs.Job.{Job}
 use Rattle.sj_job.specs.Judge.{first_of}
 use Rattle.sj_job.specs.Reading.{Refusal, front_of, reading, reading_settings, refusal, setting_in, with_settings}
 use Rattle.sj_job.specs.Settings.{set_by, setting_of, setting_reasons, setting_written, with_setting}
-use Rattle.sj_meaning.specs.Settings.{IsWithinLimits, default_nodes, is_node_size, is_worker_count, nodes_of, policy_set, unset, workers_of}
+use Rattle.sj_meaning.specs.Settings.{SettingsAreInRange, default_nodes, is_node_size, is_worker_count, nodes_of, policy_set, unset, worker_count}
 use Rattle.sj_meaning.specs.State.{start}
 use Rattle.sj_job.specs.Verdict.{Front, Passes, Begins, Stops}
 use Rattle.sj_job.specs.Word.{count, is_count, is_skipped, lines, words}
@@ -139,9 +139,9 @@ nodes-within : (ns : List ℕ) → length ns ≤ 16 → All IsSize ns → let ms
 nodes-within [] few h = (omega arith, All-from_recursion IsSize default_nodes ((omega arith, omega arith), tt))
 nodes-within (n ∷ ns) few h = (few, h)
 
-pub settings-read : (has : Kernel → Bool) (g : Settings) (n : ℕ) (rest : List ℕ) → IsWithinLimits g → reading_settings has unset n (lines (settings_lines g ++ rest)) ≡ reading_settings has (settings_said g) (length (nodes_of g) + n + 2) (lines rest)
+pub settings-read : (has : Kernel → Bool) (g : Settings) (n : ℕ) (rest : List ℕ) → SettingsAreInRange g → reading_settings has unset n (lines (settings_lines g ++ rest)) ≡ reading_settings has (settings_said g) (length (nodes_of g) + n + 2) (lines rest)
 settings-read has g n rest h =
-    let w = workers_of g in
+    let w = worker_count g in
     let ns = nodes_of g in
     let p = policy_set g in
     let first = line_of_words (setting_written (Workers (decimal w))) in
@@ -161,7 +161,7 @@ sized-begins name (Vector n) ws = (refl, refl)
 sized-begins name (Matrix r c) ws = (refl, refl)
 
 -- a statement is no comment and no setting
-pub form-begins : (f : Form) → (is_skipped (written f) ≡ false) × (setting_of (written f) ≡ None)
+pub form-begins : (f : Form) → (is_skipped (form_words f) ≡ false) × (setting_of (form_words f) ≡ None)
 form-begins (form.Register a) = sized-begins a.name a.size (parts_words a.parts ++ init_words a.init)
 form-begins (form.Plan name r c) = (refl, refl)
 form-begins (form.Redux name by) = (refl, refl)
@@ -170,6 +170,6 @@ form-begins (form.Print name) = (refl, refl)
 form-begins (form.Invalidate name) = (refl, refl)
 form-begins (form.Unregister name) = (refl, refl)
 
-pub statement-begins : (has : Kernel → Bool) (g : Settings) (n : ℕ) (f : Form) (ls : List (List ℕ)) → list_all is_word (written f) ≡ true → reading_settings has g n (join_with_byte 32 (written f) ∷ ls) ≡ with_settings g (reading has 0 start n (join_with_byte 32 (written f) ∷ ls))
+pub statement-begins : (has : Kernel → Bool) (g : Settings) (n : ℕ) (f : Form) (ls : List (List ℕ)) → list_all is_word (form_words f) ≡ true → reading_settings has g n (join_with_byte 32 (form_words f) ∷ ls) ≡ with_settings g (reading has 0 start n (join_with_byte 32 (form_words f) ∷ ls))
 statement-begins has g n f ls h =
-    ap (reads_on has g n (join_with_byte 32 (written f)) ls) (front-words g (written f) h (form-begins f).0 ∙ ap (front_by g) (form-begins f).1)
+    ap (reads_on has g n (join_with_byte 32 (form_words f)) ls) (front-words g (form_words f) h (form-begins f).0 ∙ ap (front_by g) (form-begins f).1)

@@ -3,7 +3,7 @@ use Rattle.std.proofs.Common.{◌≡◌, ℕ, suc, ◌+◌, ◌<◌, ◌≤◌, 
 use Rattle.std.proofs.lemmas.List.{append-nil, drop_all}
 use Rattle.sj_meaning.proofs.Views.{counts-grow}
 use Rattle.sj_meaning.specs.Table.{Table}
-use Rattle.sj_meaning.specs.View.{ArePlaced, IsNumbered, IsPlaced, act_seen, count_after, count_from, seen_from}
+use Rattle.sj_meaning.specs.View.{ActsArePlaced, IsNumbered, IsPlaced, act_seen, count_after, count_from, seen_from}
 use Rattle.sj_meaning.specs.declared.job.Statement.{Statement as Kept}
 use Rattle.sj_plan.specs.declared.parts.Parts.{Parts}
 use Rattle.sj_text.specs.Forms.{Plans, no_plans, plans_after}
@@ -14,7 +14,7 @@ use Rattle.sj_text.proofs.Active.{none-active}
 pub record GoesOn (T : Table) (parts : List Parts) (rest : List Kept) (now whole : List ℕ) : Type 0 where
   pub plans : Plans
   pub active : AreCurrent T parts plans
-  pub placed : ArePlaced (length parts) rest
+  pub placed : ActsArePlaced (length parts) rest
   pub counted : count_from (length parts) rest ≡ length T.names
   pub told : now ++ statement_lines plans (seen_from T (length parts) rest) ≡ whole
 
@@ -53,7 +53,7 @@ goes-on T parts new_parts s rest now new whole g written count activated =
     record {
       plans = plans;
       active = activated g.plans g.active;
-      placed = subst (λ (k : ℕ). ArePlaced k rest) (sym count) g.placed.1;
+      placed = subst (λ (k : ℕ). ActsArePlaced k rest) (sym count) g.placed.1;
       counted = ap (λ k. count_from k rest) count ∙ g.counted;
       told = ap (λ k. new ++ statement_lines plans (seen_from T k rest)) count
           ∙ ap (λ t. t ++ statement_lines plans (seen_from T (count_after (length parts) s.act) rest)) (written g.plans g.active)

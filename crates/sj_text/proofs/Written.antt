@@ -21,7 +21,7 @@ use Rattle.sj_job.specs.declared.form.OperandForm.{OperandForm}
 use Rattle.sj_job.specs.declared.form.Size.{Size}
 use Rattle.sj_job.specs.declared.form.Size.TheVariants.{Vector, Matrix}
 use Rattle.sj_job.specs.Form.{mode_word, reduction_word}
-use Rattle.sj_job.specs.Grammar.{bracketed_word, child_pieces, codelet_word, has_values, init_words, is_piece, is_proper, is_proper_operand, operand_word, parts_words, priority_words, sized, written}
+use Rattle.sj_job.specs.Grammar.{bracketed_word, child_pieces, codelet_word, has_values, init_words, is_piece, is_proper, is_proper_operand, operand_word, parts_words, priority_words, sized, form_words}
 use Rattle.sj_job.specs.Sentence.{are_counts, is_numbered, is_numbered_init, is_numbered_priority, is_numbered_size}
 use Rattle.sj_job.specs.Word.{count_of, is_count, is_digits, is_empty, is_integer, is_letter, is_letter_or_digit, is_name, negative_of}
 use Rattle.sj_job.proofs.Numerals.{all-weaker}
@@ -164,7 +164,7 @@ reduction-word : (by : Reduction) → is_word (reduction_word by) ≡ true
 reduction-word Plus = refl
 reduction-word Least = refl
 
-pub written-words : (f : Form) → is_proper f ≡ true → is_numbered f ≡ true → list_all is_word (written f) ≡ true
+pub written-words : (f : Form) → is_proper f ≡ true → is_numbered f ≡ true → list_all is_word (form_words f) ≡ true
 written-words (form.Register a) h k =
     let p = and_parts (is_name a.name) (has_values a.init) h in
     let q = and_parts (is_numbered_size a.size && are_counts a.parts) (is_numbered_init a.init) k in

@@ -3,12 +3,12 @@ use Rattle.std.specs.Prelude.{ℕ, ◌+◌, Some, List, [], ◌∷◌, length}
 use Rattle.sj_meaning.specs.Act.{Statement}
 use Rattle.sj_meaning.specs.Job.{Job, job}
 use Rattle.sj_job.specs.Reading.{statement}
-use Rattle.sj_meaning.specs.Settings.{nodes_of, policy_set, workers_of}
+use Rattle.sj_meaning.specs.Settings.{nodes_of, policy_set, worker_count}
 use Rattle.sj_meaning.specs.declared.settings.Settings.{Settings}
 
 -- the same settings, with what no line set
 abbrev pub settings_said : Settings → Settings
-settings_said g = record { workers = Some (workers_of g); nodes = nodes_of g; policy = Some (policy_set g) }
+settings_said g = record { workers = Some (worker_count g); nodes = nodes_of g; policy = Some (policy_set g) }
 
 -- the same acts, in the lines from this one on
 abbrev pub renumbered : ℕ → List (Statement (List ℕ)) → List (Statement (List ℕ))

@@ -2,10 +2,10 @@
 use Rattle.std.specs.Prelude.{◌≡◌, ℕ, ◌<◌, List, [], ◌∷◌, ◌++◌, length, flat_map, codes, decimal}
 use Rattle.std.specs.List.{slice_index_or}
 use Rattle.sj_meaning.specs.Act.{Act, Statement}
-use Rattle.sj_job.specs.Grammar.{written}
+use Rattle.sj_job.specs.Grammar.{form_words}
 use Rattle.sj_meaning.specs.Job.{Job}
 use Rattle.sj_job.specs.Settings.{setting_written}
-use Rattle.sj_meaning.specs.Settings.{nodes_of, policy_set, workers_of}
+use Rattle.sj_meaning.specs.Settings.{nodes_of, policy_set, worker_count}
 use Rattle.sj_meaning.specs.Table.{Table, a_root, name_of, undivided}
 use Rattle.sj_job.specs.declared.form.SettingForm.TheVariants.{Workers, Node, Policy}
 use Rattle.sj_meaning.specs.declared.settings.Settings.{Settings}
@@ -24,13 +24,13 @@ node_line n = line_of_words (setting_written (Node (decimal n)))
 -- `workers N`, a `node` line for each node, and `policy P`: also what no line of the job sets
 abbrev pub settings_lines : Settings → List ℕ
 settings_lines g =
-    line_of_words (setting_written (Workers (decimal (workers_of g))))
+    line_of_words (setting_written (Workers (decimal (worker_count g))))
     ++ flat_map node_line (nodes_of g)
     ++ line_of_words (setting_written (Policy (policy_set g)))
 
 -- the line of an act, before which these plans are active
 abbrev pub act_line : Plans → Act (List ℕ) → List ℕ
-act_line plans act = line_of_words (written (form_of_act plans act))
+act_line plans act = line_of_words (form_words (form_of_act plans act))
 
 -- the lines of statements, before which these plans are active
 abbrev pub statement_lines : Plans → List (Statement (List ℕ)) → List ℕ

@@ -22,7 +22,7 @@ use Rattle.sj_words.specs.declared.options.Options.{Options}
 use Rattle.sj_top.specs.declared.status.Status.{Status}
 use Rattle.sj_top.specs.declared.status.Status.TheVariants.{Done, Usage, Refused, TooLarge, SwapTooSmall, DiskFault, Damaged, SourceFault, SinkFault, OutOfMemory}
 use Rattle.sj_top.specs.Device.{Devices, NeverFailed, in_use}
-use Rattle.sj_top.specs.Top.{HasCause, IsDue, IsSilent, NothingFailed}
+use Rattle.sj_top.specs.Top.{StatusHasCause, IsDue, IsSilent, NothingFailed}
 use Rattle.sj_top.specs.Work.{Asked, Unaccepted, Untold, Told, IfAsked, IsToldAnd, asked_through, job_by, reads_source, told}
 
 -- ---- one cause excludes the others
@@ -67,7 +67,7 @@ module _ {D : Type 0} {disk : DiskOf D} (before after : Devices disk) (trace : L
   abbrev IsOr : Status → Status → Type 0
   IsOr status due = (status ≡ due) ⊎ (status ≡ OutOfMemory)
 
-  usage-comes : (status : Status) → HasCause Unaccepted before after trace status → NeverFailed before.source after.source → IsOr status Usage
+  usage-comes : (status : Status) → StatusHasCause Unaccepted before after trace status → NeverFailed before.source after.source → IsOr status Usage
   usage-comes Usage a well = inl refl
   usage-comes OutOfMemory a well = inr refl
   usage-comes SourceFault a well = absurd (well a.cause.count_rose)
@@ -79,7 +79,7 @@ module _ {D : Type 0} {disk : DiskOf D} (before after : Devices disk) (trace : L
   usage-comes (Damaged number want found) a well = absurd a.run.had_room
   usage-comes SinkFault a well = absurd a.run.had_room
 
-  refusal-comes : (e : Refusal) (status : Status) → HasCause (Told (Err e)) before after trace status → NeverFailed before.source after.source → IsOr status (Refused e.line e.reason)
+  refusal-comes : (e : Refusal) (status : Status) → StatusHasCause (Told (Err e)) before after trace status → NeverFailed before.source after.source → IsOr status (Refused e.line e.reason)
   refusal-comes e (Refused line reason) a well = inl (sym (same-refused e (record { line = line; reason = reason }) a.cause))
   refusal-comes e OutOfMemory a well = inr refl
   refusal-comes e SourceFault a well = absurd (well a.cause.count_rose)
@@ -98,7 +98,7 @@ module _ {D : Type 0} {disk : DiskOf D} (before after : Devices disk) (trace : L
     not-refused : (e : Refusal) → IfAsked (Told (Ok w)) (λ x. x ≡ Err e) → ⊥
     not-refused e is = cc
 
-    large-comes : (line : Line) (bytes : ℕ) (status : Status) → IsTooLarge (program_of w) w.machine line bytes → HasCause (Told (Ok w)) before after trace status → NeverFailed before.source after.source → IsOr status (TooLarge line bytes)
+    large-comes : (line : Line) (bytes : ℕ) (status : Status) → IsTooLarge (program_of w) w.machine line bytes → StatusHasCause (Told (Ok w)) before after trace status → NeverFailed before.source after.source → IsOr status (TooLarge line bytes)
     large-comes line bytes (TooLarge l b) is a well = inl (same-large (program_of w) w.machine l line b bytes a.cause is)
     large-comes line bytes OutOfMemory is a well = inr refl
     large-comes line bytes SourceFault is a well = absurd (well a.cause.count_rose)
@@ -110,7 +110,7 @@ module _ {D : Type 0} {disk : DiskOf D} (before after : Devices disk) (trace : L
     large-comes line bytes (Damaged number want found) is a well = absurd (no-room-large w line bytes is a.run.had_room)
     large-comes line bytes SinkFault is a well = absurd (no-room-large w line bytes is a.run.had_room)
 
-    swap-comes : (needed have : ℕ) (status : Status) → IsSwapTooSmall (program_of w) w.machine needed have → HasCause (Told (Ok w)) before after trace status → NeverFailed before.source after.source → IsOr status (SwapTooSmall needed have)
+    swap-comes : (needed have : ℕ) (status : Status) → IsSwapTooSmall (program_of w) w.machine needed have → StatusHasCause (Told (Ok w)) before after trace status → NeverFailed before.source after.source → IsOr status (SwapTooSmall needed have)
     swap-comes needed have (SwapTooSmall n h) is a well = inl (same-swap (program_of w) w.machine n needed h have a.cause is)
     swap-comes needed have OutOfMemory is a well = inr refl
     swap-comes needed have SourceFault is a well = absurd (well a.cause.count_rose)
@@ -122,7 +122,7 @@ module _ {D : Type 0} {disk : DiskOf D} (before after : Devices disk) (trace : L
     swap-comes needed have (Damaged number want found) is a well = absurd (no-room-swap w needed have is a.run.had_room)
     swap-comes needed have SinkFault is a well = absurd (no-room-swap w needed have is a.run.had_room)
 
-    done-comes : (status : Status) → HasRoom w → HasCause (Told (Ok w)) before after trace status → NothingFailed before after → IsOr status Done
+    done-comes : (status : Status) → HasRoom w → StatusHasCause (Told (Ok w)) before after trace status → NothingFailed before after → IsOr status Done
     done-comes Done room a well = inl refl
     done-comes OutOfMemory room a well = inr refl
     done-comes SourceFault room a well = absurd (well.source a.cause.count_rose)
@@ -136,7 +136,7 @@ module _ {D : Type 0} {disk : DiskOf D} (before after : Devices disk) (trace : L
 
   -- a source that failed ends the call, and a sink that failed
   module _ (asked : Asked) where
-    source-comes : (status : Status) → HasCause asked before after trace status → (asked ≡ Unaccepted → NeverFailed before.source after.source) → before.source.faults < after.source.faults → IsOr status SourceFault
+    source-comes : (status : Status) → StatusHasCause asked before after trace status → (asked ≡ Unaccepted → NeverFailed before.source after.source) → before.source.faults < after.source.faults → IsOr status SourceFault
     source-comes SourceFault a unread rose = inl refl
     source-comes OutOfMemory a unread rose = inr refl
     source-comes Usage a unread rose = absurd (unread a.cause (λ le. absurd (below le rose)))
@@ -148,7 +148,7 @@ module _ {D : Type 0} {disk : DiskOf D} (before after : Devices disk) (trace : L
     source-comes (Damaged number want found) a unread rose = absurd (stayed a.run.read.never_failed rose)
     source-comes SinkFault a unread rose = absurd (stayed a.run.read.never_failed rose)
 
-    sink-comes : (status : Status) → HasCause asked before after trace status → (IsSilent asked status → after.out.faults ≡ before.out.faults) → before.out.faults < after.out.faults → IsOr status SinkFault
+    sink-comes : (status : Status) → StatusHasCause asked before after trace status → (IsSilent asked status → after.out.faults ≡ before.out.faults) → before.out.faults < after.out.faults → IsOr status SinkFault
     sink-comes SinkFault a quiet rose = inl refl
     sink-comes Done a quiet rose = absurd (stayed a.out_never_failed rose)
     sink-comes OutOfMemory a quiet rose = absurd (stayed (quiet tt) rose)
@@ -164,14 +164,14 @@ module _ {D : Type 0} {disk : DiskOf D} (before after : Devices disk) (trace : L
 
   module _ (status : Status) where
     -- from what is told to what is asked for
-    of-told : (asked : Asked) (P : Work → Type 0) (due : Status) → IsToldAnd asked P → ((w : Work) → P w → HasCause (Told (Ok w)) before after trace status → IsOr status due) → HasCause asked before after trace status → IsOr status due
+    of-told : (asked : Asked) (P : Work → Type 0) (due : Status) → IsToldAnd asked P → ((w : Work) → P w → StatusHasCause (Told (Ok w)) before after trace status → IsOr status due) → StatusHasCause asked before after trace status → IsOr status due
     of-told (Told (Ok w)) P due h to a = to w h a
     of-told (Told (Err e)) P due h to a = absurd h
     of-told Untold P due h to a = absurd h
     of-told Unaccepted P due h to a = absurd h
 
     abbrev Caused : Asked → Type 0
-    Caused asked = HasCause asked before after trace status
+    Caused asked = StatusHasCause asked before after trace status
 
     pub due-comes : (asked : Asked) → Caused asked → (asked ≡ Unaccepted → NeverFailed before.source after.source) → (IsSilent asked status → after.out.faults ≡ before.out.faults) → (due : Status) → IsDue asked before after due → IsOr status due
     due-comes asked a unread quiet Usage is = usage-comes status (subst Caused is a) (unread is)

@@ -30,13 +30,13 @@ use Rattle.sj_meaning.specs.Table.{Table, info_of, name_of}
 use Rattle.sj_lower.specs.Delivering.{NamesDeliverTasks, deliveries_for}
 use Rattle.sj_plan.specs.Rect.{Within}
 use Rattle.sj_plan.specs.Window.{gathered}
-use Rattle.sj_top.specs.Gathering.{AreAmong, Handed, HandedOver, IsIndex, IsShown, all_shown, array_found, part_by, prints_of, rect_at, root_of, shown}
+use Rattle.sj_top.specs.Gathering.{AreAmong, HandedArrays, HandedOver, IsIndex, IsShown, all_shown, array_found, part_by, prints_of, rect_at, delivered_root, shown}
 use Rattle.sj_top.proofs.Finding.{finds-delivery, found-among, tasks_in}
 
 -- ---- what a table finds
 
 -- the table finds for each delivery an array that its task handed over
-pub found-each : (p : Program) (h : Handed) (pairs : List (Task × Array)) → h.pairs ≡ pairs → IsIndex h.places h.pairs → HandedOver p pairs → AreAmong p pairs (array_found h)
+pub found-each : (p : Program) (h : HandedArrays) (pairs : List (Task × Array)) → h.pairs ≡ pairs → IsIndex h.places h.pairs → HandedOver p pairs → AreAmong p pairs (array_found h)
 found-each p h pairs e index handed =
     let own : HandedOver p h.pairs = subst (HandedOver p) (sym e) handed in
     All-weaker (Contains p.deliveries) (λ (d : Delivery). Contains pairs (d.task, array_found h d.task))
@@ -53,7 +53,7 @@ dims-found p pairs arrays handed among =
 pub shown-by : (T : Table) (p : Program) (k : ℕ) (arrays : Task → Array) → All (λ (d : Delivery). (arrays d.task).dims ≡ (given p d.task).dims) p.deliveries → IsShown T (given p) (deliveries_for p k) → IsShown T arrays (deliveries_for p k)
 shown-by T p k arrays same shown =
     let ds = deliveries_for p k in
-    let dims = (info_of T (root_of ds)).dims in
+    let dims = (info_of T (delivered_root ds)).dims in
     record {
       some = shown.some;
       rooted = shown.rooted;
@@ -76,8 +76,8 @@ same-shown T p pairs arrays among are = map-same (λ k. shown T arrays (deliveri
         let has = All-contains (λ (e : Delivery). Contains pairs (e.task, arrays e.task)) p.deliveries d among own in
         let is = All-contains (λ (pair : Task × Array). pair.1 ≡ given p pair.0) pairs (d.task, arrays d.task) are has in
         ap (λ (a : Array). (rect_at d a.dims, a)) is) in
-        let info = info_of T (root_of ds) in
-        λ i. record { name = name_of T (root_of ds); kind = info.kind; array = gathered (zeros info.dims) (parts i) }
+        let info = info_of T (delivered_root ds) in
+        λ i. record { name = name_of T (delivered_root ds); kind = info.kind; array = gathered (zeros info.dims) (parts i) }
 
 -- ---- what a run hands over
 

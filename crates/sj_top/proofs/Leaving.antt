@@ -12,7 +12,7 @@ use Rattle.sj_edge.specs.declared.disk.Disk.{Ghosts as DiskOf}
 use Rattle.sj_edge.specs.Faults.{Rose}
 use Rattle.sj_edge.specs.GivenBack.{AreGivenBack}
 use Rattle.sj_edge.proofs.GivenBackLemmas.{all_given_back-untouched, all_untouched-same}
-use Rattle.sj_engine.specs.Outcome.{AllTell, IsCausedBy}
+use Rattle.sj_engine.specs.Outcome.{AllDisksTell, IsCausedBy}
 use Rattle.sj_machine.specs.Board.{HasRisen}
 use Rattle.sj_machine.specs.declared.fault.RunFault.{RunFault}
 use Rattle.sj_machine.specs.declared.fault.RunFault.TheVariants as running
@@ -127,12 +127,12 @@ module _ {D : Type 0} (disk : DiskOf D) where
     blocks = λ h. absurd h;
     fault = λ number e. absurd (the ⊥ cc);
     damage = λ number want found e.
-        let is : IsDamage (AllTell disk.held old) d w f (map disk.mismatches old) (map disk.mismatches new) = record { count_rose = risen-at disk.mismatches old new d.0 cause.0; other_header = cause.1; untold = cause.2 } in
+        let is : IsDamage (AllDisksTell disk.held old) d w f (map disk.mismatches old) (map disk.mismatches new) = record { count_rose = risen-at disk.mismatches old new d.0 cause.0; other_header = cause.1; untold = cause.2 } in
         by_parts d w f number want found e is;
   }
     where
-      by_parts : (d : DiskNo) (w f : Header) (number : DiskNo) (want found : Header) → status.Damaged d w f ≡ status.Damaged number want found → IsDamage (AllTell disk.held old) d w f (map disk.mismatches old) (map disk.mismatches new) → IsDamage (AllTell disk.held old) number want found (map disk.mismatches old) (map disk.mismatches new)
-      by_parts d w f number want found e is = subst (λ (s : Status). elim s as (λ _. Type 0) [ status.Damaged x y z ↦ IsDamage (AllTell disk.held old) x y z (map disk.mismatches old) (map disk.mismatches new) | _ ↦ ⊥ ]) e is
+      by_parts : (d : DiskNo) (w f : Header) (number : DiskNo) (want found : Header) → status.Damaged d w f ≡ status.Damaged number want found → IsDamage (AllDisksTell disk.held old) d w f (map disk.mismatches old) (map disk.mismatches new) → IsDamage (AllDisksTell disk.held old) number want found (map disk.mismatches old) (map disk.mismatches new)
+      by_parts d w f number want found e is = subst (λ (s : Status). elim s as (λ _. Type 0) [ status.Damaged x y z ↦ IsDamage (AllDisksTell disk.held old) x y z (map disk.mismatches old) (map disk.mismatches new) | _ ↦ ⊥ ]) e is
   leaves-broken asked running.OutOfMemory trace old new back cause = leaves-untold asked trace old new back
 
   -- the text was written, or not

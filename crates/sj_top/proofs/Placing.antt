@@ -6,13 +6,13 @@ use Rattle.sj_base.specs.declared.ids.Task.{Task}
 use Rattle.sj_base.specs.declared.tile.Dims.{Dims}
 use Rattle.sj_base.specs.Array.{Array, element, zeros}
 use Rattle.sj_plan.specs.declared.rect.Rect.{Rect}
-use Rattle.sj_plan.specs.Rect.{Within, dims_of}
+use Rattle.sj_plan.specs.Rect.{Within, rect_dims}
 use Rattle.sj_plan.specs.Window.{with_window, IsWhole}
 use Rattle.sj_plan.proofs.Windows.{element-with_window, IsWhole-with_window, same_arrays, written-inside}
 use Rattle.sj_top.specs.Gathering.{assembled, part_by, rect_at}
 
 -- an array put into a rectangle that is the whole array
-pub with_window-whole : (a b : Array) (r : Rect) → Within r a.dims → dims_of r ≡ a.dims → b.dims ≡ a.dims → IsWhole b → with_window a r b ≡ b
+pub with_window-whole : (a b : Array) (r : Rect) → Within r a.dims → rect_dims r ≡ a.dims → b.dims ≡ a.dims → IsWhole b → with_window a r b ≡ b
 with_window-whole a b r within whole dims whole_b =
     let rows : r.rows ≡ a.dims.rows = ap (λ (d : Dims). d.rows) whole in
     let cols : r.cols ≡ a.dims.cols = ap (λ (d : Dims). d.cols) whole in

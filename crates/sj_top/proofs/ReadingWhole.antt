@@ -13,7 +13,7 @@ use Rattle.sj_job.specs.Word.{lines}
 use Rattle.sj_job.specs.Reading.{Refusal, refusal, reading_header, job_of, text_limit}
 use Rattle.sj_top.specs.declared.source_text.Unread.{Unread}
 use Rattle.sj_top.specs.Device.{Device}
-use Rattle.sj_top.specs.Streams.{IsRead, is_fault}
+use Rattle.sj_top.specs.Streams.{IsRead, is_source_fault}
 
 too_long : (has : Kernel → Bool) (text : List ℕ) → text_limit < length text → job_of has text ≡ Err (refusal 0 (Limit Text))
 too_long has text lt =
@@ -35,7 +35,7 @@ short has text ok = by_length (nat_lt text_limit (length text)) refl
     by_length false e = grind (arith, nat_tests)
 
 -- what was read of a source, to its end or to one byte more than the longest text
-pub read-by : (r : Result (Vec ℕ Global) Unread) (source source' : Device) → IfOk r (λ text. length text.items ≤ text_limit + 1) → IfOk r (λ text. Consumes source.bytes source'.bytes text.items) → IfOk r (λ text. length text.items ≤ text_limit → IsAtEnd source'.bytes) → source'.faults ≡ counted source.faults (is_fault r) → IfOk r (λ _. IsRead source source')
+pub read-by : (r : Result (Vec ℕ Global) Unread) (source source' : Device) → IfOk r (λ text. length text.items ≤ text_limit + 1) → IfOk r (λ text. Consumes source.bytes source'.bytes text.items) → IfOk r (λ text. length text.items ≤ text_limit → IsAtEnd source'.bytes) → source'.faults ≡ counted source.faults (is_source_fault r) → IfOk r (λ _. IsRead source source')
 read-by (Err e) source source' bound taken end same = tt
 read-by (Ok text) source source' bound taken end same = record { taken = by_bytes source.bytes source'.bytes taken end; never_failed = same }
   where

@@ -22,7 +22,7 @@ use Rattle.sj_meaning.specs.declared.job.Kind.TheVariants.{Vector}
 use Rattle.sj_meaning.specs.Meaning.{Printed, printed}
 use Rattle.sj_meaning.specs.Table.{Table, info_of}
 use Rattle.sj_lower.specs.Delivering.{DeliversPrinted, IsPrinted, deliveries_for, part_of}
-use Rattle.sj_top.specs.Gathering.{AreGrouped, IsShown, all_shown, assembled, no_delivery, prints_of, root_of, shown}
+use Rattle.sj_top.specs.Gathering.{AreGrouped, IsShown, all_shown, assembled, no_delivery, prints_of, delivered_root, shown}
 
 -- a delivery in a list that has some
 first-in : (ds : List Delivery) → 0 < length ds → Contains ds (get_or ds 0 no_delivery)
@@ -97,8 +97,8 @@ module _ (T : Table) (p : Program) (ss : List (Statement (List ℕ))) (h : Deliv
       let is = each k below in
       let ds = deliveries_for p k in
       let named = is.named 0 no_delivery is.some in
-      let dims : (info_of T (root_of ds)).dims ≡ x.array.dims = is.dims 0 no_delivery is.some in
-      let made : assembled (given p) (info_of T (root_of ds)).dims ds ≡ x.array = ap (λ (d : Dims). gathered (zeros d) (map (part_of p) ds)) dims ∙ is.array (map (part_of p) ds) (IsPermutation-refl (map (part_of p) ds)) in
+      let dims : (info_of T (delivered_root ds)).dims ≡ x.array.dims = is.dims 0 no_delivery is.some in
+      let made : assembled (given p) (info_of T (delivered_root ds)).dims ds ≡ x.array = ap (λ (d : Dims). gathered (zeros d) (map (part_of p) ds)) dims ∙ is.array (map (part_of p) ds) (IsPermutation-refl (map (part_of p) ds)) in
       λ i. record { name = (named i).0; kind = (named i).1; array = made i }
 
   grouped-each : (k : ℕ) → k < prints_of p → IsShown T (given p) (deliveries_for p k)

@@ -15,10 +15,10 @@ use Rattle.sj_engine.specs.Outcome.{WantsLastWritten}
 use Rattle.sj_machine.specs.Delivered.{DeliversEach}
 use Rattle.sj_machine.specs.declared.fault.RunFault.{RunFault}
 use Rattle.sj_trace.specs.Text.{text_of as text_of_trace}
-use Rattle.sj_ready.specs.declared.ready.Ready.{Ready}
+use Rattle.sj_ready.specs.declared.ready.ReadyJob.{ReadyJob}
 use Rattle.sj_ready.proofs.Fitting.{ready-room}
 use Rattle.sj_ready.specs.Ready.{IsReady}
-use Rattle.sj_top.specs.Answers.{BrokeOff, IsTextOf}
+use Rattle.sj_top.specs.Answers.{BrokeOff, IsAnswerText}
 use Rattle.sj_top.specs.Gathering.{ShowsRun, prints_of, shown}
 use Rattle.sj_top.specs.Output.{output}
 use Rattle.sj_top.specs.Top.{PrintsNothing, answer_text}
@@ -31,7 +31,7 @@ use Rattle.sj_top.proofs.Showing.{all-shown, count-prints}
 abbrev pub behind : Bool → List Event → List ℕ
 behind b trace = cond b (text_of_trace trace) []
 
-module _ (has : Kernel → Bool) (asked : WorkOrRefusal) (r : Ready) (ready : IsReady has asked r) where
+module _ (has : Kernel → Bool) (asked : WorkOrRefusal) (r : ReadyJob) (ready : IsReady has asked r) where
   abbrev p : Program
   p = r.program.value
 
@@ -67,9 +67,9 @@ module _ (has : Kernel → Bool) (asked : WorkOrRefusal) (r : Ready) (ready : Is
         let arrays : shows.arrays_text ≡ [] = shows.shows.text_is ∙ ap (λ (n : ℕ). output r.shows_summary (map (λ k. shown r.roots shows.shows.arrays (deliveries_for p k)) (range_with_len 0 n))) none in
         shows.behind ∙ ap (λ (xs : List ℕ). xs ++ behind r.shows_trace trace) arrays ∙ ap (λ (b : Bool). behind b trace) (ready.trace_is ∙ nothing.no_trace)
 
-    pub shows-work : IsFinished p r.machine trace → EachRanOnce p trace → IsOkAnd asked (IsTextOf Tells trace text)
+    pub shows-work : IsFinished p r.machine trace → EachRanOnce p trace → IsOkAnd asked (IsAnswerText Tells trace text)
     shows-work finished once =
-        subst (λ (a : WorkOrRefusal). IsOkAnd a (IsTextOf Tells trace text)) (sym ready.asked_for) (record { told = told; had_room = ready-room has asked r ready; ran = ran-work trace finished once; silent = silent })
+        subst (λ (a : WorkOrRefusal). IsOkAnd a (IsAnswerText Tells trace text)) (sym ready.asked_for) (record { told = told; had_room = ready-room has asked r ready; ran = ran-work trace finished once; silent = silent })
 
 -- a run of which memory ran out, or that broke off, had begun
 pub broke-began : (asked : WorkOrRefusal) (fault : RunFault) (trace : List Event) → IsOkAnd asked (BrokeOff fault trace) → Began trace asked

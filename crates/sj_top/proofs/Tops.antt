@@ -5,7 +5,7 @@ use Rattle.std.specs.Io.KnownBytes.{Appends, IsAtEnd}
 use Rattle.sj_base.specs.declared.trace.Event.{Event}
 use Rattle.sj_disk.specs.Holding.{CountsStay}
 use Rattle.sj_edge.specs.declared.disk.Disk.{Ghosts as DiskOf}
-use Rattle.sj_engine.specs.Outcome.{AllTell, HoldBlocks}
+use Rattle.sj_engine.specs.Outcome.{AllDisksTell, HoldBlocks}
 use Rattle.sj_meaning.specs.Job.{Job}
 use Rattle.sj_job.specs.Reading.{Refusal}
 use Rattle.sj_lower.specs.Limits.{late_limit}
@@ -23,10 +23,10 @@ use Rattle.sj_top.specs.declared.status.Status.{Status}
 use Rattle.sj_top.specs.declared.status.Status.TheVariants.{Done, Usage, Refused, TooLarge, SwapTooSmall, DiskFault, Damaged, SourceFault, SinkFault, OutOfMemory}
 use Rattle.sj_top.specs.declared.stop.Stop.{Stop}
 use Rattle.sj_top.specs.declared.stop.Stop.TheVariants as stops
-use Rattle.sj_top.specs.Answers.{AnsweredText, BrokeOff, IsTextOf, IsWritten, LeavesDisks, StopsWith, WritesText, status_of_stop}
+use Rattle.sj_top.specs.Answers.{AnsweredText, BrokeOff, IsAnswerText, IsWritten, LeavesDisks, StopsWith, WritesText, status_of_stop}
 use Rattle.sj_top.specs.Device.{Device, Devices}
 use Rattle.sj_top.specs.Streams.{IsRead, TakesPrefix}
-use Rattle.sj_top.specs.Top.{HasCause, IsSilent, MemoryRanOut, PrintsNothing, RunBrokeOff, RunIsWhole, TakesText, answer_text}
+use Rattle.sj_top.specs.Top.{StatusHasCause, IsSilent, MemoryRanOut, PrintsNothing, RunBrokeOff, RunIsWhole, TakesText, answer_text}
 use Rattle.sj_top.specs.Traces.{Began, BeganAsked, BeganWork, RanWhole}
 use Rattle.sj_top.specs.Work.{Asked, Unaccepted, Untold, Told, IfAsked, IfTold, IsToldAnd, told}
 use Rattle.sj_top.proofs.Shown.{broke-began}
@@ -123,9 +123,9 @@ module _ (o : Options) (sizes : List ℕ) (jobs : Option (Result Job Refusal)) (
     holds : (P : Work → Type 0) → IsOkAnd work P → IfTold asked P
     holds P h = told-of (λ w. IsOkAnd w P) h
 
-    whole : (Takes : List ℕ → Type 0) → IsOkAnd work (IsWritten (AllTell disk.held before.disks) Takes trace) → CountsStay disk.faults disk.mismatches before.disks after.disks → (AllTell disk.held before.disks → IsOkAnd work (λ w. HoldBlocks disk.held (program_of w) w.machine trace after.disks)) → RunIsWhole asked before after trace
+    whole : (Takes : List ℕ → Type 0) → IsOkAnd work (IsWritten (AllDisksTell disk.held before.disks) Takes trace) → CountsStay disk.faults disk.mismatches before.disks after.disks → (AllDisksTell disk.held before.disks → IsOkAnd work (λ w. HoldBlocks disk.held (program_of w) w.machine trace after.disks)) → RunIsWhole asked before after trace
     whole Takes h stay blocks =
-        let W = IsWritten (AllTell disk.held before.disks) Takes trace in
+        let W = IsWritten (AllDisksTell disk.held before.disks) Takes trace in
         record {
           had_room = holds HasRoom (of-work W HasRoom (λ w is. is.had_room) work h);
           each_task_ran_once = holds (RanWhole trace) (of-work W (RanWhole trace) (λ w is. is.ran) work h);
@@ -148,10 +148,10 @@ module _ (o : Options) (sizes : List ℕ) (jobs : Option (Result Job Refusal)) (
         by_jobs None s = tt
         by_jobs (Some whole) s = subst (Began trace) (sym (ap (asked_by o sizes) s)) h
 
-    pub caused-by : (status : Status) → AnsweredText work (AllTell disk.held before.disks) status before.out after.out trace → LeavesDisks disk work status trace before.disks after.disks → HasCause asked before after trace status
+    pub caused-by : (status : Status) → AnsweredText work (AllDisksTell disk.held before.disks) status before.out after.out trace → LeavesDisks disk work status trace before.disks after.disks → StatusHasCause asked before after trace status
     caused-by Done a d = record {
       run = whole (Appends before.out.bytes after.out.bytes) a.0 (d.counts_stay tt) (d.blocks tt);
-      read_to_the_end = end (job-ok o sizes job (ok-of (IsWritten (AllTell disk.held before.disks) (Appends before.out.bytes after.out.bytes) trace) work a.0));
+      read_to_the_end = end (job-ok o sizes job (ok-of (IsWritten (AllDisksTell disk.held before.disks) (Appends before.out.bytes after.out.bytes) trace) work a.0));
       out_never_failed = a.1;
     }
     caused-by Usage a d = absurd a
@@ -185,7 +185,7 @@ unread-memory asked before after trace e same = record { began = by_asked asked;
 
 -- ---- what was written
 
-pub text-answered : (asked : WorkOrRefusal) (Tells : Type 0) (text : List ℕ) (trace : List Event) (status : Status) (out out' : Device) → IsOkAnd asked (IsTextOf Tells trace text) → WritesText text status out out' → AnsweredText asked Tells status out out' trace
+pub text-answered : (asked : WorkOrRefusal) (Tells : Type 0) (text : List ℕ) (trace : List Event) (status : Status) (out out' : Device) → IsOkAnd asked (IsAnswerText Tells trace text) → WritesText text status out out' → AnsweredText asked Tells status out out' trace
 text-answered (Ok w) Tells text trace Done out out' is written = (record { told = λ tells. subst (Appends out.bytes out'.bytes) (is.told tells) written.0; had_room = is.had_room; ran = is.ran }, written.1)
 text-answered (Ok w) Tells text trace SinkFault out out' is written = (record { told = λ tells. subst (TakesPrefix out.bytes out'.bytes) (is.told tells) written.0; had_room = is.had_room; ran = is.ran }, written.1)
 text-answered (Err e) Tells text trace status out out' is written = absurd is
@@ -210,7 +210,7 @@ stop-answered asked Tells (stops.Broken running.OutOfMemory) trace out h = broke
 stop-answered asked Tells stops.OutOfMemory trace out h = h
 
 -- where nothing is printed there is no text
-pub silent-text : (asked : WorkOrRefusal) (Tells : Type 0) (trace : List Event) (text : List ℕ) (status : Status) (out out' : Device) → IsOkAnd asked (IsTextOf Tells trace text) → WritesText text status out out' → IsSilent (Told asked) status → text ≡ []
+pub silent-text : (asked : WorkOrRefusal) (Tells : Type 0) (trace : List Event) (text : List ℕ) (status : Status) (out out' : Device) → IsOkAnd asked (IsAnswerText Tells trace text) → WritesText text status out out' → IsSilent (Told asked) status → text ≡ []
 silent-text (Ok w) Tells trace text Done out out' is written nothing = is.silent nothing
 silent-text (Ok w) Tells trace text SinkFault out out' is written nothing = is.silent nothing
 silent-text (Err e) Tells trace text status out out' is written nothing = absurd is

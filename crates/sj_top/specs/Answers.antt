@@ -7,7 +7,7 @@ use Rattle.sj_base.specs.declared.trace.Event.{Event}
 use Rattle.sj_disk.specs.declared.header.Header.{Header}
 use Rattle.sj_disk.specs.Holding.{CountsStay}
 use Rattle.sj_edge.specs.declared.disk.Disk.{Ghosts as DiskOf}
-use Rattle.sj_engine.specs.Outcome.{AllTell, HoldBlocks, WantsLastWritten}
+use Rattle.sj_engine.specs.Outcome.{AllDisksTell, HoldBlocks, WantsLastWritten}
 use Rattle.sj_machine.specs.declared.fault.RunFault.{RunFault}
 use Rattle.sj_machine.specs.declared.fault.RunFault.TheVariants as running
 use Rattle.sj_needs.specs.declared.shortage.Shortage.{Shortage}
@@ -68,7 +68,7 @@ StopsWith asked stop.OutOfMemory trace = Began trace asked
 
 -- the text is the work's, where all disks tell; whether they do or not there was room, the trace is whole, and where nothing is
 -- printed there is no text
-pub record IsTextOf (Tells : Type 0) (trace : List Event) (text : List ℕ) (w : Work) : Type 0 where
+pub record IsAnswerText (Tells : Type 0) (trace : List Event) (text : List ℕ) (w : Work) : Type 0 where
   pub told : Tells → text ≡ answer_text trace w
   pub had_room : HasRoom w
   pub ran : RanWhole trace w
@@ -76,7 +76,7 @@ pub record IsTextOf (Tells : Type 0) (trace : List Event) (text : List ℕ) (w :
 
 -- a run gives the text to write and a whole trace, or the reason why there is none
 abbrev pub RunsWork : WorkOrRefusal → Type 0 → Result (Vec ℕ Global) Stop → List Event → Type 0
-RunsWork asked Tells (Ok text) trace = IsOkAnd asked (IsTextOf Tells trace text.items)
+RunsWork asked Tells (Ok text) trace = IsOkAnd asked (IsAnswerText Tells trace text.items)
 RunsWork asked Tells (Err why) trace = StopsWith asked why trace
 
 -- ---- the disks
@@ -97,9 +97,9 @@ pub record IsDamage (Tells : Type 0) (disk : DiskNo) (want found : Header) (mism
 pub record LeavesDisks {D : Type 0} (disk : DiskOf D) (asked : WorkOrRefusal) (ended : Status) (trace : List Event) (old new : List D) : Type 0 where
   pub come_back : ComeBack disk old new ended
   pub counts_stay : IsBehindTheRun ended → CountsStay disk.faults disk.mismatches old new
-  pub blocks : IsBehindTheRun ended → AllTell disk.held old → IsOkAnd asked (λ w. HoldBlocks disk.held (program_of w) w.machine trace new)
+  pub blocks : IsBehindTheRun ended → AllDisksTell disk.held old → IsOkAnd asked (λ w. HoldBlocks disk.held (program_of w) w.machine trace new)
   pub fault : (number : DiskNo) → ended ≡ status.DiskFault number → RoseAt number.0 (map disk.faults old) (map disk.faults new)
-  pub damage : (number : DiskNo) (want found : Header) → ended ≡ status.Damaged number want found → IsDamage (AllTell disk.held old) number want found (map disk.mismatches old) (map disk.mismatches new)
+  pub damage : (number : DiskNo) (want found : Header) → ended ≡ status.Damaged number want found → IsDamage (AllDisksTell disk.held old) number want found (map disk.mismatches old) (map disk.mismatches new)
 
 -- ---- the answer to a text
 

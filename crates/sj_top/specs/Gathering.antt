@@ -24,16 +24,16 @@ pub record HandedOver (p : Program) (pairs : List (Task × Array)) : Type 0 wher
   pub every : All (λ d. Contains (map (λ pair. pair.0) pairs) d.task) p.deliveries
 
 -- a table has at a task's number the place of a pair of the task
-abbrev pub Finds : List ℕ → List (Task × Array) → Task → Type 0
-Finds places pairs t =
+abbrev pub FindsPair : List ℕ → List (Task × Array) → Task → Type 0
+FindsPair places pairs t =
     (t.0 < length places) × (slice_get (map (λ pair. pair.0) pairs) (slice_index_or places t.0 0) ≡ Some t)
 
 -- the same of each task that handed something over
 abbrev pub IsIndex : List ℕ → List (Task × Array) → Type 0
-IsIndex places pairs = All (λ pair. Finds places pairs pair.0) pairs
+IsIndex places pairs = All (λ pair. FindsPair places pairs pair.0) pairs
 
 -- what the tasks of a program handed over, and a table that finds it
-pub record Handed : Type 0 where
+pub record HandedArrays : Type 0 where
   pub program : Program
   pub places : List ℕ
   pub pairs : List (Task × Array)
@@ -42,7 +42,7 @@ abbrev pub no_array : Array
 no_array = zeros (record { rows = 0; cols = 0 })
 
 -- the array that the table finds for a task
-abbrev pub array_found : Handed → Task → Array
+abbrev pub array_found : HandedArrays → Task → Array
 array_found h t = elim (slice_get h.pairs (slice_index_or h.places t.0 0)) [ None ↦ no_array | Some pair ↦ pair.1 ]
 
 -- the rectangle of a delivery's array of these dimensions
@@ -61,14 +61,14 @@ abbrev pub no_delivery : Delivery
 no_delivery = record { task = record { 0 = 0 }; root = record { 0 = 0 }; place = (0, 0); print = 0 }
 
 -- the root of the deliveries of a print statement
-abbrev pub root_of : List Delivery → Root
-root_of ds = (slice_index_or ds 0 no_delivery).root
+abbrev pub delivered_root : List Delivery → Root
+delivered_root ds = (slice_index_or ds 0 no_delivery).root
 
 -- what the deliveries of a print statement show, where tasks handed these arrays over
 abbrev pub shown : Table → (Task → Array) → List Delivery → Printed
 shown T arrays ds =
-    let info = info_of T (root_of ds) in
-    record { name = name_of T (root_of ds); kind = info.kind; array = assembled arrays info.dims ds }
+    let info = info_of T (delivered_root ds) in
+    record { name = name_of T (delivered_root ds); kind = info.kind; array = assembled arrays info.dims ds }
 
 -- how many print statements there are deliveries of
 abbrev pub prints_of : Program → ℕ
@@ -81,8 +81,8 @@ all_shown T arrays p = map (λ k. shown T arrays (deliveries_for p k)) (range_wi
 -- there are deliveries, which lie in their root
 pub record IsShown (T : Table) (arrays : Task → Array) (ds : List Delivery) : Type 0 where
   pub some : 0 < length ds
-  pub rooted : (root_of ds).0 < length T.names
-  pub within : All (λ d. Within (part_by arrays d).0 (info_of T (root_of ds)).dims) ds
+  pub rooted : (delivered_root ds).0 < length T.names
+  pub within : All (λ d. Within (part_by arrays d).0 (info_of T (delivered_root ds)).dims) ds
 
 -- the deliveries of a print statement stand together, and each statement has some
 pub record AreGrouped (T : Table) (p : Program) : Type 0 where

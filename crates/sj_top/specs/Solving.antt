@@ -4,7 +4,7 @@ use Rattle.std.specs.Io.KnownBytes.{Appends}
 use Rattle.sj_apps.specs.Solution.{IsSolution}
 use Rattle.sj_base.specs.declared.trace.Event.{Event}
 use Rattle.sj_edge.specs.declared.disk.Disk.{Ghosts as DiskOf}
-use Rattle.sj_engine.specs.Outcome.{AllTell}
+use Rattle.sj_engine.specs.Outcome.{AllDisksTell}
 use Rattle.sj_meaning.specs.Meaning.{Printed}
 use Rattle.sj_trace.specs.Text.{text_of as text_of_trace}
 use Rattle.sj_words.specs.Options.{options}
@@ -26,4 +26,4 @@ TakesAnswer (Some o) _ out out' trace = Unit {0}
 -- the same by the words of a command line, where all disks tell
 abbrev pub Solves : {D : Type 0} → {disk : DiskOf D} → List Text → Devices disk → Devices disk → Status → List Event → Type 0
 Solves {D} {disk} words before after status trace =
-    AllTell disk.held before.disks → TakesAnswer (options words) status before.out after.out trace
+    AllDisksTell disk.held before.disks → TakesAnswer (options words) status before.out after.out trace

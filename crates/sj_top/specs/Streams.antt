@@ -16,6 +16,6 @@ pub record IsRead (source source' : Device) : Type 0 where
   pub never_failed : source'.faults ≡ source.faults
 
 -- a call of the source failed
-abbrev pub is_fault : {T : Type 0} → Result T Unread → Bool
-is_fault (Err Fault) = true
-is_fault _ = false
+abbrev pub is_source_fault : {T : Type 0} → Result T Unread → Bool
+is_source_fault (Err Fault) = true
+is_source_fault _ = false

@@ -8,7 +8,7 @@ use Rattle.sj_disk.specs.declared.header.Header.{Header}
 use Rattle.sj_disk.specs.Holding.{CountsStay}
 use Rattle.sj_edge.specs.declared.disk.Disk.{Ghosts as DiskOf}
 use Rattle.sj_edge.specs.GivenBack.{AreGivenBack, AreUntouched}
-use Rattle.sj_engine.specs.Outcome.{AllTell, HoldBlocks}
+use Rattle.sj_engine.specs.Outcome.{AllDisksTell, HoldBlocks}
 use Rattle.sj_job.specs.declared.reason.Reason.{Reason}
 use Rattle.sj_machine.specs.Headers.{IsLastWritten}
 use Rattle.sj_core.specs.Legal.{state_of}
@@ -55,7 +55,7 @@ module _ {D : Type 0} {disk : DiskOf D} (asked : Asked) (before after : Devices 
     pub had_room : IfTold asked HasRoom
     pub each_task_ran_once : IfTold asked (RanWhole trace)
     pub no_disk_failed : CountsStay disk.faults disk.mismatches before.disks after.disks
-    pub blocks : AllTell disk.held before.disks → IfTold asked (λ w. HoldBlocks disk.held (program_of w) w.machine trace after.disks)
+    pub blocks : AllDisksTell disk.held before.disks → IfTold asked (λ w. HoldBlocks disk.held (program_of w) w.machine trace after.disks)
     pub read : IsRead before.source after.source
 
   -- the run broke off: there was room, and its events begin a legal run
@@ -106,7 +106,7 @@ module _ {D : Type 0} {disk : DiskOf D} (asked : Asked) (before after : Devices 
     pub cause : RoseAt number.0 (map disk.mismatches before.disks) (map disk.mismatches after.disks)
     pub other_header : want ≢ found
     pub last_written : IfTold asked (λ w. IsLastWritten (program_of w) (state_of (program_of w) w.machine trace) number want)
-    pub untold : ¬ AllTell disk.held before.disks
+    pub untold : ¬ AllDisksTell disk.held before.disks
     pub run : RunBrokeOff
 
   -- exactly one call of the source failed
@@ -125,17 +125,17 @@ module _ {D : Type 0} {disk : DiskOf D} (asked : Asked) (before after : Devices 
     pub source_never_failed : after.source.faults ≡ before.source.faults
 
   -- a call that ended so had this cause
-  abbrev pub HasCause : Status → Type 0
-  HasCause Done = JobIsDone
-  HasCause Usage = WordsAreUnaccepted
-  HasCause (Refused line reason) = JobIsRefused line reason
-  HasCause (TooLarge line bytes) = JobIsTooLarge line bytes
-  HasCause (SwapTooSmall needed have) = SwapIsTooSmall needed have
-  HasCause (DiskFault number) = DiskHasFailed number
-  HasCause (Damaged number want found) = DiskIsDamaged number want found
-  HasCause SourceFault = SourceHasFailed
-  HasCause SinkFault = SinkHasFailed
-  HasCause OutOfMemory = MemoryRanOut
+  abbrev pub StatusHasCause : Status → Type 0
+  StatusHasCause Done = JobIsDone
+  StatusHasCause Usage = WordsAreUnaccepted
+  StatusHasCause (Refused line reason) = JobIsRefused line reason
+  StatusHasCause (TooLarge line bytes) = JobIsTooLarge line bytes
+  StatusHasCause (SwapTooSmall needed have) = SwapIsTooSmall needed have
+  StatusHasCause (DiskFault number) = DiskHasFailed number
+  StatusHasCause (Damaged number want found) = DiskIsDamaged number want found
+  StatusHasCause SourceFault = SourceHasFailed
+  StatusHasCause SinkFault = SinkHasFailed
+  StatusHasCause OutOfMemory = MemoryRanOut
 
 -- ---- which status comes
 
@@ -207,11 +207,11 @@ module _ {D : Type 0} {disk : DiskOf D} (words : List Text) (before : Devices di
 
   -- where all disks tell, the sink took the text of what the job says
   abbrev pub Prints : Devices disk → Status → List Event → Type 0
-  Prints after status trace = AllTell disk.held before.disks → TakesText (work_said words before) status before.out after.out trace
+  Prints after status trace = AllDisksTell disk.held before.disks → TakesText (work_said words before) status before.out after.out trace
 
   -- the status has its cause, in what is asked for or in a device that is used
   abbrev pub Answers : Devices disk → Status → List Event → Type 0
-  Answers after status trace = HasCause (asked_of words before) (in_use asks_for_a_job before) (in_use asks_for_a_job after) trace status
+  Answers after status trace = StatusHasCause (asked_of words before) (in_use asks_for_a_job before) (in_use asks_for_a_job after) trace status
 
   -- the status that is due comes, unless memory runs out
   abbrev pub WhatIsDueComes : Devices disk → Status → Type 0

@@ -30,9 +30,9 @@ struct ByTask<'a> {
 }
 
 impl<'a> Model for ByTask<'a> {
-    ghost use Rattle.sj_top.specs.Gathering.{Handed, HandedOver, IsIndex};
+    ghost use Rattle.sj_top.specs.Gathering.{HandedArrays, HandedOver, IsIndex};
 
-    ghost Value = { Handed };
+    ghost Value = { HandedArrays };
 
     ghost view = { λ b. record { program = b.program.now; places = b.places.items; pairs = b.delivered.now.pairs } };
 

@@ -3,9 +3,9 @@
 ghost use Rattle.std.specs.Prelude.{◌≡◌, ◌≤◌, ◌^◌, ◌++◌, [], Err, IfOk, length, map, if◌then◌else◌};
 ghost use Rattle.sj_edge.specs.Sizes.{AreWithin};
 ghost use Rattle.sj_trace.specs.Text.{text_of as text_of_trace};
-ghost use Rattle.sj_words.specs.Options.{IsWithinLimits as AreLimited};
+ghost use Rattle.sj_words.specs.Options.{OptionsAreInRange};
 ghost use Rattle.sj_top.specs.Answers.{LeavesDisks, RunsWork, status_of};
-ghost use Rattle.sj_engine.specs.Outcome.{AllTell};
+ghost use Rattle.sj_engine.specs.Outcome.{AllDisksTell};
 ghost use Rattle.sj_top.specs.Gathering.{AreGrouped, HandedOver, ShowsRun};
 ghost use Rattle.sj_ready.specs.Input.{work_in, HasJob};
 ghost use Rattle.sj_ready.specs.Ready.{HasOwnCodelets, IsReady};
@@ -24,7 +24,7 @@ use sj_engine::engine::{RunOutcome, run};
 use sj_machine::delivered::Delivered;
 use sj_meaning::roots::Roots;
 use sj_ready::input::Input;
-use sj_ready::ready::{Ready, prepare};
+use sj_ready::ready::{ReadyJob, ready_job};
 use sj_trace::text::text as text_of_trace;
 use sj_words::Options;
 use std::alloc::Global;
@@ -86,7 +86,7 @@ fn shown(
 fn run_ready<C: Codelets, G: Gate, D: Disk + Send, R: Threads + Wait + Sync>(
     rt: &R,
     alloc: Global,
-    ready: Ready,
+    ready: ReadyJob,
     disks: Vec<D>,
     codelets: &C,
     gate: &G,
@@ -94,13 +94,13 @@ fn run_ready<C: Codelets, G: Gate, D: Disk + Send, R: Threads + Wait + Sync>(
     requires ready { (asked : WorkOrRefusal) × IsReady C.has asked ready }
     requires disks { ready.machine.disks ≡ map D.size disks.items }
     ensures runs { (asked : WorkOrRefusal) → IsReady C.has asked ready →
-        RunsWork asked (AllTell D.held disks.items) result.text result.trace.events }
+        RunsWork asked (AllDisksTell D.held disks.items) result.text result.trace.events }
     ensures disks { (asked : WorkOrRefusal) → IsReady C.has asked ready →
         LeavesDisks D.Disk asked (status_of result.text)
         result.trace.events disks.items result.disks.items }
 {
     finishes();
-    let Ready {
+    let ReadyJob {
         program,
         roots,
         machine,
@@ -158,11 +158,11 @@ pub fn run_input<C: Codelets, G: Gate, D: Disk + Send, R: Threads + Wait + Sync>
 ) -> Run<D>
     requires own { HasOwnCodelets C.has }
     requires input { HasJob C.has input }
-    requires options { AreLimited options.now }
+    requires options { OptionsAreInRange options.now }
     requires few { length disks.items ≤ 16 }
     requires small { AreWithin D.size (2 ^ 40) disks.items }
     ensures runs { RunsWork (work_in C.has options.now (map D.size disks.items) input)
-        (AllTell D.held disks.items) result.text result.trace.events }
+        (AllDisksTell D.held disks.items) result.text result.trace.events }
     ensures disks { LeavesDisks D.Disk
         (work_in C.has options.now (map D.size disks.items) input)
         (status_of result.text) result.trace.events disks.items result.disks.items }
@@ -170,7 +170,7 @@ pub fn run_input<C: Codelets, G: Gate, D: Disk + Send, R: Threads + Wait + Sync>
     let Ok(sizes) = sizes_of(alloc, &disks) else {
         return nothing_run(alloc, Stop::OutOfMemory, disks);
     };
-    match prepare(alloc, input, options, sizes, codelets) {
+    match ready_job(alloc, input, options, sizes, codelets) {
         Ok(ready) => run_ready(rt, alloc, ready, disks, codelets, gate),
         Err(unready) => nothing_run(alloc, Stop::Unready(unready), disks),
     }

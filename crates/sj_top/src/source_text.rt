@@ -7,7 +7,7 @@ ghost use Rattle.sj_codelet.specs.declared.kernel.Kernel.{Kernel};
 ghost use Rattle.sj_job.specs.Reading.{job_of};
 ghost use Rattle.sj_top.specs.declared.source_text.Unread.TheVariants.{Fault};
 ghost use Rattle.sj_top.specs.Device.{seen};
-ghost use Rattle.sj_top.specs.Streams.{IsRead, is_fault};
+ghost use Rattle.sj_top.specs.Streams.{IsRead, is_source_fault};
 
 use sj_base::memory::OutOfMemory;
 use sj_edge::source::Source;
@@ -53,7 +53,8 @@ fn take_piece<S: Source>(
         × Consumes (S.left source.old) (S.left source.new) (take n piece.new)) }
     ensures end { IfOk result (λ n. n ≡ 0 → 0 < length piece.new → IsAtEnd (S.left source.new)) }
     ensures counts { Counts (S.faults source.old) (S.faults source.new) (result ≡ Err Fault) }
-    ensures rises_by_one { S.faults source.new ≡ counted (S.faults source.old) (is_fault result) }
+    ensures rises_by_one { S.faults source.new
+        ≡ counted (S.faults source.old) (is_source_fault result) }
 {
     match source.read(piece) {
         Ok(n) => {
@@ -72,7 +73,8 @@ pub fn read_source<S: Source>(alloc: Global, source: &mut S) -> Result<Vec<u8>, 
     ensures job { IfOk result (λ text. (has : Kernel → Bool) →
         IfSome (S.left source.old) (λ whole. job_of has whole ≡ job_of has text.items)) }
     ensures counts { Counts (S.faults source.old) (S.faults source.new) (result ≡ Err Fault) }
-    ensures rises_by_one { S.faults source.new ≡ counted (S.faults source.old) (is_fault result) }
+    ensures rises_by_one { S.faults source.new
+        ≡ counted (S.faults source.old) (is_source_fault result) }
 {
     read_pieces(alloc, source)
 }
@@ -84,7 +86,8 @@ fn read_pieces<S: Source>(alloc: Global, source: &mut S) -> Result<Vec<u8>, Unre
         (λ text. Consumes (S.left source.old) (S.left source.new) text.items) }
     ensures end { IfOk result (λ text. length text.items ≤ TEXT → IsAtEnd (S.left source.new)) }
     ensures counts { Counts (S.faults source.old) (S.faults source.new) (result ≡ Err Fault) }
-    ensures rises_by_one { S.faults source.new ≡ counted (S.faults source.old) (is_fault result) }
+    ensures rises_by_one { S.faults source.new
+        ≡ counted (S.faults source.old) (is_source_fault result) }
 {
     let mut text = Vec::new(alloc);
     let mut piece = zeroed(alloc, PIECE)?;

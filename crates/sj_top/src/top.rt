@@ -2,18 +2,18 @@
 
 ghost use Rattle.std.specs.Prelude.{◌≡◌, ◌≤◌, ◌^◌, [], false, Some, length, map, option_map};
 ghost use Rattle.sj_edge.specs.Sizes.{AreWithin};
-ghost use Rattle.sj_engine.specs.Outcome.{AllTell};
+ghost use Rattle.sj_engine.specs.Outcome.{AllDisksTell};
 ghost use Rattle.sj_job.specs.Reading.{job_of};
 ghost use Rattle.sj_ready.specs.Input.{work_in, HasJob};
 ghost use Rattle.sj_ready.specs.Ready.{HasOwnCodelets};
 ghost use Rattle.sj_ready.specs.Work.{asked_by, said_by};
-ghost use Rattle.sj_words.specs.Options.{IsWithinLimits as AreLimited, options as options_of};
+ghost use Rattle.sj_words.specs.Options.{OptionsAreInRange, options as options_of};
 ghost use Rattle.sj_words.specs.Spelling.{texts};
 ghost use Rattle.sj_top.specs.Answers.{AnsweredText, LeavesDisks, WritesText};
 ghost use Rattle.sj_top.specs.Device.{devices, in_use, seen};
 ghost use Rattle.sj_top.specs.Report.{status_line, TakesLine};
 ghost use Rattle.sj_top.specs.Solving.{Solves, TakesAnswer};
-ghost use Rattle.sj_top.specs.Top.{Answers, ComeBack, WhatIsDueComes, HasCause, IsNotRefused, IsSilent, Prints, TakesText, WritesNothing};
+ghost use Rattle.sj_top.specs.Top.{Answers, ComeBack, WhatIsDueComes, StatusHasCause, IsNotRefused, IsSilent, Prints, TakesText, WritesNothing};
 ghost use Rattle.sj_top.specs.Work.{asked_through, reads_source, told, Told};
 
 use crate::report::report;
@@ -70,12 +70,12 @@ fn answer_input<O: Sink, C: Codelets, G: Gate, D: Disk + Send, R: Threads + Wait
 ) -> Outcome<D>
     requires own { HasOwnCodelets C.has }
     requires input { HasJob C.has input }
-    requires options { AreLimited options.now }
+    requires options { OptionsAreInRange options.now }
     requires few { length disks.items ≤ 16 }
     requires small { AreWithin D.size (2 ^ 40) disks.items }
     ensures answered { AnsweredText
         (work_in C.has options.now (map D.size disks.items) input)
-        (AllTell D.held disks.items) result.status
+        (AllDisksTell D.held disks.items) result.status
         (seen O.taken O.faults out.old) (seen O.taken O.faults out.new) result.trace.events }
     ensures disks { LeavesDisks D.Disk
         (work_in C.has options.now (map D.size disks.items) input)
@@ -131,15 +131,15 @@ where
     D: Disk + Send,
     R: Threads + Wait + Sync,
     requires own { HasOwnCodelets C.has }
-    requires options { AreLimited options.now }
+    requires options { OptionsAreInRange options.now }
     requires few { length disks.items ≤ 16 }
     requires small { AreWithin D.size (2 ^ 40) disks.items }
-    ensures printed { AllTell D.held disks.items → TakesText
+    ensures printed { AllDisksTell D.held disks.items → TakesText
         (told (option_map (said_by options.now (map D.size disks.items))
         (option_map (job_of C.has) (S.left source.old))))
         result.status (seen O.taken O.faults out.old) (seen O.taken O.faults out.new)
         result.trace.events }
-    ensures answered { HasCause
+    ensures answered { StatusHasCause
         (told (option_map (asked_by options.now (map D.size disks.items))
         (option_map (job_of C.has) (S.left source.old))))
         (devices S.Source O.Sink D.Disk source.old out.old disks.items)
@@ -183,15 +183,15 @@ where
     G: Gate,
     D: Disk + Send,
     R: Threads + Wait + Sync,
-    requires options { AreLimited options.now }
+    requires options { OptionsAreInRange options.now }
     requires few { length disks.items ≤ 16 }
     requires small { AreWithin D.size (2 ^ 40) disks.items }
-    ensures printed { AllTell D.held disks.items → TakesText
+    ensures printed { AllDisksTell D.held disks.items → TakesText
         (asked_through (λ o. said_by o (map D.size disks.items)) (Some options.now)
         (S.left source.old))
         result.status (seen O.taken O.faults out.old) (seen O.taken O.faults out.new)
         result.trace.events }
-    ensures answered { HasCause
+    ensures answered { StatusHasCause
         (asked_through (λ o. asked_by o (map D.size disks.items)) (Some options.now)
         (S.left source.old))
         (in_use (reads_source (Some options.now))
@@ -199,7 +199,7 @@ where
         (in_use (reads_source (Some options.now))
         (devices S.Source O.Sink D.Disk source.new out.new result.disks.items))
         result.trace.events result.status }
-    ensures solved { AllTell D.held disks.items → TakesAnswer (Some options.now)
+    ensures solved { AllDisksTell D.held disks.items → TakesAnswer (Some options.now)
         result.status (seen O.taken O.faults out.old) (seen O.taken O.faults out.new)
         result.trace.events }
     ensures reads_nothing { reads_source (Some options.now) ≡ false → source.new ≡ source.old }

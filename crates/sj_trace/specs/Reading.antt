@@ -15,9 +15,9 @@ use Rattle.sj_trace.specs.declared.read.TraceRefusal.TheVariants.{BadLine, OutOf
 use Rattle.sj_trace.specs.Text.{word, place_word, task_words, transfer_words, drop_words, whole_lines, line_of, text_of}
 
 -- a value whose numbers fit and with whose text another begins, and what stands behind that; none where no such value's begins it
-abbrev pub IsTaken : {A : Type 0} → (A → Type 0) → (A → List ℕ) → List ℕ → Option (A × Bor (List ℕ)) → Type 0
-IsTaken {A} Fits write text None = (a : A) (rest : List ℕ) → Fits a → write a ++ rest ≢ text
-IsTaken Fits write text (Some (a, rest)) = Fits a × (write a ++ rest.now ≡ text)
+abbrev pub IsParsed : {A : Type 0} → (A → Type 0) → (A → List ℕ) → List ℕ → Option (A × Bor (List ℕ)) → Type 0
+IsParsed {A} Fits write text None = (a : A) (rest : List ℕ) → Fits a → write a ++ rest ≢ text
+IsParsed Fits write text (Some (a, rest)) = Fits a × (write a ++ rest.now ≡ text)
 
 -- a word and the byte that ends it
 abbrev pub ended_word : List ℕ → ℕ → ℕ → List ℕ
@@ -81,6 +81,6 @@ pub record IsFirstBadLine (text : List ℕ) (number : ℕ) : Type 0 where
   pub bad : (e : Event) → EventFits e → line_of e ≢ line
 
 -- a text is refused at its first bad line, or memory ran out
-abbrev pub IsRefusal : TraceRefusal → List ℕ → Type 0
-IsRefusal OutOfMemory text = Unit {0}
-IsRefusal (BadLine line) text = IsFirstBadLine text line.0
+abbrev pub IsTraceRefusal : TraceRefusal → List ℕ → Type 0
+IsTraceRefusal OutOfMemory text = Unit {0}
+IsTraceRefusal (BadLine line) text = IsFirstBadLine text line.0

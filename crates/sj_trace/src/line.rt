@@ -2,7 +2,7 @@
 
 ghost use Rattle.std.specs.Prelude.{◌≡◌, ◌≢◌, ◌++◌, ℕ, List, MatchOption};
 ghost use Rattle.sj_trace.specs.Text.{line_of};
-ghost use Rattle.sj_trace.specs.Reading.{IsTaken, EventFits, TaskFits, TransferFits, DropFits, task_line, transfer_line, drop_line};
+ghost use Rattle.sj_trace.specs.Reading.{IsParsed, EventFits, TaskFits, TransferFits, DropFits, task_line, transfer_line, drop_line};
 
 use crate::word::{cell, node, place, task, worker};
 use sj_base::ids::{Cell, Node, Place, Task, Worker};
@@ -18,7 +18,7 @@ fn behind<'a>(text: &'a [u8], front: &[u8]) -> Option<&'a [u8]>
 
 /// A task and a worker, and what stands behind their line. Linear in their words.
 fn task_and_worker(text: &[u8]) -> Option<((Task, Worker), &[u8])>
-    ensures { IsTaken TaskFits task_line text.now result }
+    ensures { IsParsed TaskFits task_line text.now result }
 {
     let (task, rest) = task(text)?;
     let (worker, rest) = worker(rest)?;
@@ -27,7 +27,7 @@ fn task_and_worker(text: &[u8]) -> Option<((Task, Worker), &[u8])>
 
 /// A cell and the places of its transfer, and what stands behind their line. Linear in their words.
 fn transfer(text: &[u8]) -> Option<((Cell, Place, Place), &[u8])>
-    ensures { IsTaken TransferFits transfer_line text.now result }
+    ensures { IsParsed TransferFits transfer_line text.now result }
 {
     let (cell, rest) = cell(text)?;
     let (from, rest) = place(rest, b' ')?;
@@ -37,7 +37,7 @@ fn transfer(text: &[u8]) -> Option<((Cell, Place, Place), &[u8])>
 
 /// A cell and the node that drops it, and what stands behind their line. Linear in their words.
 fn cell_and_node(text: &[u8]) -> Option<((Cell, Node), &[u8])>
-    ensures { IsTaken DropFits drop_line text.now result }
+    ensures { IsParsed DropFits drop_line text.now result }
 {
     let (cell, rest) = cell(text)?;
     let (node, rest) = node(rest, b'\n')?;
@@ -47,7 +47,7 @@ fn cell_and_node(text: &[u8]) -> Option<((Cell, Node), &[u8])>
 /// The event whose line a text begins with, and what stands behind that; `None` where it begins with no event's. Linear in
 /// the line.
 pub fn first_event(text: &[u8]) -> Option<(Event, &[u8])>
-    ensures { IsTaken EventFits line_of text.now result }
+    ensures { IsParsed EventFits line_of text.now result }
 {
     if let Some(words) = behind(text, b"claim ") {
         let ((task, worker), rest) = task_and_worker(words)?;

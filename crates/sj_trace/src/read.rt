@@ -4,7 +4,7 @@ ghost use Rattle.std.specs.Prelude.{◌≡◌, ◌<◌, ◌^◌, List, length, I
 ghost use Rattle.sj_base.specs.declared.trace.Event.{Event};
 ghost use Rattle.sj_trace.specs.declared.read.TraceRefusal.TheVariants.{OutOfMemory};
 ghost use Rattle.sj_trace.specs.Text.{whole_lines};
-ghost use Rattle.sj_trace.specs.Reading.{IsTextOf, IsRefusal};
+ghost use Rattle.sj_trace.specs.Reading.{IsTextOf, IsTraceRefusal};
 
 use crate::line::first_event;
 use sj_base::ids::Line;
@@ -39,7 +39,7 @@ impl From<memory::OutOfMemory> for TraceRefusal {
 pub fn read_trace(alloc: Global, text: &[u8]) -> Result<Trace, TraceRefusal>
     requires few_lines { length (whole_lines text.now) < 2 ^ 32 }
     ensures ok { IfOk result (λ trace. IsTextOf text.now trace.events) }
-    ensures bad_line { IfErr result (λ e. IsRefusal e text.now) }
+    ensures bad_line { IfErr result (λ e. IsTraceRefusal e text.now) }
     ensures reads_back { (events : List Event) → IsTextOf text.now events
         → IfOk result (λ trace. trace.events ≡ events) }
     ensures refuses_no_trace { (events : List Event) → IsTextOf text.now events

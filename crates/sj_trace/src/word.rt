@@ -2,7 +2,7 @@
 
 ghost use Rattle.std.specs.Prelude.{◌≡◌, ◌+◌, ◌*◌, ◌∷◌, ◌++◌, ◌<◌, ◌≤◌, ◌^◌, ◌⊎◌, [], MatchOption, codes, decimal};
 ghost use Rattle.std.specs.Option.{SomeIff};
-ghost use Rattle.sj_trace.specs.Reading.{IsTaken, PlaceFits, ended_word, ended_place};
+ghost use Rattle.sj_trace.specs.Reading.{IsParsed, PlaceFits, ended_word, ended_place};
 
 use sj_base::ids::{Cell, DiskNo, Node, Place, Task, Worker};
 
@@ -31,7 +31,7 @@ fn longer(number: u32, digit: u32) -> Option<u32>
 /// The number that a text begins with, where this byte ends it, and what stands behind that. Linear in its digits.
 fn number(text: &[u8], end: u8) -> Option<(u32, &[u8])>
     requires { end < 48 }
-    ensures { IsTaken (λ n. n < 2 ^ 32) (λ n. decimal n ++ end ∷ []) text.now result }
+    ensures { IsParsed (λ n. n < 2 ^ 32) (λ n. decimal n ++ end ∷ []) text.now result }
 {
     let (first, mut rest) = text.split_first()?;
     let mut number = digit(*first)?;
@@ -48,7 +48,7 @@ fn number(text: &[u8], end: u8) -> Option<(u32, &[u8])>
 /// The same behind a letter.
 fn number_behind(text: &[u8], letter: u8, end: u8) -> Option<(u32, &[u8])>
     requires { end < 48 }
-    ensures { IsTaken (λ n. n < 2 ^ 32) (ended_word (letter ∷ []) end) text.now result }
+    ensures { IsParsed (λ n. n < 2 ^ 32) (ended_word (letter ∷ []) end) text.now result }
 {
     let (first, rest) = text.split_first()?;
     if *first == letter {
@@ -61,7 +61,7 @@ fn number_behind(text: &[u8], letter: u8, end: u8) -> Option<(u32, &[u8])>
 /// The same of a byte.
 fn byte_behind(text: &[u8], letter: u8, end: u8) -> Option<(u8, &[u8])>
     requires { end < 48 }
-    ensures { IsTaken (λ n. n < 2 ^ 8) (ended_word (letter ∷ []) end) text.now result }
+    ensures { IsParsed (λ n. n < 2 ^ 8) (ended_word (letter ∷ []) end) text.now result }
 {
     let (number, rest) = number_behind(text, letter, end)?;
     if number < 256 {
@@ -73,7 +73,7 @@ fn byte_behind(text: &[u8], letter: u8, end: u8) -> Option<(u8, &[u8])>
 
 /// The task that the first word names, and what stands behind the space after it. Linear in the word.
 pub fn task(text: &[u8]) -> Option<(Task, &[u8])>
-    ensures { IsTaken (λ t. t.0 < 2 ^ 32) (λ t. ended_word (codes "t") 32 t.0) text.now result }
+    ensures { IsParsed (λ t. t.0 < 2 ^ 32) (λ t. ended_word (codes "t") 32 t.0) text.now result }
 {
     let (number, rest) = number_behind(text, b't', b' ')?;
     Some((Task(number), rest))
@@ -81,7 +81,7 @@ pub fn task(text: &[u8]) -> Option<(Task, &[u8])>
 
 /// The worker that the last word names, and what stands behind the line. Linear in the word.
 pub fn worker(text: &[u8]) -> Option<(Worker, &[u8])>
-    ensures { IsTaken (λ w. w.0 < 2 ^ 8) (λ w. ended_word (codes "w") 10 w.0) text.now result }
+    ensures { IsParsed (λ w. w.0 < 2 ^ 8) (λ w. ended_word (codes "w") 10 w.0) text.now result }
 {
     let (number, rest) = byte_behind(text, b'w', b'\n')?;
     Some((Worker(number), rest))
@@ -89,7 +89,7 @@ pub fn worker(text: &[u8]) -> Option<(Worker, &[u8])>
 
 /// The cell that the first word names, and what stands behind the space after it. Linear in the word.
 pub fn cell(text: &[u8]) -> Option<(Cell, &[u8])>
-    ensures { IsTaken (λ c. c.0 < 2 ^ 32) (λ c. ended_word (codes "c") 32 c.0) text.now result }
+    ensures { IsParsed (λ c. c.0 < 2 ^ 32) (λ c. ended_word (codes "c") 32 c.0) text.now result }
 {
     let (number, rest) = number_behind(text, b'c', b' ')?;
     Some((Cell(number), rest))
@@ -98,7 +98,7 @@ pub fn cell(text: &[u8]) -> Option<(Cell, &[u8])>
 /// The memory node that a word names, which this byte ends, and what stands behind that. Linear in the word.
 pub fn node(text: &[u8], end: u8) -> Option<(Node, &[u8])>
     requires { end < 48 }
-    ensures { IsTaken (λ n. n.0 < 2 ^ 8) (λ n. ended_word (codes "n") end n.0) text.now result }
+    ensures { IsParsed (λ n. n.0 < 2 ^ 8) (λ n. ended_word (codes "n") end n.0) text.now result }
 {
     let (number, rest) = byte_behind(text, b'n', end)?;
     Some((Node(number), rest))
@@ -107,7 +107,7 @@ pub fn node(text: &[u8], end: u8) -> Option<(Node, &[u8])>
 /// The same of a disk.
 fn disk(text: &[u8], end: u8) -> Option<(DiskNo, &[u8])>
     requires { end < 48 }
-    ensures { IsTaken (λ d. d.0 < 2 ^ 8) (λ d. ended_word (codes "d") end d.0) text.now result }
+    ensures { IsParsed (λ d. d.0 < 2 ^ 8) (λ d. ended_word (codes "d") end d.0) text.now result }
 {
     let (number, rest) = byte_behind(text, b'd', end)?;
     Some((DiskNo(number), rest))
@@ -116,7 +116,7 @@ fn disk(text: &[u8], end: u8) -> Option<(DiskNo, &[u8])>
 /// The place that a word names, which this byte ends, and what stands behind that. Linear in the word.
 pub fn place(text: &[u8], end: u8) -> Option<(Place, &[u8])>
     requires { end < 48 }
-    ensures { IsTaken PlaceFits (ended_place end) text.now result }
+    ensures { IsParsed PlaceFits (ended_place end) text.now result }
 {
     match node(text, end) {
         Some((node, rest)) => Some((Place::Node(node), rest)),

@@ -17,7 +17,7 @@ use Rattle.clap.specs.declared.parser.matches.ValueSource.TheVariants.{DefaultVa
 use Rattle.clap.specs.declared.parser.matches.Found.{Found}
 use Rattle.clap.proofs.OnLiterals.{clap_on_literals}
 use Rattle.clap.proofs.WalkLemmas.{first_value-rows, one_text-rows}
-use Rattle.sj_words.specs.Spelling.{Text, is_flag, is_option, is_value, is_equals, around_equals, after_dash, named, told_alone, with_next, first_then, or_else, names_said, stands_once, given}
+use Rattle.sj_words.specs.Spelling.{Text, is_flag, is_option, is_value, is_equals, around_equals, after_dash, named, told_alone, with_next, first_then, or_else, names_said, stands_once, value_given}
 use Rattle.sj_words.specs.Command.{the_app, HoldsGiven}
 
 pub the_app_is_simple : is_simple the_app ≡ true
@@ -415,8 +415,8 @@ both_else id rows trace summary =
 abbrev first_value_of : Option Row → Option Text
 first_value_of = option_and_then (λ (r : Row). slice_get r.values 0)
 
-value_step : (name : Text) (q : Text × Text) (ps : List (Text × Text)) (b : Bool) → bytes_eq q.0 name ≡ b → is_flag name ≡ false → first_value_of (found_at name (map pair_row ps)) ≡ given name ps
-    → first_value_of (found_at name (map pair_row (q ∷ ps))) ≡ given name (q ∷ ps)
+value_step : (name : Text) (q : Text × Text) (ps : List (Text × Text)) (b : Bool) → bytes_eq q.0 name ≡ b → is_flag name ≡ false → first_value_of (found_at name (map pair_row ps)) ≡ value_given name ps
+    → first_value_of (found_at name (map pair_row (q ∷ ps))) ≡ value_given name (q ∷ ps)
 value_step name q ps true is no_flag e =
     let same = (bytes_eq-Decides q.0 name).0 is in
     ap (λ b. first_value_of (cond b (Some (pair_row q)) (found_at name (map pair_row ps)))) is
@@ -426,7 +426,7 @@ value_step name q ps false is no_flag e =
     ap (λ b. first_value_of (cond b (Some (pair_row q)) (found_at name (map pair_row ps)))) is ∙ e
     ∙ ap (λ b. option_map (λ (p : Text × Text). p.1) (cond b (Some q) (find (λ p. bytes_eq p.0 name) ps))) (sym is)
 
-value_is : (name : Text) (ps : List (Text × Text)) → is_flag name ≡ false → first_value_of (found_at name (map pair_row ps)) ≡ given name ps
+value_is : (name : Text) (ps : List (Text × Text)) → is_flag name ≡ false → first_value_of (found_at name (map pair_row ps)) ≡ value_given name ps
 value_is name [] no_flag = refl
 value_is name (q ∷ ps) no_flag = value_step name q ps (bytes_eq q.0 name) refl no_flag (value_is name ps no_flag)
 
@@ -462,18 +462,18 @@ flag_text flag rows false same is =
     ∙ ap (λ b. text_of (cond b (Some (unset_row flag)) None)) same ∙ sym (ap flag_said none)
 
 -- a flag says whether it is given
-flag_given : (flag : Text) (ps : List (Text × Text)) → is_flag flag ≡ true → flag_said (found_at flag (map pair_row ps)) ≡ Some (if is_some (given flag ps) then codes "true" else codes "false")
+flag_given : (flag : Text) (ps : List (Text × Text)) → is_flag flag ≡ true → flag_said (found_at flag (map pair_row ps)) ≡ Some (if is_some (value_given flag ps) then codes "true" else codes "false")
 flag_given flag [] e = refl
 flag_given flag (q ∷ ps) e = go (bytes_eq q.0 flag) refl (flag_given flag ps e)
   where
-    go : (b : Bool) → bytes_eq q.0 flag ≡ b → flag_said (found_at flag (map pair_row ps)) ≡ Some (if is_some (given flag ps) then codes "true" else codes "false")
+    go : (b : Bool) → bytes_eq q.0 flag ≡ b → flag_said (found_at flag (map pair_row ps)) ≡ Some (if is_some (value_given flag ps) then codes "true" else codes "false")
         → flag_said (cond b (Some (pair_row q)) (found_at flag (map pair_row ps))) ≡ Some (if is_some (option_map (λ (p : Text × Text). p.1) (cond b (Some q) (find (λ p. bytes_eq p.0 flag) ps))) then codes "true" else codes "false")
     go true is ih = ap (λ b. Some (if b then codes "true" else q.1)) (ap is_flag ((bytes_eq-Decides q.0 flag).0 is) ∙ e)
     go false is ih = ih
 
 -- what is found of a flag, where both have their defaults
 abbrev FlagFound : List (Text × Text) → Text → Type 0
-FlagFound ps flag = text_of (found_at flag (both_unset (map pair_row ps))) ≡ Some (if is_some (given flag ps) then codes "true" else codes "false")
+FlagFound ps flag = text_of (found_at flag (both_unset (map pair_row ps))) ≡ Some (if is_some (value_given flag ps) then codes "true" else codes "false")
 
 trace_found : (ps : List (Text × Text)) → FlagFound ps (codes "trace")
 trace_found ps =

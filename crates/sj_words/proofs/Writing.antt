@@ -8,17 +8,17 @@ use Rattle.std.proofs.lemmas.Option.{none-some, same_Some}
 use Rattle.std.proofs.lemmas.Bool.{and_parts}
 use Rattle.sj_words.specs.Spelling.{Text, told_alone, first_then, is_flag, is_option, is_value, named, or_else, names_said, stands_once, with_next}
 use Rattle.sj_words.specs.Options.{asked_for, options}
-use Rattle.sj_words.specs.Written.{Item, flag, apart, joined, is_item, words_of, words_of_all, pair_of, AreWritten, AskFor}
+use Rattle.sj_words.specs.Written.{Item, flag, apart, joined, is_item, item_words, words_of_all, option_pair, AreWritten, AskFor}
 use Rattle.sj_words.specs.declared.options.Options.{Options}
 use Rattle.sj_words.proofs.Walking.{or_cases, of_flag, picks, mapped, named_whole}
 
 -- ---- from what is said to what is written
 
-written_more : (item : Item) (words rest : List Text) (q : Text × Text) (ps : List (Text × Text)) → is_item item ≡ true → words ≡ words_of item ++ rest → pair_of item ≡ q → AreWritten rest ps → AreWritten words (q ∷ ps)
+written_more : (item : Item) (words rest : List Text) (q : Text × Text) (ps : List (Text × Text)) → is_item item ≡ true → words ≡ item_words item ++ rest → option_pair item ≡ q → AreWritten rest ps → AreWritten words (q ∷ ps)
 written_more item words rest q ps good are pair w = (
   item ∷ w.0,
   ap (λ b. b && list_all is_item w.0) good ∙ w.1,
-  are ∙ ap (λ ws. words_of item ++ ws) w.2,
+  are ∙ ap (λ ws. item_words item ++ ws) w.2,
   (λ i. pair i ∷ w.3 i),
 )
 
@@ -101,7 +101,7 @@ said_alone word (next ∷ rest) q e = ap (λ a. or_else a (first_then a (names_s
 said_next : (word next : Text) (rest : List Text) (q : Text × Text) → told_alone (named word) ≡ None → with_next (named word) next ≡ Some q → names_said (word ∷ next ∷ rest) ≡ option_map (λ xs. q ∷ xs) (names_said rest)
 said_next word next rest q none e = λ i. or_else (none i) (first_then (none i) (names_said (next ∷ rest))) (first_then (e i) (names_said rest))
 
-item_said : (item : Item) (rest : List Text) → is_item item ≡ true → names_said (words_of item ++ rest) ≡ option_map (λ xs. pair_of item ∷ xs) (names_said rest)
+item_said : (item : Item) (rest : List Text) → is_item item ≡ true → names_said (item_words item ++ rest) ≡ option_map (λ xs. option_pair item ∷ xs) (names_said rest)
 item_said (flag name) rest good =
     said_alone (45 ∷ 45 ∷ name) rest (name, []) (of_flag (λ n. told_alone (named (45 ∷ 45 ∷ n)) ≡ Some (n, [])) name refl refl good)
 item_said (apart name value) rest good =
@@ -113,11 +113,11 @@ item_said (joined name value) rest good =
     let n = names_option name (and_parts (is_option name) (is_value value) good).0 in
     said_alone (45 ∷ 45 ∷ (name ++ 61 ∷ value)) rest (name, value) (ap told_alone (n.joins value) ∙ ap (λ b. if b then Some (name, value) else None) good)
 
-items_said : (items : List Item) → list_all is_item items ≡ true → names_said (words_of_all items) ≡ Some (map pair_of items)
+items_said : (items : List Item) → list_all is_item items ≡ true → names_said (words_of_all items) ≡ Some (map option_pair items)
 items_said [] good = refl
 items_said (item ∷ items) good =
     let both = and_parts (is_item item) (list_all is_item items) good in
-    item_said item (words_of_all items) both.0 ∙ ap (option_map (λ xs. pair_of item ∷ xs)) (items_said items both.1)
+    item_said item (words_of_all items) both.0 ∙ ap (option_map (λ xs. option_pair item ∷ xs)) (items_said items both.1)
 
 -- ---- the law
 

@@ -5,7 +5,7 @@ use Rattle.clap.specs.Simple.{on_top}
 use Rattle.clap.specs.Matches.{one_text}
 use Rattle.clap.specs.declared.builder.action.ArgAction.TheVariants.{Set, SetTrue}
 use Rattle.clap.specs.declared.parser.matches.Found.{Found}
-use Rattle.sj_words.specs.Spelling.{Text, is_flag, is_option, given}
+use Rattle.sj_words.specs.Spelling.{Text, is_flag, is_option, value_given}
 
 abbrev pub option_rule : Text → Rule
 option_rule name = record (new_rule name) { long = Some name; action = Some Set }
@@ -25,5 +25,5 @@ the_app = with_rule (with_rule (with_rule (with_rule (with_rule (with_rule (with
 
 -- what was found holds the value of each option that is given, and whether each flag stands
 pub record HoldsGiven (found : Found) (ps : List (Text × Text)) : Type 0 where
-  pub values : (name : Text) → is_option name ≡ true → first_value found name ≡ given name ps
-  pub flags : (name : Text) → is_flag name ≡ true → one_text found name ≡ Some (if is_some (given name ps) then codes "true" else codes "false")
+  pub values : (name : Text) → is_option name ≡ true → first_value found name ≡ value_given name ps
+  pub flags : (name : Text) → is_flag name ≡ true → one_text found name ≡ Some (if is_some (value_given name ps) then codes "true" else codes "false")

@@ -20,8 +20,8 @@ machine_by o workers nodes policy disks = record {
   policy = unwrap_or o.policy policy;
 }
 
-abbrev pub HasWorkers : ℕ → Type 0
-HasWorkers n = (1 ≤ n) × (n ≤ 64)
+abbrev pub IsWorkerCount : ℕ → Type 0
+IsWorkerCount n = (1 ≤ n) × (n ≤ 64)
 
 pub record HasNodes (nodes : List ℕ) : Type 0 where
   pub some : 1 ≤ length nodes

@@ -11,7 +11,7 @@ use Rattle.sj_apps.specs.declared.application.Problem.{Problem}
 use Rattle.sj_apps.specs.declared.application.Problem.TheVariants.{Product, Paths}
 use Rattle.sj_apps.specs.Application.{IsSized}
 use Rattle.sj_apps.specs.Generated.{part_count}
-use Rattle.sj_words.specs.Spelling.{Text, names_said, stands_once, given}
+use Rattle.sj_words.specs.Spelling.{Text, names_said, stands_once, value_given}
 use Rattle.sj_words.specs.declared.options.Options.{Options}
 
 -- 1 to 19 decimal digits
@@ -38,25 +38,25 @@ problem_in text = if bytes_eq text (codes "product") then Some Product
     else (if bytes_eq text (codes "paths") then Some Paths else None)
 
 -- a problem of this size, where no tile is larger than the matrix, and few tiles make a column
-abbrev pub sized : Problem → ℕ → ℕ → ℕ → Option Application
-sized problem n tile seed =
+abbrev pub sized_application : Problem → ℕ → ℕ → ℕ → Option Application
+sized_application problem n tile seed =
     if nat_le tile n && nat_le (part_count n tile) 48
     then Some (record { problem = problem; n = n; tile = tile; seed = seed }) else None
 
 -- a problem and its numbers stand together, or none of them does
 abbrev pub together : Option Problem → Option ℕ → Option ℕ → Option ℕ → Option (Option Application)
 together None None None None = Some None
-together (Some problem) (Some n) (Some tile) (Some seed) = option_map Some (sized problem n tile seed)
+together (Some problem) (Some n) (Some tile) (Some seed) = option_map Some (sized_application problem n tile seed)
 together _ _ _ _ = None
 
 -- the application that the settings ask for, or that they ask for none
 abbrev pub application_asked : List (Text × Text) → Option (Option Application)
 application_asked ps =
     option_and_then (λ problem. option_and_then (λ n. option_and_then (λ tile. option_and_then (λ seed. together problem n tile seed)
-    (if_given (number_in 0 999999999) (given (codes "seed") ps)))
-    (if_given (number_in 1 2048) (given (codes "tile") ps)))
-    (if_given (number_in 1 2048) (given (codes "n") ps)))
-    (if_given problem_in (given (codes "app") ps))
+    (if_given (number_in 0 999999999) (value_given (codes "seed") ps)))
+    (if_given (number_in 1 2048) (value_given (codes "tile") ps)))
+    (if_given (number_in 1 2048) (value_given (codes "n") ps)))
+    (if_given problem_in (value_given (codes "app") ps))
 
 -- what the settings ask for, where each value is of its kind, and `--nodes` stands only with `--node`
 abbrev pub asked_for : List (Text × Text) → Option Options
@@ -69,25 +69,25 @@ asked_for ps =
       policy = policy;
       node = node;
       nodes = nodes;
-      swap = given (codes "swap") ps;
+      swap = value_given (codes "swap") ps;
       swap_size = swap_size;
-      trace = is_some (given (codes "trace") ps);
-      summary = is_some (given (codes "summary") ps);
+      trace = is_some (value_given (codes "trace") ps);
+      summary = is_some (value_given (codes "summary") ps);
       application = application;
     }))
     (application_asked ps))
-    (if_given (number_in 0 (2 ^ 40)) (given (codes "swap-size") ps)))
-    (if_given (number_in 1 16) (given (codes "nodes") ps)))
-    (if_given (number_in 8 (2 ^ 40)) (given (codes "node") ps)))
-    (if_given policy_named (given (codes "sched") ps)))
-    (if_given (number_in 1 64) (given (codes "workers") ps))
+    (if_given (number_in 0 (2 ^ 40)) (value_given (codes "swap-size") ps)))
+    (if_given (number_in 1 16) (value_given (codes "nodes") ps)))
+    (if_given (number_in 8 (2 ^ 40)) (value_given (codes "node") ps)))
+    (if_given policy_named (value_given (codes "sched") ps)))
+    (if_given (number_in 1 64) (value_given (codes "workers") ps))
 
 -- what the words ask for, or none where they aren't accepted
 abbrev pub options : List Text → Option Options
 options words = option_and_then (λ ps. if stands_once ps then asked_for ps else None) (names_said words)
 
 -- the ranges of the numbers
-pub record IsWithinLimits (o : Options) : Type 0 where
+pub record OptionsAreInRange (o : Options) : Type 0 where
   pub workers : IfSome o.workers (λ n. (1 ≤ n) × (n ≤ 64))
   pub node : IfSome o.node (λ n. (8 ≤ n) × (n ≤ 2 ^ 40))
   pub nodes : IfSome o.nodes (λ n. (1 ≤ n) × (n ≤ 16))

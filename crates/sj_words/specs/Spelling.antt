@@ -87,5 +87,5 @@ pub record AreSpelled (words : List Text) : Type 0 where
   pub once : stands_once ps ≡ true
 
 -- the value of a name, where it is said
-abbrev pub given : Text → List (Text × Text) → Option Text
-given name ps = option_map (λ p. p.1) (find (λ p. bytes_eq p.0 name) ps)
+abbrev pub value_given : Text → List (Text × Text) → Option Text
+value_given name ps = option_map (λ p. p.1) (find (λ p. bytes_eq p.0 name) ps)

@@ -17,25 +17,25 @@ is_item (apart name value) = is_option name && is_value value
 is_item (joined name value) = is_option name && is_value value
 
 -- the words that it takes
-abbrev pub words_of : Item → List Text
-words_of (flag name) = (45 ∷ 45 ∷ name) ∷ []
-words_of (apart name value) = (45 ∷ 45 ∷ name) ∷ value ∷ []
-words_of (joined name value) = (45 ∷ 45 ∷ (name ++ 61 ∷ value)) ∷ []
+abbrev pub item_words : Item → List Text
+item_words (flag name) = (45 ∷ 45 ∷ name) ∷ []
+item_words (apart name value) = (45 ∷ 45 ∷ name) ∷ value ∷ []
+item_words (joined name value) = (45 ∷ 45 ∷ (name ++ 61 ∷ value)) ∷ []
 
 -- the words of all, one after another
 abbrev pub words_of_all : List Item → List Text
 words_of_all [] = []
-words_of_all (item ∷ items) = words_of item ++ words_of_all items
+words_of_all (item ∷ items) = item_words item ++ words_of_all items
 
 -- its name and value
-abbrev pub pair_of : Item → Text × Text
-pair_of (flag name) = (name, [])
-pair_of (apart name value) = (name, value)
-pair_of (joined name value) = (name, value)
+abbrev pub option_pair : Item → Text × Text
+option_pair (flag name) = (name, [])
+option_pair (apart name value) = (name, value)
+option_pair (joined name value) = (name, value)
 
 -- the words are those of such items, one after another, and the pairs are theirs
 abbrev pub AreWritten : List Text → List (Text × Text) → Type 0
-AreWritten words ps = (items : List Item) × (list_all is_item items ≡ true) × (words ≡ words_of_all items) × (map pair_of items ≡ ps)
+AreWritten words ps = (items : List Item) × (list_all is_item items ≡ true) × (words ≡ words_of_all items) × (map option_pair items ≡ ps)
 
 -- the words are written so, no name stands twice, and the settings ask for the options
 abbrev pub AskFor : List Text → Options → Type 0

@@ -1,8 +1,8 @@
 //! The machine that the words and a job ask for.
 
 ghost use Rattle.std.specs.Prelude.{◌≡◌, IfOk};
-ghost use Rattle.sj_words.specs.Options.{IsWithinLimits};
-ghost use Rattle.sj_words.specs.Machine.{HasNodes, HasWorkers, machine_by, nodes_by};
+ghost use Rattle.sj_words.specs.Options.{OptionsAreInRange};
+ghost use Rattle.sj_words.specs.Machine.{HasNodes, IsWorkerCount, machine_by, nodes_by};
 
 use crate::options::Options;
 use sj_base::memory::OutOfMemory;
@@ -17,7 +17,7 @@ fn nodes_of(
     options: &Options,
     nodes: Sequence<u64>,
 ) -> Result<Sequence<u64>, OutOfMemory>
-    requires within { IsWithinLimits options.now }
+    requires within { OptionsAreInRange options.now }
     requires nodes { HasNodes nodes }
     ensures nodes { IfOk result (λ r. r ≡ nodes_by options.now nodes) }
     ensures limits { IfOk result HasNodes }
@@ -40,11 +40,11 @@ pub fn machine_of(
     policy: Policy,
     disks: Sequence<u64>,
 ) -> Result<Machine, OutOfMemory>
-    requires within { IsWithinLimits options.now }
-    requires workers { HasWorkers workers }
+    requires within { OptionsAreInRange options.now }
+    requires workers { IsWorkerCount workers }
     requires nodes { HasNodes nodes }
     ensures machine { IfOk result (λ m. m ≡ machine_by options.now workers nodes policy disks) }
-    ensures workers { IfOk result (λ m. HasWorkers m.workers) }
+    ensures workers { IfOk result (λ m. IsWorkerCount m.workers) }
     ensures nodes { IfOk result (λ m. HasNodes m.nodes) }
 {
     let nodes = nodes_of(alloc, options, nodes)?;

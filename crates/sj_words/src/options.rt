@@ -8,7 +8,7 @@ ghost use Rattle.std.specs.Str.Parse.{digits_value};
 ghost use Rattle.clap.specs.Words.{found_of};
 ghost use Rattle.sj_words.specs.Command.{HoldsGiven};
 ghost use Rattle.sj_apps.specs.Application.{IsSized};
-ghost use Rattle.sj_words.specs.Options.{IsWithinLimits, application_asked, asked_for, is_number, number_in, options, policy_named, problem_in, if_given, sized, together};
+ghost use Rattle.sj_words.specs.Options.{OptionsAreInRange, application_asked, asked_for, is_number, number_in, options, policy_named, problem_in, if_given, sized_application, together};
 ghost use Rattle.sj_words.specs.Spelling.{texts};
 
 use crate::command::{
@@ -80,15 +80,15 @@ impl From<OutOfMemory> for WordsRefusal {
 
 // A value isn't of its option's kind.
 #[derive(Drop)]
-struct Unread;
+struct UnreadValue;
 
-impl From<Unread> for WordsRefusal {
+impl From<UnreadValue> for WordsRefusal {
     ghost use Rattle.std.specs.Prelude.{◌≡◌};
     ghost use Rattle.sj_words.specs.declared.options.WordsRefusal.{WordsRefusal};
 
     ghost from_gives = { λ _ refusal. refusal ≡ WordsRefusal.Unaccepted };
 
-    fn from(_: Unread) -> Self {
+    fn from(_: UnreadValue) -> Self {
         WordsRefusal::Unaccepted
     }
 }
@@ -139,7 +139,7 @@ fn policy_in(text: &str) -> Option<Policy>
 }
 
 // The number of an option, where it is given.
-fn number(text: Option<&str>, least: u64, greatest: u64) -> Result<Option<u64>, Unread>
+fn number(text: Option<&str>, least: u64, greatest: u64) -> Result<Option<u64>, UnreadValue>
     ensures value { MatchResult result
         (λ n. if_given (number_in least greatest) (option_map (λ t. t.now) text.entry) ≡ Some n)
         (λ _. if_given (number_in least greatest) (option_map (λ t. t.now) text.entry) ≡ None) }
@@ -148,14 +148,14 @@ fn number(text: Option<&str>, least: u64, greatest: u64) -> Result<Option<u64>, 
     match text {
         Some(text) => match number_in(text, least, greatest) {
             Some(number) => Ok(Some(number)),
-            None => Err(Unread),
+            None => Err(UnreadValue),
         },
         None => Ok(None),
     }
 }
 
 // The policy, where it is given.
-fn policy(text: Option<&str>) -> Result<Option<Policy>, Unread>
+fn policy(text: Option<&str>) -> Result<Option<Policy>, UnreadValue>
     ensures { MatchResult result
         (λ p. if_given policy_named (option_map (λ t. t.now) text.entry) ≡ Some p)
         (λ _. if_given policy_named (option_map (λ t. t.now) text.entry) ≡ None) }
@@ -163,7 +163,7 @@ fn policy(text: Option<&str>) -> Result<Option<Policy>, Unread>
     match text {
         Some(text) => match policy_in(text) {
             Some(policy) => Ok(Some(policy)),
-            None => Err(Unread),
+            None => Err(UnreadValue),
         },
         None => Ok(None),
     }
@@ -180,7 +180,7 @@ fn problem_in(text: &str) -> Option<Problem>
 }
 
 // The problem, where it is given.
-fn problem(text: Option<&str>) -> Result<Option<Problem>, Unread>
+fn problem(text: Option<&str>) -> Result<Option<Problem>, UnreadValue>
     ensures { MatchResult result
         (λ p. if_given problem_in (option_map (λ t. t.now) text.entry) ≡ Some p)
         (λ _. if_given problem_in (option_map (λ t. t.now) text.entry) ≡ None) }
@@ -188,18 +188,18 @@ fn problem(text: Option<&str>) -> Result<Option<Problem>, Unread>
     match text {
         Some(text) => match problem_in(text) {
             Some(problem) => Ok(Some(problem)),
-            None => Err(Unread),
+            None => Err(UnreadValue),
         },
         None => Ok(None),
     }
 }
 
 // A problem of this size, where no tile is larger than the matrix, and few tiles make a column.
-fn sized(problem: Problem, n: u64, tile: u64, seed: u64) -> Option<Application>
+fn sized_application(problem: Problem, n: u64, tile: u64, seed: u64) -> Option<Application>
     requires n { (1 ≤ n) × (n ≤ 2048) }
     requires tile { (1 ≤ tile) × (tile ≤ 2048) }
     requires seed { seed ≤ 999999999 }
-    ensures is { result ≡ sized problem n tile seed }
+    ensures is { result ≡ sized_application problem n tile seed }
     ensures sized { IfSome result IsSized }
 {
     let n = n as u32;
@@ -222,7 +222,7 @@ fn together(
     n: Option<u64>,
     tile: Option<u64>,
     seed: Option<u64>,
-) -> Result<Option<Application>, Unread>
+) -> Result<Option<Application>, UnreadValue>
     requires n { IfSome n (λ n. (1 ≤ n) × (n ≤ 2048)) }
     requires tile { IfSome tile (λ n. (1 ≤ n) × (n ≤ 2048)) }
     requires seed { IfSome seed (λ n. (0 ≤ n) × (n ≤ 999999999)) }
@@ -233,16 +233,18 @@ fn together(
 {
     match (problem, n, tile, seed) {
         (None, None, None, None) => Ok(None),
-        (Some(problem), Some(n), Some(tile), Some(seed)) => match sized(problem, n, tile, seed) {
+        (Some(problem), Some(n), Some(tile), Some(seed)) => match sized_application(
+            problem, n, tile, seed,
+        ) {
             Some(application) => Ok(Some(application)),
-            None => Err(Unread),
+            None => Err(UnreadValue),
         },
-        _ => Err(Unread),
+        _ => Err(UnreadValue),
     }
 }
 
 // The application that the values that were found ask for.
-fn application(matches: &ArgMatches<'_>) -> Result<Option<Application>, Unread>
+fn application(matches: &ArgMatches<'_>) -> Result<Option<Application>, UnreadValue>
     ensures ok { IfOk result (λ a. (ps : List (List ℕ × List ℕ)) →
         HoldsGiven (found_of matches.now) ps → application_asked ps ≡ Some a) }
     ensures err { IfErr result (λ _. (ps : List (List ℕ × List ℕ)) →
@@ -285,7 +287,7 @@ fn asked_for(alloc: Global, matches: &ArgMatches<'_>) -> Result<Options, WordsRe
     ensures unaccepted { IfErr result (λ e. e ≡ WordsRefusal.Unaccepted
         → (ps : List (List ℕ × List ℕ)) → HoldsGiven (found_of matches.now) ps
         → asked_for ps ≡ None) }
-    ensures limits { IfOk result IsWithinLimits }
+    ensures limits { IfOk result OptionsAreInRange }
 {
     let workers = number(matches.get_str(WORKERS), 1, 64)?;
     let policy = policy(matches.get_str(SCHED))?;
@@ -315,7 +317,7 @@ pub fn read_words(alloc: Global, words: &[String]) -> Result<Options, WordsRefus
     ensures ok { IfOk result (λ o. options (texts words.now) ≡ Some o) }
     ensures unaccepted { IfErr result
         (λ e. e ≡ WordsRefusal.Unaccepted → options (texts words.now) ≡ None) }
-    ensures limits { IfOk result IsWithinLimits }
+    ensures limits { IfOk result OptionsAreInRange }
 {
     let Some(names) = said_names(alloc, words)? else {
         return Err(WordsRefusal::Unaccepted);

@@ -3,7 +3,7 @@
 ghost use Rattle.std.specs.Prelude.{◌≤◌, ◌^◌};
 ghost use Rattle.sj_minplus.specs.Has.{library_has};
 ghost use Rattle.sj_ready.specs.Input.{HasJob};
-ghost use Rattle.sj_words.specs.Options.{IsWithinLimits};
+ghost use Rattle.sj_words.specs.Options.{OptionsAreInRange};
 
 use crate::{REFUSED, out_of_memory, refused, unready};
 use sj_job::reason::ReadRefusal;
@@ -23,7 +23,7 @@ fn written(rt: &HostRuntime, text: &[u8]) -> u8 {
 
 /// Prints the program to which a job is lowered, or says why there is none.
 pub fn show_program(rt: &HostRuntime, options: &Options, swap: u64, job: Input) -> u8
-    requires options { IsWithinLimits options.now }
+    requires options { OptionsAreInRange options.now }
     requires swap { swap ≤ 2 ^ 40 }
     requires job { HasJob library_has job }
 {

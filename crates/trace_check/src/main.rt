@@ -10,7 +10,7 @@ mod answering;
 ghost use Rattle.std.specs.Prelude.{◌≡◌, IfOk};
 ghost use Rattle.sj_minplus.specs.Has.{library_has};
 ghost use Rattle.sj_ready.specs.Input.{HasJob};
-ghost use Rattle.sj_words.specs.Options.{IsWithinLimits};
+ghost use Rattle.sj_words.specs.Options.{OptionsAreInRange};
 ghost use Rattle.trace_check.specs.Ending.{code_of_check, code_of_outcome, code_of_unready};
 
 use answering::{show_job, show_program};
@@ -28,7 +28,7 @@ use std::io::{self, ErrorKind, Read};
 use std::process::ExitCode;
 use std::{env, fs};
 
-const USAGE: &str =
+const CHECK_USAGE: &str =
     "usage: trace_check [words of starjob] TRACE < JOB, or --program for TRACE, or --text alone";
 
 /// The words that stand in place of the trace's file.
@@ -113,7 +113,7 @@ fn input(rt: &HostRuntime) -> io::Result<Vec<u8>> {
 
 /// The job that options ask for, which is read where they ask for no application.
 fn job_for(rt: &HostRuntime, options: &Options) -> io::Result<Input>
-    requires { IsWithinLimits options.now }
+    requires { OptionsAreInRange options.now }
     ensures { IfOk result (HasJob library_has) }
 {
     match options.application {
@@ -186,7 +186,7 @@ fn main(rt: HostRuntime) -> ExitCode {
 /// Reads a job and shows its text, where no other word stands before.
 fn text_alone(rt: &HostRuntime, words: &[String]) -> u8 {
     if !words.is_empty() {
-        return refused(rt, USAGE);
+        return refused(rt, CHECK_USAGE);
     }
     match input(rt) {
         Ok(job) => show_job(rt, &job),
@@ -200,21 +200,21 @@ fn answer(rt: &HostRuntime) -> u8 {
     let mut words = match words(rt) {
         Ok(words) => words,
         Err(error) if error.kind() == ErrorKind::OutOfMemory => return out_of_memory(rt),
-        Err(_) => return refused(rt, USAGE),
+        Err(_) => return refused(rt, CHECK_USAGE),
     };
     if words.iter().any(|word| is_call_for_help(word.as_str())) {
-        let _ = println!(rt; "{USAGE}\n{HELP}");
+        let _ = println!(rt; "{CHECK_USAGE}\n{HELP}");
         return 0;
     }
     let Some(path) = words.pop() else {
-        return refused(rt, USAGE);
+        return refused(rt, CHECK_USAGE);
     };
     if path.as_str() == TEXT_WORD {
         return text_alone(rt, &words);
     }
     let options = match read_words(alloc, &words) {
         Ok(options) => options,
-        Err(WordsRefusal::Unaccepted) => return refused(rt, USAGE),
+        Err(WordsRefusal::Unaccepted) => return refused(rt, CHECK_USAGE),
         Err(WordsRefusal::OutOfMemory) => return out_of_memory(rt),
     };
     let Ok(wish) = swap_wish(alloc, &words) else {

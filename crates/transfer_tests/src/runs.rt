@@ -5,7 +5,7 @@ ghost use Rattle.sj_edge.specs.Sizes.{AreWithin};
 ghost use Rattle.sj_ready.specs.Input.{HasJob};
 ghost use Rattle.sj_ready.specs.Ready.{HasOwnCodelets, IsReady};
 ghost use Rattle.sj_ready.specs.Work.{WorkOrRefusal};
-ghost use Rattle.sj_words.specs.Options.{IsWithinLimits};
+ghost use Rattle.sj_words.specs.Options.{OptionsAreInRange};
 
 use sj_base::memory::OutOfMemory;
 use sj_codelet::set::Codelets;
@@ -13,7 +13,7 @@ use sj_edge::disk::{Disk, sizes_of};
 use sj_edge::gate::Gate;
 use sj_engine::engine::{RunOutcome, run};
 use sj_ready::input::Input;
-use sj_ready::ready::{Ready, prepare};
+use sj_ready::ready::{ReadyJob, ready_job};
 use sj_words::{Options, read_words};
 use std::alloc::Global;
 use std::sync::Wait;
@@ -47,7 +47,7 @@ pub fn two<D: Disk>(alloc: Global, first: D, second: D) -> Result<Vec<D>, OutOfM
 fn run_ready<C: Codelets, G: Gate, D: Disk + Send, R: Threads + Wait + Sync>(
     rt: &R,
     alloc: Global,
-    ready: Ready,
+    ready: ReadyJob,
     disks: Vec<D>,
     codelets: &C,
     gate: &G,
@@ -55,7 +55,7 @@ fn run_ready<C: Codelets, G: Gate, D: Disk + Send, R: Threads + Wait + Sync>(
     requires ready { (asked : WorkOrRefusal) × IsReady C.has asked ready }
     requires disks { ready.machine.disks ≡ map D.size disks.items }
 {
-    let Ready {
+    let ReadyJob {
         program,
         machine,
         ..
@@ -75,14 +75,14 @@ fn run_input<C: Codelets, G: Gate, D: Disk + Send, R: Threads + Wait + Sync>(
 ) -> Result<RunOutcome<D>, Fail>
     requires own { HasOwnCodelets C.has }
     requires input { HasJob C.has input }
-    requires options { IsWithinLimits options.now }
+    requires options { OptionsAreInRange options.now }
     requires few { length disks.items ≤ 16 }
     requires small { AreWithin D.size (2 ^ 40) disks.items }
 {
     let Ok(sizes) = sizes_of(alloc, &disks) else {
         return Err(Fail::new("no memory"));
     };
-    match prepare(alloc, input, options, sizes, codelets) {
+    match ready_job(alloc, input, options, sizes, codelets) {
         Ok(ready) => Ok(run_ready(rt, alloc, ready, disks, codelets, gate)),
         Err(unready) => Err(Fail::from(unready)),
     }

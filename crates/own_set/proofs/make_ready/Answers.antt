@@ -4,7 +4,7 @@ use Rattle.std.proofs.lemmas.Bool.{false≢true}
 use Rattle.sj_meaning.specs.Job.{Job}
 use Rattle.sj_job.specs.Reading.{Refusal, job_of}
 use Rattle.sj_meaning.specs.View.{job_seen}
-use Rattle.own_set.specs.Turns.{HasCodelets, program_of, turns_has}
+use Rattle.own_set.specs.Turns.{HasCodelets, small_program, turns_has}
 use Rattle.own_set.proofs.Preparing.{ready-by}
 use Rattle.own_set.proofs.make_ready.Goals as goal
 
@@ -18,6 +18,6 @@ returns-clause-ok c =
 pub returns-then-not-has_codelets-clause-err : goal.returns-then-not-has_codelets-clause-err
 returns-then-not-has_codelets-clause-err c =
     let is = c.in_ok-program.ensures.is in
-    let lacks : ¬ HasCodelets (program_of (job_seen c.in_ok-job.job).statements) =
+    let lacks : ¬ HasCodelets (small_program (job_seen c.in_ok-job.job).statements) =
     λ has. false≢true (sym c.if-not-has_codelets.true ∙ c.has_codelets.ensures.1 (subst HasCodelets (sym is) has)) in
-    subst (λ (o : Result Job Refusal). IsOkAnd o (λ j. ¬ HasCodelets (program_of j.statements))) (sym c.in_ok-job.ensures.ok) lacks
+    subst (λ (o : Result Job Refusal). IsOkAnd o (λ j. ¬ HasCodelets (small_program j.statements))) (sym c.in_ok-job.ensures.ok) lacks

@@ -1,7 +1,7 @@
 use Rattle.std.proofs.Common.{refl, subst, sym}
 use Rattle.sj_base.specs.declared.program.Program.{Program}
 use Rattle.sj_meaning.specs.View.{statements_of}
-use Rattle.sj_machine.specs.Sound.{IsRunOf}
+use Rattle.sj_machine.specs.Sound.{IsRunnableOn}
 use Rattle.board_tests.proofs.Boards.{run-of}
 use Rattle.board_tests.proofs.opening.parts_of.Goals as goal
 
@@ -9,4 +9,4 @@ pub returns-clause-run : goal.returns-clause-run
 returns-clause-run c =
     let l = c.in_ok-program in
     let m = c.in_ok-machine in
-    subst (λ (p : Program). IsRunOf p m.machine) (sym c.in_ok-new.ensures.ok) (run-of (statements_of c.in_ok-job.job) l.field-0.program m.machine c.args.disk l.ensures.is c.in_ok-job.ensures.well l.ensures.proper l.ensures.known c.arguments_fit.ensures m.ensures.workers m.ensures.nodes m.ensures.disks (c.in_ok-fits.ensures.swap refl))
+    subst (λ (p : Program). IsRunnableOn p m.machine) (sym c.in_ok-new.ensures.ok) (run-of (statements_of c.in_ok-job.job) l.field-0.program m.machine c.args.disk l.ensures.is c.in_ok-job.ensures.well l.ensures.proper l.ensures.known c.arguments_fit.ensures m.ensures.workers m.ensures.nodes m.ensures.disks (c.in_ok-fits.ensures.swap refl))

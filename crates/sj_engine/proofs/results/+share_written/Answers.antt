@@ -1,6 +1,6 @@
 use Rattle.std.proofs.Common.{◌≡◌, ◌++◌, ◌∷◌, [], false, true, rules}
 use Rattle.sj_codelet.specs.Slot.{slot_of}
-use Rattle.sj_engine.specs.Operands.{is_output}
+use Rattle.sj_codelet.specs.Formal.{is_output}
 use Rattle.sj_engine.proofs.ResultLists.{share-skips, share-adds}
 use Rattle.sj_engine.proofs.results.+share_written.Goals as goal
 

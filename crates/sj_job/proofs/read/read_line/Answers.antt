@@ -2,7 +2,7 @@ use Rattle.std.proofs.Common.{◌+◌, ◌∷◌, ◌∙◌, ap, sym, subst, Lis
 use Rattle.sj_meaning.specs.declared.job.Statement.{Statement as Kept}
 use Rattle.sj_job.specs.declared.names.Names.{Names}
 use Rattle.sj_job.specs.declared.reason.ReadRefusal.{ReadRefusal}
-use Rattle.sj_job.specs.Reading.{IsRefusal}
+use Rattle.sj_job.specs.Reading.{IsReadRefusal}
 use Rattle.sj_job.specs.Progress.{text_with}
 use Rattle.sj_job.specs.Submits.{AreRead}
 use Rattle.sj_meaning.specs.View.{seen_from}
@@ -28,5 +28,5 @@ returns-in_ok-push-in-Ok-Some-clause-ok g c = λ rest.
 
 pub returns-in-Err-clause-err : goal.returns-in-Err-clause-err
 returns-in-Err-clause-err g c = λ rest.
-    subst (λ (r : ReadRefusal). IsRefusal r (text_with g.C.Codelets.has (seen_from c.args.names.now.roots 0 c.args.statements.now.items) c.args.number (c.args.line.now ∷ rest))) (sym c.refused.ensures)
+    subst (λ (r : ReadRefusal). IsReadRefusal r (text_with g.C.Codelets.has (seen_from c.args.names.now.roots 0 c.args.statements.now.items) c.args.number (c.args.line.now ∷ rest))) (sym c.refused.ensures)
     (read-refused g.C.Codelets.has c.args.names.now c.args.statements.now.items c.args.number c.args.line.now rest c.in-Err.why c.requires c.in-Err.ensures.err)

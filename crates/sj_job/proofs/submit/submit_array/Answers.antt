@@ -1,6 +1,6 @@
 use Rattle.std.proofs.Common.{◌≡◌, ◌∙◌, sym, ℕ, None}
 use Rattle.sj_plan.specs.declared.parts.Parts.{Parts}
-use Rattle.sj_meaning.specs.State.{dims_with, plan_with}
+use Rattle.sj_meaning.specs.State.{dims_with, plan_of_parts}
 use Rattle.sj_meaning.specs.declared.job.Kind.{Kind}
 use Rattle.sj_meaning.specs.declared.job.RootInfo.{RootInfo}
 use Rattle.sj_job.specs.Sentence.{is_numbered_size, is_numbered_init, are_counts, init_said}
@@ -21,7 +21,7 @@ returns-clause-ok c = λ has.
     let mk : Kind → ℕ → ℕ → Parts → RootInfo = λ k r s p. record { kind = k; dims = record { rows = r; cols = s }; parts = p } in
     let s = scope_in c.args.names.now in
     let dims = dims_with c.in-Some.rows c.in-Some.cols in
-    let cut = plan_with c.in-Some-parts_of.parts.0 c.in-Some-parts_of.parts.1 in
+    let cut = plan_of_parts c.in-Some-parts_of.parts.0 c.in-Some-parts_of.parts.1 in
     let said = init_said a.init in
     let tells : Tells c.telling_count.result dims = c.telling_count.ensures in
     let none : first_of (register_reasons s c.bytes-name.result.now dims cut said) ≡ None =

@@ -1,7 +1,7 @@
 use Rattle.std.proofs.Common.{◌∙◌, ap, sym}
 use Rattle.sj_job.specs.Judge.{first_of, plan_reasons}
 use Rattle.sj_job.specs.Names.{scope_in}
-use Rattle.sj_meaning.specs.State.{plan_with}
+use Rattle.sj_meaning.specs.State.{plan_of_parts}
 use Rattle.sj_meaning.specs.Table.{root_in}
 use Rattle.sj_meaning.proofs.Finding.{is-root}
 use Rattle.sj_job.proofs.Submitting.{plans}
@@ -17,7 +17,7 @@ returns-in-Ok-clause-ok c = λ has.
     plans has c.args.names.now _ c.args.name.now c.args.r.now c.args.c.now c.in-Ok.root c.narrowed-parts.result (record {
       there = ap (root_in c.args.names.now.roots) (sym c.bytes.ensures) ∙ c.in-Ok.ensures.root;
       numbered = said.0;
-      parts = parts ∙ (λ i. plan_with (said.1 i) (said.2 i));
+      parts = parts ∙ (λ i. plan_of_parts (said.1 i) (said.2 i));
       unopposed = (λ i. first_of (plan_reasons (scope_in c.args.names.now) (sym c.bytes.ensures i) (parts i))) ∙ c.in-Ok.ensures.none;
       roots = c.plan.ensures.roots;
       sees = c.plan.ensures.names;

@@ -2,7 +2,7 @@ use Rattle.std.proofs.Common.{◌<◌, ◌^◌, arith, length, subst, sym}
 use Rattle.sj_ready.proofs.Refusing.{handed}
 use Rattle.sj_ready.specs.Work.{Work, WorkOrRefusal}
 use Rattle.sj_trace.specs.declared.read.TraceRefusal.{TraceRefusal}
-use Rattle.sj_judge.specs.Judged.{CanBeRun, HasCause, IsWantOfMemory}
+use Rattle.sj_judge.specs.Judged.{CanBeRun, RefusalHasCause, IsWantOfMemory}
 use Rattle.sj_judge.specs.declared.refusal.JudgeRefusal.TheVariants.{Unread}
 use Rattle.sj_judge.proofs.Causes.{reading-cause}
 use Rattle.sj_judge.proofs.FewLines.{few-lines}
@@ -19,7 +19,7 @@ returns-in_err-trace-clause-cause c =
     let text = c.args.text.now in
     let why = c.in_err-trace.field-0.0 in
     let short : length text < 2 ^ 32 = omega (arith, c.if-text.false) in
-    handed c.from_residual.result (Unread why) (λ x. (asked : WorkOrRefusal) → (w : Work) → CanBeRun asked w → HasCause asked text x) c.from_residual.ensures.1
+    handed c.from_residual.result (Unread why) (λ x. (asked : WorkOrRefusal) → (w : Work) → CanBeRun asked w → RefusalHasCause asked text x) c.from_residual.ensures.1
     (λ asked w can. reading-cause asked text w why can short c.in_err-trace.ensures.bad_line)
 
 pub returns-in_err-trace-clause-refuses_no_trace : goal.returns-in_err-trace-clause-refuses_no_trace

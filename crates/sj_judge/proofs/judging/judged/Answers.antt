@@ -3,7 +3,7 @@ use Rattle.std.specs.Prelude.{All}
 use Rattle.std.proofs.lemmas.List.Elements.{All-cons, All-nil}
 use Rattle.sj_minplus.specs.Has.{library_has}
 use Rattle.sj_ready.specs.Input.{work_in}
-use Rattle.sj_judge.specs.Judged.{HasCause, TraceIsWhole}
+use Rattle.sj_judge.specs.Judged.{RefusalHasCause, TraceIsWhole}
 use Rattle.sj_judge.proofs.judging.judged.Goals as goal
 
 pub judged_on-requires-clause-small : goal.judged_on-requires-clause-small
@@ -17,7 +17,7 @@ returns-clause-legal_and_complete c = λ ok.
 
 pub returns-clause-cause : goal.returns-clause-cause
 returns-clause-cause c =
-    subst (λ (ds : List ℕ). IfErr c.judged_on.result (HasCause (work_in library_has c.args.options.now ds c.args.job) c.args.trace.now)) c.in_ok-disks.ensures c.judged_on.ensures.cause
+    subst (λ (ds : List ℕ). IfErr c.judged_on.result (RefusalHasCause (work_in library_has c.args.options.now ds c.args.job) c.args.trace.now)) c.in_ok-disks.ensures c.judged_on.ensures.cause
 
 pub returns-clause-complete : goal.returns-clause-complete
 returns-clause-complete c = λ whole.

@@ -1,11 +1,11 @@
 use Rattle.std.proofs.Common.{◌≡◌, refl}
-use Rattle.sj_check.specs.Refusal.{IsRefusal}
+use Rattle.sj_check.specs.Refusal.{IsCheckRefusal}
 use Rattle.sj_core.specs.Legal.{IsFinished}
 use Rattle.sj_minplus.specs.Has.{library_has}
 use Rattle.sj_ready.proofs.Refusing.{handed}
 use Rattle.sj_ready.specs.Input.{work_in}
 use Rattle.sj_ready.specs.Work.{program_of}
-use Rattle.sj_judge.specs.Judged.{AreEventsFor, HasCause, IsWantOfMemory}
+use Rattle.sj_judge.specs.Judged.{AreEventsFor, RefusalHasCause, IsWantOfMemory}
 use Rattle.sj_judge.specs.declared.refusal.JudgeRefusal.TheVariants as refusal
 use Rattle.sj_judge.proofs.Causes.{can-be-run, checking-cause, is-run, of-work}
 use Rattle.sj_judge.proofs.Passing.{checked-whole, finished-by, prepared-whole}
@@ -19,7 +19,7 @@ pub returns-in_err-ready-clause-cause : goal.returns-in_err-ready-clause-cause
 returns-in_err-ready-clause-cause c =
     let asked = work_in library_has c.args.options.now c.args.disks.items c.args.job in
     let why = c.in_err-ready.field-0.0 in
-    handed c.from_residual.result (refusal.Unready why) (HasCause asked c.args.trace.now) c.from_residual.ensures.1 c.in_err-ready.ensures.unready
+    handed c.from_residual.result (refusal.Unready why) (RefusalHasCause asked c.args.trace.now) c.from_residual.ensures.1 c.in_err-ready.ensures.unready
 
 pub returns-in_err-ready-clause-complete : goal.returns-in_err-ready-clause-complete
 returns-in_err-ready-clause-complete c = λ whole.
@@ -33,7 +33,7 @@ returns-in_err-events-clause-cause c =
     let asked = work_in library_has c.args.options.now c.args.disks.items c.args.job in
     let r = c.in_ok-ready.ensures in
     let can = can-be-run library_has asked c.in_ok-ready.ready r.ready in
-    handed c.from_residual-in_err-events.result c.in_err-events.field-0.0 (HasCause asked c.args.trace.now) c.from_residual-in_err-events.ensures.1
+    handed c.from_residual-in_err-events.result c.in_err-events.field-0.0 (RefusalHasCause asked c.args.trace.now) c.from_residual-in_err-events.ensures.1
     (c.in_err-events.ensures.cause asked r.ready.work can)
 
 pub returns-in_err-events-clause-complete : goal.returns-in_err-events-clause-complete
@@ -54,8 +54,8 @@ returns-in_err-check-clause-cause c =
       not_too_long = c.in_ok-events.ensures.short refl;
       written = c.in_ok-events.ensures.written;
     } in
-    let refused = of-work library_has asked c.in_ok-ready.ready r.ready (λ p m. IsRefusal p m events why) c.in_err-check.ensures.refused in
-    handed c.from_residual-in_err-check.result (refusal.Wrong why) (HasCause asked text) c.from_residual-in_err-check.ensures.1
+    let refused = of-work library_has asked c.in_ok-ready.ready r.ready (λ p m. IsCheckRefusal p m events why) c.in_err-check.ensures.refused in
+    handed c.from_residual-in_err-check.result (refusal.Wrong why) (RefusalHasCause asked text) c.from_residual-in_err-check.ensures.1
     (checking-cause asked text w events why read refused)
 
 pub returns-in_err-check-clause-complete : goal.returns-in_err-check-clause-complete
@@ -67,7 +67,7 @@ returns-in_err-check-clause-complete c = λ whole.
     let events = c.in_ok-events.events.events in
     let why = c.in_err-check.field-0.0 in
     let same : events ≡ whole.events = c.in_ok-events.ensures.reads_back whole.events whole.read.written in
-    let refused = of-work library_has asked c.in_ok-ready.ready r.ready (λ p m. IsRefusal p m events why) c.in_err-check.ensures.refused in
+    let refused = of-work library_has asked c.in_ok-ready.ready r.ready (λ p m. IsCheckRefusal p m events why) c.in_err-check.ensures.refused in
     handed c.from_residual-in_err-check.result (refusal.Wrong why) IsWantOfMemory c.from_residual-in_err-check.ensures.1
     (checked-whole (program_of w) w.machine events why (finished-by asked text whole w events r.ready.asked_for same) refused)
 

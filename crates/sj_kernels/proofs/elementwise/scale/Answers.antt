@@ -35,7 +35,7 @@ pub loop-j-preserved : goal.loop-j-preserved
 unfolding new
 loop-j-preserved c =
     let a = c.args in
-    begun_step c.loop-j.j (new a.a (at a.x.now)) a.x.now c.loop-j.x _ c.loop-j.invariant (omega arith) (λ read. product_of (to_z w64 (of_z w64 a.a)) (at a.x.now c.loop-j.j) _ _ c.product.result c.product.ensures refl (rw read (search (rules, wraps))))
+    begun_step c.loop-j.j (new a.a (at a.x.now)) a.x.now c.loop-j.x _ c.loop-j.invariant (omega arith) (λ read. product_of (to_z w64 (of_z w64 a.a)) (at a.x.now c.loop-j.j) _ _ c.wrapped_product.result c.wrapped_product.ensures refl (rw read (search (rules, wraps))))
 
 pub returns : goal.returns
 unfolding new

@@ -9,11 +9,11 @@ pub returns : goal.returns
 returns c =
     let known : to_z w64 (of_z w64 c.args.a) ≡ c.args.a = to_z-of_z w64 c.args.a c.ranges.a in
     c.copy_from_slice.ensures.after ∙ eight (λ q. wrap (c.args.a *ℤ at c.args.x.now q)) _ _ _ _ _ _ _ _
-    (product_of c.args.a (at c.args.x.now 0) _ _ c.product.result c.product.ensures known (to_z-of_z w64 (at c.args.x.now 0) (search rules)))
-    (product_of c.args.a (at c.args.x.now 1) _ _ c.product-2.result c.product-2.ensures known (to_z-of_z w64 (at c.args.x.now 1) (search rules)))
-    (product_of c.args.a (at c.args.x.now 2) _ _ c.product-3.result c.product-3.ensures known (to_z-of_z w64 (at c.args.x.now 2) (search rules)))
-    (product_of c.args.a (at c.args.x.now 3) _ _ c.product-4.result c.product-4.ensures known (to_z-of_z w64 (at c.args.x.now 3) (search rules)))
-    (product_of c.args.a (at c.args.x.now 4) _ _ c.product-5.result c.product-5.ensures known (to_z-of_z w64 (at c.args.x.now 4) (search rules)))
-    (product_of c.args.a (at c.args.x.now 5) _ _ c.product-6.result c.product-6.ensures known (to_z-of_z w64 (at c.args.x.now 5) (search rules)))
-    (product_of c.args.a (at c.args.x.now 6) _ _ c.product-7.result c.product-7.ensures known (to_z-of_z w64 (at c.args.x.now 6) (search rules)))
-    (product_of c.args.a (at c.args.x.now 7) _ _ c.product-8.result c.product-8.ensures known (to_z-of_z w64 (at c.args.x.now 7) (search rules)))
+    (product_of c.args.a (at c.args.x.now 0) _ _ c.wrapped_product.result c.wrapped_product.ensures known (to_z-of_z w64 (at c.args.x.now 0) (search rules)))
+    (product_of c.args.a (at c.args.x.now 1) _ _ c.wrapped_product-2.result c.wrapped_product-2.ensures known (to_z-of_z w64 (at c.args.x.now 1) (search rules)))
+    (product_of c.args.a (at c.args.x.now 2) _ _ c.wrapped_product-3.result c.wrapped_product-3.ensures known (to_z-of_z w64 (at c.args.x.now 2) (search rules)))
+    (product_of c.args.a (at c.args.x.now 3) _ _ c.wrapped_product-4.result c.wrapped_product-4.ensures known (to_z-of_z w64 (at c.args.x.now 3) (search rules)))
+    (product_of c.args.a (at c.args.x.now 4) _ _ c.wrapped_product-5.result c.wrapped_product-5.ensures known (to_z-of_z w64 (at c.args.x.now 4) (search rules)))
+    (product_of c.args.a (at c.args.x.now 5) _ _ c.wrapped_product-6.result c.wrapped_product-6.ensures known (to_z-of_z w64 (at c.args.x.now 5) (search rules)))
+    (product_of c.args.a (at c.args.x.now 6) _ _ c.wrapped_product-7.result c.wrapped_product-7.ensures known (to_z-of_z w64 (at c.args.x.now 6) (search rules)))
+    (product_of c.args.a (at c.args.x.now 7) _ _ c.wrapped_product-8.result c.wrapped_product-8.ensures known (to_z-of_z w64 (at c.args.x.now 7) (search rules)))

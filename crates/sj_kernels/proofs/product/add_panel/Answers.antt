@@ -8,12 +8,12 @@ use Rattle.sj_base.specs.Array.{at}
 use Rattle.sj_codelet.specs.Listing.{listing}
 use Rattle.sj_codelet.proofs.Filling.{same_listing, at-listing, listing_from_elements}
 use Rattle.sj_kernels.specs.declared.product.Span.{Span}
-use Rattle.sj_kernels.specs.Panels.{part, with_terms, with_terms_within}
+use Rattle.sj_kernels.specs.Panels.{panel_element, with_terms, with_terms_within}
 use Rattle.sj_kernels.proofs.Panels.{whole_width, tile_more}
 use Rattle.sj_kernels.proofs.product.add_panel.Goals as goal
 
-pub returns-then-n-le-TILE : goal.returns-then-n-le-TILE
-returns-then-n-le-TILE c =
+pub returns-then-n-le-TILE_COLUMNS : goal.returns-then-n-le-TILE_COLUMNS
+returns-then-n-le-TILE_COLUMNS c =
     let a = c.args in
     c.add_tile.ensures ∙ same_listing (length a.c.now) _ (with_terms a.sides a.rows a.a.now a.panel.now a.c.now) (λ p h. whole_width a.sides a.rows a.a.now a.panel.now a.c.now p (omega arith))
 
@@ -37,7 +37,7 @@ loop-t-preserved c =
     let w = c.min-len.result in
     let narrow : w ≤ 64 = omega arith in
     let room : length (take (a.rows.len * w) c.loop-t.packed) ≡ a.rows.len * w = length-take-le (a.rows.len * w) c.loop-t.packed (omega (arith, mul-le-mul_left a.rows.len narrow)) in
-    let packed : tile ≡ listing (a.rows.len * w) (part a.sides.n columns a.panel.now) = c.pack.ensures ∙ ap (λ (q : ℕ). listing q (part a.sides.n columns a.panel.now)) room in
+    let packed : tile ≡ listing (a.rows.len * w) (panel_element a.sides.n columns a.panel.now) = c.pack.ensures ∙ ap (λ (q : ℕ). listing q (panel_element a.sides.n columns a.panel.now)) room in
     let G = with_terms_within columns a.sides a.rows a.a.now tile zs in
     c.add_tile-in-loop-t.ensures ∙ ap (λ (q : ℕ). listing q G) same
     ∙ same_listing (length a.c.now) G (λ p. cond (nat_lt (p % a.sides.n) ((t + 1) * 64)) (with_terms a.sides a.rows a.a.now a.panel.now a.c.now p) (at a.c.now p)) (λ p h.

@@ -1,12 +1,12 @@
 use Rattle.std.proofs.Common.{ℕ, ℤ, ◌*◌, ◌<◌, ◌≡◌, pos, List, [], ◌∷◌, ◌++◌, length, get_or, replicate, refl, sym, ap, ◌∙◌, arith}
 use Rattle.std.proofs.lemmas.Bool.Decides.{nat_tests}
 use Rattle.std.proofs.lemmas.List.{length-append, append_assoc, get_or_append_left}
-use Rattle.sj_base.specs.Lending.{with_elements}
+use Rattle.sj_base.specs.Lending.{written_over}
 use Rattle.sj_base.specs.declared.tile.Dims.{Dims}
 use Rattle.sj_base.specs.Array.{Array}
 use Rattle.sj_codelet.specs.declared.kernel.Kernel.TheVariants.{GemmThree}
 use Rattle.sj_codelet.specs.declared.formal.Formal.TheVariants.{R, RW, Scratch}
-use Rattle.sj_codelet.specs.Frame.{Slot, Frame, own, arrays, all_dims, written, AllKeep}
+use Rattle.sj_codelet.specs.Frame.{Slot, Frame, own, arrays, all_dims, written_arrays, AllKeep}
 use Rattle.sj_codelet.specs.Kernel.{new_arrays, operand, dims_at}
 use Rattle.sj_codelet.specs.Runs.{IsReadyOf, IsRunOf}
 use Rattle.sj_codelet.specs.Equations.{gemm3}
@@ -15,7 +15,7 @@ use Rattle.sj_kernels.proofs.Tiles.{gemm3_on_tiles}
 use Rattle.sj_kernels.proofs.runs.run_gemm3.Goals as goal
 
 ran_three : (before : List Slot) (t u y z : Array) → length before ≡ 3 → u.dims ≡ t.dims → z.dims ≡ y.dims
-    → (written (R ∷ R ∷ R ∷ Scratch ∷ RW ∷ []) ((before ++ own u ∷ []) ++ own z ∷ []) ≡ z ∷ []) × AllKeep (R ∷ R ∷ R ∷ Scratch ∷ RW ∷ []) ((before ++ own t ∷ []) ++ own y ∷ []) ((before ++ own u ∷ []) ++ own z ∷ [])
+    → (written_arrays (R ∷ R ∷ R ∷ Scratch ∷ RW ∷ []) ((before ++ own u ∷ []) ++ own z ∷ []) ≡ z ∷ []) × AllKeep (R ∷ R ∷ R ∷ Scratch ∷ RW ∷ []) ((before ++ own t ∷ []) ++ own y ∷ []) ((before ++ own u ∷ []) ++ own z ∷ [])
 ran_three [] t u y z l du dz = absurd (omega arith)
 ran_three (a ∷ []) t u y z l du dz = absurd (omega arith)
 ran_three (a ∷ b ∷ []) t u y z l du dz = absurd (omega arith)
@@ -32,7 +32,7 @@ ran_with_scratch args old new before t u y z ready e e' r du dz o =
     let k = length-append before (own t ∷ []) in
     let both = ran_three before t u y z (omega (arith, ap length e)) du dz in
     record {
-      written = ap (written (R ∷ R ∷ R ∷ Scratch ∷ RW ∷ [])) e' ∙ both.0 ∙ sym o;
+      written = ap (written_arrays (R ∷ R ∷ R ∷ Scratch ∷ RW ∷ [])) e' ∙ both.0 ∙ sym o;
       kept = rw (e, e') both.1;
       room = r;
     }
@@ -118,7 +118,7 @@ returns c =
     let inner = ap (λ (q : Dims). q.cols) c.dims.ensures.dims in
     let middle = ap (λ (q : Dims). q.cols) c.dims-2.ensures.dims in
     let last = ap (λ (a : Array). a.dims.cols) ed ∙ d.2 ∙ ap (λ (a : Array). a.dims.cols) ey in
-    ran_with_scratch args c.args.frame.now c.push_own-2.new.self front t _ y _ c.requires whole (c.push_own-2.ensures.slots ∙ ap (λ (xs : List Slot). xs ++ own (with_elements y c.gemm3.new.c) ∷ []) c.push_own.ensures.slots) (omega arith) refl refl
+    ran_with_scratch args c.args.frame.now c.push_own-2.new.self front t _ y _ c.requires whole (c.push_own-2.ensures.slots ∙ ap (λ (xs : List Slot). xs ++ own (written_over y c.gemm3.new.c) ∷ []) c.push_own.ensures.slots) (omega arith) refl refl
     (sym (ap (λ (a : Array). a ∷ []) (
     gemm3_on_tiles c.dims-dims.result.rows c.dims.result.cols c.dims-2.result.cols c.dims-dims.result.cols c.tile-a.result.now c.tile-b.result.now c.tile-d.result.now y
     c.elements.result.now c.elements-2.result.now c.elements-3.result.now c.elements_mut-2.result.now c.gemm3.new.c

@@ -5,12 +5,12 @@ use Rattle.sj_base.specs.declared.program.Program.{Program}
 use Rattle.sj_codelet.specs.declared.kernel.Kernel.{Kernel}
 use Rattle.sj_meaning.specs.declared.job.Statement.{Statement as Kept}
 use Rattle.sj_meaning.specs.Act.{Statement}
-use Rattle.sj_meaning.specs.State.{State, start}
+use Rattle.sj_meaning.specs.State.{JobState, start}
 use Rattle.sj_meaning.specs.Table.{Table, IsTable}
-use Rattle.sj_meaning.specs.View.{ArePlaced, IsNumbered, count_from, seen_from, statements_of}
+use Rattle.sj_meaning.specs.View.{ActsArePlaced, IsNumbered, count_from, seen_from, statements_of}
 use Rattle.sj_job.specs.Well.{IsWell}
 use Rattle.sj_lower.specs.declared.lower.LowerRefusal.{LowerRefusal}
-use Rattle.sj_lower.specs.declared.lower.Progress.{Progress}
+use Rattle.sj_lower.specs.declared.lower.LoweringProgress.{LoweringProgress}
 use Rattle.sj_lower.specs.Job.{IsJob, IsJobIn}
 use Rattle.sj_lower.specs.Limits.{late_limit, late_tasks}
 use Rattle.sj_lower.specs.Lowering.{Lowering, nothing, lowered, finished, lowered_program}
@@ -35,7 +35,7 @@ loop-statement-init c =
     record {
       going = going-start c.requires.job.has T c.args.workers c.nothing-progress.result ss (c.nothing-progress.ensures.at T) c.nothing-progress.ensures.over c.nothing-progress.ensures.last c.nothing-progress.ensures.workers
           (subst (λ (xs : List Kept). IsWell c.requires.job.has 0 start (seen_from T 0 xs)) (sym same) c.requires.job.well)
-          (subst (λ (xs : List Kept). ArePlaced 0 xs) (sym same) c.requires.numbered.placed)
+          (subst (λ (xs : List Kept). ActsArePlaced 0 xs) (sym same) c.requires.numbered.placed)
           (ap (count_from 0) same ∙ c.requires.numbered.counted);
       left = omega (arith, gives.1, vec.ok, ap length gives.0);
     }
@@ -78,7 +78,7 @@ nothing_left [] h = refl
 nothing_left (x ∷ xs) h = absurd (omega arith)
 
 -- all statements are lowered
-ended : (T : Table) (workers : ℕ) (g : Progress) (all left statements : List Kept) → GoesOn T workers g all left → length left ≡ 0 → all ≡ statements → IsDone T workers g (seen_from T 0 statements)
+ended : (T : Table) (workers : ℕ) (g : LoweringProgress) (all left statements : List Kept) → GoesOn T workers g all left → length left ≡ 0 → all ≡ statements → IsDone T workers g (seen_from T 0 statements)
 ended T workers g all left statements going none same =
     subst (λ (xs : List Kept). IsDone T workers g (seen_from T 0 xs)) same (going-end T workers g all (subst (λ (xs : List Kept). GoesOn T workers g all xs) (nothing_left left none) going))
 
@@ -94,7 +94,7 @@ close_last-requires c =
     }
 
 -- the open phases are closed
-closed_all : (T : Table) (workers : ℕ) (g new : Progress) (all left statements : List Kept) → GoesOn T workers g all left → length left ≡ 0 → all ≡ statements
+closed_all : (T : Table) (workers : ℕ) (g new : LoweringProgress) (all left statements : List Kept) → GoesOn T workers g all left → length left ≡ 0 → all ≡ statements
     → (g.last ≡ None → new ≡ g) → ((line : Line) → g.last ≡ Some line → Prepares g new line (finished g.workers)) → IsShut T workers new (seen_from T 0 statements)
 closed_all T workers g new all left statements going none same untouched closes =
     shut T workers g new (seen_from T 0 statements) (ended T workers g all left statements going none same) untouched closes
@@ -124,7 +124,7 @@ record IsMade (T : Table) (p : Program) (ss : List (Statement (List ℕ))) (work
   few_tasks : length p.tasks ≤ 262144
   few_cells : length p.cells ≤ 262144
 
-made : (T : Table) (g : Progress) (ss : List (Statement (List ℕ))) (p : Program) (workers : ℕ) → IsShut T workers g ss → g.over ≡ None → ((T : Table) (S : State) (L : Lowering) → StandsAt T g S L → p ≡ lowered_program g.workers L) → IsMade T p ss workers
+made : (T : Table) (g : LoweringProgress) (ss : List (Statement (List ℕ))) (p : Program) (workers : ℕ) → IsShut T workers g ss → g.over ≡ None → ((T : Table) (S : JobState) (L : Lowering) → StandsAt T g S L → p ≡ lowered_program g.workers L) → IsMade T p ss workers
 made T g ss p workers d none finish =
     let is : p ≡ lowered_program g.workers d.lowering = finish T d.state d.lowering d.at in
     record {

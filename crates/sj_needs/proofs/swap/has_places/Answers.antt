@@ -16,13 +16,13 @@ loop-cell-init c =
 
 pub index_mut-requires : goal.index_mut-requires
 index_mut-requires c =
-    let fits : first_fit c.args.disks.now c.loop-cell.taken.items c.block_bytes-need.result ≡ Some c.in-Some.d = ap (λ (taken : List ℕ). first_fit c.args.disks.now taken c.block_bytes-need.result) (sym c.deref.ensures.value) ∙ sym c.first_fit.ensures ∙ c.in-Some.is in
-    let room = first_fit-room c.args.disks.now c.loop-cell.taken.items c.block_bytes-need.result c.in-Some.d c.loop-cell.invariant.1 fits in
+    let fits : first_fit c.args.disks.now c.loop-cell.taken.items c.cell_block_bytes-need.result ≡ Some c.in-Some.d = ap (λ (taken : List ℕ). first_fit c.args.disks.now taken c.cell_block_bytes-need.result) (sym c.deref.ensures.value) ∙ sym c.first_fit.ensures ∙ c.in-Some.is in
+    let room = first_fit-room c.args.disks.now c.loop-cell.taken.items c.cell_block_bytes-need.result c.in-Some.d c.loop-cell.invariant.1 fits in
     omega (arith, room.0, c.loop-cell.invariant.1)
 
 pub overflow_add-index_mut : goal.overflow_add-index_mut
 overflow_add-index_mut c =
-    let fits : first_fit c.args.disks.now c.loop-cell.taken.items c.block_bytes-need.result ≡ Some c.in-Some.d = ap (λ (taken : List ℕ). first_fit c.args.disks.now taken c.block_bytes-need.result) (sym c.deref.ensures.value) ∙ sym c.first_fit.ensures ∙ c.in-Some.is in
-    let room = first_fit-room c.args.disks.now c.loop-cell.taken.items c.block_bytes-need.result c.in-Some.d c.loop-cell.invariant.1 fits in
+    let fits : first_fit c.args.disks.now c.loop-cell.taken.items c.cell_block_bytes-need.result ≡ Some c.in-Some.d = ap (λ (taken : List ℕ). first_fit c.args.disks.now taken c.cell_block_bytes-need.result) (sym c.deref.ensures.value) ∙ sym c.first_fit.ensures ∙ c.in-Some.is in
+    let room = first_fit-room c.args.disks.now c.loop-cell.taken.items c.cell_block_bytes-need.result c.in-Some.d c.loop-cell.invariant.1 fits in
     let at = c.index_mut.ensures.value ∙ get_or_default c.loop-cell.taken.items c.in-Some.d c.index_mut.result.now 0 (omega (arith, room.0, c.loop-cell.invariant.1)) in
     Fits-of_lt {w = w64} (omega (arith, room.1, at, Fits-lt-pow {w = w64} (c.type_inv.disks c.in-Some.d)))

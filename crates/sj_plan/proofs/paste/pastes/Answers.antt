@@ -2,7 +2,7 @@ use Rattle.std.proofs.Common.{◌↔◌, ◌++◌, [], ◌∙◌, List, ap, subs
 use Rattle.std.specs.List.{All, Any}
 use Rattle.sj_plan.specs.declared.paste.Paste.{Paste}
 use Rattle.sj_plan.specs.Rect.{Overlap, child}
-use Rattle.sj_plan.specs.Paste.{BeginEachOnce, IsBetween, Joins, Repartition}
+use Rattle.sj_plan.specs.Paste.{BeginEachOnce, IsPasteBetween, Joins, Repartition}
 use Rattle.sj_plan.proofs.Lists.{appended_more}
 use Rattle.sj_plan.proofs.Overlapping.{all_rows, to_rows, to_rows-append, to_rows-one}
 use Rattle.sj_plan.proofs.Repartitioning.{pastes_of-begin, pastes_of-between, pastes_of-exactly, pastes_of-repartition}
@@ -23,7 +23,7 @@ pub returns-clause-fit : goal.returns-clause-fit
 returns-clause-fit c =
     let a = c.args in
     let all = all_rows a.dims a.old a.new c.of.result c.loop-i.found.items c.loop-i.i c.of.ensures c.loop-i.invariant (omega arith) in
-    subst (λ (ps : List Paste). All (IsBetween a.dims a.old a.new) ps) all (pastes_of-between a.dims a.old a.new)
+    subst (λ (ps : List Paste). All (IsPasteBetween a.dims a.old a.new) ps) all (pastes_of-between a.dims a.old a.new)
 
 pub returns-clause-exactly : goal.returns-clause-exactly
 returns-clause-exactly c = λ from to in_old in_new.

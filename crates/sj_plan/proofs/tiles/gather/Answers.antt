@@ -2,13 +2,13 @@ use Rattle.std.proofs.Common.{◌≡◌, ◌∙◌, ap, arith}
 use Rattle.sj_base.specs.Array.{Array, element}
 use Rattle.sj_plan.specs.Window.{window}
 use Rattle.sj_base.proofs.Pasting.{pasted_none}
-use Rattle.sj_plan.specs.Rect.{dims_of, place_of}
+use Rattle.sj_plan.specs.Rect.{rect_dims, place_of}
 use Rattle.sj_plan.proofs.Windows.{gathered_more, written_back, window-with_window, element-with_window, written-outside}
 use Rattle.sj_plan.proofs.tiles.gather.Goals as goal
 
 pub loop-k-init : goal.loop-k-init
 loop-k-init c =
-    c.elements_mut-elements.ensures.elements ∙ pasted_none c.args.child.now (0, 0) (dims_of c.args.rect) c.args.into.now (place_of c.args.rect) c.dims-across.ensures.whole
+    c.elements_mut-elements.ensures.elements ∙ pasted_none c.args.child.now (0, 0) (rect_dims c.args.rect) c.args.into.now (place_of c.args.rect) c.dims-across.ensures.whole
 
 pub loop-k-preserved : goal.loop-k-preserved
 loop-k-preserved c =

@@ -1,7 +1,7 @@
 use Rattle.std.proofs.Common.{ℕ, ap, refl, subst, sym, arith, Result, IfErr, IsOk, Vec, Global}
 use Rattle.sj_base.specs.declared.program.Program.{Program}
 use Rattle.sj_core.specs.Legal.{IsFinished, IsLegal}
-use Rattle.sj_engine.specs.Outcome.{AllTell, IsCausedBy, WantsLastWritten}
+use Rattle.sj_engine.specs.Outcome.{AllDisksTell, IsCausedBy, WantsLastWritten}
 use Rattle.sj_machine.specs.Delivered.{DeliversEach}
 use Rattle.sj_machine.specs.declared.fault.RunFault.{RunFault}
 use Rattle.sj_top.specs.declared.stop.Stop.{Stop}
@@ -17,7 +17,7 @@ use Rattle.sj_top.proofs.running.run_ready.Goals as goal
 pub returns-in_default-clause-runs : goal.returns-in_default-clause-runs
 returns-in_default-clause-runs g c asked ready =
     let none = c.nothing_run in
-    subst (λ (r : Result (Vec ℕ Global) Stop). RunsWork asked (AllTell g.D.Disk.held c.args.disks.items) r none.result.trace.events) (sym none.ensures.text)
+    subst (λ (r : Result (Vec ℕ Global) Stop). RunsWork asked (AllDisksTell g.D.Disk.held c.args.disks.items) r none.result.trace.events) (sym none.ensures.text)
     (began_empty asked none.result.trace.events none.ensures.trace)
 
 pub returns-in_default-clause-disks : goal.returns-in_default-clause-disks
@@ -53,7 +53,7 @@ shown-requires-clause-handed g c =
     let ready = c.requires.ready.1 in
     let p = c.args.ready.program.value in
     let pairs = c.run-result.result.delivered.pairs in
-    let Tells = AllTell g.D.Disk.held c.args.disks.items in
+    let Tells = AllDisksTell g.D.Disk.held c.args.disks.items in
     let ok : IsOk c.run-result.result.result = subst IsOk (sym c.in_default-result.is) refl in
     let each = subst (λ (q : Program). DeliversEach q Tells pairs) c.in-Ok.ensures (c.run-result.ensures.delivers ok) in
     subst (λ (q : Program). HandedOver q pairs) (sym c.deref.ensures)
@@ -70,7 +70,7 @@ returns-in-Ok-shown-clause-runs g c asked ready =
     let m = c.args.ready.machine in
     let pairs = c.run-result.result.delivered.pairs in
     let trace = c.run-result.result.trace.events in
-    let Tells = AllTell g.D.Disk.held c.args.disks.items in
+    let Tells = AllDisksTell g.D.Disk.held c.args.disks.items in
     let ok : IsOk c.run-result.result.result = subst IsOk (sym c.in_default-result.is) refl in
     let each = subst (λ (q : Program). DeliversEach q Tells pairs) c.in-Ok.ensures (c.run-result.ensures.delivers ok) in
     let finished = subst (λ (q : Program). IsFinished q m trace) c.in-Ok.ensures (c.run-result.ensures.finished ok) in

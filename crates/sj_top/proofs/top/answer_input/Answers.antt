@@ -1,8 +1,8 @@
 use Rattle.std.proofs.Common.{ℕ, List, map, ◌∙◌, subst, sym, Result, IsOkAnd, Vec, Global}
-use Rattle.sj_engine.specs.Outcome.{AllTell}
+use Rattle.sj_engine.specs.Outcome.{AllDisksTell}
 use Rattle.sj_top.specs.declared.status.Status.{Status}
 use Rattle.sj_top.specs.declared.stop.Stop.{Stop}
-use Rattle.sj_top.specs.Answers.{AnsweredText, IsTextOf, LeavesDisks, RunsWork, StopsWith, WritesText, status_of}
+use Rattle.sj_top.specs.Answers.{AnsweredText, IsAnswerText, LeavesDisks, RunsWork, StopsWith, WritesText, status_of}
 use Rattle.sj_top.specs.Device.{seen}
 use Rattle.sj_ready.specs.Input.{work_in}
 use Rattle.sj_ready.specs.Work.{WorkOrRefusal}
@@ -13,10 +13,10 @@ use Rattle.sj_top.proofs.top.answer_input.Goals as goal
 pub returns-in-Ok-clause-answered : goal.returns-in-Ok-clause-answered
 returns-in-Ok-clause-answered g c =
     let asked : WorkOrRefusal = work_in g.C.Codelets.has c.args.options.now (map g.D.Disk.size c.args.disks.items) c.args.input in
-    let Tells = AllTell g.D.Disk.held c.args.disks.items in
+    let Tells = AllDisksTell g.D.Disk.held c.args.disks.items in
     let trace = c.run_input-text.result.trace.events in
     let text = c.in-Ok.printed.items in
-    let is : IsOkAnd asked (IsTextOf Tells trace text) = subst (λ (r : Result (Vec ℕ Global) Stop). RunsWork asked Tells r trace) c.in-Ok.is c.run_input-text.ensures.runs in
+    let is : IsOkAnd asked (IsAnswerText Tells trace text) = subst (λ (r : Result (Vec ℕ Global) Stop). RunsWork asked Tells r trace) c.in-Ok.is c.run_input-text.ensures.runs in
     let out = seen g.O.Sink.taken g.O.Sink.faults c.args.out.now in
     let out' = seen g.O.Sink.taken g.O.Sink.faults c.write_printed.new.out in
     let written = subst (λ (xs : List ℕ). WritesText xs c.write_printed.result out out') c.deref.ensures.value c.write_printed.ensures.written in
@@ -36,10 +36,10 @@ returns-in-Ok-clause-disks g c =
 pub returns-in-Ok-clause-out_stays : goal.returns-in-Ok-clause-out_stays
 returns-in-Ok-clause-out_stays g c = λ nothing.
     let asked : WorkOrRefusal = work_in g.C.Codelets.has c.args.options.now (map g.D.Disk.size c.args.disks.items) c.args.input in
-    let Tells = AllTell g.D.Disk.held c.args.disks.items in
+    let Tells = AllDisksTell g.D.Disk.held c.args.disks.items in
     let trace = c.run_input-text.result.trace.events in
     let text = c.in-Ok.printed.items in
-    let is : IsOkAnd asked (IsTextOf Tells trace text) = subst (λ (r : Result (Vec ℕ Global) Stop). RunsWork asked Tells r trace) c.in-Ok.is c.run_input-text.ensures.runs in
+    let is : IsOkAnd asked (IsAnswerText Tells trace text) = subst (λ (r : Result (Vec ℕ Global) Stop). RunsWork asked Tells r trace) c.in-Ok.is c.run_input-text.ensures.runs in
     let out = seen g.O.Sink.taken g.O.Sink.faults c.args.out.now in
     let out' = seen g.O.Sink.taken g.O.Sink.faults c.write_printed.new.out in
     let written = subst (λ (xs : List ℕ). WritesText xs c.write_printed.result out out') c.deref.ensures.value c.write_printed.ensures.written in
@@ -48,7 +48,7 @@ returns-in-Ok-clause-out_stays g c = λ nothing.
 pub returns-in-Err-clause-answered : goal.returns-in-Err-clause-answered
 returns-in-Err-clause-answered g c =
     let asked : WorkOrRefusal = work_in g.C.Codelets.has c.args.options.now (map g.D.Disk.size c.args.disks.items) c.args.input in
-    let Tells = AllTell g.D.Disk.held c.args.disks.items in
+    let Tells = AllDisksTell g.D.Disk.held c.args.disks.items in
     let trace = c.run_input-text.result.trace.events in
     let out = seen g.O.Sink.taken g.O.Sink.faults c.args.out.now in
     let stops : StopsWith asked c.in-Err.stop trace = subst (λ (r : Result (Vec ℕ Global) Stop). RunsWork asked Tells r trace) c.in-Err.is c.run_input-text.ensures.runs in

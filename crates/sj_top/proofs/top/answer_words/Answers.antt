@@ -7,7 +7,7 @@ use Rattle.sj_top.specs.Device.{Device, devices, in_use, seen}
 use Rattle.sj_top.specs.Solving.{TakesAnswer}
 use Rattle.sj_top.specs.declared.status.Status.TheVariants.{OutOfMemory}
 use Rattle.sj_base.specs.declared.trace.Event.{Event}
-use Rattle.sj_top.specs.Top.{HasCause, IsSilent, TakesText}
+use Rattle.sj_top.specs.Top.{StatusHasCause, IsSilent, TakesText}
 use Rattle.sj_ready.specs.Work.{asked_by, said_by}
 use Rattle.sj_top.specs.Work.{Asked, asked_through, reads_source}
 use Rattle.sj_top.proofs.Leaving.{come-back-same}
@@ -26,7 +26,7 @@ returns-in-Ok-clause-answered g c =
     let sizes = map g.D.Disk.size c.args.disks.items in
     let before = devices g.S.Source g.O.Sink g.D.Disk c.args.source.now c.args.out.now c.args.disks.items in
     let after = devices g.S.Source g.O.Sink g.D.Disk c.answer_options.new.source c.answer_options.new.out c.answer_options.result.disks.items in
-    subst (λ (o : Option Options). HasCause (asked_through (λ o. asked_by o sizes) o (g.S.Source.left c.args.source.now)) (in_use (reads_source o) before) (in_use (reads_source o) after) c.answer_options.result.trace.events c.answer_options.result.status)
+    subst (λ (o : Option Options). StatusHasCause (asked_through (λ o. asked_by o sizes) o (g.S.Source.left c.args.source.now)) (in_use (reads_source o) before) (in_use (reads_source o) after) c.answer_options.result.trace.events c.answer_options.result.status)
     (sym c.in-Ok.ensures.ok) c.answer_options.ensures.answered
 
 pub returns-in-Ok-clause-solved : goal.returns-in-Ok-clause-solved
@@ -57,7 +57,7 @@ returns-in-Err-Unaccepted-clause-answered g c =
     let asked : Option Options → Asked = λ o. asked_through (λ o. asked_by o sizes) o (g.S.Source.left c.args.source.now) in
     let none = c.in-Err-Unaccepted.ensures.unaccepted c.in-Err-Unaccepted.field-0-is in
     let reads = reads_source (options (texts c.args.words.now)) in
-    subst (λ (s : Status). HasCause (asked (options (texts c.args.words.now))) (in_use reads before) (in_use reads after) u.result.trace.events s) (sym u.ensures.status)
+    subst (λ (s : Status). StatusHasCause (asked (options (texts c.args.words.now))) (in_use reads before) (in_use reads after) u.result.trace.events s) (sym u.ensures.status)
     (record { cause = ap asked none; nothing_ran = u.ensures.trace })
 
 pub returns-in-Err-Unaccepted-clause-solved : goal.returns-in-Err-Unaccepted-clause-solved
@@ -80,7 +80,7 @@ returns-in-Err-OutOfMemory-clause-answered g c =
     let after = devices g.S.Source g.O.Sink g.D.Disk c.args.source.now c.args.out.now u.result.disks.items in
     let asked = asked_through (λ o. asked_by o sizes) (options (texts c.args.words.now)) (g.S.Source.left c.args.source.now) in
     let reads = reads_source (options (texts c.args.words.now)) in
-    subst (λ (s : Status). HasCause asked (in_use reads before) (in_use reads after) u.result.trace.events s) (sym u.ensures.status)
+    subst (λ (s : Status). StatusHasCause asked (in_use reads before) (in_use reads after) u.result.trace.events s) (sym u.ensures.status)
     (unread-memory asked (in_use reads before) (in_use reads after) u.result.trace.events u.ensures.trace refl)
 
 no-answer : (o : Option Options) (out out' : Device) (trace : List Event) → TakesAnswer o OutOfMemory out out' trace

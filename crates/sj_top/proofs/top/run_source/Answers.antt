@@ -3,12 +3,12 @@ use Rattle.std.specs.Prelude.{option_map}
 use Rattle.sj_codelet.specs.declared.kernel.Kernel.{Kernel}
 use Rattle.sj_job.specs.Reading.{job_of}
 use Rattle.sj_edge.specs.Faults.{counted}
-use Rattle.sj_engine.specs.Outcome.{AllTell}
+use Rattle.sj_engine.specs.Outcome.{AllDisksTell}
 use Rattle.sj_top.specs.declared.source_text.Unread.{Unread}
 use Rattle.sj_top.specs.declared.status.Status.{Status}
 use Rattle.sj_top.specs.Device.{devices, seen}
-use Rattle.sj_top.specs.Streams.{is_fault}
-use Rattle.sj_top.specs.Top.{HasCause}
+use Rattle.sj_top.specs.Streams.{is_source_fault}
+use Rattle.sj_top.specs.Top.{StatusHasCause}
 use Rattle.sj_top.specs.Work.{told}
 use Rattle.sj_ready.specs.Work.{asked_by}
 use Rattle.sj_top.proofs.ReadingWhole.{short}
@@ -26,7 +26,7 @@ returns-in-Ok-clause-printed g c = λ tells.
     let has = g.C.Codelets.has in
     let left = g.S.Source.left c.args.source.now in
     printed-by c.args.options.now (map g.D.Disk.size c.args.disks.items) (option_map (job_of has) left) (job_of has c.in-Ok.text.items) (same-jobs has c.in-Ok.text.items left (c.in-Ok.ensures.job has))
-    (AllTell g.D.Disk.held c.args.disks.items) c.answer_input.result.status
+    (AllDisksTell g.D.Disk.held c.args.disks.items) c.answer_input.result.status
     (seen g.O.Sink.taken g.O.Sink.faults c.args.out.now) (seen g.O.Sink.taken g.O.Sink.faults c.answer_input.new.out) c.answer_input.result.trace.events
     c.answer_input.ensures.answered tells
 
@@ -66,8 +66,8 @@ returns-in-Err-OutOfMemory-clause-answered g c =
     let before = devices g.S.Source g.O.Sink g.D.Disk c.args.source.now c.args.out.now c.args.disks.items in
     let after = devices g.S.Source g.O.Sink g.D.Disk c.read_source.new.source c.args.out.now u.result.disks.items in
     let asked = told (option_map (asked_by c.args.options.now (map g.D.Disk.size c.args.disks.items)) (option_map (job_of g.C.Codelets.has) (g.S.Source.left c.args.source.now))) in
-    let same = subst (λ (x : Unread). after.source.faults ≡ counted before.source.faults (is_fault (failed x))) c.in-Err-OutOfMemory.field-0-is c.in-Err-OutOfMemory.ensures.rises_by_one in
-    subst (λ (s : Status). HasCause asked before after u.result.trace.events s) (sym u.ensures.status)
+    let same = subst (λ (x : Unread). after.source.faults ≡ counted before.source.faults (is_source_fault (failed x))) c.in-Err-OutOfMemory.field-0-is c.in-Err-OutOfMemory.ensures.rises_by_one in
+    subst (λ (s : Status). StatusHasCause asked before after u.result.trace.events s) (sym u.ensures.status)
     (unread-memory asked before after u.result.trace.events u.ensures.trace same)
 
 pub returns-in-Err-OutOfMemory-clause-disks_come_back : goal.returns-in-Err-OutOfMemory-clause-disks_come_back

@@ -1,7 +1,7 @@
 use Rattle.std.proofs.Common.{◌∙◌, None, false, true, set, subst, sym}
 use Rattle.std.proofs.lemmas.Bool.{false≢true}
 use Rattle.sj_base.specs.declared.trace.Event.TheVariants.{End}
-use Rattle.sj_deps.specs.Progress.{after}
+use Rattle.sj_deps.specs.Progress.{after_done}
 use Rattle.sj_check.specs.Replay.{Judges, Replay}
 use Rattle.sj_check.specs.Watching.{replay_of}
 use Rattle.sj_check.proofs.Keeping.{end-inside, end-ready, judges-bad, judges-good, watches-as, watches-ended, watches-same}
@@ -38,7 +38,7 @@ invariant_of-self-2 c =
     let deps = c.self.inside.deps in
     let can = c.may_end.ensures.0 c.if-not-may_end.false in
     let inside = end-inside _ b b' tasks deps c.self.invariant c.is_sound.ensures.coherent c.args.t c.args.w can in
-    watches-as _ b' (set tasks c.args.w.0 None) (after deps c.args.t.0)
+    watches-as _ b' (set tasks c.args.w.0 None) (after_done deps c.args.t.0)
     (watches-ended _ b b' tasks deps c.self.invariant c.is_sound.ensures.coherent c.args.t c.args.w can c.in_ok-end_run.ensures.ok inside)
     c.set_task.new.tasks.items c.set_done.new.deps c.set_task.ensures c.set_done.ensures
 

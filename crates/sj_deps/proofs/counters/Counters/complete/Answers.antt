@@ -5,7 +5,7 @@ use Rattle.std.proofs.lemmas.List.{length-set}
 use Rattle.std.proofs.lemmas.List.Sorted.{sum_by-IsPermutation}
 use Rattle.sj_base.specs.declared.ids.Task.{Task}
 use Rattle.sj_deps.specs.Chains.{is_party, left_of, waits_of}
-use Rattle.sj_deps.specs.Counts.{Fits, Frees, is_task, owed, parties_at, tasks_at}
+use Rattle.sj_deps.specs.Counts.{CountsFit, Frees, is_task, owed, parties_at, tasks_at}
 use Rattle.sj_deps.proofs.Completing.{opened_known, owed_is, owed_enough}
 use Rattle.sj_deps.proofs.counters.Counters.complete.Goals as goal
 
@@ -35,7 +35,7 @@ returns c =
       parties = refl {A = List (List ℕ)};
       chains = c.leave_all.ensures.chains;
       ledger = record {
-        fits = subst (λ (rows : List (List ℕ)). Fits c.leave_all.new.left.items c.leave_all.new.chains.items rows c.leave_all.new.waits.items) c.deref.ensures.value c.leave_all.ensures.fits;
+        fits = subst (λ (rows : List (List ℕ)). CountsFit c.leave_all.new.left.items c.leave_all.new.chains.items rows c.leave_all.new.waits.items) c.deref.ensures.value c.leave_all.ensures.fits;
         matching = ledger.matching;
         held = λ u. let a = frees.held u in let b = owes u in omega arith;
         tasks = λ n. subst (λ k. All (λ (x : Task). x.0 < k) (tasks_at old.tasks.items n)) (sym frees.len) (ledger.tasks n);

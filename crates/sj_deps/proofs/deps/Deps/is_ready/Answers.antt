@@ -2,7 +2,7 @@ use Rattle.std.proofs.Common.{◌≡◌, ◌<◌, ◌∙◌, sym, subst, IsTrue,
 use Rattle.std.proofs.lemmas.List.{get_or_default}
 use Rattle.std.proofs.lemmas.Bool.{false≢true}
 use Rattle.sj_deps.specs.Conflict.{Ready}
-use Rattle.sj_deps.specs.Progress.{Progress}
+use Rattle.sj_deps.specs.Progress.{Dependencies}
 use Rattle.sj_deps.specs.Chains.{waits_of}
 use Rattle.sj_deps.proofs.Readiness.{flag_at}
 use Rattle.sj_deps.proofs.Keeping.{ready_done, ready_iff}
@@ -16,7 +16,7 @@ returns-then-index c =
     let every' = c.self.invariant.every_task in
     let inside : c.args.t.0 < length k.is_done.items = omega arith in
     let done : flag_at k.is_done.items c.args.t.0 ≡ true = get_or_default k.is_done.items c.args.t.0 false _ inside ∙ sym c.index.ensures ∙ c.if-index.true in
-    subst (λ (v : Progress). (IsTrue false → Ready v.program v.done c.args.t.0) × (Ready v.program v.done c.args.t.0 → IsTrue false)) c.self.view_is (λ no'. absurd (false≢true no'), λ ready. absurd (ready_done P k c.self.invariant c.args.t.0 done ready))
+    subst (λ (v : Dependencies). (IsTrue false → Ready v.program v.done c.args.t.0) × (Ready v.program v.done c.args.t.0 → IsTrue false)) c.self.view_is (λ no'. absurd (false≢true no'), λ ready. absurd (ready_done P k c.self.invariant c.args.t.0 done ready))
 
 pub returns : goal.returns
 returns c =
@@ -29,4 +29,4 @@ returns c =
     let idle : flag_at k.is_done.items c.args.t.0 ≡ false = get_or_default k.is_done.items c.args.t.0 false _ inside ∙ sym c.index.ensures ∙ c.if-index.false in
     let waits : waits_of k.held.items c.args.t.0 ≡ c.index-2.result.now = get_or_default k.held.items c.args.t.0 0 _ inside' ∙ sym c.index-2.ensures in
     let iff : (IsTrue (nat_eq c.index-2.result.now 0) → Ready P k.order.items c.args.t.0) × (Ready P k.order.items c.args.t.0 → IsTrue (nat_eq c.index-2.result.now 0)) = subst (λ n. (IsTrue (nat_eq n 0) → Ready P k.order.items c.args.t.0) × (Ready P k.order.items c.args.t.0 → IsTrue (nat_eq n 0))) waits (ready_iff P k c.self.invariant c.args.t.0 (omega arith) idle) in
-    subst (λ (v : Progress). (IsTrue (nat_eq c.index-2.result.now 0) → Ready v.program v.done c.args.t.0) × (Ready v.program v.done c.args.t.0 → IsTrue (nat_eq c.index-2.result.now 0))) c.self.view_is iff
+    subst (λ (v : Dependencies). (IsTrue (nat_eq c.index-2.result.now 0) → Ready v.program v.done c.args.t.0) × (Ready v.program v.done c.args.t.0 → IsTrue (nat_eq c.index-2.result.now 0))) c.self.view_is iff

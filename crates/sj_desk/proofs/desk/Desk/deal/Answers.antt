@@ -2,14 +2,14 @@ use Rattle.std.proofs.Common.{rules, refl, ◌∙◌, ◌<◌, ap, None, length,
 use Rattle.std.proofs.lemmas.List.FromFn.{length-map-range_with_len}
 use Rattle.sj_desk.specs.Seats.{new_seat}
 use Rattle.sj_desk.specs.Views.{no_tally, opening_of}
-use Rattle.sj_desk.specs.Turns.{Fits}
+use Rattle.sj_desk.specs.Turns.{FitsOpening}
 use Rattle.sj_desk.proofs.Ends.{deals_at, dealer_next, dealt_me, dealt_facts, dealt_list}
 use Rattle.sj_desk.proofs.desk.Desk.deal.Goals as goal
 
 pub split_seat-ticket-requires : goal.split_seat-ticket-requires
 split_seat-ticket-requires g c =
     let below : c.loop-number.number < c.args.self.now.seats = omega (arith, c.loop-number-test.true, c.loop-number.invariant.seats) in
-    (search rules, omega (arith, c.self.invariant.0), deals_at g.T.Keyed.row_of (Fits g.T.Keyed.key g.T.Keyed.sound) c.self.inside.table.shared.key _ _ c.self.view_is _ c.loop-number.number _ below c.loop-number.invariant.dealer)
+    (search rules, omega (arith, c.self.invariant.0), deals_at g.T.Keyed.row_of (FitsOpening g.T.Keyed.key g.T.Keyed.sound) c.self.inside.table.shared.key _ _ c.self.view_is _ c.loop-number.number _ below c.loop-number.invariant.dealer)
 
 pub invariant_of-push_reserved : goal.invariant_of-push_reserved
 invariant_of-push_reserved g c =

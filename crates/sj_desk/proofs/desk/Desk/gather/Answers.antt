@@ -1,7 +1,7 @@
 use Rattle.std.proofs.Common.{◌∙◌, ◌<◌, ap, sym, Some, arith}
 use Rattle.std.proofs.lemmas.List.Elements.{All-pop}
 use Rattle.sj_desk.specs.Seats.{DeskFacts, IsWaiting}
-use Rattle.sj_desk.specs.Turns.{Fits}
+use Rattle.sj_desk.specs.Turns.{FitsOpening}
 use Rattle.sj_desk.proofs.Ends.{taken, none_without, gathered_first, gathered_more, joins_at, joined_idle, joined_rows}
 use Rattle.sj_desk.proofs.desk.Desk.gather.Goals as goal
 
@@ -32,7 +32,7 @@ join_seat-requires g c =
       t.table ∙ table,
       ap (λ m. m.1) t.idle.1,
       omega (arith, c.self.invariant.0),
-      joins_at g.T.Keyed.row_of (Fits g.T.Keyed.key g.T.Keyed.sound) c.self.inside.table.shared.key _ d c.self.view_is _ _ _ _ _ _ c.loop-seat.invariant.idle t.idle,
+      joins_at g.T.Keyed.row_of (FitsOpening g.T.Keyed.key g.T.Keyed.sound) c.self.inside.table.shared.key _ d c.self.view_is _ _ _ _ _ _ c.loop-seat.invariant.idle t.idle,
     )
 
 pub loop-seat-preserved : goal.loop-seat-preserved

@@ -1,6 +1,6 @@
 use Rattle.std.proofs.Common.{rules, ◌∙◌, ap, sym, Some, arith}
 use Rattle.sj_desk.specs.Seats.{DeskFacts}
-use Rattle.sj_desk.specs.Turns.{Fits}
+use Rattle.sj_desk.specs.Turns.{FitsOpening}
 use Rattle.sj_desk.proofs.Seats.{sits, leaves_at, put_in, left_seated, others_kept}
 use Rattle.sj_desk.proofs.desk.Desk.leave.Goals as goal
 
@@ -12,7 +12,7 @@ swap-requires g c =
     let key = c.requires.key ∙ ap (λ (d : DeskFacts g.row.T.Denot). g.T.Keyed.key d.opening) (sym c.self.view_is) in (
       search rules,
       omega (arith, c.self.invariant.0),
-      leaves_at g.T.Keyed.row_of (Fits g.T.Keyed.key g.T.Keyed.sound) k _ _ _ s.left kept.found c.args.value s.tally _ c.self.invariant.1 (key, c.requires.sound) kept.others
+      leaves_at g.T.Keyed.row_of (FitsOpening g.T.Keyed.key g.T.Keyed.sound) k _ _ _ s.left kept.found c.args.value s.tally _ c.self.invariant.1 (key, c.requires.sound) kept.others
           (put_in _ s.left kept.found c.args.value s.tally k _ _ s.me_is c.exchange-out.ensures.3),
     )
 

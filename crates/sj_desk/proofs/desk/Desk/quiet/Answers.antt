@@ -1,6 +1,6 @@
 use Rattle.std.proofs.Common.{rules, ◌∙◌, ◌≢◌, ap, is_some, None, arith}
 use Rattle.atomic_table.specs.Table.{Me}
-use Rattle.sj_desk.specs.Turns.{Fits}
+use Rattle.sj_desk.specs.Turns.{FitsOpening}
 use Rattle.sj_desk.proofs.Seats.{sits, rests_at, rested_seated, has_rung, heard_seen, none_heard}
 use Rattle.sj_desk.proofs.desk.Desk.quiet.Goals as goal
 
@@ -10,7 +10,7 @@ unreachable-requires g c = none_heard c.seat.inside.heard c.in_default.is (ap is
 pub load-count-requires : goal.load-count-requires
 load-count-requires g c =
     let s = sits _ _ _ _ _ c.self.inside.table.shared.key None _ _ c.seat.invariant c.seat.view_is c.self.view_is c.requires.of_this_desk c.requires.not_in_its_turn in
-    (s.table, omega (arith, c.self.invariant.0, c.word_of-word.ensures.inside), rests_at g.T.Keyed.row_of (Fits g.T.Keyed.key g.T.Keyed.sound) c.self.inside.table.shared.key _ _ _ _ c.in-Some.heard _ _ _ c.self.invariant.1 c.word_of-word.ensures.word (s.hears ∙ c.in-Some.is) s.me_is)
+    (s.table, omega (arith, c.self.invariant.0, c.word_of-word.ensures.inside), rests_at g.T.Keyed.row_of (FitsOpening g.T.Keyed.key g.T.Keyed.sound) c.self.inside.table.shared.key _ _ _ _ c.in-Some.heard _ _ _ c.self.invariant.1 c.word_of-word.ensures.word (s.hears ∙ c.in-Some.is) s.me_is)
 
 pub invariant_of-seat-2 : goal.invariant_of-seat-2
 invariant_of-seat-2 g c =

@@ -1,6 +1,6 @@
 use Rattle.std.proofs.Common.{List, ℕ, Option, map, length, sym, ap, ◌∙◌, subst}
 use Rattle.sj_disk.specs.declared.directory.Extent.{Extent}
-use Rattle.sj_disk.specs.Sound.{AreFilled, IsSound}
+use Rattle.sj_disk.specs.Sound.{AreFilled, AreSoundDisks}
 use Rattle.sj_disk.proofs.Reserving.{none-of, sound-made}
 use Rattle.sj_disk.proofs.disk_set.DiskSet.make.Goals as goal
 
@@ -12,5 +12,5 @@ invariant_of-result g c =
     let s = c.in-Ok.ensures in
     let filled = subst (λ (xs : List g.row.D.Denot). AreFilled size held xs) c.deref.ensures.value s.filled in
     let made = sound-made size held disks c.in-Ok.sizes.items c.requires.few (s.sizes ∙ ap (map size) c.deref.ensures.value) s.bounded filled in
-    let zeros = subst (λ (ns : List ℕ). IsSound size held disks c.in-Ok.sizes.items ns _) (sym (c.in-Ok-zeros.ensures ∙ ap none-of (c.len.ensures ∙ sym c.deref.ensures.len ∙ ap length c.deref.ensures.value))) made in
-    subst (λ (es : List (Option Extent)). IsSound size held disks c.in-Ok.sizes.items c.in-Ok-zeros.taken.items es) (sym c.new.ensures.items) zeros
+    let zeros = subst (λ (ns : List ℕ). AreSoundDisks size held disks c.in-Ok.sizes.items ns _) (sym (c.in-Ok-zeros.ensures ∙ ap none-of (c.len.ensures ∙ sym c.deref.ensures.len ∙ ap length c.deref.ensures.value))) made in
+    subst (λ (es : List (Option Extent)). AreSoundDisks size held disks c.in-Ok.sizes.items c.in-Ok-zeros.taken.items es) (sym c.new.ensures.items) zeros

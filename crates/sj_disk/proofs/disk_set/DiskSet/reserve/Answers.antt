@@ -9,7 +9,7 @@ use Rattle.sj_disk.specs.declared.refusal.ReserveRefusal.TheVariants.{NoRoom, Ou
 use Rattle.sj_disk.specs.Block.{block_bytes}
 use Rattle.sj_disk.specs.Calls.{Reserves}
 use Rattle.sj_disk.specs.Directory.{DiskState, disk_state, extent_at, extent_of, first_fit}
-use Rattle.sj_disk.specs.Sound.{IsSound}
+use Rattle.sj_disk.specs.Sound.{AreSoundDisks}
 use Rattle.sj_disk.proofs.Reserving.{disk-number, reserved, sound-reserve}
 use Rattle.sj_disk.proofs.disk_set.DiskSet.reserve.Goals as goal
 
@@ -73,7 +73,7 @@ invariant_of-self-2 g c =
     let inside : d < length taken = omega (arith, room.0, s.laid_out.as_many) in
     let gives = subst (λ (p : ℕ). extent_of after c.args.cell.0 ≡ Some (extent_at d p n)) (there taken d c.index.result.now inside c.index.ensures) c.in_ok-add_extent.ensures.gives in
     let sound = sound-reserve g.D.Disk.size g.D.Disk.held c.self.inside.disks.items c.self.inside.sizes.items taken c.self.inside.directory.items after c.args.cell.0 n d s e gives c.add_extent.ensures.others_stay in
-    subst (λ (p : ℕ). IsSound g.D.Disk.size g.D.Disk.held c.self.inside.disks.items c.self.inside.sizes.items (slice_set taken d (p + block_bytes n)) after) (sym (there taken d c.index_mut.result.now inside c.index_mut.ensures.value)) sound
+    subst (λ (p : ℕ). AreSoundDisks g.D.Disk.size g.D.Disk.held c.self.inside.disks.items c.self.inside.sizes.items (slice_set taken d (p + block_bytes n)) after) (sym (there taken d c.index_mut.result.now inside c.index_mut.ensures.value)) sound
 
 pub returns-clause-reserves : goal.returns-clause-reserves
 returns-clause-reserves g c =

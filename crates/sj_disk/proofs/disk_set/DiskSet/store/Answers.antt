@@ -2,7 +2,7 @@ use Rattle.std.proofs.Common.{◌≡◌, ℕ, ℤ, Bool, List, Some, length, sym
 use Rattle.sj_disk.specs.declared.directory.Extent.{Extent}
 use Rattle.sj_disk.specs.Directory.{DiskState, disk_state, with_store}
 use Rattle.sj_disk.specs.Calls.{Stores}
-use Rattle.sj_disk.specs.Sound.{IsSound}
+use Rattle.sj_disk.specs.Sound.{AreSoundDisks}
 use Rattle.std.specs.Prelude.{slice_set}
 use Rattle.sj_base.proofs.Options.{IfSome-from}
 use Rattle.sj_disk.proofs.Sounding.{inside-disk, inside-fits, looked-up, sound-store, store-change, stored}
@@ -44,7 +44,7 @@ invariant_of-self g c =
     let k = looked-up (HasLength c.args.tile.now.elements) c.deref.result.now c.self.inside.directory.items cell e c.args.self.now c.deref.ensures.value (ap (λ (s : DiskState g.row.D.Denot). s.directory) c.self.view_is) c.known_extent-extent.ensures c.requires.reserved in
     let ch = store-change g.D.Disk.size g.D.Disk.faults g.D.Disk.mismatches g.D.Disk.held old new cell e c.args.writes _ xs r c.elements.ensures.elements k.2 c.store_on-result.ensures.writes in
     let sound = sound-store g.D.Disk.size g.D.Disk.faults g.D.Disk.mismatches g.D.Disk.held old new sizes taken directory cell e c.args.writes xs r k.0 k.2 c.self.invariant ch in
-    subst (λ (ok : Bool). IsSound g.D.Disk.size g.D.Disk.held new sizes taken (slice_set directory cell (Some (with_store e c.args.writes ok)))) (sym c.is_ok.ensures.value) sound
+    subst (λ (ok : Bool). AreSoundDisks g.D.Disk.size g.D.Disk.held new sizes taken (slice_set directory cell (Some (with_store e c.args.writes ok)))) (sym c.is_ok.ensures.value) sound
 
 pub returns : goal.returns
 returns g c =

@@ -8,7 +8,7 @@ use Rattle.sj_disk.specs.Calls.{Fetches, Stores}
 use Rattle.sj_disk.specs.Directory.{disk_state}
 use Rattle.sj_disk.specs.Lending.{IsTaken, LendingState, has_back, lending}
 use Rattle.sj_disk.specs.Rack.{Racked}
-use Rattle.sj_disk.specs.Sound.{IsSound}
+use Rattle.sj_disk.specs.Sound.{AreSoundDisks}
 use Rattle.sj_disk.specs.Units.{IsSoundUnit, IsWorkedOn, UnitFetches, UnitState, UnitStores, unit_state}
 use Rattle.sj_disk.proofs.Returning.{has-fetched, has-stored, is-sound-back, within-directory}
 use Rattle.sj_disk.proofs.lending_set.LendingSet.put_back.Goals as goal
@@ -36,7 +36,7 @@ invariant_of-self g c =
     let sound = subst (λ (v : UnitState g.row.D.Denot). IsSoundUnit g.D.Disk.size g.D.Disk.held v) (sym c.into_parts-disk.ensures.parts) c.into_parts-disk.ensures.sound in
     let worked = subst (λ (v : UnitState g.row.D.Denot). IsWorkedOn g.D.Disk.size g.D.Disk.faults g.D.Disk.mismatches g.D.Disk.held c.requires.before v) (sym c.into_parts-disk.ensures.parts) c.requires.worked in
     let back = is-sound-back g.D.Disk.size g.D.Disk.faults g.D.Disk.mismatches g.D.Disk.held inside.rack.disks inside.sizes.items inside.taken.items inside.directory.items inside.rack.out c.self.invariant c.requires.before u was sound worked in
-    subst (λ (k : Racked g.row.D.Denot). IsSound g.D.Disk.size g.D.Disk.held k.disks inside.sizes.items inside.taken.items (slice_set inside.directory.items r.cell.0 (Some r.extent))) (sym c.put.ensures) back
+    subst (λ (k : Racked g.row.D.Denot). AreSoundDisks g.D.Disk.size g.D.Disk.held k.disks inside.sizes.items inside.taken.items (slice_set inside.directory.items r.cell.0 (Some r.extent))) (sym c.put.ensures) back
 
 pub returns-clause-back : goal.returns-clause-back
 returns-clause-back g c =

@@ -3,7 +3,7 @@ use Rattle.std.proofs.lemmas.List.{get_or_default}
 use Rattle.sj_base.specs.declared.mode.Mode.TheVariants.{R}
 use Rattle.sj_meaning.specs.declared.job.Operand.{Operand as Access}
 use Rattle.sj_meaning.specs.Table.{Table, IsRoot}
-use Rattle.sj_job.specs.declared.names.Standing.TheVariants.{Ended}
+use Rattle.sj_job.specs.declared.names.RootStanding.TheVariants.{Ended}
 use Rattle.sj_job.specs.Names.{IsPlaceIn, plan_in}
 use Rattle.sj_job.proofs.Each.{begins}
 use Rattle.sj_job.proofs.Seen.{written_more, counted-once, plan-written, below-length}

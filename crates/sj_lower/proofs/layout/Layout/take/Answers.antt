@@ -8,9 +8,9 @@ use Rattle.sj_lower.proofs.Laying.{lays_new, lays_full}
 use Rattle.sj_lower.proofs.Places.{length-places}
 use Rattle.sj_lower.proofs.layout.Layout.take.Goals as goal
 
-pub returns-then-first-parts-gt-MOST-clause-full : goal.returns-then-first-parts-gt-MOST-clause-full
-returns-then-first-parts-gt-MOST-clause-full c = λ T C s inside dims.
-    lays_full T c.args.self.now C c.args.root c.args.parts s inside (sym c.get.ensures.value ∙ ap option_copied c.in_default.is) (omega (arith, c.len-first.ensures, c.args.self.now.infos.ok, c.if-first-parts-gt-MOST.true))
+pub returns-then-first-parts-gt-MOST_PER_JOB-clause-full : goal.returns-then-first-parts-gt-MOST_PER_JOB-clause-full
+returns-then-first-parts-gt-MOST_PER_JOB-clause-full c = λ T C s inside dims.
+    lays_full T c.args.self.now C c.args.root c.args.parts s inside (sym c.get.ensures.value ∙ ap option_copied c.in_default.is) (omega (arith, c.len-first.ensures, c.args.self.now.infos.ok, c.if-first-parts-gt-MOST_PER_JOB.true))
 
 pub returns-clause-few : goal.returns-clause-few
 returns-clause-few c =
@@ -25,7 +25,7 @@ returns-clause-few c =
       length-append c.args.self.now.infos.items (map (rect_cell c.args.root) (children_of c.args.dims c.args.parts)),
       length-map (children_of c.args.dims c.args.parts) (rect_cell c.args.root),
       length-places (child c.args.dims c.args.parts) c.args.parts,
-      c.if-first-parts-gt-MOST.false,
+      c.if-first-parts-gt-MOST_PER_JOB.false,
     )
 
 pub returns-clause-taken : goal.returns-clause-taken

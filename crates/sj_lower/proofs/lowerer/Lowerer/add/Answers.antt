@@ -4,14 +4,14 @@ use Rattle.sj_meaning.specs.declared.job.Act.{Act as Kept}
 use Rattle.sj_meaning.specs.View.{act_seen}
 use Rattle.sj_lower.specs.Limits.{most}
 use Rattle.sj_lower.specs.Lowering.{rows_added}
-use Rattle.sj_lower.specs.Seen.{Does, IsNext}
+use Rattle.sj_lower.specs.Seen.{Does, MayComeNext}
 use Rattle.sj_lower.proofs.Following.{does-unregister}
 use Rattle.sj_lower.proofs.lowerer.Lowerer.add.Goals as goal
 
 pub print-requires-clause-few : goal.print-requires-clause-few
 print-requires-clause-few c = λ S L C next.
     subst (λ (a : Kept). vec_len c.args.self.now.tasks + length (rows_added S C c.args.line (act_seen c.args.roots.now (vec_len c.args.self.now.actives) a)) ≤ most) c.in-Print.is
-    (c.requires.few S L C (subst (λ (a : Kept). IsNext c.args.roots.now c.args.self.now a S L) (sym c.in-Print.is) next))
+    (c.requires.few S L C (subst (λ (a : Kept). MayComeNext c.args.roots.now c.args.self.now a S L) (sym c.in-Print.is) next))
 
 pub returns-in_ok-register-in-Register-clause-does : goal.returns-in_ok-register-in-Register-clause-does
 returns-in_ok-register-in-Register-clause-does c =

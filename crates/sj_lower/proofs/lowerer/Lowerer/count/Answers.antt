@@ -6,13 +6,13 @@ use Rattle.sj_meaning.specs.declared.job.Act.{Act as Kept}
 use Rattle.sj_meaning.specs.View.{act_seen}
 use Rattle.sj_lower.specs.declared.lowerer.Active.{Active}
 use Rattle.sj_lower.specs.Lowering.{rows_added}
-use Rattle.sj_lower.specs.Seen.{no_active, active_at, IsNext}
+use Rattle.sj_lower.specs.Seen.{no_active, active_at, MayComeNext}
 use Rattle.sj_lower.proofs.Counting.{count-print}
 use Rattle.sj_lower.proofs.lowerer.Lowerer.count.Goals as goal
 
 pub returns-in-Plan : goal.returns-in-Plan
 returns-in-Plan c = λ S L C line next.
-    c.count_plan.ensures S L C line (subst (λ (a : Kept). IsNext c.args.roots.now c.args.self.now a S L) c.in-Plan.is next)
+    c.count_plan.ensures S L C line (subst (λ (a : Kept). MayComeNext c.args.roots.now c.args.self.now a S L) c.in-Plan.is next)
     ∙ ap (λ (a : Kept). length (rows_added S C line (act_seen c.args.roots.now (vec_len c.args.self.now.actives) a))) (sym c.in-Plan.is)
 
 pub returns-in-Print : goal.returns-in-Print
@@ -22,5 +22,5 @@ returns-in-Print c = λ S L C line next.
     let at : c.index.result.now ≡ active_at as' r.0 = get_or_read as' r.0 c.index.result.now (search rules) (search rules) no_active in
     let plan : c.parts-parts.result ≡ (active_at as' r.0).tracked.parts = c.parts-parts.ensures.parts ∙ ap (λ (a : Active). a.tracked.parts) at in
     ap (λ (p : Parts). p.r * p.c) plan
-    ∙ count-print c.args.roots.now c.args.self.now r S L C line (subst (λ (a : Kept). IsNext c.args.roots.now c.args.self.now a S L) c.in-Print.is next)
+    ∙ count-print c.args.roots.now c.args.self.now r S L C line (subst (λ (a : Kept). MayComeNext c.args.roots.now c.args.self.now a S L) c.in-Print.is next)
     ∙ ap (λ (a : Kept). length (rows_added S C line (act_seen c.args.roots.now (vec_len c.args.self.now.actives) a))) (sym c.in-Print.is)

@@ -3,7 +3,7 @@ use Rattle.sj_base.specs.declared.tile.Dims.{Dims}
 use Rattle.sj_plan.specs.declared.parts.Parts.{Parts}
 use Rattle.sj_plan.specs.Parts.{Fits, places}
 use Rattle.sj_meaning.specs.declared.job.RootInfo.{RootInfo}
-use Rattle.sj_job.specs.Track.{IsPlan, children_count}
+use Rattle.sj_job.specs.Track.{IsSmallPlan, children_count}
 use Rattle.sj_lower.specs.declared.lowerer.Active.{Active}
 use Rattle.sj_lower.specs.Cells.{cells_from}
 use Rattle.sj_lower.specs.Rows.{deliver_row}
@@ -23,7 +23,7 @@ push_delivers-requires-clause-plan c =
     let k = print-known c.args.roots.now c.args.self.now n.state n.lowering c.args.root n.next in
     let l = c.args.self.now in
     let is : c.index.result.now ≡ active_at l.actives.items c.args.root.0 = c.index.ensures ∙ at-default l.actives.items c.args.root.0 c.index.result.now (omega (arith, n.next.placed, n.next.follows.actives.counted)) in
-    subst IsPlan (sym (c.placed-placed.ensures.parts ∙ ap (λ (a : Active). a.tracked.parts) is ∙ k.active.tracks.parts)) (fits-plan k.root.parts k.root.dims k.active.tracks.fits)
+    subst IsSmallPlan (sym (c.placed-placed.ensures.parts ∙ ap (λ (a : Active). a.tracked.parts) is ∙ k.active.tracks.parts)) (fits-plan k.root.parts k.root.dims k.active.tracks.fits)
 
 pub push_delivers-requires-clause-cells : goal.push_delivers-requires-clause-cells
 push_delivers-requires-clause-cells c =
@@ -74,6 +74,6 @@ returns-clause-prints c =
     let l = c.args.self.now in
     let k = print-known c.args.roots.now l n.state n.lowering c.args.root n.next in
     let is : c.index.result.now ≡ active_at l.actives.items c.args.root.0 = c.index.ensures ∙ at-default l.actives.items c.args.root.0 c.index.result.now (omega (arith, n.next.placed, n.next.follows.actives.counted)) in
-    let plan = subst IsPlan (sym (c.placed-placed.ensures.parts ∙ ap (λ (a : Active). a.tracked.parts) is ∙ k.active.tracks.parts)) (fits-plan k.root.parts k.root.dims k.active.tracks.fits) in
+    let plan = subst IsSmallPlan (sym (c.placed-placed.ensures.parts ∙ ap (λ (a : Active). a.tracked.parts) is ∙ k.active.tracks.parts)) (fits-plan k.root.parts k.root.dims k.active.tracks.fits) in
     let row = λ (place : ℕ × ℕ). deliver_row (cells_from P.first P.parts place) c.args.line in
     omega (arith, c.requires.prints, c.args.self.now.tasks.ok, c.push_delivers.new.tasks.ok, ap length c.in_ok-push_delivers.ensures, length-append c.args.self.now.tasks.items (map row (places P.parts)), length-places row P.parts, plan.some)

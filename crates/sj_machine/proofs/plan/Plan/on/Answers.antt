@@ -3,7 +3,7 @@ use Rattle.std.specs.Prelude.{All}
 use Rattle.sj_base.specs.declared.ids.Cell.{Cell}
 use Rattle.sj_core.specs.Operands.{cells_of}
 use Rattle.sj_core.specs.Needs.{tile_bytes}
-use Rattle.sj_node.specs.Store.{victims_of}
+use Rattle.sj_node.specs.Store.{need_victims}
 use Rattle.sj_machine.specs.Plan.{IsSmallCell}
 use Rattle.sj_machine.specs.Planning.{lacking}
 use Rattle.sj_machine.proofs.ClaimPlanning.{few-lacking, lacking-small, lacking-sum, planned-none, planned-some, work-few, work-small}
@@ -53,7 +53,7 @@ returns-in_default c =
     let bytes = c.bytes_of-bytes.result in
     let lacks : c.lacking_on-missing.result ≡ lacking s cells = c.lacking_on-missing.ensures ∙ ap (lacking s) c.items.ensures in
     let weighs : bytes ≡ map (tile_bytes c.args.program.now) c.lacking_on-missing.result = c.bytes_of-bytes.ensures ∙ ap (map (tile_bytes c.args.program.now)) c.items-2.ensures in
-    let none : None ≡ option_map reverse (victims_of cells s (sum bytes + c.scratch_for-scratch.result)) = search rules in
+    let none : None ≡ option_map reverse (need_victims cells s (sum bytes + c.scratch_for-scratch.result)) = search rules in
     planned-none c.args.program.now c.args.t c.args.w s _ _ _ _ c.cells_for-cells.ensures lacks weighs c.scratch_for-scratch.ensures.bytes none
 
 pub returns : goal.returns
@@ -63,9 +63,9 @@ returns c =
     let bytes = c.bytes_of-bytes.result in
     let lacks : c.lacking_on-missing.result ≡ lacking s cells = c.lacking_on-missing.ensures ∙ ap (lacking s) c.items.ensures in
     let weighs : bytes ≡ map (tile_bytes c.args.program.now) c.lacking_on-missing.result = c.bytes_of-bytes.ensures ∙ ap (map (tile_bytes c.args.program.now)) c.items-2.ensures in
-    let found : option_map (λ v. v.items) c.in_ok-victims.field-0 ≡ option_map reverse (victims_of cells s (sum bytes + c.scratch_for-scratch.result)) =
+    let found : option_map (λ v. v.items) c.in_ok-victims.field-0 ≡ option_map reverse (need_victims cells s (sum bytes + c.scratch_for-scratch.result)) =
     c.in_ok-victims.ensures
-    ∙ ap (λ (cs : List Cell). option_map reverse (victims_of cs s (c.total.result + c.scratch_for-scratch.result))) c.items-4.ensures
-    ∙ ap (λ n. option_map reverse (victims_of cells s (n + c.scratch_for-scratch.result))) (c.total.ensures ∙ ap sum c.items-3.ensures) in
-    let some : Some c.in-Some.victims.items ≡ option_map reverse (victims_of cells s (sum bytes + c.scratch_for-scratch.result)) = ap (option_map (λ v. v.items)) (sym c.in-Some.is) ∙ found in
+    ∙ ap (λ (cs : List Cell). option_map reverse (need_victims cs s (c.total.result + c.scratch_for-scratch.result))) c.items-4.ensures
+    ∙ ap (λ n. option_map reverse (need_victims cells s (n + c.scratch_for-scratch.result))) (c.total.ensures ∙ ap sum c.items-3.ensures) in
+    let some : Some c.in-Some.victims.items ≡ option_map reverse (need_victims cells s (sum bytes + c.scratch_for-scratch.result)) = ap (option_map (λ v. v.items)) (sym c.in-Some.is) ∙ found in
     planned-some c.args.program.now c.args.t c.args.w s _ _ _ _ c.cells_for-cells.ensures lacks weighs c.scratch_for-scratch.ensures.bytes c.in-Some.victims.items some
