@@ -11,10 +11,10 @@ use Rattle.sj_core.specs.Machine.{State, WorkerState, is_claimed_by, is_running_
 use Rattle.sj_core.specs.Step.{after}
 use Rattle.sj_core.proofs.Reading.{progress-same, worker-same}
 use Rattle.sj_core.proofs.States.{state_of-more}
-use Rattle.sj_machine.specs.Board.{BoardState, IsFree, empty_hand, given_from, hand_of, has_claimed}
-use Rattle.sj_machine.specs.BoardSound.{IsSoundBoard}
 use Rattle.sj_machine.specs.Standing.{CanHappen, state}
-use Rattle.sj_machine.specs.declared.hand.Hand.{Hand}
+use Rattle.sj_board.specs.Board.{BoardState, IsFree, empty_hand, given_from, hand_of, has_claimed}
+use Rattle.sj_board.specs.BoardSound.{IsSoundBoard}
+use Rattle.sj_board.specs.declared.hand.Hand.{Hand}
 use Rattle.board_tests.specs.Steps.{HasClaimed, IsStepOf}
 
 -- where it was given the task on the second board, and the third is that of its claim

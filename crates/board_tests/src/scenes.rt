@@ -2,14 +2,14 @@
 
 ghost use Rattle.std.specs.Prelude.{◌≡◌, ◌<◌, ◌≤◌, ◌^◌, None, OnOk};
 ghost use Rattle.sj_base.specs.declared.ids.Worker.{Worker};
-ghost use Rattle.sj_machine.specs.Board.{IsFree};
 ghost use Rattle.sj_machine.specs.Standing.{AllTell};
+ghost use Rattle.sj_board.specs.Board.{IsFree};
 
 use crate::opening::opened;
 use crate::steps::{Claim, carried_out, claimed, tried};
 use sj_base::ids::{Task, Worker};
+use sj_board::board::Board;
 use sj_edge::disk::Disk;
-use sj_machine::board::Board;
 use std::alloc::Global;
 use std::test::Fail;
 

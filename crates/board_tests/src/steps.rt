@@ -3,8 +3,8 @@
 ghost use Rattle.std.specs.Prelude.{◌≡◌, ◌≤◌, ◌^◌, ◌∷◌, [], IfOk, IfSome, None, OnErr, OnOk, map};
 ghost use Rattle.sj_base.specs.Array.{area};
 ghost use Rattle.sj_core.specs.Program.{dims_of, task_of, written_operands};
-ghost use Rattle.sj_machine.specs.Board.{IsFree};
 ghost use Rattle.sj_machine.specs.Standing.{AllTell};
+ghost use Rattle.sj_board.specs.Board.{IsFree};
 ghost use Rattle.board_tests.specs.Steps.{HasClaimed, IsStepOf};
 ghost use Rattle.sj_base.specs.Mode.{reads_of};
 
@@ -12,10 +12,10 @@ use sj_base::ids::{Task, Worker};
 use sj_base::mode::Mode;
 use sj_base::program::Program;
 use sj_base::tile::{Dims, Tile};
+use sj_board::board::Board;
+use sj_board::refusal::ClaimRefusal;
 use sj_codelet::frame::Frame;
 use sj_edge::disk::Disk;
-use sj_machine::board::Board;
-use sj_machine::refusal::ClaimRefusal;
 use sj_machine::spent::Spent;
 use sj_machine::todo::Todo;
 use std::alloc::Global;

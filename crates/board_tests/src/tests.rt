@@ -2,9 +2,9 @@
 
 use crate::scenes::{claims_after_two, claims_of_three, looks_of_two};
 use sj_base::ids::{Cell, Task};
+use sj_board::refusal::ClaimRefusal;
 use sj_edge::file_disk::FileDisk;
 use sj_machine::plan::Why;
-use sj_machine::refusal::ClaimRefusal;
 use std::test::Fail;
 
 /// There is no such file, so a disk over it tells nothing and fails each call. No test comes to a transfer.

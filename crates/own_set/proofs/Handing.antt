@@ -6,7 +6,7 @@ use Rattle.sj_base.specs.declared.program.Program.{Program}
 use Rattle.sj_base.specs.Array.{Array}
 use Rattle.sj_meaning.specs.Job.{Job}
 use Rattle.sj_job.specs.Reading.{Refusal}
-use Rattle.sj_machine.specs.Delivered.{DeliversEach}
+use Rattle.sj_board.specs.Delivered.{DeliversEach}
 use Rattle.own_set.specs.Turns.{small_program}
 
 pub delivers_of : (job : Result Job Refusal) (p : Program) (Tells : Type 0) (pairs : List (Task × Array)) → IsOkAnd job (λ j. p ≡ small_program j.statements) → DeliversEach p Tells pairs → IsOkAnd job (λ j. DeliversEach (small_program j.statements) Tells pairs)

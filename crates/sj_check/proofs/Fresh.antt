@@ -12,7 +12,7 @@ use Rattle.sj_core.proofs.Words.{Machine, Program, State, Task, is_done, is_task
 use Rattle.sj_core.specs.declared.progress.Progress.TheVariants.{Waiting}
 use Rattle.sj_core.specs.Legal.{state_of}
 use Rattle.sj_deps.specs.Progress.{Dependencies, dependencies}
-use Rattle.sj_machine.specs.BoardSound.{CountsDone}
+use Rattle.sj_machine.specs.ReadyTasks.{CountsDone}
 use Rattle.sj_machine.specs.Standing.{Standing, state}
 use Rattle.sj_check.specs.Replay.{replay}
 use Rattle.sj_check.specs.Watching.{HasTasks, IsFreshRun, Watches, replay_of}

@@ -14,14 +14,13 @@ use Rattle.sj_core.specs.Legal.{state_of}
 use Rattle.sj_core.specs.Step.{May, a_transfer, after, mover_of}
 use Rattle.sj_deps.specs.Conflict.{Ready}
 use Rattle.sj_deps.specs.Progress.{Dependencies, after_done}
-use Rattle.sj_machine.specs.BoardSound.{CountsDone}
+use Rattle.sj_machine.specs.ReadyTasks.{CountsDone}
 use Rattle.sj_machine.specs.Sound.{OnlyDisksChange}
 use Rattle.sj_machine.specs.Standing.{AllTell, CanHappen, Standing, state, with_event}
-use Rattle.sj_machine.proofs.Stepping.{counts-still}
+use Rattle.sj_machine.proofs.Stepping.{counts-same, counts-still}
 use Rattle.sj_check.specs.Replay.{HappensLegally, IsRefused, replay}
 use Rattle.sj_check.specs.Watching.{HasEvent, HasTasks, Watches, replay_of, task_in}
 use Rattle.sj_check.proofs.Legality.{running-ready}
-use Rattle.sj_machine.proofs.Boarding.{counts-same}
 use Rattle.sj_check.proofs.Tasks.{counts-ended, tasks-begun, tasks-claimed, tasks-ended, tasks-still}
 
 pub event-of : {D : Type 0} (b b' : Standing D) (e : Event) → b' ≡ with_event b e → HasEvent b e b'
@@ -77,7 +76,7 @@ module _ {D : Type 0} (b b' : Standing D) (e : Event) (has : HasEvent b e b') wh
   module _ (held : D → Option (List ℕ)) (tasks : List (Option Task)) (deps : Dependencies) (watches : Watches held b tasks deps) where
     -- no task goes on
     pub watches-still : (after b.program b.machine (state b) e).tasks ≡ (state b).tasks → Watches held b' tasks deps
-    watches-still same = watches-now held tasks deps watches.silent (tasks-still b.program (state b) (after b.program b.machine (state b) e) same tasks watches.tasks_agree) (counts-same b.program b.machine (state b) (after b.program b.machine (state b) e) same deps watches.counts)
+    watches-still same = watches-now held tasks deps watches.silent (tasks-still b.program (state b) (after b.program b.machine (state b) e) same tasks watches.tasks_agree) (counts-same b.program (state b) (after b.program b.machine (state b) e) same deps watches.counts)
 
 module _ {D : Type 0} (held : D → Option (List ℕ)) (b b' : Standing D) (tasks : List (Option Task)) (deps : Dependencies) (watches : Watches held b tasks deps) (c : Cell) (from : Place) where
   -- a move begins, and ends

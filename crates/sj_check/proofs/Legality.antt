@@ -22,7 +22,7 @@ use Rattle.sj_core.specs.Operands.{commuting_cells, written_cells}
 use Rattle.sj_core.specs.Step.{May, claimant_of, done_tasks, is_in_use, is_moving, is_present, mover_of, none_leaving}
 use Rattle.sj_deps.specs.Conflict.{Ready}
 use Rattle.sj_deps.specs.Progress.{Dependencies}
-use Rattle.sj_machine.specs.BoardSound.{CountsDone}
+use Rattle.sj_machine.specs.ReadyTasks.{CountsDone}
 use Rattle.sj_machine.specs.Mark.{mark_of}
 use Rattle.sj_machine.specs.declared.mark.Mark.TheVariants.{Coming as ComingMark}
 use Rattle.sj_machine.specs.declared.plan.Why.{Why}

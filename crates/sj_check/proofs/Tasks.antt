@@ -14,7 +14,7 @@ use Rattle.sj_core.specs.declared.progress.Progress.{Progress}
 use Rattle.sj_core.specs.declared.progress.Progress.TheVariants.{Claimed, Done, Running, Waiting}
 use Rattle.sj_core.specs.Step.{done_tasks}
 use Rattle.sj_deps.specs.Progress.{Dependencies, after_done}
-use Rattle.sj_machine.specs.BoardSound.{CountsDone}
+use Rattle.sj_machine.specs.ReadyTasks.{CountsDone}
 use Rattle.sj_check.specs.Watching.{HasTasks, task_in}
 
 -- ---- nothing happens to tasks

@@ -8,7 +8,7 @@ use Rattle.sj_base.specs.declared.trace.Event.{Event}
 use Rattle.sj_base.specs.declared.trace.Event.TheVariants.{Claim}
 use Rattle.sj_core.specs.Machine.{State, is_task_of, progress}
 use Rattle.sj_deps.specs.Progress.{Dependencies}
-use Rattle.sj_machine.specs.BoardSound.{CountsDone}
+use Rattle.sj_machine.specs.ReadyTasks.{CountsDone}
 use Rattle.sj_machine.specs.declared.mark.Mark.{Mark}
 use Rattle.sj_machine.specs.declared.mark.Mark.TheVariants.{Coming, Leaving}
 use Rattle.sj_machine.specs.Plan.{ClaimPlan, IsPlan}

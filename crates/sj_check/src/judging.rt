@@ -6,7 +6,7 @@ ghost use Rattle.sj_base.specs.declared.trace.Event.TheVariants.{Claim, Drop, En
 ghost use Rattle.sj_core.specs.Legal.{IsComplete};
 ghost use Rattle.sj_core.specs.Machine.{is_coming_by, is_done, is_waiting, progress, replica, transfer};
 ghost use Rattle.sj_core.specs.Step.{mover_of};
-ghost use Rattle.sj_machine.specs.BoardSound.{CountsDone};
+ghost use Rattle.sj_machine.specs.ReadyTasks.{CountsDone};
 ghost use Rattle.sj_machine.specs.Planning.{MayClaim};
 ghost use Rattle.sj_machine.specs.Standing.{CanHappen, state};
 ghost use Rattle.sj_check.specs.Watching.{HasTasks, IsClaimPlan, claimant_in, task_in};

@@ -28,13 +28,13 @@ use Rattle.sj_core.proofs.Readiness.{Contains-from_filter, filter-Contains}
 use Rattle.sj_core.proofs.Replicas.{same_worker-refl}
 use Rattle.sj_core.proofs.Running.{run-other, run-own}
 use Rattle.sj_core.proofs.TaskCells.{written-among_cells}
-use Rattle.sj_machine.specs.Board.{BoardState, HasTask, hand_of, has_event}
-use Rattle.sj_machine.specs.BoardRow.{BoardKey, arrays_for, key_of}
-use Rattle.sj_machine.specs.BoardSound.{IsSoundBoard}
 use Rattle.sj_machine.specs.Running.{AreSharesFor, IsShareIn, IsShare}
 use Rattle.sj_machine.specs.Sparing.{Spares}
 use Rattle.sj_machine.specs.Standing.{AllTell, CanHappen, state}
-use Rattle.sj_machine.specs.declared.hand.Hand.{Hand}
+use Rattle.sj_board.specs.Board.{BoardState, HasTask, hand_of, has_event}
+use Rattle.sj_board.specs.BoardRow.{BoardKey, arrays_for, key_of}
+use Rattle.sj_board.specs.BoardSound.{IsSoundBoard}
+use Rattle.sj_board.specs.declared.hand.Hand.{Hand}
 use Rattle.sj_engine.specs.Operands.{held_for, read_operands}
 use Rattle.sj_engine.specs.Stage.{AreLent, HasClaimedRow, RunsRow, row_in}
 use Rattle.sj_engine.specs.Turn.{IsTurnOf}

@@ -15,22 +15,22 @@ use Rattle.sj_core.specs.Needs.{node_of}
 use Rattle.sj_core.specs.Step.{after, array_at, mover_of}
 use Rattle.sj_core.proofs.Reading.{transfer-inside, worker-same}
 use Rattle.sj_core.proofs.States.{one-mover, state_of-more}
-use Rattle.sj_machine.specs.Board.{BoardState, EndsMoveOf, empty_hand, failed, first_fault, hand_of, has_event, stopped, transfer_of}
-use Rattle.sj_machine.specs.BoardRow.{key_of}
-use Rattle.sj_machine.specs.BoardSound.{IsSoundBoard}
 use Rattle.sj_machine.specs.Sparing.{Spares, SparesMoved}
 use Rattle.sj_machine.specs.Standing.{CanHappen, IsMovingIn, IsMovingOut, IsTileMoved, IsTileOf, Standing, is_node, state, with_event}
-use Rattle.sj_machine.specs.declared.hand.Hand.{Hand}
 use Rattle.sj_machine.specs.declared.fault.RunFault.{RunFault}
+use Rattle.sj_board.specs.Board.{BoardState, EndsMoveOf, empty_hand, failed, first_fault, hand_of, has_event, stopped, transfer_of}
+use Rattle.sj_board.specs.BoardRow.{key_of}
+use Rattle.sj_board.specs.BoardSound.{IsSoundBoard}
+use Rattle.sj_board.specs.declared.hand.Hand.{Hand}
 use Rattle.sj_engine.specs.Stage.{HasClaimedRow, IsCarried, IsFreeRow, IsStoppedRow, MovesRow, row_in}
 use Rattle.sj_engine.specs.Turn.{Happens, IsTurnOf, NothingHappens, PutsUnitBack}
 use Rattle.sj_engine.proofs.OtherRows.{IsBy}
 use Rattle.sj_engine.proofs.OwnRows.{claimed-row, phase-of, row-transfer, transfer-of}
 use Rattle.sj_engine.proofs.Turning.{put-quiet, turn-event, turn-hand}
 use Rattle.std.proofs.lemmas.Option.{same_Some}
-use Rattle.sj_machine.proofs.Failing.{first-not_none}
+use Rattle.sj_board.proofs.Failing.{first-not_none}
 use Rattle.sj_engine.proofs.FoundBoards.{found-sound}
-use Rattle.sj_machine.proofs.Hands.{inside-hands}
+use Rattle.sj_board.proofs.Hands.{inside-hands}
 
 -- the state after one event more
 pub state-after : {D : Type 0} (b : BoardState D) (y : BoardState D) (e : Event) → y.run ≡ with_event b.run e → state y.run ≡ after b.run.program b.run.machine (state b.run) e

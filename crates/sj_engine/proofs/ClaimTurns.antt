@@ -29,19 +29,19 @@ use Rattle.sj_core.specs.Step.{array_at}
 use Rattle.sj_core.proofs.Reading.{progress-same, worker-same}
 use Rattle.sj_core.proofs.Readiness.{Contains-filter}
 use Rattle.sj_core.proofs.Replicas.{same_worker-refl}
-use Rattle.sj_machine.specs.Board.{BoardState, HasTask, IsIdle, WasGiven, empty_hand, given_back, given_from, hand_of, has_claimed}
-use Rattle.sj_machine.specs.BoardRow.{key_of}
-use Rattle.sj_machine.specs.BoardSound.{IsSoundBoard, times_pooled}
-use Rattle.sj_pool.proofs.Keeping.{home-within}
-use Rattle.sj_pool.specs.Pool.{home}
-use Rattle.sj_machine.proofs.Pooling.{times-put}
-use Rattle.sj_machine.specs.Filling.{entry_of}
-use Rattle.sj_machine.specs.Passing.{HasLost}
-use Rattle.sj_machine.specs.Releasing.{EndsTask}
 use Rattle.sj_machine.specs.Running.{AreResultsFor}
 use Rattle.sj_machine.specs.Sparing.{Spares}
 use Rattle.sj_machine.specs.Standing.{CanHappen, state}
-use Rattle.sj_machine.specs.declared.hand.Hand.{Hand}
+use Rattle.sj_pool.proofs.Keeping.{home-within}
+use Rattle.sj_pool.specs.Pool.{home}
+use Rattle.sj_board.specs.Board.{BoardState, HasTask, IsIdle, WasGiven, empty_hand, given_back, given_from, hand_of, has_claimed}
+use Rattle.sj_board.specs.BoardRow.{key_of}
+use Rattle.sj_board.specs.BoardSound.{IsSoundBoard, times_pooled}
+use Rattle.sj_board.proofs.Pooling.{times-put}
+use Rattle.sj_board.specs.Filling.{entry_of}
+use Rattle.sj_board.specs.Passing.{HasLost}
+use Rattle.sj_board.specs.Releasing.{EndsTask}
+use Rattle.sj_board.specs.declared.hand.Hand.{Hand}
 use Rattle.sj_engine.specs.Stage.{AreDone, HasClaimedRow, HoldResults, IsFreeRow, RunsRow, given_hand, row_in}
 use Rattle.sj_engine.specs.Turn.{IsTurnOf, NothingHappens}
 use Rattle.sj_engine.specs.Picking.{PickMakes}
@@ -53,7 +53,7 @@ use Rattle.sj_engine.proofs.Turning.{turn-hand}
 use Rattle.sj_base.proofs.Lists.{map-agree}
 use Rattle.std.proofs.lemmas.Option.{same_Some}
 use Rattle.sj_engine.proofs.FoundBoards.{found-sound}
-use Rattle.sj_machine.proofs.Hands.{inside-hands}
+use Rattle.sj_board.proofs.Hands.{inside-hands}
 
 -- ---- what a task finds is told by its cells
 

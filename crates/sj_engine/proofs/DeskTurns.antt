@@ -8,9 +8,9 @@ use Rattle.sj_base.specs.Array.{Array}
 use Rattle.sj_core.specs.declared.progress.Transfer.{Transfer}
 use Rattle.sj_desk.specs.declared.view.Heard.{Heard}
 use Rattle.sj_desk.specs.Seats.{DeskFacts, HasRowLeft, KeepsOtherRows, SeatFacts, hearing}
-use Rattle.sj_machine.specs.Board.{BoardState}
-use Rattle.sj_machine.specs.BoardSound.{IsSoundBoard}
-use Rattle.sj_machine.specs.BoardRow.{BoardKey, BoardRow, key_of, row_of_number}
+use Rattle.sj_board.specs.Board.{BoardState}
+use Rattle.sj_board.specs.BoardSound.{IsSoundBoard}
+use Rattle.sj_board.specs.BoardRow.{BoardKey, BoardRow, key_of, row_of_number}
 use Rattle.sj_engine.specs.Noted.{IsNotedSound, noted_key, noted_row}
 use Rattle.sj_engine.specs.Stage.{BeginsWith, GoesOn, HasLeft, IsAt, IsCarried, row_in}
 use Rattle.sj_engine.specs.Turn.{IsTurnOf, MayLeave}

@@ -8,10 +8,10 @@ use Rattle.sj_base.specs.declared.ids.Worker.{Worker}
 use Rattle.sj_base.specs.declared.trace.Event.{Event}
 use Rattle.sj_core.specs.Legal.{state_of}
 use Rattle.sj_core.specs.Needs.{footprint, node_of, node_size}
-use Rattle.sj_machine.specs.Board.{BoardState}
-use Rattle.sj_machine.specs.BoardRow.{BoardKey, key_of}
-use Rattle.sj_machine.specs.Passing.{HasLost}
 use Rattle.sj_machine.specs.Planning.{IsWhy}
+use Rattle.sj_board.specs.Board.{BoardState}
+use Rattle.sj_board.specs.BoardRow.{BoardKey, key_of}
+use Rattle.sj_board.specs.Passing.{HasLost}
 use Rattle.sj_engine.specs.Looking.{CannotClaim, HasPassed, IsLeftTo, IsPassed, NoneIsLeftTo, PoolStands}
 use Rattle.sj_engine.specs.Turn.{NothingHappens}
 

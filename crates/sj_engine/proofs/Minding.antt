@@ -9,8 +9,8 @@ use Rattle.sj_base.specs.declared.trace.Event.TheVariants.{Claim, Drop, Move, Ru
 use Rattle.sj_core.specs.Machine.{is_done}
 use Rattle.sj_core.specs.Needs.{node_of}
 use Rattle.sj_desk.specs.Seats.{DeskFacts, HasRowLeft, SeatFacts, rung}
-use Rattle.sj_machine.specs.Board.{BoardState, IsOver}
 use Rattle.sj_machine.specs.Standing.{state}
+use Rattle.sj_board.specs.Board.{BoardState, IsOver}
 use Rattle.sj_engine.specs.Bell.{HasRung, IsChange, MindsBell, noted_after, wakes_after}
 use Rattle.sj_engine.specs.Noted.{noted_row}
 use Rattle.sj_engine.specs.Picking.{PickMakes, finds_nothing}

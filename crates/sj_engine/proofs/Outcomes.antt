@@ -24,14 +24,15 @@ use Rattle.sj_disk.specs.Holding.{CountsStay}
 use Rattle.sj_edge.specs.Held.{GivesHeld}
 use Rattle.sj_disk.specs.declared.directory.Extent.{Extent}
 use Rattle.sj_edge.proofs.GivenBackLemmas.{all_given_back-untouched, all_untouched-same}
-use Rattle.sj_machine.specs.Board.{BoardState, HasCause}
-use Rattle.sj_machine.specs.BoardSound.{IsSoundBoard}
-use Rattle.sj_machine.specs.Delivered.{DeliversEach}
+use Rattle.sj_machine.specs.Cause.{HasCause}
 use Rattle.sj_machine.specs.Sound.{HoldsArray, IsBlock, block_of}
 use Rattle.sj_machine.specs.Standing.{AllTell, state}
 use Rattle.sj_machine.specs.declared.fault.RunFault.{RunFault}
 use Rattle.sj_machine.specs.declared.fault.RunFault.TheVariants.{Damaged, DiskFault, OutOfMemory}
-use Rattle.sj_machine.specs.declared.hand.Hand.{Hand}
+use Rattle.sj_board.specs.Board.{BoardState}
+use Rattle.sj_board.specs.BoardSound.{IsSoundBoard}
+use Rattle.sj_board.specs.Delivered.{DeliversEach}
+use Rattle.sj_board.specs.declared.hand.Hand.{Hand}
 use Rattle.sj_engine.specs.Outcome.{AllDisksTell, HoldBlocks, HoldsBlockAt, IsCausedBy, WantsLastWritten}
 use Rattle.sj_engine.specs.Run.{AllStopped, IsOutcome, NoneHasTask, NoneHasUnit}
 use Rattle.sj_engine.specs.Stage.{stopped_hand}

@@ -8,9 +8,9 @@ use Rattle.std.proofs.lemmas.List.Elements.{All-contains, All-from_get_or, Conta
 use Rattle.sj_core.proofs.Dependencies.{map-from}
 use Rattle.sj_core.proofs.Readiness.{Contains-map}
 use Rattle.sj_desk.specs.Seats.{DeskFacts, HasEachNumber, HasRowLeft, IsWaiting, SeatFacts, new_seat}
-use Rattle.sj_machine.specs.Board.{empty_hand}
-use Rattle.sj_machine.specs.BoardRow.{BoardRow, row_of_number}
-use Rattle.sj_machine.specs.declared.hand.Hand.{Hand}
+use Rattle.sj_board.specs.Board.{empty_hand}
+use Rattle.sj_board.specs.BoardRow.{BoardRow, row_of_number}
+use Rattle.sj_board.specs.declared.hand.Hand.{Hand}
 use Rattle.sj_engine.specs.Member.{IsSeatOf}
 use Rattle.sj_engine.specs.Noted.{noted_row}
 use Rattle.sj_engine.specs.Posts.{HasEachWorker, number_of, numbers_of_posts, numbers_of_seats}

@@ -9,10 +9,10 @@ use Rattle.std.proofs.lemmas.List.FromFn.{get_or-map-range_with_len, length-map-
 use Rattle.sj_base.specs.declared.ids.Worker.{Worker}
 use Rattle.sj_base.specs.declared.program.Program.{Program}
 use Rattle.sj_desk.specs.Seats.{DeskFacts, HasEachNumber, SeatFacts, new_seat, new_seats}
-use Rattle.sj_machine.specs.Board.{BoardState, empty_hand, hand_in}
-use Rattle.sj_machine.specs.BoardRow.{BoardRow, row_of_number}
-use Rattle.sj_machine.specs.Preparing.{first_hands}
-use Rattle.sj_machine.specs.declared.hand.Hand.{Hand}
+use Rattle.sj_board.specs.Board.{BoardState, empty_hand, hand_in}
+use Rattle.sj_board.specs.BoardRow.{BoardRow, row_of_number}
+use Rattle.sj_board.specs.Preparing.{first_hands}
+use Rattle.sj_board.specs.declared.hand.Hand.{Hand}
 use Rattle.sj_engine.specs.Run.{AreAt}
 use Rattle.sj_engine.specs.Stage.{IsAt, IsFreeRow, IsStoppedRow, row_in}
 use Rattle.sj_engine.specs.declared.noted_board.NotedBoard.{NotedBoard}

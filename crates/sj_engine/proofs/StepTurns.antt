@@ -16,12 +16,12 @@ use Rattle.sj_core.specs.Program.{dims_of}
 use Rattle.sj_core.specs.Step.{May, a_transfer, after, array_at, mover_of}
 use Rattle.sj_core.proofs.Reading.{entry-inside, worker-same}
 use Rattle.sj_core.proofs.Replicas.{coming_by-is, leaving_by-is}
-use Rattle.sj_machine.specs.Board.{BoardState, hand_of, has_event, transfer_of}
-use Rattle.sj_machine.specs.BoardRow.{key_of}
-use Rattle.sj_machine.specs.BoardSound.{IsSoundBoard}
 use Rattle.sj_machine.specs.Sparing.{Spares}
 use Rattle.sj_machine.specs.Standing.{AllTell, CanHappen, IsShareOf, IsTileOf, is_node, state}
 use Rattle.sj_machine.specs.Units.{lent}
+use Rattle.sj_board.specs.Board.{BoardState, hand_of, has_event, transfer_of}
+use Rattle.sj_board.specs.BoardRow.{key_of}
+use Rattle.sj_board.specs.BoardSound.{IsSoundBoard}
 use Rattle.sj_engine.specs.Stage.{HasClaimedRow, IsCarried, MovesRow, row_in}
 use Rattle.sj_engine.specs.Stepping.{IsShareCarried}
 use Rattle.sj_engine.specs.Turn.{IsTurnOf}

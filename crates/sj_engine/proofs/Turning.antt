@@ -24,13 +24,13 @@ use Rattle.sj_core.proofs.States.{state_of-more}
 use Rattle.sj_disk.specs.Directory.{DiskState}
 use Rattle.sj_disk.specs.Holding.{CountsStay}
 use Rattle.sj_disk.specs.Units.{UnitState}
-use Rattle.sj_machine.specs.Board.{BoardState, empty_hand, hand_in, hand_of, has_taken}
-use Rattle.sj_machine.specs.Units.{unit_at, unit_in_hand}
-use Rattle.sj_machine.specs.BoardRow.{BoardKey, BoardRow, is_event_of, key_of, row_of_number}
-use Rattle.sj_machine.specs.BoardSound.{IsSoundBoard}
 use Rattle.sj_machine.specs.Sparing.{SparesUsed, Spares}
 use Rattle.sj_machine.specs.Standing.{CanHappen, Standing, state, with_event}
-use Rattle.sj_machine.specs.declared.hand.Hand.{Hand}
+use Rattle.sj_board.specs.Board.{BoardState, empty_hand, hand_in, hand_of, has_taken}
+use Rattle.sj_board.specs.Units.{unit_at, unit_in_hand}
+use Rattle.sj_board.specs.BoardRow.{BoardKey, BoardRow, is_event_of, key_of, row_of_number}
+use Rattle.sj_board.specs.BoardSound.{IsSoundBoard}
+use Rattle.sj_board.specs.declared.hand.Hand.{Hand}
 use Rattle.sj_engine.specs.Stage.{BeginsWith, row_in}
 use Rattle.sj_engine.specs.Turn.{IsSharedSound, IsTurnOf, NothingHappens, PutsUnitBack}
 use Rattle.sj_engine.proofs.OtherRows.{IsBy, StaysFor, Step-stays}

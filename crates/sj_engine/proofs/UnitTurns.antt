@@ -18,12 +18,13 @@ use Rattle.sj_disk.specs.Directory.{DiskState, extent_of, last_store}
 use Rattle.sj_disk.specs.Lending.{IsInFor, IsTaken}
 use Rattle.sj_disk.specs.Rack.{is_out}
 use Rattle.sj_disk.specs.Units.{UnitFetches, UnitState, UnitStores, unit_state}
-use Rattle.sj_machine.specs.Board.{BoardState, GivesUnitBack, IsBusy, empty_hand, hand_of, has_taken, transfer_of}
-use Rattle.sj_machine.specs.BoardRow.{BoardRow, arrays_for, is_event_of, key_of}
-use Rattle.sj_machine.specs.BoardSound.{IsSoundBoard}
 use Rattle.sj_machine.specs.Standing.{IsFetching, IsMovingOut, IsTileOf, is_node, state}
-use Rattle.sj_machine.specs.Units.{HasBlockOf, HasFetchedMoved, HasItsDiskIn, HasStoredMoved, IsDiskMove, IsUnitOf, OthersKeepUnits, lent, unit_at}
-use Rattle.sj_machine.specs.declared.hand.Hand.{Hand}
+use Rattle.sj_machine.specs.Units.{HasBlockOf, HasFetchedMoved, HasItsDiskIn, HasStoredMoved, IsDiskMove, IsUnitOf, lent}
+use Rattle.sj_board.specs.Board.{BoardState, GivesUnitBack, IsBusy, empty_hand, hand_of, has_taken, transfer_of}
+use Rattle.sj_board.specs.BoardRow.{BoardRow, arrays_for, is_event_of, key_of}
+use Rattle.sj_board.specs.BoardSound.{IsSoundBoard}
+use Rattle.sj_board.specs.Units.{OthersKeepUnits, unit_at}
+use Rattle.sj_board.specs.declared.hand.Hand.{Hand}
 use Rattle.sj_engine.specs.Stage.{HoldsRow, IsCarried, MovesRow, holding_hand, row_in}
 use Rattle.sj_engine.specs.Stepping.{IsUnitFor}
 use Rattle.sj_engine.specs.Turn.{IsTurnOf, IsWorkerOf, NothingHappens, PutsUnitBack}
@@ -32,7 +33,7 @@ use Rattle.sj_engine.proofs.Turning.{taken-turn}
 use Rattle.std.proofs.lemmas.Option.{same_Some, none-some}
 use Rattle.sj_base.proofs.Options.{IfSome-at, IfSome-from, IsSomeAnd-from}
 use Rattle.sj_engine.proofs.FoundBoards.{found-sound}
-use Rattle.sj_machine.proofs.Hands.{inside-hands}
+use Rattle.sj_board.proofs.Hands.{inside-hands}
 
 -- the worker's row, with this hand, over these disks
 abbrev row_with : {D : Type 0} → BoardState D → DiskState D → Worker → Hand → BoardRow D

@@ -2,12 +2,12 @@
 use Rattle.std.specs.Prelude.{◌≡◌, ◌<◌, ◌≤◌, ◌⊎◌, ℕ, List, length, slice_index_or, take}
 use Rattle.sj_base.specs.declared.ids.Task.{Task}
 use Rattle.sj_base.specs.declared.ids.Worker.{Worker}
-use Rattle.sj_machine.specs.Board.{BoardState, room_of}
-use Rattle.sj_machine.specs.BoardSound.{times_pooled}
-use Rattle.sj_machine.specs.Passing.{IsLeft, NoneIsLeft}
 use Rattle.sj_machine.specs.Planning.{IsWhy}
 use Rattle.sj_machine.specs.Standing.{state}
 use Rattle.sj_machine.specs.declared.plan.Why.{Why}
+use Rattle.sj_board.specs.Board.{BoardState, room_of}
+use Rattle.sj_board.specs.BoardSound.{times_pooled}
+use Rattle.sj_board.specs.Passing.{IsLeft, NoneIsLeft}
 
 -- the task stands in the pool, fits the worker's node, and isn't one of those that were passed
 abbrev pub IsLeftTo : {D : Type 0} → BoardState D → Worker → List Task → Task → Type 0

@@ -6,7 +6,7 @@ use Rattle.sj_codelet.specs.declared.kernel.Kernel.{Kernel}
 use Rattle.sj_core.specs.Laws.{IsLawful}
 use Rattle.sj_core.specs.Proper.{Proper}
 use Rattle.sj_desk.specs.Seats.{DeskFacts, SeatFacts}
-use Rattle.sj_machine.specs.BoardRow.{BoardRow}
+use Rattle.sj_board.specs.BoardRow.{BoardRow}
 use Rattle.sj_engine.specs.Stage.{HasClaimedRow, IsAt, IsFreeRow, IsStoppedRow}
 use Rattle.sj_engine.specs.declared.member.SeatedWorker.{SeatedWorker}
 use Rattle.sj_engine.specs.declared.member.Stage.{Stage}

@@ -1,6 +1,6 @@
 -- The board as it passes through the desk, as the desk sees it.
 use Rattle.std.specs.Prelude.{◌≡◌, ℕ, Option, List, length}
-use Rattle.sj_machine.specs.BoardRow.{BoardKey, BoardRow, key_of, row_of_number}
+use Rattle.sj_board.specs.BoardRow.{BoardKey, BoardRow, key_of, row_of_number}
 use Rattle.sj_engine.specs.Turn.{IsSharedSound}
 use Rattle.sj_engine.specs.declared.noted_board.NotedBoard.{NotedBoard}
 

@@ -12,7 +12,7 @@ use Rattle.sj_core.specs.Needs.{Block}
 use Rattle.sj_core.specs.Step.{array_at}
 use Rattle.sj_disk.specs.Block.{block}
 use Rattle.sj_edge.specs.Held.{GivesHeld}
-use Rattle.sj_machine.specs.Board.{HasRisen}
+use Rattle.sj_machine.specs.Cause.{HasRisen}
 use Rattle.sj_machine.specs.Headers.{IsLastWritten}
 use Rattle.sj_machine.specs.Sound.{block_of}
 use Rattle.sj_machine.specs.declared.fault.RunFault.{RunFault}

@@ -2,8 +2,8 @@
 use Rattle.std.specs.Prelude.{Bool, true, false}
 use Rattle.sj_base.specs.declared.ids.Worker.{Worker}
 use Rattle.sj_base.specs.declared.trace.Event.TheVariants.{Claim}
-use Rattle.sj_machine.specs.Board.{BoardState}
-use Rattle.sj_machine.specs.BoardRow.{BoardRow}
+use Rattle.sj_board.specs.Board.{BoardState}
+use Rattle.sj_board.specs.BoardRow.{BoardRow}
 use Rattle.sj_engine.specs.declared.picking.Picked.{Picked}
 use Rattle.sj_engine.specs.declared.picking.Picked.TheVariants.{Task, Nothing, Failed, Over}
 use Rattle.sj_engine.specs.Stage.{HasClaimedRow, IsFreeRow, IsStoppedRow}

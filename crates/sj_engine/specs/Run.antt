@@ -9,12 +9,12 @@ use Rattle.sj_core.specs.Legal.{IsFinished, IsLegal}
 use Rattle.sj_desk.specs.Seats.{DeskFacts, SeatFacts}
 use Rattle.sj_disk.specs.Holding.{CountsStay}
 use Rattle.sj_edge.specs.GivenBack.{AreGivenBack}
-use Rattle.sj_machine.specs.Board.{BoardState}
-use Rattle.sj_machine.specs.BoardRow.{BoardRow}
-use Rattle.sj_machine.specs.Delivered.{DeliversEach}
-use Rattle.sj_machine.specs.Preparing.{first_hands}
 use Rattle.sj_machine.specs.declared.fault.RunFault.{RunFault}
-use Rattle.sj_machine.specs.declared.hand.Hand.{Hand}
+use Rattle.sj_board.specs.Board.{BoardState}
+use Rattle.sj_board.specs.BoardRow.{BoardRow}
+use Rattle.sj_board.specs.Delivered.{DeliversEach}
+use Rattle.sj_board.specs.Preparing.{first_hands}
+use Rattle.sj_board.specs.declared.hand.Hand.{Hand}
 use Rattle.sj_engine.specs.Outcome.{AllDisksTell, HoldBlocks, IsCausedBy, WantsLastWritten}
 use Rattle.sj_engine.specs.Stage.{IsAt, stopped_hand}
 use Rattle.sj_engine.specs.declared.noted_board.NotedBoard.{NotedBoard}

@@ -16,13 +16,13 @@ use Rattle.sj_core.specs.declared.progress.Transfer.{Transfer}
 use Rattle.sj_core.specs.Operands.{cells_of, results}
 use Rattle.sj_core.specs.Program.{dims_of, task_of, written_operands}
 use Rattle.sj_desk.specs.Seats.{DeskFacts, IsWaiting, SeatFacts}
-use Rattle.sj_machine.specs.Board.{BoardState, empty_hand}
-use Rattle.sj_machine.specs.BoardRow.{BoardKey, BoardRow, row_of_number}
-use Rattle.sj_machine.specs.declared.hand.Hand.{Hand}
+use Rattle.sj_machine.specs.Running.{IsShare}
+use Rattle.sj_board.specs.Board.{BoardState, empty_hand}
+use Rattle.sj_board.specs.BoardRow.{BoardKey, BoardRow, row_of_number}
 use Rattle.sj_engine.specs.Operands.{AreSharesOf, HasRoomForOperands, held_for, read_operands}
 use Rattle.sj_engine.specs.Outcome.{AllDisksTell}
 use Rattle.sj_engine.specs.declared.noted_board.NotedBoard.{NotedBoard}
-use Rattle.sj_machine.specs.Running.{IsShare}
+use Rattle.sj_board.specs.declared.hand.Hand.{Hand}
 
 -- ---- rows
 

@@ -4,10 +4,10 @@ use Rattle.sj_base.specs.declared.ids.Worker.{Worker}
 use Rattle.sj_base.specs.declared.trace.Event.{Event}
 use Rattle.sj_desk.specs.Seats.{DeskFacts}
 use Rattle.sj_disk.specs.Holding.{CountsStay}
-use Rattle.sj_machine.specs.Board.{BoardState, GivesUnitBack}
-use Rattle.sj_machine.specs.Units.{OthersKeepUnits}
-use Rattle.sj_machine.specs.BoardRow.{key_of, row_of_number}
-use Rattle.sj_machine.specs.BoardSound.{IsSoundBoard}
+use Rattle.sj_board.specs.Board.{BoardState, GivesUnitBack}
+use Rattle.sj_board.specs.Units.{OthersKeepUnits}
+use Rattle.sj_board.specs.BoardRow.{key_of, row_of_number}
+use Rattle.sj_board.specs.BoardSound.{IsSoundBoard}
 use Rattle.sj_engine.specs.Stage.{KeepsEvents}
 use Rattle.sj_engine.specs.declared.noted_board.NotedBoard.{NotedBoard}
 

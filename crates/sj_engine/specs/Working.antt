@@ -2,7 +2,7 @@
 use Rattle.std.specs.Prelude.{ℕ, Option, List}
 use Rattle.sj_base.specs.declared.ids.Task.{Task}
 use Rattle.sj_base.specs.declared.ids.Worker.{Worker}
-use Rattle.sj_machine.specs.BoardRow.{BoardKey, BoardRow}
+use Rattle.sj_board.specs.BoardRow.{BoardKey, BoardRow}
 use Rattle.sj_engine.specs.declared.work.Prepared.{Prepared}
 use Rattle.sj_engine.specs.declared.work.Prepared.TheVariants.{Begun, Further, Waits, Failed, Stopped}
 use Rattle.sj_engine.specs.Stage.{HasClaimedRow, HasOperands, IsFreeRow, IsStoppedRow}

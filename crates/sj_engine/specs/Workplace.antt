@@ -1,6 +1,6 @@
 -- What a worker has at hand for the whole run.
 use Rattle.sj_core.specs.Proper.{Proper}
-use Rattle.sj_machine.specs.BoardRow.{BoardKey, BoardRow, key_of}
+use Rattle.sj_board.specs.BoardRow.{BoardKey, BoardRow, key_of}
 use Rattle.sj_engine.specs.Stage.{IsAt, IsDeskOf}
 use Rattle.sj_engine.specs.declared.workplace.Workplace.{Workplace}
 use Rattle.sj_engine.specs.WorkerSeats.{WorkerSeatFacts}

@@ -6,9 +6,9 @@ ghost use Rattle.sj_engine.specs.Turn.{IsSharedSound};
 
 use crate::engine::RunOutcome;
 use sj_base::trace::Trace;
+use sj_board::board::Board;
+use sj_board::delivered::Delivered;
 use sj_edge::disk::Disk;
-use sj_machine::board::Board;
-use sj_machine::delivered::Delivered;
 use sj_machine::fault::RunFault;
 use std::alloc::Global;
 

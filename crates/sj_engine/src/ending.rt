@@ -2,7 +2,7 @@
 
 ghost use Rattle.std.specs.Prelude.{◌≡◌, [], IsTrue, None, false, is_some};
 ghost use Rattle.sj_base.specs.declared.trace.Event.TheVariants.{End};
-ghost use Rattle.sj_machine.specs.BoardRow.{key_of};
+ghost use Rattle.sj_board.specs.BoardRow.{key_of};
 ghost use Rattle.sj_engine.specs.Stage.{AreDone, IsFreeRow, RunsRow, row_in};
 ghost use Rattle.sj_engine.specs.Turn.{Happens, IsTurnOf, IsWorkerOf, NothingHappens};
 

@@ -3,10 +3,11 @@
 ghost use Rattle.std.specs.Prelude.{◌≡◌, IfSome, IsTrue, MatchBool, false, is_some, true};
 ghost use Rattle.sj_base.specs.declared.trace.Event.TheVariants.{Moved};
 ghost use Rattle.sj_base.specs.Array.{Array};
-ghost use Rattle.sj_machine.specs.Board.{BoardState, HasCause};
+ghost use Rattle.sj_machine.specs.Cause.{HasCause};
 ghost use Rattle.sj_machine.specs.Tiles.{array_in};
-ghost use Rattle.sj_machine.specs.BoardRow.{key_of};
 ghost use Rattle.sj_machine.specs.Standing.{is_node};
+ghost use Rattle.sj_board.specs.Board.{BoardState};
+ghost use Rattle.sj_board.specs.BoardRow.{key_of};
 ghost use Rattle.sj_engine.specs.Stage.{HasClaimedRow, HoldsRow, IsCarried, IsFetchedThrough, IsFreeRow, IsStoredThrough, MovesRow, row_in};
 ghost use Rattle.sj_engine.specs.Turn.{Happens, IsTurnOf, IsWorkerOf, NothingHappens, PutsUnitBack};
 

@@ -1,7 +1,7 @@
 //! The board as it passes through the desk, with what is noted of the workers that rest.
 
 ghost use Rattle.std.specs.Prelude.{◌≡◌, ◌&&◌, ◌<◌, length};
-ghost use Rattle.sj_machine.specs.BoardSound.{IsSoundBoard};
+ghost use Rattle.sj_board.specs.BoardSound.{IsSoundBoard};
 ghost use Rattle.sj_engine.specs.Resting.{has_ready, is_over, looks, noted, noted_at_rest, wakes, wakes_at_rest};
 
 use crate::shared_board::SharedBoard;
@@ -18,7 +18,7 @@ pub struct NotedBoard<D: Disk> {
 }
 
 impl<D: Disk> Keyed for NotedBoard<D> {
-    ghost use Rattle.sj_machine.specs.BoardRow.{BoardKey, BoardRow};
+    ghost use Rattle.sj_board.specs.BoardRow.{BoardKey, BoardRow};
     ghost use Rattle.sj_engine.specs.Noted.{IsNotedSound, noted_key, noted_row};
 
     ghost Key = { BoardKey D };

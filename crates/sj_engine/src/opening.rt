@@ -7,8 +7,8 @@ ghost use Rattle.sj_engine.specs.Run.{IsOpened};
 ghost use Rattle.sj_machine.specs.Sound.{IsRunnableOn};
 
 use sj_base::program::{Machine, Program};
+use sj_board::board::Board;
 use sj_edge::disk::Disk;
-use sj_machine::board::Board;
 use sj_machine::placing::placed;
 use std::alloc::Global;
 use std::sync::Arc;

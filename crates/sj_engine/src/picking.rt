@@ -1,8 +1,8 @@
 //! How a worker gets its next task.
 
 ghost use Rattle.std.specs.Prelude.{◌≡◌, ◌<◌, ◌≤◌, IfNone, IfSome, IsTrue, None, Some, is_some};
-ghost use Rattle.sj_machine.specs.Board.{IsOver};
-ghost use Rattle.sj_machine.specs.Passing.{HasLost};
+ghost use Rattle.sj_board.specs.Board.{IsOver};
+ghost use Rattle.sj_board.specs.Passing.{HasLost};
 ghost use Rattle.sj_engine.specs.Looking.{CannotClaim, HasLooked, IsLeftTo, NoneIsLeftTo};
 ghost use Rattle.sj_engine.specs.Picking.{AfterClaim, AfterPick, PickMakes};
 ghost use Rattle.sj_engine.specs.Stage.{IsFreeRow, IsStoppedRow, given_hand, row_in};
@@ -10,8 +10,8 @@ ghost use Rattle.sj_engine.specs.Turn.{IsTurnOf, IsWorkerOf, NothingHappens};
 
 use crate::shared_board::SharedBoard;
 use sj_base::ids::{Task, Worker};
+use sj_board::refusal::ClaimRefusal;
 use sj_edge::disk::Disk;
-use sj_machine::refusal::ClaimRefusal;
 use std::alloc::Global;
 
 /// What a worker without a task finds.

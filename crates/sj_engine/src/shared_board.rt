@@ -1,7 +1,7 @@
 //! A board in a box, as workers share it.
 
+use sj_board::board::Board;
 use sj_edge::disk::Disk;
-use sj_machine::board::Board;
 use std::alloc::Global;
 use std::marker::Model;
 
@@ -14,7 +14,7 @@ pub struct SharedBoard<D: Disk> {
 }
 
 impl<D: Disk> Model for SharedBoard<D> {
-    ghost use Rattle.sj_machine.specs.Board.{BoardState};
+    ghost use Rattle.sj_board.specs.Board.{BoardState};
 
     ghost Value = { BoardState D };
 
@@ -24,7 +24,7 @@ impl<D: Disk> Model for SharedBoard<D> {
 impl<D: Disk> SharedBoard<D> {
     ghost use Rattle.std.specs.Prelude.{◌≡◌, IfErr, IfOk};
     ghost use Rattle.sj_engine.specs.Resting.{has_ready, is_over};
-    ghost use Rattle.sj_machine.specs.BoardSound.{IsSoundBoard};
+    ghost use Rattle.sj_board.specs.BoardSound.{IsSoundBoard};
 
     /// A board that goes into a box. It comes back where memory is wanting. Constant time.
     pub fn new(alloc: Global, board: Board<D>) -> Result<SharedBoard<D>, Board<D>>

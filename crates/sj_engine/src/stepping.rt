@@ -10,7 +10,7 @@ ghost use Rattle.sj_disk.specs.Lending.{IsInFor};
 ghost use Rattle.sj_machine.specs.Standing.{CanHappen, is_node, state};
 ghost use Rattle.sj_machine.specs.Tiles.{array_in};
 ghost use Rattle.sj_machine.specs.Units.{lent};
-ghost use Rattle.sj_machine.specs.BoardRow.{key_of};
+ghost use Rattle.sj_board.specs.BoardRow.{key_of};
 ghost use Rattle.sj_engine.specs.Stage.{HasClaimedRow, IsCarried, IsFreeRow, MovesRow, row_in};
 ghost use Rattle.sj_engine.specs.Stepping.{AfterStep, EndsByFault, IsShareCarried, IsUnitFor, StepMakes};
 ghost use Rattle.sj_engine.specs.Turn.{Happens, IsTurnOf, IsWorkerOf, NothingHappens};

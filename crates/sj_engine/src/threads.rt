@@ -8,16 +8,16 @@ ghost use Rattle.sj_engine.specs.Posts.{HasEachWorker};
 ghost use Rattle.sj_engine.specs.Run.{AllStopped, AreAt};
 ghost use Rattle.sj_engine.specs.Stage.{IsFreeRow, IsStoppedRow};
 ghost use Rattle.sj_engine.specs.Turn.{IsSharedSound};
-ghost use Rattle.sj_machine.specs.BoardRow.{key_of};
+ghost use Rattle.sj_board.specs.BoardRow.{key_of};
 
 use crate::posts::{Post, Refused};
 use crate::site::Site;
 use crate::workplace::{BoardDesk, BoardSeat};
 use sj_base::program::Program;
+use sj_board::board::Board;
 use sj_codelet::set::Codelets;
 use sj_edge::disk::Disk;
 use sj_edge::gate::Gate;
-use sj_machine::board::Board;
 use std::alloc::Global;
 use std::sync::Wait;
 use std::thread;

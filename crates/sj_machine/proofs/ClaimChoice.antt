@@ -19,7 +19,7 @@ use Rattle.sj_machine.specs.Standing.{Standing, state}
 use Rattle.sj_machine.specs.declared.plan.Why.{Why}
 use Rattle.sj_machine.specs.declared.plan.Why.TheVariants.{Commute, Leaving, NoRoom}
 use Rattle.sj_machine.proofs.Commuting.{first-is}
-use Rattle.sj_machine.proofs.Prepared.{proper-small}
+use Rattle.sj_machine.proofs.ClaimPlanning.{proper-small}
 use Rattle.sj_machine.proofs.Written.{can-work, works-small}
 use Rattle.sj_machine.proofs.ClaimFinding.{leaves-same, plan-right, plan-wrong}
 use Rattle.sj_machine.proofs.Keeping.{sound_state}

@@ -1,19 +1,25 @@
 -- What is found in planning a claim.
-use Rattle.std.proofs.Common.{◌≡◌, ℕ, ◌+◌, ◌*◌, ◌^◌, ◌≤◌, Bool, true, false, not, List, [], ◌∷◌, Some, None, map, filter, length, reverse, option_map, sym, ap, ◌∙◌, arith, sum, sum_by}
+use Rattle.std.proofs.Common.{◌≡◌, ℕ, ◌+◌, ◌*◌, ◌^◌, ◌≤◌, Bool, true, false, not, List, [], ◌∷◌, Some, None, map, filter, length, reverse, option_map, sym, ap, ◌∙◌, arith, sum, sum_by, ◌<◌}
 use Rattle.std.specs.Prelude.{All, if◌then◌else◌}
 use Rattle.std.proofs.lemmas.List.{length-map}
-use Rattle.std.proofs.lemmas.List.Elements.{All-filter, All-map}
+use Rattle.std.proofs.lemmas.List.Elements.{All-filter, All-get_or, All-map, All-weaker}
 use Rattle.std.proofs.lemmas.List.Sums.{count_by-le-length, length-filter, sum-map, sum_by-le}
 use Rattle.sj_base.specs.Mode.{is_data}
 use Rattle.sj_base.specs.declared.mode.Access.{Access}
+use Rattle.sj_base.specs.Array.{area}
+use Rattle.sj_base.specs.declared.program.CellInfo.{CellInfo}
+use Rattle.sj_base.specs.declared.program.Lowered.{Lowered}
 use Rattle.sj_core.proofs.CellLists.{has_cell-distinct, has_cell-filter}
 use Rattle.sj_core.proofs.Words.{Cell, Program, Task, Worker, cells_of, distinct, has_cell, scratch_bytes, task_of, tile_bytes, worked_on}
+use Rattle.sj_core.specs.Program.{no_cell, no_task}
+use Rattle.sj_core.specs.Proper.{Proper}
 use Rattle.sj_node.specs.Entry.{has_entry}
 use Rattle.sj_node.specs.Store.{Store, need_victims}
 use Rattle.sj_machine.specs.Plan.{ClaimPlan, IsSmallCell}
-use Rattle.sj_machine.specs.Planning.{HasSmallWork, chosen_on, lacking, need_on, planned}
+use Rattle.sj_machine.specs.Planning.{HasSmallTask, HasSmallWork, chosen_on, lacking, need_on, planned}
 use Rattle.sj_machine.proofs.ClaimFinding.{All-of}
 use Rattle.sj_machine.proofs.ClaimStores.{All-has}
+use Rattle.sj_machine.proofs.ClaimPins.{few-operands}
 
 -- ---- small cells
 
@@ -24,6 +30,15 @@ length-distinct (x ∷ xs) = by_cases (has_cell xs x) (length-distinct xs)
     by_cases : (b : Bool) → length (distinct xs) ≤ length xs → length (if b then distinct xs else x ∷ distinct xs) ≤ length (x ∷ xs)
     by_cases true rest = omega arith
     by_cases false rest = omega arith
+
+-- each operand of a proper program's task is of a small cell
+pub proper-small : (p : Program) → Proper p → (t : Task) → t.0 < length p.tasks → HasSmallTask p t
+proper-small p proper t known = record {
+  task = known;
+  cells = All-weaker (λ a. a.cell.0 < length p.cells) (λ a. IsSmallCell p a.cell) (λ a inside. record { cell = inside; small = All-get_or (λ (c : CellInfo). area c.dims ≤ 2 ^ 24) p.cells a.cell.0 no_cell inside proper.limits.elements }) (task_of p t).accesses
+      (All-get_or (λ (l : Lowered). All (λ a. a.cell.0 < length p.cells) l.accesses) p.tasks t.0 no_task known proper.cells.named);
+  few = few-operands p proper t;
+}
 
 -- a task's few operands give few cells, each as small as what they are of
 pub few-data : (g : Access → Cell) (ops : List Access) → length ops ≤ 5 → length (map g (filter (λ a. is_data a.mode) ops)) ≤ 5

@@ -1,6 +1,6 @@
 -- Deliver tasks: each reads one cell, and what it finds there is what it is to hand over.
 use Rattle.std.proofs.Common.{◌≡◌, ◌∙◌, ◌∷◌, ◌<◌, ◌||◌, ℕ, [], List, Option, None, Some, Bool, true, false, ap, arith, get_or, inl, inr, length, map, refl, subst, sym, filter}
-use Rattle.std.specs.Prelude.{Contains, IsSomeAnd, slice_index_or}
+use Rattle.std.specs.Prelude.{Contains, slice_index_or}
 use Rattle.std.proofs.lemmas.Bool.{cases_lt, false≢true}
 use Rattle.std.proofs.lemmas.List.{get_or_past}
 use Rattle.std.proofs.lemmas.List.Elements.{All-get_or}
@@ -17,16 +17,14 @@ use Rattle.sj_core.proofs.Folding.{read-among_cells}
 use Rattle.sj_core.proofs.Found.{found-not_fresh}
 use Rattle.sj_core.proofs.Given.{delivers-given}
 use Rattle.sj_core.proofs.Reading.{list_all-has}
-use Rattle.sj_core.proofs.Words.{Array, AtNode, Cell, Node, Program, Task, Worker, cells_of, fresh_cells, has_cell, is_valid, no_task, node_of, progress, replica, task_of, worked_on}
+use Rattle.sj_core.proofs.Words.{AtNode, Cell, Node, Program, Task, Worker, cells_of, fresh_cells, has_cell, is_valid, no_task, node_of, replica, task_of, worked_on}
 use Rattle.sj_core.specs.Fold.{given}
-use Rattle.sj_core.specs.Laws.{Brought, HasAtHand, IsSound, Works}
+use Rattle.sj_core.specs.Laws.{Brought, HasAtHand, IsSound}
 use Rattle.sj_core.specs.Proper.{Commuting, Contributing, FirstPaste, FitsCodelet, MayHaveModes, Own, Proper, access}
 use Rattle.sj_core.specs.Step.{array_at}
-use Rattle.sj_core.specs.declared.progress.Progress.TheVariants.{Running}
-use Rattle.sj_machine.specs.Delivered.{IsDeliveryOf, IsKeptFor, delivered_cell, is_deliver, is_deliver_task, is_delivery}
-use Rattle.sj_machine.specs.Releasing.{IsGift}
+use Rattle.sj_machine.specs.Delivery.{delivered_cell, is_deliver, is_deliver_task, is_delivery}
 use Rattle.sj_machine.specs.Sound.{IsSoundRun}
-use Rattle.sj_machine.specs.Standing.{AllTell, CanHappen, IsTileOf, Standing, state}
+use Rattle.sj_machine.specs.Standing.{CanHappen, Standing, state}
 
 delivers : (k : Kernel) → is_deliver k ≡ true → k ≡ Deliver
 delivers Deliver e = refl
@@ -78,7 +76,7 @@ module _ {D : Type 0} (size faults mismatches : D → ℕ) (held : D → Option 
   n = node_of b.machine w
 
   -- what it has on its worker's node
-  at-hand : is_deliver_task p t ≡ true → HasAtHand b.machine (state b) t w (delivered_cell p t) → array_at p (state b) (AtNode n) (delivered_cell p t) ≡ given p t
+  pub at-hand : is_deliver_task p t ≡ true → HasAtHand b.machine (state b) t w (delivered_cell p t) → array_at p (state b) (AtNode n) (delivered_cell p t) ≡ given p t
   at-hand hands has =
       delivers-given p b.machine (state b) (record { proper = sound.run.proper; machine = sound.run.machine; coherent = sound.coherent }) sound.run.has sound.run.lawful t w (delivered_cell p t)
       (deliver-reads p sound.run.proper t hands) has
@@ -98,19 +96,3 @@ module _ {D : Type 0} (size faults mismatches : D → ℕ) (held : D → Option 
 
       among : Contains (task_of p t).accesses its
       among = subst (λ (xs : List Access). Contains xs its) (sym (deliver-reads p sound.run.proper t hands)) (0, omega arith, refl)
-
-  -- so a gift that was taken where the cell is at hand is to be kept
-  pub gift-kept : (gift : Option Array) → (is_deliver_task p t ≡ true → HasAtHand b.machine (state b) t w (delivered_cell p t)) → IsGift held b t w gift → IsKeptFor p (AllTell held b) t gift
-  gift-kept gift has is = record { some = λ hands. by_gift gift (is.some hands) hands; none = is.none }
-    where
-      by_gift : (g : Option Array) → IsSomeAnd g (IsTileOf held b (delivered_cell p t) (AtNode n)) → is_deliver_task p t ≡ true → IsSomeAnd g (IsDeliveryOf p (AllTell held b) t)
-      by_gift None some hands = absurd some
-      by_gift (Some a) some hands = record { dims = some.dims; array = λ tells. some.array tells ∙ at-hand hands (has hands) }
-
-  -- and what is kept for a running task is what it hands over
-  pub kept-gift : (gift : Option Array) → progress (state b) t ≡ Running w → IsKeptFor p (AllTell held b) t gift → IsGift held b t w gift
-  kept-gift gift runs is = record { some = λ hands. by_gift gift (is.some hands) hands; none = is.none }
-    where
-      by_gift : (g : Option Array) → IsSomeAnd g (IsDeliveryOf p (AllTell held b) t) → is_deliver_task p t ≡ true → IsSomeAnd g (IsTileOf held b (delivered_cell p t) (AtNode n))
-      by_gift None some hands = absurd some
-      by_gift (Some a) some hands = record { dims = some.dims; array = λ tells. some.array tells ∙ sym (at-hand hands (Works runs)) }

@@ -22,7 +22,7 @@ use Rattle.sj_disk.specs.Holding.{ChangesAt}
 use Rattle.sj_disk.specs.Refusals.{RefusesFor, is_damage, is_fault}
 use Rattle.sj_disk.specs.Transfers.{Looks, Writes}
 use Rattle.sj_machine.specs.Agrees.{Rows}
-use Rattle.sj_machine.specs.Board.{HasCause, HasRisen}
+use Rattle.sj_machine.specs.Cause.{HasCause, HasRisen}
 use Rattle.sj_machine.specs.Counts.{AreCounted, CountsFaults, differed_at, failed_at, fault_of}
 use Rattle.sj_machine.specs.Headers.{IsLastWritten}
 use Rattle.sj_machine.specs.Sound.{Keeps}

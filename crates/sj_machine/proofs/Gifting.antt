@@ -12,8 +12,7 @@ use Rattle.sj_core.proofs.Words.{Cell, Node, Program, Task, Worker, node_of, tas
 use Rattle.sj_core.specs.Proper.{access}
 use Rattle.sj_machine.specs.Agrees.{Rows}
 use Rattle.sj_machine.specs.Copies.{Copies, row_of, tile_at}
-use Rattle.sj_machine.specs.Delivered.{delivered_cell, is_deliver_task, is_delivery}
-use Rattle.sj_machine.specs.Releasing.{IsGift}
+use Rattle.sj_machine.specs.Delivery.{delivered_cell, is_deliver_task, is_delivery, IsGift}
 use Rattle.sj_machine.specs.Running.{CanGive, kept_at}
 use Rattle.sj_machine.specs.Sound.{Keeps}
 use Rattle.sj_machine.specs.Standing.{CanHappen, IsTileOf, Standing}

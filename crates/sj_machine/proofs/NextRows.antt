@@ -11,7 +11,7 @@ use Rattle.std.proofs.lemmas.List.Sums.{fails_before_first, passes_at_first, pos
 use Rattle.std.proofs.lemmas.Option.{none-some}
 use Rattle.sj_base.specs.declared.mode.Access.{Access}
 use Rattle.sj_base.specs.declared.program.CellInfo.{CellInfo}
-use Rattle.sj_core.proofs.Words.{AtNode, Block, Cell, CellState, Coming, DiskNo, Invalid, Leaving, Machine, Node, OnDisk, Place, Program, Replica, State, Task, Valid, Worker, WorkerState, cell_info, cell_state, cells_of, fresh_cells, has_cell, is_coming_by, is_entry, is_gone, is_leaving, is_leaving_by, is_valid, node_of, place, progress, replica, task_of, victims_of, written_cells, writes}
+use Rattle.sj_core.proofs.Words.{AtNode, Block, Cell, CellState, Coming, DiskNo, Invalid, Leaving, Machine, Node, OnDisk, Place, Program, Replica, State, Task, Valid, Worker, WorkerState, cell_info, cell_state, cells_of, fresh_cells, has_cell, is_coming_by, is_entry, is_gone, is_leaving, is_leaving_by, is_valid, node_of, progress, replica, task_of, victims_of, written_cells, writes}
 use Rattle.sj_core.specs.declared.progress.Progress.TheVariants.{Claimed}
 use Rattle.sj_core.proofs.Blocks.{disk-within, has-disk}
 use Rattle.sj_core.proofs.Claimed.{claimed-staffed}

@@ -14,12 +14,10 @@ use Rattle.sj_core.proofs.Advancing.{claimed_by-task_of, idle-has_none, task_of-
 use Rattle.sj_core.proofs.Bytes.{bytes_where, entry-cell, once-bytes}
 use Rattle.sj_core.proofs.CellLists.{has_cell-distinct, has_cell-filter_is, same_cell-from, times-distinct, times-filter}
 use Rattle.sj_core.proofs.Copies.{direct-cell}
-use Rattle.sj_core.proofs.Dependencies.{Proper-dependencies}
 use Rattle.sj_core.proofs.Eviction.{shortest_suffix-none}
 use Rattle.sj_core.proofs.Reading.{list_any-numbered, progress-inside, same_cell-is}
 use Rattle.sj_core.proofs.Readiness.{list_any-map, list_any-some}
 use Rattle.sj_core.proofs.Replicas.{leaving-by_some}
-use Rattle.sj_core.proofs.Separation.{worker-inside}
 use Rattle.sj_core.proofs.Sized.{worked_on-dims}
 use Rattle.sj_core.proofs.Sums.{sum-filter, sum-plus}
 use Rattle.sj_core.proofs.Words.{AtNode, Cell, Machine, Node, Program, State, Task, Worker, cells_of, data_operands, dims_of, distinct, free, has_cell, is_leaving, is_pinned, is_task_of, no_task, node_of, node_size, order, pins, progress, replica, same_cell, scratch, scratch_bytes, task_of, tasks_of, tile_bytes, worked_on, worker_of, workers_at}
@@ -35,7 +33,6 @@ use Rattle.sj_machine.specs.Sound.{IsSoundRun}
 use Rattle.sj_machine.specs.Standing.{Standing, state}
 use Rattle.sj_machine.specs.declared.plan.Why.{Why}
 use Rattle.sj_machine.specs.declared.plan.Why.TheVariants.{Commute, Leaving, NoRoom}
-use Rattle.sj_machine.specs.declared.refusal.ClaimRefusal.TheVariants.{NotNow, OutOfMemory}
 use Rattle.sj_base.proofs.Bools.{and_swap}
 use Rattle.sj_base.proofs.Lists.{find-passes}
 
@@ -187,7 +184,7 @@ module _ (p : Program) (m : Machine) (s : State) (h : IsSound p m s) (has : Kern
     | inr none ↦ absurd (never p m s h has lawful t w may (λ v u mine. false≢true (sym none ∙ held v u mine)) why is)
   ]
 
--- as a run and a board tell it
+-- as a run tells it
 module _ {D : Type 0} (size faults mismatches : D → ℕ) (held : D → Option (List ℕ)) (run : Standing D) (sound : IsSoundRun size faults mismatches held run) (t : Task) (w : Worker) (may : MayClaim run.program run.machine (state run) t w) where
   pub refusal-waits : (why : Why) → IsWhy run.program run.machine (state run) t w why → AnotherHasTask (state run) w
   refusal-waits = waits-for run.program run.machine (state run) (record { proper = sound.run.proper; machine = sound.run.machine; coherent = sound.coherent }) sound.run.has sound.run.lawful t w may
@@ -195,11 +192,3 @@ module _ {D : Type 0} (size faults mismatches : D → ℕ) (held : D → Option 
   pub found-waits : (found : Result ClaimPlan Why) → IfErr found (IsWhy run.program run.machine (state run) t w) → OnErr found (AnotherHasTask (state run) w)
   found-waits (Ok plan) is = tt
   found-waits (Err why) is = refusal-waits why is
-
-  -- with one worker there is no other
-  pub lone-refusal : run.program.workers ≡ 1 → (why : Why) → IsWhy run.program run.machine (state run) t w why → NotNow why ≡ OutOfMemory
-  lone-refusal one why is =
-      let another = refusal-waits why is in
-      let staffed = worker-inside run.program run.machine sound.run.proper.cells (Proper-dependencies run.program sound.run.proper) (state run) sound.coherent.state sound.coherent.workers sound.coherent.order another.task another.worker another.has in
-      let same : another.worker.0 ≡ w.0 = omega (arith, staffed, may.worker, one) in
-      absurd (another.other (ap (λ (i : ℕ). let x : Worker = record { 0 = i } in x) same))

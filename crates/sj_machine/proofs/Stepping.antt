@@ -1,5 +1,5 @@
 -- What is said of ready tasks and of hands, where one task's progress changes.
-use Rattle.std.proofs.Common.{◌≡◌, ◌≢◌, ℕ, ◌<◌, ◌↔◌, false, List, inl, inr, sym, subst, ap, ◌∙◌, length}
+use Rattle.std.proofs.Common.{◌≡◌, ◌≢◌, ℕ, ◌<◌, ◌↔◌, false, List, inl, inr, sym, subst, ap, ◌∙◌, length, [], slice_index_or}
 use Rattle.std.specs.List.{Contains}
 use Rattle.std.proofs.lemmas.Bool.{false≢true}
 use Rattle.std.proofs.lemmas.List.Sums.{AllPass-from_list_all}
@@ -12,7 +12,7 @@ use Rattle.sj_core.specs.Legal.{IsComplete}
 use Rattle.sj_core.specs.Step.{done_tasks}
 use Rattle.sj_deps.specs.Conflict.{Ready}
 use Rattle.sj_deps.specs.Progress.{Dependencies}
-use Rattle.sj_machine.specs.BoardSound.{CountsDone, IsToBeTaken}
+use Rattle.sj_machine.specs.ReadyTasks.{CountsDone, IsToBeTaken}
 
 -- a task is ready where the same tasks are done
 pub ready-same : (p : Program) (done done' : List ℕ) (u : ℕ) → ((n : ℕ) → Contains done n ↔ Contains done' n) → Ready p done u → Ready p done' u
@@ -32,6 +32,36 @@ ready-counted p s deps counts u = (
 -- a task that doesn't wait isn't done where not all are
 pub not-complete : (s : State) (t : Task) → t.0 < length s.tasks → is_done (progress s t) ≡ false → IsComplete s → ⊥
 not-complete s t inside undone complete = false≢true (sym undone ∙ AllPass-from_list_all is_done s.tasks complete t.0 Waiting inside)
+
+-- ---- no task goes on
+
+abbrev pub tasks_alone : List Progress → State
+tasks_alone tasks = record { tasks = tasks; cells = []; orders = []; workers = [] }
+
+module _ (p : Program) (s s' : State) (same : s'.tasks ≡ s.tasks) where
+  pub progress-same : (t : Task) → progress s' t ≡ progress s t
+  progress-same t = ap (λ (ts : List Progress). slice_index_or ts t.0 Waiting) same
+
+  done-same : done_tasks s' ≡ done_tasks s
+  done-same = ap (λ (ts : List Progress). done_tasks (tasks_alone ts)) same
+
+  pub taken-same : (t : Task) → IsToBeTaken p s t → IsToBeTaken p s' t
+  taken-same t is = record {
+    waiting = progress-same t ∙ is.waiting;
+    ready = subst (λ (ns : List ℕ). Ready p ns t.0) (sym done-same) is.ready;
+  }
+
+  pub taken-back : (t : Task) → IsToBeTaken p s' t → IsToBeTaken p s t
+  taken-back t is = record {
+    waiting = sym (progress-same t) ∙ is.waiting;
+    ready = subst (λ (ns : List ℕ). Ready p ns t.0) done-same is.ready;
+  }
+
+  pub counts-same : (deps : Dependencies) → CountsDone p s deps → CountsDone p s' deps
+  counts-same deps counts = record {
+    program = counts.program;
+    done = subst (λ (ns : List ℕ). (n : ℕ) → Contains deps.done n ↔ Contains ns n) (sym done-same) counts.done;
+  }
 
 -- ---- a task goes on that isn't done before or after
 

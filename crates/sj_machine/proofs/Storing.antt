@@ -1,5 +1,5 @@
 -- What a store and a fetch of a disk leave: the same state, over disks that hold what they held.
-use Rattle.std.proofs.Common.{◌≡◌, ◌≢◌, ◌<◌, ℕ, ℤ, Bool, true, List, Option, None, Some, refl, sym, ap, ◌∙◌, subst, arith, inl, inr, ◌⊎◌, length, get_or, is_some}
+use Rattle.std.proofs.Common.{◌≡◌, ◌≢◌, ◌<◌, ℕ, ℤ, Bool, true, List, Option, None, Some, refl, sym, ap, ◌∙◌, subst, arith, inl, inr, ◌⊎◌, length, get_or, is_some, false}
 use Rattle.std.specs.Prelude.{All, FitsSigned, IfSome, IsSome, IsSomeAnd, OnOk, Result, Ok, Err, is_ok, option_map, slice_get}
 use Rattle.std.specs.Int.{w64}
 use Rattle.std.proofs.lemmas.Bool.{cases_lt, false≢true}
@@ -20,9 +20,10 @@ use Rattle.sj_disk.specs.declared.refusal.DiskRefusal.{DiskRefusal}
 use Rattle.sj_disk.specs.Block.{block, block_bytes, header}
 use Rattle.sj_disk.specs.Calls.{Fetches, Stores}
 use Rattle.sj_disk.specs.Lending.{IsInFor, LendingState}
-use Rattle.sj_disk.specs.Directory.{extent_of, last_store, with_store}
+use Rattle.sj_disk.specs.Directory.{DiskState, extent_of, last_store, with_store}
 use Rattle.sj_disk.specs.Holding.{Holds, TellsBytes}
 use Rattle.sj_disk.proofs.Uniting.{length-block}
+use Rattle.sj_disk.specs.Rack.{is_out}
 use Rattle.sj_machine.specs.Agrees.{Rows, transfer_in}
 use Rattle.sj_machine.specs.Headers.{IsLastWritten}
 use Rattle.sj_machine.specs.Copies.{Copies, row_of}
@@ -30,6 +31,7 @@ use Rattle.sj_machine.specs.Sound.{HoldsArray, HoldsBlocks, IsBlock, IsBlockCopy
 use Rattle.sj_machine.specs.Units.{HasItsDiskIn, lent}
 use Rattle.sj_machine.specs.Standing.{AllTell, HasDimsMoved, IsTileMoved, IsTileOf, Standing, state}
 use Rattle.sj_machine.proofs.Resting.{valid-cell}
+use Rattle.sj_machine.specs.Todo.{is_out_for}
 
 -- disks that all told still tell
 told_as : {X : Type 0} (a b : Option X) → is_some b ≡ is_some a → IsSome a → IsSome b
@@ -316,3 +318,24 @@ module _ {D : Type 0} (size faults mismatches : D → ℕ) (held : D → Option 
 
       pub found-fetched : OnOk result (IsTileMoved held b' w got)
       found-fetched = OnOk-from result (IsTileMoved held b' w got) (fetched-well size faults mismatches held b rows spare keeps x.cell w d x.to (from-place (OnDisk d) at) tile dims-of whole result got same_dims new its-fetches b' same)
+
+-- ---- disks that come back, and disks that are in
+
+-- what is so of what stands there
+pub some-if : {X : Type 0} (Q P : X → Type 0) (R : Type 0) (o : Option X) → IsSomeAnd o Q → IfSome o P → ((x : X) → P x → R) → R
+some-if Q P R None some h f = absurd some
+some-if Q P R (Some x) some h f = f x h
+
+pub stores-back : {D A : Type 0} (size faults mismatches : D → ℕ) (held : D → Option (List ℕ)) (c n : ℕ) (xs : List ℤ) (result : Result A DiskRefusal) (old new : DiskState D) (Q : Extent → Type 0) → IsSomeAnd (extent_of old.directory c) Q → IfSome (extent_of old.directory c) (Stores size faults mismatches held c n xs result old new) → AreGivenBack size faults mismatches held old.disks new.disks
+stores-back size faults mismatches held c n xs result old new Q some stores = some-if Q (Stores size faults mismatches held c n xs result old new) (AreGivenBack size faults mismatches held old.disks new.disks) (extent_of old.directory c) some stores (λ e (is : Stores size faults mismatches held c n xs result old new e). is.disks_are_given_back)
+
+pub fetches-back : {D A : Type 0} (size faults mismatches : D → ℕ) (held : D → Option (List ℕ)) (c n : ℕ) (xs : List ℤ) (result : Result A DiskRefusal) (old new : DiskState D) (Q : Extent → Type 0) → IsSomeAnd (extent_of old.directory c) Q → IfSome (extent_of old.directory c) (Fetches size faults mismatches held c n xs result old new) → AreGivenBack size faults mismatches held old.disks new.disks
+fetches-back size faults mismatches held c n xs result old new Q some fetches = some-if Q (Fetches size faults mismatches held c n xs result old new) (AreGivenBack size faults mismatches held old.disks new.disks) (extent_of old.directory c) some fetches (λ e (is : Fetches size faults mismatches held c n xs result old new e). is.disks_are_given_back)
+
+-- where the disk of the cell of a worker's transfer isn't out, it is in
+pub not-out : {D : Type 0} (b : Standing D) (w : Worker) (x : Transfer) → transfer (state b) w ≡ Some x → is_out_for b x.cell ≡ false → HasItsDiskIn b w
+not-out b w x under_way none = subst (λ (o : Option Transfer). IfSome o (λ y. IsInFor (lent b) y.cell.0)) (sym under_way) (by_extent (extent_of b.disks.directory x.cell.0) none)
+  where
+    by_extent : (o : Option Extent) → elim o [ None ↦ false | Some e ↦ is_out b.out e.disk.0 ] ≡ false → IfSome o (λ e. is_out b.out e.disk.0 ≡ false)
+    by_extent None e = tt
+    by_extent (Some x) e = e

@@ -14,7 +14,7 @@ use Rattle.sj_disk.specs.Directory.{IsLaidOut, extent_of, last_store}
 use Rattle.sj_disk.specs.Lending.{ComesFrom, HasFetched, HasStored, IsTaken, LendingState, TakesOut, has_back}
 use Rattle.sj_disk.specs.Units.{IsWorkedOn, UnitFetches, UnitState, UnitStores}
 use Rattle.sj_machine.specs.Agrees.{Rows, transfer_in}
-use Rattle.sj_machine.specs.Board.{HasCause}
+use Rattle.sj_machine.specs.Cause.{HasCause}
 use Rattle.sj_machine.specs.Counts.{AreCounted, fault_of}
 use Rattle.sj_machine.specs.Sound.{IsStored, IsWrittenOut, Keeps}
 use Rattle.sj_machine.specs.Standing.{IsFetching, IsMovingOut, IsTileMoved, IsTileOf, Standing, is_node, state}

@@ -1,5 +1,5 @@
 -- How many of each worker's victims are gone, of those that go first.
-use Rattle.std.specs.Prelude.{◌≡◌, ℕ, not, IsTrue, List, length, reverse, slice_index_or, take}
+use Rattle.std.specs.Prelude.{ℕ, not, IsTrue, List, reverse, slice_index_or, take}
 use Rattle.std.specs.List.{list_all}
 use Rattle.sj_base.specs.declared.ids.Cell.{Cell}
 use Rattle.sj_base.specs.declared.ids.Node.{Node}
@@ -20,8 +20,3 @@ AreGone m s w count = IsTrue (list_all (is_gone m s w) (take count (reverse (vic
 -- of each worker's victims so many are gone, those that go first; where no count is given, none is said to be
 abbrev pub KnownGone : Machine → State → List ℕ → Type 0
 KnownGone m s counts = (w : Worker) → AreGone m s w (slice_index_or counts w.0 0)
-
--- of each worker's victims so many are known to be gone
-pub record KnowsGone (workers : ℕ) (m : Machine) (s : State) (counts : List ℕ) : Type 0 where
-  pub every_worker : length counts ≡ workers
-  pub gone : KnownGone m s counts

@@ -23,8 +23,6 @@ use Rattle.sj_machine.specs.Mark.{is_leaving_mark}
 use Rattle.sj_machine.specs.Operands.{CanWorkOn}
 use Rattle.sj_machine.specs.Plan.{ClaimPlan, IsPlan, IsSmallCell}
 use Rattle.sj_machine.specs.Standing.{CanHappen, Standing, state}
-use Rattle.sj_machine.specs.declared.refusal.ClaimRefusal.{ClaimRefusal}
-use Rattle.sj_machine.specs.declared.refusal.ClaimRefusal.TheVariants.{NotNow, OutOfMemory}
 use Rattle.sj_machine.specs.declared.plan.Why.{Why}
 use Rattle.sj_machine.specs.declared.plan.Why.TheVariants.{Commute, Leaving, NoRoom}
 
@@ -95,22 +93,12 @@ pub record IsAnswer {D : Type 0} (b : Standing D) (t : Task) (w : Worker) (answe
   pub plan : IfOk answer (IsPlan b.program b.machine (state b) t w)
   pub why : IfErr answer (IsWhy b.program b.machine (state b) t w)
 
--- why a claim isn't made: one of these reasons, or want of memory
-abbrev pub IsRefusal : Program → Machine → State → Task → Worker → ClaimRefusal → Type 0
-IsRefusal p m s t w (NotNow why) = IsWhy p m s t w why
-IsRefusal p m s t w OutOfMemory = Unit {0}
-
 -- another worker than this one has a claimed or running task
 pub record AnotherHasTask (s : State) (w : Worker) : Type 0 where
   pub worker : Worker
   pub other : worker ≢ w
   pub task : Task
   pub has : IsTrue (is_task_of worker (progress s task))
-
--- a claim can't be made now only while another worker has a task
-abbrev pub WaitsForAnother : State → Worker → ClaimRefusal → Type 0
-WaitsForAnother s w (NotNow why) = AnotherHasTask s w
-WaitsForAnother s w OutOfMemory = Unit {0}
 
 -- no other worker holds a commuting cell of the task
 abbrev pub HoldsCommutersAlone : Program → State → Task → Worker → Type 0

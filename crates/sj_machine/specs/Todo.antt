@@ -1,6 +1,6 @@
 -- What a worker does next for the task that it has claimed: its victims go, the least recently used first; then the cells
 -- come that its claim brings, in operand order; then its kernel begins.
-use Rattle.std.specs.Prelude.{◌≡◌, ◌≢◌, Bool, false, not, ◌&&◌, Option, Some, None, ◌⊎◌, IsTrue, IsSomeAnd, IfSome, MatchBool, MatchOption, find, is_some, reverse, if◌then◌else◌}
+use Rattle.std.specs.Prelude.{◌≡◌, ◌≢◌, Bool, false, not, ◌&&◌, Option, Some, None, ◌⊎◌, IsTrue, IsSomeAnd, MatchBool, MatchOption, find, is_some, reverse, if◌then◌else◌}
 use Rattle.std.specs.List.{list_all}
 use Rattle.sj_base.specs.declared.ids.Cell.{Cell}
 use Rattle.sj_base.specs.declared.ids.Node.{Node}
@@ -9,20 +9,16 @@ use Rattle.sj_base.specs.declared.ids.Worker.{Worker}
 use Rattle.sj_base.specs.declared.ids.Place.TheVariants.{Node as AtNode, Disk as OnDisk}
 use Rattle.sj_base.specs.declared.program.Program.{Program}
 use Rattle.sj_base.specs.declared.program.Machine.{Machine}
-use Rattle.sj_base.specs.declared.trace.Event.TheVariants.{Drop, Move, Run}
 use Rattle.sj_core.specs.Machine.{State, is_coming_by, is_gone, progress, replica, transfer, victims_of, writes}
 use Rattle.sj_core.specs.Needs.{node_of}
 use Rattle.sj_core.specs.Operands.{cells_of, written_cells}
-use Rattle.sj_core.specs.Step.{disk_of, is_fresh, is_moving, is_present, is_read, is_valid_elsewhere, mover_of, source_of}
+use Rattle.sj_core.specs.Step.{disk_of, is_fresh, is_moving, is_present, is_read, is_valid_elsewhere, source_of}
 use Rattle.sj_core.specs.declared.progress.Progress.TheVariants.{Claimed}
-use Rattle.sj_machine.specs.Board.{BoardState, hand_of}
 use Rattle.sj_disk.specs.Directory.{extent_of}
-use Rattle.sj_disk.specs.Lending.{IsInFor}
 use Rattle.sj_disk.specs.Rack.{is_out}
-use Rattle.sj_machine.specs.Standing.{CanHappen, Standing, is_node, state}
-use Rattle.sj_machine.specs.Units.{lent}
+use Rattle.sj_machine.specs.Standing.{Standing, is_node, state}
 use Rattle.sj_machine.specs.declared.todo.Todo.{Todo}
-use Rattle.sj_machine.specs.declared.todo.Todo.TheVariants.{Discard, Nothing, Start, Transfer, Wait}
+use Rattle.sj_machine.specs.declared.todo.Todo.TheVariants.{Discard, Start, Transfer, Wait}
 
 -- ---- victims
 
@@ -85,34 +81,7 @@ pub record IsStepFor {D : Type 0} (b : Standing D) (t : Task) (w : Worker) (todo
   pub next : IsNext b.program b.machine (state b) t w first
   pub or_waits : todo ≡ (if needs_disk_out b first then Wait else first)
 
--- the worker's next step: nothing where it has no task
-abbrev pub IsTodoOf : {D : Type 0} → BoardState D → Worker → Todo → Type 0
-IsTodoOf b w todo = MatchOption (hand_of b w).task (todo ≡ Nothing) (λ t. IsStepFor b.run t w todo)
-
--- where it is a transfer in which a disk takes part, that disk is in
-abbrev pub HasDiskIn : {D : Type 0} → BoardState D → Todo → Type 0
-HasDiskIn b (Transfer c from to n) = (is_node from && is_node to) ≡ false → IsInFor (lent b.run) c.0
-HasDiskIn b _ = Unit {0}
-
 -- ---- what follows of it
-
--- the event that the step begins with can happen
-abbrev pub CanBegin : {D : Type 0} → BoardState D → Worker → Todo → Type 0
-CanBegin b w Nothing = Unit {0}
-CanBegin b w (Transfer c from to n) = CanHappen b.run (Move c from to)
-CanBegin b w (Discard c) = CanHappen b.run (Drop c (node_of b.run.machine w))
-CanBegin b w Wait = Unit {0}
-CanBegin b w Start = IfSome (hand_of b w).task (λ t. CanHappen b.run (Run t w))
-
--- where it is a move, it is the worker's
-abbrev pub IsMoverOf : {D : Type 0} → BoardState D → Worker → Todo → Type 0
-IsMoverOf b w (Transfer c from to n) = mover_of (state b.run) c from to ≡ w
-IsMoverOf b w _ = Unit {0}
-
--- where it is a transfer, so many tasks have written its cell
-abbrev pub IsCounted : {D : Type 0} → BoardState D → Todo → Type 0
-IsCounted b (Transfer c from to n) = n ≡ writes (state b.run) c
-IsCounted b _ = Unit {0}
 
 -- the worker has claimed a task, and doesn't wait
 pub record HasStep (p : Program) (m : Machine) (s : State) (w : Worker) : Type 0 where

@@ -1,14 +1,12 @@
 //! How many victims are gone.
 
-ghost use Rattle.std.specs.Prelude.{◌≡◌, ◌<◌, All, IfOk, IfSome, length, position, replicate, reverse, slice_set};
+ghost use Rattle.std.specs.Prelude.{◌≡◌, ◌<◌, All, IfSome, length, position, reverse};
 ghost use Rattle.sj_machine.specs.Choosing.{leaves_in};
 ghost use Rattle.sj_machine.specs.Gone.{AreGoneIn};
 
 use crate::choosing::mark_at;
 use crate::copies::Copies;
 use sj_base::ids::{Cell, Node, Worker};
-use sj_base::memory::OutOfMemory;
-use std::alloc::Global;
 
 /// How many of these victims go before the next one of which the copy at a node still leaves by the claim of a worker. Linear
 /// in them.
@@ -35,19 +33,4 @@ pub fn gone_among(cells: &[Copies], n: Node, w: Worker, victims: &[Cell], known:
         Some(more) => known + more,
         None => victims.len(),
     }
-}
-
-/// No victim of any worker is known to be gone. Linear in the workers.
-pub fn none_gone(alloc: Global, workers: u8) -> Result<Vec<usize>, OutOfMemory>
-    ensures { IfOk result (λ v. v.items ≡ replicate workers 0) }
-{
-    Ok(vec![in alloc; 0; workers as usize]?)
-}
-
-/// So many of a worker's victims are known to be gone. Constant time.
-pub fn note_gone(gone: &mut Vec<usize>, w: Worker, count: usize)
-    requires { w.0 < length gone.old.items }
-    ensures { gone.new.items ≡ slice_set gone.old.items w.0 count }
-{
-    gone[w.0 as usize] = count;
 }

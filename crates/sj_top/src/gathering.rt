@@ -13,7 +13,7 @@ use crate::output::write_printed;
 use sj_base::memory::OutOfMemory;
 use sj_base::program::{Delivery, Program};
 use sj_base::tile::{Dims, Tile};
-use sj_machine::delivered::Delivered;
+use sj_board::delivered::Delivered;
 use sj_meaning::roots::Roots;
 use sj_plan::rect::Rect;
 use sj_plan::tiles::gather;

@@ -5,7 +5,7 @@ ghost use Rattle.std.specs.List.{slice_set};
 ghost use Rattle.sj_base.specs.Array.{Array};
 ghost use Rattle.sj_edge.specs.GivenBack.{AreGivenBack};
 ghost use Rattle.sj_disk.specs.Lending.{has_back};
-ghost use Rattle.sj_machine.specs.Board.{HasCause};
+ghost use Rattle.sj_machine.specs.Cause.{HasCause};
 ghost use Rattle.sj_machine.specs.Counts.{AreCounted, fault_of};
 ghost use Rattle.sj_machine.specs.Sound.{IsWrittenOut, OnlyDisksChange};
 ghost use Rattle.sj_machine.specs.Standing.{IsFetching, IsMovingOut, IsTileMoved};

@@ -1,5 +1,5 @@
 use Rattle.std.proofs.Common.{◌<◌, subst, sym}
-use Rattle.sj_machine.specs.Board.{BoardState}
+use Rattle.sj_board.specs.Board.{BoardState}
 use Rattle.board_tests.proofs.Claiming.{claims-it, is-given, is-step}
 use Rattle.board_tests.specs.Steps.{IsStepOf}
 use Rattle.board_tests.proofs.steps.claimed.Goals as goal

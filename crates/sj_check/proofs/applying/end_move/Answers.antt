@@ -1,6 +1,6 @@
 use Rattle.sj_core.specs.Step.{a_transfer}
 use Rattle.std.proofs.Common.{◌∙◌, sym}
-use Rattle.sj_machine.proofs.WaitsOut.{not-out}
+use Rattle.sj_machine.proofs.Storing.{not-out}
 use Rattle.sj_machine.proofs.Resting.{valid-cell}
 use Rattle.sj_check.proofs.applying.end_move.Goals as goal
 

@@ -1,6 +1,6 @@
 use Rattle.std.proofs.Common.{rules, ◌≡◌, ◌∙◌, List, subst}
 use Rattle.sj_base.specs.declared.program.Program.{Program}
-use Rattle.sj_machine.specs.Delivered.{DeliversEach}
+use Rattle.sj_board.specs.Delivered.{DeliversEach}
 use Rattle.std.specs.Prelude.{IfErr}
 use Rattle.sj_engine.specs.Outcome.{AllDisksTell, WantsLastWritten}
 use Rattle.sj_core.proofs.Bound.{legal-within_bound}

@@ -1,5 +1,5 @@
 use Rattle.std.proofs.Common.{rules, ◌≡◌, ◌∙◌, ap}
-use Rattle.sj_machine.specs.Preparing.{first_hands}
+use Rattle.sj_board.specs.Preparing.{first_hands}
 use Rattle.sj_engine.specs.declared.noted_board.NotedBoard.{NotedBoard}
 use Rattle.sj_engine.proofs.Seating.{dealt-free}
 use Rattle.sj_engine.proofs.engine.run_over.Goals as goal

@@ -1,6 +1,6 @@
 use Rattle.std.proofs.Common.{◌≡◌, ◌∙◌, ap, length, subst, sym}
-use Rattle.sj_machine.specs.Board.{BoardState}
-use Rattle.sj_machine.specs.BoardRow.{BoardKey}
+use Rattle.sj_board.specs.Board.{BoardState}
+use Rattle.sj_board.specs.BoardRow.{BoardKey}
 use Rattle.sj_base.specs.declared.program.Program.{Program}
 use Rattle.sj_engine.specs.Run.{AllStopped}
 use Rattle.sj_engine.specs.Stage.{IsFreeRow, IsStoppedRow}

@@ -1,7 +1,7 @@
 use Rattle.std.proofs.Common.{◌≡◌, ◌∙◌, ap, sym, subst}
 use Rattle.std.proofs.Common.{◌<◌, length}
 use Rattle.sj_base.specs.declared.program.Program.{Program}
-use Rattle.sj_machine.specs.Board.{BoardState}
+use Rattle.sj_board.specs.Board.{BoardState}
 use Rattle.sj_engine.proofs.StepFacts.{room-for, room-left}
 use Rattle.sj_engine.proofs.BeginTurns.{begun-lent, begun-row, begun-turn, run-can, run-task, task-there}
 use Rattle.sj_base.specs.declared.trace.Event.TheVariants.{Run}

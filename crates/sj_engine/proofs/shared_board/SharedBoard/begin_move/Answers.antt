@@ -1,7 +1,7 @@
 use Rattle.std.proofs.Common.{◌∙◌, ap}
 use Rattle.sj_base.specs.declared.trace.Event.TheVariants.{Move}
-use Rattle.sj_machine.specs.Board.{BoardState}
 use Rattle.sj_machine.specs.Tiles.{array_in}
+use Rattle.sj_board.specs.Board.{BoardState}
 use Rattle.sj_engine.proofs.BoardTurns.{happened}
 use Rattle.sj_engine.proofs.StepTurns.{move-counts, move-lent, move-row, move-share, move-turn}
 use Rattle.sj_engine.proofs.shared_board.SharedBoard.begin_move.Goals as goal

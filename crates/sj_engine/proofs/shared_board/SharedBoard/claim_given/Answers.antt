@@ -1,7 +1,8 @@
 use Rattle.std.proofs.Common.{◌∙◌, ap, subst}
-use Rattle.sj_machine.specs.Board.{BoardState}
-use Rattle.sj_machine.specs.Planning.{IsRefusal, IsWhy}
+use Rattle.sj_machine.specs.Planning.{IsWhy}
 use Rattle.sj_machine.specs.Standing.{state}
+use Rattle.sj_board.specs.Board.{BoardState}
+use Rattle.sj_board.specs.Refusal.{IsRefusal}
 use Rattle.sj_base.specs.declared.trace.Event.TheVariants.{Claim}
 use Rattle.sj_engine.specs.Turn.{IsTurnOf}
 use Rattle.sj_engine.proofs.BoardTurns.{happened}

@@ -1,8 +1,8 @@
 use Rattle.std.proofs.lemmas.List.{length-take-le}
 use Rattle.std.proofs.Common.{◌<◌, ◌∙◌, arith, inl, inr, length-set, sym, subst, take}
 use Rattle.std.specs.Prelude.{IsTrue, is_some}
-use Rattle.sj_machine.specs.Board.{BoardState}
-use Rattle.sj_machine.specs.BoardRow.{BoardKey}
+use Rattle.sj_board.specs.Board.{BoardState}
+use Rattle.sj_board.specs.BoardRow.{BoardKey}
 use Rattle.sj_engine.specs.Picking.{AfterClaim, PickMakes}
 use Rattle.sj_engine.specs.Stage.{IsFreeRow, row_in}
 use Rattle.sj_engine.specs.Turn.{IsTurnOf, NothingHappens}

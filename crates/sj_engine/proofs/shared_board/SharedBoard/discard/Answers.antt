@@ -3,7 +3,7 @@ use Rattle.sj_base.specs.declared.trace.Event.TheVariants.{Drop}
 use Rattle.sj_core.specs.Needs.{node_of}
 use Rattle.sj_engine.proofs.BoardTurns.{dropped-row, has_event-turn}
 use Rattle.std.proofs.Common.{ap}
-use Rattle.sj_machine.specs.Board.{BoardState}
+use Rattle.sj_board.specs.Board.{BoardState}
 use Rattle.sj_engine.proofs.BoardTurns.{happened}
 use Rattle.sj_engine.proofs.shared_board.SharedBoard.discard.Goals as goal
 

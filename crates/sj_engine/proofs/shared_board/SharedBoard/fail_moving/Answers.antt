@@ -1,7 +1,7 @@
 use Rattle.std.proofs.Common.{◌∙◌, ap}
-use Rattle.sj_machine.specs.declared.hand.Hand.{Hand}
+use Rattle.sj_board.specs.declared.hand.Hand.{Hand}
 use Rattle.sj_engine.proofs.BoardTurns.{failed-after, failed-row}
-use Rattle.sj_machine.specs.Board.{BoardState}
+use Rattle.sj_board.specs.Board.{BoardState}
 use Rattle.sj_engine.proofs.BoardTurns.{nothing-happened}
 use Rattle.sj_engine.proofs.shared_board.SharedBoard.fail_moving.Goals as goal
 

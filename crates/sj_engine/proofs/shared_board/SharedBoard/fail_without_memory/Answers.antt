@@ -2,7 +2,7 @@ use Rattle.std.proofs.Common.{◌∙◌}
 use Rattle.sj_machine.specs.declared.fault.RunFault.TheVariants.{OutOfMemory}
 use Rattle.sj_engine.proofs.BoardTurns.{failed-row, failed-turn}
 use Rattle.std.proofs.Common.{ap}
-use Rattle.sj_machine.specs.Board.{BoardState}
+use Rattle.sj_board.specs.Board.{BoardState}
 use Rattle.sj_engine.proofs.BoardTurns.{nothing-happened}
 use Rattle.sj_engine.proofs.shared_board.SharedBoard.fail_without_memory.Goals as goal
 

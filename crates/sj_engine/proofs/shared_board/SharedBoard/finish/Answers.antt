@@ -2,7 +2,7 @@ use Rattle.std.proofs.Common.{◌∙◌}
 use Rattle.sj_engine.proofs.ClaimTurns.{end-can, end-task, end-written, ended-row, ended-turn}
 use Rattle.std.proofs.Common.{ap}
 use Rattle.sj_base.specs.declared.trace.Event.TheVariants.{End}
-use Rattle.sj_machine.specs.Board.{BoardState}
+use Rattle.sj_board.specs.Board.{BoardState}
 use Rattle.sj_engine.proofs.BoardTurns.{happened}
 use Rattle.sj_engine.proofs.shared_board.SharedBoard.finish.Goals as goal
 

@@ -1,13 +1,12 @@
 use Rattle.std.proofs.Common.{◌∙◌, sym, subst}
 use Rattle.std.proofs.Common.{IfSome, None, Some}
-use Rattle.sj_machine.specs.Board.{IsFree}
-use Rattle.sj_machine.specs.Passing.{HasLost}
+use Rattle.sj_board.specs.Board.{IsFree, BoardState}
+use Rattle.sj_board.specs.Passing.{HasLost}
 use Rattle.sj_engine.specs.Looking.{IsLeftTo, NoneIsLeftTo}
 use Rattle.sj_engine.proofs.Answering.{if-none, if-some}
 use Rattle.sj_engine.proofs.ClaimTurns.{next-fault, next-hand, next-turn}
 use Rattle.sj_engine.proofs.OwnRows.{is-free}
 use Rattle.std.proofs.Common.{ap}
-use Rattle.sj_machine.specs.Board.{BoardState}
 use Rattle.sj_engine.proofs.BoardTurns.{nothing-happened}
 use Rattle.sj_engine.proofs.shared_board.SharedBoard.give_next.Goals as goal
 

@@ -1,11 +1,10 @@
 use Rattle.std.proofs.Common.{◌∙◌, sym, subst}
-use Rattle.sj_machine.specs.Board.{RunsNone}
+use Rattle.sj_board.specs.Board.{RunsNone, BoardState}
 use Rattle.sj_engine.proofs.BoardTurns.{stopped-row, stopped-turn}
 use Rattle.sj_engine.proofs.OwnRows.{runs-none}
 use Rattle.std.proofs.Common.{ap}
-use Rattle.sj_machine.specs.Board.{BoardState}
 use Rattle.sj_engine.proofs.BoardTurns.{nothing-happened}
-use Rattle.sj_machine.specs.declared.hand.Hand.{Hand}
+use Rattle.sj_board.specs.declared.hand.Hand.{Hand}
 use Rattle.sj_engine.proofs.shared_board.SharedBoard.give_up.Goals as goal
 
 pub stop-requires-clause-runs_none : goal.stop-requires-clause-runs_none

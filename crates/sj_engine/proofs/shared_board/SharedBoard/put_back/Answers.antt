@@ -1,7 +1,7 @@
 use Rattle.std.proofs.Common.{◌∙◌}
 use Rattle.sj_engine.proofs.ClaimTurns.{back-fault, back-pool, back-row, back-turn, was-given}
 use Rattle.std.proofs.Common.{ap}
-use Rattle.sj_machine.specs.Board.{BoardState}
+use Rattle.sj_board.specs.Board.{BoardState}
 use Rattle.sj_engine.proofs.BoardTurns.{nothing-happened}
 use Rattle.sj_engine.proofs.shared_board.SharedBoard.put_back.Goals as goal
 

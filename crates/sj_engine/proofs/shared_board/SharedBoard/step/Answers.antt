@@ -1,5 +1,5 @@
 use Rattle.std.proofs.Common.{◌∙◌, ap, sym, subst}
-use Rattle.sj_machine.specs.Board.{BoardState, RunsNone, transfer_of}
+use Rattle.sj_board.specs.Board.{BoardState, RunsNone, transfer_of}
 use Rattle.sj_engine.proofs.OwnRows.{moves-none, runs-none}
 use Rattle.sj_engine.proofs.shared_board.SharedBoard.step.Goals as goal
 

@@ -1,9 +1,9 @@
 use Rattle.std.proofs.Common.{◌∙◌}
 use Rattle.sj_engine.proofs.BoardTurns.{stopped-row, stopped-turn}
 use Rattle.std.proofs.Common.{ap}
-use Rattle.sj_machine.specs.Board.{BoardState}
+use Rattle.sj_board.specs.Board.{BoardState}
 use Rattle.sj_engine.proofs.BoardTurns.{nothing-happened}
-use Rattle.sj_machine.specs.declared.hand.Hand.{Hand}
+use Rattle.sj_board.specs.declared.hand.Hand.{Hand}
 use Rattle.sj_engine.proofs.shared_board.SharedBoard.stop.Goals as goal
 
 pub returns-clause-turn : goal.returns-clause-turn

@@ -3,8 +3,7 @@ use Rattle.sj_edge.specs.GivenBack.{AreGivenBack}
 use Rattle.sj_machine.specs.Counts.{AreCounted}
 use Rattle.sj_machine.specs.Standing.{Standing}
 use Rattle.sj_machine.proofs.DiskCounts.{fetches-cause, fetches-counted}
-use Rattle.sj_machine.proofs.Faulting.{fetches-back}
-use Rattle.sj_machine.proofs.Storing.{found-fetched, found-in, found-keeps_fetched, found-last, found-to_fetch, moved-cell}
+use Rattle.sj_machine.proofs.Storing.{fetches-back, found-fetched, found-in, found-keeps_fetched, found-last, found-to_fetch, moved-cell}
 use Rattle.sj_machine.proofs.run_state.RunState.fetch.Goals as goal
 
 pub writes_of-writes-requires : goal.writes_of-writes-requires

@@ -5,7 +5,7 @@ use Rattle.sj_base.specs.declared.program.Lowered.{Lowered}
 use Rattle.sj_base.specs.declared.program.Program.{Program}
 use Rattle.sj_core.specs.Program.{task_of}
 use Rattle.sj_core.specs.Proper.{access}
-use Rattle.sj_machine.specs.Delivered.{delivered_cell, is_delivery}
+use Rattle.sj_machine.specs.Delivery.{delivered_cell, is_delivery}
 use Rattle.sj_machine.proofs.Delivering.{deliver-reads}
 use Rattle.sj_machine.proofs.Gifting.{gift-given, gift-inside, gift-row, gift-there, hands-over}
 use Rattle.sj_machine.proofs.run_state.RunState.gift.Goals as goal

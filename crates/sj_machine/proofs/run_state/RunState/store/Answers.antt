@@ -3,8 +3,7 @@ use Rattle.sj_edge.specs.GivenBack.{AreGivenBack}
 use Rattle.sj_machine.specs.Counts.{AreCounted}
 use Rattle.sj_machine.specs.Standing.{Standing}
 use Rattle.sj_machine.proofs.DiskCounts.{stores-cause, stores-counted}
-use Rattle.sj_machine.proofs.Faulting.{stores-back}
-use Rattle.sj_machine.proofs.Storing.{found-in, found-keeps_stored, found-reserved, found-stored, moved-cell}
+use Rattle.sj_machine.proofs.Storing.{stores-back, found-in, found-keeps_stored, found-reserved, found-stored, moved-cell}
 use Rattle.sj_machine.proofs.run_state.RunState.store.Goals as goal
 
 pub writes_of-writes-requires : goal.writes_of-writes-requires

@@ -1,0 +1,210 @@
+-- What the ends of tasks leave on a board, as its events happen.
+use Rattle.std.proofs.Common.{◌≡◌, ◌∙◌, ◌++◌, ◌<◌, ◌+◌, ◌-◌, ◌*◌, ℕ, [], List, Option, None, Some, true, ◌&&◌, ap, arith, cond, is_some, length, map, not, refl, replicate, set, subst, sum_by, sym}
+use Rattle.std.specs.Prelude.{IfSome, IsSomeAnd, OnErr, OnOk, Ok, Err, Result, if◌then◌else◌}
+use Rattle.std.proofs.lemmas.List.{ext_get_or, get_or-map, length-map, length-replicate}
+use Rattle.std.proofs.lemmas.List.Folds.{sum_by-replicate}
+use Rattle.std.proofs.lemmas.List.FromFn.{get_or-map-range_with_len, length-map-range_with_len}
+use Rattle.std.proofs.lemmas.List.Sums.{AllPass-from_list_all}
+use Rattle.sj_core.proofs.Eviction.{evicted-after}
+use Rattle.sj_base.specs.declared.program.Lowered.{Lowered}
+use Rattle.sj_base.specs.declared.trace.Event.{Event}
+use Rattle.sj_base.specs.declared.trace.Event.TheVariants.{Claim, End, Moved, Run}
+use Rattle.sj_core.proofs.Advancing.{Advances, Claims-advances, Ends-advances, Runs-advances, claimed-is_mine, claimed-task_of}
+use Rattle.sj_core.proofs.Claimed.{claimed-inside, claimed-staffed}
+use Rattle.sj_core.proofs.Coherence.{Claims-keeps_coherence}
+use Rattle.sj_core.proofs.Finding.{running-inside}
+use Rattle.sj_core.proofs.Replicas.{same_worker-refl}
+use Rattle.sj_core.proofs.States.{state_of-more}
+use Rattle.sj_core.proofs.Sums.{sum-agree, tally}
+use Rattle.sj_core.proofs.Words.{Array, Machine, Program, State, Task, Worker, done_in, is_done, is_task_of, no_task, opening, progress, task_of, tasks_of, worker_of}
+use Rattle.sj_core.specs.Coherent.{Coherent, is_begun}
+use Rattle.sj_core.specs.Laws.{IsSound}
+use Rattle.sj_core.specs.Legal.{IsComplete}
+use Rattle.sj_core.specs.Step.{after}
+use Rattle.sj_core.specs.declared.progress.Progress.{Progress}
+use Rattle.sj_core.specs.declared.progress.Progress.TheVariants.{Claimed, Done, Running, Waiting}
+use Rattle.sj_core.specs.declared.progress.Transfer.{Transfer}
+use Rattle.sj_core.specs.Machine.{transfer}
+use Rattle.sj_machine.specs.Delivery.{IsGift, is_deliver_task, is_delivery}
+use Rattle.sj_disk.specs.Directory.{DiskState}
+use Rattle.sj_machine.specs.Planning.{HoldsCommutersAlone}
+use Rattle.sj_machine.specs.Sound.{IsSoundRun}
+use Rattle.sj_machine.specs.Standing.{AllTell, CanHappen, HasMoved, Standing, starting, state, with_event}
+use Rattle.sj_machine.proofs.Commuting.{holds-alone}
+use Rattle.sj_machine.proofs.Delivering.{deliver-inside, run-has}
+use Rattle.sj_board.specs.BoardSound.{KeepsEnds, undone}
+use Rattle.sj_board.specs.Delivered.{Deliveries, DeliversEach, gift_in, handed, undelivered}
+use Rattle.sj_board.specs.Preparing.{IsReadyToDeliver, delivery_count}
+use Rattle.sj_board.proofs.KeptGifts.{gift-kept, kept-gift}
+use Rattle.sj_board.proofs.Ends.{delivers-each, ends-begun, ends-claimed, ends-ended, ends-same, ends-some_left, ends-spare}
+use Rattle.sj_base.proofs.Bools.{and_true}
+use Rattle.sj_base.proofs.Lists.{sum_by-map}
+use Rattle.sj_core.proofs.Opening.{waits}
+
+-- of a run as it stands
+abbrev pub Keeps : {D : Type 0} → (D → Option (List ℕ)) → Standing D → List (Task × Array) → List (Option Array) → ℕ → ℕ → Type 0
+Keeps held run pairs gifts spare left = KeepsEnds run.program (state run) (AllTell held run) pairs gifts spare left
+
+module _ {D : Type 0} (held : D → Option (List ℕ)) (run : Standing D) (pairs : List (Task × Array)) (gifts : List (Option Array)) (spare left : ℕ) (keeps : KeepsEnds run.program (state run) (AllTell held run) pairs gifts spare left) where
+  abbrev p : Program
+  p = run.program
+
+  abbrev m : Machine
+  m = run.machine
+
+  abbrev s : State
+  s = state run
+
+  now-is : (e : Event) → state (with_event run e) ≡ after p m s e
+  now-is e = state_of-more p m run.trace e
+
+  -- where all tasks are as they were
+  pub stays : (e : Event) (run' : Standing D) → run' ≡ with_event run e → (after p m s e).tasks ≡ s.tasks → Keeps held run' pairs gifts spare left
+  stays e run' is same = subst (λ (r : Standing D). Keeps held r pairs gifts spare left) (sym is) (ends-same p s (state (with_event run e)) (AllTell held run) pairs gifts spare left keeps (ap (λ (z : State). z.tasks) (now-is e) ∙ same))
+
+  pub stays-tried : {A E : Type 0} (result : Result A E) (e : Event) (run' : Standing D) → OnOk result (run' ≡ with_event run e) → OnErr result (run' ≡ run) → (after p m s e).tasks ≡ s.tasks → Keeps held run' pairs gifts spare left
+  stays-tried (Ok a) e run' ok err same = stays e run' ok same
+  stays-tried (Err x) e run' ok err same = subst (λ (r : Standing D). Keeps held r pairs gifts spare left) (sym err) keeps
+
+  pub stays-moved : (w : Worker) (run' : Standing D) (Q : Transfer → Type 0) → IsSomeAnd (transfer s w) Q → HasMoved w run run' → Keeps held run' pairs gifts spare left
+  stays-moved w run' Q some moved = by_move (transfer s w) some moved
+    where
+      by_move : (o : Option Transfer) → IsSomeAnd o Q → IfSome o (λ x. run' ≡ with_event run (Moved x.cell x.from x.to)) → Keeps held run' pairs gifts spare left
+      by_move None none is = absurd none
+      by_move (Some x) some is = stays (Moved x.cell x.from x.to) run' is refl
+
+  -- where the disks alone change
+  pub stays-stored : (run' : Standing D) → run' ≡ record run { disks = run'.disks; out = run'.out } → Keeps held run' pairs gifts spare left
+  stays-stored run' is = subst (λ (r : Standing D). Keeps held r pairs gifts spare left) (sym is) keeps
+
+  module _ (size faults mismatches : D → ℕ) (sound : IsSoundRun size faults mismatches held run) (t : Task) (w : Worker) where
+    h : IsSound p m s
+    h = record { proper = sound.run.proper; machine = sound.run.machine; coherent = sound.coherent }
+
+    one : is_task_of w (progress s t) ≡ true → (u : Task) → is_task_of w (progress s u) ≡ true → u ≡ t
+    one mine u has = sound.coherent.workers.one_task u t w has mine
+
+    pub stays-claimed : CanHappen run (Claim t w) → (run' : Standing D) → run' ≡ with_event run (Claim t w) → Keeps held run' pairs gifts spare left
+    stays-claimed can run' is =
+        subst (λ (r : Standing D). Keeps held r pairs gifts spare left) (sym is)
+        (ends-claimed p s (state (with_event run (Claim t w))) (AllTell held run) pairs gifts spare left keeps t w (omega (arith, can.ready.task, sound.coherent.state.rows.tasks))
+        (subst (λ (z : State). Advances s z t Waiting (Claimed w)) (sym (now-is (Claim t w))) (Claims-advances p m s t w (after p m s (Claim t w)) sound.coherent.state.rows can (evicted-after p m s t w)))
+        (ap (λ (z : State). z.tasks) (now-is (Claim t w))))
+
+    -- as a task begins to run, with what was taken for it to hand over
+    pub begins : CanHappen run (Run t w) → (gift : Option Array) → IsGift held run t w gift → (run' : Standing D) → run' ≡ with_event run (Run t w) → (gifts' : List (Option Array)) → gifts' ≡ set gifts w.0 gift → Keeps held run' pairs gifts' spare left
+    begins can gift is_gift run' is gifts' kept =
+        subst (λ (gs : List (Option Array)). Keeps held run' pairs gs spare left) (sym kept)
+        (subst (λ (r : Standing D). Keeps held r pairs (set gifts w.0 gift) spare left) (sym is)
+        (ends-begun p s (state (with_event run (Run t w))) (AllTell held run) pairs gifts spare left keeps t w (let i = claimed-inside p m s h t w can.claimed in omega (arith, i, sound.coherent.state.rows.tasks))
+        (subst (λ (z : State). Advances s z t (Claimed w) (Running w)) (sym (now-is (Run t w))) (Runs-advances p m s t w (after p m s (Run t w)) can refl))
+        (ap (λ (z : State). z.tasks) (now-is (Run t w)))
+        (claimed-staffed p m s h t w can.claimed) (one (claimed-task_of s t w can.claimed)) gift
+        (gift-kept size faults mismatches held run sound t w gift (run-has size faults mismatches held run sound t w can) is_gift)))
+
+    -- as it ends
+    module _ (can : CanHappen run (End t w)) where
+      abbrev s' : State
+      s' = state (with_event run (End t w))
+
+      inside : t.0 < length p.tasks
+      inside = running-inside p m s t w sound.coherent.state.rows can
+
+      staffed : w.0 < p.workers
+      staffed = subst (λ (x : Progress). (worker_of x).0 < p.workers) can (sound.coherent.state.staff.staffed t (ap is_begun can))
+
+      row : t.0 < length s.tasks
+      row = omega (arith, inside, sound.coherent.state.rows.tasks)
+
+      step : Advances s s' t (Running w) (Done w)
+      step = subst (λ (z : State). Advances s z t (Running w) (Done w)) (sym (now-is (End t w))) (Ends-advances p m s t w (after p m s (End t w)) can refl)
+
+      set-is : s'.tasks ≡ set s.tasks t.0 (Done w)
+      set-is = ap (λ (z : State). z.tasks) (now-is (End t w))
+
+      alone : (u : Task) → is_task_of w (progress s u) ≡ true → u ≡ t
+      alone = one (ap (is_task_of w) can ∙ same_worker-refl w)
+
+      pub ends-staffed : w.0 < length gifts
+      ends-staffed = omega (arith, staffed, keeps.gifts_kept.every_worker)
+
+      pub ends-gift : IsGift held run t w (gift_in gifts w)
+      ends-gift = kept-gift size faults mismatches held run sound t w (gift_in gifts w) can (keeps.gifts_kept.kept w t can)
+
+      pub ends-has_room : is_some (gift_in gifts w) ≡ true → 0 < spare
+      ends-has_room = ends-spare p s s' (AllTell held run) pairs gifts spare left keeps t w row step set-is staffed inside alone
+
+      pub ends-some : 0 < left
+      ends-some = ends-some_left p s s' (AllTell held run) pairs gifts spare left keeps t w row step set-is staffed inside alone
+
+      pub ends : (run' : Standing D) → run' ≡ with_event run (End t w) → (pairs' : List (Task × Array)) → pairs' ≡ pairs ++ handed t (gift_in gifts w) → (gifts' : List (Option Array)) → gifts' ≡ set gifts w.0 None → (spare' : ℕ) → spare' + length (handed t (gift_in gifts w)) ≡ spare → Keeps held run' pairs' gifts' spare' (left - 1)
+      ends run' is pairs' more gifts' gone spare' room =
+          subst (λ (r : Standing D). Keeps held r pairs' gifts' spare' (left - 1)) (sym is)
+          (subst (λ (ds : List (Task × Array)). Keeps held (with_event run (End t w)) ds gifts' spare' (left - 1)) (sym more)
+          (subst (λ (gs : List (Option Array)). Keeps held (with_event run (End t w)) (pairs ++ handed t (gift_in gifts w)) gs spare' (left - 1)) (sym gone)
+          (ends-ended p s s' (AllTell held run) pairs gifts spare left keeps t w row step set-is staffed inside alone spare' room)))
+
+  -- where all tasks are done, each deliver task has handed over
+  pub closes : (size faults mismatches : D → ℕ) → IsSoundRun size faults mismatches held run → IsComplete s → DeliversEach p (AllTell held run) pairs
+  closes size faults mismatches sound complete = delivers-each p s (AllTell held run) pairs done keeps.delivered
+    where
+      done : (t : Task) → is_deliver_task p t ≡ true → done_in s t ≡ true
+      done t hands = AllPass-from_list_all is_done s.tasks complete t.0 Waiting (let i = deliver-inside p sound.run.proper t hands in omega (arith, i, sound.coherent.state.rows.tasks))
+
+-- ---- when nothing has happened
+
+-- a program's tasks by number are its tasks
+each-task : (p : Program) → map (task_of p) (tasks_of p) ≡ p.tasks
+each-task p =
+    let number : ℕ → Task = λ n. record { 0 = n } in
+    let all : length (tasks_of p) ≡ length p.tasks = length-map-range_with_len number 0 (length p.tasks) in
+    let long : length (map (task_of p) (tasks_of p)) ≡ length p.tasks = length-map (tasks_of p) (task_of p) ∙ all in
+    ext_get_or no_task (map (task_of p) (tasks_of p)) p.tasks long (λ i inside.
+    get_or-map (task_of p) (tasks_of p) i (number 0) no_task (omega (arith, inside, long, all)) ∙ ap (task_of p) (get_or-map-range_with_len number 0 (length p.tasks) i i (number 0) (omega (arith, inside, long)) (omega arith)))
+
+module _ (p : Program) (m : Machine) (Tells : Type 0) where
+  undelivered-first : undelivered p (opening p m) ≡ delivery_count p
+  undelivered-first =
+      let f : Lowered → ℕ = λ l. tally (is_delivery l.codelet) in
+      sum-agree (λ t. tally (is_deliver_task p t && not (done_in (opening p m) t))) (λ t. f (task_of p t)) (λ t. ap (λ x. tally (is_deliver_task p t && not (is_done x))) (waits p m t) ∙ ap tally (and_true (is_deliver_task p t))) (tasks_of p)
+      ∙ sym (sum_by-map f (task_of p) (tasks_of p)) ∙ ap (sum_by f) (each-task p)
+
+  pub opens : (gifts : List (Option Array)) → gifts ≡ replicate p.workers None → (pairs : List (Task × Array)) → pairs ≡ [] → (spare : ℕ) → spare ≡ delivery_count p → (left : ℕ) → left ≡ length p.tasks → KeepsEnds p (opening p m) Tells pairs gifts spare left
+  opens gifts none pairs nothing spare room left all =
+      subst (λ (gs : List (Option Array)). KeepsEnds p (opening p m) Tells pairs gs spare left) (sym none)
+      (subst (λ (ds : List (Task × Array)). KeepsEnds p (opening p m) Tells ds (replicate p.workers None) spare left) (sym nothing) (record {
+        delivered = record {
+          only = λ i d inside. absurd (omega (arith, inside));
+          once = λ t hands. ap (λ x. if is_done x then 1 else 0) (sym (waits p m t));
+          dims = λ i d inside. absurd (omega (arith, inside));
+          arrays = λ tells i d inside. absurd (omega (arith, inside));
+        };
+        gifts_kept = record {
+          every_worker = length-replicate p.workers None;
+          kept = λ w t runs. absurd (let e : Waiting ≡ Running w = sym (waits p m t) ∙ runs in cc);
+        };
+        room = omega (arith, undelivered-first, room);
+        counted = (let n : undone (opening p m) ≡ length p.tasks * 1 = sum_by-replicate (λ (x : Progress). cond (not (is_done x)) 1 0) (length p.tasks) Waiting in let k : undone (opening p m) ≡ left = omega (arith, n, all) in k);
+      }))
+
+-- and of a run that starts
+pub opens-run : {D : Type 0} (held : D → Option (List ℕ)) (p : Program) (m : Machine) (disks : DiskState D) (run : Standing D) → run ≡ starting p m disks → (gifts : List (Option Array)) (delivered : Deliveries) → IsReadyToDeliver p gifts delivered → (left : ℕ) → left ≡ length p.tasks → Keeps held run delivered.pairs gifts delivered.spare left
+opens-run {D} held p m disks run starts gifts delivered ready left all =
+    subst (λ (r : Standing D). Keeps held r delivered.pairs gifts delivered.spare left) (sym starts)
+    (opens p m (AllTell held (starting p m disks)) gifts ready.gifts_are delivered.pairs (ap (λ (x : Deliveries). x.pairs) ready.none) delivered.spare (ap (λ (x : Deliveries). x.spare) ready.none) left all)
+
+-- ---- a claim
+
+-- a worker that has claimed a task holds its commuting cells alone
+pub claims-alone : {D : Type 0} (size faults mismatches : D → ℕ) (held : D → Option (List ℕ)) (run : Standing D) → IsSoundRun size faults mismatches held run → (t : Task) (w : Worker) → CanHappen run (Claim t w) → (run' : Standing D) → run' ≡ with_event run (Claim t w) → (q : Program) → run.program ≡ q → HoldsCommutersAlone q (state run') t w
+claims-alone {D} size faults mismatches held run sound t w can run' is q program =
+    subst (λ (x : Program). HoldsCommutersAlone x (state run') t w) program
+    (subst (λ (r : Standing D). HoldsCommutersAlone run.program (state r) t w) (sym is)
+    (subst (λ (z : State). HoldsCommutersAlone run.program z t w) (sym (state_of-more run.program run.machine run.trace (Claim t w)))
+    (holds-alone run.program run.machine s' coherent t w (ap (is_task_of w) (Claims-advances run.program run.machine (state run) t w s' sound.coherent.state.rows can (evicted-after run.program run.machine (state run) t w)).is ∙ claimed-is_mine w))))
+  where
+    s' : State
+    s' = after run.program run.machine (state run) (Claim t w)
+
+    coherent : Coherent run.program run.machine s'
+    coherent = Claims-keeps_coherence run.program run.machine (state run) t w (record { proper = sound.run.proper; machine = sound.run.machine; coherent = sound.coherent }) can

@@ -1,0 +1,89 @@
+-- A board stays sound where an event changes no task's progress.
+use Rattle.std.proofs.Common.{◌≡◌, ℕ, List, Option, Some, None, IsTrue, subst, sym, ap, ◌∙◌, refl, is_some, ◌⊎◌}
+use Rattle.std.specs.Prelude.{IfSome, IsSomeAnd, OnErr, OnOk, Ok, Err, Result}
+use Rattle.sj_base.specs.declared.trace.Event.{Event}
+use Rattle.sj_base.specs.declared.trace.Event.TheVariants.{Moved}
+use Rattle.sj_base.specs.declared.program.Program.{Program}
+use Rattle.sj_base.specs.declared.program.Machine.{Machine}
+use Rattle.sj_base.specs.declared.ids.Worker.{Worker}
+use Rattle.sj_core.proofs.States.{state_of-more}
+use Rattle.sj_core.specs.Legal.{IsComplete}
+use Rattle.sj_core.specs.Machine.{State, is_task_of, transfer}
+use Rattle.sj_core.specs.Step.{after}
+use Rattle.sj_core.specs.declared.progress.Progress.{Progress}
+use Rattle.sj_core.specs.declared.progress.Transfer.{Transfer}
+use Rattle.sj_deps.specs.Progress.{Dependencies}
+use Rattle.sj_pool.specs.Pool.{Pooled}
+use Rattle.sj_machine.specs.Cause.{HasCause}
+use Rattle.sj_machine.specs.Standing.{HasMoved, Standing, state, with_event}
+use Rattle.sj_machine.specs.declared.fault.RunFault.{RunFault}
+use Rattle.sj_machine.specs.Sound.{OnlyDisksChange}
+use Rattle.sj_machine.proofs.Stepping.{counts-same, progress-same, taken-back, taken-same, tasks_alone}
+use Rattle.sj_board.specs.Board.{BoardState, has_event}
+use Rattle.sj_board.specs.BoardSound.{IsSoundIn, KeepsBoard}
+use Rattle.sj_board.specs.declared.hand.Hand.{Hand}
+use Rattle.sj_board.proofs.LastHeaders.{moved-cause}
+use Rattle.sj_board.proofs.Faulting.{kept-cause}
+use Rattle.sj_edge.specs.GivenBack.{AreGivenBack}
+
+-- ---- what is said of a board is said of the tasks in its state alone
+
+module _ (p : Program) (m : Machine) (s s' : State) (same : s'.tasks ≡ s.tasks) where
+  pub sound_in-same : (hands : List Hand) (pool : Pooled) (fault : Option RunFault) → IsSoundIn p m s hands pool fault → IsSoundIn p m s' hands pool fault
+  sound_in-same hands pool fault sound = record {
+    hands_agree = record {
+      every_worker = sound.hands_agree.every_worker;
+      has = λ w t e. ap (is_task_of w) (progress-same p s s' same t) ∙ sound.hands_agree.has w t e;
+      tells = λ none w t has. sound.hands_agree.tells none w t (ap (is_task_of w) (sym (progress-same p s s' same t)) ∙ has);
+    };
+    stops = record {
+      no_task = sound.stops.no_task;
+      over = λ w has_stopped. subst (λ (ts : List Progress). IsComplete (tasks_alone ts) ⊎ IsTrue (is_some fault)) (sym same) (sound.stops.over w has_stopped);
+    };
+    stands_once = record {
+      once = λ t is. sound.stands_once.once t (taken-back p s s' same t is);
+      only = λ t some. taken-same p s s' same t (sound.stands_once.only t some);
+    };
+    pool_fits = sound.pool_fits;
+  }
+
+-- ---- an event that leaves all tasks as they are
+
+module _ {D : Type 0} (faults mismatches : D → ℕ) (held : D → Option (List ℕ)) (b : BoardState D) (deps : Dependencies) (footprints : List ℕ) where
+  pub keeps-event : (e : Event) → IfSome b.fault (HasCause faults mismatches held (with_event b.run e)) → (after b.run.program b.run.machine (state b.run) e).tasks ≡ (state b.run).tasks → KeepsBoard faults mismatches held b deps footprints → KeepsBoard faults mismatches held (has_event b e) deps footprints
+  keeps-event e cause same keeps =
+      let now : (state (with_event b.run e)).tasks ≡ (state b.run).tasks = ap (λ (s : State). s.tasks) (state_of-more b.run.program b.run.machine b.run.trace e) ∙ same in
+      record {
+        fault = cause;
+        inside = sound_in-same b.run.program b.run.machine (state b.run) (state (with_event b.run e)) now b.hands b.pool b.fault keeps.inside;
+        counts = counts-same b.run.program (state b.run) (state (with_event b.run e)) now deps keeps.counts;
+        bytes = keeps.bytes;
+      }
+
+  -- as the code leaves it
+  pub keeps-run : (e : Event) (run' : Standing D) → run' ≡ with_event b.run e → IfSome b.fault (HasCause faults mismatches held (with_event b.run e)) → (after b.run.program b.run.machine (state b.run) e).tasks ≡ (state b.run).tasks → KeepsBoard faults mismatches held b deps footprints → KeepsBoard faults mismatches held (record b { run = run' }) deps footprints
+  keeps-run e run' is cause same keeps = subst (λ (r : Standing D). KeepsBoard faults mismatches held (record b { run = r }) deps footprints) (sym is) (keeps-event e cause same keeps)
+
+  -- where the event may fail to come, and then nothing has changed
+  pub keeps-tried : {A E : Type 0} (result : Result A E) (e : Event) (run' : Standing D) → OnOk result (run' ≡ with_event b.run e) → OnErr result (run' ≡ b.run) → IfSome b.fault (HasCause faults mismatches held (with_event b.run e)) → (after b.run.program b.run.machine (state b.run) e).tasks ≡ (state b.run).tasks → KeepsBoard faults mismatches held b deps footprints → KeepsBoard faults mismatches held (record b { run = run' }) deps footprints
+  keeps-tried (Ok a) e run' ok err cause same keeps = keeps-run e run' ok cause same keeps
+  keeps-tried (Err x) e run' ok err cause same keeps = subst (λ (r : Standing D). KeepsBoard faults mismatches held (record b { run = r }) deps footprints) (sym err) keeps
+
+  -- the end of a worker's move
+  pub keeps-moved : (w : Worker) (run' : Standing D) (Q : Transfer → Type 0) → IsSomeAnd (transfer (state b.run) w) Q → HasMoved w b.run run' → KeepsBoard faults mismatches held b deps footprints → KeepsBoard faults mismatches held (record b { run = run' }) deps footprints
+  keeps-moved w run' Q some moved keeps = by_move (transfer (state b.run) w) some moved
+    where
+      by_move : (o : Option Transfer) → IsSomeAnd o Q → IfSome o (λ x. run' ≡ with_event b.run (Moved x.cell x.from x.to)) → KeepsBoard faults mismatches held (record b { run = run' }) deps footprints
+      by_move None none is = absurd none
+      by_move (Some x) some is = keeps-run (Moved x.cell x.from x.to) run' is (moved-cause faults mismatches held b.run x.cell x.from x.to b.fault keeps.fault) refl keeps
+
+-- ---- no event
+
+-- where the disks alone change
+pub keeps-disks : {D : Type 0} (size faults mismatches : D → ℕ) (held : D → Option (List ℕ)) (b : BoardState D) (deps : Dependencies) (footprints : List ℕ) (run' : Standing D) → OnlyDisksChange b.run run' → AreGivenBack size faults mismatches held b.run.disks.disks run'.disks.disks → KeepsBoard faults mismatches held b deps footprints → KeepsBoard faults mismatches held (record b { run = run' }) deps footprints
+keeps-disks {D} size faults mismatches held b deps footprints run' only back keeps = subst (λ (r : Standing D). KeepsBoard faults mismatches held (record b { run = r }) deps footprints) (sym only) (record {
+  fault = kept-cause size faults mismatches held b.run run'.disks run'.out back b.fault keeps.fault;
+  inside = keeps.inside;
+  counts = keeps.counts;
+  bytes = keeps.bytes;
+})

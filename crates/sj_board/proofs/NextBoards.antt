@@ -1,0 +1,67 @@
+-- What follows of a board's next step for a worker.
+use Rattle.std.proofs.Common.{arith, ◌≡◌, ◌∙◌, ℕ, false, List, Option, None, Some, ap, subst, sym, get_or}
+use Rattle.std.specs.Prelude.{IfSome, is_some, if◌then◌else◌}
+use Rattle.std.proofs.lemmas.List.{get_or_default}
+use Rattle.sj_base.specs.declared.trace.Event.TheVariants.{Run}
+use Rattle.sj_core.proofs.Words.{Machine, Program, State, Task, Worker, is_claimed_by, is_running_on, progress, transfer}
+use Rattle.sj_core.specs.declared.progress.Progress.TheVariants.{Claimed}
+use Rattle.sj_core.proofs.Advancing.{claimed_by-is}
+use Rattle.sj_core.specs.Laws.{IsSound}
+use Rattle.sj_deps.specs.Progress.{Dependencies}
+use Rattle.sj_machine.specs.Sound.{IsSoundRun}
+use Rattle.sj_machine.specs.Standing.{CanHappen, state}
+use Rattle.sj_machine.specs.Todo.{AnotherGoesOn, IsNext}
+use Rattle.sj_machine.specs.declared.todo.Todo.{Todo}
+use Rattle.sj_machine.specs.declared.todo.Todo.TheVariants.{Discard, Nothing, Start, Transfer as TransferNext, Wait}
+use Rattle.sj_machine.proofs.NextSteps.{IsPossible, next-possible, wait-ends}
+use Rattle.sj_board.specs.Board.{BoardState, IsWorking, RunsNone, empty_hand, hand_of, transfer_of}
+use Rattle.sj_board.specs.declared.hand.Hand.{Hand}
+use Rattle.sj_board.specs.BoardSound.{KeepsBoard}
+use Rattle.sj_board.specs.Todo.{CanBegin, IsMoverOf}
+use Rattle.sj_base.proofs.Bools.{or_first}
+
+-- what is read of the worker's hand
+pub hand-read : {D : Type 0} (faults mismatches : D → ℕ) (held : D → Option (List ℕ)) (b : BoardState D) (deps : Dependencies) (footprints : List ℕ) → KeepsBoard faults mismatches held b deps footprints → (w : Worker) → IsWorking b w → (x d : Hand) → x ≡ get_or b.hands w.0 d → (t : Task) → x.task ≡ Some t → (hand_of b w).task ≡ Some t
+hand-read faults mismatches held b deps footprints keeps w works x d read t is = ap (λ (h : Hand). h.task) (sym (read ∙ get_or_default b.hands w.0 d empty_hand (let known = works.known in omega (arith, known, keeps.inside.hands_agree.every_worker)))) ∙ is
+
+module _ {D : Type 0} (faults mismatches : D → ℕ) (held : D → Option (List ℕ)) (b : BoardState D) (deps : Dependencies) (footprints : List ℕ) (keeps : KeepsBoard faults mismatches held b deps footprints) (size : D → ℕ) (run : IsSoundRun size faults mismatches held b.run) (w : Worker) (runs_none : RunsNone b w) (moves_none : transfer_of b w ≡ None) (t : Task) (has : (hand_of b w).task ≡ Some t) where
+  abbrev p : Program
+  p = b.run.program
+
+  abbrev m : Machine
+  m = b.run.machine
+
+  abbrev s : State
+  s = state b.run
+
+  sound : IsSound p m s
+  sound = record { proper = run.run.proper; machine = run.run.machine; coherent = run.coherent }
+
+  claimed : progress s t ≡ Claimed w
+  claimed = claimed_by-is w (progress s t) (or_first (is_claimed_by w (progress s t)) (is_running_on w (progress s t)) (keeps.inside.hands_agree.has w t has) (subst (λ (o : Option Task). IfSome o (λ u. is_running_on w (progress s u) ≡ false)) has runs_none))
+
+  free : transfer s w ≡ None
+  free = sym (ap (λ (o : Option Task). if is_some o then transfer s w else None) has) ∙ moves_none
+
+  can-from : (todo : Todo) → IsPossible p m s t w todo → CanBegin b w todo
+  can-from Nothing h = h
+  can-from (TransferNext c from to n) h = h.0
+  can-from (Discard c) h = h
+  can-from Wait h = h
+  can-from Start h = subst (λ (o : Option Task). IfSome o (λ u. CanHappen b.run (Run u w))) (sym has) h
+
+  mover-from : (todo : Todo) → IsPossible p m s t w todo → IsMoverOf b w todo
+  mover-from Nothing h = h
+  mover-from (TransferNext c from to n) h = h.1
+  mover-from (Discard c) h = tt
+  mover-from Wait h = h
+  mover-from Start h = tt
+
+  pub next-can : (todo : Todo) → IsNext p m s t w todo → CanBegin b w todo
+  next-can todo next = can-from todo (next-possible p m s sound t w claimed free todo next)
+
+  pub next-mover : (todo : Todo) → IsNext p m s t w todo → IsMoverOf b w todo
+  next-mover todo next = mover-from todo (next-possible p m s sound t w claimed free todo next)
+
+  pub next-ends : (todo : Todo) → IsNext p m s t w todo → todo ≡ Wait → AnotherGoesOn p m s w
+  next-ends todo next waits = wait-ends p m s sound run.run.swap t w claimed free (subst (λ (x : Todo). IsNext p m s t w x) waits next)

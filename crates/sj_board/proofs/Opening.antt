@@ -1,0 +1,149 @@
+-- A board on which nothing has happened is sound.
+use Rattle.std.proofs.Common.{◌≡◌, ℕ, cond, ◌+◌, ◌<◌, ◌≤◌, ◌↔◌, Option, None, List, [], All, inl, inr, refl, sym, subst, ap, ◌∙◌, arith, length, map, replicate, get_or}
+use Rattle.std.specs.Prelude.{count_by}
+use Rattle.std.specs.List.{Contains}
+use Rattle.std.specs.List.Sorted.{IsStrictlyIncreasing}
+use Rattle.std.proofs.lemmas.Bool.{cases_lt, false≢true}
+use Rattle.std.proofs.lemmas.List.{get_or-replicate, get_or_past, length-replicate}
+use Rattle.std.proofs.lemmas.List.Elements.{All-contains_itself, All-from_get_or, All-get_or, All-nil}
+use Rattle.std.proofs.lemmas.List.Folds.{sum_by-replicate}
+use Rattle.std.proofs.lemmas.List.Kept.{AllPairs-from_increasing}
+use Rattle.std.proofs.lemmas.Option.{none-some}
+use Rattle.sj_base.specs.declared.mode.Policy.{Policy}
+use Rattle.sj_core.proofs.Readiness.{done_tasks-done}
+use Rattle.sj_core.proofs.Words.{Machine, Program, State, Task, Worker, is_done, is_task_of, opening, progress}
+use Rattle.sj_core.specs.declared.progress.Progress.TheVariants.{Waiting}
+use Rattle.sj_core.specs.Step.{done_tasks}
+use Rattle.sj_deps.specs.Conflict.{Ready}
+use Rattle.sj_deps.specs.Progress.{Dependencies, dependencies}
+use Rattle.sj_disk.specs.Directory.{DiskState}
+use Rattle.sj_pool.specs.Pool.{Pooled, empty_pool, queue_count}
+use Rattle.sj_pool.specs.declared.entry.Entry.{Entry}
+use Rattle.sj_base.specs.Array.{Array}
+use Rattle.sj_machine.specs.Standing.{Standing, starting}
+use Rattle.sj_machine.proofs.Stepping.{ready-same}
+use Rattle.sj_board.specs.Board.{board_state, empty_hand, hand_in}
+use Rattle.sj_board.specs.BoardSound.{AreFootprints, IsEntry, IsPoolFor, KeepsBoard, is_entry_of, is_given, times_given, times_pooled}
+use Rattle.sj_board.specs.Filling.{CanPutEach, putter, with_each}
+use Rattle.sj_board.specs.Preparing.{AreFirst, IsPrepared, first_hands, first_pool}
+use Rattle.sj_board.specs.declared.hand.Hand.{Hand}
+use Rattle.sj_board.proofs.PoolFilling.{IsFilled, fill, times_among}
+use Rattle.sj_board.proofs.TaskEnding.{among-contains, among-once, contains-among}
+
+-- what stands in each place of a list stands there wherever one looks
+always : {X : Type 0} (n : ℕ) (x : X) (i : ℕ) → get_or (replicate n x) i x ≡ x
+always {X} n x i = elim (cases_lt i n) as (λ _. get_or (replicate n x) i x ≡ x) [
+  | inl inside ↦ get_or-replicate n i x x inside
+  | inr past ↦ get_or_past (replicate n x) i x (omega (arith, past, length-replicate n x))
+]
+
+module _ (p : Program) (m : Machine) (some : 0 < p.workers) where
+  pub staffed : (t : Task) → putter p None t < p.workers
+  staffed t = omega (arith, some)
+
+  first-hand : (w : Worker) → hand_in (first_hands p) w ≡ empty_hand
+  first-hand w = always p.workers empty_hand w.0
+
+  none-pooled : (policy : Policy) (t : Task) → times_pooled (empty_pool policy p.workers (length p.tasks)) t ≡ 0
+  none-pooled policy t = omega (arith, sum_by-replicate (λ (q : List Entry). count_by (is_entry_of t) q) (queue_count policy p.workers) [])
+
+  none-given : (t : Task) → times_given (first_hands p) t ≡ 0
+  none-given t = omega (arith, sum_by-replicate (λ (h : Hand). cond {A = ℕ} (is_given t h) 1 0) p.workers empty_hand)
+
+  empty-fits : IsPoolFor p m (first_hands p) (empty_pool m.policy p.workers (length p.tasks))
+  empty-fits = record {
+    policy = refl;
+    workers = refl;
+    tasks = refl;
+    queues = length-replicate (queue_count m.policy p.workers) [];
+    entries = All-from_get_or (All (IsEntry p)) (replicate (queue_count m.policy p.workers) []) [] (λ i inside. subst (All (IsEntry p)) (sym (always (queue_count m.policy p.workers) [] i)) (All-nil (IsEntry p)));
+    fits = λ w t e. absurd (none-some t (sym (ap (λ (h : Hand). h.given) (first-hand w)) ∙ e));
+  }
+
+  module _ (ready : List Task) (first : AreFirst p ready) where
+    pub first-filled : IsFilled p m (first_hands p) None staffed (empty_pool m.policy p.workers (length p.tasks)) ready
+    first-filled = fill p m (first_hands p) None staffed ready (empty_pool m.policy p.workers (length p.tasks)) empty-fits
+        (All-from_get_or (λ (k : Task). k.0 < length p.tasks) ready (record { 0 = 0 }) (λ i l. ((first.each (get_or ready i (record { 0 = 0 }))).0 (All-get_or (Contains ready) ready i (record { 0 = 0 }) l (All-contains_itself ready))).task))
+        (λ u. omega (arith, none-pooled m.policy u, few u))
+      where
+        few : (u : Task) → times_among ready u ≤ 1
+        few u = among-once ready u (AllPairs-from_increasing (map (λ (k : Task). k.0) ready) first.by_number)
+
+    abbrev s : State
+    s = opening p m
+
+    waits : (t : Task) → progress s t ≡ Waiting
+    waits t = always (length p.tasks) Waiting t.0
+
+    none-done : (n : ℕ) → Contains [] n ↔ Contains (done_tasks s) n
+    none-done n = (λ (i, l, e). absurd (omega (arith, l)), λ c. absurd (false≢true (sym (ap is_done (waits (record { 0 = n }))) ∙ done_tasks-done s (record { 0 = n }) c)))
+
+    done-none : (n : ℕ) → Contains (done_tasks s) n ↔ Contains [] n
+    done-none n = ((none-done n).1, (none-done n).0)
+
+    times : (u : Task) → times_pooled (first_pool p m.policy ready) u + times_given (first_hands p) u ≡ times_among ready u
+    times u = omega (arith, first-filled.times u, none-pooled m.policy u, none-given u)
+
+    pub keeps-opening : {D : Type 0} (faults mismatches : D → ℕ) (held : D → Option (List ℕ)) (disks : DiskState D) (footprints : List ℕ) → AreFootprints p footprints → KeepsBoard faults mismatches held (board_state (starting p m disks) (first_hands p) (first_pool p m.policy ready) None []) (dependencies p []) footprints
+    keeps-opening faults mismatches held disks footprints bytes = record {
+      fault = tt;
+      inside = record {
+        hands_agree = record {
+          every_worker = length-replicate p.workers empty_hand;
+          has = λ w t e. absurd (none-some t (sym (ap (λ (h : Hand). h.task) (first-hand w)) ∙ e));
+          tells = λ none w t has. absurd (false≢true (sym (ap (is_task_of w) (waits t)) ∙ has));
+        };
+        stops = record {
+          no_task = λ w e. ap (λ (h : Hand). h.task) (first-hand w);
+          over = λ w e. absurd (false≢true (sym (ap (λ (h : Hand). h.has_stopped) (first-hand w)) ∙ e));
+        };
+        stands_once = record {
+          once = λ u is. omega (arith, times u, contains-among ready u ((first.each u).1 (ready-same p (done_tasks s) [] u.0 done-none is.ready)), among-once ready u (AllPairs-from_increasing (map (λ (k : Task). k.0) ready) first.by_number));
+          only = λ u stands. record { waiting = waits u; ready = ready-same p [] (done_tasks s) u.0 none-done ((first.each u).0 (among-contains ready u (omega (arith, times u, stands)))) };
+        };
+        pool_fits = first-filled.fits;
+      };
+      counts = record { program = refl; done = none-done };
+      bytes = bytes;
+    }
+
+-- ---- as the code leaves it
+
+abbrev machine_with : Policy → Machine
+machine_with policy = record { workers = 0; nodes = []; disks = []; policy = policy }
+
+module _ (p : Program) (policy : Policy) (some : 0 < p.workers) (deps : Dependencies) (program : deps.program ≡ p) (none : deps.done ≡ []) (listed ready : List Task) (same : listed ≡ ready) (each : (u : Task) → Contains ready u ↔ Ready deps.program deps.done u.0) (rising : IsStrictlyIncreasing (map (λ u. u.0) ready)) (pool : Pooled) (n : ℕ) (count : n ≡ length p.tasks) (made : pool ≡ empty_pool policy p.workers n) where
+  first : AreFirst p ready
+  first = record {
+    each = λ u. (
+      λ c. subst (λ (q : Program). Ready q [] u.0) program (subst (λ (done : List ℕ). Ready deps.program done u.0) none ((each u).0 c)),
+      λ r. (each u).1 (subst (λ (done : List ℕ). Ready deps.program done u.0) (sym none) (subst (λ (q : Program). Ready q [] u.0) (sym program) r)),
+    );
+    by_number = rising;
+  }
+
+  pool-is : pool ≡ empty_pool policy p.workers (length p.tasks)
+  pool-is = made ∙ ap (empty_pool policy p.workers) count
+
+  pub first-can : CanPutEach p None pool listed
+  first-can = subst (λ (ts : List Task). CanPutEach p None pool ts) (sym same) (subst (λ (q : Pooled). CanPutEach p None q ready) (sym pool-is) (first-filled p (machine_with policy) some ready first).can)
+
+  pub prepared : (footprints : List ℕ) (hands : List Hand) (pool' : Pooled) → AreFootprints p footprints → hands ≡ first_hands p → pool' ≡ with_each p None pool listed → IsPrepared p policy deps footprints hands pool'
+  prepared footprints hands pool' bytes handed put = record {
+    deps_are = ap (λ (q : Program). dependencies q deps.done) program ∙ ap (dependencies p) none;
+    bytes = bytes;
+    hands_are = handed;
+    ready = ready;
+    first = first;
+    pool_is = put ∙ ap (with_each p None pool) same ∙ ap (λ (q : Pooled). with_each p None q ready) pool-is;
+  }
+
+-- a board of parts that are prepared
+pub opens-with : {D : Type 0} (faults mismatches : D → ℕ) (held : D → Option (List ℕ)) (p : Program) (m : Machine) (disks : DiskState D) (some : 0 < p.workers) (run : Standing D) (deps : Dependencies) (footprints : List ℕ) (hands : List Hand) (pool : Pooled) (pairs : List (Task × Array)) → pairs ≡ [] → run ≡ starting p m disks → IsPrepared p m.policy deps footprints hands pool → KeepsBoard faults mismatches held (board_state run hands pool None pairs) deps footprints
+opens-with {D} faults mismatches held p m disks some run deps footprints hands pool pairs none starts parts =
+    subst (λ (ds : List (Task × Array)). KeepsBoard faults mismatches held (board_state run hands pool None ds) deps footprints) (sym none)
+    (subst (λ (r : Standing D). KeepsBoard faults mismatches held (board_state r hands pool None []) deps footprints) (sym starts)
+    (subst (λ (hs : List Hand). KeepsBoard faults mismatches held (board_state (starting p m disks) hs pool None []) deps footprints) (sym parts.hands_are)
+    (subst (λ (q : Pooled). KeepsBoard faults mismatches held (board_state (starting p m disks) (first_hands p) q None []) deps footprints) (sym parts.pool_is)
+    (subst (λ (d : Dependencies). KeepsBoard faults mismatches held (board_state (starting p m disks) (first_hands p) (first_pool p m.policy parts.ready) None []) d footprints) (sym parts.deps_are)
+    (keeps-opening p m some parts.ready parts.first faults mismatches held disks footprints parts.bytes)))))

@@ -1,0 +1,142 @@
+-- How often a task stands in a pool, where an entry is put there or taken.
+use Rattle.std.proofs.Common.{◌≡◌, ℕ, ◌+◌, ◌<◌, Bool, true, false, Option, Some, None, List, [], ◌∷◌, ◌++◌, All, cond, inl, inr, refl, sym, subst, ap, ◌∙◌, arith, length, length-set}
+use Rattle.std.specs.Prelude.{count_by, sum_by}
+use Rattle.std.specs.Option.{option_map, option_map_or, option_and_then}
+use Rattle.std.proofs.lemmas.Bool.{cases_lt, false≢true}
+use Rattle.std.proofs.lemmas.List.{get_or_past}
+use Rattle.std.proofs.lemmas.List.Elements.{All-cons, All-get_or, All-head, All-set, All-tail}
+use Rattle.std.proofs.lemmas.List.Sums.{sum_by-cons, sum_by-set}
+use Rattle.sj_base.specs.declared.mode.Policy.{Policy}
+use Rattle.sj_base.specs.declared.mode.Policy.TheVariants.{Eager, Prio, Ws}
+use Rattle.sj_base.specs.declared.ids.Task.{Task}
+use Rattle.sj_pool.proofs.Serving.{never-none}
+use Rattle.sj_pool.specs.Entry.{fits_room, precedes}
+use Rattle.sj_pool.specs.Pool.{contains, has_task, put_into, queue, with_entry_at, without_first_at}
+use Rattle.sj_pool.specs.Queue.{first_fitting, has_fitting, put_by_urgency, without_first_fitting}
+use Rattle.sj_pool.specs.declared.entry.Entry.{Entry}
+use Rattle.sj_board.specs.BoardSound.{is_entry_of}
+use Rattle.sj_board.specs.Passing.{times_of}
+
+-- how often a task stands in these queues
+abbrev pub times_in : Task → List (List Entry) → ℕ
+times_in t qs = sum_by (λ q. count_by (is_entry_of t) q) qs
+
+pub count-cons : (t : Task) (x : Entry) (xs : List Entry) → count_by (is_entry_of t) (x ∷ xs) ≡ cond {A = ℕ} (is_entry_of t x) 1 0 + count_by (is_entry_of t) xs
+count-cons t x xs = sum_by-cons (λ (e : Entry). cond {A = ℕ} (is_entry_of t e) 1 0) x xs
+
+-- ---- taking
+
+pub count-taken : (room : ℕ) (es : List Entry) (e : Entry) (t : Task) → first_fitting room es ≡ Some e → count_by (is_entry_of t) (without_first_fitting room es) + cond {A = ℕ} (is_entry_of t e) 1 0 ≡ count_by (is_entry_of t) es
+count-taken room [] e t f = grind arith
+count-taken room (x ∷ xs) e t f = grind (arith, count-taken room xs e t, count-cons t x xs, count-cons t x (without_first_fitting room xs))
+
+pub first-fits : (room : ℕ) (es : List Entry) (e : Entry) → first_fitting room es ≡ Some e → fits_room room e ≡ true
+first-fits room [] e f = grind arith
+first-fits room (x ∷ xs) e f = grind (arith, first-fits room xs e)
+
+-- a queue where an entry fits is one of them
+pub queue-inside : (qs : List (List Entry)) (room i : ℕ) → has_fitting room (queue qs i) ≡ true → i < length qs
+queue-inside qs room i fitting =
+    elim (cases_lt i (length qs)) as (λ _. i < length qs) [
+      | inl inside ↦ inside
+      | inr past ↦ absurd (false≢true (sym (ap (has_fitting room) (get_or_past qs i [] past)) ∙ fitting))
+    ]
+
+-- the task of the first entry that fits in the queue with this number, if there is one
+abbrev pub task_from : List (List Entry) → ℕ → Option ℕ → Option Task
+task_from qs room o = option_map (λ e. e.task) (option_and_then (λ i. first_fitting room (queue qs i)) o)
+
+-- the queues without it
+abbrev pub queues_from : List (List Entry) → ℕ → Option ℕ → List (List Entry)
+queues_from qs room o = option_map_or (λ i. without_first_at qs i room) o qs
+
+-- an entry fits in the queue with this number
+abbrev pub Serves : List (List Entry) → ℕ → Option ℕ → Type 0
+Serves qs room o = (i : ℕ) → o ≡ Some i → has_fitting room (queue qs i) ≡ true
+
+abbrev pub once : Task → Option Task → ℕ
+once t o = times_of o t
+
+pub times-taken : (qs : List (List Entry)) (room : ℕ) (o : Option ℕ) (t : Task) → Serves qs room o → times_in t (queues_from qs room o) + once t (task_from qs room o) ≡ times_in t qs
+times-taken qs room None t serves = omega arith
+times-taken qs room (Some i) t serves = by_entry (first_fitting room (queue qs i)) refl
+  where
+    by_entry : (f : Option Entry) → first_fitting room (queue qs i) ≡ f → times_in t (without_first_at qs i room) + once t (option_map (λ e. e.task) f) ≡ times_in t qs
+    by_entry None e = absurd (never-none room (queue qs i) (serves i refl) (sym e))
+    by_entry (Some x) e = omega (arith, sum_by-set (λ q. count_by (is_entry_of t) q) qs i (without_first_fitting room (queue qs i)) [] (queue-inside qs room i (serves i refl)), count-taken room (queue qs i) x t e)
+
+pub queues-length : (qs : List (List Entry)) (room : ℕ) (o : Option ℕ) → length (queues_from qs room o) ≡ length qs
+queues-length qs room None = refl
+queues-length qs room (Some i) = length-set qs i (without_first_fitting room (queue qs i))
+
+-- what is so of each entry is so of the one that is taken, and of those that are left
+pub first-all : (P : Entry → Type 0) (room : ℕ) (es : List Entry) (e : Entry) → All P es → first_fitting room es ≡ Some e → P e
+first-all P room [] e all f = absurd (cc)
+first-all P room (x ∷ xs) e all f = by_fit (fits_room room x) refl (first-all P room xs e (All-tail P x xs all))
+  where
+    by_fit : (b : Bool) → fits_room room x ≡ b → (first_fitting room xs ≡ Some e → P e) → P e
+    by_fit true is rest = let same : x ≡ e = grind arith in subst P same (All-head P x xs all)
+    by_fit false is rest = let later : first_fitting room xs ≡ Some e = grind arith in rest later
+
+pub all-left : (P : Entry → Type 0) (room : ℕ) (es : List Entry) → All P es → All P (without_first_fitting room es)
+all-left P room [] all = all
+all-left P room (x ∷ xs) all = by_fit (fits_room room x) (all-left P room xs (All-tail P x xs all))
+  where
+    by_fit : (b : Bool) → All P (without_first_fitting room xs) → All P (cond b xs (x ∷ without_first_fitting room xs))
+    by_fit true rest = All-tail P x xs all
+    by_fit false rest = All-cons P x (without_first_fitting room xs) (All-head P x xs all) rest
+
+pub all-taken : (P : Entry → Type 0) (qs : List (List Entry)) (room : ℕ) (o : Option ℕ) → Serves qs room o → All (All P) qs → All (All P) (queues_from qs room o)
+all-taken P qs room None serves all = all
+all-taken P qs room (Some i) serves all = All-set (All P) qs i (without_first_fitting room (queue qs i)) (all-left P room (queue qs i) (All-get_or (All P) qs i [] (queue-inside qs room i (serves i refl)) all)) all
+
+-- ---- putting
+
+pub count-put_by_urgency : (e : Entry) (es : List Entry) (t : Task) → count_by (is_entry_of t) (put_by_urgency e es) ≡ count_by (is_entry_of t) es + cond {A = ℕ} (is_entry_of t e) 1 0
+count-put_by_urgency e [] t = grind arith
+count-put_by_urgency e (x ∷ xs) t = grind (arith, count-put_by_urgency e xs t, count-cons t x xs, count-cons t x (put_by_urgency e xs), count-cons t e (x ∷ xs))
+
+pub count-put_last : (e : Entry) (es : List Entry) (t : Task) → count_by (is_entry_of t) (es ++ e ∷ []) ≡ count_by (is_entry_of t) es + cond {A = ℕ} (is_entry_of t e) 1 0
+count-put_last e [] t = grind arith
+count-put_last e (x ∷ xs) t = grind (arith, count-put_last e xs t, count-cons t x xs, count-cons t x (xs ++ e ∷ []))
+
+pub count-put : (p : Policy) (e : Entry) (es : List Entry) (t : Task) → count_by (is_entry_of t) (put_into p e es) ≡ count_by (is_entry_of t) es + cond {A = ℕ} (is_entry_of t e) 1 0
+count-put Eager e es t = count-put_last e es t
+count-put Prio e es t = count-put_by_urgency e es t
+count-put Ws e es t = count-put_last e es t
+
+pub all-put_by_urgency : (P : Entry → Type 0) (e : Entry) (es : List Entry) → P e → All P es → All P (put_by_urgency e es)
+all-put_by_urgency P e [] here all = All-cons P e [] here all
+all-put_by_urgency P e (x ∷ xs) here all = by_order (precedes x e) (all-put_by_urgency P e xs here (All-tail P x xs all))
+  where
+    by_order : (b : Bool) → All P (put_by_urgency e xs) → All P (cond b (x ∷ put_by_urgency e xs) (e ∷ x ∷ xs))
+    by_order true rest = All-cons P x (put_by_urgency e xs) (All-head P x xs all) rest
+    by_order false rest = All-cons P e (x ∷ xs) here all
+
+pub all-put_last : (P : Entry → Type 0) (e : Entry) (es : List Entry) → P e → All P es → All P (es ++ e ∷ [])
+all-put_last P e [] here all = All-cons P e [] here all
+all-put_last P e (x ∷ xs) here all = All-cons P x (xs ++ e ∷ []) (All-head P x xs all) (all-put_last P e xs here (All-tail P x xs all))
+
+pub all-put : (P : Entry → Type 0) (p : Policy) (e : Entry) (es : List Entry) → P e → All P es → All P (put_into p e es)
+all-put P Eager e es here all = all-put_last P e es here all
+all-put P Prio e es here all = all-put_by_urgency P e es here all
+all-put P Ws e es here all = all-put_last P e es here all
+
+pub times-put : (p : Policy) (qs : List (List Entry)) (i : ℕ) (e : Entry) (t : Task) → i < length qs → times_in t (with_entry_at p qs i e) ≡ times_in t qs + cond {A = ℕ} (is_entry_of t e) 1 0
+times-put p qs i e t inside = omega (arith, sum_by-set (λ q. count_by (is_entry_of t) q) qs i (put_into p e (queue qs i)) [] inside, count-put p e (queue qs i) t)
+
+pub all-pooled : (P : Entry → Type 0) (p : Policy) (qs : List (List Entry)) (i : ℕ) (e : Entry) → i < length qs → P e → All (All P) qs → All (All P) (with_entry_at p qs i e)
+all-pooled P p qs i e inside here all = All-set (All P) qs i (put_into p e (queue qs i)) (all-put P p e (queue qs i) here (All-get_or (All P) qs i [] inside all)) all
+
+-- a task that stands nowhere isn't there
+pub none-has : (es : List Entry) (t : Task) → count_by (is_entry_of t) es ≡ 0 → has_task t.0 es ≡ false
+none-has [] t h = refl
+none-has (x ∷ xs) t h = grind (arith, none-has xs t, count-cons t x xs)
+
+pub none-contains : (qs : List (List Entry)) (t : Task) → times_in t qs ≡ 0 → contains qs t.0 ≡ false
+none-contains [] t h = refl
+none-contains (q ∷ qs) t h =
+    let both = sum_by-cons (λ q. count_by (is_entry_of t) q) q qs in
+    let here : count_by (is_entry_of t) q ≡ 0 = omega (arith, both, h) in
+    let rest : times_in t qs ≡ 0 = omega (arith, both, h) in
+    grind (arith, none-has q t here, none-contains qs t rest)

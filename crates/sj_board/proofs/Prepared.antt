@@ -1,0 +1,67 @@
+-- What a board has beside its run when nothing has happened.
+use Rattle.std.proofs.Common.{◌≡◌, ℕ, ◌+◌, ◌<◌, ◌≤◌, ◌↔◌, List, [], ◌∷◌, ◌++◌, inl, inr, sym, subst, ap, arith, length, map, get_or}
+use Rattle.std.specs.Prelude.{AllPairs}
+use Rattle.std.specs.List.{Contains}
+use Rattle.std.proofs.lemmas.Bool.{cases_eq}
+use Rattle.std.proofs.lemmas.List.Elements.{All-contains_itself, All-get_or, Contains-append_left, Contains-push, Contains-push_cases}
+use Rattle.std.proofs.lemmas.List.{get_or-map, length-map, map-append}
+use Rattle.std.proofs.lemmas.List.Kept.{AllPairs-from_increasing}
+use Rattle.std.proofs.lemmas.List.Quantifiers.{all_pairs_push}
+use Rattle.sj_base.specs.declared.ids.Task.{Task}
+use Rattle.sj_base.specs.declared.program.Program.{Program}
+use Rattle.sj_deps.specs.Conflict.{Ready}
+use Rattle.sj_board.specs.Preparing.{AreReadyBelow}
+
+-- ---- the tasks that are ready
+
+module _ (p : Program) (done : List ℕ) (n : ℕ) (ts : List Task) (so_far : AreReadyBelow p done n ts) where
+  abbrev next : Task
+  next = record { 0 = n }
+
+  numbered : (u : Task) → u.0 ≡ n → next ≡ u
+  numbered u e = ap (λ (k : ℕ). let x : Task = record { 0 = k } in x) (sym e)
+
+  below : (k d : ℕ) → k < length (map (λ (t : Task). t.0) ts) → get_or (map (λ (t : Task). t.0) ts) k d < n
+  below k d within =
+      let inside : k < length ts = omega (arith, within, length-map ts (λ (t : Task). t.0)) in
+      let at : get_or (map (λ (t : Task). t.0) ts) k d ≡ (get_or ts k next).0 = get_or-map (λ (t : Task). t.0) ts k next d inside in
+      subst (λ (x : ℕ). x < n) (sym at) ((so_far.each (get_or ts k next)).0 (All-get_or (Contains ts) ts k next inside (All-contains_itself ts))).0
+
+  rising : AllPairs (λ x y. x < y) (map (λ (t : Task). t.0) (ts ++ next ∷ []))
+  rising = subst (AllPairs (λ x y. x < y)) (sym (map-append (λ (t : Task). t.0) ts (next ∷ []))) (all_pairs_push (λ x y. x < y) (map (λ (t : Task). t.0) ts) n (AllPairs-from_increasing (map (λ (t : Task). t.0) ts) so_far.by_number) below)
+
+  -- one more that is ready
+  pub ready-more : Ready p done n → AreReadyBelow p done (n + 1) (ts ++ next ∷ [])
+  ready-more ready = record {
+    each = λ u. (there u, back u);
+    by_number = λ k within. rising k (k + 1) 0 (omega arith) within;
+  }
+    where
+      there : (u : Task) → Contains (ts ++ next ∷ []) u → (u.0 < n + 1) × Ready p done u.0
+      there u c = elim (Contains-push_cases ts next u c) as (λ _. (u.0 < n + 1) × Ready p done u.0) [
+        | inl had ↦ let h = (so_far.each u).0 had in (omega (arith, h.0), h.1)
+        | inr e ↦ subst (λ (x : Task). (x.0 < n + 1) × Ready p done x.0) e (omega arith, ready)
+      ]
+
+      back : (u : Task) → (u.0 < n + 1) × Ready p done u.0 → Contains (ts ++ next ∷ []) u
+      back u h = elim (cases_eq u.0 n) as (λ _. Contains (ts ++ next ∷ []) u) [
+        | inl e ↦ subst (Contains (ts ++ next ∷ [])) (numbered u e) (Contains-push ts next)
+        | inr d ↦ Contains-append_left ts (next ∷ []) u ((so_far.each u).1 (omega (arith, h.0, d), h.1))
+      ]
+
+  -- or one that isn't
+  pub ready-past : ¬ Ready p done n → AreReadyBelow p done (n + 1) ts
+  ready-past unready = record {
+    each = λ u. (λ c. let h = (so_far.each u).0 c in (omega (arith, h.0), h.1), back u);
+    by_number = so_far.by_number;
+  }
+    where
+      back : (u : Task) → (u.0 < n + 1) × Ready p done u.0 → Contains ts u
+      back u h = elim (cases_eq u.0 n) as (λ _. Contains ts u) [
+        | inl e ↦ absurd (unready (subst (Ready p done) e h.1))
+        | inr d ↦ (so_far.each u).1 (omega (arith, h.0, d), h.1)
+      ]
+
+-- all tasks have been looked at
+pub ready-all : (p : Program) (done : List ℕ) (n : ℕ) (ts : List Task) → length p.tasks ≤ n → AreReadyBelow p done n ts → (u : Task) → Contains ts u ↔ Ready p done u.0
+ready-all p done n ts all looked u = (λ c. ((looked.each u).0 c).1, λ r. (looked.each u).1 (omega (arith, r.task, all), r))

@@ -1,0 +1,169 @@
+-- Victims that are gone stay so until their worker claims again.
+use Rattle.std.proofs.Common.{◌≡◌, ◌≢◌, ℕ, ◌<◌, ◌-◌, Bool, true, not, ◌&&◌, List, [], ◌∷◌, Option, None, Some, length, get_or, set, take, reverse, refl, sym, ap, ◌∙◌, subst, inl, inr, arith}
+use Rattle.std.specs.Prelude.{Err, IfSome, IsSomeAnd, Ok, OnErr, OnOk, Result, replicate}
+use Rattle.std.specs.List.{list_all}
+use Rattle.std.proofs.lemmas.Bool.{cases_lt, false_from_ne_true, false≢true, not-true}
+use Rattle.std.proofs.lemmas.List.{get_or_default, get_or-replicate, get_or-set_other, get_or-set_same, get_or_past, length-replicate, length-set}
+use Rattle.sj_core.proofs.Eviction.{evicted-after}
+use Rattle.sj_base.specs.declared.trace.Event.{Event}
+use Rattle.sj_base.specs.declared.trace.Event.TheVariants.{Claim, Drop, End, Move, Moved, Run}
+use Rattle.sj_base.proofs.Bools.{and_rest}
+use Rattle.sj_core.proofs.Claiming.{Claims-other_worker, claim-leaving}
+use Rattle.sj_core.proofs.Ending.{end-change}
+use Rattle.sj_core.proofs.Placing.{replica-cases, victims-same}
+use Rattle.sj_core.proofs.Reading.{workers_differ}
+use Rattle.sj_core.proofs.Running.{run-leaving, run-worker}
+use Rattle.sj_core.proofs.States.{one-mover, state_of-more}
+use Rattle.sj_core.proofs.Words.{AtNode, Cell, Invalid, Machine, Node, OnDisk, Program, State, Task, Valid, Worker, WorkerState, is_gone, is_leaving_by, node_of, replica, transfer, victims_of, with_replica}
+use Rattle.sj_core.specs.Laws.{IsSound}
+use Rattle.sj_core.specs.Step.{May, a_transfer, after, array_at}
+use Rattle.sj_core.specs.declared.progress.Transfer.{Transfer}
+use Rattle.sj_disk.specs.Directory.{DiskState}
+use Rattle.sj_machine.specs.Gone.{AreGone}
+use Rattle.sj_machine.specs.Sound.{IsSoundRun}
+use Rattle.sj_machine.specs.Standing.{CanHappen, HasMoved, Standing, starting, state, with_event}
+use Rattle.sj_machine.proofs.GoneVictims.{and_first}
+use Rattle.sj_board.specs.BoardSound.{KnowsGone}
+use Rattle.sj_board.proofs.SparingBoards.{sound as run-sound}
+
+list_all-weaker : (f g : Cell → Bool) → ((c : Cell) → f c ≡ true → g c ≡ true) → (xs : List Cell) → list_all f xs ≡ true → list_all g xs ≡ true
+list_all-weaker f g more [] h = refl
+list_all-weaker f g more (x ∷ xs) h = ap (λ b. b && list_all g xs) (more x (and_first (f x) (list_all f xs) h)) ∙ list_all-weaker f g more xs (and_rest (f x) (list_all f xs) h)
+
+-- ---- events
+
+-- the worker's victims are the same, and none leaves by its claim that didn't
+pub record Stays (v : Worker) (s s' : State) : Type 0 where
+  pub victims : victims_of s' v ≡ victims_of s v
+  pub leaves : (c : Cell) (n : Node) → is_leaving_by v (replica s' c (AtNode n)) ≡ true → is_leaving_by v (replica s c (AtNode n)) ≡ true
+
+gone-stays : (m : Machine) (v : Worker) (s s' : State) → Stays v s s' → (count : ℕ) → AreGone m s v count → AreGone m s' v count
+gone-stays m v s s' stays count gone =
+    ap (λ (cs : List Cell). list_all (is_gone m s' v) (take count (reverse cs))) stays.victims
+    ∙ list_all-weaker (is_gone m s v) (is_gone m s' v) (λ c was. ap not (false_from_ne_true (is_leaving_by v (replica s' c (AtNode (node_of m v)))) (λ leaving. false≢true (sym (not-true (is_leaving_by v (replica s c (AtNode (node_of m v)))) was) ∙ stays.leaves c (node_of m v) leaving)))) (take count (reverse (victims_of s v))) gone
+
+-- the event isn't a claim of the worker
+abbrev pub NotClaimedBy : Event → Worker → Type 0
+NotClaimedBy (Claim t w) v = v ≢ w
+NotClaimedBy _ v = Unit {0}
+
+module _ (p : Program) (m : Machine) (s : State) (h : IsSound p m s) (v : Worker) where
+  Step-stays : (e : Event) (s' : State) → May p m s e → s' ≡ after p m s e → NotClaimedBy e v → Stays v s s'
+  Step-stays (Claim t w) s' step leaves other = record {
+    victims = ap (λ (row : WorkerState). row.victims) (Claims-other_worker p m s t w v s' step (leaves ∙ (evicted-after p m s t w)) other);
+    leaves = λ c n leaving. elim (claim-leaving p m s h t w s' step (leaves ∙ (evicted-after p m s t w)) v c (AtNode n) leaving) [ inl (at, same, evicted) ↦ absurd (other same) | inr (away, was) ↦ was ];
+  }
+  Step-stays (Move x from (AtNode k)) s' step leaves other = record {
+    victims = ap (λ (z : State). victims_of z v) leaves ∙ victims-same s _ _ v;
+    leaves = λ c n leaving. sym (ap (λ (z : State). is_leaving_by v (replica z c (AtNode n))) leaves) ∙ leaving;
+  }
+  Step-stays (Move x from (OnDisk d)) s' step leaves other = record {
+    victims = ap (λ (z : State). victims_of z v) leaves ∙ victims-same s _ _ v;
+    leaves = λ c n leaving. sym (ap (λ (z : State). is_leaving_by v (replica z c (AtNode n))) leaves) ∙ leaving;
+  }
+  Step-stays (Moved x from to) s' step leaves other =
+      let a = array_at p s from x in
+      record {
+        victims = ap (λ (z : State). victims_of z v) leaves ∙ victims-same (with_replica s x to (Valid a)) _ _ v;
+        leaves = λ c n leaving.
+            let now : is_leaving_by v (replica (with_replica s x to (Valid a)) c (AtNode n)) ≡ true = sym (ap (λ (z : State). is_leaving_by v (replica z c (AtNode n))) leaves) ∙ leaving in
+            elim (replica-cases s x to (Valid a) c (AtNode n)) [
+              | inl same ↦ sym (ap (is_leaving_by v) same) ∙ now
+              | inr (e, at, is) ↦ absurd (false≢true (sym (ap (is_leaving_by v) is) ∙ now))
+            ];
+      }
+  Step-stays (Drop x k) s' step leaves other = record {
+    victims = ap (λ (z : State). victims_of z v) leaves;
+    leaves = λ c n leaving.
+        let now : is_leaving_by v (replica (with_replica s x (AtNode k) Invalid) c (AtNode n)) ≡ true = sym (ap (λ (z : State). is_leaving_by v (replica z c (AtNode n))) leaves) ∙ leaving in
+        elim (replica-cases s x (AtNode k) Invalid c (AtNode n)) [
+          | inl same ↦ sym (ap (is_leaving_by v) same) ∙ now
+          | inr (e, at, is) ↦ absurd (false≢true (sym (ap (is_leaving_by v) is) ∙ now))
+        ];
+  }
+  Step-stays (Run t w) s' step leaves other = record {
+    victims = ap (λ (row : WorkerState). row.victims) (run-worker p m s t w s' step leaves v);
+    leaves = λ c n leaving. run-leaving p m s t w s' step leaves v c (AtNode n) leaving;
+  }
+  Step-stays (End t w) s' step leaves other =
+      let change = end-change p m s h t w s' step leaves in
+      record {
+        victims = change.victims v;
+        leaves = λ c n leaving. change.leaves v c (AtNode n) leaving;
+      }
+
+-- ---- a board's count of them
+
+-- of a run as it stands
+abbrev pub Knows : {D : Type 0} → Standing D → List ℕ → Type 0
+Knows run gone = KnowsGone run.program.workers run.machine (state run) gone
+
+pub knows-none : {D : Type 0} (p : Program) (m : Machine) (disks : DiskState D) (run : Standing D) → run ≡ starting p m disks → (n : ℕ) → n ≡ p.workers → (gone : List ℕ) → gone ≡ replicate n 0 → Knows run gone
+knows-none p m disks run starts n many gone is = subst (λ (ks : List ℕ). Knows run ks) (sym is) (record {
+  every_worker = length-replicate {A = ℕ} n 0 ∙ many ∙ ap (λ (r : Standing _). r.program.workers) (sym starts);
+  gone = λ w. ap (λ (k : ℕ). list_all (is_gone run.machine (state run) w) (take k (reverse (victims_of (state run) w)))) (elim (cases_lt w.0 n) [ inl inside ↦ get_or-replicate n w.0 0 0 inside | inr past ↦ get_or_past (replicate n 0) w.0 0 (omega (arith, past, length-replicate {A = ℕ} n 0)) ]);
+})
+
+-- what is read of the count of a worker
+pub knows-read : {D : Type 0} (run : Standing D) (gone : List ℕ) → Knows run gone → (w : Worker) → w.0 < length gone → (x d : ℕ) → x ≡ get_or gone w.0 d → AreGone run.machine (state run) w x
+knows-read run gone knows w inside x d read = subst (λ (k : ℕ). AreGone run.machine (state run) w k) (sym (read ∙ get_or_default gone w.0 d 0 inside)) (knows.gone w)
+
+-- where the count of one worker is noted
+pub knows-noted : {D : Type 0} (run run' : Standing D) → run'.program ≡ run.program → (w : Worker) → ((v : Worker) → v ≢ w → Stays v (state run) (state run')) → run'.machine ≡ run.machine → (gone : List ℕ) → Knows run gone → (count : ℕ) → AreGone run'.machine (state run') w count → (gone' : List ℕ) → gone' ≡ set gone w.0 count → Knows run' gone'
+knows-noted run run' program w stays machine gone knows count first gone' is = subst (λ (ks : List ℕ). Knows run' ks) (sym is) (record {
+  every_worker = length-set gone w.0 count ∙ knows.every_worker ∙ ap (λ (p : Program). p.workers) (sym program);
+  gone = λ v. elim (workers_differ v w) [
+    | inl e ↦ elim (cases_lt w.0 (length gone)) [
+      | inl inside ↦
+          subst (λ (x : Worker). AreGone run'.machine (state run') x (get_or (set gone w.0 count) x.0 0)) (sym e)
+          (subst (λ (k : ℕ). AreGone run'.machine (state run') w k) (sym (get_or-set_same gone w.0 count 0 inside)) first)
+      | inr past ↦
+          subst (λ (x : Worker). AreGone run'.machine (state run') x (get_or (set gone w.0 count) x.0 0)) (sym e)
+          (subst (λ (k : ℕ). AreGone run'.machine (state run') w k) (sym (get_or_past (set gone w.0 count) w.0 0 (omega (arith, past, length-set gone w.0 count)))) refl)
+    ]
+    | inr d ↦
+        subst (λ (k : ℕ). AreGone run'.machine (state run') v k) (sym (get_or-set_other gone w.0 v.0 count 0 (λ e. d (ap (λ (i : ℕ). let x : Worker = record { 0 = i } in x) e))))
+        (subst (λ (n : Machine). AreGone n (state run') v (get_or gone v.0 0)) (sym machine) (gone-stays run.machine v (state run) (state run') (stays v d) (get_or gone v.0 0) (knows.gone v)))
+  ];
+})
+
+module _ {D : Type 0} (size faults mismatches : D → ℕ) (held : D → Option (List ℕ)) (run : Standing D) (sound : IsSoundRun size faults mismatches held run) where
+  event-stays : (e : Event) → CanHappen run e → (v : Worker) → NotClaimedBy e v → Stays v (state run) (state (with_event run e))
+  event-stays e can v other = subst (λ (z : State). Stays v (state run) z) (sym (state_of-more run.program run.machine run.trace e)) (Step-stays run.program run.machine (state run) (run-sound size faults mismatches held run sound) v e (after run.program run.machine (state run) e) can refl other)
+
+  module _ (gone : List ℕ) (knows : Knows run gone) where
+    -- an event that is no claim
+    pub knows-event : (e : Event) → CanHappen run e → ((v : Worker) → NotClaimedBy e v) → (run' : Standing D) → run' ≡ with_event run e → Knows run' gone
+    knows-event e can other run' is = subst (λ (r : Standing D). Knows r gone) (sym is) (record {
+      every_worker = knows.every_worker;
+      gone = λ v. gone-stays run.machine v (state run) (state (with_event run e)) (event-stays e can v (other v)) (get_or gone v.0 0) (knows.gone v);
+    })
+
+    pub knows-tried : {A E : Type 0} (result : Result A E) (e : Event) → CanHappen run e → ((v : Worker) → NotClaimedBy e v) → (run' : Standing D) → OnOk result (run' ≡ with_event run e) → OnErr result (run' ≡ run) → Knows run' gone
+    knows-tried (Ok a) e can other run' ok err = knows-event e can other run' ok
+    knows-tried (Err x) e can other run' ok err = subst (λ (r : Standing D). Knows r gone) (sym err) knows
+
+    -- the end of a worker's move
+    pub knows-moved : (w : Worker) (run' : Standing D) (Q : Transfer → Type 0) → IsSomeAnd (transfer (state run) w) Q → HasMoved w run run' → Knows run' gone
+    knows-moved w run' Q some moved = by_move (transfer (state run) w) refl some moved
+      where
+        can : (x : Transfer) → transfer (state run) w ≡ Some x → CanHappen run (Moved x.cell x.from x.to)
+        can x under_way =
+            let s = state run in
+            subst (λ (v : Worker). transfer s v ≡ Some (a_transfer x.cell x.from x.to)) (one-mover run.program run.machine s x.cell x.from x.to w sound.coherent under_way) under_way
+
+        by_move : (o : Option Transfer) → transfer (state run) w ≡ o → IsSomeAnd o Q → IfSome o (λ x. run' ≡ with_event run (Moved x.cell x.from x.to)) → Knows run' gone
+        by_move None e none is = absurd none
+        by_move (Some x) e some is = knows-event (Moved x.cell x.from x.to) (can x e) (λ v. tt) run' is
+
+    -- a claim: none of its victims is known to be gone
+    pub knows-claimed : (t : Task) (w : Worker) → CanHappen run (Claim t w) → (run' : Standing D) → run' ≡ with_event run (Claim t w) → (gone' : List ℕ) → gone' ≡ set gone w.0 0 → Knows run' gone'
+    knows-claimed t w can run' is gone' noted = subst (λ (r : Standing D). Knows r gone') (sym is) (knows-noted run (with_event run (Claim t w)) refl w (λ v other. event-stays (Claim t w) can v other) refl gone knows 0 refl gone' noted)
+
+-- where the disks alone change
+pub knows-stored : {D : Type 0} (run run' : Standing D) (gone : List ℕ) → Knows run gone → run' ≡ record run { disks = run'.disks; out = run'.out } → Knows run' gone
+knows-stored run run' gone knows is = subst (λ (r : Standing _). Knows r gone) (sym is) knows
+
+-- where it is found that more are gone
+pub knows-found : {D : Type 0} (run : Standing D) (gone : List ℕ) → Knows run gone → (w : Worker) (count : ℕ) → AreGone run.machine (state run) w count → (gone' : List ℕ) → gone' ≡ set gone w.0 count → Knows run gone'
+knows-found run gone knows w count found gone' noted = knows-noted run run refl w (λ v d. record { victims = refl; leaves = λ c n leaving. leaving }) refl gone knows count found gone' noted

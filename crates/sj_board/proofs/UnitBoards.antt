@@ -1,0 +1,151 @@
+-- A board stays sound where a worker takes a unit, and where it puts it back.
+use Rattle.std.proofs.Common.{◌≡◌, ℕ, ◌+◌, ◌<◌, true, false, IsTrue, Option, Some, None, List, refl, sym, subst, ap, ◌∙◌, length, length-set, slice_set, is_some, ◌⊎◌}
+use Rattle.std.specs.Prelude.{IfSome, OnOk, Result, Ok, Err}
+use Rattle.sj_base.specs.Array.{Array}
+use Rattle.sj_base.specs.declared.ids.Task.{Task}
+use Rattle.sj_core.proofs.Words.{Cell, State, Worker, is_task_of, progress, transfer}
+use Rattle.sj_core.specs.declared.progress.Transfer.{Transfer}
+use Rattle.sj_core.specs.Legal.{IsComplete}
+use Rattle.sj_deps.specs.Progress.{Dependencies}
+use Rattle.sj_edge.specs.GivenBack.{AreGivenBack}
+use Rattle.sj_edge.proofs.GivenBackLemmas.{all_given_back-untouched, all_untouched-same}
+use Rattle.sj_disk.specs.declared.refusal.DiskRefusal.{DiskRefusal}
+use Rattle.sj_disk.specs.Directory.{extent_of}
+use Rattle.sj_disk.specs.Lending.{IsTaken, LendingState, has_back}
+use Rattle.sj_disk.specs.Rack.{is_out}
+use Rattle.sj_disk.specs.Units.{IsWorkedOn, UnitFetches, UnitState, UnitStores}
+use Rattle.sj_pool.specs.Pool.{Pooled}
+use Rattle.sj_machine.specs.Sound.{OnlyDisksChange}
+use Rattle.sj_machine.specs.Standing.{IsFetching, IsMovingOut, IsTileMoved, IsTileOf, Standing, state}
+use Rattle.sj_machine.specs.Units.{HasFetchedMoved, HasStoredMoved, IsUnitOf, TakesUnit, lent}
+use Rattle.sj_machine.specs.declared.fault.RunFault.{RunFault}
+use Rattle.sj_machine.proofs.Storing.{some-if}
+use Rattle.sj_machine.proofs.UnitPuts.{same-back}
+use Rattle.sj_board.specs.Board.{BoardState, GivesUnitBack, board_state, hand_in, hand_of, has_taken, with_hand}
+use Rattle.sj_board.specs.BoardSound.{KeepsBoard, times_pooled}
+use Rattle.sj_board.specs.Units.{OthersKeepUnits, UnitsStand, unit_in_hand}
+use Rattle.sj_board.specs.declared.hand.Hand.{Hand}
+use Rattle.sj_board.proofs.Boarding.{keeps-disks}
+use Rattle.sj_board.proofs.Hands.{given-same, hand-set, pool_for-same, stands-same}
+use Rattle.sj_board.proofs.UnitHands.{others-keep, units-back, units-taken}
+
+-- a worker's unit is no matter of what a board keeps beside
+keeps-unit : {D : Type 0} (faults mismatches : D → ℕ) (held : D → Option (List ℕ)) (b : BoardState D) (deps : Dependencies) (footprints : List ℕ) (w : Worker) (unit : Option Cell) → w.0 < length b.hands → KeepsBoard faults mismatches held b deps footprints → KeepsBoard faults mismatches held (with_hand b w (record (hand_of b w) { unit = unit })) deps footprints
+keeps-unit faults mismatches held b deps footprints w unit inside keeps =
+    let h : Hand = record (hand_of b w) { unit = unit } in
+    let s : State = state b.run in
+    record {
+      fault = keeps.fault;
+      inside = record {
+        hands_agree = record {
+          every_worker = length-set b.hands w.0 h ∙ keeps.inside.hands_agree.every_worker;
+          has = hand-set (λ v x. (t : Task) → x.task ≡ Some t → IsTrue (is_task_of v (progress s t))) b.hands w h inside (keeps.inside.hands_agree.has w) keeps.inside.hands_agree.has;
+          tells = λ none. hand-set (λ v x. (t : Task) → IsTrue (is_task_of v (progress s t)) → x.task ≡ Some t) b.hands w h inside (keeps.inside.hands_agree.tells none w) (keeps.inside.hands_agree.tells none);
+        };
+        stops = record {
+          no_task = hand-set (λ v x. x.has_stopped ≡ true → x.task ≡ None) b.hands w h inside (keeps.inside.stops.no_task w) keeps.inside.stops.no_task;
+          over = λ v. hand-set (λ u x. x.has_stopped ≡ true → IsComplete s ⊎ IsTrue (is_some b.fault)) b.hands w h inside (keeps.inside.stops.over w) keeps.inside.stops.over v;
+        };
+        stands_once = stands-same b.run.program s b.hands (slice_set b.hands w.0 h) b.pool b.pool (λ t. ap (λ (n : ℕ). times_pooled b.pool t + n) (given-same b.hands w h t inside refl)) keeps.inside.stands_once;
+        pool_fits = pool_for-same b.run.program b.run.machine b.hands b.pool w h inside refl keeps.inside.pool_fits;
+      };
+      counts = keeps.counts;
+      bytes = keeps.bytes;
+    }
+
+-- as the code leaves it: the disks have changed, and the worker's unit
+pub keeps-unit_left : {D : Type 0} (size faults mismatches : D → ℕ) (held : D → Option (List ℕ)) (b : BoardState D) (deps : Dependencies) (footprints : List ℕ) (run' : Standing D) (w : Worker) (unit : Option Cell) (hands' : List Hand) → w.0 < length b.hands → OnlyDisksChange b.run run' → AreGivenBack size faults mismatches held b.run.disks.disks run'.disks.disks → hands' ≡ slice_set b.hands w.0 (record (hand_in b.hands w) { unit = unit }) → KeepsBoard faults mismatches held b deps footprints → KeepsBoard faults mismatches held (record b { run = run'; hands = hands' }) deps footprints
+keeps-unit_left size faults mismatches held b deps footprints run' w unit hands' inside only back is keeps =
+    subst (λ (hs : List Hand). KeepsBoard faults mismatches held (record b { run = run'; hands = hs }) deps footprints) (sym is)
+    (keeps-unit faults mismatches held (record b { run = run' }) deps footprints w unit inside (keeps-disks size faults mismatches held b deps footprints run' only back keeps))
+
+-- ---- a unit is taken
+
+module _ {D : Type 0} (run run' : Standing D) (w : Worker) (u : UnitState D) (takes : TakesUnit w u run run') where
+  pub taken-only : OnlyDisksChange run run'
+  taken-only = takes.nothing_else ∙ ap (λ (z : Standing D). record run { disks = z.disks; out = z.out }) (sym takes.nothing_else)
+
+  pub taken-back : (size faults mismatches : D → ℕ) (held : D → Option (List ℕ)) → AreGivenBack size faults mismatches held run.disks.disks run'.disks.disks
+  taken-back size faults mismatches held =
+      subst (λ (z : Standing D). AreGivenBack size faults mismatches held run.disks.disks z.disks.disks) (sym takes.nothing_else)
+      (all_given_back-untouched size faults mismatches held run.disks.disks run.disks.disks (all_untouched-same size faults mismatches held run.disks.disks))
+
+  pub taken-units : (hands hands' : List Hand) → w.0 < length hands → (hand_in hands w).unit ≡ None → hands' ≡ slice_set hands w.0 (record (hand_in hands w) { unit = Some u.cell }) → UnitsStand run.disks run.out hands → UnitsStand run'.disks run'.out hands'
+  taken-units hands hands' inside none is stand =
+      let its = ap (λ (z : Standing D). extent_of z.disks.directory u.cell.0) (sym takes.nothing_else) ∙ takes.is_its_unit.taken.its_extent in
+      let now_out = ap (λ (z : Standing D). is_out z.out u.extent.disk.0) (sym takes.nothing_else) ∙ takes.is_its_unit.taken.its_disk_is_out in
+      subst (λ (z : Standing D). UnitsStand z.disks z.out hands') (sym takes.nothing_else)
+      (subst (λ (hs : List Hand). UnitsStand run.disks (slice_set run.out u.extent.disk.0 true) hs) (sym is)
+      (units-taken run.disks run.out hands stand w inside none u.cell u.extent its takes.was_in now_out))
+
+  pub taken-board : (hands hands' : List Hand) (pool : Pooled) (fault : Option RunFault) (delivered : List (Task × Array)) → hands' ≡ slice_set hands w.0 (record (hand_in hands w) { unit = Some u.cell }) → board_state run' hands' pool fault delivered ≡ has_taken (board_state run hands pool fault delivered) w u
+  taken-board hands hands' pool fault delivered is =
+      ap (λ (hs : List Hand). board_state run' hs pool fault delivered) is
+      ∙ ap (λ (z : Standing D). board_state z (slice_set hands w.0 (record (hand_in hands w) { unit = Some u.cell })) pool fault delivered) takes.nothing_else
+
+-- ---- and put back
+
+module _ {D : Type 0} (run run' : Standing D) (w : Worker) (hands hands' : List Hand) (is : hands' ≡ slice_set hands w.0 (record (hand_in hands w) { unit = None })) where
+  gives-back : (pool : Pooled) (fault : Option RunFault) (delivered : List (Task × Array)) → OnlyDisksChange run run' → GivesUnitBack w (board_state run hands pool fault delivered) (board_state run' hands' pool fault delivered)
+  gives-back pool fault delivered only =
+      ap (λ (hs : List Hand). board_state run' hs pool fault delivered) is
+      ∙ ap (λ (z : Standing D). board_state z (slice_set hands w.0 (record (hand_in hands w) { unit = None })) pool fault delivered) only
+
+  pub put-board : (pool : Pooled) (fault : Option RunFault) (delivered : List (Task × Array)) (b : BoardState D) → board_state run hands pool fault delivered ≡ b → OnlyDisksChange run run' → GivesUnitBack w b (board_state run' hands' pool fault delivered)
+  put-board pool fault delivered b same only =
+      subst (λ (k : BoardState D). GivesUnitBack w k (board_state run' hands' pool fault delivered)) same (gives-back pool fault delivered only)
+
+  module _ (u before : UnitState D) (taken : IsTaken (lent run) before) (cell : u.cell ≡ before.cell) (disk : u.extent.disk ≡ before.extent.disk) (back : lent run' ≡ has_back (lent run) u) (stand : UnitsStand run.disks run.out hands) (inside : w.0 < length hands) (held : (hand_in hands w).unit ≡ Some u.cell) where
+    its : extent_of run.disks.directory u.cell.0 ≡ Some before.extent
+    its = ap (λ (c : Cell). extent_of run.disks.directory c.0) cell ∙ taken.its_extent
+
+    pub put-units : UnitsStand run'.disks run'.out hands'
+    put-units =
+        subst (λ (l : LendingState D). UnitsStand l.set l.out hands') (sym back)
+        (subst (λ (hs : List Hand). UnitsStand (has_back (lent run) u).set (has_back (lent run) u).out hs) (sym is)
+        (units-back run.disks run.out hands stand w inside u.cell held before.extent u.extent its disk u.disk))
+
+    keep-others : (pool : Pooled) (fault : Option RunFault) (delivered : List (Task × Array)) → OthersKeepUnits w (board_state run hands pool fault delivered) (board_state run' hands' pool fault delivered)
+    keep-others pool fault delivered v far =
+        ap (λ (hs : List Hand). unit_in_hand (board_state run' hs pool fault delivered) v) is
+        ∙ ap (λ (l : LendingState D). unit_in_hand (board_state (record run { disks = l.set }) (slice_set hands w.0 (record (hand_in hands w) { unit = None })) pool fault delivered) v) back
+        ∙ others-keep run.disks run.out hands stand w inside u.cell held before.extent u.extent its disk u.disk v far
+
+    pub put-others : (pool : Pooled) (fault : Option RunFault) (delivered : List (Task × Array)) (b : BoardState D) → board_state run hands pool fault delivered ≡ b → OthersKeepUnits w b (board_state run' hands' pool fault delivered)
+    put-others pool fault delivered b same = subst (λ (k : BoardState D). OthersKeepUnits w k (board_state run' hands' pool fault delivered)) same (keep-others pool fault delivered)
+
+-- what was done with a unit kept its cell and its disk
+module _ {D : Type 0} (size faults mismatches : D → ℕ) (held : D → Option (List ℕ)) (run : Standing D) (w : Worker) (u : UnitState D) (result : Result (Unit {0}) DiskRefusal) where
+  pub stored-worked : IsMovingOut run w → (moved : HasStoredMoved size faults mismatches held run w u result) → IsWorkedOn size faults mismatches held moved.before u
+  stored-worked under_way moved = some-if _ _ (IsWorkedOn size faults mismatches held moved.before u) (transfer (state run) w) under_way moved.stores (λ x (s : UnitStores size faults mismatches held _ moved.array.elements result moved.before u). s.is_worked_on)
+
+  pub fetched-worked : IsFetching run w → (array : Array) (moved : HasFetchedMoved size faults mismatches held run w u result array) → IsWorkedOn size faults mismatches held moved.before u
+  fetched-worked under_way array moved = some-if _ _ (IsWorkedOn size faults mismatches held moved.before u) (transfer (state run) w) under_way moved.fetches (λ x (s : UnitFetches size faults mismatches held _ array.elements result moved.before u). s.is_worked_on)
+
+-- ---- what is told of the move stays so as the disks change
+
+module _ {D : Type 0} (held : D → Option (List ℕ)) (run run' : Standing D) (w : Worker) (only : OnlyDisksChange run run') where
+  pub tile-now : (a : Array) → IsTileMoved held run w a → IsTileMoved held run' w a
+  tile-now a is = subst (λ (z : Standing D). IsTileMoved held z w a) (sym only) (by_move (transfer (state run) w) is)
+    where
+      by_move : (o : Option Transfer) → IfSome o (λ x. IsTileOf held run x.cell x.from a) → IfSome o (λ x. IsTileOf held (record run { disks = run'.disks; out = run'.out }) x.cell x.from a)
+      by_move None h = tt
+      by_move (Some x) h = record { dims = h.dims; array = h.array }
+
+  pub tiles-now : {A E : Type 0} (result : Result A E) (M : Array → Type 0) → OnOk result ((a : Array) → M a → IsTileMoved held run w a) → OnOk result ((a : Array) → M a → IsTileMoved held run' w a)
+  tiles-now (Ok x) M h = λ a m. tile-now a (h a m)
+  tiles-now (Err x) M h = tt
+
+-- ---- a unit that comes back as it was taken
+
+module _ {D : Type 0} (run run' : Standing D) (w : Worker) (u : UnitState D) (is_its : IsUnitOf run w u) (now : run' ≡ record run { out = slice_set run.out u.extent.disk.0 false }) where
+  pub untouched-only : OnlyDisksChange run run'
+  untouched-only = now ∙ ap (λ (z : Standing D). record run { disks = z.disks; out = z.out }) (sym now)
+
+  pub untouched-given : (size faults mismatches : D → ℕ) (held : D → Option (List ℕ)) → AreGivenBack size faults mismatches held run.disks.disks run'.disks.disks
+  untouched-given size faults mismatches held =
+      subst (λ (z : Standing D). AreGivenBack size faults mismatches held run.disks.disks z.disks.disks) (sym now)
+      (all_given_back-untouched size faults mismatches held run.disks.disks run.disks.disks (all_untouched-same size faults mismatches held run.disks.disks))
+
+  pub untouched-back : lent run' ≡ has_back (lent run) u
+  untouched-back = ap (λ (z : Standing D). lent z) now ∙ sym (same-back (lent run) u is_its.taken)

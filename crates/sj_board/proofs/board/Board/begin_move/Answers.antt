@@ -1,0 +1,31 @@
+use Rattle.std.proofs.Common.{◌≡◌, None, refl, subst, sym}
+use Rattle.sj_base.specs.declared.trace.Event.TheVariants.{Move}
+use Rattle.sj_machine.specs.Standing.{CanHappen, with_event}
+use Rattle.sj_machine.specs.Sparing.{Spares}
+use Rattle.sj_board.proofs.BoardEnds.{stays-tried}
+use Rattle.sj_board.proofs.Boarding.{keeps-tried}
+use Rattle.sj_board.proofs.LastHeaders.{none-caused}
+use Rattle.std.specs.Prelude.{OnOk}
+use Rattle.sj_board.specs.Board.{BoardState}
+use Rattle.sj_board.proofs.SparingBoards.{tried-spares}
+use Rattle.sj_board.proofs.StillGone.{knows-tried}
+use Rattle.sj_board.proofs.UnitHands.{units-tried}
+use Rattle.sj_board.proofs.board.Board.begin_move.Goals as goal
+
+pub invariant_of-self : goal.invariant_of-self
+invariant_of-self g c =
+    let can = subst (λ (b : BoardState _). CanHappen b.run (Move c.args.cell c.args.from c.args.to)) (sym c.self.view_is) c.requires.can in
+    let none = subst (λ (b : BoardState _). b.fault ≡ None) (sym c.self.view_is) c.requires.no_fault in
+    record {
+      board = keeps-tried _ _ _ _ _ _ c.begin_move.result (Move c.args.cell c.args.from c.args.to) _ c.begin_move.ensures.ok c.begin_move.ensures.err (none-caused g.D.Disk.faults g.D.Disk.mismatches g.D.Disk.held c.self.inside.run (with_event c.self.inside.run (Move c.args.cell c.args.from c.args.to)) c.self.inside.fault none) refl c.self.invariant.board;
+      ends = stays-tried g.D.Disk.held c.self.inside.run _ _ _ _ c.self.invariant.ends c.begin_move.result (Move c.args.cell c.args.from c.args.to) _ c.begin_move.ensures.ok c.begin_move.ensures.err refl;
+      victims = knows-tried _ _ _ _ c.self.inside.run c.is_sound.ensures _ c.self.invariant.victims c.begin_move.result (Move c.args.cell c.args.from c.args.to) can (λ v. tt) _ c.begin_move.ensures.ok c.begin_move.ensures.err;
+      units = units-tried _ _ _ c.begin_move.result (Move c.args.cell c.args.from c.args.to) c.begin_move.ensures.ok c.begin_move.ensures.err c.self.invariant.units;
+    }
+
+pub returns-clause-spares : goal.returns-clause-spares
+returns-clause-spares g c =
+    let e = Move c.args.cell c.args.from c.args.to in
+    let can = subst (λ (b : BoardState _). CanHappen b.run e) (sym c.self.view_is) c.requires.can in
+    subst (λ (b : BoardState _). OnOk c.begin_move.result (Spares b.run e c.begin_move.new.self)) c.self.view_is
+    (tried-spares _ _ _ _ c.self.inside.run c.is_sound.ensures c.begin_move.result e can c.begin_move.new.self c.begin_move.ensures.ok)

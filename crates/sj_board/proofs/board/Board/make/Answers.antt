@@ -1,0 +1,23 @@
+use Rattle.std.proofs.Common.{◌<◌, ap, arith, length, rules, subst, sym}
+use Rattle.sj_base.specs.declared.program.Program.{Program}
+use Rattle.sj_machine.specs.Standing.{Standing}
+use Rattle.sj_board.specs.Delivered.{Deliveries}
+use Rattle.sj_board.specs.Preparing.{IsPrepared, IsReadyToDeliver}
+use Rattle.sj_board.proofs.BoardEnds.{opens-run}
+use Rattle.sj_board.proofs.Opening.{opens-with}
+use Rattle.sj_board.proofs.StillGone.{knows-none}
+use Rattle.sj_board.proofs.UnitHands.{units-first}
+use Rattle.sj_board.specs.Units.{UnitsStand}
+use Rattle.sj_board.proofs.board.Board.make.Goals as goal
+
+pub invariant_of-result : goal.invariant_of-result
+invariant_of-result g c =
+    let some : 0 < c.args.program.value.workers = omega (arith, c.requires.run.machine.some_worker, c.requires.run.machine.workers) in
+    let parts = subst (λ (p : Program). IsPrepared p c.args.machine.policy c.in-Ok.parts.deps c.in-Ok.parts.footprints.items c.in-Ok.parts.hands.items c.in-Ok.parts.pool) c.deref.ensures c.in-Ok.ensures.prepared in
+    let delivers = subst (λ (p : Program). IsReadyToDeliver p c.in-Ok.parts.gifts c.in-Ok.parts.delivered) c.deref.ensures c.in-Ok.ensures.delivers in
+    record {
+      board = opens-with _ _ _ c.args.program.value c.args.machine c.args.disks some _ _ _ _ _ c.in-Ok.parts.delivered.pairs (ap (λ (x : Deliveries). x.pairs) delivers.none) c.in-Ok-make.ensures.ok parts;
+      ends = opens-run g.D.Disk.held c.args.program.value c.args.machine c.args.disks _ c.in-Ok-make.ensures.ok _ _ delivers _ (search rules);
+      victims = knows-none c.args.program.value c.args.machine c.args.disks _ c.in-Ok-make.ensures.ok c.deref-2.result.now.workers (ap (λ (p : Program). p.workers) c.deref-2.ensures) c.in-Ok-none_gone.gone.items c.in-Ok-none_gone.ensures;
+      units = subst (λ (r : Standing _). UnitsStand r.disks r.out c.in-Ok.parts.hands.items) (sym c.in-Ok-make.ensures.ok) (units-first c.args.program.value c.args.disks (length c.args.disks.disks) c.in-Ok.parts.hands.items parts.hands_are);
+    }

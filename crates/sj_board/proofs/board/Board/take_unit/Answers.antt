@@ -1,0 +1,41 @@
+use Rattle.std.proofs.Common.{◌≡◌, ◌∙◌, ◌<◌, None, Some, ap, arith, length, subst, sym}
+use Rattle.sj_base.specs.declared.ids.Cell.{Cell}
+use Rattle.sj_machine.specs.Standing.{Standing}
+use Rattle.sj_machine.specs.Units.{HasBlockOf}
+use Rattle.sj_board.specs.Board.{BoardState, IsBusy, hand_in, hand_of, has_taken}
+use Rattle.std.specs.List.{slice_set}
+use Rattle.sj_board.proofs.BoardEnds.{stays-stored}
+use Rattle.sj_board.proofs.StillGone.{knows-stored}
+use Rattle.sj_board.proofs.UnitBoards.{keeps-unit_left, taken-back, taken-board, taken-only, taken-units}
+use Rattle.sj_board.proofs.board.Board.take_unit.Goals as goal
+
+pub hold_unit-requires : goal.hold_unit-requires
+hold_unit-requires g c =
+    let busy = subst (λ (b : BoardState _). IsBusy b c.args.w) (sym c.self.view_is) c.requires.busy in
+    (omega (arith, busy.works.known, c.self.invariant.board.inside.hands_agree.every_worker))
+
+pub invariant_of-self : goal.invariant_of-self
+invariant_of-self g c =
+    let busy = subst (λ (b : BoardState _). IsBusy b c.args.w) (sym c.self.view_is) c.requires.busy in
+    let none = subst (λ (b : BoardState _). (hand_of b c.args.w).unit ≡ None) (sym c.self.view_is) c.requires.none in
+    let inside : c.args.w.0 < length c.self.inside.hands.items = omega (arith, busy.works.known, c.self.invariant.board.inside.hands_agree.every_worker) in
+    let takes = c.take_unit-unit.ensures.takes in
+    let hands = c.hold_unit.ensures ∙ ap (λ (q : Cell). slice_set c.self.inside.hands.items c.args.w.0 (record (hand_in c.self.inside.hands.items c.args.w) { unit = Some q })) c.cell.ensures in
+    let only = taken-only c.self.inside.run c.take_unit-unit.new.self c.args.w c.take_unit-unit.result takes in
+    record {
+      board = keeps-unit_left g.D.Disk.size _ _ _ _ _ _ _ c.args.w _ _ inside only (taken-back c.self.inside.run c.take_unit-unit.new.self c.args.w c.take_unit-unit.result takes _ _ _ _) hands c.self.invariant.board;
+      ends = stays-stored g.D.Disk.held c.self.inside.run _ _ _ _ c.self.invariant.ends _ only;
+      victims = knows-stored c.self.inside.run _ _ c.self.invariant.victims only;
+      units = taken-units c.self.inside.run c.take_unit-unit.new.self c.args.w c.take_unit-unit.result takes _ _ inside none hands c.self.invariant.units;
+    }
+
+pub returns-clause-takes : goal.returns-clause-takes
+returns-clause-takes g c =
+    let hands = c.hold_unit.ensures ∙ ap (λ (q : Cell). slice_set c.self.inside.hands.items c.args.w.0 (record (hand_in c.self.inside.hands.items c.args.w) { unit = Some q })) c.cell.ensures in
+    taken-board c.self.inside.run c.take_unit-unit.new.self c.args.w c.take_unit-unit.result c.take_unit-unit.ensures.takes _ _ _ _ _ hands ∙ ap (λ (b : BoardState _). has_taken b c.args.w c.take_unit-unit.result) c.self.view_is
+
+pub returns-clause-unit : goal.returns-clause-unit
+returns-clause-unit g c = c.take_unit-unit.ensures.takes.is_its_unit
+
+pub returns-clause-block : goal.returns-clause-block
+returns-clause-block g c = subst (λ (z : Standing _). HasBlockOf z c.args.w c.take_unit-unit.result) (sym c.take_unit-unit.ensures.takes.nothing_else) (let block = c.take_unit-unit.ensures.block in record { whole = block.whole; stored = block.stored })

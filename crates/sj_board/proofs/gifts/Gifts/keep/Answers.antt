@@ -1,0 +1,8 @@
+use Rattle.std.proofs.Common.{◌∙◌, ap, List, Option, set}
+use Rattle.sj_base.specs.Array.{Array}
+use Rattle.sj_machine.specs.Tiles.{array_in}
+use Rattle.sj_machine.proofs.Tiles.{arrays-set}
+use Rattle.sj_board.proofs.gifts.Gifts.keep.Goals as goal
+
+pub returns : goal.returns
+returns c = arrays-set c.self.inside.tiles.items c.args.w.0 c.args.gift ∙ ap (λ (v : List (Option Array)). set v c.args.w.0 (array_in c.args.gift)) c.self.view_is

@@ -1,0 +1,7 @@
+use Rattle.std.proofs.Common.{◌∙◌, ap}
+use Rattle.sj_machine.specs.Tiles.{arrays_in}
+use Rattle.sj_machine.proofs.Tiles.{arrays-none}
+use Rattle.sj_board.proofs.gifts.Gifts.none.Goals as goal
+
+pub returns : goal.returns
+returns c = ap arrays_in c.in_ok-tiles.ensures ∙ arrays-none _ c.args.workers

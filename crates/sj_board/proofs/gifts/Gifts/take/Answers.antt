@@ -1,0 +1,10 @@
+use Rattle.std.proofs.Common.{◌∙◌, None, ap, List, Option, set}
+use Rattle.sj_base.specs.Array.{Array}
+use Rattle.sj_machine.specs.Tiles.{arrays_in}
+use Rattle.sj_machine.proofs.Tiles.{arrays-set}
+use Rattle.sj_board.proofs.gifts.Gifts.take.Goals as goal
+
+pub returns-clause-rest : goal.returns-clause-rest
+returns-clause-rest c =
+    let ts = c.self.inside.tiles.items in
+    ap (λ t. arrays_in (set ts c.args.w.0 t)) c.take.ensures.after ∙ arrays-set ts c.args.w.0 None ∙ ap (λ (v : List (Option Array)). set v c.args.w.0 None) c.self.view_is

@@ -1,0 +1,30 @@
+-- Whether a worker may claim a task whose number comes from outside the board.
+use Rattle.std.specs.Prelude.{◌≡◌, ◌≤◌, ◌<◌, None}
+use Rattle.sj_base.specs.declared.ids.Task.{Task}
+use Rattle.sj_base.specs.declared.ids.Worker.{Worker}
+use Rattle.sj_core.specs.Needs.{footprint}
+use Rattle.sj_machine.specs.ReadyTasks.{IsToBeTaken}
+use Rattle.sj_machine.specs.Standing.{state}
+use Rattle.sj_board.specs.Board.{BoardState, hand_of, room_of}
+use Rattle.sj_board.specs.declared.claimable.Claimable.{Claimable}
+use Rattle.sj_board.specs.declared.claimable.Claimable.TheVariants.{Yes, Stale, TooBig, Closed}
+
+module _ {D : Type 0} where
+  -- the task is ready, and waits
+  abbrev pub IsClaimable : BoardState D → Task → Type 0
+  IsClaimable b t = IsToBeTaken b.run.program (state b.run) t
+
+  -- the worker's node is large enough for it
+  abbrev pub FitsNode : BoardState D → Task → Worker → Type 0
+  FitsNode b t w = footprint b.run.program t ≤ room_of b w
+
+  -- the worker may begin with a task: it has none, and no fault is kept
+  abbrev pub MayBegin : BoardState D → Worker → Type 0
+  MayBegin b w = ((hand_of b w).task ≡ None) × (b.fault ≡ None)
+
+  -- what the board tells of the task: exactly one of these is true
+  abbrev pub TellsOf : BoardState D → Task → Worker → Claimable → Type 0
+  TellsOf b t w Yes = IsClaimable b t × FitsNode b t w × MayBegin b w
+  TellsOf b t w Stale = ¬ IsClaimable b t
+  TellsOf b t w TooBig = IsClaimable b t × (room_of b w < footprint b.run.program t)
+  TellsOf b t w Closed = IsClaimable b t × FitsNode b t w × (¬ MayBegin b w)

@@ -1,0 +1,12 @@
+pub mod Board
+pub mod BoardRow
+pub mod BoardSound
+pub mod Claimable
+pub mod Delivered
+pub mod Filling
+pub mod Passing
+pub mod Preparing
+pub mod Refusal
+pub mod Releasing
+pub mod Todo
+pub mod Units

@@ -1,5 +1,0 @@
-use Rattle.sj_pool.specs.Pool.{count_entries}
-use Rattle.sj_machine.proofs.passing.+take_behind.Given as goal
-
-abbrev pub decreases-take_behind : goal.decreases-take_behind
-decreases-take_behind l = count_entries l.pool.now.queues

@@ -1,6 +1,0 @@
-use Rattle.std.proofs.Common.{arith}
-use Rattle.sj_machine.proofs.Prepared.{ready-all}
-use Rattle.sj_machine.proofs.preparing.ready_tasks.Goals as goal
-
-pub returns-clause-each : goal.returns-clause-each
-returns-clause-each c = ready-all _ _ _ _ (omega (arith, c.requires, c.loop-i-test.false)) c.loop-i.invariant
