@@ -1,12 +1,13 @@
 //! Whether a trace is one that runs a program to its end.
 
-ghost use Rattle.std.specs.Prelude.{ℕ, IfErr, IsOk, take};
+ghost use Rattle.std.specs.Prelude.{ℕ, ◌≡◌, [], IfErr, IsOk, take};
 ghost use Rattle.sj_core.specs.Bound.{HasAtMostThreePerTaskAndFivePerOperand};
 ghost use Rattle.sj_core.specs.Coherent.{Coherent};
 ghost use Rattle.sj_core.specs.Laws.{HoldsFinal};
 ghost use Rattle.sj_core.specs.Legal.{IsFinished, state_of};
 ghost use Rattle.sj_machine.specs.Sound.{IsRunnableOn};
 ghost use Rattle.sj_check.specs.Refusal.{IsCheckRefusal};
+ghost use Rattle.sj_check.specs.Replay.{replay};
 
 use crate::checker::Checker;
 use sj_base::memory;
@@ -60,6 +61,30 @@ pub fn check(
         HasAtMostThreePerTaskAndFivePerOperand program.value trace.now.events }
 {
     let mut checker = Checker::make(alloc, program, machine)?;
+    let checked = check_by(alloc, &mut checker, trace);
+    let_go(checker);
+    checked
+}
+
+/// Drops a checker, whose fields are many, so that no other function does. Linear in what they hold.
+fn let_go(_: Checker) {}
+
+/// What `check` answers, by a checker that has seen no event. `check` drops it after any of the returns here.
+fn check_by(alloc: Global, checker: &mut Checker, trace: &Trace) -> Result<(), CheckRefusal>
+    requires { checker.old ≡ replay checker.old.program checker.old.machine [] }
+    ensures finished { IsOk result →
+        IsFinished checker.old.program checker.old.machine trace.now.events }
+    ensures refused { IfErr result
+        (IsCheckRefusal checker.old.program checker.old.machine trace.now.events) }
+    ensures each_state_is_coherent { IsOk result → (n : ℕ) →
+        Coherent checker.old.program checker.old.machine
+        (state_of checker.old.program checker.old.machine (take n trace.now.events)) }
+    ensures holds_what_all_tasks_leave { IsOk result →
+        HoldsFinal checker.old.program
+        (state_of checker.old.program checker.old.machine trace.now.events) }
+    ensures has_at_most_three_events_a_task_and_five_an_operand { IsOk result →
+        HasAtMostThreePerTaskAndFivePerOperand checker.old.program trace.now.events }
+{
     for i in 0..trace.len() {
         checker.is_sound();
         let event = trace.get(i);

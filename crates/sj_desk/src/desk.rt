@@ -215,7 +215,7 @@ impl<T: Keyed> Desk<T> {
         ensures none { IfNone result (seat.new ≡ retried seat.old seat.new.refusals) }
         ensures tries { seat.old.refusals ≤ seat.new.refusals }
     {
-        for failed in 0..TRIES {
+        for failed in 0..ENTER_TRIES {
             if let Some(value) = self.attempt(seat, mark) {
                 return Some(value);
             }

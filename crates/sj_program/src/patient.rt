@@ -1,6 +1,9 @@
 //! Standard streams that may not block.
 
+ghost use Rattle.std.specs.Prelude.{◌≡◌};
+
 use std::io::{ErrorKind, Read, Result, Write};
+use std::marker::Model;
 use std::rt::Clock;
 use std::sync::Wait;
 use std::thread;
@@ -10,16 +13,24 @@ use std::time::Duration;
 const PAUSE: u64 = 1;
 
 /// A stream that is tried again, a thousand times a second, while it has nothing to give or no room: what another process has
-/// made not to block is waited for as any other.
+/// made not to block is waited for as any other. Contracts see the stream.
 #[derive(Drop)]
 pub struct Patient<'a, R, S> {
     rt: &'a R,
     stream: S,
 }
 
+impl<'a, R, S> Model for Patient<'a, R, S> {
+    ghost Value = { S };
+
+    ghost view = { λ p. p.stream };
+}
+
 impl<'a, R, S> Patient<'a, R, S> {
     /// Waits for this stream.
-    pub fn over(rt: &'a R, stream: S) -> Patient<'a, R, S> {
+    pub fn over(rt: &'a R, stream: S) -> Patient<'a, R, S>
+        ensures is_over_the_stream { result ≡ stream }
+    {
         Patient { rt, stream }
     }
 }

@@ -1,73 +1,27 @@
-use Rattle.std.proofs.Common.{◌≡◌, ◌∙◌, List, Result, Ok, Err, arith, subst, sym}
-use Rattle.std.specs.Prelude.{IfErr, IsErrAnd}
-use Rattle.std.proofs.lemmas.Bool.{false≢true}
-use Rattle.sj_base.specs.declared.program.Machine.{Machine}
-use Rattle.sj_base.specs.declared.program.Program.{Program}
-use Rattle.sj_base.specs.declared.trace.Event.{Event}
-use Rattle.sj_core.specs.Legal.{IsComplete}
+use Rattle.std.proofs.Common.{◌∙◌, ℕ, [], ap, subst, sym, take}
+use Rattle.std.specs.Prelude.{IfErr, IsOk}
+use Rattle.sj_core.specs.Bound.{HasAtMostThreePerTaskAndFivePerOperand}
+use Rattle.sj_core.specs.Coherent.{Coherent}
+use Rattle.sj_core.specs.Laws.{HoldsFinal}
+use Rattle.sj_core.specs.Legal.{IsFinished, state_of}
 use Rattle.sj_check.specs.Refusal.{IsCheckRefusal}
-use Rattle.sj_check.specs.declared.check.CheckRefusal.{CheckRefusal}
-use Rattle.sj_check.specs.declared.check.CheckRefusal.TheVariants.{OutOfMemory}
-use Rattle.sj_check.specs.Replay.{IsSoundReplay, Replay, replay_state}
-use Rattle.sj_check.proofs.Ending.{loop-bad, loop-ends, loop-good}
-use Rattle.sj_check.proofs.Traces.{fronts-coherent, unfinished-now, whole-final, whole-within_bound}
+use Rattle.sj_check.specs.Replay.{Replay, replay}
 use Rattle.sj_check.proofs.check.check.Goals as goal
 
-pub loop-i-preserved : goal.loop-i-preserved
-loop-i-preserved c = loop-good c.args.program.value c.args.machine c.args.trace.now.events c.loop-i.i c.loop-i.checker c.loop-i.invariant c.get-event.result (omega (arith, c.loop-i-test.true, c.len-i-end.ensures)) c.get-event.ensures c.step.new.self c.in_ok-is_legal.is_legal c.in_ok-is_legal.ensures c.if-not-is_legal.false
+pub check_by-checked-requires : goal.check_by-checked-requires
+check_by-checked-requires c = c.in_ok-checker.ensures ∙ sym (ap (λ (r : Replay). replay r.program r.machine []) c.in_ok-checker.ensures)
 
-pub returns-then-not-is_legal-clause-refused : goal.returns-then-not-is_legal-clause-refused
-returns-then-not-is_legal-clause-refused c = loop-bad c.args.program.value c.args.machine c.args.trace.now.events c.loop-i.i c.loop-i.checker c.loop-i.invariant c.get-event.result (omega (arith, c.loop-i-test.true, c.len-i-end.ensures)) c.get-event.ensures c.step.new.self c.in_ok-is_legal.is_legal c.in_ok-is_legal.ensures c.if-not-is_legal.true c.is_sound.ensures
-
-pub returns-then-is_complete-clause-finished : goal.returns-then-is_complete-clause-finished
-returns-then-is_complete-clause-finished c =
-    let p = c.args.program.value in
-    let m = c.args.machine in
-    let events = c.args.trace.now.events in
-    let whole = loop-ends p m events c.loop-i.i c.loop-i.checker c.loop-i.invariant (omega (arith, c.loop-i-test.false, c.len-i-end.ensures)) in
-    let sound = subst IsSoundReplay whole c.is_sound-2.ensures in
-    λ ok. record { legal = sound.legal; complete = subst (λ (r : Replay). IsComplete (replay_state r)) whole (c.is_complete.ensures.0 c.if-is_complete.true) }
-
-pub returns-then-is_complete-clause-each_state_is_coherent : goal.returns-then-is_complete-clause-each_state_is_coherent
-returns-then-is_complete-clause-each_state_is_coherent c =
-    let p = c.args.program.value in
-    let m = c.args.machine in
-    let events = c.args.trace.now.events in
-    let whole = loop-ends p m events c.loop-i.i c.loop-i.checker c.loop-i.invariant (omega (arith, c.loop-i-test.false, c.len-i-end.ensures)) in
-    let sound = subst IsSoundReplay whole c.is_sound-2.ensures in
-    λ ok n. fronts-coherent p m c.requires.run events sound.legal n
-
-pub returns-then-is_complete-clause-holds_what_all_tasks_leave : goal.returns-then-is_complete-clause-holds_what_all_tasks_leave
-returns-then-is_complete-clause-holds_what_all_tasks_leave c =
-    let p = c.args.program.value in
-    let m = c.args.machine in
-    let events = c.args.trace.now.events in
-    let whole = loop-ends p m events c.loop-i.i c.loop-i.checker c.loop-i.invariant (omega (arith, c.loop-i-test.false, c.len-i-end.ensures)) in
-    let sound = subst IsSoundReplay whole c.is_sound-2.ensures in
-    λ ok. whole-final p m c.requires.run events sound.legal (subst (λ (r : Replay). IsComplete (replay_state r)) whole (c.is_complete.ensures.0 c.if-is_complete.true))
-
-pub returns-then-is_complete-clause-has_at_most_three_events_a_task_and_five_an_operand : goal.returns-then-is_complete-clause-has_at_most_three_events_a_task_and_five_an_operand
-returns-then-is_complete-clause-has_at_most_three_events_a_task_and_five_an_operand c =
-    let p = c.args.program.value in
-    let m = c.args.machine in
-    let events = c.args.trace.now.events in
-    let whole = loop-ends p m events c.loop-i.i c.loop-i.checker c.loop-i.invariant (omega (arith, c.loop-i-test.false, c.len-i-end.ensures)) in
-    let sound = subst IsSoundReplay whole c.is_sound-2.ensures in
-    λ ok. whole-within_bound p m c.requires.run events sound.legal
+pub returns-clause-finished : goal.returns-clause-finished
+returns-clause-finished c = subst (λ (r : Replay). IsOk c.check_by-checked.result → IsFinished r.program r.machine c.args.trace.now.events) c.in_ok-checker.ensures c.check_by-checked.ensures.finished
 
 pub returns-clause-refused : goal.returns-clause-refused
-returns-clause-refused c =
-    let p = c.args.program.value in
-    let m = c.args.machine in
-    let events = c.args.trace.now.events in
-    let whole = loop-ends p m events c.loop-i.i c.loop-i.checker c.loop-i.invariant (omega (arith, c.loop-i-test.false, c.len-i-end.ensures)) in
-    let sound = subst IsSoundReplay whole c.is_sound-2.ensures in
-    unfinished-now p m events sound.legal (λ done. false≢true (sym c.if-is_complete.false ∙ c.is_complete.ensures.1 (subst (λ (r : Replay). IsComplete (replay_state r)) (sym whole) done)))
+returns-clause-refused c = subst (λ (r : Replay). IfErr c.check_by-checked.result (IsCheckRefusal r.program r.machine c.args.trace.now.events)) c.in_ok-checker.ensures c.check_by-checked.ensures.refused
 
--- want of memory is no judgement of the trace
-wants_memory : {A : Type 0} (p : Program) (m : Machine) (events : List Event) (r : Result A CheckRefusal) → IsErrAnd r (λ e. e ≡ OutOfMemory) → IfErr r (IsCheckRefusal p m events)
-wants_memory p m events (Ok x) is = tt
-wants_memory p m events (Err e) is = subst (IsCheckRefusal p m events) (sym is) tt
+pub returns-clause-each_state_is_coherent : goal.returns-clause-each_state_is_coherent
+returns-clause-each_state_is_coherent c = subst (λ (r : Replay). IsOk c.check_by-checked.result → (n : ℕ) → Coherent r.program r.machine (state_of r.program r.machine (take n c.args.trace.now.events))) c.in_ok-checker.ensures c.check_by-checked.ensures.each_state_is_coherent
 
-pub returns-in_err-is_legal-clause-refused : goal.returns-in_err-is_legal-clause-refused
-returns-in_err-is_legal-clause-refused c = wants_memory c.args.program.value c.args.machine c.args.trace.now.events c.from_residual-in_err-is_legal.result c.from_residual-in_err-is_legal.ensures.1
+pub returns-clause-holds_what_all_tasks_leave : goal.returns-clause-holds_what_all_tasks_leave
+returns-clause-holds_what_all_tasks_leave c = subst (λ (r : Replay). IsOk c.check_by-checked.result → HoldsFinal r.program (state_of r.program r.machine c.args.trace.now.events)) c.in_ok-checker.ensures c.check_by-checked.ensures.holds_what_all_tasks_leave
+
+pub returns-clause-has_at_most_three_events_a_task_and_five_an_operand : goal.returns-clause-has_at_most_three_events_a_task_and_five_an_operand
+returns-clause-has_at_most_three_events_a_task_and_five_an_operand c = subst (λ (r : Replay). IsOk c.check_by-checked.result → HasAtMostThreePerTaskAndFivePerOperand r.program c.args.trace.now.events) c.in_ok-checker.ensures c.check_by-checked.ensures.has_at_most_three_events_a_task_and_five_an_operand
