@@ -1,5 +1,8 @@
 -- A job in the making: what it says so far.
-use Rattle.std.specs.Prelude.{◌≡◌, ℕ, ◌+◌, nat_eq, if◌then◌else◌, List, [], ◌∷◌, ◌++◌, length}
+use Rattle.std.specs.Prelude.{◌≡◌, ℕ, ◌+◌, ◌%◌, ℤ, pos, negsuc, nat_eq, if◌then◌else◌, List, [], ◌∷◌, ◌++◌, length}
+use Rattle.sj_meaning.specs.declared.job.Act.TheVariants as kept
+use Rattle.sj_meaning.specs.declared.job.Init.TheVariants.{Fill}
+use Rattle.sj_meaning.specs.declared.job.Statement.{Statement}
 use Rattle.sj_meaning.specs.Act.{Act}
 use Rattle.sj_meaning.specs.View.{seen_from, ActsArePlaced, count_from}
 use Rattle.sj_apps.specs.declared.draft.Draft.{Draft}
@@ -20,6 +23,16 @@ pub record Tells (old new : Draft) (acts : List (Act (List ℕ))) : Type 0 where
 -- the roots of the product
 abbrev pub product_names : List (List ℕ)
 product_names = name_A ∷ name_B ∷ name_C ∷ []
+
+-- a registration in a line, with these first elements, as it is kept
+abbrev pub fill_line : ℕ → ℤ → ℤ → Statement
+fill_line n a b = record { line = record { 0 = n }; act = kept.Register (Fill a b) }
+
+-- the registrations of the product's roots
+abbrev pub factor_lines : ℕ → List Statement
+factor_lines seed =
+    fill_line first_line (pos (seed % 100)) (pos 1) ∷ fill_line (first_line + 1) (pos 5) (negsuc 1)
+    ∷ fill_line (first_line + 2) (pos 0) (pos 0) ∷ []
 
 -- the root of the walks
 abbrev pub paths_names : List (List ℕ)

@@ -7,7 +7,7 @@ ghost use Rattle.sj_meaning.specs.Table.{table_of};
 ghost use Rattle.sj_meaning.specs.declared.job.Act.TheVariants as kept;
 ghost use Rattle.sj_meaning.specs.View.{statements_of, seen_from, IsNumbered};
 ghost use Rattle.sj_apps.specs.Solution.{PrintsProduct};
-ghost use Rattle.sj_apps.specs.Draft.{product_names, IsNumberedSoFar, Tells};
+ghost use Rattle.sj_apps.specs.Draft.{factor_lines, product_names, IsNumberedSoFar, Tells};
 ghost use Rattle.sj_apps.specs.Generated.{IsSize, cut, first_line, factors, gemm_act, gemms, gemms_at, gemms_in_row, numbered, part_count, product_statements, square};
 ghost use Rattle.sj_meaning.specs.declared.job.Kind.TheVariants.{Matrix};
 
@@ -143,18 +143,41 @@ impl Draft {
     }
 }
 
+/// Adds the roots A, B and C. Takes constant time.
+fn add_factors(roots: &mut Roots, alloc: Global, info: RootInfo) -> Result<(), OutOfMemory>
+    requires none { roots.old ≡ table [] [] }
+    ensures added { OnOk result (roots.new ≡ table product_names (info ∷ info ∷ info ∷ [])) }
+{
+    roots.add(alloc, b"A", info)?;
+    roots.add(alloc, b"B", info)?;
+    roots.add(alloc, b"C", info)?;
+    Ok(())
+}
+
 /// The roots A, B and C. Takes constant time.
 fn product_roots(alloc: Global, info: RootInfo) -> Result<Roots, OutOfMemory>
     ensures { IfOk result (λ roots. roots ≡ table_of product_names (info ∷ info ∷ info ∷ [])) }
 {
     let mut roots = Roots::none(alloc);
-    roots.add(alloc, b"A", info)?;
-    roots.add(alloc, b"B", info)?;
-    roots.add(alloc, b"C", info)?;
+    add_factors(&mut roots, alloc, info)?;
     Ok(roots)
 }
 
-/// The registrations of A, B and C with their first elements. Constant time.
+impl Draft {
+    /// The registrations of A, B and C with their first elements. Constant time.
+    fn say_factors(&mut self, seed: u64) -> Result<(), OutOfMemory>
+        requires none { self.old.statements ≡ [] }
+        ensures roots { OnOk result (self.new.roots ≡ self.old.roots) }
+        ensures said { OnOk result (self.new.statements ≡ factor_lines seed) }
+    {
+        self.say(Act::Register(Init::Fill((seed % 100) as i64, 1)))?;
+        self.say(Act::Register(Init::Fill(5, -2)))?;
+        self.say(Act::Register(Init::Fill(0, 0)))?;
+        Ok(())
+    }
+}
+
+/// The roots A, B and C and their registrations. Constant time.
 fn factors(alloc: Global, n: u32, p: u32, seed: u64) -> Result<Draft, OutOfMemory>
     ensures names { IfOk result (λ d. d.roots.names ≡ product_names) }
     ensures long { IfOk result (λ d. length d.statements ≡ 3) }
@@ -164,9 +187,7 @@ fn factors(alloc: Global, n: u32, p: u32, seed: u64) -> Result<Draft, OutOfMemor
 {
     let roots = product_roots(alloc, square_matrix(n, p))?;
     let mut draft = Draft::of(alloc, roots);
-    draft.say(Act::Register(Init::Fill((seed % 100) as i64, 1)))?;
-    draft.say(Act::Register(Init::Fill(5, -2)))?;
-    draft.say(Act::Register(Init::Fill(0, 0)))?;
+    draft.say_factors(seed)?;
     Ok(draft)
 }
 

@@ -55,6 +55,7 @@ use sj_disk::disk_set::DiskSet;
 use sj_disk::lending_set::LendingSet;
 use sj_edge::disk::Disk;
 use sj_machine::fault::RunFault;
+use sj_machine::plan::Plan;
 use sj_machine::run_state::{RunRefusal, RunState};
 use sj_machine::spent::Spent;
 use sj_machine::todo::Todo;
@@ -299,14 +300,15 @@ impl<D: Disk> Board<D> {
         ensures lone { self.old.run.program.workers ≡ 1 → IfErr result (λ r. r ≡ ClaimRefusal.OutOfMemory) }
     {
         self.run.is_sound();
-        let Ok(found) = self.run.claim_plan_knowing(alloc, t, w, &self.gone) else {
+        let mut plan = Plan::empty(alloc);
+        let Ok(found) = self.run.plan_claim(alloc, t, w, &self.gone, &mut plan) else {
             return Err(ClaimRefusal::OutOfMemory);
         };
-        let plan = match found {
-            Ok(plan) => plan,
+        match found {
+            Ok(()) => {}
             Err(why) => return Err(ClaimRefusal::NotNow(why)),
-        };
-        let Ok(()) = self.run.claim(t, w, plan) else {
+        }
+        let Ok(()) = self.run.claim(t, w, &mut plan) else {
             return Err(ClaimRefusal::OutOfMemory);
         };
         take(&mut self.hands, w, t);

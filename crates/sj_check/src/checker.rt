@@ -109,9 +109,9 @@ impl Checker {
     {
         let found = plan_of(&self.run, alloc, &self.tasks, &self.deps, t, w)?;
         match found {
-            Some(plan) => {
+            Some(mut plan) => {
                 self.run.is_sound();
-                self.run.claim(t, w, plan)?;
+                self.run.claim(t, w, &mut plan)?;
                 set_task(&mut self.tasks, w, Some(t));
                 Ok(true)
             }

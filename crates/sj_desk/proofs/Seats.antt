@@ -79,7 +79,7 @@ module _ {T : Type 0} where
       (λ free. record { opening = k; left = left; found = None; tally = c; hears = hears; me_is = marked.free free ∙ e })
       (λ busy. busy_seated number heard left c k m n hears e (marked.busy busy))
 
-  pub hearing_seated : (number word bell : ℕ) (left : T) (found : Option T) (c : Tally) (k : Opening T) (m n : Me (Option T) (View T)) (r : ℕ) → word ≡ 1 + bell → m ≡ seated k number left found c
+  pub hearing_seated : (number word bell : ℕ) (left : T) (found : Option T) (c : Tally) (k : Opening T) (m n : Me (Option T) (View T)) (r : ℕ) → word ≡ 16 + bell → m ≡ seated k number left found c
       → Hears word m r n → HasOwnRow number (Some (heard_at bell r)) n
   hearing_seated number word bell left found c k m n r is e heard =
       let same : heard.bell ≡ bell = (let told = heard.word_is in omega (arith, told, is)) in
@@ -93,7 +93,7 @@ module _ {T : Type 0} where
       }
 
   -- and as contracts see it
-  pub hearing_facts : (ts : TableId) (number word bell : ℕ) (m n : Me (Option T) (View T)) (r : ℕ) (s : SeatFacts T) → word ≡ 1 + bell → Hears word m r n → seat_facts ts number m.0 ≡ s
+  pub hearing_facts : (ts : TableId) (number word bell : ℕ) (m n : Me (Option T) (View T)) (r : ℕ) (s : SeatFacts T) → word ≡ 16 + bell → Hears word m r n → seat_facts ts number m.0 ≡ s
       → seat_facts ts number n.0 ≡ hearing s (Some (heard_at bell r))
   hearing_facts ts number word bell m n r s is heard seen =
       let same : heard.bell ≡ bell = (let told = heard.word_is in omega (arith, told, is)) in
@@ -110,7 +110,7 @@ module _ {T : Type 0} where
     me_is = rang.seat ∙ ap (λ (x : Me (Option T) (View T)). (rung_view x.0 rang.bell, x.1)) e;
   }
 
-  pub rung_facts : (ts : TableId) (number word bell : ℕ) (m n : Me (Option T) (View T)) (s : SeatFacts T) → word ≡ 1 + bell → Rings word m n → seat_facts ts number m.0 ≡ s
+  pub rung_facts : (ts : TableId) (number word bell : ℕ) (m n : Me (Option T) (View T)) (s : SeatFacts T) → word ≡ 16 + bell → Rings word m n → seat_facts ts number m.0 ≡ s
       → seat_facts ts number n.0 ≡ rung s bell
   rung_facts ts number word bell m n s is rang seen =
       let same : rang.bell ≡ bell = (let told = rang.word_is in omega (arith, told, is)) in
@@ -127,7 +127,7 @@ module _ {T : Type 0} where
   }
 
   -- the bell that the seat heard is still at its count, or isn't
-  pub still_silent : (word : ℕ) (h : Heard) (m n : Me (Option T) (View T)) (r : ℕ) → word ≡ 1 + h.bell → m.0.tally.heard ≡ Some h → r ≡ h.count → Rests word m r n → n ≡ m
+  pub still_silent : (word : ℕ) (h : Heard) (m n : Me (Option T) (View T)) (r : ℕ) → word ≡ 16 + h.bell → m.0.tally.heard ≡ Some h → r ≡ h.count → Rests word m r n → n ≡ m
   still_silent word h m n r is heard same look =
       let bell : h.bell ≡ look.bell = (let told = look.word_is in omega (arith, told, is)) in
       look.still (heard ∙ (λ p. Some (heard_at (bell p) (sym same p))))
@@ -200,21 +200,21 @@ module _ {T R : Type 0} (row_of : T → ℕ → R) (fits : Opening T → T → T
       (subst (λ (y : Me (Option T) (View T)). Allows (IsRuled row_of fits k) 1 id y 0 (λ n. either (n == 1) 2 n) (λ r n. MarksWaiting y r n)) (sym e)
       (marks row_of fits k id number left c))
 
-  pub hears_at : (slots id number word bell : ℕ) (left : T) (found : Option T) (c : Tally) (me : Me (Option T) (View T)) → slots ≡ 1 → word ≡ 1 + bell → me ≡ seated k number left found c
+  pub hears_at : (slots id number word bell : ℕ) (left : T) (found : Option T) (c : Tally) (me : Me (Option T) (View T)) → slots ≡ 1 → word ≡ 16 + bell → me ≡ seated k number left found c
       → Allows (IsRuled row_of fits k) slots id me word (λ n. n) (λ r n. Hears word me r n)
   hears_at slots id number word bell left found c me one is e =
       subst (λ x. Allows (IsRuled row_of fits k) x id me word (λ n. n) (λ r n. Hears word me r n)) (sym one)
       (subst (λ (y : Me (Option T) (View T)). Allows (IsRuled row_of fits k) 1 id y word (λ n. n) (λ r n. Hears word y r n)) (sym e)
       (hears row_of fits k id number word bell left found c is))
 
-  pub rings_at : (slots id number word bell : ℕ) (left : T) (found : Option T) (c : Tally) (me : Me (Option T) (View T)) → slots ≡ 1 → word ≡ 1 + bell → me ≡ seated k number left found c
+  pub rings_at : (slots id number word bell : ℕ) (left : T) (found : Option T) (c : Tally) (me : Me (Option T) (View T)) → slots ≡ 1 → word ≡ 16 + bell → me ≡ seated k number left found c
       → Allows (IsRuled row_of fits k) slots id me word (λ n. (n + 1) % 2 ^ 64) (λ _ n. Rings word me n)
   rings_at slots id number word bell left found c me one is e =
       subst (λ x. Allows (IsRuled row_of fits k) x id me word (λ n. (n + 1) % 2 ^ 64) (λ _ n. Rings word me n)) (sym one)
       (subst (λ (y : Me (Option T) (View T)). Allows (IsRuled row_of fits k) 1 id y word (λ n. (n + 1) % 2 ^ 64) (λ _ n. Rings word y n)) (sym e)
       (rings row_of fits k id number word bell left found c is))
 
-  pub rests_at : (slots id number word : ℕ) (h : Heard) (left : T) (c : Tally) (me : Me (Option T) (View T)) → slots ≡ 1 → word ≡ 1 + h.bell → c.heard ≡ Some h → me ≡ seated k number left None c
+  pub rests_at : (slots id number word : ℕ) (h : Heard) (left : T) (c : Tally) (me : Me (Option T) (View T)) → slots ≡ 1 → word ≡ 16 + h.bell → c.heard ≡ Some h → me ≡ seated k number left None c
       → Allows (IsRuled row_of fits k) slots id me word (λ n. n) (λ r n. Rests word me r n)
   rests_at slots id number word h left c me one is hears e =
       subst (λ x. Allows (IsRuled row_of fits k) x id me word (λ n. n) (λ r n. Rests word me r n)) (sym one)

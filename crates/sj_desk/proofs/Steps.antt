@@ -188,7 +188,7 @@ module _ {T R : Type 0} (row_of : T → ℕ → R) (fits : Opening T → T → T
             record { stage = old.stage; rows = old.rows; turn = λ y e. let t = old.turn y e in ((λ z. t.0 (sym same_word ∙ z)), t.1, t.2) });
       }
 
-  pub hears : (id number word bell : ℕ) (left : T) (found : Option T) (c : Tally) → word ≡ 1 + bell
+  pub hears : (id number word bell : ℕ) (left : T) (found : Option T) (c : Tally) → word ≡ 16 + bell
       → Allows Ruled 1 id (seated k number left found c) word (λ n. n) (λ r n. Hears word (seated k number left found c) r n)
   hears id number word bell left found c is s ruled wide at _ =
       let o = open_now s id (view (Some k) ((number, left) ∷ []) found c 2) ruled at refl in
@@ -200,7 +200,7 @@ module _ {T R : Type 0} (row_of : T → ℕ → R) (fits : Opening T → T → T
         record { bell = bell; word_is = is; seat = refl },
       )
 
-  pub rings : (id number word bell : ℕ) (left : T) (found : Option T) (c : Tally) → word ≡ 1 + bell
+  pub rings : (id number word bell : ℕ) (left : T) (found : Option T) (c : Tally) → word ≡ 16 + bell
       → Allows Ruled 1 id (seated k number left found c) word (λ n. (n + 1) % 2 ^ 64) (λ _ n. Rings word (seated k number left found c) n)
   rings id number word bell left found c is s ruled wide at _ =
       let o = open_now s id (view (Some k) ((number, left) ∷ []) found c 2) ruled at refl in (
@@ -211,7 +211,7 @@ module _ {T R : Type 0} (row_of : T → ℕ → R) (fits : Opening T → T → T
         record { bell = bell; word_is = is; seat = refl },
       )
 
-  pub rests : (id number word bell : ℕ) (left : T) (refusals count : ℕ) (rung : List ℕ) → word ≡ 1 + bell
+  pub rests : (id number word bell : ℕ) (left : T) (refusals count : ℕ) (rung : List ℕ) → word ≡ 16 + bell
       → let m = seated k number left None (tally refusals (Some (heard_at bell count)) rung) in Allows Ruled 1 id m word (λ n. n) (λ r n. Rests word m r n)
   rests id number word bell left refusals count rung is s ruled wide at _ =
       let c = tally refusals (Some (heard_at bell count)) rung in
@@ -348,7 +348,7 @@ module _ {T R : Type 0} (row_of : T → ℕ → R) (fits : Opening T → T → T
       subst (λ i. P i s) (sym first) (subst (P 0) (sym now.2)
       (at_stage 1 (first_view k), takes 0 None, refl, inr (inl (set words 0 (slice_index words 0), length-set words 0 (slice_index words 0) ∙ now.1, refl)), refl))
 
-  opened : (words : List ℕ) → length words ≡ 257 → fits k k.value
+  opened : (words : List ℕ) → length words ≡ 272 → fits k k.value
       → IsDeskOpen row_of fits k (record { words = set words 0 0; homes = some (Some k.value) ∷ []; views = at_stage 2 (first_view k) ∷ [] })
   opened words whole fit =
       let word : slice_index (set words 0 0) 0 ≡ 0 = get_or-set_same words 0 0 0 (omega (arith, whole)) in

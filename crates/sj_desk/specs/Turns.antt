@@ -37,7 +37,7 @@ module _ {T R : Type 0} (row_of : T → ℕ → R) where
   module _ (fits : Opening T → T → Type 0) (k : Opening T) where
     -- the desk once it is open: while the word is 0 the turn is free, and the slot at home holds a value that fits
     pub record IsDeskOpen (s : State (Option T) (View T)) : Type 0 where
-      pub words : length s.words ≡ 257
+      pub words : length s.words ≡ 272
       pub owner : ℕ → ℕ
       pub current : T
       pub holder : ℕ
@@ -54,7 +54,7 @@ module _ {T R : Type 0} (row_of : T → ℕ → R) where
 
     -- it is so with some words, one for the turn and one for each bell
     abbrev pub IsWith : (List ℕ → State (Option T) (View T)) → State (Option T) (View T) → Type 0
-    IsWith stage s = (words : List ℕ) × (length words ≡ 257) × (s ≡ stage words)
+    IsWith stage s = (words : List ℕ) × (length words ≡ 272) × (s ≡ stage words)
 
     abbrev pub IsRuled : State (Option T) (View T) → Type 0
     IsRuled s = IsWith made s ⊎ IsWith filled s ⊎ IsDeskOpen s
@@ -96,18 +96,18 @@ module _ {T : Type 0} where
   -- the seat hears a bell, whose word stands behind that of the turn and those of the bells before it
   pub record Hears (word : ℕ) (m : Me (Option T) (View T)) (count : ℕ) (n : Me (Option T) (View T)) : Type 0 where
     pub bell : ℕ
-    pub word_is : word ≡ 1 + bell
+    pub word_is : word ≡ 16 + bell
     pub seat : n ≡ (hearing_view m.0 (Some (heard_at bell count)), m.1)
 
   -- a ring of a bell, which the seat notes
   pub record Rings (word : ℕ) (m : Me (Option T) (View T)) (n : Me (Option T) (View T)) : Type 0 where
     pub bell : ℕ
-    pub word_is : word ≡ 1 + bell
+    pub word_is : word ≡ 16 + bell
     pub seat : n ≡ (rung_view m.0 bell, m.1)
 
   -- a look at a bell by a seat that rests: it rests on while that is the bell that it heard, at the count that it heard
   pub record Rests (word : ℕ) (m : Me (Option T) (View T)) (count : ℕ) (n : Me (Option T) (View T)) : Type 0 where
     pub bell : ℕ
-    pub word_is : word ≡ 1 + bell
+    pub word_is : word ≡ 16 + bell
     pub still : m.0.tally.heard ≡ Some (heard_at bell count) → n ≡ m
     pub rung : m.0.tally.heard ≢ Some (heard_at bell count) → n ≡ (hearing_view m.0 None, m.1)

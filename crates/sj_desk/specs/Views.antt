@@ -11,7 +11,7 @@ use Rattle.sj_desk.specs.Seats.{DeskFacts, SeatFacts}
 
 -- a table with a word for the turn and one for each of 256 bells, and one slot, for at least one seat
 abbrev pub IsOneTurn : TableId → ℕ → Type 0
-IsOneTurn table seats = (table.words ≡ 257) × (table.slots ≡ 1) × (0 < seats)
+IsOneTurn table seats = (table.words ≡ 272) × (table.slots ≡ 1) × (0 < seats)
 
 -- this bell, heard at this count
 abbrev pub heard_at : ℕ → ℕ → Heard

@@ -23,11 +23,14 @@ use std::time::Duration;
 // The first word of the table. Behind it those of the bells stand.
 const TURN: usize = 0;
 
-// As many as there are bells, and one.
-const WORDS: usize = 257;
+// The word of the first bell: some cache lines behind that of the turn, so that a bell that is rung or watched disturbs no try.
+const FIRST: usize = 16;
+
+// As many as there are bells, behind those before the first.
+const WORDS: usize = 272;
 
 // The word of the last bell, farthest from that of the turn, which those that try for it keep busy.
-const LAST: usize = 256;
+const LAST: usize = 271;
 
 // The turn word: free, taken, or taken while some seat may be asleep.
 const FREE: u64 = 0;
@@ -58,10 +61,10 @@ const FIRST_PAUSE: u32 = 4;
 
 // The word of a bell.
 fn word_of(bell: u8) -> usize
-    ensures word { result ≡ 1 + bell }
-    ensures inside { result < 257 }
+    ensures word { result ≡ 16 + bell }
+    ensures inside { result < 272 }
 {
-    1 + bell as usize
+    FIRST + bell as usize
 }
 
 // Lets the processor rest for so many turns.
@@ -215,7 +218,7 @@ impl<T: Keyed> Desk<T> {
         ensures none { IfNone result (seat.new ≡ retried seat.old seat.new.refusals) }
         ensures tries { seat.old.refusals ≤ seat.new.refusals }
     {
-        for failed in 0..TRIES {
+        for failed in 0..ENTER_TRIES {
             if let Some(value) = self.attempt(seat, mark) {
                 return Some(value);
             }

@@ -41,12 +41,20 @@ pub struct Note {
     pub is_due: bool,
 }
 
-/// The notes of all workers, by their numbers: none of those that don't rest. Contracts see the list.
+/// What is noted of all workers.
+#[derive(Drop)]
+struct Notebook {
+    /// By the workers' numbers: none of those that don't rest.
+    list: Vec<Option<Note>>,
+    /// Whether somebody may rest: the first turn finds out.
+    somebody: bool,
+}
+
+/// The notes of all workers, by their numbers: none of those that don't rest. Contracts see the list. They lie in a box, so
+/// that a turn moves one pointer.
 #[derive(Drop)]
 pub struct Sleepers {
-    notes: Vec<Option<Note>>,
-    // Whether somebody may rest: the first turn finds out.
-    somebody: bool,
+    notes: Box<Notebook>,
 }
 
 impl Model for Sleepers {
@@ -56,9 +64,9 @@ impl Model for Sleepers {
 
     ghost Value = { List (Option Note) };
 
-    ghost view = { λ s. s.notes.items };
+    ghost view = { λ s. s.notes.value.list.items };
 
-    ghost invariant = { λ s. KnowsWhereNobodyRests s.somebody s.notes.items };
+    ghost invariant = { λ s. KnowsWhereNobodyRests s.notes.value.somebody s.notes.value.list.items };
 }
 
 impl Change {
@@ -232,11 +240,15 @@ impl Sleepers {
     pub fn new(alloc: Global, workers: u8) -> Result<Sleepers, OutOfMemory>
         ensures { IfOk result (λ s. s ≡ replicate workers None) }
     {
-        let notes = vec![in alloc; None; workers as usize]?;
-        Ok(Sleepers {
-            notes,
-            somebody: true,
-        })
+        let list = vec![in alloc; None; workers as usize]?;
+        let notes = Box::new(
+            alloc,
+            Notebook {
+                list,
+                somebody: true,
+            },
+        )?;
+        Ok(Sleepers { notes })
     }
 
     /// Notes a turn of a worker, by which the run is over or not, the worker gives way or not, and has left tasks to others or
@@ -247,19 +259,20 @@ impl Sleepers {
         ensures noted { self.new ≡
             left_resting w.0 (due_in_turn w.0 is_over gives_way leaves self.old) }
     {
-        if !self.somebody {
+        let notes = &mut *self.notes;
+        if !notes.somebody {
             return None;
         }
         let own = w.0 as usize;
-        self.notes[own] = None;
+        notes.list[own] = None;
         if is_over || gives_way {
-            call(&mut self.notes, is_over);
+            call(&mut notes.list, is_over);
         }
         if leaves {
-            call_for_task(&mut self.notes);
+            call_for_task(&mut notes.list);
         }
-        let woken = take_next(&mut self.notes, own);
-        self.somebody = anybody(&self.notes);
+        let woken = take_next(&mut notes.list, own);
+        notes.somebody = anybody(&notes.list);
         woken
     }
 
@@ -281,8 +294,9 @@ impl Sleepers {
         ensures noted { self.new ≡ noted_at_rest w.0 bell is_claimed is_ready self.old }
     {
         let woken = self.pass(w, false, false, !is_claimed && is_ready);
-        self.somebody = true;
-        self.notes[w.0 as usize] = Some(Note {
+        let notes = &mut *self.notes;
+        notes.somebody = true;
+        notes.list[w.0 as usize] = Some(Note {
             reason: RestReason::of(is_claimed, is_ready),
             bell,
             is_due: false,

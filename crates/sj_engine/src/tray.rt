@@ -1,8 +1,10 @@
 //! What a worker carries into its turns and out of them.
 
-ghost use Rattle.std.specs.Prelude.{◌≡◌, ◌≤◌, [], IfOk};
+ghost use Rattle.std.specs.Prelude.{◌≡◌, ◌^◌, ◌≤◌, [], IfOk, length};
+ghost use Rattle.sj_base.specs.Array.{area};
 
 use sj_base::memory::OutOfMemory;
+use sj_base::tile::{Dims, Tile};
 use sj_codelet::frame::Frame;
 use sj_machine::spent::Spent;
 use std::alloc::Global;
@@ -62,11 +64,25 @@ impl Tray {
         self.frame = frame;
     }
 
-    /// Frees the tiles that turns made needless, unless the worker keeps the turn.
-    pub fn free_outside(&mut self, keeps_turn: bool)
+    /// A tile of these dimensions to fetch into, with any elements: one that turns made needless, where there is such a one, and
+    /// else a new one. Linear in its elements where it is new.
+    pub fn take_tile(&mut self, alloc: Global, dims: Dims) -> Result<Tile, OutOfMemory>
+        requires { area dims ≤ 2 ^ 24 }
+        ensures dims { IfOk result (λ t. t.dims ≡ dims) }
+        ensures whole { IfOk result (λ t. length t.elements ≡ area dims) }
+        ensures tray { self.new ≡ self.old }
+    {
+        match self.spent.take_tile(dims) {
+            Some(tile) => Ok(tile),
+            None => Tile::zeros(alloc, dims),
+        }
+    }
+
+    /// Frees the tiles that turns made needless, unless they are kept for a turn or a fetch to come.
+    pub fn free_outside(&mut self, are_kept: bool)
         ensures { self.new ≡ self.old }
     {
-        if !keeps_turn {
+        if !are_kept {
             self.spent.free();
         }
     }

@@ -58,6 +58,11 @@ fn goes_on<D: Disk>(step: &Step<D>) -> bool
     }
 }
 
+/// Whether a worker fetches a tile after a step, into one that was made needless where there is one.
+fn fetches<D: Disk>(step: &Step<D>) -> bool {
+    matches!(step, Step::Reads { .. })
+}
+
 impl<R, D: Disk> Workplace<'_, R, D> {
     /// Rings a bell, or none.
     fn ring(&self, seat: &mut WorkerSeat<D>, bell: Option<u8>)
@@ -148,7 +153,7 @@ impl<R: Wait, D: Disk> Workplace<'_, R, D> {
     }
 
     /// Makes the next step for the claimed task. Where the worker must wait, the seat has heard the bell. Tiles that the board
-    /// lets go are freed when the turn was given away.
+    /// lets go are freed when the turn was given away, but for a fetch that begins, to which they are left.
     pub fn step(&self, seat: &mut WorkerSeat<D>, t: Task, tray: &mut Tray) -> Step<D>
         requires workplace { IsWorkplace self.now }
         requires claimed { IsSeated self.now (HasClaimedRow self.now.worker t) seat.old }
@@ -170,7 +175,7 @@ impl<R: Wait, D: Disk> Workplace<'_, R, D> {
         let change = change_of(&step);
         let goes_on = goes_on(&step);
         self.end_turn(seat, noted, change, goes_on);
-        tray.free_outside(goes_on);
+        tray.free_outside(goes_on || fetches(&step));
         step
     }
 

@@ -91,6 +91,7 @@ impl<R: Wait, D: Disk> Workplace<'_, R, D> {
         x: Transfer,
         writes: u64,
         mut unit: Unit<D>,
+        tray: &mut Tray,
     ) -> bool
         requires workplace { IsProperWorkplace self.now }
         requires outside { seat.old.keeps_turn ≡ false }
@@ -104,7 +105,7 @@ impl<R: Wait, D: Disk> Workplace<'_, R, D> {
         ensures outside { result ≡ false → seat.new.keeps_turn ≡ false }
     {
         let dims = self.program.cells.items()[x.cell.0 as usize].dims;
-        let Ok(mut tile) = Tile::zeros(self.alloc, dims) else {
+        let Ok(mut tile) = tray.take_tile(self.alloc, dims) else {
             self.give_unit_up(seat, t, x, unit);
             return false;
         };
@@ -149,7 +150,7 @@ impl<R: Wait, D: Disk> Workplace<'_, R, D> {
                 to,
                 writes,
                 unit,
-            } => further(self.fetch(seat, t, Transfer { cell, from, to }, writes, unit)),
+            } => further(self.fetch(seat, t, Transfer { cell, from, to }, writes, unit, tray)),
             Step::Discarded => Prepared::Further,
             Step::Waits => Prepared::Waits,
             Step::Stopped => Prepared::Stopped,

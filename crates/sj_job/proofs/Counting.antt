@@ -1,5 +1,5 @@
 -- The first values, one more than the elements are, tell whether all of them are as many as these.
-use Rattle.std.proofs.Common.{◌≡◌, ◌∙◌, ℕ, ◌+◌, ◌*◌, ◌≤◌, not, Bool, true, false, List, [], ◌∷◌, Option, None, length, take, nat_eq, min, arith, refl, ap, sym}
+use Rattle.std.proofs.Common.{◌≡◌, ◌∙◌, ℕ, ◌+◌, ◌*◌, ◌≤◌, not, Bool, true, false, List, [], ◌∷◌, Option, None, length, nat_eq, min, arith, refl, ap, sym}
 use Rattle.std.proofs.lemmas.Bool.Decides.{nat_tests}
 use Rattle.std.proofs.lemmas.List.{length-take, take_all}
 use Rattle.std.specs.Bool.{IsFalse}
@@ -14,18 +14,18 @@ use Rattle.sj_job.specs.Judge.{Scope, first_of, has_names, is_crowded, is_ended,
 use Rattle.sj_job.specs.Sentence.{first_values}
 use Rattle.sj_job.proofs.Sounding.{none_hold}
 
--- so many first values tell, unless the array is too large
-abbrev pub Tells : ℕ → Dims → Type 0
-Tells n d = IsFalse (is_outside d.rows d.cols) → n ≡ d.rows * d.cols + 1
+-- these first values of what is said tell of all of them, unless the array is too large
+abbrev pub Tells : Init → Init → Dims → Type 0
+Tells init said d = IsFalse (is_outside d.rows d.cols) → init ≡ first_values (d.rows * d.cols + 1) said
 
 capped : (n m : ℕ) → nat_eq (min (n + 1) m) n ≡ nat_eq m n
 capped n m = grind (arith, nat_tests)
 
-counted : (n : ℕ) (init : Init) (rows cols : ℕ) → n ≡ rows * cols + 1 → is_miscounted (first_values n init) rows cols ≡ is_miscounted init rows cols
-counted n (Values zs) rows cols e =
-    ap (λ m. not (nat_eq m (rows * cols))) (length-take n zs ∙ ap (λ n. min n (length zs)) e) ∙ ap not (capped (rows * cols) (length zs))
-counted n (Fill a b) rows cols e = refl
-counted n Nothing rows cols e = refl
+counted : (init : Init) (rows cols : ℕ) → is_miscounted (first_values (rows * cols + 1) init) rows cols ≡ is_miscounted init rows cols
+counted (Values zs) rows cols =
+    ap (λ m. not (nat_eq m (rows * cols))) (length-take (rows * cols + 1) zs) ∙ ap not (capped (rows * cols) (length zs))
+counted (Fill a b) rows cols = refl
+counted Nothing rows cols = refl
 
 abbrev first_with : Scope → List ℕ → Dims → Parts → Bool → Bool → Option Reason
 first_with s name d p outside miscounted =
@@ -40,26 +40,26 @@ first_with s name d p outside miscounted =
     ∷ (miscounted, Shape)
     ∷ [])
 
-pub told : (s : Scope) (name : List ℕ) (d : Dims) (p : Parts) (n : ℕ) (init : Init) → Tells n d → first_of (register_reasons s name d p (first_values n init)) ≡ first_of (register_reasons s name d p init)
-told s name d p n init h = by (is_outside d.rows d.cols) refl
+pub told : (s : Scope) (name : List ℕ) (d : Dims) (p : Parts) (init said : Init) → Tells init said d → first_of (register_reasons s name d p init) ≡ first_of (register_reasons s name d p said)
+told s name d p init said h = by (is_outside d.rows d.cols) refl
   where
-    by : (b : Bool) → is_outside d.rows d.cols ≡ b → first_of (register_reasons s name d p (first_values n init)) ≡ first_of (register_reasons s name d p init)
-    by false e = ap (first_with s name d p (is_outside d.rows d.cols)) (counted n init d.rows d.cols (h e))
+    by : (b : Bool) → is_outside d.rows d.cols ≡ b → first_of (register_reasons s name d p init) ≡ first_of (register_reasons s name d p said)
+    by false e = ap (first_with s name d p (is_outside d.rows d.cols)) (ap (λ i. is_miscounted i d.rows d.cols) (h e) ∙ counted said d.rows d.cols)
     by true e =
-        ap (λ b. first_with s name d p b (is_miscounted (first_values n init) d.rows d.cols)) e
-        ∙ ap (λ b. first_with s name d p b (is_miscounted init d.rows d.cols)) (sym e)
+        ap (λ b. first_with s name d p b (is_miscounted init d.rows d.cols)) e
+        ∙ ap (λ b. first_with s name d p b (is_miscounted said d.rows d.cols)) (sym e)
 
 as-many : (m n : ℕ) → not (nat_eq m n) ≡ false → m ≤ n + 1
 as-many m n e = grind (arith, nat_tests)
 
-all-kept : (n : ℕ) (init : Init) (rows cols : ℕ) → n ≡ rows * cols + 1 → is_miscounted init rows cols ≡ false → first_values n init ≡ init
-all-kept n (Values zs) rows cols e f =
-    ap (λ n. Values (take n zs)) e ∙ ap Values (take_all (rows * cols + 1) zs (as-many (length zs) (rows * cols) f))
-all-kept n (Fill a b) rows cols e f = refl
-all-kept n Nothing rows cols e f = refl
+all-kept : (init : Init) (rows cols : ℕ) → is_miscounted init rows cols ≡ false → first_values (rows * cols + 1) init ≡ init
+all-kept (Values zs) rows cols f =
+    ap Values (take_all (rows * cols + 1) zs (as-many (length zs) (rows * cols) f))
+all-kept (Fill a b) rows cols f = refl
+all-kept Nothing rows cols f = refl
 
 -- where nothing is against them, they are all
-pub kept : (s : Scope) (name : List ℕ) (d : Dims) (p : Parts) (n : ℕ) (init : Init) → Tells n d → first_of (register_reasons s name d p init) ≡ None → first_values n init ≡ init
-kept s name d p n init h e =
-    let none = none_hold (register_reasons s name d p init) e in
-    all-kept n init d.rows d.cols (h none.1.1.0) none.1.1.1.1.1.1.1.0
+pub kept : (s : Scope) (name : List ℕ) (d : Dims) (p : Parts) (init said : Init) → Tells init said d → first_of (register_reasons s name d p said) ≡ None → init ≡ said
+kept s name d p init said h e =
+    let none = none_hold (register_reasons s name d p said) e in
+    h none.1.1.0 ∙ all-kept said d.rows d.cols none.1.1.1.1.1.1.1.0

@@ -1,6 +1,6 @@
 -- What shows in a crowd of operands is so of their list, and tells why a task line is refused.
 use Rattle.std.proofs.Common.{◌≡◌, ◌⊎◌, inl, inr, ℕ, ◌+◌, ◌-◌, ◌≤◌, ◌<◌, ◌&&◌, ◌||◌, not, Bool, true, false, List, [], ◌∷◌, ◌++◌, length, map, take, drop, refl, ap, ◌∙◌, sym, subst, arith, Option, Some, None, is_some, option_map, cond, nat_eq, codes, length-drop, Result, Ok, Err}
-use Rattle.std.specs.Prelude.{nat_le, nat_lt}
+use Rattle.std.specs.Prelude.{IfSome, nat_le, nat_lt}
 use Rattle.std.specs.List.{list_all, list_any, position_or_len, slice_split, onto_first}
 use Rattle.std.proofs.lemmas.Bool.Decides.{nat_tests}
 use Rattle.std.proofs.lemmas.List.{length-append, length-map, take_all}
@@ -21,14 +21,13 @@ use Rattle.sj_job.specs.declared.form.TaskForm.{TaskForm}
 use Rattle.sj_job.specs.declared.reason.Reason.{Reason}
 use Rattle.sj_job.specs.declared.reason.Reason.TheVariants.{Word, Number, UnknownName, EndedName, UnknownCodelet, OperandCount, Limit}
 use Rattle.sj_job.specs.declared.reason.LimitKind.TheVariants.{Statements, Priority}
-use Rattle.sj_job.specs.Crowd.{crowd_of, shown_in, up_to_six}
+use Rattle.sj_job.specs.Crowd.{call_reasons, crowd_of, has_numbers, shown_in, up_to_six}
 use Rattle.sj_job.specs.Form.{bracketed, each_some, form_of, operand_of, with_priority}
 use Rattle.sj_job.specs.Judge.{Scope, first_of, is_counted, is_ended, is_full, is_unknown, judged, judged_by, judged_call, judged_task, kernel_named, operand_reasons, unless}
 use Rattle.sj_job.specs.Reading.{act_in}
 use Rattle.sj_job.specs.Sentence.{are_counts, is_numbered, is_numbered_priority, operand_said, operands_said, priority_said, said_of, task_said}
 use Rattle.sj_job.specs.Word.{integer, is_integer}
 use Rattle.sj_job.proofs.Saying.{is_comma}
-use Rattle.sj_job.proofs.Submitting.{all_numbered}
 use Rattle.sj_job.proofs.Targets.{line_first}
 use Rattle.sj_job.proofs.Walking.{said_after, walk-more}
 use Rattle.sj_meaning.specs.Sound.{is_priority}
@@ -168,70 +167,49 @@ no-operands has s w rest b e none =
     onto None e = refl
     onto (Some os) e = absurd (cc)
 
--- ---- a place of a number without one
+-- the first reason against a call, by which conditions hold
+abbrev pub first_by : Bool → Bool → Bool → Bool → Bool → Bool → Option Reason
+first_by full early unknown ended named many =
+    first_of (
+    (full, Limit Statements)
+    ∷ (not early, Limit Priority)
+    ∷ (unknown, UnknownName)
+    ∷ (ended, EndedName)
+    ∷ (not named, UnknownCodelet)
+    ∷ (many, OperandCount)
+    ∷ [])
 
-first-false : (a b c : Bool) → a ≡ false → (a && b && c) ≡ false
-first-false a b c e = ap (λ (a : Bool). a && b && c) e
+-- ---- whether places of numbers have numbers
 
-last-false : (a b c : Bool) → c ≡ false → (a && b && c) ≡ false
-last-false true true c e = e
-last-false true false c e = refl
-last-false false b c e = refl
+numbered-by : (s : Scope) (ws : List (List ℕ)) (t : TaskForm) (c : Crowd) (b : Bool) → IsSeen s ws t c → has_numbers c t.args t.priority ≡ b → is_numbered (form.Task t) ≡ b
+numbered-by s ws t c b h e =
+    ap (λ (n : Bool). list_all is_integer t.args && n && is_numbered_priority t.priority) (sym h.numbered) ∙ e
 
-middle-false : (a b c : Bool) → b ≡ false → (a && b && c) ≡ false
-middle-false true b c e = ap (λ (b : Bool). b && c) e
-middle-false false b c e = refl
+-- one has none
+pub unnumbered : (has : Kernel → Bool) (s : Scope) (ws : List (List ℕ)) (t : TaskForm) (c : Crowd) → IsSeen s ws t c → has_numbers c t.args t.priority ≡ false → act_in has s (codes "task" ∷ ws) ≡ Err Number
+unnumbered has s ws t c h e = said-by has s ws t false h.spelled (numbered-by s ws t c false h e)
 
--- an index without counts
-pub uncounted : (has : Kernel → Bool) (s : Scope) (ws : List (List ℕ)) (t : TaskForm) (c : Crowd) → IsSeen s ws t c → c.numbered ≡ false → act_in has s (codes "task" ∷ ws) ≡ Err Number
-uncounted has s ws t c h e =
-    said-by has s ws t false h.spelled (middle-false (list_all is_integer t.args) (list_all (λ (o : OperandForm). are_counts o.child) t.operands) (is_numbered_priority t.priority) (sym h.numbered ∙ e))
+-- each has one
+module _ (has : Kernel → Bool) (s : Scope) (ws : List (List ℕ)) (t : TaskForm) (c : Crowd) (h : IsSeen s ws t c) (numbers : has_numbers c t.args t.priority ≡ true) where
+  judged-as : act_in has s (codes "task" ∷ ws) ≡ judged_task has s t
+  judged-as = said-by has s ws t true h.spelled (numbered-by s ws t c true h numbers)
 
--- an argument that is no integer
-pub unnumbered-args : (has : Kernel → Bool) (s : Scope) (ws : List (List ℕ)) (t : TaskForm) (c : Crowd) → IsSeen s ws t c → list_all is_integer t.args ≡ false → act_in has s (codes "task" ∷ ws) ≡ Err Number
-unnumbered-args has s ws t c h e =
-    said-by has s ws t false h.spelled (first-false (list_all is_integer t.args) (list_all (λ (o : OperandForm). are_counts o.child) t.operands) (is_numbered_priority t.priority) e)
+  at-full : is_full s ≡ true → act_in has s (codes "task" ∷ ws) ≡ Err (Limit Statements)
+  at-full full = judged-as ∙ (λ i. judged_by (line_first (full i) (not (is_priority (priority_said t.priority))) (list_any (λ o. is_unknown s o.name) (operands_said t)) (list_any (λ o. is_ended s o.name) (operands_said t))) (judged_call has s (kernel_named has t.codelet) t))
 
--- a priority that is none
-pub unnumbered-priority : (has : Kernel → Bool) (s : Scope) (ws : List (List ℕ)) (t : TaskForm) (c : Crowd) → IsSeen s ws t c → is_numbered_priority t.priority ≡ false → act_in has s (codes "task" ∷ ws) ≡ Err Number
-unnumbered-priority has s ws t c h e =
-    said-by has s ws t false h.spelled (last-false (list_all is_integer t.args) (list_all (λ (o : OperandForm). are_counts o.child) t.operands) (is_numbered_priority t.priority) e)
+  at-priority : is_full s ≡ false → is_priority (priority_said t.priority) ≡ false → act_in has s (codes "task" ∷ ws) ≡ Err (Limit Priority)
+  at-priority full late = judged-as ∙ (λ i. judged_by (line_first (full i) (not (late i)) (list_any (λ o. is_unknown s o.name) (operands_said t)) (list_any (λ o. is_ended s o.name) (operands_said t))) (judged_call has s (kernel_named has t.codelet) t))
 
--- with numbers where it has numbers
-pub record IsNumbered (s : Scope) (ws : List (List ℕ)) (t : TaskForm) (c : Crowd) : Type 0 where
-  pub seen : IsSeen s ws t c
-  pub args : list_all is_integer t.args ≡ true
-  pub children : c.numbered ≡ true
-  pub priority : is_numbered_priority t.priority ≡ true
+  at-unknown : is_full s ≡ false → is_priority (priority_said t.priority) ≡ true → c.unknown ≡ true → act_in has s (codes "task" ∷ ws) ≡ Err UnknownName
+  at-unknown full early e = let u = sym h.unknown ∙ e in judged-as ∙ (λ i. judged_by (line_first (full i) (not (early i)) (u i) (list_any (λ o. is_ended s o.name) (operands_said t))) (judged_call has s (kernel_named has t.codelet) t))
 
-abbrev Numbered : Scope → List ℕ → List (List ℕ) → List ℕ → List (List ℕ) → Crowd → Option (List ℕ) → Type 0
-Numbered s w rest name args c p = (os : List OperandForm) × IsNumbered s (w ∷ rest) (task_with name args os p) c
-
-pub numbered : (s : Scope) (w : List ℕ) (rest : List (List ℕ)) (name : List ℕ) (args : List (List ℕ)) (c : Crowd) (p : Option (List ℕ)) → bracketed 40 41 w ≡ Some (name, args) → shown_in s rest ≡ Some (c, p) → list_all is_integer args ≡ true → c.numbered ≡ true → is_numbered_priority p ≡ true → Numbered s w rest name args c p
-numbered s w rest name args c p b e a n q = let h = seen s w rest name args c p b e in (h.0, record { seen = h.1; args = a; children = n; priority = q })
-
-judged-as : (has : Kernel → Bool) (s : Scope) (ws : List (List ℕ)) (t : TaskForm) (c : Crowd) → IsNumbered s ws t c → act_in has s (codes "task" ∷ ws) ≡ judged_task has s t
-judged-as has s ws t c h =
-    said-by has s ws t true h.seen.spelled
-    (all_numbered (list_all is_integer t.args) (list_all (λ (o : OperandForm). are_counts o.child) t.operands) (is_numbered_priority t.priority) h.args (sym h.seen.numbered ∙ h.children) h.priority)
-
-module _ (has : Kernel → Bool) (s : Scope) (ws : List (List ℕ)) (t : TaskForm) (c : Crowd) (h : IsNumbered s ws t c) where
-  pub at-full : is_full s ≡ true → act_in has s (codes "task" ∷ ws) ≡ Err (Limit Statements)
-  at-full full = judged-as has s ws t c h ∙ (λ i. judged_by (line_first (full i) (not (is_priority (priority_said t.priority))) (list_any (λ o. is_unknown s o.name) (operands_said t)) (list_any (λ o. is_ended s o.name) (operands_said t))) (judged_call has s (kernel_named has t.codelet) t))
-
-  pub at-priority : is_full s ≡ false → is_priority (priority_said t.priority) ≡ false → act_in has s (codes "task" ∷ ws) ≡ Err (Limit Priority)
-  at-priority full late = judged-as has s ws t c h ∙ (λ i. judged_by (line_first (full i) (not (late i)) (list_any (λ o. is_unknown s o.name) (operands_said t)) (list_any (λ o. is_ended s o.name) (operands_said t))) (judged_call has s (kernel_named has t.codelet) t))
-
-  pub at-unknown : is_full s ≡ false → is_priority (priority_said t.priority) ≡ true → c.unknown ≡ true → act_in has s (codes "task" ∷ ws) ≡ Err UnknownName
-  at-unknown full early e = let u = sym h.seen.unknown ∙ e in judged-as has s ws t c h ∙ (λ i. judged_by (line_first (full i) (not (early i)) (u i) (list_any (λ o. is_ended s o.name) (operands_said t))) (judged_call has s (kernel_named has t.codelet) t))
-
-  pub at-ended : is_full s ≡ false → is_priority (priority_said t.priority) ≡ true → c.unknown ≡ false → c.ended ≡ true → act_in has s (codes "task" ∷ ws) ≡ Err EndedName
-  at-ended full early e f = let u = sym h.seen.unknown ∙ e in let v = sym h.seen.ended ∙ f in judged-as has s ws t c h ∙ (λ i. judged_by (line_first (full i) (not (early i)) (u i) (v i)) (judged_call has s (kernel_named has t.codelet) t))
+  at-ended : is_full s ≡ false → is_priority (priority_said t.priority) ≡ true → c.unknown ≡ false → c.ended ≡ true → act_in has s (codes "task" ∷ ws) ≡ Err EndedName
+  at-ended full early e f = let u = sym h.unknown ∙ e in let v = sym h.ended ∙ f in judged-as ∙ (λ i. judged_by (line_first (full i) (not (early i)) (u i) (v i)) (judged_call has s (kernel_named has t.codelet) t))
 
   behind-line : is_full s ≡ false → is_priority (priority_said t.priority) ≡ true → c.unknown ≡ false → c.ended ≡ false → act_in has s (codes "task" ∷ ws) ≡ judged_call has s (kernel_named has t.codelet) t
-  behind-line full early e f = let u = sym h.seen.unknown ∙ e in let v = sym h.seen.ended ∙ f in judged-as has s ws t c h ∙ (λ i. judged_by (line_first (full i) (not (early i)) (u i) (v i)) (judged_call has s (kernel_named has t.codelet) t))
+  behind-line full early e f = let u = sym h.unknown ∙ e in let v = sym h.ended ∙ f in judged-as ∙ (λ i. judged_by (line_first (full i) (not (early i)) (u i) (v i)) (judged_call has s (kernel_named has t.codelet) t))
 
-  pub at-codelet : is_full s ≡ false → is_priority (priority_said t.priority) ≡ true → c.unknown ≡ false → c.ended ≡ false → is_some (kernel_named has t.codelet) ≡ false → act_in has s (codes "task" ∷ ws) ≡ Err UnknownCodelet
+  at-codelet : is_full s ≡ false → is_priority (priority_said t.priority) ≡ true → c.unknown ≡ false → c.ended ≡ false → is_some (kernel_named has t.codelet) ≡ false → act_in has s (codes "task" ∷ ws) ≡ Err UnknownCodelet
   at-codelet full early e f none = behind-line full early e f ∙ by-none (kernel_named has t.codelet) none
     where
       by-none : (o : Option Kernel) → is_some o ≡ false → judged_call has s o t ≡ Err UnknownCodelet
@@ -261,13 +239,35 @@ module _ (has : Kernel → Bool) (s : Scope) (ws : List (List ℕ)) (t : TaskFor
   some-kernel None e h more = absurd (cc)
   some-kernel (Some k) e h more = counted-by k more e
 
-  pub at-count : (n : ℕ) → n ≤ length t.args → is_full s ≡ false → is_priority (priority_said t.priority) ≡ true → c.unknown ≡ false → c.ended ≡ false → is_some (kernel_named has t.codelet) ≡ true → (nat_le 6 c.count || nat_lt 6 n) ≡ true → act_in has s (codes "task" ∷ ws) ≡ Err OperandCount
+  at-count : (n : ℕ) → n ≤ length t.args → is_full s ≡ false → is_priority (priority_said t.priority) ≡ true → c.unknown ≡ false → c.ended ≡ false → is_some (kernel_named has t.codelet) ≡ true → (nat_le 6 c.count || nat_lt 6 n) ≡ true → act_in has s (codes "task" ∷ ws) ≡ Err OperandCount
   at-count n few full early e f some more = behind-line full early e f ∙ some-kernel (kernel_named has t.codelet) refl some (over (nat_le 6 c.count) (nat_lt 6 n) refl refl more)
     where
       many : c.count ≡ up_to_six (length t.operands)
-      many = h.seen.count
+      many = h.count
 
       over : (a b : Bool) → nat_le 6 c.count ≡ a → nat_lt 6 n ≡ b → (a || b) ≡ true → (6 < length t.args) ⊎ (5 < length t.operands)
       over true b e f h = inr (more-than-five (length t.operands) (subst (λ n. 6 ≤ n) many (grind (arith, nat_tests))))
       over false true e f h = inl (grind (arith, nat_tests))
       over false false e f h = absurd (cc)
+
+  -- the first of six conditions, by which of them hold
+  by-first : (n : ℕ) (why : Reason) → n ≤ length t.args → (a b u v w m : Bool) → is_full s ≡ a → is_priority (priority_said t.priority) ≡ b → c.unknown ≡ u → c.ended ≡ v → is_some (kernel_named has t.codelet) ≡ w → (nat_le 6 c.count || nat_lt 6 n) ≡ m → first_by a b u v w m ≡ Some why → act_in has s (codes "task" ∷ ws) ≡ Err why
+  by-first n why few true b u v w m full early unknown ended named many e =
+      let is : Limit Statements ≡ why = cc in at-full full ∙ ap (λ (r : Reason). Err r) is
+  by-first n why few false false u v w m full late unknown ended named many e =
+      let is : Limit Priority ≡ why = cc in at-priority full late ∙ ap (λ (r : Reason). Err r) is
+  by-first n why few false true true v w m full early unknown ended named many e =
+      let is : UnknownName ≡ why = cc in at-unknown full early unknown ∙ ap (λ (r : Reason). Err r) is
+  by-first n why few false true false true w m full early unknown ended named many e =
+      let is : EndedName ≡ why = cc in at-ended full early unknown ended ∙ ap (λ (r : Reason). Err r) is
+  by-first n why few false true false false false m full early unknown ended none many e =
+      let is : UnknownCodelet ≡ why = cc in at-codelet full early unknown ended none ∙ ap (λ (r : Reason). Err r) is
+  by-first n why few false true false false true true full early unknown ended named many e =
+      let is : OperandCount ≡ why = cc in at-count n few full early unknown ended named many ∙ ap (λ (r : Reason). Err r) is
+  by-first n why few false true false false true false full early unknown ended named many e = absurd (cc)
+
+  -- what is against the call is against the line
+  pub complained : (n : ℕ) → n ≤ length t.args → (o : Option Reason) → o ≡ first_of (call_reasons has s t.codelet c n (priority_said t.priority)) → IfSome o (λ why. act_in has s (codes "task" ∷ ws) ≡ Err why)
+  complained n few None e = tt
+  complained n few (Some why) e =
+      by-first n why few (is_full s) (is_priority (priority_said t.priority)) c.unknown c.ended (is_some (kernel_named has t.codelet)) (nat_le 6 c.count || nat_lt 6 n) refl refl refl refl refl refl (sym e)

@@ -39,7 +39,7 @@ use Rattle.sj_meaning.specs.View.{operand_seen, task_seen}
 use Rattle.sj_meaning.specs.Meaning.{written_of}
 use Rattle.sj_job.specs.Judge.{Known, first_of, is_full, is_unknown, is_ended, is_child_said, is_missing, dims_in, is_lacking, is_counted, is_shaped, has_mixed_outputs, is_unlawful, lacks_reduction, operand_reasons, reduction_known, kernel_named, judged_by, judged_call, judged_task, unless}
 use Rattle.sj_meaning.specs.Sound.{is_priority, modes_fit, mode_fits, clashes, is_aliased, needs_value, is_lawful_for, is_unordered}
-use Rattle.sj_job.specs.Names.{Found, IsPlaceIn, a_target, any_collide, any_missing, any_over, are_mixed, collide, ended_from, found_at, found_in, is_counted_for, is_name_ended, is_shaped_for, is_unlawful_for, is_unreduced, is_wanting, known_by, known_from, known_with, law_reasons, no_child, operand_by, plan_in, scope_in, standing_of, target_by, target_dims, target_in, target_reasons, targets_fit}
+use Rattle.sj_job.specs.Names.{Found, IsInLine, IsPlaceIn, a_target, any_collide, any_missing, any_over, are_mixed, collide, ended_from, found_at, found_in, is_counted_for, is_name_ended, is_shaped_for, is_unlawful_for, is_unreduced, is_wanting, known_by, known_from, known_with, law_reasons, no_child, operand_by, plan_in, scope_in, standing_of, target_by, target_dims, target_in, target_reasons, targets_fit}
 use Rattle.sj_job.proofs.Children.{place-from_test, said-child}
 use Rattle.sj_meaning.proofs.Finding.{is-at, is-root, text-itself}
 
@@ -394,12 +394,6 @@ by_line has names form o = judged_by o (judged_call has (scope_in names) (kernel
 
 pub task-unknown : (has : Kernel → Bool) (names : Names) (form : TaskForm) → is_full (scope_in names) ≡ false → is_priority (priority_said form.priority) ≡ true → each_some (target_in names) form.operands ≡ None → judged_task has (scope_in names) form ≡ Err UnknownName
 task-unknown has names form full early e = λ i. by_line has names form (line_first (full i) (not (early i)) (some_unknown names form.operands e i) (list_any (λ o. is_ended (scope_in names) o.name) (operands_said form)))
-
--- what holds behind the line's own conditions
-pub record IsInLine (names : Names) (form : TaskForm) (ts : List Target) : Type 0 where
-  pub full : is_full (scope_in names) ≡ false
-  pub early : is_priority (priority_said form.priority) ≡ true
-  pub found : each_some (target_in names) form.operands ≡ Some ts
 
 pub task-ended : (has : Kernel → Bool) (names : Names) (form : TaskForm) (ts : List Target) → IsInLine names form ts → any_over ts ≡ true → judged_task has (scope_in names) form ≡ Err EndedName
 task-ended has names form ts h over =

@@ -14,6 +14,7 @@ use Rattle.sj_plan.specs.Parts.{IsPlace}
 use Rattle.sj_plan.specs.Paste.{same_child_place}
 use Rattle.sj_plan.specs.Rect.{child, rect_dims}
 use Rattle.sj_job.specs.declared.form.OperandForm.{OperandForm}
+use Rattle.sj_job.specs.declared.form.TaskForm.{TaskForm}
 use Rattle.sj_meaning.specs.declared.job.Init.{Init}
 use Rattle.sj_meaning.specs.declared.job.Init.TheVariants.{Values, Fill, Nothing}
 use Rattle.sj_meaning.specs.declared.job.Operand.{Operand as Access}
@@ -24,12 +25,13 @@ use Rattle.sj_job.specs.declared.names.Names.{Names}
 use Rattle.sj_job.specs.declared.judge.Target.{Target}
 use Rattle.sj_job.specs.declared.reason.Reason.{Reason}
 use Rattle.sj_job.specs.declared.reason.Reason.TheVariants.{OperandCount, Part, Shape, Aliased, NoValue, NoReduction, MixedOutputs, NotLawful}
-use Rattle.sj_job.specs.Sentence.{index_said}
+use Rattle.sj_job.specs.Form.{each_some}
+use Rattle.sj_job.specs.Sentence.{index_said, priority_said}
 use Rattle.sj_meaning.specs.State.{is_child}
 use Rattle.sj_meaning.specs.Table.{root_in, info_of}
 use Rattle.sj_job.specs.Track.{Track, all_valued, none_valued, even, is_set, with_child_valued}
-use Rattle.sj_job.specs.Judge.{Known, Scope, is_child_said}
-use Rattle.sj_meaning.specs.Sound.{is_lawful_for, is_unordered, mode_fits, needs_value}
+use Rattle.sj_job.specs.Judge.{Known, Scope, is_child_said, is_full}
+use Rattle.sj_meaning.specs.Sound.{is_lawful_for, is_priority, is_unordered, mode_fits, needs_value}
 
 -- each root has a standing
 abbrev pub HasStandings : Names → Type 0
@@ -249,3 +251,9 @@ target_reasons has k args ts =
     ∷ (not (is_shaped_for k args ts), Shape)
     ∷ (any_collide ts, Aliased)
     ∷ law_reasons has k ts
+
+-- a task line has these targets, and nothing is against it before its names are looked at
+pub record IsInLine (names : Names) (form : TaskForm) (ts : List Target) : Type 0 where
+  pub full : is_full (scope_in names) ≡ false
+  pub early : is_priority (priority_said form.priority) ≡ true
+  pub found : each_some (target_in names) form.operands ≡ Some ts

@@ -1,12 +1,12 @@
 //! Task lines with more operands or arguments than any codelet has: what is against them is found without a list of either.
 
-ghost use Rattle.std.specs.Prelude.{◌≡◌, ◌+◌, ◌≤◌, ◌&&◌, ◌||◌, ◌∷◌, [], true, false, codes, length, nat_le, nat_lt, Err, IfSome, MatchOption};
+ghost use Rattle.std.specs.Prelude.{◌≡◌, ◌+◌, ◌≤◌, ◌&&◌, ◌||◌, ◌∷◌, [], true, false, codes, length, nat_le, nat_lt, Err, IfNone, IfSome, MatchOption};
 ghost use Rattle.std.specs.List.{list_all};
-ghost use Rattle.sj_job.specs.Crowd.{crowd_of, shown_in, up_to_six};
-ghost use Rattle.sj_job.specs.Judge.{Scope, is_ended, is_unknown};
+ghost use Rattle.sj_job.specs.Crowd.{call_reasons, crowd_of, has_numbers, shown_in, up_to_six};
+ghost use Rattle.sj_job.specs.Judge.{Scope, first_of, is_ended, is_unknown};
 ghost use Rattle.sj_job.specs.Names.{HasStandings, scope_in};
 ghost use Rattle.sj_job.specs.Reading.{act_in};
-ghost use Rattle.sj_job.specs.Sentence.{are_counts};
+ghost use Rattle.sj_job.specs.Sentence.{are_counts, priority_said};
 ghost use Rattle.sj_job.specs.Word.{is_integer};
 
 use crate::form::{OperandForm, Piece, Pieces};
@@ -62,9 +62,9 @@ impl Crowd {
         let name = operand.name.bytes();
         let taken = names.is_taken(name);
         let ended = names.is_ended(name);
-        self.numbered = self.numbered && are_counts(&operand.child);
-        self.unknown = self.unknown || (!taken && !ended);
-        self.ended = self.ended || ended;
+        self.numbered &= are_counts(&operand.child);
+        self.unknown |= !taken & !ended;
+        self.ended |= ended;
         if self.count < COUNTED {
             self.count += 1;
         }
@@ -113,6 +113,50 @@ fn are_many(operands: u8, arguments: u8) -> bool
     COUNTED <= operands || COUNTED < arguments
 }
 
+/// How many arguments there are, up to seven, and the priority; `None` where a place of a number has none. Linear in them.
+fn numbers_of(crowd: &Crowd, args: &Pieces<'_>, priority: &Option<Piece<'_>>) -> Option<(u8, i64)>
+    ensures lacks { IfNone result (has_numbers crowd.now args.now priority.now ≡ false) }
+    ensures has { IfSome result (λ _. has_numbers crowd.now args.now priority.now ≡ true) }
+    ensures count { IfSome result (λ numbers. numbers.0 ≤ length args.now) }
+    ensures priority { IfSome result (λ numbers. numbers.1 ≡ priority_said priority.now) }
+{
+    if !crowd.numbered {
+        return None;
+    }
+    Some((argument_count(args)?, priority_of(priority)?))
+}
+
+/// The first reason against a call of this codelet with so many arguments and this priority, by what shows in its operands. The
+/// codelet is looked up in the table.
+fn call_complaint<C: Codelets>(
+    names: &Names,
+    codelet: &Piece<'_>,
+    crowd: Crowd,
+    count: u8,
+    priority: i64,
+    codelets: &C,
+) -> Option<Reason>
+    requires { HasStandings names.now }
+    ensures { result ≡ first_of (call_reasons C.has (scope_in names.now) codelet.now crowd
+        count priority) }
+{
+    if STATEMENTS <= names.statements {
+        Some(Reason::Limit(LimitKind::Statements))
+    } else if !has_priority(priority) {
+        Some(Reason::Limit(LimitKind::Priority))
+    } else if crowd.unknown {
+        Some(Reason::UnknownName)
+    } else if crowd.ended {
+        Some(Reason::EndedName)
+    } else if codelets.kernel_named(codelet.bytes()).is_none() {
+        Some(Reason::UnknownCodelet)
+    } else if are_many(crowd.count, count) {
+        Some(Reason::OperandCount)
+    } else {
+        None
+    }
+}
+
 /// The reason against a task line of these words behind `task`, where it comes before the counting of its operands, or where
 /// they or the arguments are more than any codelet has. Takes no memory. Linear in the words, but that the codelet is looked up
 /// in the table.
@@ -134,28 +178,8 @@ pub fn crowd_complaint<C: Codelets>(
     let Some((crowd, priority)) = crowd_of(names, &rest) else {
         return Some(Reason::Word);
     };
-    let Some(count) = argument_count(&args) else {
+    let Some((count, priority)) = numbers_of(&crowd, &args, &priority) else {
         return Some(Reason::Number);
     };
-    if !crowd.numbered {
-        return Some(Reason::Number);
-    }
-    let Some(priority) = priority_of(&priority) else {
-        return Some(Reason::Number);
-    };
-    if STATEMENTS <= names.statements {
-        Some(Reason::Limit(LimitKind::Statements))
-    } else if !has_priority(priority) {
-        Some(Reason::Limit(LimitKind::Priority))
-    } else if crowd.unknown {
-        Some(Reason::UnknownName)
-    } else if crowd.ended {
-        Some(Reason::EndedName)
-    } else if codelets.kernel_named(codelet.bytes()).is_none() {
-        Some(Reason::UnknownCodelet)
-    } else if are_many(crowd.count, count) {
-        Some(Reason::OperandCount)
-    } else {
-        None
-    }
+    call_complaint(names, &codelet, crowd, count, priority, codelets)
 }

@@ -8,7 +8,7 @@ ghost use Rattle.sj_job.specs.declared.names.Names.{Names};
 ghost use Rattle.sj_job.specs.Form.{each_some};
 ghost use Rattle.sj_job.specs.Sentence.{index_said, priority_said};
 ghost use Rattle.sj_job.specs.Word.{integer};
-ghost use Rattle.sj_job.specs.Names.{HasStandings, IsEven, IsPlaceIn, any_collide, any_missing, any_over, collide, is_counted_for, is_shaped_for, is_wanting, is_unreduced, is_unlawful_for, are_mixed, kept_task, law_reasons, no_child, operand_by, plan_in, scope_in, standing_of, target_by, target_dims, target_in, target_reasons, target_under, targets_fit};
+ghost use Rattle.sj_job.specs.Names.{HasStandings, IsEven, IsInLine, IsPlaceIn, any_collide, any_missing, any_over, collide, is_counted_for, is_shaped_for, is_wanting, is_unreduced, is_unlawful_for, are_mixed, kept_task, law_reasons, no_child, operand_by, plan_in, scope_in, standing_of, target_by, target_dims, target_in, target_reasons, target_under, targets_fit};
 ghost use Rattle.sj_meaning.specs.State.{dims_with, plan_of_parts};
 ghost use Rattle.sj_meaning.specs.Table.{root_in, IsRoot};
 ghost use Rattle.sj_job.specs.Track.{IsSmallPlan};
@@ -646,7 +646,29 @@ fn judge_call<C: Codelets>(
     let Some(found) = targets_of(alloc, names, form.operands.items(), indexes)? else {
         return Err(Objection::Bad(Reason::UnknownName));
     };
-    let targets = found.items();
+    call_over(alloc, form, args, found.items(), codelets)
+}
+
+/// The codelet of a task line over these targets and its operands, or why it has none. Linear in the targets, but that the
+/// codelet is looked up in the table.
+fn call_over<C: Codelets>(
+    alloc: Global,
+    form: &TaskForm<'_>,
+    args: &[i64],
+    targets: &[Target],
+    codelets: &C,
+) -> Result<(Kernel, Few<Operand>), Objection>
+    requires args { args.now ≡ map integer form.now.args }
+    ensures ok { IfOk result (λ call. (names : Names) → IsInLine names form.now targets.now →
+        judged_task C.has (scope_in names) form.now ≡ Ok (Task (task_seen names.roots
+        (kept_task call.0 (map integer form.now.args) call.1 (priority_said form.now.priority))))) }
+    ensures roots { IfOk result (λ call. (names : Names) → IsInLine names form.now targets.now →
+        All (λ o. IsRoot names.roots o.root) call.1) }
+    ensures places { IfOk result (λ call. (names : Names) → IsInLine names form.now targets.now →
+        All (λ o. IsPlaceIn (plan_in (standing_of names o.root)) o.place) call.1) }
+    ensures err { IfErr result (λ e. (names : Names) → IsInLine names form.now targets.now →
+        Objects e (judged_task C.has (scope_in names) form.now)) }
+{
     if any_over(targets) {
         return Err(Objection::Bad(Reason::EndedName));
     }

@@ -1,13 +1,18 @@
 //! What a form does to the names, and what is kept of it.
 
-ghost use Rattle.std.specs.Prelude.{◌≡◌, ◌+◌, ◌*◌, ◌<◌, ◌^◌, ◌&&◌, Bool, false, IfOk, IfErr};
+ghost use Rattle.std.specs.Prelude.{◌≡◌, ◌+◌, ◌*◌, ◌<◌, ◌^◌, ◌&&◌, Bool, Ok, false, true, map, All, IfOk, IfErr};
+ghost use Rattle.std.specs.List.{list_all};
 ghost use Rattle.sj_codelet.specs.declared.kernel.Kernel.{Kernel};
 ghost use Rattle.std.specs.Bool.{IsFalse};
-ghost use Rattle.sj_job.specs.Judge.{is_outside};
-ghost use Rattle.sj_job.specs.Names.{HasStandings, scope_in};
+ghost use Rattle.sj_job.specs.Judge.{is_outside, judged_task};
+ghost use Rattle.sj_job.specs.Names.{HasStandings, IsPlaceIn, plan_in, scope_in, standing_of};
 ghost use Rattle.sj_job.specs.Reason.{Objects};
-ghost use Rattle.sj_job.specs.Sentence.{kind_of};
+ghost use Rattle.sj_job.specs.Sentence.{col_count, first_values, init_said, is_numbered_array, is_numbered_priority, is_numbered_task, kind_of, parts_said, priority_said, row_count};
+ghost use Rattle.sj_job.specs.Word.{integer, is_integer};
+ghost use Rattle.sj_meaning.specs.Act.{Task};
 ghost use Rattle.sj_meaning.specs.State.{plan_of_parts};
+ghost use Rattle.sj_meaning.specs.Table.{IsRoot};
+ghost use Rattle.sj_meaning.specs.View.{task_seen};
 ghost use Rattle.sj_job.specs.Submits.{act_of_form, Submits};
 
 use crate::form::{ArrayForm, Form, Piece, Size, TaskForm};
@@ -17,10 +22,11 @@ use crate::judge::{
 use crate::names::Names;
 use crate::number::{indexes_of, init_of, integers, pair_of, parts_of, priority_of, size_of};
 use crate::reason::{Objection, Reason};
+use sj_base::few::Few;
 use sj_base::mode::Reduction;
 use sj_base::tile::Dims;
 use sj_codelet::set::Codelets;
-use sj_meaning::job::{Act, Kind, RootInfo};
+use sj_meaning::job::{Act, Init, Kind, RootInfo, TaskLine};
 use sj_plan::parts::Parts;
 use std::alloc::Global;
 
@@ -49,22 +55,48 @@ fn submit_array(alloc: Global, names: &mut Names, array: &ArrayForm<'_>) -> Resu
     ensures err { IfErr result (λ e. (has : Kernel → Bool) →
         Objects e (act_of_form has (scope_in names.old) (Form.Register array.now))) }
 {
-    let Some((rows, cols)) = size_of(&array.size) else {
+    let Some(size) = size_of(&array.size) else {
         return Err(Objection::Bad(Reason::Number));
     };
     let Some(parts) = parts_of(&array.parts) else {
         return Err(Objection::Bad(Reason::Number));
     };
-    let Some(init) = init_of(alloc, &array.init, telling_count(rows, cols))? else {
+    let Some(init) = init_of(alloc, &array.init, telling_count(size.0, size.1))? else {
         return Err(Objection::Bad(Reason::Number));
     };
+    register_array(alloc, names, array, size, parts, init)
+}
+
+/// Registers a root of this size, of these parts and with these first elements, of which one too many tells of all. Linear in the
+/// name and in them.
+fn register_array(
+    alloc: Global,
+    names: &mut Names,
+    array: &ArrayForm<'_>,
+    size: (u64, u64),
+    parts: (u64, u64),
+    init: Init,
+) -> Result<Act, Objection>
+    requires counted { HasStandings names.old }
+    requires room { names.old.statements + 1 < 2 ^ 64 }
+    requires numbered { is_numbered_array array.now ≡ true }
+    requires rows { size.0 ≡ row_count array.now.size }
+    requires cols { size.1 ≡ col_count array.now.size }
+    requires parts { plan_of_parts parts.0 parts.1 ≡ parts_said array.now.parts }
+    requires init { IsFalse (is_outside size.0 size.1) →
+        init ≡ first_values (size.0 * size.1 + 1) (init_said array.now.init) }
+    ensures ok { IfOk result (λ a. (has : Kernel → Bool) →
+        Submits has names.old (Form.Register array.now) names.new a) }
+    ensures err { IfErr result (λ e. (has : Kernel → Bool) →
+        Objects e (act_of_form has (scope_in names.old) (Form.Register array.now))) }
+{
     let name = array.name.bytes();
-    if let Some(why) = register_complaint(names, name, (rows, cols), parts, &init) {
+    if let Some(why) = register_complaint(names, name, size, parts, &init) {
         return Err(Objection::Bad(why));
     }
     let dims = Dims {
-        rows: rows as u32,
-        cols: cols as u32,
+        rows: size.0 as u32,
+        cols: size.1 as u32,
     };
     let parts = narrowed(parts.0, parts.1);
     let kind = kind_of(&array.size);
@@ -142,26 +174,53 @@ fn submit_task<C: Codelets>(
     ensures err { IfErr result (λ e. Objects e
         (act_of_form C.has (scope_in names.old) (Form.Task task.now))) }
 {
-    let Some(args) = integers(alloc, &task.args)? else {
-        return Err(Objection::Bad(Reason::Number));
-    };
-    let Some(indexes) = indexes_of(alloc, task.operands.items())? else {
-        return Err(Objection::Bad(Reason::Number));
-    };
     let Some(priority) = priority_of(&task.priority) else {
         return Err(Objection::Bad(Reason::Number));
     };
-    let task = judge_task(
+    let Some(args) = integers(alloc, &task.args)? else {
+        return Err(Objection::Bad(Reason::Number));
+    };
+    let task = task_line_of(alloc, names, task, args, priority, codelets)?;
+    names.run(alloc, &task)?;
+    Ok(Act::Task(task))
+}
+
+/// The task of a form with these arguments and this priority, or why there is none. Linear in its words, but that the codelet is
+/// looked up in the table.
+fn task_line_of<C: Codelets>(
+    alloc: Global,
+    names: &Names,
+    form: &TaskForm<'_>,
+    args: Few<i64>,
+    priority: i64,
+    codelets: &C,
+) -> Result<TaskLine, Objection>
+    requires counted { HasStandings names.now }
+    requires integers { list_all is_integer form.now.args ≡ true }
+    requires number { is_numbered_priority form.now.priority ≡ true }
+    requires args { args ≡ map integer form.now.args }
+    requires priority { priority ≡ priority_said form.now.priority }
+    ensures numbered { IfOk result (λ _. is_numbered_task form.now ≡ true) }
+    ensures ok { IfOk result (λ t.
+        judged_task C.has (scope_in names.now) form.now ≡ Ok (Task (task_seen names.now.roots t))) }
+    ensures roots { IfOk result (λ t. All (λ o. IsRoot names.now.roots o.root) t.operands) }
+    ensures places { IfOk result (λ t.
+        All (λ o. IsPlaceIn (plan_in (standing_of names.now o.root)) o.place) t.operands) }
+    ensures err { IfErr result (λ e. Objects e
+        (act_of_form C.has (scope_in names.now) (Form.Task form.now))) }
+{
+    let Some(indexes) = indexes_of(alloc, form.operands.items())? else {
+        return Err(Objection::Bad(Reason::Number));
+    };
+    judge_task(
         alloc,
         names,
-        task,
+        form,
         args,
         indexes.items(),
         priority,
         codelets,
-    )?;
-    names.run(alloc, &task)?;
-    Ok(Act::Task(task))
+    )
 }
 
 /// Submits a print statement. Linear in the name, as are the next two.

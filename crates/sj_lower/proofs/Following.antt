@@ -20,7 +20,6 @@ use Rattle.sj_base.specs.declared.program.Lowered.{Lowered}
 use Rattle.sj_base.proofs.Numbers.{positive_product}
 use Rattle.sj_base.proofs.Texts.{same_text}
 use Rattle.sj_base.specs.Mode.{access}
-use Rattle.sj_codelet.specs.Kernel.{codelet_of}
 use Rattle.sj_plan.specs.declared.parts.Parts.{Parts}
 use Rattle.sj_plan.specs.Parts.{Fits, places}
 use Rattle.sj_plan.specs.Paste.{pastes_of}
@@ -28,7 +27,6 @@ use Rattle.sj_meaning.specs.declared.job.Act.{Act as Kept}
 use Rattle.sj_meaning.specs.declared.job.Act.TheVariants as kept
 use Rattle.sj_meaning.specs.declared.job.Init.{Init}
 use Rattle.sj_meaning.specs.declared.job.Operand.{Operand as KeptOperand}
-use Rattle.sj_meaning.specs.declared.job.TaskLine.{TaskLine as KeptTask}
 use Rattle.sj_meaning.specs.Statement.{Register}
 use Rattle.sj_meaning.specs.State.{RootState, JobState, root_of}
 use Rattle.sj_meaning.specs.Meaning.{apply, registered_root, with_parts, with_elements, with_reduction, no_values, plan, reduce, invalidate}
@@ -309,10 +307,6 @@ accesses_same T S C as' (o ∷ os) g placed there =
 pub seen-children : (T : Table) (S : JobState) (os : List KeptOperand) → list_all (has_child S) (each_of (operand_seen T) os) ≡ true → AllByRecursion (λ o. has_child S (operand_seen T o) ≡ true) os
 seen-children T S [] h = tt
 seen-children T S (o ∷ os) h = let both = and_parts (has_child S (operand_seen T o)) (list_all (has_child S) (each_of (operand_seen T) os)) h in (both.0, seen-children T S os both.1)
-
--- a task with these accesses
-abbrev pub lowered_task : KeptTask → Line → List Access → Lowered
-lowered_task t line accesses = record { codelet = codelet_of t.kernel; args = t.args; accesses = accesses; line = line; priority = t.priority }
 
 -- ---- prints
 

@@ -29,8 +29,8 @@ use Rattle.sj_lower.specs.declared.lowerer.Lowerer.{Lowerer}
 use Rattle.sj_lower.specs.Cells.{Cells}
 use Rattle.sj_lower.specs.Limits.{most}
 use Rattle.sj_lower.specs.Lowering.{Lowering}
-use Rattle.sj_lower.specs.Seen.{active_at, AreActive, CanPass, Does, AreIn, access_by, actives_after_writes}
-use Rattle.sj_lower.proofs.Following.{PassesTo, can-pass, changed-actives, accesses_same, lowered_task, same_phases, seen-children}
+use Rattle.sj_lower.specs.Seen.{active_at, AreActive, CanPass, Does, AreIn, access_by, actives_after_writes, lowered_task}
+use Rattle.sj_lower.proofs.Following.{PassesTo, can-pass, changed-actives, accesses_same, same_phases, seen-children}
 use Rattle.sj_meaning.proofs.Finding.{root-change}
 use Rattle.sj_lower.proofs.Running.{child_there}
 

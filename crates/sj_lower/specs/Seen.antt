@@ -6,6 +6,7 @@ use Rattle.sj_base.specs.declared.ids.Cell.{Cell}
 use Rattle.sj_base.specs.declared.ids.Line.{Line}
 use Rattle.sj_base.specs.declared.mode.Access.{Access}
 use Rattle.sj_codelet.specs.declared.kernel.Kernel.{Kernel}
+use Rattle.sj_codelet.specs.Kernel.{codelet_of}
 use Rattle.sj_plan.specs.declared.parts.Parts.{Parts}
 use Rattle.sj_plan.specs.Parts.{Fits, IsPlace}
 use Rattle.sj_plan.specs.Paste.{pastes_of}
@@ -15,6 +16,7 @@ use Rattle.sj_base.specs.Mode.{access, is_written}
 use Rattle.sj_meaning.specs.declared.job.Act.{Act as Kept}
 use Rattle.sj_meaning.specs.declared.job.Act.TheVariants as kept
 use Rattle.sj_meaning.specs.declared.job.Operand.{Operand}
+use Rattle.sj_meaning.specs.declared.job.TaskLine.{TaskLine}
 use Rattle.sj_meaning.specs.Act.{Act}
 use Rattle.sj_meaning.specs.Act.{Register as Registers, Plan as Plans, Redux as Reduces, Task as Tasks, Print as Prints, Invalidate as Invalidates, Unregister as Unregisters}
 use Rattle.sj_meaning.specs.State.{RootState, JobState, root_of}
@@ -174,6 +176,16 @@ abbrev pub access_by : List Active → Operand → Access
 access_by actives o =
     let a = active_at actives o.root.0 in
     access o.mode (cells_from a.first a.tracked.parts o.place)
+
+-- a task line with these accesses
+abbrev pub lowered_task : TaskLine → Line → List Access → Lowered
+lowered_task t line accesses = record {
+  codelet = codelet_of t.kernel;
+  args = t.args;
+  accesses = accesses;
+  line = line;
+  priority = t.priority;
+}
 
 -- the active plans after an operand is written, if it is
 abbrev pub actives_after_write : List Active → Operand → List Active

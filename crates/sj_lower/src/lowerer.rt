@@ -15,7 +15,7 @@ ghost use Rattle.sj_plan.specs.Parts.{Fits};
 ghost use Rattle.sj_lower.specs.Cells.{Cells, cells_from, same_parts};
 ghost use Rattle.sj_lower.specs.Limits.{most};
 ghost use Rattle.sj_lower.specs.Lowering.{Lowering, nothing, load_rows, rows_added};
-ghost use Rattle.sj_lower.specs.Seen.{Follows, HasNext, MayComeNext, HasPass, Passes, Does, HasRoomFor, AreIn, access_by, actives_after_writes, pasted_by};
+ghost use Rattle.sj_lower.specs.Seen.{Follows, HasNext, MayComeNext, HasPass, Passes, Does, HasRoomFor, AreIn, access_by, actives_after_writes, lowered_task, pasted_by};
 
 use crate::phase::OpenPhase;
 use crate::rows::{Placed, push_deliveries, push_delivers, push_fills, push_loads, push_pastes};
@@ -141,6 +141,19 @@ fn accesses(
         })?;
     }
     Ok(accesses)
+}
+
+/// A task line with these accesses in place of its operands. Constant time.
+fn lowered_task(task: TaskLine, line: Line, accesses: Few<Access>) -> Lowered
+    ensures { result ≡ lowered_task task line accesses }
+{
+    Lowered {
+        codelet: task.kernel.id(),
+        args: task.args,
+        accesses,
+        line,
+        priority: task.priority,
+    }
 }
 
 /// The children that a task writes have a value from now on. Linear in its operands.
@@ -288,13 +301,7 @@ impl Lowerer {
         let operands = task.operands.items();
         let accesses = accesses(alloc, &self.actives, operands)?;
         write_all(&mut self.actives, alloc, operands)?;
-        self.tasks.push(Lowered {
-            codelet: task.kernel.id(),
-            args: task.args,
-            accesses,
-            line,
-            priority: task.priority,
-        })?;
+        self.tasks.push(lowered_task(task, line, accesses))?;
         Ok(())
     }
 

@@ -1,6 +1,6 @@
 -- What is answered to a claim: its plan, or why it can't be made.
 use Rattle.std.proofs.Common.{◌≡◌, ℕ, ◌<◌, ◌≤◌, true, List, Option, Some, None, length, get_or, option_map, sym, ap, ◌∙◌, subst, arith}
-use Rattle.std.specs.Prelude.{All, Result}
+use Rattle.std.specs.Prelude.{All, Err, IfErr, Ok, OnOk, Result}
 use Rattle.std.specs.Option.{ok_or}
 use Rattle.std.proofs.lemmas.List.{get_or_default}
 use Rattle.std.proofs.lemmas.List.Elements.{All-weaker}
@@ -12,10 +12,11 @@ use Rattle.sj_node.specs.Store.{Store}
 use Rattle.sj_machine.specs.Agrees.{IsWide, Rows, store_of}
 use Rattle.sj_machine.specs.Gone.{KnownGone}
 use Rattle.sj_machine.specs.Operands.{first_held}
-use Rattle.sj_machine.specs.Plan.{ClaimPlan}
-use Rattle.sj_machine.specs.Planning.{CommutersAreFree, HasSmallWork, IsAnswer, IsWhy, MayClaim, NoneLeavesFor, chosen_on, commuter_in_use, is_leaving_at, planned}
+use Rattle.sj_base.specs.declared.trace.Event.TheVariants.{Claim}
+use Rattle.sj_machine.specs.Plan.{ClaimPlan, IsPlan}
+use Rattle.sj_machine.specs.Planning.{CommutersAreFree, HasSmallWork, IsAnswer, IsWhy, MayClaim, NoneLeavesFor, answered, chosen_on, commuter_in_use, is_leaving_at, planned}
 use Rattle.sj_machine.specs.Sound.{Keeps}
-use Rattle.sj_machine.specs.Standing.{Standing, state}
+use Rattle.sj_machine.specs.Standing.{CanHappen, Standing, state}
 use Rattle.sj_machine.specs.declared.plan.Why.{Why}
 use Rattle.sj_machine.specs.declared.plan.Why.TheVariants.{Commute, Leaving, NoRoom}
 use Rattle.sj_machine.proofs.Commuting.{first-is}
@@ -25,8 +26,19 @@ use Rattle.sj_machine.proofs.ClaimFinding.{leaves-same, plan-right, plan-wrong}
 use Rattle.sj_machine.proofs.Keeping.{sound_state}
 use Rattle.sj_machine.proofs.KnownVictims.{none-leaves}
 
-pub answer-told : {D : Type 0} (b b' : Standing D) (t : Task) (w : Worker) (r r' : Result ClaimPlan Why) → b ≡ b' → r' ≡ r → IsAnswer b t w r → IsAnswer b' t w r'
-answer-told b b' t w r r' same is answer = subst (λ (x : Standing _). IsAnswer x t w r') same (subst (λ (x : Result ClaimPlan Why). IsAnswer b t w x) (sym is) answer)
+-- what it says where there is a plan, and where there is none
+module _ {D A : Type 0} (b : Standing D) (t : Task) (w : Worker) where
+  pub can-told : (found : Result A Why) (plan : ClaimPlan) → IsAnswer b t w (answered found plan) → OnOk found (CanHappen b (Claim t w))
+  can-told (Ok x) plan answer = answer.can
+  can-told (Err why) plan answer = tt
+
+  pub plan-told : (found : Result A Why) (plan : ClaimPlan) → IsAnswer b t w (answered found plan) → OnOk found (IsPlan b.program b.machine (state b) t w plan)
+  plan-told (Ok x) plan answer = answer.plan
+  plan-told (Err why) plan answer = tt
+
+  pub why-told : (found : Result A Why) (plan : ClaimPlan) → IsAnswer b t w (answered found plan) → IfErr found (IsWhy b.program b.machine (state b) t w)
+  why-told (Ok x) plan answer = tt
+  why-told (Err why) plan answer = answer.why
 
 module _ {D : Type 0} (size faults mismatches : D → ℕ) (held : D → Option (List ℕ)) (b : Standing D) (rows : Rows) (spare : ℕ) (keeps : Keeps size faults mismatches held b rows spare) (t : Task) (w : Worker) (may : MayClaim b.program b.machine (state b) t w) (k : Node) (at : k ≡ node_of b.machine w) where
   abbrev p : Program

@@ -189,6 +189,6 @@ module _ {D : Type 0} (size faults mismatches : D → ℕ) (held : D → Option 
   pub refusal-waits : (why : Why) → IsWhy run.program run.machine (state run) t w why → AnotherHasTask (state run) w
   refusal-waits = waits-for run.program run.machine (state run) (record { proper = sound.run.proper; machine = sound.run.machine; coherent = sound.coherent }) sound.run.has sound.run.lawful t w may
 
-  pub found-waits : (found : Result ClaimPlan Why) → IfErr found (IsWhy run.program run.machine (state run) t w) → OnErr found (AnotherHasTask (state run) w)
+  pub found-waits : {A : Type 0} (found : Result A Why) → IfErr found (IsWhy run.program run.machine (state run) t w) → OnErr found (AnotherHasTask (state run) w)
   found-waits (Ok plan) is = tt
   found-waits (Err why) is = refusal-waits why is

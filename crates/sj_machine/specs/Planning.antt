@@ -1,5 +1,5 @@
 -- Planning a claim: what it needs beside room on its node, what it finds there, and why it can't be made.
-use Rattle.std.specs.Prelude.{◌≡◌, ◌≢◌, ◌≤◌, ◌<◌, ◌+◌, ◌-◌, ℕ, Bool, false, not, Option, Some, None, IfErr, IfOk, IsTrue, OnOk, Result, All, List, find, filter, map, length, option_map, reverse, slice_index_or, sum_by, take}
+use Rattle.std.specs.Prelude.{◌≡◌, ◌≢◌, ◌≤◌, ◌<◌, ◌+◌, ◌-◌, ℕ, Bool, true, false, not, Option, Some, None, IfErr, IfOk, IsTrue, OnOk, Result, Ok, Err, All, List, find, filter, map, length, option_map, reverse, slice_index_or, sum_by, take}
 use Rattle.sj_base.specs.declared.ids.Cell.{Cell}
 use Rattle.sj_base.specs.declared.ids.Node.{Node}
 use Rattle.sj_base.specs.declared.ids.Task.{Task}
@@ -86,6 +86,16 @@ abbrev pub IsWhy : Program → Machine → State → Task → Worker → Why →
 IsWhy p m s t w (Commute c) = commuter_in_use p s t ≡ Some c
 IsWhy p m s t w (Leaving c) = CommutersAreFree p s t × IsTrue (is_leaving (replica s c (AtNode (node_of m w))))
 IsWhy p m s t w NoRoom = CommutersAreFree p s t × IsTrue (none_leaving s (node_of m w)) × (victims_for p m s t w ≡ None)
+
+-- the plan where there is room for it
+abbrev pub plan_where : Bool → ClaimPlan → Option ClaimPlan
+plan_where true plan = Some plan
+plan_where false plan = None
+
+-- what is answered to a claim, with the plan where there is no reason against it
+abbrev pub answered : {A : Type 0} → Result A Why → ClaimPlan → Result ClaimPlan Why
+answered (Ok _) plan = Ok plan
+answered (Err why) plan = Err why
 
 -- the answer to a claim: where it is a plan, the claim can happen and the plan is its; else the reason stands
 pub record IsAnswer {D : Type 0} (b : Standing D) (t : Task) (w : Worker) (answer : Result ClaimPlan Why) : Type 0 where

@@ -62,10 +62,10 @@ pub fn hold_all(nodes: &mut Vec<NodeStore>, n: Node, plan: &Plan) -> Result<(), 
     Ok(())
 }
 
-/// A worker has a plan in hand. Linear in the victims that it had.
-pub fn take_plan(workers: &mut Vec<Hold>, w: Worker, plan: Plan)
+/// A worker has a plan in hand. Constant time.
+pub fn take_plan(workers: &mut Vec<Hold>, w: Worker, plan: &mut Plan)
     requires { w.0 < length workers.old.items }
-    ensures { workers.new.items ≡ slice_set workers.old.items w.0 (row_with (row_at workers.old.items w) plan) }
+    ensures { workers.new.items ≡ slice_set workers.old.items w.0 (row_with (row_at workers.old.items w) plan.old) }
 {
     let row = &mut workers[w.0 as usize];
     row.take(plan);

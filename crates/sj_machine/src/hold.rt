@@ -77,14 +77,12 @@ impl Hold {
         self.transfer = transfer;
     }
 
-    /// Has a claim's plan in hand. Linear in the victims that it had.
-    pub fn take(&mut self, plan: Plan)
-        ensures { self.new ≡ row_with self.old plan }
+    /// Has a claim's plan in hand. Constant time.
+    pub fn take(&mut self, plan: &mut Plan)
+        ensures { self.new ≡ row_with self.old plan.old }
     {
         self.scratch = plan.scratch();
-        let (cells, victims) = plan.into_lists();
-        self.pins = cells;
-        self.victims = victims;
+        plan.swap_lists(&mut self.pins, &mut self.victims);
     }
 
     /// Lets its pins and its scratch go. Constant time.

@@ -1,12 +1,12 @@
 //! Plans of claims.
 
-ghost use Rattle.std.specs.Prelude.{◌≡◌, ◌<◌, ◌≤◌, ◌*◌, ◌^◌, All, IfOk, length, option_map, reverse};
+ghost use Rattle.std.specs.Prelude.{◌≡◌, ◌<◌, ◌≤◌, ◌*◌, ◌^◌, [], All, IfOk, length, option_map, reverse};
 ghost use Rattle.sj_core.specs.Needs.{scratch_bytes};
 ghost use Rattle.sj_core.specs.Operands.{cells_of};
 ghost use Rattle.sj_core.specs.Program.{task_of};
 ghost use Rattle.sj_node.specs.Store.{need_victims};
 ghost use Rattle.sj_machine.specs.Agrees.{AreMarked};
-ghost use Rattle.sj_machine.specs.Planning.{HasSmallTask, HasSmallWork, chosen_on, lacking, planned};
+ghost use Rattle.sj_machine.specs.Planning.{HasSmallTask, HasSmallWork, chosen_on, lacking, plan_where, planned};
 
 use crate::copies::Copies;
 use crate::few_bytes::FewBytes;
@@ -20,6 +20,7 @@ use sj_core::tasks::accesses_of;
 use sj_node::store::NodeStore;
 use std::alloc::Global;
 use std::marker::Model;
+use std::mem;
 
 /// Why a claim can't be made now.
 #[derive(Clone, Copy, Debug, PartialEq, Eq)]
@@ -33,7 +34,8 @@ pub enum Why {
 }
 
 /// What a claim is to do: the cells of its task in operand order, those of them that it brings to the worker's node, with
-/// their bytes, the bytes of the task's scratch, and the victims, the most recently used first.
+/// their bytes, the bytes of the task's scratch, and the victims, the most recently used first. It is made in place, since it is
+/// too large to be moved about in a turn.
 #[derive(Drop)]
 pub struct Plan {
     cells: FewCells,
@@ -133,17 +135,32 @@ impl Plan {
         &self.victims
     }
 
-    /// The cells of the task, and the victims. Constant time.
-    pub fn into_lists(self) -> (FewCells, Vec<Cell>)
-        ensures cells { result.0 ≡ self.cells }
-        ensures victims { result.1.items ≡ self.victims }
+    /// A plan without cells. Takes no memory. Constant time.
+    pub fn empty(alloc: Global) -> Plan
+        ensures { result ≡ record { cells = []; missing = []; bytes = []; scratch = 0; victims = [] } }
     {
-        (self.cells, self.victims)
+        Plan {
+            cells: FewCells::none(),
+            missing: FewCells::none(),
+            bytes: FewBytes::none(),
+            scratch: 0,
+            victims: Vec::new(alloc),
+        }
     }
 
-    /// The plan of a worker's task on its node, where there is room for it. What is missing there is told by the cells' rows. Linear
-    /// in the operands, the victims and the entries that are passed, each by the operands.
-    pub fn on(
+    /// Gives the cells of the task and the victims, for other lists. Constant time.
+    pub fn swap_lists(&mut self, cells: &mut FewCells, victims: &mut Vec<Cell>)
+        ensures cells { cells.new ≡ self.old.cells }
+        ensures victims { victims.new.items ≡ self.old.victims }
+    {
+        mem::swap(&mut self.cells, cells);
+        mem::swap(&mut self.victims, victims);
+    }
+
+    /// Becomes the plan of a worker's task on its node, where there is room for it; whether there is. What is missing there is told
+    /// by the cells' rows. Linear in the operands, the victims and the entries that are passed, each by the operands.
+    pub fn fill(
+        &mut self,
         alloc: Global,
         program: &Program,
         rows: &[Copies],
@@ -151,26 +168,21 @@ impl Plan {
         n: Node,
         t: Task,
         w: Worker,
-    ) -> Result<Option<Plan>, OutOfMemory>
+    ) -> Result<bool, OutOfMemory>
         requires work { HasSmallWork program.now t w }
         requires wide { All (λ row. n.0 < length row.marks) rows.now }
         requires marked { AreMarked rows.now n node.now.entries }
-        ensures { IfOk result (λ plan. plan ≡ option_map (planned program.now node.now t w) (chosen_on program.now node.now t w)) }
+        ensures { IfOk result (λ there. plan_where there self.new ≡ option_map (planned program.now node.now t w) (chosen_on program.now node.now t w)) }
     {
-        let cells = cells_for(program, t, w);
-        let missing = lacking_on(rows, node, n, cells.items());
-        let bytes = bytes_of(program, missing.items());
-        let scratch = scratch_for(program, t);
-        let need = total(bytes.items()) + scratch;
-        let Some(victims) = recent_victims(alloc, node, cells.items(), need)? else {
-            return Ok(None);
+        self.cells = cells_for(program, t, w);
+        self.missing = lacking_on(rows, node, n, self.cells.items());
+        self.bytes = bytes_of(program, self.missing.items());
+        self.scratch = scratch_for(program, t);
+        let need = total(self.bytes.items()) + self.scratch;
+        let Some(victims) = recent_victims(alloc, node, self.cells.items(), need)? else {
+            return Ok(false);
         };
-        Ok(Some(Plan {
-            cells,
-            missing,
-            bytes,
-            scratch,
-            victims,
-        }))
+        self.victims = victims;
+        Ok(true)
     }
 }

@@ -17,7 +17,7 @@ ghost use Rattle.sj_machine.specs.Plan.{IsPlan};
 ghost use Rattle.sj_machine.specs.Delivery.{IsGift};
 ghost use Rattle.sj_machine.specs.Running.{AreResultsFor, AreSharesFor};
 ghost use Rattle.sj_machine.specs.Sound.{CanStart, FetchesMoved, IsSoundRun, IsWrittenOut, OnlyDisksChange, StoresMoved};
-ghost use Rattle.sj_machine.specs.Planning.{AnotherHasTask, IsAnswer, IsWhy, MayClaim};
+ghost use Rattle.sj_machine.specs.Planning.{AnotherHasTask, IsAnswer, IsWhy, MayClaim, answered};
 ghost use Rattle.sj_machine.specs.Sparing.{EventsSpareUsed};
 ghost use Rattle.sj_machine.specs.Standing.{CanHappen, HasDimsMoved, HasMoved, IsFetching, IsMovingIn, IsMovingOut, IsShareOf, IsTileMoved, is_node, starting, state, with_event};
 ghost use Rattle.sj_machine.specs.Tiles.{array_in};
@@ -307,41 +307,47 @@ impl<D: Disk> RunState<D> {
         ensures why { IfOk result (λ found. IfErr found (IsWhy self.now.program self.now.machine (state self.now) t w)) }
         ensures another { IfOk result (λ found. OnErr found (AnotherHasTask (state self.now) w)) }
     {
-        self.claim_plan_knowing(alloc, t, w, &[])
+        let mut plan = Plan::empty(alloc);
+        match self.plan_claim(alloc, t, w, &[], &mut plan)? {
+            Ok(()) => Ok(Ok(plan)),
+            Err(why) => Ok(Err(why)),
+        }
     }
 
-    /// The same, where so many of each worker's victims, those that go first, are known to be gone. Linear in the operands, the
-    /// victims, the entries that are passed, the workers and the others of their victims, and in the workers for each commuting
-    /// operand.
-    pub fn claim_plan_knowing(
+    /// The same, in a plan that is there, where so many of each worker's victims, those that go first, are known to be gone. Linear
+    /// in the operands, the victims, the entries that are passed, the workers and the others of their victims, and in the workers
+    /// for each commuting operand.
+    pub fn plan_claim(
         &self,
         alloc: Global,
         t: Task,
         w: Worker,
         gone: &[usize],
-    ) -> Result<Result<Plan, Why>, OutOfMemory>
+        plan: &mut Plan,
+    ) -> Result<Result<(), Why>, OutOfMemory>
         requires may { MayClaim self.now.program self.now.machine (state self.now) t w }
         requires gone { KnownGone self.now.machine (state self.now) gone.now }
         ensures can { IfOk result (λ found. OnOk found (CanHappen self.now (Event.Claim t w))) }
-        ensures plan { IfOk result (λ found. IfOk found (IsPlan self.now.program self.now.machine (state self.now) t w)) }
+        ensures plan { IfOk result (λ found. OnOk found (IsPlan self.now.program self.now.machine (state self.now) t w plan.new)) }
         ensures why { IfOk result (λ found. IfErr found (IsWhy self.now.program self.now.machine (state self.now) t w)) }
         ensures another { IfOk result (λ found. OnErr found (AnotherHasTask (state self.now) w)) }
     {
         self.is_sound();
-        self.answer_to_claim(alloc, t, w, gone)
+        self.answer_to_claim(alloc, t, w, gone, plan)
     }
 
-    /// What `claim_plan_knowing` answers, at its cost.
+    /// What `plan_claim` answers, at its cost.
     fn answer_to_claim(
         &self,
         alloc: Global,
         t: Task,
         w: Worker,
         gone: &[usize],
-    ) -> Result<Result<Plan, Why>, OutOfMemory>
+        plan: &mut Plan,
+    ) -> Result<Result<(), Why>, OutOfMemory>
         requires may { MayClaim self.now.program self.now.machine (state self.now) t w }
         requires gone { KnownGone self.now.machine (state self.now) gone.now }
-        ensures { IfOk result (IsAnswer self.now t w) }
+        ensures { IfOk result (λ found. IsAnswer self.now t w (answered found plan.new)) }
     {
         let accesses = task_at(&self.program, t).accesses.items();
         if let Some(cell) = commuter_held(&self.workers, accesses) {
@@ -352,21 +358,25 @@ impl<D: Disk> RunState<D> {
             return Ok(Err(Why::Leaving(cell)));
         }
         let node = &self.nodes[n.0 as usize];
-        let found = Plan::on(alloc, &self.program, &self.cells, node, n, t, w)?;
-        Ok(found.ok_or(Why::NoRoom))
+        let there = plan.fill(alloc, &self.program, &self.cells, node, n, t, w)?;
+        if there {
+            Ok(Ok(()))
+        } else {
+            Ok(Err(Why::NoRoom))
+        }
     }
 
     /// A worker takes a ready task by its plan: it pins the task's cells on its node and brings them to the front, the
     /// plan's victims leave, and the cells that were missing come. After an `Err` the run is as before: there was no memory
     /// for the entries of these cells. Linear in the operands and the victims.
-    pub fn claim(&mut self, t: Task, w: Worker, plan: Plan) -> Result<(), OutOfMemory>
+    pub fn claim(&mut self, t: Task, w: Worker, plan: &mut Plan) -> Result<(), OutOfMemory>
         requires can { CanHappen self.old (Event.Claim t w) }
-        requires plan { IsPlan self.old.program self.old.machine (state self.old) t w plan }
+        requires plan { IsPlan self.old.program self.old.machine (state self.old) t w plan.old }
         ensures ok { OnOk result (self.new ≡ with_event self.old (Event.Claim t w)) }
         ensures err { OnErr result (self.new ≡ self.old) }
     {
         let n = node_of(&self.machine, w);
-        hold_all(&mut self.nodes, n, &plan)?;
+        hold_all(&mut self.nodes, n, plan)?;
         mark_all(&mut self.cells, plan.victims(), n, Mark::Leaving(w));
         mark_all(&mut self.cells, plan.missing(), n, Mark::Coming(w));
         self.tasks[t.0 as usize] = Progress::Claimed(w);

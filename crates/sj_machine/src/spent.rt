@@ -1,13 +1,17 @@
 //! Tiles that went out of the board in a turn, and are freed after it.
 
-use sj_base::tile::Tile;
+ghost use Rattle.std.specs.Prelude.{◌≡◌, IfSome, length};
+ghost use Rattle.sj_base.specs.Array.{area};
+
+use sj_base::tile::{Dims, Tile};
 use std::alloc::Global;
 use std::sync::Arc;
 
 /// How many tiles are kept until they are freed.
 const MOST_SPENT: usize = 16;
 
-/// Shares of tiles that the board let go. No clause speaks of them: they are kept so that no large tile is freed in a turn.
+/// Shares of tiles that the board let go. No clause speaks of them: they are kept so that no large tile is freed in a turn, and that
+/// a tile that comes may be fetched into one of them.
 #[derive(Drop)]
 pub struct Spent {
     tiles: Vec<Arc<Tile>>,
@@ -36,6 +40,22 @@ impl Spent {
                 let _ = self.tiles.push(tile);
             }
         }
+    }
+
+    /// A tile of these dimensions, with any elements, of which nobody else has a share; none where none is kept. Those that are
+    /// passed are freed. Linear in the shares, and no memory.
+    pub fn take_tile(&mut self, dims: Dims) -> Option<Tile>
+        ensures dims { IfSome result (λ t. t.dims ≡ dims) }
+        ensures whole { IfSome result (λ t. length t.elements ≡ area dims) }
+    {
+        while let Some(share) = self.tiles.pop() {
+            if let Ok(tile) = Arc::try_unwrap(share) {
+                if tile.dims() == dims {
+                    return Some(tile);
+                }
+            }
+        }
+        None
     }
 
     /// Frees what is kept; the room stays. Linear in the shares.

@@ -62,9 +62,12 @@ pub struct BoundedSink<'a, R, K> {
     faults: u64,
 }
 
-impl<'a, R: Files + Alloc, K> BoundedSink<'a, R, K> {
+impl<'a, R: Files + Alloc, K: Sink> BoundedSink<'a, R, K> {
     /// Writes to this sink, which is a stream of the process, as many bytes as there is room for, or as many as come.
-    pub fn over(rt: &'a R, stream: u8, inner: K) -> BoundedSink<'a, R, K> {
+    pub fn over(rt: &'a R, stream: u8, inner: K) -> BoundedSink<'a, R, K>
+        ensures tells_nothing { ⟦<BoundedSink<'a, R, K> as Sink>⟧.taken result ≡ None }
+        ensures has_no_fault { ⟦<BoundedSink<'a, R, K> as Sink>⟧.faults result ≡ 0 }
+    {
         BoundedSink {
             rt,
             stream,

@@ -109,7 +109,7 @@ impl CellReplicas {
         requires { IsOwnPlace self.now to }
         ensures { result ≡ source_for self.now to }
     {
-        for n in 0..NODES as u8 {
+        for n in 0..REPLICA_NODES as u8 {
             let place = Place::Node(Node(n));
             if self.is_other(to, place) {
                 return Some(place);

@@ -100,14 +100,7 @@ fn run_ready<C: Codelets, G: Gate, D: Disk + Send, R: Threads + Wait + Sync>(
         result.trace.events disks.items result.disks.items }
 {
     finishes();
-    let ReadyJob {
-        program,
-        roots,
-        machine,
-        shows_summary,
-        shows_trace,
-    } = ready;
-    let Ok(shared) = shared(&program) else {
+    let Ok(shared) = shared(&ready.program) else {
         return nothing_run(alloc, Stop::OutOfMemory, disks);
     };
     let RunOutcome {
@@ -115,7 +108,7 @@ fn run_ready<C: Codelets, G: Gate, D: Disk + Send, R: Threads + Wait + Sync>(
         delivered,
         trace,
         disks,
-    } = run(rt, alloc, shared, machine, disks, codelets, gate);
+    } = run(rt, alloc, shared, ready.machine, disks, codelets, gate);
     if let Err(fault) = result {
         return Run {
             text: Err(Stop::Broken(fault)),
@@ -125,12 +118,12 @@ fn run_ready<C: Codelets, G: Gate, D: Disk + Send, R: Threads + Wait + Sync>(
     }
     match shown(
         alloc,
-        &roots,
-        &program,
+        &ready.roots,
+        &ready.program,
         &delivered,
         &trace,
-        shows_summary,
-        shows_trace,
+        ready.shows_summary,
+        ready.shows_trace,
     ) {
         Ok(text) => Run {
             text: Ok(text),

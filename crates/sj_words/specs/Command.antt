@@ -17,11 +17,23 @@ flag_rule name = record (new_rule name) { long = Some name; action = Some SetTru
 abbrev pub bare_app : App
 bare_app = on_top (λ s. record s { no_binary_name = true; disable_help_flag = true; disable_version_flag = true }) (new_app (codes "starjob"))
 
+-- with the options of the machine
+abbrev pub with_machine : App → App
+with_machine a = with_rule (with_rule (with_rule (with_rule (with_rule (with_rule
+    a (option_rule (codes "workers"))) (option_rule (codes "sched"))) (option_rule (codes "node"))) (option_rule (codes "nodes")))
+    (option_rule (codes "swap"))) (option_rule (codes "swap-size"))
+
+-- with the options of a job that is generated
+abbrev pub with_application : App → App
+with_application a = with_rule (with_rule (with_rule (with_rule
+    a (option_rule (codes "app"))) (option_rule (codes "n"))) (option_rule (codes "tile"))) (option_rule (codes "seed"))
+
+-- with the flags that say what is printed
+abbrev pub with_prints : App → App
+with_prints a = with_rule (with_rule a (flag_rule (codes "trace"))) (flag_rule (codes "summary"))
+
 abbrev pub the_app : App
-the_app = with_rule (with_rule (with_rule (with_rule (with_rule (with_rule (with_rule (with_rule (with_rule (with_rule (with_rule (with_rule
-    bare_app (option_rule (codes "workers"))) (option_rule (codes "sched"))) (option_rule (codes "node"))) (option_rule (codes "nodes")))
-    (option_rule (codes "swap"))) (option_rule (codes "swap-size"))) (option_rule (codes "app"))) (option_rule (codes "n")))
-    (option_rule (codes "tile"))) (option_rule (codes "seed"))) (flag_rule (codes "trace"))) (flag_rule (codes "summary"))
+the_app = with_prints (with_application (with_machine bare_app))
 
 -- what was found holds the value of each option that is given, and whether each flag stands
 pub record HoldsGiven (found : Found) (ps : List (Text × Text)) : Type 0 where

@@ -3,7 +3,7 @@
 ghost use Rattle.std.specs.Prelude.{◌≡◌, ℕ, List, IfOk, Some, true, false};
 ghost use Rattle.clap.specs.Words.{app_of, found_of, rule_of, with_rule};
 ghost use Rattle.sj_words.specs.Spelling.{AreSpelled, names_said, texts};
-ghost use Rattle.sj_words.specs.Command.{HoldsGiven, flag_rule, option_rule, bare_app, the_app};
+ghost use Rattle.sj_words.specs.Command.{HoldsGiven, flag_rule, option_rule, bare_app, with_machine, with_application, with_prints, the_app};
 
 use clap::error::ErrorKind;
 use clap::{Arg, ArgAction, ArgMatches, Command};
@@ -84,21 +84,43 @@ fn with_flag<'a>(
     command.arg(flag(alloc, name))
 }
 
-// The command.
-fn command<'a>(alloc: Global) -> Result<Command<'a>, AllocError>
-    ensures { IfOk result (λ c. app_of c ≡ the_app) }
+// The options of the machine.
+fn with_machine<'a>(alloc: Global, command: Command<'a>) -> Result<Command<'a>, AllocError>
+    ensures { IfOk result (λ c. app_of c ≡ with_machine (app_of command.entry)) }
 {
-    let command = with_option(alloc, bare_command(alloc), WORKERS)?;
+    let command = with_option(alloc, command, WORKERS)?;
     let command = with_option(alloc, command, SCHED)?;
     let command = with_option(alloc, command, NODE)?;
     let command = with_option(alloc, command, NODES)?;
     let command = with_option(alloc, command, SWAP)?;
-    let command = with_option(alloc, command, SWAP_SIZE)?;
+    with_option(alloc, command, SWAP_SIZE)
+}
+
+// The options of a job that is generated.
+fn with_application<'a>(alloc: Global, command: Command<'a>) -> Result<Command<'a>, AllocError>
+    ensures { IfOk result (λ c. app_of c ≡ with_application (app_of command.entry)) }
+{
     let command = with_option(alloc, command, APP)?;
     let command = with_option(alloc, command, N)?;
     let command = with_option(alloc, command, TILE)?;
-    let command = with_option(alloc, command, SEED)?;
-    with_flag(alloc, with_flag(alloc, command, TRACE)?, SUMMARY)
+    with_option(alloc, command, SEED)
+}
+
+// The flags that say what is printed.
+fn with_prints<'a>(alloc: Global, command: Command<'a>) -> Result<Command<'a>, AllocError>
+    ensures { IfOk result (λ c. app_of c ≡ with_prints (app_of command.entry)) }
+{
+    let command = with_flag(alloc, command, TRACE)?;
+    with_flag(alloc, command, SUMMARY)
+}
+
+// The command.
+fn command<'a>(alloc: Global) -> Result<Command<'a>, AllocError>
+    ensures { IfOk result (λ c. app_of c ≡ the_app) }
+{
+    let command = with_machine(alloc, bare_command(alloc))?;
+    let command = with_application(alloc, command)?;
+    with_prints(alloc, command)
 }
 
 /// What the words give, as `clap` matches it. It refuses no words that are spelled right, so the

@@ -2,7 +2,6 @@ use Rattle.std.proofs.Common.{refl, ℕ, List, ◌≡◌, ◌∙◌, None, ap, s
 use Rattle.std.specs.Prelude.{IfErr, OnErr, OnOk, Result}
 use Rattle.sj_base.specs.declared.trace.Event.TheVariants.{Claim}
 use Rattle.sj_machine.specs.Gone.{KnownGone}
-use Rattle.sj_machine.specs.Plan.{ClaimPlan}
 use Rattle.sj_machine.specs.Planning.{AnotherHasTask, IsWhy}
 use Rattle.sj_machine.specs.Standing.{CanHappen, state}
 use Rattle.sj_machine.specs.declared.plan.Why.{Why}
@@ -14,11 +13,11 @@ use Rattle.sj_board.proofs.StillGone.{knows-claimed}
 use Rattle.sj_board.proofs.UnitHands.{units-event, units-set}
 use Rattle.sj_board.proofs.board.Board.claim.Goals as goal
 
-pub claim_plan_knowing-requires-clause-gone : goal.claim_plan_knowing-requires-clause-gone
-claim_plan_knowing-requires-clause-gone g c = subst (λ (counts : List ℕ). KnownGone c.self.inside.run.machine (state c.self.inside.run) counts) (sym c.deref.ensures.value) c.self.invariant.victims.gone
+pub plan_claim-requires-clause-gone : goal.plan_claim-requires-clause-gone
+plan_claim-requires-clause-gone g c = subst (λ (counts : List ℕ). KnownGone c.self.inside.run.machine (state c.self.inside.run) counts) (sym c.deref.ensures.value) c.self.invariant.victims.gone
 
-pub claim_plan_knowing-requires-clause-may : goal.claim_plan_knowing-requires-clause-may
-claim_plan_knowing-requires-clause-may g c =
+pub plan_claim-requires-clause-may : goal.plan_claim-requires-clause-may
+plan_claim-requires-clause-may g c =
     let given = subst (λ (b : BoardState _). WasGiven b c.args.w c.args.t) (sym c.self.view_is) c.requires.given in
     let idle = subst (λ (b : BoardState _). IsIdle b c.args.w) (sym c.self.view_is) c.requires.idle in
     let none = subst (λ (b : BoardState _). b.fault ≡ None) (sym c.self.view_is) c.requires.no_fault in
@@ -26,7 +25,7 @@ claim_plan_knowing-requires-clause-may g c =
 
 pub returns-in-Err-clause-why : goal.returns-in-Err-clause-why
 returns-in-Err-clause-why g c =
-    let why = subst (λ (found : Result ClaimPlan Why). IfErr found (IsWhy c.self.inside.run.program c.self.inside.run.machine (state c.self.inside.run) c.args.t c.args.w)) c.in-Err.is c.in-Ok.ensures.why in
+    let why = subst (λ (found : Result _ Why). IfErr found (IsWhy c.self.inside.run.program c.self.inside.run.machine (state c.self.inside.run) c.args.t c.args.w)) c.in-Err.is c.in-Ok.ensures.why in
     subst (λ (b : BoardState _). IsWhy b.run.program b.run.machine (state b.run) c.args.t c.args.w c.in-Err.why) c.self.view_is why
 
 pub invariant_of-self-2 : goal.invariant_of-self-2
@@ -34,7 +33,7 @@ invariant_of-self-2 g c =
     let given = subst (λ (b : BoardState _). WasGiven b c.args.w c.args.t) (sym c.self.view_is) c.requires.given in
     let idle = subst (λ (b : BoardState _). IsIdle b c.args.w) (sym c.self.view_is) c.requires.idle in
     let none = subst (λ (b : BoardState _). b.fault ≡ None) (sym c.self.view_is) c.requires.no_fault in
-    let can = subst (λ (found : Result ClaimPlan Why). OnOk found (CanHappen c.self.inside.run (Claim c.args.t c.args.w))) c.in-Ok-found.is c.in-Ok.ensures.can in
+    let can = subst (λ (found : Result _ Why). OnOk found (CanHappen c.self.inside.run (Claim c.args.t c.args.w))) c.in-Ok-found.is c.in-Ok.ensures.can in
     record {
       board = keeps-claimed_left _ _ _ _ _ _ _ c.self.invariant.board c.is_sound.ensures c.args.w given.works c.args.t given.given idle.no_task none can _ _ c.in-Ok-claim.ensures.ok c.take.ensures;
       ends = stays-claimed g.D.Disk.held c.self.inside.run _ _ _ _ c.self.invariant.ends _ _ _ c.is_sound.ensures c.args.t c.args.w can _ c.in-Ok-claim.ensures.ok;
@@ -44,17 +43,17 @@ invariant_of-self-2 g c =
 
 pub returns-clause-can : goal.returns-clause-can
 returns-clause-can g c =
-    let can = subst (λ (found : Result ClaimPlan Why). OnOk found (CanHappen c.self.inside.run (Claim c.args.t c.args.w))) c.in-Ok-found.is c.in-Ok.ensures.can in
+    let can = subst (λ (found : Result _ Why). OnOk found (CanHappen c.self.inside.run (Claim c.args.t c.args.w))) c.in-Ok-found.is c.in-Ok.ensures.can in
     subst (λ (b : BoardState _). CanHappen b.run (Claim c.args.t c.args.w)) c.self.view_is can
 
 pub returns-clause-spares : goal.returns-clause-spares
 returns-clause-spares g c =
-    let can = subst (λ (found : Result ClaimPlan Why). OnOk found (CanHappen c.self.inside.run (Claim c.args.t c.args.w))) c.in-Ok-found.is c.in-Ok.ensures.can in
+    let can = subst (λ (found : Result _ Why). OnOk found (CanHappen c.self.inside.run (Claim c.args.t c.args.w))) c.in-Ok-found.is c.in-Ok.ensures.can in
     told-spares _ _ _ _ c.self.inside.run c.is_sound.ensures (Claim c.args.t c.args.w) can _ c.in-Ok-claim.ensures.ok _ (ap (λ (b : BoardState _). b.run) c.self.view_is)
 
 pub returns-clause-one_worker : goal.returns-clause-one_worker
 returns-clause-one_worker g c =
-    let can = subst (λ (found : Result ClaimPlan Why). OnOk found (CanHappen c.self.inside.run (Claim c.args.t c.args.w))) c.in-Ok-found.is c.in-Ok.ensures.can in
+    let can = subst (λ (found : Result _ Why). OnOk found (CanHappen c.self.inside.run (Claim c.args.t c.args.w))) c.in-Ok-found.is c.in-Ok.ensures.can in
     claims-alone _ _ _ _ c.self.inside.run c.is_sound.ensures c.args.t c.args.w can _ c.in-Ok-claim.ensures.ok _ (ap (λ (b : BoardState _). b.run.program) c.self.view_is)
 
 pub returns-in-Err-clause-lone : goal.returns-in-Err-clause-lone
@@ -63,10 +62,10 @@ returns-in-Err-clause-lone g c =
     let idle = subst (λ (b : BoardState _). IsIdle b c.args.w) (sym c.self.view_is) c.requires.idle in
     let none = subst (λ (b : BoardState _). b.fault ≡ None) (sym c.self.view_is) c.requires.no_fault in
     let may = may-claim _ _ _ _ _ _ _ c.self.invariant.board c.is_sound.ensures c.args.w given.works c.args.t given.given idle.no_task none in
-    let why = subst (λ (found : Result ClaimPlan Why). IfErr found (IsWhy c.self.inside.run.program c.self.inside.run.machine (state c.self.inside.run) c.args.t c.args.w)) c.in-Err.is c.in-Ok.ensures.why in
+    let why = subst (λ (found : Result _ Why). IfErr found (IsWhy c.self.inside.run.program c.self.inside.run.machine (state c.self.inside.run) c.args.t c.args.w)) c.in-Err.is c.in-Ok.ensures.why in
     λ one. lone-refusal _ _ _ _ c.self.inside.run c.is_sound.ensures c.args.t c.args.w may (ap (λ (b : BoardState _). b.run.program.workers) c.self.view_is ∙ one) c.in-Err.why why
 
 pub returns-in-Err-clause-another : goal.returns-in-Err-clause-another
 returns-in-Err-clause-another g c =
-    let waits = subst (λ (found : Result ClaimPlan Why). OnErr found (AnotherHasTask (state c.self.inside.run) c.args.w)) c.in-Err.is c.in-Ok.ensures.another in
+    let waits = subst (λ (found : Result _ Why). OnErr found (AnotherHasTask (state c.self.inside.run) c.args.w)) c.in-Err.is c.in-Ok.ensures.another in
     subst (λ (b : BoardState _). AnotherHasTask (state b.run) c.args.w) c.self.view_is waits

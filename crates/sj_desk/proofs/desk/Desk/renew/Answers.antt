@@ -10,7 +10,7 @@ load-requires g c =
     let s = sits _ _ _ _ _ k (Some kept.found) _ _ c.seat.invariant c.seat.view_is c.self.view_is c.requires.of_this_desk kept.is in (
       search rules,
       omega (arith, c.self.invariant.0),
-      renews_at g.T.Keyed.row_of (FitsOpening g.T.Keyed.key g.T.Keyed.sound) k _ _ _ 256 s.left kept.found c.args.value s.tally _ c.self.invariant.1 (λ e. omega (arith, e)) kept.others
+      renews_at g.T.Keyed.row_of (FitsOpening g.T.Keyed.key g.T.Keyed.sound) k _ _ _ 271 s.left kept.found c.args.value s.tally _ c.self.invariant.1 (λ e. omega (arith, e)) kept.others
           (put_in _ s.left kept.found c.args.value s.tally k _ _ s.me_is c.exchange-empty.ensures.3),
     )
 

@@ -1,12 +1,9 @@
-use Rattle.std.proofs.Common.{◌∙◌, ◌++◌, ◌∷◌, [], List, All, ap, sym, subst, refl, map, rules, ℤ, w32, FitsSigned}
-use Rattle.std.proofs.lemmas.Int.{to_z-of_z}
-use Rattle.sj_base.specs.declared.mode.Access.{Access}
-use Rattle.sj_base.specs.declared.program.Codelet.{Codelet}
+use Rattle.std.proofs.Common.{◌∙◌, ◌++◌, ◌∷◌, [], List, All, ap, sym, subst, refl, map}
 use Rattle.sj_base.specs.declared.program.Lowered.{Lowered}
 use Rattle.sj_meaning.specs.declared.job.Act.TheVariants as kept
 use Rattle.sj_meaning.specs.declared.job.Operand.{Operand}
 use Rattle.sj_lower.specs.declared.lowerer.Active.{Active}
-use Rattle.sj_lower.specs.Seen.{AreIn, access_by, actives_after_writes}
+use Rattle.sj_lower.specs.Seen.{AreIn, access_by, actives_after_writes, lowered_task}
 use Rattle.sj_lower.proofs.Following.{can-pass}
 use Rattle.sj_lower.proofs.Tracking.{are-in, does-task}
 use Rattle.sj_lower.proofs.lowerer.Lowerer.task.Goals as goal
@@ -30,9 +27,7 @@ returns-clause-does c =
     let old = c.args.self.now in
     let task = c.args.task in
     let accesses = c.in_ok-accesses.ensures ∙ (λ i. map (access_by (c.deref.ensures.value i)) (c.items-operands.ensures i)) in
-    let fits : FitsSigned w32 task.priority = search rules in
-    let mk : Codelet → List Access → ℤ → Lowered = λ id as' p. record { codelet = id; args = task.args; accesses = as'; line = c.args.line; priority = p } in
     does-task T old _ task c.args.line
-    (c.in_ok-push.ensures.items ∙ ap (λ (l : Lowered). old.tasks.items ++ l ∷ []) (λ i. mk (c.id.ensures.id i) (accesses i) (to_z-of_z w32 task.priority fits i)))
+    (c.in_ok-push.ensures.items ∙ ap (λ (l : Lowered). old.tasks.items ++ l ∷ []) (c.lowered_task.ensures ∙ ap (lowered_task task c.args.line) accesses))
     refl refl refl
     (c.in_ok-write_all.ensures ∙ ap (λ (os : List Operand). actives_after_writes os old.actives.items) c.items-operands.ensures)
