@@ -4,3 +4,4 @@ pub mod Turns
 pub mod Places
 pub mod Tiles
 pub mod Groups
+pub mod Last

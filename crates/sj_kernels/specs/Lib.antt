@@ -1,4 +1,5 @@
 pub mod Has
+pub mod Last
 pub mod Rows
 pub mod Panels
 pub mod Turned

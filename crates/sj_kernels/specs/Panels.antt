@@ -10,6 +10,10 @@ use Rattle.sj_kernels.specs.declared.product.Span.{Span}
 abbrev pub column_sum : ℕ → List ℤ → List ℤ → ℕ → ℕ → ℤ → ℤ
 column_sum n a b j l start = wrap (start +ℤ sum_below l (λ q. at a q *ℤ at b (q * n + j)))
 
+-- the elements of c + a b, where c has some columns from the one of number j on and a is a row; b has n columns
+abbrev pub columns_from : ℕ → ℕ → List ℤ → List ℤ → List ℤ → ℕ → ℤ
+columns_from n j a b c q = column_sum n a b (j + q) (length a) (at c q)
+
 -- the element in row i of a and column j of b, from the terms of these columns of a; b has n columns
 abbrev pub terms : Sides → Span → ℕ → List ℤ → List ℤ → ℕ → ℕ → ℤ
 terms sides rows n a b i j = sum_below rows.len (λ l. at a (i * sides.k + rows.first + l) *ℤ at b (l * n + j))

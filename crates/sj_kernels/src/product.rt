@@ -8,7 +8,7 @@ ghost use Rattle.sj_codelet.specs.Ring.{wrap};
 ghost use Rattle.sj_codelet.specs.Equations.{matrix, gemm, gemm3};
 ghost use Rattle.sj_codelet.specs.Listing.{listing};
 ghost use Rattle.sj_kernels.specs.Rows.{row_product};
-ghost use Rattle.sj_kernels.specs.Panels.{with_terms, with_terms_within, panel_element, column_sum, row_within};
+ghost use Rattle.sj_kernels.specs.Panels.{with_terms, with_terms_within, panel_element, column_sum, columns_from, row_within};
 
 use crate::elementwise::axpy;
 use crate::scalar::with_product;
@@ -210,12 +210,8 @@ fn last_columns(a: &[i64], e: &[i64], b: &[i64], n: usize, j: usize, c: &mut [i6
     requires few { length c.old < 3 }
     requires as_wide { length d.old ≡ length c.old }
     requires last { j + length c.old ≡ n }
-    ensures first { c.new
-        ≡ listing (length c.old)
-        (λ q. column_sum n a.now b.now (j + q) (length a.now) (at c.old q)) }
-    ensures second { d.new
-        ≡ listing (length d.old)
-        (λ q. column_sum n e.now b.now (j + q) (length e.now) (at d.old q)) }
+    ensures first { c.new ≡ listing (length c.old) (columns_from n j a.now b.now c.old) }
+    ensures second { d.new ≡ listing (length d.old) (columns_from n j e.now b.now d.old) }
 {
     if c.len() == 2 {
         two_columns(a, e, b, n, j, c, d);
@@ -232,10 +228,8 @@ fn two_columns(a: &[i64], e: &[i64], b: &[i64], n: usize, j: usize, c: &mut [i64
     requires within { j + 2 ≤ n }
     requires two { length c.old ≡ 2 }
     requires two_more { length d.old ≡ 2 }
-    ensures first { c.new
-        ≡ listing 2 (λ q. column_sum n a.now b.now (j + q) (length a.now) (at c.old q)) }
-    ensures second { d.new
-        ≡ listing 2 (λ q. column_sum n e.now b.now (j + q) (length e.now) (at d.old q)) }
+    ensures first { c.new ≡ listing 2 (columns_from n j a.now b.now c.old) }
+    ensures second { d.new ≡ listing 2 (columns_from n j e.now b.now d.old) }
 {
     let (mut c0, mut c1) = (c[0], c[1]);
     let (mut d0, mut d1) = (d[0], d[1]);
@@ -260,10 +254,8 @@ fn block(a: &[i64], e: &[i64], b: &[i64], n: usize, j: usize, c: &mut [i64], d: 
     requires within { j + 3 ≤ n }
     requires three { length c.old ≡ 3 }
     requires three_more { length d.old ≡ 3 }
-    ensures first { c.new
-        ≡ listing 3 (λ q. column_sum n a.now b.now (j + q) (length a.now) (at c.old q)) }
-    ensures second { d.new
-        ≡ listing 3 (λ q. column_sum n e.now b.now (j + q) (length e.now) (at d.old q)) }
+    ensures first { c.new ≡ listing 3 (columns_from n j a.now b.now c.old) }
+    ensures second { d.new ≡ listing 3 (columns_from n j e.now b.now d.old) }
 {
     let mut upper = Sums {
         left: c[0],
