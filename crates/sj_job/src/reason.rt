@@ -92,6 +92,17 @@ pub enum Objection {
     OutOfMemory,
 }
 
+impl From<Reason> for Objection {
+    ghost use Rattle.std.specs.Prelude.{◌≡◌};
+    ghost use Rattle.sj_job.specs.declared.reason.Objection.TheVariants.{Bad};
+
+    ghost from_gives = { λ why e. e ≡ Bad why };
+
+    fn from(why: Reason) -> Self {
+        Objection::Bad(why)
+    }
+}
+
 impl From<memory::OutOfMemory> for Objection {
     ghost use Rattle.std.specs.Prelude.{◌≡◌};
     ghost use Rattle.sj_job.specs.declared.reason.Objection.TheVariants.{OutOfMemory};

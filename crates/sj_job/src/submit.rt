@@ -133,14 +133,10 @@ fn submit_plan(
     let Some((r, c)) = pair_of(r, c) else {
         return Err(Objection::Bad(Reason::Number));
     };
-    match planned_root(names, name.bytes(), r, c) {
-        Ok(root) => {
-            let parts = narrowed(r, c);
-            names.plan(root, parts);
-            Ok(Act::Plan(root, parts))
-        }
-        Err(why) => Err(Objection::Bad(why)),
-    }
+    let root = planned_root(names, name.bytes(), r, c)?;
+    let parts = narrowed(r, c);
+    names.plan(root, parts);
+    Ok(Act::Plan(root, parts))
 }
 
 /// Gives a root its reduction. Linear in the name.
@@ -152,13 +148,9 @@ fn submit_reduction(names: &mut Names, name: &Piece<'_>, by: Reduction) -> Resul
     ensures err { IfErr result (λ e. (has : Kernel → Bool) →
         Objects e (act_of_form has (scope_in names.old) (Form.Redux name.now by))) }
 {
-    match reduced_root(names, name.bytes()) {
-        Ok(root) => {
-            names.reduce(root, by);
-            Ok(Act::Redux(root, by))
-        }
-        Err(why) => Err(Objection::Bad(why)),
-    }
+    let root = reduced_root(names, name.bytes())?;
+    names.reduce(root, by);
+    Ok(Act::Redux(root, by))
 }
 
 /// Submits a task. Linear in the words.
@@ -232,13 +224,9 @@ fn submit_print(names: &mut Names, name: &Piece<'_>) -> Result<Act, Objection>
     ensures err { IfErr result (λ e. (has : Kernel → Bool) →
         Objects e (act_of_form has (scope_in names.old) (Form.Print name.now))) }
 {
-    match printed_root(names, name.bytes()) {
-        Ok(root) => {
-            names.print();
-            Ok(Act::Print(root))
-        }
-        Err(why) => Err(Objection::Bad(why)),
-    }
+    let root = printed_root(names, name.bytes())?;
+    names.print();
+    Ok(Act::Print(root))
 }
 
 fn submit_invalidation(names: &mut Names, name: &Piece<'_>) -> Result<Act, Objection>
@@ -249,13 +237,9 @@ fn submit_invalidation(names: &mut Names, name: &Piece<'_>) -> Result<Act, Objec
     ensures err { IfErr result (λ e. (has : Kernel → Bool) →
         Objects e (act_of_form has (scope_in names.old) (Form.Invalidate name.now))) }
 {
-    match named_root(names, name.bytes()) {
-        Ok(root) => {
-            names.invalidate(root);
-            Ok(Act::Invalidate(root))
-        }
-        Err(why) => Err(Objection::Bad(why)),
-    }
+    let root = named_root(names, name.bytes())?;
+    names.invalidate(root);
+    Ok(Act::Invalidate(root))
 }
 
 fn submit_ending(names: &mut Names, name: &Piece<'_>) -> Result<Act, Objection>
@@ -266,13 +250,9 @@ fn submit_ending(names: &mut Names, name: &Piece<'_>) -> Result<Act, Objection>
     ensures err { IfErr result (λ e. (has : Kernel → Bool) →
         Objects e (act_of_form has (scope_in names.old) (Form.Unregister name.now))) }
 {
-    match named_root(names, name.bytes()) {
-        Ok(root) => {
-            names.unregister(root);
-            Ok(Act::Unregister(root))
-        }
-        Err(why) => Err(Objection::Bad(why)),
-    }
+    let root = named_root(names, name.bytes())?;
+    names.unregister(root);
+    Ok(Act::Unregister(root))
 }
 
 /// Does what a form says, or says why not. Linear in its words.

@@ -7,11 +7,11 @@ use Rattle.sj_job.proofs.Submitting.{invalidated}
 use Rattle.sj_job.proofs.submit.submit_invalidation.Goals as goal
 
 pub invalidate-requires-clause-root : goal.invalidate-requires-clause-root
-invalidate-requires-clause-root c = is-root c.args.names.now.roots c.bytes.result.now c.in-Ok.root c.in-Ok.ensures.root
+invalidate-requires-clause-root c = is-root c.args.names.now.roots c.bytes.result.now c.in_ok-root.root c.in_ok-root.ensures.root
 
-pub returns-in-Ok-clause-ok : goal.returns-in-Ok-clause-ok
-returns-in-Ok-clause-ok c = λ has.
-    invalidated has c.args.names.now _ c.args.name.now c.in-Ok.root
-    (ap (root_in c.args.names.now.roots) (sym c.bytes.ensures) ∙ c.in-Ok.ensures.root)
-    (ap (λ q. first_of (name_reasons (scope_in c.args.names.now) q)) (sym c.bytes.ensures) ∙ c.in-Ok.ensures.none)
+pub returns-clause-ok : goal.returns-clause-ok
+returns-clause-ok c = λ has.
+    invalidated has c.args.names.now _ c.args.name.now c.in_ok-root.root
+    (ap (root_in c.args.names.now.roots) (sym c.bytes.ensures) ∙ c.in_ok-root.ensures.root)
+    (ap (λ q. first_of (name_reasons (scope_in c.args.names.now) q)) (sym c.bytes.ensures) ∙ c.in_ok-root.ensures.none)
     c.invalidate.ensures.roots c.invalidate.ensures.names

@@ -8,17 +8,17 @@ use Rattle.sj_job.proofs.Submitting.{plans}
 use Rattle.sj_job.proofs.submit.submit_plan.Goals as goal
 
 pub plan-requires-clause-root : goal.plan-requires-clause-root
-plan-requires-clause-root c = is-root c.args.names.now.roots c.bytes.result.now c.in-Ok.root c.in-Ok.ensures.root
+plan-requires-clause-root c = is-root c.args.names.now.roots c.bytes.result.now c.in_ok-root.root c.in_ok-root.ensures.root
 
-pub returns-in-Ok-clause-ok : goal.returns-in-Ok-clause-ok
-returns-in-Ok-clause-ok c = λ has.
+pub returns-clause-ok : goal.returns-clause-ok
+returns-clause-ok c = λ has.
     let said = c.in-Some.ensures in
     let parts = c.narrowed-parts.ensures in
-    plans has c.args.names.now _ c.args.name.now c.args.r.now c.args.c.now c.in-Ok.root c.narrowed-parts.result (record {
-      there = ap (root_in c.args.names.now.roots) (sym c.bytes.ensures) ∙ c.in-Ok.ensures.root;
+    plans has c.args.names.now _ c.args.name.now c.args.r.now c.args.c.now c.in_ok-root.root c.narrowed-parts.result (record {
+      there = ap (root_in c.args.names.now.roots) (sym c.bytes.ensures) ∙ c.in_ok-root.ensures.root;
       numbered = said.0;
       parts = parts ∙ (λ i. plan_of_parts (said.1 i) (said.2 i));
-      unopposed = (λ i. first_of (plan_reasons (scope_in c.args.names.now) (sym c.bytes.ensures i) (parts i))) ∙ c.in-Ok.ensures.none;
+      unopposed = (λ i. first_of (plan_reasons (scope_in c.args.names.now) (sym c.bytes.ensures i) (parts i))) ∙ c.in_ok-root.ensures.none;
       roots = c.plan.ensures.roots;
       sees = c.plan.ensures.names;
     })

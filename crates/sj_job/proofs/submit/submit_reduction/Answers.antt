@@ -7,11 +7,11 @@ use Rattle.sj_job.proofs.Submitting.{reduced}
 use Rattle.sj_job.proofs.submit.submit_reduction.Goals as goal
 
 pub reduce-requires-clause-root : goal.reduce-requires-clause-root
-reduce-requires-clause-root c = is-root c.args.names.now.roots c.bytes.result.now c.in-Ok.root c.in-Ok.ensures.root
+reduce-requires-clause-root c = is-root c.args.names.now.roots c.bytes.result.now c.in_ok-root.root c.in_ok-root.ensures.root
 
-pub returns-in-Ok-clause-ok : goal.returns-in-Ok-clause-ok
-returns-in-Ok-clause-ok c = λ has.
-    reduced has c.args.names.now _ c.args.name.now c.args.by c.in-Ok.root
-    (ap (root_in c.args.names.now.roots) (sym c.bytes.ensures) ∙ c.in-Ok.ensures.root)
-    (ap (λ q. first_of (redux_reasons (scope_in c.args.names.now) q)) (sym c.bytes.ensures) ∙ c.in-Ok.ensures.none)
+pub returns-clause-ok : goal.returns-clause-ok
+returns-clause-ok c = λ has.
+    reduced has c.args.names.now _ c.args.name.now c.args.by c.in_ok-root.root
+    (ap (root_in c.args.names.now.roots) (sym c.bytes.ensures) ∙ c.in_ok-root.ensures.root)
+    (ap (λ q. first_of (redux_reasons (scope_in c.args.names.now) q)) (sym c.bytes.ensures) ∙ c.in_ok-root.ensures.none)
     c.reduce.ensures.roots c.reduce.ensures.names
