@@ -1,5 +1,5 @@
 -- A line is divided into its words one after another, and has as its bytes those of its words and blanks.
-use Rattle.std.proofs.Common.{◌≡◌, ℕ, zero, suc, ◌+◌, ◌<◌, ◌≤◌, ◌&&◌, ◌||◌, not, Bool, true, false, List, [], ◌∷◌, ◌++◌, length, take, drop, filter, refl, ap, ◌∙◌, sym, cond, arith, nat_lt, length-take, length-drop, Some, None, unwrap_or, position, ◌-◌, subst, replicate, append_assoc, get_or}
+use Rattle.std.proofs.Common.{◌≡◌, ℕ, zero, suc, ◌+◌, ◌*◌, ◌<◌, ◌≤◌, ◌&&◌, ◌||◌, not, Bool, true, false, List, [], ◌∷◌, ◌++◌, length, take, drop, filter, refl, ap, ◌∙◌, sym, cond, arith, nat_lt, length-take, length-drop, Some, None, unwrap_or, position, ◌-◌, subst, replicate, append_assoc, get_or}
 use Rattle.std.specs.List.{slice_split, onto_first, list_all, position_or_len}
 use Rattle.std.proofs.lemmas.Bool.Decides.{nat_tests}
 use Rattle.std.proofs.lemmas.List.Sums.{prefix_len-le-length}
@@ -102,6 +102,45 @@ words-cut line some =
     let within : word_len line ≤ length line = prefix_len-le-length (λ b. not (is_blank b)) line in
     let has_bytes : 0 < length (take (word_len line) line) = omega (arith, length-take (word_len line) line) in
     ap full cut.parts ∙ full-cons (take (word_len line) line) cut.behind has_bytes ∙ ap (λ ws. take (word_len line) line ∷ ws) (sym cut.words_behind)
+
+-- ---- how many words there are
+
+-- the parts of a line are a first one and others, and each of these that has bytes takes two of the line, with its blank
+record FewParts (line : List ℕ) : Type 0 where
+  first : List ℕ
+  behind : List (List ℕ)
+  parts : parts_of line ≡ first ∷ behind
+  few : length first + 2 * length (full behind) ≤ length line
+
+few-full : (first : List ℕ) (behind : List (List ℕ)) (n : ℕ) → length first + 2 * length (full behind) ≤ n → 2 * length (full (first ∷ behind)) ≤ n + 1
+few-full [] behind n h = omega (arith, h)
+few-full (b ∷ w) behind n h =
+    let one = ap length (full-cons (b ∷ w) behind (omega arith)) in
+    omega (arith, h, one)
+
+few-more : (b : ℕ) (bs : List ℕ) (t : Bool) → is_blank b ≡ t → FewParts bs → FewParts (b ∷ bs)
+few-more b bs true e few = record {
+  first = [];
+  behind = parts_of bs;
+  parts = slice_split-cons_yes is_blank b bs e;
+  few = let all = ap (λ ps. length (full ps)) few.parts in omega (arith, few-full few.first few.behind (length bs) few.few, all);
+}
+few-more b bs false e few = record {
+  first = b ∷ few.first;
+  behind = few.behind;
+  parts = slice_split-cons_no is_blank b bs e ∙ ap (onto_first b) few.parts;
+  few = omega (arith, few.few);
+}
+
+few_of : (line : List ℕ) → FewParts line
+few_of [] = record { first = []; behind = []; parts = refl; few = omega arith }
+few_of (b ∷ bs) = few-more b bs (is_blank b) refl (few_of bs)
+
+pub few-words : (line : List ℕ) → 2 * length (words line) ≤ length line + 1
+few-words line =
+    let few = few_of line in
+    let all = ap (λ ps. length (full ps)) few.parts in
+    omega (arith, few-full few.first few.behind (length line) few.few, all)
 
 -- ---- a word as a slice of the line
 

@@ -164,7 +164,9 @@ impl<'a> Words<'a> {
     }
 
     /// Room for all of them in a list: two bytes of the line, a blank and another, give at most one. Constant time.
-    pub fn room(&self) -> usize {
+    pub fn room(&self) -> usize
+        ensures { length self.now ≤ result }
+    {
         self.line.len() / 2 + 1
     }
 }
