@@ -15,6 +15,19 @@ use std::alloc::Global;
 /// The line of the first statement: in front of it are those of the header, the workers, the node and the policy.
 pub const FIRST_LINE: u32 = 5;
 
+/// `ROOT[i, j]: MODE`, as a job writes it: an operand of a task. Who calls it has `Operand` and `Mode` in scope.
+macro_rules! tile {
+    ($root:ident[$i:expr, $j:expr]: $mode:ident) => {
+        Operand {
+            root: $root,
+            place: ($i, $j),
+            mode: Mode::$mode,
+        }
+    };
+}
+
+pub(crate) use tile;
+
 /// The roots of a job, and its statements so far.
 #[derive(Drop)]
 pub struct Draft {

@@ -10,7 +10,7 @@ ghost use Rattle.sj_apps.specs.Generated.{IsSize, apart, aparts_in_row, below, b
 ghost use Rattle.sj_apps.specs.Shortest.{PrintsShortest};
 ghost use Rattle.sj_meaning.specs.declared.job.Init.TheVariants.{Values};
 
-use crate::draft::Draft;
+use crate::draft::{Draft, tile};
 use crate::product::{codelet_task, part_count, square_matrix};
 use sj_base::ids::Root;
 use sj_base::memory::OutOfMemory;
@@ -75,11 +75,7 @@ impl Draft {
         requires few { length self.old.statements < 1048576 }
         ensures tells { OnOk result (Tells self.old self.new (diagonal k ∷ [])) }
     {
-        let operands = [Operand {
-            root: D,
-            place: (k, k),
-            mode: Mode::RW,
-        }];
+        let operands = [tile!(D[k, k]: RW)];
         self.say(codelet_task(alloc, Kernel::FwDiag, operands)?)?;
         Ok(())
     }
@@ -94,18 +90,7 @@ impl Draft {
         if j == k {
             return Ok(());
         }
-        let operands = [
-            Operand {
-                root: D,
-                place: (k, k),
-                mode: Mode::R,
-            },
-            Operand {
-                root: D,
-                place: (k, j),
-                mode: Mode::RW,
-            },
-        ];
+        let operands = [tile!(D[k, k]: R), tile!(D[k, j]: RW)];
         self.say(codelet_task(alloc, Kernel::FwRow, operands)?)?;
         Ok(())
     }
@@ -120,18 +105,7 @@ impl Draft {
         if i == k {
             return Ok(());
         }
-        let operands = [
-            Operand {
-                root: D,
-                place: (k, k),
-                mode: Mode::R,
-            },
-            Operand {
-                root: D,
-                place: (i, k),
-                mode: Mode::RW,
-            },
-        ];
+        let operands = [tile!(D[k, k]: R), tile!(D[i, k]: RW)];
         self.say(codelet_task(alloc, Kernel::FwCol, operands)?)?;
         Ok(())
     }
@@ -146,23 +120,7 @@ impl Draft {
         if j == k {
             return Ok(());
         }
-        let operands = [
-            Operand {
-                root: D,
-                place: (i, k),
-                mode: Mode::R,
-            },
-            Operand {
-                root: D,
-                place: (k, j),
-                mode: Mode::R,
-            },
-            Operand {
-                root: D,
-                place: (i, j),
-                mode: Mode::RW,
-            },
-        ];
+        let operands = [tile!(D[i, k]: R), tile!(D[k, j]: R), tile!(D[i, j]: RW)];
         self.say(codelet_task(alloc, Kernel::MinGemm, operands)?)?;
         Ok(())
     }

@@ -11,7 +11,7 @@ ghost use Rattle.sj_apps.specs.Draft.{factor_lines, product_names, IsNumberedSoF
 ghost use Rattle.sj_apps.specs.Generated.{IsSize, cut, first_line, factors, gemm_act, gemms, gemms_at, gemms_in_row, numbered, part_count, product_statements, square};
 ghost use Rattle.sj_meaning.specs.declared.job.Kind.TheVariants.{Matrix};
 
-use crate::draft::Draft;
+use crate::draft::{Draft, tile};
 use sj_base::few::Few;
 use sj_base::ids::Root;
 use sj_base::memory::OutOfMemory;
@@ -79,21 +79,9 @@ impl Draft {
         ensures tells { OnOk result (Tells self.old self.new (gemm_act i j k ∷ [])) }
     {
         let operands = [
-            Operand {
-                root: A,
-                place: (i, k),
-                mode: Mode::R,
-            },
-            Operand {
-                root: B,
-                place: (k, j),
-                mode: Mode::R,
-            },
-            Operand {
-                root: C,
-                place: (i, j),
-                mode: Mode::Commute,
-            },
+            tile!(A[i, k]: R),
+            tile!(B[k, j]: R),
+            tile!(C[i, j]: Commute),
         ];
         self.say(codelet_task(alloc, Kernel::Gemm, operands)?)?;
         Ok(())
