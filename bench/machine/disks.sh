@@ -125,10 +125,15 @@ fn run_ready<C: Codelets, D: Disk + Send, R: Threads + Wait + Clock + Sync>(
     requires disks { ready.machine.disks ≡ map D.size disks.items }
 {
     let ReadyJob {
-        program, machine, ..
+        program,
+        footprints,
+        machine,
+        ..
     } = ready;
     let start = Instant::now(rt).ok()?;
-    let RunOutcome { result, trace, .. } = run(rt, alloc, program, machine, disks, codelets, &OpenGate);
+    let RunOutcome { result, trace, .. } = run(
+        rt, alloc, program, footprints, machine, disks, codelets, &OpenGate,
+    );
     Some(Taken {
         time: start.elapsed(rt).ok()?,
         is_done: result.is_ok(),

@@ -3,6 +3,7 @@
 ghost use Rattle.std.specs.Prelude.{◌≡◌, ◌<◌, ◌≤◌, ◌^◌, ◌∷◌, [], IfOk, None, OnOk, length, map};
 ghost use Rattle.sj_base.specs.declared.ids.Worker.{Worker};
 ghost use Rattle.sj_base.specs.Array.{area};
+ghost use Rattle.sj_core.specs.Needs.{AreFootprints};
 ghost use Rattle.sj_core.specs.Proper.{HasSwapFor, IsWithinLimits};
 ghost use Rattle.sj_disk.specs.Directory.{extent_of};
 ghost use Rattle.sj_machine.specs.Placing.{ArePlaced, IsEmptySet, ReservesSome};
@@ -27,10 +28,11 @@ use std::alloc::Global;
 use std::sync::Arc;
 use std::test::Fail;
 
-/// A program, and the machine that is to run it.
+/// A program, the bytes that each of its tasks needs, and the machine that is to run it.
 #[derive(Drop)]
 struct Parts {
     program: Arc<Program>,
+    footprints: Vec<u64>,
     machine: Machine,
 }
 
@@ -59,15 +61,17 @@ fn machine_of(alloc: Global, settings: &Settings, disk: u64) -> Result<Machine, 
 fn parts_of(alloc: Global, text: &str, disk: u64) -> Result<Parts, Fail>
     requires small { disk ≤ 2 ^ 40 }
     ensures run { IfOk result (λ r. IsRunnableOn r.program.value r.machine) }
+    ensures footprints { IfOk result (λ r. AreFootprints r.program.value r.footprints.items) }
     ensures disks { IfOk result (λ r. r.machine.disks ≡ disk ∷ []) }
 {
     let job = read(alloc, text.as_bytes(), &Ring)?;
     let machine = machine_of(alloc, &job.settings, disk)?;
     let LoweredJob { program, .. } = lower(alloc, job, machine.workers)?;
     arguments_fit(&program);
-    fits(alloc, &program, &machine)?;
+    let footprints = fits(alloc, &program, &machine)?;
     Ok(Parts {
         program: Arc::new(alloc, program)?,
+        footprints,
         machine,
     })
 }
@@ -106,17 +110,22 @@ fn place_cells<D: Disk>(
 /// The board of these parts, on which nothing has happened.
 fn board_of<D: Disk>(alloc: Global, parts: Parts, disks: Vec<D>) -> Result<Board<D>, Fail>
     requires run { IsRunnableOn parts.program.value parts.machine }
+    requires footprints { AreFootprints parts.program.value parts.footprints.items }
     requires sizes { parts.machine.disks ≡ map D.size disks.items }
     ensures free { IfOk result (λ b. (w : Worker) → w.0 < b.run.program.workers → IsFree b w) }
     ensures no_fault { IfOk result (λ b. b.fault ≡ None) }
     ensures opened { IfOk result (λ b. b.run.opened ≡ disks.items) }
 {
-    let Parts { program, machine } = parts;
+    let Parts {
+        program,
+        footprints,
+        machine,
+    } = parts;
     let Ok(mut set) = DiskSet::make(alloc, disks) else {
         return Err(Fail::new("out of memory"));
     };
     place_cells(&mut set, &program, &machine)?;
-    match Board::make(alloc, program, machine, set) {
+    match Board::make(alloc, program, footprints, machine, set) {
         Ok(board) => Ok(board),
         Err(_) => Err(Fail::new("out of memory")),
     }

@@ -4,6 +4,7 @@ use Rattle.std.specs.Prelude.{FitsSigned, IsOkAnd}
 use Rattle.std.specs.Int.{w64}
 use Rattle.sj_base.specs.declared.program.Machine.{Machine}
 use Rattle.sj_base.specs.declared.program.Program.{Program}
+use Rattle.sj_core.specs.Needs.{AreFootprints}
 use Rattle.sj_core.specs.Proper.{HasSwapFor, IsMachineFor, Proper}
 use Rattle.sj_meaning.specs.Job.{Job}
 use Rattle.sj_job.specs.Reading.{Refusal}
@@ -15,8 +16,8 @@ abbrev HasFittingArguments : Program → Type 0
 HasFittingArguments p = All (λ l. All (FitsSigned w64) l.args) p.tasks
 
 pub ready-by : (job : Result Job Refusal) (j : Job) (p : Program) (disks : List ℕ) (r : SetRun) → job ≡ Ok j → p ≡ small_program j.statements → r.program.value ≡ p → r.machine ≡ small_machine disks
-    → Proper p → HasCodelets p → All (λ l. All (FitsSigned w64) l.args) p.tasks → length disks ≤ 16 → HasSwapFor p r.machine → IsSetRun job disks r
-ready-by job j p disks r read is same on proper known arguments few swap =
+    → Proper p → HasCodelets p → All (λ l. All (FitsSigned w64) l.args) p.tasks → length disks ≤ 16 → HasSwapFor p r.machine → AreFootprints p r.footprints.items → IsSetRun job disks r
+ready-by job j p disks r read is same on proper known arguments few swap listed =
     let workers : r.program.value.workers ≡ 2 = ap (λ (q : Program). q.workers) (same ∙ is) in
     record {
       program = subst (λ (o : Result Job Refusal). IsOkAnd o (λ i. r.program.value ≡ small_program i.statements)) (sym read) (same ∙ is);
@@ -38,4 +39,5 @@ ready-by job j p disks r read is same on proper known arguments few swap =
         few_disks = few;
       });
       swap = subst (λ (q : Program). HasSwapFor q r.machine) (sym same) swap;
+      footprints = subst (λ (q : Program). AreFootprints q r.footprints.items) (sym same) listed;
     }

@@ -1,6 +1,7 @@
 -- What is ready to be run, and why a text isn't run.
 use Rattle.std.specs.Prelude.{◌≡◌, ℕ, IsOkAnd, List, Option, Result}
 use Rattle.sj_core.specs.Laws.{IsLawful}
+use Rattle.sj_core.specs.Needs.{AreFootprints}
 use Rattle.sj_core.specs.Proper.{HasSwapFor, IsMachineFor, Proper}
 use Rattle.sj_engine.specs.Outcome.{IsCausedBy}
 use Rattle.sj_meaning.specs.Job.{Job}
@@ -15,7 +16,8 @@ use Rattle.own_set.specs.declared.NotRun.TheVariants as not_run
 use Rattle.own_set.specs.declared.SetRun.{SetRun}
 use Rattle.own_set.specs.Turns.{HasCodelets, small_program, small_machine, turns_has}
 
--- the program is that of the job, and can be run by the set of the example on its machine with disks of these sizes
+-- the program is that of the job, can be run by the set of the example on its machine with disks of these sizes, and has these
+-- footprints
 pub record IsSetRun (job : Result Job Refusal) (disks : List ℕ) (r : SetRun) : Type 0 where
   pub program : IsOkAnd job (λ j. r.program.value ≡ small_program j.statements)
   pub machine : r.machine ≡ small_machine disks
@@ -23,6 +25,7 @@ pub record IsSetRun (job : Result Job Refusal) (disks : List ℕ) (r : SetRun) :
   pub lawful : IsLawful turns_has r.program.value
   pub machine_for : IsMachineFor r.program.value r.machine
   pub swap : HasSwapFor r.program.value r.machine
+  pub footprints : AreFootprints r.program.value r.footprints.items
 
 -- a line of it is bad, or its statements exceed a limit of lowering, or the set lacks one of its codelets, or the machine lacks
 -- room for it, or memory ran out

@@ -149,10 +149,11 @@ impl From<memory::OutOfMemory> for NotReady {
     }
 }
 
-/// A program that the set runs, and the machine for it.
+/// A program that the set runs, the bytes that each of its tasks needs, and the machine for it.
 #[derive(Drop)]
 struct SetRun {
     program: Arc<Program>,
+    footprints: Vec<u64>,
     machine: Machine,
 }
 
@@ -191,9 +192,13 @@ fn make_ready(alloc: Global, text: &[u8], disks: Vec<u64>) -> Result<SetRun, Not
     }
     arguments_fit(&program);
     let machine = machine(alloc, disks)?;
-    fits(alloc, &program, &machine)?;
+    let footprints = fits(alloc, &program, &machine)?;
     let program = shared(alloc, program)?;
-    Ok(SetRun { program, machine })
+    Ok(SetRun {
+        program,
+        footprints,
+        machine,
+    })
 }
 
 /// Why a text isn't run.
@@ -227,13 +232,19 @@ fn run_ready<D: Disk + Send, R: Threads + Wait + Sync>(
     ensures err { (job : Result Job Refusal) → IfErr result.handed (λ e. IsNotRun D.faults
         D.mismatches D.held e job (map D.size disks.items) disks.items result.disks.items) }
 {
-    let SetRun { program, machine } = ready;
+    let SetRun {
+        program,
+        footprints,
+        machine,
+    } = ready;
     let RunOutcome {
         result,
         delivered,
         disks,
         ..
-    } = run(rt, alloc, program, machine, disks, &Turns, &OpenGate);
+    } = run(
+        rt, alloc, program, footprints, machine, disks, &Turns, &OpenGate,
+    );
     match result {
         Ok(()) => Turned {
             handed: Ok(delivered),

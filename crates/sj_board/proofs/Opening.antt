@@ -13,6 +13,7 @@ use Rattle.sj_base.specs.declared.mode.Policy.{Policy}
 use Rattle.sj_core.proofs.Readiness.{done_tasks-done}
 use Rattle.sj_core.proofs.Words.{Machine, Program, State, Task, Worker, is_done, is_task_of, opening, progress}
 use Rattle.sj_core.specs.declared.progress.Progress.TheVariants.{Waiting}
+use Rattle.sj_core.specs.Needs.{AreFootprints}
 use Rattle.sj_core.specs.Step.{done_tasks}
 use Rattle.sj_deps.specs.Conflict.{Ready}
 use Rattle.sj_deps.specs.Progress.{Dependencies, dependencies}
@@ -23,7 +24,7 @@ use Rattle.sj_base.specs.Array.{Array}
 use Rattle.sj_machine.specs.Standing.{Standing, starting}
 use Rattle.sj_machine.proofs.Stepping.{ready-same}
 use Rattle.sj_board.specs.Board.{board_state, empty_hand, hand_in}
-use Rattle.sj_board.specs.BoardSound.{AreFootprints, IsEntry, IsPoolFor, KeepsBoard, is_entry_of, is_given, times_given, times_pooled}
+use Rattle.sj_board.specs.BoardSound.{IsEntry, IsPoolFor, KeepsBoard, is_entry_of, is_given, times_given, times_pooled}
 use Rattle.sj_board.specs.Filling.{CanPutEach, putter, with_each}
 use Rattle.sj_board.specs.Preparing.{AreFirst, IsPrepared, first_hands, first_pool}
 use Rattle.sj_board.specs.declared.hand.Hand.{Hand}

@@ -1,5 +1,5 @@
 -- A worker's next step, for which it waits while another has the disk in hand that it needs.
-use Rattle.std.proofs.Common.{◌≡◌, ◌≢◌, ◌&&◌, ◌⊎◌, ◌∙◌, Bool, true, false, Option, None, Some, ap, inl, inr, not, refl, subst, sym}
+use Rattle.std.proofs.Common.{◌≡◌, ◌&&◌, ◌⊎◌, ◌∙◌, Bool, true, false, Option, None, Some, ap, inl, inr, not, refl, subst, sym}
 use Rattle.std.specs.Prelude.{IfSome, IsSomeAnd, MatchBool, MatchOption, if◌then◌else◌}
 use Rattle.std.proofs.lemmas.Bool.{false≢true}
 use Rattle.sj_core.proofs.Words.{AtNode, Cell, DiskNo, Machine, OnDisk, Place, Program, State, Task, Worker, node_of, writes}

@@ -1,5 +1,5 @@
 -- What is true of every board between two calls.
-use Rattle.std.specs.Prelude.{◌≡◌, ℕ, ◌+◌, ◌<◌, ◌≤◌, ◌⊎◌, Bool, true, false, not, IsTrue, nat_eq, Option, Some, None, IfSome, is_some, All, List, length, count_by, sum_by, slice_index_or}
+use Rattle.std.specs.Prelude.{◌≡◌, ℕ, ◌+◌, ◌<◌, ◌≤◌, ◌⊎◌, Bool, true, false, not, IsTrue, nat_eq, Option, Some, None, IfSome, is_some, All, List, length, count_by, sum_by}
 use Rattle.sj_base.specs.declared.ids.Task.{Task}
 use Rattle.sj_base.specs.declared.ids.Worker.{Worker}
 use Rattle.sj_base.specs.declared.program.Program.{Program}
@@ -7,7 +7,7 @@ use Rattle.sj_base.specs.declared.program.Machine.{Machine}
 use Rattle.sj_core.specs.Legal.{IsComplete}
 use Rattle.sj_base.specs.Array.{Array}
 use Rattle.sj_core.specs.Machine.{State, is_done, is_task_of, progress}
-use Rattle.sj_core.specs.Needs.{footprint, node_of, node_size}
+use Rattle.sj_core.specs.Needs.{AreFootprints, footprint, node_of, node_size}
 use Rattle.sj_deps.specs.Progress.{Dependencies}
 use Rattle.sj_pool.specs.Pool.{Pooled, queue_count}
 use Rattle.sj_pool.specs.declared.entry.Entry.{Entry}
@@ -90,11 +90,6 @@ pub record IsSoundBoard {D : Type 0} (size faults mismatches : D → ℕ) (held 
   pub units : UnitsStand b.run.disks b.run.out b.hands
 
 -- ---- what a board keeps beside
-
--- the bytes that each task needs on its node
-pub record AreFootprints (p : Program) (footprints : List ℕ) : Type 0 where
-  pub every_task : length footprints ≡ length p.tasks
-  pub bytes : (t : Task) → t.0 < length p.tasks → slice_index_or footprints t.0 0 ≡ footprint p t
 
 pub record KeepsBoard {D : Type 0} (faults mismatches : D → ℕ) (held : D → Option (List ℕ)) (b : BoardState D) (deps : Dependencies) (footprints : List ℕ) : Type 0 where
   pub fault : IfSome b.fault (HasCause faults mismatches held b.run)

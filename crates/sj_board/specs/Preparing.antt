@@ -7,13 +7,13 @@ use Rattle.sj_base.specs.declared.mode.Policy.{Policy}
 use Rattle.sj_base.specs.declared.program.Program.{Program}
 use Rattle.sj_base.specs.declared.program.Machine.{Machine}
 use Rattle.sj_base.specs.Array.{Array}
+use Rattle.sj_core.specs.Needs.{AreFootprints}
 use Rattle.sj_deps.specs.Progress.{Dependencies, dependencies}
 use Rattle.sj_disk.specs.Directory.{DiskState}
 use Rattle.sj_pool.specs.Pool.{Pooled, empty_pool}
 use Rattle.sj_machine.specs.Delivery.{is_delivery}
 use Rattle.sj_machine.specs.Standing.{starting}
 use Rattle.sj_board.specs.Board.{BoardState, board_state, empty_hand}
-use Rattle.sj_board.specs.BoardSound.{AreFootprints}
 use Rattle.sj_board.specs.Delivered.{Deliveries, deliveries}
 use Rattle.sj_board.specs.Filling.{with_each}
 use Rattle.sj_board.specs.declared.hand.Hand.{Hand}

@@ -4,7 +4,7 @@ ghost use Rattle.std.specs.Prelude.{◌≡◌, ◌↔◌, ◌+◌, ◌<◌, ◌�
 ghost use Rattle.std.specs.List.{list_any};
 ghost use Rattle.sj_base.specs.declared.mode.Policy.TheVariants.{Prio};
 ghost use Rattle.sj_base.specs.declared.trace.Event.TheVariants.{Claim, Drop, End, Move, Run};
-ghost use Rattle.sj_core.specs.Needs.{node_of};
+ghost use Rattle.sj_core.specs.Needs.{AreFootprints, node_of};
 ghost use Rattle.sj_core.specs.Step.{mover_of};
 ghost use Rattle.sj_machine.specs.Cause.{HasCause};
 ghost use Rattle.sj_machine.specs.Planning.{HoldsCommutersAlone};
@@ -174,19 +174,22 @@ fn hand_over(delivered: &mut Delivered, gifts: &mut Gifts, t: Task, w: Worker)
 
 impl<D: Disk> Board<D> {
     /// A board on which nothing has happened, with the tasks that are ready in the pool, and with room for all events and all
-    /// deliveries. The program and the disks come back where memory is wanting. Linear in the tasks and their accesses, and in
-    /// cells times nodes; for each ready task logarithmic in all.
+    /// deliveries. The footprints are the bytes that each task needs on its node. The program and the disks come back where
+    /// memory is wanting. Linear in the tasks and their accesses, and in cells times nodes; for each ready task logarithmic
+    /// in all.
     pub fn make(
         alloc: Global,
         program: Arc<Program>,
+        footprints: Vec<u64>,
         machine: Machine,
         disks: DiskSet<D>,
     ) -> Result<Board<D>, RunRefusal<D>>
-        requires { CanStart program.value machine disks }
+        requires start { CanStart program.value machine disks }
+        requires footprints { AreFootprints program.value footprints.items }
         ensures ok { IfOk result (IsOpening program.value machine disks) }
         ensures err { IfErr result (λ r. (r.program.value ≡ program.value) × (r.disks ≡ disks)) }
     {
-        let Ok(parts) = prepare(alloc, &program, machine.policy) else {
+        let Ok(parts) = prepare(alloc, &program, footprints, machine.policy) else {
             return Err(RunRefusal { program, disks });
         };
         let Ok(gone) = none_gone(alloc, program.workers) else {

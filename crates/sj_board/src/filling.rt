@@ -1,7 +1,7 @@
 //! Ready tasks that are put into the pool.
 
 ghost use Rattle.std.specs.Prelude.{◌≡◌, ◌<◌, false, length};
-ghost use Rattle.sj_board.specs.BoardSound.{AreFootprints};
+ghost use Rattle.sj_core.specs.Needs.{AreFootprints};
 ghost use Rattle.sj_board.specs.Filling.{entry_of, CanPutEach, putter, with_each};
 ghost use Rattle.sj_pool.specs.Pool.{contains, with_entry};
 

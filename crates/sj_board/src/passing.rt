@@ -2,7 +2,7 @@
 
 ghost use Rattle.std.specs.Prelude.{◌≡◌, ◌<◌, IfSome};
 ghost use Rattle.sj_base.specs.declared.mode.Policy.TheVariants.{Prio};
-ghost use Rattle.sj_board.specs.BoardSound.{AreFootprints};
+ghost use Rattle.sj_core.specs.Needs.{AreFootprints};
 ghost use Rattle.sj_board.specs.Passing.{IsPoolOf, IsTakenBehind, is_among};
 ghost use Rattle.sj_pool.specs.Pool.{IsMostUrgent, entry_for};
 

@@ -4,7 +4,7 @@ ghost use Rattle.std.specs.Prelude.{◌≡◌, ◌↔◌, ◌+◌, ◌<◌, Cont
 ghost use Rattle.std.specs.List.Sorted.{IsStrictlyIncreasing};
 ghost use Rattle.sj_base.specs.declared.ids.Task.{Task};
 ghost use Rattle.sj_deps.specs.Conflict.{Ready};
-ghost use Rattle.sj_board.specs.BoardSound.{AreFootprints};
+ghost use Rattle.sj_core.specs.Needs.{AreFootprints};
 ghost use Rattle.sj_core.specs.Proper.{Proper};
 ghost use Rattle.sj_board.specs.Preparing.{AreReadyBelow, IsPrepared, IsReadyToDeliver};
 
@@ -17,22 +17,8 @@ use sj_base::memory::OutOfMemory;
 use sj_base::mode::Policy;
 use sj_base::program::Program;
 use sj_deps::deps::Deps;
-use sj_needs::footprint::footprint;
 use sj_pool::pool::Pool;
 use std::alloc::Global;
-
-/// The bytes that each task needs on its node. Linear in the tasks.
-pub fn footprints_of(alloc: Global, program: &Program) -> Result<Vec<u64>, OutOfMemory>
-    requires { Proper program.now }
-    ensures { IfOk result (λ v. AreFootprints program.now v.items) }
-{
-    let count = program.tasks.len();
-    let mut bytes = Vec::with_capacity(alloc, count)?;
-    for i in 0..count {
-        bytes.push(footprint(program, Task(i as u32)))?;
-    }
-    Ok(bytes)
-}
 
 /// Appends a task, if it is ready, to those before it that are. Constant time, but for moving the list as it grows.
 fn add_if_ready(deps: &Deps, ready: &mut Vec<Task>, t: Task) -> Result<(), OutOfMemory>
@@ -71,15 +57,20 @@ pub struct BoardParts {
 
 /// What a board has beside its run when nothing has happened: its ready tasks are in the pool, and there is room for what its
 /// deliver tasks hand over. Linear in the tasks and their accesses, and for each ready task logarithmic in all.
-pub fn prepare(alloc: Global, program: &Program, policy: Policy) -> Result<BoardParts, OutOfMemory>
+pub fn prepare(
+    alloc: Global,
+    program: &Program,
+    footprints: Vec<u64>,
+    policy: Policy,
+) -> Result<BoardParts, OutOfMemory>
     requires proper { Proper program.now }
     requires workers { 0 < program.now.workers }
+    requires footprints { AreFootprints program.now footprints.items }
     ensures prepared { IfOk result (λ r. IsPrepared program.now policy r.deps r.footprints.items r.hands.items r.pool) }
     ensures delivers { IfOk result (λ r. IsReadyToDeliver program.now r.gifts r.delivered) }
 {
     let count = program.tasks.len() as u32;
     let deps = Deps::of(alloc, program)?;
-    let footprints = footprints_of(alloc, program)?;
     let hands = vec![in alloc; EMPTY; program.workers as usize]?;
     let gifts = Gifts::none(alloc, program.workers)?;
     let delivered = Delivered::with_room(alloc, count_deliveries(program))?;

@@ -4,7 +4,7 @@ ghost use Rattle.std.specs.Prelude.{◌≡◌, ◌<◌, List, Some};
 ghost use Rattle.sj_base.specs.declared.ids.Task.{Task};
 ghost use Rattle.sj_deps.specs.Conflict.{Ready};
 ghost use Rattle.sj_deps.specs.Progress.{after_done};
-ghost use Rattle.sj_board.specs.BoardSound.{AreFootprints};
+ghost use Rattle.sj_core.specs.Needs.{AreFootprints};
 ghost use Rattle.sj_board.specs.Filling.{CanPutEach};
 ghost use Rattle.sj_board.specs.Releasing.{AreReleased, Releases};
 

@@ -1,5 +1,5 @@
 -- What a task and a program need of the machine, in bytes: tiles on a node, blocks on disks.
-use Rattle.std.specs.Prelude.{ℕ, ◌+◌, ◌*◌, ◌%◌, max, Option, Some, None, List, [], ◌∷◌, map, filter, fold, sum_by, length, option_map}
+use Rattle.std.specs.Prelude.{◌≡◌, ℕ, ◌<◌, ◌+◌, ◌*◌, ◌%◌, max, Option, Some, None, List, [], ◌∷◌, map, filter, fold, sum_by, length, option_map}
 use Rattle.std.specs.List.{slice_index_or, slice_set, range_with_len, position}
 use Rattle.sj_base.specs.declared.ids.Cell.{Cell}
 use Rattle.sj_base.specs.declared.ids.Task.{Task}
@@ -28,6 +28,11 @@ scratch_bytes p l = sum_by (λ a. tile_bytes p a.cell) (filter (λ a. is_scratch
 abbrev pub footprint : Program → Task → ℕ
 footprint p t =
     sum_by (tile_bytes p) (distinct (map (λ a. a.cell) (data_operands (task_of p t)))) + scratch_bytes p (task_of p t)
+
+-- the bytes that each task needs on its node
+pub record AreFootprints (p : Program) (footprints : List ℕ) : Type 0 where
+  pub every_task : length footprints ≡ length p.tasks
+  pub bytes : (t : Task) → t.0 < length p.tasks → slice_index_or footprints t.0 0 ≡ footprint p t
 
 -- the bytes of a cell's block on a disk: a header of 24 and the elements
 abbrev pub cell_block_bytes : CellInfo → ℕ

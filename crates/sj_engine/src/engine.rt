@@ -4,6 +4,7 @@ ghost use Rattle.std.specs.Prelude.{◌≡◌, IfErr, IsOk, map};
 ghost use Rattle.sj_core.specs.Bound.{HasAtMostThreePerTaskAndFivePerOperand};
 ghost use Rattle.sj_core.specs.Laws.{IsLawful};
 ghost use Rattle.sj_core.specs.Legal.{IsFinished, IsLegal};
+ghost use Rattle.sj_core.specs.Needs.{AreFootprints};
 ghost use Rattle.sj_core.specs.Proper.{HasSwapFor, IsMachineFor, Proper};
 ghost use Rattle.sj_disk.specs.Holding.{CountsStay};
 ghost use Rattle.sj_edge.specs.GivenBack.{AreGivenBack};
@@ -77,11 +78,13 @@ fn run_over<C: Codelets, G: Gate, D: Disk + Send, R: Threads + Wait + Sync>(
 /// returns. Kernels run between the two calls of the gate, outside of every lock. Beside the kernels and transfers, the costs
 /// of the board's calls for each event.
 ///
-/// A task that fits no node of a worker is never claimed, and such a run doesn't return: the caller tests it first.
+/// The footprints are the bytes that each task needs on its node, which `fits` of `sj_needs` gives. A task that fits no node of a
+/// worker is never claimed, and such a run doesn't return: the caller tests it first, by the same call.
 pub fn run<C: Codelets, G: Gate, D: Disk + Send, R: Threads + Wait + Sync>(
     rt: &R,
     alloc: Global,
     program: Arc<Program>,
+    footprints: Vec<u64>,
     machine: Machine,
     disks: Vec<D>,
     codelets: &C,
@@ -89,6 +92,7 @@ pub fn run<C: Codelets, G: Gate, D: Disk + Send, R: Threads + Wait + Sync>(
 ) -> RunOutcome<D>
     requires proper { Proper program.value }
     requires lawful { IsLawful C.has program.value }
+    requires footprints { AreFootprints program.value footprints.items }
     requires machine { IsMachineFor program.value machine }
     requires swap { HasSwapFor program.value machine }
     requires sizes { machine.disks ≡ map D.size disks.items }
@@ -111,7 +115,7 @@ pub fn run<C: Codelets, G: Gate, D: Disk + Send, R: Threads + Wait + Sync>(
     let Ok(shared) = Arc::try_clone(&program) else {
         return unopened(alloc, disks);
     };
-    match opened(alloc, program, machine, disks) {
+    match opened(alloc, program, footprints, machine, disks) {
         Ok(board) => run_over(rt, alloc, &shared, board, codelets, gate),
         Err(disks) => unopened(alloc, disks),
     }

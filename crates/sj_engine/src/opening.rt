@@ -2,6 +2,7 @@
 
 ghost use Rattle.std.specs.Prelude.{◌≡◌, IfErr, IfOk, map};
 ghost use Rattle.sj_core.specs.Laws.{IsLawful};
+ghost use Rattle.sj_core.specs.Needs.{AreFootprints};
 ghost use Rattle.sj_core.specs.Proper.{HasSwapFor, IsMachineFor, Proper};
 ghost use Rattle.sj_engine.specs.Run.{IsOpened};
 ghost use Rattle.sj_machine.specs.Sound.{IsRunnableOn};
@@ -19,10 +20,12 @@ use std::sync::Arc;
 pub(crate) fn opened<D: Disk>(
     alloc: Global,
     program: Arc<Program>,
+    footprints: Vec<u64>,
     machine: Machine,
     disks: Vec<D>,
 ) -> Result<Board<D>, Vec<D>>
     requires run { IsRunnableOn program.value machine }
+    requires footprints { AreFootprints program.value footprints.items }
     requires sizes { machine.disks ≡ map D.size disks.items }
     ensures ok { IfOk result (IsOpened program.value machine disks.items) }
     ensures err { IfErr result (λ back. back.items ≡ disks.items) }
@@ -31,7 +34,7 @@ pub(crate) fn opened<D: Disk>(
         Ok(set) => set,
         Err(disks) => return Err(disks),
     };
-    match Board::make(alloc, program, machine, set) {
+    match Board::make(alloc, program, footprints, machine, set) {
         Ok(board) => Ok(board),
         Err(refusal) => Err(refusal.disks.close()),
     }

@@ -1,14 +1,16 @@
-//! The bytes that a task needs on its node.
+//! The bytes that a task needs on its node, and those of all tasks.
 
-ghost use Rattle.std.specs.Prelude.{◌≡◌, ◌≤◌, ◌<◌, ◌^◌, ◌*◌, length};
-ghost use Rattle.sj_core.specs.Needs.{footprint, tile_bytes as bytes_of_tile};
+ghost use Rattle.std.specs.Prelude.{◌≡◌, ◌≤◌, ◌<◌, ◌^◌, ◌*◌, IfOk, length};
+ghost use Rattle.sj_core.specs.Needs.{AreFootprints, footprint, tile_bytes as bytes_of_tile};
 ghost use Rattle.sj_core.specs.Proper.{IsWithinLimits, Proper};
 ghost use Rattle.sj_needs.specs.Operands.{bytes_before, is_accessed};
 
 use sj_base::ids::{Cell, Task};
+use sj_base::memory::OutOfMemory;
 use sj_base::mode::{Access, Mode};
 use sj_base::program::Program;
 use sj_core::tasks::accesses_of;
+use std::alloc::Global;
 
 /// The bytes of a cell's tile. Constant time.
 fn tile_bytes(program: &Program, cell: Cell) -> u64
@@ -56,4 +58,17 @@ pub fn footprint(program: &Program, t: Task) -> u64
         bytes += bytes_before(program, &accesses[i + 1..], accesses[i]);
     }
     bytes
+}
+
+/// The bytes that each task needs on its node, by the task's number. Linear in the accesses.
+pub fn footprints_of(alloc: Global, program: &Program) -> Result<Vec<u64>, OutOfMemory>
+    requires { Proper program.now }
+    ensures { IfOk result (λ v. AreFootprints program.now v.items) }
+{
+    let count = program.tasks.len();
+    let mut bytes = Vec::with_capacity(alloc, count)?;
+    for i in 0..count {
+        bytes.push(footprint(program, Task(i as u32)))?;
+    }
+    Ok(bytes)
 }

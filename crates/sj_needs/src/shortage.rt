@@ -1,12 +1,12 @@
 //! What a machine lacks for a program.
 
-ghost use Rattle.std.specs.Prelude.{◌≡◌, ◌<◌, ◌≤◌, ◌^◌, All, IfErr, IfSome, IsOk, find, length, nat_lt, sum};
-ghost use Rattle.sj_core.specs.Needs.{footprint, swap_need};
+ghost use Rattle.std.specs.Prelude.{◌≡◌, ◌<◌, ◌≤◌, ◌^◌, All, IfErr, IfOk, IfSome, IsOk, find, length, nat_lt, sum};
+ghost use Rattle.sj_core.specs.Needs.{AreFootprints, footprint, swap_need};
 ghost use Rattle.sj_core.specs.Program.{task_of, tasks_of};
 ghost use Rattle.sj_core.specs.Proper.{HasSwapFor, IsMachineFor, IsWithinLimits, Proper};
 ghost use Rattle.sj_needs.specs.Shortage.{FitRoom, IsShortage};
 
-use crate::footprint::footprint;
+use crate::footprint::{footprint, footprints_of};
 use crate::room::room;
 use crate::swap::{bytes_of_all, has_places, swap_need};
 use sj_base::ids::{Line, Task};
@@ -36,16 +36,31 @@ impl From<OutOfMemory> for Shortage {
     }
 }
 
+/// The bytes that a task needs on its node: as they are listed, or counted where the list found no memory. Constant time where
+/// there is a list; no memory.
+fn bytes_of(program: &Program, listed: &Result<Vec<u64>, OutOfMemory>, t: Task) -> u64
+    requires program { Proper program.now }
+    requires listed { IfOk listed.now (λ v. AreFootprints program.now v.items) }
+    requires task { t.0 < length program.now.tasks }
+    ensures { result ≡ footprint program.now t }
+{
+    match listed {
+        Ok(footprints) => footprints[t.0 as usize],
+        Err(_) => footprint(program, t),
+    }
+}
+
 /// The first task that needs more than so many bytes. Linear in the tasks before it; no memory.
-fn first_above(program: &Program, room: u64) -> Option<Task>
-    requires { Proper program.now }
+fn first_above(program: &Program, listed: &Result<Vec<u64>, OutOfMemory>, room: u64) -> Option<Task>
+    requires program { Proper program.now }
+    requires listed { IfOk listed.now (λ v. AreFootprints program.now v.items) }
     ensures first { result
         ≡ find (λ t. nat_lt room (footprint program.now t)) (tasks_of program.now) }
     ensures task { IfSome result (λ t. t.0 < length program.now.tasks) }
 {
     for i in 0..program.tasks.len() {
         let t = Task(i as u32);
-        if room < footprint(program, t) {
+        if room < bytes_of(program, listed, t) {
             return Some(t);
         }
     }
@@ -77,27 +92,33 @@ fn swap_too_small(program: &Program, disks: &[u64]) -> Shortage
     }
 }
 
-/// Whether a machine has what a program needs: a node with a worker for each task, and a place on its disks for a block of each
-/// cell, so that what doesn't fit a node can be evicted. Linear in the accesses, and for each cell in the disks.
+/// The bytes that each task needs on its node, by the task's number, where a machine has what the program needs: a node with a
+/// worker for each task, and a place on its disks for a block of each cell, so that what doesn't fit a node can be evicted.
+/// Linear in the accesses, and for each cell in the disks.
 ///
 /// # Errors
 ///
-/// The first task that fits no node with a worker, by its line and its bytes; else the bytes of all blocks and of all disks,
-/// where the blocks have no places; or that an allocation was refused.
-pub fn fits(alloc: Global, program: &Program, machine: &Machine) -> Result<(), Shortage>
+/// The first task that fits no node with a worker, by its line and its bytes, whether or not memory is wanting; else the bytes of
+/// all blocks and of all disks, where the blocks have no places; or that an allocation was refused.
+pub fn fits(alloc: Global, program: &Program, machine: &Machine) -> Result<Vec<u64>, Shortage>
     requires program { Proper program.now }
     requires machine { IsMachineFor program.now machine.now }
     requires disks { All (λ n. n ≤ 2 ^ 40) machine.now.disks }
     ensures room { IsOk result → FitRoom program.now machine.now }
     ensures swap { IsOk result → HasSwapFor program.now machine.now }
+    ensures footprints { IfOk result (λ v. AreFootprints program.now v.items) }
     ensures shortage { IfErr result (IsShortage program.now machine.now) }
+    ensures too_large_first { IfErr result (λ why. why ≡ Shortage.OutOfMemory →
+        FitRoom program.now machine.now) }
 {
-    if let Some(t) = first_above(program, room(machine)) {
+    let listed = footprints_of(alloc, program);
+    if let Some(t) = first_above(program, &listed, room(machine)) {
         return Err(too_large(program, t));
     }
+    let footprints = listed?;
     let disks = machine.disks.items();
     if has_places(alloc, program, disks)? {
-        return Ok(());
+        return Ok(footprints);
     }
     Err(swap_too_small(program, disks))
 }

@@ -3,6 +3,7 @@ use Rattle.std.specs.Prelude.{◌≡◌, Bool, IsTrue, Ok, Err, IsOkAnd}
 use Rattle.sj_codelet.specs.declared.kernel.Kernel.{Kernel}
 use Rattle.sj_codelet.specs.declared.kernel.Kernel.TheVariants.{Load, LoadFill, Paste, Deliver}
 use Rattle.sj_core.specs.Laws.{IsLawful}
+use Rattle.sj_core.specs.Needs.{AreFootprints}
 use Rattle.sj_core.specs.Proper.{HasSwapFor, IsMachineFor, Proper}
 use Rattle.sj_lower.specs.Delivering.{DeliversPrinted, NamesDeliverTasks}
 use Rattle.sj_needs.specs.Shortage.{FitRoom, IsShortage}
@@ -18,7 +19,7 @@ pub record HasOwnCodelets (has : Kernel → Bool) : Type 0 where
   pub paste : IsTrue (has Paste)
   pub deliver : IsTrue (has Deliver)
 
--- the program is that of the work that is asked for, and can be run on its machine by the codelets of a set
+-- the program is that of the work that is asked for, can be run on its machine by the codelets of a set, and has these footprints
 pub record IsReady (has : Kernel → Bool) (asked : WorkOrRefusal) (r : ReadyJob) : Type 0 where
   pub work : Work
   pub asked_for : asked ≡ Ok work
@@ -31,6 +32,7 @@ pub record IsReady (has : Kernel → Bool) (asked : WorkOrRefusal) (r : ReadyJob
   pub machine_for : IsMachineFor r.program.value r.machine
   pub tasks_fit : FitRoom r.program.value r.machine
   pub blocks_have_places : HasSwapFor r.program.value r.machine
+  pub footprints : AreFootprints r.program.value r.footprints.items
   pub prints : DeliversPrinted r.roots r.program.value work.statements
   pub named : NamesDeliverTasks r.program.value
 

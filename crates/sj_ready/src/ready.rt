@@ -41,12 +41,13 @@ use sj_words::{Options, machine_of};
 use std::alloc::Global;
 use std::sync::Arc;
 
-/// A job's program, to be shared, its roots, and the machine that is to run it.
+/// A job's program, to be shared, its roots, the machine that is to run it, and the bytes that each task needs on its node.
 #[derive(Drop)]
 pub struct ReadyJob {
     pub program: Arc<Program>,
     pub roots: Roots,
     pub machine: Machine,
+    pub footprints: Vec<u64>,
     /// A line is to be printed of each array, in place of its elements.
     pub shows_summary: bool,
     /// The trace's text is to follow what the job prints.
@@ -91,40 +92,31 @@ fn shareable(alloc: Global, program: Program) -> Result<Arc<Program>, OutOfMemor
     Ok(Arc::new(alloc, program)?)
 }
 
-/// A job lowered for the workers of a machine. The cost of lowering.
-fn lowered_for(
-    alloc: Global,
-    job: Job,
-    machine: Machine,
-    shows_summary: bool,
-    shows_trace: bool,
-) -> Result<ReadyJob, Unready>
+/// A job's program, to be shared, and its roots.
+#[derive(Drop)]
+struct SharedJob {
+    program: Arc<Program>,
+    roots: Roots,
+}
+
+/// A job lowered for so many workers. The cost of lowering.
+fn lowered_for(alloc: Global, job: Job, workers: u8) -> Result<SharedJob, Unready>
     requires job { IsJob (statements_of job) }
     requires numbered { IsNumbered job.roots job.statements }
-    ensures within { IfOk result (λ _. late_limit machine.workers (statements_of job) ≡ None) }
-    ensures program { IfOk result (λ r.
-        r.program.value ≡ lowered (statements_of job) machine.workers) }
-    ensures machine { IfOk result (λ r. r.machine ≡ machine) }
-    ensures summary { IfOk result (λ r. r.shows_summary ≡ shows_summary) }
-    ensures trace { IfOk result (λ r. r.shows_trace ≡ shows_trace) }
+    ensures within { IfOk result (λ _. late_limit workers (statements_of job) ≡ None) }
+    ensures program { IfOk result (λ r. r.program.value ≡ lowered (statements_of job) workers) }
     ensures proper { IfOk result (λ r. Proper r.program.value) }
     ensures known { IfOk result (λ r. (has : Kernel → Bool) → IsJobIn has (statements_of job)
         → All (λ l. IsTrue (is_known has l.codelet)) r.program.value.tasks) }
     ensures prints { IfOk result (λ r. (has : Kernel → Bool) → IsLawful has r.program.value
-        → 0 < machine.workers → DeliversPrinted r.roots r.program.value (statements_of job)) }
+        → 0 < workers → DeliversPrinted r.roots r.program.value (statements_of job)) }
     ensures handed_over { IfOk result (λ r. NamesDeliverTasks r.program.value) }
     ensures unready { IfErr result (λ why. (w : Work) → w.statements ≡ statements_of job →
-        w.machine ≡ machine → IsUnready (within_limits w) why) }
+        w.machine.workers ≡ workers → IsUnready (within_limits w) why) }
 {
-    let LoweredJob { program, roots } = lower(alloc, job, machine.workers)?;
+    let LoweredJob { program, roots } = lower(alloc, job, workers)?;
     let program = shareable(alloc, program)?;
-    Ok(ReadyJob {
-        program,
-        roots,
-        machine,
-        shows_summary,
-        shows_trace,
-    })
+    Ok(SharedJob { program, roots })
 }
 
 /// The job of a text, whose memory is given back. Linear in the text, but that codelets are looked up in the table.
@@ -196,9 +188,16 @@ pub fn ready_job<C: Codelets>(
 {
     let job = job_of(alloc, input, codelets)?;
     let machine = machine_for(alloc, options, &job.settings, disks)?;
-    let ready = lowered_for(alloc, job, machine, options.summary, options.trace)?;
-    arguments_fit(&ready.program);
+    let SharedJob { program, roots } = lowered_for(alloc, job, machine.workers)?;
+    arguments_fit(&program);
     laws_of(codelets);
-    fits(alloc, &ready.program, &ready.machine)?;
-    Ok(ready)
+    let footprints = fits(alloc, &program, &machine)?;
+    Ok(ReadyJob {
+        program,
+        roots,
+        machine,
+        footprints,
+        shows_summary: options.summary,
+        shows_trace: options.trace,
+    })
 }

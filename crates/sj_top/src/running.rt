@@ -103,12 +103,15 @@ fn run_ready<C: Codelets, G: Gate, D: Disk + Send, R: Threads + Wait + Sync>(
     let Ok(shared) = shared(&ready.program) else {
         return nothing_run(alloc, Stop::OutOfMemory, disks);
     };
+    let (footprints, machine) = (ready.footprints, ready.machine);
     let RunOutcome {
         result,
         delivered,
         trace,
         disks,
-    } = run(rt, alloc, shared, ready.machine, disks, codelets, gate);
+    } = run(
+        rt, alloc, shared, footprints, machine, disks, codelets, gate,
+    );
     if let Err(fault) = result {
         return Run {
             text: Err(Stop::Broken(fault)),

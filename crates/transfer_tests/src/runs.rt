@@ -57,10 +57,13 @@ fn run_ready<C: Codelets, G: Gate, D: Disk + Send, R: Threads + Wait + Sync>(
 {
     let ReadyJob {
         program,
+        footprints,
         machine,
         ..
     } = ready;
-    run(rt, alloc, program, machine, disks, codelets, gate)
+    run(
+        rt, alloc, program, footprints, machine, disks, codelets, gate,
+    )
 }
 
 /// Runs a job on the machine that options ask for, else its settings, with these disks.

@@ -11,9 +11,9 @@ use Rattle.own_set.proofs.make_ready.Goals as goal
 pub returns-clause-ok : goal.returns-clause-ok
 returns-clause-ok c =
     let lowered = c.in_ok-program in
-    ready-by (job_of turns_has c.args.text.now) (job_seen c.in_ok-job.job) lowered.field-0.program c.args.disks.items (record { program = c.in_ok-program-2.program; machine = c.in_ok-machine.machine })
+    ready-by (job_of turns_has c.args.text.now) (job_seen c.in_ok-job.job) lowered.field-0.program c.args.disks.items (record { program = c.in_ok-program-2.program; footprints = c.in_ok-footprints.footprints; machine = c.in_ok-machine.machine })
     c.in_ok-job.ensures.ok lowered.ensures.is c.in_ok-program-2.ensures c.in_ok-machine.ensures lowered.ensures.proper
-    (c.has_codelets.ensures.0 c.if-not-has_codelets.false) c.arguments_fit.ensures c.requires.few (c.in_ok-fits.ensures.swap refl)
+    (c.has_codelets.ensures.0 c.if-not-has_codelets.false) c.arguments_fit.ensures c.requires.few (c.in_ok-footprints.ensures.swap refl) c.in_ok-footprints.ensures.footprints
 
 pub returns-then-not-has_codelets-clause-err : goal.returns-then-not-has_codelets-clause-err
 returns-then-not-has_codelets-clause-err c =

@@ -9,4 +9,4 @@ pub returns-clause-run : goal.returns-clause-run
 returns-clause-run c =
     let l = c.in_ok-program in
     let m = c.in_ok-machine in
-    subst (λ (p : Program). IsRunnableOn p m.machine) (sym c.in_ok-new.ensures.ok) (run-of (statements_of c.in_ok-job.job) l.field-0.program m.machine c.args.disk l.ensures.is c.in_ok-job.ensures.well l.ensures.proper l.ensures.known c.arguments_fit.ensures m.ensures.workers m.ensures.nodes m.ensures.disks (c.in_ok-fits.ensures.swap refl))
+    subst (λ (p : Program). IsRunnableOn p m.machine) (sym c.in_ok-new.ensures.ok) (run-of (statements_of c.in_ok-job.job) l.field-0.program m.machine c.args.disk l.ensures.is c.in_ok-job.ensures.well l.ensures.proper l.ensures.known c.arguments_fit.ensures m.ensures.workers m.ensures.nodes m.ensures.disks (c.in_ok-footprints.ensures.swap refl))

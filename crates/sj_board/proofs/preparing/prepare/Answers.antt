@@ -14,7 +14,7 @@ put_each-requires-clause-can c = first-can c.args.program.now c.args.policy c.re
 pub returns-clause-prepared : goal.returns-clause-prepared
 returns-clause-prepared c =
     let hands : c.in_ok-hands.hands.items ≡ first_hands c.args.program.now = search rules in
-    prepared c.args.program.now c.args.policy c.requires.workers c.in_ok-deps.deps c.in_ok-deps.ensures.program c.in_ok-deps.ensures.none_done c.deref-2.result.now c.in_ok-ready.ready.items c.deref-2.ensures.value c.in_ok-ready.ensures.each c.in_ok-ready.ensures.by_number c.in_ok-pool.pool _ c.len-count.ensures c.in_ok-pool.ensures c.in_ok-footprints.footprints.items c.in_ok-hands.hands.items c.put_each.new.pool c.in_ok-footprints.ensures hands c.put_each.ensures
+    prepared c.args.program.now c.args.policy c.requires.workers c.in_ok-deps.deps c.in_ok-deps.ensures.program c.in_ok-deps.ensures.none_done c.deref-2.result.now c.in_ok-ready.ready.items c.deref-2.ensures.value c.in_ok-ready.ensures.each c.in_ok-ready.ensures.by_number c.in_ok-pool.pool _ c.len-count.ensures c.in_ok-pool.ensures c.args.footprints.items c.in_ok-hands.hands.items c.put_each.new.pool c.requires.footprints hands c.put_each.ensures
 
 pub returns-clause-delivers : goal.returns-clause-delivers
 returns-clause-delivers c =

@@ -6,12 +6,12 @@ use Rattle.sj_core.specs.Program.{tasks_of}
 use Rattle.sj_needs.proofs.Tasks.{finds-next, finds-none, finds-this}
 use Rattle.sj_needs.proofs.shortage.first_above.Goals as goal
 
-pub returns-then-room-footprint-clause-first : goal.returns-then-room-footprint-clause-first
-returns-then-room-footprint-clause-first c =
+pub returns-then-room-bytes_of-clause-first : goal.returns-then-room-bytes_of-clause-first
+returns-then-room-bytes_of-clause-first c =
     let p = c.args.program.now in
     let test : Task → Bool = λ t. nat_lt c.args.room (footprint p t) in
     let i = c.loop-i.i in
-    let found : test (record { 0 = i }) ≡ true = grind (arith, nat_tests, c.footprint.ensures.bytes, c.if-room-footprint.true) in
+    let found : test (record { 0 = i }) ≡ true = grind (arith, nat_tests, c.bytes_of.ensures, c.if-room-bytes_of.true) in
     sym (finds-this p test i (omega (arith, c.loop-i-test.true, c.len-i-end.ensures)) found) ∙ c.loop-i.invariant
 
 pub loop-i-preserved : goal.loop-i-preserved
@@ -19,7 +19,7 @@ loop-i-preserved c =
     let p = c.args.program.now in
     let test : Task → Bool = λ t. nat_lt c.args.room (footprint p t) in
     let i = c.loop-i.i in
-    let passed : test (record { 0 = i }) ≡ false = grind (arith, nat_tests, c.footprint.ensures.bytes, c.if-room-footprint.false) in
+    let passed : test (record { 0 = i }) ≡ false = grind (arith, nat_tests, c.bytes_of.ensures, c.if-room-bytes_of.false) in
     sym (finds-next p test i (omega (arith, c.loop-i-test.true, c.len-i-end.ensures)) passed) ∙ c.loop-i.invariant
 
 pub returns-clause-first : goal.returns-clause-first

@@ -1,4 +1,4 @@
-use Rattle.std.proofs.Common.{◌≡◌, ℕ, false, List, Option, Some, None, nat_lt, sum, refl, find, ap, sym, ◌∙◌, arith, subst}
+use Rattle.std.proofs.Common.{◌≡◌, ℕ, false, List, Option, Some, None, Result, Ok, Err, IfErr, nat_lt, sum, refl, find, ap, sym, ◌∙◌, arith, subst}
 use Rattle.std.specs.Prelude.{is_some}
 use Rattle.std.proofs.lemmas.Bool.Decides.{nat_tests}
 use Rattle.std.proofs.lemmas.Bool.{true≢false}
@@ -8,7 +8,7 @@ use Rattle.sj_base.specs.declared.program.Program.{Program}
 use Rattle.sj_core.specs.Needs.{footprint, place, room, swap_need}
 use Rattle.sj_core.specs.Program.{tasks_of}
 use Rattle.sj_needs.specs.Shortage.{FitRoom, IsShortage}
-use Rattle.sj_needs.specs.declared.shortage.Shortage.TheVariants.{SwapTooSmall}
+use Rattle.sj_needs.specs.declared.shortage.Shortage.TheVariants.{SwapTooSmall, OutOfMemory}
 use Rattle.sj_needs.proofs.Tasks.{each-fails}
 use Rattle.sj_needs.proofs.shortage.fits.Goals as goal
 
@@ -21,6 +21,19 @@ all-fit p m n e none k d below =
 none-placed : {X : Type 0} (o : Option X) → is_some o ≡ false → o ≡ None
 none-placed None none = refl
 none-placed (Some x) none = absurd (true≢false none)
+
+-- what is so anyhow is so where there is this refusal
+anyhow : {A E P : Type 0} (r : Result A E) (e : E) → P → IfErr r (λ why. why ≡ e → P)
+anyhow (Ok x) e p = tt
+anyhow (Err why) e p = λ same. p
+
+pub returns-in_err-footprints-clause-too_large_first : goal.returns-in_err-footprints-clause-too_large_first
+returns-in_err-footprints-clause-too_large_first c =
+    anyhow c.from_residual.result OutOfMemory (all-fit c.args.program.now c.args.machine.now c.room.result c.room.ensures (sym c.in_default.is ∙ c.first_above.ensures.first))
+
+pub returns-in_err-has_places-clause-too_large_first : goal.returns-in_err-has_places-clause-too_large_first
+returns-in_err-has_places-clause-too_large_first c =
+    anyhow c.from_residual-in_err-has_places.result OutOfMemory (all-fit c.args.program.now c.args.machine.now c.room.result c.room.ensures (sym c.in_default.is ∙ c.first_above.ensures.first))
 
 pub returns-then-branch-clause-room : goal.returns-then-branch-clause-room
 returns-then-branch-clause-room c ok =

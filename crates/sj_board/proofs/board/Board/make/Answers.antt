@@ -12,7 +12,7 @@ use Rattle.sj_board.proofs.board.Board.make.Goals as goal
 
 pub invariant_of-result : goal.invariant_of-result
 invariant_of-result g c =
-    let some : 0 < c.args.program.value.workers = omega (arith, c.requires.run.machine.some_worker, c.requires.run.machine.workers) in
+    let some : 0 < c.args.program.value.workers = omega (arith, c.requires.start.run.machine.some_worker, c.requires.start.run.machine.workers) in
     let parts = subst (λ (p : Program). IsPrepared p c.args.machine.policy c.in-Ok.parts.deps c.in-Ok.parts.footprints.items c.in-Ok.parts.hands.items c.in-Ok.parts.pool) c.deref.ensures c.in-Ok.ensures.prepared in
     let delivers = subst (λ (p : Program). IsReadyToDeliver p c.in-Ok.parts.gifts c.in-Ok.parts.delivered) c.deref.ensures c.in-Ok.ensures.delivers in
     record {
