@@ -7,6 +7,8 @@ mod opening;
 #[cfg(test)]
 mod scenes;
 #[cfg(test)]
+mod spent;
+#[cfg(test)]
 mod steps;
 #[cfg(test)]
 mod tests;

@@ -8,6 +8,7 @@ ghost use Rattle.sj_engine.specs.Stage.{IsFreeRow, IsStoppedRow};
 
 use crate::member::{SeatedWorker, Stage};
 use crate::site::Site;
+use crate::tray::Tray;
 use crate::worker_seat::WorkerSeat;
 use crate::workplace::{BoardDesk, BoardSeat};
 use sj_codelet::set::Codelets;
@@ -73,7 +74,7 @@ impl<C: Codelets, G: Gate, R: Threads + Wait + Sync, D: Disk> Site<'_, C, G, R, 
     }
 
     /// The worker goes on from where it is, if it works here: then the next one may not rest. Whether the next one may.
-    fn visit(&self, post: &mut Post<D>, rests: bool) -> bool
+    fn visit(&self, post: &mut Post<D>, rests: bool, tray: &mut Tray) -> bool
         requires site { MayWork C.has self.now.program.now self.now.desk.now }
         requires post { IsOnPost self.now.desk.now post.old }
         ensures post { IsOnPost self.now.desk.now post.new }
@@ -82,7 +83,7 @@ impl<C: Codelets, G: Gate, R: Threads + Wait + Sync, D: Disk> Site<'_, C, G, R, 
         match post {
             Post::Here(member) => {
                 let goes_on = member.stage != Stage::Stopped;
-                self.go_on(member, rests);
+                self.go_on(member, rests, tray);
                 rests && !goes_on
             }
             Post::Away(_) => rests,
@@ -91,7 +92,7 @@ impl<C: Codelets, G: Gate, R: Threads + Wait + Sync, D: Disk> Site<'_, C, G, R, 
 
     /// One round: each worker that works here goes on as far as it can. The first of them that couldn't go on before rests first:
     /// no other has heard the bell earlier, so whatever one of them can go on by ends that rest.
-    fn go_round(&self, posts: &mut Vec<Post<D>>)
+    fn go_round(&self, posts: &mut Vec<Post<D>>, tray: &mut Tray)
         requires site { MayWork C.has self.now.program.now self.now.desk.now }
         requires posts { All (IsOnPost self.now.desk.now) posts.old.items }
         ensures posts { All (IsOnPost self.now.desk.now) posts.new.items }
@@ -99,7 +100,7 @@ impl<C: Codelets, G: Gate, R: Threads + Wait + Sync, D: Disk> Site<'_, C, G, R, 
     {
         let mut rests = true;
         for k in 0..posts.len() {
-            rests = self.visit(&mut posts[k], rests);
+            rests = self.visit(&mut posts[k], rests, tray);
         }
     }
 
@@ -110,11 +111,12 @@ impl<C: Codelets, G: Gate, R: Threads + Wait + Sync, D: Disk> Site<'_, C, G, R, 
         ensures posts { All (IsOnPost self.now.desk.now) posts.new.items }
         ensures numbers { numbers_of_posts posts.new.items ≡ numbers_of_posts posts.old.items }
     {
+        let mut tray = Tray::new(self.alloc);
         for _ in self.rt.forever() {
             if !posts.iter().any(|post| post.goes_on_here()) {
                 return;
             }
-            self.go_round(posts);
+            self.go_round(posts, &mut tray);
         }
         unreachable!()
     }

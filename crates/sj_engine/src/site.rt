@@ -4,6 +4,7 @@ ghost use Rattle.std.specs.Prelude.{◌≡◌};
 ghost use Rattle.sj_engine.specs.Member.{IsMember, MayWork};
 
 use crate::member::{SeatedWorker, Stage};
+use crate::tray::Tray;
 use crate::workplace::{BoardDesk, Workplace};
 use sj_base::ids::Worker;
 use sj_base::program::Program;
@@ -25,8 +26,9 @@ pub struct Site<'a, C, G, R, D: Disk> {
 }
 
 impl<C: Codelets, G: Gate, R: Wait, D: Disk> Site<'_, C, G, R, D> {
-    /// Goes on with a worker until it can't, or has stopped. Where it couldn't go on before and may rest, it rests first.
-    pub(crate) fn go_on(&self, member: &mut SeatedWorker<D>, rests: bool)
+    /// Goes on with a worker until it can't, or has stopped. Where it couldn't go on before and may rest, it rests first. The
+    /// tray is its thread's.
+    pub(crate) fn go_on(&self, member: &mut SeatedWorker<D>, rests: bool, tray: &mut Tray)
         requires site { MayWork C.has self.now.program.now self.now.desk.now }
         requires member { IsMember self.now.desk.now member.old }
         ensures member { IsMember self.now.desk.now member.new }
@@ -44,7 +46,13 @@ impl<C: Codelets, G: Gate, R: Wait, D: Disk> Site<'_, C, G, R, D> {
         if rests && member.stage.may_rest() {
             member.seat.rest(self.rt, self.desk);
         }
-        member.stage = workplace.work(&mut member.seat, self.codelets, self.gate, member.stage);
+        member.stage = workplace.work(
+            &mut member.seat,
+            self.codelets,
+            self.gate,
+            member.stage,
+            tray,
+        );
     }
 
     /// Works for one worker until it has stopped, and rests where it can't go on.
@@ -55,11 +63,12 @@ impl<C: Codelets, G: Gate, R: Wait, D: Disk> Site<'_, C, G, R, D> {
         ensures stopped { member.new.stage ≡ Stage.Stopped }
         ensures number { member.new.seat.facts.number ≡ member.old.seat.facts.number }
     {
+        let mut tray = Tray::new(self.alloc);
         for _ in self.rt.forever() {
             if member.stage == Stage::Stopped {
                 return;
             }
-            self.go_on(member, true);
+            self.go_on(member, true, &mut tray);
         }
         unreachable!()
     }

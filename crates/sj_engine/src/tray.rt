@@ -1,8 +1,10 @@
 //! What a worker carries into its turns and out of them.
 
-ghost use Rattle.std.specs.Prelude.{◌≡◌, ◌≤◌, [], IfOk};
+ghost use Rattle.std.specs.Prelude.{◌≡◌, ◌^◌, ◌≤◌, [], IfOk, length};
+ghost use Rattle.sj_base.specs.Array.{area};
 
 use sj_base::memory::OutOfMemory;
+use sj_base::tile::{Dims, Tile};
 use sj_codelet::frame::Frame;
 use sj_machine::spent::Spent;
 use std::alloc::Global;
@@ -12,8 +14,8 @@ use std::mem;
 /// The most operands that a task has.
 const FRAME_ROOM: u8 = 5;
 
-/// An empty frame for the operands of a worker's next task, and the tiles that its turn made needless: so a turn takes no memory
-/// for the one, and gives none back for the others.
+/// An empty frame for the operands of a worker's next task, and the tiles that its turns made needless: so a turn takes no
+/// memory for the one, and gives none back for the others, into which the worker fetches.
 #[derive(Drop)]
 pub struct Tray {
     frame: Frame,
@@ -62,12 +64,25 @@ impl Tray {
         self.frame = frame;
     }
 
-    /// Frees the tiles that turns made needless, unless the worker keeps the turn.
-    pub fn free_outside(&mut self, keeps_turn: bool)
+    /// A tile of these dimensions to fetch into, with any elements: one that turns made needless, which wants no memory for
+    /// elements, or else a new one, before which all of those are freed. Linear in its elements where it is new.
+    pub fn take_tile(&mut self, alloc: Global, dims: Dims) -> Result<Tile, OutOfMemory>
+        requires { area dims ≤ 2 ^ 24 }
+        ensures dims { IfOk result (λ t. t.dims ≡ dims) }
+        ensures whole { IfOk result (λ t. length t.elements ≡ area dims) }
+        ensures tray { self.new ≡ self.old }
+    {
+        if let Some(tile) = self.spent.take_tile(dims) {
+            return Ok(tile);
+        }
+        self.spent.free();
+        Tile::zeros(alloc, dims)
+    }
+
+    /// Frees the tiles that turns made needless, all but so many at most.
+    pub fn free_outside(&mut self, most: usize)
         ensures { self.new ≡ self.old }
     {
-        if !keeps_turn {
-            self.spent.free();
-        }
+        self.spent.free_but(most);
     }
 }

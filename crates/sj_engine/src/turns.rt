@@ -26,6 +26,7 @@ use sj_core::progress::Transfer;
 use sj_disk::refusal::DiskRefusal;
 use sj_disk::unit::Unit;
 use sj_edge::disk::Disk;
+use sj_machine::few_cells::MOST_OPERANDS;
 use std::sync::{Arc, Wait};
 
 /// What a step did for those that rest.
@@ -55,6 +56,16 @@ fn goes_on<D: Disk>(step: &Step<D>) -> bool
     match step {
         Step::Moves { .. } | Step::Discarded => true,
         _ => false,
+    }
+}
+
+/// How many tiles that turns made needless a worker keeps after a step: all where it goes on at once; as many as it may fetch
+/// where it prepares its task; none where a kernel runs next, to which it leaves the memory, or where it lets its task go.
+fn most_kept<D: Disk>(step: &Step<D>) -> usize {
+    match step {
+        Step::Moves { .. } | Step::Discarded => usize::MAX,
+        Step::Writes { .. } | Step::Reads { .. } | Step::Waits => MOST_OPERANDS,
+        Step::Begun(_) | Step::Stopped | Step::Failed => 0,
     }
 }
 
@@ -148,7 +159,8 @@ impl<R: Wait, D: Disk> Workplace<'_, R, D> {
     }
 
     /// Makes the next step for the claimed task. Where the worker must wait, the seat has heard the bell. Tiles that the board
-    /// lets go are freed when the turn was given away.
+    /// lets go are freed when the turn was given away, but for five at most until the kernel begins, into which the task's own
+    /// are fetched.
     pub fn step(&self, seat: &mut WorkerSeat<D>, t: Task, tray: &mut Tray) -> Step<D>
         requires workplace { IsWorkplace self.now }
         requires claimed { IsSeated self.now (HasClaimedRow self.now.worker t) seat.old }
@@ -164,13 +176,13 @@ impl<R: Wait, D: Disk> Workplace<'_, R, D> {
         let step = noted.board.step(self.alloc, self.worker, t, tray);
         if let Step::Waits = step {
             self.end_turn_to_rest(seat, noted, true);
-            tray.free_outside(false);
+            tray.free_outside(most_kept(&step));
             return Step::Waits;
         }
         let change = change_of(&step);
         let goes_on = goes_on(&step);
         self.end_turn(seat, noted, change, goes_on);
-        tray.free_outside(goes_on);
+        tray.free_outside(most_kept(&step));
         step
     }
 

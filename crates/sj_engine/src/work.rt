@@ -82,8 +82,8 @@ impl<R: Wait, D: Disk> Workplace<'_, R, D> {
         self.write_out(seat, t, x, unit, outcome)
     }
 
-    /// Fetches a tile from the disk that is out, outside of any turn, and ends the transfer. Whether it did: else the worker has
-    /// failed. Linear in the tile.
+    /// Fetches a tile from the disk that is out, outside of any turn, into one of the tray or a new one, and ends the transfer.
+    /// Whether it did: else the worker has failed. Linear in the tile.
     fn fetch(
         &self,
         seat: &mut WorkerSeat<D>,
@@ -91,6 +91,7 @@ impl<R: Wait, D: Disk> Workplace<'_, R, D> {
         x: Transfer,
         writes: u64,
         mut unit: Unit<D>,
+        tray: &mut Tray,
     ) -> bool
         requires workplace { IsProperWorkplace self.now }
         requires outside { seat.old.keeps_turn ≡ false }
@@ -104,7 +105,7 @@ impl<R: Wait, D: Disk> Workplace<'_, R, D> {
         ensures outside { result ≡ false → seat.new.keeps_turn ≡ false }
     {
         let dims = self.program.cells.items()[x.cell.0 as usize].dims;
-        let Ok(mut tile) = Tile::zeros(self.alloc, dims) else {
+        let Ok(mut tile) = tray.take_tile(self.alloc, dims) else {
             self.give_unit_up(seat, t, x, unit);
             return false;
         };
@@ -149,7 +150,7 @@ impl<R: Wait, D: Disk> Workplace<'_, R, D> {
                 to,
                 writes,
                 unit,
-            } => further(self.fetch(seat, t, Transfer { cell, from, to }, writes, unit)),
+            } => further(self.fetch(seat, t, Transfer { cell, from, to }, writes, unit, tray)),
             Step::Discarded => Prepared::Further,
             Step::Waits => Prepared::Waits,
             Step::Stopped => Prepared::Stopped,
@@ -285,13 +286,15 @@ impl<R: Wait, D: Disk> Workplace<'_, R, D> {
     /// stage at which it is then. It may wait for its turn, and doesn't rest.
     ///
     /// What it does to the board it does in its turns, each with one event at most, so what is said of the board holds however
-    /// the turns of the workers fall. Its kernels run outside of them, between the two calls of the gate.
+    /// the turns of the workers fall. Its kernels run outside of them, between the two calls of the gate. The tray is its
+    /// thread's, and stays from one stretch of its work to the next.
     pub fn work<C: Codelets, G: Gate>(
         &self,
         seat: &mut WorkerSeat<D>,
         codelets: &C,
         gate: &G,
         stage: Stage,
+        tray: &mut Tray,
     ) -> Stage
         requires workplace { IsProperWorkplace self.now }
         requires outside { seat.old.keeps_turn ≡ false }
@@ -305,13 +308,12 @@ impl<R: Wait, D: Disk> Workplace<'_, R, D> {
         ensures events { GoesOn self.now.worker seat.old.facts seat.new.facts }
         ensures outside { seat.new.keeps_turn ≡ false }
     {
-        let mut tray = Tray::new(self.alloc);
-        let mut stage = self.resume(seat, codelets, gate, stage, &mut tray);
+        let mut stage = self.resume(seat, codelets, gate, stage, tray);
         for _ in self.rt.forever() {
             if stage != Stage::Fresh {
                 return stage;
             }
-            stage = self.look(seat, codelets, gate, &mut tray);
+            stage = self.look(seat, codelets, gate, tray);
         }
         unreachable!()
     }

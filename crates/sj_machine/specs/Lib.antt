@@ -15,6 +15,7 @@ pub mod ReadyTasks
 pub mod Running
 pub mod Sound
 pub mod Sparing
+pub mod Spent
 pub mod Standing
 pub mod Tiles
 pub mod Todo
