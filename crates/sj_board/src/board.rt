@@ -114,7 +114,8 @@ impl<D: Disk> Keyed for Board<D> {
 /// A worker's row loses its task. Constant time.
 fn let_go(hands: &mut Vec<Hand>, w: Worker)
     requires { w.0 < length hands.old.items }
-    ensures { hands.new.items ≡ slice_set hands.old.items w.0 (record (hand_in hands.old.items w) { task = None }) }
+    ensures { hands.new.items ≡ slice_set hands.old.items w.0
+        (record (hand_in hands.old.items w) { task = None }) }
 {
     let hand = &mut hands[w.0 as usize];
     hand.task = None;
@@ -123,7 +124,8 @@ fn let_go(hands: &mut Vec<Hand>, w: Worker)
 /// A worker's row tells that it has stopped, and loses its task. Constant time.
 fn stop_hand(hands: &mut Vec<Hand>, w: Worker)
     requires { w.0 < length hands.old.items }
-    ensures { hands.new.items ≡ slice_set hands.old.items w.0 (record (hand_in hands.old.items w) { task = None; has_stopped = true }) }
+    ensures { hands.new.items ≡ slice_set hands.old.items w.0
+        (record (hand_in hands.old.items w) { task = None; has_stopped = true }) }
 {
     let hand = &mut hands[w.0 as usize];
     hand.task = None;
@@ -133,7 +135,8 @@ fn stop_hand(hands: &mut Vec<Hand>, w: Worker)
 /// A worker is given a task, or none. Constant time.
 fn give(hands: &mut Vec<Hand>, w: Worker, given: Option<Task>)
     requires { w.0 < length hands.old.items }
-    ensures { hands.new.items ≡ slice_set hands.old.items w.0 (record (hand_in hands.old.items w) { given = given }) }
+    ensures { hands.new.items ≡ slice_set hands.old.items w.0
+        (record (hand_in hands.old.items w) { given = given }) }
 {
     let hand = &mut hands[w.0 as usize];
     hand.given = given;
@@ -142,7 +145,8 @@ fn give(hands: &mut Vec<Hand>, w: Worker, given: Option<Task>)
 /// A worker takes the task that it was given. Constant time.
 fn take(hands: &mut Vec<Hand>, w: Worker, t: Task)
     requires { w.0 < length hands.old.items }
-    ensures { hands.new.items ≡ slice_set hands.old.items w.0 (record (hand_in hands.old.items w) { given = None; task = Some t }) }
+    ensures { hands.new.items ≡ slice_set hands.old.items w.0
+        (record (hand_in hands.old.items w) { given = None; task = Some t }) }
 {
     let hand = &mut hands[w.0 as usize];
     hand.given = None;
@@ -164,7 +168,8 @@ fn hand_over(delivered: &mut Delivered, gifts: &mut Gifts, t: Task, w: Worker)
     requires worker { w.0 < length gifts.old }
     requires room { IsTrue (is_some (gift_in gifts.old w)) → 0 < delivered.old.spare }
     ensures pairs { delivered.new.pairs ≡ delivered.old.pairs ++ handed t (gift_in gifts.old w) }
-    ensures room { delivered.new.spare + length (handed t (gift_in gifts.old w)) ≡ delivered.old.spare }
+    ensures room { delivered.new.spare + length (handed t (gift_in gifts.old w))
+        ≡ delivered.old.spare }
     ensures gifts { gifts.new ≡ slice_set gifts.old w.0 None }
 {
     if let Some(tile) = gifts.take(w) {
@@ -256,8 +261,8 @@ impl<D: Disk> Board<D> {
             NoneIsLeft self.old.run.program passed.now (room_of self.old w) self.old.pool }
         ensures urgent { self.old.run.machine.policy ≡ Prio → IfSome result
             (IsFirstLeft self.old.run.program passed.now (room_of self.old w) self.old.pool) }
-        ensures first { is_passed passed.now (task_for self.old.pool w.0 (room_of self.old w)) ≡ false →
-            self.new ≡ given_next self.old w }
+        ensures first { is_passed passed.now (task_for self.old.pool w.0 (room_of self.old w))
+            ≡ false → self.new ≡ given_next self.old w }
     {
         let room = self.run.node_size(w);
         let policy = self.run.machine().policy;
@@ -295,11 +300,14 @@ impl<D: Disk> Board<D> {
         ensures can { OnOk result (CanHappen self.old.run (Claim t w)) }
         ensures ok { OnOk result (self.new ≡ has_claimed self.old t w) }
         ensures spares { OnOk result (Spares self.old.run (Claim t w) self.new.run) }
-        ensures one_worker { OnOk result (HoldsCommutersAlone self.old.run.program (state self.new.run) t w) }
+        ensures one_worker { OnOk result (HoldsCommutersAlone self.old.run.program
+            (state self.new.run) t w) }
         ensures err { OnErr result (self.new ≡ self.old) }
-        ensures why { IfErr result (IsRefusal self.old.run.program self.old.run.machine (state self.old.run) t w) }
+        ensures why { IfErr result (IsRefusal self.old.run.program self.old.run.machine
+            (state self.old.run) t w) }
         ensures another { IfErr result (WaitsForAnother (state self.old.run) w) }
-        ensures lone { self.old.run.program.workers ≡ 1 → IfErr result (λ r. r ≡ ClaimRefusal.OutOfMemory) }
+        ensures lone { self.old.run.program.workers ≡ 1 →
+            IfErr result (λ r. r ≡ ClaimRefusal.OutOfMemory) }
     {
         self.run.is_sound();
         let Ok(found) = self.run.claim_plan_knowing(alloc, t, w, &self.gone) else {
@@ -394,8 +402,9 @@ impl<D: Disk> Board<D> {
         ensures mover { IsMoverOf self.now w result }
         ensures disk_in { HasDiskIn self.now result }
         ensures counted { IsCounted self.now result }
-        ensures ends { result ≡ Todo.Wait → (hand_of self.now w).unit ≡ None → AnotherHasUnit self.now w
-            ⊎ AnotherGoesOn self.now.run.program self.now.run.machine (state self.now.run) w }
+        ensures ends { result ≡ Todo.Wait → (hand_of self.now w).unit ≡ None →
+            AnotherHasUnit self.now w ⊎ AnotherGoesOn self.now.run.program self.now.run.machine
+            (state self.now.run) w }
     {
         self.run.is_sound();
         match self.hands[w.0 as usize].task {
@@ -413,7 +422,8 @@ impl<D: Disk> Board<D> {
         requires busy { IsBusy self.old w }
         requires can { CanHappen self.old.run (Drop cell (node_of self.old.run.machine w)) }
         ensures drops { self.new ≡ has_event self.old (Drop cell (node_of self.old.run.machine w)) }
-        ensures spares { Spares self.old.run (Drop cell (node_of self.old.run.machine w)) self.new.run }
+        ensures spares { Spares self.old.run (Drop cell (node_of self.old.run.machine w))
+            self.new.run }
     {
         self.run.is_sound();
         let n = self.run.node_of(w);
@@ -519,7 +529,8 @@ impl<D: Disk> Board<D> {
         requires idle { All (λ hand. hand.task ≡ None) self.hands }
         requires no_unit { All (λ hand. hand.unit ≡ None) self.hands }
         ensures delivered { result.0.pairs ≡ self.delivered }
-        ensures each { IsComplete (state self.run) → DeliversEach self.run.program (AllTell D.held self.run) result.0.pairs }
+        ensures each { IsComplete (state self.run) →
+            DeliversEach self.run.program (AllTell D.held self.run) result.0.pairs }
         ensures trace { result.1.events ≡ self.run.trace }
         ensures disks { result.2 ≡ lent self.run }
         ensures none_is_out { NoneIsOut result.2 }

@@ -31,8 +31,8 @@ fn is_most_urgent(pool: &Pool, policy: Policy, w: Worker, room: u64)
 }
 
 /// Takes a task for a worker that wasn't passed, by the policy among those of at most so many bytes. Those that are taken on the
-/// way, as they were passed, go back: each to its place under `prio`, else behind the worker's others. For each of these linear in
-/// those that were passed, logarithmic in the tasks, and under `ws` linear in the workers; no memory.
+/// way, as they were passed, go back: each to its place under `prio`, else behind the worker's others. For each of these
+/// linear in those that were passed, logarithmic in the tasks, and under `ws` linear in the workers; no memory.
 pub fn take_behind(
     pool: &mut Pool,
     program: &Program,

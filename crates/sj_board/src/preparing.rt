@@ -34,7 +34,8 @@ fn add_if_ready(deps: &Deps, ready: &mut Vec<Task>, t: Task) -> Result<(), OutOf
 /// The tasks that are ready, by number. Linear in all tasks.
 pub fn ready_tasks(alloc: Global, deps: &Deps, count: u32) -> Result<Vec<Task>, OutOfMemory>
     requires { count ≡ length deps.now.program.tasks }
-    ensures each { IfOk result (λ v. (u : Task) → Contains v.items u ↔ Ready deps.now.program deps.now.done u.0) }
+    ensures each { IfOk result (λ v. (u : Task) →
+        Contains v.items u ↔ Ready deps.now.program deps.now.done u.0) }
     ensures by_number { IfOk result (λ v. IsStrictlyIncreasing (map (λ u. u.0) v.items)) }
 {
     let mut ready = Vec::new(alloc);
@@ -66,7 +67,8 @@ pub fn prepare(
     requires proper { Proper program.now }
     requires workers { 0 < program.now.workers }
     requires footprints { AreFootprints program.now footprints.items }
-    ensures prepared { IfOk result (λ r. IsPrepared program.now policy r.deps r.footprints.items r.hands.items r.pool) }
+    ensures prepared { IfOk result (λ r. IsPrepared program.now policy r.deps r.footprints.items
+        r.hands.items r.pool) }
     ensures delivers { IfOk result (λ r. IsReadyToDeliver program.now r.gifts r.delivered) }
 {
     let count = program.tasks.len() as u32;

@@ -27,7 +27,8 @@ pub fn release(
     requires ready { Ready deps.old.program deps.old.done t.0 }
     requires workers { 0 < program.now.workers }
     requires bytes { AreFootprints program.now footprints.now }
-    requires can { (ts : List Task) → AreReleased deps.old t ts → CanPutEach program.now (Some w) pool.old ts }
+    requires can { (ts : List Task) → AreReleased deps.old t ts →
+        CanPutEach program.now (Some w) pool.old ts }
     ensures deps { deps.new ≡ after_done deps.old t.0 }
     ensures pool { Releases program.now deps.old t w pool.old pool.new }
 {

@@ -11,9 +11,10 @@
 //!
 //! The table has a word for the turn, one for each of 256 bells, and one slot. The *turn word* is 0 while the turn is free, 1
 //! while it is taken, and 2 while it is taken and some seat may be asleep. The value lies in one *slot*. Each seat has a
-//! *ticket*, without bytes, which carries what the seat knows: the opening value, the rows that it answers for, each by its number and the
-//! value in which the seat left it, how many of its tries found the turn taken, the bell that it heard and at which count, the
-//! bells that it rang, and in its turn the value that it found. The seat whose ticket has found a value is the *holder*.
+//! *ticket*, without bytes, which carries what the seat knows: the opening value, the rows that it answers for, each by its
+//! number and the value in which the seat left it, how many of its tries found the turn taken, the bell that it heard and at
+//! which count, the bells that it rang, and in its turn the value that it found. The seat whose ticket has found a value is
+//! the *holder*.
 //!
 //! Between any two steps these hold:
 //!

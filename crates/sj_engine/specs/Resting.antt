@@ -24,8 +24,8 @@ use Rattle.sj_engine.specs.declared.sleepers.RestReason.TheVariants.{Idle, Block
 
 -- what an event is for those that rest. A claim takes room and marks copies, and the beginning of a transfer changes neither: no
 -- wait ends by them. A transfer that ends, also by a disk that comes back, a copy that goes and a kernel that begins, which takes
--- copies away from other nodes, end waits; so does the end of a task, which unpins its cells and gives commuting ones back, and by
--- which others become ready
+-- copies away from other nodes, end waits; so does the end of a task, which unpins its cells and gives commuting ones back,
+-- and by which others become ready
 abbrev pub change_of : Event → Change
 change_of (Claim t w) = Claimed
 change_of (Move c from to) = Begun

@@ -34,8 +34,8 @@ abbrev pub IsShareCarried : {D : Type 0} → (D → Option (List ℕ)) → Board
 IsShareCarried held k x r (AtNode n) share = IsSomeAnd share (IsCarried held k x r)
 IsShareCarried held k x r (OnDisk d) share = IsFetch k.program x
 
--- the unit in the worker's hand, for its transfer: the block is as long as the cell, so often written, and was stored so where the
--- cell comes from there
+-- the unit in the worker's hand, for its transfer: the block is as long as the cell, so often written, and was stored so
+-- where the cell comes from there
 pub record IsUnitFor {D : Type 0} (k : BoardKey D) (w : Worker) (t : Task) (x : Transfer) (r : BoardRow D) (u : UnitState D) (count : ℕ) : Type 0 where
   pub holds : HoldsRow w t x u r
   pub whole : u.extent.length ≡ area (dims_of k.program x.cell)

@@ -27,7 +27,8 @@ pub(crate) fn ended<D: Disk>(board: Board<D>) -> RunOutcome<D>
     requires sound { IsSharedSound D.size D.faults D.mismatches D.held board }
     requires stopped { AllStopped board.hands }
     ensures { IsOutcome D.size D.faults D.mismatches D.held board.run.program board.run.machine
-        board.run.opened result.result result.delivered.pairs result.trace.events result.disks.items }
+        board.run.opened result.result result.delivered.pairs result.trace.events
+        result.disks.items }
 {
     let (delivered, trace, set, fault) = board.close();
     RunOutcome {
@@ -43,7 +44,8 @@ pub(crate) fn abandoned<D: Disk>(board: Board<D>) -> RunOutcome<D>
     requires idle { NoneHasTask board.hands }
     requires no_unit { NoneHasUnit board.hands }
     ensures { IsOutcome D.size D.faults D.mismatches D.held board.run.program board.run.machine
-        board.run.opened result.result result.delivered.pairs result.trace.events result.disks.items }
+        board.run.opened result.result result.delivered.pairs result.trace.events
+        result.disks.items }
 {
     board.is_sound();
     let (delivered, trace, set, _) = board.close();

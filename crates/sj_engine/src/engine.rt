@@ -52,8 +52,9 @@ fn run_over<C: Codelets, G: Gate, D: Disk + Send, R: Threads + Wait + Sync>(
     requires opened { IsOpened program.now board.run.machine board.run.opened board }
     requires proper { Proper program.now }
     requires lawful { IsLawful C.has program.now }
-    ensures { IsOutcome D.size D.faults D.mismatches D.held program.now board.run.machine board.run.opened
-        result.result result.delivered.pairs result.trace.events result.disks.items }
+    ensures { IsOutcome D.size D.faults D.mismatches D.held program.now board.run.machine
+        board.run.opened result.result result.delivered.pairs result.trace.events
+        result.disks.items }
 {
     board.is_sound();
     let Ok(posts) = Vec::with_capacity(alloc, program.workers as usize) else {
@@ -99,7 +100,8 @@ pub fn run<C: Codelets, G: Gate, D: Disk + Send, R: Threads + Wait + Sync>(
     // Whatever the result, each event is a legal step.
     ensures legal { IsLegal program.value machine result.trace.events }
     ensures bounded { HasAtMostThreePerTaskAndFivePerOperand program.value result.trace.events }
-    ensures given_back { AreGivenBack D.size D.faults D.mismatches D.held disks.items result.disks.items }
+    ensures given_back { AreGivenBack D.size D.faults D.mismatches D.held disks.items
+        result.disks.items }
     ensures finished { IsOk result.result → IsFinished program.value machine result.trace.events }
     ensures delivers { IsOk result.result
         → DeliversEach program.value (AllDisksTell D.held disks.items)
@@ -108,9 +110,11 @@ pub fn run<C: Codelets, G: Gate, D: Disk + Send, R: Threads + Wait + Sync>(
         CountsStay D.faults D.mismatches disks.items result.disks.items }
     ensures blocks { AllDisksTell D.held disks.items →
         HoldBlocks D.held program.value machine result.trace.events result.disks.items }
-    ensures cause { IfErr result.result (IsCausedBy D.faults D.mismatches D.held disks.items result.disks.items) }
+    ensures cause { IfErr result.result (IsCausedBy D.faults D.mismatches D.held disks.items
+        result.disks.items) }
     // Of a disk that held another header: the one that was wanted is the one last written there.
-    ensures wanted { IfErr result.result (WantsLastWritten program.value machine result.trace.events) }
+    ensures wanted { IfErr result.result (WantsLastWritten program.value machine
+        result.trace.events) }
 {
     let Ok(shared) = Arc::try_clone(&program) else {
         return unopened(alloc, disks);

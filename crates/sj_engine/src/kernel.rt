@@ -35,7 +35,8 @@ fn run_kernel<C: Codelets, G: Gate>(
     task: &Lowered,
     frame: &mut Frame,
 ) -> Result<(), OutOfMemory>
-    requires fits { IsTrue (fits_in C.has task.now.codelet task.now.args (all_dims frame.old.slots)) }
+    requires fits { IsTrue (fits_in C.has task.now.codelet task.now.args
+        (all_dims frame.old.slots)) }
     requires ready { IsReadyFor task.now.codelet frame.old.slots }
     ensures { OnOk result (IsRun task.now.codelet task.now.args frame.old frame.new) }
 {
@@ -46,8 +47,9 @@ fn run_kernel<C: Codelets, G: Gate>(
 }
 
 /// Runs a task's kernel: makes its operands from shares of the tiles whose old value it reads, in operand order, and gives
-/// shares of its results, in the order of its written operands, all in the frame that it takes. The cost of the kernel, and linear
-/// in the elements of the operands that begin as zeros, and of those to be written to of which somebody else has a share.
+/// shares of its results, in the order of its written operands, all in the frame that it takes. The cost of the kernel, and
+/// linear in the elements of the operands that begin as zeros, and of those to be written to of which somebody else has a
+/// share.
 ///
 /// Whatever the cells hold: where the shares are of what the operands hold for a worker, the results are the task's.
 pub fn compute<C: Codelets, G: Gate>(

@@ -27,7 +27,8 @@ impl<D: Disk> SharedBoard<D> {
         requires worker { IsWorkerOf self.old w }
         requires moves { MovesRow w t x (row_in self.old w) }
         requires cause { HasCause D.faults D.mismatches D.held self.old.run fault }
-        ensures turn { (b : BoardState D) → PutsUnitBack w b self.old → IsTurnOf D.faults D.mismatches w b self.new }
+        ensures turn { (b : BoardState D) → PutsUnitBack w b self.old →
+            IsTurnOf D.faults D.mismatches w b self.new }
         ensures row { IsFreeRow (row_in self.new w) }
         ensures no_event { NothingHappens self.old self.new }
         ensures fault { IsTrue (is_some self.new.fault) }
@@ -62,11 +63,13 @@ impl<D: Disk> SharedBoard<D> {
     ) -> bool
         requires worker { IsWorkerOf self.old w }
         requires disk { is_node x.to ≡ false }
-        requires stored { IsStoredThrough D.size D.faults D.mismatches D.held (key_of self.old) w t x
-            (row_in self.old w) unit outcome }
+        requires stored { IsStoredThrough D.size D.faults D.mismatches D.held
+            (key_of self.old) w t x (row_in self.old w) unit outcome }
         ensures turn { IsTurnOf D.faults D.mismatches w self.old self.new }
-        ensures row { MatchBool result (HasClaimedRow w t (row_in self.new w)) (IsFreeRow (row_in self.new w)) }
-        ensures event { MatchBool result (Happens (Moved x.cell x.from x.to) self.old self.new) (NothingHappens self.old self.new) }
+        ensures row { MatchBool result (HasClaimedRow w t (row_in self.new w))
+            (IsFreeRow (row_in self.new w)) }
+        ensures event { MatchBool result (Happens (Moved x.cell x.from x.to) self.old self.new)
+            (NothingHappens self.old self.new) }
         ensures failed { result ≡ false → IsTrue (is_some self.new.fault) }
     {
         self.board.is_sound();
@@ -93,13 +96,15 @@ impl<D: Disk> SharedBoard<D> {
         requires worker { IsWorkerOf self.old w }
         requires node { is_node x.to ≡ true }
         requires disk { is_node x.from ≡ false }
-        requires fetched { (a : Array) × IsFetchedThrough D.size D.faults D.mismatches D.held (key_of self.old)
-            w t x (row_in self.old w) unit outcome a }
+        requires fetched { (a : Array) × IsFetchedThrough D.size D.faults D.mismatches D.held
+            (key_of self.old) w t x (row_in self.old w) unit outcome a }
         requires tile { IfSome (array_in tile) (IsFetchedThrough D.size D.faults D.mismatches D.held
             (key_of self.old) w t x (row_in self.old w) unit outcome) }
         ensures turn { IsTurnOf D.faults D.mismatches w self.old self.new }
-        ensures row { MatchBool result (HasClaimedRow w t (row_in self.new w)) (IsFreeRow (row_in self.new w)) }
-        ensures event { MatchBool result (Happens (Moved x.cell x.from x.to) self.old self.new) (NothingHappens self.old self.new) }
+        ensures row { MatchBool result (HasClaimedRow w t (row_in self.new w))
+            (IsFreeRow (row_in self.new w)) }
+        ensures event { MatchBool result (Happens (Moved x.cell x.from x.to) self.old self.new)
+            (NothingHappens self.old self.new) }
         ensures failed { result ≡ false → IsTrue (is_some self.new.fault) }
     {
         self.board.is_sound();

@@ -35,8 +35,10 @@ fn operand(
     requires small { IsSmall program.now access }
     requires shared { All (λ s. s.owned ≡ false) shares.old.slots }
     requires there { IsTrue (reads_value access.mode) → 0 < length shares.old.slots }
-    ensures operand { IfOk result (λ o. MakesOperand program.now access shares.old.slots shares.new.slots (slot_of o)) }
-    ensures room { OnOk result (shares.new.spare + length shares.new.slots ≡ shares.old.spare + length shares.old.slots) }
+    ensures operand { IfOk result (λ o. MakesOperand program.now access shares.old.slots
+        shares.new.slots (slot_of o)) }
+    ensures room { OnOk result (shares.new.spare + length shares.new.slots
+        ≡ shares.old.spare + length shares.old.slots) }
 {
     match access.mode {
         Mode::R => Ok(FrameOperand::Shared(shares.take_shared())),
@@ -60,10 +62,13 @@ fn make_operands(
 ) -> Result<(), OutOfMemory>
     requires small { All (IsSmall program.now) accesses.now }
     requires shared { All (λ s. s.owned ≡ false) frame.old.slots }
-    requires count { length frame.old.slots ≡ length (filter (λ a. reads_value a.mode) accesses.now) }
+    requires count { length frame.old.slots ≡ length
+        (filter (λ a. reads_value a.mode) accesses.now) }
     requires room { length accesses.now ≤ frame.old.spare + length frame.old.slots }
-    ensures slots { OnOk result (frame.new.slots ≡ operands_from program.now accesses.now (arrays frame.old.slots)) }
-    ensures room { OnOk result (frame.new.spare + length accesses.now ≡ frame.old.spare + length frame.old.slots) }
+    ensures slots { OnOk result (frame.new.slots
+        ≡ operands_from program.now accesses.now (arrays frame.old.slots)) }
+    ensures room { OnOk result (frame.new.spare + length accesses.now
+        ≡ frame.old.spare + length frame.old.slots) }
 {
     let Some((last, before)) = accesses.split_last() else {
         return Ok(());
@@ -86,7 +91,8 @@ pub fn operands(
     requires shared { All (λ s. s.owned ≡ false) shares.slots }
     requires count { length shares.slots ≡ length (filter (λ a. reads_value a.mode) accesses.now) }
     requires room { length accesses.now ≤ shares.spare + length shares.slots }
-    ensures { IfOk result (λ f. f.slots ≡ operands_from program.now accesses.now (arrays shares.slots)) }
+    ensures { IfOk result (λ f. f.slots ≡ operands_from program.now accesses.now
+        (arrays shares.slots)) }
 {
     make_operands(alloc, program, accesses, &mut shares)?;
     Ok(shares)

@@ -109,8 +109,10 @@ impl<D: Disk> SharedBoard<D> {
         ensures turn { IsTurnOf D.faults D.mismatches w self.old self.new }
         ensures moves { OnOk result (MovesRow w t x (row_in self.new w)) }
         ensures share { IfOk result
-            (λ share. IsShareCarried D.held (key_of self.new) x (row_in self.new w) x.from (array_in share)) }
-        ensures counts { OnOk result ((row_in self.new w).writes ≡ Some (writes_of (state self.old.run) x.cell)) }
+            (λ share. IsShareCarried D.held (key_of self.new) x (row_in self.new w) x.from
+            (array_in share)) }
+        ensures counts { OnOk result ((row_in self.new w).writes
+            ≡ Some (writes_of (state self.old.run) x.cell)) }
         ensures event { OnOk result (Happens (Move x.cell x.from x.to) self.old self.new) }
         ensures disks_stay { OnOk result (lent self.new.run ≡ lent self.old.run) }
         ensures failed { OnErr result (IsFreeRow (row_in self.new w)) }
@@ -151,7 +153,8 @@ impl<D: Disk> SharedBoard<D> {
         requires no_fault { self.old.fault ≡ None }
         requires can { CanHappen self.old.run (Move x.cell x.from x.to) }
         requires mover { mover_of (state self.old.run) x.cell x.from x.to ≡ w }
-        requires disk_in { (is_node x.from && is_node x.to) ≡ false → IsInFor (lent self.old.run) x.cell.0 }
+        requires disk_in { (is_node x.from && is_node x.to) ≡ false →
+            IsInFor (lent self.old.run) x.cell.0 }
         requires counts { writes ≡ writes_of (state self.old.run) x.cell }
         ensures turn { IsTurnOf D.faults D.mismatches w self.old self.new }
         ensures row { AfterStep D.held (key_of self.new) w t (row_in self.new w) result }

@@ -213,7 +213,8 @@ impl<R: Wait, D: Disk> Workplace<'_, R, D> {
     ) -> bool
         requires workplace { IsWorkplace self.now }
         requires disk { is_node x.to ≡ false }
-        requires stored { IsSeated self.now (λ r. IsStoredThrough D.size D.faults D.mismatches D.held
+        requires stored { IsSeated self.now (λ r.
+            IsStoredThrough D.size D.faults D.mismatches D.held
             (board_key self.now) self.now.worker t x r unit outcome) seat.old }
         ensures row { IsSeated self.now
             (λ r. MatchBool result (HasClaimedRow self.now.worker t r) (IsFreeRow r)) seat.new }
@@ -240,8 +241,9 @@ impl<R: Wait, D: Disk> Workplace<'_, R, D> {
         requires workplace { IsWorkplace self.now }
         requires node { is_node x.to ≡ true }
         requires disk { is_node x.from ≡ false }
-        requires fetched { (a : Array) × IsSeated self.now (λ r. IsFetchedThrough D.size D.faults D.mismatches
-            D.held (board_key self.now) self.now.worker t x r unit outcome a) seat.old }
+        requires fetched { (a : Array) × IsSeated self.now
+            (λ r. IsFetchedThrough D.size D.faults D.mismatches D.held
+            (board_key self.now) self.now.worker t x r unit outcome a) seat.old }
         requires tile { IfSome (array_in tile) (λ a. IsSeated self.now
             (λ r. IsFetchedThrough D.size D.faults D.mismatches D.held (board_key self.now)
             self.now.worker t x r unit outcome a) seat.old) }

@@ -68,7 +68,8 @@ impl<R: Wait, D: Disk> Workplace<'_, R, D> {
         requires workplace { IsProperWorkplace self.now }
         requires outside { seat.old.keeps_turn ≡ false }
         requires disk { is_node x.to ≡ false }
-        requires unit { IsSeated self.now (λ r. IsUnitFor (board_key self.now) self.now.worker t x r unit writes) seat.old }
+        requires unit { IsSeated self.now (λ r. IsUnitFor
+            (board_key self.now) self.now.worker t x r unit writes) seat.old }
         requires share { IsSeated self.now
             (λ r. IsCarried D.held (board_key self.now) x r share.value) seat.old }
         ensures row { IsSeated self.now
@@ -98,7 +99,8 @@ impl<R: Wait, D: Disk> Workplace<'_, R, D> {
         requires node { is_node x.to ≡ true }
         requires disk { is_node x.from ≡ false }
         requires cell { x.cell.0 < length self.now.program.now.cells }
-        requires unit { IsSeated self.now (λ r. IsUnitFor (board_key self.now) self.now.worker t x r unit writes) seat.old }
+        requires unit { IsSeated self.now (λ r. IsUnitFor
+            (board_key self.now) self.now.worker t x r unit writes) seat.old }
         ensures row { IsSeated self.now
             (λ r. MatchBool result (HasClaimedRow self.now.worker t r) (IsFreeRow r)) seat.new }
         ensures events { GoesOn self.now.worker seat.old.facts seat.new.facts }

@@ -38,7 +38,8 @@ pub fn last_leaving(
     gone: usize,
 ) -> Option<Cell>
     requires { All (λ row. n.0 < length row.marks) cells.now }
-    ensures { result ≡ find (leaves_in cells.now n w) (reverse (take (length victims.now - gone) victims.now)) }
+    ensures { result ≡ find (leaves_in cells.now n w)
+        (reverse (take (length victims.now - gone) victims.now)) }
 {
     victims[..victims.len().saturating_sub(gone)]
         .iter()
@@ -130,7 +131,8 @@ pub fn first_brought(
 ) -> Option<Cell>
     requires marks { All (λ row. n.0 < length row.marks) cells.now }
     requires copies { HasNumbers program.now w }
-    ensures { result ≡ find (is_brought cells.now program.now n w accesses.now) (worked_among program.now w accesses.now) }
+    ensures { result ≡ find (is_brought cells.now program.now n w accesses.now)
+        (worked_among program.now w accesses.now) }
 {
     accesses
         .iter()
@@ -176,7 +178,9 @@ pub fn may_run(
 ) -> bool
     requires marks { All (λ row. n.0 < length row.marks) cells.now }
     requires copies { HasNumbers program.now w }
-    ensures { result ≡ (are_present cells.now program.now n w accesses.now && are_unmoved workers.now program.now w accesses.now) }
+    ensures { result
+        ≡ (are_present cells.now program.now n w accesses.now && are_unmoved workers.now program.now
+        w accesses.now) }
 {
     are_present(cells, program, n, w, accesses) && are_unmoved(workers, program, w, accesses)
 }

@@ -52,7 +52,8 @@ fn take_all(node: &mut NodeStore, cells: &[Cell])
 pub fn hold_all(nodes: &mut Vec<NodeStore>, n: Node, plan: &Plan) -> Result<(), OutOfMemory>
     requires node { n.0 < length nodes.old.items }
     requires can { CanHold (store_at nodes.old.items n) plan.now }
-    ensures ok { OnOk result (nodes.new.items ≡ slice_set nodes.old.items n.0 (holding (store_at nodes.old.items n) plan.now)) }
+    ensures ok { OnOk result (nodes.new.items
+        ≡ slice_set nodes.old.items n.0 (holding (store_at nodes.old.items n) plan.now)) }
     ensures err { OnErr result (nodes.new.items ≡ nodes.old.items) }
 {
     let node = &mut nodes[n.0 as usize];
@@ -65,7 +66,8 @@ pub fn hold_all(nodes: &mut Vec<NodeStore>, n: Node, plan: &Plan) -> Result<(), 
 /// A worker has a plan in hand. Linear in the victims that it had.
 pub fn take_plan(workers: &mut Vec<Hold>, w: Worker, plan: Plan)
     requires { w.0 < length workers.old.items }
-    ensures { workers.new.items ≡ slice_set workers.old.items w.0 (row_with (row_at workers.old.items w) plan) }
+    ensures { workers.new.items ≡ slice_set workers.old.items w.0
+        (row_with (row_at workers.old.items w) plan) }
 {
     let row = &mut workers[w.0 as usize];
     row.take(plan);

@@ -59,7 +59,8 @@ pub fn no_tiles(alloc: Global, count: usize) -> Result<Vec<Option<Arc<Tile>>>, O
 
 /// Whether there is a copy in another place than this. Linear in the places.
 fn is_at_another(marks: &[Mark], here: usize) -> bool
-    ensures { result ≡ list_any (is_copy_beside marks.now here) (range_with_len 0 (length marks.now)) }
+    ensures { result ≡ list_any (is_copy_beside marks.now here)
+        (range_with_len 0 (length marks.now)) }
 {
     (0..marks.len()).any(|k| k != here && marks[k].is_there())
 }

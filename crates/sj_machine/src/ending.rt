@@ -42,7 +42,8 @@ pub fn put_back(
 )
     requires { CanPutBack program.now w cells.old.items n accesses.now written.old.slots }
     ensures cells { cells.new.items
-        ≡ put_each n (written_among program.now w accesses.now) (arrays written.old.slots) cells.old.items }
+        ≡ put_each n (written_among program.now w accesses.now)
+        (arrays written.old.slots) cells.old.items }
     ensures spent { written.new.slots ≡ [] }
     ensures room { written.new.spare ≡ written.old.spare + length written.old.slots }
 {
@@ -75,7 +76,8 @@ pub fn release_at(nodes: &mut Vec<NodeStore>, n: Node, workers: &[Hold], w: Work
     requires can { let row = row_at workers.now w in
         CanRelease row.pins row.scratch (store_at nodes.old.items n) }
     ensures { let row = row_at workers.now w in
-        nodes.new.items ≡ slice_set nodes.old.items n.0 (released row.pins row.scratch (store_at nodes.old.items n)) }
+        nodes.new.items ≡ slice_set nodes.old.items n.0
+        (released row.pins row.scratch (store_at nodes.old.items n)) }
 {
     let hold = &workers[w.0 as usize];
     let node = &mut nodes[n.0 as usize];

@@ -41,7 +41,8 @@ pub fn bytes_of(program: &Program, cells: &[Cell]) -> FewBytes
 /// The bytes of an operand that is a scratch buffer; none of another. Constant time.
 fn scratch_of(program: &Program, access: Access) -> u64
     requires { IsSmallCell program.now access.cell }
-    ensures { result ≡ sum_by (λ a. bytes_of_tile program.now a.cell) (filter (λ a. is_scratch a.mode) (access ∷ [])) }
+    ensures { result ≡ sum_by (λ a. bytes_of_tile program.now a.cell)
+        (filter (λ a. is_scratch a.mode) (access ∷ [])) }
 {
     if access.mode == Mode::Scratch {
         tile_bytes(program, access.cell)
@@ -55,7 +56,8 @@ pub fn scratch_bytes(program: &Program, accesses: &[Access]) -> u64
     requires cells { All (λ a. IsSmallCell program.now a.cell) accesses.now }
     requires few { length accesses.now ≤ 5 }
     ensures small { result ≤ 5 * 2 ^ 27 }
-    ensures bytes { result ≡ sum_by (λ a. bytes_of_tile program.now a.cell) (filter (λ a. is_scratch a.mode) accesses.now) }
+    ensures bytes { result ≡ sum_by (λ a. bytes_of_tile program.now a.cell)
+        (filter (λ a. is_scratch a.mode) accesses.now) }
 {
     let mut bytes = 0;
     for access in accesses {
@@ -67,7 +69,8 @@ pub fn scratch_bytes(program: &Program, accesses: &[Access]) -> u64
 /// Whether a node has no entry for a cell, by its mark, and the cell isn't among those that come after it. Linear in these.
 fn is_lacking(rows: &[Copies], n: Node, cell: Cell, later: &[Cell]) -> bool
     requires { All (λ row. n.0 < length row.marks) rows.now }
-    ensures { result ≡ (not (has_cell later.now cell) && not (is_entry_mark (mark_at (row_of rows.now cell) n))) }
+    ensures { result ≡ (not (has_cell later.now cell) && not
+        (is_entry_mark (mark_at (row_of rows.now cell) n))) }
 {
     !later.contains(&cell) && !mark_at(rows, n, cell).is_entry_mark()
 }

@@ -20,7 +20,8 @@ use std::alloc::Global;
 fn place_cell<D: Disk>(set: &mut DiskSet<D>, cell: Cell, dims: Dims) -> Result<(), OutOfMemory>
     requires has_none { extent_of set.old.directory cell.0 ≡ None }
     requires small { area dims ≤ 2 ^ 24 }
-    requires fits { IsSome (first_fit (map D.size set.old.disks) set.old.taken (block_bytes (area dims))) }
+    requires fits { IsSome (first_fit (map D.size set.old.disks) set.old.taken
+        (block_bytes (area dims))) }
     ensures reserves { OnOk result (ReservesSome D.size cell.0 (area dims) set.old set.new) }
     ensures err { OnErr result (set.new ≡ set.old) }
 {

@@ -88,7 +88,8 @@ fn recent_victims(
     held: &[Cell],
     need: u64,
 ) -> Result<Option<Vec<Cell>>, OutOfMemory>
-    ensures { IfOk result (λ found. option_map (λ v. v.items) found ≡ option_map reverse (need_victims held.now node.now need)) }
+    ensures { IfOk result (λ found. option_map (λ v. v.items) found
+        ≡ option_map reverse (need_victims held.now node.now need)) }
 {
     let Some(mut victims) = node.victims(alloc, held, need)? else {
         return Ok(None);
@@ -141,8 +142,8 @@ impl Plan {
         (self.cells, self.victims)
     }
 
-    /// The plan of a worker's task on its node, where there is room for it. What is missing there is told by the cells' rows. Linear
-    /// in the operands, the victims and the entries that are passed, each by the operands.
+    /// The plan of a worker's task on its node, where there is room for it. What is missing there is told by the cells' rows.
+    /// Linear in the operands, the victims and the entries that are passed, each by the operands.
     pub fn on(
         alloc: Global,
         program: &Program,
@@ -155,7 +156,8 @@ impl Plan {
         requires work { HasSmallWork program.now t w }
         requires wide { All (λ row. n.0 < length row.marks) rows.now }
         requires marked { AreMarked rows.now n node.now.entries }
-        ensures { IfOk result (λ plan. plan ≡ option_map (planned program.now node.now t w) (chosen_on program.now node.now t w)) }
+        ensures { IfOk result (λ plan. plan ≡ option_map (planned program.now node.now t w)
+            (chosen_on program.now node.now t w)) }
     {
         let cells = cells_for(program, t, w);
         let missing = lacking_on(rows, node, n, cells.items());

@@ -141,7 +141,8 @@ fn idle_workers(alloc: Global, count: u8) -> Result<Vec<Hold>, OutOfMemory>
 fn clear(cells: &mut Vec<Copies>, cell: Cell, n: Node, spent: &mut Spent)
     requires cell { cell.0 < length cells.old.items }
     requires node { n.0 < length (row_of cells.old.items cell).marks }
-    ensures { cells.new.items ≡ with_row cells.old.items cell (λ row. with_copy row n Mark.Invalid None) }
+    ensures { cells.new.items ≡ with_row cells.old.items cell
+        (λ row. with_copy row n Mark.Invalid None) }
 {
     let row = &mut cells[cell.0 as usize];
     row.clear(n, spent);
@@ -240,7 +241,8 @@ fn mark_stored(cells: &mut Vec<Copies>, cell: Cell)
 fn put_copy(cells: &mut Vec<Copies>, cell: Cell, n: Node, tile: Arc<Tile>)
     requires cell { cell.0 < length cells.old.items }
     requires node { n.0 < length (row_of cells.old.items cell).marks }
-    ensures { cells.new.items ≡ with_row cells.old.items cell (λ row. with_copy row n Mark.Valid (Some tile.value)) }
+    ensures { cells.new.items ≡ with_row cells.old.items cell
+        (λ row. with_copy row n Mark.Valid (Some tile.value)) }
 {
     let row = &mut cells[cell.0 as usize];
     row.put(n, Mark::Valid, Some(tile));
@@ -303,8 +305,10 @@ impl<D: Disk> RunState<D> {
     ) -> Result<Result<Plan, Why>, OutOfMemory>
         requires { MayClaim self.now.program self.now.machine (state self.now) t w }
         ensures can { IfOk result (λ found. OnOk found (CanHappen self.now (Event.Claim t w))) }
-        ensures plan { IfOk result (λ found. IfOk found (IsPlan self.now.program self.now.machine (state self.now) t w)) }
-        ensures why { IfOk result (λ found. IfErr found (IsWhy self.now.program self.now.machine (state self.now) t w)) }
+        ensures plan { IfOk result (λ found. IfOk found
+            (IsPlan self.now.program self.now.machine (state self.now) t w)) }
+        ensures why { IfOk result (λ found. IfErr found
+            (IsWhy self.now.program self.now.machine (state self.now) t w)) }
         ensures another { IfOk result (λ found. OnErr found (AnotherHasTask (state self.now) w)) }
     {
         self.claim_plan_knowing(alloc, t, w, &[])
@@ -323,8 +327,10 @@ impl<D: Disk> RunState<D> {
         requires may { MayClaim self.now.program self.now.machine (state self.now) t w }
         requires gone { KnownGone self.now.machine (state self.now) gone.now }
         ensures can { IfOk result (λ found. OnOk found (CanHappen self.now (Event.Claim t w))) }
-        ensures plan { IfOk result (λ found. IfOk found (IsPlan self.now.program self.now.machine (state self.now) t w)) }
-        ensures why { IfOk result (λ found. IfErr found (IsWhy self.now.program self.now.machine (state self.now) t w)) }
+        ensures plan { IfOk result (λ found. IfOk found
+            (IsPlan self.now.program self.now.machine (state self.now) t w)) }
+        ensures why { IfOk result (λ found. IfErr found
+            (IsWhy self.now.program self.now.machine (state self.now) t w)) }
         ensures another { IfOk result (λ found. OnErr found (AnotherHasTask (state self.now) w)) }
     {
         self.is_sound();
@@ -443,10 +449,14 @@ impl<D: Disk> RunState<D> {
         requires tile { IsTileMoved D.held self.old w tile.now }
         requires disk_in { HasItsDiskIn self.old w }
         ensures no_event { OnlyDisksChange self.old self.new }
-        ensures stores { StoresMoved D.size D.faults D.mismatches D.held w tile.now.elements result self.old self.new }
-        ensures counts { AreCounted D.faults D.mismatches result self.old.disks.disks self.new.disks.disks }
-        ensures cause { IfErr result (λ r. HasCause D.faults D.mismatches D.held self.new (fault_of r)) }
-        ensures given_back { AreGivenBack D.size D.faults D.mismatches D.held self.old.disks.disks self.new.disks.disks }
+        ensures stores { StoresMoved D.size D.faults D.mismatches D.held w tile.now.elements result
+            self.old self.new }
+        ensures counts { AreCounted D.faults D.mismatches result self.old.disks.disks
+            self.new.disks.disks }
+        ensures cause { IfErr result (λ r. HasCause D.faults D.mismatches D.held self.new
+            (fault_of r)) }
+        ensures given_back { AreGivenBack D.size D.faults D.mismatches D.held self.old.disks.disks
+            self.new.disks.disks }
         ensures written { OnOk result (IsWrittenOut D.held self.new w) }
     {
         let x = transfer_of(&self.workers, w);
@@ -465,10 +475,14 @@ impl<D: Disk> RunState<D> {
         requires dims { HasDimsMoved self.old w tile.old.dims }
         requires disk_in { HasItsDiskIn self.old w }
         ensures no_event { OnlyDisksChange self.old self.new }
-        ensures fetches { FetchesMoved D.size D.faults D.mismatches D.held w tile.new.elements result self.old self.new }
-        ensures counts { AreCounted D.faults D.mismatches result self.old.disks.disks self.new.disks.disks }
-        ensures cause { IfErr result (λ r. HasCause D.faults D.mismatches D.held self.new (fault_of r)) }
-        ensures given_back { AreGivenBack D.size D.faults D.mismatches D.held self.old.disks.disks self.new.disks.disks }
+        ensures fetches { FetchesMoved D.size D.faults D.mismatches D.held w tile.new.elements
+            result self.old self.new }
+        ensures counts { AreCounted D.faults D.mismatches result self.old.disks.disks
+            self.new.disks.disks }
+        ensures cause { IfErr result (λ r. HasCause D.faults D.mismatches D.held self.new
+            (fault_of r)) }
+        ensures given_back { AreGivenBack D.size D.faults D.mismatches D.held self.old.disks.disks
+            self.new.disks.disks }
         ensures tile { OnOk result (IsTileMoved D.held self.old w tile.new) }
     {
         let x = transfer_of(&self.workers, w);

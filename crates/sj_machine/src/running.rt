@@ -33,8 +33,10 @@ pub fn share_into(
 ) -> Result<(), OutOfMemory>
     requires room { length (reads_of accesses.now) ≤ frame.old.spare }
     requires can { All (CanGive program.now w cells.now n) accesses.now }
-    ensures slots { OnOk result (frame.new.slots ≡ frame.old.slots ++ shares_at program.now w cells.now n accesses.now) }
-    ensures room { OnOk result (frame.new.spare + length (reads_of accesses.now) ≡ frame.old.spare) }
+    ensures slots { OnOk result (frame.new.slots
+        ≡ frame.old.slots ++ shares_at program.now w cells.now n accesses.now) }
+    ensures room { OnOk result (frame.new.spare + length (reads_of accesses.now)
+        ≡ frame.old.spare) }
 {
     for access in accesses {
         share_one(program, w, cells, n, *access, frame)?;
@@ -53,8 +55,10 @@ fn share_one(
 ) -> Result<(), OutOfMemory>
     requires room { length (reads_of (access ∷ [])) ≤ frame.old.spare }
     requires can { CanGive program.now w cells.now n access }
-    ensures slots { OnOk result (frame.new.slots ≡ frame.old.slots ++ shares_at program.now w cells.now n (access ∷ [])) }
-    ensures room { OnOk result (frame.new.spare + length (reads_of (access ∷ [])) ≡ frame.old.spare) }
+    ensures slots { OnOk result (frame.new.slots
+        ≡ frame.old.slots ++ shares_at program.now w cells.now n (access ∷ [])) }
+    ensures room { OnOk result (frame.new.spare + length (reads_of (access ∷ []))
+        ≡ frame.old.spare) }
 {
     if access.mode.reads_value() {
         let cell = worked_on(program, w, access);
@@ -89,7 +93,8 @@ pub fn lend_each(cells: &mut Vec<Copies>, written: &[Cell], n: Node, spent: &mut
 /// Takes a cell's unpinned entry away, if the node has one. One look-up where the cell's mark tells of an entry, and else none.
 fn remove_entry(node: &mut NodeStore, rows: &[Copies], k: Node, cell: Cell)
     requires wide { All (λ row. k.0 < length row.marks) rows.now }
-    requires absent { is_entry_mark (mark_at (row_of rows.now cell) k) ≡ false → has_entry node.old.entries cell ≡ false }
+    requires absent { is_entry_mark (mark_at (row_of rows.now cell) k) ≡ false →
+        has_entry node.old.entries cell ≡ false }
     requires unpinned { pins_of node.old.entries cell ≡ 0 }
     ensures { node.new ≡ with_entries node.old (without_entry cell node.old.entries) }
 {
@@ -117,11 +122,13 @@ fn remove_entries(node: &mut NodeStore, rows: &[Copies], k: Node, written: &[Cel
 fn evict_at(nodes: &mut Vec<NodeStore>, rows: &[Copies], k: Node, written: &[Cell], n: Node)
     requires within { k.0 < length nodes.old.items }
     requires wide { All (λ row. k.0 < length row.marks) rows.now }
-    requires marked { (d : Store) → AreMarked rows.now k (slice_index_or nodes.old.items k.0 d).entries }
+    requires marked { (d : Store) → AreMarked rows.now k
+        (slice_index_or nodes.old.items k.0 d).entries }
     requires unpinned { (d : Store) → k.0 ≢ n.0 →
         AreUnpinned written.now (slice_index_or nodes.old.items k.0 d).entries }
     ensures { (d : Store) → nodes.new.items
-        ≡ slice_set nodes.old.items k.0 (evicted_at n written.now k.0 (slice_index_or nodes.old.items k.0 d)) }
+        ≡ slice_set nodes.old.items k.0 (evicted_at n written.now k.0
+        (slice_index_or nodes.old.items k.0 d)) }
 {
     if k.0 != n.0 {
         let node = &mut nodes[k.0 as usize];
@@ -140,7 +147,8 @@ pub fn evict_elsewhere(nodes: &mut Vec<NodeStore>, rows: &[Copies], written: &[C
         AreUnpinned written.now (slice_index_or nodes.old.items k d).entries }
     ensures every { length nodes.new.items ≡ length nodes.old.items }
     ensures each { (k : ℕ) (d : Store) → k < length nodes.old.items →
-        slice_index_or nodes.new.items k d ≡ evicted_at n written.now k (slice_index_or nodes.old.items k d) }
+        slice_index_or nodes.new.items k d ≡ evicted_at n written.now k
+        (slice_index_or nodes.old.items k d) }
 {
     for k in 0..nodes.len() {
         evict_at(nodes, rows, Node(k as u8), written, n);

@@ -21,14 +21,16 @@ use sj_edge::disk::Disk;
 /// A worker has the disk with the block of a cell in hand, or none. Constant time.
 fn hold_unit(hands: &mut Vec<Hand>, w: Worker, unit: Option<Cell>)
     requires { w.0 < length hands.old.items }
-    ensures { hands.new.items ≡ slice_set hands.old.items w.0 (record (hand_in hands.old.items w) { unit = unit }) }
+    ensures { hands.new.items ≡ slice_set hands.old.items w.0
+        (record (hand_in hands.old.items w) { unit = unit }) }
 {
     let hand = &mut hands[w.0 as usize];
     hand.unit = unit;
 }
 
 impl<D: Disk> Board<D> {
-    /// A worker takes out the disk that takes part in its move, with the block of its cell. No event, and no memory. Constant time.
+    /// A worker takes out the disk that takes part in its move, with the block of its cell. No event, and no memory. Constant
+    /// time.
     pub fn take_unit(&mut self, w: Worker) -> Unit<D>
         requires busy { IsBusy self.old w }
         requires none { (hand_of self.old w).unit ≡ None }
@@ -43,8 +45,8 @@ impl<D: Disk> Board<D> {
         unit
     }
 
-    /// A worker puts the disk back on which it has stored the tile of its move, with this outcome. No event, and no memory. Constant
-    /// time.
+    /// A worker puts the disk back on which it has stored the tile of its move, with this outcome. No event, and no memory.
+    /// Constant time.
     ///
     /// After an `Err` the block may hold any bytes, and the move is still under way.
     pub fn put_written(
@@ -56,13 +58,15 @@ impl<D: Disk> Board<D> {
         requires busy { IsBusy self.old w }
         requires in_hand { (hand_of self.old w).unit ≡ Some unit.cell }
         requires under_way { IsMovingOut self.old.run w }
-        requires stored { HasStoredMoved D.size D.faults D.mismatches D.held self.old.run w unit outcome }
+        requires stored { HasStoredMoved D.size D.faults D.mismatches D.held self.old.run w unit
+            outcome }
         ensures result { result ≡ outcome }
         ensures back { GivesUnitBack w self.old self.new }
         ensures others { OthersKeepUnits w self.old self.new }
         ensures counts { AreCounted D.faults D.mismatches result self.old.run.disks.disks
             self.new.run.disks.disks }
-        ensures cause { IfErr result (λ r. HasCause D.faults D.mismatches D.held self.new.run (fault_of r)) }
+        ensures cause { IfErr result (λ r. HasCause D.faults D.mismatches D.held self.new.run
+            (fault_of r)) }
         ensures written { OnOk result (IsWrittenOut D.held self.new.run w) }
     {
         let result = self.run.put_written(w, unit, outcome);
@@ -83,14 +87,17 @@ impl<D: Disk> Board<D> {
         requires busy { IsBusy self.old w }
         requires in_hand { (hand_of self.old w).unit ≡ Some unit.cell }
         requires under_way { IsFetching self.old.run w }
-        requires fetched { (array : Array) × HasFetchedMoved D.size D.faults D.mismatches D.held self.old.run w unit outcome array }
+        requires fetched { (array : Array) × HasFetchedMoved D.size D.faults D.mismatches D.held
+            self.old.run w unit outcome array }
         ensures result { result ≡ outcome }
         ensures back { GivesUnitBack w self.old self.new }
         ensures others { OthersKeepUnits w self.old self.new }
         ensures counts { AreCounted D.faults D.mismatches result self.old.run.disks.disks
             self.new.run.disks.disks }
-        ensures cause { IfErr result (λ r. HasCause D.faults D.mismatches D.held self.new.run (fault_of r)) }
-        ensures tile { OnOk result ((array : Array) → HasFetchedMoved D.size D.faults D.mismatches D.held self.old.run w unit result array →
+        ensures cause { IfErr result (λ r. HasCause D.faults D.mismatches D.held self.new.run
+            (fault_of r)) }
+        ensures tile { OnOk result ((array : Array) →
+            HasFetchedMoved D.size D.faults D.mismatches D.held self.old.run w unit result array →
             IsTileMoved D.held self.new.run w array) }
     {
         let result = self.run.put_read(w, unit, outcome);

@@ -70,7 +70,8 @@ impl<D: Disk> RunState<D> {
         self.disks.take_out(x.cell).unwrap()
     }
 
-    /// Puts the disk back on which a worker has stored the tile of its move, with this outcome. No event, and no memory. Constant time.
+    /// Puts the disk back on which a worker has stored the tile of its move, with this outcome. No event, and no memory.
+    /// Constant time.
     ///
     /// After an `Err` the block may hold any bytes, and the move is still under way.
     pub fn put_written(
@@ -80,13 +81,17 @@ impl<D: Disk> RunState<D> {
         outcome: Result<(), DiskRefusal>,
     ) -> Result<(), DiskRefusal>
         requires under_way { IsMovingOut self.old w }
-        requires stored { HasStoredMoved D.size D.faults D.mismatches D.held self.old w unit outcome }
+        requires stored { HasStoredMoved D.size D.faults D.mismatches D.held self.old w unit
+            outcome }
         ensures result { result ≡ outcome }
         ensures no_event { OnlyDisksChange self.old self.new }
         ensures back { lent self.new ≡ has_back (lent self.old) unit }
-        ensures counts { AreCounted D.faults D.mismatches result self.old.disks.disks self.new.disks.disks }
-        ensures cause { IfErr result (λ r. HasCause D.faults D.mismatches D.held self.new (fault_of r)) }
-        ensures given_back { AreGivenBack D.size D.faults D.mismatches D.held self.old.disks.disks self.new.disks.disks }
+        ensures counts { AreCounted D.faults D.mismatches result self.old.disks.disks
+            self.new.disks.disks }
+        ensures cause { IfErr result (λ r. HasCause D.faults D.mismatches D.held self.new
+            (fault_of r)) }
+        ensures given_back { AreGivenBack D.size D.faults D.mismatches D.held self.old.disks.disks
+            self.new.disks.disks }
         ensures written { OnOk result (IsWrittenOut D.held self.new w) }
     {
         let x = transfer_of(&self.workers, w);
@@ -96,8 +101,8 @@ impl<D: Disk> RunState<D> {
         outcome
     }
 
-    /// Puts the disk back from which a worker has fetched elements for its move, with this outcome. No event, and no memory. Constant
-    /// time.
+    /// Puts the disk back from which a worker has fetched elements for its move, with this outcome. No event, and no memory.
+    /// Constant time.
     ///
     /// Where the outcome is `Ok`, these elements are the tile of the move.
     pub fn put_read(
@@ -107,14 +112,19 @@ impl<D: Disk> RunState<D> {
         outcome: Result<(), DiskRefusal>,
     ) -> Result<(), DiskRefusal>
         requires under_way { IsFetching self.old w }
-        requires fetched { (array : Array) × HasFetchedMoved D.size D.faults D.mismatches D.held self.old w unit outcome array }
+        requires fetched { (array : Array) × HasFetchedMoved D.size D.faults D.mismatches D.held
+            self.old w unit outcome array }
         ensures result { result ≡ outcome }
         ensures no_event { OnlyDisksChange self.old self.new }
         ensures back { lent self.new ≡ has_back (lent self.old) unit }
-        ensures counts { AreCounted D.faults D.mismatches result self.old.disks.disks self.new.disks.disks }
-        ensures cause { IfErr result (λ r. HasCause D.faults D.mismatches D.held self.new (fault_of r)) }
-        ensures given_back { AreGivenBack D.size D.faults D.mismatches D.held self.old.disks.disks self.new.disks.disks }
-        ensures tile { OnOk result ((array : Array) → HasFetchedMoved D.size D.faults D.mismatches D.held self.old w unit result array →
+        ensures counts { AreCounted D.faults D.mismatches result self.old.disks.disks
+            self.new.disks.disks }
+        ensures cause { IfErr result (λ r. HasCause D.faults D.mismatches D.held self.new
+            (fault_of r)) }
+        ensures given_back { AreGivenBack D.size D.faults D.mismatches D.held self.old.disks.disks
+            self.new.disks.disks }
+        ensures tile { OnOk result ((array : Array) →
+            HasFetchedMoved D.size D.faults D.mismatches D.held self.old w unit result array →
             IsTileMoved D.held self.old w array) }
     {
         let x = transfer_of(&self.workers, w);
@@ -127,7 +137,8 @@ impl<D: Disk> RunState<D> {
     /// Puts a disk back that a worker has taken out and done nothing with: the run is as before that. Constant time.
     pub fn put_untouched(&mut self, w: Worker, unit: Unit<D>)
         requires untouched { IsUnitOf self.old w unit }
-        ensures { self.new ≡ record self.old { out = slice_set self.old.out unit.extent.disk.0 false } }
+        ensures { self.new
+            ≡ record self.old { out = slice_set self.old.out unit.extent.disk.0 false } }
     {
         let _w = w;
         unit.is_as_it_was();

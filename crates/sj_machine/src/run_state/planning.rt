@@ -69,7 +69,8 @@ impl<D: Disk> RunState<D> {
     /// the workers for each written one.
     fn start_of(&self, t: Task, w: Worker) -> Todo
         requires { progress (state self.now) t ≡ Claimed w }
-        ensures { result ≡ (if may_run self.now.program self.now.machine (state self.now) t w then Todo.Start else Todo.Wait) }
+        ensures { result ≡ (if may_run self.now.program self.now.machine
+            (state self.now) t w then Todo.Start else Todo.Wait) }
     {
         let n = node_of(&self.machine, w);
         let accesses = task_at(&self.program, t).accesses.items();
@@ -93,8 +94,8 @@ impl<D: Disk> RunState<D> {
     }
 
     /// What a worker does next for the task that it has claimed, where so many of its victims, those that go first, are known to
-    /// be gone. Linear in the others that are gone, in the nodes and in the workers; quadratic in the operands, which are a task's
-    /// few; no memory.
+    /// be gone. Linear in the others that are gone, in the nodes and in the workers; quadratic in the operands, which are a
+    /// task's few; no memory.
     pub fn next_step(&self, t: Task, w: Worker, gone: usize) -> Todo
         requires claimed { progress (state self.now) t ≡ Claimed w }
         requires gone { AreGone self.now.machine (state self.now) w gone }
