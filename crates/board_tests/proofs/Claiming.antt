@@ -89,6 +89,7 @@ module _ {D : Type 0} (size faults mismatches : D → ℕ) (held : D → Option 
     };
     fault = ap (λ (k : BoardState D). k.fault) claims ∙ ap (λ (k : BoardState D). k.fault) gives;
     opened = ap (λ (k : BoardState D). k.run.opened) claims ∙ ap (λ (k : BoardState D). k.run.opened) gives;
+    policy = ap (λ (k : BoardState D). k.run.machine.policy) claims ∙ ap (λ (k : BoardState D). k.run.machine.policy) gives;
   }
 
 -- a worker that was only given a task has done something alone
@@ -112,4 +113,5 @@ module _ {D : Type 0} (b y : BoardState D) (w : Worker) (o : Option Task) (gives
     };
     fault = ap (λ (k : BoardState D). k.fault) gives;
     opened = ap (λ (k : BoardState D). k.run.opened) gives;
+    policy = ap (λ (k : BoardState D). k.run.machine.policy) gives;
   }

@@ -11,13 +11,16 @@ pub mod LastHeaders
 pub mod NextBoards
 pub mod Opening
 pub mod PassedTasks
+pub mod Policies
 pub mod PoolFilling
 pub mod Pooling
 pub mod Prepared
+pub mod ReleasedTasks
 pub mod SparingBoards
 pub mod Starting
 pub mod StillGone
 pub mod Taking
+pub mod TakingAway
 pub mod TaskEnding
 pub mod UnitBoards
 pub mod UnitHands

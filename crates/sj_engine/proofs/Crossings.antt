@@ -75,7 +75,7 @@ module _ (D : RattleType) (g : Ghosts D.Denot) (s : IsSend D) where
   pub member_send : IsSend (SeatedWorkers.the_row D g)
   member_send =
       let T : Declared = SeatedWorkers.the_type D g in
-      recorded_send (Struct (shape T)) T.D T.to T.to_one (struct_send (shape T) (seat-send, (stage-send, (bell-send, tt))))
+      recorded_send (Struct (shape T)) T.D T.to T.to_one (struct_send (shape T) (seat-send, (search (sendable, crosses) depth 60, (stage-send, (bell-send, tt)))))
 
   desk-sync : IsSync (Desk.the_row (NotedBoard.the_row D g) (Keyed.ghosts D g Keyed.no_dict Keyed.no_dict))
   desk-sync = Desks.the_sync _ _ noted_send
@@ -88,4 +88,4 @@ module _ (D : RattleType) (g : Ghosts D.Denot) (s : IsSend D) where
   site_sync ℓ C G R codelets gate runtime =
       let T : Declared = Site.the_type ℓ C G R D g in
       recorded_sync (Struct (shape T)) T.D T.to T.to_one (struct_sync (shape T)
-      (shr_sync _ _ _ runtime, (heap-sync, (shr_sync _ _ _ desk-sync, (shr_sync _ _ _ Program.the_sync, (shr_sync _ _ _ codelets, (shr_sync _ _ _ gate, tt)))))))
+      (shr_sync _ _ _ runtime, (heap-sync, (shr_sync _ _ _ desk-sync, (shr_sync _ _ _ Program.the_sync, (shr_sync _ _ _ codelets, (shr_sync _ _ _ gate, (shr_sync _ _ _ (search (sendable, crosses) depth 60), tt))))))))

@@ -10,10 +10,13 @@ mod MoveTurns
 mod OperandLists
 mod OtherRows
 mod OwnRows
+mod Passing
 mod ResultLists
 mod Sleeping
+mod Sources
 mod StepFacts
 mod StepTurns
+mod Taken
 mod Turning
 mod UnitTurns
 pub mod Minding

@@ -12,9 +12,10 @@ use Rattle.sj_desk.specs.Seats.{DeskFacts, HasRowLeft, SeatFacts, rung}
 use Rattle.sj_machine.specs.Standing.{state}
 use Rattle.sj_board.specs.Board.{BoardState, IsOver}
 use Rattle.sj_engine.specs.Bell.{HasRung, IsChange, MindsBell, noted_after, wakes_after}
-use Rattle.sj_engine.specs.Noted.{noted_row}
-use Rattle.sj_engine.specs.Picking.{PickMakes, finds_nothing}
-use Rattle.sj_engine.specs.Resting.{RestNotes, change_of, has_ready, is_over, wakes}
+use Rattle.sj_engine.specs.Noted.{has_ready_in, noted_row}
+use Rattle.sj_engine.specs.Picking.{finds_nothing}
+use Rattle.sj_engine.specs.Queued.{PicksOrFails}
+use Rattle.sj_engine.specs.Resting.{RestNotes, change_of, is_over, wakes}
 use Rattle.sj_engine.specs.Stage.{HasLeft}
 use Rattle.sj_engine.specs.Stepping.{EndsByFault, HasDone, StepMakes, has_to_wait}
 use Rattle.sj_engine.specs.Turn.{Happens, NothingHappens}
@@ -37,7 +38,7 @@ module _ {D : Type 0} where
 
   -- ---- what turns did
 
-  pub pick-did : (w : Worker) (old new : BoardState D) (p : Picked) → PickMakes w old new p → (p ≡ PickFailed → IsTrue (is_some new.fault)) → (p ≡ Over → IsOver new) → p ≢ Nothing → IsChange old new Claimed
+  pub pick-did : (w : Worker) (old new : BoardState D) (p : Picked) → PicksOrFails w old new p → (p ≡ PickFailed → IsTrue (is_some new.fault)) → (p ≡ Over → IsOver new) → p ≢ Nothing → IsChange old new Claimed
   pick-did w old new (PickedTask t) makes failed over other = inl (Claim t w, makes, refl)
   pick-did w old new Nothing makes failed over other = absurd (other refl)
   pick-did w old new PickFailed makes failed over other = inr (over-by_fault new (failed refl))
@@ -68,11 +69,12 @@ module _ {D : Type 0} where
       own_row = own;
       rule = record {
         board = v.board;
+        waiting = v.waiting;
         change = change;
         did = did;
-        left = left.left ∙ ap (λ (n : RestNotes). let x : NotedBoard D = record { board = v.board; sleepers = n } in Some (noted_after w change x)) notes;
+        left = left.left ∙ ap (λ (n : RestNotes). let x : NotedBoard D = record { board = v.board; sleepers = n; waiting = v.waiting } in Some (noted_after w change x)) notes;
         rung = rung ∙ ap (λ (l : List ℕ). l ++ option_to_list (wakes_after w change v)) same
-            ∙ ap (λ (n : RestNotes). s.rings ++ option_to_list (wakes w.0 change (is_over v.board) (has_ready v.board) n)) notes;
+            ∙ ap (λ (n : RestNotes). s.rings ++ option_to_list (wakes w.0 change (is_over v.board) (has_ready_in v) n)) notes;
       };
     }
 

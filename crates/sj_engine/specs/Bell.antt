@@ -4,8 +4,8 @@ use Rattle.sj_base.specs.declared.ids.Worker.{Worker}
 use Rattle.sj_base.specs.declared.trace.Event.{Event}
 use Rattle.sj_desk.specs.Seats.{HasRowLeft, SeatFacts}
 use Rattle.sj_board.specs.Board.{BoardState}
-use Rattle.sj_engine.specs.Noted.{noted_row}
-use Rattle.sj_engine.specs.Resting.{change_of, has_ready, is_over, noted, noted_at_rest, wakes, wakes_at_rest}
+use Rattle.sj_engine.specs.Noted.{has_ready_in, noted_row}
+use Rattle.sj_engine.specs.Resting.{change_of, is_over, noted, noted_at_rest, wakes, wakes_at_rest}
 use Rattle.sj_engine.specs.Stage.{row_in}
 use Rattle.sj_engine.specs.Turn.{Happens, NothingHappens}
 use Rattle.sj_engine.specs.declared.noted_board.NotedBoard.{NotedBoard}
@@ -22,17 +22,17 @@ module _ {D : Type 0} where
 
   -- the bell that is rung at the end of a turn of the worker that did this, and the board with what is noted then
   abbrev pub wakes_after : Worker → Change → NotedBoard D → Option ℕ
-  wakes_after w change v = wakes w.0 change (is_over v.board) (has_ready v.board) v.sleepers
+  wakes_after w change v = wakes w.0 change (is_over v.board) (has_ready_in v) v.sleepers
 
   abbrev pub noted_after : Worker → Change → NotedBoard D → NotedBoard D
-  noted_after w change v = record { board = v.board; sleepers = noted w.0 change (is_over v.board) (has_ready v.board) v.sleepers }
+  noted_after w change v = record { board = v.board; sleepers = noted w.0 change (is_over v.board) (has_ready_in v) v.sleepers; waiting = v.waiting }
 
   -- and at the end of one after which the worker rests on a bell
   abbrev pub wakes_for_rest : Worker → Bool → NotedBoard D → Option ℕ
-  wakes_for_rest w claimed v = wakes_at_rest w.0 claimed (has_ready v.board) v.sleepers
+  wakes_for_rest w claimed v = wakes_at_rest w.0 claimed (has_ready_in v) v.sleepers
 
   abbrev pub noted_for_rest : Worker → ℕ → Bool → NotedBoard D → NotedBoard D
-  noted_for_rest w bell claimed v = record { board = v.board; sleepers = noted_at_rest w.0 bell claimed (has_ready v.board) v.sleepers }
+  noted_for_rest w bell claimed v = record { board = v.board; sleepers = noted_at_rest w.0 bell claimed (has_ready_in v) v.sleepers; waiting = v.waiting }
 
   -- the seat has rung this bell, or none
   abbrev pub HasRung : Option ℕ → SeatFacts (NotedBoard D) → SeatFacts (NotedBoard D) → Type 0
@@ -42,20 +42,22 @@ module _ {D : Type 0} where
   abbrev pub HasHeardBell : ℕ → SeatFacts (NotedBoard D) → Type 0
   HasHeardBell bell s = IsSomeAnd s.heard (λ h. h.bell ≡ bell)
 
-  -- the turn in which this was found did something, and the seat has noted it and rung as the rule has it
+  -- the turn in which this was found did something, by which this many tasks are ready and not claimed, and the seat has noted it
+  -- and rung as the rule has it
   pub record NotesChange (w : Worker) (found : NotedBoard D) (s t : SeatFacts (NotedBoard D)) : Type 0 where
     pub board : BoardState D
+    pub waiting : ℕ
     pub change : Change
     pub did : IsChange found.board board change
-    pub left : t.left ≡ Some (noted_after w change (record { board = board; sleepers = found.sleepers }))
-    pub rung : HasRung (wakes_after w change (record { board = board; sleepers = found.sleepers })) s t
+    pub left : t.left ≡ Some (noted_after w change (record { board = board; sleepers = found.sleepers; waiting = waiting }))
+    pub rung : HasRung (wakes_after w change (record { board = board; sleepers = found.sleepers; waiting = waiting })) s t
 
   -- nothing has happened in it, and the seat has noted that its worker rests on a bell, heard it, and rung as the rule has it
   pub record NotesRest (w : Worker) (bell : ℕ) (found : NotedBoard D) (s t : SeatFacts (NotedBoard D)) : Type 0 where
     pub board : BoardState D
     pub nothing : NothingHappens found.board board
-    pub left : t.left ≡ Some (noted_for_rest w bell (is_claimed board w) (record { board = board; sleepers = found.sleepers }))
-    pub rung : HasRung (wakes_for_rest w (is_claimed board w) (record { board = board; sleepers = found.sleepers })) s t
+    pub left : t.left ≡ Some (noted_for_rest w bell (is_claimed board w) (record { board = board; sleepers = found.sleepers; waiting = found.waiting }))
+    pub rung : HasRung (wakes_for_rest w (is_claimed board w) (record { board = board; sleepers = found.sleepers; waiting = found.waiting })) s t
     pub heard : HasHeardBell bell t
 
   -- the turn of the worker, whose thread sleeps on this bell, minded the bells: in it a board was found that has the worker's row

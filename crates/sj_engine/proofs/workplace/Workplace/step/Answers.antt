@@ -21,7 +21,7 @@ returns-clause-events g c = goes-on c.enter-noted.result c.requires.claimed c.en
 
 pub returns-clause-bell : goal.returns-clause-bell
 returns-clause-bell g c =
-    let left : NotedBoard _ = record { board = c.step-step.new.self; sleepers = c.enter-noted.result.sleepers } in
+    let left : NotedBoard _ = record { board = c.step-step.new.self; sleepers = c.enter-noted.result.sleepers; waiting = c.enter-noted.result.waiting } in
     let other : c.step-step.result ≢ Waits = search rules in
     minds-step c.step-step.result other
     (minds-change c.args.seat.now.facts c.enter-noted.new.self.facts c.end_turn.new.seat.facts c.enter-noted.result left c.change_of-change.result c.enter-noted.ensures.own_row (ap (λ s. s.rings) c.enter-noted.ensures.seat) refl
