@@ -1,7 +1,7 @@
 -- A free worker that is given a task and claims it has claimed it.
-use Rattle.std.proofs.Common.{◌≡◌, ◌≢◌, ℕ, ◌<◌, ◌∙◌, List, Option, None, Some, false, true, ap, length, refl, subst, sym}
+use Rattle.std.proofs.Common.{◌≡◌, ◌≢◌, ℕ, ◌<◌, ◌∙◌, List, Option, None, Some, false, true, ap, length, refl, slice_set, subst, sym}
 use Rattle.std.proofs.lemmas.Bool.{or_left}
-use Rattle.std.proofs.lemmas.List.{get_or-set_other, get_or-set_same}
+use Rattle.std.proofs.lemmas.List.{get_or-set_other, get_or-set_same, set-get_or}
 use Rattle.sj_base.specs.declared.ids.Task.{Task}
 use Rattle.sj_base.specs.declared.ids.Worker.{Worker}
 use Rattle.sj_base.specs.declared.trace.Event.TheVariants.{Claim}
@@ -89,6 +89,7 @@ module _ {D : Type 0} (size faults mismatches : D → ℕ) (held : D → Option 
     };
     fault = ap (λ (k : BoardState D). k.fault) claims ∙ ap (λ (k : BoardState D). k.fault) gives;
     opened = ap (λ (k : BoardState D). k.run.opened) claims ∙ ap (λ (k : BoardState D). k.run.opened) gives;
+    policy = ap (λ (k : BoardState D). k.run.machine.policy) claims ∙ ap (λ (k : BoardState D). k.run.machine.policy) gives;
   }
 
 -- a worker that was only given a task has done something alone
@@ -112,4 +113,11 @@ module _ {D : Type 0} (b y : BoardState D) (w : Worker) (o : Option Task) (gives
     };
     fault = ap (λ (k : BoardState D). k.fault) gives;
     opened = ap (λ (k : BoardState D). k.run.opened) gives;
+    policy = ap (λ (k : BoardState D). k.run.machine.policy) gives;
   }
+
+-- a free worker was given no task
+pub given-none : {D : Type 0} (b : BoardState D) (w : Worker) → IsFree b w → b ≡ given_from b w None b.pool
+given-none b w free =
+    let own : (record b { hands = slice_set b.hands w.0 (hand_of b w) }) ≡ b = ap (λ (hs : List Hand). record b { hands = hs }) (set-get_or b.hands w.0 empty_hand) in
+    sym own ∙ ap (λ (o : Option Task). given_from b w o b.pool) free.none_given

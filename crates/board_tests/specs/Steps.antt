@@ -14,9 +14,10 @@ pub record HasClaimed {D : Type 0} (b : BoardState D) (w : Worker) (t : Task) : 
   pub claimed : progress (state b.run) t ≡ Claimed w
   pub rests : transfer (state b.run) w ≡ None
 
--- the worker alone has done something: who else was free still is, and the first fault and the disks of the opening are as
--- they were
+-- the worker alone has done something: who else was free still is, and the first fault, the disks of the opening and the policy
+-- are as they were
 pub record IsStepOf {D : Type 0} (w : Worker) (old new : BoardState D) : Type 0 where
   pub others : (v : Worker) → v ≢ w → IsFree old v → IsFree new v
   pub fault : new.fault ≡ old.fault
   pub opened : new.run.opened ≡ old.run.opened
+  pub policy : new.run.machine.policy ≡ old.run.machine.policy

@@ -9,9 +9,10 @@ ghost use Rattle.sj_disk.specs.Directory.{extent_of};
 ghost use Rattle.sj_machine.specs.Placing.{ArePlaced, IsEmptySet, ReservesSome};
 ghost use Rattle.sj_machine.specs.Sound.{IsRunnableOn};
 ghost use Rattle.sj_machine.specs.Standing.{AllTell};
-ghost use Rattle.sj_board.specs.Board.{IsFree};
+ghost use Rattle.sj_board.specs.Board.{HasTakenReleased, IsFree};
 
 use sj_base::ids::Cell;
+use sj_base::mode::Policy;
 use sj_base::program::{Machine, Program};
 use sj_base::sequence::Sequence;
 use sj_base::tile::Dims;
@@ -36,11 +37,17 @@ struct Parts {
     machine: Machine,
 }
 
-/// The machine that a job's settings ask for, with one disk of so many bytes.
-fn machine_of(alloc: Global, settings: &Settings, disk: u64) -> Result<Machine, Fail>
+/// The machine that a job's settings ask for, but for the policy, with one disk of so many bytes.
+fn machine_of(
+    alloc: Global,
+    settings: &Settings,
+    disk: u64,
+    policy: Policy,
+) -> Result<Machine, Fail>
     ensures workers { IfOk result (λ m. (1 ≤ m.workers) × (m.workers ≤ 64)) }
     ensures nodes { IfOk result (λ m. (1 ≤ length m.nodes) × (length m.nodes ≤ 16)) }
     ensures disks { IfOk result (λ m. m.disks ≡ disk ∷ []) }
+    ensures policy { IfOk result (λ m. m.policy ≡ policy) }
 {
     let workers = settings.worker_count();
     let nodes = settings.node_sizes(alloc)?;
@@ -53,19 +60,20 @@ fn machine_of(alloc: Global, settings: &Settings, disk: u64) -> Result<Machine, 
         workers,
         nodes: Sequence::of(nodes),
         disks: Sequence::of(disks),
-        policy: settings.chosen_policy(),
+        policy,
     })
 }
 
-/// The program of a job text, and the machine that its settings ask for, with one disk of so many bytes.
-fn parts_of(alloc: Global, text: &str, disk: u64) -> Result<Parts, Fail>
+/// The program of a job text, and the machine that its settings ask for, but for the policy, with one disk of so many bytes.
+fn parts_of(alloc: Global, text: &str, disk: u64, policy: Policy) -> Result<Parts, Fail>
     requires small { disk ≤ 2 ^ 40 }
     ensures run { IfOk result (λ r. IsRunnableOn r.program.value r.machine) }
     ensures footprints { IfOk result (λ r. AreFootprints r.program.value r.footprints.items) }
     ensures disks { IfOk result (λ r. r.machine.disks ≡ disk ∷ []) }
+    ensures policy { IfOk result (λ r. r.machine.policy ≡ policy) }
 {
     let job = read(alloc, text.as_bytes(), &Ring)?;
-    let machine = machine_of(alloc, &job.settings, disk)?;
+    let machine = machine_of(alloc, &job.settings, disk, policy)?;
     let LoweredJob { program, .. } = lower(alloc, job, machine.workers)?;
     arguments_fit(&program);
     let footprints = fits(alloc, &program, &machine)?;
@@ -115,6 +123,8 @@ fn board_of<D: Disk>(alloc: Global, parts: Parts, disks: Vec<D>) -> Result<Board
     ensures free { IfOk result (λ b. (w : Worker) → w.0 < b.run.program.workers → IsFree b w) }
     ensures no_fault { IfOk result (λ b. b.fault ≡ None) }
     ensures opened { IfOk result (λ b. b.run.opened ≡ disks.items) }
+    ensures machine { IfOk result (λ b. b.run.machine ≡ parts.machine) }
+    ensures taken { IfOk result (λ b. (w : Worker) → HasTakenReleased b w) }
 {
     let Parts {
         program,
@@ -131,15 +141,17 @@ fn board_of<D: Disk>(alloc: Global, parts: Parts, disks: Vec<D>) -> Result<Board
     }
 }
 
-/// The board of a job text, on which nothing has happened, with one disk that tells nothing.
-pub fn opened<D: Disk>(alloc: Global, text: &str, disk: D) -> Result<Board<D>, Fail>
+/// The board of a job text under a policy, on which nothing has happened, with one disk that tells nothing.
+pub fn opened<D: Disk>(alloc: Global, text: &str, disk: D, policy: Policy) -> Result<Board<D>, Fail>
     requires small { D.size disk ≤ 2 ^ 40 }
     requires silent { D.held disk ≡ None }
     ensures free { IfOk result (λ b. (w : Worker) → w.0 < b.run.program.workers → IsFree b w) }
     ensures no_fault { IfOk result (λ b. b.fault ≡ None) }
     ensures silent { IfOk result (λ b. ¬ AllTell D.held b.run) }
+    ensures policy { IfOk result (λ b. b.run.machine.policy ≡ policy) }
+    ensures taken { IfOk result (λ b. (w : Worker) → HasTakenReleased b w) }
 {
-    let parts = parts_of(alloc, text, disk.size())?;
+    let parts = parts_of(alloc, text, disk.size(), policy)?;
     let mut disks = Vec::new(alloc);
     if disks.push(disk).is_err() {
         return Err(Fail::new("out of memory"));

@@ -1,10 +1,11 @@
 //! What a worker does on a board, step by step.
 
-ghost use Rattle.std.specs.Prelude.{◌≡◌, ◌≤◌, ◌^◌, ◌∷◌, [], IfOk, IfSome, None, OnErr, OnOk, map};
+ghost use Rattle.std.specs.Prelude.{◌≡◌, ◌≢◌, ◌≤◌, ◌^◌, ◌∷◌, [], IfOk, IfSome, None, OnErr, OnOk, map};
 ghost use Rattle.sj_base.specs.Array.{area};
+ghost use Rattle.sj_base.specs.declared.mode.Policy.TheVariants.{Prio};
 ghost use Rattle.sj_core.specs.Program.{dims_of, task_of, written_operands};
 ghost use Rattle.sj_machine.specs.Standing.{AllTell};
-ghost use Rattle.sj_board.specs.Board.{IsFree};
+ghost use Rattle.sj_board.specs.Board.{HasTakenReleased, IsFree, released_of};
 ghost use Rattle.board_tests.specs.Steps.{HasClaimed, IsStepOf};
 ghost use Rattle.sj_base.specs.Mode.{reads_of};
 
@@ -13,6 +14,7 @@ use sj_base::mode::Mode;
 use sj_base::program::Program;
 use sj_base::tile::{Dims, Tile};
 use sj_board::board::Board;
+use sj_board::claimable::Claimable;
 use sj_board::refusal::ClaimRefusal;
 use sj_codelet::frame::Frame;
 use sj_edge::disk::Disk;
@@ -25,8 +27,9 @@ use std::test::Fail;
 /// A task that the pool gave a worker, and whether it was claimed.
 pub type Claim = (Task, Result<(), ClaimRefusal>);
 
-/// A worker is given a task by the pool and claims it, or is refused that.
+/// Under `prio` a worker is given a task by the pool and claims it, or is refused that.
 pub fn claimed<D: Disk>(alloc: Global, board: &mut Board<D>, w: Worker) -> Result<Claim, Fail>
+    requires by_urgency { board.old.run.machine.policy ≡ Prio }
     requires free { IsFree board.old w }
     requires no_fault { board.old.fault ≡ None }
     ensures alone { IsStepOf w board.old board.new }
@@ -50,9 +53,11 @@ pub fn tried<D: Disk>(
     w: Worker,
     passed: &[Task],
 ) -> Result<Claim, Fail>
+    requires by_urgency { board.old.run.machine.policy ≡ Prio }
     requires free { IsFree board.old w }
     requires no_fault { board.old.fault ≡ None }
     ensures no_fault { board.new.fault ≡ None }
+    ensures policy { board.new.run.machine.policy ≡ board.old.run.machine.policy }
     ensures free { IfOk result (λ claim. OnErr claim.1 (IsFree board.new w)) }
 {
     board.is_sound();
@@ -90,7 +95,8 @@ fn filled(program: &Program, t: Task) -> Option<Dims>
 
 /// A worker runs the task that it has claimed, one that fills a cell, and ends it with zeros. Where the disks don't tell what
 /// they hold, the board is promised no more than the dimensions.
-fn ended<D: Disk>(alloc: Global, board: &mut Board<D>, w: Worker, t: Task) -> Result<(), Fail>
+pub fn ended<D: Disk>(alloc: Global, board: &mut Board<D>, w: Worker, t: Task) -> Result<(), Fail>
+    requires taken { HasTakenReleased board.old w }
     requires claimed { HasClaimed board.old w t }
     requires no_fault { board.old.fault ≡ None }
     requires silent { ¬ AllTell D.held board.old.run }
@@ -113,8 +119,33 @@ fn ended<D: Disk>(alloc: Global, board: &mut Board<D>, w: Worker, t: Task) -> Re
     Ok(())
 }
 
+/// By another policy than `prio` a worker claims the task of this number, where it may.
+pub fn claimed_outside<D: Disk>(
+    alloc: Global,
+    board: &mut Board<D>,
+    w: Worker,
+    t: Task,
+) -> Result<(), Fail>
+    requires outside { board.old.run.machine.policy ≢ Prio }
+    requires free { IsFree board.old w }
+    requires no_fault { board.old.fault ≡ None }
+    ensures alone { IsStepOf w board.old board.new }
+    ensures claims { OnOk result (HasClaimed board.new w t) }
+    ensures released { released_of board.new w ≡ released_of board.old w }
+{
+    board.is_sound();
+    let Claimable::Yes = board.may_claim(t, w) else {
+        return Err(Fail::new("the task may not be claimed"));
+    };
+    match board.claim(alloc, t, w) {
+        Ok(()) => Ok(()),
+        Err(_) => Err(Fail::new("the claim is refused")),
+    }
+}
+
 /// A worker claims a task, one that fills a cell, and brings it to its end.
 pub fn carried_out<D: Disk>(alloc: Global, board: &mut Board<D>, w: Worker) -> Result<Task, Fail>
+    requires by_urgency { board.old.run.machine.policy ≡ Prio }
     requires free { IsFree board.old w }
     requires no_fault { board.old.fault ≡ None }
     requires silent { ¬ AllTell D.held board.old.run }

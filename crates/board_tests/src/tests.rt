@@ -1,7 +1,8 @@
 //! Refused claims, and why.
 
-use crate::scenes::{claims_after_two, claims_of_three, looks_of_two};
+use crate::scenes::{claims_after_two, claims_of_three, looks_of_two, releases_of_one};
 use sj_base::ids::{Cell, Task};
+use sj_board::claimable::Claimable;
 use sj_board::refusal::ClaimRefusal;
 use sj_edge::file_disk::FileDisk;
 use sj_machine::plan::Why;
@@ -73,5 +74,18 @@ fn a_look_passes_urgent_tasks_that_cannot_be_claimed(rt: HostRuntime) -> Result<
     let (passed, fourth) = looks_of_two(rt.alloc(), URGENT, disk)?;
     assert_eq!(rt; passed, [Task(5), Task(6), Task(7)]);
     assert_eq!(rt; fourth, (Task(2), Ok(())));
+    Ok(())
+}
+
+/// One vector that is filled, and is printed then.
+const ONE: &str = "starjob 1\nworkers 1\nvector x 2 values 1 2\nprint x\n";
+
+#[test]
+fn an_end_releases_each_task_once(rt: HostRuntime) -> Result<(), Fail> {
+    let disk = FileDisk::at(&rt, NO_FILE, DISK);
+    let (first, second, again) = releases_of_one(rt.alloc(), ONE, disk)?;
+    assert_eq!(rt; first, Some(Task(1)));
+    assert_eq!(rt; second, None);
+    assert_eq!(rt; again, Claimable::Stale);
     Ok(())
 }

@@ -1,5 +1,6 @@
 -- A board stays sound where an event changes no task's progress.
-use Rattle.std.proofs.Common.{◌≡◌, ℕ, List, Option, Some, None, IsTrue, subst, sym, ap, ◌∙◌, refl, is_some, ◌⊎◌}
+use Rattle.std.proofs.Common.{◌≡◌, ◌↔◌, ℕ, List, Option, Some, None, IsTrue, subst, sym, ap, ◌∙◌, refl, is_some, ◌⊎◌}
+use Rattle.std.specs.List.{Contains}
 use Rattle.std.specs.Prelude.{IfSome, IsSomeAnd, OnErr, OnOk, Ok, Err, Result}
 use Rattle.sj_base.specs.declared.trace.Event.{Event}
 use Rattle.sj_base.specs.declared.trace.Event.TheVariants.{Moved}
@@ -9,7 +10,7 @@ use Rattle.sj_base.specs.declared.ids.Worker.{Worker}
 use Rattle.sj_core.proofs.States.{state_of-more}
 use Rattle.sj_core.specs.Legal.{IsComplete}
 use Rattle.sj_core.specs.Machine.{State, is_task_of, transfer}
-use Rattle.sj_core.specs.Step.{after}
+use Rattle.sj_core.specs.Step.{after, done_tasks}
 use Rattle.sj_core.specs.declared.progress.Progress.{Progress}
 use Rattle.sj_core.specs.declared.progress.Transfer.{Transfer}
 use Rattle.sj_deps.specs.Progress.{Dependencies}
@@ -18,12 +19,13 @@ use Rattle.sj_machine.specs.Cause.{HasCause}
 use Rattle.sj_machine.specs.Standing.{HasMoved, Standing, state, with_event}
 use Rattle.sj_machine.specs.declared.fault.RunFault.{RunFault}
 use Rattle.sj_machine.specs.Sound.{OnlyDisksChange}
-use Rattle.sj_machine.proofs.Stepping.{counts-same, progress-same, taken-back, taken-same, tasks_alone}
+use Rattle.sj_machine.proofs.Stepping.{counts-same, done-same, progress-same, taken-back, taken-same, tasks_alone}
 use Rattle.sj_board.specs.Board.{BoardState, has_event}
 use Rattle.sj_board.specs.BoardSound.{IsSoundIn, KeepsBoard}
 use Rattle.sj_board.specs.declared.hand.Hand.{Hand}
 use Rattle.sj_board.proofs.LastHeaders.{moved-cause}
 use Rattle.sj_board.proofs.Faulting.{kept-cause}
+use Rattle.sj_board.proofs.ReleasedTasks.{released-same}
 use Rattle.sj_edge.specs.GivenBack.{AreGivenBack}
 
 -- ---- what is said of a board is said of the tasks in its state alone
@@ -40,10 +42,11 @@ module _ (p : Program) (m : Machine) (s s' : State) (same : s'.tasks ≡ s.tasks
       no_task = sound.stops.no_task;
       over = λ w has_stopped. subst (λ (ts : List Progress). IsComplete (tasks_alone ts) ⊎ IsTrue (is_some fault)) (sym same) (sound.stops.over w has_stopped);
     };
-    stands_once = record {
-      once = λ t is. sound.stands_once.once t (taken-back p s s' same t is);
-      only = λ t some. taken-same p s s' same t (sound.stands_once.only t some);
+    stands_once = λ prio. record {
+      once = λ t is. (sound.stands_once prio).once t (taken-back p s s' same t is);
+      only = λ t some. taken-same p s s' same t ((sound.stands_once prio).only t some);
     };
+    stands_released = λ other. released-same p s s' hands hands pool (λ n. subst (λ (ns : List ℕ). Contains (done_tasks s) n ↔ Contains ns n) (sym (done-same p s s' same)) (λ c. c, λ c. c)) (sound.stands_released other).none_given (sound.stands_released other);
     pool_fits = sound.pool_fits;
   }
 

@@ -16,6 +16,7 @@ use Rattle.sj_board.specs.Board.{BoardState, IsOver, IsWorking, failed, first_fa
 use Rattle.sj_board.specs.BoardSound.{HandsAgree, KeepsBoard, StopsAtTheEnd, times_pooled}
 use Rattle.sj_board.specs.declared.hand.Hand.{Hand}
 use Rattle.sj_board.proofs.Hands.{given-same, hand-set, pool_for-same, stands-same, inside-hands}
+use Rattle.sj_board.proofs.ReleasedTasks.{released-hands}
 use Rattle.std.proofs.lemmas.Option.{none-some}
 
 -- there is a fault from then on, and it has its cause
@@ -69,7 +70,8 @@ module _ {D : Type 0} (faults mismatches : D → ℕ) (held : D → Option (List
     inside = record {
       hands_agree = failed-hands fault;
       stops = failed-stops fault;
-      stands_once = stands-same p s b.hands (failed b w fault).hands b.pool b.pool (λ t. ap (λ (n : ℕ). times_pooled b.pool t + n) (given-same b.hands w (record (hand_of b w) { task = None }) t inside refl)) keeps.inside.stands_once;
+      stands_once = λ prio. stands-same p s b.hands (failed b w fault).hands b.pool b.pool (λ t. ap (λ (n : ℕ). times_pooled b.pool t + n) (given-same b.hands w (record (hand_of b w) { task = None }) t inside refl)) (keeps.inside.stands_once prio);
+      stands_released = λ other. released-hands p s b.hands (failed b w fault).hands b.pool (hand-set (λ v h. h.given ≡ None) b.hands w (record (hand_of b w) { task = None }) inside ((keeps.inside.stands_released other).none_given w) (keeps.inside.stands_released other).none_given) (keeps.inside.stands_released other);
       pool_fits = pool_for-same p m b.hands b.pool w (record (hand_of b w) { task = None }) inside refl keeps.inside.pool_fits;
     };
     counts = keeps.counts;
@@ -97,7 +99,8 @@ module _ {D : Type 0} (faults mismatches : D → ℕ) (held : D → Option (List
         no_task = hand-set (λ v h. h.has_stopped ≡ true → h.task ≡ None) b.hands w (record (hand_of b w) { task = None; has_stopped = true }) inside (λ e. refl) keeps.inside.stops.no_task;
         over = λ v e. over;
       };
-      stands_once = stands-same p s b.hands (stopped b w).hands b.pool b.pool (λ t. ap (λ (n : ℕ). times_pooled b.pool t + n) (given-same b.hands w (record (hand_of b w) { task = None; has_stopped = true }) t inside refl)) keeps.inside.stands_once;
+      stands_once = λ prio. stands-same p s b.hands (stopped b w).hands b.pool b.pool (λ t. ap (λ (n : ℕ). times_pooled b.pool t + n) (given-same b.hands w (record (hand_of b w) { task = None; has_stopped = true }) t inside refl)) (keeps.inside.stands_once prio);
+      stands_released = λ other. released-hands p s b.hands (stopped b w).hands b.pool (hand-set (λ v h. h.given ≡ None) b.hands w (record (hand_of b w) { task = None; has_stopped = true }) inside ((keeps.inside.stands_released other).none_given w) (keeps.inside.stands_released other).none_given) (keeps.inside.stands_released other);
       pool_fits = pool_for-same p m b.hands b.pool w (record (hand_of b w) { task = None; has_stopped = true }) inside refl keeps.inside.pool_fits;
     };
     counts = keeps.counts;

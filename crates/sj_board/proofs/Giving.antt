@@ -1,6 +1,8 @@
 -- A board stays sound where a worker is given a task from the pool, and where it gives one back.
-use Rattle.std.proofs.Common.{◌≡◌, ℕ, ◌+◌, ◌<◌, ◌≤◌, true, false, IsTrue, ◌⊎◌, Option, Some, None, IfSome, List, cond, refl, sym, subst, ap, ◌∙◌, arith, length, length-set, slice_set, is_some}
+use Rattle.std.proofs.Common.{◌≡◌, ℕ, ◌+◌, ◌<◌, ◌≤◌, true, false, IsTrue, ◌⊎◌, Option, Some, None, IfSome, List, cond, inl, inr, refl, sym, subst, ap, ◌∙◌, arith, length, length-set, slice_set, is_some}
+use Rattle.std.proofs.lemmas.Bool.{cases_lt}
 use Rattle.std.proofs.lemmas.List.Sums.{get_or-le-sum_by}
+use Rattle.sj_base.specs.declared.mode.Policy.TheVariants.{Prio}
 use Rattle.sj_core.proofs.Words.{Machine, Program, State, Task, Worker, footprint, is_task_of, node_of, node_size, progress}
 use Rattle.sj_core.specs.Legal.{IsComplete}
 use Rattle.sj_deps.specs.Progress.{Dependencies}
@@ -13,10 +15,11 @@ use Rattle.sj_machine.specs.declared.fault.RunFault.{RunFault}
 use Rattle.sj_board.specs.Board.{BoardState, board_state, empty_hand, given_back, given_from, hand_of, room_of}
 use Rattle.sj_board.specs.Filling.{entry_of}
 use Rattle.sj_board.specs.BoardSound.{IsEntry, IsPoolFor, KeepsBoard, is_given, times_given, times_pooled}
-use Rattle.sj_board.specs.Passing.{IsLeft, IsTakenBehind}
+use Rattle.sj_board.specs.Passing.{IsLeft, IsPoolOf, IsTakenBehind}
 use Rattle.sj_board.specs.declared.hand.Hand.{Hand}
 use Rattle.std.proofs.lemmas.Option.{none-some}
 use Rattle.sj_board.proofs.Hands.{given-set, hand-set, stands-same, inside-hands}
+use Rattle.sj_board.proofs.Policies.{prio-pool}
 use Rattle.sj_board.proofs.Pooling.{all-pooled, none-contains, once, times-put}
 
 pub once-given : (t : Task) (hand : Hand) → cond {A = ℕ} (is_given t hand) 1 0 ≡ once t hand.given
@@ -32,7 +35,7 @@ keeps-left faults mismatches held run hs hs' q q' fault delivered deps footprint
     subst (λ (x : List Hand). KeepsBoard faults mismatches held (board_state run x q' fault delivered) deps footprints) (sym h)
     (subst (λ (x : Pooled). KeepsBoard faults mismatches held (board_state run hs x fault delivered) deps footprints) (sym e) keeps)
 
-module _ {D : Type 0} (faults mismatches : D → ℕ) (held : D → Option (List ℕ)) (b : BoardState D) (deps : Dependencies) (footprints : List ℕ) (keeps : KeepsBoard faults mismatches held b deps footprints) (w : Worker) (known : w.0 < b.run.program.workers) where
+module _ {D : Type 0} (faults mismatches : D → ℕ) (held : D → Option (List ℕ)) (b : BoardState D) (deps : Dependencies) (footprints : List ℕ) (keeps : KeepsBoard faults mismatches held b deps footprints) (w : Worker) (known : w.0 < b.run.program.workers) (prio : b.run.machine.policy ≡ Prio) where
   abbrev p : Program
   p = b.run.program
 
@@ -48,6 +51,23 @@ module _ {D : Type 0} (faults mismatches : D → ℕ) (held : D → Option (List
   abbrev giving : Option Task → Hand
   giving g = record (hand_of b w) { given = g }
 
+  pub pool-policy : b.pool.policy ≡ m.policy
+  pool-policy = keeps.inside.pool_fits.policy ∙ prio-pool m.policy prio ∙ sym prio
+
+  -- its entries are of tasks of the program, each once
+  pub pool-of : IsPoolOf p b.pool
+  pool-of = record {
+    workers = keeps.inside.pool_fits.workers;
+    tasks = keeps.inside.pool_fits.tasks;
+    queues = keeps.inside.pool_fits.queues;
+    entries = keeps.inside.pool_fits.entries;
+    known = λ t h. ((keeps.inside.stands_once prio).only t (omega (arith, h))).ready.task;
+    once = λ t. elim (cases_lt 0 (times_pooled b.pool t)) as (λ _. times_pooled b.pool t ≤ 1) [
+      | inl some ↦ omega (arith, (keeps.inside.stands_once prio).once t ((keeps.inside.stands_once prio).only t (omega (arith, some))))
+      | inr none ↦ omega (arith, none)
+    ];
+  }
+
   -- a worker's hand has another given task, and the pool has changed so that each task stands as often as before
   pub keeps-given : (g : Option Task) (pool' : Pooled) → ((t : Task) → times_pooled pool' t + once t g ≡ times_pooled b.pool t + once t (hand_of b w).given) → IsPoolFor p m (slice_set b.hands w.0 (giving g)) pool' → KeepsBoard faults mismatches held (record b { hands = slice_set b.hands w.0 (giving g); pool = pool' }) deps footprints
   keeps-given g pool' same fits = record {
@@ -62,7 +82,8 @@ module _ {D : Type 0} (faults mismatches : D → ℕ) (held : D → Option (List
         no_task = hand-set (λ v h. h.has_stopped ≡ true → h.task ≡ None) b.hands w (giving g) hand-inside (keeps.inside.stops.no_task w) keeps.inside.stops.no_task;
         over = hand-set (λ v h. h.has_stopped ≡ true → IsComplete s ⊎ IsTrue (is_some b.fault)) b.hands w (giving g) hand-inside (keeps.inside.stops.over w) keeps.inside.stops.over;
       };
-      stands_once = stands-same p s b.hands (slice_set b.hands w.0 (giving g)) b.pool pool' (λ t. omega (arith, same t, given-set b.hands w (giving g) t hand-inside, once-given t (giving g), once-given t (hand_of b w))) keeps.inside.stands_once;
+      stands_once = λ _. stands-same p s b.hands (slice_set b.hands w.0 (giving g)) b.pool pool' (λ t. omega (arith, same t, given-set b.hands w (giving g) t hand-inside, once-given t (giving g), once-given t (hand_of b w))) (keeps.inside.stands_once prio);
+      stands_released = λ other. absurd (other prio);
       pool_fits = fits;
     };
     counts = keeps.counts;
@@ -108,13 +129,13 @@ module _ {D : Type 0} (faults mismatches : D → ℕ) (held : D → Option (List
         omega (arith, least, once-given t (hand_of b w), ap (once t) given, one)
 
     pub back-taken : IsToBeTaken p s t
-    back-taken = keeps.inside.stands_once.only t (omega (arith, stands-here))
+    back-taken = (keeps.inside.stands_once prio).only t (omega (arith, stands-here))
 
     pub back-task : t.0 < length p.tasks
     back-task = back-taken.ready.task
 
     pub back-absent : contains b.pool.queues t.0 ≡ false
-    back-absent = none-contains b.pool.queues t (omega (arith, stands-here, keeps.inside.stands_once.once t back-taken))
+    back-absent = none-contains b.pool.queues t (omega (arith, stands-here, (keeps.inside.stands_once prio).once t back-taken))
 
     pub back-known : t.0 < b.pool.limit
     back-known = subst (λ (n : ℕ). t.0 < n) (sym keeps.inside.pool_fits.tasks) back-task

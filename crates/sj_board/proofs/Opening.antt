@@ -1,5 +1,5 @@
 -- A board on which nothing has happened is sound.
-use Rattle.std.proofs.Common.{◌≡◌, ℕ, cond, ◌+◌, ◌<◌, ◌≤◌, ◌↔◌, Option, None, List, [], All, inl, inr, refl, sym, subst, ap, ◌∙◌, arith, length, map, replicate, get_or}
+use Rattle.std.proofs.Common.{◌≡◌, ◌≢◌, ℕ, cond, ◌+◌, ◌<◌, ◌≤◌, ◌↔◌, Option, None, List, [], All, inl, inr, refl, sym, subst, ap, ◌∙◌, arith, length, map, replicate, get_or}
 use Rattle.std.specs.Prelude.{count_by}
 use Rattle.std.specs.List.{Contains}
 use Rattle.std.specs.List.Sorted.{IsStrictlyIncreasing}
@@ -10,6 +10,7 @@ use Rattle.std.proofs.lemmas.List.Folds.{sum_by-replicate}
 use Rattle.std.proofs.lemmas.List.Kept.{AllPairs-from_increasing}
 use Rattle.std.proofs.lemmas.Option.{none-some}
 use Rattle.sj_base.specs.declared.mode.Policy.{Policy}
+use Rattle.sj_base.specs.declared.mode.Policy.TheVariants.{Eager, Prio, Ws}
 use Rattle.sj_core.proofs.Readiness.{done_tasks-done}
 use Rattle.sj_core.proofs.Words.{Machine, Program, State, Task, Worker, is_done, is_task_of, opening, progress}
 use Rattle.sj_core.specs.declared.progress.Progress.TheVariants.{Waiting}
@@ -26,8 +27,10 @@ use Rattle.sj_machine.proofs.Stepping.{ready-same}
 use Rattle.sj_board.specs.Board.{board_state, empty_hand, hand_in}
 use Rattle.sj_board.specs.BoardSound.{IsEntry, IsPoolFor, KeepsBoard, is_entry_of, is_given, times_given, times_pooled}
 use Rattle.sj_board.specs.Filling.{CanPutEach, putter, with_each}
+use Rattle.sj_board.specs.Released.{pool_policy, queued_tasks}
 use Rattle.sj_board.specs.Preparing.{AreFirst, IsPrepared, first_hands, first_pool}
 use Rattle.sj_board.specs.declared.hand.Hand.{Hand}
+use Rattle.sj_board.proofs.Policies.{by-policy, other-pool, prio-pool}
 use Rattle.sj_board.proofs.PoolFilling.{IsFilled, fill, times_among}
 use Rattle.sj_board.proofs.TaskEnding.{among-contains, among-once, contains-among}
 
@@ -51,24 +54,39 @@ module _ (p : Program) (m : Machine) (some : 0 < p.workers) where
   none-given : (t : Task) → times_given (first_hands p) t ≡ 0
   none-given t = omega (arith, sum_by-replicate (λ (h : Hand). cond {A = ℕ} (is_given t h) 1 0) p.workers empty_hand)
 
-  empty-fits : IsPoolFor p m (first_hands p) (empty_pool m.policy p.workers (length p.tasks))
-  empty-fits = record {
-    policy = refl;
+  empty-fits : (policy : Policy) → policy ≡ pool_policy m.policy → IsPoolFor p m (first_hands p) (empty_pool policy p.workers (length p.tasks))
+  empty-fits policy same = record {
+    policy = same;
     workers = refl;
     tasks = refl;
-    queues = length-replicate (queue_count m.policy p.workers) [];
-    entries = All-from_get_or (All (IsEntry p)) (replicate (queue_count m.policy p.workers) []) [] (λ i inside. subst (All (IsEntry p)) (sym (always (queue_count m.policy p.workers) [] i)) (All-nil (IsEntry p)));
+    queues = length-replicate (queue_count policy p.workers) [];
+    entries = All-from_get_or (All (IsEntry p)) (replicate (queue_count policy p.workers) []) [] (λ i inside. subst (All (IsEntry p)) (sym (always (queue_count policy p.workers) [] i)) (All-nil (IsEntry p)));
     fits = λ w t e. absurd (none-some t (sym (ap (λ (h : Hand). h.given) (first-hand w)) ∙ e));
   }
 
   module _ (ready : List Task) (first : AreFirst p ready) where
-    pub first-filled : IsFilled p m (first_hands p) None staffed (empty_pool m.policy p.workers (length p.tasks)) ready
-    first-filled = fill p m (first_hands p) None staffed ready (empty_pool m.policy p.workers (length p.tasks)) empty-fits
+    pub first-filled : m.policy ≡ Prio → IsFilled p m (first_hands p) None staffed (empty_pool Prio p.workers (length p.tasks)) ready
+    first-filled prio = fill p m (first_hands p) None staffed ready (empty_pool Prio p.workers (length p.tasks)) (empty-fits Prio (sym (prio-pool m.policy prio)))
         (All-from_get_or (λ (k : Task). k.0 < length p.tasks) ready (record { 0 = 0 }) (λ i l. ((first.each (get_or ready i (record { 0 = 0 }))).0 (All-get_or (Contains ready) ready i (record { 0 = 0 }) l (All-contains_itself ready))).task))
-        (λ u. omega (arith, none-pooled m.policy u, few u))
+        (λ u. omega (arith, none-pooled Prio u, few u))
       where
         few : (u : Task) → times_among ready u ≤ 1
         few u = among-once ready u (AllPairs-from_increasing (map (λ (k : Task). k.0) ready) first.by_number)
+
+    -- under prio all that are ready stand there, and else nothing
+    prio-first : m.policy ≡ Prio → first_pool p m.policy ready ≡ with_each p None (empty_pool Prio p.workers (length p.tasks)) ready
+    prio-first prio = ap (λ (q : Policy). first_pool p q ready) prio
+
+    other-first : (q : Policy) → q ≢ Prio → first_pool p q ready ≡ empty_pool Ws p.workers (length p.tasks)
+    other-first Eager other = refl
+    other-first Prio other = absurd (other refl)
+    other-first Ws other = refl
+
+    first-fits : IsPoolFor p m (first_hands p) (first_pool p m.policy ready)
+    first-fits = elim (by-policy m.policy) as (λ _. IsPoolFor p m (first_hands p) (first_pool p m.policy ready)) [
+      | inl prio ↦ subst (IsPoolFor p m (first_hands p)) (sym (prio-first prio)) (first-filled prio).fits
+      | inr other ↦ subst (IsPoolFor p m (first_hands p)) (sym (other-first m.policy other)) (empty-fits Ws (sym (other-pool m.policy other)))
+    ]
 
     abbrev s : State
     s = opening p m
@@ -82,8 +100,14 @@ module _ (p : Program) (m : Machine) (some : 0 < p.workers) where
     done-none : (n : ℕ) → Contains (done_tasks s) n ↔ Contains [] n
     done-none n = ((none-done n).1, (none-done n).0)
 
-    times : (u : Task) → times_pooled (first_pool p m.policy ready) u + times_given (first_hands p) u ≡ times_among ready u
-    times u = omega (arith, first-filled.times u, none-pooled m.policy u, none-given u)
+    times : m.policy ≡ Prio → (u : Task) → times_pooled (first_pool p m.policy ready) u + times_given (first_hands p) u ≡ times_among ready u
+    times prio u = omega (arith, ap (λ (q : Pooled). times_pooled q u) (prio-first prio), (first-filled prio).times u, none-pooled Prio u, none-given u)
+
+    nothing : m.policy ≢ Prio → (u : Task) → times_pooled (first_pool p m.policy ready) u ≡ 0
+    nothing other u = ap (λ (q : Pooled). times_pooled q u) (other-first m.policy other) ∙ none-pooled Ws u
+
+    no-queue : m.policy ≢ Prio → (n : ℕ) → queued_tasks (first_pool p m.policy ready) n ≡ []
+    no-queue other n = ap (λ (q : Pooled). queued_tasks q n) (other-first m.policy other) ∙ ap (map (λ (e : Entry). e.task)) (always (queue_count Ws p.workers) [] n)
 
     pub keeps-opening : {D : Type 0} (faults mismatches : D → ℕ) (held : D → Option (List ℕ)) (disks : DiskState D) (footprints : List ℕ) → AreFootprints p footprints → KeepsBoard faults mismatches held (board_state (starting p m disks) (first_hands p) (first_pool p m.policy ready) None []) (dependencies p []) footprints
     keeps-opening faults mismatches held disks footprints bytes = record {
@@ -98,11 +122,17 @@ module _ (p : Program) (m : Machine) (some : 0 < p.workers) where
           no_task = λ w e. ap (λ (h : Hand). h.task) (first-hand w);
           over = λ w e. absurd (false≢true (sym (ap (λ (h : Hand). h.has_stopped) (first-hand w)) ∙ e));
         };
-        stands_once = record {
-          once = λ u is. omega (arith, times u, contains-among ready u ((first.each u).1 (ready-same p (done_tasks s) [] u.0 done-none is.ready)), among-once ready u (AllPairs-from_increasing (map (λ (k : Task). k.0) ready) first.by_number));
-          only = λ u stands. record { waiting = waits u; ready = ready-same p [] (done_tasks s) u.0 none-done ((first.each u).0 (among-contains ready u (omega (arith, times u, stands)))) };
+        stands_once = λ prio. record {
+          once = λ u is. omega (arith, times prio u, contains-among ready u ((first.each u).1 (ready-same p (done_tasks s) [] u.0 done-none is.ready)), among-once ready u (AllPairs-from_increasing (map (λ (k : Task). k.0) ready) first.by_number));
+          only = λ u stands. record { waiting = waits u; ready = ready-same p [] (done_tasks s) u.0 none-done ((first.each u).0 (among-contains ready u (omega (arith, times prio u, stands)))) };
         };
-        pool_fits = first-filled.fits;
+        stands_released = λ other. record {
+          none_given = λ w. ap (λ (h : Hand). h.given) (first-hand w);
+          become = λ u h. absurd (omega (arith, nothing other u, h));
+          once = λ u. omega (arith, nothing other u);
+          by_number = λ n. subst (λ (ts : List Task). IsStrictlyIncreasing (map (λ (t : Task). t.0) ts)) (sym (no-queue other n)) (λ k within. absurd (omega (arith, within)));
+        };
+        pool_fits = first-fits;
       };
       counts = record { program = refl; done = none-done };
       bytes = bytes;
@@ -110,10 +140,14 @@ module _ (p : Program) (m : Machine) (some : 0 < p.workers) where
 
 -- ---- as the code leaves it
 
-abbrev machine_with : Policy → Machine
-machine_with policy = record { workers = 0; nodes = []; disks = []; policy = policy }
+abbrev machine_by_urgency : Machine
+machine_by_urgency = record { workers = 0; nodes = []; disks = []; policy = Prio }
 
-module _ (p : Program) (policy : Policy) (some : 0 < p.workers) (deps : Dependencies) (program : deps.program ≡ p) (none : deps.done ≡ []) (listed ready : List Task) (same : listed ≡ ready) (each : (u : Task) → Contains ready u ↔ Ready deps.program deps.done u.0) (rising : IsStrictlyIncreasing (map (λ u. u.0) ready)) (pool : Pooled) (n : ℕ) (count : n ≡ length p.tasks) (made : pool ≡ empty_pool policy p.workers n) where
+pub first-can : (p : Program) (some : 0 < p.workers) (ready : List Task) → AreFirst p ready → (pool : Pooled) (n : ℕ) → n ≡ length p.tasks → pool ≡ empty_pool Prio p.workers n → CanPutEach p None pool ready
+first-can p some ready first pool n count made =
+    subst (λ (q : Pooled). CanPutEach p None q ready) (sym (made ∙ ap (empty_pool Prio p.workers) count)) (first-filled p machine_by_urgency some ready first refl).can
+
+module _ (p : Program) (policy : Policy) (deps : Dependencies) (program : deps.program ≡ p) (none : deps.done ≡ []) (listed ready : List Task) (same : listed ≡ ready) (each : (u : Task) → Contains ready u ↔ Ready deps.program deps.done u.0) (rising : IsStrictlyIncreasing (map (λ u. u.0) ready)) where
   first : AreFirst p ready
   first = record {
     each = λ u. (
@@ -123,20 +157,17 @@ module _ (p : Program) (policy : Policy) (some : 0 < p.workers) (deps : Dependen
     by_number = rising;
   }
 
-  pool-is : pool ≡ empty_pool policy p.workers (length p.tasks)
-  pool-is = made ∙ ap (empty_pool policy p.workers) count
+  pub first-listed : AreFirst p listed
+  first-listed = subst (AreFirst p) (sym same) first
 
-  pub first-can : CanPutEach p None pool listed
-  first-can = subst (λ (ts : List Task). CanPutEach p None pool ts) (sym same) (subst (λ (q : Pooled). CanPutEach p None q ready) (sym pool-is) (first-filled p (machine_with policy) some ready first).can)
-
-  pub prepared : (footprints : List ℕ) (hands : List Hand) (pool' : Pooled) → AreFootprints p footprints → hands ≡ first_hands p → pool' ≡ with_each p None pool listed → IsPrepared p policy deps footprints hands pool'
-  prepared footprints hands pool' bytes handed put = record {
+  pub prepared : (footprints : List ℕ) (hands : List Hand) (pool : Pooled) → AreFootprints p footprints → hands ≡ first_hands p → pool ≡ first_pool p policy listed → IsPrepared p policy deps footprints hands pool
+  prepared footprints hands pool bytes handed made = record {
     deps_are = ap (λ (q : Program). dependencies q deps.done) program ∙ ap (dependencies p) none;
     bytes = bytes;
     hands_are = handed;
     ready = ready;
     first = first;
-    pool_is = put ∙ ap (with_each p None pool) same ∙ ap (λ (q : Pooled). with_each p None q ready) pool-is;
+    pool_is = made ∙ ap (first_pool p policy) same;
   }
 
 -- a board of parts that are prepared

@@ -10,12 +10,13 @@ use Rattle.sj_core.specs.declared.progress.Progress.TheVariants.{Claimed, Runnin
 use Rattle.sj_core.specs.Legal.{IsComplete}
 use Rattle.sj_core.specs.Step.{after}
 use Rattle.sj_deps.specs.Progress.{Dependencies}
-use Rattle.sj_machine.specs.ReadyTasks.{IsToBeTaken}
+use Rattle.sj_machine.specs.ReadyTasks.{CountsDone, IsToBeTaken}
 use Rattle.sj_machine.specs.Standing.{CanHappen, Standing, state, with_event}
 use Rattle.sj_machine.proofs.Stepping.{counts-still, not-complete, taken-before, taken-still}
 use Rattle.sj_board.specs.Board.{BoardState, has_event}
 use Rattle.sj_board.specs.BoardSound.{KeepsBoard}
 use Rattle.sj_board.proofs.LastHeaders.{none-caused}
+use Rattle.sj_board.proofs.ReleasedTasks.{counts-both, released-same}
 
 claimed-waits : (w : Worker) → Claimed w ≡ Waiting → ⊥
 claimed-waits w e = absurd (cc)
@@ -69,6 +70,9 @@ module _ {D : Type 0} (faults mismatches : D → ℕ) (held : D → Option (List
     | inr d ↦ taken-before p s s' t (Claimed w) (Running w) step refl refl u d is
   ]
 
+  counts-now : CountsDone p s' deps
+  counts-now = counts-still p s s' t (Claimed w) (Running w) step refl refl deps keeps.counts
+
   pub keeps-begun : KeepsBoard faults mismatches held (has_event b (Run t w)) deps footprints
   keeps-begun = record {
     fault = none-caused faults mismatches held b.run (with_event b.run (Run t w)) b.fault none;
@@ -82,13 +86,14 @@ module _ {D : Type 0} (faults mismatches : D → ℕ) (held : D → Option (List
         no_task = keeps.inside.stops.no_task;
         over = λ v e. over-still (keeps.inside.stops.over v e);
       };
-      stands_once = record {
-        once = λ u is. keeps.inside.stands_once.once u (taken-here u is);
-        only = λ u some. taken-there u (keeps.inside.stands_once.only u some);
+      stands_once = λ prio. record {
+        once = λ u is. (keeps.inside.stands_once prio).once u (taken-here u is);
+        only = λ u some. taken-there u ((keeps.inside.stands_once prio).only u some);
       };
+      stands_released = λ other. released-same p s s' b.hands b.hands b.pool (counts-both p s s' deps keeps.counts counts-now) (keeps.inside.stands_released other).none_given (keeps.inside.stands_released other);
       pool_fits = keeps.inside.pool_fits;
     };
-    counts = counts-still p s s' t (Claimed w) (Running w) step refl refl deps keeps.counts;
+    counts = counts-now;
     bytes = keeps.bytes;
   }
 

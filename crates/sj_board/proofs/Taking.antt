@@ -5,6 +5,7 @@ use Rattle.std.proofs.lemmas.List.Elements.{All-from_get_or}
 use Rattle.std.proofs.lemmas.List.Sums.{list_all-from_AllPass}
 use Rattle.std.proofs.lemmas.Option.{none-some}
 use Rattle.sj_core.proofs.Eviction.{evicted-after}
+use Rattle.sj_base.specs.declared.mode.Policy.TheVariants.{Prio}
 use Rattle.sj_base.specs.declared.trace.Event.TheVariants.{Claim}
 use Rattle.sj_core.proofs.Advancing.{Advances, Claims-advances, claimed-is_mine, same_task, task_of-worker}
 use Rattle.sj_core.proofs.States.{state_of-more}
@@ -15,7 +16,7 @@ use Rattle.sj_core.specs.Step.{after}
 use Rattle.sj_core.proofs.Separation.{worker-inside}
 use Rattle.sj_core.proofs.Dependencies.{Proper-dependencies}
 use Rattle.sj_deps.specs.Progress.{Dependencies}
-use Rattle.sj_machine.specs.ReadyTasks.{IsToBeTaken}
+use Rattle.sj_machine.specs.ReadyTasks.{CountsDone, IsToBeTaken}
 use Rattle.sj_machine.specs.Planning.{IsWhy, MayClaim}
 use Rattle.sj_machine.specs.Sound.{IsSoundRun}
 use Rattle.sj_machine.specs.Standing.{CanHappen, Standing, state, with_event}
@@ -23,12 +24,15 @@ use Rattle.sj_machine.proofs.Stepping.{counts-still, not-complete, taken-before,
 use Rattle.sj_machine.specs.declared.plan.Why.{Why}
 use Rattle.sj_machine.proofs.Refusing.{refusal-waits}
 use Rattle.sj_board.specs.Board.{BoardState, IsWorking, hand_in, hand_of, has_claimed}
-use Rattle.sj_board.specs.BoardSound.{HandsAgree, KeepsBoard, StandsOnce, StopsAtTheEnd, times_given, times_pooled}
+use Rattle.sj_board.specs.BoardSound.{HandsAgree, KeepsBoard, StandsOnce, StandsReleased, StopsAtTheEnd, times_given, times_pooled}
+use Rattle.sj_board.specs.Claimable.{MayAsk}
 use Rattle.sj_board.specs.declared.hand.Hand.{Hand}
 use Rattle.sj_board.proofs.Giving.{back-taken, once-given}
 use Rattle.sj_board.proofs.Hands.{given-set, hand-set, hand-set_apart, inside-hands}
 use Rattle.sj_board.proofs.Pooling.{once}
 use Rattle.sj_board.proofs.LastHeaders.{none-caused}
+use Rattle.sj_board.proofs.Policies.{by-policy}
+use Rattle.sj_board.proofs.ReleasedTasks.{counts-both, released-same}
 use Rattle.sj_board.specs.declared.refusal.ClaimRefusal.TheVariants.{NotNow, OutOfMemory}
 
 -- a task is given once where the number is its own
@@ -41,7 +45,7 @@ once-other u t d = elim (cases_eq t.0 u.0) as (λ _. once u (Some t) ≡ 0) [
   | inr ne ↦ grind arith
 ]
 
-module _ {D : Type 0} (size faults mismatches : D → ℕ) (held : D → Option (List ℕ)) (b : BoardState D) (deps : Dependencies) (footprints : List ℕ) (keeps : KeepsBoard faults mismatches held b deps footprints) (sound : IsSoundRun size faults mismatches held b.run) (w : Worker) (works : IsWorking b w) (t : Task) (given : (hand_of b w).given ≡ Some t) (idle : (hand_of b w).task ≡ None) (none : b.fault ≡ None) where
+module _ {D : Type 0} (size faults mismatches : D → ℕ) (held : D → Option (List ℕ)) (b : BoardState D) (deps : Dependencies) (footprints : List ℕ) (keeps : KeepsBoard faults mismatches held b deps footprints) (sound : IsSoundRun size faults mismatches held b.run) (w : Worker) (works : IsWorking b w) (t : Task) (may : MayAsk b w t) (idle : (hand_of b w).task ≡ None) (none : b.fault ≡ None) where
   abbrev p : Program
   p = b.run.program
 
@@ -51,8 +55,20 @@ module _ {D : Type 0} (size faults mismatches : D → ℕ) (held : D → Option 
   abbrev s : State
   s = state b.run
 
+  given : m.policy ≡ Prio → (hand_of b w).given ≡ Some t
+  given prio = (may.given prio).given
+
   taken : IsToBeTaken p s t
-  taken = back-taken faults mismatches held b deps footprints keeps w works.known t given
+  taken = elim (by-policy m.policy) as (λ _. IsToBeTaken p s t) [
+    | inl prio ↦ back-taken faults mismatches held b deps footprints keeps w works.known prio t (given prio)
+    | inr other ↦ (may.outside other).0
+  ]
+
+  fitting : footprint p t ≤ node_size m (node_of m w)
+  fitting = elim (by-policy m.policy) as (λ _. footprint p t ≤ node_size m (node_of m w)) [
+    | inl prio ↦ keeps.inside.pool_fits.fits w t (given prio)
+    | inr other ↦ (may.outside other).1
+  ]
 
   has-none : (u : Task) → is_task_of w (progress s u) ≡ false
   has-none u = false_from_ne_true (is_task_of w (progress s u)) (λ has. none-some u (sym idle ∙ keeps.inside.hands_agree.tells none w u has))
@@ -63,7 +79,7 @@ module _ {D : Type 0} (size faults mismatches : D → ℕ) (held : D → Option 
     waiting = taken.waiting;
     ready = taken.ready;
     idle = list_all-from_AllPass (λ x. not (is_task_of w x)) s.tasks (All-from_get_or (λ x. not (is_task_of w x) ≡ true) s.tasks Waiting (λ k within. ap not (has-none (record { 0 = k }))));
-    fits = keeps.inside.pool_fits.fits w t given;
+    fits = fitting;
   }
 
   abbrev claiming : Hand
@@ -110,18 +126,18 @@ module _ {D : Type 0} (size faults mismatches : D → ℕ) (held : D → Option 
     }
 
     -- the task is given no longer, and no other more or less often
-    times : (u : Task) → times_pooled b.pool u + times_given (has_claimed b t w).hands u + once u (Some t) ≡ times_pooled b.pool u + times_given b.hands u
-    times u = omega (arith, given-set b.hands w claiming u inside, once-given u claiming, once-given u (hand_of b w), ap (once u) given)
+    times : m.policy ≡ Prio → (u : Task) → times_pooled b.pool u + times_given (has_claimed b t w).hands u + once u (Some t) ≡ times_pooled b.pool u + times_given b.hands u
+    times prio u = omega (arith, given-set b.hands w claiming u inside, once-given u claiming, once-given u (hand_of b w), ap (once u) (given prio))
 
-    claimed-stands : StandsOnce p s' (has_claimed b t w).hands b.pool
-    claimed-stands = record {
+    claimed-stands : m.policy ≡ Prio → StandsOnce p s' (has_claimed b t w).hands b.pool
+    claimed-stands prio = record {
       once = λ u is. elim (same_task u t) as (λ _. times_pooled b.pool u + times_given (has_claimed b t w).hands u ≡ 1) [
         | inl e ↦ absurd (claimed-waits (sym step.is ∙ ap (progress s') (sym e) ∙ is.waiting))
-        | inr d ↦ omega (arith, times u, once-other u t d, keeps.inside.stands_once.once u (taken-before p s s' t Waiting (Claimed w) step refl refl u d is))
+        | inr d ↦ omega (arith, times prio u, once-other u t d, (keeps.inside.stands_once prio).once u (taken-before p s s' t Waiting (Claimed w) step refl refl u d is))
       ];
       only = λ u some. elim (same_task u t) as (λ _. IsToBeTaken p s' u) [
         | inl e ↦ absurd (gone u e some)
-        | inr d ↦ taken-still p s s' t Waiting (Claimed w) step refl refl u d (keeps.inside.stands_once.only u (omega (arith, times u, some)))
+        | inr d ↦ taken-still p s s' t Waiting (Claimed w) step refl refl u d ((keeps.inside.stands_once prio).only u (omega (arith, times prio u, some)))
       ];
     }
       where
@@ -130,9 +146,18 @@ module _ {D : Type 0} (size faults mismatches : D → ℕ) (held : D → Option 
 
         gone : (u : Task) → u ≡ t → 0 < times_pooled b.pool u + times_given (has_claimed b t w).hands u → ⊥
         gone u e some =
-            let one = keeps.inside.stands_once.once u (keeps.inside.stands_once.only u (omega (arith, times u, some))) in
+            let one = (keeps.inside.stands_once prio).once u ((keeps.inside.stands_once prio).only u (omega (arith, times prio u, some))) in
             let own : once u (Some t) ≡ 1 = subst (λ (k : Task). once k (Some t) ≡ 1) (sym e) (once-own t) in
-            absurd (omega (arith, times u, some, one, own))
+            absurd (omega (arith, times prio u, some, one, own))
+
+    counts-now : CountsDone p s' deps
+    counts-now = counts-still p s s' t Waiting (Claimed w) step refl refl deps keeps.counts
+
+    -- it stays with those that were released, where it is one of them
+    claimed-released : m.policy ≢ Prio → StandsReleased p s' (has_claimed b t w).hands b.pool
+    claimed-released other =
+        let was = keeps.inside.stands_released other in
+        released-same p s s' b.hands (has_claimed b t w).hands b.pool (counts-both p s s' deps keeps.counts counts-now) (hand-set (λ v h. h.given ≡ None) b.hands w claiming inside refl was.none_given) was
 
     pub keeps-claimed : KeepsBoard faults mismatches held (has_claimed b t w) deps footprints
     keeps-claimed = record {
@@ -141,6 +166,7 @@ module _ {D : Type 0} (size faults mismatches : D → ℕ) (held : D → Option 
         hands_agree = claimed-hands;
         stops = claimed-stops;
         stands_once = claimed-stands;
+        stands_released = claimed-released;
         pool_fits = record {
           policy = keeps.inside.pool_fits.policy;
           workers = keeps.inside.pool_fits.workers;
@@ -150,7 +176,7 @@ module _ {D : Type 0} (size faults mismatches : D → ℕ) (held : D → Option 
           fits = hand-set (λ v x. (u : Task) → x.given ≡ Some u → footprint p u ≤ node_size m (node_of m v)) b.hands w claiming inside (λ u e. absurd (none-some u e)) keeps.inside.pool_fits.fits;
         };
       };
-      counts = counts-still p s s' t Waiting (Claimed w) step refl refl deps keeps.counts;
+      counts = counts-now;
       bytes = keeps.bytes;
     }
 

@@ -8,6 +8,8 @@ use Rattle.std.proofs.lemmas.List.Elements.{All-contains_itself, All-from_get_or
 use Rattle.std.proofs.lemmas.List.Kept.{AllPairs-from_increasing}
 use Rattle.std.proofs.lemmas.List.Sums.{get_or-le-sum_by}
 use Rattle.std.proofs.lemmas.Option.{none-some}
+use Rattle.sj_base.specs.declared.mode.Policy.{Policy}
+use Rattle.sj_base.specs.declared.mode.Policy.TheVariants.{Prio, Ws}
 use Rattle.sj_base.specs.declared.trace.Event.TheVariants.{End}
 use Rattle.sj_core.proofs.Advancing.{Advances, Ends-advances, same_task, task_of-worker}
 use Rattle.sj_core.proofs.Readiness.{Ready-earlier, Ready-from, done_tasks-done, done_tasks-has}
@@ -21,22 +23,25 @@ use Rattle.sj_core.specs.declared.progress.Progress.{Progress}
 use Rattle.sj_core.specs.declared.progress.Progress.TheVariants.{Claimed, Done, Running, Waiting}
 use Rattle.sj_deps.specs.Conflict.{Ready}
 use Rattle.sj_deps.specs.Progress.{Dependencies, after_done}
-use Rattle.sj_pool.specs.Pool.{Pooled}
+use Rattle.sj_pool.specs.Pool.{Pooled, queue_count}
 use Rattle.sj_machine.specs.ReadyTasks.{IsToBeTaken}
 use Rattle.sj_machine.specs.Delivery.{IsGift}
 use Rattle.sj_machine.specs.Sound.{IsSoundRun}
 use Rattle.sj_base.specs.Array.{Array}
 use Rattle.sj_machine.specs.Standing.{CanHappen, Standing, state, with_event}
 use Rattle.sj_machine.proofs.Stepping.{not-complete, ready-counted, ready-same}
-use Rattle.sj_board.specs.Board.{BoardState, IsWorking, board_state, hand_in, hand_of, has_ended}
-use Rattle.sj_board.specs.BoardSound.{HandsAgree, KeepsBoard, StandsOnce, StopsAtTheEnd, times_given, times_pooled}
+use Rattle.sj_board.specs.Board.{BoardState, HasTakenReleased, IsWorking, board_state, hand_in, hand_of, has_ended, released_of}
+use Rattle.sj_board.specs.BoardSound.{HandsAgree, HasBecomeReady, KeepsBoard, StandsOnce, StandsReleased, StopsAtTheEnd, times_given, times_pooled}
 use Rattle.sj_board.specs.Delivered.{handed}
 use Rattle.sj_board.specs.Filling.{CanPutEach, with_each}
+use Rattle.sj_board.specs.Released.{queued_tasks}
 use Rattle.sj_board.specs.Releasing.{AreReleased, BecomeReady, EndsTask, Releases}
 use Rattle.sj_board.specs.declared.hand.Hand.{Hand}
 use Rattle.sj_board.proofs.PoolFilling.{IsFilled, among-cons, fill, times_among}
 use Rattle.sj_board.proofs.Hands.{given-same, hand-set, hand-set_apart, pool_for-same, inside-hands}
 use Rattle.sj_board.proofs.LastHeaders.{ended-cause}
+use Rattle.sj_board.proofs.Policies.{by-policy, other-pool, other-released}
+use Rattle.sj_board.proofs.ReleasedTasks.{by-number, own-tasks}
 use Rattle.sj_board.proofs.Starting.{running-waits}
 
 -- ---- how often a task is in a list
@@ -71,7 +76,7 @@ among-once (t ∷ ts) u pairs =
 
 -- ---- the end of a task
 
-module _ {D : Type 0} (size faults mismatches : D → ℕ) (held : D → Option (List ℕ)) (b : BoardState D) (deps : Dependencies) (footprints : List ℕ) (keeps : KeepsBoard faults mismatches held b deps footprints) (sound : IsSoundRun size faults mismatches held b.run) (w : Worker) (works : IsWorking b w) (t : Task) (has : (hand_of b w).task ≡ Some t) (can : CanHappen b.run (End t w)) where
+module _ {D : Type 0} (size faults mismatches : D → ℕ) (held : D → Option (List ℕ)) (b : BoardState D) (deps : Dependencies) (footprints : List ℕ) (keeps : KeepsBoard faults mismatches held b deps footprints) (sound : IsSoundRun size faults mismatches held b.run) (w : Worker) (works : IsWorking b w) (t : Task) (has : (hand_of b w).task ≡ Some t) (can : CanHappen b.run (End t w)) (taken : HasTakenReleased b w) where
   abbrev p : Program
   p = b.run.program
 
@@ -161,15 +166,15 @@ module _ {D : Type 0} (size faults mismatches : D → ℕ) (held : D → Option 
     few u = among-once ts u (AllPairs-from_increasing (map (λ (k : Task). k.0) ts) become.by_number)
 
     -- one that becomes ready stands nowhere yet
-    absent : (u : Task) → Contains ts u → times_pooled b.pool u + times_given b.hands u ≡ 0
-    absent u c = elim (cases_lt 0 (times_pooled b.pool u + times_given b.hands u)) as (λ _. times_pooled b.pool u + times_given b.hands u ≡ 0) [
-      | inl some ↦ absurd (((become.each u).0 c).1 (keeps.inside.stands_once.only u some).ready)
+    absent : StandsOnce p s b.hands b.pool → (u : Task) → Contains ts u → times_pooled b.pool u + times_given b.hands u ≡ 0
+    absent stands u c = elim (cases_lt 0 (times_pooled b.pool u + times_given b.hands u)) as (λ _. times_pooled b.pool u + times_given b.hands u ≡ 0) [
+      | inl some ↦ absurd (((become.each u).0 c).1 (stands.only u some).ready)
       | inr none ↦ omega (arith, none)
     ]
 
-    most : (u : Task) → times_pooled b.pool u + times_given b.hands u ≤ 1
-    most u = elim (cases_lt 0 (times_pooled b.pool u + times_given b.hands u)) as (λ _. times_pooled b.pool u + times_given b.hands u ≤ 1) [
-      | inl some ↦ omega (arith, keeps.inside.stands_once.once u (keeps.inside.stands_once.only u some))
+    most : StandsOnce p s b.hands b.pool → (u : Task) → times_pooled b.pool u + times_given b.hands u ≤ 1
+    most stands u = elim (cases_lt 0 (times_pooled b.pool u + times_given b.hands u)) as (λ _. times_pooled b.pool u + times_given b.hands u ≤ 1) [
+      | inl some ↦ omega (arith, stands.once u (stands.only u some))
       | inr none ↦ omega (arith, none)
     ]
 
@@ -180,10 +185,33 @@ module _ {D : Type 0} (size faults mismatches : D → ℕ) (held : D → Option 
       | inr none ↦ inr (omega (arith, none))
     ]
 
+    room-once : StandsOnce p s b.hands b.pool → (u : Task) → times_pooled b.pool u + times_among ts u ≤ 1
+    room-once stands u = elim (among u) as (λ _. times_pooled b.pool u + times_among ts u ≤ 1) [
+      | inl c ↦ omega (arith, absent stands u c, few u)
+      | inr none ↦ omega (arith, most stands u, none)
+    ]
+
+    -- where others were released, it isn't one of them: these have become ready before
+    unreleased : StandsReleased p s b.hands b.pool → (u : Task) → Contains ts u → times_pooled b.pool u ≡ 0
+    unreleased stands u c = elim (cases_lt 0 (times_pooled b.pool u)) as (λ _. times_pooled b.pool u ≡ 0) [
+      | inl some ↦ absurd (before (stands.become u some).ready)
+      | inr none ↦ omega (arith, none)
+    ]
+      where
+        before : Ready p (done_tasks s) u.0 ⊎ Contains (done_tasks s) u.0 → ⊥
+        before (inl ready) = ((become.each u).0 c).1 ready
+        before (inr done) = ((become.each u).0 c).0.waiting (done_tasks-has s' u (done-before u (done_tasks-done s u done)))
+
+    room-released : StandsReleased p s b.hands b.pool → (u : Task) → times_pooled b.pool u + times_among ts u ≤ 1
+    room-released stands u = elim (among u) as (λ _. times_pooled b.pool u + times_among ts u ≤ 1) [
+      | inl c ↦ omega (arith, unreleased stands u c, few u)
+      | inr none ↦ omega (arith, stands.once u, none)
+    ]
+
     room : (u : Task) → times_pooled b.pool u + times_among ts u ≤ 1
-    room u = elim (among u) as (λ _. times_pooled b.pool u + times_among ts u ≤ 1) [
-      | inl c ↦ omega (arith, absent u c, few u)
-      | inr none ↦ omega (arith, most u, none)
+    room u = elim (by-policy m.policy) as (λ _. times_pooled b.pool u + times_among ts u ≤ 1) [
+      | inl prio ↦ room-once (keeps.inside.stands_once prio) u
+      | inr other ↦ room-released (keeps.inside.stands_released other) u
     ]
 
     known : All (λ (k : Task). k.0 < length p.tasks) ts
@@ -273,11 +301,11 @@ module _ {D : Type 0} (size faults mismatches : D → ℕ) (held : D → Option 
         EarlierAreDone-later : (v : Task) → EarlierAreDone p s v → EarlierAreDone p s' v
         EarlierAreDone-later v earlier x before conflict = done-before x (earlier x before conflict)
 
-    once-now : (u : Task) → IsToBeTaken p s' u → times_pooled b.pool u + times_given b.hands u + times_among ts u ≡ 1
-    once-now u is = elim (cases_lt 0 (times_pooled b.pool u + times_given b.hands u)) as (λ _. times_pooled b.pool u + times_given b.hands u + times_among ts u ≡ 1) [
+    once-now : StandsOnce p s b.hands b.pool → (u : Task) → IsToBeTaken p s' u → times_pooled b.pool u + times_given b.hands u + times_among ts u ≡ 1
+    once-now stands u is = elim (cases_lt 0 (times_pooled b.pool u + times_given b.hands u)) as (λ _. times_pooled b.pool u + times_given b.hands u + times_among ts u ≡ 1) [
       | inl some ↦ elim (among u) as (λ _. times_pooled b.pool u + times_given b.hands u + times_among ts u ≡ 1) [
-        | inl c ↦ absurd (omega (arith, absent u c, some))
-        | inr none ↦ omega (arith, none, keeps.inside.stands_once.once u (keeps.inside.stands_once.only u some))
+        | inl c ↦ absurd (omega (arith, absent stands u c, some))
+        | inr none ↦ omega (arith, none, stands.once u (stands.only u some))
       ]
       | inr none ↦
           let c : Contains ts u = (become.each u).1 (is.ready, λ before. unready before none) in
@@ -289,19 +317,69 @@ module _ {D : Type 0} (size faults mismatches : D → ℕ) (held : D → Option 
 
         unready : Ready p (done_tasks s) u.0 → times_pooled b.pool u + times_given b.hands u ≤ 0 → ⊥
         unready before none =
-            let once = keeps.inside.stands_once.once u (record { waiting = sym (step.others u other) ∙ is.waiting; ready = before }) in
+            let once = stands.once u (record { waiting = sym (step.others u other) ∙ is.waiting; ready = before }) in
             absurd (omega (arith, none, once))
 
-    ended-stands : StandsOnce p s' (has_ended b t w ts gift).hands (with_each p (Some w) b.pool ts)
-    ended-stands = record {
-      once = λ u is. times u ∙ once-now u is;
+    ended-stands : StandsOnce p s b.hands b.pool → StandsOnce p s' (has_ended b t w ts gift).hands (with_each p (Some w) b.pool ts)
+    ended-stands stands = record {
+      once = λ u is. times u ∙ once-now stands u is;
       only = λ u some. elim (cases_lt 0 (times_pooled b.pool u + times_given b.hands u)) as (λ _. IsToBeTaken p s' u) [
-        | inl stood ↦ still-taken u (keeps.inside.stands_once.only u stood)
+        | inl stood ↦ still-taken u (stands.only u stood)
         | inr none ↦
             let c = among-contains ts u (omega (arith, none, times u, some)) in
             record { waiting = waits u c; ready = ((become.each u).0 c).0 }
       ];
     }
+
+    -- ---- where tasks are released
+
+    pool-ws : m.policy ≢ Prio → b.pool.policy ≡ Ws
+    pool-ws other = keeps.inside.pool_fits.policy ∙ other-pool m.policy other
+
+    own-inside : m.policy ≢ Prio → w.0 < length b.pool.queues
+    own-inside other =
+        let count : length b.pool.queues ≡ b.pool.workers = keeps.inside.pool_fits.queues ∙ ap (λ (q : Policy). queue_count q b.pool.workers) (pool-ws other) in
+        omega (arith, count, keeps.inside.pool_fits.workers, works.known)
+
+    none-left : m.policy ≢ Prio → queued_tasks b.pool w.0 ≡ []
+    none-left other = sym (other-released m.policy b.pool w.0 other) ∙ taken
+
+    still-become : (u : Task) → HasBecomeReady p s u → HasBecomeReady p s' u
+    still-become u h = record { task = h.task; ready = by_ready h.ready }
+      where
+        by_ready : Ready p (done_tasks s) u.0 ⊎ Contains (done_tasks s) u.0 → Ready p (done_tasks s') u.0 ⊎ Contains (done_tasks s') u.0
+        by_ready (inr done) = inr (done_tasks-has s' u (done-before u (done_tasks-done s u done)))
+        by_ready (inl ready) = elim (same_task u t) as (λ _. Ready p (done_tasks s') u.0 ⊎ Contains (done_tasks s') u.0) [
+          | inl e ↦ inr (done_tasks-has s' u (ap (done_in s') e ∙ ap is_done step.is))
+          | inr d ↦ inl (record {
+            task = ready.task;
+            waiting = λ done. ready.waiting (done_tasks-has s u (ap is_done (sym (step.others u d)) ∙ done_tasks-done s' u done));
+            earlier = λ v before conflict. done_tasks-has s' (record { 0 = v }) (done-before (record { 0 = v }) (done_tasks-done s (record { 0 = v }) (ready.earlier v before conflict)));
+          })
+        ]
+
+    ended-released : m.policy ≢ Prio → StandsReleased p s' (has_ended b t w ts gift).hands (with_each p (Some w) b.pool ts)
+    ended-released other =
+        let was = keeps.inside.stands_released other in
+        record {
+          none_given = hand-set (λ v h. h.given ≡ None) b.hands w hand' inside (was.none_given w) was.none_given;
+          become = λ u h. elim (cases_lt 0 (times_pooled b.pool u)) as (λ _. HasBecomeReady p s' u) [
+            | inl stood ↦ still-become u (was.become u stood)
+            | inr none ↦ (
+                let c = among-contains ts u (omega (arith, none, filled.times u, h)) in
+                record { task = ((become.each u).0 c).0.task; ready = inl ((become.each u).0 c).0 }
+                )
+          ];
+          once = λ u. omega (arith, filled.times u, room u);
+          by_number = by-number p w b.pool ts (pool-ws other) (own-inside other) (none-left other) become.by_number was.by_number;
+        }
+
+    -- they are those that the worker takes away next
+    pub ended-own : m.policy ≢ Prio → released_of (has_ended b t w ts gift) w ≡ ts
+    ended-own other =
+        other-released m.policy (with_each p (Some w) b.pool ts) w.0 other
+        ∙ own-tasks p w b.pool ts (pool-ws other) (own-inside other)
+        ∙ ap (λ (us : List Task). us ++ ts) (none-left other)
 
     pub keeps-ended : KeepsBoard faults mismatches held (has_ended b t w ts gift) (after_done deps t.0) footprints
     keeps-ended = record {
@@ -309,7 +387,8 @@ module _ {D : Type 0} (size faults mismatches : D → ℕ) (held : D → Option 
       inside = record {
         hands_agree = ended-hands;
         stops = ended-stops;
-        stands_once = ended-stands;
+        stands_once = λ prio. ended-stands (keeps.inside.stands_once prio);
+        stands_released = ended-released;
         pool_fits = pool_for-same p m b.hands (with_each p (Some w) b.pool ts) w hand' inside refl filled.fits;
       };
       counts = record { program = keeps.counts.program; done = now-done };
@@ -336,4 +415,4 @@ module _ {D : Type 0} (size faults mismatches : D → ℕ) (held : D → Option 
         (subst (λ (x : BoardState D). KeepsBoard faults mismatches held x (after_done deps t.0) footprints) (sym left) (keeps-ended put.ready (released-become put.ready put.released) gift))
 
     pub ends-task : IsGift held b.run t w gift → (old : BoardState D) → b ≡ old → EndsTask held old t w (board_state run' hands' pool' b.fault delivered')
-    ends-task gives old is = subst (λ (x : BoardState D). EndsTask held x t w (board_state run' hands' pool' b.fault delivered')) is (record { ready = put.ready; become = released-become put.ready put.released; gift = gift; gives = gives; leaves = left })
+    ends-task gives old is = subst (λ (x : BoardState D). EndsTask held x t w (board_state run' hands' pool' b.fault delivered')) is (record { ready = put.ready; become = released-become put.ready put.released; gift = gift; gives = gives; leaves = left; releases = λ other. ap (λ (x : BoardState D). released_of x w) left ∙ ended-own put.ready (released-become put.ready put.released) gift other })

@@ -27,6 +27,7 @@ use Rattle.sj_board.specs.Units.{OthersKeepUnits, UnitsStand, unit_in_hand}
 use Rattle.sj_board.specs.declared.hand.Hand.{Hand}
 use Rattle.sj_board.proofs.Boarding.{keeps-disks}
 use Rattle.sj_board.proofs.Hands.{given-same, hand-set, pool_for-same, stands-same}
+use Rattle.sj_board.proofs.ReleasedTasks.{released-hands}
 use Rattle.sj_board.proofs.UnitHands.{others-keep, units-back, units-taken}
 
 -- a worker's unit is no matter of what a board keeps beside
@@ -46,7 +47,8 @@ keeps-unit faults mismatches held b deps footprints w unit inside keeps =
           no_task = hand-set (λ v x. x.has_stopped ≡ true → x.task ≡ None) b.hands w h inside (keeps.inside.stops.no_task w) keeps.inside.stops.no_task;
           over = λ v. hand-set (λ u x. x.has_stopped ≡ true → IsComplete s ⊎ IsTrue (is_some b.fault)) b.hands w h inside (keeps.inside.stops.over w) keeps.inside.stops.over v;
         };
-        stands_once = stands-same b.run.program s b.hands (slice_set b.hands w.0 h) b.pool b.pool (λ t. ap (λ (n : ℕ). times_pooled b.pool t + n) (given-same b.hands w h t inside refl)) keeps.inside.stands_once;
+        stands_once = λ prio. stands-same b.run.program s b.hands (slice_set b.hands w.0 h) b.pool b.pool (λ t. ap (λ (n : ℕ). times_pooled b.pool t + n) (given-same b.hands w h t inside refl)) (keeps.inside.stands_once prio);
+        stands_released = λ other. released-hands b.run.program s b.hands (slice_set b.hands w.0 h) b.pool (hand-set (λ v x. x.given ≡ None) b.hands w h inside ((keeps.inside.stands_released other).none_given w) (keeps.inside.stands_released other).none_given) (keeps.inside.stands_released other);
         pool_fits = pool_for-same b.run.program b.run.machine b.hands b.pool w h inside refl keeps.inside.pool_fits;
       };
       counts = keeps.counts;

@@ -1,6 +1,6 @@
 -- A board as contracts see it: the run, what each worker has in hand, the pool of ready tasks, the first fault, and what
 -- deliver tasks have handed over.
-use Rattle.std.specs.Prelude.{◌≡◌, ℕ, ◌<◌, ◌⊎◌, true, false, IsTrue, Option, Some, None, IfSome, is_some, List, ◌++◌, slice_index_or, slice_set, if◌then◌else◌}
+use Rattle.std.specs.Prelude.{◌≡◌, ℕ, ◌<◌, ◌⊎◌, true, false, IsTrue, Option, Some, None, IfSome, is_some, List, [], ◌++◌, slice_index_or, slice_set, if◌then◌else◌}
 use Rattle.sj_base.specs.declared.ids.Task.{Task}
 use Rattle.sj_base.specs.declared.ids.Worker.{Worker}
 use Rattle.sj_base.specs.declared.trace.Event.{Event}
@@ -16,9 +16,11 @@ use Rattle.sj_machine.specs.Standing.{Standing, state, with_event}
 use Rattle.sj_machine.specs.declared.fault.RunFault.{RunFault}
 use Rattle.sj_board.specs.Delivered.{handed}
 use Rattle.sj_board.specs.Filling.{entry_of, with_each}
+use Rattle.sj_board.specs.Released.{released_in, without_first_of}
 use Rattle.sj_board.specs.declared.hand.Hand.{Hand}
 
--- a board: `fault` is the first one, and `delivered` has what ends of tasks have handed over, in their order
+-- a board: `pool` has ready tasks under prio, and else released ones; `fault` is the first one, and `delivered` has what ends of
+-- tasks have handed over, in their order
 pub record BoardState (D : Type 0) : Type 0 where
   pub run : Standing D
   pub hands : List Hand
@@ -82,6 +84,16 @@ RunsNone b w = IfSome (hand_of b w).task (λ t. is_running_on w (progress (state
 abbrev pub transfer_of : {D : Type 0} → BoardState D → Worker → Option Transfer
 transfer_of b w = if is_some (hand_of b w).task then transfer (state b.run) w else None
 
+-- ---- released tasks
+
+-- the tasks that the worker's ends have released and that it hasn't taken away; under prio none
+abbrev pub released_of : {D : Type 0} → BoardState D → Worker → List Task
+released_of b w = released_in b.run.machine.policy b.pool w.0
+
+-- it has taken all of them away
+abbrev pub HasTakenReleased : {D : Type 0} → BoardState D → Worker → Type 0
+HasTakenReleased b w = released_of b w ≡ []
+
 -- ---- what the calls make
 
 -- one event more
@@ -116,7 +128,11 @@ given_next b w = given_from b w (task_for b.pool w.0 (room_of b w)) (without_ent
 abbrev pub given_back : {D : Type 0} → BoardState D → Task → Worker → BoardState D
 given_back b t w = record (with_hand b w (record (hand_of b w) { given = None })) { pool = with_entry b.pool (entry_of b.run.program t) w.0 }
 
--- the worker has claimed the task that it was given
+-- the worker has taken the first of its released tasks away, where there is one
+abbrev pub has_released : {D : Type 0} → BoardState D → Worker → BoardState D
+has_released b w = record b { pool = without_first_of b.run.machine.policy b.pool w.0 }
+
+-- the worker has claimed the task
 abbrev pub has_claimed : {D : Type 0} → BoardState D → Task → Worker → BoardState D
 has_claimed b t w = with_hand (has_event b (Claim t w)) w (record (hand_of b w) { given = None; task = Some t })
 

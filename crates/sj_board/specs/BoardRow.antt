@@ -14,7 +14,7 @@ use Rattle.sj_core.specs.Operands.{cells_of}
 use Rattle.sj_core.specs.Step.{array_at}
 use Rattle.sj_core.specs.declared.progress.Progress.{Progress}
 use Rattle.sj_machine.specs.Standing.{state}
-use Rattle.sj_board.specs.Board.{BoardState, hand_of, transfer_of}
+use Rattle.sj_board.specs.Board.{BoardState, hand_of, released_of, transfer_of}
 use Rattle.sj_board.specs.Units.{unit_in_hand}
 use Rattle.sj_disk.specs.Units.{UnitState}
 use Rattle.sj_board.specs.declared.hand.Hand.{Hand}
@@ -41,7 +41,7 @@ arrays_for b w t = if is_running_on w (progress (state b.run) t) then map (array
 
 -- what a worker has in hand, a disk's unit as it was taken out, and how far its task is, with the arrays of its operands while it
 -- runs; what it holds, its transfer with the array that this carries and the write count of its cell, as long as it has a task;
--- and its events
+-- its events; and the tasks that its ends have released and that it hasn't taken away
 pub record BoardRow (D : Type 0) : Type 0 where
   pub hand : Hand
   pub unit : Option (UnitState D)
@@ -51,6 +51,7 @@ pub record BoardRow (D : Type 0) : Type 0 where
   pub carries : Option Array
   pub writes : Option ℕ
   pub events : List Event
+  pub released : List Task
 
 abbrev pub row_for : {D : Type 0} → BoardState D → Worker → BoardRow D
 row_for b w = record {
@@ -62,6 +63,7 @@ row_for b w = record {
   carries = option_map (λ x. array_at b.run.program (state b.run) x.from x.cell) (transfer_of b w);
   writes = option_map (λ x. writes (state b.run) x.cell) (transfer_of b w);
   events = filter (is_event_of w.0) b.run.trace;
+  released = released_of b w;
 }
 
 -- the row of the worker with this number

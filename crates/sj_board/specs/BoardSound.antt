@@ -1,13 +1,18 @@
 -- What is true of every board between two calls.
-use Rattle.std.specs.Prelude.{◌≡◌, ℕ, ◌+◌, ◌<◌, ◌≤◌, ◌⊎◌, Bool, true, false, not, IsTrue, nat_eq, Option, Some, None, IfSome, is_some, All, List, length, count_by, sum_by}
+use Rattle.std.specs.Prelude.{◌≡◌, ◌≢◌, ℕ, ◌+◌, ◌<◌, ◌≤◌, ◌⊎◌, Bool, true, false, not, IsTrue, nat_eq, Option, Some, None, IfSome, is_some, All, List, length, map, count_by, sum_by}
+use Rattle.std.specs.List.{Contains}
+use Rattle.std.specs.List.Sorted.{IsStrictlyIncreasing}
 use Rattle.sj_base.specs.declared.ids.Task.{Task}
 use Rattle.sj_base.specs.declared.ids.Worker.{Worker}
+use Rattle.sj_base.specs.declared.mode.Policy.TheVariants.{Prio}
 use Rattle.sj_base.specs.declared.program.Program.{Program}
 use Rattle.sj_base.specs.declared.program.Machine.{Machine}
 use Rattle.sj_core.specs.Legal.{IsComplete}
 use Rattle.sj_base.specs.Array.{Array}
 use Rattle.sj_core.specs.Machine.{State, is_done, is_task_of, progress}
 use Rattle.sj_core.specs.Needs.{AreFootprints, footprint, node_of, node_size}
+use Rattle.sj_core.specs.Step.{done_tasks}
+use Rattle.sj_deps.specs.Conflict.{Ready}
 use Rattle.sj_deps.specs.Progress.{Dependencies}
 use Rattle.sj_pool.specs.Pool.{Pooled, queue_count}
 use Rattle.sj_pool.specs.declared.entry.Entry.{Entry}
@@ -20,6 +25,7 @@ use Rattle.sj_machine.specs.ReadyTasks.{CountsDone, IsToBeTaken}
 use Rattle.sj_board.specs.Board.{BoardState, hand_in}
 use Rattle.sj_board.specs.Delivered.{DeliversDone, KeepsGifts, undelivered}
 use Rattle.sj_board.specs.Filling.{entry_of}
+use Rattle.sj_board.specs.Released.{pool_policy, queued_tasks}
 use Rattle.sj_board.specs.Units.{UnitsStand}
 use Rattle.sj_board.specs.declared.hand.Hand.{Hand}
 
@@ -58,13 +64,25 @@ pub record StandsOnce (p : Program) (s : State) (hands : List Hand) (pool : Pool
   pub once : (t : Task) → IsToBeTaken p s t → times_pooled pool t + times_given hands t ≡ 1
   pub only : (t : Task) → 0 < times_pooled pool t + times_given hands t → IsToBeTaken p s t
 
+-- the task is ready, whether it waits or was begun meanwhile, or it is done
+pub record HasBecomeReady (p : Program) (s : State) (t : Task) : Type 0 where
+  pub task : t.0 < length p.tasks
+  pub ready : Ready p (done_tasks s) t.0 ⊎ Contains (done_tasks s) t.0
+
+-- no worker was given a task; each one in the pool has become ready and stands there once, in each queue by number
+pub record StandsReleased (p : Program) (s : State) (hands : List Hand) (pool : Pooled) : Type 0 where
+  pub none_given : (w : Worker) → (hand_in hands w).given ≡ None
+  pub become : (t : Task) → 0 < times_pooled pool t → HasBecomeReady p s t
+  pub once : (t : Task) → times_pooled pool t ≤ 1
+  pub by_number : (n : ℕ) → IsStrictlyIncreasing (map (λ t. t.0) (queued_tasks pool n))
+
 -- the entry has its task's priority and bytes
 abbrev pub IsEntry : Program → Entry → Type 0
 IsEntry p e = e ≡ entry_of p e.task
 
 -- the pool was made for the program, its entries tell what their tasks need, and what a worker was given fits its node
 pub record IsPoolFor (p : Program) (m : Machine) (hands : List Hand) (pool : Pooled) : Type 0 where
-  pub policy : pool.policy ≡ m.policy
+  pub policy : pool.policy ≡ pool_policy m.policy
   pub workers : pool.workers ≡ p.workers
   pub tasks : pool.limit ≡ length p.tasks
   pub queues : length pool.queues ≡ queue_count pool.policy pool.workers
@@ -73,11 +91,13 @@ pub record IsPoolFor (p : Program) (m : Machine) (hands : List Hand) (pool : Poo
 
 -- ---- all of it
 
--- what is true of a board in a state of its run
+-- what is true of a board in a state of its run: under prio each ready task that waits stands in the pool or in a hand, and
+-- else those that were released stand in the pool until they are taken away
 pub record IsSoundIn (p : Program) (m : Machine) (s : State) (hands : List Hand) (pool : Pooled) (fault : Option RunFault) : Type 0 where
   pub hands_agree : HandsAgree p s hands fault
   pub stops : StopsAtTheEnd s hands fault
-  pub stands_once : StandsOnce p s hands pool
+  pub stands_once : m.policy ≡ Prio → StandsOnce p s hands pool
+  pub stands_released : m.policy ≢ Prio → StandsReleased p s hands pool
   pub pool_fits : IsPoolFor p m hands pool
 
 -- the run is sound, a fault that is kept has its cause, workers' hands and the pool fit the state, each deliver task that is done

@@ -7,6 +7,7 @@ pub mod Filling
 pub mod Passing
 pub mod Preparing
 pub mod Refusal
+pub mod Released
 pub mod Releasing
 pub mod Todo
 pub mod Units

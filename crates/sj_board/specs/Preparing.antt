@@ -4,6 +4,7 @@ use Rattle.std.specs.List.{Contains}
 use Rattle.std.specs.List.Sorted.{IsStrictlyIncreasing}
 use Rattle.sj_base.specs.declared.ids.Task.{Task}
 use Rattle.sj_base.specs.declared.mode.Policy.{Policy}
+use Rattle.sj_base.specs.declared.mode.Policy.TheVariants.{Prio, Ws}
 use Rattle.sj_base.specs.declared.program.Program.{Program}
 use Rattle.sj_base.specs.declared.program.Machine.{Machine}
 use Rattle.sj_base.specs.Array.{Array}
@@ -31,9 +32,11 @@ pub record AreFirst (p : Program) (ready : List Task) : Type 0 where
   pub each : (u : Task) → Contains ready u ↔ Ready p [] u.0
   pub by_number : IsStrictlyIncreasing (map (λ u. u.0) ready)
 
--- the pool of a program whose tasks are these: each is put by the worker of its number, modulo the workers
+-- the pool of a program whose ready tasks are these: under prio each is put by the worker of its number, modulo the workers, and
+-- else nothing is released yet
 abbrev pub first_pool : Program → Policy → List Task → Pooled
-first_pool p policy ready = with_each p None (empty_pool policy p.workers (length p.tasks)) ready
+first_pool p Prio ready = with_each p None (empty_pool Prio p.workers (length p.tasks)) ready
+first_pool p _ ready = empty_pool Ws p.workers (length p.tasks)
 
 abbrev pub first_hands : Program → List Hand
 first_hands p = replicate p.workers empty_hand
@@ -56,7 +59,7 @@ pub record IsReadyToDeliver (p : Program) (gifts : List (Option Array)) (deliver
   pub gifts_are : gifts ≡ replicate p.workers None
   pub none : delivered ≡ deliveries [] (delivery_count p)
 
--- a board on which nothing has happened: its ready tasks are in the pool
+-- a board on which nothing has happened: under prio its ready tasks are in the pool
 pub record IsOpening {D : Type 0} (p : Program) (m : Machine) (disks : DiskState D) (b : BoardState D) : Type 0 where
   pub ready : List Task
   pub first : AreFirst p ready

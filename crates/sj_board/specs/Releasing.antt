@@ -1,9 +1,10 @@
 -- The tasks that become ready as a task ends.
-use Rattle.std.specs.Prelude.{◌≡◌, ◌↔◌, ℕ, Option, List, Some, map}
+use Rattle.std.specs.Prelude.{◌≡◌, ◌≢◌, ◌↔◌, ℕ, Option, List, Some, map}
 use Rattle.std.specs.List.{Contains}
 use Rattle.std.specs.List.Sorted.{IsStrictlyIncreasing}
 use Rattle.sj_base.specs.declared.ids.Task.{Task}
 use Rattle.sj_base.specs.declared.ids.Worker.{Worker}
+use Rattle.sj_base.specs.declared.mode.Policy.TheVariants.{Prio}
 use Rattle.sj_base.specs.declared.program.Program.{Program}
 use Rattle.sj_base.specs.declared.trace.Event.TheVariants.{End}
 use Rattle.sj_base.specs.Array.{Array}
@@ -14,7 +15,7 @@ use Rattle.sj_deps.specs.Progress.{BecomesReady, Dependencies}
 use Rattle.sj_pool.specs.Pool.{Pooled}
 use Rattle.sj_machine.specs.Standing.{state, with_event}
 use Rattle.sj_machine.specs.Delivery.{IsGift}
-use Rattle.sj_board.specs.Board.{BoardState, has_ended}
+use Rattle.sj_board.specs.Board.{BoardState, has_ended, released_of}
 use Rattle.sj_board.specs.Filling.{with_each}
 
 -- these are the tasks that are ready in the second state and weren't in the first, by number
@@ -23,13 +24,14 @@ pub record BecomeReady (p : Program) (s s' : State) (ts : List Task) : Type 0 wh
   pub by_number : IsStrictlyIncreasing (map (λ u. u.0) ts)
 
 -- the worker's task has ended: its event has happened, it has no task any more, the tasks that became ready are in the pool,
--- and what it hands over comes after what others have
+-- but under prio as those that it has released, and what it hands over comes after what others have
 pub record EndsTask {D : Type 0} (held : D → Option (List ℕ)) (old : BoardState D) (t : Task) (w : Worker) (new : BoardState D) : Type 0 where
   pub ready : List Task
   pub become : BecomeReady old.run.program (state old.run) (state (with_event old.run (End t w))) ready
   pub gift : Option Array
   pub gives : IsGift held old.run t w gift
   pub leaves : new ≡ has_ended old t w ready gift
+  pub releases : old.run.machine.policy ≢ Prio → released_of new w ≡ ready
 
 -- ---- as the dependencies answer it
 

@@ -19,8 +19,9 @@ ghost use Rattle.sj_machine.specs.Standing.{AllTell, CanHappen, IsMovingIn, IsMo
 ghost use Rattle.sj_machine.specs.Todo.{AnotherGoesOn};
 ghost use Rattle.sj_machine.specs.Units.{lent};
 ghost use Rattle.sj_machine.specs.Tiles.{array_in};
-ghost use Rattle.sj_board.specs.Board.{EndsMoveOf, HasTask, IsBusy, IsFree, IsIdle, IsOver, IsWorking, RunsNone, WasGiven, failed, first_fault, given_back, given_from, given_next, hand_in, hand_of, has_claimed, has_event, room_of, stopped, transfer_of};
+ghost use Rattle.sj_board.specs.Board.{EndsMoveOf, HasTakenReleased, HasTask, IsBusy, IsFree, IsIdle, IsOver, IsWorking, RunsNone, WasGiven, failed, first_fault, given_back, given_from, given_next, hand_in, hand_of, has_claimed, has_event, room_of, stopped, transfer_of};
 ghost use Rattle.sj_board.specs.BoardSound.{IsSoundBoard};
+ghost use Rattle.sj_board.specs.Claimable.{MayAsk};
 ghost use Rattle.sj_board.specs.Delivered.{DeliversEach, gift_in, handed};
 ghost use Rattle.sj_board.specs.Passing.{HasLost, IsFirstLeft, IsLeft, NoneIsLeft, is_passed};
 ghost use Rattle.sj_board.specs.Refusal.{IsRefusal, WaitsForAnother};
@@ -33,6 +34,7 @@ ghost use Rattle.sj_base.specs.Mode.{reads_of};
 
 mod admitting;
 mod lending;
+mod taking_away;
 
 use crate::delivered::Delivered;
 use crate::filling::put_ready;
@@ -46,6 +48,7 @@ use crate::releasing::release;
 use sj_base::ids::{Cell, Place, Task, Worker};
 use sj_base::keyed::Keyed;
 use sj_base::memory::OutOfMemory;
+use sj_base::mode::Policy;
 use sj_base::program::{Machine, Program};
 use sj_base::tile::Tile;
 use sj_base::trace::Trace;
@@ -64,6 +67,9 @@ use std::marker::Model;
 use std::sync::Arc;
 
 /// A run with its workers: what each of them has in hand, which ready tasks are there to be taken, and the first fault.
+///
+/// Under the policy `prio` the board gives ready tasks out itself, by `next`. Under the others they wait in queues outside: the
+/// board tells which have become ready, by `released`, and whether one may be claimed, by `may_claim`.
 #[derive(Drop)]
 pub struct Board<D: Disk> {
     run: RunState<D>,
@@ -178,10 +184,10 @@ fn hand_over(delivered: &mut Delivered, gifts: &mut Gifts, t: Task, w: Worker)
 }
 
 impl<D: Disk> Board<D> {
-    /// A board on which nothing has happened, with the tasks that are ready in the pool, and with room for all events and all
-    /// deliveries. The footprints are the bytes that each task needs on its node. The program and the disks come back where
-    /// memory is wanting. Linear in the tasks and their accesses, and in cells times nodes; for each ready task logarithmic
-    /// in all.
+    /// A board on which nothing has happened, under `prio` with the tasks that are ready in the pool, and with room for all
+    /// events, all deliveries, and all tasks that are released. The footprints are the bytes that each task needs on its node.
+    /// The program and the disks come back where memory is wanting. Linear in the tasks and their accesses, and in cells times
+    /// nodes; for each ready task logarithmic in all.
     pub fn make(
         alloc: Global,
         program: Arc<Program>,
@@ -226,6 +232,13 @@ impl<D: Disk> Board<D> {
         self.run.program()
     }
 
+    /// The policy of the machine. Constant time.
+    pub fn policy(&self) -> Policy
+        ensures { result ≡ self.now.run.machine.policy }
+    {
+        self.run.machine().policy
+    }
+
     /// Whether a fault is kept. Constant time.
     pub fn failed(&self) -> bool
         ensures { result ≡ is_some self.now.fault }
@@ -240,18 +253,19 @@ impl<D: Disk> Board<D> {
         self.left == 0
     }
 
-    /// Whether a ready task is in the pool that needs at most so many bytes. Constant time, and under `ws` linear in the workers.
+    /// Whether a task is in the pool that needs at most so many bytes: a ready one under `prio`, else one that was released and
+    /// not taken away. Constant time, and but under `prio` linear in the workers.
     pub fn has_ready(&self, room: u64) -> bool
         ensures { result ≡ list_any (has_fitting room) self.now.pool.queues }
     {
         self.pool.has_fitting(room)
     }
 
-    /// Gives a worker a ready task from the pool that it hasn't passed, by the policy among those that fit its node; `None`
-    /// exactly where there is none. Those that it comes across and has passed stay in the pool: in their places under `prio`,
-    /// else behind the worker's others. For each of these, and once more, linear in those that were passed, logarithmic in the
-    /// tasks, and under `ws` linear in the workers; no memory.
+    /// Under `prio` gives a worker the most urgent ready task from the pool that fits its node and that it hasn't passed; `None`
+    /// exactly where there is none. Those that it comes across and has passed stay in their places. For each of these, and once
+    /// more, linear in those that were passed and logarithmic in the tasks; no memory.
     pub fn next(&mut self, w: Worker, passed: &[Task]) -> Option<Task>
+        requires by_urgency { self.old.run.machine.policy ≡ Prio }
         requires free { IsFree self.old w }
         ensures given { self.new ≡ given_from self.old w result self.new.pool }
         ensures others { HasLost result self.old.pool self.new.pool }
@@ -279,8 +293,10 @@ impl<D: Disk> Board<D> {
         task
     }
 
-    /// Puts the task that a worker was given back into the pool. Logarithmic in the tasks; linear where memory is refused.
+    /// Under `prio` puts the task that a worker was given back into the pool. Logarithmic in the tasks; linear where memory is
+    /// refused.
     pub fn give_back(&mut self, t: Task, w: Worker)
+        requires by_urgency { self.old.run.machine.policy ≡ Prio }
         requires given { WasGiven self.old w t }
         ensures { self.new ≡ given_back self.old t w }
     {
@@ -288,13 +304,14 @@ impl<D: Disk> Board<D> {
         give(&mut self.hands, w, None);
     }
 
-    /// A worker claims the task that it was given, where no fault is kept. After an `Err` the board is as before, so that the
-    /// task is still in the worker's hand; `NotNow` comes only while another worker has a claimed or running task, and
-    /// `OutOfMemory` where there is none for the list of the claim's victims, or for the node's entries. Linear in the operands,
-    /// the victims, the pinned entries that are passed, the workers, and those of their victims that aren't known to be gone; and
-    /// in the workers for each commuting operand.
+    /// A worker claims a task, where no fault is kept: under `prio` the one that it was given, else any that is ready, waits and
+    /// fits its node. After an `Err` the board is as before, so that a task that was given is still in the worker's hand;
+    /// `NotNow` comes only while another worker has a claimed or running task, and `OutOfMemory` where there is none for the list
+    /// of the claim's victims, or for the node's entries. Linear in the operands, the victims, the pinned entries that are
+    /// passed, the workers, and those of their victims that aren't known to be gone; and in the workers for each commuting
+    /// operand.
     pub fn claim(&mut self, alloc: Global, t: Task, w: Worker) -> Result<(), ClaimRefusal>
-        requires given { WasGiven self.old w t }
+        requires may { MayAsk self.old w t }
         requires idle { IsIdle self.old w }
         requires no_fault { self.old.fault ≡ None }
         ensures can { OnOk result (CanHappen self.old.run (Claim t w)) }
@@ -358,12 +375,13 @@ impl<D: Disk> Board<D> {
     }
 
     /// The kernel of a worker's task has ended. The frame has shares of its results, in the order of its written operands; it
-    /// comes back empty, with its room. The tasks that become ready go to the pool, by number, and a deliver task hands its
-    /// operand's tile over. Linear in the operands and in the accesses that are released, and for each of these tasks logarithmic
-    /// in all; no memory.
+    /// comes back empty, with its room. The tasks that become ready go to the pool under `prio`, and else are the worker's
+    /// released tasks, by number; a deliver task hands its operand's tile over. Linear in the operands and in the accesses that
+    /// are released, and for each of these tasks logarithmic in all; no memory.
     pub fn end(&mut self, t: Task, w: Worker, written: Frame) -> Frame
         requires task { HasTask self.old w t }
         requires can { CanHappen self.old.run (End t w) }
+        requires taken { HasTakenReleased self.old w }
         requires written { AreResultsFor D.held self.old.run t w written.slots }
         ensures ends { EndsTask D.held self.old t w self.new }
         ensures spares { Spares self.old.run (End t w) self.new.run }

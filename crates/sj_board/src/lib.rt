@@ -5,6 +5,7 @@ pub mod board;
 pub mod claimable;
 pub mod delivered;
 mod filling;
+mod first_pool;
 pub mod gifts;
 mod gone;
 pub mod hand;

@@ -9,7 +9,7 @@ ghost use Rattle.sj_core.specs.Proper.{Proper};
 ghost use Rattle.sj_board.specs.Preparing.{AreReadyBelow, IsPrepared, IsReadyToDeliver};
 
 use crate::delivered::Delivered;
-use crate::filling::put_each;
+use crate::first_pool::first_pool;
 use crate::gifts::{Gifts, count_deliveries};
 use crate::hand::{EMPTY, Hand};
 use sj_base::ids::Task;
@@ -56,8 +56,8 @@ pub struct BoardParts {
     pub delivered: Delivered,
 }
 
-/// What a board has beside its run when nothing has happened: its ready tasks are in the pool, and there is room for what its
-/// deliver tasks hand over. Linear in the tasks and their accesses, and for each ready task logarithmic in all.
+/// What a board has beside its run when nothing has happened: under `prio` its ready tasks are in the pool, and there is room for
+/// what its deliver tasks hand over. Linear in the tasks and their accesses, and for each ready task logarithmic in all.
 pub fn prepare(
     alloc: Global,
     program: &Program,
@@ -76,9 +76,8 @@ pub fn prepare(
     let hands = vec![in alloc; EMPTY; program.workers as usize]?;
     let gifts = Gifts::none(alloc, program.workers)?;
     let delivered = Delivered::with_room(alloc, count_deliveries(program))?;
-    let mut pool = Pool::make(alloc, policy, program.workers, count)?;
     let ready = ready_tasks(alloc, &deps, count)?;
-    put_each(&mut pool, program, &footprints, &ready, None);
+    let pool = first_pool(alloc, program, policy, &footprints, &ready, count)?;
     Ok(BoardParts {
         deps,
         footprints,

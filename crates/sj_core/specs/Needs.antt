@@ -1,5 +1,5 @@
 -- What a task and a program need of the machine, in bytes: tiles on a node, blocks on disks.
-use Rattle.std.specs.Prelude.{◌≡◌, ℕ, ◌<◌, ◌+◌, ◌*◌, ◌%◌, max, Option, Some, None, List, [], ◌∷◌, map, filter, fold, sum_by, length, option_map}
+use Rattle.std.specs.Prelude.{◌≡◌, ℕ, ◌<◌, ◌≤◌, ◌+◌, ◌*◌, ◌%◌, max, Option, Some, None, List, [], ◌∷◌, map, filter, fold, sum_by, length, option_map}
 use Rattle.std.specs.List.{slice_index_or, slice_set, range_with_len, position}
 use Rattle.sj_base.specs.declared.ids.Cell.{Cell}
 use Rattle.sj_base.specs.declared.ids.Task.{Task}
@@ -33,6 +33,7 @@ footprint p t =
 pub record AreFootprints (p : Program) (footprints : List ℕ) : Type 0 where
   pub every_task : length footprints ≡ length p.tasks
   pub bytes : (t : Task) → t.0 < length p.tasks → slice_index_or footprints t.0 0 ≡ footprint p t
+  pub small : (t : Task) → t.0 < length p.tasks → footprint p t ≤ 18446744073709551615
 
 -- the bytes of a cell's block on a disk: a header of 24 and the elements
 abbrev pub cell_block_bytes : CellInfo → ℕ

@@ -18,7 +18,7 @@ use Rattle.sj_core.proofs.States.{one-mover, state_of-more}
 use Rattle.sj_machine.specs.Sparing.{Spares, SparesMoved}
 use Rattle.sj_machine.specs.Standing.{CanHappen, IsMovingIn, IsMovingOut, IsTileMoved, IsTileOf, Standing, is_node, state, with_event}
 use Rattle.sj_machine.specs.declared.fault.RunFault.{RunFault}
-use Rattle.sj_board.specs.Board.{BoardState, EndsMoveOf, empty_hand, failed, first_fault, hand_of, has_event, stopped, transfer_of}
+use Rattle.sj_board.specs.Board.{BoardState, EndsMoveOf, HasTakenReleased, empty_hand, failed, first_fault, hand_of, has_event, released_of, stopped, transfer_of}
 use Rattle.sj_board.specs.BoardRow.{key_of}
 use Rattle.sj_board.specs.BoardSound.{IsSoundBoard}
 use Rattle.sj_board.specs.declared.hand.Hand.{Hand}
@@ -51,7 +51,7 @@ module _ {D : Type 0} (size faults mismatches : D → ℕ) (held : D → Option 
   failed-turn b x y fault ex q =
       let e : y ≡ failed b w fault = q ∙ ap (λ (k : BoardState D). failed k w fault) ex in
       turn-hand faults mismatches w b (record (hand_of b w) { task = None }) y (ap (λ (k : BoardState D). k.run) e) (ap (λ (k : BoardState D). k.hands) e)
-      (λ none. absurd (first-not_none b.fault fault (sym (ap (λ (k : BoardState D). k.fault) e) ∙ none)))
+      (λ none. absurd (first-not_none b.fault fault (sym (ap (λ (k : BoardState D). k.fault) e) ∙ none))) (λ v. ap (λ (k : BoardState D). released_of k v) e)
 
   -- what fails after the worker's unit was put back
   pub failed-after : (a b x y : BoardState D) (fault : RunFault) → x ≡ b → y ≡ failed x w fault → PutsUnitBack w a b → IsTurnOf faults mismatches w a y
@@ -65,6 +65,7 @@ module _ {D : Type 0} (size faults mismatches : D → ℕ) (held : D → Option 
         events = (quiet.events.0 ++ t.events.0, t.events.1 ∙ ap (λ (l : List Event). l ++ t.events.0) quiet.events.1 ∙ append_assoc (row_in a w).events quiet.events.0 t.events.0);
         no_fault = λ none. sym quiet.fault ∙ t.no_fault none;
         counts = λ none. absurd (never (ap (λ (k : BoardState D). k.fault) (q ∙ ap (λ (k : BoardState D). failed k w fault) ex)) none);
+        taken = λ h. t.taken (quiet.taken h);
       }
     where
       never : y.fault ≡ first_fault b.fault fault → y.fault ≡ None → ⊥
@@ -73,7 +74,7 @@ module _ {D : Type 0} (size faults mismatches : D → ℕ) (held : D → Option 
   pub stopped-turn : (b x y : BoardState D) → x ≡ b → y ≡ stopped x w → IsTurnOf faults mismatches w b y
   stopped-turn b x y ex q =
       let e : y ≡ stopped b w = q ∙ ap (λ (k : BoardState D). stopped k w) ex in
-      turn-hand faults mismatches w b (record (hand_of b w) { task = None; has_stopped = true }) y (ap (λ (k : BoardState D). k.run) e) (ap (λ (k : BoardState D). k.hands) e) (λ none. sym (ap (λ (k : BoardState D). k.fault) e) ∙ none)
+      turn-hand faults mismatches w b (record (hand_of b w) { task = None; has_stopped = true }) y (ap (λ (k : BoardState D). k.run) e) (ap (λ (k : BoardState D). k.hands) e) (λ none. sym (ap (λ (k : BoardState D). k.fault) e) ∙ none) (λ v. ap (λ (k : BoardState D). released_of k v) e)
 
   -- the hand that was put
   pub hand-put : (b y : BoardState D) (hand : Hand) → w.0 < length b.hands → y.hands ≡ slice_set b.hands w.0 hand → hand_of y w ≡ hand
@@ -104,16 +105,18 @@ module _ {D : Type 0} (size faults mismatches : D → ℕ) (held : D → Option 
     abbrev its-sound : IsSoundBoard size faults mismatches held b
     its-sound = found-sound size faults mismatches held z b ez sound
 
-    pub event-turn : y.run ≡ with_event x.run (e x) → ((v : Worker) → v ≢ w → hand_of y v ≡ hand_of x v) → (y.fault ≡ None → x.fault ≡ None) → Spares x.run (e x) y.run → IsTurnOf faults mismatches w b y
-    event-turn run hands fault spares =
+    pub event-turn : y.run ≡ with_event x.run (e x) → ((v : Worker) → v ≢ w → hand_of y v ≡ hand_of x v) → (y.fault ≡ None → x.fault ≡ None) → (HasTakenReleased x w → HasTakenReleased y w) → ((v : Worker) → v ≢ w → released_of y v ≡ released_of x v) → Spares x.run (e x) y.run → IsTurnOf faults mismatches w b y
+    event-turn run hands fault own rest spares =
         turn-event faults mismatches w size held b its-sound (e b) y by can
         (subst (λ (k : BoardState D). Spares k.run (e k) y.run) ex spares)
         (subst (λ (k : BoardState D). y.run ≡ with_event k.run (e k)) ex run)
         (subst (λ (k : BoardState D). (v : Worker) → v ≢ w → hand_of y v ≡ hand_of k v) ex hands)
         (subst (λ (k : BoardState D). y.fault ≡ None → k.fault ≡ None) ex fault)
+        (subst (λ (k : BoardState D). HasTakenReleased k w → HasTakenReleased y w) ex own)
+        (subst (λ (k : BoardState D). (v : Worker) → v ≢ w → released_of y v ≡ released_of k v) ex rest)
 
     pub has_event-turn : y ≡ has_event x (e x) → Spares x.run (e x) y.run → IsTurnOf faults mismatches w b y
-    has_event-turn q spares = event-turn (ap (λ (k : BoardState D). k.run) q) (λ v d. ap (λ (k : BoardState D). hand_of k v) q) (λ f. sym (ap (λ (k : BoardState D). k.fault) q) ∙ f) spares
+    has_event-turn q spares = event-turn (ap (λ (k : BoardState D). k.run) q) (λ v d. ap (λ (k : BoardState D). hand_of k v) q) (λ f. sym (ap (λ (k : BoardState D). k.fault) q) ∙ f) (λ h. ap (λ (k : BoardState D). released_of k w) q ∙ h) (λ v d. ap (λ (k : BoardState D). released_of k v) q) spares
 
   -- the worker's row after a drop
   pub dropped-row : (b x y : BoardState D) (t : Task) (c : Cell) → x ≡ b → HasClaimedRow w t (row_in b w) → y ≡ has_event x (Drop c (node_of x.run.machine w)) → HasClaimedRow w t (row_in y w)

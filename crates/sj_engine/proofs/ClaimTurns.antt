@@ -1,5 +1,5 @@
 -- Claims and ends as turns of a worker.
-use Rattle.std.proofs.Common.{◌≡◌, ℕ, ◌<◌, Bool, true, false, List, [], ◌∷◌, ◌++◌, map, length, refl, sym, ap, ◌∙◌, subst, Option, None, Some, arith, zero, suc}
+use Rattle.std.proofs.Common.{◌≡◌, ◌≢◌, ℕ, ◌<◌, Bool, true, false, List, [], ◌∷◌, ◌++◌, map, length, refl, sym, ap, ◌∙◌, subst, Option, None, Some, arith, inl, inr, zero, suc}
 use Rattle.std.specs.Prelude.{option_map, not, if◌then◌else◌}
 use Rattle.std.specs.List.{Contains}
 use Rattle.std.proofs.lemmas.Bool.{false≢true, or_left}
@@ -11,6 +11,7 @@ use Rattle.sj_base.specs.declared.ids.Worker.{Worker}
 use Rattle.sj_base.specs.declared.mode.Access.{Access}
 use Rattle.sj_base.specs.declared.mode.Mode.{Mode}
 use Rattle.sj_base.specs.declared.mode.Mode.TheVariants.{R, W, RW, Scratch, Redux, Commute}
+use Rattle.sj_base.specs.declared.mode.Policy.TheVariants.{Prio, Ws}
 use Rattle.sj_base.specs.declared.program.Program.{Program}
 use Rattle.sj_base.specs.declared.trace.Event.{Event}
 use Rattle.sj_base.specs.declared.trace.Event.TheVariants.{Claim, End}
@@ -31,25 +32,29 @@ use Rattle.sj_core.proofs.Readiness.{Contains-filter}
 use Rattle.sj_core.proofs.Replicas.{same_worker-refl}
 use Rattle.sj_machine.specs.Running.{AreResultsFor}
 use Rattle.sj_machine.specs.Sparing.{Spares}
-use Rattle.sj_machine.specs.Standing.{CanHappen, state}
+use Rattle.sj_machine.specs.Standing.{CanHappen, Standing, state}
 use Rattle.sj_pool.proofs.Keeping.{home-within}
 use Rattle.sj_pool.specs.Pool.{home}
-use Rattle.sj_board.specs.Board.{BoardState, HasTask, IsIdle, WasGiven, empty_hand, given_back, given_from, hand_of, has_claimed}
+use Rattle.sj_board.specs.Board.{BoardState, HasTakenReleased, HasTask, IsIdle, WasGiven, empty_hand, given_back, given_from, hand_of, has_claimed, released_of}
 use Rattle.sj_board.specs.BoardRow.{key_of}
 use Rattle.sj_board.specs.BoardSound.{IsSoundBoard, times_pooled}
 use Rattle.sj_board.proofs.Pooling.{times-put}
-use Rattle.sj_board.specs.Filling.{entry_of}
+use Rattle.sj_board.specs.Claimable.{FitsNode, IsClaimable, MayAsk}
+use Rattle.sj_board.specs.Filling.{entry_of, with_each}
+use Rattle.sj_board.proofs.Policies.{by-policy, other-pool, other-released}
+use Rattle.sj_board.proofs.ReleasedTasks.{other-tasks}
 use Rattle.sj_board.specs.Passing.{HasLost}
 use Rattle.sj_board.specs.Releasing.{EndsTask}
 use Rattle.sj_board.specs.declared.hand.Hand.{Hand}
-use Rattle.sj_engine.specs.Stage.{AreDone, HasClaimedRow, HoldResults, IsFreeRow, RunsRow, given_hand, row_in}
+use Rattle.sj_engine.specs.Stage.{AreDone, HasClaimedRow, HoldResults, IsFreeRow, RunsRow, busy_hand, given_hand, row_in}
 use Rattle.sj_engine.specs.Turn.{IsTurnOf, NothingHappens}
 use Rattle.sj_engine.specs.Picking.{PickMakes}
+use Rattle.sj_engine.specs.Queued.{PicksOrFails}
 use Rattle.sj_engine.specs.declared.picking.Picked.{Picked}
 use Rattle.sj_engine.specs.declared.picking.Picked.TheVariants.{Task as PickedTask, Nothing, Failed, Over}
 use Rattle.sj_engine.proofs.BoardTurns.{event-turn, hand-put, state-after}
 use Rattle.sj_engine.proofs.OwnRows.{claimed-row, has-task, phase-of}
-use Rattle.sj_engine.proofs.Turning.{turn-hand}
+use Rattle.sj_engine.proofs.Turning.{released-none, turn-hand}
 use Rattle.sj_base.proofs.Lists.{map-agree}
 use Rattle.std.proofs.lemmas.Option.{same_Some}
 use Rattle.sj_engine.proofs.FoundBoards.{found-sound}
@@ -126,18 +131,40 @@ module _ {D : Type 0} (size faults mismatches : D → ℕ) (held : D → Option 
         (record { each = done.shares; told = λ tell. told-results (done.told tell) })
 
     module _ (ends : EndsTask held x t w y) (spares : Spares x.run (End t w) y.run) where
-      pub ended-turn : IsTurnOf faults mismatches w b y
-      ended-turn =
-          event-turn size faults mismatches held w b z x y (λ k. End t w) ez ex sound refl can-end (ap (λ (k : BoardState D). k.run) ends.leaves)
-          (λ v d. ap (λ (k : BoardState D). hand_of k v) ends.leaves ∙ get_or-set_other x.hands w.0 v.0 (record (hand_of x w) { task = None }) empty_hand (λ e. d (ap (λ (n : ℕ). let u : Worker = record { 0 = n } in u) e)))
-          (λ f. sym (ap (λ (k : BoardState D). k.fault) ends.leaves) ∙ f) spares
+      here : IsSoundBoard size faults mismatches held b
+      here = found-sound size faults mismatches held z b ez sound
 
-      pub ended-row : IsFreeRow (row_in y w)
-      ended-row =
-          let here : IsSoundBoard size faults mismatches held b = found-sound size faults mismatches held z b ez sound in
-          let inside : w.0 < length x.hands = subst (λ n. w.0 < n) (sym (ap (λ (k : BoardState D). length k.hands) ex ∙ here.inside.hands_agree.every_worker)) known in
-          hand-put size faults mismatches held w x y (record (hand_of x w) { task = None }) inside (ap (λ (k : BoardState D). k.hands) ends.leaves)
-          ∙ ap (λ (h : Hand). let g : Hand = record { given = h.given; task = None; unit = h.unit; has_stopped = h.has_stopped } in g) (ap (λ (k : BoardState D). hand_of k w) ex ∙ r.hand)
+      pool-ws : x.run.machine.policy ≢ Prio → x.pool.policy ≡ Ws
+      pool-ws = subst (λ (k : BoardState D). k.run.machine.policy ≢ Prio → k.pool.policy ≡ Ws) (sym ex) (λ other. here.inside.pool_fits.policy ∙ other-pool b.run.machine.policy other)
+
+      -- what others have released stays
+      ended-rest : (v : Worker) → v ≢ w → released_of y v ≡ released_of x v
+      ended-rest v d = elim (by-policy x.run.machine.policy) as (λ _. released_of y v ≡ released_of x v) [
+        | inl prio ↦ released-none x y (ap (λ (k : BoardState D). k.run.machine) ends.leaves) prio v
+        | inr other ↦ (
+            ap (λ (k : BoardState D). released_of k v) ends.leaves
+            ∙ other-released x.run.machine.policy (with_each x.run.program (Some w) x.pool ends.ready) v.0 other
+            ∙ other-tasks x.run.program w x.pool ends.ready (pool-ws other) v.0 (λ e. d (ap (λ (n : ℕ). let u : Worker = record { 0 = n } in u) e))
+            ∙ sym (other-released x.run.machine.policy x.pool v.0 other)
+            )
+      ]
+
+      -- once the worker has taken away what the end has released
+      module _ (c : BoardState D) (only : c ≡ record y { pool = c.pool }) (taken : HasTakenReleased c w) (rest : (v : Worker) → v ≢ w → released_of c v ≡ released_of y v) where
+        pub ended-turn : IsTurnOf faults mismatches w b c
+        ended-turn =
+            event-turn size faults mismatches held w b z x c (λ k. End t w) ez ex sound refl can-end (ap (λ (k : BoardState D). k.run) only ∙ ap (λ (k : BoardState D). k.run) ends.leaves)
+            (λ v d. ap (λ (k : BoardState D). hand_of k v) only ∙ ap (λ (k : BoardState D). hand_of k v) ends.leaves ∙ get_or-set_other x.hands w.0 v.0 (record (hand_of x w) { task = None }) empty_hand (λ e. d (ap (λ (n : ℕ). let u : Worker = record { 0 = n } in u) e)))
+            (λ f. sym (ap (λ (k : BoardState D). k.fault) ends.leaves) ∙ sym (ap (λ (k : BoardState D). k.fault) only) ∙ f)
+            (λ before. taken) (λ v d. rest v d ∙ ended-rest v d)
+            (subst (λ (k : Standing D). Spares x.run (End t w) k) (sym (ap (λ (k : BoardState D). k.run) only)) spares)
+
+        pub ended-row : IsFreeRow (row_in c w)
+        ended-row =
+            let inside : w.0 < length x.hands = subst (λ n. w.0 < n) (sym (ap (λ (k : BoardState D). length k.hands) ex ∙ here.inside.hands_agree.every_worker)) known in
+            ap (λ (k : BoardState D). hand_of k w) only
+            ∙ hand-put size faults mismatches held w x y (record (hand_of x w) { task = None }) inside (ap (λ (k : BoardState D). k.hands) ends.leaves)
+            ∙ ap (λ (h : Hand). let g : Hand = record { given = h.given; task = None; unit = h.unit; has_stopped = h.has_stopped } in g) (ap (λ (k : BoardState D). hand_of k w) ex ∙ r.hand)
 
   -- ---- the task that a worker is given
 
@@ -152,8 +179,8 @@ module _ {D : Type 0} (size faults mismatches : D → ℕ) (held : D → Option 
       next-is : y ≡ given_from b w o y.pool
       next-is = q ∙ ap (λ (k : BoardState D). given_from k w o y.pool) ex
 
-      pub next-turn : IsTurnOf faults mismatches w b y
-      next-turn = turn-hand faults mismatches w b (record (hand_of b w) { given = o }) y (ap (λ (k : BoardState D). k.run) next-is) (ap (λ (k : BoardState D). k.hands) next-is) (λ none. sym (ap (λ (k : BoardState D). k.fault) next-is) ∙ none)
+      pub next-turn : b.run.machine.policy ≡ Prio → IsTurnOf faults mismatches w b y
+      next-turn prio = turn-hand faults mismatches w b (record (hand_of b w) { given = o }) y (ap (λ (k : BoardState D). k.run) next-is) (ap (λ (k : BoardState D). k.hands) next-is) (λ none. sym (ap (λ (k : BoardState D). k.fault) next-is) ∙ none) (released-none b y (ap (λ (k : BoardState D). k.run.machine) next-is) prio)
 
       pub next-fault : y.fault ≡ b.fault
       next-fault = ap (λ (k : BoardState D). k.fault) next-is
@@ -164,6 +191,38 @@ module _ {D : Type 0} (size faults mismatches : D → ℕ) (held : D → Option 
           ∙ ap (λ (h : Hand). let g : Hand = record { given = o; task = h.task; unit = h.unit; has_stopped = h.has_stopped } in g) free
           ∙ ap (λ (u : Option Task). let g : Hand = record { given = u; task = None; unit = None; has_stopped = false } in g) is
 
+    -- a task is claimed, which the worker was given or which is from the shared queues
+    module _ (t : Task) (can : CanHappen x.run (Claim t w)) (q : y ≡ has_claimed x t w) where
+      can-claim : CanHappen b.run (Claim t w)
+      can-claim = subst (λ (k : BoardState D). CanHappen k.run (Claim t w)) ex can
+
+      pub claim-turn : Spares x.run (Claim t w) y.run → IsTurnOf faults mismatches w b y
+      claim-turn spares =
+          event-turn size faults mismatches held w b z x y (λ k. Claim t w) ez ex sound refl can-claim (ap (λ (k : BoardState D). k.run) q)
+          (λ v d. ap (λ (k : BoardState D). hand_of k v) q ∙ get_or-set_other x.hands w.0 v.0 (record (hand_of x w) { given = None; task = Some t }) empty_hand (λ e. d (ap (λ (n : ℕ). let u : Worker = record { 0 = n } in u) e)))
+          (λ f. sym (ap (λ (k : BoardState D). k.fault) q) ∙ f)
+          (λ h. ap (λ (k : BoardState D). released_of k w) q ∙ h) (λ v d. ap (λ (k : BoardState D). released_of k v) q) spares
+
+      claim-now : b.fault ≡ None → (hand_of b w).task ≡ None → (record (hand_of b w) { given = None; task = Some t }) ≡ busy_hand t → HasClaimedRow w t (row_in y w)
+      claim-now no_fault idle hand =
+          let e : y ≡ has_claimed b t w = q ∙ ap (λ (k : BoardState D). has_claimed k t w) ex in
+          let s = state b.run in
+          let s' = state-after b y (Claim t w) (ap (λ (k : BoardState D). k.run) e) in
+          let inside : t.0 < length s.tasks = subst (λ n. t.0 < n) (sym claim-sound.run.coherent.state.rows.tasks) can-claim.ready.task in
+          let staff : w.0 < length s.workers = subst (λ n. w.0 < n) (sym (claim-sound.run.coherent.state.rows.workers ∙ claim-sound.run.run.machine.workers)) known in
+          claimed-row y w t
+          (hand-put size faults mismatches held w b y (record (hand_of b w) { given = None; task = Some t }) its-hands (ap (λ (k : BoardState D). k.hands) e) ∙ hand)
+          (ap (λ (k : State). progress k t) s' ∙ progress-same s t (Claimed w) inside)
+          (ap (λ (k : State). transfer k w) s' ∙ ap (λ (k : WorkerState). k.transfer) (worker-same s w _ staff) ∙ none-moves (transfer s w) refl)
+        where
+          none-moves : (o : Option Transfer) → transfer (state b.run) w ≡ o → transfer (state b.run) w ≡ None
+          none-moves None e = e
+          none-moves (Some x) e =
+              let own = claim-sound.run.coherent.workers.moves_for_claim w x e in
+              let has : is_task_of w (progress (state b.run) own.0) ≡ true = or_left (is_claimed_by w (progress (state b.run) own.0)) (is_running_on w (progress (state b.run) own.0)) own.1 in
+              let two = sym idle ∙ claim-sound.inside.hands_agree.tells no_fault w own.0 has in
+              absurd (let k : ◌≡◌ {A = Option Task} None (Some own.0) = two in cc)
+
     module _ (t : Task) (given : hand_of b w ≡ given_hand t) where
       pub was-given : WasGiven x w t
       was-given = subst (λ (k : BoardState D). WasGiven k w t) (sym ex) (record { works = record { known = known; goes_on = ap (λ (h : Hand). h.has_stopped) given }; given = ap (λ (h : Hand). h.given) given })
@@ -171,10 +230,10 @@ module _ {D : Type 0} (size faults mismatches : D → ℕ) (held : D → Option 
       pub given-idle : IsIdle x w
       given-idle = subst (λ (k : BoardState D). IsIdle k w) (sym ex) (record { works = record { known = known; goes_on = ap (λ (h : Hand). h.has_stopped) given }; no_task = ap (λ (h : Hand). h.task) given })
 
-      pub back-turn : y ≡ given_back x t w → IsTurnOf faults mismatches w b y
-      back-turn q =
+      pub back-turn : b.run.machine.policy ≡ Prio → y ≡ given_back x t w → IsTurnOf faults mismatches w b y
+      back-turn prio q =
           let e : y ≡ given_back b t w = q ∙ ap (λ (k : BoardState D). given_back k t w) ex in
-          turn-hand faults mismatches w b (record (hand_of b w) { given = None }) y (ap (λ (k : BoardState D). k.run) e) (ap (λ (k : BoardState D). k.hands) e) (λ none. sym (ap (λ (k : BoardState D). k.fault) e) ∙ none)
+          turn-hand faults mismatches w b (record (hand_of b w) { given = None }) y (ap (λ (k : BoardState D). k.run) e) (ap (λ (k : BoardState D). k.hands) e) (λ none. sym (ap (λ (k : BoardState D). k.fault) e) ∙ none) (released-none b y (ap (λ (k : BoardState D). k.run.machine) e) prio)
 
       pub back-row : y ≡ given_back x t w → IsFreeRow (row_in y w)
       back-row q =
@@ -194,36 +253,34 @@ module _ {D : Type 0} (size faults mismatches : D → ℕ) (held : D → Option 
       pub back-fault : y ≡ given_back x t w → y.fault ≡ b.fault
       back-fault q = ap (λ (k : BoardState D). k.fault) q ∙ ap (λ (k : BoardState D). k.fault) ex
 
-      module _ (can : CanHappen x.run (Claim t w)) (q : y ≡ has_claimed x t w) where
-        can-claim : CanHappen b.run (Claim t w)
-        can-claim = subst (λ (k : BoardState D). CanHappen k.run (Claim t w)) ex can
+      -- under prio it may ask for it
+      pub given-asks : b.run.machine.policy ≡ Prio → MayAsk x w t
+      given-asks prio = record {
+        given = λ _. was-given;
+        outside = λ other. absurd (other (ap (λ (k : BoardState D). k.run.machine.policy) ex ∙ prio));
+      }
 
-        pub claimed-turn : Spares x.run (Claim t w) y.run → IsTurnOf faults mismatches w b y
-        claimed-turn spares =
-            event-turn size faults mismatches held w b z x y (λ k. Claim t w) ez ex sound refl can-claim (ap (λ (k : BoardState D). k.run) q)
-            (λ v d. ap (λ (k : BoardState D). hand_of k v) q ∙ get_or-set_other x.hands w.0 v.0 (record (hand_of x w) { given = None; task = Some t }) empty_hand (λ e. d (ap (λ (n : ℕ). let u : Worker = record { 0 = n } in u) e)))
-            (λ f. sym (ap (λ (k : BoardState D). k.fault) q) ∙ f) spares
+      pub claimed-now : CanHappen x.run (Claim t w) → y ≡ has_claimed x t w → b.fault ≡ None → HasClaimedRow w t (row_in y w)
+      claimed-now can q no_fault =
+          claim-now t can q no_fault (ap (λ (h : Hand). h.task) given)
+          (ap (λ (h : Hand). let g : Hand = record { given = None; task = Some t; unit = h.unit; has_stopped = h.has_stopped } in g) given)
 
-        pub claimed-now : b.fault ≡ None → HasClaimedRow w t (row_in y w)
-        claimed-now no_fault =
-            let e : y ≡ has_claimed b t w = q ∙ ap (λ (k : BoardState D). has_claimed k t w) ex in
-            let s = state b.run in
-            let s' = state-after b y (Claim t w) (ap (λ (k : BoardState D). k.run) e) in
-            let inside : t.0 < length s.tasks = subst (λ n. t.0 < n) (sym claim-sound.run.coherent.state.rows.tasks) can-claim.ready.task in
-            let staff : w.0 < length s.workers = subst (λ n. w.0 < n) (sym (claim-sound.run.coherent.state.rows.workers ∙ claim-sound.run.run.machine.workers)) known in
-            claimed-row y w t
-            (hand-put size faults mismatches held w b y (record (hand_of b w) { given = None; task = Some t }) its-hands (ap (λ (k : BoardState D). k.hands) e)
-            ∙ ap (λ (h : Hand). let g : Hand = record { given = None; task = Some t; unit = h.unit; has_stopped = h.has_stopped } in g) given)
-            (ap (λ (k : State). progress k t) s' ∙ progress-same s t (Claimed w) inside)
-            (ap (λ (k : State). transfer k w) s' ∙ ap (λ (k : WorkerState). k.transfer) (worker-same s w _ staff) ∙ none-moves (transfer s w) refl)
-          where
-            none-moves : (o : Option Transfer) → transfer (state b.run) w ≡ o → transfer (state b.run) w ≡ None
-            none-moves None e = e
-            none-moves (Some x) e =
-                let own = claim-sound.run.coherent.workers.moves_for_claim w x e in
-                let has : is_task_of w (progress (state b.run) own.0) ≡ true = or_left (is_claimed_by w (progress (state b.run) own.0)) (is_running_on w (progress (state b.run) own.0)) own.1 in
-                let two = sym (ap (λ (h : Hand). h.task) given) ∙ claim-sound.inside.hands_agree.tells no_fault w own.0 has in
-                absurd (let k : ◌≡◌ {A = Option Task} None (Some own.0) = two in cc)
+    -- a task of the shared queues
+    module _ (t : Task) (free : hand_of b w ≡ empty_hand) where
+      pub free-idle : IsIdle x w
+      free-idle = subst (λ (k : BoardState D). IsIdle k w) (sym ex) (record { works = record { known = known; goes_on = ap (λ (h : Hand). h.has_stopped) free }; no_task = ap (λ (h : Hand). h.task) free })
+
+      -- where it may claim it
+      pub queued-asks : b.run.machine.policy ≢ Prio → IsClaimable x t → FitsNode x t w → MayAsk x w t
+      queued-asks other claimable fits = record {
+        given = λ prio. absurd (other (sym (ap (λ (k : BoardState D). k.run.machine.policy) ex) ∙ prio));
+        outside = λ _. (claimable, fits);
+      }
+
+      pub queued-now : CanHappen x.run (Claim t w) → y ≡ has_claimed x t w → b.fault ≡ None → HasClaimedRow w t (row_in y w)
+      queued-now can q no_fault =
+          claim-now t can q no_fault (ap (λ (h : Hand). h.task) free)
+          (ap (λ (h : Hand). let g : Hand = record { given = None; task = Some t; unit = h.unit; has_stopped = h.has_stopped } in g) free)
 
 -- what a look makes after it found nothing
 pub picks-then : {D : Type 0} (w : Worker) (a b c : BoardState D) (picked : Picked) → NothingHappens a b → PickMakes w b c picked → PickMakes w a c picked
@@ -231,3 +288,10 @@ picks-then w a b c (PickedTask t) nothing made = made ∙ ap (λ (l : List Event
 picks-then w a b c Nothing nothing made = made ∙ nothing
 picks-then w a b c Failed nothing made = made ∙ nothing
 picks-then w a b c Over nothing made = made ∙ nothing
+
+-- a look on the board makes no claim where it fails
+pub picks-or-fails : {D : Type 0} (w : Worker) (a b : BoardState D) (picked : Picked) → PickMakes w a b picked → PicksOrFails w a b picked
+picks-or-fails w a b (PickedTask t) made = made
+picks-or-fails w a b Nothing made = made
+picks-or-fails w a b Failed made = inl made
+picks-or-fails w a b Over made = made

@@ -7,6 +7,7 @@ use denote.Struct.Field.{u8-field}
 use denote.Struct.Struct.{Struct}
 use Rattle.std.proofs.Crossing.{crosses}
 use Rattle.std.specs.contracts.alloc.Global as Global
+use Rattle.std.specs.contracts.option.Option as Options
 use Rattle.sj_base.proofs.program.Program.TheSendSync as Program
 use Rattle.sj_base.proofs.program.Machine.TheSendSync as Machine
 use Rattle.sj_base.proofs.trace.Trace.TheSendSync as Trace
@@ -29,6 +30,10 @@ use Rattle.sj_board.specs.contracts.board.Board as Board
 use Rattle.sj_desk.proofs.desk.Desk.TheSendSync as Desks
 use Rattle.sj_desk.proofs.seat.DeskSeat.TheSendSync as Seats
 use Rattle.sj_desk.specs.contracts.desk.Desk as Desk
+use Rattle.sj_steal.proofs.shared.Pass.TheSendSync as Passes
+use Rattle.sj_steal.proofs.shared.Shared.TheSendSync as Queues
+use Rattle.sj_steal.specs.contracts.shared.Pass as Pass
+use Rattle.sj_steal.specs.contracts.shared.Shared as Shared
 use Rattle.sj_engine.specs.contracts.member.Stage as Stage
 use Rattle.sj_engine.specs.contracts.member.SeatedWorker as SeatedWorkers
 use Rattle.sj_engine.specs.contracts.noted_board.NotedBoard as NotedBoard
@@ -68,6 +73,9 @@ module _ (D : RattleType) (g : Ghosts D.Denot) (s : IsSend D) where
   stage-send : IsSend (Stage.the_field).row
   stage-send = search (sendable, crosses) depth 60
 
+  pass-send : IsSend (Options.the_field Pass.the_row).row
+  pass-send = search (sendable, crosses, Passes.the_send) depth 60
+
   bell-send : IsSend u8-field.row
   bell-send = search (sendable, crosses) depth 60
 
@@ -75,10 +83,13 @@ module _ (D : RattleType) (g : Ghosts D.Denot) (s : IsSend D) where
   pub member_send : IsSend (SeatedWorkers.the_row D g)
   member_send =
       let T : Declared = SeatedWorkers.the_type D g in
-      recorded_send (Struct (shape T)) T.D T.to T.to_one (struct_send (shape T) (seat-send, (stage-send, (bell-send, tt))))
+      recorded_send (Struct (shape T)) T.D T.to T.to_one (struct_send (shape T) (seat-send, (pass-send, (stage-send, (bell-send, tt)))))
 
   desk-sync : IsSync (Desk.the_row (NotedBoard.the_row D g) (Keyed.ghosts D g Keyed.no_dict Keyed.no_dict))
   desk-sync = Desks.the_sync _ _ noted_send
+
+  queues-sync : IsSync (Options.the_row Shared.the_row)
+  queues-sync = search (sendable, crosses, Queues.the_sync) depth 60
 
   heap-sync : IsSync (Global.the_field).row
   heap-sync = search sendable depth 60
@@ -88,4 +99,4 @@ module _ (D : RattleType) (g : Ghosts D.Denot) (s : IsSend D) where
   site_sync ℓ C G R codelets gate runtime =
       let T : Declared = Site.the_type ℓ C G R D g in
       recorded_sync (Struct (shape T)) T.D T.to T.to_one (struct_sync (shape T)
-      (shr_sync _ _ _ runtime, (heap-sync, (shr_sync _ _ _ desk-sync, (shr_sync _ _ _ Program.the_sync, (shr_sync _ _ _ codelets, (shr_sync _ _ _ gate, tt)))))))
+      (shr_sync _ _ _ runtime, (heap-sync, (shr_sync _ _ _ desk-sync, (shr_sync _ _ _ Program.the_sync, (shr_sync _ _ _ codelets, (shr_sync _ _ _ gate, (shr_sync _ _ _ queues-sync, tt))))))))

@@ -20,7 +20,7 @@ use Rattle.sj_disk.specs.Rack.{is_out}
 use Rattle.sj_disk.specs.Units.{UnitFetches, UnitState, UnitStores, unit_state}
 use Rattle.sj_machine.specs.Standing.{IsFetching, IsMovingOut, IsTileOf, is_node, state}
 use Rattle.sj_machine.specs.Units.{HasBlockOf, HasFetchedMoved, HasItsDiskIn, HasStoredMoved, IsDiskMove, IsUnitOf, lent}
-use Rattle.sj_board.specs.Board.{BoardState, GivesUnitBack, IsBusy, empty_hand, hand_of, has_taken, transfer_of}
+use Rattle.sj_board.specs.Board.{BoardState, GivesUnitBack, IsBusy, empty_hand, hand_of, has_taken, released_of, transfer_of}
 use Rattle.sj_board.specs.BoardRow.{BoardRow, arrays_for, is_event_of, key_of}
 use Rattle.sj_board.specs.BoardSound.{IsSoundBoard}
 use Rattle.sj_board.specs.Units.{OthersKeepUnits, unit_at}
@@ -46,6 +46,7 @@ row_with b disks w h = record {
   carries = option_map (λ x. array_at b.run.program (state b.run) x.from x.cell) (if is_some h.task then transfer (state b.run) w else None);
   writes = option_map (λ x. writes (state b.run) x.cell) (if is_some h.task then transfer (state b.run) w else None);
   events = filter (is_event_of w.0) b.run.trace;
+  released = released_of b w;
 }
 
 -- the count in a row is that of the transfer's cell

@@ -6,6 +6,8 @@ pub mod Operands
 pub mod Outcome
 pub mod Picking
 pub mod Posts
+pub mod Queued
+pub mod Ready
 pub mod Resting
 pub mod Run
 pub mod Sleeping

@@ -1,12 +1,14 @@
 -- Workers between two stretches of their work: how far each is, and where it works.
-use Rattle.std.specs.Prelude.{◌≡◌, ◌<◌, Bool, true, false, is_some}
+use Rattle.std.specs.Prelude.{◌≡◌, ◌<◌, Bool, true, false, Option, is_some}
 use Rattle.sj_base.specs.declared.program.Program.{Program}
 use Rattle.sj_base.specs.declared.ids.Worker.{Worker}
 use Rattle.sj_codelet.specs.declared.kernel.Kernel.{Kernel}
 use Rattle.sj_core.specs.Laws.{IsLawful}
 use Rattle.sj_core.specs.Proper.{Proper}
 use Rattle.sj_desk.specs.Seats.{DeskFacts, SeatFacts}
+use Rattle.sj_steal.specs.Facts.{SharedFacts}
 use Rattle.sj_board.specs.BoardRow.{BoardRow}
+use Rattle.sj_engine.specs.Ready.{IsPassBy}
 use Rattle.sj_engine.specs.Stage.{HasClaimedRow, IsAt, IsFreeRow, IsStoppedRow}
 use Rattle.sj_engine.specs.declared.member.SeatedWorker.{SeatedWorker}
 use Rattle.sj_engine.specs.declared.member.Stage.{Stage}
@@ -32,11 +34,13 @@ module _ {D : Type 0} where
   abbrev pub HasHeard : Stage → SeatFacts (NotedBoard D) → Type 0
   HasHeard stage s = may_rest stage ≡ true → is_some s.heard ≡ true
 
-  -- a worker of the desk: its row is that of its stage, it keeps no turn, and where it can't go on it has heard the bell
-  pub record IsMember (desk : DeskFacts (NotedBoard D)) (m : SeatedWorker D) : Type 0 where
+  -- a worker of the desk: its row is that of its stage, it keeps no turn, it has its pass of these queues, or none under prio,
+  -- and where it can't go on it has heard the bell
+  pub record IsMember (desk : DeskFacts (NotedBoard D)) (queues : Option SharedFacts) (m : SeatedWorker D) : Type 0 where
     pub known : m.seat.facts.number < desk.seats
     pub row : IsAt desk (worker m.seat.facts.number) (IsRowAt (worker m.seat.facts.number) m.stage) m.seat.facts
     pub outside : m.seat.keeps_turn ≡ false
+    pub pass : IsPassBy queues desk.opening.board.run.machine.policy m.seat.facts.number m.pass
     pub heard : HasHeard m.stage m.seat.facts
 
   -- a seat of the desk whose worker left such a row

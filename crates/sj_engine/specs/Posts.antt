@@ -1,6 +1,7 @@
 -- Where the workers of a run work.
-use Rattle.std.specs.Prelude.{◌≡◌, ◌++◌, ◌<◌, ℕ, List, Contains, map}
+use Rattle.std.specs.Prelude.{◌≡◌, ◌++◌, ◌<◌, ℕ, Option, List, Contains, map}
 use Rattle.sj_desk.specs.Seats.{DeskFacts, SeatFacts}
+use Rattle.sj_steal.specs.Facts.{SharedFacts}
 use Rattle.sj_engine.specs.Member.{IsMember}
 use Rattle.sj_engine.specs.declared.posts.Post.{Post}
 use Rattle.sj_engine.specs.declared.posts.Post.TheVariants.{Away, Here}
@@ -13,9 +14,9 @@ module _ {D : Type 0} where
   number_of (Here m) = m.seat.facts.number
 
   -- the post is that of a worker of the desk: in a thread that is to come back with it, or here, where all listen to one bell
-  abbrev pub IsOnPost : DeskFacts (NotedBoard D) → Post D → Type 0
-  IsOnPost desk (Away thread) = (thread.promise.desk.value ≡ desk) × (thread.promise.number < desk.seats)
-  IsOnPost desk (Here m) = IsMember desk m × (m.bell ≡ 0)
+  abbrev pub IsOnPost : DeskFacts (NotedBoard D) → Option SharedFacts → Post D → Type 0
+  IsOnPost desk queues (Away thread) = (thread.promise.desk.value ≡ desk) × (thread.promise.queues.value ≡ queues) × (thread.promise.number < desk.seats)
+  IsOnPost desk queues (Here m) = IsMember desk queues m × (m.bell ≡ 0)
 
   abbrev pub numbers_of_seats : List (SeatFacts (NotedBoard D)) → List ℕ
   numbers_of_seats seats = map (λ s. s.number) seats

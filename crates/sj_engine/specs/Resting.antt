@@ -51,7 +51,7 @@ looks _ = false
 abbrev pub is_over : {D : Type 0} → BoardState D → Bool
 is_over b = list_all is_done (state b.run).tasks || is_some b.fault
 
--- a task is ready that nobody was given
+-- a task stands in the pool: under prio, one that is ready and that nobody was given
 abbrev pub has_ready : {D : Type 0} → BoardState D → Bool
 has_ready b = list_any (has_fitting 18446744073709551615) b.pool.queues
 

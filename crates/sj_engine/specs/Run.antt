@@ -1,6 +1,7 @@
 -- How a run begins and what it leaves: the board as it opens, the seats of its workers, and the outcome.
 use Rattle.std.specs.Prelude.{◌≡◌, ◌<◌, ℕ, Option, None, List, Result, All, IfErr, IsOk, length, slice_index_or}
 use Rattle.sj_base.specs.declared.ids.Task.{Task}
+use Rattle.sj_base.specs.declared.ids.Worker.{Worker}
 use Rattle.sj_base.specs.declared.program.Program.{Program}
 use Rattle.sj_base.specs.declared.program.Machine.{Machine}
 use Rattle.sj_base.specs.declared.trace.Event.{Event}
@@ -10,7 +11,7 @@ use Rattle.sj_desk.specs.Seats.{DeskFacts, SeatFacts}
 use Rattle.sj_disk.specs.Holding.{CountsStay}
 use Rattle.sj_edge.specs.GivenBack.{AreGivenBack}
 use Rattle.sj_machine.specs.declared.fault.RunFault.{RunFault}
-use Rattle.sj_board.specs.Board.{BoardState}
+use Rattle.sj_board.specs.Board.{BoardState, HasTakenReleased}
 use Rattle.sj_board.specs.BoardRow.{BoardRow}
 use Rattle.sj_board.specs.Delivered.{DeliversEach}
 use Rattle.sj_board.specs.Preparing.{first_hands}
@@ -22,13 +23,15 @@ use Rattle.sj_base.specs.Ids.{worker}
 
 -- ---- the board
 
--- the board of the program on the machine and these disks, as it opens: every hand is empty, and there is no fault
+-- the board of the program on the machine and these disks, as it opens: every hand is empty, nothing is released, and there is no
+-- fault
 pub record IsOpened {D : Type 0} (p : Program) (m : Machine) (disks : List D) (b : BoardState D) : Type 0 where
   pub program : b.run.program ≡ p
   pub machine : b.run.machine ≡ m
   pub opened : b.run.opened ≡ disks
   pub disks_are : b.run.disks.disks ≡ disks
   pub hands : b.hands ≡ first_hands p
+  pub taken : (w : Worker) → HasTakenReleased b w
   pub no_fault : b.fault ≡ None
 
 -- no worker has a task

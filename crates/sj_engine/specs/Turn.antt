@@ -4,16 +4,18 @@ use Rattle.sj_base.specs.declared.ids.Worker.{Worker}
 use Rattle.sj_base.specs.declared.trace.Event.{Event}
 use Rattle.sj_desk.specs.Seats.{DeskFacts}
 use Rattle.sj_disk.specs.Holding.{CountsStay}
-use Rattle.sj_board.specs.Board.{BoardState, GivesUnitBack}
+use Rattle.sj_board.specs.Board.{BoardState, GivesUnitBack, HasTakenReleased}
 use Rattle.sj_board.specs.Units.{OthersKeepUnits}
 use Rattle.sj_board.specs.BoardRow.{key_of, row_of_number}
 use Rattle.sj_board.specs.BoardSound.{IsSoundBoard}
 use Rattle.sj_engine.specs.Stage.{KeepsEvents}
 use Rattle.sj_engine.specs.declared.noted_board.NotedBoard.{NotedBoard}
 
--- between two turns: the board is sound, and no fault is swallowed: as long as none is kept, no count of a disk has changed
+-- between two turns: the board is sound, each worker has taken away what its ends released, and no fault is swallowed: as long as
+-- none is kept, no count of a disk has changed
 pub record IsSharedSound {D : Type 0} (size faults mismatches : D → ℕ) (held : D → Option (List ℕ)) (b : BoardState D) : Type 0 where
   pub board : IsSoundBoard size faults mismatches held b
+  pub taken : (w : Worker) → HasTakenReleased b w
   pub counts : b.fault ≡ None → CountsStay faults mismatches b.run.opened b.run.disks.disks
 
 -- the event has happened, and no other
@@ -29,7 +31,8 @@ abbrev pub OneHappensAtMost : {D : Type 0} → BoardState D → BoardState D →
 OneHappensAtMost old new = NothingHappens old new ⊎ ((e : Event) × Happens e old new)
 
 -- a turn of the worker: the key is as it was, and the rows of all others; one event happens at most, and the worker's own events
--- go on; and where no fault is kept after it, none was before, and no count of a disk has changed
+-- go on; where no fault is kept after it, none was before, and no count of a disk has changed; and where the worker had taken
+-- away what its ends released, it has still
 pub record IsTurnOf {D : Type 0} (faults mismatches : D → ℕ) (w : Worker) (old new : BoardState D) : Type 0 where
   pub key : key_of new ≡ key_of old
   pub others : (n : ℕ) → n ≢ w.0 → row_of_number new n ≡ row_of_number old n
@@ -37,6 +40,7 @@ pub record IsTurnOf {D : Type 0} (faults mismatches : D → ℕ) (w : Worker) (o
   pub events : KeepsEvents w old new
   pub no_fault : new.fault ≡ None → old.fault ≡ None
   pub counts : new.fault ≡ None → CountsStay faults mismatches old.run.disks.disks new.run.disks.disks
+  pub taken : HasTakenReleased old w → HasTakenReleased new w
 
 -- the worker is one of the program of the board
 abbrev pub IsWorkerOf : {D : Type 0} → BoardState D → Worker → Type 0

@@ -13,6 +13,7 @@ ghost use Rattle.sj_engine.specs.Run.{IsOpened, IsOutcome};
 ghost use Rattle.sj_board.specs.Delivered.{DeliversEach};
 
 use crate::closing::{abandoned, ended, unopened};
+use crate::dealing::dealt;
 use crate::noted_board::NotedBoard;
 use crate::opening::opened;
 use crate::shared_board::SharedBoard;
@@ -57,6 +58,9 @@ fn run_over<C: Codelets, G: Gate, D: Disk + Send, R: Threads + Wait + Sync>(
         result.disks.items }
 {
     board.is_sound();
+    let Ok((queues, passes, waiting)) = dealt(rt, alloc, &board) else {
+        return abandoned(board);
+    };
     let Ok(posts) = Vec::with_capacity(alloc, program.workers as usize) else {
         return abandoned(board);
     };
@@ -64,7 +68,11 @@ fn run_over<C: Codelets, G: Gate, D: Disk + Send, R: Threads + Wait + Sync>(
         return abandoned(board);
     };
     let board = match SharedBoard::new(alloc, board) {
-        Ok(board) => NotedBoard { board, sleepers },
+        Ok(board) => NotedBoard {
+            board,
+            sleepers,
+            waiting,
+        },
         Err(board) => return abandoned(board),
     };
     let (desk, seats) = match Desk::make(alloc, board, program.workers) {
@@ -72,7 +80,9 @@ fn run_over<C: Codelets, G: Gate, D: Disk + Send, R: Threads + Wait + Sync>(
         Err(noted) => return abandoned(noted.board.into_board()),
     };
     gate.begins(program.tasks.len());
-    ended(worked(rt, alloc, program, codelets, gate, desk, seats, posts))
+    ended(worked(
+        rt, alloc, program, codelets, gate, desk, seats, &queues, passes, posts,
+    ))
 }
 
 /// Runs a program on a machine: one thread for each worker, or fewer where one can't be started, all joined before it

@@ -2,6 +2,7 @@
 #![tactic(auto)]
 
 mod closing;
+mod dealing;
 mod ending;
 pub mod engine;
 mod kernel;
@@ -12,6 +13,8 @@ mod opening;
 mod operands;
 mod picking;
 mod posts;
+pub mod queued;
+pub mod ready;
 mod results;
 pub mod shared_board;
 pub mod site;

@@ -6,6 +6,7 @@ ghost use Rattle.sj_engine.specs.Member.{may_rest};
 use crate::worker_seat::WorkerSeat;
 use sj_base::ids::Task;
 use sj_edge::disk::Disk;
+use sj_steal::shared::Pass;
 
 /// How far a worker is between two stretches of its work.
 #[derive(Clone, Copy, Debug, PartialEq, Eq)]
@@ -32,10 +33,11 @@ impl Stage {
     }
 }
 
-/// A worker with its seat.
+/// A worker with its seat, and with its pass of the shared queues, where ready tasks wait there.
 #[derive(Drop)]
 pub struct SeatedWorker<D: Disk> {
     pub seat: WorkerSeat<D>,
+    pub pass: Option<Pass>,
     pub stage: Stage,
     /// The bell that its thread sleeps on: of its own number where it has a thread to itself, and that of the caller's thread
     /// where it shares it.

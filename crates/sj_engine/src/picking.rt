@@ -1,6 +1,7 @@
 //! How a worker gets its next task.
 
 ghost use Rattle.std.specs.Prelude.{◌≡◌, ◌<◌, ◌≤◌, IfNone, IfSome, IsTrue, None, Some, is_some};
+ghost use Rattle.sj_base.specs.declared.mode.Policy.TheVariants.{Prio};
 ghost use Rattle.sj_board.specs.Board.{IsOver};
 ghost use Rattle.sj_board.specs.Passing.{HasLost};
 ghost use Rattle.sj_engine.specs.Looking.{CannotClaim, HasLooked, IsLeftTo, NoneIsLeftTo};
@@ -29,12 +30,12 @@ pub enum Picked {
 
 /// The most tasks that a look tries, and the fewest, where so many are left: tasks that can't be claimed now, as those of a
 /// commuting cell that is in use, aren't to hide the others, nor is a look in vain to keep the turn for long.
-const MOST_TRIED: usize = 64;
+pub(crate) const MOST_TRIED: usize = 64;
 
 const FEWEST: usize = 4;
 
 /// How many tasks a look tries after so many that were in vain: fewer after each, and the most again after 256. Constant time.
-fn tries_after(misses: u8) -> usize
+pub(crate) fn tries_after(misses: u8) -> usize
     ensures enough { 4 ≤ result }
     ensures few { result ≤ 64 }
 {
@@ -60,6 +61,7 @@ impl<D: Disk> SharedBoard<D> {
     /// A worker claims the task that it was given; where the claim can't be made, the task goes back. The cost of `claim`.
     fn claim_given(&mut self, alloc: Global, w: Worker, t: Task) -> Picked
         requires worker { IsWorkerOf self.old w }
+        requires by_urgency { self.old.run.machine.policy ≡ Prio }
         requires given { (row_in self.old w).hand ≡ given_hand t }
         requires no_fault { self.old.fault ≡ None }
         ensures turn { IsTurnOf D.faults D.mismatches w self.old self.new }
@@ -88,6 +90,7 @@ impl<D: Disk> SharedBoard<D> {
     /// A worker puts the task that it was given back. The cost of `give_back`.
     fn put_back(&mut self, w: Worker, t: Task)
         requires worker { IsWorkerOf self.old w }
+        requires by_urgency { self.old.run.machine.policy ≡ Prio }
         requires given { (row_in self.old w).hand ≡ given_hand t }
         ensures turn { IsTurnOf D.faults D.mismatches w self.old self.new }
         ensures row { IsFreeRow (row_in self.new w) }
@@ -102,6 +105,7 @@ impl<D: Disk> SharedBoard<D> {
     /// A worker is given a task that it hasn't passed, where there is one. The cost of `next`.
     fn give_next(&mut self, w: Worker, passed: &[Task]) -> Option<Task>
         requires worker { IsWorkerOf self.old w }
+        requires by_urgency { self.old.run.machine.policy ≡ Prio }
         requires free { IsFreeRow (row_in self.old w) }
         ensures turn { IsTurnOf D.faults D.mismatches w self.old self.new }
         ensures some { IfSome result (λ t. (row_in self.new w).hand ≡ given_hand t) }
@@ -118,7 +122,7 @@ impl<D: Disk> SharedBoard<D> {
 
     /// Notes that a look ended with a task behind so many others. Constant time. A count that stays isn't written: the value is
     /// moved next, and would wait for the byte.
-    fn note_found(&mut self, passed: usize)
+    pub(crate) fn note_found(&mut self, passed: usize)
         ensures { self.new ≡ self.old }
     {
         let misses = misses_after(self.misses, passed);
@@ -128,7 +132,7 @@ impl<D: Disk> SharedBoard<D> {
     }
 
     /// Notes that a look was in vain. Constant time.
-    fn note_miss(&mut self)
+    pub(crate) fn note_miss(&mut self)
         ensures { self.new ≡ self.old }
     {
         self.misses = self.misses.wrapping_add(1);
@@ -137,6 +141,7 @@ impl<D: Disk> SharedBoard<D> {
     /// The tries of a worker to claim a task, each of another task: a task that can't be claimed goes back, and is passed.
     fn claim_some(&mut self, alloc: Global, w: Worker) -> Picked
         requires worker { IsWorkerOf self.old w }
+        requires by_urgency { self.old.run.machine.policy ≡ Prio }
         requires free { IsFreeRow (row_in self.old w) }
         requires no_fault { self.old.fault ≡ None }
         ensures turn { IsTurnOf D.faults D.mismatches w self.old self.new }
@@ -165,7 +170,7 @@ impl<D: Disk> SharedBoard<D> {
     }
 
     /// A worker without a task stops, since the run is over. Constant time.
-    fn stop(&mut self, w: Worker) -> Picked
+    pub(crate) fn stop(&mut self, w: Worker) -> Picked
         requires worker { IsWorkerOf self.old w }
         requires free { IsFreeRow (row_in self.old w) }
         requires over { IsOver self.old }
@@ -180,11 +185,12 @@ impl<D: Disk> SharedBoard<D> {
         Picked::Over
     }
 
-    /// A worker without a task claims one of those that are ready, or stops where the run is over. It finds nothing only where
-    /// four different tasks that are ready and fit its node, or all of them, can't be claimed now. At most 64 times the costs of
-    /// `next` and `claim`; in a row of looks in vain, about four times.
+    /// Under `prio` a worker without a task claims one of those that are ready, or stops where the run is over. It finds nothing
+    /// only where four different tasks that are ready and fit its node, or all of them, can't be claimed now. At most 64 times
+    /// the costs of `next` and `claim`; in a row of looks in vain, about four times.
     pub fn pick(&mut self, alloc: Global, w: Worker) -> Picked
         requires worker { IsWorkerOf self.old w }
+        requires by_urgency { self.old.run.machine.policy ≡ Prio }
         requires free { IsFreeRow (row_in self.old w) }
         ensures turn { IsTurnOf D.faults D.mismatches w self.old self.new }
         ensures row { AfterPick w (row_in self.new w) result }

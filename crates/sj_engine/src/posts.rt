@@ -4,6 +4,7 @@
 ghost use Rattle.std.specs.Prelude.{◌≡◌, ◌+◌, ◌≤◌, [], All, length, vec_capacity};
 ghost use Rattle.sj_engine.specs.Member.{IsMember, IsSeatOf, MayWork};
 ghost use Rattle.sj_engine.specs.Posts.{HasEachWorker, IsOnPost, number_of, numbers_of_posts};
+ghost use Rattle.sj_engine.specs.Ready.{ArePassesFor, IsPassBy};
 ghost use Rattle.sj_engine.specs.Stage.{IsFreeRow, IsStoppedRow};
 
 use crate::member::{SeatedWorker, Stage};
@@ -14,6 +15,7 @@ use crate::workplace::{BoardDesk, BoardSeat};
 use sj_codelet::set::Codelets;
 use sj_edge::disk::Disk;
 use sj_edge::gate::Gate;
+use sj_steal::shared::{Pass, Shared};
 use std::snapshot::Snapshot;
 use std::sync::Wait;
 use std::sync::atomic::AtomicU64;
@@ -27,6 +29,7 @@ const HERE: u8 = 0;
 #[derive(Drop)]
 pub(crate) struct ComesBack<D: Disk> {
     desk: Snapshot<BoardDesk<D>>,
+    queues: Snapshot<Option<Shared>>,
     number: u8,
 }
 
@@ -34,7 +37,7 @@ impl<D: Disk> Promise<SeatedWorker<D>> for ComesBack<D> {
     ghost use Rattle.std.specs.Prelude.{◌≡◌};
     ghost use Rattle.sj_engine.specs.Member.{IsMember};
 
-    ghost kept_by = { λ p m. IsMember p.desk.value m × (m.seat.facts.number ≡ p.number) };
+    ghost kept_by = { λ p m. IsMember p.desk.value p.queues.value m × (m.seat.facts.number ≡ p.number) };
 }
 
 /// Where a worker works.
@@ -63,8 +66,8 @@ impl<C: Codelets, G: Gate, R: Threads + Wait + Sync, D: Disk> Site<'_, C, G, R, 
     /// What the thread of a worker does: its work to the end. Where there is no such thread, nothing.
     fn start(&self, refused: &Refused, mut member: SeatedWorker<D>) -> SeatedWorker<D>
         requires site { MayWork C.has self.now.program.now self.now.desk.now }
-        requires member { IsMember self.now.desk.now member }
-        ensures member { IsMember self.now.desk.now result }
+        requires member { IsMember self.now.desk.now self.now.queues.now member }
+        ensures member { IsMember self.now.desk.now self.now.queues.now result }
         ensures number { result.seat.facts.number ≡ member.seat.facts.number }
     {
         if refused.load(SeqCst) != member.seat.number() as u64 + 1 {
@@ -76,8 +79,8 @@ impl<C: Codelets, G: Gate, R: Threads + Wait + Sync, D: Disk> Site<'_, C, G, R, 
     /// The worker goes on from where it is, if it works here: then the next one may not rest. Whether the next one may.
     fn visit(&self, post: &mut Post<D>, rests: bool, tray: &mut Tray) -> bool
         requires site { MayWork C.has self.now.program.now self.now.desk.now }
-        requires post { IsOnPost self.now.desk.now post.old }
-        ensures post { IsOnPost self.now.desk.now post.new }
+        requires post { IsOnPost self.now.desk.now self.now.queues.now post.old }
+        ensures post { IsOnPost self.now.desk.now self.now.queues.now post.new }
         ensures number { number_of post.new ≡ number_of post.old }
     {
         match post {
@@ -94,8 +97,8 @@ impl<C: Codelets, G: Gate, R: Threads + Wait + Sync, D: Disk> Site<'_, C, G, R, 
     /// no other has heard the bell earlier, so whatever one of them can go on by ends that rest.
     fn go_round(&self, posts: &mut Vec<Post<D>>, tray: &mut Tray)
         requires site { MayWork C.has self.now.program.now self.now.desk.now }
-        requires posts { All (IsOnPost self.now.desk.now) posts.old.items }
-        ensures posts { All (IsOnPost self.now.desk.now) posts.new.items }
+        requires posts { All (IsOnPost self.now.desk.now self.now.queues.now) posts.old.items }
+        ensures posts { All (IsOnPost self.now.desk.now self.now.queues.now) posts.new.items }
         ensures numbers { numbers_of_posts posts.new.items ≡ numbers_of_posts posts.old.items }
     {
         let mut rests = true;
@@ -107,8 +110,8 @@ impl<C: Codelets, G: Gate, R: Threads + Wait + Sync, D: Disk> Site<'_, C, G, R, 
     /// Goes round the workers that work here until all of them have stopped.
     fn work_here(&self, posts: &mut Vec<Post<D>>)
         requires site { MayWork C.has self.now.program.now self.now.desk.now }
-        requires posts { All (IsOnPost self.now.desk.now) posts.old.items }
-        ensures posts { All (IsOnPost self.now.desk.now) posts.new.items }
+        requires posts { All (IsOnPost self.now.desk.now self.now.queues.now) posts.old.items }
+        ensures posts { All (IsOnPost self.now.desk.now self.now.queues.now) posts.new.items }
         ensures numbers { numbers_of_posts posts.new.items ≡ numbers_of_posts posts.old.items }
     {
         let mut tray = Tray::new(self.alloc);
@@ -124,7 +127,7 @@ impl<C: Codelets, G: Gate, R: Threads + Wait + Sync, D: Disk> Site<'_, C, G, R, 
     /// A worker's seat, once it has stopped: from its thread, which is joined, or from here.
     fn called_in(&self, post: Post<D>) -> BoardSeat<D>
         requires site { MayWork C.has self.now.program.now self.now.desk.now }
-        requires post { IsOnPost self.now.desk.now post }
+        requires post { IsOnPost self.now.desk.now self.now.queues.now post }
         ensures seat { IsSeatOf self.now.desk.now IsStoppedRow result }
         ensures number { result.number ≡ number_of post }
     {
@@ -140,7 +143,7 @@ impl<C: Codelets, G: Gate, R: Threads + Wait + Sync, D: Disk> Site<'_, C, G, R, 
     /// The seats of all workers, once they have stopped.
     fn call_in(&self, posts: &mut Vec<Post<D>>, seats: &mut Vec<BoardSeat<D>>)
         requires site { MayWork C.has self.now.program.now self.now.desk.now }
-        requires posts { All (IsOnPost self.now.desk.now) posts.old.items }
+        requires posts { All (IsOnPost self.now.desk.now self.now.queues.now) posts.old.items }
         requires each { HasEachWorker self.now.desk.now seats.old.items posts.old.items }
         requires none { seats.old.items ≡ [] }
         requires room { length posts.old.items ≤ vec_capacity seats.old }
@@ -160,28 +163,33 @@ impl<'s, C: Codelets, G: Gate, R: Threads + Wait + Sync, D: Disk + Send> Site<'s
         scope: &Scope<'s, E>,
         refused: &'s Refused,
         seat: BoardSeat<D>,
+        pass: Option<Pass>,
     ) -> Post<D>
         requires site { MayWork C.has self.now.program.now self.now.desk.now }
         requires seat { IsSeatOf self.now.desk.now IsFreeRow seat }
-        ensures post { IsOnPost self.now.desk.now result }
+        requires pass { IsPassBy self.now.queues.now
+            self.now.desk.now.opening.board.run.machine.policy seat.number pass }
+        ensures post { IsOnPost self.now.desk.now self.now.queues.now result }
         ensures number { number_of result ≡ seat.number }
     {
         let number = seat.number();
         let member = SeatedWorker {
             seat: WorkerSeat::new(seat),
+            pass,
             stage: Stage::Fresh,
             bell: number,
         };
         let promise = ComesBack {
             desk: Snapshot::of(self.desk),
+            queues: Snapshot::of(self.queues),
             number,
         };
         let started = scope.spawn_with(
             promise,
             move || -> SeatedWorker<D>
                 requires site { MayWork C.has self.now.program.now self.now.desk.now }
-                requires member { IsMember self.now.desk.now member }
-                ensures member { IsMember self.entry.now.desk.now result }
+                requires member { IsMember self.now.desk.now self.now.queues.now member }
+                ensures member { IsMember self.entry.now.desk.now self.entry.now.queues.now result }
                 ensures number { result.seat.facts.number ≡ member.seat.facts.number }
             { self.start(refused, member) },
         );
@@ -189,9 +197,18 @@ impl<'s, C: Codelets, G: Gate, R: Threads + Wait + Sync, D: Disk + Send> Site<'s
             Ok(thread) => Post::Away(thread),
             Err(refusal) => {
                 refused.store(number as u64 + 1, SeqCst);
-                let SeatedWorker { seat, stage, .. } = (refusal.value)();
-                let bell = HERE;
-                Post::Here(SeatedWorker { seat, stage, bell })
+                let SeatedWorker {
+                    seat,
+                    pass,
+                    stage,
+                    ..
+                } = (refusal.value)();
+                Post::Here(SeatedWorker {
+                    seat,
+                    pass,
+                    stage,
+                    bell: HERE,
+                })
             }
         }
     }
@@ -202,21 +219,25 @@ impl<'s, C: Codelets, G: Gate, R: Threads + Wait + Sync, D: Disk + Send> Site<'s
         scope: &Scope<'s, E>,
         refused: &'s Refused,
         seat: BoardSeat<D>,
+        pass: Option<Pass>,
         is_last: bool,
     ) -> Post<D>
         requires site { MayWork C.has self.now.program.now self.now.desk.now }
         requires seat { IsSeatOf self.now.desk.now IsFreeRow seat }
-        ensures post { IsOnPost self.now.desk.now result }
+        requires pass { IsPassBy self.now.queues.now
+            self.now.desk.now.opening.board.run.machine.policy seat.number pass }
+        ensures post { IsOnPost self.now.desk.now self.now.queues.now result }
         ensures number { number_of result ≡ seat.number }
     {
         if is_last {
             return Post::Here(SeatedWorker {
                 seat: WorkerSeat::new(seat),
+                pass,
                 stage: Stage::Fresh,
                 bell: HERE,
             });
         }
-        self.posted(scope, refused, seat)
+        self.posted(scope, refused, seat, pass)
     }
 
     /// Posts all workers: the last that is left here, and the others in threads of their own, where they can be started.
@@ -225,14 +246,17 @@ impl<'s, C: Codelets, G: Gate, R: Threads + Wait + Sync, D: Disk + Send> Site<'s
         scope: &Scope<'s, E>,
         refused: &'s Refused,
         seats: &mut Vec<BoardSeat<D>>,
+        passes: &mut Vec<Pass>,
         posts: &mut Vec<Post<D>>,
     )
         requires site { MayWork C.has self.now.program.now self.now.desk.now }
         requires seats { All (IsSeatOf self.now.desk.now IsFreeRow) seats.old.items }
+        requires passes { ArePassesFor self.now.desk.now self.now.queues.now seats.old.items
+            passes.old.items }
         requires each { HasEachWorker self.now.desk.now seats.old.items posts.old.items }
         requires none { posts.old.items ≡ [] }
         requires room { length seats.old.items ≤ vec_capacity posts.old }
-        ensures posts { All (IsOnPost self.now.desk.now) posts.new.items }
+        ensures posts { All (IsOnPost self.now.desk.now self.now.queues.now) posts.new.items }
         ensures each { HasEachWorker self.now.desk.now [] posts.new.items }
         ensures count { length posts.new.items ≡ length seats.old.items }
         ensures none { seats.new.items ≡ [] }
@@ -240,7 +264,8 @@ impl<'s, C: Codelets, G: Gate, R: Threads + Wait + Sync, D: Disk + Send> Site<'s
     {
         while let Some(seat) = seats.pop() {
             let is_last = seats.is_empty();
-            posts.push_reserved(self.placed(scope, refused, seat, is_last));
+            let pass = passes.pop();
+            posts.push_reserved(self.placed(scope, refused, seat, pass, is_last));
         }
     }
 
@@ -250,17 +275,20 @@ impl<'s, C: Codelets, G: Gate, R: Threads + Wait + Sync, D: Disk + Send> Site<'s
         scope: &Scope<'s, E>,
         refused: &'s Refused,
         mut seats: Vec<BoardSeat<D>>,
+        mut passes: Vec<Pass>,
         mut posts: Vec<Post<D>>,
     ) -> Vec<BoardSeat<D>>
         requires site { MayWork C.has self.now.program.now self.now.desk.now }
         requires seats { All (IsSeatOf self.now.desk.now IsFreeRow) seats.items }
+        requires passes { ArePassesFor self.now.desk.now self.now.queues.now seats.items
+            passes.items }
         requires each { HasEachWorker self.now.desk.now seats.items posts.items }
         requires none { posts.items ≡ [] }
         requires room { length seats.items ≤ vec_capacity posts }
         ensures each { HasEachWorker self.now.desk.now result.items [] }
         ensures seats { All (IsSeatOf self.now.desk.now IsStoppedRow) result.items }
     {
-        self.post_all(scope, refused, &mut seats, &mut posts);
+        self.post_all(scope, refused, &mut seats, &mut passes, &mut posts);
         self.work_here(&mut posts);
         self.call_in(&mut posts, &mut seats);
         seats

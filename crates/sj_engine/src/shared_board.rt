@@ -1,5 +1,6 @@
 //! A board in a box, as workers share it.
 
+use sj_base::mode::Policy;
 use sj_board::board::Board;
 use sj_edge::disk::Disk;
 use std::alloc::Global;
@@ -58,7 +59,14 @@ impl<D: Disk> SharedBoard<D> {
         self.board.all_done() || self.board.failed()
     }
 
-    /// Whether a task is ready that nobody was given. Constant time, and under `ws` linear in the workers.
+    /// The policy of the machine. Constant time.
+    pub fn policy(&self) -> Policy
+        ensures { result ≡ self.now.run.machine.policy }
+    {
+        self.board.policy()
+    }
+
+    /// Under `prio`, whether a task is ready that nobody was given. Constant time.
     pub fn has_ready(&self) -> bool
         ensures { result ≡ has_ready self.now }
     {

@@ -4,6 +4,7 @@ ghost use Rattle.std.specs.Prelude.{◌≡◌};
 ghost use Rattle.sj_engine.specs.Member.{IsMember, MayWork};
 
 use crate::member::{SeatedWorker, Stage};
+use crate::ready::ReadyFrom;
 use crate::tray::Tray;
 use crate::workplace::{BoardDesk, Workplace};
 use sj_base::ids::Worker;
@@ -11,6 +12,7 @@ use sj_base::program::Program;
 use sj_codelet::set::Codelets;
 use sj_edge::disk::Disk;
 use sj_edge::gate::Gate;
+use sj_steal::shared::Shared;
 use std::alloc::Global;
 use std::sync::Wait;
 
@@ -23,6 +25,8 @@ pub struct Site<'a, C, G, R, D: Disk> {
     pub program: &'a Program,
     pub codelets: &'a C,
     pub gate: &'a G,
+    /// The queues in which ready tasks wait; none under `prio`.
+    pub queues: &'a Option<Shared>,
 }
 
 impl<C: Codelets, G: Gate, R: Wait, D: Disk> Site<'_, C, G, R, D> {
@@ -30,8 +34,8 @@ impl<C: Codelets, G: Gate, R: Wait, D: Disk> Site<'_, C, G, R, D> {
     /// tray is its thread's.
     pub(crate) fn go_on(&self, member: &mut SeatedWorker<D>, rests: bool, tray: &mut Tray)
         requires site { MayWork C.has self.now.program.now self.now.desk.now }
-        requires member { IsMember self.now.desk.now member.old }
-        ensures member { IsMember self.now.desk.now member.new }
+        requires member { IsMember self.now.desk.now self.now.queues.now member.old }
+        ensures member { IsMember self.now.desk.now self.now.queues.now member.new }
         ensures number { member.new.seat.facts.number ≡ member.old.seat.facts.number }
         ensures bell { member.new.bell ≡ member.old.bell }
     {
@@ -46,20 +50,23 @@ impl<C: Codelets, G: Gate, R: Wait, D: Disk> Site<'_, C, G, R, D> {
         if rests && member.stage.may_rest() {
             member.seat.rest(self.rt, self.desk);
         }
+        let mut ready = ReadyFrom::new(self.queues, member.pass.take());
         member.stage = workplace.work(
             &mut member.seat,
+            &mut ready,
             self.codelets,
             self.gate,
             member.stage,
             tray,
         );
+        member.pass = ready.into_pass();
     }
 
     /// Works for one worker until it has stopped, and rests where it can't go on.
     pub(crate) fn see_to_the_end(&self, member: &mut SeatedWorker<D>)
         requires site { MayWork C.has self.now.program.now self.now.desk.now }
-        requires member { IsMember self.now.desk.now member.old }
-        ensures member { IsMember self.now.desk.now member.new }
+        requires member { IsMember self.now.desk.now self.now.queues.now member.old }
+        ensures member { IsMember self.now.desk.now self.now.queues.now member.new }
         ensures stopped { member.new.stage ≡ Stage.Stopped }
         ensures number { member.new.seat.facts.number ≡ member.old.seat.facts.number }
     {

@@ -5,6 +5,7 @@ ghost use Rattle.sj_core.specs.Laws.{IsLawful};
 ghost use Rattle.sj_core.specs.Proper.{Proper};
 ghost use Rattle.sj_engine.specs.Member.{IsSeatOf, MayWork};
 ghost use Rattle.sj_engine.specs.Posts.{HasEachWorker};
+ghost use Rattle.sj_engine.specs.Ready.{ArePassesFor};
 ghost use Rattle.sj_engine.specs.Run.{AllStopped, AreAt};
 ghost use Rattle.sj_engine.specs.Stage.{IsFreeRow, IsStoppedRow};
 ghost use Rattle.sj_engine.specs.Turn.{IsSharedSound};
@@ -18,6 +19,7 @@ use sj_board::board::Board;
 use sj_codelet::set::Codelets;
 use sj_edge::disk::Disk;
 use sj_edge::gate::Gate;
+use sj_steal::shared::{Pass, Shared};
 use std::alloc::Global;
 use std::sync::Wait;
 use std::thread;
@@ -27,10 +29,12 @@ use std::thread::Threads;
 fn work_all<C: Codelets, G: Gate, D: Disk + Send, R: Threads + Wait + Sync>(
     site: &Site<'_, C, G, R, D>,
     seats: Vec<BoardSeat<D>>,
+    passes: Vec<Pass>,
     posts: Vec<Post<D>>,
 ) -> Vec<BoardSeat<D>>
     requires site { MayWork C.has site.now.program.now site.now.desk.now }
     requires seats { All (IsSeatOf site.now.desk.now IsFreeRow) seats.items }
+    requires passes { ArePassesFor site.now.desk.now site.now.queues.now seats.items passes.items }
     requires each { HasEachWorker site.now.desk.now seats.items posts.items }
     requires none { posts.items ≡ [] }
     requires room { length seats.items ≤ vec_capacity posts }
@@ -45,12 +49,14 @@ fn work_all<C: Codelets, G: Gate, D: Disk + Send, R: Threads + Wait + Sync>(
         move |scope| -> Vec<BoardSeat<D>>
             requires site { MayWork C.has site.now.program.now site.now.desk.now }
             requires seats { All (IsSeatOf site.now.desk.now IsFreeRow) seats.items }
+            requires passes { ArePassesFor site.now.desk.now site.now.queues.now seats.items
+                passes.items }
             requires each { HasEachWorker site.now.desk.now seats.items posts.items }
             requires none { posts.items ≡ [] }
             requires room { length seats.items ≤ vec_capacity posts }
             ensures each { HasEachWorker site.entry.now.desk.now result.items [] }
             ensures seats { All (IsSeatOf site.entry.now.desk.now IsStoppedRow) result.items }
-        { site.staffed(scope, refused, seats, posts) },
+        { site.staffed(scope, refused, seats, passes, posts) },
     )
 }
 
@@ -63,6 +69,8 @@ pub(crate) fn worked<C: Codelets, G: Gate, D: Disk + Send, R: Threads + Wait + S
     gate: &G,
     desk: BoardDesk<D>,
     seats: Vec<BoardSeat<D>>,
+    queues: &Option<Shared>,
+    passes: Vec<Pass>,
     posts: Vec<Post<D>>,
 ) -> Board<D>
     requires program { desk.opening.board.run.program ≡ program.now }
@@ -70,6 +78,7 @@ pub(crate) fn worked<C: Codelets, G: Gate, D: Disk + Send, R: Threads + Wait + S
     requires proper { Proper program.now }
     requires lawful { IsLawful C.has program.now }
     requires free { AreAt desk IsFreeRow seats.items }
+    requires passes { ArePassesFor desk queues.now seats.items passes.items }
     requires none { posts.items ≡ [] }
     requires room { length seats.items ≤ vec_capacity posts }
     ensures key { key_of result ≡ key_of desk.opening.board }
@@ -83,7 +92,8 @@ pub(crate) fn worked<C: Codelets, G: Gate, D: Disk + Send, R: Threads + Wait + S
         program,
         codelets,
         gate,
+        queues,
     };
-    let seats = work_all(&site, seats, posts);
+    let seats = work_all(&site, seats, passes, posts);
     desk.close(seats).board.into_board()
 }

@@ -3,6 +3,7 @@
 ghost use Rattle.std.specs.Prelude.{◌≡◌, ◌^◌, ◌≤◌, [], IfOk, length};
 ghost use Rattle.sj_base.specs.Array.{area};
 
+use sj_base::ids::Task;
 use sj_base::memory::OutOfMemory;
 use sj_base::tile::{Dims, Tile};
 use sj_codelet::frame::Frame;
@@ -15,11 +16,14 @@ use std::mem;
 const FRAME_ROOM: u8 = 5;
 
 /// An empty frame for the operands of a worker's next task, and the tiles that its turns made needless: so a turn takes no
-/// memory for the one, and gives none back for the others, into which the worker fetches.
+/// memory for the one, and gives none back for the others, into which the worker fetches; and the tasks that its last end has
+/// released.
 #[derive(Drop)]
 pub struct Tray {
     frame: Frame,
     pub(crate) spent: Spent,
+    /// The tasks that the worker's last end has released, and that it is to put into the shared queues.
+    pub(crate) released: Vec<Task>,
 }
 
 impl Model for Tray {
@@ -37,11 +41,17 @@ impl Tray {
     /// A frame with room for any task's operands, and room for tiles, where there is memory for them.
     pub fn new(alloc: Global) -> Tray {
         let spent = Spent::roomy(alloc);
+        let released = Vec::new(alloc);
         match Frame::with_room(alloc, FRAME_ROOM) {
-            Ok(frame) => Tray { frame, spent },
+            Ok(frame) => Tray {
+                frame,
+                spent,
+                released,
+            },
             Err(OutOfMemory) => Tray {
                 frame: Frame::empty(alloc),
                 spent,
+                released,
             },
         }
     }

@@ -1,19 +1,25 @@
 //! The turns of a worker at the desk: each is one look at the board, or one event on it.
 
-ghost use Rattle.std.specs.Prelude.{◌≡◌, IfSome, IsSomeAnd, MatchBool, MatchOption, None, Some, false, is_some, true};
+ghost use Rattle.std.specs.Prelude.{[], ◌≡◌, ◌≢◌, ◌+◌, ◌-◌, ◌^◌, min, ◌≤◌, IfSome, IsSomeAnd, IsTrue, MatchBool, MatchOption, None, Some, false, is_some, true};
 ghost use Rattle.sj_base.specs.Array.{Array};
 ghost use Rattle.sj_machine.specs.Tiles.{array_in};
 ghost use Rattle.sj_machine.specs.Standing.{is_node};
 ghost use Rattle.sj_desk.specs.Seats.{rung};
 ghost use Rattle.sj_engine.specs.Bell.{HasHeardBell, HasRung, IsChange, MindsBell, is_claimed, noted_after, noted_for_rest, wakes_after, wakes_for_rest};
 ghost use Rattle.sj_engine.specs.Picking.{AfterPick, finds_nothing, finds_task};
-ghost use Rattle.sj_engine.specs.Stage.{AreDone, GoesOn, HasClaimedRow, HasLeft, HoldsRow, IsCarried, IsFetchedThrough, IsFreeRow, IsStoredThrough, MovesRow, RunsRow};
+ghost use Rattle.sj_engine.specs.Stage.{AreDone, GoesOn, HasClaimedRow, HasLeft, HoldsRow, IsCarried, IsFetchedThrough, IsFreeRow, IsStoredThrough, MovesRow, RunsRow, row_in};
 ghost use Rattle.sj_engine.specs.Stepping.{AfterStep, HasDone, goes_on, has_to_wait};
-ghost use Rattle.sj_engine.specs.Turn.{MayLeave};
-ghost use Rattle.sj_engine.specs.Workplace.{IsSeated, IsWorkplace, board_key};
+ghost use Rattle.sj_base.specs.declared.mode.Policy.TheVariants.{Prio};
+ghost use Rattle.sj_engine.specs.Queued.{AccountsForNumbers, HasLookedThrough, IsLookOf, LeavesFault, ListsReleased, PicksOrFails};
+ghost use Rattle.sj_engine.specs.Ready.{IsItsSource, StaysItsSource, is_shared};
+ghost use Rattle.sj_engine.specs.Turn.{IsTurnOf, IsWorkerOf, MayLeave};
+ghost use Rattle.sj_board.specs.Board.{IsOver};
+ghost use Rattle.sj_engine.specs.Workplace.{IsSeated, IsWorkplace, board_key, policy_here};
 
 use crate::noted_board::NotedBoard;
 use crate::picking::Picked;
+use crate::ready::ReadyFrom;
+use crate::shared_board::SharedBoard;
 use crate::sleepers::Change;
 use crate::stepping::Step;
 use crate::tray::Tray;
@@ -47,6 +53,26 @@ fn finds_task(picked: &Picked) -> bool
         Picked::Task(_) => true,
         Picked::Nothing | Picked::Failed | Picked::Over => false,
     }
+}
+
+/// How many tasks are ready and not claimed after a look by which one of them was claimed, or none. Under `prio` they aren't
+/// counted.
+fn waiting_after(waiting: u64, picked: &Picked, ready: &ReadyFrom<'_>) -> u64
+    ensures none { finds_task picked.now ≡ false → result ≡ waiting }
+    ensures claimed { finds_task picked.now ≡ true → is_shared ready.now ≡ true
+        → result ≡ waiting - 1 }
+{
+    if finds_task(picked) && ready.is_shared() {
+        return waiting.saturating_sub(1);
+    }
+    waiting
+}
+
+/// How many are it once so many more are released.
+fn waiting_with(waiting: u64, released: usize) -> u64
+    ensures { result ≡ min (waiting + released) (2 ^ 64 - 1) }
+{
+    waiting.saturating_add(released as u64)
 }
 
 /// Whether a worker begins the next turn at once after a step.
@@ -97,7 +123,7 @@ impl<R, D: Disk> Workplace<'_, R, D> {
         requires turn { IsSomeAnd seat.old.facts.found
             (MayLeave D.size D.faults D.mismatches D.held self.now.desk.now self.now.worker noted) }
         requires did { IsSomeAnd seat.old.facts.found
-            (λ found. IsChange found.board noted.board change) }
+            (λ found. IsChange found noted change) }
         ensures left { HasLeft self.now.desk.now self.now.worker
             (noted_after self.now.worker change noted) seat.new.facts }
         ensures rung { HasRung (wakes_after self.now.worker change noted)
@@ -136,10 +162,34 @@ impl<R, D: Disk> Workplace<'_, R, D> {
 }
 
 impl<R: Wait, D: Disk> Workplace<'_, R, D> {
+    /// Claims a task in the worker's turn, or stops: one of the board's, or one of the shared queues.
+    fn pick_from(&self, board: &mut SharedBoard<D>, ready: &mut ReadyFrom<'_>) -> Picked
+        requires worker { IsWorkerOf board.old self.now.worker }
+        requires free { IsFreeRow (row_in board.old self.now.worker) }
+        requires ready { IsItsSource board.old.run.machine.policy self.now.worker.0 ready.old }
+        ensures turn { IsTurnOf D.faults D.mismatches self.now.worker board.old board.new }
+        ensures row { AfterPick self.now.worker (row_in board.new self.now.worker) result }
+        ensures event { PicksOrFails self.now.worker board.old board.new result }
+        ensures failed { result ≡ Picked.Failed → IsTrue (is_some board.new.fault) }
+        ensures over { result ≡ Picked.Over → IsOver board.new }
+        ensures ready { StaysItsSource ready.old ready.new }
+        ensures numbers { is_shared ready.old ≡ true → IsLookOf result → AccountsForNumbers
+            board.old ready.old [] result ready.new }
+    {
+        if ready.is_shared() {
+            return self.pick_queued(board, ready);
+        }
+        board.pick(self.alloc, self.worker)
+    }
+
     /// Claims a task that is ready, or stops where all is done. Where there is nothing to claim, the seat has heard the bell.
-    pub fn pick(&self, seat: &mut WorkerSeat<D>) -> Picked
+    pub fn pick(&self, seat: &mut WorkerSeat<D>, ready: &mut ReadyFrom<'_>) -> Picked
         requires workplace { IsWorkplace self.now }
         requires free { IsSeated self.now IsFreeRow seat.old }
+        requires ready { IsItsSource (policy_here self.now) self.now.worker.0 ready.old }
+        ensures ready { StaysItsSource ready.old ready.new }
+        ensures numbers { policy_here self.now ≢ Prio → IsLookOf result
+            → HasLookedThrough seat.old.facts ready.old result ready.new }
         ensures row { IsSeated self.now (λ r. AfterPick self.now.worker r result) seat.new }
         ensures events { GoesOn self.now.worker seat.old.facts seat.new.facts }
         ensures heard { result ≡ Picked.Nothing → is_some seat.new.facts.heard ≡ true }
@@ -148,12 +198,14 @@ impl<R: Wait, D: Disk> Workplace<'_, R, D> {
         ensures outside { finds_task result ≡ false → seat.new.keeps_turn ≡ false }
     {
         let mut noted = seat.enter(self.rt, self.desk);
-        let picked = noted.board.pick(self.alloc, self.worker);
+        let picked = self.pick_from(&mut noted.board, ready);
         if picked == Picked::Nothing {
             self.end_turn_to_rest(seat, noted, false);
             return Picked::Nothing;
         }
         let goes_on = finds_task(&picked);
+        let waiting = waiting_after(noted.waiting, &picked, &*ready);
+        noted.waiting = waiting;
         self.end_turn(seat, noted, Change::Claimed, goes_on);
         picked
     }
@@ -273,18 +325,31 @@ impl<R: Wait, D: Disk> Workplace<'_, R, D> {
         self.end_turn(seat, noted, Change::Freed, false);
     }
 
-    /// Ends the task that runs, with its results. Their frame goes back into the tray.
-    pub fn finish(&self, seat: &mut WorkerSeat<D>, t: Task, results: Frame, tray: &mut Tray)
+    /// Ends the task that runs, with its results, and appends the tasks that the end has released to a list. The results' frame
+    /// goes back into the tray.
+    pub fn finish(
+        &self,
+        seat: &mut WorkerSeat<D>,
+        t: Task,
+        results: Frame,
+        tray: &mut Tray,
+        released: &mut Vec<Task>,
+    )
         requires workplace { IsWorkplace self.now }
+        requires empty { released.old.items ≡ [] }
         requires runs { IsSeated self.now (RunsRow self.now.worker t) seat.old }
         requires results { IsSeated self.now
             (λ r. AreDone D.held (board_key self.now) self.now.worker t r results.slots) seat.old }
         ensures row { IsSeated self.now IsFreeRow seat.new }
         ensures events { GoesOn self.now.worker seat.old.facts seat.new.facts }
         ensures bell { MindsBell self.now.worker self.now.bell false seat.old.facts seat.new.facts }
+        ensures released { policy_here self.now ≢ Prio → ListsReleased t self.now.worker
+            released.old.items released.new.items seat.old.facts seat.new.facts }
     {
         let mut noted = seat.enter(self.rt, self.desk);
-        let spent = noted.board.finish(self.worker, t, results);
+        let spent = noted.board.finish(self.worker, t, results, released);
+        let waiting = waiting_with(noted.waiting, released.len());
+        noted.waiting = waiting;
         self.end_turn(seat, noted, Change::Ended, true);
         tray.keep_frame(spent);
     }
@@ -299,6 +364,7 @@ impl<R: Wait, D: Disk> Workplace<'_, R, D> {
         ensures events { GoesOn self.now.worker seat.old.facts seat.new.facts }
         ensures bell { MindsBell self.now.worker self.now.bell false seat.old.facts seat.new.facts }
         ensures outside { seat.new.keeps_turn ≡ false }
+        ensures fault { LeavesFault seat.new.facts }
     {
         let mut noted = seat.enter(self.rt, self.desk);
         noted.board.fail_without_memory(self.worker);

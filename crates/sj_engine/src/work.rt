@@ -1,17 +1,22 @@
 //! A worker: it claims a task, makes what the plan says, runs its kernel and ends it, until it can't go on or the run is over.
 
-ghost use Rattle.std.specs.Prelude.{◌≡◌, ◌≢◌, ◌<◌, if◌then◌else◌, MatchBool, false, is_some, length, true};
+ghost use Rattle.std.specs.Prelude.{◌≡◌, ◌≢◌, ◌<◌, ◌⊎◌, if◌then◌else◌, MatchBool, false, is_some, length, true};
 ghost use Rattle.sj_core.specs.Laws.{IsLawful};
 ghost use Rattle.sj_machine.specs.Standing.{is_node};
 ghost use Rattle.sj_engine.specs.Member.{HasHeard, IsRowAt};
-ghost use Rattle.sj_engine.specs.Stage.{GoesOn, HasClaimedRow, HasOperands, IsCarried, IsFreeRow};
+ghost use Rattle.sj_base.specs.declared.mode.Policy.TheVariants.{Prio};
+ghost use Rattle.sj_engine.specs.Queued.{LeavesFault, PutsReleased};
+ghost use Rattle.sj_engine.specs.Ready.{IsItsSource, PutsAll, StaysItsSource, is_shared};
+ghost use Rattle.sj_engine.specs.Stage.{AreDone, GoesOn, HasClaimedRow, HasOperands, IsCarried, IsFreeRow, RunsRow};
 ghost use Rattle.sj_engine.specs.Stepping.{IsUnitFor};
 ghost use Rattle.sj_engine.specs.Working.{AfterPrepare};
-ghost use Rattle.sj_engine.specs.Workplace.{IsSeated, IsProperWorkplace, board_key};
+ghost use Rattle.sj_engine.specs.Workplace.{IsSeated, IsProperWorkplace, IsWorkplace, board_key, policy_here};
 
+use crate::dealing::put_all;
 use crate::kernel::compute;
 use crate::member::Stage;
 use crate::picking::Picked;
+use crate::ready::ReadyFrom;
 use crate::stepping::Step;
 use crate::tray::Tray;
 use crate::worker_seat::WorkerSeat;
@@ -25,6 +30,7 @@ use sj_disk::unit::Unit;
 use sj_edge::disk::Disk;
 use sj_edge::gate::Gate;
 use sj_machine::run_state::measured;
+use std::mem;
 use std::sync::{Arc, Wait};
 
 /// How far a worker has come with its claim.
@@ -180,10 +186,59 @@ impl<R: Wait, D: Disk> Workplace<'_, R, D> {
         unreachable!()
     }
 
+    /// Puts these tasks into the worker's queue, where such are shared. Where there is no memory for it, the worker fails.
+    fn deal(&self, seat: &mut WorkerSeat<D>, ready: &mut ReadyFrom<'_>, released: &[Task])
+        requires workplace { IsWorkplace self.now }
+        requires ready { IsItsSource (policy_here self.now) self.now.worker.0 ready.old }
+        requires free { IsSeated self.now IsFreeRow seat.old }
+        ensures ready { StaysItsSource ready.old ready.new }
+        ensures dealt { is_shared ready.old ≡ true
+            → LeavesFault seat.new.facts ⊎ PutsAll ready.old released.now ready.new }
+        ensures fault { LeavesFault seat.old.facts → LeavesFault seat.new.facts }
+        ensures row { IsSeated self.now IsFreeRow seat.new }
+        ensures events { GoesOn self.now.worker seat.old.facts seat.new.facts }
+    {
+        if !ready.is_shared() {
+            return;
+        }
+        if put_all(self.rt, ready, released).is_err() {
+            self.fail(seat);
+        }
+    }
+
+    /// Ends the task that runs, with its results, and puts what the end has released into the worker's queue, where such are
+    /// shared: it takes its next task from there, and in that turn wakes another for those that are left.
+    fn end_and_deal(
+        &self,
+        seat: &mut WorkerSeat<D>,
+        ready: &mut ReadyFrom<'_>,
+        t: Task,
+        results: Frame,
+        tray: &mut Tray,
+    )
+        requires workplace { IsProperWorkplace self.now }
+        requires ready { IsItsSource (policy_here self.now) self.now.worker.0 ready.old }
+        requires runs { IsSeated self.now (RunsRow self.now.worker t) seat.old }
+        requires results { IsSeated self.now
+            (λ r. AreDone D.held (board_key self.now) self.now.worker t r results.slots) seat.old }
+        ensures ready { StaysItsSource ready.old ready.new }
+        ensures released { policy_here self.now ≢ Prio → PutsReleased t self.now.worker
+            seat.old.facts seat.new.facts ready.old ready.new }
+        ensures row { IsSeated self.now IsFreeRow seat.new }
+        ensures events { GoesOn self.now.worker seat.old.facts seat.new.facts }
+    {
+        let mut released = mem::replace(&mut tray.released, Vec::new(self.alloc));
+        released.clear();
+        self.finish(seat, t, results, tray, &mut released);
+        self.deal(seat, ready, &released);
+        tray.released = released;
+    }
+
     /// Runs the kernel of a task that has begun, outside of any turn, and ends the task. The kernel's cost.
     fn run_kernel<C: Codelets, G: Gate>(
         &self,
         seat: &mut WorkerSeat<D>,
+        ready: &mut ReadyFrom<'_>,
         codelets: &C,
         gate: &G,
         t: Task,
@@ -191,16 +246,18 @@ impl<R: Wait, D: Disk> Workplace<'_, R, D> {
         tray: &mut Tray,
     )
         requires workplace { IsProperWorkplace self.now }
+        requires ready { IsItsSource (policy_here self.now) self.now.worker.0 ready.old }
         requires outside { seat.old.keeps_turn ≡ false }
         requires lawful { IsLawful C.has self.now.program.now }
         requires task { t.0 < length self.now.program.now.tasks }
         requires runs { IsSeated self.now
             (λ r. HasOperands D.held (board_key self.now) self.now.worker t r taken) seat.old }
+        ensures ready { StaysItsSource ready.old ready.new }
         ensures row { IsSeated self.now IsFreeRow seat.new }
         ensures events { GoesOn self.now.worker seat.old.facts seat.new.facts }
     {
         match compute(self.alloc, self.program, codelets, gate, t, taken) {
-            Ok(results) => self.finish(seat, t, results, tray),
+            Ok(results) => self.end_and_deal(seat, ready, t, results, tray),
             Err(_) => self.fail(seat),
         }
     }
@@ -210,14 +267,17 @@ impl<R: Wait, D: Disk> Workplace<'_, R, D> {
     fn carry_out<C: Codelets, G: Gate>(
         &self,
         seat: &mut WorkerSeat<D>,
+        ready: &mut ReadyFrom<'_>,
         codelets: &C,
         gate: &G,
         t: Task,
         tray: &mut Tray,
     ) -> Stage
         requires workplace { IsProperWorkplace self.now }
+        requires ready { IsItsSource (policy_here self.now) self.now.worker.0 ready.old }
         requires lawful { IsLawful C.has self.now.program.now }
         requires claimed { IsSeated self.now (HasClaimedRow self.now.worker t) seat.old }
+        ensures ready { StaysItsSource ready.old ready.new }
         ensures row { IsSeated self.now (IsRowAt self.now.worker result) seat.new }
         ensures heard { HasHeard result seat.new.facts }
         ensures events { GoesOn self.now.worker seat.old.facts seat.new.facts }
@@ -225,7 +285,7 @@ impl<R: Wait, D: Disk> Workplace<'_, R, D> {
     {
         match self.prepare(seat, t, tray) {
             Prepared::Begun(taken) => {
-                self.run_kernel(seat, codelets, gate, t, taken, tray);
+                self.run_kernel(seat, ready, codelets, gate, t, taken, tray);
                 Stage::Fresh
             }
             Prepared::Waits => Stage::Blocked(t),
@@ -239,20 +299,23 @@ impl<R: Wait, D: Disk> Workplace<'_, R, D> {
     fn look<C: Codelets, G: Gate>(
         &self,
         seat: &mut WorkerSeat<D>,
+        ready: &mut ReadyFrom<'_>,
         codelets: &C,
         gate: &G,
         tray: &mut Tray,
     ) -> Stage
         requires workplace { IsProperWorkplace self.now }
+        requires ready { IsItsSource (policy_here self.now) self.now.worker.0 ready.old }
         requires lawful { IsLawful C.has self.now.program.now }
         requires free { IsSeated self.now IsFreeRow seat.old }
+        ensures ready { StaysItsSource ready.old ready.new }
         ensures row { IsSeated self.now (IsRowAt self.now.worker result) seat.new }
         ensures heard { HasHeard result seat.new.facts }
         ensures events { GoesOn self.now.worker seat.old.facts seat.new.facts }
         ensures outside { result ≢ Stage.Fresh → seat.new.keeps_turn ≡ false }
     {
-        match self.pick(seat) {
-            Picked::Task(t) => self.carry_out(seat, codelets, gate, t, tray),
+        match self.pick(seat, ready) {
+            Picked::Task(t) => self.carry_out(seat, ready, codelets, gate, t, tray),
             Picked::Nothing => Stage::Idle,
             Picked::Failed => Stage::Fresh,
             Picked::Over => Stage::Stopped,
@@ -263,23 +326,26 @@ impl<R: Wait, D: Disk> Workplace<'_, R, D> {
     fn resume<C: Codelets, G: Gate>(
         &self,
         seat: &mut WorkerSeat<D>,
+        ready: &mut ReadyFrom<'_>,
         codelets: &C,
         gate: &G,
         stage: Stage,
         tray: &mut Tray,
     ) -> Stage
         requires workplace { IsProperWorkplace self.now }
+        requires ready { IsItsSource (policy_here self.now) self.now.worker.0 ready.old }
         requires outside { seat.old.keeps_turn ≡ false }
         requires lawful { IsLawful C.has self.now.program.now }
         requires row { IsSeated self.now (IsRowAt self.now.worker stage) seat.old }
+        ensures ready { StaysItsSource ready.old ready.new }
         ensures row { IsSeated self.now (IsRowAt self.now.worker result) seat.new }
         ensures heard { HasHeard result seat.new.facts }
         ensures events { GoesOn self.now.worker seat.old.facts seat.new.facts }
         ensures outside { result ≢ Stage.Fresh → seat.new.keeps_turn ≡ false }
     {
         match stage {
-            Stage::Fresh | Stage::Idle => self.look(seat, codelets, gate, tray),
-            Stage::Blocked(t) => self.carry_out(seat, codelets, gate, t, tray),
+            Stage::Fresh | Stage::Idle => self.look(seat, ready, codelets, gate, tray),
+            Stage::Blocked(t) => self.carry_out(seat, ready, codelets, gate, t, tray),
             Stage::Stopped => Stage::Stopped,
         }
     }
@@ -293,15 +359,18 @@ impl<R: Wait, D: Disk> Workplace<'_, R, D> {
     pub fn work<C: Codelets, G: Gate>(
         &self,
         seat: &mut WorkerSeat<D>,
+        ready: &mut ReadyFrom<'_>,
         codelets: &C,
         gate: &G,
         stage: Stage,
         tray: &mut Tray,
     ) -> Stage
         requires workplace { IsProperWorkplace self.now }
+        requires ready { IsItsSource (policy_here self.now) self.now.worker.0 ready.old }
         requires outside { seat.old.keeps_turn ≡ false }
         requires lawful { IsLawful C.has self.now.program.now }
         requires row { IsSeated self.now (IsRowAt self.now.worker stage) seat.old }
+        ensures ready { StaysItsSource ready.old ready.new }
         ensures row { IsSeated self.now (IsRowAt self.now.worker result) seat.new }
         ensures looked { result ≢ Stage.Fresh }
         // Where it can't go on, its seat has heard the bell.
@@ -310,12 +379,12 @@ impl<R: Wait, D: Disk> Workplace<'_, R, D> {
         ensures events { GoesOn self.now.worker seat.old.facts seat.new.facts }
         ensures outside { seat.new.keeps_turn ≡ false }
     {
-        let mut stage = self.resume(seat, codelets, gate, stage, tray);
+        let mut stage = self.resume(seat, ready, codelets, gate, stage, tray);
         for _ in self.rt.forever() {
             if stage != Stage::Fresh {
                 return stage;
             }
-            stage = self.look(seat, codelets, gate, tray);
+            stage = self.look(seat, ready, codelets, gate, tray);
         }
         unreachable!()
     }

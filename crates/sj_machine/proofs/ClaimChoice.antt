@@ -1,15 +1,14 @@
 -- What is answered to a claim: its plan, or why it can't be made.
 use Rattle.std.proofs.Common.{◌≡◌, ℕ, ◌<◌, ◌≤◌, true, List, Option, Some, None, length, get_or, option_map, sym, ap, ◌∙◌, subst, arith}
-use Rattle.std.specs.Prelude.{All, Result}
+use Rattle.std.specs.Prelude.{Result}
 use Rattle.std.specs.Option.{ok_or}
 use Rattle.std.proofs.lemmas.List.{get_or_default}
-use Rattle.std.proofs.lemmas.List.Elements.{All-weaker}
 use Rattle.sj_base.specs.declared.mode.Access.{Access}
 use Rattle.sj_core.proofs.Words.{Cell, Machine, Node, Program, State, Task, Worker, WorkerState, node_of, task_of}
 use Rattle.sj_core.specs.Laws.{IsSound}
 use Rattle.sj_core.specs.Step.{none_leaving}
 use Rattle.sj_node.specs.Store.{Store}
-use Rattle.sj_machine.specs.Agrees.{IsWide, Rows, store_of}
+use Rattle.sj_machine.specs.Agrees.{Rows, store_of}
 use Rattle.sj_machine.specs.Gone.{KnownGone}
 use Rattle.sj_machine.specs.Operands.{first_held}
 use Rattle.sj_machine.specs.Plan.{ClaimPlan}
@@ -18,6 +17,7 @@ use Rattle.sj_machine.specs.Sound.{Keeps}
 use Rattle.sj_machine.specs.Standing.{Standing, state}
 use Rattle.sj_machine.specs.declared.plan.Why.{Why}
 use Rattle.sj_machine.specs.declared.plan.Why.TheVariants.{Commute, Leaving, NoRoom}
+use Rattle.sj_machine.proofs.BytesToCome.{come-node}
 use Rattle.sj_machine.proofs.Commuting.{first-is}
 use Rattle.sj_machine.proofs.ClaimPlanning.{proper-small}
 use Rattle.sj_machine.proofs.Written.{can-work, works-small}
@@ -52,12 +52,6 @@ module _ {D : Type 0} (size faults mismatches : D → ℕ) (held : D → Option 
   within : k.0 < length m.nodes
   within = subst (λ (j : Node). j.0 < length m.nodes) (sym at) (let some = sound.machine.some_node in omega arith)
 
-  pub choice-node : k.0 < length rows.nodes
-  choice-node = omega (arith, within, keeps.agrees.stores.every_node)
-
-  pub choice-wide : All (λ row. k.0 < length row.marks) rows.cells
-  choice-wide = All-weaker (IsWide (length m.nodes)) (λ row. k.0 < length row.marks) (λ row is. omega (arith, is.marks, within)) rows.cells keeps.agrees.marks.wide
-
   pub choice-small : HasSmallWork p t w
   choice-small = record {
     task = proper-small p sound.proper t may.ready.task;
@@ -91,7 +85,7 @@ module _ {D : Type 0} (size faults mismatches : D → ℕ) (held : D → Option 
           (subst (λ (ws : List WorkerState). NoneLeavesFor rows.cells k ws gone) keeps.agrees.workers none))
 
       store-is : store ≡ store_of p m s (node_of m w)
-      store-is = read ∙ get_or_default rows.nodes k.0 d (store_of p m s k) choice-node ∙ keeps.agrees.stores.stores k within ∙ ap (store_of p m s) at
+      store-is = read ∙ get_or_default rows.nodes k.0 d (store_of p m s k) (come-node size faults mismatches held b rows spare keeps t w may.ready.task may.worker k at) ∙ keeps.agrees.stores.stores k within ∙ ap (store_of p m s) at
 
       by_found : (o : Option ClaimPlan) → o ≡ option_map (planned p store t w) (chosen_on p store t w) → IsAnswer b t w (ok_or o NoRoom)
       by_found (Some plan) e = (let right = plan-right p m s t w may free settled store plan store-is e in record { can = right.0; plan = right.1; why = tt })

@@ -76,7 +76,7 @@ module _ (p : Program) (m : Machine) (s : State) (t : Task) (w : Worker) where
   missing-lacking : missing p s t w n ≡ lacking own (cells_of p t w)
   missing-lacking = filter_agree (λ c. not (has_cell (order s n) c)) (λ c. not (has_entry own.entries c)) (λ c. ap not (sym (entries-has (tile_bytes p) (pins_on m s n) (order s n) c))) (distinct (cells_of p t w))
 
-  need-same : to_come p s t w n ≡ need_on p own t w
+  pub need-same : to_come p s t w n ≡ need_on p own t w
   need-same = ap (λ (cs : List Cell). sum_by (tile_bytes p) cs + scratch_bytes p (task_of p t)) missing-lacking
 
   free-same : free_bytes own ≡ free p m s n

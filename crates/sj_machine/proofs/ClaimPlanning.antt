@@ -83,7 +83,7 @@ module _ (p : Program) (t : Task) (w : Worker) (s : Store) (cells missing : List
   are_missing : missing ≡ lacked
   are_missing = lacks ∙ ap (lacking s) names
 
-  need-is : sum bytes + scratch ≡ need_on p s t w
+  pub need-is : sum bytes + scratch ≡ need_on p s t w
   need-is = ap (λ (n : ℕ). n + scratch) (ap sum weighs ∙ sum-map (tile_bytes p) missing ∙ ap (sum_by (tile_bytes p)) are_missing) ∙ ap (λ (n : ℕ). sum_by (tile_bytes p) lacked + n) holds
 
   victims-are : need_victims cells s (sum bytes + scratch) ≡ need_victims (cells_of p t w) s (need_on p s t w)

@@ -1,6 +1,7 @@
 pub mod Asking
 pub mod Arriving
 pub mod Beginning
+pub mod BytesToCome
 pub mod ClaimEntries
 pub mod ClaimPins
 pub mod ClaimMarks

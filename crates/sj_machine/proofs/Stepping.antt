@@ -42,7 +42,7 @@ module _ (p : Program) (s s' : State) (same : s'.tasks ≡ s.tasks) where
   pub progress-same : (t : Task) → progress s' t ≡ progress s t
   progress-same t = ap (λ (ts : List Progress). slice_index_or ts t.0 Waiting) same
 
-  done-same : done_tasks s' ≡ done_tasks s
+  pub done-same : done_tasks s' ≡ done_tasks s
   done-same = ap (λ (ts : List Progress). done_tasks (tasks_alone ts)) same
 
   pub taken-same : (t : Task) → IsToBeTaken p s t → IsToBeTaken p s' t

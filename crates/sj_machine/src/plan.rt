@@ -6,7 +6,7 @@ ghost use Rattle.sj_core.specs.Operands.{cells_of};
 ghost use Rattle.sj_core.specs.Program.{task_of};
 ghost use Rattle.sj_node.specs.Store.{need_victims};
 ghost use Rattle.sj_machine.specs.Agrees.{AreMarked};
-ghost use Rattle.sj_machine.specs.Planning.{HasSmallTask, HasSmallWork, chosen_on, lacking, planned};
+ghost use Rattle.sj_machine.specs.Planning.{HasSmallTask, HasSmallWork, chosen_on, lacking, need_on, planned};
 
 use crate::copies::Copies;
 use crate::few_bytes::FewBytes;
@@ -96,6 +96,28 @@ fn recent_victims(
     };
     victims.reverse();
     Ok(Some(victims))
+}
+
+/// The bytes that a worker's task brings to its node: of those of its cells that have no entry there, each once, and of its
+/// scratch. What is missing there is told by the cells' rows. Quadratic in the operands; no memory.
+pub fn bytes_to_come(
+    program: &Program,
+    rows: &[Copies],
+    node: &NodeStore,
+    n: Node,
+    t: Task,
+    w: Worker,
+) -> u64
+    requires work { HasSmallWork program.now t w }
+    requires wide { All (λ row. n.0 < length row.marks) rows.now }
+    requires marked { AreMarked rows.now n node.now.entries }
+    ensures { result ≡ need_on program.now node.now t w }
+{
+    let cells = cells_for(program, t, w);
+    let missing = lacking_on(rows, node, n, cells.items());
+    let bytes = bytes_of(program, missing.items());
+    let scratch = scratch_for(program, t);
+    total(bytes.items()) + scratch
 }
 
 impl Plan {

@@ -202,6 +202,21 @@ impl Pool {
         }
     }
 
+    /// Takes the first task of at most so many bytes out of a worker's own queue; `None` exactly where
+    /// there is none. Logarithmic in the tasks; where memory was refused, linear. No memory.
+    #[tactic(auto, using(crate::proofs::Lists::of_lists))]
+    pub fn take_own(&mut self, w: Worker, room: u64) -> Option<Task>
+        requires { w.0 < self.old.workers }
+        ensures task { result
+            ≡ first_task room (queue self.old.queues (home self.old.policy w.0)) }
+        ensures rest { self.new ≡ record self.old {
+          queues = without_first_at self.old.queues (home self.old.policy w.0) room;
+        } }
+    {
+        let i = home(self.policy, w);
+        take_first(&mut self.queues, i, room).map(|entry| entry.task)
+    }
+
     /// Whether there is a task of at most so many bytes. Constant time, and under `ws` linear in the
     /// workers; where memory was refused, linear in the tasks.
     #[tactic(auto, using(crate::proofs::Lists::of_lists))]

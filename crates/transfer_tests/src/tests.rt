@@ -13,9 +13,10 @@ use std::sync::Wait;
 use std::test::Fail;
 use std::thread::Threads;
 
-/// Two workers, of which the first has a node for two parts of s. Only the node of the second holds an a, b, c or d.
+/// Two workers, of which the first has a node for two parts of s. Only the node of the second holds an a, b, c or d, and under
+/// `prio` these stay in front of the parts, also where the first worker passes them.
 const APART: &str =
-    "starjob 1\nworkers 2\nnode 48\nnode 4096\nvector a 12 fill 1 1\nvector b 12 fill 1 1\nvector c 12 fill 1 1\nvector d 12 fill 1 1\nvector s 18 by 1 6 fill 1 1\nprint s\n";
+    "starjob 1\nworkers 2\nnode 48\nnode 4096\npolicy prio\nvector a 12 fill 1 1\nvector b 12 fill 1 1\nvector c 12 fill 1 1\nvector d 12 fill 1 1\nvector s 18 by 1 6 fill 1 1\nprint s\n";
 
 /// The bytes of their blocks.
 const APART_SWAP: u32 = 1024;

@@ -1,7 +1,10 @@
 //! What the board says of a task whose number comes from outside it.
 
 ghost use Rattle.std.specs.Prelude.{◌≡◌, ◌↔◌, ◌<◌, IsTrue, length};
+ghost use Rattle.sj_core.specs.Needs.{node_of};
+ghost use Rattle.sj_core.specs.Step.{to_come};
 ghost use Rattle.sj_core.specs.declared.progress.Progress.TheVariants.{Waiting};
+ghost use Rattle.sj_machine.specs.Standing.{state};
 ghost use Rattle.sj_board.specs.Claimable.{FitsNode, IsClaimable, MayBegin, TellsOf};
 
 use super::Board;
@@ -32,6 +35,17 @@ impl<D: Disk> Board<D> {
         ensures { IsTrue result ↔ FitsNode self.now t w }
     {
         self.footprints[t.0 as usize] <= self.run.node_size(w)
+    }
+
+    /// The bytes that a claim of a task brings to the worker's node: of those of its cells that have no entry there, each once,
+    /// and of its scratch. Quadratic in the operands, which are a task's few; no memory.
+    pub fn bytes_to_come(&self, t: Task, w: Worker) -> u64
+        requires task { t.0 < length self.now.run.program.tasks }
+        requires worker { w.0 < self.now.run.program.workers }
+        ensures { result ≡ to_come self.now.run.program (state self.now.run) t w
+            (node_of self.now.run.machine w) }
+    {
+        self.run.bytes_to_come(t, w)
     }
 
     /// Whether a worker has no task, and no fault is kept. Constant time.

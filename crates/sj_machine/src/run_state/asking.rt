@@ -4,6 +4,7 @@ use super::RunState;
 use crate::choosing::{are_gone, is_fresh, is_read, mark_at, may_run};
 use crate::claiming::node_of;
 use crate::mark::Mark;
+use crate::plan::bytes_to_come;
 use sj_base::ids::{Cell, DiskNo, Node, Task, Worker};
 use sj_core::tasks::task_at;
 use sj_edge::disk::Disk;
@@ -12,7 +13,8 @@ impl<D: Disk> RunState<D> {
     ghost use Rattle.std.specs.Prelude.{◌≡◌, ◌<◌, Some, length};
     ghost use Rattle.sj_base.specs.declared.ids.Place.TheVariants.{Node as AtNode};
     ghost use Rattle.sj_core.specs.Machine.{has_room, progress, replica};
-    ghost use Rattle.sj_core.specs.Step.{disk_of, is_fresh, is_read, is_valid_elsewhere};
+    ghost use Rattle.sj_core.specs.Needs.{node_of};
+    ghost use Rattle.sj_core.specs.Step.{disk_of, is_fresh, is_read, is_valid_elsewhere, to_come};
     ghost use Rattle.sj_core.specs.declared.progress.Progress.TheVariants.{Claimed};
     ghost use Rattle.sj_machine.specs.Mark.{mark_of};
     ghost use Rattle.sj_machine.specs.Standing.{state};
@@ -42,6 +44,19 @@ impl<D: Disk> RunState<D> {
         ensures { result ≡ is_read self.now.machine (state self.now) cell (AtNode n) }
     {
         is_read(&self.workers, cell, n)
+    }
+
+    /// The bytes that a claim of a task brings to the worker's node: of those of its cells that have no entry there, each once,
+    /// and of its scratch. Quadratic in the operands; no memory.
+    pub fn bytes_to_come(&self, t: Task, w: Worker) -> u64
+        requires task { t.0 < length self.now.program.tasks }
+        requires worker { w.0 < self.now.program.workers }
+        ensures { result ≡ to_come self.now.program (state self.now) t w
+            (node_of self.now.machine w) }
+    {
+        let n = node_of(&self.machine, w);
+        let node = &self.nodes[n.0 as usize];
+        bytes_to_come(&self.program, &self.cells, node, n, t, w)
     }
 
     /// The disk on which a cell's block lies. Constant time.

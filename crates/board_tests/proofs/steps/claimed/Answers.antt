@@ -1,8 +1,14 @@
-use Rattle.std.proofs.Common.{◌<◌, subst, sym}
+use Rattle.std.proofs.Common.{rules, ◌<◌, ◌∙◌, ap, subst, sym}
 use Rattle.sj_board.specs.Board.{BoardState}
 use Rattle.board_tests.proofs.Claiming.{claims-it, is-given, is-step}
 use Rattle.board_tests.specs.Steps.{IsStepOf}
 use Rattle.board_tests.proofs.steps.claimed.Goals as goal
+
+pub claim-requires-clause-may : goal.claim-requires-clause-may
+claim-requires-clause-may g c = record {
+  given = λ prio. search rules;
+  outside = λ other. absurd (other (ap (λ (k : BoardState _). k.run.machine.policy) c.next.ensures.given ∙ c.requires.by_urgency));
+}
 
 pub returns-in-Ok-clause-claims : goal.returns-in-Ok-clause-claims
 returns-in-Ok-clause-claims g c =

@@ -2,19 +2,19 @@ use Rattle.std.proofs.Common.{rules, ◌≡◌, ◌∙◌, [], ap}
 use Rattle.sj_core.proofs.Dependencies.{Proper-dependencies}
 use Rattle.sj_board.specs.Delivered.{deliveries}
 use Rattle.sj_board.specs.Preparing.{first_hands}
-use Rattle.sj_board.proofs.Opening.{first-can, prepared}
+use Rattle.sj_board.proofs.Opening.{first-listed, prepared}
 use Rattle.sj_board.proofs.preparing.prepare.Goals as goal
 
 pub of-requires : goal.of-requires
 of-requires c = Proper-dependencies c.args.program.now c.requires.proper
 
-pub put_each-requires-clause-can : goal.put_each-requires-clause-can
-put_each-requires-clause-can c = first-can c.args.program.now c.args.policy c.requires.workers c.in_ok-deps.deps c.in_ok-deps.ensures.program c.in_ok-deps.ensures.none_done c.deref-2.result.now c.in_ok-ready.ready.items c.deref-2.ensures.value c.in_ok-ready.ensures.each c.in_ok-ready.ensures.by_number c.in_ok-pool.pool _ c.len-count.ensures c.in_ok-pool.ensures
+pub first_pool-requires-clause-first : goal.first_pool-requires-clause-first
+first_pool-requires-clause-first c = first-listed c.args.program.now c.args.policy c.in_ok-deps.deps c.in_ok-deps.ensures.program c.in_ok-deps.ensures.none_done c.deref-2.result.now c.in_ok-ready.ready.items c.deref-2.ensures.value c.in_ok-ready.ensures.each c.in_ok-ready.ensures.by_number
 
 pub returns-clause-prepared : goal.returns-clause-prepared
 returns-clause-prepared c =
     let hands : c.in_ok-hands.hands.items ≡ first_hands c.args.program.now = search rules in
-    prepared c.args.program.now c.args.policy c.requires.workers c.in_ok-deps.deps c.in_ok-deps.ensures.program c.in_ok-deps.ensures.none_done c.deref-2.result.now c.in_ok-ready.ready.items c.deref-2.ensures.value c.in_ok-ready.ensures.each c.in_ok-ready.ensures.by_number c.in_ok-pool.pool _ c.len-count.ensures c.in_ok-pool.ensures c.args.footprints.items c.in_ok-hands.hands.items c.put_each.new.pool c.requires.footprints hands c.put_each.ensures
+    prepared c.args.program.now c.args.policy c.in_ok-deps.deps c.in_ok-deps.ensures.program c.in_ok-deps.ensures.none_done c.deref-2.result.now c.in_ok-ready.ready.items c.deref-2.ensures.value c.in_ok-ready.ensures.each c.in_ok-ready.ensures.by_number c.args.footprints.items c.in_ok-hands.hands.items c.in_ok-pool.pool c.requires.footprints hands c.in_ok-pool.ensures
 
 pub returns-clause-delivers : goal.returns-clause-delivers
 returns-clause-delivers c =

@@ -6,7 +6,8 @@ use Rattle.sj_machine.specs.Plan.{ClaimPlan}
 use Rattle.sj_machine.specs.Planning.{AnotherHasTask, IsWhy}
 use Rattle.sj_machine.specs.Standing.{CanHappen, state}
 use Rattle.sj_machine.specs.declared.plan.Why.{Why}
-use Rattle.sj_board.specs.Board.{BoardState, IsIdle, WasGiven}
+use Rattle.sj_board.specs.Board.{BoardState, IsIdle}
+use Rattle.sj_board.specs.Claimable.{MayAsk}
 use Rattle.sj_board.proofs.BoardEnds.{claims-alone, stays-claimed}
 use Rattle.sj_board.proofs.Taking.{lone-refusal, keeps-claimed_left, may-claim}
 use Rattle.sj_board.proofs.SparingBoards.{told-spares}
@@ -19,10 +20,10 @@ claim_plan_knowing-requires-clause-gone g c = subst (λ (counts : List ℕ). Kno
 
 pub claim_plan_knowing-requires-clause-may : goal.claim_plan_knowing-requires-clause-may
 claim_plan_knowing-requires-clause-may g c =
-    let given = subst (λ (b : BoardState _). WasGiven b c.args.w c.args.t) (sym c.self.view_is) c.requires.given in
+    let asks = subst (λ (b : BoardState _). MayAsk b c.args.w c.args.t) (sym c.self.view_is) c.requires.may in
     let idle = subst (λ (b : BoardState _). IsIdle b c.args.w) (sym c.self.view_is) c.requires.idle in
     let none = subst (λ (b : BoardState _). b.fault ≡ None) (sym c.self.view_is) c.requires.no_fault in
-    may-claim _ _ _ _ _ _ _ c.self.invariant.board c.is_sound.ensures c.args.w given.works c.args.t given.given idle.no_task none
+    may-claim _ _ _ _ _ _ _ c.self.invariant.board c.is_sound.ensures c.args.w idle.works c.args.t asks idle.no_task none
 
 pub returns-in-Err-clause-why : goal.returns-in-Err-clause-why
 returns-in-Err-clause-why g c =
@@ -31,12 +32,12 @@ returns-in-Err-clause-why g c =
 
 pub invariant_of-self-2 : goal.invariant_of-self-2
 invariant_of-self-2 g c =
-    let given = subst (λ (b : BoardState _). WasGiven b c.args.w c.args.t) (sym c.self.view_is) c.requires.given in
+    let asks = subst (λ (b : BoardState _). MayAsk b c.args.w c.args.t) (sym c.self.view_is) c.requires.may in
     let idle = subst (λ (b : BoardState _). IsIdle b c.args.w) (sym c.self.view_is) c.requires.idle in
     let none = subst (λ (b : BoardState _). b.fault ≡ None) (sym c.self.view_is) c.requires.no_fault in
     let can = subst (λ (found : Result ClaimPlan Why). OnOk found (CanHappen c.self.inside.run (Claim c.args.t c.args.w))) c.in-Ok-found.is c.in-Ok.ensures.can in
     record {
-      board = keeps-claimed_left _ _ _ _ _ _ _ c.self.invariant.board c.is_sound.ensures c.args.w given.works c.args.t given.given idle.no_task none can _ _ c.in-Ok-claim.ensures.ok c.take.ensures;
+      board = keeps-claimed_left _ _ _ _ _ _ _ c.self.invariant.board c.is_sound.ensures c.args.w idle.works c.args.t asks idle.no_task none can _ _ c.in-Ok-claim.ensures.ok c.take.ensures;
       ends = stays-claimed g.D.Disk.held c.self.inside.run _ _ _ _ c.self.invariant.ends _ _ _ c.is_sound.ensures c.args.t c.args.w can _ c.in-Ok-claim.ensures.ok;
       victims = knows-claimed _ _ _ _ c.self.inside.run c.is_sound.ensures _ c.self.invariant.victims c.args.t c.args.w can _ c.in-Ok-claim.ensures.ok _ c.note_gone.ensures;
       units = units-set _ _ _ _ c.args.w _ c.take.ensures refl (units-event _ _ _ _ c.in-Ok-claim.ensures.ok c.self.invariant.units);
@@ -59,10 +60,10 @@ returns-clause-one_worker g c =
 
 pub returns-in-Err-clause-lone : goal.returns-in-Err-clause-lone
 returns-in-Err-clause-lone g c =
-    let given = subst (λ (b : BoardState _). WasGiven b c.args.w c.args.t) (sym c.self.view_is) c.requires.given in
+    let asks = subst (λ (b : BoardState _). MayAsk b c.args.w c.args.t) (sym c.self.view_is) c.requires.may in
     let idle = subst (λ (b : BoardState _). IsIdle b c.args.w) (sym c.self.view_is) c.requires.idle in
     let none = subst (λ (b : BoardState _). b.fault ≡ None) (sym c.self.view_is) c.requires.no_fault in
-    let may = may-claim _ _ _ _ _ _ _ c.self.invariant.board c.is_sound.ensures c.args.w given.works c.args.t given.given idle.no_task none in
+    let may = may-claim _ _ _ _ _ _ _ c.self.invariant.board c.is_sound.ensures c.args.w idle.works c.args.t asks idle.no_task none in
     let why = subst (λ (found : Result ClaimPlan Why). IfErr found (IsWhy c.self.inside.run.program c.self.inside.run.machine (state c.self.inside.run) c.args.t c.args.w)) c.in-Err.is c.in-Ok.ensures.why in
     λ one. lone-refusal _ _ _ _ c.self.inside.run c.is_sound.ensures c.args.t c.args.w may (ap (λ (b : BoardState _). b.run.program.workers) c.self.view_is ∙ one) c.in-Err.why why
 

@@ -2,7 +2,7 @@ use Rattle.std.proofs.Common.{refl, ◌∙◌, ap, subst, sym}
 use Rattle.sj_base.specs.declared.trace.Event.TheVariants.{End}
 use Rattle.sj_machine.specs.Standing.{CanHappen, Standing}
 use Rattle.sj_machine.specs.Sparing.{Spares}
-use Rattle.sj_board.specs.Board.{BoardState, HasTask}
+use Rattle.sj_board.specs.Board.{BoardState, HasTakenReleased, HasTask}
 use Rattle.sj_board.specs.Delivered.{gift_in}
 use Rattle.sj_board.proofs.BoardEnds.{ends, ends-gift, ends-has_room, ends-some, ends-staffed}
 use Rattle.sj_board.proofs.TaskEnding.{ends-can, ends-left, ends-ready, ends-task}
@@ -14,14 +14,16 @@ use Rattle.sj_board.proofs.board.Board.end.Goals as goal
 pub release-requires-clause-ready : goal.release-requires-clause-ready
 release-requires-clause-ready g c =
     let r = subst (λ (b : BoardState _). HasTask b c.args.w c.args.t) (sym c.self.view_is) c.requires.task in
+    let taken = subst (λ (b : BoardState _). HasTakenReleased b c.args.w) (sym c.self.view_is) c.requires.taken in
     let can = subst (λ (b : BoardState _). CanHappen b.run (End c.args.t c.args.w)) (sym c.self.view_is) c.requires.can in
-    ends-ready _ _ _ _ _ _ _ c.self.invariant.board c.is_sound.ensures c.args.w r.works c.args.t r.task can
+    ends-ready _ _ _ _ _ _ _ c.self.invariant.board c.is_sound.ensures c.args.w r.works c.args.t r.task can taken
 
 pub release-requires-clause-can : goal.release-requires-clause-can
 release-requires-clause-can g c =
     let r = subst (λ (b : BoardState _). HasTask b c.args.w c.args.t) (sym c.self.view_is) c.requires.task in
+    let taken = subst (λ (b : BoardState _). HasTakenReleased b c.args.w) (sym c.self.view_is) c.requires.taken in
     let can = subst (λ (b : BoardState _). CanHappen b.run (End c.args.t c.args.w)) (sym c.self.view_is) c.requires.can in
-    ends-can _ _ _ _ _ _ _ c.self.invariant.board c.is_sound.ensures c.args.w r.works c.args.t r.task can _ (c.program.ensures ∙ ap (λ (x : Standing _). x.program) c.end-spent.ensures.event)
+    ends-can _ _ _ _ _ _ _ c.self.invariant.board c.is_sound.ensures c.args.w r.works c.args.t r.task can taken _ (c.program.ensures ∙ ap (λ (x : Standing _). x.program) c.end-spent.ensures.event)
 
 pub hand_over-requires-clause-worker : goal.hand_over-requires-clause-worker
 hand_over-requires-clause-worker g c =
@@ -41,9 +43,10 @@ overflow_sub-self g c =
 pub invariant_of-self : goal.invariant_of-self
 invariant_of-self g c =
     let r = subst (λ (b : BoardState _). HasTask b c.args.w c.args.t) (sym c.self.view_is) c.requires.task in
+    let taken = subst (λ (b : BoardState _). HasTakenReleased b c.args.w) (sym c.self.view_is) c.requires.taken in
     let can = subst (λ (b : BoardState _). CanHappen b.run (End c.args.t c.args.w)) (sym c.self.view_is) c.requires.can in
     record {
-      board = ends-left _ _ _ _ _ _ _ c.self.invariant.board c.is_sound.ensures c.args.w r.works c.args.t r.task can _ _ _ _ _ _ (gift_in c.self.inside.gifts c.args.w) (c.program.ensures ∙ ap (λ (x : Standing _). x.program) c.end-spent.ensures.event) c.end-spent.ensures.event c.let_go.ensures c.release.ensures.deps c.release.ensures.pool c.hand_over.ensures.pairs;
+      board = ends-left _ _ _ _ _ _ _ c.self.invariant.board c.is_sound.ensures c.args.w r.works c.args.t r.task can taken _ _ _ _ _ _ (gift_in c.self.inside.gifts c.args.w) (c.program.ensures ∙ ap (λ (x : Standing _). x.program) c.end-spent.ensures.event) c.end-spent.ensures.event c.let_go.ensures c.release.ensures.deps c.release.ensures.pool c.hand_over.ensures.pairs;
       ends = ends g.D.Disk.held c.self.inside.run _ _ _ _ c.self.invariant.ends _ _ _ c.is_sound.ensures c.args.t c.args.w can _ c.end-spent.ensures.event _ c.hand_over.ensures.pairs _ c.hand_over.ensures.gifts _ c.hand_over.ensures.room;
       victims = knows-event _ _ _ _ c.self.inside.run c.is_sound.ensures _ c.self.invariant.victims (End c.args.t c.args.w) can (λ v. tt) _ c.end-spent.ensures.event;
       units = units-set _ _ _ _ c.args.w _ c.let_go.ensures refl (units-event _ _ _ _ c.end-spent.ensures.event c.self.invariant.units);
@@ -52,9 +55,10 @@ invariant_of-self g c =
 pub returns-clause-ends : goal.returns-clause-ends
 returns-clause-ends g c =
     let r = subst (λ (b : BoardState _). HasTask b c.args.w c.args.t) (sym c.self.view_is) c.requires.task in
+    let taken = subst (λ (b : BoardState _). HasTakenReleased b c.args.w) (sym c.self.view_is) c.requires.taken in
     let can = subst (λ (b : BoardState _). CanHappen b.run (End c.args.t c.args.w)) (sym c.self.view_is) c.requires.can in
     let gift = ends-gift g.D.Disk.held c.self.inside.run _ _ _ _ c.self.invariant.ends _ _ _ c.is_sound.ensures c.args.t c.args.w can in
-    ends-task _ _ _ _ _ _ _ c.self.invariant.board c.is_sound.ensures c.args.w r.works c.args.t r.task can _ _ _ _ _ _ (gift_in c.self.inside.gifts c.args.w) (c.program.ensures ∙ ap (λ (x : Standing _). x.program) c.end-spent.ensures.event) c.end-spent.ensures.event c.let_go.ensures c.release.ensures.deps c.release.ensures.pool c.hand_over.ensures.pairs gift _ c.self.view_is
+    ends-task _ _ _ _ _ _ _ c.self.invariant.board c.is_sound.ensures c.args.w r.works c.args.t r.task can taken _ _ _ _ _ _ (gift_in c.self.inside.gifts c.args.w) (c.program.ensures ∙ ap (λ (x : Standing _). x.program) c.end-spent.ensures.event) c.end-spent.ensures.event c.let_go.ensures c.release.ensures.deps c.release.ensures.pool c.hand_over.ensures.pairs gift _ c.self.view_is
 
 pub returns-clause-spares : goal.returns-clause-spares
 returns-clause-spares g c =

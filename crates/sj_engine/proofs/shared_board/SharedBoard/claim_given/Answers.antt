@@ -6,18 +6,18 @@ use Rattle.sj_board.specs.Refusal.{IsRefusal}
 use Rattle.sj_base.specs.declared.trace.Event.TheVariants.{Claim}
 use Rattle.sj_engine.specs.Turn.{IsTurnOf}
 use Rattle.sj_engine.proofs.BoardTurns.{happened}
-use Rattle.sj_engine.proofs.ClaimTurns.{claimed-now, claimed-turn, given-idle, was-given}
+use Rattle.sj_engine.proofs.ClaimTurns.{claim-turn, claimed-now, given-asks, given-idle}
 use Rattle.sj_engine.proofs.Turning.{turn-then}
 use Rattle.sj_engine.proofs.shared_board.SharedBoard.claim_given.Goals as goal
 
-pub claim-requires-clause-given : goal.claim-requires-clause-given
-claim-requires-clause-given g c = was-given g.D.Disk.size g.D.Disk.faults g.D.Disk.mismatches g.D.Disk.held c.args.w c.args.self.now c.deref.result.now c.deref_mut.result.now c.deref_mut.result.now (c.deref.ensures ∙ c.self.view_is) (c.deref_mut.ensures.value ∙ c.self.view_is) c.is_sound.ensures c.requires.worker c.args.t c.requires.given
+pub claim-requires-clause-may : goal.claim-requires-clause-may
+claim-requires-clause-may g c = given-asks g.D.Disk.size g.D.Disk.faults g.D.Disk.mismatches g.D.Disk.held c.args.w c.args.self.now c.deref.result.now c.deref_mut.result.now c.deref_mut.result.now (c.deref.ensures ∙ c.self.view_is) (c.deref_mut.ensures.value ∙ c.self.view_is) c.is_sound.ensures c.requires.worker c.args.t c.requires.given c.requires.by_urgency
 
 pub claim-requires-clause-idle : goal.claim-requires-clause-idle
 claim-requires-clause-idle g c = given-idle g.D.Disk.size g.D.Disk.faults g.D.Disk.mismatches g.D.Disk.held c.args.w c.args.self.now c.deref.result.now c.deref_mut.result.now c.deref_mut.result.now (c.deref.ensures ∙ c.self.view_is) (c.deref_mut.ensures.value ∙ c.self.view_is) c.is_sound.ensures c.requires.worker c.args.t c.requires.given
 
 pub returns-in-Ok-clause-turn : goal.returns-in-Ok-clause-turn
-returns-in-Ok-clause-turn g c = claimed-turn g.D.Disk.size g.D.Disk.faults g.D.Disk.mismatches g.D.Disk.held c.args.w c.args.self.now c.deref.result.now c.deref_mut.result.now c.claim.new.self (c.deref.ensures ∙ c.self.view_is) (c.deref_mut.ensures.value ∙ c.self.view_is) c.is_sound.ensures c.requires.worker c.args.t c.requires.given c.in-Ok.ensures.can c.in-Ok.ensures.ok c.in-Ok.ensures.spares
+returns-in-Ok-clause-turn g c = claim-turn g.D.Disk.size g.D.Disk.faults g.D.Disk.mismatches g.D.Disk.held c.args.w c.args.self.now c.deref.result.now c.deref_mut.result.now c.claim.new.self (c.deref.ensures ∙ c.self.view_is) (c.deref_mut.ensures.value ∙ c.self.view_is) c.is_sound.ensures c.requires.worker c.args.t c.in-Ok.ensures.can c.in-Ok.ensures.ok c.in-Ok.ensures.spares
 
 pub returns-in-Ok-clause-row : goal.returns-in-Ok-clause-row
 returns-in-Ok-clause-row g c = claimed-now g.D.Disk.size g.D.Disk.faults g.D.Disk.mismatches g.D.Disk.held c.args.w c.args.self.now c.deref.result.now c.deref_mut.result.now c.claim.new.self (c.deref.ensures ∙ c.self.view_is) (c.deref_mut.ensures.value ∙ c.self.view_is) c.is_sound.ensures c.requires.worker c.args.t c.requires.given c.in-Ok.ensures.can c.in-Ok.ensures.ok c.requires.no_fault

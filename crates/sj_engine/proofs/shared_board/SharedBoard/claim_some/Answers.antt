@@ -1,5 +1,5 @@
 use Rattle.std.proofs.lemmas.List.{length-take-le}
-use Rattle.std.proofs.Common.{◌<◌, ◌∙◌, arith, inl, inr, length-set, sym, subst, take}
+use Rattle.std.proofs.Common.{◌<◌, ◌∙◌, ap, arith, inl, inr, length-set, sym, subst, take}
 use Rattle.std.specs.Prelude.{IsTrue, is_some}
 use Rattle.sj_board.specs.Board.{BoardState}
 use Rattle.sj_board.specs.BoardRow.{BoardKey}
@@ -69,10 +69,13 @@ returns g c = record {
 }
 
 pub give_next-requires : goal.give_next-requires
-give_next-requires g c = record { worker = c.loop-i.invariant.worker; free = c.loop-i.invariant.free }
+give_next-requires g c = record { worker = c.loop-i.invariant.worker; by_urgency = ap (λ (k : BoardKey g.row.D.Denot). k.machine.policy) c.loop-i.invariant.turn.key ∙ c.requires.by_urgency; free = c.loop-i.invariant.free }
 
 pub claim_given-requires-clause-worker : goal.claim_given-requires-clause-worker
 claim_given-requires-clause-worker g c = subst (λ (k : BoardKey g.row.D.Denot). c.args.w.0 < k.program.workers) (sym c.give_next.ensures.turn.key) c.loop-i.invariant.worker
 
 pub claim_given-requires-clause-no_fault : goal.claim_given-requires-clause-no_fault
 claim_given-requires-clause-no_fault g c = c.give_next.ensures.fault ∙ c.loop-i.invariant.no_fault
+
+pub claim_given-requires-clause-by_urgency : goal.claim_given-requires-clause-by_urgency
+claim_given-requires-clause-by_urgency g c = ap (λ (k : BoardKey g.row.D.Denot). k.machine.policy) (c.give_next.ensures.turn.key ∙ c.loop-i.invariant.turn.key) ∙ c.requires.by_urgency

@@ -1,4 +1,5 @@
-use Rattle.std.proofs.Common.{◌∙◌, sym, subst}
+use Rattle.std.proofs.Common.{◌≡◌, ◌∙◌, sym, subst}
+use Rattle.sj_base.specs.declared.mode.Policy.TheVariants.{Prio}
 use Rattle.std.proofs.Common.{IfSome, None, Some}
 use Rattle.sj_board.specs.Board.{IsFree, BoardState}
 use Rattle.sj_board.specs.Passing.{HasLost}
@@ -11,10 +12,10 @@ use Rattle.sj_engine.proofs.BoardTurns.{nothing-happened}
 use Rattle.sj_engine.proofs.shared_board.SharedBoard.give_next.Goals as goal
 
 pub next-requires : goal.next-requires
-next-requires g c = record { free = subst (λ k. IsFree k c.args.w) (sym (c.deref_mut.ensures.value ∙ c.self.view_is)) (is-free c.args.self.now c.args.w c.requires.worker c.requires.free) }
+next-requires g c = record { by_urgency = subst (λ (k : BoardState g.row.D.Denot). k.run.machine.policy ≡ Prio) (sym (c.deref_mut.ensures.value ∙ c.self.view_is)) c.requires.by_urgency; free = subst (λ k. IsFree k c.args.w) (sym (c.deref_mut.ensures.value ∙ c.self.view_is)) (is-free c.args.self.now c.args.w c.requires.worker c.requires.free) }
 
 pub returns-clause-turn : goal.returns-clause-turn
-returns-clause-turn g c = next-turn g.D.Disk.size g.D.Disk.faults g.D.Disk.mismatches g.D.Disk.held c.args.w c.args.self.now c.deref.result.now c.deref_mut.result.now c.next.new.self (c.deref.ensures ∙ c.self.view_is) (c.deref_mut.ensures.value ∙ c.self.view_is) c.is_sound.ensures c.requires.worker c.next.result c.next.ensures.given
+returns-clause-turn g c = next-turn g.D.Disk.size g.D.Disk.faults g.D.Disk.mismatches g.D.Disk.held c.args.w c.args.self.now c.deref.result.now c.deref_mut.result.now c.next.new.self (c.deref.ensures ∙ c.self.view_is) (c.deref_mut.ensures.value ∙ c.self.view_is) c.is_sound.ensures c.requires.worker c.next.result c.next.ensures.given c.requires.by_urgency
 
 pub returns-clause-some : goal.returns-clause-some
 returns-clause-some g c = if-some c.next.result _ (λ t is. next-hand g.D.Disk.size g.D.Disk.faults g.D.Disk.mismatches g.D.Disk.held c.args.w c.args.self.now c.deref.result.now c.deref_mut.result.now c.next.new.self (c.deref.ensures ∙ c.self.view_is) (c.deref_mut.ensures.value ∙ c.self.view_is) c.is_sound.ensures c.requires.worker c.next.result c.next.ensures.given c.requires.free (Some t) is)

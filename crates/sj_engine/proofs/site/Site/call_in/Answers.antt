@@ -18,7 +18,7 @@ loop-post-preserved g c =
     let before = i.room in
     let same = c.push_reserved.ensures.capacity in
     record {
-      posts = (All-pop (IsOnPost desk) c.loop-post.posts.items c.pop.new.self.items (Some c.in-Some.post) fewer i.posts).0;
+      posts = (All-pop (IsOnPost desk c.args.self.now.queues.now) c.loop-post.posts.items c.pop.new.self.items (Some c.in-Some.post) fewer i.posts).0;
       seats = subst (All (IsSeatOf desk IsStoppedRow)) (sym more) (All-push (IsSeatOf desk IsStoppedRow) c.loop-post.seats.items c.called_in.result i.seats c.called_in.ensures.seat);
       each = subst (λ l. HasEachWorker desk l c.pop.new.self.items) (sym more)
           (each-called_in desk c.loop-post.seats.items c.called_in.result c.loop-post.posts.items c.pop.new.self.items c.in-Some.post fewer c.called_in.ensures.number i.each);

@@ -7,6 +7,6 @@ abbrev pub invariant-loop : goal.invariant-loop
 invariant-loop g l = record {
   can : (goal.iterator-loop g).can_next l.iterator';
   ends : (goal.iterator-loop g).is_finite l.iterator';
-  member : IsMember l.self.desk.now l.member;
+  member : IsMember l.self.desk.now l.self.queues.now l.member;
   number : l.member.seat.facts.number ≡ l.fn.member.seat.facts.number;
 }

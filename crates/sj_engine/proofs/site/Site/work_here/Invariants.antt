@@ -7,6 +7,6 @@ abbrev pub invariant-loop : goal.invariant-loop
 invariant-loop g l = record {
   can : (goal.iterator-loop g).can_next l.iterator';
   ends : (goal.iterator-loop g).is_finite l.iterator';
-  posts : All (IsOnPost l.self.desk.now) l.posts.items;
+  posts : All (IsOnPost l.self.desk.now l.self.queues.now) l.posts.items;
   numbers : numbers_of_posts l.posts.items ≡ numbers_of_posts l.fn.posts.items;
 }

@@ -14,6 +14,6 @@ returns-clause-events g c = goes-on c.enter-noted.result c.requires.moves c.ente
 
 pub returns-clause-bell : goal.returns-clause-bell
 returns-clause-bell g c =
-    let left : NotedBoard _ = record { board = c.arrive.new.self; sleepers = c.enter-noted.result.sleepers } in
+    let left : NotedBoard _ = record { board = c.arrive.new.self; sleepers = c.enter-noted.result.sleepers; waiting = c.enter-noted.result.waiting } in
     minds-change c.args.seat.now.facts c.enter-noted.new.self.facts c.end_turn.new.seat.facts c.enter-noted.result left Freed c.enter-noted.ensures.own_row (ap (λ s. s.rings) c.enter-noted.ensures.seat) refl
-    (inl (Moved c.args.x.cell c.args.x.from c.args.x.to, c.arrive.ensures.event, refl)) c.end_turn.ensures.left c.end_turn.ensures.rung
+    (inl (Moved c.args.x.cell c.args.x.from c.args.x.to, c.arrive.ensures.event, refl, refl)) c.end_turn.ensures.left c.end_turn.ensures.rung

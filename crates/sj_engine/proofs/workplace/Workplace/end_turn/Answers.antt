@@ -1,6 +1,7 @@
 use Rattle.std.proofs.Common.{◌∙◌, ap, length}
 use Rattle.sj_engine.proofs.DeskTurns.{noted-inside, noted-sound, other-rows}
-use Rattle.sj_engine.specs.Resting.{has_ready, is_over}
+use Rattle.sj_engine.specs.Noted.{has_ready_in}
+use Rattle.sj_engine.specs.Resting.{is_over}
 use Rattle.sj_engine.proofs.Sleeping.{length-noted}
 use Rattle.sj_engine.proofs.workplace.Workplace.end_turn.Goals as goal
 
@@ -14,7 +15,7 @@ leave-requires-clause-other_rows g c =
 pub leave-requires-clause-sound : goal.leave-requires-clause-sound
 leave-requires-clause-sound g c =
     let found = c.args.noted in
-    let many = ap length c.change-woken.ensures.noted ∙ length-noted c.args.self.now.worker.0 c.args.change (is_over found.board) (has_ready found.board) found.sleepers in
+    let many = ap length c.change-woken.ensures.noted ∙ length-noted c.args.self.now.worker.0 c.args.change (is_over found.board) (has_ready_in found) found.sleepers in
     noted-sound _ _ _ _ _ _ c.args.noted c.change-woken.new.self _ c.requires.turn c.change-woken.ensures.board many c.change-woken.ensures.sound
 
 pub leave_and_keep-requires-clause-other_rows : goal.leave_and_keep-requires-clause-other_rows
@@ -24,5 +25,5 @@ leave_and_keep-requires-clause-other_rows g c =
 pub leave_and_keep-requires-clause-sound : goal.leave_and_keep-requires-clause-sound
 leave_and_keep-requires-clause-sound g c =
     let found = c.args.noted in
-    let many = ap length c.change-woken.ensures.noted ∙ length-noted c.args.self.now.worker.0 c.args.change (is_over found.board) (has_ready found.board) found.sleepers in
+    let many = ap length c.change-woken.ensures.noted ∙ length-noted c.args.self.now.worker.0 c.args.change (is_over found.board) (has_ready_in found) found.sleepers in
     noted-sound _ _ _ _ _ _ c.args.noted c.change-woken.new.self _ c.requires.turn c.change-woken.ensures.board many c.change-woken.ensures.sound

@@ -2,7 +2,7 @@ use Rattle.std.proofs.Common.{◌∙◌, sym, subst, ap, length}
 use Rattle.std.specs.Prelude.{IsSomeAnd}
 use Rattle.sj_engine.specs.Turn.{MayLeave}
 use Rattle.sj_engine.proofs.DeskTurns.{heard-found, heard-number, noted-inside, noted-sound, other-rows}
-use Rattle.sj_engine.specs.Resting.{has_ready}
+use Rattle.sj_engine.specs.Noted.{has_ready_in}
 use Rattle.sj_engine.proofs.Sleeping.{length-noted_at_rest}
 use Rattle.sj_engine.proofs.workplace.Workplace.end_turn_to_rest.Goals as goal
 
@@ -21,5 +21,5 @@ leave-requires-clause-other_rows g c =
 pub leave-requires-clause-sound : goal.leave-requires-clause-sound
 leave-requires-clause-sound g c =
     let found = c.args.noted in
-    let many = ap length c.rest-woken.ensures.noted ∙ length-noted_at_rest c.args.self.now.worker.0 c.args.self.now.bell c.args.claimed (has_ready found.board) found.sleepers in
+    let many = ap length c.rest-woken.ensures.noted ∙ length-noted_at_rest c.args.self.now.worker.0 c.args.self.now.bell c.args.claimed (has_ready_in found) found.sleepers in
     noted-sound _ _ _ _ _ _ c.args.noted c.rest-woken.new.self _ c.requires.turn c.rest-woken.ensures.board many c.rest-woken.ensures.sound

@@ -10,6 +10,6 @@ returns-clause-events g c = goes-on c.enter-noted.result c.requires.holds c.ente
 
 pub returns-clause-bell : goal.returns-clause-bell
 returns-clause-bell g c =
-    let left : NotedBoard _ = record { board = c.give_unit_up.new.self; sleepers = c.enter-noted.result.sleepers } in
+    let left : NotedBoard _ = record { board = c.give_unit_up.new.self; sleepers = c.enter-noted.result.sleepers; waiting = c.enter-noted.result.waiting } in
     minds-change c.args.seat.now.facts c.enter-noted.new.self.facts c.end_turn.new.seat.facts c.enter-noted.result left Freed c.enter-noted.ensures.own_row (ap (λ s. s.rings) c.enter-noted.ensures.seat) refl
     (inr (over-by_fault c.give_unit_up.new.self c.give_unit_up.ensures.fault)) c.end_turn.ensures.left c.end_turn.ensures.rung

@@ -1,6 +1,7 @@
 use Rattle.std.proofs.Common.{◌≡◌, ◌≢◌, false}
 use Rattle.sj_engine.specs.declared.member.Stage.TheVariants.{Fresh}
 use Rattle.sj_engine.specs.Member.{HasHeard, IsRowAt}
+use Rattle.sj_engine.specs.Ready.{StaysItsSource}
 use Rattle.sj_engine.specs.Stage.{GoesOn}
 use Rattle.sj_engine.specs.Workplace.{IsSeated}
 use Rattle.sj_engine.proofs.workplace.Workplace.work.Given as goal
@@ -13,5 +14,6 @@ invariant-loop g l = record {
   row : IsSeated l.self (IsRowAt l.self.worker l.stage) l.seat;
   heard : HasHeard l.stage l.seat.facts;
   outside : l.stage ≢ Fresh → l.seat.keeps_turn ≡ false;
+  ready : StaysItsSource l.fn.ready l.ready;
   events : GoesOn l.self.worker l.fn.seat.facts l.seat.facts;
 }

@@ -15,6 +15,6 @@ returns-clause-events g c = goes-on c.enter-noted.result c.requires.stored c.ent
 
 pub returns-clause-bell : goal.returns-clause-bell
 returns-clause-bell g c =
-    let left : NotedBoard _ = record { board = c.write_out-written.new.self; sleepers = c.enter-noted.result.sleepers } in
+    let left : NotedBoard _ = record { board = c.write_out-written.new.self; sleepers = c.enter-noted.result.sleepers; waiting = c.enter-noted.result.waiting } in
     minds-change c.args.seat.now.facts c.enter-noted.new.self.facts c.end_turn.new.seat.facts c.enter-noted.result left Freed c.enter-noted.ensures.own_row (ap (λ s. s.rings) c.enter-noted.ensures.seat) refl
-    (move-did c.enter-noted.result.board c.write_out-written.new.self (Moved c.args.x.cell c.args.x.from c.args.x.to) c.write_out-written.result c.write_out-written.ensures.event c.write_out-written.ensures.failed refl) c.end_turn.ensures.left c.end_turn.ensures.rung
+    (move-did c.enter-noted.result left (Moved c.args.x.cell c.args.x.from c.args.x.to) c.write_out-written.result c.write_out-written.ensures.event c.write_out-written.ensures.failed refl refl) c.end_turn.ensures.left c.end_turn.ensures.rung

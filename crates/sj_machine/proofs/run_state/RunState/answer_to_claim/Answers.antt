@@ -9,7 +9,8 @@ use Rattle.sj_machine.specs.Planning.{HasSmallWork, IsAnswer, MayClaim, NoneLeav
 use Rattle.sj_machine.specs.Standing.{Standing, state}
 use Rattle.sj_machine.specs.declared.plan.Why.TheVariants.{Commute, Leaving}
 use Rattle.std.specs.Prelude.{Err}
-use Rattle.sj_machine.proofs.ClaimChoice.{answer-told, choice-commuter, choice-found, choice-free, choice-leaving, choice-node, choice-small}
+use Rattle.sj_machine.proofs.BytesToCome.{come-node}
+use Rattle.sj_machine.proofs.ClaimChoice.{answer-told, choice-commuter, choice-found, choice-free, choice-leaving, choice-small}
 use Rattle.sj_machine.proofs.Marked.{marked-at}
 use Rattle.sj_machine.proofs.run_state.RunState.answer_to_claim.Goals as goal
 
@@ -47,7 +48,7 @@ on-requires-clause-marked g c =
     let a = c.args in
     let n = c.node_of-n.result in
     let may = subst (λ (b : Standing _). MayClaim b.program b.machine (state b) a.t a.w) (sym c.self.view_is) c.requires.may in
-    marked-at _ _ _ _ _ _ _ c.self.invariant c.deref-6.result.now c.deref-6.ensures.value n c.index-node.result.now _ (choice-node _ _ _ _ _ _ _ c.self.invariant a.t a.w may n c.node_of-n.ensures) c.index-node.ensures
+    marked-at _ _ _ _ _ _ _ c.self.invariant c.deref-6.result.now c.deref-6.ensures.value n c.index-node.result.now _ (come-node _ _ _ _ _ _ _ c.self.invariant a.t a.w may.ready.task may.worker n c.node_of-n.ensures) c.index-node.ensures
 
 pub returns : goal.returns
 returns g c =

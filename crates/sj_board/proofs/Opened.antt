@@ -1,0 +1,28 @@
+-- A board on which nothing has happened has released nothing.
+use Rattle.std.proofs.Common.{◌≡◌, ◌∙◌, ℕ, List, [], ap, arith, get_or, inl, inr, length, refl, replicate}
+use Rattle.std.proofs.lemmas.Bool.{cases_lt}
+use Rattle.std.proofs.lemmas.List.{get_or-replicate, get_or_past, length-replicate}
+use Rattle.sj_base.specs.declared.ids.Task.{Task}
+use Rattle.sj_base.specs.declared.ids.Worker.{Worker}
+use Rattle.sj_base.specs.declared.mode.Policy.{Policy}
+use Rattle.sj_base.specs.declared.mode.Policy.TheVariants.{Eager, Prio, Ws}
+use Rattle.sj_base.specs.declared.program.Machine.{Machine}
+use Rattle.sj_base.specs.declared.program.Program.{Program}
+use Rattle.sj_disk.specs.Directory.{DiskState}
+use Rattle.sj_board.specs.Board.{BoardState, HasTakenReleased, released_of}
+use Rattle.sj_board.specs.Preparing.{IsOpening, first_pool}
+use Rattle.sj_board.specs.Released.{released_in}
+
+no-items : {X : Type 0} (k n : ℕ) → get_or (replicate {A = List X} k []) n [] ≡ []
+no-items {X} k n = elim (cases_lt n k) as (λ _. get_or (replicate {A = List X} k []) n [] ≡ []) [
+  | inl inside ↦ get_or-replicate k n [] [] inside
+  | inr past ↦ get_or_past (replicate k []) n [] (let long : length (replicate {A = List X} k []) ≡ k = length-replicate k [] in omega (arith, long, past))
+]
+
+first-released : (p : Program) (q : Policy) (ready : List Task) (n : ℕ) → released_in q (first_pool p q ready) n ≡ []
+first-released p Eager ready n = rw (no-items p.workers n) refl
+first-released p Prio ready n = refl
+first-released p Ws ready n = rw (no-items p.workers n) refl
+
+pub opening-taken : {D : Type 0} (p : Program) (m : Machine) (disks : DiskState D) (b : BoardState D) → IsOpening p m disks b → (w : Worker) → HasTakenReleased b w
+opening-taken p m disks b opening w = ap (λ (k : BoardState _). released_of k w) opening.opens ∙ first-released p m.policy opening.ready w.0

@@ -1,0 +1,49 @@
+-- What the policy of a machine tells of a board's pool.
+use Rattle.std.proofs.Common.{◌≡◌, ◌≢◌, ◌⊎◌, ◌∙◌, ℕ, [], inl, inr, refl, sym, ap, slice_set, drop}
+use Rattle.sj_base.specs.declared.mode.Policy.{Policy}
+use Rattle.sj_base.specs.declared.mode.Policy.TheVariants.{Eager, Prio, Ws}
+use Rattle.sj_pool.specs.Pool.{Pooled, queue}
+use Rattle.sj_board.specs.Released.{pool_policy, queued_tasks, released_in, without_first_of}
+
+eager-other : Eager ≡ Prio → ⊥
+eager-other e = absurd (cc)
+
+ws-other : Ws ≡ Prio → ⊥
+ws-other e = absurd (cc)
+
+pub by-policy : (q : Policy) → (q ≡ Prio) ⊎ (q ≢ Prio)
+by-policy Eager = inr eager-other
+by-policy Prio = inl refl
+by-policy Ws = inr ws-other
+
+-- ---- under prio
+
+pub prio-pool : (q : Policy) → q ≡ Prio → pool_policy q ≡ Prio
+prio-pool q e = ap pool_policy e
+
+pub prio-released : (q : Policy) (pool : Pooled) (n : ℕ) → q ≡ Prio → released_in q pool n ≡ []
+prio-released q pool n e = ap (λ (x : Policy). released_in x pool n) e
+
+pub prio-left : (q : Policy) (pool : Pooled) (n : ℕ) → q ≡ Prio → without_first_of q pool n ≡ pool
+prio-left q pool n e = ap (λ (x : Policy). without_first_of x pool n) e
+
+-- ---- under another
+
+pub other-pool : (q : Policy) → q ≢ Prio → pool_policy q ≡ Ws
+other-pool Eager other = refl
+other-pool Prio other = absurd (other refl)
+other-pool Ws other = refl
+
+pub other-released : (q : Policy) (pool : Pooled) (n : ℕ) → q ≢ Prio → released_in q pool n ≡ queued_tasks pool n
+other-released Eager pool n other = refl
+other-released Prio pool n other = absurd (other refl)
+other-released Ws pool n other = refl
+
+pub other-left : (q : Policy) (pool : Pooled) (n : ℕ) → q ≢ Prio → without_first_of q pool n ≡ (record pool { queues = slice_set pool.queues n (drop 1 (queue pool.queues n)) })
+other-left Eager pool n other = refl
+other-left Prio pool n other = absurd (other refl)
+other-left Ws pool n other = refl
+
+pub other-of : (q : Policy) → (q ≡ Eager) ⊎ (q ≡ Ws) → q ≢ Prio
+other-of q (inl e) prio = eager-other (sym e ∙ prio)
+other-of q (inr e) prio = ws-other (sym e ∙ prio)
