@@ -5,16 +5,16 @@ use Rattle.std.specs.Prelude.{IfSome, slice_set}
 use Rattle.std.proofs.lemmas.Bool.{cases_eq, false_from_ne_true, false≢true}
 use Rattle.std.proofs.lemmas.List.{get_or-set_other, get_or-set_same}
 use Rattle.sj_core.specs.declared.progress.Progress.TheVariants.{Running}
-use Rattle.sj_base.specs.Array.{Array, area}
+use Rattle.sj_base.specs.Array.{area}
 use Rattle.sj_base.specs.declared.trace.Event.{Event}
 use Rattle.sj_base.specs.declared.trace.Event.TheVariants.{Drop, End, Moved}
 use Rattle.sj_core.proofs.Placing.{cells_differ, valid-row, valid-within}
 use Rattle.sj_core.proofs.Reading.{cells-untouched, no_row}
 use Rattle.sj_core.proofs.States.{state_of-more}
-use Rattle.sj_core.proofs.Words.{AtNode, Cell, CellState, DiskNo, Invalid, Machine, Node, OnDisk, Place, Program, Replica, State, Task, Valid, Worker, cell_state, dims_of, has_cell, is_valid, node_of, progress, replica, replica_in, with_replica, with_replica_in, writes}
+use Rattle.sj_core.proofs.Words.{AtNode, Cell, CellState, DiskNo, Invalid, Machine, Node, OnDisk, Place, Program, Replica, State, Task, Valid, Worker, cell_state, dims_of, has_cell, is_valid, progress, replica, replica_in, with_replica, with_replica_in, writes}
 use Rattle.sj_core.specs.Coherent.{Coherent}
 use Rattle.sj_core.specs.Operands.{written_cells}
-use Rattle.sj_core.specs.Step.{after, after_end, result_at, rewritten_at}
+use Rattle.sj_core.specs.Step.{after, after_end, written_once_more}
 use Rattle.sj_disk.specs.Block.{header}
 use Rattle.sj_disk.specs.declared.header.Header.{Header}
 use Rattle.sj_machine.specs.Cause.{HasCause}
@@ -39,14 +39,14 @@ writes-same row (AtNode n) r = refl
 writes-same row (OnDisk d) r = refl
 
 -- a valid one, or one at a node
-valid-still : (row : CellState) (q : Place) (a : Array) (d : DiskNo) → is_valid (replica_in row (OnDisk d)) ≡ true → is_valid (replica_in (with_replica_in row q (Valid a)) (OnDisk d)) ≡ true
-valid-still row (AtNode n) a d valid = valid
-valid-still row (OnDisk k) a d valid = elim (cases_eq d.0 k.0) [
+valid-still : (row : CellState) (q : Place) (d : DiskNo) → is_valid (replica_in row (OnDisk d)) ≡ true → is_valid (replica_in (with_replica_in row q Valid) (OnDisk d)) ≡ true
+valid-still row (AtNode n) d valid = valid
+valid-still row (OnDisk k) d valid = elim (cases_eq d.0 k.0) [
   | inl e ↦ (
       let within = valid-within row.disks k.0 (ap (λ (i : ℕ). is_valid (get_or row.disks i Invalid)) (sym e) ∙ valid) in
-      ap (λ (i : ℕ). is_valid (get_or (slice_set row.disks k.0 (Valid a)) i Invalid)) e ∙ ap is_valid (get_or-set_same row.disks k.0 (Valid a) Invalid within)
+      ap (λ (i : ℕ). is_valid (get_or (slice_set row.disks k.0 Valid) i Invalid)) e ∙ ap is_valid (get_or-set_same row.disks k.0 Valid Invalid within)
       )
-  | inr far ↦ ap is_valid (get_or-set_other row.disks k.0 d.0 (Valid a) Invalid far) ∙ valid
+  | inr far ↦ ap is_valid (get_or-set_other row.disks k.0 d.0 Valid Invalid far) ∙ valid
 ]
 
 kept-beside : (s : State) (c : Cell) (q : Place) (r : Replica) → ((d : DiskNo) → is_valid (replica_in (cell_state s c) (OnDisk d)) ≡ true → is_valid (replica_in (with_replica_in (cell_state s c) q r) (OnDisk d)) ≡ true) → KeepsOnDisks s (with_replica s c q r)
@@ -75,7 +75,7 @@ module _ (p : Program) (m : Machine) (s : State) (coherent : Coherent p m s) (t 
       let untouched : has_cell (written_cells p t w) c ≡ false = false_from_ne_true (has_cell (written_cells p t w) c) (λ written.
       (let own = coherent.writers.owned t w c ends written in
       false≢true (sym (ap is_valid (own.only (OnDisk d) refl)) ∙ valid))) in
-      let same : cell_state (after_end p m s t w) c ≡ cell_state s c = cells-untouched s (has_cell (written_cells p t w)) (λ x row. rewritten_at (node_of m w) (result_at p s t w (node_of m w) x) row) c untouched in
+      let same : cell_state (after_end p m s t w) c ≡ cell_state s c = cells-untouched s (has_cell (written_cells p t w)) (λ x row. written_once_more row) c untouched in
       (ap (λ (row : CellState). is_valid (replica_in row (OnDisk d))) same ∙ valid, ap (λ (row : CellState). row.writes) same)
 
 -- ---- the cause of a fault that is kept
@@ -97,7 +97,7 @@ module _ {D : Type 0} (faults mismatches : D → ℕ) (held : D → Option (List
   dropped-cause c n = cause-more (Drop c n) (drop-kept (state b) c n)
 
   pub moved-cause : (c : Cell) (from to : Place) (fault : Option RunFault) → IfSome fault (HasCause faults mismatches held b) → IfSome fault (HasCause faults mismatches held (with_event b (Moved c from to)))
-  moved-cause c from to = cause-more (Moved c from to) (kept-beside (state b) c to (Valid _) (valid-still (cell_state (state b) c) to _))
+  moved-cause c from to = cause-more (Moved c from to) (kept-beside (state b) c to Valid (valid-still (cell_state (state b) c) to))
 
   pub ended-cause : Coherent b.program b.machine (state b) → (t : Task) (w : Worker) → CanHappen b (End t w) → (fault : Option RunFault) → IfSome fault (HasCause faults mismatches held b) → IfSome fault (HasCause faults mismatches held (with_event b (End t w)))
   ended-cause coherent t w can = cause-more (End t w) (end-kept b.program b.machine (state b) coherent t w can)

@@ -3,15 +3,15 @@ use Rattle.std.proofs.Common.{◌≡◌, ℕ, List, Option, None, Some, refl, su
 use Rattle.std.specs.Prelude.{Err, IfSome, Ok, OnOk, Result}
 use Rattle.sj_base.specs.declared.trace.Event.{Event}
 use Rattle.sj_base.specs.declared.trace.Event.TheVariants.{Moved}
-use Rattle.sj_core.proofs.States.{one-mover, state_of-more}
-use Rattle.sj_core.proofs.Words.{State, Worker, transfer}
+use Rattle.sj_core.proofs.States.{one-mover}
+use Rattle.sj_core.proofs.Words.{Worker, transfer}
 use Rattle.sj_core.specs.Laws.{IsSound}
-use Rattle.sj_core.specs.Step.{a_transfer, after}
+use Rattle.sj_core.specs.Step.{a_transfer}
 use Rattle.sj_core.specs.declared.progress.Transfer.{Transfer}
 use Rattle.sj_machine.specs.Sound.{IsSoundRun}
-use Rattle.sj_machine.specs.Sparing.{Spares, SparesMoved, SparesUsed}
+use Rattle.sj_machine.specs.Sparing.{Spares, SparesMoved}
 use Rattle.sj_machine.specs.Standing.{CanHappen, HasMoved, Standing, state, with_event}
-use Rattle.sj_machine.proofs.Sparing.{Step-spares}
+use Rattle.sj_machine.proofs.Sparing.{spares-event}
 
 module _ {D : Type 0} (size faults mismatches : D → ℕ) (held : D → Option (List ℕ)) (b : Standing D) (run : IsSoundRun size faults mismatches held b) where
   pub sound : IsSound b.program b.machine (state b)
@@ -19,8 +19,7 @@ module _ {D : Type 0} (size faults mismatches : D → ℕ) (held : D → Option 
 
   pub event-spares : (e : Event) → CanHappen b e → (b' : Standing D) → b' ≡ with_event b e → Spares b e b'
   event-spares e can b' is =
-      subst (λ (x : Standing D). Spares b e x) (sym is)
-      (subst (λ (z : State). SparesUsed b.program b.machine (state b) e z) (sym (state_of-more b.program b.machine b.trace e)) (Step-spares b.program b.machine (state b) sound e (after b.program b.machine (state b) e) can refl))
+      subst (λ (x : Standing D). Spares b e x) (sym is) (spares-event b sound e can)
 
   -- of the same run under another name
   pub told-spares : (e : Event) → CanHappen b e → (b' : Standing D) → b' ≡ with_event b e → (x : Standing D) → b ≡ x → Spares x e b'

@@ -11,9 +11,9 @@ use Rattle.sj_base.specs.Array.{Array}
 use Rattle.sj_core.specs.Machine.{WorkerState, is_running_on, progress, worker_state, writes, idle_row}
 use Rattle.sj_core.specs.Needs.{node_of}
 use Rattle.sj_core.specs.Operands.{cells_of}
-use Rattle.sj_core.specs.Step.{array_at}
+use Rattle.sj_core.specs.Arrays.{held_at}
 use Rattle.sj_core.specs.declared.progress.Progress.{Progress}
-use Rattle.sj_machine.specs.Standing.{state}
+use Rattle.sj_machine.specs.Standing.{run_arrays, state}
 use Rattle.sj_board.specs.Board.{BoardState, hand_of, released_of, transfer_of}
 use Rattle.sj_board.specs.Units.{unit_in_hand}
 use Rattle.sj_disk.specs.Units.{UnitState}
@@ -37,7 +37,7 @@ is_event_of n _ = false
 
 -- the arrays of the cells of a task that runs on the worker, at its node, in operand order
 abbrev pub arrays_for : {D : Type 0} → BoardState D → Worker → Task → List Array
-arrays_for b w t = if is_running_on w (progress (state b.run) t) then map (array_at b.run.program (state b.run) (AtNode (node_of b.run.machine w))) (cells_of b.run.program t w) else []
+arrays_for b w t = if is_running_on w (progress (state b.run) t) then map (held_at (run_arrays b.run) (AtNode (node_of b.run.machine w))) (cells_of b.run.program t w) else []
 
 -- what a worker has in hand, a disk's unit as it was taken out, and how far its task is, with the arrays of its operands while it
 -- runs; what it holds, its transfer with the array that this carries and the write count of its cell, as long as it has a task;
@@ -60,7 +60,7 @@ row_for b w = record {
   phase = option_map (progress (state b.run)) (hand_of b w).task;
   operands = option_map (arrays_for b w) (hand_of b w).task;
   holds = if is_some (hand_of b w).task then worker_state (state b.run) w else idle_row;
-  carries = option_map (λ x. array_at b.run.program (state b.run) x.from x.cell) (transfer_of b w);
+  carries = option_map (λ x. run_arrays b.run x.cell x.from) (transfer_of b w);
   writes = option_map (λ x. writes (state b.run) x.cell) (transfer_of b w);
   events = filter (is_event_of w.0) b.run.trace;
   released = released_of b w;

@@ -14,7 +14,7 @@ use Rattle.sj_core.proofs.Placing.{valid-row}
 use Rattle.sj_core.proofs.Readiness.{done_tasks-done, done_tasks-has}
 use Rattle.sj_core.proofs.Reading.{no_row, progress-inside}
 use Rattle.sj_core.proofs.Replicas.{leaving_by-is, same_worker-refl}
-use Rattle.sj_core.proofs.Words.{AtNode, Cell, CellState, Coming, DiskNo, Invalid, Leaving, Machine, Node, OnDisk, Place, Program, Replica, State, Task, Valid, Worker, dims_of, footprint, has_room, is_coming_by, is_done, is_leaving, is_task_of, node_of, node_size, progress, replica, zeros}
+use Rattle.sj_core.proofs.Words.{AtNode, Cell, CellState, Coming, DiskNo, Invalid, Leaving, Machine, Node, OnDisk, Place, Program, Replica, State, Task, Valid, Worker, footprint, has_room, is_coming_by, is_done, is_leaving, is_task_of, node_of, node_size, progress, replica}
 use Rattle.sj_core.specs.Coherent.{Coherent, is_begun}
 use Rattle.sj_core.specs.declared.progress.Progress.TheVariants.{Claimed, Running, Waiting}
 use Rattle.sj_core.specs.Machine.{replica_in}
@@ -38,14 +38,14 @@ use Rattle.sj_check.specs.Watching.{HasTasks, claimant_in, task_in}
 pub mark-coming_by : (w : Worker) (r : Replica) → ComingMark w ≡ mark_of r → r ≡ Coming w
 mark-coming_by w Invalid e = absurd (cc)
 mark-coming_by w (Coming v) e = let same : w ≡ v = cc in ap Coming (sym same)
-mark-coming_by w (Valid a) e = absurd (cc)
-mark-coming_by w (Leaving v a) e = absurd (cc)
+mark-coming_by w Valid e = absurd (cc)
+mark-coming_by w (Leaving v) e = absurd (cc)
 
 pub claimant-is : (r : Replica) → claimant_in (mark_of r) ≡ claimant_of r
 claimant-is Invalid = refl
 claimant-is (Coming v) = refl
-claimant-is (Valid a) = refl
-claimant-is (Leaving v a) = refl
+claimant-is Valid = refl
+claimant-is (Leaving v) = refl
 
 -- what the tests of code tell
 pub fits-tells : (a b : ℕ) → leb a b ≡ true → a ≤ b
@@ -104,8 +104,7 @@ module _ (p : Program) (m : Machine) (s : State) (coherent : Coherent p m s) whe
   -- nothing leaves a disk
   pub out-of_disk : (c : Cell) (k d : DiskNo) → ¬ May p m s (Move c (OnDisk k) (OnDisk d))
   out-of_disk c k d step =
-      let is = leaving_by-is (mover_of s c (OnDisk k) (OnDisk d)) (replica s c (OnDisk k)) step.leaving in
-      (coherent.state.blocks.resting c k (mover_of s c (OnDisk k) (OnDisk d)) is.0).1 is.1
+      (coherent.state.blocks.resting c k (mover_of s c (OnDisk k) (OnDisk d))).1 (leaving_by-is (mover_of s c (OnDisk k) (OnDisk d)) (replica s c (OnDisk k)) step.leaving)
 
   -- and so a move from a disk to a disk has worker 0
   pub disk-mover : (c : Cell) (k d : DiskNo) → (let w : Worker = record { 0 = 0 } in w) ≡ mover_of s c (OnDisk k) (OnDisk d)
@@ -113,9 +112,9 @@ module _ (p : Program) (m : Machine) (s : State) (coherent : Coherent p m s) whe
     where
       by_replica : (r : Replica) → replica s c (OnDisk k) ≡ r → (let w : Worker = record { 0 = 0 } in w) ≡ claimant_of r
       by_replica Invalid e = refl
-      by_replica (Coming v) e = absurd ((coherent.state.blocks.resting c k v (zeros (dims_of p c))).0 e)
-      by_replica (Valid a) e = refl
-      by_replica (Leaving v a) e = absurd ((coherent.state.blocks.resting c k v a).1 e)
+      by_replica (Coming v) e = absurd ((coherent.state.blocks.resting c k v).0 e)
+      by_replica Valid e = refl
+      by_replica (Leaving v) e = absurd ((coherent.state.blocks.resting c k v).1 e)
 
   -- ---- a claim
 

@@ -14,6 +14,7 @@ use Rattle.sj_core.specs.Legal.{IsComplete, IsLegal, state_of}
 use Rattle.sj_core.specs.Step.{May}
 use Rattle.sj_machine.specs.Sound.{IsRunnableOn}
 use Rattle.sj_check.specs.Refusal.{IsFirstBad, IsUnfinished}
+use Rattle.sj_core.specs.Arrays.{arrays_of}
 
 take-one : (trace : List Event) (i : ℕ) (e : Event) → slice_get trace i ≡ Some e → take (suc i) trace ≡ take i trace ++ e ∷ []
 take-one [] i e got = absurd (let no : None ≡ Some e = got in cc)
@@ -33,15 +34,15 @@ fronts-legal p m trace legal n = legal-front p m (take n trace) (drop n trace) (
 module _ (p : Program) (m : Machine) (run : IsRunnableOn p m) (trace : List Event) (legal : IsLegal p m trace) where
   -- and leaves a coherent state
   pub fronts-coherent : (n : ℕ) → Coherent p m (state_of p m (take n trace))
-  fronts-coherent n = legal-coherent p m run.proper run.machine run.has run.lawful (take n trace) (fronts-legal p m trace legal n)
+  fronts-coherent n = legal-coherent p m run.proper run.machine (take n trace) (fronts-legal p m trace legal n)
 
   -- and a complete one what all tasks leave
-  pub whole-final : IsComplete (state_of p m trace) → HoldsFinal p (state_of p m trace)
+  pub whole-final : IsComplete (state_of p m trace) → HoldsFinal p (state_of p m trace) (arrays_of p m trace)
   whole-final complete = finished-final p m run.proper run.machine run.has run.lawful trace (record { legal = legal; complete = complete })
 
   -- and its length is within the bound of its program
   pub whole-within_bound : HasAtMostThreePerTaskAndFivePerOperand p trace
-  whole-within_bound = legal-within_bound p m run.proper run.machine run.has run.lawful trace legal
+  whole-within_bound = legal-within_bound p m run.proper run.machine trace legal
 
 -- ---- what a check answers
 

@@ -1,6 +1,11 @@
 //! Whether a trace is one that runs a program to its end.
 
+<<<<<<< HEAD
 ghost use Rattle.std.specs.Prelude.{ℕ, ◌≡◌, [], IfErr, IsOk, take};
+=======
+ghost use Rattle.std.specs.Prelude.{ℕ, IfErr, IsOk, take};
+ghost use Rattle.sj_core.specs.Arrays.{arrays_of};
+>>>>>>> 3708c698 (Not proved yet above the core: arrays stand beside the state, and neither a legal trace nor coherence names a codelet)
 ghost use Rattle.sj_core.specs.Bound.{HasAtMostThreePerTaskAndFivePerOperand};
 ghost use Rattle.sj_core.specs.Coherent.{Coherent};
 ghost use Rattle.sj_core.specs.Laws.{HoldsFinal};
@@ -56,7 +61,8 @@ pub fn check(
     ensures each_state_is_coherent { IsOk result → (n : ℕ) →
         Coherent program.value machine (state_of program.value machine (take n trace.now.events)) }
     ensures holds_what_all_tasks_leave { IsOk result →
-        HoldsFinal program.value (state_of program.value machine trace.now.events) }
+        HoldsFinal program.value (state_of program.value machine trace.now.events)
+            (arrays_of program.value machine trace.now.events) }
     ensures has_at_most_three_events_a_task_and_five_an_operand { IsOk result →
         HasAtMostThreePerTaskAndFivePerOperand program.value trace.now.events }
 {

@@ -2,7 +2,7 @@
 use Rattle.std.proofs.Common.{Bool, List, [], ap, arith, cond, false, get_or, length, map, refl, subst, suc, sym, true, fold}
 use Rattle.std.proofs.Common.{zero, ℕ, ◌*◌, ◌+◌, ◌<◌, ◌||◌, ◌∙◌, ◌∷◌, ◌≡◌, ◌≤◌, None, Option, Some, set}
 use Rattle.std.proofs.Common.{slice_set, count_by, nat_eq, nat_le, nat_lt, sum_by, ◌&&◌, if◌then◌else◌, is_some}
-use Rattle.sj_core.proofs.Words.{Array, AtNode, Cell, CellState, Claimed, Coming, DiskNo, Done, Event, Invalid, Kernel}
+use Rattle.sj_core.proofs.Words.{AtNode, Cell, CellState, Claimed, Coming, DiskNo, Done, Event, Invalid}
 use Rattle.sj_core.proofs.Words.{Leaving, Lowered, Machine, Node, OnDisk, Place, Program, Progress, Replica, Running}
 use Rattle.sj_core.proofs.Words.{State, Task, Transfer, Valid, Waiting, Worker, WorkerState, cell_state, cells_of}
 use Rattle.sj_core.proofs.Words.{data_operands, has_cell, is_entry, is_leaving, is_leaving_by, is_valid, no_task}
@@ -19,10 +19,10 @@ use Rattle.std.proofs.lemmas.List.Folds.{list_any_at, Any-from_list_any, sum_by-
 use Rattle.sj_base.specs.Ids.{cell}
 use Rattle.sj_base.proofs.Bools.{tally, tally-le}
 use Rattle.sj_base.proofs.Lists.{sum_by-map, counted_some}
-use Rattle.sj_core.specs.Step.{claimed_replica, leave, owned_at, rewritten_at, CanClaim, CanDrop, CanMoveIn, CanMoveOut, CanRun}
-use Rattle.sj_core.specs.Step.{May, a_transfer, after, after_claim, after_end, after_run, array_at, initial, missing, result_at}
+use Rattle.sj_core.specs.Step.{claimed_replica, leave, owned_at, CanClaim, CanDrop, CanMoveIn, CanMoveOut, CanRun, written_once_more, mover_of}
+use Rattle.sj_core.specs.Step.{May, a_transfer, after, after_claim, after_end, after_run, missing}
 use Rattle.sj_core.specs.{Table.renewed, Coherent.IsTransferTo, Coherent.is_begun, Coherent.Coherent, Laws.IsSound}
-use Rattle.sj_core.specs.{Laws.IsLawful, Legal.CanFollow, Legal.IsLegal, Legal.state_of, Proper.IsMachineFor, Proper.Proper}
+use Rattle.sj_core.specs.{Legal.CanFollow, Legal.IsLegal, Legal.state_of, Proper.IsMachineFor, Proper.Proper}
 use Rattle.sj_core.specs.{Bound.HasAtMostThreePerTaskAndFivePerOperand, Bound.operands}
 use Rattle.sj_core.proofs.Sums.{count-numbered, sum-one_more, sum-within, sum-nothing}
 use Rattle.sj_core.proofs.Advancing.{Advances, Ends-advances, Runs-advances, claimed_by-is, same_task}
@@ -33,6 +33,7 @@ use Rattle.sj_core.proofs.{Claiming.node-inside, Placing.stays-on_disk, Placing.
 use Rattle.sj_core.proofs.{TaskCells.written-among_cells, Moving.Ended_moves-keep_coherence, Opening.opening-coherent}
 use Rattle.sj_core.proofs.Replaying.{Step-keeps_coherence, legal-coherent, sound}
 use Rattle.sj_core.proofs.{Eviction.evicted-after, Eviction.evicted_by, Claimed.claimed-inside, Finding.running-inside}
+use Rattle.sj_core.proofs.Words.{Claim, Drop, End, Move, Moved, Run}
 
 -- ---- sums that rise at one element, sums over a table whose rows were renewed, and sums over numbered elements
 
@@ -91,8 +92,8 @@ rows-within n (c ∷ cs) =
 abbrev pub weight : Bool → Replica → ℕ
 weight on_disk Invalid = 0
 weight on_disk (Coming w) = 5
-weight on_disk (Valid a) = 3
-weight on_disk (Leaving w a) = cond on_disk 1 3
+weight on_disk Valid = 3
+weight on_disk (Leaving w) = cond on_disk 1 3
 
 -- a disk has the cell
 abbrev pub is_on_disk : CellState → Bool
@@ -141,22 +142,18 @@ invalid-costs b [] = refl
 invalid-costs b (r ∷ rs) = let first = sum_by-cons (weight b) Invalid (map (λ q. Invalid) rs) in let rest = invalid-costs b rs in omega arith
 
 -- a cell with one valid replica
-pub owned-costs : (row : CellState) (n : Node) (a : Array) → n.0 < length row.nodes → cost_of (owned_at n a row) ≤ 3
-owned-costs row n a inside = alone (is_on_disk (owned_at n a row))
+pub owned-costs : (row : CellState) (n : Node) → n.0 < length row.nodes → cost_of (owned_at n row) ≤ 3
+owned-costs row n inside = alone (is_on_disk (owned_at n row))
   where
-    alone : (b : Bool) → sum_by (weight b) (slice_set (map (λ r. Invalid) row.nodes) n.0 (Valid a)) ≤ 3
+    alone : (b : Bool) → sum_by (weight b) (slice_set (map (λ r. Invalid) row.nodes) n.0 Valid) ≤ 3
     alone b =
-        let all = sum_by-set (weight b) (map (λ r. Invalid) row.nodes) n.0 (Valid a) Invalid (omega (arith, inside, length-map row.nodes (λ (r : Replica). Invalid))) in
+        let all = sum_by-set (weight b) (map (λ r. Invalid) row.nodes) n.0 Valid Invalid (omega (arith, inside, length-map row.nodes (λ (r : Replica). Invalid))) in
         omega (arith, invalid-costs b row.nodes)
 
--- a valid replica gets another array
-pub rewritten-costs : (row : CellState) (n : Node) (a old : Array) → n.0 < length row.nodes → replica_in row (AtNode n) ≡ Valid old → cost_of (rewritten_at n a row) ≤ cost_of row
-rewritten-costs row n a old inside valid = search (arith, sum_by-set, weight, is_on_disk)
-
 -- a disk gets the cell, which leaves a node
-pub written-costs : (row : CellState) (d : DiskNo) (a : Array) (n : Node) → d.0 < length row.disks → is_on_disk row ≡ false → n.0 < length row.nodes → is_leaving (replica_in row (AtNode n)) ≡ true → cost_of (with_replica_in row (OnDisk d) (Valid a)) + 2 ≤ cost_of row
-written-costs row d a n within none inside leaving =
-    let there : list_any is_valid (slice_set row.disks d.0 (Valid a)) ≡ true = list_any_at is_valid (slice_set row.disks d.0 (Valid a)) d.0 Invalid (omega (arith, within, length-set row.disks d.0 (Valid a))) (ap is_valid (get_or-set_same row.disks d.0 (Valid a) Invalid within)) in
+pub written-costs : (row : CellState) (d : DiskNo) (n : Node) → d.0 < length row.disks → is_on_disk row ≡ false → n.0 < length row.nodes → is_leaving (replica_in row (AtNode n)) ≡ true → cost_of (with_replica_in row (OnDisk d) Valid) + 2 ≤ cost_of row
+written-costs row d n within none inside leaving =
+    let there : list_any is_valid (slice_set row.disks d.0 Valid) ≡ true = list_any_at is_valid (slice_set row.disks d.0 Valid) d.0 Invalid (omega (arith, within, length-set row.disks d.0 Valid)) (ap is_valid (get_or-set_same row.disks d.0 Valid Invalid within)) in
     let all = sum-rises (weight true) (weight false) is_leaving 2 lighter row.nodes n.0 Invalid inside leaving in
     omega (arith, ap (λ b. sum_by (weight b) row.nodes) there, ap (λ b. sum_by (weight b) row.nodes) none)
   where
@@ -247,16 +244,16 @@ module _ (p : Program) (m : Machine) (s : State) (h : IsSound p m s) where
     run-cost =
         let n = node_of m w in
         let writes : Cell → Bool = has_cell (written_cells p t w) in
-        let all = sum-renewed_within cost_of (λ k row. if writes (cell k) then owned_at n (initial p s t w n (cell k)) row else row) no_row s.cells (λ k inside. by_test (cell k) (writes (cell k)) refl) in
+        let all = sum-renewed_within cost_of (λ k row. if writes (cell k) then owned_at n row else row) no_row s.cells (λ k inside. by_test (cell k) (writes (cell k)) refl) in
         omega (arith, ap cost leaves)
       where
-        by_test : (c : Cell) (b : Bool) → has_cell (written_cells p t w) c ≡ b → cost_of (if b then owned_at (node_of m w) (initial p s t w (node_of m w) c) (cell_state s c) else cell_state s c) ≤ cost_of (cell_state s c)
+        by_test : (c : Cell) (b : Bool) → has_cell (written_cells p t w) c ≡ b → cost_of (if b then owned_at (node_of m w) (cell_state s c) else cell_state s c) ≤ cost_of (cell_state s c)
         by_test c false e = omega arith
         by_test c true e =
             let n = node_of m w in
             let entry = h.coherent.cells.claimed t w c run.claimed (written-among_cells p t w c e) in
             let within = (entry-inside s c n entry).1 in
-            omega (arith, entry-costs (cell_state s c) n within entry, owned-costs (cell_state s c) n (initial p s t w n c) within)
+            omega (arith, entry-costs (cell_state s c) n within entry, owned-costs (cell_state s c) n within)
 
     Runs-pays : Pays p s s'
     Runs-pays =
@@ -264,20 +261,16 @@ module _ (p : Program) (m : Machine) (s : State) (h : IsSound p m s) where
         omega (arith, run-cost, ap under_way leaves)
 
   module _ (t : Task) (w : Worker) (s' : State) (ended : progress s t ≡ Running w) (leaves : s' ≡ after_end p m s t w) where
-    -- a written cell has its new array in place of the old one
+    -- a write more costs nothing
     end-cost : cost s' ≤ cost s
     end-cost =
-        let n = node_of m w in
         let writes : Cell → Bool = has_cell (written_cells p t w) in
-        let all = sum-renewed_within cost_of (λ k row. if writes (cell k) then rewritten_at n (result_at p s t w n (cell k)) row else row) no_row s.cells (λ k inside. by_test (cell k) (writes (cell k)) refl) in
+        let all = sum-renewed_within cost_of (λ k row. if writes (cell k) then written_once_more row else row) no_row s.cells (λ k inside. by_test (get_or s.cells k no_row) (writes (cell k))) in
         omega (arith, ap cost leaves)
       where
-        by_test : (c : Cell) (b : Bool) → has_cell (written_cells p t w) c ≡ b → cost_of (if b then rewritten_at (node_of m w) (result_at p s t w (node_of m w) c) (cell_state s c) else cell_state s c) ≤ cost_of (cell_state s c)
-        by_test c false e = omega arith
-        by_test c true e =
-            let n = node_of m w in
-            let own = h.coherent.writers.owned t w c ended e in
-            rewritten-costs (cell_state s c) n (result_at p s t w n c) _ (valid-within (cell_state s c).nodes n.0 (ap is_valid own.valid)) own.valid
+        by_test : (row : CellState) (b : Bool) → cost_of (if b then written_once_more row else row) ≤ cost_of row
+        by_test row true = omega arith
+        by_test row false = omega arith
 
     Ends-pays : Pays p s s'
     Ends-pays =
@@ -311,10 +304,7 @@ module _ (p : Program) (m : Machine) (s : State) (h : IsSound p m s) where
       let all = rewrites c (with_replica_in (cell_state s c) (AtNode n) Invalid) (valid-row s c (AtNode n) valid) 1 (omega (arith, gone, weighed)) in
       omega (arith, ap cost leaves, ap under_way leaves, ap (paid p) leaves)
 
-  module _ (c : Cell) (from to : Place) (w : Worker) (s' : State) (moved : transfer s w ≡ Some (a_transfer c from to)) (leaves : s' ≡ with_transfer (with_replica s c to (Valid (array_at p s from c))) w None) where
-    abbrev brought : Array
-    brought = array_at p s from c
-
+  module _ (c : Cell) (from to : Place) (w : Worker) (s' : State) (moved : transfer s w ≡ Some (a_transfer c from to)) (leaves : s' ≡ with_transfer (with_replica s c to Valid) w None) where
     abbrev row : CellState
     row = cell_state s c
 
@@ -331,25 +321,25 @@ module _ (p : Program) (m : Machine) (s : State) (h : IsSound p m s) where
         false≢true (sym (ap is_valid there.1) ∙ ap (λ (e : DiskNo). is_valid (replica s c (OnDisk e))) (sym same) ∙ valid)))
 
     -- the cell's row costs two less
-    row-falls : (q : Place) → q ≡ to → IsTransferTo m s w c from q → (c.0 < length s.cells) × (cost_of (with_replica_in row q (Valid brought)) + 2 ≤ cost_of row)
+    row-falls : (q : Place) → q ≡ to → IsTransferTo m s w c from q → (c.0 < length s.cells) × (cost_of (with_replica_in row q Valid) + 2 ≤ cost_of row)
     row-falls (AtNode n) at there =
-        search (arith, coming_by-is, entry-inside, replaced, row, brought, weight, is_on_disk, AtNode)
+        search (arith, coming_by-is, entry-inside, replaced, row, weight, is_on_disk, AtNode)
     row-falls (OnDisk d) at there = by_source from refl there.0
       where
-        by_source : (q : Place) → q ≡ from → is_leaving_by w (replica s c q) ≡ true → (c.0 < length s.cells) × (cost_of (with_replica_in row (OnDisk d) (Valid brought)) + 2 ≤ cost_of row)
+        by_source : (q : Place) → q ≡ from → is_leaving_by w (replica s c q) ≡ true → (c.0 < length s.cells) × (cost_of (with_replica_in row (OnDisk d) Valid) + 2 ≤ cost_of row)
         by_source (OnDisk k) e leaving = absurd (stays-on_disk p m s h w c k leaving)
         by_source (AtNode n) e leaving =
             let valid = leaving_by-valid w (replica s c (AtNode n)) leaving in
             let inside = valid-row s c (AtNode n) valid in
             let aimed = h.coherent.state.blocks.aimed w (a_transfer c from to) d moved (sym at) in
             let within : d.0 < length row.disks = omega (arith, disk-within p m c d aimed, h.coherent.state.rows.disks c.0 no_row inside) in
-            (inside, written-costs row d brought n within (not_on_disk d at there) (valid-within row.nodes n.0 valid) (leaving_by-leaves w (replica s c (AtNode n)) leaving))
+            (inside, written-costs row d n within (not_on_disk d at there) (valid-within row.nodes n.0 valid) (leaving_by-leaves w (replica s c (AtNode n)) leaving))
 
     -- and so do all replicas
     pub moved-cost : cost s' + 2 ≤ cost s
     moved-cost =
         let falls = row-falls to refl (h.coherent.transfers.target w (a_transfer c from to) moved) in
-        omega (arith, rewrites c (with_replica_in row to (Valid brought)) falls.0 2 falls.1, ap cost leaves)
+        omega (arith, rewrites c (with_replica_in row to Valid) falls.0 2 falls.1, ap cost leaves)
 
     -- and one transfer less is under way
     pub moved-transfers : under_way s ≡ 1 + under_way s'
@@ -360,9 +350,14 @@ module _ (p : Program) (m : Machine) (s : State) (h : IsSound p m s) where
 
   -- ---- a step
 
-  pub Step-pays : (e : Event) (s' : State) → May p m s e → s' ≡ after p m s e → Pays p s s'
-  Step-pays e s' may leaves =
-      search (arith, Claims-pays, Moves_in-pay, Moves_out-pay, Ended_moves-pay, Drops-pays, Runs-pays, Ends-pays, evicted-after)
+  pub Step-pays : (e : Event) → May p m s e → Pays p s (after p m s e)
+  Step-pays (Claim t w) may = Claims-pays t w (after p m s (Claim t w)) may (evicted-after p m s t w)
+  Step-pays (Move c from (AtNode n)) may = Moves_in-pay c from n (mover_of s c from (AtNode n)) (after p m s (Move c from (AtNode n))) may refl
+  Step-pays (Move c from (OnDisk d)) may = Moves_out-pay c from d (mover_of s c from (OnDisk d)) (after p m s (Move c from (OnDisk d))) may refl
+  Step-pays (Moved c from to) may = Ended_moves-pay c from to (mover_of s c from to) (after p m s (Moved c from to)) may refl
+  Step-pays (Drop c n) may = Drops-pays c n (after p m s (Drop c n)) may refl
+  Step-pays (Run t w) may = Runs-pays t w (after p m s (Run t w)) may refl
+  Step-pays (End t w) may = Ends-pays t w (after p m s (End t w)) may refl
 
 -- ---- what all tasks pay
 
@@ -406,24 +401,23 @@ module _ (p : Program) (m : Machine) (proper : Proper p) (machine : IsMachineFor
       let one = some-transfer s (omega (arith, e)) in
       let w = one.0 in
       let x = one.1 in
-      let next : State = with_transfer (with_replica s x.cell x.to (Valid (array_at p s x.from x.cell))) w None in
+      let next : State = with_transfer (with_replica s x.cell x.to Valid) w None in
       let fewer = moved-transfers p m s (sound p m proper machine s c) x.cell x.from x.to w next one.2 refl in
       let all = transfers-within k next (Ended_moves-keep_coherence p m s (sound p m proper machine s c) x.cell x.from x.to w one.2) (omega (arith, e, fewer)) in
       omega (arith, moved-cost p m s (sound p m proper machine s c) x.cell x.from x.to w next one.2 refl)
 
   -- ---- whole traces
 
-  module _ (has : Kernel → Bool) (lawful : IsLawful has p) where
-    -- each event of a legal trace is paid for
-    trace-pays : (trace : List Event) (s : State) → Coherent p m s → CanFollow p m s trace → length trace + cost (fold (after p m) s trace) + under_way s + paid p s ≤ cost s + under_way (fold (after p m) s trace) + paid p (fold (after p m) s trace)
-    trace-pays [] s coherent follows = omega arith
-    trace-pays (e ∷ trace) s coherent (may, rest) =
-        let all = trace-pays trace (after p m s e) (Step-keeps_coherence p m proper machine has lawful s e coherent may) rest in
-        omega (arith, Step-pays p m s (sound p m proper machine s coherent) e (after p m s e) may refl)
+  -- each event of a legal trace is paid for
+  trace-pays : (trace : List Event) (s : State) → Coherent p m s → CanFollow p m s trace → length trace + cost (fold (after p m) s trace) + under_way s + paid p s ≤ cost s + under_way (fold (after p m) s trace) + paid p (fold (after p m) s trace)
+  trace-pays [] s coherent follows = omega arith
+  trace-pays (e ∷ trace) s coherent (may, rest) =
+      let all = trace-pays trace (after p m s e) (Step-keeps_coherence p m proper machine s e coherent may) rest in
+      omega (arith, Step-pays p m s (sound p m proper machine s coherent) e may)
 
-    -- what they may still cost at the end is no less than the transfers under way
-    pub legal-within_bound : (trace : List Event) → IsLegal p m trace → HasAtMostThreePerTaskAndFivePerOperand p trace
-    legal-within_bound trace legal =
-        let s = state_of p m trace in
-        let all = transfers-within (under_way s) s (legal-coherent p m proper machine has lawful trace legal) refl in
-        omega (arith, trace-pays trace (opening p m) (opening-coherent p m) legal, opening-costs p m, paid-at_most p s)
+  -- what they may still cost at the end is no less than the transfers under way
+  pub legal-within_bound : (trace : List Event) → IsLegal p m trace → HasAtMostThreePerTaskAndFivePerOperand p trace
+  legal-within_bound trace legal =
+      let s = state_of p m trace in
+      let all = transfers-within (under_way s) s (legal-coherent p m proper machine trace legal) refl in
+      omega (arith, trace-pays trace (opening p m) (opening-coherent p m) legal, opening-costs p m, paid-at_most p s)

@@ -1,9 +1,9 @@
 -- A step in which a claimed or running task goes on, or a replica moves: nothing more leaves or comes. What it owes, and that it
 -- keeps what tasks, pins, bytes and workers ask of a coherent state.
-use Rattle.std.proofs.Common.{Bool, List, None, Option, Some, length, [], arith, false, inl, inr, refl, sym, true, ◌∙◌, ◌≡◌, ◌≢◌, ◌≤◌, ◌⊎◌, ap, subst, get_or, not, ℕ, ◌<◌, if◌then◌else◌, All, nat_eq}
+use Rattle.std.proofs.Common.{Bool, List, None, Option, Some, length, [], arith, false, inl, inr, refl, sym, true, ◌∙◌, ◌≡◌, ◌≢◌, ◌≤◌, ◌⊎◌, ap, subst, get_or, not, ℕ, ◌<◌, All, nat_eq}
 use Rattle.std.proofs.lemmas.Bool.{false_from_ne_true, false≢true}
-use Rattle.sj_core.proofs.Words.{Array, AtNode, Cell, CellState, Claimed, same_cell, Machine, Node, OnDisk, Place, Program, Progress, Running, State, Task, Transfer, Valid, Worker, cells_of, dims_of, fresh_cells, has_cell, is_claimed_by, is_coming_by, is_entry, is_leaving, is_leaving_by, is_task_of, is_valid, moves, node_of, order, pins, progress, replica, scratch, transfer, victims_of, written_cells, zeros, DiskNo, Invalid, worker_of}
-use Rattle.sj_core.specs.Coherent.{Coherent, CopiesAgree, HasRows, IsOwnedBy, IsStateOf, IsTransferTo, NodesSuffice, OrderIsKept, PinsHold, TasksHaveCells, TransfersAreSound, WorkersAreSound, WritersOwn, WritesAreCounted, content, written_content, HasBlocks, HasWorkers}
+use Rattle.sj_core.proofs.Words.{AtNode, Cell, CellState, Claimed, same_cell, Machine, Node, OnDisk, Place, Program, Progress, Running, State, Task, Transfer, Worker, cells_of, has_cell, is_claimed_by, is_coming_by, is_entry, is_leaving, is_leaving_by, is_task_of, is_valid, moves, node_of, order, pins, progress, replica, scratch, transfer, victims_of, written_cells, DiskNo, Invalid, worker_of}
+use Rattle.sj_core.specs.Coherent.{Coherent, HasRows, IsOwnedBy, IsStateOf, IsTransferTo, NodesSuffice, OrderIsKept, PinsHold, TasksHaveCells, TransfersAreSound, WorkersAreSound, WritersOwn, WritesAreCounted, HasBlocks, HasWorkers, WrittenIsKept}
 use Rattle.sj_core.specs.Laws.{IsSound}
 use Rattle.sj_core.specs.Step.{leave, same_place}
 use Rattle.sj_core.proofs.Advancing.{Advances, claimed_by-is, claimed_by-task_of, same_task, task_of-worker}
@@ -26,7 +26,7 @@ HasWorkers-kept p s s' t old new a staffed before = search (arith, same_task)
 -- where each replica on a disk is as it was or invalid, and transfers are as they were, blocks are where they ought to be
 pub HasBlocks-kept : (p : Program) (m : Machine) (s s' : State) → ((c : Cell) (d : DiskNo) → (replica s' c (OnDisk d) ≡ Invalid) ⊎ (replica s' c (OnDisk d) ≡ replica s c (OnDisk d))) → ((v : Worker) → transfer s' v ≡ transfer s v) → HasBlocks p m s → HasBlocks p m s'
 HasBlocks-kept p m s s' disks moves before = record {
-  resting = λ c d v a. (λ e. (grind (arith, disks c d, (before.resting c d v a).0)), λ e. (grind (arith, disks c d, (before.resting c d v a).1)));
+  resting = λ c d v. (λ e. (grind (arith, disks c d, (before.resting c d v).0)), λ e. (grind (arith, disks c d, (before.resting c d v).1)));
   home = λ c d valid. (search (arith, false≢true));
   aimed = λ v x d under_way e. before.aimed v x d (sym (moves v) ∙ under_way) e;
 }
@@ -162,23 +162,23 @@ module _ (p : Program) (m : Machine) (s : State) (h : IsSound p m s) (s' : State
         };
       }
 
-  -- a writer's cells are its own, where another's are left alone, with their contents, and t's are its own
+  -- a writer's cells are its own, where another's are left alone, and t's are its own
   pub Changes-writers :
-      ((u : Task) (v : Worker) (c : Cell) → u ≢ t → progress s u ≡ Running v → has_cell (written_cells p u v) c ≡ true → ((q : Place) → replica s' c q ≡ replica s c q) × ((x : Worker) → moves s' x c ≡ false) × (content p s' c ≡ content p s c)) →
-      ((c : Cell) → new ≡ Running w → has_cell (written_cells p t w) c ≡ true → IsOwnedBy m s' c w (written_content p s' t w c)) → WritersOwn p m s'
+      ((u : Task) (v : Worker) (c : Cell) → u ≢ t → progress s u ≡ Running v → has_cell (written_cells p u v) c ≡ true → ((q : Place) → replica s' c q ≡ replica s c q) × ((x : Worker) → moves s' x c ≡ false)) →
+      ((c : Cell) → new ≡ Running w → has_cell (written_cells p t w) c ≡ true → IsOwnedBy m s' c w) → WritersOwn p m s'
   Changes-writers alone own = record {
     owned = λ u v c runs written. elim (same_task u t) [
       | inl e ↦
           let now : new ≡ Running v = sym (ap (λ (k : Task). progress s' k) e ∙ change.advance.is) ∙ runs in
           let is : v ≡ w = change.still_mine v (ap (is_task_of v) now ∙ same_worker-refl v) in
-          subst (λ (k : Task). IsOwnedBy m s' c v (written_content p s' k v c)) (sym e) (subst (λ (x : Worker). IsOwnedBy m s' c x (written_content p s' t x c)) (sym is)
-          (own c (now ∙ ap (λ (x : Worker). Running x) is) (ap (λ (x : Worker). has_cell (written_cells p t x) c) (sym is) ∙ ap (λ (k : Task). has_cell (written_cells p k v) c) (sym e) ∙ written)))
+          subst (λ (x : Worker). IsOwnedBy m s' c x) (sym is)
+          (own c (now ∙ ap (λ (x : Worker). Running x) is) (ap (λ (x : Worker). has_cell (written_cells p t x) c) (sym is) ∙ ap (λ (k : Task). has_cell (written_cells p k v) c) (sym e) ∙ written))
       | inr d ↦
           let was : progress s u ≡ Running v = sym (change.advance.others u d) ∙ runs in
           let before = h.coherent.writers.owned u v c was written in
           let left = alone u v c d was written in
           record {
-            valid = left.0 (AtNode (node_of m v)) ∙ before.valid ∙ ap (λ (a : Array). Valid (if has_cell (fresh_cells p u v) c then zeros (dims_of p c) else a)) (sym left.2);
+            valid = left.0 (AtNode (node_of m v)) ∙ before.valid;
             only = λ q elsewhere. left.0 q ∙ before.only q elsewhere;
             pinned = grind (arith, change.rows v, others-task u v d (ap (is_task_of v) was ∙ same_worker-refl v), before.pinned);
             unmoved = left.1;
@@ -186,7 +186,7 @@ module _ (p : Program) (m : Machine) (s : State) (h : IsSound p m s) (s' : State
     ];
   }
 
-  pub Changes-coherent : WritersOwn p m s' → CopiesAgree p s' → Coherent p m s'
+  pub Changes-coherent : WritersOwn p m s' → WrittenIsKept p s' → Coherent p m s'
   Changes-coherent writers copies = search (arith, Changes-cells, Changes-pins, Changes-bytes, Changes-workers)
 
 -- a step that begins no transfer keeps them sound, where what moves stays valid where it is read, awaited or evicted, and no

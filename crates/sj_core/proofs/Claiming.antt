@@ -1,13 +1,13 @@
 -- What a claim changes, and that it leaves a coherent state: a victim leaves, a missing cell comes, and the rest stays as it is.
-use Rattle.std.proofs.Common.{Bool, List, Some, [], ap, arith, cond, false, filter, fold, if◌then◌else◌, inl, inr, is_some, length, nat_eq, not, refl, subst, sum_by, sym, true, ℕ, ◌&&◌, ◌++◌, ◌+◌, ◌<◌, ◌||◌, ◌∙◌, ◌≡◌, ◌≢◌, ◌≤◌, ◌⊎◌}
+use Rattle.std.proofs.Common.{Bool, List, Some, [], ap, arith, cond, false, filter, fold, inl, inr, length, nat_eq, not, refl, subst, sum_by, sym, true, ℕ, ◌&&◌, ◌++◌, ◌+◌, ◌<◌, ◌||◌, ◌∙◌, ◌≡◌, ◌≢◌, ◌≤◌, ◌⊎◌}
 use Rattle.std.proofs.lemmas.Bool.{and_from, and_parts, cases_Bool, cases_lt, false_from_ne_true, false≢true, leb-true, not-true}
 use Rattle.std.proofs.lemmas.Bool.Decides.{Decides-eqb}
 use Rattle.std.proofs.lemmas.List.{get_or-set_other, get_or-set_same, get_or_past, length-set}
-use Rattle.std.proofs.lemmas.List.Elements.{All-contains}
+
 use Rattle.sj_base.proofs.Lists.{list_any-filter}
 use Rattle.sj_base.proofs.SameIds.{workers_differ}
-use Rattle.sj_core.proofs.Words.{Array, AtNode, Cell, CellState, Claimed, Coming, DiskNo, Invalid, Leaving, Machine, Node, OnDisk, Place, Program, Replica, Running, State, Task, Transfer, Valid, Waiting, Worker, WorkerState, array_of, cell_state, cells_of, cells_of_program, dims_of, distinct, free, fresh_cells, has_cell, is_claimed_by, is_coming_by, is_entry, is_leaving, is_leaving_by, is_pinned, is_task_of, is_valid, node_of, node_size, order, pins, progress, replica, replica_in, same_worker, scratch, scratch_bytes, task_of, tile_bytes, transfer, used, with_replica_in, worker_state, workers_at, workers_of, writes, written_cells, zeros}
-use Rattle.sj_core.specs.Coherent.{Coherent, CopiesAgree, HasEntries, HasRows, IsOwnedBy, IsStateOf, NodesSuffice, OrderIsKept, PinsHold, TasksHaveCells, TransfersAreSound, WorkersAreSound, WritersOwn, WritesAreCounted, content, is_being_written, used_while_leaving, written_content}
+use Rattle.sj_core.proofs.Words.{AtNode, Cell, CellState, Claimed, Coming, DiskNo, Invalid, Leaving, Machine, Node, OnDisk, Place, Program, Replica, Running, State, Task, Transfer, Valid, Waiting, Worker, WorkerState, cell_state, cells_of, cells_of_program, distinct, free, has_cell, is_claimed_by, is_coming_by, is_entry, is_leaving, is_leaving_by, is_pinned, is_task_of, is_valid, node_of, node_size, order, pins, progress, replica, replica_in, same_worker, scratch, scratch_bytes, task_of, tile_bytes, transfer, used, with_replica_in, worker_state, workers_at, workers_of, writes, written_cells, worked_on}
+use Rattle.sj_core.specs.Coherent.{Coherent, HasEntries, HasRows, IsOwnedBy, IsStateOf, NodesSuffice, OrderIsKept, PinsHold, TasksHaveCells, TransfersAreSound, WorkersAreSound, WritersOwn, WritesAreCounted, is_being_written, used_while_leaving, WrittenIsKept}
 use Rattle.sj_core.specs.Laws.{IsSound}
 use Rattle.sj_core.specs.Proper.{IsMachineFor}
 use Rattle.sj_core.specs.Step.{CanClaim, after_claim, claimed_replica, leave, missing, to_come, to_front, without}
@@ -18,15 +18,18 @@ use Rattle.sj_core.proofs.Eviction.{evicted-chosen, evicted_by, shortest_suffix-
 use Rattle.sj_core.proofs.Placing.{replica_in-cases}
 use Rattle.sj_core.proofs.Reading.{cells-renewed_or, entry-inside, idle_row, list_any-worker, no_row, replica_in-same, same_node, settled-at, worker-other, worker-same}
 use Rattle.sj_core.proofs.Replicas.{coming_by-is, entry-cases, invalid-is, leaving-by_some, leaving_by-leaves, leaving_by-no_entry, same_worker-is, same_worker-refl}
-use Rattle.sj_core.proofs.Sharing.{operand_for}
+use Rattle.sj_core.proofs.Sharing.{operand_for, manner_of}
 use Rattle.sj_core.proofs.Tables.{renewed-at}
 use Rattle.sj_core.proofs.Bytes.{beside-bytes, bytes_where, entry-cell, fewer-entries, fewer-leaving, leaving-bytes, once-bytes, order-bytes, others-le, worker-once_at}
 use Rattle.sj_core.proofs.Ending.{content-kept, counted-same, written-undone}
 use Rattle.sj_core.proofs.Dependencies.{Proper-dependencies}
 use Rattle.sj_core.proofs.Changing.{HasBlocks-kept, HasRows-kept, HasWorkers-kept, TransfersAreSound-kept, moves-kept}
-use Rattle.sj_core.proofs.Finding.{agrees-kept, not_written-after, not_written-before}
+use Rattle.sj_core.proofs.Finding.{not_written-after, not_written-before, HoldsContent-kept}
 use Rattle.sj_core.proofs.Separation.{Claims-keeps_order, separated}
 use Rattle.sj_core.proofs.Sums.{filter-sum-le, sum-balanced, sum-one_more, sum-within}
+use Rattle.sj_core.specs.Arrays.{Arrays, HoldsContent}
+use Rattle.sj_core.proofs.Updating.{operand-used}
+use Rattle.sj_base.specs.Mode.{is_scratch}
 
 -- ---- what a claim evicts and brings
 
@@ -102,7 +105,7 @@ pinned-at m s v n c inside here h =
 -- of the replica at a place after a claim: it stays, or is a victim's and leaves, or a missing cell's and comes
 pub data ClaimCase (m : Machine) (s s' : State) (w : Worker) (evicted brought : List Cell) (c : Cell) (q : Place) : Type 0 where
   Stays : replica s' c q ≡ replica s c q → ClaimCase m s s' w evicted brought c q
-  Leaves : q ≡ AtNode (node_of m w) → has_cell evicted c ≡ true → (a : Array) → replica s c q ≡ Valid a → replica s' c q ≡ Leaving w a → ClaimCase m s s' w evicted brought c q
+  Leaves : q ≡ AtNode (node_of m w) → has_cell evicted c ≡ true → replica s c q ≡ Valid → replica s' c q ≡ Leaving w → ClaimCase m s s' w evicted brought c q
   Comes : q ≡ AtNode (node_of m w) → has_cell brought c ≡ true → replica s c q ≡ Invalid → replica s' c q ≡ Coming w → ClaimCase m s s' w evicted brought c q
 
 module _ (p : Program) (m : Machine) (s : State) (h : IsSound p m s) (t : Task) (w : Worker) (s' : State) (claim : CanClaim p m s t w) (leaves : s' ≡ after_claim p m s t w (evicted_by p m s t w)) where
@@ -130,7 +133,11 @@ module _ (p : Program) (m : Machine) (s : State) (h : IsSound p m s) (t : Task) 
 
   -- the cells of the task are cells of the table
   pub task-cell : (c : Cell) → has_cell (cells_of p t w) c ≡ true → c.0 < length s.cells
-  task-cell c has = search (arith, operand_for, All-contains)
+  task-cell c has =
+      let found = operand_for (worked_on p w) (λ a. not (is_scratch a.mode)) (task_of p t).accesses c has in
+      let uses = operand-used p h.proper t claim.ready.task w claim.worker found.0 found.1 found.2 in
+      let named = (Proper-dependencies p h.proper).cells t.0 (worked_on p w found.0).0 (manner_of (task_of p t).codelet found.0.mode) uses in
+      omega (arith, ap (λ (d : Cell). d.0) found.3, h.coherent.state.rows.cells)
 
   pub node-inside : (c : Cell) → c.0 < length s.cells → (node_of m w).0 < length (cell_state s c).nodes
   node-inside c inside = let row = h.coherent.state.rows.nodes c.0 no_row inside in let some = h.machine.some_node in omega arith
@@ -145,7 +152,7 @@ module _ (p : Program) (m : Machine) (s : State) (h : IsSound p m s) (t : Task) 
   own-spared c has = false_from_ne_true (has_cell (evicted_by p m s t w) c) (λ evicted. false≢true (sym (evicted-free p m s t w s' claim leaves c evicted).1 ∙ has))
 
   -- a victim is valid
-  pub victim-valid : (c : Cell) → has_cell (evicted_by p m s t w) c ≡ true → (a : Array) × (replica s c (AtNode (node_of m w)) ≡ Valid a)
+  pub victim-valid : (c : Cell) → has_cell (evicted_by p m s t w) c ≡ true → replica s c (AtNode (node_of m w)) ≡ Valid
   victim-valid c evicted =
       elim (entry-cases (replica s c (AtNode (node_of m w))) (sym (h.coherent.state.entries.entries (node_of m w) c) ∙ (evicted-free p m s t w s' claim leaves c evicted).2)) [
         | inr valid ↦ valid
@@ -162,7 +169,7 @@ module _ (p : Program) (m : Machine) (s : State) (h : IsSound p m s) (t : Task) 
   claim-cases c q = elim (claim-at p m s t w s' claim leaves c q) [
     | inl same ↦ Stays same
     | inr (at, is) ↦ elim (cases_Bool (has_cell (evicted_by p m s t w) c)) [
-      | inl e ↦ let valid = victim-valid c e in Leaves at e valid.0 (grind (arith, at, valid.1)) (grind (arith, is, e, valid.1))
+      | inl e ↦ let valid = victim-valid c e in Leaves at e (grind (arith, at, valid)) (grind (arith, is, e, valid))
       | inr e ↦ elim (cases_Bool (has_cell (missing p s t w (node_of m w)) c)) [
         | inl f ↦ Comes at f (ap (replica s c) at ∙ missing-invalid c f) (grind (arith, is, e, f))
         | inr f ↦ Stays (grind (arith, at, is, e, f))
@@ -170,9 +177,9 @@ module _ (p : Program) (m : Machine) (s : State) (h : IsSound p m s) (t : Task) 
     ]
   ]
 
-  -- a claim changes no array
-  pub claim-array : (c : Cell) (q : Place) → array_of (replica s' c q) ≡ array_of (replica s c q)
-  claim-array c q = search (arith, claim-cases)
+  -- what is valid stays so, and nothing else is
+  pub claim-valid : (c : Cell) (q : Place) → is_valid (replica s' c q) ≡ is_valid (replica s c q)
+  claim-valid c q = search (arith, claim-cases)
 
   same_node_of : (k : Node) → AtNode k ≡ AtNode (node_of m w) → k ≡ node_of m w
   same_node_of k e = cc
@@ -224,11 +231,11 @@ module _ (p : Program) (m : Machine) (s : State) (h : IsSound p m s) (t : Task) 
   elsewhere c k d = claim-elsewhere p m s t w s' claim leaves c (AtNode k) (λ e. d (cc))
 
   -- a victim leaves
-  evicted-leaves : (c : Cell) → has_cell (evicted_by p m s t w) c ≡ true → (a : Array) × (replica s' c (AtNode (node_of m w)) ≡ Leaving w a)
+  evicted-leaves : (c : Cell) → has_cell (evicted_by p m s t w) c ≡ true → replica s' c (AtNode (node_of m w)) ≡ Leaving w
   evicted-leaves c evicted =
       let valid = victim-valid c evicted in
-      let inside = entry-inside s c (node_of m w) (ap is_entry valid.1) in
-      (valid.0, claim-here p m s t w s' claim leaves c inside.0 inside.1 ∙ ap (λ x. cond x (leave w (replica s c (AtNode (node_of m w)))) (cond (has_cell (missing p s t w (node_of m w)) c) (Coming w) (replica s c (AtNode (node_of m w))))) evicted ∙ ap (leave w) valid.1)
+      let inside = entry-inside s c (node_of m w) (ap is_entry valid) in
+      claim-here p m s t w s' claim leaves c inside.0 inside.1 ∙ ap (λ x. cond x (leave w (replica s c (AtNode (node_of m w)))) (cond (has_cell (missing p s t w (node_of m w)) c) (Coming w) (replica s c (AtNode (node_of m w))))) evicted ∙ ap (leave w) valid
 
   entries-here : (c : Cell) → has_cell (order s' (node_of m w)) c ≡ is_entry (replica s' c (AtNode (node_of m w)))
   entries-here c = grind (arith, order-now c, claim-cases c (AtNode (node_of m w)), claim-own_cells c, evicted-leaves c, missing-absent p m s t w s' claim leaves c, h.coherent.state.entries.entries (node_of m w) c)
@@ -303,9 +310,6 @@ module _ (p : Program) (m : Machine) (s : State) (h : IsSound p m s) (t : Task) 
 
   -- ---- cells, pins and transfers
 
-  claim-valid : (c : Cell) (q : Place) → is_valid (replica s' c q) ≡ is_valid (replica s c q)
-  claim-valid c q = ap is_some (claim-array c q)
-
   still_pinned : (v : Worker) (u : Task) (c : Cell) → is_task_of v (progress s u) ≡ true → has_cell (pins s' v) c ≡ has_cell (pins s v) c
   still_pinned v u c has = claim-other_pins v c (claimer-other v u has)
 
@@ -361,10 +365,7 @@ module _ (p : Program) (m : Machine) (s : State) (h : IsSound p m s) (t : Task) 
   claim-order : OrderIsKept p s'
   claim-order = Claims-keeps_order p m h.proper.cells (Proper-dependencies p h.proper) s h.coherent.state h.coherent.workers h.coherent.order t w s' claim.worker claim leaves
 
-  -- ---- contents
-
-  claim-content : (c : Cell) → content p s' c ≡ content p s c
-  claim-content = content-kept p s s' t Waiting (Claimed w) claim-advance refl refl
+  -- ---- what running tasks write
 
   claim-writers : WritersOwn p m s'
   claim-writers = record { owned = λ u v c runs written. owned u v c (runs_before u v runs) written }
@@ -373,12 +374,12 @@ module _ (p : Program) (m : Machine) (s : State) (h : IsSound p m s) (t : Task) 
       not_ours : (u : Task) (v : Worker) (c : Cell) → is_task_of v (progress s u) ≡ true → has_cell (written_cells p u v) c ≡ true → has_cell (missing p s t w (node_of m w)) c ≡ true → ⊥
       not_ours u v c runs written lacks = separated p m h.proper.cells (Proper-dependencies p h.proper) s' claim-state claim-workers claim-order t u w v c (λ e. other_than u v runs (sym e)) (ap (is_task_of w) claim-advance.is ∙ claimed-is_mine w) (ap (is_task_of v) (still_task u v runs) ∙ runs) (missing-absent p m s t w s' claim leaves c lacks).1 written
 
-      owned : (u : Task) (v : Worker) (c : Cell) → progress s u ≡ Running v → has_cell (written_cells p u v) c ≡ true → IsOwnedBy m s' c v (written_content p s' u v c)
+      owned : (u : Task) (v : Worker) (c : Cell) → progress s u ≡ Running v → has_cell (written_cells p u v) c ≡ true → IsOwnedBy m s' c v
       owned u v c runs written =
           let old = h.coherent.writers.owned u v c runs written in
           let has : is_task_of v (progress s u) ≡ true = ap (is_task_of v) runs ∙ same_worker-refl v in
           record {
-            valid = pinned-entry v c old.pinned (ap is_entry old.valid) ∙ old.valid ∙ ap (λ (a : Array). Valid (if has_cell (fresh_cells p u v) c then zeros (dims_of p c) else a)) (sym (claim-content c));
+            valid = pinned-entry v c old.pinned (ap is_entry old.valid) ∙ old.valid;
             only = λ q away. (let invalid = old.only q away in search (arith, claim-cases c q, not_ours));
             pinned = still_pinned v u c has ∙ old.pinned;
             unmoved = λ x. moves-kept s s' x c (claim-transfer x) ∙ old.unmoved x;
@@ -390,10 +391,9 @@ module _ (p : Program) (m : Machine) (s : State) (h : IsSound p m s) (t : Task) 
   pub claim-rests : (c : Cell) → is_being_written p s c ≡ false → is_being_written p s' c ≡ false
   claim-rests c resting = not_written-after p m s s' t Waiting (Claimed w) c claim-rows claim-advance resting (λ v e. absurd (let f : Claimed w ≡ Running v = e in cc))
 
-  claim-copies : CopiesAgree p s'
+  claim-copies : WrittenIsKept p s'
   claim-copies = record {
     valid_somewhere = λ c some resting. (let q = h.coherent.copies.valid_somewhere c (omega (arith, claim-writes p m s t w s' claim leaves c, some)) (claim-rested c resting) in (q.0, claim-valid c q.0 ∙ q.1));
-    alike = λ c q some resting. agrees-kept (array_of (replica s c q)) (array_of (replica s' c q)) (content p s c) (content p s' c) (claim-array c q) (claim-content c) (h.coherent.copies.alike c q (omega (arith, claim-writes p m s t w s' claim leaves c, some)) (claim-rested c resting));
   }
 
   claim-counts : WritesAreCounted p s'
@@ -468,3 +468,7 @@ module _ (p : Program) (m : Machine) (s : State) (h : IsSound p m s) (t : Task) 
 
   pub Claims-coherent : Coherent p m s'
   Claims-coherent = record { state = claim-state; writers = claim-writers; copies = claim-copies; cells = claim-cells; pins = claim-pins; transfers = claim-transfers; bytes = claim-bytes; workers = claim-workers; order = claim-order; counts = claim-counts }
+
+  -- no array changes
+  pub Claims-content : (A A' : Arrays) → ((c : Cell) (q : Place) → A' c q ≡ A c q) → HoldsContent p m s A → HoldsContent p m s' A'
+  Claims-content A A' same = HoldsContent-kept p m s s' A A' same runs_before (content-kept p s s' t Waiting (Claimed w) claim-advance refl refl) (claim-writes p m s t w s' claim leaves) claim-rested (λ c q valid. sym (claim-valid c q) ∙ valid)

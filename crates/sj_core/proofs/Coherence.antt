@@ -2,10 +2,10 @@
 use Rattle.std.proofs.Common.{refl}
 use Rattle.sj_core.proofs.Words.{Claim, End, Run}
 use Rattle.sj_core.specs.Coherent.{Coherent}
-use Rattle.sj_core.specs.Laws.{IsKeptByClaims, IsKeptByLawfulEnds, IsKeptByRuns}
+use Rattle.sj_core.specs.Laws.{IsKeptByClaims, IsKeptByEnds, IsKeptByRuns}
 use Rattle.sj_core.specs.Step.{after}
 use Rattle.sj_core.proofs.ClaimKeeps.{Claims-coherent}
-use Rattle.sj_core.proofs.Ending.{lawful-puts_last, Ends-coherent}
+use Rattle.sj_core.proofs.Ending.{Ends-coherent}
 use Rattle.sj_core.proofs.Eviction.{evicted-after}
 use Rattle.sj_core.proofs.Running.{Runs-coherent}
 
@@ -15,5 +15,5 @@ Claims-keeps_coherence p m s t w h claim = Claims-coherent p m s h t w (after p 
 pub Runs-keeps_coherence : IsKeptByRuns Coherent
 Runs-keeps_coherence p m s t w h run = Runs-coherent p m s h t w (after p m s (Run t w)) run refl
 
-pub Lawful_ends-keep_coherence : IsKeptByLawfulEnds Coherent
-Lawful_ends-keep_coherence has p m s t w h lawful ended = Ends-coherent p m s h t w (after p m s (End t w)) ended refl (lawful-puts_last has p h.proper lawful)
+pub Ends-keep_coherence : IsKeptByEnds Coherent
+Ends-keep_coherence p m s t w h ended = Ends-coherent p m s h t w (after p m s (End t w)) ended refl

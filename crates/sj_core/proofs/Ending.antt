@@ -1,35 +1,35 @@
 -- The end of a kernel's run leaves a coherent state.
-use Rattle.std.proofs.Common.{Bool, List, ap, arith, false, inl, inr, length, refl, subst, sym, true, ◌<◌, ◌∙◌, ◌≡◌, ◌&&◌, ◌+◌, ◌≢◌, Some, [], not, ◌≤◌, ◌⊎◌, zip, count_by, nat_eq, nat_le, nat_lt, if◌then◌else◌}
-use Rattle.std.proofs.lemmas.Bool.{false≢true, eq-eqb, ne_eqb, and_from, le-leb, lt-ltb, cases_Bool, cases_lt, false_from_ne_true, cond_both}
-use Rattle.std.proofs.lemmas.List.{get_or-set_same, get_or_past, length-set}
-use Rattle.std.proofs.lemmas.Option.{MatchOption-from_none}
+use Rattle.std.proofs.Common.{Bool, List, ap, arith, false, inl, inr, length, refl, subst, sym, true, ◌<◌, ◌∙◌, ◌≡◌, ◌&&◌, ◌+◌, ◌≢◌, [], not, ◌≤◌, ◌⊎◌, zip, count_by, nat_eq, nat_le, nat_lt, if◌then◌else◌, cond}
+use Rattle.std.proofs.lemmas.Bool.{false≢true, eq-eqb, ne_eqb, and_from, le-leb, lt-ltb, cases_Bool, cases_lt, false_from_ne_true, cond_both, true_from_ne_false}
+use Rattle.std.proofs.lemmas.List.{get_or_past, length-set}
 use Rattle.sj_base.proofs.Bools.{tally}
 use Rattle.sj_base.proofs.Lists.{sum_by-agree}
-use Rattle.sj_base.proofs.SameIds.{same_place-itself, workers_differ}
+use Rattle.sj_base.proofs.SameIds.{workers_differ}
 use Rattle.sj_deps.specs.Conflict.{Conflict}
-use Rattle.sj_core.specs.Coherent.{Coherent, HasWorkers, OrderIsKept, content, is_begun, IsStateOf, TasksHaveCells, WritesAreCounted, has_written, CopiesAgree, HasRows, IsOwnedBy, WritersOwn, is_being_written, written_content}
+use Rattle.sj_core.specs.Coherent.{Coherent, HasWorkers, OrderIsKept, is_begun, IsStateOf, TasksHaveCells, WritesAreCounted, has_written, HasRows, IsOwnedBy, WritersOwn, is_being_written, WrittenIsKept}
 use Rattle.sj_core.specs.Fold.{after_chosen, after_task, held_in}
 use Rattle.sj_core.specs.Laws.{IsLawful, IsSound}
 use Rattle.sj_core.specs.Proper.{Proper}
-use Rattle.sj_core.specs.Step.{after_end, array_at, result_at, after, rewritten_at, same_place}
-use Rattle.sj_core.proofs.Words.{Array, AtNode, Cell, CellState, Claimed, Done, Kernel, Machine, Program, Progress, Running, State, Task, Worker, dims_of, done_by, done_in, has_cell, is_done, is_task_of, no_task, node_of, progress, results, tasks_of, worked_on, worker_of, writes, written_cells, zeros, Invalid, OnDisk, Place, Replica, Transfer, Valid, WorkerState, cell_state, cells_of, is_coming_by, is_entry, is_leaving_by, is_valid, order, replica, replica_in, transfer, victims_of, worker_state}
+use Rattle.sj_core.specs.Step.{after_end, after, same_place, written_once_more}
+use Rattle.sj_core.proofs.Words.{Array, AtNode, Cell, CellState, Claimed, Done, Kernel, Machine, Program, Progress, Running, State, Task, Worker, dims_of, done_by, done_in, has_cell, is_done, is_task_of, no_task, node_of, progress, results, tasks_of, worked_on, worker_of, writes, written_cells, zeros, OnDisk, Place, WorkerState, cell_state, cells_of, is_coming_by, is_entry, is_leaving_by, is_valid, order, replica, replica_in, transfer, victims_of, worker_state, fresh_cells, End}
 use Rattle.sj_core.proofs.Advancing.{Advances, Ends-advances, done-begun, same_task, OrderIsKept-advances}
 use Rattle.sj_core.proofs.Values.{results-complete}
 use Rattle.sj_core.proofs.Updating.{may-swap}
 use Rattle.sj_core.proofs.Folding.{AddsTask, after_chosen-same, after_task-other, held-append, held_over, held_over-own, read-among_cells, results-same}
 use Rattle.sj_core.proofs.Found.{found-content}
 use Rattle.sj_core.proofs.Phases.{contributions-exchange}
-use Rattle.sj_core.proofs.Reading.{cells-touched, cells-untouched, cells-renewed_or, entry-inside, idle_row, moves-it, worker-other, worker-same}
+use Rattle.sj_core.proofs.Reading.{cells-touched, cells-untouched, cells-renewed_or, idle_row, worker-other, worker-same}
 use Rattle.sj_core.proofs.Replicas.{same_worker-refl}
 use Rattle.sj_core.proofs.Swapping.{put-last}
-use Rattle.sj_core.proofs.Placing.{valid-row, replica_in-cases, same_place-is}
+use Rattle.sj_core.proofs.Placing.{valid-row}
 use Rattle.sj_core.proofs.TaskCells.{written-among_cells}
 use Rattle.sj_core.proofs.Sums.{sum-plus, count-numbered}
 use Rattle.sj_core.proofs.CellLists.{times}
 use Rattle.sj_core.proofs.Changing.{Changes, Changes-coherent, Changes-writers, TransfersAreSound-spared, HasBlocks-kept, HasRows-kept, moves-kept, HasWorkers-kept}
 use Rattle.sj_core.proofs.Dependencies.{Proper-dependencies}
-use Rattle.sj_core.proofs.Finding.{not_written-before, agrees-kept, running-inside}
+use Rattle.sj_core.proofs.Finding.{not_written-before, running-inside, second_fails, both_pass}
 use Rattle.sj_core.proofs.Separation.{separated}
+use Rattle.sj_core.specs.Arrays.{Arrays, HoldsContent, arrays_after, content, held_at, result_in}
 
 -- ---- where no task more is done
 
@@ -75,23 +75,24 @@ module _ (p : Program) (m : Machine) (proper : Proper p) (puts_last : PutsLast p
   pub end-content-other : (c : Cell) → has_cell (written_cells p t w) c ≡ false → content p s' c ≡ content p s c
   end-content-other c spared = end-content c ∙ after_task-other p w t (after_chosen p (done_in s) (done_by s) (length p.tasks)) c spared
 
-  -- the task works on the arrays of its worker's node as on the contents of its cells
-  end-results : results p t w (content p s) ≡ results p t w (array_at p s (AtNode (node_of m w)))
-  end-results = results-same p t w w (content p s) (array_at p s (AtNode (node_of m w))) (λ a h reads.
-      (let mine : is_task_of w (progress s t) ≡ true = ap (is_task_of w) ended ∙ same_worker-refl w in
-      let there = sound.cells.running t w (worked_on p w a) ended (read-among_cells p t w a h reads) in
-      sym (found-content p proper m s sound t w mine a h reads there)))
+  module _ (A : Arrays) (holds : HoldsContent p m s A) where
+    -- the task works on the arrays of its worker's node as on the contents of its cells
+    end-results : results p t w (content p s) ≡ results p t w (held_at A (AtNode (node_of m w)))
+    end-results = results-same p t w w (content p s) (held_at A (AtNode (node_of m w))) (λ a h reads.
+        (let mine : is_task_of w (progress s t) ≡ true = ap (is_task_of w) ended ∙ same_worker-refl w in
+        let there = sound.cells.running t w (worked_on p w a) ended (read-among_cells p t w a h reads) in
+        sym (found-content p proper m s sound A holds t w mine a h reads there)))
 
-  -- what it writes has its result as content
-  pub end-content-own : (c : Cell) → has_cell (written_cells p t w) c ≡ true → content p s' c ≡ result_at p s t w (node_of m w) c
-  end-content-own c writes =
-      let cs = written_cells p t w in
-      let arrays = results p t w (array_at p s (AtNode (node_of m w))) in
-      let complete = results-complete p t w (array_at p s (AtNode (node_of m w))) (proper.codelets t.0 no_task end-inside) in
-      end-content c
-      ∙ held-append p (zip cs (results p t w (content p s))) (after_chosen p (done_in s) (done_by s) (length p.tasks)) c
-      ∙ ap (λ (xs : List Array). held_over (zip cs xs) c (content p s c)) end-results
-      ∙ held_over-own cs arrays c (content p s c) (zeros (dims_of p c)) writes (omega (arith, complete))
+    -- what it writes has its result as content
+    pub end-content-own : (c : Cell) → has_cell (written_cells p t w) c ≡ true → content p s' c ≡ result_in p t w (held_at A (AtNode (node_of m w))) c
+    end-content-own c writes =
+        let cs = written_cells p t w in
+        let arrays = results p t w (held_at A (AtNode (node_of m w))) in
+        let complete = results-complete p t w (held_at A (AtNode (node_of m w))) (proper.codelets t.0 no_task end-inside) in
+        end-content c
+        ∙ held-append p (zip cs (results p t w (content p s))) (after_chosen p (done_in s) (done_by s) (length p.tasks)) c
+        ∙ ap (λ (xs : List Array). held_over (zip cs xs) c (content p s c)) end-results
+        ∙ held_over-own cs arrays c (content p s c) (zeros (dims_of p c)) writes (omega (arith, complete))
 
 -- ---- which tasks have written a cell
 
@@ -116,11 +117,11 @@ Ends-keeps_counts p m s t w s' state cells ended leaves counts = record { counte
 
     by_cases : (c : Cell) (b : Bool) → has_cell (written_cells p t w) c ≡ b → writes s' c ≡ count_by (has_written p s' c) (tasks_of p)
     by_cases c false e =
-        let same : writes s' c ≡ writes s c = ap (λ (z : State). writes z c) leaves ∙ ap (λ (r : CellState). r.writes) (cells-untouched s (has_cell (written_cells p t w)) (λ d row. rewritten_at (node_of m w) (result_at p s t w (node_of m w) d) row) c e) in
+        let same : writes s' c ≡ writes s c = ap (λ (z : State). writes z c) leaves ∙ ap (λ (r : CellState). r.writes) (cells-untouched s (has_cell (written_cells p t w)) (λ d row. written_once_more row) c e) in
         same ∙ counts.counted c ∙ sym (counted-same p s s' c (λ u. (grind (arith, same_task u t, now c, e, undone c, written-other p s s' c t u (Running w) (Done w) (Ends-advances p m s t w s' ended leaves)))))
     by_cases c true e =
         let there = cells.running t w c ended (written-among_cells p t w c e) in
-        let more : writes s' c ≡ writes s c + 1 = ap (λ (z : State). writes z c) leaves ∙ ap (λ (r : CellState). r.writes) (cells-touched s (has_cell (written_cells p t w)) (λ d row. rewritten_at (node_of m w) (result_at p s t w (node_of m w) d) row) c (valid-row s c (AtNode (node_of m w)) there) e) in
+        let more : writes s' c ≡ writes s c + 1 = ap (λ (z : State). writes z c) leaves ∙ ap (λ (r : CellState). r.writes) (cells-touched s (has_cell (written_cells p t w)) (λ d row. written_once_more row) c (valid-row s c (AtNode (node_of m w)) there) e) in
         let is_t : Task → Bool = λ u. nat_eq u.0 t.0 in
         let each : (u : Task) → tally (has_written p s' c u) ≡ tally (has_written p s c u) + tally (is_t u) = λ u. elim (same_task u t) [
           | inl f ↦ grind (arith, f, now c, e, undone c, eq-eqb u.0 t.0)
@@ -133,42 +134,23 @@ Ends-keeps_counts p m s t w s' state cells ended leaves counts = record { counte
 -- ---- the end of a kernel's run leaves a coherent state
 
 module _ (p : Program) (m : Machine) (s : State) (t : Task) (w : Worker) (s' : State) (ended : progress s t ≡ Running w) (leaves : s' ≡ after_end p m s t w) where
-  abbrev renews : Cell → CellState → CellState
-  renews c row = rewritten_at (node_of m w) (result_at p s t w (node_of m w) c) row
-
-  end-spared_row : (c : Cell) → has_cell (written_cells p t w) c ≡ false → cell_state s' c ≡ cell_state s c
-  end-spared_row c spared = ap (λ (z : State). cell_state z c) leaves ∙ cells-untouched s (has_cell (written_cells p t w)) renews c spared
-
   -- what the task doesn't write stays as it is
-  pub end-other : (c : Cell) (q : Place) → has_cell (written_cells p t w) c ≡ false → replica s' c q ≡ replica s c q
-  end-other c q spared = ap (λ (row : CellState). replica_in row q) (end-spared_row c spared)
+  pub end-spared_row : (c : Cell) → has_cell (written_cells p t w) c ≡ false → cell_state s' c ≡ cell_state s c
+  end-spared_row c spared = ap (λ (z : State). cell_state z c) leaves ∙ cells-untouched s (has_cell (written_cells p t w)) (λ d row. written_once_more row) c spared
 
-  -- each replica is as before, or that of a written cell on the worker's node, which is valid
-  end-cases : (c : Cell) (q : Place) → (replica s' c q ≡ replica s c q) ⊎ ((has_cell (written_cells p t w) c ≡ true) × (q ≡ AtNode (node_of m w)) × (replica s' c q ≡ Valid (result_at p s t w (node_of m w) c)))
-  end-cases c q =
-      let more : CellState = record { nodes = (cell_state s c).nodes; disks = (cell_state s c).disks; writes = writes s c + 1 } in
-      elim (cases_Bool (has_cell (written_cells p t w) c)) [
-        | inr spared ↦ inl (end-other c q spared)
-        | inl written ↦ elim (cells-renewed_or s (λ d row. if has_cell (written_cells p t w) d then renews d row else row) c) [
-          | inr none ↦ inl (grind (arith, leaves, none.0, none.1))
-          | inl row ↦ grind (arith, leaves, row, written, replica_in-cases more (AtNode (node_of m w)) q (Valid (result_at p s t w (node_of m w) c)), as_before q)
-        ]
+  -- no replica changes
+  pub end-replica : (c : Cell) (q : Place) → replica s' c q ≡ replica s c q
+  end-replica c q =
+      ap (λ (z : State). replica z c q) leaves
+      ∙ elim (cells-renewed_or s (λ d row. if has_cell (written_cells p t w) d then written_once_more row else row) c) [
+        | inl row ↦ ap (λ (r : CellState). replica_in r q) row ∙ either (has_cell (written_cells p t w) c) q
+        | inr none ↦ ap (λ (r : CellState). replica_in r q) (none.1 ∙ sym none.0)
       ]
     where
-      as_before : (q : Place) → replica_in (record { nodes = (cell_state s c).nodes; disks = (cell_state s c).disks; writes = writes s c + 1 }) q ≡ replica_in (cell_state s c) q
-      as_before (AtNode k) = refl
-      as_before (OnDisk d) = refl
-
-  -- but on its worker's node nothing changes
-  pub end-elsewhere : (c : Cell) (q : Place) → not (same_place q (AtNode (node_of m w))) ≡ true → replica s' c q ≡ replica s c q
-  end-elsewhere c q away = elim (end-cases c q) [ inl same ↦ same | inr (written, at, is) ↦ absurd (false≢true (sym (ap (λ (k : Place). not (same_place k (AtNode (node_of m w)))) at ∙ ap not (same_place-itself (AtNode (node_of m w)))) ∙ away)) ]
-
-  -- a test that a valid replica fails is passed by none that didn't before
-  end-fewer : (test : Replica → Bool) → ((a : Array) → test (Valid a) ≡ false) → (c : Cell) (q : Place) → test (replica s' c q) ≡ true → test (replica s c q) ≡ true
-  end-fewer test valid c q passes = elim (end-cases c q) [ inl same ↦ sym (ap test same) ∙ passes | inr (written, at, is) ↦ absurd (false≢true (sym (ap test is ∙ valid (result_at p s t w (node_of m w) c)) ∙ passes)) ]
-
-  end-leaving : (v : Worker) (c : Cell) (q : Place) → is_leaving_by v (replica s' c q) ≡ true → is_leaving_by v (replica s c q) ≡ true
-  end-leaving v = end-fewer (is_leaving_by v) (λ a. refl)
+      either : (b : Bool) (k : Place) → replica_in (if b then written_once_more (cell_state s c) else cell_state s c) k ≡ replica s c k
+      either true (AtNode n) = refl
+      either true (OnDisk d) = refl
+      either false k = refl
 
   -- ---- the rows of the workers
 
@@ -195,34 +177,22 @@ module _ (p : Program) (m : Machine) (s : State) (h : IsSound p m s) (t : Task) 
   mine : is_task_of w (progress s t) ≡ true
   mine = ap (is_task_of w) ended ∙ same_worker-refl w
 
-  owned : (c : Cell) → has_cell (written_cells p t w) c ≡ true → IsOwnedBy m s c w (written_content p s t w c)
+  owned : (c : Cell) → has_cell (written_cells p t w) c ≡ true → IsOwnedBy m s c w
   owned c written = h.coherent.writers.owned t w c ended written
+
+  same_replica : (c : Cell) (q : Place) → replica s' c q ≡ replica s c q
+  same_replica = end-replica p m s t w s' ended leaves
 
   -- another task's cells aren't written
   pub end-spares : (u : Task) (v : Worker) (c : Cell) → u ≢ t → is_task_of v (progress s u) ≡ true → has_cell (cells_of p u v) c ≡ true → has_cell (written_cells p t w) c ≡ false
   end-spares u v c d has cell = false_from_ne_true (has_cell (written_cells p t w) c) (separated p m h.proper.cells (Proper-dependencies p h.proper) s h.coherent.state h.coherent.workers h.coherent.order u t v w c d has mine cell)
-
-  -- a cell that moves isn't written
-  unmoved : (v : Worker) (x : Transfer) → transfer s v ≡ Some x → has_cell (written_cells p t w) x.cell ≡ false
-  unmoved v x under_way = false_from_ne_true (has_cell (written_cells p t w) x.cell) (λ written. false≢true (sym ((owned x.cell written).unmoved v) ∙ moves-it s v x under_way))
-
-  -- what the task wrote is valid there, as it was
-  pub end-written : (c : Cell) → has_cell (written_cells p t w) c ≡ true → (replica s' c (AtNode (node_of m w)) ≡ Valid (result_at p s t w (node_of m w) c)) × (a : Array) × (replica s c (AtNode (node_of m w)) ≡ Valid a)
-  end-written c written =
-      let own = owned c written in
-      let inside = entry-inside s c (node_of m w) (ap is_entry own.valid) in
-      (grind (arith, leaves, cells-touched s (has_cell (written_cells p t w)) (renews p m s t w s' ended leaves) c inside.0 written, get_or-set_same (cell_state s c).nodes (node_of m w).0 (Valid (result_at p s t w (node_of m w) c)) Invalid, inside.1), _, own.valid)
-
-  -- a test that tells no array from another is passed as before
-  end-same : {X : Type 0} (test : Replica → X) → ((a b : Array) → test (Valid a) ≡ test (Valid b)) → (c : Cell) (q : Place) → test (replica s' c q) ≡ test (replica s c q)
-  end-same test alike c q = grind (arith, end-cases p m s t w s' ended leaves c q, owned)
 
   -- ---- the state's own form
 
   end-rows : HasRows p m s'
   end-rows = HasRows-kept p m s s' _ (ap (λ (z : State). z.cells) leaves)
       (λ i row. (
-        cond_both (has_cell (written_cells p t w) (record { 0 = i })) _ row (λ (r : CellState). length r.nodes ≡ length row.nodes) (λ b. length-set row.nodes (node_of m w).0 _) (λ b. refl),
+        cond_both (has_cell (written_cells p t w) (record { 0 = i })) _ row (λ (r : CellState). length r.nodes ≡ length row.nodes) (λ b. refl) (λ b. refl),
         cond_both (has_cell (written_cells p t w) (record { 0 = i })) _ row (λ (r : CellState). length r.disks ≡ length row.disks) (λ b. refl) (λ b. refl),
       ))
       (ap (λ (z : State). length z.tasks) leaves ∙ length-set s.tasks t.0 (Done w)) (ap (λ (z : State). length z.orders) leaves)
@@ -232,10 +202,10 @@ module _ (p : Program) (m : Machine) (s : State) (h : IsSound p m s) (t : Task) 
   end-state = record {
     rows = end-rows;
     entries = record {
-      entries = λ k c. ap (λ (z : State). has_cell (order z k) c) leaves ∙ h.coherent.state.entries.entries k c ∙ sym (end-same is_entry (λ a b. refl) c (AtNode k));
+      entries = λ k c. ap (λ (z : State). has_cell (order z k) c) leaves ∙ h.coherent.state.entries.entries k c ∙ sym (ap is_entry (same_replica c (AtNode k)));
       once = λ k c. subst (λ (z : State). times (order z k) c ≤ 1) (sym leaves) (h.coherent.state.entries.once k c);
     };
-    blocks = HasBlocks-kept p m s s' (λ c d. inr (end-elsewhere p m s t w s' ended leaves c (OnDisk d) refl)) (end-transfer p m s t w s' ended leaves) h.coherent.state.blocks;
+    blocks = HasBlocks-kept p m s s' (λ c d. inr (same_replica c (OnDisk d))) (end-transfer p m s t w s' ended leaves) h.coherent.state.blocks;
     staff = HasWorkers-kept p s s' t (Running w) (Done w) advance (subst (λ (x : Progress). (worker_of x).0 < p.workers) ended (h.coherent.state.staff.staffed t (ap is_begun ended))) h.coherent.state.staff;
   }
 
@@ -252,57 +222,75 @@ module _ (p : Program) (m : Machine) (s : State) (h : IsSound p m s) (t : Task) 
       | inl e ↦ inr (e, grind (arith, e, end-own_worker p m s t w s' ended leaves), grind (arith, e, end-own_worker p m s t w s' ended leaves), refl)
     ];
     victims = end-kept p m s t w s' ended leaves (λ row. row.victims) refl;
-    entries = λ c k now. sym (end-same is_entry (λ a b. refl) c (AtNode k)) ∙ now;
-    leaves = end-leaving p m s t w s' ended leaves;
-    comes = λ v c k coming. end-fewer p m s t w s' ended leaves (is_coming_by v) (λ a. refl) c (AtNode k) coming;
-    still_comes = λ v c d k leaving coming. end-same (is_coming_by v) (λ a b. refl) c (AtNode k) ∙ coming;
+    entries = λ c k now. sym (ap is_entry (same_replica c (AtNode k))) ∙ now;
+    leaves = λ v c q leaving. sym (ap (is_leaving_by v) (same_replica c q)) ∙ leaving;
+    comes = λ v c k coming. sym (ap (is_coming_by v) (same_replica c (AtNode k))) ∙ coming;
+    still_comes = λ v c d k leaving coming. ap (is_coming_by v) (same_replica c (AtNode k)) ∙ coming;
     moves_on = λ v x under_way. h.coherent.workers.moves_for_claim v x (sym (end-transfer p m s t w s' ended leaves v) ∙ under_way);
     claims_on = λ e. absurd (let f : Running w ≡ Claimed w = e in cc);
-    stays = λ u v c d has cell. (let same = end-other p m s t w s' ended leaves c (AtNode (node_of m v)) (end-spares u v c d has cell) in (λ was. ap is_entry same ∙ was, λ was. ap is_valid same ∙ was));
+    stays = λ u v c d has cell. (let same = same_replica c (AtNode (node_of m v)) in (λ was. ap is_entry same ∙ was, λ was. ap is_valid same ∙ was));
     claimed = λ c e has. absurd (let f : Done w ≡ Claimed w = e in cc);
     running = λ c e has. absurd (let f : Done w ≡ Running w = e in cc);
-    transfers = TransfersAreSound-spared m s s' (has_cell (written_cells p t w)) (end-other p m s t w s' ended leaves) (end-leaving p m s t w s' ended leaves) (end-transfer p m s t w s' ended leaves) unmoved h.coherent.transfers;
+    transfers = TransfersAreSound-spared m s s' (λ c. false) (λ c q e. same_replica c q) (λ v c q leaving. sym (ap (is_leaving_by v) (same_replica c q)) ∙ leaving) (end-transfer p m s t w s' ended leaves) (λ v x under_way. refl) h.coherent.transfers;
     order = OrderIsKept-advances p s s' t (Running w) (Done w) advance refl refl (same_worker-refl w) refl h.coherent.order;
     counts = Ends-keeps_counts p m s t w s' h.coherent.state h.coherent.cells ended leaves h.coherent.counts;
   }
 
+  -- ---- what is written
+
+  end-rested : (c : Cell) → has_cell (written_cells p t w) c ≡ false → is_being_written p s' c ≡ false → is_being_written p s c ≡ false
+  end-rested c spared resting = not_written-before p m s s' t (Running w) (Done w) c h.coherent.state.rows advance resting (λ v e. (let is : w ≡ v = cc in ap (λ (x : Worker). has_cell (written_cells p t x) c) (sym is) ∙ spared))
+
+  end-writers : WritersOwn p m s'
+  end-writers = Changes-writers p m s h s' t (Running w) (Done w) w end-change
+      (λ u v c d runs written. (same_replica c, λ x. moves-kept s s' x c (end-transfer p m s t w s' ended leaves x) ∙ (h.coherent.writers.owned u v c runs written).unmoved x))
+      (λ c e. absurd (let f : Done w ≡ Running w = e in cc))
+
+  spared-writes : (c : Cell) → has_cell (written_cells p t w) c ≡ false → writes s' c ≡ writes s c
+  spared-writes c spared = ap (λ (r : CellState). r.writes) (end-spared_row p m s t w s' ended leaves c spared)
+
+  end-copies : WrittenIsKept p s'
+  end-copies = record {
+    valid_somewhere = λ c some resting. elim (cases_Bool (has_cell (written_cells p t w) c)) [
+      | inl written ↦ (AtNode (node_of m w), ap is_valid (same_replica c (AtNode (node_of m w)) ∙ (owned c written).valid))
+      | inr spared ↦
+          let q = h.coherent.copies.valid_somewhere c (omega (arith, spared-writes c spared, some)) (end-rested c spared resting) in
+          (q.0, ap is_valid (same_replica c q.0) ∙ q.1)
+    ];
+  }
+
+  pub Ends-coherent : Coherent p m s'
+  Ends-coherent = Changes-coherent p m s h s' t (Running w) (Done w) w end-change end-writers end-copies
+
   -- ---- contents, where a task with which no later one conflicts may be put last
 
-  module _ (puts_last : PutsLast p) where
+  module _ (puts_last : PutsLast p) (A : Arrays) (holds : HoldsContent p m s A) where
+    abbrev ended_with : Arrays
+    ended_with = arrays_after p m A (End t w)
+
+    -- what the task doesn't write keeps its array and its content
+    same_array : (c : Cell) (q : Place) → has_cell (written_cells p t w) c ≡ false → ended_with c q ≡ A c q
+    same_array c q spared = second_fails (same_place q (AtNode (node_of m w))) (has_cell (written_cells p t w) c) (result_in p t w (held_at A (AtNode (node_of m w))) c) (A c q) spared
+
     spared-content : (c : Cell) → has_cell (written_cells p t w) c ≡ false → content p s' c ≡ content p s c
     spared-content c spared = end-content-other p m h.proper puts_last s h.coherent t w s' ended leaves c spared
 
-    end-writers : WritersOwn p m s'
-    end-writers = Changes-writers p m s h s' t (Running w) (Done w) w end-change
-        (λ u v c d runs written.
-        (let spared = end-spares u v c d (ap (is_task_of v) runs ∙ same_worker-refl v) (written-among_cells p u v c written) in
-        (λ q. end-other p m s t w s' ended leaves c q spared, λ x. moves-kept s s' x c (end-transfer p m s t w s' ended leaves x) ∙ (h.coherent.writers.owned u v c runs written).unmoved x, spared-content c spared)))
-        (λ c e. absurd (let f : Done w ≡ Running w = e in cc))
+    -- what it writes has its result as content where it is valid, which is on its worker's node
+    own_array : (c : Cell) (q : Place) → has_cell (written_cells p t w) c ≡ true → is_valid (replica s c q) ≡ true → ended_with c q ≡ content p s' c
+    own_array c q written valid =
+        let here : same_place q (AtNode (node_of m w)) ≡ true = true_from_ne_false (same_place q (AtNode (node_of m w))) (λ away. false≢true (sym (ap is_valid ((owned c written).only q (ap not away))) ∙ valid)) in
+        both_pass (same_place q (AtNode (node_of m w))) (has_cell (written_cells p t w) c) (result_in p t w (held_at A (AtNode (node_of m w))) c) (A c q) here written
+        ∙ sym (end-content-own p m h.proper puts_last s h.coherent t w s' ended leaves A holds c written)
 
-    end-rested : (c : Cell) → has_cell (written_cells p t w) c ≡ false → is_being_written p s' c ≡ false → is_being_written p s c ≡ false
-    end-rested c spared resting = not_written-before p m s s' t (Running w) (Done w) c h.coherent.state.rows advance resting (λ v e. (let is : w ≡ v = cc in ap (λ (x : Worker). has_cell (written_cells p t x) c) (sym is) ∙ spared))
-
-    -- what the task wrote is valid on its worker's node with the new content, and nowhere else
-    end-own : (c : Cell) → has_cell (written_cells p t w) c ≡ true → replica s' c (AtNode (node_of m w)) ≡ Valid (content p s' c)
-    end-own c written = (end-written c written).0 ∙ ap Valid (sym (end-content-own p m h.proper puts_last s h.coherent t w s' ended leaves c written))
-
-    end-alone : (c : Cell) (q : Place) → has_cell (written_cells p t w) c ≡ true → (replica s' c q ≡ Valid (content p s' c)) ⊎ (replica s' c q ≡ Invalid)
-    end-alone c q written = grind (arith, cases_Bool (same_place q (AtNode (node_of m w))), same_place-is q (AtNode (node_of m w)), end-own c written, end-elsewhere p m s t w s' ended leaves c q, (owned c written).only q)
-
-    end-copies : CopiesAgree p s'
-    end-copies = record {
-      valid_somewhere = λ c some resting. elim (cases_Bool (has_cell (written_cells p t w) c)) [
-        | inl written ↦ (AtNode (node_of m w), ap is_valid (end-own c written))
-        | inr spared ↦
-            let row = end-spared_row p m s t w s' ended leaves c spared in
-            let q = h.coherent.copies.valid_somewhere c (omega (arith, ap (λ (r : CellState). r.writes) row, some)) (end-rested c spared resting) in
-            (q.0, ap (λ (r : CellState). is_valid (replica_in r q.0)) row ∙ q.1)
-      ];
-      alike = λ c q some resting. elim (cases_Bool (has_cell (written_cells p t w) c)) [
-        | inl written ↦ (search (arith, end-alone, MatchOption-from_none))
-        | inr spared ↦ (search (arith, end-spared_row p m s t w s' ended leaves c spared, spared-content, agrees-kept, end-rested))
-      ];
+    pub Ends-content : HoldsContent p m s' ended_with
+    Ends-content = record {
+      begun = λ u v c runs written.
+          (let other : u ≢ t = λ e. (let clash : Done w ≡ Running v = sym advance.is ∙ ap (λ (k : Task). progress s' k) (sym e) ∙ runs in cc) in
+          let was : progress s u ≡ Running v = sym (advance.others u other) ∙ runs in
+          let spared = end-spares u v c other (ap (is_task_of v) was ∙ same_worker-refl v) (written-among_cells p u v c written) in
+          same_array c (AtNode (node_of m v)) spared ∙ holds.begun u v c was written ∙ ap (λ (a : Array). cond (has_cell (fresh_cells p u v) c) (zeros (dims_of p c)) a) (sym (spared-content c spared)));
+      alike = λ c q some resting valid. (let was : is_valid (replica s c q) ≡ true = sym (ap is_valid (same_replica c q)) ∙ valid in elim (cases_Bool (has_cell (written_cells p t w) c)) [
+        | inl written ↦ own_array c q written was
+        | inr spared ↦ same_array c q spared ∙ holds.alike c q (omega (arith, spared-writes c spared, some)) (end-rested c spared resting) was ∙ sym (spared-content c spared)
+      ]);
     }
-
-    pub Ends-coherent : Coherent p m s'
-    Ends-coherent = Changes-coherent p m s h s' t (Running w) (Done w) w end-change end-writers end-copies

@@ -1,13 +1,12 @@
 -- What a claimed or running task finds in the cells whose old value it reads; and which cells no running task writes, before
 -- and after a step.
-use Rattle.std.proofs.Common.{Bool, Option, ap, arith, cond, false, inl, inr, length, not, sym, true, ◌&&◌, ◌<◌, ◌∙◌}
-use Rattle.std.proofs.Common.{◌≡◌, subst, Contains, IfSome, count_by, is_some}
-use Rattle.sj_core.proofs.Words.{Access, Array, Cell, Machine, Program, Progress, Running, State, Task, Worker}
+use Rattle.std.proofs.Common.{Bool, ap, arith, cond, false, inl, inr, length, not, sym, true, ◌&&◌, ◌<◌, ◌∙◌, refl, if◌then◌else◌}
+use Rattle.std.proofs.Common.{◌≡◌, Contains, count_by}
+use Rattle.sj_core.proofs.Words.{Access, Array, Cell, Machine, Program, Progress, Running, State, Task, Worker, zeros, dims_of, fresh_cells, is_valid, node_of, replica, Place, AtNode}
 use Rattle.sj_core.proofs.Words.{cells_of, copy_of, done_by, has_cell, is_running_on, is_task_of, progress, same_cell}
 use Rattle.sj_core.proofs.Words.{task_of, tasks_of, worked_on, worker_of, writes, written_cells}
-use Rattle.std.proofs.lemmas.Bool.{and_parts, false_from_ne_true, false≢true, not-true}
+use Rattle.std.proofs.lemmas.Bool.{and_parts, false_from_ne_true, false≢true, not-true, and_from}
 use Rattle.std.proofs.lemmas.List.Folds.{Any-from_list_any}
-use Rattle.std.specs.Prelude.{unwrap_or}
 use Rattle.sj_base.specs.Mode.{is_redux, is_written}
 use Rattle.sj_base.proofs.Lists.{list_any-numbered}
 use Rattle.sj_deps.specs.Conflict.{HasDependencies}
@@ -16,6 +15,7 @@ use Rattle.sj_core.specs.Proper.{Proper, gives_value}
 use Rattle.sj_core.proofs.Advancing.{running_on-is, same_task, task_of-worker, Advances}
 use Rattle.sj_core.proofs.Reading.{progress-inside}
 use Rattle.sj_core.proofs.{Replicas.same_worker-refl, Separation.separated, Sharing.operand-has_cell, Sums.counted-has}
+use Rattle.sj_core.specs.Arrays.{Arrays, HoldsContent, content}
 
 -- ---- lists
 
@@ -35,11 +35,7 @@ being_written-here p s c u v inside running writes =
     list_any-numbered (λ n. record { 0 = n }) (λ t. test (progress s t) t) u.0 (length p.tasks) inside
     (ap (λ x. test x u) running ∙ ap (λ b. b && has_cell (written_cells p u v) c) (same_worker-refl v) ∙ writes)
 
--- ---- arrays
-
--- the array of a valid replica, where one is told of it
-pub array-told : (o : Option Array) (a b : Array) → is_some o ≡ true → IfSome o (λ x. x ≡ a) → unwrap_or o b ≡ a
-array-told x a b h k = search (arith, false≢true)
+-- ---- cells of tasks
 
 -- a cell of a task is written by no running task but this
 pub not_being_written : (p : Program) (m : Machine) → Proper p → HasDependencies p → (s : State) → Coherent p m s → (t : Task) (w : Worker) (c : Cell) → is_task_of w (progress s t) ≡ true → has_cell (cells_of p t w) c ≡ true → (progress s t ≡ Running w → has_cell (written_cells p t w) c ≡ false) → is_being_written p s c ≡ false
@@ -80,6 +76,21 @@ not_written-before p m s s' t old new c rows a resting spared =
 pub not_written-after : (p : Program) (m : Machine) (s s' : State) (t : Task) (old new : Progress) (c : Cell) → HasRows p m s' → Advances s s' t old new → is_being_written p s c ≡ false → ((v : Worker) → new ≡ Running v → has_cell (written_cells p t v) c ≡ false) → is_being_written p s' c ≡ false
 not_written-after p m s s' t old new c rows a resting spared = not_written-before p m s' s t new old c rows (record { was = a.is; is = a.was; others = λ u d. sym (a.others u d) }) resting spared
 
--- a valid replica that agrees still does where neither it nor the cell's content has changed
-pub agrees-kept : (o o' : Option Array) (x x' : Array) → o' ≡ o → x' ≡ x → IfSome o (λ a. a ≡ x) → IfSome o' (λ a. a ≡ x')
-agrees-kept o o' x x' e f h = subst (λ (k : Option Array). IfSome k (λ a. a ≡ x')) (sym e) (subst (λ (y : Array). IfSome o (λ a. a ≡ y)) (sym f) h)
+-- ---- arrays
+
+-- a choice by two tests, where both pass and where the second fails
+pub both_pass : {X : Type 0} (a b : Bool) (x y : X) → a ≡ true → b ≡ true → (if a && b then x else y) ≡ x
+both_pass a b x y e f = ap (λ c. cond c x y) (and_from a b e f)
+
+pub second_fails : {X : Type 0} (a b : Bool) (x y : X) → b ≡ false → (if a && b then x else y) ≡ y
+second_fails true b x y e = ap (λ c. cond c x y) e
+second_fails false b x y e = refl
+
+-- where no array changes, no task more runs or is done, and no more replicas are valid, the arrays are what they ought to be
+pub HoldsContent-kept : (p : Program) (m : Machine) (s s' : State) (A A' : Arrays) → ((c : Cell) (q : Place) → A' c q ≡ A c q) → ((t : Task) (w : Worker) → progress s' t ≡ Running w → progress s t ≡ Running w) →
+    ((c : Cell) → content p s' c ≡ content p s c) → ((c : Cell) → writes s' c ≡ writes s c) → ((c : Cell) → is_being_written p s' c ≡ false → is_being_written p s c ≡ false) →
+    ((c : Cell) (q : Place) → is_valid (replica s' c q) ≡ true → is_valid (replica s c q) ≡ true) → HoldsContent p m s A → HoldsContent p m s' A'
+HoldsContent-kept p m s s' A A' same runs contents count rested was holds = record {
+  begun = λ t w c running written. same c (AtNode (node_of m w)) ∙ holds.begun t w c (runs t w running) written ∙ ap (λ (a : Array). cond (has_cell (fresh_cells p t w) c) (zeros (dims_of p c)) a) (sym (contents c));
+  alike = λ c q some resting valid. same c q ∙ holds.alike c q (omega (arith, count c, some)) (rested c resting) (was c q valid) ∙ sym (contents c);
+}

@@ -2,10 +2,10 @@
 -- before it leave, in submission order. Where all tasks are done, cells hold what all tasks leave.
 use Rattle.std.proofs.Common.{Bool, List, [], ap, arith, false, get_or, inl, inr, length, map, not, refl, subst, sym}
 use Rattle.std.proofs.Common.{true, ℕ, ◌<◌, ◌||◌, ◌∙◌, ◌∷◌, ◌≡◌, ◌≢◌, ◌&&◌, ◌⊎◌, Contains, filter, slice_index_or}
-use Rattle.std.proofs.Common.{IfSome, IsTrue, is_some}
-use Rattle.sj_core.proofs.Words.{Claimed, Access, Array, AtNode, Cell, Kernel, Machine, Program, Progress, R, RW, Redux}
-use Rattle.sj_core.proofs.Words.{Running, State, Task, W, Waiting, Worker, array_of, cell_info, cells_of, copy_of}
-use Rattle.sj_core.proofs.Words.{done_by, done_in, has_cell, is_done, is_task_of, node_of, progress, replica, same_cell}
+use Rattle.std.proofs.Common.{IsTrue, is_some}
+use Rattle.sj_core.proofs.Words.{Claimed, Access, AtNode, Cell, Kernel, Machine, Program, Progress, R, RW, Redux}
+use Rattle.sj_core.proofs.Words.{Running, State, Task, W, Waiting, Worker, cell_info, cells_of, copy_of}
+use Rattle.sj_core.proofs.Words.{done_by, done_in, has_cell, is_done, is_task_of, node_of, progress, same_cell}
 use Rattle.sj_core.proofs.Words.{task_of, worked_on, worker_of, writes, written_cells}
 use Rattle.std.proofs.lemmas.Bool.{false_from_ne_true, false≢true}
 use Rattle.std.proofs.lemmas.List.Elements.{All-contains, Contains-get_or}
@@ -16,9 +16,9 @@ use Rattle.sj_deps.specs.Conflict.{Conflict}
 use Rattle.sj_core.specs.Laws.{Brought, HasAtHand, HoldsFinal, IsLawful, IsSettled, IsSound, Works, final}
 use Rattle.sj_core.specs.Proper.{IsContribution, IsFirstUnit, IsOfPhase, IsOpenAt, IsPhase, IsPlain, Phase, Proper}
 use Rattle.sj_core.specs.Proper.{gives_value, task_number}
-use Rattle.sj_core.specs.Coherent.{content, has_written, is_begun, is_being_written}
+use Rattle.sj_core.specs.Coherent.{has_written, is_begun, is_being_written}
 use Rattle.sj_core.specs.Fold.{given, held_before, held_in}
-use Rattle.sj_core.specs.{Legal.IsComplete, Step.EarlierAreDone, Step.array_at}
+use Rattle.sj_core.specs.{Legal.IsComplete, Step.EarlierAreDone}
 use Rattle.sj_core.proofs.Finding.{being_written-by, gives-writes, task-counted, running-inside}
 use Rattle.sj_core.proofs.{Advancing.done-begun, Ending.all-staffed, Ending.later-free, Copies.combine-of}
 use Rattle.sj_core.proofs.{Copies.direct-cell, Copies.init-of, Workers.cone-shared, Workers.in_order-conflicts}
@@ -26,6 +26,7 @@ use Rattle.sj_core.proofs.{Workers.workers-alike, Folding.after_chosen-same, Fol
 use Rattle.sj_core.proofs.{Folding.read-among_cells, Found.found-content, Modes.plain_isn't_redux}
 use Rattle.sj_core.proofs.{Modes.reads_isn't_scratch, TaskCells.operand-inside, Readiness.Contains-filter}
 use Rattle.sj_core.proofs.{Replicas.same_worker-refl, Sharing.Conflict-sym, Sharing.one, Sharing.redux-has_copies}
+use Rattle.sj_core.specs.Arrays.{Arrays, HoldsContent, content}
 
 -- ---- phases
 
@@ -81,9 +82,9 @@ module _ (p : Program) (m : Machine) (s : State) (h : IsSound p m s) where
   staffed = all-staffed p s some_worker h.coherent.state.staff
 
   -- each operand whose old value is read is found as the content of the cell that is worked on
-  pub finds-content : (t : Task) (w : Worker) (a : Access) → Contains (task_of p t).accesses a → IsTrue (reads_value a.mode) → HasAtHand m s t w (worked_on p w a) → array_at p s (AtNode (node_of m w)) (worked_on p w a) ≡ content p s (worked_on p w a)
-  finds-content t w a among reads (Works running) = found-content p h.proper m s h.coherent t w (ap (is_task_of w) running ∙ same_worker-refl w) a among (ap not reads) (h.coherent.cells.running t w (worked_on p w a) running (read-among_cells p t w a among (ap not reads)))
-  finds-content t w a among reads (Brought claimed valid) = found-content p h.proper m s h.coherent t w (ap (is_task_of w) claimed ∙ ap (λ b. b || false) (same_worker-refl w)) a among (ap not reads) valid
+  pub finds-content : (A : Arrays) → HoldsContent p m s A → (t : Task) (w : Worker) (a : Access) → Contains (task_of p t).accesses a → IsTrue (reads_value a.mode) → HasAtHand m s t w (worked_on p w a) → A (worked_on p w a) (AtNode (node_of m w)) ≡ content p s (worked_on p w a)
+  finds-content A holds t w a among reads (Works running) = found-content p h.proper m s h.coherent A holds t w (ap (is_task_of w) running ∙ same_worker-refl w) a among (ap not reads) (h.coherent.cells.running t w (worked_on p w a) running (read-among_cells p t w a among (ap not reads)))
+  finds-content A holds t w a among reads (Brought claimed valid) = found-content p h.proper m s h.coherent A holds t w (ap (is_task_of w) claimed ∙ ap (λ b. b || false) (same_worker-refl w)) a among (ap not reads) valid
 
   module _ (has : Kernel → Bool) (lawful : IsLawful has p) where
     -- the content of a settled cell of an access in order is what the cell holds after all tasks before
@@ -102,11 +103,11 @@ module _ (p : Program) (m : Machine) (s : State) (h : IsSound p m s) where
         conflicts : (u : Task) → u.0 < length p.tasks → has_cell (written_cells p u (done_by s u)) a.cell ≡ true → Conflict p u.0 t.0
         conflicts u u_in writes = in_order-conflicts p h.proper u t u_in inside (done_by s u) w (staffed u) w_in a among accessed in_order (ap (has_cell (written_cells p u (done_by s u))) (direct-cell p w a (plain_isn't_redux a.mode in_order)) ∙ writes)
 
-    pub finds-earlier : (t : Task) (w : Worker) (a : Access) → Contains (task_of p t).accesses a → IsTrue (reads_value a.mode) → IsTrue (is_in_order a.mode) → IsSettled p t.0 a.cell → HasAtHand m s t w a.cell → array_at p s (AtNode (node_of m w)) a.cell ≡ held_before p t.0 a.cell
-    finds-earlier t w a among reads in_order settled at_hand =
+    pub finds-earlier : (A : Arrays) → HoldsContent p m s A → (t : Task) (w : Worker) (a : Access) → Contains (task_of p t).accesses a → IsTrue (reads_value a.mode) → IsTrue (is_in_order a.mode) → IsSettled p t.0 a.cell → HasAtHand m s t w a.cell → A a.cell (AtNode (node_of m w)) ≡ held_before p t.0 a.cell
+    finds-earlier A holds t w a among reads in_order settled at_hand =
         let same = direct-cell p w a (plain_isn't_redux a.mode in_order) in
-        ap (array_at p s (AtNode (node_of m w))) (sym same)
-        ∙ finds-content t w a among reads (subst (HasAtHand m s t w) (sym same) at_hand)
+        ap (λ (c : Cell). A c (AtNode (node_of m w))) (sym same)
+        ∙ finds-content A holds t w a among reads (subst (HasAtHand m s t w) (sym same) at_hand)
         ∙ ap (content p s) same
         ∙ by_hand at_hand
       where
@@ -121,12 +122,12 @@ module _ (p : Program) (m : Machine) (s : State) (h : IsSound p m s) where
         by_hand (Brought claimed valid) = by_progress (Claimed w) claimed refl refl refl
 
     -- a task with one R operand hands over what it is given
-    pub delivers-given : (t : Task) (w : Worker) (c : Cell) → (task_of p t).accesses ≡ access R c ∷ [] → HasAtHand m s t w c → array_at p s (AtNode (node_of m w)) c ≡ given p t
-    delivers-given t w c alone at_hand =
+    pub delivers-given : (A : Arrays) → HoldsContent p m s A → (t : Task) (w : Worker) (c : Cell) → (task_of p t).accesses ≡ access R c ∷ [] → HasAtHand m s t w c → A c (AtNode (node_of m w)) ≡ given p t
+    delivers-given A holds t w c alone at_hand =
         let among : Contains (task_of p t).accesses (access R c) = subst (λ (xs : List Access). Contains xs (access R c)) (sym alone) (one (access R c)) in
         let v : Worker = record { 0 = 0 } in
         let named : cells_of p t v ≡ c ∷ [] = ap (λ (xs : List Access). map (worked_on p v) (filter (λ a. not (is_scratch a.mode)) xs)) alone in
-        finds-earlier t w (access R c) among refl refl (read-settled p h.proper t c alone) at_hand
+        finds-earlier A holds t w (access R c) among refl refl (read-settled p h.proper t c alone) at_hand
         ∙ ap (λ (cs : List Cell). held_before p t.0 (slice_index_or cs 0 (record { 0 = 0 }))) (sym named)
 
   -- ---- where all tasks are done
@@ -153,8 +154,8 @@ module _ (p : Program) (m : Machine) (s : State) (h : IsSound p m s) where
         ap (λ z. held_in p z c) (after_chosen-same p (done_in s) (λ u. true) (done_by s) (done_by s) (length p.tasks) (λ u l. all-done u l) (λ u l e. refl))
         ∙ workers-alike has p h.proper lawful (length p.tasks) (omega arith) c plain (λ f phase same. none-open p h.proper f phase) (done_by s) (λ u. record { 0 = 0 }) staffed (λ u. some_worker)
 
-    pub complete-final : (has : Kernel → Bool) → IsLawful has p → HoldsFinal p s
-    complete-final has lawful = record {
+    pub complete-final : (A : Arrays) → HoldsContent p m s A → (has : Kernel → Bool) → IsLawful has p → HoldsFinal p s A
+    complete-final A holds has lawful = record {
       somewhere = λ t c gives. h.coherent.copies.valid_somewhere c (all-written t c gives) (none-written c);
-      alike = λ t c q gives plain. subst (λ (x : Array). IfSome (array_of (replica s c q)) (λ a. a ≡ x)) (all-content has lawful c plain) (h.coherent.copies.alike c q (all-written t c gives) (none-written c));
+      alike = λ t c q gives plain valid. holds.alike c q (all-written t c gives) (none-written c) valid ∙ all-content has lawful c plain;
     }

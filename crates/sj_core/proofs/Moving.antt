@@ -1,13 +1,13 @@
 -- A move that begins, one that ends, and a drop leave a coherent state.
-use Rattle.std.proofs.Common.{arith, List, Some, false, inl, inr, refl, sym, true, ◌∙◌, ◌≡◌, ap, subst, None, Option, not, ◌&&◌, ◌⊎◌, Bool, ◌<◌, ◌≢◌, IsTrue, IfSome}
+use Rattle.std.proofs.Common.{arith, List, Some, false, inl, inr, refl, sym, true, ◌∙◌, ◌≡◌, ap, subst, None, Option, not, ◌&&◌, ◌⊎◌, Bool, ◌<◌, ◌≢◌, IsTrue, cond}
 use Rattle.std.proofs.lemmas.List.{length-set}
-use Rattle.std.proofs.lemmas.Bool.{true≢false, and_from, false_from_ne_true, false≢true, and_parts}
+use Rattle.std.proofs.lemmas.Bool.{true≢false, and_from, false_from_ne_true, false≢true, and_parts, cases_Bool}
 use Rattle.std.proofs.lemmas.List.Quantifiers.{position-Some}
-use Rattle.sj_base.proofs.SameIds.{same_cell-itself, same_place-itself}
-use Rattle.sj_core.specs.Coherent.{Coherent, CopiesAgree, HasBlocks, HasRows, IsOwnedBy, IsTransferTo, TransfersAreSound, IsClaimed, content}
+use Rattle.sj_base.proofs.SameIds.{same_cell-itself, same_place-itself, same_cell-is}
+use Rattle.sj_core.specs.Coherent.{Coherent, HasBlocks, HasRows, IsOwnedBy, IsTransferTo, TransfersAreSound, IsClaimed, WrittenIsKept}
 use Rattle.sj_core.specs.Laws.{IsSound}
-use Rattle.sj_core.specs.Step.{CanDrop, CanMoveIn, CanMoveOut, a_transfer, array_at, disk_of, is_fresh, is_read, reads, same_place}
-use Rattle.sj_core.proofs.Words.{Array, AtNode, Cell, CellState, Claimed, Machine, Node, Place, Program, Running, State, Task, Transfer, Worker, WorkerState, has_cell, is_claimed_by, is_coming_by, is_entry, is_leaving_by, is_valid, moves, node_of, pins, progress, replica, scratch, transfer, victims_of, writes, DiskNo, OnDisk, with_transfer, Invalid, fresh_cells, Coming, Leaving, Replica, Valid, array_of, dims_of, same_cell, with_replica, zeros, is_leaving}
+use Rattle.sj_core.specs.Step.{CanDrop, CanMoveIn, CanMoveOut, a_transfer, disk_of, is_fresh, is_read, reads, same_place}
+use Rattle.sj_core.proofs.Words.{AtNode, Cell, CellState, Claimed, Machine, Node, Place, Program, Running, State, Task, Transfer, Worker, WorkerState, has_cell, is_claimed_by, is_coming_by, is_entry, is_leaving_by, is_valid, moves, node_of, pins, progress, replica, scratch, transfer, victims_of, writes, DiskNo, OnDisk, with_transfer, Invalid, fresh_cells, Coming, Leaving, Replica, Valid, same_cell, with_replica, is_leaving, Moved}
 use Rattle.sj_core.proofs.Advancing.{claimed-is_mine, task_of-worker, claimed_by-is}
 use Rattle.sj_core.proofs.Changing.{Changes, Changes-coherent, Changes-writers, HasBlocks-kept, TransfersAreSound-kept}
 use Rattle.sj_core.proofs.Placing.{transfer-is, pins-same, scratch-same, victims-same, owned-fails, position-none, room-leaves_none, valid-within, stays-on_disk, list_any-place, same_place-is, disks-kept, nodes-kept, replica-cases, transfer-cases, transfer-own, writes-same}
@@ -15,8 +15,9 @@ use Rattle.sj_core.proofs.Reading.{unmoved-from, moves-it, transfer-inside, list
 use Rattle.sj_core.proofs.Replicas.{same_worker-refl, leaving_by-one, leaving_by-valid, coming_by-is, coming_by-one, leaving-by_some, leaving-is_none}
 use Rattle.sj_core.proofs.Claimed.{claimed-inside, claimed-not_written, claimed-old_value, list_any-task}
 use Rattle.sj_core.proofs.CellLists.{same_cell-from}
-use Rattle.sj_core.proofs.Finding.{array-told}
 use Rattle.sj_core.proofs.Readiness.{list_any-some}
+use Rattle.sj_core.specs.Arrays.{Arrays, HoldsContent, arrays_after}
+use Rattle.sj_core.proofs.Finding.{second_fails, HoldsContent-kept}
 
 -- ---- a step that changes replicas and transfers alone, and what it owes so as to leave a coherent state
 
@@ -36,11 +37,11 @@ pub record Shifts (p : Program) (m : Machine) (s : State) (cells : List CellStat
   pub comes : (v : Worker) (c : Cell) (k : Node) → is_coming_by v (replica (shifted s cells workers) c (AtNode k)) ≡ true → is_coming_by v (replica s c (AtNode k)) ≡ true
   pub still_comes : (v : Worker) (c d : Cell) (k : Node) → is_leaving_by v (replica (shifted s cells workers) d (AtNode k)) ≡ true → is_coming_by v (replica s c (AtNode k)) ≡ true → is_coming_by v (replica (shifted s cells workers) c (AtNode k)) ≡ true
   pub pinned : (v : Worker) (c : Cell) → has_cell (pins s v) c ≡ true → is_valid (replica s c (AtNode (node_of m v))) ≡ true → is_valid (replica (shifted s cells workers) c (AtNode (node_of m v))) ≡ true
-  pub owned : (c : Cell) (v : Worker) (a : Array) → IsOwnedBy m s c v a → (q : Place) → replica (shifted s cells workers) c q ≡ replica s c q
-  pub unmoved : (c : Cell) (v : Worker) (a : Array) → IsOwnedBy m s c v a → (x : Worker) → moves (shifted s cells workers) x c ≡ false
+  pub owned : (c : Cell) (v : Worker) → IsOwnedBy m s c v → (q : Place) → replica (shifted s cells workers) c q ≡ replica s c q
+  pub unmoved : (c : Cell) (v : Worker) → IsOwnedBy m s c v → (x : Worker) → moves (shifted s cells workers) x c ≡ false
   pub movers : (v : Worker) (x : Transfer) → transfer (shifted s cells workers) v ≡ Some x → (t : Task) × (is_claimed_by v (progress s t) ≡ true)
   pub moving : TransfersAreSound m (shifted s cells workers)
-  pub copies : CopiesAgree p (shifted s cells workers)
+  pub copies : WrittenIsKept p (shifted s cells workers)
 
 module _ (p : Program) (m : Machine) (s : State) (h : IsSound p m s) (t : Task) (w : Worker) (claimed : progress s t ≡ Claimed w) (cells : List CellState) (workers : List WorkerState) (shift : Shifts p m s cells workers) where
   abbrev after : State
@@ -72,7 +73,7 @@ module _ (p : Program) (m : Machine) (s : State) (h : IsSound p m s) (t : Task) 
   pub Shifts-coherent : Coherent p m after
   Shifts-coherent = Changes-coherent p m s h after t (Claimed w) (Claimed w) w change
       (Changes-writers p m s h after t (Claimed w) (Claimed w) w change
-      (λ u v c d runs written. (let old = h.coherent.writers.owned u v c runs written in (shift.owned c v _ old, shift.unmoved c v _ old, refl)))
+      (λ u v c d runs written. (let old = h.coherent.writers.owned u v c runs written in (shift.owned c v old, shift.unmoved c v old)))
       (λ c e. absurd (let f : Claimed w ≡ Running w = e in cc)))
       shift.copies
 
@@ -81,7 +82,7 @@ module _ (p : Program) (m : Machine) (s : State) (h : IsSound p m s) (t : Task) 
 module _ (p : Program) (m : Machine) (s : State) (h : IsSound p m s) (w : Worker) (begun : Transfer) (aimed : (d : DiskNo) → begun.to ≡ OnDisk d → disk_of p m begun.cell ≡ Some d)
     (source : is_valid (replica s begun.cell begun.from) ≡ true) (target : IsTransferTo m s w begun.cell begun.from begun.to)
     (alone : (v : Worker) (x : Transfer) (d e : DiskNo) → transfer s v ≡ Some x → x.to ≡ OnDisk d → begun.to ≡ OnDisk e → x.cell ≡ begun.cell → v ≡ w)
-    (free : (v : Worker) (a : Array) → IsOwnedBy m s begun.cell v a → ⊥) (t : Task) (claimed : progress s t ≡ Claimed w) where
+    (free : (v : Worker) → IsOwnedBy m s begun.cell v → ⊥) (t : Task) (claimed : progress s t ≡ Claimed w) where
   abbrev now : State
   now = with_transfer s w (Some begun)
 
@@ -116,11 +117,11 @@ module _ (p : Program) (m : Machine) (s : State) (h : IsSound p m s) (w : Worker
     comes = λ v d k coming. coming;
     still_comes = λ v x d k leaving coming. coming;
     pinned = λ v d pin valid. valid;
-    owned = λ d v a own q. refl;
-    unmoved = λ d v a own x. unmoved-from now x d (λ y under_way e. (grind (arith, transfer-is s w begun x y under_way, moves-it s x y, own.unmoved x, free v a)));
+    owned = λ d v own q. refl;
+    unmoved = λ d v own x. unmoved-from now x d (λ y under_way e. (grind (arith, transfer-is s w begun x y under_way, moves-it s x y, own.unmoved x, free v)));
     movers = λ v x under_way. elim (transfer-is s w begun v x under_way) [ inl same ↦ h.coherent.workers.moves_for_claim v x same | inr (e, is) ↦ (t, grind (arith, e, claimed, same_worker-refl w)) ];
     moving = moving;
-    copies = record { valid_somewhere = h.coherent.copies.valid_somewhere; alike = h.coherent.copies.alike };
+    copies = record { valid_somewhere = h.coherent.copies.valid_somewhere };
   }
 
   -- it leaves a coherent state
@@ -152,7 +153,7 @@ module _ (p : Program) (m : Machine) (s : State) (h : IsSound p m s) (c : Cell) 
   Moves_in-keep_coherence = Begun-coherent p m s h w (a_transfer c from (AtNode n))
       (λ d to. absurd (let e : AtNode n ≡ OnDisk d = to in cc)) source_valid (move.own_node, move.coming, room-leaves_none p m s h w move.room)
       (λ v x d e under_way to aims cell. absurd (let f : AtNode n ≡ OnDisk e = aims in cc))
-      (λ v a own. false≢true (sym (owned-fails m s c v a own (is_coming_by w) refl refl (AtNode n)) ∙ move.coming)) claimed.task claimed.claimed
+      (λ v own. false≢true (sym (owned-fails m s c v own (is_coming_by w) refl refl (AtNode n)) ∙ move.coming)) claimed.task claimed.claimed
 
 -- ---- a move out to a disk that begins leaves a coherent state
 
@@ -167,9 +168,9 @@ module _ (p : Program) (m : Machine) (s : State) (h : IsSound p m s) (c : Cell) 
     where
       by_replica : (r : Replica) → replica s c (OnDisk d) ≡ r → r ≡ Invalid
       by_replica Invalid e = refl
-      by_replica (Coming v) e = absurd ((h.coherent.state.blocks.resting c d v (zeros (dims_of p c))).0 e)
-      by_replica (Leaving v a) e = absurd ((h.coherent.state.blocks.resting c d v a).1 e)
-      by_replica (Valid a) e = absurd (stays-on_disk p m s h w c d (ap (λ (q : Place). is_leaving_by w (replica s c q)) (only_one (OnDisk d) (ap is_valid e)) ∙ move.leaving))
+      by_replica (Coming v) e = absurd ((h.coherent.state.blocks.resting c d v).0 e)
+      by_replica (Leaving v) e = absurd ((h.coherent.state.blocks.resting c d v).1 e)
+      by_replica Valid e = absurd (stays-on_disk p m s h w c d (ap (λ (q : Place). is_leaving_by w (replica s c q)) (only_one (OnDisk d) (ap is_valid e)) ∙ move.leaving))
 
   -- another worker's transfer of the cell to a disk would read the same replica
   reads_the_same : (v : Worker) (x : Transfer) (k : DiskNo) → transfer s v ≡ Some x → x.to ≡ OnDisk k → x.cell ≡ c → v ≡ w
@@ -186,7 +187,7 @@ module _ (p : Program) (m : Machine) (s : State) (h : IsSound p m s) (c : Cell) 
   Moves_out-keep_coherence = Begun-coherent p m s h w (a_transfer c from (OnDisk d))
       (λ k to. move.target ∙ (let e : OnDisk d ≡ OnDisk k = to in cc)) (leaving_by-valid w (replica s c from) move.leaving) (move.leaving, target_invalid)
       (λ v x k j under_way to aims cell. reads_the_same v x k under_way to cell)
-      (λ v a own. false≢true (sym (owned-fails m s c v a own (is_leaving_by w) refl refl from) ∙ move.leaving)) claims.0 (claimed_by-is w (progress s claims.0) claims.1)
+      (λ v own. false≢true (sym (owned-fails m s c v own (is_leaving_by w) refl refl from) ∙ move.leaving)) claims.0 (claimed_by-is w (progress s claims.0) claims.1)
 
 -- where a replica is replaced by one that fails a test, none passes it that didn't before
 replaced-fewer : (s : State) (c : Cell) (to : Place) (r : Replica) (test : Replica → Bool) → test r ≡ false → (x : Cell) (q : Place) → test (replica (with_replica s c to r) x q) ≡ true → test (replica s x q) ≡ true
@@ -198,11 +199,8 @@ module _ (p : Program) (m : Machine) (s : State) (h : IsSound p m s) (c : Cell) 
   abbrev ending : Transfer
   ending = a_transfer c from to
 
-  abbrev brought : Array
-  brought = array_at p s from c
-
   abbrev placed : State
-  placed = with_replica s c to (Valid brought)
+  placed = with_replica s c to Valid
 
   abbrev arrived : State
   arrived = with_transfer placed w None
@@ -223,14 +221,14 @@ module _ (p : Program) (m : Machine) (s : State) (h : IsSound p m s) (c : Cell) 
   was_invalid d e = (subst (λ (q : Place). IsTransferTo m s w c from q) (sym e) target).1
 
   -- each replica is as before, or is the one that was brought
-  arrived-cases : (x : Cell) (q : Place) → (replica arrived x q ≡ replica s x q) ⊎ ((x ≡ c) × (q ≡ to) × (replica arrived x q ≡ Valid brought))
-  arrived-cases x q = replica-cases s c to (Valid brought) x q
+  arrived-cases : (x : Cell) (q : Place) → (replica arrived x q ≡ replica s x q) ⊎ ((x ≡ c) × (q ≡ to) × (replica arrived x q ≡ Valid))
+  arrived-cases x q = replica-cases s c to Valid x q
 
   arrived-entries : (x : Cell) (k : Node) → is_entry (replica arrived x (AtNode k)) ≡ is_entry (replica s x (AtNode k))
   arrived-entries x k = grind (arith, arrived-cases x (AtNode k), coming_by-is, came)
 
   arrived-leaves : (v : Worker) (x : Cell) (q : Place) → is_leaving_by v (replica arrived x q) ≡ true → is_leaving_by v (replica s x q) ≡ true
-  arrived-leaves v x q = replaced-fewer s c to (Valid brought) (is_leaving_by v) refl x q
+  arrived-leaves v x q = replaced-fewer s c to Valid (is_leaving_by v) refl x q
 
   -- what comes by another worker's claim still comes
   others_come : (v : Worker) (x : Cell) (k : Node) → v ≢ w → is_coming_by v (replica s x (AtNode k)) ≡ true → is_coming_by v (replica arrived x (AtNode k)) ≡ true
@@ -266,43 +264,34 @@ module _ (p : Program) (m : Machine) (s : State) (h : IsSound p m s) (c : Cell) 
   blocks =
       let before = h.coherent.state.blocks in
       record {
-        resting = λ x d v a. (λ e. (grind (arith, arrived-cases x (OnDisk d), (before.resting x d v a).0)), λ e. (grind (arith, arrived-cases x (OnDisk d), (before.resting x d v a).1)));
+        resting = λ x d v. (λ e. (grind (arith, arrived-cases x (OnDisk d), (before.resting x d v).0)), λ e. (grind (arith, arrived-cases x (OnDisk d), (before.resting x d v).1)));
         home = λ x d valid. (grind (arith, arrived-cases x (OnDisk d), before.home x d, before.aimed w ending d moved));
         aimed = λ v x d under_way. before.aimed v x d (others v x under_way).1;
       }
 
-  arrived-copies : CopiesAgree p arrived
-  arrived-copies =
-      let before = h.coherent.copies in
-      let positive : (x : Cell) → 0 < writes arrived x → 0 < writes s x = λ x some. (let same = writes-same s c to (Valid brought) x in omega arith) in
-      record {
-        valid_somewhere = λ x some unwritten. (let old = before.valid_somewhere x (positive x some) unwritten in (old.0, valid_stays x old.0 old.1));
-        alike = λ x q some unwritten. elim (arrived-cases x q) [
-          | inl same ↦ subst (λ (r : Replica). IfSome (array_of r) (λ a. a ≡ content p s x)) (sym same) (before.alike x q (positive x some) unwritten)
-          | inr (e, at, is) ↦
-              let here = before.alike x from (positive x some) unwritten in
-              let holds : brought ≡ content p s x = array-told (array_of (replica s c from)) (content p s x) (zeros (dims_of p c)) (h.coherent.transfers.source w ending moved) (subst (λ (y : Cell). IfSome (array_of (replica s y from)) (λ a. a ≡ content p s x)) e here) in
-              subst (λ (r : Replica). IfSome (array_of r) (λ a. a ≡ content p s x)) (sym is) holds
-        ];
-      }
+  positive : (x : Cell) → 0 < writes arrived x → 0 < writes s x
+  positive x some = let same = writes-same s c to Valid x in omega arith
+
+  arrived-copies : WrittenIsKept p arrived
+  arrived-copies = record { valid_somewhere = λ x some unwritten. (let old = h.coherent.copies.valid_somewhere x (positive x some) unwritten in (old.0, valid_stays x old.0 old.1)) }
 
   -- a cell that a worker owns isn't the one that moved
-  owned_apart : (x : Cell) (v : Worker) (a : Array) → IsOwnedBy m s x v a → x ≡ c → ⊥
-  owned_apart x v a own e = search (arith, same_cell-itself, true≢false)
+  owned_apart : (x : Cell) (v : Worker) → IsOwnedBy m s x v → x ≡ c → ⊥
+  owned_apart x v own e = search (arith, same_cell-itself, true≢false)
 
   arrived-shift : Shifts p m s arrived.cells arrived.workers
   arrived-shift = record {
     rows = (search (arith, length-set, nodes-kept, disks-kept));
     blocks = blocks;
     hands = λ v. (pins-same placed w None v, scratch-same placed w None v, victims-same placed w None v);
-    same_writes = writes-same s c to (Valid brought);
+    same_writes = writes-same s c to Valid;
     same_entries = arrived-entries;
     leaves = arrived-leaves;
-    comes = λ v x k. replaced-fewer s c to (Valid brought) (is_coming_by v) refl x (AtNode k);
+    comes = λ v x k. replaced-fewer s c to Valid (is_coming_by v) refl x (AtNode k);
     still_comes = arrived-still_comes;
     pinned = λ v x pin valid. valid_stays x (AtNode (node_of m v)) valid;
-    owned = λ x v a own q. elim (arrived-cases x q) [ inl same ↦ same | inr (e, at, is) ↦ absurd (owned_apart x v a own e) ];
-    unmoved = λ x v a own u. (search (arith, transfer-cases));
+    owned = λ x v own q. elim (arrived-cases x q) [ inl same ↦ same | inr (e, at, is) ↦ absurd (owned_apart x v own e) ];
+    unmoved = λ x v own u. (search (arith, transfer-cases));
     movers = λ v x under_way. h.coherent.workers.moves_for_claim v x (others v x under_way).1;
     moving = arrived-moving;
     copies = arrived-copies;
@@ -312,6 +301,32 @@ module _ (p : Program) (m : Machine) (s : State) (h : IsSound p m s) (c : Cell) 
   Ended_moves-keep_coherence =
       let claims = h.coherent.workers.moves_for_claim w ending moved in
       Shifts-coherent p m s h claims.0 w (claimed_by-is w (progress s claims.0) claims.1) arrived.cells arrived.workers arrived-shift
+
+  -- what the cell holds where it came from it holds where it came to
+  module _ (A : Arrays) (holds : HoldsContent p m s A) where
+    abbrev copied : Arrays
+    copied = arrays_after p m A (Moved c from to)
+
+    pub Ended_moves-content : HoldsContent p m arrived copied
+    Ended_moves-content = record {
+      begun = λ u v x runs written.
+          (let own = h.coherent.writers.owned u v x runs written in
+          second_fails (same_place (AtNode (node_of m v)) to) (same_cell c x) (A c from) (A x (AtNode (node_of m v))) (false_from_ne_true (same_cell c x) (λ same. owned_apart x v own (sym (same_cell-is c x same))))
+          ∙ holds.begun u v x runs written);
+      alike = λ x q some resting valid. elim (cases_Bool (same_place q to && same_cell c x)) [
+        | inl both ↦
+            let is : c ≡ x = same_cell-is c x (and_parts (same_place q to) (same_cell c x) both).1 in
+            ap (λ b. cond b (A c from) (A x q)) both
+            ∙ ap (λ (y : Cell). A y from) is
+            ∙ holds.alike x from (positive x some) resting (ap (λ (y : Cell). is_valid (replica s y from)) (sym is) ∙ h.coherent.transfers.source w ending moved)
+        | inr other ↦
+            ap (λ b. cond b (A c from) (A x q)) other
+            ∙ holds.alike x q (positive x some) resting (elim (arrived-cases x q) [
+              | inl same ↦ sym (ap is_valid same) ∙ valid
+              | inr (e, at, is) ↦ absurd (false≢true (sym other ∙ and_from (same_place q to) (same_cell c x) (ap (λ (k : Place). same_place k to) at ∙ same_place-itself to) (same_cell-from c x (sym e))))
+            ])
+      ];
+    }
 
 -- ---- a drop leaves a coherent state
 
@@ -354,17 +369,15 @@ module _ (p : Program) (m : Machine) (s : State) (h : IsSound p m s) (c : Cell) 
   elsewhere : (q : Place) × (is_valid (replica dropped c q) ≡ true)
   elsewhere = search (arith, list_any-some, and_parts, dropped-cases, false≢true, same_place-itself)
 
-  dropped-copies : CopiesAgree p dropped
-  dropped-copies =
-      let before = h.coherent.copies in
-      let positive : (d : Cell) → 0 < writes dropped d → 0 < writes s d = λ d some. (let same = writes-same s c (AtNode n) Invalid d in omega arith) in
-      record {
-        valid_somewhere = λ d some unwritten. (let old = before.valid_somewhere d (positive d some) unwritten in elim (dropped-cases d old.0) [
+  dropped-copies : WrittenIsKept p dropped
+  dropped-copies = record {
+    valid_somewhere = λ d some unwritten.
+        (let old = h.coherent.copies.valid_somewhere d (let same = writes-same s c (AtNode n) Invalid d in omega arith) unwritten in
+        elim (dropped-cases d old.0) [
           | inl same ↦ (old.0, ap is_valid same ∙ old.1)
           | inr (e, at, is, left) ↦ (elsewhere.0, ap (λ (x : Cell). is_valid (replica dropped x elsewhere.0)) e ∙ elsewhere.1)
         ]);
-        alike = λ d q some unwritten. (search (arith, dropped-cases));
-      }
+  }
 
   dropped-shift : Shifts p m s dropped.cells dropped.workers
   dropped-shift = record {
@@ -377,8 +390,8 @@ module _ (p : Program) (m : Machine) (s : State) (h : IsSound p m s) (c : Cell) 
     comes = λ v d k. replaced-fewer s c (AtNode n) Invalid (is_coming_by v) refl d (AtNode k);
     still_comes = λ v x d k leaving coming. dropped-still_comes v x k coming;
     pinned = λ v d pin valid. (grind (arith, dropped-cases d (AtNode (node_of m v)), h.coherent.pins.stays v d pin));
-    owned = λ d v a own q. (search (arith, dropped-cases, false≢true, owned-fails));
-    unmoved = λ d v a own x. own.unmoved x;
+    owned = λ d v own q. (search (arith, dropped-cases, false≢true, owned-fails));
+    unmoved = λ d v own x. own.unmoved x;
     movers = h.coherent.workers.moves_for_claim;
     moving = dropped-moving;
     copies = dropped-copies;
@@ -389,3 +402,7 @@ module _ (p : Program) (m : Machine) (s : State) (h : IsSound p m s) (c : Cell) 
       let by = leaving-by_some (replica s c (AtNode n)) drop.leaving in
       let claims = (h.coherent.workers.evicted by.0 c n by.1).claims in
       Shifts-coherent p m s h claims.0 by.0 (claimed_by-is by.0 (progress s claims.0) claims.1) dropped.cells dropped.workers dropped-shift
+
+  -- no array changes
+  pub Drops-content : (A A' : Arrays) → ((d : Cell) (q : Place) → A' d q ≡ A d q) → HoldsContent p m s A → HoldsContent p m dropped A'
+  Drops-content A A' same = HoldsContent-kept p m s dropped A A' same (λ t w runs. runs) (λ d. refl) (writes-same s c (AtNode n) Invalid) (λ d resting. resting) (λ d q valid. replaced-fewer s c (AtNode n) Invalid is_valid refl d q valid)

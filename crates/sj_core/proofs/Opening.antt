@@ -1,7 +1,7 @@
 -- The opening state is coherent.
 use Rattle.std.proofs.Common.{Option, None, Some, List, [], ap, arith, cond, inl, inr, length}
 use Rattle.std.proofs.Common.{sym, true, ◌&&◌, ◌<◌, ◌∙◌, ◌≡◌, ◌⊎◌, count_by}
-use Rattle.sj_core.proofs.Words.{AtNode, Cell, CellState, Coming, Invalid, Leaving, Machine, Node, OnDisk, Place}
+use Rattle.sj_core.proofs.Words.{AtNode, Cell, CellState, Coming, Invalid, Leaving, Machine, Node, OnDisk, Place, zeros, dims_of}
 use Rattle.sj_core.proofs.Words.{Program, Task, Transfer, Waiting, Worker, WorkerState, cell_state, done_by, has_cell}
 use Rattle.sj_core.proofs.Words.{is_coming_by, is_done, is_entry, is_leaving_by, is_task_of, is_valid, no_replica}
 use Rattle.sj_core.proofs.Words.{opening, order, pins, progress, replica, same_cell, scratch, tasks_of, transfer}
@@ -12,6 +12,7 @@ use Rattle.sj_base.proofs.Lists.{get_or-replicate_same}
 use Rattle.sj_core.specs.Coherent.{Coherent, has_written, is_active, is_begun}
 use Rattle.sj_core.proofs.Reading.{idle_row, no_row, replica_in-no_row}
 use Rattle.sj_core.proofs.{Advancing.claimed-is_mine, Replicas.same_worker-refl, Sums.sum-nothing}
+use Rattle.sj_core.specs.Arrays.{HoldsContent}
 
 module _ (p : Program) (m : Machine) where
   pub waits : (t : Task) → progress (opening p m) t ≡ Waiting
@@ -81,14 +82,14 @@ module _ (p : Program) (m : Machine) where
         once = λ n c. (let e = ap (λ (cs : List Cell). count_by (λ d. same_cell d c) cs) (empty n) in omega arith);
       };
       blocks = record {
-        resting = λ c d w a. (λ e. (let f : Invalid ≡ Coming w = sym (nowhere c (OnDisk d)) ∙ e in cc), λ e. (let f : Invalid ≡ Leaving w a = sym (nowhere c (OnDisk d)) ∙ e in cc));
+        resting = λ c d w. (λ e. (let f : Invalid ≡ Coming w = sym (nowhere c (OnDisk d)) ∙ e in cc), λ e. (let f : Invalid ≡ Leaving w = sym (nowhere c (OnDisk d)) ∙ e in cc));
         home = λ c d h. absurd (false≢true (sym (ap is_valid (nowhere c (OnDisk d))) ∙ h));
         aimed = λ w x d h e. absurd (not_moving w x h);
       };
       staff = record { staffed = λ t h. absurd (not_begun t h) };
     };
     writers = record { owned = λ t w c h has. absurd (not_task_of w t (ap (is_task_of w) h ∙ same_worker-refl w)) };
-    copies = record { valid_somewhere = λ c h b. absurd (not_positive c h); alike = λ c q h b. absurd (not_positive c h) };
+    copies = record { valid_somewhere = λ c h b. absurd (not_positive c h) };
     cells = record { running = λ t w c h has. absurd (not_task_of w t (ap (is_task_of w) h ∙ same_worker-refl w)); claimed = λ t w c h has. absurd (not_task_of w t (ap (is_task_of w) h ∙ claimed-is_mine w)); pinned = λ t w c h has. absurd (not_task_of w t h) };
     pins = record { stays = λ w c h. absurd (not_pinned w c h); own = λ w c h. absurd (not_pinned w c h); coming_here = λ w c n h. absurd (not_coming w c (AtNode n) h); coming_claimed = λ w c n h. absurd (not_coming w c (AtNode n) h); coming_pinned = λ w c n h. absurd (not_coming w c (AtNode n) h) };
     transfers = record { source = λ w x h. absurd (not_moving w x h); target = λ w x h. absurd (not_moving w x h); apart = λ v w x y d e hv hw f g k. absurd (not_moving v x hv) };
@@ -102,4 +103,11 @@ module _ (p : Program) (m : Machine) where
     };
     order = record { earlier = λ t h. absurd (not_begun t h); apart = λ t u ht hu before. absurd (not_active t ht); commuting = λ t u ht hu d. absurd (not_active t ht) };
     counts = record { counted = λ c. unwritten c ∙ sym (none_written c) };
+  }
+
+  -- no cell was written, and none is
+  pub opening-content : HoldsContent p m (opening p m) (λ c q. zeros (dims_of p c))
+  opening-content = record {
+    begun = λ t w c h has. absurd (not_task_of w t (ap (is_task_of w) h ∙ same_worker-refl w));
+    alike = λ c q some resting valid. absurd (not_positive c some);
   }

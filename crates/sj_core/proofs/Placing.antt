@@ -1,7 +1,7 @@
 -- What the accessors of a state give after one replica, or one worker's transfer, was written.
 use Rattle.std.proofs.Common.{Bool, List, None, Option, Some, ap, arith, false, get_or, inl, inr, length, map, subst}
 use Rattle.std.proofs.Common.{sym, true, ℕ, ◌<◌, ◌||◌, ◌∙◌, ◌≡◌, ◌≢◌, ◌⊎◌, All, position}
-use Rattle.sj_core.proofs.Words.{Array, AtNode, Cell, CellState, DiskNo, Invalid, Machine, Node, OnDisk, Place, Program}
+use Rattle.sj_core.proofs.Words.{AtNode, Cell, CellState, DiskNo, Invalid, Machine, Node, OnDisk, Place, Program}
 use Rattle.sj_core.proofs.Words.{Replica, State, Transfer, Valid, Worker, WorkerState, cell_state, has_room}
 use Rattle.sj_core.proofs.Words.{is_leaving_by, is_valid, pins, replica, replica_in, scratch, transfer, victims_of}
 use Rattle.sj_core.proofs.Words.{with_replica, with_replica_in, with_transfer, worker_state, writes}
@@ -106,12 +106,12 @@ pub same_place-is : (q k : Place) → same_place q k ≡ true → q ≡ k
 same_place-is q k h = search (arith, Decides-eqb, false≢true)
 
 -- each replica of a cell that a worker owns is the valid one, or invalid
-pub owned-cases : (m : Machine) (s : State) (c : Cell) (v : Worker) (a : Array) → IsOwnedBy m s c v a → (q : Place) → (replica s c q ≡ Valid a) ⊎ (replica s c q ≡ Invalid)
-owned-cases m s c v a own q = search (arith, same_place-is)
+pub owned-cases : (m : Machine) (s : State) (c : Cell) (v : Worker) → IsOwnedBy m s c v → (q : Place) → (replica s c q ≡ Valid) ⊎ (replica s c q ≡ Invalid)
+owned-cases m s c v own q = search (arith, same_place-is)
 
 -- and so a replica of it passes no test that a valid and an invalid one fail
-pub owned-fails : (m : Machine) (s : State) (c : Cell) (v : Worker) (a : Array) → IsOwnedBy m s c v a → (test : Replica → Bool) → test (Valid a) ≡ false → test Invalid ≡ false → (q : Place) → test (replica s c q) ≡ false
-owned-fails m s c v a own test valid invalid q = elim (owned-cases m s c v a own q) [ inl e ↦ ap test e ∙ valid | inr e ↦ ap test e ∙ invalid ]
+pub owned-fails : (m : Machine) (s : State) (c : Cell) (v : Worker) → IsOwnedBy m s c v → (test : Replica → Bool) → test Valid ≡ false → test Invalid ≡ false → (q : Place) → test (replica s c q) ≡ false
+owned-fails m s c v own test valid invalid q = elim (owned-cases m s c v own q) [ inl e ↦ ap test e ∙ valid | inr e ↦ ap test e ∙ invalid ]
 
 -- ---- where a valid replica is
 
@@ -145,7 +145,7 @@ position-none {X} test xs k d none inside = search (arith, get_or, fails_before_
 
 -- no replica leaves a disk
 pub stays-on_disk : (p : Program) (m : Machine) (s : State) → IsSound p m s → (w : Worker) (c : Cell) (d : DiskNo) → is_leaving_by w (replica s c (OnDisk d)) ≡ true → ⊥
-stays-on_disk p m s h w c d leaving = let is = leaving_by-is w (replica s c (OnDisk d)) leaving in (h.coherent.state.blocks.resting c d w is.0).1 is.1
+stays-on_disk p m s h w c d leaving = (h.coherent.state.blocks.resting c d w).1 (leaving_by-is w (replica s c (OnDisk d)) leaving)
 
 -- no victim of the worker leaves by its claim once it has room
 pub room-leaves_none : (p : Program) (m : Machine) (s : State) → IsSound p m s → (w : Worker) → has_room m s w ≡ true → (c : Cell) (q : Place) → is_leaving_by w (replica s c q) ≡ false

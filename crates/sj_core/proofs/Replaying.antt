@@ -1,19 +1,26 @@
--- Each step keeps coherence whole, and so does each legal trace; a complete one leaves what all tasks leave in submission order.
-use Rattle.std.proofs.Common.{Bool, List, [], ◌∷◌, fold}
-use Rattle.sj_core.proofs.Words.{AtNode, Claim, Drop, End, Event, Kernel, Machine, Move, Moved, OnDisk, Program, Run}
+-- Each step keeps coherence whole, and arrays what the tasks leave, and so does each legal trace; a complete one leaves what all
+-- tasks leave in submission order.
+use Rattle.std.proofs.Common.{Bool, List, [], ◌∷◌, fold, refl}
+use Rattle.sj_core.proofs.Words.{AtNode, Claim, Drop, End, Event, Kernel, Machine, Move, Moved, OnDisk, Program, Run, zeros, dims_of}
 use Rattle.sj_core.proofs.Words.{State, opening}
 use Rattle.sj_core.specs.{Step.May, Step.after, Step.mover_of, Legal.CanFollow, Legal.IsFinished, Legal.IsLegal}
 use Rattle.sj_core.specs.{Legal.state_of, Proper.Proper}
 use Rattle.sj_core.specs.{Proper.IsMachineFor, Coherent.Coherent, Laws.IsLawful, Laws.IsSound, Laws.HoldsFinal}
-use Rattle.sj_core.proofs.Moving.{Drops-keeps_coherence, Moves_in-keep_coherence, Moves_out-keep_coherence}
+use Rattle.sj_core.proofs.Moving.{Drops-keeps_coherence, Moves_in-keep_coherence, Moves_out-keep_coherence, Drops-content, Ended_moves-content}
 use Rattle.sj_core.proofs.Moving.{Ended_moves-keep_coherence}
-use Rattle.sj_core.proofs.Coherence.{Claims-keeps_coherence, Runs-keeps_coherence, Lawful_ends-keep_coherence}
+use Rattle.sj_core.proofs.Coherence.{Claims-keeps_coherence, Runs-keeps_coherence, Ends-keep_coherence}
 use Rattle.sj_core.proofs.{Given.complete-final, Opening.opening-coherent}
+use Rattle.sj_core.specs.Arrays.{Arrays, HoldsContent, arrays_after, arrays_of}
+use Rattle.sj_core.proofs.Ending.{Ends-content, lawful-puts_last}
+use Rattle.sj_core.proofs.Running.{Runs-content}
+use Rattle.sj_core.proofs.Opening.{opening-content}
+use Rattle.sj_core.proofs.Claiming.{Claims-content}
+use Rattle.sj_core.proofs.Eviction.{evicted-after}
 
 pub sound : (p : Program) (m : Machine) → Proper p → IsMachineFor p m → (s : State) → Coherent p m s → IsSound p m s
 sound p m proper machine s c = record { proper = proper; machine = machine; coherent = c }
 
-module _ (p : Program) (m : Machine) (proper : Proper p) (machine : IsMachineFor p m) (has : Kernel → Bool) (lawful : IsLawful has p) where
+module _ (p : Program) (m : Machine) (proper : Proper p) (machine : IsMachineFor p m) where
   -- each legal step keeps coherence whole
   pub Step-keeps_coherence : (s : State) (e : Event) → Coherent p m s → May p m s e → Coherent p m (after p m s e)
   Step-keeps_coherence s (Claim t w) c may = Claims-keeps_coherence p m s t w (sound p m proper machine s c) may
@@ -22,7 +29,7 @@ module _ (p : Program) (m : Machine) (proper : Proper p) (machine : IsMachineFor
   Step-keeps_coherence s (Moved x from to) c may = Ended_moves-keep_coherence p m s (sound p m proper machine s c) x from to (mover_of s x from to) may
   Step-keeps_coherence s (Drop x n) c may = Drops-keeps_coherence p m s (sound p m proper machine s c) x n may
   Step-keeps_coherence s (Run t w) c may = Runs-keeps_coherence p m s t w (sound p m proper machine s c) may
-  Step-keeps_coherence s (End t w) c may = Lawful_ends-keep_coherence has p m s t w (sound p m proper machine s c) lawful may
+  Step-keeps_coherence s (End t w) c may = Ends-keep_coherence p m s t w (sound p m proper machine s c) may
 
   following-coherent : (trace : List Event) (s : State) → Coherent p m s → CanFollow p m s trace → Coherent p m (fold (after p m) s trace)
   following-coherent [] s c follows = c
@@ -32,6 +39,26 @@ module _ (p : Program) (m : Machine) (proper : Proper p) (machine : IsMachineFor
   pub legal-coherent : (trace : List Event) → IsLegal p m trace → Coherent p m (state_of p m trace)
   legal-coherent trace legal = following-coherent trace (opening p m) (opening-coherent p m) legal
 
-  -- where it is complete, the cells hold what all tasks leave in submission order
-  pub finished-final : (trace : List Event) → IsFinished p m trace → HoldsFinal p (state_of p m trace)
-  finished-final trace finished = complete-final p m (state_of p m trace) (sound p m proper machine (state_of p m trace) (legal-coherent trace finished.legal)) finished.complete has lawful
+  -- ---- arrays, by the laws of the program's set
+
+  module _ (has : Kernel → Bool) (lawful : IsLawful has p) where
+    pub Step-keeps_content : (s : State) (A : Arrays) (e : Event) → Coherent p m s → HoldsContent p m s A → May p m s e → HoldsContent p m (after p m s e) (arrays_after p m A e)
+    Step-keeps_content s A (Claim t w) c holds may = Claims-content p m s (sound p m proper machine s c) t w (after p m s (Claim t w)) may (evicted-after p m s t w) A (arrays_after p m A (Claim t w)) (λ x q. refl) holds
+    Step-keeps_content s A (Move x from (AtNode n)) c holds may = record { begun = holds.begun; alike = holds.alike }
+    Step-keeps_content s A (Move x from (OnDisk d)) c holds may = record { begun = holds.begun; alike = holds.alike }
+    Step-keeps_content s A (Moved x from to) c holds may = Ended_moves-content p m s (sound p m proper machine s c) x from to (mover_of s x from to) may A holds
+    Step-keeps_content s A (Drop x n) c holds may = Drops-content p m s (sound p m proper machine s c) x n may A (arrays_after p m A (Drop x n)) (λ y q. refl) holds
+    Step-keeps_content s A (Run t w) c holds may = Runs-content p m s (sound p m proper machine s c) t w (after p m s (Run t w)) may refl A holds
+    Step-keeps_content s A (End t w) c holds may = Ends-content p m s (sound p m proper machine s c) t w (after p m s (End t w)) may refl (lawful-puts_last has p proper lawful) A holds
+
+    following-content : (trace : List Event) (s : State) (A : Arrays) → Coherent p m s → HoldsContent p m s A → CanFollow p m s trace → HoldsContent p m (fold (after p m) s trace) (fold (arrays_after p m) A trace)
+    following-content [] s A c holds follows = holds
+    following-content (e ∷ trace) s A c holds (may, rest) = following-content trace (after p m s e) (arrays_after p m A e) (Step-keeps_coherence s e c may) (Step-keeps_content s A e c holds may) rest
+
+    -- each legal trace leaves what the tasks leave
+    pub legal-content : (trace : List Event) → IsLegal p m trace → HoldsContent p m (state_of p m trace) (arrays_of p m trace)
+    legal-content trace legal = following-content trace (opening p m) (λ c q. zeros (dims_of p c)) (opening-coherent p m) (opening-content p m) legal
+
+    -- where it is complete, the cells hold what all tasks leave in submission order
+    pub finished-final : (trace : List Event) → IsFinished p m trace → HoldsFinal p (state_of p m trace) (arrays_of p m trace)
+    finished-final trace finished = complete-final p m (state_of p m trace) (sound p m proper machine (state_of p m trace) (legal-coherent trace finished.legal)) finished.complete (arrays_of p m trace) (legal-content trace finished.legal) has lawful

@@ -1,30 +1,31 @@
 -- The beginning of a kernel's run leaves a coherent state.
-use Rattle.std.proofs.Common.{Bool, List, Some, arith, false, inl, inr, length, map, not, refl, sym, true, ℕ, ◌<◌, ◌||◌, ◌∙◌, ◌≡◌, ◌≢◌, ◌≤◌, ◌⊎◌, ap, subst, if◌then◌else◌, nat_eq}
+use Rattle.std.proofs.Common.{Bool, List, Some, arith, false, inl, inr, length, map, not, refl, sym, true, ℕ, ◌<◌, ◌||◌, ◌∙◌, ◌≡◌, ◌≢◌, ◌≤◌, ◌⊎◌, ap, subst, if◌then◌else◌, nat_eq, cond}
 use Rattle.std.proofs.lemmas.Bool.{cases_Bool, false_from_ne_true, false≢true, true_from_ne_false, cond_both}
 use Rattle.std.proofs.lemmas.Bool.Decides.{Decides-eqb}
 use Rattle.std.proofs.lemmas.List.{get_or-set_same, length-map, length-set}
 use Rattle.sj_base.proofs.SameIds.{same_place-itself}
-use Rattle.sj_core.proofs.Words.{Array, AtNode, Cell, CellState, Claimed, Invalid, Machine, Node, OnDisk, Place, Program, Progress, Replica, Running, State, Task, Transfer, Valid, Worker, WorkerState, array_of, cell_state, cells_of, dims_of, fresh_cells, has_cell, is_coming_by, is_entry, is_leaving_by, is_task_of, is_valid, moves, node_of, order, progress, replica, replica_in, transfer, worker_of, worker_state, writes, written_cells, zeros}
-use Rattle.sj_core.specs.Coherent.{Coherent, CopiesAgree, HasEntries, HasRows, IsStateOf, WritersOwn, content, is_begun, is_being_written}
+use Rattle.sj_core.proofs.Words.{Array, AtNode, Cell, CellState, Claimed, Invalid, Machine, Node, OnDisk, Place, Program, Progress, Replica, Running, State, Task, Transfer, Valid, Worker, WorkerState, cell_state, cells_of, dims_of, fresh_cells, has_cell, is_coming_by, is_entry, is_leaving_by, is_task_of, is_valid, moves, node_of, order, progress, replica, replica_in, transfer, worker_of, worker_state, writes, written_cells, zeros, Run}
+use Rattle.sj_core.specs.Coherent.{Coherent, HasEntries, HasRows, IsStateOf, WritersOwn, is_begun, is_being_written, WrittenIsKept}
 use Rattle.sj_core.specs.Laws.{IsSound}
-use Rattle.sj_core.specs.Step.{CanRun, after_run, array_at, initial, is_moving, owned_at, same_place, without}
-use Rattle.sj_core.proofs.Advancing.{Advances, Runs-advances, OrderIsKept-advances, claimed-is_mine, claimed-task_of}
+use Rattle.sj_core.specs.Step.{CanRun, after_run, is_moving, owned_at, same_place, without}
+use Rattle.sj_core.proofs.Advancing.{Advances, Runs-advances, OrderIsKept-advances, claimed-is_mine, claimed-task_of, same_task}
 use Rattle.sj_core.proofs.CellLists.{has_cell-without, times, times-filter}
 use Rattle.sj_core.proofs.Changing.{Changes, Changes-coherent, Changes-writers, TransfersAreSound-spared, HasBlocks-kept, HasRows-kept, moves-kept, place_differs, HasWorkers-kept}
 use Rattle.sj_core.proofs.Claimed.{claimed-not_written, claimed-old_value}
 use Rattle.sj_core.proofs.Ending.{content-kept, counted-same, written-undone}
 use Rattle.sj_core.proofs.Dependencies.{Proper-dependencies}
-use Rattle.sj_core.proofs.Finding.{array-told, being_written-here, not_written-after, not_written-before, running-inside, agrees-kept}
+use Rattle.sj_core.proofs.Finding.{being_written-here, not_written-after, not_written-before, running-inside, second_fails, both_pass}
 use Rattle.sj_core.proofs.Placing.{replica_in-cases, room-leaves_none}
 use Rattle.sj_core.proofs.Reading.{all_invalid, cells-renewed_or, cells-touched, cells-untouched, entry-inside, list_all-has, list_any-worker, moves-it, replica_in-no_row, same_node, transfer-inside, unmoved-from}
 use Rattle.sj_core.proofs.Replicas.{coming_by-is, same_worker-is, same_worker-refl}
 use Rattle.sj_core.proofs.Separation.{separated}
 use Rattle.sj_core.proofs.Tables.{length-renewed, renewed-at_or}
 use Rattle.sj_core.proofs.TaskCells.{fresh-among_written, written-among_cells}
+use Rattle.sj_core.specs.Arrays.{Arrays, HoldsContent, arrays_after, content, written_content}
 
 module _ (p : Program) (m : Machine) (s : State) (t : Task) (w : Worker) (s' : State) (run : CanRun p m s t w) (leaves : s' ≡ after_run p m s t w) where
   abbrev owns : Cell → CellState → CellState
-  owns c row = owned_at (node_of m w) (initial p s t w (node_of m w) c) row
+  owns c row = owned_at (node_of m w) row
 
   run-row : (c : Cell) → has_cell (written_cells p t w) c ≡ false → cell_state s' c ≡ cell_state s c
   run-row c spared = ap (λ (z : State). cell_state z c) leaves ∙ cells-untouched s (has_cell (written_cells p t w)) owns c spared
@@ -34,18 +35,18 @@ module _ (p : Program) (m : Machine) (s : State) (t : Task) (w : Worker) (s' : S
   run-other c q spared = ap (λ (row : CellState). replica_in row q) (run-row c spared)
 
   -- what it writes is valid on its worker's node
-  pub run-own : (c : Cell) → has_cell (written_cells p t w) c ≡ true → c.0 < length s.cells → (node_of m w).0 < length (cell_state s c).nodes → replica s' c (AtNode (node_of m w)) ≡ Valid (initial p s t w (node_of m w) c)
+  pub run-own : (c : Cell) → has_cell (written_cells p t w) c ≡ true → c.0 < length s.cells → (node_of m w).0 < length (cell_state s c).nodes → replica s' c (AtNode (node_of m w)) ≡ Valid
   run-own c written inside within =
       let nowhere : List Replica = map (λ r. Invalid) (cell_state s c).nodes in
-      grind (arith, leaves, cells-touched s (has_cell (written_cells p t w)) owns c inside written, get_or-set_same nowhere (node_of m w).0 (Valid (initial p s t w (node_of m w) c)) Invalid, length-map (cell_state s c).nodes (λ (r : Replica). Invalid), within)
+      grind (arith, leaves, cells-touched s (has_cell (written_cells p t w)) owns c inside written, get_or-set_same nowhere (node_of m w).0 Valid Invalid, length-map (cell_state s c).nodes (λ (r : Replica). Invalid), within)
 
   -- and nowhere else
-  run-written : (c : Cell) (q : Place) → has_cell (written_cells p t w) c ≡ true → (replica s' c q ≡ Invalid) ⊎ ((q ≡ AtNode (node_of m w)) × (replica s' c q ≡ Valid (initial p s t w (node_of m w) c)))
+  run-written : (c : Cell) (q : Place) → has_cell (written_cells p t w) c ≡ true → (replica s' c q ≡ Invalid) ⊎ ((q ≡ AtNode (node_of m w)) × (replica s' c q ≡ Valid))
   run-written c q written =
       let bare : CellState = record { nodes = map (λ r. Invalid) (cell_state s c).nodes; disks = map (λ r. Invalid) (cell_state s c).disks; writes = writes s c } in
       elim (cells-renewed_or s (λ d row. if has_cell (written_cells p t w) d then owns d row else row) c) [
         | inr none ↦ inl (grind (arith, leaves, none.1, replica_in-no_row q))
-        | inl row ↦ grind (arith, leaves, row, written, replica_in-cases bare (AtNode (node_of m w)) q (Valid (initial p s t w (node_of m w) c)), nowhere q)
+        | inl row ↦ grind (arith, leaves, row, written, replica_in-cases bare (AtNode (node_of m w)) q Valid, nowhere q)
       ]
     where
       nowhere : (q : Place) → replica_in (record { nodes = map (λ r. Invalid) (cell_state s c).nodes; disks = map (λ r. Invalid) (cell_state s c).disks; writes = writes s c }) q ≡ Invalid
@@ -56,11 +57,14 @@ module _ (p : Program) (m : Machine) (s : State) (t : Task) (w : Worker) (s' : S
   run-only c q written elsewhere = elim (run-written c q written) [ inl none ↦ none | inr (at, is) ↦ absurd (false≢true (sym (ap (λ (k : Place). not (same_place k (AtNode (node_of m w)))) at ∙ ap not (same_place-itself (AtNode (node_of m w)))) ∙ elsewhere)) ]
 
   -- a test that an invalid and a valid replica fail is passed by none that didn't before, and by none of a written cell
-  run-fewer : (test : Replica → Bool) → test Invalid ≡ false → ((a : Array) → test (Valid a) ≡ false) → (c : Cell) (q : Place) → test (replica s' c q) ≡ true → (has_cell (written_cells p t w) c ≡ false) × (test (replica s c q) ≡ true)
+  run-fewer : (test : Replica → Bool) → test Invalid ≡ false → test Valid ≡ false → (c : Cell) (q : Place) → test (replica s' c q) ≡ true → (has_cell (written_cells p t w) c ≡ false) × (test (replica s c q) ≡ true)
   run-fewer test none valid c q passes = search (arith, run-other, run-written, false≢true)
 
   pub run-leaving : (v : Worker) (c : Cell) (q : Place) → is_leaving_by v (replica s' c q) ≡ true → is_leaving_by v (replica s c q) ≡ true
-  run-leaving v c q leaving = (run-fewer (is_leaving_by v) refl (λ a. refl) c q leaving).1
+  run-leaving v c q leaving = (run-fewer (is_leaving_by v) refl refl c q leaving).1
+
+  pub run-writes : (c : Cell) → writes s' c ≡ writes s c
+  run-writes c = search (arith, cells-renewed_or, cond_both)
 
   pub run-worker : (v : Worker) → worker_state s' v ≡ worker_state s v
   run-worker v = ap (λ (z : State). worker_state z v) leaves
@@ -90,7 +94,7 @@ module _ (p : Program) (m : Machine) (s : State) (h : IsSound p m s) (t : Task) 
   entry : (c : Cell) → has_cell (written_cells p t w) c ≡ true → is_entry (replica s c (AtNode (node_of m w))) ≡ true
   entry c written = h.coherent.cells.claimed t w c run.claimed (written-among_cells p t w c written)
 
-  own : (c : Cell) → has_cell (written_cells p t w) c ≡ true → replica s' c (AtNode (node_of m w)) ≡ Valid (initial p s t w (node_of m w) c)
+  own : (c : Cell) → has_cell (written_cells p t w) c ≡ true → replica s' c (AtNode (node_of m w)) ≡ Valid
   own c written = let inside = entry-inside s c (node_of m w) (entry c written) in run-own p m s t w s' run leaves c written inside.0 inside.1
 
   -- another task's cells aren't written
@@ -179,12 +183,12 @@ module _ (p : Program) (m : Machine) (s : State) (h : IsSound p m s) (t : Task) 
     victims = λ v. ap (λ (row : WorkerState). row.victims) (run-worker p m s t w s' run leaves v);
     entries = fewer_entries;
     leaves = run-leaving p m s t w s' run leaves;
-    comes = λ v c k coming. (run-fewer p m s t w s' run leaves (is_coming_by v) refl (λ a. refl) c (AtNode k) coming).1;
+    comes = λ v c k coming. (run-fewer p m s t w s' run leaves (is_coming_by v) refl refl c (AtNode k) coming).1;
     still_comes = still_comes;
     moves_on = λ v x under_way. h.coherent.workers.moves_for_claim v x (sym (run-transfer p m s t w s' run leaves v) ∙ under_way);
     claims_on = λ claimed. inl (
       λ c k. false_from_ne_true (is_leaving_by w (replica s' c (AtNode k))) (λ leaving. false≢true (sym (none_leaves c (AtNode k)) ∙ run-leaving p m s t w s' run leaves w c (AtNode k) leaving)),
-      λ c k. false_from_ne_true (is_coming_by w (replica s' c (AtNode k))) (λ coming. (let was = run-fewer p m s t w s' run leaves (is_coming_by w) refl (λ a. refl) c (AtNode k) coming in false≢true (sym was.0 ∙ coming-is_fresh c k was.1))),
+      λ c k. false_from_ne_true (is_coming_by w (replica s' c (AtNode k))) (λ coming. (let was = run-fewer p m s t w s' run leaves (is_coming_by w) refl refl c (AtNode k) coming in false≢true (sym was.0 ∙ coming-is_fresh c k was.1))),
       λ x under_way. moves_none x (sym (run-transfer p m s t w s' run leaves w) ∙ under_way),
     );
     stays = λ u v c d has cell. (let same = run-other p m s t w s' run leaves c (AtNode (node_of m v)) (run-spares u v c d has cell) in (λ was. ap is_entry same ∙ was, λ was. ap is_valid same ∙ was));
@@ -192,32 +196,18 @@ module _ (p : Program) (m : Machine) (s : State) (h : IsSound p m s) (t : Task) 
     running = λ c e has. elim (cases_Bool (has_cell (written_cells p t w) c)) [ inl written ↦ ap is_valid (own c written) | inr spared ↦ ap is_valid (run-other p m s t w s' run leaves c (AtNode (node_of m w)) spared) ∙ spared-present c has spared ];
     transfers = TransfersAreSound-spared m s s' (has_cell (written_cells p t w)) (run-other p m s t w s' run leaves) (run-leaving p m s t w s' run leaves) (run-transfer p m s t w s' run leaves) run-unmoved h.coherent.transfers;
     order = OrderIsKept-advances p s s' t (Claimed w) (Running w) advance refl refl (claimed-is_mine w) refl h.coherent.order;
-    counts = record { counted = λ c. run-writes c ∙ h.coherent.counts.counted c ∙ sym (counted-same p s s' c (λ u. written-undone p s s' c t u (Claimed w) (Running w) advance refl refl)) };
+    counts = record { counted = λ c. run-writes p m s t w s' run leaves c ∙ h.coherent.counts.counted c ∙ sym (counted-same p s s' c (λ u. written-undone p s s' c t u (Claimed w) (Running w) advance refl refl)) };
   }
-    where
-      run-writes : (c : Cell) → writes s' c ≡ writes s c
-      run-writes c = (search (arith, cells-renewed_or, cond_both))
 
-  -- ---- contents
-
-  run-content : (c : Cell) → content p s' c ≡ content p s c
-  run-content = content-kept p s s' t (Claimed w) (Running w) advance refl refl
-
-  -- a written cell begins with zeros, or with what it ought to hold
-  run-initial : (c : Cell) → has_cell (written_cells p t w) c ≡ true → (b : Bool) → has_cell (fresh_cells p t w) c ≡ b → (if b then zeros (dims_of p c) else array_at p s (AtNode (node_of m w)) c) ≡ (if b then zeros (dims_of p c) else content p s' c)
-  run-initial c written true fresh = refl
-  run-initial c written false not_fresh =
-      let has = written-among_cells p t w c written in
-      let some = claimed-old_value p m s h t w run.claimed c has not_fresh in
-      array-told (array_of (replica s c (AtNode (node_of m w)))) (content p s c) (zeros (dims_of p c)) (present c has not_fresh) (h.coherent.copies.alike c (AtNode (node_of m w)) some (claimed-not_written p m s h t w run.claimed c has)) ∙ sym (run-content c)
+  -- ---- what running tasks write
 
   run-writers : WritersOwn p m s'
   run-writers = Changes-writers p m s h s' t (Claimed w) (Running w) w run-change
       (λ u v c d runs written.
       (let spared = run-spares u v c d (ap (is_task_of v) runs ∙ same_worker-refl v) (written-among_cells p u v c written) in
-      (λ q. run-other p m s t w s' run leaves c q spared, λ x. moves-kept s s' x c (run-transfer p m s t w s' run leaves x) ∙ (h.coherent.writers.owned u v c runs written).unmoved x, run-content c)))
+      (λ q. run-other p m s t w s' run leaves c q spared, λ x. moves-kept s s' x c (run-transfer p m s t w s' run leaves x) ∙ (h.coherent.writers.owned u v c runs written).unmoved x)))
       (λ c e written. record {
-        valid = own c written ∙ ap (λ (x : Array). Valid x) (run-initial c written (has_cell (fresh_cells p t w) c) refl);
+        valid = own c written;
         only = λ q away. run-only p m s t w s' run leaves c q written away;
         pinned = ap (λ (row : WorkerState). has_cell row.pins c) (run-worker p m s t w s' run leaves w) ∙ h.coherent.cells.pinned t w c mine (written-among_cells p t w c written);
         unmoved = λ v. moves-kept s s' v c (run-transfer p m s t w s' run leaves v) ∙ unmoved-from s v c (λ x under_way e. false≢true (sym (run-unmoved v x under_way) ∙ ap (has_cell (written_cells p t w)) e ∙ written));
@@ -233,8 +223,65 @@ module _ (p : Program) (m : Machine) (s : State) (h : IsSound p m s) (t : Task) 
   pub run-rests : (c : Cell) → has_cell (written_cells p t w) c ≡ false → is_being_written p s c ≡ false → is_being_written p s' c ≡ false
   run-rests c spared resting = not_written-after p m s s' t (Claimed w) (Running w) c run-rows advance resting (λ v e. (let is : w ≡ v = cc in ap (λ (x : Worker). has_cell (written_cells p t x) c) (sym is) ∙ spared))
 
-  run-copies : CopiesAgree p s'
-  run-copies = search (arith, run-row, run-spared, run-rested, agrees-kept, run-content)
+  run-copies : WrittenIsKept p s'
+  run-copies = record {
+    valid_somewhere = λ c some resting.
+        (let q = h.coherent.copies.valid_somewhere c (omega (arith, run-writes p m s t w s' run leaves c, some)) (run-rested c resting) in
+        (q.0, ap is_valid (run-other p m s t w s' run leaves c q.0 (run-spared c resting)) ∙ q.1));
+  }
 
   pub Runs-coherent : Coherent p m s'
   Runs-coherent = Changes-coherent p m s h s' t (Claimed w) (Running w) w run-change run-writers run-copies
+
+  -- ---- contents
+
+  run-content : (c : Cell) → content p s' c ≡ content p s c
+  run-content = content-kept p s s' t (Claimed w) (Running w) advance refl refl
+
+  -- what the task doesn't write isn't fresh
+  pub run-stale : (c : Cell) → has_cell (written_cells p t w) c ≡ false → has_cell (fresh_cells p t w) c ≡ false
+  run-stale c spared = false_from_ne_true (has_cell (fresh_cells p t w) c) (λ fresh. false≢true (sym spared ∙ fresh-among_written p t w c fresh))
+
+  module _ (A : Arrays) (holds : HoldsContent p m s A) where
+    abbrev begun : Arrays
+    begun = arrays_after p m A (Run t w)
+
+    same_array : (c : Cell) (q : Place) → has_cell (fresh_cells p t w) c ≡ false → begun c q ≡ A c q
+    same_array c q stale = second_fails (same_place q (AtNode (node_of m w))) (has_cell (fresh_cells p t w) c) (zeros (dims_of p c)) (A c q) stale
+
+    -- a written cell begins with zeros, or with what it ought to hold
+    own_array : (c : Cell) → has_cell (written_cells p t w) c ≡ true → begun c (AtNode (node_of m w)) ≡ written_content p s' t w c
+    own_array c written = by_fresh (has_cell (fresh_cells p t w) c) refl
+      where
+        has : has_cell (cells_of p t w) c ≡ true
+        has = written-among_cells p t w c written
+
+        by_fresh : (b : Bool) → has_cell (fresh_cells p t w) c ≡ b → begun c (AtNode (node_of m w)) ≡ written_content p s' t w c
+        by_fresh true fresh =
+            both_pass (same_place (AtNode (node_of m w)) (AtNode (node_of m w))) (has_cell (fresh_cells p t w) c) (zeros (dims_of p c)) (A c (AtNode (node_of m w))) (same_place-itself (AtNode (node_of m w))) fresh
+            ∙ sym (ap (λ b. cond b (zeros (dims_of p c)) (content p s' c)) fresh)
+        by_fresh false stale =
+            same_array c (AtNode (node_of m w)) stale
+            ∙ holds.alike c (AtNode (node_of m w)) (claimed-old_value p m s h t w run.claimed c has stale) (claimed-not_written p m s h t w run.claimed c has) (present c has stale)
+            ∙ sym (run-content c)
+            ∙ sym (ap (λ b. cond b (zeros (dims_of p c)) (content p s' c)) stale)
+
+    pub Runs-content : HoldsContent p m s' begun
+    Runs-content = record {
+      begun = λ u v c runs written. elim (same_task u t) [
+        | inl e ↦
+            let now : Running w ≡ Running v = sym (ap (λ (k : Task). progress s' k) e ∙ advance.is) ∙ runs in
+            let is : w ≡ v = cc in
+            subst (λ (k : Task). begun c (AtNode (node_of m v)) ≡ written_content p s' k v c) (sym e) (subst (λ (x : Worker). begun c (AtNode (node_of m x)) ≡ written_content p s' t x c) is
+            (own_array c (ap (λ (x : Worker). has_cell (written_cells p t x) c) is ∙ ap (λ (k : Task). has_cell (written_cells p k v) c) (sym e) ∙ written)))
+        | inr d ↦
+            let was : progress s u ≡ Running v = sym (advance.others u d) ∙ runs in
+            let spared = run-spares u v c d (ap (is_task_of v) was ∙ same_worker-refl v) (written-among_cells p u v c written) in
+            same_array c (AtNode (node_of m v)) (run-stale c spared) ∙ holds.begun u v c was written ∙ ap (λ (a : Array). cond (has_cell (fresh_cells p u v) c) (zeros (dims_of p c)) a) (sym (run-content c))
+      ];
+      alike = λ c q some resting valid.
+          (let spared = run-spared c resting in
+          same_array c q (run-stale c spared)
+          ∙ holds.alike c q (omega (arith, run-writes p m s t w s' run leaves c, some)) (run-rested c resting) (sym (ap is_valid (run-other p m s t w s' run leaves c q spared)) ∙ valid)
+          ∙ sym (run-content c));
+    }

@@ -1,7 +1,7 @@
 -- Legal traces: where all tasks are done each was claimed, ran and ended once; and what one event more needs and leaves.
 use Rattle.std.proofs.Common.{◌≡◌, ℕ, ◌+◌, Bool, true, false, List, [], ◌∷◌, length, refl, sym, ap, ◌∙◌, arith}
 use Rattle.std.proofs.Common.{Some, ◌++◌, count_by, nat_eq, fold}
-use Rattle.sj_core.proofs.Words.{AtNode, Claim, Claimed, Done, End, Event, Machine, Move, OnDisk, Program, Progress}
+use Rattle.sj_core.proofs.Words.{AtNode, Claim, Claimed, Done, End, Event, Machine, Move, OnDisk, Program, Progress, zeros, dims_of}
 use Rattle.sj_core.proofs.Words.{Run, Running, State, Task, Waiting, is_done, opening, progress, Cell, Place, Worker}
 use Rattle.sj_core.proofs.Words.{transfer}
 use Rattle.std.proofs.lemmas.List.{length-set, length-replicate, get_or-replicate}
@@ -14,6 +14,7 @@ use Rattle.sj_core.specs.{Once.EachRanOnce, Once.is_claim_of, Once.is_run_of, On
 use Rattle.sj_core.proofs.Advancing.{Advances, Claims-advances_task, Runs-advances, Ends-advances, done-begun}
 use Rattle.sj_core.proofs.Eviction.{evicted-after}
 use Rattle.sj_core.proofs.Replicas.{coming_by-is, leaving_by-is}
+use Rattle.sj_core.specs.Arrays.{arrays_after, arrays_of}
 
 -- ---- legal traces: where all tasks are done each was claimed, ran and ended once
 
@@ -114,6 +115,9 @@ legal-front p m front back legal = (follow-front p m (opening p m) front back le
 
 pub state_of-more : (p : Program) (m : Machine) (trace : List Event) (e : Event) → state_of p m (trace ++ e ∷ []) ≡ after p m (state_of p m trace) e
 state_of-more p m trace e = fold-append (after p m) (opening p m) trace (e ∷ [])
+
+pub arrays_of-more : (p : Program) (m : Machine) (trace : List Event) (e : Event) → arrays_of p m (trace ++ e ∷ []) ≡ arrays_after p m (arrays_of p m trace) e
+arrays_of-more p m trace e = fold-append (arrays_after p m) (λ c q. zeros (dims_of p c)) trace (e ∷ [])
 
 pub legal-more : (p : Program) (m : Machine) (trace : List Event) (e : Event) → IsLegal p m trace → May p m (state_of p m trace) e → IsLegal p m (trace ++ e ∷ [])
 legal-more p m trace e legal may = follow-both p m (opening p m) trace (e ∷ []) legal (may, tt)

@@ -13,6 +13,7 @@ use Rattle.sj_core.specs.{Proper.HasSwapFor, Step.May, Step.disk_of}
 use Rattle.sj_core.proofs.Worked.{a_machine, a_task, access, columns, disk, node, turn}
 use Rattle.sj_core.proofs.{Readiness.Ready-earlier, Testing.legal-from, Sharing.write_isn't_read}
 use Rattle.sj_core.proofs.Reduction
+use Rattle.sj_core.specs.Arrays.{arrays_of}
 
 -- ---- a sum
 
@@ -37,10 +38,11 @@ sum-legal = legal-from sum machine sum-trace refl
 
 -- it is complete; what is printed is y + x; at the end the printed cell, which was written twice, holds that array on the node
 pub sum-delivers : IsComplete (state_of sum machine sum-trace) × (given sum (task 3) ≡ vector (pos 11 ∷ pos 22 ∷ pos 33 ∷ []))
-    × (replica (state_of sum machine sum-trace) (cell 1) node ≡ Valid (given sum (task 3)))
+    × (replica (state_of sum machine sum-trace) (cell 1) node ≡ Valid)
+    × (arrays_of sum machine sum-trace (cell 1) node ≡ given sum (task 3))
     × (writes (state_of sum machine sum-trace) (cell 1) ≡ 2)
 unfolding int_wrap
-sum-delivers = (refl, refl, refl, refl)
+sum-delivers = (refl, refl, refl, refl, refl)
 
 -- the second load writes what the sum updates, and neither commutes
 load_conflicts : Conflict sum 1 2
@@ -90,8 +92,9 @@ three-legal = legal-from three machine three-trace refl
 pub three-evicts : IsComplete (state_of three machine three-trace)
     × (victims_of (state_of three machine (loads [])) (worker 0) ≡ cell 1 ∷ [])
     × (order (state_of three machine (loads [])) (record { 0 = 0 }) ≡ cell 0 ∷ cell 2 ∷ [])
-    × (replica (state_of three machine three-trace) (cell 0) node ≡ Valid (vector (pos 1 ∷ pos 2 ∷ pos 3 ∷ [])))
-three-evicts = (refl, refl, refl, refl)
+    × (replica (state_of three machine three-trace) (cell 0) node ≡ Valid)
+    × (arrays_of three machine three-trace (cell 0) node ≡ vector (pos 1 ∷ pos 2 ∷ pos 3 ∷ []))
+three-evicts = (refl, refl, refl, refl, refl)
 
 -- the delivery may not run while its victim is leaving
 pub three-waits : ¬ May three machine (state_of three machine (loads [])) (Run (task 3) (worker 0))
@@ -112,6 +115,7 @@ reduction-legal = legal-from Reduction.job two_workers reduction-trace refl
 -- complete, and 5 + 2, also where a worker other than the first contributed
 pub reduction-delivers : IsComplete (state_of Reduction.job two_workers reduction-trace)
     × (given Reduction.job (task 9) ≡ vector (pos 7 ∷ []))
-    × (replica (state_of Reduction.job two_workers reduction-trace) (cell 2) node ≡ Valid (vector (pos 7 ∷ [])))
+    × (replica (state_of Reduction.job two_workers reduction-trace) (cell 2) node ≡ Valid)
+    × (arrays_of Reduction.job two_workers reduction-trace (cell 2) node ≡ vector (pos 7 ∷ []))
 unfolding int_wrap
-reduction-delivers = (refl, refl, refl)
+reduction-delivers = (refl, refl, refl, refl)

@@ -1,6 +1,6 @@
 -- When a state is coherent: ten facts that hold at every moment of a legal run
 -- (CCPE 2011, "Data management": the states of replicas).
-use Rattle.std.specs.Prelude.{◌≡◌, ◌≢◌, ℕ, ◌+◌, ◌<◌, ◌≤◌, Bool, true, false, not, ◌&&◌, IsTrue, nat_eq, Some, List, filter, length, sum_by, All, IfSome, count_by, if◌then◌else◌}
+use Rattle.std.specs.Prelude.{◌≡◌, ◌≢◌, ℕ, ◌+◌, ◌<◌, ◌≤◌, Bool, true, false, not, ◌&&◌, IsTrue, nat_eq, Some, List, filter, length, sum_by, All, count_by}
 use Rattle.std.specs.List.{list_any}
 use Rattle.sj_base.specs.declared.ids.Cell.{Cell}
 use Rattle.sj_base.specs.declared.ids.Task.{Task}
@@ -11,23 +11,17 @@ use Rattle.sj_base.specs.declared.ids.Place.{Place}
 use Rattle.sj_base.specs.declared.ids.Place.TheVariants.{Node as AtNode, Disk as OnDisk}
 use Rattle.sj_base.specs.declared.program.Program.{Program}
 use Rattle.sj_base.specs.declared.program.Machine.{Machine}
-use Rattle.sj_base.specs.Array.{Array, zeros}
-use Rattle.sj_core.specs.Program.{same_cell, has_cell, dims_of, task_of, tasks_of, cells_of_program}
+use Rattle.sj_core.specs.Program.{same_cell, has_cell, task_of, tasks_of, cells_of_program}
 use Rattle.sj_core.specs.Needs.{node_of, node_size, tile_bytes, scratch_bytes}
 use Rattle.sj_core.specs.declared.progress.Progress.{Progress}
 use Rattle.sj_core.specs.declared.progress.Progress.TheVariants.{Waiting, Claimed, Running}
 use Rattle.sj_core.specs.declared.progress.Transfer.{Transfer}
 use Rattle.sj_deps.specs.Conflict.{Conflict}
-use Rattle.sj_core.specs.Operands.{cells_of, written_cells, fresh_cells, commuting_cells}
-use Rattle.sj_core.specs.Fold.{fold_of}
-use Rattle.sj_core.specs.Machine.{State, Invalid, Coming, Valid, Leaving, progress, replica, writes, order, pins, scratch, victims_of, transfer, array_of, is_valid, is_entry, is_leaving, is_leaving_by, is_coming_by, is_claimed_by, is_running_on, is_task_of, worker_of, done_in, done_by, workers_at, used, moves}
+use Rattle.sj_core.specs.Operands.{cells_of, written_cells, commuting_cells}
+use Rattle.sj_core.specs.Machine.{State, Invalid, Coming, Valid, Leaving, progress, replica, writes, order, pins, scratch, victims_of, transfer, is_valid, is_entry, is_leaving, is_leaving_by, is_coming_by, is_claimed_by, is_running_on, is_task_of, worker_of, done_in, done_by, workers_at, used, moves}
 use Rattle.sj_core.specs.Step.{same_place, EarlierAreDone, disk_of}
 
--- ---- what a cell ought to hold
-
--- the array of a cell after the tasks that are done, in submission order, each by the worker by which it is done
-abbrev pub content : Program → State → Cell → Array
-content p s c = fold_of p (done_in s) (done_by s) c
+-- ---- who writes a cell
 
 -- a running task writes the cell
 abbrev pub is_being_written : Program → State → Cell → Bool
@@ -55,7 +49,7 @@ pub record HasEntries (s : State) : Type 0 where
 
 -- a replica on a disk is invalid or valid, and only the disk of the cell's block has one or gets one
 pub record HasBlocks (p : Program) (m : Machine) (s : State) : Type 0 where
-  pub resting : (c : Cell) (d : DiskNo) (w : Worker) (a : Array) → (replica s c (OnDisk d) ≢ Coming w) × (replica s c (OnDisk d) ≢ Leaving w a)
+  pub resting : (c : Cell) (d : DiskNo) (w : Worker) → (replica s c (OnDisk d) ≢ Coming w) × (replica s c (OnDisk d) ≢ Leaving w)
   pub home : (c : Cell) (d : DiskNo) → IsTrue (is_valid (replica s c (OnDisk d))) → disk_of p m c ≡ Some d
   pub aimed : (w : Worker) (x : Transfer) (d : DiskNo) → transfer s w ≡ Some x → x.to ≡ OnDisk d → disk_of p m x.cell ≡ Some d
 
@@ -77,27 +71,22 @@ pub record IsStateOf (p : Program) (m : Machine) (s : State) : Type 0 where
 
 -- ---- 1: a writer's cells
 
--- the cell's one replica is valid on the worker's node with this array, pinned by the worker, and in no transfer
-pub record IsOwnedBy (m : Machine) (s : State) (c : Cell) (w : Worker) (a : Array) : Type 0 where
-  pub valid : replica s c (AtNode (node_of m w)) ≡ Valid a
+-- the cell's one replica is valid on the worker's node, pinned by the worker, and in no transfer
+pub record IsOwnedBy (m : Machine) (s : State) (c : Cell) (w : Worker) : Type 0 where
+  pub valid : replica s c (AtNode (node_of m w)) ≡ Valid
   pub only : (q : Place) → IsTrue (not (same_place q (AtNode (node_of m w)))) → replica s c q ≡ Invalid
   pub pinned : IsTrue (has_cell (pins s w) c)
   pub unmoved : (v : Worker) → moves s v c ≡ false
 
--- what a cell holds while a task that writes it runs: zeros where the task doesn't read its old value
-abbrev pub written_content : Program → State → Task → Worker → Cell → Array
-written_content p s t w c = if has_cell (fresh_cells p t w) c then zeros (dims_of p c) else content p s c
-
 -- each cell that a running task writes is its worker's own
 pub record WritersOwn (p : Program) (m : Machine) (s : State) : Type 0 where
-  pub owned : (t : Task) (w : Worker) (c : Cell) → progress s t ≡ Running w → IsTrue (has_cell (written_cells p t w) c) → IsOwnedBy m s c w (written_content p s t w c)
+  pub owned : (t : Task) (w : Worker) (c : Cell) → progress s t ≡ Running w → IsTrue (has_cell (written_cells p t w) c) → IsOwnedBy m s c w
 
 -- ---- 2: owner or shared
 
--- each cell that has been written, and that no running task writes, has a valid replica, and each holds its content
-pub record CopiesAgree (p : Program) (s : State) : Type 0 where
+-- each cell that has been written, and that no running task writes, has a valid replica
+pub record WrittenIsKept (p : Program) (s : State) : Type 0 where
   pub valid_somewhere : (c : Cell) → 0 < writes s c → is_being_written p s c ≡ false → (q : Place) × IsTrue (is_valid (replica s c q))
-  pub alike : (c : Cell) (q : Place) → 0 < writes s c → is_being_written p s c ≡ false → IfSome (array_of (replica s c q)) (λ a. a ≡ content p s c)
 
 -- ---- 3: a task's cells are there
 
@@ -216,7 +205,7 @@ pub record WritesAreCounted (p : Program) (s : State) : Type 0 where
 pub record Coherent (p : Program) (m : Machine) (s : State) : Type 0 where
   pub state : IsStateOf p m s
   pub writers : WritersOwn p m s
-  pub copies : CopiesAgree p s
+  pub copies : WrittenIsKept p s
   pub cells : TasksHaveCells p m s
   pub pins : PinsHold p m s
   pub transfers : TransfersAreSound m s

@@ -1,6 +1,6 @@
 -- What the steps of a task keep: laws of all proper programs, machines and coherent states.
 use Rattle.sj_base.specs.declared.ids.Cell.{Cell}
-use Rattle.std.specs.Prelude.{◌≡◌, ℕ, ◌<◌, ◌≤◌, Bool, false, true, FitsSigned, None, Some, IsTrue, List, [], ◌∷◌, ◌++◌, length, All, Contains, IfSome}
+use Rattle.std.specs.Prelude.{◌≡◌, ℕ, ◌<◌, ◌≤◌, Bool, false, true, FitsSigned, None, Some, IsTrue, List, [], ◌∷◌, ◌++◌, length, All, Contains}
 use Rattle.std.specs.Int.{w64}
 use Rattle.sj_base.specs.declared.program.Codelet.{Codelet}
 use Rattle.sj_codelet.specs.declared.kernel.Kernel.{Kernel}
@@ -13,11 +13,12 @@ use Rattle.sj_base.specs.declared.ids.DiskNo.{DiskNo}
 use Rattle.sj_base.specs.declared.ids.Place.{Place}
 use Rattle.sj_base.specs.declared.program.Program.{Program}
 use Rattle.sj_base.specs.declared.program.Machine.{Machine}
-use Rattle.sj_core.specs.Machine.{State, progress, replica, transfer, array_of, is_valid}
+use Rattle.sj_core.specs.Machine.{State, progress, replica, transfer, is_valid}
 use Rattle.sj_core.specs.Proper.{Proper, IsMachineFor, HasSwapFor, IsOpenAt, IsPhase, IsPlain, Phase, gives_value}
 use Rattle.sj_base.specs.Mode.{reads_value, is_in_order, access}
-use Rattle.sj_core.specs.Coherent.{Coherent, content}
-use Rattle.sj_core.specs.Step.{May, a_transfer, after, array_at, disk_of, mover_of}
+use Rattle.sj_core.specs.Arrays.{Arrays, HoldsContent, arrays_after, arrays_of, content}
+use Rattle.sj_core.specs.Coherent.{Coherent}
+use Rattle.sj_core.specs.Step.{May, a_transfer, after, disk_of, mover_of}
 use Rattle.sj_base.specs.declared.mode.Mode.TheVariants.{R}
 use Rattle.sj_base.specs.declared.mode.Access.{Access}
 use Rattle.sj_base.specs.declared.ids.Place.TheVariants.{Node as AtNode, Disk as OnDisk}
@@ -80,9 +81,10 @@ pub record IsLawful (has : Kernel → Bool) (p : Program) : Type 0 where
   pub contributing : ContributingContribute has
   pub reducing : ReductionsReduce has
 
--- the fact holds after each end in a coherent state, by the laws of the program's set
-abbrev pub IsKeptByLawfulEnds : (Program → Machine → State → Type 0) → Type 0
-IsKeptByLawfulEnds Fact = (has : Kernel → Bool) (p : Program) (m : Machine) (s : State) (t : Task) (w : Worker) → IsSound p m s → IsLawful has p → May p m s (End t w) → Fact p m (after p m s (End t w))
+-- each event that may happen in a coherent state whose arrays are what the tasks leave leaves such arrays, by the laws of the
+-- program's set
+abbrev pub EventsKeepContent : Type 0
+EventsKeepContent = (has : Kernel → Bool) (p : Program) (m : Machine) (s : State) (A : Arrays) (e : Event) → IsSound p m s → IsLawful has p → HoldsContent p m s A → May p m s e → HoldsContent p m (after p m s e) (arrays_after p m A e)
 
 -- ---- what a task finds
 
@@ -94,7 +96,7 @@ pub data HasAtHand (m : Machine) (s : State) (t : Task) (w : Worker) (c : Cell) 
 -- each operand whose old value a task reads has on its worker's node what the tasks that are done leave in the cell that is
 -- worked on
 abbrev pub FindsContent : Type 0
-FindsContent = (p : Program) (m : Machine) (s : State) (t : Task) (w : Worker) (a : Access) → IsSound p m s → Contains (task_of p t).accesses a → IsTrue (reads_value a.mode) → HasAtHand m s t w (worked_on p w a) → array_at p s (AtNode (node_of m w)) (worked_on p w a) ≡ content p s (worked_on p w a)
+FindsContent = (p : Program) (m : Machine) (s : State) (A : Arrays) (t : Task) (w : Worker) (a : Access) → IsSound p m s → HoldsContent p m s A → Contains (task_of p t).accesses a → IsTrue (reads_value a.mode) → HasAtHand m s t w (worked_on p w a) → A (worked_on p w a) (AtNode (node_of m w)) ≡ content p s (worked_on p w a)
 
 -- the cell is no partial copy, and no phase of it is open at the task of this number
 pub record IsSettled (p : Program) (n : ℕ) (c : Cell) : Type 0 where
@@ -103,11 +105,11 @@ pub record IsSettled (p : Program) (n : ℕ) (c : Cell) : Type 0 where
 
 -- and where such an operand stands in the order of tasks, that is the array that its cell holds after all tasks before
 abbrev pub FindsEarlierTasks : Type 0
-FindsEarlierTasks = (has : Kernel → Bool) (p : Program) (m : Machine) (s : State) (t : Task) (w : Worker) (a : Access) → IsSound p m s → IsLawful has p → Contains (task_of p t).accesses a → IsTrue (reads_value a.mode) → IsTrue (is_in_order a.mode) → IsSettled p t.0 a.cell → HasAtHand m s t w a.cell → array_at p s (AtNode (node_of m w)) a.cell ≡ held_before p t.0 a.cell
+FindsEarlierTasks = (has : Kernel → Bool) (p : Program) (m : Machine) (s : State) (A : Arrays) (t : Task) (w : Worker) (a : Access) → IsSound p m s → HoldsContent p m s A → IsLawful has p → Contains (task_of p t).accesses a → IsTrue (reads_value a.mode) → IsTrue (is_in_order a.mode) → IsSettled p t.0 a.cell → HasAtHand m s t w a.cell → A a.cell (AtNode (node_of m w)) ≡ held_before p t.0 a.cell
 
 -- a task that reads one cell and does nothing else has on its worker's node the array that it hands over
 abbrev pub DeliversGiven : Type 0
-DeliversGiven = (has : Kernel → Bool) (p : Program) (m : Machine) (s : State) (t : Task) (w : Worker) (c : Cell) → IsSound p m s → IsLawful has p → (task_of p t).accesses ≡ access R c ∷ [] → HasAtHand m s t w c → array_at p s (AtNode (node_of m w)) c ≡ given p t
+DeliversGiven = (has : Kernel → Bool) (p : Program) (m : Machine) (s : State) (A : Arrays) (t : Task) (w : Worker) (c : Cell) → IsSound p m s → HoldsContent p m s A → IsLawful has p → (task_of p t).accesses ≡ access R c ∷ [] → HasAtHand m s t w c → A c (AtNode (node_of m w)) ≡ given p t
 
 -- what such a cell holds after all tasks below n doesn't depend on the workers of contributions
 abbrev pub TakesAnyWorker : Type 0
@@ -134,7 +136,7 @@ EachCellHasDisk = (p : Program) (m : Machine) (c : Cell) → HasSwapFor p m → 
 
 -- a legal trace has at most three events for each task and five for each operand
 abbrev pub LegalTracesAreBounded : Type 0
-LegalTracesAreBounded = (has : Kernel → Bool) (p : Program) (m : Machine) (trace : List Event) → Proper p → IsMachineFor p m → IsLawful has p → IsLegal p m trace → HasAtMostThreePerTaskAndFivePerOperand p trace
+LegalTracesAreBounded = (p : Program) (m : Machine) (trace : List Event) → Proper p → IsMachineFor p m → IsLegal p m trace → HasAtMostThreePerTaskAndFivePerOperand p trace
 
 -- a cell's disk is one of the machine's
 abbrev pub DisksAreOfMachine : Type 0
@@ -146,18 +148,22 @@ final p c = held_before p (length p.tasks) c
 
 -- each cell to which a task gives a value has a valid replica, and each holds what all tasks leave, unless the cell is a
 -- partial copy
-pub record HoldsFinal (p : Program) (s : State) : Type 0 where
+pub record HoldsFinal (p : Program) (s : State) (A : Arrays) : Type 0 where
   pub somewhere : (t : Task) (c : Cell) → IsTrue (gives_value (task_of p t) c) → (q : Place) × IsTrue (is_valid (replica s c q))
-  pub alike : (t : Task) (c : Cell) (q : Place) → IsTrue (gives_value (task_of p t) c) → IsPlain p c → IfSome (array_of (replica s c q)) (λ a. a ≡ final p c)
+  pub alike : (t : Task) (c : Cell) (q : Place) → IsTrue (gives_value (task_of p t) c) → IsPlain p c → IsTrue (is_valid (replica s c q)) → A c q ≡ final p c
 
 -- it is so where all tasks are done
 abbrev pub CompleteHoldsFinal : Type 0
-CompleteHoldsFinal = (has : Kernel → Bool) (p : Program) (m : Machine) (s : State) → IsSound p m s → IsLawful has p → IsComplete s → HoldsFinal p s
+CompleteHoldsFinal = (has : Kernel → Bool) (p : Program) (m : Machine) (s : State) (A : Arrays) → IsSound p m s → HoldsContent p m s A → IsLawful has p → IsComplete s → HoldsFinal p s A
 
--- each legal trace of a proper program leaves a coherent state, by the laws of its set
+-- each legal trace of a proper program leaves a coherent state
 abbrev pub TracesKeepCoherence : Type 0
-TracesKeepCoherence = (has : Kernel → Bool) (p : Program) (m : Machine) (trace : List Event) → Proper p → IsMachineFor p m → IsLawful has p → IsLegal p m trace → Coherent p m (state_of p m trace)
+TracesKeepCoherence = (p : Program) (m : Machine) (trace : List Event) → Proper p → IsMachineFor p m → IsLegal p m trace → Coherent p m (state_of p m trace)
 
--- and where it is complete, that state holds what all tasks leave
+-- and arrays that are what the tasks leave, by the laws of the program's set
+abbrev pub TracesKeepContent : Type 0
+TracesKeepContent = (has : Kernel → Bool) (p : Program) (m : Machine) (trace : List Event) → Proper p → IsMachineFor p m → IsLawful has p → IsLegal p m trace → HoldsContent p m (state_of p m trace) (arrays_of p m trace)
+
+-- and where it is complete, the cells hold what all tasks leave
 abbrev pub CompleteTracesHoldFinal : Type 0
-CompleteTracesHoldFinal = (has : Kernel → Bool) (p : Program) (m : Machine) (trace : List Event) → Proper p → IsMachineFor p m → IsLawful has p → IsFinished p m trace → HoldsFinal p (state_of p m trace)
+CompleteTracesHoldFinal = (has : Kernel → Bool) (p : Program) (m : Machine) (trace : List Event) → Proper p → IsMachineFor p m → IsLawful has p → IsFinished p m trace → HoldsFinal p (state_of p m trace) (arrays_of p m trace)

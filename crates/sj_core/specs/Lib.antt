@@ -1,3 +1,4 @@
+pub mod Arrays
 pub mod Coherent
 pub mod Fold
 pub mod Laws

@@ -1,6 +1,7 @@
 -- The state of a run: how far each task is, where each cell has replicas, what each node holds, and what
--- each worker has in hand (CCPE 2011, "Data management": a replica is owner, shared or invalid).
-use Rattle.std.specs.Prelude.{ℕ, ◌+◌, ◌-◌, Bool, true, false, not, ◌||◌, nat_eq, Option, Some, None, List, [], filter, replicate, length, sum_by, is_some}
+-- each worker has in hand (CCPE 2011, "Data management": a replica is owner, shared or invalid). Which arrays
+-- stand there is beside it, in `Arrays`.
+use Rattle.std.specs.Prelude.{ℕ, ◌+◌, ◌-◌, Bool, true, false, not, ◌||◌, nat_eq, Option, Some, None, List, [], filter, replicate, length, sum_by}
 use Rattle.std.specs.List.{slice_index_or, slice_set, list_any, list_all}
 use Rattle.sj_base.specs.declared.ids.Cell.{Cell}
 use Rattle.sj_base.specs.declared.ids.Task.{Task}
@@ -10,7 +11,6 @@ use Rattle.sj_base.specs.declared.ids.Place.{Place}
 use Rattle.sj_base.specs.declared.ids.Place.TheVariants.{Node as AtNode, Disk as OnDisk}
 use Rattle.sj_base.specs.declared.program.Program.{Program}
 use Rattle.sj_base.specs.declared.program.Machine.{Machine}
-use Rattle.sj_base.specs.Array.{Array}
 use Rattle.sj_core.specs.Program.{has_cell, same_cell}
 use Rattle.sj_core.specs.Needs.{node_of, node_size, tile_bytes, workers_of}
 use Rattle.sj_core.specs.Table.{renewed}
@@ -22,8 +22,8 @@ use Rattle.sj_core.specs.declared.progress.Transfer.{Transfer}
 pub data Replica : Type 0 where
   Invalid : Replica
   Coming : Worker → Replica
-  Valid : Array → Replica
-  Leaving : Worker → Array → Replica
+  Valid : Replica
+  Leaving : Worker → Replica
 
 -- a cell: its replicas by node and by disk, and how many tasks have written it
 pub record CellState : Type 0 where
@@ -115,35 +115,27 @@ with_transfer s w move = with_worker s w (record (worker_state s w) { transfer =
 
 -- ---- words on a replica
 
--- the array of a replica that is valid, one that is leaving included
-abbrev pub array_of : Replica → Option Array
-array_of Invalid = None
-array_of (Coming w) = None
-array_of (Valid a) = Some a
-array_of (Leaving w a) = Some a
-
+-- one that is leaving is valid too
 abbrev pub is_valid : Replica → Bool
-is_valid r = is_some (array_of r)
-
-abbrev pub is_invalid : Replica → Bool
-is_invalid Invalid = true
-is_invalid _ = false
+is_valid Valid = true
+is_valid (Leaving w) = true
+is_valid _ = false
 
 abbrev pub is_leaving : Replica → Bool
-is_leaving (Leaving w a) = true
+is_leaving (Leaving w) = true
 is_leaving _ = false
 
 -- it is valid or coming, and so an entry of its node
 abbrev pub is_entry : Replica → Bool
 is_entry (Coming w) = true
-is_entry (Valid a) = true
+is_entry Valid = true
 is_entry _ = false
 
 abbrev pub same_worker : Worker → Worker → Bool
 same_worker v w = nat_eq v.0 w.0
 
 abbrev pub is_leaving_by : Worker → Replica → Bool
-is_leaving_by w (Leaving v a) = same_worker v w
+is_leaving_by w (Leaving v) = same_worker v w
 is_leaving_by w _ = false
 
 abbrev pub is_coming_by : Worker → Replica → Bool

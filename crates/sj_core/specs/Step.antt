@@ -1,7 +1,7 @@
 -- The legal steps of a run: for each kind of event what it needs (`May`), and the state that it leaves (`after`)
 -- (StarPU Handbook, "Data Management" and "Out Of Core"; CCPE 2011, "Data management").
 use Rattle.std.specs.Prelude.{◌≡◌, ℕ, ◌+◌, ◌<◌, ◌≤◌, Bool, false, not, ◌&&◌, ◌||◌, IsTrue, nat_eq, Option, Some, None, List, [], ◌∷◌, ◌++◌, map, filter, fold, length, sum_by, unwrap_or, is_some, slice_get, option_map, option_and_then, if◌then◌else◌}
-use Rattle.std.specs.List.{slice_set, list_any, list_all, range_with_len, zip, position}
+use Rattle.std.specs.List.{slice_set, list_any, list_all, range_with_len, position}
 use Rattle.sj_base.specs.declared.ids.Cell.{Cell}
 use Rattle.sj_base.specs.declared.ids.Task.{Task}
 use Rattle.sj_base.specs.declared.ids.Node.{Node}
@@ -13,17 +13,15 @@ use Rattle.sj_base.specs.declared.trace.Event.{Event}
 use Rattle.sj_base.specs.declared.trace.Event.TheVariants.{Claim, Move, Moved, Drop, Run, End}
 use Rattle.sj_base.specs.declared.program.Program.{Program}
 use Rattle.sj_base.specs.declared.program.Machine.{Machine}
-use Rattle.sj_base.specs.Array.{Array, zeros}
 pub use Rattle.sj_base.specs.Ids.{same_place}
-use Rattle.sj_core.specs.Program.{same_cell, has_cell, distinct, dims_of, task_of, tasks_of}
+use Rattle.sj_core.specs.Program.{same_cell, has_cell, distinct, task_of, tasks_of}
 use Rattle.sj_core.specs.Needs.{node_of, node_size, tile_bytes, scratch_bytes, footprint, place, workers_of}
 use Rattle.sj_core.specs.Victims.{victims}
 use Rattle.sj_core.specs.declared.progress.Progress.TheVariants.{Waiting, Claimed, Running, Done}
 use Rattle.sj_core.specs.declared.progress.Transfer.{Transfer}
 use Rattle.sj_deps.specs.Conflict.{Conflict, Ready}
-use Rattle.sj_core.specs.Operands.{cells_of, written_cells, fresh_cells, commuting_cells, results}
-use Rattle.sj_core.specs.Fold.{held_in}
-use Rattle.sj_core.specs.Machine.{State, CellState, Replica, Invalid, Coming, Valid, Leaving, progress, cell_state, replica, replica_in, order, transfer, victims_of, with_replica, with_replica_in, with_cells, with_orders, with_transfer, array_of, is_valid, is_leaving, is_leaving_by, is_coming_by, is_claimed_by, is_task_of, is_idle, worker_of, done_in, is_pinned, free, moves, has_room}
+use Rattle.sj_core.specs.Operands.{cells_of, written_cells, fresh_cells, commuting_cells}
+use Rattle.sj_core.specs.Machine.{State, CellState, Replica, Invalid, Coming, Valid, Leaving, progress, cell_state, replica, replica_in, order, transfer, victims_of, with_replica, with_replica_in, with_cells, with_orders, with_transfer, is_valid, is_leaving, is_leaving_by, is_coming_by, is_claimed_by, is_task_of, is_idle, worker_of, done_in, is_pinned, free, moves, has_room}
 
 -- ---- words on where replicas are
 
@@ -45,10 +43,6 @@ is_valid_elsewhere m s c here = list_any (λ q. not (same_place q here) && is_va
 abbrev pub source_of : Program → Machine → State → Cell → Option Place
 source_of p m s c =
     elim (position is_valid (cell_state s c).nodes) [ None ↦ option_map OnDisk (disk_of p m c) | Some n ↦ Some (AtNode (record { 0 = n })) ]
-
--- the array of a valid replica
-abbrev pub array_at : Program → State → Place → Cell → Array
-array_at p s q c = unwrap_or (array_of (replica s c q)) (zeros (dims_of p c))
 
 -- no replica on the node is leaving
 abbrev pub none_leaving : State → Node → Bool
@@ -109,7 +103,7 @@ abbrev pub without : List Cell → List Cell → List Cell
 without gone order = filter (λ c. not (has_cell gone c)) order
 
 abbrev pub leave : Worker → Replica → Replica
-leave w (Valid a) = Leaving w a
+leave w Valid = Leaving w
 leave w r = r
 
 -- the cell's replica on the node after a claim: a victim leaves, a missing cell is coming
@@ -169,12 +163,8 @@ pub record CanDrop (m : Machine) (s : State) (c : Cell) (n : Node) : Type 0 wher
 -- ---- run and end
 
 -- a cell with one valid replica, on that node
-abbrev pub owned_at : Node → Array → CellState → CellState
-owned_at n a row = record { nodes = slice_set (map (λ r. Invalid) row.nodes) n.0 (Valid a); disks = map (λ r. Invalid) row.disks; writes = row.writes }
-
--- the array of a written cell when the task begins to run: zeros where its old value isn't read
-abbrev pub initial : Program → State → Task → Worker → Node → Cell → Array
-initial p s t w n c = if has_cell (fresh_cells p t w) c then zeros (dims_of p c) else array_at p s (AtNode n) c
+abbrev pub owned_at : Node → CellState → CellState
+owned_at n row = record { nodes = slice_set (map (λ r. Invalid) row.nodes) n.0 Valid; disks = map (λ r. Invalid) row.disks; writes = row.writes }
 
 -- the state after `run`: the written cells are the node's own, and no entry of another node
 abbrev pub after_run : Program → Machine → State → Task → Worker → State
@@ -183,7 +173,7 @@ after_run p m s t w =
     let written = written_cells p t w in
     record {
       tasks = slice_set s.tasks t.0 (Running w);
-      cells = (with_cells s (λ c row. if has_cell written c then owned_at n (initial p s t w n c) row else row)).cells;
+      cells = (with_cells s (λ c row. if has_cell written c then owned_at n row else row)).cells;
       orders = (with_orders s (λ k cs. if nat_eq k.0 n.0 then cs else without written cs)).orders;
       workers = s.workers;
     }
@@ -200,31 +190,25 @@ pub record CanRun (p : Program) (m : Machine) (s : State) (t : Task) (w : Worker
   pub present : IsTrue (is_present p s t w (node_of m w))
   pub unmoved : IsTrue (list_all (λ c. not (is_moving m s c)) (written_cells p t w))
 
--- the new array of a written cell, from the arrays on the node
-abbrev pub result_at : Program → State → Task → Worker → Node → Cell → Array
-result_at p s t w n c = held_in p (zip (written_cells p t w) (results p t w (array_at p s (AtNode n)))) c
+-- the cell with one write more
+abbrev pub written_once_more : CellState → CellState
+written_once_more row = record row { writes = row.writes + 1 }
 
--- the cell with a new array on that node, written once more
-abbrev pub rewritten_at : Node → Array → CellState → CellState
-rewritten_at n a row = record { nodes = slice_set row.nodes n.0 (Valid a); disks = row.disks; writes = row.writes + 1 }
-
--- the state after `end`: the written cells hold the results, and the worker's pins and scratch are gone
+-- the state after `end`: the written cells are written once more, and the worker's pins and scratch are gone
 abbrev pub after_end : Program → Machine → State → Task → Worker → State
-after_end p m s t w =
-    let n = node_of m w in
-    record {
-      tasks = slice_set s.tasks t.0 (Done w);
-      cells = (with_cells s (λ c row. if has_cell (written_cells p t w) c then rewritten_at n (result_at p s t w n c) row else row)).cells;
-      orders = s.orders;
-      workers = slice_set s.workers w.0 (record { pins = []; scratch = 0; victims = victims_of s w; transfer = transfer s w });
-    }
+after_end p m s t w = record {
+  tasks = slice_set s.tasks t.0 (Done w);
+  cells = (with_cells s (λ c row. if has_cell (written_cells p t w) c then written_once_more row else row)).cells;
+  orders = s.orders;
+  workers = slice_set s.workers w.0 (record { pins = []; scratch = 0; victims = victims_of s w; transfer = transfer s w });
+}
 
 -- ---- what an event needs
 
 -- the worker by whose claim a replica is coming or leaving
 abbrev pub claimant_of : Replica → Worker
 claimant_of (Coming w) = w
-claimant_of (Leaving w a) = w
+claimant_of (Leaving w) = w
 claimant_of _ = record { 0 = 0 }
 
 -- the worker of a move, which its event doesn't name: the cell comes to the node, or leaves for the disk, by its claim
@@ -249,7 +233,7 @@ May p m s (End t w) = progress s t ≡ Running w
 abbrev pub after : Program → Machine → State → Event → State
 after p m s (Claim t w) = after_claim p m s t w (unwrap_or (victims_for p m s t w) [])
 after p m s (Move c from to) = with_transfer s (mover_of s c from to) (Some (a_transfer c from to))
-after p m s (Moved c from to) = with_transfer (with_replica s c to (Valid (array_at p s from c))) (mover_of s c from to) None
+after p m s (Moved c from to) = with_transfer (with_replica s c to Valid) (mover_of s c from to) None
 after p m s (Drop c n) = with_replica s c (AtNode n) Invalid
 after p m s (Run t w) = after_run p m s t w
 after p m s (End t w) = after_end p m s t w

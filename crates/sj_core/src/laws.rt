@@ -5,8 +5,8 @@ ghost use Rattle.std.specs.Prelude.{List};
 ghost use Rattle.sj_base.specs.declared.trace.Event.{Event};
 ghost use Rattle.sj_base.specs.declared.program.Program.{Program};
 ghost use Rattle.sj_base.specs.declared.program.Machine.{Machine};
-ghost use Rattle.sj_core.specs.Coherent.{Coherent, IsStateOf, NodesSuffice, OrderIsKept, PinsHold, TasksHaveCells, TransfersAreSound, WorkersAreSound, WritesAreCounted};
-ghost use Rattle.sj_core.specs.Laws.{CompleteHoldsFinal, CompleteTracesHoldFinal, DeliversGiven, DisksAreOfMachine, EachCellHasDisk, FindsContent, FindsEarlierTasks, IsKeptByClaims, IsKeptByDrops, IsKeptByEndedMoves, IsKeptByEnds, IsKeptByLawfulEnds, IsKeptByMovesIn, IsKeptByMovesOut, IsKeptByRuns, LegalTracesAreBounded, MovesHaveOneWorker, TakesAnyWorker, TracesGoOn, TracesKeepCoherence};
+ghost use Rattle.sj_core.specs.Coherent.{Coherent};
+ghost use Rattle.sj_core.specs.Laws.{CompleteHoldsFinal, CompleteTracesHoldFinal, DeliversGiven, DisksAreOfMachine, EachCellHasDisk, EventsKeepContent, FindsContent, FindsEarlierTasks, IsKeptByClaims, IsKeptByDrops, IsKeptByEndedMoves, IsKeptByEnds, IsKeptByMovesIn, IsKeptByMovesOut, IsKeptByRuns, LegalTracesAreBounded, MovesHaveOneWorker, TakesAnyWorker, TracesGoOn, TracesKeepCoherence, TracesKeepContent};
 ghost use Rattle.sj_core.specs.Legal.{IsFinished};
 ghost use Rattle.sj_core.specs.Machine.{opening};
 ghost use Rattle.sj_core.specs.Once.{EachRanOnce};
@@ -33,17 +33,9 @@ pub fn runs()
     ensures { IsKeptByRuns Coherent }
 {}
 
-/// The end of a kernel's run leaves a coherent state, by the laws of the program's set. Eight of its ten facts need no law.
+/// The end of a kernel's run leaves a coherent state.
 pub fn ends()
-    ensures order_is_kept { IsKeptByEnds (λ p m s. OrderIsKept p s) }
-    ensures workers_are_sound { IsKeptByEnds WorkersAreSound }
-    ensures tasks_have_cells { IsKeptByEnds TasksHaveCells }
-    ensures pins_hold { IsKeptByEnds PinsHold }
-    ensures transfers_are_sound { IsKeptByEnds (λ p m s. TransfersAreSound m s) }
-    ensures writes_are_counted { IsKeptByEnds (λ p m s. WritesAreCounted p s) }
-    ensures is_a_state { IsKeptByEnds IsStateOf }
-    ensures nodes_suffice { IsKeptByEnds NodesSuffice }
-    ensures coherent { IsKeptByLawfulEnds Coherent }
+    ensures { IsKeptByEnds Coherent }
 {}
 
 /// The beginning of a move into a node leaves a coherent state.
@@ -66,6 +58,11 @@ pub fn drops()
     ensures { IsKeptByDrops Coherent }
 {}
 
+/// Each event leaves the arrays that the tasks leave, by the laws of the program's set.
+pub fn contents()
+    ensures { EventsKeepContent }
+{}
+
 /// What a task finds on its worker's node: what the tasks that are done leave in its cells; and in a cell that no phase holds
 /// open what all tasks before it leave, in submission order, whatever the workers of contributions and the order of commuting
 /// tasks.
@@ -81,9 +78,11 @@ pub fn completions()
     ensures { CompleteHoldsFinal }
 {}
 
-/// Each legal trace leaves a coherent state, and a complete one what the tasks leave in submission order.
+/// Each legal trace leaves a coherent state and the arrays that the tasks leave, and a complete one what all tasks leave in
+/// submission order.
 pub fn traces()
     ensures keep_coherence { TracesKeepCoherence }
+    ensures keep_content { TracesKeepContent }
     ensures hold_final { CompleteTracesHoldFinal }
 {}
 

@@ -1,8 +1,7 @@
 -- The beginning of a kernel as a turn of its worker, and the shares that it takes.
-use Rattle.std.proofs.Common.{◌≡◌, ℕ, ◌<◌, Bool, true, cond, List, [], ◌∷◌, map, length, refl, sym, ap, ◌∙◌, subst, Option, Some, arith, suc, inl, inr}
-use Rattle.std.specs.Prelude.{not, option_map, unwrap_or, if◌then◌else◌}
+use Rattle.std.proofs.Common.{◌≡◌, ℕ, ◌<◌, Bool, true, List, [], ◌∷◌, map, length, refl, sym, ap, ◌∙◌, subst, Option, Some, arith, suc}
+use Rattle.std.specs.Prelude.{not, option_map, if◌then◌else◌}
 use Rattle.std.specs.List.{AllZip, Contains}
-use Rattle.std.proofs.lemmas.Bool.{cases_Bool}
 use Rattle.sj_base.specs.declared.ids.Cell.{Cell}
 use Rattle.sj_base.specs.declared.ids.Place.TheVariants.{Node as AtNode}
 use Rattle.sj_base.specs.declared.ids.Task.{Task}
@@ -16,16 +15,16 @@ use Rattle.sj_base.specs.Mode.{reads_value}
 use Rattle.sj_codelet.specs.Frame.{Slot, arrays}
 use Rattle.sj_core.specs.declared.progress.Progress.{Progress}
 use Rattle.sj_core.specs.declared.progress.Progress.TheVariants.{Claimed, Running, Waiting}
-use Rattle.sj_core.specs.Laws.{IsSound}
-use Rattle.sj_core.specs.Machine.{Replica, State, array_of, is_running_on, progress}
+use Rattle.sj_core.specs.Machine.{State, is_running_on, progress}
 use Rattle.sj_core.specs.Needs.{node_of}
-use Rattle.sj_core.specs.Operands.{cells_of, worked_on, written_cells}
+use Rattle.sj_core.specs.Operands.{cells_of, worked_on}
 use Rattle.sj_core.specs.Program.{dims_of, has_cell, task_of}
-use Rattle.sj_core.specs.Step.{CanRun, after, after_run, array_at}
+use Rattle.sj_core.specs.Step.{after}
 use Rattle.sj_core.proofs.Found.{found-not_fresh}
-use Rattle.sj_core.proofs.Reading.{entry-inside, progress-inside, progress-same}
+use Rattle.sj_core.proofs.Reading.{progress-inside, progress-same}
 use Rattle.sj_core.proofs.Readiness.{Contains-from_filter, filter-Contains}
 use Rattle.sj_core.proofs.Replicas.{same_worker-refl}
+<<<<<<< HEAD
 use Rattle.sj_core.proofs.Running.{run-other, run-own}
 use Rattle.sj_core.proofs.TaskCells.{written-among_cells}
 use Rattle.sj_machine.specs.Running.{AreSharesFor, IsShareIn, IsShare}
@@ -36,25 +35,34 @@ use Rattle.sj_board.specs.BoardRow.{BoardKey, arrays_for, key_of}
 use Rattle.sj_board.specs.BoardSound.{IsSoundBoard}
 use Rattle.sj_board.specs.declared.hand.Hand.{Hand}
 use Rattle.sj_engine.specs.Operands.{held_for, read_operands}
+=======
+use Rattle.sj_machine.specs.Board.{BoardState, HasTask, hand_of, has_event}
+use Rattle.sj_machine.specs.BoardRow.{BoardKey, arrays_for, key_of}
+use Rattle.sj_machine.specs.BoardSound.{IsSoundBoard}
+use Rattle.sj_machine.specs.Running.{AreSharesFor, IsShareIn}
+use Rattle.sj_machine.specs.Sparing.{Spares}
+use Rattle.sj_machine.specs.Standing.{AllTell, CanHappen, state, run_arrays}
+use Rattle.sj_machine.specs.declared.hand.Hand.{Hand}
+use Rattle.sj_engine.specs.Operands.{IsShare, held_for, read_operands}
+>>>>>>> 3708c698 (Not proved yet above the core: arrays stand beside the state, and neither a legal trace nor coherence names a codelet)
 use Rattle.sj_engine.specs.Stage.{AreLent, HasClaimedRow, RunsRow, row_in}
 use Rattle.sj_engine.specs.Turn.{IsTurnOf}
-use Rattle.sj_engine.proofs.BoardTurns.{has_event-turn, state-after}
+use Rattle.sj_engine.proofs.BoardTurns.{has_event-turn, state-after, arrays-after}
 use Rattle.sj_engine.proofs.OwnRows.{has-task, runs-row}
+<<<<<<< HEAD
 use Rattle.sj_engine.proofs.FoundBoards.{found-sound}
+=======
+use Rattle.sj_core.specs.Arrays.{Arrays, arrays_after, held_at}
+use Rattle.sj_core.proofs.Finding.{second_fails}
+use Rattle.sj_base.specs.Ids.{same_place}
+use Rattle.sj_core.proofs.Words.{fresh_cells}
+use Rattle.sj_core.specs.Proper.{Proper}
+>>>>>>> 3708c698 (Not proved yet above the core: arrays stand beside the state, and neither a legal trace nor coherence names a codelet)
 
-module _ (p : Program) (m : Machine) (s : State) (h : IsSound p m s) (t : Task) (w : Worker) (known : w.0 < p.workers) (s' : State) (run : CanRun p m s t w) (leaves : s' ≡ after_run p m s t w) where
-  -- what the task reads is there as it was
-  read-same : (a : Access) → Contains (task_of p t).accesses a → reads_value a.mode ≡ true → array_at p s' (AtNode (node_of m w)) (worked_on p w a) ≡ array_at p s (AtNode (node_of m w)) (worked_on p w a)
-  read-same a among reads = elim (cases_Bool (has_cell (written_cells p t w) (worked_on p w a))) [
-    | inr spared ↦ ap (λ (r : Replica). unwrap_or (array_of r) (zeros (dims_of p (worked_on p w a)))) (run-other p m s t w s' run leaves (worked_on p w a) (AtNode (node_of m w)) spared)
-    | inl written ↦ (
-        let c = worked_on p w a in
-        let inside = entry-inside s c (node_of m w) (h.coherent.cells.claimed t w c run.claimed (written-among_cells p t w c written)) in
-        let fresh = found-not_fresh p h.proper t w known a among (ap not reads) in
-        ap (λ (r : Replica). unwrap_or (array_of r) (zeros (dims_of p c))) (run-own p m s t w s' run leaves c written inside.0 inside.1)
-        ∙ ap (λ b. cond b (zeros (dims_of p c)) (array_at p s (AtNode (node_of m w)) c)) fresh
-        )
-  ]
+-- what a task reads is there as it was when it begins
+read-same : (p : Program) → Proper p → (m : Machine) (A : Arrays) (t : Task) (w : Worker) → w.0 < p.workers → (a : Access) → Contains (task_of p t).accesses a → reads_value a.mode ≡ true → arrays_after p m A (Run t w) (worked_on p w a) (AtNode (node_of m w)) ≡ A (worked_on p w a) (AtNode (node_of m w))
+read-same p proper m A t w known a among reads =
+    second_fails (same_place (AtNode (node_of m w)) (AtNode (node_of m w))) (has_cell (fresh_cells p t w) (worked_on p w a)) (zeros (dims_of p (worked_on p w a))) (A (worked_on p w a) (AtNode (node_of m w))) (found-not_fresh p proper t w known a among (ap not reads))
 
 zip-shares : {D : Type 0} (held : D → Option (List ℕ)) (b : BoardState D) (w : Worker) (accesses : List Access) (slots : List Slot) → AllZip (IsShareIn held b.run w) accesses slots → AllZip (IsShare b.run.program) accesses slots
 zip-shares held b w [] [] h = tt
@@ -63,7 +71,7 @@ zip-shares held b w (a ∷ accesses) [] h = absurd h
 zip-shares held b w (a ∷ accesses) (s ∷ slots) h = (record { shared = h.0.shared; dims = h.0.dims }, zip-shares held b w accesses slots h.1)
 
 zip-arrays : {D : Type 0} (held : D → Option (List ℕ)) (b : BoardState D) (w : Worker) (holds : Cell → Array) → AllTell held b.run → (accesses : List Access) (slots : List Slot) → AllZip (IsShareIn held b.run w) accesses slots →
-    ((a : Access) → Contains accesses a → array_at b.run.program (state b.run) (AtNode (node_of b.run.machine w)) (worked_on b.run.program w a) ≡ holds (worked_on b.run.program w a)) → arrays slots ≡ held_for b.run.program w holds accesses
+    ((a : Access) → Contains accesses a → run_arrays b.run (worked_on b.run.program w a) (AtNode (node_of b.run.machine w)) ≡ holds (worked_on b.run.program w a)) → arrays slots ≡ held_for b.run.program w holds accesses
 zip-arrays held b w holds tell [] [] h f = refl
 zip-arrays held b w holds tell [] (s ∷ slots) h f = absurd h
 zip-arrays held b w holds tell (a ∷ accesses) [] h f = absurd h
@@ -95,6 +103,9 @@ module _ {D : Type 0} (size faults mismatches : D → ℕ) (held : D → Option 
     its-state : state y.run ≡ after b.run.program b.run.machine (state b.run) (Run t w)
     its-state = state-after b y (Run t w) (ap (λ (k : BoardState D). k.run) its-event)
 
+    its-arrays : run_arrays y.run ≡ arrays_after b.run.program b.run.machine (run_arrays b.run) (Run t w)
+    its-arrays = arrays-after b y (Run t w) (ap (λ (k : BoardState D). k.run) its-event)
+
     pub begun-turn : Spares x.run (Run t w) y.run → IsTurnOf faults mismatches w b y
     begun-turn spares = has_event-turn size faults mismatches held w b z x y (λ k. Run t w) ez ex sound refl can q spares
 
@@ -108,19 +119,18 @@ module _ {D : Type 0} (size faults mismatches : D → ℕ) (held : D → Option 
     begun-row = runs-row y w t (hand-now ∙ r.hand) runs-now
 
     abbrev holds : Cell → Array
-    holds = array_at b.run.program (state y.run) (AtNode (node_of b.run.machine w))
+    holds = held_at (run_arrays y.run) (AtNode (node_of b.run.machine w))
 
     cells-now : (row_in y w).operands ≡ Some (map holds (cells_of b.run.program t w))
     cells-now =
         ap (λ (k : Hand). option_map (arrays_for y w) k.task) (hand-now ∙ r.hand)
-        ∙ ap (λ (g : Progress). Some (if is_running_on w g then map (array_at y.run.program (state y.run) (AtNode (node_of y.run.machine w))) (cells_of y.run.program t w) else [])) runs-now
-        ∙ ap (λ (c : Bool). Some (if c then map (array_at y.run.program (state y.run) (AtNode (node_of y.run.machine w))) (cells_of y.run.program t w) else [])) (same_worker-refl w)
-        ∙ ap (λ (k : BoardState D). Some (map (array_at k.run.program (state y.run) (AtNode (node_of k.run.machine w))) (cells_of k.run.program t w))) its-event
+        ∙ ap (λ (g : Progress). Some (if is_running_on w g then map (held_at (run_arrays y.run) (AtNode (node_of y.run.machine w))) (cells_of y.run.program t w) else [])) runs-now
+        ∙ ap (λ (c : Bool). Some (if c then map (held_at (run_arrays y.run) (AtNode (node_of y.run.machine w))) (cells_of y.run.program t w) else [])) (same_worker-refl w)
+        ∙ ap (λ (k : BoardState D). Some (map (held_at (run_arrays y.run) (AtNode (node_of k.run.machine w))) (cells_of k.run.program t w))) its-event
 
     pub begun-lent : (slots : List Slot) → AreSharesFor held x.run t w slots → AreLent held (key_of y) w t (row_in y w) slots
     begun-lent slots shares =
         let own : AreSharesFor held b.run t w slots = subst (λ (k : BoardState D). AreSharesFor held k.run t w slots) ex shares in
-        let h : IsSound b.run.program b.run.machine (state b.run) = record { proper = here.run.run.proper; machine = here.run.run.machine; coherent = here.run.coherent } in
         subst (λ (k : BoardKey D). AreLent held k w t (row_in y w) slots) (sym (ap key_of its-event))
         (record {
           inside = task-there;
@@ -129,8 +139,8 @@ module _ {D : Type 0} (size faults mismatches : D → ℕ) (held : D → Option 
             holds = holds;
             cells = cells-now;
             shares = zip-arrays held b w holds tell (read_operands b.run.program t) slots own (λ a among.
-                sym (ap (λ (k : State). array_at b.run.program k (AtNode (node_of b.run.machine w)) (worked_on b.run.program w a)) its-state
-                ∙ read-same b.run.program b.run.machine (state b.run) h t w known (after b.run.program b.run.machine (state b.run) (Run t w)) can refl a
+                sym (ap (λ (A : Arrays). A (worked_on b.run.program w a) (AtNode (node_of b.run.machine w))) its-arrays
+                ∙ read-same b.run.program here.run.run.proper b.run.machine (run_arrays b.run) t w known a
                 (Contains-from_filter (λ (k : Access). reads_value k.mode) (task_of b.run.program t).accesses a among) (filter-Contains (λ (k : Access). reads_value k.mode) (task_of b.run.program t).accesses a among)));
           };
         })

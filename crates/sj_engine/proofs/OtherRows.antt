@@ -1,7 +1,12 @@
 -- What an event of a worker leaves as it is of another worker's row.
+<<<<<<< HEAD
 use Rattle.std.proofs.Common.{◌≡◌, ◌≢◌, ◌<◌, Bool, true, false, refl, sym, ap, ◌∙◌, subst, Option, None, Some, ◌&&◌}
 use Rattle.std.specs.Prelude.{is_some}
 use Rattle.std.proofs.lemmas.Bool.{false≢true, or_left, or_right}
+=======
+use Rattle.std.proofs.Common.{◌≡◌, ◌≢◌, ◌⊎◌, ℕ, ◌<◌, Bool, set, true, false, length, refl, sym, ap, ◌∙◌, subst, Option, None, Some, arith, inl, inr, ◌||◌, ◌&&◌}
+use Rattle.std.proofs.lemmas.Bool.{cases_lt, false≢true}
+>>>>>>> 3708c698 (Not proved yet above the core: arrays stand beside the state, and neither a legal trace nor coherence names a codelet)
 use Rattle.std.proofs.lemmas.Bool.Decides.{Decides-eqb}
 use Rattle.sj_core.proofs.Eviction.{evicted-after}
 use Rattle.sj_base.specs.declared.ids.Cell.{Cell}
@@ -13,16 +18,19 @@ use Rattle.sj_base.specs.declared.program.Program.{Program}
 use Rattle.sj_base.specs.declared.program.Machine.{Machine}
 use Rattle.sj_base.specs.declared.trace.Event.{Event}
 use Rattle.sj_base.specs.declared.trace.Event.TheVariants.{Claim, Move, Moved, Drop, Run, End}
-use Rattle.sj_base.specs.Array.{Array}
 use Rattle.sj_core.specs.declared.progress.Progress.{Progress}
 use Rattle.sj_core.specs.declared.progress.Progress.TheVariants.{Waiting, Claimed, Running, Done}
 use Rattle.sj_core.specs.declared.progress.Transfer.{Transfer}
 use Rattle.sj_core.specs.Laws.{IsSound}
+<<<<<<< HEAD
 use Rattle.sj_core.specs.Machine.{CellState, State, array_of, is_running_on, is_task_of, Invalid, Valid, progress, replica, same_worker, transfer, worker_state, writes}
+=======
+use Rattle.sj_core.specs.Machine.{CellState, State, cell_state, is_running_on, is_task_of, Invalid, Replica, Valid, progress, same_worker, transfer, with_replica, with_replica_in, worker_state, writes}
+>>>>>>> 3708c698 (Not proved yet above the core: arrays stand beside the state, and neither a legal trace nor coherence names a codelet)
 use Rattle.sj_core.specs.Needs.{node_of}
 use Rattle.sj_core.specs.Operands.{cells_of, written_cells}
 use Rattle.sj_core.specs.Program.{has_cell, same_cell}
-use Rattle.sj_core.specs.Step.{May, after, array_at, initial, is_read, mover_of, owned_at, reads, result_at, rewritten_at, same_place}
+use Rattle.sj_core.specs.Step.{May, after, is_read, mover_of, owned_at, reads, same_place, written_once_more}
 use Rattle.sj_core.proofs.Claiming.{claim-writes, pinned-at}
 use Rattle.sj_core.proofs.Ending.{end-other_worker}
 use Rattle.sj_core.proofs.Placing.{writes-same}
@@ -32,9 +40,13 @@ use Rattle.sj_core.proofs.Replicas.{same_worker-is, same_worker-refl}
 use Rattle.sj_core.proofs.Running.{run-spares, run-unmoved, run-worker}
 use Rattle.sj_core.proofs.Separation.{separated, worker-inside}
 use Rattle.sj_machine.specs.Sparing.{SparesUsed, is_used, writes_cell}
+<<<<<<< HEAD
 use Rattle.sj_base.proofs.SameIds.{same_place-itself}
 use Rattle.sj_core.proofs.Advancing.{running_on-is}
 use Rattle.sj_base.proofs.Bools.{or_false}
+=======
+use Rattle.sj_core.specs.Arrays.{Arrays}
+>>>>>>> 3708c698 (Not proved yet above the core: arrays stand beside the state, and neither a legal trace nor coherence names a codelet)
 
 -- ---- whose event it is
 
@@ -64,22 +76,62 @@ running-task v (Done w) h = absurd (false≢true h)
 -- ---- what stays of another worker
 
 -- its tasks are as far as they were, it holds what it held, and its cells and what it carries are as they were
-pub record StaysFor (p : Program) (m : Machine) (s s' : State) (v : Worker) : Type 0 where
+pub record StaysFor (p : Program) (m : Machine) (s s' : State) (A A' : Arrays) (v : Worker) : Type 0 where
   pub phase : (u : Task) → is_task_of v (progress s u) ≡ true → progress s' u ≡ progress s u
   pub holds : worker_state s' v ≡ worker_state s v
-  pub cells : (u : Task) (c : Cell) → is_running_on v (progress s u) ≡ true → has_cell (cells_of p u v) c ≡ true → array_of (replica s' c (AtNode (node_of m v))) ≡ array_of (replica s c (AtNode (node_of m v)))
-  pub carried : (x : Transfer) → transfer s v ≡ Some x → array_of (replica s' x.cell x.from) ≡ array_of (replica s x.cell x.from)
+  pub cells : (u : Task) (c : Cell) → is_running_on v (progress s u) ≡ true → has_cell (cells_of p u v) c ≡ true → A' c (AtNode (node_of m v)) ≡ A c (AtNode (node_of m v))
+  pub carried : (x : Transfer) → transfer s v ≡ Some x → A' x.cell x.from ≡ A x.cell x.from
   pub writes : (x : Transfer) → transfer s v ≡ Some x → writes s' x.cell ≡ writes s x.cell
 
+<<<<<<< HEAD
 valid-some : (o : Option Array) → is_some o ≡ true → (a : Array) × (o ≡ Some a)
 valid-some None h = absurd (false≢true h)
 valid-some (Some a) h = (a, refl)
+=======
+pub or-left : (a b : Bool) → a ≡ true → (a || b) ≡ true
+or-left a b h = ap (λ x. x || b) h
+
+pub or-right : (a b : Bool) → b ≡ true → (a || b) ≡ true
+or-right true b h = refl
+or-right false b h = h
+
+same_place-refl : (q : Place) → same_place q q ≡ true
+same_place-refl (AtNode n) = (Decides-eqb n.0 n.0).1 refl
+same_place-refl (OnDisk d) = (Decides-eqb d.0 d.0).1 refl
+>>>>>>> 3708c698 (Not proved yet above the core: arrays stand beside the state, and neither a legal trace nor coherence names a codelet)
 
 not-so : (b : Bool) → (b ≡ true → ⊥) → b ≡ false
 not-so true f = absurd (f refl)
 not-so false f = refl
 
+<<<<<<< HEAD
 module _ (p : Program) (m : Machine) (s : State) (h : IsSound p m s) (v : Worker) where
+=======
+-- each row is as before, or is the cell's with the replica written
+row-put : (s : State) (c : Cell) (q : Place) (r : Replica) (d : Cell) → (cell_state (with_replica s c q r) d ≡ cell_state s d) ⊎ ((d ≡ c) × (cell_state (with_replica s c q r) d ≡ with_replica_in (cell_state s c) q r))
+row-put s c q r d =
+    let row = with_replica_in (cell_state s c) q r in
+    elim (cells_differ d c) [
+      | inr n ↦ inl (get_or-set_other s.cells c.0 d.0 row no_row (λ e. n (ap (λ (i : ℕ). let j : Cell = record { 0 = i } in j) e)))
+      | inl e ↦ elim (cases_lt c.0 (length s.cells)) [
+        | inl inside ↦ inr (e, ap (cell_state (with_replica s c q r)) e ∙ get_or-set_same s.cells c.0 row no_row inside)
+        | inr past ↦ inl (ap (cell_state (with_replica s c q r)) e ∙ get_or_past (set s.cells c.0 row) c.0 no_row (omega (arith, length-set s.cells c.0 row)) ∙ sym (get_or_past s.cells c.0 no_row past) ∙ sym (ap (cell_state s) e))
+      ]
+    ]
+
+-- a replica put somewhere leaves all write counts
+writes-put : (s : State) (c : Cell) (q : Place) (r : Replica) (d : Cell) → writes (with_replica s c q r) d ≡ writes s d
+writes-put s c q r d = elim (row-put s c q r d) [
+  | inl same ↦ ap (λ (row : CellState). row.writes) same
+  | inr (e, at) ↦ ap (λ (row : CellState). row.writes) at ∙ by_place q ∙ ap (λ (k : Cell). writes s k) (sym e)
+]
+  where
+    by_place : (q : Place) → (with_replica_in (cell_state s c) q r).writes ≡ writes s c
+    by_place (AtNode n) = refl
+    by_place (OnDisk n) = refl
+
+module _ (p : Program) (m : Machine) (s : State) (A : Arrays) (h : IsSound p m s) (v : Worker) where
+>>>>>>> 3708c698 (Not proved yet above the core: arrays stand beside the state, and neither a legal trace nor coherence names a codelet)
   reads-used : (x : Transfer) → transfer s v ≡ Some x → is_used m s x.cell x.from ≡ true
   reads-used x under_way = by_place x.from (list_any-worker (λ w. reads s w x.cell x.from) m v inside own)
     where
@@ -98,22 +150,24 @@ module _ (p : Program) (m : Machine) (s : State) (h : IsSound p m s) (v : Worker
   pins-used u c inside has cell = or_left _ (is_read m s c (AtNode (node_of m v))) (pinned-at m s v (node_of m v) c inside refl (h.coherent.cells.pinned u v c has cell))
 
   -- where the event spares what is used, and writes none of it
-  module _ (s' : State) (e : Event) (spares : SparesUsed p m s e s')
+  module _ (s' : State) (A' : Arrays) (e : Event) (spares : SparesUsed p m s A e s' A')
       (unwritten-cells : (u : Task) (c : Cell) → is_running_on v (progress s u) ≡ true → has_cell (cells_of p u v) c ≡ true → writes_cell p e c ≡ false)
       (unwritten-moved : (x : Transfer) → transfer s v ≡ Some x → writes_cell p e x.cell ≡ false) where
     task-worker : (u : Task) → is_task_of v (progress s u) ≡ true → v.0 < m.workers
     task-worker u has = subst (λ n. v.0 < n) (sym h.machine.workers) (worker-inside p m h.proper.cells (Proper-dependencies p h.proper) s h.coherent.state h.coherent.workers h.coherent.order u v has)
 
-    spared-cells : (u : Task) (c : Cell) → is_running_on v (progress s u) ≡ true → has_cell (cells_of p u v) c ≡ true → array_of (replica s' c (AtNode (node_of m v))) ≡ array_of (replica s c (AtNode (node_of m v)))
+    spared-cells : (u : Task) (c : Cell) → is_running_on v (progress s u) ≡ true → has_cell (cells_of p u v) c ≡ true → A' c (AtNode (node_of m v)) ≡ A c (AtNode (node_of m v))
     spared-cells u c runs cell =
         let has = running-task v (progress s u) runs in
+<<<<<<< HEAD
         let at = valid-some (array_of (replica s c (AtNode (node_of m v)))) (h.coherent.cells.running u v c (running_on-is v (progress s u) runs) cell) in
         spares c (AtNode (node_of m v)) at.0 (pins-used u c (task-worker u has) has cell) at.1 (unwritten-cells u c runs cell) ∙ sym at.1
+=======
+        (spares c (AtNode (node_of m v)) (pins-used u c (task-worker u has) has cell) (h.coherent.cells.running u v c (running-is_it v (progress s u) runs) cell) (unwritten-cells u c runs cell)).1
+>>>>>>> 3708c698 (Not proved yet above the core: arrays stand beside the state, and neither a legal trace nor coherence names a codelet)
 
-    spared-moved : (x : Transfer) → transfer s v ≡ Some x → array_of (replica s' x.cell x.from) ≡ array_of (replica s x.cell x.from)
-    spared-moved x under_way =
-        let at = valid-some (array_of (replica s x.cell x.from)) (h.coherent.transfers.source v x under_way) in
-        spares x.cell x.from at.0 (reads-used x under_way) at.1 (unwritten-moved x under_way) ∙ sym at.1
+    spared-moved : (x : Transfer) → transfer s v ≡ Some x → A' x.cell x.from ≡ A x.cell x.from
+    spared-moved x under_way = (spares x.cell x.from (reads-used x under_way) (h.coherent.transfers.source v x under_way) (unwritten-moved x under_way)).1
 
   module _ (w : Worker) (other : v ≢ w) where
     -- the task that the worker of the event claims, runs or ends isn't the other worker's
@@ -123,52 +177,64 @@ module _ (p : Program) (m : Machine) (s : State) (h : IsSound p m s) (v : Worker
     not-waiting : (t u : Task) → progress s t ≡ Waiting → is_task_of v (progress s u) ≡ true → u ≢ t
     not-waiting t u is has same = false≢true (sym (ap (is_task_of v) is) ∙ ap (λ (k : Task). is_task_of v (progress s k)) (sym same) ∙ has)
 
-    pub Step-stays : (e : Event) (s' : State) → IsBy m s w e → May p m s e → s' ≡ after p m s e → SparesUsed p m s e s' → StaysFor p m s s' v
-    Step-stays (Claim t x) s' by step leaves spares = record {
+    pub Step-stays : (e : Event) (s' : State) (A' : Arrays) → IsBy m s w e → May p m s e → s' ≡ after p m s e → SparesUsed p m s A e s' A' → StaysFor p m s s' A A' v
+    Step-stays (Claim t x) s' A' by step leaves spares = record {
       phase = λ u has. ap (λ (z : State). progress z u) leaves ∙ progress-other s t u (Claimed x) (not-waiting t u step.waiting has);
       holds = ap (λ (z : State). worker_state z v) leaves ∙ worker-other s x v _ (subst (λ (k : Worker). v ≢ k) (sym by) other);
-      cells = spared-cells s' (Claim t x) spares (λ u c runs cell. refl) (λ y under_way. refl);
-      carried = spared-moved s' (Claim t x) spares (λ u c runs cell. refl) (λ y under_way. refl);
+      cells = spared-cells s' A' (Claim t x) spares (λ u c runs cell. refl) (λ y under_way. refl);
+      carried = spared-moved s' A' (Claim t x) spares (λ u c runs cell. refl) (λ y under_way. refl);
       writes = λ y under_way. claim-writes p m s t x s' step (leaves ∙ (evicted-after p m s t x)) y.cell;
     }
-    Step-stays (Move c from (AtNode n)) s' by step leaves spares = record {
+    Step-stays (Move c from (AtNode n)) s' A' by step leaves spares = record {
       phase = λ u has. ap (λ (z : State). progress z u) leaves;
       holds = ap (λ (z : State). worker_state z v) leaves ∙ worker-other s (mover_of s c from (AtNode n)) v _ (subst (λ (k : Worker). v ≢ k) (sym by) other);
-      cells = spared-cells s' (Move c from (AtNode n)) spares (λ u d runs cell. refl) (λ y under_way. refl);
-      carried = spared-moved s' (Move c from (AtNode n)) spares (λ u d runs cell. refl) (λ y under_way. refl);
+      cells = spared-cells s' A' (Move c from (AtNode n)) spares (λ u d runs cell. refl) (λ y under_way. refl);
+      carried = spared-moved s' A' (Move c from (AtNode n)) spares (λ u d runs cell. refl) (λ y under_way. refl);
       writes = λ y under_way. ap (λ (z : State). writes z y.cell) leaves;
     }
-    Step-stays (Move c from (OnDisk d)) s' by step leaves spares = record {
+    Step-stays (Move c from (OnDisk d)) s' A' by step leaves spares = record {
       phase = λ u has. ap (λ (z : State). progress z u) leaves;
       holds = ap (λ (z : State). worker_state z v) leaves ∙ worker-other s (mover_of s c from (OnDisk d)) v _ (subst (λ (k : Worker). v ≢ k) (sym by) other);
-      cells = spared-cells s' (Move c from (OnDisk d)) spares (λ u k runs cell. refl) (λ y under_way. refl);
-      carried = spared-moved s' (Move c from (OnDisk d)) spares (λ u k runs cell. refl) (λ y under_way. refl);
+      cells = spared-cells s' A' (Move c from (OnDisk d)) spares (λ u k runs cell. refl) (λ y under_way. refl);
+      carried = spared-moved s' A' (Move c from (OnDisk d)) spares (λ u k runs cell. refl) (λ y under_way. refl);
       writes = λ y under_way. ap (λ (z : State). writes z y.cell) leaves;
     }
-    Step-stays (Moved c from to) s' by step leaves spares = record {
+    Step-stays (Moved c from to) s' A' by step leaves spares = record {
       phase = λ u has. ap (λ (z : State). progress z u) leaves;
       holds = ap (λ (z : State). worker_state z v) leaves ∙ worker-other s (mover_of s c from to) v _ (subst (λ (k : Worker). v ≢ k) (sym by) other);
+<<<<<<< HEAD
       cells = spared-cells s' (Moved c from to) spares (λ u d runs cell. refl) (λ y under_way. refl);
       carried = spared-moved s' (Moved c from to) spares (λ u d runs cell. refl) (λ y under_way. refl);
       writes = λ y under_way. ap (λ (z : State). writes z y.cell) leaves ∙ writes-same s c to (Valid (array_at p s from c)) y.cell;
+=======
+      cells = spared-cells s' A' (Moved c from to) spares (λ u d runs cell. refl) (λ y under_way. refl);
+      carried = spared-moved s' A' (Moved c from to) spares (λ u d runs cell. refl) (λ y under_way. refl);
+      writes = λ y under_way. ap (λ (z : State). writes z y.cell) leaves ∙ writes-put s c to Valid y.cell;
+>>>>>>> 3708c698 (Not proved yet above the core: arrays stand beside the state, and neither a legal trace nor coherence names a codelet)
     }
-    Step-stays (Drop c n) s' by step leaves spares = record {
+    Step-stays (Drop c n) s' A' by step leaves spares = record {
       phase = λ u has. ap (λ (z : State). progress z u) leaves;
       holds = ap (λ (z : State). worker_state z v) leaves;
+<<<<<<< HEAD
       cells = spared-cells s' (Drop c n) spares (λ u d runs cell. refl) (λ y under_way. refl);
       carried = spared-moved s' (Drop c n) spares (λ u d runs cell. refl) (λ y under_way. refl);
       writes = λ y under_way. ap (λ (z : State). writes z y.cell) leaves ∙ writes-same s c (AtNode n) Invalid y.cell;
+=======
+      cells = spared-cells s' A' (Drop c n) spares (λ u d runs cell. refl) (λ y under_way. refl);
+      carried = spared-moved s' A' (Drop c n) spares (λ u d runs cell. refl) (λ y under_way. refl);
+      writes = λ y under_way. ap (λ (z : State). writes z y.cell) leaves ∙ writes-put s c (AtNode n) Invalid y.cell;
+>>>>>>> 3708c698 (Not proved yet above the core: arrays stand beside the state, and neither a legal trace nor coherence names a codelet)
     }
-    Step-stays (Run t x) s' by step leaves spares =
+    Step-stays (Run t x) s' A' by step leaves spares =
         let apart : (u : Task) → is_task_of v (progress s u) ≡ true → u ≢ t = λ u has. not-mine t u (Claimed x) step.claimed (λ k. sym by ∙ claimed-is x v k) has in
         record {
           phase = λ u has. ap (λ (z : State). progress z u) leaves ∙ progress-other s t u (Running x) (apart u has);
           holds = run-worker p m s t x s' step leaves v;
-          cells = spared-cells s' (Run t x) spares (λ u c runs cell. run-spares p m s h t x s' step leaves u v c (apart u (running-task v (progress s u) runs)) (running-task v (progress s u) runs) cell) (run-unmoved p m s h t x s' step leaves v);
-          carried = spared-moved s' (Run t x) spares (λ u c runs cell. run-spares p m s h t x s' step leaves u v c (apart u (running-task v (progress s u) runs)) (running-task v (progress s u) runs) cell) (run-unmoved p m s h t x s' step leaves v);
-          writes = λ y under_way. ap (λ (z : State). writes z y.cell) leaves ∙ ap (λ (row : CellState). row.writes) (cells-untouched s (has_cell (written_cells p t x)) (λ c row. owned_at (node_of m x) (initial p s t x (node_of m x) c) row) y.cell (run-unmoved p m s h t x s' step leaves v y under_way));
+          cells = spared-cells s' A' (Run t x) spares (λ u c runs cell. run-spares p m s h t x s' step leaves u v c (apart u (running-task v (progress s u) runs)) (running-task v (progress s u) runs) cell) (run-unmoved p m s h t x s' step leaves v);
+          carried = spared-moved s' A' (Run t x) spares (λ u c runs cell. run-spares p m s h t x s' step leaves u v c (apart u (running-task v (progress s u) runs)) (running-task v (progress s u) runs) cell) (run-unmoved p m s h t x s' step leaves v);
+          writes = λ y under_way. ap (λ (z : State). writes z y.cell) leaves ∙ ap (λ (row : CellState). row.writes) (cells-untouched s (has_cell (written_cells p t x)) (λ c row. owned_at (node_of m x) row) y.cell (run-unmoved p m s h t x s' step leaves v y under_way));
         }
-    Step-stays (End t x) s' by step leaves spares =
+    Step-stays (End t x) s' A' by step leaves spares =
         let apart : (u : Task) → is_task_of v (progress s u) ≡ true → u ≢ t = λ u has. not-mine t u (Running x) step (λ k. sym by ∙ running-is x v k) has in
         let mine : is_task_of x (progress s t) ≡ true = ap (is_task_of x) step ∙ same_worker-refl x in
         let unwritten : (u : Task) (c : Cell) → is_running_on v (progress s u) ≡ true → has_cell (cells_of p u v) c ≡ true → has_cell (written_cells p t x) c ≡ false = λ u c runs cell.
@@ -178,7 +244,7 @@ module _ (p : Program) (m : Machine) (s : State) (h : IsSound p m s) (v : Worker
         record {
           phase = λ u has. ap (λ (z : State). progress z u) leaves ∙ progress-other s t u (Done x) (apart u has);
           holds = end-other_worker p m s t x s' step leaves v (subst (λ (k : Worker). v ≢ k) (sym by) other);
-          cells = spared-cells s' (End t x) spares unwritten unmoved;
-          carried = spared-moved s' (End t x) spares unwritten unmoved;
-          writes = λ y under_way. ap (λ (z : State). writes z y.cell) leaves ∙ ap (λ (row : CellState). row.writes) (cells-untouched s (has_cell (written_cells p t x)) (λ c row. rewritten_at (node_of m x) (result_at p s t x (node_of m x) c) row) y.cell (unmoved y under_way));
+          cells = spared-cells s' A' (End t x) spares unwritten unmoved;
+          carried = spared-moved s' A' (End t x) spares unwritten unmoved;
+          writes = λ y under_way. ap (λ (z : State). writes z y.cell) leaves ∙ ap (λ (row : CellState). row.writes) (cells-untouched s (has_cell (written_cells p t x)) (λ c row. written_once_more row) y.cell (unmoved y under_way));
         }

@@ -17,7 +17,6 @@ use Rattle.sj_core.specs.Legal.{IsComplete}
 use Rattle.sj_core.specs.Machine.{CellState, Invalid, State, cell_state, is_valid, no_replica, opening, replica, replica_in, writes}
 use Rattle.sj_core.proofs.Reading.{no_row}
 use Rattle.sj_core.specs.Needs.{Block}
-use Rattle.sj_core.specs.Step.{array_at}
 use Rattle.sj_disk.specs.Directory.{extent_of}
 use Rattle.sj_disk.specs.Block.{block}
 use Rattle.sj_disk.specs.Holding.{CountsStay}
@@ -26,7 +25,11 @@ use Rattle.sj_disk.specs.declared.directory.Extent.{Extent}
 use Rattle.sj_edge.proofs.GivenBackLemmas.{all_given_back-untouched, all_untouched-same}
 use Rattle.sj_machine.specs.Cause.{HasCause}
 use Rattle.sj_machine.specs.Sound.{HoldsArray, IsBlock, block_of}
+<<<<<<< HEAD
 use Rattle.sj_machine.specs.Standing.{AllTell, state}
+=======
+use Rattle.sj_machine.specs.Standing.{AllTell as AllTellIn, state, run_arrays}
+>>>>>>> 3708c698 (Not proved yet above the core: arrays stand beside the state, and neither a legal trace nor coherence names a codelet)
 use Rattle.sj_machine.specs.declared.fault.RunFault.{RunFault}
 use Rattle.sj_machine.specs.declared.fault.RunFault.TheVariants.{Damaged, DiskFault, OutOfMemory}
 use Rattle.sj_board.specs.Board.{BoardState}
@@ -55,14 +58,14 @@ module _ {D : Type 0} (size faults mismatches : D → ℕ) (held : D → Option 
     s = state b.run
 
     -- what stands in the extent of a cell stands in its block
-    in-block : (c : Cell) (d : DiskNo) (k : Block) (o : Option Extent) → IsSomeAnd o (IsBlock p c k) → IsSomeAnd o (HoldsArray held b.run.disks.disks p s c (OnDisk d)) → HoldsBlockAt held b.run.disks.disks p s c d k
+    in-block : (c : Cell) (d : DiskNo) (k : Block) (o : Option Extent) → IsSomeAnd o (IsBlock p c k) → IsSomeAnd o (HoldsArray held b.run.disks.disks p s (run_arrays b.run) c (OnDisk d)) → HoldsBlockAt held b.run.disks.disks s (run_arrays b.run) c d k
     in-block c d k None is holds = absurd is
-    in-block c d k (Some e) is holds = λ x there. subst (λ (at : ℕ). GivesHeld (held x) at (block c.0 (writes s c) (array_at p s (OnDisk d) c).elements)) is.position (holds.told x (ap (λ (n : DiskNo). slice_get b.run.disks.disks n.0) is.disk ∙ there))
+    in-block c d k (Some e) is holds = λ x there. subst (λ (at : ℕ). GivesHeld (held x) at (block c.0 (writes s c) (run_arrays b.run c (OnDisk d)).elements)) is.position (holds.told x (ap (λ (n : DiskNo). slice_get b.run.disks.disks n.0) is.disk ∙ there))
 
     blocks : AllDisksTell held b.run.opened → HoldBlocks held p m b.run.trace b.run.disks.disks
     blocks tells c d valid = by_block (block_of p m c) refl (sound.run.coherent.state.blocks.home c d valid) (sound.run.blocks.placed c)
       where
-        by_block : (o : Option Block) → block_of p m c ≡ o → option_map (λ k. k.disk) o ≡ Some d → IfSome o (λ k. IsSomeAnd (extent_of b.run.disks.directory c.0) (IsBlock p c k)) → IsSomeAnd o (HoldsBlockAt held b.run.disks.disks p s c d)
+        by_block : (o : Option Block) → block_of p m c ≡ o → option_map (λ k. k.disk) o ≡ Some d → IfSome o (λ k. IsSomeAnd (extent_of b.run.disks.directory c.0) (IsBlock p c k)) → IsSomeAnd o (HoldsBlockAt held b.run.disks.disks s (run_arrays b.run) c d)
         by_block None e home placed = absurd (none-some d home)
         by_block (Some k) e home placed = in-block c d k (extent_of b.run.disks.directory c.0) placed (sound.run.blocks.blocks tells c d valid)
 

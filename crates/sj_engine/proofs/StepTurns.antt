@@ -13,11 +13,11 @@ use Rattle.sj_core.specs.declared.progress.Progress.TheVariants.{Claimed}
 use Rattle.sj_core.specs.declared.progress.Transfer.{Transfer}
 use Rattle.sj_core.specs.Machine.{State, WorkerState, is_entry, progress, replica, transfer, with_transfer, writes}
 use Rattle.sj_core.specs.Program.{dims_of}
-use Rattle.sj_core.specs.Step.{May, a_transfer, after, array_at, mover_of}
+use Rattle.sj_core.specs.Step.{May, a_transfer, after, mover_of}
 use Rattle.sj_core.proofs.Reading.{entry-inside, worker-same}
 use Rattle.sj_core.proofs.Replicas.{coming_by-is, leaving_by-is}
 use Rattle.sj_machine.specs.Sparing.{Spares}
-use Rattle.sj_machine.specs.Standing.{AllTell, CanHappen, IsShareOf, IsTileOf, is_node, state}
+use Rattle.sj_machine.specs.Standing.{AllTell, CanHappen, IsShareOf, IsTileOf, is_node, state, run_arrays}
 use Rattle.sj_machine.specs.Units.{lent}
 use Rattle.sj_board.specs.Board.{BoardState, hand_of, has_event, transfer_of}
 use Rattle.sj_board.specs.BoardRow.{key_of}
@@ -25,9 +25,13 @@ use Rattle.sj_board.specs.BoardSound.{IsSoundBoard}
 use Rattle.sj_engine.specs.Stage.{HasClaimedRow, IsCarried, MovesRow, row_in}
 use Rattle.sj_engine.specs.Stepping.{IsShareCarried}
 use Rattle.sj_engine.specs.Turn.{IsTurnOf}
-use Rattle.sj_engine.proofs.BoardTurns.{has_event-turn, state-after}
+use Rattle.sj_engine.proofs.BoardTurns.{has_event-turn, state-after, arrays-after}
 use Rattle.sj_engine.proofs.OwnRows.{moves-row, phase-of, row-transfer}
+<<<<<<< HEAD
 use Rattle.sj_engine.proofs.FoundBoards.{found-sound}
+=======
+use Rattle.sj_core.specs.Arrays.{Arrays, arrays_after}
+>>>>>>> 3708c698 (Not proved yet above the core: arrays stand beside the state, and neither a legal trace nor coherence names a codelet)
 
 some-and : {X : Type 0} (P Q : X → Type 0) (o : Option X) → ((x : X) → P x → Q x) → IsSomeAnd o P → IsSomeAnd o Q
 some-and P Q None f h = absurd h
@@ -50,6 +54,9 @@ module _ {D : Type 0} (size faults mismatches : D → ℕ) (held : D → Option 
 
   its-state : state y.run ≡ after b.run.program b.run.machine (state b.run) (Move c from to)
   its-state = state-after b y (Move c from to) (ap (λ (k : BoardState D). k.run) its-event)
+
+  its-arrays : run_arrays y.run ≡ arrays_after b.run.program b.run.machine (run_arrays b.run) (Move c from to)
+  its-arrays = arrays-after b y (Move c from to) (ap (λ (k : BoardState D). k.run) its-event)
 
   staff : w.0 < length (state b.run).workers
   staff = subst (λ n. w.0 < n) (sym (here.run.coherent.state.rows.workers ∙ here.run.run.machine.workers)) known
@@ -82,9 +89,8 @@ module _ {D : Type 0} (size faults mismatches : D → ℕ) (held : D → Option 
     dims = tile.dims ∙ ap (λ (k : BoardState D). dims_of k.run.program c) (sym its-event);
     told = λ tell.
         (let there : transfer_of y w ≡ Some its = sym (row-transfer y w) ∙ move-row.transfer in
-        ap (option_map (λ (k : Transfer). array_at y.run.program (state y.run) k.from k.cell)) there
-        ∙ ap (λ (k : BoardState D). Some (array_at k.run.program (state y.run) from c)) its-event
-        ∙ ap (λ (k : State). Some (array_at b.run.program k from c)) its-state
+        ap (option_map (λ (k : Transfer). run_arrays y.run k.cell k.from)) there
+        ∙ ap (λ (A : Arrays). Some (A c from)) its-arrays
         ∙ ap (λ (k : Array). Some k) (sym (tile.array (subst (λ (k : BoardState D). AllTell held k.run) its-event tell))));
   }
 
@@ -94,7 +100,7 @@ module _ {D : Type 0} (size faults mismatches : D → ℕ) (held : D → Option 
       (subst (λ k. c.0 < k) here.run.coherent.state.rows.cells (entry-inside (state b.run) c n (ap is_entry (coming_by-is _ (replica (state b.run) c (AtNode n)) step.coming))).0, refl)
   fetch-here (OnDisk d) (OnDisk k) step e =
       let l = leaving_by-is _ (replica (state b.run) c (OnDisk d)) step.leaving in
-      absurd ((here.run.coherent.state.blocks.resting c d _ l.0).1 l.1)
+      absurd ((here.run.coherent.state.blocks.resting c d _).1 l)
 
   pub move-share : (share : Option Array) → IsShareOf held x.run c from share → IsShareCarried held (key_of y) its (row_in y w) from share
   move-share share h = by_place from refl (subst (λ (k : BoardState D). IsShareOf held k.run c from share) ex h)

@@ -6,10 +6,10 @@ use Rattle.sj_base.specs.declared.ids.Place.TheVariants.{Disk as OnDisk}
 use Rattle.sj_base.specs.declared.program.Program.{Program}
 use Rattle.sj_base.specs.declared.program.Machine.{Machine}
 use Rattle.sj_base.specs.declared.trace.Event.{Event}
+use Rattle.sj_core.specs.Arrays.{Arrays, arrays_of}
 use Rattle.sj_core.specs.Legal.{state_of}
 use Rattle.sj_core.specs.Machine.{State, is_valid, replica, writes}
 use Rattle.sj_core.specs.Needs.{Block}
-use Rattle.sj_core.specs.Step.{array_at}
 use Rattle.sj_disk.specs.Block.{block}
 use Rattle.sj_edge.specs.Held.{GivesHeld}
 use Rattle.sj_machine.specs.Cause.{HasRisen}
@@ -36,14 +36,14 @@ WantsLastWritten p m trace (DiskFault d) = Unit {0}
 WantsLastWritten p m trace (Damaged d want found) = IsLastWritten p (state_of p m trace) d want
 WantsLastWritten p m trace OutOfMemory = Unit {0}
 
--- the block has the cell's header and its elements, as the state has them on the disk, where that disk tells
-abbrev pub HoldsBlockAt : {D : Type 0} → (D → Option (List ℕ)) → List D → Program → State → Cell → DiskNo → Block → Type 0
-HoldsBlockAt {D} held disks p s c d b =
-    (x : D) → slice_get disks b.disk.0 ≡ Some x → GivesHeld (held x) b.position (block c.0 (writes s c) (array_at p s (OnDisk d) c).elements)
+-- the block has the cell's header and its elements, as the arrays have them on the disk, where that disk tells
+abbrev pub HoldsBlockAt : {D : Type 0} → (D → Option (List ℕ)) → List D → State → Arrays → Cell → DiskNo → Block → Type 0
+HoldsBlockAt {D} held disks s A c d b =
+    (x : D) → slice_get disks b.disk.0 ≡ Some x → GivesHeld (held x) b.position (block c.0 (writes s c) (A c (OnDisk d)).elements)
 
 -- each cell that is valid on a disk in the state that the events leave has its block in its place there, with its write
 -- count and its array, where that disk tells
 abbrev pub HoldBlocks : {D : Type 0} → (D → Option (List ℕ)) → Program → Machine → List Event → List D → Type 0
 HoldBlocks held p m trace disks =
     (c : Cell) (d : DiskNo) → IsTrue (is_valid (replica (state_of p m trace) c (OnDisk d)))
-    → IsSomeAnd (block_of p m c) (HoldsBlockAt held disks p (state_of p m trace) c d)
+    → IsSomeAnd (block_of p m c) (HoldsBlockAt held disks (state_of p m trace) (arrays_of p m trace) c d)

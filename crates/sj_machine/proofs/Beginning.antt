@@ -1,10 +1,10 @@
 -- What the beginning of a move leaves.
 use Rattle.std.proofs.Common.{◌≡◌, ◌<◌, ◌+◌, ℕ, true, false, List, Option, None, Some, refl, sym, ap, ◌∙◌, subst, arith, length, is_some, position}
-use Rattle.std.specs.Prelude.{IfSome, IsSomeAnd, unwrap_or, option_map}
+use Rattle.std.specs.Prelude.{IfSome, IsSomeAnd, option_map}
 use Rattle.std.proofs.lemmas.List.Quantifiers.{position-Some}
 use Rattle.std.proofs.lemmas.Bool.{false≢true}
 use Rattle.sj_base.specs.declared.trace.Event.TheVariants.{Move}
-use Rattle.sj_core.proofs.Words.{Array, AtNode, Cell, DiskNo, Invalid, Machine, Node, OnDisk, Place, Program, State, Task, Worker, array_of, cell_state, dims_of, is_coming_by, is_leaving, is_leaving_by, is_valid, progress, replica, transfer, with_transfer, worker_of, zeros}
+use Rattle.sj_core.proofs.Words.{Array, AtNode, Cell, DiskNo, Invalid, Machine, Node, OnDisk, Place, Program, State, Task, Worker, cell_state, dims_of, is_coming_by, is_leaving, is_leaving_by, is_valid, progress, replica, transfer, with_transfer, worker_of}
 use Rattle.sj_core.specs.declared.progress.Progress.{Progress}
 use Rattle.sj_core.specs.declared.progress.Progress.TheVariants.{Claimed}
 use Rattle.sj_core.specs.declared.progress.Transfer.{Transfer}
@@ -15,11 +15,12 @@ use Rattle.sj_core.specs.Step.{CanMoveIn, CanMoveOut, a_transfer, after, disk_of
 use Rattle.sj_machine.specs.Agrees.{Agrees, Rows, rows_of}
 use Rattle.sj_machine.specs.Copies.{CanShare, row_of, tile_at, tile_kept}
 use Rattle.sj_machine.specs.Sound.{HoldsBlocks, Keeps}
-use Rattle.sj_machine.specs.Standing.{AllTell, CanHappen, IsShareOf, IsTileOf, Standing, state, with_event}
+use Rattle.sj_machine.specs.Standing.{AllTell, CanHappen, IsShareOf, IsTileOf, Standing, state, with_event, run_arrays}
 use Rattle.sj_machine.proofs.Keeping.{HoldsBlocks-kept, keeps-event}
 use Rattle.sj_machine.proofs.Marking.{cell-inside, mark-inside}
 use Rattle.sj_machine.proofs.Resting.{leaving-valid, rests, valid-cell, valid-node}
 use Rattle.sj_machine.proofs.Transferring.{new_workers, transfer-agrees}
+use Rattle.sj_core.specs.Arrays.{arrays_after}
 
 module _ {D : Type 0} (size faults mismatches : D → ℕ) (held : D → Option (List ℕ)) (b : Standing D) (rows : Rows) (spare : ℕ) (keeps : Keeps size faults mismatches held b rows spare) (c : Cell) (from to : Place) (w : Worker) (mover : mover_of (state b) c from to ≡ w) (can : CanHappen b (Move c from to)) where
   abbrev p : Program
@@ -53,7 +54,7 @@ module _ {D : Type 0} (size faults mismatches : D → ℕ) (held : D → Option 
           record {
             free = step.free;
             claims = (claimed.task, claimed.claimed);
-            read = λ k at. (source_valid k (step.source ∙ ap Some at), rests p m s coherent (is_coming_by w) (λ a. refl) refl c (AtNode n) step.coming);
+            read = λ k at. (source_valid k (step.source ∙ ap Some at), rests p m s coherent (is_coming_by w) refl refl c (AtNode n) step.coming);
           }
         where
           source_valid : (k : Node) → source_of p m s c ≡ Some (AtNode k) → is_valid (replica s c (AtNode k)) ≡ true
@@ -75,12 +76,12 @@ module _ {D : Type 0} (size faults mismatches : D → ℕ) (held : D → Option 
           record {
             free = step.free;
             claims = claims_of from step.leaving;
-            read = λ k at. (ap (λ (q : Place). is_valid (replica s c q)) (sym at) ∙ leaving-valid p m s coherent c from leaving, rests p m s coherent is_leaving (λ a. refl) refl c from leaving);
+            read = λ k at. (ap (λ (q : Place). is_valid (replica s c q)) (sym at) ∙ leaving-valid p m s coherent c from leaving, rests p m s coherent is_leaving refl refl c from leaving);
           }
         where
           claims_of : (q : Place) → is_leaving_by w (replica s c q) ≡ true → (t : Task) × (progress s t ≡ Claimed w)
           claims_of (AtNode n) leaving = (let e = (coherent.workers.evicted w c n leaving).claims in (e.0, claimed_by-is w (progress s e.0) e.1))
-          claims_of (OnDisk k) leaving = absurd (let is = leaving_by-is w (replica s c (OnDisk k)) leaving in (coherent.state.blocks.resting c k w is.0).1 is.1)
+          claims_of (OnDisk k) leaving = absurd ((coherent.state.blocks.resting c k w).1 (leaving_by-is w (replica s c (OnDisk k)) leaving))
 
   pub begin-worker : w.0 < length rows.workers
   begin-worker =
@@ -113,9 +114,9 @@ module _ {D : Type 0} (size faults mismatches : D → ℕ) (held : D → Option 
           let there : is_some (tile_at (row_of rows.cells c) n) ≡ true = keeps.agrees.tiles.there c n r.1 ∙ r.0 in
           by_tile (tile_at (row_of rows.cells c) n) there (keeps.agrees.tiles.dims c n) (λ tells. keeps.agrees.tiles.arrays tells c n)
         where
-          by_tile : (o : Option Array) → is_some o ≡ true → IfSome o (λ a. a.dims ≡ dims_of p c) → (AllTell held b → IfSome o (λ a. array_of (replica s c (AtNode n)) ≡ Some a)) → IsSomeAnd o (IsTileOf held b c (AtNode n))
+          by_tile : (o : Option Array) → is_some o ≡ true → IfSome o (λ a. a.dims ≡ dims_of p c) → (AllTell held b → IfSome o (λ a. a ≡ run_arrays b c (AtNode n))) → IsSomeAnd o (IsTileOf held b c (AtNode n))
           by_tile None there dims arrays = absurd (false≢true there)
-          by_tile (Some a) there dims arrays = record { dims = dims; array = λ tells. sym (ap (λ (o : Option Array). unwrap_or o (zeros (dims_of p c))) (arrays tells)) }
+          by_tile (Some a) there dims arrays = record { dims = dims; array = arrays }
 
   pub begin-share : (b' : Standing D) (share : Option Array) → b ≡ b' → share ≡ tile_kept rows.cells c from → IsShareOf held b' c from share
   begin-share b' share same is = subst (λ (x : Standing D). IsShareOf held x c from share) same (subst (λ (o : Option Array). IsShareOf held b c from o) (sym is) share-kept)
@@ -129,5 +130,5 @@ module _ {D : Type 0} (size faults mismatches : D → ℕ) (held : D → Option 
   pub keeps-begin : (spare' : ℕ) → spare' + 1 ≡ spare → Keeps size faults mismatches held (with_event b (Move c from to)) after_begin spare'
   keeps-begin spare' left =
       keeps-event size faults mismatches held b rows spare keeps (Move c from to) after_begin spare' can
-      (subst (λ (z : State). HoldsBlocks held p m z (AllTell held b) b.disks) (sym leaves) (HoldsBlocks-kept held p m s (with_transfer s w begun) (AllTell held b) b.disks (λ d k v. (refl, refl)) keeps.sound.blocks))
-      (subst (λ (z : State). Agrees p m z (AllTell held b) after_begin) (sym leaves) (transfer-agrees p m s w begun (AllTell held b) rows keeps.agrees)) left
+      (subst (λ (z : State). HoldsBlocks held p m z (arrays_after p m (run_arrays b) (Move c from to)) (AllTell held b) b.disks) (sym leaves) (HoldsBlocks-kept held p m s (with_transfer s w begun) (run_arrays b) (arrays_after p m (run_arrays b) (Move c from to)) (AllTell held b) b.disks (λ d k. refl) (λ d k v. (refl, refl)) keeps.sound.blocks))
+      (subst (λ (z : State). Agrees p m z (arrays_after p m (run_arrays b) (Move c from to)) (AllTell held b) after_begin) (sym leaves) (transfer-agrees p m s w begun (run_arrays b) (AllTell held b) rows keeps.agrees)) left

@@ -112,8 +112,8 @@ module _ (p : Program) (m : Machine) (s : State) (t : Task) (w : Worker) where
 leaving-mark : (r : Replica) → is_leaving_mark (mark_of r) ≡ is_leaving r
 leaving-mark Invalid = refl
 leaving-mark (Coming v) = refl
-leaving-mark (Valid a) = refl
-leaving-mark (Leaving v a) = refl
+leaving-mark Valid = refl
+leaving-mark (Leaving v) = refl
 
 module _ (p : Program) (m : Machine) (s : State) (coherent : Coherent p m s) (cells : List Copies) (marks : HasMarks p m s cells) (n : Node) where
   pub leaves-same : (c : Cell) → is_leaving_at cells n c ≡ is_leaving (replica s c (AtNode n))

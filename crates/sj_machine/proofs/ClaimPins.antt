@@ -17,7 +17,7 @@ use Rattle.sj_core.proofs.Reading.{idle_row}
 use Rattle.sj_core.proofs.Words.{AtNode, Cell, Machine, Node, OnDisk, Program, State, Task, Valid, Worker, WorkerState, cells_of, data_operands, dims_of, no_task, node_of, opening, pins, same_cell, task_of, with_replica, worked_on, workers_at, workers_of}
 use Rattle.sj_core.specs.Legal.{state_of}
 use Rattle.sj_core.specs.Proper.{FitsCodelet, IsMachineFor, Proper}
-use Rattle.sj_core.specs.Step.{after, array_at}
+use Rattle.sj_core.specs.Step.{after}
 use Rattle.sj_machine.specs.Agrees.{pins_on}
 use Rattle.sj_codelet.proofs.Table.{few-formals}
 
@@ -71,7 +71,7 @@ module _ (p : Program) (m : Machine) (proper : Proper p) where
   step-few s (Claim t w) had v = set-few s.workers w v _ (few-cells p proper t w) (had v)
   step-few s (Move c from (AtNode n)) had v = subst (λ (cs : List Cell). length cs ≤ 5) (sym (pins-same s _ _ v)) (had v)
   step-few s (Move c from (OnDisk d)) had v = subst (λ (cs : List Cell). length cs ≤ 5) (sym (pins-same s _ _ v)) (had v)
-  step-few s (Moved c from to) had v = subst (λ (cs : List Cell). length cs ≤ 5) (sym (pins-same (with_replica s c to (Valid (array_at p s from c))) _ _ v)) (had v)
+  step-few s (Moved c from to) had v = subst (λ (cs : List Cell). length cs ≤ 5) (sym (pins-same (with_replica s c to Valid) _ _ v)) (had v)
   step-few s (Drop c n) had v = had v
   step-few s (Run t w) had v = had v
   step-few s (End t w) had v = set-few s.workers w v _ (omega arith) (had v)

@@ -8,10 +8,10 @@ use Rattle.sj_core.proofs.Eviction.{evicted-after, evicted-chosen, evicted_by}
 use Rattle.sj_base.specs.declared.trace.Event.TheVariants.{Claim}
 use Rattle.sj_core.proofs.Bytes.{entry-cell}
 use Rattle.sj_core.proofs.ClaimKeeps.{claim-rested, claim-rests}
-use Rattle.sj_core.proofs.Claiming.{ClaimCase, Comes, Leaves, Stays, claim-array, claim-cases, claim-elsewhere, claim-here, claim-on_disk, claim-own_cells, claim-writes, evicted-free, missing-absent, task-cell, victim-valid}
+use Rattle.sj_core.proofs.Claiming.{ClaimCase, Comes, Leaves, Stays, claim-cases, claim-elsewhere, claim-here, claim-on_disk, claim-own_cells, claim-writes, evicted-free, missing-absent, task-cell, victim-valid, claim-valid}
 use Rattle.sj_core.proofs.Reading.{entry-inside, same_node}
 use Rattle.sj_core.proofs.Replicas.{coming_by-is}
-use Rattle.sj_core.proofs.Words.{Array, AtNode, Cell, Coming, Leaving, Machine, Node, Place, Program, State, Task, Worker, WorkerState, array_of, cells_of, dims_of, has_cell, is_entry, is_valid, node_of, replica}
+use Rattle.sj_core.proofs.Words.{Array, AtNode, Cell, Coming, Leaving, Machine, Node, Program, State, Task, Worker, WorkerState, cells_of, dims_of, has_cell, is_entry, is_valid, node_of, replica}
 use Rattle.sj_core.specs.declared.progress.Progress.{Progress}
 use Rattle.sj_core.specs.declared.progress.Progress.TheVariants.{Claimed}
 use Rattle.sj_core.specs.Coherent.{is_being_written}
@@ -25,11 +25,12 @@ use Rattle.sj_machine.specs.declared.mark.Mark.{Mark}
 use Rattle.sj_machine.specs.declared.mark.Mark.TheVariants.{Coming as ComingMark, Leaving as LeavingMark}
 use Rattle.sj_machine.specs.Plan.{CanHold, ClaimPlan, IsPlan, holding, marked, plan_with, row_with, store_at, with_mark}
 use Rattle.sj_machine.specs.Sound.{Keeps}
-use Rattle.sj_machine.specs.Standing.{AllTell, CanHappen, Standing, state, with_event}
+use Rattle.sj_machine.specs.Standing.{AllTell, CanHappen, Standing, state, with_event, run_arrays}
 use Rattle.sj_machine.proofs.ClaimMarks.{field-marked, length-marked, marked-elsewhere, marked-here, marked-other, wide-marked}
 use Rattle.sj_machine.proofs.ClaimPins.{few-cells, pins-few, pins_on-few}
 use Rattle.sj_machine.proofs.ClaimStores.{All-has, can-hold, holding-is, store-elsewhere}
 use Rattle.sj_machine.proofs.Keeping.{HoldsBlocks-kept, keeps-event, sound_state}
+use Rattle.sj_core.specs.Arrays.{arrays_after}
 
 -- the victims of a plan are those of the claim
 some_is : (vs ws : List Cell) → Some vs ≡ Some ws → vs ≡ ws
@@ -141,24 +142,24 @@ module _ {D : Type 0} (size faults mismatches : D → ℕ) (held : D → Option 
     where
       by_case : has_cell claim_plan.missing d ≡ false → has_cell claim_plan.victims d ≡ false → ClaimCase m s s' w (evicted_by p m s t w) (missing p s t w n) d (AtNode n) → mark_of (replica s d (AtNode n)) ≡ mark_of (replica s' d (AtNode n))
       by_case f e (Stays same) = ap mark_of (sym same)
-      by_case f e (Leaves at evicted a was is) = absurd (false≢true (sym e ∙ evicted))
+      by_case f e (Leaves at evicted was is) = absurd (false≢true (sym e ∙ evicted))
       by_case f e (Comes at lacks was is) = absurd (false≢true (sym f ∙ lacks))
 
       comes : has_cell claim_plan.missing d ≡ true → replica s' d (AtNode n) ≡ Coming w
       comes lacks = (let absent = missing-absent p m s t w s' claim (evicted-after p m s t w) d lacks in coming_by-is w (replica s' d (AtNode n)) ((claim-own_cells p m s sound t w s' claim (evicted-after p m s t w) d absent.1).1 absent.0))
 
-      leaves : has_cell claim_plan.victims d ≡ true → (a : Array) × (replica s' d (AtNode n) ≡ Leaving w a)
+      leaves : has_cell claim_plan.victims d ≡ true → replica s' d (AtNode n) ≡ Leaving w
       leaves gone =
           let valid = victim-valid p m s sound t w s' claim (evicted-after p m s t w) d gone in
-          let inside = entry-inside s d n (ap is_entry valid.1) in
-          (valid.0, claim-here p m s t w s' claim (evicted-after p m s t w) d inside.0 inside.1 ∙ ap (λ x. cond x (leave w (replica s d (AtNode n))) (cond (has_cell claim_plan.missing d) (Coming w) (replica s d (AtNode n)))) gone ∙ ap (leave w) valid.1)
+          let inside = entry-inside s d n (ap is_entry valid) in
+          claim-here p m s t w s' claim (evicted-after p m s t w) d inside.0 inside.1 ∙ ap (λ x. cond x (leave w (replica s d (AtNode n))) (cond (has_cell claim_plan.missing d) (Coming w) (replica s d (AtNode n)))) gone ∙ ap (leave w) valid
 
       by_tests : (a b : Bool) → has_cell claim_plan.missing d ≡ a → has_cell claim_plan.victims d ≡ b → mark_at (row_of came d) n ≡ mark_of (replica s' d (AtNode n))
       by_tests true b f e = marked-here n (ComingMark w) (length m.nodes) within left claim_plan.missing d brought-inside wide-left f ∙ sym (ap mark_of (comes f))
       by_tests false true f e =
           ap (λ (row : Copies). mark_at row n) (marked-other n (ComingMark w) (length m.nodes) within left claim_plan.missing d f)
           ∙ marked-here n (LeavingMark w) (length m.nodes) within rows.cells claim_plan.victims d evicted-inside keeps.agrees.marks.wide e
-          ∙ sym (ap mark_of (leaves e).1)
+          ∙ sym (ap mark_of (leaves e))
       by_tests false false f e =
           ap (λ (row : Copies). mark_at row n) (marked-other n (ComingMark w) (length m.nodes) within left claim_plan.missing d f ∙ marked-other n (LeavingMark w) (length m.nodes) within rows.cells claim_plan.victims d e)
           ∙ keeps.agrees.marks.marks d n
@@ -176,15 +177,12 @@ module _ {D : Type 0} (size faults mismatches : D → ℕ) (held : D → Option 
     writes = λ d. kept-field (λ row. row.writes) (λ n x row. refl) d ∙ keeps.agrees.marks.writes d ∙ sym (claim-writes p m s t w s' claim (evicted-after p m s t w) d);
   }
 
-  same-array : (d : Cell) (q : Place) → array_of (replica s' d q) ≡ array_of (replica s d q)
-  same-array = claim-array p m s sound t w s' claim (evicted-after p m s t w)
-
-  tiles : HasTiles p s' (AllTell held b) came
+  tiles : HasTiles p s' (arrays_after p m (run_arrays b) (Claim t w)) (AllTell held b) came
   tiles = record {
-    there = λ d k resting. ap is_some (kept-tile d k) ∙ keeps.agrees.tiles.there d k (claim-rested p m s sound t w s' claim (evicted-after p m s t w) d resting) ∙ sym (ap is_some (same-array d (AtNode k)));
+    there = λ d k resting. ap is_some (kept-tile d k) ∙ keeps.agrees.tiles.there d k (claim-rested p m s sound t w s' claim (evicted-after p m s t w) d resting) ∙ sym (claim-valid p m s sound t w s' claim (evicted-after p m s t w) d (AtNode k));
     out = λ d k written. kept-tile d k ∙ keeps.agrees.tiles.out d k (true_from_ne_false (is_being_written p s d) (λ resting. false≢true (sym (claim-rests p m s sound t w s' claim (evicted-after p m s t w) d resting) ∙ written)));
     dims = λ d k. subst (λ (o : Option Array). IfSome o (λ a. a.dims ≡ dims_of p d)) (sym (kept-tile d k)) (keeps.agrees.tiles.dims d k);
-    arrays = λ tells d k. subst (λ (o : Option Array). IfSome o (λ a. array_of (replica s' d (AtNode k)) ≡ Some a)) (sym (kept-tile d k)) (subst (λ (x : Option Array). IfSome (tile_at (row_of rows.cells d) k) (λ a. x ≡ Some a)) (sym (same-array d (AtNode k))) (keeps.agrees.tiles.arrays tells d k));
+    arrays = λ tells d k. subst (λ (o : Option Array). IfSome o (λ a. a ≡ run_arrays b d (AtNode k))) (sym (kept-tile d k)) (keeps.agrees.tiles.arrays tells d k);
   }
 
   stores : HasStores p m s' (set rows.nodes n.0 (holding (store_at rows.nodes n) claim_plan))
@@ -200,7 +198,7 @@ module _ {D : Type 0} (size faults mismatches : D → ℕ) (held : D → Option 
     ];
   }
 
-  agrees : Agrees p m s' (AllTell held b) after_claims
+  agrees : Agrees p m s' (arrays_after p m (run_arrays b) (Claim t w)) (AllTell held b) after_claims
   agrees = record {
     tasks = ap (λ (ts : List Progress). set ts t.0 (Claimed w)) keeps.agrees.tasks ∙ sym (ap (λ (z : State). z.tasks) (evicted-after p m s t w));
     workers = ap (λ (ws : List WorkerState). set ws w.0 (row_with (row_at ws w) claim_plan)) keeps.agrees.workers ∙ sym (ap (λ (z : State). z.workers) (evicted-after p m s t w));
@@ -212,7 +210,7 @@ module _ {D : Type 0} (size faults mismatches : D → ℕ) (held : D → Option 
   pub keeps-claim : (spare' : ℕ) → spare' + 1 ≡ spare → Keeps size faults mismatches held (with_event b (Claim t w)) after_claims spare'
   keeps-claim spare' left =
       keeps-event size faults mismatches held b rows spare keeps (Claim t w) after_claims spare' can
-      (HoldsBlocks-kept held p m s s' (AllTell held b) b.disks (λ c d v. (claim-on_disk p m s t w s' claim (evicted-after p m s t w) c d, claim-writes p m s t w s' claim (evicted-after p m s t w) c)) keeps.sound.blocks)
+      (HoldsBlocks-kept held p m s s' (run_arrays b) (arrays_after p m (run_arrays b) (Claim t w)) (AllTell held b) b.disks (λ c d. refl) (λ c d v. (claim-on_disk p m s t w s' claim (evicted-after p m s t w) c d, claim-writes p m s t w s' claim (evicted-after p m s t w) c)) keeps.sound.blocks)
       agrees left
 
 -- ---- by a plan, and a node that is the worker's

@@ -21,10 +21,9 @@ use Rattle.sj_core.proofs.Words.{AtNode, Cell, Node, Program, Task, Worker, cell
 use Rattle.sj_core.specs.Fold.{given}
 use Rattle.sj_core.specs.Laws.{Brought, HasAtHand, IsSound}
 use Rattle.sj_core.specs.Proper.{Commuting, Contributing, FirstPaste, FitsCodelet, MayHaveModes, Own, Proper, access}
-use Rattle.sj_core.specs.Step.{array_at}
 use Rattle.sj_machine.specs.Delivery.{delivered_cell, is_deliver, is_deliver_task, is_delivery}
 use Rattle.sj_machine.specs.Sound.{IsSoundRun}
-use Rattle.sj_machine.specs.Standing.{CanHappen, Standing, state}
+use Rattle.sj_machine.specs.Standing.{CanHappen, Standing, state, run_arrays}
 
 delivers : (k : Kernel) → is_deliver k ≡ true → k ≡ Deliver
 delivers Deliver e = refl
@@ -76,9 +75,9 @@ module _ {D : Type 0} (size faults mismatches : D → ℕ) (held : D → Option 
   n = node_of b.machine w
 
   -- what it has on its worker's node
-  pub at-hand : is_deliver_task p t ≡ true → HasAtHand b.machine (state b) t w (delivered_cell p t) → array_at p (state b) (AtNode n) (delivered_cell p t) ≡ given p t
+  pub at-hand : is_deliver_task p t ≡ true → HasAtHand b.machine (state b) t w (delivered_cell p t) → run_arrays b (delivered_cell p t) (AtNode n) ≡ given p t
   at-hand hands has =
-      delivers-given p b.machine (state b) (record { proper = sound.run.proper; machine = sound.run.machine; coherent = sound.coherent }) sound.run.has sound.run.lawful t w (delivered_cell p t)
+      delivers-given p b.machine (state b) (record { proper = sound.run.proper; machine = sound.run.machine; coherent = sound.coherent }) sound.run.has sound.run.lawful (run_arrays b) sound.content t w (delivered_cell p t)
       (deliver-reads p sound.run.proper t hands) has
 
   -- as the task begins to run it has that cell there

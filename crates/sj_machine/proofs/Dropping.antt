@@ -12,10 +12,11 @@ use Rattle.sj_machine.specs.declared.mark.Mark.TheVariants.{Invalid as NoMark}
 use Rattle.sj_machine.specs.Agrees.{Agrees, Rows, rows_of}
 use Rattle.sj_machine.specs.Copies.{Copies, row_of, with_copy, with_row}
 use Rattle.sj_machine.specs.Sound.{HoldsBlocks, Keeps}
-use Rattle.sj_machine.specs.Standing.{AllTell, CanHappen, Standing, state}
+use Rattle.sj_machine.specs.Standing.{AllTell, CanHappen, Standing, state, run_arrays}
 use Rattle.sj_machine.proofs.Keeping.{HoldsBlocks-kept, keeps-event, keeps-told}
 use Rattle.sj_machine.proofs.Marking.{HasMarks-copy, HasTiles-copy, cell-inside, mark-inside}
 use Rattle.sj_machine.proofs.Resting.{leaving-valid, rests, valid-cell, valid-node}
+use Rattle.sj_core.specs.Arrays.{arrays_after}
 
 module _ {D : Type 0} (size faults mismatches : D → ℕ) (held : D → Option (List ℕ)) (b : Standing D) (rows : Rows) (spare : ℕ) (keeps : Keeps size faults mismatches held b rows spare) (c : Cell) (n : Node) (can : CanHappen b (Drop c n)) where
   abbrev p : Program
@@ -40,7 +41,7 @@ module _ {D : Type 0} (size faults mismatches : D → ℕ) (held : D → Option 
   of_machine = valid-node p m s keeps.sound.coherent c n valid
 
   resting : is_being_written p s c ≡ false
-  resting = rests p m s keeps.sound.coherent is_leaving (λ a. refl) refl c (AtNode n) drop.leaving
+  resting = rests p m s keeps.sound.coherent is_leaving refl refl c (AtNode n) drop.leaving
 
   pub drop-cell : c.0 < length rows.cells
   drop-cell = cell-inside p m s keeps.sound.coherent.state.rows rows.cells keeps.agrees.marks c n of_program of_machine
@@ -51,17 +52,17 @@ module _ {D : Type 0} (size faults mismatches : D → ℕ) (held : D → Option 
   abbrev after_drop : Rows
   after_drop = rows_of rows.tasks (with_row rows.cells c (λ row. with_copy row n NoMark None)) rows.nodes rows.workers
 
-  agrees : Agrees p m (after p m s (Drop c n)) (AllTell held b) after_drop
+  agrees : Agrees p m (after p m s (Drop c n)) (arrays_after p m (run_arrays b) (Drop c n)) (AllTell held b) after_drop
   agrees = record {
     tasks = keeps.agrees.tasks;
     workers = keeps.agrees.workers;
     marks = HasMarks-copy p m s keeps.sound.coherent.state.rows rows.cells keeps.agrees.marks c n of_program of_machine Invalid None;
-    tiles = HasTiles-copy p m s keeps.sound.coherent.state.rows rows.cells keeps.agrees.marks c n of_program of_machine Invalid None (AllTell held b) keeps.agrees.tiles resting refl tt (λ tells. tt);
+    tiles = HasTiles-copy p m s keeps.sound.coherent.state.rows rows.cells keeps.agrees.marks c n of_program of_machine Invalid None (run_arrays b) (arrays_after p m (run_arrays b) (Drop c n)) (λ d k far. refl) (AllTell held b) keeps.agrees.tiles resting refl tt (λ tells. tt);
     stores = record { every_node = keeps.agrees.stores.every_node; stores = keeps.agrees.stores.stores };
   }
 
-  blocks : HoldsBlocks held p m (after p m s (Drop c n)) (AllTell held b) b.disks
-  blocks = HoldsBlocks-kept held p m s (after p m s (Drop c n)) (AllTell held b) b.disks (λ d k v. (same d k, writes-same s c (AtNode n) Invalid d)) keeps.sound.blocks
+  blocks : HoldsBlocks held p m (after p m s (Drop c n)) (arrays_after p m (run_arrays b) (Drop c n)) (AllTell held b) b.disks
+  blocks = HoldsBlocks-kept held p m s (after p m s (Drop c n)) (run_arrays b) (arrays_after p m (run_arrays b) (Drop c n)) (AllTell held b) b.disks (λ d k. refl) (λ d k v. (same d k, writes-same s c (AtNode n) Invalid d)) keeps.sound.blocks
     where
       same : (d : Cell) (k : DiskNo) → replica (with_replica s c (AtNode n) Invalid) d (OnDisk k) ≡ replica s d (OnDisk k)
       same d k =

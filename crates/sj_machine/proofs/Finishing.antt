@@ -1,5 +1,5 @@
 -- What the end of a run leaves.
-use Rattle.std.proofs.Common.{◌≡◌, ◌≢◌, ◌<◌, ◌≤◌, ◌+◌, ◌-◌, ◌^◌, ℕ, Bool, true, false, not, List, [], ◌∷◌, ◌++◌, Option, None, Some, ◌∙◌, ap, arith, cond, find, get_or, inl, inr, is_some, length, map, refl, set, sum_by, sym, subst, ◌||◌}
+use Rattle.std.proofs.Common.{◌≡◌, ◌≢◌, ◌<◌, ◌≤◌, ◌+◌, ◌-◌, ◌^◌, ℕ, Bool, true, false, List, [], ◌∷◌, ◌++◌, Option, None, Some, ◌∙◌, ap, arith, cond, find, get_or, inl, inr, is_some, length, map, refl, set, sum_by, sym, subst, ◌||◌}
 use Rattle.std.specs.Prelude.{All, IfSome, filter}
 use Rattle.std.specs.List.{AllByRecursion, AllZip, zip}
 use Rattle.std.proofs.lemmas.Bool.{cases_Bool, false≢true}
@@ -17,22 +17,22 @@ use Rattle.sj_base.specs.Mode.{is_written}
 use Rattle.sj_codelet.specs.Frame.{Slot, arrays}
 use Rattle.sj_core.specs.declared.progress.Progress.{Progress}
 use Rattle.sj_core.specs.declared.progress.Progress.TheVariants.{Done, Running}
-use Rattle.sj_core.proofs.Words.{Array, AtNode, Cell, CellState, Machine, Node, OnDisk, Place, Program, Replica, State, Task, Valid, Worker, WorkerState, array_of, cells_of, dims_of, has_cell, is_entry, is_task_of, is_valid, node_of, node_size, order, pins, progress, replica, same_cell, scratch, task_of, tasks_of, tile_bytes, worked_on, worker_of, worker_state, workers_at, writes, written_cells, zeros}
+use Rattle.sj_core.proofs.Words.{Array, AtNode, Cell, CellState, Machine, Node, OnDisk, Place, Program, State, Task, Worker, WorkerState, cells_of, dims_of, has_cell, is_entry, is_task_of, is_valid, node_of, node_size, order, pins, progress, replica, same_cell, scratch, task_of, tasks_of, tile_bytes, worked_on, worker_of, worker_state, workers_at, writes, written_cells, zeros}
 use Rattle.sj_core.proofs.Advancing.{Ends-advances}
 use Rattle.sj_core.proofs.CellLists.{same_cell-refl, times}
 use Rattle.sj_core.proofs.Changing.{place_differs}
-use Rattle.sj_core.proofs.Ending.{end-elsewhere, end-other, end-other_worker, end-own_worker, end-spares, end-written}
-use Rattle.sj_core.proofs.Finding.{being_written-by, being_written-here, not_written-before, running-inside}
+use Rattle.sj_core.proofs.Ending.{end-other_worker, end-own_worker, end-spares, end-replica}
+use Rattle.sj_core.proofs.Finding.{being_written-by, being_written-here, not_written-before, running-inside, second_fails, both_pass}
 use Rattle.sj_core.proofs.Placing.{valid-row}
 use Rattle.sj_core.proofs.Reading.{cells-touched, cells-untouched, same_cell-is, same_node}
 use Rattle.sj_core.proofs.Replicas.{same_worker-refl, valid-entry}
 use Rattle.sj_core.proofs.Sized.{worked_on-dims}
 use Rattle.sj_core.proofs.TaskCells.{written-among_cells}
-use Rattle.sj_core.specs.Coherent.{IsOwnedBy, has_written, is_begun, is_being_written, written_content}
+use Rattle.sj_core.specs.Coherent.{IsOwnedBy, has_written, is_begun, is_being_written}
 use Rattle.sj_core.specs.Fold.{held_in}
 use Rattle.sj_core.specs.Laws.{IsSound}
 use Rattle.sj_core.specs.Program.{written_operands}
-use Rattle.sj_core.specs.Step.{after_end, result_at, rewritten_at, same_place}
+use Rattle.sj_core.specs.Step.{after_end, same_place, written_once_more}
 use Rattle.sj_node.specs.Store.{Store, store}
 use Rattle.sj_machine.specs.Mark.{mark_of}
 use Rattle.sj_machine.specs.declared.mark.Mark.TheVariants.{Invalid as NoMark, Valid as ValidMark}
@@ -42,7 +42,7 @@ use Rattle.sj_machine.specs.Plan.{store_at}
 use Rattle.sj_machine.specs.Operands.{CanWorkOn, written_among}
 use Rattle.sj_machine.specs.Running.{AreResultsFor, AreShared, CanPutBack, CanRelease, CanRewrite, IsShare, let_go, put_each, released}
 use Rattle.sj_machine.specs.Sound.{HoldsBlocks, Keeps}
-use Rattle.sj_machine.specs.Standing.{AllTell, CanHappen, Standing, state}
+use Rattle.sj_machine.specs.Standing.{AllTell, CanHappen, Standing, state, run_arrays}
 use Rattle.sj_machine.proofs.ClaimEntries.{entries}
 use Rattle.sj_machine.proofs.ClaimPins.{few-operands}
 use Rattle.sj_machine.proofs.ClaimStores.{sum-at, sum-grown}
@@ -54,6 +54,8 @@ use Rattle.sj_machine.proofs.Resting.{entry-cell}
 use Rattle.sj_machine.proofs.Unpinning.{all-less, can-unpin}
 use Rattle.sj_machine.proofs.Written.{can-work, works-inside, written-once}
 use Rattle.std.proofs.Math.Path.{fun_ext}
+use Rattle.sj_core.specs.Arrays.{Arrays, arrays_after, held_at, result_in}
+use Rattle.sj_base.proofs.SameIds.{same_place-itself}
 
 -- the array of a written cell has its dimensions
 abbrev found-put : (p : Program) (w : Worker) (ops : List Access) (slots : List Slot) (a : Access) (x : Slot) (c : Cell) → Bool → Array
@@ -116,7 +118,7 @@ module _ {D : Type 0} (size faults mismatches : D → ℕ) (held : D → Option 
   abbrev ws : List Cell
   ws = written_cells p t w
 
-  own : (c : Cell) → has_cell ws c ≡ true → IsOwnedBy m s c w (written_content p s t w c)
+  own : (c : Cell) → has_cell ws c ≡ true → IsOwnedBy m s c w
   own c has = h.coherent.writers.owned t w c ended has
 
   being : (c : Cell) → has_cell ws c ≡ true → is_being_written p s c ≡ true
@@ -231,19 +233,16 @@ module _ {D : Type 0} (size faults mismatches : D → ℕ) (held : D → Option 
   -- ---- the rows of cells
 
   writes-more : (c : Cell) → has_cell ws c ≡ true → writes s' c ≡ writes s c + 1
-  writes-more c has = (let inside = valid-row s c (AtNode n) (ap is_valid (own c has).valid) in ap (λ (row : CellState). row.writes) (cells-touched s (has_cell (written_cells p t w)) (λ d row. rewritten_at n (result_at p s t w n d) row) c inside has))
+  writes-more c has = (let inside = valid-row s c (AtNode n) (ap is_valid (own c has).valid) in ap (λ (row : CellState). row.writes) (cells-touched s (has_cell (written_cells p t w)) (λ d row. written_once_more row) c inside has))
 
   writes-same_at : (c : Cell) → has_cell ws c ≡ false → writes s' c ≡ writes s c
-  writes-same_at c left = ap (λ (row : CellState). row.writes) (cells-untouched s (has_cell (written_cells p t w)) (λ d row. rewritten_at n (result_at p s t w n d) row) c left)
+  writes-same_at c left = ap (λ (row : CellState). row.writes) (cells-untouched s (has_cell (written_cells p t w)) (λ d row. written_once_more row) c left)
 
-  elsewhere : (c : Cell) (q : Place) → not (same_place q (AtNode n)) ≡ true → replica s' c q ≡ replica s c q
-  elsewhere c q away = end-elsewhere p m s t w s' ended refl c q away
+  same : (c : Cell) (q : Place) → replica s' c q ≡ replica s c q
+  same = end-replica p m s t w s' ended refl
 
-  other : (c : Cell) (q : Place) → has_cell ws c ≡ false → replica s' c q ≡ replica s c q
-  other c q left = end-other p m s t w s' ended refl c q left
-
-  here : (c : Cell) → has_cell ws c ≡ true → replica s' c (AtNode n) ≡ Valid (result_at p s t w n c)
-  here c has = (end-written p m s h t w s' ended refl c has).0
+  abbrev put_arrays : Arrays
+  put_arrays = arrays_after p m (run_arrays b) (End t w)
 
   module _ (slots : List Slot) (results' : AreResultsFor held b t w slots) where
     abbrev xs : List Array
@@ -287,15 +286,15 @@ module _ {D : Type 0} (size faults mismatches : D → ℕ) (held : D → Option 
       every_cell = length-put_each n ws xs rows.cells ∙ keeps.agrees.marks.every_cell;
       wide = wide-put_each (length m.nodes) n ws xs rows.cells all-inside keeps.agrees.marks.wide;
       marks = λ c k. elim (cases_Bool (has_cell ws c)) [
-        | inr left ↦ ap (λ (r : Copies). mark_at r k) (row-left c left) ∙ keeps.agrees.marks.marks c k ∙ ap mark_of (sym (other c (AtNode k) left))
+        | inr left ↦ ap (λ (r : Copies). mark_at r k) (row-left c left) ∙ keeps.agrees.marks.marks c k ∙ ap mark_of (sym (same c (AtNode k)))
         | inl has ↦ ap (λ (r : Copies). mark_at r k) (row-new c has) ∙ elim (same_node k n) [
-          | inl at ↦ ap (mark_at (written_at (row_of rows.cells c) n (put c))) at ∙ mark-here c has ∙ ap mark_of (sym (ap (λ (j : Node). replica s' c (AtNode j)) at ∙ here c has))
-          | inr far ↦ get_or-set_other (row_of rows.cells c).marks n.0 k.0 ValidMark NoMark (node_number k far) ∙ keeps.agrees.marks.marks c k ∙ ap mark_of (sym (elsewhere c (AtNode k) (place_differs k n far)))
+          | inl at ↦ ap (mark_at (written_at (row_of rows.cells c) n (put c))) at ∙ mark-here c has ∙ ap mark_of (sym (ap (λ (j : Node). replica s' c (AtNode j)) at ∙ same c (AtNode n) ∙ (own c has).valid))
+          | inr far ↦ get_or-set_other (row_of rows.cells c).marks n.0 k.0 ValidMark NoMark (node_number k far) ∙ keeps.agrees.marks.marks c k ∙ ap mark_of (sym (same c (AtNode k)))
         ]
       ];
       on_disk = λ c d home. elim (cases_Bool (has_cell ws c)) [
-        | inr left ↦ ap (λ (r : Copies). r.on_disk) (row-left c left) ∙ keeps.agrees.marks.on_disk c d home ∙ ap is_valid (sym (elsewhere c (OnDisk d) refl))
-        | inl has ↦ ap (λ (r : Copies). r.on_disk) (row-new c has) ∙ keeps.agrees.marks.on_disk c d home ∙ ap is_valid (sym (elsewhere c (OnDisk d) refl))
+        | inr left ↦ ap (λ (r : Copies). r.on_disk) (row-left c left) ∙ keeps.agrees.marks.on_disk c d home ∙ ap is_valid (sym (same c (OnDisk d)))
+        | inl has ↦ ap (λ (r : Copies). r.on_disk) (row-new c has) ∙ keeps.agrees.marks.on_disk c d home ∙ ap is_valid (sym (same c (OnDisk d)))
       ];
       writes = λ c. elim (cases_Bool (has_cell ws c)) [
         | inr left ↦ ap (λ (r : Copies). r.writes) (row-left c left) ∙ keeps.agrees.marks.writes c ∙ sym (writes-same_at c left)
@@ -320,16 +319,16 @@ module _ {D : Type 0} (size faults mismatches : D → ℕ) (held : D → Option 
           being_written-here p s c by.0 (worker_of (progress s' by.0)) (running-inside p m s by.0 (worker_of (progress s' by.0)) h.coherent.state.rows before) before by.2,
         )
 
-    put-is : AllTell held b → (c : Cell) → put c ≡ result_at p s t w n c
+    put-is : AllTell held b → (c : Cell) → put c ≡ result_in p t w (held_at (run_arrays b) (AtNode n)) c
     put-is tells c = ap (λ (l : List Array). held_in p (zip ws l) c) (results'.told tells)
 
-    tiles-agree : HasTiles p s' (AllTell held b) new
+    tiles-agree : HasTiles p s' put_arrays (AllTell held b) new
     tiles-agree = record {
       there = λ c k rests. elim (cases_Bool (has_cell ws c)) [
-        | inr left ↦ ap (λ (r : Copies). is_some (tile_at r k)) (row-left c left) ∙ keeps.agrees.tiles.there c k (rested c left rests) ∙ ap is_valid (sym (other c (AtNode k) left))
+        | inr left ↦ ap (λ (r : Copies). is_some (tile_at r k)) (row-left c left) ∙ keeps.agrees.tiles.there c k (rested c left rests) ∙ ap is_valid (sym (same c (AtNode k)))
         | inl has ↦ elim (same_node k n) [
-          | inl at ↦ ap (λ (j : Node). is_some (tile_at (row_of new c) j)) at ∙ ap is_some (tile-here c has) ∙ ap is_valid (sym (ap (λ (j : Node). replica s' c (AtNode j)) at ∙ here c has))
-          | inr far ↦ ap is_some (tile-far c k has far) ∙ ap is_valid (sym (elsewhere c (AtNode k) (place_differs k n far) ∙ (own c has).only (AtNode k) (place_differs k n far)))
+          | inl at ↦ ap (λ (j : Node). is_some (tile_at (row_of new c) j)) at ∙ ap is_some (tile-here c has) ∙ ap is_valid (sym (ap (λ (j : Node). replica s' c (AtNode j)) at ∙ same c (AtNode n) ∙ (own c has).valid))
+          | inr far ↦ ap is_some (tile-far c k has far) ∙ ap is_valid (sym (same c (AtNode k) ∙ (own c has).only (AtNode k) (place_differs k n far)))
         ]
       ];
       out = λ c k now. (let both = still-being c now in ap (λ (r : Copies). tile_at r k) (row-left c both.0) ∙ keeps.agrees.tiles.out c k both.1);
@@ -341,22 +340,28 @@ module _ {D : Type 0} (size faults mismatches : D → ℕ) (held : D → Option 
         ]
       ];
       arrays = λ tells c k. elim (cases_Bool (has_cell ws c)) [
-        | inr left ↦ subst (λ (r : Copies). IfSome (tile_at r k) (λ a. array_of (replica s' c (AtNode k)) ≡ Some a)) (sym (row-left c left)) (subst (λ (x : Replica). IfSome (tile_at (row_of rows.cells c) k) (λ a. array_of x ≡ Some a)) (sym (other c (AtNode k) left)) (keeps.agrees.tiles.arrays tells c k))
+        | inr left ↦ subst (λ (r : Copies). IfSome (tile_at r k) (λ a. a ≡ put_arrays c (AtNode k))) (sym (row-left c left)) (subst (λ (x : Array). IfSome (tile_at (row_of rows.cells c) k) (λ a. a ≡ x)) (sym (array-left c k left)) (keeps.agrees.tiles.arrays tells c k))
         | inl has ↦ elim (same_node k n) [
-          | inl at ↦ subst (λ (j : Node). IfSome (tile_at (row_of new c) j) (λ a. array_of (replica s' c (AtNode j)) ≡ Some a)) (sym at) (subst (λ (o : Option Array). IfSome o (λ a. array_of (replica s' c (AtNode n)) ≡ Some a)) (sym (tile-here c has)) (ap array_of (here c has) ∙ ap Some (sym (put-is tells c))))
-          | inr far ↦ subst (λ (o : Option Array). IfSome o (λ a. array_of (replica s' c (AtNode k)) ≡ Some a)) (sym (tile-far c k has far)) tt
+          | inl at ↦ subst (λ (j : Node). IfSome (tile_at (row_of new c) j) (λ a. a ≡ put_arrays c (AtNode j))) (sym at) (subst (λ (o : Option Array). IfSome o (λ a. a ≡ put_arrays c (AtNode n))) (sym (tile-here c has)) (put-is tells c ∙ sym (array-here c has)))
+          | inr far ↦ subst (λ (o : Option Array). IfSome o (λ a. a ≡ put_arrays c (AtNode k))) (sym (tile-far c k has far)) tt
         ]
       ];
     }
+      where
+        array-left : (c : Cell) (k : Node) → has_cell ws c ≡ false → put_arrays c (AtNode k) ≡ run_arrays b c (AtNode k)
+        array-left c k left = second_fails (same_place (AtNode k) (AtNode n)) (has_cell ws c) (result_in p t w (held_at (run_arrays b) (AtNode n)) c) (run_arrays b c (AtNode k)) left
+
+        array-here : (c : Cell) → has_cell ws c ≡ true → put_arrays c (AtNode n) ≡ result_in p t w (held_at (run_arrays b) (AtNode n)) c
+        array-here c has = both_pass (same_place (AtNode n) (AtNode n)) (has_cell ws c) (result_in p t w (held_at (run_arrays b) (AtNode n)) c) (run_arrays b c (AtNode n)) (same_place-itself (AtNode n)) has
 
     -- ---- all of it
 
-    blocks-stay : HoldsBlocks held p m s' (AllTell held b) b.disks
-    blocks-stay = HoldsBlocks-kept held p m s s' (AllTell held b) b.disks (λ c d valid. (
-      elsewhere c (OnDisk d) refl,
+    blocks-stay : HoldsBlocks held p m s' put_arrays (AllTell held b) b.disks
+    blocks-stay = HoldsBlocks-kept held p m s s' (run_arrays b) put_arrays (AllTell held b) b.disks (λ c d. refl) (λ c d valid. (
+      same c (OnDisk d),
       elim (cases_Bool (has_cell ws c)) [
         | inr left ↦ writes-same_at c left
-        | inl has ↦ absurd (false≢true (sym (ap is_valid (elsewhere c (OnDisk d) refl ∙ (own c has).only (OnDisk d) refl)) ∙ valid))
+        | inl has ↦ absurd (false≢true (sym (ap is_valid (same c (OnDisk d) ∙ (own c has).only (OnDisk d) refl)) ∙ valid))
       ],
     )) keeps.sound.blocks
 

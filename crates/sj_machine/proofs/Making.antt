@@ -9,7 +9,7 @@ use Rattle.sj_base.specs.Recorded.{Recorded}
 use Rattle.sj_base.specs.declared.trace.Event.{Event}
 use Rattle.sj_core.specs.declared.progress.Progress.{Progress}
 use Rattle.sj_core.specs.declared.progress.Progress.TheVariants.{Waiting}
-use Rattle.sj_core.proofs.Words.{Array, AtNode, Cell, DiskNo, Machine, Node, OnDisk, Program, WorkerState, array_of, dims_of, is_valid, node_size, opening, order, progress, replica, scratch, workers_at, writes}
+use Rattle.sj_core.proofs.Words.{AtNode, Cell, DiskNo, Machine, Node, OnDisk, Program, WorkerState, dims_of, is_valid, node_size, opening, order, progress, replica, scratch, workers_at, writes}
 use Rattle.sj_core.proofs.Opening.{opening-coherent, nowhere, unwritten, no_scratch}
 use Rattle.sj_core.proofs.Reading.{idle_row}
 use Rattle.sj_core.proofs.Finding.{being_written-by}
@@ -23,7 +23,8 @@ use Rattle.sj_machine.specs.Mark.{mark_of}
 use Rattle.sj_machine.specs.Agrees.{Agrees, IsWide, Rows, node_entry_of, rows_of, store_of}
 use Rattle.sj_machine.specs.Copies.{Copies, mark_at, none_at, row_of, tile_at}
 use Rattle.sj_machine.specs.Sound.{IsBlock, IsRunnableOn, Keeps, block_of, most_events}
-use Rattle.sj_machine.specs.Standing.{AllTell, Standing, standing, starting}
+use Rattle.sj_machine.specs.Standing.{AllTell, Standing, standing, starting, run_arrays}
+use Rattle.sj_core.specs.Arrays.{Arrays}
 use Rattle.sj_machine.proofs.Reading.{no_copies}
 use Rattle.sj_base.proofs.Lists.{get_or-replicate_same}
 
@@ -67,8 +68,8 @@ module _ (p : Program) (m : Machine) where
       ap (λ k. store (node_size m n) k (length p.cells) (map (node_entry_of p m (opening p m) n) (order (opening p m) n))) (sum-all_none (scratch (opening p m)) (no_scratch p m) 0 (workers_at m n))
       ∙ ap (λ (cs : List Cell). store (node_size m n) 0 (length p.cells) (map (node_entry_of p m (opening p m) n) cs)) (get_or-replicate_same (length m.nodes) n.0 [])
 
-  first_agrees : (Tells : Type 0) → Agrees p m (opening p m) Tells first_rows
-  first_agrees Tells = record {
+  first_agrees : (A : Arrays) (Tells : Type 0) → Agrees p m (opening p m) A Tells first_rows
+  first_agrees A Tells = record {
     tasks = refl;
     workers = refl;
     marks = record {
@@ -82,7 +83,7 @@ module _ (p : Program) (m : Machine) where
       there = λ c n rests. ap is_some (no_tile c n) ∙ ap is_valid (sym (nowhere p m c (AtNode n)));
       out = λ c n written. no_tile c n;
       dims = λ c n. subst (λ (o : Option Array). IfSome o (λ a. a.dims ≡ dims_of p c)) (sym (no_tile c n)) tt;
-      arrays = λ tells c n. subst (λ (o : Option Array). IfSome o (λ a. array_of (replica (opening p m) c (AtNode n)) ≡ Some a)) (sym (no_tile c n)) tt;
+      arrays = λ tells c n. subst (λ (o : Option Array). IfSome o (λ a. a ≡ A c (AtNode n))) (sym (no_tile c n)) tt;
     };
     stores = record {
       every_node = length-map m.nodes (λ size. empty size (length p.cells));
@@ -103,6 +104,7 @@ module _ {D : Type 0} (size faults mismatches : D → ℕ) (held : D → Option 
       run = run;
       legal = tt;
       coherent = opening-coherent p m;
+      content = opening-content p m;
       blocks = record {
         placed = placed;
         stored = λ c d valid. absurd (not_valid c d valid);
@@ -110,7 +112,7 @@ module _ {D : Type 0} (size faults mismatches : D → ℕ) (held : D → Option 
       };
       given_back = all_given_back-untouched size faults mismatches held disks.disks disks.disks (all_untouched-same size faults mismatches held disks.disks);
     };
-    agrees = first_agrees p m (AllTell held b);
+    agrees = first_agrees p m (run_arrays b) (AllTell held b);
     room = (let r : most_events p ≤ 0 + spare = omega (arith, room) in r);
   }
 

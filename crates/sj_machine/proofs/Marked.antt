@@ -16,8 +16,8 @@ use Rattle.sj_machine.proofs.ClaimEntries.{entries-has}
 entry-mark : (r : Replica) → is_entry_mark (mark_of r) ≡ is_entry r
 entry-mark Invalid = refl
 entry-mark (Coming w) = refl
-entry-mark (Valid a) = refl
-entry-mark (Leaving w a) = refl
+entry-mark Valid = refl
+entry-mark (Leaving w) = refl
 
 -- what the marks say is lacking has no entry
 pub lacking-marked : (rows : List Copies) (n : Node) (s : Store) → AreMarked rows n s.entries → (cs : List Cell) → filter (λ c. not (is_entry_mark (mark_at (row_of rows c) n))) (distinct cs) ≡ filter (λ c. not (has_entry s.entries c)) (distinct cs)

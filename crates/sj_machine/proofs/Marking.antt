@@ -1,16 +1,17 @@
 -- The rows of cells agree with a state after one replica was written in both.
-use Rattle.std.proofs.Common.{◌≡◌, ◌<◌, true, false, List, Option, None, Some, length, refl, sym, ap, ◌∙◌, subst, inl, inr, arith, is_some}
+use Rattle.std.proofs.Common.{◌≡◌, ◌<◌, true, false, List, Option, None, length, refl, sym, ap, ◌∙◌, subst, inl, inr, arith, is_some}
 use Rattle.std.specs.Prelude.{IfSome}
 use Rattle.std.proofs.lemmas.List.{length-set}
 use Rattle.std.proofs.lemmas.List.Elements.{All-get_or}
 use Rattle.std.proofs.lemmas.Bool.{false≢true}
-use Rattle.sj_core.proofs.Words.{Array, AtNode, Cell, DiskNo, Machine, Node, OnDisk, Program, Replica, State, array_of, cell_state, dims_of, is_valid, replica, with_replica}
+use Rattle.sj_core.proofs.Words.{Array, AtNode, Cell, DiskNo, Machine, Node, OnDisk, Program, Replica, State, cell_state, dims_of, is_valid, replica, with_replica}
 use Rattle.sj_core.proofs.Placing.{replica-at_node, replica-cases, writes-same}
 use Rattle.sj_core.specs.Coherent.{HasRows, is_being_written}
 use Rattle.sj_machine.specs.Mark.{mark_of}
 use Rattle.sj_machine.specs.Agrees.{HasMarks, HasTiles, IsWide}
 use Rattle.sj_machine.specs.Copies.{Copies, mark_at, row_of, tile_at, with_copy, with_row}
 use Rattle.sj_machine.proofs.Reading.{CopyCase, Here, There, copy-cases, no_copies, row-kept, wide-copy}
+use Rattle.sj_core.specs.Arrays.{Arrays}
 
 module _ (p : Program) (m : Machine) (s : State) (has_rows : HasRows p m s) (cells : List Copies) (marks : HasMarks p m s cells) (c : Cell) (n : Node) (inside : c.0 < length p.cells) (within : n.0 < length m.nodes) where
   -- the places are there
@@ -76,8 +77,8 @@ module _ (p : Program) (m : Machine) (s : State) (has_rows : HasRows p m s) (cel
         by_case d k (Here e at mark t) = mark ∙ ap mark_of (sym (here d k e at))
         by_case d k (There far mark t) = mark ∙ marks.marks d k ∙ ap mark_of (sym (there d k far))
 
-    pub HasTiles-copy : (Tells : Type 0) → HasTiles p s Tells cells → is_being_written p s c ≡ false → is_some tile ≡ is_valid r → IfSome tile (λ a. a.dims ≡ dims_of p c) → (Tells → IfSome tile (λ a. array_of r ≡ Some a)) → HasTiles p s' Tells new
-    HasTiles-copy Tells tiles rests same dims arrays = record {
+    pub HasTiles-copy : (A A' : Arrays) → ((d : Cell) (k : Node) → ((d ≡ c) × (k ≡ n) → ⊥) → A' d (AtNode k) ≡ A d (AtNode k)) → (Tells : Type 0) → HasTiles p s A Tells cells → is_being_written p s c ≡ false → is_some tile ≡ is_valid r → IfSome tile (λ a. a.dims ≡ dims_of p c) → (Tells → IfSome tile (λ a. a ≡ A' c (AtNode n))) → HasTiles p s' A' Tells new
+    HasTiles-copy A A' kept Tells tiles rests same dims arrays = record {
       there = λ d k resting. there_in d k resting (the d k);
       out = λ d k written. out_in d k written (the d k);
       dims = λ d k. dims_in d k (the d k);
@@ -99,6 +100,6 @@ module _ (p : Program) (m : Machine) (s : State) (has_rows : HasRows p m s) (cel
         dims_in d k (Here e at mark t) = subst (λ (o : Option Array). IfSome o (λ a. a.dims ≡ dims_of p d)) (sym t) (subst (λ (x : Cell). IfSome tile (λ a. a.dims ≡ dims_of p x)) (sym e) dims)
         dims_in d k (There far mark t) = subst (λ (o : Option Array). IfSome o (λ a. a.dims ≡ dims_of p d)) (sym t) (tiles.dims d k)
 
-        arrays_in : Tells → (d : Cell) (k : Node) → CopyCase cells new c n (mark_of r) tile d k → IfSome (tile_at (row_of new d) k) (λ a. array_of (replica s' d (AtNode k)) ≡ Some a)
-        arrays_in tells d k (Here e at mark t) = subst (λ (o : Option Array). IfSome o (λ a. array_of (replica s' d (AtNode k)) ≡ Some a)) (sym t) (subst (λ (x : Replica). IfSome tile (λ a. array_of x ≡ Some a)) (sym (here d k e at)) (arrays tells))
-        arrays_in tells d k (There far mark t) = subst (λ (o : Option Array). IfSome o (λ a. array_of (replica s' d (AtNode k)) ≡ Some a)) (sym t) (subst (λ (x : Replica). IfSome (tile_at (row_of cells d) k) (λ a. array_of x ≡ Some a)) (sym (there d k far)) (tiles.arrays tells d k))
+        arrays_in : Tells → (d : Cell) (k : Node) → CopyCase cells new c n (mark_of r) tile d k → IfSome (tile_at (row_of new d) k) (λ a. a ≡ A' d (AtNode k))
+        arrays_in tells d k (Here e at mark t) = subst (λ (o : Option Array). IfSome o (λ a. a ≡ A' d (AtNode k))) (sym t) (subst (λ (x : Cell). IfSome tile (λ a. a ≡ A' x (AtNode k))) (sym e) (subst (λ (j : Node). IfSome tile (λ a. a ≡ A' c (AtNode j))) (sym at) (arrays tells)))
+        arrays_in tells d k (There far mark t) = subst (λ (o : Option Array). IfSome o (λ a. a ≡ A' d (AtNode k))) (sym t) (subst (λ (x : Array). IfSome (tile_at (row_of cells d) k) (λ a. a ≡ x)) (sym (kept d k far)) (tiles.arrays tells d k))

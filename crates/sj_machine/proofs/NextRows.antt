@@ -71,20 +71,20 @@ position-agree f g xs ys d e many same =
 there-is : (r : Replica) → is_there (mark_of r) ≡ is_valid r
 there-is Invalid = refl
 there-is (Coming v) = refl
-there-is (Valid a) = refl
-there-is (Leaving v a) = refl
+there-is Valid = refl
+there-is (Leaving v) = refl
 
 leaving-is : (w : Worker) (r : Replica) → is_leaving_mark_by w (mark_of r) ≡ is_leaving_by w r
 leaving-is w Invalid = refl
 leaving-is w (Coming v) = refl
-leaving-is w (Valid a) = refl
-leaving-is w (Leaving v a) = refl
+leaving-is w Valid = refl
+leaving-is w (Leaving v) = refl
 
 coming-is : (w : Worker) (r : Replica) → is_coming_mark_by w (mark_of r) ≡ is_coming_by w r
 coming-is w Invalid = refl
 coming-is w (Coming v) = refl
-coming-is w (Valid a) = refl
-coming-is w (Leaving v a) = refl
+coming-is w Valid = refl
+coming-is w (Leaving v) = refl
 
 or_comm : (a b : Bool) → (a || b) ≡ (b || a)
 or_comm true true = refl

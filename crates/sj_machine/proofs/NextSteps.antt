@@ -98,7 +98,7 @@ module _ (p : Program) (m : Machine) (s : State) (w : Worker) (free : transfer s
   here = node_of m w
 
   pub mover-out : (c : Cell) (d : DiskNo) → is_leaving_by w (replica s c (AtNode here)) ≡ true → mover_of s c (AtNode here) (OnDisk d) ≡ w
-  mover-out c d leaving = ap claimant_of (leaving_by-is w (replica s c (AtNode here)) leaving).1
+  mover-out c d leaving = ap claimant_of (leaving_by-is w (replica s c (AtNode here)) leaving)
 
   pub mover-in : (c : Cell) (from : Place) → is_coming_by w (replica s c (AtNode here)) ≡ true → mover_of s c from (AtNode here) ≡ w
   mover-in c from coming = ap claimant_of (coming_by-is w (replica s c (AtNode here)) coming)
@@ -323,7 +323,7 @@ module _ (p : Program) (m : Machine) (s : State) (h : IsSound p m s) (swap : Has
         let neither = or_parts (has_cell (fresh_cells p t w) found.0) (is_valid (replica s found.0 (AtNode home))) found.2 in
         elim (entry-cases (replica s found.0 (AtNode home)) (h.coherent.cells.claimed t w found.0 claimed found.1)) [
           | inl (v, is) ↦ awaited none found.0 found.1 neither.0 v (ap (is_coming_by v) is ∙ same_worker-refl v)
-          | inr (a, is) ↦ absurd (false≢true (sym neither.1 ∙ ap is_valid is))
+          | inr is ↦ absurd (false≢true (sym neither.1 ∙ ap is_valid is))
         ]
       where
         or_parts : (a b : Bool) → (a || b) ≡ false → (a ≡ false) × (b ≡ false)

@@ -16,7 +16,7 @@ use Rattle.sj_base.specs.Mode.{reads_value, starts_as_zeros, reads_of}
 use Rattle.sj_codelet.specs.Frame.{Slot, shared}
 use Rattle.sj_core.specs.declared.progress.Progress.{Progress}
 use Rattle.sj_core.specs.declared.progress.Progress.TheVariants.{Running}
-use Rattle.sj_core.proofs.Words.{Array, AtNode, Cell, CellState, Invalid, Machine, Node, OnDisk, Place, Program, Replica, State, Task, Valid, Worker, array_of, cell_state, cells_of, dims_of, fresh_cells, has_cell, is_entry, is_task_of, is_valid, node_of, node_size, order, pins, progress, replica, same_cell, scratch, task_of, worked_on, worker_of, workers_at, writes, written_cells, zeros}
+use Rattle.sj_core.proofs.Words.{Array, AtNode, Cell, CellState, Invalid, Machine, Node, OnDisk, Place, Program, State, Task, Valid, Worker, cell_state, cells_of, dims_of, fresh_cells, has_cell, is_entry, is_task_of, is_valid, node_of, node_size, order, pins, progress, replica, same_cell, scratch, task_of, worked_on, worker_of, workers_at, writes, written_cells, zeros}
 use Rattle.sj_core.proofs.Advancing.{same_task, task_of-worker}
 use Rattle.sj_core.proofs.CellLists.{times, times-none}
 use Rattle.sj_core.proofs.Claimed.{claimed-inside, claimed-not_written, claimed-staffed}
@@ -24,14 +24,14 @@ use Rattle.sj_core.proofs.Folding.{read-among_cells}
 use Rattle.sj_core.proofs.Found.{found-not_fresh}
 use Rattle.sj_core.proofs.Readiness.{Contains-from_filter, filter-Contains}
 use Rattle.sj_core.proofs.Reading.{cells-renewed_or, entry-inside, list_all-has, same_node}
-use Rattle.sj_core.proofs.Running.{run-only, run-order_elsewhere, run-order_here, run-other, run-own, run-rested, run-rests, run-spared, run-spares}
+use Rattle.sj_core.proofs.Running.{run-only, run-order_elsewhere, run-order_here, run-other, run-own, run-rested, run-rests, run-spared, run-spares, run-stale}
 use Rattle.sj_core.proofs.Changing.{place_differs}
 use Rattle.sj_core.proofs.Sized.{worked_on-dims}
 use Rattle.sj_core.proofs.TaskCells.{written-among_cells}
 use Rattle.sj_core.specs.Coherent.{IsHeld, is_being_written}
 use Rattle.sj_core.specs.Laws.{IsSound}
 use Rattle.sj_core.specs.Needs.{workers_of}
-use Rattle.sj_core.specs.Step.{CanRun, after_run, initial, owned_at, same_place}
+use Rattle.sj_core.specs.Step.{CanRun, after_run, owned_at, same_place}
 use Rattle.sj_node.proofs.CallerLemmas.{filter-map}
 use Rattle.sj_node.specs.Entry.{NodeEntry, is_of_cells, without_all}
 use Rattle.sj_node.specs.Store.{Store, store, with_entries}
@@ -41,13 +41,15 @@ use Rattle.sj_machine.specs.Copies.{Copies, lent_at, mark_at, row_of, tile_at}
 use Rattle.sj_machine.specs.Operands.{CanWorkOn, written_among}
 use Rattle.sj_machine.specs.Running.{AreSharesFor, AreUnpinned, CanGive, IsShareIn, evicted_at, kept_at, lend_each, shares_at}
 use Rattle.sj_machine.specs.Sound.{HoldsBlocks, Keeps}
-use Rattle.sj_machine.specs.Standing.{AllTell, CanHappen, IsTileOf, Standing, state}
+use Rattle.sj_machine.specs.Standing.{AllTell, CanHappen, IsTileOf, Standing, state, run_arrays}
 use Rattle.sj_machine.proofs.ClaimPins.{few-operands}
 use Rattle.sj_machine.proofs.Keeping.{HoldsBlocks-kept, keeps-event, keeps-told, sound_state}
 use Rattle.sj_machine.proofs.Lending.{LendsKeep, lend-keeps, lend-row, lent-mark_here, lent-mark_there, lent-tile}
 use Rattle.sj_machine.proofs.Reading.{no_copies}
 use Rattle.sj_machine.proofs.Resting.{entry-cell}
 use Rattle.sj_machine.proofs.Written.{can-work, works-inside, written-once}
+use Rattle.sj_core.specs.Arrays.{arrays_after}
+use Rattle.sj_core.proofs.Finding.{second_fails}
 
 -- ---- lists
 
@@ -142,16 +144,16 @@ module _ {D : Type 0} (size faults mismatches : D → ℕ) (held : D → Option 
 
   run-writes : (c : Cell) → writes s' c ≡ writes s c
   run-writes c =
-      elim (cells-renewed_or s (λ d row. if has_cell (written_cells p t w) d then owned_at n (initial p s t w n d) row else row) c) [
+      elim (cells-renewed_or s (λ d row. if has_cell (written_cells p t w) d then owned_at n row else row) c) [
         | inl row ↦ ap (λ (r : CellState). r.writes) row ∙ either (has_cell (written_cells p t w) c)
         | inr none ↦ ap (λ (r : CellState). r.writes) none.1 ∙ sym (ap (λ (r : CellState). r.writes) none.0)
       ]
     where
-      either : (b : Bool) → (if b then owned_at n (initial p s t w n c) (cell_state s c) else cell_state s c).writes ≡ writes s c
+      either : (b : Bool) → (if b then owned_at n (cell_state s c) else cell_state s c).writes ≡ writes s c
       either true = refl
       either false = refl
 
-  own : (c : Cell) → has_cell ws c ≡ true → replica s' c (AtNode n) ≡ Valid (initial p s t w n c)
+  own : (c : Cell) → has_cell ws c ≡ true → replica s' c (AtNode n) ≡ Valid
   own c has = (let inside = entry-inside s c n (entry c has) in run-own p m s t w s' run refl c has inside.0 inside.1)
 
   elsewhere : (c : Cell) (q : Place) → has_cell ws c ≡ true → not (same_place q (AtNode n)) ≡ true → replica s' c q ≡ Invalid
@@ -183,7 +185,7 @@ module _ {D : Type 0} (size faults mismatches : D → ℕ) (held : D → Option 
     ];
   }
 
-  tiles-agree : HasTiles p s' (AllTell held b) new
+  tiles-agree : HasTiles p s' (arrays_after p m (run_arrays b) (Run t w)) (AllTell held b) new
   tiles-agree = record {
     there = λ c k rests. (
         let spare : has_cell ws c ≡ false = run-spared p m s h t w s' run refl c rests in
@@ -198,11 +200,14 @@ module _ {D : Type 0} (size faults mismatches : D → ℕ) (held : D → Option 
       | inr spare ↦ subst (λ (r : Copies). IfSome (tile_at r k) (λ a. a.dims ≡ dims_of p c)) (sym (row-left c spare)) (keeps.agrees.tiles.dims c k)
     ];
     arrays = λ tells c k. elim (cases_Bool (has_cell ws c)) [
-      | inl has ↦ subst (λ (o : Option Array). IfSome o (λ a. array_of (replica s' c (AtNode k)) ≡ Some a)) (sym (ap (λ (r : Copies). tile_at r k) (row-lent c has) ∙ lent-tile (row_of rows.cells c) n k)) tt
-      | inr spare ↦ subst (λ (r : Copies). IfSome (tile_at r k) (λ a. array_of (replica s' c (AtNode k)) ≡ Some a)) (sym (row-left c spare)) (subst (λ (x : Replica). IfSome (tile_at (row_of rows.cells c) k) (λ a. array_of x ≡ Some a)) (sym (other c (AtNode k) spare)) (keeps.agrees.tiles.arrays tells c k))
+      | inl has ↦ subst (λ (o : Option Array). IfSome o (λ a. a ≡ arrays_after p m (run_arrays b) (Run t w) c (AtNode k))) (sym (ap (λ (r : Copies). tile_at r k) (row-lent c has) ∙ lent-tile (row_of rows.cells c) n k)) tt
+      | inr spare ↦ subst (λ (r : Copies). IfSome (tile_at r k) (λ a. a ≡ arrays_after p m (run_arrays b) (Run t w) c (AtNode k))) (sym (row-left c spare)) (subst (λ (x : Array). IfSome (tile_at (row_of rows.cells c) k) (λ a. a ≡ x)) (sym (array-left c k spare)) (keeps.agrees.tiles.arrays tells c k))
     ];
   }
     where
+      array-left : (c : Cell) (k : Node) → has_cell ws c ≡ false → arrays_after p m (run_arrays b) (Run t w) c (AtNode k) ≡ run_arrays b c (AtNode k)
+      array-left c k spare = second_fails (same_place (AtNode k) (AtNode n)) (has_cell (fresh_cells p t w) c) (zeros (dims_of p c)) (run_arrays b c (AtNode k)) (run-stale p m s h t w s' run refl c spare)
+
       was-being : (c : Cell) → has_cell ws c ≡ false → is_being_written p s' c ≡ true → is_being_written p s c ≡ true
       was-being c spare being =
           elim (cases_Bool (is_being_written p s c)) [
@@ -268,8 +273,8 @@ module _ {D : Type 0} (size faults mismatches : D → ℕ) (held : D → Option 
   abbrev new_tasks : List Progress
   new_tasks = set rows.tasks t.0 (Running w)
 
-  blocks-stay : HoldsBlocks held p m s' (AllTell held b) b.disks
-  blocks-stay = HoldsBlocks-kept held p m s s' (AllTell held b) b.disks (λ c d valid. (elim (cases_Bool (has_cell ws c)) [ inr spare ↦ other c (OnDisk d) spare | inl has ↦ absurd (false≢true (sym (ap is_valid (elsewhere c (OnDisk d) has refl)) ∙ valid)) ], run-writes c)) keeps.sound.blocks
+  blocks-stay : HoldsBlocks held p m s' (arrays_after p m (run_arrays b) (Run t w)) (AllTell held b) b.disks
+  blocks-stay = HoldsBlocks-kept held p m s s' (run_arrays b) (arrays_after p m (run_arrays b) (Run t w)) (AllTell held b) b.disks (λ c d. refl) (λ c d valid. (elim (cases_Bool (has_cell ws c)) [ inr spare ↦ other c (OnDisk d) spare | inl has ↦ absurd (false≢true (sym (ap is_valid (elsewhere c (OnDisk d) has refl)) ∙ valid)) ], run-writes c)) keeps.sound.blocks
 
   pub keeps-run : (trace' : Recorded) (tasks' : List Progress) (cells' : List Copies) (nodes' : List Store) → trace'.events ≡ b.trace ++ Run t w ∷ [] → trace'.spare + 1 ≡ spare → tasks' ≡ new_tasks → cells' ≡ new → length nodes' ≡ length rows.nodes → ((k : ℕ) (d : Store) → k < length rows.nodes → get_or nodes' k d ≡ evicted_at n ws k (get_or rows.nodes k d)) → Keeps size faults mismatches held (record b { trace = trace'.events }) (rows_of tasks' cells' nodes' rows.workers) trace'.spare
   keeps-run trace' tasks' cells' nodes' told left tasks cells every each =
@@ -319,9 +324,9 @@ module _ {D : Type 0} (size faults mismatches : D → ℕ) (held : D → Option 
   pub read-tile : (a : Access) → Contains (task_of p t).accesses a → reads_value a.mode ≡ true → IsTileOf held b (worked_on p w a) (AtNode n) (kept_at rows.cells n (worked_on p w a))
   read-tile a has reads = by_tile (worked_on p w a) (tile_at (row_of rows.cells (worked_on p w a)) n) (read-there a has reads) (keeps.agrees.tiles.dims (worked_on p w a) n) (λ tells. keeps.agrees.tiles.arrays tells (worked_on p w a) n)
     where
-      by_tile : (c : Cell) (o : Option Array) → is_some o ≡ true → IfSome o (λ a. a.dims ≡ dims_of p c) → (AllTell held b → IfSome o (λ a. array_of (replica s c (AtNode n)) ≡ Some a)) → IsTileOf held b c (AtNode n) (unwrap_or o (record { dims = record { rows = 0; cols = 0 }; elements = [] }))
+      by_tile : (c : Cell) (o : Option Array) → is_some o ≡ true → IfSome o (λ a. a.dims ≡ dims_of p c) → (AllTell held b → IfSome o (λ a. a ≡ run_arrays b c (AtNode n))) → IsTileOf held b c (AtNode n) (unwrap_or o (record { dims = record { rows = 0; cols = 0 }; elements = [] }))
       by_tile c None there dims arrays = absurd (false≢true there)
-      by_tile c (Some a) there dims arrays = record { dims = dims; array = λ tells. sym (ap (λ (o : Option Array). unwrap_or o (zeros (dims_of p c))) (arrays tells)) }
+      by_tile c (Some a) there dims arrays = record { dims = dims; array = arrays }
 
   pub run-shares : (b' : Standing D) (slots : List Slot) → b ≡ b' → slots ≡ shares_at p w rows.cells n (task_of p t).accesses → AreSharesFor held b' t w slots
   run-shares b' slots same is =

@@ -2,7 +2,7 @@
 use Rattle.std.proofs.Common.{◌≡◌, ◌<◌, Bool, true, false, sym, ◌∙◌, arith, length}
 use Rattle.std.proofs.lemmas.Bool.{false≢true, false_from_ne_true}
 use Rattle.std.proofs.lemmas.List.Elements.{All-get_or}
-use Rattle.sj_core.proofs.Words.{Array, AtNode, Cell, CellState, Machine, Node, Place, Program, Replica, State, Invalid, Valid, cell_state, is_entry, is_leaving, is_valid, replica}
+use Rattle.sj_core.proofs.Words.{AtNode, Cell, CellState, Machine, Node, Place, Program, Replica, State, Invalid, Valid, cell_state, is_entry, is_leaving, is_valid, replica}
 use Rattle.sj_core.proofs.Finding.{being_written-by}
 use Rattle.sj_core.proofs.Placing.{owned-fails, valid-row, valid-within}
 use Rattle.sj_core.proofs.Reading.{entry-inside, no_row}
@@ -34,8 +34,8 @@ module _ (p : Program) (m : Machine) (s : State) (coherent : Coherent p m s) whe
   leaving-valid c q leaving = let by = leaving-by_some (replica s c q) leaving in leaving_by-valid by.0 (replica s c q) by.1
 
   -- a cell with a replica that neither the writer's own nor an invalid one could be isn't being written
-  pub rests : (test : Replica → Bool) → ((a : Array) → test (Valid a) ≡ false) → test Invalid ≡ false → (c : Cell) (q : Place) → test (replica s c q) ≡ true → is_being_written p s c ≡ false
+  pub rests : (test : Replica → Bool) → test Valid ≡ false → test Invalid ≡ false → (c : Cell) (q : Place) → test (replica s c q) ≡ true → is_being_written p s c ≡ false
   rests test valid none c q passes = false_from_ne_true (is_being_written p s c) (λ written.
       (let by = being_written-by p s c written in
       let own = coherent.writers.owned by.0 _ c by.1 by.2 in
-      false≢true (sym (owned-fails m s c _ _ own test (valid _) none q) ∙ passes)))
+      false≢true (sym (owned-fails m s c _ own test valid none q) ∙ passes)))

@@ -12,7 +12,7 @@ use Rattle.sj_base.proofs.Options.{IfSome-at, IfSome-from, IsSomeAnd-from, IsSom
 use Rattle.sj_core.specs.declared.progress.Transfer.{Transfer}
 use Rattle.sj_core.proofs.Words.{Array, Block, Cell, DiskNo, Machine, OnDisk, Place, Program, State, Worker, WorkerState, dims_of, is_valid, replica, transfer, writes}
 use Rattle.sj_core.proofs.Placing.{cells_differ}
-use Rattle.sj_core.specs.Step.{a_transfer, array_at, disk_of}
+use Rattle.sj_core.specs.Step.{a_transfer, disk_of}
 use Rattle.sj_edge.specs.GivenBack.{AreGivenBack, IsGivenBack}
 use Rattle.sj_edge.proofs.GivenBackLemmas.{all_given_back-then}
 use Rattle.sj_disk.specs.declared.directory.Extent.{Extent}
@@ -29,7 +29,7 @@ use Rattle.sj_machine.specs.Headers.{IsLastWritten}
 use Rattle.sj_machine.specs.Copies.{Copies, row_of}
 use Rattle.sj_machine.specs.Sound.{HoldsArray, HoldsBlocks, IsBlock, IsBlockCopyOf, IsStored, IsWrittenOut, Keeps, block_of}
 use Rattle.sj_machine.specs.Units.{HasItsDiskIn, lent}
-use Rattle.sj_machine.specs.Standing.{AllTell, HasDimsMoved, IsTileMoved, IsTileOf, Standing, state}
+use Rattle.sj_machine.specs.Standing.{AllTell, HasDimsMoved, IsTileMoved, IsTileOf, Standing, state, run_arrays}
 use Rattle.sj_machine.proofs.Resting.{valid-cell}
 use Rattle.sj_machine.specs.Todo.{is_out_for}
 
@@ -70,12 +70,13 @@ module _ {D : Type 0} (size faults mismatches : D → ℕ) (held : D → Option 
           (found.0, found.1, found.2.whole, found.2.disk ∙ same)
 
   -- the same state over other disks
-  keeps-over : (new : LendingState D) → HoldsBlocks held p m s (AllTell held b) new.set → AreGivenBack size faults mismatches held b.disks.disks new.set.disks → Keeps size faults mismatches held (record b { disks = new.set; out = new.out }) rows spare
+  keeps-over : (new : LendingState D) → HoldsBlocks held p m s (run_arrays b) (AllTell held b) new.set → AreGivenBack size faults mismatches held b.disks.disks new.set.disks → Keeps size faults mismatches held (record b { disks = new.set; out = new.out }) rows spare
   keeps-over new blocks back = record {
     sound = record {
       run = keeps.sound.run;
       legal = keeps.sound.legal;
       coherent = keeps.sound.coherent;
+      content = keeps.sound.content;
       blocks = blocks;
       given_back = all_given_back-then size faults mismatches held b.opened b.disks.disks new.set.disks keeps.sound.given_back back;
     };
@@ -129,18 +130,18 @@ module _ {D : Type 0} (size faults mismatches : D → ℕ) (held : D → Option 
       apart : (x : Cell) (k : DiskNo) → is_valid (replica s x (OnDisk k)) ≡ true → x ≢ c
       apart x k valid e = not_valid k (ap (λ (y : Cell). is_valid (replica s y (OnDisk k))) (sym e) ∙ valid)
 
-      blocks' : HoldsBlocks held p m s (AllTell held b) new.set
+      blocks' : HoldsBlocks held p m s (run_arrays b) (AllTell held b) new.set
       blocks' = record {
         placed = λ x. placed_at x (cells_differ x c);
         stored = λ x k valid. subst (λ (o : Option Extent). IsSomeAnd o (IsStored s x)) (sym (other x (apart x k valid))) (keeps.sound.blocks.stored x k valid);
         blocks = λ tells x k valid. (
             let far = apart x k valid in
-            let found = IsSomeAnd-at (HoldsArray held b.disks.disks p s x (OnDisk k)) (extent_of b.disks.directory x.0) (keeps.sound.blocks.blocks tells x k valid) in
-            IsSomeAnd-from (HoldsArray held new.set.disks p s x (OnDisk k)) (extent_of new.set.directory x.0) found.0 (other x far ∙ found.1) (record {
+            let found = IsSomeAnd-at (HoldsArray held b.disks.disks p s (run_arrays b) x (OnDisk k)) (extent_of b.disks.directory x.0) (keeps.sound.blocks.blocks tells x k valid) in
+            IsSomeAnd-from (HoldsArray held new.set.disks p s (run_arrays b) x (OnDisk k)) (extent_of new.set.directory x.0) found.0 (other x far ∙ found.1) (record {
               dims = found.2.dims;
               whole = found.2.whole;
               fits = found.2.fits;
-              told = of_it.other_blocks_stay x.0 found.0 (λ e. far (ap (λ (i : ℕ). let j : Cell = record { 0 = i } in j) e)) found.1 (block x.0 (writes s x) (array_at p s (OnDisk k) x).elements) (length-block x.0 (writes s x) (array_at p s (OnDisk k) x).elements ∙ ap block_bytes found.2.whole) found.2.told;
+              told = of_it.other_blocks_stay x.0 found.0 (λ e. far (ap (λ (i : ℕ). let j : Cell = record { 0 = i } in j) e)) found.1 (block x.0 (writes s x) (run_arrays b x (OnDisk k)).elements) (length-block x.0 (writes s x) (run_arrays b x (OnDisk k)).elements ∙ ap block_bytes found.2.whole) found.2.told;
             })
             );
       }
@@ -168,7 +169,7 @@ module _ {D : Type 0} (size faults mismatches : D → ℕ) (held : D → Option 
           (IsSomeAnd-from (IsBlockCopyOf held (record b { disks = new.set; out = new.out }) c from) (extent_of new.set.directory c.0) (with_store its (writes s c) (is_ok result)) now (record {
             last = record { last = ap (λ (y : Bool). Some (last_store (writes s c) y)) ok };
             array = λ tells. (
-                let same : tile ≡ array_at p s from c = is.array tells in
+                let same : tile ≡ run_arrays b c from = is.array tells in
                 record {
                   dims = ap (λ (a : Array). a.dims) (sym same) ∙ is.dims;
                   whole = ap (λ (a : Array). length a.elements) (sym same) ∙ whole ∙ ap area is.dims ∙ sym its-whole;
@@ -217,17 +218,17 @@ module _ {D : Type 0} (size faults mismatches : D → ℕ) (held : D → Option 
       same_extents : (x : Cell) → extent_of new.set.directory x.0 ≡ extent_of b.disks.directory x.0
       same_extents x = ap (λ (dir : List (Option Extent)). extent_of dir x.0) fetched.directory_stays
 
-      blocks_stay : HoldsBlocks held p m s (AllTell held b) new.set
+      blocks_stay : HoldsBlocks held p m s (run_arrays b) (AllTell held b) new.set
       blocks_stay = record {
         placed = λ x. subst (λ (o : Option Extent). IfSome (block_of p m x) (λ k. IsSomeAnd o (IsBlock p x k))) (sym (same_extents x)) (keeps.sound.blocks.placed x);
         stored = λ x k valid. subst (λ (o : Option Extent). IsSomeAnd o (IsStored s x)) (sym (same_extents x)) (keeps.sound.blocks.stored x k valid);
         blocks = λ tells x k valid. (
-            let found = IsSomeAnd-at (HoldsArray held b.disks.disks p s x (OnDisk k)) (extent_of b.disks.directory x.0) (keeps.sound.blocks.blocks tells x k valid) in
-            IsSomeAnd-from (HoldsArray held new.set.disks p s x (OnDisk k)) (extent_of new.set.directory x.0) found.0 (same_extents x ∙ found.1) (record {
+            let found = IsSomeAnd-at (HoldsArray held b.disks.disks p s (run_arrays b) x (OnDisk k)) (extent_of b.disks.directory x.0) (keeps.sound.blocks.blocks tells x k valid) in
+            IsSomeAnd-from (HoldsArray held new.set.disks p s (run_arrays b) x (OnDisk k)) (extent_of new.set.directory x.0) found.0 (same_extents x ∙ found.1) (record {
               dims = found.2.dims;
               whole = found.2.whole;
               fits = found.2.fits;
-              told = fetched.all_blocks_stay found.0 (block x.0 (writes s x) (array_at p s (OnDisk k) x).elements) (length-block x.0 (writes s x) (array_at p s (OnDisk k) x).elements ∙ ap block_bytes found.2.whole) found.2.told;
+              told = fetched.all_blocks_stay found.0 (block x.0 (writes s x) (run_arrays b x (OnDisk k)).elements) (length-block x.0 (writes s x) (run_arrays b x (OnDisk k)).elements ∙ ap block_bytes found.2.whole) found.2.told;
             })
             );
       }
@@ -241,13 +242,13 @@ module _ {D : Type 0} (size faults mismatches : D → ℕ) (held : D → Option 
           (IfSome-from (λ (y : Transfer). IsTileOf held b y.cell y.from got) (transfer s w) (a_transfer c (OnDisk d) to) under_way (record {
             dims = same_dims ∙ dims;
             array = λ tells. (
-                let found = IsSomeAnd-at (HoldsArray held b.disks.disks p s c (OnDisk d)) (extent_of b.disks.directory c.0) (keeps.sound.blocks.blocks tells c d valid) in
+                let found = IsSomeAnd-at (HoldsArray held b.disks.disks p s (run_arrays b) c (OnDisk d)) (extent_of b.disks.directory c.0) (keeps.sound.blocks.blocks tells c d valid) in
                 let one : Some found.0 ≡ Some its_extent.0 = sym found.1 ∙ its_extent.1 in
                 let is : found.0 ≡ its_extent.0 = cc in
-                let has : HoldsArray held b.disks.disks p s c (OnDisk d) its_extent.0 = subst (λ (e : Extent). HoldsArray held b.disks.disks p s c (OnDisk d) e) is found.2 in
+                let has : HoldsArray held b.disks.disks p s (run_arrays b) c (OnDisk d) its_extent.0 = subst (λ (e : Extent). HoldsArray held b.disks.disks p s (run_arrays b) c (OnDisk d) e) is found.2 in
                 let tell : TellsBytes held b.disks.disks its_extent.0 = λ x there. tell-still size faults mismatches held b.opened b.disks.disks keeps.sound.given_back tells its_extent.0.disk.0 x there in
-                let elements : got.elements ≡ (array_at p s (OnDisk d) c).elements = on_ok result ok fetched.gives_what_was_stored (array_at p s (OnDisk d) c).elements has.fits has.whole tell has.told in
-                ap (λ (xs : List ℤ). (let a : Array = record { dims = got.dims; elements = xs } in a)) elements ∙ ap (λ (ds : Dims). (let a : Array = record { dims = ds; elements = (array_at p s (OnDisk d) c).elements } in a)) (same_dims ∙ dims ∙ sym has.dims)
+                let elements : got.elements ≡ (run_arrays b c (OnDisk d)).elements = on_ok result ok fetched.gives_what_was_stored (run_arrays b c (OnDisk d)).elements has.fits has.whole tell has.told in
+                ap (λ (xs : List ℤ). (let a : Array = record { dims = got.dims; elements = xs } in a)) elements ∙ ap (λ (ds : Dims). (let a : Array = record { dims = ds; elements = (run_arrays b c (OnDisk d)).elements } in a)) (same_dims ∙ dims ∙ sym has.dims)
                 );
           }))
         where

@@ -6,6 +6,7 @@ use Rattle.sj_core.proofs.Placing.{pins-same, scratch-same}
 use Rattle.sj_node.specs.Store.{Store, store}
 use Rattle.sj_machine.specs.Agrees.{Agrees, HasStores, Rows, rows_of, store_of, with_transfer_of}
 use Rattle.std.proofs.Math.Path.{fun_ext}
+use Rattle.sj_core.specs.Arrays.{Arrays}
 
 -- a node's store depends on its order and on what its workers pin and hold
 store_from : (p : Program) (m : Machine) (s : State) (n : Node) → (Worker → List Cell) → (Worker → ℕ) → Store
@@ -30,8 +31,8 @@ module _ (p : Program) (m : Machine) (s : State) (w : Worker) (move : Option Tra
   abbrev pub new_workers : List WorkerState → List WorkerState
   new_workers ws = with_transfer_of ws w move
 
-  pub transfer-agrees : (Tells : Type 0) (rows : Rows) → Agrees p m s Tells rows → Agrees p m s' Tells (rows_of rows.tasks rows.cells rows.nodes (new_workers rows.workers))
-  transfer-agrees Tells rows had = record {
+  pub transfer-agrees : (A : Arrays) (Tells : Type 0) (rows : Rows) → Agrees p m s A Tells rows → Agrees p m s' A Tells (rows_of rows.tasks rows.cells rows.nodes (new_workers rows.workers))
+  transfer-agrees A Tells rows had = record {
     tasks = had.tasks;
     workers = ap new_workers had.workers;
     marks = record { every_cell = had.marks.every_cell; wide = had.marks.wide; marks = had.marks.marks; on_disk = had.marks.on_disk; writes = had.marks.writes };

@@ -9,8 +9,9 @@ use Rattle.sj_base.specs.declared.program.Program.{Program}
 use Rattle.sj_base.specs.declared.program.Machine.{Machine}
 use Rattle.sj_core.specs.declared.progress.Progress.{Progress}
 use Rattle.sj_core.specs.declared.progress.Transfer.{Transfer}
+use Rattle.sj_core.specs.Arrays.{Arrays}
 use Rattle.sj_core.specs.Coherent.{is_being_written}
-use Rattle.sj_core.specs.Machine.{State, WorkerState, array_of, is_valid, order, pins, replica, scratch, workers_at, writes, idle_row}
+use Rattle.sj_core.specs.Machine.{State, WorkerState, is_valid, order, pins, replica, scratch, workers_at, writes, idle_row}
 use Rattle.sj_core.specs.Needs.{node_size, tile_bytes}
 use Rattle.sj_core.specs.Program.{dims_of, same_cell}
 use Rattle.sj_core.specs.Step.{disk_of}
@@ -57,25 +58,25 @@ pub record HasMarks (p : Program) (m : Machine) (s : State) (cells : List Copies
   pub on_disk : (c : Cell) (d : DiskNo) → disk_of p m c ≡ Some d → (row_of cells c).on_disk ≡ is_valid (replica s c (OnDisk d))
   pub writes : (c : Cell) → (row_of cells c).writes ≡ writes s c
 
--- the tiles are those of the replicas, but for cells that a running task writes: their tiles are out.
+-- the tiles are those of the valid replicas, but for cells that a running task writes: their tiles are out.
 -- What they hold is said where all disks tell
-pub record HasTiles (p : Program) (s : State) (Tells : Type 0) (cells : List Copies) : Type 0 where
+pub record HasTiles (p : Program) (s : State) (A : Arrays) (Tells : Type 0) (cells : List Copies) : Type 0 where
   pub there : (c : Cell) (n : Node) → is_being_written p s c ≡ false → is_some (tile_at (row_of cells c) n) ≡ is_valid (replica s c (AtNode n))
   pub out : (c : Cell) (n : Node) → is_being_written p s c ≡ true → tile_at (row_of cells c) n ≡ None
   pub dims : (c : Cell) (n : Node) → IfSome (tile_at (row_of cells c) n) (λ a. a.dims ≡ dims_of p c)
-  pub arrays : Tells → (c : Cell) (n : Node) → IfSome (tile_at (row_of cells c) n) (λ a. array_of (replica s c (AtNode n)) ≡ Some a)
+  pub arrays : Tells → (c : Cell) (n : Node) → IfSome (tile_at (row_of cells c) n) (λ a. a ≡ A c (AtNode n))
 
 -- each node's store is that of the state
 pub record HasStores (p : Program) (m : Machine) (s : State) (nodes : List Store) : Type 0 where
   pub every_node : length nodes ≡ length m.nodes
   pub stores : (n : Node) → n.0 < length m.nodes → slice_index_or nodes n.0 (store_of p m s n) ≡ store_of p m s n
 
--- the rows are those of the state
-pub record Agrees (p : Program) (m : Machine) (s : State) (Tells : Type 0) (rows : Rows) : Type 0 where
+-- the rows are those of the state, with these arrays
+pub record Agrees (p : Program) (m : Machine) (s : State) (A : Arrays) (Tells : Type 0) (rows : Rows) : Type 0 where
   pub tasks : rows.tasks ≡ s.tasks
   pub workers : rows.workers ≡ s.workers
   pub marks : HasMarks p m s rows.cells
-  pub tiles : HasTiles p s Tells rows.cells
+  pub tiles : HasTiles p s A Tells rows.cells
   pub stores : HasStores p m s rows.nodes
 
 -- a node's entries are those of the cells of which the marks tell so

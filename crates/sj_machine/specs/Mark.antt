@@ -9,8 +9,8 @@ use Rattle.sj_machine.specs.declared.mark.Mark.TheVariants.{Invalid, Coming, Val
 abbrev pub mark_of : Replica → Mark
 mark_of NoReplica = Invalid
 mark_of (ComingReplica w) = Coming w
-mark_of (ValidReplica a) = Valid
-mark_of (LeavingReplica w a) = Leaving w
+mark_of ValidReplica = Valid
+mark_of (LeavingReplica w) = Leaving w
 
 -- there is a copy: one that leaves is still valid
 abbrev pub is_there : Mark → Bool

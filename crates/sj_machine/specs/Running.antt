@@ -15,13 +15,13 @@ use Rattle.sj_core.specs.Machine.{WorkerState}
 use Rattle.sj_core.specs.Needs.{node_of}
 use Rattle.sj_core.specs.Program.{dims_of, task_of, written_operands}
 use Rattle.sj_core.specs.Operands.{results, worked_on}
-use Rattle.sj_core.specs.Step.{array_at}
+use Rattle.sj_core.specs.Arrays.{held_at}
 use Rattle.sj_node.specs.Entry.{NodeEntry, is_of_cells, pins_of, repinned, without_all}
 use Rattle.sj_node.specs.Store.{Store, with_entries}
 use Rattle.sj_machine.specs.Agrees.{row_at}
 use Rattle.sj_machine.specs.Copies.{Copies, lent_at, row_of, tile_at, with_row, written_at}
 use Rattle.sj_machine.specs.Operands.{CanWorkOn, written_among}
-use Rattle.sj_machine.specs.Standing.{AllTell, Standing, state}
+use Rattle.sj_machine.specs.Standing.{AllTell, Standing, run_arrays}
 
 -- ---- shares
 
@@ -46,7 +46,7 @@ pub record CanGive (p : Program) (w : Worker) (rows : List Copies) (n : Node) (a
 pub record IsShareIn {D : Type 0} (held : D → Option (List ℕ)) (b : Standing D) (w : Worker) (a : Access) (slot : Slot) : Type 0 where
   pub shared : slot.owned ≡ false
   pub dims : slot.array.dims ≡ dims_of b.program a.cell
-  pub array : AllTell held b → slot.array ≡ array_at b.program (state b) (AtNode (node_of b.machine w)) (worked_on b.program w a)
+  pub array : AllTell held b → slot.array ≡ run_arrays b (worked_on b.program w a) (AtNode (node_of b.machine w))
 
 -- shares of the operands of a task whose old value is read, in order
 abbrev pub AreSharesFor : {D : Type 0} → (D → Option (List ℕ)) → Standing D → Task → Worker → List Slot → Type 0
@@ -80,7 +80,7 @@ pub record IsShare (p : Program) (a : Access) (slot : Slot) : Type 0 where
 -- shares of a running task's results, in the order of its written operands
 pub record AreResultsFor {D : Type 0} (held : D → Option (List ℕ)) (b : Standing D) (t : Task) (w : Worker) (slots : List Slot) : Type 0 where
   pub each : AllZip (IsShare b.program) (written_operands (task_of b.program t)) slots
-  pub told : AllTell held b → arrays slots ≡ results b.program t w (array_at b.program (state b) (AtNode (node_of b.machine w)))
+  pub told : AllTell held b → arrays slots ≡ results b.program t w (held_at (run_arrays b) (AtNode (node_of b.machine w)))
 
 -- a row can take a new tile at a node, so many times
 pub record CanRewrite (n : Node) (times : ℕ) (row : Copies) : Type 0 where

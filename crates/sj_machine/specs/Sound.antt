@@ -10,6 +10,7 @@ use Rattle.sj_base.specs.declared.program.Program.{Program}
 use Rattle.sj_base.specs.declared.program.Machine.{Machine}
 use Rattle.sj_base.specs.Array.{area}
 use Rattle.sj_codelet.specs.declared.kernel.Kernel.{Kernel}
+use Rattle.sj_core.specs.Arrays.{Arrays, HoldsContent}
 use Rattle.sj_core.specs.Bound.{operands}
 use Rattle.sj_core.specs.Coherent.{Coherent}
 use Rattle.sj_core.specs.Laws.{IsLawful}
@@ -18,7 +19,6 @@ use Rattle.sj_core.specs.Machine.{State, is_valid, replica, transfer, writes}
 use Rattle.sj_core.specs.Needs.{Block, place}
 use Rattle.sj_core.specs.Program.{dims_of}
 use Rattle.sj_core.specs.Proper.{HasSwapFor, IsMachineFor, Proper}
-use Rattle.sj_core.specs.Step.{array_at}
 use Rattle.sj_edge.specs.GivenBack.{AreGivenBack}
 use Rattle.sj_disk.specs.declared.directory.Extent.{Extent}
 use Rattle.sj_disk.specs.declared.refusal.DiskRefusal.{DiskRefusal}
@@ -27,7 +27,7 @@ use Rattle.sj_disk.specs.Calls.{Fetches, Stores}
 use Rattle.sj_disk.specs.Directory.{DiskState, extent_of, last_store}
 use Rattle.sj_disk.specs.Holding.{Holds}
 use Rattle.sj_machine.specs.Agrees.{Agrees, Rows}
-use Rattle.sj_machine.specs.Standing.{AllTell, Standing, state}
+use Rattle.sj_machine.specs.Standing.{AllTell, Standing, run_arrays, state}
 
 -- ---- the disks
 
@@ -42,11 +42,11 @@ pub record IsBlock (p : Program) (c : Cell) (b : Block) (e : Extent) : Type 0 wh
   pub whole : e.length ≡ area (dims_of p c)
 
 -- where all disks tell: the block holds the cell's array at the disk, with its dimensions, in 64 bits each
-pub record HoldsArray {D : Type 0} (held : D → Option (List ℕ)) (disks : List D) (p : Program) (s : State) (c : Cell) (q : Place) (e : Extent) : Type 0 where
-  pub dims : (array_at p s q c).dims ≡ dims_of p c
-  pub whole : length (array_at p s q c).elements ≡ e.length
-  pub fits : All (FitsSigned w64) (array_at p s q c).elements
-  pub told : Holds held disks e (block c.0 (writes s c) (array_at p s q c).elements)
+pub record HoldsArray {D : Type 0} (held : D → Option (List ℕ)) (disks : List D) (p : Program) (s : State) (A : Arrays) (c : Cell) (q : Place) (e : Extent) : Type 0 where
+  pub dims : (A c q).dims ≡ dims_of p c
+  pub whole : length (A c q).elements ≡ e.length
+  pub fits : All (FitsSigned w64) (A c q).elements
+  pub told : Holds held disks e (block c.0 (writes s c) (A c q).elements)
 
 -- the last store of the cell ended well, with the cell's write count
 pub record IsStored (s : State) (c : Cell) (e : Extent) : Type 0 where
@@ -54,12 +54,12 @@ pub record IsStored (s : State) (c : Cell) (e : Extent) : Type 0 where
 
 -- each cell has its block, and where its replica on a disk is valid the last store ended well with the cell's write count;
 -- what the block holds is said where all disks tell
-pub record HoldsBlocks {D : Type 0} (held : D → Option (List ℕ)) (p : Program) (m : Machine) (s : State) (Tells : Type 0) (disks : DiskState D) : Type 0 where
+pub record HoldsBlocks {D : Type 0} (held : D → Option (List ℕ)) (p : Program) (m : Machine) (s : State) (A : Arrays) (Tells : Type 0) (disks : DiskState D) : Type 0 where
   pub placed : (c : Cell) → IfSome (block_of p m c) (λ b. IsSomeAnd (extent_of disks.directory c.0) (IsBlock p c b))
   pub stored : (c : Cell) (d : DiskNo) → IsTrue (is_valid (replica s c (OnDisk d))) → IsSomeAnd (extent_of disks.directory c.0) (IsStored s c)
   pub blocks :
       Tells → (c : Cell) (d : DiskNo) → IsTrue (is_valid (replica s c (OnDisk d)))
-      → IsSomeAnd (extent_of disks.directory c.0) (HoldsArray held disks.disks p s c (OnDisk d))
+      → IsSomeAnd (extent_of disks.directory c.0) (HoldsArray held disks.disks p s A c (OnDisk d))
 
 -- ---- all of it
 
@@ -72,12 +72,14 @@ pub record IsRunnableOn (p : Program) (m : Machine) : Type 0 where
   pub machine : IsMachineFor p m
   pub swap : HasSwapFor p m
 
--- the trace is legal and its state coherent, the disks hold their blocks, and came back from each call
+-- the trace is legal and its state coherent, its arrays are what the tasks leave, the disks hold their blocks, and came back
+-- from each call
 pub record IsSoundRun {D : Type 0} (size faults mismatches : D → ℕ) (held : D → Option (List ℕ)) (b : Standing D) : Type 0 where
   pub run : IsRunnableOn b.program b.machine
   pub legal : IsLegal b.program b.machine b.trace
   pub coherent : Coherent b.program b.machine (state b)
-  pub blocks : HoldsBlocks held b.program b.machine (state b) (AllTell held b) b.disks
+  pub content : HoldsContent b.program b.machine (state b) (run_arrays b)
+  pub blocks : HoldsBlocks held b.program b.machine (state b) (run_arrays b) (AllTell held b) b.disks
   pub given_back : AreGivenBack size faults mismatches held b.opened b.disks.disks
 
 -- how many events a run of the program has at most
@@ -87,7 +89,7 @@ most_events p = 3 * length p.tasks + 5 * operands p
 -- the run is sound, the rows agree with its state, and the trace has room for all events that are to come
 pub record Keeps {D : Type 0} (size faults mismatches : D → ℕ) (held : D → Option (List ℕ)) (b : Standing D) (rows : Rows) (spare : ℕ) : Type 0 where
   pub sound : IsSoundRun size faults mismatches held b
-  pub agrees : Agrees b.program b.machine (state b) (AllTell held b) rows
+  pub agrees : Agrees b.program b.machine (state b) (run_arrays b) (AllTell held b) rows
   pub room : most_events b.program ≤ length b.trace + spare
 
 -- a run of the program can be made on the machine with these disks: each cell has its block
@@ -100,7 +102,7 @@ pub record CanStart {D : Type 0} (p : Program) (m : Machine) (disks : DiskState 
 -- the last store of the cell ended well, and is its array at a place
 pub record IsBlockCopyOf {D : Type 0} (held : D → Option (List ℕ)) (b : Standing D) (c : Cell) (q : Place) (e : Extent) : Type 0 where
   pub last : IsStored (state b) c e
-  pub array : AllTell held b → HoldsArray held b.disks.disks b.program (state b) c q e
+  pub array : AllTell held b → HoldsArray held b.disks.disks b.program (state b) (run_arrays b) c q e
 
 -- the block of the cell of the worker's transfer is what stands at its source
 abbrev pub IsWrittenOut : {D : Type 0} → (D → Option (List ℕ)) → Standing D → Worker → Type 0

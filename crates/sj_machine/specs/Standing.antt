@@ -11,10 +11,11 @@ use Rattle.sj_base.specs.declared.program.Program.{Program}
 use Rattle.sj_base.specs.declared.program.Machine.{Machine}
 use Rattle.sj_base.specs.Array.{Array}
 use Rattle.sj_base.specs.Recorded.{Recorded}
+use Rattle.sj_core.specs.Arrays.{Arrays, arrays_of}
 use Rattle.sj_core.specs.Legal.{state_of}
 use Rattle.sj_core.specs.Machine.{State, transfer}
 use Rattle.sj_core.specs.Program.{dims_of}
-use Rattle.sj_core.specs.Step.{May, array_at}
+use Rattle.sj_core.specs.Step.{May}
 use Rattle.sj_disk.specs.Directory.{DiskState}
 use Rattle.sj_disk.specs.Lending.{LendingState}
 
@@ -39,6 +40,10 @@ starting p m disks = record { program = p; machine = m; trace = []; disks = disk
 abbrev pub state : {D : Type 0} → Standing D → State
 state b = state_of b.program b.machine b.trace
 
+-- the arrays that the events leave
+abbrev pub run_arrays : {D : Type 0} → Standing D → Arrays
+run_arrays b = arrays_of b.program b.machine b.trace
+
 -- one event more
 abbrev pub with_event : {D : Type 0} → Standing D → Event → Standing D
 with_event b e = record b { trace = b.trace ++ e ∷ [] }
@@ -54,7 +59,7 @@ AllTell held b = All (λ x. IsSome (held x)) b.opened
 -- the array has the cell's dimensions and, where all disks tell, is the one that the cell has at the place
 pub record IsTileOf {D : Type 0} (held : D → Option (List ℕ)) (b : Standing D) (c : Cell) (q : Place) (a : Array) : Type 0 where
   pub dims : a.dims ≡ dims_of b.program c
-  pub array : AllTell held b → a ≡ array_at b.program (state b) q c
+  pub array : AllTell held b → a ≡ run_arrays b c q
 
 -- a share of the cell's tile at a node; none of its block on a disk
 abbrev pub IsShareOf : {D : Type 0} → (D → Option (List ℕ)) → Standing D → Cell → Place → Option Array → Type 0

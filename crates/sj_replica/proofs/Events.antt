@@ -6,13 +6,12 @@ use Rattle.std.proofs.lemmas.List.{get_or-replicate, get_or-set_other, get_or-se
 use Rattle.std.proofs.lemmas.Nat.{mod_below}
 use Rattle.sj_base.proofs.SameIds.{same_cell-is}
 use Rattle.sj_core.specs.declared.progress.Progress.TheVariants.{Running}
-use Rattle.sj_core.proofs.Words.{Array, AtNode, Cell, CellState, Claim, DiskNo, Drop, End, Machine, Move, Moved, Node, OnDisk, Place, Program, Replica, Run, State, Task, Worker, cell_state, has_cell, is_entry, is_valid, node_of, progress, replica, same_cell, transfer, with_replica, writes, written_cells}
+use Rattle.sj_core.proofs.Words.{AtNode, Cell, CellState, Claim, DiskNo, Drop, End, Machine, Move, Moved, Node, OnDisk, Place, Program, Replica, Run, State, Task, Worker, cell_state, has_cell, is_entry, is_valid, node_of, progress, replica, same_cell, transfer, with_replica, writes, written_cells}
 use Rattle.sj_core.proofs.Words.{Coming as ComingReplica, Invalid as NoReplica, Valid as ValidReplica}
 use Rattle.sj_core.proofs.Blocks.{disk-within}
 use Rattle.sj_core.proofs.CellLists.{same_cell-from}
 use Rattle.sj_core.proofs.Changing.{place_differs}
 use Rattle.sj_core.proofs.Claiming.{ClaimCase, Comes, Leaves, Stays, claim-cases, claim-elsewhere, claim-here, claim-writes, missing-absent, node-inside, task-cell, victim-valid}
-use Rattle.sj_core.proofs.Ending.{end-elsewhere, end-other, end-written}
 use Rattle.sj_core.proofs.Eviction.{evicted-after, evicted-chosen, evicted_by}
 use Rattle.sj_core.proofs.Placing.{replica-at_node, replica-cases, replica-on_disk, valid-row, valid-within, writes-same}
 use Rattle.sj_core.proofs.Reading.{cells-renewed_or, cells-touched, cells-untouched, entry-inside, no_row, same_node}
@@ -21,11 +20,12 @@ use Rattle.sj_core.proofs.Running.{run-only, run-other, run-own}
 use Rattle.sj_core.proofs.TaskCells.{written-among_cells}
 use Rattle.sj_core.specs.Coherent.{IsTransferTo}
 use Rattle.sj_core.specs.Laws.{IsSound}
-use Rattle.sj_core.specs.Step.{CanClaim, CanDrop, CanRun, May, a_transfer, after, after_claim, after_end, after_run, array_at, initial, leave, missing, mover_of, owned_at as owned_row, result_at, rewritten_at}
+use Rattle.sj_core.specs.Step.{CanClaim, CanDrop, CanRun, May, a_transfer, after, after_claim, after_end, after_run, leave, missing, mover_of, owned_at as owned_row, written_once_more}
 use Rattle.sj_replica.specs.Copies.{CellCopies, at_place, owned_by_node, with_at, with_move, written_again}
 use Rattle.sj_replica.specs.Events.{EventsAreCalls, IsSeenAs, at_of, event_on}
 use Rattle.sj_replica.specs.declared.state.At.{At}
 use Rattle.sj_replica.specs.declared.state.At.TheVariants.{Coming, Invalid, Leaving, Valid}
+use Rattle.sj_core.proofs.Ending.{end-replica}
 
 module _ (p : Program) (m : Machine) (s : State) (h : IsSound p m s) (c : Cell) (k : CellCopies) (seen : IsSeenAs p m s c k) where
   -- ---- one mark, and none
@@ -75,7 +75,7 @@ module _ (p : Program) (m : Machine) (s : State) (h : IsSound p m s) (c : Cell) 
     claimed : (a b : Bool) → has_cell (evicted_by p m s t w) c ≡ a → has_cell (missing p s t w n) c ≡ b → IsSeenAs p m s' c (if a then with_at k (AtNode n) Leaving else (if b then with_at k (AtNode n) Coming else k))
     claimed true b e f =
         let valid = victim-valid p m s h t w s' claim leaves c e in
-        marked s' n Leaving (few-own w) (ap at_of (claimed-here (valid-row s c (AtNode n) (ap is_valid valid.1)) true b e f ∙ ap (leave w) valid.1)) (claim-elsewhere p m s t w s' claim leaves c) (claim-writes p m s t w s' claim leaves c)
+        marked s' n Leaving (few-own w) (ap at_of (claimed-here (valid-row s c (AtNode n) (ap is_valid valid)) true b e f ∙ ap (leave w) valid)) (claim-elsewhere p m s t w s' claim leaves c) (claim-writes p m s t w s' claim leaves c)
     claimed false true e f =
         let lacks = missing-absent p m s t w s' claim leaves c f in
         marked s' n Coming (few-own w) (ap at_of (claimed-here (task-cell p m s h t w s' claim leaves c lacks.1) false true e f)) (claim-elsewhere p m s t w s' claim leaves c) (claim-writes p m s t w s' claim leaves c)
@@ -83,7 +83,7 @@ module _ (p : Program) (m : Machine) (s : State) (h : IsSound p m s) (c : Cell) 
       where
         stays : (q : Place) → ClaimCase m s s' w (evicted_by p m s t w) (missing p s t w n) c q → replica s' c q ≡ replica s c q
         stays q (Stays same) = same
-        stays q (Leaves here gone a was is) = absurd (false≢true (sym e ∙ gone))
+        stays q (Leaves here gone was is) = absurd (false≢true (sym e ∙ gone))
         stays q (Comes here lacks was is) = absurd (false≢true (sym f ∙ lacks))
 
   seen-claimed : (t : Task) (w : Worker) → CanClaim p m s t w → IsSeenAs p m (after p m s (Claim t w)) c (event_on p m s (Claim t w) c k)
@@ -135,37 +135,37 @@ module _ (p : Program) (m : Machine) (s : State) (h : IsSound p m s) (c : Cell) 
   written-another : (x : Cell) (to : Place) (r : Replica) → same_cell x c ≡ false → (q : Place) → replica (with_replica s x to r) c q ≡ replica s c q
   written-another x to r other q = elim (replica-cases s x to r c q) [ inl same ↦ same | inr (e, here, is) ↦ absurd (false≢true (sym other ∙ same_cell-from x c (sym e))) ]
 
-  arrived : (to from : Place) (w : Worker) (a : Array) → transfer s w ≡ Some (a_transfer c from to) → IsSeenAs p m (with_replica s c to (ValidReplica a)) c (with_at k to Valid)
-  arrived to from w a under_way = by_target to (h.coherent.transfers.target w (a_transfer c from to) under_way) refl
+  arrived : (to from : Place) (w : Worker) → transfer s w ≡ Some (a_transfer c from to) → IsSeenAs p m (with_replica s c to ValidReplica) c (with_at k to Valid)
+  arrived to from w under_way = by_target to (h.coherent.transfers.target w (a_transfer c from to) under_way) refl
     where
-      by_target : (q : Place) → IsTransferTo m s w c from q → q ≡ to → IsSeenAs p m (with_replica s c q (ValidReplica a)) c (with_at k q Valid)
+      by_target : (q : Place) → IsTransferTo m s w c from q → q ≡ to → IsSeenAs p m (with_replica s c q ValidReplica) c (with_at k q Valid)
       by_target (AtNode n) target e =
           let inside = entry-inside s c n (ap is_entry (coming_by-is w (replica s c (AtNode n)) target.1)) in
-          marked (with_replica s c (AtNode n) (ValidReplica a)) n Valid (few-nodes n inside.0 inside.1) (ap at_of (replica-at_node s c n (ValidReplica a) inside.0 inside.1)) (written-elsewhere (AtNode n) (ValidReplica a)) (writes-same s c (AtNode n) (ValidReplica a) c)
+          marked (with_replica s c (AtNode n) ValidReplica) n Valid (few-nodes n inside.0 inside.1) (ap at_of (replica-at_node s c n ValidReplica inside.0 inside.1)) (written-elsewhere (AtNode n) ValidReplica) (writes-same s c (AtNode n) ValidReplica c)
       by_target (OnDisk d) target e =
           let aimed = h.coherent.state.blocks.aimed w (a_transfer c from to) d under_way (sym e) in
           let inside = valid-row s c from (h.coherent.transfers.source w (a_transfer c from to) under_way) in
           let within : d.0 < length (cell_state s c).disks = omega (arith, disk-within p m c d aimed, h.coherent.state.rows.disks c.0 no_row inside) in
           record {
-            nodes = λ q few. seen.nodes q few ∙ ap at_of (sym (written-elsewhere (OnDisk d) (ValidReplica a) (AtNode q) (λ f. (cc))));
-            on_disk = λ j home. (let both : Some j ≡ Some d = sym home ∙ aimed in let same : j ≡ d = cc in ap at_of (sym (ap (λ (i : DiskNo). replica (with_replica s c (OnDisk d) (ValidReplica a)) c (OnDisk i)) same ∙ replica-on_disk s c d (ValidReplica a) inside within)));
+            nodes = λ q few. seen.nodes q few ∙ ap at_of (sym (written-elsewhere (OnDisk d) ValidReplica (AtNode q) (λ f. (cc))));
+            on_disk = λ j home. (let both : Some j ≡ Some d = sym home ∙ aimed in let same : j ≡ d = cc in ap at_of (sym (ap (λ (i : DiskNo). replica (with_replica s c (OnDisk d) ValidReplica) c (OnDisk i)) same ∙ replica-on_disk s c d ValidReplica inside within)));
             sixteen = seen.sixteen;
-            written = seen.written ∙ sym (writes-same s c (OnDisk d) (ValidReplica a) c);
+            written = seen.written ∙ sym (writes-same s c (OnDisk d) ValidReplica c);
           }
 
   seen-moved : (x : Cell) (from to : Place) → May p m s (Moved x from to) → IsSeenAs p m (after p m s (Moved x from to)) c (event_on p m s (Moved x from to) c k)
   seen-moved x from to under_way = by_test (same_cell x c) refl
     where
       -- the workers' rows are nothing to a cell
-      beside : (l : CellCopies) → IsSeenAs p m (with_replica s x to (ValidReplica (array_at p s from x))) c l → IsSeenAs p m (after p m s (Moved x from to)) c l
+      beside : (l : CellCopies) → IsSeenAs p m (with_replica s x to ValidReplica) c l → IsSeenAs p m (after p m s (Moved x from to)) c l
       beside l now = record { nodes = now.nodes; on_disk = now.on_disk; sixteen = now.sixteen; written = now.written }
 
       by_test : (b : Bool) → same_cell x c ≡ b → IsSeenAs p m (after p m s (Moved x from to)) c (if b then with_move (with_at k to Valid) to None else k)
-      by_test false other = beside k (unmarked (with_replica s x to (ValidReplica (array_at p s from x))) (λ q. ap at_of (written-another x to (ValidReplica (array_at p s from x)) other q)) (writes-same s x to (ValidReplica (array_at p s from x)) c))
+      by_test false other = beside k (unmarked (with_replica s x to ValidReplica) (λ q. ap at_of (written-another x to ValidReplica other q)) (writes-same s x to ValidReplica c))
       by_test true same =
           let is : x ≡ c = same_cell-is x c same in
-          let own = arrived to from (mover_of s x from to) (array_at p s from x) (subst (λ (y : Cell). transfer s (mover_of s x from to) ≡ Some (a_transfer y from to)) is under_way) in
-          moving (after p m s (Moved x from to)) (with_at k to Valid) to None (beside (with_at k to Valid) (subst (λ (y : Cell). IsSeenAs p m (with_replica s y to (ValidReplica (array_at p s from x))) c (with_at k to Valid)) (sym is) own))
+          let own = arrived to from (mover_of s x from to) (subst (λ (y : Cell). transfer s (mover_of s x from to) ≡ Some (a_transfer y from to)) is under_way) in
+          moving (after p m s (Moved x from to)) (with_at k to Valid) to None (beside (with_at k to Valid) (subst (λ (y : Cell). IsSeenAs p m (with_replica s y to ValidReplica) c (with_at k to Valid)) (sym is) own))
 
   -- ---- a drop
 
@@ -187,12 +187,12 @@ module _ (p : Program) (m : Machine) (s : State) (h : IsSound p m s) (c : Cell) 
 
   module _ (t : Task) (w : Worker) (s' : State) (run : CanRun p m s t w) (leaves : s' ≡ after_run p m s t w) where
     run-count : writes s' c ≡ writes s c
-    run-count = ap (λ (z : State). writes z c) leaves ∙ elim (cells-renewed_or s (λ d row. if has_cell (written_cells p t w) d then owned_row (node_of m w) (initial p s t w (node_of m w) d) row else row) c) [
+    run-count = ap (λ (z : State). writes z c) leaves ∙ elim (cells-renewed_or s (λ d row. if has_cell (written_cells p t w) d then owned_row (node_of m w) row else row) c) [
       | inl row ↦ ap (λ (r : CellState). r.writes) row ∙ either (has_cell (written_cells p t w) c)
       | inr none ↦ ap (λ (r : CellState). r.writes) none.1 ∙ sym (ap (λ (r : CellState). r.writes) none.0)
     ]
       where
-        either : (b : Bool) → (if b then owned_row (node_of m w) (initial p s t w (node_of m w) c) (cell_state s c) else cell_state s c).writes ≡ writes s c
+        either : (b : Bool) → (if b then owned_row (node_of m w) (cell_state s c) else cell_state s c).writes ≡ writes s c
         either true = refl
         either false = refl
 
@@ -216,19 +216,14 @@ module _ (p : Program) (m : Machine) (s : State) (h : IsSound p m s) (c : Cell) 
   module _ (t : Task) (w : Worker) (s' : State) (ended : progress s t ≡ Running w) (leaves : s' ≡ after_end p m s t w) where
     over : (b : Bool) → has_cell (written_cells p t w) c ≡ b → IsSeenAs p m s' c (if b then written_again k else k)
     over false spared =
-        let count = ap (λ (z : State). writes z c) leaves ∙ ap (λ (r : CellState). r.writes) (cells-untouched s (has_cell (written_cells p t w)) (λ d row. rewritten_at (node_of m w) (result_at p s t w (node_of m w) d) row) c spared) in
-        unmarked s' (λ q. ap at_of (end-other p m s t w s' ended leaves c q spared)) count
+        let count = ap (λ (z : State). writes z c) leaves ∙ ap (λ (r : CellState). r.writes) (cells-untouched s (has_cell (written_cells p t w)) (λ d row. written_once_more row) c spared) in
+        unmarked s' (λ q. ap at_of (end-replica p m s t w s' ended leaves c q)) count
     over true wrote =
-        let both = end-written p m s h t w s' ended leaves c wrote in
         let there = h.coherent.cells.running t w c ended (written-among_cells p t w c wrote) in
-        let here : at_of (replica s' c (AtNode (node_of m w))) ≡ at_of (replica s c (AtNode (node_of m w))) = ap at_of both.0 ∙ sym (ap at_of both.2) in
-        let count : writes s' c ≡ writes s c + 1 = ap (λ (z : State). writes z c) leaves ∙ ap (λ (r : CellState). r.writes) (cells-touched s (has_cell (written_cells p t w)) (λ d row. rewritten_at (node_of m w) (result_at p s t w (node_of m w) d) row) c (valid-row s c (AtNode (node_of m w)) there) wrote) in
+        let count : writes s' c ≡ writes s c + 1 = ap (λ (z : State). writes z c) leaves ∙ ap (λ (r : CellState). r.writes) (cells-touched s (has_cell (written_cells p t w)) (λ d row. written_once_more row) c (valid-row s c (AtNode (node_of m w)) there) wrote) in
         record {
-          nodes = λ q few. seen.nodes q few ∙ elim (same_node q (node_of m w)) [
-            | inl e ↦ subst (λ (j : Node). at_of (replica s c (AtNode j)) ≡ at_of (replica s' c (AtNode j))) (sym e) (sym here)
-            | inr d ↦ ap at_of (sym (end-elsewhere p m s t w s' ended leaves c (AtNode q) (place_differs q (node_of m w) d)))
-          ];
-          on_disk = λ d home. seen.on_disk d home ∙ ap at_of (sym (end-elsewhere p m s t w s' ended leaves c (OnDisk d) refl));
+          nodes = λ q few. seen.nodes q few ∙ sym (ap at_of (end-replica p m s t w s' ended leaves c (AtNode q)));
+          on_disk = λ d home. seen.on_disk d home ∙ sym (ap at_of (end-replica p m s t w s' ended leaves c (OnDisk d)));
           sixteen = seen.sixteen;
           written = ap (λ (i : ℕ). i + 1) seen.written ∙ sym count;
         }

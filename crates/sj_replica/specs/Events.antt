@@ -19,12 +19,12 @@ use Rattle.sj_replica.specs.Copies.{CellCopies, at_place, owned_by_node, with_at
 use Rattle.sj_replica.specs.declared.state.At.{At}
 use Rattle.sj_replica.specs.declared.state.At.TheVariants.{Invalid, Coming, Valid, Leaving}
 
--- what a place has of a cell, but for its array and for the worker of a claim
+-- what a place has of a cell, but for the worker of a claim
 abbrev pub at_of : Replica → At
 at_of NoReplica = Invalid
 at_of (ComingReplica w) = Coming
-at_of (ValidReplica a) = Valid
-at_of (LeavingReplica w a) = Leaving
+at_of ValidReplica = Valid
+at_of (LeavingReplica w) = Leaving
 
 -- the cell of the state is what the copies say, at each node and on its disk, and was written as often
 pub record IsSeenAs (p : Program) (m : Machine) (s : State) (c : Cell) (k : CellCopies) : Type 0 where

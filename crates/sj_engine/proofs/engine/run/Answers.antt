@@ -35,7 +35,7 @@ pub returns-clause-blocks : goal.returns-clause-blocks
 returns-clause-blocks g c = (unopened-is g.D.Disk.size g.D.Disk.faults g.D.Disk.mismatches g.D.Disk.held c.args.program.value c.args.machine c.args.disks.items c.unopened-in-Err.result.result c.unopened-in-Err.ensures.result c.unopened-in-Err.result.delivered.pairs c.unopened-in-Err.result.trace.events c.unopened-in-Err.ensures.trace c.unopened-in-Err.result.disks.items (c.unopened-in-Err.ensures.disks ∙ c.in-Err.ensures.err)).blocks
 
 pub returns-in_default-clause-bounded : goal.returns-in_default-clause-bounded
-returns-in_default-clause-bounded g c = legal-within_bound c.args.program.value c.args.machine c.requires.proper c.requires.machine g.C.Codelets.has c.requires.lawful c.unopened.result.trace.events (unopened-is g.D.Disk.size g.D.Disk.faults g.D.Disk.mismatches g.D.Disk.held c.args.program.value c.args.machine c.args.disks.items c.unopened.result.result c.unopened.ensures.result c.unopened.result.delivered.pairs c.unopened.result.trace.events c.unopened.ensures.trace c.unopened.result.disks.items c.unopened.ensures.disks).legal
+returns-in_default-clause-bounded g c = legal-within_bound c.args.program.value c.args.machine c.requires.proper c.requires.machine c.unopened.result.trace.events (unopened-is g.D.Disk.size g.D.Disk.faults g.D.Disk.mismatches g.D.Disk.held c.args.program.value c.args.machine c.args.disks.items c.unopened.result.result c.unopened.ensures.result c.unopened.result.delivered.pairs c.unopened.result.trace.events c.unopened.ensures.trace c.unopened.result.disks.items c.unopened.ensures.disks).legal
 
 pub returns-in-Ok-opened-clause-bounded : goal.returns-in-Ok-opened-clause-bounded
 returns-in-Ok-opened-clause-bounded g c =
@@ -44,10 +44,10 @@ returns-in-Ok-opened-clause-bounded g c =
     let events = c.run_over.result.trace.events in
     let legal = subst (λ (m : Machine). IsLegal c.args.program.value m events) machine
     (subst (λ (p : Program). IsLegal p c.in-Ok-opened.board.run.machine events) program c.run_over.ensures.legal) in
-    legal-within_bound c.args.program.value c.args.machine c.requires.proper c.requires.machine g.C.Codelets.has c.requires.lawful events legal
+    legal-within_bound c.args.program.value c.args.machine c.requires.proper c.requires.machine events legal
 
 pub returns-clause-bounded : goal.returns-clause-bounded
-returns-clause-bounded g c = legal-within_bound c.args.program.value c.args.machine c.requires.proper c.requires.machine g.C.Codelets.has c.requires.lawful c.unopened-in-Err.result.trace.events (unopened-is g.D.Disk.size g.D.Disk.faults g.D.Disk.mismatches g.D.Disk.held c.args.program.value c.args.machine c.args.disks.items c.unopened-in-Err.result.result c.unopened-in-Err.ensures.result c.unopened-in-Err.result.delivered.pairs c.unopened-in-Err.result.trace.events c.unopened-in-Err.ensures.trace c.unopened-in-Err.result.disks.items (c.unopened-in-Err.ensures.disks ∙ c.in-Err.ensures.err)).legal
+returns-clause-bounded g c = legal-within_bound c.args.program.value c.args.machine c.requires.proper c.requires.machine c.unopened-in-Err.result.trace.events (unopened-is g.D.Disk.size g.D.Disk.faults g.D.Disk.mismatches g.D.Disk.held c.args.program.value c.args.machine c.args.disks.items c.unopened-in-Err.result.result c.unopened-in-Err.ensures.result c.unopened-in-Err.result.delivered.pairs c.unopened-in-Err.result.trace.events c.unopened-in-Err.ensures.trace c.unopened-in-Err.result.disks.items (c.unopened-in-Err.ensures.disks ∙ c.in-Err.ensures.err)).legal
 
 pub returns-in-Ok-opened-clause-wanted : goal.returns-in-Ok-opened-clause-wanted
 returns-in-Ok-opened-clause-wanted g c =
