@@ -16,7 +16,7 @@ use Rattle.sj_core.proofs.Running.{run-leaving, run-worker}
 use Rattle.sj_core.proofs.States.{one-mover, state_of-more}
 use Rattle.sj_core.proofs.Words.{AtNode, Cell, Invalid, Machine, Node, OnDisk, Program, State, Task, Valid, Worker, WorkerState, is_gone, is_leaving_by, node_of, replica, transfer, victims_of, with_replica}
 use Rattle.sj_core.specs.Laws.{IsSound}
-use Rattle.sj_core.specs.Step.{May, a_transfer, after, array_at}
+use Rattle.sj_core.specs.Step.{May, a_transfer, after}
 use Rattle.sj_core.specs.declared.progress.Transfer.{Transfer}
 use Rattle.sj_disk.specs.Directory.{DiskState}
 use Rattle.sj_machine.specs.Gone.{AreGone}
@@ -62,12 +62,11 @@ module _ (p : Program) (m : Machine) (s : State) (h : IsSound p m s) (v : Worker
     leaves = λ c n leaving. sym (ap (λ (z : State). is_leaving_by v (replica z c (AtNode n))) leaves) ∙ leaving;
   }
   Step-stays (Moved x from to) s' step leaves other =
-      let a = array_at p s from x in
       record {
-        victims = ap (λ (z : State). victims_of z v) leaves ∙ victims-same (with_replica s x to (Valid a)) _ _ v;
+        victims = ap (λ (z : State). victims_of z v) leaves ∙ victims-same (with_replica s x to Valid) _ _ v;
         leaves = λ c n leaving.
-            let now : is_leaving_by v (replica (with_replica s x to (Valid a)) c (AtNode n)) ≡ true = sym (ap (λ (z : State). is_leaving_by v (replica z c (AtNode n))) leaves) ∙ leaving in
-            elim (replica-cases s x to (Valid a) c (AtNode n)) [
+            let now : is_leaving_by v (replica (with_replica s x to Valid) c (AtNode n)) ≡ true = sym (ap (λ (z : State). is_leaving_by v (replica z c (AtNode n))) leaves) ∙ leaving in
+            elim (replica-cases s x to Valid c (AtNode n)) [
               | inl same ↦ sym (ap (is_leaving_by v) same) ∙ now
               | inr (e, at, is) ↦ absurd (false≢true (sym (ap (is_leaving_by v) is) ∙ now))
             ];
