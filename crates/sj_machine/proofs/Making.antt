@@ -9,8 +9,8 @@ use Rattle.sj_base.specs.Recorded.{Recorded}
 use Rattle.sj_base.specs.declared.trace.Event.{Event}
 use Rattle.sj_core.specs.declared.progress.Progress.{Progress}
 use Rattle.sj_core.specs.declared.progress.Progress.TheVariants.{Waiting}
-use Rattle.sj_core.proofs.Words.{AtNode, Cell, DiskNo, Machine, Node, OnDisk, Program, WorkerState, dims_of, is_valid, node_size, opening, order, progress, replica, scratch, workers_at, writes}
-use Rattle.sj_core.proofs.Opening.{opening-coherent, nowhere, unwritten, no_scratch}
+use Rattle.sj_core.proofs.Words.{Array, AtNode, Cell, DiskNo, Machine, Node, OnDisk, Program, WorkerState, dims_of, is_valid, node_size, opening, order, progress, replica, scratch, workers_at, writes}
+use Rattle.sj_core.proofs.Opening.{opening-coherent, opening-content, nowhere, unwritten, no_scratch}
 use Rattle.sj_core.proofs.Reading.{idle_row}
 use Rattle.sj_core.proofs.Finding.{being_written-by}
 use Rattle.sj_core.specs.Coherent.{is_being_written}

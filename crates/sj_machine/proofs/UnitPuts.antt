@@ -28,7 +28,7 @@ use Rattle.sj_base.proofs.Lists.{set-slice_get}
 -- which disks are out is no matter of what a run keeps
 pub keeps-out : {D : Type 0} (size faults mismatches : D → ℕ) (held : D → Option (List ℕ)) (b : Standing D) (rows : Rows) (spare : ℕ) (out : List Bool) → Keeps size faults mismatches held b rows spare → Keeps size faults mismatches held (record b { out = out }) rows spare
 keeps-out size faults mismatches held b rows spare out keeps = record {
-  sound = record { run = keeps.sound.run; legal = keeps.sound.legal; coherent = keeps.sound.coherent; blocks = keeps.sound.blocks; given_back = keeps.sound.given_back };
+  sound = record { run = keeps.sound.run; legal = keeps.sound.legal; coherent = keeps.sound.coherent; content = keeps.sound.content; blocks = keeps.sound.blocks; given_back = keeps.sound.given_back };
   agrees = keeps.agrees;
   room = keeps.room;
 }
