@@ -1,11 +1,7 @@
 //! Whether a trace is one that runs a program to its end.
 
-<<<<<<< HEAD
 ghost use Rattle.std.specs.Prelude.{ℕ, ◌≡◌, [], IfErr, IsOk, take};
-=======
-ghost use Rattle.std.specs.Prelude.{ℕ, IfErr, IsOk, take};
 ghost use Rattle.sj_core.specs.Arrays.{arrays_of};
->>>>>>> 3708c698 (Not proved yet above the core: arrays stand beside the state, and neither a legal trace nor coherence names a codelet)
 ghost use Rattle.sj_core.specs.Bound.{HasAtMostThreePerTaskAndFivePerOperand};
 ghost use Rattle.sj_core.specs.Coherent.{Coherent};
 ghost use Rattle.sj_core.specs.Laws.{HoldsFinal};
@@ -87,7 +83,8 @@ fn check_by(alloc: Global, checker: &mut Checker, trace: &Trace) -> Result<(), C
         (state_of checker.old.program checker.old.machine (take n trace.now.events)) }
     ensures holds_what_all_tasks_leave { IsOk result →
         HoldsFinal checker.old.program
-        (state_of checker.old.program checker.old.machine trace.now.events) }
+        (state_of checker.old.program checker.old.machine trace.now.events)
+        (arrays_of checker.old.program checker.old.machine trace.now.events) }
     ensures has_at_most_three_events_a_task_and_five_an_operand { IsOk result →
         HasAtMostThreePerTaskAndFivePerOperand checker.old.program trace.now.events }
 {

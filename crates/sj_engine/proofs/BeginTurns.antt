@@ -24,40 +24,24 @@ use Rattle.sj_core.proofs.Found.{found-not_fresh}
 use Rattle.sj_core.proofs.Reading.{progress-inside, progress-same}
 use Rattle.sj_core.proofs.Readiness.{Contains-from_filter, filter-Contains}
 use Rattle.sj_core.proofs.Replicas.{same_worker-refl}
-<<<<<<< HEAD
-use Rattle.sj_core.proofs.Running.{run-other, run-own}
-use Rattle.sj_core.proofs.TaskCells.{written-among_cells}
 use Rattle.sj_machine.specs.Running.{AreSharesFor, IsShareIn, IsShare}
 use Rattle.sj_machine.specs.Sparing.{Spares}
-use Rattle.sj_machine.specs.Standing.{AllTell, CanHappen, state}
+use Rattle.sj_machine.specs.Standing.{AllTell, CanHappen, state, run_arrays}
 use Rattle.sj_board.specs.Board.{BoardState, HasTask, hand_of, has_event}
 use Rattle.sj_board.specs.BoardRow.{BoardKey, arrays_for, key_of}
 use Rattle.sj_board.specs.BoardSound.{IsSoundBoard}
 use Rattle.sj_board.specs.declared.hand.Hand.{Hand}
 use Rattle.sj_engine.specs.Operands.{held_for, read_operands}
-=======
-use Rattle.sj_machine.specs.Board.{BoardState, HasTask, hand_of, has_event}
-use Rattle.sj_machine.specs.BoardRow.{BoardKey, arrays_for, key_of}
-use Rattle.sj_machine.specs.BoardSound.{IsSoundBoard}
-use Rattle.sj_machine.specs.Running.{AreSharesFor, IsShareIn}
-use Rattle.sj_machine.specs.Sparing.{Spares}
-use Rattle.sj_machine.specs.Standing.{AllTell, CanHappen, state, run_arrays}
-use Rattle.sj_machine.specs.declared.hand.Hand.{Hand}
-use Rattle.sj_engine.specs.Operands.{IsShare, held_for, read_operands}
->>>>>>> 3708c698 (Not proved yet above the core: arrays stand beside the state, and neither a legal trace nor coherence names a codelet)
 use Rattle.sj_engine.specs.Stage.{AreLent, HasClaimedRow, RunsRow, row_in}
 use Rattle.sj_engine.specs.Turn.{IsTurnOf}
 use Rattle.sj_engine.proofs.BoardTurns.{has_event-turn, state-after, arrays-after}
 use Rattle.sj_engine.proofs.OwnRows.{has-task, runs-row}
-<<<<<<< HEAD
 use Rattle.sj_engine.proofs.FoundBoards.{found-sound}
-=======
 use Rattle.sj_core.specs.Arrays.{Arrays, arrays_after, held_at}
 use Rattle.sj_core.proofs.Finding.{second_fails}
 use Rattle.sj_base.specs.Ids.{same_place}
 use Rattle.sj_core.proofs.Words.{fresh_cells}
 use Rattle.sj_core.specs.Proper.{Proper}
->>>>>>> 3708c698 (Not proved yet above the core: arrays stand beside the state, and neither a legal trace nor coherence names a codelet)
 
 -- what a task reads is there as it was when it begins
 read-same : (p : Program) → Proper p → (m : Machine) (A : Arrays) (t : Task) (w : Worker) → w.0 < p.workers → (a : Access) → Contains (task_of p t).accesses a → reads_value a.mode ≡ true → arrays_after p m A (Run t w) (worked_on p w a) (AtNode (node_of m w)) ≡ A (worked_on p w a) (AtNode (node_of m w))

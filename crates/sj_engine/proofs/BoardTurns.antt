@@ -14,19 +14,9 @@ use Rattle.sj_core.specs.Machine.{State, Valid, WorkerState, progress, transfer,
 use Rattle.sj_core.specs.Needs.{node_of}
 use Rattle.sj_core.specs.Step.{after, mover_of}
 use Rattle.sj_core.proofs.Reading.{transfer-inside, worker-same}
-<<<<<<< HEAD
-use Rattle.sj_core.proofs.States.{one-mover, state_of-more}
-use Rattle.sj_machine.specs.Sparing.{Spares, SparesMoved}
-use Rattle.sj_machine.specs.Standing.{CanHappen, IsMovingIn, IsMovingOut, IsTileMoved, IsTileOf, Standing, is_node, state, with_event}
-=======
 use Rattle.sj_core.proofs.States.{one-mover, state_of-more, arrays_of-more}
-use Rattle.sj_machine.specs.Board.{BoardState, EndsMoveOf, empty_hand, failed, first_fault, hand_of, has_event, stopped, transfer_of}
-use Rattle.sj_machine.specs.BoardRow.{key_of}
-use Rattle.sj_machine.specs.BoardSound.{IsSoundBoard}
 use Rattle.sj_machine.specs.Sparing.{Spares, SparesMoved}
 use Rattle.sj_machine.specs.Standing.{CanHappen, IsMovingIn, IsMovingOut, IsTileMoved, IsTileOf, Standing, is_node, state, with_event, run_arrays}
-use Rattle.sj_machine.specs.declared.hand.Hand.{Hand}
->>>>>>> 3708c698 (Not proved yet above the core: arrays stand beside the state, and neither a legal trace nor coherence names a codelet)
 use Rattle.sj_machine.specs.declared.fault.RunFault.{RunFault}
 use Rattle.sj_board.specs.Board.{BoardState, EndsMoveOf, HasTakenReleased, empty_hand, failed, first_fault, hand_of, has_event, released_of, stopped, transfer_of}
 use Rattle.sj_board.specs.BoardRow.{key_of}
@@ -37,14 +27,11 @@ use Rattle.sj_engine.specs.Turn.{Happens, IsTurnOf, NothingHappens, PutsUnitBack
 use Rattle.sj_engine.proofs.OtherRows.{IsBy}
 use Rattle.sj_engine.proofs.OwnRows.{claimed-row, phase-of, row-transfer, transfer-of}
 use Rattle.sj_engine.proofs.Turning.{put-quiet, turn-event, turn-hand}
-<<<<<<< HEAD
 use Rattle.std.proofs.lemmas.Option.{same_Some}
 use Rattle.sj_board.proofs.Failing.{first-not_none}
 use Rattle.sj_engine.proofs.FoundBoards.{found-sound}
 use Rattle.sj_board.proofs.Hands.{inside-hands}
-=======
 use Rattle.sj_core.specs.Arrays.{arrays_after}
->>>>>>> 3708c698 (Not proved yet above the core: arrays stand beside the state, and neither a legal trace nor coherence names a codelet)
 
 -- the state after one event more
 pub state-after : {D : Type 0} (b : BoardState D) (y : BoardState D) (e : Event) → y.run ≡ with_event b.run e → state y.run ≡ after b.run.program b.run.machine (state b.run) e
@@ -163,11 +150,7 @@ module _ {D : Type 0} (size faults mismatches : D → ℕ) (held : D → Option 
     carried-is : (a : Array) → (row_in b w).carries ≡ Some a → a ≡ run_arrays b.run tr.cell tr.from
     carried-is a e =
         let there : transfer_of b w ≡ Some tr = sym (row-transfer b w) ∙ r.transfer in
-<<<<<<< HEAD
-        same_Some a (array_at b.run.program s tr.from tr.cell) (sym e ∙ ap (option_map (λ (k : Transfer). array_at b.run.program s k.from k.cell)) there)
-=======
-        some-same a (run_arrays b.run tr.cell tr.from) (sym e ∙ ap (option_map (λ (k : Transfer). run_arrays b.run k.cell k.from)) there)
->>>>>>> 3708c698 (Not proved yet above the core: arrays stand beside the state, and neither a legal trace nor coherence names a codelet)
+        same_Some a (run_arrays b.run tr.cell tr.from) (sym e ∙ ap (option_map (λ (k : Transfer). run_arrays b.run k.cell k.from)) there)
 
     pub tile-moved : (a : Array) → IsCarried held (key_of b) tr (row_in b w) a → IsTileMoved held x.run w a
     tile-moved a c =

@@ -25,19 +25,13 @@ use Rattle.sj_core.specs.declared.progress.Transfer.{Transfer}
 use Rattle.sj_core.specs.Machine.{State, WorkerState, is_claimed_by, is_running_on, is_task_of, progress, transfer}
 use Rattle.sj_core.specs.Needs.{node_of}
 use Rattle.sj_core.specs.Operands.{cells_of, found, results, worked_on}
-<<<<<<< HEAD
 use Rattle.sj_core.specs.Program.{data_operands, dims_of, task_of}
-use Rattle.sj_core.specs.Step.{array_at}
-=======
-use Rattle.sj_core.specs.Program.{data_operands, dims_of, task_of, written_operands}
->>>>>>> 3708c698 (Not proved yet above the core: arrays stand beside the state, and neither a legal trace nor coherence names a codelet)
 use Rattle.sj_core.proofs.Reading.{progress-same, worker-same}
 use Rattle.sj_core.proofs.Readiness.{Contains-filter}
 use Rattle.sj_core.proofs.Replicas.{same_worker-refl}
 use Rattle.sj_machine.specs.Running.{AreResultsFor}
 use Rattle.sj_machine.specs.Sparing.{Spares}
-<<<<<<< HEAD
-use Rattle.sj_machine.specs.Standing.{CanHappen, Standing, state}
+use Rattle.sj_machine.specs.Standing.{CanHappen, Standing, state, run_arrays}
 use Rattle.sj_pool.proofs.Keeping.{home-within}
 use Rattle.sj_pool.specs.Pool.{home}
 use Rattle.sj_board.specs.Board.{BoardState, HasTakenReleased, HasTask, IsIdle, WasGiven, empty_hand, given_back, given_from, hand_of, has_claimed, released_of}
@@ -52,30 +46,19 @@ use Rattle.sj_board.specs.Passing.{HasLost}
 use Rattle.sj_board.specs.Releasing.{EndsTask}
 use Rattle.sj_board.specs.declared.hand.Hand.{Hand}
 use Rattle.sj_engine.specs.Stage.{AreDone, HasClaimedRow, HoldResults, IsFreeRow, RunsRow, busy_hand, given_hand, row_in}
-=======
-use Rattle.sj_machine.specs.Standing.{CanHappen, state, run_arrays}
-use Rattle.sj_machine.specs.declared.hand.Hand.{Hand}
-use Rattle.sj_engine.specs.Operands.{IsShare}
-use Rattle.sj_engine.specs.Stage.{AreDone, HasClaimedRow, HoldResults, IsFreeRow, RunsRow, given_hand, row_in}
->>>>>>> 3708c698 (Not proved yet above the core: arrays stand beside the state, and neither a legal trace nor coherence names a codelet)
 use Rattle.sj_engine.specs.Turn.{IsTurnOf, NothingHappens}
 use Rattle.sj_engine.specs.Picking.{PickMakes}
 use Rattle.sj_engine.specs.Queued.{PicksOrFails}
 use Rattle.sj_engine.specs.declared.picking.Picked.{Picked}
 use Rattle.sj_engine.specs.declared.picking.Picked.TheVariants.{Task as PickedTask, Nothing, Failed, Over}
 use Rattle.sj_engine.proofs.BoardTurns.{event-turn, hand-put, state-after}
-<<<<<<< HEAD
 use Rattle.sj_engine.proofs.OwnRows.{claimed-row, has-task, phase-of}
 use Rattle.sj_engine.proofs.Turning.{released-none, turn-hand}
 use Rattle.sj_base.proofs.Lists.{map-agree}
 use Rattle.std.proofs.lemmas.Option.{same_Some}
 use Rattle.sj_engine.proofs.FoundBoards.{found-sound}
 use Rattle.sj_board.proofs.Hands.{inside-hands}
-=======
-use Rattle.sj_engine.proofs.OwnRows.{claimed-row, has-task, phase-of, some-same}
-use Rattle.sj_engine.proofs.Turning.{turn-hand}
 use Rattle.sj_core.specs.Arrays.{held_at}
->>>>>>> 3708c698 (Not proved yet above the core: arrays stand beside the state, and neither a legal trace nor coherence names a codelet)
 
 -- ---- what a task finds is told by its cells
 
@@ -139,13 +122,8 @@ module _ {D : Type 0} (size faults mismatches : D → ℕ) (held : D → Option 
         ∙ ap (λ (g : Progress). Some (if is_running_on w g then m else [])) runs
         ∙ ap (λ (c : Bool). Some (if c then m else [])) (same_worker-refl w)
 
-<<<<<<< HEAD
-    told-results : HoldResults b.run.program w t (row_in b w) slots → arrays slots ≡ results b.run.program t w (array_at b.run.program (state b.run) (AtNode (node_of b.run.machine w)))
-    told-results k = k.results ∙ results-agree b.run.program t w k.holds (array_at b.run.program (state b.run) (AtNode (node_of b.run.machine w))) (same_Some _ _ (sym k.cells ∙ operands-are))
-=======
     told-results : HoldResults b.run.program w t (row_in b w) slots → arrays slots ≡ results b.run.program t w (held_at (run_arrays b.run) (AtNode (node_of b.run.machine w)))
-    told-results k = k.results ∙ results-agree b.run.program t w k.holds (held_at (run_arrays b.run) (AtNode (node_of b.run.machine w))) (some-same _ _ (sym k.cells ∙ operands-are))
->>>>>>> 3708c698 (Not proved yet above the core: arrays stand beside the state, and neither a legal trace nor coherence names a codelet)
+    told-results k = k.results ∙ results-agree b.run.program t w k.holds (held_at (run_arrays b.run) (AtNode (node_of b.run.machine w))) (same_Some _ _ (sym k.cells ∙ operands-are))
 
     pub end-written : AreResultsFor held x.run t w slots
     end-written =

@@ -1,12 +1,6 @@
 -- What an event of a worker leaves as it is of another worker's row.
-<<<<<<< HEAD
 use Rattle.std.proofs.Common.{◌≡◌, ◌≢◌, ◌<◌, Bool, true, false, refl, sym, ap, ◌∙◌, subst, Option, None, Some, ◌&&◌}
-use Rattle.std.specs.Prelude.{is_some}
 use Rattle.std.proofs.lemmas.Bool.{false≢true, or_left, or_right}
-=======
-use Rattle.std.proofs.Common.{◌≡◌, ◌≢◌, ◌⊎◌, ℕ, ◌<◌, Bool, set, true, false, length, refl, sym, ap, ◌∙◌, subst, Option, None, Some, arith, inl, inr, ◌||◌, ◌&&◌}
-use Rattle.std.proofs.lemmas.Bool.{cases_lt, false≢true}
->>>>>>> 3708c698 (Not proved yet above the core: arrays stand beside the state, and neither a legal trace nor coherence names a codelet)
 use Rattle.std.proofs.lemmas.Bool.Decides.{Decides-eqb}
 use Rattle.sj_core.proofs.Eviction.{evicted-after}
 use Rattle.sj_base.specs.declared.ids.Cell.{Cell}
@@ -22,11 +16,7 @@ use Rattle.sj_core.specs.declared.progress.Progress.{Progress}
 use Rattle.sj_core.specs.declared.progress.Progress.TheVariants.{Waiting, Claimed, Running, Done}
 use Rattle.sj_core.specs.declared.progress.Transfer.{Transfer}
 use Rattle.sj_core.specs.Laws.{IsSound}
-<<<<<<< HEAD
-use Rattle.sj_core.specs.Machine.{CellState, State, array_of, is_running_on, is_task_of, Invalid, Valid, progress, replica, same_worker, transfer, worker_state, writes}
-=======
-use Rattle.sj_core.specs.Machine.{CellState, State, cell_state, is_running_on, is_task_of, Invalid, Replica, Valid, progress, same_worker, transfer, with_replica, with_replica_in, worker_state, writes}
->>>>>>> 3708c698 (Not proved yet above the core: arrays stand beside the state, and neither a legal trace nor coherence names a codelet)
+use Rattle.sj_core.specs.Machine.{CellState, State, is_running_on, is_task_of, Invalid, Valid, progress, same_worker, transfer, worker_state, writes}
 use Rattle.sj_core.specs.Needs.{node_of}
 use Rattle.sj_core.specs.Operands.{cells_of, written_cells}
 use Rattle.sj_core.specs.Program.{has_cell, same_cell}
@@ -40,13 +30,10 @@ use Rattle.sj_core.proofs.Replicas.{same_worker-is, same_worker-refl}
 use Rattle.sj_core.proofs.Running.{run-spares, run-unmoved, run-worker}
 use Rattle.sj_core.proofs.Separation.{separated, worker-inside}
 use Rattle.sj_machine.specs.Sparing.{SparesUsed, is_used, writes_cell}
-<<<<<<< HEAD
 use Rattle.sj_base.proofs.SameIds.{same_place-itself}
 use Rattle.sj_core.proofs.Advancing.{running_on-is}
 use Rattle.sj_base.proofs.Bools.{or_false}
-=======
 use Rattle.sj_core.specs.Arrays.{Arrays}
->>>>>>> 3708c698 (Not proved yet above the core: arrays stand beside the state, and neither a legal trace nor coherence names a codelet)
 
 -- ---- whose event it is
 
@@ -83,55 +70,12 @@ pub record StaysFor (p : Program) (m : Machine) (s s' : State) (A A' : Arrays) (
   pub carried : (x : Transfer) → transfer s v ≡ Some x → A' x.cell x.from ≡ A x.cell x.from
   pub writes : (x : Transfer) → transfer s v ≡ Some x → writes s' x.cell ≡ writes s x.cell
 
-<<<<<<< HEAD
-valid-some : (o : Option Array) → is_some o ≡ true → (a : Array) × (o ≡ Some a)
-valid-some None h = absurd (false≢true h)
-valid-some (Some a) h = (a, refl)
-=======
-pub or-left : (a b : Bool) → a ≡ true → (a || b) ≡ true
-or-left a b h = ap (λ x. x || b) h
-
-pub or-right : (a b : Bool) → b ≡ true → (a || b) ≡ true
-or-right true b h = refl
-or-right false b h = h
-
-same_place-refl : (q : Place) → same_place q q ≡ true
-same_place-refl (AtNode n) = (Decides-eqb n.0 n.0).1 refl
-same_place-refl (OnDisk d) = (Decides-eqb d.0 d.0).1 refl
->>>>>>> 3708c698 (Not proved yet above the core: arrays stand beside the state, and neither a legal trace nor coherence names a codelet)
 
 not-so : (b : Bool) → (b ≡ true → ⊥) → b ≡ false
 not-so true f = absurd (f refl)
 not-so false f = refl
 
-<<<<<<< HEAD
-module _ (p : Program) (m : Machine) (s : State) (h : IsSound p m s) (v : Worker) where
-=======
--- each row is as before, or is the cell's with the replica written
-row-put : (s : State) (c : Cell) (q : Place) (r : Replica) (d : Cell) → (cell_state (with_replica s c q r) d ≡ cell_state s d) ⊎ ((d ≡ c) × (cell_state (with_replica s c q r) d ≡ with_replica_in (cell_state s c) q r))
-row-put s c q r d =
-    let row = with_replica_in (cell_state s c) q r in
-    elim (cells_differ d c) [
-      | inr n ↦ inl (get_or-set_other s.cells c.0 d.0 row no_row (λ e. n (ap (λ (i : ℕ). let j : Cell = record { 0 = i } in j) e)))
-      | inl e ↦ elim (cases_lt c.0 (length s.cells)) [
-        | inl inside ↦ inr (e, ap (cell_state (with_replica s c q r)) e ∙ get_or-set_same s.cells c.0 row no_row inside)
-        | inr past ↦ inl (ap (cell_state (with_replica s c q r)) e ∙ get_or_past (set s.cells c.0 row) c.0 no_row (omega (arith, length-set s.cells c.0 row)) ∙ sym (get_or_past s.cells c.0 no_row past) ∙ sym (ap (cell_state s) e))
-      ]
-    ]
-
--- a replica put somewhere leaves all write counts
-writes-put : (s : State) (c : Cell) (q : Place) (r : Replica) (d : Cell) → writes (with_replica s c q r) d ≡ writes s d
-writes-put s c q r d = elim (row-put s c q r d) [
-  | inl same ↦ ap (λ (row : CellState). row.writes) same
-  | inr (e, at) ↦ ap (λ (row : CellState). row.writes) at ∙ by_place q ∙ ap (λ (k : Cell). writes s k) (sym e)
-]
-  where
-    by_place : (q : Place) → (with_replica_in (cell_state s c) q r).writes ≡ writes s c
-    by_place (AtNode n) = refl
-    by_place (OnDisk n) = refl
-
 module _ (p : Program) (m : Machine) (s : State) (A : Arrays) (h : IsSound p m s) (v : Worker) where
->>>>>>> 3708c698 (Not proved yet above the core: arrays stand beside the state, and neither a legal trace nor coherence names a codelet)
   reads-used : (x : Transfer) → transfer s v ≡ Some x → is_used m s x.cell x.from ≡ true
   reads-used x under_way = by_place x.from (list_any-worker (λ w. reads s w x.cell x.from) m v inside own)
     where
@@ -159,12 +103,7 @@ module _ (p : Program) (m : Machine) (s : State) (A : Arrays) (h : IsSound p m s
     spared-cells : (u : Task) (c : Cell) → is_running_on v (progress s u) ≡ true → has_cell (cells_of p u v) c ≡ true → A' c (AtNode (node_of m v)) ≡ A c (AtNode (node_of m v))
     spared-cells u c runs cell =
         let has = running-task v (progress s u) runs in
-<<<<<<< HEAD
-        let at = valid-some (array_of (replica s c (AtNode (node_of m v)))) (h.coherent.cells.running u v c (running_on-is v (progress s u) runs) cell) in
-        spares c (AtNode (node_of m v)) at.0 (pins-used u c (task-worker u has) has cell) at.1 (unwritten-cells u c runs cell) ∙ sym at.1
-=======
-        (spares c (AtNode (node_of m v)) (pins-used u c (task-worker u has) has cell) (h.coherent.cells.running u v c (running-is_it v (progress s u) runs) cell) (unwritten-cells u c runs cell)).1
->>>>>>> 3708c698 (Not proved yet above the core: arrays stand beside the state, and neither a legal trace nor coherence names a codelet)
+        (spares c (AtNode (node_of m v)) (pins-used u c (task-worker u has) has cell) (h.coherent.cells.running u v c (running_on-is v (progress s u) runs) cell) (unwritten-cells u c runs cell)).1
 
     spared-moved : (x : Transfer) → transfer s v ≡ Some x → A' x.cell x.from ≡ A x.cell x.from
     spared-moved x under_way = (spares x.cell x.from (reads-used x under_way) (h.coherent.transfers.source v x under_way) (unwritten-moved x under_way)).1
@@ -202,28 +141,16 @@ module _ (p : Program) (m : Machine) (s : State) (A : Arrays) (h : IsSound p m s
     Step-stays (Moved c from to) s' A' by step leaves spares = record {
       phase = λ u has. ap (λ (z : State). progress z u) leaves;
       holds = ap (λ (z : State). worker_state z v) leaves ∙ worker-other s (mover_of s c from to) v _ (subst (λ (k : Worker). v ≢ k) (sym by) other);
-<<<<<<< HEAD
-      cells = spared-cells s' (Moved c from to) spares (λ u d runs cell. refl) (λ y under_way. refl);
-      carried = spared-moved s' (Moved c from to) spares (λ u d runs cell. refl) (λ y under_way. refl);
-      writes = λ y under_way. ap (λ (z : State). writes z y.cell) leaves ∙ writes-same s c to (Valid (array_at p s from c)) y.cell;
-=======
       cells = spared-cells s' A' (Moved c from to) spares (λ u d runs cell. refl) (λ y under_way. refl);
       carried = spared-moved s' A' (Moved c from to) spares (λ u d runs cell. refl) (λ y under_way. refl);
-      writes = λ y under_way. ap (λ (z : State). writes z y.cell) leaves ∙ writes-put s c to Valid y.cell;
->>>>>>> 3708c698 (Not proved yet above the core: arrays stand beside the state, and neither a legal trace nor coherence names a codelet)
+      writes = λ y under_way. ap (λ (z : State). writes z y.cell) leaves ∙ writes-same s c to Valid y.cell;
     }
     Step-stays (Drop c n) s' A' by step leaves spares = record {
       phase = λ u has. ap (λ (z : State). progress z u) leaves;
       holds = ap (λ (z : State). worker_state z v) leaves;
-<<<<<<< HEAD
-      cells = spared-cells s' (Drop c n) spares (λ u d runs cell. refl) (λ y under_way. refl);
-      carried = spared-moved s' (Drop c n) spares (λ u d runs cell. refl) (λ y under_way. refl);
-      writes = λ y under_way. ap (λ (z : State). writes z y.cell) leaves ∙ writes-same s c (AtNode n) Invalid y.cell;
-=======
       cells = spared-cells s' A' (Drop c n) spares (λ u d runs cell. refl) (λ y under_way. refl);
       carried = spared-moved s' A' (Drop c n) spares (λ u d runs cell. refl) (λ y under_way. refl);
-      writes = λ y under_way. ap (λ (z : State). writes z y.cell) leaves ∙ writes-put s c (AtNode n) Invalid y.cell;
->>>>>>> 3708c698 (Not proved yet above the core: arrays stand beside the state, and neither a legal trace nor coherence names a codelet)
+      writes = λ y under_way. ap (λ (z : State). writes z y.cell) leaves ∙ writes-same s c (AtNode n) Invalid y.cell;
     }
     Step-stays (Run t x) s' A' by step leaves spares =
         let apart : (u : Task) → is_task_of v (progress s u) ≡ true → u ≢ t = λ u has. not-mine t u (Claimed x) step.claimed (λ k. sym by ∙ claimed-is x v k) has in

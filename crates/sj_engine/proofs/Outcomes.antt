@@ -25,11 +25,7 @@ use Rattle.sj_disk.specs.declared.directory.Extent.{Extent}
 use Rattle.sj_edge.proofs.GivenBackLemmas.{all_given_back-untouched, all_untouched-same}
 use Rattle.sj_machine.specs.Cause.{HasCause}
 use Rattle.sj_machine.specs.Sound.{HoldsArray, IsBlock, block_of}
-<<<<<<< HEAD
-use Rattle.sj_machine.specs.Standing.{AllTell, state}
-=======
-use Rattle.sj_machine.specs.Standing.{AllTell as AllTellIn, state, run_arrays}
->>>>>>> 3708c698 (Not proved yet above the core: arrays stand beside the state, and neither a legal trace nor coherence names a codelet)
+use Rattle.sj_machine.specs.Standing.{AllTell, run_arrays, state}
 use Rattle.sj_machine.specs.declared.fault.RunFault.{RunFault}
 use Rattle.sj_machine.specs.declared.fault.RunFault.TheVariants.{Damaged, DiskFault, OutOfMemory}
 use Rattle.sj_board.specs.Board.{BoardState}

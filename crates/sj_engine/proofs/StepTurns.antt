@@ -27,11 +27,8 @@ use Rattle.sj_engine.specs.Stepping.{IsShareCarried}
 use Rattle.sj_engine.specs.Turn.{IsTurnOf}
 use Rattle.sj_engine.proofs.BoardTurns.{has_event-turn, state-after, arrays-after}
 use Rattle.sj_engine.proofs.OwnRows.{moves-row, phase-of, row-transfer}
-<<<<<<< HEAD
 use Rattle.sj_engine.proofs.FoundBoards.{found-sound}
-=======
 use Rattle.sj_core.specs.Arrays.{Arrays, arrays_after}
->>>>>>> 3708c698 (Not proved yet above the core: arrays stand beside the state, and neither a legal trace nor coherence names a codelet)
 
 some-and : {X : Type 0} (P Q : X → Type 0) (o : Option X) → ((x : X) → P x → Q x) → IsSomeAnd o P → IsSomeAnd o Q
 some-and P Q None f h = absurd h

@@ -1,13 +1,7 @@
 -- A worker's turn on the board leaves the rows of all others, in one step or in several.
-<<<<<<< HEAD
 use Rattle.std.proofs.Common.{◌≡◌, ◌≢◌, ℕ, Bool, true, false, cond, List, [], ◌∷◌, ◌++◌, map, refl, sym, ap, ◌∙◌, subst, Option, None, Some, inl, inr, ◌⊎◌}
-use Rattle.std.specs.Prelude.{filter, is_some, nat_eq, option_and_then, option_map, slice_set, unwrap_or, if◌then◌else◌}
-use Rattle.std.proofs.lemmas.Bool.{cases_eq}
-=======
-use Rattle.std.proofs.Common.{◌≡◌, ◌≢◌, ℕ, suc, Bool, true, false, cond, List, [], ◌∷◌, ◌++◌, map, refl, sym, ap, ◌∙◌, subst, Option, None, Some, arith, inl, inr, ◌⊎◌}
 use Rattle.std.specs.Prelude.{filter, is_some, nat_eq, option_and_then, option_map, slice_set, if◌then◌else◌}
-use Rattle.std.specs.List.{Contains}
->>>>>>> 3708c698 (Not proved yet above the core: arrays stand beside the state, and neither a legal trace nor coherence names a codelet)
+use Rattle.std.proofs.lemmas.Bool.{cases_eq}
 use Rattle.std.proofs.lemmas.Bool.Decides.{Decides-eqb}
 use Rattle.std.proofs.lemmas.List.{append-nil, append_assoc, get_or-set_other}
 use Rattle.std.proofs.lemmas.List.Elements.{filter-append}
@@ -26,20 +20,13 @@ use Rattle.sj_core.specs.Laws.{IsSound}
 use Rattle.sj_core.specs.Machine.{State, WorkerState, is_running_on, is_task_of, progress, transfer, worker_state, writes, idle_row}
 use Rattle.sj_core.specs.Needs.{node_of}
 use Rattle.sj_core.specs.Operands.{cells_of}
-<<<<<<< HEAD
-use Rattle.sj_core.specs.Program.{dims_of}
-use Rattle.sj_core.specs.Step.{array_at}
-=======
-use Rattle.sj_core.specs.Program.{has_cell, same_cell}
->>>>>>> 3708c698 (Not proved yet above the core: arrays stand beside the state, and neither a legal trace nor coherence names a codelet)
 use Rattle.sj_core.proofs.States.{state_of-more}
 use Rattle.sj_disk.specs.Directory.{DiskState}
 use Rattle.sj_disk.specs.Holding.{CountsStay}
 use Rattle.sj_disk.specs.Units.{UnitState}
 use Rattle.sj_pool.specs.Pool.{Pooled}
 use Rattle.sj_machine.specs.Sparing.{SparesUsed, Spares}
-<<<<<<< HEAD
-use Rattle.sj_machine.specs.Standing.{CanHappen, Standing, state, with_event}
+use Rattle.sj_machine.specs.Standing.{CanHappen, Standing, run_arrays, state, with_event}
 use Rattle.sj_board.specs.Board.{BoardState, HasTakenReleased, empty_hand, hand_in, hand_of, has_taken, released_of}
 use Rattle.sj_board.specs.Released.{released_in}
 use Rattle.sj_board.specs.Units.{unit_at, unit_in_hand}
@@ -53,17 +40,7 @@ use Rattle.sj_engine.proofs.OtherRows.{IsBy, StaysFor, Step-stays}
 use Rattle.sj_base.proofs.Lists.{map-agree}
 use Rattle.sj_core.proofs.Updating.{has-contained}
 use Rattle.sj_base.specs.Ids.{worker}
-=======
-use Rattle.sj_machine.specs.Standing.{CanHappen, Standing, state, with_event, run_arrays}
-use Rattle.sj_machine.specs.declared.hand.Hand.{Hand}
-use Rattle.sj_engine.specs.Stage.{BeginsWith, row_in}
-use Rattle.sj_engine.specs.Turn.{IsSharedSound, IsTurnOf, NothingHappens, PutsUnitBack}
-use Rattle.sj_engine.proofs.OtherRows.{IsBy, StaysFor, Step-stays}
 use Rattle.sj_core.specs.Arrays.{Arrays, held_at}
-
-abbrev a_worker : ℕ → Worker
-a_worker n = record { 0 = n }
->>>>>>> 3708c698 (Not proved yet above the core: arrays stand beside the state, and neither a legal trace nor coherence names a codelet)
 
 -- ---- rows
 
@@ -82,21 +59,12 @@ map-option f g (Some x) h = ap (λ y. Some y) (h x refl)
 -- ---- another worker's row
 
 -- a worker's row of its parts
-<<<<<<< HEAD
-abbrev row_of_parts : {D : Type 0} → DiskState D → Program → Machine → State → Worker → Hand → List Event → List Task → BoardRow D
-row_of_parts disks p m s v hand trace released =
-    row hand (option_and_then (unit_at disks) hand.unit) (option_map (progress s) hand.task)
-    (option_map (λ t. if is_running_on v (progress s t) then map (array_at p s (AtNode (node_of m v))) (cells_of p t v) else []) hand.task)
-    (if is_some hand.task then worker_state s v else idle_row)
-    (option_map (λ x. array_at p s x.from x.cell) (if is_some hand.task then transfer s v else None))
-=======
-abbrev row_of_parts : {D : Type 0} → DiskState D → Program → Machine → State → Arrays → Worker → Hand → List Event → BoardRow D
-row_of_parts disks p m s A v hand trace =
+abbrev row_of_parts : {D : Type 0} → DiskState D → Program → Machine → State → Arrays → Worker → Hand → List Event → List Task → BoardRow D
+row_of_parts disks p m s A v hand trace released =
     row hand (option_and_then (unit_at disks) hand.unit) (option_map (progress s) hand.task)
     (option_map (λ t. if is_running_on v (progress s t) then map (held_at A (AtNode (node_of m v))) (cells_of p t v) else []) hand.task)
-    (if is_some hand.task then worker_state s v else idle)
+    (if is_some hand.task then worker_state s v else idle_row)
     (option_map (λ x. A x.cell x.from) (if is_some hand.task then transfer s v else None))
->>>>>>> 3708c698 (Not proved yet above the core: arrays stand beside the state, and neither a legal trace nor coherence names a codelet)
     (option_map (λ x. writes s x.cell) (if is_some hand.task then transfer s v else None))
     (filter (is_event_of v.0) trace) released
 
@@ -108,17 +76,10 @@ module _ {D : Type 0} (disks : DiskState D) (p : Program) (m : Machine) (s s' : 
   same-cells : (u : Task) → is_task_of v (progress s u) ≡ true → (b : Bool) → is_running_on v (progress s u) ≡ b →
       (if is_running_on v (progress s' u) then map (held_at A' (AtNode (node_of m v))) (cells_of p u v) else []) ≡ (if is_running_on v (progress s u) then map (held_at A (AtNode (node_of m v))) (cells_of p u v) else [])
   same-cells u has true runs =
-<<<<<<< HEAD
-      ap (λ (x : Progress). if is_running_on v x then map (array_at p s' (AtNode (node_of m v))) (cells_of p u v) else []) (stays.phase u has)
-      ∙ ap (λ (b : Bool). if b then map (array_at p s' (AtNode (node_of m v))) (cells_of p u v) else []) runs
-      ∙ map-agree (array_at p s' (AtNode (node_of m v))) (array_at p s (AtNode (node_of m v))) (cells_of p u v) (λ c among. ap (λ (o : Option Array). unwrap_or o (zeros (dims_of p c))) (stays.cells u c runs (has-contained (cells_of p u v) c among)))
-      ∙ sym (ap (λ (b : Bool). if b then map (array_at p s (AtNode (node_of m v))) (cells_of p u v) else []) runs)
-=======
       ap (λ (x : Progress). if is_running_on v x then map (held_at A' (AtNode (node_of m v))) (cells_of p u v) else []) (stays.phase u has)
       ∙ ap (λ (b : Bool). if b then map (held_at A' (AtNode (node_of m v))) (cells_of p u v) else []) runs
-      ∙ map-agree (held_at A' (AtNode (node_of m v))) (held_at A (AtNode (node_of m v))) (cells_of p u v) (λ c among. stays.cells u c runs (contains-has (cells_of p u v) c among))
+      ∙ map-agree (held_at A' (AtNode (node_of m v))) (held_at A (AtNode (node_of m v))) (cells_of p u v) (λ c among. stays.cells u c runs (has-contained (cells_of p u v) c among))
       ∙ sym (ap (λ (b : Bool). if b then map (held_at A (AtNode (node_of m v))) (cells_of p u v) else []) runs)
->>>>>>> 3708c698 (Not proved yet above the core: arrays stand beside the state, and neither a legal trace nor coherence names a codelet)
   same-cells u has false runs =
       ap (λ (x : Progress). if is_running_on v x then map (held_at A' (AtNode (node_of m v))) (cells_of p u v) else []) (stays.phase u has)
       ∙ ap (λ (b : Bool). if b then map (held_at A' (AtNode (node_of m v))) (cells_of p u v) else []) runs
@@ -135,15 +96,9 @@ module _ {D : Type 0} (disks : DiskState D) (p : Program) (m : Machine) (s s' : 
       ap (option_map (λ x. writes s' x.cell)) same-transfer ∙ map-option (λ (x : Transfer). writes s' x.cell) (λ (x : Transfer). writes s x.cell) (transfer s v) (λ x e. stays.writes x e)
   same-writes false = refl
 
-<<<<<<< HEAD
-  pub row-kept : (released : List Task) → row_of_parts disks p m s' v hand trace' released ≡ row_of_parts disks p m s v hand trace released
+  pub row-kept : (released : List Task) → row_of_parts disks p m s' A' v hand trace' released ≡ row_of_parts disks p m s A v hand trace released
   row-kept released =
       row-same hand hand (option_and_then (unit_at disks) hand.unit) (option_and_then (unit_at disks) hand.unit) (option_map (progress s) hand.task) (option_map (progress s') hand.task) _ _ _ _ _ _ _ _ (filter (is_event_of v.0) trace) (filter (is_event_of v.0) trace') released refl refl
-=======
-  pub row-kept : row_of_parts disks p m s' A' v hand trace' ≡ row_of_parts disks p m s A v hand trace
-  row-kept =
-      row-same hand hand (option_and_then (unit_at disks) hand.unit) (option_and_then (unit_at disks) hand.unit) (option_map (progress s) hand.task) (option_map (progress s') hand.task) _ _ _ _ _ _ _ _ (filter (is_event_of v.0) trace) (filter (is_event_of v.0) trace') refl refl
->>>>>>> 3708c698 (Not proved yet above the core: arrays stand beside the state, and neither a legal trace nor coherence names a codelet)
       (map-option (progress s') (progress s) hand.task (λ u e. stays.phase u (mine u e)))
       (map-option _ _ hand.task (λ u e. same-cells u (mine u e) (is_running_on v (progress s u)) refl))
       (ap (λ (x : WorkerState). if is_some hand.task then x else idle_row) stays.holds)
@@ -238,14 +193,9 @@ module _ {D : Type 0} (faults mismatches : D → ℕ) (w : Worker) where
     where
       others : (n : ℕ) → n ≢ w.0 → row_of_number b' n ≡ row_of_number b n
       others n other =
-<<<<<<< HEAD
-          ap (λ (r : Standing D). row_of_parts r.disks r.program r.machine (state r) (worker n) (hand_in b'.hands (worker n)) r.trace (released_of b' (worker n))) run
-          ∙ ap (λ (h : Hand). row_of_parts b.run.disks b.run.program b.run.machine (state b.run) (worker n) h b.run.trace (released_of b' (worker n))) (ap (λ (hs : List Hand). hand_in hs (worker n)) hands ∙ get_or-set_other b.hands w.0 n hand empty_hand other)
-          ∙ ap (row_of_parts b.run.disks b.run.program b.run.machine (state b.run) (worker n) (hand_in b.hands (worker n)) b.run.trace) (released (worker n))
-=======
-          ap (λ (r : Standing D). row_of_parts r.disks r.program r.machine (state r) (run_arrays r) (a_worker n) (hand_in b'.hands (a_worker n)) r.trace) run
-          ∙ ap (λ (h : Hand). row_of_parts b.run.disks b.run.program b.run.machine (state b.run) (run_arrays b.run) (a_worker n) h b.run.trace) (ap (λ (hs : List Hand). hand_in hs (a_worker n)) hands ∙ get_or-set_other b.hands w.0 n hand empty_hand other)
->>>>>>> 3708c698 (Not proved yet above the core: arrays stand beside the state, and neither a legal trace nor coherence names a codelet)
+          ap (λ (r : Standing D). row_of_parts r.disks r.program r.machine (state r) (run_arrays r) (worker n) (hand_in b'.hands (worker n)) r.trace (released_of b' (worker n))) run
+          ∙ ap (λ (h : Hand). row_of_parts b.run.disks b.run.program b.run.machine (state b.run) (run_arrays b.run) (worker n) h b.run.trace (released_of b' (worker n))) (ap (λ (hs : List Hand). hand_in hs (worker n)) hands ∙ get_or-set_other b.hands w.0 n hand empty_hand other)
+          ∙ ap (row_of_parts b.run.disks b.run.program b.run.machine (state b.run) (run_arrays b.run) (worker n) (hand_in b.hands (worker n)) b.run.trace) (released (worker n))
 
   -- the worker's unit was put back: nothing but the disks and its hand has changed
   pub record IsQuiet (a b : BoardState D) : Type 0 where
@@ -273,13 +223,8 @@ module _ {D : Type 0} (faults mismatches : D → ℕ) (w : Worker) where
           let m = a.run.machine in
           let s = state a.run in
           ap (λ (u : Option (UnitState D)). record (row_of_number b n) { unit = u }) (put.others v (λ same. other (ap (λ (x : Worker). x.0) same)))
-<<<<<<< HEAD
           ∙ ap (λ (x : BoardState D). record (row_of_number x n) { unit = unit_in_hand a v }) put.back
-          ∙ ap (λ (h : Hand). record (row_of_parts a.run.disks p m s v h a.run.trace (released_of a v)) { unit = unit_in_hand a v }) (get_or-set_other a.hands w.0 n (record (hand_of a w) { unit = None }) empty_hand other)
-=======
-          ∙ ap (λ (x : BoardState D). record (row_of_number x n) { unit = unit_of a v }) put.back
-          ∙ ap (λ (h : Hand). record (row_of_parts a.run.disks p m s (run_arrays a.run) v h a.run.trace) { unit = unit_of a v }) (get_or-set_other a.hands w.0 n (record (hand_of a w) { unit = None }) empty_hand other)
->>>>>>> 3708c698 (Not proved yet above the core: arrays stand beside the state, and neither a legal trace nor coherence names a codelet)
+          ∙ ap (λ (h : Hand). record (row_of_parts a.run.disks p m s (run_arrays a.run) v h a.run.trace (released_of a v)) { unit = unit_in_hand a v }) (get_or-set_other a.hands w.0 n (record (hand_of a w) { unit = None }) empty_hand other)
 
   pub put-turn : (a b : BoardState D) → PutsUnitBack w a b → CountsStay faults mismatches a.run.disks.disks b.run.disks.disks → IsTurnOf faults mismatches w a b
   put-turn a b put counts =
@@ -292,11 +237,7 @@ module _ {D : Type 0} (faults mismatches : D → ℕ) (w : Worker) where
     key = ap key_of same;
     others = λ n other. (
         ap (λ (x : BoardState D). row_of_number x n) same
-<<<<<<< HEAD
-        ∙ ap (λ (h : Hand). row_of_parts b.run.disks b.run.program b.run.machine (state b.run) (worker n) h b.run.trace (released_of b (worker n))) (get_or-set_other b.hands w.0 n (record (hand_of b w) { unit = Some u.cell }) empty_hand other)
-=======
-        ∙ ap (λ (h : Hand). row_of_parts b.run.disks b.run.program b.run.machine (state b.run) (run_arrays b.run) (a_worker n) h b.run.trace) (get_or-set_other b.hands w.0 n (record (hand_of b w) { unit = Some u.cell }) empty_hand other)
->>>>>>> 3708c698 (Not proved yet above the core: arrays stand beside the state, and neither a legal trace nor coherence names a codelet)
+        ∙ ap (λ (h : Hand). row_of_parts b.run.disks b.run.program b.run.machine (state b.run) (run_arrays b.run) (worker n) h b.run.trace (released_of b (worker n))) (get_or-set_other b.hands w.0 n (record (hand_of b w) { unit = Some u.cell }) empty_hand other)
         );
     one_event = inl (ap (λ (x : BoardState D). x.run.trace) same);
     events = ([], ap (λ (x : BoardState D). (row_in x w).events) same ∙ sym (append-nil (row_in b w).events));
@@ -340,18 +281,11 @@ module _ {D : Type 0} (faults mismatches : D → ℕ) (w : Worker) where
         others n other =
             let v = worker n in
             let differs : v ≢ w = λ same. other (ap (λ (x : Worker). x.0) same) in
-<<<<<<< HEAD
-            ap (λ (r : Standing D). row_of_parts r.disks r.program r.machine (state r) v (hand_of b' v) r.trace (released_of b' v)) run
-            ∙ ap (λ (h : Hand). row_of_parts b.run.disks p m s' v h (b.run.trace ++ e ∷ []) (released_of b' v)) (hands v differs)
-            ∙ row-kept b.run.disks p m (state b.run) s' v (hand_of b v) b.run.trace (b.run.trace ++ e ∷ []) (Step-stays p m (state b.run) the-state v w differs e s' by can (state_of-more p m b.run.trace e) spared)
-            (λ u has. sound.inside.hands_agree.has v u has) (events-other n b.run.trace e (by-other m (state b.run) w v e differs by)) (released_of b' v)
-            ∙ ap (row_of_parts b.run.disks p m (state b.run) v (hand_of b v) b.run.trace) (rest v differs)
-=======
-            ap (λ (r : Standing D). row_of_parts r.disks r.program r.machine (state r) (run_arrays r) v (hand_of b' v) r.trace) run
-            ∙ ap (λ (h : Hand). row_of_parts b.run.disks p m s' A' v h (b.run.trace ++ e ∷ [])) (hands v differs)
+            ap (λ (r : Standing D). row_of_parts r.disks r.program r.machine (state r) (run_arrays r) v (hand_of b' v) r.trace (released_of b' v)) run
+            ∙ ap (λ (h : Hand). row_of_parts b.run.disks p m s' A' v h (b.run.trace ++ e ∷ []) (released_of b' v)) (hands v differs)
             ∙ row-kept b.run.disks p m (state b.run) s' (run_arrays b.run) A' v (hand_of b v) b.run.trace (b.run.trace ++ e ∷ []) (Step-stays p m (state b.run) (run_arrays b.run) the-state v w differs e s' A' by can (state_of-more p m b.run.trace e) spared)
-            (λ u has. sound.inside.hands_agree.has v u has) (events-other n b.run.trace e (by-other m (state b.run) w v e differs by))
->>>>>>> 3708c698 (Not proved yet above the core: arrays stand beside the state, and neither a legal trace nor coherence names a codelet)
+            (λ u has. sound.inside.hands_agree.has v u has) (events-other n b.run.trace e (by-other m (state b.run) w v e differs by)) (released_of b' v)
+            ∙ ap (row_of_parts b.run.disks p m (state b.run) (run_arrays b.run) v (hand_of b v) b.run.trace) (rest v differs)
 
 -- the board is sound for the desk after a turn
 pub shared-sound : {D : Type 0} (size faults mismatches : D → ℕ) (held : D → Option (List ℕ)) (w : Worker) (old new : BoardState D) → IsSharedSound size faults mismatches held old → IsTurnOf faults mismatches w old new → IsSoundBoard size faults mismatches held new → IsSharedSound size faults mismatches held new

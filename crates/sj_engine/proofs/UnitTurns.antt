@@ -17,23 +17,13 @@ use Rattle.sj_disk.specs.Directory.{DiskState, extent_of, last_store}
 use Rattle.sj_disk.specs.Lending.{IsInFor, IsTaken}
 use Rattle.sj_disk.specs.Rack.{is_out}
 use Rattle.sj_disk.specs.Units.{UnitFetches, UnitState, UnitStores, unit_state}
-<<<<<<< HEAD
-use Rattle.sj_machine.specs.Standing.{IsFetching, IsMovingOut, IsTileOf, is_node, state}
+use Rattle.sj_machine.specs.Standing.{IsFetching, IsMovingOut, IsTileOf, is_node, run_arrays, state}
 use Rattle.sj_machine.specs.Units.{HasBlockOf, HasFetchedMoved, HasItsDiskIn, HasStoredMoved, IsDiskMove, IsUnitOf, lent}
 use Rattle.sj_board.specs.Board.{BoardState, GivesUnitBack, IsBusy, empty_hand, hand_of, has_taken, released_of, transfer_of}
 use Rattle.sj_board.specs.BoardRow.{BoardRow, arrays_for, is_event_of, key_of}
 use Rattle.sj_board.specs.BoardSound.{IsSoundBoard}
 use Rattle.sj_board.specs.Units.{OthersKeepUnits, unit_at}
 use Rattle.sj_board.specs.declared.hand.Hand.{Hand}
-=======
-use Rattle.sj_machine.specs.Agrees.{idle}
-use Rattle.sj_machine.specs.Board.{BoardState, GivesUnitBack, IsBusy, empty_hand, hand_of, has_taken, transfer_of}
-use Rattle.sj_machine.specs.BoardRow.{BoardRow, arrays_for, is_event_of, key_of}
-use Rattle.sj_machine.specs.BoardSound.{IsSoundBoard}
-use Rattle.sj_machine.specs.Standing.{IsFetching, IsMovingOut, IsTileOf, is_node, state, run_arrays}
-use Rattle.sj_machine.specs.Units.{HasBlockOf, HasFetchedMoved, HasItsDiskIn, HasStoredMoved, IsDiskMove, IsUnitOf, OthersKeepUnits, lent, unit_at}
-use Rattle.sj_machine.specs.declared.hand.Hand.{Hand}
->>>>>>> 3708c698 (Not proved yet above the core: arrays stand beside the state, and neither a legal trace nor coherence names a codelet)
 use Rattle.sj_engine.specs.Stage.{HoldsRow, IsCarried, MovesRow, holding_hand, row_in}
 use Rattle.sj_engine.specs.Stepping.{IsUnitFor}
 use Rattle.sj_engine.specs.Turn.{IsTurnOf, IsWorkerOf, NothingHappens, PutsUnitBack}
@@ -51,13 +41,8 @@ row_with b disks w h = record {
   unit = option_and_then (unit_at disks) h.unit;
   phase = option_map (progress (state b.run)) h.task;
   operands = option_map (arrays_for b w) h.task;
-<<<<<<< HEAD
   holds = if is_some h.task then worker_state (state b.run) w else idle_row;
-  carries = option_map (λ x. array_at b.run.program (state b.run) x.from x.cell) (if is_some h.task then transfer (state b.run) w else None);
-=======
-  holds = if is_some h.task then worker_state (state b.run) w else idle;
   carries = option_map (λ x. run_arrays b.run x.cell x.from) (if is_some h.task then transfer (state b.run) w else None);
->>>>>>> 3708c698 (Not proved yet above the core: arrays stand beside the state, and neither a legal trace nor coherence names a codelet)
   writes = option_map (λ x. writes (state b.run) x.cell) (if is_some h.task then transfer (state b.run) w else None);
   events = filter (is_event_of w.0) b.run.trace;
   released = released_of b w;
@@ -212,11 +197,7 @@ module _ {D : Type 0} (size faults mismatches : D → ℕ) (held : D → Option 
       array = array;
       is_moved = IfSome-from (λ (k : Transfer). IsTileOf held b.run k.cell k.from array) (transfer (state b.run) w) tr put-transfer (record {
         dims = carried.dims;
-<<<<<<< HEAD
-        array = λ tell. same_Some array (array_at b.run.program (state b.run) tr.from tr.cell) (sym (carried.told tell) ∙ ap (option_map (λ (k : Transfer). array_at b.run.program (state b.run) k.from k.cell)) put-there);
-=======
-        array = λ tell. some-same array (run_arrays b.run tr.cell tr.from) (sym (carried.told tell) ∙ ap (option_map (λ (k : Transfer). run_arrays b.run k.cell k.from)) put-there);
->>>>>>> 3708c698 (Not proved yet above the core: arrays stand beside the state, and neither a legal trace nor coherence names a codelet)
+        array = λ tell. same_Some array (run_arrays b.run tr.cell tr.from) (sym (carried.told tell) ∙ ap (option_map (λ (k : Transfer). run_arrays b.run k.cell k.from)) put-there);
       });
       fits = fits;
       stores = IfSome-from (λ (k : Transfer). UnitStores size faults mismatches held (writes (state b.run) k.cell) array.elements result before u) (transfer (state b.run) w) tr put-transfer
