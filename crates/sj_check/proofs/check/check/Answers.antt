@@ -1,5 +1,6 @@
 use Rattle.std.proofs.Common.{◌∙◌, ℕ, [], ap, subst, sym, take}
 use Rattle.std.specs.Prelude.{IfErr, IsOk}
+use Rattle.sj_core.specs.Arrays.{arrays_of}
 use Rattle.sj_core.specs.Bound.{HasAtMostThreePerTaskAndFivePerOperand}
 use Rattle.sj_core.specs.Coherent.{Coherent}
 use Rattle.sj_core.specs.Laws.{HoldsFinal}
@@ -21,7 +22,7 @@ pub returns-clause-each_state_is_coherent : goal.returns-clause-each_state_is_co
 returns-clause-each_state_is_coherent c = subst (λ (r : Replay). IsOk c.check_by-checked.result → (n : ℕ) → Coherent r.program r.machine (state_of r.program r.machine (take n c.args.trace.now.events))) c.in_ok-checker.ensures c.check_by-checked.ensures.each_state_is_coherent
 
 pub returns-clause-holds_what_all_tasks_leave : goal.returns-clause-holds_what_all_tasks_leave
-returns-clause-holds_what_all_tasks_leave c = subst (λ (r : Replay). IsOk c.check_by-checked.result → HoldsFinal r.program (state_of r.program r.machine c.args.trace.now.events)) c.in_ok-checker.ensures c.check_by-checked.ensures.holds_what_all_tasks_leave
+returns-clause-holds_what_all_tasks_leave c = subst (λ (r : Replay). IsOk c.check_by-checked.result → HoldsFinal r.program (state_of r.program r.machine c.args.trace.now.events) (arrays_of r.program r.machine c.args.trace.now.events)) c.in_ok-checker.ensures c.check_by-checked.ensures.holds_what_all_tasks_leave
 
 pub returns-clause-has_at_most_three_events_a_task_and_five_an_operand : goal.returns-clause-has_at_most_three_events_a_task_and_five_an_operand
 returns-clause-has_at_most_three_events_a_task_and_five_an_operand c = subst (λ (r : Replay). IsOk c.check_by-checked.result → HasAtMostThreePerTaskAndFivePerOperand r.program c.args.trace.now.events) c.in_ok-checker.ensures c.check_by-checked.ensures.has_at_most_three_events_a_task_and_five_an_operand
