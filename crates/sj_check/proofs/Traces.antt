@@ -5,16 +5,16 @@ use Rattle.std.specs.Prelude.{None, Some, drop, slice_get}
 use Rattle.sj_base.specs.declared.trace.Event.{Event}
 use Rattle.sj_core.proofs.Words.{Machine, Program}
 use Rattle.sj_core.proofs.Bound.{legal-within_bound}
-use Rattle.sj_core.proofs.Replaying.{finished-final, legal-coherent}
+use Rattle.sj_core.proofs.Replaying.{finished-final, legal-coherent, legal-content}
 use Rattle.sj_core.proofs.States.{legal-front, legal-last}
 use Rattle.sj_core.specs.Bound.{HasAtMostThreePerTaskAndFivePerOperand}
+use Rattle.sj_core.specs.Arrays.{HoldsContent, arrays_of}
 use Rattle.sj_core.specs.Coherent.{Coherent}
 use Rattle.sj_core.specs.Laws.{HoldsFinal}
 use Rattle.sj_core.specs.Legal.{IsComplete, IsLegal, state_of}
 use Rattle.sj_core.specs.Step.{May}
 use Rattle.sj_machine.specs.Sound.{IsRunnableOn}
 use Rattle.sj_check.specs.Refusal.{IsFirstBad, IsUnfinished}
-use Rattle.sj_core.specs.Arrays.{arrays_of}
 
 take-one : (trace : List Event) (i : ℕ) (e : Event) → slice_get trace i ≡ Some e → take (suc i) trace ≡ take i trace ++ e ∷ []
 take-one [] i e got = absurd (let no : None ≡ Some e = got in cc)
@@ -35,6 +35,10 @@ module _ (p : Program) (m : Machine) (run : IsRunnableOn p m) (trace : List Even
   -- and leaves a coherent state
   pub fronts-coherent : (n : ℕ) → Coherent p m (state_of p m (take n trace))
   fronts-coherent n = legal-coherent p m run.proper run.machine (take n trace) (fronts-legal p m trace legal n)
+
+  -- and the arrays that its tasks leave
+  pub fronts-content : (n : ℕ) → HoldsContent p m (state_of p m (take n trace)) (arrays_of p m (take n trace))
+  fronts-content n = legal-content p m run.proper run.machine run.has run.lawful (take n trace) (fronts-legal p m trace legal n)
 
   -- and a complete one what all tasks leave
   pub whole-final : IsComplete (state_of p m trace) → HoldsFinal p (state_of p m trace) (arrays_of p m trace)

@@ -3,6 +3,7 @@ use Rattle.std.specs.Prelude.{◌≡◌, Bool, List, [], ◌∷◌, ◌++◌, Ma
 use Rattle.sj_base.specs.declared.program.Program.{Program}
 use Rattle.sj_base.specs.declared.program.Machine.{Machine}
 use Rattle.sj_base.specs.declared.trace.Event.{Event}
+use Rattle.sj_core.specs.Arrays.{HoldsContent, arrays_of}
 use Rattle.sj_core.specs.Coherent.{Coherent}
 use Rattle.sj_core.specs.Legal.{IsLegal, state_of}
 use Rattle.sj_core.specs.Machine.{State}
@@ -43,8 +44,10 @@ pub record IsRefused (old : Replay) (e : Event) (new : Replay) : Type 0 where
 abbrev pub Judges : Replay → Event → Bool → Replay → Type 0
 Judges old e legal new = MatchBool legal (HappensLegally old e new) (IsRefused old e new)
 
--- the events are legal, of a program that can be run on the machine, and leave a coherent state
+-- the events are legal, of a program that can be run on the machine, and leave a coherent state and the arrays that its tasks
+-- leave
 pub record IsSoundReplay (r : Replay) : Type 0 where
   pub run : IsRunnableOn r.program r.machine
   pub legal : IsLegal r.program r.machine r.events
   pub coherent : Coherent r.program r.machine (replay_state r)
+  pub content : HoldsContent r.program r.machine (replay_state r) (arrays_of r.program r.machine r.events)

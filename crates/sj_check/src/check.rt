@@ -1,7 +1,7 @@
 //! Whether a trace is one that runs a program to its end.
 
 ghost use Rattle.std.specs.Prelude.{ℕ, ◌≡◌, [], IfErr, IsOk, take};
-ghost use Rattle.sj_core.specs.Arrays.{arrays_of};
+ghost use Rattle.sj_core.specs.Arrays.{HoldsContent, arrays_of};
 ghost use Rattle.sj_core.specs.Bound.{HasAtMostThreePerTaskAndFivePerOperand};
 ghost use Rattle.sj_core.specs.Coherent.{Coherent};
 ghost use Rattle.sj_core.specs.Laws.{HoldsFinal};
@@ -56,6 +56,10 @@ pub fn check(
     ensures refused { IfErr result (IsCheckRefusal program.value machine trace.now.events) }
     ensures each_state_is_coherent { IsOk result → (n : ℕ) →
         Coherent program.value machine (state_of program.value machine (take n trace.now.events)) }
+    ensures each_state_has_its_content { IsOk result → (n : ℕ) →
+        HoldsContent program.value machine
+            (state_of program.value machine (take n trace.now.events))
+            (arrays_of program.value machine (take n trace.now.events)) }
     ensures holds_what_all_tasks_leave { IsOk result →
         HoldsFinal program.value (state_of program.value machine trace.now.events)
             (arrays_of program.value machine trace.now.events) }
@@ -81,6 +85,10 @@ fn check_by(alloc: Global, checker: &mut Checker, trace: &Trace) -> Result<(), C
     ensures each_state_is_coherent { IsOk result → (n : ℕ) →
         Coherent checker.old.program checker.old.machine
         (state_of checker.old.program checker.old.machine (take n trace.now.events)) }
+    ensures each_state_has_its_content { IsOk result → (n : ℕ) →
+        HoldsContent checker.old.program checker.old.machine
+        (state_of checker.old.program checker.old.machine (take n trace.now.events))
+        (arrays_of checker.old.program checker.old.machine (take n trace.now.events)) }
     ensures holds_what_all_tasks_leave { IsOk result →
         HoldsFinal checker.old.program
         (state_of checker.old.program checker.old.machine trace.now.events)

@@ -1,6 +1,6 @@
 use Rattle.std.proofs.Common.{◌∙◌, ℕ, [], ap, subst, sym, take}
 use Rattle.std.specs.Prelude.{IfErr, IsOk}
-use Rattle.sj_core.specs.Arrays.{arrays_of}
+use Rattle.sj_core.specs.Arrays.{HoldsContent, arrays_of}
 use Rattle.sj_core.specs.Bound.{HasAtMostThreePerTaskAndFivePerOperand}
 use Rattle.sj_core.specs.Coherent.{Coherent}
 use Rattle.sj_core.specs.Laws.{HoldsFinal}
@@ -20,6 +20,9 @@ returns-clause-refused c = subst (λ (r : Replay). IfErr c.check_by-checked.resu
 
 pub returns-clause-each_state_is_coherent : goal.returns-clause-each_state_is_coherent
 returns-clause-each_state_is_coherent c = subst (λ (r : Replay). IsOk c.check_by-checked.result → (n : ℕ) → Coherent r.program r.machine (state_of r.program r.machine (take n c.args.trace.now.events))) c.in_ok-checker.ensures c.check_by-checked.ensures.each_state_is_coherent
+
+pub returns-clause-each_state_has_its_content : goal.returns-clause-each_state_has_its_content
+returns-clause-each_state_has_its_content c = subst (λ (r : Replay). IsOk c.check_by-checked.result → (n : ℕ) → HoldsContent r.program r.machine (state_of r.program r.machine (take n c.args.trace.now.events)) (arrays_of r.program r.machine (take n c.args.trace.now.events))) c.in_ok-checker.ensures c.check_by-checked.ensures.each_state_has_its_content
 
 pub returns-clause-holds_what_all_tasks_leave : goal.returns-clause-holds_what_all_tasks_leave
 returns-clause-holds_what_all_tasks_leave c = subst (λ (r : Replay). IsOk c.check_by-checked.result → HoldsFinal r.program (state_of r.program r.machine c.args.trace.now.events) (arrays_of r.program r.machine c.args.trace.now.events)) c.in_ok-checker.ensures c.check_by-checked.ensures.holds_what_all_tasks_leave

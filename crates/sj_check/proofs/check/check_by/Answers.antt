@@ -10,7 +10,7 @@ use Rattle.sj_check.specs.declared.check.CheckRefusal.{CheckRefusal}
 use Rattle.sj_check.specs.declared.check.CheckRefusal.TheVariants.{OutOfMemory}
 use Rattle.sj_check.specs.Replay.{IsSoundReplay, Replay, replay_state}
 use Rattle.sj_check.proofs.Ending.{loop-bad, loop-ends, loop-good}
-use Rattle.sj_check.proofs.Traces.{fronts-coherent, unfinished-now, whole-final, whole-within_bound}
+use Rattle.sj_check.proofs.Traces.{fronts-coherent, fronts-content, unfinished-now, whole-final, whole-within_bound}
 use Rattle.sj_check.proofs.check.check_by.Goals as goal
 
 pub loop-i-preserved : goal.loop-i-preserved
@@ -36,6 +36,15 @@ returns-then-is_complete-clause-each_state_is_coherent c =
     let whole = loop-ends p m events c.loop-i.i c.loop-i.checker c.loop-i.invariant (omega (arith, c.loop-i-test.false, c.len-i-end.ensures)) in
     let sound = subst IsSoundReplay whole c.is_sound-2.ensures in
     λ ok n. fronts-coherent p m sound.run events sound.legal n
+
+pub returns-then-is_complete-clause-each_state_has_its_content : goal.returns-then-is_complete-clause-each_state_has_its_content
+returns-then-is_complete-clause-each_state_has_its_content c =
+    let p = c.args.checker.now.program in
+    let m = c.args.checker.now.machine in
+    let events = c.args.trace.now.events in
+    let whole = loop-ends p m events c.loop-i.i c.loop-i.checker c.loop-i.invariant (omega (arith, c.loop-i-test.false, c.len-i-end.ensures)) in
+    let sound = subst IsSoundReplay whole c.is_sound-2.ensures in
+    λ ok n. fronts-content p m sound.run events sound.legal n
 
 pub returns-then-is_complete-clause-holds_what_all_tasks_leave : goal.returns-then-is_complete-clause-holds_what_all_tasks_leave
 returns-then-is_complete-clause-holds_what_all_tasks_leave c =

@@ -7,4 +7,5 @@ returns c = subst (λ (r : Replay). IsSoundReplay r) c.self.view_is (record {
   run = c.is_sound.ensures.run;
   legal = c.is_sound.ensures.legal;
   coherent = c.is_sound.ensures.coherent;
+  content = c.is_sound.ensures.content;
 })
