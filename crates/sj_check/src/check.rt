@@ -58,11 +58,11 @@ pub fn check(
         Coherent program.value machine (state_of program.value machine (take n trace.now.events)) }
     ensures each_state_has_its_content { IsOk result → (n : ℕ) →
         HoldsContent program.value machine
-            (state_of program.value machine (take n trace.now.events))
-            (arrays_of program.value machine (take n trace.now.events)) }
+        (state_of program.value machine (take n trace.now.events))
+        (arrays_of program.value machine (take n trace.now.events)) }
     ensures holds_what_all_tasks_leave { IsOk result →
         HoldsFinal program.value (state_of program.value machine trace.now.events)
-            (arrays_of program.value machine trace.now.events) }
+        (arrays_of program.value machine trace.now.events) }
     ensures has_at_most_three_events_a_task_and_five_an_operand { IsOk result →
         HasAtMostThreePerTaskAndFivePerOperand program.value trace.now.events }
 {
