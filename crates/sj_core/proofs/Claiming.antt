@@ -3,7 +3,6 @@ use Rattle.std.proofs.Common.{Bool, List, Some, [], ap, arith, cond, false, filt
 use Rattle.std.proofs.lemmas.Bool.{and_from, and_parts, cases_Bool, cases_lt, false_from_ne_true, false≢true, leb-true, not-true}
 use Rattle.std.proofs.lemmas.Bool.Decides.{Decides-eqb}
 use Rattle.std.proofs.lemmas.List.{get_or-set_other, get_or-set_same, get_or_past, length-set}
-
 use Rattle.sj_base.proofs.Lists.{list_any-filter}
 use Rattle.sj_base.proofs.SameIds.{workers_differ}
 use Rattle.sj_core.proofs.Words.{AtNode, Cell, CellState, Claimed, Coming, DiskNo, Invalid, Leaving, Machine, Node, OnDisk, Place, Program, Replica, Running, State, Task, Transfer, Valid, Waiting, Worker, WorkerState, cell_state, cells_of, cells_of_program, distinct, free, has_cell, is_claimed_by, is_coming_by, is_entry, is_leaving, is_leaving_by, is_pinned, is_task_of, is_valid, node_of, node_size, order, pins, progress, replica, replica_in, same_worker, scratch, scratch_bytes, task_of, tile_bytes, transfer, used, with_replica_in, worker_state, workers_at, workers_of, writes, written_cells, worked_on}

@@ -10,7 +10,7 @@ use Rattle.std.specs.{Int.w64}
 use Rattle.std.proofs.lemmas.List.{length-map}
 use Rattle.std.proofs.lemmas.List.Elements.{All-get_or, All-map, All-head, All-tail}
 use Rattle.std.proofs.lemmas.{Bool.false≢true, Bool.Decides.nat_tests}
-use Rattle.sj_base.specs.{Array.array, Array.each, Mode.is_written}
+use Rattle.sj_base.specs.{Mode.is_written}
 use Rattle.sj_base.proofs.Lists.{cons_same, map-agree}
 use Rattle.sj_base.proofs.SameIds.{same_cell-is}
 use Rattle.sj_codelet.specs.Kernel.{fits, new_arrays, arguments_fit, dims_fit, formals_of}

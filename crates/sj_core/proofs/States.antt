@@ -1,5 +1,5 @@
 -- Legal traces: where all tasks are done each was claimed, ran and ended once; and what one event more needs and leaves.
-use Rattle.std.proofs.Common.{◌≡◌, ℕ, ◌+◌, Bool, true, false, List, [], ◌∷◌, length, refl, sym, ap, ◌∙◌, arith}
+use Rattle.std.proofs.Common.{◌≡◌, ℕ, ◌+◌, Bool, true, false, List, [], ◌∷◌, length, refl, ◌∙◌, arith}
 use Rattle.std.proofs.Common.{Some, ◌++◌, count_by, nat_eq, fold}
 use Rattle.sj_core.proofs.Words.{AtNode, Claim, Claimed, Done, End, Event, Machine, Move, OnDisk, Program, Progress, zeros, dims_of}
 use Rattle.sj_core.proofs.Words.{Run, Running, State, Task, Waiting, is_done, opening, progress, Cell, Place, Worker}

@@ -1,5 +1,5 @@
 -- A computed test of legal traces, for worked runs: in it a task begins only once all earlier tasks are done.
-use Rattle.std.proofs.Common.{arith, Bool, List, None, Option, Some, [], false, length, not, refl, true, ◌&&◌, ◌∷◌, ◌≡◌}
+use Rattle.std.proofs.Common.{arith, Bool, List, None, Option, Some, [], false, length, not, true, ◌&&◌, ◌∷◌, ◌≡◌}
 use Rattle.std.proofs.Common.{is_none, is_some, nat_eq, nat_le, nat_lt}
 use Rattle.sj_core.proofs.Words.{AtNode, Cell, Claim, DiskNo, Drop, End, Event, Machine, Move, Moved, OnDisk, Place}
 use Rattle.sj_core.proofs.Words.{Program, Progress, Run, State, Task, Transfer, Waiting, commuting_cells, done_in}

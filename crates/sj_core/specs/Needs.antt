@@ -1,6 +1,6 @@
 -- What a task and a program need of the machine, in bytes: tiles on a node, blocks on disks.
 use Rattle.std.specs.Prelude.{◌≡◌, ℕ, ◌<◌, ◌≤◌, ◌+◌, ◌*◌, ◌%◌, max, Option, Some, None, List, [], ◌∷◌, map, filter, fold, sum_by, length, option_map}
-use Rattle.std.specs.List.{slice_index_or, slice_set, range_with_len, position}
+use Rattle.std.specs.List.{slice_index_or, slice_set, range_with_len}
 use Rattle.sj_base.specs.declared.ids.Cell.{Cell}
 use Rattle.sj_base.specs.declared.ids.Task.{Task}
 use Rattle.sj_base.specs.declared.ids.Node.{Node}

@@ -1,5 +1,5 @@
 -- Which victims are gone, as the rows and as the state have it.
-use Rattle.std.proofs.Common.{◌≡◌, ◌≢◌, ℕ, ◌<◌, ◌≤◌, ◌+◌, ◌-◌, ◌++◌, Bool, true, false, not, ◌&&◌, cond, List, [], ◌∷◌, Option, None, Some, length, get_or, ltb, suc, take, zero, drop, position, reverse, refl, sym, ap, ◌∙◌, inl, inr, arith}
+use Rattle.std.proofs.Common.{◌≡◌, ℕ, ◌<◌, ◌≤◌, ◌+◌, ◌-◌, ◌++◌, Bool, true, false, not, ◌&&◌, cond, List, [], ◌∷◌, Option, None, Some, length, get_or, ltb, suc, take, zero, drop, position, reverse, refl, sym, ap, ◌∙◌, inl, inr, arith}
 use Rattle.std.specs.List.{find, list_all, position_or_len}
 use Rattle.std.proofs.Math.ListN.{drop_of_length-le}
 use Rattle.std.proofs.Math.Seq.{drop-append_seam, take-add}

@@ -1,5 +1,5 @@
 -- What one legal event more leaves: a legal trace, a coherent state, and blocks that stay.
-use Rattle.std.proofs.Common.{◌≡◌, ◌<◌, ◌+◌, ◌≤◌, ℕ, true, List, [], ◌∷◌, ◌++◌, length, Option, Some, None, sym, ap, ◌∙◌, subst, arith}
+use Rattle.std.proofs.Common.{◌≡◌, ◌<◌, ◌+◌, ℕ, true, List, [], ◌∷◌, ◌++◌, length, Option, Some, None, sym, ap, ◌∙◌, subst, arith}
 use Rattle.std.specs.Prelude.{All, FitsSigned, IsSomeAnd}
 use Rattle.std.specs.Int.{w64}
 use Rattle.sj_base.specs.Recorded.{Recorded}

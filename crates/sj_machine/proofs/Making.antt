@@ -1,5 +1,5 @@
 -- A run on which nothing has happened.
-use Rattle.std.proofs.Common.{◌≡◌, ◌≤◌, ◌+◌, ◌*◌, ◌∙◌, ℕ, true, false, List, [], ◌∷◌, Option, None, Some, refl, sym, ap, subst, arith, inl, inr, length, map, replicate, sum_by, is_some}
+use Rattle.std.proofs.Common.{◌≡◌, ◌≤◌, ◌+◌, ◌*◌, ◌∙◌, ℕ, true, false, List, [], ◌∷◌, Option, None, refl, sym, ap, subst, arith, inl, inr, length, map, replicate, sum_by, is_some}
 use Rattle.std.specs.Prelude.{IfSome, IsSomeAnd, fold}
 use Rattle.std.proofs.lemmas.Bool.{cases_lt, false≢true}
 use Rattle.std.proofs.lemmas.List.{get_or-map, get_or-replicate, get_or_past, length-map, length-replicate}
@@ -9,7 +9,7 @@ use Rattle.sj_base.specs.Recorded.{Recorded}
 use Rattle.sj_base.specs.declared.trace.Event.{Event}
 use Rattle.sj_core.specs.declared.progress.Progress.{Progress}
 use Rattle.sj_core.specs.declared.progress.Progress.TheVariants.{Waiting}
-use Rattle.sj_core.proofs.Words.{Array, AtNode, Cell, DiskNo, Machine, Node, OnDisk, Program, WorkerState, dims_of, is_valid, node_size, opening, order, progress, replica, scratch, workers_at, writes}
+use Rattle.sj_core.proofs.Words.{Array, AtNode, Cell, DiskNo, Machine, Node, OnDisk, Program, WorkerState, dims_of, is_valid, node_size, opening, order, progress, replica, scratch, workers_at}
 use Rattle.sj_core.proofs.Opening.{opening-coherent, opening-content, nowhere, unwritten, no_scratch}
 use Rattle.sj_core.proofs.Reading.{idle_row}
 use Rattle.sj_core.proofs.Finding.{being_written-by}

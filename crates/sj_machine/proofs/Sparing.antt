@@ -66,11 +66,13 @@ module _ (p : Program) (m : Machine) (s : State) (h : IsSound p m s) where
     Step-spares (Move x from (AtNode n)) may c q used valid spared = (valid, refl)
     Step-spares (Move x from (OnDisk d)) may c q used valid spared = (valid, refl)
     Step-spares (Moved x from to) may c q used valid spared = moved-spares x from to c q may valid
-    Step-spares (Drop x n) may c q used valid spared =
-        (elim (replica-cases s x (AtNode n) Invalid c q) [
-          | inl same ↦ ap is_valid same ∙ valid
-          | inr (e, at, is) ↦ absurd (left-unused x n may.leaving (not-true (is_read m s x (AtNode n)) may.unread) (ap (λ (y : Cell). is_used m s y (AtNode n)) (sym e) ∙ ap (is_used m s c) (sym at) ∙ used))
-        ], refl)
+    Step-spares (Drop x n) may c q used valid spared = (
+      elim (replica-cases s x (AtNode n) Invalid c q) [
+        | inl same ↦ ap is_valid same ∙ valid
+        | inr (e, at, is) ↦ absurd (left-unused x n may.leaving (not-true (is_read m s x (AtNode n)) may.unread) (ap (λ (y : Cell). is_used m s y (AtNode n)) (sym e) ∙ ap (is_used m s c) (sym at) ∙ used))
+      ],
+      refl,
+    )
     Step-spares (Run t w) may c q used valid spared = (
       ap is_valid (run-other p m s t w (after p m s (Run t w)) may refl c q spared) ∙ valid,
       second_fails (same_place q (AtNode (node_of m w))) (has_cell (fresh_cells p t w) c) (zeros (dims_of p c)) (A c q) (run-stale p m s h t w (after p m s (Run t w)) may refl c spared),
