@@ -1,5 +1,5 @@
 -- Numbers that a worker takes from shared queues: what becomes of each.
-use Rattle.std.proofs.Common.{◌≡◌, ◌∙◌, ◌+◌, ◌++◌, ◌∷◌, [], ℕ, All, List, true, ap, arith, inl, inr, subst, sym, ◌⊎◌}
+use Rattle.std.proofs.Common.{◌≡◌, ◌∙◌, ◌+◌, ◌++◌, ◌∷◌, [], List, true, ap, arith, inl, inr, subst, sym, ◌⊎◌}
 use Rattle.std.proofs.lemmas.List.{append-nil, append_assoc}
 use Rattle.std.proofs.lemmas.List.Elements.{All-cons, All-nil}
 use Rattle.sj_base.specs.declared.ids.Task.{Task as TaskNumber}

@@ -70,7 +70,6 @@ pub record StaysFor (p : Program) (m : Machine) (s s' : State) (A A' : Arrays) (
   pub carried : (x : Transfer) → transfer s v ≡ Some x → A' x.cell x.from ≡ A x.cell x.from
   pub writes : (x : Transfer) → transfer s v ≡ Some x → writes s' x.cell ≡ writes s x.cell
 
-
 not-so : (b : Bool) → (b ≡ true → ⊥) → b ≡ false
 not-so true f = absurd (f refl)
 not-so false f = refl

@@ -1,5 +1,5 @@
 -- Where a worker gets ready tasks stays its own as it takes numbers and puts them.
-use Rattle.std.proofs.Common.{◌≡◌, ◌≢◌, ◌∙◌, ℕ, true, refl, ap}
+use Rattle.std.proofs.Common.{◌≡◌, ◌≢◌, ◌∙◌, ℕ, true, refl}
 use Rattle.sj_base.specs.declared.mode.Policy.{Policy}
 use Rattle.sj_base.specs.declared.mode.Policy.TheVariants.{Prio}
 use Rattle.sj_engine.specs.Ready.{IsItsSource, IsPassOfQueues, StaysItsSource, is_shared}

@@ -13,7 +13,7 @@ use Rattle.sj_machine.specs.Standing.{state, with_event}
 use Rattle.sj_engine.specs.Looking.{CannotClaim}
 use Rattle.sj_engine.specs.Noted.{noted_row}
 use Rattle.sj_engine.specs.Picking.{PickMakes}
-use Rattle.sj_engine.specs.Ready.{LosesNone, PutsAll, is_shared}
+use Rattle.sj_engine.specs.Ready.{LosesNone, PutsAll}
 use Rattle.sj_engine.specs.Stage.{HasClaimedRow, IsFreeRow}
 use Rattle.sj_engine.specs.Turn.{Happens, NothingHappens}
 use Rattle.sj_engine.specs.declared.picking.Picked.{Picked}

@@ -1,10 +1,9 @@
-use Rattle.std.proofs.Common.{◌≡◌, ◌≢◌, ◌++◌, ◌∙◌, Err, List, Ok, OnOk, Result, subst, sym}
+use Rattle.std.proofs.Common.{◌++◌, ◌∙◌, Err, List, Ok, OnOk, Result, subst, sym}
 use Rattle.sj_engine.proofs.ClaimTurns.{end-can, end-task, end-written, ended-row, ended-turn}
 use Rattle.std.proofs.Common.{ap}
 use Rattle.sj_base.specs.declared.trace.Event.TheVariants.{End}
 use Rattle.sj_board.specs.Board.{BoardState, HasTakenReleased}
 use Rattle.sj_base.specs.declared.ids.Task.{Task}
-use Rattle.sj_base.specs.declared.mode.Policy.TheVariants.{Prio}
 use Rattle.sj_engine.proofs.BoardTurns.{happened}
 use Rattle.sj_engine.specs.Queued.{HasReleased}
 use Rattle.sj_engine.proofs.shared_board.SharedBoard.end_and_take.Goals as goal

@@ -1,4 +1,4 @@
-use Rattle.std.proofs.Common.{arith, rules, ap, length, ℕ, ◌+◌, ◌<◌, List, refl, subst, sym, take, ◌≡◌, ◌∷◌, ◌++◌, [], ◌∙◌}
+use Rattle.std.proofs.Common.{arith, rules, ap, length, ℕ, ◌+◌, ◌<◌, List, refl, subst, sym, take, ◌∷◌, ◌++◌, [], ◌∙◌}
 use Rattle.std.proofs.lemmas.List.{length-set, take_more_set}
 use Rattle.sj_base.specs.declared.ids.Task.{Task}
 use Rattle.sj_board.specs.Board.{BoardState}
