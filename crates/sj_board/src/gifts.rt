@@ -9,7 +9,6 @@ use sj_base::ids::Worker;
 use sj_base::memory::OutOfMemory;
 use sj_base::program::Program;
 use sj_base::tile::Tile;
-use sj_machine::copies::no_tiles;
 use sj_machine::delivery::is_delivery;
 use std::alloc::Global;
 use std::marker::Model;
@@ -41,6 +40,17 @@ impl Model for Gifts {
     ghost Value = { List (Option Array) };
 
     ghost view = { λ g. arrays_in g.tiles.items };
+}
+
+/// No tile in any place. Linear in the places.
+fn no_tiles(alloc: Global, count: usize) -> Result<Vec<Option<Arc<Tile>>>, OutOfMemory>
+    ensures { IfOk result (λ v. v.items ≡ replicate count None) }
+{
+    let mut tiles = Vec::with_capacity(alloc, count)?;
+    for _i in 0..count {
+        tiles.push(None)?;
+    }
+    Ok(tiles)
 }
 
 impl Gifts {

@@ -29,6 +29,7 @@ pub mod Marking
 pub mod Marked
 pub mod NextRows
 pub mod NextSteps
+pub mod NodeCopies
 pub mod Refusing
 pub mod Shares
 pub mod Owning

@@ -1,7 +1,9 @@
--- Lists that are written one item after another.
-use Rattle.std.proofs.Common.{◌≡◌, ◌<◌, ◌+◌, ◌∷◌, [], ℕ, zero, suc, List, ◌∙◌, arith, get_or, inl, inr, length, map, refl, set, sym}
+-- Lists that are written one item after another, or in a loan.
+use Rattle.std.proofs.Common.{◌≡◌, ◌<◌, ◌+◌, ◌∷◌, [], ℕ, zero, suc, List, ◌∙◌, ap, arith, get_or, inl, inr, length, map, refl, set, subst, sym}
+use Rattle.std.proofs.Math.Seq.{take-append_seam}
+use Rattle.std.specs.List.{refill}
 use Rattle.std.proofs.lemmas.Bool.{cases_eq}
-use Rattle.std.proofs.lemmas.List.{ext_get_or, get_or-set_other, length-map}
+use Rattle.std.proofs.lemmas.List.{ext_get_or, get_or-set_other, length-map, length-set}
 use Rattle.std.proofs.lemmas.Grind.{get_or-set_at}
 
 -- one item more has the value
@@ -21,3 +23,12 @@ map-const {X} {Y} xs ys a same all =
     mapped [] i h = refl
     mapped (z ∷ zs) zero h = refl
     mapped (z ∷ zs) (suc i) h = mapped zs i (omega arith)
+
+-- ---- in a loan
+
+-- what a loan of as many items leaves is what was written
+pub refill-whole : {X : Type 0} (xs ys : List X) → length ys ≡ length xs → refill (length xs) xs ys ≡ ys
+refill-whole xs ys same = subst (λ (n : ℕ). refill n xs ys ≡ ys) same (take-append_seam ys _)
+
+pub refill-set : {X : Type 0} (xs ys : List X) (i : ℕ) (x : X) → ys ≡ xs → refill (length xs) xs (set ys i x) ≡ set xs i x
+refill-set xs ys i x same = refill-whole xs (set ys i x) (length-set ys i x ∙ ap length same) ∙ ap (λ zs. set zs i x) same

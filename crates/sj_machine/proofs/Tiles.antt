@@ -1,5 +1,5 @@
 -- Shared tiles as arrays, after one of them was put.
-use Rattle.std.proofs.Common.{◌≡◌, ◌∷◌, ℕ, [], zero, suc, List, Option, None, ap, map, refl, replicate, set}
+use Rattle.std.proofs.Common.{◌≡◌, ◌∷◌, ℕ, zero, suc, List, Option, None, ap, refl, replicate, set}
 use Rattle.std.proofs.lemmas.List.{map-set}
 use Rattle.std.specs.declared.sync.Arc.{Arc}
 use Rattle.sj_base.specs.Array.{Array}
@@ -11,7 +11,3 @@ arrays-set ts i t = map-set array_in ts i t
 pub arrays-none : (Z : Type 0) (n : ℕ) → arrays_in {Z = Z} (replicate n None) ≡ replicate n None
 arrays-none Z zero = refl
 arrays-none Z (suc n) = ap (λ (ts : List (Option Array)). None ∷ ts) (arrays-none Z n)
-
-pub arrays-cleared : {Z : Type 0} (ts : List (Option (Arc Array Z))) → arrays_in {Z = Z} (map (λ (t : Option (Arc Array Z)). None) ts) ≡ map (λ (a : Option Array). None) (arrays_in ts)
-arrays-cleared [] = refl
-arrays-cleared {Z} (t ∷ ts) = ap (λ (xs : List (Option Array)). None ∷ xs) (arrays-cleared {Z = Z} ts)

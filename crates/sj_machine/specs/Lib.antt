@@ -7,6 +7,7 @@ pub mod Delivery
 pub mod Gone
 pub mod Headers
 pub mod Mark
+pub mod NodeCopy
 pub mod Operands
 pub mod Placing
 pub mod Plan
@@ -17,6 +18,7 @@ pub mod Sound
 pub mod Sparing
 pub mod Spent
 pub mod Standing
+pub mod TileMark
 pub mod Tiles
 pub mod Todo
 pub mod Units

@@ -1,106 +1,111 @@
 //! What is kept of the copies of one cell.
 
-ghost use Rattle.std.specs.Prelude.{◌≡◌, ◌+◌, ◌^◌, ◌<◌, ◌≤◌, IfOk, IfSome, IsTrue, Some, None, is_some, length, map, position, replicate};
+ghost use Rattle.std.specs.Prelude.{◌≡◌, ◌+◌, ◌^◌, ◌<◌, ◌≤◌, IfOk, IfSome, IsTrue, Some, None, is_some, length, map, position, replicate, slice_index_or, slice_set};
 ghost use Rattle.std.specs.List.{list_any, range_with_len};
 ghost use Rattle.sj_machine.specs.Mark.{is_there};
 ghost use Rattle.sj_machine.specs.Copies.{first_node, is_copy_beside, is_elsewhere, lent_at, mark_at, none_at, stored, tile_at, with_copy, written_at};
+ghost use Rattle.sj_machine.specs.NodeCopy.{bare_copy, lent_copy, marks_in};
 ghost use Rattle.sj_machine.specs.Plan.{with_mark};
 ghost use Rattle.sj_machine.specs.Tiles.{array_in};
 
 use crate::mark::Mark;
+use crate::node_copy::NodeCopy;
 use crate::spent::Spent;
 use sj_base::ids::Node;
 use sj_base::memory::OutOfMemory;
 use sj_base::tile::Tile;
+use smallvec::SmallVec;
 use std::alloc::Global;
 use std::marker::Model;
+use std::mem::size_of;
 use std::sync::Arc;
 
-/// What a cell is at each node, the tiles there, and whether its block on a disk is a copy.
+/// What a cell is at each node, the tiles there, and whether its block on a disk is a copy. What is kept of up to two nodes lies
+/// in the value itself; of more it is one block.
 #[derive(Drop)]
 pub struct Copies {
-    marks: Vec<Mark>,
-    /// The tile at each node, where the cell has a copy there that no task writes.
-    tiles: Vec<Option<Arc<Tile>>>,
+    /// A place for each node.
+    nodes: SmallVec<NodeCopy, 2>,
     on_disk: bool,
     /// How many tasks have written the cell.
     writes: u64,
 }
 
 impl Model for Copies {
-    ghost use Rattle.std.specs.Prelude.{◌≡◌, length};
-    ghost use Rattle.sj_machine.specs.Tiles.{arrays_in};
+    ghost use Rattle.sj_machine.specs.NodeCopy.{marks_in, tiles_in};
     ghost use Rattle.sj_machine.specs.Copies.{Copies};
 
     ghost Value = { Copies };
 
-    ghost view = { λ c. record { marks = c.marks.items; tiles = arrays_in c.tiles.items; on_disk = c.on_disk; writes = c.writes } };
-
-    ghost invariant = { λ c. length c.tiles.items ≡ length c.marks.items };
+    ghost view = { λ c. record { marks = marks_in c.nodes.items; tiles = tiles_in c.nodes.items; on_disk = c.on_disk; writes = c.writes } };
 }
 
-/// No copy in any place. Linear in the places.
-fn no_marks(alloc: Global, count: usize) -> Result<Vec<Mark>, OutOfMemory>
-    ensures { IfOk result (λ v. v.items ≡ replicate count Mark.Invalid) }
-{
-    Ok(vec![in alloc; Mark::Invalid; count]?)
-}
+// A row of up to two nodes is one cache line.
+const _: () = prove!(size_of::<Copies>() <= 64);
 
-/// No tile in any place. Linear in the places.
-pub fn no_tiles(alloc: Global, count: usize) -> Result<Vec<Option<Arc<Tile>>>, OutOfMemory>
-    ensures { IfOk result (λ v. v.items ≡ replicate count None) }
+/// No copy in any place. Takes no memory for up to two places. Linear in them.
+fn bare_copies(alloc: Global, count: usize) -> Result<SmallVec<NodeCopy, 2>, OutOfMemory>
+    ensures { IfOk result (λ v. v.items ≡ replicate count bare_copy) }
 {
-    let mut tiles = Vec::new(alloc);
+    let mut nodes = SmallVec::with_capacity(alloc, count)?;
     for _i in 0..count {
-        tiles.push(None)?;
+        nodes.push(NodeCopy::bare())?;
     }
-    Ok(tiles)
+    Ok(nodes)
+}
+
+/// What the cell is in a place. Constant time.
+fn mark_in(nodes: &[NodeCopy], k: usize) -> Mark
+    requires { k < length nodes.now }
+    ensures { result ≡ slice_index_or (marks_in nodes.now) k Mark.Invalid }
+{
+    let copy = &nodes[k];
+    copy.mark()
 }
 
 /// Whether there is a copy in another place than this. Linear in the places.
-fn is_at_another(marks: &[Mark], here: usize) -> bool
-    ensures { result ≡ list_any (is_copy_beside marks.now here)
-        (range_with_len 0 (length marks.now)) }
+fn is_at_another(nodes: &[NodeCopy], here: usize) -> bool
+    ensures { result ≡ list_any (is_copy_beside (marks_in nodes.now) here)
+        (range_with_len 0 (length nodes.now)) }
 {
-    (0..marks.len()).any(|k| k != here && marks[k].is_there())
+    (0..nodes.len()).any(|k| k != here && mark_in(nodes, k).is_there())
 }
 
 /// The first place with a copy. Linear in the places.
-fn first_copy(marks: &[Mark]) -> Option<usize>
-    ensures place { result ≡ position is_there marks.now }
-    ensures inside { IfSome result (λ k. k < length marks.now) }
+fn first_copy(nodes: &[NodeCopy]) -> Option<usize>
+    ensures place { result ≡ position (λ copy. is_there copy.mark) nodes.now }
+    ensures inside { IfSome result (λ k. k < length nodes.now) }
 {
-    marks.iter().position(|mark| mark.is_there())
+    nodes.iter().position(|copy| copy.mark().is_there())
 }
 
-/// No copy in any of these places. Linear in them.
-fn clear_marks(marks: &mut Vec<Mark>)
-    ensures { marks.new.items ≡ map (λ x. Mark.Invalid) marks.old.items }
+/// No copy in any of these places: the tiles that were there go. Linear in the places.
+fn clear_all(nodes: &mut [NodeCopy], spent: &mut Spent)
+    ensures { nodes.new ≡ map (λ x. bare_copy) nodes.old }
 {
-    for i in 0..marks.len() {
-        marks[i] = Mark::Invalid;
+    for i in 0..nodes.len() {
+        let copy = &mut nodes[i];
+        copy.clear(spent);
     }
 }
 
-/// No tile in any of these places: those that were there go. Linear in the places.
-fn clear_tiles(tiles: &mut Vec<Option<Arc<Tile>>>, spent: &mut Spent)
-    ensures { tiles.new.items ≡ map (λ x. None) tiles.old.items }
+/// The one copy is that of this place, whose tile is out; the tiles that were there go. Linear in the places.
+fn lend_in(nodes: &mut [NodeCopy], here: usize, spent: &mut Spent)
+    requires { here < length nodes.old }
+    ensures { nodes.new ≡ slice_set (map (λ x. bare_copy) nodes.old) here lent_copy }
 {
-    for i in 0..tiles.len() {
-        spent.put(tiles[i].take());
-    }
+    clear_all(nodes, spent);
+    nodes[here] = NodeCopy::of(Mark::Valid, None);
 }
 
 impl Copies {
-    /// No copy at any of so many nodes. Linear in them.
+    /// No copy at any of so many nodes. Takes no memory for up to two. Linear in them.
     pub fn none(alloc: Global, nodes: usize) -> Result<Copies, OutOfMemory>
         ensures { IfOk result (λ c. c ≡ none_at nodes) }
     {
-        let marks = no_marks(alloc, nodes)?;
-        let tiles = no_tiles(alloc, nodes)?;
+        let nodes = bare_copies(alloc, nodes)?;
         Ok(Copies {
-            marks,
-            tiles,
+            nodes,
             on_disk: false,
             writes: 0,
         })
@@ -111,7 +116,7 @@ impl Copies {
         requires { n.0 < length self.now.marks }
         ensures { result ≡ mark_at self.now n }
     {
-        self.marks[n.0 as usize]
+        mark_in(&self.nodes, n.0 as usize)
     }
 
     /// A further share of the tile at a node. Constant time.
@@ -120,10 +125,8 @@ impl Copies {
         requires there { IsTrue (is_some (tile_at self.now n)) }
         ensures { IfOk result (λ t. tile_at self.now n ≡ Some t.value) }
     {
-        match &self.tiles[n.0 as usize] {
-            Some(tile) => Ok(tile.clone()?),
-            None => unreachable!(),
-        }
+        let copy = &self.nodes[n.0 as usize];
+        copy.share()
     }
 
     /// Whether its block on a disk is a copy. Constant time.
@@ -137,7 +140,7 @@ impl Copies {
     pub fn is_elsewhere(&self, n: Node) -> bool
         ensures { result ≡ is_elsewhere self.now n }
     {
-        self.on_disk || is_at_another(&self.marks, n.0 as usize)
+        self.on_disk || is_at_another(&self.nodes, n.0 as usize)
     }
 
     /// The node with the least number at which a copy is. Linear in the nodes.
@@ -145,7 +148,7 @@ impl Copies {
         requires { length self.now.marks ≤ 16 }
         ensures { result ≡ first_node self.now }
     {
-        match first_copy(&self.marks) {
+        match first_copy(&self.nodes) {
             Some(k) => Some(Node(k as u8)),
             None => None,
         }
@@ -163,8 +166,7 @@ impl Copies {
         requires { n.0 < length self.old.marks }
         ensures { self.new ≡ with_copy self.old n mark (array_in tile) }
     {
-        self.marks[n.0 as usize] = mark;
-        self.tiles[n.0 as usize] = tile;
+        self.nodes[n.0 as usize] = NodeCopy::of(mark, tile);
     }
 
     /// The copy at a node goes, with its tile. Constant time.
@@ -172,8 +174,8 @@ impl Copies {
         requires { n.0 < length self.old.marks }
         ensures { self.new ≡ with_copy self.old n Mark.Invalid None }
     {
-        self.marks[n.0 as usize] = Mark::Invalid;
-        spent.put(self.tiles[n.0 as usize].take());
+        let copy = &mut self.nodes[n.0 as usize];
+        copy.clear(spent);
     }
 
     /// Puts a mark at a node; the tile stays. Constant time.
@@ -181,7 +183,8 @@ impl Copies {
         requires { n.0 < length self.old.marks }
         ensures { self.new ≡ with_mark self.old n mark }
     {
-        self.marks[n.0 as usize] = mark;
+        let copy = &mut self.nodes[n.0 as usize];
+        copy.set_mark(mark);
     }
 
     /// Its block on a disk is a copy from now on. Constant time.
@@ -196,9 +199,7 @@ impl Copies {
         requires { n.0 < length self.old.marks }
         ensures { self.new ≡ lent_at self.old n }
     {
-        clear_marks(&mut self.marks);
-        clear_tiles(&mut self.tiles, spent);
-        self.marks[n.0 as usize] = Mark::Valid;
+        lend_in(&mut self.nodes, n.0 as usize, spent);
         self.on_disk = false;
     }
 
@@ -208,8 +209,7 @@ impl Copies {
         requires few { self.old.writes + 1 < 2 ^ 64 }
         ensures { self.new ≡ written_at self.old n tile.value }
     {
-        self.marks[n.0 as usize] = Mark::Valid;
-        self.tiles[n.0 as usize] = Some(tile);
+        self.nodes[n.0 as usize] = NodeCopy::of(Mark::Valid, Some(tile));
         self.writes += 1;
     }
 }

@@ -15,6 +15,7 @@ pub mod hold;
 pub mod leaving;
 pub mod mark;
 pub mod needs;
+mod node_copy;
 pub mod operands;
 pub mod placing;
 pub mod plan;

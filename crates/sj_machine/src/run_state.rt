@@ -108,7 +108,7 @@ fn waiting(alloc: Global, count: usize) -> Result<Vec<Progress>, OutOfMemory>
 fn no_copies(alloc: Global, count: usize, nodes: usize) -> Result<Vec<Copies>, OutOfMemory>
     ensures { IfOk result (λ v. v.items ≡ replicate count (none_at nodes)) }
 {
-    let mut rows = Vec::new(alloc);
+    let mut rows = Vec::with_capacity(alloc, count)?;
     for _i in 0..count {
         rows.push(Copies::none(alloc, nodes)?)?;
     }
@@ -119,7 +119,7 @@ fn no_copies(alloc: Global, count: usize, nodes: usize) -> Result<Vec<Copies>, O
 fn empty_nodes(alloc: Global, sizes: &[u64], cells: u32) -> Result<Vec<NodeStore>, OutOfMemory>
     ensures { IfOk result (λ v. v.items ≡ map (λ size. empty size cells) sizes.now) }
 {
-    let mut nodes = Vec::new(alloc);
+    let mut nodes = Vec::with_capacity(alloc, sizes.len())?;
     for size in sizes {
         nodes.push(NodeStore::make(alloc, *size, cells)?)?;
     }
@@ -130,7 +130,7 @@ fn empty_nodes(alloc: Global, sizes: &[u64], cells: u32) -> Result<Vec<NodeStore
 fn idle_workers(alloc: Global, count: u8) -> Result<Vec<Hold>, OutOfMemory>
     ensures { IfOk result (λ v. v.items ≡ replicate count idle_row) }
 {
-    let mut workers = Vec::new(alloc);
+    let mut workers = Vec::with_capacity(alloc, count as usize)?;
     for _i in 0..count {
         workers.push(Hold::nothing(alloc))?;
     }

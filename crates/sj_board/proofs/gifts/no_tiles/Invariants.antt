@@ -1,5 +1,5 @@
 use Rattle.std.proofs.Common.{◌≡◌, None, replicate}
-use Rattle.sj_machine.proofs.copies.no_tiles.Given as goal
+use Rattle.sj_board.proofs.gifts.no_tiles.Given as goal
 
 abbrev pub invariant-loop-i : goal.invariant-loop-i
 invariant-loop-i l = l.tiles.items ≡ replicate l._i None
