@@ -11,10 +11,12 @@ use Rattle.sj_base.specs.declared.trace.Event.TheVariants.{Drop, End, Moved}
 use Rattle.sj_core.proofs.Placing.{cells_differ, valid-row, valid-within}
 use Rattle.sj_core.proofs.Reading.{cells-untouched, no_row}
 use Rattle.sj_core.proofs.States.{state_of-more}
-use Rattle.sj_core.proofs.Words.{AtNode, Cell, CellState, DiskNo, Invalid, Machine, Node, OnDisk, Place, Program, Replica, State, Task, Valid, Worker, cell_state, dims_of, has_cell, is_valid, progress, replica, replica_in, with_replica, with_replica_in, writes}
+use Rattle.sj_core.proofs.Words.{AtNode, Cell, CellState, DiskNo, Machine, Node, OnDisk, Place, Program, State, Task, Worker, cell_state, dims_of, has_cell, is_valid, progress, replica, replica_in, with_replica, with_replica_in, writes}
 use Rattle.sj_core.specs.Coherent.{Coherent}
 use Rattle.sj_core.specs.Operands.{written_cells}
 use Rattle.sj_core.specs.Step.{after, after_end, written_once_more}
+use Rattle.sj_core.specs.declared.mark.Mark.{Mark}
+use Rattle.sj_core.specs.declared.mark.Mark.TheVariants.{Invalid, Valid}
 use Rattle.sj_disk.specs.Block.{header}
 use Rattle.sj_disk.specs.declared.header.Header.{Header}
 use Rattle.sj_machine.specs.Cause.{HasCause}
@@ -34,7 +36,7 @@ last-kept p s s' keeps d want last =
 
 -- ---- one replica is written
 
-writes-same : (row : CellState) (q : Place) (r : Replica) → (with_replica_in row q r).writes ≡ row.writes
+writes-same : (row : CellState) (q : Place) (r : Mark) → (with_replica_in row q r).writes ≡ row.writes
 writes-same row (AtNode n) r = refl
 writes-same row (OnDisk d) r = refl
 
@@ -49,7 +51,7 @@ valid-still row (OnDisk k) d valid = elim (cases_eq d.0 k.0) [
   | inr far ↦ ap is_valid (get_or-set_other row.disks k.0 d.0 Valid Invalid far) ∙ valid
 ]
 
-kept-beside : (s : State) (c : Cell) (q : Place) (r : Replica) → ((d : DiskNo) → is_valid (replica_in (cell_state s c) (OnDisk d)) ≡ true → is_valid (replica_in (with_replica_in (cell_state s c) q r) (OnDisk d)) ≡ true) → KeepsOnDisks s (with_replica s c q r)
+kept-beside : (s : State) (c : Cell) (q : Place) (r : Mark) → ((d : DiskNo) → is_valid (replica_in (cell_state s c) (OnDisk d)) ≡ true → is_valid (replica_in (with_replica_in (cell_state s c) q r) (OnDisk d)) ≡ true) → KeepsOnDisks s (with_replica s c q r)
 kept-beside s c q r still x d valid = elim (cells_differ x c) [
   | inr far ↦ (
       let same : cell_state (with_replica s c q r) x ≡ cell_state s x = get_or-set_other s.cells c.0 x.0 (with_replica_in (cell_state s c) q r) no_row (λ e. far (ap (λ (i : ℕ). let k : Cell = record { 0 = i } in k) e)) in

@@ -14,10 +14,11 @@ use Rattle.sj_core.proofs.Placing.{replica-cases, victims-same}
 use Rattle.sj_core.proofs.Reading.{workers_differ}
 use Rattle.sj_core.proofs.Running.{run-leaving, run-worker}
 use Rattle.sj_core.proofs.States.{one-mover, state_of-more}
-use Rattle.sj_core.proofs.Words.{AtNode, Cell, Invalid, Machine, Node, OnDisk, Program, State, Task, Valid, Worker, WorkerState, is_gone, is_leaving_by, node_of, replica, transfer, victims_of, with_replica}
+use Rattle.sj_core.proofs.Words.{AtNode, Cell, Machine, Node, OnDisk, Program, State, Task, Worker, WorkerState, is_gone, is_leaving_by, node_of, replica, transfer, victims_of, with_replica}
 use Rattle.sj_core.specs.Laws.{IsSound}
 use Rattle.sj_core.specs.Step.{May, a_transfer, after}
 use Rattle.sj_core.specs.declared.progress.Transfer.{Transfer}
+use Rattle.sj_core.specs.declared.mark.Mark.TheVariants.{Invalid, Valid}
 use Rattle.sj_disk.specs.Directory.{DiskState}
 use Rattle.sj_machine.specs.Gone.{AreGone}
 use Rattle.sj_machine.specs.Sound.{IsSoundRun}

@@ -14,40 +14,27 @@ use Rattle.sj_core.proofs.Placing.{valid-row}
 use Rattle.sj_core.proofs.Readiness.{done_tasks-done, done_tasks-has}
 use Rattle.sj_core.proofs.Reading.{no_row, progress-inside}
 use Rattle.sj_core.proofs.Replicas.{leaving_by-is, same_worker-refl}
-use Rattle.sj_core.proofs.Words.{AtNode, Cell, CellState, Coming, DiskNo, Invalid, Leaving, Machine, Node, OnDisk, Place, Program, Replica, State, Task, Valid, Worker, footprint, has_room, is_coming_by, is_done, is_leaving, is_task_of, node_of, node_size, progress, replica}
+use Rattle.sj_core.proofs.Words.{AtNode, Cell, CellState, DiskNo, Machine, Node, OnDisk, Place, Program, State, Task, Worker, footprint, has_room, is_coming_by, is_done, is_leaving, is_task_of, node_of, node_size, progress, replica}
 use Rattle.sj_core.specs.Coherent.{Coherent, is_begun}
 use Rattle.sj_core.specs.declared.progress.Progress.TheVariants.{Claimed, Running, Waiting}
 use Rattle.sj_core.specs.Machine.{replica_in}
 use Rattle.sj_core.specs.Operands.{commuting_cells, written_cells}
 use Rattle.sj_core.specs.Step.{May, claimant_of, done_tasks, is_in_use, is_moving, is_present, mover_of, none_leaving}
+use Rattle.sj_core.specs.declared.mark.Mark.{Mark}
+use Rattle.sj_core.specs.declared.mark.Mark.TheVariants.{Coming, Invalid, Leaving, Valid}
 use Rattle.sj_deps.specs.Conflict.{Ready}
 use Rattle.sj_deps.specs.Progress.{Dependencies}
 use Rattle.sj_machine.specs.ReadyTasks.{CountsDone}
-use Rattle.sj_machine.specs.Mark.{mark_of}
-use Rattle.sj_machine.specs.declared.mark.Mark.TheVariants.{Coming as ComingMark}
 use Rattle.sj_machine.specs.declared.plan.Why.{Why}
 use Rattle.sj_machine.specs.declared.plan.Why.TheVariants.{Commute, Leaving as LeavingCopy, NoRoom}
 use Rattle.sj_machine.specs.Planning.{IsWhy, MayClaim}
 use Rattle.sj_machine.specs.Todo.{may_run}
 use Rattle.sj_machine.proofs.Resting.{leaving-valid}
 use Rattle.sj_machine.proofs.Stepping.{ready-same}
-use Rattle.sj_check.specs.Watching.{HasTasks, claimant_in, task_in}
+use Rattle.sj_check.specs.Watching.{HasTasks, task_in}
 
--- ---- marks
+-- ---- what the tests of code tell
 
-pub mark-coming_by : (w : Worker) (r : Replica) → ComingMark w ≡ mark_of r → r ≡ Coming w
-mark-coming_by w Invalid e = absurd (cc)
-mark-coming_by w (Coming v) e = let same : w ≡ v = cc in ap Coming (sym same)
-mark-coming_by w Valid e = absurd (cc)
-mark-coming_by w (Leaving v) e = absurd (cc)
-
-pub claimant-is : (r : Replica) → claimant_in (mark_of r) ≡ claimant_of r
-claimant-is Invalid = refl
-claimant-is (Coming v) = refl
-claimant-is Valid = refl
-claimant-is (Leaving v) = refl
-
--- what the tests of code tell
 pub fits-tells : (a b : ℕ) → leb a b ≡ true → a ≤ b
 fits-tells a b e = elim (leb_tells a b) as (λ _. a ≤ b) [ inl is ↦ is.1 | inr past ↦ absurd (false≢true (sym past.0 ∙ e)) ]
 
@@ -110,7 +97,7 @@ module _ (p : Program) (m : Machine) (s : State) (coherent : Coherent p m s) whe
   pub disk-mover : (c : Cell) (k d : DiskNo) → (let w : Worker = record { 0 = 0 } in w) ≡ mover_of s c (OnDisk k) (OnDisk d)
   disk-mover c k d = by_replica (replica s c (OnDisk k)) refl
     where
-      by_replica : (r : Replica) → replica s c (OnDisk k) ≡ r → (let w : Worker = record { 0 = 0 } in w) ≡ claimant_of r
+      by_replica : (r : Mark) → replica s c (OnDisk k) ≡ r → (let w : Worker = record { 0 = 0 } in w) ≡ claimant_of r
       by_replica Invalid e = refl
       by_replica (Coming v) e = absurd ((coherent.state.blocks.resting c k v).0 e)
       by_replica Valid e = refl

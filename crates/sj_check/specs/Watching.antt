@@ -9,8 +9,6 @@ use Rattle.sj_base.specs.declared.trace.Event.TheVariants.{Claim}
 use Rattle.sj_core.specs.Machine.{State, is_task_of, progress}
 use Rattle.sj_deps.specs.Progress.{Dependencies}
 use Rattle.sj_machine.specs.ReadyTasks.{CountsDone}
-use Rattle.sj_machine.specs.declared.mark.Mark.{Mark}
-use Rattle.sj_machine.specs.declared.mark.Mark.TheVariants.{Coming, Leaving}
 use Rattle.sj_machine.specs.Plan.{ClaimPlan, IsPlan}
 use Rattle.sj_machine.specs.Standing.{AllTell, CanHappen, Standing, state}
 use Rattle.sj_check.specs.Replay.{Replay, replay}
@@ -51,9 +49,3 @@ pub record HasEvent {D : Type 0} (old : Standing D) (e : Event) (new : Standing 
   pub machine : new.machine ≡ old.machine
   pub events : new.trace ≡ old.trace ++ e ∷ []
   pub opened : new.opened ≡ old.opened
-
--- the worker by whose claim a copy with this mark comes or leaves
-abbrev pub claimant_in : Mark → Worker
-claimant_in (Coming w) = w
-claimant_in (Leaving w) = w
-claimant_in _ = record { 0 = 0 }

@@ -5,18 +5,18 @@ ghost use Rattle.sj_base.specs.declared.ids.Place.TheVariants.{Disk as OnDisk, N
 ghost use Rattle.sj_base.specs.declared.trace.Event.TheVariants.{Claim, Drop, End, Move, Moved, Run};
 ghost use Rattle.sj_core.specs.Legal.{IsComplete};
 ghost use Rattle.sj_core.specs.Machine.{is_coming_by, is_done, is_waiting, progress, replica, transfer};
-ghost use Rattle.sj_core.specs.Step.{mover_of};
+ghost use Rattle.sj_core.specs.Step.{claimant_of, mover_of};
 ghost use Rattle.sj_machine.specs.ReadyTasks.{CountsDone};
 ghost use Rattle.sj_machine.specs.Planning.{MayClaim};
 ghost use Rattle.sj_machine.specs.Standing.{CanHappen, state};
-ghost use Rattle.sj_check.specs.Watching.{HasTasks, IsClaimPlan, claimant_in, task_in};
+ghost use Rattle.sj_check.specs.Watching.{HasTasks, IsClaimPlan, task_in};
 
 use sj_base::ids::{Cell, DiskNo, Node, Place, Task, Worker};
 use sj_base::memory::OutOfMemory;
+use sj_core::mark::Mark;
 use sj_core::progress::{Progress, Transfer};
 use sj_deps::deps::Deps;
 use sj_edge::disk::Disk;
-use sj_machine::mark::Mark;
 use sj_machine::plan::Plan;
 use sj_machine::run_state::RunState;
 use sj_needs::footprint::footprint;
@@ -84,7 +84,7 @@ fn transfer_of<D: Disk>(run: &RunState<D>, w: Worker) -> Option<Transfer>
 
 /// The worker by whose claim a copy comes or leaves. Constant time.
 fn claimant(mark: Mark) -> Worker
-    ensures { result ≡ claimant_in mark }
+    ensures { result ≡ claimant_of mark }
 {
     match mark {
         Mark::Coming(w) | Mark::Leaving(w) => w,

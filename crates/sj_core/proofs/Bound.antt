@@ -3,7 +3,7 @@ use Rattle.std.proofs.Common.{Bool, List, [], ap, arith, cond, false, get_or, le
 use Rattle.std.proofs.Common.{zero, ℕ, ◌*◌, ◌+◌, ◌<◌, ◌||◌, ◌∙◌, ◌∷◌, ◌≡◌, ◌≤◌, None, Option, Some, set}
 use Rattle.std.proofs.Common.{slice_set, count_by, nat_eq, nat_le, nat_lt, sum_by, ◌&&◌, if◌then◌else◌, is_some}
 use Rattle.sj_core.proofs.Words.{AtNode, Cell, CellState, Claimed, Coming, DiskNo, Done, Event, Invalid}
-use Rattle.sj_core.proofs.Words.{Leaving, Lowered, Machine, Node, OnDisk, Place, Program, Progress, Replica, Running}
+use Rattle.sj_core.proofs.Words.{Leaving, Lowered, Machine, Mark, Node, OnDisk, Place, Program, Progress, Running}
 use Rattle.sj_core.proofs.Words.{State, Task, Transfer, Valid, Waiting, Worker, WorkerState, cell_state, cells_of}
 use Rattle.sj_core.proofs.Words.{data_operands, has_cell, is_entry, is_leaving, is_leaving_by, is_valid, no_task}
 use Rattle.sj_core.proofs.Words.{node_of, opening, progress, replica, replica_in, same_cell, scratch_bytes, task_of}
@@ -89,7 +89,7 @@ rows-within n (c ∷ cs) =
 
 -- one that comes is still moved in, which begins and ends, and is valid then; one that is valid is still moved out, which
 -- begins and ends, and dropped; one that leaves is only dropped where a disk has the cell
-abbrev pub weight : Bool → Replica → ℕ
+abbrev pub weight : Bool → Mark → ℕ
 weight on_disk Invalid = 0
 weight on_disk (Coming w) = 5
 weight on_disk Valid = 3
@@ -109,24 +109,24 @@ cost s = sum_by cost_of s.cells
 
 -- ---- one replica
 
-pub entry-weighs : (b : Bool) (r : Replica) → is_entry r ≡ true → 3 ≤ weight b r
+pub entry-weighs : (b : Bool) (r : Mark) → is_entry r ≡ true → 3 ≤ weight b r
 entry-weighs b r h = search (arith, false≢true)
 
-pub leaving-weighs : (b : Bool) (r : Replica) → is_leaving r ≡ true → 1 ≤ weight b r
+pub leaving-weighs : (b : Bool) (r : Mark) → is_leaving r ≡ true → 1 ≤ weight b r
 leaving-weighs b r h = search (arith, false≢true)
 
 -- a victim weighs no more than it did
-leave-weighs : (w : Worker) (b : Bool) (r : Replica) → weight b (leave w r) ≤ weight b r
+leave-weighs : (w : Worker) (b : Bool) (r : Mark) → weight b (leave w r) ≤ weight b r
 leave-weighs w b r = search arith
 
 -- a claim adds the weight of a cell that comes
-claimed-weighs : (w : Worker) (evicted missing : List Cell) (c : Cell) (brought : Bool) → (has_cell missing c ≡ true → brought ≡ true) → (b : Bool) (r : Replica) → weight b (claimed_replica w evicted missing c r) ≤ weight b r + cond brought 5 0
+claimed-weighs : (w : Worker) (evicted missing : List Cell) (c : Cell) (brought : Bool) → (has_cell missing c ≡ true → brought ≡ true) → (b : Bool) (r : Mark) → weight b (claimed_replica w evicted missing c r) ≤ weight b r + cond brought 5 0
 claimed-weighs w evicted missing c brought comes b r = search (arith, weight, leave-weighs)
 
 -- ---- the row of a cell
 
 -- one replica on a node in place of another
-pub replaced : (row : CellState) (n : Node) (r : Replica) → n.0 < length row.nodes → cost_of (with_replica_in row (AtNode n) r) + weight (is_on_disk row) (replica_in row (AtNode n)) ≡ cost_of row + weight (is_on_disk row) r
+pub replaced : (row : CellState) (n : Node) (r : Mark) → n.0 < length row.nodes → cost_of (with_replica_in row (AtNode n) r) + weight (is_on_disk row) (replica_in row (AtNode n)) ≡ cost_of row + weight (is_on_disk row) r
 replaced row n r inside = sum_by-set (weight (is_on_disk row)) row.nodes n.0 r Invalid inside
 
 -- after a claim that brings the cell, or not
@@ -137,7 +137,7 @@ claimed-costs row n w evicted missing c brought comes inside = search (arith, re
 pub entry-costs : (row : CellState) (n : Node) → n.0 < length row.nodes → is_entry (replica_in row (AtNode n)) ≡ true → 3 ≤ cost_of row
 entry-costs row n inside entry = search (arith, get_or-le-sum_by, weight, is_on_disk, entry-weighs)
 
-invalid-costs : (b : Bool) (rs : List Replica) → sum_by (weight b) (map (λ r. Invalid) rs) ≡ 0
+invalid-costs : (b : Bool) (rs : List Mark) → sum_by (weight b) (map (λ r. Invalid) rs) ≡ 0
 invalid-costs b [] = refl
 invalid-costs b (r ∷ rs) = let first = sum_by-cons (weight b) Invalid (map (λ q. Invalid) rs) in let rest = invalid-costs b rs in omega arith
 
@@ -147,7 +147,7 @@ owned-costs row n inside = alone (is_on_disk (owned_at n row))
   where
     alone : (b : Bool) → sum_by (weight b) (slice_set (map (λ r. Invalid) row.nodes) n.0 Valid) ≤ 3
     alone b =
-        let all = sum_by-set (weight b) (map (λ r. Invalid) row.nodes) n.0 Valid Invalid (omega (arith, inside, length-map row.nodes (λ (r : Replica). Invalid))) in
+        let all = sum_by-set (weight b) (map (λ r. Invalid) row.nodes) n.0 Valid Invalid (omega (arith, inside, length-map row.nodes (λ (r : Mark). Invalid))) in
         omega (arith, invalid-costs b row.nodes)
 
 -- a disk gets the cell, which leaves a node
@@ -157,7 +157,7 @@ written-costs row d n within none inside leaving =
     let all = sum-rises (weight true) (weight false) is_leaving 2 lighter row.nodes n.0 Invalid inside leaving in
     omega (arith, ap (λ b. sum_by (weight b) row.nodes) there, ap (λ b. sum_by (weight b) row.nodes) none)
   where
-    lighter : (r : Replica) → weight true r + cond (is_leaving r) 2 0 ≤ weight false r
+    lighter : (r : Mark) → weight true r + cond (is_leaving r) 2 0 ≤ weight false r
     lighter r = search arith
 
 -- ---- the opening state

@@ -5,7 +5,7 @@ use Rattle.std.proofs.lemmas.Bool.Decides.{Decides-eqb}
 use Rattle.std.proofs.lemmas.List.{get_or-set_other, get_or-set_same, get_or_past, length-set}
 use Rattle.sj_base.proofs.Lists.{list_any-filter}
 use Rattle.sj_base.proofs.SameIds.{workers_differ}
-use Rattle.sj_core.proofs.Words.{AtNode, Cell, CellState, Claimed, Coming, DiskNo, Invalid, Leaving, Machine, Node, OnDisk, Place, Program, Replica, Running, State, Task, Transfer, Valid, Waiting, Worker, WorkerState, cell_state, cells_of, cells_of_program, distinct, free, has_cell, is_claimed_by, is_coming_by, is_entry, is_leaving, is_leaving_by, is_pinned, is_task_of, is_valid, node_of, node_size, order, pins, progress, replica, replica_in, same_worker, scratch, scratch_bytes, task_of, tile_bytes, transfer, used, with_replica_in, worker_state, workers_at, workers_of, writes, written_cells, worked_on}
+use Rattle.sj_core.proofs.Words.{AtNode, Cell, CellState, Claimed, Coming, DiskNo, Invalid, Leaving, Machine, Mark, Node, OnDisk, Place, Program, Running, State, Task, Transfer, Valid, Waiting, Worker, WorkerState, cell_state, cells_of, cells_of_program, distinct, free, has_cell, is_claimed_by, is_coming_by, is_entry, is_leaving, is_leaving_by, is_pinned, is_task_of, is_valid, node_of, node_size, order, pins, progress, replica, replica_in, same_worker, scratch, scratch_bytes, task_of, tile_bytes, transfer, used, with_replica_in, worker_state, workers_at, workers_of, writes, written_cells, worked_on}
 use Rattle.sj_core.specs.Coherent.{Coherent, HasEntries, HasRows, IsOwnedBy, IsStateOf, NodesSuffice, OrderIsKept, PinsHold, TasksHaveCells, TransfersAreSound, WorkersAreSound, WritersOwn, WritesAreCounted, is_being_written, used_while_leaving, WrittenIsKept}
 use Rattle.sj_core.specs.Laws.{IsSound}
 use Rattle.sj_core.specs.Proper.{IsMachineFor}
@@ -50,7 +50,7 @@ module _ (p : Program) (m : Machine) (s : State) (t : Task) (w : Worker) (s' : S
   pub absent-missing : (c : Cell) → has_cell (order s (node_of m w)) c ≡ false → has_cell (cells_of p t w) c ≡ true → has_cell (missing p s t w (node_of m w)) c ≡ true
   absent-missing c absent has = search (arith, filter-has_cell, has_cell-distinct)
 
-  abbrev new_replica : Cell → Replica
+  abbrev new_replica : Cell → Mark
   new_replica c = claimed_replica w (evicted_by p m s t w) (missing p s t w (node_of m w)) c (replica s c (AtNode (node_of m w)))
 
   claim-row : (c : Cell) → (cell_state s' c ≡ with_replica_in (cell_state s c) (AtNode (node_of m w)) (new_replica c)) ⊎ ((cell_state s c ≡ no_row) × (cell_state s' c ≡ no_row))

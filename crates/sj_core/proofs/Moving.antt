@@ -7,7 +7,7 @@ use Rattle.sj_base.proofs.SameIds.{same_cell-itself, same_place-itself, same_cel
 use Rattle.sj_core.specs.Coherent.{Coherent, HasBlocks, HasRows, IsOwnedBy, IsTransferTo, TransfersAreSound, IsClaimed, WrittenIsKept}
 use Rattle.sj_core.specs.Laws.{IsSound}
 use Rattle.sj_core.specs.Step.{CanDrop, CanMoveIn, CanMoveOut, a_transfer, disk_of, is_fresh, is_read, reads, same_place}
-use Rattle.sj_core.proofs.Words.{AtNode, Cell, CellState, Claimed, Machine, Node, Place, Program, Running, State, Task, Transfer, Worker, WorkerState, has_cell, is_claimed_by, is_coming_by, is_entry, is_leaving_by, is_valid, moves, node_of, pins, progress, replica, scratch, transfer, victims_of, writes, DiskNo, OnDisk, with_transfer, Invalid, fresh_cells, Coming, Leaving, Replica, Valid, same_cell, with_replica, is_leaving, Moved}
+use Rattle.sj_core.proofs.Words.{AtNode, Cell, CellState, Claimed, Machine, Mark, Node, Place, Program, Running, State, Task, Transfer, Worker, WorkerState, has_cell, is_claimed_by, is_coming_by, is_entry, is_leaving_by, is_valid, moves, node_of, pins, progress, replica, scratch, transfer, victims_of, writes, DiskNo, OnDisk, with_transfer, Invalid, fresh_cells, Coming, Leaving, Valid, same_cell, with_replica, is_leaving, Moved}
 use Rattle.sj_core.proofs.Advancing.{claimed-is_mine, task_of-worker, claimed_by-is}
 use Rattle.sj_core.proofs.Changing.{Changes, Changes-coherent, Changes-writers, HasBlocks-kept, TransfersAreSound-kept}
 use Rattle.sj_core.proofs.Placing.{transfer-is, pins-same, scratch-same, victims-same, owned-fails, position-none, room-leaves_none, valid-within, stays-on_disk, list_any-place, same_place-is, disks-kept, nodes-kept, replica-cases, transfer-cases, transfer-own, writes-same}
@@ -166,7 +166,7 @@ module _ (p : Program) (m : Machine) (s : State) (h : IsSound p m s) (c : Cell) 
   target_invalid : replica s c (OnDisk d) ≡ Invalid
   target_invalid = by_replica (replica s c (OnDisk d)) refl
     where
-      by_replica : (r : Replica) → replica s c (OnDisk d) ≡ r → r ≡ Invalid
+      by_replica : (r : Mark) → replica s c (OnDisk d) ≡ r → r ≡ Invalid
       by_replica Invalid e = refl
       by_replica (Coming v) e = absurd ((h.coherent.state.blocks.resting c d v).0 e)
       by_replica (Leaving v) e = absurd ((h.coherent.state.blocks.resting c d v).1 e)
@@ -190,7 +190,7 @@ module _ (p : Program) (m : Machine) (s : State) (h : IsSound p m s) (c : Cell) 
       (λ v own. false≢true (sym (owned-fails m s c v own (is_leaving_by w) refl refl from) ∙ move.leaving)) claims.0 (claimed_by-is w (progress s claims.0) claims.1)
 
 -- where a replica is replaced by one that fails a test, none passes it that didn't before
-replaced-fewer : (s : State) (c : Cell) (to : Place) (r : Replica) (test : Replica → Bool) → test r ≡ false → (x : Cell) (q : Place) → test (replica (with_replica s c to r) x q) ≡ true → test (replica s x q) ≡ true
+replaced-fewer : (s : State) (c : Cell) (to : Place) (r : Mark) (test : Mark → Bool) → test r ≡ false → (x : Cell) (q : Place) → test (replica (with_replica s c to r) x q) ≡ true → test (replica s x q) ≡ true
 replaced-fewer s c to r test fails x q passes = grind (arith, replica-cases s c to r x q)
 
 -- ---- a move that ends leaves a coherent state

@@ -2,7 +2,7 @@
 use Rattle.std.proofs.Common.{Bool, List, None, Option, Some, ap, arith, false, get_or, inl, inr, length, map, subst}
 use Rattle.std.proofs.Common.{sym, true, ℕ, ◌<◌, ◌||◌, ◌∙◌, ◌≡◌, ◌≢◌, ◌⊎◌, All, position}
 use Rattle.sj_core.proofs.Words.{AtNode, Cell, CellState, DiskNo, Invalid, Machine, Node, OnDisk, Place, Program}
-use Rattle.sj_core.proofs.Words.{Replica, State, Transfer, Valid, Worker, WorkerState, cell_state, has_room}
+use Rattle.sj_core.proofs.Words.{Mark, State, Transfer, Valid, Worker, WorkerState, cell_state, has_room}
 use Rattle.sj_core.proofs.Words.{is_leaving_by, is_valid, pins, replica, replica_in, scratch, transfer, victims_of}
 use Rattle.sj_core.proofs.Words.{with_replica, with_replica_in, with_transfer, worker_state, writes}
 use Rattle.std.proofs.lemmas.Bool.{cases_eq, cases_lt, false_from_ne_true, false≢true, ltb-false, not-true, or_right}
@@ -25,18 +25,18 @@ disks_differ d e = search (arith, cases_eq)
 -- ---- one replica
 
 -- a replica that was written where the table has the cell and its row the place is there
-pub replica-at_node : (s : State) (c : Cell) (n : Node) (r : Replica) → c.0 < length s.cells → n.0 < length (cell_state s c).nodes → replica (with_replica s c (AtNode n) r) c (AtNode n) ≡ r
+pub replica-at_node : (s : State) (c : Cell) (n : Node) (r : Mark) → c.0 < length s.cells → n.0 < length (cell_state s c).nodes → replica (with_replica s c (AtNode n) r) c (AtNode n) ≡ r
 replica-at_node s c n r inside within = ap (λ (row : CellState). replica_in row (AtNode n)) (get_or-set_same s.cells c.0 (with_replica_in (cell_state s c) (AtNode n) r) no_row inside) ∙ get_or-set_same (cell_state s c).nodes n.0 r Invalid within
 
-pub replica-on_disk : (s : State) (c : Cell) (d : DiskNo) (r : Replica) → c.0 < length s.cells → d.0 < length (cell_state s c).disks → replica (with_replica s c (OnDisk d) r) c (OnDisk d) ≡ r
+pub replica-on_disk : (s : State) (c : Cell) (d : DiskNo) (r : Mark) → c.0 < length s.cells → d.0 < length (cell_state s c).disks → replica (with_replica s c (OnDisk d) r) c (OnDisk d) ≡ r
 replica-on_disk s c d r inside within = ap (λ (row : CellState). replica_in row (OnDisk d)) (get_or-set_same s.cells c.0 (with_replica_in (cell_state s c) (OnDisk d) r) no_row inside) ∙ get_or-set_same (cell_state s c).disks d.0 r Invalid within
 
 -- of a row in which one replica was written each is as before, or is that one
-pub replica_in-cases : (row : CellState) (q k : Place) (r : Replica) → (replica_in (with_replica_in row q r) k ≡ replica_in row k) ⊎ ((k ≡ q) × (replica_in (with_replica_in row q r) k ≡ r))
+pub replica_in-cases : (row : CellState) (q k : Place) (r : Mark) → (replica_in (with_replica_in row q r) k ≡ replica_in row k) ⊎ ((k ≡ q) × (replica_in (with_replica_in row q r) k ≡ r))
 replica_in-cases row q k r =
     search (arith, same_node, get_or-set_other, cases_lt, get_or-set_same, get_or_past, length-set, disks_differ)
 
-module _ (s : State) (c : Cell) (q : Place) (r : Replica) where
+module _ (s : State) (c : Cell) (q : Place) (r : Mark) where
   -- each row is as before, or is the cell's with the replica written
   row-cases : (d : Cell) → (cell_state (with_replica s c q r) d ≡ cell_state s d) ⊎ ((d ≡ c) × (cell_state (with_replica s c q r) d ≡ with_replica_in (cell_state s c) q r))
   row-cases d =
@@ -110,7 +110,7 @@ pub owned-cases : (m : Machine) (s : State) (c : Cell) (v : Worker) → IsOwnedB
 owned-cases m s c v own q = search (arith, same_place-is)
 
 -- and so a replica of it passes no test that a valid and an invalid one fail
-pub owned-fails : (m : Machine) (s : State) (c : Cell) (v : Worker) → IsOwnedBy m s c v → (test : Replica → Bool) → test Valid ≡ false → test Invalid ≡ false → (q : Place) → test (replica s c q) ≡ false
+pub owned-fails : (m : Machine) (s : State) (c : Cell) (v : Worker) → IsOwnedBy m s c v → (test : Mark → Bool) → test Valid ≡ false → test Invalid ≡ false → (q : Place) → test (replica s c q) ≡ false
 owned-fails m s c v own test valid invalid q = elim (owned-cases m s c v own q) [ inl e ↦ ap test e ∙ valid | inr e ↦ ap test e ∙ invalid ]
 
 -- ---- where a valid replica is
@@ -119,7 +119,7 @@ owned-fails m s c v own test valid invalid q = elim (owned-cases m s c v own q) 
 pub valid-row : (s : State) (c : Cell) (q : Place) → is_valid (replica s c q) ≡ true → c.0 < length s.cells
 valid-row s c q valid = search (arith, cases_lt, false≢true, get_or_past, no_row, replica_in-no_row)
 
-pub valid-within : (rs : List Replica) (k : ℕ) → is_valid (get_or rs k Invalid) ≡ true → k < length rs
+pub valid-within : (rs : List Mark) (k : ℕ) → is_valid (get_or rs k Invalid) ≡ true → k < length rs
 valid-within rs k valid = search (arith, cases_lt, false≢true, get_or_past)
 
 -- a test that the place of a valid replica passes is passed by some place of the machine

@@ -1,7 +1,7 @@
 -- What the accessors of a state give after a claim, a run and an end.
 use Rattle.std.proofs.Common.{Bool, List, None, Option, Some, [], ap, arith, false, get_or, length, map, refl, suc}
 use Rattle.std.proofs.Common.{true, zero, ℕ, ◌<◌, ◌∙◌, ◌∷◌, ◌≡◌, ◌≢◌, ◌⊎◌, if◌then◌else◌}
-use Rattle.sj_core.proofs.Words.{AtNode, Cell, CellState, Invalid, Machine, Node, Place, Progress, Replica, State, Task}
+use Rattle.sj_core.proofs.Words.{AtNode, Cell, CellState, Invalid, Machine, Mark, Node, Place, Progress, State, Task}
 use Rattle.sj_core.proofs.Words.{Transfer, Waiting, Worker, WorkerState, cell_state, has_cell, is_entry, is_leaving}
 use Rattle.sj_core.proofs.Words.{moves, progress, replica, replica_in, same_cell, transfer, with_cells, with_progress}
 use Rattle.sj_core.proofs.Words.{with_replica_in, with_worker, worker_state, workers_of}
@@ -42,7 +42,7 @@ abbrev pub no_row : CellState
 no_row = record { nodes = []; disks = []; writes = 0 }
 
 -- a replica that was written where the cell has the place
-pub replica_in-same : (row : CellState) (n : Node) (r : Replica) → n.0 < length row.nodes → replica_in (with_replica_in row (AtNode n) r) (AtNode n) ≡ r
+pub replica_in-same : (row : CellState) (n : Node) (r : Mark) → n.0 < length row.nodes → replica_in (with_replica_in row (AtNode n) r) (AtNode n) ≡ r
 replica_in-same row n r h = get_or-set_same row.nodes n.0 r Invalid h
 
 pub replica_in-no_row : (q : Place) → replica_in no_row q ≡ Invalid
@@ -55,7 +55,7 @@ cells-renewed_or s f c = search (arith, cases_lt, renewed-at, no_row, get_or_pas
 pub same_node : (n k : Node) → (n ≡ k) ⊎ (n ≢ k)
 same_node n k = search (arith, cases_eq)
 
-pub all_invalid : (rs : List Replica) (k : ℕ) → get_or (map (λ r. Invalid) rs) k Invalid ≡ Invalid
+pub all_invalid : (rs : List Mark) (k : ℕ) → get_or (map (λ r. Invalid) rs) k Invalid ≡ Invalid
 all_invalid [] k = refl
 all_invalid (r ∷ rs) zero = refl
 all_invalid (r ∷ rs) (suc k) = all_invalid rs k

@@ -4,7 +4,7 @@ use Rattle.std.proofs.lemmas.Bool.{cases_Bool, false_from_ne_true, false≢true,
 use Rattle.std.proofs.lemmas.Bool.Decides.{Decides-eqb}
 use Rattle.std.proofs.lemmas.List.{get_or-set_same, length-map, length-set}
 use Rattle.sj_base.proofs.SameIds.{same_place-itself}
-use Rattle.sj_core.proofs.Words.{Array, AtNode, Cell, CellState, Claimed, Invalid, Machine, Node, OnDisk, Place, Program, Progress, Replica, Running, State, Task, Transfer, Valid, Worker, WorkerState, cell_state, cells_of, dims_of, fresh_cells, has_cell, is_coming_by, is_entry, is_leaving_by, is_task_of, is_valid, moves, node_of, order, progress, replica, replica_in, transfer, worker_of, worker_state, writes, written_cells, zeros, Run}
+use Rattle.sj_core.proofs.Words.{Array, AtNode, Cell, CellState, Claimed, Invalid, Machine, Mark, Node, OnDisk, Place, Program, Progress, Running, State, Task, Transfer, Valid, Worker, WorkerState, cell_state, cells_of, dims_of, fresh_cells, has_cell, is_coming_by, is_entry, is_leaving_by, is_task_of, is_valid, moves, node_of, order, progress, replica, replica_in, transfer, worker_of, worker_state, writes, written_cells, zeros, Run}
 use Rattle.sj_core.specs.Coherent.{Coherent, HasEntries, HasRows, IsStateOf, WritersOwn, is_begun, is_being_written, WrittenIsKept}
 use Rattle.sj_core.specs.Laws.{IsSound}
 use Rattle.sj_core.specs.Step.{CanRun, after_run, is_moving, owned_at, same_place, without}
@@ -37,8 +37,8 @@ module _ (p : Program) (m : Machine) (s : State) (t : Task) (w : Worker) (s' : S
   -- what it writes is valid on its worker's node
   pub run-own : (c : Cell) → has_cell (written_cells p t w) c ≡ true → c.0 < length s.cells → (node_of m w).0 < length (cell_state s c).nodes → replica s' c (AtNode (node_of m w)) ≡ Valid
   run-own c written inside within =
-      let nowhere : List Replica = map (λ r. Invalid) (cell_state s c).nodes in
-      grind (arith, leaves, cells-touched s (has_cell (written_cells p t w)) owns c inside written, get_or-set_same nowhere (node_of m w).0 Valid Invalid, length-map (cell_state s c).nodes (λ (r : Replica). Invalid), within)
+      let nowhere : List Mark = map (λ r. Invalid) (cell_state s c).nodes in
+      grind (arith, leaves, cells-touched s (has_cell (written_cells p t w)) owns c inside written, get_or-set_same nowhere (node_of m w).0 Valid Invalid, length-map (cell_state s c).nodes (λ (r : Mark). Invalid), within)
 
   -- and nowhere else
   run-written : (c : Cell) (q : Place) → has_cell (written_cells p t w) c ≡ true → (replica s' c q ≡ Invalid) ⊎ ((q ≡ AtNode (node_of m w)) × (replica s' c q ≡ Valid))
@@ -57,7 +57,7 @@ module _ (p : Program) (m : Machine) (s : State) (t : Task) (w : Worker) (s' : S
   run-only c q written elsewhere = elim (run-written c q written) [ inl none ↦ none | inr (at, is) ↦ absurd (false≢true (sym (ap (λ (k : Place). not (same_place k (AtNode (node_of m w)))) at ∙ ap not (same_place-itself (AtNode (node_of m w)))) ∙ elsewhere)) ]
 
   -- a test that an invalid and a valid replica fail is passed by none that didn't before, and by none of a written cell
-  run-fewer : (test : Replica → Bool) → test Invalid ≡ false → test Valid ≡ false → (c : Cell) (q : Place) → test (replica s' c q) ≡ true → (has_cell (written_cells p t w) c ≡ false) × (test (replica s c q) ≡ true)
+  run-fewer : (test : Mark → Bool) → test Invalid ≡ false → test Valid ≡ false → (c : Cell) (q : Place) → test (replica s' c q) ≡ true → (has_cell (written_cells p t w) c ≡ false) × (test (replica s c q) ≡ true)
   run-fewer test none valid c q passes = search (arith, run-other, run-written, false≢true)
 
   pub run-leaving : (v : Worker) (c : Cell) (q : Place) → is_leaving_by v (replica s' c q) ≡ true → is_leaving_by v (replica s c q) ≡ true
@@ -133,8 +133,8 @@ module _ (p : Program) (m : Machine) (s : State) (h : IsSound p m s) (t : Task) 
   run-rows : HasRows p m s'
   run-rows = HasRows-kept p m s s' _ (ap (λ (z : State). z.cells) leaves)
       (λ i row. (
-        cond_both (has_cell (written_cells p t w) (record { 0 = i })) _ row (λ (r : CellState). length r.nodes ≡ length row.nodes) (λ b. length-set (map (λ r. Invalid) row.nodes) (node_of m w).0 _ ∙ length-map row.nodes (λ (r : Replica). Invalid)) (λ b. refl),
-        cond_both (has_cell (written_cells p t w) (record { 0 = i })) _ row (λ (r : CellState). length r.disks ≡ length row.disks) (λ b. length-map row.disks (λ (r : Replica). Invalid)) (λ b. refl),
+        cond_both (has_cell (written_cells p t w) (record { 0 = i })) _ row (λ (r : CellState). length r.nodes ≡ length row.nodes) (λ b. length-set (map (λ r. Invalid) row.nodes) (node_of m w).0 _ ∙ length-map row.nodes (λ (r : Mark). Invalid)) (λ b. refl),
+        cond_both (has_cell (written_cells p t w) (record { 0 = i })) _ row (λ (r : CellState). length r.disks ≡ length row.disks) (λ b. length-map row.disks (λ (r : Mark). Invalid)) (λ b. refl),
       ))
       (ap (λ (z : State). length z.tasks) leaves ∙ length-set s.tasks t.0 (Running w))
       (ap (λ (z : State). length z.orders) leaves ∙ length-renewed (λ i cs. if nat_eq i (node_of m w).0 then cs else without (written_cells p t w) cs) s.orders) (ap (λ (z : State). length z.workers) leaves) h.coherent.state.rows

@@ -18,7 +18,8 @@ use Rattle.sj_core.specs.declared.progress.Progress.TheVariants.{Waiting, Claime
 use Rattle.sj_core.specs.declared.progress.Transfer.{Transfer}
 use Rattle.sj_deps.specs.Conflict.{Conflict}
 use Rattle.sj_core.specs.Operands.{cells_of, written_cells, commuting_cells}
-use Rattle.sj_core.specs.Machine.{State, Invalid, Coming, Valid, Leaving, progress, replica, writes, order, pins, scratch, victims_of, transfer, is_valid, is_entry, is_leaving, is_leaving_by, is_coming_by, is_claimed_by, is_running_on, is_task_of, worker_of, done_in, done_by, workers_at, used, moves}
+use Rattle.sj_core.specs.declared.mark.Mark.TheVariants.{Invalid, Coming, Valid, Leaving}
+use Rattle.sj_core.specs.Machine.{State, progress, replica, writes, order, pins, scratch, victims_of, transfer, is_valid, is_entry, is_leaving, is_leaving_by, is_coming_by, is_claimed_by, is_running_on, is_task_of, worker_of, done_in, done_by, workers_at, used, moves}
 use Rattle.sj_core.specs.Step.{same_place, EarlierAreDone, disk_of}
 
 -- ---- who writes a cell

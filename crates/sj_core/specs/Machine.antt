@@ -14,21 +14,16 @@ use Rattle.sj_base.specs.declared.program.Machine.{Machine}
 use Rattle.sj_core.specs.Program.{has_cell, same_cell}
 use Rattle.sj_core.specs.Needs.{node_of, node_size, tile_bytes, workers_of}
 use Rattle.sj_core.specs.Table.{renewed}
+use Rattle.sj_core.specs.declared.mark.Mark.{Mark}
+use Rattle.sj_core.specs.declared.mark.Mark.TheVariants.{Invalid, Coming, Valid, Leaving}
 use Rattle.sj_core.specs.declared.progress.Progress.{Progress}
 use Rattle.sj_core.specs.declared.progress.Progress.TheVariants.{Waiting, Claimed, Running, Done}
 use Rattle.sj_core.specs.declared.progress.Transfer.{Transfer}
 
--- a replica of a cell at a place; one that is leaving is still valid until it is dropped
-pub data Replica : Type 0 where
-  Invalid : Replica
-  Coming : Worker → Replica
-  Valid : Replica
-  Leaving : Worker → Replica
-
 -- a cell: its replicas by node and by disk, and how many tasks have written it
 pub record CellState : Type 0 where
-  pub nodes : List Replica
-  pub disks : List Replica
+  pub nodes : List Mark
+  pub disks : List Mark
   pub writes : ℕ
 
 -- a worker: the cells that it pins on its node, the scratch bytes that it holds there, the victims of its
@@ -55,11 +50,11 @@ progress s t = slice_index_or s.tasks t.0 Waiting
 abbrev pub cell_state : State → Cell → CellState
 cell_state s c = slice_index_or s.cells c.0 (record { nodes = []; disks = []; writes = 0 })
 
-abbrev pub replica_in : CellState → Place → Replica
+abbrev pub replica_in : CellState → Place → Mark
 replica_in row (AtNode n) = slice_index_or row.nodes n.0 Invalid
 replica_in row (OnDisk d) = slice_index_or row.disks d.0 Invalid
 
-abbrev pub replica : State → Cell → Place → Replica
+abbrev pub replica : State → Cell → Place → Mark
 replica s c place = replica_in (cell_state s c) place
 
 abbrev pub writes : State → Cell → ℕ
@@ -92,11 +87,11 @@ transfer s w = (worker_state s w).transfer
 abbrev pub with_progress : State → Task → Progress → State
 with_progress s t x = record s { tasks = slice_set s.tasks t.0 x }
 
-abbrev pub with_replica_in : CellState → Place → Replica → CellState
+abbrev pub with_replica_in : CellState → Place → Mark → CellState
 with_replica_in row (AtNode n) r = record row { nodes = slice_set row.nodes n.0 r }
 with_replica_in row (OnDisk d) r = record row { disks = slice_set row.disks d.0 r }
 
-abbrev pub with_replica : State → Cell → Place → Replica → State
+abbrev pub with_replica : State → Cell → Place → Mark → State
 with_replica s c place r = record s { cells = slice_set s.cells c.0 (with_replica_in (cell_state s c) place r) }
 
 -- each cell's row is f of the cell and of its row before
@@ -113,20 +108,21 @@ with_worker s w row = record s { workers = slice_set s.workers w.0 row }
 abbrev pub with_transfer : State → Worker → Option Transfer → State
 with_transfer s w move = with_worker s w (record (worker_state s w) { transfer = move })
 
--- ---- words on a replica
+-- ---- words on a mark
 
--- one that is leaving is valid too
-abbrev pub is_valid : Replica → Bool
+-- there is a copy: one that leaves is still valid
+abbrev pub is_valid : Mark → Bool
 is_valid Valid = true
 is_valid (Leaving w) = true
 is_valid _ = false
 
-abbrev pub is_leaving : Replica → Bool
+-- there is a copy that leaves
+abbrev pub is_leaving : Mark → Bool
 is_leaving (Leaving w) = true
 is_leaving _ = false
 
--- it is valid or coming, and so an entry of its node
-abbrev pub is_entry : Replica → Bool
+-- the node has an entry for the cell: there is a copy that stays, or one that comes
+abbrev pub is_entry : Mark → Bool
 is_entry (Coming w) = true
 is_entry Valid = true
 is_entry _ = false
@@ -134,11 +130,13 @@ is_entry _ = false
 abbrev pub same_worker : Worker → Worker → Bool
 same_worker v w = nat_eq v.0 w.0
 
-abbrev pub is_leaving_by : Worker → Replica → Bool
+-- a copy leaves by the worker's claim
+abbrev pub is_leaving_by : Worker → Mark → Bool
 is_leaving_by w (Leaving v) = same_worker v w
 is_leaving_by w _ = false
 
-abbrev pub is_coming_by : Worker → Replica → Bool
+-- a copy comes by the worker's claim
+abbrev pub is_coming_by : Worker → Mark → Bool
 is_coming_by w (Coming v) = same_worker v w
 is_coming_by w _ = false
 

@@ -21,7 +21,9 @@ use Rattle.sj_core.specs.declared.progress.Progress.TheVariants.{Waiting, Claime
 use Rattle.sj_core.specs.declared.progress.Transfer.{Transfer}
 use Rattle.sj_deps.specs.Conflict.{Conflict, Ready}
 use Rattle.sj_core.specs.Operands.{cells_of, written_cells, fresh_cells, commuting_cells}
-use Rattle.sj_core.specs.Machine.{State, CellState, Replica, Invalid, Coming, Valid, Leaving, progress, cell_state, replica, replica_in, order, transfer, victims_of, with_replica, with_replica_in, with_cells, with_orders, with_transfer, is_valid, is_leaving, is_leaving_by, is_coming_by, is_claimed_by, is_task_of, is_idle, worker_of, done_in, is_pinned, free, moves, has_room}
+use Rattle.sj_core.specs.declared.mark.Mark.{Mark}
+use Rattle.sj_core.specs.declared.mark.Mark.TheVariants.{Invalid, Coming, Valid, Leaving}
+use Rattle.sj_core.specs.Machine.{State, CellState, progress, cell_state, replica, replica_in, order, transfer, victims_of, with_replica, with_replica_in, with_cells, with_orders, with_transfer, is_valid, is_leaving, is_leaving_by, is_coming_by, is_claimed_by, is_task_of, is_idle, worker_of, done_in, is_pinned, free, moves, has_room}
 
 -- ---- words on where replicas are
 
@@ -102,12 +104,12 @@ to_front order c = c ∷ filter (λ d. not (same_cell d c)) order
 abbrev pub without : List Cell → List Cell → List Cell
 without gone order = filter (λ c. not (has_cell gone c)) order
 
-abbrev pub leave : Worker → Replica → Replica
+abbrev pub leave : Worker → Mark → Mark
 leave w Valid = Leaving w
 leave w r = r
 
 -- the cell's replica on the node after a claim: a victim leaves, a missing cell is coming
-abbrev pub claimed_replica : Worker → List Cell → List Cell → Cell → Replica → Replica
+abbrev pub claimed_replica : Worker → List Cell → List Cell → Cell → Mark → Mark
 claimed_replica w evicted missing c r =
     if has_cell evicted c then leave w r else if has_cell missing c then Coming w else r
 
@@ -206,7 +208,7 @@ after_end p m s t w = record {
 -- ---- what an event needs
 
 -- the worker by whose claim a replica is coming or leaving
-abbrev pub claimant_of : Replica → Worker
+abbrev pub claimant_of : Mark → Worker
 claimant_of (Coming w) = w
 claimant_of (Leaving w) = w
 claimant_of _ = record { 0 = 0 }

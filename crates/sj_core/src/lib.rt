@@ -3,5 +3,6 @@
 #![tactic(auto)]
 
 pub mod laws;
+pub mod mark;
 pub mod progress;
 pub mod tasks;

@@ -10,7 +10,8 @@ use Rattle.sj_base.specs.declared.trace.Event.TheVariants.{Moved, Drop}
 use Rattle.sj_base.specs.Array.{Array}
 use Rattle.sj_core.specs.declared.progress.Progress.TheVariants.{Claimed}
 use Rattle.sj_core.specs.declared.progress.Transfer.{Transfer}
-use Rattle.sj_core.specs.Machine.{State, Valid, WorkerState, progress, transfer, with_replica, with_transfer}
+use Rattle.sj_core.specs.declared.mark.Mark.TheVariants.{Valid}
+use Rattle.sj_core.specs.Machine.{State, WorkerState, progress, transfer, with_replica, with_transfer}
 use Rattle.sj_core.specs.Needs.{node_of}
 use Rattle.sj_core.specs.Step.{after, mover_of}
 use Rattle.sj_core.proofs.Reading.{transfer-inside, worker-same}

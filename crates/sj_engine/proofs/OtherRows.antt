@@ -16,7 +16,8 @@ use Rattle.sj_core.specs.declared.progress.Progress.{Progress}
 use Rattle.sj_core.specs.declared.progress.Progress.TheVariants.{Waiting, Claimed, Running, Done}
 use Rattle.sj_core.specs.declared.progress.Transfer.{Transfer}
 use Rattle.sj_core.specs.Laws.{IsSound}
-use Rattle.sj_core.specs.Machine.{CellState, State, is_running_on, is_task_of, Invalid, Valid, progress, same_worker, transfer, worker_state, writes}
+use Rattle.sj_core.specs.declared.mark.Mark.TheVariants.{Invalid, Valid}
+use Rattle.sj_core.specs.Machine.{CellState, State, is_running_on, is_task_of, progress, same_worker, transfer, worker_state, writes}
 use Rattle.sj_core.specs.Needs.{node_of}
 use Rattle.sj_core.specs.Operands.{cells_of, written_cells}
 use Rattle.sj_core.specs.Program.{has_cell, same_cell}

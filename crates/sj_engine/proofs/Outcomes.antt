@@ -14,7 +14,8 @@ use Rattle.sj_base.specs.declared.program.Program.{Program}
 use Rattle.sj_base.specs.declared.trace.Event.{Event}
 use Rattle.sj_base.specs.Array.{Array}
 use Rattle.sj_core.specs.Legal.{IsComplete}
-use Rattle.sj_core.specs.Machine.{CellState, Invalid, State, cell_state, is_valid, no_replica, opening, replica, replica_in, writes}
+use Rattle.sj_core.specs.declared.mark.Mark.TheVariants.{Invalid}
+use Rattle.sj_core.specs.Machine.{CellState, State, cell_state, is_valid, no_replica, opening, replica, replica_in, writes}
 use Rattle.sj_core.proofs.Reading.{no_row}
 use Rattle.sj_core.specs.Needs.{Block}
 use Rattle.sj_disk.specs.Directory.{extent_of}

@@ -7,7 +7,7 @@ use Rattle.sj_base.specs.Recorded.{Recorded}
 use Rattle.sj_base.specs.declared.trace.Event.TheVariants.{Moved}
 use Rattle.sj_base.proofs.Options.{IfSome-at}
 use Rattle.sj_core.specs.declared.progress.Transfer.{Transfer}
-use Rattle.sj_core.proofs.Words.{Array, AtNode, Cell, CellState, Coming, DiskNo, Machine, Node, OnDisk, Place, Program, State, Valid, Worker, WorkerState, cell_state, dims_of, is_coming_by, is_entry, is_valid, replica, transfer, with_replica, with_transfer, writes, same_cell}
+use Rattle.sj_core.proofs.Words.{Array, AtNode, Cell, CellState, DiskNo, Machine, Node, OnDisk, Place, Program, State, Worker, WorkerState, cell_state, dims_of, is_coming_by, is_entry, is_valid, replica, transfer, with_replica, with_transfer, writes, same_cell}
 use Rattle.sj_core.proofs.Blocks.{disk-within}
 use Rattle.sj_core.proofs.Placing.{cells_differ, replica-cases, replica-on_disk, writes-same, same_place-is}
 use Rattle.sj_core.proofs.Reading.{no_row}
@@ -16,8 +16,6 @@ use Rattle.sj_core.proofs.States.{one-mover}
 use Rattle.sj_core.specs.Coherent.{Coherent}
 use Rattle.sj_core.specs.Step.{a_transfer, after, disk_of, mover_of}
 use Rattle.sj_disk.specs.Directory.{extent_of}
-use Rattle.sj_machine.specs.Mark.{mark_of}
-use Rattle.sj_machine.specs.declared.mark.Mark.TheVariants.{Valid as ValidMark}
 use Rattle.sj_machine.specs.Agrees.{Agrees, IsWide, Rows, rows_of, transfer_in, with_transfer_of}
 use Rattle.sj_machine.specs.Copies.{Copies, mark_at, row_of, stored, tile_at, with_copy, with_row}
 use Rattle.sj_machine.specs.Sound.{HoldsArray, HoldsBlocks, IsBlockCopyOf, IsStored, IsWrittenOut, Keeps}
@@ -33,6 +31,7 @@ use Rattle.sj_core.proofs.Finding.{both_pass}
 use Rattle.std.proofs.lemmas.Bool.{and_parts, and_from, cases_Bool, false≢true}
 use Rattle.sj_base.proofs.SameIds.{same_place-itself, same_cell-itself, same_cell-is}
 use Rattle.sj_core.proofs.CellLists.{same_cell-from}
+use Rattle.sj_core.specs.declared.mark.Mark.TheVariants.{Coming, Valid}
 use Rattle.sj_base.specs.Ids.{same_place}
 
 module _ {D : Type 0} (size faults mismatches : D → ℕ) (held : D → Option (List ℕ)) (b : Standing D) (rows : Rows) (spare : ℕ) (keeps : Keeps size faults mismatches held b rows spare) (w : Worker) (c : Cell) (from : Place) where
@@ -112,9 +111,9 @@ module _ {D : Type 0} (size faults mismatches : D → ℕ) (held : D → Option 
           absurd (far (sym (same_cell-is c d tests.1), (let is : k ≡ n = cc in is)))
     ]
 
-    pub keeps-moved_in : (spare' : ℕ) → spare' + 1 ≡ spare → Keeps size faults mismatches held (with_event b (Moved c from (AtNode n))) (rows_of rows.tasks (with_row rows.cells c (λ row. with_copy row n ValidMark (Some tile))) rows.nodes (new_workers p m s w None rows.workers)) spare'
+    pub keeps-moved_in : (spare' : ℕ) → spare' + 1 ≡ spare → Keeps size faults mismatches held (with_event b (Moved c from (AtNode n))) (rows_of rows.tasks (with_row rows.cells c (λ row. with_copy row n Valid (Some tile))) rows.nodes (new_workers p m s w None rows.workers)) spare'
     keeps-moved_in spare' left =
-        keeps-moved (AtNode n) under_way (with_row rows.cells c (λ row. with_copy row n ValidMark (Some tile)))
+        keeps-moved (AtNode n) under_way (with_row rows.cells c (λ row. with_copy row n Valid (Some tile)))
         (record {
           tasks = keeps.agrees.tasks;
           workers = keeps.agrees.workers;
@@ -167,7 +166,7 @@ module _ {D : Type 0} (size faults mismatches : D → ℕ) (held : D → Option 
       marks = record {
         every_cell = length-set rows.cells c.0 _ ∙ keeps.agrees.marks.every_cell;
         wide = All-set (IsWide (length m.nodes)) rows.cells c.0 (stored (row_of rows.cells c)) (let had = All-get_or (IsWide (length m.nodes)) rows.cells c.0 no_copies out-cell keeps.agrees.marks.wide in record { marks = had.marks; tiles = had.tiles }) keeps.agrees.marks.wide;
-        marks = λ x k. mark-stays x k ∙ keeps.agrees.marks.marks x k ∙ ap mark_of (sym (at_nodes x k));
+        marks = λ x k. mark-stays x k ∙ keeps.agrees.marks.marks x k ∙ sym (at_nodes x k);
         on_disk = disks-agree;
         writes = λ x. row-kept (λ (row : Copies). row.writes ≡ (row_of rows.cells x).writes) rows.cells c x stored out-cell (λ h. h) refl ∙ keeps.agrees.marks.writes x ∙ sym (writes-same s c (OnDisk d) Valid x);
       };
@@ -230,11 +229,11 @@ module _ {D : Type 0} (size faults mismatches : D → ℕ) (held : D → Option 
     pub found-node : n.0 < length (row_of rows.cells x.cell).marks
     found-node = in-node size faults mismatches held b rows spare keeps w x.cell x.from n (at-place size faults mismatches held b rows spare keeps w b' same ws read x found (AtNode n) at) tile tile-is
 
-    pub found-moved_in : (trace' : Recorded) (cells' : List Copies) (ws' : List WorkerState) → trace'.events ≡ b.trace ++ Moved x.cell x.from x.to ∷ [] → trace'.spare + 1 ≡ spare → cells' ≡ with_row rows.cells x.cell (λ row. with_copy row n ValidMark (Some tile)) → ws' ≡ with_transfer_of rows.workers w None → Keeps size faults mismatches held (record b { trace = trace'.events }) (rows_of rows.tasks cells' rows.nodes ws') trace'.spare
+    pub found-moved_in : (trace' : Recorded) (cells' : List Copies) (ws' : List WorkerState) → trace'.events ≡ b.trace ++ Moved x.cell x.from x.to ∷ [] → trace'.spare + 1 ≡ spare → cells' ≡ with_row rows.cells x.cell (λ row. with_copy row n Valid (Some tile)) → ws' ≡ with_transfer_of rows.workers w None → Keeps size faults mismatches held (record b { trace = trace'.events }) (rows_of rows.tasks cells' rows.nodes ws') trace'.spare
     found-moved_in trace' cells' ws' told left cells workers =
-        keeps-told size faults mismatches held b (Moved x.cell x.from (AtNode n)) (rows_of rows.tasks (with_row rows.cells x.cell (λ row. with_copy row n ValidMark (Some tile))) rows.nodes (with_transfer_of rows.workers w None)) (rows_of rows.tasks cells' rows.nodes ws') trace'
+        keeps-told size faults mismatches held b (Moved x.cell x.from (AtNode n)) (rows_of rows.tasks (with_row rows.cells x.cell (λ row. with_copy row n Valid (Some tile))) rows.nodes (with_transfer_of rows.workers w None)) (rows_of rows.tasks cells' rows.nodes ws') trace'
         (told ∙ ap (λ (q : Place). b.trace ++ Moved x.cell x.from q ∷ []) at)
-        (ap (λ (cs : List Copies). rows_of rows.tasks cs rows.nodes ws') cells ∙ ap (λ (vs : List WorkerState). rows_of rows.tasks (with_row rows.cells x.cell (λ row. with_copy row n ValidMark (Some tile))) rows.nodes vs) workers)
+        (ap (λ (cs : List Copies). rows_of rows.tasks cs rows.nodes ws') cells ∙ ap (λ (vs : List WorkerState). rows_of rows.tasks (with_row rows.cells x.cell (λ row. with_copy row n Valid (Some tile))) rows.nodes vs) workers)
         (keeps-moved_in size faults mismatches held b rows spare keeps w x.cell x.from n (at-place size faults mismatches held b rows spare keeps w b' same ws read x found (AtNode n) at) tile tile-is trace'.spare left)
 
   module _ (d : DiskNo) (at : x.to ≡ OnDisk d) (given : IsWrittenOut held b' w) where

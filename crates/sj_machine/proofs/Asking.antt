@@ -14,8 +14,7 @@ use Rattle.sj_base.specs.declared.mode.Access.{Access}
 use Rattle.sj_machine.specs.Agrees.{IsWide, Rows}
 use Rattle.sj_machine.specs.Choosing.{fresh_among, leaves_in, reads_in}
 use Rattle.sj_machine.specs.Copies.{Copies, mark_at, row_of}
-use Rattle.sj_machine.specs.Mark.{mark_of}
-use Rattle.sj_machine.specs.declared.mark.Mark.TheVariants.{Invalid as NoMark}
+use Rattle.sj_core.specs.declared.mark.Mark.TheVariants.{Invalid}
 use Rattle.sj_machine.specs.Sound.{Keeps}
 use Rattle.sj_machine.specs.Standing.{Standing, state}
 use Rattle.sj_machine.proofs.Keeping.{sound_state}
@@ -37,12 +36,9 @@ module _ {D : Type 0} (size faults mismatches : D → ℕ) (held : D → Option 
   pub asked-wide : (n : Node) → n.0 < length m.nodes → All (λ row. n.0 < length row.marks) rows.cells
   asked-wide n within = All-weaker (IsWide (length m.nodes)) (λ row. n.0 < length row.marks) (λ row is. omega (arith, is.marks, within)) rows.cells keeps.agrees.marks.wide
 
-  pub mark-is : (c : Cell) (n : Node) → mark_at (row_of rows.cells c) n ≡ mark_of (replica s c (AtNode n))
-  mark-is c n = keeps.agrees.marks.marks c n
-
   -- there is nothing at a node that there isn't
-  pub mark-none : (c : Cell) (n : Node) → length m.nodes ≤ n.0 → NoMark ≡ mark_of (replica s c (AtNode n))
-  mark-none c n past = sym (get_or_past (row_of rows.cells c).marks n.0 NoMark short) ∙ mark-is c n
+  pub mark-none : (c : Cell) (n : Node) → length m.nodes ≤ n.0 → Invalid ≡ replica s c (AtNode n)
+  mark-none c n past = sym (get_or_past (row_of rows.cells c).marks n.0 Invalid short) ∙ keeps.agrees.marks.marks c n
     where
       short : length (row_of rows.cells c).marks ≤ n.0
       short = elim (cases_lt c.0 (length rows.cells)) [

@@ -4,7 +4,7 @@ use Rattle.std.specs.Prelude.{IfSome, IsSomeAnd, option_map}
 use Rattle.std.proofs.lemmas.List.Quantifiers.{position-Some}
 use Rattle.std.proofs.lemmas.Bool.{false≢true}
 use Rattle.sj_base.specs.declared.trace.Event.TheVariants.{Move}
-use Rattle.sj_core.proofs.Words.{Array, AtNode, Cell, DiskNo, Invalid, Machine, Node, OnDisk, Place, Program, State, Task, Worker, cell_state, dims_of, is_coming_by, is_leaving, is_leaving_by, is_valid, progress, replica, transfer, with_transfer, worker_of}
+use Rattle.sj_core.proofs.Words.{Array, AtNode, Cell, DiskNo, Machine, Node, OnDisk, Place, Program, State, Task, Worker, cell_state, dims_of, is_coming_by, is_leaving, is_leaving_by, is_valid, progress, replica, transfer, with_transfer, worker_of}
 use Rattle.sj_core.specs.declared.progress.Progress.{Progress}
 use Rattle.sj_core.specs.declared.progress.Progress.TheVariants.{Claimed}
 use Rattle.sj_core.specs.declared.progress.Transfer.{Transfer}
@@ -21,6 +21,7 @@ use Rattle.sj_machine.proofs.Marking.{cell-inside, mark-inside}
 use Rattle.sj_machine.proofs.Resting.{leaving-valid, rests, valid-cell, valid-node}
 use Rattle.sj_machine.proofs.Transferring.{new_workers, transfer-agrees}
 use Rattle.sj_core.specs.Arrays.{arrays_after}
+use Rattle.sj_core.specs.declared.mark.Mark.TheVariants.{Invalid}
 
 module _ {D : Type 0} (size faults mismatches : D → ℕ) (held : D → Option (List ℕ)) (b : Standing D) (rows : Rows) (spare : ℕ) (keeps : Keeps size faults mismatches held b rows spare) (c : Cell) (from to : Place) (w : Worker) (mover : mover_of (state b) c from to ≡ w) (can : CanHappen b (Move c from to)) where
   abbrev p : Program

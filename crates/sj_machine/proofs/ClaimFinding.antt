@@ -10,7 +10,7 @@ use Rattle.std.proofs.lemmas.List.Elements.{All-head, All-tail, filter_agree}
 use Rattle.std.proofs.lemmas.List.Sums.{sum_by-cons}
 use Rattle.sj_core.proofs.CellLists.{times, times-has, times-none}
 use Rattle.sj_core.proofs.Reading.{same_cell-is}
-use Rattle.sj_core.proofs.Words.{AtNode, Cell, Coming, Invalid, Leaving, Machine, Node, Program, Replica, State, Task, Valid, Worker, cells_of, distinct, free, has_cell, is_leaving, is_pinned, node_of, node_size, order, pins, replica, same_cell, scratch, scratch_bytes, task_of, tile_bytes, workers_at}
+use Rattle.sj_core.proofs.Words.{AtNode, Cell, Machine, Node, Program, State, Task, Worker, cells_of, distinct, free, has_cell, is_leaving, is_pinned, node_of, node_size, order, pins, replica, same_cell, scratch, scratch_bytes, task_of, tile_bytes, workers_at}
 use Rattle.sj_core.specs.Coherent.{Coherent}
 use Rattle.sj_core.specs.Step.{May, missing, none_leaving, to_come, victims_for}
 use Rattle.sj_core.specs.Victims.{covers, shortest_suffix, victims}
@@ -21,7 +21,6 @@ use Rattle.sj_node.specs.Store.{Store, free_bytes}
 use Rattle.sj_node.specs.Victims.{shortest_suffix as shortest_end, victims as victims_among}
 use Rattle.sj_machine.specs.Agrees.{HasMarks, pins_on, store_of}
 use Rattle.sj_machine.specs.Copies.{Copies}
-use Rattle.sj_machine.specs.Mark.{is_leaving_mark, mark_of}
 use Rattle.sj_machine.specs.Plan.{ClaimPlan, IsPlan, plan_with}
 use Rattle.sj_machine.specs.Planning.{CommutersAreFree, MayClaim, chosen_on, is_leaving_at, lacking, need_on, planned}
 use Rattle.sj_machine.proofs.Commuting.{commuters-alone}
@@ -109,15 +108,9 @@ module _ (p : Program) (m : Machine) (s : State) (t : Task) (w : Worker) where
 
 -- ---- that nothing leaves
 
-leaving-mark : (r : Replica) → is_leaving_mark (mark_of r) ≡ is_leaving r
-leaving-mark Invalid = refl
-leaving-mark (Coming v) = refl
-leaving-mark Valid = refl
-leaving-mark (Leaving v) = refl
-
 module _ (p : Program) (m : Machine) (s : State) (coherent : Coherent p m s) (cells : List Copies) (marks : HasMarks p m s cells) (n : Node) where
   pub leaves-same : (c : Cell) → is_leaving_at cells n c ≡ is_leaving (replica s c (AtNode n))
-  leaves-same c = ap is_leaving_mark (marks.marks c n) ∙ leaving-mark (replica s c (AtNode n))
+  leaves-same c = ap is_leaving (marks.marks c n)
 
 -- ---- the claim
 

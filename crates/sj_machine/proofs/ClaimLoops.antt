@@ -7,7 +7,7 @@ use Rattle.sj_base.specs.declared.ids.Cell.{Cell}
 use Rattle.sj_base.specs.declared.ids.Node.{Node}
 use Rattle.sj_node.specs.Entry.{has_entry, pins_of}
 use Rattle.sj_node.specs.Store.{Store}
-use Rattle.sj_machine.specs.declared.mark.Mark.{Mark}
+use Rattle.sj_core.specs.declared.mark.Mark.{Mark}
 use Rattle.sj_machine.specs.Copies.{Copies, row_of, with_row}
 use Rattle.sj_machine.specs.Plan.{CanTakeAll, marked, taken, with_mark}
 use Rattle.sj_machine.proofs.Reading.{no_copies}

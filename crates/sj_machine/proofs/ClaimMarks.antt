@@ -10,8 +10,8 @@ use Rattle.sj_core.proofs.CellLists.{same_cell-from, same_cell-refl}
 use Rattle.sj_core.proofs.Placing.{cells_differ}
 use Rattle.sj_core.proofs.Reading.{same_cell-is}
 use Rattle.sj_core.specs.Program.{has_cell, same_cell}
-use Rattle.sj_machine.specs.declared.mark.Mark.{Mark}
-use Rattle.sj_machine.specs.declared.mark.Mark.TheVariants.{Invalid}
+use Rattle.sj_core.specs.declared.mark.Mark.{Mark}
+use Rattle.sj_core.specs.declared.mark.Mark.TheVariants.{Invalid}
 use Rattle.sj_machine.specs.Agrees.{IsWide}
 use Rattle.sj_machine.specs.Copies.{Copies, mark_at, row_of, with_row}
 use Rattle.sj_machine.specs.Plan.{marked, with_mark}

@@ -14,10 +14,11 @@ use Rattle.sj_base.specs.declared.trace.Event.TheVariants.{Claim, Move, Moved, D
 use Rattle.sj_codelet.specs.Kernel.{arguments_fit, dims_fit, formals_of}
 use Rattle.sj_core.proofs.Placing.{pins-same}
 use Rattle.sj_core.proofs.Reading.{idle_row}
-use Rattle.sj_core.proofs.Words.{AtNode, Cell, Machine, Node, OnDisk, Program, State, Task, Valid, Worker, WorkerState, cells_of, data_operands, dims_of, no_task, node_of, opening, pins, same_cell, task_of, with_replica, worked_on, workers_at, workers_of}
+use Rattle.sj_core.proofs.Words.{AtNode, Cell, Machine, Node, OnDisk, Program, State, Task, Worker, WorkerState, cells_of, data_operands, dims_of, no_task, node_of, opening, pins, same_cell, task_of, with_replica, worked_on, workers_at, workers_of}
 use Rattle.sj_core.specs.Legal.{state_of}
 use Rattle.sj_core.specs.Proper.{FitsCodelet, IsMachineFor, Proper}
 use Rattle.sj_core.specs.Step.{after}
+use Rattle.sj_core.specs.declared.mark.Mark.TheVariants.{Valid}
 use Rattle.sj_machine.specs.Agrees.{pins_on}
 use Rattle.sj_codelet.proofs.Table.{few-formals}
 

@@ -11,7 +11,7 @@ use Rattle.sj_core.proofs.ClaimKeeps.{claim-rested, claim-rests}
 use Rattle.sj_core.proofs.Claiming.{ClaimCase, Comes, Leaves, Stays, claim-cases, claim-elsewhere, claim-here, claim-on_disk, claim-own_cells, claim-writes, evicted-free, missing-absent, task-cell, victim-valid, claim-valid}
 use Rattle.sj_core.proofs.Reading.{entry-inside, same_node}
 use Rattle.sj_core.proofs.Replicas.{coming_by-is}
-use Rattle.sj_core.proofs.Words.{Array, AtNode, Cell, Coming, Leaving, Machine, Node, Program, State, Task, Worker, WorkerState, cells_of, dims_of, has_cell, is_entry, is_valid, node_of, replica}
+use Rattle.sj_core.proofs.Words.{Array, AtNode, Cell, Machine, Node, Program, State, Task, Worker, WorkerState, cells_of, dims_of, has_cell, is_entry, is_valid, node_of, replica}
 use Rattle.sj_core.specs.declared.progress.Progress.{Progress}
 use Rattle.sj_core.specs.declared.progress.Progress.TheVariants.{Claimed}
 use Rattle.sj_core.specs.Coherent.{is_being_written}
@@ -20,9 +20,7 @@ use Rattle.sj_core.specs.Step.{CanClaim, after, leave, missing}
 use Rattle.sj_node.specs.Store.{Store, empty}
 use Rattle.sj_machine.specs.Agrees.{Agrees, HasMarks, HasStores, HasTiles, IsWide, Rows, pins_on, row_at, rows_of, store_of}
 use Rattle.sj_machine.specs.Copies.{Copies, mark_at, row_of, tile_at}
-use Rattle.sj_machine.specs.Mark.{mark_of}
-use Rattle.sj_machine.specs.declared.mark.Mark.{Mark}
-use Rattle.sj_machine.specs.declared.mark.Mark.TheVariants.{Coming as ComingMark, Leaving as LeavingMark}
+use Rattle.sj_core.specs.declared.mark.Mark.{Mark}
 use Rattle.sj_machine.specs.Plan.{CanHold, ClaimPlan, IsPlan, holding, marked, plan_with, row_with, store_at, with_mark}
 use Rattle.sj_machine.specs.Sound.{Keeps}
 use Rattle.sj_machine.specs.Standing.{AllTell, CanHappen, Standing, state, with_event, run_arrays}
@@ -31,6 +29,7 @@ use Rattle.sj_machine.proofs.ClaimPins.{few-cells, pins-few, pins_on-few}
 use Rattle.sj_machine.proofs.ClaimStores.{All-has, can-hold, holding-is, store-elsewhere}
 use Rattle.sj_machine.proofs.Keeping.{HoldsBlocks-kept, keeps-event, sound_state}
 use Rattle.sj_core.specs.Arrays.{arrays_after}
+use Rattle.sj_core.specs.declared.mark.Mark.TheVariants.{Coming, Leaving}
 
 -- the victims of a plan are those of the claim
 some_is : (vs ws : List Cell) → Some vs ≡ Some ws → vs ≡ ws
@@ -92,13 +91,13 @@ module _ {D : Type 0} (size faults mismatches : D → ℕ) (held : D → Option 
   claim-victims = All-has (λ c. c.0 < length rows.cells) claim_plan.victims evicted-inside
 
   abbrev left : List Copies
-  left = marked rows.cells claim_plan.victims n (LeavingMark w)
+  left = marked rows.cells claim_plan.victims n (Leaving w)
 
   wide-left : All (IsWide (length m.nodes)) left
-  wide-left = wide-marked n (LeavingMark w) (length m.nodes) within rows.cells claim_plan.victims evicted-inside keeps.agrees.marks.wide
+  wide-left = wide-marked n (Leaving w) (length m.nodes) within rows.cells claim_plan.victims evicted-inside keeps.agrees.marks.wide
 
   as-many : length left ≡ length rows.cells
-  as-many = length-marked n (LeavingMark w) (length m.nodes) within rows.cells claim_plan.victims
+  as-many = length-marked n (Leaving w) (length m.nodes) within rows.cells claim_plan.victims
 
   brought-inside : (c : Cell) → has_cell claim_plan.missing c ≡ true → c.0 < length left
   brought-inside c lacks = omega (arith, task-cell p m s sound t w s' claim (evicted-after p m s t w) c (missing-absent p m s t w s' claim (evicted-after p m s t w) c lacks).1, sound.coherent.state.rows.cells, keeps.agrees.marks.every_cell, as-many)
@@ -118,7 +117,7 @@ module _ {D : Type 0} (size faults mismatches : D → ℕ) (held : D → Option 
   -- ---- the rows after it
 
   abbrev came : List Copies
-  came = marked left claim_plan.missing n (ComingMark w)
+  came = marked left claim_plan.missing n (Coming w)
 
   abbrev pub after_claims : Rows
   after_claims = rows_of (set rows.tasks t.0 (Claimed w)) came (set rows.nodes n.0 (holding (store_at rows.nodes n) claim_plan)) (set rows.workers w.0 (row_with (row_at rows.workers w) claim_plan))
@@ -126,22 +125,22 @@ module _ {D : Type 0} (size faults mismatches : D → ℕ) (held : D → Option 
   -- what isn't a mark stays
   kept-field : {A : Type 0} (f : Copies → A) → ((n : Node) (x : Mark) (row : Copies) → f (with_mark row n x) ≡ f row) → (d : Cell) → f (row_of came d) ≡ f (row_of rows.cells d)
   kept-field f same d =
-      field-marked n (ComingMark w) (length m.nodes) within f (same n (ComingMark w)) left claim_plan.missing d brought-inside
-      ∙ field-marked n (LeavingMark w) (length m.nodes) within f (same n (LeavingMark w)) rows.cells claim_plan.victims d evicted-inside
+      field-marked n (Coming w) (length m.nodes) within f (same n (Coming w)) left claim_plan.missing d brought-inside
+      ∙ field-marked n (Leaving w) (length m.nodes) within f (same n (Leaving w)) rows.cells claim_plan.victims d evicted-inside
 
   kept-tile : (d : Cell) (k : Node) → tile_at (row_of came d) k ≡ tile_at (row_of rows.cells d) k
   kept-tile d k = kept-field (λ row. tile_at row k) (λ n x row. refl) d
 
   mark-elsewhere : (d : Cell) (k : Node) → k ≢ n → mark_at (row_of came d) k ≡ mark_at (row_of rows.cells d) k
   mark-elsewhere d k other =
-      marked-elsewhere n (ComingMark w) (length m.nodes) within left claim_plan.missing d k other brought-inside
-      ∙ marked-elsewhere n (LeavingMark w) (length m.nodes) within rows.cells claim_plan.victims d k other evicted-inside
+      marked-elsewhere n (Coming w) (length m.nodes) within left claim_plan.missing d k other brought-inside
+      ∙ marked-elsewhere n (Leaving w) (length m.nodes) within rows.cells claim_plan.victims d k other evicted-inside
 
-  mark-here : (d : Cell) → mark_at (row_of came d) n ≡ mark_of (replica s' d (AtNode n))
+  mark-here : (d : Cell) → mark_at (row_of came d) n ≡ replica s' d (AtNode n)
   mark-here d = by_tests (has_cell claim_plan.missing d) (has_cell claim_plan.victims d) refl refl
     where
-      by_case : has_cell claim_plan.missing d ≡ false → has_cell claim_plan.victims d ≡ false → ClaimCase m s s' w (evicted_by p m s t w) (missing p s t w n) d (AtNode n) → mark_of (replica s d (AtNode n)) ≡ mark_of (replica s' d (AtNode n))
-      by_case f e (Stays same) = ap mark_of (sym same)
+      by_case : has_cell claim_plan.missing d ≡ false → has_cell claim_plan.victims d ≡ false → ClaimCase m s s' w (evicted_by p m s t w) (missing p s t w n) d (AtNode n) → replica s d (AtNode n) ≡ replica s' d (AtNode n)
+      by_case f e (Stays same) = sym same
       by_case f e (Leaves at evicted was is) = absurd (false≢true (sym e ∙ evicted))
       by_case f e (Comes at lacks was is) = absurd (false≢true (sym f ∙ lacks))
 
@@ -154,24 +153,24 @@ module _ {D : Type 0} (size faults mismatches : D → ℕ) (held : D → Option 
           let inside = entry-inside s d n (ap is_entry valid) in
           claim-here p m s t w s' claim (evicted-after p m s t w) d inside.0 inside.1 ∙ ap (λ x. cond x (leave w (replica s d (AtNode n))) (cond (has_cell claim_plan.missing d) (Coming w) (replica s d (AtNode n)))) gone ∙ ap (leave w) valid
 
-      by_tests : (a b : Bool) → has_cell claim_plan.missing d ≡ a → has_cell claim_plan.victims d ≡ b → mark_at (row_of came d) n ≡ mark_of (replica s' d (AtNode n))
-      by_tests true b f e = marked-here n (ComingMark w) (length m.nodes) within left claim_plan.missing d brought-inside wide-left f ∙ sym (ap mark_of (comes f))
+      by_tests : (a b : Bool) → has_cell claim_plan.missing d ≡ a → has_cell claim_plan.victims d ≡ b → mark_at (row_of came d) n ≡ replica s' d (AtNode n)
+      by_tests true b f e = marked-here n (Coming w) (length m.nodes) within left claim_plan.missing d brought-inside wide-left f ∙ sym (comes f)
       by_tests false true f e =
-          ap (λ (row : Copies). mark_at row n) (marked-other n (ComingMark w) (length m.nodes) within left claim_plan.missing d f)
-          ∙ marked-here n (LeavingMark w) (length m.nodes) within rows.cells claim_plan.victims d evicted-inside keeps.agrees.marks.wide e
-          ∙ sym (ap mark_of (leaves e))
+          ap (λ (row : Copies). mark_at row n) (marked-other n (Coming w) (length m.nodes) within left claim_plan.missing d f)
+          ∙ marked-here n (Leaving w) (length m.nodes) within rows.cells claim_plan.victims d evicted-inside keeps.agrees.marks.wide e
+          ∙ sym (leaves e)
       by_tests false false f e =
-          ap (λ (row : Copies). mark_at row n) (marked-other n (ComingMark w) (length m.nodes) within left claim_plan.missing d f ∙ marked-other n (LeavingMark w) (length m.nodes) within rows.cells claim_plan.victims d e)
+          ap (λ (row : Copies). mark_at row n) (marked-other n (Coming w) (length m.nodes) within left claim_plan.missing d f ∙ marked-other n (Leaving w) (length m.nodes) within rows.cells claim_plan.victims d e)
           ∙ keeps.agrees.marks.marks d n
           ∙ by_case f e (claim-cases p m s sound t w s' claim (evicted-after p m s t w) d (AtNode n))
 
   marks : HasMarks p m s' came
   marks = record {
-    every_cell = length-marked n (ComingMark w) (length m.nodes) within left claim_plan.missing ∙ as-many ∙ keeps.agrees.marks.every_cell;
-    wide = wide-marked n (ComingMark w) (length m.nodes) within left claim_plan.missing brought-inside wide-left;
+    every_cell = length-marked n (Coming w) (length m.nodes) within left claim_plan.missing ∙ as-many ∙ keeps.agrees.marks.every_cell;
+    wide = wide-marked n (Coming w) (length m.nodes) within left claim_plan.missing brought-inside wide-left;
     marks = λ d k. elim (same_node k n) [
-      | inl e ↦ ap (λ (j : Node). mark_at (row_of came d) j) e ∙ mark-here d ∙ ap (λ (j : Node). mark_of (replica s' d (AtNode j))) (sym e)
-      | inr other ↦ mark-elsewhere d k other ∙ keeps.agrees.marks.marks d k ∙ sym (ap mark_of (claim-elsewhere p m s t w s' claim (evicted-after p m s t w) d (AtNode k) (λ e. other (cc))))
+      | inl e ↦ ap (λ (j : Node). mark_at (row_of came d) j) e ∙ mark-here d ∙ ap (λ (j : Node). replica s' d (AtNode j)) (sym e)
+      | inr other ↦ mark-elsewhere d k other ∙ keeps.agrees.marks.marks d k ∙ sym (claim-elsewhere p m s t w s' claim (evicted-after p m s t w) d (AtNode k) (λ e. other (cc)))
     ];
     on_disk = λ d k home. kept-field (λ row. row.on_disk) (λ n x row. refl) d ∙ keeps.agrees.marks.on_disk d k home ∙ sym (ap is_valid (claim-on_disk p m s t w s' claim (evicted-after p m s t w) d k));
     writes = λ d. kept-field (λ row. row.writes) (λ n x row. refl) d ∙ keeps.agrees.marks.writes d ∙ sym (claim-writes p m s t w s' claim (evicted-after p m s t w) d);
@@ -217,15 +216,15 @@ module _ {D : Type 0} (size faults mismatches : D → ℕ) (held : D → Option 
 
 -- the rows after a claim by this plan
 abbrev pub claimed_rows : Rows → Task → Worker → Node → ClaimPlan → Rows
-claimed_rows rows t w k plan = rows_of (set rows.tasks t.0 (Claimed w)) (marked (marked rows.cells plan.victims k (LeavingMark w)) plan.missing k (ComingMark w)) (set rows.nodes k.0 (holding (store_at rows.nodes k) plan)) (set rows.workers w.0 (row_with (row_at rows.workers w) plan))
+claimed_rows rows t w k plan = rows_of (set rows.tasks t.0 (Claimed w)) (marked (marked rows.cells plan.victims k (Leaving w)) plan.missing k (Coming w)) (set rows.nodes k.0 (holding (store_at rows.nodes k) plan)) (set rows.workers w.0 (row_with (row_at rows.workers w) plan))
 
 -- each change can be made
 pub record CanChange (rows : Rows) (w : Worker) (k : Node) (plan : ClaimPlan) : Type 0 where
   pub hold : CanHold (store_at rows.nodes k) plan
   pub victims : All (λ c. c.0 < length rows.cells) plan.victims
   pub wide : All (λ row. k.0 < length row.marks) rows.cells
-  pub missing : All (λ c. c.0 < length (marked rows.cells plan.victims k (LeavingMark w))) plan.missing
-  pub wide_left : All (λ row. k.0 < length row.marks) (marked rows.cells plan.victims k (LeavingMark w))
+  pub missing : All (λ c. c.0 < length (marked rows.cells plan.victims k (Leaving w))) plan.missing
+  pub wide_left : All (λ row. k.0 < length row.marks) (marked rows.cells plan.victims k (Leaving w))
 
 module _ {D : Type 0} (size faults mismatches : D → ℕ) (held : D → Option (List ℕ)) (b : Standing D) (rows : Rows) (spare : ℕ) (keeps : Keeps size faults mismatches held b rows spare) (t : Task) (w : Worker) (can : CanHappen b (Claim t w)) (plan : ClaimPlan) (is : IsPlan b.program b.machine (state b) t w plan) (k : Node) (at : k ≡ node_of b.machine w) where
   same_plan : plan ≡ claim_plan size faults mismatches held b rows spare keeps t w can

@@ -4,11 +4,10 @@ use Rattle.sj_base.specs.declared.ids.Cell.{Cell}
 use Rattle.sj_base.specs.declared.ids.Node.{Node}
 use Rattle.sj_base.specs.Recorded.{Recorded}
 use Rattle.sj_base.specs.declared.trace.Event.TheVariants.{Drop}
-use Rattle.sj_core.proofs.Words.{AtNode, DiskNo, Invalid, Machine, OnDisk, Program, State, is_leaving, is_valid, replica, with_replica}
+use Rattle.sj_core.proofs.Words.{AtNode, DiskNo, Machine, OnDisk, Program, State, is_leaving, is_valid, replica, with_replica}
 use Rattle.sj_core.proofs.Placing.{replica-cases, writes-same}
 use Rattle.sj_core.specs.Step.{CanDrop, after}
 use Rattle.sj_core.specs.Coherent.{is_being_written}
-use Rattle.sj_machine.specs.declared.mark.Mark.TheVariants.{Invalid as NoMark}
 use Rattle.sj_machine.specs.Agrees.{Agrees, Rows, rows_of}
 use Rattle.sj_machine.specs.Copies.{Copies, row_of, with_copy, with_row}
 use Rattle.sj_machine.specs.Sound.{HoldsBlocks, Keeps}
@@ -17,6 +16,7 @@ use Rattle.sj_machine.proofs.Keeping.{HoldsBlocks-kept, keeps-event, keeps-told}
 use Rattle.sj_machine.proofs.Marking.{HasMarks-copy, HasTiles-copy, cell-inside, mark-inside}
 use Rattle.sj_machine.proofs.Resting.{leaving-valid, rests, valid-cell, valid-node}
 use Rattle.sj_core.specs.Arrays.{arrays_after}
+use Rattle.sj_core.specs.declared.mark.Mark.TheVariants.{Invalid}
 
 module _ {D : Type 0} (size faults mismatches : D → ℕ) (held : D → Option (List ℕ)) (b : Standing D) (rows : Rows) (spare : ℕ) (keeps : Keeps size faults mismatches held b rows spare) (c : Cell) (n : Node) (can : CanHappen b (Drop c n)) where
   abbrev p : Program
@@ -50,7 +50,7 @@ module _ {D : Type 0} (size faults mismatches : D → ℕ) (held : D → Option 
   drop-node = mark-inside p m s keeps.sound.coherent.state.rows rows.cells keeps.agrees.marks c n of_program of_machine
 
   abbrev after_drop : Rows
-  after_drop = rows_of rows.tasks (with_row rows.cells c (λ row. with_copy row n NoMark None)) rows.nodes rows.workers
+  after_drop = rows_of rows.tasks (with_row rows.cells c (λ row. with_copy row n Invalid None)) rows.nodes rows.workers
 
   agrees : Agrees p m (after p m s (Drop c n)) (arrays_after p m (run_arrays b) (Drop c n)) (AllTell held b) after_drop
   agrees = record {

@@ -34,8 +34,7 @@ use Rattle.sj_core.specs.Laws.{IsSound}
 use Rattle.sj_core.specs.Program.{written_operands}
 use Rattle.sj_core.specs.Step.{after_end, same_place, written_once_more}
 use Rattle.sj_node.specs.Store.{Store, store}
-use Rattle.sj_machine.specs.Mark.{mark_of}
-use Rattle.sj_machine.specs.declared.mark.Mark.TheVariants.{Invalid as NoMark, Valid as ValidMark}
+use Rattle.sj_core.specs.declared.mark.Mark.TheVariants.{Invalid, Valid}
 use Rattle.sj_machine.specs.Agrees.{HasMarks, HasStores, HasTiles, IsWide, Rows, pins_on, row_at, rows_of, store_of}
 use Rattle.sj_machine.specs.Copies.{Copies, mark_at, row_of, tile_at, written_at}
 use Rattle.sj_machine.specs.Plan.{store_at}
@@ -269,8 +268,8 @@ module _ {D : Type 0} (size faults mismatches : D → ℕ) (held : D → Option 
     row-left : (c : Cell) → has_cell ws c ≡ false → row_of new c ≡ row_of rows.cells c
     row-left c left = put-row_none n ws xs rows.cells c left
 
-    mark-here : (c : Cell) → has_cell ws c ≡ true → mark_at (written_at (row_of rows.cells c) n (put c)) n ≡ ValidMark
-    mark-here c has = (let wide = wide-at c (row-inside c has) in get_or-set_same (row_of rows.cells c).marks n.0 ValidMark NoMark (omega (arith, wide.marks, end-node)))
+    mark-here : (c : Cell) → has_cell ws c ≡ true → mark_at (written_at (row_of rows.cells c) n (put c)) n ≡ Valid
+    mark-here c has = (let wide = wide-at c (row-inside c has) in get_or-set_same (row_of rows.cells c).marks n.0 Valid Invalid (omega (arith, wide.marks, end-node)))
 
     tile-here : (c : Cell) → has_cell ws c ≡ true → tile_at (row_of new c) n ≡ Some (put c)
     tile-here c has = (let wide = wide-at c (row-inside c has) in ap (λ (r : Copies). tile_at r n) (row-new c has) ∙ get_or-set_same (row_of rows.cells c).tiles n.0 (Some (put c)) None (omega (arith, wide.tiles, end-node)))
@@ -286,10 +285,10 @@ module _ {D : Type 0} (size faults mismatches : D → ℕ) (held : D → Option 
       every_cell = length-put_each n ws xs rows.cells ∙ keeps.agrees.marks.every_cell;
       wide = wide-put_each (length m.nodes) n ws xs rows.cells all-inside keeps.agrees.marks.wide;
       marks = λ c k. elim (cases_Bool (has_cell ws c)) [
-        | inr left ↦ ap (λ (r : Copies). mark_at r k) (row-left c left) ∙ keeps.agrees.marks.marks c k ∙ ap mark_of (sym (same c (AtNode k)))
+        | inr left ↦ ap (λ (r : Copies). mark_at r k) (row-left c left) ∙ keeps.agrees.marks.marks c k ∙ sym (same c (AtNode k))
         | inl has ↦ ap (λ (r : Copies). mark_at r k) (row-new c has) ∙ elim (same_node k n) [
-          | inl at ↦ ap (mark_at (written_at (row_of rows.cells c) n (put c))) at ∙ mark-here c has ∙ ap mark_of (sym (ap (λ (j : Node). replica s' c (AtNode j)) at ∙ same c (AtNode n) ∙ (own c has).valid))
-          | inr far ↦ get_or-set_other (row_of rows.cells c).marks n.0 k.0 ValidMark NoMark (node_number k far) ∙ keeps.agrees.marks.marks c k ∙ ap mark_of (sym (same c (AtNode k)))
+          | inl at ↦ ap (mark_at (written_at (row_of rows.cells c) n (put c))) at ∙ mark-here c has ∙ sym (ap (λ (j : Node). replica s' c (AtNode j)) at ∙ same c (AtNode n) ∙ (own c has).valid)
+          | inr far ↦ get_or-set_other (row_of rows.cells c).marks n.0 k.0 Valid Invalid (node_number k far) ∙ keeps.agrees.marks.marks c k ∙ sym (same c (AtNode k))
         ]
       ];
       on_disk = λ c d home. elim (cases_Bool (has_cell ws c)) [

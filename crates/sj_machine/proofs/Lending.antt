@@ -7,8 +7,8 @@ use Rattle.sj_base.specs.Array.{Array}
 use Rattle.sj_core.proofs.Words.{Cell, Node, has_cell}
 use Rattle.sj_core.proofs.CellLists.{cells-written, times}
 use Rattle.sj_core.proofs.Tables.{renewed-at}
-use Rattle.sj_machine.specs.declared.mark.Mark.{Mark}
-use Rattle.sj_machine.specs.declared.mark.Mark.TheVariants.{Invalid, Valid}
+use Rattle.sj_core.specs.declared.mark.Mark.{Mark}
+use Rattle.sj_core.specs.declared.mark.Mark.TheVariants.{Invalid, Valid}
 use Rattle.sj_machine.specs.Agrees.{IsWide}
 use Rattle.sj_machine.specs.Copies.{Copies, lent_at, mark_at, row_of, tile_at, with_row}
 use Rattle.sj_machine.specs.Running.{lend_each}

@@ -18,8 +18,7 @@ use Rattle.sj_edge.proofs.GivenBackLemmas.{all_given_back-untouched, all_untouch
 use Rattle.sj_disk.specs.Lending.{LendingState, lending}
 use Rattle.sj_disk.specs.Directory.{DiskState, extent_of}
 use Rattle.sj_node.specs.Store.{Store, empty, store}
-use Rattle.sj_machine.specs.declared.mark.Mark.TheVariants.{Invalid as NoMark}
-use Rattle.sj_machine.specs.Mark.{mark_of}
+use Rattle.sj_core.specs.declared.mark.Mark.TheVariants.{Invalid}
 use Rattle.sj_machine.specs.Agrees.{Agrees, IsWide, Rows, node_entry_of, rows_of, store_of}
 use Rattle.sj_machine.specs.Copies.{Copies, mark_at, none_at, row_of, tile_at}
 use Rattle.sj_machine.specs.Sound.{IsBlock, IsRunnableOn, Keeps, block_of, most_events}
@@ -54,8 +53,8 @@ module _ (p : Program) (m : Machine) where
         | inr out ↦ subst P (sym (get_or_past no_rows c.0 no_copies (omega (arith, length-replicate (length p.cells) (none_at (length m.nodes)))))) past
       ]
 
-  no_mark : (c : Cell) (n : Node) → mark_at (row_of no_rows c) n ≡ NoMark
-  no_mark c n = row_is (λ row. mark_at row n ≡ NoMark) (get_or-replicate_same (length m.nodes) n.0 NoMark) refl c
+  no_mark : (c : Cell) (n : Node) → mark_at (row_of no_rows c) n ≡ Invalid
+  no_mark c n = row_is (λ row. mark_at row n ≡ Invalid) (get_or-replicate_same (length m.nodes) n.0 Invalid) refl c
 
   no_tile : (c : Cell) (n : Node) → tile_at (row_of no_rows c) n ≡ None
   no_tile c n = row_is (λ row. tile_at row n ≡ None) (get_or-replicate_same (length m.nodes) n.0 None) refl c
@@ -74,8 +73,8 @@ module _ (p : Program) (m : Machine) where
     workers = refl;
     marks = record {
       every_cell = length-replicate (length p.cells) (none_at (length m.nodes));
-      wide = All-replicate (IsWide (length m.nodes)) (length p.cells) (none_at (length m.nodes)) (record { marks = length-replicate (length m.nodes) NoMark; tiles = length-replicate (length m.nodes) None });
-      marks = λ c n. no_mark c n ∙ ap mark_of (sym (nowhere p m c (AtNode n)));
+      wide = All-replicate (IsWide (length m.nodes)) (length p.cells) (none_at (length m.nodes)) (record { marks = length-replicate (length m.nodes) Invalid; tiles = length-replicate (length m.nodes) None });
+      marks = λ c n. no_mark c n ∙ sym (nowhere p m c (AtNode n));
       on_disk = λ c d home. row_is (λ row. row.on_disk ≡ false) refl refl c ∙ ap is_valid (sym (nowhere p m c (OnDisk d)));
       writes = λ c. row_is (λ row. row.writes ≡ 0) refl refl c ∙ sym (unwritten p m c);
     };

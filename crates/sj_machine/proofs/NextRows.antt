@@ -1,17 +1,16 @@
 -- What the rows say of a worker's next step is what the state says.
 use Rattle.std.proofs.Common.{◌≡◌, ℕ, ◌<◌, ◌^◌, ◌+◌, Bool, true, false, not, ◌&&◌, ◌||◌, cond, List, [], ◌∷◌, Option, Some, None, length, get_or, is_some, map, reverse, refl, sym, ap, ◌∙◌, subst, arith, nat_eq}
-use Rattle.std.specs.Prelude.{IfSome, IsSomeAnd, MatchBool, MatchOption, if◌then◌else◌, nat_lt, option_map, position}
-use Rattle.std.specs.List.{find, list_all, list_any, position_or_len, range_with_len, slice_index_or}
+use Rattle.std.specs.Prelude.{IfSome, IsSomeAnd, MatchBool, MatchOption, if◌then◌else◌, option_map, position}
+use Rattle.std.specs.List.{find, list_all, list_any, range_with_len, slice_index_or}
 use Rattle.std.proofs.lemmas.Bool.{false_from_ne_true, false≢true}
-use Rattle.std.proofs.lemmas.List.{get_or_default}
+use Rattle.std.proofs.lemmas.List.{ext_get_or, get_or_default}
 use Rattle.std.proofs.lemmas.List.Elements.{All-get_or}
 use Rattle.std.proofs.lemmas.List.Folds.{list_any-append}
 use Rattle.std.proofs.lemmas.List.FromFn.{fill_by_all}
-use Rattle.std.proofs.lemmas.List.Sums.{fails_before_first, passes_at_first, position_or_len_is, prefix_len-le-length}
 use Rattle.std.proofs.lemmas.Option.{none-some}
 use Rattle.sj_base.specs.declared.mode.Access.{Access}
 use Rattle.sj_base.specs.declared.program.CellInfo.{CellInfo}
-use Rattle.sj_core.proofs.Words.{AtNode, Block, Cell, CellState, Coming, DiskNo, Invalid, Leaving, Machine, Node, OnDisk, Place, Program, Replica, State, Task, Valid, Worker, WorkerState, cell_info, cell_state, cells_of, fresh_cells, has_cell, is_coming_by, is_entry, is_gone, is_leaving, is_leaving_by, is_valid, node_of, progress, replica, task_of, victims_of, written_cells, writes}
+use Rattle.sj_core.proofs.Words.{AtNode, Block, Cell, CellState, DiskNo, Machine, Node, OnDisk, Place, Program, State, Task, Worker, WorkerState, cell_info, cell_state, cells_of, fresh_cells, has_cell, is_coming_by, is_entry, is_gone, is_leaving, is_leaving_by, is_valid, node_of, progress, replica, task_of, victims_of, written_cells, writes}
 use Rattle.sj_core.specs.declared.progress.Progress.TheVariants.{Claimed}
 use Rattle.sj_core.proofs.Blocks.{disk-within, has-disk}
 use Rattle.sj_core.proofs.Claimed.{claimed-staffed}
@@ -21,14 +20,14 @@ use Rattle.sj_core.proofs.Replicas.{coming_by-is}
 use Rattle.sj_core.specs.Laws.{IsSound}
 use Rattle.sj_core.specs.Proper.{IsCopyOf}
 use Rattle.sj_core.specs.Step.{disk_of, is_moving, is_present, is_read, is_valid_elsewhere, same_place, source_of}
+use Rattle.sj_core.specs.declared.mark.Mark.{Mark}
+use Rattle.sj_core.specs.declared.mark.Mark.TheVariants.{Invalid}
 use Rattle.sj_disk.specs.declared.directory.Extent.{Extent}
 use Rattle.sj_disk.specs.Directory.{extent_of}
 use Rattle.sj_machine.specs.Agrees.{IsWide, Rows}
 use Rattle.sj_machine.specs.Choosing.{HasNumbers, are_present, are_unmoved, comes_in, fresh_among, is_brought, is_moving_in, is_there_in, leaves_in, moves_in, reads_in}
 use Rattle.sj_machine.specs.Operands.{worked_among}
 use Rattle.sj_machine.specs.Copies.{Copies, first_node, is_copy_beside, is_elsewhere, row_of}
-use Rattle.sj_machine.specs.Mark.{is_coming_mark_by, is_leaving_mark_by, is_there, mark_of}
-use Rattle.sj_machine.specs.declared.mark.Mark.TheVariants.{Invalid as NoMark}
 use Rattle.sj_machine.specs.Sound.{IsBlock, Keeps, block_of}
 use Rattle.sj_machine.specs.Standing.{Standing, state}
 use Rattle.sj_machine.specs.Todo.{Brings, Evicts, IsNext, is_to_come, may_run, next_cell, next_victim}
@@ -44,10 +43,6 @@ use Rattle.sj_base.proofs.Lists.{list_any-numbered}
 -- ---- lists
 
 -- tests that agree
-list_any-agree : {X : Type 0} (f g : X → Bool) → ((x : X) → f x ≡ g x) → (xs : List X) → list_any f xs ≡ list_any g xs
-list_any-agree f g same [] = refl
-list_any-agree f g same (x ∷ xs) = ap (λ b. b || list_any f xs) (same x) ∙ ap (λ b. g x || b) (list_any-agree f g same xs)
-
 pub list_all-agree : {X : Type 0} (f g : X → Bool) → ((x : X) → f x ≡ g x) → (xs : List X) → list_all f xs ≡ list_all g xs
 list_all-agree f g same [] = refl
 list_all-agree f g same (x ∷ xs) = ap (λ b. b && list_all f xs) (same x) ∙ ap (λ b. g x && b) (list_all-agree f g same xs)
@@ -59,32 +54,6 @@ find-agree f g same (x ∷ xs) = ap (λ b. cond b (Some x) (find f xs)) (same x)
 -- a test of each element is one of each place
 pub list_any-places : {X : Type 0} (test : X → Bool) (xs : List X) (d : X) (n : ℕ) → length xs ≡ n → list_any test xs ≡ list_any (λ k. test (slice_index_or xs k d)) (range_with_len 0 n)
 list_any-places test xs d n many = ap (list_any test) (fill_by_all (λ k. get_or xs k d) xs n d many (λ k inside. refl)) ∙ list_any-map test (λ k. get_or xs k d) (range_with_len 0 n)
-
--- the first place is the same where tests agree place by place
-position-agree : {X Y : Type 0} (f : X → Bool) (g : Y → Bool) (xs : List X) (ys : List Y) (d : X) (e : Y) → length xs ≡ length ys → ((k : ℕ) → f (get_or xs k d) ≡ g (get_or ys k e)) → position f xs ≡ position g ys
-position-agree f g xs ys d e many same =
-    let first : position_or_len f xs ≡ position_or_len g ys = position_or_len_is f xs (position_or_len g ys) d (let most = prefix_len-le-length (λ y. not (g y)) ys in omega (arith, many, most)) (λ k before. same k ∙ fails_before_first g ys k e before) (λ inside. same (position_or_len g ys) ∙ passes_at_first g ys e (omega (arith, inside, many))) in
-    ap (λ (k : ℕ). cond (nat_lt k (length xs)) (Some k) None) first ∙ ap (λ (n : ℕ). cond (nat_lt (position_or_len g ys) n) (Some (position_or_len g ys)) None) many
-
--- ---- marks
-
-there-is : (r : Replica) → is_there (mark_of r) ≡ is_valid r
-there-is Invalid = refl
-there-is (Coming v) = refl
-there-is Valid = refl
-there-is (Leaving v) = refl
-
-leaving-is : (w : Worker) (r : Replica) → is_leaving_mark_by w (mark_of r) ≡ is_leaving_by w r
-leaving-is w Invalid = refl
-leaving-is w (Coming v) = refl
-leaving-is w Valid = refl
-leaving-is w (Leaving v) = refl
-
-coming-is : (w : Worker) (r : Replica) → is_coming_mark_by w (mark_of r) ≡ is_coming_by w r
-coming-is w Invalid = refl
-coming-is w (Coming v) = refl
-coming-is w Valid = refl
-coming-is w (Leaving v) = refl
 
 or_comm : (a b : Bool) → (a || b) ≡ (b || a)
 or_comm true true = refl
@@ -108,13 +77,13 @@ module _ {D : Type 0} (size faults mismatches : D → ℕ) (held : D → Option 
   -- ---- copies
 
   there : (c : Cell) (n : Node) → is_there_in rows.cells n c ≡ is_valid (replica s c (AtNode n))
-  there c n = ap is_there (keeps.agrees.marks.marks c n) ∙ there-is (replica s c (AtNode n))
+  there c n = ap is_valid (keeps.agrees.marks.marks c n)
 
   pub leaves : (w : Worker) (c : Cell) (n : Node) → leaves_in rows.cells n w c ≡ is_leaving_by w (replica s c (AtNode n))
-  leaves w c n = ap (is_leaving_mark_by w) (keeps.agrees.marks.marks c n) ∙ leaving-is w (replica s c (AtNode n))
+  leaves w c n = ap (is_leaving_by w) (keeps.agrees.marks.marks c n)
 
   comes : (w : Worker) (c : Cell) (n : Node) → comes_in rows.cells n w c ≡ is_coming_by w (replica s c (AtNode n))
-  comes w c n = ap (is_coming_mark_by w) (keeps.agrees.marks.marks c n) ∙ coming-is w (replica s c (AtNode n))
+  comes w c n = ap (is_coming_by w) (keeps.agrees.marks.marks c n)
 
   -- the disk of a cell's block is the one that the directory has
   pub home-is : (c : Cell) → c.0 < length p.cells → option_map (λ (e : Extent). e.disk) (extent_of b.disks.directory c.0) ≡ disk_of p m c
@@ -141,6 +110,10 @@ module _ {D : Type 0} (size faults mismatches : D → ℕ) (held : D → Option 
     deep : length (cell_state s c).nodes ≡ length m.nodes
     deep = All-get_or (λ (x : CellState). length x.nodes ≡ length m.nodes) s.cells c.0 no_row (omega (arith, inside, sound.coherent.state.rows.cells)) sound.coherent.state.rows.nodes
 
+    -- the marks are the state's
+    nodes-are : row.marks ≡ (cell_state s c).nodes
+    nodes-are = ext_get_or Invalid row.marks (cell_state s c).nodes (wide ∙ sym deep) (λ k within. keeps.agrees.marks.marks c (record { 0 = k }))
+
     disk : (d : DiskNo) × (disk_of p m c ≡ Some d)
     disk = has-disk p m c keeps.sound.run.swap inside
 
@@ -150,8 +123,8 @@ module _ {D : Type 0} (size faults mismatches : D → ℕ) (held : D → Option 
 
     on_nodes : (n : Node) → list_any (is_copy_beside row.marks n.0) (range_with_len 0 (length row.marks)) ≡ list_any (λ q. not (same_place q (AtNode n)) && is_valid (replica s c q)) (map (λ k. AtNode (record { 0 = k })) (range_with_len 0 (length m.nodes)))
     on_nodes n =
-        ap (λ (i : ℕ). list_any (is_copy_beside row.marks n.0) (range_with_len 0 i)) wide
-        ∙ list_any-agree (is_copy_beside row.marks n.0) (λ k. not (nat_eq k n.0) && is_valid (replica s c (AtNode (record { 0 = k })))) (λ k. ap (λ x. not (nat_eq k n.0) && x) (there c (record { 0 = k }))) (range_with_len 0 (length m.nodes))
+        ap (λ (rs : List Mark). list_any (is_copy_beside rs n.0) (range_with_len 0 (length rs))) nodes-are
+        ∙ ap (λ (i : ℕ). list_any (is_copy_beside (cell_state s c).nodes n.0) (range_with_len 0 i)) deep
         ∙ sym (list_any-map (λ q. not (same_place q (AtNode n)) && is_valid (replica s c q)) (λ k. AtNode (record { 0 = k })) (range_with_len 0 (length m.nodes)))
 
     on_disks : (n : Node) → row.on_disk ≡ list_any (λ q. not (same_place q (AtNode n)) && is_valid (replica s c q)) (map (λ k. OnDisk (record { 0 = k })) (range_with_len 0 (length m.disks)))
@@ -175,8 +148,8 @@ module _ {D : Type 0} (size faults mismatches : D → ℕ) (held : D → Option 
         ∙ ap (λ x. list_any test (map node (range_with_len 0 (length m.nodes))) || x) (on_disks n)
         ∙ sym (list_any-append test (map node (range_with_len 0 (length m.nodes))) (map on (range_with_len 0 (length m.disks))))
 
-    place-is : position is_there row.marks ≡ position is_valid (cell_state s c).nodes
-    place-is = position-agree is_there is_valid row.marks (cell_state s c).nodes NoMark Invalid (wide ∙ sym deep) (λ k. there c (record { 0 = k }))
+    place-is : position is_valid row.marks ≡ position is_valid (cell_state s c).nodes
+    place-is = ap (position is_valid) nodes-are
 
     -- ---- where the cell is fetched from
 

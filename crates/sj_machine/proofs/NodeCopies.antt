@@ -5,10 +5,10 @@ use Rattle.std.proofs.lemmas.List.{length-map, map-set}
 use Rattle.std.specs.List.{position_or_len, refill}
 use Rattle.sj_base.specs.Array.{Array}
 use Rattle.sj_machine.specs.Copies.{Copies}
-use Rattle.sj_machine.specs.Mark.{is_there}
+use Rattle.sj_core.specs.Machine.{is_valid}
 use Rattle.sj_machine.specs.NodeCopy.{NodeCopy, bare_copy, lent_copy, marks_in, tiles_in}
-use Rattle.sj_machine.specs.declared.mark.Mark.{Mark}
-use Rattle.sj_machine.specs.declared.mark.Mark.TheVariants.{Invalid, Valid}
+use Rattle.sj_core.specs.declared.mark.Mark.{Mark}
+use Rattle.sj_core.specs.declared.mark.Mark.TheVariants.{Invalid, Valid}
 use Rattle.sj_machine.proofs.Lists.{refill-set}
 
 -- the row of these copies
@@ -69,9 +69,9 @@ module _ (on_disk : Bool) (writes : ℕ) where
 
 -- ---- the first copy
 
-len-marks : (copies : List NodeCopy) → position_or_len is_there (marks_in copies) ≡ position_or_len (λ (c : NodeCopy). is_there c.mark) copies
+len-marks : (copies : List NodeCopy) → position_or_len is_valid (marks_in copies) ≡ position_or_len (λ (c : NodeCopy). is_valid c.mark) copies
 len-marks [] = refl
-len-marks (c ∷ cs) = ap (λ n. cond (not (is_there c.mark)) (1 + n) 0) (len-marks cs)
+len-marks (c ∷ cs) = ap (λ n. cond (not (is_valid c.mark)) (1 + n) 0) (len-marks cs)
 
-pub position-marks : (copies : List NodeCopy) → position is_there (marks_in copies) ≡ position (λ (c : NodeCopy). is_there c.mark) copies
+pub position-marks : (copies : List NodeCopy) → position is_valid (marks_in copies) ≡ position (λ (c : NodeCopy). is_valid c.mark) copies
 position-marks copies = λ i. cond (nat_lt (len-marks copies i) (length-map copies (λ (c : NodeCopy). c.mark) i)) (Some (len-marks copies i)) None

@@ -16,7 +16,7 @@ use Rattle.sj_base.specs.Mode.{reads_value, starts_as_zeros, reads_of}
 use Rattle.sj_codelet.specs.Frame.{Slot, shared}
 use Rattle.sj_core.specs.declared.progress.Progress.{Progress}
 use Rattle.sj_core.specs.declared.progress.Progress.TheVariants.{Running}
-use Rattle.sj_core.proofs.Words.{Array, AtNode, Cell, CellState, Invalid, Machine, Node, OnDisk, Place, Program, State, Task, Valid, Worker, cell_state, cells_of, dims_of, fresh_cells, has_cell, is_entry, is_task_of, is_valid, node_of, node_size, order, pins, progress, replica, same_cell, scratch, task_of, worked_on, worker_of, workers_at, writes, written_cells, zeros}
+use Rattle.sj_core.proofs.Words.{Array, AtNode, Cell, CellState, Machine, Node, OnDisk, Place, Program, State, Task, Worker, cell_state, cells_of, dims_of, fresh_cells, has_cell, is_entry, is_task_of, is_valid, node_of, node_size, order, pins, progress, replica, same_cell, scratch, task_of, worked_on, worker_of, workers_at, writes, written_cells, zeros}
 use Rattle.sj_core.proofs.Advancing.{same_task, task_of-worker}
 use Rattle.sj_core.proofs.CellLists.{times, times-none}
 use Rattle.sj_core.proofs.Claimed.{claimed-inside, claimed-not_written, claimed-staffed}
@@ -35,7 +35,6 @@ use Rattle.sj_core.specs.Step.{CanRun, after_run, owned_at, same_place}
 use Rattle.sj_node.proofs.CallerLemmas.{filter-map}
 use Rattle.sj_node.specs.Entry.{NodeEntry, is_of_cells, without_all}
 use Rattle.sj_node.specs.Store.{Store, store, with_entries}
-use Rattle.sj_machine.specs.Mark.{mark_of}
 use Rattle.sj_machine.specs.Agrees.{HasMarks, HasStores, HasTiles, IsWide, Rows, node_entry_of, pins_on, rows_of, store_of}
 use Rattle.sj_machine.specs.Copies.{Copies, lent_at, mark_at, row_of, tile_at}
 use Rattle.sj_machine.specs.Operands.{CanWorkOn, written_among}
@@ -50,6 +49,7 @@ use Rattle.sj_machine.proofs.Resting.{entry-cell}
 use Rattle.sj_machine.proofs.Written.{can-work, works-inside, written-once}
 use Rattle.sj_core.specs.Arrays.{arrays_after}
 use Rattle.sj_core.proofs.Finding.{second_fails}
+use Rattle.sj_core.specs.declared.mark.Mark.TheVariants.{Invalid, Valid}
 
 -- ---- lists
 
@@ -169,10 +169,10 @@ module _ {D : Type 0} (size faults mismatches : D → ℕ) (held : D → Option 
     every_cell = kept.every ∙ keeps.agrees.marks.every_cell;
     wide = kept.wide;
     marks = λ c k. elim (cases_Bool (has_cell ws c)) [
-      | inr spare ↦ ap (λ (r : Copies). mark_at r k) (row-left c spare) ∙ keeps.agrees.marks.marks c k ∙ ap mark_of (sym (other c (AtNode k) spare))
+      | inr spare ↦ ap (λ (r : Copies). mark_at r k) (row-left c spare) ∙ keeps.agrees.marks.marks c k ∙ sym (other c (AtNode k) spare)
       | inl has ↦ ap (λ (r : Copies). mark_at r k) (row-lent c has) ∙ elim (same_node k n) [
-        | inl at ↦ ap (mark_at (lent_at (row_of rows.cells c) n)) at ∙ lent-mark_here (row_of rows.cells c) n (wide-at c has) ∙ ap mark_of (sym (ap (λ (j : Node). replica s' c (AtNode j)) at ∙ own c has))
-        | inr far ↦ lent-mark_there (row_of rows.cells c) n k far ∙ ap mark_of (sym (elsewhere c (AtNode k) has (place_differs k n far)))
+        | inl at ↦ ap (mark_at (lent_at (row_of rows.cells c) n)) at ∙ lent-mark_here (row_of rows.cells c) n (wide-at c has) ∙ sym (ap (λ (j : Node). replica s' c (AtNode j)) at ∙ own c has)
+        | inr far ↦ lent-mark_there (row_of rows.cells c) n k far ∙ sym (elsewhere c (AtNode k) has (place_differs k n far))
       ]
     ];
     on_disk = λ c d home. elim (cases_Bool (has_cell ws c)) [

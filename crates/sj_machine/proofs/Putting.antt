@@ -14,7 +14,7 @@ use Rattle.sj_core.proofs.CellLists.{same_cell-refl, times, times-cons, times-ha
 use Rattle.sj_core.proofs.Reading.{same_cell-is}
 use Rattle.sj_core.proofs.Sums.{tally}
 use Rattle.sj_core.specs.Fold.{held_in}
-use Rattle.sj_machine.specs.declared.mark.Mark.TheVariants.{Valid}
+use Rattle.sj_core.specs.declared.mark.Mark.TheVariants.{Valid}
 use Rattle.sj_machine.specs.Agrees.{IsWide}
 use Rattle.sj_machine.specs.Copies.{Copies, row_of, with_row, written_at}
 use Rattle.sj_core.specs.Operands.{worked_on}

@@ -8,8 +8,8 @@ use Rattle.sj_base.specs.declared.ids.Node.{Node}
 use Rattle.sj_base.specs.Array.{Array}
 use Rattle.sj_core.proofs.Placing.{cells_differ}
 use Rattle.sj_core.proofs.Reading.{same_node}
-use Rattle.sj_machine.specs.declared.mark.Mark.{Mark}
-use Rattle.sj_machine.specs.declared.mark.Mark.TheVariants.{Invalid}
+use Rattle.sj_core.specs.declared.mark.Mark.{Mark}
+use Rattle.sj_core.specs.declared.mark.Mark.TheVariants.{Invalid}
 use Rattle.sj_machine.specs.Agrees.{IsWide}
 use Rattle.sj_machine.specs.Copies.{Copies, mark_at, row_of, tile_at, with_copy, with_row}
 use Rattle.sj_base.proofs.SameIds.{other_node}

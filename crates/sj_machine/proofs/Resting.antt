@@ -2,12 +2,14 @@
 use Rattle.std.proofs.Common.{◌≡◌, ◌<◌, Bool, true, false, sym, ◌∙◌, arith, length}
 use Rattle.std.proofs.lemmas.Bool.{false≢true, false_from_ne_true}
 use Rattle.std.proofs.lemmas.List.Elements.{All-get_or}
-use Rattle.sj_core.proofs.Words.{AtNode, Cell, CellState, Machine, Node, Place, Program, Replica, State, Invalid, Valid, cell_state, is_entry, is_leaving, is_valid, replica}
+use Rattle.sj_core.proofs.Words.{AtNode, Cell, CellState, Machine, Node, Place, Program, State, cell_state, is_entry, is_leaving, is_valid, replica}
 use Rattle.sj_core.proofs.Finding.{being_written-by}
 use Rattle.sj_core.proofs.Placing.{owned-fails, valid-row, valid-within}
 use Rattle.sj_core.proofs.Reading.{entry-inside, no_row}
 use Rattle.sj_core.proofs.Replicas.{leaving_by-valid, leaving-by_some}
 use Rattle.sj_core.specs.Coherent.{Coherent, is_being_written}
+use Rattle.sj_core.specs.declared.mark.Mark.{Mark}
+use Rattle.sj_core.specs.declared.mark.Mark.TheVariants.{Invalid, Valid}
 
 module _ (p : Program) (m : Machine) (s : State) (coherent : Coherent p m s) where
   row-width : (c : Cell) → c.0 < length s.cells → length (cell_state s c).nodes ≡ length m.nodes
@@ -34,7 +36,7 @@ module _ (p : Program) (m : Machine) (s : State) (coherent : Coherent p m s) whe
   leaving-valid c q leaving = let by = leaving-by_some (replica s c q) leaving in leaving_by-valid by.0 (replica s c q) by.1
 
   -- a cell with a replica that neither the writer's own nor an invalid one could be isn't being written
-  pub rests : (test : Replica → Bool) → test Valid ≡ false → test Invalid ≡ false → (c : Cell) (q : Place) → test (replica s c q) ≡ true → is_being_written p s c ≡ false
+  pub rests : (test : Mark → Bool) → test Valid ≡ false → test Invalid ≡ false → (c : Cell) (q : Place) → test (replica s c q) ≡ true → is_being_written p s c ≡ false
   rests test valid none c q passes = false_from_ne_true (is_being_written p s c) (λ written.
       (let by = being_written-by p s c written in
       let own = coherent.writers.owned by.0 _ c by.1 by.2 in

@@ -6,7 +6,7 @@ use Rattle.sj_base.specs.declared.trace.Event.{Event}
 use Rattle.sj_base.specs.declared.trace.Event.TheVariants.{Claim, Move, Moved, Drop, Run, End}
 use Rattle.std.proofs.lemmas.Bool.Decides.{Decides-eqb}
 use Rattle.sj_core.specs.Needs.{workers_of}
-use Rattle.sj_core.proofs.Words.{AtNode, Cell, Invalid, Machine, Node, OnDisk, Place, Program, State, Valid, Worker, has_cell, is_leaving, is_pinned, node_of, pins, replica, transfer, workers_at, zeros, dims_of, fresh_cells, written_cells, same_cell, is_valid, with_replica}
+use Rattle.sj_core.proofs.Words.{AtNode, Cell, Machine, Node, OnDisk, Place, Program, State, Worker, has_cell, is_leaving, is_pinned, node_of, pins, replica, transfer, workers_at, zeros, dims_of, fresh_cells, written_cells, same_cell, is_valid, with_replica}
 use Rattle.sj_core.proofs.Placing.{replica-cases, same_place-is}
 use Rattle.sj_core.proofs.Readiness.{filter-Contains, list_any-some}
 use Rattle.sj_core.proofs.Replicas.{coming_by-is}
@@ -24,6 +24,7 @@ use Rattle.sj_core.specs.Arrays.{Arrays, arrays_after, held_at, result_in}
 use Rattle.sj_core.proofs.Finding.{second_fails}
 use Rattle.sj_core.proofs.Ending.{end-replica}
 use Rattle.sj_core.proofs.Claiming.{claim-valid}
+use Rattle.sj_core.specs.declared.mark.Mark.TheVariants.{Invalid, Valid}
 use Rattle.sj_base.proofs.SameIds.{same_cell-is}
 use Rattle.sj_base.specs.Ids.{same_place}
 

@@ -18,7 +18,7 @@ use Rattle.sj_core.specs.Step.{disk_of}
 use Rattle.sj_node.specs.Entry.{NodeEntry, has_entry}
 use Rattle.sj_node.specs.Store.{Store, store}
 use Rattle.sj_machine.specs.Copies.{Copies, mark_at, row_of, tile_at}
-use Rattle.sj_machine.specs.Mark.{is_entry_mark, mark_of}
+use Rattle.sj_core.specs.Machine.{is_entry}
 
 -- what is kept: a row for each task, cell, node and worker
 pub record Rows : Type 0 where
@@ -54,7 +54,7 @@ pub record IsWide (n : ℕ) (row : Copies) : Type 0 where
 pub record HasMarks (p : Program) (m : Machine) (s : State) (cells : List Copies) : Type 0 where
   pub every_cell : length cells ≡ length p.cells
   pub wide : All (IsWide (length m.nodes)) cells
-  pub marks : (c : Cell) (n : Node) → mark_at (row_of cells c) n ≡ mark_of (replica s c (AtNode n))
+  pub marks : (c : Cell) (n : Node) → mark_at (row_of cells c) n ≡ replica s c (AtNode n)
   pub on_disk : (c : Cell) (d : DiskNo) → disk_of p m c ≡ Some d → (row_of cells c).on_disk ≡ is_valid (replica s c (OnDisk d))
   pub writes : (c : Cell) → (row_of cells c).writes ≡ writes s c
 
@@ -81,7 +81,7 @@ pub record Agrees (p : Program) (m : Machine) (s : State) (A : Arrays) (Tells : 
 
 -- a node's entries are those of the cells of which the marks tell so
 abbrev pub AreMarked : List Copies → Node → List NodeEntry → Type 0
-AreMarked rows n entries = (c : Cell) → has_entry entries c ≡ is_entry_mark (mark_at (row_of rows c) n)
+AreMarked rows n entries = (c : Cell) → has_entry entries c ≡ is_entry (mark_at (row_of rows c) n)
 
 -- ---- changing rows
 

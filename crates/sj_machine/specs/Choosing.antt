@@ -14,21 +14,21 @@ use Rattle.sj_core.specs.Program.{has_cell, same_cell}
 use Rattle.sj_core.specs.Step.{same_place}
 use Rattle.sj_machine.specs.Copies.{Copies, mark_at, row_of}
 use Rattle.sj_machine.specs.Operands.{worked_among, written_among}
-use Rattle.sj_machine.specs.Mark.{is_coming_mark_by, is_leaving_mark_by, is_there}
+use Rattle.sj_core.specs.Machine.{is_coming_by, is_leaving_by, is_valid}
 
 -- ---- copies
 
 -- the copy of the cell at the node leaves by the worker's claim
 abbrev pub leaves_in : List Copies → Node → Worker → Cell → Bool
-leaves_in rows n w c = is_leaving_mark_by w (mark_at (row_of rows c) n)
+leaves_in rows n w c = is_leaving_by w (mark_at (row_of rows c) n)
 
 -- a copy of the cell comes to the node by the worker's claim
 abbrev pub comes_in : List Copies → Node → Worker → Cell → Bool
-comes_in rows n w c = is_coming_mark_by w (mark_at (row_of rows c) n)
+comes_in rows n w c = is_coming_by w (mark_at (row_of rows c) n)
 
 -- the node has a copy of the cell
 abbrev pub is_there_in : List Copies → Node → Cell → Bool
-is_there_in rows n c = is_there (mark_at (row_of rows c) n)
+is_there_in rows n c = is_valid (mark_at (row_of rows c) n)
 
 -- ---- transfers
 

@@ -6,9 +6,9 @@ use Rattle.sj_base.specs.declared.ids.Node.{Node}
 use Rattle.sj_base.specs.declared.ids.Place.{Place}
 use Rattle.sj_base.specs.declared.ids.Place.TheVariants.{Node as AtNode, Disk as OnDisk}
 use Rattle.sj_base.specs.Array.{Array}
-use Rattle.sj_machine.specs.declared.mark.Mark.{Mark}
-use Rattle.sj_machine.specs.declared.mark.Mark.TheVariants.{Invalid, Valid}
-use Rattle.sj_machine.specs.Mark.{is_there}
+use Rattle.sj_core.specs.declared.mark.Mark.{Mark}
+use Rattle.sj_core.specs.declared.mark.Mark.TheVariants.{Invalid, Valid}
+use Rattle.sj_core.specs.Machine.{is_valid}
 
 -- what the cell is at each node, the tile that is kept there, whether its block on a disk is a copy, and how many tasks
 -- have written it
@@ -45,7 +45,7 @@ CanShare rows c (OnDisk d) = Unit {0}
 
 -- a copy is in this place, which is another than that
 abbrev pub is_copy_beside : List Mark → ℕ → ℕ → Bool
-is_copy_beside marks here k = not (nat_eq k here) && is_there (slice_index_or marks k Invalid)
+is_copy_beside marks here k = not (nat_eq k here) && is_valid (slice_index_or marks k Invalid)
 
 -- a copy is on a disk, or at another node
 abbrev pub is_elsewhere : Copies → Node → Bool
@@ -53,7 +53,7 @@ is_elsewhere row n = row.on_disk || list_any (is_copy_beside row.marks n.0) (ran
 
 -- the node with the least number at which a copy is
 abbrev pub first_node : Copies → Option Node
-first_node row = option_map (λ k. record { 0 = k }) (position is_there row.marks)
+first_node row = option_map (λ k. record { 0 = k }) (position is_valid row.marks)
 
 -- ---- changing
 

@@ -6,7 +6,6 @@ pub mod Counts
 pub mod Delivery
 pub mod Gone
 pub mod Headers
-pub mod Mark
 pub mod NodeCopy
 pub mod Operands
 pub mod Placing

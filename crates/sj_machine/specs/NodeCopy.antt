@@ -1,8 +1,8 @@
 -- What is kept of a cell at nodes.
 use Rattle.std.specs.Prelude.{List, Option, None, map}
 use Rattle.sj_base.specs.Array.{Array}
-use Rattle.sj_machine.specs.declared.mark.Mark.{Mark}
-use Rattle.sj_machine.specs.declared.mark.Mark.TheVariants.{Invalid, Valid}
+use Rattle.sj_core.specs.declared.mark.Mark.{Mark}
+use Rattle.sj_core.specs.declared.mark.Mark.TheVariants.{Invalid, Valid}
 
 -- what the cell is at a node, and the tile that is kept there
 pub record NodeCopy : Type 0 where

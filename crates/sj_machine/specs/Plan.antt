@@ -15,7 +15,7 @@ use Rattle.sj_core.specs.Step.{missing, victims_for}
 use Rattle.sj_node.specs.Entry.{AreDistinctCells, admitted, has_entry, pins_of, repinned, entry_to_front, without_all}
 use Rattle.sj_node.specs.Store.{Store, empty, free_bytes, with_entries}
 use Rattle.sj_machine.specs.Copies.{Copies, with_row}
-use Rattle.sj_machine.specs.declared.mark.Mark.{Mark}
+use Rattle.sj_core.specs.declared.mark.Mark.{Mark}
 
 -- ---- a plan
 

@@ -19,7 +19,6 @@ use Rattle.sj_node.specs.Entry.{has_entry}
 use Rattle.sj_node.specs.Store.{Store, need_victims}
 use Rattle.sj_machine.specs.Agrees.{row_at}
 use Rattle.sj_machine.specs.Copies.{Copies, mark_at, row_of}
-use Rattle.sj_machine.specs.Mark.{is_leaving_mark}
 use Rattle.sj_machine.specs.Operands.{CanWorkOn}
 use Rattle.sj_machine.specs.Plan.{ClaimPlan, IsPlan, IsSmallCell}
 use Rattle.sj_machine.specs.Standing.{CanHappen, Standing, state}
@@ -106,7 +105,7 @@ HoldsCommutersAlone p s t w = (c : Cell) (v : Worker) → IsTrue (has_cell (comm
 
 -- a copy of the cell leaves the node
 abbrev pub is_leaving_at : List Copies → Node → Cell → Bool
-is_leaving_at rows n c = is_leaving_mark (mark_at (row_of rows c) n)
+is_leaving_at rows n c = is_leaving (mark_at (row_of rows c) n)
 
 -- none of these does
 abbrev pub NoneLeaves : List Copies → Node → List Cell → Type 0

@@ -11,7 +11,7 @@ ghost use Rattle.sj_machine.specs.Operands.{worked_among};
 
 use crate::copies::Copies;
 use crate::hold::Hold;
-use crate::mark::Mark;
+use sj_core::mark::Mark;
 use crate::operands::worked_on;
 use sj_base::ids::{Cell, Node, Place, Worker};
 use sj_base::mode::{Access, Mode};

@@ -8,7 +8,7 @@ ghost use Rattle.sj_machine.specs.Plan.{CanHold, CanTakeAll, holding, marked, ro
 
 use crate::copies::Copies;
 use crate::hold::Hold;
-use crate::mark::Mark;
+use sj_core::mark::Mark;
 use crate::plan::Plan;
 use sj_base::ids::{Cell, Node, Worker};
 use sj_base::memory::OutOfMemory;

@@ -2,13 +2,13 @@
 
 ghost use Rattle.std.specs.Prelude.{◌≡◌, ◌+◌, ◌^◌, ◌<◌, ◌≤◌, IfOk, IfSome, IsTrue, Some, None, is_some, length, map, position, replicate, slice_index_or, slice_set};
 ghost use Rattle.std.specs.List.{list_any, range_with_len};
-ghost use Rattle.sj_machine.specs.Mark.{is_there};
+ghost use Rattle.sj_core.specs.Machine.{is_valid};
 ghost use Rattle.sj_machine.specs.Copies.{first_node, is_copy_beside, is_elsewhere, lent_at, mark_at, none_at, stored, tile_at, with_copy, written_at};
 ghost use Rattle.sj_machine.specs.NodeCopy.{bare_copy, lent_copy, marks_in};
 ghost use Rattle.sj_machine.specs.Plan.{with_mark};
 ghost use Rattle.sj_machine.specs.Tiles.{array_in};
 
-use crate::mark::Mark;
+use sj_core::mark::Mark;
 use crate::node_copy::NodeCopy;
 use crate::spent::Spent;
 use sj_base::ids::Node;
@@ -73,7 +73,7 @@ fn is_at_another(nodes: &[NodeCopy], here: usize) -> bool
 
 /// The first place with a copy. Linear in the places.
 fn first_copy(nodes: &[NodeCopy]) -> Option<usize>
-    ensures place { result ≡ position (λ copy. is_there copy.mark) nodes.now }
+    ensures place { result ≡ position (λ copy. is_valid copy.mark) nodes.now }
     ensures inside { IfSome result (λ k. k < length nodes.now) }
 {
     nodes.iter().position(|copy| copy.mark().is_there())

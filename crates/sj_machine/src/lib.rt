@@ -13,7 +13,6 @@ pub mod few_cells;
 mod gone;
 pub mod hold;
 pub mod leaving;
-pub mod mark;
 pub mod needs;
 mod node_copy;
 pub mod operands;

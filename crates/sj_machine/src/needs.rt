@@ -6,7 +6,7 @@ ghost use Rattle.sj_base.specs.Mode.{is_scratch};
 ghost use Rattle.sj_core.specs.Needs.{tile_bytes as bytes_of_tile};
 ghost use Rattle.sj_core.specs.Program.{distinct, has_cell};
 ghost use Rattle.sj_machine.specs.Copies.{mark_at, row_of};
-ghost use Rattle.sj_machine.specs.Mark.{is_entry_mark};
+ghost use Rattle.sj_core.specs.Machine.{is_entry};
 ghost use Rattle.sj_machine.specs.Plan.{IsSmallCell};
 
 use crate::choosing::mark_at;
@@ -70,7 +70,7 @@ pub fn scratch_bytes(program: &Program, accesses: &[Access]) -> u64
 fn is_lacking(rows: &[Copies], n: Node, cell: Cell, later: &[Cell]) -> bool
     requires { All (λ row. n.0 < length row.marks) rows.now }
     ensures { result ≡ (not (has_cell later.now cell) && not
-        (is_entry_mark (mark_at (row_of rows.now cell) n))) }
+        (is_entry (mark_at (row_of rows.now cell) n))) }
 {
     !later.contains(&cell) && !mark_at(rows, n, cell).is_entry_mark()
 }
@@ -80,7 +80,7 @@ pub fn lacking_cells(rows: &[Copies], n: Node, cells: &[Cell]) -> FewCells
     requires wide { All (λ row. n.0 < length row.marks) rows.now }
     requires few { length cells.now ≤ 5 }
     ensures { result
-        ≡ filter (λ c. not (is_entry_mark (mark_at (row_of rows.now c) n))) (distinct cells.now) }
+        ≡ filter (λ c. not (is_entry (mark_at (row_of rows.now c) n))) (distinct cells.now) }
 {
     let mut lacking = FewCells::none();
     for i in 0..cells.len() {

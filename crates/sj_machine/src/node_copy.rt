@@ -4,7 +4,7 @@ ghost use Rattle.std.specs.Prelude.{◌≡◌, IfOk, IsTrue, Some, is_some};
 ghost use Rattle.sj_machine.specs.NodeCopy.{bare_copy};
 ghost use Rattle.sj_machine.specs.Tiles.{array_in};
 
-use crate::mark::Mark;
+use sj_core::mark::Mark;
 use crate::spent::Spent;
 use sj_base::memory::OutOfMemory;
 use sj_base::tile::Tile;

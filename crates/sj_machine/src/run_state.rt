@@ -36,7 +36,7 @@ use crate::delivery::is_delivery;
 use crate::ending::{let_go, put_back, release_at};
 use crate::hold::Hold;
 use crate::leaving::leaving_at;
-use crate::mark::Mark;
+use sj_core::mark::Mark;
 use crate::operands::{commuter_held, written_cells};
 use crate::plan::{Plan, Why};
 use crate::room::whole_trace;

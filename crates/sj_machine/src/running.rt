@@ -4,7 +4,7 @@ ghost use Rattle.std.specs.Prelude.{◌≡◌, ◌≢◌, ℕ, ◌+◌, ◌<◌,
 ghost use Rattle.sj_base.specs.declared.ids.Node.{Node};
 ghost use Rattle.sj_machine.specs.Agrees.{AreMarked};
 ghost use Rattle.sj_machine.specs.Copies.{lent_at, mark_at, row_of, with_row};
-ghost use Rattle.sj_machine.specs.Mark.{is_entry_mark};
+ghost use Rattle.sj_core.specs.Machine.{is_entry};
 ghost use Rattle.sj_machine.specs.Running.{AreUnpinned, CanGive, evicted_at, lend_each, shares_at};
 ghost use Rattle.sj_node.specs.Entry.{has_entry, pins_of, without_entry, without_all};
 ghost use Rattle.sj_node.specs.Store.{Store, with_entries};
@@ -93,7 +93,7 @@ pub fn lend_each(cells: &mut Vec<Copies>, written: &[Cell], n: Node, spent: &mut
 /// Takes a cell's unpinned entry away, if the node has one. One look-up where the cell's mark tells of an entry, and else none.
 fn remove_entry(node: &mut NodeStore, rows: &[Copies], k: Node, cell: Cell)
     requires wide { All (λ row. k.0 < length row.marks) rows.now }
-    requires absent { is_entry_mark (mark_at (row_of rows.now cell) k) ≡ false →
+    requires absent { is_entry (mark_at (row_of rows.now cell) k) ≡ false →
         has_entry node.old.entries cell ≡ false }
     requires unpinned { pins_of node.old.entries cell ≡ 0 }
     ensures { node.new ≡ with_entries node.old (without_entry cell node.old.entries) }

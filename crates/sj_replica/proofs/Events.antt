@@ -6,8 +6,7 @@ use Rattle.std.proofs.lemmas.List.{get_or-replicate, get_or-set_other, get_or-se
 use Rattle.std.proofs.lemmas.Nat.{mod_below}
 use Rattle.sj_base.proofs.SameIds.{same_cell-is}
 use Rattle.sj_core.specs.declared.progress.Progress.TheVariants.{Running}
-use Rattle.sj_core.proofs.Words.{AtNode, Cell, CellState, Claim, DiskNo, Drop, End, Machine, Move, Moved, Node, OnDisk, Place, Program, Replica, Run, State, Task, Worker, cell_state, has_cell, is_entry, is_valid, node_of, progress, replica, same_cell, transfer, with_replica, writes, written_cells}
-use Rattle.sj_core.proofs.Words.{Coming as ComingReplica, Invalid as NoReplica, Valid as ValidReplica}
+use Rattle.sj_core.proofs.Words.{AtNode, Cell, CellState, Claim, DiskNo, Drop, End, Machine, Move, Moved, Node, OnDisk, Place, Program, Run, State, Task, Worker, cell_state, has_cell, is_entry, is_valid, node_of, progress, replica, same_cell, transfer, with_replica, writes, written_cells}
 use Rattle.sj_core.proofs.Blocks.{disk-within}
 use Rattle.sj_core.proofs.CellLists.{same_cell-from}
 use Rattle.sj_core.proofs.Changing.{place_differs}
@@ -26,6 +25,8 @@ use Rattle.sj_replica.specs.Events.{EventsAreCalls, IsSeenAs, at_of, event_on}
 use Rattle.sj_replica.specs.declared.state.At.{At}
 use Rattle.sj_replica.specs.declared.state.At.TheVariants.{Coming, Invalid, Leaving, Valid}
 use Rattle.sj_core.proofs.Ending.{end-replica}
+use Rattle.sj_core.specs.declared.mark.Mark.{Mark}
+use Rattle.sj_core.specs.declared.mark.Mark.TheVariants.{Coming as ComingReplica, Invalid as NoReplica, Valid as ValidReplica}
 
 module _ (p : Program) (m : Machine) (s : State) (h : IsSound p m s) (c : Cell) (k : CellCopies) (seen : IsSeenAs p m s c k) where
   -- ---- one mark, and none
@@ -128,11 +129,11 @@ module _ (p : Program) (m : Machine) (s : State) (h : IsSound p m s) (c : Cell) 
       by_test false = still
 
   -- where one replica of the cell was written, at each other place it is as it was
-  written-elsewhere : (to : Place) (r : Replica) (q : Place) → q ≢ to → replica (with_replica s c to r) c q ≡ replica s c q
+  written-elsewhere : (to : Place) (r : Mark) (q : Place) → q ≢ to → replica (with_replica s c to r) c q ≡ replica s c q
   written-elsewhere to r q d = elim (replica-cases s c to r c q) [ inl same ↦ same | inr (e, here, is) ↦ absurd (d here) ]
 
   -- and where one of another was, everywhere
-  written-another : (x : Cell) (to : Place) (r : Replica) → same_cell x c ≡ false → (q : Place) → replica (with_replica s x to r) c q ≡ replica s c q
+  written-another : (x : Cell) (to : Place) (r : Mark) → same_cell x c ≡ false → (q : Place) → replica (with_replica s x to r) c q ≡ replica s c q
   written-another x to r other q = elim (replica-cases s x to r c q) [ inl same ↦ same | inr (e, here, is) ↦ absurd (false≢true (sym other ∙ same_cell-from x c (sym e))) ]
 
   arrived : (to from : Place) (w : Worker) → transfer s w ≡ Some (a_transfer c from to) → IsSeenAs p m (with_replica s c to ValidReplica) c (with_at k to Valid)

@@ -10,7 +10,9 @@ use Rattle.sj_base.specs.declared.program.Program.{Program}
 use Rattle.sj_base.specs.declared.trace.Event.{Event}
 use Rattle.sj_base.specs.declared.trace.Event.TheVariants.{Claim, Move, Moved, Drop, Run, End}
 use Rattle.sj_core.specs.Laws.{IsSound}
-use Rattle.sj_core.specs.Machine.{Replica, State, replica, writes, Invalid as NoReplica, Coming as ComingReplica, Valid as ValidReplica, Leaving as LeavingReplica}
+use Rattle.sj_core.specs.declared.mark.Mark.{Mark}
+use Rattle.sj_core.specs.declared.mark.Mark.TheVariants.{Invalid as NoReplica, Coming as ComingReplica, Valid as ValidReplica, Leaving as LeavingReplica}
+use Rattle.sj_core.specs.Machine.{State, replica, writes}
 use Rattle.sj_core.specs.Needs.{node_of}
 use Rattle.sj_core.specs.Operands.{written_cells}
 use Rattle.sj_core.specs.Program.{has_cell, same_cell}
@@ -20,7 +22,7 @@ use Rattle.sj_replica.specs.declared.state.At.{At}
 use Rattle.sj_replica.specs.declared.state.At.TheVariants.{Invalid, Coming, Valid, Leaving}
 
 -- what a place has of a cell, but for the worker of a claim
-abbrev pub at_of : Replica → At
+abbrev pub at_of : Mark → At
 at_of NoReplica = Invalid
 at_of (ComingReplica w) = Coming
 at_of ValidReplica = Valid

@@ -3,7 +3,7 @@
 use super::RunState;
 use crate::choosing::{are_gone, is_fresh, is_read, mark_at, may_run};
 use crate::claiming::node_of;
-use crate::mark::Mark;
+use sj_core::mark::Mark;
 use crate::plan::bytes_to_come;
 use sj_base::ids::{Cell, DiskNo, Node, Task, Worker};
 use sj_core::tasks::task_at;
@@ -16,13 +16,13 @@ impl<D: Disk> RunState<D> {
     ghost use Rattle.sj_core.specs.Needs.{node_of};
     ghost use Rattle.sj_core.specs.Step.{disk_of, is_fresh, is_read, is_valid_elsewhere, to_come};
     ghost use Rattle.sj_core.specs.declared.progress.Progress.TheVariants.{Claimed};
-    ghost use Rattle.sj_machine.specs.Mark.{mark_of};
+
     ghost use Rattle.sj_machine.specs.Standing.{state};
     ghost use Rattle.sj_machine.specs.Todo.{may_run};
 
     /// What a cell is at a node: nothing at one that there isn't. Constant time.
     pub fn mark(&self, cell: Cell, n: Node) -> Mark
-        ensures { result ≡ mark_of (replica (state self.now) cell (AtNode n)) }
+        ensures { result ≡ replica (state self.now) cell (AtNode n) }
     {
         if n.0 as usize >= self.machine.nodes.len() {
             return Mark::Invalid;

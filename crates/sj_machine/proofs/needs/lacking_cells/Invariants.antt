@@ -1,11 +1,11 @@
 use Rattle.std.proofs.Common.{◌≡◌, ◌≤◌, ◌++◌, drop, filter, length, not}
 use Rattle.sj_core.specs.Program.{distinct}
 use Rattle.sj_machine.specs.Copies.{mark_at, row_of}
-use Rattle.sj_machine.specs.Mark.{is_entry_mark}
+use Rattle.sj_core.specs.Machine.{is_entry}
 use Rattle.sj_machine.proofs.needs.lacking_cells.Given as goal
 
 abbrev pub invariant-loop-i : goal.invariant-loop-i
 invariant-loop-i l = record {
-  cells : l.lacking ++ filter (λ c. not (is_entry_mark (mark_at (row_of l.rows c) l.n))) (distinct (drop l.i l.cells)) ≡ filter (λ c. not (is_entry_mark (mark_at (row_of l.rows c) l.n))) (distinct l.cells);
+  cells : l.lacking ++ filter (λ c. not (is_entry (mark_at (row_of l.rows c) l.n))) (distinct (drop l.i l.cells)) ≡ filter (λ c. not (is_entry (mark_at (row_of l.rows c) l.n))) (distinct l.cells);
   few : length l.lacking ≤ l.i;
 }

@@ -1,7 +1,7 @@
 use Rattle.std.proofs.Common.{◌∙◌, None, ap}
 use Rattle.sj_machine.specs.Copies.{Copies, with_copy}
 use Rattle.sj_machine.specs.NodeCopy.{bare_copy}
-use Rattle.sj_machine.specs.declared.mark.Mark.TheVariants.{Invalid}
+use Rattle.sj_core.specs.declared.mark.Mark.TheVariants.{Invalid}
 use Rattle.sj_machine.proofs.NodeCopies.{row-put}
 use Rattle.sj_machine.proofs.copies.Copies.clear.Goals as goal
 

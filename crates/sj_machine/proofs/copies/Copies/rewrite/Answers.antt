@@ -1,6 +1,6 @@
 use Rattle.std.proofs.Common.{◌∙◌, Some, ap}
 use Rattle.sj_machine.specs.Copies.{Copies, written_at}
-use Rattle.sj_machine.specs.declared.mark.Mark.TheVariants.{Valid}
+use Rattle.sj_core.specs.declared.mark.Mark.TheVariants.{Valid}
 use Rattle.sj_machine.proofs.NodeCopies.{row-put}
 use Rattle.sj_machine.proofs.copies.Copies.rewrite.Goals as goal
 

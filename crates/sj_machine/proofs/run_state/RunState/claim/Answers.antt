@@ -9,7 +9,7 @@ use Rattle.sj_machine.specs.Agrees.{rows_of}
 use Rattle.sj_machine.specs.Copies.{Copies}
 use Rattle.sj_machine.specs.Plan.{IsPlan, marked}
 use Rattle.sj_machine.specs.Standing.{CanHappen, Standing, state}
-use Rattle.sj_machine.specs.declared.mark.Mark.TheVariants.{Coming, Leaving}
+use Rattle.sj_core.specs.declared.mark.Mark.TheVariants.{Coming, Leaving}
 use Rattle.sj_machine.proofs.ClaimRows.{can-change, claimed_rows, keeps-claimed}
 use Rattle.sj_machine.proofs.Keeping.{has-room, keeps-told}
 use Rattle.sj_machine.proofs.run_state.RunState.claim.Goals as goal

@@ -1,11 +1,11 @@
-//! What a cell is at a node.
+//! What a cell is at a place: the word in which the states of runs tell of copies.
 
 ghost use Rattle.std.specs.Prelude.{◌≡◌};
-ghost use Rattle.sj_machine.specs.Mark.{is_coming_mark_by, is_entry_mark, is_leaving_mark, is_leaving_mark_by, is_there};
+ghost use Rattle.sj_core.specs.Machine.{is_coming_by, is_entry, is_leaving, is_leaving_by, is_valid};
 
 use sj_base::ids::Worker;
 
-/// What a cell is at a node, its array aside.
+/// What a cell is at a place.
 #[derive(Clone, Copy, Debug, PartialEq, Eq)]
 pub enum Mark {
     /// It has no copy there.
@@ -21,28 +21,28 @@ pub enum Mark {
 impl Mark {
     /// Whether there is a copy. Constant time.
     pub fn is_there(self) -> bool
-        ensures { result ≡ is_there self }
+        ensures { result ≡ is_valid self }
     {
         matches!(self, Mark::Valid | Mark::Leaving(_))
     }
 
     /// Whether the node has an entry for the cell: there is a copy that stays, or one that comes. Constant time.
     pub fn is_entry_mark(self) -> bool
-        ensures { result ≡ is_entry_mark self }
+        ensures { result ≡ is_entry self }
     {
         matches!(self, Mark::Valid | Mark::Coming(_))
     }
 
     /// Whether there is a copy that leaves. Constant time.
     pub fn is_leaving(self) -> bool
-        ensures { result ≡ is_leaving_mark self }
+        ensures { result ≡ is_leaving self }
     {
         matches!(self, Mark::Leaving(_))
     }
 
     /// Whether there is a copy that leaves by the claim of this worker. Constant time.
     pub fn is_leaving_by(self, w: Worker) -> bool
-        ensures { result ≡ is_leaving_mark_by w self }
+        ensures { result ≡ is_leaving_by w self }
     {
         match self {
             Mark::Leaving(v) => v == w,
@@ -52,7 +52,7 @@ impl Mark {
 
     /// Whether a copy comes by the claim of this worker. Constant time.
     pub fn is_coming_by(self, w: Worker) -> bool
-        ensures { result ≡ is_coming_mark_by w self }
+        ensures { result ≡ is_coming_by w self }
     {
         match self {
             Mark::Coming(v) => v == w,
