@@ -11,11 +11,11 @@ ghost use Rattle.sj_machine.specs.Operands.{worked_among};
 
 use crate::copies::Copies;
 use crate::hold::Hold;
-use sj_core::mark::Mark;
 use crate::operands::worked_on;
 use sj_base::ids::{Cell, Node, Place, Worker};
 use sj_base::mode::{Access, Mode};
 use sj_base::program::Program;
+use sj_core::mark::Mark;
 
 /// What a cell is at a node. Constant time.
 pub fn mark_at(cells: &[Copies], n: Node, cell: Cell) -> Mark

@@ -8,11 +8,11 @@ ghost use Rattle.sj_machine.specs.Plan.{CanHold, CanTakeAll, holding, marked, ro
 
 use crate::copies::Copies;
 use crate::hold::Hold;
-use sj_core::mark::Mark;
 use crate::plan::Plan;
 use sj_base::ids::{Cell, Node, Worker};
 use sj_base::memory::OutOfMemory;
 use sj_base::program::Machine;
+use sj_core::mark::Mark;
 use sj_node::store::NodeStore;
 
 /// The node to which a worker is bound. Constant time.

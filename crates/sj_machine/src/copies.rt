@@ -8,12 +8,12 @@ ghost use Rattle.sj_machine.specs.NodeCopy.{bare_copy, lent_copy, marks_in};
 ghost use Rattle.sj_machine.specs.Plan.{with_mark};
 ghost use Rattle.sj_machine.specs.Tiles.{array_in};
 
-use sj_core::mark::Mark;
 use crate::node_copy::NodeCopy;
 use crate::spent::Spent;
 use sj_base::ids::Node;
 use sj_base::memory::OutOfMemory;
 use sj_base::tile::Tile;
+use sj_core::mark::Mark;
 use smallvec::SmallVec;
 use std::alloc::Global;
 use std::marker::Model;

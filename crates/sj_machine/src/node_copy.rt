@@ -4,10 +4,10 @@ ghost use Rattle.std.specs.Prelude.{◌≡◌, IfOk, IsTrue, Some, is_some};
 ghost use Rattle.sj_machine.specs.NodeCopy.{bare_copy};
 ghost use Rattle.sj_machine.specs.Tiles.{array_in};
 
-use sj_core::mark::Mark;
 use crate::spent::Spent;
 use sj_base::memory::OutOfMemory;
 use sj_base::tile::Tile;
+use sj_core::mark::Mark;
 use std::marker::Model;
 use std::mem;
 use std::sync::Arc;

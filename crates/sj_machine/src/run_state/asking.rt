@@ -3,9 +3,9 @@
 use super::RunState;
 use crate::choosing::{are_gone, is_fresh, is_read, mark_at, may_run};
 use crate::claiming::node_of;
-use sj_core::mark::Mark;
 use crate::plan::bytes_to_come;
 use sj_base::ids::{Cell, DiskNo, Node, Task, Worker};
+use sj_core::mark::Mark;
 use sj_core::tasks::task_at;
 use sj_edge::disk::Disk;
 
@@ -16,7 +16,6 @@ impl<D: Disk> RunState<D> {
     ghost use Rattle.sj_core.specs.Needs.{node_of};
     ghost use Rattle.sj_core.specs.Step.{disk_of, is_fresh, is_read, is_valid_elsewhere, to_come};
     ghost use Rattle.sj_core.specs.declared.progress.Progress.TheVariants.{Claimed};
-
     ghost use Rattle.sj_machine.specs.Standing.{state};
     ghost use Rattle.sj_machine.specs.Todo.{may_run};
 
