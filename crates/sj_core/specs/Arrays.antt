@@ -1,5 +1,5 @@
--- The arrays beside the state: which one each cell has at each place is a function of the events alone. Where no replica is
--- valid it is any.
+-- The arrays beside the state: which one each cell has at each place is a function of the events alone. Where there is no copy
+-- it is any.
 use Rattle.std.specs.Prelude.{◌≡◌, ◌<◌, false, ◌&&◌, IsTrue, List, fold, if◌then◌else◌}
 use Rattle.std.specs.List.{zip}
 use Rattle.sj_base.specs.declared.ids.Cell.{Cell}
@@ -18,8 +18,9 @@ use Rattle.sj_core.specs.Needs.{node_of}
 use Rattle.sj_core.specs.declared.progress.Progress.TheVariants.{Running}
 use Rattle.sj_core.specs.Operands.{written_cells, fresh_cells, results}
 use Rattle.sj_core.specs.Fold.{fold_of, held_in}
-use Rattle.sj_core.specs.Machine.{State, progress, replica, writes, is_valid, done_in, done_by}
+use Rattle.sj_core.specs.Machine.{State, progress, writes, done_in, done_by}
 use Rattle.sj_core.specs.Coherent.{is_being_written}
+use Rattle.sj_core.specs.Step.{has_copy}
 
 -- the array of each cell at each place
 abbrev pub Arrays : Type 0
@@ -57,8 +58,8 @@ content p s c = fold_of p (done_in s) (done_by s) c
 abbrev pub written_content : Program → State → Task → Worker → Cell → Array
 written_content p s t w c = if has_cell (fresh_cells p t w) c then zeros (dims_of p c) else content p s c
 
--- each cell that a running task writes is on its worker's node as the task found it; and each valid replica of one that has
+-- each cell that a running task writes is on its worker's node as the task found it; and each copy of one that has
 -- been written, and that no running task writes, holds its content
 pub record HoldsContent (p : Program) (m : Machine) (s : State) (A : Arrays) : Type 0 where
   pub begun : (t : Task) (w : Worker) (c : Cell) → progress s t ≡ Running w → IsTrue (has_cell (written_cells p t w) c) → A c (AtNode (node_of m w)) ≡ written_content p s t w c
-  pub alike : (c : Cell) (q : Place) → 0 < writes s c → is_being_written p s c ≡ false → IsTrue (is_valid (replica s c q)) → A c q ≡ content p s c
+  pub alike : (c : Cell) (q : Place) → 0 < writes s c → is_being_written p s c ≡ false → IsTrue (has_copy p m s c q) → A c q ≡ content p s c

@@ -13,12 +13,12 @@ use Rattle.sj_base.specs.declared.ids.DiskNo.{DiskNo}
 use Rattle.sj_base.specs.declared.ids.Place.{Place}
 use Rattle.sj_base.specs.declared.program.Program.{Program}
 use Rattle.sj_base.specs.declared.program.Machine.{Machine}
-use Rattle.sj_core.specs.Machine.{State, progress, replica, transfer, is_valid}
+use Rattle.sj_core.specs.Machine.{State, cell_state, progress, mark, transfer, is_valid}
 use Rattle.sj_core.specs.Proper.{Proper, IsMachineFor, HasSwapFor, IsOpenAt, IsPhase, IsPlain, Phase, gives_value}
 use Rattle.sj_base.specs.Mode.{reads_value, is_in_order, access}
 use Rattle.sj_core.specs.Arrays.{Arrays, HoldsContent, arrays_after, arrays_of, content}
 use Rattle.sj_core.specs.Coherent.{Coherent}
-use Rattle.sj_core.specs.Step.{May, a_transfer, after, disk_of, mover_of}
+use Rattle.sj_core.specs.Step.{May, a_transfer, after, cell_after, disk_of, has_copy, mover_of}
 use Rattle.sj_base.specs.declared.mode.Mode.TheVariants.{R}
 use Rattle.sj_base.specs.declared.mode.Access.{Access}
 use Rattle.sj_base.specs.declared.ids.Place.TheVariants.{Node as AtNode, Disk as OnDisk}
@@ -67,6 +67,10 @@ IsKeptByEndedMoves Fact = (p : Program) (m : Machine) (s : State) (c : Cell) (fr
 abbrev pub IsKeptByDrops : (Program → Machine → State → Type 0) → Type 0
 IsKeptByDrops Fact = (p : Program) (m : Machine) (s : State) (c : Cell) (n : Node) → IsSound p m s → May p m s (Drop c n) → Fact p m (after p m s (Drop c n))
 
+-- each event changes the row of each cell of the table as `cell_after` says
+abbrev pub EventsChangeRows : Type 0
+EventsChangeRows = (p : Program) (m : Machine) (s : State) (e : Event) (c : Cell) → c.0 < length s.cells → cell_state (after p m s e) c ≡ cell_after p m s e c (cell_state s c)
+
 -- ---- the set of a program's codelets
 
 -- a set that has these codelets has the one of this id
@@ -91,7 +95,7 @@ EventsKeepContent = (has : Kernel → Bool) (p : Program) (m : Machine) (s : Sta
 -- the task runs on the worker, or is claimed by it and the cell is valid on the worker's node
 pub data HasAtHand (m : Machine) (s : State) (t : Task) (w : Worker) (c : Cell) : Type 0 where
   Works : progress s t ≡ Running w → HasAtHand m s t w c
-  Brought : progress s t ≡ Claimed w → IsTrue (is_valid (replica s c (AtNode (node_of m w)))) → HasAtHand m s t w c
+  Brought : progress s t ≡ Claimed w → IsTrue (is_valid (mark s c (node_of m w))) → HasAtHand m s t w c
 
 -- each operand whose old value a task reads has on its worker's node what the tasks that are done leave in the cell that is
 -- worked on
@@ -146,15 +150,15 @@ DisksAreOfMachine = (p : Program) (m : Machine) (c : Cell) (d : DiskNo) → disk
 abbrev pub final : Program → Cell → Array
 final p c = held_before p (length p.tasks) c
 
--- each cell to which a task gives a value has a valid replica, and each holds what all tasks leave, unless the cell is a
+-- each cell to which a task gives a value has a copy, and each holds what all tasks leave, unless the cell is a
 -- partial copy
-pub record HoldsFinal (p : Program) (s : State) (A : Arrays) : Type 0 where
-  pub somewhere : (t : Task) (c : Cell) → IsTrue (gives_value (task_of p t) c) → (q : Place) × IsTrue (is_valid (replica s c q))
-  pub alike : (t : Task) (c : Cell) (q : Place) → IsTrue (gives_value (task_of p t) c) → IsPlain p c → IsTrue (is_valid (replica s c q)) → A c q ≡ final p c
+pub record HoldsFinal (p : Program) (m : Machine) (s : State) (A : Arrays) : Type 0 where
+  pub somewhere : (t : Task) (c : Cell) → IsTrue (gives_value (task_of p t) c) → (q : Place) × IsTrue (has_copy p m s c q)
+  pub alike : (t : Task) (c : Cell) (q : Place) → IsTrue (gives_value (task_of p t) c) → IsPlain p c → IsTrue (has_copy p m s c q) → A c q ≡ final p c
 
 -- it is so where all tasks are done
 abbrev pub CompleteHoldsFinal : Type 0
-CompleteHoldsFinal = (has : Kernel → Bool) (p : Program) (m : Machine) (s : State) (A : Arrays) → IsSound p m s → HoldsContent p m s A → IsLawful has p → IsComplete s → HoldsFinal p s A
+CompleteHoldsFinal = (has : Kernel → Bool) (p : Program) (m : Machine) (s : State) (A : Arrays) → IsSound p m s → HoldsContent p m s A → IsLawful has p → IsComplete s → HoldsFinal p m s A
 
 -- each legal trace of a proper program leaves a coherent state
 abbrev pub TracesKeepCoherence : Type 0
@@ -166,4 +170,4 @@ TracesKeepContent = (has : Kernel → Bool) (p : Program) (m : Machine) (trace :
 
 -- and where it is complete, the cells hold what all tasks leave
 abbrev pub CompleteTracesHoldFinal : Type 0
-CompleteTracesHoldFinal = (has : Kernel → Bool) (p : Program) (m : Machine) (trace : List Event) → Proper p → IsMachineFor p m → IsLawful has p → IsFinished p m trace → HoldsFinal p (state_of p m trace) (arrays_of p m trace)
+CompleteTracesHoldFinal = (has : Kernel → Bool) (p : Program) (m : Machine) (trace : List Event) → Proper p → IsMachineFor p m → IsLawful has p → IsFinished p m trace → HoldsFinal p m (state_of p m trace) (arrays_of p m trace)

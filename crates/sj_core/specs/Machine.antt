@@ -1,30 +1,22 @@
--- The state of a run: how far each task is, where each cell has replicas, what each node holds, and what
--- each worker has in hand (CCPE 2011, "Data management": a replica is owner, shared or invalid). Which arrays
--- stand there is beside it, in `Arrays`.
+-- The state of a run: how far each task is, where each cell has copies, what each node holds, and what each worker has in hand
+-- (CCPE 2011, "Data management": a replica is owner, shared or invalid). Which arrays stand there is beside it, in `Arrays`.
 use Rattle.std.specs.Prelude.{ℕ, ◌+◌, ◌-◌, Bool, true, false, not, ◌||◌, nat_eq, Option, Some, None, List, [], filter, replicate, length, sum_by}
 use Rattle.std.specs.List.{slice_index_or, slice_set, list_any, list_all}
 use Rattle.sj_base.specs.declared.ids.Cell.{Cell}
 use Rattle.sj_base.specs.declared.ids.Task.{Task}
 use Rattle.sj_base.specs.declared.ids.Node.{Node}
 use Rattle.sj_base.specs.declared.ids.Worker.{Worker}
-use Rattle.sj_base.specs.declared.ids.Place.{Place}
-use Rattle.sj_base.specs.declared.ids.Place.TheVariants.{Node as AtNode, Disk as OnDisk}
 use Rattle.sj_base.specs.declared.program.Program.{Program}
 use Rattle.sj_base.specs.declared.program.Machine.{Machine}
 use Rattle.sj_core.specs.Program.{has_cell, same_cell}
 use Rattle.sj_core.specs.Needs.{node_of, node_size, tile_bytes, workers_of}
 use Rattle.sj_core.specs.Table.{renewed}
-use Rattle.sj_core.specs.declared.mark.Mark.{Mark}
-use Rattle.sj_core.specs.declared.mark.Mark.TheVariants.{Invalid, Coming, Valid, Leaving}
+use Rattle.sj_replica.specs.declared.mark.Mark.{Mark}
+pub use Rattle.sj_replica.specs.Mark.{claimant_of, is_coming_by, is_entry, is_leaving, is_leaving_by, is_valid, same_worker}
+pub use Rattle.sj_replica.specs.Replica.{CellState, mark_in, no_copy}
 use Rattle.sj_core.specs.declared.progress.Progress.{Progress}
 use Rattle.sj_core.specs.declared.progress.Progress.TheVariants.{Waiting, Claimed, Running, Done}
 use Rattle.sj_core.specs.declared.progress.Transfer.{Transfer}
-
--- a cell: its replicas by node and by disk, and how many tasks have written it
-pub record CellState : Type 0 where
-  pub nodes : List Mark
-  pub disks : List Mark
-  pub writes : ℕ
 
 -- a worker: the cells that it pins on its node, the scratch bytes that it holds there, the victims of its
 -- claim as they were chosen, and its transfer
@@ -48,14 +40,15 @@ abbrev pub progress : State → Task → Progress
 progress s t = slice_index_or s.tasks t.0 Waiting
 
 abbrev pub cell_state : State → Cell → CellState
-cell_state s c = slice_index_or s.cells c.0 (record { nodes = []; disks = []; writes = 0 })
+cell_state s c = slice_index_or s.cells c.0 (record { marks = []; on_disk = false; writes = 0 })
 
-abbrev pub replica_in : CellState → Place → Mark
-replica_in row (AtNode n) = slice_index_or row.nodes n.0 Invalid
-replica_in row (OnDisk d) = slice_index_or row.disks d.0 Invalid
+-- what the cell is at the node
+abbrev pub mark : State → Cell → Node → Mark
+mark s c n = mark_in (cell_state s c) n
 
-abbrev pub replica : State → Cell → Place → Mark
-replica s c place = replica_in (cell_state s c) place
+-- the cell's block on a disk is a copy
+abbrev pub on_disk : State → Cell → Bool
+on_disk s c = (cell_state s c).on_disk
 
 abbrev pub writes : State → Cell → ℕ
 writes s c = (cell_state s c).writes
@@ -87,12 +80,8 @@ transfer s w = (worker_state s w).transfer
 abbrev pub with_progress : State → Task → Progress → State
 with_progress s t x = record s { tasks = slice_set s.tasks t.0 x }
 
-abbrev pub with_replica_in : CellState → Place → Mark → CellState
-with_replica_in row (AtNode n) r = record row { nodes = slice_set row.nodes n.0 r }
-with_replica_in row (OnDisk d) r = record row { disks = slice_set row.disks d.0 r }
-
-abbrev pub with_replica : State → Cell → Place → Mark → State
-with_replica s c place r = record s { cells = slice_set s.cells c.0 (with_replica_in (cell_state s c) place r) }
+abbrev pub with_row : State → Cell → CellState → State
+with_row s c row = record s { cells = slice_set s.cells c.0 row }
 
 -- each cell's row is f of the cell and of its row before
 abbrev pub with_cells : State → (Cell → CellState → CellState) → State
@@ -107,38 +96,6 @@ with_worker s w row = record s { workers = slice_set s.workers w.0 row }
 
 abbrev pub with_transfer : State → Worker → Option Transfer → State
 with_transfer s w move = with_worker s w (record (worker_state s w) { transfer = move })
-
--- ---- words on a mark
-
--- there is a copy: one that leaves is still valid
-abbrev pub is_valid : Mark → Bool
-is_valid Valid = true
-is_valid (Leaving w) = true
-is_valid _ = false
-
--- there is a copy that leaves
-abbrev pub is_leaving : Mark → Bool
-is_leaving (Leaving w) = true
-is_leaving _ = false
-
--- the node has an entry for the cell: there is a copy that stays, or one that comes
-abbrev pub is_entry : Mark → Bool
-is_entry (Coming w) = true
-is_entry Valid = true
-is_entry _ = false
-
-abbrev pub same_worker : Worker → Worker → Bool
-same_worker v w = nat_eq v.0 w.0
-
--- a copy leaves by the worker's claim
-abbrev pub is_leaving_by : Worker → Mark → Bool
-is_leaving_by w (Leaving v) = same_worker v w
-is_leaving_by w _ = false
-
--- a copy comes by the worker's claim
-abbrev pub is_coming_by : Worker → Mark → Bool
-is_coming_by w (Coming v) = same_worker v w
-is_coming_by w _ = false
 
 -- ---- words on a task
 
@@ -199,13 +156,17 @@ used p m s n = sum_by (tile_bytes p) (order s n) + sum_by (scratch s) (workers_a
 abbrev pub free : Program → Machine → State → Node → ℕ
 free p m s n = node_size m n - used p m s n
 
+-- the transfer in the row is one of the cell
+abbrev pub moves_in : WorkerState → Cell → Bool
+moves_in row c = elim row.transfer [ None ↦ false | Some move ↦ same_cell move.cell c ]
+
 -- the worker's transfer is one of the cell
 abbrev pub moves : State → Worker → Cell → Bool
-moves s w c = elim (transfer s w) [ None ↦ false | Some move ↦ same_cell move.cell c ]
+moves s w c = moves_in (worker_state s w) c
 
 -- a victim of the worker isn't leaving by its claim any more
 abbrev pub is_gone : Machine → State → Worker → Cell → Bool
-is_gone m s w c = not (is_leaving_by w (replica s c (AtNode (node_of m w))))
+is_gone m s w c = not (is_leaving_by w (mark s c (node_of m w)))
 
 -- all victims of the worker are gone
 abbrev pub has_room : Machine → State → Worker → Bool
@@ -213,10 +174,6 @@ has_room m s w = list_all (is_gone m s w) (victims_of s w)
 
 -- ---- the opening state
 
--- no replica of the cell anywhere
-abbrev pub no_replica : Machine → CellState
-no_replica m = record { nodes = replicate (length m.nodes) Invalid; disks = replicate (length m.disks) Invalid; writes = 0 }
-
--- all tasks waiting, all replicas invalid, empty orders, workers with nothing in hand
+-- all tasks waiting, no copy of a cell anywhere, empty orders, workers with nothing in hand
 abbrev pub opening : Program → Machine → State
-opening p m = record { tasks = replicate (length p.tasks) Waiting; cells = replicate (length p.cells) (no_replica m); orders = replicate (length m.nodes) []; workers = replicate m.workers (record { pins = []; scratch = 0; victims = []; transfer = None }) }
+opening p m = record { tasks = replicate (length p.tasks) Waiting; cells = replicate (length p.cells) (no_copy (length m.nodes)); orders = replicate (length m.nodes) []; workers = replicate m.workers (record { pins = []; scratch = 0; victims = []; transfer = None }) }

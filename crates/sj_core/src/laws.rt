@@ -6,7 +6,7 @@ ghost use Rattle.sj_base.specs.declared.trace.Event.{Event};
 ghost use Rattle.sj_base.specs.declared.program.Program.{Program};
 ghost use Rattle.sj_base.specs.declared.program.Machine.{Machine};
 ghost use Rattle.sj_core.specs.Coherent.{Coherent};
-ghost use Rattle.sj_core.specs.Laws.{CompleteHoldsFinal, CompleteTracesHoldFinal, DeliversGiven, DisksAreOfMachine, EachCellHasDisk, EventsKeepContent, FindsContent, FindsEarlierTasks, IsKeptByClaims, IsKeptByDrops, IsKeptByEndedMoves, IsKeptByEnds, IsKeptByMovesIn, IsKeptByMovesOut, IsKeptByRuns, LegalTracesAreBounded, MovesHaveOneWorker, TakesAnyWorker, TracesGoOn, TracesKeepCoherence, TracesKeepContent};
+ghost use Rattle.sj_core.specs.Laws.{CompleteHoldsFinal, CompleteTracesHoldFinal, DeliversGiven, DisksAreOfMachine, EachCellHasDisk, EventsChangeRows, EventsKeepContent, FindsContent, FindsEarlierTasks, IsKeptByClaims, IsKeptByDrops, IsKeptByEndedMoves, IsKeptByEnds, IsKeptByMovesIn, IsKeptByMovesOut, IsKeptByRuns, LegalTracesAreBounded, MovesHaveOneWorker, TakesAnyWorker, TracesGoOn, TracesKeepCoherence, TracesKeepContent};
 ghost use Rattle.sj_core.specs.Legal.{IsFinished};
 ghost use Rattle.sj_core.specs.Machine.{opening};
 ghost use Rattle.sj_core.specs.Once.{EachRanOnce};
@@ -91,6 +91,11 @@ pub fn traces()
 pub fn states()
     ensures go_on { TracesGoOn }
     ensures moves { MovesHaveOneWorker }
+{}
+
+/// What each event makes of the row of each cell.
+pub fn rows()
+    ensures { EventsChangeRows }
 {}
 
 /// Where blocks lie: each cell's on one of the machine's disks, if all fit there.

@@ -3,6 +3,5 @@
 #![tactic(auto)]
 
 pub mod laws;
-pub mod mark;
 pub mod progress;
 pub mod tasks;

@@ -1,2 +1,2 @@
-pub mod Copies
-pub mod Events
+pub mod Mark
+pub mod Replica

@@ -1,7 +1,6 @@
-//! The copies of one cell over the machine's places: where it is valid, coming or leaving, its pins and
-//! transfers, and its writer (CCPE 2011, "Data management").
+//! The row of one cell: what it is at each memory node, whether its block on a disk is a copy, and how often it was written
+//! (CCPE 2011, "Data management").
 #![tactic(auto)]
 
-pub mod laws;
+pub mod mark;
 pub mod replica;
-pub mod state;

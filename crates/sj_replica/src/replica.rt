@@ -1,250 +1,165 @@
-//! The copies of one cell, as events change them.
+//! The row of one cell, as the events of a run change it.
 
-ghost use Rattle.std.specs.Prelude.{◌≡◌, ◌+◌, ◌-◌, ◌<◌, ◌^◌, IsTrue, Some, None, is_some, true, false};
-ghost use Rattle.std.specs.List.{list_any};
-ghost use Rattle.sj_base.specs.declared.ids.Place.TheVariants.{Node as AtNode};
-ghost use Rattle.sj_base.specs.Ids.{same_place};
-ghost use Rattle.sj_replica.specs.Copies.{no_copies_on, IsOwnPlace, at_place, pins_at, source_for, is_only_at, move_into, has_move, is_read_from, MayMove, with_at, with_move, with_pins, owned_by_node, written_again, is_entry_copy, is_valid_apart};
+ghost use Rattle.std.specs.Prelude.{◌≡◌, ◌+◌, ◌^◌, ◌<◌, ◌≤◌, IfOk, IfSome, length, map, position, replicate, slice_index_or, slice_set};
+ghost use Rattle.std.specs.List.{list_any, range_with_len};
+ghost use Rattle.sj_replica.specs.Mark.{is_valid};
+ghost use Rattle.sj_replica.specs.Replica.{first_node, is_copy_beside, is_elsewhere_in, mark_in, no_copy, owned_at, stored, with_mark, written_once_more};
 
-use crate::state::At;
-use sj_base::ids::{DiskNo, Node, Place};
+use crate::mark::Mark;
+use sj_base::ids::Node;
+use sj_base::memory::OutOfMemory;
+use smallvec::SmallVec;
+use std::alloc::Global;
 use std::marker::Model;
+use std::mem::size_of;
 
-/// The most memory nodes of a machine.
-pub const REPLICA_NODES: usize = 16;
-
-/// The copies of one cell at sixteen nodes and on one disk. No call takes memory, and each takes
-/// constant time: at most one step a place.
-#[derive(Debug, Drop)]
-pub struct CellReplicas {
-    nodes: [At; REPLICA_NODES],
-    disk: DiskNo,
-    on_disk: At,
-    pins: [u16; REPLICA_NODES],
-    /// From where a transfer brings the cell to each node.
-    into_nodes: [Option<Place>; REPLICA_NODES],
-    into_disk: Option<Place>,
+/// What a cell is at each node, whether its block on a disk is a copy, and how many tasks have written it. Marks of up to eight
+/// nodes lie in the value itself; of more they are one block.
+#[derive(Drop)]
+pub struct Replica {
+    marks: SmallVec<Mark, 8>,
+    on_disk: bool,
     writes: u64,
-    is_written: bool,
 }
 
-impl Model for CellReplicas {
-    ghost use Rattle.sj_replica.specs.Copies.{CellCopies};
+impl Model for Replica {
+    ghost use Rattle.sj_replica.specs.Replica.{CellState};
 
-    ghost Value = { CellCopies };
+    ghost Value = { CellState };
 
-    ghost view = { λ r. record { nodes = r.nodes; disk = r.disk; on_disk = r.on_disk; pins = r.pins; into_nodes = r.into_nodes; into_disk = r.into_disk; writes = r.writes; is_written = r.is_written } };
+    ghost view = { λ r. record { marks = r.marks.items; on_disk = r.on_disk; writes = r.writes } };
 }
 
-impl CellReplicas {
-    /// No copy anywhere, of a cell whose block lies on this disk.
-    pub fn none(disk: DiskNo) -> CellReplicas
-        ensures { result ≡ no_copies_on disk }
+// Rows are as many as cells.
+const _: () = prove!(size_of::<Replica>() <= 40);
+
+/// No copy at any of so many nodes. Linear in them.
+fn no_marks(alloc: Global, nodes: usize) -> Result<SmallVec<Mark, 8>, OutOfMemory>
+    ensures { IfOk result (λ v. v.items ≡ replicate nodes Mark.Invalid) }
+{
+    let mut marks = SmallVec::with_capacity(alloc, nodes)?;
+    for _i in 0..nodes {
+        marks.push(Mark::Invalid)?;
+    }
+    Ok(marks)
+}
+
+/// Whether a copy is at another node than this. Linear in the nodes.
+fn is_at_another(marks: &[Mark], here: usize) -> bool
+    ensures { result ≡ list_any (is_copy_beside marks.now here)
+        (range_with_len 0 (length marks.now)) }
+{
+    (0..marks.len()).any(|k| k != here && marks[k].is_there())
+}
+
+/// The first node with a copy. Linear in the nodes.
+fn first_copy(marks: &[Mark]) -> Option<usize>
+    ensures place { result ≡ position is_valid marks.now }
+    ensures inside { IfSome result (λ k. k < length marks.now) }
+{
+    marks.iter().position(|mark| mark.is_there())
+}
+
+/// No copy at any node. Linear in the nodes.
+fn clear_all(marks: &mut [Mark])
+    ensures { marks.new ≡ map (λ x. Mark.Invalid) marks.old }
+{
+    for i in 0..marks.len() {
+        marks[i] = Mark::Invalid;
+    }
+}
+
+/// The one copy is at this node. Linear in the nodes.
+fn own_in(marks: &mut [Mark], here: usize)
+    requires { here < length marks.old }
+    ensures { marks.new ≡ slice_set (map (λ x. Mark.Invalid) marks.old) here Mark.Valid }
+{
+    clear_all(marks);
+    marks[here] = Mark::Valid;
+}
+
+impl Replica {
+    /// No copy of a cell, of so many nodes. Takes no memory for up to eight. Linear in them.
+    pub fn none(alloc: Global, nodes: usize) -> Result<Replica, OutOfMemory>
+        ensures { IfOk result (λ r. r ≡ no_copy nodes) }
     {
-        CellReplicas {
-            nodes: [At::Invalid; REPLICA_NODES],
-            disk,
-            on_disk: At::Invalid,
-            pins: [0; REPLICA_NODES],
-            into_nodes: [None; REPLICA_NODES],
-            into_disk: None,
+        let marks = no_marks(alloc, nodes)?;
+        Ok(Replica {
+            marks,
+            on_disk: false,
             writes: 0,
-            is_written: false,
+        })
+    }
+
+    /// What the cell is at a node. Constant time.
+    pub fn mark(&self, n: Node) -> Mark
+        requires { n.0 < length self.now.marks }
+        ensures { result ≡ mark_in self.now n }
+    {
+        self.marks[n.0 as usize]
+    }
+
+    /// Whether its block on a disk is a copy. Constant time.
+    pub fn is_on_disk(&self) -> bool
+        ensures { result ≡ self.now.on_disk }
+    {
+        self.on_disk
+    }
+
+    /// Whether a copy is on a disk, or at another node. Linear in the nodes.
+    pub fn is_elsewhere(&self, n: Node) -> bool
+        ensures { result ≡ is_elsewhere_in self.now n }
+    {
+        self.on_disk || is_at_another(&self.marks, n.0 as usize)
+    }
+
+    /// The node with the least number at which a copy is. Linear in the nodes.
+    pub fn first_node(&self) -> Option<Node>
+        requires { length self.now.marks ≤ 16 }
+        ensures { result ≡ first_node self.now }
+    {
+        match first_copy(&self.marks) {
+            Some(k) => Some(Node(k as u8)),
+            None => None,
         }
     }
 
-    /// What the cell is at a place.
-    pub fn at(&self, place: Place) -> At
-        requires { IsOwnPlace self.now place }
-        ensures { result ≡ at_place self.now place }
-    {
-        match place {
-            Place::Node(n) => self.nodes[n.0 as usize],
-            Place::Disk(_) => self.on_disk,
-        }
-    }
-
-    fn set_at(&mut self, place: Place, at: At)
-        requires { IsOwnPlace self.old place }
-        ensures { self.new ≡ with_at self.old place at }
-    {
-        match place {
-            Place::Node(n) => self.nodes[n.0 as usize] = at,
-            Place::Disk(_) => self.on_disk = at,
-        }
-    }
-
-    fn set_move(&mut self, to: Place, from: Option<Place>)
-        requires { IsOwnPlace self.old to }
-        ensures { self.new ≡ with_move self.old to from }
-    {
-        match to {
-            Place::Node(n) => self.into_nodes[n.0 as usize] = from,
-            Place::Disk(_) => self.into_disk = from,
-        }
-    }
-
-    /// A claim brings the cell to a node where it has no copy.
-    pub fn coming(&mut self, n: Node)
-        requires node { n.0 < 16 }
-        requires invalid { at_place self.old (AtNode n) ≡ At.Invalid }
-        ensures { self.new ≡ with_at self.old (AtNode n) At.Coming }
-    {
-        self.set_at(Place::Node(n), At::Coming);
-    }
-
-    /// A claim evicts the cell's unpinned copy from a node.
-    pub fn leaving(&mut self, n: Node)
-        requires node { n.0 < 16 }
-        requires valid { at_place self.old (AtNode n) ≡ At.Valid }
-        requires unpinned { pins_at self.old n ≡ 0 }
-        ensures { self.new ≡ with_at self.old (AtNode n) At.Leaving }
-    {
-        self.set_at(Place::Node(n), At::Leaving);
-    }
-
-    /// Where to fetch the cell from: the valid node with the least number, else the disk, other than the
-    /// target. `None` where no copy but one at the target is valid.
-    pub fn source(&self, to: Place) -> Option<Place>
-        requires { IsOwnPlace self.now to }
-        ensures { result ≡ source_for self.now to }
-    {
-        for n in 0..REPLICA_NODES as u8 {
-            let place = Place::Node(Node(n));
-            if self.is_other(to, place) {
-                return Some(place);
-            }
-        }
-        let place = Place::Disk(self.disk);
-        if self.is_other(to, place) {
-            return Some(place);
-        }
-        None
-    }
-
-    /// Whether a place is not the given one and has a valid copy.
-    fn is_other(&self, here: Place, place: Place) -> bool
-        requires { IsOwnPlace self.now place }
-        ensures { result ≡ is_valid_apart self.now here place }
-    {
-        self.at(place).is_valid() && !is_same(place, here)
-    }
-
-    /// A transfer begins: into a node where the cell is coming, from its source, or out to the disk,
-    /// from where its only copy is leaving.
-    pub fn move_begin(&mut self, from: Place, to: Place)
-        requires source { IsOwnPlace self.old from }
-        requires target { IsOwnPlace self.old to }
-        requires may_begin { MayMove self.old from to }
-        requires free { move_into self.old to ≡ None }
-        ensures { self.new ≡ with_move self.old to (Some from) }
-    {
-        self.set_move(to, Some(from));
-    }
-
-    /// That transfer is over, and the copy at its target is valid.
-    pub fn move_end(&mut self, from: Place, to: Place)
-        requires target { IsOwnPlace self.old to }
-        requires under_way { move_into self.old to ≡ Some from }
-        ensures { self.new ≡ with_move (with_at self.old to At.Valid) to None }
-    {
-        self.set_at(to, At::Valid);
-        self.set_move(to, None);
-    }
-
-    /// A leaving copy goes that no transfer reads, since another is valid.
-    pub fn drop_copy(&mut self, n: Node)
-        requires node { n.0 < 16 }
-        requires leaving { at_place self.old (AtNode n) ≡ At.Leaving }
-        requires unread { is_read_from self.old (AtNode n) ≡ false }
-        requires shared { is_only_at self.old (AtNode n) ≡ false }
-        ensures { self.new ≡ with_at self.old (AtNode n) At.Invalid }
-    {
-        self.set_at(Place::Node(n), At::Invalid);
-    }
-
-    /// A claim pins the cell on a node where it is valid or coming.
-    pub fn read_begin(&mut self, n: Node)
-        requires node { n.0 < 16 }
-        requires entry { IsTrue (is_entry_copy (at_place self.old (AtNode n))) }
-        requires few { pins_at self.old n < 1024 }
-        ensures { self.new ≡ with_pins self.old n (pins_at self.old n + 1) }
-    {
-        self.pins[n.0 as usize] += 1;
-    }
-
-    /// The end of a task takes its pin off.
-    pub fn read_end(&mut self, n: Node)
-        requires node { n.0 < 16 }
-        requires pinned { 0 < pins_at self.old n }
-        ensures { self.new ≡ with_pins self.old n (pins_at self.old n - 1) }
-    {
-        self.pins[n.0 as usize] -= 1;
-    }
-
-    /// A task that writes the cell begins to run on a node: the copy there is the only one.
-    pub fn write_begin(&mut self, n: Node)
-        requires node { n.0 < 16 }
-        requires entry { IsTrue (is_entry_copy (at_place self.old (AtNode n))) }
-        requires unmoved { has_move self.old ≡ false }
-        requires unwritten { self.old.is_written ≡ false }
-        ensures { self.new ≡ owned_by_node self.old n }
-    {
-        self.nodes = [At::Invalid; REPLICA_NODES];
-        self.nodes[n.0 as usize] = At::Valid;
-        self.on_disk = At::Invalid;
-        self.is_written = true;
-    }
-
-    /// That task ends, and has written the cell once more.
-    pub fn write_end(&mut self, n: Node)
-        requires node { n.0 < 16 }
-        requires valid { at_place self.old (AtNode n) ≡ At.Valid }
-        requires written { self.old.is_written ≡ true }
-        requires few { self.old.writes + 1 < 2 ^ 64 }
-        ensures { self.new ≡ written_again self.old }
-    {
-        let _ = n;
-        self.writes += 1;
-        self.is_written = false;
-    }
-
-    /// Whether a place has the only valid copy.
-    pub fn is_only(&self, p: Place) -> bool
-        requires { IsOwnPlace self.now p }
-        ensures { result ≡ is_only_at self.now p }
-    {
-        self.at(p).is_valid() && self.source(p).is_none()
-    }
-
-    /// Whether a transfer of the cell is under way.
-    pub fn is_moving(&self) -> bool
-        ensures { result ≡ has_move self.now }
-    {
-        self.has_move_to_a_node() || self.into_disk.is_some()
-    }
-
-    fn has_move_to_a_node(&self) -> bool
-        ensures { result ≡ list_any is_some self.now.into_nodes }
-    {
-        self.into_nodes.iter().any(|from| from.is_some())
-    }
-
-    /// How many tasks have written the cell.
+    /// How many tasks have written the cell. Constant time.
     pub fn writes(&self) -> u64
         ensures { result ≡ self.now.writes }
     {
         self.writes
     }
-}
 
-/// Whether two places are the same.
-fn is_same(a: Place, b: Place) -> bool
-    ensures { result ≡ same_place a b }
-{
-    match (a, b) {
-        (Place::Node(m), Place::Node(n)) => m.0 == n.0,
-        (Place::Disk(d), Place::Disk(e)) => d.0 == e.0,
-        _ => false,
+    /// Puts a mark at a node. Constant time.
+    pub fn set_mark(&mut self, n: Node, mark: Mark)
+        requires { n.0 < length self.old.marks }
+        ensures { self.new ≡ with_mark self.old n mark }
+    {
+        self.marks[n.0 as usize] = mark;
+    }
+
+    /// Its block on a disk is a copy from now on. Constant time.
+    pub fn store(&mut self)
+        ensures { self.new ≡ stored self.old }
+    {
+        self.on_disk = true;
+    }
+
+    /// The one copy is a node's own from now on. Linear in the nodes.
+    pub fn own(&mut self, n: Node)
+        requires { n.0 < length self.old.marks }
+        ensures { self.new ≡ owned_at n self.old }
+    {
+        own_in(&mut self.marks, n.0 as usize);
+        self.on_disk = false;
+    }
+
+    /// The cell is written once more. Constant time.
+    pub fn count_write(&mut self)
+        requires { self.old.writes + 1 < 2 ^ 64 }
+        ensures { self.new ≡ written_once_more self.old }
+    {
+        self.writes += 1;
     }
 }

@@ -1,11 +1,11 @@
-//! What a cell is at a place: the word in which the states of runs tell of copies.
+//! What a cell is at a memory node.
 
 ghost use Rattle.std.specs.Prelude.{◌≡◌};
-ghost use Rattle.sj_core.specs.Machine.{is_coming_by, is_entry, is_leaving, is_leaving_by, is_valid};
+ghost use Rattle.sj_replica.specs.Mark.{is_coming_by, is_entry, is_leaving, is_leaving_by, is_valid};
 
 use sj_base::ids::Worker;
 
-/// What a cell is at a place.
+/// What a cell is at a node.
 #[derive(Clone, Copy, Debug, PartialEq, Eq)]
 pub enum Mark {
     /// It has no copy there.
