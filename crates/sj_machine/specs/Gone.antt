@@ -7,10 +7,10 @@ use Rattle.sj_base.specs.declared.ids.Worker.{Worker}
 use Rattle.sj_base.specs.declared.program.Machine.{Machine}
 use Rattle.sj_core.specs.Machine.{State, is_gone, victims_of}
 use Rattle.sj_machine.specs.Choosing.{leaves_in}
-use Rattle.sj_machine.specs.Copies.{Copies}
+use Rattle.sj_replica.specs.Replica.{CellState}
 
 -- in the rows: of the victims that go first, so many don't leave any more
-abbrev pub AreGoneIn : List Copies → Node → Worker → List Cell → ℕ → Type 0
+abbrev pub AreGoneIn : List CellState → Node → Worker → List Cell → ℕ → Type 0
 AreGoneIn rows n w victims count = IsTrue (list_all (λ c. not (leaves_in rows n w c)) (take count (reverse victims)))
 
 -- so many of the worker's victims are gone, those that go first

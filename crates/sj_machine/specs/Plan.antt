@@ -14,8 +14,9 @@ use Rattle.sj_core.specs.Program.{dims_of, task_of}
 use Rattle.sj_core.specs.Step.{missing, victims_for}
 use Rattle.sj_node.specs.Entry.{AreDistinctCells, admitted, has_entry, pins_of, repinned, entry_to_front, without_all}
 use Rattle.sj_node.specs.Store.{Store, empty, free_bytes, with_entries}
-use Rattle.sj_machine.specs.Copies.{Copies, with_row}
-use Rattle.sj_core.specs.declared.mark.Mark.{Mark}
+use Rattle.sj_machine.specs.Cells.{with_rows_of}
+use Rattle.sj_replica.specs.declared.mark.Mark.{Mark}
+use Rattle.sj_replica.specs.Replica.{CellState, with_mark}
 
 -- ---- a plan
 
@@ -52,13 +53,9 @@ pub record IsSmallCell (p : Program) (c : Cell) : Type 0 where
 
 -- ---- one change each
 
--- with this mark at a node
-abbrev pub with_mark : Copies → Node → Mark → Copies
-with_mark row n x = record row { marks = slice_set row.marks n.0 x }
-
 -- the rows with this mark of each of these cells at a node
-abbrev pub marked : List Copies → List Cell → Node → Mark → List Copies
-marked rows cs n x = fold (λ kept c. with_row kept c (λ row. with_mark row n x)) rows cs
+abbrev pub marked : List CellState → List Cell → Node → Mark → List CellState
+marked rows cs n x = with_rows_of rows cs (λ row. with_mark row n x)
 
 -- a cell of the node comes to the front, with one pin more
 abbrev pub taken : Store → Cell → Store

@@ -4,11 +4,10 @@ use Rattle.sj_base.specs.declared.ids.Cell.{Cell}
 use Rattle.sj_base.specs.declared.ids.Node.{Node}
 use Rattle.sj_base.specs.declared.ids.Task.{Task}
 use Rattle.sj_base.specs.declared.ids.Worker.{Worker}
-use Rattle.sj_base.specs.declared.ids.Place.TheVariants.{Node as AtNode}
 use Rattle.sj_base.specs.declared.program.Program.{Program}
 use Rattle.sj_base.specs.declared.program.Machine.{Machine}
 use Rattle.sj_base.specs.declared.trace.Event.TheVariants.{Claim}
-use Rattle.sj_core.specs.Machine.{State, WorkerState, is_idle, is_leaving, is_task_of, pins, progress, replica}
+use Rattle.sj_core.specs.Machine.{State, WorkerState, is_idle, is_leaving, is_task_of, mark, pins, progress}
 use Rattle.sj_core.specs.Needs.{footprint, node_of, node_size, scratch_bytes, tile_bytes}
 use Rattle.sj_core.specs.Operands.{cells_of, commuting_cells, worked_on}
 use Rattle.sj_core.specs.Program.{distinct, has_cell, task_of}
@@ -17,11 +16,12 @@ use Rattle.sj_core.specs.declared.progress.Progress.TheVariants.{Waiting}
 use Rattle.sj_deps.specs.Conflict.{Ready}
 use Rattle.sj_node.specs.Entry.{has_entry}
 use Rattle.sj_node.specs.Store.{Store, need_victims}
-use Rattle.sj_machine.specs.Agrees.{row_at}
-use Rattle.sj_machine.specs.Copies.{Copies, mark_at, row_of}
+use Rattle.sj_machine.specs.Cells.{mark_at}
+use Rattle.sj_machine.specs.Stores.{row_at}
+use Rattle.sj_replica.specs.Replica.{CellState}
 use Rattle.sj_machine.specs.Operands.{CanWorkOn}
 use Rattle.sj_machine.specs.Plan.{ClaimPlan, IsPlan, IsSmallCell}
-use Rattle.sj_machine.specs.Standing.{CanHappen, Standing, state}
+use Rattle.sj_machine.specs.Rows.{CanHappen, Rows}
 use Rattle.sj_machine.specs.declared.plan.Why.{Why}
 use Rattle.sj_machine.specs.declared.plan.Why.TheVariants.{Commute, Leaving, NoRoom}
 
@@ -79,18 +79,18 @@ commuter_in_use p s t = find (is_in_use p s) (commuting_cells p t)
 abbrev pub CommutersAreFree : Program → State → Task → Type 0
 CommutersAreFree p s t = commuter_in_use p s t ≡ None
 
--- the reasons, in the order in which they are tested: a commuting cell is in use, the first such one; a replica leaves the
+-- the reasons, in the order in which they are tested: a commuting cell is in use, the first such one; a copy leaves the
 -- node; or the free bytes and all unpinned entries that aren't the task's don't cover the need
 abbrev pub IsWhy : Program → Machine → State → Task → Worker → Why → Type 0
 IsWhy p m s t w (Commute c) = commuter_in_use p s t ≡ Some c
-IsWhy p m s t w (Leaving c) = CommutersAreFree p s t × IsTrue (is_leaving (replica s c (AtNode (node_of m w))))
+IsWhy p m s t w (Leaving c) = CommutersAreFree p s t × IsTrue (is_leaving (mark s c (node_of m w)))
 IsWhy p m s t w NoRoom = CommutersAreFree p s t × IsTrue (none_leaving s (node_of m w)) × (victims_for p m s t w ≡ None)
 
 -- the answer to a claim: where it is a plan, the claim can happen and the plan is its; else the reason stands
-pub record IsAnswer {D : Type 0} (b : Standing D) (t : Task) (w : Worker) (answer : Result ClaimPlan Why) : Type 0 where
-  pub can : OnOk answer (CanHappen b (Claim t w))
-  pub plan : IfOk answer (IsPlan b.program b.machine (state b) t w)
-  pub why : IfErr answer (IsWhy b.program b.machine (state b) t w)
+pub record IsAnswer (r : Rows) (t : Task) (w : Worker) (answer : Result ClaimPlan Why) : Type 0 where
+  pub can : OnOk answer (CanHappen r (Claim t w))
+  pub plan : IfOk answer (IsPlan r.program r.machine r.state t w)
+  pub why : IfErr answer (IsWhy r.program r.machine r.state t w)
 
 -- another worker than this one has a claimed or running task
 pub record AnotherHasTask (s : State) (w : Worker) : Type 0 where
@@ -104,13 +104,13 @@ abbrev pub HoldsCommutersAlone : Program → State → Task → Worker → Type 
 HoldsCommutersAlone p s t w = (c : Cell) (v : Worker) → IsTrue (has_cell (commuting_cells p t) c) → v ≢ w → has_cell (pins s v) c ≡ false
 
 -- a copy of the cell leaves the node
-abbrev pub is_leaving_at : List Copies → Node → Cell → Bool
-is_leaving_at rows n c = is_leaving (mark_at (row_of rows c) n)
+abbrev pub is_leaving_at : List CellState → Node → Cell → Bool
+is_leaving_at rows n c = is_leaving (mark_at rows n c)
 
 -- none of these does
-abbrev pub NoneLeaves : List Copies → Node → List Cell → Type 0
+abbrev pub NoneLeaves : List CellState → Node → List Cell → Type 0
 NoneLeaves rows n cs = All (λ c. is_leaving_at rows n c ≡ false) cs
 
 -- of each worker's victims none does, those aside of which so many go first
-abbrev pub NoneLeavesFor : List Copies → Node → List WorkerState → List ℕ → Type 0
+abbrev pub NoneLeavesFor : List CellState → Node → List WorkerState → List ℕ → Type 0
 NoneLeavesFor rows n ws gone = (w : Worker) → NoneLeaves rows n (take (length (row_at ws w).victims - slice_index_or gone w.0 0) (row_at ws w).victims)

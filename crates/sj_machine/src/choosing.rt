@@ -4,23 +4,25 @@ ghost use Rattle.std.specs.Prelude.{◌≡◌, ◌<◌, ◌-◌, ◌&&◌, All, 
 ghost use Rattle.std.specs.List.{list_all, list_any};
 ghost use Rattle.sj_base.specs.declared.ids.Place.TheVariants.{Node as AtNode};
 ghost use Rattle.sj_core.specs.Operands.{worked_on};
+ghost use Rattle.sj_core.specs.Machine.{moves_in};
 ghost use Rattle.sj_core.specs.Program.{has_cell};
-ghost use Rattle.sj_machine.specs.Choosing.{HasNumbers, are_present, are_unmoved, fresh_among, is_brought, is_moving_in, leaves_in, moves_in, reads_in};
-ghost use Rattle.sj_machine.specs.Copies.{mark_at, row_of};
+ghost use Rattle.sj_core.specs.Step.{reads_in};
+ghost use Rattle.sj_machine.specs.Choosing.{HasNumbers, are_present, are_unmoved, fresh_among, is_brought, leaves_in};
+ghost use Rattle.sj_machine.specs.Cells.{mark_at};
 ghost use Rattle.sj_machine.specs.Operands.{worked_among};
 
-use crate::copies::Copies;
+use sj_replica::replica::Replica;
 use crate::hold::Hold;
 use crate::operands::worked_on;
 use sj_base::ids::{Cell, Node, Place, Worker};
 use sj_base::mode::{Access, Mode};
 use sj_base::program::Program;
-use sj_core::mark::Mark;
+use sj_replica::mark::Mark;
 
 /// What a cell is at a node. Constant time.
-pub fn mark_at(cells: &[Copies], n: Node, cell: Cell) -> Mark
+pub fn mark_at(cells: &[Replica], n: Node, cell: Cell) -> Mark
     requires { All (λ row. n.0 < length row.marks) cells.now }
-    ensures { result ≡ mark_at (row_of cells.now cell) n }
+    ensures { result ≡ mark_at cells.now n cell }
 {
     match cells.get(cell.0 as usize) {
         Some(row) => row.mark(n),
@@ -31,7 +33,7 @@ pub fn mark_at(cells: &[Copies], n: Node, cell: Cell) -> Mark
 /// The last of these victims of which the copy at a node still leaves by the claim of a worker, without so many at the end.
 /// Linear in those between it and these.
 pub fn last_leaving(
-    cells: &[Copies],
+    cells: &[Replica],
     n: Node,
     w: Worker,
     victims: &[Cell],
@@ -49,7 +51,7 @@ pub fn last_leaving(
 }
 
 /// Whether none of these victims has a copy at a node that still leaves by the claim of a worker. Linear in them.
-pub fn are_gone(cells: &[Copies], n: Node, w: Worker, victims: &[Cell]) -> bool
+pub fn are_gone(cells: &[Replica], n: Node, w: Worker, victims: &[Cell]) -> bool
     requires { All (λ row. n.0 < length row.marks) cells.now }
     ensures { result ≡ list_all (λ c. not (leaves_in cells.now n w c)) victims.now }
 {
@@ -90,7 +92,7 @@ fn moves(hold: &Hold, cell: Cell) -> bool
 
 /// Whether a transfer of a cell is under way. Linear in the workers.
 fn is_moving(workers: &[Hold], cell: Cell) -> bool
-    ensures { result ≡ is_moving_in workers.now cell }
+    ensures { result ≡ list_any (λ row. moves_in row cell) workers.now }
 {
     workers.iter().any(|hold| moves(hold, cell))
 }
@@ -123,7 +125,7 @@ pub fn is_fresh(program: &Program, w: Worker, accesses: &[Access], cell: Cell) -
 /// The first cell in operand order that comes to a node by the claim of a worker, and whose old value is read. Quadratic in
 /// the operands, which are a task's few.
 pub fn first_brought(
-    cells: &[Copies],
+    cells: &[Replica],
     program: &Program,
     n: Node,
     w: Worker,
@@ -142,7 +144,7 @@ pub fn first_brought(
 }
 
 /// Whether each cell whose old value is read is on a node. Quadratic in the operands, which are a task's few.
-fn are_present(cells: &[Copies], program: &Program, n: Node, w: Worker, accesses: &[Access]) -> bool
+fn are_present(cells: &[Replica], program: &Program, n: Node, w: Worker, accesses: &[Access]) -> bool
     requires marks { All (λ row. n.0 < length row.marks) cells.now }
     requires copies { HasNumbers program.now w }
     ensures { result ≡ are_present cells.now program.now n w accesses.now }
@@ -169,7 +171,7 @@ fn are_unmoved(workers: &[Hold], program: &Program, w: Worker, accesses: &[Acces
 /// Whether the kernel of a claimed task may begin. Quadratic in the operands, which are a task's few, and linear in the workers
 /// for each written one.
 pub fn may_run(
-    cells: &[Copies],
+    cells: &[Replica],
     workers: &[Hold],
     program: &Program,
     n: Node,

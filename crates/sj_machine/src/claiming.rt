@@ -3,16 +3,16 @@
 ghost use Rattle.std.specs.Prelude.{◌≡◌, ◌<◌, ◌≤◌, All, OnErr, OnOk, fold, length, slice_set, slice_index_or};
 ghost use Rattle.sj_core.specs.Machine.{WorkerState};
 ghost use Rattle.sj_core.specs.Needs.{node_of as node_of_worker};
-ghost use Rattle.sj_machine.specs.Agrees.{row_at};
+ghost use Rattle.sj_machine.specs.Stores.{row_at};
 ghost use Rattle.sj_machine.specs.Plan.{CanHold, CanTakeAll, holding, marked, row_with, store_at, taken};
 
-use crate::copies::Copies;
+use sj_replica::replica::Replica;
 use crate::hold::Hold;
 use crate::plan::Plan;
 use sj_base::ids::{Cell, Node, Worker};
 use sj_base::memory::OutOfMemory;
 use sj_base::program::Machine;
-use sj_core::mark::Mark;
+use sj_replica::mark::Mark;
 use sj_node::store::NodeStore;
 
 /// The node to which a worker is bound. Constant time.
@@ -26,7 +26,7 @@ pub fn node_of(machine: &Machine, w: Worker) -> Node
 }
 
 /// Marks cells at a node. Linear in them.
-pub fn mark_all(cells: &mut Vec<Copies>, which: &[Cell], n: Node, mark: Mark)
+pub fn mark_all(cells: &mut Vec<Replica>, which: &[Cell], n: Node, mark: Mark)
     requires cells { All (λ c. c.0 < length cells.old.items) which.now }
     requires node { All (λ row. n.0 < length row.marks) cells.old.items }
     ensures { cells.new.items ≡ marked cells.old.items which.now n mark }

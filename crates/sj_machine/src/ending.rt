@@ -1,62 +1,26 @@
-//! What a task gives back to the rows of cells and nodes as it ends.
+//! What an end changes in the rows of cells, nodes and workers.
 
-ghost use Rattle.std.specs.Prelude.{◌≡◌, ◌+◌, ◌<◌, [], All, length, slice_set};
-ghost use Rattle.sj_codelet.specs.Frame.{arrays};
-ghost use Rattle.sj_machine.specs.Agrees.{row_at};
-ghost use Rattle.sj_machine.specs.Copies.{with_row, written_at};
+ghost use Rattle.std.specs.Prelude.{◌≡◌, ◌<◌, All, length, slice_set};
+ghost use Rattle.sj_machine.specs.Ending.{CanCount, CanRelease, CanUnpin, let_go, released, unpinned_each, written_each};
 ghost use Rattle.sj_machine.specs.Plan.{store_at};
-ghost use Rattle.sj_machine.specs.Operands.{written_among};
-ghost use Rattle.sj_machine.specs.Running.{CanPutBack, CanRelease, CanRewrite, CanUnpin, let_go, put_each, released, unpinned_each};
+ghost use Rattle.sj_machine.specs.Stores.{row_at};
 ghost use Rattle.sj_node.specs.Store.{with_entries};
 
-use crate::copies::Copies;
 use crate::hold::Hold;
-use crate::operands::worked_on;
 use sj_base::ids::{Cell, Node, Worker};
-use sj_base::mode::Access;
-use sj_base::program::Program;
-use sj_base::tile::Tile;
-use sj_codelet::frame::Frame;
 use sj_node::store::NodeStore;
-use std::sync::Arc;
+use sj_replica::replica::Replica;
 
-/// A cell has a new tile at a node, and is written once more. Constant time.
-fn rewrite(cells: &mut Vec<Copies>, cell: Cell, n: Node, tile: Arc<Tile>)
-    requires cell { cell.0 < length cells.old.items }
-    requires row { All (CanRewrite n 1) cells.old.items }
-    ensures { cells.new.items ≡ with_row cells.old.items cell (λ row. written_at row n tile.value) }
+/// These cells are written once more. Linear in them.
+pub fn count_each(cells: &mut Vec<Replica>, written: &[Cell])
+    requires cells { All (λ c. c.0 < length cells.old.items) written.now }
+    requires few { All (CanCount (length written.now)) cells.old.items }
+    ensures { cells.new.items ≡ written_each written.now cells.old.items }
 {
-    let row = &mut cells[cell.0 as usize];
-    row.rewrite(n, tile);
-}
-
-/// Puts the operands of a frame, the last first, in the places of the cells on which a worker works for the operands that it
-/// writes. The frame is empty then. Linear in the accesses, and no memory.
-pub fn put_back(
-    program: &Program,
-    w: Worker,
-    cells: &mut Vec<Copies>,
-    accesses: &[Access],
-    n: Node,
-    written: &mut Frame,
-)
-    requires { CanPutBack program.now w cells.old.items n accesses.now written.old.slots }
-    ensures cells { cells.new.items
-        ≡ put_each n (written_among program.now w accesses.now)
-        (arrays written.old.slots) cells.old.items }
-    ensures spent { written.new.slots ≡ [] }
-    ensures room { written.new.spare ≡ written.old.spare + length written.old.slots }
-{
-    let Some((last, before)) = accesses.split_last() else {
-        return;
-    };
-    if !last.mode.is_written() {
-        put_back(program, w, cells, before, n, written);
-        return;
+    for cell in written {
+        let row = &mut cells[cell.0 as usize];
+        row.count_write();
     }
-    let cell = worked_on(program, w, *last);
-    rewrite(cells, cell, n, written.take_shared());
-    put_back(program, w, cells, before, n, written);
 }
 
 /// Takes a pin off each of these cells. A look-up for each.

@@ -3,12 +3,12 @@
 ghost use Rattle.std.specs.Prelude.{◌≡◌, ◌<◌, All, IfSome, None, length, slice_index_or, true};
 ghost use Rattle.sj_machine.specs.Planning.{NoneLeaves, NoneLeavesFor, is_leaving_at};
 
-use crate::copies::Copies;
+use sj_replica::replica::Replica;
 use crate::hold::Hold;
 use sj_base::ids::{Cell, Node};
 
 /// Whether a copy of a cell leaves a node. Constant time.
-fn leaves(cells: &[Copies], n: Node, cell: Cell) -> bool
+fn leaves(cells: &[Replica], n: Node, cell: Cell) -> bool
     requires { All (λ row. n.0 < length row.marks) cells.now }
     ensures { result ≡ is_leaving_at cells.now n cell }
 {
@@ -19,7 +19,7 @@ fn leaves(cells: &[Copies], n: Node, cell: Cell) -> bool
 }
 
 /// The first of these cells of which a copy leaves a node. Linear in them.
-fn leaving_among(cells: &[Copies], n: Node, victims: &[Cell]) -> Option<Cell>
+fn leaving_among(cells: &[Replica], n: Node, victims: &[Cell]) -> Option<Cell>
     requires { All (λ row. n.0 < length row.marks) cells.now }
     ensures some { IfSome result (λ c. is_leaving_at cells.now n c ≡ true) }
     ensures none { result ≡ None → NoneLeaves cells.now n victims.now }
@@ -44,7 +44,7 @@ fn known_of(gone: &[usize], i: usize) -> usize
 
 /// A cell of which a copy leaves a node by the claim of a worker, where so many of each worker's victims, those that go first,
 /// are known to be gone. Linear in the workers, and in the others of their victims.
-pub fn leaving_at(cells: &[Copies], n: Node, workers: &[Hold], gone: &[usize]) -> Option<Cell>
+pub fn leaving_at(cells: &[Replica], n: Node, workers: &[Hold], gone: &[usize]) -> Option<Cell>
     requires { All (λ row. n.0 < length row.marks) cells.now }
     ensures some { IfSome result (λ c. is_leaving_at cells.now n c ≡ true) }
     ensures none { result ≡ None → NoneLeavesFor cells.now n workers.now gone.now }

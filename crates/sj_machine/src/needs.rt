@@ -5,12 +5,12 @@ ghost use Rattle.sj_base.specs.Array.{area};
 ghost use Rattle.sj_base.specs.Mode.{is_scratch};
 ghost use Rattle.sj_core.specs.Needs.{tile_bytes as bytes_of_tile};
 ghost use Rattle.sj_core.specs.Program.{distinct, has_cell};
-ghost use Rattle.sj_machine.specs.Copies.{mark_at, row_of};
+ghost use Rattle.sj_machine.specs.Cells.{mark_at};
 ghost use Rattle.sj_core.specs.Machine.{is_entry};
 ghost use Rattle.sj_machine.specs.Plan.{IsSmallCell};
 
 use crate::choosing::mark_at;
-use crate::copies::Copies;
+use sj_replica::replica::Replica;
 use crate::few_bytes::FewBytes;
 use crate::few_cells::FewCells;
 use sj_base::ids::{Cell, Node};
@@ -67,20 +67,20 @@ pub fn scratch_bytes(program: &Program, accesses: &[Access]) -> u64
 }
 
 /// Whether a node has no entry for a cell, by its mark, and the cell isn't among those that come after it. Linear in these.
-fn is_lacking(rows: &[Copies], n: Node, cell: Cell, later: &[Cell]) -> bool
+fn is_lacking(rows: &[Replica], n: Node, cell: Cell, later: &[Cell]) -> bool
     requires { All (λ row. n.0 < length row.marks) rows.now }
     ensures { result ≡ (not (has_cell later.now cell) && not
-        (is_entry (mark_at (row_of rows.now cell) n))) }
+        (is_entry (mark_at rows.now n cell))) }
 {
     !later.contains(&cell) && !mark_at(rows, n, cell).is_entry_mark()
 }
 
 /// The cells without an entry on a node, by their marks, each once. Quadratic in the cells, which are a task's few.
-pub fn lacking_cells(rows: &[Copies], n: Node, cells: &[Cell]) -> FewCells
+pub fn lacking_cells(rows: &[Replica], n: Node, cells: &[Cell]) -> FewCells
     requires wide { All (λ row. n.0 < length row.marks) rows.now }
     requires few { length cells.now ≤ 5 }
     ensures { result
-        ≡ filter (λ c. not (is_entry (mark_at (row_of rows.now c) n))) (distinct cells.now) }
+        ≡ filter (λ c. not (is_entry (mark_at rows.now n c))) (distinct cells.now) }
 {
     let mut lacking = FewCells::none();
     for i in 0..cells.len() {

@@ -5,10 +5,10 @@ ghost use Rattle.sj_core.specs.Needs.{scratch_bytes};
 ghost use Rattle.sj_core.specs.Operands.{cells_of};
 ghost use Rattle.sj_core.specs.Program.{task_of};
 ghost use Rattle.sj_node.specs.Store.{need_victims};
-ghost use Rattle.sj_machine.specs.Agrees.{AreMarked};
+ghost use Rattle.sj_machine.specs.Stores.{AreMarked};
 ghost use Rattle.sj_machine.specs.Planning.{HasSmallTask, HasSmallWork, chosen_on, lacking, need_on, planned};
 
-use crate::copies::Copies;
+use sj_replica::replica::Replica;
 use crate::few_bytes::FewBytes;
 use crate::few_cells::FewCells;
 use crate::needs::{bytes_of, lacking_cells, scratch_bytes, total};
@@ -70,7 +70,7 @@ fn scratch_for(program: &Program, t: Task) -> u64
 
 /// Those of these cells without an entry on a node, as their rows tell, each once. Quadratic in the cells, which are a task's
 /// few.
-fn lacking_on(rows: &[Copies], node: &NodeStore, n: Node, cells: &[Cell]) -> FewCells
+fn lacking_on(rows: &[Replica], node: &NodeStore, n: Node, cells: &[Cell]) -> FewCells
     requires wide { All (λ row. n.0 < length row.marks) rows.now }
     requires marked { AreMarked rows.now n node.now.entries }
     requires few { length cells.now ≤ 5 }
@@ -102,7 +102,7 @@ fn recent_victims(
 /// scratch. What is missing there is told by the cells' rows. Quadratic in the operands; no memory.
 pub fn bytes_to_come(
     program: &Program,
-    rows: &[Copies],
+    rows: &[Replica],
     node: &NodeStore,
     n: Node,
     t: Task,
@@ -169,7 +169,7 @@ impl Plan {
     pub fn on(
         alloc: Global,
         program: &Program,
-        rows: &[Copies],
+        rows: &[Replica],
         node: &NodeStore,
         n: Node,
         t: Task,

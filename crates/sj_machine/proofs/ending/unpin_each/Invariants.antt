@@ -1,7 +1,0 @@
-use Rattle.std.proofs.Common.{◌≡◌, take}
-use Rattle.sj_node.specs.Store.{with_entries}
-use Rattle.sj_machine.specs.Running.{unpinned_each}
-use Rattle.sj_machine.proofs.ending.unpin_each.Given as goal
-
-abbrev pub invariant-loop-cell : goal.invariant-loop-cell
-invariant-loop-cell l = l.node ≡ with_entries l.fn.node (unpinned_each (take l.cell-index l.pins) l.fn.node.entries)

@@ -1,6 +1,0 @@
-use Rattle.std.proofs.Common.{◌≡◌, replicate}
-use Rattle.sj_machine.proofs.run_state.idle_workers.Given as goal
-use Rattle.sj_core.specs.Machine.{idle_row}
-
-abbrev pub invariant-loop-i : goal.invariant-loop-i
-invariant-loop-i l = l.workers.items ≡ replicate l._i idle_row
