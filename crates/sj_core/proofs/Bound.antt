@@ -2,12 +2,12 @@
 use Rattle.std.proofs.Common.{Bool, List, [], ap, arith, cond, false, get_or, length, map, refl, subst, suc, sym, true, fold}
 use Rattle.std.proofs.Common.{zero, ℕ, ◌*◌, ◌+◌, ◌<◌, ◌||◌, ◌∙◌, ◌∷◌, ◌≡◌, ◌≤◌, None, Option, Some, set}
 use Rattle.std.proofs.Common.{slice_set, count_by, nat_eq, nat_le, nat_lt, sum_by, ◌&&◌, if◌then◌else◌, is_some}
-use Rattle.sj_core.proofs.Words.{AtNode, Cell, CellState, Claimed, Coming, DiskNo, Done, Event, Invalid}
+use Rattle.sj_core.proofs.Words.{AtNode, Cell, CellState, Claimed, Coming, DiskNo, Done, Event, Invalid, owned_at, written_once_more, has_copy, on_disk}
 use Rattle.sj_core.proofs.Words.{Leaving, Lowered, Machine, Mark, Node, OnDisk, Place, Program, Progress, Running}
 use Rattle.sj_core.proofs.Words.{State, Task, Transfer, Valid, Waiting, Worker, WorkerState, cell_state, cells_of}
 use Rattle.sj_core.proofs.Words.{data_operands, has_cell, is_entry, is_leaving, is_leaving_by, is_valid, no_task}
-use Rattle.sj_core.proofs.Words.{node_of, opening, progress, replica, replica_in, same_cell, scratch_bytes, task_of}
-use Rattle.sj_core.proofs.Words.{tasks_of, transfer, victims_of, with_replica, with_replica_in, with_transfer}
+use Rattle.sj_core.proofs.Words.{node_of, opening, progress, mark, mark_in, same_cell, scratch_bytes, task_of}
+use Rattle.sj_core.proofs.Words.{tasks_of, transfer, victims_of, with_row, with_mark, with_transfer}
 use Rattle.sj_core.proofs.Words.{worked_on, worker_of, written_cells}
 use Rattle.std.specs.List.{enumerate_from, list_any, range_with_len}
 use Rattle.std.proofs.lemmas.List.{map-id, get_or-set_same, length-map, length-set, get_or_default}
@@ -19,7 +19,7 @@ use Rattle.std.proofs.lemmas.List.Folds.{list_any_at, Any-from_list_any, sum_by-
 use Rattle.sj_base.specs.Ids.{cell}
 use Rattle.sj_base.proofs.Bools.{tally, tally-le}
 use Rattle.sj_base.proofs.Lists.{sum_by-map, counted_some}
-use Rattle.sj_core.specs.Step.{claimed_replica, leave, owned_at, CanClaim, CanDrop, CanMoveIn, CanMoveOut, CanRun, written_once_more, mover_of}
+use Rattle.sj_core.specs.Step.{claimed_mark, leave, CanClaim, CanDrop, CanMoveIn, CanMoveOut, CanRun, mover_of}
 use Rattle.sj_core.specs.Step.{May, a_transfer, after, after_claim, after_end, after_run, missing}
 use Rattle.sj_core.specs.{Table.renewed, Coherent.IsTransferTo, Coherent.is_begun, Coherent.Coherent, Laws.IsSound}
 use Rattle.sj_core.specs.{Legal.CanFollow, Legal.IsLegal, Legal.state_of, Proper.IsMachineFor, Proper.Proper}
@@ -101,7 +101,7 @@ is_on_disk row = list_any is_valid row.disks
 
 -- what those of one cell may still cost
 abbrev pub cost_of : CellState → ℕ
-cost_of row = sum_by (weight (is_on_disk row)) row.nodes
+cost_of row = sum_by (weight (is_on_disk row)) row.marks
 
 -- what all replicas may still cost
 abbrev pub cost : State → ℕ
@@ -120,21 +120,21 @@ leave-weighs : (w : Worker) (b : Bool) (r : Mark) → weight b (leave w r) ≤ w
 leave-weighs w b r = search arith
 
 -- a claim adds the weight of a cell that comes
-claimed-weighs : (w : Worker) (evicted missing : List Cell) (c : Cell) (brought : Bool) → (has_cell missing c ≡ true → brought ≡ true) → (b : Bool) (r : Mark) → weight b (claimed_replica w evicted missing c r) ≤ weight b r + cond brought 5 0
+claimed-weighs : (w : Worker) (evicted missing : List Cell) (c : Cell) (brought : Bool) → (has_cell missing c ≡ true → brought ≡ true) → (b : Bool) (r : Mark) → weight b (claimed_mark w evicted missing c r) ≤ weight b r + cond brought 5 0
 claimed-weighs w evicted missing c brought comes b r = search (arith, weight, leave-weighs)
 
 -- ---- the row of a cell
 
 -- one replica on a node in place of another
-pub replaced : (row : CellState) (n : Node) (r : Mark) → n.0 < length row.nodes → cost_of (with_replica_in row (AtNode n) r) + weight (is_on_disk row) (replica_in row (AtNode n)) ≡ cost_of row + weight (is_on_disk row) r
-replaced row n r inside = sum_by-set (weight (is_on_disk row)) row.nodes n.0 r Invalid inside
+pub replaced : (row : CellState) (n : Node) (r : Mark) → n.0 < length row.marks → cost_of (with_mark row n r) + weight (is_on_disk row) (mark_in row n) ≡ cost_of row + weight (is_on_disk row) r
+replaced row n r inside = sum_by-set (weight (is_on_disk row)) row.marks n.0 r Invalid inside
 
 -- after a claim that brings the cell, or not
-pub claimed-costs : (row : CellState) (n : Node) (w : Worker) (evicted missing : List Cell) (c : Cell) (brought : Bool) → (has_cell missing c ≡ true → brought ≡ true) → n.0 < length row.nodes → cost_of (with_replica_in row (AtNode n) (claimed_replica w evicted missing c (replica_in row (AtNode n)))) ≤ cost_of row + cond brought 5 0
+pub claimed-costs : (row : CellState) (n : Node) (w : Worker) (evicted missing : List Cell) (c : Cell) (brought : Bool) → (has_cell missing c ≡ true → brought ≡ true) → n.0 < length row.marks → cost_of (with_mark row n (claimed_mark w evicted missing c (mark_in row n))) ≤ cost_of row + cond brought 5 0
 claimed-costs row n w evicted missing c brought comes inside = search (arith, replaced, claimed-weighs, is_on_disk)
 
 -- a cell with an entry on a node
-pub entry-costs : (row : CellState) (n : Node) → n.0 < length row.nodes → is_entry (replica_in row (AtNode n)) ≡ true → 3 ≤ cost_of row
+pub entry-costs : (row : CellState) (n : Node) → n.0 < length row.marks → is_entry (mark_in row n) ≡ true → 3 ≤ cost_of row
 entry-costs row n inside entry = search (arith, get_or-le-sum_by, weight, is_on_disk, entry-weighs)
 
 invalid-costs : (b : Bool) (rs : List Mark) → sum_by (weight b) (map (λ r. Invalid) rs) ≡ 0
@@ -142,20 +142,20 @@ invalid-costs b [] = refl
 invalid-costs b (r ∷ rs) = let first = sum_by-cons (weight b) Invalid (map (λ q. Invalid) rs) in let rest = invalid-costs b rs in omega arith
 
 -- a cell with one valid replica
-pub owned-costs : (row : CellState) (n : Node) → n.0 < length row.nodes → cost_of (owned_at n row) ≤ 3
+pub owned-costs : (row : CellState) (n : Node) → n.0 < length row.marks → cost_of (owned_at n row) ≤ 3
 owned-costs row n inside = alone (is_on_disk (owned_at n row))
   where
-    alone : (b : Bool) → sum_by (weight b) (slice_set (map (λ r. Invalid) row.nodes) n.0 Valid) ≤ 3
+    alone : (b : Bool) → sum_by (weight b) (slice_set (map (λ r. Invalid) row.marks) n.0 Valid) ≤ 3
     alone b =
-        let all = sum_by-set (weight b) (map (λ r. Invalid) row.nodes) n.0 Valid Invalid (omega (arith, inside, length-map row.nodes (λ (r : Mark). Invalid))) in
-        omega (arith, invalid-costs b row.nodes)
+        let all = sum_by-set (weight b) (map (λ r. Invalid) row.marks) n.0 Valid Invalid (omega (arith, inside, length-map row.marks (λ (r : Mark). Invalid))) in
+        omega (arith, invalid-costs b row.marks)
 
 -- a disk gets the cell, which leaves a node
-pub written-costs : (row : CellState) (d : DiskNo) (n : Node) → d.0 < length row.disks → is_on_disk row ≡ false → n.0 < length row.nodes → is_leaving (replica_in row (AtNode n)) ≡ true → cost_of (with_replica_in row (OnDisk d) Valid) + 2 ≤ cost_of row
+pub written-costs : (row : CellState) (d : DiskNo) (n : Node) → d.0 < length row.disks → is_on_disk row ≡ false → n.0 < length row.marks → is_leaving (mark_in row n) ≡ true → cost_of (with_replica_in row (OnDisk d) Valid) + 2 ≤ cost_of row
 written-costs row d n within none inside leaving =
     let there : list_any is_valid (slice_set row.disks d.0 Valid) ≡ true = list_any_at is_valid (slice_set row.disks d.0 Valid) d.0 Invalid (omega (arith, within, length-set row.disks d.0 Valid)) (ap is_valid (get_or-set_same row.disks d.0 Valid Invalid within)) in
-    let all = sum-rises (weight true) (weight false) is_leaving 2 lighter row.nodes n.0 Invalid inside leaving in
-    omega (arith, ap (λ b. sum_by (weight b) row.nodes) there, ap (λ b. sum_by (weight b) row.nodes) none)
+    let all = sum-rises (weight true) (weight false) is_leaving 2 lighter row.marks n.0 Invalid inside leaving in
+    omega (arith, ap (λ b. sum_by (weight b) row.marks) there, ap (λ b. sum_by (weight b) row.marks) none)
   where
     lighter : (r : Mark) → weight true r + cond (is_leaving r) 2 0 ≤ weight false r
     lighter r = search arith
@@ -227,7 +227,7 @@ module _ (p : Program) (m : Machine) (s : State) (h : IsSound p m s) where
     claim-cost =
         let n = node_of m w in
         let brought : ℕ → Bool = λ k. has_cell (cells_of p t w) (cell k) in
-        let all = sum-renewed cost_of (λ k row. with_replica_in row (AtNode n) (claimed_replica w (evicted_by p m s t w) (missing p s t w n) (cell k) (replica_in row (AtNode n)))) (λ k. cond (brought k) 5 0) no_row s.cells
+        let all = sum-renewed cost_of (λ k row. with_mark row n (claimed_mark w (evicted_by p m s t w) (missing p s t w n) (cell k) (mark_in row n))) (λ k. cond (brought k) 5 0) no_row s.cells
         (λ k inside. claimed-costs (get_or s.cells k no_row) n w (evicted_by p m s t w) (missing p s t w n) (cell k) (brought k) (λ lacks. (missing-absent p m s t w s' claim leaves (cell k) lacks).1) (node-inside p m s h t w s' claim leaves (cell k) inside)) in
         omega (arith, rows-within (length s.cells) (cells_of p t w), ap cost leaves)
 
@@ -295,13 +295,13 @@ module _ (p : Program) (m : Machine) (s : State) (h : IsSound p m s) where
   rewrites : (c : Cell) (row : CellState) → c.0 < length s.cells → (fewer : ℕ) → cost_of row + fewer ≤ cost_of (cell_state s c) → cost (record s { cells = set s.cells c.0 row }) + fewer ≤ cost s
   rewrites c row inside fewer falls = let all = sum_by-set cost_of s.cells c.0 row no_row inside in omega arith
 
-  Drops-pays : (c : Cell) (n : Node) (s' : State) → CanDrop m s c n → s' ≡ with_replica s c (AtNode n) Invalid → Pays p s s'
+  Drops-pays : (c : Cell) (n : Node) (s' : State) → CanDrop s c n → s' ≡ with_row s c (with_mark (cell_state s c) n Invalid) → Pays p s s'
   Drops-pays c n s' drop leaves =
-      let by = leaving-by_some (replica s c (AtNode n)) drop.leaving in
-      let valid = leaving_by-valid by.0 (replica s c (AtNode n)) by.1 in
-      let gone = replaced (cell_state s c) n Invalid (valid-within (cell_state s c).nodes n.0 valid) in
-      let weighed = leaving-weighs (is_on_disk (cell_state s c)) (replica s c (AtNode n)) drop.leaving in
-      let all = rewrites c (with_replica_in (cell_state s c) (AtNode n) Invalid) (valid-row s c (AtNode n) valid) 1 (omega (arith, gone, weighed)) in
+      let by = leaving-by_some (mark s c n) drop.leaving in
+      let valid = leaving_by-valid by.0 (mark s c n) by.1 in
+      let gone = replaced (cell_state s c) n Invalid (valid-within (cell_state s c).marks n.0 valid) in
+      let weighed = leaving-weighs (is_on_disk (cell_state s c)) (mark s c n) drop.leaving in
+      let all = rewrites c (with_mark (cell_state s c) n Invalid) (valid-row s c (AtNode n) valid) 1 (omega (arith, gone, weighed)) in
       omega (arith, ap cost leaves, ap under_way leaves, ap (paid p) leaves)
 
   module _ (c : Cell) (from to : Place) (w : Worker) (s' : State) (moved : transfer s w ≡ Some (a_transfer c from to)) (leaves : s' ≡ with_transfer (with_replica s c to Valid) w None) where
@@ -313,12 +313,12 @@ module _ (p : Program) (m : Machine) (s : State) (h : IsSound p m s) where
     not_on_disk d at there = false_from_ne_true (is_on_disk row) (λ some.
         (let found = Any-from_list_any is_valid row.disks some in
         let k : DiskNo = record { 0 = found.0 } in
-        let valid : is_valid (replica s c (OnDisk k)) ≡ true = ap is_valid (get_or_default row.disks found.0 Invalid found.1 found.2 ∙ found.3) ∙ found.4 in
+        let valid : has_copy p m s c (OnDisk k) ≡ true = ap is_valid (get_or_default row.disks found.0 Invalid found.1 found.2 ∙ found.3) ∙ found.4 in
         let home = h.coherent.state.blocks.home c k valid in
         let aimed = h.coherent.state.blocks.aimed w (a_transfer c from to) d moved (sym at) in
         let both : Some k ≡ Some d = sym home ∙ aimed in
         let same : k ≡ d = cc in
-        false≢true (sym (ap is_valid there.1) ∙ ap (λ (e : DiskNo). is_valid (replica s c (OnDisk e))) (sym same) ∙ valid)))
+        false≢true (sym (ap is_valid there.1) ∙ ap (λ (e : DiskNo). has_copy p m s c (OnDisk e)) (sym same) ∙ valid)))
 
     -- the cell's row costs two less
     row-falls : (q : Place) → q ≡ to → IsTransferTo m s w c from q → (c.0 < length s.cells) × (cost_of (with_replica_in row q Valid) + 2 ≤ cost_of row)
@@ -329,11 +329,11 @@ module _ (p : Program) (m : Machine) (s : State) (h : IsSound p m s) where
         by_source : (q : Place) → q ≡ from → is_leaving_by w (replica s c q) ≡ true → (c.0 < length s.cells) × (cost_of (with_replica_in row (OnDisk d) Valid) + 2 ≤ cost_of row)
         by_source (OnDisk k) e leaving = absurd (stays-on_disk p m s h w c k leaving)
         by_source (AtNode n) e leaving =
-            let valid = leaving_by-valid w (replica s c (AtNode n)) leaving in
+            let valid = leaving_by-valid w (mark s c n) leaving in
             let inside = valid-row s c (AtNode n) valid in
             let aimed = h.coherent.state.blocks.aimed w (a_transfer c from to) d moved (sym at) in
             let within : d.0 < length row.disks = omega (arith, disk-within p m c d aimed, h.coherent.state.rows.disks c.0 no_row inside) in
-            (inside, written-costs row d n within (not_on_disk d at there) (valid-within row.nodes n.0 valid) (leaving_by-leaves w (replica s c (AtNode n)) leaving))
+            (inside, written-costs row d n within (not_on_disk d at there) (valid-within row.marks n.0 valid) (leaving_by-leaves w (mark s c n) leaving))
 
     -- and so do all replicas
     pub moved-cost : cost s' + 2 ≤ cost s

@@ -3,7 +3,7 @@
 use Rattle.std.proofs.Common.{Bool, List, ap, arith, cond, length, not, refl, sym, true, ℕ, ◌&&◌, ◌+◌, ◌<◌, ◌∙◌, ◌≡◌}
 use Rattle.std.proofs.Common.{◌≢◌, ◌≤◌, filter, count_by, nat_eq, nat_le, nat_lt, sum_by}
 use Rattle.sj_core.proofs.Words.{AtNode, Cell, Machine, Node, Program, State, Worker, cells_of_program, has_cell}
-use Rattle.sj_core.proofs.Words.{is_coming_by, is_leaving_by, node_of, order, replica, same_worker, scratch, tile_bytes}
+use Rattle.sj_core.proofs.Words.{is_coming_by, is_leaving_by, node_of, order, mark, same_worker, scratch, tile_bytes}
 use Rattle.sj_core.proofs.Words.{workers_at, workers_of, used}
 use Rattle.std.proofs.lemmas.Bool.{and_from, and_parts, false≢true}
 use Rattle.std.proofs.lemmas.{Bool.Decides.Decides-eqb, List.Sums.sum_by-le-sum_by}
@@ -36,12 +36,12 @@ module _ (p : Program) (m : Machine) (s : State) (state : IsStateOf p m s) (n : 
   pub order-bytes : sum_by (tile_bytes p) (order s n) ≡ bytes_where p (has_cell (order s n))
   order-bytes = once-bytes p (order s n) entry-cell (state.entries.once n)
 
-  pub leaving-bytes : (w : Worker) → sum_by (tile_bytes p) (leaving_by p s w n) ≡ bytes_where p (λ c. is_leaving_by w (replica s c (AtNode n)))
-  leaving-bytes w = sum-filter (tile_bytes p) (λ c. is_leaving_by w (replica s c (AtNode n))) (cells_of_program p)
+  pub leaving-bytes : (w : Worker) → sum_by (tile_bytes p) (leaving_by p s w n) ≡ bytes_where p (λ c. is_leaving_by w (mark s c n))
+  leaving-bytes w = sum-filter (tile_bytes p) (λ c. is_leaving_by w (mark s c n)) (cells_of_program p)
 
-  pub beside-bytes : (w : Worker) → sum_by (tile_bytes p) (entries_beside s w n) ≡ bytes_where p (λ c. not (is_coming_by w (replica s c (AtNode n))) && has_cell (order s n) c)
+  pub beside-bytes : (w : Worker) → sum_by (tile_bytes p) (entries_beside s w n) ≡ bytes_where p (λ c. not (is_coming_by w (mark s c n)) && has_cell (order s n) c)
   beside-bytes w =
-      let test : Cell → Bool = λ c. not (is_coming_by w (replica s c (AtNode n))) in
+      let test : Cell → Bool = λ c. not (is_coming_by w (mark s c n)) in
       once-bytes p (filter test (order s n)) (λ c has. entry-cell c (and_parts (test c) (has_cell (order s n) c) (sym (has_cell-filter_is test (order s n) c) ∙ has)).1) (λ c. (let fewer = times-filter test (order s n) c in let once = state.entries.once n c in omega arith))
       ∙ bytes_where-same p (has_cell (filter test (order s n))) (λ c. test c && has_cell (order s n) c) (has_cell-filter_is test (order s n))
 
@@ -73,10 +73,10 @@ module _ (p : Program) (m : Machine) (s s' : State) (before : IsStateOf p m s) (
       omega (arith, order-bytes p m s' after k, order-bytes p m s before k)
 
   -- and none leaves that didn't, and what came still comes
-  pub fewer-leaving : (v : Worker) → ((c : Cell) → is_leaving_by v (replica s' c (AtNode k)) ≡ true → is_leaving_by v (replica s c (AtNode k)) ≡ true) → ((c : Cell) → is_coming_by v (replica s c (AtNode k)) ≡ true → is_coming_by v (replica s' c (AtNode k)) ≡ true) → used_while_leaving p m s' v k ≤ used_while_leaving p m s v k
+  pub fewer-leaving : (v : Worker) → ((c : Cell) → is_leaving_by v (mark s' c k) ≡ true → is_leaving_by v (mark s c k) ≡ true) → ((c : Cell) → is_coming_by v (mark s c k) ≡ true → is_coming_by v (mark s' c k) ≡ true) → used_while_leaving p m s' v k ≤ used_while_leaving p m s v k
   fewer-leaving v leaves comes =
-      let all = bytes_where-le p (λ c. not (is_coming_by v (replica s' c (AtNode k))) && has_cell (order s' k) c) (λ c. not (is_coming_by v (replica s c (AtNode k))) && has_cell (order s k) c) still in
-      let more = bytes_where-le p (λ c. is_leaving_by v (replica s' c (AtNode k))) (λ c. is_leaving_by v (replica s c (AtNode k))) leaves in
+      let all = bytes_where-le p (λ c. not (is_coming_by v (mark s' c k)) && has_cell (order s' k) c) (λ c. not (is_coming_by v (mark s c k)) && has_cell (order s k) c) still in
+      let more = bytes_where-le p (λ c. is_leaving_by v (mark s' c k)) (λ c. is_leaving_by v (mark s c k)) leaves in
       let one = others-le m k v (scratch s') (scratch s) (λ x here other. scratches x here) in
       let rest = leaving-bytes p m s' after k v in
       omega (arith, leaving-bytes p m s before k v, beside-bytes p m s' after k v, beside-bytes p m s before k v)
@@ -84,5 +84,5 @@ module _ (p : Program) (m : Machine) (s s' : State) (before : IsStateOf p m s) (
       not_coming : (x y : Bool) → (x ≡ true → y ≡ true) → not y ≡ true → not x ≡ true
       not_coming b y f g = search arith
 
-      still : (c : Cell) → (not (is_coming_by v (replica s' c (AtNode k))) && has_cell (order s' k) c) ≡ true → (not (is_coming_by v (replica s c (AtNode k))) && has_cell (order s k) c) ≡ true
+      still : (c : Cell) → (not (is_coming_by v (mark s' c k)) && has_cell (order s' k) c) ≡ true → (not (is_coming_by v (mark s c k)) && has_cell (order s k) c) ≡ true
       still c both = search (arith, and_parts, and_from, not_coming)

@@ -2,7 +2,7 @@
 -- keeps what tasks, pins, bytes and workers ask of a coherent state.
 use Rattle.std.proofs.Common.{Bool, List, None, Option, Some, length, [], arith, false, inl, inr, refl, sym, true, ◌∙◌, ◌≡◌, ◌≢◌, ◌≤◌, ◌⊎◌, ap, subst, get_or, not, ℕ, ◌<◌, All, nat_eq}
 use Rattle.std.proofs.lemmas.Bool.{false_from_ne_true, false≢true}
-use Rattle.sj_core.proofs.Words.{AtNode, Cell, CellState, Claimed, same_cell, Machine, Node, OnDisk, Place, Program, Progress, Running, State, Task, Transfer, Worker, cells_of, has_cell, is_claimed_by, is_coming_by, is_entry, is_leaving, is_leaving_by, is_task_of, is_valid, moves, node_of, order, pins, progress, replica, scratch, transfer, victims_of, written_cells, DiskNo, Invalid, worker_of}
+use Rattle.sj_core.proofs.Words.{AtNode, Cell, CellState, Claimed, same_cell, Machine, Node, OnDisk, Place, Program, Progress, Running, State, Task, Transfer, Worker, cells_of, has_cell, is_claimed_by, is_coming_by, is_entry, is_leaving, is_leaving_by, is_task_of, is_valid, moves, node_of, order, pins, progress, mark, scratch, transfer, victims_of, written_cells, DiskNo, Invalid, worker_of, has_copy, on_disk}
 use Rattle.sj_core.specs.Coherent.{Coherent, HasRows, IsOwnedBy, IsStateOf, IsTransferTo, NodesSuffice, OrderIsKept, PinsHold, TasksHaveCells, TransfersAreSound, WorkersAreSound, WritersOwn, WritesAreCounted, HasBlocks, HasWorkers, WrittenIsKept}
 use Rattle.sj_core.specs.Laws.{IsSound}
 use Rattle.sj_core.specs.Step.{leave, same_place}
@@ -32,14 +32,14 @@ HasBlocks-kept p m s s' disks moves before = record {
 }
 
 -- where each row of the cells was renewed so as to keep its places, and the other tables are as long as before, the tables fit
-pub HasRows-kept : (p : Program) (m : Machine) (s s' : State) (f : ℕ → CellState → CellState) → s'.cells ≡ renewed f s.cells → ((i : ℕ) (row : CellState) → (length (f i row).nodes ≡ length row.nodes) × (length (f i row).disks ≡ length row.disks)) →
+pub HasRows-kept : (p : Program) (m : Machine) (s s' : State) (f : ℕ → CellState → CellState) → s'.cells ≡ renewed f s.cells → ((i : ℕ) (row : CellState) → (length (f i row).nodes ≡ length row.marks) × (length (f i row).disks ≡ length row.disks)) →
     length s'.tasks ≡ length s.tasks → length s'.orders ≡ length s.orders → length s'.workers ≡ length s.workers → HasRows p m s → HasRows p m s'
 HasRows-kept p m s s' f cells rows tasks orders workers before = record {
   tasks = tasks ∙ before.tasks;
   cells = ap length cells ∙ length-renewed f s.cells ∙ before.cells;
   orders = orders ∙ before.orders;
   workers = workers ∙ before.workers;
-  nodes = subst (All (λ row. length row.nodes ≡ length m.nodes)) (sym cells) (All-renewed (λ row. length row.nodes ≡ length m.nodes) f s.cells (λ i row e. (rows i row).0 ∙ e) before.nodes);
+  nodes = subst (All (λ row. length row.marks ≡ length m.nodes)) (sym cells) (All-renewed (λ row. length row.marks ≡ length m.nodes) f s.cells (λ i row e. (rows i row).0 ∙ e) before.nodes);
   disks = subst (All (λ row. length row.disks ≡ length m.disks)) (sym cells) (All-renewed (λ row. length row.disks ≡ length m.disks) f s.cells (λ i row e. (rows i row).1 ∙ e) before.disks);
 }
 
@@ -62,17 +62,17 @@ pub record Changes (p : Program) (m : Machine) (s s' : State) (t : Task) (old ne
   pub rows : (v : Worker) → ((pins s' v ≡ pins s v) × (scratch s' v ≡ scratch s v) × (v ≡ w → is_task_of w new ≡ true)) ⊎ ((v ≡ w) × (pins s' v ≡ []) × (scratch s' v ≡ 0) × (is_task_of w new ≡ false))
   pub victims : (v : Worker) → victims_of s' v ≡ victims_of s v
   -- no more entries; nothing more leaves or comes; w's claim has what it had only if it is still a claim
-  pub entries : (c : Cell) (k : Node) → is_entry (replica s' c (AtNode k)) ≡ true → is_entry (replica s c (AtNode k)) ≡ true
+  pub entries : (c : Cell) (k : Node) → is_entry (mark s' c k) ≡ true → is_entry (mark s c k) ≡ true
   pub leaves : (v : Worker) (c : Cell) (q : Place) → is_leaving_by v (replica s' c q) ≡ true → is_leaving_by v (replica s c q) ≡ true
-  pub comes : (v : Worker) (c : Cell) (k : Node) → is_coming_by v (replica s' c (AtNode k)) ≡ true → is_coming_by v (replica s c (AtNode k)) ≡ true
-  pub still_comes : (v : Worker) (c d : Cell) (k : Node) → is_leaving_by v (replica s' d (AtNode k)) ≡ true → is_coming_by v (replica s c (AtNode k)) ≡ true → is_coming_by v (replica s' c (AtNode k)) ≡ true
+  pub comes : (v : Worker) (c : Cell) (k : Node) → is_coming_by v (mark s' c k) ≡ true → is_coming_by v (mark s c k) ≡ true
+  pub still_comes : (v : Worker) (c d : Cell) (k : Node) → is_leaving_by v (mark s' d k) ≡ true → is_coming_by v (mark s c k) ≡ true → is_coming_by v (mark s' c k) ≡ true
   pub moves_on : (v : Worker) (x : Transfer) → transfer s' v ≡ Some x → (u : Task) × (is_claimed_by v (progress s u) ≡ true)
-  pub claims_on : old ≡ Claimed w → (((c : Cell) (k : Node) → is_leaving_by w (replica s' c (AtNode k)) ≡ false) × ((c : Cell) (k : Node) → is_coming_by w (replica s' c (AtNode k)) ≡ false) × ((x : Transfer) → transfer s' w ≡ Some x → ⊥)) ⊎ (new ≡ Claimed w)
+  pub claims_on : old ≡ Claimed w → (((c : Cell) (k : Node) → is_leaving_by w (mark s' c k) ≡ false) × ((c : Cell) (k : Node) → is_coming_by w (mark s' c k) ≡ false) × ((x : Transfer) → transfer s' w ≡ Some x → ⊥)) ⊎ (new ≡ Claimed w)
   -- other tasks' cells stay, its own are there
-  pub stays : (u : Task) (v : Worker) (c : Cell) → u ≢ t → is_task_of v (progress s u) ≡ true → has_cell (cells_of p u v) c ≡ true → (is_entry (replica s c (AtNode (node_of m v))) ≡ true → is_entry (replica s' c (AtNode (node_of m v))) ≡ true) × (is_valid (replica s c (AtNode (node_of m v))) ≡ true → is_valid (replica s' c (AtNode (node_of m v))) ≡ true)
-  pub claimed : (c : Cell) → new ≡ Claimed w → has_cell (cells_of p t w) c ≡ true → is_entry (replica s' c (AtNode (node_of m w))) ≡ true
-  pub running : (c : Cell) → new ≡ Running w → has_cell (cells_of p t w) c ≡ true → is_valid (replica s' c (AtNode (node_of m w))) ≡ true
-  pub transfers : TransfersAreSound m s'
+  pub stays : (u : Task) (v : Worker) (c : Cell) → u ≢ t → is_task_of v (progress s u) ≡ true → has_cell (cells_of p u v) c ≡ true → (is_entry (mark s c (node_of m v)) ≡ true → is_entry (mark s' c (node_of m v)) ≡ true) × (is_valid (mark s c (node_of m v)) ≡ true → is_valid (mark s' c (node_of m v)) ≡ true)
+  pub claimed : (c : Cell) → new ≡ Claimed w → has_cell (cells_of p t w) c ≡ true → is_entry (mark s' c (node_of m w)) ≡ true
+  pub running : (c : Cell) → new ≡ Running w → has_cell (cells_of p t w) c ≡ true → is_valid (mark s' c (node_of m w)) ≡ true
+  pub transfers : TransfersAreSound p m s'
   pub order : OrderIsKept p s'
   pub counts : WritesAreCounted p s'
 
@@ -100,10 +100,10 @@ module _ (p : Program) (m : Machine) (s : State) (h : IsSound p m s) (s' : State
   still_claims v u claims on =
       search (arith, same_task, its_worker, claimed_by-task_of, claimed_by-is, same_worker-refl)
 
-  leaving_on : (c : Cell) (k : Node) → is_leaving_by w (replica s' c (AtNode k)) ≡ true → old ≡ Claimed w → new ≡ Claimed w
+  leaving_on : (c : Cell) (k : Node) → is_leaving_by w (mark s' c k) ≡ true → old ≡ Claimed w → new ≡ Claimed w
   leaving_on c k leaving claimed = elim (change.claims_on claimed) [ inr on ↦ on | inl (none, come, move) ↦ absurd (false≢true (sym (none c k) ∙ leaving)) ]
 
-  coming_on : (c : Cell) (k : Node) → is_coming_by w (replica s' c (AtNode k)) ≡ true → old ≡ Claimed w → new ≡ Claimed w
+  coming_on : (c : Cell) (k : Node) → is_coming_by w (mark s' c k) ≡ true → old ≡ Claimed w → new ≡ Claimed w
   coming_on c k coming claimed = elim (change.claims_on claimed) [ inr on ↦ on | inl (leave, none, move) ↦ absurd (false≢true (sym (none c k) ∙ coming)) ]
 
   pub Changes-cells : TasksHaveCells p m s'
@@ -113,9 +113,9 @@ module _ (p : Program) (m : Machine) (s : State) (h : IsSound p m s) (s' : State
   Changes-pins =
       let before = h.coherent.pins in
       record {
-        stays = λ v c pin. false_from_ne_true (is_leaving (replica s' c (AtNode (node_of m v)))) (λ leaves.
-            (let by = leaving-by_some (replica s' c (AtNode (node_of m v))) leaves in
-            false≢true (sym (before.stays v c (was_pinned v c pin)) ∙ leaving_by-leaves by.0 (replica s c (AtNode (node_of m v))) (change.leaves by.0 c (AtNode (node_of m v)) by.1))));
+        stays = λ v c pin. false_from_ne_true (is_leaving (mark s' c (node_of m v))) (λ leaves.
+            (let by = leaving-by_some (mark s' c (node_of m v)) leaves in
+            false≢true (sym (before.stays v c (was_pinned v c pin)) ∙ leaving_by-leaves by.0 (mark s c (node_of m v)) (change.leaves by.0 c (AtNode (node_of m v)) by.1))));
         own = λ v c pin. (let held = before.own v c (was_pinned v c pin) in record {
           task = held.task;
           cell = held.cell;
@@ -124,7 +124,7 @@ module _ (p : Program) (m : Machine) (s : State) (h : IsSound p m s) (s' : State
         coming_here = λ v c k coming. before.coming_here v c k (change.comes v c k coming);
         coming_claimed = λ v c k coming.
             (let claimed = before.coming_claimed v c k (change.comes v c k coming) in
-            record { task = claimed.task; cell = claimed.cell; claimed = claimed_by-is v (progress s' claimed.task) (still_claims v claimed.task (ap (is_claimed_by v) claimed.claimed ∙ same_worker-refl v) (λ is. coming_on c k (ap (λ (x : Worker). is_coming_by x (replica s' c (AtNode k))) (sym is) ∙ coming))) });
+            record { task = claimed.task; cell = claimed.cell; claimed = claimed_by-is v (progress s' claimed.task) (still_claims v claimed.task (ap (is_claimed_by v) claimed.claimed ∙ same_worker-refl v) (λ is. coming_on c k (ap (λ (x : Worker). is_coming_by x (mark s' c k)) (sym is) ∙ coming))) });
         coming_pinned = λ v c k coming.
             (search (arith, still_claims, same_worker-refl, coming_on, still_pinned, claimed_by-task_of));
       }
@@ -144,7 +144,7 @@ module _ (p : Program) (m : Machine) (s : State) (h : IsSound p m s) (s' : State
       record {
         evicted = λ v c k leaving.
             (let was = before.evicted v c k (change.leaves v c (AtNode k) leaving) in
-            record { here = was.here; claims = (was.claims.0, still_claims v was.claims.0 was.claims.1 (λ is. leaving_on c k (ap (λ (x : Worker). is_leaving_by x (replica s' c (AtNode k))) (sym is) ∙ leaving))); victim = ap (λ (cs : List Cell). has_cell cs c) (change.victims v) ∙ was.victim });
+            record { here = was.here; claims = (was.claims.0, still_claims v was.claims.0 was.claims.1 (λ is. leaving_on c k (ap (λ (x : Worker). is_leaving_by x (mark s' c k)) (sym is) ∙ leaving))); victim = ap (λ (cs : List Cell). has_cell cs c) (change.victims v) ∙ was.victim });
         one_evicts = λ u v c d k lu lv. before.one_evicts u v c d k (change.leaves u c (AtNode k) lu) (change.leaves v d (AtNode k) lv);
         one_task = λ u v x hu hv. before.one_task u v x (was_task x u hu) (was_task x v hv);
         moves_for_claim = λ v x under_way.
@@ -186,17 +186,17 @@ module _ (p : Program) (m : Machine) (s : State) (h : IsSound p m s) (s' : State
     ];
   }
 
-  pub Changes-coherent : WritersOwn p m s' → WrittenIsKept p s' → Coherent p m s'
+  pub Changes-coherent : WritersOwn p m s' → WrittenIsKept p m s' → Coherent p m s'
   Changes-coherent writers copies = search (arith, Changes-cells, Changes-pins, Changes-bytes, Changes-workers)
 
 -- a step that begins no transfer keeps them sound, where what moves stays valid where it is read, awaited or evicted, and no
 -- mover's victims are more
 pub TransfersAreSound-kept : (m : Machine) (s s' : State) → ((v : Worker) (x : Transfer) → transfer s' v ≡ Some x → transfer s v ≡ Some x) →
-    ((v : Worker) (x : Transfer) → transfer s' v ≡ Some x → is_valid (replica s x.cell x.from) ≡ true → is_valid (replica s' x.cell x.from) ≡ true) →
-    ((v : Worker) (x : Transfer) (k : Node) → transfer s' v ≡ Some x → k ≡ node_of m v → is_coming_by v (replica s x.cell (AtNode k)) ≡ true → is_coming_by v (replica s' x.cell (AtNode k)) ≡ true) →
+    ((v : Worker) (x : Transfer) → transfer s' v ≡ Some x → has_copy p m s x.cell x.from ≡ true → has_copy p m s' x.cell x.from ≡ true) →
+    ((v : Worker) (x : Transfer) (k : Node) → transfer s' v ≡ Some x → k ≡ node_of m v → is_coming_by v (mark s x.cell k) ≡ true → is_coming_by v (mark s' x.cell k) ≡ true) →
     ((v : Worker) (x : Transfer) → transfer s' v ≡ Some x → is_leaving_by v (replica s x.cell x.from) ≡ true → is_leaving_by v (replica s' x.cell x.from) ≡ true) →
     ((v : Worker) (x : Transfer) (d : DiskNo) → transfer s' v ≡ Some x → x.to ≡ OnDisk d → (replica s' x.cell (OnDisk d) ≡ Invalid) ⊎ (replica s' x.cell (OnDisk d) ≡ replica s x.cell (OnDisk d))) →
-    ((v : Worker) (x : Transfer) (c : Cell) (q : Place) → transfer s' v ≡ Some x → is_leaving_by v (replica s' c q) ≡ true → is_leaving_by v (replica s c q) ≡ true) → TransfersAreSound m s → TransfersAreSound m s'
+    ((v : Worker) (x : Transfer) (c : Cell) (q : Place) → transfer s' v ≡ Some x → is_leaving_by v (replica s' c q) ≡ true → is_leaving_by v (replica s c q) ≡ true) → TransfersAreSound p m s → TransfersAreSound p m s'
 TransfersAreSound-kept m s s' was read awaited evicted on_disk leaves before = record {
   source = λ v x now. read v x now (before.source v x (was v x now));
   target = λ v x now. to_place v x now x.to refl (before.target v x (was v x now));
@@ -209,7 +209,7 @@ TransfersAreSound-kept m s s' was read awaited evicted on_disk leaves before = r
 
 -- so does one that leaves alone the cells that move
 pub TransfersAreSound-spared : (m : Machine) (s s' : State) (touched : Cell → Bool) → ((c : Cell) (q : Place) → touched c ≡ false → replica s' c q ≡ replica s c q) → ((v : Worker) (c : Cell) (q : Place) → is_leaving_by v (replica s' c q) ≡ true → is_leaving_by v (replica s c q) ≡ true) →
-    ((v : Worker) → transfer s' v ≡ transfer s v) → ((v : Worker) (x : Transfer) → transfer s v ≡ Some x → touched x.cell ≡ false) → TransfersAreSound m s → TransfersAreSound m s'
+    ((v : Worker) → transfer s' v ≡ transfer s v) → ((v : Worker) (x : Transfer) → transfer s v ≡ Some x → touched x.cell ≡ false) → TransfersAreSound p m s → TransfersAreSound p m s'
 TransfersAreSound-spared m s s' touched stays leaves same spared = TransfersAreSound-kept m s s' was (λ v x now valid. ap is_valid (stays x.cell x.from (unmoved v x now)) ∙ valid)
     (λ v x k now here coming. ap (is_coming_by v) (stays x.cell (AtNode k) (unmoved v x now)) ∙ coming) (λ v x now leaving. ap (is_leaving_by v) (stays x.cell x.from (unmoved v x now)) ∙ leaving)
     (λ v x d now e. inr (stays x.cell (OnDisk d) (unmoved v x now))) (λ v x c q now. leaves v c q)

@@ -5,11 +5,11 @@ use Rattle.std.proofs.lemmas.Bool.Decides.{Decides-eqb}
 use Rattle.std.proofs.lemmas.List.{get_or-set_other, get_or-set_same, get_or_past, length-set}
 use Rattle.sj_base.proofs.Lists.{list_any-filter}
 use Rattle.sj_base.proofs.SameIds.{workers_differ}
-use Rattle.sj_core.proofs.Words.{AtNode, Cell, CellState, Claimed, Coming, DiskNo, Invalid, Leaving, Machine, Mark, Node, OnDisk, Place, Program, Running, State, Task, Transfer, Valid, Waiting, Worker, WorkerState, cell_state, cells_of, cells_of_program, distinct, free, has_cell, is_claimed_by, is_coming_by, is_entry, is_leaving, is_leaving_by, is_pinned, is_task_of, is_valid, node_of, node_size, order, pins, progress, replica, replica_in, same_worker, scratch, scratch_bytes, task_of, tile_bytes, transfer, used, with_replica_in, worker_state, workers_at, workers_of, writes, written_cells, worked_on}
+use Rattle.sj_core.proofs.Words.{AtNode, Cell, CellState, Claimed, Coming, DiskNo, Invalid, Leaving, Machine, Mark, Node, OnDisk, Place, Program, Running, State, Task, Transfer, Valid, Waiting, Worker, WorkerState, cell_state, cells_of, cells_of_program, distinct, free, has_cell, is_claimed_by, is_coming_by, is_entry, is_leaving, is_leaving_by, is_pinned, is_task_of, is_valid, node_of, node_size, order, pins, progress, mark, mark_in, same_worker, scratch, scratch_bytes, task_of, tile_bytes, transfer, used, with_mark, worker_state, workers_at, workers_of, writes, written_cells, worked_on, has_copy}
 use Rattle.sj_core.specs.Coherent.{Coherent, HasEntries, HasRows, IsOwnedBy, IsStateOf, NodesSuffice, OrderIsKept, PinsHold, TasksHaveCells, TransfersAreSound, WorkersAreSound, WritersOwn, WritesAreCounted, is_being_written, used_while_leaving, WrittenIsKept}
 use Rattle.sj_core.specs.Laws.{IsSound}
 use Rattle.sj_core.specs.Proper.{IsMachineFor}
-use Rattle.sj_core.specs.Step.{CanClaim, after_claim, claimed_replica, leave, missing, to_come, to_front, without}
+use Rattle.sj_core.specs.Step.{CanClaim, after_claim, claimed_mark, leave, missing, to_come, to_front, without}
 use Rattle.sj_core.specs.Victims.{covers}
 use Rattle.sj_core.proofs.Advancing.{Advances, Claims-advances, claimed-is_mine, claimed-task_of, claimed_by-task_of, idle-has_none, same_task, task_of-worker}
 use Rattle.sj_core.proofs.CellLists.{filter-has_cell, has_cell-append, has_cell-distinct, has_cell-filter, has_cell-fronted, has_cell-without, share, times, times-append, times-distinct, times-filter, times-fronted}
@@ -51,9 +51,9 @@ module _ (p : Program) (m : Machine) (s : State) (t : Task) (w : Worker) (s' : S
   absent-missing c absent has = search (arith, filter-has_cell, has_cell-distinct)
 
   abbrev new_replica : Cell → Mark
-  new_replica c = claimed_replica w (evicted_by p m s t w) (missing p s t w (node_of m w)) c (replica s c (AtNode (node_of m w)))
+  new_replica c = claimed_mark w (evicted_by p m s t w) (missing p s t w (node_of m w)) c (mark s c (node_of m w))
 
-  claim-row : (c : Cell) → (cell_state s' c ≡ with_replica_in (cell_state s c) (AtNode (node_of m w)) (new_replica c)) ⊎ ((cell_state s c ≡ no_row) × (cell_state s' c ≡ no_row))
+  claim-row : (c : Cell) → (cell_state s' c ≡ with_mark (cell_state s c) (node_of m w) (new_replica c)) ⊎ ((cell_state s c ≡ no_row) × (cell_state s' c ≡ no_row))
   claim-row c = search (arith, cells-renewed_or)
 
   claim-at : (c : Cell) (q : Place) → (replica s' c q ≡ replica s c q) ⊎ ((q ≡ AtNode (node_of m w)) × (replica s' c q ≡ new_replica c))
@@ -71,10 +71,10 @@ module _ (p : Program) (m : Machine) (s : State) (t : Task) (w : Worker) (s' : S
   claim-on_disk c d = claim-elsewhere c (OnDisk d) (λ e. (cc))
 
   -- on the node, victims leave and missing cells come
-  pub claim-here : (c : Cell) → c.0 < length s.cells → (node_of m w).0 < length (cell_state s c).nodes → replica s' c (AtNode (node_of m w)) ≡ new_replica c
+  pub claim-here : (c : Cell) → c.0 < length s.cells → (node_of m w).0 < length (cell_state s c).marks → mark s' c (node_of m w) ≡ new_replica c
   claim-here c inside within =
-      ap (λ (z : State). replica z c (AtNode (node_of m w))) leaves
-      ∙ ap (λ (row : CellState). replica_in row (AtNode (node_of m w))) (renewed-at (λ k row. with_replica_in row (AtNode (node_of m w)) (claimed_replica w (evicted_by p m s t w) (missing p s t w (node_of m w)) (record { 0 = k }) (replica_in row (AtNode (node_of m w))))) s.cells c.0 no_row inside)
+      ap (λ (z : State). mark z c (node_of m w)) leaves
+      ∙ ap (λ (row : CellState). mark_in row (node_of m w)) (renewed-at (λ k row. with_mark row (node_of m w) (claimed_mark w (evicted_by p m s t w) (missing p s t w (node_of m w)) (record { 0 = k }) (mark_in row (node_of m w)))) s.cells c.0 no_row inside)
       ∙ replica_in-same (cell_state s c) (node_of m w) (new_replica c) within
 
 -- ---- the rows of the workers
@@ -138,8 +138,8 @@ module _ (p : Program) (m : Machine) (s : State) (h : IsSound p m s) (t : Task) 
       let named = (Proper-dependencies p h.proper).cells t.0 (worked_on p w found.0).0 (manner_of (task_of p t).codelet found.0.mode) uses in
       omega (arith, ap (λ (d : Cell). d.0) found.3, h.coherent.state.rows.cells)
 
-  pub node-inside : (c : Cell) → c.0 < length s.cells → (node_of m w).0 < length (cell_state s c).nodes
-  node-inside c inside = let row = h.coherent.state.rows.nodes c.0 no_row inside in let some = h.machine.some_node in omega arith
+  pub node-inside : (c : Cell) → c.0 < length s.cells → (node_of m w).0 < length (cell_state s c).marks
+  node-inside c inside = let row = h.coherent.state.rows.marks c.0 no_row inside in let some = h.machine.some_node in omega arith
 
   -- what a worker pins isn't evicted, nor is a cell of the task
   pub pin-spared : (v : Worker) (c : Cell) → has_cell (pins s v) c ≡ true → node_of m v ≡ node_of m w → has_cell (evicted_by p m s t w) c ≡ false
@@ -151,18 +151,18 @@ module _ (p : Program) (m : Machine) (s : State) (h : IsSound p m s) (t : Task) 
   own-spared c has = false_from_ne_true (has_cell (evicted_by p m s t w) c) (λ evicted. false≢true (sym (evicted-free p m s t w s' claim leaves c evicted).1 ∙ has))
 
   -- a victim is valid
-  pub victim-valid : (c : Cell) → has_cell (evicted_by p m s t w) c ≡ true → replica s c (AtNode (node_of m w)) ≡ Valid
+  pub victim-valid : (c : Cell) → has_cell (evicted_by p m s t w) c ≡ true → mark s c (node_of m w) ≡ Valid
   victim-valid c evicted =
-      elim (entry-cases (replica s c (AtNode (node_of m w))) (sym (h.coherent.state.entries.entries (node_of m w) c) ∙ (evicted-free p m s t w s' claim leaves c evicted).2)) [
+      elim (entry-cases (mark s c (node_of m w)) (sym (h.coherent.state.entries.entries (node_of m w) c) ∙ (evicted-free p m s t w s' claim leaves c evicted).2)) [
         | inr valid ↦ valid
         | inl (v, coming) ↦
-            let by : is_coming_by v (replica s c (AtNode (node_of m w))) ≡ true = ap (is_coming_by v) coming ∙ same_worker-refl v in
+            let by : is_coming_by v (mark s c (node_of m w)) ≡ true = ap (is_coming_by v) coming ∙ same_worker-refl v in
             absurd (false≢true (sym (pin-spared v c (h.coherent.pins.coming_pinned v c (node_of m w) by) (sym (h.coherent.pins.coming_here v c (node_of m w) by))) ∙ evicted))
       ]
 
   -- a missing cell has no replica on the node
-  pub missing-invalid : (c : Cell) → has_cell (missing p s t w (node_of m w)) c ≡ true → replica s c (AtNode (node_of m w)) ≡ Invalid
-  missing-invalid c lacks = invalid-is (replica s c (AtNode (node_of m w))) (sym (h.coherent.state.entries.entries (node_of m w) c) ∙ (missing-absent p m s t w s' claim leaves c lacks).0) (settled-at s (node_of m w) c claim.settled)
+  pub missing-invalid : (c : Cell) → has_cell (missing p s t w (node_of m w)) c ≡ true → mark s c (node_of m w) ≡ Invalid
+  missing-invalid c lacks = invalid-is (mark s c (node_of m w)) (sym (h.coherent.state.entries.entries (node_of m w) c) ∙ (missing-absent p m s t w s' claim leaves c lacks).0) (settled-at s (node_of m w) c claim.settled)
 
   pub claim-cases : (c : Cell) (q : Place) → ClaimCase m s s' w (evicted_by p m s t w) (missing p s t w (node_of m w)) c q
   claim-cases c q = elim (claim-at p m s t w s' claim leaves c q) [
@@ -177,14 +177,14 @@ module _ (p : Program) (m : Machine) (s : State) (h : IsSound p m s) (t : Task) 
   ]
 
   -- what is valid stays so, and nothing else is
-  pub claim-valid : (c : Cell) (q : Place) → is_valid (replica s' c q) ≡ is_valid (replica s c q)
+  pub claim-valid : (c : Cell) (q : Place) → has_copy p m s' c q ≡ has_copy p m s c q
   claim-valid c q = search (arith, claim-cases)
 
   same_node_of : (k : Node) → AtNode k ≡ AtNode (node_of m w) → k ≡ node_of m w
   same_node_of k e = cc
 
   -- an entry that isn't evicted stays
-  pub entry-stays : (c : Cell) (k : Node) → is_entry (replica s c (AtNode k)) ≡ true → (k ≡ node_of m w → has_cell (evicted_by p m s t w) c ≡ false) → replica s' c (AtNode k) ≡ replica s c (AtNode k)
+  pub entry-stays : (c : Cell) (k : Node) → is_entry (mark s c k) ≡ true → (k ≡ node_of m w → has_cell (evicted_by p m s t w) c ≡ false) → mark s' c k ≡ mark s c k
   entry-stays c k entry spared = search (arith, claim-cases c (AtNode k), false≢true, same_node_of)
 
   -- what leaves after a claim is a victim of it, or left before; what leaves still leaves
@@ -195,11 +195,11 @@ module _ (p : Program) (m : Machine) (s : State) (h : IsSound p m s) (t : Task) 
   claim-still_leaves v c q leaving = search (arith, claim-cases, false≢true)
 
   -- what comes after a claim is what it brings, or came before
-  pub claim-coming : (v : Worker) (c : Cell) (k : Node) → is_coming_by v (replica s' c (AtNode k)) ≡ true → ((k ≡ node_of m w) × (v ≡ w) × (has_cell (cells_of p t w) c ≡ true)) ⊎ (is_coming_by v (replica s c (AtNode k)) ≡ true)
+  pub claim-coming : (v : Worker) (c : Cell) (k : Node) → is_coming_by v (mark s' c k) ≡ true → ((k ≡ node_of m w) × (v ≡ w) × (has_cell (cells_of p t w) c ≡ true)) ⊎ (is_coming_by v (mark s c k) ≡ true)
   claim-coming v c k coming = grind (arith, claim-cases c (AtNode k), same_node_of, same_worker-is w v, missing-absent p m s t w s' claim leaves c)
 
   -- the task's own cells are entries after the claim: those that were, and those that come
-  pub claim-own_cells : (c : Cell) → has_cell (cells_of p t w) c ≡ true → (is_entry (replica s' c (AtNode (node_of m w))) ≡ true) × (has_cell (order s (node_of m w)) c ≡ false → is_coming_by w (replica s' c (AtNode (node_of m w))) ≡ true)
+  pub claim-own_cells : (c : Cell) → has_cell (cells_of p t w) c ≡ true → (is_entry (mark s' c (node_of m w)) ≡ true) × (has_cell (order s (node_of m w)) c ≡ false → is_coming_by w (mark s' c (node_of m w)) ≡ true)
   claim-own_cells c has =
       let inside = task-cell c has in
       let now = claim-here p m s t w s' claim leaves c inside (node-inside c inside) in
@@ -212,7 +212,7 @@ module _ (p : Program) (m : Machine) (s : State) (h : IsSound p m s) (t : Task) 
   claim_order = fold to_front (without (evicted_by p m s t w) (order s (node_of m w))) (cells_of p t w)
 
   claim-rows : HasRows p m s'
-  claim-rows = HasRows-kept p m s s' _ (ap (λ (z : State). z.cells) leaves) (λ i row. (length-set row.nodes (node_of m w).0 _, refl))
+  claim-rows = HasRows-kept p m s s' _ (ap (λ (z : State). z.cells) leaves) (λ i row. (length-set row.marks (node_of m w).0 _, refl))
       (ap (λ (z : State). length z.tasks) leaves ∙ length-set s.tasks t.0 (Claimed w)) (ap (λ (z : State). length z.orders) leaves ∙ length-set s.orders (node_of m w).0 claim_order)
       (ap (λ (z : State). length z.workers) leaves ∙ length-set s.workers w.0 _) h.coherent.state.rows
 
@@ -226,17 +226,17 @@ module _ (p : Program) (m : Machine) (s : State) (h : IsSound p m s) (t : Task) 
   pub order-now : (c : Cell) → has_cell (order s' (node_of m w)) c ≡ (has_cell (cells_of p t w) c || (not (has_cell (evicted_by p m s t w) c) && has_cell (order s (node_of m w)) c))
   order-now c = ap (λ (cs : List Cell). has_cell cs c) claim-order_here ∙ has_cell-fronted (cells_of p t w) (without (evicted_by p m s t w) (order s (node_of m w))) c ∙ ap (λ b. has_cell (cells_of p t w) c || b) (has_cell-without (evicted_by p m s t w) (order s (node_of m w)) c)
 
-  elsewhere : (c : Cell) (k : Node) → k ≢ node_of m w → replica s' c (AtNode k) ≡ replica s c (AtNode k)
+  elsewhere : (c : Cell) (k : Node) → k ≢ node_of m w → mark s' c k ≡ mark s c k
   elsewhere c k d = claim-elsewhere p m s t w s' claim leaves c (AtNode k) (λ e. d (cc))
 
   -- a victim leaves
-  evicted-leaves : (c : Cell) → has_cell (evicted_by p m s t w) c ≡ true → replica s' c (AtNode (node_of m w)) ≡ Leaving w
+  evicted-leaves : (c : Cell) → has_cell (evicted_by p m s t w) c ≡ true → mark s' c (node_of m w) ≡ Leaving w
   evicted-leaves c evicted =
       let valid = victim-valid c evicted in
       let inside = entry-inside s c (node_of m w) (ap is_entry valid) in
-      claim-here p m s t w s' claim leaves c inside.0 inside.1 ∙ ap (λ x. cond x (leave w (replica s c (AtNode (node_of m w)))) (cond (has_cell (missing p s t w (node_of m w)) c) (Coming w) (replica s c (AtNode (node_of m w))))) evicted ∙ ap (leave w) valid
+      claim-here p m s t w s' claim leaves c inside.0 inside.1 ∙ ap (λ x. cond x (leave w (mark s c (node_of m w))) (cond (has_cell (missing p s t w (node_of m w)) c) (Coming w) (mark s c (node_of m w)))) evicted ∙ ap (leave w) valid
 
-  entries-here : (c : Cell) → has_cell (order s' (node_of m w)) c ≡ is_entry (replica s' c (AtNode (node_of m w)))
+  entries-here : (c : Cell) → has_cell (order s' (node_of m w)) c ≡ is_entry (mark s' c (node_of m w))
   entries-here c = grind (arith, order-now c, claim-cases c (AtNode (node_of m w)), claim-own_cells c, evicted-leaves c, missing-absent p m s t w s' claim leaves c, h.coherent.state.entries.entries (node_of m w) c)
 
   claim-entries : HasEntries s'
@@ -313,7 +313,7 @@ module _ (p : Program) (m : Machine) (s : State) (h : IsSound p m s) (t : Task) 
   still_pinned v u c has = claim-other_pins v c (claimer-other v u has)
 
   -- a pinned entry stays
-  pinned-entry : (v : Worker) (c : Cell) → has_cell (pins s v) c ≡ true → is_entry (replica s c (AtNode (node_of m v))) ≡ true → replica s' c (AtNode (node_of m v)) ≡ replica s c (AtNode (node_of m v))
+  pinned-entry : (v : Worker) (c : Cell) → has_cell (pins s v) c ≡ true → is_entry (mark s c (node_of m v)) ≡ true → mark s' c (node_of m v) ≡ mark s c (node_of m v)
   pinned-entry v c pin entry = entry-stays c (node_of m v) entry (pin-spared v c pin)
 
   claim-cells : TasksHaveCells p m s'
@@ -332,8 +332,8 @@ module _ (p : Program) (m : Machine) (s : State) (h : IsSound p m s) (t : Task) 
   claim-pins =
       let before = h.coherent.pins in
       record {
-        stays = λ v c pin. false_from_ne_true (is_leaving (replica s' c (AtNode (node_of m v)))) (λ leaves.
-            (let by = leaving-by_some (replica s' c (AtNode (node_of m v))) leaves in
+        stays = λ v c pin. false_from_ne_true (is_leaving (mark s' c (node_of m v))) (λ leaves.
+            (let by = leaving-by_some (mark s' c (node_of m v)) leaves in
             grind (arith, workers_differ v w, claim-leaving by.0 c (AtNode (node_of m v)) by.1, own-spared c, pin-spared v c, claim-own_pins c, claim-other_pins v c, leaving_by-leaves by.0, before.stays v c)));
         own = λ v c pin. elim (workers_differ v w) [
           | inl e ↦ record { task = t; has = grind (arith, claim-advance, e, claimed-is_mine w); cell = grind (arith, e, claim-own_pins c) }
@@ -347,9 +347,9 @@ module _ (p : Program) (m : Machine) (s : State) (h : IsSound p m s) (t : Task) 
         ];
       }
 
-  claim-transfers : TransfersAreSound m s'
+  claim-transfers : TransfersAreSound p m s'
   claim-transfers = TransfersAreSound-kept m s s' was (λ v x now valid. claim-valid x.cell x.from ∙ valid)
-      (λ v x k now here coming. ap (is_coming_by v) (entry-stays x.cell k (ap is_entry (coming_by-is v (replica s x.cell (AtNode k)) coming))
+      (λ v x k now here coming. ap (is_coming_by v) (entry-stays x.cell k (ap is_entry (coming_by-is v (mark s x.cell k) coming))
       (λ e. pin-spared v x.cell (h.coherent.pins.coming_pinned v x.cell k coming) (sym here ∙ e))) ∙ coming)
       (λ v x now. claim-still_leaves v x.cell x.from) (λ v x d now e. inr (claim-on_disk p m s t w s' claim leaves x.cell d))
       (λ v x c q now leaving. elim (claim-leaving v c q leaving) [ inl (at, own, evicted) ↦ absurd (mover_other v x now own) | inr (away, left) ↦ left ]) h.coherent.transfers
@@ -390,9 +390,9 @@ module _ (p : Program) (m : Machine) (s : State) (h : IsSound p m s) (t : Task) 
   pub claim-rests : (c : Cell) → is_being_written p s c ≡ false → is_being_written p s' c ≡ false
   claim-rests c resting = not_written-after p m s s' t Waiting (Claimed w) c claim-rows claim-advance resting (λ v e. absurd (let f : Claimed w ≡ Running v = e in cc))
 
-  claim-copies : WrittenIsKept p s'
+  claim-copies : WrittenIsKept p m s'
   claim-copies = record {
-    valid_somewhere = λ c some resting. (let q = h.coherent.copies.valid_somewhere c (omega (arith, claim-writes p m s t w s' claim leaves c, some)) (claim-rested c resting) in (q.0, claim-valid c q.0 ∙ q.1));
+    somewhere = λ c some resting. (let q = h.coherent.copies.somewhere c (omega (arith, claim-writes p m s t w s' claim leaves c, some)) (claim-rested c resting) in (q.0, claim-valid c q.0 ∙ q.1));
   }
 
   claim-counts : WritesAreCounted p s'
@@ -433,8 +433,8 @@ module _ (p : Program) (m : Machine) (s : State) (h : IsSound p m s) (t : Task) 
   claim-enough = search (arith, evicted-chosen p m s t w claim, shortest_suffix-passes, leb-true, balance, order-balance, claim-scratch)
 
   -- what leaves the node, and its entries beside what comes, were its entries
-  claim-leaving_within : (c : Cell) → share (tile_bytes p) (λ d. is_leaving_by w (replica s' d (AtNode (node_of m w)))) c + share (tile_bytes p) (λ d. not (is_coming_by w (replica s' d (AtNode (node_of m w)))) && has_cell (order s' (node_of m w)) d) c ≤ share (tile_bytes p) (has_cell (order s (node_of m w))) c
-  claim-leaving_within c = grind (arith, claim-leaving w c (AtNode (node_of m w)), evicted-free p m s t w s' claim leaves c, order-now c, claim-own_cells c, leaving_by-no_entry w (replica s' c (AtNode (node_of m w))), claim-state.entries.entries (node_of m w) c)
+  claim-leaving_within : (c : Cell) → share (tile_bytes p) (λ d. is_leaving_by w (mark s' d (node_of m w))) c + share (tile_bytes p) (λ d. not (is_coming_by w (mark s' d (node_of m w))) && has_cell (order s' (node_of m w)) d) c ≤ share (tile_bytes p) (has_cell (order s (node_of m w))) c
+  claim-leaving_within c = grind (arith, claim-leaving w c (AtNode (node_of m w)), evicted-free p m s t w s' claim leaves c, order-now c, claim-own_cells c, leaving_by-no_entry w (mark s' c (node_of m w)), claim-state.entries.entries (node_of m w) c)
 
   claim-bytes : NodesSuffice p m s'
   claim-bytes = record {
@@ -458,7 +458,7 @@ module _ (p : Program) (m : Machine) (s : State) (h : IsSound p m s) (t : Task) 
       here =
           let f = tile_bytes p in
           let n = node_of m w in
-          let all = sum-within (share f (λ d. is_leaving_by w (replica s' d (AtNode n)))) (share f (λ d. not (is_coming_by w (replica s' d (AtNode n))) && has_cell (order s' n) d)) (share f (has_cell (order s n))) claim-leaving_within (cells_of_program p) in
+          let all = sum-within (share f (λ d. is_leaving_by w (mark s' d n))) (share f (λ d. not (is_coming_by w (mark s' d n)) && has_cell (order s' n) d)) (share f (has_cell (order s n))) claim-leaving_within (cells_of_program p) in
           let more = others-le m n w (scratch s') (scratch s) (λ v here d. (let same = other_scratch v d in omega arith)) in
           let one = filter-sum-le (scratch s) (λ v. not (nat_eq v.0 w.0)) (workers_at m n) in
           let both = leaving-bytes p m s' claim-state n w in

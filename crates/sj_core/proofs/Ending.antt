@@ -10,8 +10,8 @@ use Rattle.sj_core.specs.Coherent.{Coherent, HasWorkers, OrderIsKept, is_begun, 
 use Rattle.sj_core.specs.Fold.{after_chosen, after_task, held_in}
 use Rattle.sj_core.specs.Laws.{IsLawful, IsSound}
 use Rattle.sj_core.specs.Proper.{Proper}
-use Rattle.sj_core.specs.Step.{after_end, after, same_place, written_once_more}
-use Rattle.sj_core.proofs.Words.{Array, AtNode, Cell, CellState, Claimed, Done, Kernel, Machine, Program, Progress, Running, State, Task, Worker, dims_of, done_by, done_in, has_cell, is_done, is_task_of, no_task, node_of, progress, results, tasks_of, worked_on, worker_of, writes, written_cells, zeros, OnDisk, Place, WorkerState, cell_state, cells_of, is_coming_by, is_entry, is_leaving_by, is_valid, order, replica, replica_in, transfer, victims_of, worker_state, fresh_cells, End}
+use Rattle.sj_core.specs.Step.{after_end, after, same_place}
+use Rattle.sj_core.proofs.Words.{Array, AtNode, Cell, CellState, Claimed, Done, Kernel, Machine, Program, Progress, Running, State, Task, Worker, dims_of, done_by, done_in, has_cell, is_done, is_task_of, no_task, node_of, progress, results, tasks_of, worked_on, worker_of, writes, written_cells, zeros, OnDisk, Place, WorkerState, cell_state, cells_of, is_coming_by, is_entry, is_leaving_by, is_valid, order, mark, mark_in, transfer, victims_of, worker_state, fresh_cells, End, written_once_more, has_copy}
 use Rattle.sj_core.proofs.Advancing.{Advances, Ends-advances, done-begun, same_task, OrderIsKept-advances}
 use Rattle.sj_core.proofs.Values.{results-complete}
 use Rattle.sj_core.proofs.Updating.{may-swap}
@@ -192,7 +192,7 @@ module _ (p : Program) (m : Machine) (s : State) (h : IsSound p m s) (t : Task) 
   end-rows : HasRows p m s'
   end-rows = HasRows-kept p m s s' _ (ap (λ (z : State). z.cells) leaves)
       (λ i row. (
-        cond_both (has_cell (written_cells p t w) (record { 0 = i })) _ row (λ (r : CellState). length r.nodes ≡ length row.nodes) (λ b. refl) (λ b. refl),
+        cond_both (has_cell (written_cells p t w) (record { 0 = i })) _ row (λ (r : CellState). length r.nodes ≡ length row.marks) (λ b. refl) (λ b. refl),
         cond_both (has_cell (written_cells p t w) (record { 0 = i })) _ row (λ (r : CellState). length r.disks ≡ length row.disks) (λ b. refl) (λ b. refl),
       ))
       (ap (λ (z : State). length z.tasks) leaves ∙ length-set s.tasks t.0 (Done w)) (ap (λ (z : State). length z.orders) leaves)
@@ -249,12 +249,12 @@ module _ (p : Program) (m : Machine) (s : State) (h : IsSound p m s) (t : Task) 
   spared-writes : (c : Cell) → has_cell (written_cells p t w) c ≡ false → writes s' c ≡ writes s c
   spared-writes c spared = ap (λ (r : CellState). r.writes) (end-spared_row p m s t w s' ended leaves c spared)
 
-  end-copies : WrittenIsKept p s'
+  end-copies : WrittenIsKept p m s'
   end-copies = record {
-    valid_somewhere = λ c some resting. elim (cases_Bool (has_cell (written_cells p t w) c)) [
+    somewhere = λ c some resting. elim (cases_Bool (has_cell (written_cells p t w) c)) [
       | inl written ↦ (AtNode (node_of m w), ap is_valid (same_replica c (AtNode (node_of m w)) ∙ (owned c written).valid))
       | inr spared ↦
-          let q = h.coherent.copies.valid_somewhere c (omega (arith, spared-writes c spared, some)) (end-rested c spared resting) in
+          let q = h.coherent.copies.somewhere c (omega (arith, spared-writes c spared, some)) (end-rested c spared resting) in
           (q.0, ap is_valid (same_replica c q.0) ∙ q.1)
     ];
   }
@@ -276,7 +276,7 @@ module _ (p : Program) (m : Machine) (s : State) (h : IsSound p m s) (t : Task) 
     spared-content c spared = end-content-other p m h.proper puts_last s h.coherent t w s' ended leaves c spared
 
     -- what it writes has its result as content where it is valid, which is on its worker's node
-    own_array : (c : Cell) (q : Place) → has_cell (written_cells p t w) c ≡ true → is_valid (replica s c q) ≡ true → ended_with c q ≡ content p s' c
+    own_array : (c : Cell) (q : Place) → has_cell (written_cells p t w) c ≡ true → has_copy p m s c q ≡ true → ended_with c q ≡ content p s' c
     own_array c q written valid =
         let here : same_place q (AtNode (node_of m w)) ≡ true = true_from_ne_false (same_place q (AtNode (node_of m w))) (λ away. false≢true (sym (ap is_valid ((owned c written).only q (ap not away))) ∙ valid)) in
         both_pass (same_place q (AtNode (node_of m w))) (has_cell (written_cells p t w) c) (result_in p t w (held_at A (AtNode (node_of m w))) c) (A c q) here written
@@ -289,7 +289,7 @@ module _ (p : Program) (m : Machine) (s : State) (h : IsSound p m s) (t : Task) 
           let was : progress s u ≡ Running v = sym (advance.others u other) ∙ runs in
           let spared = end-spares u v c other (ap (is_task_of v) was ∙ same_worker-refl v) (written-among_cells p u v c written) in
           same_array c (AtNode (node_of m v)) spared ∙ holds.begun u v c was written ∙ ap (λ (a : Array). cond (has_cell (fresh_cells p u v) c) (zeros (dims_of p c)) a) (sym (spared-content c spared)));
-      alike = λ c q some resting valid. (let was : is_valid (replica s c q) ≡ true = sym (ap is_valid (same_replica c q)) ∙ valid in elim (cases_Bool (has_cell (written_cells p t w) c)) [
+      alike = λ c q some resting valid. (let was : has_copy p m s c q ≡ true = sym (ap is_valid (same_replica c q)) ∙ valid in elim (cases_Bool (has_cell (written_cells p t w) c)) [
         | inl written ↦ own_array c q written was
         | inr spared ↦ same_array c q spared ∙ holds.alike c q (omega (arith, spared-writes c spared, some)) (end-rested c spared resting) was ∙ sym (spared-content c spared)
       ]);

@@ -2,7 +2,7 @@
 -- and after a step.
 use Rattle.std.proofs.Common.{Bool, ap, arith, cond, false, inl, inr, length, not, sym, true, ◌&&◌, ◌<◌, ◌∙◌, refl, if◌then◌else◌}
 use Rattle.std.proofs.Common.{◌≡◌, Contains, count_by}
-use Rattle.sj_core.proofs.Words.{Access, Array, Cell, Machine, Program, Progress, Running, State, Task, Worker, zeros, dims_of, fresh_cells, is_valid, node_of, replica, Place, AtNode}
+use Rattle.sj_core.proofs.Words.{Access, Array, Cell, Machine, Program, Progress, Running, State, Task, Worker, zeros, dims_of, fresh_cells, is_valid, node_of, mark, Place, AtNode, has_copy}
 use Rattle.sj_core.proofs.Words.{cells_of, copy_of, done_by, has_cell, is_running_on, is_task_of, progress, same_cell}
 use Rattle.sj_core.proofs.Words.{task_of, tasks_of, worked_on, worker_of, writes, written_cells}
 use Rattle.std.proofs.lemmas.Bool.{and_parts, false_from_ne_true, false≢true, not-true, and_from}
@@ -89,7 +89,7 @@ second_fails false b x y e = refl
 -- where no array changes, no task more runs or is done, and no more replicas are valid, the arrays are what they ought to be
 pub HoldsContent-kept : (p : Program) (m : Machine) (s s' : State) (A A' : Arrays) → ((c : Cell) (q : Place) → A' c q ≡ A c q) → ((t : Task) (w : Worker) → progress s' t ≡ Running w → progress s t ≡ Running w) →
     ((c : Cell) → content p s' c ≡ content p s c) → ((c : Cell) → writes s' c ≡ writes s c) → ((c : Cell) → is_being_written p s' c ≡ false → is_being_written p s c ≡ false) →
-    ((c : Cell) (q : Place) → is_valid (replica s' c q) ≡ true → is_valid (replica s c q) ≡ true) → HoldsContent p m s A → HoldsContent p m s' A'
+    ((c : Cell) (q : Place) → has_copy p m s' c q ≡ true → has_copy p m s c q ≡ true) → HoldsContent p m s A → HoldsContent p m s' A'
 HoldsContent-kept p m s s' A A' same runs contents count rested was holds = record {
   begun = λ t w c running written. same c (AtNode (node_of m w)) ∙ holds.begun t w c (runs t w running) written ∙ ap (λ (a : Array). cond (has_cell (fresh_cells p t w) c) (zeros (dims_of p c)) a) (sym (contents c));
   alike = λ c q some resting valid. same c q ∙ holds.alike c q (omega (arith, count c, some)) (rested c resting) (was c q valid) ∙ sym (contents c);

@@ -2,7 +2,7 @@
 use Rattle.std.proofs.Common.{arith, Bool, ap, false, not, refl, subst, sym, true, ◌<◌, ◌∙◌, ◌≡◌, ◌⊎◌, Contains, IsTrue, cond}
 use Rattle.sj_core.proofs.Words.{Access, AtNode, Cell, Codelet, Machine, Mode, Program, R, Running, State, Task, W}
 use Rattle.sj_core.proofs.Words.{Worker, Write, cells_of, data_operands, dims_of, fresh_cells, has_cell}
-use Rattle.sj_core.proofs.Words.{is_running_on, is_task_of, is_valid, no_task, node_of, progress, replica, same_cell}
+use Rattle.sj_core.proofs.Words.{is_running_on, is_task_of, is_valid, no_task, node_of, progress, mark, same_cell}
 use Rattle.sj_core.proofs.Words.{task_of, worked_on, written_cells, zeros}
 use Rattle.std.proofs.lemmas.Bool.{false_from_ne_true, false≢true}
 use Rattle.sj_base.specs.Mode.{is_redux, is_scratch, starts_as_zeros}
@@ -53,7 +53,7 @@ module _ (p : Program) (proper : Proper p) where
     task-staffed = worker-inside p m proper.cells (Proper-dependencies p proper) s sound.state sound.workers sound.order t w mine
 
     -- a task finds the content of each cell whose old value it reads
-    pub found-content : (a : Access) → Contains (task_of p t).accesses a → starts_as_zeros a.mode ≡ false → is_valid (replica s (worked_on p w a) (AtNode (node_of m w))) ≡ true →
+    pub found-content : (a : Access) → Contains (task_of p t).accesses a → starts_as_zeros a.mode ≡ false → is_valid (mark s (worked_on p w a) (node_of m w)) ≡ true →
         A (worked_on p w a) (AtNode (node_of m w)) ≡ content p s (worked_on p w a)
     found-content a h reads valid = by_kind (is_running_on w (progress s t)) refl (has_cell (written_cells p t w) (worked_on p w a)) refl
       where

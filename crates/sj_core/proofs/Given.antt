@@ -156,6 +156,6 @@ module _ (p : Program) (m : Machine) (s : State) (h : IsSound p m s) where
 
     pub complete-final : (A : Arrays) → HoldsContent p m s A → (has : Kernel → Bool) → IsLawful has p → HoldsFinal p s A
     complete-final A holds has lawful = record {
-      somewhere = λ t c gives. h.coherent.copies.valid_somewhere c (all-written t c gives) (none-written c);
+      somewhere = λ t c gives. h.coherent.copies.somewhere c (all-written t c gives) (none-written c);
       alike = λ t c q gives plain valid. holds.alike c q (all-written t c gives) (none-written c) valid ∙ all-content has lawful c plain;
     }

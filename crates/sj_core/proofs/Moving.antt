@@ -6,8 +6,8 @@ use Rattle.std.proofs.lemmas.List.Quantifiers.{position-Some}
 use Rattle.sj_base.proofs.SameIds.{same_cell-itself, same_place-itself, same_cell-is}
 use Rattle.sj_core.specs.Coherent.{Coherent, HasBlocks, HasRows, IsOwnedBy, IsTransferTo, TransfersAreSound, IsClaimed, WrittenIsKept}
 use Rattle.sj_core.specs.Laws.{IsSound}
-use Rattle.sj_core.specs.Step.{CanDrop, CanMoveIn, CanMoveOut, a_transfer, disk_of, is_fresh, is_read, reads, same_place}
-use Rattle.sj_core.proofs.Words.{AtNode, Cell, CellState, Claimed, Machine, Mark, Node, Place, Program, Running, State, Task, Transfer, Worker, WorkerState, has_cell, is_claimed_by, is_coming_by, is_entry, is_leaving_by, is_valid, moves, node_of, pins, progress, replica, scratch, transfer, victims_of, writes, DiskNo, OnDisk, with_transfer, Invalid, fresh_cells, Coming, Leaving, Valid, same_cell, with_replica, is_leaving, Moved}
+use Rattle.sj_core.specs.Step.{CanDrop, CanMoveIn, CanMoveOut, a_transfer, disk_of, is_fresh, is_read, same_place}
+use Rattle.sj_core.proofs.Words.{AtNode, Cell, CellState, Claimed, Machine, Mark, Node, Place, Program, Running, State, Task, Transfer, Worker, WorkerState, has_cell, is_claimed_by, is_coming_by, is_entry, is_leaving_by, is_valid, moves, node_of, pins, progress, mark, scratch, transfer, victims_of, writes, DiskNo, OnDisk, with_transfer, Invalid, fresh_cells, Coming, Leaving, Valid, same_cell, with_row, is_leaving, Moved, has_copy, with_mark}
 use Rattle.sj_core.proofs.Advancing.{claimed-is_mine, task_of-worker, claimed_by-is}
 use Rattle.sj_core.proofs.Changing.{Changes, Changes-coherent, Changes-writers, HasBlocks-kept, TransfersAreSound-kept}
 use Rattle.sj_core.proofs.Placing.{transfer-is, pins-same, scratch-same, victims-same, owned-fails, position-none, room-leaves_none, valid-within, stays-on_disk, list_any-place, same_place-is, disks-kept, nodes-kept, replica-cases, transfer-cases, transfer-own, writes-same}
@@ -32,16 +32,16 @@ pub record Shifts (p : Program) (m : Machine) (s : State) (cells : List CellStat
   pub blocks : HasBlocks p m (shifted s cells workers)
   pub hands : (v : Worker) → (pins (shifted s cells workers) v ≡ pins s v) × (scratch (shifted s cells workers) v ≡ scratch s v) × (victims_of (shifted s cells workers) v ≡ victims_of s v)
   pub same_writes : (c : Cell) → writes (shifted s cells workers) c ≡ writes s c
-  pub same_entries : (c : Cell) (k : Node) → is_entry (replica (shifted s cells workers) c (AtNode k)) ≡ is_entry (replica s c (AtNode k))
+  pub same_entries : (c : Cell) (k : Node) → is_entry (mark (shifted s cells workers) c k) ≡ is_entry (mark s c k)
   pub leaves : (v : Worker) (c : Cell) (q : Place) → is_leaving_by v (replica (shifted s cells workers) c q) ≡ true → is_leaving_by v (replica s c q) ≡ true
-  pub comes : (v : Worker) (c : Cell) (k : Node) → is_coming_by v (replica (shifted s cells workers) c (AtNode k)) ≡ true → is_coming_by v (replica s c (AtNode k)) ≡ true
-  pub still_comes : (v : Worker) (c d : Cell) (k : Node) → is_leaving_by v (replica (shifted s cells workers) d (AtNode k)) ≡ true → is_coming_by v (replica s c (AtNode k)) ≡ true → is_coming_by v (replica (shifted s cells workers) c (AtNode k)) ≡ true
-  pub pinned : (v : Worker) (c : Cell) → has_cell (pins s v) c ≡ true → is_valid (replica s c (AtNode (node_of m v))) ≡ true → is_valid (replica (shifted s cells workers) c (AtNode (node_of m v))) ≡ true
+  pub comes : (v : Worker) (c : Cell) (k : Node) → is_coming_by v (mark (shifted s cells workers) c k) ≡ true → is_coming_by v (mark s c k) ≡ true
+  pub still_comes : (v : Worker) (c d : Cell) (k : Node) → is_leaving_by v (mark (shifted s cells workers) d k) ≡ true → is_coming_by v (mark s c k) ≡ true → is_coming_by v (mark (shifted s cells workers) c k) ≡ true
+  pub pinned : (v : Worker) (c : Cell) → has_cell (pins s v) c ≡ true → is_valid (mark s c (node_of m v)) ≡ true → is_valid (mark (shifted s cells workers) c (node_of m v)) ≡ true
   pub owned : (c : Cell) (v : Worker) → IsOwnedBy m s c v → (q : Place) → replica (shifted s cells workers) c q ≡ replica s c q
   pub unmoved : (c : Cell) (v : Worker) → IsOwnedBy m s c v → (x : Worker) → moves (shifted s cells workers) x c ≡ false
   pub movers : (v : Worker) (x : Transfer) → transfer (shifted s cells workers) v ≡ Some x → (t : Task) × (is_claimed_by v (progress s t) ≡ true)
-  pub moving : TransfersAreSound m (shifted s cells workers)
-  pub copies : WrittenIsKept p (shifted s cells workers)
+  pub moving : TransfersAreSound p m (shifted s cells workers)
+  pub copies : WrittenIsKept p m (shifted s cells workers)
 
 module _ (p : Program) (m : Machine) (s : State) (h : IsSound p m s) (t : Task) (w : Worker) (claimed : progress s t ≡ Claimed w) (cells : List CellState) (workers : List WorkerState) (shift : Shifts p m s cells workers) where
   abbrev after : State
@@ -80,13 +80,13 @@ module _ (p : Program) (m : Machine) (s : State) (h : IsSound p m s) (t : Task) 
 -- a move that begins, of a cell that no running task owns: the blocks where it goes, the cell is valid where it begins and
 -- awaited where it goes, no other worker moves it to a disk, and the worker has a claimed task
 module _ (p : Program) (m : Machine) (s : State) (h : IsSound p m s) (w : Worker) (begun : Transfer) (aimed : (d : DiskNo) → begun.to ≡ OnDisk d → disk_of p m begun.cell ≡ Some d)
-    (source : is_valid (replica s begun.cell begun.from) ≡ true) (target : IsTransferTo m s w begun.cell begun.from begun.to)
+    (source : has_copy p m s begun.cell begun.from ≡ true) (target : IsTransferTo m s w begun.cell begun.from begun.to)
     (alone : (v : Worker) (x : Transfer) (d e : DiskNo) → transfer s v ≡ Some x → x.to ≡ OnDisk d → begun.to ≡ OnDisk e → x.cell ≡ begun.cell → v ≡ w)
     (free : (v : Worker) → IsOwnedBy m s begun.cell v → ⊥) (t : Task) (claimed : progress s t ≡ Claimed w) where
   abbrev now : State
   now = with_transfer s w (Some begun)
 
-  moving : TransfersAreSound m now
+  moving : TransfersAreSound p m now
   moving =
       let before = h.coherent.transfers in
       record {
@@ -104,7 +104,7 @@ module _ (p : Program) (m : Machine) (s : State) (h : IsSound p m s) (w : Worker
 
   begins : Shifts p m s now.cells now.workers
   begins = record {
-    rows = (let rows = h.coherent.state.rows in record { tasks = rows.tasks; cells = rows.cells; orders = rows.orders; workers = length-set s.workers w.0 _ ∙ rows.workers; nodes = rows.nodes; disks = rows.disks });
+    rows = (let rows = h.coherent.state.rows in record { tasks = rows.tasks; cells = rows.cells; orders = rows.orders; workers = length-set s.workers w.0 _ ∙ rows.workers; nodes = rows.marks; disks = rows.disks });
     blocks = (let blocks = h.coherent.state.blocks in record {
       resting = blocks.resting;
       home = blocks.home;
@@ -121,7 +121,7 @@ module _ (p : Program) (m : Machine) (s : State) (h : IsSound p m s) (w : Worker
     unmoved = λ d v own x. unmoved-from now x d (λ y under_way e. (grind (arith, transfer-is s w begun x y under_way, moves-it s x y, own.unmoved x, free v)));
     movers = λ v x under_way. elim (transfer-is s w begun v x under_way) [ inl same ↦ h.coherent.workers.moves_for_claim v x same | inr (e, is) ↦ (t, grind (arith, e, claimed, same_worker-refl w)) ];
     moving = moving;
-    copies = record { valid_somewhere = h.coherent.copies.valid_somewhere };
+    copies = record { somewhere = h.coherent.copies.somewhere };
   }
 
   -- it leaves a coherent state
@@ -143,10 +143,10 @@ module _ (p : Program) (m : Machine) (s : State) (h : IsSound p m s) (c : Cell) 
       false≢true (sym (ap not some) ∙ move.old_value_needed)))
 
   -- so it is valid somewhere, and there the move begins
-  somewhere : (q : Place) × IsTrue (is_valid (replica s c q))
-  somewhere = h.coherent.copies.valid_somewhere c (claimed-old_value p m s h claimed.task w claimed.claimed c claimed.cell not_fresh) (claimed-not_written p m s h claimed.task w claimed.claimed c claimed.cell)
+  somewhere : (q : Place) × IsTrue (has_copy p m s c q)
+  somewhere = h.coherent.copies.somewhere c (claimed-old_value p m s h claimed.task w claimed.claimed c claimed.cell not_fresh) (claimed-not_written p m s h claimed.task w claimed.claimed c claimed.cell)
 
-  source_valid : is_valid (replica s c from) ≡ true
+  source_valid : has_copy p m s c from ≡ true
   source_valid = search (arith, somewhere, position-Some, false≢true, position-none, valid-within)
 
   pub Moves_in-keep_coherence : Coherent p m (with_transfer s w (Some (a_transfer c from (AtNode n))))
@@ -159,7 +159,7 @@ module _ (p : Program) (m : Machine) (s : State) (h : IsSound p m s) (c : Cell) 
 
 module _ (p : Program) (m : Machine) (s : State) (h : IsSound p m s) (c : Cell) (from : Place) (d : DiskNo) (w : Worker) (move : CanMoveOut p m s c from d w) where
   -- a valid replica of the cell is the one that leaves
-  only_one : (q : Place) → is_valid (replica s c q) ≡ true → q ≡ from
+  only_one : (q : Place) → has_copy p m s c q ≡ true → q ≡ from
   only_one q valid = search (arith, same_place-is, and_from, list_any-place, false≢true)
 
   -- so its block isn't valid
@@ -209,7 +209,7 @@ module _ (p : Program) (m : Machine) (s : State) (h : IsSound p m s) (c : Cell) 
   target = h.coherent.transfers.target w ending moved
 
   -- at a node the replica was coming by the worker's claim
-  came : (k : Node) → AtNode k ≡ to → is_coming_by w (replica s c (AtNode k)) ≡ true
+  came : (k : Node) → AtNode k ≡ to → is_coming_by w (mark s c k) ≡ true
   came k e = (subst (λ (q : Place). IsTransferTo m s w c from q) (sym e) target).1
 
   -- and nothing leaves by its claim
@@ -224,23 +224,23 @@ module _ (p : Program) (m : Machine) (s : State) (h : IsSound p m s) (c : Cell) 
   arrived-cases : (x : Cell) (q : Place) → (replica arrived x q ≡ replica s x q) ⊎ ((x ≡ c) × (q ≡ to) × (replica arrived x q ≡ Valid))
   arrived-cases x q = replica-cases s c to Valid x q
 
-  arrived-entries : (x : Cell) (k : Node) → is_entry (replica arrived x (AtNode k)) ≡ is_entry (replica s x (AtNode k))
+  arrived-entries : (x : Cell) (k : Node) → is_entry (mark arrived x k) ≡ is_entry (mark s x k)
   arrived-entries x k = grind (arith, arrived-cases x (AtNode k), coming_by-is, came)
 
   arrived-leaves : (v : Worker) (x : Cell) (q : Place) → is_leaving_by v (replica arrived x q) ≡ true → is_leaving_by v (replica s x q) ≡ true
   arrived-leaves v x q = replaced-fewer s c to Valid (is_leaving_by v) refl x q
 
   -- what comes by another worker's claim still comes
-  others_come : (v : Worker) (x : Cell) (k : Node) → v ≢ w → is_coming_by v (replica s x (AtNode k)) ≡ true → is_coming_by v (replica arrived x (AtNode k)) ≡ true
+  others_come : (v : Worker) (x : Cell) (k : Node) → v ≢ w → is_coming_by v (mark s x k) ≡ true → is_coming_by v (mark arrived x k) ≡ true
   others_come v x k other coming = grind (arith, arrived-cases x (AtNode k), coming_by-one, came)
 
-  arrived-still_comes : (v : Worker) (x y : Cell) (k : Node) → is_leaving_by v (replica arrived y (AtNode k)) ≡ true → is_coming_by v (replica s x (AtNode k)) ≡ true → is_coming_by v (replica arrived x (AtNode k)) ≡ true
+  arrived-still_comes : (v : Worker) (x y : Cell) (k : Node) → is_leaving_by v (mark arrived y k) ≡ true → is_coming_by v (mark s x k) ≡ true → is_coming_by v (mark arrived x k) ≡ true
   arrived-still_comes v x y k leaving coming = elim (arrived-cases x (AtNode k)) [
     | inl same ↦ ap (is_coming_by v) same ∙ coming
-    | inr (e, at, is) ↦ absurd (grind (arith, e, arrived-leaves v y (AtNode k) leaving, coming_by-one v w (replica s c (AtNode k)), came k at, arrived-none_leaves k at y (AtNode k)))
+    | inr (e, at, is) ↦ absurd (grind (arith, e, arrived-leaves v y (AtNode k) leaving, coming_by-one v w (mark s c k), came k at, arrived-none_leaves k at y (AtNode k)))
   ]
 
-  valid_stays : (x : Cell) (q : Place) → is_valid (replica s x q) ≡ true → is_valid (replica arrived x q) ≡ true
+  valid_stays : (x : Cell) (q : Place) → has_copy p m s x q ≡ true → has_copy p m arrived x q ≡ true
   valid_stays x q valid = elim (arrived-cases x q) [ inl same ↦ ap is_valid same ∙ valid | inr (e, at, is) ↦ ap is_valid is ]
 
   -- a transfer that is still under way is another worker's
@@ -252,10 +252,10 @@ module _ (p : Program) (m : Machine) (s : State) (h : IsSound p m s) (c : Cell) 
   still_leaves v x q leaving = elim (arrived-cases x q) [ inl same ↦ ap (is_leaving_by v) same ∙ leaving | inr (e, at, is) ↦ absurd (hollow q at leaving e) ]
     where
       hollow : (q : Place) → q ≡ to → is_leaving_by v (replica s x q) ≡ true → x ≡ c → ⊥
-      hollow (AtNode k) at leaving e = grind (arith, coming_by-is w (replica s c (AtNode k)), came k at)
+      hollow (AtNode k) at leaving e = grind (arith, coming_by-is w (mark s c k), came k at)
       hollow (OnDisk d) at leaving e = grind (arith, was_invalid d at)
 
-  arrived-moving : TransfersAreSound m arrived
+  arrived-moving : TransfersAreSound p m arrived
   arrived-moving = TransfersAreSound-kept m s arrived (λ v x now. (others v x now).1) (λ v x now. valid_stays x.cell x.from) (λ v x k now here. others_come v x.cell k (others v x now).0) (λ v x now. still_leaves v x.cell x.from)
       (λ v x d now aims. elim (arrived-cases x.cell (OnDisk d)) [ inl same ↦ inr same | inr (e, at, is) ↦ absurd (let old = others v x now in old.0 (h.coherent.transfers.apart v w x ending d d old.1 moved aims (sym at) e)) ])
       (λ v x y q now. arrived-leaves v y q) h.coherent.transfers
@@ -272,8 +272,8 @@ module _ (p : Program) (m : Machine) (s : State) (h : IsSound p m s) (c : Cell) 
   positive : (x : Cell) → 0 < writes arrived x → 0 < writes s x
   positive x some = let same = writes-same s c to Valid x in omega arith
 
-  arrived-copies : WrittenIsKept p arrived
-  arrived-copies = record { valid_somewhere = λ x some unwritten. (let old = h.coherent.copies.valid_somewhere x (positive x some) unwritten in (old.0, valid_stays x old.0 old.1)) }
+  arrived-copies : WrittenIsKept p m arrived
+  arrived-copies = record { somewhere = λ x some unwritten. (let old = h.coherent.copies.somewhere x (positive x some) unwritten in (old.0, valid_stays x old.0 old.1)) }
 
   -- a cell that a worker owns isn't the one that moved
   owned_apart : (x : Cell) (v : Worker) → IsOwnedBy m s x v → x ≡ c → ⊥
@@ -318,7 +318,7 @@ module _ (p : Program) (m : Machine) (s : State) (h : IsSound p m s) (c : Cell) 
             let is : c ≡ x = same_cell-is c x (and_parts (same_place q to) (same_cell c x) both).1 in
             ap (λ b. cond b (A c from) (A x q)) both
             ∙ ap (λ (y : Cell). A y from) is
-            ∙ holds.alike x from (positive x some) resting (ap (λ (y : Cell). is_valid (replica s y from)) (sym is) ∙ h.coherent.transfers.source w ending moved)
+            ∙ holds.alike x from (positive x some) resting (ap (λ (y : Cell). has_copy p m s y from) (sym is) ∙ h.coherent.transfers.source w ending moved)
         | inr other ↦
             ap (λ b. cond b (A c from) (A x q)) other
             ∙ holds.alike x q (positive x some) resting (elim (arrived-cases x q) [
@@ -330,22 +330,22 @@ module _ (p : Program) (m : Machine) (s : State) (h : IsSound p m s) (c : Cell) 
 
 -- ---- a drop leaves a coherent state
 
-module _ (p : Program) (m : Machine) (s : State) (h : IsSound p m s) (c : Cell) (n : Node) (drop : CanDrop m s c n) where
+module _ (p : Program) (m : Machine) (s : State) (h : IsSound p m s) (c : Cell) (n : Node) (drop : CanDrop s c n) where
   abbrev dropped : State
-  dropped = with_replica s c (AtNode n) Invalid
+  dropped = with_row s c (with_mark (cell_state s c) n Invalid)
 
   -- each replica is as before, or it was leaving and is invalid
   dropped-cases : (d : Cell) (q : Place) → (replica dropped d q ≡ replica s d q) ⊎ ((d ≡ c) × (q ≡ AtNode n) × (replica dropped d q ≡ Invalid) × (is_leaving (replica s d q) ≡ true))
   dropped-cases d q = grind (arith, replica-cases s c (AtNode n) Invalid d q)
 
-  dropped-entries : (d : Cell) (k : Node) → is_entry (replica dropped d (AtNode k)) ≡ is_entry (replica s d (AtNode k))
-  dropped-entries d k = elim (dropped-cases d (AtNode k)) [ inl same ↦ ap is_entry same | inr (e, at, is, left) ↦ ap is_entry is ∙ sym (leaving-is_none (replica s d (AtNode k)) left) ]
+  dropped-entries : (d : Cell) (k : Node) → is_entry (mark dropped d k) ≡ is_entry (mark s d k)
+  dropped-entries d k = elim (dropped-cases d (AtNode k)) [ inl same ↦ ap is_entry same | inr (e, at, is, left) ↦ ap is_entry is ∙ sym (leaving-is_none (mark s d k) left) ]
 
   dropped-leaves : (v : Worker) (d : Cell) (q : Place) → is_leaving_by v (replica dropped d q) ≡ true → is_leaving_by v (replica s d q) ≡ true
   dropped-leaves v d q = replaced-fewer s c (AtNode n) Invalid (is_leaving_by v) refl d q
 
-  dropped-still_comes : (v : Worker) (d : Cell) (k : Node) → is_coming_by v (replica s d (AtNode k)) ≡ true → is_coming_by v (replica dropped d (AtNode k)) ≡ true
-  dropped-still_comes v d k coming = elim (dropped-cases d (AtNode k)) [ inl same ↦ ap (is_coming_by v) same ∙ coming | inr (e, at, is, left) ↦ absurd (false≢true (sym (ap is_leaving (coming_by-is v (replica s d (AtNode k)) coming)) ∙ left)) ]
+  dropped-still_comes : (v : Worker) (d : Cell) (k : Node) → is_coming_by v (mark s d k) ≡ true → is_coming_by v (mark dropped d k) ≡ true
+  dropped-still_comes v d k coming = elim (dropped-cases d (AtNode k)) [ inl same ↦ ap (is_coming_by v) same ∙ coming | inr (e, at, is, left) ↦ absurd (false≢true (sym (ap is_leaving (coming_by-is v (mark s d k) coming)) ∙ left)) ]
 
   -- no transfer reads the dropped replica
   unread_by : (v : Worker) (x : Transfer) → transfer s v ≡ Some x → x.cell ≡ c → x.from ≡ AtNode n → ⊥
@@ -353,29 +353,29 @@ module _ (p : Program) (m : Machine) (s : State) (h : IsSound p m s) (c : Cell) 
       let both : (same_cell x.cell c && same_place x.from (AtNode n)) ≡ true = and_from (same_cell x.cell c) (same_place x.from (AtNode n)) (same_cell-from x.cell c cell) (ap (λ (q : Place). same_place q (AtNode n)) from ∙ same_place-itself (AtNode n)) in
       let this : reads s v c (AtNode n) ≡ true = ap (λ (o : Option Transfer). elim o as (λ _. Bool) [ None ↦ false | Some y ↦ same_cell y.cell c && same_place y.from (AtNode n) ]) under_way ∙ both in
       let inside : v.0 < m.workers = omega (arith, transfer-inside s v x under_way, h.coherent.state.rows.workers) in
-      let read : is_read m s c (AtNode n) ≡ true = list_any-worker (λ w. reads s w c (AtNode n)) m v inside this in
+      let read : is_read s c (AtNode n) ≡ true = list_any-worker (λ w. reads s w c (AtNode n)) m v inside this in
       false≢true (sym (ap not read) ∙ drop.unread)
 
   source_stays : (v : Worker) (x : Transfer) → transfer s v ≡ Some x → replica dropped x.cell x.from ≡ replica s x.cell x.from
   source_stays v x under_way = elim (dropped-cases x.cell x.from) [ inl same ↦ same | inr (e, at, is, left) ↦ absurd (unread_by v x under_way e at) ]
 
-  dropped-moving : TransfersAreSound m dropped
+  dropped-moving : TransfersAreSound p m dropped
   dropped-moving = TransfersAreSound-kept m s dropped (λ v x now. now) (λ v x now valid. ap is_valid (source_stays v x now) ∙ valid)
       (λ v x k now here. dropped-still_comes v x.cell k)
       (λ v x under_way leaving. ap (is_leaving_by v) (source_stays v x under_way) ∙ leaving) (λ v x d now e. elim (dropped-cases x.cell (OnDisk d)) [ inl same ↦ inr same | inr (e, at, is, left) ↦ inl is ])
       (λ v x d q under_way. dropped-leaves v d q) h.coherent.transfers
 
   -- another replica of the dropped cell is valid
-  elsewhere : (q : Place) × (is_valid (replica dropped c q) ≡ true)
+  elsewhere : (q : Place) × (has_copy p m dropped c q ≡ true)
   elsewhere = search (arith, list_any-some, and_parts, dropped-cases, false≢true, same_place-itself)
 
-  dropped-copies : WrittenIsKept p dropped
+  dropped-copies : WrittenIsKept p m dropped
   dropped-copies = record {
-    valid_somewhere = λ d some unwritten.
-        (let old = h.coherent.copies.valid_somewhere d (let same = writes-same s c (AtNode n) Invalid d in omega arith) unwritten in
+    somewhere = λ d some unwritten.
+        (let old = h.coherent.copies.somewhere d (let same = writes-same s c (AtNode n) Invalid d in omega arith) unwritten in
         elim (dropped-cases d old.0) [
           | inl same ↦ (old.0, ap is_valid same ∙ old.1)
-          | inr (e, at, is, left) ↦ (elsewhere.0, ap (λ (x : Cell). is_valid (replica dropped x elsewhere.0)) e ∙ elsewhere.1)
+          | inr (e, at, is, left) ↦ (elsewhere.0, ap (λ (x : Cell). has_copy p m dropped x elsewhere.0) e ∙ elsewhere.1)
         ]);
   }
 
@@ -399,7 +399,7 @@ module _ (p : Program) (m : Machine) (s : State) (h : IsSound p m s) (c : Cell) 
 
   pub Drops-keeps_coherence : Coherent p m dropped
   Drops-keeps_coherence =
-      let by = leaving-by_some (replica s c (AtNode n)) drop.leaving in
+      let by = leaving-by_some (mark s c n) drop.leaving in
       let claims = (h.coherent.workers.evicted by.0 c n by.1).claims in
       Shifts-coherent p m s h claims.0 by.0 (claimed_by-is by.0 (progress s claims.0) claims.1) dropped.cells dropped.workers dropped-shift
 

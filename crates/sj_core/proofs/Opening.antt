@@ -3,8 +3,8 @@ use Rattle.std.proofs.Common.{Option, None, Some, List, [], ap, arith, cond, inl
 use Rattle.std.proofs.Common.{sym, true, ◌&&◌, ◌<◌, ◌∙◌, ◌≡◌, ◌⊎◌, count_by}
 use Rattle.sj_core.proofs.Words.{AtNode, Cell, CellState, Coming, Invalid, Leaving, Machine, Node, OnDisk, Place, zeros, dims_of}
 use Rattle.sj_core.proofs.Words.{Program, Task, Transfer, Waiting, Worker, WorkerState, cell_state, done_by, has_cell}
-use Rattle.sj_core.proofs.Words.{is_coming_by, is_done, is_entry, is_leaving_by, is_task_of, is_valid, no_replica}
-use Rattle.sj_core.proofs.Words.{opening, order, pins, progress, replica, same_cell, scratch, tasks_of, transfer}
+use Rattle.sj_core.proofs.Words.{is_coming_by, is_done, is_entry, is_leaving_by, is_task_of, is_valid, no_copy}
+use Rattle.sj_core.proofs.Words.{opening, order, pins, progress, mark, same_cell, scratch, tasks_of, transfer}
 use Rattle.sj_core.proofs.Words.{worker_state, writes, written_cells, used}
 use Rattle.std.proofs.lemmas.List.{get_or-replicate, get_or_past, length-replicate}
 use Rattle.std.proofs.lemmas.{Bool.cases_lt, Bool.false≢true, List.Elements.All-replicate}
@@ -24,7 +24,7 @@ module _ (p : Program) (m : Machine) where
   empty : (n : Node) → order (opening p m) n ≡ []
   empty n = get_or-replicate_same (length m.nodes) n.0 []
 
-  a_row : (c : Cell) → (cell_state (opening p m) c ≡ no_replica m) ⊎ (cell_state (opening p m) c ≡ no_row)
+  a_row : (c : Cell) → (cell_state (opening p m) c ≡ no_copy (length m.nodes)) ⊎ (cell_state (opening p m) c ≡ no_row)
   a_row c = search (arith, cases_lt, get_or-replicate, no_row, get_or_past, length-replicate)
 
   pub nowhere : (c : Cell) (q : Place) → replica (opening p m) c q ≡ Invalid
@@ -71,11 +71,11 @@ module _ (p : Program) (m : Machine) where
     state = record {
       rows = record {
         tasks = length-replicate (length p.tasks) Waiting;
-        cells = length-replicate (length p.cells) (no_replica m);
+        cells = length-replicate (length p.cells) (no_copy (length m.nodes));
         orders = length-replicate (length m.nodes) [];
         workers = length-replicate m.workers idle_row;
-        nodes = All-replicate (λ (row : CellState). length row.nodes ≡ length m.nodes) (length p.cells) (no_replica m) (length-replicate (length m.nodes) Invalid);
-        disks = All-replicate (λ (row : CellState). length row.disks ≡ length m.disks) (length p.cells) (no_replica m) (length-replicate (length m.disks) Invalid);
+        nodes = All-replicate (λ (row : CellState). length row.marks ≡ length m.nodes) (length p.cells) (no_copy (length m.nodes)) (length-replicate (length m.nodes) Invalid);
+        disks = All-replicate (λ (row : CellState). length row.disks ≡ length m.disks) (length p.cells) (no_copy (length m.nodes)) (length-replicate (length m.disks) Invalid);
       };
       entries = record {
         entries = λ n c. ap (λ (cs : List Cell). has_cell cs c) (empty n) ∙ sym (ap is_entry (nowhere c (AtNode n)));
@@ -89,7 +89,7 @@ module _ (p : Program) (m : Machine) where
       staff = record { staffed = λ t h. absurd (not_begun t h) };
     };
     writers = record { owned = λ t w c h has. absurd (not_task_of w t (ap (is_task_of w) h ∙ same_worker-refl w)) };
-    copies = record { valid_somewhere = λ c h b. absurd (not_positive c h) };
+    copies = record { somewhere = λ c h b. absurd (not_positive c h) };
     cells = record { running = λ t w c h has. absurd (not_task_of w t (ap (is_task_of w) h ∙ same_worker-refl w)); claimed = λ t w c h has. absurd (not_task_of w t (ap (is_task_of w) h ∙ claimed-is_mine w)); pinned = λ t w c h has. absurd (not_task_of w t h) };
     pins = record { stays = λ w c h. absurd (not_pinned w c h); own = λ w c h. absurd (not_pinned w c h); coming_here = λ w c n h. absurd (not_coming w c (AtNode n) h); coming_claimed = λ w c n h. absurd (not_coming w c (AtNode n) h); coming_pinned = λ w c n h. absurd (not_coming w c (AtNode n) h) };
     transfers = record { source = λ w x h. absurd (not_moving w x h); target = λ w x h. absurd (not_moving w x h); apart = λ v w x y d e hv hw f g k. absurd (not_moving v x hv) };

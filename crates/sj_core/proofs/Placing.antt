@@ -1,10 +1,10 @@
 -- What the accessors of a state give after one replica, or one worker's transfer, was written.
 use Rattle.std.proofs.Common.{Bool, List, None, Option, Some, ap, arith, false, get_or, inl, inr, length, map, subst}
 use Rattle.std.proofs.Common.{sym, true, ℕ, ◌<◌, ◌||◌, ◌∙◌, ◌≡◌, ◌≢◌, ◌⊎◌, All, position}
-use Rattle.sj_core.proofs.Words.{AtNode, Cell, CellState, DiskNo, Invalid, Machine, Node, OnDisk, Place, Program}
+use Rattle.sj_core.proofs.Words.{AtNode, Cell, CellState, DiskNo, Invalid, Machine, Node, OnDisk, Place, Program, has_copy}
 use Rattle.sj_core.proofs.Words.{Mark, State, Transfer, Valid, Worker, WorkerState, cell_state, has_room}
-use Rattle.sj_core.proofs.Words.{is_leaving_by, is_valid, pins, replica, replica_in, scratch, transfer, victims_of}
-use Rattle.sj_core.proofs.Words.{with_replica, with_replica_in, with_transfer, worker_state, writes}
+use Rattle.sj_core.proofs.Words.{is_leaving_by, is_valid, pins, mark, mark_in, scratch, transfer, victims_of}
+use Rattle.sj_core.proofs.Words.{with_row, with_mark, with_transfer, worker_state, writes}
 use Rattle.std.proofs.lemmas.Bool.{cases_eq, cases_lt, false_from_ne_true, false≢true, ltb-false, not-true, or_right}
 use Rattle.std.proofs.lemmas.List.{get_or-set_other, get_or-set_same, get_or_past, length-set}
 use Rattle.std.proofs.lemmas.{Bool.Decides.Decides-eqb, List.Elements.All-set, List.Folds.list_any-append}
@@ -12,7 +12,7 @@ use Rattle.std.proofs.lemmas.{List.Sums.fails_before_first}
 use Rattle.std.specs.List.{list_any, range_with_len}
 use Rattle.sj_base.proofs.Lists.{list_any-numbered}
 use Rattle.sj_base.proofs.SameIds.{workers_differ}
-use Rattle.sj_core.specs.{Coherent.HasRows, Coherent.IsOwnedBy, Laws.IsSound, Step.places_of, Step.same_place}
+use Rattle.sj_core.specs.{Coherent.HasRows, Coherent.IsOwnedBy, Laws.IsSound, Step.same_place}
 use Rattle.sj_core.proofs.{Reading.idle_row, Reading.list_all-has, Reading.no_row, Reading.replica_in-no_row}
 use Rattle.sj_core.proofs.{Reading.same_node, Replicas.leaving_by-is}
 
@@ -25,8 +25,8 @@ disks_differ d e = search (arith, cases_eq)
 -- ---- one replica
 
 -- a replica that was written where the table has the cell and its row the place is there
-pub replica-at_node : (s : State) (c : Cell) (n : Node) (r : Mark) → c.0 < length s.cells → n.0 < length (cell_state s c).nodes → replica (with_replica s c (AtNode n) r) c (AtNode n) ≡ r
-replica-at_node s c n r inside within = ap (λ (row : CellState). replica_in row (AtNode n)) (get_or-set_same s.cells c.0 (with_replica_in (cell_state s c) (AtNode n) r) no_row inside) ∙ get_or-set_same (cell_state s c).nodes n.0 r Invalid within
+pub replica-at_node : (s : State) (c : Cell) (n : Node) (r : Mark) → c.0 < length s.cells → n.0 < length (cell_state s c).marks → mark (with_row s c (with_mark (cell_state s c) n r)) c n ≡ r
+replica-at_node s c n r inside within = ap (λ (row : CellState). mark_in row n) (get_or-set_same s.cells c.0 (with_mark (cell_state s c) n r) no_row inside) ∙ get_or-set_same (cell_state s c).marks n.0 r Invalid within
 
 pub replica-on_disk : (s : State) (c : Cell) (d : DiskNo) (r : Mark) → c.0 < length s.cells → d.0 < length (cell_state s c).disks → replica (with_replica s c (OnDisk d) r) c (OnDisk d) ≡ r
 replica-on_disk s c d r inside within = ap (λ (row : CellState). replica_in row (OnDisk d)) (get_or-set_same s.cells c.0 (with_replica_in (cell_state s c) (OnDisk d) r) no_row inside) ∙ get_or-set_same (cell_state s c).disks d.0 r Invalid within
@@ -57,10 +57,10 @@ module _ (s : State) (c : Cell) (q : Place) (r : Mark) where
         | inr past ↦ λ i d inside. (let bound : i < length s.cells = omega (arith, inside, length-set s.cells c.0 (with_replica_in (cell_state s c) q r)) in subst (λ (row : CellState). size row ≡ n) (sym (get_or-set_other s.cells c.0 i (with_replica_in (cell_state s c) q r) d (λ e. (omega arith)))) (all i d bound))
       ]
 
-  pub nodes-kept : (n : ℕ) → All (λ (row : CellState). length row.nodes ≡ n) s.cells → All (λ (row : CellState). length row.nodes ≡ n) (with_replica s c q r).cells
-  nodes-kept = kept (λ row. length row.nodes) (same q)
+  pub nodes-kept : (n : ℕ) → All (λ (row : CellState). length row.marks ≡ n) s.cells → All (λ (row : CellState). length row.marks ≡ n) (with_replica s c q r).cells
+  nodes-kept = kept (λ row. length row.marks) (same q)
     where
-      same : (k : Place) (row : CellState) → length (with_replica_in row k r).nodes ≡ length row.nodes
+      same : (k : Place) (row : CellState) → length (with_replica_in row k r).nodes ≡ length row.marks
       same b row = search (arith, length-set)
 
   pub disks-kept : (n : ℕ) → All (λ (row : CellState). length row.disks ≡ n) s.cells → All (λ (row : CellState). length row.disks ≡ n) (with_replica s c q r).cells
@@ -116,18 +116,18 @@ owned-fails m s c v own test valid invalid q = elim (owned-cases m s c v own q) 
 -- ---- where a valid replica is
 
 -- the row of a cell that has a valid replica is one of the table
-pub valid-row : (s : State) (c : Cell) (q : Place) → is_valid (replica s c q) ≡ true → c.0 < length s.cells
+pub valid-row : (s : State) (c : Cell) (q : Place) → has_copy p m s c q ≡ true → c.0 < length s.cells
 valid-row s c q valid = search (arith, cases_lt, false≢true, get_or_past, no_row, replica_in-no_row)
 
 pub valid-within : (rs : List Mark) (k : ℕ) → is_valid (get_or rs k Invalid) ≡ true → k < length rs
 valid-within rs k valid = search (arith, cases_lt, false≢true, get_or_past)
 
 -- a test that the place of a valid replica passes is passed by some place of the machine
-pub list_any-place : (p : Program) (m : Machine) (s : State) → HasRows p m s → (test : Place → Bool) (c : Cell) (q : Place) → is_valid (replica s c q) ≡ true → test q ≡ true → list_any test (places_of m) ≡ true
+pub list_any-place : (p : Program) (m : Machine) (s : State) → HasRows p m s → (test : Place → Bool) (c : Cell) (q : Place) → has_copy p m s c q ≡ true → test q ≡ true → list_any test (places_of m) ≡ true
 list_any-place p m s rows test c (AtNode n) valid passes =
     let node : ℕ → Place = λ k. AtNode (record { 0 = k }) in
     let disk : ℕ → Place = λ k. OnDisk (record { 0 = k }) in
-    let within : n.0 < length m.nodes = omega (arith, valid-within (cell_state s c).nodes n.0 valid, rows.nodes c.0 no_row (valid-row s c (AtNode n) valid)) in
+    let within : n.0 < length m.nodes = omega (arith, valid-within (cell_state s c).marks n.0 valid, rows.marks c.0 no_row (valid-row s c (AtNode n) valid)) in
     list_any-append test (map node (range_with_len 0 (length m.nodes))) (map disk (range_with_len 0 (length m.disks))) ∙ ap (λ b. b || list_any test (map disk (range_with_len 0 (length m.disks)))) (list_any-numbered node test n.0 (length m.nodes) within passes)
 list_any-place p m s rows test c (OnDisk d) valid passes =
     let node : ℕ → Place = λ k. AtNode (record { 0 = k }) in

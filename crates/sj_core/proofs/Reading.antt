@@ -3,8 +3,8 @@ use Rattle.std.proofs.Common.{Bool, List, None, Option, Some, [], ap, arith, fal
 use Rattle.std.proofs.Common.{true, zero, ℕ, ◌<◌, ◌∙◌, ◌∷◌, ◌≡◌, ◌≢◌, ◌⊎◌, if◌then◌else◌}
 use Rattle.sj_core.proofs.Words.{AtNode, Cell, CellState, Invalid, Machine, Mark, Node, Place, Progress, State, Task}
 use Rattle.sj_core.proofs.Words.{Transfer, Waiting, Worker, WorkerState, cell_state, has_cell, is_entry, is_leaving}
-use Rattle.sj_core.proofs.Words.{moves, progress, replica, replica_in, same_cell, transfer, with_cells, with_progress}
-use Rattle.sj_core.proofs.Words.{with_replica_in, with_worker, worker_state, workers_of}
+use Rattle.sj_core.proofs.Words.{moves, progress, mark, mark_in, same_cell, transfer, with_cells, with_progress}
+use Rattle.sj_core.proofs.Words.{with_mark, with_worker, worker_state, workers_of}
 use Rattle.std.proofs.lemmas.Bool.{cases_eq, cases_lt, false_from_ne_true, false≢true, not-true}
 use Rattle.std.proofs.lemmas.List.{get_or-set_other, get_or-set_same, get_or_past}
 use Rattle.std.proofs.lemmas.{Bool.Decides.Decides-eqb, List.Sums.AllPass-from_list_all}
@@ -42,8 +42,8 @@ abbrev pub no_row : CellState
 no_row = record { nodes = []; disks = []; writes = 0 }
 
 -- a replica that was written where the cell has the place
-pub replica_in-same : (row : CellState) (n : Node) (r : Mark) → n.0 < length row.nodes → replica_in (with_replica_in row (AtNode n) r) (AtNode n) ≡ r
-replica_in-same row n r h = get_or-set_same row.nodes n.0 r Invalid h
+pub replica_in-same : (row : CellState) (n : Node) (r : Mark) → n.0 < length row.marks → mark_in (with_mark row n r) n ≡ r
+replica_in-same row n r h = get_or-set_same row.marks n.0 r Invalid h
 
 pub replica_in-no_row : (q : Place) → replica_in no_row q ≡ Invalid
 replica_in-no_row b = search arith
@@ -69,11 +69,11 @@ pub cells-touched : (s : State) (test : Cell → Bool) (g : Cell → CellState �
 cells-touched s test g c inside h = search (arith, renewed-at, no_row)
 
 -- an entry is a cell of the table, at a node of its row
-pub entry-inside : (s : State) (c : Cell) (n : Node) → is_entry (replica s c (AtNode n)) ≡ true → (c.0 < length s.cells) × (n.0 < length (cell_state s c).nodes)
+pub entry-inside : (s : State) (c : Cell) (n : Node) → is_entry (mark s c n) ≡ true → (c.0 < length s.cells) × (n.0 < length (cell_state s c).marks)
 entry-inside s c n h = search (arith, cases_lt, false≢true, get_or_past, no_row)
 
 -- no replica leaves on a node that is settled
-pub settled-at : (s : State) (n : Node) (c : Cell) → none_leaving s n ≡ true → is_leaving (replica s c (AtNode n)) ≡ false
+pub settled-at : (s : State) (n : Node) (c : Cell) → none_leaving s n ≡ true → is_leaving (mark s c n) ≡ false
 settled-at s n c h = search (arith, cases_lt, not-true, AllPass-from_list_all, no_row, get_or_past)
 
 -- a worker with a transfer is one of the table, and its transfer is one of its cell

@@ -1,9 +1,8 @@
 -- What a test of one replica says of it.
 use Rattle.std.proofs.Common.{arith, ap, false, refl, sym, true, ◌∙◌, ◌≡◌, ◌⊎◌}
-use Rattle.sj_core.proofs.Words.{Coming, Invalid, Leaving, Mark, Valid, Worker, is_coming_by, is_entry}
+use Rattle.sj_core.proofs.Words.{Coming, Invalid, Leaving, Mark, Valid, Worker, is_coming_by, is_entry, claimant_of}
 use Rattle.sj_core.proofs.Words.{is_leaving, is_leaving_by, is_valid, same_worker}
 use Rattle.std.proofs.lemmas.{Bool.false≢true, Bool.Decides.Decides-eqb}
-use Rattle.sj_core.specs.Step.{claimant_of}
 
 pub same_worker-is : (v w : Worker) → same_worker v w ≡ true → v ≡ w
 same_worker-is v w h = ap (λ i. let j : Worker = record { 0 = i } in j) ((Decides-eqb v.0 w.0).0 h)

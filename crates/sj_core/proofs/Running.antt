@@ -4,10 +4,10 @@ use Rattle.std.proofs.lemmas.Bool.{cases_Bool, false_from_ne_true, false≢true,
 use Rattle.std.proofs.lemmas.Bool.Decides.{Decides-eqb}
 use Rattle.std.proofs.lemmas.List.{get_or-set_same, length-map, length-set}
 use Rattle.sj_base.proofs.SameIds.{same_place-itself}
-use Rattle.sj_core.proofs.Words.{Array, AtNode, Cell, CellState, Claimed, Invalid, Machine, Mark, Node, OnDisk, Place, Program, Progress, Running, State, Task, Transfer, Valid, Worker, WorkerState, cell_state, cells_of, dims_of, fresh_cells, has_cell, is_coming_by, is_entry, is_leaving_by, is_task_of, is_valid, moves, node_of, order, progress, replica, replica_in, transfer, worker_of, worker_state, writes, written_cells, zeros, Run}
+use Rattle.sj_core.proofs.Words.{Array, AtNode, Cell, CellState, Claimed, Invalid, Machine, Mark, Node, OnDisk, Place, Program, Progress, Running, State, Task, Transfer, Valid, Worker, WorkerState, cell_state, cells_of, dims_of, fresh_cells, has_cell, is_coming_by, is_entry, is_leaving_by, is_task_of, is_valid, moves, node_of, order, progress, mark, mark_in, transfer, worker_of, worker_state, writes, written_cells, zeros, Run, owned_at}
 use Rattle.sj_core.specs.Coherent.{Coherent, HasEntries, HasRows, IsStateOf, WritersOwn, is_begun, is_being_written, WrittenIsKept}
 use Rattle.sj_core.specs.Laws.{IsSound}
-use Rattle.sj_core.specs.Step.{CanRun, after_run, is_moving, owned_at, same_place, without}
+use Rattle.sj_core.specs.Step.{CanRun, after_run, is_moving, same_place, without}
 use Rattle.sj_core.proofs.Advancing.{Advances, Runs-advances, OrderIsKept-advances, claimed-is_mine, claimed-task_of, same_task}
 use Rattle.sj_core.proofs.CellLists.{has_cell-without, times, times-filter}
 use Rattle.sj_core.proofs.Changing.{Changes, Changes-coherent, Changes-writers, TransfersAreSound-spared, HasBlocks-kept, HasRows-kept, moves-kept, place_differs, HasWorkers-kept}
@@ -35,22 +35,22 @@ module _ (p : Program) (m : Machine) (s : State) (t : Task) (w : Worker) (s' : S
   run-other c q spared = ap (λ (row : CellState). replica_in row q) (run-row c spared)
 
   -- what it writes is valid on its worker's node
-  pub run-own : (c : Cell) → has_cell (written_cells p t w) c ≡ true → c.0 < length s.cells → (node_of m w).0 < length (cell_state s c).nodes → replica s' c (AtNode (node_of m w)) ≡ Valid
+  pub run-own : (c : Cell) → has_cell (written_cells p t w) c ≡ true → c.0 < length s.cells → (node_of m w).0 < length (cell_state s c).marks → mark s' c (node_of m w) ≡ Valid
   run-own c written inside within =
-      let nowhere : List Mark = map (λ r. Invalid) (cell_state s c).nodes in
-      grind (arith, leaves, cells-touched s (has_cell (written_cells p t w)) owns c inside written, get_or-set_same nowhere (node_of m w).0 Valid Invalid, length-map (cell_state s c).nodes (λ (r : Mark). Invalid), within)
+      let nowhere : List Mark = map (λ r. Invalid) (cell_state s c).marks in
+      grind (arith, leaves, cells-touched s (has_cell (written_cells p t w)) owns c inside written, get_or-set_same nowhere (node_of m w).0 Valid Invalid, length-map (cell_state s c).marks (λ (r : Mark). Invalid), within)
 
   -- and nowhere else
   run-written : (c : Cell) (q : Place) → has_cell (written_cells p t w) c ≡ true → (replica s' c q ≡ Invalid) ⊎ ((q ≡ AtNode (node_of m w)) × (replica s' c q ≡ Valid))
   run-written c q written =
-      let bare : CellState = record { nodes = map (λ r. Invalid) (cell_state s c).nodes; disks = map (λ r. Invalid) (cell_state s c).disks; writes = writes s c } in
+      let bare : CellState = record { nodes = map (λ r. Invalid) (cell_state s c).marks; disks = map (λ r. Invalid) (cell_state s c).disks; writes = writes s c } in
       elim (cells-renewed_or s (λ d row. if has_cell (written_cells p t w) d then owns d row else row) c) [
         | inr none ↦ inl (grind (arith, leaves, none.1, replica_in-no_row q))
         | inl row ↦ grind (arith, leaves, row, written, replica_in-cases bare (AtNode (node_of m w)) q Valid, nowhere q)
       ]
     where
-      nowhere : (q : Place) → replica_in (record { nodes = map (λ r. Invalid) (cell_state s c).nodes; disks = map (λ r. Invalid) (cell_state s c).disks; writes = writes s c }) q ≡ Invalid
-      nowhere (AtNode k) = all_invalid (cell_state s c).nodes k.0
+      nowhere : (q : Place) → replica_in (record { nodes = map (λ r. Invalid) (cell_state s c).marks; disks = map (λ r. Invalid) (cell_state s c).disks; writes = writes s c }) q ≡ Invalid
+      nowhere (AtNode k) = all_invalid (cell_state s c).marks k.0
       nowhere (OnDisk d) = all_invalid (cell_state s c).disks d.0
 
   pub run-only : (c : Cell) (q : Place) → has_cell (written_cells p t w) c ≡ true → not (same_place q (AtNode (node_of m w))) ≡ true → replica s' c q ≡ Invalid
@@ -91,10 +91,10 @@ module _ (p : Program) (m : Machine) (s : State) (h : IsSound p m s) (t : Task) 
   mine = claimed-task_of s t w run.claimed
 
   -- a written cell is an entry of the node
-  entry : (c : Cell) → has_cell (written_cells p t w) c ≡ true → is_entry (replica s c (AtNode (node_of m w))) ≡ true
+  entry : (c : Cell) → has_cell (written_cells p t w) c ≡ true → is_entry (mark s c (node_of m w)) ≡ true
   entry c written = h.coherent.cells.claimed t w c run.claimed (written-among_cells p t w c written)
 
-  own : (c : Cell) → has_cell (written_cells p t w) c ≡ true → replica s' c (AtNode (node_of m w)) ≡ Valid
+  own : (c : Cell) → has_cell (written_cells p t w) c ≡ true → mark s' c (node_of m w) ≡ Valid
   own c written = let inside = entry-inside s c (node_of m w) (entry c written) in run-own p m s t w s' run leaves c written inside.0 inside.1
 
   -- another task's cells aren't written
@@ -102,26 +102,26 @@ module _ (p : Program) (m : Machine) (s : State) (h : IsSound p m s) (t : Task) 
   run-spares u v c d has cell = false_from_ne_true (has_cell (written_cells p t w) c) (separated p m h.proper.cells (Proper-dependencies p h.proper) s h.coherent.state h.coherent.workers h.coherent.order u t v w c d has mine cell)
 
   -- a cell of the task whose old value it reads is valid on the node
-  present : (c : Cell) → has_cell (cells_of p t w) c ≡ true → has_cell (fresh_cells p t w) c ≡ false → is_valid (replica s c (AtNode (node_of m w))) ≡ true
-  present c has not_fresh = sym (ap (λ b. b || is_valid (replica s c (AtNode (node_of m w)))) not_fresh) ∙ list_all-has (λ d. has_cell (fresh_cells p t w) d || is_valid (replica s d (AtNode (node_of m w)))) (cells_of p t w) c run.present has
+  present : (c : Cell) → has_cell (cells_of p t w) c ≡ true → has_cell (fresh_cells p t w) c ≡ false → is_valid (mark s c (node_of m w)) ≡ true
+  present c has not_fresh = sym (ap (λ b. b || is_valid (mark s c (node_of m w))) not_fresh) ∙ list_all-has (λ d. has_cell (fresh_cells p t w) d || is_valid (mark s d (node_of m w))) (cells_of p t w) c run.present has
 
-  spared-present : (c : Cell) → has_cell (cells_of p t w) c ≡ true → has_cell (written_cells p t w) c ≡ false → is_valid (replica s c (AtNode (node_of m w))) ≡ true
+  spared-present : (c : Cell) → has_cell (cells_of p t w) c ≡ true → has_cell (written_cells p t w) c ≡ false → is_valid (mark s c (node_of m w)) ≡ true
   spared-present c has spared = present c has (false_from_ne_true (has_cell (fresh_cells p t w) c) (λ fresh. false≢true (sym spared ∙ fresh-among_written p t w c fresh)))
 
   -- none of the worker's victims leaves any more, and what comes by its claim is written without being read
   none_leaves : (c : Cell) (q : Place) → is_leaving_by w (replica s c q) ≡ false
   none_leaves = room-leaves_none p m s h w run.room
 
-  coming-is_fresh : (c : Cell) (k : Node) → is_coming_by w (replica s c (AtNode k)) ≡ true → has_cell (written_cells p t w) c ≡ true
+  coming-is_fresh : (c : Cell) (k : Node) → is_coming_by w (mark s c k) ≡ true → has_cell (written_cells p t w) c ≡ true
   coming-is_fresh c k coming =
       let own = h.coherent.pins.coming_claimed w c k coming in
       let one = h.coherent.workers.one_task own.task t w (claimed-task_of s own.task w own.claimed) mine in
-      true_from_ne_false (has_cell (written_cells p t w) c) (λ spared. (grind (arith, own.cell, one, h.coherent.pins.coming_here w c k coming, spared-present c, spared, coming_by-is w (replica s c (AtNode k)) coming)))
+      true_from_ne_false (has_cell (written_cells p t w) c) (λ spared. (grind (arith, own.cell, one, h.coherent.pins.coming_here w c k coming, spared-present c, spared, coming_by-is w (mark s c k) coming)))
 
   -- a cell that moves isn't written, and so the worker itself moves none
   pub run-unmoved : (v : Worker) (x : Transfer) → transfer s v ≡ Some x → has_cell (written_cells p t w) x.cell ≡ false
   run-unmoved v x under_way = false_from_ne_true (has_cell (written_cells p t w) x.cell) (λ written.
-      (let still = list_all-has (λ c. not (is_moving m s c)) (written_cells p t w) x.cell run.unmoved written in
+      (let still = list_all-has (λ c. not (is_moving s c)) (written_cells p t w) x.cell run.unmoved written in
       let inside : v.0 < m.workers = omega (arith, transfer-inside s v x under_way, h.coherent.state.rows.workers) in
       false≢true (sym (ap not (list_any-worker (λ k. moves s k x.cell) m v inside (moves-it s v x under_way))) ∙ still)))
 
@@ -133,7 +133,7 @@ module _ (p : Program) (m : Machine) (s : State) (h : IsSound p m s) (t : Task) 
   run-rows : HasRows p m s'
   run-rows = HasRows-kept p m s s' _ (ap (λ (z : State). z.cells) leaves)
       (λ i row. (
-        cond_both (has_cell (written_cells p t w) (record { 0 = i })) _ row (λ (r : CellState). length r.nodes ≡ length row.nodes) (λ b. length-set (map (λ r. Invalid) row.nodes) (node_of m w).0 _ ∙ length-map row.nodes (λ (r : Mark). Invalid)) (λ b. refl),
+        cond_both (has_cell (written_cells p t w) (record { 0 = i })) _ row (λ (r : CellState). length r.nodes ≡ length row.marks) (λ b. length-set (map (λ r. Invalid) row.marks) (node_of m w).0 _ ∙ length-map row.marks (λ (r : Mark). Invalid)) (λ b. refl),
         cond_both (has_cell (written_cells p t w) (record { 0 = i })) _ row (λ (r : CellState). length r.disks ≡ length row.disks) (λ b. length-map row.disks (λ (r : Mark). Invalid)) (λ b. refl),
       ))
       (ap (λ (z : State). length z.tasks) leaves ∙ length-set s.tasks t.0 (Running w))
@@ -163,11 +163,11 @@ module _ (p : Program) (m : Machine) (s : State) (h : IsSound p m s) (t : Task) 
 
   -- ---- the change
 
-  fewer_entries : (c : Cell) (k : Node) → is_entry (replica s' c (AtNode k)) ≡ true → is_entry (replica s c (AtNode k)) ≡ true
+  fewer_entries : (c : Cell) (k : Node) → is_entry (mark s' c k) ≡ true → is_entry (mark s c k) ≡ true
   fewer_entries c k now = grind (arith, cases_Bool (has_cell (written_cells p t w) c), run-other p m s t w s' run leaves c (AtNode k), run-written p m s t w s' run leaves c (AtNode k), entry c)
 
   -- what comes by the claim of a worker whose victims leave still comes
-  still_comes : (v : Worker) (c d : Cell) (k : Node) → is_leaving_by v (replica s' d (AtNode k)) ≡ true → is_coming_by v (replica s c (AtNode k)) ≡ true → is_coming_by v (replica s' c (AtNode k)) ≡ true
+  still_comes : (v : Worker) (c d : Cell) (k : Node) → is_leaving_by v (mark s' d k) ≡ true → is_coming_by v (mark s c k) ≡ true → is_coming_by v (mark s' c k) ≡ true
   still_comes v c d k leaving coming =
       let claimed = h.coherent.pins.coming_claimed v c k coming in
       let other : claimed.task ≢ t = λ e. (let same : Claimed v ≡ Claimed w = sym claimed.claimed ∙ ap (λ (u : Task). progress s u) e ∙ run.claimed in let is : v ≡ w = cc in grind (arith, is, none_leaves d (AtNode k), run-leaving p m s t w s' run leaves v d (AtNode k) leaving)) in
@@ -187,8 +187,8 @@ module _ (p : Program) (m : Machine) (s : State) (h : IsSound p m s) (t : Task) 
     still_comes = still_comes;
     moves_on = λ v x under_way. h.coherent.workers.moves_for_claim v x (sym (run-transfer p m s t w s' run leaves v) ∙ under_way);
     claims_on = λ claimed. inl (
-      λ c k. false_from_ne_true (is_leaving_by w (replica s' c (AtNode k))) (λ leaving. false≢true (sym (none_leaves c (AtNode k)) ∙ run-leaving p m s t w s' run leaves w c (AtNode k) leaving)),
-      λ c k. false_from_ne_true (is_coming_by w (replica s' c (AtNode k))) (λ coming. (let was = run-fewer p m s t w s' run leaves (is_coming_by w) refl refl c (AtNode k) coming in false≢true (sym was.0 ∙ coming-is_fresh c k was.1))),
+      λ c k. false_from_ne_true (is_leaving_by w (mark s' c k)) (λ leaving. false≢true (sym (none_leaves c (AtNode k)) ∙ run-leaving p m s t w s' run leaves w c (AtNode k) leaving)),
+      λ c k. false_from_ne_true (is_coming_by w (mark s' c k)) (λ coming. (let was = run-fewer p m s t w s' run leaves (is_coming_by w) refl refl c (AtNode k) coming in false≢true (sym was.0 ∙ coming-is_fresh c k was.1))),
       λ x under_way. moves_none x (sym (run-transfer p m s t w s' run leaves w) ∙ under_way),
     );
     stays = λ u v c d has cell. (let same = run-other p m s t w s' run leaves c (AtNode (node_of m v)) (run-spares u v c d has cell) in (λ was. ap is_entry same ∙ was, λ was. ap is_valid same ∙ was));
@@ -223,10 +223,10 @@ module _ (p : Program) (m : Machine) (s : State) (h : IsSound p m s) (t : Task) 
   pub run-rests : (c : Cell) → has_cell (written_cells p t w) c ≡ false → is_being_written p s c ≡ false → is_being_written p s' c ≡ false
   run-rests c spared resting = not_written-after p m s s' t (Claimed w) (Running w) c run-rows advance resting (λ v e. (let is : w ≡ v = cc in ap (λ (x : Worker). has_cell (written_cells p t x) c) (sym is) ∙ spared))
 
-  run-copies : WrittenIsKept p s'
+  run-copies : WrittenIsKept p m s'
   run-copies = record {
-    valid_somewhere = λ c some resting.
-        (let q = h.coherent.copies.valid_somewhere c (omega (arith, run-writes p m s t w s' run leaves c, some)) (run-rested c resting) in
+    somewhere = λ c some resting.
+        (let q = h.coherent.copies.somewhere c (omega (arith, run-writes p m s t w s' run leaves c, some)) (run-rested c resting) in
         (q.0, ap is_valid (run-other p m s t w s' run leaves c q.0 (run-spared c resting)) ∙ q.1));
   }
 

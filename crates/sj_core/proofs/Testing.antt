@@ -4,7 +4,7 @@ use Rattle.std.proofs.Common.{is_none, is_some, nat_eq, nat_le, nat_lt}
 use Rattle.sj_core.proofs.Words.{AtNode, Cell, Claim, DiskNo, Drop, End, Event, Machine, Move, Moved, OnDisk, Place}
 use Rattle.sj_core.proofs.Words.{Program, Progress, Run, State, Task, Transfer, Waiting, commuting_cells, done_in}
 use Rattle.sj_core.proofs.Words.{footprint, has_room, is_claimed_by, is_coming_by, is_idle, is_leaving, is_leaving_by}
-use Rattle.sj_core.proofs.Words.{is_running_on, is_waiting, node_of, node_size, opening, progress, replica, same_cell}
+use Rattle.sj_core.proofs.Words.{is_running_on, is_waiting, node_of, node_size, opening, progress, mark, same_cell}
 use Rattle.sj_core.proofs.Words.{transfer, written_cells}
 use Rattle.std.proofs.lemmas.Bool.{and_parts, eqb-true, false≢true, leb-true, ltb-true}
 use Rattle.std.specs.List.{list_all, range_with_len}
@@ -13,7 +13,7 @@ use Rattle.sj_base.proofs.SameIds.{same_cell-is}
 use Rattle.sj_codelet.specs.Kernel.{fits}
 use Rattle.sj_core.specs.Legal.{CanFollow, IsLegal}
 use Rattle.sj_core.specs.Step.{May, a_transfer, after, disk_of, is_fresh, is_in_use, is_moving, is_present, is_read}
-use Rattle.sj_core.specs.Step.{is_valid_elsewhere, mover_of, none_leaving, same_place, source_of, victims_for}
+use Rattle.sj_core.specs.Step.{is_elsewhere, mover_of, none_leaving, same_place, source_of, victims_for}
 use Rattle.sj_core.proofs.{Advancing.claimed_by-is, Advancing.running_on-is, Placing.same_place-is}
 use Rattle.sj_core.proofs.{Readiness.EarlierAreDone-all, Readiness.Ready-from}
 
@@ -38,14 +38,14 @@ is_step p m s (Claim t w) =
     nat_lt w.0 p.workers && (is_waiting (progress s t) && (nat_lt t.0 (length p.tasks) && (all_earlier_done s t && (is_idle s w && (nat_le (footprint p t) (node_size m (node_of m w)) && (none_leaving s (node_of m w) && (list_all (λ c. not (is_in_use p s c)) (commuting_cells p t) && is_some (victims_for p m s t w))))))))
 is_step p m s (Move c from (AtNode n)) =
     let w = mover_of s c from (AtNode n) in
-    nat_eq n.0 (node_of m w).0 && (is_none (transfer s w) && (is_coming_by w (replica s c (AtNode n)) && (not (is_fresh p s w c) && (has_room m s w && is_here (source_of p m s c) from))))
+    nat_eq n.0 (node_of m w).0 && (is_none (transfer s w) && (is_coming_by w (mark s c n) && (not (is_fresh p s w c) && (has_room m s w && is_here (source_of p m s c) from))))
 is_step p m s (Move c from (OnDisk d)) =
     let w = mover_of s c from (OnDisk d) in
     is_none (transfer s w) && (is_leaving_by w (replica s c from) && (not (is_valid_elsewhere m s c from) && is_on (disk_of p m c) d))
 is_step p m s (Moved c from to) = is_transfer c from to (transfer s (mover_of s c from to))
-is_step p m s (Drop c n) = is_leaving (replica s c (AtNode n)) && (not (is_read m s c (AtNode n)) && is_valid_elsewhere m s c (AtNode n))
+is_step p m s (Drop c n) = is_leaving (mark s c n) && (not (is_read s c (AtNode n)) && is_valid_elsewhere m s c (AtNode n))
 is_step p m s (Run t w) =
-    is_claimed_by w (progress s t) && (all_earlier_done s t && (has_room m s w && (is_present p s t w (node_of m w) && list_all (λ c. not (is_moving m s c)) (written_cells p t w))))
+    is_claimed_by w (progress s t) && (all_earlier_done s t && (has_room m s w && (is_present p s t w (node_of m w) && list_all (λ c. not (is_moving s c)) (written_cells p t w))))
 is_step p m s (End t w) = is_running_on w (progress s t)
 
 -- ---- the test is right

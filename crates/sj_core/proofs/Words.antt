@@ -26,12 +26,14 @@ pub use Rattle.sj_codelet.specs.declared.formal.Formal.TheVariants.{R as ReadFor
 pub use Rattle.sj_deps.specs.declared.manner.Manner.{Manner}
 pub use Rattle.sj_deps.specs.declared.manner.Manner.TheVariants.{Commute, Contribute, Read, Write}
 pub use Rattle.sj_deps.specs.declared.manner.Usage.{Usage}
-pub use Rattle.sj_core.specs.declared.mark.Mark.{Mark}
-pub use Rattle.sj_core.specs.declared.mark.Mark.TheVariants.{Coming, Invalid, Leaving, Valid}
+pub use Rattle.sj_replica.specs.declared.mark.Mark.{Mark}
+pub use Rattle.sj_replica.specs.declared.mark.Mark.TheVariants.{Coming, Invalid, Leaving, Valid}
 pub use Rattle.sj_core.specs.declared.progress.Progress.{Progress}
 pub use Rattle.sj_core.specs.declared.progress.Progress.TheVariants.{Claimed, Done, Running, Waiting}
 pub use Rattle.sj_core.specs.declared.progress.Transfer.{Transfer}
 pub use Rattle.sj_core.specs.Program.{cell_info, cells_of_program, data_operands, dims_of, distinct, has_cell, no_cell, no_task, same_cell, task_of, tasks_of}
 pub use Rattle.sj_core.specs.Needs.{Block, cell_block_bytes, first_fit, footprint, node_of, node_size, place, place_after, room, scratch_bytes, swap_need, tile_bytes, workers_of}
 pub use Rattle.sj_core.specs.Operands.{cells_of, commuting_cells, copy_of, found, fresh_cells, results, worked_on, written_cells}
-pub use Rattle.sj_core.specs.Machine.{CellState, State, WorkerState, cell_state, done_by, done_in, free, has_room, is_claimed_by, is_coming_by, is_done, is_entry, is_gone, is_idle, is_leaving, is_leaving_by, is_pinned, is_running_on, is_task_of, is_valid, is_waiting, moves, no_replica, opening, order, pins, progress, replica, replica_in, same_worker, scratch, transfer, used, victims_of, with_cells, with_progress, with_replica, with_replica_in, with_transfer, with_worker, worker_of, worker_state, workers_at, writes}
+pub use Rattle.sj_replica.specs.Replica.{is_elsewhere_in, owned_at, stored, with_mark, written_once_more}
+pub use Rattle.sj_core.specs.Machine.{CellState, State, WorkerState, cell_state, claimant_of, done_by, done_in, free, has_room, idle_row, is_claimed_by, is_coming_by, is_done, is_entry, is_gone, is_idle, is_leaving, is_leaving_by, is_pinned, is_running_on, is_task_of, is_valid, is_waiting, mark, mark_in, moves, moves_in, no_copy, on_disk, opening, order, pins, progress, same_worker, scratch, transfer, used, victims_of, with_cells, with_progress, with_row, with_transfer, with_worker, worker_of, worker_state, workers_at, writes}
+pub use Rattle.sj_core.specs.Step.{arrived, has_copy, is_elsewhere, is_moving, is_read, reads_in, same_place}

@@ -1,7 +1,7 @@
 -- Worked jobs whose runs are legal and complete: a sum, vectors that don't fit their node together, a reduction.
 use Rattle.std.proofs.Common.{◌≡◌, ℕ, List, [], ◌∷◌, refl, None, arith, lit<, lit≤, pos}
 use Rattle.sj_core.proofs.Words.{Claim, Drop, End, Event, Machine, Manner, Move, Moved, Program, R, RW, Run}
-use Rattle.sj_core.proofs.Words.{Valid, W, Write, order, replica, victims_of, writes}
+use Rattle.sj_core.proofs.Words.{Valid, W, Write, order, mark, victims_of, writes}
 use Rattle.std.specs.Int.{int_wrap}
 use Rattle.std.proofs.lemmas.Bool.{false≢true}
 use Rattle.sj_base.specs.Ids.{task, cell, worker}
