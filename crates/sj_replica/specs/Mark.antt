@@ -2,7 +2,7 @@
 use Rattle.std.specs.Prelude.{Bool, true, false, nat_eq}
 use Rattle.sj_base.specs.declared.ids.Worker.{Worker}
 use Rattle.sj_replica.specs.declared.mark.Mark.{Mark}
-use Rattle.sj_replica.specs.declared.mark.Mark.TheVariants.{Invalid, Coming, Valid, Leaving}
+use Rattle.sj_replica.specs.declared.mark.Mark.TheVariants.{Coming, Valid, Leaving}
 
 -- there is a copy: one that leaves is still valid
 abbrev pub is_valid : Mark → Bool

@@ -1,5 +1,5 @@
 -- The row of one cell (CCPE 2011, "Data management": a replica is owner, shared or invalid).
-use Rattle.std.specs.Prelude.{ℕ, ◌+◌, Bool, true, false, not, ◌&&◌, ◌||◌, nat_eq, Option, List, [], length, map, option_map, position, replicate}
+use Rattle.std.specs.Prelude.{ℕ, ◌+◌, Bool, true, false, not, ◌&&◌, ◌||◌, nat_eq, Option, List, length, map, option_map, position, replicate}
 use Rattle.std.specs.List.{list_any, range_with_len, slice_index_or, slice_set}
 use Rattle.sj_base.specs.declared.ids.Node.{Node}
 use Rattle.sj_replica.specs.declared.mark.Mark.{Mark}

@@ -6,9 +6,10 @@ ghost use Rattle.sj_replica.specs.Mark.{is_coming_by, is_entry, is_leaving, is_l
 use sj_base::ids::Worker;
 
 /// What a cell is at a node.
-#[derive(Clone, Copy, Debug, PartialEq, Eq)]
+#[derive(Clone, Copy, Debug, Default, PartialEq, Eq)]
 pub enum Mark {
     /// It has no copy there.
+    #[default]
     Invalid,
     /// The claim of a worker brings a copy.
     Coming(Worker),

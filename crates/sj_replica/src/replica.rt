@@ -31,7 +31,7 @@ impl Model for Replica {
 }
 
 // Rows are as many as cells.
-const _: () = prove!(size_of::<Replica>() <= 40);
+const _: () = prove!(size_of::<Replica>() <= 48);
 
 /// No copy at any of so many nodes. Linear in them.
 fn no_marks(alloc: Global, nodes: usize) -> Result<SmallVec<Mark, 8>, OutOfMemory>
