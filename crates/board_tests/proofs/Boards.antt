@@ -14,7 +14,7 @@ use Rattle.sj_kernels.specs.Has.{ring_has}
 use Rattle.sj_kernels.specs.RingLaws.{ring_commuting, ring_contributing, ring_reducing}
 use Rattle.sj_lower.specs.Job.{IsJobIn}
 use Rattle.sj_lower.specs.Lowering.{lowered}
-use Rattle.sj_machine.specs.Sound.{IsRunnableOn}
+use Rattle.sj_board.specs.Sound.{IsRunnableOn}
 
 pub run-of : (ss : List (Statement (List ℕ))) (p : Program) (m : Machine) (disk : ℕ) → p ≡ lowered ss m.workers → IsWell ring_has 0 start ss → Proper p
     → ((has : Kernel → Bool) → IsJobIn has ss → All (λ l. IsTrue (is_known has l.codelet)) p.tasks) → All (λ l. All (FitsSigned w64) l.args) p.tasks

@@ -11,7 +11,7 @@ use Rattle.sj_core.specs.Machine.{State, WorkerState, is_claimed_by, is_running_
 use Rattle.sj_core.specs.Step.{after}
 use Rattle.sj_core.proofs.Reading.{progress-same, worker-same}
 use Rattle.sj_core.proofs.States.{state_of-more}
-use Rattle.sj_machine.specs.Standing.{CanHappen, state}
+use Rattle.sj_board.specs.Standing.{CanHappen, state}
 use Rattle.sj_board.specs.Board.{BoardState, IsFree, empty_hand, given_from, hand_of, has_claimed}
 use Rattle.sj_board.specs.BoardSound.{IsSoundBoard}
 use Rattle.sj_board.specs.declared.hand.Hand.{Hand}

@@ -9,8 +9,8 @@ use Rattle.sj_base.specs.declared.trace.Event.TheVariants.{Run}
 use Rattle.sj_base.specs.Array.{Array}
 use Rattle.sj_codelet.specs.Frame.{Slot, shared}
 use Rattle.sj_core.specs.Program.{dims_of, task_of, written_operands}
-use Rattle.sj_machine.specs.Running.{AreResultsFor, IsShare}
-use Rattle.sj_machine.specs.Standing.{AllTell}
+use Rattle.sj_board.specs.Shares.{AreResultsFor, IsShare}
+use Rattle.sj_board.specs.Standing.{AllTell}
 use Rattle.sj_board.specs.Board.{BoardState, has_event}
 
 module _ {D : Type 0} (held : D → Option (List ℕ)) (b x : BoardState D) (w : Worker) (t : Task) (ran : x ≡ has_event b (Run t w)) where

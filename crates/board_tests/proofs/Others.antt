@@ -1,7 +1,7 @@
 -- What a worker's step leaves of what was so before it.
 use Rattle.std.proofs.Common.{◌≢◌, ℕ, List, Option, ap, subst}
 use Rattle.sj_base.specs.declared.ids.Worker.{Worker}
-use Rattle.sj_machine.specs.Standing.{AllTell}
+use Rattle.sj_board.specs.Standing.{AllTell}
 use Rattle.sj_board.specs.Board.{BoardState, IsFree}
 use Rattle.std.specs.Prelude.{All, IsSome}
 use Rattle.board_tests.specs.Steps.{IsStepOf}

@@ -4,7 +4,7 @@ use Rattle.sj_base.specs.declared.ids.Task.{Task}
 use Rattle.sj_base.specs.declared.ids.Worker.{Worker}
 use Rattle.sj_core.specs.declared.progress.Progress.TheVariants.{Claimed}
 use Rattle.sj_core.specs.Machine.{progress, transfer}
-use Rattle.sj_machine.specs.Standing.{state}
+use Rattle.sj_board.specs.Standing.{state}
 use Rattle.sj_board.specs.Board.{BoardState, HasTask, IsFree, hand_of}
 
 -- the worker has claimed the task, and nothing of it is under way

@@ -6,9 +6,9 @@ ghost use Rattle.sj_base.specs.Array.{area};
 ghost use Rattle.sj_core.specs.Needs.{AreFootprints};
 ghost use Rattle.sj_core.specs.Proper.{HasSwapFor, IsWithinLimits};
 ghost use Rattle.sj_disk.specs.Directory.{extent_of};
-ghost use Rattle.sj_machine.specs.Placing.{ArePlaced, IsEmptySet, ReservesSome};
-ghost use Rattle.sj_machine.specs.Sound.{IsRunnableOn};
-ghost use Rattle.sj_machine.specs.Standing.{AllTell};
+ghost use Rattle.sj_board.specs.Placing.{ArePlaced, IsEmptySet, ReservesSome};
+ghost use Rattle.sj_board.specs.Sound.{IsRunnableOn};
+ghost use Rattle.sj_board.specs.Standing.{AllTell};
 ghost use Rattle.sj_board.specs.Board.{HasTakenReleased, IsFree};
 
 use sj_base::ids::Cell;

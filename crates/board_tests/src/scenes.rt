@@ -3,7 +3,7 @@
 ghost use Rattle.std.specs.Prelude.{◌≡◌, ◌≢◌, ◌<◌, ◌≤◌, ◌^◌, None, OnOk};
 ghost use Rattle.sj_base.specs.declared.ids.Worker.{Worker};
 ghost use Rattle.sj_base.specs.declared.mode.Policy.TheVariants.{Prio};
-ghost use Rattle.sj_machine.specs.Standing.{AllTell};
+ghost use Rattle.sj_board.specs.Standing.{AllTell};
 ghost use Rattle.sj_base.specs.Ids.{worker};
 ghost use Rattle.sj_board.specs.Board.{HasTakenReleased, IsFree};
 

@@ -5,7 +5,7 @@ ghost use Rattle.sj_base.specs.Array.{area};
 
 use sj_base::memory::OutOfMemory;
 use sj_base::tile::{Dims, Tile};
-use sj_machine::spent::Spent;
+use sj_board::spent::Spent;
 use std::alloc::Global;
 use std::sync::Arc;
 use std::test::Fail;

@@ -28,7 +28,7 @@ use sj_job::read::read;
 use sj_job::reason::ReadRefusal;
 use sj_kernels::ring::Ring;
 use sj_lower::lower::{LowerRefusal, LoweredJob, lower};
-use sj_machine::fault::RunFault;
+use sj_board::fault::RunFault;
 use sj_needs::shortage::{Shortage, fits};
 use std::alloc::Global;
 use std::io;

@@ -25,13 +25,13 @@ use Rattle.sj_core.specs.declared.progress.Progress.{Progress}
 use Rattle.sj_core.specs.declared.progress.Progress.TheVariants.{Claimed, Done, Running, Waiting}
 use Rattle.sj_core.specs.declared.progress.Transfer.{Transfer}
 use Rattle.sj_core.specs.Machine.{transfer}
-use Rattle.sj_machine.specs.Delivery.{IsGift, is_deliver_task, is_delivery}
+use Rattle.sj_board.specs.Delivery.{IsGift, is_deliver_task, is_delivery}
 use Rattle.sj_disk.specs.Directory.{DiskState}
 use Rattle.sj_machine.specs.Planning.{HoldsCommutersAlone}
-use Rattle.sj_machine.specs.Sound.{IsSoundRun}
-use Rattle.sj_machine.specs.Standing.{AllTell, CanHappen, HasMoved, Standing, starting, state, with_event}
+use Rattle.sj_board.specs.Sound.{IsSoundRun}
+use Rattle.sj_board.specs.Standing.{AllTell, CanHappen, HasMoved, Standing, starting, state, with_event}
 use Rattle.sj_machine.proofs.Commuting.{holds-alone}
-use Rattle.sj_machine.proofs.Delivering.{deliver-inside, run-has}
+use Rattle.sj_board.proofs.Delivering.{deliver-inside, run-has}
 use Rattle.sj_board.specs.BoardSound.{KeepsEnds, undone}
 use Rattle.sj_board.specs.Delivered.{Deliveries, DeliversEach, gift_in, handed, undelivered}
 use Rattle.sj_board.specs.Preparing.{IsReadyToDeliver, delivery_count}

@@ -15,11 +15,11 @@ use Rattle.sj_core.specs.declared.progress.Progress.{Progress}
 use Rattle.sj_core.specs.declared.progress.Transfer.{Transfer}
 use Rattle.sj_deps.specs.Progress.{Dependencies}
 use Rattle.sj_pool.specs.Pool.{Pooled}
-use Rattle.sj_machine.specs.Cause.{HasCause}
-use Rattle.sj_machine.specs.Standing.{HasMoved, Standing, state, with_event}
-use Rattle.sj_machine.specs.declared.fault.RunFault.{RunFault}
-use Rattle.sj_machine.specs.Sound.{OnlyDisksChange}
-use Rattle.sj_machine.proofs.Stepping.{counts-same, done-same, progress-same, taken-back, taken-same, tasks_alone}
+use Rattle.sj_board.specs.Cause.{HasCause}
+use Rattle.sj_board.specs.Standing.{HasMoved, Standing, state, with_event}
+use Rattle.sj_board.specs.declared.fault.RunFault.{RunFault}
+use Rattle.sj_board.specs.Sound.{OnlyDisksChange}
+use Rattle.sj_board.proofs.Stepping.{counts-same, done-same, progress-same, taken-back, taken-same, tasks_alone}
 use Rattle.sj_board.specs.Board.{BoardState, has_event}
 use Rattle.sj_board.specs.BoardSound.{IsSoundIn, KeepsBoard}
 use Rattle.sj_board.specs.declared.hand.Hand.{Hand}

@@ -14,7 +14,7 @@ use Rattle.sj_core.specs.Fold.{given}
 use Rattle.sj_core.specs.Legal.{IsComplete}
 use Rattle.sj_core.specs.declared.progress.Progress.{Progress}
 use Rattle.sj_core.specs.declared.progress.Progress.TheVariants.{Claimed, Done, Running, Waiting}
-use Rattle.sj_machine.specs.Delivery.{delivered_cell, is_deliver_task}
+use Rattle.sj_board.specs.Delivery.{delivered_cell, is_deliver_task}
 use Rattle.sj_board.specs.BoardSound.{KeepsEnds, undone}
 use Rattle.sj_board.specs.Delivered.{DeliversDone, DeliversEach, IsDeliveryOf, IsKeptFor, gift_in, handed, times_delivered, undelivered}
 

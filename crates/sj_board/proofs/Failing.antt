@@ -9,9 +9,9 @@ use Rattle.sj_core.specs.declared.progress.Progress.TheVariants.{Claimed, Done, 
 use Rattle.sj_core.proofs.Words.{Machine, Program, State, Task, Worker, is_done, is_task_of, progress}
 use Rattle.sj_core.specs.Legal.{IsComplete}
 use Rattle.sj_deps.specs.Progress.{Dependencies}
-use Rattle.sj_machine.specs.Cause.{HasCause}
-use Rattle.sj_machine.specs.Standing.{state}
-use Rattle.sj_machine.specs.declared.fault.RunFault.{RunFault}
+use Rattle.sj_board.specs.Cause.{HasCause}
+use Rattle.sj_board.specs.Standing.{state}
+use Rattle.sj_board.specs.declared.fault.RunFault.{RunFault}
 use Rattle.sj_board.specs.Board.{BoardState, IsOver, IsWorking, failed, first_fault, hand_of, stopped, with_hand}
 use Rattle.sj_board.specs.BoardSound.{HandsAgree, KeepsBoard, StopsAtTheEnd, times_pooled}
 use Rattle.sj_board.specs.declared.hand.Hand.{Hand}

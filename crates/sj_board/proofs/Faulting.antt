@@ -6,10 +6,10 @@ use Rattle.std.proofs.lemmas.Slice.Zip.{AllZip-left}
 use Rattle.sj_disk.specs.Directory.{DiskState}
 use Rattle.sj_edge.specs.Faults.{Rose}
 use Rattle.sj_edge.specs.GivenBack.{AreGivenBack, IsGivenBack}
-use Rattle.sj_machine.specs.Cause.{HasCause, HasRisen}
-use Rattle.sj_machine.specs.Standing.{Standing}
-use Rattle.sj_machine.specs.declared.fault.RunFault.{RunFault}
-use Rattle.sj_machine.specs.declared.fault.RunFault.TheVariants.{Damaged, DiskFault, OutOfMemory}
+use Rattle.sj_board.specs.Cause.{HasCause, HasRisen}
+use Rattle.sj_board.specs.Standing.{Standing}
+use Rattle.sj_board.specs.declared.fault.RunFault.{RunFault}
+use Rattle.sj_board.specs.declared.fault.RunFault.TheVariants.{Damaged, DiskFault, OutOfMemory}
 
 -- a count that rose and never falls is above still
 risen-more : (n x y : ℕ) → Rose n x → x ≤ y → Rose n y

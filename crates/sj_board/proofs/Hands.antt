@@ -5,7 +5,7 @@ use Rattle.std.proofs.lemmas.List.{get_or-set_other, get_or-set_same}
 use Rattle.std.proofs.lemmas.List.Sums.{sum_by-set}
 use Rattle.sj_core.proofs.Words.{Machine, Program, State, Task, Worker, footprint, node_of, node_size}
 use Rattle.sj_pool.specs.Pool.{Pooled}
-use Rattle.sj_machine.specs.declared.fault.RunFault.{RunFault}
+use Rattle.sj_board.specs.declared.fault.RunFault.{RunFault}
 use Rattle.sj_board.specs.Board.{empty_hand, hand_in}
 use Rattle.sj_board.specs.BoardSound.{IsPoolFor, StandsOnce, is_given, times_given, times_pooled, HandsAgree}
 use Rattle.sj_board.specs.declared.hand.Hand.{Hand}

@@ -4,10 +4,10 @@ use Rattle.std.specs.Prelude.{IsSomeAnd}
 use Rattle.sj_core.proofs.Words.{Array, AtNode, Node, Program, Task, Worker, node_of, progress}
 use Rattle.sj_core.specs.Laws.{HasAtHand, Works}
 use Rattle.sj_core.specs.declared.progress.Progress.TheVariants.{Running}
-use Rattle.sj_machine.specs.Delivery.{IsGift, delivered_cell, is_deliver_task}
-use Rattle.sj_machine.specs.Sound.{IsSoundRun}
-use Rattle.sj_machine.specs.Standing.{AllTell, IsTileOf, Standing, state}
-use Rattle.sj_machine.proofs.Delivering.{at-hand}
+use Rattle.sj_board.specs.Delivery.{IsGift, delivered_cell, is_deliver_task}
+use Rattle.sj_board.specs.Sound.{IsSoundRun}
+use Rattle.sj_board.specs.Standing.{AllTell, IsTileOf, Standing, state}
+use Rattle.sj_board.proofs.Delivering.{at-hand}
 use Rattle.sj_board.specs.Delivered.{IsDeliveryOf, IsKeptFor}
 
 module _ {D : Type 0} (size faults mismatches : D → ℕ) (held : D → Option (List ℕ)) (b : Standing D) (sound : IsSoundRun size faults mismatches held b) (t : Task) (w : Worker) where

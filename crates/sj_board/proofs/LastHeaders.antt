@@ -15,15 +15,15 @@ use Rattle.sj_core.proofs.Words.{AtNode, Cell, CellState, DiskNo, Machine, Node,
 use Rattle.sj_core.specs.Coherent.{Coherent}
 use Rattle.sj_core.specs.Operands.{written_cells}
 use Rattle.sj_core.specs.Step.{after, after_end, written_once_more}
-use Rattle.sj_core.specs.declared.mark.Mark.{Mark}
-use Rattle.sj_core.specs.declared.mark.Mark.TheVariants.{Invalid, Valid}
+use Rattle.sj_replica.specs.declared.mark.Mark.{Mark}
+use Rattle.sj_replica.specs.declared.mark.Mark.TheVariants.{Invalid, Valid}
 use Rattle.sj_disk.specs.Block.{header}
 use Rattle.sj_disk.specs.declared.header.Header.{Header}
-use Rattle.sj_machine.specs.Cause.{HasCause}
-use Rattle.sj_machine.specs.Headers.{IsLastWritten}
-use Rattle.sj_machine.specs.Standing.{CanHappen, Standing, state, with_event}
-use Rattle.sj_machine.specs.declared.fault.RunFault.{RunFault}
-use Rattle.sj_machine.specs.declared.fault.RunFault.TheVariants.{Damaged, DiskFault, OutOfMemory}
+use Rattle.sj_board.specs.Cause.{HasCause}
+use Rattle.sj_board.specs.Headers.{IsLastWritten}
+use Rattle.sj_board.specs.Standing.{CanHappen, Standing, state, with_event}
+use Rattle.sj_board.specs.declared.fault.RunFault.{RunFault}
+use Rattle.sj_board.specs.declared.fault.RunFault.TheVariants.{Damaged, DiskFault, OutOfMemory}
 
 -- copies on disks stay there, and their cells are written no more
 abbrev pub KeepsOnDisks : State → State → Type 0

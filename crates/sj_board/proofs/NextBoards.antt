@@ -8,12 +8,12 @@ use Rattle.sj_core.specs.declared.progress.Progress.TheVariants.{Claimed}
 use Rattle.sj_core.proofs.Advancing.{claimed_by-is}
 use Rattle.sj_core.specs.Laws.{IsSound}
 use Rattle.sj_deps.specs.Progress.{Dependencies}
-use Rattle.sj_machine.specs.Sound.{IsSoundRun}
-use Rattle.sj_machine.specs.Standing.{CanHappen, state}
-use Rattle.sj_machine.specs.Todo.{AnotherGoesOn, IsNext}
-use Rattle.sj_machine.specs.declared.todo.Todo.{Todo}
-use Rattle.sj_machine.specs.declared.todo.Todo.TheVariants.{Discard, Nothing, Start, Transfer as TransferNext, Wait}
-use Rattle.sj_machine.proofs.NextSteps.{IsPossible, next-possible, wait-ends}
+use Rattle.sj_board.specs.Sound.{IsSoundRun}
+use Rattle.sj_board.specs.Standing.{CanHappen, state}
+use Rattle.sj_board.specs.NextStep.{AnotherGoesOn, IsNext}
+use Rattle.sj_board.specs.declared.todo.Todo.{Todo}
+use Rattle.sj_board.specs.declared.todo.Todo.TheVariants.{Discard, Nothing, Start, Transfer as TransferNext, Wait}
+use Rattle.sj_board.proofs.NextSteps.{IsPossible, next-possible, wait-ends}
 use Rattle.sj_board.specs.Board.{BoardState, IsWorking, RunsNone, empty_hand, hand_of, transfer_of}
 use Rattle.sj_board.specs.declared.hand.Hand.{Hand}
 use Rattle.sj_board.specs.BoardSound.{KeepsBoard}

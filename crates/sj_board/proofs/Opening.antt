@@ -22,8 +22,8 @@ use Rattle.sj_disk.specs.Directory.{DiskState}
 use Rattle.sj_pool.specs.Pool.{Pooled, empty_pool, queue_count}
 use Rattle.sj_pool.specs.declared.entry.Entry.{Entry}
 use Rattle.sj_base.specs.Array.{Array}
-use Rattle.sj_machine.specs.Standing.{Standing, starting}
-use Rattle.sj_machine.proofs.Stepping.{ready-same}
+use Rattle.sj_board.specs.Standing.{Standing, starting}
+use Rattle.sj_board.proofs.Stepping.{ready-same}
 use Rattle.sj_board.specs.Board.{board_state, empty_hand, hand_in}
 use Rattle.sj_board.specs.BoardSound.{IsEntry, IsPoolFor, KeepsBoard, is_entry_of, is_given, times_given, times_pooled}
 use Rattle.sj_board.specs.Filling.{CanPutEach, putter, with_each}

@@ -8,10 +8,10 @@ use Rattle.sj_core.proofs.Words.{Worker, transfer}
 use Rattle.sj_core.specs.Laws.{IsSound}
 use Rattle.sj_core.specs.Step.{a_transfer}
 use Rattle.sj_core.specs.declared.progress.Transfer.{Transfer}
-use Rattle.sj_machine.specs.Sound.{IsSoundRun}
-use Rattle.sj_machine.specs.Sparing.{Spares, SparesMoved}
-use Rattle.sj_machine.specs.Standing.{CanHappen, HasMoved, Standing, state, with_event}
-use Rattle.sj_machine.proofs.Sparing.{spares-event}
+use Rattle.sj_board.specs.Sound.{IsSoundRun}
+use Rattle.sj_board.specs.Sparing.{Spares, SparesMoved}
+use Rattle.sj_board.specs.Standing.{CanHappen, HasMoved, Standing, state, with_event}
+use Rattle.sj_board.proofs.Sparing.{spares-event}
 
 module _ {D : Type 0} (size faults mismatches : D → ℕ) (held : D → Option (List ℕ)) (b : Standing D) (run : IsSoundRun size faults mismatches held b) where
   pub sound : IsSound b.program b.machine (state b)

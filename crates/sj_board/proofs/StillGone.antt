@@ -18,11 +18,11 @@ use Rattle.sj_core.proofs.Words.{AtNode, Cell, Machine, Node, OnDisk, Program, S
 use Rattle.sj_core.specs.Laws.{IsSound}
 use Rattle.sj_core.specs.Step.{May, a_transfer, after}
 use Rattle.sj_core.specs.declared.progress.Transfer.{Transfer}
-use Rattle.sj_core.specs.declared.mark.Mark.TheVariants.{Invalid, Valid}
+use Rattle.sj_replica.specs.declared.mark.Mark.TheVariants.{Invalid, Valid}
 use Rattle.sj_disk.specs.Directory.{DiskState}
 use Rattle.sj_machine.specs.Gone.{AreGone}
-use Rattle.sj_machine.specs.Sound.{IsSoundRun}
-use Rattle.sj_machine.specs.Standing.{CanHappen, HasMoved, Standing, starting, state, with_event}
+use Rattle.sj_board.specs.Sound.{IsSoundRun}
+use Rattle.sj_board.specs.Standing.{CanHappen, HasMoved, Standing, starting, state, with_event}
 use Rattle.sj_machine.proofs.GoneVictims.{and_first}
 use Rattle.sj_board.specs.BoardSound.{KnowsGone}
 use Rattle.sj_board.proofs.SparingBoards.{sound as run-sound}

@@ -16,11 +16,11 @@ use Rattle.sj_core.specs.Step.{after}
 use Rattle.sj_core.proofs.Separation.{worker-inside}
 use Rattle.sj_core.proofs.Dependencies.{Proper-dependencies}
 use Rattle.sj_deps.specs.Progress.{Dependencies}
-use Rattle.sj_machine.specs.ReadyTasks.{CountsDone, IsToBeTaken}
+use Rattle.sj_board.specs.ReadyTasks.{CountsDone, IsToBeTaken}
 use Rattle.sj_machine.specs.Planning.{IsWhy, MayClaim}
-use Rattle.sj_machine.specs.Sound.{IsSoundRun}
-use Rattle.sj_machine.specs.Standing.{CanHappen, Standing, state, with_event}
-use Rattle.sj_machine.proofs.Stepping.{counts-still, not-complete, taken-before, taken-still}
+use Rattle.sj_board.specs.Sound.{IsSoundRun}
+use Rattle.sj_board.specs.Standing.{CanHappen, Standing, state, with_event}
+use Rattle.sj_board.proofs.Stepping.{counts-still, not-complete, taken-before, taken-still}
 use Rattle.sj_machine.specs.declared.plan.Why.{Why}
 use Rattle.sj_machine.proofs.Refusing.{refusal-waits}
 use Rattle.sj_board.specs.Board.{BoardState, IsWorking, hand_in, hand_of, has_claimed}

@@ -20,7 +20,7 @@ use Rattle.sj_pool.specs.Entry.{fits_room}
 use Rattle.sj_pool.specs.Pool.{Pooled, first_task, home, queue, queue_count, without_first_at}
 use Rattle.sj_pool.specs.Queue.{without_first_fitting}
 use Rattle.sj_pool.specs.declared.entry.Entry.{Entry}
-use Rattle.sj_machine.specs.Standing.{state}
+use Rattle.sj_board.specs.Standing.{state}
 use Rattle.sj_board.specs.Board.{BoardState, has_released, released_of}
 use Rattle.sj_board.specs.BoardSound.{IsEntry, KeepsBoard, StandsReleased, is_entry_of}
 use Rattle.sj_board.specs.Claimable.{IsReadyWhereItWaits}

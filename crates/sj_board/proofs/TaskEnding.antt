@@ -24,12 +24,12 @@ use Rattle.sj_core.specs.declared.progress.Progress.TheVariants.{Claimed, Done, 
 use Rattle.sj_deps.specs.Conflict.{Ready}
 use Rattle.sj_deps.specs.Progress.{Dependencies, after_done}
 use Rattle.sj_pool.specs.Pool.{Pooled, queue_count}
-use Rattle.sj_machine.specs.ReadyTasks.{IsToBeTaken}
-use Rattle.sj_machine.specs.Delivery.{IsGift}
-use Rattle.sj_machine.specs.Sound.{IsSoundRun}
+use Rattle.sj_board.specs.ReadyTasks.{IsToBeTaken}
+use Rattle.sj_board.specs.Delivery.{IsGift}
+use Rattle.sj_board.specs.Sound.{IsSoundRun}
 use Rattle.sj_base.specs.Array.{Array}
-use Rattle.sj_machine.specs.Standing.{CanHappen, Standing, state, with_event}
-use Rattle.sj_machine.proofs.Stepping.{not-complete, ready-counted, ready-same}
+use Rattle.sj_board.specs.Standing.{CanHappen, Standing, state, with_event}
+use Rattle.sj_board.proofs.Stepping.{not-complete, ready-counted, ready-same}
 use Rattle.sj_board.specs.Board.{BoardState, HasTakenReleased, IsWorking, board_state, hand_in, hand_of, has_ended, released_of}
 use Rattle.sj_board.specs.BoardSound.{HandsAgree, HasBecomeReady, KeepsBoard, StandsOnce, StandsReleased, StopsAtTheEnd, times_given, times_pooled}
 use Rattle.sj_board.specs.Delivered.{handed}

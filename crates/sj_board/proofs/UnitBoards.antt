@@ -15,12 +15,12 @@ use Rattle.sj_disk.specs.Lending.{IsTaken, LendingState, has_back}
 use Rattle.sj_disk.specs.Rack.{is_out}
 use Rattle.sj_disk.specs.Units.{IsWorkedOn, UnitFetches, UnitState, UnitStores}
 use Rattle.sj_pool.specs.Pool.{Pooled}
-use Rattle.sj_machine.specs.Sound.{OnlyDisksChange}
-use Rattle.sj_machine.specs.Standing.{IsFetching, IsMovingOut, IsTileMoved, IsTileOf, Standing, state}
-use Rattle.sj_machine.specs.Units.{HasFetchedMoved, HasStoredMoved, IsUnitOf, TakesUnit, lent}
-use Rattle.sj_machine.specs.declared.fault.RunFault.{RunFault}
-use Rattle.sj_machine.proofs.Storing.{some-if}
-use Rattle.sj_machine.proofs.UnitPuts.{same-back}
+use Rattle.sj_board.specs.Sound.{OnlyDisksChange}
+use Rattle.sj_board.specs.Standing.{IsFetching, IsMovingOut, IsTileMoved, IsTileOf, Standing, state}
+use Rattle.sj_board.specs.DiskUnits.{HasFetchedMoved, HasStoredMoved, IsUnitOf, TakesUnit, lent}
+use Rattle.sj_board.specs.declared.fault.RunFault.{RunFault}
+use Rattle.sj_board.proofs.Storing.{some-if}
+use Rattle.sj_board.proofs.UnitPuts.{same-back}
 use Rattle.sj_board.specs.Board.{BoardState, GivesUnitBack, board_state, hand_in, hand_of, has_taken, with_hand}
 use Rattle.sj_board.specs.BoardSound.{KeepsBoard, times_pooled}
 use Rattle.sj_board.specs.Units.{OthersKeepUnits, UnitsStand, unit_in_hand}

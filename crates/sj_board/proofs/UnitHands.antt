@@ -13,8 +13,8 @@ use Rattle.sj_disk.specs.Directory.{DiskState, extent_of}
 use Rattle.sj_disk.specs.Lending.{NoneIsOut}
 use Rattle.sj_disk.specs.Rack.{is_out}
 use Rattle.sj_disk.specs.Units.{UnitState, unit_state}
-use Rattle.sj_machine.specs.Standing.{HasMoved, Standing, state, with_event}
-use Rattle.sj_machine.specs.Units.{lent}
+use Rattle.sj_board.specs.Standing.{HasMoved, Standing, state, with_event}
+use Rattle.sj_board.specs.DiskUnits.{lent}
 use Rattle.sj_board.specs.Board.{empty_hand, hand_in}
 use Rattle.sj_board.specs.Preparing.{first_hands}
 use Rattle.sj_board.specs.Units.{IsInHand, UnitsStand, unit_at}

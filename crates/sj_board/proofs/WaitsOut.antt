@@ -8,11 +8,11 @@ use Rattle.sj_disk.specs.declared.directory.Extent.{Extent}
 use Rattle.sj_disk.specs.Directory.{extent_of}
 use Rattle.sj_disk.specs.Lending.{IsInFor}
 use Rattle.sj_disk.specs.Rack.{is_out}
-use Rattle.sj_machine.specs.Standing.{is_node, state}
-use Rattle.sj_machine.specs.Todo.{AnotherGoesOn, Brings, Evicts, IsNext, IsStepFor, is_out_for, may_run, needs_disk_out, next_cell, next_victim}
-use Rattle.sj_machine.specs.Units.{lent}
-use Rattle.sj_machine.specs.declared.todo.Todo.{Todo}
-use Rattle.sj_machine.specs.declared.todo.Todo.TheVariants.{Discard, Nothing, Start, Transfer as TransferNext, Wait}
+use Rattle.sj_board.specs.Standing.{is_node, state}
+use Rattle.sj_board.specs.NextStep.{AnotherGoesOn, Brings, Evicts, IsNext, IsStepFor, is_out_for, may_run, needs_disk_out, next_cell, next_victim}
+use Rattle.sj_board.specs.DiskUnits.{lent}
+use Rattle.sj_board.specs.declared.todo.Todo.{Todo}
+use Rattle.sj_board.specs.declared.todo.Todo.TheVariants.{Discard, Nothing, Start, Transfer as TransferNext, Wait}
 use Rattle.sj_board.specs.Board.{BoardState, hand_of}
 use Rattle.sj_board.specs.Todo.{CanBegin, HasDiskIn, IsCounted, IsMoverOf, IsTodoOf}
 use Rattle.sj_board.specs.Units.{AnotherHasUnit, UnitsStand}

@@ -12,8 +12,8 @@ use Rattle.sj_core.specs.Needs.{node_of, node_size}
 use Rattle.sj_core.specs.declared.progress.Transfer.{Transfer}
 use Rattle.sj_disk.specs.Units.{UnitState}
 use Rattle.sj_pool.specs.Pool.{Pooled, task_for, with_entry, without_entry_for}
-use Rattle.sj_machine.specs.Standing.{Standing, state, with_event}
-use Rattle.sj_machine.specs.declared.fault.RunFault.{RunFault}
+use Rattle.sj_board.specs.Standing.{Standing, state, with_event}
+use Rattle.sj_board.specs.declared.fault.RunFault.{RunFault}
 use Rattle.sj_board.specs.Delivered.{handed}
 use Rattle.sj_board.specs.Filling.{entry_of, with_each}
 use Rattle.sj_board.specs.Released.{released_in, without_first_of}

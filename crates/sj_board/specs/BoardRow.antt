@@ -13,7 +13,7 @@ use Rattle.sj_core.specs.Needs.{node_of}
 use Rattle.sj_core.specs.Operands.{cells_of}
 use Rattle.sj_core.specs.Arrays.{held_at}
 use Rattle.sj_core.specs.declared.progress.Progress.{Progress}
-use Rattle.sj_machine.specs.Standing.{run_arrays, state}
+use Rattle.sj_board.specs.Standing.{run_arrays, state}
 use Rattle.sj_board.specs.Board.{BoardState, hand_of, released_of, transfer_of}
 use Rattle.sj_board.specs.Units.{unit_in_hand}
 use Rattle.sj_disk.specs.Units.{UnitState}

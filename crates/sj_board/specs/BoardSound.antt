@@ -16,12 +16,12 @@ use Rattle.sj_deps.specs.Conflict.{Ready}
 use Rattle.sj_deps.specs.Progress.{Dependencies}
 use Rattle.sj_pool.specs.Pool.{Pooled, queue_count}
 use Rattle.sj_pool.specs.declared.entry.Entry.{Entry}
-use Rattle.sj_machine.specs.Cause.{HasCause}
+use Rattle.sj_board.specs.Cause.{HasCause}
 use Rattle.sj_machine.specs.Gone.{KnownGone}
-use Rattle.sj_machine.specs.Sound.{IsSoundRun}
-use Rattle.sj_machine.specs.Standing.{AllTell, state}
-use Rattle.sj_machine.specs.declared.fault.RunFault.{RunFault}
-use Rattle.sj_machine.specs.ReadyTasks.{CountsDone, IsToBeTaken}
+use Rattle.sj_board.specs.Sound.{IsSoundRun}
+use Rattle.sj_board.specs.Standing.{AllTell, state}
+use Rattle.sj_board.specs.declared.fault.RunFault.{RunFault}
+use Rattle.sj_board.specs.ReadyTasks.{CountsDone, IsToBeTaken}
 use Rattle.sj_board.specs.Board.{BoardState, hand_in}
 use Rattle.sj_board.specs.Delivered.{DeliversDone, KeepsGifts, undelivered}
 use Rattle.sj_board.specs.Filling.{entry_of}

@@ -8,7 +8,7 @@ use Rattle.sj_core.specs.declared.progress.Progress.TheVariants.{Running}
 use Rattle.sj_core.specs.Fold.{given}
 use Rattle.sj_core.specs.Machine.{State, done_in, progress}
 use Rattle.sj_core.specs.Program.{dims_of, tasks_of}
-use Rattle.sj_machine.specs.Delivery.{delivered_cell, is_deliver_task}
+use Rattle.sj_board.specs.Delivery.{delivered_cell, is_deliver_task}
 use Rattle.sj_board.specs.declared.delivered.Handed.{Handed}
 
 -- ---- a list with room

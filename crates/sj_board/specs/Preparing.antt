@@ -12,8 +12,8 @@ use Rattle.sj_core.specs.Needs.{AreFootprints}
 use Rattle.sj_deps.specs.Progress.{Dependencies, dependencies}
 use Rattle.sj_disk.specs.Directory.{DiskState}
 use Rattle.sj_pool.specs.Pool.{Pooled, empty_pool}
-use Rattle.sj_machine.specs.Delivery.{is_delivery}
-use Rattle.sj_machine.specs.Standing.{starting}
+use Rattle.sj_board.specs.Delivery.{is_delivery}
+use Rattle.sj_board.specs.Standing.{starting}
 use Rattle.sj_board.specs.Board.{BoardState, board_state, empty_hand}
 use Rattle.sj_board.specs.Delivered.{Deliveries, deliveries}
 use Rattle.sj_board.specs.Filling.{with_each}

@@ -13,8 +13,8 @@ use Rattle.sj_core.specs.Step.{done_tasks}
 use Rattle.sj_deps.specs.Conflict.{Ready}
 use Rattle.sj_deps.specs.Progress.{BecomesReady, Dependencies}
 use Rattle.sj_pool.specs.Pool.{Pooled}
-use Rattle.sj_machine.specs.Standing.{state, with_event}
-use Rattle.sj_machine.specs.Delivery.{IsGift}
+use Rattle.sj_board.specs.Standing.{state, with_event}
+use Rattle.sj_board.specs.Delivery.{IsGift}
 use Rattle.sj_board.specs.Board.{BoardState, has_ended, released_of}
 use Rattle.sj_board.specs.Filling.{with_each}
 

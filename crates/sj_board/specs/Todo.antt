@@ -5,12 +5,12 @@ use Rattle.sj_base.specs.declared.trace.Event.TheVariants.{Drop, Move, Run}
 use Rattle.sj_core.specs.Machine.{writes}
 use Rattle.sj_core.specs.Needs.{node_of}
 use Rattle.sj_core.specs.Step.{mover_of}
-use Rattle.sj_machine.specs.Standing.{CanHappen, is_node, state}
+use Rattle.sj_board.specs.Standing.{CanHappen, is_node, state}
 use Rattle.sj_disk.specs.Lending.{IsInFor}
-use Rattle.sj_machine.specs.Units.{lent}
-use Rattle.sj_machine.specs.declared.todo.Todo.{Todo}
-use Rattle.sj_machine.specs.declared.todo.Todo.TheVariants.{Discard, Nothing, Start, Transfer, Wait}
-use Rattle.sj_machine.specs.Todo.{IsStepFor}
+use Rattle.sj_board.specs.DiskUnits.{lent}
+use Rattle.sj_board.specs.declared.todo.Todo.{Todo}
+use Rattle.sj_board.specs.declared.todo.Todo.TheVariants.{Discard, Nothing, Start, Transfer, Wait}
+use Rattle.sj_board.specs.NextStep.{IsStepFor}
 use Rattle.sj_board.specs.Board.{BoardState, hand_of}
 
 -- the worker's next step: nothing where it has no task

@@ -1,7 +1,7 @@
 //! What running deliver tasks are to hand over.
 
 ghost use Rattle.std.specs.Prelude.{◌≡◌, ◌<◌, IfOk, None, length, replicate, slice_set};
-ghost use Rattle.sj_machine.specs.Tiles.{array_in};
+ghost use Rattle.sj_board.specs.Tiles.{array_in};
 ghost use Rattle.sj_board.specs.Delivered.{gift_in};
 ghost use Rattle.sj_board.specs.Preparing.{delivery_count};
 
@@ -9,7 +9,7 @@ use sj_base::ids::Worker;
 use sj_base::memory::OutOfMemory;
 use sj_base::program::Program;
 use sj_base::tile::Tile;
-use sj_machine::delivery::is_delivery;
+use crate::delivery::is_delivery;
 use std::alloc::Global;
 use std::marker::Model;
 use std::sync::Arc;
@@ -35,7 +35,7 @@ pub struct Gifts {
 impl Model for Gifts {
     ghost use Rattle.std.specs.Prelude.{List, Option};
     ghost use Rattle.sj_base.specs.Array.{Array};
-    ghost use Rattle.sj_machine.specs.Tiles.{arrays_in};
+    ghost use Rattle.sj_board.specs.Tiles.{arrays_in};
 
     ghost Value = { List (Option Array) };
 

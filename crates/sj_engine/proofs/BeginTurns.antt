@@ -24,9 +24,9 @@ use Rattle.sj_core.proofs.Found.{found-not_fresh}
 use Rattle.sj_core.proofs.Reading.{progress-inside, progress-same}
 use Rattle.sj_core.proofs.Readiness.{Contains-from_filter, filter-Contains}
 use Rattle.sj_core.proofs.Replicas.{same_worker-refl}
-use Rattle.sj_machine.specs.Running.{AreSharesFor, IsShareIn, IsShare}
-use Rattle.sj_machine.specs.Sparing.{Spares}
-use Rattle.sj_machine.specs.Standing.{AllTell, CanHappen, state, run_arrays}
+use Rattle.sj_board.specs.Shares.{AreSharesFor, IsShareIn, IsShare}
+use Rattle.sj_board.specs.Sparing.{Spares}
+use Rattle.sj_board.specs.Standing.{AllTell, CanHappen, state, run_arrays}
 use Rattle.sj_board.specs.Board.{BoardState, HasTask, hand_of, has_event}
 use Rattle.sj_board.specs.BoardRow.{BoardKey, arrays_for, key_of}
 use Rattle.sj_board.specs.BoardSound.{IsSoundBoard}

@@ -10,15 +10,15 @@ use Rattle.sj_base.specs.declared.trace.Event.TheVariants.{Moved, Drop}
 use Rattle.sj_base.specs.Array.{Array}
 use Rattle.sj_core.specs.declared.progress.Progress.TheVariants.{Claimed}
 use Rattle.sj_core.specs.declared.progress.Transfer.{Transfer}
-use Rattle.sj_core.specs.declared.mark.Mark.TheVariants.{Valid}
+use Rattle.sj_replica.specs.declared.mark.Mark.TheVariants.{Valid}
 use Rattle.sj_core.specs.Machine.{State, WorkerState, progress, transfer, with_replica, with_transfer}
 use Rattle.sj_core.specs.Needs.{node_of}
 use Rattle.sj_core.specs.Step.{after, mover_of}
 use Rattle.sj_core.proofs.Reading.{transfer-inside, worker-same}
 use Rattle.sj_core.proofs.States.{one-mover, state_of-more, arrays_of-more}
-use Rattle.sj_machine.specs.Sparing.{Spares, SparesMoved}
-use Rattle.sj_machine.specs.Standing.{CanHappen, IsMovingIn, IsMovingOut, IsTileMoved, IsTileOf, Standing, is_node, state, with_event, run_arrays}
-use Rattle.sj_machine.specs.declared.fault.RunFault.{RunFault}
+use Rattle.sj_board.specs.Sparing.{Spares, SparesMoved}
+use Rattle.sj_board.specs.Standing.{CanHappen, IsMovingIn, IsMovingOut, IsTileMoved, IsTileOf, Standing, is_node, state, with_event, run_arrays}
+use Rattle.sj_board.specs.declared.fault.RunFault.{RunFault}
 use Rattle.sj_board.specs.Board.{BoardState, EndsMoveOf, HasTakenReleased, empty_hand, failed, first_fault, hand_of, has_event, released_of, stopped, transfer_of}
 use Rattle.sj_board.specs.BoardRow.{key_of}
 use Rattle.sj_board.specs.BoardSound.{IsSoundBoard}

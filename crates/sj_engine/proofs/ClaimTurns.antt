@@ -29,9 +29,9 @@ use Rattle.sj_core.specs.Program.{data_operands, dims_of, task_of}
 use Rattle.sj_core.proofs.Reading.{progress-same, worker-same}
 use Rattle.sj_core.proofs.Readiness.{Contains-filter}
 use Rattle.sj_core.proofs.Replicas.{same_worker-refl}
-use Rattle.sj_machine.specs.Running.{AreResultsFor}
-use Rattle.sj_machine.specs.Sparing.{Spares}
-use Rattle.sj_machine.specs.Standing.{CanHappen, Standing, state, run_arrays}
+use Rattle.sj_board.specs.Shares.{AreResultsFor}
+use Rattle.sj_board.specs.Sparing.{Spares}
+use Rattle.sj_board.specs.Standing.{CanHappen, Standing, state, run_arrays}
 use Rattle.sj_pool.proofs.Keeping.{home-within}
 use Rattle.sj_pool.specs.Pool.{home}
 use Rattle.sj_board.specs.Board.{BoardState, HasTakenReleased, HasTask, IsIdle, WasGiven, empty_hand, given_back, given_from, hand_of, has_claimed, released_of}

@@ -23,7 +23,7 @@ use Rattle.sj_disk.specs.contracts.rack.DiskSlot as Slots
 use Rattle.sj_disk.specs.contracts.lending_set.LendingSet as LendingSet
 use Rattle.sj_machine.proofs.copies.Copies.TheSendSync as Copies
 use Rattle.sj_machine.proofs.hold.Hold.TheSendSync as Hold
-use Rattle.sj_machine.specs.contracts.run_state.RunState as RunState
+use Rattle.sj_board.specs.contracts.run_state.RunState as RunState
 use Rattle.sj_board.proofs.delivered.Delivered.TheSendSync as Delivered
 use Rattle.sj_board.proofs.gifts.Gifts.TheSendSync as Gifts
 use Rattle.sj_board.specs.contracts.board.Board as Board

@@ -33,7 +33,7 @@ use Rattle.sj_engine.specs.Operands.{AreSharesOf, IsSmall, first_share, held_for
 use Rattle.sj_codelet.proofs.Table.{few-formals, by_table}
 use Rattle.sj_base.proofs.Lists.{cons_same}
 use Rattle.sj_core.proofs.Sized.{task-fits}
-use Rattle.sj_machine.specs.Running.{IsShare}
+use Rattle.sj_board.specs.Shares.{IsShare}
 use Rattle.sj_base.proofs.Bools.{implied}
 use Rattle.sj_base.specs.declared.mode.Reduction.TheVariants.{Plus, Least}
 

@@ -10,7 +10,7 @@ use Rattle.sj_base.specs.declared.trace.Event.TheVariants.{Claim, Drop, End, Mov
 use Rattle.sj_core.specs.Machine.{is_done}
 use Rattle.sj_core.specs.Needs.{node_of}
 use Rattle.sj_desk.specs.Seats.{DeskFacts, HasRowLeft, SeatFacts, rung}
-use Rattle.sj_machine.specs.Standing.{state}
+use Rattle.sj_board.specs.Standing.{state}
 use Rattle.sj_board.specs.Board.{BoardState, IsOver}
 use Rattle.sj_engine.specs.Bell.{CountsReady, HasHeardBell, HasRung, IsChange, MindsBell, is_claimed, noted_after, noted_for_rest, wakes_after, wakes_for_rest}
 use Rattle.sj_engine.specs.Noted.{has_ready_in, noted_row}

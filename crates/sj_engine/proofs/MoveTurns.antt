@@ -4,7 +4,7 @@ use Rattle.std.specs.Prelude.{Result, Ok}
 use Rattle.sj_disk.specs.Holding.{CountsStay}
 use Rattle.sj_disk.specs.declared.refusal.DiskRefusal.{DiskRefusal}
 use Rattle.sj_edge.specs.Faults.{counted}
-use Rattle.sj_machine.specs.Counts.{AreCounted, differed_at, failed_at}
+use Rattle.sj_board.specs.Counts.{AreCounted, differed_at, failed_at}
 use Rattle.sj_board.specs.Board.{BoardState}
 use Rattle.sj_base.proofs.Lists.{map-places}
 

@@ -16,7 +16,7 @@ use Rattle.sj_core.specs.declared.progress.Progress.{Progress}
 use Rattle.sj_core.specs.declared.progress.Progress.TheVariants.{Waiting, Claimed, Running, Done}
 use Rattle.sj_core.specs.declared.progress.Transfer.{Transfer}
 use Rattle.sj_core.specs.Laws.{IsSound}
-use Rattle.sj_core.specs.declared.mark.Mark.TheVariants.{Invalid, Valid}
+use Rattle.sj_replica.specs.declared.mark.Mark.TheVariants.{Invalid, Valid}
 use Rattle.sj_core.specs.Machine.{CellState, State, is_running_on, is_task_of, progress, same_worker, transfer, worker_state, writes}
 use Rattle.sj_core.specs.Needs.{node_of}
 use Rattle.sj_core.specs.Operands.{cells_of, written_cells}
@@ -30,7 +30,7 @@ use Rattle.sj_core.proofs.Dependencies.{Proper-dependencies}
 use Rattle.sj_core.proofs.Replicas.{same_worker-is, same_worker-refl}
 use Rattle.sj_core.proofs.Running.{run-spares, run-unmoved, run-worker}
 use Rattle.sj_core.proofs.Separation.{separated, worker-inside}
-use Rattle.sj_machine.specs.Sparing.{SparesUsed, is_used, writes_cell}
+use Rattle.sj_board.specs.Sparing.{SparesUsed, is_used, writes_cell}
 use Rattle.sj_base.proofs.SameIds.{same_place-itself}
 use Rattle.sj_core.proofs.Advancing.{running_on-is}
 use Rattle.sj_base.proofs.Bools.{or_false}

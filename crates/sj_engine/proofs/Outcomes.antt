@@ -14,7 +14,7 @@ use Rattle.sj_base.specs.declared.program.Program.{Program}
 use Rattle.sj_base.specs.declared.trace.Event.{Event}
 use Rattle.sj_base.specs.Array.{Array}
 use Rattle.sj_core.specs.Legal.{IsComplete}
-use Rattle.sj_core.specs.declared.mark.Mark.TheVariants.{Invalid}
+use Rattle.sj_replica.specs.declared.mark.Mark.TheVariants.{Invalid}
 use Rattle.sj_core.specs.Machine.{CellState, State, cell_state, is_valid, no_replica, opening, replica, replica_in, writes}
 use Rattle.sj_core.proofs.Reading.{no_row}
 use Rattle.sj_core.specs.Needs.{Block}
@@ -24,11 +24,11 @@ use Rattle.sj_disk.specs.Holding.{CountsStay}
 use Rattle.sj_edge.specs.Held.{GivesHeld}
 use Rattle.sj_disk.specs.declared.directory.Extent.{Extent}
 use Rattle.sj_edge.proofs.GivenBackLemmas.{all_given_back-untouched, all_untouched-same}
-use Rattle.sj_machine.specs.Cause.{HasCause}
-use Rattle.sj_machine.specs.Sound.{HoldsArray, IsBlock, block_of}
-use Rattle.sj_machine.specs.Standing.{AllTell, run_arrays, state}
-use Rattle.sj_machine.specs.declared.fault.RunFault.{RunFault}
-use Rattle.sj_machine.specs.declared.fault.RunFault.TheVariants.{Damaged, DiskFault, OutOfMemory}
+use Rattle.sj_board.specs.Cause.{HasCause}
+use Rattle.sj_board.specs.Sound.{HoldsArray, IsBlock, block_of}
+use Rattle.sj_board.specs.Standing.{AllTell, run_arrays, state}
+use Rattle.sj_board.specs.declared.fault.RunFault.{RunFault}
+use Rattle.sj_board.specs.declared.fault.RunFault.TheVariants.{Damaged, DiskFault, OutOfMemory}
 use Rattle.sj_board.specs.Board.{BoardState}
 use Rattle.sj_board.specs.BoardSound.{IsSoundBoard}
 use Rattle.sj_board.specs.Delivered.{DeliversEach}

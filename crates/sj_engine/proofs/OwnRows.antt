@@ -7,7 +7,7 @@ use Rattle.sj_core.specs.declared.progress.Progress.{Progress}
 use Rattle.sj_core.specs.declared.progress.Progress.TheVariants.{Claimed, Running}
 use Rattle.sj_core.specs.declared.progress.Transfer.{Transfer}
 use Rattle.sj_core.specs.Machine.{is_running_on, progress, transfer, worker_state, idle_row}
-use Rattle.sj_machine.specs.Standing.{state}
+use Rattle.sj_board.specs.Standing.{state}
 use Rattle.sj_board.specs.Board.{BoardState, HasTask, IsBusy, IsFree, IsWorking, RunsNone, empty_hand, hand_of, transfer_of}
 use Rattle.sj_board.specs.declared.hand.Hand.{Hand}
 use Rattle.sj_engine.specs.Stage.{HasClaimedRow, MovesRow, RunsRow, busy_hand, row_in}

@@ -11,7 +11,7 @@ use Rattle.sj_base.specs.declared.trace.Event.TheVariants.{Run}
 use Rattle.sj_base.specs.Mode.{reads_value}
 use Rattle.sj_codelet.specs.Frame.{Frame}
 use Rattle.sj_core.specs.Program.{task_of}
-use Rattle.sj_machine.specs.Standing.{CanHappen}
+use Rattle.sj_board.specs.Standing.{CanHappen}
 use Rattle.sj_board.specs.Board.{BoardState, hand_of}
 use Rattle.sj_board.specs.declared.hand.Hand.{Hand}
 use Rattle.sj_engine.specs.Operands.{HasRoomForOperands}

@@ -16,9 +16,9 @@ use Rattle.sj_core.specs.Program.{dims_of}
 use Rattle.sj_core.specs.Step.{May, a_transfer, after, mover_of}
 use Rattle.sj_core.proofs.Reading.{entry-inside, worker-same}
 use Rattle.sj_core.proofs.Replicas.{coming_by-is, leaving_by-is}
-use Rattle.sj_machine.specs.Sparing.{Spares}
-use Rattle.sj_machine.specs.Standing.{AllTell, CanHappen, IsShareOf, IsTileOf, is_node, state, run_arrays}
-use Rattle.sj_machine.specs.Units.{lent}
+use Rattle.sj_board.specs.Sparing.{Spares}
+use Rattle.sj_board.specs.Standing.{AllTell, CanHappen, IsShareOf, IsTileOf, is_node, state, run_arrays}
+use Rattle.sj_board.specs.DiskUnits.{lent}
 use Rattle.sj_board.specs.Board.{BoardState, hand_of, has_event, transfer_of}
 use Rattle.sj_board.specs.BoardRow.{key_of}
 use Rattle.sj_board.specs.BoardSound.{IsSoundBoard}

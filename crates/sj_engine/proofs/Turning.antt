@@ -25,8 +25,8 @@ use Rattle.sj_disk.specs.Directory.{DiskState}
 use Rattle.sj_disk.specs.Holding.{CountsStay}
 use Rattle.sj_disk.specs.Units.{UnitState}
 use Rattle.sj_pool.specs.Pool.{Pooled}
-use Rattle.sj_machine.specs.Sparing.{SparesUsed, Spares}
-use Rattle.sj_machine.specs.Standing.{CanHappen, Standing, run_arrays, state, with_event}
+use Rattle.sj_board.specs.Sparing.{SparesUsed, Spares}
+use Rattle.sj_board.specs.Standing.{CanHappen, Standing, run_arrays, state, with_event}
 use Rattle.sj_board.specs.Board.{BoardState, HasTakenReleased, empty_hand, hand_in, hand_of, has_taken, released_of}
 use Rattle.sj_board.specs.Released.{released_in}
 use Rattle.sj_board.specs.Units.{unit_at, unit_in_hand}

@@ -17,8 +17,8 @@ use Rattle.sj_disk.specs.Directory.{DiskState, extent_of, last_store}
 use Rattle.sj_disk.specs.Lending.{IsInFor, IsTaken}
 use Rattle.sj_disk.specs.Rack.{is_out}
 use Rattle.sj_disk.specs.Units.{UnitFetches, UnitState, UnitStores, unit_state}
-use Rattle.sj_machine.specs.Standing.{IsFetching, IsMovingOut, IsTileOf, is_node, run_arrays, state}
-use Rattle.sj_machine.specs.Units.{HasBlockOf, HasFetchedMoved, HasItsDiskIn, HasStoredMoved, IsDiskMove, IsUnitOf, lent}
+use Rattle.sj_board.specs.Standing.{IsFetching, IsMovingOut, IsTileOf, is_node, run_arrays, state}
+use Rattle.sj_board.specs.DiskUnits.{HasBlockOf, HasFetchedMoved, HasItsDiskIn, HasStoredMoved, IsDiskMove, IsUnitOf, lent}
 use Rattle.sj_board.specs.Board.{BoardState, GivesUnitBack, IsBusy, empty_hand, hand_of, has_taken, released_of, transfer_of}
 use Rattle.sj_board.specs.BoardRow.{BoardRow, arrays_for, is_event_of, key_of}
 use Rattle.sj_board.specs.BoardSound.{IsSoundBoard}

@@ -6,7 +6,7 @@ use Rattle.sj_base.specs.declared.mode.Policy.TheVariants.{Prio}
 use Rattle.sj_base.specs.declared.trace.Event.{Event}
 use Rattle.sj_base.specs.declared.trace.Event.TheVariants.{Claim, End}
 use Rattle.sj_desk.specs.Seats.{HasRowLeft, SeatFacts}
-use Rattle.sj_machine.specs.Standing.{state, with_event}
+use Rattle.sj_board.specs.Standing.{state, with_event}
 use Rattle.sj_board.specs.Board.{BoardState}
 use Rattle.sj_board.specs.Releasing.{BecomeReady}
 use Rattle.sj_engine.specs.Noted.{has_ready_in, noted_row}

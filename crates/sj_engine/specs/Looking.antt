@@ -3,7 +3,7 @@ use Rattle.std.specs.Prelude.{◌≡◌, ◌<◌, ◌≤◌, ◌⊎◌, ℕ, Lis
 use Rattle.sj_base.specs.declared.ids.Task.{Task}
 use Rattle.sj_base.specs.declared.ids.Worker.{Worker}
 use Rattle.sj_machine.specs.Planning.{IsWhy}
-use Rattle.sj_machine.specs.Standing.{state}
+use Rattle.sj_board.specs.Standing.{state}
 use Rattle.sj_machine.specs.declared.plan.Why.{Why}
 use Rattle.sj_board.specs.Board.{BoardState, room_of}
 use Rattle.sj_board.specs.BoardSound.{times_pooled}

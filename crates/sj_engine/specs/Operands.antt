@@ -11,7 +11,7 @@ use Rattle.sj_base.specs.Mode.{is_written, reads_value}
 use Rattle.sj_codelet.specs.Frame.{Frame, Slot, own, shared}
 use Rattle.sj_core.specs.Operands.{worked_on}
 use Rattle.sj_core.specs.Program.{dims_of, task_of}
-use Rattle.sj_machine.specs.Running.{IsShare}
+use Rattle.sj_board.specs.Shares.{IsShare}
 
 -- the accesses of a task whose old value is read, in order
 abbrev pub read_operands : Program → Task → List Access

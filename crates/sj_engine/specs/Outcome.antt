@@ -12,11 +12,11 @@ use Rattle.sj_core.specs.Machine.{State, is_valid, replica, writes}
 use Rattle.sj_core.specs.Needs.{Block}
 use Rattle.sj_disk.specs.Block.{block}
 use Rattle.sj_edge.specs.Held.{GivesHeld}
-use Rattle.sj_machine.specs.Cause.{HasRisen}
-use Rattle.sj_machine.specs.Headers.{IsLastWritten}
-use Rattle.sj_machine.specs.Sound.{block_of}
-use Rattle.sj_machine.specs.declared.fault.RunFault.{RunFault}
-use Rattle.sj_machine.specs.declared.fault.RunFault.TheVariants.{Damaged, DiskFault, OutOfMemory}
+use Rattle.sj_board.specs.Cause.{HasRisen}
+use Rattle.sj_board.specs.Headers.{IsLastWritten}
+use Rattle.sj_board.specs.Sound.{block_of}
+use Rattle.sj_board.specs.declared.fault.RunFault.{RunFault}
+use Rattle.sj_board.specs.declared.fault.RunFault.TheVariants.{Damaged, DiskFault, OutOfMemory}
 
 -- all disks tell their bytes; the function is the member `held` of their type
 abbrev pub AllDisksTell : {D : Type 0} → (D → Option (List ℕ)) → List D → Type 0

@@ -9,7 +9,7 @@ use Rattle.sj_board.specs.BoardRow.{BoardRow}
 use Rattle.sj_board.specs.Claimable.{IsClaimable}
 use Rattle.sj_board.specs.Releasing.{BecomeReady}
 use Rattle.sj_desk.specs.Seats.{HasRowLeft, SeatFacts}
-use Rattle.sj_machine.specs.Standing.{state, with_event}
+use Rattle.sj_board.specs.Standing.{state, with_event}
 use Rattle.sj_engine.specs.Looking.{CannotClaim}
 use Rattle.sj_engine.specs.Noted.{noted_row}
 use Rattle.sj_engine.specs.Picking.{PickMakes}

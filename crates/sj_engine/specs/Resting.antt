@@ -11,7 +11,7 @@ use Rattle.std.specs.Option.{option_or}
 use Rattle.sj_base.specs.declared.trace.Event.{Event}
 use Rattle.sj_base.specs.declared.trace.Event.TheVariants.{Claim, Drop, End, Move, Moved, Run}
 use Rattle.sj_core.specs.Machine.{is_done}
-use Rattle.sj_machine.specs.Standing.{state}
+use Rattle.sj_board.specs.Standing.{state}
 use Rattle.sj_board.specs.Board.{BoardState}
 use Rattle.sj_pool.specs.Queue.{has_fitting}
 use Rattle.sj_engine.specs.declared.sleepers.Change.{Change}

@@ -10,7 +10,7 @@ use Rattle.sj_core.specs.Legal.{IsFinished, IsLegal}
 use Rattle.sj_desk.specs.Seats.{DeskFacts, SeatFacts}
 use Rattle.sj_disk.specs.Holding.{CountsStay}
 use Rattle.sj_edge.specs.GivenBack.{AreGivenBack}
-use Rattle.sj_machine.specs.declared.fault.RunFault.{RunFault}
+use Rattle.sj_board.specs.declared.fault.RunFault.{RunFault}
 use Rattle.sj_board.specs.Board.{BoardState, HasTakenReleased}
 use Rattle.sj_board.specs.BoardRow.{BoardRow}
 use Rattle.sj_board.specs.Delivered.{DeliversEach}

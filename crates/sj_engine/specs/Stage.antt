@@ -16,7 +16,7 @@ use Rattle.sj_core.specs.declared.progress.Transfer.{Transfer}
 use Rattle.sj_core.specs.Operands.{cells_of, results}
 use Rattle.sj_core.specs.Program.{dims_of, task_of, written_operands}
 use Rattle.sj_desk.specs.Seats.{DeskFacts, IsWaiting, SeatFacts}
-use Rattle.sj_machine.specs.Running.{IsShare}
+use Rattle.sj_board.specs.Shares.{IsShare}
 use Rattle.sj_board.specs.Board.{BoardState, empty_hand}
 use Rattle.sj_board.specs.BoardRow.{BoardKey, BoardRow, row_of_number}
 use Rattle.sj_engine.specs.Operands.{AreSharesOf, HasRoomForOperands, held_for, read_operands}

@@ -13,7 +13,7 @@ use Rattle.sj_disk.specs.Units.{UnitState}
 use Rattle.sj_base.specs.declared.trace.Event.TheVariants.{Drop, Move, Run}
 use Rattle.sj_core.specs.declared.progress.Transfer.{Transfer}
 use Rattle.sj_core.specs.Needs.{node_of}
-use Rattle.sj_machine.specs.Standing.{is_node}
+use Rattle.sj_board.specs.Standing.{is_node}
 use Rattle.sj_board.specs.Board.{BoardState}
 use Rattle.sj_board.specs.BoardRow.{BoardKey, BoardRow}
 use Rattle.sj_engine.specs.declared.sleepers.Change.{Change}

@@ -27,7 +27,7 @@ use sj_codelet::set::Codelets;
 use sj_desk::Desk;
 use sj_edge::disk::Disk;
 use sj_edge::gate::Gate;
-use sj_machine::fault::RunFault;
+use sj_board::fault::RunFault;
 use std::alloc::Global;
 use std::sync::{Arc, Wait};
 use std::thread::Threads;

@@ -13,7 +13,7 @@ ghost use Rattle.sj_core.specs.Operands.{results};
 ghost use Rattle.sj_core.specs.Program.{task_of, written_operands};
 ghost use Rattle.sj_core.specs.Proper.{Proper};
 ghost use Rattle.sj_engine.specs.Operands.{AreSharesOf, HasRoomForOperands, held_for, read_operands};
-ghost use Rattle.sj_machine.specs.Running.{IsShare};
+ghost use Rattle.sj_board.specs.Shares.{IsShare};
 
 use crate::operands::operands;
 use crate::results::shares;

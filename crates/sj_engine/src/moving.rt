@@ -3,9 +3,9 @@
 ghost use Rattle.std.specs.Prelude.{◌≡◌, IfSome, IsTrue, MatchBool, false, is_some, true};
 ghost use Rattle.sj_base.specs.declared.trace.Event.TheVariants.{Moved};
 ghost use Rattle.sj_base.specs.Array.{Array};
-ghost use Rattle.sj_machine.specs.Cause.{HasCause};
-ghost use Rattle.sj_machine.specs.Tiles.{array_in};
-ghost use Rattle.sj_machine.specs.Standing.{is_node};
+ghost use Rattle.sj_board.specs.Cause.{HasCause};
+ghost use Rattle.sj_board.specs.Tiles.{array_in};
+ghost use Rattle.sj_board.specs.Standing.{is_node};
 ghost use Rattle.sj_board.specs.Board.{BoardState};
 ghost use Rattle.sj_board.specs.BoardRow.{key_of};
 ghost use Rattle.sj_engine.specs.Stage.{HasClaimedRow, HoldsRow, IsCarried, IsFetchedThrough, IsFreeRow, IsStoredThrough, MovesRow, row_in};
@@ -18,7 +18,7 @@ use sj_core::progress::Transfer;
 use sj_disk::refusal::DiskRefusal;
 use sj_disk::unit::Unit;
 use sj_edge::disk::Disk;
-use sj_machine::fault::RunFault;
+use sj_board::fault::RunFault;
 use std::sync::Arc;
 
 impl<D: Disk> SharedBoard<D> {

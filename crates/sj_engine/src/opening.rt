@@ -5,12 +5,12 @@ ghost use Rattle.sj_core.specs.Laws.{IsLawful};
 ghost use Rattle.sj_core.specs.Needs.{AreFootprints};
 ghost use Rattle.sj_core.specs.Proper.{HasSwapFor, IsMachineFor, Proper};
 ghost use Rattle.sj_engine.specs.Run.{IsOpened};
-ghost use Rattle.sj_machine.specs.Sound.{IsRunnableOn};
+ghost use Rattle.sj_board.specs.Sound.{IsRunnableOn};
 
 use sj_base::program::{Machine, Program};
 use sj_board::board::Board;
 use sj_edge::disk::Disk;
-use sj_machine::placing::placed;
+use sj_board::placing::placed;
 use std::alloc::Global;
 use std::sync::Arc;
 

@@ -7,7 +7,7 @@ use sj_base::ids::Task;
 use sj_base::memory::OutOfMemory;
 use sj_base::tile::{Dims, Tile};
 use sj_codelet::frame::Frame;
-use sj_machine::spent::Spent;
+use sj_board::spent::Spent;
 use std::alloc::Global;
 use std::marker::Model;
 use std::mem;

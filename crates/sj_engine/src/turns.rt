@@ -2,8 +2,8 @@
 
 ghost use Rattle.std.specs.Prelude.{[], ◌≡◌, ◌≢◌, ◌+◌, ◌-◌, ◌^◌, min, ◌≤◌, IfSome, IsSomeAnd, IsTrue, MatchBool, MatchOption, None, Some, false, is_some, true};
 ghost use Rattle.sj_base.specs.Array.{Array};
-ghost use Rattle.sj_machine.specs.Tiles.{array_in};
-ghost use Rattle.sj_machine.specs.Standing.{is_node};
+ghost use Rattle.sj_board.specs.Tiles.{array_in};
+ghost use Rattle.sj_board.specs.Standing.{is_node};
 ghost use Rattle.sj_desk.specs.Seats.{rung};
 ghost use Rattle.sj_engine.specs.Bell.{HasHeardBell, HasRung, IsChange, MindsBell, is_claimed, noted_after, noted_for_rest, wakes_after, wakes_for_rest};
 ghost use Rattle.sj_engine.specs.Picking.{AfterPick, finds_nothing, finds_task};

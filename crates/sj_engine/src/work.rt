@@ -2,7 +2,7 @@
 
 ghost use Rattle.std.specs.Prelude.{◌≡◌, ◌≢◌, ◌<◌, ◌⊎◌, if◌then◌else◌, MatchBool, false, is_some, length, true};
 ghost use Rattle.sj_core.specs.Laws.{IsLawful};
-ghost use Rattle.sj_machine.specs.Standing.{is_node};
+ghost use Rattle.sj_board.specs.Standing.{is_node};
 ghost use Rattle.sj_engine.specs.Member.{HasHeard, IsRowAt};
 ghost use Rattle.sj_base.specs.declared.mode.Policy.TheVariants.{Prio};
 ghost use Rattle.sj_engine.specs.Queued.{LeavesFault, PutsReleased};
@@ -29,7 +29,7 @@ use sj_core::progress::Transfer;
 use sj_disk::unit::Unit;
 use sj_edge::disk::Disk;
 use sj_edge::gate::Gate;
-use sj_machine::run_state::measured;
+use sj_board::run_state::measured;
 use std::mem;
 use std::sync::{Arc, Wait};
 

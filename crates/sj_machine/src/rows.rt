@@ -308,6 +308,13 @@ impl Rows {
         self.tasks[t.0 as usize] = Progress::Done(w);
     }
 
+    /// Ends the run, and gives its program back. Constant time.
+    pub fn into_program(self) -> Arc<Program>
+        ensures { result.value ≡ self.program }
+    {
+        self.program
+    }
+
     /// No code: its contract is what is true of all rows.
     pub fn is_sound(&self)
         ensures { AreSound self.now }

@@ -25,7 +25,7 @@ use Rattle.sj_core.specs.Proper.{Proper}
 use Rattle.sj_core.proofs.Folding.{map-same}
 use Rattle.sj_core.proofs.Readiness.{Contains-from_filter}
 use Rattle.sj_core.proofs.Sized.{after_chosen-sized}
-use Rattle.sj_machine.specs.Delivery.{delivered_cell, is_deliver_task, is_delivery}
+use Rattle.sj_board.specs.Delivery.{delivered_cell, is_deliver_task, is_delivery}
 use Rattle.sj_board.specs.Delivered.{DeliversEach, times_delivered}
 use Rattle.sj_meaning.specs.Table.{Table, info_of, name_of}
 use Rattle.sj_lower.specs.Delivering.{NamesDeliverTasks, deliveries_for}

@@ -13,9 +13,9 @@ use Rattle.sj_edge.specs.Faults.{Rose}
 use Rattle.sj_edge.specs.GivenBack.{AreGivenBack}
 use Rattle.sj_edge.proofs.GivenBackLemmas.{all_given_back-untouched, all_untouched-same}
 use Rattle.sj_engine.specs.Outcome.{AllDisksTell, IsCausedBy}
-use Rattle.sj_machine.specs.Cause.{HasRisen}
-use Rattle.sj_machine.specs.declared.fault.RunFault.{RunFault}
-use Rattle.sj_machine.specs.declared.fault.RunFault.TheVariants as running
+use Rattle.sj_board.specs.Cause.{HasRisen}
+use Rattle.sj_board.specs.declared.fault.RunFault.{RunFault}
+use Rattle.sj_board.specs.declared.fault.RunFault.TheVariants as running
 use Rattle.sj_needs.specs.declared.shortage.Shortage.TheVariants as fitting
 use Rattle.sj_ready.specs.declared.unready.Unready.{Unready}
 use Rattle.sj_ready.specs.declared.unready.Unready.TheVariants as preparing

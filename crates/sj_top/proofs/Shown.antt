@@ -12,7 +12,7 @@ use Rattle.sj_core.specs.Once.{EachRanOnce}
 use Rattle.sj_meaning.specs.Meaning.{printed}
 use Rattle.sj_lower.specs.Delivering.{deliveries_for}
 use Rattle.sj_engine.specs.Outcome.{WantsLastWritten}
-use Rattle.sj_machine.specs.declared.fault.RunFault.{RunFault}
+use Rattle.sj_board.specs.declared.fault.RunFault.{RunFault}
 use Rattle.sj_board.specs.Delivered.{DeliversEach}
 use Rattle.sj_trace.specs.Text.{text_of as text_of_trace}
 use Rattle.sj_ready.specs.declared.ready.ReadyJob.{ReadyJob}

@@ -10,9 +10,9 @@ use Rattle.sj_meaning.specs.Job.{Job}
 use Rattle.sj_job.specs.Reading.{Refusal}
 use Rattle.sj_lower.specs.Limits.{late_limit}
 use Rattle.sj_core.specs.Legal.{state_of}
-use Rattle.sj_machine.specs.Headers.{IsLastWritten}
-use Rattle.sj_machine.specs.declared.fault.RunFault.{RunFault}
-use Rattle.sj_machine.specs.declared.fault.RunFault.TheVariants as running
+use Rattle.sj_board.specs.Headers.{IsLastWritten}
+use Rattle.sj_board.specs.declared.fault.RunFault.{RunFault}
+use Rattle.sj_board.specs.declared.fault.RunFault.TheVariants as running
 use Rattle.sj_needs.specs.Shortage.{IsSwapTooSmall, IsTooLarge}
 use Rattle.sj_needs.specs.declared.shortage.Shortage.TheVariants as fitting
 use Rattle.sj_ready.specs.Work.{HasRoom, Work, WorkOrRefusal, asked_by, lowerable, program_of, said_by}

@@ -10,7 +10,7 @@ use Rattle.sj_edge.specs.declared.disk.Disk.{Ghosts as DiskOf}
 use Rattle.sj_edge.specs.GivenBack.{AreGivenBack, AreUntouched}
 use Rattle.sj_engine.specs.Outcome.{AllDisksTell, HoldBlocks}
 use Rattle.sj_job.specs.declared.reason.Reason.{Reason}
-use Rattle.sj_machine.specs.Headers.{IsLastWritten}
+use Rattle.sj_board.specs.Headers.{IsLastWritten}
 use Rattle.sj_core.specs.Legal.{state_of}
 use Rattle.sj_meaning.specs.Meaning.{printed}
 use Rattle.sj_needs.specs.Shortage.{IsSwapTooSmall, IsTooLarge}

@@ -4,7 +4,7 @@ ghost use Rattle.std.specs.Prelude.{◌≡◌};
 ghost use Rattle.sj_top.specs.Answers.{status_of_fault, status_of_shortage, status_of_stop, status_of_unready};
 
 use crate::status::Status;
-use sj_machine::fault::RunFault;
+use sj_board::fault::RunFault;
 use sj_needs::shortage::Shortage;
 use sj_ready::unready::Unready;
 

@@ -4,7 +4,7 @@ ghost use Rattle.std.specs.Prelude.{◌≡◌, ◌↔◌, ◌<◌, IsTrue, lengt
 ghost use Rattle.sj_core.specs.Needs.{node_of};
 ghost use Rattle.sj_core.specs.Step.{to_come};
 ghost use Rattle.sj_core.specs.declared.progress.Progress.TheVariants.{Waiting};
-ghost use Rattle.sj_machine.specs.Standing.{state};
+ghost use Rattle.sj_board.specs.Standing.{state};
 ghost use Rattle.sj_board.specs.Claimable.{FitsNode, IsClaimable, MayBegin, TellsOf};
 
 use super::Board;

@@ -3,11 +3,11 @@
 ghost use Rattle.std.specs.Prelude.{◌≡◌, ◌<◌, IfErr, None, OnOk, Some, length};
 ghost use Rattle.std.specs.List.{slice_set};
 ghost use Rattle.sj_base.specs.Array.{Array};
-ghost use Rattle.sj_machine.specs.Cause.{HasCause};
-ghost use Rattle.sj_machine.specs.Counts.{AreCounted, fault_of};
-ghost use Rattle.sj_machine.specs.Sound.{IsWrittenOut};
-ghost use Rattle.sj_machine.specs.Standing.{IsFetching, IsMovingOut, IsTileMoved};
-ghost use Rattle.sj_machine.specs.Units.{HasBlockOf, HasFetchedMoved, HasItsDiskIn, HasStoredMoved, IsDiskMove, IsUnitOf};
+ghost use Rattle.sj_board.specs.Cause.{HasCause};
+ghost use Rattle.sj_board.specs.Counts.{AreCounted, fault_of};
+ghost use Rattle.sj_board.specs.Sound.{IsWrittenOut};
+ghost use Rattle.sj_board.specs.Standing.{IsFetching, IsMovingOut, IsTileMoved};
+ghost use Rattle.sj_board.specs.DiskUnits.{HasBlockOf, HasFetchedMoved, HasItsDiskIn, HasStoredMoved, IsDiskMove, IsUnitOf};
 ghost use Rattle.sj_board.specs.Board.{GivesUnitBack, IsBusy, hand_in, hand_of, has_taken};
 ghost use Rattle.sj_board.specs.Units.{OthersKeepUnits};
 

@@ -2,7 +2,7 @@ use Rattle.std.proofs.Common.{refl, subst, sym}
 use Rattle.sj_base.specs.declared.program.Program.{Program}
 use Rattle.sj_core.specs.Needs.{AreFootprints}
 use Rattle.sj_meaning.specs.View.{statements_of}
-use Rattle.sj_machine.specs.Sound.{IsRunnableOn}
+use Rattle.sj_board.specs.Sound.{IsRunnableOn}
 use Rattle.board_tests.proofs.Boards.{run-of}
 use Rattle.board_tests.proofs.opening.parts_of.Goals as goal
 

@@ -2,8 +2,8 @@ use Rattle.std.proofs.Common.{◌<◌, List, arith, length, refl, subst, slice_i
 use Rattle.sj_base.specs.declared.program.CellInfo.{CellInfo}
 use Rattle.sj_base.specs.Array.{area}
 use Rattle.sj_core.specs.Program.{no_cell}
-use Rattle.sj_machine.specs.Placing.{ReservesSome}
-use Rattle.sj_machine.proofs.FirstFit.{placing-begins, placing-ends, placing-goes-on}
+use Rattle.sj_board.specs.Placing.{ReservesSome}
+use Rattle.sj_board.proofs.FirstFit.{placing-begins, placing-ends, placing-goes-on}
 use Rattle.board_tests.proofs.opening.place_cells.Goals as goal
 
 pub loop-i-init : goal.loop-i-init

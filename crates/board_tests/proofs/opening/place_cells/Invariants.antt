@@ -1,4 +1,4 @@
-use Rattle.sj_machine.proofs.FirstFit.{IsPlacing}
+use Rattle.sj_board.proofs.FirstFit.{IsPlacing}
 use Rattle.board_tests.proofs.opening.place_cells.Given as goal
 
 abbrev pub invariant-loop-i : goal.invariant-loop-i

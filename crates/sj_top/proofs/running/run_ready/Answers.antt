@@ -2,7 +2,7 @@ use Rattle.std.proofs.Common.{ℕ, ap, refl, subst, sym, arith, Result, IfErr, I
 use Rattle.sj_base.specs.declared.program.Program.{Program}
 use Rattle.sj_core.specs.Legal.{IsFinished, IsLegal}
 use Rattle.sj_engine.specs.Outcome.{AllDisksTell, IsCausedBy, WantsLastWritten}
-use Rattle.sj_machine.specs.declared.fault.RunFault.{RunFault}
+use Rattle.sj_board.specs.declared.fault.RunFault.{RunFault}
 use Rattle.sj_board.specs.Delivered.{DeliversEach}
 use Rattle.sj_top.specs.declared.stop.Stop.{Stop}
 use Rattle.sj_top.specs.Answers.{RunsWork}

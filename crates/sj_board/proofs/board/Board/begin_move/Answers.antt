@@ -1,7 +1,7 @@
 use Rattle.std.proofs.Common.{◌≡◌, None, refl, subst, sym}
 use Rattle.sj_base.specs.declared.trace.Event.TheVariants.{Move}
-use Rattle.sj_machine.specs.Standing.{CanHappen, with_event}
-use Rattle.sj_machine.specs.Sparing.{Spares}
+use Rattle.sj_board.specs.Standing.{CanHappen, with_event}
+use Rattle.sj_board.specs.Sparing.{Spares}
 use Rattle.sj_board.proofs.BoardEnds.{stays-tried}
 use Rattle.sj_board.proofs.Boarding.{keeps-tried}
 use Rattle.sj_board.proofs.LastHeaders.{none-caused}

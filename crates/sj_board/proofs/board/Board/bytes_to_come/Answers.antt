@@ -1,7 +1,7 @@
 use Rattle.std.proofs.Common.{◌∙◌, ap}
 use Rattle.sj_core.specs.Needs.{node_of}
 use Rattle.sj_core.specs.Step.{to_come}
-use Rattle.sj_machine.specs.Standing.{state}
+use Rattle.sj_board.specs.Standing.{state}
 use Rattle.sj_board.specs.Board.{BoardState}
 use Rattle.sj_board.proofs.board.Board.bytes_to_come.Goals as goal
 

@@ -4,7 +4,7 @@ use Rattle.sj_base.specs.declared.trace.Event.TheVariants.{Claim}
 use Rattle.sj_machine.specs.Gone.{KnownGone}
 use Rattle.sj_machine.specs.Plan.{ClaimPlan}
 use Rattle.sj_machine.specs.Planning.{AnotherHasTask, IsWhy}
-use Rattle.sj_machine.specs.Standing.{CanHappen, state}
+use Rattle.sj_board.specs.Standing.{CanHappen, state}
 use Rattle.sj_machine.specs.declared.plan.Why.{Why}
 use Rattle.sj_board.specs.Board.{BoardState, IsIdle}
 use Rattle.sj_board.specs.Claimable.{MayAsk}

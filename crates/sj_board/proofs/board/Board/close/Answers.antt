@@ -1,6 +1,6 @@
 use Rattle.std.proofs.Common.{subst, sym}
 use Rattle.sj_core.specs.Legal.{IsComplete}
-use Rattle.sj_machine.specs.Standing.{AllTell, state}
+use Rattle.sj_board.specs.Standing.{AllTell, state}
 use Rattle.sj_board.specs.Board.{BoardState}
 use Rattle.sj_board.specs.Delivered.{DeliversEach}
 use Rattle.sj_board.proofs.BoardEnds.{closes}

@@ -1,6 +1,6 @@
 use Rattle.std.proofs.Common.{ap, arith, length, refl, subst, sym, ◌<◌, ◌∙◌}
-use Rattle.sj_machine.specs.Standing.{CanHappen, with_event}
-use Rattle.sj_machine.specs.Sparing.{Spares}
+use Rattle.sj_board.specs.Standing.{CanHappen, with_event}
+use Rattle.sj_board.specs.Sparing.{Spares}
 use Rattle.sj_board.proofs.BoardEnds.{stays}
 use Rattle.sj_board.proofs.Boarding.{keeps-run}
 use Rattle.sj_board.proofs.LastHeaders.{dropped-cause}

@@ -1,7 +1,7 @@
 use Rattle.std.proofs.Common.{refl, ◌∙◌, ap, subst, sym}
 use Rattle.sj_base.specs.declared.trace.Event.TheVariants.{End}
-use Rattle.sj_machine.specs.Standing.{CanHappen, Standing}
-use Rattle.sj_machine.specs.Sparing.{Spares}
+use Rattle.sj_board.specs.Standing.{CanHappen, Standing}
+use Rattle.sj_board.specs.Sparing.{Spares}
 use Rattle.sj_board.specs.Board.{BoardState, HasTakenReleased, HasTask}
 use Rattle.sj_board.specs.Delivered.{gift_in}
 use Rattle.sj_board.proofs.BoardEnds.{ends, ends-gift, ends-has_room, ends-some, ends-staffed}

@@ -1,6 +1,6 @@
 use Rattle.std.proofs.Common.{subst, sym, true, ◌≡◌}
-use Rattle.sj_machine.specs.Standing.{IsMovingIn, is_node}
-use Rattle.sj_machine.specs.Sparing.{SparesMoved}
+use Rattle.sj_board.specs.Standing.{IsMovingIn, is_node}
+use Rattle.sj_board.specs.Sparing.{SparesMoved}
 use Rattle.sj_board.specs.Board.{BoardState}
 use Rattle.sj_board.proofs.BoardEnds.{stays-moved}
 use Rattle.sj_board.proofs.Boarding.{keeps-moved}

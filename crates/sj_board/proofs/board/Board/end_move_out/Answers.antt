@@ -1,6 +1,6 @@
 use Rattle.std.proofs.Common.{false, subst, sym, ◌≡◌}
-use Rattle.sj_machine.specs.Standing.{IsMovingOut, is_node}
-use Rattle.sj_machine.specs.Sparing.{SparesMoved}
+use Rattle.sj_board.specs.Standing.{IsMovingOut, is_node}
+use Rattle.sj_board.specs.Sparing.{SparesMoved}
 use Rattle.sj_board.specs.Board.{BoardState}
 use Rattle.sj_board.proofs.BoardEnds.{stays-moved}
 use Rattle.sj_board.proofs.Boarding.{keeps-moved}

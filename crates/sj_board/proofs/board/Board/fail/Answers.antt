@@ -1,5 +1,5 @@
 use Rattle.std.proofs.Common.{refl, subst, sym}
-use Rattle.sj_machine.specs.Cause.{HasCause}
+use Rattle.sj_board.specs.Cause.{HasCause}
 use Rattle.sj_board.specs.Board.{BoardState, IsWorking}
 use Rattle.sj_board.proofs.Failing.{failed-left}
 use Rattle.sj_board.proofs.UnitHands.{units-set}

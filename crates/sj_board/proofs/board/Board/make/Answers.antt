@@ -1,6 +1,6 @@
 use Rattle.std.proofs.Common.{◌<◌, ap, arith, length, rules, subst, sym}
 use Rattle.sj_base.specs.declared.program.Program.{Program}
-use Rattle.sj_machine.specs.Standing.{Standing}
+use Rattle.sj_board.specs.Standing.{Standing}
 use Rattle.sj_board.specs.Delivered.{Deliveries}
 use Rattle.sj_board.specs.Preparing.{IsPrepared, IsReadyToDeliver}
 use Rattle.sj_board.proofs.BoardEnds.{opens-run}

@@ -1,6 +1,6 @@
 use Rattle.std.proofs.Common.{◌≡◌, ◌⊎◌, None, subst, sym}
-use Rattle.sj_machine.specs.Standing.{state}
-use Rattle.sj_machine.specs.Todo.{AnotherGoesOn}
+use Rattle.sj_board.specs.Standing.{state}
+use Rattle.sj_board.specs.NextStep.{AnotherGoesOn}
 use Rattle.sj_board.specs.Board.{BoardState, board_state, IsWorking, RunsNone, hand_of, transfer_of}
 use Rattle.sj_board.specs.Todo.{CanBegin, HasDiskIn, IsCounted, IsMoverOf, IsTodoOf}
 use Rattle.sj_board.specs.Units.{AnotherHasUnit}

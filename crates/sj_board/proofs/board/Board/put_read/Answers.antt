@@ -1,8 +1,8 @@
 use Rattle.std.proofs.Common.{◌≡◌, ◌<◌, Some, arith, length, subst, sym}
-use Rattle.sj_machine.specs.Standing.{IsFetching, IsTileMoved}
+use Rattle.sj_board.specs.Standing.{IsFetching, IsTileMoved}
 use Rattle.std.specs.Prelude.{OnOk}
 use Rattle.sj_base.specs.Array.{Array}
-use Rattle.sj_machine.specs.Units.{HasFetchedMoved}
+use Rattle.sj_board.specs.DiskUnits.{HasFetchedMoved}
 use Rattle.sj_board.specs.Board.{BoardState, IsBusy, hand_of}
 use Rattle.sj_board.proofs.BoardEnds.{stays-stored}
 use Rattle.sj_board.proofs.StillGone.{knows-stored}

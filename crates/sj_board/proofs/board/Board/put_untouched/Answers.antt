@@ -1,6 +1,6 @@
 use Rattle.std.proofs.Common.{◌≡◌, ◌∙◌, ◌<◌, Some, ap, arith, length, refl, subst, sym}
-use Rattle.sj_machine.specs.Standing.{Standing}
-use Rattle.sj_machine.specs.Units.{IsUnitOf}
+use Rattle.sj_board.specs.Standing.{Standing}
+use Rattle.sj_board.specs.DiskUnits.{IsUnitOf}
 use Rattle.sj_board.specs.Board.{BoardState, IsBusy, hand_of}
 use Rattle.sj_board.proofs.BoardEnds.{stays-stored}
 use Rattle.sj_board.proofs.StillGone.{knows-stored}

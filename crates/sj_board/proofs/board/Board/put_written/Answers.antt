@@ -1,6 +1,6 @@
 use Rattle.std.proofs.Common.{◌≡◌, ◌<◌, Some, arith, length, subst, sym}
-use Rattle.sj_machine.specs.Standing.{IsMovingOut}
-use Rattle.sj_machine.specs.Units.{HasStoredMoved}
+use Rattle.sj_board.specs.Standing.{IsMovingOut}
+use Rattle.sj_board.specs.DiskUnits.{HasStoredMoved}
 use Rattle.sj_board.specs.Board.{BoardState, IsBusy, hand_of}
 use Rattle.sj_board.proofs.BoardEnds.{stays-stored}
 use Rattle.sj_board.proofs.StillGone.{knows-stored}

@@ -1,7 +1,7 @@
 use Rattle.std.proofs.Common.{◌≡◌, ◌<◌, None, ap, arith, length, subst, sym}
 use Rattle.sj_base.specs.declared.trace.Event.TheVariants.{Run}
-use Rattle.sj_machine.specs.Standing.{CanHappen, Standing}
-use Rattle.sj_machine.specs.Tiles.{array_in}
+use Rattle.sj_board.specs.Standing.{CanHappen, Standing}
+use Rattle.sj_board.specs.Tiles.{array_in}
 use Rattle.sj_board.specs.Board.{BoardState, HasTask, board_state}
 use Rattle.sj_board.specs.BoardSound.{IsKept}
 use Rattle.sj_board.proofs.BoardEnds.{begins}

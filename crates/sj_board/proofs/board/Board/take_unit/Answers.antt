@@ -1,7 +1,7 @@
 use Rattle.std.proofs.Common.{◌≡◌, ◌∙◌, ◌<◌, None, Some, ap, arith, length, subst, sym}
 use Rattle.sj_base.specs.declared.ids.Cell.{Cell}
-use Rattle.sj_machine.specs.Standing.{Standing}
-use Rattle.sj_machine.specs.Units.{HasBlockOf}
+use Rattle.sj_board.specs.Standing.{Standing}
+use Rattle.sj_board.specs.DiskUnits.{HasBlockOf}
 use Rattle.sj_board.specs.Board.{BoardState, IsBusy, hand_in, hand_of, has_taken}
 use Rattle.std.specs.List.{slice_set}
 use Rattle.sj_board.proofs.BoardEnds.{stays-stored}

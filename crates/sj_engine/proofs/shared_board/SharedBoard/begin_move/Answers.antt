@@ -1,6 +1,6 @@
 use Rattle.std.proofs.Common.{◌∙◌, ap}
 use Rattle.sj_base.specs.declared.trace.Event.TheVariants.{Move}
-use Rattle.sj_machine.specs.Tiles.{array_in}
+use Rattle.sj_board.specs.Tiles.{array_in}
 use Rattle.sj_board.specs.Board.{BoardState}
 use Rattle.sj_engine.proofs.BoardTurns.{happened}
 use Rattle.sj_engine.proofs.StepTurns.{move-counts, move-lent, move-row, move-share, move-turn}

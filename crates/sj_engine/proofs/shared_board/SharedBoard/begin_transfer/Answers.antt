@@ -1,8 +1,8 @@
 use Rattle.std.proofs.Common.{◌∙◌, ap, subst, sym, Some, ℕ}
 use Rattle.sj_base.specs.declared.ids.Place.{Place}
 use Rattle.sj_base.specs.declared.ids.Place.TheVariants.{Node as AtNode}
-use Rattle.sj_machine.specs.Standing.{is_node}
-use Rattle.sj_machine.specs.Tiles.{array_in}
+use Rattle.sj_board.specs.Standing.{is_node}
+use Rattle.sj_board.specs.Tiles.{array_in}
 use Rattle.sj_board.specs.BoardRow.{key_of}
 use Rattle.sj_engine.specs.Stage.{row_in}
 use Rattle.sj_engine.specs.Stepping.{IsShareCarried}

@@ -1,6 +1,6 @@
 use Rattle.std.proofs.Common.{◌∙◌, ap, subst}
 use Rattle.sj_machine.specs.Planning.{IsWhy}
-use Rattle.sj_machine.specs.Standing.{state}
+use Rattle.sj_board.specs.Standing.{state}
 use Rattle.sj_board.specs.Board.{BoardState}
 use Rattle.sj_board.specs.Refusal.{IsRefusal}
 use Rattle.sj_base.specs.declared.trace.Event.TheVariants.{Claim}

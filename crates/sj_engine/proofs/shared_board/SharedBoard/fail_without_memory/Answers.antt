@@ -1,5 +1,5 @@
 use Rattle.std.proofs.Common.{◌∙◌}
-use Rattle.sj_machine.specs.declared.fault.RunFault.TheVariants.{OutOfMemory}
+use Rattle.sj_board.specs.declared.fault.RunFault.TheVariants.{OutOfMemory}
 use Rattle.sj_engine.proofs.BoardTurns.{failed-row, failed-turn}
 use Rattle.std.proofs.Common.{ap}
 use Rattle.sj_board.specs.Board.{BoardState}

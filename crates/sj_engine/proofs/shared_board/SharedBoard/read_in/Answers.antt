@@ -2,9 +2,9 @@ use Rattle.std.proofs.Common.{◌∙◌, ◌++◌, ◌∷◌, [], List, ap, sym,
 use Rattle.sj_base.specs.declared.trace.Event.{Event}
 use Rattle.sj_base.specs.declared.trace.Event.TheVariants.{Moved}
 use Rattle.std.specs.Prelude.{IfSome}
-use Rattle.sj_machine.specs.Standing.{IsTileMoved}
-use Rattle.sj_machine.specs.Tiles.{array_in}
-use Rattle.sj_machine.specs.Units.{HasFetchedMoved}
+use Rattle.sj_board.specs.Standing.{IsTileMoved}
+use Rattle.sj_board.specs.Tiles.{array_in}
+use Rattle.sj_board.specs.DiskUnits.{HasFetchedMoved}
 use Rattle.sj_board.specs.BoardRow.{key_of}
 use Rattle.sj_engine.specs.Stage.{IsFetchedThrough, row_in}
 use Rattle.sj_engine.proofs.BoardTurns.{moved-event, moved-row, moved-turn, moving-in}

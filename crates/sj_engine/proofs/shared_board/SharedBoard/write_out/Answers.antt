@@ -1,7 +1,7 @@
 use Rattle.std.proofs.Common.{◌∙◌, ◌++◌, ◌∷◌, [], List, ap, sym, subst}
 use Rattle.sj_base.specs.declared.trace.Event.{Event}
 use Rattle.sj_base.specs.declared.trace.Event.TheVariants.{Moved}
-use Rattle.sj_machine.specs.Sound.{IsWrittenOut}
+use Rattle.sj_board.specs.Sound.{IsWrittenOut}
 use Rattle.sj_engine.proofs.BoardTurns.{moved-event, moved-row, moved-turn, moving-out}
 use Rattle.sj_engine.proofs.MoveTurns.{counts-found}
 use Rattle.sj_engine.proofs.Turning.{put-turn, turn-then}

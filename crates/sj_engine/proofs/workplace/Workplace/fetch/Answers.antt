@@ -5,7 +5,7 @@ use Rattle.std.specs.declared.sync.Arc.{Arc}
 use Rattle.sj_base.specs.Array.{Array}
 use Rattle.sj_base.specs.declared.program.Program.{Program}
 use Rattle.sj_core.specs.Program.{dims_of}
-use Rattle.sj_machine.specs.Tiles.{array_in}
+use Rattle.sj_board.specs.Tiles.{array_in}
 use Rattle.sj_engine.specs.Stage.{IsFetchedThrough}
 use Rattle.sj_engine.specs.Stepping.{IsUnitFor}
 use Rattle.sj_engine.specs.Workplace.{board_key}
