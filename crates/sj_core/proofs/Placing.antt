@@ -1,73 +1,64 @@
--- What the accessors of a state give after one replica, or one worker's transfer, was written.
+-- What the accessors of a state give after one row, one mark, or one worker's transfer was written.
 use Rattle.std.proofs.Common.{Bool, List, None, Option, Some, ap, arith, false, get_or, inl, inr, length, map, subst}
-use Rattle.std.proofs.Common.{sym, true, ℕ, ◌<◌, ◌||◌, ◌∙◌, ◌≡◌, ◌≢◌, ◌⊎◌, All, position}
+use Rattle.std.proofs.Common.{sym, true, ℕ, ◌<◌, ◌||◌, ◌∙◌, ◌≡◌, ◌≢◌, ◌⊎◌, All, position, refl, nat_eq, not, if◌then◌else◌}
 use Rattle.sj_core.proofs.Words.{AtNode, Cell, CellState, DiskNo, Invalid, Machine, Node, OnDisk, Place, Program, has_copy}
 use Rattle.sj_core.proofs.Words.{Mark, State, Transfer, Valid, Worker, WorkerState, cell_state, has_room}
 use Rattle.sj_core.proofs.Words.{is_leaving_by, is_valid, pins, mark, mark_in, scratch, transfer, victims_of}
-use Rattle.sj_core.proofs.Words.{with_row, with_mark, with_transfer, worker_state, writes}
-use Rattle.std.proofs.lemmas.Bool.{cases_eq, cases_lt, false_from_ne_true, false≢true, ltb-false, not-true, or_right}
+use Rattle.sj_core.proofs.Words.{is_elsewhere, on_disk, Claim, Drop, End, Move, Moved, Run, arrived, same_cell, with_row, with_mark, with_transfer, worker_state, writes}
+use Rattle.std.proofs.lemmas.Bool.{cases_eq, cases_lt, false_from_ne_true, false≢true, ltb-false, not-true, or_right, or_cases, and_from, and_parts, cases_Bool}
 use Rattle.std.proofs.lemmas.List.{get_or-set_other, get_or-set_same, get_or_past, length-set}
-use Rattle.std.proofs.lemmas.{Bool.Decides.Decides-eqb, List.Elements.All-set, List.Folds.list_any-append}
+use Rattle.std.proofs.lemmas.{Bool.Decides.Decides-eqb, List.Elements.All-set, List.Folds.list_any_at, List.FromFn.get_or-range_with_len, List.FromFn.length-range_with_len}
+use Rattle.sj_replica.specs.Replica.{is_copy_beside}
 use Rattle.std.proofs.lemmas.{List.Sums.fails_before_first}
 use Rattle.std.specs.List.{list_any, range_with_len}
 use Rattle.sj_base.proofs.Lists.{list_any-numbered}
-use Rattle.sj_base.proofs.SameIds.{workers_differ}
-use Rattle.sj_core.specs.{Coherent.HasRows, Coherent.IsOwnedBy, Laws.IsSound, Step.same_place}
-use Rattle.sj_core.proofs.{Reading.idle_row, Reading.list_all-has, Reading.no_row, Reading.replica_in-no_row}
+use Rattle.sj_base.proofs.SameIds.{same_cell-is, same_cell-unlike, workers_differ}
+use Rattle.sj_core.specs.Coherent.{HasBlocks, IsOwnedBy, NoneLeavesBy}
+use Rattle.sj_core.specs.Laws.{EventsChangeRows, IsSound}
+use Rattle.sj_core.specs.Step.{disk_of, is_home, same_place}
+use Rattle.sj_core.specs.Table.{renewed}
+use Rattle.sj_core.proofs.Tables.{renewed-at}
+use Rattle.sj_core.proofs.{Reading.idle_row, Reading.list_all-has, Reading.no_row, Reading.mark_in-same}
+use Rattle.sj_core.proofs.Readiness.{list_any-some}
 use Rattle.sj_core.proofs.{Reading.same_node, Replicas.leaving_by-is}
 
 pub cells_differ : (c d : Cell) → (c ≡ d) ⊎ (c ≢ d)
 cells_differ c d = search (arith, cases_eq)
 
-disks_differ : (d e : DiskNo) → (d ≡ e) ⊎ (d ≢ e)
-disks_differ d e = search (arith, cases_eq)
+-- ---- one row
 
--- ---- one replica
+module _ (s : State) (c : Cell) (row : CellState) where
+  -- each row is as before, or is the one that was written
+  pub row-cases : (d : Cell) → (cell_state (with_row s c row) d ≡ cell_state s d) ⊎ ((d ≡ c) × (cell_state (with_row s c row) d ≡ row))
+  row-cases d = search (arith, cells_differ, get_or-set_other, no_row, cases_lt, get_or-set_same, get_or_past, length-set)
 
--- a replica that was written where the table has the cell and its row the place is there
-pub replica-at_node : (s : State) (c : Cell) (n : Node) (r : Mark) → c.0 < length s.cells → n.0 < length (cell_state s c).marks → mark (with_row s c (with_mark (cell_state s c) n r)) c n ≡ r
-replica-at_node s c n r inside within = ap (λ (row : CellState). mark_in row n) (get_or-set_same s.cells c.0 (with_mark (cell_state s c) n r) no_row inside) ∙ get_or-set_same (cell_state s c).marks n.0 r Invalid within
+  pub writes-same : row.writes ≡ writes s c → (d : Cell) → writes (with_row s c row) d ≡ writes s d
+  writes-same same d = search (arith, row-cases)
 
-pub replica-on_disk : (s : State) (c : Cell) (d : DiskNo) (r : Mark) → c.0 < length s.cells → d.0 < length (cell_state s c).disks → replica (with_replica s c (OnDisk d) r) c (OnDisk d) ≡ r
-replica-on_disk s c d r inside within = ap (λ (row : CellState). replica_in row (OnDisk d)) (get_or-set_same s.cells c.0 (with_replica_in (cell_state s c) (OnDisk d) r) no_row inside) ∙ get_or-set_same (cell_state s c).disks d.0 r Invalid within
+  pub on_disk-same : row.on_disk ≡ on_disk s c → (d : Cell) → on_disk (with_row s c row) d ≡ on_disk s d
+  on_disk-same same d = search (arith, row-cases)
 
--- of a row in which one replica was written each is as before, or is that one
-pub replica_in-cases : (row : CellState) (q k : Place) (r : Mark) → (replica_in (with_replica_in row q r) k ≡ replica_in row k) ⊎ ((k ≡ q) × (replica_in (with_replica_in row q r) k ≡ r))
-replica_in-cases row q k r =
-    search (arith, same_node, get_or-set_other, cases_lt, get_or-set_same, get_or_past, length-set, disks_differ)
-
-module _ (s : State) (c : Cell) (q : Place) (r : Mark) where
-  -- each row is as before, or is the cell's with the replica written
-  row-cases : (d : Cell) → (cell_state (with_replica s c q r) d ≡ cell_state s d) ⊎ ((d ≡ c) × (cell_state (with_replica s c q r) d ≡ with_replica_in (cell_state s c) q r))
-  row-cases d =
-      search (arith, cells_differ, get_or-set_other, no_row, cases_lt, get_or-set_same, get_or_past, length-set)
-
-  -- each replica is as before, or is the one that was written
-  pub replica-cases : (d : Cell) (k : Place) → (replica (with_replica s c q r) d k ≡ replica s d k) ⊎ ((d ≡ c) × (k ≡ q) × (replica (with_replica s c q r) d k ≡ r))
-  replica-cases d k = search (arith, row-cases, replica_in-cases)
-
-  pub writes-same : (d : Cell) → writes (with_replica s c q r) d ≡ writes s d
-  writes-same d = search (arith, row-cases)
-
-  -- each row keeps its length
-  kept : (size : CellState → ℕ) → ((row : CellState) → size (with_replica_in row q r) ≡ size row) → (n : ℕ) → All (λ (row : CellState). size row ≡ n) s.cells → All (λ (row : CellState). size row ≡ n) (with_replica s c q r).cells
-  kept size same n all =
+  -- each row still has a mark for each node
+  pub marks-kept : length row.marks ≡ length (cell_state s c).marks → (n : ℕ) → All (λ (r : CellState). length r.marks ≡ n) s.cells → All (λ (r : CellState). length r.marks ≡ n) (with_row s c row).cells
+  marks-kept same n all =
       elim (cases_lt c.0 (length s.cells)) [
-        | inl inside ↦ All-set (λ (row : CellState). size row ≡ n) s.cells c.0 (with_replica_in (cell_state s c) q r) (same (cell_state s c) ∙ all c.0 no_row inside) all
-        | inr past ↦ λ i d inside. (let bound : i < length s.cells = omega (arith, inside, length-set s.cells c.0 (with_replica_in (cell_state s c) q r)) in subst (λ (row : CellState). size row ≡ n) (sym (get_or-set_other s.cells c.0 i (with_replica_in (cell_state s c) q r) d (λ e. (omega arith)))) (all i d bound))
+        | inl inside ↦ All-set (λ (r : CellState). length r.marks ≡ n) s.cells c.0 row (same ∙ all c.0 no_row inside) all
+        | inr past ↦ λ i d inside. (let bound : i < length s.cells = omega (arith, inside, length-set s.cells c.0 row) in subst (λ (r : CellState). length r.marks ≡ n) (sym (get_or-set_other s.cells c.0 i row d (λ e. (omega arith)))) (all i d bound))
       ]
 
-  pub nodes-kept : (n : ℕ) → All (λ (row : CellState). length row.marks ≡ n) s.cells → All (λ (row : CellState). length row.marks ≡ n) (with_replica s c q r).cells
-  nodes-kept = kept (λ row. length row.marks) (same q)
-    where
-      same : (k : Place) (row : CellState) → length (with_replica_in row k r).nodes ≡ length row.marks
-      same b row = search (arith, length-set)
+-- ---- one mark
 
-  pub disks-kept : (n : ℕ) → All (λ (row : CellState). length row.disks ≡ n) s.cells → All (λ (row : CellState). length row.disks ≡ n) (with_replica s c q r).cells
-  disks-kept = kept (λ row. length row.disks) (same q)
-    where
-      same : (k : Place) (row : CellState) → length (with_replica_in row k r).disks ≡ length row.disks
-      same b row = search (arith, length-set)
+-- of a row in which one mark was written each is as before, or is that one
+pub mark_in-cases : (row : CellState) (n k : Node) (x : Mark) → (mark_in (with_mark row n x) k ≡ mark_in row k) ⊎ ((k ≡ n) × (mark_in (with_mark row n x) k ≡ x))
+mark_in-cases row n k x = search (arith, same_node, get_or-set_other, cases_lt, get_or-set_same, get_or_past, length-set)
+
+-- each mark is as before, or is the one that was written
+pub mark-cases : (s : State) (c : Cell) (n : Node) (x : Mark) (d : Cell) (k : Node) → (mark (with_row s c (with_mark (cell_state s c) n x)) d k ≡ mark s d k) ⊎ ((d ≡ c) × (k ≡ n) × (mark (with_row s c (with_mark (cell_state s c) n x)) d k ≡ x))
+mark-cases s c n x d k = search (arith, row-cases, mark_in-cases)
+
+-- a mark that was written where the table has the cell and its row the node is there
+pub mark-at_node : (s : State) (c : Cell) (n : Node) (x : Mark) → c.0 < length s.cells → n.0 < length (cell_state s c).marks → mark (with_row s c (with_mark (cell_state s c) n x)) c n ≡ x
+mark-at_node s c n x inside within = ap (λ (row : CellState). mark_in row n) (get_or-set_same s.cells c.0 (with_mark (cell_state s c) n x) no_row inside) ∙ mark_in-same (cell_state s c) n x within
 
 -- ---- one transfer
 
@@ -105,35 +96,48 @@ transfer-is s w begun v x now = search (arith, transfer-cases)
 pub same_place-is : (q k : Place) → same_place q k ≡ true → q ≡ k
 same_place-is q k h = search (arith, Decides-eqb, false≢true)
 
--- each replica of a cell that a worker owns is the valid one, or invalid
-pub owned-cases : (m : Machine) (s : State) (c : Cell) (v : Worker) → IsOwnedBy m s c v → (q : Place) → (replica s c q ≡ Valid) ⊎ (replica s c q ≡ Invalid)
-owned-cases m s c v own q = search (arith, same_place-is)
+-- each mark of a cell that a worker owns is the valid one, or invalid
+pub owned-cases : (m : Machine) (s : State) (c : Cell) (v : Worker) → IsOwnedBy m s c v → (n : Node) → (mark s c n ≡ Valid) ⊎ (mark s c n ≡ Invalid)
+owned-cases m s c v own n = search (arith, same_node)
 
--- and so a replica of it passes no test that a valid and an invalid one fail
-pub owned-fails : (m : Machine) (s : State) (c : Cell) (v : Worker) → IsOwnedBy m s c v → (test : Mark → Bool) → test Valid ≡ false → test Invalid ≡ false → (q : Place) → test (replica s c q) ≡ false
-owned-fails m s c v own test valid invalid q = elim (owned-cases m s c v own q) [ inl e ↦ ap test e ∙ valid | inr e ↦ ap test e ∙ invalid ]
+-- and so a mark of it passes no test that a valid and an invalid one fail
+pub owned-fails : (m : Machine) (s : State) (c : Cell) (v : Worker) → IsOwnedBy m s c v → (test : Mark → Bool) → test Valid ≡ false → test Invalid ≡ false → (n : Node) → test (mark s c n) ≡ false
+owned-fails m s c v own test valid invalid n = elim (owned-cases m s c v own n) [ inl e ↦ ap test e ∙ valid | inr e ↦ ap test e ∙ invalid ]
 
--- ---- where a valid replica is
+-- ---- where a copy is
 
--- the row of a cell that has a valid replica is one of the table
-pub valid-row : (s : State) (c : Cell) (q : Place) → has_copy p m s c q ≡ true → c.0 < length s.cells
-valid-row s c q valid = search (arith, cases_lt, false≢true, get_or_past, no_row, replica_in-no_row)
+pub valid-within : (xs : List Mark) (k : ℕ) → is_valid (get_or xs k Invalid) ≡ true → k < length xs
+valid-within xs k valid = search (arith, cases_lt, false≢true, get_or_past)
 
-pub valid-within : (rs : List Mark) (k : ℕ) → is_valid (get_or rs k Invalid) ≡ true → k < length rs
-valid-within rs k valid = search (arith, cases_lt, false≢true, get_or_past)
+-- the row of a cell that has a copy is one of the table
+pub copy-row : (p : Program) (m : Machine) (s : State) (c : Cell) (q : Place) → has_copy p m s c q ≡ true → c.0 < length s.cells
+copy-row p m s c q copy = search (arith, cases_lt, false≢true, get_or_past, no_row, and_parts)
 
--- a test that the place of a valid replica passes is passed by some place of the machine
-pub list_any-place : (p : Program) (m : Machine) (s : State) → HasRows p m s → (test : Place → Bool) (c : Cell) (q : Place) → has_copy p m s c q ≡ true → test q ≡ true → list_any test (places_of m) ≡ true
-list_any-place p m s rows test c (AtNode n) valid passes =
-    let node : ℕ → Place = λ k. AtNode (record { 0 = k }) in
-    let disk : ℕ → Place = λ k. OnDisk (record { 0 = k }) in
-    let within : n.0 < length m.nodes = omega (arith, valid-within (cell_state s c).marks n.0 valid, rows.marks c.0 no_row (valid-row s c (AtNode n) valid)) in
-    list_any-append test (map node (range_with_len 0 (length m.nodes))) (map disk (range_with_len 0 (length m.disks))) ∙ ap (λ b. b || list_any test (map disk (range_with_len 0 (length m.disks)))) (list_any-numbered node test n.0 (length m.nodes) within passes)
-list_any-place p m s rows test c (OnDisk d) valid passes =
-    let node : ℕ → Place = λ k. AtNode (record { 0 = k }) in
-    let disk : ℕ → Place = λ k. OnDisk (record { 0 = k }) in
-    let within : d.0 < length m.disks = omega (arith, valid-within (cell_state s c).disks d.0 valid, rows.disks c.0 no_row (valid-row s c (OnDisk d) valid)) in
-    list_any-append test (map node (range_with_len 0 (length m.nodes))) (map disk (range_with_len 0 (length m.disks))) ∙ or_right (list_any test (map node (range_with_len 0 (length m.nodes)))) (list_any test (map disk (range_with_len 0 (length m.disks)))) (list_any-numbered disk test d.0 (length m.disks) within passes)
+-- the disk of the cell's block is the one on which it lies
+pub home-from : (p : Program) (m : Machine) (c : Cell) (d : DiskNo) → disk_of p m c ≡ Some d → is_home p m c d ≡ true
+home-from p m c d e = ap (λ (o : Option DiskNo). elim o as (λ _. Bool) [ None ↦ false | Some e ↦ nat_eq e.0 d.0 ]) e ∙ (Decides-eqb d.0 d.0).1 refl
+
+pub home-is : (p : Program) (m : Machine) (c : Cell) (d : DiskNo) → is_home p m c d ≡ true → disk_of p m c ≡ Some d
+home-is p m c d h = search (arith, Decides-eqb, false≢true)
+
+-- a copy in another place than the node is one elsewhere
+pub elsewhere-from : (p : Program) (m : Machine) (s : State) (c : Cell) (q : Place) (n : Node) → has_copy p m s c q ≡ true → q ≢ AtNode n → is_elsewhere s c n ≡ true
+elsewhere-from p m s c (OnDisk d) n copy other = search (arith, and_parts)
+elsewhere-from p m s c (AtNode k) n copy other =
+    let marks = (cell_state s c).marks in
+    let within = valid-within marks k.0 copy in
+    let number : get_or (range_with_len 0 (length marks)) k.0 0 ≡ k.0 = get_or-range_with_len 0 (length marks) k.0 0 within ∙ omega arith in
+    let apart : is_copy_beside marks n.0 k.0 ≡ true = and_from (not (nat_eq k.0 n.0)) (is_valid (get_or marks k.0 Invalid)) (ap not (false_from_ne_true (nat_eq k.0 n.0) (λ e. other (ap (λ (i : ℕ). AtNode (record { 0 = i })) ((Decides-eqb k.0 n.0).0 e))))) copy in
+    or_right (on_disk s c) (list_any (is_copy_beside marks n.0) (range_with_len 0 (length marks))) (list_any_at (is_copy_beside marks n.0) (range_with_len 0 (length marks)) k.0 0 (omega (arith, within, length-range_with_len 0 (length marks))) (ap (is_copy_beside marks n.0) number ∙ apart))
+
+-- and the other way round
+pub elsewhere-some : (p : Program) (m : Machine) (s : State) → HasBlocks p m s → (c : Cell) (n : Node) → is_elsewhere s c n ≡ true → (q : Place) × (q ≢ AtNode n) × (has_copy p m s c q ≡ true)
+elsewhere-some p m s blocks c n there = elim (or_cases (on_disk s c) (list_any (is_copy_beside (cell_state s c).marks n.0) (range_with_len 0 (length (cell_state s c).marks))) there) [
+  | inl stored ↦ (let home = blocks.home c stored in (OnDisk home.0, λ e. (let f : OnDisk home.0 ≡ AtNode n = e in cc), and_from (on_disk s c) (is_home p m c home.0) stored (home-from p m c home.0 home.1)))
+  | inr beside ↦ (let some = list_any-some (is_copy_beside (cell_state s c).marks n.0) (range_with_len 0 (length (cell_state s c).marks)) beside in
+      let parts = and_parts (not (nat_eq some.0 n.0)) (is_valid (get_or (cell_state s c).marks some.0 Invalid)) some.2 in
+      (AtNode (record { 0 = some.0 }), λ e. (let f : AtNode (record { 0 = some.0 }) ≡ AtNode n = e in grind (arith, parts, (Decides-eqb some.0 n.0))), parts.1))
+]
 
 -- ---- the first place that passes
 
@@ -143,11 +147,19 @@ position-none {X} test xs k d none inside = search (arith, get_or, fails_before_
 
 -- ---- victims
 
--- no replica leaves a disk
-pub stays-on_disk : (p : Program) (m : Machine) (s : State) → IsSound p m s → (w : Worker) (c : Cell) (d : DiskNo) → is_leaving_by w (replica s c (OnDisk d)) ≡ true → ⊥
-stays-on_disk p m s h w c d leaving = (h.coherent.state.blocks.resting c d w).1 (leaving_by-is w (replica s c (OnDisk d)) leaving)
-
 -- no victim of the worker leaves by its claim once it has room
-pub room-leaves_none : (p : Program) (m : Machine) (s : State) → IsSound p m s → (w : Worker) → has_room m s w ≡ true → (c : Cell) (q : Place) → is_leaving_by w (replica s c q) ≡ false
-room-leaves_none p m s h w room c (AtNode n) = search (arith, false_from_ne_true, list_all-has, false≢true, not-true)
-room-leaves_none p m s h w room c (OnDisk d) = false_from_ne_true (is_leaving_by w (replica s c (OnDisk d))) (stays-on_disk p m s h w c d)
+pub room-leaves_none : (p : Program) (m : Machine) (s : State) → IsSound p m s → (w : Worker) → has_room m s w ≡ true → NoneLeavesBy s w
+room-leaves_none p m s h w room c n = search (arith, false_from_ne_true, list_all-has, false≢true, not-true)
+
+-- ---- what an event makes of a row
+
+written-at : (s : State) (x : Cell) (f : CellState → CellState) (c : Cell) → c.0 < length s.cells → cell_state (with_row s x (f (cell_state s x))) c ≡ (if same_cell x c then f (cell_state s c) else cell_state s c)
+written-at s x f c inside = search (arith, cases_Bool, same_cell-is, get_or-set_same, get_or-set_other, same_cell-unlike, no_row)
+
+pub rows-changed : EventsChangeRows
+rows-changed p m s (Claim t w) c inside = renewed-at _ s.cells c.0 no_row inside
+rows-changed p m s (Move x from to) c inside = refl
+rows-changed p m s (Moved x from to) c inside = written-at s x (arrived to) c inside
+rows-changed p m s (Drop x n) c inside = written-at s x (λ row. with_mark row n Invalid) c inside
+rows-changed p m s (Run t w) c inside = renewed-at _ s.cells c.0 no_row inside
+rows-changed p m s (End t w) c inside = renewed-at _ s.cells c.0 no_row inside

@@ -3,12 +3,14 @@ use Rattle.std.proofs.Common.{Bool, List, None, Option, Some, [], ap, arith, fal
 use Rattle.std.proofs.Common.{true, zero, ℕ, ◌<◌, ◌∙◌, ◌∷◌, ◌≡◌, ◌≢◌, ◌⊎◌, if◌then◌else◌}
 use Rattle.sj_core.proofs.Words.{AtNode, Cell, CellState, Invalid, Machine, Mark, Node, Place, Progress, State, Task}
 use Rattle.sj_core.proofs.Words.{Transfer, Waiting, Worker, WorkerState, cell_state, has_cell, is_entry, is_leaving}
-use Rattle.sj_core.proofs.Words.{moves, progress, mark, mark_in, same_cell, transfer, with_cells, with_progress}
+use Rattle.sj_core.proofs.Words.{is_moving, is_read, reads_in, moves, progress, mark, mark_in, same_cell, transfer, with_cells, with_progress}
 use Rattle.sj_core.proofs.Words.{with_mark, with_worker, worker_state, workers_of}
 use Rattle.std.proofs.lemmas.Bool.{cases_eq, cases_lt, false_from_ne_true, false≢true, not-true}
 use Rattle.std.proofs.lemmas.List.{get_or-set_other, get_or-set_same, get_or_past}
 use Rattle.std.proofs.lemmas.{Bool.Decides.Decides-eqb, List.Sums.AllPass-from_list_all}
 use Rattle.std.specs.List.{list_all, list_any}
+use Rattle.std.proofs.lemmas.List.Folds.{list_any_at}
+use Rattle.sj_core.specs.Machine.{moves_in}
 pub use Rattle.sj_base.proofs.SameIds.{same_cell-is}
 pub use Rattle.sj_base.proofs.SameIds.{workers_differ}
 pub use Rattle.sj_base.proofs.Lists.{list_any-numbered}
@@ -39,14 +41,11 @@ worker-other s w v row h = get_or-set_other s.workers w.0 v.0 row idle_row (λ e
 -- ---- cells
 
 abbrev pub no_row : CellState
-no_row = record { nodes = []; disks = []; writes = 0 }
+no_row = record { marks = []; on_disk = false; writes = 0 }
 
--- a replica that was written where the cell has the place
-pub replica_in-same : (row : CellState) (n : Node) (r : Mark) → n.0 < length row.marks → mark_in (with_mark row n r) n ≡ r
-replica_in-same row n r h = get_or-set_same row.marks n.0 r Invalid h
-
-pub replica_in-no_row : (q : Place) → replica_in no_row q ≡ Invalid
-replica_in-no_row b = search arith
+-- a mark that was written where the row has the node
+pub mark_in-same : (row : CellState) (n : Node) (x : Mark) → n.0 < length row.marks → mark_in (with_mark row n x) n ≡ x
+mark_in-same row n x h = get_or-set_same row.marks n.0 x Invalid h
 
 -- every cell's row; past the table there is no row before or after
 pub cells-renewed_or : (s : State) (f : Cell → CellState → CellState) (c : Cell) → (cell_state (with_cells s f) c ≡ f c (cell_state s c)) ⊎ ((cell_state s c ≡ no_row) × (cell_state (with_cells s f) c ≡ no_row))
@@ -72,7 +71,7 @@ cells-touched s test g c inside h = search (arith, renewed-at, no_row)
 pub entry-inside : (s : State) (c : Cell) (n : Node) → is_entry (mark s c n) ≡ true → (c.0 < length s.cells) × (n.0 < length (cell_state s c).marks)
 entry-inside s c n h = search (arith, cases_lt, false≢true, get_or_past, no_row)
 
--- no replica leaves on a node that is settled
+-- no copy leaves a node that is settled
 pub settled-at : (s : State) (n : Node) (c : Cell) → none_leaving s n ≡ true → is_leaving (mark s c n) ≡ false
 settled-at s n c h = search (arith, cases_lt, not-true, AllPass-from_list_all, no_row, get_or_past)
 
@@ -86,6 +85,16 @@ moves-it s w x h = ap (λ (o : Option Transfer). elim o as (λ _. Bool) [ None �
 -- where no transfer is one of the cell, none moves it
 pub unmoved-from : (s : State) (v : Worker) (c : Cell) → ((x : Transfer) → transfer s v ≡ Some x → x.cell ≡ c → ⊥) → moves s v c ≡ false
 unmoved-from s v c none = search (arith, false_from_ne_true, same_cell-is)
+
+-- a test of rows that none passes, nor an idle one, is passed by no worker's row
+fails-in_rows : (test : WorkerState → Bool) (s : State) (v : Worker) → test idle_row ≡ false → list_any test s.workers ≡ false → test (worker_state s v) ≡ false
+fails-in_rows test s v idle none = search (arith, cases_lt, get_or_past, idle_row, list_any_at, false_from_ne_true, false≢true)
+
+pub unmoved-by : (s : State) (c : Cell) (v : Worker) → is_moving s c ≡ false → moves s v c ≡ false
+unmoved-by s c v none = fails-in_rows (λ row. moves_in row c) s v refl none
+
+pub unread-by : (s : State) (c : Cell) (q : Place) (v : Worker) → is_read s c q ≡ false → reads_in (worker_state s v) c q ≡ false
+unread-by s c q v none = fails-in_rows (λ row. reads_in row c q) s v refl none
 
 -- ---- lists of cells and of workers
 

@@ -1,4 +1,4 @@
--- What a test of one replica says of it.
+-- What a test of one mark says of it.
 use Rattle.std.proofs.Common.{arith, ap, false, refl, sym, true, ◌∙◌, ◌≡◌, ◌⊎◌}
 use Rattle.sj_core.proofs.Words.{Coming, Invalid, Leaving, Mark, Valid, Worker, is_coming_by, is_entry, claimant_of}
 use Rattle.sj_core.proofs.Words.{is_leaving, is_leaving_by, is_valid, same_worker}
@@ -25,14 +25,14 @@ leaving-by_some r h = absurd (false≢true h)
 pub entry-cases : (r : Mark) → is_entry r ≡ true → ((w : Worker) × (r ≡ Coming w)) ⊎ (r ≡ Valid)
 entry-cases r h = search (arith, false≢true)
 
--- a valid replica that doesn't leave is an entry
+-- a copy that doesn't leave is an entry
 pub valid-entry : (r : Mark) → is_valid r ≡ true → is_leaving r ≡ false → is_entry r ≡ true
 valid-entry Invalid v l = absurd (false≢true v)
 valid-entry (Coming w) v l = absurd (false≢true v)
 valid-entry Valid v l = refl
 valid-entry (Leaving w) v l = absurd (false≢true (sym l))
 
--- a replica that doesn't leave and is no entry is invalid
+-- what doesn't leave and is no entry is invalid
 pub invalid-is : (r : Mark) → is_entry r ≡ false → is_leaving r ≡ false → r ≡ Invalid
 invalid-is r h k = search (arith, false≢true)
 
@@ -45,7 +45,7 @@ leaving_by-valid w r h = ap is_valid (leaving_by-is w r h)
 pub leaving_by-no_entry : (w : Worker) (r : Mark) → is_leaving_by w r ≡ true → is_entry r ≡ false
 leaving_by-no_entry w r h = ap is_entry (leaving_by-is w r h)
 
--- a replica leaves by one claim, and comes by one
+-- a copy leaves by one claim, and comes by one
 pub leaving_by-one : (v w : Worker) (r : Mark) → is_leaving_by v r ≡ true → is_leaving_by w r ≡ true → v ≡ w
 leaving_by-one v w r hv hw = ap claimant_of (sym (leaving_by-is v r hv) ∙ leaving_by-is w r hw)
 
