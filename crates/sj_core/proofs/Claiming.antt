@@ -5,7 +5,7 @@ use Rattle.std.proofs.lemmas.Bool.Decides.{Decides-eqb}
 use Rattle.std.proofs.lemmas.List.{get_or-set_other, get_or-set_same, get_or_past, length-set}
 use Rattle.sj_base.proofs.Lists.{list_any-filter}
 use Rattle.sj_base.proofs.SameIds.{workers_differ}
-use Rattle.sj_core.proofs.Words.{AtNode, Cell, CellState, Claimed, Coming, DiskNo, Invalid, Leaving, Machine, Mark, Node, OnDisk, Place, Program, Running, State, Task, Transfer, Valid, Waiting, Worker, WorkerState, cell_state, cells_of, cells_of_program, distinct, free, has_cell, is_claimed_by, is_coming_by, is_entry, is_leaving, is_leaving_by, is_pinned, is_task_of, is_valid, node_of, node_size, order, pins, progress, mark, mark_in, same_worker, scratch, scratch_bytes, task_of, tile_bytes, transfer, used, with_mark, worker_state, workers_at, workers_of, writes, written_cells, worked_on, has_copy}
+use Rattle.sj_core.proofs.Words.{AtNode, Cell, CellState, Claimed, Coming, DiskNo, Invalid, Leaving, Machine, Mark, Node, OnDisk, Place, Program, Running, State, Task, Transfer, Valid, Waiting, Worker, WorkerState, cell_state, cells_of, cells_of_program, distinct, free, has_cell, is_claimed_by, is_coming_by, is_entry, is_leaving, is_leaving_by, is_pinned, is_task_of, is_valid, node_of, node_size, order, pins, progress, replica, replica_in, same_worker, scratch, scratch_bytes, task_of, tile_bytes, transfer, used, with_replica_in, worker_state, workers_at, workers_of, writes, written_cells, worked_on}
 use Rattle.sj_core.specs.Coherent.{Coherent, HasEntries, HasRows, IsOwnedBy, IsStateOf, NodesSuffice, OrderIsKept, PinsHold, TasksHaveCells, TransfersAreSound, WorkersAreSound, WritersOwn, WritesAreCounted, is_being_written, used_while_leaving, WrittenIsKept}
 use Rattle.sj_core.specs.Laws.{IsSound}
 use Rattle.sj_core.specs.Proper.{IsMachineFor}
@@ -50,32 +50,31 @@ module _ (p : Program) (m : Machine) (s : State) (t : Task) (w : Worker) (s' : S
   pub absent-missing : (c : Cell) → has_cell (order s (node_of m w)) c ≡ false → has_cell (cells_of p t w) c ≡ true → has_cell (missing p s t w (node_of m w)) c ≡ true
   absent-missing c absent has = search (arith, filter-has_cell, has_cell-distinct)
 
-  abbrev new_replica : Cell → Mark
-  new_replica c = claimed_mark w (evicted_by p m s t w) (missing p s t w (node_of m w)) c (mark s c (node_of m w))
+  abbrev new_mark : Cell → Mark
+  new_mark c = claimed_mark w (evicted_by p m s t w) (missing p s t w (node_of m w)) c (mark s c (node_of m w))
 
-  claim-row : (c : Cell) → (cell_state s' c ≡ with_mark (cell_state s c) (node_of m w) (new_replica c)) ⊎ ((cell_state s c ≡ no_row) × (cell_state s' c ≡ no_row))
+  claim-row : (c : Cell) → (cell_state s' c ≡ with_mark (cell_state s c) (node_of m w) (new_mark c)) ⊎ ((cell_state s c ≡ no_row) × (cell_state s' c ≡ no_row))
   claim-row c = search (arith, cells-renewed_or)
 
-  claim-at : (c : Cell) (q : Place) → (replica s' c q ≡ replica s c q) ⊎ ((q ≡ AtNode (node_of m w)) × (replica s' c q ≡ new_replica c))
-  claim-at c q =
-      grind (arith, claim-row c, replica_in-cases (cell_state s c) (AtNode (node_of m w)) q (new_replica c), replica_in-cases)
+  claim-at : (c : Cell) (k : Node) → (mark s' c k ≡ mark s c k) ⊎ ((k ≡ node_of m w) × (mark s' c k ≡ new_mark c))
+  claim-at c k = grind (arith, claim-row c, mark_in-cases (cell_state s c) (node_of m w) k (new_mark c))
 
   pub claim-writes : (c : Cell) → writes s' c ≡ writes s c
   claim-writes c = elim (claim-row c) [ inl row ↦ ap (λ (r : CellState). r.writes) row | inr none ↦ ap (λ (r : CellState). r.writes) (none.1 ∙ sym none.0) ]
 
-  -- at every place but the worker's node the replicas stay
-  pub claim-elsewhere : (c : Cell) (q : Place) → q ≢ AtNode (node_of m w) → replica s' c q ≡ replica s c q
-  claim-elsewhere c q d = elim (claim-at c q) [ inl same ↦ same | inr (at, is) ↦ absurd (d at) ]
+  -- at every node but the worker's the marks stay, and so do blocks
+  pub claim-elsewhere : (c : Cell) (k : Node) → k ≢ node_of m w → mark s' c k ≡ mark s c k
+  claim-elsewhere c k d = elim (claim-at c k) [ inl same ↦ same | inr (at, is) ↦ absurd (d at) ]
 
-  pub claim-on_disk : (c : Cell) (d : DiskNo) → replica s' c (OnDisk d) ≡ replica s c (OnDisk d)
-  claim-on_disk c d = claim-elsewhere c (OnDisk d) (λ e. (cc))
+  pub claim-on_disk : (c : Cell) → on_disk s' c ≡ on_disk s c
+  claim-on_disk c = elim (claim-row c) [ inl row ↦ ap (λ (r : CellState). r.on_disk) row | inr none ↦ ap (λ (r : CellState). r.on_disk) (none.1 ∙ sym none.0) ]
 
   -- on the node, victims leave and missing cells come
-  pub claim-here : (c : Cell) → c.0 < length s.cells → (node_of m w).0 < length (cell_state s c).marks → mark s' c (node_of m w) ≡ new_replica c
+  pub claim-here : (c : Cell) → c.0 < length s.cells → (node_of m w).0 < length (cell_state s c).marks → mark s' c (node_of m w) ≡ new_mark c
   claim-here c inside within =
       ap (λ (z : State). mark z c (node_of m w)) leaves
       ∙ ap (λ (row : CellState). mark_in row (node_of m w)) (renewed-at (λ k row. with_mark row (node_of m w) (claimed_mark w (evicted_by p m s t w) (missing p s t w (node_of m w)) (record { 0 = k }) (mark_in row (node_of m w)))) s.cells c.0 no_row inside)
-      ∙ replica_in-same (cell_state s c) (node_of m w) (new_replica c) within
+      ∙ mark_in-same (cell_state s c) (node_of m w) (new_mark c) within
 
 -- ---- the rows of the workers
 
@@ -99,13 +98,13 @@ pinned-at m s v n c inside here h =
     let pins_it : Worker → Bool = λ u. has_cell (pins s u) c in
     list_any-filter pins_it at_n (workers_of m) ∙ list_any-worker (λ u. at_n u && pins_it u) m v inside (and_from (at_n v) (pins_it v) ((Decides-eqb (node_of m v).0 n.0).1 (ap (λ (k : Node). k.0) here)) h)
 
--- ---- what a replica becomes
+-- ---- what a mark becomes
 
--- of the replica at a place after a claim: it stays, or is a victim's and leaves, or a missing cell's and comes
-pub data ClaimCase (m : Machine) (s s' : State) (w : Worker) (evicted brought : List Cell) (c : Cell) (q : Place) : Type 0 where
-  Stays : replica s' c q ≡ replica s c q → ClaimCase m s s' w evicted brought c q
-  Leaves : q ≡ AtNode (node_of m w) → has_cell evicted c ≡ true → replica s c q ≡ Valid → replica s' c q ≡ Leaving w → ClaimCase m s s' w evicted brought c q
-  Comes : q ≡ AtNode (node_of m w) → has_cell brought c ≡ true → replica s c q ≡ Invalid → replica s' c q ≡ Coming w → ClaimCase m s s' w evicted brought c q
+-- of the mark at a node after a claim: it stays, or is a victim's and leaves, or a missing cell's and comes
+pub data ClaimCase (m : Machine) (s s' : State) (w : Worker) (evicted brought : List Cell) (c : Cell) (k : Node) : Type 0 where
+  Stays : mark s' c k ≡ mark s c k → ClaimCase m s s' w evicted brought c k
+  Leaves : k ≡ node_of m w → has_cell evicted c ≡ true → mark s c k ≡ Valid → mark s' c k ≡ Leaving w → ClaimCase m s s' w evicted brought c k
+  Comes : k ≡ node_of m w → has_cell brought c ≡ true → mark s c k ≡ Invalid → mark s' c k ≡ Coming w → ClaimCase m s s' w evicted brought c k
 
 module _ (p : Program) (m : Machine) (s : State) (h : IsSound p m s) (t : Task) (w : Worker) (s' : State) (claim : CanClaim p m s t w) (leaves : s' ≡ after_claim p m s t w (evicted_by p m s t w)) where
   pub claim-advance : Advances s s' t Waiting (Claimed w)
@@ -160,43 +159,44 @@ module _ (p : Program) (m : Machine) (s : State) (h : IsSound p m s) (t : Task) 
             absurd (false≢true (sym (pin-spared v c (h.coherent.pins.coming_pinned v c (node_of m w) by) (sym (h.coherent.pins.coming_here v c (node_of m w) by))) ∙ evicted))
       ]
 
-  -- a missing cell has no replica on the node
+  -- a missing cell has no copy on the node
   pub missing-invalid : (c : Cell) → has_cell (missing p s t w (node_of m w)) c ≡ true → mark s c (node_of m w) ≡ Invalid
   missing-invalid c lacks = invalid-is (mark s c (node_of m w)) (sym (h.coherent.state.entries.entries (node_of m w) c) ∙ (missing-absent p m s t w s' claim leaves c lacks).0) (settled-at s (node_of m w) c claim.settled)
 
-  pub claim-cases : (c : Cell) (q : Place) → ClaimCase m s s' w (evicted_by p m s t w) (missing p s t w (node_of m w)) c q
-  claim-cases c q = elim (claim-at p m s t w s' claim leaves c q) [
+  pub claim-cases : (c : Cell) (k : Node) → ClaimCase m s s' w (evicted_by p m s t w) (missing p s t w (node_of m w)) c k
+  claim-cases c k = elim (claim-at p m s t w s' claim leaves c k) [
     | inl same ↦ Stays same
     | inr (at, is) ↦ elim (cases_Bool (has_cell (evicted_by p m s t w) c)) [
       | inl e ↦ let valid = victim-valid c e in Leaves at e (grind (arith, at, valid)) (grind (arith, is, e, valid))
       | inr e ↦ elim (cases_Bool (has_cell (missing p s t w (node_of m w)) c)) [
-        | inl f ↦ Comes at f (ap (replica s c) at ∙ missing-invalid c f) (grind (arith, is, e, f))
+        | inl f ↦ Comes at f (ap (mark s c) at ∙ missing-invalid c f) (grind (arith, is, e, f))
         | inr f ↦ Stays (grind (arith, at, is, e, f))
       ]
     ]
   ]
 
   -- what is valid stays so, and nothing else is
-  pub claim-valid : (c : Cell) (q : Place) → has_copy p m s' c q ≡ has_copy p m s c q
-  claim-valid c q = search (arith, claim-cases)
+  pub claim-valid : (c : Cell) (k : Node) → is_valid (mark s' c k) ≡ is_valid (mark s c k)
+  claim-valid c k = search (arith, claim-cases)
 
-  same_node_of : (k : Node) → AtNode k ≡ AtNode (node_of m w) → k ≡ node_of m w
-  same_node_of k e = cc
+  pub claim-copy : (c : Cell) (q : Place) → has_copy p m s' c q ≡ has_copy p m s c q
+  claim-copy c k = claim-valid c k
+  claim-copy c (OnDisk d) = ap (λ b. b && is_home p m c d) (claim-on_disk p m s t w s' claim leaves c)
 
   -- an entry that isn't evicted stays
   pub entry-stays : (c : Cell) (k : Node) → is_entry (mark s c k) ≡ true → (k ≡ node_of m w → has_cell (evicted_by p m s t w) c ≡ false) → mark s' c k ≡ mark s c k
-  entry-stays c k entry spared = search (arith, claim-cases c (AtNode k), false≢true, same_node_of)
+  entry-stays c k entry spared = search (arith, claim-cases c k, false≢true)
 
   -- what leaves after a claim is a victim of it, or left before; what leaves still leaves
-  pub claim-leaving : (v : Worker) (c : Cell) (q : Place) → is_leaving_by v (replica s' c q) ≡ true → ((q ≡ AtNode (node_of m w)) × (v ≡ w) × (has_cell (evicted_by p m s t w) c ≡ true)) ⊎ ((q ≢ AtNode (node_of m w)) × (is_leaving_by v (replica s c q) ≡ true))
-  claim-leaving v c q leaving = search (arith, claim-cases, false≢true, settled-at, leaving_by-leaves, same_worker-is)
+  pub claim-leaving : (v : Worker) (c : Cell) (k : Node) → is_leaving_by v (mark s' c k) ≡ true → ((k ≡ node_of m w) × (v ≡ w) × (has_cell (evicted_by p m s t w) c ≡ true)) ⊎ ((k ≢ node_of m w) × (is_leaving_by v (mark s c k) ≡ true))
+  claim-leaving v c k leaving = search (arith, claim-cases, false≢true, settled-at, leaving_by-leaves, same_worker-is)
 
-  pub claim-still_leaves : (v : Worker) (c : Cell) (q : Place) → is_leaving_by v (replica s c q) ≡ true → is_leaving_by v (replica s' c q) ≡ true
-  claim-still_leaves v c q leaving = search (arith, claim-cases, false≢true)
+  pub claim-still_leaves : (v : Worker) (c : Cell) (k : Node) → is_leaving_by v (mark s c k) ≡ true → is_leaving_by v (mark s' c k) ≡ true
+  claim-still_leaves v c k leaving = search (arith, claim-cases, false≢true)
 
   -- what comes after a claim is what it brings, or came before
   pub claim-coming : (v : Worker) (c : Cell) (k : Node) → is_coming_by v (mark s' c k) ≡ true → ((k ≡ node_of m w) × (v ≡ w) × (has_cell (cells_of p t w) c ≡ true)) ⊎ (is_coming_by v (mark s c k) ≡ true)
-  claim-coming v c k coming = grind (arith, claim-cases c (AtNode k), same_node_of, same_worker-is w v, missing-absent p m s t w s' claim leaves c)
+  claim-coming v c k coming = grind (arith, claim-cases c k, same_worker-is w v, missing-absent p m s t w s' claim leaves c)
 
   -- the task's own cells are entries after the claim: those that were, and those that come
   pub claim-own_cells : (c : Cell) → has_cell (cells_of p t w) c ≡ true → (is_entry (mark s' c (node_of m w)) ≡ true) × (has_cell (order s (node_of m w)) c ≡ false → is_coming_by w (mark s' c (node_of m w)) ≡ true)
@@ -212,7 +212,7 @@ module _ (p : Program) (m : Machine) (s : State) (h : IsSound p m s) (t : Task) 
   claim_order = fold to_front (without (evicted_by p m s t w) (order s (node_of m w))) (cells_of p t w)
 
   claim-rows : HasRows p m s'
-  claim-rows = HasRows-kept p m s s' _ (ap (λ (z : State). z.cells) leaves) (λ i row. (length-set row.marks (node_of m w).0 _, refl))
+  claim-rows = HasRows-kept p m s s' _ (ap (λ (z : State). z.cells) leaves) (λ i row. length-set row.marks (node_of m w).0 _)
       (ap (λ (z : State). length z.tasks) leaves ∙ length-set s.tasks t.0 (Claimed w)) (ap (λ (z : State). length z.orders) leaves ∙ length-set s.orders (node_of m w).0 claim_order)
       (ap (λ (z : State). length z.workers) leaves ∙ length-set s.workers w.0 _) h.coherent.state.rows
 
@@ -227,7 +227,7 @@ module _ (p : Program) (m : Machine) (s : State) (h : IsSound p m s) (t : Task) 
   order-now c = ap (λ (cs : List Cell). has_cell cs c) claim-order_here ∙ has_cell-fronted (cells_of p t w) (without (evicted_by p m s t w) (order s (node_of m w))) c ∙ ap (λ b. has_cell (cells_of p t w) c || b) (has_cell-without (evicted_by p m s t w) (order s (node_of m w)) c)
 
   elsewhere : (c : Cell) (k : Node) → k ≢ node_of m w → mark s' c k ≡ mark s c k
-  elsewhere c k d = claim-elsewhere p m s t w s' claim leaves c (AtNode k) (λ e. d (cc))
+  elsewhere c k d = claim-elsewhere p m s t w s' claim leaves c k d
 
   -- a victim leaves
   evicted-leaves : (c : Cell) → has_cell (evicted_by p m s t w) c ≡ true → mark s' c (node_of m w) ≡ Leaving w
@@ -237,7 +237,7 @@ module _ (p : Program) (m : Machine) (s : State) (h : IsSound p m s) (t : Task) 
       claim-here p m s t w s' claim leaves c inside.0 inside.1 ∙ ap (λ x. cond x (leave w (mark s c (node_of m w))) (cond (has_cell (missing p s t w (node_of m w)) c) (Coming w) (mark s c (node_of m w)))) evicted ∙ ap (leave w) valid
 
   entries-here : (c : Cell) → has_cell (order s' (node_of m w)) c ≡ is_entry (mark s' c (node_of m w))
-  entries-here c = grind (arith, order-now c, claim-cases c (AtNode (node_of m w)), claim-own_cells c, evicted-leaves c, missing-absent p m s t w s' claim leaves c, h.coherent.state.entries.entries (node_of m w) c)
+  entries-here c = grind (arith, order-now c, claim-cases c (node_of m w), claim-own_cells c, evicted-leaves c, missing-absent p m s t w s' claim leaves c, h.coherent.state.entries.entries (node_of m w) c)
 
   claim-entries : HasEntries s'
   claim-entries = record {
@@ -289,14 +289,14 @@ module _ (p : Program) (m : Machine) (s : State) (h : IsSound p m s) (t : Task) 
   claim-workers =
       let before = h.coherent.workers in
       record {
-        evicted = λ v c k leaving. elim (claim-leaving v c (AtNode k) leaving) [
+        evicted = λ v c k leaving. elim (claim-leaving v c k leaving) [
           | inl (at, own, victim) ↦ record { here = grind (arith, at, own); claims = (t, grind (arith, claim-advance, own, same_worker-refl w)); victim = grind (arith, own, own_row, victim) }
           | inr (away, was) ↦
               let old = before.evicted v c k was in
               let d = claimer-other v old.claims.0 (claimed_by-task_of v (progress s old.claims.0) old.claims.1) in
               record { here = old.here; claims = (old.claims.0, still_claims old.claims.0 v old.claims.1); victim = ap (λ (r : WorkerState). has_cell r.victims c) (other_row v d) ∙ old.victim }
         ];
-        one_evicts = λ u v c d k hu hv. (grind (arith, claim-leaving u c (AtNode k) hu, claim-leaving v d (AtNode k) hv, before.one_evicts u v c d k));
+        one_evicts = λ u v c d k hu hv. (grind (arith, claim-leaving u c k hu, claim-leaving v d k hv, before.one_evicts u v c d k));
         one_task = λ u v x hu hv. (grind (arith, now_task u x hu, now_task v x hv, before.one_task u v x));
         moves_for_claim = λ v x under_way. (let old = before.moves_for_claim v x (sym (claim-transfer v) ∙ under_way) in (old.0, still_claims old.0 v old.1));
         scratch = λ v. record {
@@ -320,7 +320,7 @@ module _ (p : Program) (m : Machine) (s : State) (h : IsSound p m s) (t : Task) 
   claim-cells =
       let before = h.coherent.cells in
       record {
-        running = λ u v c runs has. claim-valid c (AtNode (node_of m v)) ∙ before.running u v c (runs_before u v runs) has;
+        running = λ u v c runs has. claim-valid c (node_of m v) ∙ before.running u v c (runs_before u v runs) has;
         claimed = λ u v c claims has. elim (now_claims u v claims) [
           | inl (e, own) ↦ let mine : has_cell (cells_of p t w) c ≡ true = cc in let entry = (claim-own_cells c mine).0 in cc
           | inr was ↦ let entry = before.claimed u v c was has in ap is_entry (pinned-entry v c (before.pinned u v c (claimed-task_of s u v was) has) entry) ∙ entry
@@ -334,7 +334,7 @@ module _ (p : Program) (m : Machine) (s : State) (h : IsSound p m s) (t : Task) 
       record {
         stays = λ v c pin. false_from_ne_true (is_leaving (mark s' c (node_of m v))) (λ leaves.
             (let by = leaving-by_some (mark s' c (node_of m v)) leaves in
-            grind (arith, workers_differ v w, claim-leaving by.0 c (AtNode (node_of m v)) by.1, own-spared c, pin-spared v c, claim-own_pins c, claim-other_pins v c, leaving_by-leaves by.0, before.stays v c)));
+            grind (arith, workers_differ v w, claim-leaving by.0 c (node_of m v) by.1, own-spared c, pin-spared v c, claim-own_pins c, claim-other_pins v c, leaving_by-leaves by.0, before.stays v c)));
         own = λ v c pin. elim (workers_differ v w) [
           | inl e ↦ record { task = t; has = grind (arith, claim-advance, e, claimed-is_mine w); cell = grind (arith, e, claim-own_pins c) }
           | inr d ↦ let old = before.own v c (sym (claim-other_pins v c d) ∙ pin) in record { task = old.task; has = ap (is_task_of v) (still_task old.task v old.has) ∙ old.has; cell = old.cell }
@@ -347,7 +347,7 @@ module _ (p : Program) (m : Machine) (s : State) (h : IsSound p m s) (t : Task) 
         ];
       }
 
-  claim-transfers : TransfersAreSound p m s'
+  claim-transfers : TransfersAreSound m s'
   claim-transfers = TransfersAreSound-kept m s s' was (λ v x now valid. claim-valid x.cell x.from ∙ valid)
       (λ v x k now here coming. ap (is_coming_by v) (entry-stays x.cell k (ap is_entry (coming_by-is v (mark s x.cell k) coming))
       (λ e. pin-spared v x.cell (h.coherent.pins.coming_pinned v x.cell k coming) (sym here ∙ e))) ∙ coming)
@@ -379,7 +379,8 @@ module _ (p : Program) (m : Machine) (s : State) (h : IsSound p m s) (t : Task) 
           let has : is_task_of v (progress s u) ≡ true = ap (is_task_of v) runs ∙ same_worker-refl v in
           record {
             valid = pinned-entry v c old.pinned (ap is_entry old.valid) ∙ old.valid;
-            only = λ q away. (let invalid = old.only q away in search (arith, claim-cases c q, not_ours));
+            only = λ k away. (let invalid = old.only k away in search (arith, claim-cases c k, not_ours));
+            unstored = claim-on_disk p m s t w s' claim leaves c ∙ old.unstored;
             pinned = still_pinned v u c has ∙ old.pinned;
             unmoved = λ x. moves-kept s s' x c (claim-transfer x) ∙ old.unmoved x;
           }
@@ -392,7 +393,7 @@ module _ (p : Program) (m : Machine) (s : State) (h : IsSound p m s) (t : Task) 
 
   claim-copies : WrittenIsKept p m s'
   claim-copies = record {
-    somewhere = λ c some resting. (let q = h.coherent.copies.somewhere c (omega (arith, claim-writes p m s t w s' claim leaves c, some)) (claim-rested c resting) in (q.0, claim-valid c q.0 ∙ q.1));
+    somewhere = λ c some resting. (let q = h.coherent.copies.somewhere c (omega (arith, claim-writes p m s t w s' claim leaves c, some)) (claim-rested c resting) in (q.0, claim-copy c q.0 ∙ q.1));
   }
 
   claim-counts : WritesAreCounted p s'
@@ -434,15 +435,14 @@ module _ (p : Program) (m : Machine) (s : State) (h : IsSound p m s) (t : Task) 
 
   -- what leaves the node, and its entries beside what comes, were its entries
   claim-leaving_within : (c : Cell) → share (tile_bytes p) (λ d. is_leaving_by w (mark s' d (node_of m w))) c + share (tile_bytes p) (λ d. not (is_coming_by w (mark s' d (node_of m w))) && has_cell (order s' (node_of m w)) d) c ≤ share (tile_bytes p) (has_cell (order s (node_of m w))) c
-  claim-leaving_within c = grind (arith, claim-leaving w c (AtNode (node_of m w)), evicted-free p m s t w s' claim leaves c, order-now c, claim-own_cells c, leaving_by-no_entry w (mark s' c (node_of m w)), claim-state.entries.entries (node_of m w) c)
+  claim-leaving_within c = grind (arith, claim-leaving w c (node_of m w), evicted-free p m s t w s' claim leaves c, order-now c, claim-own_cells c, leaving_by-no_entry w (mark s' c (node_of m w)), claim-state.entries.entries (node_of m w) c)
 
   claim-bytes : NodesSuffice p m s'
   claim-bytes = record {
     entries = λ k. (search (arith, same_node, claim-enough, fewer-entries, claim-state, same_entries, same_scratch));
-    leaving = λ k v c leaving. elim (claim-leaving v c (AtNode k) leaving) [
-      | inl (at, own, evicted) ↦ subst (λ (j : Node). used_while_leaving p m s' v j ≤ node_size m j) (let e : node_of m w ≡ k = cc in e) (subst (λ (x : Worker). used_while_leaving p m s' x (node_of m w) ≤ node_size m (node_of m w)) (sym own) here)
-      | inr (away, was) ↦
-          let d : k ≢ node_of m w = λ e. away (ap (λ (j : Node). AtNode j) e) in
+    leaving = λ k v c leaving. elim (claim-leaving v c k leaving) [
+      | inl (at, own, evicted) ↦ subst (λ (j : Node). used_while_leaving p m s' v j ≤ node_size m j) (sym at) (subst (λ (x : Worker). used_while_leaving p m s' x (node_of m w) ≤ node_size m (node_of m w)) (sym own) here)
+      | inr (d, was) ↦
           let all = fewer-leaving p m s s' h.coherent.state claim-state k (same_entries k d) (same_scratch k d) v (λ x by. sym (ap (is_leaving_by v) (elsewhere x k d)) ∙ by) (λ x by. ap (is_coming_by v) (elsewhere x k d) ∙ by) in
           omega (arith, h.coherent.bytes.leaving k v c was)
     ];
@@ -470,4 +470,4 @@ module _ (p : Program) (m : Machine) (s : State) (h : IsSound p m s) (t : Task) 
 
   -- no array changes
   pub Claims-content : (A A' : Arrays) → ((c : Cell) (q : Place) → A' c q ≡ A c q) → HoldsContent p m s A → HoldsContent p m s' A'
-  Claims-content A A' same = HoldsContent-kept p m s s' A A' same runs_before (content-kept p s s' t Waiting (Claimed w) claim-advance refl refl) (claim-writes p m s t w s' claim leaves) claim-rested (λ c q valid. sym (claim-valid c q) ∙ valid)
+  Claims-content A A' same = HoldsContent-kept p m s s' A A' same runs_before (content-kept p s s' t Waiting (Claimed w) claim-advance refl refl) (claim-writes p m s t w s' claim leaves) claim-rested (λ c q valid. sym (claim-copy c q) ∙ valid)

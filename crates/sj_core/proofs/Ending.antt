@@ -10,8 +10,8 @@ use Rattle.sj_core.specs.Coherent.{Coherent, HasWorkers, OrderIsKept, is_begun, 
 use Rattle.sj_core.specs.Fold.{after_chosen, after_task, held_in}
 use Rattle.sj_core.specs.Laws.{IsLawful, IsSound}
 use Rattle.sj_core.specs.Proper.{Proper}
-use Rattle.sj_core.specs.Step.{after_end, after, same_place}
-use Rattle.sj_core.proofs.Words.{Array, AtNode, Cell, CellState, Claimed, Done, Kernel, Machine, Program, Progress, Running, State, Task, Worker, dims_of, done_by, done_in, has_cell, is_done, is_task_of, no_task, node_of, progress, results, tasks_of, worked_on, worker_of, writes, written_cells, zeros, OnDisk, Place, WorkerState, cell_state, cells_of, is_coming_by, is_entry, is_leaving_by, is_valid, order, mark, mark_in, transfer, victims_of, worker_state, fresh_cells, End, written_once_more, has_copy}
+use Rattle.sj_core.specs.Step.{after_end, after, same_place, written_once_more}
+use Rattle.sj_core.proofs.Words.{Array, AtNode, Cell, CellState, Claimed, Done, Kernel, Machine, Program, Progress, Running, State, Task, Worker, dims_of, done_by, done_in, has_cell, is_done, is_task_of, no_task, node_of, progress, results, tasks_of, worked_on, worker_of, writes, written_cells, zeros, OnDisk, Place, WorkerState, cell_state, cells_of, is_coming_by, is_entry, is_leaving_by, is_valid, order, replica, replica_in, transfer, victims_of, worker_state, fresh_cells, End}
 use Rattle.sj_core.proofs.Advancing.{Advances, Ends-advances, done-begun, same_task, OrderIsKept-advances}
 use Rattle.sj_core.proofs.Values.{results-complete}
 use Rattle.sj_core.proofs.Updating.{may-swap}
@@ -121,7 +121,7 @@ Ends-keeps_counts p m s t w s' state cells ended leaves counts = record { counte
         same ∙ counts.counted c ∙ sym (counted-same p s s' c (λ u. (grind (arith, same_task u t, now c, e, undone c, written-other p s s' c t u (Running w) (Done w) (Ends-advances p m s t w s' ended leaves)))))
     by_cases c true e =
         let there = cells.running t w c ended (written-among_cells p t w c e) in
-        let more : writes s' c ≡ writes s c + 1 = ap (λ (z : State). writes z c) leaves ∙ ap (λ (r : CellState). r.writes) (cells-touched s (has_cell (written_cells p t w)) (λ d row. written_once_more row) c (valid-row s c (AtNode (node_of m w)) there) e) in
+        let more : writes s' c ≡ writes s c + 1 = ap (λ (z : State). writes z c) leaves ∙ ap (λ (r : CellState). r.writes) (cells-touched s (has_cell (written_cells p t w)) (λ d row. written_once_more row) c (valid-row s c (node_of m w) there) e) in
         let is_t : Task → Bool = λ u. nat_eq u.0 t.0 in
         let each : (u : Task) → tally (has_written p s' c u) ≡ tally (has_written p s c u) + tally (is_t u) = λ u. elim (same_task u t) [
           | inl f ↦ grind (arith, f, now c, e, undone c, eq-eqb u.0 t.0)
@@ -138,19 +138,24 @@ module _ (p : Program) (m : Machine) (s : State) (t : Task) (w : Worker) (s' : S
   pub end-spared_row : (c : Cell) → has_cell (written_cells p t w) c ≡ false → cell_state s' c ≡ cell_state s c
   end-spared_row c spared = ap (λ (z : State). cell_state z c) leaves ∙ cells-untouched s (has_cell (written_cells p t w)) (λ d row. written_once_more row) c spared
 
-  -- no replica changes
-  pub end-replica : (c : Cell) (q : Place) → replica s' c q ≡ replica s c q
-  end-replica c q =
-      ap (λ (z : State). replica z c q) leaves
+  -- no mark changes, and no block
+  end-same : {X : Type 0} (f : CellState → X) → ((row : CellState) → f (written_once_more row) ≡ f row) → (c : Cell) → f (cell_state s' c) ≡ f (cell_state s c)
+  end-same f same c =
+      ap (λ (z : State). f (cell_state z c)) leaves
       ∙ elim (cells-renewed_or s (λ d row. if has_cell (written_cells p t w) d then written_once_more row else row) c) [
-        | inl row ↦ ap (λ (r : CellState). replica_in r q) row ∙ either (has_cell (written_cells p t w) c) q
-        | inr none ↦ ap (λ (r : CellState). replica_in r q) (none.1 ∙ sym none.0)
+        | inl row ↦ ap f row ∙ cond_both (has_cell (written_cells p t w) c) (written_once_more (cell_state s c)) (cell_state s c) (λ r. f r ≡ f (cell_state s c)) (λ b. same (cell_state s c)) (λ b. refl)
+        | inr none ↦ ap f (none.1 ∙ sym none.0)
       ]
-    where
-      either : (b : Bool) (k : Place) → replica_in (if b then written_once_more (cell_state s c) else cell_state s c) k ≡ replica s c k
-      either true (AtNode n) = refl
-      either true (OnDisk d) = refl
-      either false k = refl
+
+  pub end-mark : (c : Cell) (k : Node) → mark s' c k ≡ mark s c k
+  end-mark c k = end-same (λ row. mark_in row k) (λ row. refl) c
+
+  pub end-on_disk : (c : Cell) → on_disk s' c ≡ on_disk s c
+  end-on_disk = end-same (λ row. row.on_disk) (λ row. refl)
+
+  pub end-copy : (c : Cell) (q : Place) → has_copy p m s' c q ≡ has_copy p m s c q
+  end-copy c (AtNode k) = ap is_valid (end-mark c k)
+  end-copy c (OnDisk d) = ap (λ b. b && is_home p m c d) (end-on_disk c)
 
   -- ---- the rows of the workers
 
@@ -180,8 +185,11 @@ module _ (p : Program) (m : Machine) (s : State) (h : IsSound p m s) (t : Task) 
   owned : (c : Cell) → has_cell (written_cells p t w) c ≡ true → IsOwnedBy m s c w
   owned c written = h.coherent.writers.owned t w c ended written
 
-  same_replica : (c : Cell) (q : Place) → replica s' c q ≡ replica s c q
-  same_replica = end-replica p m s t w s' ended leaves
+  same_mark : (c : Cell) (k : Node) → mark s' c k ≡ mark s c k
+  same_mark = end-mark p m s t w s' ended leaves
+
+  same_copy : (c : Cell) (q : Place) → has_copy p m s' c q ≡ has_copy p m s c q
+  same_copy = end-copy p m s t w s' ended leaves
 
   -- another task's cells aren't written
   pub end-spares : (u : Task) (v : Worker) (c : Cell) → u ≢ t → is_task_of v (progress s u) ≡ true → has_cell (cells_of p u v) c ≡ true → has_cell (written_cells p t w) c ≡ false
@@ -191,10 +199,7 @@ module _ (p : Program) (m : Machine) (s : State) (h : IsSound p m s) (t : Task) 
 
   end-rows : HasRows p m s'
   end-rows = HasRows-kept p m s s' _ (ap (λ (z : State). z.cells) leaves)
-      (λ i row. (
-        cond_both (has_cell (written_cells p t w) (record { 0 = i })) _ row (λ (r : CellState). length r.nodes ≡ length row.marks) (λ b. refl) (λ b. refl),
-        cond_both (has_cell (written_cells p t w) (record { 0 = i })) _ row (λ (r : CellState). length r.disks ≡ length row.disks) (λ b. refl) (λ b. refl),
-      ))
+      (λ i row. cond_both (has_cell (written_cells p t w) (record { 0 = i })) _ row (λ (r : CellState). length r.marks ≡ length row.marks) (λ b. refl) (λ b. refl))
       (ap (λ (z : State). length z.tasks) leaves ∙ length-set s.tasks t.0 (Done w)) (ap (λ (z : State). length z.orders) leaves)
       (ap (λ (z : State). length z.workers) leaves ∙ length-set s.workers w.0 _) h.coherent.state.rows
 
@@ -202,7 +207,7 @@ module _ (p : Program) (m : Machine) (s : State) (h : IsSound p m s) (t : Task) 
   end-state = record {
     rows = end-rows;
     entries = record {
-      entries = λ k c. ap (λ (z : State). has_cell (order z k) c) leaves ∙ h.coherent.state.entries.entries k c ∙ sym (ap is_entry (same_replica c (AtNode k)));
+      entries = λ k c. ap (λ (z : State). has_cell (order z k) c) leaves ∙ h.coherent.state.entries.entries k c ∙ sym (ap is_entry (same_mark c k));
       once = λ k c. subst (λ (z : State). times (order z k) c ≤ 1) (sym leaves) (h.coherent.state.entries.once k c);
     };
     blocks = HasBlocks-kept p m s s' (λ c d. inr (same_replica c (OnDisk d))) (end-transfer p m s t w s' ended leaves) h.coherent.state.blocks;
@@ -222,16 +227,16 @@ module _ (p : Program) (m : Machine) (s : State) (h : IsSound p m s) (t : Task) 
       | inl e ↦ inr (e, grind (arith, e, end-own_worker p m s t w s' ended leaves), grind (arith, e, end-own_worker p m s t w s' ended leaves), refl)
     ];
     victims = end-kept p m s t w s' ended leaves (λ row. row.victims) refl;
-    entries = λ c k now. sym (ap is_entry (same_replica c (AtNode k))) ∙ now;
-    leaves = λ v c q leaving. sym (ap (is_leaving_by v) (same_replica c q)) ∙ leaving;
-    comes = λ v c k coming. sym (ap (is_coming_by v) (same_replica c (AtNode k))) ∙ coming;
-    still_comes = λ v c d k leaving coming. ap (is_coming_by v) (same_replica c (AtNode k)) ∙ coming;
+    entries = λ c k now. sym (ap is_entry (same_mark c k)) ∙ now;
+    leaves = λ v c k leaving. sym (ap (is_leaving_by v) (same_mark c k)) ∙ leaving;
+    comes = λ v c k coming. sym (ap (is_coming_by v) (same_mark c k)) ∙ coming;
+    still_comes = λ v c d k leaving coming. ap (is_coming_by v) (same_mark c k) ∙ coming;
     moves_on = λ v x under_way. h.coherent.workers.moves_for_claim v x (sym (end-transfer p m s t w s' ended leaves v) ∙ under_way);
     claims_on = λ e. absurd (let f : Running w ≡ Claimed w = e in cc);
-    stays = λ u v c d has cell. (let same = same_replica c (AtNode (node_of m v)) in (λ was. ap is_entry same ∙ was, λ was. ap is_valid same ∙ was));
+    stays = λ u v c d has cell. (let same = same_mark c (node_of m v) in (λ was. ap is_entry same ∙ was, λ was. ap is_valid same ∙ was));
     claimed = λ c e has. absurd (let f : Done w ≡ Claimed w = e in cc);
     running = λ c e has. absurd (let f : Done w ≡ Running w = e in cc);
-    transfers = TransfersAreSound-spared m s s' (λ c. false) (λ c q e. same_replica c q) (λ v c q leaving. sym (ap (is_leaving_by v) (same_replica c q)) ∙ leaving) (end-transfer p m s t w s' ended leaves) (λ v x under_way. refl) h.coherent.transfers;
+    transfers = TransfersAreSound-spared p m s s' (λ c. false) (λ c k e. same_mark c k) (λ c e. end-on_disk p m s t w s' ended leaves c) (λ v c k leaving. sym (ap (is_leaving_by v) (same_mark c k)) ∙ leaving) (end-transfer p m s t w s' ended leaves) (λ v x under_way. refl) h.coherent.transfers;
     order = OrderIsKept-advances p s s' t (Running w) (Done w) advance refl refl (same_worker-refl w) refl h.coherent.order;
     counts = Ends-keeps_counts p m s t w s' h.coherent.state h.coherent.cells ended leaves h.coherent.counts;
   }
@@ -243,7 +248,7 @@ module _ (p : Program) (m : Machine) (s : State) (h : IsSound p m s) (t : Task) 
 
   end-writers : WritersOwn p m s'
   end-writers = Changes-writers p m s h s' t (Running w) (Done w) w end-change
-      (λ u v c d runs written. (same_replica c, λ x. moves-kept s s' x c (end-transfer p m s t w s' ended leaves x) ∙ (h.coherent.writers.owned u v c runs written).unmoved x))
+      (λ u v c d runs written. (same_mark c, end-on_disk p m s t w s' ended leaves c, λ x. moves-kept s s' x c (end-transfer p m s t w s' ended leaves x) ∙ (h.coherent.writers.owned u v c runs written).unmoved x))
       (λ c e. absurd (let f : Done w ≡ Running w = e in cc))
 
   spared-writes : (c : Cell) → has_cell (written_cells p t w) c ≡ false → writes s' c ≡ writes s c
@@ -252,10 +257,10 @@ module _ (p : Program) (m : Machine) (s : State) (h : IsSound p m s) (t : Task) 
   end-copies : WrittenIsKept p m s'
   end-copies = record {
     somewhere = λ c some resting. elim (cases_Bool (has_cell (written_cells p t w) c)) [
-      | inl written ↦ (AtNode (node_of m w), ap is_valid (same_replica c (AtNode (node_of m w)) ∙ (owned c written).valid))
+      | inl written ↦ (AtNode (node_of m w), ap is_valid (same_mark c (node_of m w) ∙ (owned c written).valid))
       | inr spared ↦
           let q = h.coherent.copies.somewhere c (omega (arith, spared-writes c spared, some)) (end-rested c spared resting) in
-          (q.0, ap is_valid (same_replica c q.0) ∙ q.1)
+          (q.0, same_copy c q.0 ∙ q.1)
     ];
   }
 
@@ -278,8 +283,7 @@ module _ (p : Program) (m : Machine) (s : State) (h : IsSound p m s) (t : Task) 
     -- what it writes has its result as content where it is valid, which is on its worker's node
     own_array : (c : Cell) (q : Place) → has_cell (written_cells p t w) c ≡ true → has_copy p m s c q ≡ true → ended_with c q ≡ content p s' c
     own_array c q written valid =
-        let here : same_place q (AtNode (node_of m w)) ≡ true = true_from_ne_false (same_place q (AtNode (node_of m w))) (λ away. false≢true (sym (ap is_valid ((owned c written).only q (ap not away))) ∙ valid)) in
-        both_pass (same_place q (AtNode (node_of m w))) (has_cell (written_cells p t w) c) (result_in p t w (held_at A (AtNode (node_of m w))) c) (A c q) here written
+        both_pass (same_place q (AtNode (node_of m w))) (has_cell (written_cells p t w) c) (result_in p t w (held_at A (AtNode (node_of m w))) c) (A c q) (owned-here p m s c w (owned c written) q valid) written
         ∙ sym (end-content-own p m h.proper puts_last s h.coherent t w s' ended leaves A holds c written)
 
     pub Ends-content : HoldsContent p m s' ended_with
@@ -289,7 +293,7 @@ module _ (p : Program) (m : Machine) (s : State) (h : IsSound p m s) (t : Task) 
           let was : progress s u ≡ Running v = sym (advance.others u other) ∙ runs in
           let spared = end-spares u v c other (ap (is_task_of v) was ∙ same_worker-refl v) (written-among_cells p u v c written) in
           same_array c (AtNode (node_of m v)) spared ∙ holds.begun u v c was written ∙ ap (λ (a : Array). cond (has_cell (fresh_cells p u v) c) (zeros (dims_of p c)) a) (sym (spared-content c spared)));
-      alike = λ c q some resting valid. (let was : has_copy p m s c q ≡ true = sym (ap is_valid (same_replica c q)) ∙ valid in elim (cases_Bool (has_cell (written_cells p t w) c)) [
+      alike = λ c q some resting valid. (let was : has_copy p m s c q ≡ true = sym (same_copy c q) ∙ valid in elim (cases_Bool (has_cell (written_cells p t w) c)) [
         | inl written ↦ own_array c q written was
         | inr spared ↦ same_array c q spared ∙ holds.alike c q (omega (arith, spared-writes c spared, some)) (end-rested c spared resting) was ∙ sym (spared-content c spared)
       ]);

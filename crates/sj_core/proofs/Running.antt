@@ -4,10 +4,10 @@ use Rattle.std.proofs.lemmas.Bool.{cases_Bool, false_from_ne_true, false≢true,
 use Rattle.std.proofs.lemmas.Bool.Decides.{Decides-eqb}
 use Rattle.std.proofs.lemmas.List.{get_or-set_same, length-map, length-set}
 use Rattle.sj_base.proofs.SameIds.{same_place-itself}
-use Rattle.sj_core.proofs.Words.{Array, AtNode, Cell, CellState, Claimed, Invalid, Machine, Mark, Node, OnDisk, Place, Program, Progress, Running, State, Task, Transfer, Valid, Worker, WorkerState, cell_state, cells_of, dims_of, fresh_cells, has_cell, is_coming_by, is_entry, is_leaving_by, is_task_of, is_valid, moves, node_of, order, progress, mark, mark_in, transfer, worker_of, worker_state, writes, written_cells, zeros, Run, owned_at}
+use Rattle.sj_core.proofs.Words.{Array, AtNode, Cell, CellState, Claimed, Invalid, Machine, Mark, Node, OnDisk, Place, Program, Progress, Running, State, Task, Transfer, Valid, Worker, WorkerState, cell_state, cells_of, dims_of, fresh_cells, has_cell, is_coming_by, is_entry, is_leaving_by, is_task_of, is_valid, moves, node_of, order, progress, replica, replica_in, transfer, worker_of, worker_state, writes, written_cells, zeros, Run}
 use Rattle.sj_core.specs.Coherent.{Coherent, HasEntries, HasRows, IsStateOf, WritersOwn, is_begun, is_being_written, WrittenIsKept}
 use Rattle.sj_core.specs.Laws.{IsSound}
-use Rattle.sj_core.specs.Step.{CanRun, after_run, is_moving, same_place, without}
+use Rattle.sj_core.specs.Step.{CanRun, after_run, is_moving, owned_at, same_place, without}
 use Rattle.sj_core.proofs.Advancing.{Advances, Runs-advances, OrderIsKept-advances, claimed-is_mine, claimed-task_of, same_task}
 use Rattle.sj_core.proofs.CellLists.{has_cell-without, times, times-filter}
 use Rattle.sj_core.proofs.Changing.{Changes, Changes-coherent, Changes-writers, TransfersAreSound-spared, HasBlocks-kept, HasRows-kept, moves-kept, place_differs, HasWorkers-kept}
@@ -31,8 +31,15 @@ module _ (p : Program) (m : Machine) (s : State) (t : Task) (w : Worker) (s' : S
   run-row c spared = ap (λ (z : State). cell_state z c) leaves ∙ cells-untouched s (has_cell (written_cells p t w)) owns c spared
 
   -- what the task doesn't write stays as it is
-  pub run-other : (c : Cell) (q : Place) → has_cell (written_cells p t w) c ≡ false → replica s' c q ≡ replica s c q
-  run-other c q spared = ap (λ (row : CellState). replica_in row q) (run-row c spared)
+  pub run-other : (c : Cell) (k : Node) → has_cell (written_cells p t w) c ≡ false → mark s' c k ≡ mark s c k
+  run-other c k spared = ap (λ (row : CellState). mark_in row k) (run-row c spared)
+
+  pub run-other_disk : (c : Cell) → has_cell (written_cells p t w) c ≡ false → on_disk s' c ≡ on_disk s c
+  run-other_disk c spared = ap (λ (row : CellState). row.on_disk) (run-row c spared)
+
+  pub run-other_copy : (c : Cell) (q : Place) → has_cell (written_cells p t w) c ≡ false → has_copy p m s' c q ≡ has_copy p m s c q
+  run-other_copy c k spared = ap is_valid (run-other c k spared)
+  run-other_copy c (OnDisk d) spared = ap (λ b. b && is_home p m c d) (run-other_disk c spared)
 
   -- what it writes is valid on its worker's node
   pub run-own : (c : Cell) → has_cell (written_cells p t w) c ≡ true → c.0 < length s.cells → (node_of m w).0 < length (cell_state s c).marks → mark s' c (node_of m w) ≡ Valid
@@ -41,27 +48,26 @@ module _ (p : Program) (m : Machine) (s : State) (t : Task) (w : Worker) (s' : S
       grind (arith, leaves, cells-touched s (has_cell (written_cells p t w)) owns c inside written, get_or-set_same nowhere (node_of m w).0 Valid Invalid, length-map (cell_state s c).marks (λ (r : Mark). Invalid), within)
 
   -- and nowhere else
-  run-written : (c : Cell) (q : Place) → has_cell (written_cells p t w) c ≡ true → (replica s' c q ≡ Invalid) ⊎ ((q ≡ AtNode (node_of m w)) × (replica s' c q ≡ Valid))
-  run-written c q written =
-      let bare : CellState = record { nodes = map (λ r. Invalid) (cell_state s c).marks; disks = map (λ r. Invalid) (cell_state s c).disks; writes = writes s c } in
+  run-written : (c : Cell) (k : Node) → has_cell (written_cells p t w) c ≡ true → (mark s' c k ≡ Invalid) ⊎ ((k ≡ node_of m w) × (mark s' c k ≡ Valid))
+  run-written c k written =
+      let bare : CellState = record { marks = map (λ r. Invalid) (cell_state s c).marks; on_disk = false; writes = writes s c } in
       elim (cells-renewed_or s (λ d row. if has_cell (written_cells p t w) d then owns d row else row) c) [
-        | inr none ↦ inl (grind (arith, leaves, none.1, replica_in-no_row q))
-        | inl row ↦ grind (arith, leaves, row, written, replica_in-cases bare (AtNode (node_of m w)) q Valid, nowhere q)
+        | inr none ↦ inl (ap (λ (z : State). mark z c k) leaves ∙ ap (λ (row : CellState). mark_in row k) none.1)
+        | inl row ↦ grind (arith, leaves, row, written, mark_in-cases bare (node_of m w) k Valid, all_invalid (cell_state s c).marks k.0)
       ]
-    where
-      nowhere : (q : Place) → replica_in (record { nodes = map (λ r. Invalid) (cell_state s c).marks; disks = map (λ r. Invalid) (cell_state s c).disks; writes = writes s c }) q ≡ Invalid
-      nowhere (AtNode k) = all_invalid (cell_state s c).marks k.0
-      nowhere (OnDisk d) = all_invalid (cell_state s c).disks d.0
 
-  pub run-only : (c : Cell) (q : Place) → has_cell (written_cells p t w) c ≡ true → not (same_place q (AtNode (node_of m w))) ≡ true → replica s' c q ≡ Invalid
-  run-only c q written elsewhere = elim (run-written c q written) [ inl none ↦ none | inr (at, is) ↦ absurd (false≢true (sym (ap (λ (k : Place). not (same_place k (AtNode (node_of m w)))) at ∙ ap not (same_place-itself (AtNode (node_of m w)))) ∙ elsewhere)) ]
+  pub run-only : (c : Cell) (k : Node) → has_cell (written_cells p t w) c ≡ true → k ≢ node_of m w → mark s' c k ≡ Invalid
+  run-only c k written away = elim (run-written c k written) [ inl none ↦ none | inr (at, is) ↦ absurd (away at) ]
 
-  -- a test that an invalid and a valid replica fail is passed by none that didn't before, and by none of a written cell
-  run-fewer : (test : Mark → Bool) → test Invalid ≡ false → test Valid ≡ false → (c : Cell) (q : Place) → test (replica s' c q) ≡ true → (has_cell (written_cells p t w) c ≡ false) × (test (replica s c q) ≡ true)
-  run-fewer test none valid c q passes = search (arith, run-other, run-written, false≢true)
+  pub run-unstored : (c : Cell) → has_cell (written_cells p t w) c ≡ true → on_disk s' c ≡ false
+  run-unstored c written = search (arith, cells-renewed_or)
 
-  pub run-leaving : (v : Worker) (c : Cell) (q : Place) → is_leaving_by v (replica s' c q) ≡ true → is_leaving_by v (replica s c q) ≡ true
-  run-leaving v c q leaving = (run-fewer (is_leaving_by v) refl refl c q leaving).1
+  -- a test that an invalid and a valid mark fail is passed by none that didn't before, and by none of a written cell
+  run-fewer : (test : Mark → Bool) → test Invalid ≡ false → test Valid ≡ false → (c : Cell) (k : Node) → test (mark s' c k) ≡ true → (has_cell (written_cells p t w) c ≡ false) × (test (mark s c k) ≡ true)
+  run-fewer test none valid c k passes = search (arith, run-other, run-written, false≢true)
+
+  pub run-leaving : (v : Worker) (c : Cell) (k : Node) → is_leaving_by v (mark s' c k) ≡ true → is_leaving_by v (mark s c k) ≡ true
+  run-leaving v c k leaving = (run-fewer (is_leaving_by v) refl refl c k leaving).1
 
   pub run-writes : (c : Cell) → writes s' c ≡ writes s c
   run-writes c = search (arith, cells-renewed_or, cond_both)
@@ -109,7 +115,7 @@ module _ (p : Program) (m : Machine) (s : State) (h : IsSound p m s) (t : Task) 
   spared-present c has spared = present c has (false_from_ne_true (has_cell (fresh_cells p t w) c) (λ fresh. false≢true (sym spared ∙ fresh-among_written p t w c fresh)))
 
   -- none of the worker's victims leaves any more, and what comes by its claim is written without being read
-  none_leaves : (c : Cell) (q : Place) → is_leaving_by w (replica s c q) ≡ false
+  none_leaves : (c : Cell) (k : Node) → is_leaving_by w (mark s c k) ≡ false
   none_leaves = room-leaves_none p m s h w run.room
 
   coming-is_fresh : (c : Cell) (k : Node) → is_coming_by w (mark s c k) ≡ true → has_cell (written_cells p t w) c ≡ true
@@ -122,8 +128,7 @@ module _ (p : Program) (m : Machine) (s : State) (h : IsSound p m s) (t : Task) 
   pub run-unmoved : (v : Worker) (x : Transfer) → transfer s v ≡ Some x → has_cell (written_cells p t w) x.cell ≡ false
   run-unmoved v x under_way = false_from_ne_true (has_cell (written_cells p t w) x.cell) (λ written.
       (let still = list_all-has (λ c. not (is_moving s c)) (written_cells p t w) x.cell run.unmoved written in
-      let inside : v.0 < m.workers = omega (arith, transfer-inside s v x under_way, h.coherent.state.rows.workers) in
-      false≢true (sym (ap not (list_any-worker (λ k. moves s k x.cell) m v inside (moves-it s v x under_way))) ∙ still)))
+      false≢true (sym (ap not (moving-by s v x.cell (transfer-inside s v x under_way) (moves-it s v x under_way))) ∙ still)))
 
   moves_none : (x : Transfer) → transfer s w ≡ Some x → ⊥
   moves_none x under_way = search (arith, false≢true, run-unmoved, coming-is_fresh, none_leaves)
@@ -132,18 +137,15 @@ module _ (p : Program) (m : Machine) (s : State) (h : IsSound p m s) (t : Task) 
 
   run-rows : HasRows p m s'
   run-rows = HasRows-kept p m s s' _ (ap (λ (z : State). z.cells) leaves)
-      (λ i row. (
-        cond_both (has_cell (written_cells p t w) (record { 0 = i })) _ row (λ (r : CellState). length r.nodes ≡ length row.marks) (λ b. length-set (map (λ r. Invalid) row.marks) (node_of m w).0 _ ∙ length-map row.marks (λ (r : Mark). Invalid)) (λ b. refl),
-        cond_both (has_cell (written_cells p t w) (record { 0 = i })) _ row (λ (r : CellState). length r.disks ≡ length row.disks) (λ b. length-map row.disks (λ (r : Mark). Invalid)) (λ b. refl),
-      ))
+      (λ i row. cond_both (has_cell (written_cells p t w) (record { 0 = i })) _ row (λ (r : CellState). length r.marks ≡ length row.marks) (λ b. length-set (map (λ r. Invalid) row.marks) (node_of m w).0 _ ∙ length-map row.marks (λ (r : Mark). Invalid)) (λ b. refl))
       (ap (λ (z : State). length z.tasks) leaves ∙ length-set s.tasks t.0 (Running w))
       (ap (λ (z : State). length z.orders) leaves ∙ length-renewed (λ i cs. if nat_eq i (node_of m w).0 then cs else without (written_cells p t w) cs) s.orders) (ap (λ (z : State). length z.workers) leaves) h.coherent.state.rows
 
   run-entries : HasEntries s'
   run-entries = record {
     entries = λ k c. elim (same_node k (node_of m w)) [
-      | inl e ↦ grind (arith, e, run-order_here p m s t w s' run leaves, cases_Bool (has_cell (written_cells p t w) c), run-other p m s t w s' run leaves c (AtNode k), own c, entry c, h.coherent.state.entries.entries k c)
-      | inr d ↦ grind (arith, run-order_elsewhere p m s t w s' run leaves k d, has_cell-without (written_cells p t w) (order s k) c, run-other p m s t w s' run leaves c (AtNode k), run-only p m s t w s' run leaves c (AtNode k), place_differs k (node_of m w) d, h.coherent.state.entries.entries k c)
+      | inl e ↦ grind (arith, e, run-order_here p m s t w s' run leaves, cases_Bool (has_cell (written_cells p t w) c), run-other p m s t w s' run leaves c k, own c, entry c, h.coherent.state.entries.entries k c)
+      | inr d ↦ grind (arith, run-order_elsewhere p m s t w s' run leaves k d, has_cell-without (written_cells p t w) (order s k) c, run-other p m s t w s' run leaves c k, run-only p m s t w s' run leaves c k, d, h.coherent.state.entries.entries k c)
     ];
     once = λ k c. elim (same_node k (node_of m w)) [
       | inl e ↦ subst (λ (j : Node). times (order s' j) c ≤ 1) (sym e) (subst (λ (cs : List Cell). times cs c ≤ 1) (sym (run-order_here p m s t w s' run leaves)) (h.coherent.state.entries.once (node_of m w) c))
@@ -164,14 +166,14 @@ module _ (p : Program) (m : Machine) (s : State) (h : IsSound p m s) (t : Task) 
   -- ---- the change
 
   fewer_entries : (c : Cell) (k : Node) → is_entry (mark s' c k) ≡ true → is_entry (mark s c k) ≡ true
-  fewer_entries c k now = grind (arith, cases_Bool (has_cell (written_cells p t w) c), run-other p m s t w s' run leaves c (AtNode k), run-written p m s t w s' run leaves c (AtNode k), entry c)
+  fewer_entries c k now = grind (arith, cases_Bool (has_cell (written_cells p t w) c), run-other p m s t w s' run leaves c k, run-written p m s t w s' run leaves c k, entry c)
 
   -- what comes by the claim of a worker whose victims leave still comes
   still_comes : (v : Worker) (c d : Cell) (k : Node) → is_leaving_by v (mark s' d k) ≡ true → is_coming_by v (mark s c k) ≡ true → is_coming_by v (mark s' c k) ≡ true
   still_comes v c d k leaving coming =
       let claimed = h.coherent.pins.coming_claimed v c k coming in
-      let other : claimed.task ≢ t = λ e. (let same : Claimed v ≡ Claimed w = sym claimed.claimed ∙ ap (λ (u : Task). progress s u) e ∙ run.claimed in let is : v ≡ w = cc in grind (arith, is, none_leaves d (AtNode k), run-leaving p m s t w s' run leaves v d (AtNode k) leaving)) in
-      ap (is_coming_by v) (run-other p m s t w s' run leaves c (AtNode k) (run-spares claimed.task v c other (claimed-task_of s claimed.task v claimed.claimed) claimed.cell)) ∙ coming
+      let other : claimed.task ≢ t = λ e. (let same : Claimed v ≡ Claimed w = sym claimed.claimed ∙ ap (λ (u : Task). progress s u) e ∙ run.claimed in let is : v ≡ w = cc in grind (arith, is, none_leaves d k, run-leaving p m s t w s' run leaves v d k leaving)) in
+      ap (is_coming_by v) (run-other p m s t w s' run leaves c k (run-spares claimed.task v c other (claimed-task_of s claimed.task v claimed.claimed) claimed.cell)) ∙ coming
 
   pub run-change : Changes p m s s' t (Claimed w) (Running w) w
   run-change = record {
@@ -183,18 +185,18 @@ module _ (p : Program) (m : Machine) (s : State) (h : IsSound p m s) (t : Task) 
     victims = λ v. ap (λ (row : WorkerState). row.victims) (run-worker p m s t w s' run leaves v);
     entries = fewer_entries;
     leaves = run-leaving p m s t w s' run leaves;
-    comes = λ v c k coming. (run-fewer p m s t w s' run leaves (is_coming_by v) refl refl c (AtNode k) coming).1;
+    comes = λ v c k coming. (run-fewer p m s t w s' run leaves (is_coming_by v) refl refl c k coming).1;
     still_comes = still_comes;
     moves_on = λ v x under_way. h.coherent.workers.moves_for_claim v x (sym (run-transfer p m s t w s' run leaves v) ∙ under_way);
     claims_on = λ claimed. inl (
-      λ c k. false_from_ne_true (is_leaving_by w (mark s' c k)) (λ leaving. false≢true (sym (none_leaves c (AtNode k)) ∙ run-leaving p m s t w s' run leaves w c (AtNode k) leaving)),
-      λ c k. false_from_ne_true (is_coming_by w (mark s' c k)) (λ coming. (let was = run-fewer p m s t w s' run leaves (is_coming_by w) refl refl c (AtNode k) coming in false≢true (sym was.0 ∙ coming-is_fresh c k was.1))),
+      λ c k. false_from_ne_true (is_leaving_by w (mark s' c k)) (λ leaving. false≢true (sym (none_leaves c k) ∙ run-leaving p m s t w s' run leaves w c k leaving)),
+      λ c k. false_from_ne_true (is_coming_by w (mark s' c k)) (λ coming. (let was = run-fewer p m s t w s' run leaves (is_coming_by w) refl refl c k coming in false≢true (sym was.0 ∙ coming-is_fresh c k was.1))),
       λ x under_way. moves_none x (sym (run-transfer p m s t w s' run leaves w) ∙ under_way),
     );
-    stays = λ u v c d has cell. (let same = run-other p m s t w s' run leaves c (AtNode (node_of m v)) (run-spares u v c d has cell) in (λ was. ap is_entry same ∙ was, λ was. ap is_valid same ∙ was));
+    stays = λ u v c d has cell. (let same = run-other p m s t w s' run leaves c (node_of m v) (run-spares u v c d has cell) in (λ was. ap is_entry same ∙ was, λ was. ap is_valid same ∙ was));
     claimed = λ c e has. absurd (let f : Running w ≡ Claimed w = e in cc);
-    running = λ c e has. elim (cases_Bool (has_cell (written_cells p t w) c)) [ inl written ↦ ap is_valid (own c written) | inr spared ↦ ap is_valid (run-other p m s t w s' run leaves c (AtNode (node_of m w)) spared) ∙ spared-present c has spared ];
-    transfers = TransfersAreSound-spared m s s' (has_cell (written_cells p t w)) (run-other p m s t w s' run leaves) (run-leaving p m s t w s' run leaves) (run-transfer p m s t w s' run leaves) run-unmoved h.coherent.transfers;
+    running = λ c e has. elim (cases_Bool (has_cell (written_cells p t w) c)) [ inl written ↦ ap is_valid (own c written) | inr spared ↦ ap is_valid (run-other p m s t w s' run leaves c (node_of m w) spared) ∙ spared-present c has spared ];
+    transfers = TransfersAreSound-spared p m s s' (has_cell (written_cells p t w)) (run-other p m s t w s' run leaves) (run-other_disk p m s t w s' run leaves) (run-leaving p m s t w s' run leaves) (run-transfer p m s t w s' run leaves) run-unmoved h.coherent.transfers;
     order = OrderIsKept-advances p s s' t (Claimed w) (Running w) advance refl refl (claimed-is_mine w) refl h.coherent.order;
     counts = record { counted = λ c. run-writes p m s t w s' run leaves c ∙ h.coherent.counts.counted c ∙ sym (counted-same p s s' c (λ u. written-undone p s s' c t u (Claimed w) (Running w) advance refl refl)) };
   }
@@ -205,10 +207,11 @@ module _ (p : Program) (m : Machine) (s : State) (h : IsSound p m s) (t : Task) 
   run-writers = Changes-writers p m s h s' t (Claimed w) (Running w) w run-change
       (λ u v c d runs written.
       (let spared = run-spares u v c d (ap (is_task_of v) runs ∙ same_worker-refl v) (written-among_cells p u v c written) in
-      (λ q. run-other p m s t w s' run leaves c q spared, λ x. moves-kept s s' x c (run-transfer p m s t w s' run leaves x) ∙ (h.coherent.writers.owned u v c runs written).unmoved x)))
+      (λ k. run-other p m s t w s' run leaves c k spared, run-other_disk p m s t w s' run leaves c spared, λ x. moves-kept s s' x c (run-transfer p m s t w s' run leaves x) ∙ (h.coherent.writers.owned u v c runs written).unmoved x)))
       (λ c e written. record {
         valid = own c written;
-        only = λ q away. run-only p m s t w s' run leaves c q written away;
+        only = λ k away. run-only p m s t w s' run leaves c k written away;
+        unstored = run-unstored p m s t w s' run leaves c written;
         pinned = ap (λ (row : WorkerState). has_cell row.pins c) (run-worker p m s t w s' run leaves w) ∙ h.coherent.cells.pinned t w c mine (written-among_cells p t w c written);
         unmoved = λ v. moves-kept s s' v c (run-transfer p m s t w s' run leaves v) ∙ unmoved-from s v c (λ x under_way e. false≢true (sym (run-unmoved v x under_way) ∙ ap (has_cell (written_cells p t w)) e ∙ written));
       })
@@ -227,7 +230,7 @@ module _ (p : Program) (m : Machine) (s : State) (h : IsSound p m s) (t : Task) 
   run-copies = record {
     somewhere = λ c some resting.
         (let q = h.coherent.copies.somewhere c (omega (arith, run-writes p m s t w s' run leaves c, some)) (run-rested c resting) in
-        (q.0, ap is_valid (run-other p m s t w s' run leaves c q.0 (run-spared c resting)) ∙ q.1));
+        (q.0, run-other_copy p m s t w s' run leaves c q.0 (run-spared c resting) ∙ q.1));
   }
 
   pub Runs-coherent : Coherent p m s'
@@ -282,6 +285,6 @@ module _ (p : Program) (m : Machine) (s : State) (h : IsSound p m s) (t : Task) 
       alike = λ c q some resting valid.
           (let spared = run-spared c resting in
           same_array c q (run-stale c spared)
-          ∙ holds.alike c q (omega (arith, run-writes p m s t w s' run leaves c, some)) (run-rested c resting) (sym (ap is_valid (run-other p m s t w s' run leaves c q spared)) ∙ valid)
+          ∙ holds.alike c q (omega (arith, run-writes p m s t w s' run leaves c, some)) (run-rested c resting) (sym (run-other_copy p m s t w s' run leaves c q spared) ∙ valid)
           ∙ sym (run-content c));
     }
