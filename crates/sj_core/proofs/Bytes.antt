@@ -1,8 +1,8 @@
--- The bytes on a node: sums over its entries, its leaving replicas and its workers; a step that brings nothing keeps that
+-- The bytes on a node: sums over its entries, its leaving copies and its workers; a step that brings nothing keeps that
 -- they suffice.
 use Rattle.std.proofs.Common.{Bool, List, ap, arith, cond, length, not, refl, sym, true, ℕ, ◌&&◌, ◌+◌, ◌<◌, ◌∙◌, ◌≡◌}
 use Rattle.std.proofs.Common.{◌≢◌, ◌≤◌, filter, count_by, nat_eq, nat_le, nat_lt, sum_by}
-use Rattle.sj_core.proofs.Words.{AtNode, Cell, Machine, Node, Program, State, Worker, cells_of_program, has_cell}
+use Rattle.sj_core.proofs.Words.{Cell, Machine, Node, Program, State, Worker, cells_of_program, has_cell}
 use Rattle.sj_core.proofs.Words.{is_coming_by, is_leaving_by, node_of, order, mark, same_worker, scratch, tile_bytes}
 use Rattle.sj_core.proofs.Words.{workers_at, workers_of, used}
 use Rattle.std.proofs.lemmas.Bool.{and_from, and_parts, false≢true}

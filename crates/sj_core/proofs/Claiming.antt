@@ -5,17 +5,17 @@ use Rattle.std.proofs.lemmas.Bool.Decides.{Decides-eqb}
 use Rattle.std.proofs.lemmas.List.{get_or-set_other, get_or-set_same, get_or_past, length-set}
 use Rattle.sj_base.proofs.Lists.{list_any-filter}
 use Rattle.sj_base.proofs.SameIds.{workers_differ}
-use Rattle.sj_core.proofs.Words.{AtNode, Cell, CellState, Claimed, Coming, DiskNo, Invalid, Leaving, Machine, Mark, Node, OnDisk, Place, Program, Running, State, Task, Transfer, Valid, Waiting, Worker, WorkerState, cell_state, cells_of, cells_of_program, distinct, free, has_cell, is_claimed_by, is_coming_by, is_entry, is_leaving, is_leaving_by, is_pinned, is_task_of, is_valid, node_of, node_size, order, pins, progress, replica, replica_in, same_worker, scratch, scratch_bytes, task_of, tile_bytes, transfer, used, with_replica_in, worker_state, workers_at, workers_of, writes, written_cells, worked_on}
+use Rattle.sj_core.proofs.Words.{AtNode, has_copy, mark, mark_in, on_disk, with_mark, Cell, CellState, Claimed, Coming, Invalid, Leaving, Machine, Mark, Node, OnDisk, Place, Program, Running, State, Task, Transfer, Valid, Waiting, Worker, WorkerState, cell_state, cells_of, cells_of_program, distinct, free, has_cell, is_claimed_by, is_coming_by, is_entry, is_leaving, is_leaving_by, is_pinned, is_task_of, is_valid, node_of, node_size, order, pins, progress, same_worker, scratch, scratch_bytes, task_of, tile_bytes, transfer, used, worker_state, workers_at, workers_of, writes, written_cells, worked_on}
 use Rattle.sj_core.specs.Coherent.{Coherent, HasEntries, HasRows, IsOwnedBy, IsStateOf, NodesSuffice, OrderIsKept, PinsHold, TasksHaveCells, TransfersAreSound, WorkersAreSound, WritersOwn, WritesAreCounted, is_being_written, used_while_leaving, WrittenIsKept}
 use Rattle.sj_core.specs.Laws.{IsSound}
 use Rattle.sj_core.specs.Proper.{IsMachineFor}
-use Rattle.sj_core.specs.Step.{CanClaim, after_claim, claimed_mark, leave, missing, to_come, to_front, without}
+use Rattle.sj_core.specs.Step.{CanClaim, is_home, after_claim, claimed_mark, leave, missing, to_come, to_front, without}
 use Rattle.sj_core.specs.Victims.{covers}
 use Rattle.sj_core.proofs.Advancing.{Advances, Claims-advances, claimed-is_mine, claimed-task_of, claimed_by-task_of, idle-has_none, same_task, task_of-worker}
 use Rattle.sj_core.proofs.CellLists.{filter-has_cell, has_cell-append, has_cell-distinct, has_cell-filter, has_cell-fronted, has_cell-without, share, times, times-append, times-distinct, times-filter, times-fronted}
 use Rattle.sj_core.proofs.Eviction.{evicted-chosen, evicted_by, shortest_suffix-passes, shortest_suffix-suffix}
-use Rattle.sj_core.proofs.Placing.{replica_in-cases}
-use Rattle.sj_core.proofs.Reading.{cells-renewed_or, entry-inside, idle_row, list_any-worker, no_row, replica_in-same, same_node, settled-at, worker-other, worker-same}
+use Rattle.sj_core.proofs.Placing.{mark_in-cases}
+use Rattle.sj_core.proofs.Reading.{cells-renewed_or, entry-inside, idle_row, list_any-worker, no_row, mark_in-same, same_node, settled-at, worker-other, worker-same}
 use Rattle.sj_core.proofs.Replicas.{coming_by-is, entry-cases, invalid-is, leaving-by_some, leaving_by-leaves, leaving_by-no_entry, same_worker-is, same_worker-refl}
 use Rattle.sj_core.proofs.Sharing.{operand_for, manner_of}
 use Rattle.sj_core.proofs.Tables.{renewed-at}
@@ -180,7 +180,7 @@ module _ (p : Program) (m : Machine) (s : State) (h : IsSound p m s) (t : Task) 
   claim-valid c k = search (arith, claim-cases)
 
   pub claim-copy : (c : Cell) (q : Place) → has_copy p m s' c q ≡ has_copy p m s c q
-  claim-copy c k = claim-valid c k
+  claim-copy c (AtNode k) = claim-valid c k
   claim-copy c (OnDisk d) = ap (λ b. b && is_home p m c d) (claim-on_disk p m s t w s' claim leaves c)
 
   -- an entry that isn't evicted stays
@@ -254,7 +254,7 @@ module _ (p : Program) (m : Machine) (s : State) (h : IsSound p m s) (t : Task) 
   claim-state = record {
     rows = claim-rows;
     entries = claim-entries;
-    blocks = HasBlocks-kept p m s s' (λ c d. inr (claim-on_disk p m s t w s' claim leaves c d)) (claim-transfer) h.coherent.state.blocks;
+    blocks = HasBlocks-kept p m s s' (λ c there. sym (claim-on_disk p m s t w s' claim leaves c) ∙ there) (claim-transfer) h.coherent.state.blocks;
     staff = HasWorkers-kept p s s' t Waiting (Claimed w) (claim-advance) claim.worker h.coherent.state.staff;
   }
 
@@ -347,12 +347,12 @@ module _ (p : Program) (m : Machine) (s : State) (h : IsSound p m s) (t : Task) 
         ];
       }
 
-  claim-transfers : TransfersAreSound m s'
-  claim-transfers = TransfersAreSound-kept m s s' was (λ v x now valid. claim-valid x.cell x.from ∙ valid)
+  claim-transfers : TransfersAreSound p m s'
+  claim-transfers = TransfersAreSound-kept p m s s' was (λ v x now there. claim-copy x.cell x.from ∙ there)
       (λ v x k now here coming. ap (is_coming_by v) (entry-stays x.cell k (ap is_entry (coming_by-is v (mark s x.cell k) coming))
       (λ e. pin-spared v x.cell (h.coherent.pins.coming_pinned v x.cell k coming) (sym here ∙ e))) ∙ coming)
-      (λ v x now. claim-still_leaves v x.cell x.from) (λ v x d now e. inr (claim-on_disk p m s t w s' claim leaves x.cell d))
-      (λ v x c q now leaving. elim (claim-leaving v c q leaving) [ inl (at, own, evicted) ↦ absurd (mover_other v x now own) | inr (away, left) ↦ left ]) h.coherent.transfers
+      (λ v x k now. claim-still_leaves v x.cell k) (λ v x now none. claim-on_disk p m s t w s' claim leaves x.cell ∙ none)
+      (λ v x c k now leaving. elim (claim-leaving v c k leaving) [ inl (at, own, evicted) ↦ absurd (mover_other v x now own) | inr (away, left) ↦ left ]) h.coherent.transfers
     where
       was : (v : Worker) (x : Transfer) → transfer s' v ≡ Some x → transfer s v ≡ Some x
       was v x now = sym (claim-transfer v) ∙ now

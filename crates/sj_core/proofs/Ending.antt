@@ -1,6 +1,6 @@
 -- The end of a kernel's run leaves a coherent state.
-use Rattle.std.proofs.Common.{Bool, List, ap, arith, false, inl, inr, length, refl, subst, sym, true, ◌<◌, ◌∙◌, ◌≡◌, ◌&&◌, ◌+◌, ◌≢◌, [], not, ◌≤◌, ◌⊎◌, zip, count_by, nat_eq, nat_le, nat_lt, if◌then◌else◌, cond}
-use Rattle.std.proofs.lemmas.Bool.{false≢true, eq-eqb, ne_eqb, and_from, le-leb, lt-ltb, cases_Bool, cases_lt, false_from_ne_true, cond_both, true_from_ne_false}
+use Rattle.std.proofs.Common.{Bool, List, ap, arith, false, inl, inr, length, refl, subst, sym, true, ◌<◌, ◌∙◌, ◌≡◌, ◌&&◌, ◌+◌, ◌≢◌, [], ◌≤◌, ◌⊎◌, zip, count_by, nat_eq, nat_le, nat_lt, if◌then◌else◌, cond}
+use Rattle.std.proofs.lemmas.Bool.{false≢true, eq-eqb, ne_eqb, and_from, le-leb, lt-ltb, cases_Bool, cases_lt, false_from_ne_true, cond_both}
 use Rattle.std.proofs.lemmas.List.{get_or_past, length-set}
 use Rattle.sj_base.proofs.Bools.{tally}
 use Rattle.sj_base.proofs.Lists.{sum_by-agree}
@@ -10,18 +10,18 @@ use Rattle.sj_core.specs.Coherent.{Coherent, HasWorkers, OrderIsKept, is_begun, 
 use Rattle.sj_core.specs.Fold.{after_chosen, after_task, held_in}
 use Rattle.sj_core.specs.Laws.{IsLawful, IsSound}
 use Rattle.sj_core.specs.Proper.{Proper}
-use Rattle.sj_core.specs.Step.{after_end, after, same_place, written_once_more}
-use Rattle.sj_core.proofs.Words.{Array, AtNode, Cell, CellState, Claimed, Done, Kernel, Machine, Program, Progress, Running, State, Task, Worker, dims_of, done_by, done_in, has_cell, is_done, is_task_of, no_task, node_of, progress, results, tasks_of, worked_on, worker_of, writes, written_cells, zeros, OnDisk, Place, WorkerState, cell_state, cells_of, is_coming_by, is_entry, is_leaving_by, is_valid, order, replica, replica_in, transfer, victims_of, worker_state, fresh_cells, End}
+use Rattle.sj_core.specs.Step.{after_end, after, is_home, same_place}
+use Rattle.sj_core.proofs.Words.{Array, AtNode, Cell, CellState, Claimed, Done, Kernel, Machine, Program, Progress, Running, State, Task, Worker, dims_of, done_by, done_in, has_cell, is_done, is_task_of, no_task, node_of, progress, results, tasks_of, worked_on, worker_of, writes, written_cells, zeros, OnDisk, Place, WorkerState, cell_state, cells_of, is_coming_by, is_entry, is_leaving_by, is_valid, Node, mark, mark_in, has_copy, on_disk, written_once_more, order, transfer, victims_of, worker_state, fresh_cells, End}
 use Rattle.sj_core.proofs.Advancing.{Advances, Ends-advances, done-begun, same_task, OrderIsKept-advances}
 use Rattle.sj_core.proofs.Values.{results-complete}
 use Rattle.sj_core.proofs.Updating.{may-swap}
 use Rattle.sj_core.proofs.Folding.{AddsTask, after_chosen-same, after_task-other, held-append, held_over, held_over-own, read-among_cells, results-same}
 use Rattle.sj_core.proofs.Found.{found-content}
 use Rattle.sj_core.proofs.Phases.{contributions-exchange}
-use Rattle.sj_core.proofs.Reading.{cells-touched, cells-untouched, cells-renewed_or, idle_row, worker-other, worker-same}
+use Rattle.sj_core.proofs.Reading.{same_node, cells-touched, cells-untouched, cells-renewed_or, idle_row, worker-other, worker-same}
 use Rattle.sj_core.proofs.Replicas.{same_worker-refl}
 use Rattle.sj_core.proofs.Swapping.{put-last}
-use Rattle.sj_core.proofs.Placing.{valid-row}
+use Rattle.sj_core.proofs.Placing.{copy-row}
 use Rattle.sj_core.proofs.TaskCells.{written-among_cells}
 use Rattle.sj_core.proofs.Sums.{sum-plus, count-numbered}
 use Rattle.sj_core.proofs.CellLists.{times}
@@ -121,7 +121,7 @@ Ends-keeps_counts p m s t w s' state cells ended leaves counts = record { counte
         same ∙ counts.counted c ∙ sym (counted-same p s s' c (λ u. (grind (arith, same_task u t, now c, e, undone c, written-other p s s' c t u (Running w) (Done w) (Ends-advances p m s t w s' ended leaves)))))
     by_cases c true e =
         let there = cells.running t w c ended (written-among_cells p t w c e) in
-        let more : writes s' c ≡ writes s c + 1 = ap (λ (z : State). writes z c) leaves ∙ ap (λ (r : CellState). r.writes) (cells-touched s (has_cell (written_cells p t w)) (λ d row. written_once_more row) c (valid-row s c (node_of m w) there) e) in
+        let more : writes s' c ≡ writes s c + 1 = ap (λ (z : State). writes z c) leaves ∙ ap (λ (r : CellState). r.writes) (cells-touched s (has_cell (written_cells p t w)) (λ d row. written_once_more row) c (copy-row p m s c (AtNode (node_of m w)) there) e) in
         let is_t : Task → Bool = λ u. nat_eq u.0 t.0 in
         let each : (u : Task) → tally (has_written p s' c u) ≡ tally (has_written p s c u) + tally (is_t u) = λ u. elim (same_task u t) [
           | inl f ↦ grind (arith, f, now c, e, undone c, eq-eqb u.0 t.0)
@@ -130,6 +130,14 @@ Ends-keeps_counts p m s t w s' state cells ended leaves counts = record { counte
         let all = count-numbered (λ n. record { 0 = n }) is_t t.0 (λ n. refl) 0 (length p.tasks) ∙ ap tally (and_from (nat_le 0 t.0) (nat_lt t.0 (0 + length p.tasks)) (le-leb 0 t.0 (omega arith)) (lt-ltb t.0 (0 + length p.tasks) (omega (arith, running-inside p m s t w state.rows ended)))) in
         let one = sum-plus (λ u. tally (has_written p s' c u)) (λ u. tally (has_written p s c u)) (λ u. tally (is_t u)) each (tasks_of p) in
         omega (arith, counts.counted c)
+
+-- a cell that a worker owns has its one copy on the worker's node
+owned-here : (p : Program) (m : Machine) (s : State) (c : Cell) (w : Worker) → IsOwnedBy m s c w → (q : Place) → has_copy p m s c q ≡ true → same_place q (AtNode (node_of m w)) ≡ true
+owned-here p m s c w own (AtNode k) there = elim (same_node k (node_of m w)) [
+  | inl here ↦ eq-eqb k.0 (node_of m w).0 (ap (λ (n : Node). n.0) here)
+  | inr away ↦ absurd (false≢true (sym (ap is_valid (own.only k away)) ∙ there))
+]
+owned-here p m s c w own (OnDisk d) there = absurd (false≢true (sym (ap (λ b. b && is_home p m c d) own.unstored) ∙ there))
 
 -- ---- the end of a kernel's run leaves a coherent state
 
@@ -210,7 +218,7 @@ module _ (p : Program) (m : Machine) (s : State) (h : IsSound p m s) (t : Task) 
       entries = λ k c. ap (λ (z : State). has_cell (order z k) c) leaves ∙ h.coherent.state.entries.entries k c ∙ sym (ap is_entry (same_mark c k));
       once = λ k c. subst (λ (z : State). times (order z k) c ≤ 1) (sym leaves) (h.coherent.state.entries.once k c);
     };
-    blocks = HasBlocks-kept p m s s' (λ c d. inr (same_replica c (OnDisk d))) (end-transfer p m s t w s' ended leaves) h.coherent.state.blocks;
+    blocks = HasBlocks-kept p m s s' (λ c there. sym (end-on_disk p m s t w s' ended leaves c) ∙ there) (end-transfer p m s t w s' ended leaves) h.coherent.state.blocks;
     staff = HasWorkers-kept p s s' t (Running w) (Done w) advance (subst (λ (x : Progress). (worker_of x).0 < p.workers) ended (h.coherent.state.staff.staffed t (ap is_begun ended))) h.coherent.state.staff;
   }
 

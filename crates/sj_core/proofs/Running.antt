@@ -1,22 +1,22 @@
 -- The beginning of a kernel's run leaves a coherent state.
-use Rattle.std.proofs.Common.{Bool, List, Some, arith, false, inl, inr, length, map, not, refl, sym, true, ℕ, ◌<◌, ◌||◌, ◌∙◌, ◌≡◌, ◌≢◌, ◌≤◌, ◌⊎◌, ap, subst, if◌then◌else◌, nat_eq, cond}
-use Rattle.std.proofs.lemmas.Bool.{cases_Bool, false_from_ne_true, false≢true, true_from_ne_false, cond_both}
+use Rattle.std.proofs.Common.{◌&&◌, Bool, List, Some, arith, false, inl, inr, length, map, not, refl, sym, true, ℕ, ◌<◌, ◌||◌, ◌∙◌, ◌≡◌, ◌≢◌, ◌≤◌, ◌⊎◌, ap, subst, if◌then◌else◌, nat_eq, cond}
+use Rattle.std.proofs.lemmas.Bool.{cases_Bool, false_from_ne_true, false≢true, not-true, true_from_ne_false, cond_both}
 use Rattle.std.proofs.lemmas.Bool.Decides.{Decides-eqb}
 use Rattle.std.proofs.lemmas.List.{get_or-set_same, length-map, length-set}
 use Rattle.sj_base.proofs.SameIds.{same_place-itself}
-use Rattle.sj_core.proofs.Words.{Array, AtNode, Cell, CellState, Claimed, Invalid, Machine, Mark, Node, OnDisk, Place, Program, Progress, Running, State, Task, Transfer, Valid, Worker, WorkerState, cell_state, cells_of, dims_of, fresh_cells, has_cell, is_coming_by, is_entry, is_leaving_by, is_task_of, is_valid, moves, node_of, order, progress, replica, replica_in, transfer, worker_of, worker_state, writes, written_cells, zeros, Run}
+use Rattle.sj_core.proofs.Words.{Array, AtNode, Cell, CellState, Claimed, Invalid, Machine, Mark, Node, OnDisk, Place, Program, Progress, Running, State, Task, Transfer, Valid, Worker, WorkerState, cell_state, cells_of, dims_of, fresh_cells, has_cell, is_coming_by, is_entry, is_leaving_by, is_task_of, is_valid, mark, mark_in, has_copy, on_disk, owned_at, moves, node_of, order, progress, transfer, worker_of, worker_state, writes, written_cells, zeros, Run}
 use Rattle.sj_core.specs.Coherent.{Coherent, HasEntries, HasRows, IsStateOf, WritersOwn, is_begun, is_being_written, WrittenIsKept}
 use Rattle.sj_core.specs.Laws.{IsSound}
-use Rattle.sj_core.specs.Step.{CanRun, after_run, is_moving, owned_at, same_place, without}
+use Rattle.sj_core.specs.Step.{CanRun, after_run, is_home, is_moving, same_place, without}
 use Rattle.sj_core.proofs.Advancing.{Advances, Runs-advances, OrderIsKept-advances, claimed-is_mine, claimed-task_of, same_task}
 use Rattle.sj_core.proofs.CellLists.{has_cell-without, times, times-filter}
-use Rattle.sj_core.proofs.Changing.{Changes, Changes-coherent, Changes-writers, TransfersAreSound-spared, HasBlocks-kept, HasRows-kept, moves-kept, place_differs, HasWorkers-kept}
+use Rattle.sj_core.proofs.Changing.{Changes, Changes-coherent, Changes-writers, TransfersAreSound-spared, HasBlocks-kept, HasRows-kept, moves-kept, HasWorkers-kept}
 use Rattle.sj_core.proofs.Claimed.{claimed-not_written, claimed-old_value}
 use Rattle.sj_core.proofs.Ending.{content-kept, counted-same, written-undone}
 use Rattle.sj_core.proofs.Dependencies.{Proper-dependencies}
 use Rattle.sj_core.proofs.Finding.{being_written-here, not_written-after, not_written-before, running-inside, second_fails, both_pass}
-use Rattle.sj_core.proofs.Placing.{replica_in-cases, room-leaves_none}
-use Rattle.sj_core.proofs.Reading.{all_invalid, cells-renewed_or, cells-touched, cells-untouched, entry-inside, list_all-has, list_any-worker, moves-it, replica_in-no_row, same_node, transfer-inside, unmoved-from}
+use Rattle.sj_core.proofs.Placing.{mark_in-cases, room-leaves_none}
+use Rattle.sj_core.proofs.Reading.{all_invalid, cells-renewed_or, cells-touched, cells-untouched, entry-inside, list_all-has, moves-it, same_node, unmoved-by, unmoved-from}
 use Rattle.sj_core.proofs.Replicas.{coming_by-is, same_worker-is, same_worker-refl}
 use Rattle.sj_core.proofs.Separation.{separated}
 use Rattle.sj_core.proofs.Tables.{length-renewed, renewed-at_or}
@@ -38,7 +38,7 @@ module _ (p : Program) (m : Machine) (s : State) (t : Task) (w : Worker) (s' : S
   run-other_disk c spared = ap (λ (row : CellState). row.on_disk) (run-row c spared)
 
   pub run-other_copy : (c : Cell) (q : Place) → has_cell (written_cells p t w) c ≡ false → has_copy p m s' c q ≡ has_copy p m s c q
-  run-other_copy c k spared = ap is_valid (run-other c k spared)
+  run-other_copy c (AtNode k) spared = ap is_valid (run-other c k spared)
   run-other_copy c (OnDisk d) spared = ap (λ b. b && is_home p m c d) (run-other_disk c spared)
 
   -- what it writes is valid on its worker's node
@@ -128,7 +128,7 @@ module _ (p : Program) (m : Machine) (s : State) (h : IsSound p m s) (t : Task) 
   pub run-unmoved : (v : Worker) (x : Transfer) → transfer s v ≡ Some x → has_cell (written_cells p t w) x.cell ≡ false
   run-unmoved v x under_way = false_from_ne_true (has_cell (written_cells p t w) x.cell) (λ written.
       (let still = list_all-has (λ c. not (is_moving s c)) (written_cells p t w) x.cell run.unmoved written in
-      false≢true (sym (ap not (moving-by s v x.cell (transfer-inside s v x under_way) (moves-it s v x under_way))) ∙ still)))
+      false≢true (sym (unmoved-by s x.cell v (not-true (is_moving s x.cell) still)) ∙ moves-it s v x under_way)))
 
   moves_none : (x : Transfer) → transfer s w ≡ Some x → ⊥
   moves_none x under_way = search (arith, false≢true, run-unmoved, coming-is_fresh, none_leaves)
@@ -159,7 +159,7 @@ module _ (p : Program) (m : Machine) (s : State) (h : IsSound p m s) (t : Task) 
   run-state = record {
     rows = run-rows;
     entries = run-entries;
-    blocks = HasBlocks-kept p m s s' (λ c d. elim (cases_Bool (has_cell (written_cells p t w) c)) [ inl written ↦ inl (run-only p m s t w s' run leaves c (OnDisk d) written refl) | inr spared ↦ inr (run-other p m s t w s' run leaves c (OnDisk d) spared) ]) (run-transfer p m s t w s' run leaves) h.coherent.state.blocks;
+    blocks = HasBlocks-kept p m s s' (λ c there. elim (cases_Bool (has_cell (written_cells p t w) c)) [ inl written ↦ absurd (false≢true (sym (run-unstored p m s t w s' run leaves c written) ∙ there)) | inr spared ↦ sym (run-other_disk p m s t w s' run leaves c spared) ∙ there ]) (run-transfer p m s t w s' run leaves) h.coherent.state.blocks;
     staff = HasWorkers-kept p s s' t (Claimed w) (Running w) advance (subst (λ (x : Progress). (worker_of x).0 < p.workers) run.claimed (h.coherent.state.staff.staffed t (ap is_begun run.claimed))) h.coherent.state.staff;
   }
 
