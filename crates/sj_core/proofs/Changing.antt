@@ -1,15 +1,14 @@
--- A step in which a claimed or running task goes on, or a replica moves: nothing more leaves or comes. What it owes, and that it
+-- A step in which a claimed or running task goes on, or a copy moves: nothing more leaves or comes. What it owes, and that it
 -- keeps what tasks, pins, bytes and workers ask of a coherent state.
-use Rattle.std.proofs.Common.{Bool, List, None, Option, Some, length, [], arith, false, inl, inr, refl, sym, true, ◌∙◌, ◌≡◌, ◌≢◌, ◌≤◌, ◌⊎◌, ap, subst, get_or, not, ℕ, ◌<◌, All, nat_eq}
+use Rattle.std.proofs.Common.{Bool, List, None, Option, Some, length, [], arith, false, inl, inr, refl, sym, true, ◌∙◌, ◌≡◌, ◌≢◌, ◌≤◌, ◌⊎◌, ap, subst, get_or, ℕ, ◌<◌, ◌&&◌, All}
 use Rattle.std.proofs.lemmas.Bool.{false_from_ne_true, false≢true}
-use Rattle.sj_core.proofs.Words.{AtNode, Cell, CellState, Claimed, same_cell, Machine, Node, OnDisk, Place, Program, Progress, Running, State, Task, Transfer, Worker, cells_of, has_cell, is_claimed_by, is_coming_by, is_entry, is_leaving, is_leaving_by, is_task_of, is_valid, moves, node_of, order, pins, progress, mark, scratch, transfer, victims_of, written_cells, DiskNo, Invalid, worker_of, has_copy, on_disk}
+use Rattle.sj_core.proofs.Words.{AtNode, Cell, CellState, Claimed, same_cell, Machine, Node, OnDisk, Place, Program, Progress, Running, State, Task, Transfer, Worker, cells_of, has_cell, is_claimed_by, is_coming_by, is_entry, is_leaving, is_leaving_by, is_task_of, is_valid, moves, node_of, order, pins, progress, mark, scratch, transfer, victims_of, written_cells, DiskNo, worker_of, has_copy, on_disk, mark_in, cell_state}
 use Rattle.sj_core.specs.Coherent.{Coherent, HasRows, IsOwnedBy, IsStateOf, IsTransferTo, NodesSuffice, OrderIsKept, PinsHold, TasksHaveCells, TransfersAreSound, WorkersAreSound, WritersOwn, WritesAreCounted, HasBlocks, HasWorkers, WrittenIsKept}
 use Rattle.sj_core.specs.Laws.{IsSound}
-use Rattle.sj_core.specs.Step.{leave, same_place}
+use Rattle.sj_core.specs.Step.{is_home}
 use Rattle.sj_core.proofs.Advancing.{Advances, claimed_by-is, claimed_by-task_of, same_task, task_of-worker}
 use Rattle.sj_core.proofs.Bytes.{fewer-entries, fewer-leaving}
 use Rattle.sj_core.proofs.Replicas.{leaving-by_some, leaving_by-leaves, same_worker-refl}
-use Rattle.std.proofs.lemmas.Bool.Decides.{Decides-eqb}
 use Rattle.sj_core.specs.Table.{renewed}
 use Rattle.sj_core.proofs.Tables.{length-renewed, renewed-at}
 
@@ -23,32 +22,40 @@ All-renewed P f xs keeps all i d inside = search (arith, length-renewed, renewed
 pub HasWorkers-kept : (p : Program) (s s' : State) (t : Task) (old new : Progress) → Advances s s' t old new → (worker_of new).0 < p.workers → HasWorkers p s → HasWorkers p s'
 HasWorkers-kept p s s' t old new a staffed before = search (arith, same_task)
 
--- where each replica on a disk is as it was or invalid, and transfers are as they were, blocks are where they ought to be
-pub HasBlocks-kept : (p : Program) (m : Machine) (s s' : State) → ((c : Cell) (d : DiskNo) → (replica s' c (OnDisk d) ≡ Invalid) ⊎ (replica s' c (OnDisk d) ≡ replica s c (OnDisk d))) → ((v : Worker) → transfer s' v ≡ transfer s v) → HasBlocks p m s → HasBlocks p m s'
-HasBlocks-kept p m s s' disks moves before = record {
-  resting = λ c d v. (λ e. (grind (arith, disks c d, (before.resting c d v).0)), λ e. (grind (arith, disks c d, (before.resting c d v).1)));
-  home = λ c d valid. (search (arith, false≢true));
+-- where no block became a copy, and transfers are as they were, blocks are where they ought to be
+pub HasBlocks-kept : (p : Program) (m : Machine) (s s' : State) → ((c : Cell) → on_disk s' c ≡ true → on_disk s c ≡ true) → ((v : Worker) → transfer s' v ≡ transfer s v) → HasBlocks p m s → HasBlocks p m s'
+HasBlocks-kept p m s s' stored moves before = record {
+  home = λ c there. before.home c (stored c there);
   aimed = λ v x d under_way e. before.aimed v x d (sym (moves v) ∙ under_way) e;
 }
 
--- where each row of the cells was renewed so as to keep its places, and the other tables are as long as before, the tables fit
-pub HasRows-kept : (p : Program) (m : Machine) (s s' : State) (f : ℕ → CellState → CellState) → s'.cells ≡ renewed f s.cells → ((i : ℕ) (row : CellState) → (length (f i row).nodes ≡ length row.marks) × (length (f i row).disks ≡ length row.disks)) →
+-- where each row of the cells was renewed so as to keep its nodes, and the other tables are as long as before, the tables fit
+pub HasRows-kept : (p : Program) (m : Machine) (s s' : State) (f : ℕ → CellState → CellState) → s'.cells ≡ renewed f s.cells → ((i : ℕ) (row : CellState) → length (f i row).marks ≡ length row.marks) →
     length s'.tasks ≡ length s.tasks → length s'.orders ≡ length s.orders → length s'.workers ≡ length s.workers → HasRows p m s → HasRows p m s'
 HasRows-kept p m s s' f cells rows tasks orders workers before = record {
   tasks = tasks ∙ before.tasks;
   cells = ap length cells ∙ length-renewed f s.cells ∙ before.cells;
   orders = orders ∙ before.orders;
   workers = workers ∙ before.workers;
-  nodes = subst (All (λ row. length row.marks ≡ length m.nodes)) (sym cells) (All-renewed (λ row. length row.marks ≡ length m.nodes) f s.cells (λ i row e. (rows i row).0 ∙ e) before.nodes);
-  disks = subst (All (λ row. length row.disks ≡ length m.disks)) (sym cells) (All-renewed (λ row. length row.disks ≡ length m.disks) f s.cells (λ i row e. (rows i row).1 ∙ e) before.disks);
+  marks = subst (All (λ row. length row.marks ≡ length m.nodes)) (sym cells) (All-renewed (λ row. length row.marks ≡ length m.nodes) f s.cells (λ i row e. rows i row ∙ e) before.marks);
 }
+
+-- the cell has at each node the mark that it had, and on its disk what it had
+pub record IsLeftAlone (s s' : State) (c : Cell) : Type 0 where
+  pub marks : (k : Node) → mark s' c k ≡ mark s c k
+  pub disk : on_disk s' c ≡ on_disk s c
+
+-- so has one whose row is as it was
+pub left_alone : (s s' : State) (c : Cell) → cell_state s' c ≡ cell_state s c → IsLeftAlone s s' c
+left_alone s s' c same = record { marks = λ k. ap (λ (row : CellState). mark_in row k) same; disk = ap (λ (row : CellState). row.on_disk) same }
+
+pub copies-left : (p : Program) (m : Machine) (s s' : State) (c : Cell) → IsLeftAlone s s' c → (q : Place) → has_copy p m s' c q ≡ has_copy p m s c q
+copies-left p m s s' c alone (AtNode n) = ap is_valid (alone.marks n)
+copies-left p m s s' c alone (OnDisk d) = ap (λ b. b && is_home p m c d) alone.disk
 
 -- a worker with the same transfer moves the same cell
 pub moves-kept : (s s' : State) (v : Worker) (c : Cell) → transfer s' v ≡ transfer s v → moves s' v c ≡ moves s v c
 moves-kept s s' v c same = ap (λ (o : Option Transfer). elim o as (λ _. Bool) [ None ↦ false | Some x ↦ same_cell x.cell c ]) same
-
-pub place_differs : (k n : Node) → k ≢ n → not (same_place (AtNode k) (AtNode n)) ≡ true
-place_differs k n d = ap not (false_from_ne_true (nat_eq k.0 n.0) (λ e. d (ap (λ (i : ℕ). let j : Node = record { 0 = i } in j) ((Decides-eqb k.0 n.0).0 e))))
 
 -- ---- the step
 
@@ -63,7 +70,7 @@ pub record Changes (p : Program) (m : Machine) (s s' : State) (t : Task) (old ne
   pub victims : (v : Worker) → victims_of s' v ≡ victims_of s v
   -- no more entries; nothing more leaves or comes; w's claim has what it had only if it is still a claim
   pub entries : (c : Cell) (k : Node) → is_entry (mark s' c k) ≡ true → is_entry (mark s c k) ≡ true
-  pub leaves : (v : Worker) (c : Cell) (q : Place) → is_leaving_by v (replica s' c q) ≡ true → is_leaving_by v (replica s c q) ≡ true
+  pub leaves : (v : Worker) (c : Cell) (k : Node) → is_leaving_by v (mark s' c k) ≡ true → is_leaving_by v (mark s c k) ≡ true
   pub comes : (v : Worker) (c : Cell) (k : Node) → is_coming_by v (mark s' c k) ≡ true → is_coming_by v (mark s c k) ≡ true
   pub still_comes : (v : Worker) (c d : Cell) (k : Node) → is_leaving_by v (mark s' d k) ≡ true → is_coming_by v (mark s c k) ≡ true → is_coming_by v (mark s' c k) ≡ true
   pub moves_on : (v : Worker) (x : Transfer) → transfer s' v ≡ Some x → (u : Task) × (is_claimed_by v (progress s u) ≡ true)
@@ -115,7 +122,7 @@ module _ (p : Program) (m : Machine) (s : State) (h : IsSound p m s) (s' : State
       record {
         stays = λ v c pin. false_from_ne_true (is_leaving (mark s' c (node_of m v))) (λ leaves.
             (let by = leaving-by_some (mark s' c (node_of m v)) leaves in
-            false≢true (sym (before.stays v c (was_pinned v c pin)) ∙ leaving_by-leaves by.0 (mark s c (node_of m v)) (change.leaves by.0 c (AtNode (node_of m v)) by.1))));
+            false≢true (sym (before.stays v c (was_pinned v c pin)) ∙ leaving_by-leaves by.0 (mark s c (node_of m v)) (change.leaves by.0 c (node_of m v) by.1))));
         own = λ v c pin. (let held = before.own v c (was_pinned v c pin) in record {
           task = held.task;
           cell = held.cell;
@@ -135,7 +142,7 @@ module _ (p : Program) (m : Machine) (s : State) (h : IsSound p m s) (s' : State
       let scratches : (v : Worker) → scratch s' v ≤ scratch s v = λ v. elim (change.rows v) [ inl (pins, same, has) ↦ omega arith | inr (e, pins, none, has) ↦ omega arith ] in
       record {
         entries = λ k. (let less = fewer-entries p m s s' h.coherent.state change.state k (fewer k) (λ v here. scratches v) in let enough = h.coherent.bytes.entries k in omega arith);
-        leaving = λ k v d leaving. (let less = fewer-leaving p m s s' h.coherent.state change.state k (fewer k) (λ v here. scratches v) v (λ c. change.leaves v c (AtNode k)) (λ c. change.still_comes v c d k leaving) in let enough = h.coherent.bytes.leaving k v d (change.leaves v d (AtNode k) leaving) in omega arith);
+        leaving = λ k v d leaving. (let less = fewer-leaving p m s s' h.coherent.state change.state k (fewer k) (λ v here. scratches v) v (λ c. change.leaves v c k) (λ c. change.still_comes v c d k leaving) in let enough = h.coherent.bytes.leaving k v d (change.leaves v d k leaving) in omega arith);
       }
 
   pub Changes-workers : WorkersAreSound p m s'
@@ -143,9 +150,9 @@ module _ (p : Program) (m : Machine) (s : State) (h : IsSound p m s) (s' : State
       let before = h.coherent.workers in
       record {
         evicted = λ v c k leaving.
-            (let was = before.evicted v c k (change.leaves v c (AtNode k) leaving) in
+            (let was = before.evicted v c k (change.leaves v c k leaving) in
             record { here = was.here; claims = (was.claims.0, still_claims v was.claims.0 was.claims.1 (λ is. leaving_on c k (ap (λ (x : Worker). is_leaving_by x (mark s' c k)) (sym is) ∙ leaving))); victim = ap (λ (cs : List Cell). has_cell cs c) (change.victims v) ∙ was.victim });
-        one_evicts = λ u v c d k lu lv. before.one_evicts u v c d k (change.leaves u c (AtNode k) lu) (change.leaves v d (AtNode k) lv);
+        one_evicts = λ u v c d k lu lv. before.one_evicts u v c d k (change.leaves u c k lu) (change.leaves v d k lv);
         one_task = λ u v x hu hv. before.one_task u v x (was_task x u hu) (was_task x v hv);
         moves_for_claim = λ v x under_way.
             (let was = change.moves_on v x under_way in
@@ -164,7 +171,7 @@ module _ (p : Program) (m : Machine) (s : State) (h : IsSound p m s) (s' : State
 
   -- a writer's cells are its own, where another's are left alone, and t's are its own
   pub Changes-writers :
-      ((u : Task) (v : Worker) (c : Cell) → u ≢ t → progress s u ≡ Running v → has_cell (written_cells p u v) c ≡ true → ((q : Place) → replica s' c q ≡ replica s c q) × ((x : Worker) → moves s' x c ≡ false)) →
+      ((u : Task) (v : Worker) (c : Cell) → u ≢ t → progress s u ≡ Running v → has_cell (written_cells p u v) c ≡ true → IsLeftAlone s s' c × ((x : Worker) → moves s' x c ≡ false)) →
       ((c : Cell) → new ≡ Running w → has_cell (written_cells p t w) c ≡ true → IsOwnedBy m s' c w) → WritersOwn p m s'
   Changes-writers alone own = record {
     owned = λ u v c runs written. elim (same_task u t) [
@@ -178,8 +185,9 @@ module _ (p : Program) (m : Machine) (s : State) (h : IsSound p m s) (s' : State
           let before = h.coherent.writers.owned u v c was written in
           let left = alone u v c d was written in
           record {
-            valid = left.0 (AtNode (node_of m v)) ∙ before.valid;
-            only = λ q elsewhere. left.0 q ∙ before.only q elsewhere;
+            valid = left.0.marks (node_of m v) ∙ before.valid;
+            only = λ k elsewhere. left.0.marks k ∙ before.only k elsewhere;
+            unstored = left.0.disk ∙ before.unstored;
             pinned = grind (arith, change.rows v, others-task u v d (ap (is_task_of v) was ∙ same_worker-refl v), before.pinned);
             unmoved = left.1;
           }
@@ -189,33 +197,34 @@ module _ (p : Program) (m : Machine) (s : State) (h : IsSound p m s) (s' : State
   pub Changes-coherent : WritersOwn p m s' → WrittenIsKept p m s' → Coherent p m s'
   Changes-coherent writers copies = search (arith, Changes-cells, Changes-pins, Changes-bytes, Changes-workers)
 
--- a step that begins no transfer keeps them sound, where what moves stays valid where it is read, awaited or evicted, and no
+-- a step that begins no transfer keeps them sound, where what moves stays a copy where it is read, awaited or evicted, and no
 -- mover's victims are more
-pub TransfersAreSound-kept : (m : Machine) (s s' : State) → ((v : Worker) (x : Transfer) → transfer s' v ≡ Some x → transfer s v ≡ Some x) →
+pub TransfersAreSound-kept : (p : Program) (m : Machine) (s s' : State) → ((v : Worker) (x : Transfer) → transfer s' v ≡ Some x → transfer s v ≡ Some x) →
     ((v : Worker) (x : Transfer) → transfer s' v ≡ Some x → has_copy p m s x.cell x.from ≡ true → has_copy p m s' x.cell x.from ≡ true) →
     ((v : Worker) (x : Transfer) (k : Node) → transfer s' v ≡ Some x → k ≡ node_of m v → is_coming_by v (mark s x.cell k) ≡ true → is_coming_by v (mark s' x.cell k) ≡ true) →
-    ((v : Worker) (x : Transfer) → transfer s' v ≡ Some x → is_leaving_by v (replica s x.cell x.from) ≡ true → is_leaving_by v (replica s' x.cell x.from) ≡ true) →
-    ((v : Worker) (x : Transfer) (d : DiskNo) → transfer s' v ≡ Some x → x.to ≡ OnDisk d → (replica s' x.cell (OnDisk d) ≡ Invalid) ⊎ (replica s' x.cell (OnDisk d) ≡ replica s x.cell (OnDisk d))) →
-    ((v : Worker) (x : Transfer) (c : Cell) (q : Place) → transfer s' v ≡ Some x → is_leaving_by v (replica s' c q) ≡ true → is_leaving_by v (replica s c q) ≡ true) → TransfersAreSound p m s → TransfersAreSound p m s'
-TransfersAreSound-kept m s s' was read awaited evicted on_disk leaves before = record {
+    ((v : Worker) (x : Transfer) (k : Node) → transfer s' v ≡ Some x → is_leaving_by v (mark s x.cell k) ≡ true → is_leaving_by v (mark s' x.cell k) ≡ true) →
+    ((v : Worker) (x : Transfer) (d : DiskNo) → transfer s' v ≡ Some x → x.to ≡ OnDisk d → on_disk s x.cell ≡ false → on_disk s' x.cell ≡ false) →
+    ((v : Worker) (x : Transfer) (c : Cell) (k : Node) → transfer s' v ≡ Some x → is_leaving_by v (mark s' c k) ≡ true → is_leaving_by v (mark s c k) ≡ true) → TransfersAreSound p m s → TransfersAreSound p m s'
+TransfersAreSound-kept p m s s' was read awaited evicted unstored leaves before = record {
   source = λ v x now. read v x now (before.source v x (was v x now));
-  target = λ v x now. to_place v x now x.to refl (before.target v x (was v x now));
+  target = λ v x now. to_place v x now x.from x.to refl (before.target v x (was v x now));
   apart = λ u v x y d e hu hv. before.apart u v x y d e (was u x hu) (was v y hv);
 }
   where
-    to_place : (v : Worker) (x : Transfer) → transfer s' v ≡ Some x → (to : Place) → x.to ≡ to → IsTransferTo m s v x.cell x.from to → IsTransferTo m s' v x.cell x.from to
-    to_place v x now (AtNode k) e target = (target.0, awaited v x k now target.0 target.1, λ d q. false_from_ne_true (is_leaving_by v (replica s' d q)) (λ leaving. false≢true (sym (target.2 d q) ∙ leaves v x d q now leaving)))
-    to_place v x now (OnDisk d) e target = (evicted v x now target.0, elim (on_disk v x d now e) [ inl none ↦ none | inr stays ↦ stays ∙ target.1 ])
+    to_place : (v : Worker) (x : Transfer) → transfer s' v ≡ Some x → (from to : Place) → x.to ≡ to → IsTransferTo m s v x.cell from to → IsTransferTo m s' v x.cell from to
+    to_place v x now from (AtNode k) e target = (target.0, awaited v x k now target.0 target.1, λ d j. false_from_ne_true (is_leaving_by v (mark s' d j)) (λ leaving. false≢true (sym (target.2 d j) ∙ leaves v x d j now leaving)))
+    to_place v x now (AtNode j) (OnDisk d) e target = (evicted v x j now target.0, unstored v x d now e target.1)
+    to_place v x now (OnDisk j) (OnDisk d) e target = target
 
 -- so does one that leaves alone the cells that move
-pub TransfersAreSound-spared : (m : Machine) (s s' : State) (touched : Cell → Bool) → ((c : Cell) (q : Place) → touched c ≡ false → replica s' c q ≡ replica s c q) → ((v : Worker) (c : Cell) (q : Place) → is_leaving_by v (replica s' c q) ≡ true → is_leaving_by v (replica s c q) ≡ true) →
+pub TransfersAreSound-spared : (p : Program) (m : Machine) (s s' : State) (touched : Cell → Bool) → ((c : Cell) → touched c ≡ false → IsLeftAlone s s' c) → ((v : Worker) (c : Cell) (k : Node) → is_leaving_by v (mark s' c k) ≡ true → is_leaving_by v (mark s c k) ≡ true) →
     ((v : Worker) → transfer s' v ≡ transfer s v) → ((v : Worker) (x : Transfer) → transfer s v ≡ Some x → touched x.cell ≡ false) → TransfersAreSound p m s → TransfersAreSound p m s'
-TransfersAreSound-spared m s s' touched stays leaves same spared = TransfersAreSound-kept m s s' was (λ v x now valid. ap is_valid (stays x.cell x.from (unmoved v x now)) ∙ valid)
-    (λ v x k now here coming. ap (is_coming_by v) (stays x.cell (AtNode k) (unmoved v x now)) ∙ coming) (λ v x now leaving. ap (is_leaving_by v) (stays x.cell x.from (unmoved v x now)) ∙ leaving)
-    (λ v x d now e. inr (stays x.cell (OnDisk d) (unmoved v x now))) (λ v x c q now. leaves v c q)
+TransfersAreSound-spared p m s s' touched alone leaves same spared = TransfersAreSound-kept p m s s' was (λ v x now copy. copies-left p m s s' x.cell (stays v x now) x.from ∙ copy)
+    (λ v x k now here coming. ap (is_coming_by v) ((stays v x now).marks k) ∙ coming) (λ v x k now leaving. ap (is_leaving_by v) ((stays v x now).marks k) ∙ leaving)
+    (λ v x d now e none. (stays v x now).disk ∙ none) (λ v x c k now. leaves v c k)
   where
     was : (v : Worker) (x : Transfer) → transfer s' v ≡ Some x → transfer s v ≡ Some x
     was v x now = sym (same v) ∙ now
 
-    unmoved : (v : Worker) (x : Transfer) → transfer s' v ≡ Some x → touched x.cell ≡ false
-    unmoved v x now = spared v x (was v x now)
+    stays : (v : Worker) (x : Transfer) → transfer s' v ≡ Some x → IsLeftAlone s s' x.cell
+    stays v x now = alone x.cell (spared v x (was v x now))

@@ -3,14 +3,14 @@ use Rattle.std.proofs.Common.{Option, None, Some, List, [], ap, arith, cond, inl
 use Rattle.std.proofs.Common.{sym, true, ◌&&◌, ◌<◌, ◌∙◌, ◌≡◌, ◌⊎◌, count_by}
 use Rattle.sj_core.proofs.Words.{AtNode, Cell, CellState, Coming, Invalid, Leaving, Machine, Node, OnDisk, Place, zeros, dims_of}
 use Rattle.sj_core.proofs.Words.{Program, Task, Transfer, Waiting, Worker, WorkerState, cell_state, done_by, has_cell}
-use Rattle.sj_core.proofs.Words.{is_coming_by, is_done, is_entry, is_leaving_by, is_task_of, is_valid, no_copy}
+use Rattle.sj_core.proofs.Words.{on_disk, is_coming_by, is_done, is_entry, is_leaving_by, is_task_of, is_valid, no_copy}
 use Rattle.sj_core.proofs.Words.{opening, order, pins, progress, mark, same_cell, scratch, tasks_of, transfer}
 use Rattle.sj_core.proofs.Words.{worker_state, writes, written_cells, used}
 use Rattle.std.proofs.lemmas.List.{get_or-replicate, get_or_past, length-replicate}
 use Rattle.std.proofs.lemmas.{Bool.cases_lt, Bool.false≢true, List.Elements.All-replicate}
 use Rattle.sj_base.proofs.Lists.{get_or-replicate_same}
 use Rattle.sj_core.specs.Coherent.{Coherent, has_written, is_active, is_begun}
-use Rattle.sj_core.proofs.Reading.{idle_row, no_row, replica_in-no_row}
+use Rattle.sj_core.proofs.Reading.{idle_row, no_row}
 use Rattle.sj_core.proofs.{Advancing.claimed-is_mine, Replicas.same_worker-refl, Sums.sum-nothing}
 use Rattle.sj_core.specs.Arrays.{HoldsContent}
 
@@ -27,17 +27,20 @@ module _ (p : Program) (m : Machine) where
   a_row : (c : Cell) → (cell_state (opening p m) c ≡ no_copy (length m.nodes)) ⊎ (cell_state (opening p m) c ≡ no_row)
   a_row c = search (arith, cases_lt, get_or-replicate, no_row, get_or_past, length-replicate)
 
-  pub nowhere : (c : Cell) (q : Place) → replica (opening p m) c q ≡ Invalid
-  nowhere c q = search (arith, a_row, replica_in-no_row, get_or-replicate_same)
+  pub nowhere : (c : Cell) (n : Node) → mark (opening p m) c n ≡ Invalid
+  nowhere c n = search (arith, a_row, no_row, get_or-replicate_same)
+
+  not_stored : (c : Cell) → on_disk (opening p m) c ≡ true → ⊥
+  not_stored c h = search (arith, a_row, no_row, false≢true)
 
   pub unwritten : (c : Cell) → writes (opening p m) c ≡ 0
   unwritten c = elim (a_row c) [ inl row ↦ ap (λ (r : CellState). r.writes) row | inr row ↦ ap (λ (r : CellState). r.writes) row ]
 
-  not_leaving : (w : Worker) (c : Cell) (q : Place) → is_leaving_by w (replica (opening p m) c q) ≡ true → ⊥
-  not_leaving w c q h = false≢true (sym (ap (is_leaving_by w) (nowhere c q)) ∙ h)
+  not_leaving : (w : Worker) (c : Cell) (n : Node) → is_leaving_by w (mark (opening p m) c n) ≡ true → ⊥
+  not_leaving w c n h = false≢true (sym (ap (is_leaving_by w) (nowhere c n)) ∙ h)
 
-  not_coming : (w : Worker) (c : Cell) (q : Place) → is_coming_by w (replica (opening p m) c q) ≡ true → ⊥
-  not_coming w c q h = false≢true (sym (ap (is_coming_by w) (nowhere c q)) ∙ h)
+  not_coming : (w : Worker) (c : Cell) (n : Node) → is_coming_by w (mark (opening p m) c n) ≡ true → ⊥
+  not_coming w c n h = false≢true (sym (ap (is_coming_by w) (nowhere c n)) ∙ h)
 
   not_moving : (w : Worker) (x : Transfer) → transfer (opening p m) w ≡ Some x → ⊥
   not_moving w x h = let none : ◌≡◌ {A = Option Transfer} None (Some x) = sym (ap (λ (row : WorkerState). row.transfer) (idle w)) ∙ h in cc
@@ -74,16 +77,14 @@ module _ (p : Program) (m : Machine) where
         cells = length-replicate (length p.cells) (no_copy (length m.nodes));
         orders = length-replicate (length m.nodes) [];
         workers = length-replicate m.workers idle_row;
-        nodes = All-replicate (λ (row : CellState). length row.marks ≡ length m.nodes) (length p.cells) (no_copy (length m.nodes)) (length-replicate (length m.nodes) Invalid);
-        disks = All-replicate (λ (row : CellState). length row.disks ≡ length m.disks) (length p.cells) (no_copy (length m.nodes)) (length-replicate (length m.disks) Invalid);
+        marks = All-replicate (λ (row : CellState). length row.marks ≡ length m.nodes) (length p.cells) (no_copy (length m.nodes)) (length-replicate (length m.nodes) Invalid);
       };
       entries = record {
-        entries = λ n c. ap (λ (cs : List Cell). has_cell cs c) (empty n) ∙ sym (ap is_entry (nowhere c (AtNode n)));
+        entries = λ n c. ap (λ (cs : List Cell). has_cell cs c) (empty n) ∙ sym (ap is_entry (nowhere c n));
         once = λ n c. (let e = ap (λ (cs : List Cell). count_by (λ d. same_cell d c) cs) (empty n) in omega arith);
       };
       blocks = record {
-        resting = λ c d w. (λ e. (let f : Invalid ≡ Coming w = sym (nowhere c (OnDisk d)) ∙ e in cc), λ e. (let f : Invalid ≡ Leaving w = sym (nowhere c (OnDisk d)) ∙ e in cc));
-        home = λ c d h. absurd (false≢true (sym (ap is_valid (nowhere c (OnDisk d))) ∙ h));
+        home = λ c h. absurd (not_stored c h);
         aimed = λ w x d h e. absurd (not_moving w x h);
       };
       staff = record { staffed = λ t h. absurd (not_begun t h) };
@@ -91,12 +92,12 @@ module _ (p : Program) (m : Machine) where
     writers = record { owned = λ t w c h has. absurd (not_task_of w t (ap (is_task_of w) h ∙ same_worker-refl w)) };
     copies = record { somewhere = λ c h b. absurd (not_positive c h) };
     cells = record { running = λ t w c h has. absurd (not_task_of w t (ap (is_task_of w) h ∙ same_worker-refl w)); claimed = λ t w c h has. absurd (not_task_of w t (ap (is_task_of w) h ∙ claimed-is_mine w)); pinned = λ t w c h has. absurd (not_task_of w t h) };
-    pins = record { stays = λ w c h. absurd (not_pinned w c h); own = λ w c h. absurd (not_pinned w c h); coming_here = λ w c n h. absurd (not_coming w c (AtNode n) h); coming_claimed = λ w c n h. absurd (not_coming w c (AtNode n) h); coming_pinned = λ w c n h. absurd (not_coming w c (AtNode n) h) };
+    pins = record { stays = λ w c h. absurd (not_pinned w c h); own = λ w c h. absurd (not_pinned w c h); coming_here = λ w c n h. absurd (not_coming w c n h); coming_claimed = λ w c n h. absurd (not_coming w c n h); coming_pinned = λ w c n h. absurd (not_coming w c n h) };
     transfers = record { source = λ w x h. absurd (not_moving w x h); target = λ w x h. absurd (not_moving w x h); apart = λ v w x y d e hv hw f g k. absurd (not_moving v x hv) };
-    bytes = record { entries = λ n. (let e = nothing_used n in omega arith); leaving = λ n w c h. absurd (not_leaving w c (AtNode n) h) };
+    bytes = record { entries = λ n. (let e = nothing_used n in omega arith); leaving = λ n w c h. absurd (not_leaving w c n h) };
     workers = record {
-      evicted = λ w c n h. absurd (not_leaving w c (AtNode n) h);
-      one_evicts = λ v w c d n hv hw. absurd (not_leaving v c (AtNode n) hv);
+      evicted = λ w c n h. absurd (not_leaving w c n h);
+      one_evicts = λ v w c d n hv hw. absurd (not_leaving v c n hv);
       one_task = λ t u w ht hu. absurd (not_task_of w t ht);
       moves_for_claim = λ w x h. absurd (not_moving w x h);
       scratch = λ w. record { own = λ t h. absurd (not_task_of w t h); none = λ h. no_scratch w };
