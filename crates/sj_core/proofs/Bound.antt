@@ -85,7 +85,7 @@ rows-within n (c ∷ cs) =
         let more = ap (count_by (λ k. nat_eq k c.0)) (map-id (range_with_len 0 n)) in
         omega (arith, tally-le (nat_le 0 c.0 && nat_lt c.0 (0 + n)))
 
--- ---- what the replicas of a cell on nodes may still cost: the events that bring one and take it away again
+-- ---- what the copies of a cell at nodes may still cost: the events that bring one and take it away again
 
 -- one that comes is still moved in, which begins and ends, and is valid then; one that is valid is still moved out, which
 -- begins and ends, and dropped; one that leaves is only dropped where a disk has the cell
@@ -95,19 +95,15 @@ weight on_disk (Coming w) = 5
 weight on_disk Valid = 3
 weight on_disk (Leaving w) = cond on_disk 1 3
 
--- a disk has the cell
-abbrev pub is_on_disk : CellState → Bool
-is_on_disk row = list_any is_valid row.disks
-
 -- what those of one cell may still cost
 abbrev pub cost_of : CellState → ℕ
-cost_of row = sum_by (weight (is_on_disk row)) row.marks
+cost_of row = sum_by (weight (row.on_disk)) row.marks
 
--- what all replicas may still cost
+-- what all copies may still cost
 abbrev pub cost : State → ℕ
 cost s = sum_by cost_of s.cells
 
--- ---- one replica
+-- ---- one mark
 
 pub entry-weighs : (b : Bool) (r : Mark) → is_entry r ≡ true → 3 ≤ weight b r
 entry-weighs b r h = search (arith, false≢true)
@@ -125,9 +121,9 @@ claimed-weighs w evicted missing c brought comes b r = search (arith, weight, le
 
 -- ---- the row of a cell
 
--- one replica on a node in place of another
-pub replaced : (row : CellState) (n : Node) (r : Mark) → n.0 < length row.marks → cost_of (with_mark row n r) + weight (is_on_disk row) (mark_in row n) ≡ cost_of row + weight (is_on_disk row) r
-replaced row n r inside = sum_by-set (weight (is_on_disk row)) row.marks n.0 r Invalid inside
+-- one mark in place of another
+pub replaced : (row : CellState) (n : Node) (r : Mark) → n.0 < length row.marks → cost_of (with_mark row n r) + weight (row.on_disk) (mark_in row n) ≡ cost_of row + weight (row.on_disk) r
+replaced row n r inside = sum_by-set (weight (row.on_disk)) row.marks n.0 r Invalid inside
 
 -- after a claim that brings the cell, or not
 pub claimed-costs : (row : CellState) (n : Node) (w : Worker) (evicted missing : List Cell) (c : Cell) (brought : Bool) → (has_cell missing c ≡ true → brought ≡ true) → n.0 < length row.marks → cost_of (with_mark row n (claimed_mark w evicted missing c (mark_in row n))) ≤ cost_of row + cond brought 5 0
@@ -141,21 +137,19 @@ invalid-costs : (b : Bool) (rs : List Mark) → sum_by (weight b) (map (λ r. In
 invalid-costs b [] = refl
 invalid-costs b (r ∷ rs) = let first = sum_by-cons (weight b) Invalid (map (λ q. Invalid) rs) in let rest = invalid-costs b rs in omega arith
 
--- a cell with one valid replica
+-- a cell with one copy
 pub owned-costs : (row : CellState) (n : Node) → n.0 < length row.marks → cost_of (owned_at n row) ≤ 3
-owned-costs row n inside = alone (is_on_disk (owned_at n row))
+owned-costs row n inside = alone false
   where
     alone : (b : Bool) → sum_by (weight b) (slice_set (map (λ r. Invalid) row.marks) n.0 Valid) ≤ 3
     alone b =
         let all = sum_by-set (weight b) (map (λ r. Invalid) row.marks) n.0 Valid Invalid (omega (arith, inside, length-map row.marks (λ (r : Mark). Invalid))) in
         omega (arith, invalid-costs b row.marks)
 
--- a disk gets the cell, which leaves a node
-pub written-costs : (row : CellState) (d : DiskNo) (n : Node) → d.0 < length row.disks → is_on_disk row ≡ false → n.0 < length row.marks → is_leaving (mark_in row n) ≡ true → cost_of (with_replica_in row (OnDisk d) Valid) + 2 ≤ cost_of row
-written-costs row d n within none inside leaving =
-    let there : list_any is_valid (slice_set row.disks d.0 Valid) ≡ true = list_any_at is_valid (slice_set row.disks d.0 Valid) d.0 Invalid (omega (arith, within, length-set row.disks d.0 Valid)) (ap is_valid (get_or-set_same row.disks d.0 Valid Invalid within)) in
-    let all = sum-rises (weight true) (weight false) is_leaving 2 lighter row.marks n.0 Invalid inside leaving in
-    omega (arith, ap (λ b. sum_by (weight b) row.marks) there, ap (λ b. sum_by (weight b) row.marks) none)
+-- the cell's block becomes a copy, and it leaves a node
+pub stored-costs : (row : CellState) (n : Node) → row.on_disk ≡ false → n.0 < length row.marks → is_leaving (mark_in row n) ≡ true → cost_of (stored row) + 2 ≤ cost_of row
+stored-costs row n none inside leaving =
+    omega (arith, sum-rises (weight true) (weight false) is_leaving 2 lighter row.marks n.0 Invalid inside leaving, ap (λ b. sum_by (weight b) row.marks) none)
   where
     lighter : (r : Mark) → weight true r + cond (is_leaving r) 2 0 ≤ weight false r
     lighter r = search arith
@@ -166,8 +160,8 @@ pub opening-costs : (p : Program) (m : Machine) → cost (opening p m) ≡ 0
 opening-costs p m = search (arith, sum_by-replicate)
 
 -- ---- each legal step is one event, and is paid for: a task pays one for each of its own events, and with its claim five for
--- each operand, which is what a replica that the claim brings may cost. A replica that comes, is valid or leaves still costs
--- as much as it weighs; a move that begins is paid for by being under way, and as it ends its replica weighs two less.
+-- each operand, which is what a copy that the claim brings may cost. A copy that comes, is valid or leaves still costs
+-- as much as it weighs; a move that begins is paid for by being under way, and as it ends its copy weighs two less.
 
 -- ---- what pays
 
@@ -215,9 +209,9 @@ module _ (p : Program) (m : Machine) (s : State) (h : IsSound p m s) where
   worker-inside : (t : Task) (x : Progress) → progress s t ≡ x → is_begun x ≡ true → (worker_of x).0 < length s.workers
   worker-inside t x is begun = search arith
 
-  -- and so is the worker by whose claim a replica leaves, on a node
-  leaving-inside : (w : Worker) (c : Cell) (from : Place) → is_leaving_by w (replica s c from) ≡ true → w.0 < length s.workers
-  leaving-inside w c b leaving = search (arith, worker-inside, claimed_by-is, stays-on_disk)
+  -- and so is the worker by whose claim a copy leaves
+  leaving-inside : (w : Worker) (c : Cell) (n : Node) → is_leaving_by w (mark s c n) ≡ true → w.0 < length s.workers
+  leaving-inside w c n leaving = search (arith, worker-inside, claimed_by-is)
 
   -- ---- claims, runs and ends
 
@@ -239,7 +233,7 @@ module _ (p : Program) (m : Machine) (s : State) (h : IsSound p m s) where
         omega (arith, claim-cost, ap under_way leaves)
 
   module _ (t : Task) (w : Worker) (s' : State) (run : CanRun p m s t w) (leaves : s' ≡ after_run p m s t w) where
-    -- a written cell has one replica then, and had one on that node before
+    -- a written cell has one copy then, and had an entry on that node before
     run-cost : cost s' ≤ cost s
     run-cost =
         let n = node_of m w in
@@ -286,10 +280,10 @@ module _ (p : Program) (m : Machine) (s : State) (h : IsSound p m s) where
   Moves_in-pay : (c : Cell) (from : Place) (n : Node) (w : Worker) (s' : State) → CanMoveIn p m s c from n w → s' ≡ with_transfer s w (Some (a_transfer c from (AtNode n))) → Pays p s s'
   Moves_in-pay c from n w s' move leaves = search (arith, begins-pays, worker-inside)
 
-  Moves_out-pay : (c : Cell) (from : Place) (d : DiskNo) (w : Worker) (s' : State) → CanMoveOut p m s c from d w → s' ≡ with_transfer s w (Some (a_transfer c from (OnDisk d))) → Pays p s s'
-  Moves_out-pay c from d w s' move leaves = begins-pays w (a_transfer c from (OnDisk d)) s' (leaving-inside w c from move.leaving) move.free leaves
+  Moves_out-pay : (c : Cell) (k : Node) (d : DiskNo) (w : Worker) (s' : State) → CanMoveOut p m s c k d w → s' ≡ with_transfer s w (Some (a_transfer c (AtNode k) (OnDisk d))) → Pays p s s'
+  Moves_out-pay c k d w s' move leaves = begins-pays w (a_transfer c (AtNode k) (OnDisk d)) s' (leaving-inside w c k move.leaving) move.free leaves
 
-  -- ---- replicas that come and go
+  -- ---- copies that come and go
 
   -- one row of the table is written
   rewrites : (c : Cell) (row : CellState) → c.0 < length s.cells → (fewer : ℕ) → cost_of row + fewer ≤ cost_of (cell_state s c) → cost (record s { cells = set s.cells c.0 row }) + fewer ≤ cost s
@@ -300,46 +294,31 @@ module _ (p : Program) (m : Machine) (s : State) (h : IsSound p m s) where
       let by = leaving-by_some (mark s c n) drop.leaving in
       let valid = leaving_by-valid by.0 (mark s c n) by.1 in
       let gone = replaced (cell_state s c) n Invalid (valid-within (cell_state s c).marks n.0 valid) in
-      let weighed = leaving-weighs (is_on_disk (cell_state s c)) (mark s c n) drop.leaving in
-      let all = rewrites c (with_mark (cell_state s c) n Invalid) (valid-row s c (AtNode n) valid) 1 (omega (arith, gone, weighed)) in
+      let weighed = leaving-weighs (on_disk s c) (mark s c n) drop.leaving in
+      let all = rewrites c (with_mark (cell_state s c) n Invalid) (valid-row s c n valid) 1 (omega (arith, gone, weighed)) in
       omega (arith, ap cost leaves, ap under_way leaves, ap (paid p) leaves)
 
-  module _ (c : Cell) (from to : Place) (w : Worker) (s' : State) (moved : transfer s w ≡ Some (a_transfer c from to)) (leaves : s' ≡ with_transfer (with_replica s c to Valid) w None) where
+  module _ (c : Cell) (from to : Place) (w : Worker) (s' : State) (moved : transfer s w ≡ Some (a_transfer c from to)) (leaves : s' ≡ with_transfer (with_row s c (arrived to (cell_state s c))) w None) where
     abbrev row : CellState
     row = cell_state s c
 
-    -- before a disk gets the cell no disk has it
-    not_on_disk : (d : DiskNo) → OnDisk d ≡ to → IsTransferTo m s w c from (OnDisk d) → is_on_disk row ≡ false
-    not_on_disk d at there = false_from_ne_true (is_on_disk row) (λ some.
-        (let found = Any-from_list_any is_valid row.disks some in
-        let k : DiskNo = record { 0 = found.0 } in
-        let valid : has_copy p m s c (OnDisk k) ≡ true = ap is_valid (get_or_default row.disks found.0 Invalid found.1 found.2 ∙ found.3) ∙ found.4 in
-        let home = h.coherent.state.blocks.home c k valid in
-        let aimed = h.coherent.state.blocks.aimed w (a_transfer c from to) d moved (sym at) in
-        let both : Some k ≡ Some d = sym home ∙ aimed in
-        let same : k ≡ d = cc in
-        false≢true (sym (ap is_valid there.1) ∙ ap (λ (e : DiskNo). has_copy p m s c (OnDisk e)) (sym same) ∙ valid)))
-
     -- the cell's row costs two less
-    row-falls : (q : Place) → q ≡ to → IsTransferTo m s w c from q → (c.0 < length s.cells) × (cost_of (with_replica_in row q Valid) + 2 ≤ cost_of row)
-    row-falls (AtNode n) at there =
-        search (arith, coming_by-is, entry-inside, replaced, row, weight, is_on_disk, AtNode)
-    row-falls (OnDisk d) at there = by_source from refl there.0
-      where
-        by_source : (q : Place) → q ≡ from → is_leaving_by w (replica s c q) ≡ true → (c.0 < length s.cells) × (cost_of (with_replica_in row (OnDisk d) Valid) + 2 ≤ cost_of row)
-        by_source (OnDisk k) e leaving = absurd (stays-on_disk p m s h w c k leaving)
-        by_source (AtNode n) e leaving =
-            let valid = leaving_by-valid w (mark s c n) leaving in
-            let inside = valid-row s c (AtNode n) valid in
-            let aimed = h.coherent.state.blocks.aimed w (a_transfer c from to) d moved (sym at) in
-            let within : d.0 < length row.disks = omega (arith, disk-within p m c d aimed, h.coherent.state.rows.disks c.0 no_row inside) in
-            (inside, written-costs row d n within (not_on_disk d at there) (valid-within row.marks n.0 valid) (leaving_by-leaves w (mark s c n) leaving))
+    row-falls : (source target : Place) → IsTransferTo m s w c source target → (c.0 < length s.cells) × (cost_of (arrived target row) + 2 ≤ cost_of row)
+    row-falls source (AtNode n) (here, coming, none) =
+        let e = coming_by-is w (mark s c n) coming in
+        let inside = entry-inside s c n (ap is_entry e) in
+        let weighed : weight row.on_disk (mark s c n) ≡ 5 = ap (weight row.on_disk) e in
+        (inside.0, omega (arith, replaced row n Valid inside.1))
+    row-falls (AtNode k) (OnDisk d) (leaving, none) =
+        let valid = leaving_by-valid w (mark s c k) leaving in
+        (valid-row s c k valid, stored-costs row k none (valid-within row.marks k.0 valid) (leaving_by-leaves w (mark s c k) leaving))
+    row-falls (OnDisk e) (OnDisk d) there = absurd (false≢true there)
 
-    -- and so do all replicas
+    -- and so do all copies
     pub moved-cost : cost s' + 2 ≤ cost s
     moved-cost =
-        let falls = row-falls to refl (h.coherent.transfers.target w (a_transfer c from to) moved) in
-        omega (arith, rewrites c (with_replica_in row to Valid) falls.0 2 falls.1, ap cost leaves)
+        let falls = row-falls from to (h.coherent.transfers.target w (a_transfer c from to) moved) in
+        omega (arith, rewrites c (arrived to row) falls.0 2 falls.1, ap cost leaves)
 
     -- and one transfer less is under way
     pub moved-transfers : under_way s ≡ 1 + under_way s'
@@ -353,7 +332,8 @@ module _ (p : Program) (m : Machine) (s : State) (h : IsSound p m s) where
   pub Step-pays : (e : Event) → May p m s e → Pays p s (after p m s e)
   Step-pays (Claim t w) may = Claims-pays t w (after p m s (Claim t w)) may (evicted-after p m s t w)
   Step-pays (Move c from (AtNode n)) may = Moves_in-pay c from n (mover_of s c from (AtNode n)) (after p m s (Move c from (AtNode n))) may refl
-  Step-pays (Move c from (OnDisk d)) may = Moves_out-pay c from d (mover_of s c from (OnDisk d)) (after p m s (Move c from (OnDisk d))) may refl
+  Step-pays (Move c (AtNode k) (OnDisk d)) may = Moves_out-pay c k d (mover_of s c (AtNode k) (OnDisk d)) (after p m s (Move c (AtNode k) (OnDisk d))) may refl
+  Step-pays (Move c (OnDisk e) (OnDisk d)) may = absurd (false≢true may)
   Step-pays (Moved c from to) may = Ended_moves-pay c from to (mover_of s c from to) (after p m s (Moved c from to)) may refl
   Step-pays (Drop c n) may = Drops-pays c n (after p m s (Drop c n)) may refl
   Step-pays (Run t w) may = Runs-pays t w (after p m s (Run t w)) may refl
@@ -394,14 +374,14 @@ some-transfer s some =
     by_option b h = search (arith, false≢true)
 
 module _ (p : Program) (m : Machine) (proper : Proper p) (machine : IsMachineFor p m) where
-  -- there are no more transfers under way than what replicas may still cost: they may end, one after another
+  -- there are no more transfers under way than what copies may still cost: they may end, one after another
   transfers-within : (k : ℕ) (s : State) → Coherent p m s → under_way s ≡ k → under_way s ≤ cost s
   transfers-within zero s c e = omega (arith, e)
   transfers-within (suc k) s c e =
       let one = some-transfer s (omega (arith, e)) in
       let w = one.0 in
       let x = one.1 in
-      let next : State = with_transfer (with_replica s x.cell x.to Valid) w None in
+      let next : State = with_transfer (with_row s x.cell (arrived x.to (cell_state s x.cell))) w None in
       let fewer = moved-transfers p m s (sound p m proper machine s c) x.cell x.from x.to w next one.2 refl in
       let all = transfers-within k next (Ended_moves-keep_coherence p m s (sound p m proper machine s c) x.cell x.from x.to w one.2) (omega (arith, e, fewer)) in
       omega (arith, moved-cost p m s (sound p m proper machine s c) x.cell x.from x.to w next one.2 refl)

@@ -154,7 +154,7 @@ module _ (p : Program) (m : Machine) (s : State) (h : IsSound p m s) where
         ap (λ z. held_in p z c) (after_chosen-same p (done_in s) (λ u. true) (done_by s) (done_by s) (length p.tasks) (λ u l. all-done u l) (λ u l e. refl))
         ∙ workers-alike has p h.proper lawful (length p.tasks) (omega arith) c plain (λ f phase same. none-open p h.proper f phase) (done_by s) (λ u. record { 0 = 0 }) staffed (λ u. some_worker)
 
-    pub complete-final : (A : Arrays) → HoldsContent p m s A → (has : Kernel → Bool) → IsLawful has p → HoldsFinal p s A
+    pub complete-final : (A : Arrays) → HoldsContent p m s A → (has : Kernel → Bool) → IsLawful has p → HoldsFinal p m s A
     complete-final A holds has lawful = record {
       somewhere = λ t c gives. h.coherent.copies.somewhere c (all-written t c gives) (none-written c);
       alike = λ t c q gives plain valid. holds.alike c q (all-written t c gives) (none-written c) valid ∙ all-content has lawful c plain;

@@ -25,7 +25,8 @@ module _ (p : Program) (m : Machine) (proper : Proper p) (machine : IsMachineFor
   pub Step-keeps_coherence : (s : State) (e : Event) → Coherent p m s → May p m s e → Coherent p m (after p m s e)
   Step-keeps_coherence s (Claim t w) c may = Claims-keeps_coherence p m s t w (sound p m proper machine s c) may
   Step-keeps_coherence s (Move x from (AtNode n)) c may = Moves_in-keep_coherence p m s (sound p m proper machine s c) x from n (mover_of s x from (AtNode n)) may
-  Step-keeps_coherence s (Move x from (OnDisk d)) c may = Moves_out-keep_coherence p m s (sound p m proper machine s c) x from d (mover_of s x from (OnDisk d)) may
+  Step-keeps_coherence s (Move x (AtNode k) (OnDisk d)) c may = Moves_out-keep_coherence p m s (sound p m proper machine s c) x k d (mover_of s x (AtNode k) (OnDisk d)) may
+  Step-keeps_coherence s (Move x (OnDisk e) (OnDisk d)) c may = absurd (false≢true may)
   Step-keeps_coherence s (Moved x from to) c may = Ended_moves-keep_coherence p m s (sound p m proper machine s c) x from to (mover_of s x from to) may
   Step-keeps_coherence s (Drop x n) c may = Drops-keeps_coherence p m s (sound p m proper machine s c) x n may
   Step-keeps_coherence s (Run t w) c may = Runs-keeps_coherence p m s t w (sound p m proper machine s c) may
@@ -45,7 +46,8 @@ module _ (p : Program) (m : Machine) (proper : Proper p) (machine : IsMachineFor
     pub Step-keeps_content : (s : State) (A : Arrays) (e : Event) → Coherent p m s → HoldsContent p m s A → May p m s e → HoldsContent p m (after p m s e) (arrays_after p m A e)
     Step-keeps_content s A (Claim t w) c holds may = Claims-content p m s (sound p m proper machine s c) t w (after p m s (Claim t w)) may (evicted-after p m s t w) A (arrays_after p m A (Claim t w)) (λ x q. refl) holds
     Step-keeps_content s A (Move x from (AtNode n)) c holds may = record { begun = holds.begun; alike = holds.alike }
-    Step-keeps_content s A (Move x from (OnDisk d)) c holds may = record { begun = holds.begun; alike = holds.alike }
+    Step-keeps_content s A (Move x (AtNode k) (OnDisk d)) c holds may = record { begun = holds.begun; alike = holds.alike }
+    Step-keeps_content s A (Move x (OnDisk e) (OnDisk d)) c holds may = absurd (false≢true may)
     Step-keeps_content s A (Moved x from to) c holds may = Ended_moves-content p m s (sound p m proper machine s c) x from to (mover_of s x from to) may A holds
     Step-keeps_content s A (Drop x n) c holds may = Drops-content p m s (sound p m proper machine s c) x n may A (arrays_after p m A (Drop x n)) (λ y q. refl) holds
     Step-keeps_content s A (Run t w) c holds may = Runs-content p m s (sound p m proper machine s c) t w (after p m s (Run t w)) may refl A holds
@@ -60,5 +62,5 @@ module _ (p : Program) (m : Machine) (proper : Proper p) (machine : IsMachineFor
     legal-content trace legal = following-content trace (opening p m) (λ c q. zeros (dims_of p c)) (opening-coherent p m) (opening-content p m) legal
 
     -- where it is complete, the cells hold what all tasks leave in submission order
-    pub finished-final : (trace : List Event) → IsFinished p m trace → HoldsFinal p (state_of p m trace) (arrays_of p m trace)
+    pub finished-final : (trace : List Event) → IsFinished p m trace → HoldsFinal p m (state_of p m trace) (arrays_of p m trace)
     finished-final trace finished = complete-final p m (state_of p m trace) (sound p m proper machine (state_of p m trace) (legal-coherent trace finished.legal)) finished.complete (arrays_of p m trace) (legal-content trace finished.legal) has lawful

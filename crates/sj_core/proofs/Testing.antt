@@ -39,11 +39,12 @@ is_step p m s (Claim t w) =
 is_step p m s (Move c from (AtNode n)) =
     let w = mover_of s c from (AtNode n) in
     nat_eq n.0 (node_of m w).0 && (is_none (transfer s w) && (is_coming_by w (mark s c n) && (not (is_fresh p s w c) && (has_room m s w && is_here (source_of p m s c) from))))
-is_step p m s (Move c from (OnDisk d)) =
-    let w = mover_of s c from (OnDisk d) in
-    is_none (transfer s w) && (is_leaving_by w (replica s c from) && (not (is_valid_elsewhere m s c from) && is_on (disk_of p m c) d))
+is_step p m s (Move c (AtNode k) (OnDisk d)) =
+    let w = mover_of s c (AtNode k) (OnDisk d) in
+    is_none (transfer s w) && (is_leaving_by w (mark s c k) && (not (is_elsewhere s c k) && is_on (disk_of p m c) d))
+is_step p m s (Move c (OnDisk e) (OnDisk d)) = false
 is_step p m s (Moved c from to) = is_transfer c from to (transfer s (mover_of s c from to))
-is_step p m s (Drop c n) = is_leaving (mark s c n) && (not (is_read s c (AtNode n)) && is_valid_elsewhere m s c (AtNode n))
+is_step p m s (Drop c n) = is_leaving (mark s c n) && (not (is_read s c (AtNode n)) && is_elsewhere s c n)
 is_step p m s (Run t w) =
     is_claimed_by w (progress s t) && (all_earlier_done s t && (has_room m s w && (is_present p s t w (node_of m w) && list_all (λ c. not (is_moving s c)) (written_cells p t w))))
 is_step p m s (End t w) = is_running_on w (progress s t)
@@ -79,7 +80,8 @@ module _ (p : Program) (m : Machine) where
       let waiting = waiting-is (progress s t) waits in
       record { worker = ltb-true w.0 p.workers worker; waiting = waiting; ready = Ready-from p s t (ltb-true t.0 (length p.tasks) inside) waiting (EarlierAreDone-all p s t earlier); idle = idle; fits = leb-true (footprint p t) (node_size m (node_of m w)) fits; settled = settled; alone = alone; room = room }
   step-from s (Move c from (AtNode n)) h = search (arith, and_parts, eqb-true, none-is, here-is)
-  step-from s (Move c from (OnDisk d)) h = search (arith, and_parts, none-is, on-is)
+  step-from s (Move c (AtNode k) (OnDisk d)) h = search (arith, and_parts, none-is, on-is)
+  step-from s (Move c (OnDisk e) (OnDisk d)) h = h
   step-from s (Moved c from to) h = transfer-is c from to (transfer s (mover_of s c from to)) h
   step-from s (Drop c n) h = search (arith, and_parts)
   step-from s (Run t w) h =

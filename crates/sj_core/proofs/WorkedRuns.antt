@@ -38,7 +38,7 @@ sum-legal = legal-from sum machine sum-trace refl
 
 -- it is complete; what is printed is y + x; at the end the printed cell, which was written twice, holds that array on the node
 pub sum-delivers : IsComplete (state_of sum machine sum-trace) × (given sum (task 3) ≡ vector (pos 11 ∷ pos 22 ∷ pos 33 ∷ []))
-    × (replica (state_of sum machine sum-trace) (cell 1) node ≡ Valid)
+    × (mark (state_of sum machine sum-trace) (cell 1) (record { 0 = 0 }) ≡ Valid)
     × (arrays_of sum machine sum-trace (cell 1) node ≡ given sum (task 3))
     × (writes (state_of sum machine sum-trace) (cell 1) ≡ 2)
 unfolding int_wrap
@@ -73,7 +73,7 @@ is_its_machine = record { workers = refl; some_worker = lit≤ tt; few_workers =
 pub disks_are : HasSwapFor three machine × (disk_of three (a_machine 1 (64 ∷ []) []) (cell 0) ≡ None)
 disks_are = (record { blocks_fit = refl }, refl)
 
--- the cell's one replica is written to the disk and dropped from the node
+-- the cell's one copy is written to the disk and dropped from the node
 abbrev evict : ℕ → List Event → List Event
 evict c rest = Move (cell c) node disk ∷ Moved (cell c) node disk ∷ Drop (cell c) (record { 0 = 0 }) ∷ rest
 
@@ -92,7 +92,7 @@ three-legal = legal-from three machine three-trace refl
 pub three-evicts : IsComplete (state_of three machine three-trace)
     × (victims_of (state_of three machine (loads [])) (worker 0) ≡ cell 1 ∷ [])
     × (order (state_of three machine (loads [])) (record { 0 = 0 }) ≡ cell 0 ∷ cell 2 ∷ [])
-    × (replica (state_of three machine three-trace) (cell 0) node ≡ Valid)
+    × (mark (state_of three machine three-trace) (cell 0) (record { 0 = 0 }) ≡ Valid)
     × (arrays_of three machine three-trace (cell 0) node ≡ vector (pos 1 ∷ pos 2 ∷ pos 3 ∷ []))
 three-evicts = (refl, refl, refl, refl, refl)
 
@@ -115,7 +115,7 @@ reduction-legal = legal-from Reduction.job two_workers reduction-trace refl
 -- complete, and 5 + 2, also where a worker other than the first contributed
 pub reduction-delivers : IsComplete (state_of Reduction.job two_workers reduction-trace)
     × (given Reduction.job (task 9) ≡ vector (pos 7 ∷ []))
-    × (replica (state_of Reduction.job two_workers reduction-trace) (cell 2) node ≡ Valid)
+    × (mark (state_of Reduction.job two_workers reduction-trace) (cell 2) (record { 0 = 0 }) ≡ Valid)
     × (arrays_of Reduction.job two_workers reduction-trace (cell 2) node ≡ vector (pos 7 ∷ []))
 unfolding int_wrap
 reduction-delivers = (refl, refl, refl, refl)
