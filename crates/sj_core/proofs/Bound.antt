@@ -2,12 +2,12 @@
 use Rattle.std.proofs.Common.{Bool, List, [], ap, arith, cond, false, get_or, length, map, refl, subst, suc, sym, true, fold}
 use Rattle.std.proofs.Common.{zero, ℕ, ◌*◌, ◌+◌, ◌<◌, ◌||◌, ◌∙◌, ◌∷◌, ◌≡◌, ◌≤◌, None, Option, Some, set}
 use Rattle.std.proofs.Common.{slice_set, count_by, nat_eq, nat_le, nat_lt, sum_by, ◌&&◌, if◌then◌else◌, is_some}
-use Rattle.sj_core.proofs.Words.{AtNode, Cell, CellState, Claimed, Coming, DiskNo, Done, Event, Invalid, owned_at, written_once_more, has_copy, on_disk}
+use Rattle.sj_core.proofs.Words.{AtNode, Cell, CellState, Claimed, Coming, DiskNo, Done, Event, Invalid, owned_at, written_once_more, on_disk, stored, arrived, with_row}
 use Rattle.sj_core.proofs.Words.{Leaving, Lowered, Machine, Mark, Node, OnDisk, Place, Program, Progress, Running}
 use Rattle.sj_core.proofs.Words.{State, Task, Transfer, Valid, Waiting, Worker, WorkerState, cell_state, cells_of}
 use Rattle.sj_core.proofs.Words.{data_operands, has_cell, is_entry, is_leaving, is_leaving_by, is_valid, no_task}
 use Rattle.sj_core.proofs.Words.{node_of, opening, progress, mark, mark_in, same_cell, scratch_bytes, task_of}
-use Rattle.sj_core.proofs.Words.{tasks_of, transfer, victims_of, with_row, with_mark, with_transfer}
+use Rattle.sj_core.proofs.Words.{tasks_of, transfer, victims_of, with_mark, with_transfer}
 use Rattle.sj_core.proofs.Words.{worked_on, worker_of, written_cells}
 use Rattle.std.specs.List.{enumerate_from, list_any, range_with_len}
 use Rattle.std.proofs.lemmas.List.{map-id, get_or-set_same, length-map, length-set, get_or_default}
@@ -29,7 +29,7 @@ use Rattle.sj_core.proofs.Advancing.{Advances, Ends-advances, Runs-advances, cla
 use Rattle.sj_core.proofs.Reading.{entry-inside, idle_row, no_row, transfer-inside}
 use Rattle.sj_core.proofs.Replicas.{coming_by-is, leaving-by_some, leaving_by-leaves, leaving_by-valid}
 use Rattle.sj_core.proofs.{CellLists.same_cell-sym, Blocks.disk-within, Claiming.claim-advance, Claiming.missing-absent}
-use Rattle.sj_core.proofs.{Claiming.node-inside, Placing.stays-on_disk, Placing.valid-row, Placing.valid-within}
+use Rattle.sj_core.proofs.{Claiming.node-inside, Placing.copy-row, Placing.valid-within}
 use Rattle.sj_core.proofs.{TaskCells.written-among_cells, Moving.Ended_moves-keep_coherence, Opening.opening-coherent}
 use Rattle.sj_core.proofs.Replaying.{Step-keeps_coherence, legal-coherent, sound}
 use Rattle.sj_core.proofs.{Eviction.evicted-after, Eviction.evicted_by, Claimed.claimed-inside, Finding.running-inside}
@@ -127,11 +127,11 @@ replaced row n r inside = sum_by-set (weight (row.on_disk)) row.marks n.0 r Inva
 
 -- after a claim that brings the cell, or not
 pub claimed-costs : (row : CellState) (n : Node) (w : Worker) (evicted missing : List Cell) (c : Cell) (brought : Bool) → (has_cell missing c ≡ true → brought ≡ true) → n.0 < length row.marks → cost_of (with_mark row n (claimed_mark w evicted missing c (mark_in row n))) ≤ cost_of row + cond brought 5 0
-claimed-costs row n w evicted missing c brought comes inside = search (arith, replaced, claimed-weighs, is_on_disk)
+claimed-costs row n w evicted missing c brought comes inside = search (arith, replaced, claimed-weighs)
 
 -- a cell with an entry on a node
 pub entry-costs : (row : CellState) (n : Node) → n.0 < length row.marks → is_entry (mark_in row n) ≡ true → 3 ≤ cost_of row
-entry-costs row n inside entry = search (arith, get_or-le-sum_by, weight, is_on_disk, entry-weighs)
+entry-costs row n inside entry = search (arith, get_or-le-sum_by, weight, entry-weighs)
 
 invalid-costs : (b : Bool) (rs : List Mark) → sum_by (weight b) (map (λ r. Invalid) rs) ≡ 0
 invalid-costs b [] = refl
@@ -295,7 +295,7 @@ module _ (p : Program) (m : Machine) (s : State) (h : IsSound p m s) where
       let valid = leaving_by-valid by.0 (mark s c n) by.1 in
       let gone = replaced (cell_state s c) n Invalid (valid-within (cell_state s c).marks n.0 valid) in
       let weighed = leaving-weighs (on_disk s c) (mark s c n) drop.leaving in
-      let all = rewrites c (with_mark (cell_state s c) n Invalid) (valid-row s c n valid) 1 (omega (arith, gone, weighed)) in
+      let all = rewrites c (with_mark (cell_state s c) n Invalid) (copy-row p m s c (AtNode n) valid) 1 (omega (arith, gone, weighed)) in
       omega (arith, ap cost leaves, ap under_way leaves, ap (paid p) leaves)
 
   module _ (c : Cell) (from to : Place) (w : Worker) (s' : State) (moved : transfer s w ≡ Some (a_transfer c from to)) (leaves : s' ≡ with_transfer (with_row s c (arrived to (cell_state s c))) w None) where
@@ -311,7 +311,7 @@ module _ (p : Program) (m : Machine) (s : State) (h : IsSound p m s) where
         (inside.0, omega (arith, replaced row n Valid inside.1))
     row-falls (AtNode k) (OnDisk d) (leaving, none) =
         let valid = leaving_by-valid w (mark s c k) leaving in
-        (valid-row s c k valid, stored-costs row k none (valid-within row.marks k.0 valid) (leaving_by-leaves w (mark s c k) leaving))
+        (copy-row p m s c (AtNode k) valid, stored-costs row k none (valid-within row.marks k.0 valid) (leaving_by-leaves w (mark s c k) leaving))
     row-falls (OnDisk e) (OnDisk d) there = absurd (false≢true there)
 
     -- and so do all copies

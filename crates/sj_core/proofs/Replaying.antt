@@ -1,8 +1,9 @@
 -- Each step keeps coherence whole, and arrays what the tasks leave, and so does each legal trace; a complete one leaves what all
 -- tasks leave in submission order.
-use Rattle.std.proofs.Common.{Bool, List, [], ◌∷◌, fold, refl}
+use Rattle.std.proofs.Common.{Bool, List, [], ◌∷◌, ◌∙◌, fold, refl, sym}
 use Rattle.sj_core.proofs.Words.{AtNode, Claim, Drop, End, Event, Kernel, Machine, Move, Moved, OnDisk, Program, Run, zeros, dims_of}
-use Rattle.sj_core.proofs.Words.{State, opening}
+use Rattle.sj_core.proofs.Words.{Cell, Place, State, opening}
+use Rattle.std.proofs.lemmas.Bool.{false≢true}
 use Rattle.sj_core.specs.{Step.May, Step.after, Step.mover_of, Legal.CanFollow, Legal.IsFinished, Legal.IsLegal}
 use Rattle.sj_core.specs.{Legal.state_of, Proper.Proper}
 use Rattle.sj_core.specs.{Proper.IsMachineFor, Coherent.Coherent, Laws.IsLawful, Laws.IsSound, Laws.HoldsFinal}
@@ -15,6 +16,7 @@ use Rattle.sj_core.proofs.Ending.{Ends-content, lawful-puts_last}
 use Rattle.sj_core.proofs.Running.{Runs-content}
 use Rattle.sj_core.proofs.Opening.{opening-content}
 use Rattle.sj_core.proofs.Claiming.{Claims-content}
+use Rattle.sj_core.proofs.Finding.{HoldsContent-kept, has_copy-same}
 use Rattle.sj_core.proofs.Eviction.{evicted-after}
 
 pub sound : (p : Program) (m : Machine) → Proper p → IsMachineFor p m → (s : State) → Coherent p m s → IsSound p m s
@@ -42,11 +44,15 @@ module _ (p : Program) (m : Machine) (proper : Proper p) (machine : IsMachineFor
 
   -- ---- arrays, by the laws of the program's set
 
+  -- a move that begins changes no row and no array
+  move-content : (s : State) (A : Arrays) (x : Cell) (from to : Place) → HoldsContent p m s A → HoldsContent p m (after p m s (Move x from to)) (arrays_after p m A (Move x from to))
+  move-content s A x from to = HoldsContent-kept p m s (after p m s (Move x from to)) A (arrays_after p m A (Move x from to)) (λ y q. refl) (λ t w runs. runs) (λ y. refl) (λ y. refl) (λ y resting. resting) (λ y q copy. sym (has_copy-same p m s (after p m s (Move x from to)) y q refl) ∙ copy)
+
   module _ (has : Kernel → Bool) (lawful : IsLawful has p) where
     pub Step-keeps_content : (s : State) (A : Arrays) (e : Event) → Coherent p m s → HoldsContent p m s A → May p m s e → HoldsContent p m (after p m s e) (arrays_after p m A e)
     Step-keeps_content s A (Claim t w) c holds may = Claims-content p m s (sound p m proper machine s c) t w (after p m s (Claim t w)) may (evicted-after p m s t w) A (arrays_after p m A (Claim t w)) (λ x q. refl) holds
-    Step-keeps_content s A (Move x from (AtNode n)) c holds may = record { begun = holds.begun; alike = holds.alike }
-    Step-keeps_content s A (Move x (AtNode k) (OnDisk d)) c holds may = record { begun = holds.begun; alike = holds.alike }
+    Step-keeps_content s A (Move x from (AtNode n)) c holds may = move-content s A x from (AtNode n) holds
+    Step-keeps_content s A (Move x (AtNode k) (OnDisk d)) c holds may = move-content s A x (AtNode k) (OnDisk d) holds
     Step-keeps_content s A (Move x (OnDisk e) (OnDisk d)) c holds may = absurd (false≢true may)
     Step-keeps_content s A (Moved x from to) c holds may = Ended_moves-content p m s (sound p m proper machine s c) x from to (mover_of s x from to) may A holds
     Step-keeps_content s A (Drop x n) c holds may = Drops-content p m s (sound p m proper machine s c) x n may A (arrays_after p m A (Drop x n)) (λ y q. refl) holds
