@@ -1,4 +1,3 @@
+pub mod Judging
 pub mod Refusal
-pub mod Replay
-pub mod Results
 pub mod Watching

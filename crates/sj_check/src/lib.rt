@@ -1,10 +1,7 @@
 //! Checking a trace: whether its events are legal, one after another, and run a program to its end.
 #![tactic(auto)]
 
-mod applying;
-mod blanks;
 pub mod check;
 mod checker;
-mod hollow;
+mod homes;
 mod judging;
-mod opening;

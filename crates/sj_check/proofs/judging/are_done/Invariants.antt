@@ -1,6 +1,0 @@
-use Rattle.sj_machine.specs.Standing.{state}
-use Rattle.sj_check.proofs.Completing.{AreDone}
-use Rattle.sj_check.proofs.judging.are_done.Given as goal
-
-abbrev pub invariant-loop-i : goal.invariant-loop-i
-invariant-loop-i g l = AreDone (state l.run) l.i
