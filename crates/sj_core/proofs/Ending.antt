@@ -25,7 +25,7 @@ use Rattle.sj_core.proofs.Placing.{copy-row}
 use Rattle.sj_core.proofs.TaskCells.{written-among_cells}
 use Rattle.sj_core.proofs.Sums.{sum-plus, count-numbered}
 use Rattle.sj_core.proofs.CellLists.{times}
-use Rattle.sj_core.proofs.Changing.{Changes, Changes-coherent, Changes-writers, TransfersAreSound-spared, HasBlocks-kept, HasRows-kept, moves-kept, HasWorkers-kept}
+use Rattle.sj_core.proofs.Changing.{IsLeftAlone, copies-left, Changes, Changes-coherent, Changes-writers, TransfersAreSound-spared, HasBlocks-kept, HasRows-kept, moves-kept, HasWorkers-kept}
 use Rattle.sj_core.proofs.Dependencies.{Proper-dependencies}
 use Rattle.sj_core.proofs.Finding.{not_written-before, running-inside, second_fails, both_pass}
 use Rattle.sj_core.proofs.Separation.{separated}
@@ -147,23 +147,16 @@ module _ (p : Program) (m : Machine) (s : State) (t : Task) (w : Worker) (s' : S
   end-spared_row c spared = ap (λ (z : State). cell_state z c) leaves ∙ cells-untouched s (has_cell (written_cells p t w)) (λ d row. written_once_more row) c spared
 
   -- no mark changes, and no block
-  end-same : {X : Type 0} (f : CellState → X) → ((row : CellState) → f (written_once_more row) ≡ f row) → (c : Cell) → f (cell_state s' c) ≡ f (cell_state s c)
-  end-same f same c =
-      ap (λ (z : State). f (cell_state z c)) leaves
-      ∙ elim (cells-renewed_or s (λ d row. if has_cell (written_cells p t w) d then written_once_more row else row) c) [
-        | inl row ↦ ap f row ∙ cond_both (has_cell (written_cells p t w) c) (written_once_more (cell_state s c)) (cell_state s c) (λ r. f r ≡ f (cell_state s c)) (λ b. same (cell_state s c)) (λ b. refl)
-        | inr none ↦ ap f (none.1 ∙ sym none.0)
-      ]
-
-  pub end-mark : (c : Cell) (k : Node) → mark s' c k ≡ mark s c k
-  end-mark c k = end-same (λ row. mark_in row k) (λ row. refl) c
-
-  pub end-on_disk : (c : Cell) → on_disk s' c ≡ on_disk s c
-  end-on_disk = end-same (λ row. row.on_disk) (λ row. refl)
-
-  pub end-copy : (c : Cell) (q : Place) → has_copy p m s' c q ≡ has_copy p m s c q
-  end-copy c (AtNode k) = ap is_valid (end-mark c k)
-  end-copy c (OnDisk d) = ap (λ b. b && is_home p m c d) (end-on_disk c)
+  pub end-alone : (c : Cell) → IsLeftAlone s s' c
+  end-alone c = record { marks = λ k. same (λ row. mark_in row k) (λ row. refl); disk = same (λ row. row.on_disk) (λ row. refl) }
+    where
+      same : {X : Type 0} (f : CellState → X) → ((row : CellState) → f (written_once_more row) ≡ f row) → f (cell_state s' c) ≡ f (cell_state s c)
+      same f e =
+          ap (λ (z : State). f (cell_state z c)) leaves
+          ∙ elim (cells-renewed_or s (λ d row. if has_cell (written_cells p t w) d then written_once_more row else row) c) [
+            | inl row ↦ ap f row ∙ cond_both (has_cell (written_cells p t w) c) (written_once_more (cell_state s c)) (cell_state s c) (λ r. f r ≡ f (cell_state s c)) (λ b. e (cell_state s c)) (λ b. refl)
+            | inr none ↦ ap f (none.1 ∙ sym none.0)
+          ]
 
   -- ---- the rows of the workers
 
@@ -193,11 +186,8 @@ module _ (p : Program) (m : Machine) (s : State) (h : IsSound p m s) (t : Task) 
   owned : (c : Cell) → has_cell (written_cells p t w) c ≡ true → IsOwnedBy m s c w
   owned c written = h.coherent.writers.owned t w c ended written
 
-  same_mark : (c : Cell) (k : Node) → mark s' c k ≡ mark s c k
-  same_mark = end-mark p m s t w s' ended leaves
-
-  same_copy : (c : Cell) (q : Place) → has_copy p m s' c q ≡ has_copy p m s c q
-  same_copy = end-copy p m s t w s' ended leaves
+  alone : (c : Cell) → IsLeftAlone s s' c
+  alone = end-alone p m s t w s' ended leaves
 
   -- another task's cells aren't written
   pub end-spares : (u : Task) (v : Worker) (c : Cell) → u ≢ t → is_task_of v (progress s u) ≡ true → has_cell (cells_of p u v) c ≡ true → has_cell (written_cells p t w) c ≡ false
@@ -215,10 +205,10 @@ module _ (p : Program) (m : Machine) (s : State) (h : IsSound p m s) (t : Task) 
   end-state = record {
     rows = end-rows;
     entries = record {
-      entries = λ k c. ap (λ (z : State). has_cell (order z k) c) leaves ∙ h.coherent.state.entries.entries k c ∙ sym (ap is_entry (same_mark c k));
+      entries = λ k c. ap (λ (z : State). has_cell (order z k) c) leaves ∙ h.coherent.state.entries.entries k c ∙ sym (ap is_entry ((alone c).marks k));
       once = λ k c. subst (λ (z : State). times (order z k) c ≤ 1) (sym leaves) (h.coherent.state.entries.once k c);
     };
-    blocks = HasBlocks-kept p m s s' (λ c there. sym (end-on_disk p m s t w s' ended leaves c) ∙ there) (end-transfer p m s t w s' ended leaves) h.coherent.state.blocks;
+    blocks = HasBlocks-kept p m s s' (λ c there. sym (alone c).disk ∙ there) (end-transfer p m s t w s' ended leaves) h.coherent.state.blocks;
     staff = HasWorkers-kept p s s' t (Running w) (Done w) advance (subst (λ (x : Progress). (worker_of x).0 < p.workers) ended (h.coherent.state.staff.staffed t (ap is_begun ended))) h.coherent.state.staff;
   }
 
@@ -235,16 +225,16 @@ module _ (p : Program) (m : Machine) (s : State) (h : IsSound p m s) (t : Task) 
       | inl e ↦ inr (e, grind (arith, e, end-own_worker p m s t w s' ended leaves), grind (arith, e, end-own_worker p m s t w s' ended leaves), refl)
     ];
     victims = end-kept p m s t w s' ended leaves (λ row. row.victims) refl;
-    entries = λ c k now. sym (ap is_entry (same_mark c k)) ∙ now;
-    leaves = λ v c k leaving. sym (ap (is_leaving_by v) (same_mark c k)) ∙ leaving;
-    comes = λ v c k coming. sym (ap (is_coming_by v) (same_mark c k)) ∙ coming;
-    still_comes = λ v c d k leaving coming. ap (is_coming_by v) (same_mark c k) ∙ coming;
+    entries = λ c k now. sym (ap is_entry ((alone c).marks k)) ∙ now;
+    leaves = λ v c k leaving. sym (ap (is_leaving_by v) ((alone c).marks k)) ∙ leaving;
+    comes = λ v c k coming. sym (ap (is_coming_by v) ((alone c).marks k)) ∙ coming;
+    still_comes = λ v c d k leaving coming. ap (is_coming_by v) ((alone c).marks k) ∙ coming;
     moves_on = λ v x under_way. h.coherent.workers.moves_for_claim v x (sym (end-transfer p m s t w s' ended leaves v) ∙ under_way);
     claims_on = λ e. absurd (let f : Running w ≡ Claimed w = e in cc);
-    stays = λ u v c d has cell. (let same = same_mark c (node_of m v) in (λ was. ap is_entry same ∙ was, λ was. ap is_valid same ∙ was));
+    stays = λ u v c d has cell. (let same = (alone c).marks (node_of m v) in (λ was. ap is_entry same ∙ was, λ was. ap is_valid same ∙ was));
     claimed = λ c e has. absurd (let f : Done w ≡ Claimed w = e in cc);
     running = λ c e has. absurd (let f : Done w ≡ Running w = e in cc);
-    transfers = TransfersAreSound-spared p m s s' (λ c. false) (λ c k e. same_mark c k) (λ c e. end-on_disk p m s t w s' ended leaves c) (λ v c k leaving. sym (ap (is_leaving_by v) (same_mark c k)) ∙ leaving) (end-transfer p m s t w s' ended leaves) (λ v x under_way. refl) h.coherent.transfers;
+    transfers = TransfersAreSound-spared p m s s' (λ c. false) (λ c e. alone c) (λ v c k leaving. sym (ap (is_leaving_by v) ((alone c).marks k)) ∙ leaving) (end-transfer p m s t w s' ended leaves) (λ v x under_way. refl) h.coherent.transfers;
     order = OrderIsKept-advances p s s' t (Running w) (Done w) advance refl refl (same_worker-refl w) refl h.coherent.order;
     counts = Ends-keeps_counts p m s t w s' h.coherent.state h.coherent.cells ended leaves h.coherent.counts;
   }
@@ -256,7 +246,7 @@ module _ (p : Program) (m : Machine) (s : State) (h : IsSound p m s) (t : Task) 
 
   end-writers : WritersOwn p m s'
   end-writers = Changes-writers p m s h s' t (Running w) (Done w) w end-change
-      (λ u v c d runs written. (same_mark c, end-on_disk p m s t w s' ended leaves c, λ x. moves-kept s s' x c (end-transfer p m s t w s' ended leaves x) ∙ (h.coherent.writers.owned u v c runs written).unmoved x))
+      (λ u v c d runs written. (alone c, λ x. moves-kept s s' x c (end-transfer p m s t w s' ended leaves x) ∙ (h.coherent.writers.owned u v c runs written).unmoved x))
       (λ c e. absurd (let f : Done w ≡ Running w = e in cc))
 
   spared-writes : (c : Cell) → has_cell (written_cells p t w) c ≡ false → writes s' c ≡ writes s c
@@ -265,10 +255,10 @@ module _ (p : Program) (m : Machine) (s : State) (h : IsSound p m s) (t : Task) 
   end-copies : WrittenIsKept p m s'
   end-copies = record {
     somewhere = λ c some resting. elim (cases_Bool (has_cell (written_cells p t w) c)) [
-      | inl written ↦ (AtNode (node_of m w), ap is_valid (same_mark c (node_of m w) ∙ (owned c written).valid))
+      | inl written ↦ (AtNode (node_of m w), ap is_valid ((alone c).marks (node_of m w) ∙ (owned c written).valid))
       | inr spared ↦
           let q = h.coherent.copies.somewhere c (omega (arith, spared-writes c spared, some)) (end-rested c spared resting) in
-          (q.0, same_copy c q.0 ∙ q.1)
+          (q.0, copies-left p m s s' c (alone c) q.0 ∙ q.1)
     ];
   }
 
@@ -301,7 +291,7 @@ module _ (p : Program) (m : Machine) (s : State) (h : IsSound p m s) (t : Task) 
           let was : progress s u ≡ Running v = sym (advance.others u other) ∙ runs in
           let spared = end-spares u v c other (ap (is_task_of v) was ∙ same_worker-refl v) (written-among_cells p u v c written) in
           same_array c (AtNode (node_of m v)) spared ∙ holds.begun u v c was written ∙ ap (λ (a : Array). cond (has_cell (fresh_cells p u v) c) (zeros (dims_of p c)) a) (sym (spared-content c spared)));
-      alike = λ c q some resting valid. (let was : has_copy p m s c q ≡ true = sym (same_copy c q) ∙ valid in elim (cases_Bool (has_cell (written_cells p t w) c)) [
+      alike = λ c q some resting valid. (let was : has_copy p m s c q ≡ true = sym (copies-left p m s s' c (alone c) q) ∙ valid in elim (cases_Bool (has_cell (written_cells p t w) c)) [
         | inl written ↦ own_array c q written was
         | inr spared ↦ same_array c q spared ∙ holds.alike c q (omega (arith, spared-writes c spared, some)) (end-rested c spared resting) was ∙ sym (spared-content c spared)
       ]);

@@ -1,16 +1,16 @@
 -- The beginning of a kernel's run leaves a coherent state.
-use Rattle.std.proofs.Common.{◌&&◌, Bool, List, Some, arith, false, inl, inr, length, map, not, refl, sym, true, ℕ, ◌<◌, ◌||◌, ◌∙◌, ◌≡◌, ◌≢◌, ◌≤◌, ◌⊎◌, ap, subst, if◌then◌else◌, nat_eq, cond}
+use Rattle.std.proofs.Common.{Bool, List, Some, arith, false, inl, inr, length, map, not, refl, sym, true, ℕ, ◌<◌, ◌||◌, ◌∙◌, ◌≡◌, ◌≢◌, ◌≤◌, ◌⊎◌, ap, subst, if◌then◌else◌, nat_eq, cond}
 use Rattle.std.proofs.lemmas.Bool.{cases_Bool, false_from_ne_true, false≢true, not-true, true_from_ne_false, cond_both}
 use Rattle.std.proofs.lemmas.Bool.Decides.{Decides-eqb}
 use Rattle.std.proofs.lemmas.List.{get_or-set_same, length-map, length-set}
 use Rattle.sj_base.proofs.SameIds.{same_place-itself}
-use Rattle.sj_core.proofs.Words.{Array, AtNode, Cell, CellState, Claimed, Invalid, Machine, Mark, Node, OnDisk, Place, Program, Progress, Running, State, Task, Transfer, Valid, Worker, WorkerState, cell_state, cells_of, dims_of, fresh_cells, has_cell, is_coming_by, is_entry, is_leaving_by, is_task_of, is_valid, mark, mark_in, has_copy, on_disk, owned_at, moves, node_of, order, progress, transfer, worker_of, worker_state, writes, written_cells, zeros, Run}
+use Rattle.sj_core.proofs.Words.{Array, AtNode, Cell, CellState, Claimed, Invalid, Machine, Mark, Node, Place, Program, Progress, Running, State, Task, Transfer, Valid, Worker, WorkerState, cell_state, cells_of, dims_of, fresh_cells, has_cell, is_coming_by, is_entry, is_leaving_by, is_task_of, is_valid, mark, mark_in, on_disk, owned_at, moves, node_of, order, progress, transfer, worker_of, worker_state, writes, written_cells, zeros, Run}
 use Rattle.sj_core.specs.Coherent.{Coherent, HasEntries, HasRows, IsStateOf, WritersOwn, is_begun, is_being_written, WrittenIsKept}
 use Rattle.sj_core.specs.Laws.{IsSound}
-use Rattle.sj_core.specs.Step.{CanRun, after_run, is_home, is_moving, same_place, without}
+use Rattle.sj_core.specs.Step.{CanRun, after_run, is_moving, same_place, without}
 use Rattle.sj_core.proofs.Advancing.{Advances, Runs-advances, OrderIsKept-advances, claimed-is_mine, claimed-task_of, same_task}
 use Rattle.sj_core.proofs.CellLists.{has_cell-without, times, times-filter}
-use Rattle.sj_core.proofs.Changing.{Changes, Changes-coherent, Changes-writers, TransfersAreSound-spared, HasBlocks-kept, HasRows-kept, moves-kept, HasWorkers-kept}
+use Rattle.sj_core.proofs.Changing.{IsLeftAlone, left_alone, copies-left, Changes, Changes-coherent, Changes-writers, TransfersAreSound-spared, HasBlocks-kept, HasRows-kept, moves-kept, HasWorkers-kept}
 use Rattle.sj_core.proofs.Claimed.{claimed-not_written, claimed-old_value}
 use Rattle.sj_core.proofs.Ending.{content-kept, counted-same, written-undone}
 use Rattle.sj_core.proofs.Dependencies.{Proper-dependencies}
@@ -31,15 +31,8 @@ module _ (p : Program) (m : Machine) (s : State) (t : Task) (w : Worker) (s' : S
   run-row c spared = ap (λ (z : State). cell_state z c) leaves ∙ cells-untouched s (has_cell (written_cells p t w)) owns c spared
 
   -- what the task doesn't write stays as it is
-  pub run-other : (c : Cell) (k : Node) → has_cell (written_cells p t w) c ≡ false → mark s' c k ≡ mark s c k
-  run-other c k spared = ap (λ (row : CellState). mark_in row k) (run-row c spared)
-
-  pub run-other_disk : (c : Cell) → has_cell (written_cells p t w) c ≡ false → on_disk s' c ≡ on_disk s c
-  run-other_disk c spared = ap (λ (row : CellState). row.on_disk) (run-row c spared)
-
-  pub run-other_copy : (c : Cell) (q : Place) → has_cell (written_cells p t w) c ≡ false → has_copy p m s' c q ≡ has_copy p m s c q
-  run-other_copy c (AtNode k) spared = ap is_valid (run-other c k spared)
-  run-other_copy c (OnDisk d) spared = ap (λ b. b && is_home p m c d) (run-other_disk c spared)
+  pub run-other : (c : Cell) → has_cell (written_cells p t w) c ≡ false → IsLeftAlone s s' c
+  run-other c spared = left_alone s s' c (run-row c spared)
 
   -- what it writes is valid on its worker's node
   pub run-own : (c : Cell) → has_cell (written_cells p t w) c ≡ true → c.0 < length s.cells → (node_of m w).0 < length (cell_state s c).marks → mark s' c (node_of m w) ≡ Valid
@@ -144,8 +137,8 @@ module _ (p : Program) (m : Machine) (s : State) (h : IsSound p m s) (t : Task) 
   run-entries : HasEntries s'
   run-entries = record {
     entries = λ k c. elim (same_node k (node_of m w)) [
-      | inl e ↦ grind (arith, e, run-order_here p m s t w s' run leaves, cases_Bool (has_cell (written_cells p t w) c), run-other p m s t w s' run leaves c k, own c, entry c, h.coherent.state.entries.entries k c)
-      | inr d ↦ grind (arith, run-order_elsewhere p m s t w s' run leaves k d, has_cell-without (written_cells p t w) (order s k) c, run-other p m s t w s' run leaves c k, run-only p m s t w s' run leaves c k, d, h.coherent.state.entries.entries k c)
+      | inl e ↦ grind (arith, e, run-order_here p m s t w s' run leaves, cases_Bool (has_cell (written_cells p t w) c), run-other p m s t w s' run leaves c, own c, entry c, h.coherent.state.entries.entries k c)
+      | inr d ↦ grind (arith, run-order_elsewhere p m s t w s' run leaves k d, has_cell-without (written_cells p t w) (order s k) c, run-other p m s t w s' run leaves c, run-only p m s t w s' run leaves c k, d, h.coherent.state.entries.entries k c)
     ];
     once = λ k c. elim (same_node k (node_of m w)) [
       | inl e ↦ subst (λ (j : Node). times (order s' j) c ≤ 1) (sym e) (subst (λ (cs : List Cell). times cs c ≤ 1) (sym (run-order_here p m s t w s' run leaves)) (h.coherent.state.entries.once (node_of m w) c))
@@ -159,21 +152,21 @@ module _ (p : Program) (m : Machine) (s : State) (h : IsSound p m s) (t : Task) 
   run-state = record {
     rows = run-rows;
     entries = run-entries;
-    blocks = HasBlocks-kept p m s s' (λ c there. elim (cases_Bool (has_cell (written_cells p t w) c)) [ inl written ↦ absurd (false≢true (sym (run-unstored p m s t w s' run leaves c written) ∙ there)) | inr spared ↦ sym (run-other_disk p m s t w s' run leaves c spared) ∙ there ]) (run-transfer p m s t w s' run leaves) h.coherent.state.blocks;
+    blocks = HasBlocks-kept p m s s' (λ c there. elim (cases_Bool (has_cell (written_cells p t w) c)) [ inl written ↦ absurd (false≢true (sym (run-unstored p m s t w s' run leaves c written) ∙ there)) | inr spared ↦ sym (run-other p m s t w s' run leaves c spared).disk ∙ there ]) (run-transfer p m s t w s' run leaves) h.coherent.state.blocks;
     staff = HasWorkers-kept p s s' t (Claimed w) (Running w) advance (subst (λ (x : Progress). (worker_of x).0 < p.workers) run.claimed (h.coherent.state.staff.staffed t (ap is_begun run.claimed))) h.coherent.state.staff;
   }
 
   -- ---- the change
 
   fewer_entries : (c : Cell) (k : Node) → is_entry (mark s' c k) ≡ true → is_entry (mark s c k) ≡ true
-  fewer_entries c k now = grind (arith, cases_Bool (has_cell (written_cells p t w) c), run-other p m s t w s' run leaves c k, run-written p m s t w s' run leaves c k, entry c)
+  fewer_entries c k now = grind (arith, cases_Bool (has_cell (written_cells p t w) c), run-other p m s t w s' run leaves c, run-written p m s t w s' run leaves c k, entry c)
 
   -- what comes by the claim of a worker whose victims leave still comes
   still_comes : (v : Worker) (c d : Cell) (k : Node) → is_leaving_by v (mark s' d k) ≡ true → is_coming_by v (mark s c k) ≡ true → is_coming_by v (mark s' c k) ≡ true
   still_comes v c d k leaving coming =
       let claimed = h.coherent.pins.coming_claimed v c k coming in
       let other : claimed.task ≢ t = λ e. (let same : Claimed v ≡ Claimed w = sym claimed.claimed ∙ ap (λ (u : Task). progress s u) e ∙ run.claimed in let is : v ≡ w = cc in grind (arith, is, none_leaves d k, run-leaving p m s t w s' run leaves v d k leaving)) in
-      ap (is_coming_by v) (run-other p m s t w s' run leaves c k (run-spares claimed.task v c other (claimed-task_of s claimed.task v claimed.claimed) claimed.cell)) ∙ coming
+      ap (is_coming_by v) ((run-other p m s t w s' run leaves c (run-spares claimed.task v c other (claimed-task_of s claimed.task v claimed.claimed) claimed.cell)).marks k) ∙ coming
 
   pub run-change : Changes p m s s' t (Claimed w) (Running w) w
   run-change = record {
@@ -193,10 +186,10 @@ module _ (p : Program) (m : Machine) (s : State) (h : IsSound p m s) (t : Task) 
       λ c k. false_from_ne_true (is_coming_by w (mark s' c k)) (λ coming. (let was = run-fewer p m s t w s' run leaves (is_coming_by w) refl refl c k coming in false≢true (sym was.0 ∙ coming-is_fresh c k was.1))),
       λ x under_way. moves_none x (sym (run-transfer p m s t w s' run leaves w) ∙ under_way),
     );
-    stays = λ u v c d has cell. (let same = run-other p m s t w s' run leaves c (node_of m v) (run-spares u v c d has cell) in (λ was. ap is_entry same ∙ was, λ was. ap is_valid same ∙ was));
+    stays = λ u v c d has cell. (let same = (run-other p m s t w s' run leaves c (run-spares u v c d has cell)).marks (node_of m v) in (λ was. ap is_entry same ∙ was, λ was. ap is_valid same ∙ was));
     claimed = λ c e has. absurd (let f : Running w ≡ Claimed w = e in cc);
-    running = λ c e has. elim (cases_Bool (has_cell (written_cells p t w) c)) [ inl written ↦ ap is_valid (own c written) | inr spared ↦ ap is_valid (run-other p m s t w s' run leaves c (node_of m w) spared) ∙ spared-present c has spared ];
-    transfers = TransfersAreSound-spared p m s s' (has_cell (written_cells p t w)) (run-other p m s t w s' run leaves) (run-other_disk p m s t w s' run leaves) (run-leaving p m s t w s' run leaves) (run-transfer p m s t w s' run leaves) run-unmoved h.coherent.transfers;
+    running = λ c e has. elim (cases_Bool (has_cell (written_cells p t w) c)) [ inl written ↦ ap is_valid (own c written) | inr spared ↦ ap is_valid ((run-other p m s t w s' run leaves c spared).marks (node_of m w)) ∙ spared-present c has spared ];
+    transfers = TransfersAreSound-spared p m s s' (has_cell (written_cells p t w)) (run-other p m s t w s' run leaves) (run-leaving p m s t w s' run leaves) (run-transfer p m s t w s' run leaves) run-unmoved h.coherent.transfers;
     order = OrderIsKept-advances p s s' t (Claimed w) (Running w) advance refl refl (claimed-is_mine w) refl h.coherent.order;
     counts = record { counted = λ c. run-writes p m s t w s' run leaves c ∙ h.coherent.counts.counted c ∙ sym (counted-same p s s' c (λ u. written-undone p s s' c t u (Claimed w) (Running w) advance refl refl)) };
   }
@@ -207,7 +200,7 @@ module _ (p : Program) (m : Machine) (s : State) (h : IsSound p m s) (t : Task) 
   run-writers = Changes-writers p m s h s' t (Claimed w) (Running w) w run-change
       (λ u v c d runs written.
       (let spared = run-spares u v c d (ap (is_task_of v) runs ∙ same_worker-refl v) (written-among_cells p u v c written) in
-      (λ k. run-other p m s t w s' run leaves c k spared, run-other_disk p m s t w s' run leaves c spared, λ x. moves-kept s s' x c (run-transfer p m s t w s' run leaves x) ∙ (h.coherent.writers.owned u v c runs written).unmoved x)))
+      (run-other p m s t w s' run leaves c spared, λ x. moves-kept s s' x c (run-transfer p m s t w s' run leaves x) ∙ (h.coherent.writers.owned u v c runs written).unmoved x)))
       (λ c e written. record {
         valid = own c written;
         only = λ k away. run-only p m s t w s' run leaves c k written away;
@@ -230,7 +223,7 @@ module _ (p : Program) (m : Machine) (s : State) (h : IsSound p m s) (t : Task) 
   run-copies = record {
     somewhere = λ c some resting.
         (let q = h.coherent.copies.somewhere c (omega (arith, run-writes p m s t w s' run leaves c, some)) (run-rested c resting) in
-        (q.0, run-other_copy p m s t w s' run leaves c q.0 (run-spared c resting) ∙ q.1));
+        (q.0, copies-left p m s s' c (run-other p m s t w s' run leaves c (run-spared c resting)) q.0 ∙ q.1));
   }
 
   pub Runs-coherent : Coherent p m s'
@@ -285,6 +278,6 @@ module _ (p : Program) (m : Machine) (s : State) (h : IsSound p m s) (t : Task) 
       alike = λ c q some resting valid.
           (let spared = run-spared c resting in
           same_array c q (run-stale c spared)
-          ∙ holds.alike c q (omega (arith, run-writes p m s t w s' run leaves c, some)) (run-rested c resting) (sym (run-other_copy p m s t w s' run leaves c q spared) ∙ valid)
+          ∙ holds.alike c q (omega (arith, run-writes p m s t w s' run leaves c, some)) (run-rested c resting) (sym (copies-left p m s s' c (run-other p m s t w s' run leaves c spared) q) ∙ valid)
           ∙ sym (run-content c));
     }
