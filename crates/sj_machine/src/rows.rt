@@ -1,6 +1,7 @@
 //! The rows of a run, and the events that change them.
 
 ghost use Rattle.std.specs.Prelude.{◌≡◌, ◌<◌, [], IfErr, IfOk, IsSome, None, OnErr, OnOk, Some, length, map, replicate};
+ghost use Rattle.sj_base.specs.declared.trace.Event.{Event};
 ghost use Rattle.sj_core.specs.Machine.{idle_row, transfer};
 ghost use Rattle.sj_core.specs.Proper.{IsMachineFor, Proper};
 ghost use Rattle.sj_core.specs.Step.{mover_of};

@@ -29,7 +29,7 @@ pub fn own_each(cells: &mut Vec<Replica>, written: &[Cell], n: Node)
 /// Takes a cell's unpinned entry away, if the node has one. One look-up where the cell's mark tells of an entry, and else none.
 fn remove_entry(node: &mut NodeStore, rows: &[Replica], k: Node, cell: Cell)
     requires wide { All (λ row. k.0 < length row.marks) rows.now }
-    requires absent { is_entry (mark_at (row_of rows.now cell) k) ≡ false →
+    requires absent { is_entry (mark_at rows.now k cell) ≡ false →
         has_entry node.old.entries cell ≡ false }
     requires unpinned { pins_of node.old.entries cell ≡ 0 }
     ensures { node.new ≡ with_entries node.old (without_entry cell node.old.entries) }
