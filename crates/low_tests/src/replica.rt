@@ -1,31 +1,39 @@
-//! A copy of a cell through claims, transfers, a run and an end.
+//! The row of a cell through claims, transfers, a run and an end.
 
-use sj_base::ids::{DiskNo, Node, Place};
-use sj_replica::replica::CellReplicas;
-use sj_replica::state::At;
+use sj_base::ids::{Node, Worker};
+use sj_replica::mark::Mark;
+use sj_replica::replica::Replica;
 
 #[test]
 fn a_written_cell_is_evicted_and_fetched_again(rt: HostRuntime) {
-    let (near, far) = (Node(0), Node(3));
-    let disk = Place::Disk(DiskNo(1));
-    let mut cell = CellReplicas::none(DiskNo(1));
-    assert_eq!(rt; cell.source(Place::Node(near)), None);
-    cell.coming(near);
-    cell.read_begin(near);
-    cell.write_begin(near);
-    cell.write_end(near);
-    cell.read_end(near);
-    assert!(rt; cell.writes() == 1 && cell.is_only(Place::Node(near)));
-    cell.leaving(near);
-    cell.move_begin(Place::Node(near), disk);
-    assert!(rt; cell.is_moving());
-    cell.move_end(Place::Node(near), disk);
-    cell.drop_copy(near);
-    assert!(rt; cell.is_only(disk) && !cell.is_moving());
-    cell.coming(far);
-    assert_eq!(rt; cell.source(Place::Node(far)), Some(disk));
-    cell.move_begin(disk, Place::Node(far));
-    cell.move_end(disk, Place::Node(far));
-    assert_eq!(rt; cell.at(Place::Node(far)), At::Valid);
-    assert_eq!(rt; cell.source(disk), Some(Place::Node(far)));
+    let (near, far, w) = (Node(0), Node(3), Worker(0));
+    let mut cell = Replica::none(rt.global(), 4).unwrap();
+    assert_eq!(rt; cell.first_node(), None);
+    cell.set_mark(near, Mark::Coming(w));
+    assert!(rt; cell.first_node().is_none() && !cell.is_elsewhere(far));
+    cell.own(near);
+    cell.count_write();
+    assert!(rt; cell.writes() == 1 && cell.first_node() == Some(near) && !cell.is_elsewhere(near));
+    cell.set_mark(near, Mark::Leaving(w));
+    assert!(rt; cell.mark(near).is_there() && cell.is_elsewhere(far));
+    cell.store();
+    assert!(rt; cell.is_on_disk() && cell.is_elsewhere(near));
+    cell.set_mark(near, Mark::Invalid);
+    assert_eq!(rt; cell.first_node(), None);
+    cell.set_mark(far, Mark::Coming(w));
+    cell.set_mark(far, Mark::Valid);
+    assert!(rt; cell.first_node() == Some(far) && cell.is_elsewhere(near) && cell.is_elsewhere(far));
+}
+
+#[test]
+fn a_run_takes_the_other_copies_away(rt: HostRuntime) {
+    let mut cell = Replica::none(rt.global(), 12).unwrap();
+    cell.set_mark(Node(2), Mark::Valid);
+    cell.set_mark(Node(11), Mark::Valid);
+    cell.store();
+    assert_eq!(rt; cell.first_node(), Some(Node(2)));
+    cell.own(Node(11));
+    assert_eq!(rt; cell.mark(Node(2)), Mark::Invalid);
+    assert!(rt; !cell.is_on_disk() && !cell.is_elsewhere(Node(11)));
+    assert_eq!(rt; cell.first_node(), Some(Node(11)));
 }
