@@ -202,25 +202,25 @@ module _ (p : Program) (m : Machine) (s : State) (h : IsSound p m s) (s' : State
 pub TransfersAreSound-kept : (p : Program) (m : Machine) (s s' : State) → ((v : Worker) (x : Transfer) → transfer s' v ≡ Some x → transfer s v ≡ Some x) →
     ((v : Worker) (x : Transfer) → transfer s' v ≡ Some x → has_copy p m s x.cell x.from ≡ true → has_copy p m s' x.cell x.from ≡ true) →
     ((v : Worker) (x : Transfer) (k : Node) → transfer s' v ≡ Some x → k ≡ node_of m v → is_coming_by v (mark s x.cell k) ≡ true → is_coming_by v (mark s' x.cell k) ≡ true) →
-    ((v : Worker) (x : Transfer) (k : Node) → transfer s' v ≡ Some x → is_leaving_by v (mark s x.cell k) ≡ true → is_leaving_by v (mark s' x.cell k) ≡ true) →
+    ((v : Worker) (x : Transfer) (k : Node) → transfer s' v ≡ Some x → x.from ≡ AtNode k → is_leaving_by v (mark s x.cell k) ≡ true → is_leaving_by v (mark s' x.cell k) ≡ true) →
     ((v : Worker) (x : Transfer) (d : DiskNo) → transfer s' v ≡ Some x → x.to ≡ OnDisk d → on_disk s x.cell ≡ false → on_disk s' x.cell ≡ false) →
     ((v : Worker) (x : Transfer) (c : Cell) (k : Node) → transfer s' v ≡ Some x → is_leaving_by v (mark s' c k) ≡ true → is_leaving_by v (mark s c k) ≡ true) → TransfersAreSound p m s → TransfersAreSound p m s'
 TransfersAreSound-kept p m s s' was read awaited evicted unstored leaves before = record {
   source = λ v x now. read v x now (before.source v x (was v x now));
-  target = λ v x now. to_place v x now x.from x.to refl (before.target v x (was v x now));
+  target = λ v x now. to_place v x now x.from x.to refl refl (before.target v x (was v x now));
   apart = λ u v x y d e hu hv. before.apart u v x y d e (was u x hu) (was v y hv);
 }
   where
-    to_place : (v : Worker) (x : Transfer) → transfer s' v ≡ Some x → (from to : Place) → x.to ≡ to → IsTransferTo m s v x.cell from to → IsTransferTo m s' v x.cell from to
-    to_place v x now from (AtNode k) e target = (target.0, awaited v x k now target.0 target.1, λ d j. false_from_ne_true (is_leaving_by v (mark s' d j)) (λ leaving. false≢true (sym (target.2 d j) ∙ leaves v x d j now leaving)))
-    to_place v x now (AtNode j) (OnDisk d) e target = (evicted v x j now target.0, unstored v x d now e target.1)
-    to_place v x now (OnDisk j) (OnDisk d) e target = target
+    to_place : (v : Worker) (x : Transfer) → transfer s' v ≡ Some x → (from to : Place) → x.from ≡ from → x.to ≡ to → IsTransferTo m s v x.cell from to → IsTransferTo m s' v x.cell from to
+    to_place v x now from (AtNode k) f e target = (target.0, awaited v x k now target.0 target.1, λ d j. false_from_ne_true (is_leaving_by v (mark s' d j)) (λ leaving. false≢true (sym (target.2 d j) ∙ leaves v x d j now leaving)))
+    to_place v x now (AtNode j) (OnDisk d) f e target = (evicted v x j now f target.0, unstored v x d now e target.1)
+    to_place v x now (OnDisk j) (OnDisk d) f e target = target
 
 -- so does one that leaves alone the cells that move
 pub TransfersAreSound-spared : (p : Program) (m : Machine) (s s' : State) (touched : Cell → Bool) → ((c : Cell) → touched c ≡ false → IsLeftAlone s s' c) → ((v : Worker) (c : Cell) (k : Node) → is_leaving_by v (mark s' c k) ≡ true → is_leaving_by v (mark s c k) ≡ true) →
     ((v : Worker) → transfer s' v ≡ transfer s v) → ((v : Worker) (x : Transfer) → transfer s v ≡ Some x → touched x.cell ≡ false) → TransfersAreSound p m s → TransfersAreSound p m s'
 TransfersAreSound-spared p m s s' touched alone leaves same spared = TransfersAreSound-kept p m s s' was (λ v x now copy. copies-left p m s s' x.cell (stays v x now) x.from ∙ copy)
-    (λ v x k now here coming. ap (is_coming_by v) ((stays v x now).marks k) ∙ coming) (λ v x k now leaving. ap (is_leaving_by v) ((stays v x now).marks k) ∙ leaving)
+    (λ v x k now here coming. ap (is_coming_by v) ((stays v x now).marks k) ∙ coming) (λ v x k now from leaving. ap (is_leaving_by v) ((stays v x now).marks k) ∙ leaving)
     (λ v x d now e none. (stays v x now).disk ∙ none) (λ v x c k now. leaves v c k)
   where
     was : (v : Worker) (x : Transfer) → transfer s' v ≡ Some x → transfer s v ≡ Some x

@@ -1,25 +1,24 @@
 -- A move that begins, one that ends, and a drop leave a coherent state.
-use Rattle.std.proofs.Common.{arith, List, Some, false, inl, inr, refl, sym, true, ◌∙◌, ◌≡◌, ap, subst, None, Option, not, ◌&&◌, ◌⊎◌, Bool, ◌<◌, ◌≢◌, IsTrue, cond}
+use Rattle.std.proofs.Common.{arith, length, List, Some, false, inl, inr, refl, sym, true, ◌∙◌, ◌≡◌, ap, subst, None, Option, not, ◌&&◌, ◌⊎◌, Bool, ◌<◌, ◌≢◌, IsTrue, cond}
 use Rattle.std.proofs.lemmas.List.{length-set}
-use Rattle.std.proofs.lemmas.Bool.{true≢false, and_from, false_from_ne_true, false≢true, and_parts, cases_Bool}
+use Rattle.std.proofs.lemmas.Bool.{true≢false, and_from, false_from_ne_true, false≢true, and_parts, cases_Bool, not-true, or_parts}
 use Rattle.std.proofs.lemmas.List.Quantifiers.{position-Some}
 use Rattle.sj_base.proofs.SameIds.{same_cell-itself, same_place-itself, same_cell-is}
-use Rattle.sj_core.specs.Coherent.{Coherent, HasBlocks, HasRows, IsOwnedBy, IsTransferTo, TransfersAreSound, IsClaimed, WrittenIsKept}
+use Rattle.sj_core.specs.Coherent.{Coherent, HasBlocks, HasRows, IsOwnedBy, IsTransferTo, NoneLeavesBy, TransfersAreSound, IsClaimed, WrittenIsKept}
 use Rattle.sj_core.specs.Laws.{IsSound}
-use Rattle.sj_core.specs.Step.{CanDrop, CanMoveIn, CanMoveOut, a_transfer, disk_of, is_fresh, is_read, same_place}
-use Rattle.sj_core.proofs.Words.{AtNode, Cell, CellState, Claimed, Machine, Mark, Node, Place, Program, Running, State, Task, Transfer, Worker, WorkerState, has_cell, is_claimed_by, is_coming_by, is_entry, is_leaving_by, is_valid, moves, node_of, pins, progress, mark, scratch, transfer, victims_of, writes, DiskNo, OnDisk, with_transfer, Invalid, fresh_cells, Coming, Leaving, Valid, same_cell, with_row, is_leaving, Moved, has_copy, with_mark}
+use Rattle.sj_core.specs.Step.{CanDrop, CanMoveIn, CanMoveOut, a_transfer, disk_of, is_fresh, is_home}
+use Rattle.sj_core.proofs.Words.{AtNode, Cell, CellState, Claimed, Machine, Mark, Node, Place, Program, Running, State, Task, Transfer, Worker, WorkerState, has_cell, is_claimed_by, is_coming_by, is_entry, is_leaving_by, is_valid, moves, node_of, pins, progress, mark, scratch, transfer, victims_of, writes, DiskNo, OnDisk, with_transfer, Invalid, fresh_cells, Coming, Leaving, Valid, same_cell, with_row, is_leaving, Moved, has_copy, with_mark, arrived, cell_state, on_disk, is_read, reads_in, same_place, worker_state}
 use Rattle.sj_core.proofs.Advancing.{claimed-is_mine, task_of-worker, claimed_by-is}
-use Rattle.sj_core.proofs.Changing.{Changes, Changes-coherent, Changes-writers, HasBlocks-kept, TransfersAreSound-kept}
-use Rattle.sj_core.proofs.Placing.{transfer-is, pins-same, scratch-same, victims-same, owned-fails, position-none, room-leaves_none, valid-within, stays-on_disk, list_any-place, same_place-is, disks-kept, nodes-kept, replica-cases, transfer-cases, transfer-own, writes-same}
-use Rattle.sj_core.proofs.Reading.{unmoved-from, moves-it, transfer-inside, list_any-worker}
+use Rattle.sj_core.proofs.Changing.{Changes, Changes-coherent, Changes-writers, HasBlocks-kept, IsLeftAlone, TransfersAreSound-kept}
+use Rattle.sj_core.proofs.Placing.{elsewhere-from, elsewhere-some, home-from, home-is, mark_in-cases, mark-cases, HasRows-written, on_disk-same, row-cases, transfer-is, pins-same, scratch-same, victims-same, owned-fails, position-none, room-leaves_none, valid-within, same_place-is, transfer-cases, transfer-own, writes-same}
+use Rattle.sj_core.proofs.Reading.{unmoved-from, moves-it, transfer-inside, unread-by}
 use Rattle.sj_core.proofs.Replicas.{same_worker-refl, leaving_by-one, leaving_by-valid, coming_by-is, coming_by-one, leaving-by_some, leaving-is_none}
 use Rattle.sj_core.proofs.Claimed.{claimed-inside, claimed-not_written, claimed-old_value, list_any-task}
 use Rattle.sj_core.proofs.CellLists.{same_cell-from}
-use Rattle.sj_core.proofs.Readiness.{list_any-some}
 use Rattle.sj_core.specs.Arrays.{Arrays, HoldsContent, arrays_after}
 use Rattle.sj_core.proofs.Finding.{second_fails, HoldsContent-kept}
 
--- ---- a step that changes replicas and transfers alone, and what it owes so as to leave a coherent state
+-- ---- a step that changes rows of cells and transfers alone, and what it owes so as to leave a coherent state
 
 -- the state with other cells and workers
 abbrev pub shifted : State → List CellState → List WorkerState → State
@@ -33,11 +32,11 @@ pub record Shifts (p : Program) (m : Machine) (s : State) (cells : List CellStat
   pub hands : (v : Worker) → (pins (shifted s cells workers) v ≡ pins s v) × (scratch (shifted s cells workers) v ≡ scratch s v) × (victims_of (shifted s cells workers) v ≡ victims_of s v)
   pub same_writes : (c : Cell) → writes (shifted s cells workers) c ≡ writes s c
   pub same_entries : (c : Cell) (k : Node) → is_entry (mark (shifted s cells workers) c k) ≡ is_entry (mark s c k)
-  pub leaves : (v : Worker) (c : Cell) (q : Place) → is_leaving_by v (replica (shifted s cells workers) c q) ≡ true → is_leaving_by v (replica s c q) ≡ true
+  pub leaves : (v : Worker) (c : Cell) (k : Node) → is_leaving_by v (mark (shifted s cells workers) c k) ≡ true → is_leaving_by v (mark s c k) ≡ true
   pub comes : (v : Worker) (c : Cell) (k : Node) → is_coming_by v (mark (shifted s cells workers) c k) ≡ true → is_coming_by v (mark s c k) ≡ true
   pub still_comes : (v : Worker) (c d : Cell) (k : Node) → is_leaving_by v (mark (shifted s cells workers) d k) ≡ true → is_coming_by v (mark s c k) ≡ true → is_coming_by v (mark (shifted s cells workers) c k) ≡ true
   pub pinned : (v : Worker) (c : Cell) → has_cell (pins s v) c ≡ true → is_valid (mark s c (node_of m v)) ≡ true → is_valid (mark (shifted s cells workers) c (node_of m v)) ≡ true
-  pub owned : (c : Cell) (v : Worker) → IsOwnedBy m s c v → (q : Place) → replica (shifted s cells workers) c q ≡ replica s c q
+  pub owned : (c : Cell) (v : Worker) → IsOwnedBy m s c v → IsLeftAlone s (shifted s cells workers) c
   pub unmoved : (c : Cell) (v : Worker) → IsOwnedBy m s c v → (x : Worker) → moves (shifted s cells workers) x c ≡ false
   pub movers : (v : Worker) (x : Transfer) → transfer (shifted s cells workers) v ≡ Some x → (t : Task) × (is_claimed_by v (progress s t) ≡ true)
   pub moving : TransfersAreSound p m (shifted s cells workers)
@@ -100,24 +99,24 @@ module _ (p : Program) (m : Machine) (s : State) (h : IsSound p m s) (w : Worker
     where
       to_place : (v : Worker) (d : Cell) (from to : Place) → IsTransferTo m s v d from to → IsTransferTo m now v d from to
       to_place v d from (AtNode k) target = target
-      to_place v d from (OnDisk k) target = target
+      to_place v d (AtNode j) (OnDisk k) target = target
+      to_place v d (OnDisk j) (OnDisk k) target = target
 
   begins : Shifts p m s now.cells now.workers
   begins = record {
-    rows = (let rows = h.coherent.state.rows in record { tasks = rows.tasks; cells = rows.cells; orders = rows.orders; workers = length-set s.workers w.0 _ ∙ rows.workers; nodes = rows.marks; disks = rows.disks });
+    rows = (let rows = h.coherent.state.rows in record { tasks = rows.tasks; cells = rows.cells; orders = rows.orders; workers = length-set s.workers w.0 _ ∙ rows.workers; marks = rows.marks });
     blocks = (let blocks = h.coherent.state.blocks in record {
-      resting = blocks.resting;
       home = blocks.home;
       aimed = λ v x d under_way to. elim (transfer-is s w begun v x under_way) [ inl same ↦ blocks.aimed v x d same to | inr (e, is) ↦ subst (λ (y : Transfer). disk_of p m y.cell ≡ Some d) is (aimed d (ap (λ (y : Transfer). y.to) is ∙ to)) ];
     });
     hands = λ v. (pins-same s w (Some begun) v, scratch-same s w (Some begun) v, victims-same s w (Some begun) v);
     same_writes = λ d. refl;
     same_entries = λ d k. refl;
-    leaves = λ v d q leaving. leaving;
+    leaves = λ v d k leaving. leaving;
     comes = λ v d k coming. coming;
     still_comes = λ v x d k leaving coming. coming;
     pinned = λ v d pin valid. valid;
-    owned = λ d v own q. refl;
+    owned = λ d v own. record { marks = λ k. refl; disk = refl };
     unmoved = λ d v own x. unmoved-from now x d (λ y under_way e. (grind (arith, transfer-is s w begun x y under_way, moves-it s x y, own.unmoved x, free v)));
     movers = λ v x under_way. elim (transfer-is s w begun v x under_way) [ inl same ↦ h.coherent.workers.moves_for_claim v x same | inr (e, is) ↦ (t, grind (arith, e, claimed, same_worker-refl w)) ];
     moving = moving;
@@ -142,178 +141,180 @@ module _ (p : Program) (m : Machine) (s : State) (h : IsSound p m s) (c : Cell) 
       let some : is_fresh p s w c ≡ true = list_any-task p (λ t. is_claimed_by w (progress s t) && has_cell (fresh_cells p t w) c) claimed.task (claimed-inside p m s h claimed.task w claimed.claimed) both in
       false≢true (sym (ap not some) ∙ move.old_value_needed)))
 
-  -- so it is valid somewhere, and there the move begins
+  -- so it has a copy somewhere, and there the move begins
   somewhere : (q : Place) × IsTrue (has_copy p m s c q)
   somewhere = h.coherent.copies.somewhere c (claimed-old_value p m s h claimed.task w claimed.claimed c claimed.cell not_fresh) (claimed-not_written p m s h claimed.task w claimed.claimed c claimed.cell)
 
   source_valid : has_copy p m s c from ≡ true
-  source_valid = search (arith, somewhere, position-Some, false≢true, position-none, valid-within)
+  source_valid = search (arith, somewhere, position-Some, false≢true, position-none, valid-within, home-from, and_parts, and_from)
 
   pub Moves_in-keep_coherence : Coherent p m (with_transfer s w (Some (a_transfer c from (AtNode n))))
   Moves_in-keep_coherence = Begun-coherent p m s h w (a_transfer c from (AtNode n))
       (λ d to. absurd (let e : AtNode n ≡ OnDisk d = to in cc)) source_valid (move.own_node, move.coming, room-leaves_none p m s h w move.room)
       (λ v x d e under_way to aims cell. absurd (let f : AtNode n ≡ OnDisk e = aims in cc))
-      (λ v own. false≢true (sym (owned-fails m s c v own (is_coming_by w) refl refl (AtNode n)) ∙ move.coming)) claimed.task claimed.claimed
+      (λ v own. false≢true (sym (owned-fails m s c v own (is_coming_by w) refl refl n) ∙ move.coming)) claimed.task claimed.claimed
 
 -- ---- a move out to a disk that begins leaves a coherent state
 
-module _ (p : Program) (m : Machine) (s : State) (h : IsSound p m s) (c : Cell) (from : Place) (d : DiskNo) (w : Worker) (move : CanMoveOut p m s c from d w) where
-  -- a valid replica of the cell is the one that leaves
-  only_one : (q : Place) → has_copy p m s c q ≡ true → q ≡ from
-  only_one q valid = search (arith, same_place-is, and_from, list_any-place, false≢true)
+module _ (p : Program) (m : Machine) (s : State) (h : IsSound p m s) (c : Cell) (k : Node) (d : DiskNo) (w : Worker) (move : CanMoveOut p m s c k d w) where
+  -- a copy of the cell is the one that leaves
+  only_one : (q : Place) → has_copy p m s c q ≡ true → q ≡ AtNode k
+  only_one q copy = search (arith, cases_Bool, same_place-is, same_place-itself, elsewhere-from, not-true, false≢true)
 
-  -- so its block isn't valid
-  target_invalid : replica s c (OnDisk d) ≡ Invalid
-  target_invalid = by_replica (replica s c (OnDisk d)) refl
+  unstored : on_disk s c ≡ false
+  unstored = search (arith, not-true, or_parts)
+
+  -- another worker's transfer of the cell to a disk would read the same copy
+  reads_the_same : (v : Worker) (x : Transfer) (j : DiskNo) → transfer s v ≡ Some x → x.to ≡ OnDisk j → x.cell ≡ c → v ≡ w
+  reads_the_same v x j under_way to cell = by_source x.from (subst (λ (q : Place). IsTransferTo m s v x.cell x.from q) to (h.coherent.transfers.target v x under_way))
     where
-      by_replica : (r : Mark) → replica s c (OnDisk d) ≡ r → r ≡ Invalid
-      by_replica Invalid e = refl
-      by_replica (Coming v) e = absurd ((h.coherent.state.blocks.resting c d v).0 e)
-      by_replica (Leaving v) e = absurd ((h.coherent.state.blocks.resting c d v).1 e)
-      by_replica Valid e = absurd (stays-on_disk p m s h w c d (ap (λ (q : Place). is_leaving_by w (replica s c q)) (only_one (OnDisk d) (ap is_valid e)) ∙ move.leaving))
-
-  -- another worker's transfer of the cell to a disk would read the same replica
-  reads_the_same : (v : Worker) (x : Transfer) (k : DiskNo) → transfer s v ≡ Some x → x.to ≡ OnDisk k → x.cell ≡ c → v ≡ w
-  reads_the_same v x k under_way to cell =
-      let target : IsTransferTo m s v x.cell x.from (OnDisk k) = subst (λ (q : Place). IsTransferTo m s v x.cell x.from q) to (h.coherent.transfers.target v x under_way) in
-      let leaving : is_leaving_by v (replica s c x.from) ≡ true = ap (λ (y : Cell). is_leaving_by v (replica s y x.from)) (sym cell) ∙ target.0 in
-      leaving_by-one v w (replica s c from) (grind (arith, leaving, only_one x.from (leaving_by-valid v (replica s c x.from) leaving))) move.leaving
+      by_source : (from : Place) → IsTransferTo m s v x.cell from (OnDisk j) → v ≡ w
+      by_source (AtNode i) target = grind (arith, target, cell, leaving_by-valid v (mark s c i), only_one (AtNode i), leaving_by-one v w (mark s c k), move.leaving)
+      by_source (OnDisk i) target = absurd (false≢true target)
 
   -- the worker has a claimed task, since its victim is leaving
   claims : (t : Task) × (is_claimed_by w (progress s t) ≡ true)
-  claims = search (arith, stays-on_disk p m s h)
+  claims = (h.coherent.workers.evicted w c k move.leaving).claims
 
-  pub Moves_out-keep_coherence : Coherent p m (with_transfer s w (Some (a_transfer c from (OnDisk d))))
-  Moves_out-keep_coherence = Begun-coherent p m s h w (a_transfer c from (OnDisk d))
-      (λ k to. move.target ∙ (let e : OnDisk d ≡ OnDisk k = to in cc)) (leaving_by-valid w (replica s c from) move.leaving) (move.leaving, target_invalid)
-      (λ v x k j under_way to aims cell. reads_the_same v x k under_way to cell)
-      (λ v own. false≢true (sym (owned-fails m s c v own (is_leaving_by w) refl refl from) ∙ move.leaving)) claims.0 (claimed_by-is w (progress s claims.0) claims.1)
-
--- where a replica is replaced by one that fails a test, none passes it that didn't before
-replaced-fewer : (s : State) (c : Cell) (to : Place) (r : Mark) (test : Mark → Bool) → test r ≡ false → (x : Cell) (q : Place) → test (replica (with_replica s c to r) x q) ≡ true → test (replica s x q) ≡ true
-replaced-fewer s c to r test fails x q passes = grind (arith, replica-cases s c to r x q)
+  pub Moves_out-keep_coherence : Coherent p m (with_transfer s w (Some (a_transfer c (AtNode k) (OnDisk d))))
+  Moves_out-keep_coherence = Begun-coherent p m s h w (a_transfer c (AtNode k) (OnDisk d))
+      (λ j to. move.target ∙ (let e : OnDisk d ≡ OnDisk j = to in cc)) (leaving_by-valid w (mark s c k) move.leaving) (move.leaving, unstored)
+      (λ v x j i under_way to aims cell. reads_the_same v x j under_way to cell)
+      (λ v own. false≢true (sym (owned-fails m s c v own (is_leaving_by w) refl refl k) ∙ move.leaving)) claims.0 (claimed_by-is w (progress s claims.0) claims.1)
 
 -- ---- a move that ends leaves a coherent state
+
+module _ (s : State) (c : Cell) (to : Place) where
+  abbrev placed : State
+  placed = with_row s c (arrived to (cell_state s c))
+
+  -- each mark is as before, or is the one that was brought
+  placed-marks : (x : Cell) (k : Node) → (mark placed x k ≡ mark s x k) ⊎ ((x ≡ c) × (to ≡ AtNode k) × (mark placed x k ≡ Valid))
+  placed-marks x k = search (arith, row-cases, mark_in-cases)
+
+  -- and so is what is on a disk
+  placed-disks : (x : Cell) → (on_disk placed x ≡ on_disk s x) ⊎ ((x ≡ c) × ((d : DiskNo) × (to ≡ OnDisk d)) × (on_disk placed x ≡ true))
+  placed-disks x = search (arith, row-cases)
+
+  placed-long : length (arrived to (cell_state s c)).marks ≡ length (cell_state s c).marks
+  placed-long = search (arith, length-set)
+
+  placed-writes : (x : Cell) → writes placed x ≡ writes s x
+  placed-writes x = search (arith, writes-same)
 
 module _ (p : Program) (m : Machine) (s : State) (h : IsSound p m s) (c : Cell) (from to : Place) (w : Worker) (moved : transfer s w ≡ Some (a_transfer c from to)) where
   abbrev ending : Transfer
   ending = a_transfer c from to
 
-  abbrev placed : State
-  placed = with_replica s c to Valid
-
-  abbrev arrived : State
-  arrived = with_transfer placed w None
+  abbrev landed : State
+  landed = with_transfer (placed s c to) w None
 
   target : IsTransferTo m s w c from to
   target = h.coherent.transfers.target w ending moved
 
-  -- at a node the replica was coming by the worker's claim
-  came : (k : Node) → AtNode k ≡ to → is_coming_by w (mark s c k) ≡ true
-  came k e = (subst (λ (q : Place). IsTransferTo m s w c from q) (sym e) target).1
+  -- at a node the cell was coming by the worker's claim
+  came : (k : Node) → to ≡ AtNode k → is_coming_by w (mark s c k) ≡ true
+  came k e = (subst (λ (q : Place). IsTransferTo m s w c from q) e target).1
 
   -- and nothing leaves by its claim
-  arrived-none_leaves : (k : Node) → AtNode k ≡ to → (x : Cell) (q : Place) → is_leaving_by w (replica s x q) ≡ false
-  arrived-none_leaves k e = (subst (λ (q : Place). IsTransferTo m s w c from q) (sym e) target).2
+  landed-none_leaves : (k : Node) → to ≡ AtNode k → NoneLeavesBy s w
+  landed-none_leaves k e = (subst (λ (q : Place). IsTransferTo m s w c from q) e target).2
 
-  -- on a disk it was invalid
-  was_invalid : (d : DiskNo) → OnDisk d ≡ to → replica s c (OnDisk d) ≡ Invalid
-  was_invalid d e = (subst (λ (q : Place). IsTransferTo m s w c from q) (sym e) target).1
+  landed-entries : (x : Cell) (k : Node) → is_entry (mark landed x k) ≡ is_entry (mark s x k)
+  landed-entries x k = grind (arith, placed-marks s c to x k, coming_by-is, came)
 
-  -- each replica is as before, or is the one that was brought
-  arrived-cases : (x : Cell) (q : Place) → (replica arrived x q ≡ replica s x q) ⊎ ((x ≡ c) × (q ≡ to) × (replica arrived x q ≡ Valid))
-  arrived-cases x q = replica-cases s c to Valid x q
-
-  arrived-entries : (x : Cell) (k : Node) → is_entry (mark arrived x k) ≡ is_entry (mark s x k)
-  arrived-entries x k = grind (arith, arrived-cases x (AtNode k), coming_by-is, came)
-
-  arrived-leaves : (v : Worker) (x : Cell) (q : Place) → is_leaving_by v (replica arrived x q) ≡ true → is_leaving_by v (replica s x q) ≡ true
-  arrived-leaves v x q = replaced-fewer s c to Valid (is_leaving_by v) refl x q
+  -- what the brought mark isn't was there before
+  landed-fewer : (test : Mark → Bool) → test Valid ≡ false → (x : Cell) (k : Node) → test (mark landed x k) ≡ true → test (mark s x k) ≡ true
+  landed-fewer test fails x k passes = grind (arith, placed-marks s c to x k)
 
   -- what comes by another worker's claim still comes
-  others_come : (v : Worker) (x : Cell) (k : Node) → v ≢ w → is_coming_by v (mark s x k) ≡ true → is_coming_by v (mark arrived x k) ≡ true
-  others_come v x k other coming = grind (arith, arrived-cases x (AtNode k), coming_by-one, came)
+  others_come : (v : Worker) (x : Cell) (k : Node) → v ≢ w → is_coming_by v (mark s x k) ≡ true → is_coming_by v (mark landed x k) ≡ true
+  others_come v x k other coming = grind (arith, placed-marks s c to x k, coming_by-one, came)
 
-  arrived-still_comes : (v : Worker) (x y : Cell) (k : Node) → is_leaving_by v (mark arrived y k) ≡ true → is_coming_by v (mark s x k) ≡ true → is_coming_by v (mark arrived x k) ≡ true
-  arrived-still_comes v x y k leaving coming = elim (arrived-cases x (AtNode k)) [
+  landed-still_comes : (v : Worker) (x y : Cell) (k : Node) → is_leaving_by v (mark landed y k) ≡ true → is_coming_by v (mark s x k) ≡ true → is_coming_by v (mark landed x k) ≡ true
+  landed-still_comes v x y k leaving coming = elim (placed-marks s c to x k) [
     | inl same ↦ ap (is_coming_by v) same ∙ coming
-    | inr (e, at, is) ↦ absurd (grind (arith, e, arrived-leaves v y (AtNode k) leaving, coming_by-one v w (mark s c k), came k at, arrived-none_leaves k at y (AtNode k)))
+    | inr (e, at, is) ↦ absurd (grind (arith, e, landed-fewer (is_leaving_by v) refl y k leaving, coming_by-one v w (mark s c k), came k at, landed-none_leaves k at y k))
   ]
 
-  valid_stays : (x : Cell) (q : Place) → has_copy p m s x q ≡ true → has_copy p m arrived x q ≡ true
-  valid_stays x q valid = elim (arrived-cases x q) [ inl same ↦ ap is_valid same ∙ valid | inr (e, at, is) ↦ ap is_valid is ]
+  copy_stays : (x : Cell) (q : Place) → has_copy p m s x q ≡ true → has_copy p m landed x q ≡ true
+  copy_stays x (AtNode k) copy = grind (arith, placed-marks s c to x k)
+  copy_stays x (OnDisk d) copy = grind (arith, placed-disks s c to x)
+
+  -- a copy that wasn't there is the one that was brought
+  copy_was : (x : Cell) (q : Place) → has_copy p m landed x q ≡ true → (has_copy p m s x q ≡ true) ⊎ ((x ≡ c) × (q ≡ to))
+  copy_was x (AtNode k) copy = grind (arith, placed-marks s c to x k)
+  copy_was x (OnDisk d) copy = search (arith, placed-disks s c to x, and_parts, home-is, h.coherent.state.blocks.aimed w ending)
 
   -- a transfer that is still under way is another worker's
-  others : (v : Worker) (x : Transfer) → transfer arrived v ≡ Some x → (v ≢ w) × (transfer s v ≡ Some x)
-  others v x under_way = search (arith, arrived, transfer-own, placed, transfer-inside, ending, transfer-cases)
+  others : (v : Worker) (x : Transfer) → transfer landed v ≡ Some x → (v ≢ w) × (transfer s v ≡ Some x)
+  others v x under_way = search (arith, landed, transfer-own, placed, transfer-inside, ending, transfer-cases)
 
-  -- what leaves at a place isn't brought there
-  still_leaves : (v : Worker) (x : Cell) (q : Place) → is_leaving_by v (replica s x q) ≡ true → is_leaving_by v (replica arrived x q) ≡ true
-  still_leaves v x q leaving = elim (arrived-cases x q) [ inl same ↦ ap (is_leaving_by v) same ∙ leaving | inr (e, at, is) ↦ absurd (hollow q at leaving e) ]
-    where
-      hollow : (q : Place) → q ≡ to → is_leaving_by v (replica s x q) ≡ true → x ≡ c → ⊥
-      hollow (AtNode k) at leaving e = grind (arith, coming_by-is w (mark s c k), came k at)
-      hollow (OnDisk d) at leaving e = grind (arith, was_invalid d at)
+  -- what leaves a node isn't brought there
+  still_leaves : (v : Worker) (x : Cell) (k : Node) → is_leaving_by v (mark s x k) ≡ true → is_leaving_by v (mark landed x k) ≡ true
+  still_leaves v x k leaving = grind (arith, placed-marks s c to x k, coming_by-is, came)
 
-  arrived-moving : TransfersAreSound p m arrived
-  arrived-moving = TransfersAreSound-kept m s arrived (λ v x now. (others v x now).1) (λ v x now. valid_stays x.cell x.from) (λ v x k now here. others_come v x.cell k (others v x now).0) (λ v x now. still_leaves v x.cell x.from)
-      (λ v x d now aims. elim (arrived-cases x.cell (OnDisk d)) [ inl same ↦ inr same | inr (e, at, is) ↦ absurd (let old = others v x now in old.0 (h.coherent.transfers.apart v w x ending d d old.1 moved aims (sym at) e)) ])
-      (λ v x y q now. arrived-leaves v y q) h.coherent.transfers
+  landed-moving : TransfersAreSound p m landed
+  landed-moving = TransfersAreSound-kept p m s landed (λ v x now. (others v x now).1) (λ v x now. copy_stays x.cell x.from) (λ v x k now here. others_come v x.cell k (others v x now).0) (λ v x k now from. still_leaves v x.cell k)
+      (λ v x d now aims none. elim (placed-disks s c to x.cell) [ inl same ↦ same ∙ none | inr (e, at, is) ↦ absurd (let old = others v x now in old.0 (h.coherent.transfers.apart v w x ending d at.0 old.1 moved aims at.1 e)) ])
+      (λ v x y k now. landed-fewer (is_leaving_by v) refl y k) h.coherent.transfers
 
-  blocks : HasBlocks p m arrived
+  blocks : HasBlocks p m landed
   blocks =
       let before = h.coherent.state.blocks in
       record {
-        resting = λ x d v. (λ e. (grind (arith, arrived-cases x (OnDisk d), (before.resting x d v).0)), λ e. (grind (arith, arrived-cases x (OnDisk d), (before.resting x d v).1)));
-        home = λ x d valid. (grind (arith, arrived-cases x (OnDisk d), before.home x d, before.aimed w ending d moved));
+        home = λ x there. elim (placed-disks s c to x) [ inl same ↦ before.home x (sym same ∙ there) | inr (e, at, is) ↦ (at.0, ap (λ (y : Cell). disk_of p m y) e ∙ before.aimed w ending at.0 moved at.1) ];
         aimed = λ v x d under_way. before.aimed v x d (others v x under_way).1;
       }
 
-  positive : (x : Cell) → 0 < writes arrived x → 0 < writes s x
-  positive x some = let same = writes-same s c to Valid x in omega arith
+  positive : (x : Cell) → 0 < writes landed x → 0 < writes s x
+  positive x some = let same = placed-writes s c to x in omega arith
 
-  arrived-copies : WrittenIsKept p m arrived
-  arrived-copies = record { somewhere = λ x some unwritten. (let old = h.coherent.copies.somewhere x (positive x some) unwritten in (old.0, valid_stays x old.0 old.1)) }
+  landed-copies : WrittenIsKept p m landed
+  landed-copies = record { somewhere = λ x some unwritten. (let old = h.coherent.copies.somewhere x (positive x some) unwritten in (old.0, copy_stays x old.0 old.1)) }
 
   -- a cell that a worker owns isn't the one that moved
   owned_apart : (x : Cell) (v : Worker) → IsOwnedBy m s x v → x ≡ c → ⊥
   owned_apart x v own e = search (arith, same_cell-itself, true≢false)
 
-  arrived-shift : Shifts p m s arrived.cells arrived.workers
-  arrived-shift = record {
-    rows = (search (arith, length-set, nodes-kept, disks-kept));
+  landed-shift : Shifts p m s landed.cells landed.workers
+  landed-shift = record {
+    rows = (let rows = HasRows-written p m s c (arrived to (cell_state s c)) (placed-long s c to) h.coherent.state.rows in record { tasks = rows.tasks; cells = rows.cells; orders = rows.orders; workers = length-set s.workers w.0 _ ∙ rows.workers; marks = rows.marks });
     blocks = blocks;
-    hands = λ v. (pins-same placed w None v, scratch-same placed w None v, victims-same placed w None v);
-    same_writes = writes-same s c to Valid;
-    same_entries = arrived-entries;
-    leaves = arrived-leaves;
-    comes = λ v x k. replaced-fewer s c to Valid (is_coming_by v) refl x (AtNode k);
-    still_comes = arrived-still_comes;
-    pinned = λ v x pin valid. valid_stays x (AtNode (node_of m v)) valid;
-    owned = λ x v own q. elim (arrived-cases x q) [ inl same ↦ same | inr (e, at, is) ↦ absurd (owned_apart x v own e) ];
+    hands = λ v. (pins-same (placed s c to) w None v, scratch-same (placed s c to) w None v, victims-same (placed s c to) w None v);
+    same_writes = placed-writes s c to;
+    same_entries = landed-entries;
+    leaves = λ v. landed-fewer (is_leaving_by v) refl;
+    comes = λ v. landed-fewer (is_coming_by v) refl;
+    still_comes = landed-still_comes;
+    pinned = λ v x pin valid. copy_stays x (AtNode (node_of m v)) valid;
+    owned = λ x v own. record {
+      marks = λ k. elim (placed-marks s c to x k) [ inl same ↦ same | inr (e, at, is) ↦ absurd (owned_apart x v own e) ];
+      disk = elim (placed-disks s c to x) [ inl same ↦ same | inr (e, at, is) ↦ absurd (owned_apart x v own e) ];
+    };
     unmoved = λ x v own u. (search (arith, transfer-cases));
     movers = λ v x under_way. h.coherent.workers.moves_for_claim v x (others v x under_way).1;
-    moving = arrived-moving;
-    copies = arrived-copies;
+    moving = landed-moving;
+    copies = landed-copies;
   }
 
-  pub Ended_moves-keep_coherence : Coherent p m arrived
+  pub Ended_moves-keep_coherence : Coherent p m landed
   Ended_moves-keep_coherence =
       let claims = h.coherent.workers.moves_for_claim w ending moved in
-      Shifts-coherent p m s h claims.0 w (claimed_by-is w (progress s claims.0) claims.1) arrived.cells arrived.workers arrived-shift
+      Shifts-coherent p m s h claims.0 w (claimed_by-is w (progress s claims.0) claims.1) landed.cells landed.workers landed-shift
 
   -- what the cell holds where it came from it holds where it came to
   module _ (A : Arrays) (holds : HoldsContent p m s A) where
     abbrev copied : Arrays
     copied = arrays_after p m A (Moved c from to)
 
-    pub Ended_moves-content : HoldsContent p m arrived copied
+    pub Ended_moves-content : HoldsContent p m landed copied
     Ended_moves-content = record {
       begun = λ u v x runs written.
           (let own = h.coherent.writers.owned u v x runs written in
           second_fails (same_place (AtNode (node_of m v)) to) (same_cell c x) (A c from) (A x (AtNode (node_of m v))) (false_from_ne_true (same_cell c x) (λ same. owned_apart x v own (sym (same_cell-is c x same))))
           ∙ holds.begun u v x runs written);
-      alike = λ x q some resting valid. elim (cases_Bool (same_place q to && same_cell c x)) [
+      alike = λ x q some resting copy. elim (cases_Bool (same_place q to && same_cell c x)) [
         | inl both ↦
             let is : c ≡ x = same_cell-is c x (and_parts (same_place q to) (same_cell c x) both).1 in
             ap (λ b. cond b (A c from) (A x q)) both
@@ -321,9 +322,9 @@ module _ (p : Program) (m : Machine) (s : State) (h : IsSound p m s) (c : Cell) 
             ∙ holds.alike x from (positive x some) resting (ap (λ (y : Cell). has_copy p m s y from) (sym is) ∙ h.coherent.transfers.source w ending moved)
         | inr other ↦
             ap (λ b. cond b (A c from) (A x q)) other
-            ∙ holds.alike x q (positive x some) resting (elim (arrived-cases x q) [
-              | inl same ↦ sym (ap is_valid same) ∙ valid
-              | inr (e, at, is) ↦ absurd (false≢true (sym other ∙ and_from (same_place q to) (same_cell c x) (ap (λ (k : Place). same_place k to) at ∙ same_place-itself to) (same_cell-from c x (sym e))))
+            ∙ holds.alike x q (positive x some) resting (elim (copy_was x q copy) [
+              | inl was ↦ was
+              | inr (e, at) ↦ absurd (false≢true (sym other ∙ and_from (same_place q to) (same_cell c x) (ap (λ (k : Place). same_place k to) at ∙ same_place-itself to) (same_cell-from c x (sym e))))
             ])
       ];
     }
@@ -334,63 +335,75 @@ module _ (p : Program) (m : Machine) (s : State) (h : IsSound p m s) (c : Cell) 
   abbrev dropped : State
   dropped = with_row s c (with_mark (cell_state s c) n Invalid)
 
-  -- each replica is as before, or it was leaving and is invalid
-  dropped-cases : (d : Cell) (q : Place) → (replica dropped d q ≡ replica s d q) ⊎ ((d ≡ c) × (q ≡ AtNode n) × (replica dropped d q ≡ Invalid) × (is_leaving (replica s d q) ≡ true))
-  dropped-cases d q = grind (arith, replica-cases s c (AtNode n) Invalid d q)
+  -- each mark is as before, or it was leaving and is invalid
+  dropped-cases : (d : Cell) (k : Node) → (mark dropped d k ≡ mark s d k) ⊎ ((d ≡ c) × (k ≡ n) × (mark dropped d k ≡ Invalid) × (is_leaving (mark s d k) ≡ true))
+  dropped-cases d k = grind (arith, mark-cases s c n Invalid d k)
+
+  dropped-disk : (d : Cell) → on_disk dropped d ≡ on_disk s d
+  dropped-disk = on_disk-same s c (with_mark (cell_state s c) n Invalid) refl
 
   dropped-entries : (d : Cell) (k : Node) → is_entry (mark dropped d k) ≡ is_entry (mark s d k)
-  dropped-entries d k = elim (dropped-cases d (AtNode k)) [ inl same ↦ ap is_entry same | inr (e, at, is, left) ↦ ap is_entry is ∙ sym (leaving-is_none (mark s d k) left) ]
+  dropped-entries d k = elim (dropped-cases d k) [ inl same ↦ ap is_entry same | inr (e, at, is, left) ↦ ap is_entry is ∙ sym (leaving-is_none (mark s d k) left) ]
 
-  dropped-leaves : (v : Worker) (d : Cell) (q : Place) → is_leaving_by v (replica dropped d q) ≡ true → is_leaving_by v (replica s d q) ≡ true
-  dropped-leaves v d q = replaced-fewer s c (AtNode n) Invalid (is_leaving_by v) refl d q
+  -- what an invalid mark isn't was there before
+  dropped-fewer : (test : Mark → Bool) → test Invalid ≡ false → (d : Cell) (k : Node) → test (mark dropped d k) ≡ true → test (mark s d k) ≡ true
+  dropped-fewer test fails d k passes = grind (arith, dropped-cases d k)
 
   dropped-still_comes : (v : Worker) (d : Cell) (k : Node) → is_coming_by v (mark s d k) ≡ true → is_coming_by v (mark dropped d k) ≡ true
-  dropped-still_comes v d k coming = elim (dropped-cases d (AtNode k)) [ inl same ↦ ap (is_coming_by v) same ∙ coming | inr (e, at, is, left) ↦ absurd (false≢true (sym (ap is_leaving (coming_by-is v (mark s d k) coming)) ∙ left)) ]
+  dropped-still_comes v d k coming = elim (dropped-cases d k) [ inl same ↦ ap (is_coming_by v) same ∙ coming | inr (e, at, is, left) ↦ absurd (false≢true (sym (ap is_leaving (coming_by-is v (mark s d k) coming)) ∙ left)) ]
 
-  -- no transfer reads the dropped replica
-  unread_by : (v : Worker) (x : Transfer) → transfer s v ≡ Some x → x.cell ≡ c → x.from ≡ AtNode n → ⊥
-  unread_by v x under_way cell from =
+  -- a copy is as before, or is the dropped one
+  copy_left : (d : Cell) (q : Place) → (has_copy p m dropped d q ≡ has_copy p m s d q) ⊎ ((d ≡ c) × (q ≡ AtNode n))
+  copy_left d (AtNode k) = elim (dropped-cases d k) [ inl same ↦ inl (ap is_valid same) | inr (e, at, is, left) ↦ inr (e, ap (λ (j : Node). AtNode j) at) ]
+  copy_left d (OnDisk j) = inl (ap (λ b. b && is_home p m d j) (dropped-disk d))
+
+  pub dropped-copy : (d : Cell) (q : Place) → has_copy p m dropped d q ≡ true → has_copy p m s d q ≡ true
+  dropped-copy d (AtNode k) copy = dropped-fewer is_valid refl d k copy
+  dropped-copy d (OnDisk j) copy = sym (ap (λ b. b && is_home p m d j) (dropped-disk d)) ∙ copy
+
+  -- no transfer reads the dropped copy
+  dropped-unread : (v : Worker) (x : Transfer) → transfer s v ≡ Some x → x.cell ≡ c → x.from ≡ AtNode n → ⊥
+  dropped-unread v x under_way cell from =
+      let none : reads_in (worker_state s v) c (AtNode n) ≡ false = unread-by s c (AtNode n) v (not-true (is_read s c (AtNode n)) drop.unread) in
       let both : (same_cell x.cell c && same_place x.from (AtNode n)) ≡ true = and_from (same_cell x.cell c) (same_place x.from (AtNode n)) (same_cell-from x.cell c cell) (ap (λ (q : Place). same_place q (AtNode n)) from ∙ same_place-itself (AtNode n)) in
-      let this : reads s v c (AtNode n) ≡ true = ap (λ (o : Option Transfer). elim o as (λ _. Bool) [ None ↦ false | Some y ↦ same_cell y.cell c && same_place y.from (AtNode n) ]) under_way ∙ both in
-      let inside : v.0 < m.workers = omega (arith, transfer-inside s v x under_way, h.coherent.state.rows.workers) in
-      let read : is_read s c (AtNode n) ≡ true = list_any-worker (λ w. reads s w c (AtNode n)) m v inside this in
-      false≢true (sym (ap not read) ∙ drop.unread)
-
-  source_stays : (v : Worker) (x : Transfer) → transfer s v ≡ Some x → replica dropped x.cell x.from ≡ replica s x.cell x.from
-  source_stays v x under_way = elim (dropped-cases x.cell x.from) [ inl same ↦ same | inr (e, at, is, left) ↦ absurd (unread_by v x under_way e at) ]
+      false≢true (sym none ∙ ap (λ (o : Option Transfer). elim o as (λ _. Bool) [ None ↦ false | Some y ↦ same_cell y.cell c && same_place y.from (AtNode n) ]) under_way ∙ both)
 
   dropped-moving : TransfersAreSound p m dropped
-  dropped-moving = TransfersAreSound-kept m s dropped (λ v x now. now) (λ v x now valid. ap is_valid (source_stays v x now) ∙ valid)
+  dropped-moving = TransfersAreSound-kept p m s dropped (λ v x now. now)
+      (λ v x now copy. elim (copy_left x.cell x.from) [ inl same ↦ same ∙ copy | inr (e, at) ↦ absurd (dropped-unread v x now e at) ])
       (λ v x k now here. dropped-still_comes v x.cell k)
-      (λ v x under_way leaving. ap (is_leaving_by v) (source_stays v x under_way) ∙ leaving) (λ v x d now e. elim (dropped-cases x.cell (OnDisk d)) [ inl same ↦ inr same | inr (e, at, is, left) ↦ inl is ])
-      (λ v x d q under_way. dropped-leaves v d q) h.coherent.transfers
+      (λ v x k now from leaving. elim (dropped-cases x.cell k) [ inl same ↦ ap (is_leaving_by v) same ∙ leaving | inr (e, at, is, left) ↦ absurd (dropped-unread v x now e (from ∙ ap (λ (j : Node). AtNode j) at)) ])
+      (λ v x d now e none. dropped-disk x.cell ∙ none)
+      (λ v x d k now. dropped-fewer (is_leaving_by v) refl d k) h.coherent.transfers
 
-  -- another replica of the dropped cell is valid
+  -- there is another copy of the dropped cell
   elsewhere : (q : Place) × (has_copy p m dropped c q ≡ true)
-  elsewhere = search (arith, list_any-some, and_parts, dropped-cases, false≢true, same_place-itself)
+  elsewhere =
+      let some = elsewhere-some p m s h.coherent.state.blocks c n drop.shared in
+      (some.0, elim (copy_left c some.0) [ inl same ↦ same ∙ some.2 | inr (e, at) ↦ absurd (some.1 at) ])
 
   dropped-copies : WrittenIsKept p m dropped
   dropped-copies = record {
     somewhere = λ d some unwritten.
-        (let old = h.coherent.copies.somewhere d (let same = writes-same s c (AtNode n) Invalid d in omega arith) unwritten in
-        elim (dropped-cases d old.0) [
-          | inl same ↦ (old.0, ap is_valid same ∙ old.1)
-          | inr (e, at, is, left) ↦ (elsewhere.0, ap (λ (x : Cell). has_copy p m dropped x elsewhere.0) e ∙ elsewhere.1)
+        (let old = h.coherent.copies.somewhere d (let same = writes-same s c (with_mark (cell_state s c) n Invalid) refl d in omega arith) unwritten in
+        elim (copy_left d old.0) [
+          | inl same ↦ (old.0, same ∙ old.1)
+          | inr (e, at) ↦ (elsewhere.0, ap (λ (x : Cell). has_copy p m dropped x elsewhere.0) e ∙ elsewhere.1)
         ]);
   }
 
   dropped-shift : Shifts p m s dropped.cells dropped.workers
   dropped-shift = record {
-    rows = (search (arith, length-set, nodes-kept, disks-kept));
-    blocks = HasBlocks-kept p m s dropped (λ d k. elim (dropped-cases d (OnDisk k)) [ inl same ↦ inr same | inr (e, at, is, left) ↦ inl is ]) (λ v. refl) h.coherent.state.blocks;
+    rows = HasRows-written p m s c (with_mark (cell_state s c) n Invalid) (length-set (cell_state s c).marks n.0 Invalid) h.coherent.state.rows;
+    blocks = HasBlocks-kept p m s dropped (λ d there. sym (dropped-disk d) ∙ there) (λ v. refl) h.coherent.state.blocks;
     hands = λ v. (refl, refl, refl);
-    same_writes = writes-same s c (AtNode n) Invalid;
+    same_writes = writes-same s c (with_mark (cell_state s c) n Invalid) refl;
     same_entries = dropped-entries;
-    leaves = dropped-leaves;
-    comes = λ v d k. replaced-fewer s c (AtNode n) Invalid (is_coming_by v) refl d (AtNode k);
+    leaves = λ v. dropped-fewer (is_leaving_by v) refl;
+    comes = λ v. dropped-fewer (is_coming_by v) refl;
     still_comes = λ v x d k leaving coming. dropped-still_comes v x k coming;
-    pinned = λ v d pin valid. (grind (arith, dropped-cases d (AtNode (node_of m v)), h.coherent.pins.stays v d pin));
-    owned = λ d v own q. (search (arith, dropped-cases, false≢true, owned-fails));
+    pinned = λ v d pin valid. (grind (arith, dropped-cases d (node_of m v), h.coherent.pins.stays v d pin));
+    owned = λ d v own. record { marks = λ k. (search (arith, dropped-cases, false≢true, owned-fails)); disk = dropped-disk d };
     unmoved = λ d v own x. own.unmoved x;
     movers = h.coherent.workers.moves_for_claim;
     moving = dropped-moving;
@@ -405,4 +418,4 @@ module _ (p : Program) (m : Machine) (s : State) (h : IsSound p m s) (c : Cell) 
 
   -- no array changes
   pub Drops-content : (A A' : Arrays) → ((d : Cell) (q : Place) → A' d q ≡ A d q) → HoldsContent p m s A → HoldsContent p m dropped A'
-  Drops-content A A' same = HoldsContent-kept p m s dropped A A' same (λ t w runs. runs) (λ d. refl) (writes-same s c (AtNode n) Invalid) (λ d resting. resting) (λ d q valid. replaced-fewer s c (AtNode n) Invalid is_valid refl d q valid)
+  Drops-content A A' same = HoldsContent-kept p m s dropped A A' same (λ t w runs. runs) (λ d. refl) (writes-same s c (with_mark (cell_state s c) n Invalid) refl) (λ d resting. resting) dropped-copy

@@ -13,7 +13,7 @@ use Rattle.std.proofs.lemmas.{List.Sums.fails_before_first}
 use Rattle.std.specs.List.{list_any, range_with_len}
 use Rattle.sj_base.proofs.Lists.{list_any-numbered}
 use Rattle.sj_base.proofs.SameIds.{same_cell-is, same_cell-unlike, workers_differ}
-use Rattle.sj_core.specs.Coherent.{HasBlocks, IsOwnedBy, NoneLeavesBy}
+use Rattle.sj_core.specs.Coherent.{HasBlocks, HasRows, IsOwnedBy, NoneLeavesBy}
 use Rattle.sj_core.specs.Laws.{EventsChangeRows, IsSound}
 use Rattle.sj_core.specs.Step.{disk_of, is_home, same_place}
 use Rattle.sj_core.specs.Table.{renewed}
@@ -39,12 +39,16 @@ module _ (s : State) (c : Cell) (row : CellState) where
   on_disk-same same d = search (arith, row-cases)
 
   -- each row still has a mark for each node
-  pub marks-kept : length row.marks ≡ length (cell_state s c).marks → (n : ℕ) → All (λ (r : CellState). length r.marks ≡ n) s.cells → All (λ (r : CellState). length r.marks ≡ n) (with_row s c row).cells
+  marks-kept : length row.marks ≡ length (cell_state s c).marks → (n : ℕ) → All (λ (r : CellState). length r.marks ≡ n) s.cells → All (λ (r : CellState). length r.marks ≡ n) (with_row s c row).cells
   marks-kept same n all =
       elim (cases_lt c.0 (length s.cells)) [
         | inl inside ↦ All-set (λ (r : CellState). length r.marks ≡ n) s.cells c.0 row (same ∙ all c.0 no_row inside) all
         | inr past ↦ λ i d inside. (let bound : i < length s.cells = omega (arith, inside, length-set s.cells c.0 row) in subst (λ (r : CellState). length r.marks ≡ n) (sym (get_or-set_other s.cells c.0 i row d (λ e. (omega arith)))) (all i d bound))
       ]
+
+-- a state with a row written still has all its rows
+pub HasRows-written : (p : Program) (m : Machine) (s : State) (c : Cell) (row : CellState) → length row.marks ≡ length (cell_state s c).marks → HasRows p m s → HasRows p m (with_row s c row)
+HasRows-written p m s c row same rows = record { tasks = rows.tasks; cells = length-set s.cells c.0 row ∙ rows.cells; orders = rows.orders; workers = rows.workers; marks = marks-kept s c row same (length m.nodes) rows.marks }
 
 -- ---- one mark
 

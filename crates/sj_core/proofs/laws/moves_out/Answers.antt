@@ -1,7 +1,15 @@
-use Rattle.sj_core.proofs.Moving.{Moves_out-keep_coherence}
+use Rattle.std.proofs.Common.{true}
+use Rattle.std.proofs.lemmas.Bool.{false≢true}
+use Rattle.sj_core.specs.Laws.{IsKeptByMovesOut}
+use Rattle.sj_core.specs.Coherent.{Coherent}
 use Rattle.sj_core.specs.Step.{mover_of}
-use Rattle.sj_core.proofs.Words.{OnDisk}
+use Rattle.sj_core.proofs.Moving.{Moves_out-keep_coherence}
+use Rattle.sj_core.proofs.Words.{AtNode, OnDisk}
 use Rattle.sj_core.proofs.laws.moves_out.Goals as goal
 
+keep : IsKeptByMovesOut Coherent
+keep p m s c (AtNode k) d h move = Moves_out-keep_coherence p m s h c k d (mover_of s c (AtNode k) (OnDisk d)) move
+keep p m s c (OnDisk e) d h never = absurd (false≢true never)
+
 pub returns : goal.returns
-returns c = λ p m s c from d h move. Moves_out-keep_coherence p m s h c from d (mover_of s c from (OnDisk d)) move
+returns c = keep
