@@ -351,7 +351,7 @@ module _ (p : Program) (m : Machine) (s : State) (h : IsSound p m s) (t : Task) 
   claim-transfers = TransfersAreSound-kept p m s s' was (λ v x now there. claim-copy x.cell x.from ∙ there)
       (λ v x k now here coming. ap (is_coming_by v) (entry-stays x.cell k (ap is_entry (coming_by-is v (mark s x.cell k) coming))
       (λ e. pin-spared v x.cell (h.coherent.pins.coming_pinned v x.cell k coming) (sym here ∙ e))) ∙ coming)
-      (λ v x k now. claim-still_leaves v x.cell k) (λ v x d now e none. claim-on_disk p m s t w s' claim leaves x.cell ∙ none)
+      (λ v x k now from. claim-still_leaves v x.cell k) (λ v x d now e none. claim-on_disk p m s t w s' claim leaves x.cell ∙ none)
       (λ v x c k now leaving. elim (claim-leaving v c k leaving) [ inl (at, own, evicted) ↦ absurd (mover_other v x now own) | inr (away, left) ↦ left ]) h.coherent.transfers
     where
       was : (v : Worker) (x : Transfer) → transfer s' v ≡ Some x → transfer s v ≡ Some x
