@@ -5,17 +5,17 @@ use Rattle.std.proofs.Common.{slice_set, count_by, nat_eq, nat_le, nat_lt, sum_b
 use Rattle.sj_core.proofs.Words.{AtNode, Cell, CellState, Claimed, Coming, DiskNo, Done, Event, Invalid, owned_at, written_once_more, on_disk, stored, arrived, with_row}
 use Rattle.sj_core.proofs.Words.{Leaving, Lowered, Machine, Mark, Node, OnDisk, Place, Program, Progress, Running}
 use Rattle.sj_core.proofs.Words.{State, Task, Transfer, Valid, Waiting, Worker, WorkerState, cell_state, cells_of}
-use Rattle.sj_core.proofs.Words.{data_operands, has_cell, is_entry, is_leaving, is_leaving_by, is_valid, no_task}
+use Rattle.sj_core.proofs.Words.{data_operands, has_cell, is_entry, is_leaving, is_leaving_by, no_task}
 use Rattle.sj_core.proofs.Words.{node_of, opening, progress, mark, mark_in, same_cell, scratch_bytes, task_of}
 use Rattle.sj_core.proofs.Words.{tasks_of, transfer, victims_of, with_mark, with_transfer}
 use Rattle.sj_core.proofs.Words.{worked_on, worker_of, written_cells}
-use Rattle.std.specs.List.{enumerate_from, list_any, range_with_len}
-use Rattle.std.proofs.lemmas.List.{map-id, get_or-set_same, length-map, length-set, get_or_default}
+use Rattle.std.specs.List.{enumerate_from, range_with_len}
+use Rattle.std.proofs.lemmas.List.{map-id, length-map, get_or_default}
 use Rattle.std.proofs.lemmas.List.FromFn.{fill_by_all, get_or-map-range_with_len, length-map-range_with_len}
 use Rattle.std.proofs.lemmas.List.Sums.{get_or-le-sum_by, sum_by-cons, sum_by-set, count_by-le-length, length-filter}
 use Rattle.std.proofs.lemmas.List.Sums.{sum_by-le-sum_by}
-use Rattle.std.proofs.lemmas.Bool.{false≢true, eq-eqb, false_from_ne_true, ne_eqb}
-use Rattle.std.proofs.lemmas.List.Folds.{list_any_at, Any-from_list_any, sum_by-replicate}
+use Rattle.std.proofs.lemmas.Bool.{false≢true, eq-eqb, ne_eqb}
+use Rattle.std.proofs.lemmas.List.Folds.{Any-from_list_any, sum_by-replicate}
 use Rattle.sj_base.specs.Ids.{cell}
 use Rattle.sj_base.proofs.Bools.{tally, tally-le}
 use Rattle.sj_base.proofs.Lists.{sum_by-map, counted_some}
@@ -28,7 +28,7 @@ use Rattle.sj_core.proofs.Sums.{count-numbered, sum-one_more, sum-within, sum-no
 use Rattle.sj_core.proofs.Advancing.{Advances, Ends-advances, Runs-advances, claimed_by-is, same_task}
 use Rattle.sj_core.proofs.Reading.{entry-inside, idle_row, no_row, transfer-inside}
 use Rattle.sj_core.proofs.Replicas.{coming_by-is, leaving-by_some, leaving_by-leaves, leaving_by-valid}
-use Rattle.sj_core.proofs.{CellLists.same_cell-sym, Blocks.disk-within, Claiming.claim-advance, Claiming.missing-absent}
+use Rattle.sj_core.proofs.{CellLists.same_cell-sym, Claiming.claim-advance, Claiming.missing-absent}
 use Rattle.sj_core.proofs.{Claiming.node-inside, Placing.copy-row, Placing.valid-within}
 use Rattle.sj_core.proofs.{TaskCells.written-among_cells, Moving.Ended_moves-keep_coherence, Opening.opening-coherent}
 use Rattle.sj_core.proofs.Replaying.{Step-keeps_coherence, legal-coherent, sound}

@@ -2,7 +2,7 @@
 -- and after a step.
 use Rattle.std.proofs.Common.{Bool, ap, arith, cond, false, inl, inr, length, not, sym, true, ◌&&◌, ◌<◌, ◌∙◌, refl, if◌then◌else◌}
 use Rattle.std.proofs.Common.{◌≡◌, Contains, count_by}
-use Rattle.sj_core.proofs.Words.{Access, Array, Cell, Machine, Program, Progress, Running, State, Task, Worker, zeros, dims_of, fresh_cells, is_valid, node_of, mark, Place, AtNode, has_copy, CellState, DiskNo, OnDisk, cell_state, mark_in}
+use Rattle.sj_core.proofs.Words.{Access, Array, Cell, Machine, Program, Progress, Running, State, Task, Worker, zeros, dims_of, fresh_cells, is_valid, node_of, Place, AtNode, has_copy, CellState, OnDisk, cell_state, mark_in}
 use Rattle.sj_core.proofs.Words.{cells_of, copy_of, done_by, has_cell, is_running_on, is_task_of, progress, same_cell}
 use Rattle.sj_core.proofs.Words.{task_of, tasks_of, worked_on, worker_of, writes, written_cells}
 use Rattle.std.proofs.lemmas.Bool.{and_parts, false_from_ne_true, false≢true, not-true, and_from}
