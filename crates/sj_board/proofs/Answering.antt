@@ -1,0 +1,117 @@
+-- What the rows answer is so of the run's state; and what is done with a victim, and from where a cell is brought.
+use Rattle.std.proofs.Common.{◌≡◌, ℕ, ◌<◌, Bool, true, false, List, Option, None, Some, is_some, length, sym, ap, ◌∙◌, subst, refl, arith, if◌then◌else◌}
+use Rattle.std.specs.Prelude.{IfSome, IsSomeAnd, MatchBool, option_map, position}
+use Rattle.std.proofs.lemmas.Option.{none-some}
+use Rattle.sj_base.specs.Array.{Array}
+use Rattle.sj_core.proofs.Blocks.{has-disk}
+use Rattle.sj_core.proofs.Claimed.{claimed-staffed}
+use Rattle.sj_core.proofs.Placing.{copy-row}
+use Rattle.sj_core.proofs.Reading.{transfer-inside}
+use Rattle.sj_core.proofs.Replicas.{leaving-valid_mark}
+use Rattle.sj_core.proofs.Words.{AtNode, Block, Cell, DiskNo, Machine, Node, OnDisk, Place, Program, State, Task, Transfer, Worker, cell_state, is_elsewhere, is_leaving, is_read, is_valid, mark, transfer, writes}
+use Rattle.sj_core.specs.Laws.{IsSound}
+use Rattle.sj_core.specs.Step.{disk_of, source_of}
+use Rattle.sj_disk.specs.declared.directory.Extent.{Extent}
+use Rattle.sj_disk.specs.Directory.{extent_of}
+use Rattle.sj_machine.specs.Rows.{Rows}
+use Rattle.sj_replica.specs.Replica.{first_node}
+use Rattle.sj_board.specs.NextStep.{Brings, Evicts}
+use Rattle.sj_board.specs.Sound.{IsBlock, Keeps, block_of}
+use Rattle.sj_board.specs.Standing.{Standing, state}
+use Rattle.sj_board.specs.declared.todo.Todo.{Todo}
+use Rattle.sj_board.specs.declared.todo.Todo.TheVariants.{Discard, Transfer as TransferNext, Wait}
+use Rattle.sj_board.proofs.Keeping.{sound_state}
+
+module _ {D : Type 0} (size faults mismatches : D → ℕ) (held : D → Option (List ℕ)) (b : Standing D) (rows : Rows) (tiles : List (List (Option Array))) (spare : ℕ) (keeps : Keeps size faults mismatches held b rows tiles spare) where
+  abbrev p : Program
+  p = b.program
+
+  abbrev m : Machine
+  m = b.machine
+
+  abbrev s : State
+  s = state b
+
+  sound : IsSound p m s
+  sound = sound_state size faults mismatches held b rows tiles spare keeps
+
+  pub rows-state : rows.state ≡ s
+  rows-state = ap (λ (r : Rows). r.state) keeps.rows
+
+  -- what is so of the rows is so of the run
+  pub from-rows : (b' : Standing D) → b ≡ b' → (P : Program → Machine → State → Type 0) → P rows.program rows.machine rows.state → P b'.program b'.machine (state b')
+  from-rows b' same P told = subst (λ (z : Standing D). P z.program z.machine (state z)) same (subst (λ (r : Rows). P r.program r.machine r.state) keeps.rows told)
+
+  -- and the other way round
+  pub to-rows : (b' : Standing D) → b ≡ b' → (P : Program → Machine → State → Type 0) → P b'.program b'.machine (state b') → P rows.program rows.machine rows.state
+  to-rows b' same P told = subst (λ (r : Rows). P r.program r.machine r.state) (sym keeps.rows) (subst (λ (z : Standing D). P z.program z.machine (state z)) (sym same) told)
+
+  -- a worker with a transfer is one of the program
+  pub transfer-staffed : (w : Worker) (x : Transfer) → transfer s w ≡ Some x → w.0 < p.workers
+  transfer-staffed w x under_way = omega (arith, transfer-inside s w x under_way, keeps.sound.coherent.state.rows.workers, keeps.sound.run.machine.workers)
+
+  -- the disk of a cell's block is the one that the directory has
+  pub home-is : (c : Cell) → c.0 < length p.cells → option_map (λ (e : Extent). e.disk) (extent_of b.disks.directory c.0) ≡ disk_of p m c
+  home-is c inside = by_block (block_of p m c) refl (keeps.sound.blocks.placed c) (has-disk p m c keeps.sound.run.swap inside).1
+    where
+      home : DiskNo
+      home = (has-disk p m c keeps.sound.run.swap inside).0
+
+      by_extent : (bl : Block) (o : Option Extent) → IsSomeAnd o (IsBlock p c bl) → option_map (λ (e : Extent). e.disk) o ≡ Some bl.disk
+      by_extent bl None some = absurd some
+      by_extent bl (Some e) is = ap Some is.disk
+
+      by_block : (o : Option Block) → block_of p m c ≡ o → IfSome o (λ bl. IsSomeAnd (extent_of b.disks.directory c.0) (IsBlock p c bl)) → disk_of p m c ≡ Some home → option_map (λ (e : Extent). e.disk) (extent_of b.disks.directory c.0) ≡ disk_of p m c
+      by_block None e placed disk = absurd (none-some home (sym (ap (λ (o : Option Block). option_map (λ (x : Block). x.disk) o) e) ∙ disk))
+      by_block (Some bl) e placed disk = by_extent bl (extent_of b.disks.directory c.0) placed ∙ sym (ap (λ (o : Option Block). option_map (λ (x : Block). x.disk) o) e)
+
+  -- a cell that leaves is one of the program
+  pub leaving-inside : (c : Cell) (n : Node) → is_leaving (mark s c n) ≡ true → c.0 < length p.cells
+  leaving-inside c n leaving = omega (arith, copy-row p m s c (AtNode n) (leaving-valid_mark (mark s c n) leaving), keeps.sound.coherent.state.rows.cells)
+
+  module _ (c : Cell) (inside : c.0 < length p.cells) where
+    -- a cell of the program has its disk in the directory
+    pub disk-some : is_some (option_map (λ (e : Extent). e.disk) (extent_of b.disks.directory c.0)) ≡ true
+    disk-some = ap is_some (home-is c inside ∙ (has-disk p m c keeps.sound.run.swap inside).1)
+
+    -- ---- where the cell is fetched from
+
+    pub source-node : (n : Node) → first_node (cell_state rows.state c) ≡ Some n → (b' : Standing D) → b ≡ b' → source_of b'.program b'.machine (state b') c ≡ Some (AtNode n)
+    source-node n first b' same = subst (λ (z : Standing D). source_of z.program z.machine (state z) c ≡ Some (AtNode n)) same
+        (by_place (position is_valid (cell_state s c).marks) (sym (ap (λ (z : State). first_node (cell_state z c)) rows-state) ∙ first))
+      where
+        by_place : (o : Option ℕ) → option_map (λ k. let j : Node = record { 0 = k } in j) o ≡ Some n → (elim o as (λ _. Option Place) [ None ↦ option_map OnDisk (disk_of p m c) | Some k ↦ Some (AtNode (record { 0 = k })) ]) ≡ Some (AtNode n)
+        by_place None is = absurd (none-some n is)
+        by_place (Some k) is = let j : Node = record { 0 = k } in let at : j ≡ n = cc in ap (λ (i : Node). Some (AtNode i)) at
+
+    pub source-disk : first_node (cell_state rows.state c) ≡ None → (k : DiskNo) → option_map (λ (e : Extent). e.disk) (extent_of b.disks.directory c.0) ≡ Some k → (b' : Standing D) → b ≡ b' → source_of b'.program b'.machine (state b') c ≡ Some (OnDisk k)
+    source-disk first k home b' same = subst (λ (z : Standing D). source_of z.program z.machine (state z) c ≡ Some (OnDisk k)) same
+        (by_place (position is_valid (cell_state s c).marks) (sym (ap (λ (z : State). first_node (cell_state z c)) rows-state) ∙ first))
+      where
+        by_place : (o : Option ℕ) → option_map (λ i. let j : Node = record { 0 = i } in j) o ≡ None → (elim o as (λ _. Option Place) [ None ↦ option_map OnDisk (disk_of p m c) | Some i ↦ Some (AtNode (record { 0 = i })) ]) ≡ Some (OnDisk k)
+        by_place None is = ap (λ (o : Option DiskNo). option_map OnDisk o) (sym (home-is c inside) ∙ home)
+        by_place (Some i) is = absurd (let j : Node = record { 0 = i } in none-some j (sym is))
+
+    -- ---- what is done with a victim
+
+    module _ (n : Node) (b' : Standing D) (same : b ≡ b') where
+      told : (todo : Todo) → Evicts p m s c n todo → Evicts b'.program b'.machine (state b') c n todo
+      told todo is = subst (λ (z : Standing D). Evicts z.program z.machine (state z) c n todo) same is
+
+      elsewhere-read : is_elsewhere rows.state c n ≡ is_elsewhere s c n
+      elsewhere-read = ap (λ (z : State). is_elsewhere z c n) rows-state
+
+      pub evict-out : is_elsewhere rows.state c n ≡ false → (k : DiskNo) → option_map (λ (e : Extent). e.disk) (extent_of b.disks.directory c.0) ≡ Some k → (count : ℕ) → count ≡ writes rows.state c → Evicts b'.program b'.machine (state b') c n (TransferNext c (AtNode n) (OnDisk k) count)
+      evict-out only k home count counts =
+          let todo : Todo = TransferNext c (AtNode n) (OnDisk k) count in
+          told todo
+          (subst (λ (y : Bool). MatchBool y (todo ≡ (if is_read s c (AtNode n) then Wait else Discard c)) (IsSomeAnd (disk_of p m c) (λ j. todo ≡ TransferNext c (AtNode n) (OnDisk j) (writes s c)))) (sym only ∙ elsewhere-read)
+          (subst (λ (o : Option DiskNo). IsSomeAnd o (λ j. todo ≡ TransferNext c (AtNode n) (OnDisk j) (writes s c))) (sym home ∙ home-is c inside)
+          (ap (λ (i : ℕ). TransferNext c (AtNode n) (OnDisk k) i) (counts ∙ ap (λ (z : State). writes z c) rows-state))))
+
+      pub evict-here : is_elsewhere rows.state c n ≡ true → (y : Bool) → is_read rows.state c (AtNode n) ≡ y → Evicts b'.program b'.machine (state b') c n (if y then Wait else Discard c)
+      evict-here shared y asked =
+          let todo : Todo = if y then Wait else Discard c in
+          told todo
+          (subst (λ (z : Bool). MatchBool z (todo ≡ (if is_read s c (AtNode n) then Wait else Discard c)) (IsSomeAnd (disk_of p m c) (λ j. todo ≡ TransferNext c (AtNode n) (OnDisk j) (writes s c)))) (sym shared ∙ elsewhere-read)
+          (ap (λ (z : Bool). if z then Wait else Discard c) (sym asked ∙ ap (λ (z : State). is_read z c (AtNode n)) rows-state)))

@@ -1,0 +1,97 @@
+-- Deliver tasks: each reads one cell, and what it finds there is what it is to hand over.
+use Rattle.std.proofs.Common.{◌≡◌, ◌∙◌, ◌∷◌, ◌<◌, ◌||◌, ℕ, [], List, Option, None, Some, Bool, true, false, ap, arith, get_or, inl, inr, length, map, refl, subst, sym, filter}
+use Rattle.std.specs.Prelude.{Contains, slice_index_or}
+use Rattle.std.proofs.lemmas.Bool.{cases_lt, false≢true}
+use Rattle.std.proofs.lemmas.List.{get_or_past}
+use Rattle.std.proofs.lemmas.List.Elements.{All-get_or}
+use Rattle.sj_base.specs.declared.mode.Access.{Access}
+use Rattle.sj_base.specs.declared.mode.Mode.{Mode}
+use Rattle.sj_base.specs.declared.mode.Mode.TheVariants.{R}
+use Rattle.sj_base.specs.declared.program.Lowered.{Lowered}
+use Rattle.sj_base.specs.declared.trace.Event.TheVariants.{Run}
+use Rattle.sj_base.specs.Mode.{is_data}
+use Rattle.sj_codelet.specs.declared.kernel.Kernel.{Kernel}
+use Rattle.sj_codelet.specs.declared.kernel.Kernel.TheVariants.{Deliver}
+use Rattle.sj_core.proofs.Claimed.{claimed-staffed}
+use Rattle.sj_core.proofs.Folding.{read-among_cells}
+use Rattle.sj_core.proofs.Found.{found-not_fresh}
+use Rattle.sj_core.proofs.Given.{delivers-given}
+use Rattle.sj_core.proofs.Reading.{list_all-has}
+use Rattle.sj_core.proofs.Words.{AtNode, Cell, Node, Program, Task, Worker, cells_of, fresh_cells, has_cell, is_valid, mark, no_task, node_of, task_of, worked_on}
+use Rattle.sj_core.specs.Fold.{given}
+use Rattle.sj_core.specs.Laws.{Brought, HasAtHand, IsSound}
+use Rattle.sj_core.specs.Proper.{Commuting, Contributing, FirstPaste, FitsCodelet, MayHaveModes, Own, Proper, access}
+use Rattle.sj_board.specs.Delivery.{delivered_cell, is_deliver, is_deliver_task, is_delivery}
+use Rattle.sj_board.specs.Sound.{IsSoundRun}
+use Rattle.sj_board.specs.Standing.{CanHappen, Standing, state, run_arrays}
+
+delivers : (k : Kernel) → is_deliver k ≡ true → k ≡ Deliver
+delivers Deliver e = refl
+delivers k e = absurd (false≢true e)
+
+-- it has its codelet's own mode: R alone
+deliver-modes : (modes : List Mode) → MayHaveModes Deliver modes → modes ≡ R ∷ []
+deliver-modes modes (Own e) = e
+deliver-modes modes (FirstPaste paste e) = absurd (cc)
+deliver-modes modes (Commuting commutes one e) = absurd (false≢true commutes)
+deliver-modes modes (Contributing by contributes one e) = absurd (false≢true contributes)
+
+one-read : (list : List Access) → map (λ (a : Access). a.mode) list ≡ R ∷ [] → (c : Cell) × (list ≡ access R c ∷ [])
+one-read [] e = absurd (let n : 0 ≡ 1 = ap length e in omega arith)
+one-read (a ∷ []) e = (a.cell, ap (λ (x : Mode). access x a.cell ∷ []) (ap (λ (ms : List Mode). get_or ms 0 R) e))
+one-read (a ∷ b ∷ list) e = absurd (let n : length (a.mode ∷ b.mode ∷ map (λ (x : Access). x.mode) list) ≡ 1 = ap length e in omega arith)
+
+module _ (p : Program) (proper : Proper p) (t : Task) (hands_over : is_deliver_task p t ≡ true) where
+  -- it is a task of the program
+  pub deliver-inside : t.0 < length p.tasks
+  deliver-inside = elim (cases_lt t.0 (length p.tasks)) [
+    | inl inside ↦ inside
+    | inr past ↦ absurd (false≢true (sym (ap (λ (l : Lowered). is_delivery l.codelet) (get_or_past p.tasks t.0 no_task past)) ∙ hands_over))
+  ]
+
+  fit : FitsCodelet p (task_of p t)
+  fit = All-get_or (FitsCodelet p) p.tasks t.0 no_task deliver-inside proper.codelets
+
+  kernel : fit.kernel ≡ Deliver
+  kernel = delivers fit.kernel (sym (ap (λ (o : Option Kernel). elim o as (λ _. Bool) [ None ↦ false | Some k ↦ is_deliver k ]) fit.codelet) ∙ hands_over)
+
+  alone : (c : Cell) × ((task_of p t).accesses ≡ access R c ∷ [])
+  alone = one-read (task_of p t).accesses (deliver-modes (map (λ a. a.mode) (task_of p t).accesses) (subst (λ (k : Kernel). MayHaveModes k (map (λ a. a.mode) (task_of p t).accesses)) kernel fit.modes))
+
+  its : delivered_cell p t ≡ alone.0
+  its = ap (λ (xs : List Access). slice_index_or (map (worked_on p (record { 0 = 0 })) (filter (λ a. is_data a.mode) xs)) 0 (record { 0 = 0 })) alone.1
+
+  -- it reads one cell, and does nothing else
+  pub deliver-reads : (task_of p t).accesses ≡ access R (delivered_cell p t) ∷ []
+  deliver-reads = alone.1 ∙ ap (λ (c : Cell). access R c ∷ []) (sym its)
+
+-- ---- what it is to hand over
+
+module _ {D : Type 0} (size faults mismatches : D → ℕ) (held : D → Option (List ℕ)) (b : Standing D) (sound : IsSoundRun size faults mismatches held b) (t : Task) (w : Worker) where
+  abbrev p : Program
+  p = b.program
+
+  abbrev n : Node
+  n = node_of b.machine w
+
+  -- what it has on its worker's node
+  pub at-hand : is_deliver_task p t ≡ true → HasAtHand b.machine (state b) t w (delivered_cell p t) → run_arrays b (delivered_cell p t) (AtNode n) ≡ given p t
+  at-hand hands has =
+      delivers-given p b.machine (state b) (record { proper = sound.run.proper; machine = sound.run.machine; coherent = sound.coherent }) sound.run.has sound.run.lawful (run_arrays b) sound.content t w (delivered_cell p t)
+      (deliver-reads p sound.run.proper t hands) has
+
+  -- as the task begins to run it has that cell there
+  pub run-has : CanHappen b (Run t w) → is_deliver_task p t ≡ true → HasAtHand b.machine (state b) t w (delivered_cell p t)
+  run-has can hands = Brought can.claimed (
+      sym (ap (λ x. x || is_valid (mark (state b) (delivered_cell p t) n)) (found-not_fresh p sound.run.proper t w (claimed-staffed p b.machine (state b) h t w can.claimed) its among refl))
+      ∙ list_all-has (λ c. has_cell (fresh_cells p t w) c || is_valid (mark (state b) c n)) (cells_of p t w) (delivered_cell p t) can.present (read-among_cells p t w its among refl)
+      )
+    where
+      h : IsSound p b.machine (state b)
+      h = record { proper = sound.run.proper; machine = sound.run.machine; coherent = sound.coherent }
+
+      its : Access
+      its = access R (delivered_cell p t)
+
+      among : Contains (task_of p t).accesses its
+      among = subst (λ (xs : List Access). Contains xs its) (sym (deliver-reads p sound.run.proper t hands)) (0, omega arith, refl)

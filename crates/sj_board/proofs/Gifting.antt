@@ -1,0 +1,73 @@
+-- The share that is taken of what a deliver task hands over, as the task begins to run.
+use Rattle.std.proofs.Common.{◌≡◌, ◌∙◌, ◌∷◌, ◌<◌, ℕ, [], List, Option, Some, true, ap, arith, get_or, is_some, length, refl, subst, sym}
+use Rattle.std.specs.Prelude.{All, Contains, unwrap_or}
+use Rattle.std.proofs.lemmas.Bool.{false≢true}
+use Rattle.std.proofs.lemmas.List.{get_or_default}
+use Rattle.sj_base.specs.declared.ids.Place.TheVariants.{Node as AtNode}
+use Rattle.sj_base.specs.declared.mode.Access.{Access}
+use Rattle.sj_base.specs.declared.mode.Mode.TheVariants.{R}
+use Rattle.sj_base.specs.declared.program.Lowered.{Lowered}
+use Rattle.sj_base.specs.declared.trace.Event.TheVariants.{Run}
+use Rattle.sj_base.specs.Array.{Array}
+use Rattle.sj_core.proofs.Words.{Cell, Node, Program, Task, Worker, node_of, task_of}
+use Rattle.sj_core.specs.Proper.{access}
+use Rattle.sj_machine.specs.Rows.{Rows}
+use Rattle.sj_board.specs.Tiles.{tile_at, tile_in, tiles_of}
+use Rattle.sj_board.specs.Delivery.{delivered_cell, is_deliver_task, is_delivery, IsGift}
+use Rattle.sj_board.specs.Shares.{CanGive, kept_at}
+use Rattle.sj_board.specs.Sound.{Keeps}
+use Rattle.sj_board.specs.Standing.{CanHappen, IsTileOf, Standing}
+use Rattle.sj_board.proofs.Delivering.{deliver-reads}
+use Rattle.sj_board.proofs.Owning.{read-there, read-tile, run-can_give}
+
+module _ {D : Type 0} (size faults mismatches : D → ℕ) (held : D → Option (List ℕ)) (b : Standing D) (rows : Rows) (tiles : List (List (Option Array))) (spare : ℕ) (keeps : Keeps size faults mismatches held b rows tiles spare) (t : Task) (w : Worker) (can : CanHappen b (Run t w)) (hands : is_deliver_task b.program t ≡ true) where
+  abbrev cell : Cell
+  cell = delivered_cell b.program t
+
+  reads : (task_of b.program t).accesses ≡ access R cell ∷ []
+  reads = deliver-reads b.program keeps.sound.run.proper t hands
+
+  among : Contains (task_of b.program t).accesses (access R cell)
+  among = subst (λ (xs : List Access). Contains xs (access R cell)) (sym reads) (0, omega arith, refl)
+
+  there : is_some (tile_at tiles cell (node_of b.machine w)) ≡ true
+  there = read-there size faults mismatches held b rows tiles spare keeps t w can (access R cell) among refl
+
+  tile : IsTileOf held b cell (AtNode (node_of b.machine w)) (kept_at tiles (node_of b.machine w) cell)
+  tile = read-tile size faults mismatches held b rows tiles spare keeps t w can (access R cell) among refl
+
+  give : CanGive b.program w tiles (node_of b.machine w) (access R cell)
+  give = subst (λ (xs : List Access). All (CanGive b.program w tiles (node_of b.machine w)) xs) reads (run-can_give size faults mismatches held b rows tiles spare keeps t w can) 0 (access R cell) (omega arith)
+
+  -- the row and the node as the code finds them
+  module _ (row : List (Option Array)) (n : Node) (found : row ≡ get_or tiles cell.0 row) (at : n ≡ node_of b.machine w) where
+    its : row ≡ tiles_of tiles cell
+    its = found ∙ get_or_default tiles cell.0 row [] give.cell
+
+    pub gift-inside : n.0 < length row
+    gift-inside = subst (λ (r : List (Option Array)). n.0 < length r) (sym its) (subst (λ (j : Node). j.0 < length (tiles_of tiles cell)) (sym at) give.node)
+
+    pub gift-there : is_some (tile_in row n) ≡ true
+    gift-there = ap (λ (r : List (Option Array)). is_some (tile_in r n)) its ∙ ap (λ (j : Node). is_some (tile_in (tiles_of tiles cell) j)) at ∙ there
+
+    pub gift-given : (b' : Standing D) → b ≡ b' → (x : Array) → tile_in row n ≡ Some x → IsGift held b' t w (Some x)
+    gift-given b' same x kept_there = subst (λ (z : Standing D). IsGift held z t w (Some x)) same (record {
+      some = λ yes. subst (λ (a : Array). IsTileOf held b cell (AtNode (node_of b.machine w)) a) kept tile;
+      none = λ other. absurd (false≢true (sym other ∙ hands));
+    })
+      where
+        no_array : Array
+        no_array = record { dims = record { rows = 0; cols = 0 }; elements = [] }
+
+        kept : kept_at tiles (node_of b.machine w) cell ≡ x
+        kept = ap (λ (o : Option Array). unwrap_or o no_array) (sym (ap (λ (r : List (Option Array)). tile_in r n) its ∙ ap (λ (j : Node). tile_in (tiles_of tiles cell) j) at) ∙ kept_there)
+
+-- ---- as the code finds it
+
+-- the task is a deliver task where its codelet is
+pub hands-over : (p : Program) (t : Task) (l : Lowered) → l ≡ task_of p t → is_delivery l.codelet ≡ true → is_deliver_task p t ≡ true
+hands-over p t l is hands = sym (ap (λ (x : Lowered). is_delivery x.codelet) is) ∙ hands
+
+-- and its one operand's row is that of its cell
+pub gift-row : (p : Program) (t : Task) (accesses : List Access) (a : Access) (rows : List (List (Option Array))) (row none : List (Option Array)) → accesses ≡ access R (delivered_cell p t) ∷ [] → row ≡ get_or rows (get_or accesses 0 a).cell.0 none → row ≡ get_or rows (delivered_cell p t).0 none
+gift-row p t accesses a rows row none reads is = is ∙ ap (λ (xs : List Access). get_or rows (get_or xs 0 a).cell.0 none) reads

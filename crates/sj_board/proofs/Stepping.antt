@@ -1,0 +1,101 @@
+-- What is said of ready tasks and of hands, where one task's progress changes.
+use Rattle.std.proofs.Common.{◌≡◌, ◌≢◌, ℕ, ◌<◌, ◌↔◌, false, List, inl, inr, sym, subst, ap, ◌∙◌, length, [], slice_index_or}
+use Rattle.std.specs.List.{Contains}
+use Rattle.std.proofs.lemmas.Bool.{false≢true}
+use Rattle.std.proofs.lemmas.List.Sums.{AllPass-from_list_all}
+use Rattle.sj_core.proofs.Advancing.{Advances, same_task}
+use Rattle.sj_core.proofs.Readiness.{done_tasks-done, done_tasks-has}
+use Rattle.sj_core.proofs.Words.{Program, State, Task, done_in, is_done, progress}
+use Rattle.sj_core.specs.declared.progress.Progress.{Progress}
+use Rattle.sj_core.specs.declared.progress.Progress.TheVariants.{Waiting}
+use Rattle.sj_core.specs.Legal.{IsComplete}
+use Rattle.sj_core.specs.Step.{done_tasks}
+use Rattle.sj_deps.specs.Conflict.{Ready}
+use Rattle.sj_deps.specs.Progress.{Dependencies}
+use Rattle.sj_board.specs.ReadyTasks.{CountsDone, IsToBeTaken}
+
+-- a task is ready where the same tasks are done
+pub ready-same : (p : Program) (done done' : List ℕ) (u : ℕ) → ((n : ℕ) → Contains done n ↔ Contains done' n) → Ready p done u → Ready p done' u
+ready-same p done done' u same ready = record {
+  task = ready.task;
+  waiting = λ c. ready.waiting ((same u).1 c);
+  earlier = λ v before conflict. (same v).0 (ready.earlier v before conflict);
+}
+
+-- a task is ready as the dependencies have it just where it is by the state
+pub ready-counted : (p : Program) (s : State) (deps : Dependencies) → CountsDone p s deps → (u : ℕ) → Ready deps.program deps.done u ↔ Ready p (done_tasks s) u
+ready-counted p s deps counts u = (
+  λ r. ready-same p deps.done (done_tasks s) u counts.done (subst (λ (q : Program). Ready q deps.done u) counts.program r),
+  λ r. subst (λ (q : Program). Ready q deps.done u) (sym counts.program) (ready-same p (done_tasks s) deps.done u (λ n. ((counts.done n).1, (counts.done n).0)) r),
+)
+
+-- a task that doesn't wait isn't done where not all are
+pub not-complete : (s : State) (t : Task) → t.0 < length s.tasks → is_done (progress s t) ≡ false → IsComplete s → ⊥
+not-complete s t inside undone complete = false≢true (sym undone ∙ AllPass-from_list_all is_done s.tasks complete t.0 Waiting inside)
+
+-- ---- no task goes on
+
+abbrev pub tasks_alone : List Progress → State
+tasks_alone tasks = record { tasks = tasks; cells = []; orders = []; workers = [] }
+
+module _ (p : Program) (s s' : State) (same : s'.tasks ≡ s.tasks) where
+  pub progress-same : (t : Task) → progress s' t ≡ progress s t
+  progress-same t = ap (λ (ts : List Progress). slice_index_or ts t.0 Waiting) same
+
+  pub done-same : done_tasks s' ≡ done_tasks s
+  done-same = ap (λ (ts : List Progress). done_tasks (tasks_alone ts)) same
+
+  pub taken-same : (t : Task) → IsToBeTaken p s t → IsToBeTaken p s' t
+  taken-same t is = record {
+    waiting = progress-same t ∙ is.waiting;
+    ready = subst (λ (ns : List ℕ). Ready p ns t.0) (sym done-same) is.ready;
+  }
+
+  pub taken-back : (t : Task) → IsToBeTaken p s' t → IsToBeTaken p s t
+  taken-back t is = record {
+    waiting = sym (progress-same t) ∙ is.waiting;
+    ready = subst (λ (ns : List ℕ). Ready p ns t.0) done-same is.ready;
+  }
+
+  pub counts-same : (deps : Dependencies) → CountsDone p s deps → CountsDone p s' deps
+  counts-same deps counts = record {
+    program = counts.program;
+    done = subst (λ (ns : List ℕ). (n : ℕ) → Contains deps.done n ↔ Contains ns n) (sym done-same) counts.done;
+  }
+
+-- ---- a task goes on that isn't done before or after
+
+module _ (p : Program) (s s' : State) (t : Task) (old new : Progress) (step : Advances s s' t old new) (undone : is_done old ≡ false) (still : is_done new ≡ false) where
+  done-alike : (u : Task) → done_in s' u ≡ done_in s u
+  done-alike u =
+      elim (same_task u t) as (λ _. done_in s' u ≡ done_in s u) [
+        | inl e ↦ ap (done_in s') e ∙ ap is_done step.is ∙ still ∙ sym undone ∙ sym (ap is_done step.was) ∙ sym (ap (done_in s) e)
+        | inr d ↦ ap is_done (step.others u d)
+      ]
+
+  pub same-done : (n : ℕ) → Contains (done_tasks s) n ↔ Contains (done_tasks s') n
+  same-done n =
+      let u : Task = record { 0 = n } in
+      (λ c. done_tasks-has s' u (done-alike u ∙ done_tasks-done s u c), λ c. done_tasks-has s u (sym (done-alike u) ∙ done_tasks-done s' u c))
+
+  pub back-done : (n : ℕ) → Contains (done_tasks s') n ↔ Contains (done_tasks s) n
+  back-done n = ((same-done n).1, (same-done n).0)
+
+  -- the other tasks are to be taken just where they were
+  pub taken-still : (u : Task) → u ≢ t → IsToBeTaken p s u → IsToBeTaken p s' u
+  taken-still u d is = record {
+    waiting = step.others u d ∙ is.waiting;
+    ready = ready-same p (done_tasks s) (done_tasks s') u.0 same-done is.ready;
+  }
+
+  pub taken-before : (u : Task) → u ≢ t → IsToBeTaken p s' u → IsToBeTaken p s u
+  taken-before u d is = record {
+    waiting = sym (step.others u d) ∙ is.waiting;
+    ready = ready-same p (done_tasks s') (done_tasks s) u.0 back-done is.ready;
+  }
+
+  pub counts-still : (deps : Dependencies) → CountsDone p s deps → CountsDone p s' deps
+  counts-still deps counts = record {
+    program = counts.program;
+    done = λ n. (λ c. (same-done n).0 ((counts.done n).0 c), λ c. (counts.done n).1 ((same-done n).1 c));
+  }

@@ -1,0 +1,44 @@
+use Rattle.std.proofs.Common.{◌≡◌, ◌∙◌, ◌∷◌, [], true, ap, rules}
+use Rattle.sj_base.specs.declared.mode.Access.{Access}
+use Rattle.sj_base.specs.declared.mode.Mode.TheVariants.{R}
+use Rattle.sj_base.specs.declared.program.Lowered.{Lowered}
+use Rattle.sj_base.specs.declared.program.Program.{Program}
+use Rattle.sj_core.specs.Program.{task_of}
+use Rattle.sj_core.specs.Proper.{access}
+use Rattle.sj_board.specs.Delivery.{delivered_cell, is_delivery}
+use Rattle.sj_board.proofs.Delivering.{deliver-reads}
+use Rattle.sj_board.proofs.Gifting.{gift-given, gift-inside, gift-row, gift-there, hands-over}
+use Rattle.sj_board.proofs.run_state.RunState.gift.Goals as goal
+
+pub share-requires-clause-inside : goal.share-requires-clause-inside
+share-requires-clause-inside g c =
+    let p = c.self.inside.program.value in
+    let t = c.args.t in
+    let task : c.task_at-task.result.now ≡ task_of p t = c.task_at-task.ensures ∙ ap (λ (q : Program). task_of q t) c.deref.ensures in
+    let first : Access = record { mode = R; cell = record { 0 = 0 } } in
+    let yes : is_delivery c.task_at-task.result.now.codelet ≡ true = search rules in
+    let hands = hands-over p t c.task_at-task.result.now task yes in
+    let reads : c.items.result.now ≡ access R (delivered_cell p t) ∷ [] = c.items.ensures ∙ ap (λ (l : Lowered). l.accesses) task ∙ deliver-reads p c.self.invariant.sound.run.proper t hands in
+    gift-inside _ _ _ _ _ _ _ _ c.self.invariant t c.args.w (search rules) hands c.index-row.result.now c.node_of-n.result (gift-row p t c.items.result.now first c.self.inside.cells.items c.index-row.result.now c.index-row.result.now reads c.index-row.ensures) c.node_of-n.ensures
+
+pub share-requires-clause-there : goal.share-requires-clause-there
+share-requires-clause-there g c =
+    let p = c.self.inside.program.value in
+    let t = c.args.t in
+    let task : c.task_at-task.result.now ≡ task_of p t = c.task_at-task.ensures ∙ ap (λ (q : Program). task_of q t) c.deref.ensures in
+    let first : Access = record { mode = R; cell = record { 0 = 0 } } in
+    let yes : is_delivery c.task_at-task.result.now.codelet ≡ true = search rules in
+    let hands = hands-over p t c.task_at-task.result.now task yes in
+    let reads : c.items.result.now ≡ access R (delivered_cell p t) ∷ [] = c.items.ensures ∙ ap (λ (l : Lowered). l.accesses) task ∙ deliver-reads p c.self.invariant.sound.run.proper t hands in
+    gift-there _ _ _ _ _ _ _ _ c.self.invariant t c.args.w (search rules) hands c.index-row.result.now c.node_of-n.result (gift-row p t c.items.result.now first c.self.inside.cells.items c.index-row.result.now c.index-row.result.now reads c.index-row.ensures) c.node_of-n.ensures
+
+pub returns : goal.returns
+returns g c =
+    let p = c.self.inside.program.value in
+    let t = c.args.t in
+    let task : c.task_at-task.result.now ≡ task_of p t = c.task_at-task.ensures ∙ ap (λ (q : Program). task_of q t) c.deref.ensures in
+    let first : Access = record { mode = R; cell = record { 0 = 0 } } in
+    let yes : is_delivery c.task_at-task.result.now.codelet ≡ true = search rules in
+    let hands = hands-over p t c.task_at-task.result.now task yes in
+    let reads : c.items.result.now ≡ access R (delivered_cell p t) ∷ [] = c.items.ensures ∙ ap (λ (l : Lowered). l.accesses) task ∙ deliver-reads p c.self.invariant.sound.run.proper t hands in
+    gift-given _ _ _ _ _ _ _ _ c.self.invariant t c.args.w (search rules) hands c.index-row.result.now c.node_of-n.result (gift-row p t c.items.result.now first c.self.inside.cells.items c.index-row.result.now c.index-row.result.now reads c.index-row.ensures) c.node_of-n.ensures _ c.self.view_is c.in_ok-share.field-0.value c.in_ok-share.ensures
