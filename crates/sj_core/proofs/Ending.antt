@@ -11,7 +11,7 @@ use Rattle.sj_core.specs.Fold.{after_chosen, after_task, held_in}
 use Rattle.sj_core.specs.Laws.{IsLawful, IsSound}
 use Rattle.sj_core.specs.Proper.{Proper}
 use Rattle.sj_core.specs.Step.{after_end, after, is_home, same_place}
-use Rattle.sj_core.proofs.Words.{Array, AtNode, Cell, CellState, Claimed, Done, Kernel, Machine, Program, Progress, Running, State, Task, Worker, dims_of, done_by, done_in, has_cell, is_done, is_task_of, no_task, node_of, progress, results, tasks_of, worked_on, worker_of, writes, written_cells, zeros, OnDisk, Place, WorkerState, cell_state, cells_of, is_coming_by, is_entry, is_leaving_by, is_valid, Node, mark, mark_in, has_copy, on_disk, written_once_more, order, transfer, victims_of, worker_state, fresh_cells, End}
+use Rattle.sj_core.proofs.Words.{Array, AtNode, Cell, CellState, Claimed, Done, Kernel, Machine, Program, Progress, Running, State, Task, Worker, dims_of, done_by, done_in, has_cell, is_done, is_task_of, no_task, node_of, progress, results, tasks_of, worked_on, worker_of, writes, written_cells, zeros, OnDisk, Place, WorkerState, cell_state, cells_of, is_coming_by, is_entry, is_leaving_by, is_valid, Node, mark_in, has_copy, written_once_more, order, transfer, victims_of, worker_state, fresh_cells, End}
 use Rattle.sj_core.proofs.Advancing.{Advances, Ends-advances, done-begun, same_task, OrderIsKept-advances}
 use Rattle.sj_core.proofs.Values.{results-complete}
 use Rattle.sj_core.proofs.Updating.{may-swap}

@@ -4,7 +4,7 @@ use Rattle.std.proofs.lemmas.Bool.{cases_Bool, false_from_ne_true, false≢true,
 use Rattle.std.proofs.lemmas.Bool.Decides.{Decides-eqb}
 use Rattle.std.proofs.lemmas.List.{get_or-set_same, length-map, length-set}
 use Rattle.sj_base.proofs.SameIds.{same_place-itself}
-use Rattle.sj_core.proofs.Words.{Array, AtNode, Cell, CellState, Claimed, Invalid, Machine, Mark, Node, Place, Program, Progress, Running, State, Task, Transfer, Valid, Worker, WorkerState, cell_state, cells_of, dims_of, fresh_cells, has_cell, is_coming_by, is_entry, is_leaving_by, is_task_of, is_valid, mark, mark_in, on_disk, owned_at, moves, node_of, order, progress, transfer, worker_of, worker_state, writes, written_cells, zeros, Run}
+use Rattle.sj_core.proofs.Words.{Array, AtNode, Cell, CellState, Claimed, Invalid, Machine, Mark, Node, Place, Program, Progress, Running, State, Task, Transfer, Valid, Worker, WorkerState, cell_state, cells_of, dims_of, fresh_cells, has_cell, is_coming_by, is_entry, is_leaving_by, is_task_of, is_valid, mark, mark_in, on_disk, owned_at, node_of, order, progress, transfer, worker_of, worker_state, writes, written_cells, zeros, Run}
 use Rattle.sj_core.specs.Coherent.{Coherent, HasEntries, HasRows, IsStateOf, WritersOwn, is_begun, is_being_written, WrittenIsKept}
 use Rattle.sj_core.specs.Laws.{IsSound}
 use Rattle.sj_core.specs.Step.{CanRun, after_run, is_moving, same_place, without}
