@@ -7,7 +7,7 @@ use Rattle.sj_base.proofs.SameIds.{same_cell-itself, same_place-itself, same_cel
 use Rattle.sj_core.specs.Coherent.{Coherent, HasBlocks, HasRows, IsOwnedBy, IsTransferTo, NoneLeavesBy, TransfersAreSound, IsClaimed, WrittenIsKept}
 use Rattle.sj_core.specs.Laws.{IsSound}
 use Rattle.sj_core.specs.Step.{CanDrop, CanMoveIn, CanMoveOut, a_transfer, disk_of, is_fresh, is_home}
-use Rattle.sj_core.proofs.Words.{AtNode, Cell, CellState, Claimed, Machine, Mark, Node, Place, Program, Running, State, Task, Transfer, Worker, WorkerState, has_cell, is_claimed_by, is_coming_by, is_entry, is_leaving_by, is_valid, moves, node_of, pins, progress, mark, scratch, transfer, victims_of, writes, DiskNo, OnDisk, with_transfer, Invalid, fresh_cells, Coming, Leaving, Valid, same_cell, with_row, is_leaving, Moved, has_copy, with_mark, arrived, cell_state, on_disk, is_read, reads_in, same_place, worker_state}
+use Rattle.sj_core.proofs.Words.{AtNode, Cell, CellState, Claimed, Machine, Mark, Node, Place, Program, Running, State, Task, Transfer, Worker, WorkerState, has_cell, is_claimed_by, is_coming_by, is_entry, is_leaving_by, is_valid, moves, node_of, pins, progress, mark, scratch, transfer, victims_of, writes, DiskNo, OnDisk, with_transfer, Invalid, fresh_cells, Valid, same_cell, with_row, is_leaving, Moved, has_copy, with_mark, arrived, cell_state, on_disk, is_read, reads_in, same_place, worker_state}
 use Rattle.sj_core.proofs.Advancing.{claimed-is_mine, task_of-worker, claimed_by-is}
 use Rattle.sj_core.proofs.Changing.{Changes, Changes-coherent, Changes-writers, HasBlocks-kept, IsLeftAlone, TransfersAreSound-kept}
 use Rattle.sj_core.proofs.Placing.{elsewhere-from, elsewhere-some, home-from, home-is, mark_in-cases, mark-cases, HasRows-written, on_disk-same, row-cases, transfer-is, pins-same, scratch-same, victims-same, owned-fails, position-none, room-leaves_none, valid-within, same_place-is, transfer-cases, transfer-own, writes-same}

@@ -1,9 +1,9 @@
 -- The opening state is coherent.
 use Rattle.std.proofs.Common.{Option, None, Some, List, [], ap, arith, cond, inl, inr, length}
 use Rattle.std.proofs.Common.{sym, true, ◌&&◌, ◌<◌, ◌∙◌, ◌≡◌, ◌⊎◌, count_by}
-use Rattle.sj_core.proofs.Words.{AtNode, Cell, CellState, Coming, Invalid, Leaving, Machine, Node, OnDisk, Place, zeros, dims_of}
+use Rattle.sj_core.proofs.Words.{Cell, CellState, Invalid, Machine, Node, zeros, dims_of}
 use Rattle.sj_core.proofs.Words.{Program, Task, Transfer, Waiting, Worker, WorkerState, cell_state, done_by, has_cell}
-use Rattle.sj_core.proofs.Words.{on_disk, is_coming_by, is_done, is_entry, is_leaving_by, is_task_of, is_valid, no_copy}
+use Rattle.sj_core.proofs.Words.{on_disk, is_coming_by, is_done, is_entry, is_leaving_by, is_task_of, no_copy}
 use Rattle.sj_core.proofs.Words.{opening, order, pins, progress, mark, same_cell, scratch, tasks_of, transfer}
 use Rattle.sj_core.proofs.Words.{worker_state, writes, written_cells, used}
 use Rattle.std.proofs.lemmas.List.{get_or-replicate, get_or_past, length-replicate}

@@ -1,9 +1,9 @@
 -- What the accessors of a state give after one row, one mark, or one worker's transfer was written.
-use Rattle.std.proofs.Common.{Bool, List, None, Option, Some, ap, arith, false, get_or, inl, inr, length, map, subst}
-use Rattle.std.proofs.Common.{sym, true, ℕ, ◌<◌, ◌||◌, ◌∙◌, ◌≡◌, ◌≢◌, ◌⊎◌, All, position, refl, nat_eq, not, if◌then◌else◌}
+use Rattle.std.proofs.Common.{Bool, List, None, Option, Some, ap, arith, false, get_or, inl, inr, length, subst}
+use Rattle.std.proofs.Common.{sym, true, ℕ, ◌<◌, ◌∙◌, ◌≡◌, ◌≢◌, ◌⊎◌, All, position, refl, nat_eq, not, if◌then◌else◌}
 use Rattle.sj_core.proofs.Words.{AtNode, Cell, CellState, DiskNo, Invalid, Machine, Node, OnDisk, Place, Program, has_copy}
 use Rattle.sj_core.proofs.Words.{Mark, State, Transfer, Valid, Worker, WorkerState, cell_state, has_room}
-use Rattle.sj_core.proofs.Words.{is_leaving_by, is_valid, pins, mark, mark_in, scratch, transfer, victims_of}
+use Rattle.sj_core.proofs.Words.{is_valid, pins, mark, mark_in, scratch, transfer, victims_of}
 use Rattle.sj_core.proofs.Words.{is_elsewhere, on_disk, Claim, Drop, End, Move, Moved, Run, arrived, same_cell, with_row, with_mark, with_transfer, worker_state, writes}
 use Rattle.std.proofs.lemmas.Bool.{cases_eq, cases_lt, false_from_ne_true, false≢true, ltb-false, not-true, or_right, or_cases, and_from, and_parts, cases_Bool}
 use Rattle.std.proofs.lemmas.List.{get_or-set_other, get_or-set_same, get_or_past, length-set}
@@ -11,16 +11,14 @@ use Rattle.std.proofs.lemmas.{Bool.Decides.Decides-eqb, List.Elements.All-set, L
 use Rattle.sj_replica.specs.Replica.{is_copy_beside}
 use Rattle.std.proofs.lemmas.{List.Sums.fails_before_first}
 use Rattle.std.specs.List.{list_any, range_with_len}
-use Rattle.sj_base.proofs.Lists.{list_any-numbered}
 use Rattle.sj_base.proofs.SameIds.{same_cell-is, same_cell-unlike, workers_differ}
 use Rattle.sj_core.specs.Coherent.{HasBlocks, HasRows, IsOwnedBy, NoneLeavesBy}
 use Rattle.sj_core.specs.Laws.{EventsChangeRows, IsSound}
 use Rattle.sj_core.specs.Step.{disk_of, is_home, same_place}
-use Rattle.sj_core.specs.Table.{renewed}
 use Rattle.sj_core.proofs.Tables.{renewed-at}
 use Rattle.sj_core.proofs.{Reading.idle_row, Reading.list_all-has, Reading.no_row, Reading.mark_in-same}
 use Rattle.sj_core.proofs.Readiness.{list_any-some}
-use Rattle.sj_core.proofs.{Reading.same_node, Replicas.leaving_by-is}
+use Rattle.sj_core.proofs.{Reading.same_node}
 
 pub cells_differ : (c d : Cell) → (c ≡ d) ⊎ (c ≢ d)
 cells_differ c d = search (arith, cases_eq)

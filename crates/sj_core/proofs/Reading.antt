@@ -1,7 +1,7 @@
 -- What the accessors of a state give after a claim, a run and an end.
 use Rattle.std.proofs.Common.{Bool, List, None, Option, Some, [], ap, arith, false, get_or, length, map, refl, suc}
 use Rattle.std.proofs.Common.{true, zero, ℕ, ◌<◌, ◌∙◌, ◌∷◌, ◌≡◌, ◌≢◌, ◌⊎◌, if◌then◌else◌}
-use Rattle.sj_core.proofs.Words.{AtNode, Cell, CellState, Invalid, Machine, Mark, Node, Place, Progress, State, Task}
+use Rattle.sj_core.proofs.Words.{Cell, CellState, Invalid, Machine, Mark, Node, Place, Progress, State, Task}
 use Rattle.sj_core.proofs.Words.{Transfer, Waiting, Worker, WorkerState, cell_state, has_cell, is_entry, is_leaving}
 use Rattle.sj_core.proofs.Words.{is_moving, is_read, reads_in, moves, progress, mark, mark_in, same_cell, transfer, with_cells, with_progress}
 use Rattle.sj_core.proofs.Words.{with_mark, with_worker, worker_state, workers_of}

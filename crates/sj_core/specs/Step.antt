@@ -1,6 +1,6 @@
 -- The legal steps of a run: for each kind of event what it needs (`May`), and the state that it leaves (`after`)
 -- (StarPU Handbook, "Data Management" and "Out Of Core"; CCPE 2011, "Data management").
-use Rattle.std.specs.Prelude.{◌≡◌, ℕ, ◌+◌, ◌<◌, ◌≤◌, Bool, false, not, ◌&&◌, ◌||◌, IsTrue, nat_eq, Option, Some, None, List, [], ◌∷◌, ◌++◌, map, filter, fold, length, sum_by, unwrap_or, is_some, slice_get, option_map, option_and_then, if◌then◌else◌}
+use Rattle.std.specs.Prelude.{◌≡◌, ℕ, ◌+◌, ◌<◌, ◌≤◌, Bool, false, not, ◌&&◌, ◌||◌, IsTrue, nat_eq, Option, Some, None, List, [], ◌∷◌, filter, fold, length, sum_by, unwrap_or, is_some, slice_get, option_map, option_and_then, if◌then◌else◌}
 use Rattle.std.specs.List.{slice_set, list_any, list_all, range_with_len, position}
 use Rattle.sj_base.specs.declared.ids.Cell.{Cell}
 use Rattle.sj_base.specs.declared.ids.Task.{Task}
@@ -15,7 +15,7 @@ use Rattle.sj_base.specs.declared.program.Program.{Program}
 use Rattle.sj_base.specs.declared.program.Machine.{Machine}
 pub use Rattle.sj_base.specs.Ids.{same_place}
 use Rattle.sj_core.specs.Program.{same_cell, has_cell, distinct, task_of, tasks_of}
-use Rattle.sj_core.specs.Needs.{node_of, node_size, tile_bytes, scratch_bytes, footprint, place, workers_of}
+use Rattle.sj_core.specs.Needs.{node_of, node_size, tile_bytes, scratch_bytes, footprint, place}
 use Rattle.sj_core.specs.Victims.{victims}
 use Rattle.sj_core.specs.declared.progress.Progress.TheVariants.{Waiting, Claimed, Running, Done}
 use Rattle.sj_core.specs.declared.progress.Transfer.{Transfer}

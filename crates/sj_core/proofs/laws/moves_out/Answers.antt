@@ -1,4 +1,3 @@
-use Rattle.std.proofs.Common.{true}
 use Rattle.std.proofs.lemmas.Bool.{false≢true}
 use Rattle.sj_core.specs.Laws.{IsKeptByMovesOut}
 use Rattle.sj_core.specs.Coherent.{Coherent}
