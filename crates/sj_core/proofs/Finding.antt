@@ -2,7 +2,7 @@
 -- and after a step.
 use Rattle.std.proofs.Common.{Bool, ap, arith, cond, false, inl, inr, length, not, sym, true, ◌&&◌, ◌<◌, ◌∙◌, refl, if◌then◌else◌}
 use Rattle.std.proofs.Common.{◌≡◌, Contains, count_by}
-use Rattle.sj_core.proofs.Words.{Access, Array, Cell, Machine, Program, Progress, Running, State, Task, Worker, zeros, dims_of, fresh_cells, is_valid, node_of, Place, AtNode, has_copy, CellState, OnDisk, cell_state, mark_in}
+use Rattle.sj_core.proofs.Words.{Access, Array, Cell, Machine, Program, Progress, Running, State, Task, Worker, zeros, dims_of, fresh_cells, node_of, Place, AtNode, has_copy}
 use Rattle.sj_core.proofs.Words.{cells_of, copy_of, done_by, has_cell, is_running_on, is_task_of, progress, same_cell}
 use Rattle.sj_core.proofs.Words.{task_of, tasks_of, worked_on, worker_of, writes, written_cells}
 use Rattle.std.proofs.lemmas.Bool.{and_parts, false_from_ne_true, false≢true, not-true, and_from}
@@ -16,7 +16,6 @@ use Rattle.sj_core.proofs.Advancing.{running_on-is, same_task, task_of-worker, A
 use Rattle.sj_core.proofs.Reading.{progress-inside}
 use Rattle.sj_core.proofs.{Replicas.same_worker-refl, Separation.separated, Sharing.operand-has_cell, Sums.counted-has}
 use Rattle.sj_core.specs.Arrays.{Arrays, HoldsContent, content}
-use Rattle.sj_core.specs.Step.{is_home}
 
 -- ---- lists
 
@@ -86,11 +85,6 @@ both_pass a b x y e f = ap (λ c. cond c x y) (and_from a b e f)
 pub second_fails : {X : Type 0} (a b : Bool) (x y : X) → b ≡ false → (if a && b then x else y) ≡ y
 second_fails true b x y e = ap (λ c. cond c x y) e
 second_fails false b x y e = refl
-
--- a cell has a copy where its row says so
-pub has_copy-same : (p : Program) (m : Machine) (s s' : State) (c : Cell) (q : Place) → cell_state s' c ≡ cell_state s c → has_copy p m s' c q ≡ has_copy p m s c q
-has_copy-same p m s s' c (AtNode n) same = ap (λ (row : CellState). is_valid (mark_in row n)) same
-has_copy-same p m s s' c (OnDisk d) same = ap (λ (row : CellState). row.on_disk && is_home p m c d) same
 
 -- where no array changes, no task more runs or is done, and there are no more copies, the arrays are what they ought to be
 pub HoldsContent-kept : (p : Program) (m : Machine) (s s' : State) (A A' : Arrays) → ((c : Cell) (q : Place) → A' c q ≡ A c q) → ((t : Task) (w : Worker) → progress s' t ≡ Running w → progress s t ≡ Running w) →

@@ -16,7 +16,7 @@ use Rattle.sj_core.specs.Coherent.{HasBlocks, HasRows, IsOwnedBy, NoneLeavesBy}
 use Rattle.sj_core.specs.Laws.{EventsChangeRows, IsSound}
 use Rattle.sj_core.specs.Step.{disk_of, is_home, same_place}
 use Rattle.sj_core.proofs.Tables.{renewed-at}
-use Rattle.sj_core.proofs.{Reading.idle_row, Reading.list_all-has, Reading.no_row, Reading.mark_in-same}
+use Rattle.sj_core.proofs.{Reading.idle_row, Reading.list_all-has, Reading.no_row}
 use Rattle.sj_core.proofs.Readiness.{list_any-some}
 use Rattle.sj_core.proofs.{Reading.same_node}
 
@@ -57,10 +57,6 @@ mark_in-cases row n k x = search (arith, same_node, get_or-set_other, cases_lt, 
 -- each mark is as before, or is the one that was written
 pub mark-cases : (s : State) (c : Cell) (n : Node) (x : Mark) (d : Cell) (k : Node) → (mark (with_row s c (with_mark (cell_state s c) n x)) d k ≡ mark s d k) ⊎ ((d ≡ c) × (k ≡ n) × (mark (with_row s c (with_mark (cell_state s c) n x)) d k ≡ x))
 mark-cases s c n x d k = search (arith, row-cases, mark_in-cases)
-
--- a mark that was written where the table has the cell and its row the node is there
-pub mark-at_node : (s : State) (c : Cell) (n : Node) (x : Mark) → c.0 < length s.cells → n.0 < length (cell_state s c).marks → mark (with_row s c (with_mark (cell_state s c) n x)) c n ≡ x
-mark-at_node s c n x inside within = ap (λ (row : CellState). mark_in row n) (get_or-set_same s.cells c.0 (with_mark (cell_state s c) n x) no_row inside) ∙ mark_in-same (cell_state s c) n x within
 
 -- ---- one transfer
 

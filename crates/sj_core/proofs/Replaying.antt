@@ -16,7 +16,8 @@ use Rattle.sj_core.proofs.Ending.{Ends-content, lawful-puts_last}
 use Rattle.sj_core.proofs.Running.{Runs-content}
 use Rattle.sj_core.proofs.Opening.{opening-content}
 use Rattle.sj_core.proofs.Claiming.{Claims-content}
-use Rattle.sj_core.proofs.Finding.{HoldsContent-kept, has_copy-same}
+use Rattle.sj_core.proofs.Changing.{copies-left, left_alone}
+use Rattle.sj_core.proofs.Finding.{HoldsContent-kept}
 use Rattle.sj_core.proofs.Eviction.{evicted-after}
 
 pub sound : (p : Program) (m : Machine) → Proper p → IsMachineFor p m → (s : State) → Coherent p m s → IsSound p m s
@@ -46,7 +47,7 @@ module _ (p : Program) (m : Machine) (proper : Proper p) (machine : IsMachineFor
 
   -- a move that begins changes no row and no array
   move-content : (s : State) (A : Arrays) (x : Cell) (from to : Place) → HoldsContent p m s A → HoldsContent p m (after p m s (Move x from to)) (arrays_after p m A (Move x from to))
-  move-content s A x from to = HoldsContent-kept p m s (after p m s (Move x from to)) A (arrays_after p m A (Move x from to)) (λ y q. refl) (λ t w runs. runs) (λ y. refl) (λ y. refl) (λ y resting. resting) (λ y q copy. sym (has_copy-same p m s (after p m s (Move x from to)) y q refl) ∙ copy)
+  move-content s A x from to = HoldsContent-kept p m s (after p m s (Move x from to)) A (arrays_after p m A (Move x from to)) (λ y q. refl) (λ t w runs. runs) (λ y. refl) (λ y. refl) (λ y resting. resting) (λ y q copy. sym (copies-left p m s (after p m s (Move x from to)) y (left_alone s (after p m s (Move x from to)) y refl) q) ∙ copy)
 
   module _ (has : Kernel → Bool) (lawful : IsLawful has p) where
     pub Step-keeps_content : (s : State) (A : Arrays) (e : Event) → Coherent p m s → HoldsContent p m s A → May p m s e → HoldsContent p m (after p m s e) (arrays_after p m A e)
