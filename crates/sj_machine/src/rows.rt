@@ -1,10 +1,13 @@
 //! The rows of a run, and the events that change them.
 
 ghost use Rattle.std.specs.Prelude.{◌≡◌, ◌<◌, [], IfErr, IfOk, IsSome, None, OnErr, OnOk, Some, length, map, replicate};
+ghost use Rattle.sj_base.specs.declared.ids.Node.{Node};
+ghost use Rattle.sj_base.specs.declared.ids.Place.{Place};
 ghost use Rattle.sj_base.specs.declared.trace.Event.{Event};
 ghost use Rattle.sj_core.specs.Machine.{idle_row, transfer};
 ghost use Rattle.sj_core.specs.Proper.{IsMachineFor, Proper};
-ghost use Rattle.sj_core.specs.Step.{mover_of};
+ghost use Rattle.sj_core.specs.Step.{arrived, mover_of};
+ghost use Rattle.sj_machine.specs.Cells.{row_of, with_row_of};
 ghost use Rattle.sj_machine.specs.Gone.{KnownGone};
 ghost use Rattle.sj_machine.specs.Plan.{IsPlan};
 ghost use Rattle.sj_machine.specs.Planning.{AnotherHasTask, IsAnswer, IsWhy, MayClaim};
@@ -122,6 +125,20 @@ fn transfer_of(workers: &[Hold], w: Worker) -> Transfer
 {
     let row = &workers[w.0 as usize];
     row.transfer().unwrap()
+}
+
+/// A copy of a cell has arrived at a place. Constant time.
+fn arrive(cells: &mut Vec<Replica>, cell: Cell, to: Place)
+    requires cell { cell.0 < length cells.old.items }
+    requires node { (n : Node) → to ≡ Place.Node n →
+        n.0 < length (row_of cells.old.items cell).marks }
+    ensures { cells.new.items ≡ with_row_of cells.old.items cell (arrived to) }
+{
+    let row = &mut cells[cell.0 as usize];
+    match to {
+        Place::Node(n) => row.set_mark(n, Mark::Valid),
+        Place::Disk(_) => row.store(),
+    }
 }
 
 impl Rows {
@@ -262,11 +279,7 @@ impl Rows {
             (Event.Moved result.cell result.from result.to) }
     {
         let x = transfer_of(&self.workers, w);
-        let row = &mut self.cells[x.cell.0 as usize];
-        match x.to {
-            Place::Node(n) => row.set_mark(n, Mark::Valid),
-            Place::Disk(_) => row.store(),
-        }
+        arrive(&mut self.cells, x.cell, x.to);
         set_transfer(&mut self.workers, w, None);
         x
     }

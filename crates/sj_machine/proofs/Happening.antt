@@ -1,0 +1,88 @@
+-- What one event leaves: a sound state, and rows of it where the nodes' stores are those of that state.
+use Rattle.std.proofs.Common.{◌≡◌, ◌<◌, ◌∙◌, Bool, ap, arith, false, true, length, List, map, refl, sym, subst, ℕ, zero, suc, [], ◌∷◌, get_or}
+use Rattle.std.proofs.lemmas.Bool.{cases_lt, false≢true}
+use Rattle.std.proofs.lemmas.List.{ext_get_or, get_or-map, get_or_past, length-map}
+use Rattle.sj_core.proofs.Replaying.{Step-keeps_coherence}
+use Rattle.sj_core.proofs.Reading.{no_row}
+use Rattle.sj_core.proofs.Words.{Cell, CellState, Event, Invalid, Machine, Mark, Node, Program, State, WorkerState, cell_state, mark, order}
+use Rattle.sj_core.specs.Laws.{IsSound}
+use Rattle.sj_core.specs.Step.{May, after}
+use Rattle.sj_core.specs.declared.progress.Progress.{Progress}
+use Rattle.sj_node.specs.Entry.{NodeEntry}
+use Rattle.sj_node.specs.Store.{Store}
+use Rattle.sj_machine.specs.Cells.{row_of}
+use Rattle.sj_machine.specs.Rows.{CanHappen, Rows, has_happened}
+use Rattle.sj_machine.specs.Stores.{HasStores, Keeps, node_entry_of, order_in, state_in, store_of}
+
+-- ---- reading
+
+pub get-any : {X : Type 0} (xs : List X) (k : ℕ) (a b : X) → k < length xs → get_or xs k a ≡ get_or xs k b
+get-any [] k a b h = absurd (omega arith)
+get-any (x ∷ xs) zero a b h = refl
+get-any (x ∷ xs) (suc k) a b h = get-any xs k a b (omega arith)
+
+-- the row of a cell, whatever stands for one past the end
+pub row-at : (cells : List CellState) (c : Cell) (row : CellState) → c.0 < length cells → row ≡ get_or cells c.0 row → row ≡ row_of cells c
+row-at cells c row inside is = is ∙ get-any cells c.0 row no_row inside
+
+-- where a mark is another than of no copy, the cell has a row, and the row the node
+pub mark-inside : (test : Mark → Bool) → test Invalid ≡ false → (s : State) (c : Cell) (n : Node) → test (mark s c n) ≡ true → (c.0 < length s.cells) × (n.0 < length (cell_state s c).marks)
+mark-inside test none s c n h = search (arith, cases_lt, false≢true, get_or_past, no_row)
+
+-- ---- stores
+
+entry-cells : (f : Cell → NodeEntry) → ((c : Cell) → (f c).cell ≡ c) → (cs : List Cell) → map (λ (e : NodeEntry). e.cell) (map f cs) ≡ cs
+entry-cells f same [] = refl
+entry-cells f same (c ∷ cs) = ap (λ (x : Cell). x ∷ map (λ (e : NodeEntry). e.cell) (map f cs)) (same c) ∙ ap (λ (xs : List Cell). c ∷ xs) (entry-cells f same cs)
+
+module _ (p : Program) (m : Machine) (s : State) (nodes : List Store) (had : HasStores p m s nodes) where
+  -- the store of a node, whatever stands for one past the end
+  pub store-at : (n : Node) (d : Store) → n.0 < length m.nodes → get_or nodes n.0 d ≡ store_of p m s n
+  store-at n d inside = get-any nodes n.0 d (store_of p m s n) (omega (arith, inside, had.every_node)) ∙ had.stores n inside
+
+  -- the cells of the entries are the state's orders
+  orders-in : length s.orders ≡ length m.nodes → map order_in nodes ≡ s.orders
+  orders-in every =
+      ext_get_or [] (map order_in nodes) s.orders (omega (arith, length-map nodes order_in, had.every_node, every)) (λ i inside. (
+      let n : Node = record { 0 = i } in
+      let within : i < length nodes = omega (arith, inside, length-map nodes order_in) in
+      let node : i < length m.nodes = omega (arith, within, had.every_node) in
+      get_or-map order_in nodes i (store_of p m s n) [] within ∙ ap order_in (had.stores n node) ∙ entry-cells (node_entry_of p m s n) (λ c. refl) (order s n)
+      ))
+
+-- stores stay where each node's does
+pub HasStores-same : (p : Program) (m : Machine) (s s' : State) (nodes : List Store) → ((n : Node) → store_of p m s' n ≡ store_of p m s n) → HasStores p m s nodes → HasStores p m s' nodes
+HasStores-same p m s s' nodes same had = record {
+  every_node = had.every_node;
+  stores = λ n inside. subst (λ (x : Store). get_or nodes n.0 x ≡ x) (sym (same n)) (had.stores n inside);
+}
+
+-- ---- rows
+
+abbrev pub rows_in : Program → Machine → State → Rows
+rows_in p m s = record { program = p; machine = m; state = s }
+
+-- these are the rows that the event leaves
+pub record AreLeft (r : Rows) (e : Event) (p : Program) (m : Machine) (s : State) (nodes : List Store) : Type 0 where
+  pub happened : rows_in p m s ≡ has_happened r e
+  pub keeps : Keeps p m s nodes
+
+module _ (p : Program) (m : Machine) (s : State) (h : IsSound p m s) (r : Rows) (same : rows_in p m s ≡ r) (e : Event) (can : CanHappen r e) where
+  pub may-happen : May p m s e
+  may-happen = subst (λ (x : Rows). CanHappen x e) (sym same) can
+
+  pub sound-after : IsSound p m (after p m s e)
+  sound-after = record { proper = h.proper; machine = h.machine; coherent = Step-keeps_coherence p m h.proper h.machine s e h.coherent may-happen }
+
+  -- the nodes' entries have the orders, where the stores are those of the state
+  pub rows-left : (tasks : List Progress) (cells : List CellState) (nodes : List Store) (workers : List WorkerState) → tasks ≡ (after p m s e).tasks → cells ≡ (after p m s e).cells → workers ≡ (after p m s e).workers → HasStores p m (after p m s e) nodes → AreLeft r e p m (state_in tasks cells nodes workers) nodes
+  rows-left tasks cells nodes workers as_tasks as_cells as_workers stores =
+      let now : State = after p m s e in
+      let is : state_in tasks cells nodes workers ≡ now =
+          ap (λ (x : List Progress). state_in x cells nodes workers) as_tasks ∙ ap (λ (x : List CellState). state_in now.tasks x nodes workers) as_cells
+          ∙ ap (λ (x : List WorkerState). state_in now.tasks now.cells nodes x) as_workers
+          ∙ ap (λ (x : List (List Cell)). let z : State = record now { orders = x } in z) (orders-in p m now nodes stores sound-after.coherent.state.rows.orders) in
+      record {
+        happened = ap (rows_in p m) is ∙ ap (λ (x : Rows). has_happened x e) same;
+        keeps = subst (λ (z : State). Keeps p m z nodes) (sym is) (record { sound = sound-after; stores = stores });
+      }
