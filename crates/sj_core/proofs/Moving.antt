@@ -6,7 +6,7 @@ use Rattle.std.proofs.lemmas.List.Quantifiers.{position-Some}
 use Rattle.sj_base.proofs.SameIds.{same_cell-itself, same_place-itself, same_cell-is}
 use Rattle.sj_core.specs.Coherent.{Coherent, HasBlocks, HasRows, IsOwnedBy, IsTransferTo, NoneLeavesBy, TransfersAreSound, IsClaimed, WrittenIsKept}
 use Rattle.sj_core.specs.Laws.{IsSound}
-use Rattle.sj_core.specs.Step.{CanDrop, CanMoveIn, CanMoveOut, a_transfer, disk_of, is_fresh, is_home}
+use Rattle.sj_core.specs.Step.{CanDrop, CanMoveIn, CanMoveOut, a_transfer, disk_of, is_fresh}
 use Rattle.sj_core.proofs.Words.{AtNode, Cell, CellState, Claimed, Machine, Mark, Node, Place, Program, Running, State, Task, Transfer, Worker, WorkerState, has_cell, is_claimed_by, is_coming_by, is_entry, is_leaving_by, is_valid, moves, node_of, pins, progress, mark, scratch, transfer, victims_of, writes, DiskNo, OnDisk, with_transfer, Invalid, fresh_cells, Valid, same_cell, with_row, is_leaving, Moved, has_copy, with_mark, arrived, cell_state, on_disk, is_read, reads_in, same_place, worker_state}
 use Rattle.sj_core.proofs.Advancing.{claimed-is_mine, task_of-worker, claimed_by-is}
 use Rattle.sj_core.proofs.Changing.{Changes, Changes-coherent, Changes-writers, HasBlocks-kept, IsLeftAlone, TransfersAreSound-kept}
@@ -232,14 +232,10 @@ module _ (p : Program) (m : Machine) (s : State) (h : IsSound p m s) (c : Cell) 
   others_come v x k other coming = grind (arith, placed-marks s c to x k, coming_by-one, came)
 
   landed-still_comes : (v : Worker) (x y : Cell) (k : Node) → is_leaving_by v (mark landed y k) ≡ true → is_coming_by v (mark s x k) ≡ true → is_coming_by v (mark landed x k) ≡ true
-  landed-still_comes v x y k leaving coming = elim (placed-marks s c to x k) [
-    | inl same ↦ ap (is_coming_by v) same ∙ coming
-    | inr (e, at, is) ↦ absurd (grind (arith, e, landed-fewer (is_leaving_by v) refl y k leaving, coming_by-one v w (mark s c k), came k at, landed-none_leaves k at y k))
-  ]
+  landed-still_comes v x y k leaving coming = search (arith, placed-marks s c to x k, landed-fewer (is_leaving_by v) refl y k leaving, coming_by-one v w (mark s c k), came k, landed-none_leaves k, false≢true)
 
   copy_stays : (x : Cell) (q : Place) → has_copy p m s x q ≡ true → has_copy p m landed x q ≡ true
-  copy_stays x (AtNode k) copy = grind (arith, placed-marks s c to x k)
-  copy_stays x (OnDisk d) copy = grind (arith, placed-disks s c to x)
+  copy_stays x q copy = search (arith, placed-marks s c to x, placed-disks s c to x, and_parts, and_from)
 
   -- a copy that wasn't there is the one that was brought
   copy_was : (x : Cell) (q : Place) → has_copy p m landed x q ≡ true → (has_copy p m s x q ≡ true) ⊎ ((x ≡ c) × (q ≡ to))
@@ -288,10 +284,7 @@ module _ (p : Program) (m : Machine) (s : State) (h : IsSound p m s) (c : Cell) 
     comes = λ v. landed-fewer (is_coming_by v) refl;
     still_comes = landed-still_comes;
     pinned = λ v x pin valid. copy_stays x (AtNode (node_of m v)) valid;
-    owned = λ x v own. record {
-      marks = λ k. elim (placed-marks s c to x k) [ inl same ↦ same | inr (e, at, is) ↦ absurd (owned_apart x v own e) ];
-      disk = elim (placed-disks s c to x) [ inl same ↦ same | inr (e, at, is) ↦ absurd (owned_apart x v own e) ];
-    };
+    owned = λ x v own. record { marks = λ k. (grind (arith, placed-marks s c to x k, owned_apart x v own)); disk = grind (arith, placed-disks s c to x, owned_apart x v own) };
     unmoved = λ x v own u. (search (arith, transfer-cases));
     movers = λ v x under_way. h.coherent.workers.moves_for_claim v x (others v x under_way).1;
     moving = landed-moving;
@@ -343,23 +336,21 @@ module _ (p : Program) (m : Machine) (s : State) (h : IsSound p m s) (c : Cell) 
   dropped-disk = on_disk-same s c (with_mark (cell_state s c) n Invalid) refl
 
   dropped-entries : (d : Cell) (k : Node) → is_entry (mark dropped d k) ≡ is_entry (mark s d k)
-  dropped-entries d k = elim (dropped-cases d k) [ inl same ↦ ap is_entry same | inr (e, at, is, left) ↦ ap is_entry is ∙ sym (leaving-is_none (mark s d k) left) ]
+  dropped-entries d k = grind (arith, dropped-cases d k, leaving-is_none (mark s d k))
 
   -- what an invalid mark isn't was there before
   dropped-fewer : (test : Mark → Bool) → test Invalid ≡ false → (d : Cell) (k : Node) → test (mark dropped d k) ≡ true → test (mark s d k) ≡ true
   dropped-fewer test fails d k passes = grind (arith, dropped-cases d k)
 
   dropped-still_comes : (v : Worker) (d : Cell) (k : Node) → is_coming_by v (mark s d k) ≡ true → is_coming_by v (mark dropped d k) ≡ true
-  dropped-still_comes v d k coming = elim (dropped-cases d k) [ inl same ↦ ap (is_coming_by v) same ∙ coming | inr (e, at, is, left) ↦ absurd (false≢true (sym (ap is_leaving (coming_by-is v (mark s d k) coming)) ∙ left)) ]
+  dropped-still_comes v d k coming = grind (arith, dropped-cases d k, coming_by-is v (mark s d k))
 
   -- a copy is as before, or is the dropped one
   copy_left : (d : Cell) (q : Place) → (has_copy p m dropped d q ≡ has_copy p m s d q) ⊎ ((d ≡ c) × (q ≡ AtNode n))
-  copy_left d (AtNode k) = elim (dropped-cases d k) [ inl same ↦ inl (ap is_valid same) | inr (e, at, is, left) ↦ inr (e, ap (λ (j : Node). AtNode j) at) ]
-  copy_left d (OnDisk j) = inl (ap (λ b. b && is_home p m d j) (dropped-disk d))
+  copy_left d q = search (arith, dropped-cases, dropped-disk)
 
   pub dropped-copy : (d : Cell) (q : Place) → has_copy p m dropped d q ≡ true → has_copy p m s d q ≡ true
-  dropped-copy d (AtNode k) copy = dropped-fewer is_valid refl d k copy
-  dropped-copy d (OnDisk j) copy = sym (ap (λ b. b && is_home p m d j) (dropped-disk d)) ∙ copy
+  dropped-copy d q copy = search (arith, dropped-fewer is_valid refl, dropped-disk)
 
   -- no transfer reads the dropped copy
   dropped-unread : (v : Worker) (x : Transfer) → transfer s v ≡ Some x → x.cell ≡ c → x.from ≡ AtNode n → ⊥
@@ -370,9 +361,9 @@ module _ (p : Program) (m : Machine) (s : State) (h : IsSound p m s) (c : Cell) 
 
   dropped-moving : TransfersAreSound p m dropped
   dropped-moving = TransfersAreSound-kept p m s dropped (λ v x now. now)
-      (λ v x now copy. elim (copy_left x.cell x.from) [ inl same ↦ same ∙ copy | inr (e, at) ↦ absurd (dropped-unread v x now e at) ])
+      (λ v x now copy. (grind (arith, copy_left x.cell x.from, dropped-unread v x now)))
       (λ v x k now here. dropped-still_comes v x.cell k)
-      (λ v x k now from leaving. elim (dropped-cases x.cell k) [ inl same ↦ ap (is_leaving_by v) same ∙ leaving | inr (e, at, is, left) ↦ absurd (dropped-unread v x now e (from ∙ ap (λ (j : Node). AtNode j) at)) ])
+      (λ v x k now from leaving. (grind (arith, dropped-cases x.cell k, dropped-unread v x now)))
       (λ v x d now e none. dropped-disk x.cell ∙ none)
       (λ v x d k now. dropped-fewer (is_leaving_by v) refl d k) h.coherent.transfers
 
