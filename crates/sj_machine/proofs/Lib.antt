@@ -1,3 +1,15 @@
+pub mod ClaimEntries
+pub mod ClaimFinding
+pub mod ClaimPlanning
+pub mod ClaimStores
+pub mod Commuting
+pub mod FewPins
+pub mod GoneVictims
 pub mod Happening
+pub mod KnownVictims
+pub mod Loops
 pub mod Moving
 pub mod NodeSums
+pub mod Refusing
+pub mod Taking
+pub mod Written

@@ -1,5 +1,5 @@
 -- The nodes' stores and the workers' rows, as the state has them.
-use Rattle.std.specs.Prelude.{◌≡◌, ℕ, ◌<◌, Option, None, List, [], map, count_by, length, sum_by}
+use Rattle.std.specs.Prelude.{◌≡◌, ℕ, ◌<◌, ◌≤◌, Option, None, List, [], map, count_by, length, sum_by}
 use Rattle.std.specs.List.{slice_index_or, slice_set}
 use Rattle.sj_base.specs.declared.ids.Cell.{Cell}
 use Rattle.sj_base.specs.declared.ids.Node.{Node}
@@ -41,9 +41,14 @@ pub record HasStores (p : Program) (m : Machine) (s : State) (nodes : List Store
   pub every_node : length nodes ≡ length m.nodes
   pub stores : (n : Node) → n.0 < length m.nodes → slice_index_or nodes n.0 (store_of p m s n) ≡ store_of p m s n
 
--- the state is sound, and the nodes' stores are those of the state
+-- each worker pins at most as many cells as a task has operands
+abbrev pub PinsFew : State → Type 0
+PinsFew s = (w : Worker) → length (pins s w) ≤ 5
+
+-- the state is sound, its pins are few, and the nodes' stores are those of the state
 pub record Keeps (p : Program) (m : Machine) (s : State) (nodes : List Store) : Type 0 where
   pub sound : IsSound p m s
+  pub few : PinsFew s
   pub stores : HasStores p m s nodes
 
 -- a node's entries are those of the cells of which the marks tell so

@@ -1,0 +1,142 @@
+-- What a plan on a node says of the claim in the state: its cells, its victims, and why it can't be made.
+use Rattle.std.proofs.Common.{◌≡◌, ℕ, ◌+◌, ◌-◌, Bool, true, false, not, ◌&&◌, ◌||◌, List, [], ◌∷◌, ◌++◌, Option, Some, None, map, filter, reverse, option_map, refl, sym, ap, ◌∙◌, subst, arith, sum_by, nat_eq, is_some}
+use Rattle.std.specs.List.{list_any}
+use Rattle.std.specs.Bool.{then_some}
+use Rattle.std.specs.Option.{option_or}
+use Rattle.std.specs.Prelude.{All}
+use Rattle.std.proofs.lemmas.Bool.{false≢true, ne_eqb}
+use Rattle.std.proofs.lemmas.List.{map-append, reverse-append, reverse-reverse}
+use Rattle.std.proofs.lemmas.List.Elements.{All-head, All-tail, filter_agree}
+use Rattle.std.proofs.lemmas.List.Sums.{sum_by-cons}
+use Rattle.sj_core.proofs.CellLists.{times, times-has, times-none}
+use Rattle.sj_core.proofs.Reading.{same_cell-is}
+use Rattle.sj_core.proofs.Words.{Cell, Machine, Node, Program, State, Task, Worker, cells_of, distinct, free, has_cell, is_pinned, node_of, node_size, order, pins, same_cell, scratch, scratch_bytes, task_of, tile_bytes, workers_at}
+use Rattle.sj_core.specs.Step.{May, missing, none_leaving, to_come, victims_for}
+use Rattle.sj_core.specs.Victims.{covers, shortest_suffix, victims}
+use Rattle.sj_base.specs.declared.trace.Event.TheVariants.{Claim}
+use Rattle.sj_node.proofs.CallerLemmas.{victims-map}
+use Rattle.sj_node.specs.Entry.{NodeEntry, has_entry, is_spare}
+use Rattle.sj_node.specs.Store.{Store, free_bytes}
+use Rattle.sj_node.specs.Victims.{shortest_suffix as shortest_end, victims as victims_among}
+use Rattle.sj_machine.specs.Stores.{pins_on, store_of}
+use Rattle.sj_machine.specs.Plan.{ClaimPlan, IsPlan, plan_with}
+use Rattle.sj_machine.specs.Planning.{CommutersAreFree, MayClaim, chosen_on, lacking, need_on, planned}
+use Rattle.sj_machine.proofs.Commuting.{commuters-alone}
+use Rattle.sj_machine.proofs.ClaimEntries.{entries, entries-has, entries-total, entry}
+use Rattle.sj_base.proofs.Numbers.{none_first}
+
+-- ---- lists
+
+-- a fact of each cell of a list, of one that it has
+pub All-of : (P : Cell → Type 0) (xs : List Cell) (c : Cell) → All P xs → has_cell xs c ≡ true → P c
+All-of P [] c all h = absurd (false≢true h)
+All-of P (x ∷ xs) c all h = by_cases (same_cell x c) refl h (All-of P xs c (All-tail P x xs all))
+  where
+    by_cases : (b : Bool) → same_cell x c ≡ b → (b || has_cell xs c) ≡ true → (has_cell xs c ≡ true → P c) → P c
+    by_cases true e h rest = subst P (same_cell-is x c e) (All-head P x xs all)
+    by_cases false e h rest = rest h
+
+map-reverse : {X Y : Type 0} (f : X → Y) (xs : List X) → map f (reverse xs) ≡ reverse (map f xs)
+map-reverse f [] = refl
+map-reverse f (x ∷ xs) = ap (map f) (reverse-append (x ∷ []) xs) ∙ map-append f (reverse xs) (x ∷ []) ∙ ap (λ ys. ys ++ f x ∷ []) (map-reverse f xs) ∙ sym (reverse-append (f x ∷ []) (map f xs))
+
+-- the search from behind is the same in both crates
+same_end : {X : Type 0} (test : List X → Bool) (xs : List X) → shortest_end test xs ≡ shortest_suffix test xs
+same_end test [] = refl
+same_end test (x ∷ xs) = ap (λ o. option_or o (then_some (test (x ∷ xs)) (x ∷ xs))) (same_end test xs)
+
+-- ---- pins
+
+unpinned-is : (s : State) (c : Cell) (ws : List Worker) → nat_eq (sum_by (λ v. times (pins s v) c) ws) 0 ≡ not (list_any (λ v. has_cell (pins s v) c) ws)
+unpinned-is s c [] = refl
+unpinned-is s c (v ∷ ws) = by_cases (has_cell (pins s v) c) refl (unpinned-is s c ws)
+  where
+    by_cases : (b : Bool) → has_cell (pins s v) c ≡ b → nat_eq (sum_by (λ u. times (pins s u) c) ws) 0 ≡ not (list_any (λ u. has_cell (pins s u) c) ws) → nat_eq (sum_by (λ u. times (pins s u) c) (v ∷ ws)) 0 ≡ not (has_cell (pins s v) c || list_any (λ u. has_cell (pins s u) c) ws)
+    by_cases true e rest =
+        let all = sum_by-cons (λ u. times (pins s u) c) v ws in
+        let some = times-has (pins s v) c e in
+        ne_eqb (sum_by (λ u. times (pins s u) c) (v ∷ ws)) 0 (λ z. (omega arith)) ∙ sym (ap (λ b. not (b || list_any (λ u. has_cell (pins s u) c) ws)) e)
+    by_cases false e rest =
+        let none = times-none (pins s v) c e in
+        ap (λ (n : ℕ). nat_eq n 0) (sum_by-cons (λ u. times (pins s u) c) v ws ∙ ap (λ (n : ℕ). n + sum_by (λ u. times (pins s u) c) ws) none ∙ none_first (sum_by (λ u. times (pins s u) c) ws))
+        ∙ rest ∙ sym (ap (λ b. not (b || list_any (λ u. has_cell (pins s u) c) ws)) e)
+
+-- ---- a plan on the node's store
+
+module _ (p : Program) (m : Machine) (s : State) (t : Task) (w : Worker) where
+  abbrev n : Node
+  n = node_of m w
+
+  abbrev own : Store
+  own = store_of p m s n
+
+  missing-lacking : missing p s t w n ≡ lacking own (cells_of p t w)
+  missing-lacking = filter_agree (λ c. not (has_cell (order s n) c)) (λ c. not (has_entry own.entries c)) (λ c. ap not (sym (entries-has (tile_bytes p) (pins_on m s n) (order s n) c))) (distinct (cells_of p t w))
+
+  pub need-same : to_come p s t w n ≡ need_on p own t w
+  need-same = ap (λ (cs : List Cell). sum_by (tile_bytes p) cs + scratch_bytes p (task_of p t)) missing-lacking
+
+  free-same : free_bytes own ≡ free p m s n
+  free-same = ap (λ (k : ℕ). node_size m n - (k + sum_by (scratch s) (workers_at m n))) (entries-total (tile_bytes p) (pins_on m s n) (order s n))
+
+  turned : (o : Option (List Cell)) → option_map reverse (option_map (λ vs. map (λ (e : NodeEntry). e.cell) (reverse vs)) (option_map (entries (tile_bytes p) (pins_on m s n)) o)) ≡ o
+  turned None = refl
+  turned (Some vs) = ap Some (ap reverse (map-reverse (λ (e : NodeEntry). e.cell) (entries (tile_bytes p) (pins_on m s n) vs) ∙ ap reverse (same_cells vs)) ∙ reverse-reverse vs)
+    where
+      same_cells : (cs : List Cell) → map (λ (e : NodeEntry). e.cell) (entries (tile_bytes p) (pins_on m s n) cs) ≡ cs
+      same_cells [] = refl
+      same_cells (c ∷ cs) = ap (λ (ds : List Cell). c ∷ ds) (same_cells cs)
+
+  pub chosen-same : chosen_on p own t w ≡ victims_for p m s t w
+  chosen-same =
+      let bytes = tile_bytes p in
+      let f = entry bytes (pins_on m s n) in
+      let spare : Cell → Bool = λ c. is_spare (cells_of p t w) (f c) in
+      let free_of : Cell → Bool = λ c. not (is_pinned m s n c) && not (has_cell (cells_of p t w) c) in
+      let same_test : (c : Cell) → spare c ≡ free_of c = λ c. ap (λ b. b && not (has_cell (cells_of p t w) c)) (unpinned-is s c (workers_at m n)) in
+      ap (λ o. option_map reverse (option_map (λ vs. map (λ (e : NodeEntry). e.cell) (reverse vs)) o)) (victims-map f (λ e. e.bytes) (is_spare (cells_of p t w)) (order s n) (free_bytes own) (need_on p own t w))
+      ∙ turned (victims_among bytes spare (order s n) (free_bytes own) (need_on p own t w))
+      ∙ same_end (covers bytes (free_bytes own) (need_on p own t w)) (filter spare (order s n))
+      ∙ ap (shortest_suffix (covers bytes (free_bytes own) (need_on p own t w))) (filter_agree spare free_of same_test (order s n))
+      ∙ ap (λ (k : ℕ). victims bytes free_of (order s n) k (need_on p own t w)) free-same
+      ∙ ap (λ (k : ℕ). victims bytes free_of (order s n) (free p m s n) k) (sym need-same)
+
+  pub planned-same : (evicted : List Cell) → planned p own t w evicted ≡ plan_with p m s t w evicted
+  planned-same evicted = ap (λ (cs : List Cell). let plan : ClaimPlan = record { cells = cells_of p t w; missing = cs; bytes = map (tile_bytes p) cs; scratch = scratch_bytes p (task_of p t); victims = evicted } in plan) (sym missing-lacking)
+
+-- ---- the claim
+
+module _ (p : Program) (m : Machine) (s : State) (t : Task) (w : Worker) (may : MayClaim p m s t w) (free : CommutersAreFree p s t) (settled : none_leaving s (node_of m w) ≡ true) where
+  pub can-claim : (evicted : List Cell) → victims_for p m s t w ≡ Some evicted → May p m s (Claim t w)
+  can-claim evicted chosen = record {
+    worker = may.worker;
+    waiting = may.waiting;
+    ready = may.ready;
+    idle = may.idle;
+    fits = may.fits;
+    settled = settled;
+    alone = commuters-alone p s t free;
+    room = ap is_some chosen;
+  }
+
+  -- a plan on the node is the claim's
+  pub plan-right : (store : Store) (plan : ClaimPlan) → store ≡ store_of p m s (node_of m w) → Some plan ≡ option_map (planned p store t w) (chosen_on p store t w) → May p m s (Claim t w) × IsPlan p m s t w plan
+  plan-right store plan is found =
+      by_chosen (victims_for p m s t w) refl (found ∙ ap (λ (x : Store). option_map (planned p x t w) (chosen_on p x t w)) is ∙ ap (option_map (planned p (store_of p m s (node_of m w)) t w)) (chosen-same p m s t w))
+    where
+      one : (x y : ClaimPlan) → Some x ≡ Some y → x ≡ y
+      one x y e = cc
+
+      by_chosen : (o : Option (List Cell)) → victims_for p m s t w ≡ o → Some plan ≡ option_map (planned p (store_of p m s (node_of m w)) t w) o → May p m s (Claim t w) × IsPlan p m s t w plan
+      by_chosen None chosen found = absurd (cc)
+      by_chosen (Some evicted) chosen found =
+          let same : plan ≡ plan_with p m s t w evicted = one plan (planned p (store_of p m s (node_of m w)) t w evicted) found ∙ planned-same p m s t w evicted in
+          (can-claim evicted chosen, subst (λ (x : ClaimPlan). IsPlan p m s t w x) (sym same) (record { chosen = chosen; rest = refl }))
+
+  pub plan-wrong : (store : Store) → store ≡ store_of p m s (node_of m w) → ◌≡◌ {A = Option ClaimPlan} None (option_map (planned p store t w) (chosen_on p store t w)) → victims_for p m s t w ≡ None
+  plan-wrong store is none =
+      by_chosen (victims_for p m s t w) refl (none ∙ ap (λ (x : Store). option_map (planned p x t w) (chosen_on p x t w)) is ∙ ap (option_map (planned p (store_of p m s (node_of m w)) t w)) (chosen-same p m s t w))
+    where
+      by_chosen : (o : Option (List Cell)) → victims_for p m s t w ≡ o → ◌≡◌ {A = Option ClaimPlan} None (option_map (planned p (store_of p m s (node_of m w)) t w) o) → victims_for p m s t w ≡ None
+      by_chosen None chosen found = chosen
+      by_chosen (Some evicted) chosen found = absurd (cc)

@@ -1,0 +1,297 @@
+-- What a claim leaves of the nodes' stores.
+use Rattle.std.proofs.Common.{◌≡◌, ◌≢◌, ℕ, ◌+◌, ◌<◌, ◌≤◌, Bool, true, false, not, ◌||◌, cond, List, [], ◌∷◌, map, fold, length, get_or, refl, sym, ap, ◌∙◌, subst, arith, inl, inr, sum, sum_by}
+use Rattle.std.specs.List.{AllByRecursion, IsDistinct}
+use Rattle.std.specs.Prelude.{All, IsTrue, count_by, nat_eq, nat_le, nat_lt}
+use Rattle.std.proofs.lemmas.Bool.{and_from, false_from_ne_true, false≢true, le-leb, lt-ltb, or_cases, or_parts, or_left, or_right}
+use Rattle.std.proofs.lemmas.Bool.Decides.{Decides-eqb}
+use Rattle.std.proofs.lemmas.List.{length-map}
+use Rattle.std.proofs.lemmas.List.Folds.{list_any_at}
+use Rattle.std.proofs.lemmas.List.FromFn.{length-map-range_with_len}
+use Rattle.std.proofs.lemmas.List.Sums.{sum-map, sum_by-cons, sum_by-le-sum_by}
+use Rattle.sj_core.proofs.Eviction.{evicted_by}
+use Rattle.sj_core.proofs.Advancing.{claimed_by-is, idle-has_none, running_on-is}
+use Rattle.sj_core.proofs.Bytes.{entry-cell, once-bytes}
+use Rattle.sj_core.proofs.CellLists.{has_cell-fronted, has_cell-without, share, sum-once, times, times-cons, times-distinct, times-filter, times-has, times-none, times-program}
+use Rattle.sj_core.proofs.ClaimKeeps.{Claims-coherent, claim-order_elsewhere, claim-order_here}
+use Rattle.sj_core.proofs.Claiming.{Claims-other_worker, Claims-worker, absent-missing, evicted-free, missing-absent, own-spared, pinned-at, pins-inside, task-cell}
+use Rattle.sj_core.proofs.Replicas.{same_worker-is, same_worker-refl, valid-entry}
+use Rattle.sj_core.proofs.Sums.{count-numbered, sum-agree, sum-filter, sum-filter-le, sum-plus, tally}
+use Rattle.sj_core.proofs.Words.{Cell, Machine, Node, Program, State, Task, Worker, WorkerState, cells_of, cells_of_program, distinct, has_cell, is_claimed_by, is_entry, is_running_on, is_valid, node_of, node_size, order, pins, progress, mark, same_cell, same_worker, scratch, scratch_bytes, task_of, tile_bytes, worker_state, workers_at, workers_of}
+use Rattle.sj_core.specs.Coherent.{Coherent}
+use Rattle.sj_core.specs.Laws.{IsSound}
+use Rattle.sj_core.specs.Step.{CanClaim, after_claim, missing, without}
+use Rattle.sj_node.specs.Entry.{AreDistinctCells, NodeEntry, has_entry, pins_of, put_cells, total, without_all}
+use Rattle.sj_node.specs.Store.{Store, free_bytes, store, with_entries}
+use Rattle.sj_machine.specs.Stores.{node_entry_of, pins_on, store_of}
+use Rattle.sj_machine.specs.Plan.{CanHold, CanTakeAll, ClaimPlan, admitting, holding, plan_with, taken, taking}
+use Rattle.sj_machine.proofs.ClaimEntries.{can_take-all, entries, entries-has, entries-pins, entries-put, entries-total, entries-without, fronted-put_first, has_cell-put_first, more, put_first, taken-all, times-put_first}
+use Rattle.sj_machine.proofs.NodeSums.{sum-at, sum-grown}
+use Rattle.std.proofs.Math.Path.{fun_ext}
+
+-- ---- lists
+
+-- a fact of each cell that a list has
+pub All-has : (P : Cell → Type 0) (xs : List Cell) → ((c : Cell) → has_cell xs c ≡ true → P c) → All P xs
+All-has P xs h = λ i d inside. h (get_or xs i d) (list_any_at (λ e. same_cell e (get_or xs i d)) xs i d inside ((Decides-eqb (get_or xs i d).0 (get_or xs i d).0).1 refl))
+
+distinct-from_times : (xs : List Cell) → ((c : Cell) → times xs c ≤ 1) → AreDistinctCells xs
+unfolding IsDistinct
+distinct-from_times [] once = tt
+distinct-from_times (x ∷ xs) once = (
+  apart xs (false_from_ne_true (has_cell xs x) (λ h. (let o = once x in let t = times-cons x xs x in let one : tally (same_cell x x) ≡ 1 = ap tally ((Decides-eqb x.0 x.0).1 refl) in let more = times-has xs x h in omega arith))),
+  distinct-from_times xs (λ c. (let o = once c in let t = times-cons x xs c in omega arith)),
+)
+  where
+    apart : (ys : List Cell) → has_cell ys x ≡ false → AllByRecursion (λ y. same_cell x y ≡ false) ys
+    apart [] h = tt
+    apart (y ∷ ys) h = (let parts = or_parts (same_cell y x) (has_cell ys x) h in (false_from_ne_true (same_cell x y) (λ e. false≢true (sym parts.0 ∙ (Decides-eqb y.0 x.0).1 (sym ((Decides-eqb x.0 y.0).0 e)))), apart ys parts.1))
+
+sum-put_first : (f : Cell → ℕ) (new cs : List Cell) → sum_by f (put_first new cs) ≡ sum_by f new + sum_by f cs
+sum-put_first f [] cs = omega arith
+sum-put_first f (x ∷ new) cs = let rest = sum-put_first f new (x ∷ cs) in let a = sum_by-cons f x cs in let b = sum_by-cons f x new in omega arith
+
+length-put_first : (new cs : List Cell) → length (put_first new cs) ≡ length new + length cs
+length-put_first [] cs = omega arith
+length-put_first (x ∷ new) cs = let rest = length-put_first new (x ∷ cs) in omega arith
+
+sum-ones : (xs : List Cell) → sum_by (λ c. 1) xs ≡ length xs
+sum-ones [] = refl
+sum-ones (x ∷ xs) = let a = sum_by-cons (λ (c : Cell). 1) x xs in let rest = sum-ones xs in omega arith
+
+-- a list that has cells of the program, each at most once, is no longer than the program's
+pub length-once : (p : Program) (xs : List Cell) → ((c : Cell) → has_cell xs c ≡ true → c.0 < length p.cells) → ((c : Cell) → times xs c ≤ 1) → length xs ≤ length p.cells
+length-once p xs inside once =
+    let number : ℕ → Cell = λ n. record { 0 = n } in
+    let a = sum-ones xs in
+    let b = sum-once (λ c. 1) (cells_of_program p) xs (λ c has. times-program p c (inside c has)) once in
+    let c = sum_by-le-sum_by (share (λ c. 1) (has_cell xs)) (λ c. 1) (cells_of_program p) (λ c. at_most (has_cell xs c)) in
+    let d = sum-ones (cells_of_program p) in
+    let e : length (cells_of_program p) ≡ length p.cells = length-map-range_with_len number 0 (length p.cells) in
+    omega arith
+  where
+    at_most : (b : Bool) → cond b 1 0 ≤ 1
+    at_most true = omega arith
+    at_most false = omega arith
+
+-- ---- a claim
+
+module _ (p : Program) (m : Machine) (s : State) (h : IsSound p m s) (t : Task) (w : Worker) (s' : State) (claim : CanClaim p m s t w) (leaves : s' ≡ after_claim p m s t w (evicted_by p m s t w)) where
+  abbrev n : Node
+  n = node_of m w
+
+  abbrev bytes : Cell → ℕ
+  bytes = tile_bytes p
+
+  abbrev evicted : List Cell
+  evicted = evicted_by p m s t w
+
+  abbrev brought : List Cell
+  brought = missing p s t w n
+
+  abbrev own : List Cell
+  own = cells_of p t w
+
+  worker_inside : w.0 < m.workers
+  worker_inside = omega (arith, claim.worker, h.machine.workers)
+
+  idle-pins : (c : Cell) → has_cell (pins s w) c ≡ false
+  idle-pins c = false_from_ne_true (has_cell (pins s w) c) (λ pin. (let held = h.coherent.pins.own w c pin in false≢true (sym (idle-has_none s w held.task claim.idle) ∙ held.has)))
+
+  idle-scratch : scratch s w ≡ 0
+  idle-scratch = (h.coherent.workers.scratch w).none (λ u. idle-has_none s w u claim.idle)
+
+  pub pins-after : (c : Cell) → pins_on m s' n c ≡ pins_on m s n c + times own c
+  pins-after c = sum-grown m n w (times own c) (λ v. times (pins s' v) c) (λ v. times (pins s v) c)
+      (λ v other. ap (λ (row : WorkerState). times row.pins c) (Claims-other_worker p m s t w v s' claim leaves other))
+      (let now : times (pins s' w) c ≡ times own c = ap (λ (row : WorkerState). times row.pins c) (Claims-worker p m s t w s' h.coherent.state.rows h.machine claim leaves) in let none = times-none (pins s w) c (idle-pins c) in omega arith)
+      refl worker_inside
+
+  pub scratch-after : sum_by (scratch s') (workers_at m n) ≡ sum_by (scratch s) (workers_at m n) + scratch_bytes p (task_of p t)
+  scratch-after = sum-grown m n w (scratch_bytes p (task_of p t)) (scratch s') (scratch s)
+      (λ v other. ap (λ (row : WorkerState). row.scratch) (Claims-other_worker p m s t w v s' claim leaves other))
+      (let now : scratch s' w ≡ scratch_bytes p (task_of p t) = ap (λ (row : WorkerState). row.scratch) (Claims-worker p m s t w s' h.coherent.state.rows h.machine claim leaves) in let none = idle-scratch in omega arith)
+      refl worker_inside
+
+  -- a store by its scratch, its pins and its order
+  abbrev store_by : Node → ℕ → (Cell → ℕ) → List Cell → Store
+  store_by k held pinned cells = store (node_size m k) held (length p.cells) (entries bytes pinned cells)
+
+  -- the stores of other nodes stay
+  pub store-elsewhere : (k : Node) → k ≢ n → store_of p m s' k ≡ store_of p m s k
+  store-elsewhere k other =
+      ap (λ (held : ℕ). store_by k held (pins_on m s' k) (order s' k)) (sum-at m k (scratch s') (scratch s) (λ v at. ap (λ (row : WorkerState). row.scratch) (kept v at)))
+      ∙ ap (λ (f : Cell → ℕ). store_by k (sum_by (scratch s) (workers_at m k)) f (order s' k)) (fun_ext {f = pins_on m s' k} {g = pins_on m s k} (λ c. sum-at m k (λ v. times (pins s' v) c) (λ v. times (pins s v) c) (λ v at. ap (λ (row : WorkerState). times row.pins c) (kept v at))))
+      ∙ ap (store_by k (sum_by (scratch s) (workers_at m k)) (pins_on m s k)) (claim-order_elsewhere p m s h t w s' claim leaves k other)
+    where
+      kept : (v : Worker) → node_of m v ≡ k → worker_state s' v ≡ worker_state s v
+      kept v at = Claims-other_worker p m s t w v s' claim leaves (λ e. other (sym at ∙ ap (node_of m) e))
+
+  -- ---- the node's own store
+
+  -- what isn't pinned by a worker of the node has no pins
+  unpinned-none : (c : Cell) → ((v : Worker) → node_of m v ≡ n → has_cell (pins s v) c ≡ false) → pins_on m s n c ≡ 0
+  unpinned-none c none = sum-at m n (λ v. times (pins s v) c) (λ v. 0) (λ v at. times-none (pins s v) c (none v at)) ∙ zeros (workers_at m n)
+    where
+      zeros : (ws : List Worker) → sum_by (λ v. 0) ws ≡ 0
+      zeros [] = refl
+      zeros (v ∷ ws) = let a = sum_by-cons (λ (u : Worker). 0) v ws in let rest = zeros ws in omega arith
+
+  pin-inside : (v : Worker) (c : Cell) → has_cell (pins s v) c ≡ true → v.0 < m.workers
+  pin-inside v c pin = omega (arith, pins-inside s v c pin, h.coherent.state.rows.workers)
+
+  -- what a worker pins has an entry
+  pinned-there : (v : Worker) (c : Cell) → has_cell (pins s v) c ≡ true → node_of m v ≡ n → has_cell (order s n) c ≡ true
+  pinned-there v c pin at =
+      let held = h.coherent.pins.own v c pin in
+      ap (λ (k : Node). has_cell (order s k) c) (sym at) ∙ h.coherent.state.entries.entries (node_of m v) c
+      ∙ elim (or_cases (is_claimed_by v (progress s held.task)) (is_running_on v (progress s held.task)) held.has) [
+        | inl claimed ↦ h.coherent.cells.claimed held.task v c (claimed_by-is v (progress s held.task) claimed) held.cell
+        | inr running ↦ valid_pinned v c pin (h.coherent.cells.running held.task v c (running_on-is v (progress s held.task) running) held.cell)
+      ]
+    where
+      -- a valid replica that is pinned doesn't leave
+      valid_pinned : (v : Worker) (c : Cell) → has_cell (pins s v) c ≡ true → is_valid (mark s c (node_of m v)) ≡ true → is_entry (mark s c (node_of m v)) ≡ true
+      valid_pinned v c pin valid = valid-entry (mark s c (node_of m v)) valid (h.coherent.pins.stays v c pin)
+
+  -- what has no entry isn't pinned
+  absent-unpinned : (c : Cell) → has_cell (order s n) c ≡ false → pins_on m s n c ≡ 0
+  absent-unpinned c absent = unpinned-none c (λ v at. false_from_ne_true (has_cell (pins s v) c) (λ pin. false≢true (sym absent ∙ pinned-there v c pin at)))
+
+  brought-unpinned : (c : Cell) → has_cell brought c ≡ true → pins_on m s n c ≡ 0
+  brought-unpinned c lacks = absent-unpinned c (missing-absent p m s t w s' claim leaves c lacks).0
+
+  evicted-unpinned : (c : Cell) → has_cell evicted c ≡ true → pins_on m s n c ≡ 0
+  evicted-unpinned c gone = unpinned-none c (λ v at. false_from_ne_true (has_cell (pins s v) c) (λ pin. false≢true (sym (evicted-free p m s t w s' claim leaves c gone).0 ∙ pinned-at m s v n c (pin-inside v c pin) at pin)))
+
+  abbrev rest : List Cell
+  rest = without evicted (order s n)
+
+  abbrev first : List Cell
+  first = put_first brought rest
+
+  own-there : (c : Cell) → has_cell own c ≡ true → has_cell first c ≡ true
+  own-there c has = has_cell-put_first brought rest c ∙ by_cases (has_cell (order s n) c) refl
+    where
+      by_cases : (b : Bool) → has_cell (order s n) c ≡ b → (has_cell brought c || has_cell rest c) ≡ true
+      by_cases true there = or_right (has_cell brought c) (has_cell rest c) (has_cell-without evicted (order s n) c ∙ and_from (not (has_cell evicted c)) (has_cell (order s n) c) (ap not (own-spared p m s h t w s' claim leaves c has)) there)
+      by_cases false absent = or_left (has_cell brought c) (has_cell rest c) (absent-missing p m s t w s' claim leaves c absent has)
+
+  brought-once : (c : Cell) → times brought c ≤ 1
+  brought-once c = let fewer = times-filter (λ d. not (has_cell (order s n) d)) (distinct own) c in let once = times-distinct own c in omega arith
+
+  -- what has at most these of the order has nothing twice
+  put-once : (kept : List Cell) → ((c : Cell) → times kept c ≤ times (order s n) c) → (c : Cell) → times (put_first brought kept) c ≤ 1
+  put-once kept fewer c = by_cases (has_cell (order s n) c) refl
+    where
+      by_cases : (b : Bool) → has_cell (order s n) c ≡ b → times (put_first brought kept) c ≤ 1
+      by_cases true there =
+          let all = times-put_first brought kept c in
+          let none = times-none brought c (false_from_ne_true (has_cell brought c) (λ lacks. false≢true (sym (missing-absent p m s t w s' claim leaves c lacks).0 ∙ there))) in
+          let few = fewer c in
+          let once = h.coherent.state.entries.once n c in
+          omega arith
+      by_cases false absent =
+          let all = times-put_first brought kept c in
+          let none = times-none (order s n) c absent in
+          let few = fewer c in
+          let once = brought-once c in
+          omega arith
+
+  rest-fewer : (c : Cell) → times rest c ≤ times (order s n) c
+  rest-fewer c = times-filter (λ d. not (has_cell evicted d)) (order s n) c
+
+  first-once : (c : Cell) → times first c ≤ 1
+  first-once = put-once rest rest-fewer
+
+  brought-own : (c : Cell) → has_cell brought c ≡ true → has_cell own c ≡ true
+  brought-own c lacks = (missing-absent p m s t w s' claim leaves c lacks).1
+
+  abbrev before : Store
+  before = store_of p m s n
+
+  abbrev plan : ClaimPlan
+  plan = plan_with p m s t w evicted
+
+  admitting-is : admitting before plan ≡ with_entries before (entries bytes (pins_on m s n) first)
+  admitting-is =
+      ap (λ (es : List NodeEntry). with_entries before (put_cells brought (map bytes brought) es)) (entries-without bytes (pins_on m s n) evicted (order s n))
+      ∙ ap (with_entries before) (entries-put bytes (pins_on m s n) brought rest brought-unpinned)
+
+  taking-is : taking before plan ≡ with_entries before (entries bytes (more bytes (pins_on m s n) own) (order s' n))
+  taking-is =
+      ap (λ (x : Store). fold taken x own) admitting-is
+      ∙ taken-all bytes before (pins_on m s n) own first own-there first-once
+      ∙ ap (λ (cs : List Cell). with_entries before (entries bytes (more bytes (pins_on m s n) own) cs)) (fronted-put_first own brought rest brought-own ∙ sym (claim-order_here p m s h t w s' claim leaves))
+
+  -- the node's store after the claim
+  pub holding-is : holding before plan ≡ store_of p m s' n
+  holding-is =
+      ap (λ (x : Store). record x { scratch = x.scratch + plan.scratch }) taking-is
+      ∙ ap (λ (held : ℕ). store_by n held (more bytes (pins_on m s n) own) (order s' n)) (sym scratch-after)
+      ∙ ap (λ (f : Cell → ℕ). store_by n (sum_by (scratch s') (workers_at m n)) f (order s' n)) (fun_ext {f = more bytes (pins_on m s n) own} {g = pins_on m s' n} (λ c. sym (pins-after c)))
+
+  -- ---- that it can
+
+  abbrev after_state : Coherent p m s'
+  after_state = Claims-coherent p m s h t w s' claim leaves
+
+  -- the bytes of the order after the claim
+  first-bytes : sum_by bytes (order s' n) ≡ sum_by bytes brought + sum_by bytes rest
+  first-bytes =
+      once-bytes p (order s' n) (entry-cell p m s' after_state.state n) (after_state.state.entries.once n)
+      ∙ sum-agree (share bytes (has_cell (order s' n))) (share bytes (has_cell first)) (λ c. ap (λ b. cond b (bytes c) 0) (same c)) (cells_of_program p)
+      ∙ sym (once-bytes p first (λ c has. entry-cell p m s' after_state.state n c (same c ∙ has)) first-once)
+      ∙ sum-put_first bytes brought rest
+    where
+      either : (a b : Bool) → (a ≡ true → b ≡ true) → (a || b) ≡ b
+      either true b f = sym (f refl)
+      either false b f = refl
+
+      same : (c : Cell) → has_cell (order s' n) c ≡ has_cell first c
+      same c =
+          ap (λ (cs : List Cell). has_cell cs c) (claim-order_here p m s h t w s' claim leaves ∙ sym (fronted-put_first own brought rest brought-own))
+          ∙ has_cell-fronted own first c ∙ either (has_cell own c) (has_cell first c) (own-there c)
+
+  can-fit : sum (map bytes brought) ≤ free_bytes (with_entries before (without_all evicted before.entries))
+  can-fit =
+      let new = sum-map bytes brought in
+      let all = first-bytes in
+      let enough = after_state.bytes.entries n in
+      let held = scratch-after in
+      let kept : total (without_all evicted before.entries) ≡ sum_by bytes rest = ap total (entries-without bytes (pins_on m s n) evicted (order s n)) ∙ entries-total bytes (pins_on m s n) rest in
+      omega arith
+
+  can-be_few : length before.entries + length brought ≤ length p.cells
+  can-be_few =
+      let as_many = length-map (order s n) (node_entry_of p m s n) in
+      let both = length-put_first brought (order s n) in
+      let few = length-once p (put_first brought (order s n)) inside (put-once (order s n) (λ c. (omega arith))) in
+      omega arith
+    where
+      inside : (c : Cell) → has_cell (put_first brought (order s n)) c ≡ true → c.0 < length p.cells
+      inside c has = by_cases (has_cell brought c) refl (sym (has_cell-put_first brought (order s n) c) ∙ has)
+        where
+          by_cases : (b : Bool) → has_cell brought c ≡ b → (b || has_cell (order s n) c) ≡ true → c.0 < length p.cells
+          by_cases true lacks all = omega (arith, task-cell p m s h t w s' claim leaves c (brought-own c lacks), h.coherent.state.rows.cells)
+          by_cases false none all = entry-cell p m s h.coherent.state n c all
+
+  can-hold_scratch : scratch_bytes p (task_of p t) ≤ free_bytes (taking before plan)
+  can-hold_scratch = subst (λ (x : Store). scratch_bytes p (task_of p t) ≤ free_bytes x) (sym taking-is)
+      (let held = scratch-after in
+      let enough = after_state.bytes.entries n in
+      let all = entries-total bytes (more bytes (pins_on m s n) own) (order s' n) in
+      omega arith)
+
+  -- where its entries have few pins
+  pub can-hold : ((c : Cell) → pins_on m s n c + length own ≤ 1024) → CanHold before plan
+  can-hold few = record {
+    victims_there = All-has (λ c. IsTrue (has_entry before.entries c)) evicted (λ c gone. entries-has bytes (pins_on m s n) (order s n) c ∙ (evicted-free p m s t w s' claim leaves c gone).2);
+    victims_unpinned = All-has (λ c. pins_of before.entries c ≡ 0) evicted (λ c gone. (let none = evicted-unpinned c gone in let most = entries-pins bytes (pins_on m s n) (order s n) c in omega arith));
+    cells_differ = distinct-from_times brought brought-once;
+    cells_absent = All-has (λ c. has_entry before.entries c ≡ false) brought (λ c lacks. entries-has bytes (pins_on m s n) (order s n) c ∙ (missing-absent p m s t w s' claim leaves c lacks).0);
+    paired = sym (length-map brought bytes);
+    fits = can-fit;
+    few = can-be_few;
+    cells = subst (λ (x : Store). CanTakeAll x own) (sym admitting-is) (can_take-all bytes before (pins_on m s n) own first own-there first-once few);
+    scratch = can-hold_scratch;
+  }

@@ -1,0 +1,64 @@
+-- Where of each worker's victims some are known to be gone, and none of the others leaves, nothing does.
+use Rattle.std.proofs.Common.{◌≡◌, ℕ, ◌-◌, Bool, true, false, not, ◌&&◌, List, [], ◌∷◌, drop, get_or, length, refl, reverse, sym, take, ap, ◌∙◌}
+use Rattle.std.specs.List.{list_all}
+use Rattle.std.proofs.lemmas.Bool.{false_from_ne_true, false≢true, not-true}
+use Rattle.std.proofs.lemmas.List.{get_or_default, reverse-append, take-append-drop}
+use Rattle.std.proofs.lemmas.List.Folds.{list_all-append}
+use Rattle.std.proofs.lemmas.List.Sums.{list_all-from_AllPass}
+use Rattle.sj_core.proofs.Reading.{list_all-has, no_row}
+use Rattle.sj_core.proofs.Replicas.{leaving-by_some, leaving_by-leaves}
+use Rattle.sj_core.proofs.Words.{Cell, CellState, Machine, Node, Program, State, Worker, has_room, is_gone, is_leaving, is_leaving_by, mark, mark_in, node_of, victims_of}
+use Rattle.sj_core.specs.Coherent.{Coherent}
+use Rattle.sj_core.specs.Step.{none_leaving}
+use Rattle.sj_replica.specs.Replica.{CellState}
+use Rattle.sj_machine.specs.Gone.{KnownGone}
+use Rattle.sj_machine.specs.Planning.{NoneLeavesFor, is_leaving_at}
+use Rattle.sj_machine.proofs.GoneVictims.{rest-is}
+
+all-turned : (f : Cell → Bool) (xs : List Cell) → list_all f (reverse xs) ≡ list_all f xs
+all-turned f [] = refl
+all-turned f (x ∷ xs) =
+    ap (list_all f) (reverse-append (x ∷ []) xs)
+    ∙ list_all-append f (reverse xs) (x ∷ [])
+    ∙ ap (λ b. b && (f x && true)) (all-turned f xs)
+    ∙ swap (list_all f xs) (f x)
+  where
+    swap : (a b : Bool) → (a && (b && true)) ≡ (b && a)
+    swap true true = refl
+    swap true false = refl
+    swap false true = refl
+    swap false false = refl
+
+module _ (p : Program) (m : Machine) (s : State) (coherent : Coherent p m s) (n : Node) (gone : List ℕ) (known : KnownGone m s gone) (none : NoneLeavesFor s.cells n s.workers gone) where
+  -- a worker of the node has no victim any more
+  all-gone : (v : Worker) → n ≡ node_of m v → has_room m s v ≡ true
+  all-gone v at =
+      let f : Cell → Bool = is_gone m s v in
+      let vs : List Cell = victims_of s v in
+      let k : ℕ = get_or gone v.0 0 in
+      let left : List Cell = take (length vs - k) vs in
+      let rest : list_all f left ≡ true = list_all-from_AllPass f left (λ i d inside. stays (get_or left i d) (none v i d inside)) in
+      sym (all-turned f vs)
+      ∙ ap (list_all f) (sym (take-append-drop k (reverse vs)))
+      ∙ list_all-append f (take k (reverse vs)) (drop k (reverse vs))
+      ∙ ap (λ b. b && list_all f (drop k (reverse vs))) (known v)
+      ∙ ap (list_all f) (sym (rest-is vs k))
+      ∙ all-turned f left
+      ∙ rest
+    where
+      stays : (c : Cell) → is_leaving_at s.cells n c ≡ false → is_gone m s v c ≡ true
+      stays c not_here = ap not (false_from_ne_true (is_leaving_by v (mark s c (node_of m v))) (λ leaves.
+          (let here : is_leaving_by v (mark s c n) ≡ true = ap (λ (j : Node). is_leaving_by v (mark s c j)) at ∙ leaves in
+          false≢true (sym not_here ∙ leaving_by-leaves v (mark s c n) here))))
+
+  pub none-leaves : none_leaving s n ≡ true
+  none-leaves = list_all-from_AllPass (λ (row : CellState). not (is_leaving (mark_in row n))) s.cells (λ i d inside.
+      (let c : Cell = record { 0 = i } in
+      ap (λ (row : CellState). not (is_leaving (mark_in row n))) (get_or_default s.cells i d no_row inside) ∙ ap not (stays c)))
+    where
+      stays : (c : Cell) → is_leaving (mark s c n) ≡ false
+      stays c = false_from_ne_true (is_leaving (mark s c n)) (λ leaves.
+          (let by = leaving-by_some (mark s c n) leaves in
+          let evicted = coherent.workers.evicted by.0 c n by.1 in
+          let away = list_all-has (is_gone m s by.0) (victims_of s by.0) c (all-gone by.0 evicted.here) evicted.victim in
+          false≢true (sym (not-true (is_leaving_by by.0 (replica s c (AtNode (node_of m by.0)))) away) ∙ ap (λ (j : Node). is_leaving_by by.0 (mark s c j)) (sym evicted.here) ∙ by.1)))

@@ -1,0 +1,11 @@
+use Rattle.std.proofs.Common.{◌≡◌, ◌≤◌, ◌++◌, drop, filter, length, not}
+use Rattle.sj_core.specs.Program.{distinct}
+use Rattle.sj_machine.specs.Cells.{mark_at}
+use Rattle.sj_core.specs.Machine.{is_entry}
+use Rattle.sj_machine.proofs.needs.lacking_cells.Given as goal
+
+abbrev pub invariant-loop-i : goal.invariant-loop-i
+invariant-loop-i l = record {
+  cells : l.lacking ++ filter (λ c. not (is_entry (mark_at l.rows l.n c))) (distinct (drop l.i l.cells)) ≡ filter (λ c. not (is_entry (mark_at l.rows l.n c))) (distinct l.cells);
+  few : length l.lacking ≤ l.i;
+}

@@ -1,0 +1,8 @@
+use Rattle.std.proofs.Common.{◌∙◌, List, ap, filter, sum_by}
+use Rattle.sj_base.specs.declared.mode.Access.{Access}
+use Rattle.sj_base.specs.Mode.{is_scratch}
+use Rattle.sj_core.specs.Needs.{tile_bytes}
+use Rattle.sj_machine.proofs.plan.scratch_for.Goals as goal
+
+pub returns-clause-bytes : goal.returns-clause-bytes
+returns-clause-bytes c = c.scratch_bytes.ensures.bytes ∙ ap (λ (xs : List Access). sum_by (λ a. tile_bytes c.args.program.now a.cell) (filter (λ a. is_scratch a.mode) xs)) c.accesses_of.ensures

@@ -1,0 +1,6 @@
+use Rattle.std.proofs.Common.{◌≡◌, map, take}
+use Rattle.sj_node.specs.Store.{empty}
+use Rattle.sj_machine.proofs.rows.empty_nodes.Given as goal
+
+abbrev pub invariant-loop-size : goal.invariant-loop-size
+invariant-loop-size l = l.nodes.items ≡ map (λ size. empty size l.cells) (take l.size-index l.sizes)
