@@ -61,4 +61,4 @@ module _ (p : Program) (m : Machine) (s : State) (coherent : Coherent p m s) (n 
           (let by = leaving-by_some (mark s c n) leaves in
           let evicted = coherent.workers.evicted by.0 c n by.1 in
           let away = list_all-has (is_gone m s by.0) (victims_of s by.0) c (all-gone by.0 evicted.here) evicted.victim in
-          false≢true (sym (not-true (is_leaving_by by.0 (replica s c (AtNode (node_of m by.0)))) away) ∙ ap (λ (j : Node). is_leaving_by by.0 (mark s c j)) (sym evicted.here) ∙ by.1)))
+          false≢true (sym (not-true (is_leaving_by by.0 (mark s c (node_of m by.0))) away) ∙ ap (λ (j : Node). is_leaving_by by.0 (mark s c j)) (sym evicted.here) ∙ by.1)))

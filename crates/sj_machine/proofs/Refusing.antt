@@ -18,19 +18,16 @@ use Rattle.sj_core.proofs.Eviction.{shortest_suffix-none}
 use Rattle.sj_core.proofs.Reading.{list_any-numbered, progress-inside, same_cell-is}
 use Rattle.sj_core.proofs.Readiness.{list_any-map, list_any-some}
 use Rattle.sj_core.proofs.Replicas.{leaving-by_some}
-use Rattle.sj_core.proofs.Sized.{worked_on-dims}
 use Rattle.sj_core.proofs.Sums.{sum-filter, sum-plus}
 use Rattle.sj_core.proofs.Words.{Cell, Machine, Node, Program, State, Task, Worker, cells_of, data_operands, dims_of, distinct, free, has_cell, is_leaving, is_pinned, is_task_of, no_task, node_of, node_size, order, pins, progress, mark, same_cell, scratch, scratch_bytes, task_of, tasks_of, tile_bytes, worked_on, worker_of, workers_at}
-use Rattle.sj_core.specs.Laws.{IsLawful, IsSound}
+use Rattle.sj_core.specs.Laws.{IsSound}
+use Rattle.sj_core.specs.Proper.{Proper}
 use Rattle.sj_core.specs.Step.{is_in_use, to_come, victims_for}
 use Rattle.sj_core.specs.Victims.{covers}
-use Rattle.sj_codelet.specs.declared.kernel.Kernel.{Kernel}
 use Rattle.sj_base.specs.Array.{area}
-use Rattle.sj_machine.proofs.Owning.{get-any}
+use Rattle.std.proofs.lemmas.List.{get_or_default}
 use Rattle.sj_machine.specs.Plan.{ClaimPlan}
 use Rattle.sj_machine.specs.Planning.{AnotherHasTask, IsWhy, MayClaim, commuter_in_use}
-use Rattle.sj_machine.specs.Sound.{IsSoundRun}
-use Rattle.sj_machine.specs.Standing.{Standing, state}
 use Rattle.sj_machine.specs.declared.plan.Why.{Why}
 use Rattle.sj_machine.specs.declared.plan.Why.TheVariants.{Commute, Leaving, NoRoom}
 use Rattle.sj_base.proofs.Bools.{and_swap}
@@ -55,6 +52,10 @@ sum-split {X} f test xs =
 
 -- ---- what a task brings is no more than what it needs
 
+-- the cell that is worked on is as large as the operand's
+worked-dims : (p : Program) → Proper p → (w : Worker) → w.0 < p.workers → (a : Access) → dims_of p (worked_on p w a) ≡ dims_of p a.cell
+worked-dims p proper w staffed a = search arith
+
 module _ (p : Program) (w : Worker) (sized : (a : Access) → dims_of p (worked_on p w a) ≡ dims_of p a.cell) where
   same-bytes : (a : Access) → tile_bytes p (worked_on p w a) ≡ tile_bytes p a.cell
   same-bytes a = bytes_of (sized a)
@@ -76,7 +77,7 @@ module _ (p : Program) (w : Worker) (sized : (a : Access) → dims_of p (worked_
         where
           has : (a : Access) → Contains xs a → a.cell ≡ x.cell → has_cell (map (worked_on p w) xs) (worked_on p w x) ≡ true
           has a (k, inside, e) cells =
-              let here : get_or xs k x ≡ a = get-any xs k x a inside ∙ e in
+              let here : get_or xs k x ≡ a = get_or_default xs k x a inside ∙ e in
               let both = pairs 0 (suc k) x (omega arith) (omega (arith, inside)) (same_cell-from x.cell (get_or xs k x).cell (sym cells ∙ ap (λ (b : Access). b.cell) (sym here))) in
               let mode : a.mode ≡ R = ap (λ (b : Access). b.mode) (sym here) ∙ both.1 in
               list_any-map (λ c. same_cell c (worked_on p w x)) (worked_on p w) xs
@@ -94,7 +95,7 @@ module _ (p : Program) (w : Worker) (sized : (a : Access) → dims_of p (worked_
 
 -- ---- where no worker has a task
 
-module _ (p : Program) (m : Machine) (s : State) (h : IsSound p m s) (has : Kernel → Bool) (lawful : IsLawful has p) (t : Task) (w : Worker) (may : MayClaim p m s t w)
+module _ (p : Program) (m : Machine) (s : State) (h : IsSound p m s) (t : Task) (w : Worker) (may : MayClaim p m s t w)
     (nobody : (v : Worker) (u : Task) → is_task_of v (progress s u) ≡ true → ⊥) where
   abbrev n : Node
   n = node_of m w
@@ -135,7 +136,7 @@ module _ (p : Program) (m : Machine) (s : State) (h : IsSound p m s) (has : Kern
       (λ c. omega (arith, times-filter (has_cell (order s n)) (distinct cells) c, times-distinct cells c)))
 
   needs : bytes (distinct cells) + scratch_bytes p (task_of p t) ≤ node_size m n
-  needs = omega (arith, worked-le p w (worked_on-dims p h.proper lawful.arguments w may.worker) (data_operands (task_of p t)) (h.proper.unaliased t.0 no_task may.ready.task), may.fits)
+  needs = omega (arith, worked-le p w (worked-dims p h.proper w may.worker) (data_operands (task_of p t)) (h.proper.unaliased t.0 no_task may.ready.task), may.fits)
 
   abbrev spare : Cell → Bool
   spare c = not (is_pinned m s n c) && not (has_cell cells c)
@@ -158,7 +159,7 @@ module _ (p : Program) (m : Machine) (s : State) (h : IsSound p m s) (has : Kern
 
 -- ---- so where a claim is refused some worker has one, and it is another
 
-module _ (p : Program) (m : Machine) (s : State) (h : IsSound p m s) (has : Kernel → Bool) (lawful : IsLawful has p) (t : Task) (w : Worker) (may : MayClaim p m s t w) where
+module _ (p : Program) (m : Machine) (s : State) (h : IsSound p m s) (t : Task) (w : Worker) (may : MayClaim p m s t w) where
   -- the task is claimed or runs
   abbrev is_held : Task → Bool
   is_held u = is_task_of (worker_of (progress s u)) (progress s u)
@@ -181,14 +182,10 @@ module _ (p : Program) (m : Machine) (s : State) (h : IsSound p m s) (has : Kern
           has = found.2;
         }
         )
-    | inr none ↦ absurd (never p m s h has lawful t w may (λ v u mine. false≢true (sym none ∙ held v u mine)) why is)
+    | inr none ↦ absurd (never p m s h t w may (λ v u mine. false≢true (sym none ∙ held v u mine)) why is)
   ]
 
--- as a run tells it
-module _ {D : Type 0} (size faults mismatches : D → ℕ) (held : D → Option (List ℕ)) (run : Standing D) (sound : IsSoundRun size faults mismatches held run) (t : Task) (w : Worker) (may : MayClaim run.program run.machine (state run) t w) where
-  pub refusal-waits : (why : Why) → IsWhy run.program run.machine (state run) t w why → AnotherHasTask (state run) w
-  refusal-waits = waits-for run.program run.machine (state run) (record { proper = sound.run.proper; machine = sound.run.machine; coherent = sound.coherent }) sound.run.has sound.run.lawful t w may
-
-  pub found-waits : (found : Result ClaimPlan Why) → IfErr found (IsWhy run.program run.machine (state run) t w) → OnErr found (AnotherHasTask (state run) w)
-  found-waits (Ok plan) is = tt
-  found-waits (Err why) is = refusal-waits why is
+-- of what was found
+pub found-waits : (p : Program) (m : Machine) (s : State) (h : IsSound p m s) (t : Task) (w : Worker) (may : MayClaim p m s t w) (found : Result ClaimPlan Why) → IfErr found (IsWhy p m s t w) → OnErr found (AnotherHasTask s w)
+found-waits p m s h t w may (Ok plan) is = tt
+found-waits p m s h t w may (Err why) is = waits-for p m s h t w may why is
