@@ -12,7 +12,8 @@ use Rattle.sj_node.specs.Entry.{NodeEntry}
 use Rattle.sj_node.specs.Store.{Store}
 use Rattle.sj_machine.specs.Cells.{row_of}
 use Rattle.sj_machine.specs.Rows.{CanHappen, Rows, has_happened}
-use Rattle.sj_machine.specs.Stores.{HasStores, Keeps, node_entry_of, order_in, state_in, store_of}
+use Rattle.sj_machine.proofs.FewPins.{few-after}
+use Rattle.sj_machine.specs.Stores.{HasStores, Keeps, PinsFew, node_entry_of, order_in, state_in, store_of}
 
 -- ---- reading
 
@@ -75,8 +76,8 @@ module _ (p : Program) (m : Machine) (s : State) (h : IsSound p m s) (r : Rows) 
   sound-after = record { proper = h.proper; machine = h.machine; coherent = Step-keeps_coherence p m h.proper h.machine s e h.coherent may-happen }
 
   -- the nodes' entries have the orders, where the stores are those of the state
-  pub rows-left : (tasks : List Progress) (cells : List CellState) (nodes : List Store) (workers : List WorkerState) → tasks ≡ (after p m s e).tasks → cells ≡ (after p m s e).cells → workers ≡ (after p m s e).workers → HasStores p m (after p m s e) nodes → AreLeft r e p m (state_in tasks cells nodes workers) nodes
-  rows-left tasks cells nodes workers as_tasks as_cells as_workers stores =
+  pub rows-left : PinsFew s → (tasks : List Progress) (cells : List CellState) (nodes : List Store) (workers : List WorkerState) → tasks ≡ (after p m s e).tasks → cells ≡ (after p m s e).cells → workers ≡ (after p m s e).workers → HasStores p m (after p m s e) nodes → AreLeft r e p m (state_in tasks cells nodes workers) nodes
+  rows-left few tasks cells nodes workers as_tasks as_cells as_workers stores =
       let now : State = after p m s e in
       let is : state_in tasks cells nodes workers ≡ now =
           ap (λ (x : List Progress). state_in x cells nodes workers) as_tasks ∙ ap (λ (x : List CellState). state_in now.tasks x nodes workers) as_cells
@@ -84,5 +85,5 @@ module _ (p : Program) (m : Machine) (s : State) (h : IsSound p m s) (r : Rows) 
           ∙ ap (λ (x : List (List Cell)). let z : State = record now { orders = x } in z) (orders-in p m now nodes stores sound-after.coherent.state.rows.orders) in
       record {
         happened = ap (rows_in p m) is ∙ ap (λ (x : Rows). has_happened x e) same;
-        keeps = subst (λ (z : State). Keeps p m z nodes) (sym is) (record { sound = sound-after; stores = stores });
+        keeps = subst (λ (z : State). Keeps p m z nodes) (sym is) (record { sound = sound-after; few = few-after p m h.proper s e few; stores = stores });
       }

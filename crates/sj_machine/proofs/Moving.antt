@@ -38,7 +38,7 @@ module _ (p : Program) (m : Machine) (tasks : List Progress) (cells : List CellS
       let by : mover_of s c from to ≡ w = ap (λ (x : Rows). mover_of x.state c from to) same ∙ mover in
       let move : Option Transfer = Some (a_transfer c from to) in
       let leaves : after p m s (Move c from to) ≡ with_transfer s w move = ap (λ (v : Worker). with_transfer s v move) by in
-      rows-left p m s keeps.sound r same (Move c from to) can tasks cells nodes workers' refl refl (is ∙ ap (λ (z : State). z.workers) (sym leaves))
+      rows-left p m s keeps.sound r same (Move c from to) can keeps.few tasks cells nodes workers' refl refl (is ∙ ap (λ (z : State). z.workers) (sym leaves))
       (subst (λ (z : State). HasStores p m z nodes) (sym leaves) (HasStores-same p m s (with_transfer s w move) nodes (transfer-store p m s w move) keeps.stores))
 
   -- ---- a move ends
@@ -68,7 +68,7 @@ module _ (p : Program) (m : Machine) (tasks : List Progress) (cells : List CellS
         let leaves : after p m s (Moved x.cell x.from x.to) ≡ with_transfer moved w None = ap (λ (v : Worker). with_transfer moved v None) (sym by) in
         let now : May p m s (Moved x.cell x.from x.to) = subst (λ (v : Worker). transfer s v ≡ Some x) by under_way in
         let can : CanHappen r (Moved x.cell x.from x.to) = subst (λ (y : Rows). CanHappen y (Moved x.cell x.from x.to)) same now in
-        rows-left p m s keeps.sound r same (Moved x.cell x.from x.to) can tasks cells' nodes workers' refl as_cells (as_workers ∙ ap (λ (z : State). z.workers) (sym leaves))
+        rows-left p m s keeps.sound r same (Moved x.cell x.from x.to) can keeps.few tasks cells' nodes workers' refl as_cells (as_workers ∙ ap (λ (z : State). z.workers) (sym leaves))
         (subst (λ (z : State). HasStores p m z nodes) (sym leaves) (HasStores-same p m s (with_transfer moved w None) nodes (transfer-store p m moved w None) keeps.stores))
 
   -- ---- a drop
@@ -80,6 +80,6 @@ module _ (p : Program) (m : Machine) (tasks : List Progress) (cells : List CellS
     pub dropped : (row row' : CellState) → row ≡ slice_index_or cells c.0 row → row' ≡ with_mark row n Invalid → AreLeft r (Drop c n) p m (state_in tasks (slice_set cells c.0 row') nodes workers) nodes
     dropped row row' found is =
         let inside : c.0 < length cells = (mark-inside is_leaving refl s c n drop.leaving).0 in
-        rows-left p m s keeps.sound r same (Drop c n) can tasks (slice_set cells c.0 row') nodes workers refl
+        rows-left p m s keeps.sound r same (Drop c n) can keeps.few tasks (slice_set cells c.0 row') nodes workers refl
         (ap (λ (x : CellState). set cells c.0 x) (is ∙ ap (λ (x : CellState). with_mark x n Invalid) (row-at cells c row inside found))) refl
         (record { every_node = keeps.stores.every_node; stores = keeps.stores.stores })
