@@ -94,10 +94,10 @@ most_events p = 3 * length p.tasks + 5 * operands p
 
 -- the run is sound, the rows are those of its state, its tiles are there, and the trace has room for all events that are to
 -- come
-pub record Keeps {D : Type 0} (size faults mismatches : D → ℕ) (held : D → Option (List ℕ)) (b : Standing D) (rows : Rows) (tiles : List (List (Option Array))) (spare : ℕ) : Type 0 where
+pub record Keeps {D : Type 0} (size faults mismatches : D → ℕ) (held : D → Option (List ℕ)) (b : Standing D) (r : Rows) (places : List (List (Option Array))) (spare : ℕ) : Type 0 where
   pub sound : IsSoundRun size faults mismatches held b
-  pub rows : rows ≡ rows_of b
-  pub tiles : HasTiles b.program b.machine (state b) (run_arrays b) (AllTell held b) tiles
+  pub rows : r ≡ rows_of b
+  pub tiles : HasTiles b.program b.machine (state b) (run_arrays b) (AllTell held b) places
   pub room : most_events b.program ≤ length b.trace + spare
 
 -- a run of the program can be made on the machine with these disks: each cell has its block
