@@ -20,6 +20,7 @@ use Rattle.sj_machine.specs.Planning.{HasSmallTask, HasSmallWork, chosen_on, lac
 use Rattle.sj_machine.proofs.ClaimFinding.{All-of}
 use Rattle.sj_machine.proofs.ClaimStores.{All-has}
 use Rattle.sj_machine.proofs.FewPins.{few-operands}
+use Rattle.sj_machine.proofs.Written.{can-work, works-small}
 
 -- ---- small cells
 
@@ -32,13 +33,17 @@ length-distinct (x ∷ xs) = by_cases (has_cell xs x) (length-distinct xs)
     by_cases false rest = omega arith
 
 -- each operand of a proper program's task is of a small cell
-pub proper-small : (p : Program) → Proper p → (t : Task) → t.0 < length p.tasks → HasSmallTask p t
+proper-small : (p : Program) → Proper p → (t : Task) → t.0 < length p.tasks → HasSmallTask p t
 proper-small p proper t known = record {
   task = known;
   cells = All-weaker (λ a. a.cell.0 < length p.cells) (λ a. IsSmallCell p a.cell) (λ a inside. record { cell = inside; small = All-get_or (λ (c : CellInfo). area c.dims ≤ 2 ^ 24) p.cells a.cell.0 no_cell inside proper.limits.elements }) (task_of p t).accesses
       (All-get_or (λ (l : Lowered). All (λ a. a.cell.0 < length p.cells) l.accesses) p.tasks t.0 no_task known proper.cells.named);
   few = few-operands p proper t;
 }
+
+-- and so a worker can work on it
+pub proper-work : (p : Program) → Proper p → (t : Task) → t.0 < length p.tasks → (w : Worker) → w.0 < p.workers → HasSmallWork p t w
+proper-work p proper t known w staffed = record { task = proper-small p proper t known; can = can-work p proper t known w staffed; small = works-small p proper t known w staffed }
 
 -- a task's few operands give few cells, each as small as what they are of
 pub few-data : (g : Access → Cell) (ops : List Access) → length ops ≤ 5 → length (map g (filter (λ a. is_data a.mode) ops)) ≤ 5

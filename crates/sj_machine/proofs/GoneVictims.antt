@@ -8,11 +8,12 @@ use Rattle.std.proofs.lemmas.List.{get_or_default, length-drop, length-reverse, 
 use Rattle.std.proofs.lemmas.List.Folds.{list_all-append}
 use Rattle.std.proofs.lemmas.List.Sums.{list_all-from_AllPass}
 use Rattle.std.proofs.lemmas.Option.{none-some}
-use Rattle.sj_base.proofs.Bools.{and_rest}
+use Rattle.sj_base.proofs.Bools.{and_rest, not_not}
 use Rattle.sj_core.proofs.Placing.{position-none}
-use Rattle.sj_core.proofs.Words.{Cell, CellState, Node, Worker}
-use Rattle.sj_machine.specs.Choosing.{leaves_in}
-use Rattle.sj_machine.specs.Gone.{AreGoneIn}
+use Rattle.sj_core.proofs.Words.{Cell, CellState, Machine, Node, State, Worker, is_gone, is_leaving_by, mark, node_of, victims_of}
+use Rattle.sj_machine.specs.Choosing.{leaves_in, next_victim}
+use Rattle.std.proofs.Math.Path.{fun_ext}
+use Rattle.sj_machine.specs.Gone.{AreGone, AreGoneIn}
 
 -- ---- lists
 
@@ -89,5 +90,8 @@ gone-all rows n w victims known gone none =
     ∙ rest
 
 -- the next victim isn't among those that are gone
-pub next-left : (rows : List CellState) (n : Node) (w : Worker) (victims : List Cell) (count : ℕ) → AreGoneIn rows n w victims count → find (leaves_in rows n w) (reverse (take (length victims - count) victims)) ≡ find (leaves_in rows n w) (reverse victims)
-next-left rows n w victims count gone = ap (find (leaves_in rows n w)) (rest-is victims count) ∙ sym (find-rest (leaves_in rows n w) (reverse victims) count gone)
+pub next_left : (m : Machine) (s : State) (w : Worker) (count : ℕ) → AreGone m s w count → find (leaves_in s.cells (node_of m w) w) (reverse (take (length (victims_of s w) - count) (victims_of s w))) ≡ next_victim m s w
+next_left m s w count gone =
+    let f = leaves_in s.cells (node_of m w) w in
+    ap (find f) (rest-is (victims_of s w) count) ∙ sym (find-rest f (reverse (victims_of s w)) count gone)
+    ∙ ap (λ (g : Cell → Bool). find g (reverse (victims_of s w))) (fun_ext {f = f} {g = λ c. not (is_gone m s w c)} (λ c. sym (not_not (is_leaving_by w (mark s c (node_of m w))))))

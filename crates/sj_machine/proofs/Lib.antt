@@ -1,3 +1,4 @@
+pub mod Asking
 pub mod ClaimEntries
 pub mod ClaimFinding
 pub mod ClaimPlanning
@@ -8,6 +9,7 @@ pub mod GoneVictims
 pub mod Happening
 pub mod KnownVictims
 pub mod Loops
+pub mod Marked
 pub mod Moving
 pub mod NodeSums
 pub mod Refusing

@@ -46,6 +46,7 @@ impl Rows {
     }
 
     /// Whether a cell is one whose old value a worker's claimed task doesn't read. Linear in the operands.
+    #[tactic(auto, using(crate::proofs::Asking::numbers, crate::proofs::Asking::fresh_is))]
     pub fn is_fresh(&self, t: Task, w: Worker, cell: Cell) -> bool
         requires { progress self.now.state t ≡ Claimed w }
         ensures { result ≡ is_fresh self.now.program self.now.state w cell }

@@ -28,6 +28,7 @@ impl Rows {
 
     /// The victim of a worker's claim that goes next, where so many of its victims, those that go first, are known to be gone.
     /// Linear in the others that are gone; no memory.
+    #[tactic(auto, using(crate::proofs::GoneVictims::next_left))]
     pub fn next_victim(&self, w: Worker, gone: usize) -> Option<Cell>
         requires worker { w.0 < self.now.program.workers }
         requires gone { AreGone self.now.machine self.now.state w gone }
@@ -40,6 +41,7 @@ impl Rows {
 
     /// The cell that a worker brings next for the task that it has claimed. Quadratic in the operands, which are a task's few;
     /// no memory.
+    #[tactic(auto, using(crate::proofs::Asking::numbers, crate::proofs::Asking::cell_is))]
     pub fn next_cell(&self, t: Task, w: Worker) -> Option<Cell>
         requires { progress self.now.state t ≡ Claimed w }
         ensures { result ≡ next_cell self.now.program self.now.machine self.now.state t w }
@@ -51,6 +53,7 @@ impl Rows {
 
     /// Whether each cell whose old value a claimed task reads is on its worker's node, and no transfer moves a cell that it
     /// writes. Quadratic in the operands, which are a task's few, and linear in the workers for each written one.
+    #[tactic(auto, using(crate::proofs::Asking::numbers))]
     pub fn may_run(&self, t: Task, w: Worker) -> bool
         requires { progress self.now.state t ≡ Claimed w }
         ensures { result ≡ may_run self.now.program self.now.machine self.now.state t w }
