@@ -4,7 +4,9 @@ pub mod ClaimFinding
 pub mod ClaimPlanning
 pub mod ClaimStores
 pub mod Commuting
+pub mod Entries
 pub mod FewPins
+pub mod Finishing
 pub mod GoneVictims
 pub mod Happening
 pub mod KnownVictims
@@ -12,6 +14,8 @@ pub mod Loops
 pub mod Marked
 pub mod Moving
 pub mod NodeSums
+pub mod Owning
 pub mod Refusing
 pub mod Taking
+pub mod Unpinning
 pub mod Written

@@ -1,14 +1,17 @@
 //! The rows of a run, and the events that change them.
 
-ghost use Rattle.std.specs.Prelude.{◌≡◌, ◌<◌, [], IfErr, IfOk, IsSome, None, OnErr, OnOk, Some, length, map, replicate};
+ghost use Rattle.std.specs.Prelude.{◌≡◌, ◌<◌, ◌≤◌, [], All, IfErr, IfOk, IsSome, None, OnErr, OnOk, Some, length, map, replicate};
 ghost use Rattle.sj_base.specs.declared.ids.Node.{Node};
 ghost use Rattle.sj_base.specs.declared.ids.Place.{Place};
 ghost use Rattle.sj_base.specs.declared.trace.Event.{Event};
 ghost use Rattle.sj_core.specs.Machine.{idle_row, transfer};
+ghost use Rattle.sj_core.specs.Operands.{written_cells};
+ghost use Rattle.sj_core.specs.Program.{task_of};
 ghost use Rattle.sj_core.specs.Proper.{IsMachineFor, Proper};
 ghost use Rattle.sj_core.specs.Step.{arrived, mover_of};
 ghost use Rattle.sj_machine.specs.Cells.{row_of, with_row_of};
 ghost use Rattle.sj_machine.specs.Gone.{KnownGone};
+ghost use Rattle.sj_machine.specs.Operands.{CanWorkOn};
 ghost use Rattle.sj_machine.specs.Plan.{IsPlan};
 ghost use Rattle.sj_machine.specs.Planning.{AnotherHasTask, IsAnswer, IsWhy, MayClaim};
 ghost use Rattle.sj_machine.specs.Rows.{AreSound, CanHappen, has_happened, rows_at_start};
@@ -22,6 +25,7 @@ mod next;
 
 use crate::claiming::{hold_all, mark_all, node_of, take_plan};
 use crate::ending::{count_each, let_go, release_at};
+use crate::few_cells::FewCells;
 use crate::hold::Hold;
 use crate::leaving::leaving_at;
 use crate::operands::{commuter_held, written_cells};
@@ -125,6 +129,15 @@ fn transfer_of(workers: &[Hold], w: Worker) -> Transfer
 {
     let row = &workers[w.0 as usize];
     row.transfer().unwrap()
+}
+
+/// The cells that a worker writes for a task, in operand order. Linear in the operands.
+fn written_by(program: &Program, t: Task, w: Worker) -> FewCells
+    requires can { All (CanWorkOn program.now w) (task_of program.now t).accesses }
+    requires few { length (task_of program.now t).accesses ≤ 5 }
+    ensures { result ≡ written_cells program.now t w }
+{
+    written_cells(program, w, task_at(program, t).accesses.items())
 }
 
 /// A copy of a cell has arrived at a place. Constant time.
@@ -300,10 +313,10 @@ impl Rows {
         ensures { self.new ≡ has_happened self.old (Event.Run t w) }
     {
         let n = node_of(&self.machine, w);
-        let accesses = task_at(&self.program, t).accesses.items();
-        let written = written_cells(&self.program, w, accesses);
-        evict_elsewhere(&mut self.nodes, &self.cells, written.items(), n);
-        own_each(&mut self.cells, written.items(), n);
+        let cells = written_by(&self.program, t, w);
+        let written = cells.items();
+        evict_elsewhere(&mut self.nodes, &self.cells, written, n);
+        own_each(&mut self.cells, written, n);
         self.tasks[t.0 as usize] = Progress::Running(w);
     }
 
@@ -314,8 +327,7 @@ impl Rows {
         ensures { self.new ≡ has_happened self.old (Event.End t w) }
     {
         let n = node_of(&self.machine, w);
-        let accesses = task_at(&self.program, t).accesses.items();
-        let written = written_cells(&self.program, w, accesses);
+        let written = written_by(&self.program, t, w);
         count_each(&mut self.cells, written.items());
         release_at(&mut self.nodes, n, &self.workers, w);
         let_go(&mut self.workers, w);

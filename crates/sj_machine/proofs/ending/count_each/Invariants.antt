@@ -1,9 +1,10 @@
-use Rattle.std.proofs.Common.{◌≡◌, ◌<◌, All, length, slice_set, ℕ, ◌+◌, ◌-◌, ◌*◌, ◌≤◌}
-use Rattle.sj_machine.specs.Ending.{CanCount, CanRelease, CanUnpin, let_go, released, unpinned_each, written_each}
-use Rattle.sj_machine.specs.Plan.{store_at}
-use Rattle.sj_machine.specs.Stores.{row_at}
-use Rattle.sj_node.specs.Store.{with_entries}
+use Rattle.std.proofs.Common.{◌≡◌, ◌<◌, ◌+◌, ◌^◌, All, length, take}
+use Rattle.sj_machine.specs.Ending.{written_each}
 use Rattle.sj_machine.proofs.ending.count_each.Given as goal
 
 abbrev pub invariant-loop-cell : goal.invariant-loop-cell
-invariant-loop-cell l = ?
+invariant-loop-cell l = record {
+  rows : l.cells.items ≡ written_each (take l.cell-index l.written) l.fn.cells.items;
+  every : length l.cells.items ≡ length l.fn.cells.items;
+  few : All (λ row. row.writes + length l.written < 2 ^ 64 + l.cell-index) l.cells.items;
+}

@@ -1,37 +1,30 @@
-use Rattle.std.proofs.Common.{rules, ◌≡◌, ◌≢◌, ℕ, ◌<◌, ◌≤◌, All, false, length, slice_index_or, slice_set, ◌+◌, ◌-◌, ◌*◌, ◌/◌, ◌%◌, Bool, true, nat_eq, nat_lt, List, [], ◌∷◌, ◌++◌, bit_and, bit_or, Fits, w8, w32, w64, Bor, MutBor}
+use Rattle.std.proofs.Common.{◌≡◌, ◌<◌, ◌∙◌, [], ℕ, ap, arith, get_or, inl, inr, length, List, set, sym}
+use Rattle.std.proofs.lemmas.Bool.{cases_eq}
+use Rattle.std.proofs.lemmas.Grind.{get_or-set_at}
+use Rattle.std.proofs.lemmas.List.{get_or-set_other, length-set}
 use Rattle.sj_base.specs.declared.ids.Node.{Node}
-use Rattle.sj_core.specs.Machine.{is_entry}
-use Rattle.sj_machine.specs.Cells.{mark_at}
-use Rattle.sj_machine.specs.Running.{AreUnpinned, evicted_at, owned_each}
-use Rattle.sj_machine.specs.Stores.{AreMarked}
-use Rattle.sj_node.specs.Entry.{has_entry, pins_of, without_all, without_entry}
-use Rattle.sj_node.specs.Store.{Store, with_entries}
+use Rattle.sj_node.specs.Entry.{has_entry}
+use Rattle.sj_node.specs.Store.{Store}
+use Rattle.sj_machine.specs.Running.{evicted_at}
 use Rattle.sj_machine.proofs.running.evict_elsewhere.Goals as goal
 
--- src/running.rt:89:5
-pub loop-k-init : goal.loop-k-init
-loop-k-init c = ?
-
--- src/running.rt:90:9
-pub evict_at-requires-clause-within : goal.evict_at-requires-clause-within
-evict_at-requires-clause-within c = ?
-
--- src/running.rt:90:9
-pub evict_at-requires-clause-marked : goal.evict_at-requires-clause-marked
-evict_at-requires-clause-marked c = ?
-
--- src/running.rt:90:9
-pub evict_at-requires-clause-unpinned : goal.evict_at-requires-clause-unpinned
-evict_at-requires-clause-unpinned c = ?
-
--- src/running.rt:89:5
 pub loop-k-preserved : goal.loop-k-preserved
-loop-k-preserved c = ?
+loop-k-preserved c =
+    let k = c.loop-k.k in
+    let now = c.loop-k.nodes.items in
+    let inv = c.loop-k.invariant in
+    let inside : k < length now = omega (arith, c.loop-k-test.true, c.len-k-end.ensures, inv.every) in
+    let next : (d : Store) → c.evict_at.new.nodes.items ≡ set now k (evicted_at c.args.n c.args.written.now k (get_or now k d)) = c.evict_at.ensures in
+    record {
+      every = (let none : Store = record { size = 0; scratch = 0; limit = 0; entries = [] } in ap length (next none) ∙ length-set now k (evicted_at c.args.n c.args.written.now k (get_or now k none)) ∙ inv.every);
+      done = λ j d below within. elim (cases_eq j k) [
+        | inl e ↦ ap (λ (xs : List Store). get_or xs j d) (next d) ∙ get_or-set_at now k j (evicted_at c.args.n c.args.written.now k (get_or now k d)) d e inside ∙ ap (evicted_at c.args.n c.args.written.now k) (inv.rest k d (omega arith)) ∙ ap (λ (i : ℕ). evicted_at c.args.n c.args.written.now i (get_or c.args.nodes.now.items i d)) (sym e)
+        | inr n ↦ ap (λ (xs : List Store). get_or xs j d) (next d) ∙ get_or-set_other now k j (evicted_at c.args.n c.args.written.now k (get_or now k d)) d n ∙ inv.done j d (omega (arith, below, n)) within
+      ];
+      rest = λ j d above. ap (λ (xs : List Store). get_or xs j d) (next d) ∙ get_or-set_other now k j (evicted_at c.args.n c.args.written.now k (get_or now k d)) d (λ e. (omega (arith, e, above))) ∙ inv.rest j d (omega (arith, above));
+    }
 
--- src/running.rt:77:1
-pub returns-clause-every : goal.returns-clause-every
-returns-clause-every c = ?
-
--- src/running.rt:77:1
-pub returns-clause-each : goal.returns-clause-each
-returns-clause-each c = ?
+pub evict_at-requires-clause-marked : goal.evict_at-requires-clause-marked
+evict_at-requires-clause-marked c = λ d cell.
+    let k : Node = record { 0 = c.loop-k.k } in
+    ap (λ (x : Store). has_entry x.entries cell) (c.loop-k.invariant.rest c.loop-k.k d (omega arith)) ∙ c.requires.marked k d (omega (arith, c.loop-k-test.true, c.len-k-end.ensures)) cell

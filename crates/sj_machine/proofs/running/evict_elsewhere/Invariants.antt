@@ -1,12 +1,11 @@
-use Rattle.std.proofs.Common.{◌≡◌, ◌≢◌, ℕ, ◌<◌, ◌≤◌, All, false, length, slice_index_or, slice_set, ◌+◌, ◌-◌, ◌*◌}
-use Rattle.sj_base.specs.declared.ids.Node.{Node}
-use Rattle.sj_core.specs.Machine.{is_entry}
-use Rattle.sj_machine.specs.Cells.{mark_at}
-use Rattle.sj_machine.specs.Running.{AreUnpinned, evicted_at, owned_each}
-use Rattle.sj_machine.specs.Stores.{AreMarked}
-use Rattle.sj_node.specs.Entry.{has_entry, pins_of, without_all, without_entry}
-use Rattle.sj_node.specs.Store.{Store, with_entries}
+use Rattle.std.proofs.Common.{◌≡◌, ◌<◌, ◌≤◌, ℕ, get_or, length}
+use Rattle.sj_node.specs.Store.{Store}
+use Rattle.sj_machine.specs.Running.{evicted_at}
 use Rattle.sj_machine.proofs.running.evict_elsewhere.Given as goal
 
 abbrev pub invariant-loop-k : goal.invariant-loop-k
-invariant-loop-k l = ?
+invariant-loop-k l = record {
+  every : length l.nodes.items ≡ length l.fn.nodes.items;
+  done : (j : ℕ) (d : Store) → j < l.k → j < length l.fn.nodes.items → get_or l.nodes.items j d ≡ evicted_at l.n l.written j (get_or l.fn.nodes.items j d);
+  rest : (j : ℕ) (d : Store) → l.k ≤ j → get_or l.nodes.items j d ≡ get_or l.fn.nodes.items j d;
+}

@@ -1,12 +1,10 @@
-use Rattle.std.proofs.Common.{◌≡◌, ◌≢◌, ℕ, ◌<◌, ◌≤◌, All, false, length, slice_index_or, slice_set, ◌+◌, ◌-◌, ◌*◌}
-use Rattle.sj_base.specs.declared.ids.Node.{Node}
-use Rattle.sj_core.specs.Machine.{is_entry}
-use Rattle.sj_machine.specs.Cells.{mark_at}
-use Rattle.sj_machine.specs.Running.{AreUnpinned, evicted_at, owned_each}
-use Rattle.sj_machine.specs.Stores.{AreMarked}
-use Rattle.sj_node.specs.Entry.{has_entry, pins_of, without_all, without_entry}
-use Rattle.sj_node.specs.Store.{Store, with_entries}
+use Rattle.std.proofs.Common.{◌≡◌, ◌<◌, All, length, take}
+use Rattle.sj_machine.specs.Running.{owned_each}
 use Rattle.sj_machine.proofs.running.own_each.Given as goal
 
 abbrev pub invariant-loop-cell : goal.invariant-loop-cell
-invariant-loop-cell l = ?
+invariant-loop-cell l = record {
+  rows : l.cells.items ≡ owned_each l.n (take l.cell-index l.written) l.fn.cells.items;
+  every : length l.cells.items ≡ length l.fn.cells.items;
+  node : All (λ row. l.n.0 < length row.marks) l.cells.items;
+}

@@ -1,37 +1,31 @@
-use Rattle.std.proofs.Common.{rules, ◌≡◌, ◌<◌, [], IfErr, IfOk, IsSome, None, OnErr, OnOk, Some, length, map, replicate, ℕ, ◌+◌, ◌-◌, ◌*◌, ◌≤◌, ◌/◌, ◌%◌, Bool, true, false, nat_eq, nat_lt, List, ◌∷◌, ◌++◌, slice_index_or, slice_set, bit_and, bit_or, Fits, w8, w32, w64, Bor, MutBor}
-use Rattle.sj_base.specs.declared.trace.Event.{Event}
-use Rattle.sj_core.specs.Machine.{idle_row, transfer}
-use Rattle.sj_core.specs.Proper.{IsMachineFor, Proper}
-use Rattle.sj_core.specs.Step.{mover_of}
-use Rattle.sj_machine.specs.Gone.{KnownGone}
-use Rattle.sj_machine.specs.Plan.{IsPlan}
-use Rattle.sj_machine.specs.Planning.{AnotherHasTask, IsAnswer, IsWhy, MayClaim}
-use Rattle.sj_machine.specs.Rows.{AreSound, CanHappen, has_happened, rows_at_start}
-use Rattle.sj_machine.specs.Stores.{transfer_in, with_transfer_of}
-use Rattle.sj_node.specs.Store.{empty}
-use Rattle.sj_replica.specs.Replica.{no_copy}
+use Rattle.std.proofs.Common.{◌≡◌, ◌∙◌, List, ap}
+use Rattle.std.specs.Prelude.{All}
+use Rattle.sj_core.proofs.Words.{Cell, Program, written_cells}
+use Rattle.sj_machine.proofs.Finishing.{end-can_release, end-can_work, end-cells, end-few, end-left}
 use Rattle.sj_machine.proofs.rows.Rows.end.Goals as goal
 
--- src/rows.rt:305:23
-pub written_cells-written-requires-clause-can : goal.written_cells-written-requires-clause-can
-written_cells-written-requires-clause-can c = ?
+pub written_by-written-requires-clause-can : goal.written_by-written-requires-clause-can
+written_by-written-requires-clause-can c = rw c.deref.ensures (end-can_work _ _ _ _ _ _ c.self.invariant _ c.self.view_is c.args.t c.args.w c.requires)
 
--- src/rows.rt:306:9
 pub count_each-requires-clause-cells : goal.count_each-requires-clause-cells
-count_each-requires-clause-cells c = ?
+count_each-requires-clause-cells c =
+    let are = c.items.ensures ∙ c.written_by-written.ensures ∙ ap (λ (q : Program). written_cells q c.args.t c.args.w) c.deref.ensures in
+    rw are (end-cells _ _ _ _ _ _ c.self.invariant _ c.self.view_is c.args.t c.args.w c.requires)
 
--- src/rows.rt:306:9
 pub count_each-requires-clause-few : goal.count_each-requires-clause-few
-count_each-requires-clause-few c = ?
+count_each-requires-clause-few c =
+    let are = c.items.ensures ∙ c.written_by-written.ensures ∙ ap (λ (q : Program). written_cells q c.args.t c.args.w) c.deref.ensures in
+    rw are (end-few _ _ _ _ _ _ c.self.invariant _ c.self.view_is c.args.t c.args.w c.requires)
 
--- src/rows.rt:307:9
 pub release_at-requires-clause-can : goal.release_at-requires-clause-can
-release_at-requires-clause-can c = ?
+release_at-requires-clause-can c = end-can_release _ _ _ _ _ _ c.self.invariant _ c.self.view_is c.args.t c.args.w c.requires _ c.node_of-n.ensures _ c.deref-2.ensures.value
 
--- src/rows.rt:299:5
 pub invariant_of-self : goal.invariant_of-self
-invariant_of-self c = ?
+invariant_of-self c =
+    let are = c.items.ensures ∙ c.written_by-written.ensures ∙ ap (λ (q : Program). written_cells q c.args.t c.args.w) c.deref.ensures in
+    (end-left _ _ _ _ _ _ c.self.invariant _ c.self.view_is c.args.t c.args.w c.requires _ c.node_of-n.ensures _ are _ c.deref-2.ensures.value _ _ _ c.count_each.ensures c.release_at.ensures c.let_go.ensures).keeps
 
--- src/rows.rt:299:5
 pub returns : goal.returns
-returns c = ?
+returns c =
+    let are = c.items.ensures ∙ c.written_by-written.ensures ∙ ap (λ (q : Program). written_cells q c.args.t c.args.w) c.deref.ensures in
+    (end-left _ _ _ _ _ _ c.self.invariant _ c.self.view_is c.args.t c.args.w c.requires _ c.node_of-n.ensures _ are _ c.deref-2.ensures.value _ _ _ c.count_each.ensures c.release_at.ensures c.let_go.ensures).happened

@@ -1,37 +1,31 @@
-use Rattle.std.proofs.Common.{rules, ◌≡◌, ◌<◌, [], IfErr, IfOk, IsSome, None, OnErr, OnOk, Some, length, map, replicate, ℕ, ◌+◌, ◌-◌, ◌*◌, ◌≤◌, ◌/◌, ◌%◌, Bool, true, false, nat_eq, nat_lt, List, ◌∷◌, ◌++◌, slice_index_or, slice_set, bit_and, bit_or, Fits, w8, w32, w64, Bor, MutBor}
-use Rattle.sj_base.specs.declared.trace.Event.{Event}
-use Rattle.sj_core.specs.Machine.{idle_row, transfer}
-use Rattle.sj_core.specs.Proper.{IsMachineFor, Proper}
-use Rattle.sj_core.specs.Step.{mover_of}
-use Rattle.sj_machine.specs.Gone.{KnownGone}
-use Rattle.sj_machine.specs.Plan.{IsPlan}
-use Rattle.sj_machine.specs.Planning.{AnotherHasTask, IsAnswer, IsWhy, MayClaim}
-use Rattle.sj_machine.specs.Rows.{AreSound, CanHappen, has_happened, rows_at_start}
-use Rattle.sj_machine.specs.Stores.{transfer_in, with_transfer_of}
-use Rattle.sj_node.specs.Store.{empty}
-use Rattle.sj_replica.specs.Replica.{no_copy}
+use Rattle.std.proofs.Common.{◌≡◌, ◌∙◌, ◌<◌, All, List, ap, length, refl, subst, sym}
+use Rattle.sj_core.proofs.Words.{Cell, Program, written_cells}
+use Rattle.sj_machine.specs.Running.{AreUnpinned}
+use Rattle.sj_machine.proofs.Owning.{run-can_work, run-cells, run-left, run-marked, run-unpinned}
 use Rattle.sj_machine.proofs.rows.Rows.run.Goals as goal
 
--- src/rows.rt:291:23
-pub written_cells-written-requires-clause-can : goal.written_cells-written-requires-clause-can
-written_cells-written-requires-clause-can c = ?
+pub written_by-cells-requires-clause-can : goal.written_by-cells-requires-clause-can
+written_by-cells-requires-clause-can c = rw c.deref.ensures (run-can_work _ _ _ _ _ _ c.self.invariant _ c.self.view_is c.args.t c.args.w c.requires)
 
--- src/rows.rt:292:9
 pub evict_elsewhere-requires-clause-marked : goal.evict_elsewhere-requires-clause-marked
-evict_elsewhere-requires-clause-marked c = ?
+evict_elsewhere-requires-clause-marked c = rw c.deref-2.ensures.value (run-marked _ _ _ _ _ _ c.self.invariant _ c.self.view_is c.args.t c.args.w c.requires)
 
--- src/rows.rt:292:9
 pub evict_elsewhere-requires-clause-unpinned : goal.evict_elsewhere-requires-clause-unpinned
-evict_elsewhere-requires-clause-unpinned c = ?
+evict_elsewhere-requires-clause-unpinned c =
+    let are = c.items-written.ensures ∙ c.written_by-cells.ensures ∙ ap (λ (q : Program). written_cells q c.args.t c.args.w) c.deref.ensures in
+    run-unpinned _ _ _ _ _ _ c.self.invariant _ c.self.view_is c.args.t c.args.w c.requires _ c.node_of-n.ensures _ are
 
--- src/rows.rt:293:9
 pub own_each-requires-clause-cells : goal.own_each-requires-clause-cells
-own_each-requires-clause-cells c = ?
+own_each-requires-clause-cells c =
+    let are = c.items-written.ensures ∙ c.written_by-cells.ensures ∙ ap (λ (q : Program). written_cells q c.args.t c.args.w) c.deref.ensures in
+    rw are (run-cells _ _ _ _ _ _ c.self.invariant _ c.self.view_is c.args.t c.args.w c.requires)
 
--- src/rows.rt:285:5
 pub invariant_of-self : goal.invariant_of-self
-invariant_of-self c = ?
+invariant_of-self c =
+    let are = c.items-written.ensures ∙ c.written_by-cells.ensures ∙ ap (λ (q : Program). written_cells q c.args.t c.args.w) c.deref.ensures in
+    (run-left _ _ _ _ _ _ c.self.invariant _ c.self.view_is c.args.t c.args.w c.requires _ c.node_of-n.ensures _ are _ _ c.own_each.ensures c.evict_elsewhere.ensures.every c.evict_elsewhere.ensures.each).keeps
 
--- src/rows.rt:285:5
 pub returns : goal.returns
-returns c = ?
+returns c =
+    let are = c.items-written.ensures ∙ c.written_by-cells.ensures ∙ ap (λ (q : Program). written_cells q c.args.t c.args.w) c.deref.ensures in
+    (run-left _ _ _ _ _ _ c.self.invariant _ c.self.view_is c.args.t c.args.w c.requires _ c.node_of-n.ensures _ are _ _ c.own_each.ensures c.evict_elsewhere.ensures.every c.evict_elsewhere.ensures.each).happened

@@ -1,0 +1,167 @@
+-- What the end of a run leaves.
+use Rattle.std.proofs.Common.{[], ◌≡◌, ◌≢◌, ◌<◌, ◌≤◌, ◌+◌, ◌-◌, ◌^◌, ◌∙◌, ℕ, Bool, ap, arith, false, true, get_or, inl, inr, length, List, map, nat_eq, refl, set, sum_by, sym, subst}
+use Rattle.std.specs.Prelude.{All, filter, if◌then◌else◌}
+use Rattle.std.proofs.lemmas.Bool.{cases_eq}
+use Rattle.std.proofs.lemmas.Nat.{mod_below}
+use Rattle.std.proofs.lemmas.List.{get_or-set_other, get_or-set_same, length-map, length-set}
+use Rattle.std.proofs.lemmas.List.Elements.{All-from_get_or}
+use Rattle.std.proofs.lemmas.List.Folds.{list_any_at}
+use Rattle.std.proofs.lemmas.List.FromFn.{length-map-range_with_len}
+use Rattle.std.proofs.lemmas.List.Sums.{count_by-le-length, length-filter}
+use Rattle.std.proofs.Math.Path.{fun_ext}
+use Rattle.sj_base.proofs.SameIds.{other_node, same_cell-itself}
+use Rattle.sj_base.specs.Mode.{is_written}
+use Rattle.sj_base.specs.declared.mode.Access.{Access}
+use Rattle.sj_core.proofs.CellLists.{times}
+use Rattle.sj_core.proofs.Finding.{running-inside}
+use Rattle.sj_core.proofs.Reading.{no_row, same_node, worker-other, worker-same}
+use Rattle.sj_core.proofs.Replicas.{same_worker-refl, valid-entry}
+use Rattle.sj_core.proofs.Words.{Cell, CellState, End, Machine, Node, Program, State, Task, Worker, WorkerState, cells_of, has_cell, is_task_of, is_valid, mark, node_of, node_size, order, pins, progress, same_cell, scratch, task_of, tasks_of, tile_bytes, worked_on, worker_of, worker_state, workers_at, writes, written_cells, written_once_more}
+use Rattle.sj_core.specs.Coherent.{has_written, is_begun}
+use Rattle.sj_core.specs.Laws.{IsSound}
+use Rattle.sj_core.specs.Step.{after}
+use Rattle.sj_core.specs.declared.progress.Progress.{Progress}
+use Rattle.sj_core.specs.declared.progress.Progress.TheVariants.{Done, Running}
+use Rattle.sj_node.specs.Store.{Store, store}
+use Rattle.sj_machine.specs.Ending.{CanCount, CanRelease, let_go, released, written_each}
+use Rattle.sj_machine.specs.Operands.{CanWorkOn}
+use Rattle.sj_machine.specs.Plan.{store_at}
+use Rattle.sj_machine.specs.Rows.{CanHappen, Rows}
+use Rattle.sj_machine.specs.Stores.{HasStores, Keeps, pins_on, row_at, state_in, store_of}
+use Rattle.sj_machine.proofs.ClaimEntries.{entries}
+use Rattle.sj_machine.proofs.FewPins.{few-operands}
+use Rattle.sj_machine.proofs.Happening.{AreLeft, get-any, mark-inside, may-happen, rows_in, rows-left, store-at}
+use Rattle.sj_machine.proofs.Loops.{rows-written}
+use Rattle.sj_machine.proofs.NodeSums.{sum-at, sum-grown}
+use Rattle.sj_machine.proofs.Unpinning.{all-less, can-unpin}
+use Rattle.sj_machine.proofs.Written.{can-work, written-once}
+
+module _ (p : Program) (m : Machine) (tasks : List Progress) (cells : List CellState) (nodes : List Store) (workers : List WorkerState) (keeps : Keeps p m (state_in tasks cells nodes workers) nodes) (r : Rows) (same : rows_in p m (state_in tasks cells nodes workers) ≡ r) (t : Task) (w : Worker) (can : CanHappen r (End t w)) where
+  abbrev s : State
+  s = state_in tasks cells nodes workers
+
+  abbrev s' : State
+  s' = after p m s (End t w)
+
+  abbrev n : Node
+  n = node_of m w
+
+  abbrev ws : List Cell
+  ws = written_cells p t w
+
+  h : IsSound p m s
+  h = keeps.sound
+
+  ended : progress s t ≡ Running w
+  ended = may-happen p m s h r same (End t w) can
+
+  program_task : t.0 < length p.tasks
+  program_task = running-inside p m s t w h.coherent.state.rows ended
+
+  staffed : w.0 < p.workers
+  staffed = subst (λ (x : Progress). (worker_of x).0 < p.workers) ended (h.coherent.state.staff.staffed t (ap is_begun ended))
+
+  at_machine : w.0 < m.workers
+  at_machine = omega (arith, staffed, h.machine.workers)
+
+  node : n.0 < length m.nodes
+  node = mod_below w.0 (length m.nodes) (let one = h.machine.some_node in omega arith)
+
+  pub end-can_work : All (CanWorkOn p w) (task_of p t).accesses
+  end-can_work = can-work p h.proper t program_task w staffed
+
+  -- ---- the cells that the task wrote
+
+  pub end-cells : All (λ c. c.0 < length cells) ws
+  end-cells = λ k d inside. (
+      let c : Cell = get_or ws k d in
+      let own = h.coherent.writers.owned t w c ended (list_any_at (λ e. same_cell e c) ws k d inside (same_cell-itself c)) in
+      (mark-inside is_valid refl s c n (ap is_valid own.valid)).0
+      )
+
+  few-written : length ws ≤ 5
+  few-written =
+      let written : Access → Bool = λ a. is_written a.mode in
+      let count : length ws ≡ length (filter written (task_of p t).accesses) = length-map (filter written (task_of p t).accesses) (worked_on p w) in
+      omega (arith, count, length-filter written (task_of p t).accesses, count_by-le-length written (task_of p t).accesses, few-operands p h.proper t)
+
+  pub end-few : All (CanCount (length ws)) cells
+  end-few = All-from_get_or (CanCount (length ws)) cells no_row (λ i inside. (
+      let c : Cell = record { 0 = i } in
+      let number : ℕ → Task = λ k. record { 0 = k } in
+      let all : length (tasks_of p) ≡ length p.tasks = length-map-range_with_len number 0 (length p.tasks) in
+      let z : writes s c + length ws < 2 ^ 64 = omega (arith, h.coherent.counts.counted c, count_by-le-length (has_written p s c) (tasks_of p), all, h.proper.limits.tasks, few-written) in
+      z
+      ))
+
+  -- ---- the worker's pins and scratch
+
+  pinned-there : (c : Cell) → has_cell (pins s w) c ≡ true → has_cell (order s n) c ≡ true
+  pinned-there c pin =
+      let held = h.coherent.pins.own w c pin in
+      let mine : is_task_of w (progress s t) ≡ true = ap (is_task_of w) ended ∙ same_worker-refl w in
+      let one : held.task ≡ t = h.coherent.workers.one_task held.task t w held.has mine in
+      let cell : has_cell (cells_of p t w) c ≡ true = sym (ap (λ (u : Task). has_cell (cells_of p u w) c) one) ∙ held.cell in
+      h.coherent.state.entries.entries n c ∙ valid-entry (mark s c n) (h.coherent.cells.running t w c ended cell) (h.coherent.pins.stays w c pin)
+
+  abbrev idle : WorkerState
+  idle = record (worker_state s w) { pins = []; scratch = 0 }
+
+  own-row : worker_state s' w ≡ idle
+  own-row = worker-same s w idle (omega (arith, at_machine, h.coherent.state.rows.workers))
+
+  other-row : (v : Worker) → v ≢ w → worker_state s v ≡ worker_state s' v
+  other-row v other = sym (worker-other s w v idle other)
+
+  pins-before : (c : Cell) → pins_on m s n c ≡ pins_on m s' n c + times (pins s w) c
+  pins-before c =
+      sum-grown m n w (times (pins s w) c) (λ v. times (pins s v) c) (λ v. times (pins s' v) c) (λ v other. ap (λ (row : WorkerState). times row.pins c) (other-row v other))
+      (let none : times (pins s' w) c ≡ 0 = ap (λ (row : WorkerState). times row.pins c) own-row in omega arith) refl at_machine
+
+  scratch-before : sum_by (scratch s) (workers_at m n) ≡ sum_by (scratch s') (workers_at m n) + scratch s w
+  scratch-before =
+      sum-grown m n w (scratch s w) (scratch s) (scratch s') (λ v other. ap (λ (row : WorkerState). row.scratch) (other-row v other))
+      (let none : scratch s' w ≡ 0 = ap (λ (row : WorkerState). row.scratch) own-row in omega arith) refl at_machine
+
+  can-release : CanRelease (pins s w) (scratch s w) (store_of p m s n)
+  can-release = record {
+    pins = can-unpin (tile_bytes p) (pins s w) (pins_on m s n) (order s n) pinned-there (λ c. (let e = pins-before c in omega arith));
+    held = omega (arith, scratch-before);
+  }
+
+  pub end-can_release : (at : Node) → at ≡ n → (found : List WorkerState) → found ≡ workers → CanRelease (row_at found w).pins (row_at found w).scratch (store_at nodes at)
+  end-can_release at bound found read =
+      subst (λ (rs : List WorkerState). CanRelease (row_at rs w).pins (row_at rs w).scratch (store_at nodes at)) (sym read)
+      (subst (λ (j : Node). CanRelease (pins s w) (scratch s w) (store_at nodes j)) (sym bound)
+      (subst (λ (x : Store). CanRelease (pins s w) (scratch s w) x) (sym (store-at p m s nodes keeps.stores n _ node)) can-release))
+
+  released-is : released (pins s w) (scratch s w) (store_of p m s n) ≡ store_of p m s' n
+  released-is =
+      ap (λ es. store (node_size m n) (sum_by (scratch s) (workers_at m n) - scratch s w) (length p.cells) es) (all-less (tile_bytes p) (pins s w) (pins_on m s n) (order s n)
+      ∙ ap (λ (f : Cell → ℕ). entries (tile_bytes p) f (order s n)) (fun_ext {f = λ c. pins_on m s n c - times (pins s w) c} {g = pins_on m s' n} (λ c. (let e = pins-before c in let z : pins_on m s n c - times (pins s w) c ≡ pins_on m s' n c = omega arith in z))))
+      ∙ ap (λ (k : ℕ). store (node_size m n) k (length p.cells) (entries (tile_bytes p) (pins_on m s' n) (order s n))) (let z : sum_by (scratch s) (workers_at m n) - scratch s w ≡ sum_by (scratch s') (workers_at m n) = omega (arith, scratch-before) in z)
+
+  store-elsewhere : (k : Node) → k ≢ n → store_of p m s k ≡ store_of p m s' k
+  store-elsewhere k far =
+      ap (λ (x : ℕ). store (node_size m k) x (length p.cells) (entries (tile_bytes p) (pins_on m s k) (order s k))) (sum-at m k (scratch s) (scratch s') (λ v at. ap (λ (row : WorkerState). row.scratch) (row v at)))
+      ∙ ap (λ (f : Cell → ℕ). store (node_size m k) (sum_by (scratch s') (workers_at m k)) (length p.cells) (entries (tile_bytes p) f (order s k))) (fun_ext {f = pins_on m s k} {g = pins_on m s' k} (λ c. sum-at m k (λ v. times (pins s v) c) (λ v. times (pins s' v) c) (λ v at. ap (λ (x : WorkerState). times x.pins c) (row v at))))
+    where
+      row : (v : Worker) → node_of m v ≡ k → worker_state s v ≡ worker_state s' v
+      row v at = other-row v (λ e. far (sym at ∙ ap (node_of m) e))
+
+  -- ---- all of it, as the code leaves it
+
+  pub end-left : (at : Node) → at ≡ n → (written : List Cell) → written ≡ ws → (found : List WorkerState) → found ≡ workers → (cells' : List CellState) (nodes' : List Store) (workers' : List WorkerState) → cells' ≡ written_each written cells → nodes' ≡ set nodes at.0 (released (row_at found w).pins (row_at found w).scratch (store_at nodes at)) → workers' ≡ let_go workers w → AreLeft r (End t w) p m (state_in (set tasks t.0 (Done w)) cells' nodes' workers') nodes'
+  end-left at bound written are found read cells' nodes' workers' as_cells as_nodes as_workers =
+      rows-left p m s h r same (End t w) can (set tasks t.0 (Done w)) cells' nodes' workers' refl
+      (as_cells ∙ ap (λ (cs : List Cell). written_each cs cells) are ∙ rows-written written_once_more ws cells (written-once p h.proper t program_task w staffed)) as_workers
+      (subst (λ (l : List Store). HasStores p m s' l) (sym (as_nodes ∙ ap (λ (rs : List WorkerState). set nodes at.0 (released (row_at rs w).pins (row_at rs w).scratch (store_at nodes at))) read ∙ ap (λ (j : Node). set nodes j.0 (released (pins s w) (scratch s w) (store_at nodes j))) bound ∙ ap (set nodes n.0) now)) (record {
+        every_node = length-set nodes n.0 (store_of p m s' n) ∙ keeps.stores.every_node;
+        stores = λ k inside. elim (same_node k n) [
+          | inl here ↦ subst (λ (j : Node). get_or (set nodes n.0 (store_of p m s' n)) j.0 (store_of p m s' j) ≡ store_of p m s' j) (sym here) (get_or-set_same nodes n.0 (store_of p m s' n) (store_of p m s' n) (omega (arith, node, keeps.stores.every_node)))
+          | inr far ↦ get_or-set_other nodes n.0 k.0 (store_of p m s' n) (store_of p m s' k) (other_node n k far) ∙ store-at p m s nodes keeps.stores k (store_of p m s' k) inside ∙ store-elsewhere k far
+        ];
+      }))
+    where
+      now : released (pins s w) (scratch s w) (store_at nodes n) ≡ store_of p m s' n
+      now = ap (released (pins s w) (scratch s w)) (store-at p m s nodes keeps.stores n _ node) ∙ released-is

@@ -1,0 +1,7 @@
+use Rattle.std.proofs.Common.{◌≡◌, take}
+use Rattle.sj_node.specs.Entry.{without_all}
+use Rattle.sj_node.specs.Store.{with_entries}
+use Rattle.sj_machine.proofs.running.remove_entries.Given as goal
+
+abbrev pub invariant-loop-cell : goal.invariant-loop-cell
+invariant-loop-cell l = l.node ≡ with_entries l.fn.node (without_all (take l.cell-index l.written) l.fn.node.entries)
