@@ -153,7 +153,7 @@ module _ (p : Program) (m : Machine) (tasks : List Progress) (cells : List CellS
 
   pub end-left : (at : Node) → at ≡ n → (written : List Cell) → written ≡ ws → (found : List WorkerState) → found ≡ workers → (cells' : List CellState) (nodes' : List Store) (workers' : List WorkerState) → cells' ≡ written_each written cells → nodes' ≡ set nodes at.0 (released (row_at found w).pins (row_at found w).scratch (store_at nodes at)) → workers' ≡ let_go workers w → AreLeft r (End t w) p m (state_in (set tasks t.0 (Done w)) cells' nodes' workers') nodes'
   end-left at bound written are found read cells' nodes' workers' as_cells as_nodes as_workers =
-      rows-left p m s h r same (End t w) can (set tasks t.0 (Done w)) cells' nodes' workers' refl
+      rows-left p m s h r same (End t w) can keeps.few (set tasks t.0 (Done w)) cells' nodes' workers' refl
       (as_cells ∙ ap (λ (cs : List Cell). written_each cs cells) are ∙ rows-written written_once_more ws cells (written-once p h.proper t program_task w staffed)) as_workers
       (subst (λ (l : List Store). HasStores p m s' l) (sym (as_nodes ∙ ap (λ (rs : List WorkerState). set nodes at.0 (released (row_at rs w).pins (row_at rs w).scratch (store_at nodes at))) read ∙ ap (λ (j : Node). set nodes j.0 (released (pins s w) (scratch s w) (store_at nodes j))) bound ∙ ap (set nodes n.0) now)) (record {
         every_node = length-set nodes n.0 (store_of p m s' n) ∙ keeps.stores.every_node;

@@ -126,7 +126,7 @@ module _ (p : Program) (m : Machine) (tasks : List Progress) (cells : List CellS
 
   pub run-left : (at : Node) → at ≡ n → (written : List Cell) → written ≡ ws → (cells' : List CellState) (nodes' : List Store) → cells' ≡ owned_each at written cells → length nodes' ≡ length nodes → ((k : ℕ) (d : Store) → k < length nodes → get_or nodes' k d ≡ evicted_at at written k (get_or nodes k d)) → AreLeft r (Run t w) p m (state_in (set tasks t.0 (Running w)) cells' nodes' workers) nodes'
   run-left at bound written are cells' nodes' as_cells every each =
-      rows-left p m s h r same (Run t w) can (set tasks t.0 (Running w)) cells' nodes' workers refl
+      rows-left p m s h r same (Run t w) can keeps.few (set tasks t.0 (Running w)) cells' nodes' workers refl
       (as_cells ∙ ap (λ (j : Node). owned_each j written cells) bound ∙ ap (λ (cs : List Cell). owned_each n cs cells) are ∙ rows-written (owned_at n) ws cells (written-once p h.proper t program_task w staffed)) refl
       (record {
         every_node = every ∙ keeps.stores.every_node;

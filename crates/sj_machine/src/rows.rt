@@ -133,6 +133,7 @@ fn transfer_of(workers: &[Hold], w: Worker) -> Transfer
 
 /// The cells that a worker writes for a task, in operand order. Linear in the operands.
 fn written_by(program: &Program, t: Task, w: Worker) -> FewCells
+    requires task { t.0 < length program.now.tasks }
     requires can { All (CanWorkOn program.now w) (task_of program.now t).accesses }
     requires few { length (task_of program.now t).accesses ≤ 5 }
     ensures { result ≡ written_cells program.now t w }
