@@ -7,7 +7,7 @@ use Rattle.sj_core.proofs.Blocks.{has-disk}
 use Rattle.sj_core.proofs.Claimed.{claimed-staffed}
 use Rattle.sj_core.proofs.Placing.{copy-row}
 use Rattle.sj_core.proofs.Reading.{transfer-inside}
-use Rattle.sj_core.proofs.Replicas.{leaving-valid_mark}
+use Rattle.sj_core.proofs.Replicas.{leaving-by_some, leaving_by-valid}
 use Rattle.sj_core.proofs.Words.{AtNode, Block, Cell, DiskNo, Machine, Node, OnDisk, Place, Program, State, Task, Transfer, Worker, cell_state, is_elsewhere, is_leaving, is_read, is_valid, mark, transfer, writes}
 use Rattle.sj_core.specs.Laws.{IsSound}
 use Rattle.sj_core.specs.Step.{disk_of, source_of}
@@ -67,7 +67,7 @@ module _ {D : Type 0} (size faults mismatches : D → ℕ) (held : D → Option 
 
   -- a cell that leaves is one of the program
   pub leaving-inside : (c : Cell) (n : Node) → is_leaving (mark s c n) ≡ true → c.0 < length p.cells
-  leaving-inside c n leaving = omega (arith, copy-row p m s c (AtNode n) (leaving-valid_mark (mark s c n) leaving), keeps.sound.coherent.state.rows.cells)
+  leaving-inside c n leaving = omega (arith, copy-row p m s c (AtNode n) (let by = leaving-by_some (mark s c n) leaving in leaving_by-valid by.0 (mark s c n) by.1), keeps.sound.coherent.state.rows.cells)
 
   module _ (c : Cell) (inside : c.0 < length p.cells) where
     -- a cell of the program has its disk in the directory

@@ -7,6 +7,7 @@ use Rattle.std.proofs.lemmas.List.{length-map}
 use Rattle.std.proofs.lemmas.Bool.Decides.{Decides-eqb}
 use Rattle.std.proofs.lemmas.Option.{none-some, slice_get-get_or, same_Some}
 use Rattle.std.proofs.lemmas.Slice.Zip.{AllZip-right}
+use Rattle.sj_base.specs.Array.{Array}
 use Rattle.sj_base.specs.declared.ids.DiskNo.{DiskNo}
 use Rattle.sj_edge.specs.Faults.{Rose, counted}
 use Rattle.sj_edge.specs.GivenBack.{AreGivenBack, IsGivenBack}

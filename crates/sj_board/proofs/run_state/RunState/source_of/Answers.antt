@@ -1,19 +1,19 @@
 use Rattle.std.proofs.Common.{◌∙◌, ◌<◌, length, subst, sym, ap, is_some}
 use Rattle.sj_board.specs.Standing.{Standing}
-use Rattle.sj_board.proofs.NextRows.{disk-some, source-disk, source-node}
+use Rattle.sj_board.proofs.Answering.{disk-some, source-disk, source-node}
 use Rattle.sj_board.proofs.run_state.RunState.source_of.Goals as goal
 
 pub unwrap-requires : goal.unwrap-requires
 unwrap-requires g c =
     let inside = subst (λ (b : Standing _). c.args.cell.0 < length b.program.cells) (sym c.self.view_is) c.requires in
-    ap is_some c.disk_of.ensures ∙ disk-some _ _ _ _ _ _ _ c.self.invariant c.args.cell inside
+    ap is_some c.disk_of.ensures ∙ disk-some _ _ _ _ _ _ _ _ c.self.invariant c.args.cell inside
 
 pub returns-in-Some : goal.returns-in-Some
 returns-in-Some g c =
     let inside = subst (λ (b : Standing _). c.args.cell.0 < length b.program.cells) (sym c.self.view_is) c.requires in
-    source-node _ _ _ _ _ _ _ c.self.invariant c.args.cell inside c.index.result.now _ c.index.ensures c.in-Some.n (sym c.first_node.ensures ∙ c.in-Some.is) _ c.self.view_is
+    source-node _ _ _ _ _ _ _ _ c.self.invariant c.args.cell inside c.in-Some.n (sym c.first_node.ensures ∙ c.in-Some.is) _ c.self.view_is
 
 pub returns-in-None : goal.returns-in-None
 returns-in-None g c =
     let inside = subst (λ (b : Standing _). c.args.cell.0 < length b.program.cells) (sym c.self.view_is) c.requires in
-    source-disk _ _ _ _ _ _ _ c.self.invariant c.args.cell inside c.index.result.now _ c.index.ensures (sym c.first_node.ensures ∙ c.in-None.is) c.unwrap.result (sym c.disk_of.ensures ∙ c.unwrap.ensures) _ c.self.view_is
+    source-disk _ _ _ _ _ _ _ _ c.self.invariant c.args.cell inside (sym c.first_node.ensures ∙ c.in-None.is) c.unwrap.result (sym c.disk_of.ensures ∙ c.unwrap.ensures) _ c.self.view_is
