@@ -4,15 +4,16 @@ use Rattle.std.specs.Prelude.{IfSome, IsSomeAnd, MatchBool, option_map, position
 use Rattle.std.proofs.lemmas.Option.{none-some}
 use Rattle.sj_base.specs.Array.{Array}
 use Rattle.sj_core.proofs.Blocks.{has-disk}
-use Rattle.sj_core.proofs.Claimed.{claimed-staffed}
 use Rattle.sj_core.proofs.Placing.{copy-row}
-use Rattle.sj_core.proofs.Reading.{transfer-inside}
-use Rattle.sj_core.proofs.Replicas.{leaving-by_some, leaving_by-valid}
-use Rattle.sj_core.proofs.Words.{AtNode, Block, Cell, DiskNo, Machine, Node, OnDisk, Place, Program, State, Task, Transfer, Worker, cell_state, is_elsewhere, is_leaving, is_read, is_valid, mark, transfer, writes}
+use Rattle.sj_core.proofs.Reading.{entry-inside, transfer-inside}
+use Rattle.sj_core.proofs.Replicas.{coming_by-is, leaving-by_some, leaving_by-valid}
+use Rattle.sj_core.proofs.Words.{AtNode, Block, Cell, DiskNo, Machine, Node, OnDisk, Place, Program, State, Task, Worker, cell_state, is_elsewhere, is_entry, is_leaving, is_read, is_valid, mark, node_of, transfer, writes}
+use Rattle.sj_core.specs.declared.progress.Transfer.{Transfer}
 use Rattle.sj_core.specs.Laws.{IsSound}
 use Rattle.sj_core.specs.Step.{disk_of, source_of}
 use Rattle.sj_disk.specs.declared.directory.Extent.{Extent}
 use Rattle.sj_disk.specs.Directory.{extent_of}
+use Rattle.sj_machine.specs.Choosing.{next_cell}
 use Rattle.sj_machine.specs.Rows.{Rows}
 use Rattle.sj_replica.specs.Replica.{first_node}
 use Rattle.sj_board.specs.NextStep.{Brings, Evicts}
@@ -21,6 +22,7 @@ use Rattle.sj_board.specs.Standing.{Standing, state}
 use Rattle.sj_board.specs.declared.todo.Todo.{Todo}
 use Rattle.sj_board.specs.declared.todo.Todo.TheVariants.{Discard, Transfer as TransferNext, Wait}
 use Rattle.sj_board.proofs.Keeping.{sound_state}
+use Rattle.sj_board.proofs.NextSteps.{cell-comes}
 
 module _ {D : Type 0} (size faults mismatches : D → ℕ) (held : D → Option (List ℕ)) (b : Standing D) (rows : Rows) (tiles : List (List (Option Array))) (spare : ℕ) (keeps : Keeps size faults mismatches held b rows tiles spare) where
   abbrev p : Program
@@ -68,6 +70,13 @@ module _ {D : Type 0} (size faults mismatches : D → ℕ) (held : D → Option 
   -- a cell that leaves is one of the program
   pub leaving-inside : (c : Cell) (n : Node) → is_leaving (mark s c n) ≡ true → c.0 < length p.cells
   leaving-inside c n leaving = omega (arith, copy-row p m s c (AtNode n) (let by = leaving-by_some (mark s c n) leaving in leaving_by-valid by.0 (mark s c n) by.1), keeps.sound.coherent.state.rows.cells)
+
+  -- so is one that is brought
+  pub brought-inside : (b' : Standing D) → b ≡ b' → (t : Task) (w : Worker) (c : Cell) → next_cell rows.program rows.machine rows.state t w ≡ Some c → c.0 < length b'.program.cells
+  brought-inside b' same t w c next =
+      let comes = cell-comes p m s w t c (subst (λ (r : Rows). next_cell r.program r.machine r.state t w ≡ Some c) keeps.rows next) in
+      let there = entry-inside s c (node_of m w) (ap is_entry (coming_by-is w (mark s c (node_of m w)) comes.0)) in
+      subst (λ (z : Standing D). c.0 < length z.program.cells) same (omega (arith, there.0, keeps.sound.coherent.state.rows.cells))
 
   module _ (c : Cell) (inside : c.0 < length p.cells) where
     -- a cell of the program has its disk in the directory

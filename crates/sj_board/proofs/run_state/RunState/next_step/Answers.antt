@@ -1,0 +1,17 @@
+use Rattle.std.proofs.Common.{◌≡◌, ◌∙◌, ◌<◌, true, ap, length, sym}
+use Rattle.sj_base.specs.declared.ids.Node.{Node}
+use Rattle.sj_core.specs.Machine.{is_leaving, mark}
+use Rattle.sj_core.proofs.Replicas.{leaving_by-leaves}
+use Rattle.sj_board.proofs.Answering.{brought-inside, from-rows}
+use Rattle.sj_board.proofs.NextSteps.{victim-leaves}
+use Rattle.sj_board.proofs.run_state.RunState.next_step.Goals as goal
+
+pub eviction_of-requires : goal.eviction_of-requires
+eviction_of-requires g c =
+    let rows = c.self.inside.rows in
+    let leaving = victim-leaves rows.program rows.machine rows.state c.args.w c.in-Some.cell (sym c.next_victim.ensures ∙ c.in-Some.is) in
+    from-rows _ _ _ _ _ _ _ _ c.self.invariant _ c.self.view_is (λ p m s. is_leaving (mark s c.in-Some.cell c.node_of-n.result) ≡ true)
+    (ap (λ (k : Node). is_leaving (mark rows.state c.in-Some.cell k)) c.node_of-n.ensures ∙ leaving_by-leaves c.args.w _ leaving)
+
+pub arrival_of-requires : goal.arrival_of-requires
+arrival_of-requires g c = brought-inside _ _ _ _ _ _ _ _ c.self.invariant _ c.self.view_is c.args.t c.args.w c.in-Some-next_cell.cell (sym c.next_cell.ensures ∙ c.in-Some-next_cell.is)
