@@ -1,4 +1,5 @@
 pub mod Asking
+pub mod ClaimChoice
 pub mod ClaimEntries
 pub mod ClaimFinding
 pub mod ClaimPlanning
@@ -16,6 +17,7 @@ pub mod Moving
 pub mod NodeSums
 pub mod Owning
 pub mod Refusing
+pub mod Results
 pub mod Taking
 pub mod Unpinning
 pub mod Written
