@@ -1,8 +1,7 @@
 -- Entries of a node that are taken away.
-use Rattle.std.proofs.Common.{◌≡◌, ◌<◌, ℕ, Bool, true, false, List, [], ◌∷◌, ◌∙◌, ap, arith, Some, inl, inr, cond, find, get_or, length, not, refl, take}
+use Rattle.std.proofs.Common.{◌≡◌, ◌<◌, ℕ, false, true, List, [], ◌∷◌, arith, get_or, length, not, refl, take}
 use Rattle.std.specs.Prelude.{All}
-use Rattle.std.specs.Option.{option_map_or}
-use Rattle.std.proofs.lemmas.Bool.{cases_Bool, or_from, or_parts}
+use Rattle.std.proofs.lemmas.Bool.{cases_Bool, or_parts}
 use Rattle.std.proofs.lemmas.List.Elements.{All-filter, All-tail}
 use Rattle.std.proofs.lemmas.List.Folds.{list_any_at}
 use Rattle.sj_base.specs.declared.ids.Cell.{Cell}
@@ -12,18 +11,12 @@ use Rattle.sj_machine.specs.Running.{AreUnpinned}
 -- where the cell has no entry
 pub without_entry-absent : (c : Cell) (es : List NodeEntry) → has_entry es c ≡ false → without_entry c es ≡ es
 without_entry-absent c [] h = refl
-without_entry-absent c (e ∷ es) h =
-    let parts = or_parts (is_of_cell c e) (has_entry es c) h in
-    ap (λ b. cond (not b) (e ∷ without_entry c es) (without_entry c es)) parts.0 ∙ ap (λ (xs : List NodeEntry). e ∷ xs) (without_entry-absent c es parts.1)
+without_entry-absent c (e ∷ es) h = search (arith, or_parts, without_entry-absent c es)
 
 -- a cell none of whose entries is pinned
-pub unpinned-pins : (c : Cell) (es : List NodeEntry) → All (λ e. is_of_cell c e ≡ true → e.pins ≡ 0) es → pins_of es c ≡ 0
+unpinned-pins : (c : Cell) (es : List NodeEntry) → All (λ e. is_of_cell c e ≡ true → e.pins ≡ 0) es → pins_of es c ≡ 0
 unpinned-pins c [] h = refl
-unpinned-pins c (e ∷ es) h =
-    elim (cases_Bool (is_of_cell c e)) [
-      | inl is ↦ ap (λ b. option_map_or (λ (x : NodeEntry). x.pins) (cond b (Some e) (find (is_of_cell c) es)) 0) is ∙ h 0 e (omega arith) is
-      | inr other ↦ ap (λ b. option_map_or (λ (x : NodeEntry). x.pins) (cond b (Some e) (find (is_of_cell c) es)) 0) other ∙ unpinned-pins c es (All-tail (λ (x : NodeEntry). is_of_cell c x ≡ true → x.pins ≡ 0) e es h)
-    ]
+unpinned-pins c (e ∷ es) h = (let here = h 0 e (omega arith) in search (arith, cases_Bool, unpinned-pins c es (All-tail (λ (x : NodeEntry). is_of_cell c x ≡ true → x.pins ≡ 0) e es h)))
 
 -- a cell among those whose entries are unpinned, with some of these entries gone
 pub unpinned-rest : (cells : List Cell) (es : List NodeEntry) (i : ℕ) (d : Cell) → i < length cells → AreUnpinned cells es → pins_of (without_all (take i cells) es) (get_or cells i d) ≡ 0
@@ -34,10 +27,4 @@ unpinned-rest cells es i d inside h =
 -- a cell without an entry, with some entries gone
 pub absent-rest : (cells : List Cell) (es : List NodeEntry) (c : Cell) → has_entry es c ≡ false → has_entry (without_all cells es) c ≡ false
 absent-rest cells [] c h = refl
-absent-rest cells (e ∷ es) c h =
-    let parts = or_parts (is_of_cell c e) (has_entry es c) h in
-    by_cases (not (is_of_cells cells e)) (absent-rest cells es c parts.1)
-  where
-    by_cases : (b : Bool) → has_entry (without_all cells es) c ≡ false → has_entry (cond b (e ∷ without_all cells es) (without_all cells es)) c ≡ false
-    by_cases true rest = or_from (is_of_cell c e) (has_entry (without_all cells es) c) (or_parts (is_of_cell c e) (has_entry es c) h).0 rest
-    by_cases false rest = rest
+absent-rest cells (e ∷ es) c h = search (arith, or_parts, cases_Bool, absent-rest cells es c)
