@@ -10,15 +10,14 @@ use Rattle.sj_base.specs.declared.trace.Event.TheVariants.{Claim, Drop, End, Mov
 use Rattle.sj_base.proofs.Bools.{and_rest}
 use Rattle.sj_core.proofs.Claiming.{Claims-other_worker, claim-leaving}
 use Rattle.sj_core.proofs.Ending.{end-change}
-use Rattle.sj_core.proofs.Placing.{replica-cases, victims-same}
+use Rattle.sj_core.proofs.Placing.{mark-cases, row-cases, victims-same}
 use Rattle.sj_core.proofs.Reading.{workers_differ}
 use Rattle.sj_core.proofs.Running.{run-leaving, run-worker}
 use Rattle.sj_core.proofs.States.{one-mover, state_of-more}
-use Rattle.sj_core.proofs.Words.{AtNode, Cell, Machine, Node, OnDisk, Program, State, Task, Worker, WorkerState, is_gone, is_leaving_by, node_of, replica, transfer, victims_of, with_replica}
+use Rattle.sj_core.proofs.Words.{AtNode, Cell, CellState, Invalid, Machine, Mark, Node, OnDisk, Place, Program, State, Task, Valid, Worker, WorkerState, arrived, cell_state, is_gone, is_leaving_by, mark, mark_in, node_of, stored, transfer, victims_of, with_mark, with_row}
 use Rattle.sj_core.specs.Laws.{IsSound}
 use Rattle.sj_core.specs.Step.{May, a_transfer, after}
 use Rattle.sj_core.specs.declared.progress.Transfer.{Transfer}
-use Rattle.sj_replica.specs.declared.mark.Mark.TheVariants.{Invalid, Valid}
 use Rattle.sj_disk.specs.Directory.{DiskState}
 use Rattle.sj_machine.specs.Gone.{AreGone}
 use Rattle.sj_board.specs.Sound.{IsSoundRun}
@@ -36,12 +35,12 @@ list_all-weaker f g more (x ∷ xs) h = ap (λ b. b && list_all g xs) (more x (a
 -- the worker's victims are the same, and none leaves by its claim that didn't
 pub record Stays (v : Worker) (s s' : State) : Type 0 where
   pub victims : victims_of s' v ≡ victims_of s v
-  pub leaves : (c : Cell) (n : Node) → is_leaving_by v (replica s' c (AtNode n)) ≡ true → is_leaving_by v (replica s c (AtNode n)) ≡ true
+  pub leaves : (c : Cell) (n : Node) → is_leaving_by v (mark s' c n) ≡ true → is_leaving_by v (mark s c n) ≡ true
 
 gone-stays : (m : Machine) (v : Worker) (s s' : State) → Stays v s s' → (count : ℕ) → AreGone m s v count → AreGone m s' v count
 gone-stays m v s s' stays count gone =
     ap (λ (cs : List Cell). list_all (is_gone m s' v) (take count (reverse cs))) stays.victims
-    ∙ list_all-weaker (is_gone m s v) (is_gone m s' v) (λ c was. ap not (false_from_ne_true (is_leaving_by v (replica s' c (AtNode (node_of m v)))) (λ leaving. false≢true (sym (not-true (is_leaving_by v (replica s c (AtNode (node_of m v)))) was) ∙ stays.leaves c (node_of m v) leaving)))) (take count (reverse (victims_of s v))) gone
+    ∙ list_all-weaker (is_gone m s v) (is_gone m s' v) (λ c was. ap not (false_from_ne_true (is_leaving_by v (mark s' c (node_of m v))) (λ leaving. false≢true (sym (not-true (is_leaving_by v (mark s c (node_of m v))) was) ∙ stays.leaves c (node_of m v) leaving)))) (take count (reverse (victims_of s v))) gone
 
 -- the event isn't a claim of the worker
 abbrev pub NotClaimedBy : Event → Worker → Type 0
@@ -49,47 +48,51 @@ NotClaimedBy (Claim t w) v = v ≢ w
 NotClaimedBy _ v = Unit {0}
 
 module _ (p : Program) (m : Machine) (s : State) (h : IsSound p m s) (v : Worker) where
+  -- a mark is written by which nothing leaves
+  unmarked : (x : Cell) (k : Node) (r : Mark) → is_leaving_by v r ≡ false → (c : Cell) (n : Node) → is_leaving_by v (mark (with_row s x (with_mark (cell_state s x) k r)) c n) ≡ true → is_leaving_by v (mark s c n) ≡ true
+  unmarked x k r none c n now = elim (mark-cases s x k r c n) [
+    | inl same ↦ sym (ap (is_leaving_by v) same) ∙ now
+    | inr (e, at, is) ↦ absurd (false≢true (sym none ∙ sym (ap (is_leaving_by v) is) ∙ now))
+  ]
+
   Step-stays : (e : Event) (s' : State) → May p m s e → s' ≡ after p m s e → NotClaimedBy e v → Stays v s s'
   Step-stays (Claim t w) s' step leaves other = record {
     victims = ap (λ (row : WorkerState). row.victims) (Claims-other_worker p m s t w v s' step (leaves ∙ (evicted-after p m s t w)) other);
-    leaves = λ c n leaving. elim (claim-leaving p m s h t w s' step (leaves ∙ (evicted-after p m s t w)) v c (AtNode n) leaving) [ inl (at, same, evicted) ↦ absurd (other same) | inr (away, was) ↦ was ];
+    leaves = λ c n leaving. elim (claim-leaving p m s h t w s' step (leaves ∙ (evicted-after p m s t w)) v c n leaving) [ inl (at, same, evicted) ↦ absurd (other same) | inr (away, was) ↦ was ];
   }
   Step-stays (Move x from (AtNode k)) s' step leaves other = record {
     victims = ap (λ (z : State). victims_of z v) leaves ∙ victims-same s _ _ v;
-    leaves = λ c n leaving. sym (ap (λ (z : State). is_leaving_by v (replica z c (AtNode n))) leaves) ∙ leaving;
+    leaves = λ c n leaving. sym (ap (λ (z : State). is_leaving_by v (mark z c n)) leaves) ∙ leaving;
   }
   Step-stays (Move x from (OnDisk d)) s' step leaves other = record {
     victims = ap (λ (z : State). victims_of z v) leaves ∙ victims-same s _ _ v;
-    leaves = λ c n leaving. sym (ap (λ (z : State). is_leaving_by v (replica z c (AtNode n))) leaves) ∙ leaving;
+    leaves = λ c n leaving. sym (ap (λ (z : State). is_leaving_by v (mark z c n)) leaves) ∙ leaving;
   }
   Step-stays (Moved x from to) s' step leaves other =
       record {
-        victims = ap (λ (z : State). victims_of z v) leaves ∙ victims-same (with_replica s x to Valid) _ _ v;
-        leaves = λ c n leaving.
-            let now : is_leaving_by v (replica (with_replica s x to Valid) c (AtNode n)) ≡ true = sym (ap (λ (z : State). is_leaving_by v (replica z c (AtNode n))) leaves) ∙ leaving in
-            elim (replica-cases s x to Valid c (AtNode n)) [
-              | inl same ↦ sym (ap (is_leaving_by v) same) ∙ now
-              | inr (e, at, is) ↦ absurd (false≢true (sym (ap (is_leaving_by v) is) ∙ now))
-            ];
+        victims = ap (λ (z : State). victims_of z v) leaves ∙ victims-same (with_row s x (arrived to (cell_state s x))) _ _ v;
+        leaves = λ c n leaving. by_target to c n (sym (ap (λ (z : State). is_leaving_by v (mark z c n)) leaves) ∙ leaving);
       }
+    where
+      by_target : (q : Place) (c : Cell) (n : Node) → is_leaving_by v (mark (with_row s x (arrived q (cell_state s x))) c n) ≡ true → is_leaving_by v (mark s c n) ≡ true
+      by_target (AtNode k) c n now = unmarked x k Valid refl c n now
+      by_target (OnDisk d) c n now = elim (row-cases s x (stored (cell_state s x)) c) [
+        | inl same ↦ sym (ap (λ (row : CellState). is_leaving_by v (mark_in row n)) same) ∙ now
+        | inr (e, is) ↦ ap (λ (y : Cell). is_leaving_by v (mark s y n)) e ∙ sym (ap (λ (row : CellState). is_leaving_by v (mark_in row n)) is) ∙ now
+      ]
   Step-stays (Drop x k) s' step leaves other = record {
     victims = ap (λ (z : State). victims_of z v) leaves;
-    leaves = λ c n leaving.
-        let now : is_leaving_by v (replica (with_replica s x (AtNode k) Invalid) c (AtNode n)) ≡ true = sym (ap (λ (z : State). is_leaving_by v (replica z c (AtNode n))) leaves) ∙ leaving in
-        elim (replica-cases s x (AtNode k) Invalid c (AtNode n)) [
-          | inl same ↦ sym (ap (is_leaving_by v) same) ∙ now
-          | inr (e, at, is) ↦ absurd (false≢true (sym (ap (is_leaving_by v) is) ∙ now))
-        ];
+    leaves = λ c n leaving. unmarked x k Invalid refl c n (sym (ap (λ (z : State). is_leaving_by v (mark z c n)) leaves) ∙ leaving);
   }
   Step-stays (Run t w) s' step leaves other = record {
     victims = ap (λ (row : WorkerState). row.victims) (run-worker p m s t w s' step leaves v);
-    leaves = λ c n leaving. run-leaving p m s t w s' step leaves v c (AtNode n) leaving;
+    leaves = λ c n leaving. run-leaving p m s t w s' step leaves v c n leaving;
   }
   Step-stays (End t w) s' step leaves other =
       let change = end-change p m s h t w s' step leaves in
       record {
         victims = change.victims v;
-        leaves = λ c n leaving. change.leaves v c (AtNode n) leaving;
+        leaves = λ c n leaving. change.leaves v c n leaving;
       }
 
 -- ---- a board's count of them

@@ -3,13 +3,14 @@ use Rattle.std.proofs.Common.{◌≡◌, ◌&&◌, ◌⊎◌, ◌∙◌, Bool, t
 use Rattle.std.specs.Prelude.{IfSome, IsSomeAnd, MatchBool, MatchOption, if◌then◌else◌}
 use Rattle.std.proofs.lemmas.Bool.{false≢true}
 use Rattle.sj_core.proofs.Words.{AtNode, Cell, DiskNo, Machine, OnDisk, Place, Program, State, Task, Worker, node_of, writes}
-use Rattle.sj_core.specs.Step.{disk_of, is_read, is_valid_elsewhere, source_of}
+use Rattle.sj_core.specs.Step.{disk_of, is_elsewhere, is_read, source_of}
 use Rattle.sj_disk.specs.declared.directory.Extent.{Extent}
 use Rattle.sj_disk.specs.Directory.{extent_of}
 use Rattle.sj_disk.specs.Lending.{IsInFor}
 use Rattle.sj_disk.specs.Rack.{is_out}
 use Rattle.sj_board.specs.Standing.{is_node, state}
-use Rattle.sj_board.specs.NextStep.{AnotherGoesOn, Brings, Evicts, IsNext, IsStepFor, is_out_for, may_run, needs_disk_out, next_cell, next_victim}
+use Rattle.sj_board.specs.NextStep.{AnotherGoesOn, Brings, Evicts, IsNext, IsStepFor, is_out_for, needs_disk_out}
+use Rattle.sj_machine.specs.Choosing.{may_run, next_cell, next_victim}
 use Rattle.sj_board.specs.DiskUnits.{lent}
 use Rattle.sj_board.specs.declared.todo.Todo.{Todo}
 use Rattle.sj_board.specs.declared.todo.Todo.TheVariants.{Discard, Nothing, Start, Transfer as TransferNext, Wait}
@@ -30,8 +31,8 @@ next-case P waits starts discards p m s t w transfers todo next = by_victim (nex
     by_reader c true is = subst P (sym is) waits
     by_reader c false is = subst P (sym is) (discards c)
 
-    by_copies : (c : Cell) (b : Bool) → MatchBool b (todo ≡ (if is_read m s c (AtNode (node_of m w)) then Wait else Discard c)) (IsSomeAnd (disk_of p m c) (λ d. todo ≡ TransferNext c (AtNode (node_of m w)) (OnDisk d) (writes s c))) → P todo
-    by_copies c true is = by_reader c (is_read m s c (AtNode (node_of m w))) is
+    by_copies : (c : Cell) (b : Bool) → MatchBool b (todo ≡ (if is_read s c (AtNode (node_of m w)) then Wait else Discard c)) (IsSomeAnd (disk_of p m c) (λ d. todo ≡ TransferNext c (AtNode (node_of m w)) (OnDisk d) (writes s c))) → P todo
+    by_copies c true is = by_reader c (is_read s c (AtNode (node_of m w))) is
     by_copies c false is = by_disk c (disk_of p m c) is
 
     by_source : (c : Cell) (o : Option Place) → IsSomeAnd o (λ from. todo ≡ TransferNext c from (AtNode (node_of m w)) (writes s c)) → P todo
@@ -48,7 +49,7 @@ next-case P waits starts discards p m s t w transfers todo next = by_victim (nex
 
     by_victim : (o : Option Cell) → MatchOption o (MatchOption (next_cell p m s t w) (todo ≡ (if may_run p m s t w then Start else Wait)) (λ c. Brings p m s c (node_of m w) todo)) (λ c. Evicts p m s c (node_of m w) todo) → P todo
     by_victim None is = by_cell (next_cell p m s t w) is
-    by_victim (Some c) is = by_copies c (is_valid_elsewhere m s c (AtNode (node_of m w))) is
+    by_victim (Some c) is = by_copies c (is_elsewhere s c (node_of m w)) is
 
 -- for a claimed task there is a step
 not-nothing : (p : Program) (m : Machine) (s : State) (t : Task) (w : Worker) (todo : Todo) → IsNext p m s t w todo → todo ≡ Nothing → ⊥
