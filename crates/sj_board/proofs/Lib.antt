@@ -24,7 +24,6 @@ pub mod PoolFilling
 pub mod Pooling
 pub mod Prepared
 pub mod ReleasedTasks
-pub mod Results
 pub mod Sparing
 pub mod SparingBoards
 pub mod Starting

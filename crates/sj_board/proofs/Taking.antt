@@ -22,7 +22,7 @@ use Rattle.sj_board.specs.Sound.{IsSoundRun}
 use Rattle.sj_board.specs.Standing.{CanHappen, Standing, state, with_event}
 use Rattle.sj_board.proofs.Stepping.{counts-still, not-complete, taken-before, taken-still}
 use Rattle.sj_machine.specs.declared.plan.Why.{Why}
-use Rattle.sj_machine.proofs.Refusing.{refusal-waits}
+use Rattle.sj_machine.proofs.Refusing.{found-waits}
 use Rattle.sj_board.specs.Board.{BoardState, IsWorking, hand_in, hand_of, has_claimed}
 use Rattle.sj_board.specs.BoardSound.{HandsAgree, KeepsBoard, StandsOnce, StandsReleased, StopsAtTheEnd, times_given, times_pooled}
 use Rattle.sj_board.specs.Claimable.{MayAsk}
@@ -192,7 +192,7 @@ module _ {D : Type 0} (size faults mismatches : D → ℕ) (held : D → Option 
   -- with one worker there is no other
   pub lone-refusal : run.program.workers ≡ 1 → (why : Why) → IsWhy run.program run.machine (state run) t w why → NotNow why ≡ OutOfMemory
   lone-refusal one why is =
-      let another = refusal-waits size faults mismatches held run sound t w may why is in
+      let another : AnotherHasTask (state run) w = found-waits run.program run.machine (state run) (record { proper = sound.run.proper; machine = sound.run.machine; coherent = sound.coherent }) t w may (Err why) is in
       let staffed = worker-inside run.program run.machine sound.run.proper.cells (Proper-dependencies run.program sound.run.proper) (state run) sound.coherent.state sound.coherent.workers sound.coherent.order another.task another.worker another.has in
       let same : another.worker.0 ≡ w.0 = omega (arith, staffed, may.worker, one) in
       absurd (another.other (ap (λ (i : ℕ). let x : Worker = record { 0 = i } in x) same))

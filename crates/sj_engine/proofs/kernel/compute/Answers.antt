@@ -1,4 +1,4 @@
-use Rattle.sj_board.proofs.Results.{if-ok}
+use Rattle.sj_machine.proofs.Results.{if-ok}
 use Rattle.sj_engine.proofs.KernelFacts.{compute-count, compute-dims, compute-fits, compute-length, compute-ready, compute-results, taken-shared}
 use Rattle.sj_engine.proofs.kernel.compute.Goals as goal
 

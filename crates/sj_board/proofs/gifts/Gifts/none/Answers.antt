@@ -1,6 +1,6 @@
 use Rattle.std.proofs.Common.{◌∙◌, ap}
 use Rattle.sj_board.specs.Tiles.{arrays_in}
-use Rattle.sj_board.proofs.Tiles.{arrays-none}
+use Rattle.sj_board.proofs.LoanedTiles.{arrays-none}
 use Rattle.sj_board.proofs.gifts.Gifts.none.Goals as goal
 
 pub returns : goal.returns

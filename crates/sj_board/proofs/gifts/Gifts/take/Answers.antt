@@ -1,7 +1,7 @@
 use Rattle.std.proofs.Common.{◌∙◌, None, ap, List, Option, set}
 use Rattle.sj_base.specs.Array.{Array}
 use Rattle.sj_board.specs.Tiles.{arrays_in}
-use Rattle.sj_board.proofs.Tiles.{arrays-set}
+use Rattle.sj_board.proofs.LoanedTiles.{arrays-set}
 use Rattle.sj_board.proofs.gifts.Gifts.take.Goals as goal
 
 pub returns-clause-rest : goal.returns-clause-rest
