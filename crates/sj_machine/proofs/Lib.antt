@@ -3,6 +3,7 @@ pub mod ClaimChoice
 pub mod ClaimEntries
 pub mod ClaimFinding
 pub mod ClaimPlanning
+pub mod ClaimRows
 pub mod ClaimStores
 pub mod Commuting
 pub mod Entries
