@@ -42,7 +42,7 @@ module _ (p : Program) (m : Machine) (s : State) (nodes : List Store) (had : Has
   store-at n d inside = get-any nodes n.0 d (store_of p m s n) (omega (arith, inside, had.every_node)) ∙ had.stores n inside
 
   -- the cells of the entries are the state's orders
-  orders-in : length s.orders ≡ length m.nodes → map order_in nodes ≡ s.orders
+  pub orders-in : length s.orders ≡ length m.nodes → map order_in nodes ≡ s.orders
   orders-in every =
       ext_get_or [] (map order_in nodes) s.orders (omega (arith, length-map nodes order_in, had.every_node, every)) (λ i inside. (
       let n : Node = record { 0 = i } in

@@ -13,6 +13,7 @@ pub mod GoneVictims
 pub mod Happening
 pub mod KnownVictims
 pub mod Loops
+pub mod Making
 pub mod Marked
 pub mod Moving
 pub mod NodeSums
