@@ -14,6 +14,7 @@ pub mod Hands
 pub mod Keeping
 pub mod KeptGifts
 pub mod LastHeaders
+pub mod LoanedTiles
 pub mod NextBoards
 pub mod NextSteps
 pub mod Opened
@@ -23,7 +24,10 @@ pub mod Policies
 pub mod PoolFilling
 pub mod Pooling
 pub mod Prepared
+pub mod PuttingBack
 pub mod ReleasedTasks
+pub mod Results
+pub mod SharesInOrder
 pub mod Sparing
 pub mod SparingBoards
 pub mod Starting
@@ -33,6 +37,7 @@ pub mod Storing
 pub mod Taking
 pub mod TakingAway
 pub mod TaskEnding
+pub mod TileTables
 pub mod UnitBoards
 pub mod UnitHands
 pub mod UnitPuts

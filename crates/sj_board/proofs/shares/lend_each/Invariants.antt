@@ -1,0 +1,9 @@
+use Rattle.std.proofs.Common.{◌≡◌, length, take}
+use Rattle.sj_board.specs.Tiles.{out_each}
+use Rattle.sj_board.proofs.shares.lend_each.Given as goal
+
+abbrev pub invariant-loop-cell : goal.invariant-loop-cell
+invariant-loop-cell l = record {
+  rows : l.tiles.items ≡ out_each (take l.cell-index l.written) l.fn.tiles.items;
+  every : length l.tiles.items ≡ length l.fn.tiles.items;
+}

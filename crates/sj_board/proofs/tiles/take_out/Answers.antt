@@ -1,0 +1,9 @@
+use Rattle.std.proofs.Common.{◌∙◌, Option, List, None, ap, set}
+use Rattle.std.specs.declared.sync.Arc.{Arc}
+use Rattle.sj_base.specs.Array.{Array}
+use Rattle.sj_board.specs.Tiles.{array_in, arrays_in}
+use Rattle.sj_board.proofs.LoanedTiles.{arrays-set}
+use Rattle.sj_board.proofs.tiles.take_out.Goals as goal
+
+pub returns : goal.returns
+returns c = arrays-set c.args.places.now c.args.k c.replace.new.dest ∙ ap (λ (t : Option Array). set (arrays_in c.args.places.now) c.args.k t) (ap array_in c.replace.ensures.after)
