@@ -32,6 +32,6 @@ pub record CountsDone (p : Program) (s : State) (deps : Dependencies) : Type 0 w
 
 -- the disks of blocks are kept, each worker's task, and the tasks that are done
 pub record Watches (r : Rows) (homes : List DiskNo) (tasks : List (Option Task)) (deps : Dependencies) : Type 0 where
-  pub homes : AreHomes r.program r.machine homes
-  pub tasks : HasTasks r.program r.state tasks
+  pub places : AreHomes r.program r.machine homes
+  pub claims : HasTasks r.program r.state tasks
   pub counts : CountsDone r.program r.state deps

@@ -5,9 +5,10 @@ ghost use Rattle.sj_base.specs.declared.ids.Place.TheVariants.{Disk as OnDisk, N
 ghost use Rattle.sj_base.specs.declared.trace.Event.TheVariants.{Drop, End, Move, Moved, Run};
 ghost use Rattle.sj_core.specs.Legal.{IsComplete};
 ghost use Rattle.sj_core.specs.Machine.{is_done, is_idle, is_task_of, is_waiting, mark, progress, transfer};
-ghost use Rattle.sj_core.specs.Step.{claimant_of, mover_of, source_of};
+ghost use Rattle.sj_core.specs.Step.{mover_of, source_of};
 ghost use Rattle.sj_machine.specs.Planning.{MayClaim};
 ghost use Rattle.sj_machine.specs.Rows.{CanHappen};
+ghost use Rattle.sj_replica.specs.Mark.{claimant_of};
 ghost use Rattle.sj_replica.specs.declared.mark.Mark.TheVariants.{Coming};
 ghost use Rattle.sj_check.specs.Watching.{AreHomes, CountsDone, HasTasks, task_in};
 
