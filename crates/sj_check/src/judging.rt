@@ -177,7 +177,13 @@ fn may_bring(
     if transfer_of(rows, w).is_some() || rows.is_fresh(t, w, cell) {
         return false;
     }
-    rows.has_room(w) && source_of(rows, homes, cell) == Some(from)
+    if !rows.has_room(w) {
+        return false;
+    }
+    match source_of(rows, homes, cell) {
+        Some(source) => source == from,
+        None => false,
+    }
 }
 
 /// Whether the beginning of a move into a node is legal. Linear in the victims, the nodes and the operands.

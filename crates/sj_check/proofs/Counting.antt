@@ -1,0 +1,75 @@
+-- The dependencies count the tasks that are done: which tasks are ready, and what is counted as one task goes on.
+use Rattle.std.proofs.Common.{◌↔◌, ◌++◌, ◌∷◌, ◌≡◌, ◌∙◌, Contains, [], ap, arith, false, inl, inr, length, subst, sym, true, ℕ, ◌<◌}
+use Rattle.std.proofs.lemmas.Bool.{false≢true}
+use Rattle.std.proofs.lemmas.List.Elements.{Contains-append_left, Contains-append_right, Contains-push_cases}
+use Rattle.sj_core.proofs.Advancing.{Advances, same_task}
+use Rattle.sj_core.proofs.Readiness.{done_tasks-done, done_tasks-has}
+use Rattle.sj_core.proofs.Reading.{progress-inside}
+use Rattle.sj_core.proofs.Words.{Machine, Program, State, Task, Worker, done_in, is_done, progress}
+use Rattle.sj_core.specs.declared.progress.Progress.{Progress}
+use Rattle.sj_core.specs.declared.progress.Progress.TheVariants.{Running, Waiting}
+use Rattle.sj_core.specs.Coherent.{Coherent, is_begun}
+use Rattle.sj_core.specs.Step.{done_tasks}
+use Rattle.sj_deps.specs.Conflict.{Ready}
+use Rattle.sj_deps.specs.Progress.{Dependencies, after_done}
+use Rattle.sj_check.specs.Watching.{CountsDone}
+
+ready-same : (p : Program) (done done' : _) (t : ℕ) → ((n : ℕ) → Contains done n ↔ Contains done' n) → Ready p done t → Ready p done' t
+ready-same p done done' t same ready = record {
+  task = ready.task;
+  waiting = λ c. ready.waiting ((same t).1 c);
+  earlier = λ u before conflict. (same u).0 (ready.earlier u before conflict);
+}
+
+module _ (p : Program) (s : State) (deps : Dependencies) (counts : CountsDone p s deps) where
+  -- the tasks that are done, by the state and by the dependencies
+  counted : (n : ℕ) → Contains deps.done n ↔ Contains (done_tasks s) n
+  counted n = (
+    λ c. done_tasks-has s (record { 0 = n }) ((counts.done (record { 0 = n })).0 c),
+    λ c. (counts.done (record { 0 = n })).1 (done_tasks-done s (record { 0 = n }) c),
+  )
+
+  -- and so those that are ready
+  pub ready-counted : (t : Task) → Ready deps.program deps.done t.0 ↔ Ready p (done_tasks s) t.0
+  ready-counted t = (
+    λ r. ready-same p deps.done (done_tasks s) t.0 counted (subst (λ (q : Program). Ready q deps.done t.0) counts.program r),
+    λ r. subst (λ (q : Program). Ready q deps.done t.0) (sym counts.program) (ready-same p (done_tasks s) deps.done t.0 (λ n. ((counted n).1, (counted n).0)) r),
+  )
+
+  -- a running task counts as ready, since it isn't done
+  pub running-ready : (m : Machine) → Coherent p m s → (t : Task) (w : Worker) → progress s t ≡ Running w → Ready deps.program deps.done t.0
+  running-ready m coherent t w running = (ready-counted t).1 (record {
+    task = subst (λ (n : ℕ). t.0 < n) coherent.state.rows.tasks (progress-inside s t (λ e. absurd (let no : Running w ≡ Waiting = sym running ∙ e in cc)));
+    waiting = λ c. false≢true (sym (ap is_done running) ∙ done_tasks-done s t c);
+    earlier = λ u before conflict. done_tasks-has s (record { 0 = u }) (coherent.order.earlier t (ap is_begun running) (record { 0 = u }) before conflict);
+  })
+
+  module _ (s' : State) (t : Task) (old new : Progress) (step : Advances s s' t old new) where
+    -- a task goes on that isn't done before or after
+    pub counts-still : is_done old ≡ false → is_done new ≡ false → CountsDone p s' deps
+    counts-still undone still = record { program = counts.program; done = λ u. (λ c. alike u ∙ (counts.done u).0 c, λ h. (counts.done u).1 (sym (alike u) ∙ h)) }
+      where
+        alike : (u : Task) → done_in s' u ≡ done_in s u
+        alike u = elim (same_task u t) as (λ _. done_in s' u ≡ done_in s u) [
+          | inl e ↦ ap (done_in s') e ∙ ap is_done step.is ∙ still ∙ sym undone ∙ sym (ap is_done step.was) ∙ sym (ap (done_in s) e)
+          | inr d ↦ ap is_done (step.others u d)
+        ]
+
+    -- a task is done
+    pub counts-ended : is_done new ≡ true → CountsDone p s' (after_done deps t.0)
+    counts-ended done = record { program = counts.program; done = λ u. (there u, back u) }
+      where
+        there : (u : Task) → Contains (deps.done ++ t.0 ∷ []) u.0 → done_in s' u ≡ true
+        there u c = elim (same_task u t) as (λ _. done_in s' u ≡ true) [
+          | inl e ↦ ap (done_in s') e ∙ ap is_done step.is ∙ done
+          | inr d ↦ elim (Contains-push_cases deps.done t.0 u.0 c) as (λ _. done_in s' u ≡ true) [
+            | inl before ↦ ap is_done (step.others u d) ∙ (counts.done u).0 before
+            | inr last ↦ absurd (d (ap (λ (k : ℕ). let x : Task = record { 0 = k } in x) (sym last)))
+          ]
+        ]
+
+        back : (u : Task) → done_in s' u ≡ true → Contains (deps.done ++ t.0 ∷ []) u.0
+        back u h = elim (same_task u t) as (λ _. Contains (deps.done ++ t.0 ∷ []) u.0) [
+          | inl e ↦ Contains-append_right deps.done (t.0 ∷ []) u.0 (0, omega arith, ap (λ (k : Task). k.0) (sym e))
+          | inr d ↦ Contains-append_left deps.done (t.0 ∷ []) u.0 ((counts.done u).1 (ap is_done (sym (step.others u d)) ∙ h))
+        ]

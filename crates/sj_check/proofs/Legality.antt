@@ -1,0 +1,51 @@
+-- When events are legal in a coherent state, by what is asked of the rows.
+use Rattle.std.proofs.Common.{◌≡◌, ◌≤◌, ◌&&◌, ◌∙◌, Bool, true, false, not, List, [], ◌∷◌, None, Option, Some, ap, cond, inl, inr, is_some, refl, sym, ℕ}
+use Rattle.std.specs.List.{find, list_all}
+use Rattle.std.proofs.lemmas.Bool.{false≢true}
+use Rattle.std.proofs.lemmas.Option.{none-some}
+use Rattle.sj_base.specs.declared.ids.Cell.{Cell}
+use Rattle.sj_base.specs.declared.ids.Node.{Node}
+use Rattle.sj_base.specs.declared.ids.Task.{Task}
+use Rattle.sj_base.specs.declared.ids.Worker.{Worker}
+use Rattle.sj_base.specs.declared.program.Machine.{Machine}
+use Rattle.sj_base.specs.declared.program.Program.{Program}
+use Rattle.sj_base.specs.declared.trace.Event.TheVariants.{Claim}
+use Rattle.sj_core.proofs.Advancing.{claimed-is_mine}
+use Rattle.sj_core.proofs.Reading.{settled-at}
+use Rattle.sj_core.proofs.Replicas.{same_worker-refl}
+use Rattle.sj_core.specs.Coherent.{Coherent}
+use Rattle.sj_core.specs.Machine.{State, is_coming_by, is_task_of, is_waiting, mark, progress}
+use Rattle.sj_core.specs.Needs.{node_of}
+use Rattle.sj_core.specs.Operands.{commuting_cells}
+use Rattle.sj_core.specs.Step.{May, is_in_use}
+use Rattle.sj_core.specs.declared.progress.Progress.{Progress}
+use Rattle.sj_core.specs.declared.progress.Progress.TheVariants.{Claimed, Waiting}
+use Rattle.sj_machine.specs.Planning.{IsWhy}
+use Rattle.sj_machine.specs.declared.plan.Why.{Why}
+use Rattle.sj_machine.specs.declared.plan.Why.TheVariants.{Commute, Leaving, NoRoom}
+use Rattle.sj_replica.specs.declared.mark.Mark.TheVariants.{Coming}
+use Rattle.sj_check.specs.Watching.{HasTasks, task_in}
+
+found-fails : (test : Cell → Bool) (xs : List Cell) (c : Cell) → find test xs ≡ Some c → list_all (λ d. not (test d)) xs ≡ false
+found-fails test [] c e = absurd (none-some c e)
+found-fails test (x ∷ xs) c e = by_test (test x) refl (found-fails test xs c)
+  where
+    by_test : (b : Bool) → test x ≡ b → (find test xs ≡ Some c → list_all (λ d. not (test d)) xs ≡ false) → list_all (λ d. not (test d)) (x ∷ xs) ≡ false
+    by_test true f rest = ap (λ a. not a && list_all (λ d. not (test d)) xs) f
+    by_test false f rest = ap (λ a. not a && list_all (λ d. not (test d)) xs) f ∙ rest (sym (ap (λ a. cond a (Some x) (find test xs)) f) ∙ e)
+
+-- where there is a reason why a claim can't be made, it isn't legal
+pub why-not : (p : Program) (m : Machine) (s : State) (t : Task) (w : Worker) (why : Why) → IsWhy p m s t w why → ¬ May p m s (Claim t w)
+why-not p m s t w (Commute c) is claim = false≢true (sym (found-fails (is_in_use p s) (commuting_cells p t) c is) ∙ claim.alone)
+why-not p m s t w (Leaving c) is claim = false≢true (sym (settled-at s (node_of m w) c claim.settled) ∙ is.1)
+why-not p m s t w NoRoom is claim = false≢true (sym (ap is_some is.2) ∙ claim.room)
+
+pub waiting-is : (x : Progress) → is_waiting x ≡ true → x ≡ Waiting
+waiting-is Waiting h = refl
+waiting-is x h = absurd (false≢true h)
+
+-- a cell comes by the claim of the task that its worker claimed last
+pub comes-for : (p : Program) (m : Machine) (s : State) → Coherent p m s → (tasks : List (Option Task)) → HasTasks p s tasks → (c : Cell) (n : Node) (w : Worker) → mark s c n ≡ Coming w → (t : Task) × (task_in tasks w ≡ Some t) × (progress s t ≡ Claimed w)
+comes-for p m s coherent tasks has c n w coming =
+    let own = coherent.pins.coming_claimed w c n (ap (is_coming_by w) coming ∙ same_worker-refl w) in
+    (own.task, has.last w own.task (ap (is_task_of w) own.claimed ∙ claimed-is_mine w), own.claimed)
