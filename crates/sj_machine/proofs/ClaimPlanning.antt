@@ -45,62 +45,21 @@ proper-small p proper t known = record {
 pub proper-work : (p : Program) → Proper p → (t : Task) → t.0 < length p.tasks → (w : Worker) → w.0 < p.workers → HasSmallWork p t w
 proper-work p proper t known w staffed = record { task = proper-small p proper t known; can = can-work p proper t known w staffed; small = works-small p proper t known w staffed }
 
--- a task's few operands give few cells, each as small as what they are of
-pub few-data : (g : Access → Cell) (ops : List Access) → length ops ≤ 5 → length (map g (filter (λ a. is_data a.mode) ops)) ≤ 5
-few-data g ops few =
-    let kept : Access → Bool = λ x. is_data x.mode in
-    omega (arith, length-map (filter kept ops) g, length-filter kept ops, count_by-le-length kept ops, few)
+module _ (p : Program) (t : Task) (w : Worker) (work : HasSmallWork p t w) where
+  abbrev cells : List Cell
+  cells = cells_of p t w
 
-pub small-data : (p : Program) (g : Access → Cell) (ops : List Access) → All (λ a. IsSmallCell p (g a)) ops → All (IsSmallCell p) (map g (filter (λ a. is_data a.mode) ops))
-small-data p g ops small = All-map (IsSmallCell p) g (filter (λ a. is_data a.mode) ops) (All-filter (λ a. is_data a.mode) (λ a. IsSmallCell p (g a)) ops small)
+  pub work-few : length cells ≤ 5
+  work-few =
+      let kept : Access → Bool = λ a. is_data a.mode in
+      omega (arith, length-map (filter kept (task_of p t).accesses) (worked_on p w), length-filter kept (task_of p t).accesses, count_by-le-length kept (task_of p t).accesses, work.task.few)
 
-module _ (p : Program) (cs : List Cell) (small : All (IsSmallCell p) cs) (few : length cs ≤ 5) (s : Store) where
-  pub lacking-small : All (IsSmallCell p) (lacking s cs)
-  lacking-small = All-has (IsSmallCell p) (lacking s cs) (λ c lacks.
-      (let both = has_cell-filter (λ d. not (has_entry s.entries d)) (distinct cs) c lacks in
-      All-of (IsSmallCell p) cs c small (sym (has_cell-distinct cs c) ∙ both.1)))
+  -- the cells that are lacking are few and small
+  pub lacking-small : (s : Store) → All (IsSmallCell p) (lacking s cells)
+  lacking-small s = All-filter (λ c. not (has_entry s.entries c)) (IsSmallCell p) (distinct cells) (All-has (IsSmallCell p) (distinct cells) (λ c has. All-of (IsSmallCell p) cells c
+      (All-map (IsSmallCell p) (worked_on p w) (filter (λ a. is_data a.mode) (task_of p t).accesses) (All-filter (λ a. is_data a.mode) (λ a. IsSmallCell p (worked_on p w a)) (task_of p t).accesses work.small)) (sym (has_cell-distinct cells c) ∙ has)))
 
-  pub few-lacking : length (lacking s cs) ≤ 5
-  few-lacking =
+  pub lacking-sum : (s : Store) → sum (map (tile_bytes p) (lacking s cells)) ≤ 5 * 2 ^ 27
+  lacking-sum s =
       let test : Cell → Bool = λ d. not (has_entry s.entries d) in
-      omega (arith, length-filter test (distinct cs), count_by-le-length test (distinct cs), length-distinct cs, few)
-
-  pub lacking-sum : sum (map (tile_bytes p) (lacking s cs)) ≤ 5 * 2 ^ 27
-  lacking-sum =
-      let a = sum-map (tile_bytes p) (lacking s cs) in
-      let b = sum_by-le (tile_bytes p) (2 ^ 27) (lacking s cs) (λ i d inside. (let is = lacking-small i d inside in let bound = is.small in omega arith)) in
-      let c = few-lacking in
-      omega arith
-
--- the cells that a task names, and those on which a worker works for it
-pub work-small : (p : Program) (t : Task) (w : Worker) → HasSmallWork p t w → All (IsSmallCell p) (cells_of p t w)
-work-small p t w small = small-data p (worked_on p w) (task_of p t).accesses small.small
-
-pub work-few : (p : Program) (t : Task) (w : Worker) → HasSmallWork p t w → length (cells_of p t w) ≤ 5
-work-few p t w small = few-data (worked_on p w) (task_of p t).accesses small.task.few
-
--- ---- the plan on a node
-
-module _ (p : Program) (t : Task) (w : Worker) (s : Store) (cells missing : List Cell) (bytes : List ℕ) (scratch : ℕ) (names : cells ≡ cells_of p t w) (lacks : missing ≡ lacking s cells) (weighs : bytes ≡ map (tile_bytes p) missing) (holds : scratch ≡ scratch_bytes p (task_of p t)) where
-  abbrev lacked : List Cell
-  lacked = lacking s (cells_of p t w)
-
-  are_missing : missing ≡ lacked
-  are_missing = lacks ∙ ap (lacking s) names
-
-  pub need-is : sum bytes + scratch ≡ need_on p s t w
-  need-is = ap (λ (n : ℕ). n + scratch) (ap sum weighs ∙ sum-map (tile_bytes p) missing ∙ ap (sum_by (tile_bytes p)) are_missing) ∙ ap (λ (n : ℕ). sum_by (tile_bytes p) lacked + n) holds
-
-  victims-are : need_victims cells s (sum bytes + scratch) ≡ need_victims (cells_of p t w) s (need_on p s t w)
-  victims-are = ap (λ (cs : List Cell). need_victims cs s (sum bytes + scratch)) names ∙ ap (need_victims (cells_of p t w) s) need-is
-
-  pub planned-none : None ≡ option_map reverse (need_victims cells s (sum bytes + scratch)) → None ≡ option_map (planned p s t w) (chosen_on p s t w)
-  planned-none none = ap (option_map (planned p s t w)) (none ∙ ap (option_map reverse) victims-are)
-
-  pub planned-some : (victims : List Cell) → Some victims ≡ option_map reverse (need_victims cells s (sum bytes + scratch)) → Some (let plan : ClaimPlan = record { cells = cells; missing = missing; bytes = bytes; scratch = scratch; victims = victims } in plan) ≡ option_map (planned p s t w) (chosen_on p s t w)
-  planned-some victims some =
-      ap (λ (cs : List Cell). Some (let plan : ClaimPlan = record { cells = cs; missing = missing; bytes = bytes; scratch = scratch; victims = victims } in plan)) names
-      ∙ ap (λ (bs : List ℕ). Some (let plan : ClaimPlan = record { cells = cells_of p t w; missing = missing; bytes = bs; scratch = scratch; victims = victims } in plan)) weighs
-      ∙ ap (λ (cs : List Cell). Some (let plan : ClaimPlan = record { cells = cells_of p t w; missing = cs; bytes = map (tile_bytes p) cs; scratch = scratch; victims = victims } in plan)) are_missing
-      ∙ ap (λ (n : ℕ). Some (let plan : ClaimPlan = record { cells = cells_of p t w; missing = lacked; bytes = map (tile_bytes p) lacked; scratch = n; victims = victims } in plan)) holds
-      ∙ ap (option_map (planned p s t w)) (some ∙ ap (option_map reverse) victims-are)
+      omega (arith, sum-map (tile_bytes p) (lacking s cells), sum_by-le (tile_bytes p) (2 ^ 27) (lacking s cells) (λ i d inside. (let bound = (lacking-small s i d inside).small in omega arith)), length-filter test (distinct cells), count_by-le-length test (distinct cells), length-distinct cells, work-few)

@@ -80,9 +80,9 @@ module _ (p : Program) (m : Machine) (s : State) (h : IsSound p m s) (r : Rows) 
   rows-left few tasks cells nodes workers as_tasks as_cells as_workers stores =
       let now : State = after p m s e in
       let is : state_in tasks cells nodes workers ≡ now =
-          ap (λ (x : List Progress). state_in x cells nodes workers) as_tasks ∙ ap (λ (x : List CellState). state_in now.tasks x nodes workers) as_cells
-          ∙ ap (λ (x : List WorkerState). state_in now.tasks now.cells nodes x) as_workers
-          ∙ ap (λ (x : List (List Cell)). let z : State = record now { orders = x } in z) (orders-in p m now nodes stores sound-after.coherent.state.rows.orders) in
+      ap (λ (x : List Progress). state_in x cells nodes workers) as_tasks ∙ ap (λ (x : List CellState). state_in now.tasks x nodes workers) as_cells
+      ∙ ap (λ (x : List WorkerState). state_in now.tasks now.cells nodes x) as_workers
+      ∙ ap (λ (x : List (List Cell)). let z : State = record now { orders = x } in z) (orders-in p m now nodes stores sound-after.coherent.state.rows.orders) in
       record {
         happened = ap (rows_in p m) is ∙ ap (λ (x : Rows). has_happened x e) same;
         keeps = subst (λ (z : State). Keeps p m z nodes) (sym is) (record { sound = sound-after; few = few-after p m h.proper s e few; stores = stores });

@@ -37,9 +37,9 @@ module _ (p : Program) (m : Machine) (proper : Proper p) (machine : IsMachineFor
   pub made : (tasks : List Progress) (cells : List CellState) (nodes : List Store) (workers : List WorkerState) → tasks ≡ replicate (length p.tasks) Waiting → cells ≡ replicate (length p.cells) (no_copy (length m.nodes)) → nodes ≡ first_nodes → workers ≡ replicate m.workers idle_row → AreFirst p m (state_in tasks cells nodes workers) nodes
   made tasks cells nodes workers as_tasks as_cells as_nodes as_workers =
       let is : state_in tasks cells nodes workers ≡ opening p m =
-          ap (λ (x : List Progress). state_in x cells nodes workers) as_tasks ∙ ap (λ (x : List CellState). state_in (opening p m).tasks x nodes workers) as_cells
-          ∙ ap (λ (x : List WorkerState). state_in (opening p m).tasks (opening p m).cells nodes x) as_workers
-          ∙ ap (λ (x : List (List Cell)). let z : State = record (opening p m) { orders = x } in z) (ap (map order_in) as_nodes ∙ orders-in p m (opening p m) first_nodes first_stores (length-replicate (length m.nodes) [])) in
+      ap (λ (x : List Progress). state_in x cells nodes workers) as_tasks ∙ ap (λ (x : List CellState). state_in (opening p m).tasks x nodes workers) as_cells
+      ∙ ap (λ (x : List WorkerState). state_in (opening p m).tasks (opening p m).cells nodes x) as_workers
+      ∙ ap (λ (x : List (List Cell)). let z : State = record (opening p m) { orders = x } in z) (ap (map order_in) as_nodes ∙ orders-in p m (opening p m) first_nodes first_stores (length-replicate (length m.nodes) [])) in
       record {
         opened = ap (rows_in p m) is;
         keeps = subst (λ (z : State). Keeps p m z nodes) (sym is) (record { sound = record { proper = proper; machine = machine; coherent = opening-coherent p m }; few = opening-few p m; stores = subst (λ (ns : List Store). HasStores p m (opening p m) ns) (sym as_nodes) first_stores });

@@ -11,13 +11,13 @@ ghost use Rattle.sj_machine.specs.Choosing.{HasNumbers, are_present, are_unmoved
 ghost use Rattle.sj_machine.specs.Cells.{mark_at};
 ghost use Rattle.sj_machine.specs.Operands.{worked_among};
 
-use sj_replica::replica::Replica;
 use crate::hold::Hold;
 use crate::operands::worked_on;
 use sj_base::ids::{Cell, Node, Place, Worker};
 use sj_base::mode::{Access, Mode};
 use sj_base::program::Program;
 use sj_replica::mark::Mark;
+use sj_replica::replica::Replica;
 
 /// What a cell is at a node. Constant time.
 pub fn mark_at(cells: &[Replica], n: Node, cell: Cell) -> Mark
@@ -144,7 +144,13 @@ pub fn first_brought(
 }
 
 /// Whether each cell whose old value is read is on a node. Quadratic in the operands, which are a task's few.
-fn are_present(cells: &[Replica], program: &Program, n: Node, w: Worker, accesses: &[Access]) -> bool
+fn are_present(
+    cells: &[Replica],
+    program: &Program,
+    n: Node,
+    w: Worker,
+    accesses: &[Access],
+) -> bool
     requires marks { All (λ row. n.0 < length row.marks) cells.now }
     requires copies { HasNumbers program.now w }
     ensures { result ≡ are_present cells.now program.now n w accesses.now }

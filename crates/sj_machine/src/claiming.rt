@@ -6,14 +6,14 @@ ghost use Rattle.sj_core.specs.Needs.{node_of as node_of_worker};
 ghost use Rattle.sj_machine.specs.Stores.{row_at};
 ghost use Rattle.sj_machine.specs.Plan.{CanHold, CanTakeAll, holding, marked, row_with, store_at, taken};
 
-use sj_replica::replica::Replica;
 use crate::hold::Hold;
 use crate::plan::Plan;
 use sj_base::ids::{Cell, Node, Worker};
 use sj_base::memory::OutOfMemory;
 use sj_base::program::Machine;
-use sj_replica::mark::Mark;
 use sj_node::store::NodeStore;
+use sj_replica::mark::Mark;
+use sj_replica::replica::Replica;
 
 /// The node to which a worker is bound. Constant time.
 pub fn node_of(machine: &Machine, w: Worker) -> Node

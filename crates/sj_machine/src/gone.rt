@@ -5,8 +5,8 @@ ghost use Rattle.sj_machine.specs.Choosing.{leaves_in};
 ghost use Rattle.sj_machine.specs.Gone.{AreGoneIn};
 
 use crate::choosing::mark_at;
-use sj_replica::replica::Replica;
 use sj_base::ids::{Cell, Node, Worker};
+use sj_replica::replica::Replica;
 
 /// How many of these victims go before the next one of which the copy at a node still leaves by the claim of a worker. Linear
 /// in them.

@@ -3,9 +3,9 @@
 ghost use Rattle.std.specs.Prelude.{◌≡◌, ◌<◌, All, IfSome, None, length, slice_index_or, true};
 ghost use Rattle.sj_machine.specs.Planning.{NoneLeaves, NoneLeavesFor, is_leaving_at};
 
-use sj_replica::replica::Replica;
 use crate::hold::Hold;
 use sj_base::ids::{Cell, Node};
+use sj_replica::replica::Replica;
 
 /// Whether a copy of a cell leaves a node. Constant time.
 fn leaves(cells: &[Replica], n: Node, cell: Cell) -> bool

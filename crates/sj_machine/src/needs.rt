@@ -10,12 +10,12 @@ ghost use Rattle.sj_core.specs.Machine.{is_entry};
 ghost use Rattle.sj_machine.specs.Plan.{IsSmallCell};
 
 use crate::choosing::mark_at;
-use sj_replica::replica::Replica;
 use crate::few_bytes::FewBytes;
 use crate::few_cells::FewCells;
 use sj_base::ids::{Cell, Node};
 use sj_base::mode::{Access, Mode};
 use sj_base::program::Program;
+use sj_replica::replica::Replica;
 
 /// The bytes of a cell's tile. Constant time.
 fn tile_bytes(program: &Program, cell: Cell) -> u64

@@ -1,14 +1,13 @@
 //! Plans of claims.
 
-ghost use Rattle.std.specs.Prelude.{◌≡◌, ◌<◌, ◌≤◌, ◌*◌, ◌^◌, All, IfOk, length, option_map, reverse};
-ghost use Rattle.sj_core.specs.Needs.{scratch_bytes};
+ghost use Rattle.std.specs.Prelude.{◌≡◌, ◌<◌, ◌≤◌, ◌+◌, ◌*◌, ◌^◌, All, IfOk, length, map, option_map, reverse, sum};
+ghost use Rattle.sj_core.specs.Needs.{scratch_bytes, tile_bytes};
 ghost use Rattle.sj_core.specs.Operands.{cells_of};
 ghost use Rattle.sj_core.specs.Program.{task_of};
 ghost use Rattle.sj_node.specs.Store.{need_victims};
 ghost use Rattle.sj_machine.specs.Stores.{AreMarked};
 ghost use Rattle.sj_machine.specs.Planning.{HasSmallTask, HasSmallWork, chosen_on, lacking, need_on, planned};
 
-use sj_replica::replica::Replica;
 use crate::few_bytes::FewBytes;
 use crate::few_cells::FewCells;
 use crate::needs::{bytes_of, lacking_cells, scratch_bytes, total};
@@ -18,6 +17,7 @@ use sj_base::memory::OutOfMemory;
 use sj_base::program::Program;
 use sj_core::tasks::accesses_of;
 use sj_node::store::NodeStore;
+use sj_replica::replica::Replica;
 use std::alloc::Global;
 use std::marker::Model;
 
@@ -98,6 +98,46 @@ fn recent_victims(
     Ok(Some(victims))
 }
 
+/// What a task needs on a node: its cells in operand order, those of them without an entry there with their bytes, and its scratch.
+#[derive(Drop)]
+struct Need {
+    cells: FewCells,
+    missing: FewCells,
+    bytes: FewBytes,
+    scratch: u64,
+}
+
+/// What a worker's task needs on its node. What is missing there is told by the cells' rows. Quadratic in the operands.
+fn need_of(
+    program: &Program,
+    rows: &[Replica],
+    node: &NodeStore,
+    n: Node,
+    t: Task,
+    w: Worker,
+) -> Need
+    requires work { HasSmallWork program.now t w }
+    requires wide { All (λ row. n.0 < length row.marks) rows.now }
+    requires marked { AreMarked rows.now n node.now.entries }
+    ensures cells { result.cells ≡ cells_of program.now t w }
+    ensures missing { result.missing ≡ lacking node.now (cells_of program.now t w) }
+    ensures bytes { result.bytes
+        ≡ map (tile_bytes program.now) (lacking node.now (cells_of program.now t w)) }
+    ensures scratch { result.scratch ≡ scratch_bytes program.now (task_of program.now t) }
+    ensures small { sum result.bytes + result.scratch < 2 ^ 63 }
+{
+    let cells = cells_for(program, t, w);
+    let missing = lacking_on(rows, node, n, cells.items());
+    let bytes = bytes_of(program, missing.items());
+    let scratch = scratch_for(program, t);
+    Need {
+        cells,
+        missing,
+        bytes,
+        scratch,
+    }
+}
+
 /// The bytes that a worker's task brings to its node: of those of its cells that have no entry there, each once, and of its
 /// scratch. What is missing there is told by the cells' rows. Quadratic in the operands; no memory.
 pub fn bytes_to_come(
@@ -113,11 +153,8 @@ pub fn bytes_to_come(
     requires marked { AreMarked rows.now n node.now.entries }
     ensures { result ≡ need_on program.now node.now t w }
 {
-    let cells = cells_for(program, t, w);
-    let missing = lacking_on(rows, node, n, cells.items());
-    let bytes = bytes_of(program, missing.items());
-    let scratch = scratch_for(program, t);
-    total(bytes.items()) + scratch
+    let need = need_of(program, rows, node, n, t, w);
+    total(need.bytes.items()) + need.scratch
 }
 
 impl Plan {
@@ -181,19 +218,16 @@ impl Plan {
         ensures { IfOk result (λ plan. plan ≡ option_map (planned program.now node.now t w)
             (chosen_on program.now node.now t w)) }
     {
-        let cells = cells_for(program, t, w);
-        let missing = lacking_on(rows, node, n, cells.items());
-        let bytes = bytes_of(program, missing.items());
-        let scratch = scratch_for(program, t);
-        let need = total(bytes.items()) + scratch;
-        let Some(victims) = recent_victims(alloc, node, cells.items(), need)? else {
+        let need = need_of(program, rows, node, n, t, w);
+        let bytes = total(need.bytes.items()) + need.scratch;
+        let Some(victims) = recent_victims(alloc, node, need.cells.items(), bytes)? else {
             return Ok(None);
         };
         Ok(Some(Plan {
-            cells,
-            missing,
-            bytes,
-            scratch,
+            cells: need.cells,
+            missing: need.missing,
+            bytes: need.bytes,
+            scratch: need.scratch,
             victims,
         }))
     }

@@ -158,11 +158,7 @@ fn arrive(cells: &mut Vec<Replica>, cell: Cell, to: Place)
 impl Rows {
     /// A run on which nothing has happened. The program comes back where memory is wanting. Linear in tasks, and in cells times
     /// nodes.
-    pub fn make(
-        alloc: Global,
-        program: Arc<Program>,
-        machine: Machine,
-    ) -> Result<Rows, RowsRefusal>
+    pub fn make(alloc: Global, program: Arc<Program>, machine: Machine) -> Result<Rows, RowsRefusal>
         requires proper { Proper program.value }
         requires machine { IsMachineFor program.value machine }
         ensures ok { IfOk result (λ r. r ≡ rows_at_start program.value machine) }
