@@ -43,7 +43,7 @@ marked-kept : (s : State) (c : Cell) (n : Node) (r : Mark) → KeepsOnDisks s (w
 marked-kept s c n r x there = (on_disk-same s c (with_mark (cell_state s c) n r) refl x ∙ there, writes-same s c (with_mark (cell_state s c) n r) refl x)
 
 arrived-kept : (s : State) (c : Cell) (to : Place) → KeepsOnDisks s (with_row s c (arrived to (cell_state s c)))
-arrived-kept s c (AtNode n) = marked-kept s c n Valid
+arrived-kept s c (AtNode n) x there = marked-kept s c n Valid x there
 arrived-kept s c (OnDisk d) x there = (
   elim (row-cases s c (stored (cell_state s c)) x) [
     | inl same ↦ ap (λ (row : CellState). row.on_disk) same ∙ there

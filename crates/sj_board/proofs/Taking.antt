@@ -1,5 +1,5 @@
 -- A board stays sound where a worker claims the task that it was given.
-use Rattle.std.proofs.Common.{◌≡◌, ◌≢◌, ℕ, ◌+◌, ◌<◌, ◌≤◌, ◌⊎◌, true, false, not, IsTrue, Option, Some, None, List, inl, inr, refl, sym, subst, ap, ◌∙◌, arith, length, length-set, slice_set, is_some}
+use Rattle.std.proofs.Common.{◌≡◌, ◌≢◌, ℕ, ◌+◌, ◌<◌, ◌≤◌, ◌⊎◌, true, false, not, IsTrue, Option, Some, None, Err, List, inl, inr, refl, sym, subst, ap, ◌∙◌, arith, length, length-set, slice_set, is_some}
 use Rattle.std.proofs.lemmas.Bool.{cases_eq, false≢true, false_from_ne_true}
 use Rattle.std.proofs.lemmas.List.Elements.{All-from_get_or}
 use Rattle.std.proofs.lemmas.List.Sums.{list_all-from_AllPass}
@@ -17,7 +17,7 @@ use Rattle.sj_core.proofs.Separation.{worker-inside}
 use Rattle.sj_core.proofs.Dependencies.{Proper-dependencies}
 use Rattle.sj_deps.specs.Progress.{Dependencies}
 use Rattle.sj_board.specs.ReadyTasks.{CountsDone, IsToBeTaken}
-use Rattle.sj_machine.specs.Planning.{IsWhy, MayClaim}
+use Rattle.sj_machine.specs.Planning.{AnotherHasTask, IsWhy, MayClaim}
 use Rattle.sj_board.specs.Sound.{IsSoundRun}
 use Rattle.sj_board.specs.Standing.{CanHappen, Standing, state, with_event}
 use Rattle.sj_board.proofs.Stepping.{counts-still, not-complete, taken-before, taken-still}

@@ -10,10 +10,9 @@ use Rattle.sj_base.specs.declared.trace.Event.TheVariants.{Moved, Drop}
 use Rattle.sj_base.specs.Array.{Array}
 use Rattle.sj_core.specs.declared.progress.Progress.TheVariants.{Claimed}
 use Rattle.sj_core.specs.declared.progress.Transfer.{Transfer}
-use Rattle.sj_replica.specs.declared.mark.Mark.TheVariants.{Valid}
-use Rattle.sj_core.specs.Machine.{State, WorkerState, progress, transfer, with_replica, with_transfer}
+use Rattle.sj_core.specs.Machine.{State, WorkerState, cell_state, progress, transfer, with_row, with_transfer}
 use Rattle.sj_core.specs.Needs.{node_of}
-use Rattle.sj_core.specs.Step.{after, mover_of}
+use Rattle.sj_core.specs.Step.{after, arrived, mover_of}
 use Rattle.sj_core.proofs.Reading.{transfer-inside, worker-same}
 use Rattle.sj_core.proofs.States.{one-mover, state_of-more, arrays_of-more}
 use Rattle.sj_board.specs.Sparing.{Spares, SparesMoved}
@@ -191,5 +190,5 @@ module _ {D : Type 0} (size faults mismatches : D → ℕ) (held : D → Option 
         where
           gone : w.0 < length s.workers → transfer (after b.run.program b.run.machine s (Moved tr.cell tr.from tr.to)) w ≡ None
           gone inside =
-              ap (λ (v : Worker). transfer (with_transfer (with_replica s tr.cell tr.to Valid) v None) w) mover-is
-              ∙ ap (λ (k : WorkerState). k.transfer) (worker-same (with_replica s tr.cell tr.to Valid) w _ inside)
+              ap (λ (v : Worker). transfer (with_transfer (with_row s tr.cell (arrived tr.to (cell_state s tr.cell))) v None) w) mover-is
+              ∙ ap (λ (k : WorkerState). k.transfer) (worker-same (with_row s tr.cell (arrived tr.to (cell_state s tr.cell))) w _ inside)

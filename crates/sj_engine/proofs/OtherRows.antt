@@ -2,6 +2,7 @@
 use Rattle.std.proofs.Common.{◌≡◌, ◌≢◌, ◌<◌, Bool, true, false, refl, sym, ap, ◌∙◌, subst, Option, None, Some, ◌&&◌}
 use Rattle.std.proofs.lemmas.Bool.{false≢true, or_left, or_right}
 use Rattle.std.proofs.lemmas.Bool.Decides.{Decides-eqb}
+use Rattle.std.proofs.lemmas.List.Folds.{list_any_at}
 use Rattle.sj_core.proofs.Eviction.{evicted-after}
 use Rattle.sj_base.specs.declared.ids.Cell.{Cell}
 use Rattle.sj_base.specs.declared.ids.Place.{Place}
@@ -16,16 +17,16 @@ use Rattle.sj_core.specs.declared.progress.Progress.{Progress}
 use Rattle.sj_core.specs.declared.progress.Progress.TheVariants.{Waiting, Claimed, Running, Done}
 use Rattle.sj_core.specs.declared.progress.Transfer.{Transfer}
 use Rattle.sj_core.specs.Laws.{IsSound}
-use Rattle.sj_replica.specs.declared.mark.Mark.TheVariants.{Invalid, Valid}
-use Rattle.sj_core.specs.Machine.{CellState, State, is_running_on, is_task_of, progress, same_worker, transfer, worker_state, writes}
+use Rattle.sj_core.specs.Machine.{CellState, State, WorkerState, cell_state, idle_row, is_running_on, is_task_of, progress, same_worker, transfer, worker_state, writes}
+use Rattle.sj_core.proofs.Words.{Invalid, owned_at, with_mark, written_once_more}
 use Rattle.sj_core.specs.Needs.{node_of}
 use Rattle.sj_core.specs.Operands.{cells_of, written_cells}
 use Rattle.sj_core.specs.Program.{has_cell, same_cell}
-use Rattle.sj_core.specs.Step.{May, after, is_read, mover_of, owned_at, reads, same_place, written_once_more}
+use Rattle.sj_core.specs.Step.{May, after, arrived, is_read, mover_of, reads_in, same_place}
 use Rattle.sj_core.proofs.Claiming.{claim-writes, pinned-at}
 use Rattle.sj_core.proofs.Ending.{end-other_worker}
 use Rattle.sj_core.proofs.Placing.{writes-same}
-use Rattle.sj_core.proofs.Reading.{cells-untouched, list_any-worker, moves-it, progress-other, transfer-inside, worker-other}
+use Rattle.sj_core.proofs.Reading.{cells-untouched, moves-it, progress-other, transfer-inside, worker-other}
 use Rattle.sj_core.proofs.Dependencies.{Proper-dependencies}
 use Rattle.sj_core.proofs.Replicas.{same_worker-is, same_worker-refl}
 use Rattle.sj_core.proofs.Running.{run-spares, run-unmoved, run-worker}
@@ -71,27 +72,28 @@ pub record StaysFor (p : Program) (m : Machine) (s s' : State) (A A' : Arrays) (
   pub carried : (x : Transfer) → transfer s v ≡ Some x → A' x.cell x.from ≡ A x.cell x.from
   pub writes : (x : Transfer) → transfer s v ≡ Some x → writes s' x.cell ≡ writes s x.cell
 
+arrived-writes : (to : Place) (row : CellState) → (arrived to row).writes ≡ row.writes
+arrived-writes (AtNode n) row = refl
+arrived-writes (OnDisk d) row = refl
+
 not-so : (b : Bool) → (b ≡ true → ⊥) → b ≡ false
 not-so true f = absurd (f refl)
 not-so false f = refl
 
 module _ (p : Program) (m : Machine) (s : State) (A : Arrays) (h : IsSound p m s) (v : Worker) where
   reads-used : (x : Transfer) → transfer s v ≡ Some x → is_used m s x.cell x.from ≡ true
-  reads-used x under_way = by_place x.from (list_any-worker (λ w. reads s w x.cell x.from) m v inside own)
+  reads-used x under_way = by_place x.from (list_any_at (λ (row : WorkerState). reads_in row x.cell x.from) s.workers v.0 idle_row (transfer-inside s v x under_way) own)
     where
-      inside : v.0 < m.workers
-      inside = subst (λ n. v.0 < n) h.coherent.state.rows.workers (transfer-inside s v x under_way)
-
-      own : reads s v x.cell x.from ≡ true
+      own : reads_in (worker_state s v) x.cell x.from ≡ true
       own = ap (λ (o : Option Transfer). elim o as (λ _. Bool) [ None ↦ false | Some move ↦ same_cell move.cell x.cell && same_place move.from x.from ]) under_way
           ∙ ap (λ b. b && same_place x.from x.from) ((Decides-eqb x.cell.0 x.cell.0).1 refl) ∙ same_place-itself x.from
 
-      by_place : (q : Place) → is_read m s x.cell q ≡ true → is_used m s x.cell q ≡ true
-      by_place (AtNode n) f = or_right _ (is_read m s x.cell (AtNode n)) f
+      by_place : (q : Place) → is_read s x.cell q ≡ true → is_used m s x.cell q ≡ true
+      by_place (AtNode n) f = or_right _ (is_read s x.cell (AtNode n)) f
       by_place (OnDisk d) f = f
 
   pins-used : (u : Task) (c : Cell) → v.0 < m.workers → is_task_of v (progress s u) ≡ true → has_cell (cells_of p u v) c ≡ true → is_used m s c (AtNode (node_of m v)) ≡ true
-  pins-used u c inside has cell = or_left _ (is_read m s c (AtNode (node_of m v))) (pinned-at m s v (node_of m v) c inside refl (h.coherent.cells.pinned u v c has cell))
+  pins-used u c inside has cell = or_left _ (is_read s c (AtNode (node_of m v))) (pinned-at m s v (node_of m v) c inside refl (h.coherent.cells.pinned u v c has cell))
 
   -- where the event spares what is used, and writes none of it
   module _ (s' : State) (A' : Arrays) (e : Event) (spares : SparesUsed p m s A e s' A')
@@ -143,14 +145,14 @@ module _ (p : Program) (m : Machine) (s : State) (A : Arrays) (h : IsSound p m s
       holds = ap (λ (z : State). worker_state z v) leaves ∙ worker-other s (mover_of s c from to) v _ (subst (λ (k : Worker). v ≢ k) (sym by) other);
       cells = spared-cells s' A' (Moved c from to) spares (λ u d runs cell. refl) (λ y under_way. refl);
       carried = spared-moved s' A' (Moved c from to) spares (λ u d runs cell. refl) (λ y under_way. refl);
-      writes = λ y under_way. ap (λ (z : State). writes z y.cell) leaves ∙ writes-same s c to Valid y.cell;
+      writes = λ y under_way. ap (λ (z : State). writes z y.cell) leaves ∙ writes-same s c (arrived to (cell_state s c)) (arrived-writes to (cell_state s c)) y.cell;
     }
     Step-stays (Drop c n) s' A' by step leaves spares = record {
       phase = λ u has. ap (λ (z : State). progress z u) leaves;
       holds = ap (λ (z : State). worker_state z v) leaves;
       cells = spared-cells s' A' (Drop c n) spares (λ u d runs cell. refl) (λ y under_way. refl);
       carried = spared-moved s' A' (Drop c n) spares (λ u d runs cell. refl) (λ y under_way. refl);
-      writes = λ y under_way. ap (λ (z : State). writes z y.cell) leaves ∙ writes-same s c (AtNode n) Invalid y.cell;
+      writes = λ y under_way. ap (λ (z : State). writes z y.cell) leaves ∙ writes-same s c (with_mark (cell_state s c) n Invalid) refl y.cell;
     }
     Step-stays (Run t x) s' A' by step leaves spares =
         let apart : (u : Task) → is_task_of v (progress s u) ≡ true → u ≢ t = λ u has. not-mine t u (Claimed x) step.claimed (λ k. sym by ∙ claimed-is x v k) has in

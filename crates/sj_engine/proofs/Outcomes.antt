@@ -1,7 +1,7 @@
 -- What a board leaves, by what is true of it: the outcome of a run that is over, and of one that no worker has come to.
 use Rattle.std.proofs.Common.{◌≡◌, ℕ, ◌<◌, ◌∙◌, ◌⊎◌, false, Option, Some, None, List, [], IsTrue, ap, arith, get_or, inl, inr, length, refl, replicate, subst, sym}
 use Rattle.std.specs.Prelude.{Err, IfSome, IsOk, IsSomeAnd, MatchOption, Ok, Result, is_some, option_map, slice_get}
-use Rattle.std.proofs.lemmas.Bool.{cases_lt, false≢true}
+use Rattle.std.proofs.lemmas.Bool.{and_parts, cases_lt, false≢true}
 use Rattle.std.proofs.lemmas.List.{get_or-replicate, get_or_past, length-replicate}
 use Rattle.std.proofs.lemmas.List.Elements.{All-from_get_or, All-get_or}
 use Rattle.std.proofs.lemmas.Option.{none-some}
@@ -14,8 +14,9 @@ use Rattle.sj_base.specs.declared.program.Program.{Program}
 use Rattle.sj_base.specs.declared.trace.Event.{Event}
 use Rattle.sj_base.specs.Array.{Array}
 use Rattle.sj_core.specs.Legal.{IsComplete}
-use Rattle.sj_replica.specs.declared.mark.Mark.TheVariants.{Invalid}
-use Rattle.sj_core.specs.Machine.{CellState, State, cell_state, is_valid, no_replica, opening, replica, replica_in, writes}
+use Rattle.sj_core.specs.Machine.{CellState, State, cell_state, no_copy, on_disk, opening, writes}
+use Rattle.sj_core.specs.Step.{has_copy, is_home}
+use Rattle.sj_core.proofs.Placing.{home-is}
 use Rattle.sj_core.proofs.Reading.{no_row}
 use Rattle.sj_core.specs.Needs.{Block}
 use Rattle.sj_disk.specs.Directory.{extent_of}
@@ -60,7 +61,7 @@ module _ {D : Type 0} (size faults mismatches : D → ℕ) (held : D → Option 
     in-block c d k (Some e) is holds = λ x there. subst (λ (at : ℕ). GivesHeld (held x) at (block c.0 (writes s c) (run_arrays b.run c (OnDisk d)).elements)) is.position (holds.told x (ap (λ (n : DiskNo). slice_get b.run.disks.disks n.0) is.disk ∙ there))
 
     blocks : AllDisksTell held b.run.opened → HoldBlocks held p m b.run.trace b.run.disks.disks
-    blocks tells c d valid = by_block (block_of p m c) refl (sound.run.coherent.state.blocks.home c d valid) (sound.run.blocks.placed c)
+    blocks tells c d valid = by_block (block_of p m c) refl (home-is p m c d (and_parts (on_disk s c) (is_home p m c d) valid).1) (sound.run.blocks.placed c)
       where
         by_block : (o : Option Block) → block_of p m c ≡ o → option_map (λ k. k.disk) o ≡ Some d → IfSome o (λ k. IsSomeAnd (extent_of b.run.disks.directory c.0) (IsBlock p c k)) → IsSomeAnd o (HoldsBlockAt held b.run.disks.disks s (run_arrays b.run) c d)
         by_block None e home placed = absurd (none-some d home)
@@ -146,20 +147,14 @@ module _ {D : Type 0} (size faults mismatches : D → ℕ) (held : D → Option 
   -- ---- no board at all
 
   module _ (p : Program) (m : Machine) where
-    nowhere : (c : Cell) (d : DiskNo) → IsTrue (is_valid (replica (opening p m) c (OnDisk d))) → ⊥
-    nowhere c d valid = elim (cases_lt c.0 (length p.cells)) [
-      | inl inside ↦ in_row (no_replica m) (get_or-replicate (length p.cells) c.0 (no_replica m) no_row inside) (none d)
-      | inr past ↦ in_row no_row (get_or_past (replicate (length p.cells) (no_replica m)) c.0 no_row (let e = length-replicate (length p.cells) (no_replica m) in omega (arith, e, past))) refl
+    nowhere : (c : Cell) (d : DiskNo) → IsTrue (has_copy p m (opening p m) c (OnDisk d)) → ⊥
+    nowhere c d copy = elim (cases_lt c.0 (length p.cells)) [
+      | inl inside ↦ in_row (no_copy (length m.nodes)) (get_or-replicate (length p.cells) c.0 (no_copy (length m.nodes)) no_row inside) refl
+      | inr past ↦ in_row no_row (get_or_past (replicate (length p.cells) (no_copy (length m.nodes))) c.0 no_row (let e = length-replicate (length p.cells) (no_copy (length m.nodes)) in omega (arith, e, past))) refl
     ]
       where
-        none : (d : DiskNo) → is_valid (replica_in (no_replica m) (OnDisk d)) ≡ false
-        none d = elim (cases_lt d.0 (length m.disks)) [
-          | inl inside ↦ ap is_valid (get_or-replicate (length m.disks) d.0 Invalid Invalid inside)
-          | inr past ↦ ap is_valid (get_or_past (replicate (length m.disks) Invalid) d.0 Invalid (let e = length-replicate (length m.disks) Invalid in omega (arith, e, past)))
-        ]
-
-        in_row : (row : CellState) → cell_state (opening p m) c ≡ row → is_valid (replica_in row (OnDisk d)) ≡ false → ⊥
-        in_row row e invalid = false≢true (sym invalid ∙ sym (ap (λ (r : CellState). is_valid (replica_in r (OnDisk d))) e) ∙ valid)
+        in_row : (row : CellState) → cell_state (opening p m) c ≡ row → row.on_disk ≡ false → ⊥
+        in_row row e none = false≢true (sym none ∙ sym (ap (λ (r : CellState). r.on_disk) e) ∙ (and_parts (on_disk (opening p m) c) (is_home p m c d) copy).0)
 
     pub unopened-is : {A : Type 0} (disks : List D) (result : Result A RunFault) → result ≡ wanting {A = A} → (pairs : List (Task × Array)) (events : List Event) → events ≡ [] → (back : List D) → back ≡ disks → IsOutcome size faults mismatches held p m disks result pairs events back
     unopened-is {A} disks result r pairs events e back d =

@@ -11,11 +11,11 @@ use Rattle.sj_base.specs.declared.trace.Event.TheVariants.{Move}
 use Rattle.sj_base.specs.Array.{Array}
 use Rattle.sj_core.specs.declared.progress.Progress.TheVariants.{Claimed}
 use Rattle.sj_core.specs.declared.progress.Transfer.{Transfer}
-use Rattle.sj_core.specs.Machine.{State, WorkerState, is_entry, progress, replica, transfer, with_transfer, writes}
+use Rattle.sj_core.specs.Machine.{State, WorkerState, is_entry, mark, progress, transfer, with_transfer, writes}
 use Rattle.sj_core.specs.Program.{dims_of}
 use Rattle.sj_core.specs.Step.{May, a_transfer, after, mover_of}
 use Rattle.sj_core.proofs.Reading.{entry-inside, worker-same}
-use Rattle.sj_core.proofs.Replicas.{coming_by-is, leaving_by-is}
+use Rattle.sj_core.proofs.Replicas.{coming_by-is}
 use Rattle.sj_board.specs.Sparing.{Spares}
 use Rattle.sj_board.specs.Standing.{AllTell, CanHappen, IsShareOf, IsTileOf, is_node, state, run_arrays}
 use Rattle.sj_board.specs.DiskUnits.{lent}
@@ -94,10 +94,8 @@ module _ {D : Type 0} (size faults mismatches : D → ℕ) (held : D → Option 
   fetch-here : (f g : Place) → May b.run.program b.run.machine (state b.run) (Move c f g) → is_node f ≡ false → (c.0 < length b.run.program.cells) × (is_node g ≡ true)
   fetch-here (AtNode n) g step e = absurd (false≢true (sym e))
   fetch-here (OnDisk d) (AtNode n) step e =
-      (subst (λ k. c.0 < k) here.run.coherent.state.rows.cells (entry-inside (state b.run) c n (ap is_entry (coming_by-is _ (replica (state b.run) c (AtNode n)) step.coming))).0, refl)
-  fetch-here (OnDisk d) (OnDisk k) step e =
-      let l = leaving_by-is _ (replica (state b.run) c (OnDisk d)) step.leaving in
-      absurd ((here.run.coherent.state.blocks.resting c d _).1 l)
+      (subst (λ k. c.0 < k) here.run.coherent.state.rows.cells (entry-inside (state b.run) c n (ap is_entry (coming_by-is _ (mark (state b.run) c n) step.coming))).0, refl)
+  fetch-here (OnDisk d) (OnDisk k) step e = absurd (false≢true step)
 
   pub move-share : (share : Option Array) → IsShareOf held x.run c from share → IsShareCarried held (key_of y) its (row_in y w) from share
   move-share share h = by_place from refl (subst (λ (k : BoardState D). IsShareOf held k.run c from share) ex h)

@@ -8,8 +8,9 @@ use Rattle.sj_base.specs.declared.program.Machine.{Machine}
 use Rattle.sj_base.specs.declared.trace.Event.{Event}
 use Rattle.sj_core.specs.Arrays.{Arrays, arrays_of}
 use Rattle.sj_core.specs.Legal.{state_of}
-use Rattle.sj_core.specs.Machine.{State, is_valid, replica, writes}
+use Rattle.sj_core.specs.Machine.{State, writes}
 use Rattle.sj_core.specs.Needs.{Block}
+use Rattle.sj_core.specs.Step.{has_copy}
 use Rattle.sj_disk.specs.Block.{block}
 use Rattle.sj_edge.specs.Held.{GivesHeld}
 use Rattle.sj_board.specs.Cause.{HasRisen}
@@ -33,7 +34,7 @@ IsCausedBy faults mismatches held old new OutOfMemory = Unit {0}
 -- leave
 abbrev pub WantsLastWritten : Program → Machine → List Event → RunFault → Type 0
 WantsLastWritten p m trace (DiskFault d) = Unit {0}
-WantsLastWritten p m trace (Damaged d want found) = IsLastWritten p (state_of p m trace) d want
+WantsLastWritten p m trace (Damaged d want found) = IsLastWritten p m (state_of p m trace) d want
 WantsLastWritten p m trace OutOfMemory = Unit {0}
 
 -- the block has the cell's header and its elements, as the arrays have them on the disk, where that disk tells
@@ -41,9 +42,9 @@ abbrev pub HoldsBlockAt : {D : Type 0} → (D → Option (List ℕ)) → List D 
 HoldsBlockAt {D} held disks s A c d b =
     (x : D) → slice_get disks b.disk.0 ≡ Some x → GivesHeld (held x) b.position (block c.0 (writes s c) (A c (OnDisk d)).elements)
 
--- each cell that is valid on a disk in the state that the events leave has its block in its place there, with its write
+-- each cell that has a copy on a disk in the state that the events leave has its block in its place there, with its write
 -- count and its array, where that disk tells
 abbrev pub HoldBlocks : {D : Type 0} → (D → Option (List ℕ)) → Program → Machine → List Event → List D → Type 0
 HoldBlocks held p m trace disks =
-    (c : Cell) (d : DiskNo) → IsTrue (is_valid (replica (state_of p m trace) c (OnDisk d)))
+    (c : Cell) (d : DiskNo) → IsTrue (has_copy p m (state_of p m trace) c (OnDisk d))
     → IsSomeAnd (block_of p m c) (HoldsBlockAt held disks (state_of p m trace) (arrays_of p m trace) c d)
