@@ -11,9 +11,7 @@ use Rattle.std.specs.contracts.option.Option as Options
 use Rattle.sj_base.proofs.program.Program.TheSendSync as Program
 use Rattle.sj_base.proofs.program.Machine.TheSendSync as Machine
 use Rattle.sj_base.proofs.trace.Trace.TheSendSync as Trace
-use Rattle.sj_core.proofs.progress.Progress.TheSendSync as Progress
 use Rattle.sj_deps.specs.contracts.deps.Deps as Deps
-use Rattle.sj_node.proofs.store.NodeStore.TheSendSync as NodeStore
 use Rattle.sj_pool.proofs.chunk.Chunk.TheSendSync as Chunk
 use Rattle.sj_pool.proofs.tree.Tree.TheLaws.TheKnot as Trees
 use Rattle.sj_pool.specs.contracts.pool.Pool as Pool
@@ -21,8 +19,8 @@ use Rattle.sj_edge.specs.declared.disk.Disk.{Ghosts}
 use Rattle.sj_disk.proofs.rack.DiskSlot.TheSendSync as Slot
 use Rattle.sj_disk.specs.contracts.rack.DiskSlot as Slots
 use Rattle.sj_disk.specs.contracts.lending_set.LendingSet as LendingSet
-use Rattle.sj_machine.proofs.copies.Copies.TheSendSync as Copies
-use Rattle.sj_machine.proofs.hold.Hold.TheSendSync as Hold
+use Rattle.sj_machine.proofs.rows.Rows.TheSendSync as Rows
+use Rattle.sj_board.proofs.tiles.CellTiles.TheSendSync as CellTiles
 use Rattle.sj_board.specs.contracts.run_state.RunState as RunState
 use Rattle.sj_board.proofs.delivered.Delivered.TheSendSync as Delivered
 use Rattle.sj_board.proofs.gifts.Gifts.TheSendSync as Gifts
@@ -56,7 +54,7 @@ module _ (D : RattleType) (g : Ghosts D.Denot) (s : IsSend D) where
   disks-send = search (sendable, crosses, slot-send) depth 60
 
   run-send : IsSend (RunState.the_row D g)
-  run-send = search (sendable, crosses, Program.the_send, Program.the_sync, Machine.the_send, Trace.the_send, Progress.the_send, NodeStore.the_send, Copies.the_send, Hold.the_send, disks-send) depth 60
+  run-send = search (sendable, crosses, Rows.the_send, CellTiles.the_send, Trace.the_send, disks-send) depth 60
 
   board-send : IsSend (Board.the_row D g)
   board-send = search (sendable, crosses, run-send, deps-send, pool-send, Gifts.the_send, Delivered.the_send) depth 60

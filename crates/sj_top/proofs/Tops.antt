@@ -162,7 +162,7 @@ module _ (o : Options) (sizes : List ℕ) (jobs : Option (Result Job Refusal)) (
     caused-by (Damaged number want found) a d =
         let damage = d.damage number want found refl in
         let fault : RunFault = running.Damaged number want found in
-        let Last = λ (w : Work). IsLastWritten (program_of w) (state_of (program_of w) w.machine trace) number want in
+        let Last = λ (w : Work). IsLastWritten (program_of w) w.machine (state_of (program_of w) w.machine trace) number want in
         record {
           cause = damage.count_rose;
           other_header = damage.other_header;

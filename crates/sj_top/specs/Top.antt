@@ -105,7 +105,7 @@ module _ {D : Type 0} {disk : DiskOf D} (asked : Asked) (before after : Devices 
   pub record DiskIsDamaged (number : DiskNo) (want found : Header) : Type 0 where
     pub cause : RoseAt number.0 (map disk.mismatches before.disks) (map disk.mismatches after.disks)
     pub other_header : want ≢ found
-    pub last_written : IfTold asked (λ w. IsLastWritten (program_of w) (state_of (program_of w) w.machine trace) number want)
+    pub last_written : IfTold asked (λ w. IsLastWritten (program_of w) w.machine (state_of (program_of w) w.machine trace) number want)
     pub untold : ¬ AllDisksTell disk.held before.disks
     pub run : RunBrokeOff
 
