@@ -8,7 +8,6 @@ use Rattle.std.proofs.lemmas.List.Elements.{All-from_get_or}
 use Rattle.std.proofs.lemmas.List.Folds.{list_any_at}
 use Rattle.std.proofs.lemmas.List.FromFn.{length-map-range_with_len}
 use Rattle.std.proofs.lemmas.List.Sums.{count_by-le-length, length-filter}
-use Rattle.std.proofs.Math.Path.{fun_ext}
 use Rattle.sj_base.proofs.SameIds.{other_node, same_cell-itself}
 use Rattle.sj_base.specs.Mode.{is_written}
 use Rattle.sj_base.specs.declared.mode.Access.{Access}
@@ -30,7 +29,7 @@ use Rattle.sj_machine.specs.Rows.{CanHappen, Rows}
 use Rattle.sj_machine.specs.Stores.{HasStores, Keeps, pins_on, row_at, state_in, store_of}
 use Rattle.sj_machine.proofs.ClaimEntries.{entries}
 use Rattle.sj_machine.proofs.FewPins.{few-operands}
-use Rattle.sj_machine.proofs.Happening.{AreLeft, get-any, mark-inside, may-happen, rows_in, rows-left, store-at}
+use Rattle.sj_machine.proofs.Happening.{AreLeft, get-any, mark-inside, may-happen, rows_in, rows-left, store-at, store-same}
 use Rattle.sj_machine.proofs.Loops.{rows-written}
 use Rattle.sj_machine.proofs.NodeSums.{sum-at, sum-grown}
 use Rattle.sj_machine.proofs.Unpinning.{all-less, can-unpin}
@@ -137,14 +136,11 @@ module _ (p : Program) (m : Machine) (tasks : List Progress) (cells : List CellS
 
   released-is : released (pins s w) (scratch s w) (store_of p m s n) ≡ store_of p m s' n
   released-is =
-      ap (λ es. store (node_size m n) (sum_by (scratch s) (workers_at m n) - scratch s w) (length p.cells) es) (all-less (tile_bytes p) (pins s w) (pins_on m s n) (order s n)
-      ∙ ap (λ (f : Cell → ℕ). entries (tile_bytes p) f (order s n)) (fun_ext {f = λ c. pins_on m s n c - times (pins s w) c} {g = pins_on m s' n} (λ c. (let e = pins-before c in let z : pins_on m s n c - times (pins s w) c ≡ pins_on m s' n c = omega arith in z))))
-      ∙ ap (λ (k : ℕ). store (node_size m n) k (length p.cells) (entries (tile_bytes p) (pins_on m s' n) (order s n))) (let z : sum_by (scratch s) (workers_at m n) - scratch s w ≡ sum_by (scratch s') (workers_at m n) = omega (arith, scratch-before) in z)
+      ap (λ es. store (node_size m n) (sum_by (scratch s) (workers_at m n) - scratch s w) (length p.cells) es) (all-less (tile_bytes p) (pins s w) (pins_on m s n) (order s n))
+      ∙ store-same p m n (order s n) _ _ (λ c. pins_on m s n c - times (pins s w) c) (pins_on m s' n) (omega (arith, scratch-before)) (λ c. (let e = pins-before c in let z : pins_on m s n c - times (pins s w) c ≡ pins_on m s' n c = omega arith in z))
 
   store-elsewhere : (k : Node) → k ≢ n → store_of p m s k ≡ store_of p m s' k
-  store-elsewhere k far =
-      ap (λ (x : ℕ). store (node_size m k) x (length p.cells) (entries (tile_bytes p) (pins_on m s k) (order s k))) (sum-at m k (scratch s) (scratch s') (λ v at. ap (λ (row : WorkerState). row.scratch) (row v at)))
-      ∙ ap (λ (f : Cell → ℕ). store (node_size m k) (sum_by (scratch s') (workers_at m k)) (length p.cells) (entries (tile_bytes p) f (order s k))) (fun_ext {f = pins_on m s k} {g = pins_on m s' k} (λ c. sum-at m k (λ v. times (pins s v) c) (λ v. times (pins s' v) c) (λ v at. ap (λ (x : WorkerState). times x.pins c) (row v at))))
+  store-elsewhere k far = store-same p m k (order s k) _ _ (pins_on m s k) (pins_on m s' k) (sum-at m k (scratch s) (scratch s') (λ v at. ap (λ (x : WorkerState). x.scratch) (row v at))) (λ c. sum-at m k (λ v. times (pins s v) c) (λ v. times (pins s' v) c) (λ v at. ap (λ (x : WorkerState). times x.pins c) (row v at)))
     where
       row : (v : Worker) → node_of m v ≡ k → worker_state s v ≡ worker_state s' v
       row v at = other-row v (λ e. far (sym at ∙ ap (node_of m) e))

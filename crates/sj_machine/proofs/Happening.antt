@@ -2,14 +2,15 @@
 use Rattle.std.proofs.Common.{◌≡◌, ◌<◌, ◌∙◌, Bool, ap, arith, false, true, length, List, map, refl, sym, subst, ℕ, zero, suc, [], ◌∷◌, get_or}
 use Rattle.std.proofs.lemmas.Bool.{cases_lt, false≢true}
 use Rattle.std.proofs.lemmas.List.{ext_get_or, get_or-map, get_or_past, length-map}
+use Rattle.std.proofs.Math.Path.{fun_ext}
 use Rattle.sj_core.proofs.Replaying.{Step-keeps_coherence}
 use Rattle.sj_core.proofs.Reading.{no_row}
-use Rattle.sj_core.proofs.Words.{Cell, CellState, Event, Invalid, Machine, Mark, Node, Program, State, WorkerState, cell_state, mark, order}
+use Rattle.sj_core.proofs.Words.{Cell, CellState, Event, Invalid, Machine, Mark, Node, Program, State, WorkerState, cell_state, mark, node_size, order, tile_bytes}
 use Rattle.sj_core.specs.Laws.{IsSound}
 use Rattle.sj_core.specs.Step.{May, after}
 use Rattle.sj_core.specs.declared.progress.Progress.{Progress}
 use Rattle.sj_node.specs.Entry.{NodeEntry}
-use Rattle.sj_node.specs.Store.{Store}
+use Rattle.sj_node.specs.Store.{Store, store}
 use Rattle.sj_machine.specs.Cells.{row_of}
 use Rattle.sj_machine.specs.Rows.{CanHappen, Rows, has_happened}
 use Rattle.sj_machine.proofs.FewPins.{few-after}
@@ -50,6 +51,14 @@ module _ (p : Program) (m : Machine) (s : State) (nodes : List Store) (had : Has
       let node : i < length m.nodes = omega (arith, within, had.every_node) in
       get_or-map order_in nodes i (store_of p m s n) [] within ∙ ap order_in (had.stores n node) ∙ entry-cells (node_entry_of p m s n) (λ c. refl) (order s n)
       ))
+
+-- what a node's store is by its order, by what its workers hold there, and by how many pins they have on each cell
+abbrev pub store_by : Program → Machine → Node → List Cell → ℕ → (Cell → ℕ) → Store
+store_by p m n cs held pins = store (node_size m n) held (length p.cells) (map (λ c. record { cell = c; bytes = tile_bytes p c; pins = pins c }) cs)
+
+pub store-same : (p : Program) (m : Machine) (n : Node) (cs : List Cell) (held held' : ℕ) (pins pins' : Cell → ℕ) → held ≡ held' → ((c : Cell) → pins c ≡ pins' c) → store_by p m n cs held pins ≡ store_by p m n cs held' pins'
+store-same p m n cs held held' pins pins' same each =
+    ap (λ k. store_by p m n cs k pins) same ∙ ap (λ (f : Cell → ℕ). store_by p m n cs held' f) (fun_ext {f = pins} {g = pins'} each)
 
 -- stores stay where each node's does
 pub HasStores-same : (p : Program) (m : Machine) (s s' : State) (nodes : List Store) → ((n : Node) → store_of p m s' n ≡ store_of p m s n) → HasStores p m s nodes → HasStores p m s' nodes

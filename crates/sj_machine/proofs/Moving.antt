@@ -1,7 +1,8 @@
 -- What the beginning and the end of a move leave, and a drop.
 use Rattle.std.proofs.Common.{◌≡◌, ◌<◌, ◌∙◌, ap, arith, false, true, length, count_by, List, map, None, Option, refl, set, slice_index_or, slice_set, Some, sum_by, sym, subst, ℕ}
 use Rattle.std.proofs.lemmas.Bool.{false≢true}
-use Rattle.std.proofs.Math.Path.{fun_ext}
+use Rattle.sj_base.proofs.Lists.{sum_by-agree}
+use Rattle.sj_core.proofs.CellLists.{times}
 use Rattle.sj_core.proofs.Placing.{pins-same, scratch-same}
 use Rattle.sj_core.proofs.Replicas.{leaving_by-leaves}
 use Rattle.sj_core.proofs.States.{one-mover}
@@ -13,19 +14,15 @@ use Rattle.sj_core.specs.declared.progress.Transfer.{Transfer}
 use Rattle.sj_node.specs.Store.{Store, store}
 use Rattle.sj_machine.specs.Cells.{row_of, with_row_of}
 use Rattle.sj_machine.specs.Rows.{CanHappen, Rows}
-use Rattle.sj_machine.specs.Stores.{HasStores, Keeps, state_in, store_of, transfer_in, with_transfer_of}
-use Rattle.sj_machine.proofs.Happening.{AreLeft, HasStores-same, mark-inside, may-happen, row-at, rows_in, rows-left}
+use Rattle.sj_machine.specs.Stores.{HasStores, Keeps, pins_on, state_in, store_of, transfer_in, with_transfer_of}
+use Rattle.sj_machine.proofs.Happening.{AreLeft, HasStores-same, mark-inside, may-happen, row-at, rows_in, rows-left, store-same}
 
--- a node's store depends on its order and on what its workers pin and hold, and so it stays where a transfer begins or ends
-store_from : (p : Program) (m : Machine) (s : State) (n : Node) → (Worker → List Cell) → (Worker → ℕ) → Store
-store_from p m s n pinned holds = store (node_size m n) (sum_by holds (workers_at m n)) (length p.cells) (map (λ c. record { cell = c; bytes = tile_bytes p c; pins = sum_by (λ w. count_by (λ d. same_cell d c) (pinned w)) (workers_at m n) }) (order s n))
-
+-- a node's store stays where a transfer begins or ends
 transfer-store : (p : Program) (m : Machine) (s : State) (w : Worker) (move : Option Transfer) (n : Node) → store_of p m (with_transfer s w move) n ≡ store_of p m s n
-unfolding store_from
 transfer-store p m s w move n =
     let s' : State = with_transfer s w move in
-    ap (λ (f : Worker → List Cell). store_from p m s n f (scratch s')) (fun_ext {f = pins s'} {g = pins s} (pins-same s w move))
-    ∙ ap (λ (f : Worker → ℕ). store_from p m s n (pins s) f) (fun_ext {f = scratch s'} {g = scratch s} (scratch-same s w move))
+    store-same p m n (order s n) _ _ (pins_on m s' n) (pins_on m s n) (sum_by-agree (scratch s') (scratch s) (scratch-same s w move) (workers_at m n))
+    (λ c. sum_by-agree (λ v. times (pins s' v) c) (λ v. times (pins s v) c) (λ v. ap (λ (cs : List Cell). times cs c) (pins-same s w move v)) (workers_at m n))
 
 module _ (p : Program) (m : Machine) (tasks : List Progress) (cells : List CellState) (nodes : List Store) (workers : List WorkerState) (keeps : Keeps p m (state_in tasks cells nodes workers) nodes) (r : Rows) (same : rows_in p m (state_in tasks cells nodes workers) ≡ r) where
   abbrev s : State
