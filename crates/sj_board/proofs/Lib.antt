@@ -3,6 +3,7 @@ pub mod BoardEnds
 pub mod Boarding
 pub mod Delivering
 pub mod DiskCounts
+pub mod EndingTiles
 pub mod Ends
 pub mod Failing
 pub mod Faulting
