@@ -27,7 +27,6 @@ pub mod Pooling
 pub mod Prepared
 pub mod PuttingBack
 pub mod ReleasedTasks
-pub mod Results
 pub mod SharesInOrder
 pub mod Sparing
 pub mod SparingBoards
