@@ -1,0 +1,67 @@
+-- What is kept beside rows, as an event happens.
+use Rattle.std.proofs.Common.{◌≡◌, ◌<◌, ◌∙◌, List, None, Option, Some, [], ap, arith, false, length, refl, replicate, set, subst, sym, true}
+use Rattle.std.proofs.lemmas.Bool.{false≢true}
+use Rattle.std.proofs.lemmas.List.{length-replicate}
+use Rattle.sj_base.proofs.Lists.{get_or-replicate_same}
+use Rattle.sj_base.specs.declared.ids.DiskNo.{DiskNo}
+use Rattle.sj_base.specs.declared.ids.Task.{Task}
+use Rattle.sj_base.specs.declared.ids.Worker.{Worker}
+use Rattle.sj_base.specs.declared.program.Machine.{Machine}
+use Rattle.sj_base.specs.declared.program.Program.{Program}
+use Rattle.sj_base.specs.declared.trace.Event.TheVariants.{Claim, End, Run}
+use Rattle.sj_core.proofs.Advancing.{Claims-advances, Ends-advances, Runs-advances}
+use Rattle.sj_core.proofs.Eviction.{evicted-after}
+use Rattle.sj_core.specs.Coherent.{Coherent}
+use Rattle.sj_core.specs.Machine.{is_done, is_task_of, opening, progress}
+use Rattle.sj_core.specs.Step.{after}
+use Rattle.sj_core.specs.declared.progress.Progress.TheVariants.{Claimed, Done, Running, Waiting}
+use Rattle.sj_deps.specs.Progress.{Dependencies, after_done, dependencies}
+use Rattle.sj_machine.specs.Rows.{CanHappen, Rows, has_happened, rows_at_start}
+use Rattle.sj_check.proofs.Counting.{counts-ended, counts-still}
+use Rattle.sj_check.proofs.Tasks.{tasks-claimed, tasks-still}
+use Rattle.sj_check.specs.Watching.{AreHomes, CountsDone, HasTasks, Watches}
+
+module _ (r : Rows) (homes : List DiskNo) (tasks : List (Option Task)) (deps : Dependencies) (watches : Watches r homes tasks deps) (t : Task) (w : Worker) where
+  -- a worker without a task claims one
+  pub watches-claimed : Coherent r.program r.machine r.state → CanHappen r (Claim t w) → Watches (has_happened r (Claim t w)) homes (set tasks w.0 (Some t)) deps
+  watches-claimed coherent can =
+      let s' = after r.program r.machine r.state (Claim t w) in
+      let step = Claims-advances r.program r.machine r.state t w s' coherent.state.rows can (evicted-after r.program r.machine r.state t w) in
+      record {
+        places = watches.places;
+        claims = tasks-claimed r.program r.state tasks watches.claims s' t Waiting (Claimed w) step w refl (omega (arith, can.worker, watches.claims.every_worker)) can.idle;
+        counts = counts-still r.program r.state deps watches.counts s' t Waiting (Claimed w) step refl refl;
+      }
+
+  -- its kernel begins
+  pub watches-begun : CanHappen r (Run t w) → Watches (has_happened r (Run t w)) homes tasks deps
+  watches-begun can =
+      let s' = after r.program r.machine r.state (Run t w) in
+      let step = Runs-advances r.program r.machine r.state t w s' can refl in
+      record {
+        places = watches.places;
+        claims = tasks-still r.program r.state tasks watches.claims s' t (Claimed w) (Running w) step (λ v h. (let same : is_task_of v (Claimed w) ≡ is_task_of v (Running w) = grind arith in same ∙ h));
+        counts = counts-still r.program r.state deps watches.counts s' t (Claimed w) (Running w) step refl refl;
+      }
+
+  -- it ends
+  pub watches-ended : CanHappen r (End t w) → Watches (has_happened r (End t w)) homes tasks (after_done deps t.0)
+  watches-ended can =
+      let s' = after r.program r.machine r.state (End t w) in
+      let step = Ends-advances r.program r.machine r.state t w s' can refl in
+      record {
+        places = watches.places;
+        claims = tasks-still r.program r.state tasks watches.claims s' t (Running w) (Done w) step (λ v h. absurd (false≢true h));
+        counts = counts-ended r.program r.state deps watches.counts s' t (Running w) (Done w) step refl;
+      }
+
+-- nothing has happened
+pub watches-fresh : (p : Program) (m : Machine) (homes : List DiskNo) → AreHomes p m homes → Watches (rows_at_start p m) homes (replicate p.workers None) (dependencies p [])
+watches-fresh p m homes places = record {
+  places = places;
+  claims = record { every_worker = length-replicate p.workers None; last = λ w t h. absurd (false≢true (sym (ap (is_task_of w) (waits t)) ∙ h)) };
+  counts = record { program = refl; done = λ t. (λ (i, l, e). absurd (omega (arith, l)), λ h. absurd (false≢true (sym (ap is_done (waits t)) ∙ h))) };
+}
+  where
+    waits : (t : Task) → progress (opening p m) t ≡ Waiting
+    waits t = get_or-replicate_same (length p.tasks) t.0 Waiting

@@ -1,0 +1,11 @@
+use Rattle.std.proofs.Common.{subst, sym}
+use Rattle.sj_machine.specs.Rows.{Rows}
+use Rattle.sj_check.proofs.Keeping.{watches-begun}
+use Rattle.sj_check.specs.Watching.{Watches}
+use Rattle.sj_check.proofs.checker.Checker.begin_run.Goals as goal
+
+pub invariant_of-self : goal.invariant_of-self
+invariant_of-self c =
+    let old = c.self.inside in
+    subst (λ (r : Rows). Watches r old.homes.items old.tasks.items old.deps) (sym c.run.ensures)
+    (watches-begun old.rows old.homes.items old.tasks.items old.deps c.self.invariant c.args.t c.args.w (c.run_is_legal.ensures.0 c.if-not-run_is_legal.false))

@@ -1,0 +1,35 @@
+use Rattle.std.proofs.Common.{◌∙◌, List, Option, Result, refl, subst, sym}
+use Rattle.std.specs.Prelude.{IfErr, OnOk}
+use Rattle.sj_base.specs.declared.ids.Task.{Task}
+use Rattle.sj_base.specs.declared.trace.Event.TheVariants.{Claim}
+use Rattle.sj_machine.specs.Plan.{ClaimPlan}
+use Rattle.sj_machine.specs.Planning.{IsWhy}
+use Rattle.sj_machine.specs.Rows.{CanHappen, Rows, has_happened}
+use Rattle.sj_machine.specs.declared.plan.Why.{Why}
+use Rattle.sj_check.proofs.Keeping.{watches-claimed}
+use Rattle.sj_check.proofs.Legality.{why-not}
+use Rattle.sj_check.specs.Judging.{HappensLegally, IsRefused}
+use Rattle.sj_check.specs.Watching.{Watches}
+use Rattle.sj_check.proofs.checker.Checker.claim.Goals as goal
+
+pub returns-in_default : goal.returns-in_default
+returns-in_default c =
+    let r = c.self.inside.rows in
+    subst (λ (old : Rows). IsRefused old (Claim c.args.t c.args.w) old) c.self.view_is
+    (record {
+      illegal = why-not r.program r.machine r.state c.args.t c.args.w c.in_default.field-0 (subst (λ (found : Result ClaimPlan Why). IfErr found (IsWhy r.program r.machine r.state c.args.t c.args.w)) c.in_default.is c.in_ok-plan.ensures.why);
+      nothing = refl;
+    })
+
+pub invariant_of-self-2 : goal.invariant_of-self-2
+invariant_of-self-2 c =
+    let old = c.self.inside in
+    let can = subst (λ (found : Result ClaimPlan Why). OnOk found (CanHappen old.rows (Claim c.args.t c.args.w))) c.in-Ok.is c.in_ok-plan.ensures.can in
+    subst (λ (r : Rows). Watches r old.homes.items c.set_task.new.tasks.items old.deps) (sym c.in_ok-claim.ensures.ok)
+    (subst (λ (ts : List (Option Task)). Watches (has_happened old.rows (Claim c.args.t c.args.w)) old.homes.items ts old.deps) (sym c.set_task.ensures)
+    (watches-claimed old.rows old.homes.items old.tasks.items old.deps c.self.invariant c.args.t c.args.w c.is_sound.ensures.coherent can))
+
+pub returns : goal.returns
+returns c =
+    let can = subst (λ (found : Result ClaimPlan Why). OnOk found (CanHappen c.self.inside.rows (Claim c.args.t c.args.w))) c.in-Ok.is c.in_ok-plan.ensures.can in
+    subst (λ (r : Rows). HappensLegally r (Claim c.args.t c.args.w) c.claim.new.self) c.self.view_is (record { legal = can; happens = c.in_ok-claim.ensures.ok })
