@@ -1,9 +1,9 @@
 -- The entries of a node, whose bytes and pins are told by the cell, while a claim admits, touches and pins its cells.
-use Rattle.std.proofs.Common.{◌≡◌, ℕ, ◌+◌, ◌≤◌, Bool, true, false, not, ◌||◌, cond, List, [], ◌∷◌, ◌++◌, map, filter, fold, length, refl, sym, ap, ◌∙◌, subst, arith, sum_by, nat_eq}
+use Rattle.std.proofs.Common.{◌≡◌, ℕ, ◌+◌, ◌≤◌, Bool, true, false, not, ◌||◌, cond, List, [], ◌∷◌, ◌++◌, map, filter, fold, length, refl, sym, ap, ◌∙◌, subst, arith, inl, inr, sum_by, nat_eq}
 use Rattle.std.specs.List.{find}
 use Rattle.std.specs.Option.{option_map_or}
 use Rattle.std.specs.Prelude.{Some}
-use Rattle.std.proofs.lemmas.Bool.{false≢true, or_right}
+use Rattle.std.proofs.lemmas.Bool.{cases_Bool, false≢true, or_right}
 use Rattle.std.proofs.lemmas.List.Elements.{filter-append, filter_agree}
 use Rattle.std.proofs.lemmas.List.Sums.{sum_by-cons}
 use Rattle.sj_core.proofs.Words.{Cell, has_cell, same_cell}
@@ -26,13 +26,7 @@ put_first new cs = fold (λ kept c. c ∷ kept) cs new
 
 pub has_cell-put_first : (new cs : List Cell) (c : Cell) → has_cell (put_first new cs) c ≡ (has_cell new c || has_cell cs c)
 has_cell-put_first [] cs c = refl
-has_cell-put_first (x ∷ new) cs c = has_cell-put_first new (x ∷ cs) c ∙ swap (has_cell new c) (same_cell x c) (has_cell cs c)
-  where
-    swap : (a b z : Bool) → (a || (b || z)) ≡ ((b || a) || z)
-    swap true true z = refl
-    swap true false z = refl
-    swap false true z = refl
-    swap false false z = refl
+has_cell-put_first (x ∷ new) cs c = search (arith, cases_Bool, has_cell-put_first new (x ∷ cs) c)
 
 pub times-put_first : (new cs : List Cell) (c : Cell) → times (put_first new cs) c ≡ times new c + times cs c
 times-put_first [] cs c = omega arith
@@ -41,23 +35,12 @@ times-put_first (x ∷ new) cs c = let rest = times-put_first new (x ∷ cs) c i
 -- a cell that comes to the front later needn't have been in the list
 fronted-inside : (cs front back : List Cell) (x : Cell) → has_cell cs x ≡ true → fold to_front (front ++ x ∷ back) cs ≡ fold to_front (front ++ back) cs
 fronted-inside [] front back x h = absurd (false≢true h)
-fronted-inside (d ∷ cs) front back x h = by_cases (same_cell d x) refl (λ f b later. fronted-inside cs f b x later)
-  where
-    keep : Cell → Bool
-    keep e = not (same_cell e d)
-
-    by_cases : (b : Bool) → same_cell d x ≡ b → ((f k : List Cell) → has_cell cs x ≡ true → fold to_front (f ++ x ∷ k) cs ≡ fold to_front (f ++ k) cs) → fold to_front (to_front (front ++ x ∷ back) d) cs ≡ fold to_front (to_front (front ++ back) d) cs
-    by_cases true e rest =
-        let gone : keep x ≡ false = ap not (same_cell-sym x d ∙ e) in
-        let same : filter keep (front ++ x ∷ back) ≡ filter keep (front ++ back) = filter-append keep front (x ∷ back) ∙ ap (λ b. filter keep front ++ cond b (x ∷ filter keep back) (filter keep back)) gone ∙ sym (filter-append keep front back) in
-        ap (λ (ys : List Cell). fold to_front (d ∷ ys) cs) same
-    by_cases false e rest =
-        let stays : keep x ≡ true = ap not (same_cell-sym x d ∙ e) in
-        let split : filter keep (front ++ x ∷ back) ≡ filter keep front ++ x ∷ filter keep back = filter-append keep front (x ∷ back) ∙ ap (λ b. filter keep front ++ cond b (x ∷ filter keep back) (filter keep back)) stays in
-        let later : has_cell cs x ≡ true = sym (ap (λ b. b || has_cell cs x) e) ∙ h in
-        ap (λ (ys : List Cell). fold to_front (d ∷ ys) cs) split
-        ∙ rest (d ∷ filter keep front) (filter keep back) later
-        ∙ ap (λ (ys : List Cell). fold to_front (d ∷ ys) cs) (sym (filter-append keep front back))
+fronted-inside (d ∷ cs) front back x h =
+    let keep : Cell → Bool = λ e. not (same_cell e d) in
+    let rest = fronted-inside cs (d ∷ filter keep front) (filter keep back) x in
+    let whole = filter-append keep front (x ∷ back) in
+    let short = filter-append keep front back in
+    search (arith, cases_Bool, same_cell-sym, rest, whole, short)
 
 pub fronted-put_first : (cs new xs : List Cell) → ((c : Cell) → has_cell new c ≡ true → has_cell cs c ≡ true) → fold to_front (put_first new xs) cs ≡ fold to_front xs cs
 fronted-put_first cs [] xs among = refl
@@ -68,22 +51,20 @@ fronted-put_first cs (x ∷ new) xs among =
 -- what a list has once
 filter-none : (c : Cell) (cs : List Cell) → times cs c ≡ 0 → filter (λ d. same_cell d c) cs ≡ []
 filter-none c [] h = refl
-filter-none c (x ∷ cs) h = by_cases (same_cell x c) refl (filter-none c cs)
-  where
-    by_cases : (b : Bool) → same_cell x c ≡ b → (times cs c ≡ 0 → filter (λ d. same_cell d c) cs ≡ []) → cond b (x ∷ filter (λ d. same_cell d c) cs) (filter (λ d. same_cell d c) cs) ≡ []
-    by_cases true e rest = absurd (let a = times-cons x cs c in let one : tally (same_cell x c) ≡ 1 = ap tally e in omega arith)
-    by_cases false e rest = rest (let a = times-cons x cs c in omega arith)
+filter-none c (x ∷ cs) h =
+    let all = times-cons x cs c in
+    let other : tally (same_cell x c) ≡ 0 = omega arith in
+    let rest = filter-none c cs (omega arith) in
+    search (arith, cases_Bool)
 
 filter-one : (c : Cell) (cs : List Cell) → has_cell cs c ≡ true → times cs c ≤ 1 → filter (λ d. same_cell d c) cs ≡ c ∷ []
 filter-one c [] h once = absurd (false≢true h)
-filter-one c (x ∷ cs) h once = by_cases (same_cell x c) refl h (filter-one c cs)
-  where
-    by_cases : (b : Bool) → same_cell x c ≡ b → (b || has_cell cs c) ≡ true → (has_cell cs c ≡ true → times cs c ≤ 1 → filter (λ d. same_cell d c) cs ≡ c ∷ []) → cond b (x ∷ filter (λ d. same_cell d c) cs) (filter (λ d. same_cell d c) cs) ≡ c ∷ []
-    by_cases true e h rest =
-        let a = times-cons x cs c in
-        let one : tally (same_cell x c) ≡ 1 = ap tally e in
-        ap (λ (ys : List Cell). x ∷ ys) (filter-none c cs (omega arith)) ∙ ap (λ (d : Cell). d ∷ []) (same_cell-is x c e)
-    by_cases false e h rest = rest h (let a = times-cons x cs c in omega arith)
+filter-one c (x ∷ cs) h once =
+    let all = times-cons x cs c in
+    elim (cases_Bool (same_cell x c)) [
+      | inl e ↦ (let one : tally (same_cell x c) ≡ 1 = ap tally e in let none = filter-none c cs (omega arith) in let is = same_cell-is x c e in search arith)
+      | inr e ↦ (let rest = filter-one c cs in let few : times cs c ≤ 1 = omega arith in search (arith, rest))
+    ]
 
 -- ---- entries by cell
 
@@ -96,15 +77,11 @@ module _ (bytes : Cell → ℕ) where
 
   pub entries-has : (pins : Cell → ℕ) (cs : List Cell) (c : Cell) → has_entry (entries pins cs) c ≡ has_cell cs c
   entries-has pins [] c = refl
-  entries-has pins (x ∷ cs) c = ap (λ b. b || has_entry (entries pins cs) c) (same_cell-sym c x) ∙ ap (λ b. same_cell x c || b) (entries-has pins cs c)
+  entries-has pins (x ∷ cs) c = search (arith, same_cell-sym, entries-has pins cs c)
 
   pub entries-pins : (pins : Cell → ℕ) (cs : List Cell) (c : Cell) → pins_of (entries pins cs) c ≤ pins c
   entries-pins pins [] c = omega arith
-  entries-pins pins (x ∷ cs) c = by_cases (is_of_cell c (entry pins x)) refl (entries-pins pins cs c)
-    where
-      by_cases : (b : Bool) → is_of_cell c (entry pins x) ≡ b → pins_of (entries pins cs) c ≤ pins c → option_map_or (λ (e : NodeEntry). e.pins) (cond b (Some (entry pins x)) (find (is_of_cell c) (entries pins cs))) 0 ≤ pins c
-      by_cases true e rest = let same : pins x ≡ pins c = ap pins (sym (same_cell-is c x e)) in omega arith
-      by_cases false e rest = rest
+  entries-pins pins (x ∷ cs) c = search (arith, cases_Bool, same_cell-is, entries-pins pins cs c)
 
   pub entries-total : (pins : Cell → ℕ) (cs : List Cell) → total (entries pins cs) ≡ sum_by bytes cs
   entries-total pins [] = refl
@@ -133,11 +110,7 @@ module _ (bytes : Cell → ℕ) where
 
   entries-repinned : (pins : Cell → ℕ) (c : Cell) (cs : List Cell) → repinned (λ n. n + 1) c (entries pins cs) ≡ entries (bumped pins c) cs
   entries-repinned pins c [] = refl
-  entries-repinned pins c (x ∷ cs) = ap (λ (es : List NodeEntry). cond (is_of_cell c (entry pins x)) (record (entry pins x) { pins = pins x + 1 }) (entry pins x) ∷ es) (entries-repinned pins c cs) ∙ ap (λ (e : NodeEntry). e ∷ entries (bumped pins c) cs) (by_cases (same_cell c x))
-    where
-      by_cases : (b : Bool) → cond b (record (entry pins x) { pins = pins x + 1 }) (entry pins x) ≡ record { cell = x; bytes = bytes x; pins = pins x + tally b }
-      by_cases true = refl
-      by_cases false = ap (λ (k : ℕ). let e : NodeEntry = record { cell = x; bytes = bytes x; pins = k } in e) (omega arith)
+  entries-repinned pins c (x ∷ cs) = search (arith, cases_Bool, entries-repinned pins c cs)
 
   -- one cell comes to the front and is pinned
   entries-taken : (s : Store) (pins : Cell → ℕ) (c : Cell) (cs : List Cell) → has_cell cs c ≡ true → times cs c ≤ 1 → taken (with_entries s (entries pins cs)) c ≡ with_entries s (entries (bumped pins c) (to_front cs c))

@@ -2,20 +2,21 @@
 use Rattle.std.proofs.Common.{◌≡◌, ◌≢◌, ℕ, ◌+◌, ◌<◌, ◌≤◌, Bool, true, false, not, ◌||◌, cond, List, [], ◌∷◌, map, fold, length, get_or, refl, sym, ap, ◌∙◌, subst, arith, inl, inr, sum, sum_by}
 use Rattle.std.specs.List.{AllByRecursion, IsDistinct}
 use Rattle.std.specs.Prelude.{All, IsTrue, count_by, nat_eq, nat_le, nat_lt}
-use Rattle.std.proofs.lemmas.Bool.{and_from, false_from_ne_true, false≢true, le-leb, lt-ltb, or_cases, or_parts, or_left, or_right}
+use Rattle.std.proofs.lemmas.Bool.{cases_Bool, and_from, false_from_ne_true, false≢true, le-leb, lt-ltb, or_cases, or_parts, or_left, or_right}
 use Rattle.std.proofs.lemmas.Bool.Decides.{Decides-eqb}
 use Rattle.std.proofs.lemmas.List.{length-map}
 use Rattle.std.proofs.lemmas.List.Folds.{list_any_at}
 use Rattle.std.proofs.lemmas.List.FromFn.{length-map-range_with_len}
 use Rattle.std.proofs.lemmas.List.Sums.{sum-map, sum_by-cons, sum_by-le-sum_by}
+use Rattle.sj_base.proofs.Bools.{tally-le}
 use Rattle.sj_core.proofs.Eviction.{evicted_by}
 use Rattle.sj_core.proofs.Advancing.{claimed_by-is, idle-has_none, running_on-is}
 use Rattle.sj_core.proofs.Bytes.{entry-cell, once-bytes}
-use Rattle.sj_core.proofs.CellLists.{has_cell-fronted, has_cell-without, share, sum-once, times, times-cons, times-distinct, times-filter, times-has, times-none, times-program}
+use Rattle.sj_core.proofs.CellLists.{same_cell-sym, has_cell-fronted, has_cell-without, share, sum-once, times, times-cons, times-distinct, times-filter, times-has, times-none, times-program}
 use Rattle.sj_core.proofs.ClaimKeeps.{Claims-coherent, claim-order_elsewhere, claim-order_here}
 use Rattle.sj_core.proofs.Claiming.{Claims-other_worker, Claims-worker, absent-missing, evicted-free, missing-absent, own-spared, pinned-at, pins-inside, task-cell}
 use Rattle.sj_core.proofs.Replicas.{same_worker-is, same_worker-refl, valid-entry}
-use Rattle.sj_core.proofs.Sums.{count-numbered, sum-agree, sum-filter, sum-filter-le, sum-plus, tally}
+use Rattle.sj_core.proofs.Sums.{count-numbered, sum-agree, sum-filter, sum-filter-le, sum-nothing, sum-plus, tally}
 use Rattle.sj_core.proofs.Words.{Cell, Machine, Node, Program, State, Task, Worker, WorkerState, cells_of, cells_of_program, distinct, has_cell, is_claimed_by, is_entry, is_running_on, is_valid, node_of, node_size, order, pins, progress, mark, same_cell, same_worker, scratch, scratch_bytes, task_of, tile_bytes, worker_state, workers_at, workers_of}
 use Rattle.sj_core.specs.Coherent.{Coherent}
 use Rattle.sj_core.specs.Laws.{IsSound}
@@ -25,8 +26,8 @@ use Rattle.sj_node.specs.Store.{Store, free_bytes, store, with_entries}
 use Rattle.sj_machine.specs.Stores.{node_entry_of, pins_on, store_of}
 use Rattle.sj_machine.specs.Plan.{CanHold, CanTakeAll, ClaimPlan, admitting, holding, plan_with, taken, taking}
 use Rattle.sj_machine.proofs.ClaimEntries.{can_take-all, entries, entries-has, entries-pins, entries-put, entries-total, entries-without, fronted-put_first, has_cell-put_first, more, put_first, taken-all, times-put_first}
+use Rattle.sj_machine.proofs.Happening.{store-same, store_by}
 use Rattle.sj_machine.proofs.NodeSums.{sum-at, sum-grown}
-use Rattle.std.proofs.Math.Path.{fun_ext}
 
 -- ---- lists
 
@@ -44,7 +45,7 @@ distinct-from_times (x ∷ xs) once = (
   where
     apart : (ys : List Cell) → has_cell ys x ≡ false → AllByRecursion (λ y. same_cell x y ≡ false) ys
     apart [] h = tt
-    apart (y ∷ ys) h = (let parts = or_parts (same_cell y x) (has_cell ys x) h in (false_from_ne_true (same_cell x y) (λ e. false≢true (sym parts.0 ∙ (Decides-eqb y.0 x.0).1 (sym ((Decides-eqb x.0 y.0).0 e)))), apart ys parts.1))
+    apart (y ∷ ys) h = search (arith, cases_Bool, or_parts, same_cell-sym, apart ys)
 
 sum-put_first : (f : Cell → ℕ) (new cs : List Cell) → sum_by f (put_first new cs) ≡ sum_by f new + sum_by f cs
 sum-put_first f [] cs = omega arith
@@ -64,14 +65,11 @@ length-once p xs inside once =
     let number : ℕ → Cell = λ n. record { 0 = n } in
     let a = sum-ones xs in
     let b = sum-once (λ c. 1) (cells_of_program p) xs (λ c has. times-program p c (inside c has)) once in
-    let c = sum_by-le-sum_by (share (λ c. 1) (has_cell xs)) (λ c. 1) (cells_of_program p) (λ c. at_most (has_cell xs c)) in
-    let d = sum-ones (cells_of_program p) in
-    let e : length (cells_of_program p) ≡ length p.cells = length-map-range_with_len number 0 (length p.cells) in
-    omega arith
-  where
-    at_most : (b : Bool) → cond b 1 0 ≤ 1
-    at_most true = omega arith
-    at_most false = omega arith
+    let c = sum_by-le-sum_by (share (λ c. 1) (has_cell xs)) (λ c. 1) (cells_of_program p) (λ c. tally-le (has_cell xs c)) in
+    omega (arith, sum-ones (cells_of_program p), length-map-range_with_len number 0 (length p.cells))
+
+implied_or : (a b : Bool) → (a ≡ true → b ≡ true) → (a || b) ≡ b
+implied_or a b f = search (arith, cases_Bool)
 
 -- ---- a claim
 
@@ -112,16 +110,11 @@ module _ (p : Program) (m : Machine) (s : State) (h : IsSound p m s) (t : Task) 
       (let now : scratch s' w ≡ scratch_bytes p (task_of p t) = ap (λ (row : WorkerState). row.scratch) (Claims-worker p m s t w s' h.coherent.state.rows h.machine claim leaves) in let none = idle-scratch in omega arith)
       refl worker_inside
 
-  -- a store by its scratch, its pins and its order
-  abbrev store_by : Node → ℕ → (Cell → ℕ) → List Cell → Store
-  store_by k held pinned cells = store (node_size m k) held (length p.cells) (entries bytes pinned cells)
-
   -- the stores of other nodes stay
   pub store-elsewhere : (k : Node) → k ≢ n → store_of p m s' k ≡ store_of p m s k
   store-elsewhere k other =
-      ap (λ (held : ℕ). store_by k held (pins_on m s' k) (order s' k)) (sum-at m k (scratch s') (scratch s) (λ v at. ap (λ (row : WorkerState). row.scratch) (kept v at)))
-      ∙ ap (λ (f : Cell → ℕ). store_by k (sum_by (scratch s) (workers_at m k)) f (order s' k)) (fun_ext {f = pins_on m s' k} {g = pins_on m s k} (λ c. sum-at m k (λ v. times (pins s' v) c) (λ v. times (pins s v) c) (λ v at. ap (λ (row : WorkerState). times row.pins c) (kept v at))))
-      ∙ ap (store_by k (sum_by (scratch s) (workers_at m k)) (pins_on m s k)) (claim-order_elsewhere p m s h t w s' claim leaves k other)
+      store-same p m k (order s' k) _ _ (pins_on m s' k) (pins_on m s k) (sum-at m k (scratch s') (scratch s) (λ v at. ap (λ (row : WorkerState). row.scratch) (kept v at))) (λ c. sum-at m k (λ v. times (pins s' v) c) (λ v. times (pins s v) c) (λ v at. ap (λ (row : WorkerState). times row.pins c) (kept v at)))
+      ∙ ap (λ (cs : List Cell). store_by p m k cs (sum_by (scratch s) (workers_at m k)) (pins_on m s k)) (claim-order_elsewhere p m s h t w s' claim leaves k other)
     where
       kept : (v : Worker) → node_of m v ≡ k → worker_state s' v ≡ worker_state s v
       kept v at = Claims-other_worker p m s t w v s' claim leaves (λ e. other (sym at ∙ ap (node_of m) e))
@@ -130,11 +123,7 @@ module _ (p : Program) (m : Machine) (s : State) (h : IsSound p m s) (t : Task) 
 
   -- what isn't pinned by a worker of the node has no pins
   unpinned-none : (c : Cell) → ((v : Worker) → node_of m v ≡ n → has_cell (pins s v) c ≡ false) → pins_on m s n c ≡ 0
-  unpinned-none c none = sum-at m n (λ v. times (pins s v) c) (λ v. 0) (λ v at. times-none (pins s v) c (none v at)) ∙ zeros (workers_at m n)
-    where
-      zeros : (ws : List Worker) → sum_by (λ v. 0) ws ≡ 0
-      zeros [] = refl
-      zeros (v ∷ ws) = let a = sum_by-cons (λ (u : Worker). 0) v ws in let rest = zeros ws in omega arith
+  unpinned-none c none = sum-at m n (λ v. times (pins s v) c) (λ v. 0) (λ v at. times-none (pins s v) c (none v at)) ∙ sum-nothing (λ (v : Worker). 0) (λ v. refl) (workers_at m n)
 
   pin-inside : (v : Worker) (c : Cell) → has_cell (pins s v) c ≡ true → v.0 < m.workers
   pin-inside v c pin = omega (arith, pins-inside s v c pin, h.coherent.state.rows.workers)
@@ -146,12 +135,8 @@ module _ (p : Program) (m : Machine) (s : State) (h : IsSound p m s) (t : Task) 
       ap (λ (k : Node). has_cell (order s k) c) (sym at) ∙ h.coherent.state.entries.entries (node_of m v) c
       ∙ elim (or_cases (is_claimed_by v (progress s held.task)) (is_running_on v (progress s held.task)) held.has) [
         | inl claimed ↦ h.coherent.cells.claimed held.task v c (claimed_by-is v (progress s held.task) claimed) held.cell
-        | inr running ↦ valid_pinned v c pin (h.coherent.cells.running held.task v c (running_on-is v (progress s held.task) running) held.cell)
+        | inr running ↦ valid-entry (mark s c (node_of m v)) (h.coherent.cells.running held.task v c (running_on-is v (progress s held.task) running) held.cell) (h.coherent.pins.stays v c pin)
       ]
-    where
-      -- a valid replica that is pinned doesn't leave
-      valid_pinned : (v : Worker) (c : Cell) → has_cell (pins s v) c ≡ true → is_valid (mark s c (node_of m v)) ≡ true → is_entry (mark s c (node_of m v)) ≡ true
-      valid_pinned v c pin valid = valid-entry (mark s c (node_of m v)) valid (h.coherent.pins.stays v c pin)
 
   -- what has no entry isn't pinned
   absent-unpinned : (c : Cell) → has_cell (order s n) c ≡ false → pins_on m s n c ≡ 0
@@ -170,32 +155,20 @@ module _ (p : Program) (m : Machine) (s : State) (h : IsSound p m s) (t : Task) 
   first = put_first brought rest
 
   own-there : (c : Cell) → has_cell own c ≡ true → has_cell first c ≡ true
-  own-there c has = has_cell-put_first brought rest c ∙ by_cases (has_cell (order s n) c) refl
-    where
-      by_cases : (b : Bool) → has_cell (order s n) c ≡ b → (has_cell brought c || has_cell rest c) ≡ true
-      by_cases true there = or_right (has_cell brought c) (has_cell rest c) (has_cell-without evicted (order s n) c ∙ and_from (not (has_cell evicted c)) (has_cell (order s n) c) (ap not (own-spared p m s h t w s' claim leaves c has)) there)
-      by_cases false absent = or_left (has_cell brought c) (has_cell rest c) (absent-missing p m s t w s' claim leaves c absent has)
+  own-there c has = has_cell-put_first brought rest c ∙ elim (cases_Bool (has_cell (order s n) c)) [
+    | inl there ↦ or_right (has_cell brought c) (has_cell rest c) (has_cell-without evicted (order s n) c ∙ and_from (not (has_cell evicted c)) (has_cell (order s n) c) (ap not (own-spared p m s h t w s' claim leaves c has)) there)
+    | inr absent ↦ or_left (has_cell brought c) (has_cell rest c) (absent-missing p m s t w s' claim leaves c absent has)
+  ]
 
   brought-once : (c : Cell) → times brought c ≤ 1
   brought-once c = let fewer = times-filter (λ d. not (has_cell (order s n) d)) (distinct own) c in let once = times-distinct own c in omega arith
 
   -- what has at most these of the order has nothing twice
   put-once : (kept : List Cell) → ((c : Cell) → times kept c ≤ times (order s n) c) → (c : Cell) → times (put_first brought kept) c ≤ 1
-  put-once kept fewer c = by_cases (has_cell (order s n) c) refl
-    where
-      by_cases : (b : Bool) → has_cell (order s n) c ≡ b → times (put_first brought kept) c ≤ 1
-      by_cases true there =
-          let all = times-put_first brought kept c in
-          let none = times-none brought c (false_from_ne_true (has_cell brought c) (λ lacks. false≢true (sym (missing-absent p m s t w s' claim leaves c lacks).0 ∙ there))) in
-          let few = fewer c in
-          let once = h.coherent.state.entries.once n c in
-          omega arith
-      by_cases false absent =
-          let all = times-put_first brought kept c in
-          let none = times-none (order s n) c absent in
-          let few = fewer c in
-          let once = brought-once c in
-          omega arith
+  put-once kept fewer c = elim (cases_Bool (has_cell (order s n) c)) [
+    | inl there ↦ omega (arith, times-put_first brought kept c, fewer c, h.coherent.state.entries.once n c, times-none brought c (false_from_ne_true (has_cell brought c) (λ lacks. false≢true (sym (missing-absent p m s t w s' claim leaves c lacks).0 ∙ there))))
+    | inr absent ↦ omega (arith, times-put_first brought kept c, fewer c, times-none (order s n) c absent, brought-once c)
+  ]
 
   rest-fewer : (c : Cell) → times rest c ≤ times (order s n) c
   rest-fewer c = times-filter (λ d. not (has_cell evicted d)) (order s n) c
@@ -227,8 +200,7 @@ module _ (p : Program) (m : Machine) (s : State) (h : IsSound p m s) (t : Task) 
   pub holding-is : holding before plan ≡ store_of p m s' n
   holding-is =
       ap (λ (x : Store). record x { scratch = x.scratch + plan.scratch }) taking-is
-      ∙ ap (λ (held : ℕ). store_by n held (more bytes (pins_on m s n) own) (order s' n)) (sym scratch-after)
-      ∙ ap (λ (f : Cell → ℕ). store_by n (sum_by (scratch s') (workers_at m n)) f (order s' n)) (fun_ext {f = more bytes (pins_on m s n) own} {g = pins_on m s' n} (λ c. sym (pins-after c)))
+      ∙ store-same p m n (order s' n) _ _ (more bytes (pins_on m s n) own) (pins_on m s' n) (sym scratch-after) (λ c. sym (pins-after c))
 
   -- ---- that it can
 
@@ -243,14 +215,10 @@ module _ (p : Program) (m : Machine) (s : State) (h : IsSound p m s) (t : Task) 
       ∙ sym (once-bytes p first (λ c has. entry-cell p m s' after_state.state n c (same c ∙ has)) first-once)
       ∙ sum-put_first bytes brought rest
     where
-      either : (a b : Bool) → (a ≡ true → b ≡ true) → (a || b) ≡ b
-      either true b f = sym (f refl)
-      either false b f = refl
-
       same : (c : Cell) → has_cell (order s' n) c ≡ has_cell first c
       same c =
           ap (λ (cs : List Cell). has_cell cs c) (claim-order_here p m s h t w s' claim leaves ∙ sym (fronted-put_first own brought rest brought-own))
-          ∙ has_cell-fronted own first c ∙ either (has_cell own c) (has_cell first c) (own-there c)
+          ∙ has_cell-fronted own first c ∙ implied_or (has_cell own c) (has_cell first c) (own-there c)
 
   can-fit : sum (map bytes brought) ≤ free_bytes (with_entries before (without_all evicted before.entries))
   can-fit =
@@ -269,11 +237,10 @@ module _ (p : Program) (m : Machine) (s : State) (h : IsSound p m s) (t : Task) 
       omega arith
     where
       inside : (c : Cell) → has_cell (put_first brought (order s n)) c ≡ true → c.0 < length p.cells
-      inside c has = by_cases (has_cell brought c) refl (sym (has_cell-put_first brought (order s n) c) ∙ has)
-        where
-          by_cases : (b : Bool) → has_cell brought c ≡ b → (b || has_cell (order s n) c) ≡ true → c.0 < length p.cells
-          by_cases true lacks all = omega (arith, task-cell p m s h t w s' claim leaves c (brought-own c lacks), h.coherent.state.rows.cells)
-          by_cases false none all = entry-cell p m s h.coherent.state n c all
+      inside c has = elim (or_cases (has_cell brought c) (has_cell (order s n) c) (sym (has_cell-put_first brought (order s n) c) ∙ has)) [
+        | inl lacks ↦ omega (arith, task-cell p m s h t w s' claim leaves c (brought-own c lacks), h.coherent.state.rows.cells)
+        | inr there ↦ entry-cell p m s h.coherent.state n c there
+      ]
 
   can-hold_scratch : scratch_bytes p (task_of p t) ≤ free_bytes (taking before plan)
   can-hold_scratch = subst (λ (x : Store). scratch_bytes p (task_of p t) ≤ free_bytes x) (sym taking-is)
