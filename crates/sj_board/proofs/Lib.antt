@@ -5,6 +5,7 @@ pub mod Delivering
 pub mod DiskCounts
 pub mod EndingTiles
 pub mod Ends
+pub mod EventTiles
 pub mod Failing
 pub mod Faulting
 pub mod FillLoop
