@@ -61,15 +61,11 @@ module _ {D : Type 0} (size faults mismatches : D → ℕ) (held : D → Option 
     in-block c d k (Some e) is holds = λ x there. subst (λ (at : ℕ). GivesHeld (held x) at (block c.0 (writes s c) (run_arrays b.run c (OnDisk d)).elements)) is.position (holds.told x (ap (λ (n : DiskNo). slice_get b.run.disks.disks n.0) is.disk ∙ there))
 
     blocks : AllDisksTell held b.run.opened → HoldBlocks held p m b.run.trace b.run.disks.disks
-<<<<<<< HEAD
     blocks tells c d valid = by_block (block_of p m c) refl (home-is p m c d (and_parts (on_disk s c) (is_home p m c d) valid).1) (sound.run.blocks.placed c)
-=======
-    blocks tells c d copy = by_block (block_of p m c) refl (home-is p m c d (and_parts (on_disk s c) (is_home p m c d) copy).1) (sound.run.blocks.placed c)
->>>>>>> 4e90f7fb (Engine and top over the rows' words: outcomes, turns, crossings)
       where
         by_block : (o : Option Block) → block_of p m c ≡ o → option_map (λ k. k.disk) o ≡ Some d → IfSome o (λ k. IsSomeAnd (extent_of b.run.disks.directory c.0) (IsBlock p c k)) → IsSomeAnd o (HoldsBlockAt held b.run.disks.disks s (run_arrays b.run) c d)
         by_block None e home placed = absurd (none-some d home)
-        by_block (Some k) e home placed = in-block c d k (extent_of b.run.disks.directory c.0) placed (sound.run.blocks.blocks tells c d copy)
+        by_block (Some k) e home placed = in-block c d k (extent_of b.run.disks.directory c.0) placed (sound.run.blocks.blocks tells c d valid)
 
     caused : (f : RunFault) → HasCause faults mismatches held b.run f → IsCausedBy faults mismatches held b.run.opened b.run.disks.disks f
     caused (DiskFault d) has = has
@@ -170,7 +166,7 @@ module _ {D : Type 0} (size faults mismatches : D → ℕ) (held : D → Option 
           finished = λ ok. absurd (false≢true ok);
           delivers = λ ok. absurd (false≢true ok);
           no_fault_is_swallowed = λ ok. absurd (false≢true ok);
-          blocks = λ tells c n copy. absurd (nowhere c n copy);
+          blocks = λ tells c n valid. absurd (nowhere c n valid);
           cause = tt;
           wanted = tt;
         })))
