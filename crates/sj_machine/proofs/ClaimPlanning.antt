@@ -18,7 +18,7 @@ use Rattle.sj_node.specs.Store.{Store, need_victims}
 use Rattle.sj_machine.specs.Plan.{ClaimPlan, IsSmallCell}
 use Rattle.sj_machine.specs.Planning.{HasSmallTask, HasSmallWork, chosen_on, lacking, need_on, planned}
 use Rattle.sj_machine.proofs.ClaimFinding.{All-of}
-use Rattle.sj_machine.proofs.ClaimStores.{All-has}
+use Rattle.sj_machine.proofs.Happening.{All-has}
 use Rattle.sj_machine.proofs.FewPins.{few-operands}
 use Rattle.sj_machine.proofs.Written.{can-work, works-small}
 

@@ -21,9 +21,9 @@ use Rattle.sj_node.specs.Store.{Store}
 use Rattle.sj_machine.specs.Plan.{CanHold, ClaimPlan, IsPlan, holding, marked, plan_with, row_with, store_at}
 use Rattle.sj_machine.specs.Rows.{CanHappen, Rows}
 use Rattle.sj_machine.specs.Stores.{HasStores, Keeps, row_at, state_in, store_of}
-use Rattle.sj_machine.proofs.ClaimStores.{All-has, can-hold, holding-is, store-elsewhere}
+use Rattle.sj_machine.proofs.ClaimStores.{can-hold, holding-is, store-elsewhere}
 use Rattle.sj_machine.proofs.FewPins.{few-cells, pins_on-few}
-use Rattle.sj_machine.proofs.Happening.{AreLeft, may-happen, rows-left, rows_in, store-at}
+use Rattle.sj_machine.proofs.Happening.{AreLeft, All-has, HasStores-set, may-happen, rows-left, rows_in, store-at}
 use Rattle.sj_machine.proofs.Loops.{renewed-twice, rows-written}
 
 some_is : (vs ws : List Cell) → Some vs ≡ Some ws → vs ≡ ws
@@ -118,13 +118,7 @@ module _ (p : Program) (m : Machine) (tasks : List Progress) (cells : List CellS
   -- ---- nodes
 
   pub stores-held : HasStores p m s' (set nodes n.0 (holding (store_at nodes n) plan))
-  stores-held = record {
-    every_node = length-set nodes n.0 (holding (store_at nodes n) plan) ∙ keeps.stores.every_node;
-    stores = λ k inside. elim (same_node k n) [
-      | inl e ↦ subst (λ (j : Node). get_or (set nodes n.0 (holding (store_at nodes n) plan)) j.0 (store_of p m s' j) ≡ store_of p m s' j) (sym e) (get_or-set_same nodes n.0 (holding (store_at nodes n) plan) (store_of p m s' n) (omega (arith, within, keeps.stores.every_node)) ∙ ap (λ (x : Store). holding x plan) store-is ∙ holding-is p m s keeps.sound t w s' claim leaves)
-      | inr other ↦ get_or-set_other nodes n.0 k.0 (holding (store_at nodes n) plan) (store_of p m s' k) (other_node n k other) ∙ store-at p m s nodes keeps.stores k (store_of p m s' k) inside ∙ sym (store-elsewhere p m s keeps.sound t w s' claim leaves k other)
-    ];
-  }
+  stores-held = HasStores-set p m s s' nodes n (holding (store_at nodes n) plan) within (ap (λ (x : Store). holding x plan) store-is ∙ holding-is p m s keeps.sound t w s' claim leaves) (store-elsewhere p m s keeps.sound t w s' claim leaves) keeps.stores
 
 -- ---- as the code has it
 

@@ -26,14 +26,10 @@ use Rattle.sj_node.specs.Store.{Store, free_bytes, store, with_entries}
 use Rattle.sj_machine.specs.Stores.{node_entry_of, pins_on, store_of}
 use Rattle.sj_machine.specs.Plan.{CanHold, CanTakeAll, ClaimPlan, admitting, holding, plan_with, taken, taking}
 use Rattle.sj_machine.proofs.ClaimEntries.{can_take-all, entries, entries-has, entries-pins, entries-put, entries-total, entries-without, fronted-put_first, has_cell-put_first, more, put_first, taken-all, times-put_first}
-use Rattle.sj_machine.proofs.Happening.{store-same, store_by}
+use Rattle.sj_machine.proofs.Happening.{All-has, pinned-entry, store-same, store_by}
 use Rattle.sj_machine.proofs.NodeSums.{sum-at, sum-grown}
 
 -- ---- lists
-
--- a fact of each cell that a list has
-pub All-has : (P : Cell → Type 0) (xs : List Cell) → ((c : Cell) → has_cell xs c ≡ true → P c) → All P xs
-All-has P xs h = λ i d inside. h (get_or xs i d) (list_any_at (λ e. same_cell e (get_or xs i d)) xs i d inside ((Decides-eqb (get_or xs i d).0 (get_or xs i d).0).1 refl))
 
 distinct-from_times : (xs : List Cell) → ((c : Cell) → times xs c ≤ 1) → AreDistinctCells xs
 unfolding IsDistinct
@@ -130,13 +126,7 @@ module _ (p : Program) (m : Machine) (s : State) (h : IsSound p m s) (t : Task) 
 
   -- what a worker pins has an entry
   pinned-there : (v : Worker) (c : Cell) → has_cell (pins s v) c ≡ true → node_of m v ≡ n → has_cell (order s n) c ≡ true
-  pinned-there v c pin at =
-      let held = h.coherent.pins.own v c pin in
-      ap (λ (k : Node). has_cell (order s k) c) (sym at) ∙ h.coherent.state.entries.entries (node_of m v) c
-      ∙ elim (or_cases (is_claimed_by v (progress s held.task)) (is_running_on v (progress s held.task)) held.has) [
-        | inl claimed ↦ h.coherent.cells.claimed held.task v c (claimed_by-is v (progress s held.task) claimed) held.cell
-        | inr running ↦ valid-entry (mark s c (node_of m v)) (h.coherent.cells.running held.task v c (running_on-is v (progress s held.task) running) held.cell) (h.coherent.pins.stays v c pin)
-      ]
+  pinned-there v c pin at = ap (λ (k : Node). has_cell (order s k) c) (sym at) ∙ h.coherent.state.entries.entries (node_of m v) c ∙ pinned-entry p m s h.coherent v c pin
 
   -- what has no entry isn't pinned
   absent-unpinned : (c : Cell) → has_cell (order s n) c ≡ false → pins_on m s n c ≡ 0

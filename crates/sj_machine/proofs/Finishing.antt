@@ -29,7 +29,7 @@ use Rattle.sj_machine.specs.Rows.{CanHappen, Rows}
 use Rattle.sj_machine.specs.Stores.{HasStores, Keeps, pins_on, row_at, state_in, store_of}
 use Rattle.sj_machine.proofs.ClaimEntries.{entries}
 use Rattle.sj_machine.proofs.FewPins.{few-operands}
-use Rattle.sj_machine.proofs.Happening.{AreLeft, get-any, mark-inside, may-happen, rows_in, rows-left, store-at, store-same}
+use Rattle.sj_machine.proofs.Happening.{AreLeft, All-has, HasStores-set, mark-inside, pinned-entry, may-happen, rows_in, rows-left, store-at, store-same}
 use Rattle.sj_machine.proofs.Loops.{rows-written}
 use Rattle.sj_machine.proofs.NodeSums.{sum-at, sum-grown}
 use Rattle.sj_machine.proofs.Unpinning.{all-less, can-unpin}
@@ -72,11 +72,7 @@ module _ (p : Program) (m : Machine) (tasks : List Progress) (cells : List CellS
   -- ---- the cells that the task wrote
 
   pub end-cells : All (λ c. c.0 < length cells) ws
-  end-cells = λ k d inside. (
-      let c : Cell = get_or ws k d in
-      let own = h.coherent.writers.owned t w c ended (list_any_at (λ e. same_cell e c) ws k d inside (same_cell-itself c)) in
-      (mark-inside is_valid refl s c n (ap is_valid own.valid)).0
-      )
+  end-cells = All-has (λ c. c.0 < length cells) ws (λ c has. (mark-inside is_valid refl s c n (ap is_valid (h.coherent.writers.owned t w c ended has).valid)).0)
 
   few-written : length ws ≤ 5
   few-written =
@@ -94,14 +90,6 @@ module _ (p : Program) (m : Machine) (tasks : List Progress) (cells : List CellS
       ))
 
   -- ---- the worker's pins and scratch
-
-  pinned-there : (c : Cell) → has_cell (pins s w) c ≡ true → has_cell (order s n) c ≡ true
-  pinned-there c pin =
-      let held = h.coherent.pins.own w c pin in
-      let mine : is_task_of w (progress s t) ≡ true = ap (is_task_of w) ended ∙ same_worker-refl w in
-      let one : held.task ≡ t = h.coherent.workers.one_task held.task t w held.has mine in
-      let cell : has_cell (cells_of p t w) c ≡ true = sym (ap (λ (u : Task). has_cell (cells_of p u w) c) one) ∙ held.cell in
-      h.coherent.state.entries.entries n c ∙ valid-entry (mark s c n) (h.coherent.cells.running t w c ended cell) (h.coherent.pins.stays w c pin)
 
   abbrev idle : WorkerState
   idle = record (worker_state s w) { pins = []; scratch = 0 }
@@ -124,7 +112,7 @@ module _ (p : Program) (m : Machine) (tasks : List Progress) (cells : List CellS
 
   can-release : CanRelease (pins s w) (scratch s w) (store_of p m s n)
   can-release = record {
-    pins = can-unpin (tile_bytes p) (pins s w) (pins_on m s n) (order s n) pinned-there (λ c. (let e = pins-before c in omega arith));
+    pins = can-unpin (tile_bytes p) (pins s w) (pins_on m s n) (order s n) (λ c pin. h.coherent.state.entries.entries n c ∙ pinned-entry p m s h.coherent w c pin) (λ c. (let e = pins-before c in omega arith));
     held = omega (arith, scratch-before);
   }
 
@@ -151,13 +139,5 @@ module _ (p : Program) (m : Machine) (tasks : List Progress) (cells : List CellS
   end-left at bound written are found read cells' nodes' workers' as_cells as_nodes as_workers =
       rows-left p m s h r same (End t w) can keeps.few (set tasks t.0 (Done w)) cells' nodes' workers' refl
       (as_cells ∙ ap (λ (cs : List Cell). written_each cs cells) are ∙ rows-written written_once_more ws cells (written-once p h.proper t program_task w staffed)) as_workers
-      (subst (λ (l : List Store). HasStores p m s' l) (sym (as_nodes ∙ ap (λ (rs : List WorkerState). set nodes at.0 (released (row_at rs w).pins (row_at rs w).scratch (store_at nodes at))) read ∙ ap (λ (j : Node). set nodes j.0 (released (pins s w) (scratch s w) (store_at nodes j))) bound ∙ ap (set nodes n.0) now)) (record {
-        every_node = length-set nodes n.0 (store_of p m s' n) ∙ keeps.stores.every_node;
-        stores = λ k inside. elim (same_node k n) [
-          | inl here ↦ subst (λ (j : Node). get_or (set nodes n.0 (store_of p m s' n)) j.0 (store_of p m s' j) ≡ store_of p m s' j) (sym here) (get_or-set_same nodes n.0 (store_of p m s' n) (store_of p m s' n) (omega (arith, node, keeps.stores.every_node)))
-          | inr far ↦ get_or-set_other nodes n.0 k.0 (store_of p m s' n) (store_of p m s' k) (other_node n k far) ∙ store-at p m s nodes keeps.stores k (store_of p m s' k) inside ∙ store-elsewhere k far
-        ];
-      }))
-    where
-      now : released (pins s w) (scratch s w) (store_at nodes n) ≡ store_of p m s' n
-      now = ap (released (pins s w) (scratch s w)) (store-at p m s nodes keeps.stores n _ node) ∙ released-is
+      (subst (λ (l : List Store). HasStores p m s' l) (sym (as_nodes ∙ ap (λ (rs : List WorkerState). set nodes at.0 (released (row_at rs w).pins (row_at rs w).scratch (store_at nodes at))) read ∙ ap (λ (j : Node). set nodes j.0 (released (pins s w) (scratch s w) (store_at nodes j))) bound))
+      (HasStores-set p m s s' nodes n (released (pins s w) (scratch s w) (store_at nodes n)) node (ap (released (pins s w) (scratch s w)) (store-at p m s nodes keeps.stores n _ node) ∙ released-is) (λ k far. sym (store-elsewhere k far)) keeps.stores))

@@ -1,11 +1,16 @@
 -- What one event leaves: a sound state, and rows of it where the nodes' stores are those of that state.
-use Rattle.std.proofs.Common.{◌≡◌, ◌<◌, ◌∙◌, Bool, ap, arith, false, true, length, List, map, refl, sym, subst, ℕ, zero, suc, [], ◌∷◌, get_or}
-use Rattle.std.proofs.lemmas.Bool.{cases_lt, false≢true}
-use Rattle.std.proofs.lemmas.List.{ext_get_or, get_or-map, get_or_past, length-map}
+use Rattle.std.proofs.Common.{◌≡◌, ◌≢◌, ◌<◌, ◌∙◌, Bool, All, inl, inr, set, ap, arith, false, true, length, List, map, refl, sym, subst, ℕ, zero, suc, [], ◌∷◌, get_or}
+use Rattle.std.proofs.lemmas.Bool.{cases_lt, false≢true, or_cases}
+use Rattle.std.proofs.lemmas.List.{ext_get_or, get_or-map, get_or-set_other, get_or-set_same, get_or_past, length-map, length-set}
+use Rattle.std.proofs.lemmas.List.Folds.{list_any_at}
+use Rattle.sj_base.proofs.SameIds.{other_node, same_cell-itself}
+use Rattle.sj_core.proofs.Advancing.{claimed_by-is, running_on-is}
+use Rattle.sj_core.proofs.Replicas.{valid-entry}
+use Rattle.sj_core.specs.Coherent.{Coherent}
 use Rattle.std.proofs.Math.Path.{fun_ext}
 use Rattle.sj_core.proofs.Replaying.{Step-keeps_coherence}
-use Rattle.sj_core.proofs.Reading.{no_row}
-use Rattle.sj_core.proofs.Words.{Cell, CellState, Event, Invalid, Machine, Mark, Node, Program, State, WorkerState, cell_state, mark, node_size, order, tile_bytes}
+use Rattle.sj_core.proofs.Reading.{no_row, same_node}
+use Rattle.sj_core.proofs.Words.{Cell, CellState, Event, Invalid, Machine, Mark, Node, Program, State, Worker, WorkerState, cell_state, has_cell, is_claimed_by, is_entry, is_running_on, mark, node_of, node_size, order, pins, progress, same_cell, tile_bytes}
 use Rattle.sj_core.specs.Laws.{IsSound}
 use Rattle.sj_core.specs.Step.{May, after}
 use Rattle.sj_core.specs.declared.progress.Progress.{Progress}
@@ -23,6 +28,10 @@ get-any [] k a b h = absurd (omega arith)
 get-any (x ∷ xs) zero a b h = refl
 get-any (x ∷ xs) (suc k) a b h = get-any xs k a b (omega arith)
 
+-- a fact of each cell that a list has
+pub All-has : (P : Cell → Type 0) (xs : List Cell) → ((c : Cell) → has_cell xs c ≡ true → P c) → All P xs
+All-has P xs h = λ i d inside. h (get_or xs i d) (list_any_at (λ e. same_cell e (get_or xs i d)) xs i d inside (same_cell-itself (get_or xs i d)))
+
 -- the row of a cell, whatever stands for one past the end
 pub row-at : (cells : List CellState) (c : Cell) (row : CellState) → c.0 < length cells → row ≡ get_or cells c.0 row → row ≡ row_of cells c
 row-at cells c row inside is = is ∙ get-any cells c.0 row no_row inside
@@ -30,6 +39,15 @@ row-at cells c row inside is = is ∙ get-any cells c.0 row no_row inside
 -- where a mark is another than of no copy, the cell has a row, and the row the node
 pub mark-inside : (test : Mark → Bool) → test Invalid ≡ false → (s : State) (c : Cell) (n : Node) → test (mark s c n) ≡ true → (c.0 < length s.cells) × (n.0 < length (cell_state s c).marks)
 mark-inside test none s c n h = search (arith, cases_lt, false≢true, get_or_past, no_row)
+
+-- a cell that a worker pins has an entry on the worker's node
+pub pinned-entry : (p : Program) (m : Machine) (s : State) → Coherent p m s → (v : Worker) (c : Cell) → has_cell (pins s v) c ≡ true → is_entry (mark s c (node_of m v)) ≡ true
+pinned-entry p m s coherent v c pin =
+    let held = coherent.pins.own v c pin in
+    elim (or_cases (is_claimed_by v (progress s held.task)) (is_running_on v (progress s held.task)) held.has) [
+      | inl claimed ↦ coherent.cells.claimed held.task v c (claimed_by-is v (progress s held.task) claimed) held.cell
+      | inr running ↦ valid-entry (mark s c (node_of m v)) (coherent.cells.running held.task v c (running_on-is v (progress s held.task) running) held.cell) (coherent.pins.stays v c pin)
+    ]
 
 -- ---- stores
 
@@ -65,6 +83,16 @@ pub HasStores-same : (p : Program) (m : Machine) (s s' : State) (nodes : List St
 HasStores-same p m s s' nodes same had = record {
   every_node = had.every_node;
   stores = λ n inside. subst (λ (x : Store). get_or nodes n.0 x ≡ x) (sym (same n)) (had.stores n inside);
+}
+
+-- and where one node's is written
+pub HasStores-set : (p : Program) (m : Machine) (s s' : State) (nodes : List Store) (n : Node) (x : Store) → n.0 < length m.nodes → x ≡ store_of p m s' n → ((k : Node) → k ≢ n → store_of p m s' k ≡ store_of p m s k) → HasStores p m s nodes → HasStores p m s' (set nodes n.0 x)
+HasStores-set p m s s' nodes n x here is others had = record {
+  every_node = length-set nodes n.0 x ∙ had.every_node;
+  stores = λ k inside. elim (same_node k n) [
+    | inl e ↦ subst (λ (j : Node). get_or (set nodes n.0 x) j.0 (store_of p m s' j) ≡ store_of p m s' j) (sym e) (get_or-set_same nodes n.0 x (store_of p m s' n) (omega (arith, here, had.every_node)) ∙ is)
+    | inr far ↦ get_or-set_other nodes n.0 k.0 x (store_of p m s' k) (other_node n k far) ∙ store-at p m s nodes had k (store_of p m s' k) inside ∙ sym (others k far)
+  ];
 }
 
 -- ---- rows

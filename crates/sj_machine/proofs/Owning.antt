@@ -1,13 +1,10 @@
 -- What the beginning of a run leaves.
 use Rattle.std.proofs.Common.{[], ◌≡◌, ◌≢◌, ◌<◌, ◌≤◌, ◌∙◌, ℕ, Bool, ap, arith, count_by, false, true, not, get_or, inl, inr, length, List, map, nat_eq, refl, set, sum_by, sym, subst}
 use Rattle.std.specs.Prelude.{All, Contains, if◌then◌else◌}
-use Rattle.std.proofs.lemmas.Bool.{false_from_ne_true, false≢true, or_cases}
+use Rattle.std.proofs.lemmas.Bool.{false_from_ne_true, false≢true}
 use Rattle.std.proofs.lemmas.Bool.Decides.{Decides-eqb}
 use Rattle.std.proofs.lemmas.Nat.{mod_below}
 use Rattle.std.proofs.lemmas.List.{get_or-map, length-map}
-use Rattle.std.proofs.lemmas.List.Folds.{list_any_at}
-use Rattle.sj_base.proofs.SameIds.{same_cell-itself}
-use Rattle.sj_core.proofs.Advancing.{claimed_by-is, running_on-is}
 use Rattle.sj_core.proofs.CellLists.{times, times-none}
 use Rattle.sj_core.proofs.Claimed.{claimed-inside, claimed-staffed}
 use Rattle.sj_core.proofs.Readiness.{filter-Contains}
@@ -29,7 +26,7 @@ use Rattle.sj_machine.specs.Rows.{CanHappen, Rows}
 use Rattle.sj_machine.specs.Running.{AreUnpinned, evicted_at, owned_each}
 use Rattle.sj_machine.specs.Stores.{AreMarked, HasStores, Keeps, node_entry_of, pins_on, state_in, store_of}
 use Rattle.sj_machine.proofs.ClaimEntries.{entries-has}
-use Rattle.sj_machine.proofs.Happening.{AreLeft, mark-inside, may-happen, rows_in, rows-left, sound-after, store-at}
+use Rattle.sj_machine.proofs.Happening.{AreLeft, All-has, mark-inside, pinned-entry, may-happen, rows_in, rows-left, sound-after, store-at}
 use Rattle.sj_machine.proofs.Loops.{rows-written}
 use Rattle.sj_machine.proofs.NodeSums.{sum-at}
 use Rattle.sj_machine.proofs.Written.{can-work, written-once}
@@ -71,11 +68,7 @@ module _ (p : Program) (m : Machine) (tasks : List Progress) (cells : List CellS
   own c has = h'.coherent.writers.owned t w c (progress-same s t (Running w) (omega (arith, program_task, h.coherent.state.rows.tasks))) has
 
   pub run-cells : All (λ c. c.0 < length cells) ws
-  run-cells = λ k d inside. (
-      let c : Cell = get_or ws k d in
-      let has : has_cell ws c ≡ true = list_any_at (λ e. same_cell e c) ws k d inside (same_cell-itself c) in
-      omega (arith, (mark-inside is_valid refl s' c n (ap is_valid (own c has).valid)).0, h.coherent.state.rows.cells, h'.coherent.state.rows.cells)
-      )
+  run-cells = All-has (λ c. c.0 < length cells) ws (λ c has. omega (arith, (mark-inside is_valid refl s' c n (ap is_valid (own c has).valid)).0, h.coherent.state.rows.cells, h'.coherent.state.rows.cells))
 
   -- ---- the nodes
 
@@ -86,16 +79,10 @@ module _ (p : Program) (m : Machine) (tasks : List Progress) (cells : List CellS
 
   -- no worker of another node pins a cell that is the node's own: it has an entry for what it pins
   unpinned : (k : Node) → k ≢ n → (c : Cell) → has_cell ws c ≡ true → pins_on m s k c ≡ 0
-  unpinned k far c has = sum-at m k (λ v. times (pins s v) c) (λ v. 0) (λ v at. times-none (pins s v) c (false_from_ne_true (has_cell (pins s v) c) (pinned-by v at))) ∙ sum-nothing (λ (v : Worker). 0) (λ v. refl) (workers_at m k)
-    where
-      pinned-by : (v : Worker) → node_of m v ≡ k → has_cell (pins s v) c ≡ true → ⊥
-      pinned-by v at pinned =
-          let held = h'.coherent.pins.own v c pinned in
-          let none : mark s' c (node_of m v) ≡ Invalid = (own c has).only (node_of m v) (λ e. far (sym at ∙ e)) in
-          elim (or_cases (is_claimed_by v (progress s' held.task)) (is_running_on v (progress s' held.task)) held.has) [
-            | inl claimed ↦ false≢true (sym (ap is_entry none) ∙ h'.coherent.cells.claimed held.task v c (claimed_by-is v (progress s' held.task) claimed) held.cell)
-            | inr running ↦ false≢true (sym (ap is_valid none) ∙ h'.coherent.cells.running held.task v c (running_on-is v (progress s' held.task) running) held.cell)
-          ]
+  unpinned k far c has =
+      let none : (v : Worker) → node_of m v ≡ k → is_entry (mark s' c (node_of m v)) ≡ false = λ v at. ap is_entry ((own c has).only (node_of m v) (λ e. far (sym at ∙ e))) in
+      sum-at m k (λ v. times (pins s v) c) (λ v. 0) (λ v at. times-none (pins s v) c (false_from_ne_true (has_cell (pins s v) c) (λ pin. false≢true (sym (none v at) ∙ pinned-entry p m s' h'.coherent v c pin))))
+      ∙ sum-nothing (λ (v : Worker). 0) (λ v. refl) (workers_at m k)
 
   node-unpinned : (k : ℕ) (d : Store) → k < length nodes → k ≢ n.0 → AreUnpinned ws (get_or nodes k d).entries
   node-unpinned k d inside far =
