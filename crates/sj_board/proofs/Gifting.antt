@@ -1,6 +1,6 @@
 -- The share that is taken of what a deliver task hands over, as the task begins to run.
-use Rattle.std.proofs.Common.{◌≡◌, ◌∙◌, ◌∷◌, ◌<◌, ℕ, [], List, Option, Some, true, ap, arith, get_or, is_some, length, refl, subst, sym}
-use Rattle.std.specs.Prelude.{All, Contains, unwrap_or}
+use Rattle.std.proofs.Common.{◌≡◌, ◌∙◌, ◌∷◌, ◌<◌, ℕ, [], List, Option, None, Some, true, ap, arith, get_or, is_some, length, refl, subst, sym}
+use Rattle.std.specs.Prelude.{All, Contains, IfSome, unwrap_or}
 use Rattle.std.proofs.lemmas.Bool.{false≢true}
 use Rattle.std.proofs.lemmas.List.{get_or_default}
 use Rattle.sj_base.specs.declared.ids.Place.TheVariants.{Node as AtNode}
@@ -9,16 +9,16 @@ use Rattle.sj_base.specs.declared.mode.Mode.TheVariants.{R}
 use Rattle.sj_base.specs.declared.program.Lowered.{Lowered}
 use Rattle.sj_base.specs.declared.trace.Event.TheVariants.{Run}
 use Rattle.sj_base.specs.Array.{Array}
-use Rattle.sj_core.proofs.Words.{Cell, Node, Program, Task, Worker, node_of, task_of}
+use Rattle.sj_core.proofs.Words.{Cell, Node, Program, Task, Worker, dims_of, node_of, task_of}
 use Rattle.sj_core.specs.Proper.{access}
 use Rattle.sj_machine.specs.Rows.{Rows}
 use Rattle.sj_board.specs.Tiles.{tile_at, tile_in, tiles_of}
 use Rattle.sj_board.specs.Delivery.{delivered_cell, is_deliver_task, is_delivery, IsGift}
 use Rattle.sj_board.specs.Shares.{CanGive, kept_at}
 use Rattle.sj_board.specs.Sound.{Keeps}
-use Rattle.sj_board.specs.Standing.{CanHappen, IsTileOf, Standing}
+use Rattle.sj_board.specs.Standing.{AllTell, CanHappen, IsTileOf, Standing, run_arrays}
 use Rattle.sj_board.proofs.Delivering.{deliver-reads}
-use Rattle.sj_board.proofs.Owning.{read-there, read-tile, run-can_give}
+use Rattle.sj_board.proofs.RunTiles.{run-can_give}
 
 module _ {D : Type 0} (size faults mismatches : D → ℕ) (held : D → Option (List ℕ)) (b : Standing D) (rows : Rows) (tiles : List (List (Option Array))) (spare : ℕ) (keeps : Keeps size faults mismatches held b rows tiles spare) (t : Task) (w : Worker) (can : CanHappen b (Run t w)) (hands : is_deliver_task b.program t ≡ true) where
   abbrev cell : Cell
@@ -30,14 +30,18 @@ module _ {D : Type 0} (size faults mismatches : D → ℕ) (held : D → Option 
   among : Contains (task_of b.program t).accesses (access R cell)
   among = subst (λ (xs : List Access). Contains xs (access R cell)) (sym reads) (0, omega arith, refl)
 
-  there : is_some (tile_at tiles cell (node_of b.machine w)) ≡ true
-  there = read-there size faults mismatches held b rows tiles spare keeps t w can (access R cell) among refl
-
-  tile : IsTileOf held b cell (AtNode (node_of b.machine w)) (kept_at tiles (node_of b.machine w) cell)
-  tile = read-tile size faults mismatches held b rows tiles spare keeps t w can (access R cell) among refl
-
   give : CanGive b.program w tiles (node_of b.machine w) (access R cell)
   give = subst (λ (xs : List Access). All (CanGive b.program w tiles (node_of b.machine w)) xs) reads (run-can_give size faults mismatches held b rows tiles spare keeps t w can) 0 (access R cell) (omega arith)
+
+  there : is_some (tile_at tiles cell (node_of b.machine w)) ≡ true
+  there = give.tile refl
+
+  tile : IsTileOf held b cell (AtNode (node_of b.machine w)) (kept_at tiles (node_of b.machine w) cell)
+  tile = by_tile (tile_at tiles cell (node_of b.machine w)) there (keeps.tiles.dims cell (node_of b.machine w)) (λ tells. keeps.tiles.arrays tells cell (node_of b.machine w))
+    where
+      by_tile : (o : Option Array) → is_some o ≡ true → IfSome o (λ a. a.dims ≡ dims_of b.program cell) → (AllTell held b → IfSome o (λ a. a ≡ run_arrays b cell (AtNode (node_of b.machine w)))) → IsTileOf held b cell (AtNode (node_of b.machine w)) (unwrap_or o (record { dims = record { rows = 0; cols = 0 }; elements = [] }))
+      by_tile None some dims arrays = absurd (false≢true some)
+      by_tile (Some a) some dims arrays = record { dims = dims; array = arrays }
 
   -- the row and the node as the code finds them
   module _ (row : List (Option Array)) (n : Node) (found : row ≡ get_or tiles cell.0 row) (at : n ≡ node_of b.machine w) where
