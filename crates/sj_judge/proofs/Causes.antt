@@ -26,9 +26,6 @@ module _ (has : Kernel → Bool) (asked : WorkOrRefusal) (r : ReadyJob) (ready :
   pub can-be-run : CanBeRun asked ready.work
   can-be-run = record { asked_for = ready.asked_for; has_room = ready-room has asked r ready }
 
-  pub is-run : IsRunnableOn r.program.value r.machine
-  is-run = record { proper = ready.proper; has = has; lawful = ready.lawful; machine = ready.machine_for; swap = ready.blocks_have_places }
-
 module _ (asked : WorkOrRefusal) (text : List ℕ) where
   pub reading-cause : (w : Work) (refusal : TraceRefusal) → CanBeRun asked w → length text < 2 ^ 32 → IsTraceRefusal refusal text → RefusalHasCause asked text (Unread refusal)
   reading-cause w (reading.BadLine line) can short h = record { work = w; can_be_run = can; not_too_long = short; first = h }

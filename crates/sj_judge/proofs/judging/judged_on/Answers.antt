@@ -7,13 +7,9 @@ use Rattle.sj_ready.specs.Input.{work_in}
 use Rattle.sj_ready.specs.Work.{program_of}
 use Rattle.sj_judge.specs.Judged.{AreEventsFor, RefusalHasCause, IsWantOfMemory}
 use Rattle.sj_judge.specs.declared.refusal.JudgeRefusal.TheVariants as refusal
-use Rattle.sj_judge.proofs.Causes.{can-be-run, checking-cause, is-run, of-work}
+use Rattle.sj_judge.proofs.Causes.{can-be-run, checking-cause, of-work}
 use Rattle.sj_judge.proofs.Passing.{checked-whole, finished-by, prepared-whole}
 use Rattle.sj_judge.proofs.judging.judged_on.Goals as goal
-
-pub check-requires : goal.check-requires
-check-requires c =
-    record { run = is-run library_has (work_in library_has c.args.options.now c.args.disks.items c.args.job) c.in_ok-ready.ready c.in_ok-ready.ensures.ready }
 
 pub returns-in_err-ready-clause-cause : goal.returns-in_err-ready-clause-cause
 returns-in_err-ready-clause-cause c =
