@@ -26,7 +26,7 @@ put_first new cs = fold (λ kept c. c ∷ kept) cs new
 
 pub has_cell-put_first : (new cs : List Cell) (c : Cell) → has_cell (put_first new cs) c ≡ (has_cell new c || has_cell cs c)
 has_cell-put_first [] cs c = refl
-has_cell-put_first (x ∷ new) cs c = search (arith, cases_Bool, has_cell-put_first new (x ∷ cs) c)
+has_cell-put_first (x ∷ new) cs c = grind (arith, has_cell-put_first new (x ∷ cs) c)
 
 pub times-put_first : (new cs : List Cell) (c : Cell) → times (put_first new cs) c ≡ times new c + times cs c
 times-put_first [] cs c = omega arith
@@ -51,20 +51,11 @@ fronted-put_first cs (x ∷ new) xs among =
 -- what a list has once
 filter-none : (c : Cell) (cs : List Cell) → times cs c ≡ 0 → filter (λ d. same_cell d c) cs ≡ []
 filter-none c [] h = refl
-filter-none c (x ∷ cs) h =
-    let all = times-cons x cs c in
-    let other : tally (same_cell x c) ≡ 0 = omega arith in
-    let rest = filter-none c cs (omega arith) in
-    search (arith, cases_Bool)
+filter-none c (x ∷ cs) h = grind (arith, times-cons x cs c, filter-none c cs)
 
 filter-one : (c : Cell) (cs : List Cell) → has_cell cs c ≡ true → times cs c ≤ 1 → filter (λ d. same_cell d c) cs ≡ c ∷ []
 filter-one c [] h once = absurd (false≢true h)
-filter-one c (x ∷ cs) h once =
-    let all = times-cons x cs c in
-    elim (cases_Bool (same_cell x c)) [
-      | inl e ↦ (let one : tally (same_cell x c) ≡ 1 = ap tally e in let none = filter-none c cs (omega arith) in let is = same_cell-is x c e in search arith)
-      | inr e ↦ (let rest = filter-one c cs in let few : times cs c ≤ 1 = omega arith in search (arith, rest))
-    ]
+filter-one c (x ∷ cs) h once = grind (arith, times-cons x cs c, filter-none c cs, filter-one c cs, same_cell-is x c)
 
 -- ---- entries by cell
 
@@ -81,7 +72,7 @@ module _ (bytes : Cell → ℕ) where
 
   pub entries-pins : (pins : Cell → ℕ) (cs : List Cell) (c : Cell) → pins_of (entries pins cs) c ≤ pins c
   entries-pins pins [] c = omega arith
-  entries-pins pins (x ∷ cs) c = search (arith, cases_Bool, same_cell-is, entries-pins pins cs c)
+  entries-pins pins (x ∷ cs) c = search (arith, same_cell-is, entries-pins pins cs c)
 
   pub entries-total : (pins : Cell → ℕ) (cs : List Cell) → total (entries pins cs) ≡ sum_by bytes cs
   entries-total pins [] = refl

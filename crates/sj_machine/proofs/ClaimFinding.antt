@@ -49,17 +49,7 @@ same_end test (x ∷ xs) = ap (λ o. option_or o (then_some (test (x ∷ xs)) (x
 
 unpinned-is : (s : State) (c : Cell) (ws : List Worker) → nat_eq (sum_by (λ v. times (pins s v) c) ws) 0 ≡ not (list_any (λ v. has_cell (pins s v) c) ws)
 unpinned-is s c [] = refl
-unpinned-is s c (v ∷ ws) = by_cases (has_cell (pins s v) c) refl (unpinned-is s c ws)
-  where
-    by_cases : (b : Bool) → has_cell (pins s v) c ≡ b → nat_eq (sum_by (λ u. times (pins s u) c) ws) 0 ≡ not (list_any (λ u. has_cell (pins s u) c) ws) → nat_eq (sum_by (λ u. times (pins s u) c) (v ∷ ws)) 0 ≡ not (has_cell (pins s v) c || list_any (λ u. has_cell (pins s u) c) ws)
-    by_cases true e rest =
-        let all = sum_by-cons (λ u. times (pins s u) c) v ws in
-        let some = times-has (pins s v) c e in
-        ne_eqb (sum_by (λ u. times (pins s u) c) (v ∷ ws)) 0 (λ z. (omega arith)) ∙ sym (ap (λ b. not (b || list_any (λ u. has_cell (pins s u) c) ws)) e)
-    by_cases false e rest =
-        let none = times-none (pins s v) c e in
-        ap (λ (n : ℕ). nat_eq n 0) (sum_by-cons (λ u. times (pins s u) c) v ws ∙ ap (λ (n : ℕ). n + sum_by (λ u. times (pins s u) c) ws) none ∙ none_first (sum_by (λ u. times (pins s u) c) ws))
-        ∙ rest ∙ sym (ap (λ b. not (b || list_any (λ u. has_cell (pins s u) c) ws)) e)
+unpinned-is s c (v ∷ ws) = grind (arith, sum_by-cons (λ u. times (pins s u) c) v ws, times-has (pins s v) c, times-none (pins s v) c, unpinned-is s c ws)
 
 -- ---- a plan on the node's store
 

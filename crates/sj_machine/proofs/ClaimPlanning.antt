@@ -26,11 +26,7 @@ use Rattle.sj_machine.proofs.Written.{can-work, works-small}
 
 length-distinct : (xs : List Cell) → length (distinct xs) ≤ length xs
 length-distinct [] = omega arith
-length-distinct (x ∷ xs) = by_cases (has_cell xs x) (length-distinct xs)
-  where
-    by_cases : (b : Bool) → length (distinct xs) ≤ length xs → length (if b then distinct xs else x ∷ distinct xs) ≤ length (x ∷ xs)
-    by_cases true rest = omega arith
-    by_cases false rest = omega arith
+length-distinct (x ∷ xs) = search (arith, length-distinct xs)
 
 -- each operand of a proper program's task is of a small cell
 proper-small : (p : Program) → Proper p → (t : Task) → t.0 < length p.tasks → HasSmallTask p t

@@ -26,44 +26,10 @@ use Rattle.sj_core.proofs.Claiming.{pins-inside}
 
 -- ---- lists
 
-commuting-append : (xs ys : List Access) → commuting_among (xs ++ ys) ≡ commuting_among xs ++ commuting_among ys
-commuting-append xs ys = ap (map (λ (a : Access). a.cell)) (filter-append (λ a. is_commute a.mode) xs ys) ∙ map-append (λ (a : Access). a.cell) (filter (λ a. is_commute a.mode) xs) (filter (λ a. is_commute a.mode) ys)
-
--- the search goes on where it has found none so far
-pub first-on : (ws : List WorkerState) (xs ys : List Access) → first_held ws xs ≡ None → first_held ws (xs ++ ys) ≡ first_held ws ys
-first-on ws xs ys none = ap (find (is_held ws)) (commuting-append xs ys) ∙ find-append (is_held ws) (commuting_among xs) (commuting_among ys) ∙ ap (λ o. option_or o (first_held ws ys)) none
-
-first-head : (ws : List WorkerState) (a : Access) (ys : List Access) (b : Bool) → (is_commute a.mode && is_held ws a.cell) ≡ b → first_held ws (a ∷ ys) ≡ cond b (Some a.cell) (first_held ws ys)
-first-head ws a ys b e = by_mode (is_commute a.mode) refl
-  where
-    cell : Access → Cell
-    cell x = x.cell
-
-    rest : List Access
-    rest = filter (λ x. is_commute x.mode) ys
-
-    by_mode : (x : Bool) → is_commute a.mode ≡ x → first_held ws (a ∷ ys) ≡ cond b (Some a.cell) (first_held ws ys)
-    by_mode true is = ap (λ y. find (is_held ws) (map cell (cond y (a ∷ rest) rest))) is ∙ ap (λ y. cond y (Some a.cell) (first_held ws ys)) (sym (ap (λ y. y && is_held ws a.cell) is) ∙ e)
-    by_mode false is = ap (λ y. find (is_held ws) (map cell (cond y (a ∷ rest) rest))) is ∙ ap (λ y. cond y (Some a.cell) (first_held ws ys)) (sym (ap (λ y. y && is_held ws a.cell) is) ∙ e)
-
--- it finds none among one access more that doesn't commute or isn't held
-pub first-past : (ws : List WorkerState) (xs : List Access) (i : ℕ) (d : Access) → i < length xs → first_held ws (take i xs) ≡ None → (is_commute (get_or xs i d).mode && is_held ws (get_or xs i d).cell) ≡ false → first_held ws (take (i + 1) xs) ≡ None
-first-past ws xs i d inside none fails = ap (first_held ws) (take_more xs i d inside) ∙ first-on ws (take i xs) (get_or xs i d ∷ []) none ∙ first-head ws (get_or xs i d) [] false fails
-
--- and the cell of one that commutes and is held
-pub first-hit : (ws : List WorkerState) (xs : List Access) (i : ℕ) (d : Access) → i < length xs → first_held ws (take i xs) ≡ None → (is_commute (get_or xs i d).mode && is_held ws (get_or xs i d).cell) ≡ true → first_held ws xs ≡ Some (get_or xs i d).cell
-first-hit ws xs i d inside none passes =
-    ap (first_held ws) (sym (take-append-drop i xs)) ∙ first-on ws (take i xs) (drop i xs) none
-    ∙ ap (first_held ws) (drop-cons xs i d inside) ∙ first-head ws (get_or xs i d) (drop (suc i) xs) true passes
-
 -- where a search finds none, each fails the test
 pub found-none : {X : Type 0} (f : X → Bool) (xs : List X) → find f xs ≡ None → list_all (λ x. not (f x)) xs ≡ true
 found-none f [] none = refl
-found-none f (x ∷ xs) none = by_case (f x) refl none (found-none f xs)
-  where
-    by_case : (b : Bool) → f x ≡ b → cond b (Some x) (find f xs) ≡ None → (find f xs ≡ None → list_all (λ y. not (f y)) xs ≡ true) → (not (f x) && list_all (λ y. not (f y)) xs) ≡ true
-    by_case true e none rest = absurd (cc)
-    by_case false e none rest = ap (λ b. not b && list_all (λ y. not (f y)) xs) e ∙ rest none
+found-none f (x ∷ xs) none = search (arith, found-none f xs)
 
 -- ---- who holds a cell
 

@@ -1,10 +1,10 @@
 -- Where of each worker's victims some are known to be gone, and none of the others leaves, nothing does.
-use Rattle.std.proofs.Common.{◌≡◌, ℕ, ◌-◌, Bool, true, false, not, ◌&&◌, List, [], ◌∷◌, drop, get_or, length, refl, reverse, sym, take, ap, ◌∙◌}
+use Rattle.std.proofs.Common.{arith, ◌≡◌, ℕ, ◌-◌, Bool, true, false, not, ◌&&◌, List, [], ◌∷◌, drop, get_or, length, refl, reverse, sym, take, ap, ◌∙◌}
 use Rattle.std.specs.List.{list_all}
 use Rattle.std.proofs.lemmas.Bool.{false_from_ne_true, false≢true, not-true}
 use Rattle.std.proofs.lemmas.List.{get_or_default, reverse-append, take-append-drop}
 use Rattle.std.proofs.lemmas.List.Folds.{list_all-append}
-use Rattle.std.proofs.lemmas.List.Sums.{list_all-from_AllPass}
+use Rattle.std.proofs.lemmas.List.Sums.{AllPass-from_list_all, list_all-from_AllPass}
 use Rattle.sj_core.proofs.Reading.{list_all-has, no_row}
 use Rattle.sj_core.proofs.Replicas.{leaving-by_some, leaving_by-leaves}
 use Rattle.sj_core.proofs.Words.{Cell, CellState, Machine, Node, Program, State, Worker, has_room, is_gone, is_leaving, is_leaving_by, mark, mark_in, node_of, victims_of}
@@ -13,21 +13,12 @@ use Rattle.sj_core.specs.Step.{none_leaving}
 use Rattle.sj_replica.specs.Replica.{CellState}
 use Rattle.sj_machine.specs.Gone.{KnownGone}
 use Rattle.sj_machine.specs.Planning.{NoneLeavesFor, is_leaving_at}
+use Rattle.sj_machine.proofs.Commuting.{found-none}
 use Rattle.sj_machine.proofs.GoneVictims.{rest-is}
 
 all-turned : (f : Cell → Bool) (xs : List Cell) → list_all f (reverse xs) ≡ list_all f xs
 all-turned f [] = refl
-all-turned f (x ∷ xs) =
-    ap (list_all f) (reverse-append (x ∷ []) xs)
-    ∙ list_all-append f (reverse xs) (x ∷ [])
-    ∙ ap (λ b. b && (f x && true)) (all-turned f xs)
-    ∙ swap (list_all f xs) (f x)
-  where
-    swap : (a b : Bool) → (a && (b && true)) ≡ (b && a)
-    swap true true = refl
-    swap true false = refl
-    swap false true = refl
-    swap false false = refl
+all-turned f (x ∷ xs) = grind (arith, reverse-append (x ∷ []) xs, list_all-append f (reverse xs) (x ∷ []), all-turned f xs)
 
 module _ (p : Program) (m : Machine) (s : State) (coherent : Coherent p m s) (n : Node) (gone : List ℕ) (known : KnownGone m s gone) (none : NoneLeavesFor s.cells n s.workers gone) where
   -- a worker of the node has no victim any more
@@ -37,7 +28,7 @@ module _ (p : Program) (m : Machine) (s : State) (coherent : Coherent p m s) (n 
       let vs : List Cell = victims_of s v in
       let k : ℕ = get_or gone v.0 0 in
       let left : List Cell = take (length vs - k) vs in
-      let rest : list_all f left ≡ true = list_all-from_AllPass f left (λ i d inside. stays (get_or left i d) (none v i d inside)) in
+      let rest : list_all f left ≡ true = list_all-from_AllPass f left (λ i d inside. stays (get_or left i d) (not-true (is_leaving_at s.cells n (get_or left i d)) (AllPass-from_list_all (λ c. not (is_leaving_at s.cells n c)) left (found-none (is_leaving_at s.cells n) left (none v.0)) i d inside))) in
       sym (all-turned f vs)
       ∙ ap (list_all f) (sym (take-append-drop k (reverse vs)))
       ∙ list_all-append f (take k (reverse vs)) (drop k (reverse vs))

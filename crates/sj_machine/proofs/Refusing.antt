@@ -18,7 +18,7 @@ use Rattle.sj_core.proofs.Eviction.{shortest_suffix-none}
 use Rattle.sj_core.proofs.Reading.{list_any-numbered, progress-inside, same_cell-is}
 use Rattle.sj_core.proofs.Readiness.{list_any-map, list_any-some}
 use Rattle.sj_core.proofs.Replicas.{leaving-by_some}
-use Rattle.sj_core.proofs.Sums.{sum-filter, sum-plus}
+use Rattle.sj_core.proofs.Sums.{sum-filter, sum-nothing, sum-plus}
 use Rattle.sj_core.proofs.Words.{Cell, Machine, Node, Program, State, Task, Worker, cells_of, data_operands, dims_of, distinct, free, has_cell, is_leaving, is_pinned, is_task_of, no_task, node_of, node_size, order, pins, progress, mark, same_cell, scratch, scratch_bytes, task_of, tasks_of, tile_bytes, worked_on, worker_of, workers_at}
 use Rattle.sj_core.specs.Laws.{IsSound}
 use Rattle.sj_core.specs.Proper.{Proper}
@@ -35,20 +35,13 @@ use Rattle.sj_base.proofs.Lists.{find-passes}
 
 -- ---- lists
 
-sum-zero : {X : Type 0} (f : X → ℕ) (xs : List X) → ((x : X) → f x ≡ 0) → sum_by f xs ≡ 0
-sum-zero f [] none = refl
-sum-zero f (x ∷ xs) none = sum_by-cons f x xs ∙ (let here = none x in let rest = sum-zero f xs none in let all : f x + sum_by f xs ≡ 0 = omega (arith, here, rest) in all)
-
 -- those that pass a test, and the others
 sum-split : {X : Type 0} (f : X → ℕ) (test : X → Bool) (xs : List X) → sum_by f xs ≡ sum_by f (filter test xs) + sum_by f (filter (λ x. not (test x)) xs)
 sum-split {X} f test xs =
-    let each : (x : X) → f x ≡ cond (test x) (f x) 0 + cond (not (test x)) (f x) 0 = λ x. by_case x (test x) in
-    let all = sum-plus f (λ x. cond (test x) (f x) 0) (λ x. cond (not (test x)) (f x) 0) each xs in
-    omega (arith, all, sum-filter f test xs, sum-filter f (λ x. not (test x)) xs)
+    omega (arith, sum-plus f (λ x. cond (test x) (f x) 0) (λ x. cond (not (test x)) (f x) 0) (λ x. by_case x (test x)) xs, sum-filter f test xs, sum-filter f (λ x. not (test x)) xs)
   where
     by_case : (x : X) (b : Bool) → f x ≡ cond b (f x) 0 + cond (not b) (f x) 0
-    by_case x true = omega arith
-    by_case x false = omega arith
+    by_case x b = search arith
 
 -- ---- what a task brings is no more than what it needs
 
@@ -58,14 +51,12 @@ worked-dims p proper w staffed a = search arith
 
 module _ (p : Program) (w : Worker) (sized : (a : Access) → dims_of p (worked_on p w a) ≡ dims_of p a.cell) where
   same-bytes : (a : Access) → tile_bytes p (worked_on p w a) ≡ tile_bytes p a.cell
-  same-bytes a = bytes_of (sized a)
-    where
-      bytes_of : dims_of p (worked_on p w a) ≡ dims_of p a.cell → tile_bytes p (worked_on p w a) ≡ tile_bytes p a.cell
-      bytes_of e = ap (λ d. 8 * area d) e
+  same-bytes a = ap (λ d. 8 * area d) (sized a)
 
   worked-le : (xs : List Access) → AllPairs (λ a b. IsTrue (same_cell a.cell b.cell) → (a.mode ≡ R) × (b.mode ≡ R)) xs → sum_by (tile_bytes p) (distinct (map (worked_on p w) xs)) ≤ sum_by (tile_bytes p) (distinct (map (λ a. a.cell) xs))
   worked-le [] pairs = omega arith
-  worked-le (x ∷ xs) pairs = by_case (has_cell (map (worked_on p w) xs) (worked_on p w x)) refl (has_cell (map (λ a. a.cell) xs) x.cell) refl (worked-le xs (λ i j d before within. pairs (suc i) (suc j) d (omega (arith, before)) (omega (arith, within))))
+  worked-le (x ∷ xs) pairs =
+      grind (arith, sum_by-cons (tile_bytes p) (worked_on p w x) (distinct (map (worked_on p w) xs)), sum_by-cons (tile_bytes p) x.cell (distinct (map (λ a. a.cell) xs)), worked-le xs (λ i j d before within. pairs (suc i) (suc j) d (omega (arith, before)) (omega (arith, within))), again, same-bytes x)
     where
       direct : (a : Access) → a.mode ≡ R → worked_on p w a ≡ a.cell
       direct a e = direct-cell p w a (ap is_redux e)
@@ -82,16 +73,6 @@ module _ (p : Program) (w : Worker) (sized : (a : Access) → dims_of p (worked_
               let mode : a.mode ≡ R = ap (λ (b : Access). b.mode) (sym here) ∙ both.1 in
               list_any-map (λ c. same_cell c (worked_on p w x)) (worked_on p w) xs
               ∙ list_any_at (λ b. same_cell (worked_on p w b) (worked_on p w x)) xs k x inside (same_cell-from (worked_on p w (get_or xs k x)) (worked_on p w x) (ap (worked_on p w) here ∙ direct a mode ∙ cells ∙ sym (direct x both.0)))
-
-      head : (g : Access → Cell) (b : Bool) → has_cell (map g xs) (g x) ≡ b → sum_by (tile_bytes p) (distinct (map g (x ∷ xs))) ≡ cond b (sum_by (tile_bytes p) (distinct (map g xs))) (tile_bytes p (g x) + sum_by (tile_bytes p) (distinct (map g xs)))
-      head g true e = ap (λ b. sum_by (tile_bytes p) (if b then distinct (map g xs) else g x ∷ distinct (map g xs))) e
-      head g false e = ap (λ b. sum_by (tile_bytes p) (if b then distinct (map g xs) else g x ∷ distinct (map g xs))) e ∙ sum_by-cons (tile_bytes p) (g x) (distinct (map g xs))
-
-      by_case : (a : Bool) → has_cell (map (worked_on p w) xs) (worked_on p w x) ≡ a → (b : Bool) → has_cell (map (λ (y : Access). y.cell) xs) x.cell ≡ b → sum_by (tile_bytes p) (distinct (map (worked_on p w) xs)) ≤ sum_by (tile_bytes p) (distinct (map (λ y. y.cell) xs)) → sum_by (tile_bytes p) (distinct (map (worked_on p w) (x ∷ xs))) ≤ sum_by (tile_bytes p) (distinct (map (λ y. y.cell) (x ∷ xs)))
-      by_case true ea true eb rest = omega (arith, head (worked_on p w) true ea, head (λ (y : Access). y.cell) true eb, rest)
-      by_case true ea false eb rest = omega (arith, head (worked_on p w) true ea, head (λ (y : Access). y.cell) false eb, rest)
-      by_case false ea true eb rest = absurd (false≢true (sym ea ∙ again eb))
-      by_case false ea false eb rest = omega (arith, head (worked_on p w) false ea, head (λ (y : Access). y.cell) false eb, rest, same-bytes x)
 
 -- ---- where no worker has a task
 
@@ -118,7 +99,7 @@ module _ (p : Program) (m : Machine) (s : State) (h : IsSound p m s) (t : Task) 
       nobody found.0 own.task own.has))
 
   no-scratch : sum_by (scratch s) (workers_at m n) ≡ 0
-  no-scratch = sum-zero (scratch s) (workers_at m n) (λ v. (h.coherent.workers.scratch v).none (λ u. false_from_ne_true (is_task_of v (progress s u)) (nobody v u)))
+  no-scratch = sum-nothing (scratch s) (λ v. (h.coherent.workers.scratch v).none (λ u. false_from_ne_true (is_task_of v (progress s u)) (nobody v u))) (workers_at m n)
 
   abbrev cells : List Cell
   cells = cells_of p t w

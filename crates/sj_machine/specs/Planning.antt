@@ -7,7 +7,7 @@ use Rattle.sj_base.specs.declared.ids.Worker.{Worker}
 use Rattle.sj_base.specs.declared.program.Program.{Program}
 use Rattle.sj_base.specs.declared.program.Machine.{Machine}
 use Rattle.sj_base.specs.declared.trace.Event.TheVariants.{Claim}
-use Rattle.sj_core.specs.Machine.{State, WorkerState, is_idle, is_leaving, is_task_of, mark, pins, progress}
+use Rattle.sj_core.specs.Machine.{State, WorkerState, idle_row, is_idle, is_leaving, is_task_of, mark, pins, progress}
 use Rattle.sj_core.specs.Needs.{footprint, node_of, node_size, scratch_bytes, tile_bytes}
 use Rattle.sj_core.specs.Operands.{cells_of, commuting_cells, worked_on}
 use Rattle.sj_core.specs.Program.{distinct, has_cell, task_of}
@@ -107,10 +107,10 @@ HoldsCommutersAlone p s t w = (c : Cell) (v : Worker) → IsTrue (has_cell (comm
 abbrev pub is_leaving_at : List CellState → Node → Cell → Bool
 is_leaving_at rows n c = is_leaving (mark_at rows n c)
 
--- none of these does
-abbrev pub NoneLeaves : List CellState → Node → List Cell → Type 0
-NoneLeaves rows n cs = All (λ c. is_leaving_at rows n c ≡ false) cs
+-- the victims of the worker of this number, those aside of which so many go first
+abbrev pub victims_left : List WorkerState → List ℕ → ℕ → List Cell
+victims_left ws gone k = take (length (slice_index_or ws k idle_row).victims - slice_index_or gone k 0) (slice_index_or ws k idle_row).victims
 
--- of each worker's victims none does, those aside of which so many go first
+-- of none of each worker's a copy leaves the node
 abbrev pub NoneLeavesFor : List CellState → Node → List WorkerState → List ℕ → Type 0
-NoneLeavesFor rows n ws gone = (w : Worker) → NoneLeaves rows n (take (length (row_at ws w).victims - slice_index_or gone w.0 0) (row_at ws w).victims)
+NoneLeavesFor rows n ws gone = (k : ℕ) → find (is_leaving_at rows n) (victims_left ws gone k) ≡ None

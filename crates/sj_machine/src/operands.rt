@@ -1,7 +1,6 @@
 //! The operands of a task as its worker works on them.
 
-ghost use Rattle.std.specs.Prelude.{◌≡◌, ◌≤◌, ◌&&◌, All, length};
-ghost use Rattle.sj_base.specs.Mode.{is_commute};
+ghost use Rattle.std.specs.Prelude.{◌≡◌, ◌≤◌, All, length};
 ghost use Rattle.sj_core.specs.Operands.{worked_on as cell_worked_on};
 ghost use Rattle.sj_machine.specs.Operands.{CanWorkOn, first_held, is_held, worked_among, written_among};
 
@@ -60,19 +59,7 @@ pub fn written_cells(program: &Program, w: Worker, accesses: &[Access]) -> FewCe
 fn is_held(workers: &[Hold], cell: Cell) -> bool
     ensures { result ≡ is_held workers.now cell }
 {
-    for worker in workers {
-        if worker.pins().contains(&cell) {
-            return true;
-        }
-    }
-    false
-}
-
-/// Whether an operand commutes and a worker pins its cell. Linear in the workers and their pins.
-fn is_commuter_held(workers: &[Hold], access: Access) -> bool
-    ensures { result ≡ (is_commute access.mode && is_held workers.now access.cell) }
-{
-    access.mode == Mode::Commute && is_held(workers, access.cell)
+    workers.iter().any(|worker| worker.pins().contains(&cell))
 }
 
 /// The first cell of a commuting operand that a worker pins. Linear in the operands, and in the workers for each that
@@ -80,10 +67,9 @@ fn is_commuter_held(workers: &[Hold], access: Access) -> bool
 pub fn commuter_held(workers: &[Hold], accesses: &[Access]) -> Option<Cell>
     ensures { result ≡ first_held workers.now accesses.now }
 {
-    for access in accesses {
-        if is_commuter_held(workers, *access) {
-            return Some(access.cell);
-        }
-    }
-    None
+    accesses
+        .iter()
+        .filter(|a| a.mode == Mode::Commute)
+        .map(|a| a.cell)
+        .find(|c| is_held(workers, *c))
 }

@@ -1,8 +1,6 @@
-use Rattle.std.proofs.Common.{◌<◌, ◌-◌, get_or, length, take}
-use Rattle.sj_base.specs.declared.ids.Worker.{Worker}
-use Rattle.sj_machine.specs.Stores.{row_at}
-use Rattle.sj_machine.specs.Planning.{NoneLeaves}
+use Rattle.std.proofs.Common.{◌≡◌, ◌<◌, ℕ, None, find}
+use Rattle.sj_machine.specs.Planning.{is_leaving_at, victims_left}
 use Rattle.sj_machine.proofs.leaving.leaving_at.Given as goal
 
 abbrev pub invariant-loop-i : goal.invariant-loop-i
-invariant-loop-i l = (w : Worker) → w.0 < l.i → NoneLeaves l.cells l.n (take (length (row_at l.workers w).victims - get_or l.gone w.0 0) (row_at l.workers w).victims)
+invariant-loop-i l = (k : ℕ) → k < l.i → find (is_leaving_at l.cells l.n) (victims_left l.workers l.gone k) ≡ None

@@ -1,0 +1,5 @@
+use Rattle.sj_machine.specs.Gone.{AreGoneIn}
+use Rattle.sj_machine.proofs.gone.gone_among.Given as goal
+
+abbrev pub invariant-loop-i : goal.invariant-loop-i
+invariant-loop-i l = AreGoneIn l.cells l.n l.w l.victims l.i
