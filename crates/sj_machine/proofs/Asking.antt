@@ -1,20 +1,12 @@
 -- What the rows say of a claimed task's next step.
 use Rattle.std.proofs.Common.{◌≡◌, ℕ, ◌+◌, ◌<◌, ◌^◌, Bool, true, false, not, ◌&&◌, List, Option, Some, None, find, get_or, is_some, length, refl, sym, ap, ◌∙◌, subst, arith}
-use Rattle.std.specs.Prelude.{IfSome}
-use Rattle.std.proofs.Math.Path.{fun_ext}
-use Rattle.std.proofs.lemmas.Bool.{and_from, and_parts, false_from_ne_true, false≢true}
-use Rattle.std.proofs.lemmas.List.{get_or_default}
-use Rattle.sj_core.proofs.Advancing.{claimed-task_of, claimed_by-is}
-use Rattle.sj_core.proofs.Claimed.{claimed-inside, claimed-staffed, list_any-task}
-use Rattle.sj_core.proofs.Readiness.{list_any-some}
-use Rattle.sj_core.proofs.Replicas.{same_worker-refl}
-use Rattle.sj_core.proofs.Words.{Cell, CellInfo, Machine, Program, State, Task, Worker, cell_info, cells_of, fresh_cells, has_cell, is_claimed_by, is_coming_by, mark, node_of, progress, task_of}
-use Rattle.sj_core.specs.Laws.{IsSound}
-use Rattle.sj_core.specs.declared.progress.Progress.TheVariants.{Claimed}
-use Rattle.sj_core.specs.Proper.{IsCopyOf}
-use Rattle.sj_core.specs.Step.{is_fresh}
-use Rattle.sj_machine.specs.Choosing.{HasNumbers, is_brought, is_to_come, next_cell}
-use Rattle.sj_machine.specs.Operands.{worked_among}
+use Rattle.sj_machine.proofs.Words.{Cell, cell_info, CellInfo, cells_of, Claimed, fresh_cells, has_cell, HasNumbers, is_brought, is_claimed_by, is_coming_by, is_fresh, is_to_come, IsCopyOf, IsSound, Machine, mark, next_cell, node_of, Program, progress, State, Task, task_of, worked_among, Worker}
+use Rattle.std.specs.{Prelude.IfSome}
+use Rattle.std.proofs.{Math.Path.fun_ext}
+use Rattle.std.proofs.lemmas.{Bool.and_from, Bool.and_parts, Bool.false_from_ne_true, Bool.false≢true, List.get_or_default}
+use Rattle.sj_core.proofs.{Advancing.claimed-task_of, Advancing.claimed_by-is, Claimed.claimed-inside}
+use Rattle.sj_core.proofs.{Claimed.claimed-staffed, Claimed.list_any-task, Readiness.list_any-some}
+use Rattle.sj_core.proofs.{Replicas.same_worker-refl}
 
 module _ (p : Program) (m : Machine) (s : State) (h : IsSound p m s) (t : Task) (w : Worker) (claimed : progress s t ≡ Claimed w) where
   -- the worker's partial copies have numbers

@@ -1,39 +1,17 @@
 -- What the end of a run leaves.
 use Rattle.std.proofs.Common.{[], ◌≡◌, ◌≢◌, ◌<◌, ◌≤◌, ◌+◌, ◌-◌, ◌^◌, ◌∙◌, ℕ, Bool, ap, arith, false, true, get_or, inl, inr, length, List, map, nat_eq, refl, set, sum_by, sym, subst}
-use Rattle.std.specs.Prelude.{All, filter, if◌then◌else◌}
-use Rattle.std.proofs.lemmas.Bool.{cases_eq}
-use Rattle.std.proofs.lemmas.Nat.{mod_below}
-use Rattle.std.proofs.lemmas.List.{get_or-set_other, get_or-set_same, length-map, length-set}
-use Rattle.std.proofs.lemmas.List.Elements.{All-from_get_or}
-use Rattle.std.proofs.lemmas.List.Folds.{list_any_at}
-use Rattle.std.proofs.lemmas.List.FromFn.{length-map-range_with_len}
-use Rattle.std.proofs.lemmas.List.Sums.{count_by-le-length, length-filter}
-use Rattle.sj_base.proofs.SameIds.{other_node, same_cell-itself}
-use Rattle.sj_base.specs.Mode.{is_written}
-use Rattle.sj_base.specs.declared.mode.Access.{Access}
-use Rattle.sj_core.proofs.CellLists.{times}
-use Rattle.sj_core.proofs.Finding.{running-inside}
-use Rattle.sj_core.proofs.Reading.{no_row, same_node, worker-other, worker-same}
-use Rattle.sj_core.proofs.Replicas.{same_worker-refl, valid-entry}
-use Rattle.sj_core.proofs.Words.{Cell, CellState, End, Machine, Node, Program, State, Task, Worker, WorkerState, cells_of, has_cell, is_task_of, is_valid, mark, node_of, node_size, order, pins, progress, same_cell, scratch, task_of, tasks_of, tile_bytes, worked_on, worker_of, worker_state, workers_at, writes, written_cells, written_once_more}
-use Rattle.sj_core.specs.Coherent.{has_written, is_begun}
-use Rattle.sj_core.specs.Laws.{IsSound}
-use Rattle.sj_core.specs.Step.{after}
-use Rattle.sj_core.specs.declared.progress.Progress.{Progress}
-use Rattle.sj_core.specs.declared.progress.Progress.TheVariants.{Done, Running}
-use Rattle.sj_node.specs.Store.{Store, store}
-use Rattle.sj_machine.specs.Ending.{CanCount, CanRelease, let_go, released, written_each}
-use Rattle.sj_machine.specs.Operands.{CanWorkOn}
-use Rattle.sj_machine.specs.Plan.{store_at}
-use Rattle.sj_machine.specs.Rows.{CanHappen, Rows}
-use Rattle.sj_machine.specs.Stores.{HasStores, Keeps, pins_on, row_at, state_in, store_of}
-use Rattle.sj_machine.proofs.ClaimEntries.{entries}
-use Rattle.sj_machine.proofs.FewPins.{few-operands}
+use Rattle.sj_machine.proofs.Words.{Access, after, CanCount, CanHappen, CanRelease, CanWorkOn, Cell, cells_of, CellState, Done, End, has_cell, has_written, HasStores, is_begun, is_task_of, is_valid, is_written, IsSound, Keeps, let_go, Machine, mark, Node, node_of, node_size, order, pins, pins_on, Program, Progress, progress, released, row_at, Rows, Running, same_cell, scratch, State, state_in, store, Store, store_at, store_of, Task, task_of, tasks_of, tile_bytes, worked_on, Worker, worker_of, worker_state, workers_at, WorkerState, writes, written_cells, written_each, written_once_more}
 use Rattle.sj_machine.proofs.Happening.{AreLeft, All-has, HasStores-set, mark-inside, pinned-entry, may-happen, rows_in, rows-left, store-at, store-same}
-use Rattle.sj_machine.proofs.Loops.{rows-written}
-use Rattle.sj_machine.proofs.NodeSums.{sum-at, sum-grown}
-use Rattle.sj_machine.proofs.Unpinning.{all-less, can-unpin}
-use Rattle.sj_machine.proofs.Written.{can-work, written-once}
+use Rattle.std.specs.{Prelude.All, Prelude.filter, Prelude.if◌then◌else◌}
+use Rattle.std.proofs.lemmas.{Bool.cases_eq, Nat.mod_below, List.get_or-set_other, List.get_or-set_same, List.length-map}
+use Rattle.std.proofs.lemmas.{List.length-set, List.Elements.All-from_get_or, List.Folds.list_any_at}
+use Rattle.std.proofs.lemmas.{List.FromFn.length-map-range_with_len, List.Sums.count_by-le-length, List.Sums.length-filter}
+use Rattle.sj_base.proofs.{SameIds.other_node, SameIds.same_cell-itself}
+use Rattle.sj_core.proofs.{CellLists.times, Finding.running-inside, Reading.no_row, Reading.same_node, Reading.worker-other}
+use Rattle.sj_core.proofs.{Reading.worker-same, Replicas.same_worker-refl, Replicas.valid-entry}
+use Rattle.sj_machine.proofs.{ClaimEntries.entries, FewPins.few-operands, Loops.rows-written, NodeSums.sum-at}
+use Rattle.sj_machine.proofs.{NodeSums.sum-grown, Unpinning.all-less, Unpinning.can-unpin, Written.can-work}
+use Rattle.sj_machine.proofs.{Written.written-once}
 
 module _ (p : Program) (m : Machine) (tasks : List Progress) (cells : List CellState) (nodes : List Store) (workers : List WorkerState) (keeps : Keeps p m (state_in tasks cells nodes workers) nodes) (r : Rows) (same : rows_in p m (state_in tasks cells nodes workers) ≡ r) (t : Task) (w : Worker) (can : CanHappen r (End t w)) where
   abbrev s : State

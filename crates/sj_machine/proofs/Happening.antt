@@ -1,25 +1,13 @@
 -- What one event leaves: a sound state, and rows of it where the nodes' stores are those of that state.
 use Rattle.std.proofs.Common.{◌≡◌, ◌≢◌, ◌<◌, ◌∙◌, Bool, All, inl, inr, set, ap, arith, false, true, length, List, map, refl, sym, subst, ℕ, zero, suc, [], ◌∷◌, get_or}
-use Rattle.std.proofs.lemmas.Bool.{cases_lt, false≢true, or_cases}
 use Rattle.std.proofs.lemmas.List.{ext_get_or, get_or-map, get_or-set_other, get_or-set_same, get_or_past, length-map, length-set}
-use Rattle.std.proofs.lemmas.List.Folds.{list_any_at}
-use Rattle.sj_base.proofs.SameIds.{other_node, same_cell-itself}
-use Rattle.sj_core.proofs.Advancing.{claimed_by-is, running_on-is}
-use Rattle.sj_core.proofs.Replicas.{valid-entry}
-use Rattle.sj_core.specs.Coherent.{Coherent}
-use Rattle.std.proofs.Math.Path.{fun_ext}
-use Rattle.sj_core.proofs.Replaying.{Step-keeps_coherence}
-use Rattle.sj_core.proofs.Reading.{no_row, same_node}
-use Rattle.sj_core.proofs.Words.{Cell, CellState, Event, Invalid, Machine, Mark, Node, Program, State, Worker, WorkerState, cell_state, has_cell, is_claimed_by, is_entry, is_running_on, mark, node_of, node_size, order, pins, progress, same_cell, tile_bytes}
-use Rattle.sj_core.specs.Laws.{IsSound}
-use Rattle.sj_core.specs.Step.{May, after}
-use Rattle.sj_core.specs.declared.progress.Progress.{Progress}
-use Rattle.sj_node.specs.Entry.{NodeEntry}
-use Rattle.sj_node.specs.Store.{Store, store}
-use Rattle.sj_machine.specs.Cells.{row_of}
-use Rattle.sj_machine.specs.Rows.{CanHappen, Rows, has_happened}
-use Rattle.sj_machine.proofs.FewPins.{few-after}
-use Rattle.sj_machine.specs.Stores.{HasStores, Keeps, PinsFew, node_entry_of, order_in, state_in, store_of}
+use Rattle.sj_machine.proofs.Words.{after, CanHappen, Cell, cell_state, CellState, Coherent, Event, has_cell, has_happened, HasStores, Invalid, is_claimed_by, is_entry, is_running_on, IsSound, Keeps, Machine, mark, Mark, May, Node, node_entry_of, node_of, node_size, NodeEntry, order, order_in, pins, PinsFew, Program, Progress, progress, row_of, Rows, same_cell, State, state_in, store, Store, store_of, tile_bytes, Worker, WorkerState}
+use Rattle.std.proofs.lemmas.{Bool.cases_lt, Bool.false≢true, Bool.or_cases, List.Folds.list_any_at}
+use Rattle.sj_base.proofs.{SameIds.other_node, SameIds.same_cell-itself}
+use Rattle.sj_core.proofs.{Advancing.claimed_by-is, Advancing.running_on-is, Replicas.valid-entry}
+use Rattle.sj_core.proofs.{Replaying.Step-keeps_coherence, Reading.no_row, Reading.same_node}
+use Rattle.std.proofs.{Math.Path.fun_ext}
+use Rattle.sj_machine.proofs.{FewPins.few-after}
 
 -- ---- reading
 

@@ -22,4 +22,5 @@ pub mod Refusing
 pub mod Results
 pub mod Taking
 pub mod Unpinning
+pub mod Words
 pub mod Written

@@ -1,18 +1,10 @@
 -- Rows of a run on which nothing has happened.
 use Rattle.std.proofs.Common.{◌≡◌, ◌∙◌, List, [], length, map, refl, replicate, subst, sym, ap}
-use Rattle.std.proofs.lemmas.List.{get_or-map, length-map, length-replicate}
-use Rattle.sj_base.proofs.Lists.{get_or-replicate_same}
-use Rattle.sj_core.proofs.Opening.{no_scratch, opening-coherent}
-use Rattle.sj_core.proofs.Sums.{sum-nothing}
-use Rattle.sj_core.proofs.Words.{Cell, CellState, Machine, Node, Program, State, WorkerState, idle_row, no_copy, node_size, opening, order, scratch, workers_at}
-use Rattle.sj_core.specs.Proper.{IsMachineFor, Proper}
-use Rattle.sj_core.specs.declared.progress.Progress.{Progress}
-use Rattle.sj_core.specs.declared.progress.Progress.TheVariants.{Waiting}
-use Rattle.sj_node.specs.Store.{Store, empty, store}
-use Rattle.sj_machine.specs.Rows.{rows_at_start}
-use Rattle.sj_machine.specs.Stores.{HasStores, Keeps, node_entry_of, order_in, state_in, store_of}
-use Rattle.sj_machine.proofs.FewPins.{opening-few}
-use Rattle.sj_machine.proofs.Happening.{orders-in, rows_in}
+use Rattle.sj_machine.proofs.Words.{Cell, CellState, empty, HasStores, idle_row, IsMachineFor, Keeps, Machine, no_copy, Node, node_entry_of, node_size, opening, order, order_in, Program, Progress, Proper, rows_at_start, scratch, State, state_in, Store, store, store_of, Waiting, workers_at, WorkerState}
+use Rattle.std.proofs.lemmas.{List.get_or-map, List.length-map, List.length-replicate}
+use Rattle.sj_base.proofs.{Lists.get_or-replicate_same}
+use Rattle.sj_core.proofs.{Opening.no_scratch, Opening.opening-coherent, Sums.sum-nothing}
+use Rattle.sj_machine.proofs.{FewPins.opening-few, Happening.orders-in, Happening.rows_in}
 
 -- the rows are those of the opening, and keep what rows keep
 pub record AreFirst (p : Program) (m : Machine) (s : State) (nodes : List Store) : Type 0 where

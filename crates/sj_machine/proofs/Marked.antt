@@ -1,16 +1,8 @@
 -- A node's entries are those of the cells of which the marks tell so.
 use Rattle.std.proofs.Common.{◌≡◌, ◌<◌, List, arith, filter, get_or, length, not, subst, sym, ap, ◌∙◌}
-use Rattle.std.proofs.lemmas.List.Elements.{filter_agree}
-use Rattle.sj_core.proofs.Words.{Cell, CellState, Machine, Node, Program, State, Task, Worker, distinct, is_entry, node_of, order, tile_bytes}
-use Rattle.sj_core.specs.Step.{to_come}
-use Rattle.sj_node.specs.Entry.{has_entry}
-use Rattle.sj_node.specs.Store.{Store}
-use Rattle.sj_machine.specs.Cells.{mark_at}
-use Rattle.sj_machine.specs.Planning.{lacking, need_on}
-use Rattle.sj_machine.specs.Stores.{AreMarked, Keeps, pins_on, store_of}
-use Rattle.sj_machine.proofs.ClaimEntries.{entries-has}
-use Rattle.sj_machine.proofs.ClaimFinding.{need-same}
-use Rattle.sj_machine.proofs.Happening.{store-at}
+use Rattle.sj_machine.proofs.Words.{AreMarked, Cell, CellState, distinct, has_entry, is_entry, Keeps, lacking, Machine, mark_at, need_on, Node, node_of, order, pins_on, Program, State, Store, store_of, Task, tile_bytes, to_come, Worker}
+use Rattle.std.proofs.lemmas.{List.Elements.filter_agree}
+use Rattle.sj_machine.proofs.{ClaimEntries.entries-has, ClaimFinding.need-same, Happening.store-at}
 
 -- what the marks say is lacking has no entry
 pub lacking-marked : (rows : List CellState) (n : Node) (s : Store) → AreMarked rows n s.entries → (cs : List Cell) → filter (λ c. not (is_entry (mark_at rows n c))) (distinct cs) ≡ lacking s cs

@@ -1,21 +1,11 @@
 -- What the beginning and the end of a move leave, and a drop.
 use Rattle.std.proofs.Common.{◌≡◌, ◌<◌, ◌∙◌, ap, arith, false, true, length, count_by, List, map, None, Option, refl, set, slice_index_or, slice_set, Some, sum_by, sym, subst, ℕ}
-use Rattle.std.proofs.lemmas.Bool.{false≢true}
-use Rattle.sj_base.proofs.Lists.{sum_by-agree}
-use Rattle.sj_core.proofs.CellLists.{times}
-use Rattle.sj_core.proofs.Placing.{pins-same, scratch-same}
-use Rattle.sj_core.proofs.Replicas.{leaving_by-leaves}
-use Rattle.sj_core.proofs.States.{one-mover}
-use Rattle.sj_core.proofs.Words.{AtNode, Cell, CellState, Drop, Invalid, Machine, Move, Moved, Node, OnDisk, Place, Program, State, Worker, WorkerState, arrived, cell_state, is_coming_by, is_leaving, is_leaving_by, node_size, order, pins, same_cell, scratch, tile_bytes, transfer, with_mark, with_row, with_transfer, workers_at}
-use Rattle.sj_core.specs.Coherent.{IsTransferTo}
-use Rattle.sj_core.specs.Step.{CanDrop, May, a_transfer, after, mover_of}
-use Rattle.sj_core.specs.declared.progress.Progress.{Progress}
-use Rattle.sj_core.specs.declared.progress.Transfer.{Transfer}
-use Rattle.sj_node.specs.Store.{Store, store}
-use Rattle.sj_machine.specs.Cells.{row_of, with_row_of}
-use Rattle.sj_machine.specs.Rows.{CanHappen, Rows}
-use Rattle.sj_machine.specs.Stores.{HasStores, Keeps, pins_on, state_in, store_of, transfer_in, with_transfer_of}
+use Rattle.sj_machine.proofs.Words.{a_transfer, after, arrived, AtNode, CanDrop, CanHappen, Cell, cell_state, CellState, Drop, HasStores, Invalid, is_coming_by, is_leaving, is_leaving_by, IsTransferTo, Keeps, Machine, May, Move, Moved, mover_of, Node, node_size, OnDisk, order, pins, pins_on, Place, Program, Progress, row_of, Rows, same_cell, scratch, State, state_in, store, Store, store_of, tile_bytes, transfer, Transfer, transfer_in, with_mark, with_row, with_row_of, with_transfer, with_transfer_of, Worker, workers_at, WorkerState}
 use Rattle.sj_machine.proofs.Happening.{AreLeft, HasStores-same, mark-inside, may-happen, row-at, rows_in, rows-left, store-same}
+use Rattle.std.proofs.lemmas.{Bool.false≢true}
+use Rattle.sj_base.proofs.{Lists.sum_by-agree}
+use Rattle.sj_core.proofs.{CellLists.times, Placing.pins-same, Placing.scratch-same, Replicas.leaving_by-leaves}
+use Rattle.sj_core.proofs.{States.one-mover}
 
 -- a node's store stays where a transfer begins or ends
 transfer-store : (p : Program) (m : Machine) (s : State) (w : Worker) (move : Option Transfer) (n : Node) → store_of p m (with_transfer s w move) n ≡ store_of p m s n

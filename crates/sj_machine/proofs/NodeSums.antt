@@ -1,13 +1,11 @@
 -- Sums over the workers of a node, where one worker's term grows.
 use Rattle.std.proofs.Common.{◌≡◌, ◌≢◌, ℕ, ◌+◌, ◌*◌, ◌<◌, Bool, true, false, cond, ap, arith, count_by, sum_by, sym, ◌∙◌, ◌&&◌, inl, inr, nat_eq}
-use Rattle.std.proofs.lemmas.Bool.{and_from, cases_Bool, false≢true}
-use Rattle.std.proofs.lemmas.Bool.Decides.{Decides-eqb}
-use Rattle.std.specs.List.{list_any}
-use Rattle.sj_base.proofs.Lists.{list_any-filter, list_any-numbered}
-use Rattle.sj_core.proofs.Bytes.{worker-once_at}
-use Rattle.sj_core.proofs.Replicas.{same_worker-is, same_worker-refl}
-use Rattle.sj_core.proofs.Sums.{counted-has, sum-each, sum-filter-le, sum-plus}
-use Rattle.sj_core.proofs.Words.{Machine, Node, Worker, node_of, same_worker, workers_at, workers_of}
+use Rattle.sj_machine.proofs.Words.{Machine, Node, node_of, same_worker, Worker, workers_at, workers_of}
+use Rattle.std.proofs.lemmas.{Bool.and_from, Bool.cases_Bool, Bool.false≢true, Bool.Decides.Decides-eqb}
+use Rattle.std.specs.{List.list_any}
+use Rattle.sj_base.proofs.{Lists.list_any-filter, Lists.list_any-numbered}
+use Rattle.sj_core.proofs.{Bytes.worker-once_at, Replicas.same_worker-is, Replicas.same_worker-refl, Sums.counted-has}
+use Rattle.sj_core.proofs.{Sums.sum-each, Sums.sum-filter-le, Sums.sum-plus}
 
 module _ (m : Machine) (n : Node) where
   abbrev here : Worker → Bool

@@ -1,35 +1,15 @@
 -- What the beginning of a run leaves.
 use Rattle.std.proofs.Common.{[], ◌≡◌, ◌≢◌, ◌<◌, ◌≤◌, ◌∙◌, ℕ, Bool, ap, arith, count_by, false, true, not, get_or, inl, inr, length, List, map, nat_eq, refl, set, sum_by, sym, subst}
-use Rattle.std.specs.Prelude.{All, Contains, if◌then◌else◌}
-use Rattle.std.proofs.lemmas.Bool.{false_from_ne_true, false≢true}
-use Rattle.std.proofs.lemmas.Bool.Decides.{Decides-eqb}
-use Rattle.std.proofs.lemmas.Nat.{mod_below}
-use Rattle.std.proofs.lemmas.List.{get_or-map, length-map}
-use Rattle.sj_core.proofs.CellLists.{times, times-none}
-use Rattle.sj_core.proofs.Claimed.{claimed-inside, claimed-staffed}
-use Rattle.sj_core.proofs.Readiness.{filter-Contains}
-use Rattle.sj_core.proofs.Reading.{progress-same}
-use Rattle.sj_core.proofs.Sums.{sum-nothing}
-use Rattle.sj_core.proofs.Tables.{renewed-at}
-use Rattle.sj_core.proofs.Words.{Cell, CellState, Machine, Node, Program, Run, State, Task, Worker, WorkerState, cell_state, has_cell, Invalid, is_claimed_by, is_entry, is_running_on, is_valid, mark, node_of, node_size, order, owned_at, pins, progress, same_cell, scratch, task_of, tile_bytes, workers_at, written_cells}
-use Rattle.sj_core.specs.Coherent.{IsHeld, IsOwnedBy}
-use Rattle.sj_core.specs.Laws.{IsSound}
-use Rattle.sj_core.specs.Needs.{workers_of}
-use Rattle.sj_core.specs.Step.{CanRun, after, without}
-use Rattle.sj_core.specs.declared.progress.Progress.{Progress}
-use Rattle.sj_core.specs.declared.progress.Progress.TheVariants.{Running}
-use Rattle.sj_node.proofs.CallerLemmas.{filter-map}
-use Rattle.sj_node.specs.Entry.{NodeEntry, has_entry, is_of_cells, without_all}
-use Rattle.sj_node.specs.Store.{Store, store, with_entries}
-use Rattle.sj_machine.specs.Operands.{CanWorkOn}
-use Rattle.sj_machine.specs.Rows.{CanHappen, Rows}
-use Rattle.sj_machine.specs.Running.{AreUnpinned, evicted_at, owned_each}
-use Rattle.sj_machine.specs.Stores.{AreMarked, HasStores, Keeps, node_entry_of, pins_on, state_in, store_of}
-use Rattle.sj_machine.proofs.ClaimEntries.{entries-has}
+use Rattle.sj_machine.proofs.Words.{after, AreMarked, AreUnpinned, CanHappen, CanRun, CanWorkOn, Cell, cell_state, CellState, evicted_at, has_cell, has_entry, HasStores, Invalid, is_claimed_by, is_entry, is_of_cells, is_running_on, is_valid, IsHeld, IsOwnedBy, IsSound, Keeps, Machine, mark, Node, node_entry_of, node_of, node_size, NodeEntry, order, owned_at, owned_each, pins, pins_on, Program, Progress, progress, Rows, Run, Running, same_cell, scratch, State, state_in, store, Store, store_of, Task, task_of, tile_bytes, with_entries, without, without_all, Worker, workers_at, workers_of, WorkerState, written_cells}
 use Rattle.sj_machine.proofs.Happening.{AreLeft, All-has, mark-inside, pinned-entry, may-happen, rows_in, rows-left, sound-after, store-at}
-use Rattle.sj_machine.proofs.Loops.{rows-written}
-use Rattle.sj_machine.proofs.NodeSums.{sum-at}
-use Rattle.sj_machine.proofs.Written.{can-work, written-once}
+use Rattle.std.specs.{Prelude.All, Prelude.Contains, Prelude.if◌then◌else◌}
+use Rattle.std.proofs.lemmas.{Bool.false_from_ne_true, Bool.false≢true, Bool.Decides.Decides-eqb, Nat.mod_below}
+use Rattle.std.proofs.lemmas.{List.get_or-map, List.length-map}
+use Rattle.sj_core.proofs.{CellLists.times, CellLists.times-none, Claimed.claimed-inside, Claimed.claimed-staffed}
+use Rattle.sj_core.proofs.{Readiness.filter-Contains, Reading.progress-same, Sums.sum-nothing, Tables.renewed-at}
+use Rattle.sj_node.proofs.{CallerLemmas.filter-map}
+use Rattle.sj_machine.proofs.{ClaimEntries.entries-has, Loops.rows-written, NodeSums.sum-at, Written.can-work}
+use Rattle.sj_machine.proofs.{Written.written-once}
 
 module _ (p : Program) (m : Machine) (tasks : List Progress) (cells : List CellState) (nodes : List Store) (workers : List WorkerState) (keeps : Keeps p m (state_in tasks cells nodes workers) nodes) (r : Rows) (same : rows_in p m (state_in tasks cells nodes workers) ≡ r) (t : Task) (w : Worker) (can : CanHappen r (Run t w)) where
   abbrev s : State

@@ -1,16 +1,12 @@
 -- Entries of a node whose pins are taken off.
 use Rattle.std.proofs.Common.{◌≡◌, ◌<◌, ◌≤◌, ◌+◌, ◌-◌, ℕ, true, List, [], ◌∷◌, ◌++◌, ◌∙◌, ap, arith, drop, get_or, length, refl, sym, take}
-use Rattle.std.proofs.lemmas.Bool.{cases_Bool, false≢true}
-use Rattle.std.proofs.lemmas.List.{take-append-drop, take_more}
-use Rattle.std.proofs.lemmas.List.Folds.{list_any_at}
-use Rattle.std.proofs.Math.Path.{fun_ext}
 use Rattle.sj_core.proofs.CellLists.{same_cell-refl, same_cell-sym, times, times-append, times-cons, times-has}
-use Rattle.sj_core.proofs.Reading.{same_cell-is}
-use Rattle.sj_core.proofs.Sums.{tally}
-use Rattle.sj_core.proofs.Words.{Cell, has_cell, same_cell}
-use Rattle.sj_node.specs.Entry.{NodeEntry, pins_of, repinned}
-use Rattle.sj_machine.specs.Ending.{unpinned_each}
-use Rattle.sj_machine.proofs.ClaimEntries.{entries}
+use Rattle.sj_machine.proofs.Words.{Cell, has_cell, NodeEntry, pins_of, repinned, same_cell, unpinned_each}
+use Rattle.std.proofs.lemmas.{Bool.cases_Bool, Bool.false≢true, List.take-append-drop, List.take_more}
+use Rattle.std.proofs.lemmas.{List.Folds.list_any_at}
+use Rattle.std.proofs.{Math.Path.fun_ext}
+use Rattle.sj_core.proofs.{Reading.same_cell-is, Sums.tally}
+use Rattle.sj_machine.proofs.{ClaimEntries.entries}
 
 module _ (bytes : Cell → ℕ) where
   -- one pin less for a cell

@@ -1,33 +1,17 @@
 -- What a worker works on for the operands of a task: each written cell comes once, and all are cells of the program.
 use Rattle.std.proofs.Common.{◌≡◌, ◌≢◌, ◌<◌, ◌≤◌, ◌+◌, ◌^◌, ◌⊎◌, suc, Bool, true, false, List, [], ◌∷◌, ◌∙◌, ap, arith, get_or, inl, inr, is_some, length, map, sym, subst, ◌&&◌}
-use Rattle.std.specs.Prelude.{All, AllPairs, Contains, IsTrue, filter, if◌then◌else◌}
-use Rattle.std.proofs.lemmas.Bool.{cases_Bool, false_from_ne_true, false≢true}
-use Rattle.std.proofs.lemmas.List.Elements.{All-get_or, Contains-get_or}
-use Rattle.std.proofs.lemmas.List.Kept.{AllPairs-filter}
-use Rattle.sj_base.proofs.Bools.{tally-le}
-use Rattle.sj_base.specs.Array.{area}
-use Rattle.sj_base.specs.Mode.{is_data, is_redux, is_written}
-use Rattle.sj_base.specs.declared.mode.Access.{Access}
-use Rattle.sj_base.specs.declared.mode.Mode.{Mode}
-use Rattle.sj_base.specs.declared.mode.Mode.TheVariants.{R, Redux}
-use Rattle.sj_base.specs.declared.program.CellInfo.{CellInfo}
-use Rattle.sj_base.specs.declared.program.Codelet.{Codelet}
-use Rattle.sj_core.proofs.CellLists.{same_cell-from, times, times-cons, times-none}
-use Rattle.sj_core.proofs.Copies.{direct-cell, redux_or}
-use Rattle.sj_core.proofs.Dependencies.{Proper-dependencies}
-use Rattle.sj_core.proofs.Modes.{written_isn't_scratch}
-use Rattle.sj_core.proofs.Reading.{same_cell-is}
-use Rattle.sj_core.proofs.Readiness.{Contains-from_filter, filter-Contains, list_any-map, list_any-some}
-use Rattle.sj_core.proofs.Sharing.{manner_of, redux-has_copies, contributing-is}
-use Rattle.sj_core.proofs.Sums.{tally}
-use Rattle.sj_core.proofs.TaskCells.{filter-filter}
-use Rattle.sj_core.proofs.Updating.{operand-used}
-use Rattle.sj_core.proofs.Words.{Cell, Program, Task, Worker, copy_of, data_operands, has_cell, no_task, same_cell, task_of, worked_on, written_cells}
-use Rattle.sj_core.specs.Program.{no_cell}
-use Rattle.sj_core.specs.Proper.{IsCopyOf, Proper}
-use Rattle.sj_deps.specs.Conflict.{Uses}
-use Rattle.sj_machine.specs.Operands.{CanWorkOn}
-use Rattle.sj_machine.specs.Plan.{IsSmallCell}
+use Rattle.sj_machine.proofs.Words.{Access, area, CanWorkOn, Cell, CellInfo, Codelet, copy_of, data_operands, has_cell, is_data, is_redux, is_written, IsCopyOf, IsSmallCell, Mode, no_cell, no_task, Program, Proper, R, Redux, same_cell, Task, task_of, Uses, worked_on, Worker, written_cells}
+use Rattle.std.specs.{Prelude.All, Prelude.AllPairs, Prelude.Contains, Prelude.IsTrue, Prelude.filter}
+use Rattle.std.specs.{Prelude.if◌then◌else◌}
+use Rattle.std.proofs.lemmas.{Bool.cases_Bool, Bool.false_from_ne_true, Bool.false≢true, List.Elements.All-get_or}
+use Rattle.std.proofs.lemmas.{List.Elements.Contains-get_or, List.Kept.AllPairs-filter}
+use Rattle.sj_base.proofs.{Bools.tally-le}
+use Rattle.sj_core.proofs.{CellLists.same_cell-from, CellLists.times, CellLists.times-cons, CellLists.times-none}
+use Rattle.sj_core.proofs.{Copies.direct-cell, Copies.redux_or, Dependencies.Proper-dependencies}
+use Rattle.sj_core.proofs.{Modes.written_isn't_scratch, Reading.same_cell-is, Readiness.Contains-from_filter}
+use Rattle.sj_core.proofs.{Readiness.filter-Contains, Readiness.list_any-map, Readiness.list_any-some, Sharing.manner_of}
+use Rattle.sj_core.proofs.{Sharing.redux-has_copies, Sharing.contributing-is, Sums.tally, TaskCells.filter-filter}
+use Rattle.sj_core.proofs.{Updating.operand-used}
 
 abbrev Unaliased : Access → Access → Type 0
 Unaliased a b = IsTrue (same_cell a.cell b.cell) → (a.mode ≡ R) × (b.mode ≡ R)
