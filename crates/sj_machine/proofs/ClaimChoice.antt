@@ -13,7 +13,7 @@ use Rattle.sj_machine.specs.Rows.{Rows}
 use Rattle.sj_machine.specs.Stores.{Keeps, store_of}
 use Rattle.sj_machine.specs.declared.plan.Why.{Why}
 use Rattle.sj_machine.specs.declared.plan.Why.TheVariants.{Commute, Leaving, NoRoom}
-use Rattle.sj_machine.proofs.ClaimFinding.{plan-right, plan-wrong}
+use Rattle.sj_machine.proofs.ClaimFinding.{plan-answers}
 use Rattle.sj_machine.proofs.ClaimPlanning.{proper-work}
 use Rattle.sj_machine.proofs.Commuting.{first-is}
 use Rattle.sj_machine.proofs.Happening.{rows_in}
@@ -45,14 +45,9 @@ module _ (p : Program) (m : Machine) (s : State) (nodes : List Store) (keeps : K
       choice-leaving c leaves = told (Err (Leaving c)) (record { can = tt; plan = tt; why = (free, ap (λ (j : Node). is_leaving_at s.cells j c) (sym at) ∙ ap (λ (x : List CellState). is_leaving_at x n c) (sym are) ∙ leaves) })
 
       pub choice-found : (gone : List ℕ) → KnownGone r.machine r.state gone → (ws' : List WorkerState) → ws' ≡ s.workers → NoneLeavesFor cells n ws' gone → (node d : Store) → node ≡ get_or nodes n.0 d → (p' : Program) → p' ≡ p → (found : Option ClaimPlan) → found ≡ option_map (planned p' node t w) (chosen_on p' node t w) → IsAnswer r t w (ok_or found NoRoom)
-      choice-found gone known ws' same_ws stay node d read p' same_p found is = told (ok_or found NoRoom) (by_found found (is ∙ ap (λ (x : Program). option_map (planned x node t w) (chosen_on x node t w)) same_p))
+      choice-found gone known ws' same_ws stay node d read p' same_p found is =
+          subst (λ (o : Option ClaimPlan). IsAnswer r t w (ok_or o NoRoom)) (sym (is ∙ ap (λ (x : Program). option_map (planned x node t w) (chosen_on x node t w)) same_p))
+          (told (ok_or (option_map (planned p node t w) (chosen_on p node t w)) NoRoom) (plan-answers p m s t w may free settled node (read-store p m s nodes keeps w n at node d read)))
         where
           settled : none_leaving s (node_of m w) ≡ true
           settled = none-leaves p m s keeps.sound.coherent (node_of m w) gone (subst (λ (x : Rows). KnownGone x.machine x.state gone) (sym same) known) (subst (λ (j : Node). NoneLeavesFor s.cells j s.workers gone) at (subst (λ (x : List CellState). NoneLeavesFor x n s.workers gone) are (subst (λ (x : List WorkerState). NoneLeavesFor cells n x gone) same_ws stay)))
-
-          node-is : node ≡ store_of p m s (node_of m w)
-          node-is = read-store p m s nodes keeps w n at node d read
-
-          by_found : (o : Option ClaimPlan) → o ≡ option_map (planned p node t w) (chosen_on p node t w) → IsAnswer (rows_in p m s) t w (ok_or o NoRoom)
-          by_found (Some plan) e = (let right = plan-right p m s t w may free settled node plan node-is e in record { can = right.0; plan = right.1; why = tt })
-          by_found None e = record { can = tt; plan = tt; why = (free, settled, plan-wrong p m s t w may free settled node node-is e) }

@@ -2,13 +2,14 @@
 use Rattle.std.proofs.Common.{◌≡◌, ℕ, ◌+◌, ◌-◌, Bool, true, false, not, ◌&&◌, ◌||◌, List, [], ◌∷◌, ◌++◌, Option, Some, None, map, filter, reverse, option_map, refl, sym, ap, ◌∙◌, subst, arith, sum_by, nat_eq, is_some}
 use Rattle.std.specs.List.{list_any}
 use Rattle.std.specs.Bool.{then_some}
-use Rattle.std.specs.Option.{option_or}
+use Rattle.std.specs.Option.{ok_or, option_or}
 use Rattle.std.specs.Prelude.{All}
 use Rattle.std.proofs.lemmas.Bool.{false≢true, ne_eqb}
 use Rattle.std.proofs.lemmas.List.{map-append, reverse-append, reverse-reverse}
 use Rattle.std.proofs.lemmas.List.Elements.{All-head, All-tail, filter_agree}
 use Rattle.std.proofs.lemmas.List.Sums.{sum_by-cons}
 use Rattle.sj_core.proofs.CellLists.{times, times-has, times-none}
+use Rattle.sj_core.proofs.Readiness.{list_any-some}
 use Rattle.sj_core.proofs.Reading.{same_cell-is}
 use Rattle.sj_core.proofs.Words.{Cell, Machine, Node, Program, State, Task, Worker, cells_of, distinct, free, has_cell, is_pinned, node_of, node_size, order, pins, same_cell, scratch, scratch_bytes, task_of, tile_bytes, workers_at}
 use Rattle.sj_core.specs.Step.{May, missing, none_leaving, to_come, victims_for}
@@ -17,11 +18,12 @@ use Rattle.sj_base.specs.declared.trace.Event.TheVariants.{Claim}
 use Rattle.sj_node.proofs.CallerLemmas.{victims-map}
 use Rattle.sj_node.specs.Entry.{NodeEntry, has_entry, is_spare}
 use Rattle.sj_node.specs.Store.{Store, free_bytes}
-use Rattle.sj_node.specs.Victims.{shortest_suffix as shortest_end, victims as victims_among}
 use Rattle.sj_machine.specs.Stores.{pins_on, store_of}
 use Rattle.sj_machine.specs.Plan.{ClaimPlan, IsPlan, plan_with}
-use Rattle.sj_machine.specs.Planning.{CommutersAreFree, MayClaim, chosen_on, lacking, need_on, planned}
+use Rattle.sj_machine.specs.Planning.{CommutersAreFree, IsAnswer, MayClaim, chosen_on, lacking, need_on, planned}
+use Rattle.sj_machine.specs.declared.plan.Why.TheVariants.{NoRoom}
 use Rattle.sj_machine.proofs.Commuting.{commuters-alone}
+use Rattle.sj_machine.proofs.Happening.{entry-cells, rows_in}
 use Rattle.sj_machine.proofs.ClaimEntries.{entries, entries-has, entries-total, entry}
 use Rattle.sj_base.proofs.Numbers.{none_first}
 
@@ -29,21 +31,11 @@ use Rattle.sj_base.proofs.Numbers.{none_first}
 
 -- a fact of each cell of a list, of one that it has
 pub All-of : (P : Cell → Type 0) (xs : List Cell) (c : Cell) → All P xs → has_cell xs c ≡ true → P c
-All-of P [] c all h = absurd (false≢true h)
-All-of P (x ∷ xs) c all h = by_cases (same_cell x c) refl h (All-of P xs c (All-tail P x xs all))
-  where
-    by_cases : (b : Bool) → same_cell x c ≡ b → (b || has_cell xs c) ≡ true → (has_cell xs c ≡ true → P c) → P c
-    by_cases true e h rest = subst P (same_cell-is x c e) (All-head P x xs all)
-    by_cases false e h rest = rest h
+All-of P xs c all h = (let found = list_any-some (λ (d : Cell). same_cell d c) xs h in subst P (found.1.2 ∙ same_cell-is found.0 c found.2) (all found.1.0 found.0 found.1.1))
 
 map-reverse : {X Y : Type 0} (f : X → Y) (xs : List X) → map f (reverse xs) ≡ reverse (map f xs)
 map-reverse f [] = refl
-map-reverse f (x ∷ xs) = ap (map f) (reverse-append (x ∷ []) xs) ∙ map-append f (reverse xs) (x ∷ []) ∙ ap (λ ys. ys ++ f x ∷ []) (map-reverse f xs) ∙ sym (reverse-append (f x ∷ []) (map f xs))
-
--- the search from behind is the same in both crates
-same_end : {X : Type 0} (test : List X → Bool) (xs : List X) → shortest_end test xs ≡ shortest_suffix test xs
-same_end test [] = refl
-same_end test (x ∷ xs) = ap (λ o. option_or o (then_some (test (x ∷ xs)) (x ∷ xs))) (same_end test xs)
+map-reverse f (x ∷ xs) = grind (arith, reverse-append (x ∷ []) xs, map-append f (reverse xs) (x ∷ []), map-reverse f xs, reverse-append (f x ∷ []) (map f xs))
 
 -- ---- pins
 
@@ -71,11 +63,7 @@ module _ (p : Program) (m : Machine) (s : State) (t : Task) (w : Worker) where
 
   turned : (o : Option (List Cell)) → option_map reverse (option_map (λ vs. map (λ (e : NodeEntry). e.cell) (reverse vs)) (option_map (entries (tile_bytes p) (pins_on m s n)) o)) ≡ o
   turned None = refl
-  turned (Some vs) = ap Some (ap reverse (map-reverse (λ (e : NodeEntry). e.cell) (entries (tile_bytes p) (pins_on m s n) vs) ∙ ap reverse (same_cells vs)) ∙ reverse-reverse vs)
-    where
-      same_cells : (cs : List Cell) → map (λ (e : NodeEntry). e.cell) (entries (tile_bytes p) (pins_on m s n) cs) ≡ cs
-      same_cells [] = refl
-      same_cells (c ∷ cs) = ap (λ (ds : List Cell). c ∷ ds) (same_cells cs)
+  turned (Some vs) = ap Some (ap reverse (map-reverse (λ (e : NodeEntry). e.cell) (entries (tile_bytes p) (pins_on m s n) vs) ∙ ap reverse (entry-cells (entry (tile_bytes p) (pins_on m s n)) (λ c. refl) vs)) ∙ reverse-reverse vs)
 
   pub chosen-same : chosen_on p own t w ≡ victims_for p m s t w
   chosen-same =
@@ -85,8 +73,7 @@ module _ (p : Program) (m : Machine) (s : State) (t : Task) (w : Worker) where
       let free_of : Cell → Bool = λ c. not (is_pinned m s n c) && not (has_cell (cells_of p t w) c) in
       let same_test : (c : Cell) → spare c ≡ free_of c = λ c. ap (λ b. b && not (has_cell (cells_of p t w) c)) (unpinned-is s c (workers_at m n)) in
       ap (λ o. option_map reverse (option_map (λ vs. map (λ (e : NodeEntry). e.cell) (reverse vs)) o)) (victims-map f (λ e. e.bytes) (is_spare (cells_of p t w)) (order s n) (free_bytes own) (need_on p own t w))
-      ∙ turned (victims_among bytes spare (order s n) (free_bytes own) (need_on p own t w))
-      ∙ same_end (covers bytes (free_bytes own) (need_on p own t w)) (filter spare (order s n))
+      ∙ turned (victims bytes spare (order s n) (free_bytes own) (need_on p own t w))
       ∙ ap (shortest_suffix (covers bytes (free_bytes own) (need_on p own t w))) (filter_agree spare free_of same_test (order s n))
       ∙ ap (λ (k : ℕ). victims bytes free_of (order s n) k (need_on p own t w)) free-same
       ∙ ap (λ (k : ℕ). victims bytes free_of (order s n) (free p m s n) k) (sym need-same)
@@ -96,37 +83,16 @@ module _ (p : Program) (m : Machine) (s : State) (t : Task) (w : Worker) where
 
 -- ---- the claim
 
+-- what the plan on the node answers to a claim
 module _ (p : Program) (m : Machine) (s : State) (t : Task) (w : Worker) (may : MayClaim p m s t w) (free : CommutersAreFree p s t) (settled : none_leaving s (node_of m w) ≡ true) where
-  pub can-claim : (evicted : List Cell) → victims_for p m s t w ≡ Some evicted → May p m s (Claim t w)
-  can-claim evicted chosen = record {
-    worker = may.worker;
-    waiting = may.waiting;
-    ready = may.ready;
-    idle = may.idle;
-    fits = may.fits;
-    settled = settled;
-    alone = commuters-alone p s t free;
-    room = ap is_some chosen;
+  by_victims : (o : Option (List Cell)) → victims_for p m s t w ≡ o → IsAnswer (rows_in p m s) t w (ok_or (option_map (planned p (store_of p m s (node_of m w)) t w) o) NoRoom)
+  by_victims None chosen = record { can = tt; plan = tt; why = (free, settled, chosen) }
+  by_victims (Some evicted) chosen = record {
+    can = record { worker = may.worker; waiting = may.waiting; ready = may.ready; idle = may.idle; fits = may.fits; settled = settled; alone = commuters-alone p s t free; room = ap is_some chosen };
+    plan = subst (λ (x : ClaimPlan). IsPlan p m s t w x) (sym (planned-same p m s t w evicted)) (record { chosen = chosen; rest = refl });
+    why = tt;
   }
 
-  -- a plan on the node is the claim's
-  pub plan-right : (store : Store) (plan : ClaimPlan) → store ≡ store_of p m s (node_of m w) → Some plan ≡ option_map (planned p store t w) (chosen_on p store t w) → May p m s (Claim t w) × IsPlan p m s t w plan
-  plan-right store plan is found =
-      by_chosen (victims_for p m s t w) refl (found ∙ ap (λ (x : Store). option_map (planned p x t w) (chosen_on p x t w)) is ∙ ap (option_map (planned p (store_of p m s (node_of m w)) t w)) (chosen-same p m s t w))
-    where
-      one : (x y : ClaimPlan) → Some x ≡ Some y → x ≡ y
-      one x y e = cc
-
-      by_chosen : (o : Option (List Cell)) → victims_for p m s t w ≡ o → Some plan ≡ option_map (planned p (store_of p m s (node_of m w)) t w) o → May p m s (Claim t w) × IsPlan p m s t w plan
-      by_chosen None chosen found = absurd (cc)
-      by_chosen (Some evicted) chosen found =
-          let same : plan ≡ plan_with p m s t w evicted = one plan (planned p (store_of p m s (node_of m w)) t w evicted) found ∙ planned-same p m s t w evicted in
-          (can-claim evicted chosen, subst (λ (x : ClaimPlan). IsPlan p m s t w x) (sym same) (record { chosen = chosen; rest = refl }))
-
-  pub plan-wrong : (store : Store) → store ≡ store_of p m s (node_of m w) → ◌≡◌ {A = Option ClaimPlan} None (option_map (planned p store t w) (chosen_on p store t w)) → victims_for p m s t w ≡ None
-  plan-wrong store is none =
-      by_chosen (victims_for p m s t w) refl (none ∙ ap (λ (x : Store). option_map (planned p x t w) (chosen_on p x t w)) is ∙ ap (option_map (planned p (store_of p m s (node_of m w)) t w)) (chosen-same p m s t w))
-    where
-      by_chosen : (o : Option (List Cell)) → victims_for p m s t w ≡ o → ◌≡◌ {A = Option ClaimPlan} None (option_map (planned p (store_of p m s (node_of m w)) t w) o) → victims_for p m s t w ≡ None
-      by_chosen None chosen found = chosen
-      by_chosen (Some evicted) chosen found = absurd (cc)
+  pub plan-answers : (store : Store) → store ≡ store_of p m s (node_of m w) → IsAnswer (rows_in p m s) t w (ok_or (option_map (planned p store t w) (chosen_on p store t w)) NoRoom)
+  plan-answers store is =
+      rw is (subst (λ (o : Option (List Cell)). IsAnswer (rows_in p m s) t w (ok_or (option_map (planned p (store_of p m s (node_of m w)) t w) o) NoRoom)) (sym (chosen-same p m s t w)) (by_victims (victims_for p m s t w) refl))

@@ -19,6 +19,9 @@ gone_more rows n w victims i d inside gone stays =
     list_all_more f (reverse victims) i d (omega (arith, inside, length-reverse victims))
     ∙ and_from (list_all f (take i (reverse victims))) (f (get_or (reverse victims) i d)) gone (ap f (get_or-reverse victims i d inside) ∙ ap not stays)
 
+pub and_first : (a b : Bool) → (a && b) ≡ true → a ≡ true
+and_first a b h = (and_parts a b h).0
+
 -- the first that passes is behind those that don't
 find-rest : (f : Cell → Bool) (xs : List Cell) (k : ℕ) → list_all (λ c. not (f c)) (take k xs) ≡ true → find f xs ≡ find f (drop k xs)
 find-rest f [] zero h = refl

@@ -39,7 +39,7 @@ pinned-entry p m s coherent v c pin =
 
 -- ---- stores
 
-entry-cells : (f : Cell → NodeEntry) → ((c : Cell) → (f c).cell ≡ c) → (cs : List Cell) → map (λ (e : NodeEntry). e.cell) (map f cs) ≡ cs
+pub entry-cells : (f : Cell → NodeEntry) → ((c : Cell) → (f c).cell ≡ c) → (cs : List Cell) → map (λ (e : NodeEntry). e.cell) (map f cs) ≡ cs
 entry-cells f same [] = refl
 entry-cells f same (c ∷ cs) = ap (λ (x : Cell). x ∷ map (λ (e : NodeEntry). e.cell) (map f cs)) (same c) ∙ ap (λ (xs : List Cell). c ∷ xs) (entry-cells f same cs)
 

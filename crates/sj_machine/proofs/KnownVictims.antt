@@ -29,18 +29,10 @@ module _ (p : Program) (m : Machine) (s : State) (coherent : Coherent p m s) (n 
       let k : ℕ = get_or gone v.0 0 in
       let left : List Cell = take (length vs - k) vs in
       let rest : list_all f left ≡ true = list_all-from_AllPass f left (λ i d inside. stays (get_or left i d) (not-true (is_leaving_at s.cells n (get_or left i d)) (AllPass-from_list_all (λ c. not (is_leaving_at s.cells n c)) left (found-none (is_leaving_at s.cells n) left (none v.0)) i d inside))) in
-      sym (all-turned f vs)
-      ∙ ap (list_all f) (sym (take-append-drop k (reverse vs)))
-      ∙ list_all-append f (take k (reverse vs)) (drop k (reverse vs))
-      ∙ ap (λ b. b && list_all f (drop k (reverse vs))) (known v)
-      ∙ ap (list_all f) (sym (rest-is vs k))
-      ∙ all-turned f left
-      ∙ rest
+      grind (arith, all-turned f vs, take-append-drop k (reverse vs), list_all-append f (take k (reverse vs)) (drop k (reverse vs)), known v, rest-is vs k, all-turned f left, rest)
     where
       stays : (c : Cell) → is_leaving_at s.cells n c ≡ false → is_gone m s v c ≡ true
-      stays c not_here = ap not (false_from_ne_true (is_leaving_by v (mark s c (node_of m v))) (λ leaves.
-          (let here : is_leaving_by v (mark s c n) ≡ true = ap (λ (j : Node). is_leaving_by v (mark s c j)) at ∙ leaves in
-          false≢true (sym not_here ∙ leaving_by-leaves v (mark s c n) here))))
+      stays c not_here = search (arith, false≢true, leaving_by-leaves)
 
   pub none-leaves : none_leaving s n ≡ true
   none-leaves = list_all-from_AllPass (λ (row : CellState). not (is_leaving (mark_in row n))) s.cells (λ i d inside.
