@@ -1,5 +1,5 @@
 -- What the rows say of a claimed task's next step.
-use Rattle.std.proofs.Common.{◌≡◌, ℕ, ◌+◌, ◌<◌, ◌^◌, Bool, true, false, not, ◌&&◌, List, Option, Some, None, find, get_or, is_some, length, refl, sym, ap, ◌∙◌, subst, arith}
+use Rattle.std.proofs.Common.{◌≡◌, ℕ, ◌+◌, ◌<◌, ◌^◌, Bool, true, false, not, ◌&&◌, Option, Some, None, find, get_or, is_some, length, refl, sym, ap, ◌∙◌, arith}
 use Rattle.sj_machine.proofs.Words.{Cell, cell_info, CellInfo, cells_of, Claimed, fresh_cells, has_cell, HasNumbers, is_brought, is_claimed_by, is_coming_by, is_fresh, is_to_come, IsCopyOf, IsSound, Machine, mark, next_cell, node_of, Program, progress, State, Task, task_of, worked_among, Worker}
 use Rattle.std.specs.{Prelude.IfSome}
 use Rattle.std.proofs.{Math.Path.fun_ext}

@@ -4,7 +4,7 @@ use Rattle.std.specs.List.{list_any}
 use Rattle.std.specs.Bool.{then_some}
 use Rattle.std.specs.Option.{ok_or, option_or}
 use Rattle.std.specs.Prelude.{All}
-use Rattle.std.proofs.lemmas.Bool.{false≢true, ne_eqb}
+use Rattle.std.proofs.lemmas.Bool.{false≢true}
 use Rattle.std.proofs.lemmas.List.{map-append, reverse-append, reverse-reverse}
 use Rattle.std.proofs.lemmas.List.Elements.{All-head, All-tail, filter_agree}
 use Rattle.std.proofs.lemmas.List.Sums.{sum_by-cons}
@@ -25,7 +25,6 @@ use Rattle.sj_machine.specs.declared.plan.Why.TheVariants.{NoRoom}
 use Rattle.sj_machine.proofs.Commuting.{commuters-alone}
 use Rattle.sj_machine.proofs.Happening.{entry-cells, rows_in}
 use Rattle.sj_machine.proofs.ClaimEntries.{entries, entries-has, entries-total, entry}
-use Rattle.sj_base.proofs.Numbers.{none_first}
 
 -- ---- lists
 

@@ -1,6 +1,6 @@
 -- What is found in planning a claim.
-use Rattle.std.proofs.Common.{◌≡◌, ℕ, ◌+◌, ◌*◌, ◌^◌, ◌≤◌, Bool, true, false, not, List, [], ◌∷◌, Some, None, map, filter, length, reverse, option_map, sym, ap, ◌∙◌, arith, sum, sum_by, ◌<◌}
-use Rattle.std.specs.Prelude.{All, if◌then◌else◌}
+use Rattle.std.proofs.Common.{◌*◌, ◌^◌, ◌≤◌, Bool, not, List, [], ◌∷◌, map, filter, length, sym, ◌∙◌, arith, sum, ◌<◌}
+use Rattle.std.specs.Prelude.{All}
 use Rattle.std.proofs.lemmas.List.{length-map}
 use Rattle.std.proofs.lemmas.List.Elements.{All-filter, All-get_or, All-map, All-weaker}
 use Rattle.std.proofs.lemmas.List.Sums.{count_by-le-length, length-filter, sum-map, sum_by-le}
@@ -9,14 +9,14 @@ use Rattle.sj_base.specs.declared.mode.Access.{Access}
 use Rattle.sj_base.specs.Array.{area}
 use Rattle.sj_base.specs.declared.program.CellInfo.{CellInfo}
 use Rattle.sj_base.specs.declared.program.Lowered.{Lowered}
-use Rattle.sj_core.proofs.CellLists.{has_cell-distinct, has_cell-filter}
-use Rattle.sj_core.proofs.Words.{Cell, Program, Task, Worker, cells_of, distinct, has_cell, scratch_bytes, task_of, tile_bytes, worked_on}
+use Rattle.sj_core.proofs.CellLists.{has_cell-distinct}
+use Rattle.sj_core.proofs.Words.{Cell, Program, Task, Worker, cells_of, distinct, task_of, tile_bytes, worked_on}
 use Rattle.sj_core.specs.Program.{no_cell, no_task}
 use Rattle.sj_core.specs.Proper.{Proper}
 use Rattle.sj_node.specs.Entry.{has_entry}
-use Rattle.sj_node.specs.Store.{Store, need_victims}
-use Rattle.sj_machine.specs.Plan.{ClaimPlan, IsSmallCell}
-use Rattle.sj_machine.specs.Planning.{HasSmallTask, HasSmallWork, chosen_on, lacking, need_on, planned}
+use Rattle.sj_node.specs.Store.{Store}
+use Rattle.sj_machine.specs.Plan.{IsSmallCell}
+use Rattle.sj_machine.specs.Planning.{HasSmallTask, HasSmallWork, lacking}
 use Rattle.sj_machine.proofs.ClaimFinding.{All-of}
 use Rattle.sj_machine.proofs.Happening.{All-has}
 use Rattle.sj_machine.proofs.FewPins.{few-operands}

@@ -1,21 +1,19 @@
 -- What a claim leaves of the nodes' stores.
-use Rattle.std.proofs.Common.{◌≡◌, ◌≢◌, ℕ, ◌+◌, ◌<◌, ◌≤◌, Bool, true, false, not, ◌||◌, cond, List, [], ◌∷◌, map, fold, length, get_or, refl, sym, ap, ◌∙◌, subst, arith, inl, inr, sum, sum_by}
-use Rattle.std.proofs.lemmas.Bool.{cases_Bool, and_from, false_from_ne_true, false≢true, le-leb, lt-ltb, or_cases, or_parts, or_left, or_right}
+use Rattle.std.proofs.Common.{◌≡◌, ◌≢◌, ℕ, ◌+◌, ◌<◌, ◌≤◌, Bool, true, false, not, ◌||◌, cond, List, [], ◌∷◌, map, fold, length, refl, sym, ap, ◌∙◌, subst, arith, inl, inr, sum, sum_by}
+use Rattle.std.proofs.lemmas.Bool.{cases_Bool, and_from, false_from_ne_true, false≢true, or_cases, or_parts, or_left, or_right}
 use Rattle.sj_core.proofs.CellLists.{same_cell-sym, has_cell-fronted, has_cell-without, share, sum-once, times, times-cons, times-distinct, times-filter, times-has, times-none, times-program}
 use Rattle.sj_core.proofs.Claiming.{Claims-other_worker, Claims-worker, absent-missing, evicted-free, missing-absent, own-spared, pinned-at, pins-inside, task-cell}
-use Rattle.sj_core.proofs.Sums.{count-numbered, sum-agree, sum-filter, sum-filter-le, sum-nothing, sum-plus, tally}
-use Rattle.sj_machine.proofs.Words.{admitting, after_claim, AreDistinctCells, CanClaim, CanHold, CanTakeAll, Cell, cells_of, cells_of_program, ClaimPlan, Coherent, distinct, free_bytes, has_cell, has_entry, holding, is_claimed_by, is_entry, is_running_on, is_valid, IsSound, Machine, mark, missing, Node, node_entry_of, node_of, node_size, NodeEntry, order, pins, pins_of, pins_on, plan_with, Program, progress, put_cells, same_cell, same_worker, scratch, scratch_bytes, State, store, Store, store_of, taken, taking, Task, task_of, tile_bytes, total, with_entries, without, without_all, Worker, worker_state, workers_at, workers_of, WorkerState}
+use Rattle.sj_core.proofs.Sums.{sum-agree, sum-nothing, tally}
+use Rattle.sj_machine.proofs.Words.{admitting, after_claim, AreDistinctCells, CanClaim, CanHold, CanTakeAll, Cell, cells_of, cells_of_program, ClaimPlan, Coherent, distinct, free_bytes, has_cell, has_entry, holding, IsSound, Machine, missing, Node, node_entry_of, node_of, NodeEntry, order, pins, pins_of, pins_on, plan_with, Program, put_cells, same_cell, scratch, scratch_bytes, State, Store, store_of, taken, taking, Task, task_of, tile_bytes, total, with_entries, without, without_all, Worker, worker_state, workers_at, WorkerState}
 use Rattle.sj_machine.proofs.ClaimEntries.{can_take-all, entries, entries-has, entries-pins, entries-put, entries-total, entries-without, fronted-put_first, has_cell-put_first, more, put_first, taken-all, times-put_first}
-use Rattle.std.specs.{List.AllByRecursion, List.IsDistinct, Prelude.All, Prelude.IsTrue, Prelude.count_by, Prelude.nat_eq}
-use Rattle.std.specs.{Prelude.nat_le, Prelude.nat_lt}
-use Rattle.std.proofs.lemmas.{Bool.Decides.Decides-eqb, List.length-map, List.Folds.list_any_at}
+use Rattle.std.specs.{List.AllByRecursion, List.IsDistinct, Prelude.IsTrue}
+use Rattle.std.proofs.lemmas.{Bool.Decides.Decides-eqb, List.length-map}
 use Rattle.std.proofs.lemmas.{List.FromFn.length-map-range_with_len, List.Sums.sum-map, List.Sums.sum_by-cons}
 use Rattle.std.proofs.lemmas.{List.Sums.sum_by-le-sum_by}
 use Rattle.sj_base.proofs.{Bools.tally-le}
-use Rattle.sj_core.proofs.{Eviction.evicted_by, Advancing.claimed_by-is, Advancing.idle-has_none, Advancing.running_on-is}
+use Rattle.sj_core.proofs.{Eviction.evicted_by, Advancing.idle-has_none}
 use Rattle.sj_core.proofs.{Bytes.entry-cell, Bytes.once-bytes, ClaimKeeps.Claims-coherent, ClaimKeeps.claim-order_elsewhere}
-use Rattle.sj_core.proofs.{ClaimKeeps.claim-order_here, Replicas.same_worker-is, Replicas.same_worker-refl}
-use Rattle.sj_core.proofs.{Replicas.valid-entry}
+use Rattle.sj_core.proofs.{ClaimKeeps.claim-order_here}
 use Rattle.sj_machine.proofs.{Happening.All-has, Happening.pinned-entry, Happening.store-same, Happening.store_by}
 use Rattle.sj_machine.proofs.{NodeSums.sum-at, NodeSums.sum-grown}
 

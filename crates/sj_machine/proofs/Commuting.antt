@@ -1,14 +1,9 @@
 -- The commuting cells of a task that a claimed or running task has: those that a worker pins.
-use Rattle.std.proofs.Common.{◌≡◌, ◌≢◌, ◌<◌, ◌+◌, ◌++◌, ◌∷◌, ◌&&◌, [], ℕ, suc, Bool, true, false, not, List, Some, None, ◌∙◌, ap, arith, cond, find, filter, get_or, length, map, refl, sym, take, drop}
+use Rattle.std.proofs.Common.{◌≡◌, ◌≢◌, ◌<◌, ◌∷◌, ◌&&◌, [], Bool, true, not, List, None, ◌∙◌, ap, arith, find, get_or, length, refl, sym}
 use Rattle.std.specs.List.{list_all}
-use Rattle.std.specs.Option.{option_or}
-use Rattle.std.proofs.Math.Seq.{drop-cons}
 use Rattle.std.proofs.lemmas.Bool.{and_parts, false_from_ne_true, false≢true}
-use Rattle.std.proofs.lemmas.List.{get_or_default, map-append, take-append-drop, take_more}
-use Rattle.std.proofs.lemmas.List.Elements.{filter-append}
-use Rattle.std.proofs.lemmas.List.Folds.{find-append, list_any_at}
-use Rattle.sj_base.specs.Mode.{is_commute}
-use Rattle.sj_base.specs.declared.mode.Access.{Access}
+use Rattle.std.proofs.lemmas.List.{get_or_default}
+use Rattle.std.proofs.lemmas.List.Folds.{list_any_at}
 use Rattle.sj_core.proofs.Advancing.{task_of-active, task_of-worker}
 use Rattle.sj_core.proofs.Reading.{idle_row, progress-inside}
 use Rattle.sj_core.proofs.Readiness.{list_any-some}
@@ -20,7 +15,7 @@ use Rattle.sj_core.specs.declared.progress.Progress.{Progress}
 use Rattle.sj_core.specs.declared.progress.Progress.TheVariants.{Waiting}
 use Rattle.sj_core.specs.Operands.{commuting_cells}
 use Rattle.sj_core.specs.Step.{is_in_use}
-use Rattle.sj_machine.specs.Operands.{commuting_among, first_held, is_held}
+use Rattle.sj_machine.specs.Operands.{first_held, is_held}
 use Rattle.sj_machine.specs.Planning.{CommutersAreFree, HoldsCommutersAlone, commuter_in_use}
 use Rattle.sj_core.proofs.Claiming.{pins-inside}
 

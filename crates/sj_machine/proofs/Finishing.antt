@@ -1,15 +1,14 @@
 -- What the end of a run leaves.
-use Rattle.std.proofs.Common.{[], ◌≡◌, ◌≢◌, ◌<◌, ◌≤◌, ◌+◌, ◌-◌, ◌^◌, ◌∙◌, ℕ, Bool, ap, arith, false, true, get_or, inl, inr, length, List, map, nat_eq, refl, set, sum_by, sym, subst}
-use Rattle.sj_machine.proofs.Words.{Access, after, CanCount, CanHappen, CanRelease, CanWorkOn, Cell, cells_of, CellState, Done, End, has_cell, has_written, HasStores, is_begun, is_task_of, is_valid, is_written, IsSound, Keeps, let_go, Machine, mark, Node, node_of, node_size, order, pins, pins_on, Program, Progress, progress, released, row_at, Rows, Running, same_cell, scratch, State, state_in, store, Store, store_at, store_of, Task, task_of, tasks_of, tile_bytes, worked_on, Worker, worker_of, worker_state, workers_at, WorkerState, writes, written_cells, written_each, written_once_more}
+use Rattle.std.proofs.Common.{[], ◌≡◌, ◌≢◌, ◌<◌, ◌≤◌, ◌+◌, ◌-◌, ◌^◌, ◌∙◌, ℕ, Bool, ap, arith, length, List, refl, set, sum_by, sym, subst}
+use Rattle.sj_machine.proofs.Words.{Access, after, CanCount, CanHappen, CanRelease, CanWorkOn, Cell, CellState, Done, End, has_written, HasStores, is_begun, is_valid, is_written, IsSound, Keeps, let_go, Machine, Node, node_of, node_size, order, pins, pins_on, Program, Progress, progress, released, row_at, Rows, Running, scratch, State, state_in, store, Store, store_at, store_of, Task, task_of, tasks_of, tile_bytes, worked_on, Worker, worker_of, worker_state, workers_at, WorkerState, writes, written_cells, written_each, written_once_more}
 use Rattle.sj_machine.proofs.Happening.{AreLeft, All-has, HasStores-set, mark-inside, pinned-entry, may-happen, rows_in, rows-left, store-at, store-same}
-use Rattle.std.specs.{Prelude.All, Prelude.filter, Prelude.if◌then◌else◌}
-use Rattle.std.proofs.lemmas.{Bool.cases_eq, Nat.mod_below, List.get_or-set_other, List.get_or-set_same, List.length-map}
-use Rattle.std.proofs.lemmas.{List.length-set, List.Elements.All-from_get_or, List.Folds.list_any_at}
+use Rattle.std.specs.{Prelude.All, Prelude.filter}
+use Rattle.std.proofs.lemmas.{Nat.mod_below, List.length-map}
+use Rattle.std.proofs.lemmas.{List.Elements.All-from_get_or}
 use Rattle.std.proofs.lemmas.{List.FromFn.length-map-range_with_len, List.Sums.count_by-le-length, List.Sums.length-filter}
-use Rattle.sj_base.proofs.{SameIds.other_node, SameIds.same_cell-itself}
-use Rattle.sj_core.proofs.{CellLists.times, Finding.running-inside, Reading.no_row, Reading.same_node, Reading.worker-other}
-use Rattle.sj_core.proofs.{Reading.worker-same, Replicas.same_worker-refl, Replicas.valid-entry}
-use Rattle.sj_machine.proofs.{ClaimEntries.entries, FewPins.few-operands, Loops.rows-written, NodeSums.sum-at}
+use Rattle.sj_core.proofs.{CellLists.times, Finding.running-inside, Reading.no_row, Reading.worker-other}
+use Rattle.sj_core.proofs.{Reading.worker-same}
+use Rattle.sj_machine.proofs.{FewPins.few-operands, Loops.rows-written, NodeSums.sum-at}
 use Rattle.sj_machine.proofs.{NodeSums.sum-grown, Unpinning.all-less, Unpinning.can-unpin, Written.can-work}
 use Rattle.sj_machine.proofs.{Written.written-once}
 

@@ -1,10 +1,10 @@
 -- What the beginning and the end of a move leave, and a drop.
-use Rattle.std.proofs.Common.{◌≡◌, ◌<◌, ◌∙◌, ap, arith, false, true, length, count_by, List, map, None, Option, refl, set, slice_index_or, slice_set, Some, sum_by, sym, subst, ℕ}
-use Rattle.sj_machine.proofs.Words.{a_transfer, after, arrived, AtNode, CanDrop, CanHappen, Cell, cell_state, CellState, Drop, HasStores, Invalid, is_coming_by, is_leaving, is_leaving_by, IsTransferTo, Keeps, Machine, May, Move, Moved, mover_of, Node, node_size, OnDisk, order, pins, pins_on, Place, Program, Progress, row_of, Rows, same_cell, scratch, State, state_in, store, Store, store_of, tile_bytes, transfer, Transfer, transfer_in, with_mark, with_row, with_row_of, with_transfer, with_transfer_of, Worker, workers_at, WorkerState}
+use Rattle.std.proofs.Common.{◌≡◌, ◌<◌, ◌∙◌, ap, length, List, None, Option, refl, set, slice_index_or, slice_set, Some, sym, subst}
+use Rattle.sj_machine.proofs.Words.{a_transfer, after, arrived, AtNode, CanDrop, CanHappen, Cell, cell_state, CellState, Drop, HasStores, Invalid, is_coming_by, is_leaving, is_leaving_by, IsTransferTo, Keeps, Machine, May, Move, Moved, mover_of, Node, OnDisk, order, pins, pins_on, Place, Program, Progress, row_of, Rows, scratch, State, state_in, Store, store_of, transfer, Transfer, transfer_in, with_mark, with_row, with_row_of, with_transfer, with_transfer_of, Worker, workers_at, WorkerState}
 use Rattle.sj_machine.proofs.Happening.{AreLeft, HasStores-same, mark-inside, may-happen, row-at, rows_in, rows-left, store-same}
 use Rattle.std.proofs.lemmas.{Bool.false≢true}
 use Rattle.sj_base.proofs.{Lists.sum_by-agree}
-use Rattle.sj_core.proofs.{CellLists.times, Placing.pins-same, Placing.scratch-same, Replicas.leaving_by-leaves}
+use Rattle.sj_core.proofs.{CellLists.times, Placing.pins-same, Placing.scratch-same}
 use Rattle.sj_core.proofs.{States.one-mover}
 
 -- a node's store stays where a transfer begins or ends

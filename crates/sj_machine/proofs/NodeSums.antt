@@ -1,5 +1,5 @@
 -- Sums over the workers of a node, where one worker's term grows.
-use Rattle.std.proofs.Common.{◌≡◌, ◌≢◌, ℕ, ◌+◌, ◌*◌, ◌<◌, Bool, true, false, cond, ap, arith, count_by, sum_by, sym, ◌∙◌, ◌&&◌, inl, inr, nat_eq}
+use Rattle.std.proofs.Common.{◌≡◌, ◌≢◌, ℕ, ◌+◌, ◌*◌, ◌<◌, Bool, true, cond, ap, arith, count_by, sum_by, sym, ◌∙◌, ◌&&◌, inl, inr, nat_eq}
 use Rattle.sj_machine.proofs.Words.{Machine, Node, node_of, same_worker, Worker, workers_at, workers_of}
 use Rattle.std.proofs.lemmas.{Bool.and_from, Bool.cases_Bool, Bool.false≢true, Bool.Decides.Decides-eqb}
 use Rattle.std.specs.{List.list_any}

@@ -1,12 +1,12 @@
 -- What the beginning of a run leaves.
-use Rattle.std.proofs.Common.{[], ◌≡◌, ◌≢◌, ◌<◌, ◌≤◌, ◌∙◌, ℕ, Bool, ap, arith, count_by, false, true, not, get_or, inl, inr, length, List, map, nat_eq, refl, set, sum_by, sym, subst}
-use Rattle.sj_machine.proofs.Words.{after, AreMarked, AreUnpinned, CanHappen, CanRun, CanWorkOn, Cell, cell_state, CellState, evicted_at, has_cell, has_entry, HasStores, Invalid, is_claimed_by, is_entry, is_of_cells, is_running_on, is_valid, IsHeld, IsOwnedBy, IsSound, Keeps, Machine, mark, Node, node_entry_of, node_of, node_size, NodeEntry, order, owned_at, owned_each, pins, pins_on, Program, Progress, progress, Rows, Run, Running, same_cell, scratch, State, state_in, store, Store, store_of, Task, task_of, tile_bytes, with_entries, without, without_all, Worker, workers_at, workers_of, WorkerState, written_cells}
+use Rattle.std.proofs.Common.{[], ◌≡◌, ◌≢◌, ◌<◌, ◌∙◌, ℕ, Bool, ap, arith, false, true, not, get_or, length, List, map, nat_eq, refl, set, sum_by, sym, subst}
+use Rattle.sj_machine.proofs.Words.{after, AreMarked, AreUnpinned, CanHappen, CanRun, CanWorkOn, Cell, CellState, evicted_at, has_cell, has_entry, is_entry, is_of_cells, is_valid, IsOwnedBy, IsSound, Keeps, Machine, mark, Node, node_entry_of, node_of, node_size, NodeEntry, order, owned_at, owned_each, pins, pins_on, Program, Progress, Rows, Run, Running, scratch, State, state_in, store, Store, store_of, Task, task_of, tile_bytes, with_entries, without, without_all, Worker, workers_at, WorkerState, written_cells}
 use Rattle.sj_machine.proofs.Happening.{AreLeft, All-has, mark-inside, pinned-entry, may-happen, rows_in, rows-left, sound-after, store-at}
-use Rattle.std.specs.{Prelude.All, Prelude.Contains, Prelude.if◌then◌else◌}
-use Rattle.std.proofs.lemmas.{Bool.false_from_ne_true, Bool.false≢true, Bool.Decides.Decides-eqb, Nat.mod_below}
+use Rattle.std.specs.{Prelude.All, Prelude.if◌then◌else◌}
+use Rattle.std.proofs.lemmas.{Bool.false_from_ne_true, Bool.false≢true}
 use Rattle.std.proofs.lemmas.{List.get_or-map, List.length-map}
 use Rattle.sj_core.proofs.{CellLists.times, CellLists.times-none, Claimed.claimed-inside, Claimed.claimed-staffed}
-use Rattle.sj_core.proofs.{Readiness.filter-Contains, Reading.progress-same, Sums.sum-nothing, Tables.renewed-at}
+use Rattle.sj_core.proofs.{Reading.progress-same, Sums.sum-nothing, Tables.renewed-at}
 use Rattle.sj_node.proofs.{CallerLemmas.filter-map}
 use Rattle.sj_machine.proofs.{ClaimEntries.entries-has, Loops.rows-written, NodeSums.sum-at, Written.can-work}
 use Rattle.sj_machine.proofs.{Written.written-once}

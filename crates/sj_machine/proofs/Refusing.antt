@@ -1,7 +1,7 @@
 -- A claim is refused only while another worker has a task: where none has one, nothing is in use, nothing leaves, and the node
 -- has room.
-use Rattle.std.proofs.Common.{◌≡◌, ◌∙◌, ◌∷◌, ◌<◌, ◌≤◌, ◌+◌, ◌*◌, ◌&&◌, ℕ, suc, [], List, Option, None, Some, Bool, true, false, not, IsTrue, ap, arith, cond, filter, get_or, inl, inr, length, map, refl, sum_by, sym}
-use Rattle.std.specs.Prelude.{AllPairs, Contains, Err, IfErr, Ok, OnErr, Result, if◌then◌else◌}
+use Rattle.std.proofs.Common.{◌≡◌, ◌∙◌, ◌∷◌, ◌<◌, ◌≤◌, ◌+◌, ◌*◌, ◌&&◌, ℕ, suc, [], List, None, Some, Bool, true, false, not, IsTrue, ap, arith, cond, filter, get_or, inl, inr, length, map, sum_by, sym}
+use Rattle.std.specs.Prelude.{AllPairs, Contains, Err, IfErr, Ok, OnErr, Result}
 use Rattle.std.proofs.lemmas.Bool.{and_parts, cases_Bool, false_from_ne_true, false≢true, le-leb}
 use Rattle.std.proofs.lemmas.List.Elements.{filter_agree}
 use Rattle.std.proofs.lemmas.List.Folds.{list_any_at}

@@ -1,6 +1,6 @@
 -- Entries of a node whose pins are taken off.
-use Rattle.std.proofs.Common.{◌≡◌, ◌<◌, ◌≤◌, ◌+◌, ◌-◌, ℕ, true, List, [], ◌∷◌, ◌++◌, ◌∙◌, ap, arith, drop, get_or, length, refl, sym, take}
-use Rattle.sj_core.proofs.CellLists.{same_cell-refl, same_cell-sym, times, times-append, times-cons, times-has}
+use Rattle.std.proofs.Common.{◌≡◌, ◌<◌, ◌≤◌, ◌+◌, ◌-◌, ℕ, true, List, [], ◌∷◌, ◌∙◌, ap, arith, drop, get_or, length, refl, sym, take}
+use Rattle.sj_core.proofs.CellLists.{same_cell-refl, same_cell-sym, times, times-append, times-cons}
 use Rattle.sj_machine.proofs.Words.{Cell, has_cell, NodeEntry, pins_of, repinned, same_cell, unpinned_each}
 use Rattle.std.proofs.lemmas.{Bool.cases_Bool, Bool.false≢true, List.take-append-drop, List.take_more}
 use Rattle.std.proofs.lemmas.{List.Folds.list_any_at}

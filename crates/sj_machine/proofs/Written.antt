@@ -1,5 +1,5 @@
 -- What a worker works on for the operands of a task: each written cell comes once, and all are cells of the program.
-use Rattle.std.proofs.Common.{◌≡◌, ◌≢◌, ◌<◌, ◌≤◌, ◌+◌, ◌^◌, ◌⊎◌, suc, Bool, true, false, List, [], ◌∷◌, ◌∙◌, ap, arith, get_or, inl, inr, is_some, length, map, sym, subst, ◌&&◌}
+use Rattle.std.proofs.Common.{◌≡◌, ◌≢◌, ◌<◌, ◌≤◌, ◌^◌, ◌⊎◌, suc, Bool, true, false, List, [], ◌∷◌, ◌∙◌, ap, arith, get_or, inl, inr, is_some, length, map, sym, subst, ◌&&◌}
 use Rattle.sj_machine.proofs.Words.{Access, area, CanWorkOn, Cell, CellInfo, Codelet, copy_of, data_operands, has_cell, is_data, is_redux, is_written, IsCopyOf, IsSmallCell, Mode, no_cell, no_task, Program, Proper, R, Redux, same_cell, Task, task_of, Uses, worked_on, Worker, written_cells}
 use Rattle.std.specs.{Prelude.All, Prelude.AllPairs, Prelude.Contains, Prelude.IsTrue, Prelude.filter}
 use Rattle.std.specs.{Prelude.if◌then◌else◌}

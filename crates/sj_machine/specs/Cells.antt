@@ -1,5 +1,5 @@
 -- The rows of cells, as a table.
-use Rattle.std.specs.Prelude.{false, List, [], fold, length}
+use Rattle.std.specs.Prelude.{false, List, [], fold}
 use Rattle.std.specs.List.{slice_index_or, slice_set}
 use Rattle.sj_base.specs.declared.ids.Cell.{Cell}
 use Rattle.sj_base.specs.declared.ids.Node.{Node}

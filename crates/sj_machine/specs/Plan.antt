@@ -1,5 +1,5 @@
 -- What a claim does to the rows, and when it can't be made.
-use Rattle.std.specs.Prelude.{◌≡◌, ◌≤◌, ◌<◌, ◌+◌, ◌^◌, ℕ, Some, false, IsTrue, All, List, [], ◌∷◌, map, fold, length, sum, slice_set, slice_index_or}
+use Rattle.std.specs.Prelude.{◌≡◌, ◌≤◌, ◌<◌, ◌+◌, ◌^◌, ℕ, Some, false, IsTrue, All, List, [], ◌∷◌, map, fold, length, sum, slice_index_or}
 use Rattle.sj_base.specs.declared.ids.Cell.{Cell}
 use Rattle.sj_base.specs.declared.ids.Node.{Node}
 use Rattle.sj_base.specs.declared.ids.Task.{Task}

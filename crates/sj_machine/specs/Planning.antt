@@ -17,7 +17,6 @@ use Rattle.sj_deps.specs.Conflict.{Ready}
 use Rattle.sj_node.specs.Entry.{has_entry}
 use Rattle.sj_node.specs.Store.{Store, need_victims}
 use Rattle.sj_machine.specs.Cells.{mark_at}
-use Rattle.sj_machine.specs.Stores.{row_at}
 use Rattle.sj_replica.specs.Replica.{CellState}
 use Rattle.sj_machine.specs.Operands.{CanWorkOn}
 use Rattle.sj_machine.specs.Plan.{ClaimPlan, IsPlan, IsSmallCell}

@@ -1,5 +1,5 @@
 -- The nodes' stores and the workers' rows, as the state has them.
-use Rattle.std.specs.Prelude.{◌≡◌, ℕ, ◌<◌, ◌≤◌, Option, None, List, [], map, count_by, length, sum_by}
+use Rattle.std.specs.Prelude.{◌≡◌, ℕ, ◌<◌, ◌≤◌, Option, List, map, count_by, length, sum_by}
 use Rattle.std.specs.List.{slice_index_or, slice_set}
 use Rattle.sj_base.specs.declared.ids.Cell.{Cell}
 use Rattle.sj_base.specs.declared.ids.Node.{Node}

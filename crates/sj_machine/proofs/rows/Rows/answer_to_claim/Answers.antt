@@ -1,8 +1,5 @@
-use Rattle.std.proofs.Common.{◌≡◌, ◌∙◌, ap, refl, sym}
-use Rattle.sj_base.specs.declared.program.Lowered.{Lowered}
-use Rattle.sj_base.specs.declared.program.Program.{Program}
+use Rattle.std.proofs.Common.{◌≡◌, refl, sym}
 use Rattle.sj_core.specs.Program.{task_of}
-use Rattle.sj_machine.specs.Planning.{IsAnswer}
 use Rattle.sj_machine.proofs.ClaimChoice.{choice-commuter, choice-found, choice-leaving, choice-work}
 use Rattle.sj_machine.proofs.Marked.{marked-at}
 use Rattle.sj_machine.proofs.rows.Rows.answer_to_claim.Goals as goal

@@ -1,8 +1,7 @@
-use Rattle.std.proofs.Common.{rules, ◌≡◌, ◌∙◌, ℕ, List, ap, length, map, replicate}
-use Rattle.sj_core.proofs.Words.{CellState, WorkerState, idle_row, no_copy}
-use Rattle.sj_core.specs.declared.progress.Progress.{Progress}
+use Rattle.std.proofs.Common.{rules, ◌≡◌, length, map, replicate}
+use Rattle.sj_core.proofs.Words.{idle_row, no_copy}
 use Rattle.sj_core.specs.declared.progress.Progress.TheVariants.{Waiting}
-use Rattle.sj_node.specs.Store.{Store, empty}
+use Rattle.sj_node.specs.Store.{empty}
 use Rattle.sj_machine.proofs.Making.{made}
 use Rattle.sj_machine.proofs.rows.Rows.make.Goals as goal
 

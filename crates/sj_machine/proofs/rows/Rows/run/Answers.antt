@@ -1,6 +1,5 @@
-use Rattle.std.proofs.Common.{◌≡◌, ◌∙◌, ◌<◌, All, List, ap, length, refl, subst, sym}
-use Rattle.sj_core.proofs.Words.{Cell, Program, written_cells}
-use Rattle.sj_machine.specs.Running.{AreUnpinned}
+use Rattle.std.proofs.Common.{◌∙◌, ap}
+use Rattle.sj_core.proofs.Words.{Program, written_cells}
 use Rattle.sj_machine.proofs.Owning.{run-can_work, run-cells, run-left, run-marked, run-unpinned}
 use Rattle.sj_machine.proofs.rows.Rows.run.Goals as goal
 
