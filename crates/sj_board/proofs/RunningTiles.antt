@@ -1,0 +1,287 @@
+-- The tiles that the beginning of a kernel's run leaves, and the shares that its task takes.
+use Rattle.std.proofs.Common.{◌≡◌, ◌<◌, ◌≤◌, ◌+◌, ℕ, Bool, true, false, not, List, [], ◌∷◌, ◌++◌, Option, None, Some, ◌∙◌, ap, arith, get_or, inl, inr, is_some, length, map, refl, suc, sym, subst, ◌||◌}
+use Rattle.std.specs.Prelude.{All, Contains, IfSome, if◌then◌else◌, unwrap_or}
+use Rattle.std.specs.List.{AllZip}
+use Rattle.std.proofs.lemmas.Bool.{cases_Bool, false≢true}
+use Rattle.std.proofs.lemmas.Nat.{mod_below}
+use Rattle.std.proofs.lemmas.List.Elements.{Contains-get_or}
+use Rattle.std.proofs.lemmas.List.Folds.{list_any_at}
+use Rattle.sj_base.proofs.SameIds.{same_cell-itself}
+use Rattle.sj_base.specs.Mode.{reads_of, reads_value, starts_as_zeros}
+use Rattle.sj_base.specs.Recorded.{Recorded}
+use Rattle.sj_base.specs.declared.mode.Access.{Access}
+use Rattle.sj_codelet.specs.Frame.{Slot, shared}
+use Rattle.sj_core.proofs.Words.{Array, AtNode, Cell, CellState, Machine, Node, Program, Run, State, Task, Worker, cells_of, dims_of, fresh_cells, has_cell, is_valid, mark, node_of, owned_at, same_cell, task_of, worked_on, written_cells, zeros}
+use Rattle.sj_core.proofs.CellLists.{cells-written, times}
+use Rattle.sj_core.proofs.Changing.{All-renewed}
+use Rattle.sj_core.proofs.Claimed.{claimed-inside, claimed-not_written, claimed-staffed}
+use Rattle.sj_core.proofs.Finding.{second_fails}
+use Rattle.sj_core.proofs.Folding.{read-among_cells}
+use Rattle.sj_core.proofs.Found.{found-not_fresh}
+use Rattle.sj_core.proofs.Readiness.{Contains-from_filter, filter-Contains}
+use Rattle.sj_core.proofs.Reading.{cells-untouched, entry-inside, list_all-has}
+use Rattle.sj_core.proofs.Running.{run-other, run-rested, run-rests, run-spared, run-stale, run-unstored}
+use Rattle.sj_core.proofs.Sized.{worked_on-dims}
+use Rattle.sj_core.proofs.Tables.{length-renewed, renewed-at_or}
+use Rattle.sj_core.proofs.TaskCells.{written-among_cells}
+use Rattle.sj_core.specs.Arrays.{Arrays, arrays_after}
+use Rattle.sj_core.specs.Coherent.{is_being_written}
+use Rattle.sj_core.specs.Laws.{IsSound}
+use Rattle.sj_core.specs.Step.{CanRun, after, same_place}
+use Rattle.sj_core.specs.Table.{renewed}
+use Rattle.sj_disk.specs.Directory.{DiskState}
+use Rattle.sj_disk.specs.Lending.{LendingState}
+use Rattle.sj_machine.proofs.FewPins.{few-operands}
+use Rattle.sj_machine.proofs.Written.{can-work, works-small, written-once}
+use Rattle.sj_machine.specs.Operands.{CanWorkOn, written_among}
+use Rattle.sj_machine.specs.Rows.{Rows, has_happened}
+use Rattle.sj_board.specs.Shares.{AreSharesFor, CanGive, IsShareIn, kept_at, shares_at}
+use Rattle.sj_board.specs.Sound.{HoldsBlocks, Keeps}
+use Rattle.sj_board.specs.Standing.{AllTell, CanHappen, IsTileOf, Standing, run_arrays, standing, state, with_event}
+use Rattle.sj_board.specs.Tiles.{HasTiles, all_out, out_each, tile_at, tile_in, tiles_of}
+use Rattle.sj_board.proofs.Keeping.{HoldsBlocks-kept, keeps-event, keeps-told, sound_state}
+use Rattle.sj_board.proofs.TileTables.{Places, out-length, out-none, wide-at}
+
+-- ---- tiles that are out
+
+-- the places of a cell of which the tile is out, or not
+abbrev out_if : Bool → Places → Places
+out_if b places = if b then all_out places else places
+
+module _ (cs : List Cell) (tiles : List Places) (once : (c : Cell) → times cs c ≤ 1) where
+  abbrev outs : ℕ → Places → Places
+  outs k places = out_if (has_cell cs (record { 0 = k })) places
+
+  outs-all : out_each cs tiles ≡ renewed outs tiles
+  outs-all = cells-written (λ c places. all_out places) [] cs tiles once
+
+  out_each-length : length (out_each cs tiles) ≡ length tiles
+  out_each-length = ap length outs-all ∙ length-renewed outs tiles
+
+  out_each-wide : (w : ℕ) → All (λ places. length places ≡ w) tiles → All (λ places. length places ≡ w) (out_each cs tiles)
+  out_each-wide w wide = subst (All (λ places. length places ≡ w)) (sym outs-all) (All-renewed (λ places. length places ≡ w) outs tiles (λ k places same. by_test places (has_cell cs (record { 0 = k })) same) wide)
+    where
+      by_test : (places : Places) (b : Bool) → length places ≡ w → length (out_if b places) ≡ w
+      by_test places true same = out-length places ∙ same
+      by_test places false same = same
+
+  out_each-row : (c : Cell) → tiles_of (out_each cs tiles) c ≡ out_if (has_cell cs c) (tiles_of tiles c)
+  out_each-row c = ap (λ (ts : List Places). tiles_of ts c) outs-all ∙ renewed-at_or outs tiles c.0 [] (none (has_cell cs c))
+    where
+      none : (b : Bool) → out_if b [] ≡ []
+      none true = refl
+      none false = refl
+
+  out_each-out : (c : Cell) (k : Node) → has_cell cs c ≡ true → tile_at (out_each cs tiles) c k ≡ None
+  out_each-out c k has = ap (λ (places : Places). tile_in places k) (out_each-row c ∙ ap (λ b. out_if b (tiles_of tiles c)) has) ∙ out-none (tiles_of tiles c) k
+
+  out_each-left : (c : Cell) (k : Node) → has_cell cs c ≡ false → tile_at (out_each cs tiles) c k ≡ tile_at tiles c k
+  out_each-left c k left = ap (λ (places : Places). tile_in places k) (out_each-row c ∙ ap (λ b. out_if b (tiles_of tiles c)) left)
+
+-- ---- lists
+
+zipped : {X Y : Type 0} (Q : X → Y → Type 0) (f : X → Y) (xs : List X) → ((x : X) → Contains xs x → Q x (f x)) → AllZip Q xs (map f xs)
+zipped Q f [] all = tt
+zipped Q f (x ∷ xs) all = (all x (0, omega arith, refl), zipped Q f xs (λ y (k, inside, e). all y (suc k, omega arith, e)))
+
+module _ {D : Type 0} (size faults mismatches : D → ℕ) (held : D → Option (List ℕ)) (b : Standing D) (rows : Rows) (tiles : List Places) (spare : ℕ) (keeps : Keeps size faults mismatches held b rows tiles spare) (t : Task) (w : Worker) (can : CanHappen b (Run t w)) where
+  abbrev p : Program
+  p = b.program
+
+  abbrev m : Machine
+  m = b.machine
+
+  abbrev s : State
+  s = state b
+
+  abbrev n : Node
+  n = node_of m w
+
+  abbrev s' : State
+  s' = after p m s (Run t w)
+
+  abbrev A' : Arrays
+  A' = arrays_after p m (run_arrays b) (Run t w)
+
+  run : CanRun p m s t w
+  run = can
+
+  h : IsSound p m s
+  h = sound_state size faults mismatches held b rows tiles spare keeps
+
+  program_task : t.0 < length p.tasks
+  program_task = claimed-inside p m s h t w run.claimed
+
+  staffed : w.0 < p.workers
+  staffed = claimed-staffed p m s h t w run.claimed
+
+  node : n.0 < length m.nodes
+  node = mod_below w.0 (length m.nodes) (let one = keeps.sound.run.machine.some_node in omega arith)
+
+  -- ---- the cells that the task writes
+
+  abbrev ws : List Cell
+  ws = written_cells p t w
+
+  once : (c : Cell) → times ws c ≤ 1
+  once = written-once p h.proper t program_task w staffed
+
+  inside : (c : Cell) → has_cell ws c ≡ true → c.0 < length tiles
+  inside c has = omega (arith, (entry-inside s c n (h.coherent.cells.claimed t w c run.claimed (written-among_cells p t w c has))).0, h.coherent.state.rows.cells, keeps.tiles.every_cell)
+
+  pub run-cells : All (λ c. c.0 < length tiles) ws
+  run-cells = λ k d within. inside (get_or ws k d) (list_any_at (λ e. same_cell e (get_or ws k d)) ws k d within (same_cell-itself (get_or ws k d)))
+
+  spare-mark : (c : Cell) (k : Node) → has_cell ws c ≡ false → mark s' c k ≡ mark s c k
+  spare-mark c k left = (run-other p m s t w s' run refl c left).marks k
+
+  was-being : (c : Cell) → has_cell ws c ≡ false → is_being_written p s' c ≡ true → is_being_written p s c ≡ true
+  was-being c left being =
+      elim (cases_Bool (is_being_written p s c)) [
+        | inl had ↦ had
+        | inr rests ↦ absurd (false≢true (sym (run-rests p m s h t w s' run refl c left rests) ∙ being))
+      ]
+
+  -- ---- the blocks
+
+  blocks-stay : HoldsBlocks held p m s' A' (AllTell held b) b.disks
+  blocks-stay = HoldsBlocks-kept held p m s s' (run_arrays b) A' (AllTell held b) b.disks (λ c d. refl) (λ c there. elim (cases_Bool (has_cell ws c)) [
+    | inl has ↦ absurd (false≢true (sym (run-unstored p m s t w s' run refl c has) ∙ there))
+    | inr left ↦ (sym (run-other p m s t w s' run refl c left).disk ∙ there, ap (λ (row : CellState). row.writes) (cells-untouched s (has_cell ws) (λ d row. owned_at n row) c left))
+  ]) keeps.sound.blocks
+
+  -- ---- the tiles
+
+  abbrev new : List Places
+  new = out_each ws tiles
+
+  tile-out : (c : Cell) (k : Node) → has_cell ws c ≡ true → tile_at new c k ≡ None
+  tile-out = out_each-out ws tiles once
+
+  tile-left : (c : Cell) (k : Node) → has_cell ws c ≡ false → tile_at new c k ≡ tile_at tiles c k
+  tile-left = out_each-left ws tiles once
+
+  array-left : (c : Cell) (k : Node) → has_cell ws c ≡ false → A' c (AtNode k) ≡ run_arrays b c (AtNode k)
+  array-left c k left = second_fails (same_place (AtNode k) (AtNode n)) (has_cell (fresh_cells p t w) c) (zeros (dims_of p c)) (run_arrays b c (AtNode k)) (run-stale p m s h t w s' run refl c left)
+
+  tiles-agree : HasTiles p m s' A' (AllTell held b) new
+  tiles-agree = record {
+    every_cell = out_each-length ws tiles once ∙ keeps.tiles.every_cell;
+    every_node = out_each-wide ws tiles once (length m.nodes) keeps.tiles.every_node;
+    there = λ c k rests. (
+        let left : has_cell ws c ≡ false = run-spared p m s h t w s' run refl c rests in
+        ap is_some (tile-left c k left) ∙ keeps.tiles.there c k (run-rested p m s h t w s' run refl c rests) ∙ ap is_valid (sym (spare-mark c k left))
+        );
+    out = λ c k being. elim (cases_Bool (has_cell ws c)) [
+      | inl has ↦ tile-out c k has
+      | inr left ↦ tile-left c k left ∙ keeps.tiles.out c k (was-being c left being)
+    ];
+    dims = λ c k. elim (cases_Bool (has_cell ws c)) [
+      | inl has ↦ subst (λ (o : Option Array). IfSome o (λ a. a.dims ≡ dims_of p c)) (sym (tile-out c k has)) tt
+      | inr left ↦ subst (λ (o : Option Array). IfSome o (λ a. a.dims ≡ dims_of p c)) (sym (tile-left c k left)) (keeps.tiles.dims c k)
+    ];
+    arrays = λ tells c k. elim (cases_Bool (has_cell ws c)) [
+      | inl has ↦ subst (λ (o : Option Array). IfSome o (λ a. a ≡ A' c (AtNode k))) (sym (tile-out c k has)) tt
+      | inr left ↦ subst (λ (o : Option Array). IfSome o (λ a. a ≡ A' c (AtNode k))) (sym (tile-left c k left)) (subst (λ (x : Array). IfSome (tile_at tiles c k) (λ a. a ≡ x)) (sym (array-left c k left)) (keeps.tiles.arrays tells c k))
+    ];
+  }
+
+  pub keeps-run : (spare' : ℕ) → spare' + 1 ≡ spare → Keeps size faults mismatches held (with_event b (Run t w)) (has_happened rows (Run t w)) new spare'
+  keeps-run spare' left = keeps-event size faults mismatches held b rows tiles spare keeps (Run t w) new spare' can blocks-stay tiles-agree left
+
+  -- ---- the operands that are read
+
+  module _ (a : Access) (has : Contains (task_of p t).accesses a) (reads : reads_value a.mode ≡ true) where
+    abbrev worked : Cell
+    worked = worked_on p w a
+
+    reads-old : starts_as_zeros a.mode ≡ false
+    reads-old = ap not reads
+
+    read-there : is_some (tile_at tiles worked n) ≡ true
+    read-there =
+        keeps.tiles.there worked n (claimed-not_written p m s h t w run.claimed worked (read-among_cells p t w a has reads-old))
+        ∙ sym (ap (λ b. b || is_valid (mark s worked n)) (found-not_fresh p h.proper t w staffed a has reads-old))
+        ∙ list_all-has (λ c. has_cell (fresh_cells p t w) c || is_valid (mark s c n)) (cells_of p t w) worked run.present (read-among_cells p t w a has reads-old)
+
+    -- the tile that is kept of what the worker works on is the array there
+    read-tile : IsTileOf held b worked (AtNode n) (kept_at tiles n worked)
+    read-tile = by_tile (tile_at tiles worked n) read-there (keeps.tiles.dims worked n) (λ tells. keeps.tiles.arrays tells worked n)
+      where
+        by_tile : (o : Option Array) → is_some o ≡ true → IfSome o (λ a. a.dims ≡ dims_of p worked) → (AllTell held b → IfSome o (λ a. a ≡ run_arrays b worked (AtNode n))) → IsTileOf held b worked (AtNode n) (unwrap_or o (record { dims = record { rows = 0; cols = 0 }; elements = [] }))
+        by_tile None there dims arrays = absurd (false≢true there)
+        by_tile (Some a) there dims arrays = record { dims = dims; array = arrays }
+
+    read-share : IsShareIn held b w a (shared (kept_at tiles n worked))
+    read-share = record {
+      shared = refl;
+      dims = read-tile.dims ∙ worked_on-dims p h.proper keeps.sound.run.lawful.arguments w staffed a;
+      array = read-tile.array;
+    }
+
+  pub run-can_work : All (CanWorkOn p w) (task_of p t).accesses
+  run-can_work = can-work p h.proper t program_task w staffed
+
+  pub run-can_give : All (CanGive p w tiles n) (task_of p t).accesses
+  run-can_give k d within =
+      let a = get_or (task_of p t).accesses k d in
+      let small = works-small p h.proper t program_task w staffed k d within in
+      let cell : (worked_on p w a).0 < length tiles = omega (arith, small.cell, keeps.tiles.every_cell) in
+      record {
+        works = run-can_work k d within;
+        cell = cell;
+        node = omega (arith, wide-at (length m.nodes) tiles (worked_on p w a) keeps.tiles.every_node cell, node);
+        tile = read-there a (Contains-get_or (task_of p t).accesses k d within);
+      }
+
+  pub run-shares : AreSharesFor held b t w (shares_at p w tiles n (task_of p t).accesses)
+  run-shares = zipped (IsShareIn held b w) (λ (a : Access). shared (kept_at tiles n (worked_on p w a))) (reads_of (task_of p t).accesses) (λ a among. read-share a (Contains-from_filter (λ (x : Access). reads_value x.mode) (task_of p t).accesses a among) (filter-Contains (λ (x : Access). reads_value x.mode) (task_of p t).accesses a among))
+
+-- ---- as the code finds it
+
+module _ {D : Type 0} (size faults mismatches : D → ℕ) (held : D → Option (List ℕ)) (rows : Rows) (trace : Recorded) (lent : LendingState D) (opened : DiskState D) (tiles : List Places) (keeps : Keeps size faults mismatches held (standing rows.program rows.machine trace lent opened) rows tiles trace.spare) (t : Task) (w : Worker) (b' : Standing D) (same : standing rows.program rows.machine trace lent opened ≡ b') (can' : CanHappen b' (Run t w))
+    (at : Node) (bound : at ≡ node_of rows.machine w) (q : Program) (program : q ≡ rows.program) (accesses : List Access) (of_task : accesses ≡ (task_of q t).accesses) where
+  abbrev b : Standing D
+  b = standing rows.program rows.machine trace lent opened
+
+  can : CanHappen b (Run t w)
+  can = subst (λ (x : Standing D). CanHappen x (Run t w)) (sym same) can'
+
+  of : accesses ≡ (task_of rows.program t).accesses
+  of = of_task ∙ ap (λ (x : Program). (task_of x t).accesses) program
+
+  pub found-can_work : All (CanWorkOn q w) accesses
+  found-can_work =
+      subst (λ (x : Program). All (CanWorkOn x w) accesses) (sym program)
+      (subst (All (CanWorkOn rows.program w)) (sym of) (run-can_work size faults mismatches held b rows tiles trace.spare keeps t w can))
+
+  pub found-few : length accesses ≤ 5
+  found-few = subst (λ (l : List Access). length l ≤ 5) (sym of) (few-operands rows.program keeps.sound.run.proper t)
+
+  module _ (now : List Places) (kept : now ≡ tiles) where
+    pub found-can_give : All (CanGive q w now at) accesses
+    found-can_give =
+        subst (λ (x : Program). All (CanGive x w now at) accesses) (sym program)
+        (subst (λ (ts : List Places). All (CanGive rows.program w ts at) accesses) (sym kept)
+        (subst (λ (j : Node). All (CanGive rows.program w tiles j) accesses) (sym bound)
+        (subst (All (CanGive rows.program w tiles (node_of rows.machine w))) (sym of) (run-can_give size faults mismatches held b rows tiles trace.spare keeps t w can))))
+
+    pub found-shares : (before slots : List Slot) → before ≡ [] → slots ≡ before ++ shares_at q w now at accesses → AreSharesFor held b' t w slots
+    found-shares before slots none made =
+        subst (λ (x : Standing D). AreSharesFor held x t w slots) same
+        (subst (AreSharesFor held b t w) (sym (made ∙ ap (λ (l : List Slot). l ++ shares_at q w now at accesses) none ∙ ap (λ (x : Program). shares_at x w now at accesses) program ∙ ap (λ (ts : List Places). shares_at rows.program w ts at accesses) kept
+        ∙ ap (λ (j : Node). shares_at rows.program w tiles j accesses) bound ∙ ap (shares_at rows.program w tiles (node_of rows.machine w)) of))
+        (run-shares size faults mismatches held b rows tiles trace.spare keeps t w can))
+
+  module _ (written : List Cell) (are : written ≡ written_among q w accesses) where
+    all-written : written ≡ written_cells rows.program t w
+    all-written = are ∙ ap (λ (x : Program). written_among x w accesses) program ∙ ap (written_among rows.program w) of
+
+    pub found-cells : All (λ c. c.0 < length tiles) written
+    found-cells = subst (All (λ c. c.0 < length tiles)) (sym all-written) (run-cells size faults mismatches held b rows tiles trace.spare keeps t w can)
+
+    pub found-keeps_run : (rows' : Rows) (tiles' : List Places) (trace' : Recorded) → rows' ≡ has_happened rows (Run t w) → tiles' ≡ out_each written tiles → trace'.events ≡ trace.events ++ Run t w ∷ [] → trace'.spare + 1 ≡ trace.spare → Keeps size faults mismatches held (standing rows'.program rows'.machine trace' lent opened) rows' tiles' trace'.spare
+    found-keeps_run rows' tiles' trace' happened out told left =
+        keeps-told size faults mismatches held rows trace lent opened (Run t w) (out_each (written_cells rows.program t w) tiles) rows' tiles' trace' happened
+        (out ∙ ap (λ (l : List Cell). out_each l tiles) all-written) told
+        (keeps-run size faults mismatches held b rows tiles trace.spare keeps t w can trace'.spare left)
