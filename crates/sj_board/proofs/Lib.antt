@@ -28,7 +28,6 @@ pub mod Pooling
 pub mod Prepared
 pub mod PuttingBack
 pub mod ReleasedTasks
-pub mod Results
 pub mod RunningTiles
 pub mod SharesInOrder
 pub mod Sparing
