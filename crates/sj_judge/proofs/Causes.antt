@@ -7,7 +7,6 @@ use Rattle.sj_check.specs.Refusal.{IsCheckRefusal}
 use Rattle.sj_check.specs.declared.check.CheckRefusal.{CheckRefusal}
 use Rattle.sj_check.specs.declared.check.CheckRefusal.TheVariants as checking
 use Rattle.sj_codelet.specs.declared.kernel.Kernel.{Kernel}
-use Rattle.sj_board.specs.Sound.{IsRunnableOn}
 use Rattle.sj_ready.proofs.Fitting.{ready-room}
 use Rattle.sj_ready.specs.Ready.{IsReady}
 use Rattle.sj_ready.specs.Work.{WorkOrRefusal, Work, program_of}
