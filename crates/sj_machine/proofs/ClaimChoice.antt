@@ -10,7 +10,7 @@ use Rattle.sj_machine.specs.Operands.{first_held}
 use Rattle.sj_machine.specs.Plan.{ClaimPlan}
 use Rattle.sj_machine.specs.Planning.{CommutersAreFree, HasSmallWork, IsAnswer, MayClaim, NoneLeavesFor, chosen_on, commuter_in_use, is_leaving_at, planned}
 use Rattle.sj_machine.specs.Rows.{Rows}
-use Rattle.sj_machine.specs.Stores.{Keeps, store_of}
+use Rattle.sj_machine.specs.Stores.{Keeps}
 use Rattle.sj_machine.specs.declared.plan.Why.{Why}
 use Rattle.sj_machine.specs.declared.plan.Why.TheVariants.{Commute, Leaving, NoRoom}
 use Rattle.sj_machine.proofs.ClaimFinding.{plan-answers}

@@ -1,20 +1,17 @@
 -- What a plan on a node says of the claim in the state: its cells, its victims, and why it can't be made.
-use Rattle.std.proofs.Common.{◌≡◌, ℕ, ◌+◌, ◌-◌, Bool, true, false, not, ◌&&◌, ◌||◌, List, [], ◌∷◌, ◌++◌, Option, Some, None, map, filter, reverse, option_map, refl, sym, ap, ◌∙◌, subst, arith, sum_by, nat_eq, is_some}
+use Rattle.std.proofs.Common.{◌≡◌, ℕ, ◌+◌, ◌-◌, Bool, true, not, ◌&&◌, List, [], ◌∷◌, Option, Some, None, map, reverse, option_map, refl, sym, ap, ◌∙◌, subst, arith, sum_by, nat_eq, is_some}
 use Rattle.std.specs.List.{list_any}
-use Rattle.std.specs.Bool.{then_some}
-use Rattle.std.specs.Option.{ok_or, option_or}
+use Rattle.std.specs.Option.{ok_or}
 use Rattle.std.specs.Prelude.{All}
-use Rattle.std.proofs.lemmas.Bool.{false≢true}
 use Rattle.std.proofs.lemmas.List.{map-append, reverse-append, reverse-reverse}
-use Rattle.std.proofs.lemmas.List.Elements.{All-head, All-tail, filter_agree}
+use Rattle.std.proofs.lemmas.List.Elements.{filter_agree}
 use Rattle.std.proofs.lemmas.List.Sums.{sum_by-cons}
 use Rattle.sj_core.proofs.CellLists.{times, times-has, times-none}
 use Rattle.sj_core.proofs.Readiness.{list_any-some}
 use Rattle.sj_core.proofs.Reading.{same_cell-is}
 use Rattle.sj_core.proofs.Words.{Cell, Machine, Node, Program, State, Task, Worker, cells_of, distinct, free, has_cell, is_pinned, node_of, node_size, order, pins, same_cell, scratch, scratch_bytes, task_of, tile_bytes, workers_at}
-use Rattle.sj_core.specs.Step.{May, missing, none_leaving, to_come, victims_for}
+use Rattle.sj_core.specs.Step.{missing, none_leaving, to_come, victims_for}
 use Rattle.sj_core.specs.Victims.{covers, shortest_suffix, victims}
-use Rattle.sj_base.specs.declared.trace.Event.TheVariants.{Claim}
 use Rattle.sj_node.proofs.CallerLemmas.{victims-map}
 use Rattle.sj_node.specs.Entry.{NodeEntry, has_entry, is_spare}
 use Rattle.sj_node.specs.Store.{Store, free_bytes}

@@ -1,5 +1,5 @@
 -- Where of each worker's victims some are known to be gone, and none of the others leaves, nothing does.
-use Rattle.std.proofs.Common.{arith, ◌≡◌, ℕ, ◌-◌, Bool, true, false, not, ◌&&◌, List, [], ◌∷◌, drop, get_or, length, refl, reverse, sym, take, ap, ◌∙◌}
+use Rattle.std.proofs.Common.{arith, ◌≡◌, ℕ, ◌-◌, Bool, true, false, not, List, [], ◌∷◌, drop, get_or, length, refl, reverse, sym, take, ap, ◌∙◌}
 use Rattle.std.specs.List.{list_all}
 use Rattle.std.proofs.lemmas.Bool.{false_from_ne_true, false≢true, not-true}
 use Rattle.std.proofs.lemmas.List.{get_or_default, reverse-append, take-append-drop}
