@@ -3,6 +3,7 @@ pub mod BoardEnds
 pub mod Boarding
 pub mod Delivering
 pub mod DiskCounts
+pub mod EndTiles
 pub mod EndingTiles
 pub mod Ends
 pub mod EventTiles
@@ -17,6 +18,7 @@ pub mod Keeping
 pub mod KeptGifts
 pub mod LastHeaders
 pub mod LoanedTiles
+pub mod MakingRun
 pub mod NextBoards
 pub mod NextSteps
 pub mod Opened

@@ -9,7 +9,8 @@ use Rattle.sj_base.specs.Recorded.{Recorded}
 use Rattle.sj_base.specs.declared.trace.Event.{Event}
 use Rattle.sj_core.proofs.Finding.{being_written-by}
 use Rattle.sj_core.proofs.Opening.{opening-coherent, opening-content, nowhere}
-use Rattle.sj_core.proofs.Words.{Array, AtNode, Cell, DiskNo, Machine, Node, OnDisk, Program, dims_of, has_copy, is_valid, mark, on_disk, opening, progress}
+use Rattle.sj_core.proofs.Reading.{no_row}
+use Rattle.sj_core.proofs.Words.{Array, AtNode, Cell, CellState, DiskNo, Machine, Node, OnDisk, Program, dims_of, has_copy, is_valid, mark, on_disk, opening, progress}
 use Rattle.sj_core.specs.Arrays.{Arrays}
 use Rattle.sj_core.specs.Coherent.{is_being_written}
 use Rattle.sj_core.specs.declared.progress.Progress.TheVariants.{Waiting}
@@ -17,9 +18,11 @@ use Rattle.sj_edge.proofs.GivenBackLemmas.{all_given_back-untouched, all_untouch
 use Rattle.sj_disk.specs.Directory.{DiskState, extent_of}
 use Rattle.sj_disk.specs.Lending.{LendingState, lending}
 use Rattle.sj_machine.specs.Rows.{Rows, rows_at_start}
+use Rattle.sj_replica.specs.Replica.{no_copy}
 use Rattle.sj_board.specs.Sound.{IsBlock, IsRunnableOn, Keeps, block_of, most_events}
 use Rattle.sj_board.specs.Standing.{AllTell, Standing, run_arrays, standing, starting}
 use Rattle.sj_board.specs.Tiles.{HasTiles, tile_at, tile_in, tiles_of}
+use Rattle.sj_board.proofs.Keeping.{copy-on_disk}
 use Rattle.sj_board.proofs.TileTables.{Places}
 
 module _ (p : Program) (m : Machine) where
@@ -74,7 +77,13 @@ module _ {D : Type 0} (size faults mismatches : D → ℕ) (held : D → Option 
   }
     where
       no_block : (c : Cell) (d : DiskNo) → has_copy p m (opening p m) c (OnDisk d) ≡ true → ⊥
-      no_block c d copy = ?
+      no_block c d copy =
+          let row : CellState = no_copy (length m.nodes) in
+          let none : on_disk (opening p m) c ≡ false = elim (cases_lt c.0 (length p.cells)) [
+            | inl inside ↦ ap (λ (r : CellState). r.on_disk) (get_or-replicate (length p.cells) c.0 row no_row inside)
+            | inr out ↦ ap (λ (r : CellState). r.on_disk) (get_or_past (replicate (length p.cells) row) c.0 no_row (omega (arith, out, length-replicate (length p.cells) row)))
+          ] in
+          false≢true (sym none ∙ (copy-on_disk p m (opening p m) c d copy).0)
 
   -- as the code makes it
   pub keeps-made : (rows : Rows) (tiles : List Places) (trace : Recorded) (lends : LendingState D) (opened : DiskState D) → rows ≡ rows_at_start p m → tiles ≡ no_tiles p m → trace.events ≡ [] → most_events p ≤ trace.spare → lends ≡ lending disks (replicate (length disks.disks) false) → opened ≡ disks → Keeps size faults mismatches held (standing rows.program rows.machine trace lends opened) rows tiles trace.spare

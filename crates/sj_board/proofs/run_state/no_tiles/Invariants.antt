@@ -1,5 +1,5 @@
 use Rattle.std.proofs.Common.{◌≡◌, None, replicate}
 use Rattle.sj_board.proofs.run_state.no_tiles.Given as goal
 
-abbrev pub invariant-loop-_i : goal.invariant-loop-_i
-invariant-loop-_i l = l.rows.items ≡ replicate l._i (replicate l.nodes None)
+abbrev pub invariant-loop-i : goal.invariant-loop-i
+invariant-loop-i l = l.rows.items ≡ replicate l._i (replicate l.nodes None)

@@ -1,0 +1,262 @@
+-- What the end of a run leaves of a run's blocks and tiles.
+use Rattle.std.proofs.Common.{◌≡◌, ◌≢◌, ◌<◌, ◌≤◌, ◌+◌, ℕ, Bool, true, false, List, [], ◌∷◌, Option, None, Some, ◌∙◌, ap, arith, cond, find, get_or, inl, inr, is_some, length, map, refl, sym, subst, ◌||◌}
+use Rattle.std.specs.Prelude.{All, IfSome}
+use Rattle.std.specs.List.{AllByRecursion, AllZip, zip}
+use Rattle.std.proofs.lemmas.Bool.{cases_Bool, false≢true}
+use Rattle.std.proofs.lemmas.Nat.{mod_below}
+use Rattle.std.proofs.lemmas.List.{get_or-set_other, get_or-set_same, length-map}
+use Rattle.std.proofs.lemmas.List.Elements.{All-from_recursion, All-weaker}
+use Rattle.std.proofs.lemmas.List.Folds.{list_any_at}
+use Rattle.std.proofs.lemmas.Slice.Zip.{AllZip-long}
+use Rattle.sj_base.proofs.SameIds.{other_node, same_place-itself}
+use Rattle.sj_base.specs.Ids.{same_place}
+use Rattle.sj_base.specs.declared.mode.Access.{Access}
+use Rattle.sj_base.specs.declared.trace.Event.TheVariants.{End}
+use Rattle.sj_codelet.specs.Frame.{Slot, arrays}
+use Rattle.sj_core.proofs.Advancing.{Ends-advances}
+use Rattle.sj_core.proofs.CellLists.{same_cell-refl, times}
+use Rattle.sj_core.proofs.Ending.{end-alone, end-spared_row, end-spares}
+use Rattle.sj_core.proofs.Finding.{being_written-by, being_written-here, both_pass, not_written-before, running-inside, second_fails}
+use Rattle.sj_core.proofs.Reading.{entry-inside, same_cell-is, same_node}
+use Rattle.sj_core.proofs.Replicas.{same_worker-refl}
+use Rattle.sj_core.proofs.Sized.{worked_on-dims}
+use Rattle.sj_core.proofs.TaskCells.{written-among_cells}
+use Rattle.sj_core.proofs.Words.{Array, AtNode, Cell, CellState, Machine, Node, OnDisk, Program, State, Task, Worker, cells_of, dims_of, has_cell, is_entry, is_task_of, is_valid, mark, node_of, progress, same_cell, task_of, worked_on, worker_of, writes, written_cells, zeros}
+use Rattle.sj_core.specs.Arrays.{Arrays, arrays_after, held_at, result_in}
+use Rattle.sj_core.specs.Coherent.{IsOwnedBy, is_begun, is_being_written}
+use Rattle.sj_core.specs.Fold.{held_in}
+use Rattle.sj_core.specs.Laws.{IsSound}
+use Rattle.sj_core.specs.Program.{written_operands}
+use Rattle.sj_core.specs.Step.{after_end}
+use Rattle.sj_core.specs.declared.progress.Progress.{Progress}
+use Rattle.sj_core.specs.declared.progress.Progress.TheVariants.{Done, Running}
+use Rattle.sj_machine.proofs.Written.{can-work, works-small, written-once}
+use Rattle.sj_machine.specs.Operands.{CanWorkOn, written_among}
+use Rattle.sj_machine.specs.Rows.{Rows, has_happened}
+use Rattle.sj_board.specs.Shares.{AreResultsFor, AreShared, CanPutBack, IsShare, put_each}
+use Rattle.sj_board.specs.Sound.{HoldsBlocks, Keeps}
+use Rattle.sj_board.specs.Standing.{AllTell, CanHappen, Standing, state, run_arrays, with_event}
+use Rattle.sj_board.specs.Tiles.{HasTiles, tile_at, tile_in, tiles_of}
+use Rattle.sj_board.proofs.Keeping.{HoldsBlocks-kept, keeps-event, sound_state}
+use Rattle.sj_board.proofs.PuttingBack.{length-put_each, put-row, put-row_none, wide-put_each}
+use Rattle.sj_board.proofs.TileTables.{Places, wide-at}
+
+-- the array of a written cell has its dimensions
+abbrev found-put : (p : Program) (w : Worker) (ops : List Access) (slots : List Slot) (a : Access) (x : Slot) (c : Cell) → Bool → Array
+found-put p w ops slots a x c b = elim (cond b (Some (worked_on p w a, x.array)) (find (λ entry. same_cell entry.0 c) (zip (map (worked_on p w) ops) (arrays slots)))) as (λ _. Array) [ None ↦ zeros (dims_of p c) | Some entry ↦ entry.1 ]
+
+held-dims : (p : Program) (w : Worker) → ((a : Access) → dims_of p (worked_on p w a) ≡ dims_of p a.cell) → (ops : List Access) (slots : List Slot) (c : Cell) → AllZip (IsShare p) ops slots → has_cell (map (worked_on p w) ops) c ≡ true → (held_in p (zip (map (worked_on p w) ops) (arrays slots)) c).dims ≡ dims_of p c
+held-dims p w worked [] slots c each h = absurd (false≢true h)
+held-dims p w worked (a ∷ ops) [] c each h = absurd each
+held-dims p w worked (a ∷ ops) (x ∷ slots) c each h = by_case (same_cell (worked_on p w a) c) refl h (held-dims p w worked ops slots c each.1)
+  where
+    by_case : (b : Bool) → same_cell (worked_on p w a) c ≡ b → (b || has_cell (map (worked_on p w) ops) c) ≡ true → (has_cell (map (worked_on p w) ops) c ≡ true → (held_in p (zip (map (worked_on p w) ops) (arrays slots)) c).dims ≡ dims_of p c) → (held_in p (zip (map (worked_on p w) (a ∷ ops)) (arrays (x ∷ slots))) c).dims ≡ dims_of p c
+    by_case true e has rest = ap (λ b. (found-put p w ops slots a x c b).dims) e ∙ each.0.dims ∙ sym (worked a) ∙ ap (dims_of p) (same_cell-is (worked_on p w a) c e)
+    by_case false e has rest = ap (λ b. (found-put p w ops slots a x c b).dims) e ∙ rest has
+
+all-shared : (p : Program) (ops : List Access) (slots : List Slot) → AllZip (IsShare p) ops slots → AllByRecursion (λ (x : Slot). x.owned ≡ false) slots
+all-shared p [] [] each = tt
+all-shared p [] (x ∷ slots) each = absurd each
+all-shared p (a ∷ ops) [] each = absurd each
+all-shared p (a ∷ ops) (x ∷ slots) each = (each.0.shared, all-shared p ops slots each.1)
+
+module _ {D : Type 0} (size faults mismatches : D → ℕ) (held : D → Option (List ℕ)) (b : Standing D) (rows : Rows) (tiles : List Places) (spare : ℕ) (keeps : Keeps size faults mismatches held b rows tiles spare) (t : Task) (w : Worker) (can : CanHappen b (End t w)) where
+  abbrev p : Program
+  p = b.program
+
+  abbrev m : Machine
+  m = b.machine
+
+  abbrev s : State
+  s = state b
+
+  abbrev A : Arrays
+  A = run_arrays b
+
+  abbrev n : Node
+  n = node_of m w
+
+  abbrev s' : State
+  s' = after_end p m s t w
+
+  ended : progress s t ≡ Running w
+  ended = can
+
+  h : IsSound p m s
+  h = sound_state size faults mismatches held b rows tiles spare keeps
+
+  end-program_task : t.0 < length p.tasks
+  end-program_task = running-inside p m s t w h.coherent.state.rows ended
+
+  staffed : w.0 < p.workers
+  staffed = subst (λ (x : Progress). (worker_of x).0 < p.workers) ended (h.coherent.state.staff.staffed t (ap is_begun ended))
+
+  end-node : n.0 < length m.nodes
+  end-node = mod_below w.0 (length m.nodes) (let one = keeps.sound.run.machine.some_node in omega arith)
+
+  -- ---- the cells that the task wrote
+
+  abbrev ws : List Cell
+  ws = written_cells p t w
+
+  own : (c : Cell) → has_cell ws c ≡ true → IsOwnedBy m s c w
+  own c has = h.coherent.writers.owned t w c ended has
+
+  being : (c : Cell) → has_cell ws c ≡ true → is_being_written p s c ≡ true
+  being c has = being_written-here p s c t w end-program_task ended has
+
+  cell-inside : (c : Cell) → has_cell ws c ≡ true → c.0 < length tiles
+  cell-inside c has = (let there = entry-inside s c n (ap is_entry (own c has).valid) in omega (arith, there.0, h.coherent.state.rows.cells, keeps.tiles.every_cell))
+
+  all-inside : All (λ c. c.0 < length tiles) ws
+  all-inside = λ k d inside. cell-inside (get_or ws k d) (list_any_at (λ e. same_cell e (get_or ws k d)) ws k d inside (same_cell-refl (get_or ws k d)))
+
+  once : (c : Cell) → times ws c ≤ 1
+  once c = written-once p keeps.sound.run.proper t end-program_task w staffed c
+
+  place-inside : (c : Cell) → has_cell ws c ≡ true → n.0 < length (tiles_of tiles c)
+  place-inside c has = omega (arith, wide-at (length m.nodes) tiles c keeps.tiles.every_node (cell-inside c has), end-node)
+
+  -- ---- what the code asks
+
+  pub end-can_work : All (CanWorkOn p w) (task_of p t).accesses
+  end-can_work = can-work p keeps.sound.run.proper t end-program_task w staffed
+
+  pub end-cells : All (λ a. (worked_on p w a).0 < length tiles) (task_of p t).accesses
+  end-cells k d inside = (let worked = (works-small p keeps.sound.run.proper t end-program_task w staffed k d inside).cell in omega (arith, worked, keeps.tiles.every_cell))
+
+  pub end-places : All (λ places. n.0 < length places) tiles
+  end-places = All-weaker (λ (places : Places). length places ≡ length m.nodes) (λ (places : Places). n.0 < length places) (λ places wide. omega (arith, wide, end-node)) tiles keeps.tiles.every_node
+
+  abbrev put_arrays : Arrays
+  put_arrays = arrays_after p m A (End t w)
+
+  same : (c : Cell) (k : Node) → mark s' c k ≡ mark s c k
+  same c k = (end-alone p m s t w s' ended refl c).marks k
+
+  module _ (slots : List Slot) (results' : AreResultsFor held b t w slots) where
+    abbrev xs : List Array
+    xs = arrays slots
+
+    pub end-shared : AreShared slots
+    end-shared = All-from_recursion (λ (x : Slot). x.owned ≡ false) slots (all-shared p (written_operands (task_of p t)) slots results'.each)
+
+    pub end-count : length slots ≡ length ws
+    end-count = AllZip-long (IsShare p) (written_operands (task_of p t)) slots results'.each ∙ sym (length-map (written_operands (task_of p t)) (worked_on p w))
+
+    many : length ws ≡ length xs
+    many = sym end-count ∙ sym (length-map slots (λ (x : Slot). x.array))
+
+    abbrev new : List Places
+    new = put_each n ws xs tiles
+
+    abbrev put : Cell → Array
+    put c = held_in p (zip ws xs) c
+
+    left : (c : Cell) (k : Node) → has_cell ws c ≡ false → tile_at new c k ≡ tile_at tiles c k
+    left c k spared = ap (λ (places : Places). tile_in places k) (put-row_none n ws xs tiles c spared)
+
+    tile-here : (c : Cell) → has_cell ws c ≡ true → tile_at new c n ≡ Some (put c)
+    tile-here c has = ap (λ (places : Places). tile_in places n) (put-row p n ws xs tiles c once many (cell-inside c has) has) ∙ get_or-set_same (tiles_of tiles c) n.0 (Some (put c)) None (place-inside c has)
+
+    tile-far : (c : Cell) (k : Node) → has_cell ws c ≡ true → k ≢ n → tile_at new c k ≡ None
+    tile-far c k has far = ap (λ (places : Places). tile_in places k) (put-row p n ws xs tiles c once many (cell-inside c has) has) ∙ get_or-set_other (tiles_of tiles c) n.0 k.0 (Some (put c)) None (other_node n k far) ∙ keeps.tiles.out c k (being c has)
+
+    -- a cell that rests afterwards and that the task didn't write rested before
+    rested : (c : Cell) → has_cell ws c ≡ false → is_being_written p s' c ≡ false → is_being_written p s c ≡ false
+    rested c spared rests = not_written-before p m s s' t (Running w) (Done w) c h.coherent.state.rows (Ends-advances p m s t w s' ended refl) rests (λ v e. (let is : w ≡ v = cc in sym (ap (λ (x : Worker). has_cell (written_cells p t x) c) is) ∙ spared))
+
+    -- one that is being written afterwards is another task's, which wrote it before
+    still-being : (c : Cell) → is_being_written p s' c ≡ true → (has_cell ws c ≡ false) × (is_being_written p s c ≡ true)
+    still-being c now =
+        let by = being_written-by p s' c now in
+        let a = Ends-advances p m s t w s' ended refl in
+        let v : Worker = worker_of (progress s' by.0) in
+        let differs : by.0 ≢ t = λ e. (let f : Running v ≡ Done w = sym by.1 ∙ ap (progress s') e ∙ a.is in cc) in
+        let before : progress s by.0 ≡ Running v = sym (a.others by.0 differs) ∙ by.1 in
+        let cell : has_cell (cells_of p by.0 v) c ≡ true = written-among_cells p by.0 v c by.2 in
+        let mine : is_task_of v (progress s by.0) ≡ true = ap (is_task_of v) before ∙ same_worker-refl v in (
+          end-spares p m s h t w s' ended refl by.0 v c differs mine cell,
+          being_written-here p s c by.0 v (running-inside p m s by.0 v h.coherent.state.rows before) before by.2,
+        )
+
+    tiles-back : HasTiles p m s' put_arrays (AllTell held b) new
+    tiles-back = record {
+      every_cell = length-put_each n ws xs tiles ∙ keeps.tiles.every_cell;
+      every_node = wide-put_each (length m.nodes) n ws xs tiles all-inside keeps.tiles.every_node;
+      there = λ c k rests. elim (cases_Bool (has_cell ws c)) [
+        | inr spared ↦ ap is_some (left c k spared) ∙ keeps.tiles.there c k (rested c spared rests) ∙ ap is_valid (sym (same c k))
+        | inl has ↦ elim (same_node k n) [
+          | inl at ↦ ap (λ (j : Node). is_some (tile_at new c j)) at ∙ ap is_some (tile-here c has) ∙ ap is_valid (sym (ap (λ (j : Node). mark s' c j) at ∙ same c n ∙ (own c has).valid))
+          | inr far ↦ ap is_some (tile-far c k has far) ∙ ap is_valid (sym (same c k ∙ (own c has).only k far))
+        ]
+      ];
+      out = λ c k now. (let both = still-being c now in left c k both.0 ∙ keeps.tiles.out c k both.1);
+      dims = λ c k. elim (cases_Bool (has_cell ws c)) [
+        | inr spared ↦ subst (λ (o : Option Array). IfSome o (λ a. a.dims ≡ dims_of p c)) (sym (left c k spared)) (keeps.tiles.dims c k)
+        | inl has ↦ elim (same_node k n) [
+          | inl at ↦ subst (λ (j : Node). IfSome (tile_at new c j) (λ a. a.dims ≡ dims_of p c)) (sym at) (subst (λ (o : Option Array). IfSome o (λ a. a.dims ≡ dims_of p c)) (sym (tile-here c has)) (held-dims p w (worked_on-dims p keeps.sound.run.proper keeps.sound.run.lawful.arguments w staffed) (written_operands (task_of p t)) slots c results'.each has))
+          | inr far ↦ subst (λ (o : Option Array). IfSome o (λ a. a.dims ≡ dims_of p c)) (sym (tile-far c k has far)) tt
+        ]
+      ];
+      arrays = λ tells c k. elim (cases_Bool (has_cell ws c)) [
+        | inr spared ↦ subst (λ (o : Option Array). IfSome o (λ a. a ≡ put_arrays c (AtNode k))) (sym (left c k spared)) (subst (λ (x : Array). IfSome (tile_at tiles c k) (λ a. a ≡ x)) (sym (array-left c k spared)) (keeps.tiles.arrays tells c k))
+        | inl has ↦ elim (same_node k n) [
+          | inl at ↦ subst (λ (j : Node). IfSome (tile_at new c j) (λ a. a ≡ put_arrays c (AtNode j))) (sym at) (subst (λ (o : Option Array). IfSome o (λ a. a ≡ put_arrays c (AtNode n))) (sym (tile-here c has)) (put-is tells c ∙ sym (array-here c has)))
+          | inr far ↦ subst (λ (o : Option Array). IfSome o (λ a. a ≡ put_arrays c (AtNode k))) (sym (tile-far c k has far)) tt
+        ]
+      ];
+    }
+      where
+        put-is : AllTell held b → (c : Cell) → put c ≡ result_in p t w (held_at A (AtNode n)) c
+        put-is tells c = ap (λ (l : List Array). held_in p (zip ws l) c) (results'.told tells)
+
+        array-left : (c : Cell) (k : Node) → has_cell ws c ≡ false → put_arrays c (AtNode k) ≡ A c (AtNode k)
+        array-left c k spared = second_fails (same_place (AtNode k) (AtNode n)) (has_cell ws c) (result_in p t w (held_at A (AtNode n)) c) (A c (AtNode k)) spared
+
+        array-here : (c : Cell) → has_cell ws c ≡ true → put_arrays c (AtNode n) ≡ result_in p t w (held_at A (AtNode n)) c
+        array-here c has = both_pass (same_place (AtNode n) (AtNode n)) (has_cell ws c) (result_in p t w (held_at A (AtNode n)) c) (A c (AtNode n)) (same_place-itself (AtNode n)) has
+
+    blocks-stay : HoldsBlocks held p m s' put_arrays (AllTell held b) b.disks
+    blocks-stay = HoldsBlocks-kept held p m s s' A put_arrays (AllTell held b) b.disks (λ c d. refl) (λ c on. (
+      let before = sym (end-alone p m s t w s' ended refl c).disk ∙ on in (
+        before,
+        elim (cases_Bool (has_cell ws c)) [
+          | inr spared ↦ ap (λ (row : CellState). row.writes) (end-spared_row p m s t w s' ended refl c spared)
+          | inl has ↦ absurd (false≢true (sym (own c has).unstored ∙ before))
+        ],
+      )
+    )) keeps.sound.blocks
+
+    pub keeps-end : (spare' : ℕ) → spare' + 1 ≡ spare → Keeps size faults mismatches held (with_event b (End t w)) (has_happened rows (End t w)) new spare'
+    keeps-end spare' room = keeps-event size faults mismatches held b rows tiles spare keeps (End t w) new spare' can blocks-stay tiles-back room
+
+-- ---- as the code finds it
+
+module _ {D : Type 0} (size faults mismatches : D → ℕ) (held : D → Option (List ℕ)) (b : Standing D) (rows : Rows) (tiles : List Places) (spare : ℕ) (keeps : Keeps size faults mismatches held b rows tiles spare) (t : Task) (w : Worker) (b' : Standing D) (same : b ≡ b') (can' : CanHappen b' (End t w)) (at : Node) (bound : at ≡ node_of b.machine w) (accesses : List Access) (of_task : accesses ≡ (task_of b.program t).accesses) (q : Program) (program : q ≡ b.program) (slots : List Slot) (given : AreResultsFor held b' t w slots) where
+  now-can : CanHappen b (End t w)
+  now-can = subst (λ (x : Standing D). CanHappen x (End t w)) (sym same) can'
+
+  same-among : written_among q w accesses ≡ written_cells b.program t w
+  same-among = ap (λ (x : Program). written_among x w accesses) program ∙ ap (written_among b.program w) of_task
+
+  now-given : AreResultsFor held b t w slots
+  now-given = subst (λ (x : Standing D). AreResultsFor held x t w slots) (sym same) given
+
+  pub found-end_can_put : CanPutBack q w tiles at accesses slots
+  found-end_can_put =
+      subst (λ (x : Program). CanPutBack x w tiles at accesses slots) (sym program)
+      (subst (λ (j : Node). CanPutBack b.program w tiles j accesses slots) (sym bound)
+      (subst (λ (l : List Access). CanPutBack b.program w tiles (node_of b.machine w) l slots) (sym of_task) (record {
+        works = end-can_work size faults mismatches held b rows tiles spare keeps t w now-can;
+        cells = end-cells size faults mismatches held b rows tiles spare keeps t w now-can;
+        places = end-places size faults mismatches held b rows tiles spare keeps t w now-can;
+        shares = end-shared size faults mismatches held b rows tiles spare keeps t w now-can slots now-given;
+        count = end-count size faults mismatches held b rows tiles spare keeps t w now-can slots now-given;
+      })))
+
+  pub found-back : (found : List Places) → found ≡ put_each at (written_among q w accesses) (arrays slots) tiles → found ≡ put_each (node_of b.machine w) (written_cells b.program t w) (arrays slots) tiles
+  found-back found put = put ∙ ap (λ (j : Node). put_each j (written_among q w accesses) (arrays slots) tiles) bound ∙ ap (λ (l : List Cell). put_each (node_of b.machine w) l (arrays slots) tiles) same-among
+
+  pub found-keeps_end : (spare' : ℕ) → spare' + 1 ≡ spare → Keeps size faults mismatches held (with_event b (End t w)) (has_happened rows (End t w)) (put_each (node_of b.machine w) (written_cells b.program t w) (arrays slots) tiles) spare'
+  found-keeps_end spare' room = keeps-end size faults mismatches held b rows tiles spare keeps t w now-can slots now-given spare' room
