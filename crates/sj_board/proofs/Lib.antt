@@ -3,7 +3,6 @@ pub mod BoardEnds
 pub mod Boarding
 pub mod Delivering
 pub mod DiskCounts
-pub mod EndTiles
 pub mod EndingTiles
 pub mod Ends
 pub mod EventTiles
