@@ -18,7 +18,7 @@ use Rattle.sj_board.specs.Shares.{CanGive, kept_at}
 use Rattle.sj_board.specs.Sound.{Keeps}
 use Rattle.sj_board.specs.Standing.{AllTell, CanHappen, IsTileOf, Standing, run_arrays}
 use Rattle.sj_board.proofs.Delivering.{deliver-reads}
-use Rattle.sj_board.proofs.RunTiles.{run-can_give}
+use Rattle.sj_board.proofs.RunningTiles.{run-can_give}
 
 module _ {D : Type 0} (size faults mismatches : D → ℕ) (held : D → Option (List ℕ)) (b : Standing D) (rows : Rows) (tiles : List (List (Option Array))) (spare : ℕ) (keeps : Keeps size faults mismatches held b rows tiles spare) (t : Task) (w : Worker) (can : CanHappen b (Run t w)) (hands : is_deliver_task b.program t ≡ true) where
   abbrev cell : Cell
