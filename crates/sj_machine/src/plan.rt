@@ -98,7 +98,8 @@ fn recent_victims(
     Ok(Some(victims))
 }
 
-/// What a task needs on a node: its cells in operand order, those of them without an entry there with their bytes, and its scratch.
+/// What a task needs on a node: its cells in operand order, those of them without an entry there with their bytes, and its
+/// scratch.
 #[derive(Drop)]
 struct Need {
     cells: FewCells,
