@@ -25,7 +25,7 @@ use Rattle.sj_core.specs.declared.progress.Transfer.{Transfer}
 use Rattle.sj_base.specs.Ids.{same_place}
 use Rattle.sj_disk.specs.Directory.{extent_of}
 use Rattle.sj_machine.proofs.Happening.{mark-inside}
-use Rattle.sj_machine.specs.Rows.{CanHappen as RowsCanHappen, Rows, has_happened}
+use Rattle.sj_machine.specs.Rows.{MayHappen, Rows, has_happened}
 use Rattle.sj_replica.specs.Replica.{stored, with_mark}
 use Rattle.sj_replica.specs.declared.mark.Mark.{Mark}
 use Rattle.sj_replica.specs.declared.mark.Mark.TheVariants.{Invalid, Valid}
@@ -276,7 +276,7 @@ module _ {D : Type 0} (size faults mismatches : D → ℕ) (held : D → Option 
 
 module _ {D : Type 0} (size faults mismatches : D → ℕ) (held : D → Option (List ℕ)) (b : Standing D) (rows : Rows) (tiles : List Places) (spare : ℕ) (keeps : Keeps size faults mismatches held b rows tiles spare) (b' : Standing D) (same : b ≡ b') where
   -- an event that can happen to the run can happen to its rows, and the trace has room for it
-  pub rows-can : (e : Event) → CanHappen b' e → RowsCanHappen rows e
+  pub rows-can : (e : Event) → CanHappen b' e → MayHappen rows e
   rows-can e can = to-rows size faults mismatches held b rows tiles spare keeps b' same (λ p m s. May p m s e) can
 
   pub now-can : (e : Event) → CanHappen b' e → CanHappen b e

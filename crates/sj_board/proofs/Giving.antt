@@ -9,7 +9,7 @@ use Rattle.sj_deps.specs.Progress.{Dependencies}
 use Rattle.sj_pool.proofs.Keeping.{home-within}
 use Rattle.sj_pool.specs.Pool.{Pooled, contains, home, with_entry}
 use Rattle.sj_base.specs.Array.{Array}
-use Rattle.sj_board.specs.ReadyTasks.{IsToBeTaken}
+use Rattle.sj_machine.specs.ReadyTasks.{IsToBeTaken}
 use Rattle.sj_board.specs.Standing.{Standing, state}
 use Rattle.sj_board.specs.declared.fault.RunFault.{RunFault}
 use Rattle.sj_board.specs.Board.{BoardState, board_state, empty_hand, given_back, given_from, hand_of, room_of}

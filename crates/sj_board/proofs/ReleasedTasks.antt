@@ -12,7 +12,7 @@ use Rattle.sj_deps.specs.Conflict.{Ready}
 use Rattle.sj_deps.specs.Progress.{Dependencies}
 use Rattle.sj_pool.specs.Pool.{Pooled, pooled, queue}
 use Rattle.sj_pool.specs.declared.entry.Entry.{Entry}
-use Rattle.sj_board.specs.ReadyTasks.{CountsDone}
+use Rattle.sj_machine.specs.ReadyTasks.{CountsDone}
 use Rattle.sj_board.proofs.Stepping.{ready-same}
 use Rattle.sj_board.specs.Board.{hand_in}
 use Rattle.sj_board.specs.BoardSound.{HasBecomeReady, StandsReleased}

@@ -10,7 +10,7 @@ use Rattle.sj_core.specs.declared.progress.Progress.TheVariants.{Claimed, Runnin
 use Rattle.sj_core.specs.Legal.{IsComplete}
 use Rattle.sj_core.specs.Step.{after}
 use Rattle.sj_deps.specs.Progress.{Dependencies}
-use Rattle.sj_board.specs.ReadyTasks.{CountsDone, IsToBeTaken}
+use Rattle.sj_machine.specs.ReadyTasks.{CountsDone, IsToBeTaken}
 use Rattle.sj_board.specs.Standing.{CanHappen, Standing, state, with_event}
 use Rattle.sj_board.proofs.Stepping.{counts-still, not-complete, taken-before, taken-still}
 use Rattle.sj_board.specs.Board.{BoardState, has_event}

@@ -12,7 +12,7 @@ use Rattle.sj_core.specs.Legal.{IsComplete}
 use Rattle.sj_core.specs.Step.{done_tasks}
 use Rattle.sj_deps.specs.Conflict.{Ready}
 use Rattle.sj_deps.specs.Progress.{Dependencies}
-use Rattle.sj_board.specs.ReadyTasks.{CountsDone, IsToBeTaken}
+use Rattle.sj_machine.specs.ReadyTasks.{CountsDone, IsToBeTaken}
 
 -- a task is ready where the same tasks are done
 pub ready-same : (p : Program) (done done' : List ℕ) (u : ℕ) → ((n : ℕ) → Contains done n ↔ Contains done' n) → Ready p done u → Ready p done' u

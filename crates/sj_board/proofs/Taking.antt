@@ -16,7 +16,7 @@ use Rattle.sj_core.specs.Step.{after}
 use Rattle.sj_core.proofs.Separation.{worker-inside}
 use Rattle.sj_core.proofs.Dependencies.{Proper-dependencies}
 use Rattle.sj_deps.specs.Progress.{Dependencies}
-use Rattle.sj_board.specs.ReadyTasks.{CountsDone, IsToBeTaken}
+use Rattle.sj_machine.specs.ReadyTasks.{CountsDone, IsToBeTaken}
 use Rattle.sj_machine.specs.Planning.{AnotherHasTask, IsWhy, MayClaim}
 use Rattle.sj_board.specs.Sound.{IsSoundRun}
 use Rattle.sj_board.specs.Standing.{CanHappen, Standing, state, with_event}

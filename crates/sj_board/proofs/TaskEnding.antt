@@ -24,7 +24,7 @@ use Rattle.sj_core.specs.declared.progress.Progress.TheVariants.{Claimed, Done, 
 use Rattle.sj_deps.specs.Conflict.{Ready}
 use Rattle.sj_deps.specs.Progress.{Dependencies, after_done}
 use Rattle.sj_pool.specs.Pool.{Pooled, queue_count}
-use Rattle.sj_board.specs.ReadyTasks.{IsToBeTaken}
+use Rattle.sj_machine.specs.ReadyTasks.{IsToBeTaken}
 use Rattle.sj_board.specs.Delivery.{IsGift}
 use Rattle.sj_board.specs.Sound.{IsSoundRun}
 use Rattle.sj_base.specs.Array.{Array}

@@ -21,7 +21,7 @@ use Rattle.sj_machine.specs.Gone.{KnownGone}
 use Rattle.sj_board.specs.Sound.{IsSoundRun}
 use Rattle.sj_board.specs.Standing.{AllTell, state}
 use Rattle.sj_board.specs.declared.fault.RunFault.{RunFault}
-use Rattle.sj_board.specs.ReadyTasks.{CountsDone, IsToBeTaken}
+use Rattle.sj_machine.specs.ReadyTasks.{CountsDone, IsToBeTaken}
 use Rattle.sj_board.specs.Board.{BoardState, hand_in}
 use Rattle.sj_board.specs.Delivered.{DeliversDone, KeepsGifts, undelivered}
 use Rattle.sj_board.specs.Filling.{entry_of}

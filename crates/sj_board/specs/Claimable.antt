@@ -6,7 +6,7 @@ use Rattle.sj_base.specs.declared.mode.Policy.TheVariants.{Prio}
 use Rattle.sj_core.specs.Machine.{progress}
 use Rattle.sj_core.specs.Needs.{footprint}
 use Rattle.sj_core.specs.declared.progress.Progress.TheVariants.{Waiting}
-use Rattle.sj_board.specs.ReadyTasks.{IsToBeTaken}
+use Rattle.sj_machine.specs.ReadyTasks.{IsToBeTaken}
 use Rattle.sj_board.specs.Standing.{state}
 use Rattle.sj_board.specs.Board.{BoardState, WasGiven, hand_of, room_of}
 use Rattle.sj_board.specs.declared.claimable.Claimable.{Claimable}

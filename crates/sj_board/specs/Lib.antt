@@ -13,7 +13,6 @@ pub mod NextStep
 pub mod Passing
 pub mod Placing
 pub mod Preparing
-pub mod ReadyTasks
 pub mod Refusal
 pub mod Released
 pub mod Releasing

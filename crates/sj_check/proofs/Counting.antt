@@ -12,7 +12,7 @@ use Rattle.sj_core.specs.Coherent.{Coherent, is_begun}
 use Rattle.sj_core.specs.Step.{done_tasks}
 use Rattle.sj_deps.specs.Conflict.{Ready}
 use Rattle.sj_deps.specs.Progress.{Dependencies, after_done}
-use Rattle.sj_check.specs.Watching.{CountsDone}
+use Rattle.sj_machine.specs.ReadyTasks.{CountsDone}
 
 ready-same : (p : Program) (done done' : _) (t : ℕ) → ((n : ℕ) → Contains done n ↔ Contains done' n) → Ready p done t → Ready p done' t
 ready-same p done done' t same ready = record {
@@ -21,19 +21,22 @@ ready-same p done done' t same ready = record {
   earlier = λ u before conflict. (same u).0 (ready.earlier u before conflict);
 }
 
-module _ (p : Program) (s : State) (deps : Dependencies) (counts : CountsDone p s deps) where
-  -- the tasks that are done, by the state and by the dependencies
-  counted : (n : ℕ) → Contains deps.done n ↔ Contains (done_tasks s) n
-  counted n = (
-    λ c. done_tasks-has s (record { 0 = n }) ((counts.done (record { 0 = n })).0 c),
-    λ c. (counts.done (record { 0 = n })).1 (done_tasks-done s (record { 0 = n }) c),
-  )
+-- they are counted where each task is counted that is done, and no other
+pub counts-by_task : (p : Program) (s : State) (deps : Dependencies) → deps.program ≡ p → ((u : Task) → Contains deps.done u.0 ↔ (done_in s u ≡ true)) → CountsDone p s deps
+counts-by_task p s deps same each = record {
+  program = same;
+  done = λ n. (λ c. done_tasks-has s (record { 0 = n }) ((each (record { 0 = n })).0 c), λ c. (each (record { 0 = n })).1 (done_tasks-done s (record { 0 = n }) c));
+}
 
-  -- and so those that are ready
+module _ (p : Program) (s : State) (deps : Dependencies) (counts : CountsDone p s deps) where
+  each : (u : Task) → Contains deps.done u.0 ↔ (done_in s u ≡ true)
+  each u = (λ c. done_tasks-done s u ((counts.done u.0).0 c), λ h. (counts.done u.0).1 (done_tasks-has s u h))
+
+  -- those that are ready, by the state and by the dependencies
   pub ready-counted : (t : Task) → Ready deps.program deps.done t.0 ↔ Ready p (done_tasks s) t.0
   ready-counted t = (
-    λ r. ready-same p deps.done (done_tasks s) t.0 counted (subst (λ (q : Program). Ready q deps.done t.0) counts.program r),
-    λ r. subst (λ (q : Program). Ready q deps.done t.0) (sym counts.program) (ready-same p (done_tasks s) deps.done t.0 (λ n. ((counted n).1, (counted n).0)) r),
+    λ r. ready-same p deps.done (done_tasks s) t.0 counts.done (subst (λ (q : Program). Ready q deps.done t.0) counts.program r),
+    λ r. subst (λ (q : Program). Ready q deps.done t.0) (sym counts.program) (ready-same p (done_tasks s) deps.done t.0 (λ n. ((counts.done n).1, (counts.done n).0)) r),
   )
 
   -- a running task counts as ready, since it isn't done
@@ -47,7 +50,7 @@ module _ (p : Program) (s : State) (deps : Dependencies) (counts : CountsDone p 
   module _ (s' : State) (t : Task) (old new : Progress) (step : Advances s s' t old new) where
     -- a task goes on that isn't done before or after
     pub counts-still : is_done old ≡ false → is_done new ≡ false → CountsDone p s' deps
-    counts-still undone still = record { program = counts.program; done = λ u. (λ c. alike u ∙ (counts.done u).0 c, λ h. (counts.done u).1 (sym (alike u) ∙ h)) }
+    counts-still undone still = counts-by_task p s' deps counts.program (λ u. (λ c. alike u ∙ (each u).0 c, λ h. (each u).1 (sym (alike u) ∙ h)))
       where
         alike : (u : Task) → done_in s' u ≡ done_in s u
         alike u = elim (same_task u t) as (λ _. done_in s' u ≡ done_in s u) [
@@ -57,13 +60,13 @@ module _ (p : Program) (s : State) (deps : Dependencies) (counts : CountsDone p 
 
     -- a task is done
     pub counts-ended : is_done new ≡ true → CountsDone p s' (after_done deps t.0)
-    counts-ended done = record { program = counts.program; done = λ u. (there u, back u) }
+    counts-ended done = counts-by_task p s' (after_done deps t.0) counts.program (λ u. (there u, back u))
       where
         there : (u : Task) → Contains (deps.done ++ t.0 ∷ []) u.0 → done_in s' u ≡ true
         there u c = elim (same_task u t) as (λ _. done_in s' u ≡ true) [
           | inl e ↦ ap (done_in s') e ∙ ap is_done step.is ∙ done
           | inr d ↦ elim (Contains-push_cases deps.done t.0 u.0 c) as (λ _. done_in s' u ≡ true) [
-            | inl before ↦ ap is_done (step.others u d) ∙ (counts.done u).0 before
+            | inl before ↦ ap is_done (step.others u d) ∙ (each u).0 before
             | inr last ↦ absurd (d (ap (λ (k : ℕ). let x : Task = record { 0 = k } in x) (sym last)))
           ]
         ]
@@ -71,5 +74,5 @@ module _ (p : Program) (s : State) (deps : Dependencies) (counts : CountsDone p 
         back : (u : Task) → done_in s' u ≡ true → Contains (deps.done ++ t.0 ∷ []) u.0
         back u h = elim (same_task u t) as (λ _. Contains (deps.done ++ t.0 ∷ []) u.0) [
           | inl e ↦ Contains-append_right deps.done (t.0 ∷ []) u.0 (0, omega arith, ap (λ (k : Task). k.0) (sym e))
-          | inr d ↦ Contains-append_left deps.done (t.0 ∷ []) u.0 ((counts.done u).1 (ap is_done (sym (step.others u d)) ∙ h))
+          | inr d ↦ Contains-append_left deps.done (t.0 ∷ []) u.0 ((each u).1 (ap is_done (sym (step.others u d)) ∙ h))
         ]

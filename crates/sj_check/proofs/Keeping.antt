@@ -16,14 +16,14 @@ use Rattle.sj_core.specs.Machine.{is_done, is_task_of, opening, progress}
 use Rattle.sj_core.specs.Step.{after}
 use Rattle.sj_core.specs.declared.progress.Progress.TheVariants.{Claimed, Done, Running, Waiting}
 use Rattle.sj_deps.specs.Progress.{Dependencies, after_done, dependencies}
-use Rattle.sj_machine.specs.Rows.{CanHappen, Rows, has_happened, rows_at_start}
-use Rattle.sj_check.proofs.Counting.{counts-ended, counts-still}
+use Rattle.sj_machine.specs.Rows.{MayHappen, Rows, has_happened, rows_at_start}
+use Rattle.sj_check.proofs.Counting.{counts-by_task, counts-ended, counts-still}
 use Rattle.sj_check.proofs.Tasks.{tasks-claimed, tasks-still}
-use Rattle.sj_check.specs.Watching.{AreHomes, CountsDone, HasTasks, Watches}
+use Rattle.sj_check.specs.Watching.{AreHomes, HasTasks, Watches}
 
 module _ (r : Rows) (homes : List DiskNo) (tasks : List (Option Task)) (deps : Dependencies) (watches : Watches r homes tasks deps) (t : Task) (w : Worker) where
   -- a worker without a task claims one
-  pub watches-claimed : Coherent r.program r.machine r.state → CanHappen r (Claim t w) → Watches (has_happened r (Claim t w)) homes (set tasks w.0 (Some t)) deps
+  pub watches-claimed : Coherent r.program r.machine r.state → MayHappen r (Claim t w) → Watches (has_happened r (Claim t w)) homes (set tasks w.0 (Some t)) deps
   watches-claimed coherent can =
       let s' = after r.program r.machine r.state (Claim t w) in
       let step = Claims-advances r.program r.machine r.state t w s' coherent.state.rows can (evicted-after r.program r.machine r.state t w) in
@@ -34,7 +34,7 @@ module _ (r : Rows) (homes : List DiskNo) (tasks : List (Option Task)) (deps : D
       }
 
   -- its kernel begins
-  pub watches-begun : CanHappen r (Run t w) → Watches (has_happened r (Run t w)) homes tasks deps
+  pub watches-begun : MayHappen r (Run t w) → Watches (has_happened r (Run t w)) homes tasks deps
   watches-begun can =
       let s' = after r.program r.machine r.state (Run t w) in
       let step = Runs-advances r.program r.machine r.state t w s' can refl in
@@ -45,7 +45,7 @@ module _ (r : Rows) (homes : List DiskNo) (tasks : List (Option Task)) (deps : D
       }
 
   -- it ends
-  pub watches-ended : CanHappen r (End t w) → Watches (has_happened r (End t w)) homes tasks (after_done deps t.0)
+  pub watches-ended : MayHappen r (End t w) → Watches (has_happened r (End t w)) homes tasks (after_done deps t.0)
   watches-ended can =
       let s' = after r.program r.machine r.state (End t w) in
       let step = Ends-advances r.program r.machine r.state t w s' can refl in
@@ -60,7 +60,7 @@ pub watches-fresh : (p : Program) (m : Machine) (homes : List DiskNo) → AreHom
 watches-fresh p m homes places = record {
   places = places;
   claims = record { every_worker = length-replicate p.workers None; last = λ w t h. absurd (false≢true (sym (ap (is_task_of w) (waits t)) ∙ h)) };
-  counts = record { program = refl; done = λ t. (λ (i, l, e). absurd (omega (arith, l)), λ h. absurd (false≢true (sym (ap is_done (waits t)) ∙ h))) };
+  counts = counts-by_task p (opening p m) (dependencies p []) refl (λ t. (λ (i, l, e). absurd (omega (arith, l)), λ h. absurd (false≢true (sym (ap is_done (waits t)) ∙ h))));
 }
   where
     waits : (t : Task) → progress (opening p m) t ≡ Waiting

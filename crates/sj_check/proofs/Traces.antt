@@ -10,7 +10,7 @@ use Rattle.sj_core.specs.Laws.{TracesGoOn}
 use Rattle.sj_core.specs.Legal.{CanFollow, IsLegal, state_of}
 use Rattle.sj_core.specs.Machine.{State, opening}
 use Rattle.sj_core.specs.Step.{May, after}
-use Rattle.sj_machine.specs.Rows.{CanHappen, Rows, has_happened}
+use Rattle.sj_machine.specs.Rows.{MayHappen, Rows, has_happened}
 use Rattle.sj_check.specs.Judging.{HappensLegally, IsRefused}
 use Rattle.sj_check.specs.Refusal.{IsFirstBad}
 
@@ -51,7 +51,7 @@ module _ (start : Rows) (trace : List Event) (i : ℕ) (now : Rows) (so_far : Le
     -- the next event happens
     pub one-more : (new : Rows) → HappensLegally now e new → LegalTo start trace (i + 1) new
     one-more new happens =
-        let may = subst (λ (r : Rows). CanHappen r e) so_far.rows happens.legal in
+        let may = subst (λ (r : Rows). MayHappen r e) so_far.rows happens.legal in
         record {
           legal = subst (IsLegal p m) (sym (take-next trace i e got)) ((go_on p m (take i trace) e).both_suffice so_far.legal may);
           rows = happens.happens ∙ ap (λ (r : Rows). has_happened r e) so_far.rows ∙ ap (λ (s : State). record start { state = s }) (sym (ap (state_of p m) (take-next trace i e got) ∙ fold-append (after p m) (opening p m) (take i trace) (e ∷ [])));
@@ -62,7 +62,7 @@ module _ (start : Rows) (trace : List Event) (i : ℕ) (now : Rows) (so_far : Le
     first-bad new inside refused = record {
       inside = inside;
       before = so_far.legal;
-      bad = λ all. subst (λ (r : Rows). ¬ CanHappen r e) so_far.rows refused.illegal ((go_on p m (take i trace) e).event_may_happen (subst (IsLegal p m) (take-next trace i e got) all));
+      bad = λ all. subst (λ (r : Rows). ¬ MayHappen r e) so_far.rows refused.illegal ((go_on p m (take i trace) e).event_may_happen (subst (IsLegal p m) (take-next trace i e got) all));
     }
 
   -- no event is left

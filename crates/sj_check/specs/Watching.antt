@@ -10,6 +10,7 @@ use Rattle.sj_base.specs.declared.program.Program.{Program}
 use Rattle.sj_core.specs.Machine.{State, done_in, is_task_of, progress}
 use Rattle.sj_core.specs.Step.{disk_of}
 use Rattle.sj_deps.specs.Progress.{Dependencies}
+use Rattle.sj_machine.specs.ReadyTasks.{CountsDone}
 use Rattle.sj_machine.specs.Rows.{Rows}
 
 -- the disk of each cell's block; of no cell where the blocks don't fit the machine's disks
@@ -24,11 +25,6 @@ task_in tasks w = slice_index_or tasks w.0 None
 pub record HasTasks (p : Program) (s : State) (tasks : List (Option Task)) : Type 0 where
   pub every_worker : length tasks ≡ p.workers
   pub last : (w : Worker) (t : Task) → IsTrue (is_task_of w (progress s t)) → task_in tasks w ≡ Some t
-
--- the dependencies are the program's, with the tasks that are done
-pub record CountsDone (p : Program) (s : State) (deps : Dependencies) : Type 0 where
-  pub program : deps.program ≡ p
-  pub done : (t : Task) → Contains deps.done t.0 ↔ IsTrue (done_in s t)
 
 -- the disks of blocks are kept, each worker's task, and the tasks that are done
 pub record Watches (r : Rows) (homes : List DiskNo) (tasks : List (Option Task)) (deps : Dependencies) : Type 0 where

@@ -7,10 +7,11 @@ ghost use Rattle.sj_core.specs.Legal.{IsComplete};
 ghost use Rattle.sj_core.specs.Machine.{is_done, is_idle, is_task_of, is_waiting, mark, progress, transfer};
 ghost use Rattle.sj_core.specs.Step.{mover_of, source_of};
 ghost use Rattle.sj_machine.specs.Planning.{MayClaim};
-ghost use Rattle.sj_machine.specs.Rows.{CanHappen};
+ghost use Rattle.sj_machine.specs.Rows.{MayHappen};
 ghost use Rattle.sj_replica.specs.Mark.{claimant_of};
 ghost use Rattle.sj_replica.specs.declared.mark.Mark.TheVariants.{Coming};
-ghost use Rattle.sj_check.specs.Watching.{AreHomes, CountsDone, HasTasks, task_in};
+ghost use Rattle.sj_check.specs.Watching.{AreHomes, HasTasks, task_in};
+ghost use Rattle.sj_machine.specs.ReadyTasks.{CountsDone};
 
 use sj_base::ids::{Cell, DiskNo, Node, Place, Task, Worker};
 use sj_core::progress::{Progress, Transfer};
@@ -140,7 +141,7 @@ fn source_of(rows: &Rows, homes: &[DiskNo], cell: Cell) -> Option<Place>
 
 /// Whether a drop is legal. Linear in the nodes and the workers.
 pub fn may_drop(rows: &Rows, cell: Cell, n: Node) -> bool
-    ensures { IsTrue result ↔ CanHappen rows.now (Drop cell n) }
+    ensures { IsTrue result ↔ MayHappen rows.now (Drop cell n) }
 {
     rows.is_sound();
     if !rows.mark(cell, n).is_leaving() {
@@ -151,7 +152,7 @@ pub fn may_drop(rows: &Rows, cell: Cell, n: Node) -> bool
 
 /// Whether the end of a move is legal. Constant time.
 pub fn may_end_move(rows: &Rows, cell: Cell, from: Place, to: Place) -> bool
-    ensures { IsTrue result ↔ CanHappen rows.now (Moved cell from to) }
+    ensures { IsTrue result ↔ MayHappen rows.now (Moved cell from to) }
 {
     let w = mover(rows, cell, from, to);
     transfer_of(rows, w) == Some(Transfer { cell, from, to })
@@ -171,7 +172,7 @@ fn may_bring(
     requires homes { AreHomes rows.now.program rows.now.machine homes.now }
     requires claimed { progress rows.now.state t ≡ Progress.Claimed w }
     requires coming { mark rows.now.state cell n ≡ Coming w }
-    ensures { IsTrue result ↔ CanHappen rows.now (Move cell from (AtNode n)) }
+    ensures { IsTrue result ↔ MayHappen rows.now (Move cell from (AtNode n)) }
 {
     rows.is_sound();
     if transfer_of(rows, w).is_some() || rows.is_fresh(t, w, cell) {
@@ -197,7 +198,7 @@ fn may_move_in(
 ) -> bool
     requires homes { AreHomes rows.now.program rows.now.machine homes.now }
     requires tasks { HasTasks rows.now.program rows.now.state tasks.now }
-    ensures { IsTrue result ↔ CanHappen rows.now (Move cell from (AtNode n)) }
+    ensures { IsTrue result ↔ MayHappen rows.now (Move cell from (AtNode n)) }
 {
     rows.is_sound();
     let Mark::Coming(w) = rows.mark(cell, n) else {
@@ -212,7 +213,7 @@ fn may_move_in(
 /// Whether the beginning of a move from a node to a disk is legal. Linear in the nodes.
 fn may_move_out(rows: &Rows, homes: &[DiskNo], cell: Cell, n: Node, d: DiskNo) -> bool
     requires homes { AreHomes rows.now.program rows.now.machine homes.now }
-    ensures { IsTrue result ↔ CanHappen rows.now (Move cell (AtNode n) (OnDisk d)) }
+    ensures { IsTrue result ↔ MayHappen rows.now (Move cell (AtNode n) (OnDisk d)) }
 {
     rows.is_sound();
     let Mark::Leaving(w) = rows.mark(cell, n) else {
@@ -238,7 +239,7 @@ pub fn may_move(
 ) -> bool
     requires homes { AreHomes rows.now.program rows.now.machine homes.now }
     requires tasks { HasTasks rows.now.program rows.now.state tasks.now }
-    ensures { IsTrue result ↔ CanHappen rows.now (Move cell from to) }
+    ensures { IsTrue result ↔ MayHappen rows.now (Move cell from to) }
 {
     match to {
         Place::Node(n) => may_move_in(rows, homes, tasks, cell, from, n),
@@ -252,7 +253,7 @@ pub fn may_move(
 /// Whether the beginning of a task's kernel is legal. Quadratic in the operands, which are a task's few, and linear in the
 /// victims, and in the workers for each written operand.
 pub fn run_is_legal(rows: &Rows, t: Task, w: Worker) -> bool
-    ensures { IsTrue result ↔ CanHappen rows.now (Run t w) }
+    ensures { IsTrue result ↔ MayHappen rows.now (Run t w) }
 {
     rows.is_sound();
     if progress_of(rows, t) != Progress::Claimed(w) {
@@ -263,7 +264,7 @@ pub fn run_is_legal(rows: &Rows, t: Task, w: Worker) -> bool
 
 /// Whether the end of a task's kernel is legal. Constant time.
 pub fn may_end(rows: &Rows, t: Task, w: Worker) -> bool
-    ensures { IsTrue result ↔ CanHappen rows.now (End t w) }
+    ensures { IsTrue result ↔ MayHappen rows.now (End t w) }
 {
     progress_of(rows, t) == Progress::Running(w)
 }

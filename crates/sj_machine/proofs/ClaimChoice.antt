@@ -10,7 +10,7 @@ use Rattle.sj_machine.specs.Operands.{first_held}
 use Rattle.sj_machine.specs.Plan.{ClaimPlan}
 use Rattle.sj_machine.specs.Planning.{CommutersAreFree, HasSmallWork, IsAnswer, MayClaim, NoneLeavesFor, chosen_on, commuter_in_use, is_leaving_at, planned}
 use Rattle.sj_machine.specs.Rows.{Rows}
-use Rattle.sj_machine.specs.Stores.{Keeps}
+use Rattle.sj_machine.specs.Stores.{KeepsStores}
 use Rattle.sj_machine.specs.declared.plan.Why.{Why}
 use Rattle.sj_machine.specs.declared.plan.Why.TheVariants.{Commute, Leaving, NoRoom}
 use Rattle.sj_machine.proofs.ClaimFinding.{plan-answers}
@@ -20,7 +20,7 @@ use Rattle.sj_machine.proofs.Happening.{rows_in}
 use Rattle.sj_machine.proofs.KnownVictims.{none-leaves}
 use Rattle.sj_machine.proofs.Marked.{read-store}
 
-module _ (p : Program) (m : Machine) (s : State) (nodes : List Store) (keeps : Keeps p m s nodes) (r : Rows) (same : rows_in p m s ≡ r) (t : Task) (w : Worker) (asked : MayClaim r.program r.machine r.state t w) where
+module _ (p : Program) (m : Machine) (s : State) (nodes : List Store) (keeps : KeepsStores p m s nodes) (r : Rows) (same : rows_in p m s ≡ r) (t : Task) (w : Worker) (asked : MayClaim r.program r.machine r.state t w) where
   may : MayClaim p m s t w
   may = subst (λ (x : Rows). MayClaim x.program x.machine x.state t w) (sym same) asked
 

@@ -1,6 +1,6 @@
 -- What a claim leaves of the rows.
 use Rattle.std.proofs.Common.{◌≡◌, ℕ, ◌<◌, ◌≤◌, Bool, true, false, not, ◌&&◌, filter, List, Some, length, get_or, set, refl, sym, ap, ◌∙◌, subst, arith}
-use Rattle.sj_machine.proofs.Words.{after, after_claim, CanClaim, CanHappen, CanHold, Cell, cell_state, cells_of, CellState, Claim, Claimed, claimed_mark, ClaimPlan, Coming, covers, distinct, free, has_cell, HasStores, holding, is_pinned, IsPlan, Keeps, leave, Leaving, Machine, mark, Mark, mark_in, marked, missing, Node, node_of, order, plan_with, Program, Progress, renewed, row_at, row_with, Rows, State, state_in, Store, store_at, store_of, Task, tile_bytes, to_come, with_mark, Worker, WorkerState}
+use Rattle.sj_machine.proofs.Words.{after, after_claim, CanClaim, MayHappen, CanHold, Cell, cell_state, cells_of, CellState, Claim, Claimed, claimed_mark, ClaimPlan, Coming, covers, distinct, free, has_cell, HasStores, holding, is_pinned, IsPlan, KeepsStores, leave, Leaving, Machine, mark, Mark, mark_in, marked, missing, Node, node_of, order, plan_with, Program, Progress, renewed, row_at, row_with, Rows, State, state_in, Store, store_at, store_of, Task, tile_bytes, to_come, with_mark, Worker, WorkerState}
 use Rattle.sj_machine.proofs.Happening.{AreLeft, All-has, HasStores-set, may-happen, rows-left, rows_in, store-at}
 use Rattle.std.specs.{Prelude.All, Prelude.if◌then◌else◌}
 use Rattle.std.proofs.lemmas.{Bool.false≢true}
@@ -23,7 +23,7 @@ pub record CanChange (cells : List CellState) (nodes : List Store) (n : Node) (w
   pub missing : All (λ c. c.0 < length (marked cells plan.victims n (Leaving w))) plan.missing
   pub wide : All (λ row. n.0 < length row.marks) (marked cells plan.victims n (Leaving w))
 
-module _ (p : Program) (m : Machine) (tasks : List Progress) (cells : List CellState) (nodes : List Store) (workers : List WorkerState) (keeps : Keeps p m (state_in tasks cells nodes workers) nodes) (t : Task) (w : Worker) (claim : CanClaim p m (state_in tasks cells nodes workers) t w) where
+module _ (p : Program) (m : Machine) (tasks : List Progress) (cells : List CellState) (nodes : List Store) (workers : List WorkerState) (keeps : KeepsStores p m (state_in tasks cells nodes workers) nodes) (t : Task) (w : Worker) (claim : CanClaim p m (state_in tasks cells nodes workers) t w) where
   abbrev s : State
   s = state_in tasks cells nodes workers
 
@@ -109,8 +109,8 @@ module _ (p : Program) (m : Machine) (tasks : List Progress) (cells : List CellS
 
 -- ---- as the code has it
 
-module _ (p : Program) (m : Machine) (tasks : List Progress) (cells : List CellState) (nodes : List Store) (workers : List WorkerState) (keeps : Keeps p m (state_in tasks cells nodes workers) nodes) (r : Rows) (same : rows_in p m (state_in tasks cells nodes workers) ≡ r)
-    (t : Task) (w : Worker) (can : CanHappen r (Claim t w)) (x : ClaimPlan) (asked : IsPlan r.program r.machine r.state t w x) (k : Node) (at : k ≡ node_of m w) where
+module _ (p : Program) (m : Machine) (tasks : List Progress) (cells : List CellState) (nodes : List Store) (workers : List WorkerState) (keeps : KeepsStores p m (state_in tasks cells nodes workers) nodes) (r : Rows) (same : rows_in p m (state_in tasks cells nodes workers) ≡ r)
+    (t : Task) (w : Worker) (can : MayHappen r (Claim t w)) (x : ClaimPlan) (asked : IsPlan r.program r.machine r.state t w x) (k : Node) (at : k ≡ node_of m w) where
   abbrev old : State
   old = state_in tasks cells nodes workers
 

@@ -1,6 +1,6 @@
 -- What the end of a run leaves.
 use Rattle.std.proofs.Common.{[], ◌≡◌, ◌≢◌, ◌<◌, ◌≤◌, ◌+◌, ◌-◌, ◌^◌, ◌∙◌, ℕ, Bool, ap, arith, length, List, refl, set, sum_by, sym, subst}
-use Rattle.sj_machine.proofs.Words.{Access, after, CanCount, CanHappen, CanRelease, CanWorkOn, Cell, CellState, Done, End, has_written, HasStores, is_begun, is_valid, is_written, IsSound, Keeps, let_go, Machine, Node, node_of, node_size, order, pins, pins_on, Program, Progress, progress, released, row_at, Rows, Running, scratch, State, state_in, store, Store, store_at, store_of, Task, task_of, tasks_of, tile_bytes, worked_on, Worker, worker_of, worker_state, workers_at, WorkerState, writes, written_cells, written_each, written_once_more}
+use Rattle.sj_machine.proofs.Words.{Access, after, CanCount, MayHappen, CanRelease, CanWorkOn, Cell, CellState, Done, End, has_written, HasStores, is_begun, is_valid, is_written, IsSound, KeepsStores, let_go, Machine, Node, node_of, node_size, order, pins, pins_on, Program, Progress, progress, released, row_at, Rows, Running, scratch, State, state_in, store, Store, store_at, store_of, Task, task_of, tasks_of, tile_bytes, worked_on, Worker, worker_of, worker_state, workers_at, WorkerState, writes, written_cells, written_each, written_once_more}
 use Rattle.sj_machine.proofs.Happening.{AreLeft, All-has, HasStores-set, mark-inside, pinned-entry, may-happen, rows_in, rows-left, store-at, store-same}
 use Rattle.std.specs.{Prelude.All, Prelude.filter}
 use Rattle.std.proofs.lemmas.{Nat.mod_below, List.length-map}
@@ -12,7 +12,7 @@ use Rattle.sj_machine.proofs.{FewPins.few-operands, Loops.rows-written, NodeSums
 use Rattle.sj_machine.proofs.{NodeSums.sum-grown, Unpinning.all-less, Unpinning.can-unpin, Written.can-work}
 use Rattle.sj_machine.proofs.{Written.written-once}
 
-module _ (p : Program) (m : Machine) (tasks : List Progress) (cells : List CellState) (nodes : List Store) (workers : List WorkerState) (keeps : Keeps p m (state_in tasks cells nodes workers) nodes) (r : Rows) (same : rows_in p m (state_in tasks cells nodes workers) ≡ r) (t : Task) (w : Worker) (can : CanHappen r (End t w)) where
+module _ (p : Program) (m : Machine) (tasks : List Progress) (cells : List CellState) (nodes : List Store) (workers : List WorkerState) (keeps : KeepsStores p m (state_in tasks cells nodes workers) nodes) (r : Rows) (same : rows_in p m (state_in tasks cells nodes workers) ≡ r) (t : Task) (w : Worker) (can : MayHappen r (End t w)) where
   abbrev s : State
   s = state_in tasks cells nodes workers
 

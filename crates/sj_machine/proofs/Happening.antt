@@ -1,7 +1,7 @@
 -- What one event leaves: a sound state, and rows of it where the nodes' stores are those of that state.
 use Rattle.std.proofs.Common.{◌≡◌, ◌≢◌, ◌<◌, ◌∙◌, Bool, All, inl, inr, set, ap, arith, false, true, length, List, map, refl, sym, subst, ℕ, zero, suc, [], ◌∷◌, get_or}
 use Rattle.std.proofs.lemmas.List.{ext_get_or, get_or-map, get_or-set_other, get_or-set_same, get_or_past, length-map, length-set}
-use Rattle.sj_machine.proofs.Words.{after, CanHappen, Cell, cell_state, CellState, Coherent, Event, has_cell, has_happened, HasStores, Invalid, is_claimed_by, is_entry, is_running_on, IsSound, Keeps, Machine, mark, Mark, May, Node, node_entry_of, node_of, node_size, NodeEntry, order, order_in, pins, PinsFew, Program, Progress, progress, row_of, Rows, same_cell, State, state_in, store, Store, store_of, tile_bytes, Worker, WorkerState}
+use Rattle.sj_machine.proofs.Words.{after, MayHappen, Cell, cell_state, CellState, Coherent, Event, has_cell, has_happened, HasStores, Invalid, is_claimed_by, is_entry, is_running_on, IsSound, KeepsStores, Machine, mark, Mark, May, Node, node_entry_of, node_of, node_size, NodeEntry, order, order_in, pins, PinsFew, Program, Progress, progress, row_of, Rows, same_cell, State, state_in, store, Store, store_of, tile_bytes, Worker, WorkerState}
 use Rattle.std.proofs.lemmas.{Bool.cases_lt, Bool.false≢true, Bool.or_cases, List.Folds.list_any_at}
 use Rattle.sj_base.proofs.{SameIds.other_node, SameIds.same_cell-itself}
 use Rattle.sj_core.proofs.{Advancing.claimed_by-is, Advancing.running_on-is, Replicas.valid-entry}
@@ -91,11 +91,11 @@ rows_in p m s = record { program = p; machine = m; state = s }
 -- these are the rows that the event leaves
 pub record AreLeft (r : Rows) (e : Event) (p : Program) (m : Machine) (s : State) (nodes : List Store) : Type 0 where
   pub happened : rows_in p m s ≡ has_happened r e
-  pub keeps : Keeps p m s nodes
+  pub keeps : KeepsStores p m s nodes
 
-module _ (p : Program) (m : Machine) (s : State) (h : IsSound p m s) (r : Rows) (same : rows_in p m s ≡ r) (e : Event) (can : CanHappen r e) where
+module _ (p : Program) (m : Machine) (s : State) (h : IsSound p m s) (r : Rows) (same : rows_in p m s ≡ r) (e : Event) (can : MayHappen r e) where
   pub may-happen : May p m s e
-  may-happen = subst (λ (x : Rows). CanHappen x e) (sym same) can
+  may-happen = subst (λ (x : Rows). MayHappen x e) (sym same) can
 
   pub sound-after : IsSound p m (after p m s e)
   sound-after = record { proper = h.proper; machine = h.machine; coherent = Step-keeps_coherence p m h.proper h.machine s e h.coherent may-happen }
@@ -110,5 +110,5 @@ module _ (p : Program) (m : Machine) (s : State) (h : IsSound p m s) (r : Rows) 
       ∙ ap (λ (x : List (List Cell)). let z : State = record now { orders = x } in z) (orders-in p m now nodes stores sound-after.coherent.state.rows.orders) in
       record {
         happened = ap (rows_in p m) is ∙ ap (λ (x : Rows). has_happened x e) same;
-        keeps = subst (λ (z : State). Keeps p m z nodes) (sym is) (record { sound = sound-after; few = few-after p m h.proper s e few; stores = stores });
+        keeps = subst (λ (z : State). KeepsStores p m z nodes) (sym is) (record { sound = sound-after; few = few-after p m h.proper s e few; stores = stores });
       }

@@ -1,6 +1,6 @@
 -- Rows of a run on which nothing has happened.
 use Rattle.std.proofs.Common.{◌≡◌, ◌∙◌, List, [], length, map, replicate, subst, sym, ap}
-use Rattle.sj_machine.proofs.Words.{Cell, CellState, empty, HasStores, idle_row, IsMachineFor, Keeps, Machine, no_copy, Node, node_entry_of, node_size, opening, order, order_in, Program, Progress, Proper, rows_at_start, scratch, State, state_in, Store, store, store_of, Waiting, workers_at, WorkerState}
+use Rattle.sj_machine.proofs.Words.{Cell, CellState, empty, HasStores, idle_row, IsMachineFor, KeepsStores, Machine, no_copy, Node, node_entry_of, node_size, opening, order, order_in, Program, Progress, Proper, rows_at_start, scratch, State, state_in, Store, store, store_of, Waiting, workers_at, WorkerState}
 use Rattle.std.proofs.lemmas.{List.get_or-map, List.length-map, List.length-replicate}
 use Rattle.sj_base.proofs.{Lists.get_or-replicate_same}
 use Rattle.sj_core.proofs.{Opening.no_scratch, Opening.opening-coherent, Sums.sum-nothing}
@@ -9,7 +9,7 @@ use Rattle.sj_machine.proofs.{FewPins.opening-few, Happening.orders-in, Happenin
 -- the rows are those of the opening, and keep what rows keep
 pub record AreFirst (p : Program) (m : Machine) (s : State) (nodes : List Store) : Type 0 where
   pub opened : rows_in p m s ≡ rows_at_start p m
-  pub keeps : Keeps p m s nodes
+  pub keeps : KeepsStores p m s nodes
 
 module _ (p : Program) (m : Machine) (proper : Proper p) (machine : IsMachineFor p m) where
   abbrev first_nodes : List Store
@@ -34,5 +34,5 @@ module _ (p : Program) (m : Machine) (proper : Proper p) (machine : IsMachineFor
       ∙ ap (λ (x : List (List Cell)). let z : State = record (opening p m) { orders = x } in z) (ap (map order_in) as_nodes ∙ orders-in p m (opening p m) first_nodes first_stores (length-replicate (length m.nodes) [])) in
       record {
         opened = ap (rows_in p m) is;
-        keeps = subst (λ (z : State). Keeps p m z nodes) (sym is) (record { sound = record { proper = proper; machine = machine; coherent = opening-coherent p m }; few = opening-few p m; stores = subst (λ (ns : List Store). HasStores p m (opening p m) ns) (sym as_nodes) first_stores });
+        keeps = subst (λ (z : State). KeepsStores p m z nodes) (sym is) (record { sound = record { proper = proper; machine = machine; coherent = opening-coherent p m }; few = opening-few p m; stores = subst (λ (ns : List Store). HasStores p m (opening p m) ns) (sym as_nodes) first_stores });
       }

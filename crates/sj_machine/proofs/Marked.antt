@@ -1,6 +1,6 @@
 -- A node's entries are those of the cells of which the marks tell so.
 use Rattle.std.proofs.Common.{◌≡◌, ◌<◌, List, arith, filter, get_or, length, not, subst, sym, ap, ◌∙◌}
-use Rattle.sj_machine.proofs.Words.{AreMarked, Cell, CellState, distinct, has_entry, is_entry, Keeps, lacking, Machine, mark_at, need_on, Node, node_of, order, pins_on, Program, State, Store, store_of, Task, tile_bytes, to_come, Worker}
+use Rattle.sj_machine.proofs.Words.{AreMarked, Cell, CellState, distinct, has_entry, is_entry, KeepsStores, lacking, Machine, mark_at, need_on, Node, node_of, order, pins_on, Program, State, Store, store_of, Task, tile_bytes, to_come, Worker}
 use Rattle.std.proofs.lemmas.{List.Elements.filter_agree}
 use Rattle.sj_machine.proofs.{ClaimEntries.entries-has, ClaimFinding.need-same, Happening.store-at}
 
@@ -9,7 +9,7 @@ pub lacking-marked : (rows : List CellState) (n : Node) (s : Store) → AreMarke
 lacking-marked rows n s marked cs = filter_agree (λ c. not (is_entry (mark_at rows n c))) (λ c. not (has_entry s.entries c)) (λ c. ap not (sym (marked c))) (distinct cs)
 
 -- so it is of the store of a node in a state
-module _ (p : Program) (m : Machine) (s : State) (nodes : List Store) (keeps : Keeps p m s nodes) (w : Worker) (n : Node) (at : n ≡ node_of m w) (node d : Store) (read : node ≡ get_or nodes n.0 d) where
+module _ (p : Program) (m : Machine) (s : State) (nodes : List Store) (keeps : KeepsStores p m s nodes) (w : Worker) (n : Node) (at : n ≡ node_of m w) (node d : Store) (read : node ≡ get_or nodes n.0 d) where
   node-inside : n.0 < length m.nodes
   node-inside = subst (λ (k : Node). k.0 < length m.nodes) (sym at) (let some = keeps.sound.machine.some_node in omega arith)
 

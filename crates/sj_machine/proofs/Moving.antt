@@ -1,6 +1,6 @@
 -- What the beginning and the end of a move leave, and a drop.
 use Rattle.std.proofs.Common.{◌≡◌, ◌<◌, ◌∙◌, ap, length, List, None, Option, refl, set, slice_index_or, slice_set, Some, sym, subst}
-use Rattle.sj_machine.proofs.Words.{a_transfer, after, arrived, AtNode, CanDrop, CanHappen, Cell, cell_state, CellState, Drop, HasStores, Invalid, is_coming_by, is_leaving, is_leaving_by, IsTransferTo, Keeps, Machine, May, Move, Moved, mover_of, Node, OnDisk, order, pins, pins_on, Place, Program, Progress, row_of, Rows, scratch, State, state_in, Store, store_of, transfer, Transfer, transfer_in, with_mark, with_row, with_row_of, with_transfer, with_transfer_of, Worker, workers_at, WorkerState}
+use Rattle.sj_machine.proofs.Words.{a_transfer, after, arrived, AtNode, CanDrop, MayHappen, Cell, cell_state, CellState, Drop, HasStores, Invalid, is_coming_by, is_leaving, is_leaving_by, IsTransferTo, KeepsStores, Machine, May, Move, Moved, mover_of, Node, OnDisk, order, pins, pins_on, Place, Program, Progress, row_of, Rows, scratch, State, state_in, Store, store_of, transfer, Transfer, transfer_in, with_mark, with_row, with_row_of, with_transfer, with_transfer_of, Worker, workers_at, WorkerState}
 use Rattle.sj_machine.proofs.Happening.{AreLeft, HasStores-same, mark-inside, may-happen, row-at, rows_in, rows-left, store-same}
 use Rattle.std.proofs.lemmas.{Bool.false≢true}
 use Rattle.sj_base.proofs.{Lists.sum_by-agree}
@@ -14,13 +14,13 @@ transfer-store p m s w move n =
     store-same p m n (order s n) _ _ (pins_on m s' n) (pins_on m s n) (sum_by-agree (scratch s') (scratch s) (scratch-same s w move) (workers_at m n))
     (λ c. sum_by-agree (λ v. times (pins s' v) c) (λ v. times (pins s v) c) (λ v. ap (λ (cs : List Cell). times cs c) (pins-same s w move v)) (workers_at m n))
 
-module _ (p : Program) (m : Machine) (tasks : List Progress) (cells : List CellState) (nodes : List Store) (workers : List WorkerState) (keeps : Keeps p m (state_in tasks cells nodes workers) nodes) (r : Rows) (same : rows_in p m (state_in tasks cells nodes workers) ≡ r) where
+module _ (p : Program) (m : Machine) (tasks : List Progress) (cells : List CellState) (nodes : List Store) (workers : List WorkerState) (keeps : KeepsStores p m (state_in tasks cells nodes workers) nodes) (r : Rows) (same : rows_in p m (state_in tasks cells nodes workers) ≡ r) where
   abbrev s : State
   s = state_in tasks cells nodes workers
 
   -- ---- a move begins
 
-  pub begun : (c : Cell) (from to : Place) (w : Worker) → CanHappen r (Move c from to) → mover_of r.state c from to ≡ w → (workers' : List WorkerState) → workers' ≡ with_transfer_of workers w (Some (a_transfer c from to)) → AreLeft r (Move c from to) p m (state_in tasks cells nodes workers') nodes
+  pub begun : (c : Cell) (from to : Place) (w : Worker) → MayHappen r (Move c from to) → mover_of r.state c from to ≡ w → (workers' : List WorkerState) → workers' ≡ with_transfer_of workers w (Some (a_transfer c from to)) → AreLeft r (Move c from to) p m (state_in tasks cells nodes workers') nodes
   begun c from to w can mover workers' is =
       let by : mover_of s c from to ≡ w = ap (λ (x : Rows). mover_of x.state c from to) same ∙ mover in
       let move : Option Transfer = Some (a_transfer c from to) in
@@ -54,13 +54,13 @@ module _ (p : Program) (m : Machine) (tasks : List Progress) (cells : List CellS
         let moved : State = with_row s x.cell (arrived x.to (cell_state s x.cell)) in
         let leaves : after p m s (Moved x.cell x.from x.to) ≡ with_transfer moved w None = ap (λ (v : Worker). with_transfer moved v None) (sym by) in
         let now : May p m s (Moved x.cell x.from x.to) = subst (λ (v : Worker). transfer s v ≡ Some x) by under_way in
-        let can : CanHappen r (Moved x.cell x.from x.to) = subst (λ (y : Rows). CanHappen y (Moved x.cell x.from x.to)) same now in
+        let can : MayHappen r (Moved x.cell x.from x.to) = subst (λ (y : Rows). MayHappen y (Moved x.cell x.from x.to)) same now in
         rows-left p m s keeps.sound r same (Moved x.cell x.from x.to) can keeps.few tasks cells' nodes workers' refl as_cells (as_workers ∙ ap (λ (z : State). z.workers) (sym leaves))
         (subst (λ (z : State). HasStores p m z nodes) (sym leaves) (HasStores-same p m s (with_transfer moved w None) nodes (transfer-store p m moved w None) keeps.stores))
 
   -- ---- a drop
 
-  module _ (c : Cell) (n : Node) (can : CanHappen r (Drop c n)) where
+  module _ (c : Cell) (n : Node) (can : MayHappen r (Drop c n)) where
     drop : CanDrop s c n
     drop = may-happen p m s keeps.sound r same (Drop c n) can
 

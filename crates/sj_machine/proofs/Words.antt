@@ -17,8 +17,8 @@ pub use Rattle.sj_machine.specs.Ending.{CanCount, CanRelease, let_go, released, 
 pub use Rattle.sj_machine.specs.Operands.{CanWorkOn, worked_among}
 pub use Rattle.sj_machine.specs.Plan.{admitting, CanHold, CanTakeAll, ClaimPlan, holding, IsPlan, IsSmallCell, marked, plan_with, row_with, store_at, taken, taking}
 pub use Rattle.sj_machine.specs.Planning.{lacking, need_on}
-pub use Rattle.sj_machine.specs.Rows.{CanHappen, has_happened, Rows, rows_at_start}
+pub use Rattle.sj_machine.specs.Rows.{MayHappen, has_happened, Rows, rows_at_start}
 pub use Rattle.sj_machine.specs.Running.{AreUnpinned, evicted_at, owned_each}
-pub use Rattle.sj_machine.specs.Stores.{AreMarked, HasStores, Keeps, node_entry_of, order_in, pins_on, PinsFew, row_at, state_in, store_of, transfer_in, with_transfer_of}
+pub use Rattle.sj_machine.specs.Stores.{AreMarked, HasStores, KeepsStores, node_entry_of, order_in, pins_on, PinsFew, row_at, state_in, store_of, transfer_in, with_transfer_of}
 pub use Rattle.sj_node.specs.Entry.{AreDistinctCells, has_entry, is_of_cells, NodeEntry, pins_of, put_cells, repinned, total, without_all}
 pub use Rattle.sj_node.specs.Store.{empty, free_bytes, store, Store, with_entries}

@@ -5,6 +5,7 @@ pub mod Gone
 pub mod Operands
 pub mod Plan
 pub mod Planning
+pub mod ReadyTasks
 pub mod Rows
 pub mod Running
 pub mod Stores

@@ -20,7 +20,7 @@ use Rattle.sj_machine.specs.Cells.{mark_at}
 use Rattle.sj_replica.specs.Replica.{CellState}
 use Rattle.sj_machine.specs.Operands.{CanWorkOn}
 use Rattle.sj_machine.specs.Plan.{ClaimPlan, IsPlan, IsSmallCell}
-use Rattle.sj_machine.specs.Rows.{CanHappen, Rows}
+use Rattle.sj_machine.specs.Rows.{MayHappen, Rows}
 use Rattle.sj_machine.specs.declared.plan.Why.{Why}
 use Rattle.sj_machine.specs.declared.plan.Why.TheVariants.{Commute, Leaving, NoRoom}
 
@@ -87,7 +87,7 @@ IsWhy p m s t w NoRoom = CommutersAreFree p s t × IsTrue (none_leaving s (node_
 
 -- the answer to a claim: where it is a plan, the claim can happen and the plan is its; else the reason stands
 pub record IsAnswer (r : Rows) (t : Task) (w : Worker) (answer : Result ClaimPlan Why) : Type 0 where
-  pub can : OnOk answer (CanHappen r (Claim t w))
+  pub can : OnOk answer (MayHappen r (Claim t w))
   pub plan : IfOk answer (IsPlan r.program r.machine r.state t w)
   pub why : IfErr answer (IsWhy r.program r.machine r.state t w)
 

@@ -16,8 +16,8 @@ abbrev pub rows_at_start : Program → Machine → Rows
 rows_at_start p m = record { program = p; machine = m; state = opening p m }
 
 -- the event may happen now
-abbrev pub CanHappen : Rows → Event → Type 0
-CanHappen r e = May r.program r.machine r.state e
+abbrev pub MayHappen : Rows → Event → Type 0
+MayHappen r e = May r.program r.machine r.state e
 
 -- the event has happened
 abbrev pub has_happened : Rows → Event → Rows

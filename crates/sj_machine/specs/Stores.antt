@@ -46,7 +46,7 @@ abbrev pub PinsFew : State → Type 0
 PinsFew s = (w : Worker) → length (pins s w) ≤ 5
 
 -- the state is sound, its pins are few, and the nodes' stores are those of the state
-pub record Keeps (p : Program) (m : Machine) (s : State) (nodes : List Store) : Type 0 where
+pub record KeepsStores (p : Program) (m : Machine) (s : State) (nodes : List Store) : Type 0 where
   pub sound : IsSound p m s
   pub few : PinsFew s
   pub stores : HasStores p m s nodes

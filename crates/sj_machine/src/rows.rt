@@ -14,7 +14,7 @@ ghost use Rattle.sj_machine.specs.Gone.{KnownGone};
 ghost use Rattle.sj_machine.specs.Operands.{CanWorkOn};
 ghost use Rattle.sj_machine.specs.Plan.{IsPlan};
 ghost use Rattle.sj_machine.specs.Planning.{AnotherHasTask, IsAnswer, IsWhy, MayClaim};
-ghost use Rattle.sj_machine.specs.Rows.{AreSound, CanHappen, has_happened, rows_at_start};
+ghost use Rattle.sj_machine.specs.Rows.{AreSound, MayHappen, has_happened, rows_at_start};
 ghost use Rattle.sj_machine.specs.Stores.{transfer_in, with_transfer_of};
 ghost use Rattle.sj_node.specs.Store.{empty};
 ghost use Rattle.sj_replica.specs.Replica.{no_copy};
@@ -56,13 +56,13 @@ pub struct Rows {
 
 impl Model for Rows {
     ghost use Rattle.sj_machine.specs.Rows.{Rows};
-    ghost use Rattle.sj_machine.specs.Stores.{Keeps, state_in};
+    ghost use Rattle.sj_machine.specs.Stores.{KeepsStores, state_in};
 
     ghost Value = { Rows };
 
     ghost view = { λ r. record { program = r.program.value; machine = r.machine; state = state_in r.tasks.items r.cells.items r.nodes.items r.workers.items } };
 
-    ghost invariant = { λ r. Keeps r.program.value r.machine
+    ghost invariant = { λ r. KeepsStores r.program.value r.machine
         (state_in r.tasks.items r.cells.items r.nodes.items r.workers.items) r.nodes.items };
 }
 
@@ -196,7 +196,7 @@ impl Rows {
         w: Worker,
     ) -> Result<Result<Plan, Why>, OutOfMemory>
         requires { MayClaim self.now.program self.now.machine self.now.state t w }
-        ensures can { IfOk result (λ found. OnOk found (CanHappen self.now (Event.Claim t w))) }
+        ensures can { IfOk result (λ found. OnOk found (MayHappen self.now (Event.Claim t w))) }
         ensures plan { IfOk result (λ found. IfOk found
             (IsPlan self.now.program self.now.machine self.now.state t w)) }
         ensures why { IfOk result (λ found. IfErr found
@@ -218,7 +218,7 @@ impl Rows {
     ) -> Result<Result<Plan, Why>, OutOfMemory>
         requires may { MayClaim self.now.program self.now.machine self.now.state t w }
         requires gone { KnownGone self.now.machine self.now.state gone.now }
-        ensures can { IfOk result (λ found. OnOk found (CanHappen self.now (Event.Claim t w))) }
+        ensures can { IfOk result (λ found. OnOk found (MayHappen self.now (Event.Claim t w))) }
         ensures plan { IfOk result (λ found. IfOk found
             (IsPlan self.now.program self.now.machine self.now.state t w)) }
         ensures why { IfOk result (λ found. IfErr found
@@ -258,7 +258,7 @@ impl Rows {
     /// plan's victims leave, and the cells that were missing come. After an `Err` the run is as before: there was no memory
     /// for the entries of these cells. Linear in the operands and the victims.
     pub fn claim(&mut self, t: Task, w: Worker, plan: Plan) -> Result<(), OutOfMemory>
-        requires can { CanHappen self.old (Event.Claim t w) }
+        requires can { MayHappen self.old (Event.Claim t w) }
         requires plan { IsPlan self.old.program self.old.machine self.old.state t w plan }
         ensures ok { OnOk result (self.new ≡ has_happened self.old (Event.Claim t w)) }
         ensures err { OnErr result (self.new ≡ self.old) }
@@ -274,7 +274,7 @@ impl Rows {
 
     /// A worker begins a move of a cell: one that its claim brings, or a victim of its claim. Constant time, and no memory.
     pub fn begin_move(&mut self, w: Worker, cell: Cell, from: Place, to: Place)
-        requires can { CanHappen self.old (Event.Move cell from to) }
+        requires can { MayHappen self.old (Event.Move cell from to) }
         requires mover { mover_of self.old.state cell from to ≡ w }
         ensures { self.new ≡ has_happened self.old (Event.Move cell from to) }
     {
@@ -296,7 +296,7 @@ impl Rows {
 
     /// A leaving copy goes from its node, since there is another and no transfer reads it. Constant time, and no memory.
     pub fn drop_copy(&mut self, cell: Cell, n: Node)
-        requires { CanHappen self.old (Event.Drop cell n) }
+        requires { MayHappen self.old (Event.Drop cell n) }
         ensures { self.new ≡ has_happened self.old (Event.Drop cell n) }
     {
         let row = &mut self.cells[cell.0 as usize];
@@ -306,7 +306,7 @@ impl Rows {
     /// The kernel of a task begins that its worker has claimed: the cells that it writes are its node's own. No memory. Linear
     /// in the operands, and in the nodes for each written one.
     pub fn run(&mut self, t: Task, w: Worker)
-        requires { CanHappen self.old (Event.Run t w) }
+        requires { MayHappen self.old (Event.Run t w) }
         ensures { self.new ≡ has_happened self.old (Event.Run t w) }
     {
         let n = node_of(&self.machine, w);
@@ -320,7 +320,7 @@ impl Rows {
     /// The kernel of a task has ended: the cells that it writes are written once more, and its worker's pins and scratch are
     /// gone. No memory. Linear in the operands.
     pub fn end(&mut self, t: Task, w: Worker)
-        requires { CanHappen self.old (Event.End t w) }
+        requires { MayHappen self.old (Event.End t w) }
         ensures { self.new ≡ has_happened self.old (Event.End t w) }
     {
         let n = node_of(&self.machine, w);

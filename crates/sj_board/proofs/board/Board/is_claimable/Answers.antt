@@ -1,5 +1,5 @@
 use Rattle.std.proofs.Common.{◌∙◌, subst, sym}
-use Rattle.sj_board.specs.ReadyTasks.{IsToBeTaken}
+use Rattle.sj_machine.specs.ReadyTasks.{IsToBeTaken}
 use Rattle.sj_board.specs.Standing.{state}
 use Rattle.sj_board.proofs.Stepping.{ready-counted}
 use Rattle.sj_board.specs.Board.{BoardState}

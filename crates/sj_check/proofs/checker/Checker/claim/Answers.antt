@@ -4,7 +4,7 @@ use Rattle.sj_base.specs.declared.ids.Task.{Task}
 use Rattle.sj_base.specs.declared.trace.Event.TheVariants.{Claim}
 use Rattle.sj_machine.specs.Plan.{ClaimPlan}
 use Rattle.sj_machine.specs.Planning.{IsWhy}
-use Rattle.sj_machine.specs.Rows.{CanHappen, Rows, has_happened}
+use Rattle.sj_machine.specs.Rows.{MayHappen, Rows, has_happened}
 use Rattle.sj_machine.specs.declared.plan.Why.{Why}
 use Rattle.sj_check.proofs.Keeping.{watches-claimed}
 use Rattle.sj_check.proofs.Legality.{why-not}
@@ -24,12 +24,12 @@ returns-in_default c =
 pub invariant_of-self-2 : goal.invariant_of-self-2
 invariant_of-self-2 c =
     let old = c.self.inside in
-    let can = subst (λ (found : Result ClaimPlan Why). OnOk found (CanHappen old.rows (Claim c.args.t c.args.w))) c.in-Ok.is c.in_ok-plan.ensures.can in
+    let can = subst (λ (found : Result ClaimPlan Why). OnOk found (MayHappen old.rows (Claim c.args.t c.args.w))) c.in-Ok.is c.in_ok-plan.ensures.can in
     subst (λ (r : Rows). Watches r old.homes.items c.set_task.new.tasks.items old.deps) (sym c.in_ok-claim.ensures.ok)
     (subst (λ (ts : List (Option Task)). Watches (has_happened old.rows (Claim c.args.t c.args.w)) old.homes.items ts old.deps) (sym c.set_task.ensures)
     (watches-claimed old.rows old.homes.items old.tasks.items old.deps c.self.invariant c.args.t c.args.w c.is_sound.ensures.coherent can))
 
 pub returns : goal.returns
 returns c =
-    let can = subst (λ (found : Result ClaimPlan Why). OnOk found (CanHappen c.self.inside.rows (Claim c.args.t c.args.w))) c.in-Ok.is c.in_ok-plan.ensures.can in
+    let can = subst (λ (found : Result ClaimPlan Why). OnOk found (MayHappen c.self.inside.rows (Claim c.args.t c.args.w))) c.in-Ok.is c.in_ok-plan.ensures.can in
     subst (λ (r : Rows). HappensLegally r (Claim c.args.t c.args.w) c.claim.new.self) c.self.view_is (record { legal = can; happens = c.in_ok-claim.ensures.ok })
