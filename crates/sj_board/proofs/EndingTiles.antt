@@ -243,17 +243,14 @@ module _ {D : Type 0} (size faults mismatches : D → ℕ) (held : D → Option 
   given : AreResultsFor held b t w slots
   given = subst (λ (x : Standing D). AreResultsFor held x t w slots) (sym same) given'
 
-  of : accesses ≡ (task_of rows.program t).accesses
-  of = of_task ∙ ap (λ (x : Program). (task_of x t).accesses) program
-
   pub found-can_put : CanPutBack q w tiles at accesses slots
   found-can_put =
       subst (λ (x : Program). CanPutBack x w tiles at accesses slots) (sym program)
       (subst (λ (j : Node). CanPutBack rows.program w tiles j accesses slots) (sym bound)
-      (subst (λ (l : List Access). CanPutBack rows.program w tiles (node_of rows.machine w) l slots) (sym of) (end-can_put size faults mismatches held b rows tiles trace.spare keeps t w can slots given)))
+      (subst (λ (l : List Access). CanPutBack rows.program w tiles (node_of rows.machine w) l slots) (sym (of_task ∙ ap (λ (x : Program). (task_of x t).accesses) program)) (end-can_put size faults mismatches held b rows tiles trace.spare keeps t w can slots given)))
 
   pub found-keeps_end : (rows' : Rows) (tiles' : List Places) (trace' : Recorded) → rows' ≡ has_happened rows (End t w) → tiles' ≡ put_each at (written_among q w accesses) (arrays slots) tiles → trace'.events ≡ trace.events ++ End t w ∷ [] → trace'.spare + 1 ≡ trace.spare → Keeps size faults mismatches held (standing rows'.program rows'.machine trace' lent opened) rows' tiles' trace'.spare
   found-keeps_end rows' tiles' trace' happened are told left =
       keeps-told size faults mismatches held rows trace lent opened (End t w) (put_each (node_of rows.machine w) (written_cells rows.program t w) (arrays slots) tiles) rows' tiles' trace' happened
-      (are ∙ ap (λ (j : Node). put_each j (written_among q w accesses) (arrays slots) tiles) bound ∙ ap (λ (x : Program). put_each (node_of rows.machine w) (written_among x w accesses) (arrays slots) tiles) program ∙ ap (λ (l : List Access). put_each (node_of rows.machine w) (written_among rows.program w l) (arrays slots) tiles) of) told
+      (are ∙ ap (λ (j : Node). put_each j (written_among q w accesses) (arrays slots) tiles) bound ∙ ap (λ (x : Program). put_each (node_of rows.machine w) (written_among x w accesses) (arrays slots) tiles) program ∙ ap (λ (l : List Access). put_each (node_of rows.machine w) (written_among rows.program w l) (arrays slots) tiles) (of_task ∙ ap (λ (x : Program). (task_of x t).accesses) program)) told
       (keeps-end size faults mismatches held b rows tiles trace.spare keeps t w can slots given trace'.spare left)

@@ -40,10 +40,6 @@ why-not p m s t w (Commute c) is claim = false≢true (sym (found-fails (is_in_u
 why-not p m s t w (Leaving c) is claim = false≢true (sym (settled-at s (node_of m w) c claim.settled) ∙ is.1)
 why-not p m s t w NoRoom is claim = false≢true (sym (ap is_some is.2) ∙ claim.room)
 
-pub waiting-is : (x : Progress) → is_waiting x ≡ true → x ≡ Waiting
-waiting-is Waiting h = refl
-waiting-is x h = absurd (false≢true h)
-
 -- a cell comes by the claim of the task that its worker claimed last
 pub comes-for : (p : Program) (m : Machine) (s : State) → Coherent p m s → (tasks : List (Option Task)) → HasTasks p s tasks → (c : Cell) (n : Node) (w : Worker) → mark s c n ≡ Coming w → (t : Task) × (task_in tasks w ≡ Some t) × (progress s t ≡ Claimed w)
 comes-for p m s coherent tasks has c n w coming =

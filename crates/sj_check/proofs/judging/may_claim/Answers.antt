@@ -3,7 +3,7 @@ use Rattle.std.proofs.lemmas.Bool.{false≢true}
 use Rattle.sj_base.specs.declared.program.Program.{Program}
 use Rattle.sj_core.specs.Needs.{footprint}
 use Rattle.sj_check.proofs.Counting.{ready-counted}
-use Rattle.sj_check.proofs.Legality.{waiting-is}
+use Rattle.sj_core.proofs.Testing.{waiting-is}
 use Rattle.sj_check.proofs.judging.may_claim.Goals as goal
 
 pub returns-then-not-is_ready : goal.returns-then-not-is_ready
