@@ -1,7 +1,8 @@
 -- Fronts of legal traces, and the first event with which a trace isn't legal.
 use Rattle.std.proofs.Common.{◌≡◌, ◌+◌, ◌<◌, ◌≤◌, ◌++◌, ◌∷◌, ◌∙◌, List, None, Some, [], ap, arith, length, suc, subst, sym, take, zero, ℕ}
-use Rattle.std.proofs.lemmas.List.{take_all}
+use Rattle.std.proofs.lemmas.List.{take_all, take_more}
 use Rattle.std.proofs.lemmas.List.Sums.{fold-append}
+use Rattle.std.proofs.lemmas.Option.{get_or_from_slice_get, slice_get_within}
 use Rattle.std.specs.Prelude.{slice_get}
 use Rattle.sj_base.specs.declared.program.Machine.{Machine}
 use Rattle.sj_base.specs.declared.program.Program.{Program}
@@ -14,14 +15,9 @@ use Rattle.sj_machine.specs.Rows.{MayHappen, Rows, has_happened}
 use Rattle.sj_check.specs.Judging.{HappensLegally, IsRefused}
 use Rattle.sj_check.specs.Refusal.{IsFirstBad}
 
-take-one : (trace : List Event) (i : ℕ) (e : Event) → slice_get trace i ≡ Some e → take (suc i) trace ≡ take i trace ++ e ∷ []
-take-one [] i e got = absurd (let no : None ≡ Some e = got in cc)
-take-one (x ∷ trace) zero e got = let same : x ≡ e = (let both : Some x ≡ Some e = got in cc) in ap (λ (y : Event). y ∷ []) same
-take-one (x ∷ trace) (suc i) e got = ap (λ (rest : List Event). x ∷ rest) (take-one trace i e got)
-
 -- one more event of a trace
 take-next : (trace : List Event) (i : ℕ) (e : Event) → slice_get trace i ≡ Some e → take (i + 1) trace ≡ take i trace ++ e ∷ []
-take-next trace i e got = ap (λ (n : ℕ). take n trace) (let more : i + 1 ≡ suc i = omega arith in more) ∙ take-one trace i e got
+take-next trace i e got = take_more trace i e (slice_get_within trace i e got) ∙ ap (λ (x : Event). take i trace ++ x ∷ []) (get_or_from_slice_get trace i e e got)
 
 follow : (p : Program) (m : Machine) (s : State) (trace : List Event) → CanFollow p m s trace → (n : ℕ) → CanFollow p m s (take n trace)
 follow p m s [] legal zero = tt
