@@ -23,7 +23,9 @@ fn a_written_cell_is_evicted_and_fetched_again(rt: HostRuntime) -> Result<(), Ou
     assert_eq!(rt; cell.first_node(), None);
     cell.set_mark(far, Mark::Coming(w));
     cell.set_mark(far, Mark::Valid);
-    assert!(rt; cell.first_node() == Some(far) && cell.is_elsewhere(near) && cell.is_elsewhere(far));
+    assert!(rt;
+        cell.first_node() == Some(far) && cell.is_elsewhere(near) && cell.is_elsewhere(far)
+    );
     Ok(())
 }
 

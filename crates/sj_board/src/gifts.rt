@@ -5,11 +5,11 @@ ghost use Rattle.sj_board.specs.Tiles.{array_in};
 ghost use Rattle.sj_board.specs.Delivered.{gift_in};
 ghost use Rattle.sj_board.specs.Preparing.{delivery_count};
 
+use crate::delivery::is_delivery;
 use sj_base::ids::Worker;
 use sj_base::memory::OutOfMemory;
 use sj_base::program::Program;
 use sj_base::tile::Tile;
-use crate::delivery::is_delivery;
 use std::alloc::Global;
 use std::marker::Model;
 use std::sync::Arc;

@@ -31,10 +31,7 @@ impl Model for CellTiles {
 }
 
 /// No tile in any place. Takes no memory for up to two places. Linear in them.
-fn empty_places(
-    alloc: Global,
-    count: usize,
-) -> Result<SmallVec<Option<Arc<Tile>>, 2>, OutOfMemory>
+fn empty_places(alloc: Global, count: usize) -> Result<SmallVec<Option<Arc<Tile>>, 2>, OutOfMemory>
     ensures { IfOk result (λ v. arrays_in v.items ≡ replicate count None) }
 {
     let mut places = SmallVec::with_capacity(alloc, count)?;

@@ -8,8 +8,8 @@ use crate::engine::RunOutcome;
 use sj_base::trace::Trace;
 use sj_board::board::Board;
 use sj_board::delivered::Delivered;
-use sj_edge::disk::Disk;
 use sj_board::fault::RunFault;
+use sj_edge::disk::Disk;
 use std::alloc::Global;
 
 /// The result of a run that has kept this fault, or none. Constant time.

@@ -14,9 +14,9 @@ ghost use Rattle.sj_engine.specs.Turn.{Happens, IsTurnOf, IsWorkerOf, NothingHap
 use crate::shared_board::SharedBoard;
 use sj_base::ids::{Task, Worker};
 use sj_base::memory::OutOfMemory;
+use sj_board::fault::RunFault;
 use sj_codelet::frame::Frame;
 use sj_edge::disk::Disk;
-use sj_board::fault::RunFault;
 
 impl<D: Disk> SharedBoard<D> {
     /// A worker takes away one of the tasks that its end has released. The cost of `released`.

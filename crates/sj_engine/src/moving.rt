@@ -14,11 +14,11 @@ ghost use Rattle.sj_engine.specs.Turn.{Happens, IsTurnOf, IsWorkerOf, NothingHap
 use crate::shared_board::SharedBoard;
 use sj_base::ids::{Task, Worker};
 use sj_base::tile::Tile;
+use sj_board::fault::RunFault;
 use sj_core::progress::Transfer;
 use sj_disk::refusal::DiskRefusal;
 use sj_disk::unit::Unit;
 use sj_edge::disk::Disk;
-use sj_board::fault::RunFault;
 use std::sync::Arc;
 
 impl<D: Disk> SharedBoard<D> {

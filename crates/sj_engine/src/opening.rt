@@ -9,8 +9,8 @@ ghost use Rattle.sj_board.specs.Sound.{IsRunnableOn};
 
 use sj_base::program::{Machine, Program};
 use sj_board::board::Board;
-use sj_edge::disk::Disk;
 use sj_board::placing::placed;
+use sj_edge::disk::Disk;
 use std::alloc::Global;
 use std::sync::Arc;
 

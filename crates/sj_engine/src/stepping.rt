@@ -20,12 +20,12 @@ use crate::tray::Tray;
 use sj_base::ids::{Cell, Place, Task, Worker};
 use sj_base::memory::OutOfMemory;
 use sj_base::tile::Tile;
+use sj_board::todo::Todo;
 use sj_codelet::frame::Frame;
 use sj_core::progress::Transfer;
 use sj_core::tasks::task_at;
 use sj_disk::unit::Unit;
 use sj_edge::disk::Disk;
-use sj_board::todo::Todo;
 use std::alloc::Global;
 use std::sync::Arc;
 

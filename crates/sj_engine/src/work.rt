@@ -23,13 +23,13 @@ use crate::worker_seat::WorkerSeat;
 use crate::workplace::Workplace;
 use sj_base::ids::Task;
 use sj_base::tile::Tile;
+use sj_board::run_state::measured;
 use sj_codelet::frame::Frame;
 use sj_codelet::set::Codelets;
 use sj_core::progress::Transfer;
 use sj_disk::unit::Unit;
 use sj_edge::disk::Disk;
 use sj_edge::gate::Gate;
-use sj_board::run_state::measured;
 use std::mem;
 use std::sync::{Arc, Wait};
 

@@ -17,8 +17,8 @@ pub loop-cell-init : goal.loop-cell-init
 loop-cell-init c =
     let nothing = c.in_ok-taken.ensures in (
       by_more (disks_after c.args.disks.now c.in_ok-taken.taken.items c.items-cell-items.result.now) c.in_ok-homes.homes.items c.in_ok-homes.ensures.items
-      ∙ ap (λ (ts : List ℕ). disks_after c.args.disks.now ts c.items-cell-items.result.now) (nothing ∙ none-taken c.args.disks.now)
-      ∙ ap (λ (cs : List CellInfo). disks_after c.args.disks.now (map (λ n. 0) c.args.disks.now) cs) c.items-cell-items.ensures,
+          ∙ ap (λ (ts : List ℕ). disks_after c.args.disks.now ts c.items-cell-items.result.now) (nothing ∙ none-taken c.args.disks.now)
+          ∙ ap (λ (cs : List CellInfo). disks_after c.args.disks.now (map (λ n. 0) c.args.disks.now) cs) c.items-cell-items.ensures,
       ap length nothing ∙ length-replicate (length c.args.disks.now) 0,
     )
 
@@ -41,12 +41,13 @@ overflow_cast-d c =
 pub loop-cell-preserved : goal.loop-cell-preserved
 loop-cell-preserved c =
     let room = found-room c.args.disks.now c.loop-cell.taken.items c.deref.result.now c.block_bytes-need.result c.in-Some.d c.first_fit.result c.loop-cell.invariant.1 c.deref.ensures.value c.first_fit.ensures c.in-Some.is in
-    let at = c.index_mut.ensures.value ∙ get_or_default c.loop-cell.taken.items c.in-Some.d c.index_mut.result.now 0 (omega (arith, room.1, c.loop-cell.invariant.1)) in
-    (
+    let at = c.index_mut.ensures.value ∙ get_or_default c.loop-cell.taken.items c.in-Some.d c.index_mut.result.now 0 (omega (arith, room.1, c.loop-cell.invariant.1)) in (
       ap (λ (ds : List DiskNo). behind ds (disks_after c.args.disks.now (set c.loop-cell.taken.items c.in-Some.d (c.index_mut.result.now + c.block_bytes-need.result)) (drop (c.loop-cell.cell-index + 1) c.items-cell-items.result.now))) c.in_ok-push.ensures.items
-      ∙ ap (λ (k : ℕ). behind (c.loop-cell.homes.items ++ (record { 0 = c.in-Some.d }) ∷ []) (disks_after c.args.disks.now (set c.loop-cell.taken.items c.in-Some.d (k + c.block_bytes-need.result)) (drop (c.loop-cell.cell-index + 1) c.items-cell-items.result.now))) at
-      ∙ sym (homes-next c.args.disks.now c.loop-cell.taken.items c.loop-cell.homes.items c.items-cell-items.result.now c.loop-cell.cell-index c.block_bytes-need.result _ c.loop-cell-test.true c.block_bytes-need.ensures.bytes c.in-Some.d room.0)
-      ∙ c.loop-cell.invariant.0, length-set c.loop-cell.taken.items c.in-Some.d _ ∙ c.loop-cell.invariant.1)
+          ∙ ap (λ (k : ℕ). behind (c.loop-cell.homes.items ++ (record { 0 = c.in-Some.d }) ∷ []) (disks_after c.args.disks.now (set c.loop-cell.taken.items c.in-Some.d (k + c.block_bytes-need.result)) (drop (c.loop-cell.cell-index + 1) c.items-cell-items.result.now))) at
+          ∙ sym (homes-next c.args.disks.now c.loop-cell.taken.items c.loop-cell.homes.items c.items-cell-items.result.now c.loop-cell.cell-index c.block_bytes-need.result _ c.loop-cell-test.true c.block_bytes-need.ensures.bytes c.in-Some.d room.0)
+          ∙ c.loop-cell.invariant.0,
+      length-set c.loop-cell.taken.items c.in-Some.d _ ∙ c.loop-cell.invariant.1,
+    )
 
 pub returns-in_default : goal.returns-in_default
 returns-in_default c = c.new.ensures.items ∙ sym (ap (λ (o : Option (List DiskNo)). unwrap_or o []) (sym c.loop-cell.invariant.0 ∙ homes-none c.args.disks.now c.loop-cell.taken.items c.loop-cell.homes.items c.items-cell-items.result.now c.loop-cell.cell-index c.block_bytes-need.result _ c.loop-cell-test.true c.block_bytes-need.ensures.bytes (ap (λ (ts : List ℕ). first_fit c.args.disks.now ts c.block_bytes-need.result) (sym c.deref.ensures.value) ∙ sym c.first_fit.ensures ∙ c.in_default.is)))
