@@ -34,35 +34,21 @@ use Rattle.sj_board.specs.Standing.{AllTell, CanHappen, IsShareOf, IsTileMoved, 
 use Rattle.sj_board.specs.Tiles.{CanShare, HasTiles, tile_at, tile_kept, tiles_of, with_tile, with_tiles_of}
 use Rattle.sj_board.proofs.Answering.{rows-state, to-rows}
 use Rattle.sj_board.proofs.Keeping.{HoldsArray-moved, HoldsBlocks-kept, IsSomeAnd-map, IsStored-kept, copy-on_disk, has-room, keeps-event, sound_state}
-use Rattle.sj_board.proofs.TileTables.{HasTiles-kept, HasTiles-put, Places, tile-cell, tile-place}
+use Rattle.sj_board.proofs.TileTables.{HasTiles-kept, HasTiles-put, Places, wide-at}
 
 same-bool : (x y : Bool) → (x ≡ false → y ≡ false) → (y ≡ false → x ≡ false) → x ≡ y
-same-bool true true f g = refl
-same-bool false false f g = refl
-same-bool false true f g = sym (f refl)
-same-bool true false f g = g refl
+same-bool x y f g = search (arith, cases_Bool)
 
 -- a mark that was written, and the others
 mark-here : (s : State) (c : Cell) (n : Node) (x : Mark) → c.0 < length s.cells → n.0 < length (cell_state s c).marks → mark (with_row s c (with_mark (cell_state s c) n x)) c n ≡ x
-mark-here s c n x inside within = ap (λ (row : CellState). mark_in row n) (get_or-set_same s.cells c.0 (with_mark (cell_state s c) n x) no_row inside) ∙ mark_in-same (cell_state s c) n x within
+mark-here s c n x inside within = search (arith, get_or-set_same, mark_in-same, no_row)
 
 mark-far : (s : State) (c : Cell) (n : Node) (x : Mark) (d : Cell) (k : Node) → ((d ≡ c) × (k ≡ n) → ⊥) → mark (with_row s c (with_mark (cell_state s c) n x)) d k ≡ mark s d k
-mark-far s c n x d k far = elim (mark-cases s c n x d k) [ inl same ↦ same | inr (e, at, is) ↦ absurd (far (e, at)) ]
+mark-far s c n x d k far = search (arith, mark-cases)
 
 -- a node from which a cell is fetched has a copy
 source-there : (p : Program) (m : Machine) (s : State) (c : Cell) (k : Node) → source_of p m s c ≡ Some (AtNode k) → is_valid (mark s c k) ≡ true
-source-there p m s c k source = by_position (position is_valid (cell_state s c).marks) refl source
-  where
-    by_position : (o : Option ℕ) → position is_valid (cell_state s c).marks ≡ o → (elim o as (λ _. Option Place) [ None ↦ option_map OnDisk (disk_of p m c) | Some j ↦ Some (AtNode (record { 0 = j })) ]) ≡ Some (AtNode k) → is_valid (mark s c k) ≡ true
-    by_position None e found = absurd (on_a_disk (disk_of p m c) found)
-      where
-        on_a_disk : (o : Option DiskNo) → option_map OnDisk o ≡ Some (AtNode k) → ⊥
-        on_a_disk None h = cc
-        on_a_disk (Some d) h = cc
-    by_position (Some j) e found =
-        let node : Node = record { 0 = j } in
-        let same : node ≡ k = (let at : Some (AtNode node) ≡ Some (AtNode k) = found in cc) in
-        ap (λ (x : Node). is_valid (mark s c x)) (sym same) ∙ (position-Some is_valid (cell_state s c).marks j Invalid e).1
+source-there p m s c k source = search (arith, position-Some, false≢true)
 
 module _ {D : Type 0} (size faults mismatches : D → ℕ) (held : D → Option (List ℕ)) (b : Standing D) (rows : Rows) (tiles : List Places) (spare : ℕ) (keeps : Keeps size faults mismatches held b rows tiles spare) where
   abbrev p : Program
@@ -80,19 +66,17 @@ module _ {D : Type 0} (size faults mismatches : D → ℕ) (held : D → Option 
   h : IsSound p m s
   h = sound_state size faults mismatches held b rows tiles spare keeps
 
-  -- a mark that isn't that of no copy is one of a cell of the program, at a node of the machine
-  there : (test : Mark → Bool) → test Invalid ≡ false → (c : Cell) (n : Node) → test (mark s c n) ≡ true → (c.0 < length p.cells) × (n.0 < length m.nodes)
+  -- a mark that isn't that of no copy is one of a place of the table
+  there : (test : Mark → Bool) → test Invalid ≡ false → (c : Cell) (n : Node) → test (mark s c n) ≡ true → (c.0 < length tiles) × (n.0 < length (tiles_of tiles c))
   there test none c n passes =
       let inside = mark-inside test none s c n passes in
       let wide : length (cell_state s c).marks ≡ length m.nodes = All-get_or (λ (row : CellState). length row.marks ≡ length m.nodes) s.cells c.0 no_row inside.0 h.coherent.state.rows.marks in
-      (omega (arith, inside.0, h.coherent.state.rows.cells), omega (arith, inside.1, wide))
+      let cell : c.0 < length tiles = omega (arith, inside.0, h.coherent.state.rows.cells, keeps.tiles.every_cell) in
+      (cell, omega (arith, inside.1, wide, wide-at (length m.nodes) tiles c keeps.tiles.every_node cell))
 
   -- a cell with a mark that neither the writer's own nor that of no copy could be isn't being written
   rests : (test : Mark → Bool) → test Valid ≡ false → test Invalid ≡ false → (c : Cell) (n : Node) → test (mark s c n) ≡ true → is_being_written p s c ≡ false
-  rests test valid none c n passes = false_from_ne_true (is_being_written p s c) (λ written.
-      (let by = being_written-by p s c written in
-      let own = h.coherent.writers.owned by.0 _ c by.1 by.2 in
-      false≢true (sym (owned-fails m s c _ own test valid none n) ∙ passes)))
+  rests test valid none c n passes = search (arith, false_from_ne_true, being_written-by, h.coherent.writers.owned, owned-fails, false≢true)
 
   -- ---- a claim
 
@@ -109,14 +93,8 @@ module _ {D : Type 0} (size faults mismatches : D → ℕ) (held : D → Option 
     drop : CanDrop s c n
     drop = can
 
-    inside : (c.0 < length p.cells) × (n.0 < length m.nodes)
-    inside = there is_leaving refl c n drop.leaving
-
-    pub drop-cell : c.0 < length tiles
-    drop-cell = tile-cell p m s s A A (AllTell held b) tiles keeps.tiles (λ d. refl) c n inside.0 inside.1
-
-    pub drop-place : n.0 < length (tiles_of tiles c)
-    drop-place = tile-place p m s s A A (AllTell held b) tiles keeps.tiles (λ d. refl) c n inside.0 inside.1
+    pub drop-place : (c.0 < length tiles) × (n.0 < length (tiles_of tiles c))
+    drop-place = there is_leaving refl c n drop.leaving
 
     pub keeps-drop : (spare' : ℕ) → spare' + 1 ≡ spare → Keeps size faults mismatches held (with_event b (Drop c n)) (has_happened rows (Drop c n)) (with_tiles_of tiles c (λ places. with_tile places n None)) spare'
     keeps-drop spare' left =
@@ -125,7 +103,7 @@ module _ {D : Type 0} (size faults mismatches : D → ℕ) (held : D → Option 
         let at = mark-inside is_leaving refl s c n drop.leaving in
         keeps-event size faults mismatches held b rows tiles spare keeps (Drop c n) (with_tiles_of tiles c (λ places. with_tile places n None)) spare' can
         (HoldsBlocks-kept held p m s s' A (arrays_after p m A (Drop c n)) (AllTell held b) b.disks (λ d k. refl) (λ d on. (sym (on_disk-same s c row refl d) ∙ on, writes-same s c row refl d)) keeps.sound.blocks)
-        (HasTiles-put p m s s' A (arrays_after p m A (Drop c n)) (AllTell held b) tiles keeps.tiles (λ d. refl) c n inside.0 inside.1 None (mark-far s c n Invalid) (λ d k far. refl) (rests is_leaving refl refl c n drop.leaving) (ap is_valid (sym (mark-here s c n Invalid at.0 at.1))) tt (λ tells. tt)) left
+        (HasTiles-put p m s s' A (arrays_after p m A (Drop c n)) (AllTell held b) tiles keeps.tiles (λ d. refl) c n drop-place.0 drop-place.1 None (mark-far s c n Invalid) (λ d k far. refl) (rests is_leaving refl refl c n drop.leaving) (ap is_valid (sym (mark-here s c n Invalid at.0 at.1))) tt (λ tells. tt)) left
 
   -- ---- a move begins
 
@@ -155,13 +133,7 @@ module _ {D : Type 0} (size faults mismatches : D → ℕ) (held : D → Option 
       where
         by_source : (q : Place) → ((n : Node) → q ≡ AtNode n → (is_valid (mark s c n) ≡ true) × (is_being_written p s c ≡ false)) → CanShare tiles c q
         by_source (OnDisk d) reads = tt
-        by_source (AtNode n) reads =
-            let r = reads n refl in
-            let in_range = there is_valid refl c n r.0 in (
-              tile-cell p m s s A A (AllTell held b) tiles keeps.tiles (λ d. refl) c n in_range.0 in_range.1,
-              tile-place p m s s A A (AllTell held b) tiles keeps.tiles (λ d. refl) c n in_range.0 in_range.1,
-              keeps.tiles.there c n r.1 ∙ r.0,
-            )
+        by_source (AtNode n) reads = (let r = reads n refl in let at = there is_valid refl c n r.0 in (at.0, at.1, keeps.tiles.there c n r.1 ∙ r.0))
 
     share-kept : IsShareOf held b c from (tile_kept tiles c from)
     share-kept = by_source from (λ n at. read n at)
@@ -186,14 +158,14 @@ module _ {D : Type 0} (size faults mismatches : D → ℕ) (held : D → Option 
     can-end_in : CanHappen b (Moved c from (AtNode n))
     can-end_in = subst (λ (v : Worker). transfer s v ≡ Some (a_transfer c from (AtNode n))) (one-mover p m s c from (AtNode n) w h.coherent under_way) under_way
 
-    in_range : (c.0 < length p.cells) × (n.0 < length m.nodes)
-    in_range = there (is_coming_by w) refl c n coming
-
     pub in-cell : c.0 < length tiles
-    in-cell = tile-cell p m s s A A (AllTell held b) tiles keeps.tiles (λ d. refl) c n in_range.0 in_range.1
+    in-cell = (there (is_coming_by w) refl c n coming).0
+
+    place : n.0 < length (tiles_of tiles c)
+    place = (there (is_coming_by w) refl c n coming).1
 
     pub in-places : All (λ places. n.0 < length places) tiles
-    in-places = All-weaker (λ (places : Places). length places ≡ length m.nodes) (λ (places : Places). n.0 < length places) (λ places wide. omega (arith, wide, in_range.1)) tiles keeps.tiles.every_node
+    in-places = All-weaker (λ (places : Places). length places ≡ length m.nodes) (λ (places : Places). n.0 < length places) (λ places wide. omega (arith, wide, place, wide-at (length m.nodes) tiles c keeps.tiles.every_node in-cell)) tiles keeps.tiles.every_node
 
     abbrev moved_in : Arrays
     moved_in = arrays_after p m A (Moved c from (AtNode n))
@@ -203,13 +175,7 @@ module _ {D : Type 0} (size faults mismatches : D → ℕ) (held : D → Option 
     array-here = both_pass (same_place (AtNode n) (AtNode n)) (same_cell c c) (A c from) (A c (AtNode n)) (same_place-itself (AtNode n)) (same_cell-itself c)
 
     array-far : (d : Cell) (k : Node) → ((d ≡ c) × (k ≡ n) → ⊥) → moved_in d (AtNode k) ≡ A d (AtNode k)
-    array-far d k far = elim (cases_Bool (same_place (AtNode k) (AtNode n) && same_cell c d)) [
-      | inr other ↦ ap (λ x. cond x (A c from) (A d (AtNode k))) other
-      | inl both ↦
-          let tests = and_parts (same_place (AtNode k) (AtNode n)) (same_cell c d) both in
-          let at : AtNode k ≡ AtNode n = same_place-is (AtNode k) (AtNode n) tests.0 in
-          absurd (far (sym (same_cell-is c d tests.1), (let is : k ≡ n = cc in is)))
-    ]
+    array-far d k far = search (arith, cases_Bool, and_parts, same_place-is, same_cell-is)
 
     pub keeps-moved_in : (tile : Array) → IsTileOf held b c from tile → (spare' : ℕ) → spare' + 1 ≡ spare → Keeps size faults mismatches held (with_event b (Moved c from (AtNode n))) (has_happened rows (Moved c from (AtNode n))) (with_tiles_of tiles c (λ places. with_tile places n (Some tile))) spare'
     keeps-moved_in tile is spare' left =
@@ -218,7 +184,7 @@ module _ {D : Type 0} (size faults mismatches : D → ℕ) (held : D → Option 
         let at = mark-inside (is_coming_by w) refl s c n coming in
         keeps-event size faults mismatches held b rows tiles spare keeps (Moved c from (AtNode n)) (with_tiles_of tiles c (λ places. with_tile places n (Some tile))) spare' can-end_in
         (HoldsBlocks-kept held p m s s' A moved_in (AllTell held b) b.disks (λ d k. refl) (λ d on. (sym (on_disk-same s c row refl d) ∙ on, writes-same s c row refl d)) keeps.sound.blocks)
-        (HasTiles-put p m s s' A moved_in (AllTell held b) tiles keeps.tiles (λ d. refl) c n in_range.0 in_range.1 (Some tile) (mark-far s c n Valid) array-far (rests (is_coming_by w) refl refl c n coming) (ap is_valid (sym (mark-here s c n Valid at.0 at.1))) is.dims (λ tells. is.array tells ∙ sym array-here)) left
+        (HasTiles-put p m s s' A moved_in (AllTell held b) tiles keeps.tiles (λ d. refl) c n in-cell place (Some tile) (mark-far s c n Valid) array-far (rests (is_coming_by w) refl refl c n coming) (ap is_valid (sym (mark-here s c n Valid at.0 at.1))) is.dims (λ tells. is.array tells ∙ sym array-here)) left
 
   -- ---- a move out to a disk ends
 

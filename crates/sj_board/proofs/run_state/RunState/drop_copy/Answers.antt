@@ -1,6 +1,6 @@
 use Rattle.std.proofs.Common.{subst, sym, ap}
 use Rattle.sj_base.specs.declared.trace.Event.TheVariants.{Drop}
-use Rattle.sj_board.proofs.EventTiles.{drop-cell, drop-place, event-room, keeps-drop, now-can, rows-can}
+use Rattle.sj_board.proofs.EventTiles.{drop-place, event-room, keeps-drop, now-can, rows-can}
 use Rattle.sj_board.proofs.Keeping.{keeps-told}
 use Rattle.sj_board.proofs.run_state.RunState.drop_copy.Goals as goal
 
@@ -8,10 +8,10 @@ pub drop_copy-requires : goal.drop_copy-requires
 drop_copy-requires g c = rows-can _ _ _ _ _ _ _ _ c.self.invariant _ c.self.view_is (Drop c.args.cell c.args.n) c.requires
 
 pub clear-requires-clause-cell : goal.clear-requires-clause-cell
-clear-requires-clause-cell g c = drop-cell _ _ _ _ _ _ _ _ c.self.invariant c.args.cell c.args.n (now-can _ _ _ _ _ _ _ _ c.self.invariant _ c.self.view_is (Drop c.args.cell c.args.n) c.requires)
+clear-requires-clause-cell g c = (drop-place _ _ _ _ _ _ _ _ c.self.invariant c.args.cell c.args.n (now-can _ _ _ _ _ _ _ _ c.self.invariant _ c.self.view_is (Drop c.args.cell c.args.n) c.requires)).0
 
 pub clear-requires-clause-node : goal.clear-requires-clause-node
-clear-requires-clause-node g c = drop-place _ _ _ _ _ _ _ _ c.self.invariant c.args.cell c.args.n (now-can _ _ _ _ _ _ _ _ c.self.invariant _ c.self.view_is (Drop c.args.cell c.args.n) c.requires)
+clear-requires-clause-node g c = (drop-place _ _ _ _ _ _ _ _ c.self.invariant c.args.cell c.args.n (now-can _ _ _ _ _ _ _ _ c.self.invariant _ c.self.view_is (Drop c.args.cell c.args.n) c.requires)).1
 
 pub add-requires : goal.add-requires
 add-requires g c = event-room _ _ _ _ _ _ _ _ c.self.invariant _ c.self.view_is (Drop c.args.cell c.args.n) c.requires
