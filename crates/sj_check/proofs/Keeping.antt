@@ -1,5 +1,6 @@
 -- What is kept beside rows, as an event happens.
-use Rattle.std.proofs.Common.{◌≡◌, ◌<◌, ◌∙◌, List, None, Option, Some, [], ap, arith, false, length, refl, replicate, set, subst, sym, true}
+use Rattle.std.proofs.Common.{◌↔◌, ◌≡◌, ◌<◌, ◌∙◌, Contains, List, None, Option, Some, [], ap, arith, false, length, refl, replicate, set, subst, sym, true, ℕ}
+use Rattle.std.specs.List.{slice_index_or}
 use Rattle.std.proofs.lemmas.Bool.{false≢true}
 use Rattle.std.proofs.lemmas.List.{length-replicate}
 use Rattle.sj_base.proofs.Lists.{get_or-replicate_same}
@@ -12,8 +13,9 @@ use Rattle.sj_base.specs.declared.trace.Event.TheVariants.{Claim, End, Run}
 use Rattle.sj_core.proofs.Advancing.{Claims-advances, Ends-advances, Runs-advances}
 use Rattle.sj_core.proofs.Eviction.{evicted-after}
 use Rattle.sj_core.specs.Coherent.{Coherent}
-use Rattle.sj_core.specs.Machine.{is_done, is_task_of, opening, progress}
-use Rattle.sj_core.specs.Step.{after}
+use Rattle.sj_core.specs.Machine.{State, is_done, is_task_of, opening, progress}
+use Rattle.sj_core.specs.Step.{after, done_tasks}
+use Rattle.sj_core.specs.declared.progress.Progress.{Progress}
 use Rattle.sj_core.specs.declared.progress.Progress.TheVariants.{Claimed, Done, Running, Waiting}
 use Rattle.sj_deps.specs.Progress.{Dependencies, after_done, dependencies}
 use Rattle.sj_machine.specs.Rows.{MayHappen, Rows, has_happened, rows_at_start}
@@ -54,6 +56,14 @@ module _ (r : Rows) (homes : List DiskNo) (tasks : List (Option Task)) (deps : D
         claims = tasks-still r.program r.state tasks watches.claims s' t (Running w) (Done w) step (λ v h. absurd (false≢true h));
         counts = counts-ended r.program r.state deps watches.counts s' t (Running w) (Done w) step refl;
       }
+
+-- an event with which no task goes on
+pub watches-still : (r : Rows) (homes : List DiskNo) (tasks : List (Option Task)) (deps : Dependencies) → Watches r homes tasks deps → (new : Rows) (s : State) → new ≡ record r { state = s } → s.tasks ≡ r.state.tasks → Watches new homes tasks deps
+watches-still r homes tasks deps watches new s is same = subst (λ (x : Rows). Watches x homes tasks deps) (sym is) (record {
+  places = watches.places;
+  claims = record { every_worker = watches.claims.every_worker; last = λ w t h. watches.claims.last w t (ap (λ (ts : List Progress). is_task_of w (slice_index_or ts t.0 Waiting)) (sym same) ∙ h) };
+  counts = record { program = watches.counts.program; done = subst (λ (ts : List Progress). (n : ℕ) → Contains deps.done n ↔ Contains (done_tasks (record s { tasks = ts })) n) (sym same) watches.counts.done };
+})
 
 -- nothing has happened
 pub watches-fresh : (p : Program) (m : Machine) (homes : List DiskNo) → AreHomes p m homes → Watches (rows_at_start p m) homes (replicate p.workers None) (dependencies p [])

@@ -1,0 +1,6 @@
+use Rattle.std.proofs.Common.{refl}
+use Rattle.sj_check.proofs.Keeping.{watches-still}
+use Rattle.sj_check.proofs.checker.Checker.discard.Goals as goal
+
+pub invariant_of-self : goal.invariant_of-self
+invariant_of-self c = watches-still c.self.inside.rows c.self.inside.homes.items c.self.inside.tasks.items c.self.inside.deps c.self.invariant c.drop_copy.new.self _ c.drop_copy.ensures refl
