@@ -16,7 +16,7 @@ use Rattle.sj_disk.specs.Directory.{extent_of}
 use Rattle.sj_machine.specs.Choosing.{next_cell}
 use Rattle.sj_machine.specs.Rows.{Rows}
 use Rattle.sj_replica.specs.Replica.{first_node}
-use Rattle.sj_board.specs.NextStep.{Brings, Evicts}
+use Rattle.sj_board.specs.NextStep.{Evicts}
 use Rattle.sj_board.specs.Sound.{IsBlock, Keeps, block_of}
 use Rattle.sj_board.specs.Standing.{Standing, state}
 use Rattle.sj_board.specs.declared.todo.Todo.{Todo}

@@ -1,7 +1,7 @@
 -- What claims, drops and moves leave of a run: its blocks, and its tiles.
-use Rattle.std.proofs.Common.{◌≡◌, ◌<◌, ◌+◌, ◌⊎◌, ℕ, Bool, true, false, List, Option, None, Some, ◌∙◌, ap, arith, cond, inl, inr, is_some, length, position, refl, subst, sym, ◌&&◌}
+use Rattle.std.proofs.Common.{◌≡◌, ◌<◌, ◌+◌, ℕ, Bool, true, false, List, Option, None, Some, ◌∙◌, ap, arith, cond, inl, inr, is_some, length, position, refl, subst, sym, ◌&&◌}
 use Rattle.std.specs.Prelude.{All, IfSome, IsSomeAnd, option_map}
-use Rattle.std.proofs.lemmas.Bool.{and_from, and_parts, cases_Bool, false_from_ne_true, false≢true}
+use Rattle.std.proofs.lemmas.Bool.{and_parts, cases_Bool, false_from_ne_true, false≢true}
 use Rattle.std.proofs.lemmas.List.{get_or-set_same}
 use Rattle.std.proofs.lemmas.List.Elements.{All-get_or, All-weaker}
 use Rattle.std.proofs.lemmas.List.Quantifiers.{position-Some}
@@ -14,13 +14,13 @@ use Rattle.sj_core.proofs.Eviction.{evicted-after}
 use Rattle.sj_core.proofs.Finding.{being_written-by, both_pass, second_fails}
 use Rattle.sj_core.proofs.Placing.{cells_differ, home-is, mark-cases, on_disk-same, owned-fails, row-cases, same_place-is, writes-same}
 use Rattle.sj_core.proofs.Reading.{mark_in-same, no_row}
-use Rattle.sj_core.proofs.Replicas.{leaving-by_some, leaving_by-leaves, leaving_by-valid}
+use Rattle.sj_core.proofs.Replicas.{leaving_by-leaves, leaving_by-valid}
 use Rattle.sj_core.proofs.States.{one-mover}
-use Rattle.sj_core.proofs.Words.{Array, AtNode, Cell, CellState, DiskNo, Machine, Node, OnDisk, Place, Program, State, Task, Worker, cell_state, dims_of, has_copy, is_coming_by, is_leaving, is_leaving_by, is_valid, mark, mark_in, on_disk, same_cell, transfer, with_row, writes}
+use Rattle.sj_core.proofs.Words.{Array, AtNode, Cell, CellState, DiskNo, Machine, Node, OnDisk, Place, Program, State, Task, Worker, cell_state, dims_of, has_copy, is_coming_by, is_leaving, is_leaving_by, is_valid, mark, mark_in, same_cell, transfer, with_row, writes}
 use Rattle.sj_core.specs.Arrays.{Arrays, arrays_after}
 use Rattle.sj_core.specs.Coherent.{is_being_written}
 use Rattle.sj_core.specs.Laws.{IsSound}
-use Rattle.sj_core.specs.Step.{CanDrop, CanMoveIn, CanMoveOut, May, a_transfer, after, disk_of, is_home, mover_of, source_of}
+use Rattle.sj_core.specs.Step.{CanDrop, May, a_transfer, after, disk_of, is_home, mover_of, source_of}
 use Rattle.sj_core.specs.declared.progress.Transfer.{Transfer}
 use Rattle.sj_base.specs.Ids.{same_place}
 use Rattle.sj_disk.specs.Directory.{extent_of}
@@ -31,7 +31,7 @@ use Rattle.sj_replica.specs.declared.mark.Mark.{Mark}
 use Rattle.sj_replica.specs.declared.mark.Mark.TheVariants.{Invalid, Valid}
 use Rattle.sj_board.specs.Sound.{HoldsArray, HoldsBlocks, IsBlockCopyOf, IsStored, IsWrittenOut, Keeps}
 use Rattle.sj_board.specs.Standing.{AllTell, CanHappen, IsShareOf, IsTileMoved, IsTileOf, Standing, run_arrays, state, with_event}
-use Rattle.sj_board.specs.Tiles.{CanShare, HasTiles, tile_at, tile_kept, tiles_of, with_tile, with_tiles_of}
+use Rattle.sj_board.specs.Tiles.{CanShare, tile_at, tile_kept, tiles_of, with_tile, with_tiles_of}
 use Rattle.sj_board.proofs.Answering.{rows-state, to-rows}
 use Rattle.sj_board.proofs.Keeping.{HoldsArray-moved, HoldsBlocks-kept, IsSomeAnd-map, IsStored-kept, copy-on_disk, has-room, keeps-event, sound_state}
 use Rattle.sj_board.proofs.TileTables.{HasTiles-kept, HasTiles-put, Places, wide-at}

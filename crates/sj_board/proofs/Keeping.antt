@@ -1,5 +1,5 @@
 -- What one legal event more leaves: a legal trace, a coherent state, and blocks that stay.
-use Rattle.std.proofs.Common.{◌≡◌, ◌<◌, ◌+◌, ℕ, Bool, true, List, [], ◌∷◌, ◌++◌, length, Option, Some, None, refl, sym, ap, ◌∙◌, subst, arith, ◌&&◌}
+use Rattle.std.proofs.Common.{◌≡◌, ◌<◌, ◌+◌, ℕ, true, List, [], ◌∷◌, ◌++◌, length, Option, Some, None, sym, ap, ◌∙◌, subst, arith}
 use Rattle.std.specs.Prelude.{All, FitsSigned, IsSomeAnd}
 use Rattle.std.specs.Int.{w64}
 use Rattle.std.proofs.lemmas.Bool.{and_from, and_parts}
@@ -21,7 +21,7 @@ use Rattle.sj_disk.specs.Directory.{DiskState, extent_of, last_store}
 use Rattle.sj_disk.specs.Holding.{Holds}
 use Rattle.sj_disk.specs.Lending.{LendingState}
 use Rattle.sj_machine.specs.Rows.{Rows, has_happened}
-use Rattle.sj_board.specs.Sound.{HoldsArray, HoldsBlocks, IsStored, Keeps, rows_of}
+use Rattle.sj_board.specs.Sound.{HoldsArray, HoldsBlocks, IsStored, Keeps}
 use Rattle.sj_board.specs.Standing.{AllTell, CanHappen, Standing, run_arrays, standing, state, with_event}
 use Rattle.sj_board.specs.Tiles.{HasTiles}
 

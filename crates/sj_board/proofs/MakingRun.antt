@@ -1,7 +1,7 @@
 -- A run on which nothing has happened.
-use Rattle.std.proofs.Common.{◌≡◌, ◌≤◌, ◌+◌, ◌∙◌, ℕ, true, false, List, [], Option, None, refl, sym, ap, subst, arith, inl, inr, length, replicate, is_some, ◌&&◌}
+use Rattle.std.proofs.Common.{◌≡◌, ◌≤◌, ◌+◌, ◌∙◌, ℕ, true, false, List, [], Option, None, refl, sym, ap, subst, arith, inl, inr, length, replicate, is_some}
 use Rattle.std.specs.Prelude.{IfSome, IsSomeAnd}
-use Rattle.std.proofs.lemmas.Bool.{and_parts, cases_lt, false≢true}
+use Rattle.std.proofs.lemmas.Bool.{cases_lt, false≢true}
 use Rattle.std.proofs.lemmas.List.{get_or-replicate, get_or_past, length-replicate}
 use Rattle.std.proofs.lemmas.List.Elements.{All-replicate}
 use Rattle.sj_base.proofs.Lists.{get_or-replicate_same}
@@ -10,7 +10,7 @@ use Rattle.sj_base.specs.declared.trace.Event.{Event}
 use Rattle.sj_core.proofs.Finding.{being_written-by}
 use Rattle.sj_core.proofs.Opening.{opening-coherent, opening-content, nowhere}
 use Rattle.sj_core.proofs.Reading.{no_row}
-use Rattle.sj_core.proofs.Words.{Array, AtNode, Cell, CellState, DiskNo, Machine, Node, OnDisk, Program, dims_of, has_copy, is_valid, mark, on_disk, opening, progress}
+use Rattle.sj_core.proofs.Words.{Array, AtNode, Cell, CellState, DiskNo, Machine, Node, OnDisk, Program, dims_of, has_copy, is_valid, on_disk, opening, progress}
 use Rattle.sj_core.specs.Arrays.{Arrays}
 use Rattle.sj_core.specs.Coherent.{is_being_written}
 use Rattle.sj_core.specs.declared.progress.Progress.TheVariants.{Waiting}
@@ -21,7 +21,7 @@ use Rattle.sj_machine.specs.Rows.{Rows, rows_at_start}
 use Rattle.sj_replica.specs.Replica.{no_copy}
 use Rattle.sj_board.specs.Sound.{IsBlock, IsRunnableOn, Keeps, block_of, most_events}
 use Rattle.sj_board.specs.Standing.{AllTell, Standing, run_arrays, standing, starting}
-use Rattle.sj_board.specs.Tiles.{HasTiles, tile_at, tile_in, tiles_of}
+use Rattle.sj_board.specs.Tiles.{HasTiles, tile_at, tile_in}
 use Rattle.sj_board.proofs.Keeping.{copy-on_disk}
 use Rattle.sj_board.proofs.TileTables.{Places}
 

@@ -1,6 +1,6 @@
 -- No event takes away a copy that a task or a transfer works on.
-use Rattle.std.proofs.Common.{◌≡◌, true, false, Option, Some, None, ◌∙◌, ap, inl, inr, nat_eq, sym, subst, ◌||◌, List, ℕ, refl, cond, ◌&&◌}
-use Rattle.std.proofs.lemmas.Bool.{and_from, and_parts, cases_Bool, false≢true, not-true}
+use Rattle.std.proofs.Common.{◌≡◌, true, false, Option, Some, ◌∙◌, ap, inl, inr, nat_eq, sym, subst, ◌||◌, List, ℕ, refl, cond, ◌&&◌}
+use Rattle.std.proofs.lemmas.Bool.{and_parts, cases_Bool, false≢true, not-true}
 use Rattle.std.proofs.lemmas.Bool.Decides.{Decides-eqb}
 use Rattle.sj_base.proofs.SameIds.{same_cell-is}
 use Rattle.sj_base.specs.Array.{Array}
@@ -14,7 +14,7 @@ use Rattle.sj_core.proofs.Readiness.{filter-Contains, list_any-some}
 use Rattle.sj_core.proofs.Replicas.{coming_by-is}
 use Rattle.sj_core.proofs.Running.{run-other, run-stale}
 use Rattle.sj_core.proofs.States.{state_of-more, arrays_of-more}
-use Rattle.sj_core.proofs.Words.{AtNode, Cell, CellState, Claim, DiskNo, Drop, End, Event, Invalid, Machine, Move, Moved, Node, OnDisk, Place, Program, Run, State, Valid, Worker, cell_state, dims_of, fresh_cells, has_cell, has_copy, is_leaving, is_pinned, is_read, is_valid, mark, mark_in, node_of, on_disk, pins, same_cell, stored, transfer, with_mark, with_row, workers_at, workers_of, written_cells, zeros}
+use Rattle.sj_core.proofs.Words.{AtNode, Cell, CellState, Claim, Drop, End, Event, Invalid, Machine, Move, Moved, Node, OnDisk, Place, Program, Run, State, Valid, Worker, cell_state, dims_of, fresh_cells, has_cell, has_copy, is_leaving, is_pinned, is_read, is_valid, mark, mark_in, node_of, on_disk, pins, same_cell, stored, transfer, with_mark, with_row, workers_at, workers_of, written_cells, zeros}
 use Rattle.sj_core.specs.Arrays.{Arrays, arrays_after, held_at, result_in}
 use Rattle.sj_core.specs.Coherent.{IsTransferTo}
 use Rattle.sj_core.specs.Laws.{IsSound}

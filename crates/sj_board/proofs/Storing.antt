@@ -10,11 +10,10 @@ use Rattle.sj_base.specs.Array.{area}
 use Rattle.sj_base.specs.declared.tile.Dims.{Dims}
 use Rattle.sj_base.proofs.Options.{IfSome-at, IfSome-from, IsSomeAnd-from, IsSomeAnd-at}
 use Rattle.sj_core.specs.declared.progress.Transfer.{Transfer}
-use Rattle.sj_core.proofs.Words.{Array, AtNode, Block, Cell, DiskNo, Machine, OnDisk, Place, Program, State, Worker, dims_of, has_copy, on_disk, transfer, writes}
-use Rattle.sj_core.proofs.Placing.{cells_differ, copy-row, home-from, home-is}
-use Rattle.sj_core.proofs.Reading.{transfer-inside}
+use Rattle.sj_core.proofs.Words.{Array, AtNode, Block, Cell, DiskNo, Machine, OnDisk, Place, Program, State, Worker, dims_of, has_copy, transfer, writes}
+use Rattle.sj_core.proofs.Placing.{cells_differ, copy-row, home-is}
 use Rattle.sj_core.specs.Coherent.{IsTransferTo}
-use Rattle.sj_core.specs.Step.{a_transfer, disk_of, is_home}
+use Rattle.sj_core.specs.Step.{a_transfer, disk_of}
 use Rattle.sj_edge.specs.GivenBack.{AreGivenBack, IsGivenBack}
 use Rattle.sj_edge.proofs.GivenBackLemmas.{all_given_back-then}
 use Rattle.sj_disk.specs.declared.directory.Extent.{Extent}

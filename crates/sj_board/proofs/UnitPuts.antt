@@ -4,7 +4,7 @@ use Rattle.std.specs.Prelude.{IfErr, IfSome, IsSome, IsSomeAnd, OnOk, Result, Ok
 use Rattle.sj_base.specs.Array.{Array, area}
 use Rattle.sj_base.proofs.Options.{IfSome-at, IfSome-from, IsSomeAnd-at}
 use Rattle.sj_core.specs.declared.progress.Transfer.{Transfer}
-use Rattle.sj_core.proofs.Words.{Cell, DiskNo, OnDisk, Place, State, Worker, dims_of, has_copy, transfer, writes}
+use Rattle.sj_core.proofs.Words.{Cell, DiskNo, OnDisk, Place, Worker, dims_of, has_copy, transfer, writes}
 use Rattle.sj_core.specs.Step.{a_transfer, disk_of}
 use Rattle.sj_edge.specs.GivenBack.{AreGivenBack}
 use Rattle.sj_disk.specs.declared.directory.Extent.{Extent}

@@ -1,7 +1,6 @@
 -- What a worker does next for the task that it has claimed: its victims go, the least recently used first; then the cells
 -- come that its claim brings, in operand order; then its kernel begins.
-use Rattle.std.specs.Prelude.{◌≡◌, ◌≢◌, Bool, false, not, ◌&&◌, Option, Some, None, ◌⊎◌, IsTrue, IsSomeAnd, MatchBool, MatchOption, find, is_some, reverse, if◌then◌else◌}
-use Rattle.std.specs.List.{list_all}
+use Rattle.std.specs.Prelude.{◌≡◌, ◌≢◌, Bool, false, not, ◌&&◌, Some, None, ◌⊎◌, IsTrue, IsSomeAnd, MatchBool, MatchOption, is_some, if◌then◌else◌}
 use Rattle.sj_base.specs.declared.ids.Cell.{Cell}
 use Rattle.sj_base.specs.declared.ids.Node.{Node}
 use Rattle.sj_base.specs.declared.ids.Task.{Task}

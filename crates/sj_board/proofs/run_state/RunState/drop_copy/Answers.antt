@@ -1,4 +1,3 @@
-use Rattle.std.proofs.Common.{subst, sym, ap}
 use Rattle.sj_base.specs.declared.trace.Event.TheVariants.{Drop}
 use Rattle.sj_board.proofs.EventTiles.{drop-place, event-room, keeps-drop, now-can, rows-can}
 use Rattle.sj_board.proofs.Keeping.{keeps-told}
