@@ -14,7 +14,7 @@ use Rattle.sj_base.specs.declared.mode.Access.{Access}
 use Rattle.sj_codelet.specs.Frame.{Slot, arrays}
 use Rattle.sj_core.specs.declared.progress.Progress.{Progress}
 use Rattle.sj_core.specs.declared.progress.Progress.TheVariants.{Done, Running}
-use Rattle.sj_core.proofs.Words.{Array, AtNode, Cell, CellState, End, Machine, Node, Program, State, Task, Worker, dims_of, has_cell, is_entry, is_task_of, is_valid, mark, node_of, on_disk, progress, same_cell, task_of, worked_on, worker_of, written_cells, zeros}
+use Rattle.sj_core.proofs.Words.{Array, AtNode, Cell, CellState, End, Machine, Node, Program, State, Task, Worker, dims_of, has_cell, is_entry, is_task_of, is_valid, mark, node_of, on_disk, progress, same_cell, task_of, worked_on, worker_of, writes, written_cells, zeros}
 use Rattle.sj_core.proofs.Advancing.{Ends-advances}
 use Rattle.sj_core.proofs.Ending.{end-alone, end-spared_row, end-spares}
 use Rattle.sj_core.proofs.Finding.{being_written-by, being_written-here, both_pass, not_written-before, running-inside, second_fails}
@@ -203,28 +203,10 @@ module _ {D : Type 0} (size faults mismatches : D → ℕ) (held : D → Option 
     tiles-agree = record {
       every_cell = length-put_each n ws xs tiles ∙ keeps.tiles.every_cell;
       every_node = wide-put_each (length m.nodes) n ws xs tiles all-inside keeps.tiles.every_node;
-      there = λ c k rests. elim (cases_Bool (has_cell ws c)) [
-        | inr left ↦ ap is_some (tile-left c k left) ∙ keeps.tiles.there c k (rested c left rests) ∙ ap is_valid (sym (same c k))
-        | inl has ↦ elim (same_node k n) [
-          | inl at ↦ ap is_some (tile-here c k has at) ∙ ap is_valid (sym (ap (mark s' c) at ∙ same c n ∙ (own c has).valid))
-          | inr far ↦ ap is_some (tile-far c k has far) ∙ ap is_valid (sym (same c k ∙ (own c has).only k far))
-        ]
-      ];
+      there = λ c k rests. search (arith, cases_Bool (has_cell ws c), same_node k n, tile-left c k, tile-here c k, tile-far c k, keeps.tiles.there c k, rested c, same c k, own c);
       out = λ c k now. (let both = still-being c now in tile-left c k both.0 ∙ keeps.tiles.out c k both.1);
-      dims = λ c k. elim (cases_Bool (has_cell ws c)) [
-        | inr left ↦ subst (λ (o : Option Array). IfSome o (λ a. a.dims ≡ dims_of p c)) (sym (tile-left c k left)) (keeps.tiles.dims c k)
-        | inl has ↦ elim (same_node k n) [
-          | inl at ↦ subst (λ (o : Option Array). IfSome o (λ a. a.dims ≡ dims_of p c)) (sym (tile-here c k has at)) (put-dims c has)
-          | inr far ↦ subst (λ (o : Option Array). IfSome o (λ a. a.dims ≡ dims_of p c)) (sym (tile-far c k has far)) tt
-        ]
-      ];
-      arrays = λ tells c k. elim (cases_Bool (has_cell ws c)) [
-        | inr left ↦ subst (λ (o : Option Array). IfSome o (λ a. a ≡ A' c (AtNode k))) (sym (tile-left c k left)) (subst (λ (x : Array). IfSome (tile_at tiles c k) (λ a. a ≡ x)) (sym (array-left c k left)) (keeps.tiles.arrays tells c k))
-        | inl has ↦ elim (same_node k n) [
-          | inl at ↦ subst (λ (o : Option Array). IfSome o (λ a. a ≡ A' c (AtNode k))) (sym (tile-here c k has at)) (put-is tells c has ∙ ap (λ (j : Node). A' c (AtNode j)) (sym at))
-          | inr far ↦ subst (λ (o : Option Array). IfSome o (λ a. a ≡ A' c (AtNode k))) (sym (tile-far c k has far)) tt
-        ]
-      ];
+      dims = λ c k. search (arith, cases_Bool (has_cell ws c), same_node k n, tile-left c k, tile-here c k, tile-far c k, keeps.tiles.dims c k, put-dims c);
+      arrays = λ tells c k. search (arith, cases_Bool (has_cell ws c), same_node k n, tile-left c k, tile-here c k, tile-far c k, keeps.tiles.arrays tells c k, array-left c k, put-is tells c);
     }
 
     pub keeps-end : (spare' : ℕ) → spare' + 1 ≡ spare → Keeps size faults mismatches held (with_event b (End t w)) (has_happened rows (End t w)) new spare'

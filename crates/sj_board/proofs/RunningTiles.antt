@@ -136,11 +136,7 @@ module _ {D : Type 0} (size faults mismatches : D → ℕ) (held : D → Option 
   spare-mark c k left = (run-other p m s t w s' run refl c left).marks k
 
   was-being : (c : Cell) → has_cell ws c ≡ false → is_being_written p s' c ≡ true → is_being_written p s c ≡ true
-  was-being c left being =
-      elim (cases_Bool (is_being_written p s c)) [
-        | inl had ↦ had
-        | inr rests ↦ absurd (false≢true (sym (run-rests p m s h t w s' run refl c left rests) ∙ being))
-      ]
+  was-being c left being = search (arith, cases_Bool, run-rests p m s h t w s' run refl c left, false≢true)
 
   -- ---- the blocks
 
@@ -172,18 +168,9 @@ module _ {D : Type 0} (size faults mismatches : D → ℕ) (held : D → Option 
         let left : has_cell ws c ≡ false = run-spared p m s h t w s' run refl c rests in
         ap is_some (tile-left c k left) ∙ keeps.tiles.there c k (run-rested p m s h t w s' run refl c rests) ∙ ap is_valid (sym (spare-mark c k left))
         );
-    out = λ c k being. elim (cases_Bool (has_cell ws c)) [
-      | inl has ↦ tile-out c k has
-      | inr left ↦ tile-left c k left ∙ keeps.tiles.out c k (was-being c left being)
-    ];
-    dims = λ c k. elim (cases_Bool (has_cell ws c)) [
-      | inl has ↦ subst (λ (o : Option Array). IfSome o (λ a. a.dims ≡ dims_of p c)) (sym (tile-out c k has)) tt
-      | inr left ↦ subst (λ (o : Option Array). IfSome o (λ a. a.dims ≡ dims_of p c)) (sym (tile-left c k left)) (keeps.tiles.dims c k)
-    ];
-    arrays = λ tells c k. elim (cases_Bool (has_cell ws c)) [
-      | inl has ↦ subst (λ (o : Option Array). IfSome o (λ a. a ≡ A' c (AtNode k))) (sym (tile-out c k has)) tt
-      | inr left ↦ subst (λ (o : Option Array). IfSome o (λ a. a ≡ A' c (AtNode k))) (sym (tile-left c k left)) (subst (λ (x : Array). IfSome (tile_at tiles c k) (λ a. a ≡ x)) (sym (array-left c k left)) (keeps.tiles.arrays tells c k))
-    ];
+    out = λ c k being. search (arith, cases_Bool (has_cell ws c), tile-out c k, tile-left c k, keeps.tiles.out c k, was-being c);
+    dims = λ c k. search (arith, cases_Bool (has_cell ws c), tile-out c k, tile-left c k, keeps.tiles.dims c k);
+    arrays = λ tells c k. search (arith, cases_Bool (has_cell ws c), tile-out c k, tile-left c k, keeps.tiles.arrays tells c k, array-left c k);
   }
 
   pub keeps-run : (spare' : ℕ) → spare' + 1 ≡ spare → Keeps size faults mismatches held (with_event b (Run t w)) (has_happened rows (Run t w)) new spare'

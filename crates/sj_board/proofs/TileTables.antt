@@ -82,12 +82,6 @@ module _ (p : Program) (m : Machine) (s s' : State) (A A' : Arrays) (Tells : Typ
       every_node = wide-changed (length m.nodes) tiles c (λ places. with_tile places n tile) (λ places. length-set places n.0 tile) inside had.every_node;
       there = λ d k resting. grind (arith, tile-cases tiles c n tile inside place d k, had.there d k, being d, marks d k);
       out = λ d k written. grind (arith, tile-cases tiles c n tile inside place d k, had.out d k, being d);
-      dims = λ d k. elim (tile-cases tiles c n tile inside place d k) [
-        | inl (far, t) ↦ subst (λ (o : Option Array). IfSome o (λ a. a.dims ≡ dims_of p d)) (sym t) (had.dims d k)
-        | inr (e, at, t) ↦ subst (λ (o : Option Array). IfSome o (λ a. a.dims ≡ dims_of p d)) (sym t) (subst (λ (x : Cell). IfSome tile (λ a. a.dims ≡ dims_of p x)) (sym e) dims)
-      ];
-      arrays = λ tells d k. elim (tile-cases tiles c n tile inside place d k) [
-        | inl (far, t) ↦ subst (λ (o : Option Array). IfSome o (λ a. a ≡ A' d (AtNode k))) (sym t) (subst (λ (x : Array). IfSome (tile_at tiles d k) (λ a. a ≡ x)) (sym (same d k far)) (had.arrays tells d k))
-        | inr (e, at, t) ↦ subst (λ (o : Option Array). IfSome o (λ a. a ≡ A' d (AtNode k))) (sym t) (subst (λ (x : Array). IfSome tile (λ a. a ≡ x)) (sym (ap (λ (x : Cell). A' x (AtNode k)) e ∙ ap (λ (j : Node). A' c (AtNode j)) at)) (arrays tells))
-      ];
+      dims = λ d k. search (arith, tile-cases tiles c n tile inside place d k, had.dims d k, dims);
+      arrays = λ tells d k. search (arith, tile-cases tiles c n tile inside place d k, had.arrays tells d k, arrays tells, same d k);
     }
