@@ -1,6 +1,6 @@
 -- What claims, drops and moves leave of a run: its blocks, and its tiles.
-use Rattle.std.proofs.Common.{◌≡◌, ◌<◌, ◌+◌, ℕ, Bool, true, false, List, Option, None, Some, ◌∙◌, ap, arith, cond, inl, inr, is_some, length, position, refl, subst, sym, ◌&&◌}
-use Rattle.std.specs.Prelude.{All, IfSome, IsSomeAnd, option_map}
+use Rattle.std.proofs.Common.{◌≡◌, ◌<◌, ◌+◌, ℕ, Bool, true, false, List, Option, None, Some, ◌∙◌, ap, arith, inl, inr, is_some, length, refl, subst, sym, ◌&&◌}
+use Rattle.std.specs.Prelude.{All, IfSome, IsSomeAnd}
 use Rattle.std.proofs.lemmas.Bool.{and_parts, cases_Bool, false_from_ne_true, false≢true}
 use Rattle.std.proofs.lemmas.List.{get_or-set_same}
 use Rattle.std.proofs.lemmas.List.Elements.{All-get_or, All-weaker}

@@ -1,7 +1,6 @@
 -- The tiles of cells at nodes after some were written, and when they are still those of a state.
-use Rattle.std.proofs.Common.{◌≡◌, ◌≢◌, ◌<◌, ◌⊎◌, ℕ, zero, suc, true, false, List, [], ◌∷◌, Option, None, ◌∙◌, ap, arith, get_or, inl, inr, is_some, length, map, refl, set, subst, sym}
+use Rattle.std.proofs.Common.{◌≡◌, ◌≢◌, ◌<◌, ◌⊎◌, ℕ, zero, suc, false, List, [], ◌∷◌, Option, None, ◌∙◌, ap, arith, get_or, inl, inr, is_some, length, refl, subst, sym}
 use Rattle.std.specs.Prelude.{All, IfSome}
-use Rattle.std.proofs.lemmas.Bool.{false≢true}
 use Rattle.std.proofs.lemmas.List.{get_or-set_other, get_or-set_same, length-map, length-set}
 use Rattle.std.proofs.lemmas.List.Elements.{All-get_or, All-set}
 use Rattle.sj_base.proofs.SameIds.{other_node}
@@ -10,7 +9,7 @@ use Rattle.sj_core.proofs.Placing.{cells_differ}
 use Rattle.sj_core.proofs.Reading.{same_node}
 use Rattle.sj_core.specs.Arrays.{Arrays}
 use Rattle.sj_core.specs.Coherent.{is_being_written}
-use Rattle.sj_board.specs.Tiles.{HasTiles, all_out, out_each, tile_at, tile_in, tiles_of, with_tile, with_tiles_of}
+use Rattle.sj_board.specs.Tiles.{HasTiles, all_out, tile_at, tile_in, tiles_of, with_tile, with_tiles_of}
 
 -- a place for each node
 abbrev pub Places : Type 0
