@@ -1,6 +1,6 @@
 -- The tiles that the end of a kernel's run leaves.
-use Rattle.std.proofs.Common.{◌≡◌, ◌≢◌, ◌<◌, ◌+◌, ℕ, Bool, true, false, List, [], ◌∷◌, ◌++◌, Option, None, Some, ◌∙◌, ap, arith, cond, find, get_or, inl, inr, is_some, length, map, refl, sym, subst, ◌||◌}
-use Rattle.std.specs.Prelude.{All, IfSome}
+use Rattle.std.proofs.Common.{◌≡◌, ◌≢◌, ◌<◌, ◌+◌, ℕ, Bool, true, false, List, [], ◌∷◌, ◌++◌, Option, None, Some, ◌∙◌, ap, arith, cond, find, get_or, inl, inr, length, map, refl, sym, subst, ◌||◌}
+use Rattle.std.specs.Prelude.{All}
 use Rattle.std.specs.List.{AllByRecursion, AllZip, zip}
 use Rattle.std.proofs.lemmas.Bool.{cases_Bool, false≢true}
 use Rattle.std.proofs.lemmas.Nat.{mod_below}
@@ -14,7 +14,7 @@ use Rattle.sj_base.specs.declared.mode.Access.{Access}
 use Rattle.sj_codelet.specs.Frame.{Slot, arrays}
 use Rattle.sj_core.specs.declared.progress.Progress.{Progress}
 use Rattle.sj_core.specs.declared.progress.Progress.TheVariants.{Done, Running}
-use Rattle.sj_core.proofs.Words.{Array, AtNode, Cell, CellState, End, Machine, Node, Program, State, Task, Worker, dims_of, has_cell, is_entry, is_task_of, is_valid, mark, node_of, on_disk, progress, same_cell, task_of, worked_on, worker_of, writes, written_cells, zeros}
+use Rattle.sj_core.proofs.Words.{Array, AtNode, Cell, CellState, End, Machine, Node, Program, State, Task, Worker, dims_of, has_cell, is_entry, is_task_of, mark, node_of, on_disk, progress, same_cell, task_of, worked_on, worker_of, written_cells, zeros}
 use Rattle.sj_core.proofs.Advancing.{Ends-advances}
 use Rattle.sj_core.proofs.Ending.{end-alone, end-spared_row, end-spares}
 use Rattle.sj_core.proofs.Finding.{being_written-by, being_written-here, both_pass, not_written-before, running-inside, second_fails}
