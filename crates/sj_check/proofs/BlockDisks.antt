@@ -1,10 +1,8 @@
 -- The disks of blocks, one cell after another.
-use Rattle.std.proofs.Common.{◌≡◌, ℕ, ◌+◌, ◌<◌, ◌≤◌, ◌++◌, ◌∙◌, List, [], ◌∷◌, None, Option, Some, add-one, ap, arith, drop, drop-cons, get_or, length, map, refl, suc, subst, sym}
+use Rattle.std.proofs.Common.{◌≡◌, ℕ, ◌+◌, ◌<◌, ◌≤◌, ◌++◌, ◌∙◌, List, [], ◌∷◌, None, Option, Some, add-one, ap, drop, drop-cons, get_or, length, map, refl, suc, sym}
 use Rattle.std.proofs.lemmas.List.{append-nil, append_assoc, drop_all}
 use Rattle.std.proofs.lemmas.Option.{slice_get-map}
 use Rattle.std.specs.Prelude.{option_and_then, option_map, slice_get, slice_set, unwrap_or}
-use Rattle.sj_base.proofs.FirstFit.{first_fit-room}
-use Rattle.sj_base.specs.declared.ids.Cell.{Cell}
 use Rattle.sj_base.specs.declared.ids.DiskNo.{DiskNo}
 use Rattle.sj_base.specs.declared.program.CellInfo.{CellInfo}
 use Rattle.sj_base.specs.declared.program.Machine.{Machine}
@@ -54,13 +52,6 @@ homes-each p m homes are = record { each = λ c. ap (λ (ds : List DiskNo). slic
     by_place : (o : Option (List Block)) (n : ℕ) → slice_get (unwrap_or (option_map (map (λ b. b.disk)) o) []) n ≡ option_map (λ b. b.disk) (option_and_then (λ blocks. slice_get blocks n) o)
     by_place None n = refl
     by_place (Some blocks) n = slice_get-map (λ (b : Block). b.disk) blocks n
-
--- the disk that a block gets is one of them, and has room for it
-pub found-room : (sizes taken seen : List ℕ) (need d : ℕ) (found : Option ℕ) → length taken ≡ length sizes → seen ≡ taken → found ≡ first_fit sizes seen need → found ≡ Some d → (first_fit sizes taken need ≡ Some d) × (d < length sizes) × (get_or taken d 0 + need ≤ get_or sizes d 0)
-found-room sizes taken seen need d found long same is some =
-    let fits : first_fit sizes taken need ≡ Some d = ap (λ (ts : List ℕ). first_fit sizes ts need) (sym same) ∙ sym is ∙ some in
-    let room = first_fit-room sizes taken need d long fits in
-    (fits, room.0, room.1)
 
 -- at the end all have theirs
 pub homes-all : (sizes taken : List ℕ) (homes : List DiskNo) (cells : List CellInfo) (i : ℕ) (all : Option (List DiskNo)) → length cells ≤ i → behind homes (disks_after sizes taken (drop i cells)) ≡ all → homes ≡ unwrap_or all []

@@ -1,5 +1,5 @@
 -- The dependencies count the tasks that are done: which tasks are ready, and what is counted as one task goes on.
-use Rattle.std.proofs.Common.{◌↔◌, ◌++◌, ◌∷◌, ◌≡◌, ◌∙◌, Contains, [], ap, arith, false, inl, inr, length, subst, sym, true, ℕ, ◌<◌}
+use Rattle.std.proofs.Common.{◌↔◌, ◌++◌, ◌∷◌, ◌≡◌, ◌∙◌, Contains, [], ap, arith, false, inl, inr, subst, sym, true, ℕ, ◌<◌}
 use Rattle.std.proofs.lemmas.Bool.{false≢true}
 use Rattle.std.proofs.lemmas.List.Elements.{Contains-append_left, Contains-append_right, Contains-push_cases}
 use Rattle.sj_core.proofs.Advancing.{Advances, same_task}
@@ -29,8 +29,11 @@ counts-by_task p s deps same each = record {
 }
 
 module _ (p : Program) (s : State) (deps : Dependencies) (counts : CountsDone p s deps) where
-  each : (u : Task) → Contains deps.done u.0 ↔ (done_in s u ≡ true)
-  each u = (λ c. done_tasks-done s u ((counts.done u.0).0 c), λ h. (counts.done u.0).1 (done_tasks-has s u h))
+  is-done : (u : Task) → Contains deps.done u.0 → done_in s u ≡ true
+  is-done u c = done_tasks-done s u ((counts.done u.0).0 c)
+
+  is-counted : (u : Task) → done_in s u ≡ true → Contains deps.done u.0
+  is-counted u h = (counts.done u.0).1 (done_tasks-has s u h)
 
   -- those that are ready, by the state and by the dependencies
   pub ready-counted : (t : Task) → Ready deps.program deps.done t.0 ↔ Ready p (done_tasks s) t.0
@@ -48,31 +51,22 @@ module _ (p : Program) (s : State) (deps : Dependencies) (counts : CountsDone p 
   })
 
   module _ (s' : State) (t : Task) (old new : Progress) (step : Advances s s' t old new) where
+    alike : is_done old ≡ false → is_done new ≡ false → (u : Task) → done_in s' u ≡ done_in s u
+    alike undone still u = search (arith, same_task)
+
     -- a task goes on that isn't done before or after
     pub counts-still : is_done old ≡ false → is_done new ≡ false → CountsDone p s' deps
-    counts-still undone still = counts-by_task p s' deps counts.program (λ u. (λ c. alike u ∙ (each u).0 c, λ h. (each u).1 (sym (alike u) ∙ h)))
-      where
-        alike : (u : Task) → done_in s' u ≡ done_in s u
-        alike u = elim (same_task u t) as (λ _. done_in s' u ≡ done_in s u) [
-          | inl e ↦ ap (done_in s') e ∙ ap is_done step.is ∙ still ∙ sym undone ∙ sym (ap is_done step.was) ∙ sym (ap (done_in s) e)
-          | inr d ↦ ap is_done (step.others u d)
-        ]
+    counts-still undone still = counts-by_task p s' deps counts.program (λ u. search (arith, alike, is-done, is-counted))
+
+    there : is_done new ≡ true → (u : Task) → Contains (deps.done ++ t.0 ∷ []) u.0 → done_in s' u ≡ true
+    there done u c = elim (same_task u t) as (λ _. done_in s' u ≡ true) [
+      | inl e ↦ ap (done_in s') e ∙ ap is_done step.is ∙ done
+      | inr d ↦ ap is_done (step.others u d) ∙ is-done u (elim (Contains-push_cases deps.done t.0 u.0 c) as (λ _. Contains deps.done u.0) [ inl before ↦ before | inr last ↦ absurd (d (search arith)) ])
+    ]
+
+    back : (u : Task) → done_in s' u ≡ true → Contains (deps.done ++ t.0 ∷ []) u.0
+    back u h = search (arith, same_task, Contains-append_left, Contains-append_right, is-counted)
 
     -- a task is done
     pub counts-ended : is_done new ≡ true → CountsDone p s' (after_done deps t.0)
-    counts-ended done = counts-by_task p s' (after_done deps t.0) counts.program (λ u. (there u, back u))
-      where
-        there : (u : Task) → Contains (deps.done ++ t.0 ∷ []) u.0 → done_in s' u ≡ true
-        there u c = elim (same_task u t) as (λ _. done_in s' u ≡ true) [
-          | inl e ↦ ap (done_in s') e ∙ ap is_done step.is ∙ done
-          | inr d ↦ elim (Contains-push_cases deps.done t.0 u.0 c) as (λ _. done_in s' u ≡ true) [
-            | inl before ↦ ap is_done (step.others u d) ∙ (each u).0 before
-            | inr last ↦ absurd (d (ap (λ (k : ℕ). let x : Task = record { 0 = k } in x) (sym last)))
-          ]
-        ]
-
-        back : (u : Task) → done_in s' u ≡ true → Contains (deps.done ++ t.0 ∷ []) u.0
-        back u h = elim (same_task u t) as (λ _. Contains (deps.done ++ t.0 ∷ []) u.0) [
-          | inl e ↦ Contains-append_right deps.done (t.0 ∷ []) u.0 (0, omega arith, ap (λ (k : Task). k.0) (sym e))
-          | inr d ↦ Contains-append_left deps.done (t.0 ∷ []) u.0 ((each u).1 (ap is_done (sym (step.others u d)) ∙ h))
-        ]
+    counts-ended done = counts-by_task p s' (after_done deps t.0) counts.program (λ u. (there done u, back u))

@@ -1,5 +1,5 @@
 -- What is kept beside rows, as an event happens.
-use Rattle.std.proofs.Common.{◌↔◌, ◌≡◌, ◌<◌, ◌∙◌, Contains, List, None, Option, Some, [], ap, arith, false, length, refl, replicate, set, subst, sym, true, ℕ}
+use Rattle.std.proofs.Common.{◌↔◌, ◌≡◌, ◌∙◌, Contains, List, None, Option, Some, [], ap, arith, length, refl, replicate, set, subst, sym, ℕ}
 use Rattle.std.specs.List.{slice_index_or}
 use Rattle.std.proofs.lemmas.Bool.{false≢true}
 use Rattle.std.proofs.lemmas.List.{length-replicate}
@@ -21,7 +21,7 @@ use Rattle.sj_deps.specs.Progress.{Dependencies, after_done, dependencies}
 use Rattle.sj_machine.specs.Rows.{MayHappen, Rows, has_happened, rows_at_start}
 use Rattle.sj_check.proofs.Counting.{counts-by_task, counts-ended, counts-still}
 use Rattle.sj_check.proofs.Tasks.{tasks-claimed, tasks-still}
-use Rattle.sj_check.specs.Watching.{AreHomes, HasTasks, Watches}
+use Rattle.sj_check.specs.Watching.{AreHomes, Watches}
 
 module _ (r : Rows) (homes : List DiskNo) (tasks : List (Option Task)) (deps : Dependencies) (watches : Watches r homes tasks deps) (t : Task) (w : Worker) where
   -- a worker without a task claims one

@@ -1,5 +1,5 @@
 -- When events are legal in a coherent state, by what is asked of the rows.
-use Rattle.std.proofs.Common.{◌≡◌, ◌≤◌, ◌&&◌, ◌∙◌, Bool, true, false, not, List, [], ◌∷◌, None, Option, Some, ap, cond, inl, inr, is_some, refl, sym, ℕ}
+use Rattle.std.proofs.Common.{◌≡◌, ◌&&◌, ◌∙◌, Bool, true, false, not, List, [], ◌∷◌, Option, Some, ap, cond, is_some, refl, sym}
 use Rattle.std.specs.List.{find, list_all}
 use Rattle.std.proofs.lemmas.Bool.{false≢true}
 use Rattle.std.proofs.lemmas.Option.{none-some}
@@ -14,12 +14,11 @@ use Rattle.sj_core.proofs.Advancing.{claimed-is_mine}
 use Rattle.sj_core.proofs.Reading.{settled-at}
 use Rattle.sj_core.proofs.Replicas.{same_worker-refl}
 use Rattle.sj_core.specs.Coherent.{Coherent}
-use Rattle.sj_core.specs.Machine.{State, is_coming_by, is_task_of, is_waiting, mark, progress}
+use Rattle.sj_core.specs.Machine.{State, is_coming_by, is_task_of, mark, progress}
 use Rattle.sj_core.specs.Needs.{node_of}
 use Rattle.sj_core.specs.Operands.{commuting_cells}
 use Rattle.sj_core.specs.Step.{May, is_in_use}
-use Rattle.sj_core.specs.declared.progress.Progress.{Progress}
-use Rattle.sj_core.specs.declared.progress.Progress.TheVariants.{Claimed, Waiting}
+use Rattle.sj_core.specs.declared.progress.Progress.TheVariants.{Claimed}
 use Rattle.sj_machine.specs.Planning.{IsWhy}
 use Rattle.sj_machine.specs.declared.plan.Why.{Why}
 use Rattle.sj_machine.specs.declared.plan.Why.TheVariants.{Commute, Leaving, NoRoom}

@@ -1,6 +1,5 @@
 -- The task that each worker claimed last, as a task goes on; and whether a worker has a task.
-use Rattle.std.proofs.Common.{◌≡◌, ◌≢◌, ◌<◌, ◌∙◌, List, None, Option, Some, ap, arith, false, inl, inr, length, length-set, not, refl, set, subst, sym, true}
-use Rattle.std.specs.List.{slice_index_or}
+use Rattle.std.proofs.Common.{◌≡◌, ◌≢◌, ◌<◌, ◌∙◌, List, None, Option, Some, ap, arith, false, inl, inr, length, length-set, not, refl, set, sym, true}
 use Rattle.std.proofs.lemmas.Bool.{false_from_ne_true, false≢true}
 use Rattle.std.proofs.lemmas.List.{get_or-set_other, get_or-set_same}
 use Rattle.std.proofs.lemmas.List.Elements.{All-from_get_or}
@@ -24,20 +23,17 @@ module _ (p : Program) (s : State) (tasks : List (Option Task)) (has : HasTasks 
   pub last-tells : (w : Worker) (t : Task) → task_in tasks w ≡ Some t → is_idle s w ≡ not (is_task_of w (progress s t))
   last-tells w t last = by_test (is_task_of w (progress s t)) refl
     where
+      one : (u : Task) → is_task_of w (progress s u) ≡ true → is_task_of w (progress s t) ≡ true
+      one u h = search arith
+
       by_test : (b : _) → is_task_of w (progress s t) ≡ b → is_idle s w ≡ not (is_task_of w (progress s t))
       by_test true mine = false_from_ne_true (is_idle s w) (λ h. false≢true (sym (idle-has_none s w t h) ∙ mine)) ∙ sym (ap not mine)
-      by_test false other = all-idle w (λ u. false_from_ne_true (is_task_of w (progress s u)) (λ h. false≢true (sym other ∙ subst (λ (k : Task). is_task_of w (progress s k) ≡ true) (let both : Some u ≡ Some t = sym (has.last w u h) ∙ last in cc) h))) ∙ sym (ap not other)
+      by_test false other = all-idle w (λ u. false_from_ne_true (is_task_of w (progress s u)) (λ h. false≢true (sym other ∙ one u h))) ∙ sym (ap not other)
 
   module _ (s' : State) (t : Task) (old new : Progress) (step : Advances s s' t old new) where
     -- a task goes on that stays its worker's, or is no worker's any more
     pub tasks-still : ((v : Worker) → is_task_of v new ≡ true → is_task_of v old ≡ true) → HasTasks p s' tasks
-    tasks-still stays = record {
-      every_worker = has.every_worker;
-      last = λ v u h. has.last v u (elim (same_task u t) as (λ _. is_task_of v (progress s u) ≡ true) [
-        | inl e ↦ ap (λ (k : Task). is_task_of v (progress s k)) e ∙ ap (is_task_of v) step.was ∙ stays v (sym (ap (is_task_of v) step.is) ∙ sym (ap (λ (k : Task). is_task_of v (progress s' k)) e) ∙ h)
-        | inr d ↦ ap (is_task_of v) (sym (step.others u d)) ∙ h
-      ]);
-    }
+    tasks-still stays = record { every_worker = has.every_worker; last = λ v u h. search (arith, same_task) }
 
     -- a worker without a task claims one
     pub tasks-claimed : (w : Worker) → new ≡ Claimed w → w.0 < length tasks → is_idle s w ≡ true → HasTasks p s' (set tasks w.0 (Some t))

@@ -1,5 +1,5 @@
 -- Fronts of legal traces, and the first event with which a trace isn't legal.
-use Rattle.std.proofs.Common.{◌≡◌, ◌+◌, ◌<◌, ◌≤◌, ◌++◌, ◌∷◌, ◌∙◌, List, None, Some, [], ap, arith, length, suc, subst, sym, take, zero, ℕ}
+use Rattle.std.proofs.Common.{◌≡◌, ◌+◌, ◌<◌, ◌≤◌, ◌++◌, ◌∷◌, ◌∙◌, List, Some, [], ap, length, suc, subst, sym, take, zero, ℕ}
 use Rattle.std.proofs.lemmas.List.{take_all, take_more}
 use Rattle.std.proofs.lemmas.List.Sums.{fold-append}
 use Rattle.std.proofs.lemmas.Option.{get_or_from_slice_get, slice_get_within}
@@ -10,7 +10,7 @@ use Rattle.sj_base.specs.declared.trace.Event.{Event}
 use Rattle.sj_core.specs.Laws.{TracesGoOn}
 use Rattle.sj_core.specs.Legal.{CanFollow, IsLegal, state_of}
 use Rattle.sj_core.specs.Machine.{State, opening}
-use Rattle.sj_core.specs.Step.{May, after}
+use Rattle.sj_core.specs.Step.{after}
 use Rattle.sj_machine.specs.Rows.{MayHappen, Rows, has_happened}
 use Rattle.sj_check.specs.Judging.{HappensLegally, IsRefused}
 use Rattle.sj_check.specs.Refusal.{IsFirstBad}

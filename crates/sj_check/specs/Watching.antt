@@ -1,5 +1,5 @@
 -- What is kept beside rows whose events are checked.
-use Rattle.std.specs.Prelude.{◌≡◌, ◌↔◌, Contains, IsTrue, List, None, Option, Some, length, slice_get}
+use Rattle.std.specs.Prelude.{◌≡◌, IsTrue, List, None, Option, Some, length, slice_get}
 use Rattle.std.specs.List.{slice_index_or}
 use Rattle.sj_base.specs.declared.ids.Cell.{Cell}
 use Rattle.sj_base.specs.declared.ids.DiskNo.{DiskNo}
@@ -7,7 +7,7 @@ use Rattle.sj_base.specs.declared.ids.Task.{Task}
 use Rattle.sj_base.specs.declared.ids.Worker.{Worker}
 use Rattle.sj_base.specs.declared.program.Machine.{Machine}
 use Rattle.sj_base.specs.declared.program.Program.{Program}
-use Rattle.sj_core.specs.Machine.{State, done_in, is_task_of, progress}
+use Rattle.sj_core.specs.Machine.{State, is_task_of, progress}
 use Rattle.sj_core.specs.Step.{disk_of}
 use Rattle.sj_deps.specs.Progress.{Dependencies}
 use Rattle.sj_machine.specs.ReadyTasks.{CountsDone}

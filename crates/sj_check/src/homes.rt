@@ -1,7 +1,8 @@
 //! On which disk the block of each cell lies.
 
-ghost use Rattle.std.specs.Prelude.{◌≡◌, ◌≤◌, ◌^◌, [], IfOk, length, map, option_map, replicate, unwrap_or};
+ghost use Rattle.std.specs.Prelude.{◌≡◌, ◌+◌, ◌<◌, ◌≤◌, ◌^◌, [], IfOk, IfSome, length, map, option_map, replicate, slice_index_or, unwrap_or};
 ghost use Rattle.sj_base.specs.Array.{area};
+ghost use Rattle.sj_base.specs.FirstFit.{first_fit};
 ghost use Rattle.sj_core.specs.Needs.{cell_block_bytes, place};
 ghost use Rattle.sj_core.specs.Proper.{IsWithinLimits};
 
@@ -27,6 +28,16 @@ fn none_taken(alloc: Global, disks: usize) -> Result<Vec<u64>, OutOfMemory>
     Ok(vec![in alloc; 0u64; disks]?)
 }
 
+/// The first disk that has so many bytes beside those taken. Linear in the disks.
+fn fitting(disks: &[u64], taken: &[u64], need: u64) -> Option<usize>
+    requires { length taken.now ≡ length disks.now }
+    ensures first { result ≡ first_fit disks.now taken.now need }
+    ensures disk { IfSome result (λ d. d < length taken.now) }
+    ensures room { IfSome result (λ d. slice_index_or taken.now d 0 + need < 2 ^ 64) }
+{
+    first_fit(disks, taken, need)
+}
+
 /// The disk of each cell's block, by the cell's number, on disks of these sizes; none at all where one block fits nowhere. Linear
 /// in the cells, for each in the disks, which are few.
 pub fn homes_of(alloc: Global, program: &Program, disks: &[u64]) -> Result<Vec<DiskNo>, OutOfMemory>
@@ -39,7 +50,7 @@ pub fn homes_of(alloc: Global, program: &Program, disks: &[u64]) -> Result<Vec<D
     let mut taken = none_taken(alloc, disks.len())?;
     for cell in program.cells.items() {
         let need = block_bytes(cell);
-        let Some(d) = first_fit(disks, &taken, need) else {
+        let Some(d) = fitting(disks, &taken, need) else {
             return Ok(Vec::new(alloc));
         };
         taken[d] += need;

@@ -1,5 +1,4 @@
-use Rattle.std.proofs.Common.{◌≡◌, ◌∙◌, IsTrue, None, Option, Some, ap, is_some, not, refl, rules, subst, sym}
-use Rattle.sj_base.specs.declared.ids.Place.{Place}
+use Rattle.std.proofs.Common.{◌≡◌, ◌∙◌, IsTrue, None, Some, ap, not, rules, subst, sym}
 use Rattle.sj_base.specs.declared.ids.Worker.{Worker}
 use Rattle.sj_core.proofs.Replicas.{same_worker-refl}
 use Rattle.sj_core.specs.Machine.{is_coming_by, transfer}

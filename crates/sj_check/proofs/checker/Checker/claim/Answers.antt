@@ -1,4 +1,4 @@
-use Rattle.std.proofs.Common.{◌∙◌, List, Option, Result, refl, subst, sym}
+use Rattle.std.proofs.Common.{List, Option, Result, refl, subst, sym}
 use Rattle.std.specs.Prelude.{IfErr, OnOk}
 use Rattle.sj_base.specs.declared.ids.Task.{Task}
 use Rattle.sj_base.specs.declared.trace.Event.TheVariants.{Claim}
@@ -21,15 +21,15 @@ returns-in_default c =
       nothing = refl;
     })
 
+may : (c : goal.After-set_task) → MayHappen c.self.inside.rows (Claim c.args.t c.args.w)
+may c = subst (λ (found : Result ClaimPlan Why). OnOk found (MayHappen c.self.inside.rows (Claim c.args.t c.args.w))) c.in-Ok.is c.in_ok-plan.ensures.can
+
 pub invariant_of-self-2 : goal.invariant_of-self-2
 invariant_of-self-2 c =
     let old = c.self.inside in
-    let can = subst (λ (found : Result ClaimPlan Why). OnOk found (MayHappen old.rows (Claim c.args.t c.args.w))) c.in-Ok.is c.in_ok-plan.ensures.can in
     subst (λ (r : Rows). Watches r old.homes.items c.set_task.new.tasks.items old.deps) (sym c.in_ok-claim.ensures.ok)
     (subst (λ (ts : List (Option Task)). Watches (has_happened old.rows (Claim c.args.t c.args.w)) old.homes.items ts old.deps) (sym c.set_task.ensures)
-    (watches-claimed old.rows old.homes.items old.tasks.items old.deps c.self.invariant c.args.t c.args.w c.is_sound.ensures.coherent can))
+    (watches-claimed old.rows old.homes.items old.tasks.items old.deps c.self.invariant c.args.t c.args.w c.is_sound.ensures.coherent (may c)))
 
 pub returns : goal.returns
-returns c =
-    let can = subst (λ (found : Result ClaimPlan Why). OnOk found (MayHappen c.self.inside.rows (Claim c.args.t c.args.w))) c.in-Ok.is c.in_ok-plan.ensures.can in
-    subst (λ (r : Rows). HappensLegally r (Claim c.args.t c.args.w) c.claim.new.self) c.self.view_is (record { legal = can; happens = c.in_ok-claim.ensures.ok })
+returns c = subst (λ (r : Rows). HappensLegally r (Claim c.args.t c.args.w) c.claim.new.self) c.self.view_is (record { legal = may c; happens = c.in_ok-claim.ensures.ok })
