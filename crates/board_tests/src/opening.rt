@@ -3,6 +3,7 @@
 ghost use Rattle.std.specs.Prelude.{◌≡◌, ◌<◌, ◌≤◌, ◌^◌, ◌∷◌, [], IfOk, None, OnOk, length, map};
 ghost use Rattle.sj_base.specs.declared.ids.Worker.{Worker};
 ghost use Rattle.sj_base.specs.Array.{area};
+ghost use Rattle.sj_codelet.specs.Kernel.{out};
 ghost use Rattle.sj_core.specs.Needs.{AreFootprints};
 ghost use Rattle.sj_core.specs.Proper.{HasSwapFor, IsWithinLimits};
 ghost use Rattle.sj_disk.specs.Directory.{extent_of};
@@ -67,7 +68,7 @@ fn machine_of(
 /// The program of a job text, and the machine that its settings ask for, but for the policy, with one disk of so many bytes.
 fn parts_of(alloc: Global, text: &str, disk: u64, policy: Policy) -> Result<Parts, Fail>
     requires small { disk ≤ 2 ^ 40 }
-    ensures run { IfOk result (λ r. IsRunnableOn r.program.value r.machine) }
+    ensures run { IfOk result (λ r. IsRunnableOn out r.program.value r.machine) }
     ensures footprints { IfOk result (λ r. AreFootprints r.program.value r.footprints.items) }
     ensures disks { IfOk result (λ r. r.machine.disks ≡ disk ∷ []) }
     ensures policy { IfOk result (λ r. r.machine.policy ≡ policy) }
@@ -117,7 +118,7 @@ fn place_cells<D: Disk>(
 
 /// The board of these parts, on which nothing has happened.
 fn board_of<D: Disk>(alloc: Global, parts: Parts, disks: Vec<D>) -> Result<Board<D>, Fail>
-    requires run { IsRunnableOn parts.program.value parts.machine }
+    requires run { IsRunnableOn out parts.program.value parts.machine }
     requires footprints { AreFootprints parts.program.value parts.footprints.items }
     requires sizes { parts.machine.disks ≡ map D.size disks.items }
     ensures free { IfOk result (λ b. (w : Worker) → w.0 < b.run.program.workers → IsFree b w) }

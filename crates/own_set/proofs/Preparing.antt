@@ -4,6 +4,7 @@ use Rattle.std.specs.Prelude.{FitsSigned, IsOkAnd}
 use Rattle.std.specs.Int.{w64}
 use Rattle.sj_base.specs.declared.program.Machine.{Machine}
 use Rattle.sj_base.specs.declared.program.Program.{Program}
+use Rattle.sj_codelet.proofs.NewArrays.{out-makes_tiles}
 use Rattle.sj_core.specs.Needs.{AreFootprints}
 use Rattle.sj_core.specs.Proper.{HasSwapFor, IsMachineFor, Proper}
 use Rattle.sj_meaning.specs.Job.{Job}
@@ -26,6 +27,7 @@ ready-by job j p disks r read is same on proper known arguments few swap listed 
       lawful = record {
         known = subst HasCodelets (sym same) known;
         arguments = subst HasFittingArguments (sym same) arguments;
+        making = λ k h. out-makes_tiles k;
         commuting = turns_commuting;
         contributing = turns_contributing;
         reducing = turns_reducing;

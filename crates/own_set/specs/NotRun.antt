@@ -1,5 +1,6 @@
 -- What is ready to be run, and why a text isn't run.
 use Rattle.std.specs.Prelude.{◌≡◌, ℕ, IsOkAnd, List, Option, Result}
+use Rattle.sj_codelet.specs.Kernel.{out}
 use Rattle.sj_core.specs.Laws.{IsLawful}
 use Rattle.sj_core.specs.Needs.{AreFootprints}
 use Rattle.sj_core.specs.Proper.{HasSwapFor, IsMachineFor, Proper}
@@ -22,7 +23,7 @@ pub record IsSetRun (job : Result Job Refusal) (disks : List ℕ) (r : SetRun) :
   pub program : IsOkAnd job (λ j. r.program.value ≡ small_program j.statements)
   pub machine : r.machine ≡ small_machine disks
   pub proper : Proper r.program.value
-  pub lawful : IsLawful turns_has r.program.value
+  pub lawful : IsLawful out turns_has r.program.value
   pub machine_for : IsMachineFor r.program.value r.machine
   pub swap : HasSwapFor r.program.value r.machine
   pub footprints : AreFootprints r.program.value r.footprints.items

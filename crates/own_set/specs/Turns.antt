@@ -8,7 +8,7 @@ use Rattle.sj_base.specs.declared.program.Machine.{Machine}
 use Rattle.sj_base.specs.declared.program.Program.{Program}
 use Rattle.sj_codelet.specs.declared.kernel.Kernel.{Kernel}
 use Rattle.sj_codelet.specs.declared.kernel.Kernel.TheVariants.{Transpose, Load, LoadFill, Deliver}
-use Rattle.sj_codelet.specs.Kernel.{contributes_of}
+use Rattle.sj_codelet.specs.Kernel.{contributes_of, out}
 use Rattle.sj_codelet.specs.Laws.{CommutingCommute, ContributingContribute, ReductionsReduce}
 use Rattle.sj_core.specs.Laws.{is_known}
 use Rattle.sj_lower.specs.Lowering.{lowered}
@@ -34,17 +34,17 @@ small_machine disks = record { workers = 2; nodes = 96 ∷ []; disks = disks; po
 abbrev pub small_program : List (Statement (List ℕ)) → Program
 small_program ss = lowered ss 2
 
-pub turns_commuting : CommutingCommute turns_has
+pub turns_commuting : CommutingCommute out turns_has
 turns_commuting Transpose h = absurd (false≢true h)
 turns_commuting Load h = absurd (false≢true h)
 turns_commuting LoadFill h = absurd (false≢true h)
 turns_commuting Deliver h = absurd (false≢true h)
 turns_commuting _ h = absurd (false≢true h)
 
-pub turns_contributing : ContributingContribute turns_has
+pub turns_contributing : ContributingContribute out turns_has
 turns_contributing k Plus h = absurd (false≢true (and_parts (turns_has k && contributes_of k Plus) false h).1)
 turns_contributing k Least h = absurd (false≢true (and_parts (turns_has k && contributes_of k Least) false h).1)
 
-pub turns_reducing : ReductionsReduce turns_has
+pub turns_reducing : ReductionsReduce out turns_has
 turns_reducing Plus h = absurd (false≢true h)
 turns_reducing Least h = absurd (false≢true h)

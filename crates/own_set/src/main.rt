@@ -3,6 +3,7 @@
 #![tactic(auto)]
 
 ghost use Rattle.std.specs.Prelude.{◌≡◌, ◌↔◌, ◌≤◌, ◌^◌, ℕ, All, IsOkAnd, IsTrue, IfOk, IfErr, Result, length, map};
+ghost use Rattle.sj_codelet.specs.Kernel.{out};
 ghost use Rattle.sj_edge.specs.Sizes.{AreWithin};
 ghost use Rattle.sj_engine.specs.Outcome.{AllDisksTell};
 ghost use Rattle.sj_meaning.specs.Job.{Job};
@@ -227,7 +228,7 @@ fn run_ready<D: Disk + Send, R: Threads + Wait + Sync>(
     requires ready { (job : Result Job Refusal) × IsSetRun job (map D.size disks.items) ready }
     ensures ok { (job : Result Job Refusal) → IsSetRun job (map D.size disks.items) ready →
         IfOk result.handed (λ handed. IsOkAnd job
-        (λ j. DeliversEach (small_program j.statements) (AllDisksTell D.held disks.items)
+        (λ j. DeliversEach out (small_program j.statements) (AllDisksTell D.held disks.items)
         handed.pairs)) }
     ensures err { (job : Result Job Refusal) → IfErr result.handed (λ e. IsNotRun D.faults
         D.mismatches D.held e job (map D.size disks.items) disks.items result.disks.items) }
@@ -267,7 +268,7 @@ fn run_text<D: Disk + Send, R: Threads + Wait + Sync>(
     requires few { length disks.items ≤ 16 }
     requires small { AreWithin D.size (2 ^ 40) disks.items }
     ensures ok { IfOk result.handed (λ handed. IsOkAnd (job_of turns_has text.now)
-        (λ job. DeliversEach (small_program job.statements)
+        (λ job. DeliversEach out (small_program job.statements)
         (AllDisksTell D.held disks.items) handed.pairs)) }
     ensures err { IfErr result.handed (λ e. IsNotRun D.faults D.mismatches D.held e
         (job_of turns_has text.now) (map D.size disks.items) disks.items result.disks.items) }

@@ -3,6 +3,7 @@ use Rattle.std.proofs.Common.{◌≡◌, ℕ, ◌<◌, Bool, true, false, List, 
 use Rattle.std.specs.Prelude.{IfSome, IsSomeAnd, MatchBool, option_map, position}
 use Rattle.std.proofs.lemmas.Option.{none-some}
 use Rattle.sj_base.specs.Array.{Array}
+use Rattle.sj_codelet.specs.Kernel.{Equations}
 use Rattle.sj_core.proofs.Blocks.{has-disk}
 use Rattle.sj_core.proofs.Placing.{copy-row}
 use Rattle.sj_core.proofs.Reading.{entry-inside, transfer-inside}
@@ -16,15 +17,15 @@ use Rattle.sj_disk.specs.Directory.{extent_of}
 use Rattle.sj_machine.specs.Choosing.{next_cell}
 use Rattle.sj_machine.specs.Rows.{Rows}
 use Rattle.sj_replica.specs.Replica.{first_node}
-use Rattle.sj_board.specs.NextStep.{Brings, Evicts}
+use Rattle.sj_board.specs.NextStep.{Evicts}
 use Rattle.sj_board.specs.Sound.{IsBlock, Keeps, block_of}
-use Rattle.sj_board.specs.Standing.{Standing, state}
+use Rattle.sj_board.specs.Standing.{StandingBy, state}
 use Rattle.sj_board.specs.declared.todo.Todo.{Todo}
 use Rattle.sj_board.specs.declared.todo.Todo.TheVariants.{Discard, Transfer as TransferNext, Wait}
 use Rattle.sj_board.proofs.Keeping.{sound_state}
 use Rattle.sj_board.proofs.NextSteps.{cell-comes}
 
-module _ {D : Type 0} (size faults mismatches : D → ℕ) (held : D → Option (List ℕ)) (b : Standing D) (rows : Rows) (tiles : List (List (Option Array))) (spare : ℕ) (keeps : Keeps size faults mismatches held b rows tiles spare) where
+module _ {D : Type 0} {eq : Equations} (size faults mismatches : D → ℕ) (held : D → Option (List ℕ)) (b : StandingBy eq D) (rows : Rows) (tiles : List (List (Option Array))) (spare : ℕ) (keeps : Keeps size faults mismatches held b rows tiles spare) where
   abbrev p : Program
   p = b.program
 
@@ -41,12 +42,12 @@ module _ {D : Type 0} (size faults mismatches : D → ℕ) (held : D → Option 
   rows-state = ap (λ (r : Rows). r.state) keeps.rows
 
   -- what is so of the rows is so of the run
-  pub from-rows : (b' : Standing D) → b ≡ b' → (P : Program → Machine → State → Type 0) → P rows.program rows.machine rows.state → P b'.program b'.machine (state b')
-  from-rows b' same P told = subst (λ (z : Standing D). P z.program z.machine (state z)) same (subst (λ (r : Rows). P r.program r.machine r.state) keeps.rows told)
+  pub from-rows : (b' : StandingBy eq D) → b ≡ b' → (P : Program → Machine → State → Type 0) → P rows.program rows.machine rows.state → P b'.program b'.machine (state b')
+  from-rows b' same P told = subst (λ (z : StandingBy eq D). P z.program z.machine (state z)) same (subst (λ (r : Rows). P r.program r.machine r.state) keeps.rows told)
 
   -- and the other way round
-  pub to-rows : (b' : Standing D) → b ≡ b' → (P : Program → Machine → State → Type 0) → P b'.program b'.machine (state b') → P rows.program rows.machine rows.state
-  to-rows b' same P told = subst (λ (r : Rows). P r.program r.machine r.state) (sym keeps.rows) (subst (λ (z : Standing D). P z.program z.machine (state z)) (sym same) told)
+  pub to-rows : (b' : StandingBy eq D) → b ≡ b' → (P : Program → Machine → State → Type 0) → P b'.program b'.machine (state b') → P rows.program rows.machine rows.state
+  to-rows b' same P told = subst (λ (r : Rows). P r.program r.machine r.state) (sym keeps.rows) (subst (λ (z : StandingBy eq D). P z.program z.machine (state z)) (sym same) told)
 
   -- a worker with a transfer is one of the program
   pub transfer-staffed : (w : Worker) (x : Transfer) → transfer s w ≡ Some x → w.0 < p.workers
@@ -72,11 +73,11 @@ module _ {D : Type 0} (size faults mismatches : D → ℕ) (held : D → Option 
   leaving-inside c n leaving = omega (arith, copy-row p m s c (AtNode n) (let by = leaving-by_some (mark s c n) leaving in leaving_by-valid by.0 (mark s c n) by.1), keeps.sound.coherent.state.rows.cells)
 
   -- so is one that is brought
-  pub brought-inside : (b' : Standing D) → b ≡ b' → (t : Task) (w : Worker) (c : Cell) → next_cell rows.program rows.machine rows.state t w ≡ Some c → c.0 < length b'.program.cells
+  pub brought-inside : (b' : StandingBy eq D) → b ≡ b' → (t : Task) (w : Worker) (c : Cell) → next_cell rows.program rows.machine rows.state t w ≡ Some c → c.0 < length b'.program.cells
   brought-inside b' same t w c next =
       let comes = cell-comes p m s w t c (subst (λ (r : Rows). next_cell r.program r.machine r.state t w ≡ Some c) keeps.rows next) in
       let there = entry-inside s c (node_of m w) (ap is_entry (coming_by-is w (mark s c (node_of m w)) comes.0)) in
-      subst (λ (z : Standing D). c.0 < length z.program.cells) same (omega (arith, there.0, keeps.sound.coherent.state.rows.cells))
+      subst (λ (z : StandingBy eq D). c.0 < length z.program.cells) same (omega (arith, there.0, keeps.sound.coherent.state.rows.cells))
 
   module _ (c : Cell) (inside : c.0 < length p.cells) where
     -- a cell of the program has its disk in the directory
@@ -85,16 +86,16 @@ module _ {D : Type 0} (size faults mismatches : D → ℕ) (held : D → Option 
 
     -- ---- where the cell is fetched from
 
-    pub source-node : (n : Node) → first_node (cell_state rows.state c) ≡ Some n → (b' : Standing D) → b ≡ b' → source_of b'.program b'.machine (state b') c ≡ Some (AtNode n)
-    source-node n first b' same = subst (λ (z : Standing D). source_of z.program z.machine (state z) c ≡ Some (AtNode n)) same
+    pub source-node : (n : Node) → first_node (cell_state rows.state c) ≡ Some n → (b' : StandingBy eq D) → b ≡ b' → source_of b'.program b'.machine (state b') c ≡ Some (AtNode n)
+    source-node n first b' same = subst (λ (z : StandingBy eq D). source_of z.program z.machine (state z) c ≡ Some (AtNode n)) same
         (by_place (position is_valid (cell_state s c).marks) (sym (ap (λ (z : State). first_node (cell_state z c)) rows-state) ∙ first))
       where
         by_place : (o : Option ℕ) → option_map (λ k. let j : Node = record { 0 = k } in j) o ≡ Some n → (elim o as (λ _. Option Place) [ None ↦ option_map OnDisk (disk_of p m c) | Some k ↦ Some (AtNode (record { 0 = k })) ]) ≡ Some (AtNode n)
         by_place None is = absurd (none-some n is)
         by_place (Some k) is = let j : Node = record { 0 = k } in let at : j ≡ n = cc in ap (λ (i : Node). Some (AtNode i)) at
 
-    pub source-disk : first_node (cell_state rows.state c) ≡ None → (k : DiskNo) → option_map (λ (e : Extent). e.disk) (extent_of b.disks.directory c.0) ≡ Some k → (b' : Standing D) → b ≡ b' → source_of b'.program b'.machine (state b') c ≡ Some (OnDisk k)
-    source-disk first k home b' same = subst (λ (z : Standing D). source_of z.program z.machine (state z) c ≡ Some (OnDisk k)) same
+    pub source-disk : first_node (cell_state rows.state c) ≡ None → (k : DiskNo) → option_map (λ (e : Extent). e.disk) (extent_of b.disks.directory c.0) ≡ Some k → (b' : StandingBy eq D) → b ≡ b' → source_of b'.program b'.machine (state b') c ≡ Some (OnDisk k)
+    source-disk first k home b' same = subst (λ (z : StandingBy eq D). source_of z.program z.machine (state z) c ≡ Some (OnDisk k)) same
         (by_place (position is_valid (cell_state s c).marks) (sym (ap (λ (z : State). first_node (cell_state z c)) rows-state) ∙ first))
       where
         by_place : (o : Option ℕ) → option_map (λ i. let j : Node = record { 0 = i } in j) o ≡ None → (elim o as (λ _. Option Place) [ None ↦ option_map OnDisk (disk_of p m c) | Some i ↦ Some (AtNode (record { 0 = i })) ]) ≡ Some (OnDisk k)
@@ -103,9 +104,9 @@ module _ {D : Type 0} (size faults mismatches : D → ℕ) (held : D → Option 
 
     -- ---- what is done with a victim
 
-    module _ (n : Node) (b' : Standing D) (same : b ≡ b') where
+    module _ (n : Node) (b' : StandingBy eq D) (same : b ≡ b') where
       told : (todo : Todo) → Evicts p m s c n todo → Evicts b'.program b'.machine (state b') c n todo
-      told todo is = subst (λ (z : Standing D). Evicts z.program z.machine (state z) c n todo) same is
+      told todo is = subst (λ (z : StandingBy eq D). Evicts z.program z.machine (state z) c n todo) same is
 
       elsewhere-read : is_elsewhere rows.state c n ≡ is_elsewhere s c n
       elsewhere-read = ap (λ (z : State). is_elsewhere z c n) rows-state

@@ -9,6 +9,7 @@ use Rattle.sj_core.proofs.Eviction.{evicted-after}
 use Rattle.sj_base.specs.declared.program.Lowered.{Lowered}
 use Rattle.sj_base.specs.declared.trace.Event.{Event}
 use Rattle.sj_base.specs.declared.trace.Event.TheVariants.{Claim, End, Moved, Run}
+use Rattle.sj_codelet.specs.Kernel.{Equations}
 use Rattle.sj_core.proofs.Advancing.{Advances, Claims-advances, Ends-advances, Runs-advances, claimed-is_mine, claimed-task_of}
 use Rattle.sj_core.proofs.Claimed.{claimed-inside, claimed-staffed}
 use Rattle.sj_core.proofs.Coherence.{Claims-keeps_coherence}
@@ -29,7 +30,7 @@ use Rattle.sj_board.specs.Delivery.{IsGift, is_deliver_task, is_delivery}
 use Rattle.sj_disk.specs.Directory.{DiskState}
 use Rattle.sj_machine.specs.Planning.{HoldsCommutersAlone}
 use Rattle.sj_board.specs.Sound.{IsSoundRun}
-use Rattle.sj_board.specs.Standing.{AllTell, CanHappen, HasMoved, Standing, starting, state, with_event}
+use Rattle.sj_board.specs.Standing.{AllTell, CanHappen, HasMoved, StandingBy, starting, state, with_event}
 use Rattle.sj_machine.proofs.Commuting.{holds-alone}
 use Rattle.sj_board.proofs.Delivering.{deliver-inside, run-has}
 use Rattle.sj_board.specs.BoardSound.{KeepsEnds, undone}
@@ -42,10 +43,10 @@ use Rattle.sj_base.proofs.Lists.{sum_by-map}
 use Rattle.sj_core.proofs.Opening.{waits}
 
 -- of a run as it stands
-abbrev pub Keeps : {D : Type 0} → (D → Option (List ℕ)) → Standing D → List (Task × Array) → List (Option Array) → ℕ → ℕ → Type 0
-Keeps held run pairs gifts spare left = KeepsEnds run.program (state run) (AllTell held run) pairs gifts spare left
+abbrev pub Keeps : {D : Type 0} {eq : Equations} → (D → Option (List ℕ)) → StandingBy eq D → List (Task × Array) → List (Option Array) → ℕ → ℕ → Type 0
+Keeps {D} {eq} held run pairs gifts spare left = KeepsEnds eq run.program (state run) (AllTell held run) pairs gifts spare left
 
-module _ {D : Type 0} (held : D → Option (List ℕ)) (run : Standing D) (pairs : List (Task × Array)) (gifts : List (Option Array)) (spare left : ℕ) (keeps : KeepsEnds run.program (state run) (AllTell held run) pairs gifts spare left) where
+module _ {D : Type 0} {eq : Equations} (held : D → Option (List ℕ)) (run : StandingBy eq D) (pairs : List (Task × Array)) (gifts : List (Option Array)) (spare left : ℕ) (keeps : KeepsEnds eq run.program (state run) (AllTell held run) pairs gifts spare left) where
   abbrev p : Program
   p = run.program
 
@@ -59,14 +60,14 @@ module _ {D : Type 0} (held : D → Option (List ℕ)) (run : Standing D) (pairs
   now-is e = state_of-more p m run.trace e
 
   -- where all tasks are as they were
-  pub stays : (e : Event) (run' : Standing D) → run' ≡ with_event run e → (after p m s e).tasks ≡ s.tasks → Keeps held run' pairs gifts spare left
-  stays e run' is same = subst (λ (r : Standing D). Keeps held r pairs gifts spare left) (sym is) (ends-same p s (state (with_event run e)) (AllTell held run) pairs gifts spare left keeps (ap (λ (z : State). z.tasks) (now-is e) ∙ same))
+  pub stays : (e : Event) (run' : StandingBy eq D) → run' ≡ with_event run e → (after p m s e).tasks ≡ s.tasks → Keeps held run' pairs gifts spare left
+  stays e run' is same = subst (λ (r : StandingBy eq D). Keeps held r pairs gifts spare left) (sym is) (ends-same eq p s (state (with_event run e)) (AllTell held run) pairs gifts spare left keeps (ap (λ (z : State). z.tasks) (now-is e) ∙ same))
 
-  pub stays-tried : {A E : Type 0} (result : Result A E) (e : Event) (run' : Standing D) → OnOk result (run' ≡ with_event run e) → OnErr result (run' ≡ run) → (after p m s e).tasks ≡ s.tasks → Keeps held run' pairs gifts spare left
+  pub stays-tried : {A E : Type 0} (result : Result A E) (e : Event) (run' : StandingBy eq D) → OnOk result (run' ≡ with_event run e) → OnErr result (run' ≡ run) → (after p m s e).tasks ≡ s.tasks → Keeps held run' pairs gifts spare left
   stays-tried (Ok a) e run' ok err same = stays e run' ok same
-  stays-tried (Err x) e run' ok err same = subst (λ (r : Standing D). Keeps held r pairs gifts spare left) (sym err) keeps
+  stays-tried (Err x) e run' ok err same = subst (λ (r : StandingBy eq D). Keeps held r pairs gifts spare left) (sym err) keeps
 
-  pub stays-moved : (w : Worker) (run' : Standing D) (Q : Transfer → Type 0) → IsSomeAnd (transfer s w) Q → HasMoved w run run' → Keeps held run' pairs gifts spare left
+  pub stays-moved : (w : Worker) (run' : StandingBy eq D) (Q : Transfer → Type 0) → IsSomeAnd (transfer s w) Q → HasMoved w run run' → Keeps held run' pairs gifts spare left
   stays-moved w run' Q some moved = by_move (transfer s w) some moved
     where
       by_move : (o : Option Transfer) → IsSomeAnd o Q → IfSome o (λ x. run' ≡ with_event run (Moved x.cell x.from x.to)) → Keeps held run' pairs gifts spare left
@@ -74,8 +75,8 @@ module _ {D : Type 0} (held : D → Option (List ℕ)) (run : Standing D) (pairs
       by_move (Some x) some is = stays (Moved x.cell x.from x.to) run' is refl
 
   -- where the disks alone change
-  pub stays-stored : (run' : Standing D) → run' ≡ record run { disks = run'.disks; out = run'.out } → Keeps held run' pairs gifts spare left
-  stays-stored run' is = subst (λ (r : Standing D). Keeps held r pairs gifts spare left) (sym is) keeps
+  pub stays-stored : (run' : StandingBy eq D) → run' ≡ record run { disks = run'.disks; out = run'.out } → Keeps held run' pairs gifts spare left
+  stays-stored run' is = subst (λ (r : StandingBy eq D). Keeps held r pairs gifts spare left) (sym is) keeps
 
   module _ (size faults mismatches : D → ℕ) (sound : IsSoundRun size faults mismatches held run) (t : Task) (w : Worker) where
     h : IsSound p m s
@@ -84,19 +85,19 @@ module _ {D : Type 0} (held : D → Option (List ℕ)) (run : Standing D) (pairs
     one : is_task_of w (progress s t) ≡ true → (u : Task) → is_task_of w (progress s u) ≡ true → u ≡ t
     one mine u has = sound.coherent.workers.one_task u t w has mine
 
-    pub stays-claimed : CanHappen run (Claim t w) → (run' : Standing D) → run' ≡ with_event run (Claim t w) → Keeps held run' pairs gifts spare left
+    pub stays-claimed : CanHappen run (Claim t w) → (run' : StandingBy eq D) → run' ≡ with_event run (Claim t w) → Keeps held run' pairs gifts spare left
     stays-claimed can run' is =
-        subst (λ (r : Standing D). Keeps held r pairs gifts spare left) (sym is)
-        (ends-claimed p s (state (with_event run (Claim t w))) (AllTell held run) pairs gifts spare left keeps t w (omega (arith, can.ready.task, sound.coherent.state.rows.tasks))
+        subst (λ (r : StandingBy eq D). Keeps held r pairs gifts spare left) (sym is)
+        (ends-claimed eq p s (state (with_event run (Claim t w))) (AllTell held run) pairs gifts spare left keeps t w (omega (arith, can.ready.task, sound.coherent.state.rows.tasks))
         (subst (λ (z : State). Advances s z t Waiting (Claimed w)) (sym (now-is (Claim t w))) (Claims-advances p m s t w (after p m s (Claim t w)) sound.coherent.state.rows can (evicted-after p m s t w)))
         (ap (λ (z : State). z.tasks) (now-is (Claim t w))))
 
     -- as a task begins to run, with what was taken for it to hand over
-    pub begins : CanHappen run (Run t w) → (gift : Option Array) → IsGift held run t w gift → (run' : Standing D) → run' ≡ with_event run (Run t w) → (gifts' : List (Option Array)) → gifts' ≡ set gifts w.0 gift → Keeps held run' pairs gifts' spare left
+    pub begins : CanHappen run (Run t w) → (gift : Option Array) → IsGift held run t w gift → (run' : StandingBy eq D) → run' ≡ with_event run (Run t w) → (gifts' : List (Option Array)) → gifts' ≡ set gifts w.0 gift → Keeps held run' pairs gifts' spare left
     begins can gift is_gift run' is gifts' kept =
         subst (λ (gs : List (Option Array)). Keeps held run' pairs gs spare left) (sym kept)
-        (subst (λ (r : Standing D). Keeps held r pairs (set gifts w.0 gift) spare left) (sym is)
-        (ends-begun p s (state (with_event run (Run t w))) (AllTell held run) pairs gifts spare left keeps t w (let i = claimed-inside p m s h t w can.claimed in omega (arith, i, sound.coherent.state.rows.tasks))
+        (subst (λ (r : StandingBy eq D). Keeps held r pairs (set gifts w.0 gift) spare left) (sym is)
+        (ends-begun eq p s (state (with_event run (Run t w))) (AllTell held run) pairs gifts spare left keeps t w (let i = claimed-inside p m s h t w can.claimed in omega (arith, i, sound.coherent.state.rows.tasks))
         (subst (λ (z : State). Advances s z t (Claimed w) (Running w)) (sym (now-is (Run t w))) (Runs-advances p m s t w (after p m s (Run t w)) can refl))
         (ap (λ (z : State). z.tasks) (now-is (Run t w)))
         (claimed-staffed p m s h t w can.claimed) (one (claimed-task_of s t w can.claimed)) gift
@@ -132,21 +133,21 @@ module _ {D : Type 0} (held : D → Option (List ℕ)) (run : Standing D) (pairs
       ends-gift = kept-gift size faults mismatches held run sound t w (gift_in gifts w) can (keeps.gifts_kept.kept w t can)
 
       pub ends-has_room : is_some (gift_in gifts w) ≡ true → 0 < spare
-      ends-has_room = ends-spare p s s' (AllTell held run) pairs gifts spare left keeps t w row step set-is staffed inside alone
+      ends-has_room = ends-spare eq p s s' (AllTell held run) pairs gifts spare left keeps t w row step set-is staffed inside alone
 
       pub ends-some : 0 < left
-      ends-some = ends-some_left p s s' (AllTell held run) pairs gifts spare left keeps t w row step set-is staffed inside alone
+      ends-some = ends-some_left eq p s s' (AllTell held run) pairs gifts spare left keeps t w row step set-is staffed inside alone
 
-      pub ends : (run' : Standing D) → run' ≡ with_event run (End t w) → (pairs' : List (Task × Array)) → pairs' ≡ pairs ++ handed t (gift_in gifts w) → (gifts' : List (Option Array)) → gifts' ≡ set gifts w.0 None → (spare' : ℕ) → spare' + length (handed t (gift_in gifts w)) ≡ spare → Keeps held run' pairs' gifts' spare' (left - 1)
+      pub ends : (run' : StandingBy eq D) → run' ≡ with_event run (End t w) → (pairs' : List (Task × Array)) → pairs' ≡ pairs ++ handed t (gift_in gifts w) → (gifts' : List (Option Array)) → gifts' ≡ set gifts w.0 None → (spare' : ℕ) → spare' + length (handed t (gift_in gifts w)) ≡ spare → Keeps held run' pairs' gifts' spare' (left - 1)
       ends run' is pairs' more gifts' gone spare' room =
-          subst (λ (r : Standing D). Keeps held r pairs' gifts' spare' (left - 1)) (sym is)
+          subst (λ (r : StandingBy eq D). Keeps held r pairs' gifts' spare' (left - 1)) (sym is)
           (subst (λ (ds : List (Task × Array)). Keeps held (with_event run (End t w)) ds gifts' spare' (left - 1)) (sym more)
           (subst (λ (gs : List (Option Array)). Keeps held (with_event run (End t w)) (pairs ++ handed t (gift_in gifts w)) gs spare' (left - 1)) (sym gone)
-          (ends-ended p s s' (AllTell held run) pairs gifts spare left keeps t w row step set-is staffed inside alone spare' room)))
+          (ends-ended eq p s s' (AllTell held run) pairs gifts spare left keeps t w row step set-is staffed inside alone spare' room)))
 
   -- where all tasks are done, each deliver task has handed over
-  pub closes : (size faults mismatches : D → ℕ) → IsSoundRun size faults mismatches held run → IsComplete s → DeliversEach p (AllTell held run) pairs
-  closes size faults mismatches sound complete = delivers-each p s (AllTell held run) pairs done keeps.delivered
+  pub closes : (size faults mismatches : D → ℕ) → IsSoundRun size faults mismatches held run → IsComplete s → DeliversEach eq p (AllTell held run) pairs
+  closes size faults mismatches sound complete = delivers-each eq p s (AllTell held run) pairs done keeps.delivered
     where
       done : (t : Task) → is_deliver_task p t ≡ true → done_in s t ≡ true
       done t hands = AllPass-from_list_all is_done s.tasks complete t.0 Waiting (let i = deliver-inside p sound.run.proper t hands in omega (arith, i, sound.coherent.state.rows.tasks))
@@ -162,17 +163,17 @@ each-task p =
     ext_get_or no_task (map (task_of p) (tasks_of p)) p.tasks long (λ i inside.
     get_or-map (task_of p) (tasks_of p) i (number 0) no_task (omega (arith, inside, long, all)) ∙ ap (task_of p) (get_or-map-range_with_len number 0 (length p.tasks) i i (number 0) (omega (arith, inside, long)) (omega arith)))
 
-module _ (p : Program) (m : Machine) (Tells : Type 0) where
+module _ (eq : Equations) (p : Program) (m : Machine) (Tells : Type 0) where
   undelivered-first : undelivered p (opening p m) ≡ delivery_count p
   undelivered-first =
       let f : Lowered → ℕ = λ l. tally (is_delivery l.codelet) in
       sum-agree (λ t. tally (is_deliver_task p t && not (done_in (opening p m) t))) (λ t. f (task_of p t)) (λ t. ap (λ x. tally (is_deliver_task p t && not (is_done x))) (waits p m t) ∙ ap tally (and_true (is_deliver_task p t))) (tasks_of p)
       ∙ sym (sum_by-map f (task_of p) (tasks_of p)) ∙ ap (sum_by f) (each-task p)
 
-  pub opens : (gifts : List (Option Array)) → gifts ≡ replicate p.workers None → (pairs : List (Task × Array)) → pairs ≡ [] → (spare : ℕ) → spare ≡ delivery_count p → (left : ℕ) → left ≡ length p.tasks → KeepsEnds p (opening p m) Tells pairs gifts spare left
+  pub opens : (gifts : List (Option Array)) → gifts ≡ replicate p.workers None → (pairs : List (Task × Array)) → pairs ≡ [] → (spare : ℕ) → spare ≡ delivery_count p → (left : ℕ) → left ≡ length p.tasks → KeepsEnds eq p (opening p m) Tells pairs gifts spare left
   opens gifts none pairs nothing spare room left all =
-      subst (λ (gs : List (Option Array)). KeepsEnds p (opening p m) Tells pairs gs spare left) (sym none)
-      (subst (λ (ds : List (Task × Array)). KeepsEnds p (opening p m) Tells ds (replicate p.workers None) spare left) (sym nothing) (record {
+      subst (λ (gs : List (Option Array)). KeepsEnds eq p (opening p m) Tells pairs gs spare left) (sym none)
+      (subst (λ (ds : List (Task × Array)). KeepsEnds eq p (opening p m) Tells ds (replicate p.workers None) spare left) (sym nothing) (record {
         delivered = record {
           only = λ i d inside. absurd (omega (arith, inside));
           once = λ t hands. ap (λ x. if is_done x then 1 else 0) (sym (waits p m t));
@@ -188,18 +189,18 @@ module _ (p : Program) (m : Machine) (Tells : Type 0) where
       }))
 
 -- and of a run that starts
-pub opens-run : {D : Type 0} (held : D → Option (List ℕ)) (p : Program) (m : Machine) (disks : DiskState D) (run : Standing D) → run ≡ starting p m disks → (gifts : List (Option Array)) (delivered : Deliveries) → IsReadyToDeliver p gifts delivered → (left : ℕ) → left ≡ length p.tasks → Keeps held run delivered.pairs gifts delivered.spare left
-opens-run {D} held p m disks run starts gifts delivered ready left all =
-    subst (λ (r : Standing D). Keeps held r delivered.pairs gifts delivered.spare left) (sym starts)
-    (opens p m (AllTell held (starting p m disks)) gifts ready.gifts_are delivered.pairs (ap (λ (x : Deliveries). x.pairs) ready.none) delivered.spare (ap (λ (x : Deliveries). x.spare) ready.none) left all)
+pub opens-run : {D : Type 0} (held : D → Option (List ℕ)) (eq : Equations) (p : Program) (m : Machine) (disks : DiskState D) (run : StandingBy eq D) → run ≡ starting eq p m disks → (gifts : List (Option Array)) (delivered : Deliveries) → IsReadyToDeliver p gifts delivered → (left : ℕ) → left ≡ length p.tasks → Keeps held run delivered.pairs gifts delivered.spare left
+opens-run {D} held eq p m disks run starts gifts delivered ready left all =
+    subst (λ (r : StandingBy eq D). Keeps held r delivered.pairs gifts delivered.spare left) (sym starts)
+    (opens eq p m (AllTell held (starting eq p m disks)) gifts ready.gifts_are delivered.pairs (ap (λ (x : Deliveries). x.pairs) ready.none) delivered.spare (ap (λ (x : Deliveries). x.spare) ready.none) left all)
 
 -- ---- a claim
 
 -- a worker that has claimed a task holds its commuting cells alone
-pub claims-alone : {D : Type 0} (size faults mismatches : D → ℕ) (held : D → Option (List ℕ)) (run : Standing D) → IsSoundRun size faults mismatches held run → (t : Task) (w : Worker) → CanHappen run (Claim t w) → (run' : Standing D) → run' ≡ with_event run (Claim t w) → (q : Program) → run.program ≡ q → HoldsCommutersAlone q (state run') t w
-claims-alone {D} size faults mismatches held run sound t w can run' is q program =
+pub claims-alone : {D : Type 0} {eq : Equations} (size faults mismatches : D → ℕ) (held : D → Option (List ℕ)) (run : StandingBy eq D) → IsSoundRun size faults mismatches held run → (t : Task) (w : Worker) → CanHappen run (Claim t w) → (run' : StandingBy eq D) → run' ≡ with_event run (Claim t w) → (q : Program) → run.program ≡ q → HoldsCommutersAlone q (state run') t w
+claims-alone {D} {eq} size faults mismatches held run sound t w can run' is q program =
     subst (λ (x : Program). HoldsCommutersAlone x (state run') t w) program
-    (subst (λ (r : Standing D). HoldsCommutersAlone run.program (state r) t w) (sym is)
+    (subst (λ (r : StandingBy eq D). HoldsCommutersAlone run.program (state r) t w) (sym is)
     (subst (λ (z : State). HoldsCommutersAlone run.program z t w) (sym (state_of-more run.program run.machine run.trace (Claim t w)))
     (holds-alone run.program run.machine s' coherent t w (ap (is_task_of w) (Claims-advances run.program run.machine (state run) t w s' sound.coherent.state.rows can (evicted-after run.program run.machine (state run) t w)).is ∙ claimed-is_mine w))))
   where

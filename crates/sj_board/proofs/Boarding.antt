@@ -7,6 +7,7 @@ use Rattle.sj_base.specs.declared.trace.Event.TheVariants.{Moved}
 use Rattle.sj_base.specs.declared.program.Program.{Program}
 use Rattle.sj_base.specs.declared.program.Machine.{Machine}
 use Rattle.sj_base.specs.declared.ids.Worker.{Worker}
+use Rattle.sj_codelet.specs.Kernel.{Equations}
 use Rattle.sj_core.proofs.States.{state_of-more}
 use Rattle.sj_core.specs.Legal.{IsComplete}
 use Rattle.sj_core.specs.Machine.{State, is_task_of, transfer}
@@ -16,11 +17,11 @@ use Rattle.sj_core.specs.declared.progress.Transfer.{Transfer}
 use Rattle.sj_deps.specs.Progress.{Dependencies}
 use Rattle.sj_pool.specs.Pool.{Pooled}
 use Rattle.sj_board.specs.Cause.{HasCause}
-use Rattle.sj_board.specs.Standing.{HasMoved, Standing, state, with_event}
+use Rattle.sj_board.specs.Standing.{HasMoved, StandingBy, state, with_event}
 use Rattle.sj_board.specs.declared.fault.RunFault.{RunFault}
 use Rattle.sj_board.specs.Sound.{OnlyDisksChange}
 use Rattle.sj_board.proofs.Stepping.{counts-same, done-same, progress-same, taken-back, taken-same, tasks_alone}
-use Rattle.sj_board.specs.Board.{BoardState, has_event}
+use Rattle.sj_board.specs.Board.{BoardBy, has_event}
 use Rattle.sj_board.specs.BoardSound.{IsSoundIn, KeepsBoard}
 use Rattle.sj_board.specs.declared.hand.Hand.{Hand}
 use Rattle.sj_board.proofs.LastHeaders.{moved-cause}
@@ -52,7 +53,7 @@ module _ (p : Program) (m : Machine) (s s' : State) (same : s'.tasks ≡ s.tasks
 
 -- ---- an event that leaves all tasks as they are
 
-module _ {D : Type 0} (faults mismatches : D → ℕ) (held : D → Option (List ℕ)) (b : BoardState D) (deps : Dependencies) (footprints : List ℕ) where
+module _ {D : Type 0} {eq : Equations} (faults mismatches : D → ℕ) (held : D → Option (List ℕ)) (b : BoardBy eq D) (deps : Dependencies) (footprints : List ℕ) where
   pub keeps-event : (e : Event) → IfSome b.fault (HasCause faults mismatches held (with_event b.run e)) → (after b.run.program b.run.machine (state b.run) e).tasks ≡ (state b.run).tasks → KeepsBoard faults mismatches held b deps footprints → KeepsBoard faults mismatches held (has_event b e) deps footprints
   keeps-event e cause same keeps =
       let now : (state (with_event b.run e)).tasks ≡ (state b.run).tasks = ap (λ (s : State). s.tasks) (state_of-more b.run.program b.run.machine b.run.trace e) ∙ same in
@@ -64,16 +65,16 @@ module _ {D : Type 0} (faults mismatches : D → ℕ) (held : D → Option (List
       }
 
   -- as the code leaves it
-  pub keeps-run : (e : Event) (run' : Standing D) → run' ≡ with_event b.run e → IfSome b.fault (HasCause faults mismatches held (with_event b.run e)) → (after b.run.program b.run.machine (state b.run) e).tasks ≡ (state b.run).tasks → KeepsBoard faults mismatches held b deps footprints → KeepsBoard faults mismatches held (record b { run = run' }) deps footprints
-  keeps-run e run' is cause same keeps = subst (λ (r : Standing D). KeepsBoard faults mismatches held (record b { run = r }) deps footprints) (sym is) (keeps-event e cause same keeps)
+  pub keeps-run : (e : Event) (run' : StandingBy eq D) → run' ≡ with_event b.run e → IfSome b.fault (HasCause faults mismatches held (with_event b.run e)) → (after b.run.program b.run.machine (state b.run) e).tasks ≡ (state b.run).tasks → KeepsBoard faults mismatches held b deps footprints → KeepsBoard faults mismatches held (record b { run = run' }) deps footprints
+  keeps-run e run' is cause same keeps = subst (λ (r : StandingBy eq D). KeepsBoard faults mismatches held (record b { run = r }) deps footprints) (sym is) (keeps-event e cause same keeps)
 
   -- where the event may fail to come, and then nothing has changed
-  pub keeps-tried : {A E : Type 0} (result : Result A E) (e : Event) (run' : Standing D) → OnOk result (run' ≡ with_event b.run e) → OnErr result (run' ≡ b.run) → IfSome b.fault (HasCause faults mismatches held (with_event b.run e)) → (after b.run.program b.run.machine (state b.run) e).tasks ≡ (state b.run).tasks → KeepsBoard faults mismatches held b deps footprints → KeepsBoard faults mismatches held (record b { run = run' }) deps footprints
+  pub keeps-tried : {A E : Type 0} (result : Result A E) (e : Event) (run' : StandingBy eq D) → OnOk result (run' ≡ with_event b.run e) → OnErr result (run' ≡ b.run) → IfSome b.fault (HasCause faults mismatches held (with_event b.run e)) → (after b.run.program b.run.machine (state b.run) e).tasks ≡ (state b.run).tasks → KeepsBoard faults mismatches held b deps footprints → KeepsBoard faults mismatches held (record b { run = run' }) deps footprints
   keeps-tried (Ok a) e run' ok err cause same keeps = keeps-run e run' ok cause same keeps
-  keeps-tried (Err x) e run' ok err cause same keeps = subst (λ (r : Standing D). KeepsBoard faults mismatches held (record b { run = r }) deps footprints) (sym err) keeps
+  keeps-tried (Err x) e run' ok err cause same keeps = subst (λ (r : StandingBy eq D). KeepsBoard faults mismatches held (record b { run = r }) deps footprints) (sym err) keeps
 
   -- the end of a worker's move
-  pub keeps-moved : (w : Worker) (run' : Standing D) (Q : Transfer → Type 0) → IsSomeAnd (transfer (state b.run) w) Q → HasMoved w b.run run' → KeepsBoard faults mismatches held b deps footprints → KeepsBoard faults mismatches held (record b { run = run' }) deps footprints
+  pub keeps-moved : (w : Worker) (run' : StandingBy eq D) (Q : Transfer → Type 0) → IsSomeAnd (transfer (state b.run) w) Q → HasMoved w b.run run' → KeepsBoard faults mismatches held b deps footprints → KeepsBoard faults mismatches held (record b { run = run' }) deps footprints
   keeps-moved w run' Q some moved keeps = by_move (transfer (state b.run) w) some moved
     where
       by_move : (o : Option Transfer) → IsSomeAnd o Q → IfSome o (λ x. run' ≡ with_event b.run (Moved x.cell x.from x.to)) → KeepsBoard faults mismatches held (record b { run = run' }) deps footprints
@@ -83,8 +84,8 @@ module _ {D : Type 0} (faults mismatches : D → ℕ) (held : D → Option (List
 -- ---- no event
 
 -- where the disks alone change
-pub keeps-disks : {D : Type 0} (size faults mismatches : D → ℕ) (held : D → Option (List ℕ)) (b : BoardState D) (deps : Dependencies) (footprints : List ℕ) (run' : Standing D) → OnlyDisksChange b.run run' → AreGivenBack size faults mismatches held b.run.disks.disks run'.disks.disks → KeepsBoard faults mismatches held b deps footprints → KeepsBoard faults mismatches held (record b { run = run' }) deps footprints
-keeps-disks {D} size faults mismatches held b deps footprints run' only back keeps = subst (λ (r : Standing D). KeepsBoard faults mismatches held (record b { run = r }) deps footprints) (sym only) (record {
+pub keeps-disks : {D : Type 0} {eq : Equations} (size faults mismatches : D → ℕ) (held : D → Option (List ℕ)) (b : BoardBy eq D) (deps : Dependencies) (footprints : List ℕ) (run' : StandingBy eq D) → OnlyDisksChange b.run run' → AreGivenBack size faults mismatches held b.run.disks.disks run'.disks.disks → KeepsBoard faults mismatches held b deps footprints → KeepsBoard faults mismatches held (record b { run = run' }) deps footprints
+keeps-disks {D} {eq} size faults mismatches held b deps footprints run' only back keeps = subst (λ (r : StandingBy eq D). KeepsBoard faults mismatches held (record b { run = r }) deps footprints) (sym only) (record {
   fault = kept-cause size faults mismatches held b.run run'.disks run'.out back b.fault keeps.fault;
   inside = keeps.inside;
   counts = keeps.counts;

@@ -12,6 +12,7 @@ use Rattle.sj_base.specs.declared.trace.Event.TheVariants.{Run}
 use Rattle.sj_base.specs.Mode.{is_data}
 use Rattle.sj_codelet.specs.declared.kernel.Kernel.{Kernel}
 use Rattle.sj_codelet.specs.declared.kernel.Kernel.TheVariants.{Deliver}
+use Rattle.sj_codelet.specs.Kernel.{Equations}
 use Rattle.sj_core.proofs.Claimed.{claimed-staffed}
 use Rattle.sj_core.proofs.Folding.{read-among_cells}
 use Rattle.sj_core.proofs.Found.{found-not_fresh}
@@ -23,7 +24,7 @@ use Rattle.sj_core.specs.Laws.{Brought, HasAtHand, IsSound}
 use Rattle.sj_core.specs.Proper.{Commuting, Contributing, FirstPaste, FitsCodelet, MayHaveModes, Own, Proper, access}
 use Rattle.sj_board.specs.Delivery.{delivered_cell, is_deliver, is_deliver_task, is_delivery}
 use Rattle.sj_board.specs.Sound.{IsSoundRun}
-use Rattle.sj_board.specs.Standing.{CanHappen, Standing, state, run_arrays}
+use Rattle.sj_board.specs.Standing.{CanHappen, StandingBy, run_arrays, state}
 
 delivers : (k : Kernel) → is_deliver k ≡ true → k ≡ Deliver
 delivers Deliver e = refl
@@ -67,7 +68,7 @@ module _ (p : Program) (proper : Proper p) (t : Task) (hands_over : is_deliver_t
 
 -- ---- what it is to hand over
 
-module _ {D : Type 0} (size faults mismatches : D → ℕ) (held : D → Option (List ℕ)) (b : Standing D) (sound : IsSoundRun size faults mismatches held b) (t : Task) (w : Worker) where
+module _ {D : Type 0} {eq : Equations} (size faults mismatches : D → ℕ) (held : D → Option (List ℕ)) (b : StandingBy eq D) (sound : IsSoundRun size faults mismatches held b) (t : Task) (w : Worker) where
   abbrev p : Program
   p = b.program
 
@@ -75,9 +76,9 @@ module _ {D : Type 0} (size faults mismatches : D → ℕ) (held : D → Option 
   n = node_of b.machine w
 
   -- what it has on its worker's node
-  pub at-hand : is_deliver_task p t ≡ true → HasAtHand b.machine (state b) t w (delivered_cell p t) → run_arrays b (delivered_cell p t) (AtNode n) ≡ given p t
+  pub at-hand : is_deliver_task p t ≡ true → HasAtHand b.machine (state b) t w (delivered_cell p t) → run_arrays b (delivered_cell p t) (AtNode n) ≡ given eq p t
   at-hand hands has =
-      delivers-given p b.machine (state b) (record { proper = sound.run.proper; machine = sound.run.machine; coherent = sound.coherent }) sound.run.has sound.run.lawful (run_arrays b) sound.content t w (delivered_cell p t)
+      delivers-given p b.machine (state b) (record { proper = sound.run.proper; machine = sound.run.machine; coherent = sound.coherent }) eq sound.run.has sound.run.lawful (run_arrays b) sound.content t w (delivered_cell p t)
       (deliver-reads p sound.run.proper t hands) has
 
   -- as the task begins to run it has that cell there

@@ -9,6 +9,7 @@ use Rattle.std.proofs.lemmas.Option.{none-some, slice_get-get_or, same_Some}
 use Rattle.std.proofs.lemmas.Slice.Zip.{AllZip-right}
 use Rattle.sj_base.specs.Array.{Array}
 use Rattle.sj_base.specs.declared.ids.DiskNo.{DiskNo}
+use Rattle.sj_codelet.specs.Kernel.{Equations}
 use Rattle.sj_edge.specs.Faults.{Rose, counted}
 use Rattle.sj_edge.specs.GivenBack.{AreGivenBack, IsGivenBack}
 use Rattle.sj_disk.specs.declared.directory.Extent.{Extent}
@@ -27,7 +28,7 @@ use Rattle.sj_board.specs.Cause.{HasCause, HasRisen}
 use Rattle.sj_board.specs.Counts.{AreCounted, CountsFaults, differed_at, failed_at, fault_of}
 use Rattle.sj_board.specs.Headers.{IsLastWritten}
 use Rattle.sj_board.specs.Sound.{Keeps}
-use Rattle.sj_board.specs.Standing.{AllTell, Standing, state}
+use Rattle.sj_board.specs.Standing.{AllTell, StandingBy, state}
 use Rattle.sj_board.proofs.Storing.{tell-still}
 
 -- ---- a call of one disk
@@ -118,7 +119,7 @@ risen-at {D} count Q d P opened old new grew rises back inside changes = by_old 
     by_old (Some x) e h = by_opened x e (slice_get opened d) h
 
 -- a refusal is a fault that has its cause
-pub call-cause : {D A : Type 0} (size faults mismatches : D → ℕ) (held : D → Option (List ℕ)) (b : Standing D) (new : LendingState D) (number : DiskNo) (result : Result A DiskRefusal) → AreGivenBack size faults mismatches held b.opened b.disks.disks → number.0 < length b.disks.disks → NamesDisk number result → ChangesAt number.0 (IsCall faults mismatches number result) b.disks.disks new.set.disks → (is_damage result ≡ true → AllTell held b → ⊥) → ((d : DiskNo) (want found : Header) → result ≡ Err (Damaged d want found) → IsLastWritten b.program b.machine (state b) d want) → IfErr result (λ r. HasCause faults mismatches held (record b { disks = new.set; out = new.out }) (fault_of r))
+pub call-cause : {D A : Type 0} {eq : Equations} (size faults mismatches : D → ℕ) (held : D → Option (List ℕ)) (b : StandingBy eq D) (new : LendingState D) (number : DiskNo) (result : Result A DiskRefusal) → AreGivenBack size faults mismatches held b.opened b.disks.disks → number.0 < length b.disks.disks → NamesDisk number result → ChangesAt number.0 (IsCall faults mismatches number result) b.disks.disks new.set.disks → (is_damage result ≡ true → AllTell held b → ⊥) → ((d : DiskNo) (want found : Header) → result ≡ Err (Damaged d want found) → IsLastWritten b.program b.machine (state b) d want) → IfErr result (λ r. HasCause faults mismatches held (record b { disks = new.set; out = new.out }) (fault_of r))
 call-cause size faults mismatches held b new number (Ok a) back inside names changes untold last = tt
 call-cause {D} {A} size faults mismatches held b new number (Err (DiskFault d)) back inside names changes untold last =
     subst (λ (k : DiskNo). HasRisen faults b.opened new.set.disks k.0) (sym (names.fault d refl))
@@ -148,7 +149,7 @@ refused-names {A} number result only = record { fault = λ d e. at d (subst (λ 
     clash : (d : DiskNo) (want found : Header) → Damaged d want found ≡ DiskFault number → ⊥
     clash d want found e = cc
 
-module _ {D A : Type 0} (size faults mismatches : D → ℕ) (held : D → Option (List ℕ)) (b : Standing D) (new : LendingState D) (c n : ℕ) (xs : List ℤ) (result : Result A DiskRefusal) (e : Extent) where
+module _ {D A : Type 0} {eq : Equations} (size faults mismatches : D → ℕ) (held : D → Option (List ℕ)) (b : StandingBy eq D) (new : LendingState D) (c n : ℕ) (xs : List ℤ) (result : Result A DiskRefusal) (e : Extent) where
   store-call : Stores size faults mismatches held c n xs result b.disks new.set e → ChangesAt e.disk.0 (IsCall faults mismatches e.disk result) b.disks.disks new.set.disks
   store-call is =
       let only = refused-fault e.disk result is.refused_by_its_disk in
@@ -194,7 +195,7 @@ wanted-last {A} number want result is P so d w found e = named (subst (RefusesFo
 
 -- ---- as a run's store and fetch tell it
 
-module _ {D A : Type 0} (size faults mismatches : D → ℕ) (held : D → Option (List ℕ)) (b : Standing D) (rows : Rows) (tiles : List (List (Option Array))) (spare : ℕ) (keeps : Keeps size faults mismatches held b rows tiles spare) (new : LendingState D) (c n : ℕ) (xs : List ℤ) (result : Result A DiskRefusal) (laid : IsLaidOut (map size b.disks.disks) b.disks.taken b.disks.directory) (Q : Extent → Type 0) (some : IsSomeAnd (extent_of b.disks.directory c) Q) where
+module _ {D A : Type 0} {eq : Equations} (size faults mismatches : D → ℕ) (held : D → Option (List ℕ)) (b : StandingBy eq D) (rows : Rows) (tiles : List (List (Option Array))) (spare : ℕ) (keeps : Keeps size faults mismatches held b rows tiles spare) (new : LendingState D) (c n : ℕ) (xs : List ℤ) (result : Result A DiskRefusal) (laid : IsLaidOut (map size b.disks.disks) b.disks.taken b.disks.directory) (Q : Extent → Type 0) (some : IsSomeAnd (extent_of b.disks.directory c) Q) where
   back : AreGivenBack size faults mismatches held b.opened b.disks.disks
   back = keeps.sound.given_back
 

@@ -1,6 +1,6 @@
 -- The tiles that the end of a kernel's run leaves.
-use Rattle.std.proofs.Common.{◌≡◌, ◌≢◌, ◌<◌, ◌+◌, ℕ, Bool, true, false, List, [], ◌∷◌, ◌++◌, Option, None, Some, ◌∙◌, ap, arith, cond, find, get_or, inl, inr, is_some, length, map, refl, sym, subst, ◌||◌}
-use Rattle.std.specs.Prelude.{All, IfSome}
+use Rattle.std.proofs.Common.{◌≡◌, ◌≢◌, ◌<◌, ◌+◌, ℕ, Bool, true, false, List, [], ◌∷◌, ◌++◌, Option, None, Some, ◌∙◌, ap, arith, cond, find, get_or, inl, inr, length, map, refl, sym, subst, ◌||◌}
+use Rattle.std.specs.Prelude.{All}
 use Rattle.std.specs.List.{AllByRecursion, AllZip, zip}
 use Rattle.std.proofs.lemmas.Bool.{cases_Bool, false≢true}
 use Rattle.std.proofs.lemmas.Nat.{mod_below}
@@ -12,9 +12,10 @@ use Rattle.sj_base.proofs.SameIds.{other_node, same_cell-itself, same_place-itse
 use Rattle.sj_base.specs.Recorded.{Recorded}
 use Rattle.sj_base.specs.declared.mode.Access.{Access}
 use Rattle.sj_codelet.specs.Frame.{Slot, arrays}
+use Rattle.sj_codelet.specs.Kernel.{Equations}
 use Rattle.sj_core.specs.declared.progress.Progress.{Progress}
 use Rattle.sj_core.specs.declared.progress.Progress.TheVariants.{Done, Running}
-use Rattle.sj_core.proofs.Words.{Array, AtNode, Cell, CellState, End, Machine, Node, Program, State, Task, Worker, dims_of, has_cell, is_entry, is_task_of, is_valid, mark, node_of, on_disk, progress, same_cell, task_of, worked_on, worker_of, writes, written_cells, zeros}
+use Rattle.sj_core.proofs.Words.{Array, AtNode, Cell, CellState, End, Machine, Node, Program, State, Task, Worker, dims_of, has_cell, is_entry, is_task_of, mark, node_of, on_disk, progress, same_cell, task_of, worked_on, worker_of, written_cells, zeros}
 use Rattle.sj_core.proofs.Advancing.{Ends-advances}
 use Rattle.sj_core.proofs.Ending.{end-alone, end-spared_row, end-spares}
 use Rattle.sj_core.proofs.Finding.{being_written-by, being_written-here, both_pass, not_written-before, running-inside, second_fails}
@@ -35,7 +36,7 @@ use Rattle.sj_machine.specs.Operands.{written_among}
 use Rattle.sj_machine.specs.Rows.{Rows, has_happened}
 use Rattle.sj_board.specs.Shares.{AreResultsFor, AreShared, CanPutBack, IsShare, put_each}
 use Rattle.sj_board.specs.Sound.{HoldsBlocks, Keeps}
-use Rattle.sj_board.specs.Standing.{AllTell, CanHappen, Standing, run_arrays, standing, state, with_event}
+use Rattle.sj_board.specs.Standing.{AllTell, CanHappen, StandingBy, run_arrays, standing, state, with_event}
 use Rattle.sj_board.specs.Tiles.{HasTiles, tile_at, tile_in, tiles_of}
 use Rattle.sj_board.proofs.Keeping.{HoldsBlocks-kept, keeps-event, keeps-told, sound_state}
 use Rattle.sj_board.proofs.PuttingBack.{at_node, length-put_each, put-row, put-row_none, wide-put_each}
@@ -62,7 +63,7 @@ all-shared p [] (x ∷ slots) each = absurd each
 all-shared p (a ∷ ops) [] each = absurd each
 all-shared p (a ∷ ops) (x ∷ slots) each = (each.0.shared, all-shared p ops slots each.1)
 
-module _ {D : Type 0} (size faults mismatches : D → ℕ) (held : D → Option (List ℕ)) (b : Standing D) (rows : Rows) (tiles : List Places) (spare : ℕ) (keeps : Keeps size faults mismatches held b rows tiles spare) (t : Task) (w : Worker) (can : CanHappen b (End t w)) where
+module _ {D : Type 0} {eq : Equations} (size faults mismatches : D → ℕ) (held : D → Option (List ℕ)) (b : StandingBy eq D) (rows : Rows) (tiles : List Places) (spare : ℕ) (keeps : Keeps size faults mismatches held b rows tiles spare) (t : Task) (w : Worker) (can : CanHappen b (End t w)) where
   abbrev p : Program
   p = b.program
 
@@ -79,7 +80,7 @@ module _ {D : Type 0} (size faults mismatches : D → ℕ) (held : D → Option 
   s' = after p m s (End t w)
 
   abbrev A' : Arrays
-  A' = arrays_after p m (run_arrays b) (End t w)
+  A' = arrays_after eq p m (run_arrays b) (End t w)
 
   ended : progress s t ≡ Running w
   ended = can
@@ -189,42 +190,24 @@ module _ {D : Type 0} (size faults mismatches : D → ℕ) (held : D → Option 
     tile-far c k has far = ap (λ (places : Places). tile_in places k) (row-put c has) ∙ get_or-set_other (tiles_of tiles c) n.0 k.0 (Some (put c)) None (other_node n k far) ∙ keeps.tiles.out c k (being c has)
 
     put-dims : (c : Cell) → has_cell ws c ≡ true → (put c).dims ≡ dims_of p c
-    put-dims c has = held-dims p w (worked_on-dims p h.proper keeps.sound.run.lawful.arguments w staffed) (written_operands (task_of p t)) slots c given.each has
+    put-dims c has = held-dims p w (worked_on-dims p h.proper w staffed) (written_operands (task_of p t)) slots c given.each has
 
     array-left : (c : Cell) (k : Node) → has_cell ws c ≡ false → A' c (AtNode k) ≡ run_arrays b c (AtNode k)
-    array-left c k left = second_fails (same_place (AtNode k) (AtNode n)) (has_cell ws c) (result_in p t w (held_at (run_arrays b) (AtNode n)) c) (run_arrays b c (AtNode k)) left
+    array-left c k left = second_fails (same_place (AtNode k) (AtNode n)) (has_cell ws c) (result_in eq p t w (held_at (run_arrays b) (AtNode n)) c) (run_arrays b c (AtNode k)) left
 
     put-is : AllTell held b → (c : Cell) → has_cell ws c ≡ true → put c ≡ A' c (AtNode n)
     put-is tells c has =
         ap (λ (l : List Array). held_in p (zip ws l) c) (given.told tells)
-        ∙ sym (both_pass (same_place (AtNode n) (AtNode n)) (has_cell ws c) (result_in p t w (held_at (run_arrays b) (AtNode n)) c) (run_arrays b c (AtNode n)) (same_place-itself (AtNode n)) has)
+        ∙ sym (both_pass (same_place (AtNode n) (AtNode n)) (has_cell ws c) (result_in eq p t w (held_at (run_arrays b) (AtNode n)) c) (run_arrays b c (AtNode n)) (same_place-itself (AtNode n)) has)
 
     tiles-agree : HasTiles p m s' A' (AllTell held b) new
     tiles-agree = record {
       every_cell = length-put_each n ws xs tiles ∙ keeps.tiles.every_cell;
       every_node = wide-put_each (length m.nodes) n ws xs tiles all-inside keeps.tiles.every_node;
-      there = λ c k rests. elim (cases_Bool (has_cell ws c)) [
-        | inr left ↦ ap is_some (tile-left c k left) ∙ keeps.tiles.there c k (rested c left rests) ∙ ap is_valid (sym (same c k))
-        | inl has ↦ elim (same_node k n) [
-          | inl at ↦ ap is_some (tile-here c k has at) ∙ ap is_valid (sym (ap (mark s' c) at ∙ same c n ∙ (own c has).valid))
-          | inr far ↦ ap is_some (tile-far c k has far) ∙ ap is_valid (sym (same c k ∙ (own c has).only k far))
-        ]
-      ];
+      there = λ c k rests. search (arith, cases_Bool (has_cell ws c), same_node k n, tile-left c k, tile-here c k, tile-far c k, keeps.tiles.there c k, rested c, same c k, own c);
       out = λ c k now. (let both = still-being c now in tile-left c k both.0 ∙ keeps.tiles.out c k both.1);
-      dims = λ c k. elim (cases_Bool (has_cell ws c)) [
-        | inr left ↦ subst (λ (o : Option Array). IfSome o (λ a. a.dims ≡ dims_of p c)) (sym (tile-left c k left)) (keeps.tiles.dims c k)
-        | inl has ↦ elim (same_node k n) [
-          | inl at ↦ subst (λ (o : Option Array). IfSome o (λ a. a.dims ≡ dims_of p c)) (sym (tile-here c k has at)) (put-dims c has)
-          | inr far ↦ subst (λ (o : Option Array). IfSome o (λ a. a.dims ≡ dims_of p c)) (sym (tile-far c k has far)) tt
-        ]
-      ];
-      arrays = λ tells c k. elim (cases_Bool (has_cell ws c)) [
-        | inr left ↦ subst (λ (o : Option Array). IfSome o (λ a. a ≡ A' c (AtNode k))) (sym (tile-left c k left)) (subst (λ (x : Array). IfSome (tile_at tiles c k) (λ a. a ≡ x)) (sym (array-left c k left)) (keeps.tiles.arrays tells c k))
-        | inl has ↦ elim (same_node k n) [
-          | inl at ↦ subst (λ (o : Option Array). IfSome o (λ a. a ≡ A' c (AtNode k))) (sym (tile-here c k has at)) (put-is tells c has ∙ ap (λ (j : Node). A' c (AtNode j)) (sym at))
-          | inr far ↦ subst (λ (o : Option Array). IfSome o (λ a. a ≡ A' c (AtNode k))) (sym (tile-far c k has far)) tt
-        ]
-      ];
+      dims = λ c k. search (arith, cases_Bool (has_cell ws c), same_node k n, tile-left c k, tile-here c k, tile-far c k, keeps.tiles.dims c k, put-dims c);
+      arrays = λ tells c k. search (arith, cases_Bool (has_cell ws c), same_node k n, tile-left c k, tile-here c k, tile-far c k, keeps.tiles.arrays tells c k, array-left c k, put-is tells c);
     }
 
     pub keeps-end : (spare' : ℕ) → spare' + 1 ≡ spare → Keeps size faults mismatches held (with_event b (End t w)) (has_happened rows (End t w)) new spare'
@@ -232,16 +215,16 @@ module _ {D : Type 0} (size faults mismatches : D → ℕ) (held : D → Option 
 
 -- ---- as the code finds it
 
-module _ {D : Type 0} (size faults mismatches : D → ℕ) (held : D → Option (List ℕ)) (rows : Rows) (trace : Recorded) (lent : LendingState D) (opened : DiskState D) (tiles : List Places) (keeps : Keeps size faults mismatches held (standing rows.program rows.machine trace lent opened) rows tiles trace.spare) (t : Task) (w : Worker) (b' : Standing D) (same : standing rows.program rows.machine trace lent opened ≡ b') (can' : CanHappen b' (End t w)) (slots : List Slot) (given' : AreResultsFor held b' t w slots)
+module _ {D : Type 0} (size faults mismatches : D → ℕ) (held : D → Option (List ℕ)) (eq : Equations) (rows : Rows) (trace : Recorded) (lent : LendingState D) (opened : DiskState D) (tiles : List Places) (keeps : Keeps size faults mismatches held (standing eq rows.program rows.machine trace lent opened) rows tiles trace.spare) (t : Task) (w : Worker) (b' : StandingBy eq D) (same : standing eq rows.program rows.machine trace lent opened ≡ b') (can' : CanHappen b' (End t w)) (slots : List Slot) (given' : AreResultsFor held b' t w slots)
     (at : Node) (bound : at ≡ node_of rows.machine w) (q : Program) (program : q ≡ rows.program) (accesses : List Access) (of_task : accesses ≡ (task_of q t).accesses) where
-  abbrev b : Standing D
-  b = standing rows.program rows.machine trace lent opened
+  abbrev b : StandingBy eq D
+  b = standing eq rows.program rows.machine trace lent opened
 
   can : CanHappen b (End t w)
-  can = subst (λ (x : Standing D). CanHappen x (End t w)) (sym same) can'
+  can = subst (λ (x : StandingBy eq D). CanHappen x (End t w)) (sym same) can'
 
   given : AreResultsFor held b t w slots
-  given = subst (λ (x : Standing D). AreResultsFor held x t w slots) (sym same) given'
+  given = subst (λ (x : StandingBy eq D). AreResultsFor held x t w slots) (sym same) given'
 
   pub found-can_put : CanPutBack q w tiles at accesses slots
   found-can_put =
@@ -249,8 +232,8 @@ module _ {D : Type 0} (size faults mismatches : D → ℕ) (held : D → Option 
       (subst (λ (j : Node). CanPutBack rows.program w tiles j accesses slots) (sym bound)
       (subst (λ (l : List Access). CanPutBack rows.program w tiles (node_of rows.machine w) l slots) (sym (of_task ∙ ap (λ (x : Program). (task_of x t).accesses) program)) (end-can_put size faults mismatches held b rows tiles trace.spare keeps t w can slots given)))
 
-  pub found-keeps_end : (rows' : Rows) (tiles' : List Places) (trace' : Recorded) → rows' ≡ has_happened rows (End t w) → tiles' ≡ put_each at (written_among q w accesses) (arrays slots) tiles → trace'.events ≡ trace.events ++ End t w ∷ [] → trace'.spare + 1 ≡ trace.spare → Keeps size faults mismatches held (standing rows'.program rows'.machine trace' lent opened) rows' tiles' trace'.spare
+  pub found-keeps_end : (rows' : Rows) (tiles' : List Places) (trace' : Recorded) → rows' ≡ has_happened rows (End t w) → tiles' ≡ put_each at (written_among q w accesses) (arrays slots) tiles → trace'.events ≡ trace.events ++ End t w ∷ [] → trace'.spare + 1 ≡ trace.spare → Keeps size faults mismatches held (standing eq rows'.program rows'.machine trace' lent opened) rows' tiles' trace'.spare
   found-keeps_end rows' tiles' trace' happened are told left =
-      keeps-told size faults mismatches held rows trace lent opened (End t w) (put_each (node_of rows.machine w) (written_cells rows.program t w) (arrays slots) tiles) rows' tiles' trace' happened
+      keeps-told size faults mismatches held eq rows trace lent opened (End t w) (put_each (node_of rows.machine w) (written_cells rows.program t w) (arrays slots) tiles) rows' tiles' trace' happened
       (are ∙ ap (λ (j : Node). put_each j (written_among q w accesses) (arrays slots) tiles) bound ∙ ap (λ (x : Program). put_each (node_of rows.machine w) (written_among x w accesses) (arrays slots) tiles) program ∙ ap (λ (l : List Access). put_each (node_of rows.machine w) (written_among rows.program w l) (arrays slots) tiles) (of_task ∙ ap (λ (x : Program). (task_of x t).accesses) program)) told
       (keeps-end size faults mismatches held b rows tiles trace.spare keeps t w can slots given trace'.spare left)

@@ -6,6 +6,7 @@ use Rattle.std.proofs.lemmas.Bool.{and_from, cases_Bool, eq-eqb, false≢true, l
 use Rattle.std.proofs.lemmas.List.{append-nil, get_or-set_other, get_or-set_same, length-set}
 use Rattle.std.proofs.lemmas.List.Elements.{All-push}
 use Rattle.std.proofs.lemmas.List.Sums.{sum_by-append, sum_by-cons, sum_by-set}
+use Rattle.sj_codelet.specs.Kernel.{Equations}
 use Rattle.sj_core.proofs.Advancing.{Advances, same_task}
 use Rattle.sj_core.proofs.Finding.{task-counted}
 use Rattle.sj_core.proofs.Sums.{count-numbered, sum-agree, sum-plus, tally}
@@ -54,8 +55,8 @@ complete-none s left counted complete = sym counted ∙ all-left s.tasks complet
 
 -- ---- an event by which no task becomes done, and none begins to run
 
-module _ (p : Program) (s s' : State) (Tells : Type 0) (pairs : List (Task × Array)) (gifts : List (Option Array)) (spare left : ℕ) (keeps : KeepsEnds p s Tells pairs gifts spare left) where
-  delivered-still : ((u : Task) → done_in s' u ≡ done_in s u) → DeliversDone p s' Tells pairs
+module _ (eq : Equations) (p : Program) (s s' : State) (Tells : Type 0) (pairs : List (Task × Array)) (gifts : List (Option Array)) (spare left : ℕ) (keeps : KeepsEnds eq p s Tells pairs gifts spare left) where
+  delivered-still : ((u : Task) → done_in s' u ≡ done_in s u) → DeliversDone eq p s' Tells pairs
   delivered-still dones = record {
     only = keeps.delivered.only;
     once = λ u hands. keeps.delivered.once u hands ∙ ap (λ b. if b then 1 else 0) (sym (dones u));
@@ -66,7 +67,7 @@ module _ (p : Program) (s s' : State) (Tells : Type 0) (pairs : List (Task × Ar
   undelivered-same : ((u : Task) → done_in s' u ≡ done_in s u) → undelivered p s' ≡ undelivered p s
   undelivered-same dones = sum-agree (λ u. tally (is_deliver_task p u && not (done_in s' u))) (λ u. tally (is_deliver_task p u && not (done_in s u))) (λ u. ap (λ b. tally (is_deliver_task p u && not b)) (dones u)) (tasks_of p)
 
-  pub ends-still : ((u : Task) → done_in s' u ≡ done_in s u) → ((u : Task) (v : Worker) → progress s' u ≡ Running v → progress s u ≡ Running v) → undone s' ≡ undone s → KeepsEnds p s' Tells pairs gifts spare left
+  pub ends-still : ((u : Task) → done_in s' u ≡ done_in s u) → ((u : Task) (v : Worker) → progress s' u ≡ Running v → progress s u ≡ Running v) → undone s' ≡ undone s → KeepsEnds eq p s' Tells pairs gifts spare left
   ends-still dones runs counted = record {
     delivered = delivered-still dones;
     gifts_kept = record { every_worker = keeps.gifts_kept.every_worker; kept = λ v u r. keeps.gifts_kept.kept v u (runs u v r) };
@@ -75,14 +76,14 @@ module _ (p : Program) (s s' : State) (Tells : Type 0) (pairs : List (Task × Ar
   }
 
   -- all tasks are as they were
-  pub ends-same : s'.tasks ≡ s.tasks → KeepsEnds p s' Tells pairs gifts spare left
+  pub ends-same : s'.tasks ≡ s.tasks → KeepsEnds eq p s' Tells pairs gifts spare left
   ends-same same =
       let each : (u : Task) → progress s' u ≡ progress s u = λ u. ap (λ (ts : List Progress). get_or ts u.0 Waiting) same in
       ends-still (λ u. ap is_done (each u)) (λ u v r. sym (each u) ∙ r) (ap (λ (ts : List Progress). sum_by unfinished ts) same)
 
   module _ (t : Task) (w : Worker) (inside : t.0 < length s.tasks) where
     -- a waiting task is claimed
-    pub ends-claimed : Advances s s' t Waiting (Claimed w) → s'.tasks ≡ set s.tasks t.0 (Claimed w) → KeepsEnds p s' Tells pairs gifts spare left
+    pub ends-claimed : Advances s s' t Waiting (Claimed w) → s'.tasks ≡ set s.tasks t.0 (Claimed w) → KeepsEnds eq p s' Tells pairs gifts spare left
     ends-claimed step is = ends-still dones runs (let e = undone-set s s' t (Claimed w) inside is in let was : unfinished (progress s t) ≡ 1 = ap unfinished step.was in omega (arith, e, was))
       where
         dones : (u : Task) → done_in s' u ≡ done_in s u
@@ -98,7 +99,7 @@ module _ (p : Program) (s s' : State) (Tells : Type 0) (pairs : List (Task × Ar
         ]
 
     -- a claimed task begins to run, and what it is to hand over is kept
-    pub ends-begun : Advances s s' t (Claimed w) (Running w) → s'.tasks ≡ set s.tasks t.0 (Running w) → w.0 < p.workers → ((u : Task) → is_task_of w (progress s u) ≡ true → u ≡ t) → (gift : Option Array) → IsKeptFor p Tells t gift → KeepsEnds p s' Tells pairs (set gifts w.0 gift) spare left
+    pub ends-begun : Advances s s' t (Claimed w) (Running w) → s'.tasks ≡ set s.tasks t.0 (Running w) → w.0 < p.workers → ((u : Task) → is_task_of w (progress s u) ≡ true → u ≡ t) → (gift : Option Array) → IsKeptFor eq p Tells t gift → KeepsEnds eq p s' Tells pairs (set gifts w.0 gift) spare left
     ends-begun step is staffed one gift kept = record {
       delivered = delivered-still dones;
       gifts_kept = record { every_worker = length-set gifts w.0 gift ∙ keeps.gifts_kept.every_worker; kept = kept_now };
@@ -115,17 +116,17 @@ module _ (p : Program) (s s' : State) (Tells : Type 0) (pairs : List (Task × Ar
         here : gift_in (set gifts w.0 gift) w ≡ gift
         here = get_or-set_same gifts w.0 gift None (omega (arith, staffed, keeps.gifts_kept.every_worker))
 
-        kept_now : (v : Worker) (u : Task) → progress s' u ≡ Running v → IsKeptFor p Tells u (gift_in (set gifts w.0 gift) v)
-        kept_now v u r = elim (same_task u t) as (λ _. IsKeptFor p Tells u (gift_in (set gifts w.0 gift) v)) [
+        kept_now : (v : Worker) (u : Task) → progress s' u ≡ Running v → IsKeptFor eq p Tells u (gift_in (set gifts w.0 gift) v)
+        kept_now v u r = elim (same_task u t) as (λ _. IsKeptFor eq p Tells u (gift_in (set gifts w.0 gift) v)) [
           | inl e ↦ (
               let f : Running w ≡ Running v = sym step.is ∙ ap (progress s') (sym e) ∙ r in
               let same : w ≡ v = cc in
-              subst (λ (x : Worker). IsKeptFor p Tells u (gift_in (set gifts w.0 gift) x)) same (subst (λ (g : Option Array). IsKeptFor p Tells u g) (sym here) (subst (λ (k : Task). IsKeptFor p Tells k gift) (sym e) kept))
+              subst (λ (x : Worker). IsKeptFor eq p Tells u (gift_in (set gifts w.0 gift) x)) same (subst (λ (g : Option Array). IsKeptFor eq p Tells u g) (sym here) (subst (λ (k : Task). IsKeptFor eq p Tells k gift) (sym e) kept))
               )
           | inr d ↦ (
               let before : progress s u ≡ Running v = sym (step.others u d) ∙ r in
               let other : v.0 ≢ w.0 = λ same. d (one u (ap (is_task_of w) before ∙ mine v same)) in
-              subst (λ (g : Option Array). IsKeptFor p Tells u g) (sym (get_or-set_other gifts w.0 v.0 gift None other)) (keeps.gifts_kept.kept v u before)
+              subst (λ (g : Option Array). IsKeptFor eq p Tells u g) (sym (get_or-set_other gifts w.0 v.0 gift None other)) (keeps.gifts_kept.kept v u before)
               )
         ]
           where
@@ -137,7 +138,7 @@ module _ (p : Program) (s s' : State) (Tells : Type 0) (pairs : List (Task × Ar
       abbrev gift : Option Array
       gift = gift_in gifts w
 
-      kept-here : IsKeptFor p Tells t gift
+      kept-here : IsKeptFor eq p Tells t gift
       kept-here = keeps.gifts_kept.kept w t step.was
 
       other-done : (u : Task) → u ≢ t → done_in s' u ≡ done_in s u
@@ -190,7 +191,7 @@ module _ (p : Program) (s s' : State) (Tells : Type 0) (pairs : List (Task × Ar
           one_pair : (a : Array) (u : Task) → sum_by (λ (d : Task × Array). tally (nat_eq d.0.0 u.0)) ((t, a) ∷ []) ≡ tally (nat_eq t.0 u.0)
           one_pair a u = sum_by-cons (λ (d : Task × Array). tally (nat_eq d.0.0 u.0)) (t, a) [] ∙ (let z : tally (nat_eq t.0 u.0) + 0 ≡ tally (nat_eq t.0 u.0) = omega arith in z)
 
-      delivered-more : (a : Array) → is_deliver_task p t ≡ true → IsDeliveryOf p Tells t a → DeliversDone p s' Tells (pairs ++ (t, a) ∷ [])
+      delivered-more : (a : Array) → is_deliver_task p t ≡ true → IsDeliveryOf eq p Tells t a → DeliversDone eq p s' Tells (pairs ++ (t, a) ∷ [])
       delivered-more a hands its = record {
         only = All-push (λ (d : Task × Array). is_deliver_task p d.0 ≡ true) pairs (t, a) keeps.delivered.only hands;
         once = λ u wants. times-more a u ∙ elim (same_task u t) as (λ _. times_delivered pairs u + tally (nat_eq t.0 u.0) ≡ (if done_in s' u then 1 else 0)) [
@@ -208,10 +209,10 @@ module _ (p : Program) (s s' : State) (Tells : Type 0) (pairs : List (Task × Ar
               )
         ];
         dims = All-push (λ (d : Task × Array). d.1.dims ≡ dims_of p (delivered_cell p d.0)) pairs (t, a) keeps.delivered.dims its.dims;
-        arrays = λ tells. All-push (λ (d : Task × Array). d.1 ≡ given p d.0) pairs (t, a) (keeps.delivered.arrays tells) (its.array tells);
+        arrays = λ tells. All-push (λ (d : Task × Array). d.1 ≡ given eq p d.0) pairs (t, a) (keeps.delivered.arrays tells) (its.array tells);
       }
 
-      delivered-none : is_deliver_task p t ≡ false → DeliversDone p s' Tells pairs
+      delivered-none : is_deliver_task p t ≡ false → DeliversDone eq p s' Tells pairs
       delivered-none other = record {
         only = keeps.delivered.only;
         once = λ u hands. keeps.delivered.once u hands ∙ ap (λ b. if b then 1 else 0) (sym (other-done u (λ e. false≢true (sym other ∙ ap (is_deliver_task p) (sym e) ∙ hands))));
@@ -219,16 +220,16 @@ module _ (p : Program) (s s' : State) (Tells : Type 0) (pairs : List (Task × Ar
         arrays = keeps.delivered.arrays;
       }
 
-      kept-after : (v : Worker) (u : Task) → progress s' u ≡ Running v → IsKeptFor p Tells u (gift_in (set gifts w.0 None) v)
+      kept-after : (v : Worker) (u : Task) → progress s' u ≡ Running v → IsKeptFor eq p Tells u (gift_in (set gifts w.0 None) v)
       kept-after v u r =
           let d : u ≢ t = λ e. (let f : Done w ≡ Running v = sym step.is ∙ ap (progress s') (sym e) ∙ r in cc) in
           let ran : progress s u ≡ Running v = sym (step.others u d) ∙ r in
           let other : v.0 ≢ w.0 = λ same. d (one u (ap (is_task_of w) ran ∙ eq-eqb v.0 w.0 same)) in
-          subst (λ (g : Option Array). IsKeptFor p Tells u g) (sym (get_or-set_other gifts w.0 v.0 None None other)) (keeps.gifts_kept.kept v u ran)
+          subst (λ (g : Option Array). IsKeptFor eq p Tells u g) (sym (get_or-set_other gifts w.0 v.0 None None other)) (keeps.gifts_kept.kept v u ran)
 
       -- what is kept is its own, or nothing
       data OneOf (g : Option Array) : Type 0 where
-        Its : (a : Array) → g ≡ Some a → is_deliver_task p t ≡ true → IsDeliveryOf p Tells t a → OneOf g
+        Its : (a : Array) → g ≡ Some a → is_deliver_task p t ≡ true → IsDeliveryOf eq p Tells t a → OneOf g
         Nothing : g ≡ None → is_deliver_task p t ≡ false → OneOf g
 
       one-of : OneOf gift
@@ -237,11 +238,11 @@ module _ (p : Program) (s s' : State) (Tells : Type 0) (pairs : List (Task × Ar
         | inr other ↦ Nothing (kept-here.none other) other
       ]
         where
-          by_some : (g : Option Array) → gift ≡ g → IsSomeAnd g (IsDeliveryOf p Tells t) → is_deliver_task p t ≡ true → OneOf gift
+          by_some : (g : Option Array) → gift ≡ g → IsSomeAnd g (IsDeliveryOf eq p Tells t) → is_deliver_task p t ≡ true → OneOf gift
           by_some None e some hands = absurd some
           by_some (Some a) e some hands = Its a e hands some
 
-      pub ends-ended : (spare' : ℕ) → spare' + length (handed t gift) ≡ spare → KeepsEnds p s' Tells (pairs ++ handed t gift) (set gifts w.0 None) spare' (left - 1)
+      pub ends-ended : (spare' : ℕ) → spare' + length (handed t gift) ≡ spare → KeepsEnds eq p s' Tells (pairs ++ handed t gift) (set gifts w.0 None) spare' (left - 1)
       ends-ended spare' room = record {
         delivered = by_delivered one-of;
         gifts_kept = record { every_worker = length-set gifts w.0 None ∙ keeps.gifts_kept.every_worker; kept = kept-after };
@@ -249,9 +250,9 @@ module _ (p : Program) (s s' : State) (Tells : Type 0) (pairs : List (Task × Ar
         counted = (let e = undone-set s s' t (Done w) inside is in let was : unfinished (progress s t) ≡ 1 = ap unfinished step.was in let now : undone s' ≡ left - 1 = omega (arith, e, was, keeps.counted) in now);
       }
         where
-          by_delivered : OneOf gift → DeliversDone p s' Tells (pairs ++ handed t gift)
-          by_delivered (Its a e hands its) = subst (λ (g : Option Array). DeliversDone p s' Tells (pairs ++ handed t g)) (sym e) (delivered-more a hands its)
-          by_delivered (Nothing e other) = subst (λ (g : Option Array). DeliversDone p s' Tells (pairs ++ handed t g)) (sym e) (subst (DeliversDone p s' Tells) (sym (append-nil pairs)) (delivered-none other))
+          by_delivered : OneOf gift → DeliversDone eq p s' Tells (pairs ++ handed t gift)
+          by_delivered (Its a e hands its) = subst (λ (g : Option Array). DeliversDone eq p s' Tells (pairs ++ handed t g)) (sym e) (delivered-more a hands its)
+          by_delivered (Nothing e other) = subst (λ (g : Option Array). DeliversDone eq p s' Tells (pairs ++ handed t g)) (sym e) (subst (DeliversDone eq p s' Tells) (sym (append-nil pairs)) (delivered-none other))
 
           by_room : OneOf gift → undelivered p s' ≤ spare'
           by_room (Its a e hands its) = omega (arith, fewer hands, keeps.room, room, ap (λ (g : Option Array). length (handed t g)) e)
@@ -260,8 +261,8 @@ module _ (p : Program) (s s' : State) (Tells : Type 0) (pairs : List (Task × Ar
 -- ---- at the end
 
 -- where all tasks are done, each deliver task has handed over
-pub delivers-each : (p : Program) (s : State) (Tells : Type 0) (pairs : List (Task × Array)) → ((t : Task) → is_deliver_task p t ≡ true → done_in s t ≡ true) → DeliversDone p s Tells pairs → DeliversEach p Tells pairs
-delivers-each p s Tells pairs done delivered = record {
+pub delivers-each : (eq : Equations) (p : Program) (s : State) (Tells : Type 0) (pairs : List (Task × Array)) → ((t : Task) → is_deliver_task p t ≡ true → done_in s t ≡ true) → DeliversDone eq p s Tells pairs → DeliversEach eq p Tells pairs
+delivers-each eq p s Tells pairs done delivered = record {
   only = delivered.only;
   once = λ t hands. delivered.once t hands ∙ ap (λ b. if b then 1 else 0) (done t hands);
   dims = delivered.dims;

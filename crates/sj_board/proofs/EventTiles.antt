@@ -1,7 +1,7 @@
 -- What claims, drops and moves leave of a run: its blocks, and its tiles.
-use Rattle.std.proofs.Common.{◌≡◌, ◌<◌, ◌+◌, ◌⊎◌, ℕ, Bool, true, false, List, Option, None, Some, ◌∙◌, ap, arith, cond, inl, inr, is_some, length, position, refl, subst, sym, ◌&&◌}
-use Rattle.std.specs.Prelude.{All, IfSome, IsSomeAnd, option_map}
-use Rattle.std.proofs.lemmas.Bool.{and_from, and_parts, cases_Bool, false_from_ne_true, false≢true}
+use Rattle.std.proofs.Common.{◌≡◌, ◌<◌, ◌+◌, ℕ, Bool, true, false, List, Option, None, Some, ◌∙◌, ap, arith, inl, inr, is_some, length, refl, subst, sym, ◌&&◌}
+use Rattle.std.specs.Prelude.{All, IfSome, IsSomeAnd}
+use Rattle.std.proofs.lemmas.Bool.{and_parts, cases_Bool, false_from_ne_true, false≢true}
 use Rattle.std.proofs.lemmas.List.{get_or-set_same}
 use Rattle.std.proofs.lemmas.List.Elements.{All-get_or, All-weaker}
 use Rattle.std.proofs.lemmas.List.Quantifiers.{position-Some}
@@ -9,18 +9,19 @@ use Rattle.sj_base.proofs.Options.{IfSome-at}
 use Rattle.sj_base.proofs.SameIds.{same_cell-is, same_cell-itself, same_place-itself}
 use Rattle.sj_base.specs.declared.trace.Event.{Event}
 use Rattle.sj_base.specs.declared.trace.Event.TheVariants.{Claim, Drop, Move, Moved}
+use Rattle.sj_codelet.specs.Kernel.{Equations}
 use Rattle.sj_core.proofs.Claiming.{claim-on_disk, claim-rested, claim-rests, claim-valid, claim-writes}
 use Rattle.sj_core.proofs.Eviction.{evicted-after}
 use Rattle.sj_core.proofs.Finding.{being_written-by, both_pass, second_fails}
 use Rattle.sj_core.proofs.Placing.{cells_differ, home-is, mark-cases, on_disk-same, owned-fails, row-cases, same_place-is, writes-same}
 use Rattle.sj_core.proofs.Reading.{mark_in-same, no_row}
-use Rattle.sj_core.proofs.Replicas.{leaving-by_some, leaving_by-leaves, leaving_by-valid}
+use Rattle.sj_core.proofs.Replicas.{leaving_by-leaves, leaving_by-valid}
 use Rattle.sj_core.proofs.States.{one-mover}
-use Rattle.sj_core.proofs.Words.{Array, AtNode, Cell, CellState, DiskNo, Machine, Node, OnDisk, Place, Program, State, Task, Worker, cell_state, dims_of, has_copy, is_coming_by, is_leaving, is_leaving_by, is_valid, mark, mark_in, on_disk, same_cell, transfer, with_row, writes}
+use Rattle.sj_core.proofs.Words.{Array, AtNode, Cell, CellState, DiskNo, Machine, Node, OnDisk, Place, Program, State, Task, Worker, cell_state, dims_of, has_copy, is_coming_by, is_leaving, is_leaving_by, is_valid, mark, mark_in, same_cell, transfer, with_row, writes}
 use Rattle.sj_core.specs.Arrays.{Arrays, arrays_after}
 use Rattle.sj_core.specs.Coherent.{is_being_written}
 use Rattle.sj_core.specs.Laws.{IsSound}
-use Rattle.sj_core.specs.Step.{CanDrop, CanMoveIn, CanMoveOut, May, a_transfer, after, disk_of, is_home, mover_of, source_of}
+use Rattle.sj_core.specs.Step.{CanDrop, May, a_transfer, after, disk_of, is_home, mover_of, source_of}
 use Rattle.sj_core.specs.declared.progress.Transfer.{Transfer}
 use Rattle.sj_base.specs.Ids.{same_place}
 use Rattle.sj_disk.specs.Directory.{extent_of}
@@ -30,41 +31,27 @@ use Rattle.sj_replica.specs.Replica.{stored, with_mark}
 use Rattle.sj_replica.specs.declared.mark.Mark.{Mark}
 use Rattle.sj_replica.specs.declared.mark.Mark.TheVariants.{Invalid, Valid}
 use Rattle.sj_board.specs.Sound.{HoldsArray, HoldsBlocks, IsBlockCopyOf, IsStored, IsWrittenOut, Keeps}
-use Rattle.sj_board.specs.Standing.{AllTell, CanHappen, IsShareOf, IsTileMoved, IsTileOf, Standing, run_arrays, state, with_event}
-use Rattle.sj_board.specs.Tiles.{CanShare, HasTiles, tile_at, tile_kept, tiles_of, with_tile, with_tiles_of}
+use Rattle.sj_board.specs.Standing.{AllTell, CanHappen, IsShareOf, IsTileMoved, IsTileOf, StandingBy, run_arrays, state, with_event}
+use Rattle.sj_board.specs.Tiles.{CanShare, tile_at, tile_kept, tiles_of, with_tile, with_tiles_of}
 use Rattle.sj_board.proofs.Answering.{rows-state, to-rows}
 use Rattle.sj_board.proofs.Keeping.{HoldsArray-moved, HoldsBlocks-kept, IsSomeAnd-map, IsStored-kept, copy-on_disk, has-room, keeps-event, sound_state}
-use Rattle.sj_board.proofs.TileTables.{HasTiles-kept, HasTiles-put, Places, tile-cell, tile-place}
+use Rattle.sj_board.proofs.TileTables.{HasTiles-kept, HasTiles-put, Places, wide-at}
 
 same-bool : (x y : Bool) → (x ≡ false → y ≡ false) → (y ≡ false → x ≡ false) → x ≡ y
-same-bool true true f g = refl
-same-bool false false f g = refl
-same-bool false true f g = sym (f refl)
-same-bool true false f g = g refl
+same-bool x y f g = search (arith, cases_Bool)
 
 -- a mark that was written, and the others
 mark-here : (s : State) (c : Cell) (n : Node) (x : Mark) → c.0 < length s.cells → n.0 < length (cell_state s c).marks → mark (with_row s c (with_mark (cell_state s c) n x)) c n ≡ x
-mark-here s c n x inside within = ap (λ (row : CellState). mark_in row n) (get_or-set_same s.cells c.0 (with_mark (cell_state s c) n x) no_row inside) ∙ mark_in-same (cell_state s c) n x within
+mark-here s c n x inside within = search (arith, get_or-set_same, mark_in-same, no_row)
 
 mark-far : (s : State) (c : Cell) (n : Node) (x : Mark) (d : Cell) (k : Node) → ((d ≡ c) × (k ≡ n) → ⊥) → mark (with_row s c (with_mark (cell_state s c) n x)) d k ≡ mark s d k
-mark-far s c n x d k far = elim (mark-cases s c n x d k) [ inl same ↦ same | inr (e, at, is) ↦ absurd (far (e, at)) ]
+mark-far s c n x d k far = search (arith, mark-cases)
 
 -- a node from which a cell is fetched has a copy
 source-there : (p : Program) (m : Machine) (s : State) (c : Cell) (k : Node) → source_of p m s c ≡ Some (AtNode k) → is_valid (mark s c k) ≡ true
-source-there p m s c k source = by_position (position is_valid (cell_state s c).marks) refl source
-  where
-    by_position : (o : Option ℕ) → position is_valid (cell_state s c).marks ≡ o → (elim o as (λ _. Option Place) [ None ↦ option_map OnDisk (disk_of p m c) | Some j ↦ Some (AtNode (record { 0 = j })) ]) ≡ Some (AtNode k) → is_valid (mark s c k) ≡ true
-    by_position None e found = absurd (on_a_disk (disk_of p m c) found)
-      where
-        on_a_disk : (o : Option DiskNo) → option_map OnDisk o ≡ Some (AtNode k) → ⊥
-        on_a_disk None h = cc
-        on_a_disk (Some d) h = cc
-    by_position (Some j) e found =
-        let node : Node = record { 0 = j } in
-        let same : node ≡ k = (let at : Some (AtNode node) ≡ Some (AtNode k) = found in cc) in
-        ap (λ (x : Node). is_valid (mark s c x)) (sym same) ∙ (position-Some is_valid (cell_state s c).marks j Invalid e).1
+source-there p m s c k source = search (arith, position-Some, false≢true)
 
-module _ {D : Type 0} (size faults mismatches : D → ℕ) (held : D → Option (List ℕ)) (b : Standing D) (rows : Rows) (tiles : List Places) (spare : ℕ) (keeps : Keeps size faults mismatches held b rows tiles spare) where
+module _ {D : Type 0} {eq : Equations} (size faults mismatches : D → ℕ) (held : D → Option (List ℕ)) (b : StandingBy eq D) (rows : Rows) (tiles : List Places) (spare : ℕ) (keeps : Keeps size faults mismatches held b rows tiles spare) where
   abbrev p : Program
   p = b.program
 
@@ -80,19 +67,17 @@ module _ {D : Type 0} (size faults mismatches : D → ℕ) (held : D → Option 
   h : IsSound p m s
   h = sound_state size faults mismatches held b rows tiles spare keeps
 
-  -- a mark that isn't that of no copy is one of a cell of the program, at a node of the machine
-  there : (test : Mark → Bool) → test Invalid ≡ false → (c : Cell) (n : Node) → test (mark s c n) ≡ true → (c.0 < length p.cells) × (n.0 < length m.nodes)
+  -- a mark that isn't that of no copy is one of a place of the table
+  there : (test : Mark → Bool) → test Invalid ≡ false → (c : Cell) (n : Node) → test (mark s c n) ≡ true → (c.0 < length tiles) × (n.0 < length (tiles_of tiles c))
   there test none c n passes =
       let inside = mark-inside test none s c n passes in
       let wide : length (cell_state s c).marks ≡ length m.nodes = All-get_or (λ (row : CellState). length row.marks ≡ length m.nodes) s.cells c.0 no_row inside.0 h.coherent.state.rows.marks in
-      (omega (arith, inside.0, h.coherent.state.rows.cells), omega (arith, inside.1, wide))
+      let cell : c.0 < length tiles = omega (arith, inside.0, h.coherent.state.rows.cells, keeps.tiles.every_cell) in
+      (cell, omega (arith, inside.1, wide, wide-at (length m.nodes) tiles c keeps.tiles.every_node cell))
 
   -- a cell with a mark that neither the writer's own nor that of no copy could be isn't being written
   rests : (test : Mark → Bool) → test Valid ≡ false → test Invalid ≡ false → (c : Cell) (n : Node) → test (mark s c n) ≡ true → is_being_written p s c ≡ false
-  rests test valid none c n passes = false_from_ne_true (is_being_written p s c) (λ written.
-      (let by = being_written-by p s c written in
-      let own = h.coherent.writers.owned by.0 _ c by.1 by.2 in
-      false≢true (sym (owned-fails m s c _ own test valid none n) ∙ passes)))
+  rests test valid none c n passes = search (arith, false_from_ne_true, being_written-by, h.coherent.writers.owned, owned-fails, false≢true)
 
   -- ---- a claim
 
@@ -100,8 +85,8 @@ module _ {D : Type 0} (size faults mismatches : D → ℕ) (held : D → Option 
   keeps-claim t w can spare' left =
       let s' : State = after p m s (Claim t w) in
       keeps-event size faults mismatches held b rows tiles spare keeps (Claim t w) tiles spare' can
-      (HoldsBlocks-kept held p m s s' A (arrays_after p m A (Claim t w)) (AllTell held b) b.disks (λ c d. refl) (λ c on. (sym (claim-on_disk p m s t w s' can (evicted-after p m s t w) c) ∙ on, claim-writes p m s t w s' can (evicted-after p m s t w) c)) keeps.sound.blocks)
-      (HasTiles-kept p m s s' A (arrays_after p m A (Claim t w)) (AllTell held b) tiles keeps.tiles (λ d. same-bool (is_being_written p s' d) (is_being_written p s d) (claim-rested p m s h t w s' can (evicted-after p m s t w) d) (claim-rests p m s h t w s' can (evicted-after p m s t w) d)) (claim-valid p m s h t w s' can (evicted-after p m s t w)) (λ d k. refl)) left
+      (HoldsBlocks-kept held p m s s' A (arrays_after eq p m A (Claim t w)) (AllTell held b) b.disks (λ c d. refl) (λ c on. (sym (claim-on_disk p m s t w s' can (evicted-after p m s t w) c) ∙ on, claim-writes p m s t w s' can (evicted-after p m s t w) c)) keeps.sound.blocks)
+      (HasTiles-kept p m s s' A (arrays_after eq p m A (Claim t w)) (AllTell held b) tiles keeps.tiles (λ d. same-bool (is_being_written p s' d) (is_being_written p s d) (claim-rested p m s h t w s' can (evicted-after p m s t w) d) (claim-rests p m s h t w s' can (evicted-after p m s t w) d)) (claim-valid p m s h t w s' can (evicted-after p m s t w)) (λ d k. refl)) left
 
   -- ---- a drop
 
@@ -109,14 +94,8 @@ module _ {D : Type 0} (size faults mismatches : D → ℕ) (held : D → Option 
     drop : CanDrop s c n
     drop = can
 
-    inside : (c.0 < length p.cells) × (n.0 < length m.nodes)
-    inside = there is_leaving refl c n drop.leaving
-
-    pub drop-cell : c.0 < length tiles
-    drop-cell = tile-cell p m s s A A (AllTell held b) tiles keeps.tiles (λ d. refl) c n inside.0 inside.1
-
-    pub drop-place : n.0 < length (tiles_of tiles c)
-    drop-place = tile-place p m s s A A (AllTell held b) tiles keeps.tiles (λ d. refl) c n inside.0 inside.1
+    pub drop-place : (c.0 < length tiles) × (n.0 < length (tiles_of tiles c))
+    drop-place = there is_leaving refl c n drop.leaving
 
     pub keeps-drop : (spare' : ℕ) → spare' + 1 ≡ spare → Keeps size faults mismatches held (with_event b (Drop c n)) (has_happened rows (Drop c n)) (with_tiles_of tiles c (λ places. with_tile places n None)) spare'
     keeps-drop spare' left =
@@ -124,8 +103,8 @@ module _ {D : Type 0} (size faults mismatches : D → ℕ) (held : D → Option 
         let row : CellState = with_mark (cell_state s c) n Invalid in
         let at = mark-inside is_leaving refl s c n drop.leaving in
         keeps-event size faults mismatches held b rows tiles spare keeps (Drop c n) (with_tiles_of tiles c (λ places. with_tile places n None)) spare' can
-        (HoldsBlocks-kept held p m s s' A (arrays_after p m A (Drop c n)) (AllTell held b) b.disks (λ d k. refl) (λ d on. (sym (on_disk-same s c row refl d) ∙ on, writes-same s c row refl d)) keeps.sound.blocks)
-        (HasTiles-put p m s s' A (arrays_after p m A (Drop c n)) (AllTell held b) tiles keeps.tiles (λ d. refl) c n inside.0 inside.1 None (mark-far s c n Invalid) (λ d k far. refl) (rests is_leaving refl refl c n drop.leaving) (ap is_valid (sym (mark-here s c n Invalid at.0 at.1))) tt (λ tells. tt)) left
+        (HoldsBlocks-kept held p m s s' A (arrays_after eq p m A (Drop c n)) (AllTell held b) b.disks (λ d k. refl) (λ d on. (sym (on_disk-same s c row refl d) ∙ on, writes-same s c row refl d)) keeps.sound.blocks)
+        (HasTiles-put p m s s' A (arrays_after eq p m A (Drop c n)) (AllTell held b) tiles keeps.tiles (λ d. refl) c n drop-place.0 drop-place.1 None (mark-far s c n Invalid) (λ d k far. refl) (rests is_leaving refl refl c n drop.leaving) (ap is_valid (sym (mark-here s c n Invalid at.0 at.1))) tt (λ tells. tt)) left
 
   -- ---- a move begins
 
@@ -134,8 +113,8 @@ module _ {D : Type 0} (size faults mismatches : D → ℕ) (held : D → Option 
     keeps-begin spare' left =
         let s' : State = after p m s (Move c from to) in
         keeps-event size faults mismatches held b rows tiles spare keeps (Move c from to) tiles spare' can
-        (HoldsBlocks-kept held p m s s' A (arrays_after p m A (Move c from to)) (AllTell held b) b.disks (λ d k. refl) (λ d on. (on, refl)) keeps.sound.blocks)
-        (HasTiles-kept p m s s' A (arrays_after p m A (Move c from to)) (AllTell held b) tiles keeps.tiles (λ d. refl) (λ d k. refl) (λ d k. refl)) left
+        (HoldsBlocks-kept held p m s s' A (arrays_after eq p m A (Move c from to)) (AllTell held b) b.disks (λ d k. refl) (λ d on. (on, refl)) keeps.sound.blocks)
+        (HasTiles-kept p m s s' A (arrays_after eq p m A (Move c from to)) (AllTell held b) tiles keeps.tiles (λ d. refl) (λ d k. refl) (λ d k. refl)) left
 
     -- the copy that it reads at a node is there, and rests
     read : (n : Node) → from ≡ AtNode n → (is_valid (mark s c n) ≡ true) × (is_being_written p s c ≡ false)
@@ -155,13 +134,7 @@ module _ {D : Type 0} (size faults mismatches : D → ℕ) (held : D → Option 
       where
         by_source : (q : Place) → ((n : Node) → q ≡ AtNode n → (is_valid (mark s c n) ≡ true) × (is_being_written p s c ≡ false)) → CanShare tiles c q
         by_source (OnDisk d) reads = tt
-        by_source (AtNode n) reads =
-            let r = reads n refl in
-            let in_range = there is_valid refl c n r.0 in (
-              tile-cell p m s s A A (AllTell held b) tiles keeps.tiles (λ d. refl) c n in_range.0 in_range.1,
-              tile-place p m s s A A (AllTell held b) tiles keeps.tiles (λ d. refl) c n in_range.0 in_range.1,
-              keeps.tiles.there c n r.1 ∙ r.0,
-            )
+        by_source (AtNode n) reads = (let r = reads n refl in let at = there is_valid refl c n r.0 in (at.0, at.1, keeps.tiles.there c n r.1 ∙ r.0))
 
     share-kept : IsShareOf held b c from (tile_kept tiles c from)
     share-kept = by_source from (λ n at. read n at)
@@ -174,8 +147,8 @@ module _ {D : Type 0} (size faults mismatches : D → ℕ) (held : D → Option 
             by_tile None some dims arrays = absurd (false≢true some)
             by_tile (Some a) some dims arrays = record { dims = dims; array = arrays }
 
-    pub begin-share : (b' : Standing D) (share : Option Array) → b ≡ b' → share ≡ tile_kept tiles c from → IsShareOf held b' c from share
-    begin-share b' share same is = subst (λ (x : Standing D). IsShareOf held x c from share) same (subst (λ (o : Option Array). IsShareOf held b c from o) (sym is) share-kept)
+    pub begin-share : (b' : StandingBy eq D) (share : Option Array) → b ≡ b' → share ≡ tile_kept tiles c from → IsShareOf held b' c from share
+    begin-share b' share same is = subst (λ (x : StandingBy eq D). IsShareOf held x c from share) same (subst (λ (o : Option Array). IsShareOf held b c from o) (sym is) share-kept)
 
   -- ---- a move into a node ends
 
@@ -186,30 +159,24 @@ module _ {D : Type 0} (size faults mismatches : D → ℕ) (held : D → Option 
     can-end_in : CanHappen b (Moved c from (AtNode n))
     can-end_in = subst (λ (v : Worker). transfer s v ≡ Some (a_transfer c from (AtNode n))) (one-mover p m s c from (AtNode n) w h.coherent under_way) under_way
 
-    in_range : (c.0 < length p.cells) × (n.0 < length m.nodes)
-    in_range = there (is_coming_by w) refl c n coming
-
     pub in-cell : c.0 < length tiles
-    in-cell = tile-cell p m s s A A (AllTell held b) tiles keeps.tiles (λ d. refl) c n in_range.0 in_range.1
+    in-cell = (there (is_coming_by w) refl c n coming).0
+
+    place : n.0 < length (tiles_of tiles c)
+    place = (there (is_coming_by w) refl c n coming).1
 
     pub in-places : All (λ places. n.0 < length places) tiles
-    in-places = All-weaker (λ (places : Places). length places ≡ length m.nodes) (λ (places : Places). n.0 < length places) (λ places wide. omega (arith, wide, in_range.1)) tiles keeps.tiles.every_node
+    in-places = All-weaker (λ (places : Places). length places ≡ length m.nodes) (λ (places : Places). n.0 < length places) (λ places wide. omega (arith, wide, place, wide-at (length m.nodes) tiles c keeps.tiles.every_node in-cell)) tiles keeps.tiles.every_node
 
     abbrev moved_in : Arrays
-    moved_in = arrays_after p m A (Moved c from (AtNode n))
+    moved_in = arrays_after eq p m A (Moved c from (AtNode n))
 
     -- the cell has at the node what it has where it came from, and nothing else changes
     array-here : moved_in c (AtNode n) ≡ A c from
     array-here = both_pass (same_place (AtNode n) (AtNode n)) (same_cell c c) (A c from) (A c (AtNode n)) (same_place-itself (AtNode n)) (same_cell-itself c)
 
     array-far : (d : Cell) (k : Node) → ((d ≡ c) × (k ≡ n) → ⊥) → moved_in d (AtNode k) ≡ A d (AtNode k)
-    array-far d k far = elim (cases_Bool (same_place (AtNode k) (AtNode n) && same_cell c d)) [
-      | inr other ↦ ap (λ x. cond x (A c from) (A d (AtNode k))) other
-      | inl both ↦
-          let tests = and_parts (same_place (AtNode k) (AtNode n)) (same_cell c d) both in
-          let at : AtNode k ≡ AtNode n = same_place-is (AtNode k) (AtNode n) tests.0 in
-          absurd (far (sym (same_cell-is c d tests.1), (let is : k ≡ n = cc in is)))
-    ]
+    array-far d k far = search (arith, cases_Bool, and_parts, same_place-is, same_cell-is)
 
     pub keeps-moved_in : (tile : Array) → IsTileOf held b c from tile → (spare' : ℕ) → spare' + 1 ≡ spare → Keeps size faults mismatches held (with_event b (Moved c from (AtNode n))) (has_happened rows (Moved c from (AtNode n))) (with_tiles_of tiles c (λ places. with_tile places n (Some tile))) spare'
     keeps-moved_in tile is spare' left =
@@ -218,7 +185,7 @@ module _ {D : Type 0} (size faults mismatches : D → ℕ) (held : D → Option 
         let at = mark-inside (is_coming_by w) refl s c n coming in
         keeps-event size faults mismatches held b rows tiles spare keeps (Moved c from (AtNode n)) (with_tiles_of tiles c (λ places. with_tile places n (Some tile))) spare' can-end_in
         (HoldsBlocks-kept held p m s s' A moved_in (AllTell held b) b.disks (λ d k. refl) (λ d on. (sym (on_disk-same s c row refl d) ∙ on, writes-same s c row refl d)) keeps.sound.blocks)
-        (HasTiles-put p m s s' A moved_in (AllTell held b) tiles keeps.tiles (λ d. refl) c n in_range.0 in_range.1 (Some tile) (mark-far s c n Valid) array-far (rests (is_coming_by w) refl refl c n coming) (ap is_valid (sym (mark-here s c n Valid at.0 at.1))) is.dims (λ tells. is.array tells ∙ sym array-here)) left
+        (HasTiles-put p m s s' A moved_in (AllTell held b) tiles keeps.tiles (λ d. refl) c n in-cell place (Some tile) (mark-far s c n Valid) array-far (rests (is_coming_by w) refl refl c n coming) (ap is_valid (sym (mark-here s c n Valid at.0 at.1))) is.dims (λ tells. is.array tells ∙ sym array-here)) left
 
   -- ---- a move out to a disk ends
 
@@ -236,7 +203,7 @@ module _ {D : Type 0} (size faults mismatches : D → ℕ) (held : D → Option 
     s1 = after p m s (Moved c from (OnDisk d))
 
     abbrev moved_out : Arrays
-    moved_out = arrays_after p m A (Moved c from (OnDisk d))
+    moved_out = arrays_after eq p m A (Moved c from (OnDisk d))
 
     count : (x : Cell) → writes s1 x ≡ writes s x
     count x = writes-same s c out_row refl x
@@ -274,13 +241,13 @@ module _ {D : Type 0} (size faults mismatches : D → ℕ) (held : D → Option 
 
 -- ---- as the code finds it
 
-module _ {D : Type 0} (size faults mismatches : D → ℕ) (held : D → Option (List ℕ)) (b : Standing D) (rows : Rows) (tiles : List Places) (spare : ℕ) (keeps : Keeps size faults mismatches held b rows tiles spare) (b' : Standing D) (same : b ≡ b') where
+module _ {D : Type 0} {eq : Equations} (size faults mismatches : D → ℕ) (held : D → Option (List ℕ)) (b : StandingBy eq D) (rows : Rows) (tiles : List Places) (spare : ℕ) (keeps : Keeps size faults mismatches held b rows tiles spare) (b' : StandingBy eq D) (same : b ≡ b') where
   -- an event that can happen to the run can happen to its rows, and the trace has room for it
   pub rows-can : (e : Event) → CanHappen b' e → MayHappen rows e
   rows-can e can = to-rows size faults mismatches held b rows tiles spare keeps b' same (λ p m s. May p m s e) can
 
   pub now-can : (e : Event) → CanHappen b' e → CanHappen b e
-  now-can e can = subst (λ (x : Standing D). CanHappen x e) (sym same) can
+  now-can e can = subst (λ (x : StandingBy eq D). CanHappen x e) (sym same) can
 
   pub event-room : (e : Event) → CanHappen b' e → 0 < spare
   event-room e can = has-room size faults mismatches held b rows tiles spare keeps e (now-can e can)
@@ -294,10 +261,10 @@ module _ {D : Type 0} (size faults mismatches : D → ℕ) (held : D → Option 
     moved-room = has-room size faults mismatches held b rows tiles spare keeps (Moved x.cell x.from x.to) (subst (λ (v : Worker). transfer (state b) v ≡ Some x) (one-mover b.program b.machine (state b) x.cell x.from x.to w keeps.sound.coherent (its-transfer x.to refl)) (its-transfer x.to refl))
 
     pub its-tile : (a : Array) → IsTileMoved held b' w a → IsTileOf held b x.cell x.from a
-    its-tile a is = IfSome-at (λ (y : Transfer). IsTileOf held b y.cell y.from a) (transfer (state b) w) x (its-transfer x.to refl) (subst (λ (z : Standing D). IsTileMoved held z w a) (sym same) is)
+    its-tile a is = IfSome-at (λ (y : Transfer). IsTileOf held b y.cell y.from a) (transfer (state b) w) x (its-transfer x.to refl) (subst (λ (z : StandingBy eq D). IsTileMoved held z w a) (sym same) is)
 
     pub its-block : IsWrittenOut held b' w → IsSomeAnd (extent_of b.disks.directory x.cell.0) (IsBlockCopyOf held b x.cell x.from)
-    its-block is = IfSome-at (λ (y : Transfer). IsSomeAnd (extent_of b.disks.directory y.cell.0) (IsBlockCopyOf held b y.cell y.from)) (transfer (state b) w) x (its-transfer x.to refl) (subst (λ (z : Standing D). IsWrittenOut held z w) (sym same) is)
+    its-block is = IfSome-at (λ (y : Transfer). IsSomeAnd (extent_of b.disks.directory y.cell.0) (IsBlockCopyOf held b y.cell y.from)) (transfer (state b) w) x (its-transfer x.to refl) (subst (λ (z : StandingBy eq D). IsWrittenOut held z w) (sym same) is)
 
     module _ (n : Node) (at : x.to ≡ AtNode n) where
       pub found-in_cell : x.cell.0 < length tiles

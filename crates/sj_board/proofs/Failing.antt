@@ -4,6 +4,7 @@ use Rattle.std.specs.Prelude.{IfSome}
 use Rattle.std.proofs.lemmas.Bool.{cases_lt, false≢true}
 use Rattle.std.proofs.lemmas.List.{get_or_past}
 use Rattle.std.proofs.lemmas.List.Sums.{AllPass-from_list_all}
+use Rattle.sj_codelet.specs.Kernel.{Equations}
 use Rattle.sj_core.specs.declared.progress.Progress.{Progress}
 use Rattle.sj_core.specs.declared.progress.Progress.TheVariants.{Claimed, Done, Running, Waiting}
 use Rattle.sj_core.proofs.Words.{Machine, Program, State, Task, Worker, is_done, is_task_of, progress}
@@ -12,7 +13,7 @@ use Rattle.sj_deps.specs.Progress.{Dependencies}
 use Rattle.sj_board.specs.Cause.{HasCause}
 use Rattle.sj_board.specs.Standing.{state}
 use Rattle.sj_board.specs.declared.fault.RunFault.{RunFault}
-use Rattle.sj_board.specs.Board.{BoardState, IsOver, IsWorking, failed, first_fault, hand_of, stopped, with_hand}
+use Rattle.sj_board.specs.Board.{BoardBy, IsOver, IsWorking, failed, first_fault, hand_of, stopped, with_hand}
 use Rattle.sj_board.specs.BoardSound.{HandsAgree, KeepsBoard, StopsAtTheEnd, times_pooled}
 use Rattle.sj_board.specs.declared.hand.Hand.{Hand}
 use Rattle.sj_board.proofs.Hands.{given-same, hand-set, pool_for-same, stands-same, inside-hands}
@@ -38,7 +39,7 @@ done-no_task (Claimed v) w h = absurd (false≢true h)
 done-no_task (Running v) w h = absurd (false≢true h)
 done-no_task (Done v) w h = refl
 
-module _ {D : Type 0} (faults mismatches : D → ℕ) (held : D → Option (List ℕ)) (b : BoardState D) (deps : Dependencies) (footprints : List ℕ) (keeps : KeepsBoard faults mismatches held b deps footprints) (w : Worker) (works : IsWorking b w) where
+module _ {D : Type 0} {eq : Equations} (faults mismatches : D → ℕ) (held : D → Option (List ℕ)) (b : BoardBy eq D) (deps : Dependencies) (footprints : List ℕ) (keeps : KeepsBoard faults mismatches held b deps footprints) (w : Worker) (works : IsWorking b w) where
   abbrev p : Program
   p = b.run.program
 
@@ -112,11 +113,11 @@ module _ {D : Type 0} (faults mismatches : D → ℕ) (held : D → Option (List
       no-task (inr some) none t has = false≢true (ap is_some (sym none) ∙ some)
 
 -- as the code leaves it
-pub failed-left : {D : Type 0} (faults mismatches : D → ℕ) (held : D → Option (List ℕ)) (b : BoardState D) (deps : Dependencies) (footprints : List ℕ) → KeepsBoard faults mismatches held b deps footprints → (w : Worker) → IsWorking b w → (fault : RunFault) → HasCause faults mismatches held b.run fault → (hands' : List Hand) (fault' : Option RunFault) → hands' ≡ slice_set b.hands w.0 (record (hand_of b w) { task = None }) → fault' ≡ first_fault b.fault fault → KeepsBoard faults mismatches held (record b { hands = hands'; fault = fault' }) deps footprints
+pub failed-left : {D : Type 0} {eq : Equations} (faults mismatches : D → ℕ) (held : D → Option (List ℕ)) (b : BoardBy eq D) (deps : Dependencies) (footprints : List ℕ) → KeepsBoard faults mismatches held b deps footprints → (w : Worker) → IsWorking b w → (fault : RunFault) → HasCause faults mismatches held b.run fault → (hands' : List Hand) (fault' : Option RunFault) → hands' ≡ slice_set b.hands w.0 (record (hand_of b w) { task = None }) → fault' ≡ first_fault b.fault fault → KeepsBoard faults mismatches held (record b { hands = hands'; fault = fault' }) deps footprints
 failed-left faults mismatches held b deps footprints keeps w works fault cause hands' fault' hs f =
     subst (λ (x : List Hand). KeepsBoard faults mismatches held (record b { hands = x; fault = fault' }) deps footprints) (sym hs)
     (subst (λ (x : Option RunFault). KeepsBoard faults mismatches held (record (with_hand b w (record (hand_of b w) { task = None })) { fault = x }) deps footprints) (sym f) (keeps-failed faults mismatches held b deps footprints keeps w works fault cause))
 
-pub stopped-left : {D : Type 0} (faults mismatches : D → ℕ) (held : D → Option (List ℕ)) (b : BoardState D) (deps : Dependencies) (footprints : List ℕ) → KeepsBoard faults mismatches held b deps footprints → (w : Worker) → IsWorking b w → IsOver b → (hands' : List Hand) → hands' ≡ slice_set b.hands w.0 (record (hand_of b w) { task = None; has_stopped = true }) → KeepsBoard faults mismatches held (record b { hands = hands' }) deps footprints
+pub stopped-left : {D : Type 0} {eq : Equations} (faults mismatches : D → ℕ) (held : D → Option (List ℕ)) (b : BoardBy eq D) (deps : Dependencies) (footprints : List ℕ) → KeepsBoard faults mismatches held b deps footprints → (w : Worker) → IsWorking b w → IsOver b → (hands' : List Hand) → hands' ≡ slice_set b.hands w.0 (record (hand_of b w) { task = None; has_stopped = true }) → KeepsBoard faults mismatches held (record b { hands = hands' }) deps footprints
 stopped-left faults mismatches held b deps footprints keeps w works over hands' hs =
     subst (λ (x : List Hand). KeepsBoard faults mismatches held (record b { hands = x }) deps footprints) (sym hs) (keeps-stopped faults mismatches held b deps footprints keeps w works over)

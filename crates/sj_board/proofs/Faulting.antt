@@ -3,11 +3,12 @@ use Rattle.std.proofs.Common.{ℕ, ◌≤◌, Bool, Option, Some, None, List, ar
 use Rattle.std.specs.Prelude.{IfSome, IsSomeAnd, MatchOption, slice_get}
 use Rattle.std.specs.List.{AllZip}
 use Rattle.std.proofs.lemmas.Slice.Zip.{AllZip-left}
+use Rattle.sj_codelet.specs.Kernel.{Equations}
 use Rattle.sj_disk.specs.Directory.{DiskState}
 use Rattle.sj_edge.specs.Faults.{Rose}
 use Rattle.sj_edge.specs.GivenBack.{AreGivenBack, IsGivenBack}
 use Rattle.sj_board.specs.Cause.{HasCause, HasRisen}
-use Rattle.sj_board.specs.Standing.{Standing}
+use Rattle.sj_board.specs.Standing.{StandingBy}
 use Rattle.sj_board.specs.declared.fault.RunFault.{RunFault}
 use Rattle.sj_board.specs.declared.fault.RunFault.TheVariants.{Damaged, DiskFault, OutOfMemory}
 
@@ -28,7 +29,7 @@ risen-kept count Q opened old new d grows back risen = by_opened (slice_get open
     by_opened None h = h
     by_opened (Some x) h = above count (count x) Q (slice_get old d) (slice_get new d) grows h (AllZip-left Q old new back d)
 
-module _ {D : Type 0} (size faults mismatches : D → ℕ) (held : D → Option (List ℕ)) (b : Standing D) (disks : DiskState D) (out : List Bool) (back : AreGivenBack size faults mismatches held b.disks.disks disks.disks) where
+module _ {D : Type 0} {eq : Equations} (size faults mismatches : D → ℕ) (held : D → Option (List ℕ)) (b : StandingBy eq D) (disks : DiskState D) (out : List Bool) (back : AreGivenBack size faults mismatches held b.disks.disks disks.disks) where
   pub cause-kept : (fault : RunFault) → HasCause faults mismatches held b fault → HasCause faults mismatches held (record b { disks = disks; out = out }) fault
   cause-kept (DiskFault d) risen = risen-kept faults (IsGivenBack size faults mismatches held) b.opened b.disks.disks disks.disks d.0 (λ y z given. given.faults_never_fall) back risen
   cause-kept (Damaged d want found) (risen, differ, untold, last) = (risen-kept mismatches (IsGivenBack size faults mismatches held) b.opened b.disks.disks disks.disks d.0 (λ y z given. given.mismatches_never_fall) back risen, differ, untold, last)

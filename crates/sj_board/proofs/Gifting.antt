@@ -9,6 +9,7 @@ use Rattle.sj_base.specs.declared.mode.Mode.TheVariants.{R}
 use Rattle.sj_base.specs.declared.program.Lowered.{Lowered}
 use Rattle.sj_base.specs.declared.trace.Event.TheVariants.{Run}
 use Rattle.sj_base.specs.Array.{Array}
+use Rattle.sj_codelet.specs.Kernel.{Equations}
 use Rattle.sj_core.proofs.Words.{Cell, Node, Program, Task, Worker, dims_of, node_of, task_of}
 use Rattle.sj_core.specs.Proper.{access}
 use Rattle.sj_machine.specs.Rows.{Rows}
@@ -16,11 +17,11 @@ use Rattle.sj_board.specs.Tiles.{tile_at, tile_in, tiles_of}
 use Rattle.sj_board.specs.Delivery.{delivered_cell, is_deliver_task, is_delivery, IsGift}
 use Rattle.sj_board.specs.Shares.{CanGive, kept_at}
 use Rattle.sj_board.specs.Sound.{Keeps}
-use Rattle.sj_board.specs.Standing.{AllTell, CanHappen, IsTileOf, Standing, run_arrays}
+use Rattle.sj_board.specs.Standing.{AllTell, CanHappen, IsTileOf, StandingBy, run_arrays}
 use Rattle.sj_board.proofs.Delivering.{deliver-reads}
 use Rattle.sj_board.proofs.RunningTiles.{run-can_give}
 
-module _ {D : Type 0} (size faults mismatches : D → ℕ) (held : D → Option (List ℕ)) (b : Standing D) (rows : Rows) (tiles : List (List (Option Array))) (spare : ℕ) (keeps : Keeps size faults mismatches held b rows tiles spare) (t : Task) (w : Worker) (can : CanHappen b (Run t w)) (hands : is_deliver_task b.program t ≡ true) where
+module _ {D : Type 0} {eq : Equations} (size faults mismatches : D → ℕ) (held : D → Option (List ℕ)) (b : StandingBy eq D) (rows : Rows) (tiles : List (List (Option Array))) (spare : ℕ) (keeps : Keeps size faults mismatches held b rows tiles spare) (t : Task) (w : Worker) (can : CanHappen b (Run t w)) (hands : is_deliver_task b.program t ≡ true) where
   abbrev cell : Cell
   cell = delivered_cell b.program t
 
@@ -54,8 +55,8 @@ module _ {D : Type 0} (size faults mismatches : D → ℕ) (held : D → Option 
     pub gift-there : is_some (tile_in row n) ≡ true
     gift-there = ap (λ (r : List (Option Array)). is_some (tile_in r n)) its ∙ ap (λ (j : Node). is_some (tile_in (tiles_of tiles cell) j)) at ∙ there
 
-    pub gift-given : (b' : Standing D) → b ≡ b' → (x : Array) → tile_in row n ≡ Some x → IsGift held b' t w (Some x)
-    gift-given b' same x kept_there = subst (λ (z : Standing D). IsGift held z t w (Some x)) same (record {
+    pub gift-given : (b' : StandingBy eq D) → b ≡ b' → (x : Array) → tile_in row n ≡ Some x → IsGift held b' t w (Some x)
+    gift-given b' same x kept_there = subst (λ (z : StandingBy eq D). IsGift held z t w (Some x)) same (record {
       some = λ yes. subst (λ (a : Array). IsTileOf held b cell (AtNode (node_of b.machine w)) a) kept tile;
       none = λ other. absurd (false≢true (sym other ∙ hands));
     })

@@ -3,6 +3,7 @@ use Rattle.std.proofs.Common.{◌≡◌, ℕ, ◌+◌, ◌<◌, ◌≤◌, true,
 use Rattle.std.proofs.lemmas.Bool.{cases_lt}
 use Rattle.std.proofs.lemmas.List.Sums.{get_or-le-sum_by}
 use Rattle.sj_base.specs.declared.mode.Policy.TheVariants.{Prio}
+use Rattle.sj_codelet.specs.Kernel.{Equations}
 use Rattle.sj_core.proofs.Words.{Machine, Program, State, Task, Worker, footprint, is_task_of, node_of, node_size, progress}
 use Rattle.sj_core.specs.Legal.{IsComplete}
 use Rattle.sj_deps.specs.Progress.{Dependencies}
@@ -10,9 +11,9 @@ use Rattle.sj_pool.proofs.Keeping.{home-within}
 use Rattle.sj_pool.specs.Pool.{Pooled, contains, home, with_entry}
 use Rattle.sj_base.specs.Array.{Array}
 use Rattle.sj_machine.specs.ReadyTasks.{IsToBeTaken}
-use Rattle.sj_board.specs.Standing.{Standing, state}
+use Rattle.sj_board.specs.Standing.{StandingBy, state}
 use Rattle.sj_board.specs.declared.fault.RunFault.{RunFault}
-use Rattle.sj_board.specs.Board.{BoardState, board_state, empty_hand, given_back, given_from, hand_of, room_of}
+use Rattle.sj_board.specs.Board.{BoardBy, board_state, empty_hand, given_back, given_from, hand_of, room_of}
 use Rattle.sj_board.specs.Filling.{entry_of}
 use Rattle.sj_board.specs.BoardSound.{IsEntry, IsPoolFor, KeepsBoard, is_given, times_given, times_pooled}
 use Rattle.sj_board.specs.Passing.{IsLeft, IsPoolOf, IsTakenBehind}
@@ -30,12 +31,12 @@ once-given t hand = by_given hand.given
     by_given (Some u) = refl
 
 -- as the code leaves it
-pub keeps-left : {D : Type 0} (faults mismatches : D → ℕ) (held : D → Option (List ℕ)) (run : Standing D) (hs hs' : List Hand) (q q' : Pooled) (fault : Option RunFault) (delivered : List (Task × Array)) (deps : Dependencies) (footprints : List ℕ) → hs' ≡ hs → q' ≡ q → KeepsBoard faults mismatches held (board_state run hs q fault delivered) deps footprints → KeepsBoard faults mismatches held (board_state run hs' q' fault delivered) deps footprints
+pub keeps-left : {D : Type 0} {eq : Equations} (faults mismatches : D → ℕ) (held : D → Option (List ℕ)) (run : StandingBy eq D) (hs hs' : List Hand) (q q' : Pooled) (fault : Option RunFault) (delivered : List (Task × Array)) (deps : Dependencies) (footprints : List ℕ) → hs' ≡ hs → q' ≡ q → KeepsBoard faults mismatches held (board_state run hs q fault delivered) deps footprints → KeepsBoard faults mismatches held (board_state run hs' q' fault delivered) deps footprints
 keeps-left faults mismatches held run hs hs' q q' fault delivered deps footprints h e keeps =
     subst (λ (x : List Hand). KeepsBoard faults mismatches held (board_state run x q' fault delivered) deps footprints) (sym h)
     (subst (λ (x : Pooled). KeepsBoard faults mismatches held (board_state run hs x fault delivered) deps footprints) (sym e) keeps)
 
-module _ {D : Type 0} (faults mismatches : D → ℕ) (held : D → Option (List ℕ)) (b : BoardState D) (deps : Dependencies) (footprints : List ℕ) (keeps : KeepsBoard faults mismatches held b deps footprints) (w : Worker) (known : w.0 < b.run.program.workers) (prio : b.run.machine.policy ≡ Prio) where
+module _ {D : Type 0} {eq : Equations} (faults mismatches : D → ℕ) (held : D → Option (List ℕ)) (b : BoardBy eq D) (deps : Dependencies) (footprints : List ℕ) (keeps : KeepsBoard faults mismatches held b deps footprints) (w : Worker) (known : w.0 < b.run.program.workers) (prio : b.run.machine.policy ≡ Prio) where
   abbrev p : Program
   p = b.run.program
 

@@ -1,5 +1,5 @@
 -- What one legal event more leaves: a legal trace, a coherent state, and blocks that stay.
-use Rattle.std.proofs.Common.{◌≡◌, ◌<◌, ◌+◌, ℕ, Bool, true, List, [], ◌∷◌, ◌++◌, length, Option, Some, None, refl, sym, ap, ◌∙◌, subst, arith, ◌&&◌}
+use Rattle.std.proofs.Common.{◌≡◌, ◌<◌, ◌+◌, ℕ, true, List, [], ◌∷◌, ◌++◌, length, Option, Some, None, sym, ap, ◌∙◌, subst, arith}
 use Rattle.std.specs.Prelude.{All, FitsSigned, IsSomeAnd}
 use Rattle.std.specs.Int.{w64}
 use Rattle.std.proofs.lemmas.Bool.{and_from, and_parts}
@@ -7,6 +7,7 @@ use Rattle.std.proofs.lemmas.List.{length-append}
 use Rattle.sj_base.specs.Array.{Array}
 use Rattle.sj_base.specs.Recorded.{Recorded}
 use Rattle.sj_base.specs.declared.trace.Event.{Event}
+use Rattle.sj_codelet.specs.Kernel.{Equations}
 use Rattle.sj_core.proofs.Words.{Cell, DiskNo, Machine, OnDisk, Place, Program, State, has_copy, on_disk, writes}
 use Rattle.sj_core.proofs.Bound.{legal-within_bound}
 use Rattle.sj_core.proofs.Replaying.{legal-coherent, legal-content}
@@ -21,8 +22,8 @@ use Rattle.sj_disk.specs.Directory.{DiskState, extent_of, last_store}
 use Rattle.sj_disk.specs.Holding.{Holds}
 use Rattle.sj_disk.specs.Lending.{LendingState}
 use Rattle.sj_machine.specs.Rows.{Rows, has_happened}
-use Rattle.sj_board.specs.Sound.{HoldsArray, HoldsBlocks, IsStored, Keeps, rows_of}
-use Rattle.sj_board.specs.Standing.{AllTell, CanHappen, Standing, run_arrays, standing, state, with_event}
+use Rattle.sj_board.specs.Sound.{HoldsArray, HoldsBlocks, IsStored, Keeps}
+use Rattle.sj_board.specs.Standing.{AllTell, CanHappen, StandingBy, run_arrays, standing, state, with_event}
 use Rattle.sj_board.specs.Tiles.{HasTiles}
 
 -- a block that holds a cell's array still does where the array and the count of writes stay, at whichever place
@@ -56,7 +57,7 @@ HoldsBlocks-kept held p m s s' A A' Tells disks same kept had = record {
     before : (c : Cell) (d : DiskNo) → has_copy p m s' c (OnDisk d) ≡ true → has_copy p m s c (OnDisk d) ≡ true
     before c d copy = let parts = copy-on_disk p m s' c d copy in and_from (on_disk s c) (is_home p m c d) (kept c parts.0).0 parts.1
 
-module _ {D : Type 0} (size faults mismatches : D → ℕ) (held : D → Option (List ℕ)) (b : Standing D) (rows : Rows) (tiles : List (List (Option Array))) (spare : ℕ) (keeps : Keeps size faults mismatches held b rows tiles spare) where
+module _ {D : Type 0} {eq : Equations} (size faults mismatches : D → ℕ) (held : D → Option (List ℕ)) (b : StandingBy eq D) (rows : Rows) (tiles : List (List (Option Array))) (spare : ℕ) (keeps : Keeps size faults mismatches held b rows tiles spare) where
   abbrev p : Program
   p = b.program
 
@@ -71,17 +72,17 @@ module _ {D : Type 0} (size faults mismatches : D → ℕ) (held : D → Option 
   has-room e can = omega (arith, legal-within_bound p m keeps.sound.run.proper keeps.sound.run.machine (b.trace ++ e ∷ []) (legal-more p m b.trace e keeps.sound.legal can), keeps.room, length-append b.trace (e ∷ []))
 
   -- one event more: the tiles are those of the state after it, and so on
-  pub keeps-event : (e : Event) (tiles' : List (List (Option Array))) (spare' : ℕ) → CanHappen b e → HoldsBlocks held p m (after p m (state b) e) (arrays_after p m (run_arrays b) e) (AllTell held b) b.disks → HasTiles p m (after p m (state b) e) (arrays_after p m (run_arrays b) e) (AllTell held b) tiles' → spare' + 1 ≡ spare → Keeps size faults mismatches held (with_event b e) (has_happened rows e) tiles' spare'
+  pub keeps-event : (e : Event) (tiles' : List (List (Option Array))) (spare' : ℕ) → CanHappen b e → HoldsBlocks held p m (after p m (state b) e) (arrays_after eq p m (run_arrays b) e) (AllTell held b) b.disks → HasTiles p m (after p m (state b) e) (arrays_after eq p m (run_arrays b) e) (AllTell held b) tiles' → spare' + 1 ≡ spare → Keeps size faults mismatches held (with_event b e) (has_happened rows e) tiles' spare'
   keeps-event e tiles' spare' can blocks has left =
       let now : state (with_event b e) ≡ after p m (state b) e = state_of-more p m b.trace e in
-      let now_arrays : run_arrays (with_event b e) ≡ arrays_after p m (run_arrays b) e = arrays_of-more p m b.trace e in
+      let now_arrays : run_arrays (with_event b e) ≡ arrays_after eq p m (run_arrays b) e = arrays_of-more eq p m b.trace e in
       let legal : IsLegal p m (b.trace ++ e ∷ []) = legal-more p m b.trace e keeps.sound.legal can in
       record {
         sound = record {
           run = keeps.sound.run;
           legal = legal;
           coherent = legal-coherent p m keeps.sound.run.proper keeps.sound.run.machine (b.trace ++ e ∷ []) legal;
-          content = legal-content p m keeps.sound.run.proper keeps.sound.run.machine keeps.sound.run.has keeps.sound.run.lawful (b.trace ++ e ∷ []) legal;
+          content = legal-content p m keeps.sound.run.proper keeps.sound.run.machine eq keeps.sound.run.has keeps.sound.run.lawful (b.trace ++ e ∷ []) legal;
           blocks = subst (λ (z : State). HoldsBlocks held p m z (run_arrays (with_event b e)) (AllTell held b) b.disks) (sym now) (subst (λ (A : Arrays). HoldsBlocks held p m (after p m (state b) e) A (AllTell held b) b.disks) (sym now_arrays) blocks);
           given_back = keeps.sound.given_back;
         };
@@ -91,8 +92,8 @@ module _ {D : Type 0} (size faults mismatches : D → ℕ) (held : D → Option 
       }
 
 -- as the code leaves it: the rows and the trace have the event, and the tiles are these
-pub keeps-told : {D : Type 0} (size faults mismatches : D → ℕ) (held : D → Option (List ℕ)) (rows : Rows) (trace : Recorded) (lent : LendingState D) (opened : DiskState D) (e : Event) (tiles : List (List (Option Array))) (rows' : Rows) (tiles' : List (List (Option Array))) (trace' : Recorded) → rows' ≡ has_happened rows e → tiles' ≡ tiles → trace'.events ≡ trace.events ++ e ∷ [] → Keeps size faults mismatches held (with_event (standing rows.program rows.machine trace lent opened) e) (has_happened rows e) tiles trace'.spare → Keeps size faults mismatches held (standing rows'.program rows'.machine trace' lent opened) rows' tiles' trace'.spare
-keeps-told size faults mismatches held rows trace lent opened e tiles rows' tiles' trace' happened are told keeps =
-    subst (λ (r : Rows). Keeps size faults mismatches held (standing r.program r.machine trace' lent opened) r tiles' trace'.spare) (sym happened)
-    (subst (λ (ts : List (List (Option Array))). Keeps size faults mismatches held (standing rows.program rows.machine trace' lent opened) (has_happened rows e) ts trace'.spare) (sym are)
-    (subst (λ (es : List Event). Keeps size faults mismatches held (record (standing rows.program rows.machine trace' lent opened) { trace = es }) (has_happened rows e) tiles trace'.spare) (sym told) keeps))
+pub keeps-told : {D : Type 0} (size faults mismatches : D → ℕ) (held : D → Option (List ℕ)) (eq : Equations) (rows : Rows) (trace : Recorded) (lent : LendingState D) (opened : DiskState D) (e : Event) (tiles : List (List (Option Array))) (rows' : Rows) (tiles' : List (List (Option Array))) (trace' : Recorded) → rows' ≡ has_happened rows e → tiles' ≡ tiles → trace'.events ≡ trace.events ++ e ∷ [] → Keeps size faults mismatches held (with_event (standing eq rows.program rows.machine trace lent opened) e) (has_happened rows e) tiles trace'.spare → Keeps size faults mismatches held (standing eq rows'.program rows'.machine trace' lent opened) rows' tiles' trace'.spare
+keeps-told size faults mismatches held eq rows trace lent opened e tiles rows' tiles' trace' happened are told keeps =
+    subst (λ (r : Rows). Keeps size faults mismatches held (standing eq r.program r.machine trace' lent opened) r tiles' trace'.spare) (sym happened)
+    (subst (λ (ts : List (List (Option Array))). Keeps size faults mismatches held (standing eq rows.program rows.machine trace' lent opened) (has_happened rows e) ts trace'.spare) (sym are)
+    (subst (λ (es : List Event). Keeps size faults mismatches held (record (standing eq rows.program rows.machine trace' lent opened) { trace = es }) (has_happened rows e) tiles trace'.spare) (sym told) keeps))

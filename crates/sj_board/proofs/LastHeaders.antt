@@ -3,6 +3,7 @@
 use Rattle.std.proofs.Common.{◌≡◌, ℕ, true, false, Option, None, Some, List, ap, inl, inr, refl, subst, sym, ◌∙◌}
 use Rattle.std.specs.Prelude.{IfSome}
 use Rattle.std.proofs.lemmas.Bool.{and_from, false_from_ne_true, false≢true}
+use Rattle.sj_codelet.specs.Kernel.{Equations}
 use Rattle.sj_core.specs.declared.progress.Progress.TheVariants.{Running}
 use Rattle.sj_base.specs.Array.{area}
 use Rattle.sj_base.specs.declared.trace.Event.{Event}
@@ -18,7 +19,7 @@ use Rattle.sj_disk.specs.Block.{header}
 use Rattle.sj_disk.specs.declared.header.Header.{Header}
 use Rattle.sj_board.specs.Cause.{HasCause}
 use Rattle.sj_board.specs.Headers.{IsLastWritten}
-use Rattle.sj_board.specs.Standing.{CanHappen, Standing, state, with_event}
+use Rattle.sj_board.specs.Standing.{CanHappen, StandingBy, state, with_event}
 use Rattle.sj_board.specs.declared.fault.RunFault.{RunFault}
 use Rattle.sj_board.specs.declared.fault.RunFault.TheVariants.{Damaged, DiskFault, OutOfMemory}
 use Rattle.sj_board.proofs.Keeping.{copy-on_disk}
@@ -65,9 +66,9 @@ module _ (p : Program) (m : Machine) (s : State) (coherent : Coherent p m s) (t 
 
 -- ---- the cause of a fault that is kept
 
-module _ {D : Type 0} (faults mismatches : D → ℕ) (held : D → Option (List ℕ)) (b : Standing D) where
+module _ {D : Type 0} {eq : Equations} (faults mismatches : D → ℕ) (held : D → Option (List ℕ)) (b : StandingBy eq D) where
   -- where none is kept
-  pub none-caused : (b' : Standing D) (fault : Option RunFault) → fault ≡ None → IfSome fault (HasCause faults mismatches held b')
+  pub none-caused : (b' : StandingBy eq D) (fault : Option RunFault) → fault ≡ None → IfSome fault (HasCause faults mismatches held b')
   none-caused b' fault none = subst (λ (o : Option RunFault). IfSome o (HasCause faults mismatches held b')) (sym none) tt
 
   cause-more : (e : Event) → KeepsOnDisks (state b) (after b.program b.machine (state b) e) → (fault : Option RunFault) → IfSome fault (HasCause faults mismatches held b) → IfSome fault (HasCause faults mismatches held (with_event b e))

@@ -1,5 +1,5 @@
 -- Shared tiles as arrays, and lists that are written one item after another, or in a loan.
-use Rattle.std.proofs.Common.{◌≡◌, ◌<◌, ◌+◌, ◌∷◌, [], ℕ, zero, suc, List, Option, None, ◌∙◌, ap, arith, get_or, inl, inr, length, map, refl, replicate, set, subst, sym}
+use Rattle.std.proofs.Common.{◌≡◌, ◌<◌, ◌+◌, ◌∷◌, [], ℕ, zero, suc, List, Option, None, ◌∙◌, ap, arith, get_or, inl, inr, length, refl, replicate, set, subst, sym}
 use Rattle.std.proofs.Math.Seq.{take-append_seam}
 use Rattle.std.specs.List.{refill}
 use Rattle.std.proofs.lemmas.Bool.{cases_eq}

@@ -1,16 +1,17 @@
 -- A run on which nothing has happened.
-use Rattle.std.proofs.Common.{◌≡◌, ◌≤◌, ◌+◌, ◌∙◌, ℕ, true, false, List, [], Option, None, refl, sym, ap, subst, arith, inl, inr, length, replicate, is_some, ◌&&◌}
+use Rattle.std.proofs.Common.{◌≡◌, ◌≤◌, ◌+◌, ◌∙◌, ℕ, true, false, List, [], Option, None, refl, sym, ap, subst, arith, inl, inr, length, replicate, is_some}
 use Rattle.std.specs.Prelude.{IfSome, IsSomeAnd}
-use Rattle.std.proofs.lemmas.Bool.{and_parts, cases_lt, false≢true}
+use Rattle.std.proofs.lemmas.Bool.{cases_lt, false≢true}
 use Rattle.std.proofs.lemmas.List.{get_or-replicate, get_or_past, length-replicate}
 use Rattle.std.proofs.lemmas.List.Elements.{All-replicate}
 use Rattle.sj_base.proofs.Lists.{get_or-replicate_same}
 use Rattle.sj_base.specs.Recorded.{Recorded}
 use Rattle.sj_base.specs.declared.trace.Event.{Event}
+use Rattle.sj_codelet.specs.Kernel.{Equations}
 use Rattle.sj_core.proofs.Finding.{being_written-by}
 use Rattle.sj_core.proofs.Opening.{opening-coherent, opening-content, nowhere}
 use Rattle.sj_core.proofs.Reading.{no_row}
-use Rattle.sj_core.proofs.Words.{Array, AtNode, Cell, CellState, DiskNo, Machine, Node, OnDisk, Program, dims_of, has_copy, is_valid, mark, on_disk, opening, progress}
+use Rattle.sj_core.proofs.Words.{Array, AtNode, Cell, CellState, DiskNo, Machine, Node, OnDisk, Program, dims_of, has_copy, is_valid, on_disk, opening, progress}
 use Rattle.sj_core.specs.Arrays.{Arrays}
 use Rattle.sj_core.specs.Coherent.{is_being_written}
 use Rattle.sj_core.specs.declared.progress.Progress.TheVariants.{Waiting}
@@ -20,8 +21,8 @@ use Rattle.sj_disk.specs.Lending.{LendingState, lending}
 use Rattle.sj_machine.specs.Rows.{Rows, rows_at_start}
 use Rattle.sj_replica.specs.Replica.{no_copy}
 use Rattle.sj_board.specs.Sound.{IsBlock, IsRunnableOn, Keeps, block_of, most_events}
-use Rattle.sj_board.specs.Standing.{AllTell, Standing, run_arrays, standing, starting}
-use Rattle.sj_board.specs.Tiles.{HasTiles, tile_at, tile_in, tiles_of}
+use Rattle.sj_board.specs.Standing.{AllTell, StandingBy, run_arrays, standing, starting}
+use Rattle.sj_board.specs.Tiles.{HasTiles, tile_at, tile_in}
 use Rattle.sj_board.proofs.Keeping.{copy-on_disk}
 use Rattle.sj_board.proofs.TileTables.{Places}
 
@@ -53,9 +54,9 @@ module _ (p : Program) (m : Machine) where
     arrays = λ tells c n. subst (λ (o : Option Array). IfSome o (λ a. a ≡ A c (AtNode n))) (sym (no_tile c n)) tt;
   }
 
-module _ {D : Type 0} (size faults mismatches : D → ℕ) (held : D → Option (List ℕ)) (p : Program) (m : Machine) (run : IsRunnableOn p m) (disks : DiskState D) (placed : (c : Cell) → IfSome (block_of p m c) (λ b. IsSomeAnd (extent_of disks.directory c.0) (IsBlock p c b))) where
-  abbrev b : Standing D
-  b = starting p m disks
+module _ {D : Type 0} (size faults mismatches : D → ℕ) (held : D → Option (List ℕ)) (eq : Equations) (p : Program) (m : Machine) (run : IsRunnableOn eq p m) (disks : DiskState D) (placed : (c : Cell) → IfSome (block_of p m c) (λ b. IsSomeAnd (extent_of disks.directory c.0) (IsBlock p c b))) where
+  abbrev b : StandingBy eq D
+  b = starting eq p m disks
 
   keeps-first : (spare : ℕ) → most_events p ≤ spare → Keeps size faults mismatches held b (rows_at_start p m) (no_tiles p m) spare
   keeps-first spare room = record {
@@ -63,7 +64,7 @@ module _ {D : Type 0} (size faults mismatches : D → ℕ) (held : D → Option 
       run = run;
       legal = tt;
       coherent = opening-coherent p m;
-      content = opening-content p m;
+      content = opening-content p m eq;
       blocks = record {
         placed = placed;
         stored = λ c d copy. absurd (no_block c d copy);
@@ -86,10 +87,10 @@ module _ {D : Type 0} (size faults mismatches : D → ℕ) (held : D → Option 
           false≢true (sym none ∙ (copy-on_disk p m (opening p m) c d copy).0)
 
   -- as the code makes it
-  pub keeps-made : (rows : Rows) (tiles : List Places) (trace : Recorded) (lends : LendingState D) (opened : DiskState D) → rows ≡ rows_at_start p m → tiles ≡ no_tiles p m → trace.events ≡ [] → most_events p ≤ trace.spare → lends ≡ lending disks (replicate (length disks.disks) false) → opened ≡ disks → Keeps size faults mismatches held (standing rows.program rows.machine trace lends opened) rows tiles trace.spare
+  pub keeps-made : (rows : Rows) (tiles : List Places) (trace : Recorded) (lends : LendingState D) (opened : DiskState D) → rows ≡ rows_at_start p m → tiles ≡ no_tiles p m → trace.events ≡ [] → most_events p ≤ trace.spare → lends ≡ lending disks (replicate (length disks.disks) false) → opened ≡ disks → Keeps size faults mismatches held (standing eq rows.program rows.machine trace lends opened) rows tiles trace.spare
   keeps-made rows tiles trace lends opened at_start are none room lent as_opened =
-      subst (λ (o : DiskState D). Keeps size faults mismatches held (standing rows.program rows.machine trace lends o) rows tiles trace.spare) (sym as_opened)
-      (subst (λ (l : LendingState D). Keeps size faults mismatches held (standing rows.program rows.machine trace l disks) rows tiles trace.spare) (sym lent)
-      (subst (λ (ts : List Places). Keeps size faults mismatches held (standing rows.program rows.machine trace (lending disks (replicate (length disks.disks) false)) disks) rows ts trace.spare) (sym are)
-      (subst (λ (r : Rows). Keeps size faults mismatches held (standing r.program r.machine trace (lending disks (replicate (length disks.disks) false)) disks) r (no_tiles p m) trace.spare) (sym at_start)
-      (subst (λ (es : List Event). Keeps size faults mismatches held (record { program = p; machine = m; trace = es; disks = disks; out = replicate (length disks.disks) false; opened = disks.disks }) (rows_at_start p m) (no_tiles p m) trace.spare) (sym none) (keeps-first trace.spare room)))))
+      subst (λ (o : DiskState D). Keeps size faults mismatches held (standing eq rows.program rows.machine trace lends o) rows tiles trace.spare) (sym as_opened)
+      (subst (λ (l : LendingState D). Keeps size faults mismatches held (standing eq rows.program rows.machine trace l disks) rows tiles trace.spare) (sym lent)
+      (subst (λ (ts : List Places). Keeps size faults mismatches held (standing eq rows.program rows.machine trace (lending disks (replicate (length disks.disks) false)) disks) rows ts trace.spare) (sym are)
+      (subst (λ (r : Rows). Keeps size faults mismatches held (standing eq r.program r.machine trace (lending disks (replicate (length disks.disks) false)) disks) r (no_tiles p m) trace.spare) (sym at_start)
+      (subst (λ (es : List Event). Keeps size faults mismatches held (record b { trace = es }) (rows_at_start p m) (no_tiles p m) trace.spare) (sym none) (keeps-first trace.spare room)))))

@@ -3,6 +3,7 @@ use Rattle.std.proofs.Common.{arith, ◌≡◌, ◌∙◌, ℕ, false, List, Opt
 use Rattle.std.specs.Prelude.{IfSome, is_some, if◌then◌else◌}
 use Rattle.std.proofs.lemmas.List.{get_or_default}
 use Rattle.sj_base.specs.declared.trace.Event.TheVariants.{Run}
+use Rattle.sj_codelet.specs.Kernel.{Equations}
 use Rattle.sj_core.proofs.Words.{Machine, Program, State, Task, Worker, is_claimed_by, is_running_on, progress, transfer}
 use Rattle.sj_core.specs.declared.progress.Progress.TheVariants.{Claimed}
 use Rattle.sj_core.proofs.Advancing.{claimed_by-is}
@@ -14,17 +15,17 @@ use Rattle.sj_board.specs.NextStep.{AnotherGoesOn, IsNext}
 use Rattle.sj_board.specs.declared.todo.Todo.{Todo}
 use Rattle.sj_board.specs.declared.todo.Todo.TheVariants.{Discard, Nothing, Start, Transfer as TransferNext, Wait}
 use Rattle.sj_board.proofs.NextSteps.{IsPossible, next-possible, wait-ends}
-use Rattle.sj_board.specs.Board.{BoardState, IsWorking, RunsNone, empty_hand, hand_of, transfer_of}
+use Rattle.sj_board.specs.Board.{BoardBy, IsWorking, RunsNone, empty_hand, hand_of, transfer_of}
 use Rattle.sj_board.specs.declared.hand.Hand.{Hand}
 use Rattle.sj_board.specs.BoardSound.{KeepsBoard}
 use Rattle.sj_board.specs.Todo.{CanBegin, IsMoverOf}
 use Rattle.sj_base.proofs.Bools.{or_first}
 
 -- what is read of the worker's hand
-pub hand-read : {D : Type 0} (faults mismatches : D → ℕ) (held : D → Option (List ℕ)) (b : BoardState D) (deps : Dependencies) (footprints : List ℕ) → KeepsBoard faults mismatches held b deps footprints → (w : Worker) → IsWorking b w → (x d : Hand) → x ≡ get_or b.hands w.0 d → (t : Task) → x.task ≡ Some t → (hand_of b w).task ≡ Some t
+pub hand-read : {D : Type 0} {eq : Equations} (faults mismatches : D → ℕ) (held : D → Option (List ℕ)) (b : BoardBy eq D) (deps : Dependencies) (footprints : List ℕ) → KeepsBoard faults mismatches held b deps footprints → (w : Worker) → IsWorking b w → (x d : Hand) → x ≡ get_or b.hands w.0 d → (t : Task) → x.task ≡ Some t → (hand_of b w).task ≡ Some t
 hand-read faults mismatches held b deps footprints keeps w works x d read t is = ap (λ (h : Hand). h.task) (sym (read ∙ get_or_default b.hands w.0 d empty_hand (let known = works.known in omega (arith, known, keeps.inside.hands_agree.every_worker)))) ∙ is
 
-module _ {D : Type 0} (faults mismatches : D → ℕ) (held : D → Option (List ℕ)) (b : BoardState D) (deps : Dependencies) (footprints : List ℕ) (keeps : KeepsBoard faults mismatches held b deps footprints) (size : D → ℕ) (run : IsSoundRun size faults mismatches held b.run) (w : Worker) (runs_none : RunsNone b w) (moves_none : transfer_of b w ≡ None) (t : Task) (has : (hand_of b w).task ≡ Some t) where
+module _ {D : Type 0} {eq : Equations} (faults mismatches : D → ℕ) (held : D → Option (List ℕ)) (b : BoardBy eq D) (deps : Dependencies) (footprints : List ℕ) (keeps : KeepsBoard faults mismatches held b deps footprints) (size : D → ℕ) (run : IsSoundRun size faults mismatches held b.run) (w : Worker) (runs_none : RunsNone b w) (moves_none : transfer_of b w ≡ None) (t : Task) (has : (hand_of b w).task ≡ Some t) where
   abbrev p : Program
   p = b.run.program
 

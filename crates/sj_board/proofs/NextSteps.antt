@@ -8,7 +8,7 @@ use Rattle.std.proofs.lemmas.List.Folds.{Any-from_list_any, list_any-append}
 use Rattle.std.proofs.lemmas.Option.{none-some}
 use Rattle.sj_base.specs.declared.trace.Event.TheVariants.{Drop, Move, Run}
 use Rattle.sj_base.proofs.Bools.{or_true, not_not}
-use Rattle.sj_core.proofs.Words.{AtNode, Cell, DiskNo, Machine, Node, OnDisk, Place, Program, State, Task, Worker, WorkerState, cell_state, cells_of, fresh_cells, has_cell, has_room, idle_row, is_claimed_by, is_coming_by, is_elsewhere, is_entry, is_gone, is_leaving_by, is_moving, is_read, is_valid, mark, moves_in, node_of, progress, reads_in, same_cell, same_place, transfer, victims_of, worker_state, written_cells, writes}
+use Rattle.sj_core.proofs.Words.{AtNode, Cell, DiskNo, Machine, Node, OnDisk, Place, Program, State, Task, Worker, WorkerState, cell_state, cells_of, fresh_cells, has_cell, has_room, idle_row, is_claimed_by, is_coming_by, is_elsewhere, is_entry, is_gone, is_leaving_by, is_moving, is_read, is_valid, mark, moves_in, node_of, progress, reads_in, same_cell, same_place, transfer, victims_of, written_cells, writes}
 use Rattle.sj_core.specs.declared.progress.Progress.TheVariants.{Claimed}
 use Rattle.sj_core.specs.declared.progress.Transfer.{Transfer}
 use Rattle.sj_core.proofs.Advancing.{claimed-task_of, claimed_by-is}

@@ -8,8 +8,9 @@ use Rattle.sj_base.specs.declared.mode.Policy.{Policy}
 use Rattle.sj_base.specs.declared.mode.Policy.TheVariants.{Eager, Prio, Ws}
 use Rattle.sj_base.specs.declared.program.Machine.{Machine}
 use Rattle.sj_base.specs.declared.program.Program.{Program}
+use Rattle.sj_codelet.specs.Kernel.{Equations}
 use Rattle.sj_disk.specs.Directory.{DiskState}
-use Rattle.sj_board.specs.Board.{BoardState, HasTakenReleased, released_of}
+use Rattle.sj_board.specs.Board.{BoardBy, HasTakenReleased, released_of}
 use Rattle.sj_board.specs.Preparing.{IsOpening, first_pool}
 use Rattle.sj_board.specs.Released.{released_in}
 
@@ -24,5 +25,5 @@ first-released p Eager ready n = rw (no-items p.workers n) refl
 first-released p Prio ready n = refl
 first-released p Ws ready n = rw (no-items p.workers n) refl
 
-pub opening-taken : {D : Type 0} (p : Program) (m : Machine) (disks : DiskState D) (b : BoardState D) → IsOpening p m disks b → (w : Worker) → HasTakenReleased b w
-opening-taken p m disks b opening w = ap (λ (k : BoardState _). released_of k w) opening.opens ∙ first-released p m.policy opening.ready w.0
+pub opening-taken : {D : Type 0} (eq : Equations) (p : Program) (m : Machine) (disks : DiskState D) (b : BoardBy eq D) → IsOpening eq p m disks b → (w : Worker) → HasTakenReleased b w
+opening-taken eq p m disks b opening w = ap (λ (k : BoardBy _ _). released_of k w) opening.opens ∙ first-released p m.policy opening.ready w.0

@@ -11,6 +11,7 @@ use Rattle.std.proofs.lemmas.List.Kept.{AllPairs-from_increasing}
 use Rattle.std.proofs.lemmas.Option.{none-some}
 use Rattle.sj_base.specs.declared.mode.Policy.{Policy}
 use Rattle.sj_base.specs.declared.mode.Policy.TheVariants.{Eager, Prio, Ws}
+use Rattle.sj_codelet.specs.Kernel.{Equations}
 use Rattle.sj_core.proofs.Readiness.{done_tasks-done}
 use Rattle.sj_core.proofs.Words.{Machine, Program, State, Task, Worker, is_done, is_task_of, opening, progress}
 use Rattle.sj_core.specs.declared.progress.Progress.TheVariants.{Waiting}
@@ -22,7 +23,7 @@ use Rattle.sj_disk.specs.Directory.{DiskState}
 use Rattle.sj_pool.specs.Pool.{Pooled, empty_pool, queue_count}
 use Rattle.sj_pool.specs.declared.entry.Entry.{Entry}
 use Rattle.sj_base.specs.Array.{Array}
-use Rattle.sj_board.specs.Standing.{Standing, starting}
+use Rattle.sj_board.specs.Standing.{StandingBy, starting}
 use Rattle.sj_board.proofs.Stepping.{ready-same}
 use Rattle.sj_board.specs.Board.{board_state, empty_hand, hand_in}
 use Rattle.sj_board.specs.BoardSound.{IsEntry, IsPoolFor, KeepsBoard, is_entry_of, is_given, times_given, times_pooled}
@@ -109,8 +110,8 @@ module _ (p : Program) (m : Machine) (some : 0 < p.workers) where
     no-queue : m.policy ≢ Prio → (n : ℕ) → queued_tasks (first_pool p m.policy ready) n ≡ []
     no-queue other n = ap (λ (q : Pooled). queued_tasks q n) (other-first m.policy other) ∙ ap (map (λ (e : Entry). e.task)) (always (queue_count Ws p.workers) [] n)
 
-    pub keeps-opening : {D : Type 0} (faults mismatches : D → ℕ) (held : D → Option (List ℕ)) (disks : DiskState D) (footprints : List ℕ) → AreFootprints p footprints → KeepsBoard faults mismatches held (board_state (starting p m disks) (first_hands p) (first_pool p m.policy ready) None []) (dependencies p []) footprints
-    keeps-opening faults mismatches held disks footprints bytes = record {
+    pub keeps-opening : {D : Type 0} (eq : Equations) (faults mismatches : D → ℕ) (held : D → Option (List ℕ)) (disks : DiskState D) (footprints : List ℕ) → AreFootprints p footprints → KeepsBoard faults mismatches held (board_state (starting eq p m disks) (first_hands p) (first_pool p m.policy ready) None []) (dependencies p []) footprints
+    keeps-opening eq faults mismatches held disks footprints bytes = record {
       fault = tt;
       inside = record {
         hands_agree = record {
@@ -171,11 +172,11 @@ module _ (p : Program) (policy : Policy) (deps : Dependencies) (program : deps.p
   }
 
 -- a board of parts that are prepared
-pub opens-with : {D : Type 0} (faults mismatches : D → ℕ) (held : D → Option (List ℕ)) (p : Program) (m : Machine) (disks : DiskState D) (some : 0 < p.workers) (run : Standing D) (deps : Dependencies) (footprints : List ℕ) (hands : List Hand) (pool : Pooled) (pairs : List (Task × Array)) → pairs ≡ [] → run ≡ starting p m disks → IsPrepared p m.policy deps footprints hands pool → KeepsBoard faults mismatches held (board_state run hands pool None pairs) deps footprints
-opens-with {D} faults mismatches held p m disks some run deps footprints hands pool pairs none starts parts =
+pub opens-with : {D : Type 0} (faults mismatches : D → ℕ) (held : D → Option (List ℕ)) (eq : Equations) (p : Program) (m : Machine) (disks : DiskState D) (some : 0 < p.workers) (run : StandingBy eq D) (deps : Dependencies) (footprints : List ℕ) (hands : List Hand) (pool : Pooled) (pairs : List (Task × Array)) → pairs ≡ [] → run ≡ starting eq p m disks → IsPrepared p m.policy deps footprints hands pool → KeepsBoard faults mismatches held (board_state run hands pool None pairs) deps footprints
+opens-with {D} faults mismatches held eq p m disks some run deps footprints hands pool pairs none starts parts =
     subst (λ (ds : List (Task × Array)). KeepsBoard faults mismatches held (board_state run hands pool None ds) deps footprints) (sym none)
-    (subst (λ (r : Standing D). KeepsBoard faults mismatches held (board_state r hands pool None []) deps footprints) (sym starts)
-    (subst (λ (hs : List Hand). KeepsBoard faults mismatches held (board_state (starting p m disks) hs pool None []) deps footprints) (sym parts.hands_are)
-    (subst (λ (q : Pooled). KeepsBoard faults mismatches held (board_state (starting p m disks) (first_hands p) q None []) deps footprints) (sym parts.pool_is)
-    (subst (λ (d : Dependencies). KeepsBoard faults mismatches held (board_state (starting p m disks) (first_hands p) (first_pool p m.policy parts.ready) None []) d footprints) (sym parts.deps_are)
-    (keeps-opening p m some parts.ready parts.first faults mismatches held disks footprints parts.bytes)))))
+    (subst (λ (r : StandingBy eq D). KeepsBoard faults mismatches held (board_state r hands pool None []) deps footprints) (sym starts)
+    (subst (λ (hs : List Hand). KeepsBoard faults mismatches held (board_state (starting eq p m disks) hs pool None []) deps footprints) (sym parts.hands_are)
+    (subst (λ (q : Pooled). KeepsBoard faults mismatches held (board_state (starting eq p m disks) (first_hands p) q None []) deps footprints) (sym parts.pool_is)
+    (subst (λ (d : Dependencies). KeepsBoard faults mismatches held (board_state (starting eq p m disks) (first_hands p) (first_pool p m.policy parts.ready) None []) d footprints) (sym parts.deps_are)
+    (keeps-opening p m some parts.ready parts.first eq faults mismatches held disks footprints parts.bytes)))))

@@ -1,5 +1,5 @@
 -- The tiles of cells after new ones of some were put.
-use Rattle.std.proofs.Common.{◌≡◌, ◌<◌, ◌≤◌, ◌+◌, ℕ, suc, Bool, true, false, List, [], ◌∷◌, ◌++◌, None, Option, Some, ◌∙◌, ap, arith, cond, find, length, map, refl, set, subst, sym, ◌||◌}
+use Rattle.std.proofs.Common.{◌≡◌, ◌<◌, ◌≤◌, ℕ, suc, Bool, true, false, List, [], ◌∷◌, ◌++◌, None, Some, ◌∙◌, ap, arith, cond, find, length, map, refl, subst, sym, ◌||◌}
 use Rattle.std.specs.Prelude.{All, filter}
 use Rattle.std.specs.List.{zip}
 use Rattle.std.proofs.lemmas.Bool.{false_from_ne_true, false≢true, or_parts}

@@ -11,6 +11,7 @@ use Rattle.sj_base.specs.Mode.{reads_of, reads_value, starts_as_zeros}
 use Rattle.sj_base.specs.Recorded.{Recorded}
 use Rattle.sj_base.specs.declared.mode.Access.{Access}
 use Rattle.sj_codelet.specs.Frame.{Slot, shared}
+use Rattle.sj_codelet.specs.Kernel.{Equations}
 use Rattle.sj_core.proofs.Words.{Array, AtNode, Cell, CellState, Machine, Node, Program, Run, State, Task, Worker, cells_of, dims_of, fresh_cells, has_cell, is_valid, mark, node_of, owned_at, same_cell, task_of, worked_on, written_cells, zeros}
 use Rattle.sj_core.proofs.CellLists.{cells-written, times}
 use Rattle.sj_core.proofs.Changing.{All-renewed}
@@ -37,7 +38,7 @@ use Rattle.sj_machine.specs.Operands.{CanWorkOn, written_among}
 use Rattle.sj_machine.specs.Rows.{Rows, has_happened}
 use Rattle.sj_board.specs.Shares.{AreSharesFor, CanGive, IsShareIn, kept_at, shares_at}
 use Rattle.sj_board.specs.Sound.{HoldsBlocks, Keeps}
-use Rattle.sj_board.specs.Standing.{AllTell, CanHappen, IsTileOf, Standing, run_arrays, standing, state, with_event}
+use Rattle.sj_board.specs.Standing.{AllTell, CanHappen, IsTileOf, StandingBy, run_arrays, standing, state, with_event}
 use Rattle.sj_board.specs.Tiles.{HasTiles, all_out, out_each, tile_at, tile_in, tiles_of}
 use Rattle.sj_board.proofs.Keeping.{HoldsBlocks-kept, keeps-event, keeps-told, sound_state}
 use Rattle.sj_board.proofs.TileTables.{Places, out-length, out-none, wide-at}
@@ -84,7 +85,7 @@ zipped : {X Y : Type 0} (Q : X → Y → Type 0) (f : X → Y) (xs : List X) →
 zipped Q f [] all = tt
 zipped Q f (x ∷ xs) all = (all x (0, omega arith, refl), zipped Q f xs (λ y (k, inside, e). all y (suc k, omega arith, e)))
 
-module _ {D : Type 0} (size faults mismatches : D → ℕ) (held : D → Option (List ℕ)) (b : Standing D) (rows : Rows) (tiles : List Places) (spare : ℕ) (keeps : Keeps size faults mismatches held b rows tiles spare) (t : Task) (w : Worker) (can : CanHappen b (Run t w)) where
+module _ {D : Type 0} {eq : Equations} (size faults mismatches : D → ℕ) (held : D → Option (List ℕ)) (b : StandingBy eq D) (rows : Rows) (tiles : List Places) (spare : ℕ) (keeps : Keeps size faults mismatches held b rows tiles spare) (t : Task) (w : Worker) (can : CanHappen b (Run t w)) where
   abbrev p : Program
   p = b.program
 
@@ -101,7 +102,7 @@ module _ {D : Type 0} (size faults mismatches : D → ℕ) (held : D → Option 
   s' = after p m s (Run t w)
 
   abbrev A' : Arrays
-  A' = arrays_after p m (run_arrays b) (Run t w)
+  A' = arrays_after eq p m (run_arrays b) (Run t w)
 
   run : CanRun p m s t w
   run = can
@@ -136,11 +137,7 @@ module _ {D : Type 0} (size faults mismatches : D → ℕ) (held : D → Option 
   spare-mark c k left = (run-other p m s t w s' run refl c left).marks k
 
   was-being : (c : Cell) → has_cell ws c ≡ false → is_being_written p s' c ≡ true → is_being_written p s c ≡ true
-  was-being c left being =
-      elim (cases_Bool (is_being_written p s c)) [
-        | inl had ↦ had
-        | inr rests ↦ absurd (false≢true (sym (run-rests p m s h t w s' run refl c left rests) ∙ being))
-      ]
+  was-being c left being = search (arith, cases_Bool, run-rests p m s h t w s' run refl c left, false≢true)
 
   -- ---- the blocks
 
@@ -172,18 +169,9 @@ module _ {D : Type 0} (size faults mismatches : D → ℕ) (held : D → Option 
         let left : has_cell ws c ≡ false = run-spared p m s h t w s' run refl c rests in
         ap is_some (tile-left c k left) ∙ keeps.tiles.there c k (run-rested p m s h t w s' run refl c rests) ∙ ap is_valid (sym (spare-mark c k left))
         );
-    out = λ c k being. elim (cases_Bool (has_cell ws c)) [
-      | inl has ↦ tile-out c k has
-      | inr left ↦ tile-left c k left ∙ keeps.tiles.out c k (was-being c left being)
-    ];
-    dims = λ c k. elim (cases_Bool (has_cell ws c)) [
-      | inl has ↦ subst (λ (o : Option Array). IfSome o (λ a. a.dims ≡ dims_of p c)) (sym (tile-out c k has)) tt
-      | inr left ↦ subst (λ (o : Option Array). IfSome o (λ a. a.dims ≡ dims_of p c)) (sym (tile-left c k left)) (keeps.tiles.dims c k)
-    ];
-    arrays = λ tells c k. elim (cases_Bool (has_cell ws c)) [
-      | inl has ↦ subst (λ (o : Option Array). IfSome o (λ a. a ≡ A' c (AtNode k))) (sym (tile-out c k has)) tt
-      | inr left ↦ subst (λ (o : Option Array). IfSome o (λ a. a ≡ A' c (AtNode k))) (sym (tile-left c k left)) (subst (λ (x : Array). IfSome (tile_at tiles c k) (λ a. a ≡ x)) (sym (array-left c k left)) (keeps.tiles.arrays tells c k))
-    ];
+    out = λ c k being. search (arith, cases_Bool (has_cell ws c), tile-out c k, tile-left c k, keeps.tiles.out c k, was-being c);
+    dims = λ c k. search (arith, cases_Bool (has_cell ws c), tile-out c k, tile-left c k, keeps.tiles.dims c k);
+    arrays = λ tells c k. search (arith, cases_Bool (has_cell ws c), tile-out c k, tile-left c k, keeps.tiles.arrays tells c k, array-left c k);
   }
 
   pub keeps-run : (spare' : ℕ) → spare' + 1 ≡ spare → Keeps size faults mismatches held (with_event b (Run t w)) (has_happened rows (Run t w)) new spare'
@@ -215,7 +203,7 @@ module _ {D : Type 0} (size faults mismatches : D → ℕ) (held : D → Option 
     read-share : IsShareIn held b w a (shared (kept_at tiles n worked))
     read-share = record {
       shared = refl;
-      dims = read-tile.dims ∙ worked_on-dims p h.proper keeps.sound.run.lawful.arguments w staffed a;
+      dims = read-tile.dims ∙ worked_on-dims p h.proper w staffed a;
       array = read-tile.array;
     }
 
@@ -239,13 +227,13 @@ module _ {D : Type 0} (size faults mismatches : D → ℕ) (held : D → Option 
 
 -- ---- as the code finds it
 
-module _ {D : Type 0} (size faults mismatches : D → ℕ) (held : D → Option (List ℕ)) (rows : Rows) (trace : Recorded) (lent : LendingState D) (opened : DiskState D) (tiles : List Places) (keeps : Keeps size faults mismatches held (standing rows.program rows.machine trace lent opened) rows tiles trace.spare) (t : Task) (w : Worker) (b' : Standing D) (same : standing rows.program rows.machine trace lent opened ≡ b') (can' : CanHappen b' (Run t w))
+module _ {D : Type 0} (size faults mismatches : D → ℕ) (held : D → Option (List ℕ)) (eq : Equations) (rows : Rows) (trace : Recorded) (lent : LendingState D) (opened : DiskState D) (tiles : List Places) (keeps : Keeps size faults mismatches held (standing eq rows.program rows.machine trace lent opened) rows tiles trace.spare) (t : Task) (w : Worker) (b' : StandingBy eq D) (same : standing eq rows.program rows.machine trace lent opened ≡ b') (can' : CanHappen b' (Run t w))
     (at : Node) (bound : at ≡ node_of rows.machine w) (q : Program) (program : q ≡ rows.program) (accesses : List Access) (of_task : accesses ≡ (task_of q t).accesses) where
-  abbrev b : Standing D
-  b = standing rows.program rows.machine trace lent opened
+  abbrev b : StandingBy eq D
+  b = standing eq rows.program rows.machine trace lent opened
 
   can : CanHappen b (Run t w)
-  can = subst (λ (x : Standing D). CanHappen x (Run t w)) (sym same) can'
+  can = subst (λ (x : StandingBy eq D). CanHappen x (Run t w)) (sym same) can'
 
   of : accesses ≡ (task_of rows.program t).accesses
   of = of_task ∙ ap (λ (x : Program). (task_of x t).accesses) program
@@ -268,7 +256,7 @@ module _ {D : Type 0} (size faults mismatches : D → ℕ) (held : D → Option 
 
     pub found-shares : (before slots : List Slot) → before ≡ [] → slots ≡ before ++ shares_at q w now at accesses → AreSharesFor held b' t w slots
     found-shares before slots none made =
-        subst (λ (x : Standing D). AreSharesFor held x t w slots) same
+        subst (λ (x : StandingBy eq D). AreSharesFor held x t w slots) same
         (subst (AreSharesFor held b t w) (sym (made ∙ ap (λ (l : List Slot). l ++ shares_at q w now at accesses) none ∙ ap (λ (x : Program). shares_at x w now at accesses) program ∙ ap (λ (ts : List Places). shares_at rows.program w ts at accesses) kept
         ∙ ap (λ (j : Node). shares_at rows.program w tiles j accesses) bound ∙ ap (shares_at rows.program w tiles (node_of rows.machine w)) of))
         (run-shares size faults mismatches held b rows tiles trace.spare keeps t w can))
@@ -280,8 +268,8 @@ module _ {D : Type 0} (size faults mismatches : D → ℕ) (held : D → Option 
     pub found-cells : All (λ c. c.0 < length tiles) written
     found-cells = subst (All (λ c. c.0 < length tiles)) (sym all-written) (run-cells size faults mismatches held b rows tiles trace.spare keeps t w can)
 
-    pub found-keeps_run : (rows' : Rows) (tiles' : List Places) (trace' : Recorded) → rows' ≡ has_happened rows (Run t w) → tiles' ≡ out_each written tiles → trace'.events ≡ trace.events ++ Run t w ∷ [] → trace'.spare + 1 ≡ trace.spare → Keeps size faults mismatches held (standing rows'.program rows'.machine trace' lent opened) rows' tiles' trace'.spare
+    pub found-keeps_run : (rows' : Rows) (tiles' : List Places) (trace' : Recorded) → rows' ≡ has_happened rows (Run t w) → tiles' ≡ out_each written tiles → trace'.events ≡ trace.events ++ Run t w ∷ [] → trace'.spare + 1 ≡ trace.spare → Keeps size faults mismatches held (standing eq rows'.program rows'.machine trace' lent opened) rows' tiles' trace'.spare
     found-keeps_run rows' tiles' trace' happened out told left =
-        keeps-told size faults mismatches held rows trace lent opened (Run t w) (out_each (written_cells rows.program t w) tiles) rows' tiles' trace' happened
+        keeps-told size faults mismatches held eq rows trace lent opened (Run t w) (out_each (written_cells rows.program t w) tiles) rows' tiles' trace' happened
         (out ∙ ap (λ (l : List Cell). out_each l tiles) all-written) told
         (keeps-run size faults mismatches held b rows tiles trace.spare keeps t w can trace'.spare left)

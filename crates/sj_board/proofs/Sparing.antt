@@ -1,9 +1,10 @@
 -- No event takes away a copy that a task or a transfer works on.
-use Rattle.std.proofs.Common.{◌≡◌, true, false, Option, Some, None, ◌∙◌, ap, inl, inr, nat_eq, sym, subst, ◌||◌, List, ℕ, refl, cond, ◌&&◌}
-use Rattle.std.proofs.lemmas.Bool.{and_from, and_parts, cases_Bool, false≢true, not-true}
+use Rattle.std.proofs.Common.{◌≡◌, true, false, Option, Some, ◌∙◌, ap, inl, inr, nat_eq, sym, subst, ◌||◌, List, ℕ, refl, cond, ◌&&◌}
+use Rattle.std.proofs.lemmas.Bool.{and_parts, cases_Bool, false≢true, not-true}
 use Rattle.std.proofs.lemmas.Bool.Decides.{Decides-eqb}
 use Rattle.sj_base.proofs.SameIds.{same_cell-is}
 use Rattle.sj_base.specs.Array.{Array}
+use Rattle.sj_codelet.specs.Kernel.{Equations}
 use Rattle.sj_core.proofs.Changing.{copies-left}
 use Rattle.sj_core.proofs.Claiming.{claim-copy}
 use Rattle.sj_core.proofs.Ending.{end-alone}
@@ -14,7 +15,7 @@ use Rattle.sj_core.proofs.Readiness.{filter-Contains, list_any-some}
 use Rattle.sj_core.proofs.Replicas.{coming_by-is}
 use Rattle.sj_core.proofs.Running.{run-other, run-stale}
 use Rattle.sj_core.proofs.States.{state_of-more, arrays_of-more}
-use Rattle.sj_core.proofs.Words.{AtNode, Cell, CellState, Claim, DiskNo, Drop, End, Event, Invalid, Machine, Move, Moved, Node, OnDisk, Place, Program, Run, State, Valid, Worker, cell_state, dims_of, fresh_cells, has_cell, has_copy, is_leaving, is_pinned, is_read, is_valid, mark, mark_in, node_of, on_disk, pins, same_cell, stored, transfer, with_mark, with_row, workers_at, workers_of, written_cells, zeros}
+use Rattle.sj_core.proofs.Words.{AtNode, Cell, CellState, Claim, Drop, End, Event, Invalid, Machine, Move, Moved, Node, OnDisk, Place, Program, Run, State, Valid, Worker, cell_state, dims_of, fresh_cells, has_cell, has_copy, is_leaving, is_pinned, is_read, is_valid, mark, mark_in, node_of, on_disk, pins, same_cell, stored, transfer, with_mark, with_row, workers_at, workers_of, written_cells, zeros}
 use Rattle.sj_core.specs.Arrays.{Arrays, arrays_after, held_at, result_in}
 use Rattle.sj_core.specs.Coherent.{IsTransferTo}
 use Rattle.sj_core.specs.Laws.{IsSound}
@@ -22,7 +23,7 @@ use Rattle.sj_core.specs.Step.{May, a_transfer, after, arrived, is_home, mover_o
 use Rattle.sj_machine.specs.Rows.{Rows}
 use Rattle.sj_board.specs.Sound.{Keeps}
 use Rattle.sj_board.specs.Sparing.{EventsSpareUsed, Spares, SparesUsed, is_used}
-use Rattle.sj_board.specs.Standing.{CanHappen, Standing, run_arrays, state, with_event}
+use Rattle.sj_board.specs.Standing.{CanHappen, StandingBy, run_arrays, state, with_event}
 use Rattle.sj_board.proofs.Keeping.{sound_state}
 
 module _ (p : Program) (m : Machine) (s : State) (h : IsSound p m s) where
@@ -70,9 +71,9 @@ module _ (p : Program) (m : Machine) (s : State) (h : IsSound p m s) where
   arrived-copy x (AtNode n) c q copy = marked-copy x n Valid c q copy (λ e at. refl)
   arrived-copy x (OnDisk d) c q copy = stored-copy x c q copy
 
-  module _ (A : Arrays) where
+  module _ (eq : Equations) (A : Arrays) where
     -- a cell that a transfer brings has no copy where it comes to
-    moved-array : (x : Cell) (from to : Place) (c : Cell) (q : Place) → transfer s (mover_of s x from to) ≡ Some (a_transfer x from to) → has_copy p m s c q ≡ true → arrays_after p m A (Moved x from to) c q ≡ A c q
+    moved-array : (x : Cell) (from to : Place) (c : Cell) (q : Place) → transfer s (mover_of s x from to) ≡ Some (a_transfer x from to) → has_copy p m s c q ≡ true → arrays_after eq p m A (Moved x from to) c q ≡ A c q
     moved-array x from to c q under_way copy = elim (cases_Bool (same_place q to && same_cell x c)) [
       | inl both ↦
           let tests = and_parts (same_place q to) (same_cell x c) both in
@@ -80,7 +81,7 @@ module _ (p : Program) (m : Machine) (s : State) (h : IsSound p m s) where
       | inr other ↦ ap (λ b. cond b (A x from) (A c q)) other
     ]
 
-    pub Step-spares : (e : Event) → May p m s e → SparesUsed p m s A e (after p m s e) (arrays_after p m A e)
+    pub Step-spares : (e : Event) → May p m s e → SparesUsed p m s A e (after p m s e) (arrays_after eq p m A e)
     Step-spares (Claim t w) may c q used copy spared = (claim-copy p m s h t w (after p m s (Claim t w)) may (evicted-after p m s t w) c q ∙ copy, refl)
     Step-spares (Move x from to) may c q used copy spared = (moving-copy q copy, refl)
       where
@@ -102,14 +103,14 @@ module _ (p : Program) (m : Machine) (s : State) (h : IsSound p m s) where
     )
     Step-spares (End t w) may c q used copy spared = (
       copies-left p m s (after p m s (End t w)) c (end-alone p m s t w (after p m s (End t w)) may refl c) q ∙ copy,
-      second_fails (same_place q (AtNode (node_of m w))) (has_cell (written_cells p t w) c) (result_in p t w (held_at A (AtNode (node_of m w))) c) (A c q) spared,
+      second_fails (same_place q (AtNode (node_of m w))) (has_cell (written_cells p t w) c) (result_in eq p t w (held_at A (AtNode (node_of m w))) c) (A c q) spared,
     )
 
-pub spares-event : {D : Type 0} (b : Standing D) → IsSound b.program b.machine (state b) → (e : Event) → CanHappen b e → Spares b e (with_event b e)
-spares-event b sound e can =
+pub spares-event : {D : Type 0} {eq : Equations} (b : StandingBy eq D) → IsSound b.program b.machine (state b) → (e : Event) → CanHappen b e → Spares b e (with_event b e)
+spares-event {D} {eq} b sound e can =
     subst (λ (z : State). SparesUsed b.program b.machine (state b) (run_arrays b) e z (run_arrays (with_event b e))) (sym (state_of-more b.program b.machine b.trace e))
-    (subst (λ (A : Arrays). SparesUsed b.program b.machine (state b) (run_arrays b) e (after b.program b.machine (state b) e) A) (sym (arrays_of-more b.program b.machine b.trace e))
-    (Step-spares b.program b.machine (state b) sound (run_arrays b) e can))
+    (subst (λ (A : Arrays). SparesUsed b.program b.machine (state b) (run_arrays b) e (after b.program b.machine (state b) e) A) (sym (arrays_of-more eq b.program b.machine b.trace e))
+    (Step-spares b.program b.machine (state b) sound eq (run_arrays b) e can))
 
-pub events-spare : {D : Type 0} (size faults mismatches : D → ℕ) (held : D → Option (List ℕ)) (b : Standing D) (rows : Rows) (tiles : List (List (Option Array))) (spare : ℕ) → Keeps size faults mismatches held b rows tiles spare → (b' : Standing D) → b ≡ b' → EventsSpareUsed b'
-events-spare size faults mismatches held b rows tiles spare keeps b' same = subst (λ (x : Standing _). EventsSpareUsed x) same (spares-event b (sound_state size faults mismatches held b rows tiles spare keeps))
+pub events-spare : {D : Type 0} {eq : Equations} (size faults mismatches : D → ℕ) (held : D → Option (List ℕ)) (b : StandingBy eq D) (rows : Rows) (tiles : List (List (Option Array))) (spare : ℕ) → Keeps size faults mismatches held b rows tiles spare → (b' : StandingBy eq D) → b ≡ b' → EventsSpareUsed b'
+events-spare size faults mismatches held b rows tiles spare keeps b' same = subst (λ (x : StandingBy _ _). EventsSpareUsed x) same (spares-event b (sound_state size faults mismatches held b rows tiles spare keeps))

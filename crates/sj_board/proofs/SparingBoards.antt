@@ -3,6 +3,7 @@ use Rattle.std.proofs.Common.{◌≡◌, ℕ, List, Option, None, Some, refl, su
 use Rattle.std.specs.Prelude.{Err, IfSome, Ok, OnOk, Result}
 use Rattle.sj_base.specs.declared.trace.Event.{Event}
 use Rattle.sj_base.specs.declared.trace.Event.TheVariants.{Moved}
+use Rattle.sj_codelet.specs.Kernel.{Equations}
 use Rattle.sj_core.proofs.States.{one-mover}
 use Rattle.sj_core.proofs.Words.{Worker, transfer}
 use Rattle.sj_core.specs.Laws.{IsSound}
@@ -10,28 +11,28 @@ use Rattle.sj_core.specs.Step.{a_transfer}
 use Rattle.sj_core.specs.declared.progress.Transfer.{Transfer}
 use Rattle.sj_board.specs.Sound.{IsSoundRun}
 use Rattle.sj_board.specs.Sparing.{Spares, SparesMoved}
-use Rattle.sj_board.specs.Standing.{CanHappen, HasMoved, Standing, state, with_event}
+use Rattle.sj_board.specs.Standing.{CanHappen, HasMoved, StandingBy, state, with_event}
 use Rattle.sj_board.proofs.Sparing.{spares-event}
 
-module _ {D : Type 0} (size faults mismatches : D → ℕ) (held : D → Option (List ℕ)) (b : Standing D) (run : IsSoundRun size faults mismatches held b) where
+module _ {D : Type 0} {eq : Equations} (size faults mismatches : D → ℕ) (held : D → Option (List ℕ)) (b : StandingBy eq D) (run : IsSoundRun size faults mismatches held b) where
   pub sound : IsSound b.program b.machine (state b)
   sound = record { proper = run.run.proper; machine = run.run.machine; coherent = run.coherent }
 
-  pub event-spares : (e : Event) → CanHappen b e → (b' : Standing D) → b' ≡ with_event b e → Spares b e b'
+  pub event-spares : (e : Event) → CanHappen b e → (b' : StandingBy eq D) → b' ≡ with_event b e → Spares b e b'
   event-spares e can b' is =
-      subst (λ (x : Standing D). Spares b e x) (sym is) (spares-event b sound e can)
+      subst (λ (x : StandingBy eq D). Spares b e x) (sym is) (spares-event b sound e can)
 
   -- of the same run under another name
-  pub told-spares : (e : Event) → CanHappen b e → (b' : Standing D) → b' ≡ with_event b e → (x : Standing D) → b ≡ x → Spares x e b'
-  told-spares e can b' is x same = subst (λ (z : Standing D). Spares z e b') same (event-spares e can b' is)
+  pub told-spares : (e : Event) → CanHappen b e → (b' : StandingBy eq D) → b' ≡ with_event b e → (x : StandingBy eq D) → b ≡ x → Spares x e b'
+  told-spares e can b' is x same = subst (λ (z : StandingBy eq D). Spares z e b') same (event-spares e can b' is)
 
   -- where the event comes if the call succeeds
-  pub tried-spares : {A E : Type 0} (result : Result A E) (e : Event) → CanHappen b e → (b' : Standing D) → OnOk result (b' ≡ with_event b e) → OnOk result (Spares b e b')
+  pub tried-spares : {A E : Type 0} (result : Result A E) (e : Event) → CanHappen b e → (b' : StandingBy eq D) → OnOk result (b' ≡ with_event b e) → OnOk result (Spares b e b')
   tried-spares (Ok a) e can b' is = event-spares e can b' is
   tried-spares (Err x) e can b' is = is
 
   -- the end of a worker's transfer
-  pub moved-spares : (w : Worker) (b' : Standing D) → HasMoved w b b' → SparesMoved w b b'
+  pub moved-spares : (w : Worker) (b' : StandingBy eq D) → HasMoved w b b' → SparesMoved w b b'
   moved-spares w b' moved = by_transfer (transfer (state b) w) refl moved
     where
       can : (x : Transfer) → transfer (state b) w ≡ Some x → CanHappen b (Moved x.cell x.from x.to)

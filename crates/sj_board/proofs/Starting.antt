@@ -2,6 +2,7 @@
 use Rattle.std.proofs.Common.{◌≡◌, ℕ, ◌⊎◌, IsTrue, None, Option, List, inl, inr, refl, sym, subst, ap, ◌∙◌, arith, is_some}
 use Rattle.std.specs.Prelude.{OnErr, OnOk, Ok, Err, Result}
 use Rattle.sj_base.specs.declared.trace.Event.TheVariants.{Run}
+use Rattle.sj_codelet.specs.Kernel.{Equations}
 use Rattle.sj_core.proofs.Advancing.{Advances, Runs-advances, same_task}
 use Rattle.sj_core.proofs.Reading.{progress-inside}
 use Rattle.sj_core.proofs.States.{state_of-more}
@@ -11,9 +12,9 @@ use Rattle.sj_core.specs.Legal.{IsComplete}
 use Rattle.sj_core.specs.Step.{after}
 use Rattle.sj_deps.specs.Progress.{Dependencies}
 use Rattle.sj_machine.specs.ReadyTasks.{CountsDone, IsToBeTaken}
-use Rattle.sj_board.specs.Standing.{CanHappen, Standing, state, with_event}
+use Rattle.sj_board.specs.Standing.{CanHappen, StandingBy, state, with_event}
 use Rattle.sj_board.proofs.Stepping.{counts-still, not-complete, taken-before, taken-still}
-use Rattle.sj_board.specs.Board.{BoardState, has_event}
+use Rattle.sj_board.specs.Board.{BoardBy, has_event}
 use Rattle.sj_board.specs.BoardSound.{KeepsBoard}
 use Rattle.sj_board.proofs.LastHeaders.{none-caused}
 use Rattle.sj_board.proofs.ReleasedTasks.{counts-both, released-same}
@@ -28,7 +29,7 @@ running-waits w e = absurd (cc)
 same-owner : (v w : Worker) → is_task_of v (Running w) ≡ is_task_of v (Claimed w)
 same-owner v w = grind arith
 
-module _ {D : Type 0} (faults mismatches : D → ℕ) (held : D → Option (List ℕ)) (b : BoardState D) (deps : Dependencies) (footprints : List ℕ) (keeps : KeepsBoard faults mismatches held b deps footprints) (none : b.fault ≡ None) (t : Task) (w : Worker) (can : CanHappen b.run (Run t w)) where
+module _ {D : Type 0} {eq : Equations} (faults mismatches : D → ℕ) (held : D → Option (List ℕ)) (b : BoardBy eq D) (deps : Dependencies) (footprints : List ℕ) (keeps : KeepsBoard faults mismatches held b deps footprints) (none : b.fault ≡ None) (t : Task) (w : Worker) (can : CanHappen b.run (Run t w)) where
   abbrev p : Program
   p = b.run.program
 
@@ -98,6 +99,6 @@ module _ {D : Type 0} (faults mismatches : D → ℕ) (held : D → Option (List
   }
 
   -- as the code leaves it
-  pub keeps-begun_left : {A E : Type 0} (result : Result A E) (run' : Standing D) → OnOk result (run' ≡ with_event b.run (Run t w)) → OnErr result (run' ≡ b.run) → KeepsBoard faults mismatches held (record b { run = run' }) deps footprints
-  keeps-begun_left (Ok a) run' ok err = subst (λ (r : Standing D). KeepsBoard faults mismatches held (record b { run = r }) deps footprints) (sym ok) keeps-begun
-  keeps-begun_left (Err x) run' ok err = subst (λ (r : Standing D). KeepsBoard faults mismatches held (record b { run = r }) deps footprints) (sym err) keeps
+  pub keeps-begun_left : {A E : Type 0} (result : Result A E) (run' : StandingBy eq D) → OnOk result (run' ≡ with_event b.run (Run t w)) → OnErr result (run' ≡ b.run) → KeepsBoard faults mismatches held (record b { run = run' }) deps footprints
+  keeps-begun_left (Ok a) run' ok err = subst (λ (r : StandingBy eq D). KeepsBoard faults mismatches held (record b { run = r }) deps footprints) (sym ok) keeps-begun
+  keeps-begun_left (Err x) run' ok err = subst (λ (r : StandingBy eq D). KeepsBoard faults mismatches held (record b { run = r }) deps footprints) (sym err) keeps

@@ -8,6 +8,7 @@ use Rattle.sj_core.proofs.Eviction.{evicted-after}
 use Rattle.sj_base.specs.declared.trace.Event.{Event}
 use Rattle.sj_base.specs.declared.trace.Event.TheVariants.{Claim, Drop, End, Move, Moved, Run}
 use Rattle.sj_base.proofs.Bools.{and_rest}
+use Rattle.sj_codelet.specs.Kernel.{Equations}
 use Rattle.sj_core.proofs.Claiming.{Claims-other_worker, claim-leaving}
 use Rattle.sj_core.proofs.Ending.{end-change}
 use Rattle.sj_core.proofs.Placing.{mark-cases, row-cases, victims-same}
@@ -21,7 +22,7 @@ use Rattle.sj_core.specs.declared.progress.Transfer.{Transfer}
 use Rattle.sj_disk.specs.Directory.{DiskState}
 use Rattle.sj_machine.specs.Gone.{AreGone}
 use Rattle.sj_board.specs.Sound.{IsSoundRun}
-use Rattle.sj_board.specs.Standing.{CanHappen, HasMoved, Standing, starting, state, with_event}
+use Rattle.sj_board.specs.Standing.{CanHappen, HasMoved, StandingBy, starting, state, with_event}
 use Rattle.sj_machine.proofs.GoneVictims.{and_first}
 use Rattle.sj_board.specs.BoardSound.{KnowsGone}
 use Rattle.sj_board.proofs.SparingBoards.{sound as run-sound}
@@ -98,21 +99,21 @@ module _ (p : Program) (m : Machine) (s : State) (h : IsSound p m s) (v : Worker
 -- ---- a board's count of them
 
 -- of a run as it stands
-abbrev pub Knows : {D : Type 0} → Standing D → List ℕ → Type 0
+abbrev pub Knows : {D : Type 0} {eq : Equations} → StandingBy eq D → List ℕ → Type 0
 Knows run gone = KnowsGone run.program.workers run.machine (state run) gone
 
-pub knows-none : {D : Type 0} (p : Program) (m : Machine) (disks : DiskState D) (run : Standing D) → run ≡ starting p m disks → (n : ℕ) → n ≡ p.workers → (gone : List ℕ) → gone ≡ replicate n 0 → Knows run gone
-knows-none p m disks run starts n many gone is = subst (λ (ks : List ℕ). Knows run ks) (sym is) (record {
-  every_worker = length-replicate {A = ℕ} n 0 ∙ many ∙ ap (λ (r : Standing _). r.program.workers) (sym starts);
+pub knows-none : {D : Type 0} (eq : Equations) (p : Program) (m : Machine) (disks : DiskState D) (run : StandingBy eq D) → run ≡ starting eq p m disks → (n : ℕ) → n ≡ p.workers → (gone : List ℕ) → gone ≡ replicate n 0 → Knows run gone
+knows-none eq p m disks run starts n many gone is = subst (λ (ks : List ℕ). Knows run ks) (sym is) (record {
+  every_worker = length-replicate {A = ℕ} n 0 ∙ many ∙ ap (λ (r : StandingBy _ _). r.program.workers) (sym starts);
   gone = λ w. ap (λ (k : ℕ). list_all (is_gone run.machine (state run) w) (take k (reverse (victims_of (state run) w)))) (elim (cases_lt w.0 n) [ inl inside ↦ get_or-replicate n w.0 0 0 inside | inr past ↦ get_or_past (replicate n 0) w.0 0 (omega (arith, past, length-replicate {A = ℕ} n 0)) ]);
 })
 
 -- what is read of the count of a worker
-pub knows-read : {D : Type 0} (run : Standing D) (gone : List ℕ) → Knows run gone → (w : Worker) → w.0 < length gone → (x d : ℕ) → x ≡ get_or gone w.0 d → AreGone run.machine (state run) w x
+pub knows-read : {D : Type 0} {eq : Equations} (run : StandingBy eq D) (gone : List ℕ) → Knows run gone → (w : Worker) → w.0 < length gone → (x d : ℕ) → x ≡ get_or gone w.0 d → AreGone run.machine (state run) w x
 knows-read run gone knows w inside x d read = subst (λ (k : ℕ). AreGone run.machine (state run) w k) (sym (read ∙ get_or_default gone w.0 d 0 inside)) (knows.gone w)
 
 -- where the count of one worker is noted
-pub knows-noted : {D : Type 0} (run run' : Standing D) → run'.program ≡ run.program → (w : Worker) → ((v : Worker) → v ≢ w → Stays v (state run) (state run')) → run'.machine ≡ run.machine → (gone : List ℕ) → Knows run gone → (count : ℕ) → AreGone run'.machine (state run') w count → (gone' : List ℕ) → gone' ≡ set gone w.0 count → Knows run' gone'
+pub knows-noted : {D : Type 0} {eq : Equations} (run run' : StandingBy eq D) → run'.program ≡ run.program → (w : Worker) → ((v : Worker) → v ≢ w → Stays v (state run) (state run')) → run'.machine ≡ run.machine → (gone : List ℕ) → Knows run gone → (count : ℕ) → AreGone run'.machine (state run') w count → (gone' : List ℕ) → gone' ≡ set gone w.0 count → Knows run' gone'
 knows-noted run run' program w stays machine gone knows count first gone' is = subst (λ (ks : List ℕ). Knows run' ks) (sym is) (record {
   every_worker = length-set gone w.0 count ∙ knows.every_worker ∙ ap (λ (p : Program). p.workers) (sym program);
   gone = λ v. elim (workers_differ v w) [
@@ -130,24 +131,24 @@ knows-noted run run' program w stays machine gone knows count first gone' is = s
   ];
 })
 
-module _ {D : Type 0} (size faults mismatches : D → ℕ) (held : D → Option (List ℕ)) (run : Standing D) (sound : IsSoundRun size faults mismatches held run) where
+module _ {D : Type 0} {eq : Equations} (size faults mismatches : D → ℕ) (held : D → Option (List ℕ)) (run : StandingBy eq D) (sound : IsSoundRun size faults mismatches held run) where
   event-stays : (e : Event) → CanHappen run e → (v : Worker) → NotClaimedBy e v → Stays v (state run) (state (with_event run e))
   event-stays e can v other = subst (λ (z : State). Stays v (state run) z) (sym (state_of-more run.program run.machine run.trace e)) (Step-stays run.program run.machine (state run) (run-sound size faults mismatches held run sound) v e (after run.program run.machine (state run) e) can refl other)
 
   module _ (gone : List ℕ) (knows : Knows run gone) where
     -- an event that is no claim
-    pub knows-event : (e : Event) → CanHappen run e → ((v : Worker) → NotClaimedBy e v) → (run' : Standing D) → run' ≡ with_event run e → Knows run' gone
-    knows-event e can other run' is = subst (λ (r : Standing D). Knows r gone) (sym is) (record {
+    pub knows-event : (e : Event) → CanHappen run e → ((v : Worker) → NotClaimedBy e v) → (run' : StandingBy eq D) → run' ≡ with_event run e → Knows run' gone
+    knows-event e can other run' is = subst (λ (r : StandingBy eq D). Knows r gone) (sym is) (record {
       every_worker = knows.every_worker;
       gone = λ v. gone-stays run.machine v (state run) (state (with_event run e)) (event-stays e can v (other v)) (get_or gone v.0 0) (knows.gone v);
     })
 
-    pub knows-tried : {A E : Type 0} (result : Result A E) (e : Event) → CanHappen run e → ((v : Worker) → NotClaimedBy e v) → (run' : Standing D) → OnOk result (run' ≡ with_event run e) → OnErr result (run' ≡ run) → Knows run' gone
+    pub knows-tried : {A E : Type 0} (result : Result A E) (e : Event) → CanHappen run e → ((v : Worker) → NotClaimedBy e v) → (run' : StandingBy eq D) → OnOk result (run' ≡ with_event run e) → OnErr result (run' ≡ run) → Knows run' gone
     knows-tried (Ok a) e can other run' ok err = knows-event e can other run' ok
-    knows-tried (Err x) e can other run' ok err = subst (λ (r : Standing D). Knows r gone) (sym err) knows
+    knows-tried (Err x) e can other run' ok err = subst (λ (r : StandingBy eq D). Knows r gone) (sym err) knows
 
     -- the end of a worker's move
-    pub knows-moved : (w : Worker) (run' : Standing D) (Q : Transfer → Type 0) → IsSomeAnd (transfer (state run) w) Q → HasMoved w run run' → Knows run' gone
+    pub knows-moved : (w : Worker) (run' : StandingBy eq D) (Q : Transfer → Type 0) → IsSomeAnd (transfer (state run) w) Q → HasMoved w run run' → Knows run' gone
     knows-moved w run' Q some moved = by_move (transfer (state run) w) refl some moved
       where
         can : (x : Transfer) → transfer (state run) w ≡ Some x → CanHappen run (Moved x.cell x.from x.to)
@@ -160,13 +161,13 @@ module _ {D : Type 0} (size faults mismatches : D → ℕ) (held : D → Option 
         by_move (Some x) e some is = knows-event (Moved x.cell x.from x.to) (can x e) (λ v. tt) run' is
 
     -- a claim: none of its victims is known to be gone
-    pub knows-claimed : (t : Task) (w : Worker) → CanHappen run (Claim t w) → (run' : Standing D) → run' ≡ with_event run (Claim t w) → (gone' : List ℕ) → gone' ≡ set gone w.0 0 → Knows run' gone'
-    knows-claimed t w can run' is gone' noted = subst (λ (r : Standing D). Knows r gone') (sym is) (knows-noted run (with_event run (Claim t w)) refl w (λ v other. event-stays (Claim t w) can v other) refl gone knows 0 refl gone' noted)
+    pub knows-claimed : (t : Task) (w : Worker) → CanHappen run (Claim t w) → (run' : StandingBy eq D) → run' ≡ with_event run (Claim t w) → (gone' : List ℕ) → gone' ≡ set gone w.0 0 → Knows run' gone'
+    knows-claimed t w can run' is gone' noted = subst (λ (r : StandingBy eq D). Knows r gone') (sym is) (knows-noted run (with_event run (Claim t w)) refl w (λ v other. event-stays (Claim t w) can v other) refl gone knows 0 refl gone' noted)
 
 -- where the disks alone change
-pub knows-stored : {D : Type 0} (run run' : Standing D) (gone : List ℕ) → Knows run gone → run' ≡ record run { disks = run'.disks; out = run'.out } → Knows run' gone
-knows-stored run run' gone knows is = subst (λ (r : Standing _). Knows r gone) (sym is) knows
+pub knows-stored : {D : Type 0} {eq : Equations} (run run' : StandingBy eq D) (gone : List ℕ) → Knows run gone → run' ≡ record run { disks = run'.disks; out = run'.out } → Knows run' gone
+knows-stored run run' gone knows is = subst (λ (r : StandingBy _ _). Knows r gone) (sym is) knows
 
 -- where it is found that more are gone
-pub knows-found : {D : Type 0} (run : Standing D) (gone : List ℕ) → Knows run gone → (w : Worker) (count : ℕ) → AreGone run.machine (state run) w count → (gone' : List ℕ) → gone' ≡ set gone w.0 count → Knows run gone'
+pub knows-found : {D : Type 0} {eq : Equations} (run : StandingBy eq D) (gone : List ℕ) → Knows run gone → (w : Worker) (count : ℕ) → AreGone run.machine (state run) w count → (gone' : List ℕ) → gone' ≡ set gone w.0 count → Knows run gone'
 knows-found run gone knows w count found gone' noted = knows-noted run run refl w (λ v d. record { victims = refl; leaves = λ c n leaving. leaving }) refl gone knows count found gone' noted

@@ -9,12 +9,12 @@ use Rattle.std.proofs.lemmas.Option.{get_or_from_slice_get, slice_get_within}
 use Rattle.sj_base.specs.Array.{area}
 use Rattle.sj_base.specs.declared.tile.Dims.{Dims}
 use Rattle.sj_base.proofs.Options.{IfSome-at, IfSome-from, IsSomeAnd-from, IsSomeAnd-at}
+use Rattle.sj_codelet.specs.Kernel.{Equations}
 use Rattle.sj_core.specs.declared.progress.Transfer.{Transfer}
-use Rattle.sj_core.proofs.Words.{Array, AtNode, Block, Cell, DiskNo, Machine, OnDisk, Place, Program, State, Worker, dims_of, has_copy, on_disk, transfer, writes}
-use Rattle.sj_core.proofs.Placing.{cells_differ, copy-row, home-from, home-is}
-use Rattle.sj_core.proofs.Reading.{transfer-inside}
+use Rattle.sj_core.proofs.Words.{Array, AtNode, Block, Cell, DiskNo, Machine, OnDisk, Place, Program, State, Worker, dims_of, has_copy, transfer, writes}
+use Rattle.sj_core.proofs.Placing.{cells_differ, copy-row, home-is}
 use Rattle.sj_core.specs.Coherent.{IsTransferTo}
-use Rattle.sj_core.specs.Step.{a_transfer, disk_of, is_home}
+use Rattle.sj_core.specs.Step.{a_transfer, disk_of}
 use Rattle.sj_edge.specs.GivenBack.{AreGivenBack, IsGivenBack}
 use Rattle.sj_edge.proofs.GivenBackLemmas.{all_given_back-then}
 use Rattle.sj_disk.specs.declared.directory.Extent.{Extent}
@@ -30,7 +30,7 @@ use Rattle.sj_machine.specs.Rows.{Rows}
 use Rattle.sj_board.specs.Headers.{IsLastWritten}
 use Rattle.sj_board.specs.Sound.{HoldsArray, HoldsBlocks, IsBlock, IsBlockCopyOf, IsStored, IsWrittenOut, Keeps, block_of}
 use Rattle.sj_board.specs.DiskUnits.{HasItsDiskIn, lent}
-use Rattle.sj_board.specs.Standing.{AllTell, HasDimsMoved, IsTileMoved, IsTileOf, Standing, state, run_arrays}
+use Rattle.sj_board.specs.Standing.{AllTell, HasDimsMoved, IsTileMoved, IsTileOf, StandingBy, run_arrays, state}
 use Rattle.sj_board.proofs.Keeping.{copy-on_disk}
 use Rattle.sj_board.specs.NextStep.{is_out_for}
 
@@ -48,7 +48,7 @@ tell-still {D} size faults mismatches held xs ys back all k y there =
     let was = All-get_or (λ x. IsSome (held x)) xs k y inside all in
     subst (λ (z : D). IsSome (held z)) (get_or_from_slice_get ys k y y there) (told_as (held (get_or xs k y)) (held (get_or ys k y)) one.tells_as_before was)
 
-module _ {D : Type 0} (size faults mismatches : D → ℕ) (held : D → Option (List ℕ)) (b : Standing D) (rows : Rows) (tiles : List (List (Option Array))) (spare : ℕ) (keeps : Keeps size faults mismatches held b rows tiles spare) (c : Cell) where
+module _ {D : Type 0} {eq : Equations} (size faults mismatches : D → ℕ) (held : D → Option (List ℕ)) (b : StandingBy eq D) (rows : Rows) (tiles : List (List (Option Array))) (spare : ℕ) (keeps : Keeps size faults mismatches held b rows tiles spare) (c : Cell) where
   abbrev p : Program
   p = b.program
 
@@ -238,9 +238,9 @@ module _ {D : Type 0} (size faults mismatches : D → ℕ) (held : D → Option 
       pub keeps-fetched : Keeps size faults mismatches held (record b { disks = new.set; out = new.out }) rows tiles spare
       keeps-fetched = keeps-over new blocks_stay fetched.disks_are_given_back
 
-      pub fetched-well : (b' : Standing D) → b ≡ b' → is_ok result ≡ true → IsTileMoved held b' w got
+      pub fetched-well : (b' : StandingBy eq D) → b ≡ b' → is_ok result ≡ true → IsTileMoved held b' w got
       fetched-well b' same ok =
-          subst (λ (z : Standing D). IsTileMoved held z w got) same
+          subst (λ (z : StandingBy eq D). IsTileMoved held z w got) same
           (IfSome-from (λ (y : Transfer). IsTileOf held b y.cell y.from got) (transfer s w) (a_transfer c (OnDisk d) to) under_way (record {
             dims = same_dims ∙ dims;
             array = λ tells. (
@@ -264,7 +264,7 @@ pub OnOk-from : {A : Type 0} (r : Result A DiskRefusal) (P : Type 0) → (is_ok 
 OnOk-from (Ok u) P h = h refl
 OnOk-from (Err x) P h = tt
 
-module _ {D : Type 0} (size faults mismatches : D → ℕ) (held : D → Option (List ℕ)) (b : Standing D) (rows : Rows) (tiles : List (List (Option Array))) (spare : ℕ) (keeps : Keeps size faults mismatches held b rows tiles spare) (w : Worker) (b' : Standing D) (same : b ≡ b') (o : Option Transfer) (read : o ≡ transfer rows.state w) (x : Transfer) (found : o ≡ Some x) where
+module _ {D : Type 0} {eq : Equations} (size faults mismatches : D → ℕ) (held : D → Option (List ℕ)) (b : StandingBy eq D) (rows : Rows) (tiles : List (List (Option Array))) (spare : ℕ) (keeps : Keeps size faults mismatches held b rows tiles spare) (w : Worker) (b' : StandingBy eq D) (same : b ≡ b') (o : Option Transfer) (read : o ≡ transfer rows.state w) (x : Transfer) (found : o ≡ Some x) where
   its-state : rows.state ≡ state b
   its-state = ap (λ (r : Rows). r.state) keeps.rows
 
@@ -282,14 +282,14 @@ module _ {D : Type 0} (size faults mismatches : D → ℕ) (held : D → Option 
 
   -- the disk of its cell is in
   pub found-in : HasItsDiskIn b' w → IsInFor (lent b) x.cell.0
-  found-in is_in = IfSome-at (λ (y : Transfer). IsInFor (lent b) y.cell.0) (transfer (state b) w) (a_transfer x.cell x.from x.to) (at-place x.to refl) (subst (λ (z : Standing D). HasItsDiskIn z w) (sym same) is_in)
+  found-in is_in = IfSome-at (λ (y : Transfer). IsInFor (lent b) y.cell.0) (transfer (state b) w) (a_transfer x.cell x.from x.to) (at-place x.to refl) (subst (λ (z : StandingBy eq D). HasItsDiskIn z w) (sym same) is_in)
 
   counted : (n : ℕ) → n ≡ writes rows.state x.cell → n ≡ writes (state b) x.cell
   counted n count = count ∙ ap (λ (s : State). writes s x.cell) its-state
 
   module _ (d : DiskNo) (at : x.to ≡ OnDisk d) (tile : Array) (given : IsTileMoved held b' w tile) (whole : length tile.elements ≡ area tile.dims) (fits : All (FitsSigned w64) tile.elements) where
     tile-of : IsTileOf held b x.cell x.from tile
-    tile-of = IfSome-at (λ (y : Transfer). IsTileOf held b y.cell y.from tile) (transfer (state b) w) (a_transfer x.cell x.from (OnDisk d)) (at-place (OnDisk d) at) (subst (λ (z : Standing D). IsTileMoved held z w tile) (sym same) given)
+    tile-of = IfSome-at (λ (y : Transfer). IsTileOf held b y.cell y.from tile) (transfer (state b) w) (a_transfer x.cell x.from (OnDisk d)) (at-place (OnDisk d) at) (subst (λ (z : StandingBy eq D). IsTileMoved held z w tile) (sym same) given)
 
     pub found-reserved : IsSomeAnd (extent_of b.disks.directory x.cell.0) (λ e. length tile.elements ≡ e.length)
     found-reserved = store-reserved size faults mismatches held b rows tiles spare keeps x.cell w x.from d (at-place (OnDisk d) at) tile tile-of whole fits
@@ -306,7 +306,7 @@ module _ {D : Type 0} (size faults mismatches : D → ℕ) (held : D → Option 
 
   module _ (d : DiskNo) (at : x.from ≡ OnDisk d) (tile : Array) (given : HasDimsMoved b' w tile.dims) (whole : length tile.elements ≡ area tile.dims) where
     dims-of : tile.dims ≡ dims_of b.program x.cell
-    dims-of = IfSome-at (λ (y : Transfer). tile.dims ≡ dims_of b.program y.cell) (transfer (state b) w) (a_transfer x.cell x.from x.to) (at-place x.to refl) (subst (λ (z : Standing D). HasDimsMoved z w tile.dims) (sym same) given)
+    dims-of = IfSome-at (λ (y : Transfer). tile.dims ≡ dims_of b.program y.cell) (transfer (state b) w) (a_transfer x.cell x.from x.to) (at-place x.to refl) (subst (λ (z : StandingBy eq D). HasDimsMoved z w tile.dims) (sym same) given)
 
     pub found-to_fetch : (n : ℕ) → n ≡ writes rows.state x.cell → IsSomeAnd (extent_of b.disks.directory x.cell.0) (λ e. (length tile.elements ≡ e.length) × (e.last_store ≡ Some (last_store n true)))
     found-to_fetch n count = subst (λ (k : ℕ). IsSomeAnd (extent_of b.disks.directory x.cell.0) (λ e. (length tile.elements ≡ e.length) × (e.last_store ≡ Some (last_store k true)))) (sym (counted n count)) (fetch-stored size faults mismatches held b rows tiles spare keeps x.cell w d x.to (from-place (OnDisk d) at) tile dims-of whole)
@@ -339,7 +339,7 @@ pub fetches-back : {D A : Type 0} (size faults mismatches : D → ℕ) (held : D
 fetches-back size faults mismatches held c n xs result old new Q some fetches = some-if Q (Fetches size faults mismatches held c n xs result old new) (AreGivenBack size faults mismatches held old.disks new.disks) (extent_of old.directory c) some fetches (λ e (is : Fetches size faults mismatches held c n xs result old new e). is.disks_are_given_back)
 
 -- where the disk of the cell of a worker's transfer isn't out, it is in
-pub not-out : {D : Type 0} (b : Standing D) (w : Worker) (x : Transfer) → transfer (state b) w ≡ Some x → is_out_for b x.cell ≡ false → HasItsDiskIn b w
+pub not-out : {D : Type 0} {eq : Equations} (b : StandingBy eq D) (w : Worker) (x : Transfer) → transfer (state b) w ≡ Some x → is_out_for b x.cell ≡ false → HasItsDiskIn b w
 not-out b w x under_way none = subst (λ (o : Option Transfer). IfSome o (λ y. IsInFor (lent b) y.cell.0)) (sym under_way) (by_extent (extent_of b.disks.directory x.cell.0) none)
   where
     by_extent : (o : Option Extent) → elim o [ None ↦ false | Some e ↦ is_out b.out e.disk.0 ] ≡ false → IfSome o (λ e. is_out b.out e.disk.0 ≡ false)

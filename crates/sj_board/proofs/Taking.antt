@@ -4,6 +4,7 @@ use Rattle.std.proofs.lemmas.Bool.{cases_eq, false≢true, false_from_ne_true}
 use Rattle.std.proofs.lemmas.List.Elements.{All-from_get_or}
 use Rattle.std.proofs.lemmas.List.Sums.{list_all-from_AllPass}
 use Rattle.std.proofs.lemmas.Option.{none-some}
+use Rattle.sj_codelet.specs.Kernel.{Equations}
 use Rattle.sj_core.proofs.Eviction.{evicted-after}
 use Rattle.sj_base.specs.declared.mode.Policy.TheVariants.{Prio}
 use Rattle.sj_base.specs.declared.trace.Event.TheVariants.{Claim}
@@ -19,11 +20,11 @@ use Rattle.sj_deps.specs.Progress.{Dependencies}
 use Rattle.sj_machine.specs.ReadyTasks.{CountsDone, IsToBeTaken}
 use Rattle.sj_machine.specs.Planning.{AnotherHasTask, IsWhy, MayClaim}
 use Rattle.sj_board.specs.Sound.{IsSoundRun}
-use Rattle.sj_board.specs.Standing.{CanHappen, Standing, state, with_event}
+use Rattle.sj_board.specs.Standing.{CanHappen, StandingBy, state, with_event}
 use Rattle.sj_board.proofs.Stepping.{counts-still, not-complete, taken-before, taken-still}
 use Rattle.sj_machine.specs.declared.plan.Why.{Why}
 use Rattle.sj_machine.proofs.Refusing.{found-waits}
-use Rattle.sj_board.specs.Board.{BoardState, IsWorking, hand_in, hand_of, has_claimed}
+use Rattle.sj_board.specs.Board.{BoardBy, IsWorking, hand_in, hand_of, has_claimed}
 use Rattle.sj_board.specs.BoardSound.{HandsAgree, KeepsBoard, StandsOnce, StandsReleased, StopsAtTheEnd, times_given, times_pooled}
 use Rattle.sj_board.specs.Claimable.{MayAsk}
 use Rattle.sj_board.specs.declared.hand.Hand.{Hand}
@@ -45,7 +46,7 @@ once-other u t d = elim (cases_eq t.0 u.0) as (λ _. once u (Some t) ≡ 0) [
   | inr ne ↦ grind arith
 ]
 
-module _ {D : Type 0} (size faults mismatches : D → ℕ) (held : D → Option (List ℕ)) (b : BoardState D) (deps : Dependencies) (footprints : List ℕ) (keeps : KeepsBoard faults mismatches held b deps footprints) (sound : IsSoundRun size faults mismatches held b.run) (w : Worker) (works : IsWorking b w) (t : Task) (may : MayAsk b w t) (idle : (hand_of b w).task ≡ None) (none : b.fault ≡ None) where
+module _ {D : Type 0} {eq : Equations} (size faults mismatches : D → ℕ) (held : D → Option (List ℕ)) (b : BoardBy eq D) (deps : Dependencies) (footprints : List ℕ) (keeps : KeepsBoard faults mismatches held b deps footprints) (sound : IsSoundRun size faults mismatches held b.run) (w : Worker) (works : IsWorking b w) (t : Task) (may : MayAsk b w t) (idle : (hand_of b w).task ≡ None) (none : b.fault ≡ None) where
   abbrev p : Program
   p = b.run.program
 
@@ -181,14 +182,14 @@ module _ {D : Type 0} (size faults mismatches : D → ℕ) (held : D → Option 
     }
 
     -- as the code leaves it
-    pub keeps-claimed_left : (run' : Standing D) (hands' : List Hand) → run' ≡ with_event b.run (Claim t w) → hands' ≡ slice_set b.hands w.0 claiming → KeepsBoard faults mismatches held (record b { run = run'; hands = hands' }) deps footprints
+    pub keeps-claimed_left : (run' : StandingBy eq D) (hands' : List Hand) → run' ≡ with_event b.run (Claim t w) → hands' ≡ slice_set b.hands w.0 claiming → KeepsBoard faults mismatches held (record b { run = run'; hands = hands' }) deps footprints
     keeps-claimed_left run' hands' run hands =
-        subst (λ (r : Standing D). KeepsBoard faults mismatches held (record b { run = r; hands = hands' }) deps footprints) (sym run)
+        subst (λ (r : StandingBy eq D). KeepsBoard faults mismatches held (record b { run = r; hands = hands' }) deps footprints) (sym run)
         (subst (λ (hs : List Hand). KeepsBoard faults mismatches held (record (has_claimed b t w) { hands = hs }) deps footprints) (sym hands) keeps-claimed)
 
 -- ---- a claim that is refused
 
-module _ {D : Type 0} (size faults mismatches : D → ℕ) (held : D → Option (List ℕ)) (run : Standing D) (sound : IsSoundRun size faults mismatches held run) (t : Task) (w : Worker) (may : MayClaim run.program run.machine (state run) t w) where
+module _ {D : Type 0} {eq : Equations} (size faults mismatches : D → ℕ) (held : D → Option (List ℕ)) (run : StandingBy eq D) (sound : IsSoundRun size faults mismatches held run) (t : Task) (w : Worker) (may : MayClaim run.program run.machine (state run) t w) where
   -- with one worker there is no other
   pub lone-refusal : run.program.workers ≡ 1 → (why : Why) → IsWhy run.program run.machine (state run) t w why → NotNow why ≡ OutOfMemory
   lone-refusal one why is =

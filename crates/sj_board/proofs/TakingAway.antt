@@ -11,6 +11,7 @@ use Rattle.std.proofs.lemmas.List.Kept.{AllPairs-from_increasing}
 use Rattle.std.proofs.lemmas.List.Sums.{get_or-le-sum_by, sum_by-set}
 use Rattle.sj_base.specs.declared.mode.Policy.{Policy}
 use Rattle.sj_base.specs.declared.mode.Policy.TheVariants.{Prio, Ws}
+use Rattle.sj_codelet.specs.Kernel.{Equations}
 use Rattle.sj_core.proofs.Readiness.{done_tasks-done}
 use Rattle.sj_core.proofs.Words.{Machine, Program, State, Task, Worker, footprint, is_done}
 use Rattle.sj_core.specs.Step.{done_tasks}
@@ -21,7 +22,7 @@ use Rattle.sj_pool.specs.Pool.{Pooled, first_task, home, queue, queue_count, wit
 use Rattle.sj_pool.specs.Queue.{without_first_fitting}
 use Rattle.sj_pool.specs.declared.entry.Entry.{Entry}
 use Rattle.sj_board.specs.Standing.{state}
-use Rattle.sj_board.specs.Board.{BoardState, has_released, released_of}
+use Rattle.sj_board.specs.Board.{BoardBy, has_released, released_of}
 use Rattle.sj_board.specs.BoardSound.{IsEntry, KeepsBoard, StandsReleased, is_entry_of}
 use Rattle.sj_board.specs.Claimable.{IsReadyWhereItWaits}
 use Rattle.sj_board.specs.Filling.{entry_of}
@@ -114,7 +115,7 @@ stands-first qs n t inside is = by_queue (queue qs n) refl
 
 -- ---- on a board
 
-module _ {D : Type 0} (faults mismatches : D → ℕ) (held : D → Option (List ℕ)) (b : BoardState D) (deps : Dependencies) (footprints : List ℕ) (keeps : KeepsBoard faults mismatches held b deps footprints) (w : Worker) (known : w.0 < b.run.program.workers) (other : b.run.machine.policy ≢ Prio) where
+module _ {D : Type 0} {eq : Equations} (faults mismatches : D → ℕ) (held : D → Option (List ℕ)) (b : BoardBy eq D) (deps : Dependencies) (footprints : List ℕ) (keeps : KeepsBoard faults mismatches held b deps footprints) (w : Worker) (known : w.0 < b.run.program.workers) (other : b.run.machine.policy ≢ Prio) where
   abbrev p : Program
   p = b.run.program
 

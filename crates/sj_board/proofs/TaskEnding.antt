@@ -11,6 +11,7 @@ use Rattle.std.proofs.lemmas.Option.{none-some}
 use Rattle.sj_base.specs.declared.mode.Policy.{Policy}
 use Rattle.sj_base.specs.declared.mode.Policy.TheVariants.{Prio, Ws}
 use Rattle.sj_base.specs.declared.trace.Event.TheVariants.{End}
+use Rattle.sj_codelet.specs.Kernel.{Equations}
 use Rattle.sj_core.proofs.Advancing.{Advances, Ends-advances, same_task, task_of-worker}
 use Rattle.sj_core.proofs.Readiness.{Ready-earlier, Ready-from, done_tasks-done, done_tasks-has}
 use Rattle.sj_core.proofs.Reading.{progress-inside}
@@ -28,9 +29,9 @@ use Rattle.sj_machine.specs.ReadyTasks.{IsToBeTaken}
 use Rattle.sj_board.specs.Delivery.{IsGift}
 use Rattle.sj_board.specs.Sound.{IsSoundRun}
 use Rattle.sj_base.specs.Array.{Array}
-use Rattle.sj_board.specs.Standing.{CanHappen, Standing, state, with_event}
+use Rattle.sj_board.specs.Standing.{CanHappen, StandingBy, state, with_event}
 use Rattle.sj_board.proofs.Stepping.{not-complete, ready-counted, ready-same}
-use Rattle.sj_board.specs.Board.{BoardState, HasTakenReleased, IsWorking, board_state, hand_in, hand_of, has_ended, released_of}
+use Rattle.sj_board.specs.Board.{BoardBy, HasTakenReleased, IsWorking, board_state, hand_in, hand_of, has_ended, released_of}
 use Rattle.sj_board.specs.BoardSound.{HandsAgree, HasBecomeReady, KeepsBoard, StandsOnce, StandsReleased, StopsAtTheEnd, times_given, times_pooled}
 use Rattle.sj_board.specs.Delivered.{handed}
 use Rattle.sj_board.specs.Filling.{CanPutEach, with_each}
@@ -76,7 +77,7 @@ among-once (t ∷ ts) u pairs =
 
 -- ---- the end of a task
 
-module _ {D : Type 0} (size faults mismatches : D → ℕ) (held : D → Option (List ℕ)) (b : BoardState D) (deps : Dependencies) (footprints : List ℕ) (keeps : KeepsBoard faults mismatches held b deps footprints) (sound : IsSoundRun size faults mismatches held b.run) (w : Worker) (works : IsWorking b w) (t : Task) (has : (hand_of b w).task ≡ Some t) (can : CanHappen b.run (End t w)) (taken : HasTakenReleased b w) where
+module _ {D : Type 0} {eq : Equations} (size faults mismatches : D → ℕ) (held : D → Option (List ℕ)) (b : BoardBy eq D) (deps : Dependencies) (footprints : List ℕ) (keeps : KeepsBoard faults mismatches held b deps footprints) (sound : IsSoundRun size faults mismatches held b.run) (w : Worker) (works : IsWorking b w) (t : Task) (has : (hand_of b w).task ≡ Some t) (can : CanHappen b.run (End t w)) (taken : HasTakenReleased b w) where
   abbrev p : Program
   p = b.run.program
 
@@ -399,20 +400,20 @@ module _ {D : Type 0} (size faults mismatches : D → ℕ) (held : D → Option 
   ends-can p' same ts released = subst (λ (q : Program). CanPutEach q (Some w) b.pool ts) (sym same) (filled ts (released-become ts released) None).can
 
   -- as the code leaves it
-  module _ (p' : Program) (run' : Standing D) (hands' : List Hand) (pool' : Pooled) (deps' : Dependencies) (delivered' : List (Task × Array)) (gift : Option Array) (same : p' ≡ p) (ran : run' ≡ with_event b.run (End t w)) (handed' : hands' ≡ slice_set b.hands w.0 (record (hand_of b w) { task = None })) (done : deps' ≡ after_done deps t.0) (put : Releases p' deps t w b.pool pool') (gave : delivered' ≡ b.delivered ++ handed t gift) where
+  module _ (p' : Program) (run' : StandingBy eq D) (hands' : List Hand) (pool' : Pooled) (deps' : Dependencies) (delivered' : List (Task × Array)) (gift : Option Array) (same : p' ≡ p) (ran : run' ≡ with_event b.run (End t w)) (handed' : hands' ≡ slice_set b.hands w.0 (record (hand_of b w) { task = None })) (done : deps' ≡ after_done deps t.0) (put : Releases p' deps t w b.pool pool') (gave : delivered' ≡ b.delivered ++ handed t gift) where
     abbrev left_hands : List Hand
     left_hands = slice_set b.hands w.0 (record (hand_of b w) { task = None })
 
     left : board_state run' hands' pool' b.fault delivered' ≡ has_ended b t w put.ready gift
     left =
-        ap (λ (r : Standing D). board_state r hands' pool' b.fault delivered') ran ∙ ap (λ (hs : List Hand). board_state (with_event b.run (End t w)) hs pool' b.fault delivered') handed'
+        ap (λ (r : StandingBy eq D). board_state r hands' pool' b.fault delivered') ran ∙ ap (λ (hs : List Hand). board_state (with_event b.run (End t w)) hs pool' b.fault delivered') handed'
         ∙ ap (λ (q : Pooled). board_state (with_event b.run (End t w)) left_hands q b.fault delivered') (put.put ∙ ap (λ (q : Program). with_each q (Some w) b.pool put.ready) same)
         ∙ ap (λ (ds : List (Task × Array)). board_state (with_event b.run (End t w)) left_hands (with_each p (Some w) b.pool put.ready) b.fault ds) gave
 
     pub ends-left : KeepsBoard faults mismatches held (board_state run' hands' pool' b.fault delivered') deps' footprints
     ends-left =
         subst (λ (x : Dependencies). KeepsBoard faults mismatches held (board_state run' hands' pool' b.fault delivered') x footprints) (sym done)
-        (subst (λ (x : BoardState D). KeepsBoard faults mismatches held x (after_done deps t.0) footprints) (sym left) (keeps-ended put.ready (released-become put.ready put.released) gift))
+        (subst (λ (x : BoardBy eq D). KeepsBoard faults mismatches held x (after_done deps t.0) footprints) (sym left) (keeps-ended put.ready (released-become put.ready put.released) gift))
 
-    pub ends-task : IsGift held b.run t w gift → (old : BoardState D) → b ≡ old → EndsTask held old t w (board_state run' hands' pool' b.fault delivered')
-    ends-task gives old is = subst (λ (x : BoardState D). EndsTask held x t w (board_state run' hands' pool' b.fault delivered')) is (record { ready = put.ready; become = released-become put.ready put.released; gift = gift; gives = gives; leaves = left; releases = λ other. ap (λ (x : BoardState D). released_of x w) left ∙ ended-own put.ready (released-become put.ready put.released) gift other })
+    pub ends-task : IsGift held b.run t w gift → (old : BoardBy eq D) → b ≡ old → EndsTask held old t w (board_state run' hands' pool' b.fault delivered')
+    ends-task gives old is = subst (λ (x : BoardBy eq D). EndsTask held x t w (board_state run' hands' pool' b.fault delivered')) is (record { ready = put.ready; become = released-become put.ready put.released; gift = gift; gives = gives; leaves = left; releases = λ other. ap (λ (x : BoardBy eq D). released_of x w) left ∙ ended-own put.ready (released-become put.ready put.released) gift other })

@@ -3,6 +3,7 @@ use Rattle.std.proofs.Common.{◌≡◌, ℕ, ◌+◌, ◌<◌, true, false, IsT
 use Rattle.std.specs.Prelude.{IfSome, OnOk, Result, Ok, Err}
 use Rattle.sj_base.specs.Array.{Array}
 use Rattle.sj_base.specs.declared.ids.Task.{Task}
+use Rattle.sj_codelet.specs.Kernel.{Equations}
 use Rattle.sj_core.proofs.Words.{Cell, State, Worker, is_task_of, progress, transfer}
 use Rattle.sj_core.specs.declared.progress.Transfer.{Transfer}
 use Rattle.sj_core.specs.Legal.{IsComplete}
@@ -16,12 +17,12 @@ use Rattle.sj_disk.specs.Rack.{is_out}
 use Rattle.sj_disk.specs.Units.{IsWorkedOn, UnitFetches, UnitState, UnitStores}
 use Rattle.sj_pool.specs.Pool.{Pooled}
 use Rattle.sj_board.specs.Sound.{OnlyDisksChange}
-use Rattle.sj_board.specs.Standing.{IsFetching, IsMovingOut, IsTileMoved, IsTileOf, Standing, state}
+use Rattle.sj_board.specs.Standing.{IsFetching, IsMovingOut, IsTileMoved, IsTileOf, StandingBy, state}
 use Rattle.sj_board.specs.DiskUnits.{HasFetchedMoved, HasStoredMoved, IsUnitOf, TakesUnit, lent}
 use Rattle.sj_board.specs.declared.fault.RunFault.{RunFault}
 use Rattle.sj_board.proofs.Storing.{some-if}
 use Rattle.sj_board.proofs.UnitPuts.{same-back}
-use Rattle.sj_board.specs.Board.{BoardState, GivesUnitBack, board_state, hand_in, hand_of, has_taken, with_hand}
+use Rattle.sj_board.specs.Board.{BoardBy, GivesUnitBack, board_state, hand_in, hand_of, has_taken, with_hand}
 use Rattle.sj_board.specs.BoardSound.{KeepsBoard, times_pooled}
 use Rattle.sj_board.specs.Units.{OthersKeepUnits, UnitsStand, unit_in_hand}
 use Rattle.sj_board.specs.declared.hand.Hand.{Hand}
@@ -31,7 +32,7 @@ use Rattle.sj_board.proofs.ReleasedTasks.{released-hands}
 use Rattle.sj_board.proofs.UnitHands.{others-keep, units-back, units-taken}
 
 -- a worker's unit is no matter of what a board keeps beside
-keeps-unit : {D : Type 0} (faults mismatches : D → ℕ) (held : D → Option (List ℕ)) (b : BoardState D) (deps : Dependencies) (footprints : List ℕ) (w : Worker) (unit : Option Cell) → w.0 < length b.hands → KeepsBoard faults mismatches held b deps footprints → KeepsBoard faults mismatches held (with_hand b w (record (hand_of b w) { unit = unit })) deps footprints
+keeps-unit : {D : Type 0} {eq : Equations} (faults mismatches : D → ℕ) (held : D → Option (List ℕ)) (b : BoardBy eq D) (deps : Dependencies) (footprints : List ℕ) (w : Worker) (unit : Option Cell) → w.0 < length b.hands → KeepsBoard faults mismatches held b deps footprints → KeepsBoard faults mismatches held (with_hand b w (record (hand_of b w) { unit = unit })) deps footprints
 keeps-unit faults mismatches held b deps footprints w unit inside keeps =
     let h : Hand = record (hand_of b w) { unit = unit } in
     let s : State = state b.run in
@@ -56,46 +57,46 @@ keeps-unit faults mismatches held b deps footprints w unit inside keeps =
     }
 
 -- as the code leaves it: the disks have changed, and the worker's unit
-pub keeps-unit_left : {D : Type 0} (size faults mismatches : D → ℕ) (held : D → Option (List ℕ)) (b : BoardState D) (deps : Dependencies) (footprints : List ℕ) (run' : Standing D) (w : Worker) (unit : Option Cell) (hands' : List Hand) → w.0 < length b.hands → OnlyDisksChange b.run run' → AreGivenBack size faults mismatches held b.run.disks.disks run'.disks.disks → hands' ≡ slice_set b.hands w.0 (record (hand_in b.hands w) { unit = unit }) → KeepsBoard faults mismatches held b deps footprints → KeepsBoard faults mismatches held (record b { run = run'; hands = hands' }) deps footprints
+pub keeps-unit_left : {D : Type 0} {eq : Equations} (size faults mismatches : D → ℕ) (held : D → Option (List ℕ)) (b : BoardBy eq D) (deps : Dependencies) (footprints : List ℕ) (run' : StandingBy eq D) (w : Worker) (unit : Option Cell) (hands' : List Hand) → w.0 < length b.hands → OnlyDisksChange b.run run' → AreGivenBack size faults mismatches held b.run.disks.disks run'.disks.disks → hands' ≡ slice_set b.hands w.0 (record (hand_in b.hands w) { unit = unit }) → KeepsBoard faults mismatches held b deps footprints → KeepsBoard faults mismatches held (record b { run = run'; hands = hands' }) deps footprints
 keeps-unit_left size faults mismatches held b deps footprints run' w unit hands' inside only back is keeps =
     subst (λ (hs : List Hand). KeepsBoard faults mismatches held (record b { run = run'; hands = hs }) deps footprints) (sym is)
     (keeps-unit faults mismatches held (record b { run = run' }) deps footprints w unit inside (keeps-disks size faults mismatches held b deps footprints run' only back keeps))
 
 -- ---- a unit is taken
 
-module _ {D : Type 0} (run run' : Standing D) (w : Worker) (u : UnitState D) (takes : TakesUnit w u run run') where
+module _ {D : Type 0} {eq : Equations} (run run' : StandingBy eq D) (w : Worker) (u : UnitState D) (takes : TakesUnit w u run run') where
   pub taken-only : OnlyDisksChange run run'
-  taken-only = takes.nothing_else ∙ ap (λ (z : Standing D). record run { disks = z.disks; out = z.out }) (sym takes.nothing_else)
+  taken-only = takes.nothing_else ∙ ap (λ (z : StandingBy eq D). record run { disks = z.disks; out = z.out }) (sym takes.nothing_else)
 
   pub taken-back : (size faults mismatches : D → ℕ) (held : D → Option (List ℕ)) → AreGivenBack size faults mismatches held run.disks.disks run'.disks.disks
   taken-back size faults mismatches held =
-      subst (λ (z : Standing D). AreGivenBack size faults mismatches held run.disks.disks z.disks.disks) (sym takes.nothing_else)
+      subst (λ (z : StandingBy eq D). AreGivenBack size faults mismatches held run.disks.disks z.disks.disks) (sym takes.nothing_else)
       (all_given_back-untouched size faults mismatches held run.disks.disks run.disks.disks (all_untouched-same size faults mismatches held run.disks.disks))
 
   pub taken-units : (hands hands' : List Hand) → w.0 < length hands → (hand_in hands w).unit ≡ None → hands' ≡ slice_set hands w.0 (record (hand_in hands w) { unit = Some u.cell }) → UnitsStand run.disks run.out hands → UnitsStand run'.disks run'.out hands'
   taken-units hands hands' inside none is stand =
-      let its = ap (λ (z : Standing D). extent_of z.disks.directory u.cell.0) (sym takes.nothing_else) ∙ takes.is_its_unit.taken.its_extent in
-      let now_out = ap (λ (z : Standing D). is_out z.out u.extent.disk.0) (sym takes.nothing_else) ∙ takes.is_its_unit.taken.its_disk_is_out in
-      subst (λ (z : Standing D). UnitsStand z.disks z.out hands') (sym takes.nothing_else)
+      let its = ap (λ (z : StandingBy eq D). extent_of z.disks.directory u.cell.0) (sym takes.nothing_else) ∙ takes.is_its_unit.taken.its_extent in
+      let now_out = ap (λ (z : StandingBy eq D). is_out z.out u.extent.disk.0) (sym takes.nothing_else) ∙ takes.is_its_unit.taken.its_disk_is_out in
+      subst (λ (z : StandingBy eq D). UnitsStand z.disks z.out hands') (sym takes.nothing_else)
       (subst (λ (hs : List Hand). UnitsStand run.disks (slice_set run.out u.extent.disk.0 true) hs) (sym is)
       (units-taken run.disks run.out hands stand w inside none u.cell u.extent its takes.was_in now_out))
 
   pub taken-board : (hands hands' : List Hand) (pool : Pooled) (fault : Option RunFault) (delivered : List (Task × Array)) → hands' ≡ slice_set hands w.0 (record (hand_in hands w) { unit = Some u.cell }) → board_state run' hands' pool fault delivered ≡ has_taken (board_state run hands pool fault delivered) w u
   taken-board hands hands' pool fault delivered is =
       ap (λ (hs : List Hand). board_state run' hs pool fault delivered) is
-      ∙ ap (λ (z : Standing D). board_state z (slice_set hands w.0 (record (hand_in hands w) { unit = Some u.cell })) pool fault delivered) takes.nothing_else
+      ∙ ap (λ (z : StandingBy eq D). board_state z (slice_set hands w.0 (record (hand_in hands w) { unit = Some u.cell })) pool fault delivered) takes.nothing_else
 
 -- ---- and put back
 
-module _ {D : Type 0} (run run' : Standing D) (w : Worker) (hands hands' : List Hand) (is : hands' ≡ slice_set hands w.0 (record (hand_in hands w) { unit = None })) where
+module _ {D : Type 0} {eq : Equations} (run run' : StandingBy eq D) (w : Worker) (hands hands' : List Hand) (is : hands' ≡ slice_set hands w.0 (record (hand_in hands w) { unit = None })) where
   gives-back : (pool : Pooled) (fault : Option RunFault) (delivered : List (Task × Array)) → OnlyDisksChange run run' → GivesUnitBack w (board_state run hands pool fault delivered) (board_state run' hands' pool fault delivered)
   gives-back pool fault delivered only =
       ap (λ (hs : List Hand). board_state run' hs pool fault delivered) is
-      ∙ ap (λ (z : Standing D). board_state z (slice_set hands w.0 (record (hand_in hands w) { unit = None })) pool fault delivered) only
+      ∙ ap (λ (z : StandingBy eq D). board_state z (slice_set hands w.0 (record (hand_in hands w) { unit = None })) pool fault delivered) only
 
-  pub put-board : (pool : Pooled) (fault : Option RunFault) (delivered : List (Task × Array)) (b : BoardState D) → board_state run hands pool fault delivered ≡ b → OnlyDisksChange run run' → GivesUnitBack w b (board_state run' hands' pool fault delivered)
+  pub put-board : (pool : Pooled) (fault : Option RunFault) (delivered : List (Task × Array)) (b : BoardBy eq D) → board_state run hands pool fault delivered ≡ b → OnlyDisksChange run run' → GivesUnitBack w b (board_state run' hands' pool fault delivered)
   put-board pool fault delivered b same only =
-      subst (λ (k : BoardState D). GivesUnitBack w k (board_state run' hands' pool fault delivered)) same (gives-back pool fault delivered only)
+      subst (λ (k : BoardBy eq D). GivesUnitBack w k (board_state run' hands' pool fault delivered)) same (gives-back pool fault delivered only)
 
   module _ (u before : UnitState D) (taken : IsTaken (lent run) before) (cell : u.cell ≡ before.cell) (disk : u.extent.disk ≡ before.extent.disk) (back : lent run' ≡ has_back (lent run) u) (stand : UnitsStand run.disks run.out hands) (inside : w.0 < length hands) (held : (hand_in hands w).unit ≡ Some u.cell) where
     its : extent_of run.disks.directory u.cell.0 ≡ Some before.extent
@@ -113,11 +114,11 @@ module _ {D : Type 0} (run run' : Standing D) (w : Worker) (hands hands' : List 
         ∙ ap (λ (l : LendingState D). unit_in_hand (board_state (record run { disks = l.set }) (slice_set hands w.0 (record (hand_in hands w) { unit = None })) pool fault delivered) v) back
         ∙ others-keep run.disks run.out hands stand w inside u.cell held before.extent u.extent its disk u.disk v far
 
-    pub put-others : (pool : Pooled) (fault : Option RunFault) (delivered : List (Task × Array)) (b : BoardState D) → board_state run hands pool fault delivered ≡ b → OthersKeepUnits w b (board_state run' hands' pool fault delivered)
-    put-others pool fault delivered b same = subst (λ (k : BoardState D). OthersKeepUnits w k (board_state run' hands' pool fault delivered)) same (keep-others pool fault delivered)
+    pub put-others : (pool : Pooled) (fault : Option RunFault) (delivered : List (Task × Array)) (b : BoardBy eq D) → board_state run hands pool fault delivered ≡ b → OthersKeepUnits w b (board_state run' hands' pool fault delivered)
+    put-others pool fault delivered b same = subst (λ (k : BoardBy eq D). OthersKeepUnits w k (board_state run' hands' pool fault delivered)) same (keep-others pool fault delivered)
 
 -- what was done with a unit kept its cell and its disk
-module _ {D : Type 0} (size faults mismatches : D → ℕ) (held : D → Option (List ℕ)) (run : Standing D) (w : Worker) (u : UnitState D) (result : Result (Unit {0}) DiskRefusal) where
+module _ {D : Type 0} {eq : Equations} (size faults mismatches : D → ℕ) (held : D → Option (List ℕ)) (run : StandingBy eq D) (w : Worker) (u : UnitState D) (result : Result (Unit {0}) DiskRefusal) where
   pub stored-worked : IsMovingOut run w → (moved : HasStoredMoved size faults mismatches held run w u result) → IsWorkedOn size faults mismatches held moved.before u
   stored-worked under_way moved = some-if _ _ (IsWorkedOn size faults mismatches held moved.before u) (transfer (state run) w) under_way moved.stores (λ x (s : UnitStores size faults mismatches held _ moved.array.elements result moved.before u). s.is_worked_on)
 
@@ -126,9 +127,9 @@ module _ {D : Type 0} (size faults mismatches : D → ℕ) (held : D → Option 
 
 -- ---- what is told of the move stays so as the disks change
 
-module _ {D : Type 0} (held : D → Option (List ℕ)) (run run' : Standing D) (w : Worker) (only : OnlyDisksChange run run') where
+module _ {D : Type 0} {eq : Equations} (held : D → Option (List ℕ)) (run run' : StandingBy eq D) (w : Worker) (only : OnlyDisksChange run run') where
   pub tile-now : (a : Array) → IsTileMoved held run w a → IsTileMoved held run' w a
-  tile-now a is = subst (λ (z : Standing D). IsTileMoved held z w a) (sym only) (by_move (transfer (state run) w) is)
+  tile-now a is = subst (λ (z : StandingBy eq D). IsTileMoved held z w a) (sym only) (by_move (transfer (state run) w) is)
     where
       by_move : (o : Option Transfer) → IfSome o (λ x. IsTileOf held run x.cell x.from a) → IfSome o (λ x. IsTileOf held (record run { disks = run'.disks; out = run'.out }) x.cell x.from a)
       by_move None h = tt
@@ -140,14 +141,14 @@ module _ {D : Type 0} (held : D → Option (List ℕ)) (run run' : Standing D) (
 
 -- ---- a unit that comes back as it was taken
 
-module _ {D : Type 0} (run run' : Standing D) (w : Worker) (u : UnitState D) (is_its : IsUnitOf run w u) (now : run' ≡ record run { out = slice_set run.out u.extent.disk.0 false }) where
+module _ {D : Type 0} {eq : Equations} (run run' : StandingBy eq D) (w : Worker) (u : UnitState D) (is_its : IsUnitOf run w u) (now : run' ≡ record run { out = slice_set run.out u.extent.disk.0 false }) where
   pub untouched-only : OnlyDisksChange run run'
-  untouched-only = now ∙ ap (λ (z : Standing D). record run { disks = z.disks; out = z.out }) (sym now)
+  untouched-only = now ∙ ap (λ (z : StandingBy eq D). record run { disks = z.disks; out = z.out }) (sym now)
 
   pub untouched-given : (size faults mismatches : D → ℕ) (held : D → Option (List ℕ)) → AreGivenBack size faults mismatches held run.disks.disks run'.disks.disks
   untouched-given size faults mismatches held =
-      subst (λ (z : Standing D). AreGivenBack size faults mismatches held run.disks.disks z.disks.disks) (sym now)
+      subst (λ (z : StandingBy eq D). AreGivenBack size faults mismatches held run.disks.disks z.disks.disks) (sym now)
       (all_given_back-untouched size faults mismatches held run.disks.disks run.disks.disks (all_untouched-same size faults mismatches held run.disks.disks))
 
   pub untouched-back : lent run' ≡ has_back (lent run) u
-  untouched-back = ap (λ (z : Standing D). lent z) now ∙ sym (same-back (lent run) u is_its.taken)
+  untouched-back = ap (λ (z : StandingBy eq D). lent z) now ∙ sym (same-back (lent run) u is_its.taken)

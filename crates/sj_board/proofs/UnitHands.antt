@@ -6,6 +6,7 @@ use Rattle.std.proofs.lemmas.List.{get_or-replicate, get_or-set_other, get_or-se
 use Rattle.std.proofs.lemmas.List.Elements.{All-get_or}
 use Rattle.sj_base.specs.declared.trace.Event.{Event}
 use Rattle.sj_base.specs.declared.trace.Event.TheVariants.{Moved}
+use Rattle.sj_codelet.specs.Kernel.{Equations}
 use Rattle.sj_core.proofs.Words.{Cell, Program, Worker, transfer}
 use Rattle.sj_core.specs.declared.progress.Transfer.{Transfer}
 use Rattle.sj_disk.specs.declared.directory.Extent.{Extent}
@@ -13,7 +14,7 @@ use Rattle.sj_disk.specs.Directory.{DiskState, extent_of}
 use Rattle.sj_disk.specs.Lending.{NoneIsOut}
 use Rattle.sj_disk.specs.Rack.{is_out}
 use Rattle.sj_disk.specs.Units.{UnitState, unit_state}
-use Rattle.sj_board.specs.Standing.{HasMoved, Standing, state, with_event}
+use Rattle.sj_board.specs.Standing.{HasMoved, StandingBy, state, with_event}
 use Rattle.sj_board.specs.DiskUnits.{lent}
 use Rattle.sj_board.specs.Board.{empty_hand, hand_in}
 use Rattle.sj_board.specs.Preparing.{first_hands}
@@ -44,14 +45,14 @@ units-set disks out hands hands' w h is same stand =
     units-same disks out hands hands' (λ v. ap (λ (hs : List Hand). (hand_in hs v).unit) is ∙ unit-set hands w.0 h same v.0) stand
 
 -- an event happens
-pub units-event : {D : Type 0} (run run' : Standing D) (hands : List Hand) (e : Event) → run' ≡ with_event run e → UnitsStand run.disks run.out hands → UnitsStand run'.disks run'.out hands
-units-event run run' hands e is stand = subst (λ (r : Standing _). UnitsStand r.disks r.out hands) (sym is) stand
+pub units-event : {D : Type 0} {eq : Equations} (run run' : StandingBy eq D) (hands : List Hand) (e : Event) → run' ≡ with_event run e → UnitsStand run.disks run.out hands → UnitsStand run'.disks run'.out hands
+units-event run run' hands e is stand = subst (λ (r : StandingBy _ _). UnitsStand r.disks r.out hands) (sym is) stand
 
-pub units-tried : {D A E : Type 0} (run run' : Standing D) (hands : List Hand) (result : Result A E) (e : Event) → OnOk result (run' ≡ with_event run e) → OnErr result (run' ≡ run) → UnitsStand run.disks run.out hands → UnitsStand run'.disks run'.out hands
+pub units-tried : {D A E : Type 0} {eq : Equations} (run run' : StandingBy eq D) (hands : List Hand) (result : Result A E) (e : Event) → OnOk result (run' ≡ with_event run e) → OnErr result (run' ≡ run) → UnitsStand run.disks run.out hands → UnitsStand run'.disks run'.out hands
 units-tried run run' hands (Ok a) e ok err stand = units-event run run' hands e ok stand
-units-tried run run' hands (Err x) e ok err stand = subst (λ (r : Standing _). UnitsStand r.disks r.out hands) (sym err) stand
+units-tried run run' hands (Err x) e ok err stand = subst (λ (r : StandingBy _ _). UnitsStand r.disks r.out hands) (sym err) stand
 
-pub units-moved : {D : Type 0} (run run' : Standing D) (hands : List Hand) (w : Worker) (Q : Transfer → Type 0) → IsSomeAnd (transfer (state run) w) Q → HasMoved w run run' → UnitsStand run.disks run.out hands → UnitsStand run'.disks run'.out hands
+pub units-moved : {D : Type 0} {eq : Equations} (run run' : StandingBy eq D) (hands : List Hand) (w : Worker) (Q : Transfer → Type 0) → IsSomeAnd (transfer (state run) w) Q → HasMoved w run run' → UnitsStand run.disks run.out hands → UnitsStand run'.disks run'.out hands
 units-moved {D} run run' hands w Q some moved stand = by_move (transfer (state run) w) some moved
   where
     by_move : (o : Option Transfer) → IsSomeAnd o Q → IfSome o (λ x. run' ≡ with_event run (Moved x.cell x.from x.to)) → UnitsStand run'.disks run'.out hands
@@ -80,7 +81,7 @@ units-first {D} p disks n hands is = subst (λ (hs : List Hand). UnitsStand disk
 })
 
 -- where no hand has a unit, no disk is out
-pub units-none : {D : Type 0} (run : Standing D) (hands : List Hand) → UnitsStand run.disks run.out hands → All (λ (h : Hand). h.unit ≡ None) hands → NoneIsOut (lent run)
+pub units-none : {D : Type 0} {eq : Equations} (run : StandingBy eq D) (hands : List Hand) → UnitsStand run.disks run.out hands → All (λ (h : Hand). h.unit ≡ None) hands → NoneIsOut (lent run)
 units-none run hands stand none d = by_out (is_out run.out d) refl
   where
     empty : (k : ℕ) → (get_or hands k empty_hand).unit ≡ None

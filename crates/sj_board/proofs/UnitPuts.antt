@@ -3,8 +3,9 @@ use Rattle.std.proofs.Common.{◌≡◌, ℕ, Bool, true, false, List, Option, S
 use Rattle.std.specs.Prelude.{IfErr, IfSome, IsSome, IsSomeAnd, OnOk, Result, Ok, Err}
 use Rattle.sj_base.specs.Array.{Array, area}
 use Rattle.sj_base.proofs.Options.{IfSome-at, IfSome-from, IsSomeAnd-at}
+use Rattle.sj_codelet.specs.Kernel.{Equations}
 use Rattle.sj_core.specs.declared.progress.Transfer.{Transfer}
-use Rattle.sj_core.proofs.Words.{Cell, DiskNo, OnDisk, Place, State, Worker, dims_of, has_copy, transfer, writes}
+use Rattle.sj_core.proofs.Words.{Cell, DiskNo, OnDisk, Place, Worker, dims_of, has_copy, transfer, writes}
 use Rattle.sj_core.specs.Step.{a_transfer, disk_of}
 use Rattle.sj_edge.specs.GivenBack.{AreGivenBack}
 use Rattle.sj_disk.specs.declared.directory.Extent.{Extent}
@@ -17,7 +18,7 @@ use Rattle.sj_machine.specs.Rows.{Rows}
 use Rattle.sj_board.specs.Cause.{HasCause}
 use Rattle.sj_board.specs.Counts.{AreCounted, fault_of}
 use Rattle.sj_board.specs.Sound.{IsStored, IsWrittenOut, Keeps}
-use Rattle.sj_board.specs.Standing.{IsFetching, IsMovingOut, IsTileMoved, IsTileOf, Standing, is_node, state}
+use Rattle.sj_board.specs.Standing.{IsFetching, IsMovingOut, IsTileMoved, IsTileOf, StandingBy, is_node, state}
 use Rattle.sj_board.specs.DiskUnits.{HasBlockOf, HasFetchedMoved, HasStoredMoved, IsDiskMove, IsUnitOf, TakesUnit, lent}
 use Rattle.sj_core.proofs.Placing.{home-is}
 use Rattle.sj_board.proofs.Keeping.{copy-on_disk}
@@ -28,7 +29,7 @@ use Rattle.sj_disk.proofs.Returning.{extent-stays}
 use Rattle.sj_base.proofs.Lists.{set-slice_get}
 
 -- which disks are out is no matter of what a run keeps
-pub keeps-out : {D : Type 0} (size faults mismatches : D → ℕ) (held : D → Option (List ℕ)) (b : Standing D) (rows : Rows) (tiles : List (List (Option Array))) (spare : ℕ) (out : List Bool) → Keeps size faults mismatches held b rows tiles spare → Keeps size faults mismatches held (record b { out = out }) rows tiles spare
+pub keeps-out : {D : Type 0} {eq : Equations} (size faults mismatches : D → ℕ) (held : D → Option (List ℕ)) (b : StandingBy eq D) (rows : Rows) (tiles : List (List (Option Array))) (spare : ℕ) (out : List Bool) → Keeps size faults mismatches held b rows tiles spare → Keeps size faults mismatches held (record b { out = out }) rows tiles spare
 keeps-out size faults mismatches held b rows tiles spare out keeps = record {
   sound = record { run = keeps.sound.run; legal = keeps.sound.legal; coherent = keeps.sound.coherent; content = keeps.sound.content; blocks = keeps.sound.blocks; given_back = keeps.sound.given_back };
   rows = keeps.rows;
@@ -43,10 +44,10 @@ same-back {D} s u is =
     ap (λ (ds : List D). (let l : LendingState D = record { set = record s.set { disks = ds; directory = slice_set s.set.directory u.cell.0 (Some u.extent) }; out = slice_set s.out u.extent.disk.0 false } in l)) (set-slice_get s.set.disks u.extent.disk.0 u.disk is.its_disk)
     ∙ ap (λ (es : List (Option Extent)). (let l : LendingState D = record { set = record s.set { directory = es }; out = slice_set s.out u.extent.disk.0 false } in l)) (extent-stays s.set.directory u.cell.0 u.extent is.its_extent)
 
-module _ {D : Type 0} (size faults mismatches : D → ℕ) (held : D → Option (List ℕ)) (b : Standing D) (rows : Rows) (tiles : List (List (Option Array))) (spare : ℕ) (keeps : Keeps size faults mismatches held b rows tiles spare) where
+module _ {D : Type 0} {eq : Equations} (size faults mismatches : D → ℕ) (held : D → Option (List ℕ)) (b : StandingBy eq D) (rows : Rows) (tiles : List (List (Option Array))) (spare : ℕ) (keeps : Keeps size faults mismatches held b rows tiles spare) where
   -- ---- the worker's move
 
-  module _ (w : Worker) (b' : Standing D) (same : b ≡ b') (o : Option Transfer) (read : o ≡ transfer rows.state w) (x : Transfer) (found : o ≡ Some x) where
+  module _ (w : Worker) (b' : StandingBy eq D) (same : b ≡ b') (o : Option Transfer) (read : o ≡ transfer rows.state w) (x : Transfer) (found : o ≡ Some x) where
     under_way : transfer (state b) w ≡ Some x
     under_way = at-place size faults mismatches held b rows tiles spare keeps w b' same o read x found x.to refl
 
@@ -88,7 +89,7 @@ module _ {D : Type 0} (size faults mismatches : D → ℕ) (held : D → Option 
     -- ---- stored through a unit
     module _ (u : UnitState D) (result : Result (Unit {0}) DiskRefusal) (stored_moved : HasStoredMoved size faults mismatches held b' w u result) (d : DiskNo) (at : x.to ≡ OnDisk d) where
       stored : HasStoredMoved size faults mismatches held b w u result
-      stored = subst (λ (z : Standing D). HasStoredMoved size faults mismatches held z w u result) (sym same) stored_moved
+      stored = subst (λ (z : StandingBy eq D). HasStoredMoved size faults mismatches held z w u result) (sym same) stored_moved
 
       unit-stores : UnitStores size faults mismatches held (writes (state b) x.cell) stored.array.elements result stored.before u
       unit-stores = IfSome-at (λ (y : Transfer). UnitStores size faults mismatches held (writes (state b) y.cell) stored.array.elements result stored.before u) (transfer (state b) w) x under_way stored.stores
@@ -121,11 +122,11 @@ module _ {D : Type 0} (size faults mismatches : D → ℕ) (held : D → Option 
         wrote-written = OnOk-from result (IsWrittenOut held (record b { disks = new.set; out = new.out }) w) (stored-well size faults mismatches held b rows tiles spare keeps x.cell w x.from d (at-target d at) stored.array tile-of whole stored.fits result new told)
 
         pub wrote-back : AreGivenBack size faults mismatches held b'.disks.disks new.set.disks
-        wrote-back = subst (λ (z : Standing D). AreGivenBack size faults mismatches held z.disks.disks new.set.disks) same wrote-stores.disks_are_given_back
+        wrote-back = subst (λ (z : StandingBy eq D). AreGivenBack size faults mismatches held z.disks.disks new.set.disks) same wrote-stores.disks_are_given_back
 
         module _ (laid : IsLaidOut (map size b.disks.disks) b.disks.taken b.disks.directory) where
           pub wrote-counted : AreCounted faults mismatches result b'.disks.disks new.set.disks
-          wrote-counted = subst (λ (z : Standing D). AreCounted faults mismatches result z.disks.disks new.set.disks) same (stores-counted size faults mismatches held b rows tiles spare keeps new x.cell.0 (writes (state b) x.cell) stored.array.elements result laid (λ e. Unit {0}) some told)
+          wrote-counted = subst (λ (z : StandingBy eq D). AreCounted faults mismatches result z.disks.disks new.set.disks) same (stores-counted size faults mismatches held b rows tiles spare keeps new x.cell.0 (writes (state b) x.cell) stored.array.elements result laid (λ e. Unit {0}) some told)
 
           pub wrote-cause : IfErr result (λ r. HasCause faults mismatches held (record b { disks = new.set; out = new.out }) (fault_of r))
           wrote-cause = stores-cause size faults mismatches held b rows tiles spare keeps new x.cell.0 (writes (state b) x.cell) stored.array.elements result laid (λ e. Unit {0}) some told
@@ -134,7 +135,7 @@ module _ {D : Type 0} (size faults mismatches : D → ℕ) (held : D → Option 
     module _ (u : UnitState D) (result : Result (Unit {0}) DiskRefusal) (d : DiskNo) (at : x.from ≡ OnDisk d) where
       module _ (array : Array) (fetched_moved : HasFetchedMoved size faults mismatches held b' w u result array) where
         fetched : HasFetchedMoved size faults mismatches held b w u result array
-        fetched = subst (λ (z : Standing D). HasFetchedMoved size faults mismatches held z w u result array) (sym same) fetched_moved
+        fetched = subst (λ (z : StandingBy eq D). HasFetchedMoved size faults mismatches held z w u result array) (sym same) fetched_moved
 
         unit-fetches : UnitFetches size faults mismatches held (writes (state b) x.cell) array.elements result fetched.before u
         unit-fetches = IfSome-at (λ (y : Transfer). UnitFetches size faults mismatches held (writes (state b) y.cell) array.elements result fetched.before u) (transfer (state b) w) x under_way fetched.fetches
@@ -164,11 +165,11 @@ module _ {D : Type 0} (size faults mismatches : D → ℕ) (held : D → Option 
           read-tile = OnOk-from result (IsTileMoved held b' w array) (fetched-well size faults mismatches held b rows tiles spare keeps x.cell w d x.to (at-source d at) array dims-of fetched.whole result array refl new told-fetch b' same)
 
           pub read-back : AreGivenBack size faults mismatches held b'.disks.disks new.set.disks
-          read-back = subst (λ (z : Standing D). AreGivenBack size faults mismatches held z.disks.disks new.set.disks) same read-fetches.disks_are_given_back
+          read-back = subst (λ (z : StandingBy eq D). AreGivenBack size faults mismatches held z.disks.disks new.set.disks) same read-fetches.disks_are_given_back
 
           module _ (laid : IsLaidOut (map size b.disks.disks) b.disks.taken b.disks.directory) where
             pub read-counted : AreCounted faults mismatches result b'.disks.disks new.set.disks
-            read-counted = subst (λ (z : Standing D). AreCounted faults mismatches result z.disks.disks new.set.disks) same (fetches-counted size faults mismatches held b rows tiles spare keeps new x.cell.0 (writes (state b) x.cell) array.elements result laid (λ e. Unit {0}) some-fetch told-fetch)
+            read-counted = subst (λ (z : StandingBy eq D). AreCounted faults mismatches result z.disks.disks new.set.disks) same (fetches-counted size faults mismatches held b rows tiles spare keeps new x.cell.0 (writes (state b) x.cell) array.elements result laid (λ e. Unit {0}) some-fetch told-fetch)
 
             pub read-cause : IfErr result (λ r. HasCause faults mismatches held (record b { disks = new.set; out = new.out }) (fault_of r))
             read-cause = fetches-cause size faults mismatches held b rows tiles spare keeps new x.cell.0 (writes (state b) x.cell) array.elements result laid (λ e. Unit {0}) some-fetch (fetch-last size faults mismatches held b rows tiles spare keeps x.cell w d x.to (at-source d at) array dims-of fetched.whole (writes (state b) x.cell) refl) told-fetch
@@ -191,10 +192,10 @@ module _ {D : Type 0} (size faults mismatches : D → ℕ) (held : D → Option 
         where
           by_move : IsDiskMove b' w → (d : DiskNo) × (disk_of b.program b.machine x.cell ≡ Some d)
           by_move (inl out) =
-              let to = on-disk x.to (some-of (λ (y : Transfer). is_node y.to ≡ false) (transfer (state b) w) x under_way (subst (λ (z : Standing D). IsMovingOut z w) (sym same) out)) in
+              let to = on-disk x.to (some-of (λ (y : Transfer). is_node y.to ≡ false) (transfer (state b) w) x under_way (subst (λ (z : StandingBy eq D). IsMovingOut z w) (sym same) out)) in
               (to.0, home-target to.0 to.1)
           by_move (inr fetch) =
-              let from = on-disk x.from (some-of (λ (y : Transfer). is_node y.from ≡ false) (transfer (state b) w) x under_way (subst (λ (z : Standing D). IsFetching z w) (sym same) fetch)) in
+              let from = on-disk x.from (some-of (λ (y : Transfer). is_node y.from ≡ false) (transfer (state b) w) x under_way (subst (λ (z : StandingBy eq D). IsFetching z w) (sym same) fetch)) in
               (from.0, home-source from.0 from.1)
 
       pub take-reserved : IsSome (extent_of b.disks.directory x.cell.0)
@@ -207,7 +208,7 @@ module _ {D : Type 0} (size faults mismatches : D → ℕ) (held : D → Option 
         now-is = ap (λ (l : LendingState D). record b { disks = l.set; out = l.out }) takes.nothing_else
 
         pub take-keeps : Keeps size faults mismatches held (record b { disks = new.set; out = new.out }) rows tiles spare
-        take-keeps = subst (λ (z : Standing D). Keeps size faults mismatches held z rows tiles spare) (sym now-is) (keeps-out size faults mismatches held b rows tiles spare (slice_set b.out u.extent.disk.0 true) keeps)
+        take-keeps = subst (λ (z : StandingBy eq D). Keeps size faults mismatches held z rows tiles spare) (sym now-is) (keeps-out size faults mismatches held b rows tiles spare (slice_set b.out u.extent.disk.0 true) keeps)
 
         has-taken : TakesUnit w u b (record b { disks = new.set; out = new.out })
         has-taken = record {
@@ -220,7 +221,7 @@ module _ {D : Type 0} (size faults mismatches : D → ℕ) (held : D → Option 
         }
 
         pub take-takes : TakesUnit w u b' (record b { disks = new.set; out = new.out })
-        take-takes = subst (λ (z : Standing D). TakesUnit w u z (record b { disks = new.set; out = new.out })) same has-taken
+        take-takes = subst (λ (z : StandingBy eq D). TakesUnit w u z (record b { disks = new.set; out = new.out })) same has-taken
 
         same-extent : extent_of b.disks.directory x.cell.0 ≡ Some u.extent
         same-extent =
@@ -241,13 +242,13 @@ module _ {D : Type 0} (size faults mismatches : D → ℕ) (held : D → Option 
         }
 
         pub take-block : HasBlockOf b' w u
-        take-block = subst (λ (z : Standing D). HasBlockOf z w u) same has-block
+        take-block = subst (λ (z : StandingBy eq D). HasBlockOf z w u) same has-block
 
 -- ---- and put back as it was
 
-module _ {D : Type 0} (size faults mismatches : D → ℕ) (held : D → Option (List ℕ)) (b : Standing D) (rows : Rows) (tiles : List (List (Option Array))) (spare : ℕ) (keeps : Keeps size faults mismatches held b rows tiles spare) (w : Worker) (b' : Standing D) (same : b ≡ b') (u : UnitState D) (is_its : IsUnitOf b' w u) where
+module _ {D : Type 0} {eq : Equations} (size faults mismatches : D → ℕ) (held : D → Option (List ℕ)) (b : StandingBy eq D) (rows : Rows) (tiles : List (List (Option Array))) (spare : ℕ) (keeps : Keeps size faults mismatches held b rows tiles spare) (w : Worker) (b' : StandingBy eq D) (same : b ≡ b') (u : UnitState D) (is_its : IsUnitOf b' w u) where
   is-untouched : IsUnitOf b w u
-  is-untouched = subst (λ (z : Standing D). IsUnitOf z w u) (sym same) is_its
+  is-untouched = subst (λ (z : StandingBy eq D). IsUnitOf z w u) (sym same) is_its
 
   pub untouched-comes : IsWorkedOn size faults mismatches held u u → ComesFrom size faults mismatches held (lent b) u
   untouched-comes worked = record { before = u; taken = is-untouched.taken; worked = worked }
@@ -256,7 +257,7 @@ module _ {D : Type 0} (size faults mismatches : D → ℕ) (held : D → Option 
   untouched-now new back = ap (λ (l : LendingState D). record b { disks = l.set; out = l.out }) (back ∙ same-back (lent b) u is-untouched.taken)
 
   pub untouched-as : (new : LendingState D) → new ≡ has_back (lent b) u → record b { disks = new.set; out = new.out } ≡ record b' { out = slice_set b'.out u.extent.disk.0 false }
-  untouched-as new back = subst (λ (z : Standing D). record b { disks = new.set; out = new.out } ≡ record z { out = slice_set z.out u.extent.disk.0 false }) same (untouched-now new back)
+  untouched-as new back = subst (λ (z : StandingBy eq D). record b { disks = new.set; out = new.out } ≡ record z { out = slice_set z.out u.extent.disk.0 false }) same (untouched-now new back)
 
   pub untouched-keeps : (new : LendingState D) → new ≡ has_back (lent b) u → Keeps size faults mismatches held (record b { disks = new.set; out = new.out }) rows tiles spare
-  untouched-keeps new back = subst (λ (z : Standing D). Keeps size faults mismatches held z rows tiles spare) (sym (untouched-now new back)) (keeps-out size faults mismatches held b rows tiles spare (slice_set b.out u.extent.disk.0 false) keeps)
+  untouched-keeps new back = subst (λ (z : StandingBy eq D). Keeps size faults mismatches held z rows tiles spare) (sym (untouched-now new back)) (keeps-out size faults mismatches held b rows tiles spare (slice_set b.out u.extent.disk.0 false) keeps)

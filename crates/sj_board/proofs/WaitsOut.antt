@@ -2,6 +2,7 @@
 use Rattle.std.proofs.Common.{◌≡◌, ◌&&◌, ◌⊎◌, ◌∙◌, Bool, true, false, Option, None, Some, ap, inl, inr, not, refl, subst, sym}
 use Rattle.std.specs.Prelude.{IfSome, IsSomeAnd, MatchBool, MatchOption, if◌then◌else◌}
 use Rattle.std.proofs.lemmas.Bool.{false≢true}
+use Rattle.sj_codelet.specs.Kernel.{Equations}
 use Rattle.sj_core.proofs.Words.{AtNode, Cell, DiskNo, Machine, OnDisk, Place, Program, State, Task, Worker, node_of, writes}
 use Rattle.sj_core.specs.Step.{disk_of, is_elsewhere, is_read, source_of}
 use Rattle.sj_disk.specs.declared.directory.Extent.{Extent}
@@ -14,7 +15,7 @@ use Rattle.sj_machine.specs.Choosing.{may_run, next_cell, next_victim}
 use Rattle.sj_board.specs.DiskUnits.{lent}
 use Rattle.sj_board.specs.declared.todo.Todo.{Todo}
 use Rattle.sj_board.specs.declared.todo.Todo.TheVariants.{Discard, Nothing, Start, Transfer as TransferNext, Wait}
-use Rattle.sj_board.specs.Board.{BoardState, hand_of}
+use Rattle.sj_board.specs.Board.{BoardBy, hand_of}
 use Rattle.sj_board.specs.Todo.{CanBegin, HasDiskIn, IsCounted, IsMoverOf, IsTodoOf}
 use Rattle.sj_board.specs.Units.{AnotherHasUnit, UnitsStand}
 use Rattle.std.proofs.lemmas.Option.{none-some}
@@ -55,7 +56,7 @@ next-case P waits starts discards p m s t w transfers todo next = by_victim (nex
 not-nothing : (p : Program) (m : Machine) (s : State) (t : Task) (w : Worker) (todo : Todo) → IsNext p m s t w todo → todo ≡ Nothing → ⊥
 not-nothing p m s t w todo next = next-case (λ x. x ≡ Nothing → ⊥) (λ e. (let clash : Wait ≡ Nothing = e in cc)) (λ e. (let clash : Start ≡ Nothing = e in cc)) (λ c e. (let clash : Discard c ≡ Nothing = e in cc)) p m s t w (λ c from to e. (let clash : TransferNext c from to (writes s c) ≡ Nothing = e in cc)) todo next
 
-module _ {D : Type 0} (b : BoardState D) (w : Worker) (t : Task) (has : (hand_of b w).task ≡ Some t) (first todo : Todo) (next : IsNext b.run.program b.run.machine (state b.run) t w first) (or_waits : todo ≡ (if needs_disk_out b.run first then Wait else first)) where
+module _ {D : Type 0} {eq : Equations} (b : BoardBy eq D) (w : Worker) (t : Task) (has : (hand_of b w).task ≡ Some t) (first todo : Todo) (next : IsNext b.run.program b.run.machine (state b.run) t w first) (or_waits : todo ≡ (if needs_disk_out b.run first then Wait else first)) where
   -- it is the step itself, or to wait
   which : (out : Bool) → needs_disk_out b.run first ≡ out → todo ≡ (if out then Wait else first)
   which out e = or_waits ∙ ap (λ (x : Bool). if x then Wait else first) e

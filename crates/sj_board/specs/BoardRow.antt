@@ -8,13 +8,14 @@ use Rattle.sj_base.specs.declared.program.Machine.{Machine}
 use Rattle.sj_base.specs.declared.trace.Event.{Event}
 use Rattle.sj_base.specs.declared.trace.Event.TheVariants.{Claim, Run, End}
 use Rattle.sj_base.specs.Array.{Array}
+use Rattle.sj_codelet.specs.Kernel.{Equations}
 use Rattle.sj_core.specs.Machine.{WorkerState, is_running_on, progress, worker_state, writes, idle_row}
 use Rattle.sj_core.specs.Needs.{node_of}
 use Rattle.sj_core.specs.Operands.{cells_of}
 use Rattle.sj_core.specs.Arrays.{held_at}
 use Rattle.sj_core.specs.declared.progress.Progress.{Progress}
 use Rattle.sj_board.specs.Standing.{run_arrays, state}
-use Rattle.sj_board.specs.Board.{BoardState, hand_of, released_of, transfer_of}
+use Rattle.sj_board.specs.Board.{BoardBy, hand_of, released_of, transfer_of}
 use Rattle.sj_board.specs.Units.{unit_in_hand}
 use Rattle.sj_disk.specs.Units.{UnitState}
 use Rattle.sj_board.specs.declared.hand.Hand.{Hand}
@@ -25,7 +26,7 @@ pub record BoardKey (D : Type 0) : Type 0 where
   pub machine : Machine
   pub opened : List D
 
-abbrev pub key_of : {D : Type 0} → BoardState D → BoardKey D
+abbrev pub key_of : {D : Type 0} {eq : Equations} → BoardBy eq D → BoardKey D
 key_of b = record { program = b.run.program; machine = b.run.machine; opened = b.run.opened }
 
 -- the event is a claim, a run or an end of the worker
@@ -36,7 +37,7 @@ is_event_of n (End t w) = nat_eq w.0 n
 is_event_of n _ = false
 
 -- the arrays of the cells of a task that runs on the worker, at its node, in operand order
-abbrev pub arrays_for : {D : Type 0} → BoardState D → Worker → Task → List Array
+abbrev pub arrays_for : {D : Type 0} {eq : Equations} → BoardBy eq D → Worker → Task → List Array
 arrays_for b w t = if is_running_on w (progress (state b.run) t) then map (held_at (run_arrays b.run) (AtNode (node_of b.run.machine w))) (cells_of b.run.program t w) else []
 
 -- what a worker has in hand, a disk's unit as it was taken out, and how far its task is, with the arrays of its operands while it
@@ -53,7 +54,7 @@ pub record BoardRow (D : Type 0) : Type 0 where
   pub events : List Event
   pub released : List Task
 
-abbrev pub row_for : {D : Type 0} → BoardState D → Worker → BoardRow D
+abbrev pub row_for : {D : Type 0} {eq : Equations} → BoardBy eq D → Worker → BoardRow D
 row_for b w = record {
   hand = hand_of b w;
   unit = unit_in_hand b w;
@@ -67,5 +68,5 @@ row_for b w = record {
 }
 
 -- the row of the worker with this number
-abbrev pub row_of_number : {D : Type 0} → BoardState D → ℕ → BoardRow D
+abbrev pub row_of_number : {D : Type 0} {eq : Equations} → BoardBy eq D → ℕ → BoardRow D
 row_of_number b n = row_for b (record { 0 = n })

@@ -7,6 +7,7 @@ use Rattle.sj_base.specs.declared.ids.Worker.{Worker}
 use Rattle.sj_base.specs.declared.mode.Policy.TheVariants.{Prio}
 use Rattle.sj_base.specs.declared.program.Program.{Program}
 use Rattle.sj_base.specs.declared.program.Machine.{Machine}
+use Rattle.sj_codelet.specs.Kernel.{Equations}
 use Rattle.sj_core.specs.Legal.{IsComplete}
 use Rattle.sj_base.specs.Array.{Array}
 use Rattle.sj_core.specs.Machine.{State, is_done, is_task_of, progress}
@@ -22,7 +23,7 @@ use Rattle.sj_board.specs.Sound.{IsSoundRun}
 use Rattle.sj_board.specs.Standing.{AllTell, state}
 use Rattle.sj_board.specs.declared.fault.RunFault.{RunFault}
 use Rattle.sj_machine.specs.ReadyTasks.{CountsDone, IsToBeTaken}
-use Rattle.sj_board.specs.Board.{BoardState, hand_in}
+use Rattle.sj_board.specs.Board.{BoardBy, hand_in}
 use Rattle.sj_board.specs.Delivered.{DeliversDone, KeepsGifts, undelivered}
 use Rattle.sj_board.specs.Filling.{entry_of}
 use Rattle.sj_board.specs.Released.{pool_policy, queued_tasks}
@@ -102,16 +103,16 @@ pub record IsSoundIn (p : Program) (m : Machine) (s : State) (hands : List Hand)
 
 -- the run is sound, a fault that is kept has its cause, workers' hands and the pool fit the state, each deliver task that is done
 -- has handed over what it was given, and each disk that is out is in one worker's hand
-pub record IsSoundBoard {D : Type 0} (size faults mismatches : D → ℕ) (held : D → Option (List ℕ)) (b : BoardState D) : Type 0 where
+pub record IsSoundBoard {D : Type 0} {eq : Equations} (size faults mismatches : D → ℕ) (held : D → Option (List ℕ)) (b : BoardBy eq D) : Type 0 where
   pub run : IsSoundRun size faults mismatches held b.run
   pub fault : IfSome b.fault (HasCause faults mismatches held b.run)
   pub inside : IsSoundIn b.run.program b.run.machine (state b.run) b.hands b.pool b.fault
-  pub delivered : DeliversDone b.run.program (state b.run) (AllTell held b.run) b.delivered
+  pub delivered : DeliversDone eq b.run.program (state b.run) (AllTell held b.run) b.delivered
   pub units : UnitsStand b.run.disks b.run.out b.hands
 
 -- ---- what a board keeps beside
 
-pub record KeepsBoard {D : Type 0} (faults mismatches : D → ℕ) (held : D → Option (List ℕ)) (b : BoardState D) (deps : Dependencies) (footprints : List ℕ) : Type 0 where
+pub record KeepsBoard {D : Type 0} {eq : Equations} (faults mismatches : D → ℕ) (held : D → Option (List ℕ)) (b : BoardBy eq D) (deps : Dependencies) (footprints : List ℕ) : Type 0 where
   pub fault : IfSome b.fault (HasCause faults mismatches held b.run)
   pub inside : IsSoundIn b.run.program b.run.machine (state b.run) b.hands b.pool b.fault
   pub counts : CountsDone b.run.program (state b.run) deps
@@ -123,9 +124,9 @@ undone s = count_by (λ x. not (is_done x)) s.tasks
 
 -- what the ends of tasks leave: arrays that were handed over, with room for those to come, and the count of the tasks that
 -- aren't done; and what running tasks are to hand over is kept
-pub record KeepsEnds (p : Program) (s : State) (Tells : Type 0) (pairs : List (Task × Array)) (gifts : List (Option Array)) (spare left : ℕ) : Type 0 where
-  pub delivered : DeliversDone p s Tells pairs
-  pub gifts_kept : KeepsGifts p s Tells gifts
+pub record KeepsEnds (eq : Equations) (p : Program) (s : State) (Tells : Type 0) (pairs : List (Task × Array)) (gifts : List (Option Array)) (spare left : ℕ) : Type 0 where
+  pub delivered : DeliversDone eq p s Tells pairs
+  pub gifts_kept : KeepsGifts eq p s Tells gifts
   pub room : undelivered p s ≤ spare
   pub counted : undone s ≡ left
 
@@ -135,8 +136,8 @@ pub record KnowsGone (workers : ℕ) (m : Machine) (s : State) (counts : List �
   pub gone : KnownGone m s counts
 
 -- all of it
-pub record IsKept {D : Type 0} (faults mismatches : D → ℕ) (held : D → Option (List ℕ)) (b : BoardState D) (deps : Dependencies) (footprints : List ℕ) (gifts : List (Option Array)) (spare left : ℕ) (gone : List ℕ) : Type 0 where
+pub record IsKept {D : Type 0} {eq : Equations} (faults mismatches : D → ℕ) (held : D → Option (List ℕ)) (b : BoardBy eq D) (deps : Dependencies) (footprints : List ℕ) (gifts : List (Option Array)) (spare left : ℕ) (gone : List ℕ) : Type 0 where
   pub board : KeepsBoard faults mismatches held b deps footprints
-  pub ends : KeepsEnds b.run.program (state b.run) (AllTell held b.run) b.delivered gifts spare left
+  pub ends : KeepsEnds eq b.run.program (state b.run) (AllTell held b.run) b.delivered gifts spare left
   pub victims : KnowsGone b.run.program.workers b.run.machine (state b.run) gone
   pub units : UnitsStand b.run.disks b.run.out b.hands

@@ -1,7 +1,6 @@
 -- What a worker does next for the task that it has claimed: its victims go, the least recently used first; then the cells
 -- come that its claim brings, in operand order; then its kernel begins.
-use Rattle.std.specs.Prelude.{◌≡◌, ◌≢◌, Bool, false, not, ◌&&◌, Option, Some, None, ◌⊎◌, IsTrue, IsSomeAnd, MatchBool, MatchOption, find, is_some, reverse, if◌then◌else◌}
-use Rattle.std.specs.List.{list_all}
+use Rattle.std.specs.Prelude.{◌≡◌, ◌≢◌, Bool, false, not, ◌&&◌, Some, None, ◌⊎◌, IsTrue, IsSomeAnd, MatchBool, MatchOption, is_some, if◌then◌else◌}
 use Rattle.sj_base.specs.declared.ids.Cell.{Cell}
 use Rattle.sj_base.specs.declared.ids.Node.{Node}
 use Rattle.sj_base.specs.declared.ids.Task.{Task}
@@ -9,6 +8,7 @@ use Rattle.sj_base.specs.declared.ids.Worker.{Worker}
 use Rattle.sj_base.specs.declared.ids.Place.TheVariants.{Node as AtNode, Disk as OnDisk}
 use Rattle.sj_base.specs.declared.program.Program.{Program}
 use Rattle.sj_base.specs.declared.program.Machine.{Machine}
+use Rattle.sj_codelet.specs.Kernel.{Equations}
 use Rattle.sj_core.specs.Machine.{State, progress, transfer, writes}
 use Rattle.sj_core.specs.Needs.{node_of}
 use Rattle.sj_core.specs.Step.{disk_of, is_elsewhere, is_read, source_of}
@@ -16,7 +16,7 @@ use Rattle.sj_core.specs.declared.progress.Progress.TheVariants.{Claimed}
 use Rattle.sj_disk.specs.Directory.{extent_of}
 use Rattle.sj_disk.specs.Rack.{is_out}
 use Rattle.sj_machine.specs.Choosing.{may_run, next_cell, next_victim}
-use Rattle.sj_board.specs.Standing.{Standing, is_node, state}
+use Rattle.sj_board.specs.Standing.{StandingBy, is_node, state}
 use Rattle.sj_board.specs.declared.todo.Todo.{Todo}
 use Rattle.sj_board.specs.declared.todo.Todo.TheVariants.{Discard, Start, Transfer, Wait}
 
@@ -49,16 +49,16 @@ IsNext p m s t w todo =
 -- ---- disks that are out
 
 -- the disk on which the cell has its block is out
-abbrev pub is_out_for : {D : Type 0} → Standing D → Cell → Bool
+abbrev pub is_out_for : {D : Type 0} {eq : Equations} → StandingBy eq D → Cell → Bool
 is_out_for b c = elim (extent_of b.disks.directory c.0) [ None ↦ false | Some e ↦ is_out b.out e.disk.0 ]
 
 -- the step is a transfer in which a disk takes part that is out
-abbrev pub needs_disk_out : {D : Type 0} → Standing D → Todo → Bool
+abbrev pub needs_disk_out : {D : Type 0} {eq : Equations} → StandingBy eq D → Todo → Bool
 needs_disk_out b (Transfer c from to n) = not (is_node from && is_node to) && is_out_for b c
 needs_disk_out b _ = false
 
 -- the worker's next step for its task, for which it waits while another has the disk in hand
-pub record IsStepFor {D : Type 0} (b : Standing D) (t : Task) (w : Worker) (todo : Todo) : Type 0 where
+pub record IsStepFor {D : Type 0} {eq : Equations} (b : StandingBy eq D) (t : Task) (w : Worker) (todo : Todo) : Type 0 where
   pub first : Todo
   pub next : IsNext b.program b.machine (state b) t w first
   pub or_waits : todo ≡ (if needs_disk_out b first then Wait else first)

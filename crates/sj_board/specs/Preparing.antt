@@ -8,13 +8,14 @@ use Rattle.sj_base.specs.declared.mode.Policy.TheVariants.{Prio, Ws}
 use Rattle.sj_base.specs.declared.program.Program.{Program}
 use Rattle.sj_base.specs.declared.program.Machine.{Machine}
 use Rattle.sj_base.specs.Array.{Array}
+use Rattle.sj_codelet.specs.Kernel.{Equations}
 use Rattle.sj_core.specs.Needs.{AreFootprints}
 use Rattle.sj_deps.specs.Progress.{Dependencies, dependencies}
 use Rattle.sj_disk.specs.Directory.{DiskState}
 use Rattle.sj_pool.specs.Pool.{Pooled, empty_pool}
 use Rattle.sj_board.specs.Delivery.{is_delivery}
 use Rattle.sj_board.specs.Standing.{starting}
-use Rattle.sj_board.specs.Board.{BoardState, board_state, empty_hand}
+use Rattle.sj_board.specs.Board.{BoardBy, board_state, empty_hand}
 use Rattle.sj_board.specs.Delivered.{Deliveries, deliveries}
 use Rattle.sj_board.specs.Filling.{with_each}
 use Rattle.sj_board.specs.declared.hand.Hand.{Hand}
@@ -60,7 +61,7 @@ pub record IsReadyToDeliver (p : Program) (gifts : List (Option Array)) (deliver
   pub none : delivered ≡ deliveries [] (delivery_count p)
 
 -- a board on which nothing has happened: under prio its ready tasks are in the pool
-pub record IsOpening {D : Type 0} (p : Program) (m : Machine) (disks : DiskState D) (b : BoardState D) : Type 0 where
+pub record IsOpening {D : Type 0} (eq : Equations) (p : Program) (m : Machine) (disks : DiskState D) (b : BoardBy eq D) : Type 0 where
   pub ready : List Task
   pub first : AreFirst p ready
-  pub opens : b ≡ board_state (starting p m disks) (first_hands p) (first_pool p m.policy ready) None []
+  pub opens : b ≡ board_state (starting eq p m disks) (first_hands p) (first_pool p m.policy ready) None []

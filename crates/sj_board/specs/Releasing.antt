@@ -8,6 +8,7 @@ use Rattle.sj_base.specs.declared.mode.Policy.TheVariants.{Prio}
 use Rattle.sj_base.specs.declared.program.Program.{Program}
 use Rattle.sj_base.specs.declared.trace.Event.TheVariants.{End}
 use Rattle.sj_base.specs.Array.{Array}
+use Rattle.sj_codelet.specs.Kernel.{Equations}
 use Rattle.sj_core.specs.Machine.{State}
 use Rattle.sj_core.specs.Step.{done_tasks}
 use Rattle.sj_deps.specs.Conflict.{Ready}
@@ -15,7 +16,7 @@ use Rattle.sj_deps.specs.Progress.{BecomesReady, Dependencies}
 use Rattle.sj_pool.specs.Pool.{Pooled}
 use Rattle.sj_board.specs.Standing.{state, with_event}
 use Rattle.sj_board.specs.Delivery.{IsGift}
-use Rattle.sj_board.specs.Board.{BoardState, has_ended, released_of}
+use Rattle.sj_board.specs.Board.{BoardBy, has_ended, released_of}
 use Rattle.sj_board.specs.Filling.{with_each}
 
 -- these are the tasks that are ready in the second state and weren't in the first, by number
@@ -25,7 +26,7 @@ pub record BecomeReady (p : Program) (s s' : State) (ts : List Task) : Type 0 wh
 
 -- the worker's task has ended: its event has happened, it has no task any more, the tasks that became ready are in the pool,
 -- but under prio as those that it has released, and what it hands over comes after what others have
-pub record EndsTask {D : Type 0} (held : D → Option (List ℕ)) (old : BoardState D) (t : Task) (w : Worker) (new : BoardState D) : Type 0 where
+pub record EndsTask {D : Type 0} {eq : Equations} (held : D → Option (List ℕ)) (old : BoardBy eq D) (t : Task) (w : Worker) (new : BoardBy eq D) : Type 0 where
   pub ready : List Task
   pub become : BecomeReady old.run.program (state old.run) (state (with_event old.run (End t w))) ready
   pub gift : Option Array

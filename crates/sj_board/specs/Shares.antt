@@ -11,12 +11,13 @@ use Rattle.sj_base.specs.declared.program.Program.{Program}
 use Rattle.sj_base.specs.Array.{Array}
 use Rattle.sj_codelet.specs.Frame.{Slot, arrays, shared}
 use Rattle.sj_base.specs.Mode.{reads_value, reads_of}
+use Rattle.sj_codelet.specs.Kernel.{Equations}
 use Rattle.sj_core.specs.Needs.{node_of}
 use Rattle.sj_core.specs.Program.{dims_of, task_of, written_operands}
 use Rattle.sj_core.specs.Operands.{results, worked_on}
 use Rattle.sj_core.specs.Arrays.{held_at}
 use Rattle.sj_machine.specs.Operands.{CanWorkOn, written_among}
-use Rattle.sj_board.specs.Standing.{AllTell, Standing, run_arrays}
+use Rattle.sj_board.specs.Standing.{AllTell, StandingBy, run_arrays}
 use Rattle.sj_board.specs.Tiles.{tile_at, tiles_of, with_tile, with_tiles_of}
 
 -- ---- shares
@@ -39,13 +40,13 @@ pub record CanGive (p : Program) (w : Worker) (tiles : List (List (Option Array)
 
 -- the operand is a share of the tile that the worker works on, at its node: it has the dimensions of the operand's cell and,
 -- where all disks tell, is the array there
-pub record IsShareIn {D : Type 0} (held : D → Option (List ℕ)) (b : Standing D) (w : Worker) (a : Access) (slot : Slot) : Type 0 where
+pub record IsShareIn {D : Type 0} {eq : Equations} (held : D → Option (List ℕ)) (b : StandingBy eq D) (w : Worker) (a : Access) (slot : Slot) : Type 0 where
   pub shared : slot.owned ≡ false
   pub dims : slot.array.dims ≡ dims_of b.program a.cell
   pub array : AllTell held b → slot.array ≡ run_arrays b (worked_on b.program w a) (AtNode (node_of b.machine w))
 
 -- shares of the operands of a task whose old value is read, in order
-abbrev pub AreSharesFor : {D : Type 0} → (D → Option (List ℕ)) → Standing D → Task → Worker → List Slot → Type 0
+abbrev pub AreSharesFor : {D : Type 0} {eq : Equations} → (D → Option (List ℕ)) → StandingBy eq D → Task → Worker → List Slot → Type 0
 AreSharesFor held b t w slots = AllZip (IsShareIn held b w) (reads_of (task_of b.program t).accesses) slots
 
 -- ---- what a task gives back
@@ -60,9 +61,9 @@ pub record IsShare (p : Program) (a : Access) (slot : Slot) : Type 0 where
   pub dims : slot.array.dims ≡ dims_of p a.cell
 
 -- shares of a running task's results, in the order of its written operands
-pub record AreResultsFor {D : Type 0} (held : D → Option (List ℕ)) (b : Standing D) (t : Task) (w : Worker) (slots : List Slot) : Type 0 where
+pub record AreResultsFor {D : Type 0} {eq : Equations} (held : D → Option (List ℕ)) (b : StandingBy eq D) (t : Task) (w : Worker) (slots : List Slot) : Type 0 where
   pub each : AllZip (IsShare b.program) (written_operands (task_of b.program t)) slots
-  pub told : AllTell held b → arrays slots ≡ results b.program t w (held_at (run_arrays b) (AtNode (node_of b.machine w)))
+  pub told : AllTell held b → arrays slots ≡ results eq b.program t w (held_at (run_arrays b) (AtNode (node_of b.machine w)))
 
 -- these tiles in the places of these cells at a node
 abbrev pub put_each : Node → List Cell → List Array → List (List (Option Array)) → List (List (Option Array))

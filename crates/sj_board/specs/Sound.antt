@@ -10,6 +10,7 @@ use Rattle.sj_base.specs.declared.program.Program.{Program}
 use Rattle.sj_base.specs.declared.program.Machine.{Machine}
 use Rattle.sj_base.specs.Array.{Array, area}
 use Rattle.sj_codelet.specs.declared.kernel.Kernel.{Kernel}
+use Rattle.sj_codelet.specs.Kernel.{Equations}
 use Rattle.sj_core.specs.Arrays.{Arrays, HoldsContent}
 use Rattle.sj_core.specs.Bound.{operands}
 use Rattle.sj_core.specs.Coherent.{Coherent}
@@ -28,7 +29,7 @@ use Rattle.sj_disk.specs.Calls.{Fetches, Stores}
 use Rattle.sj_disk.specs.Directory.{DiskState, extent_of, last_store}
 use Rattle.sj_disk.specs.Holding.{Holds}
 use Rattle.sj_machine.specs.Rows.{Rows}
-use Rattle.sj_board.specs.Standing.{AllTell, Standing, run_arrays, state}
+use Rattle.sj_board.specs.Standing.{AllTell, StandingBy, run_arrays, state}
 use Rattle.sj_board.specs.Tiles.{HasTiles}
 
 -- ---- the disks
@@ -65,27 +66,27 @@ pub record HoldsBlocks {D : Type 0} (held : D → Option (List ℕ)) (p : Progra
 
 -- ---- all of it
 
--- the program is proper, with codelets of a set that obeys the laws of a set, and the machine is one for it, with room for
--- its blocks
-pub record IsRunnableOn (p : Program) (m : Machine) : Type 0 where
+-- the program is proper, with codelets of a set that obeys the laws of a set by these equations, and the machine is one for
+-- it, with room for its blocks
+pub record IsRunnableOn (eq : Equations) (p : Program) (m : Machine) : Type 0 where
   pub proper : Proper p
   pub has : Kernel → Bool
-  pub lawful : IsLawful has p
+  pub lawful : IsLawful eq has p
   pub machine : IsMachineFor p m
   pub swap : HasSwapFor p m
 
 -- the trace is legal and its state coherent, its arrays are what the tasks leave, the disks hold their blocks, and came back
 -- from each call
-pub record IsSoundRun {D : Type 0} (size faults mismatches : D → ℕ) (held : D → Option (List ℕ)) (b : Standing D) : Type 0 where
-  pub run : IsRunnableOn b.program b.machine
+pub record IsSoundRun {D : Type 0} {eq : Equations} (size faults mismatches : D → ℕ) (held : D → Option (List ℕ)) (b : StandingBy eq D) : Type 0 where
+  pub run : IsRunnableOn eq b.program b.machine
   pub legal : IsLegal b.program b.machine b.trace
   pub coherent : Coherent b.program b.machine (state b)
-  pub content : HoldsContent b.program b.machine (state b) (run_arrays b)
+  pub content : HoldsContent eq b.program b.machine (state b) (run_arrays b)
   pub blocks : HoldsBlocks held b.program b.machine (state b) (run_arrays b) (AllTell held b) b.disks
   pub given_back : AreGivenBack size faults mismatches held b.opened b.disks.disks
 
 -- the rows of the run
-abbrev pub rows_of : {D : Type 0} → Standing D → Rows
+abbrev pub rows_of : {D : Type 0} {eq : Equations} → StandingBy eq D → Rows
 rows_of b = record { program = b.program; machine = b.machine; state = state b }
 
 -- how many events a run of the program has at most
@@ -94,38 +95,38 @@ most_events p = 3 * length p.tasks + 5 * operands p
 
 -- the run is sound, the rows are those of its state, its tiles are there, and the trace has room for all events that are to
 -- come
-pub record Keeps {D : Type 0} (size faults mismatches : D → ℕ) (held : D → Option (List ℕ)) (b : Standing D) (r : Rows) (places : List (List (Option Array))) (spare : ℕ) : Type 0 where
+pub record Keeps {D : Type 0} {eq : Equations} (size faults mismatches : D → ℕ) (held : D → Option (List ℕ)) (b : StandingBy eq D) (r : Rows) (places : List (List (Option Array))) (spare : ℕ) : Type 0 where
   pub sound : IsSoundRun size faults mismatches held b
   pub rows : r ≡ rows_of b
   pub tiles : HasTiles b.program b.machine (state b) (run_arrays b) (AllTell held b) places
   pub room : most_events b.program ≤ length b.trace + spare
 
 -- a run of the program can be made on the machine with these disks: each cell has its block
-pub record CanStart {D : Type 0} (p : Program) (m : Machine) (disks : DiskState D) : Type 0 where
-  pub run : IsRunnableOn p m
+pub record CanStart {D : Type 0} (eq : Equations) (p : Program) (m : Machine) (disks : DiskState D) : Type 0 where
+  pub run : IsRunnableOn eq p m
   pub placed : (c : Cell) → IfSome (block_of p m c) (λ b. IsSomeAnd (extent_of disks.directory c.0) (IsBlock p c b))
 
 -- ---- disk transfers
 
 -- the last store of the cell ended well, and is its array at a place
-pub record IsBlockCopyOf {D : Type 0} (held : D → Option (List ℕ)) (b : Standing D) (c : Cell) (q : Place) (e : Extent) : Type 0 where
+pub record IsBlockCopyOf {D : Type 0} {eq : Equations} (held : D → Option (List ℕ)) (b : StandingBy eq D) (c : Cell) (q : Place) (e : Extent) : Type 0 where
   pub last : IsStored (state b) c e
   pub array : AllTell held b → HoldsArray held b.disks.disks b.program (state b) (run_arrays b) c q e
 
 -- the block of the cell of the worker's transfer is what stands at its source
-abbrev pub IsWrittenOut : {D : Type 0} → (D → Option (List ℕ)) → Standing D → Worker → Type 0
+abbrev pub IsWrittenOut : {D : Type 0} {eq : Equations} → (D → Option (List ℕ)) → StandingBy eq D → Worker → Type 0
 IsWrittenOut held b w = IfSome (transfer (state b) w) (λ x. IsSomeAnd (extent_of b.disks.directory x.cell.0) (IsBlockCopyOf held b x.cell x.from))
 
 -- no event has happened: the disks alone may have changed
-abbrev pub OnlyDisksChange : {D : Type 0} → Standing D → Standing D → Type 0
+abbrev pub OnlyDisksChange : {D : Type 0} {eq : Equations} → StandingBy eq D → StandingBy eq D → Type 0
 OnlyDisksChange old new = new ≡ record old { disks = new.disks; out = new.out }
 
 -- the disks changed by a store of these elements for the cell of the worker's transfer
-abbrev pub StoresMoved : {D A : Type 0} → (D → ℕ) → (D → ℕ) → (D → ℕ) → (D → Option (List ℕ)) → Worker → List ℤ → Result A DiskRefusal → Standing D → Standing D → Type 0
+abbrev pub StoresMoved : {D A : Type 0} {eq : Equations} → (D → ℕ) → (D → ℕ) → (D → ℕ) → (D → Option (List ℕ)) → Worker → List ℤ → Result A DiskRefusal → StandingBy eq D → StandingBy eq D → Type 0
 StoresMoved size faults mismatches held w xs result old new =
     IfSome (transfer (state old) w) (λ x. IfSome (extent_of old.disks.directory x.cell.0) (Stores size faults mismatches held x.cell.0 (writes (state old) x.cell) xs result old.disks new.disks))
 
 -- the disks changed by a fetch of these elements for the cell of the worker's transfer
-abbrev pub FetchesMoved : {D A : Type 0} → (D → ℕ) → (D → ℕ) → (D → ℕ) → (D → Option (List ℕ)) → Worker → List ℤ → Result A DiskRefusal → Standing D → Standing D → Type 0
+abbrev pub FetchesMoved : {D A : Type 0} {eq : Equations} → (D → ℕ) → (D → ℕ) → (D → ℕ) → (D → Option (List ℕ)) → Worker → List ℤ → Result A DiskRefusal → StandingBy eq D → StandingBy eq D → Type 0
 FetchesMoved size faults mismatches held w xs result old new =
     IfSome (transfer (state old) w) (λ x. IfSome (extent_of old.disks.directory x.cell.0) (Fetches size faults mismatches held x.cell.0 (writes (state old) x.cell) xs result old.disks new.disks))

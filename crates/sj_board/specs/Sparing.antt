@@ -8,12 +8,13 @@ use Rattle.sj_base.specs.declared.trace.Event.{Event}
 use Rattle.sj_base.specs.declared.trace.Event.TheVariants.{End, Moved, Run}
 use Rattle.sj_base.specs.declared.program.Program.{Program}
 use Rattle.sj_base.specs.declared.program.Machine.{Machine}
+use Rattle.sj_codelet.specs.Kernel.{Equations}
 use Rattle.sj_core.specs.Arrays.{Arrays}
 use Rattle.sj_core.specs.Machine.{State, is_pinned, transfer}
 use Rattle.sj_core.specs.Operands.{written_cells}
 use Rattle.sj_core.specs.Program.{has_cell}
 use Rattle.sj_core.specs.Step.{has_copy, is_read}
-use Rattle.sj_board.specs.Standing.{CanHappen, Standing, run_arrays, state, with_event}
+use Rattle.sj_board.specs.Standing.{CanHappen, StandingBy, run_arrays, state, with_event}
 
 -- a claimed or running task pins the copy, or a transfer reads it
 abbrev pub is_used : Machine → State → Cell → Place → Bool
@@ -31,13 +32,13 @@ abbrev pub SparesUsed : Program → Machine → State → Arrays → Event → S
 SparesUsed p m s A e s' A' = (c : Cell) (q : Place) → is_used m s c q ≡ true → IsTrue (has_copy p m s c q) → writes_cell p e c ≡ false → IsTrue (has_copy p m s' c q) × (A' c q ≡ A c q)
 
 -- it is so of each event that can happen
-abbrev pub EventsSpareUsed : {D : Type 0} → Standing D → Type 0
+abbrev pub EventsSpareUsed : {D : Type 0} {eq : Equations} → StandingBy eq D → Type 0
 EventsSpareUsed b = (e : Event) → CanHappen b e → SparesUsed b.program b.machine (state b) (run_arrays b) e (state (with_event b e)) (run_arrays (with_event b e))
 
 -- of an event that has happened
-abbrev pub Spares : {D : Type 0} → Standing D → Event → Standing D → Type 0
+abbrev pub Spares : {D : Type 0} {eq : Equations} → StandingBy eq D → Event → StandingBy eq D → Type 0
 Spares old e new = SparesUsed old.program old.machine (state old) (run_arrays old) e (state new) (run_arrays new)
 
 -- of the end of the worker's transfer
-abbrev pub SparesMoved : {D : Type 0} → Worker → Standing D → Standing D → Type 0
+abbrev pub SparesMoved : {D : Type 0} {eq : Equations} → Worker → StandingBy eq D → StandingBy eq D → Type 0
 SparesMoved w old new = IfSome (transfer (state old) w) (λ x. Spares old (Moved x.cell x.from x.to) new)

@@ -2,11 +2,12 @@
 use Rattle.std.specs.Prelude.{◌≡◌, ◌≢◌, ℕ, Bool, true, List, Option, Some, IsSomeAnd, option_and_then, option_map, slice_get}
 use Rattle.sj_base.specs.declared.ids.Cell.{Cell}
 use Rattle.sj_base.specs.declared.ids.Worker.{Worker}
+use Rattle.sj_codelet.specs.Kernel.{Equations}
 use Rattle.sj_disk.specs.declared.directory.Extent.{Extent}
 use Rattle.sj_disk.specs.Directory.{DiskState, extent_of}
 use Rattle.sj_disk.specs.Rack.{is_out}
 use Rattle.sj_disk.specs.Units.{UnitState, unit_state}
-use Rattle.sj_board.specs.Board.{BoardState, hand_in, hand_of}
+use Rattle.sj_board.specs.Board.{BoardBy, hand_in, hand_of}
 use Rattle.sj_board.specs.declared.hand.Hand.{Hand}
 
 -- the unit of a cell among the disks
@@ -14,7 +15,7 @@ abbrev pub unit_at : {D : Type 0} → DiskState D → Cell → Option (UnitState
 unit_at disks c = option_and_then (λ (e : Extent). option_map (λ x. unit_state x c e) (slice_get disks.disks e.disk.0)) (extent_of disks.directory c.0)
 
 -- the unit that a worker has in hand, as it was taken out
-abbrev pub unit_in_hand : {D : Type 0} → BoardState D → Worker → Option (UnitState D)
+abbrev pub unit_in_hand : {D : Type 0} {eq : Equations} → BoardBy eq D → Worker → Option (UnitState D)
 unit_in_hand b w = option_and_then (unit_at b.run.disks) (hand_of b w).unit
 
 -- the disk is in a worker's hand
@@ -35,12 +36,12 @@ pub record UnitsStand {D : Type 0} (disks : DiskState D) (out : List Bool) (hand
   pub out_is_in_hand : (d : ℕ) → is_out out d ≡ true → IsInHand disks hands d
 
 -- another worker has a unit in hand
-pub record AnotherHasUnit {D : Type 0} (b : BoardState D) (w : Worker) : Type 0 where
+pub record AnotherHasUnit {D : Type 0} {eq : Equations} (b : BoardBy eq D) (w : Worker) : Type 0 where
   pub worker : Worker
   pub other : worker ≢ w
   pub cell : Cell
   pub in_hand : (hand_of b worker).unit ≡ Some cell
 
 -- the units in the hands of all other workers are as they were
-abbrev pub OthersKeepUnits : {D : Type 0} → Worker → BoardState D → BoardState D → Type 0
+abbrev pub OthersKeepUnits : {D : Type 0} {eq : Equations} → Worker → BoardBy eq D → BoardBy eq D → Type 0
 OthersKeepUnits w old new = (v : Worker) → v ≢ w → unit_in_hand new v ≡ unit_in_hand old v

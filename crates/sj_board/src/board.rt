@@ -4,6 +4,7 @@ ghost use Rattle.std.specs.Prelude.{◌≡◌, ◌↔◌, ◌+◌, ◌<◌, ◌�
 ghost use Rattle.std.specs.List.{list_any};
 ghost use Rattle.sj_base.specs.declared.mode.Policy.TheVariants.{Prio};
 ghost use Rattle.sj_base.specs.declared.trace.Event.TheVariants.{Claim, Drop, End, Move, Run};
+ghost use Rattle.sj_codelet.specs.Kernel.{out};
 ghost use Rattle.sj_core.specs.Needs.{AreFootprints, node_of};
 ghost use Rattle.sj_core.specs.Step.{mover_of};
 ghost use Rattle.sj_board.specs.Cause.{HasCause};
@@ -195,9 +196,9 @@ impl<D: Disk> Board<D> {
         machine: Machine,
         disks: DiskSet<D>,
     ) -> Result<Board<D>, RunRefusal<D>>
-        requires start { CanStart program.value machine disks }
+        requires start { CanStart out program.value machine disks }
         requires footprints { AreFootprints program.value footprints.items }
-        ensures ok { IfOk result (IsOpening program.value machine disks) }
+        ensures ok { IfOk result (IsOpening out program.value machine disks) }
         ensures err { IfErr result (λ r. (r.program.value ≡ program.value) × (r.disks ≡ disks)) }
     {
         let Ok(parts) = prepare(alloc, &program, footprints, machine.policy) else {
@@ -548,7 +549,8 @@ impl<D: Disk> Board<D> {
         requires no_unit { All (λ hand. hand.unit ≡ None) self.hands }
         ensures delivered { result.0.pairs ≡ self.delivered }
         ensures each { IsComplete (state self.run) →
-            DeliversEach self.run.program (AllTell D.held self.run) result.0.pairs }
+            DeliversEach out self.run.program (AllTell D.held self.run)
+            result.0.pairs }
         ensures trace { result.1.events ≡ self.run.trace }
         ensures disks { result.2 ≡ lent self.run }
         ensures none_is_out { NoneIsOut result.2 }

@@ -5,6 +5,7 @@ ghost use Rattle.std.specs.Int.{w64};
 ghost use Rattle.sj_base.specs.Array.{area};
 ghost use Rattle.sj_base.specs.Mode.{reads_of};
 ghost use Rattle.sj_base.specs.declared.ids.Place.TheVariants.{Disk as OnDisk, Node as AtNode};
+ghost use Rattle.sj_codelet.specs.Kernel.{out};
 ghost use Rattle.sj_core.specs.Program.{task_of};
 ghost use Rattle.sj_core.specs.Step.{mover_of};
 ghost use Rattle.sj_edge.specs.GivenBack.{AreGivenBack};
@@ -65,15 +66,16 @@ pub struct RunState<D: Disk> {
 }
 
 impl<D: Disk> Model for RunState<D> {
+    ghost use Rattle.sj_codelet.specs.Kernel.{out};
     ghost use Rattle.sj_board.specs.Sound.{Keeps};
     ghost use Rattle.sj_board.specs.Standing.{Standing, standing};
 
     ghost Value = { Standing D };
 
-    ghost view = { λ b. standing b.rows.program b.rows.machine b.trace b.disks b.opened.value };
+    ghost view = { λ b. standing out b.rows.program b.rows.machine b.trace b.disks b.opened.value };
 
     ghost invariant = { λ b. Keeps D.size D.faults D.mismatches D.held
-        (standing b.rows.program b.rows.machine b.trace b.disks b.opened.value) b.rows b.tiles.items
+        (standing out b.rows.program b.rows.machine b.trace b.disks b.opened.value) b.rows b.tiles.items
         b.trace.spare };
 }
 
@@ -167,8 +169,8 @@ impl<D: Disk> RunState<D> {
         machine: Machine,
         disks: DiskSet<D>,
     ) -> Result<RunState<D>, RunRefusal<D>>
-        requires { CanStart program.value machine disks }
-        ensures ok { IfOk result (λ b. b ≡ starting program.value machine disks) }
+        requires { CanStart out program.value machine disks }
+        ensures ok { IfOk result (λ b. b ≡ starting out program.value machine disks) }
         ensures err { IfErr result (λ r. (r.program.value ≡ program.value) × (r.disks ≡ disks)) }
     {
         let cells = program.cells.len();
@@ -201,28 +203,9 @@ impl<D: Disk> RunState<D> {
     }
 
     /// The plan of a claim of a ready task by an idle worker, or why the claim can't be made now: only while another worker has
-    /// a claimed or running task. Linear in the operands, the victims, the entries that are passed and the victims of each
-    /// worker's last claim, and in the workers for each commuting operand.
-    pub fn claim_plan(
-        &self,
-        alloc: Global,
-        t: Task,
-        w: Worker,
-    ) -> Result<Result<Plan, Why>, OutOfMemory>
-        requires { MayClaim self.now.program self.now.machine (state self.now) t w }
-        ensures can { IfOk result (λ found. OnOk found (CanHappen self.now (Event.Claim t w))) }
-        ensures plan { IfOk result (λ found. IfOk found
-            (IsPlan self.now.program self.now.machine (state self.now) t w)) }
-        ensures why { IfOk result (λ found. IfErr found
-            (IsWhy self.now.program self.now.machine (state self.now) t w)) }
-        ensures another { IfOk result (λ found. OnErr found (AnotherHasTask (state self.now) w)) }
-    {
-        self.claim_plan_knowing(alloc, t, w, &[])
-    }
-
-    /// The same, where so many of each worker's victims, those that go first, are known to be gone. Linear in the operands, the
-    /// victims, the entries that are passed, the workers and the others of their victims, and in the workers for each commuting
-    /// operand.
+    /// a claimed or running task. So many of each worker's victims, those that go first, are known to be gone. Linear in the
+    /// operands, the victims, the entries that are passed, the workers and the others of their victims, and in the workers for
+    /// each commuting operand.
     pub fn claim_plan_knowing(
         &self,
         alloc: Global,

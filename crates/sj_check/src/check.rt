@@ -2,6 +2,7 @@
 
 ghost use Rattle.std.specs.Prelude.{ℕ, ◌≡◌, IfErr, IsOk, take, Bool};
 ghost use Rattle.sj_codelet.specs.declared.kernel.Kernel.{Kernel};
+ghost use Rattle.sj_codelet.specs.Kernel.{Equations};
 ghost use Rattle.sj_core.specs.Arrays.{HoldsContent, arrays_of};
 ghost use Rattle.sj_core.specs.Bound.{HasAtMostThreePerTaskAndFivePerOperand};
 ghost use Rattle.sj_core.specs.Coherent.{Coherent};
@@ -61,14 +62,14 @@ pub fn check(
     ensures refused { IfErr result (IsCheckRefusal program.value machine trace.now.events) }
     ensures each_state_is_coherent { IsOk result → (n : ℕ) →
         Coherent program.value machine (state_of program.value machine (take n trace.now.events)) }
-    ensures each_state_has_its_content { IsOk result → (has : Kernel → Bool) →
-        IsLawful has program.value → (n : ℕ) → HoldsContent program.value machine
+    ensures each_state_has_its_content { IsOk result → (eq : Equations) (has : Kernel → Bool) →
+        IsLawful eq has program.value → (n : ℕ) → HoldsContent eq program.value machine
         (state_of program.value machine (take n trace.now.events))
-        (arrays_of program.value machine (take n trace.now.events)) }
-    ensures holds_what_all_tasks_leave { IsOk result → (has : Kernel → Bool) →
-        IsLawful has program.value → HoldsFinal program.value machine
+        (arrays_of eq program.value machine (take n trace.now.events)) }
+    ensures holds_what_all_tasks_leave { IsOk result → (eq : Equations) (has : Kernel → Bool) →
+        IsLawful eq has program.value → HoldsFinal eq program.value machine
         (state_of program.value machine trace.now.events)
-        (arrays_of program.value machine trace.now.events) }
+        (arrays_of eq program.value machine trace.now.events) }
     ensures has_at_most_three_events_a_task_and_five_an_operand { IsOk result →
         HasAtMostThreePerTaskAndFivePerOperand program.value trace.now.events }
 {

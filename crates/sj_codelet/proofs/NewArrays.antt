@@ -1,6 +1,6 @@
 -- What a codelet makes of tiles is tiles: each of its new arrays has all its elements, and each element is an i64. A lemma serves
 -- a form of equation.
-use Rattle.std.proofs.Common.{◌≡◌, ℕ, zero, suc, ◌+◌, ◌*◌, Bool, true, ◌&&◌, ℤ, pos, ◌≤ℤ◌, List, [], ◌∷◌, length, map, get_or, refl, ap, ◌∙◌, All, FitsSigned, IsTrue, nat_eq, if◌then◌else◌, arith}
+use Rattle.std.proofs.Common.{◌≡◌, ℕ, zero, suc, ◌+◌, ◌*◌, Bool, true, ◌&&◌, ℤ, pos, ◌≤ℤ◌, List, [], ◌∷◌, length, map, get_or, refl, ap, subst, sym, ◌∙◌, All, FitsSigned, IsTrue, nat_eq, if◌then◌else◌, arith}
 use Rattle.std.proofs.Common.{lit<, w64}
 use Rattle.std.specs.List.{AllByRecursion, range_with_len}
 use Rattle.std.specs.Int.{int_min}
@@ -13,15 +13,19 @@ use Rattle.sj_base.specs.Array.{Array, array, area, at, each, element, zeros}
 use Rattle.sj_codelet.specs.declared.kernel.Kernel.{Kernel}
 use Rattle.sj_codelet.specs.declared.kernel.Kernel.TheVariants.{Load, LoadFill, Paste}
 use Rattle.sj_codelet.specs.Equations.{after_turns, lowest, paste}
-use Rattle.sj_codelet.specs.Kernel.{arguments_fit, dims_at, fits, new_arrays, operand}
-use Rattle.sj_codelet.specs.Laws.{IsTile}
+use Rattle.sj_codelet.specs.Kernel.{arguments_fit, dims_at, dims_fit, fits, formals_of, new_arrays, operand, out}
+use Rattle.sj_codelet.specs.Laws.{IsTile, MakesTiles}
 use Rattle.sj_codelet.specs.MinPlus.{inf, least, least_below, plus}
 use Rattle.sj_codelet.specs.Ring.{wrap}
 use Rattle.sj_codelet.specs.Window.{window_of}
-use Rattle.sj_codelet.proofs.Table.{each_dims, dims_at-each_dims}
+use Rattle.sj_codelet.proofs.Table.{each_dims, dims_at-each_dims, new_arrays-count, new_arrays-dims, out-kernel}
 
 abbrev pub IsLong : ℤ → Type 0
 IsLong z = FitsSigned w64 z
+
+-- what fits has as many operands as formals, and their dimensions fit
+pub fits-parts : (n m : ℕ) (b c : Bool) → (nat_eq n m && b && c) ≡ true → (n ≡ m) × (c ≡ true)
+fits-parts n m b c h = search (arith, nat_tests)
 
 -- ---- numbers
 
@@ -97,6 +101,16 @@ ruleset longs = (wrap-long, min-long, plus-long, least_below-long, either-long, 
 pub new_arrays-tiles : (k : Kernel) (args : List ℤ) (ins : List Array) → All IsLong args → IsTrue (fits k args (map (λ a. a.dims) ins)) → All IsTile ins → All IsTile (new_arrays k args ins)
 new_arrays-tiles Paste args ins ha f h = All-cons IsTile _ [] (pasted-tile args ins h) (All-nil IsTile)
 new_arrays-tiles k args ins ha f h = search (arith, All-cons, All-nil, tiles, longs)
+
+-- and the table obeys that law
+pub out-makes_tiles : (k : Kernel) → MakesTiles out k
+out-makes_tiles k = record {
+  count = λ args ins. ap length (out-kernel k args ins) ∙ new_arrays-count k args ins;
+  tiles = λ args ins long call. subst (All IsTile) (sym (out-kernel k args ins)) (new_arrays-tiles k args ins long call.fits call.tiles);
+  dims = λ args ins call.
+      (let parts = fits-parts (length (each_dims ins)) (length (formals_of k)) (arguments_fit k args (each_dims ins)) (dims_fit k args (each_dims ins)) call.fits in
+      ap each_dims (out-kernel k args ins) ∙ new_arrays-dims k args ins (sym (length-map ins (λ (x : Array). x.dims)) ∙ parts.0) parts.1);
+}
 
 -- ---- the same of their number alone
 

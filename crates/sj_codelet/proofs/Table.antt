@@ -1,5 +1,5 @@
 -- What holds of each codelet of the table, by a look at each row: no other file goes through the rows for it.
-use Rattle.std.proofs.Common.{◌≡◌, ◌≤◌, ◌<◌, get_or, ℕ, zero, suc, Bool, true, false, Some, List, [], ◌∷◌, ℤ, length, map, refl, sym, ap, subst, ◌∙◌, arith}
+use Rattle.std.proofs.Common.{◌+◌, None, Option, nat_eq, ◌≡◌, ◌≤◌, ◌<◌, get_or, ℕ, zero, suc, Bool, true, false, Some, List, [], ◌∷◌, ℤ, length, map, refl, sym, ap, ◌∙◌, arith}
 use Rattle.std.specs.Prelude.{slice_get, nat_le, ◌&&◌, if◌then◌else◌}
 use Rattle.std.specs.List.{list_all, filter}
 use Rattle.sj_base.specs.declared.tile.Dims.{Dims}
@@ -7,18 +7,45 @@ use Rattle.sj_base.specs.Array.{Array}
 use Rattle.sj_codelet.specs.declared.kernel.Kernel.{Kernel}
 use Rattle.sj_codelet.specs.declared.kernel.Kernel.TheVariants.{Deliver}
 use Rattle.sj_codelet.specs.declared.formal.Formal.{Formal}
-use Rattle.std.proofs.lemmas.Bool.{leb-true}
+use Rattle.std.proofs.lemmas.Bool.{and_parts, leb-true}
+use Rattle.std.proofs.lemmas.{Bool.Decides.Decides-eqb}
+use Rattle.sj_base.specs.declared.program.Codelet.{Codelet}
 use Rattle.std.proofs.lemmas.Option.{slice_get-get_or}
 use Rattle.sj_base.proofs.Bools.{and_rest}
 use Rattle.sj_codelet.specs.Equations.{after_turns}
 use Rattle.sj_codelet.specs.Formal.{is_output, outputs_among}
-use Rattle.sj_codelet.specs.Kernel.{kernels, kernel_of, codelet_of, id_of, formals_of, dims_at, dims_fit, operand, new_arrays}
+use Rattle.sj_codelet.specs.Kernel.{kernels, kernel_of, codelet_of, id_of, formals_of, dims_at, dims_fit, operand, new_arrays, out}
 use Rattle.sj_codelet.proofs.Operands.{same_dims}
 
 -- each codelet stands in the table at its id
 pub kernel_of-codelet_of : (k : Kernel) → kernel_of (codelet_of k) ≡ Some k
 kernel_of-codelet_of Deliver = refl
 kernel_of-codelet_of k = refl
+
+-- the codelets of a list have their places, from n on, as ids
+abbrev stand_from : ℕ → List Kernel → Bool
+stand_from n [] = true
+stand_from n (x ∷ xs) = nat_eq (id_of x) n && stand_from (suc n) xs
+
+stands-at : (n : ℕ) (xs : List Kernel) (i : ℕ) (k : Kernel) → stand_from n xs ≡ true → slice_get xs i ≡ Some k → n + i ≡ id_of k
+stands-at n [] i k all e = absurd (cc)
+stands-at n (x ∷ xs) zero k all e =
+    let both = and_parts (nat_eq (id_of x) n) (stand_from (suc n) xs) all in
+    let is : x ≡ k = cc in
+    let own : id_of x ≡ n = (Decides-eqb (id_of x) n).0 both.0 in
+    omega (arith, own, ap id_of is)
+stands-at n (x ∷ xs) (suc i) k all e =
+    let both = and_parts (nat_eq (id_of x) n) (stand_from (suc n) xs) all in
+    let rest : suc n + i ≡ id_of k = stands-at (suc n) xs i k both.1 e in
+    omega (arith, rest)
+
+-- an id is that of the codelet that stands there
+pub codelet_of-kernel : (id : Codelet) (k : Kernel) → kernel_of id ≡ Some k → id ≡ codelet_of k
+codelet_of-kernel id k e = ap (λ (n : ℕ). let c : Codelet = record { 0 = n } in c) (let n : id.0 ≡ id_of k = (let at : 0 + id.0 ≡ id_of k = stands-at 0 kernels id.0 k refl e in omega (arith, at)) in n)
+
+-- the table's equation of a codelet
+pub out-kernel : (k : Kernel) (args : List ℤ) (ins : List Array) → out (codelet_of k) args ins ≡ new_arrays k args ins
+out-kernel k args ins = ap (λ (o : Option Kernel). elim o as (λ _. List Array) [ None ↦ [] | Some j ↦ new_arrays j args ins ]) (kernel_of-codelet_of k)
 
 -- what stands at a place of the table
 pub kernel_at : (n : ℕ) (d : Kernel) → n < length kernels → slice_get kernels n ≡ Some (get_or kernels n d)

@@ -209,8 +209,12 @@ new_arrays Deliver args ins = []
 new_arrays InitPlus args ins = zeros (operand ins 0).dims ∷ []
 new_arrays InitLeast args ins = all_inf (operand ins 0).dims ∷ []
 
--- the same of an id
-abbrev pub out : Codelet → List ℤ → List Array → List Array
+-- the equations of codelets: the new arrays of each, by its id, from its arguments and the arrays of its operands
+abbrev pub Equations : Type 0
+Equations = Codelet → List ℤ → List Array → List Array
+
+-- those of the table
+abbrev pub out : Equations
 out id args ins = elim (kernel_of id) [ None ↦ [] | Some k ↦ new_arrays k args ins ]
 
 -- the name of an id in a set that has these codelets

@@ -2,7 +2,7 @@
 
 ghost use Rattle.std.specs.Prelude.{◌≡◌, ◌&&◌, Bool, IsTrue, OnOk, IfOk, IfSome, find, option_map};
 ghost use Rattle.sj_codelet.specs.declared.kernel.Kernel.{Kernel};
-ghost use Rattle.sj_codelet.specs.Kernel.{kernels, codelet_of, has_name, named_in, name_in, fits_in, has_reduction, commutes_in, contributes_in, init_of, combine_of};
+ghost use Rattle.sj_codelet.specs.Kernel.{kernels, codelet_of, has_name, named_in, name_in, fits_in, has_reduction, commutes_in, contributes_in, init_of, combine_of, out};
 ghost use Rattle.sj_codelet.specs.Frame.{all_dims};
 ghost use Rattle.sj_base.specs.declared.mode.Reduction.{Reduction};
 ghost use Rattle.sj_codelet.specs.Laws.{CommutingCommute, ContributingContribute, ReductionsReduce};
@@ -40,13 +40,13 @@ pub trait Codelets: Sync {
         ensures { OnOk result (IsRun id args.now frame.old frame.new) };
 
     /// Two runs of a commuting codelet on one array give the same in either order.
-    ghost commuting: { CommutingCommute has };
+    ghost commuting: { CommutingCommute out has };
 
     /// A run of a contributing codelet gives what combining gives with a run on the unit.
-    ghost contributing: { ContributingContribute has };
+    ghost contributing: { ContributingContribute out has };
 
     /// Combining is associative and commutative, and init gives its unit.
-    ghost reducing: { ReductionsReduce has };
+    ghost reducing: { ReductionsReduce out has };
 
     /// The codelet that a job calls by this name, or `None` where the set has none. Linear in the table.
     final fn named(&self, name: &[u8]) -> Option<Codelet>

@@ -1,24 +1,28 @@
 -- What the tasks of a phase leave: a contribution adds to its worker's copy, and a combine adds the copy to the cell.
-use Rattle.std.proofs.Common.{Bool, List, [], ap, false, length, map, refl, sym, true, ◌++◌, ◌<◌, ◌∙◌, ◌∷◌, ◌≡◌, ℤ, All}
+use Rattle.sj_codelet.specs.Kernel.{Equations}
+use Rattle.std.proofs.Common.{Bool, List, Some, nat_eq, suc, arith, [], ap, false, length, map, refl, sym, true, ◌++◌, ◌<◌, ◌∙◌, ◌∷◌, ◌≡◌, ℤ, All}
 use Rattle.std.proofs.Common.{FitsSigned, is_some, if◌then◌else◌, Contains, filter}
-use Rattle.sj_core.proofs.Words.{Access, Array, Kernel, Least, Plus, Program, R, RW, Reduction, Redux, Task, Worker}
+use Rattle.sj_core.proofs.Words.{Access, Array, Dims, Kernel, Least, Plus, Program, R, RW, Reduction, Redux, Task, Worker}
 use Rattle.sj_core.proofs.Words.{cell_info, copy_of, dims_of, found, no_task, task_of, worked_on, zeros}
 use Rattle.std.specs.Int.{w64}
 use Rattle.std.proofs.lemmas.List.Elements.{All-contains, All-get_or}
 use Rattle.sj_base.specs.Mode.{is_in_order, is_redux, is_written, starts_as_zeros, access}
+use Rattle.sj_base.proofs.Bools.{and_middle}
 use Rattle.sj_base.proofs.Lists.{one_is, map-agree}
-use Rattle.sj_codelet.specs.Kernel.{combine_of, contributes_of}
-use Rattle.sj_codelet.specs.Laws.{DoesContribute, IsCall, IsTile, combined, result_of}
+use Rattle.sj_codelet.specs.Kernel.{arguments_fit, combine_of, contributes_of, dims_fit, fits}
+use Rattle.sj_codelet.specs.declared.kernel.Kernel.TheVariants.{Add, Lowest}
+use Rattle.std.proofs.lemmas.{Bool.Decides.Decides-eqb}
+use Rattle.sj_codelet.specs.Laws.{DoesContribute, IsCall, IsTile, MakesTiles, combined, result_of}
 use Rattle.sj_core.specs.Proper.{IsCombine, IsContribution, IsPhase, Phase, Proper, task_number}
 use Rattle.sj_core.specs.{Fold.Contents, Fold.after_task, Fold.held_in, Laws.IsLawful}
 use Rattle.sj_core.proofs.Combining.{call-with, combines, contribution, contribution-fills}
 use Rattle.sj_core.proofs.Swapping.{Updates, first_ins, update-call, updated}
 use Rattle.sj_core.proofs.{Copies.copy-bare, Copies.direct-cell}
-use Rattle.sj_core.proofs.{Phases.does_contribute, Phases.kernel-contributes, Phases.reduces, Sized.AreSized}
+use Rattle.sj_core.proofs.{Phases.does_contribute, Phases.kernel-contributes, Phases.reduces, Sized.AreSized, Sized.knows, Sized.task-fits}
 use Rattle.sj_codelet.proofs.NewArrays.{zeros-tile}
 use Rattle.sj_core.proofs.{Sized.worked_on-dims, Updating.updates}
 
-module _ (has : Kernel → Bool) (p : Program) (proper : Proper p) (lawful : IsLawful has p) (f : Phase) (phase : IsPhase p f) where
+module _ (eq : Equations) (has : Kernel → Bool) (p : Program) (proper : Proper p) (lawful : IsLawful eq has p) (f : Phase) (phase : IsPhase p f) where
   -- ---- contributions
 
   module _ (t : Task) (inside : t.0 < length p.tasks) (a : Access) (among : Contains (task_of p t).accesses a) (redux : a.mode ≡ Redux) (cell : a.cell ≡ f.cell) (own : Contains f.contributions t.0) where
@@ -27,11 +31,11 @@ module _ (has : Kernel → Bool) (p : Program) (proper : Proper p) (lawful : IsL
 
     -- what the task adds, from what cells hold
     abbrev pub part : (w : Worker) → w.0 < p.workers → Contents → Array
-    part w staffed before = contribution f.by (update w staffed).kernel (task_of p t).args (first_ins p t w (worked_on p w a) (update w staffed) (held_in p before)) (zeros (dims_of p f.cell))
+    part w staffed before = contribution eq f.by (update w staffed).kernel (task_of p t).args (first_ins p t w (worked_on p w a) (update w staffed) (held_in p before)) (dims_of p f.cell)
 
     -- it depends on the cells that are read alone, and on no worker
     pub part-same : (v w : Worker) (v_in : v.0 < p.workers) (w_in : w.0 < p.workers) (before before' : Contents) → ((b : Access) → Contains (update v v_in).before b → starts_as_zeros b.mode ≡ false → held_in p before b.cell ≡ held_in p before' b.cell) → part v v_in before ≡ part w w_in before'
-    part-same v w v_in w_in before before' same = ap (λ (ins : List Array). contribution f.by (update v v_in).kernel (task_of p t).args ins (zeros (dims_of p f.cell))) (map-agree (found p v (held_in p before)) (found p w (held_in p before')) (update v v_in).before (λ b h. by_start b h (starts_as_zeros b.mode) refl))
+    part-same v w v_in w_in before before' same = ap (λ (ins : List Array). contribution eq f.by (update v v_in).kernel (task_of p t).args ins (dims_of p f.cell)) (map-agree (found p v (held_in p before)) (found p w (held_in p before')) (update v v_in).before (λ b h. by_start b h (starts_as_zeros b.mode) refl))
       where
         by_start : (b : Access) → Contains (update v v_in).before b → (s : Bool) → starts_as_zeros b.mode ≡ s → (if s then zeros (dims_of p b.cell) else held_in p before (worked_on p v b)) ≡ (if s then zeros (dims_of p b.cell) else held_in p before' (worked_on p w b))
         by_start b h true e = refl
@@ -46,26 +50,29 @@ module _ (has : Kernel → Bool) (p : Program) (proper : Proper p) (lawful : IsL
       contributes : contributes_of (update w staffed).kernel f.by ≡ true
       contributes = kernel-contributes p proper t f (update w staffed).kernel (update w staffed).codelet (All-contains (λ n. IsContribution f.by f.cell (task_number p n)) f.contributions t.0 phase.contributions own)
 
-      through : DoesContribute (update w staffed).kernel f.by
-      through = does_contribute p proper has lawful f phase w staffed t inside (update w staffed).kernel (update w staffed).codelet contributes
+      through : DoesContribute eq (update w staffed).kernel f.by
+      through = does_contribute p proper eq has lawful f phase w staffed t inside (update w staffed).kernel (update w staffed).codelet contributes
+
+      makes : MakesTiles eq (update w staffed).kernel
+      makes = lawful.making (update w staffed).kernel (knows eq has p proper lawful t inside (update w staffed).kernel (update w staffed).codelet)
 
       call : IsCall (update w staffed).kernel (task_of p t).args (ins ++ held_in p before (worked_on p w a) ∷ [])
-      call = update-call p proper lawful.arguments t inside w staffed (worked_on p w a) (update w staffed) before sized
+      call = update-call eq has p proper lawful t inside w staffed (worked_on p w a) (update w staffed) before sized
 
       held-dims : (held_in p before (worked_on p w a)).dims ≡ dims_of p f.cell
-      held-dims = (sized (worked_on p w a)).dims ∙ worked_on-dims p proper lawful.arguments w staffed a ∙ ap (dims_of p) cell
+      held-dims = (sized (worked_on p w a)).dims ∙ worked_on-dims p proper w staffed a ∙ ap (dims_of p) cell
 
       -- it adds a tile of the cell's dimensions
       pub part-fills : IsTile (part w staffed before) × ((part w staffed before).dims ≡ dims_of p f.cell)
       part-fills =
-          contribution-fills f.by (reduces p proper has lawful f phase w staffed) (update w staffed).kernel contributes through (task_of p t).args ins (zeros (dims_of p f.cell)) (All-get_or (λ l. All (FitsSigned w64) l.args) p.tasks t.0 no_task inside lawful.arguments)
+          contribution-fills eq f.by (reduces p proper eq has lawful f phase w staffed) (update w staffed).kernel makes contributes through (task_of p t).args ins (zeros (dims_of p f.cell)) (All-get_or (λ l. All (FitsSigned w64) l.args) p.tasks t.0 no_task inside lawful.arguments)
           (call-with (update w staffed).kernel (task_of p t).args ins (held_in p before (worked_on p w a)) (zeros (dims_of p f.cell)) call (zeros-tile (dims_of p f.cell)) (sym held-dims))
 
       -- the copy is combined with it
-      pub adds : held_in p (after_task p w t before) (worked_on p w a) ≡ combined f.by (part w staffed before) (held_in p before (worked_on p w a))
+      pub adds : held_in p (after_task eq p w t before) (worked_on p w a) ≡ combined eq f.by (part w staffed before) (held_in p before (worked_on p w a))
       adds =
-          updated p proper lawful.arguments t inside w staffed (worked_on p w a) (update w staffed) before
-          ∙ combines f.by (reduces p proper has lawful f phase w staffed) (update w staffed).kernel contributes through (task_of p t).args ins (held_in p before (worked_on p w a)) (zeros (dims_of p f.cell)) held-dims call
+          updated eq has p proper lawful t inside w staffed (worked_on p w a) (update w staffed) before
+          ∙ combines eq f.by (reduces p proper eq has lawful f phase w staffed) (update w staffed).kernel makes contributes through (task_of p t).args ins (held_in p before (worked_on p w a)) (dims_of p f.cell) held-dims call
 
   -- ---- combines
 
@@ -87,11 +94,24 @@ module _ (has : Kernel → Bool) (p : Program) (proper : Proper p) (lawful : IsL
         only : (b : Access) → Contains (access R (copy_of p f.cell x) ∷ []) b → access R (copy_of p f.cell x) ≡ b
         only b h = one_is (access R (copy_of p f.cell x)) b h
 
-    -- the cell is combined with the copy
-    pub merges : (before : Contents) → held_in p (after_task p w t before) f.cell ≡ combined f.by (held_in p before (copy_of p f.cell x)) (held_in p before f.cell)
-    unfolding merge
-    merges before = updated p proper lawful.arguments t inside w staffed f.cell merge before ∙ by_reduction f.by (task_of p t).args (held_in p before (copy_of p f.cell x)) (held_in p before f.cell)
+    -- a combine has no arguments
+    bare : (task_of p t).args ≡ []
+    bare =
+        let l = task_of p t in
+        let own = task-fits p proper t inside in
+        let found_by : Some own.kernel ≡ Some (combine_of f.by) = sym own.codelet ∙ combine.codelet in
+        let same : own.kernel ≡ combine_of f.by = cc in
+        none f.by l.args (map (λ a. dims_of p a.cell) l.accesses) (ap (λ (k : Kernel). fits k l.args (map (λ a. dims_of p a.cell) l.accesses)) (sym same) ∙ own.operands)
       where
-        by_reduction : (by : Reduction) (args : List ℤ) (u v : Array) → result_of (combine_of by) args (u ∷ []) v ≡ combined by u v
-        by_reduction Plus args u v = refl
-        by_reduction Least args u v = refl
+        some : (args : List ℤ) → nat_eq (suc (length args)) 0 ≡ true → ⊥
+        some args h = let n : suc (length args) ≡ 0 = (Decides-eqb (suc (length args)) 0).0 h in omega (arith, n)
+
+        none : (by : Reduction) (args : List ℤ) (ds : List Dims) → fits (combine_of by) args ds ≡ true → args ≡ []
+        none by [] ds h = refl
+        none Plus (z ∷ args) ds h = absurd (some args (and_middle (nat_eq (length ds) 2) (arguments_fit Add (z ∷ args) ds) (dims_fit Add (z ∷ args) ds) h))
+        none Least (z ∷ args) ds h = absurd (some args (and_middle (nat_eq (length ds) 2) (arguments_fit Lowest (z ∷ args) ds) (dims_fit Lowest (z ∷ args) ds) h))
+
+    -- the cell is combined with the copy
+    pub merges : (before : Contents) → held_in p (after_task eq p w t before) f.cell ≡ combined eq f.by (held_in p before (copy_of p f.cell x)) (held_in p before f.cell)
+    unfolding merge
+    merges before = updated eq has p proper lawful t inside w staffed f.cell merge before ∙ ap (λ (args : List ℤ). result_of eq (combine_of f.by) args (held_in p before (copy_of p f.cell x) ∷ []) (held_in p before f.cell)) bare

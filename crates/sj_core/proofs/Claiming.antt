@@ -1,4 +1,5 @@
 -- What a claim changes, and that it leaves a coherent state: a victim leaves, a missing cell comes, and the rest stays as it is.
+use Rattle.sj_codelet.specs.Kernel.{Equations}
 use Rattle.std.proofs.Common.{Bool, List, Some, [], ap, arith, cond, false, filter, fold, inl, inr, length, nat_eq, not, refl, subst, sum_by, sym, true, ℕ, ◌&&◌, ◌++◌, ◌+◌, ◌<◌, ◌||◌, ◌∙◌, ◌≡◌, ◌≢◌, ◌≤◌, ◌⊎◌}
 use Rattle.std.proofs.lemmas.Bool.{and_from, and_parts, cases_Bool, cases_lt, false_from_ne_true, false≢true, leb-true, not-true}
 use Rattle.std.proofs.lemmas.Bool.Decides.{Decides-eqb}
@@ -469,5 +470,5 @@ module _ (p : Program) (m : Machine) (s : State) (h : IsSound p m s) (t : Task) 
   Claims-coherent = record { state = claim-state; writers = claim-writers; copies = claim-copies; cells = claim-cells; pins = claim-pins; transfers = claim-transfers; bytes = claim-bytes; workers = claim-workers; order = claim-order; counts = claim-counts }
 
   -- no array changes
-  pub Claims-content : (A A' : Arrays) → ((c : Cell) (q : Place) → A' c q ≡ A c q) → HoldsContent p m s A → HoldsContent p m s' A'
-  Claims-content A A' same = HoldsContent-kept p m s s' A A' same runs_before (content-kept p s s' t Waiting (Claimed w) claim-advance refl refl) (claim-writes p m s t w s' claim leaves) claim-rested (λ c q valid. sym (claim-copy c q) ∙ valid)
+  pub Claims-content : (eq : Equations) (A A' : Arrays) → ((c : Cell) (q : Place) → A' c q ≡ A c q) → HoldsContent eq p m s A → HoldsContent eq p m s' A'
+  Claims-content eq A A' same = HoldsContent-kept eq p m s s' A A' same runs_before (content-kept eq p s s' t Waiting (Claimed w) claim-advance refl refl) (claim-writes p m s t w s' claim leaves) claim-rested (λ c q valid. sym (claim-copy c q) ∙ valid)

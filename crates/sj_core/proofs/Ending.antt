@@ -1,4 +1,5 @@
 -- The end of a kernel's run leaves a coherent state.
+use Rattle.sj_codelet.specs.Kernel.{Equations}
 use Rattle.std.proofs.Common.{Bool, List, ap, arith, false, inl, inr, length, refl, subst, sym, true, ◌<◌, ◌∙◌, ◌≡◌, ◌&&◌, ◌+◌, ◌≢◌, [], ◌≤◌, ◌⊎◌, zip, count_by, nat_eq, nat_le, nat_lt, if◌then◌else◌, cond}
 use Rattle.std.proofs.lemmas.Bool.{false≢true, eq-eqb, ne_eqb, and_from, le-leb, lt-ltb, cases_Bool, cases_lt, false_from_ne_true, cond_both}
 use Rattle.std.proofs.lemmas.List.{get_or_past, length-set}
@@ -11,9 +12,10 @@ use Rattle.sj_core.specs.Fold.{after_chosen, after_task, held_in}
 use Rattle.sj_core.specs.Laws.{IsLawful, IsSound}
 use Rattle.sj_core.specs.Proper.{Proper}
 use Rattle.sj_core.specs.Step.{after_end, after, is_home, same_place}
-use Rattle.sj_core.proofs.Words.{Array, AtNode, Cell, CellState, Claimed, Done, Kernel, Machine, Program, Progress, Running, State, Task, Worker, dims_of, done_by, done_in, has_cell, is_done, is_task_of, no_task, node_of, progress, results, tasks_of, worked_on, worker_of, writes, written_cells, zeros, OnDisk, Place, WorkerState, cell_state, cells_of, is_coming_by, is_entry, is_leaving_by, is_valid, Node, mark_in, has_copy, written_once_more, order, transfer, victims_of, worker_state, fresh_cells, End}
+use Rattle.sj_core.proofs.Words.{Array, AtNode, Cell, CellState, Claimed, Done, Kernel, Machine, Program, Progress, Running, State, Task, Worker, dims_of, done_by, done_in, has_cell, is_done, is_task_of, node_of, progress, results, tasks_of, worked_on, worker_of, writes, written_cells, zeros, OnDisk, Place, WorkerState, cell_state, cells_of, is_coming_by, is_entry, is_leaving_by, is_valid, Node, mark_in, has_copy, written_once_more, order, transfer, victims_of, worker_state, fresh_cells, End}
 use Rattle.sj_core.proofs.Advancing.{Advances, Ends-advances, done-begun, same_task, OrderIsKept-advances}
 use Rattle.sj_core.proofs.Values.{results-complete}
+use Rattle.sj_core.proofs.Sized.{task-fits, task-makes_tiles}
 use Rattle.sj_core.proofs.Updating.{may-swap}
 use Rattle.sj_core.proofs.Folding.{AddsTask, after_chosen-same, after_task-other, held-append, held_over, held_over-own, read-among_cells, results-same}
 use Rattle.sj_core.proofs.Found.{found-content}
@@ -33,8 +35,8 @@ use Rattle.sj_core.specs.Arrays.{Arrays, HoldsContent, arrays_after, content, he
 
 -- ---- where no task more is done
 
-pub content-kept : (p : Program) (s s' : State) (t : Task) (old new : Progress) → Advances s s' t old new → is_done old ≡ false → is_done new ≡ false → (c : Cell) → content p s' c ≡ content p s c
-content-kept p s s' t old new a was is c = search (arith, after_chosen-same, same_task, false≢true)
+pub content-kept : (eq : Equations) (p : Program) (s s' : State) (t : Task) (old new : Progress) → Advances s s' t old new → is_done old ≡ false → is_done new ≡ false → (c : Cell) → content eq p s' c ≡ content eq p s c
+content-kept eq p s s' t old new a was is c = search (arith, after_chosen-same, same_task, false≢true)
 
 -- ---- an end
 
@@ -42,22 +44,18 @@ content-kept p s s' t old new a was is c = search (arith, after_chosen-same, sam
 pub later-free : (p : Program) (s : State) (t : Task) → OrderIsKept p s → done_in s t ≡ false → (u : Task) → t.0 < u.0 → done_in s u ≡ true → ¬ Conflict p t.0 u.0
 later-free p s t kept undone u later done conflict = false≢true (sym undone ∙ kept.earlier u (done-begun (progress s u) done) t later conflict)
 
--- in the fold of a program a task with which no later chosen one conflicts may be put last
-abbrev pub PutsLast : Program → Type 0
-PutsLast p = (chosen chosen' : Task → Bool) (by by' : Task → Worker) (t : Task) (w : Worker) → t.0 < length p.tasks → w.0 < p.workers → ((u : Task) → (by u).0 < p.workers) → AddsTask chosen chosen' by by' t w → ((u : Task) → t.0 < u.0 → chosen u ≡ true → ¬ Conflict p t.0 u.0) →
-    (c : Cell) → held_in p (after_chosen p chosen' by' (length p.tasks)) c ≡ held_in p (after_task p w t (after_chosen p chosen by (length p.tasks))) c
-
--- it is so from the laws of a set
-pub lawful-puts_last : (has : Kernel → Bool) (p : Program) → Proper p → IsLawful has p → PutsLast p
-lawful-puts_last has p proper lawful chosen chosen' by by' t w inside w_in staffed adds free =
-    put-last p proper lawful.arguments chosen chosen' by by' t w staffed w_in adds (length p.tasks) inside (omega arith) (λ u later within done.
-    may-swap has p proper lawful t u inside within w (by u) w_in (staffed u) (free u later done) (contributions-exchange p proper has lawful t u inside within w (by u) w_in (staffed u) (free u later done) later))
+-- in the fold of a program a task with which no later chosen one conflicts may be put last, by the laws of a set
+puts-last : (eq : Equations) (has : Kernel → Bool) (p : Program) → Proper p → IsLawful eq has p → (chosen chosen' : Task → Bool) (by by' : Task → Worker) (t : Task) (w : Worker) → t.0 < length p.tasks → w.0 < p.workers → ((u : Task) → (by u).0 < p.workers) → AddsTask chosen chosen' by by' t w → ((u : Task) → t.0 < u.0 → chosen u ≡ true → ¬ Conflict p t.0 u.0) →
+    (c : Cell) → held_in p (after_chosen eq p chosen' by' (length p.tasks)) c ≡ held_in p (after_task eq p w t (after_chosen eq p chosen by (length p.tasks))) c
+puts-last eq has p proper lawful chosen chosen' by by' t w inside w_in staffed adds free =
+    put-last eq has p proper lawful chosen chosen' by by' t w staffed w_in adds (length p.tasks) inside (omega arith) (λ u later within done.
+    may-swap eq has p proper lawful t u inside within w (by u) w_in (staffed u) (free u later done) (contributions-exchange p proper eq has lawful t u inside within w (by u) w_in (staffed u) (free u later done) later))
 
 -- the workers by which tasks are done are the program's; where a task isn't begun the word gives the first one
 pub all-staffed : (p : Program) (s : State) → 0 < p.workers → HasWorkers p s → (u : Task) → (done_by s u).0 < p.workers
 all-staffed p s some staff u = search arith
 
-module _ (p : Program) (m : Machine) (proper : Proper p) (puts_last : PutsLast p) (s : State) (sound : Coherent p m s) (t : Task) (w : Worker) (s' : State) (ended : progress s t ≡ Running w) (leaves : s' ≡ after_end p m s t w) where
+module _ (eq : Equations) (has : Kernel → Bool) (p : Program) (m : Machine) (proper : Proper p) (lawful : IsLawful eq has p) (s : State) (sound : Coherent p m s) (t : Task) (w : Worker) (s' : State) (ended : progress s t ≡ Running w) (leaves : s' ≡ after_end p m s t w) where
   pub end-inside : t.0 < length p.tasks
   end-inside = running-inside p m s t w sound.state.rows ended
 
@@ -65,34 +63,34 @@ module _ (p : Program) (m : Machine) (proper : Proper p) (puts_last : PutsLast p
   staffed = subst (λ (x : Progress). (worker_of x).0 < p.workers) ended (sound.state.staff.staffed t (ap is_begun ended))
 
   -- the ended task's results come over the contents before, as if no done task came after it
-  end-content : (c : Cell) → content p s' c ≡ held_in p (after_task p w t (after_chosen p (done_in s) (done_by s) (length p.tasks))) c
+  end-content : (c : Cell) → content eq p s' c ≡ held_in p (after_task eq p w t (after_chosen eq p (done_in s) (done_by s) (length p.tasks))) c
   end-content c =
       let a = Ends-advances p m s t w s' ended leaves in
       let adds : AddsTask (done_in s) (done_in s') (done_by s) (done_by s') t w = record { absent = ap is_done a.was; present = ap is_done a.is; worker = ap worker_of a.is; others = λ u d. ap is_done (a.others u d); workers = λ u d. ap worker_of (a.others u d) } in
-      puts_last (done_in s) (done_in s') (done_by s) (done_by s') t w end-inside staffed (all-staffed p s (omega (arith, staffed)) sound.state.staff) adds (later-free p s t sound.order (ap is_done a.was)) c
+      puts-last eq has p proper lawful (done_in s) (done_in s') (done_by s) (done_by s') t w end-inside staffed (all-staffed p s (omega (arith, staffed)) sound.state.staff) adds (later-free p s t sound.order (ap is_done a.was)) c
 
   -- what the task doesn't write keeps its content
-  pub end-content-other : (c : Cell) → has_cell (written_cells p t w) c ≡ false → content p s' c ≡ content p s c
-  end-content-other c spared = end-content c ∙ after_task-other p w t (after_chosen p (done_in s) (done_by s) (length p.tasks)) c spared
+  pub end-content-other : (c : Cell) → has_cell (written_cells p t w) c ≡ false → content eq p s' c ≡ content eq p s c
+  end-content-other c spared = end-content c ∙ after_task-other eq p w t (after_chosen eq p (done_in s) (done_by s) (length p.tasks)) c spared
 
-  module _ (A : Arrays) (holds : HoldsContent p m s A) where
+  module _ (A : Arrays) (holds : HoldsContent eq p m s A) where
     -- the task works on the arrays of its worker's node as on the contents of its cells
-    end-results : results p t w (content p s) ≡ results p t w (held_at A (AtNode (node_of m w)))
-    end-results = results-same p t w w (content p s) (held_at A (AtNode (node_of m w))) (λ a h reads.
+    end-results : results eq p t w (content eq p s) ≡ results eq p t w (held_at A (AtNode (node_of m w)))
+    end-results = results-same eq p t w w (content eq p s) (held_at A (AtNode (node_of m w))) (λ a h reads.
         (let mine : is_task_of w (progress s t) ≡ true = ap (is_task_of w) ended ∙ same_worker-refl w in
         let there = sound.cells.running t w (worked_on p w a) ended (read-among_cells p t w a h reads) in
-        sym (found-content p proper m s sound A holds t w mine a h reads there)))
+        sym (found-content p proper eq m s sound A holds t w mine a h reads there)))
 
     -- what it writes has its result as content
-    pub end-content-own : (c : Cell) → has_cell (written_cells p t w) c ≡ true → content p s' c ≡ result_in p t w (held_at A (AtNode (node_of m w))) c
+    pub end-content-own : (c : Cell) → has_cell (written_cells p t w) c ≡ true → content eq p s' c ≡ result_in eq p t w (held_at A (AtNode (node_of m w))) c
     end-content-own c writes =
         let cs = written_cells p t w in
-        let arrays = results p t w (held_at A (AtNode (node_of m w))) in
-        let complete = results-complete p t w (held_at A (AtNode (node_of m w))) (proper.codelets t.0 no_task end-inside) in
+        let arrays = results eq p t w (held_at A (AtNode (node_of m w))) in
+        let complete = results-complete eq p t w (held_at A (AtNode (node_of m w))) (task-fits p proper t end-inside) (task-makes_tiles eq has p proper lawful t end-inside) in
         end-content c
-        ∙ held-append p (zip cs (results p t w (content p s))) (after_chosen p (done_in s) (done_by s) (length p.tasks)) c
-        ∙ ap (λ (xs : List Array). held_over (zip cs xs) c (content p s c)) end-results
-        ∙ held_over-own cs arrays c (content p s c) (zeros (dims_of p c)) writes (omega (arith, complete))
+        ∙ held-append p (zip cs (results eq p t w (content eq p s))) (after_chosen eq p (done_in s) (done_by s) (length p.tasks)) c
+        ∙ ap (λ (xs : List Array). held_over (zip cs xs) c (content eq p s c)) end-results
+        ∙ held_over-own cs arrays c (content eq p s c) (zeros (dims_of p c)) writes (omega (arith, complete))
 
 -- ---- which tasks have written a cell
 
@@ -265,26 +263,26 @@ module _ (p : Program) (m : Machine) (s : State) (h : IsSound p m s) (t : Task) 
   pub Ends-coherent : Coherent p m s'
   Ends-coherent = Changes-coherent p m s h s' t (Running w) (Done w) w end-change end-writers end-copies
 
-  -- ---- contents, where a task with which no later one conflicts may be put last
+  -- ---- contents, by the laws of the program's set
 
-  module _ (puts_last : PutsLast p) (A : Arrays) (holds : HoldsContent p m s A) where
+  module _ (eq : Equations) (has : Kernel → Bool) (lawful : IsLawful eq has p) (A : Arrays) (holds : HoldsContent eq p m s A) where
     abbrev ended_with : Arrays
-    ended_with = arrays_after p m A (End t w)
+    ended_with = arrays_after eq p m A (End t w)
 
     -- what the task doesn't write keeps its array and its content
     same_array : (c : Cell) (q : Place) → has_cell (written_cells p t w) c ≡ false → ended_with c q ≡ A c q
-    same_array c q spared = second_fails (same_place q (AtNode (node_of m w))) (has_cell (written_cells p t w) c) (result_in p t w (held_at A (AtNode (node_of m w))) c) (A c q) spared
+    same_array c q spared = second_fails (same_place q (AtNode (node_of m w))) (has_cell (written_cells p t w) c) (result_in eq p t w (held_at A (AtNode (node_of m w))) c) (A c q) spared
 
-    spared-content : (c : Cell) → has_cell (written_cells p t w) c ≡ false → content p s' c ≡ content p s c
-    spared-content c spared = end-content-other p m h.proper puts_last s h.coherent t w s' ended leaves c spared
+    spared-content : (c : Cell) → has_cell (written_cells p t w) c ≡ false → content eq p s' c ≡ content eq p s c
+    spared-content c spared = end-content-other eq has p m h.proper lawful s h.coherent t w s' ended leaves c spared
 
     -- what it writes has its result as content where it is valid, which is on its worker's node
-    own_array : (c : Cell) (q : Place) → has_cell (written_cells p t w) c ≡ true → has_copy p m s c q ≡ true → ended_with c q ≡ content p s' c
+    own_array : (c : Cell) (q : Place) → has_cell (written_cells p t w) c ≡ true → has_copy p m s c q ≡ true → ended_with c q ≡ content eq p s' c
     own_array c q written valid =
-        both_pass (same_place q (AtNode (node_of m w))) (has_cell (written_cells p t w) c) (result_in p t w (held_at A (AtNode (node_of m w))) c) (A c q) (owned-here p m s c w (owned c written) q valid) written
-        ∙ sym (end-content-own p m h.proper puts_last s h.coherent t w s' ended leaves A holds c written)
+        both_pass (same_place q (AtNode (node_of m w))) (has_cell (written_cells p t w) c) (result_in eq p t w (held_at A (AtNode (node_of m w))) c) (A c q) (owned-here p m s c w (owned c written) q valid) written
+        ∙ sym (end-content-own eq has p m h.proper lawful s h.coherent t w s' ended leaves A holds c written)
 
-    pub Ends-content : HoldsContent p m s' ended_with
+    pub Ends-content : HoldsContent eq p m s' ended_with
     Ends-content = record {
       begun = λ u v c runs written.
           (let other : u ≢ t = λ e. (let clash : Done w ≡ Running v = sym advance.is ∙ ap (λ (k : Task). progress s' k) (sym e) ∙ runs in cc) in

@@ -1,5 +1,6 @@
 -- What a claimed or running task finds in the cells whose old value it reads; and which cells no running task writes, before
 -- and after a step.
+use Rattle.sj_codelet.specs.Kernel.{Equations}
 use Rattle.std.proofs.Common.{Bool, ap, arith, cond, false, inl, inr, length, not, sym, true, ◌&&◌, ◌<◌, ◌∙◌, refl, if◌then◌else◌}
 use Rattle.std.proofs.Common.{◌≡◌, Contains, count_by}
 use Rattle.sj_core.proofs.Words.{Access, Array, Cell, Machine, Program, Progress, Running, State, Task, Worker, zeros, dims_of, fresh_cells, node_of, Place, AtNode, has_copy}
@@ -87,10 +88,10 @@ second_fails true b x y e = ap (λ c. cond c x y) e
 second_fails false b x y e = refl
 
 -- where no array changes, no task more runs or is done, and there are no more copies, the arrays are what they ought to be
-pub HoldsContent-kept : (p : Program) (m : Machine) (s s' : State) (A A' : Arrays) → ((c : Cell) (q : Place) → A' c q ≡ A c q) → ((t : Task) (w : Worker) → progress s' t ≡ Running w → progress s t ≡ Running w) →
-    ((c : Cell) → content p s' c ≡ content p s c) → ((c : Cell) → writes s' c ≡ writes s c) → ((c : Cell) → is_being_written p s' c ≡ false → is_being_written p s c ≡ false) →
-    ((c : Cell) (q : Place) → has_copy p m s' c q ≡ true → has_copy p m s c q ≡ true) → HoldsContent p m s A → HoldsContent p m s' A'
-HoldsContent-kept p m s s' A A' same runs contents count rested was holds = record {
+pub HoldsContent-kept : (eq : Equations) (p : Program) (m : Machine) (s s' : State) (A A' : Arrays) → ((c : Cell) (q : Place) → A' c q ≡ A c q) → ((t : Task) (w : Worker) → progress s' t ≡ Running w → progress s t ≡ Running w) →
+    ((c : Cell) → content eq p s' c ≡ content eq p s c) → ((c : Cell) → writes s' c ≡ writes s c) → ((c : Cell) → is_being_written p s' c ≡ false → is_being_written p s c ≡ false) →
+    ((c : Cell) (q : Place) → has_copy p m s' c q ≡ true → has_copy p m s c q ≡ true) → HoldsContent eq p m s A → HoldsContent eq p m s' A'
+HoldsContent-kept eq p m s s' A A' same runs contents count rested was holds = record {
   begun = λ t w c running written. same c (AtNode (node_of m w)) ∙ holds.begun t w c (runs t w running) written ∙ ap (λ (a : Array). cond (has_cell (fresh_cells p t w) c) (zeros (dims_of p c)) a) (sym (contents c));
   alike = λ c q some resting valid. same c q ∙ holds.alike c q (omega (arith, count c, some)) (rested c resting) (was c q valid) ∙ sym (contents c);
 }

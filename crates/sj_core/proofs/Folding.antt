@@ -1,4 +1,5 @@
 -- What cells hold after tasks in submission order: on which tasks it depends, and that a task may come last.
+use Rattle.sj_codelet.specs.Kernel.{Equations}
 use Rattle.std.proofs.Common.{Bool, List, None, Some, [], ap, arith, cond, false, inl, inr, length, not, refl, suc}
 use Rattle.std.proofs.Common.{sym, true, zero, ℕ, ◌++◌, ◌<◌, ◌||◌, ◌∙◌, ◌∷◌, ◌≡◌, ◌≢◌, ◌≤◌, Contains, find, zip}
 use Rattle.sj_core.proofs.Words.{Access, Array, Cell, Program, Task, Worker, cells_of, has_cell, results, same_cell}
@@ -41,12 +42,12 @@ held_over-own (d ∷ cs) (a ∷ arrays) c x y h l = by_first (same_cell d c) h (
 -- ---- one task
 
 -- a task leaves what a cell holds that it doesn't write
-pub after_task-other : (p : Program) (w : Worker) (t : Task) (before : Contents) (c : Cell) → has_cell (written_cells p t w) c ≡ false → held_in p (after_task p w t before) c ≡ held_in p before c
-after_task-other p w t before c h = search (arith, held-append, held_over-other)
+pub after_task-other : (eq : Equations) (p : Program) (w : Worker) (t : Task) (before : Contents) (c : Cell) → has_cell (written_cells p t w) c ≡ false → held_in p (after_task eq p w t before) c ≡ held_in p before c
+after_task-other eq p w t before c h = search (arith, held-append, held_over-other)
 
 -- a task's results depend on what it finds in the cells whose old value it reads
-pub results-same : (p : Program) (t : Task) (v w : Worker) (held held' : Cell → Array) → ((a : Access) → Contains (task_of p t).accesses a → starts_as_zeros a.mode ≡ false → held (worked_on p v a) ≡ held' (worked_on p w a)) → results p t v held ≡ results p t w held'
-results-same p t v w held held' same = search (arith, map-agree)
+pub results-same : (eq : Equations) (p : Program) (t : Task) (v w : Worker) (held held' : Cell → Array) → ((a : Access) → Contains (task_of p t).accesses a → starts_as_zeros a.mode ≡ false → held (worked_on p v a) ≡ held' (worked_on p w a)) → results eq p t v held ≡ results eq p t w held'
+results-same eq p t v w held held' same = search (arith, map-agree)
 
 -- a cell whose old value a task reads is one of its cells
 pub read-among_cells : (p : Program) (t : Task) (w : Worker) (a : Access) → Contains (task_of p t).accesses a → starts_as_zeros a.mode ≡ false → has_cell (cells_of p t w) (worked_on p w a) ≡ true
@@ -61,14 +62,14 @@ pub written_cells-alike : (p : Program) (t : Task) (v w : Worker) → WorksAlike
 written_cells-alike p t v w alike = search (arith, map-agree, Contains-from_filter)
 
 -- after a task a cell holds alike what it and the task's cells held alike
-pub after_task-same : (p : Program) (t : Task) (v w : Worker) (before before' : Contents) (c : Cell) → WorksAlike p t v w → ((d : Cell) → has_cell (cells_of p t v) d ≡ true → held_in p before d ≡ held_in p before' d) → held_in p before c ≡ held_in p before' c →
-    held_in p (after_task p v t before) c ≡ held_in p (after_task p w t before') c
-after_task-same p t v w before before' c alike same here =
+pub after_task-same : (eq : Equations) (p : Program) (t : Task) (v w : Worker) (before before' : Contents) (c : Cell) → WorksAlike p t v w → ((d : Cell) → has_cell (cells_of p t v) d ≡ true → held_in p before d ≡ held_in p before' d) → held_in p before c ≡ held_in p before' c →
+    held_in p (after_task eq p v t before) c ≡ held_in p (after_task eq p w t before') c
+after_task-same eq p t v w before before' c alike same here =
     let cs = written_cells p t v in
     let cs' = written_cells p t w in
-    let arrays = results p t v (held_in p before) in
-    let arrays' = results p t w (held_in p before') in
-    let finds : arrays ≡ arrays' = results-same p t v w (held_in p before) (held_in p before') (λ a h reads. same (worked_on p v a) (read-among_cells p t v a h reads) ∙ ap (held_in p before') (alike a h)) in
+    let arrays = results eq p t v (held_in p before) in
+    let arrays' = results eq p t w (held_in p before') in
+    let finds : arrays ≡ arrays' = results-same eq p t v w (held_in p before) (held_in p before') (λ a h reads. same (worked_on p v a) (read-among_cells p t v a h reads) ∙ ap (held_in p before') (alike a h)) in
     held-append p (zip cs arrays) before c
     ∙ ap (λ (ds : List Cell). held_over (zip ds arrays) c (held_in p before c)) (written_cells-alike p t v w alike)
     ∙ ap (λ (xs : List Array). held_over (zip cs' xs) c (held_in p before c)) finds
@@ -78,24 +79,24 @@ after_task-same p t v w before before' c alike same here =
 -- ---- which tasks
 
 -- contents depend on which tasks below n are chosen, and on the workers of those
-pub after_chosen-same : (p : Program) (chosen chosen' : Task → Bool) (by by' : Task → Worker) (n : ℕ) → ((u : Task) → u.0 < n → chosen u ≡ chosen' u) → ((u : Task) → u.0 < n → chosen u ≡ true → by u ≡ by' u) → after_chosen p chosen by n ≡ after_chosen p chosen' by' n
-after_chosen-same p chosen chosen' by by' zero same workers = refl
-after_chosen-same p chosen chosen' by by' (suc n) same workers =
-    search (arith, task, after_chosen-same p chosen chosen' by by' n (λ u h. same u (omega arith)) (λ u h. workers u (omega arith)))
+pub after_chosen-same : (eq : Equations) (p : Program) (chosen chosen' : Task → Bool) (by by' : Task → Worker) (n : ℕ) → ((u : Task) → u.0 < n → chosen u ≡ chosen' u) → ((u : Task) → u.0 < n → chosen u ≡ true → by u ≡ by' u) → after_chosen eq p chosen by n ≡ after_chosen eq p chosen' by' n
+after_chosen-same eq p chosen chosen' by by' zero same workers = refl
+after_chosen-same eq p chosen chosen' by by' (suc n) same workers =
+    search (arith, task, after_chosen-same eq p chosen chosen' by by' n (λ u h. same u (omega arith)) (λ u h. workers u (omega arith)))
 
 -- where no chosen task from a on writes a cell, it holds what it held after the tasks below a
-pub held-until : (p : Program) (chosen : Task → Bool) (by : Task → Worker) (c : Cell) (a n : ℕ) → a ≤ n → ((u : Task) → a ≤ u.0 → u.0 < n → chosen u ≡ true → has_cell (written_cells p u (by u)) c ≡ false) →
-    held_in p (after_chosen p chosen by n) c ≡ held_in p (after_chosen p chosen by a) c
-held-until p chosen by c a zero l spared = ap (λ k. held_in p (after_chosen p chosen by k) c) (let e : zero ≡ a = omega arith in e)
-held-until p chosen by c a (suc n) l spared =
+pub held-until : (eq : Equations) (p : Program) (chosen : Task → Bool) (by : Task → Worker) (c : Cell) (a n : ℕ) → a ≤ n → ((u : Task) → a ≤ u.0 → u.0 < n → chosen u ≡ true → has_cell (written_cells p u (by u)) c ≡ false) →
+    held_in p (after_chosen eq p chosen by n) c ≡ held_in p (after_chosen eq p chosen by a) c
+held-until eq p chosen by c a zero l spared = ap (λ k. held_in p (after_chosen eq p chosen by k) c) (let e : zero ≡ a = omega arith in e)
+held-until eq p chosen by c a (suc n) l spared =
     elim (cases_lt n a) [
-      | inl past ↦ ap (λ k. held_in p (after_chosen p chosen by k) c) (let e : suc n ≡ a = omega arith in e)
-      | inr before ↦ by_choice (chosen (task n)) refl (λ e. spared (task n) before (omega arith) e) ∙ held-until p chosen by c a n before (λ u h k. spared u h (omega arith))
+      | inl past ↦ ap (λ k. held_in p (after_chosen eq p chosen by k) c) (let e : suc n ≡ a = omega arith in e)
+      | inr before ↦ by_choice (chosen (task n)) refl (λ e. spared (task n) before (omega arith) e) ∙ held-until eq p chosen by c a n before (λ u h k. spared u h (omega arith))
     ]
   where
     by_choice : (b : Bool) → chosen (task n) ≡ b → (chosen (task n) ≡ true → has_cell (written_cells p (task n) (by (task n))) c ≡ false) →
-        held_in p (cond b (after_task p (by (task n)) (task n) (after_chosen p chosen by n)) (after_chosen p chosen by n)) c ≡ held_in p (after_chosen p chosen by n) c
-    by_choice true e other = after_task-other p (by (task n)) (task n) (after_chosen p chosen by n) c (other e)
+        held_in p (cond b (after_task eq p (by (task n)) (task n) (after_chosen eq p chosen by n)) (after_chosen eq p chosen by n)) c ≡ held_in p (after_chosen eq p chosen by n) c
+    by_choice true e other = after_task-other eq p (by (task n)) (task n) (after_chosen eq p chosen by n) c (other e)
     by_choice false e other = refl
 
 -- ---- the cone of a cell
@@ -111,9 +112,9 @@ abbrev pub HasWriters : Program → (Task → Bool) → (Task → Bool) → (Tas
 HasWriters p chosen wider by' n c = (u : Task) → u.0 < n → wider u ≡ true → has_cell (written_cells p u (by' u)) c ≡ true → chosen u ≡ true
 
 -- a cell all of whose writers are in a cone holds the same after the tasks of the cone alone
-pub cone-holds : (p : Program) (chosen wider : Task → Bool) (by by' : Task → Worker) (n : ℕ) → IsCone p chosen wider by by' n → (c : Cell) → HasWriters p chosen wider by' n c → held_in p (after_chosen p chosen by n) c ≡ held_in p (after_chosen p wider by' n) c
-cone-holds p chosen wider by by' zero k c writers = refl
-cone-holds p chosen wider by by' (suc n) k c writers = by_choice (chosen t) (wider t) refl refl (cone-holds p chosen wider by by' n below)
+pub cone-holds : (eq : Equations) (p : Program) (chosen wider : Task → Bool) (by by' : Task → Worker) (n : ℕ) → IsCone p chosen wider by by' n → (c : Cell) → HasWriters p chosen wider by' n c → held_in p (after_chosen eq p chosen by n) c ≡ held_in p (after_chosen eq p wider by' n) c
+cone-holds eq p chosen wider by by' zero k c writers = refl
+cone-holds eq p chosen wider by by' (suc n) k c writers = by_choice (chosen t) (wider t) refl refl (cone-holds eq p chosen wider by by' n below)
   where
     t : Task
     t = task n
@@ -121,17 +122,17 @@ cone-holds p chosen wider by by' (suc n) k c writers = by_choice (chosen t) (wid
     below : IsCone p chosen wider by by' n
     below = record { within = λ u h. k.within u (omega arith); alike = λ u h. k.alike u (omega arith); closed = λ u v d before h. k.closed u v d before (omega arith) }
 
-    by_choice : (a b : Bool) → chosen (task n) ≡ a → wider (task n) ≡ b → ((d : Cell) → HasWriters p chosen wider by' n d → held_in p (after_chosen p chosen by n) d ≡ held_in p (after_chosen p wider by' n) d) →
-        held_in p (cond a (after_task p (by (task n)) (task n) (after_chosen p chosen by n)) (after_chosen p chosen by n)) c ≡ held_in p (cond b (after_task p (by' (task n)) (task n) (after_chosen p wider by' n)) (after_chosen p wider by' n)) c
+    by_choice : (a b : Bool) → chosen (task n) ≡ a → wider (task n) ≡ b → ((d : Cell) → HasWriters p chosen wider by' n d → held_in p (after_chosen eq p chosen by n) d ≡ held_in p (after_chosen eq p wider by' n) d) →
+        held_in p (cond a (after_task eq p (by (task n)) (task n) (after_chosen eq p chosen by n)) (after_chosen eq p chosen by n)) c ≡ held_in p (cond b (after_task eq p (by' (task n)) (task n) (after_chosen eq p wider by' n)) (after_chosen eq p wider by' n)) c
     by_choice true true e f rest =
-        after_task-same p (task n) (by (task n)) (by' (task n)) (after_chosen p chosen by n) (after_chosen p wider by' n) c
+        after_task-same eq p (task n) (by (task n)) (by' (task n)) (after_chosen eq p chosen by n) (after_chosen eq p wider by' n) c
         (k.alike (task n) (omega arith) e)
         (λ d has. rest d (λ u h among writes. k.closed u (task n) d h (omega arith) e among writes has))
         (rest c (λ u h. writers u (omega arith)))
     by_choice true false e f rest = absurd (false≢true (sym f ∙ k.within (task n) (omega arith) e))
     by_choice false true e f rest =
         let other = false_from_ne_true (has_cell (written_cells p (task n) (by' (task n))) c) (λ writes. false≢true (sym e ∙ writers (task n) (omega arith) f writes)) in
-        rest c (λ u h. writers u (omega arith)) ∙ sym (after_task-other p (by' (task n)) (task n) (after_chosen p wider by' n) c other)
+        rest c (λ u h. writers u (omega arith)) ∙ sym (after_task-other eq p (by' (task n)) (task n) (after_chosen eq p wider by' n) c other)
     by_choice false false e f rest = rest c (λ u h. writers u (omega arith))
 
 -- ---- one task more

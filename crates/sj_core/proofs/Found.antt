@@ -1,4 +1,5 @@
 -- What a claimed or running task finds where it works, whatever the modes: the content of each cell whose old value it reads.
+use Rattle.sj_codelet.specs.Kernel.{Equations}
 use Rattle.std.proofs.Common.{arith, Bool, ap, false, not, refl, subst, sym, true, ◌<◌, ◌∙◌, ◌≡◌, ◌⊎◌, Contains, IsTrue, cond}
 use Rattle.sj_core.proofs.Words.{Access, AtNode, Cell, Codelet, Machine, Mode, Program, R, Running, State, Task, W}
 use Rattle.sj_core.proofs.Words.{Worker, Write, cells_of, data_operands, dims_of, fresh_cells, has_cell}
@@ -48,13 +49,13 @@ module _ (p : Program) (proper : Proper p) where
       by_places : (a b : Access) → starts_as_zeros a.mode ≡ false → starts_as_zeros b.mode ≡ true → a.cell ≡ b.cell → ((a ≡ b) ⊎ ((IsTrue (same_cell a.cell b.cell) → (a.mode ≡ R) × (b.mode ≡ R)) ⊎ (IsTrue (same_cell b.cell a.cell) → (b.mode ≡ R) × (a.mode ≡ R)))) → ⊥
       by_places a b reads fresh e x = search (arith, false≢true, read_isn't_fresh, same_cell-from)
 
-  module _ (m : Machine) (s : State) (sound : Coherent p m s) (A : Arrays) (holds : HoldsContent p m s A) (t : Task) (w : Worker) (mine : is_task_of w (progress s t) ≡ true) where
+  module _ (eq : Equations) (m : Machine) (s : State) (sound : Coherent p m s) (A : Arrays) (holds : HoldsContent eq p m s A) (t : Task) (w : Worker) (mine : is_task_of w (progress s t) ≡ true) where
     task-staffed : w.0 < p.workers
     task-staffed = worker-inside p m proper.cells (Proper-dependencies p proper) s sound.state sound.workers sound.order t w mine
 
     -- a task finds the content of each cell whose old value it reads
     pub found-content : (a : Access) → Contains (task_of p t).accesses a → starts_as_zeros a.mode ≡ false → is_valid (mark s (worked_on p w a) (node_of m w)) ≡ true →
-        A (worked_on p w a) (AtNode (node_of m w)) ≡ content p s (worked_on p w a)
+        A (worked_on p w a) (AtNode (node_of m w)) ≡ content eq p s (worked_on p w a)
     found-content a h reads valid = by_kind (is_running_on w (progress s t)) refl (has_cell (written_cells p t w) (worked_on p w a)) refl
       where
         c : Cell
@@ -66,14 +67,14 @@ module _ (p : Program) (proper : Proper p) where
         not_fresh : has_cell (fresh_cells p t w) c ≡ false
         not_fresh = found-not_fresh t w task-staffed a h reads
 
-        shared : (progress s t ≡ Running w → has_cell (written_cells p t w) c ≡ false) → A c (AtNode (node_of m w)) ≡ content p s c
+        shared : (progress s t ≡ Running w → has_cell (written_cells p t w) c ≡ false) → A c (AtNode (node_of m w)) ≡ content eq p s c
         shared spared =
             let earlier = sound.order.earlier t (active-begun (progress s t) (task_of-active w (progress s t) mine)) in
             let resting = not_being_written p m proper (Proper-dependencies p proper) s sound t w c mine has spared in
             let some = old_value-written p proper s t w (operand-inside p t a h) task-staffed earlier c sound.counts has not_fresh in
             holds.alike c (AtNode (node_of m w)) some resting valid
 
-        by_kind : (x : Bool) → is_running_on w (progress s t) ≡ x → (y : Bool) → has_cell (written_cells p t w) c ≡ y → A c (AtNode (node_of m w)) ≡ content p s c
-        by_kind true e true f = holds.begun t w c (running_on-is w (progress s t) e) f ∙ ap (λ b. cond b (zeros (dims_of p c)) (content p s c)) not_fresh
+        by_kind : (x : Bool) → is_running_on w (progress s t) ≡ x → (y : Bool) → has_cell (written_cells p t w) c ≡ y → A c (AtNode (node_of m w)) ≡ content eq p s c
+        by_kind true e true f = holds.begun t w c (running_on-is w (progress s t) e) f ∙ ap (λ b. cond b (zeros (dims_of p c)) (content eq p s c)) not_fresh
         by_kind true e false f = shared (λ runs. f)
         by_kind false e y f = shared (λ runs. absurd (false≢true (sym e ∙ ap (is_running_on w) runs ∙ same_worker-refl w)))

@@ -1,5 +1,6 @@
 -- What a task finds where it works: the contents of its cells; and in a settled cell of an access in order what all tasks
 -- before it leave, in submission order. Where all tasks are done, cells hold what all tasks leave.
+use Rattle.sj_codelet.specs.Kernel.{Equations}
 use Rattle.std.proofs.Common.{Bool, List, [], ap, arith, false, get_or, inl, inr, length, map, not, refl, subst, sym}
 use Rattle.std.proofs.Common.{true, ℕ, ◌<◌, ◌||◌, ◌∙◌, ◌∷◌, ◌≡◌, ◌≢◌, ◌&&◌, ◌⊎◌, Contains, filter, slice_index_or}
 use Rattle.std.proofs.Common.{IsTrue, is_some}
@@ -82,20 +83,20 @@ module _ (p : Program) (m : Machine) (s : State) (h : IsSound p m s) where
   staffed = all-staffed p s some_worker h.coherent.state.staff
 
   -- each operand whose old value is read is found as the content of the cell that is worked on
-  pub finds-content : (A : Arrays) → HoldsContent p m s A → (t : Task) (w : Worker) (a : Access) → Contains (task_of p t).accesses a → IsTrue (reads_value a.mode) → HasAtHand m s t w (worked_on p w a) → A (worked_on p w a) (AtNode (node_of m w)) ≡ content p s (worked_on p w a)
-  finds-content A holds t w a among reads (Works running) = found-content p h.proper m s h.coherent A holds t w (ap (is_task_of w) running ∙ same_worker-refl w) a among (ap not reads) (h.coherent.cells.running t w (worked_on p w a) running (read-among_cells p t w a among (ap not reads)))
-  finds-content A holds t w a among reads (Brought claimed valid) = found-content p h.proper m s h.coherent A holds t w (ap (is_task_of w) claimed ∙ ap (λ b. b || false) (same_worker-refl w)) a among (ap not reads) valid
+  pub finds-content : (eq : Equations) (A : Arrays) → HoldsContent eq p m s A → (t : Task) (w : Worker) (a : Access) → Contains (task_of p t).accesses a → IsTrue (reads_value a.mode) → HasAtHand m s t w (worked_on p w a) → A (worked_on p w a) (AtNode (node_of m w)) ≡ content eq p s (worked_on p w a)
+  finds-content eq A holds t w a among reads (Works running) = found-content p h.proper eq m s h.coherent A holds t w (ap (is_task_of w) running ∙ same_worker-refl w) a among (ap not reads) (h.coherent.cells.running t w (worked_on p w a) running (read-among_cells p t w a among (ap not reads)))
+  finds-content eq A holds t w a among reads (Brought claimed valid) = found-content p h.proper eq m s h.coherent A holds t w (ap (is_task_of w) claimed ∙ ap (λ b. b || false) (same_worker-refl w)) a among (ap not reads) valid
 
-  module _ (has : Kernel → Bool) (lawful : IsLawful has p) where
+  module _ (eq : Equations) (has : Kernel → Bool) (lawful : IsLawful eq has p) where
     -- the content of a settled cell of an access in order is what the cell holds after all tasks before
-    content-settled : (t : Task) (w : Worker) → w.0 < p.workers → (a : Access) → Contains (task_of p t).accesses a → not (is_scratch a.mode) ≡ true → is_in_order a.mode ≡ true → done_in s t ≡ false → EarlierAreDone p s t → IsSettled p t.0 a.cell → content p s a.cell ≡ held_before p t.0 a.cell
+    content-settled : (t : Task) (w : Worker) → w.0 < p.workers → (a : Access) → Contains (task_of p t).accesses a → not (is_scratch a.mode) ≡ true → is_in_order a.mode ≡ true → done_in s t ≡ false → EarlierAreDone p s t → IsSettled p t.0 a.cell → content eq p s a.cell ≡ held_before eq p t.0 a.cell
     content-settled t w w_in a among accessed in_order undone earlier settled =
-        held-until p (done_in s) (done_by s) a.cell t.0 (length p.tasks) (omega (arith, inside)) (λ u l k done. false_from_ne_true (has_cell (written_cells p u (done_by s u)) a.cell) (λ writes.
+        held-until eq p (done_in s) (done_by s) a.cell t.0 (length p.tasks) (omega (arith, inside)) (λ u l k done. false_from_ne_true (has_cell (written_cells p u (done_by s u)) a.cell) (λ writes.
         (let differ : t.0 ≢ u.0 = λ e. false≢true (sym undone ∙ ap (λ (n : ℕ). done_in s (record { 0 = n })) e ∙ done) in
         later-free p s t h.coherent.order undone u (omega (arith, differ)) done (Conflict-sym p u.0 t.0 (conflicts u k writes)))))
-        ∙ cone-shared has p h.proper lawful (done_by s) staffed (done_in s) t.0 (omega (arith, inside)) (λ u v before l done conflict. h.coherent.order.earlier v (done-begun (progress s v) done) u before conflict) a.cell
+        ∙ cone-shared eq has p h.proper lawful (done_by s) staffed (done_in s) t.0 (omega (arith, inside)) (λ u v before l done conflict. h.coherent.order.earlier v (done-begun (progress s v) done) u before conflict) a.cell
         (λ u l writes. earlier u l (conflicts u (omega (arith, l, inside)) writes))
-        ∙ workers-alike has p h.proper lawful t.0 (omega (arith, inside)) a.cell settled.plain settled.closed (done_by s) (λ u. record { 0 = 0 }) staffed (λ u. some_worker)
+        ∙ workers-alike eq has p h.proper lawful t.0 (omega (arith, inside)) a.cell settled.plain settled.closed (done_by s) (λ u. record { 0 = 0 }) staffed (λ u. some_worker)
       where
         inside : t.0 < length p.tasks
         inside = operand-inside p t a among
@@ -103,32 +104,32 @@ module _ (p : Program) (m : Machine) (s : State) (h : IsSound p m s) where
         conflicts : (u : Task) → u.0 < length p.tasks → has_cell (written_cells p u (done_by s u)) a.cell ≡ true → Conflict p u.0 t.0
         conflicts u u_in writes = in_order-conflicts p h.proper u t u_in inside (done_by s u) w (staffed u) w_in a among accessed in_order (ap (has_cell (written_cells p u (done_by s u))) (direct-cell p w a (plain_isn't_redux a.mode in_order)) ∙ writes)
 
-    pub finds-earlier : (A : Arrays) → HoldsContent p m s A → (t : Task) (w : Worker) (a : Access) → Contains (task_of p t).accesses a → IsTrue (reads_value a.mode) → IsTrue (is_in_order a.mode) → IsSettled p t.0 a.cell → HasAtHand m s t w a.cell → A a.cell (AtNode (node_of m w)) ≡ held_before p t.0 a.cell
+    pub finds-earlier : (A : Arrays) → HoldsContent eq p m s A → (t : Task) (w : Worker) (a : Access) → Contains (task_of p t).accesses a → IsTrue (reads_value a.mode) → IsTrue (is_in_order a.mode) → IsSettled p t.0 a.cell → HasAtHand m s t w a.cell → A a.cell (AtNode (node_of m w)) ≡ held_before eq p t.0 a.cell
     finds-earlier A holds t w a among reads in_order settled at_hand =
         let same = direct-cell p w a (plain_isn't_redux a.mode in_order) in
         ap (λ (c : Cell). A c (AtNode (node_of m w))) (sym same)
-        ∙ finds-content A holds t w a among reads (subst (HasAtHand m s t w) (sym same) at_hand)
-        ∙ ap (content p s) same
+        ∙ finds-content eq A holds t w a among reads (subst (HasAtHand m s t w) (sym same) at_hand)
+        ∙ ap (content eq p s) same
         ∙ by_hand at_hand
       where
-        by_progress : (x : Progress) → progress s t ≡ x → is_begun x ≡ true → is_done x ≡ false → worker_of x ≡ w → content p s a.cell ≡ held_before p t.0 a.cell
+        by_progress : (x : Progress) → progress s t ≡ x → is_begun x ≡ true → is_done x ≡ false → worker_of x ≡ w → content eq p s a.cell ≡ held_before eq p t.0 a.cell
         by_progress x e begins undone own =
             let begun = ap is_begun e ∙ begins in
             let w_in = subst (λ (v : Worker). v.0 < p.workers) (ap worker_of e ∙ own) (h.coherent.state.staff.staffed t begun) in
             content-settled t w w_in a among (reads_isn't_scratch a.mode (ap not reads)) in_order (ap is_done e ∙ undone) (h.coherent.order.earlier t begun) settled
 
-        by_hand : HasAtHand m s t w a.cell → content p s a.cell ≡ held_before p t.0 a.cell
+        by_hand : HasAtHand m s t w a.cell → content eq p s a.cell ≡ held_before eq p t.0 a.cell
         by_hand (Works running) = by_progress (Running w) running refl refl refl
         by_hand (Brought claimed valid) = by_progress (Claimed w) claimed refl refl refl
 
     -- a task with one R operand hands over what it is given
-    pub delivers-given : (A : Arrays) → HoldsContent p m s A → (t : Task) (w : Worker) (c : Cell) → (task_of p t).accesses ≡ access R c ∷ [] → HasAtHand m s t w c → A c (AtNode (node_of m w)) ≡ given p t
+    pub delivers-given : (A : Arrays) → HoldsContent eq p m s A → (t : Task) (w : Worker) (c : Cell) → (task_of p t).accesses ≡ access R c ∷ [] → HasAtHand m s t w c → A c (AtNode (node_of m w)) ≡ given eq p t
     delivers-given A holds t w c alone at_hand =
         let among : Contains (task_of p t).accesses (access R c) = subst (λ (xs : List Access). Contains xs (access R c)) (sym alone) (one (access R c)) in
         let v : Worker = record { 0 = 0 } in
         let named : cells_of p t v ≡ c ∷ [] = ap (λ (xs : List Access). map (worked_on p v) (filter (λ a. not (is_scratch a.mode)) xs)) alone in
         finds-earlier A holds t w (access R c) among refl refl (read-settled p h.proper t c alone) at_hand
-        ∙ ap (λ (cs : List Cell). held_before p t.0 (slice_index_or cs 0 (record { 0 = 0 }))) (sym named)
+        ∙ ap (λ (cs : List Cell). held_before eq p t.0 (slice_index_or cs 0 (record { 0 = 0 }))) (sym named)
 
   -- ---- where all tasks are done
 
@@ -149,13 +150,13 @@ module _ (p : Program) (m : Machine) (s : State) (h : IsSound p m s) where
         omega (arith, h.coherent.counts.counted c)
 
     -- the content of a cell that is no partial copy is what all tasks leave
-    all-content : (has : Kernel → Bool) → IsLawful has p → (c : Cell) → IsPlain p c → content p s c ≡ final p c
-    all-content has lawful c plain =
-        ap (λ z. held_in p z c) (after_chosen-same p (done_in s) (λ u. true) (done_by s) (done_by s) (length p.tasks) (λ u l. all-done u l) (λ u l e. refl))
-        ∙ workers-alike has p h.proper lawful (length p.tasks) (omega arith) c plain (λ f phase same. none-open p h.proper f phase) (done_by s) (λ u. record { 0 = 0 }) staffed (λ u. some_worker)
+    all-content : (eq : Equations) (has : Kernel → Bool) → IsLawful eq has p → (c : Cell) → IsPlain p c → content eq p s c ≡ final eq p c
+    all-content eq has lawful c plain =
+        ap (λ z. held_in p z c) (after_chosen-same eq p (done_in s) (λ u. true) (done_by s) (done_by s) (length p.tasks) (λ u l. all-done u l) (λ u l e. refl))
+        ∙ workers-alike eq has p h.proper lawful (length p.tasks) (omega arith) c plain (λ f phase same. none-open p h.proper f phase) (done_by s) (λ u. record { 0 = 0 }) staffed (λ u. some_worker)
 
-    pub complete-final : (A : Arrays) → HoldsContent p m s A → (has : Kernel → Bool) → IsLawful has p → HoldsFinal p m s A
-    complete-final A holds has lawful = record {
+    pub complete-final : (eq : Equations) (A : Arrays) → HoldsContent eq p m s A → (has : Kernel → Bool) → IsLawful eq has p → HoldsFinal eq p m s A
+    complete-final eq A holds has lawful = record {
       somewhere = λ t c gives. h.coherent.copies.somewhere c (all-written t c gives) (none-written c);
-      alike = λ t c q gives plain valid. holds.alike c q (all-written t c gives) (none-written c) valid ∙ all-content has lawful c plain;
+      alike = λ t c q gives plain valid. holds.alike c q (all-written t c gives) (none-written c) valid ∙ all-content eq has lawful c plain;
     }

@@ -1,4 +1,5 @@
 -- A move that begins, one that ends, and a drop leave a coherent state.
+use Rattle.sj_codelet.specs.Kernel.{Equations}
 use Rattle.std.proofs.Common.{arith, length, List, Some, false, inl, inr, refl, sym, true, ◌∙◌, ◌≡◌, ap, subst, None, Option, not, ◌&&◌, ◌⊎◌, Bool, ◌<◌, ◌≢◌, IsTrue, cond}
 use Rattle.std.proofs.lemmas.List.{length-set}
 use Rattle.std.proofs.lemmas.Bool.{true≢false, and_from, false_from_ne_true, false≢true, and_parts, cases_Bool, not-true, or_parts}
@@ -297,11 +298,11 @@ module _ (p : Program) (m : Machine) (s : State) (h : IsSound p m s) (c : Cell) 
       Shifts-coherent p m s h claims.0 w (claimed_by-is w (progress s claims.0) claims.1) landed.cells landed.workers landed-shift
 
   -- what the cell holds where it came from it holds where it came to
-  module _ (A : Arrays) (holds : HoldsContent p m s A) where
+  module _ (eq : Equations) (A : Arrays) (holds : HoldsContent eq p m s A) where
     abbrev copied : Arrays
-    copied = arrays_after p m A (Moved c from to)
+    copied = arrays_after eq p m A (Moved c from to)
 
-    pub Ended_moves-content : HoldsContent p m landed copied
+    pub Ended_moves-content : HoldsContent eq p m landed copied
     Ended_moves-content = record {
       begun = λ u v x runs written.
           (let own = h.coherent.writers.owned u v x runs written in
@@ -408,5 +409,5 @@ module _ (p : Program) (m : Machine) (s : State) (h : IsSound p m s) (c : Cell) 
       Shifts-coherent p m s h claims.0 by.0 (claimed_by-is by.0 (progress s claims.0) claims.1) dropped.cells dropped.workers dropped-shift
 
   -- no array changes
-  pub Drops-content : (A A' : Arrays) → ((d : Cell) (q : Place) → A' d q ≡ A d q) → HoldsContent p m s A → HoldsContent p m dropped A'
-  Drops-content A A' same = HoldsContent-kept p m s dropped A A' same (λ t w runs. runs) (λ d. refl) (writes-same s c (with_mark (cell_state s c) n Invalid) refl) (λ d resting. resting) dropped-copy
+  pub Drops-content : (eq : Equations) (A A' : Arrays) → ((d : Cell) (q : Place) → A' d q ≡ A d q) → HoldsContent eq p m s A → HoldsContent eq p m dropped A'
+  Drops-content eq A A' same = HoldsContent-kept eq p m s dropped A A' same (λ t w runs. runs) (λ d. refl) (writes-same s c (with_mark (cell_state s c) n Invalid) refl) (λ d resting. resting) dropped-copy

@@ -1,4 +1,5 @@
 -- The opening state is coherent.
+use Rattle.sj_codelet.specs.Kernel.{Equations}
 use Rattle.std.proofs.Common.{Option, None, Some, List, [], ap, arith, cond, inl, inr, length}
 use Rattle.std.proofs.Common.{sym, true, ◌&&◌, ◌<◌, ◌∙◌, ◌≡◌, ◌⊎◌, count_by}
 use Rattle.sj_core.proofs.Words.{Cell, CellState, Invalid, Machine, Node, zeros, dims_of}
@@ -107,8 +108,8 @@ module _ (p : Program) (m : Machine) where
   }
 
   -- no cell was written, and none is
-  pub opening-content : HoldsContent p m (opening p m) (λ c q. zeros (dims_of p c))
-  opening-content = record {
+  pub opening-content : (eq : Equations) → HoldsContent eq p m (opening p m) (λ c q. zeros (dims_of p c))
+  opening-content eq = record {
     begun = λ t w c h has. absurd (not_task_of w t (ap (is_task_of w) h ∙ same_worker-refl w));
     alike = λ c q some resting valid. absurd (not_positive c some);
   }

@@ -1,22 +1,23 @@
 -- The phases of a program: which tasks contribute to a cell, and what stands between them.
-use Rattle.std.proofs.Common.{Bool, List, None, Option, Some, ap, arith, get_or, inl, inr, length, not, refl, subst}
-use Rattle.std.proofs.Common.{sym, true, ℕ, ◌<◌, ◌&&◌, ◌∙◌, ◌≡◌, ◌≢◌, ◌≤◌, ◌⊎◌, All, IsTrue, Contains}
+use Rattle.sj_codelet.specs.Kernel.{Equations}
+use Rattle.std.proofs.Common.{Bool, List, Some, ap, arith, get_or, inl, inr, length, not, refl, subst}
+use Rattle.std.proofs.Common.{sym, true, ℕ, ◌<◌, ◌&&◌, ◌∙◌, ◌≡◌, ◌≢◌, ◌≤◌, ◌⊎◌, All, Contains}
 use Rattle.sj_core.proofs.Words.{Access, Cell, Contribute, Kernel, Mode, Program, R, Read, Redux, Task, W, Worker}
-use Rattle.sj_core.proofs.Words.{copy_of, no_task, task_of, worked_on}
-use Rattle.std.proofs.lemmas.Bool.{and_from, cases_lt}
-use Rattle.std.proofs.lemmas.List.Elements.{All-contains, All-get_or, Contains-get_or}
+use Rattle.sj_core.proofs.Words.{copy_of, task_of, worked_on}
+use Rattle.std.proofs.lemmas.Bool.{and_from, and_parts, cases_lt}
+use Rattle.std.proofs.lemmas.List.Elements.{All-contains, Contains-get_or}
 use Rattle.sj_base.specs.Mode.{is_scratch, access}
 use Rattle.sj_base.specs.Ids.{task}
 use Rattle.sj_codelet.specs.Kernel.{combine_of, contributes_of, has_reduction, init_of, kernel_of}
-use Rattle.sj_codelet.specs.Laws.{DoesContribute, IsReduction}
+use Rattle.sj_codelet.specs.Laws.{DoesContribute}
 use Rattle.sj_deps.specs.Conflict.{Conflict, Uses}
-use Rattle.sj_core.specs.Laws.{IsLawful, is_known}
+use Rattle.sj_core.specs.Laws.{IsLawful}
 use Rattle.sj_core.specs.Proper.{IsContribution, IsCopyOf, IsFirstUnit, IsOfPhase, IsOpenAt, IsPhase, Phase, Proper}
 use Rattle.sj_core.specs.Proper.{task_number}
 use Rattle.sj_core.proofs.Dependencies.{Proper-dependencies, own-of_phase}
 use Rattle.sj_core.proofs.Updating.{ContributionsExchange, operand-used}
 use Rattle.sj_core.proofs.Sharing.{manner_of, redux-has_copies, contribute_isn't_read}
-use Rattle.sj_core.proofs.{Combining.contributing-exchange, TaskCells.operand-inside, Readiness.Contains-filter}
+use Rattle.sj_core.proofs.{Combining.Reduces, Combining.contributing-exchange, Sized.knows, TaskCells.operand-inside, Readiness.Contains-filter}
 
 module _ (p : Program) (proper : Proper p) where
   -- a task that contributes to a cell, with the phase to which it belongs
@@ -80,29 +81,27 @@ module _ (p : Program) (proper : Proper p) where
         by_kind (inl (inr (inr combine))) = absurd (own-of_phase p proper f phase k (inr combine) a h redux)
         by_kind (inr first) = let l : k < n = All-contains (λ i. k < i) f.contributions n first.before has in absurd (omega arith)
 
-  module _ (has : Kernel → Bool) (lawful : IsLawful has p) where
-    -- the set has the codelet of a task
-    pub knows : (t : Task) → t.0 < length p.tasks → (k : Kernel) → kernel_of (task_of p t).codelet ≡ Some k → has k ≡ true
-    knows t inside k e = sym (ap (λ (o : Option Kernel). elim o as (λ _. Bool) [ None ↦ Bool.false | Some kernel ↦ has kernel ]) e) ∙ All-get_or (λ l. IsTrue (is_known has l.codelet)) p.tasks t.0 no_task inside lawful.known
-
+  module _ (eq : Equations) (has : Kernel → Bool) (lawful : IsLawful eq has p) where
     module _ (f : Phase) (phase : IsPhase p f) (w : Worker) (staffed : w.0 < p.workers) where
-      -- and so it has the reduction of a phase
+      -- the set has the reduction of a phase
       pub knows-reduction : has_reduction has f.by ≡ true
       knows-reduction =
           let i = init_at f phase w staffed in
           let c = combine_at f phase w staffed in
           and_from (has (init_of f.by)) (has (combine_of f.by))
-          (knows (task i) (operand-inside p (task i) _ (init-reads f phase w staffed)) (init_of f.by) (phase.inits w staffed).codelet)
-          (knows (task c) (operand-inside p (task c) _ (combine-reads f phase w staffed)) (combine_of f.by) (phase.combines w staffed).codelet)
+          (knows eq has p proper lawful (task i) (operand-inside p (task i) _ (init-reads f phase w staffed)) (init_of f.by) (phase.inits w staffed).codelet)
+          (knows eq has p proper lawful (task c) (operand-inside p (task c) _ (combine-reads f phase w staffed)) (combine_of f.by) (phase.combines w staffed).codelet)
 
-      pub reduces : IsReduction f.by
-      reduces = lawful.reducing f.by knows-reduction
+      pub reduces : Reduces eq f.by
+      reduces =
+          let both = and_parts (has (init_of f.by)) (has (combine_of f.by)) knows-reduction in
+          record { law = lawful.reducing f.by knows-reduction; unit = lawful.making (init_of f.by) both.0 }
 
-      pub does_contribute : (t : Task) → t.0 < length p.tasks → (k : Kernel) → kernel_of (task_of p t).codelet ≡ Some k → contributes_of k f.by ≡ true → DoesContribute k f.by
-      does_contribute t inside k e h = lawful.contributing k f.by (and_from (has k && contributes_of k f.by) (has_reduction has f.by) (and_from (has k) (contributes_of k f.by) (knows t inside k e) h) knows-reduction)
+      pub does_contribute : (t : Task) → t.0 < length p.tasks → (k : Kernel) → kernel_of (task_of p t).codelet ≡ Some k → contributes_of k f.by ≡ true → DoesContribute eq k f.by
+      does_contribute t inside k e h = lawful.contributing k f.by (and_from (has k && contributes_of k f.by) (has_reduction has f.by) (and_from (has k) (contributes_of k f.by) (knows eq has p proper lawful t inside k e) h) knows-reduction)
 
     -- contributions of two tasks to one copy may be exchanged where they don't conflict
-    pub contributions-exchange : (t u : Task) (t_in : t.0 < length p.tasks) (u_in : u.0 < length p.tasks) (w v : Worker) → w.0 < p.workers → v.0 < p.workers → ¬ Conflict p t.0 u.0 → t.0 < u.0 → ContributionsExchange has p proper lawful t u w v
+    pub contributions-exchange : (t u : Task) (t_in : t.0 < length p.tasks) (u_in : u.0 < length p.tasks) (w v : Worker) → w.0 < p.workers → v.0 < p.workers → ¬ Conflict p t.0 u.0 → t.0 < u.0 → ContributionsExchange eq has p proper lawful t u w v
     contributions-exchange t u t_in u_in w v w_in v_in free before a b ta ub ra rb same j k ej ek =
         let q = worked_on p w a in
         let copy = copy-of t t_in w w_in a ta ra in
@@ -115,7 +114,7 @@ module _ (p : Program) (proper : Proper p) where
           | inl within ↦
               let later = contributes-between f of_t.is_phase w w_in t.0 u.0 b of_t.among before (omega (arith, within)) ub rb (sym cells ∙ sym of_t.cell) in
               let second = kernel-contributes u f k ek (All-contains (λ n. IsContribution f.by f.cell (task_number p n)) f.contributions u.0 of_t.is_phase.contributions later) in
-              contributing-exchange f.by (reduces f of_t.is_phase w w_in) j k own second (does_contribute f of_t.is_phase w w_in t t_in j ej own) (does_contribute f of_t.is_phase w w_in u u_in k ek second)
+              contributing-exchange eq f.by (reduces f of_t.is_phase w w_in) j k (lawful.making j (knows eq has p proper lawful t t_in j ej)) (lawful.making k (knows eq has p proper lawful u u_in k ek)) own second (does_contribute f of_t.is_phase w w_in t t_in j ej own) (does_contribute f of_t.is_phase w w_in u u_in k ek second)
           | inr past ↦ absurd (free (parted f of_t.is_phase of_t.cell copy.is past of_t.among))
         ]
       where

@@ -1,5 +1,6 @@
 -- Each step keeps coherence whole, and arrays what the tasks leave, and so does each legal trace; a complete one leaves what all
 -- tasks leave in submission order.
+use Rattle.sj_codelet.specs.Kernel.{Equations}
 use Rattle.std.proofs.Common.{Bool, List, [], ◌∷◌, ◌∙◌, fold, refl, sym}
 use Rattle.sj_core.proofs.Words.{AtNode, Claim, Drop, End, Event, Kernel, Machine, Move, Moved, OnDisk, Program, Run, zeros, dims_of}
 use Rattle.sj_core.proofs.Words.{Cell, Place, State, opening}
@@ -12,7 +13,7 @@ use Rattle.sj_core.proofs.Moving.{Ended_moves-keep_coherence}
 use Rattle.sj_core.proofs.Coherence.{Claims-keeps_coherence, Runs-keeps_coherence, Ends-keep_coherence}
 use Rattle.sj_core.proofs.{Given.complete-final, Opening.opening-coherent}
 use Rattle.sj_core.specs.Arrays.{Arrays, HoldsContent, arrays_after, arrays_of}
-use Rattle.sj_core.proofs.Ending.{Ends-content, lawful-puts_last}
+use Rattle.sj_core.proofs.Ending.{Ends-content}
 use Rattle.sj_core.proofs.Running.{Runs-content}
 use Rattle.sj_core.proofs.Opening.{opening-content}
 use Rattle.sj_core.proofs.Claiming.{Claims-content}
@@ -46,28 +47,28 @@ module _ (p : Program) (m : Machine) (proper : Proper p) (machine : IsMachineFor
   -- ---- arrays, by the laws of the program's set
 
   -- a move that begins changes no row and no array
-  move-content : (s : State) (A : Arrays) (x : Cell) (from to : Place) → HoldsContent p m s A → HoldsContent p m (after p m s (Move x from to)) (arrays_after p m A (Move x from to))
-  move-content s A x from to = HoldsContent-kept p m s (after p m s (Move x from to)) A (arrays_after p m A (Move x from to)) (λ y q. refl) (λ t w runs. runs) (λ y. refl) (λ y. refl) (λ y resting. resting) (λ y q copy. sym (copies-left p m s (after p m s (Move x from to)) y (left_alone s (after p m s (Move x from to)) y refl) q) ∙ copy)
+  move-content : (eq : Equations) (s : State) (A : Arrays) (x : Cell) (from to : Place) → HoldsContent eq p m s A → HoldsContent eq p m (after p m s (Move x from to)) (arrays_after eq p m A (Move x from to))
+  move-content eq s A x from to = HoldsContent-kept eq p m s (after p m s (Move x from to)) A (arrays_after eq p m A (Move x from to)) (λ y q. refl) (λ t w runs. runs) (λ y. refl) (λ y. refl) (λ y resting. resting) (λ y q copy. sym (copies-left p m s (after p m s (Move x from to)) y (left_alone s (after p m s (Move x from to)) y refl) q) ∙ copy)
 
-  module _ (has : Kernel → Bool) (lawful : IsLawful has p) where
-    pub Step-keeps_content : (s : State) (A : Arrays) (e : Event) → Coherent p m s → HoldsContent p m s A → May p m s e → HoldsContent p m (after p m s e) (arrays_after p m A e)
-    Step-keeps_content s A (Claim t w) c holds may = Claims-content p m s (sound p m proper machine s c) t w (after p m s (Claim t w)) may (evicted-after p m s t w) A (arrays_after p m A (Claim t w)) (λ x q. refl) holds
-    Step-keeps_content s A (Move x from (AtNode n)) c holds may = move-content s A x from (AtNode n) holds
-    Step-keeps_content s A (Move x (AtNode k) (OnDisk d)) c holds may = move-content s A x (AtNode k) (OnDisk d) holds
+  module _ (eq : Equations) (has : Kernel → Bool) (lawful : IsLawful eq has p) where
+    pub Step-keeps_content : (s : State) (A : Arrays) (e : Event) → Coherent p m s → HoldsContent eq p m s A → May p m s e → HoldsContent eq p m (after p m s e) (arrays_after eq p m A e)
+    Step-keeps_content s A (Claim t w) c holds may = Claims-content p m s (sound p m proper machine s c) t w (after p m s (Claim t w)) may (evicted-after p m s t w) eq A (arrays_after eq p m A (Claim t w)) (λ x q. refl) holds
+    Step-keeps_content s A (Move x from (AtNode n)) c holds may = move-content eq s A x from (AtNode n) holds
+    Step-keeps_content s A (Move x (AtNode k) (OnDisk d)) c holds may = move-content eq s A x (AtNode k) (OnDisk d) holds
     Step-keeps_content s A (Move x (OnDisk e) (OnDisk d)) c holds may = absurd (false≢true may)
-    Step-keeps_content s A (Moved x from to) c holds may = Ended_moves-content p m s (sound p m proper machine s c) x from to (mover_of s x from to) may A holds
-    Step-keeps_content s A (Drop x n) c holds may = Drops-content p m s (sound p m proper machine s c) x n may A (arrays_after p m A (Drop x n)) (λ y q. refl) holds
-    Step-keeps_content s A (Run t w) c holds may = Runs-content p m s (sound p m proper machine s c) t w (after p m s (Run t w)) may refl A holds
-    Step-keeps_content s A (End t w) c holds may = Ends-content p m s (sound p m proper machine s c) t w (after p m s (End t w)) may refl (lawful-puts_last has p proper lawful) A holds
+    Step-keeps_content s A (Moved x from to) c holds may = Ended_moves-content p m s (sound p m proper machine s c) x from to (mover_of s x from to) may eq A holds
+    Step-keeps_content s A (Drop x n) c holds may = Drops-content p m s (sound p m proper machine s c) x n may eq A (arrays_after eq p m A (Drop x n)) (λ y q. refl) holds
+    Step-keeps_content s A (Run t w) c holds may = Runs-content p m s (sound p m proper machine s c) t w (after p m s (Run t w)) may refl eq A holds
+    Step-keeps_content s A (End t w) c holds may = Ends-content p m s (sound p m proper machine s c) t w (after p m s (End t w)) may refl eq has lawful A holds
 
-    following-content : (trace : List Event) (s : State) (A : Arrays) → Coherent p m s → HoldsContent p m s A → CanFollow p m s trace → HoldsContent p m (fold (after p m) s trace) (fold (arrays_after p m) A trace)
+    following-content : (trace : List Event) (s : State) (A : Arrays) → Coherent p m s → HoldsContent eq p m s A → CanFollow p m s trace → HoldsContent eq p m (fold (after p m) s trace) (fold (arrays_after eq p m) A trace)
     following-content [] s A c holds follows = holds
-    following-content (e ∷ trace) s A c holds (may, rest) = following-content trace (after p m s e) (arrays_after p m A e) (Step-keeps_coherence s e c may) (Step-keeps_content s A e c holds may) rest
+    following-content (e ∷ trace) s A c holds (may, rest) = following-content trace (after p m s e) (arrays_after eq p m A e) (Step-keeps_coherence s e c may) (Step-keeps_content s A e c holds may) rest
 
     -- each legal trace leaves what the tasks leave
-    pub legal-content : (trace : List Event) → IsLegal p m trace → HoldsContent p m (state_of p m trace) (arrays_of p m trace)
-    legal-content trace legal = following-content trace (opening p m) (λ c q. zeros (dims_of p c)) (opening-coherent p m) (opening-content p m) legal
+    pub legal-content : (trace : List Event) → IsLegal p m trace → HoldsContent eq p m (state_of p m trace) (arrays_of eq p m trace)
+    legal-content trace legal = following-content trace (opening p m) (λ c q. zeros (dims_of p c)) (opening-coherent p m) (opening-content p m eq) legal
 
     -- where it is complete, the cells hold what all tasks leave in submission order
-    pub finished-final : (trace : List Event) → IsFinished p m trace → HoldsFinal p m (state_of p m trace) (arrays_of p m trace)
-    finished-final trace finished = complete-final p m (state_of p m trace) (sound p m proper machine (state_of p m trace) (legal-coherent trace finished.legal)) finished.complete (arrays_of p m trace) (legal-content trace finished.legal) has lawful
+    pub finished-final : (trace : List Event) → IsFinished p m trace → HoldsFinal eq p m (state_of p m trace) (arrays_of eq p m trace)
+    finished-final trace finished = complete-final p m (state_of p m trace) (sound p m proper machine (state_of p m trace) (legal-coherent trace finished.legal)) finished.complete eq (arrays_of eq p m trace) (legal-content trace finished.legal) has lawful

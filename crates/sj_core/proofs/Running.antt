@@ -1,4 +1,5 @@
 -- The beginning of a kernel's run leaves a coherent state.
+use Rattle.sj_codelet.specs.Kernel.{Equations}
 use Rattle.std.proofs.Common.{Bool, List, Some, arith, false, inl, inr, length, map, not, refl, sym, true, ℕ, ◌<◌, ◌||◌, ◌∙◌, ◌≡◌, ◌≢◌, ◌≤◌, ◌⊎◌, ap, subst, if◌then◌else◌, nat_eq, cond}
 use Rattle.std.proofs.lemmas.Bool.{cases_Bool, false_from_ne_true, false≢true, not-true, true_from_ne_false, cond_both}
 use Rattle.std.proofs.lemmas.Bool.Decides.{Decides-eqb}
@@ -231,53 +232,53 @@ module _ (p : Program) (m : Machine) (s : State) (h : IsSound p m s) (t : Task) 
 
   -- ---- contents
 
-  run-content : (c : Cell) → content p s' c ≡ content p s c
-  run-content = content-kept p s s' t (Claimed w) (Running w) advance refl refl
+  run-content : (eq : Equations) (c : Cell) → content eq p s' c ≡ content eq p s c
+  run-content eq = content-kept eq p s s' t (Claimed w) (Running w) advance refl refl
 
   -- what the task doesn't write isn't fresh
   pub run-stale : (c : Cell) → has_cell (written_cells p t w) c ≡ false → has_cell (fresh_cells p t w) c ≡ false
   run-stale c spared = false_from_ne_true (has_cell (fresh_cells p t w) c) (λ fresh. false≢true (sym spared ∙ fresh-among_written p t w c fresh))
 
-  module _ (A : Arrays) (holds : HoldsContent p m s A) where
+  module _ (eq : Equations) (A : Arrays) (holds : HoldsContent eq p m s A) where
     abbrev begun : Arrays
-    begun = arrays_after p m A (Run t w)
+    begun = arrays_after eq p m A (Run t w)
 
     same_array : (c : Cell) (q : Place) → has_cell (fresh_cells p t w) c ≡ false → begun c q ≡ A c q
     same_array c q stale = second_fails (same_place q (AtNode (node_of m w))) (has_cell (fresh_cells p t w) c) (zeros (dims_of p c)) (A c q) stale
 
     -- a written cell begins with zeros, or with what it ought to hold
-    own_array : (c : Cell) → has_cell (written_cells p t w) c ≡ true → begun c (AtNode (node_of m w)) ≡ written_content p s' t w c
+    own_array : (c : Cell) → has_cell (written_cells p t w) c ≡ true → begun c (AtNode (node_of m w)) ≡ written_content eq p s' t w c
     own_array c written = by_fresh (has_cell (fresh_cells p t w) c) refl
       where
         has : has_cell (cells_of p t w) c ≡ true
         has = written-among_cells p t w c written
 
-        by_fresh : (b : Bool) → has_cell (fresh_cells p t w) c ≡ b → begun c (AtNode (node_of m w)) ≡ written_content p s' t w c
+        by_fresh : (b : Bool) → has_cell (fresh_cells p t w) c ≡ b → begun c (AtNode (node_of m w)) ≡ written_content eq p s' t w c
         by_fresh true fresh =
             both_pass (same_place (AtNode (node_of m w)) (AtNode (node_of m w))) (has_cell (fresh_cells p t w) c) (zeros (dims_of p c)) (A c (AtNode (node_of m w))) (same_place-itself (AtNode (node_of m w))) fresh
-            ∙ sym (ap (λ b. cond b (zeros (dims_of p c)) (content p s' c)) fresh)
+            ∙ sym (ap (λ b. cond b (zeros (dims_of p c)) (content eq p s' c)) fresh)
         by_fresh false stale =
             same_array c (AtNode (node_of m w)) stale
             ∙ holds.alike c (AtNode (node_of m w)) (claimed-old_value p m s h t w run.claimed c has stale) (claimed-not_written p m s h t w run.claimed c has) (present c has stale)
-            ∙ sym (run-content c)
-            ∙ sym (ap (λ b. cond b (zeros (dims_of p c)) (content p s' c)) stale)
+            ∙ sym (run-content eq c)
+            ∙ sym (ap (λ b. cond b (zeros (dims_of p c)) (content eq p s' c)) stale)
 
-    pub Runs-content : HoldsContent p m s' begun
+    pub Runs-content : HoldsContent eq p m s' begun
     Runs-content = record {
       begun = λ u v c runs written. elim (same_task u t) [
         | inl e ↦
             let now : Running w ≡ Running v = sym (ap (λ (k : Task). progress s' k) e ∙ advance.is) ∙ runs in
             let is : w ≡ v = cc in
-            subst (λ (k : Task). begun c (AtNode (node_of m v)) ≡ written_content p s' k v c) (sym e) (subst (λ (x : Worker). begun c (AtNode (node_of m x)) ≡ written_content p s' t x c) is
+            subst (λ (k : Task). begun c (AtNode (node_of m v)) ≡ written_content eq p s' k v c) (sym e) (subst (λ (x : Worker). begun c (AtNode (node_of m x)) ≡ written_content eq p s' t x c) is
             (own_array c (ap (λ (x : Worker). has_cell (written_cells p t x) c) is ∙ ap (λ (k : Task). has_cell (written_cells p k v) c) (sym e) ∙ written)))
         | inr d ↦
             let was : progress s u ≡ Running v = sym (advance.others u d) ∙ runs in
             let spared = run-spares u v c d (ap (is_task_of v) was ∙ same_worker-refl v) (written-among_cells p u v c written) in
-            same_array c (AtNode (node_of m v)) (run-stale c spared) ∙ holds.begun u v c was written ∙ ap (λ (a : Array). cond (has_cell (fresh_cells p u v) c) (zeros (dims_of p c)) a) (sym (run-content c))
+            same_array c (AtNode (node_of m v)) (run-stale c spared) ∙ holds.begun u v c was written ∙ ap (λ (a : Array). cond (has_cell (fresh_cells p u v) c) (zeros (dims_of p c)) a) (sym (run-content eq c))
       ];
       alike = λ c q some resting valid.
           (let spared = run-spared c resting in
           same_array c q (run-stale c spared)
           ∙ holds.alike c q (omega (arith, run-writes p m s t w s' run leaves c, some)) (run-rested c resting) (sym (copies-left p m s s' c (run-other p m s t w s' run leaves c spared) q) ∙ valid)
-          ∙ sym (run-content c));
+          ∙ sym (run-content eq c));
     }

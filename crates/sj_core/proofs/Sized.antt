@@ -1,29 +1,28 @@
 -- After any tasks of a proper program each cell holds a tile of its own dimensions.
+use Rattle.sj_codelet.specs.Kernel.{Equations}
 use mathlib.Core.List.{map-map}
 use Rattle.std.proofs.Common.{Bool, List, [], ap, arith, length, map, refl, subst, suc, sym, true, zero, ℕ, false}
-use Rattle.std.proofs.Common.{get_or, ◌∙◌, ◌∷◌, ◌≡◌, ◌&&◌, None, Option, Some, cond}
-use Rattle.std.proofs.Common.{◌≤◌, ◌<◌, All, FitsSigned, IsTrue, nat_eq, if◌then◌else◌, filter, find, zip}
-use Rattle.sj_core.proofs.Words.{Array, Kernel, zeros, Access, Cell, Formal, Mode, Program, ReadFormal}
+use Rattle.std.proofs.Common.{get_or, ◌∙◌, ◌∷◌, ◌≡◌, None, Option, Some, cond}
+use Rattle.std.proofs.Common.{◌≤◌, ◌<◌, All, FitsSigned, IsTrue, if◌then◌else◌, filter, find, zip}
+use Rattle.sj_core.proofs.Words.{Array, Codelet, Kernel, zeros, Access, Cell, Formal, Mode, Program, ReadFormal}
 use Rattle.sj_core.proofs.Words.{ScratchFormal, Task, UpdateFormal, Worker, WriteFormal, dims_of, found, no_task}
 use Rattle.sj_core.proofs.Words.{results, same_cell, task_of, worked_on, written_cells}
 use Rattle.std.specs.{Int.w64}
 use Rattle.std.proofs.lemmas.List.{length-map}
 use Rattle.std.proofs.lemmas.List.Elements.{All-get_or, All-map, All-head, All-tail}
-use Rattle.std.proofs.lemmas.{Bool.false≢true, Bool.Decides.nat_tests}
+use Rattle.std.proofs.lemmas.{Bool.false≢true}
 use Rattle.sj_base.specs.{Mode.is_written}
 use Rattle.sj_base.proofs.Lists.{cons_same, map-agree}
 use Rattle.sj_base.proofs.SameIds.{same_cell-is}
-use Rattle.sj_codelet.specs.Kernel.{fits, new_arrays, arguments_fit, dims_fit, formals_of}
-use Rattle.sj_codelet.specs.{Laws.IsTile, Formal.is_output, Formal.outputs_among}
-use Rattle.sj_codelet.proofs.Table.{each_dims, new_arrays-dims}
-use Rattle.sj_codelet.proofs.NewArrays.{new_arrays-tiles, zeros-tile}
+use Rattle.sj_codelet.specs.Kernel.{codelet_of, fits, formals_of, kernel_of}
+use Rattle.sj_codelet.specs.Laws.{IsCall, IsTile, MakesTiles}
+use Rattle.sj_codelet.specs.Formal.{is_output, outputs_among}
+use Rattle.sj_codelet.proofs.Table.{codelet_of-kernel, each_dims}
+use Rattle.sj_codelet.proofs.NewArrays.{zeros-tile}
+use Rattle.sj_core.specs.Laws.{IsLawful, is_known}
 use Rattle.sj_core.specs.Fold.{Contents, after_chosen, after_task, held_in}
 use Rattle.sj_core.specs.Proper.{FitsCodelet, MayHaveModes, Proper, mode_of, modes_writing_by}
 use Rattle.sj_core.proofs.{Folding.held-append, Folding.held_over}
-
--- what fits has as many arguments as formals, and its dimensions fit
-pub fits-parts : (n m : ℕ) (b c : Bool) → (nat_eq n m && b && c) ≡ true → (n ≡ m) × (c ≡ true)
-fits-parts n m b c h = search (arith, nat_tests)
 
 -- ---- which operands get new arrays
 
@@ -80,7 +79,11 @@ held_over-sized p (d ∷ cs) (a ∷ arrays) c below tiles dims h =
 pub task-fits : (p : Program) → Proper p → (t : Task) → t.0 < length p.tasks → FitsCodelet p (task_of p t)
 task-fits p proper t inside = All-get_or (FitsCodelet p) p.tasks t.0 no_task inside proper.codelets
 
-module _ (p : Program) (proper : Proper p) (arguments : All (λ l. All (FitsSigned w64) l.args) p.tasks) where
+-- the arrays of a task's operands, as it finds them
+abbrev pub ins : Program → Task → Worker → (Cell → Array) → List Array
+ins p t w held = map (found p w held) (task_of p t).accesses
+
+module _ (p : Program) (proper : Proper p) where
   -- the cell that is worked on is as large as the operand's
   pub worked_on-dims : (w : Worker) → w.0 < p.workers → (a : Access) → dims_of p (worked_on p w a) ≡ dims_of p a.cell
   worked_on-dims w staffed a = search arith
@@ -89,49 +92,58 @@ module _ (p : Program) (proper : Proper p) (arguments : All (λ l. All (FitsSign
   found-fills w staffed held sized a = search (arith, zeros-fill, worked_on-dims)
 
   module _ (t : Task) (inside : t.0 < length p.tasks) (w : Worker) (staffed : w.0 < p.workers) (held : Cell → Array) (sized : (c : Cell) → Fills p c (held c)) where
-    abbrev pub ins : List Array
-    ins = map (found p w held) (task_of p t).accesses
-
-    ins-dims : each_dims ins ≡ map (λ a. dims_of p a.cell) (task_of p t).accesses
+    ins-dims : each_dims (ins p t w held) ≡ map (λ a. dims_of p a.cell) (task_of p t).accesses
     ins-dims = map-map (λ (x : Array). x.dims) (found p w held) (task_of p t).accesses ∙ map-agree (λ a. (found p w held a).dims) (λ a. dims_of p a.cell) (task_of p t).accesses (λ a h. (found-fills w staffed held sized a).dims)
 
     -- the operands that a task finds are such as its codelet takes
-    pub ins-fit : IsTrue (fits (task-fits p proper t inside).kernel (task_of p t).args (each_dims ins))
+    pub ins-fit : IsTrue (fits (task-fits p proper t inside).kernel (task_of p t).args (each_dims (ins p t w held)))
     ins-fit = ap (fits (task-fits p proper t inside).kernel (task_of p t).args) ins-dims ∙ (task-fits p proper t inside).operands
 
-    pub ins-tiles : All IsTile ins
+    pub ins-tiles : All IsTile (ins p t w held)
     ins-tiles = All-map IsTile (found p w held) (task_of p t).accesses (λ i d l. (found-fills w staffed held sized (get_or (task_of p t).accesses i d)).tile)
 
-    made : results p t w held ≡ new_arrays (task-fits p proper t inside).kernel (task_of p t).args ins
-    made = ap (λ (o : Option Kernel). elim o as (λ _. List Array) [ None ↦ [] | Some k ↦ new_arrays k (task_of p t).args ins ]) (task-fits p proper t inside).codelet
+module _ (eq : Equations) (has : Kernel → Bool) (p : Program) (proper : Proper p) (lawful : IsLawful eq has p) where
+  -- the set has the codelet of a task
+  pub knows : (t : Task) → t.0 < length p.tasks → (k : Kernel) → kernel_of (task_of p t).codelet ≡ Some k → has k ≡ true
+  knows t inside k e = sym (ap (λ (o : Option Kernel). elim o as (λ _. Bool) [ None ↦ Bool.false | Some kernel ↦ has kernel ]) e) ∙ All-get_or (λ l. IsTrue (is_known has l.codelet)) p.tasks t.0 no_task inside lawful.known
+
+  -- and so it makes tiles
+  pub task-makes_tiles : (t : Task) (inside : t.0 < length p.tasks) → MakesTiles eq (task-fits p proper t inside).kernel
+  task-makes_tiles t inside = let fit = task-fits p proper t inside in lawful.making fit.kernel (knows t inside fit.kernel fit.codelet)
+
+  module _ (t : Task) (inside : t.0 < length p.tasks) (w : Worker) (staffed : w.0 < p.workers) (held : Cell → Array) (sized : (c : Cell) → Fills p c (held c)) where
+    made : results eq p t w held ≡ eq (codelet_of (task-fits p proper t inside).kernel) (task_of p t).args (ins p t w held)
+    made = ap (λ (id : Codelet). eq id (task_of p t).args (ins p t w held)) (codelet_of-kernel (task_of p t).codelet (task-fits p proper t inside).kernel (task-fits p proper t inside).codelet)
+
+    call : IsCall (task-fits p proper t inside).kernel (task_of p t).args (ins p t w held)
+    call = record { fits = ins-fit p proper t inside w staffed held sized; tiles = ins-tiles p proper t inside w staffed held sized }
 
     -- the new arrays are tiles as large as the cells that the task writes
-    results-tiles : All IsTile (results p t w held)
-    results-tiles = subst (All IsTile) (sym made) (new_arrays-tiles (task-fits p proper t inside).kernel (task_of p t).args ins (All-get_or (λ l. All (FitsSigned w64) l.args) p.tasks t.0 no_task inside arguments) ins-fit ins-tiles)
+    results-tiles : All IsTile (results eq p t w held)
+    results-tiles = subst (All IsTile) (sym made) ((task-makes_tiles t inside).tiles (task_of p t).args (ins p t w held) (All-get_or (λ l. All (FitsSigned w64) l.args) p.tasks t.0 no_task inside lawful.arguments) call)
 
-    results-dims : each_dims (results p t w held) ≡ map (dims_of p) (written_cells p t w)
+    results-dims : each_dims (results eq p t w held) ≡ map (dims_of p) (written_cells p t w)
     results-dims =
         let l = task_of p t in
-        let parts = fits-parts (length (each_dims ins)) (length (formals_of (task-fits p proper t inside).kernel)) (arguments_fit (task-fits p proper t inside).kernel l.args (each_dims ins)) (dims_fit (task-fits p proper t inside).kernel l.args (each_dims ins)) ins-fit in
         ap each_dims made
-        ∙ new_arrays-dims (task-fits p proper t inside).kernel l.args ins (sym (length-map ins (λ (x : Array). x.dims)) ∙ parts.0) parts.1
-        ∙ ap (outputs_among (formals_of (task-fits p proper t inside).kernel)) ins-dims
+        ∙ (task-makes_tiles t inside).dims l.args (ins p t w held) call
+        ∙ ap (outputs_among (formals_of (task-fits p proper t inside).kernel)) (ins-dims p proper t inside w staffed held sized)
         ∙ outputs-written (λ a. dims_of p a.cell) (formals_of (task-fits p proper t inside).kernel) l.accesses (sym (map-map is_written (λ (a : Access). a.mode) l.accesses) ∙ written-flags (task-fits p proper t inside).kernel (map (λ (a : Access). a.mode) l.accesses) (task-fits p proper t inside).modes)
-        ∙ map-agree (λ a. dims_of p a.cell) (λ a. dims_of p (worked_on p w a)) (filter (λ a. is_written a.mode) l.accesses) (λ a h. sym (worked_on-dims w staffed a))
+        ∙ map-agree (λ a. dims_of p a.cell) (λ a. dims_of p (worked_on p w a)) (filter (λ a. is_written a.mode) l.accesses) (λ a h. sym (worked_on-dims p proper w staffed a))
         ∙ sym (map-map (dims_of p) (worked_on p w) (filter (λ a. is_written a.mode) l.accesses))
 
   -- a task leaves cells sized
-  pub after_task-sized : (t : Task) → t.0 < length p.tasks → (w : Worker) → w.0 < p.workers → (before : Contents) → AreSized p before → AreSized p (after_task p w t before)
+  pub after_task-sized : (t : Task) → t.0 < length p.tasks → (w : Worker) → w.0 < p.workers → (before : Contents) → AreSized p before → AreSized p (after_task eq p w t before)
   after_task-sized t inside w staffed before sized c =
       let held = held_in p before in
-      subst (Fills p c) (sym (held-append p (zip (written_cells p t w) (results p t w held)) before c))
-      (held_over-sized p (written_cells p t w) (results p t w held) c (held c) (results-tiles t inside w staffed held sized) (results-dims t inside w staffed held sized) (sized c))
+      subst (Fills p c) (sym (held-append p (zip (written_cells p t w) (results eq p t w held)) before c))
+      (held_over-sized p (written_cells p t w) (results eq p t w held) c (held c) (results-tiles t inside w staffed held sized) (results-dims t inside w staffed held sized) (sized c))
 
   -- and so do any tasks
-  pub after_chosen-sized : (chosen : Task → Bool) (by : Task → Worker) → ((u : Task) → (by u).0 < p.workers) → (n : ℕ) → n ≤ length p.tasks → AreSized p (after_chosen p chosen by n)
+  pub after_chosen-sized : (chosen : Task → Bool) (by : Task → Worker) → ((u : Task) → (by u).0 < p.workers) → (n : ℕ) → n ≤ length p.tasks → AreSized p (after_chosen eq p chosen by n)
   after_chosen-sized chosen by staffed zero l c = zeros-fill p c
   after_chosen-sized chosen by staffed (suc n) l c = by_choice (chosen (record { 0 = n })) (λ d. after_chosen-sized chosen by staffed n (omega arith) d)
     where
-      by_choice : (b : Bool) → AreSized p (after_chosen p chosen by n) → Fills p c (held_in p (if b then after_task p (by (record { 0 = n })) (record { 0 = n }) (after_chosen p chosen by n) else after_chosen p chosen by n) c)
-      by_choice true sized = after_task-sized (record { 0 = n }) (omega arith) (by (record { 0 = n })) (staffed (record { 0 = n })) (after_chosen p chosen by n) sized c
+      by_choice : (b : Bool) → AreSized p (after_chosen eq p chosen by n) → Fills p c (held_in p (if b then after_task eq p (by (record { 0 = n })) (record { 0 = n }) (after_chosen eq p chosen by n) else after_chosen eq p chosen by n) c)
+      by_choice true sized = after_task-sized (record { 0 = n }) (omega arith) (by (record { 0 = n })) (staffed (record { 0 = n })) (after_chosen eq p chosen by n) sized c
       by_choice false sized = sized c

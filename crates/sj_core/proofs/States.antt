@@ -1,4 +1,5 @@
 -- Legal traces: where all tasks are done each was claimed, ran and ended once; and what one event more needs and leaves.
+use Rattle.sj_codelet.specs.Kernel.{Equations}
 use Rattle.std.proofs.Common.{◌≡◌, ℕ, ◌+◌, Bool, true, false, List, [], ◌∷◌, length, refl, ◌∙◌, arith}
 use Rattle.std.proofs.Common.{Some, ◌++◌, count_by, nat_eq, fold}
 use Rattle.sj_core.proofs.Words.{AtNode, Claim, Claimed, Done, End, Event, Machine, Move, OnDisk, Program, Progress, zeros, dims_of}
@@ -116,8 +117,8 @@ legal-front p m front back legal = (follow-front p m (opening p m) front back le
 pub state_of-more : (p : Program) (m : Machine) (trace : List Event) (e : Event) → state_of p m (trace ++ e ∷ []) ≡ after p m (state_of p m trace) e
 state_of-more p m trace e = fold-append (after p m) (opening p m) trace (e ∷ [])
 
-pub arrays_of-more : (p : Program) (m : Machine) (trace : List Event) (e : Event) → arrays_of p m (trace ++ e ∷ []) ≡ arrays_after p m (arrays_of p m trace) e
-arrays_of-more p m trace e = fold-append (arrays_after p m) (λ c q. zeros (dims_of p c)) trace (e ∷ [])
+pub arrays_of-more : (eq : Equations) (p : Program) (m : Machine) (trace : List Event) (e : Event) → arrays_of eq p m (trace ++ e ∷ []) ≡ arrays_after eq p m (arrays_of eq p m trace) e
+arrays_of-more eq p m trace e = fold-append (arrays_after eq p m) (λ c q. zeros (dims_of p c)) trace (e ∷ [])
 
 pub legal-more : (p : Program) (m : Machine) (trace : List Event) (e : Event) → IsLegal p m trace → May p m (state_of p m trace) e → IsLegal p m (trace ++ e ∷ [])
 legal-more p m trace e legal may = follow-both p m (opening p m) trace (e ∷ []) legal (may, tt)

@@ -1,9 +1,10 @@
 -- A task with a COMMUTE or a REDUX operand updates one cell alone, by its last operand.
-use Rattle.std.proofs.Common.{◌&&◌, Bool, List, [], ap, arith, cond, false, inl, inr, length, map, not, refl, subst, suc, sym, true, ◌++◌, ◌<◌, ◌||◌, ◌∙◌, ◌∷◌, ◌≡◌, ◌≢◌, ◌⊎◌, None, Option, Some, Contains, filter, IsTrue}
+use Rattle.sj_codelet.specs.Kernel.{Equations}
+use Rattle.std.proofs.Common.{◌&&◌, Bool, List, [], ap, arith, cond, false, inl, inr, length, map, not, refl, subst, suc, sym, true, ◌++◌, ◌<◌, ◌||◌, ◌∙◌, ◌∷◌, ◌≡◌, ◌≢◌, ◌⊎◌, Some, Contains, filter}
 use Rattle.std.specs.List.{list_all, list_any}
 use Rattle.std.proofs.lemmas.Bool.{cases_Bool, false≢true, true≢false, not-true, and_from, and_parts}
 use Rattle.std.proofs.lemmas.List.{map-append}
-use Rattle.std.proofs.lemmas.List.Elements.{All-get_or, Contains-append_cases, Contains-append_left}
+use Rattle.std.proofs.lemmas.List.Elements.{Contains-append_cases, Contains-append_left}
 use Rattle.std.proofs.lemmas.List.Sums.{AllPass-from_list_all}
 use Rattle.std.proofs.lemmas.List.Folds.{list_any_at}
 use Rattle.sj_base.specs.Mode.{is_in_order, is_redux, is_scratch, is_written, starts_as_zeros}
@@ -15,13 +16,13 @@ use Rattle.sj_codelet.specs.Formal.{is_output}
 use Rattle.sj_codelet.specs.Kernel.{commutes_of, contributes_of, formals_of, kernel_of}
 use Rattle.sj_deps.specs.Conflict.{Uses, Conflict, IsShared as IsSharedManner}
 use Rattle.sj_core.specs.Proper.{MayHaveModes, Proper, mode_of, modes_writing_by, own_modes}
-use Rattle.sj_core.specs.Laws.{IsLawful, is_known}
-use Rattle.sj_core.proofs.Words.{Access, Cell, Codelet, CommuteMode, Formal, Kernel, Least, Mode, Plus, Program, R, RW, Read, Reduction, Redux, Scratch, Task, UpdateFormal, Worker, no_task, task_of, worked_on, written_cells, Commute, Contribute, Manner, Write, cells_of, has_cell, same_cell}
+use Rattle.sj_core.specs.Laws.{IsLawful}
+use Rattle.sj_core.proofs.Words.{Access, Cell, Codelet, CommuteMode, Formal, Kernel, Least, Mode, Plus, Program, R, RW, Read, Reduction, Redux, Scratch, Task, UpdateFormal, Worker, task_of, worked_on, written_cells, Commute, Contribute, Manner, Write, cells_of, has_cell, same_cell}
 use Rattle.sj_core.proofs.Dependencies.{Proper-dependencies, map-from}
 use Rattle.sj_core.proofs.Modes.{written_isn't_scratch}
 use Rattle.sj_core.proofs.Sharing.{manner_of, operand-uses, redux-has_copies, BothCommute, BothContribute, Conflict-sym, Differ, commuting-is, conflict-by, contributing-is, meeting, operand_for, written-isn't_read}
 use Rattle.sj_core.proofs.Swapping.{Updates, Apart, Exchange, MaySwap, Together, commuting-exchange}
-use Rattle.sj_core.proofs.Sized.{task-fits}
+use Rattle.sj_core.proofs.Sized.{knows, task-fits}
 use Rattle.sj_core.proofs.Readiness.{list_any-some, Contains-map}
 
 -- ---- a task with a COMMUTE or a REDUX operand updates one cell alone, by its last operand
@@ -202,10 +203,10 @@ has-contained cs d (k, l, e) = list_any_at (λ c. same_cell c d) cs k d l (ap (�
 any-has : (test : Cell → Bool) (cs : List Cell) (d : Cell) → has_cell cs d ≡ true → test d ≡ true → list_any test cs ≡ true
 any-has test cs d h passes = search (arith, list_any-some, list_any_at, same_cell-is)
 
-module _ (has : Kernel → Bool) (p : Program) (proper : Proper p) (lawful : IsLawful has p) where
+module _ (eq : Equations) (has : Kernel → Bool) (p : Program) (proper : Proper p) (lawful : IsLawful eq has p) where
   -- where both contribute to a cell by one worker's copy, their codelets may be exchanged
   abbrev pub ContributionsExchange : Task → Task → Worker → Worker → Type 0
-  ContributionsExchange t u w v = (a b : Access) → Contains (task_of p t).accesses a → Contains (task_of p u).accesses b → a.mode ≡ Redux → b.mode ≡ Redux → worked_on p w a ≡ worked_on p v b → (j k : Kernel) → kernel_of (task_of p t).codelet ≡ Some j → kernel_of (task_of p u).codelet ≡ Some k → Exchange j k
+  ContributionsExchange t u w v = (a b : Access) → Contains (task_of p t).accesses a → Contains (task_of p u).accesses b → a.mode ≡ Redux → b.mode ≡ Redux → worked_on p w a ≡ worked_on p v b → (j k : Kernel) → kernel_of (task_of p t).codelet ≡ Some j → kernel_of (task_of p u).codelet ≡ Some k → Exchange eq j k
 
   module _ (t u : Task) (free : ¬ Conflict p t.0 u.0) where
     -- two that share a cell that one of them writes commute or contribute there
@@ -218,26 +219,26 @@ module _ (has : Kernel → Bool) (p : Program) (proper : Proper p) (lawful : IsL
 
   module _ (t u : Task) (t_in : t.0 < length p.tasks) (u_in : u.0 < length p.tasks) (w v : Worker) (w_in : w.0 < p.workers) (v_in : v.0 < p.workers) (free : ¬ Conflict p t.0 u.0) (contributions : ContributionsExchange t u w v) where
     -- operands that share a cell without a conflict update it by codelets that may be exchanged
-    together : (d : Cell) (a b : Access) → Contains (task_of p t).accesses a → Contains (task_of p u).accesses b → worked_on p w a ≡ d → worked_on p v b ≡ d → (manner_of (task_of p t).codelet a.mode ≡ manner_of (task_of p u).codelet b.mode) × IsSharedManner (manner_of (task_of p t).codelet a.mode) → MaySwap p proper lawful.arguments t u w v
+    together : (d : Cell) (a b : Access) → Contains (task_of p t).accesses a → Contains (task_of p u).accesses b → worked_on p w a ≡ d → worked_on p v b ≡ d → (manner_of (task_of p t).codelet a.mode ≡ manner_of (task_of p u).codelet b.mode) × IsSharedManner (manner_of (task_of p t).codelet a.mode) → MaySwap eq has p proper lawful t u w v
     together d a b ta ub ea eb alike = by_manner (manner_of (task_of p t).codelet a.mode) refl (sym alike.0) alike.1
       where
-        both : (oa : is_in_order a.mode ≡ false) (ob : is_in_order b.mode ≡ false) → ((j k : Kernel) → kernel_of (task_of p t).codelet ≡ Some j → kernel_of (task_of p u).codelet ≡ Some k → Exchange j k) → MaySwap p proper lawful.arguments t u w v
+        both : (oa : is_in_order a.mode ≡ false) (ob : is_in_order b.mode ≡ false) → ((j k : Kernel) → kernel_of (task_of p t).codelet ≡ Some j → kernel_of (task_of p u).codelet ≡ Some k → Exchange eq j k) → MaySwap eq has p proper lawful t u w v
         both oa ob exchange =
             let x : Updates p t w d = subst (Updates p t w) ea (updates p proper t t_in a ta oa w w_in) in
             let y : Updates p u v d = subst (Updates p u v) eb (updates p proper u u_in b ub ob v v_in) in
             Together d x y (exchange x.kernel y.kernel x.codelet y.codelet)
 
-        commuting : a.mode ≡ CommuteMode → (task_of p t).codelet ≡ (task_of p u).codelet → (j k : Kernel) → kernel_of (task_of p t).codelet ≡ Some j → kernel_of (task_of p u).codelet ≡ Some k → Exchange j k
+        commuting : a.mode ≡ CommuteMode → (task_of p t).codelet ≡ (task_of p u).codelet → (j k : Kernel) → kernel_of (task_of p t).codelet ≡ Some j → kernel_of (task_of p u).codelet ≡ Some k → Exchange eq j k
         commuting mode same j k ej ek =
             let f : Some j ≡ Some k = sym ej ∙ ap kernel_of same ∙ ek in
             let one : j ≡ k = cc in
             let g : Some (task-fits p proper t t_in).kernel ≡ Some j = sym (task-fits p proper t t_in).codelet ∙ ej in
             let own : (task-fits p proper t t_in).kernel ≡ j = cc in
-            let known : has j ≡ true = sym (ap (λ (o : Option Kernel). elim o as (λ _. Bool) [ None ↦ false | Some kernel ↦ has kernel ]) ej) ∙ All-get_or (λ l. IsTrue (is_known has l.codelet)) p.tasks t.0 no_task t_in lawful.known in
+            let known : has j ≡ true = knows eq has p proper lawful t t_in j ej in
             let commutes : commutes_of j ≡ true = ap commutes_of (sym own) ∙ (shared-codelet p proper t t_in a ta (ap is_in_order mode)).commutes in
-            subst (Exchange j) one (commuting-exchange j (lawful.commuting j (and_from (has j) (commutes_of j) known commutes)))
+            subst (Exchange eq j) one (commuting-exchange eq j (lawful.commuting j (and_from (has j) (commutes_of j) known commutes)))
 
-        by_manner : (m : Manner) → manner_of (task_of p t).codelet a.mode ≡ m → manner_of (task_of p u).codelet b.mode ≡ m → IsSharedManner m → MaySwap p proper lawful.arguments t u w v
+        by_manner : (m : Manner) → manner_of (task_of p t).codelet a.mode ≡ m → manner_of (task_of p u).codelet b.mode ≡ m → IsSharedManner m → MaySwap eq has p proper lawful t u w v
         by_manner Read et eu shared = absurd shared
         by_manner Write et eu shared = absurd shared
         by_manner (Commute k) et eu shared =
@@ -250,7 +251,7 @@ module _ (has : Kernel → Bool) (p : Program) (proper : Proper p) (lawful : IsL
             both (ap is_in_order x) (ap is_in_order y) (contributions a b ta ub x y (ea ∙ sym eb))
 
     -- tasks that don't conflict may change places
-    pub may-swap : MaySwap p proper lawful.arguments t u w v
+    pub may-swap : MaySwap eq has p proper lawful t u w v
     may-swap = by_tests (list_any (λ d. has_cell (cells_of p t w) d) (written_cells p u v)) (list_any (λ d. has_cell (cells_of p u v) d) (written_cells p t w)) refl refl
       where
         data_of : (k : Task) (x : Worker) (d : Cell) → has_cell (cells_of p k x) d ≡ true → (a : Access) × Contains (task_of p k).accesses a × (not (is_scratch a.mode) ≡ true) × (worked_on p x a ≡ d)
@@ -262,7 +263,7 @@ module _ (has : Kernel → Bool) (p : Program) (proper : Proper p) (lawful : IsL
         used : (k : Task) (k_in : k.0 < length p.tasks) (x : Worker) → x.0 < p.workers → (d : Cell) (a : Access) → Contains (task_of p k).accesses a → not (is_scratch a.mode) ≡ true → worked_on p x a ≡ d → Uses p k.0 d.0 (manner_of (task_of p k).codelet a.mode)
         used k k_in x x_in d a h accessed e = subst (λ (q : Cell). Uses p k.0 q.0 (manner_of (task_of p k).codelet a.mode)) e (operand-used p proper k k_in x x_in a h accessed)
 
-        by_tests : (x y : Bool) → list_any (λ d. has_cell (cells_of p t w) d) (written_cells p u v) ≡ x → list_any (λ d. has_cell (cells_of p u v) d) (written_cells p t w) ≡ y → MaySwap p proper lawful.arguments t u w v
+        by_tests : (x y : Bool) → list_any (λ d. has_cell (cells_of p t w) d) (written_cells p u v) ≡ x → list_any (λ d. has_cell (cells_of p u v) d) (written_cells p t w) ≡ y → MaySwap eq has p proper lawful t u w v
         by_tests true y e f =
             let found = list_any-some (λ d. has_cell (cells_of p t w) d) (written_cells p u v) e in
             let d = found.0 in

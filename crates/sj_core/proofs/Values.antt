@@ -1,15 +1,18 @@
 -- A cell whose old value a task reads has been written by the time that the task may run.
-use Rattle.std.proofs.Common.{arith, ◌≡◌, Bool, true, false, cond, List, [], map, length, refl, sym, ap, ◌∙◌, None}
-use Rattle.std.proofs.Common.{Some, Option, inl, inr, not, subst, suc, zero, ℕ, ◌&&◌, ◌<◌, ◌⊎◌, ℤ, count_by, IsTrue}
+use Rattle.sj_codelet.specs.Kernel.{Equations}
+use Rattle.std.proofs.Common.{arith, ◌≡◌, Bool, true, false, cond, List, map, length, refl, sym, ap, ◌∙◌}
+use Rattle.std.proofs.Common.{inl, inr, not, subst, suc, zero, ℕ, ◌&&◌, ◌<◌, ◌⊎◌, ℤ, count_by, IsTrue}
 use Rattle.std.proofs.Common.{filter, Contains}
-use Rattle.sj_core.proofs.Words.{Access, Array, Cell, CommuteMode, Kernel, Manner, Mode, Program, R, Redux, Scratch}
+use Rattle.sj_core.proofs.Words.{Access, Array, Cell, Codelet, CommuteMode, Kernel, Manner, Mode, Program, R, Redux, Scratch}
 use Rattle.sj_core.proofs.Words.{State, Task, W, Worker, Write, cells_of, copy_of, data_operands, done_by, found}
 use Rattle.sj_core.proofs.Words.{fresh_cells, has_cell, results, same_cell, task_of, tasks_of, worked_on, writes}
 use Rattle.sj_core.proofs.Words.{written_cells}
 use Rattle.std.proofs.lemmas.{List.Sums.length-filter, List.length-map, Bool.false≢true, Bool.Decides.Decides-eqb}
 use Rattle.std.proofs.lemmas.{List.Elements.All-contains}
-use Rattle.sj_codelet.proofs.Table.{new_arrays-count}
-use Rattle.sj_codelet.specs.Kernel.{new_arrays}
+use Rattle.sj_codelet.proofs.Table.{codelet_of-kernel}
+use Rattle.sj_codelet.specs.Kernel.{codelet_of, formals_of}
+use Rattle.sj_codelet.specs.Formal.{is_output}
+use Rattle.sj_codelet.specs.Laws.{MakesTiles}
 use Rattle.sj_base.specs.Mode.{is_written, is_redux, is_scratch, reads_value, starts_as_zeros, access}
 use Rattle.sj_base.proofs.Lists.{list_any-numbered, sum_by-agree, sum_by-map}
 use Rattle.sj_base.proofs.SameIds.{same_cell-is}
@@ -30,8 +33,11 @@ count_by-map f test test' xs same =
     sum_by-map (λ y. cond (test y) 1 0) f xs ∙ sum_by-agree (λ x. cond (test (f x)) 1 0) (λ x. cond (test' x) 1 0) (λ x. ap (λ b. cond b 1 0) (same x)) xs
 
 -- a kernel has a new array for each of its own operands that is written
-own-count : (k : Kernel) (args : List ℤ) (ins : List Array) → length (new_arrays k args ins) ≡ count_by is_written (own_modes k)
-own-count k args ins = search (arith, new_arrays-count, length-filter, count_by-map)
+own-count : (eq : Equations) (k : Kernel) → MakesTiles eq k → (args : List ℤ) (ins : List Array) → length (eq (codelet_of k) args ins) ≡ count_by is_written (own_modes k)
+own-count eq k makes args ins = makes.count args ins ∙ outputs-count k
+  where
+    outputs-count : (j : Kernel) → length (filter is_output (formals_of j)) ≡ count_by is_written (own_modes j)
+    outputs-count j = search (arith, length-filter, count_by-map)
 
 -- another mode for what is written is as many written operands
 writing_by-count : (x : Mode) → is_written x ≡ true → (k : Kernel) → count_by is_written (modes_writing_by x k) ≡ count_by is_written (own_modes k)
@@ -41,13 +47,13 @@ modes-count : (k : Kernel) (modes : List Mode) → MayHaveModes k modes → coun
 modes-count k modes x = search (arith, writing_by-count)
 
 -- a task that fits its codelet has as many results as written cells
-pub results-complete : (p : Program) (t : Task) (w : Worker) (held : Cell → Array) → FitsCodelet p (task_of p t) → length (results p t w held) ≡ length (written_cells p t w)
-results-complete p t w held fit =
+pub results-complete : (eq : Equations) (p : Program) (t : Task) (w : Worker) (held : Cell → Array) (fit : FitsCodelet p (task_of p t)) → MakesTiles eq fit.kernel → length (results eq p t w held) ≡ length (written_cells p t w)
+results-complete eq p t w held fit makes =
     let l = task_of p t in
     let ins : List Array = map (found p w held) l.accesses in
     let writes : Access → Bool = λ a. is_written a.mode in
-    ap (λ (o : Option Kernel). length (elim o as (λ _. List Array) [ None ↦ [] | Some k ↦ new_arrays k l.args ins ])) fit.codelet
-    ∙ own-count fit.kernel l.args ins
+    ap (λ (id : Codelet). length (eq id l.args ins)) (codelet_of-kernel l.codelet fit.kernel fit.codelet)
+    ∙ own-count eq fit.kernel makes l.args ins
     ∙ sym (modes-count fit.kernel (map (λ (a : Access). a.mode) l.accesses) fit.modes)
     ∙ count_by-map (λ (a : Access). a.mode) is_written writes l.accesses (λ a. refl)
     ∙ sym (length-filter writes l.accesses)

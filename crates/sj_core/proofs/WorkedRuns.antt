@@ -1,4 +1,5 @@
 -- Worked jobs whose runs are legal and complete: a sum, vectors that don't fit their node together, a reduction.
+use Rattle.sj_codelet.specs.Kernel.{out}
 use Rattle.std.proofs.Common.{◌≡◌, ℕ, List, [], ◌∷◌, refl, None, arith, lit<, lit≤, pos}
 use Rattle.sj_core.proofs.Words.{Claim, Drop, End, Event, Machine, Manner, Move, Moved, Program, R, RW, Run}
 use Rattle.sj_core.proofs.Words.{Valid, W, Write, order, mark, victims_of, writes}
@@ -37,9 +38,9 @@ pub sum-legal : IsLegal sum machine sum-trace
 sum-legal = legal-from sum machine sum-trace refl
 
 -- it is complete; what is printed is y + x; at the end the printed cell, which was written twice, holds that array on the node
-pub sum-delivers : IsComplete (state_of sum machine sum-trace) × (given sum (task 3) ≡ vector (pos 11 ∷ pos 22 ∷ pos 33 ∷ []))
+pub sum-delivers : IsComplete (state_of sum machine sum-trace) × (given out sum (task 3) ≡ vector (pos 11 ∷ pos 22 ∷ pos 33 ∷ []))
     × (mark (state_of sum machine sum-trace) (cell 1) (record { 0 = 0 }) ≡ Valid)
-    × (arrays_of sum machine sum-trace (cell 1) node ≡ given sum (task 3))
+    × (arrays_of out sum machine sum-trace (cell 1) node ≡ given out sum (task 3))
     × (writes (state_of sum machine sum-trace) (cell 1) ≡ 2)
 unfolding int_wrap
 sum-delivers = (refl, refl, refl, refl, refl)
@@ -93,7 +94,7 @@ pub three-evicts : IsComplete (state_of three machine three-trace)
     × (victims_of (state_of three machine (loads [])) (worker 0) ≡ cell 1 ∷ [])
     × (order (state_of three machine (loads [])) (record { 0 = 0 }) ≡ cell 0 ∷ cell 2 ∷ [])
     × (mark (state_of three machine three-trace) (cell 0) (record { 0 = 0 }) ≡ Valid)
-    × (arrays_of three machine three-trace (cell 0) node ≡ vector (pos 1 ∷ pos 2 ∷ pos 3 ∷ []))
+    × (arrays_of out three machine three-trace (cell 0) node ≡ vector (pos 1 ∷ pos 2 ∷ pos 3 ∷ []))
 three-evicts = (refl, refl, refl, refl, refl)
 
 -- the delivery may not run while its victim is leaving
@@ -114,8 +115,8 @@ reduction-legal = legal-from Reduction.job two_workers reduction-trace refl
 
 -- complete, and 5 + 2, also where a worker other than the first contributed
 pub reduction-delivers : IsComplete (state_of Reduction.job two_workers reduction-trace)
-    × (given Reduction.job (task 9) ≡ vector (pos 7 ∷ []))
+    × (given out Reduction.job (task 9) ≡ vector (pos 7 ∷ []))
     × (mark (state_of Reduction.job two_workers reduction-trace) (cell 2) (record { 0 = 0 }) ≡ Valid)
-    × (arrays_of Reduction.job two_workers reduction-trace (cell 2) node ≡ vector (pos 7 ∷ []))
+    × (arrays_of out Reduction.job two_workers reduction-trace (cell 2) node ≡ vector (pos 7 ∷ []))
 unfolding int_wrap
 reduction-delivers = (refl, refl, refl, refl)

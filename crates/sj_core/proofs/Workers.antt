@@ -1,21 +1,22 @@
 -- What cells hold after all tasks up to one doesn't depend on the workers of the contributions, but in partial copies and
 -- under open phases.
+use Rattle.sj_codelet.specs.Kernel.{Equations}
 use Rattle.std.proofs.Common.{Bool, List, ap, arith, cond, false, inl, inr, length, not, refl, subst, suc, sym, true}
 use Rattle.std.proofs.Common.{zero, ℕ, ◌<◌, ◌≤◌, ◌∙◌, ◌≡◌, ◌≢◌, [], get_or, ◌∷◌, ◌⊎◌, Contains, zip, is_some}
 use Rattle.std.proofs.Common.{nat_lt}
 use Rattle.sj_core.proofs.Words.{Access, Array, Cell, Codelet, Kernel, Mode, Program, R, Read, Redux, Task, W, Worker}
-use Rattle.sj_core.proofs.Words.{cells_of, has_cell, no_task, results, task_of, worked_on, written_cells, cell_info}
+use Rattle.sj_core.proofs.Words.{cells_of, has_cell, results, task_of, worked_on, written_cells, cell_info}
 use Rattle.sj_core.proofs.Words.{copy_of, dims_of, same_cell}
 use Rattle.std.specs.List.{list_any}
 use Rattle.std.proofs.lemmas.Bool.{cases_Bool, false_from_ne_true, false≢true, cases_lt, true≢false, cases_eq}
-use Rattle.std.proofs.lemmas.List.Elements.{All-get_or, Contains-append_left}
+use Rattle.std.proofs.lemmas.List.Elements.{Contains-append_left}
 use Rattle.std.proofs.lemmas.{Bool.Decides.nat_tests, List.Folds.list_any_at}
 use Rattle.sj_base.specs.Mode.{is_in_order, is_scratch, is_written, starts_as_zeros, is_redux, access}
 use Rattle.sj_base.specs.Ids.{task}
 use Rattle.sj_base.proofs.Bools.{or_false}
 use Rattle.sj_base.proofs.SameIds.{same_cell-is, same_cell-itself}
 use Rattle.sj_deps.specs.Conflict.{Conflict, IsShared, Uses}
-use Rattle.sj_core.specs.Proper.{FitsCodelet, Proper, IsCombine, IsOpenAt, IsPhase, IsPlain, Phase, task_number}
+use Rattle.sj_core.specs.Proper.{Proper, IsCombine, IsOpenAt, IsPhase, IsPlain, Phase, task_number}
 use Rattle.sj_core.specs.{Fold.Contents, Fold.after_chosen, Fold.after_task, Fold.held_in, Laws.IsLawful}
 use Rattle.sj_codelet.specs.Laws.{IsReduction, IsTile, combined}
 use Rattle.sj_core.proofs.Folding.{after_task-other, held-append, held_over, held_over-own, read-among_cells}
@@ -28,26 +29,26 @@ use Rattle.sj_core.proofs.Copies.{direct-cell, refilled, redux_or}
 use Rattle.sj_core.proofs.{Sharing.conflict-by, Sharing.manner_of, Sharing.operand_for, Swapping.MaySwap}
 use Rattle.sj_core.proofs.{Swapping.update-spares, Values.results-complete, Dependencies.Proper-dependencies}
 use Rattle.sj_core.proofs.{Updating.may-swap, Updating.operand-used, Modes.written_isn't_scratch}
-use Rattle.sj_core.proofs.{Modes.reads_isn't_scratch, Combining.combined-swap}
+use Rattle.sj_core.proofs.{Modes.reads_isn't_scratch, Combining.Reduces, Combining.combined-swap}
 use Rattle.sj_core.proofs.{TaskCells.operand-inside, TaskCells.written-among_cells}
-use Rattle.sj_core.proofs.{Sized.AreSized, Sized.after_chosen-sized, Advancing.same_task, Readiness.list_any-some}
+use Rattle.sj_core.proofs.{Sized.AreSized, Sized.after_chosen-sized, Sized.task-fits, Sized.task-makes_tiles, Advancing.same_task, Readiness.list_any-some}
 
 -- ---- on which tasks a cell depends, whatever the modes: those with which its writers conflict, and no member of their
 -- groups beside those that write it
 
 -- a task whose operands' cells hold the same leaves the same in a cell that it writes, and what was the same in another one
-pub step-same : (p : Program) → Proper p → (t : Task) → t.0 < length p.tasks → (w : Worker) (before before' : Contents) (c : Cell) →
+pub step-same : (eq : Equations) (has : Kernel → Bool) (p : Program) (proper : Proper p) → IsLawful eq has p → (t : Task) → t.0 < length p.tasks → (w : Worker) (before before' : Contents) (c : Cell) →
     (has_cell (written_cells p t w) c ≡ true → (a : Access) → Contains (task_of p t).accesses a → starts_as_zeros a.mode ≡ false → held_in p before (worked_on p w a) ≡ held_in p before' (worked_on p w a)) →
     (has_cell (written_cells p t w) c ≡ false → held_in p before c ≡ held_in p before' c) →
-    held_in p (after_task p w t before) c ≡ held_in p (after_task p w t before') c
-step-same p proper t inside w before before' c reads other = elim (cases_Bool (has_cell (written_cells p t w) c)) [
-  | inr spared ↦ after_task-other p w t before c spared ∙ other spared ∙ sym (after_task-other p w t before' c spared)
+    held_in p (after_task eq p w t before) c ≡ held_in p (after_task eq p w t before') c
+step-same eq has p proper lawful t inside w before before' c reads other = elim (cases_Bool (has_cell (written_cells p t w) c)) [
+  | inr spared ↦ after_task-other eq p w t before c spared ∙ other spared ∙ sym (after_task-other eq p w t before' c spared)
   | inl writes ↦
       let cs = written_cells p t w in
-      let arrays = results p t w (held_in p before) in
-      let arrays' = results p t w (held_in p before') in
-      let finds : arrays ≡ arrays' = results-same p t w w (held_in p before) (held_in p before') (reads writes) in
-      let complete = results-complete p t w (held_in p before') (All-get_or (FitsCodelet p) p.tasks t.0 no_task inside proper.codelets) in
+      let arrays = results eq p t w (held_in p before) in
+      let arrays' = results eq p t w (held_in p before') in
+      let finds : arrays ≡ arrays' = results-same eq p t w w (held_in p before) (held_in p before') (reads writes) in
+      let complete = results-complete eq p t w (held_in p before') (task-fits p proper t inside) (task-makes_tiles eq has p proper lawful t inside) in
       held-append p (zip cs arrays) before c
       ∙ ap (λ (xs : List Array). held_over (zip cs xs) c (held_in p before c)) finds
       ∙ held_over-own cs arrays' c (held_in p before c) (held_in p before' c) writes (omega (arith, complete))
@@ -74,27 +75,27 @@ module _ (p : Program) (proper : Proper p) where
 
 -- ---- the cone of a cell
 
-module _ (has : Kernel → Bool) (p : Program) (proper : Proper p) (lawful : IsLawful has p) (by : Task → Worker) (staffed : (u : Task) → (by u).0 < p.workers) where
+module _ (eq : Equations) (has : Kernel → Bool) (p : Program) (proper : Proper p) (lawful : IsLawful eq has p) (by : Task → Worker) (staffed : (u : Task) → (by u).0 < p.workers) where
   -- of two tasks that don't conflict, where the first writes what the second reads, it writes all that the second writes
   pub shares-all : (u t : Task) → u.0 < length p.tasks → t.0 < length p.tasks → u.0 < t.0 → ¬ Conflict p u.0 t.0 → (d c : Cell) → has_cell (written_cells p u (by u)) d ≡ true → has_cell (cells_of p t (by t)) d ≡ true → has_cell (written_cells p t (by t)) c ≡ true → has_cell (written_cells p u (by u)) c ≡ true
-  shares-all u t u_in t_in before free d c writes works over = by_kind (may-swap has p proper lawful u t u_in t_in (by u) (by t) (staffed u) (staffed t) free (contributions-exchange p proper has lawful u t u_in t_in (by u) (by t) (staffed u) (staffed t) free before))
+  shares-all u t u_in t_in before free d c writes works over = by_kind (may-swap eq has p proper lawful u t u_in t_in (by u) (by t) (staffed u) (staffed t) free (contributions-exchange p proper eq has lawful u t u_in t_in (by u) (by t) (staffed u) (staffed t) free before))
     where
-      by_kind : MaySwap p proper lawful.arguments u t (by u) (by t) → has_cell (written_cells p u (by u)) c ≡ true
+      by_kind : MaySwap eq has p proper lawful u t (by u) (by t) → has_cell (written_cells p u (by u)) c ≡ true
       by_kind b = search arith
 
   -- where the chosen tasks have the earlier ones that conflict with them, a cell all of whose writers are chosen holds the
   -- same after them alone
   pub cone-shared : (chosen : Task → Bool) (n : ℕ) → n ≤ length p.tasks → ((u t : Task) → u.0 < t.0 → t.0 < n → chosen t ≡ true → Conflict p u.0 t.0 → chosen u ≡ true) →
-      (c : Cell) → ((u : Task) → u.0 < n → has_cell (written_cells p u (by u)) c ≡ true → chosen u ≡ true) → held_in p (after_chosen p chosen by n) c ≡ held_in p (after_chosen p (λ u. true) by n) c
+      (c : Cell) → ((u : Task) → u.0 < n → has_cell (written_cells p u (by u)) c ≡ true → chosen u ≡ true) → held_in p (after_chosen eq p chosen by n) c ≡ held_in p (after_chosen eq p (λ u. true) by n) c
   cone-shared chosen zero l closed c writers = refl
   cone-shared chosen (suc n) l closed c writers = by_choice (chosen (task n)) refl (cone-shared chosen n (omega arith) (λ u t before within. closed u t before (omega arith)))
     where
-      by_choice : (b : Bool) → chosen (task n) ≡ b → ((d : Cell) → ((u : Task) → u.0 < n → has_cell (written_cells p u (by u)) d ≡ true → chosen u ≡ true) → held_in p (after_chosen p chosen by n) d ≡ held_in p (after_chosen p (λ u. true) by n) d) →
-          held_in p (cond b (after_task p (by (task n)) (task n) (after_chosen p chosen by n)) (after_chosen p chosen by n)) c ≡ held_in p (after_task p (by (task n)) (task n) (after_chosen p (λ u. true) by n)) c
+      by_choice : (b : Bool) → chosen (task n) ≡ b → ((d : Cell) → ((u : Task) → u.0 < n → has_cell (written_cells p u (by u)) d ≡ true → chosen u ≡ true) → held_in p (after_chosen eq p chosen by n) d ≡ held_in p (after_chosen eq p (λ u. true) by n) d) →
+          held_in p (cond b (after_task eq p (by (task n)) (task n) (after_chosen eq p chosen by n)) (after_chosen eq p chosen by n)) c ≡ held_in p (after_task eq p (by (task n)) (task n) (after_chosen eq p (λ u. true) by n)) c
       by_choice false e rest =
           rest c (λ u h. writers u (omega arith))
-          ∙ sym (after_task-other p (by (task n)) (task n) (after_chosen p (λ u. true) by n) c (false_from_ne_true (has_cell (written_cells p (task n) (by (task n))) c) (λ over. false≢true (sym e ∙ writers (task n) (omega arith) over))))
-      by_choice true e rest = step-same p proper (task n) (omega arith) (by (task n)) (after_chosen p chosen by n) (after_chosen p (λ u. true) by n) c
+          ∙ sym (after_task-other eq p (by (task n)) (task n) (after_chosen eq p (λ u. true) by n) c (false_from_ne_true (has_cell (written_cells p (task n) (by (task n))) c) (λ over. false≢true (sym e ∙ writers (task n) (omega arith) over))))
+      by_choice true e rest = step-same eq has p proper lawful (task n) (omega arith) (by (task n)) (after_chosen eq p chosen by n) (after_chosen eq p (λ u. true) by n) c
           (λ over a h reads. rest (worked_on p (by (task n)) a) (λ u before writes. elim (cases_Bool (chosen u)) [
             | inl among ↦ among
             | inr left ↦
@@ -109,7 +110,7 @@ module _ (has : Kernel → Bool) (p : Program) (proper : Proper p) (lawful : IsL
 abbrev pub every : Task → Bool
 every u = true
 
-module _ (has : Kernel → Bool) (p : Program) (proper : Proper p) (lawful : IsLawful has p) (by by' : Task → Worker) (staffed : (u : Task) → (by u).0 < p.workers) (staffed' : (u : Task) → (by' u).0 < p.workers)
+module _ (eq : Equations) (has : Kernel → Bool) (p : Program) (proper : Proper p) (lawful : IsLawful eq has p) (by by' : Task → Worker) (staffed : (u : Task) → (by u).0 < p.workers) (staffed' : (u : Task) → (by' u).0 < p.workers)
     (t : Task) (t_in : t.0 < length p.tasks) (a : Access) (among : Contains (task_of p t).accesses a) (redux : a.mode ≡ Redux) (others : (u : Task) → u ≢ t → by' u ≡ by u) (lower : (by t).0 < (by' t).0) where
   -- ---- the phase and its two copies
 
@@ -144,8 +145,11 @@ module _ (has : Kernel → Bool) (p : Program) (proper : Proper p) (lawful : IsL
   k-before : k < k'
   k-before = phase.in_worker_order (by t).0 (by' t).0 0 lower (omega (arith, staffed' t, phase.combines_by_worker))
 
-  law : IsReduction f.by
-  law = reduces p proper has lawful f phase (by t) (staffed t)
+  reduced : Reduces eq f.by
+  reduced = reduces p proper eq has lawful f phase (by t) (staffed t)
+
+  law : IsReduction eq f.by
+  law = reduced.law
 
   cell-is : a.cell ≡ f.cell
   cell-is = sym of_t.cell
@@ -195,7 +199,7 @@ module _ (has : Kernel → Bool) (p : Program) (proper : Proper p) (lawful : IsL
     writes-only : (b : Access) (h : Contains (task_of p (task n)).accesses b) (redux' : b.mode ≡ Redux) (same : b.cell ≡ c) (own : Contains f.contributions n) (d : Cell) → has_cell (written_cells p (task n) v) d ≡ true → copy_of p c v ≡ d
     writes-only b h redux' same own d writes =
         let n_in = operand-inside p (task n) b h in
-        let one = (update has p proper lawful f phase (task n) n_in b h redux' same own v v_in).written in
+        let one = (update eq has p proper lawful f phase (task n) n_in b h redux' same own v v_in).written in
         sym (works-on (task n) n_in v v_in b h redux' same) ∙ same_cell-is (worked_on p v b) d (or_false (same_cell (worked_on p v b) d) (sym (ap (λ (cs : List Cell). has_cell cs d) one) ∙ writes))
 
     -- a task that writes another cell reads no copy but one that it combines
@@ -209,65 +213,65 @@ module _ (has : Kernel → Bool) (p : Program) (proper : Proper p) (lawful : IsL
     -- a copy that holds more by z in the one than in the other still does after each task but its combine
     carried : (one other : Contents) → AreSized p one → AreSized p other → (y : Worker) → y.0 < p.workers → n ≢ get_or f.combines y.0 0 → (z : Array) → IsTile z → z.dims ≡ dims_of p c →
         (Contains f.contributions n → (b : Access) → Contains (task_of p (task n)).accesses b → starts_as_zeros b.mode ≡ false → is_redux b.mode ≡ false → held_in p one b.cell ≡ held_in p other b.cell) →
-        held_in p one (copy_of p c y) ≡ combined f.by z (held_in p other (copy_of p c y)) →
-        held_in p (after_task p v (task n) one) (copy_of p c y) ≡ combined f.by z (held_in p (after_task p v (task n) other) (copy_of p c y))
+        held_in p one (copy_of p c y) ≡ combined eq f.by z (held_in p other (copy_of p c y)) →
+        held_in p (after_task eq p v (task n) one) (copy_of p c y) ≡ combined eq f.by z (held_in p (after_task eq p v (task n) other) (copy_of p c y))
     carried one other sized sized' y y_in no_combine z tz dz same more = elim (cases_Bool (has_cell (written_cells p (task n) v) (copy_of p c y))) [
-      | inr spared ↦ after_task-other p v (task n) one (copy_of p c y) spared ∙ more ∙ ap (combined f.by z) (sym (after_task-other p v (task n) other (copy_of p c y) spared))
+      | inr spared ↦ after_task-other eq p v (task n) one (copy_of p c y) spared ∙ more ∙ ap (combined eq f.by z) (sym (after_task-other eq p v (task n) other (copy_of p c y) spared))
       | inl writes ↦ by_kind (on-copy y y_in (written-among_cells p (task n) v (copy_of p c y) writes))
     ]
       where
-        by_kind : OnCopy n v y → held_in p (after_task p v (task n) one) (copy_of p c y) ≡ combined f.by z (held_in p (after_task p v (task n) other) (copy_of p c y))
+        by_kind : OnCopy n v y → held_in p (after_task eq p v (task n) one) (copy_of p c y) ≡ combined eq f.by z (held_in p (after_task eq p v (task n) other) (copy_of p c y))
         by_kind (Merges at) = absurd (no_combine at)
         by_kind (Adds b h redux' cell own_worker own) =
             let n_in = operand-inside p (task n) b h in
             let at : worked_on p v b ≡ copy_of p c y = works-on (task n) n_in v v_in b h redux' cell ∙ ap (copy_of p c) own_worker in
-            let u = update has p proper lawful f phase (task n) n_in b h redux' cell own v v_in in
-            let more_by : Contents → Array = part has p proper lawful f phase (task n) n_in b h redux' cell own v v_in in
-            let fills = part-fills has p proper lawful f phase (task n) n_in b h redux' cell own v v_in other sized' in
+            let u = update eq has p proper lawful f phase (task n) n_in b h redux' cell own v v_in in
+            let more_by : Contents → Array = part eq has p proper lawful f phase (task n) n_in b h redux' cell own v v_in in
+            let fills = part-fills eq has p proper lawful f phase (task n) n_in b h redux' cell own v v_in other sized' in
             let of_other = sized' (copy_of p c y) in
             let as_large : dims_of p c ≡ (held_in p other (copy_of p c y)).dims = sym (of_other.dims ∙ copy-dims y y_in) in
-            let parts : more_by one ≡ more_by other = part-same has p proper lawful f phase (task n) n_in b h redux' cell own v v v_in v_in one other (λ e first reads. same own e (subst (λ (es : List Access). Contains es e) (sym u.accesses) (Contains-append_left u.before (u.last ∷ []) e first)) reads (u.direct e first)) in
-            ap (held_in p (after_task p v (task n) one)) (sym at) ∙ adds has p proper lawful f phase (task n) n_in b h redux' cell own v v_in one sized
-            ∙ ap (λ (d : Cell). combined f.by (more_by one) (held_in p one d)) at
-            ∙ ap (λ (m : Array). combined f.by m (held_in p one (copy_of p c y))) parts
-            ∙ ap (combined f.by (more_by other)) more
-            ∙ combined-swap f.by law z (more_by other) (held_in p other (copy_of p c y)) tz fills.0 of_other.tile (dz ∙ as_large) (fills.1 ∙ as_large)
-            ∙ ap (λ (d : Cell). combined f.by z (combined f.by (more_by other) (held_in p other d))) (sym at)
-            ∙ ap (combined f.by z) (sym (adds has p proper lawful f phase (task n) n_in b h redux' cell own v v_in other sized') ∙ ap (held_in p (after_task p v (task n) other)) at)
+            let parts : more_by one ≡ more_by other = part-same eq has p proper lawful f phase (task n) n_in b h redux' cell own v v v_in v_in one other (λ e first reads. same own e (subst (λ (es : List Access). Contains es e) (sym u.accesses) (Contains-append_left u.before (u.last ∷ []) e first)) reads (u.direct e first)) in
+            ap (held_in p (after_task eq p v (task n) one)) (sym at) ∙ adds eq has p proper lawful f phase (task n) n_in b h redux' cell own v v_in one sized
+            ∙ ap (λ (d : Cell). combined eq f.by (more_by one) (held_in p one d)) at
+            ∙ ap (λ (m : Array). combined eq f.by m (held_in p one (copy_of p c y))) parts
+            ∙ ap (combined eq f.by (more_by other)) more
+            ∙ combined-swap eq f.by reduced z (more_by other) (held_in p other (copy_of p c y)) tz fills.0 of_other.tile (dz ∙ as_large) (fills.1 ∙ as_large)
+            ∙ ap (λ (d : Cell). combined eq f.by z (combined eq f.by (more_by other) (held_in p other d))) (sym at)
+            ∙ ap (combined eq f.by z) (sym (adds eq has p proper lawful f phase (task n) n_in b h redux' cell own v v_in other sized') ∙ ap (held_in p (after_task eq p v (task n) other)) at)
 
   -- ---- the two folds
 
   abbrev one : ℕ → Contents
-  one n = after_chosen p every by n
+  one n = after_chosen eq p every by n
 
   abbrev other : ℕ → Contents
-  other n = after_chosen p every by' n
+  other n = after_chosen eq p every by' n
 
   one-sized : (n : ℕ) → n ≤ length p.tasks → AreSized p (one n)
-  one-sized n l = after_chosen-sized p proper lawful.arguments every by staffed n l
+  one-sized n l = after_chosen-sized eq has p proper lawful every by staffed n l
 
   other-sized : (n : ℕ) → n ≤ length p.tasks → AreSized p (other n)
-  other-sized n l = after_chosen-sized p proper lawful.arguments every by' staffed' n l
+  other-sized n l = after_chosen-sized eq has p proper lawful every by' staffed' n l
 
   -- each other task runs on the same worker in both
-  other-next : (n : ℕ) → n ≢ t.0 → other (suc n) ≡ after_task p (by (task n)) (task n) (other n)
-  other-next n d = ap (λ (v : Worker). after_task p v (task n) (other n)) (others (task n) (λ e. d (ap (λ (u : Task). u.0) e)))
+  other-next : (n : ℕ) → n ≢ t.0 → other (suc n) ≡ after_task eq p (by (task n)) (task n) (other n)
+  other-next n d = ap (λ (v : Worker). after_task eq p v (task n) (other n)) (others (task n) (λ e. d (ap (λ (u : Task). u.0) e)))
 
   -- what the contribution adds
   abbrev x : Array
-  x = part has p proper lawful f phase t t_in a among redux cell-is of_t.among (by t) (staffed t) (one t.0)
+  x = part eq has p proper lawful f phase t t_in a among redux cell-is of_t.among (by t) (staffed t) (one t.0)
 
   x-fills : IsTile x × (x.dims ≡ dims_of p c)
-  x-fills = part-fills has p proper lawful f phase t t_in a among redux cell-is of_t.among (by t) (staffed t) (one t.0) (one-sized t.0 (omega (arith, t_in)))
+  x-fills = part-fills eq has p proper lawful f phase t t_in a among redux cell-is of_t.among (by t) (staffed t) (one t.0) (one-sized t.0 (omega (arith, t_in)))
 
   abbrev Same : ℕ → Cell → Type 0
   Same n d = held_in p (one n) d ≡ held_in p (other n) d
 
   abbrev More : ℕ → Cell → Type 0
-  More n d = held_in p (one n) d ≡ combined f.by x (held_in p (other n) d)
+  More n d = held_in p (one n) d ≡ combined eq f.by x (held_in p (other n) d)
 
   abbrev Less : ℕ → Cell → Type 0
-  Less n d = held_in p (other n) d ≡ combined f.by x (held_in p (one n) d)
+  Less n d = held_in p (other n) d ≡ combined eq f.by x (held_in p (one n) d)
 
   -- until the first of the two copies is combined
   record Begun (n : ℕ) : Type 0 where
@@ -293,7 +297,7 @@ module _ (has : Kernel → Bool) (p : Program) (proper : Proper p) (lawful : IsL
 
   -- the copies are no other cells
   begin-same : (n : ℕ) → n ≤ t.0 → one n ≡ other n
-  begin-same n l = after_chosen-same p every every by by' n (λ u h. refl) (λ u h e. sym (others u (λ f. (let g : u.0 ≡ t.0 = ap (λ (k : Task). k.0) f in omega (arith, l, h, g)))))
+  begin-same n l = after_chosen-same eq p every every by by' n (λ u h. refl) (λ u h e. sym (others u (λ f. (let g : u.0 ≡ t.0 = ap (λ (k : Task). k.0) f in omega (arith, l, h, g)))))
 
   -- ---- the contribution itself
 
@@ -301,21 +305,21 @@ module _ (has : Kernel → Bool) (p : Program) (proper : Proper p) (lawful : IsL
   entered = record {
     alike = λ d dq dq'. spared (by t) (staffed t) (one t.0) d (λ e. dq (e ∙ at (by t) (staffed t))) ∙ ap (λ (z : Contents). held_in p z d) (begin-same t.0 (omega arith)) ∙ sym (spared (by' t) (staffed' t) (other t.0) d (λ e. dq' (e ∙ at (by' t) (staffed' t))));
     more = ap (held_in p (one (suc t.0))) (sym (at (by t) (staffed t)))
-        ∙ adds has p proper lawful f phase t t_in a among redux cell-is of_t.among (by t) (staffed t) (one t.0) (one-sized t.0 (omega (arith, t_in)))
-        ∙ ap (λ (d : Cell). combined f.by x (held_in p (one t.0) d)) (at (by t) (staffed t))
-        ∙ ap (combined f.by x) (ap (λ (z : Contents). held_in p z q) (begin-same t.0 (omega arith)) ∙ sym (spared (by' t) (staffed' t) (other t.0) q (λ e. apart (e ∙ at (by' t) (staffed' t)))));
+        ∙ adds eq has p proper lawful f phase t t_in a among redux cell-is of_t.among (by t) (staffed t) (one t.0) (one-sized t.0 (omega (arith, t_in)))
+        ∙ ap (λ (d : Cell). combined eq f.by x (held_in p (one t.0) d)) (at (by t) (staffed t))
+        ∙ ap (combined eq f.by x) (ap (λ (z : Contents). held_in p z q) (begin-same t.0 (omega arith)) ∙ sym (spared (by' t) (staffed' t) (other t.0) q (λ e. apart (e ∙ at (by' t) (staffed' t)))));
     less = ap (held_in p (other (suc t.0))) (sym (at (by' t) (staffed' t)))
-        ∙ adds has p proper lawful f phase t t_in a among redux cell-is of_t.among (by' t) (staffed' t) (other t.0) (other-sized t.0 (omega (arith, t_in)))
-        ∙ ap (λ (m : Array). combined f.by m (held_in p (other t.0) (worked_on p (by' t) a))) (part-same has p proper lawful f phase t t_in a among redux cell-is of_t.among (by' t) (by t) (staffed' t) (staffed t) (other t.0) (one t.0) (λ b h reads. ap (λ (z : Contents). held_in p z b.cell) (sym (begin-same t.0 (omega arith)))))
-        ∙ ap (λ (d : Cell). combined f.by x (held_in p (other t.0) d)) (at (by' t) (staffed' t))
-        ∙ ap (combined f.by x) (ap (λ (z : Contents). held_in p z q') (sym (begin-same t.0 (omega arith))) ∙ sym (spared (by t) (staffed t) (one t.0) q' (λ e. apart (sym (e ∙ at (by t) (staffed t))))));
+        ∙ adds eq has p proper lawful f phase t t_in a among redux cell-is of_t.among (by' t) (staffed' t) (other t.0) (other-sized t.0 (omega (arith, t_in)))
+        ∙ ap (λ (m : Array). combined eq f.by m (held_in p (other t.0) (worked_on p (by' t) a))) (part-same eq has p proper lawful f phase t t_in a among redux cell-is of_t.among (by' t) (by t) (staffed' t) (staffed t) (other t.0) (one t.0) (λ b h reads. ap (λ (z : Contents). held_in p z b.cell) (sym (begin-same t.0 (omega arith)))))
+        ∙ ap (λ (d : Cell). combined eq f.by x (held_in p (other t.0) d)) (at (by' t) (staffed' t))
+        ∙ ap (combined eq f.by x) (ap (λ (z : Contents). held_in p z q') (sym (begin-same t.0 (omega arith))) ∙ sym (spared (by t) (staffed t) (one t.0) q' (λ e. apart (sym (e ∙ at (by t) (staffed t))))));
   }
     where
       at : (v : Worker) → v.0 < p.workers → worked_on p v a ≡ copy_of p c v
       at v v_in = works-on t t_in v v_in a among redux cell-is
 
-      spared : (v : Worker) (v_in : v.0 < p.workers) (before : Contents) (d : Cell) → d ≢ worked_on p v a → held_in p (after_task p v t before) d ≡ held_in p before d
-      spared v v_in before d differ = update-spares p proper lawful.arguments t t_in v v_in (worked_on p v a) (update has p proper lawful f phase t t_in a among redux cell-is of_t.among v v_in) before d differ
+      spared : (v : Worker) (v_in : v.0 < p.workers) (before : Contents) (d : Cell) → d ≢ worked_on p v a → held_in p (after_task eq p v t before) d ≡ held_in p before d
+      spared v v_in before d differ = update-spares eq has p proper lawful t t_in v v_in (worked_on p v a) (update eq has p proper lawful f phase t t_in a among redux cell-is of_t.among v v_in) before d differ
 
   -- ---- until the first copy is combined
 
@@ -332,14 +336,14 @@ module _ (has : Kernel → Bool) (p : Program) (proper : Proper p) (lawful : IsL
       let sized' = other-sized n (omega (arith, inside)) in
       record {
         alike = λ d dq dq'.
-            step-same p proper (task n) inside v (one n) (other n) d
+            step-same eq has p proper lawful (task n) inside v (one n) (other n) d
             (λ writes b has_b reads. h.alike (worked_on p v b) (reads-elsewhere n later within v v_in (by t) (staffed t) first d writes dq b has_b reads) (reads-elsewhere n later within v v_in (by' t) (staffed' t) second d writes dq' b has_b reads))
             (λ spared. h.alike d dq dq')
             ∙ ap (λ (z : Contents). held_in p z d) (sym moved);
         more = carried n later within v v_in (one n) (other n) sized sized' (by t) (staffed t) first x x-fills.0 x-fills.1
             (λ own b has_b reads direct. h.alike b.cell (reads-none n later within v v_in own b has_b reads direct (by t) (staffed t)) (reads-none n later within v v_in own b has_b reads direct (by' t) (staffed' t)))
             h.more
-            ∙ ap (λ (z : Contents). combined f.by x (held_in p z q)) (sym moved);
+            ∙ ap (λ (z : Contents). combined eq f.by x (held_in p z q)) (sym moved);
         less = ap (λ (z : Contents). held_in p z q') moved
             ∙ carried n later within v v_in (other n) (one n) sized' sized (by' t) (staffed' t) second x x-fills.0 x-fills.1
             (λ own b has_b reads direct. sym (h.alike b.cell (reads-none n later within v v_in own b has_b reads direct (by t) (staffed t)) (reads-none n later within v v_in own b has_b reads direct (by' t) (staffed' t))))
@@ -358,11 +362,11 @@ module _ (has : Kernel → Bool) (p : Program) (proper : Proper p) (lawful : IsL
     n-inside : n < length p.tasks
     n-inside = omega (arith, at, combine-inside y y_in)
 
-    merged : (before : Contents) → held_in p (after_task p v (task n) before) c ≡ combined f.by (held_in p before (copy_of p c y)) (held_in p before c)
-    merged before = merges has p proper lawful f phase has_copies y y_in (task n) n-inside is-combine v v_in before
+    merged : (before : Contents) → held_in p (after_task eq p v (task n) before) c ≡ combined eq f.by (held_in p before (copy_of p c y)) (held_in p before c)
+    merged before = merges eq has p proper lawful f phase has_copies y y_in (task n) n-inside is-combine v v_in before
 
-    merge-spares : (before : Contents) (d : Cell) → d ≢ c → held_in p (after_task p v (task n) before) d ≡ held_in p before d
-    merge-spares before d differ = update-spares p proper lawful.arguments (task n) n-inside v v_in c (merge has p proper lawful f phase has_copies y y_in (task n) n-inside is-combine v v_in) before d differ
+    merge-spares : (before : Contents) (d : Cell) → d ≢ c → held_in p (after_task eq p v (task n) before) d ≡ held_in p before d
+    merge-spares before d differ = update-spares eq has p proper lawful (task n) n-inside v v_in c (merge eq has p proper lawful f phase has_copies y y_in (task n) n-inside is-combine v v_in) before d differ
 
     merge-writes : (d : Cell) → has_cell (written_cells p (task n) v) d ≡ true → d ≡ c
     merge-writes d writes =
@@ -388,11 +392,11 @@ module _ (has : Kernel → Bool) (p : Program) (proper : Proper p) (lawful : IsL
       record {
         alike = λ d dq dq' dc. merge-spares (by t) (staffed t) k refl v v_in (one k) d dc ∙ h.alike d dq dq' ∙ sym (merge-spares (by t) (staffed t) k refl v v_in (other k) d dc) ∙ ap (λ (z : Contents). held_in p z d) (sym moved);
         more = merged (by t) (staffed t) k refl v v_in (one k)
-            ∙ ap (λ (m : Array). combined f.by m (held_in p (one k) c)) h.more
-            ∙ ap (combined f.by (combined f.by x (held_in p (other k) q))) (h.alike c (λ e. copy-not_cell (by t) (staffed t) (sym e)) (λ e. copy-not_cell (by' t) (staffed' t) (sym e)))
+            ∙ ap (λ (m : Array). combined eq f.by m (held_in p (one k) c)) h.more
+            ∙ ap (combined eq f.by (combined eq f.by x (held_in p (other k) q))) (h.alike c (λ e. copy-not_cell (by t) (staffed t) (sym e)) (λ e. copy-not_cell (by' t) (staffed' t) (sym e)))
             ∙ law.associative x (held_in p (other k) q) (held_in p (other k) c) x-fills.0 of_copy.0 of_cell.tile (x-fills.1 ∙ sym of_copy.1) (of_copy.1 ∙ sym of_cell.dims)
-            ∙ ap (combined f.by x) (sym (merged (by t) (staffed t) k refl v v_in (other k)) ∙ ap (λ (z : Contents). held_in p z c) (sym moved));
-        less = ap (λ (z : Contents). held_in p z q') moved ∙ merge-spares (by t) (staffed t) k refl v v_in (other k) q' (copy-not_cell (by' t) (staffed' t)) ∙ h.less ∙ ap (combined f.by x) (sym (merge-spares (by t) (staffed t) k refl v v_in (one k) q' (copy-not_cell (by' t) (staffed' t))));
+            ∙ ap (combined eq f.by x) (sym (merged (by t) (staffed t) k refl v v_in (other k)) ∙ ap (λ (z : Contents). held_in p z c) (sym moved));
+        less = ap (λ (z : Contents). held_in p z q') moved ∙ merge-spares (by t) (staffed t) k refl v v_in (other k) q' (copy-not_cell (by' t) (staffed' t)) ∙ h.less ∙ ap (combined eq f.by x) (sym (merge-spares (by t) (staffed t) k refl v v_in (one k) q' (copy-not_cell (by' t) (staffed' t))));
       }
 
   -- ---- until the second copy is combined
@@ -418,7 +422,7 @@ module _ (has : Kernel → Bool) (p : Program) (proper : Proper p) (lawful : IsL
       let moved = other-next n (λ e. omega (arith, after_t, e)) in
       record {
         alike = λ d dq dq' dc.
-            step-same p proper (task n) inside v (one n) (other n) d
+            step-same eq has p proper lawful (task n) inside v (one n) (other n) d
             (λ writes b has_b reads. h.alike (worked_on p v b)
             (λ e. unused n later within v v_in (by t) (staffed t) first (sym (ap (has_cell (cells_of p (task n) v)) e) ∙ read-among_cells p (task n) v b has_b reads))
             (λ e. unused n later within v v_in (by' t) (staffed' t) second (sym (ap (has_cell (cells_of p (task n) v)) e) ∙ read-among_cells p (task n) v b has_b reads))
@@ -426,10 +430,10 @@ module _ (has : Kernel → Bool) (p : Program) (proper : Proper p) (lawful : IsL
             (λ spared. h.alike d dq dq' dc)
             ∙ ap (λ (z : Contents). held_in p z d) (sym moved);
         more = elim (cases_Bool (has_cell (written_cells p (task n) v) c)) [
-          | inr spared ↦ after_task-other p v (task n) (one n) c spared ∙ h.more ∙ ap (combined f.by x) (sym (after_task-other p v (task n) (other n) c spared))
+          | inr spared ↦ after_task-other eq p v (task n) (one n) c spared ∙ h.more ∙ ap (combined eq f.by x) (sym (after_task-other eq p v (task n) (other n) c spared))
           | inl writes ↦ (let by_combine = on-cell n after_t within v v_in (written-among_cells p (task n) v c writes) in merged-more n later before inside h by_combine.0 by_combine.1 by_combine.2 v v_in)
         ]
-            ∙ ap (λ (z : Contents). combined f.by x (held_in p z c)) (sym moved);
+            ∙ ap (λ (z : Contents). combined eq f.by x (held_in p z c)) (sym moved);
         less = (search (arith, after_task-other, task, resting));
       }
     where
@@ -437,7 +441,7 @@ module _ (has : Kernel → Bool) (p : Program) (proper : Proper p) (lawful : IsL
       resting n later within v v_in second = false_from_ne_true (has_cell (written_cells p (task n) v) q') (λ writes. unused n later within v v_in (by' t) (staffed' t) second (written-among_cells p (task n) v q' writes))
 
       -- another copy is combined
-      merged-more : (n : ℕ) → k < n → n < k' → n < length p.tasks → Halfway n → (y : Worker) (y_in : y.0 < p.workers) → n ≡ get_or f.combines y.0 0 → (v : Worker) → v.0 < p.workers → held_in p (after_task p v (task n) (one n)) c ≡ combined f.by x (held_in p (after_task p v (task n) (other n)) c)
+      merged-more : (n : ℕ) → k < n → n < k' → n < length p.tasks → Halfway n → (y : Worker) (y_in : y.0 < p.workers) → n ≡ get_or f.combines y.0 0 → (v : Worker) → v.0 < p.workers → held_in p (after_task eq p v (task n) (one n)) c ≡ combined eq f.by x (held_in p (after_task eq p v (task n) (other n)) c)
       merged-more n later before inside h y y_in at v v_in =
           let l : n ≤ length p.tasks = omega (arith, inside) in
           let of_copy = copy-fills (other n) (other-sized n l) y y_in in
@@ -447,7 +451,7 @@ module _ (has : Kernel → Bool) (p : Program) (proper : Proper p) (lawful : IsL
           let first = merged y y_in n at v v_in (one n) in
           let second = merged y y_in n at v v_in (other n) in
           let same = h.alike (copy_of p c y) not_first not_second (copy-not_cell y y_in) in
-          let swapped = combined-swap f.by law x (held_in p (other n) (copy_of p c y)) (held_in p (other n) c) x-fills.0 of_copy.0 of_cell.tile (x-fills.1 ∙ sym of_cell.dims) (of_copy.1 ∙ sym of_cell.dims) in
+          let swapped = combined-swap eq f.by reduced x (held_in p (other n) (copy_of p c y)) (held_in p (other n) c) x-fills.0 of_copy.0 of_cell.tile (x-fills.1 ∙ sym of_cell.dims) (of_copy.1 ∙ sym of_cell.dims) in
           cc
 
   -- ---- both are combined
@@ -468,22 +472,22 @@ module _ (has : Kernel → Bool) (p : Program) (proper : Proper p) (lawful : IsL
       v_in : (by (task k')).0 < p.workers
       v_in = staffed (task k')
 
-      moved : other (suc k') ≡ after_task p (by (task k')) (task k') (other k')
+      moved : other (suc k') ≡ after_task eq p (by (task k')) (task k') (other k')
       moved = other-next k' (λ e. omega (arith, t-first, k-before, e))
 
-      cell : held_in p (after_task p (by (task k')) (task k') (one k')) c ≡ held_in p (after_task p (by (task k')) (task k') (other k')) c
+      cell : held_in p (after_task eq p (by (task k')) (task k') (one k')) c ≡ held_in p (after_task eq p (by (task k')) (task k') (other k')) c
       cell =
           let l : k' ≤ length p.tasks = omega (arith, inside) in
           let of_copy = copy-fills (one k') (one-sized k' l) (by' t) (staffed' t) in
           let of_cell = other-sized k' l c in
           let first = merged (by' t) (staffed' t) k' refl (by (task k')) v_in (one k') in
           let second = merged (by' t) (staffed' t) k' refl (by (task k')) v_in (other k') in
-          let swapped = combined-swap f.by law x (held_in p (one k') q') (held_in p (other k') c) x-fills.0 of_copy.0 of_cell.tile (x-fills.1 ∙ sym of_cell.dims) (of_copy.1 ∙ sym of_cell.dims) in
+          let swapped = combined-swap eq f.by reduced x (held_in p (one k') q') (held_in p (other k') c) x-fills.0 of_copy.0 of_cell.tile (x-fills.1 ∙ sym of_cell.dims) (of_copy.1 ∙ sym of_cell.dims) in
           let joined = law.associative x (held_in p (one k') q') (held_in p (other k') c) x-fills.0 of_copy.0 of_cell.tile (x-fills.1 ∙ sym of_copy.1) (of_copy.1 ∙ sym of_cell.dims) in
           cc
 
-      by_cell : (d : Cell) → d ≢ q → d ≢ q' → (same_cell d c ≡ true) ⊎ (same_cell d c ≡ false) → held_in p (after_task p (by (task k')) (task k') (one k')) d ≡ held_in p (after_task p (by (task k')) (task k') (other k')) d
-      by_cell d dq dq' (inl e) = subst (λ (z : Cell). held_in p (after_task p (by (task k')) (task k') (one k')) z ≡ held_in p (after_task p (by (task k')) (task k') (other k')) z) (sym (same_cell-is d c e)) cell
+      by_cell : (d : Cell) → d ≢ q → d ≢ q' → (same_cell d c ≡ true) ⊎ (same_cell d c ≡ false) → held_in p (after_task eq p (by (task k')) (task k') (one k')) d ≡ held_in p (after_task eq p (by (task k')) (task k') (other k')) d
+      by_cell d dq dq' (inl e) = subst (λ (z : Cell). held_in p (after_task eq p (by (task k')) (task k') (one k')) z ≡ held_in p (after_task eq p (by (task k')) (task k') (other k')) z) (sym (same_cell-is d c e)) cell
       by_cell d dq dq' (inr e) =
           let dc : d ≢ c = λ f. true≢false (sym (same_cell-itself d ∙ refl) ∙ ap (same_cell d) f ∙ e) in
           merge-spares (by' t) (staffed' t) k' refl (by (task k')) v_in (one k') d dc ∙ h.alike d dq dq' dc ∙ sym (merge-spares (by' t) (staffed' t) k' refl (by (task k')) v_in (other k') d dc)
@@ -496,7 +500,7 @@ module _ (has : Kernel → Bool) (p : Program) (proper : Proper p) (lawful : IsL
       let v_in = staffed (task n) in
       record {
         alike = λ d fresh fresh'.
-            step-same p proper (task n) inside v (one n) (other n) d
+            step-same eq has p proper lawful (task n) inside v (one n) (other n) d
             (λ writes b has_b reads. h.alike (worked_on p v b)
             (λ e. refilled p proper f phase has_copies (by t) (staffed t) n (omega (arith, later, k-before)) v v_in b has_b reads e)
             (λ e. refilled p proper f phase has_copies (by' t) (staffed' t) n later v v_in b has_b reads e))
@@ -527,13 +531,13 @@ module _ (has : Kernel → Bool) (p : Program) (proper : Proper p) (lawful : IsL
       by_stage (Last later h) = Last (omega (arith, later)) (rests n later (omega (arith, l)) h)
 
   -- a cell that is no partial copy, and under no open phase, holds the same
-  pub rerouted : (n : ℕ) → n ≤ length p.tasks → (d : Cell) → IsPlain p d → ((g : Phase) → IsPhase p g → g.cell ≡ d → ¬ IsOpenAt g n) → held_in p (after_chosen p every by n) d ≡ held_in p (after_chosen p every by' n) d
+  pub rerouted : (n : ℕ) → n ≤ length p.tasks → (d : Cell) → IsPlain p d → ((g : Phase) → IsPhase p g → g.cell ≡ d → ¬ IsOpenAt g n) → held_in p (after_chosen eq p every by n) d ≡ held_in p (after_chosen eq p every by' n) d
   rerouted n l d plain closed = by_stage (differ n l)
     where
       not_copy : (y : Worker) → y.0 < p.workers → d ≢ copy_of p c y
       not_copy y y_in e = plain c y (record { has_copies = has_copies; of_worker = y_in; is = e })
 
-      by_stage : Differ n → held_in p (after_chosen p every by n) d ≡ held_in p (after_chosen p every by' n) d
+      by_stage : Differ n → held_in p (after_chosen eq p every by n) d ≡ held_in p (after_chosen eq p every by' n) d
       by_stage (Before before same) = ap (λ (z : Contents). held_in p z d) same
       by_stage (First later before h) = h.alike d (not_copy (by t) (staffed t)) (not_copy (by' t) (staffed' t))
       by_stage (Second later before h) = h.alike d (not_copy (by t) (staffed t)) (not_copy (by' t) (staffed' t)) (λ e. closed (contributes p proper t a among redux).phase phase (sym e) (record {
@@ -545,21 +549,21 @@ module _ (has : Kernel → Bool) (p : Program) (proper : Proper p) (lawful : IsL
 -- ---- what cells hold after all tasks up to one doesn't depend on the workers of the contributions, but in partial copies
 -- and under open phases
 
-module _ (has : Kernel → Bool) (p : Program) (proper : Proper p) (lawful : IsLawful has p) (n : ℕ) (within : n ≤ length p.tasks) (d : Cell) (plain : IsPlain p d) (closed : (g : Phase) → IsPhase p g → g.cell ≡ d → ¬ IsOpenAt g n) where
+module _ (eq : Equations) (has : Kernel → Bool) (p : Program) (proper : Proper p) (lawful : IsLawful eq has p) (n : ℕ) (within : n ≤ length p.tasks) (d : Cell) (plain : IsPlain p d) (closed : (g : Phase) → IsPhase p g → g.cell ≡ d → ¬ IsOpenAt g n) where
   -- one task by another worker
-  reassigned : (by by' : Task → Worker) → ((u : Task) → (by u).0 < p.workers) → ((u : Task) → (by' u).0 < p.workers) → (t : Task) → t.0 < length p.tasks → ((u : Task) → u ≢ t → by' u ≡ by u) → held_in p (after_chosen p every by n) d ≡ held_in p (after_chosen p every by' n) d
+  reassigned : (by by' : Task → Worker) → ((u : Task) → (by u).0 < p.workers) → ((u : Task) → (by' u).0 < p.workers) → (t : Task) → t.0 < length p.tasks → ((u : Task) → u ≢ t → by' u ≡ by u) → held_in p (after_chosen eq p every by n) d ≡ held_in p (after_chosen eq p every by' n) d
   reassigned by by' staffed staffed' t inside others = elim (cases_Bool (list_any (λ (a : Access). is_redux a.mode) (task_of p t).accesses)) [
     | inl some ↦
         let found = list_any-some (λ (a : Access). is_redux a.mode) (task_of p t).accesses some in
         let redux : found.0.mode ≡ Redux = elim (redux_or found.0.mode) [ inl e ↦ e | inr e ↦ absurd (true≢false (sym found.2 ∙ e)) ] in
         elim (cases_lt (by t).0 (by' t).0) [
-          | inl lower ↦ rerouted has p proper lawful by by' staffed staffed' t inside found.0 found.1 redux others lower n within d plain closed
+          | inl lower ↦ rerouted eq has p proper lawful by by' staffed staffed' t inside found.0 found.1 redux others lower n within d plain closed
           | inr rest ↦ elim (cases_eq (by t).0 (by' t).0) [
-            | inl e ↦ ap (λ z. held_in p z d) (after_chosen-same p every every by by' n (λ u h. refl) (λ u h k. same_worker u (ap (λ (i : ℕ). let v : Worker = record { 0 = i } in v) e)))
-            | inr differ ↦ sym (rerouted has p proper lawful by' by staffed' staffed t inside found.0 found.1 redux (λ u other. sym (others u other)) (omega (arith, rest, differ)) n within d plain closed)
+            | inl e ↦ ap (λ z. held_in p z d) (after_chosen-same eq p every every by by' n (λ u h. refl) (λ u h k. same_worker u (ap (λ (i : ℕ). let v : Worker = record { 0 = i } in v) e)))
+            | inr differ ↦ sym (rerouted eq has p proper lawful by' by staffed' staffed t inside found.0 found.1 redux (λ u other. sym (others u other)) (omega (arith, rest, differ)) n within d plain closed)
           ]
         ]
-    | inr none ↦ cone-holds p every every by by' n (record { within = λ u h e. e; alike = λ u h e. works_alike u none; closed = λ u v e before h k l m o. refl }) d (λ u h k l. refl)
+    | inr none ↦ cone-holds eq p every every by by' n (record { within = λ u h e. e; alike = λ u h e. works_alike u none; closed = λ u v e before h k l m o. refl }) d (λ u h k l. refl)
   ]
     where
       same_worker : (u : Task) → by t ≡ by' t → by u ≡ by' u
@@ -588,10 +592,10 @@ module _ (has : Kernel → Bool) (p : Program) (proper : Proper p) (lawful : IsL
     one_more : (m : ℕ) (u : Task) → u ≢ task m → mixed (suc m) u ≡ mixed m u
     one_more m u other = search (arith, cases_lt, mixed-below, differ, task, mixed-from)
 
-    chained : (m : ℕ) → m ≤ n → held_in p (after_chosen p every by n) d ≡ held_in p (after_chosen p every (mixed m) n) d
-    chained zero l = ap (λ z. held_in p z d) (after_chosen-same p every every by (mixed 0) n (λ u h. refl) (λ u h e. sym (mixed-from 0 u (omega arith))))
+    chained : (m : ℕ) → m ≤ n → held_in p (after_chosen eq p every by n) d ≡ held_in p (after_chosen eq p every (mixed m) n) d
+    chained zero l = ap (λ z. held_in p z d) (after_chosen-same eq p every every by (mixed 0) n (λ u h. refl) (λ u h e. sym (mixed-from 0 u (omega arith))))
     chained (suc m) l = chained m (omega (arith, l)) ∙ reassigned (mixed m) (mixed (suc m)) (mixed-staffed m) (mixed-staffed (suc m)) (task m) (omega (arith, l, within)) (one_more m)
 
     -- whichever workers ran the tasks
-    pub workers-alike : held_in p (after_chosen p every by n) d ≡ held_in p (after_chosen p every by' n) d
-    workers-alike = chained n (omega arith) ∙ ap (λ z. held_in p z d) (after_chosen-same p every every (mixed n) by' n (λ u h. refl) (λ u h e. mixed-below n u h))
+    pub workers-alike : held_in p (after_chosen eq p every by n) d ≡ held_in p (after_chosen eq p every by' n) d
+    workers-alike = chained n (omega arith) ∙ ap (λ z. held_in p z d) (after_chosen-same eq p every every (mixed n) by' n (λ u h. refl) (λ u h e. mixed-below n u h))

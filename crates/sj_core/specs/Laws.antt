@@ -4,8 +4,8 @@ use Rattle.std.specs.Prelude.{◌≡◌, ℕ, ◌<◌, ◌≤◌, Bool, false, t
 use Rattle.std.specs.Int.{w64}
 use Rattle.sj_base.specs.declared.program.Codelet.{Codelet}
 use Rattle.sj_codelet.specs.declared.kernel.Kernel.{Kernel}
-use Rattle.sj_codelet.specs.Kernel.{kernel_of}
-use Rattle.sj_codelet.specs.Laws.{CommutingCommute, ContributingContribute, ReductionsReduce}
+use Rattle.sj_codelet.specs.Kernel.{Equations, kernel_of}
+use Rattle.sj_codelet.specs.Laws.{AllMakeTiles, CommutingCommute, ContributingContribute, ReductionsReduce}
 use Rattle.sj_base.specs.declared.ids.Task.{Task}
 use Rattle.sj_base.specs.declared.ids.Node.{Node}
 use Rattle.sj_base.specs.declared.ids.Worker.{Worker}
@@ -77,18 +77,20 @@ EventsChangeRows = (p : Program) (m : Machine) (s : State) (e : Event) (c : Cell
 abbrev pub is_known : (Kernel → Bool) → Codelet → Bool
 is_known has id = elim (kernel_of id) [ None ↦ false | Some kernel ↦ has kernel ]
 
--- the set has each codelet of the program and obeys the laws of a set; and each argument of a task is an i64
-pub record IsLawful (has : Kernel → Bool) (p : Program) : Type 0 where
+-- the set has each codelet of the program and obeys, with these equations, the laws of a set; and each argument of a task is an
+-- i64
+pub record IsLawful (eq : Equations) (has : Kernel → Bool) (p : Program) : Type 0 where
   pub known : All (λ l. IsTrue (is_known has l.codelet)) p.tasks
   pub arguments : All (λ l. All (FitsSigned w64) l.args) p.tasks
-  pub commuting : CommutingCommute has
-  pub contributing : ContributingContribute has
-  pub reducing : ReductionsReduce has
+  pub making : AllMakeTiles eq has
+  pub commuting : CommutingCommute eq has
+  pub contributing : ContributingContribute eq has
+  pub reducing : ReductionsReduce eq has
 
 -- each event that may happen in a coherent state whose arrays are what the tasks leave leaves such arrays, by the laws of the
 -- program's set
 abbrev pub EventsKeepContent : Type 0
-EventsKeepContent = (has : Kernel → Bool) (p : Program) (m : Machine) (s : State) (A : Arrays) (e : Event) → IsSound p m s → IsLawful has p → HoldsContent p m s A → May p m s e → HoldsContent p m (after p m s e) (arrays_after p m A e)
+EventsKeepContent = (eq : Equations) (has : Kernel → Bool) (p : Program) (m : Machine) (s : State) (A : Arrays) (e : Event) → IsSound p m s → IsLawful eq has p → HoldsContent eq p m s A → May p m s e → HoldsContent eq p m (after p m s e) (arrays_after eq p m A e)
 
 -- ---- what a task finds
 
@@ -100,7 +102,7 @@ pub data HasAtHand (m : Machine) (s : State) (t : Task) (w : Worker) (c : Cell) 
 -- each operand whose old value a task reads has on its worker's node what the tasks that are done leave in the cell that is
 -- worked on
 abbrev pub FindsContent : Type 0
-FindsContent = (p : Program) (m : Machine) (s : State) (A : Arrays) (t : Task) (w : Worker) (a : Access) → IsSound p m s → HoldsContent p m s A → Contains (task_of p t).accesses a → IsTrue (reads_value a.mode) → HasAtHand m s t w (worked_on p w a) → A (worked_on p w a) (AtNode (node_of m w)) ≡ content p s (worked_on p w a)
+FindsContent = (eq : Equations) (p : Program) (m : Machine) (s : State) (A : Arrays) (t : Task) (w : Worker) (a : Access) → IsSound p m s → HoldsContent eq p m s A → Contains (task_of p t).accesses a → IsTrue (reads_value a.mode) → HasAtHand m s t w (worked_on p w a) → A (worked_on p w a) (AtNode (node_of m w)) ≡ content eq p s (worked_on p w a)
 
 -- the cell is no partial copy, and no phase of it is open at the task of this number
 pub record IsSettled (p : Program) (n : ℕ) (c : Cell) : Type 0 where
@@ -109,15 +111,15 @@ pub record IsSettled (p : Program) (n : ℕ) (c : Cell) : Type 0 where
 
 -- and where such an operand stands in the order of tasks, that is the array that its cell holds after all tasks before
 abbrev pub FindsEarlierTasks : Type 0
-FindsEarlierTasks = (has : Kernel → Bool) (p : Program) (m : Machine) (s : State) (A : Arrays) (t : Task) (w : Worker) (a : Access) → IsSound p m s → HoldsContent p m s A → IsLawful has p → Contains (task_of p t).accesses a → IsTrue (reads_value a.mode) → IsTrue (is_in_order a.mode) → IsSettled p t.0 a.cell → HasAtHand m s t w a.cell → A a.cell (AtNode (node_of m w)) ≡ held_before p t.0 a.cell
+FindsEarlierTasks = (eq : Equations) (has : Kernel → Bool) (p : Program) (m : Machine) (s : State) (A : Arrays) (t : Task) (w : Worker) (a : Access) → IsSound p m s → HoldsContent eq p m s A → IsLawful eq has p → Contains (task_of p t).accesses a → IsTrue (reads_value a.mode) → IsTrue (is_in_order a.mode) → IsSettled p t.0 a.cell → HasAtHand m s t w a.cell → A a.cell (AtNode (node_of m w)) ≡ held_before eq p t.0 a.cell
 
 -- a task that reads one cell and does nothing else has on its worker's node the array that it hands over
 abbrev pub DeliversGiven : Type 0
-DeliversGiven = (has : Kernel → Bool) (p : Program) (m : Machine) (s : State) (A : Arrays) (t : Task) (w : Worker) (c : Cell) → IsSound p m s → HoldsContent p m s A → IsLawful has p → (task_of p t).accesses ≡ access R c ∷ [] → HasAtHand m s t w c → A c (AtNode (node_of m w)) ≡ given p t
+DeliversGiven = (eq : Equations) (has : Kernel → Bool) (p : Program) (m : Machine) (s : State) (A : Arrays) (t : Task) (w : Worker) (c : Cell) → IsSound p m s → HoldsContent eq p m s A → IsLawful eq has p → (task_of p t).accesses ≡ access R c ∷ [] → HasAtHand m s t w c → A c (AtNode (node_of m w)) ≡ given eq p t
 
 -- what such a cell holds after all tasks below n doesn't depend on the workers of contributions
 abbrev pub TakesAnyWorker : Type 0
-TakesAnyWorker = (has : Kernel → Bool) (p : Program) (n : ℕ) (c : Cell) (by : Task → Worker) → Proper p → IsLawful has p → n ≤ length p.tasks → IsSettled p n c → 0 < p.workers → ((u : Task) → (by u).0 < p.workers) → held_in p (after_chosen p (λ u. true) by n) c ≡ held_before p n c
+TakesAnyWorker = (eq : Equations) (has : Kernel → Bool) (p : Program) (n : ℕ) (c : Cell) (by : Task → Worker) → Proper p → IsLawful eq has p → n ≤ length p.tasks → IsSettled p n c → 0 < p.workers → ((u : Task) → (by u).0 < p.workers) → held_in p (after_chosen eq p (λ u. true) by n) c ≡ held_before eq p n c
 
 -- ---- whole traces
 
@@ -147,18 +149,18 @@ abbrev pub DisksAreOfMachine : Type 0
 DisksAreOfMachine = (p : Program) (m : Machine) (c : Cell) (d : DiskNo) → disk_of p m c ≡ Some d → d.0 < length m.disks
 
 -- the array of a cell after all tasks of the program in submission order, with each contribution by worker 0
-abbrev pub final : Program → Cell → Array
-final p c = held_before p (length p.tasks) c
+abbrev pub final : Equations → Program → Cell → Array
+final eq p c = held_before eq p (length p.tasks) c
 
 -- each cell to which a task gives a value has a copy, and each holds what all tasks leave, unless the cell is a
 -- partial copy
-pub record HoldsFinal (p : Program) (m : Machine) (s : State) (A : Arrays) : Type 0 where
+pub record HoldsFinal (eq : Equations) (p : Program) (m : Machine) (s : State) (A : Arrays) : Type 0 where
   pub somewhere : (t : Task) (c : Cell) → IsTrue (gives_value (task_of p t) c) → (q : Place) × IsTrue (has_copy p m s c q)
-  pub alike : (t : Task) (c : Cell) (q : Place) → IsTrue (gives_value (task_of p t) c) → IsPlain p c → IsTrue (has_copy p m s c q) → A c q ≡ final p c
+  pub alike : (t : Task) (c : Cell) (q : Place) → IsTrue (gives_value (task_of p t) c) → IsPlain p c → IsTrue (has_copy p m s c q) → A c q ≡ final eq p c
 
 -- it is so where all tasks are done
 abbrev pub CompleteHoldsFinal : Type 0
-CompleteHoldsFinal = (has : Kernel → Bool) (p : Program) (m : Machine) (s : State) (A : Arrays) → IsSound p m s → HoldsContent p m s A → IsLawful has p → IsComplete s → HoldsFinal p m s A
+CompleteHoldsFinal = (eq : Equations) (has : Kernel → Bool) (p : Program) (m : Machine) (s : State) (A : Arrays) → IsSound p m s → HoldsContent eq p m s A → IsLawful eq has p → IsComplete s → HoldsFinal eq p m s A
 
 -- each legal trace of a proper program leaves a coherent state
 abbrev pub TracesKeepCoherence : Type 0
@@ -166,8 +168,8 @@ TracesKeepCoherence = (p : Program) (m : Machine) (trace : List Event) → Prope
 
 -- and arrays that are what the tasks leave, by the laws of the program's set
 abbrev pub TracesKeepContent : Type 0
-TracesKeepContent = (has : Kernel → Bool) (p : Program) (m : Machine) (trace : List Event) → Proper p → IsMachineFor p m → IsLawful has p → IsLegal p m trace → HoldsContent p m (state_of p m trace) (arrays_of p m trace)
+TracesKeepContent = (eq : Equations) (has : Kernel → Bool) (p : Program) (m : Machine) (trace : List Event) → Proper p → IsMachineFor p m → IsLawful eq has p → IsLegal p m trace → HoldsContent eq p m (state_of p m trace) (arrays_of eq p m trace)
 
 -- and where it is complete, the cells hold what all tasks leave
 abbrev pub CompleteTracesHoldFinal : Type 0
-CompleteTracesHoldFinal = (has : Kernel → Bool) (p : Program) (m : Machine) (trace : List Event) → Proper p → IsMachineFor p m → IsLawful has p → IsFinished p m trace → HoldsFinal p m (state_of p m trace) (arrays_of p m trace)
+CompleteTracesHoldFinal = (eq : Equations) (has : Kernel → Bool) (p : Program) (m : Machine) (trace : List Event) → Proper p → IsMachineFor p m → IsLawful eq has p → IsFinished p m trace → HoldsFinal eq p m (state_of p m trace) (arrays_of eq p m trace)

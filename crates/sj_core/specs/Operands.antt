@@ -8,7 +8,7 @@ use Rattle.sj_base.specs.declared.program.Program.{Program}
 use Rattle.sj_base.specs.Array.{Array, zeros}
 use Rattle.sj_core.specs.Program.{cell_info, dims_of, task_of, data_operands, written_operands}
 use Rattle.sj_base.specs.Mode.{is_redux, is_commute, starts_as_zeros}
-use Rattle.sj_codelet.specs.Kernel.{out}
+use Rattle.sj_codelet.specs.Kernel.{Equations}
 
 -- the partial copy of a cell on which a worker's contributions add up; the cell itself where it has none
 abbrev pub copy_of : Program → Cell → Worker → Cell
@@ -38,8 +38,8 @@ commuting_cells p t = map (λ a. a.cell) (filter (λ a. is_commute a.mode) (task
 abbrev pub found : Program → Worker → (Cell → Array) → Access → Array
 found p w held a = if starts_as_zeros a.mode then zeros (dims_of p a.cell) else held (worked_on p w a)
 
--- the new arrays of a task's written cells, in operand order, from what the cells hold
-abbrev pub results : Program → Task → Worker → (Cell → Array) → List Array
-results p t w held =
+-- the new arrays of a task's written cells, in operand order, by the equations of codelets from what the cells hold
+abbrev pub results : Equations → Program → Task → Worker → (Cell → Array) → List Array
+results eq p t w held =
     let l = task_of p t in
-    out l.codelet l.args (map (found p w held) l.accesses)
+    eq l.codelet l.args (map (found p w held) l.accesses)

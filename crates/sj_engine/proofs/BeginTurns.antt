@@ -13,6 +13,7 @@ use Rattle.sj_base.specs.declared.program.Machine.{Machine}
 use Rattle.sj_base.specs.Array.{Array, zeros}
 use Rattle.sj_base.specs.Mode.{reads_value}
 use Rattle.sj_codelet.specs.Frame.{Slot, arrays}
+use Rattle.sj_codelet.specs.Kernel.{out}
 use Rattle.sj_core.specs.declared.progress.Progress.{Progress}
 use Rattle.sj_core.specs.declared.progress.Progress.TheVariants.{Claimed, Running, Waiting}
 use Rattle.sj_core.specs.Machine.{State, is_running_on, progress}
@@ -44,7 +45,7 @@ use Rattle.sj_core.proofs.Words.{fresh_cells}
 use Rattle.sj_core.specs.Proper.{Proper}
 
 -- what a task reads is there as it was when it begins
-read-same : (p : Program) → Proper p → (m : Machine) (A : Arrays) (t : Task) (w : Worker) → w.0 < p.workers → (a : Access) → Contains (task_of p t).accesses a → reads_value a.mode ≡ true → arrays_after p m A (Run t w) (worked_on p w a) (AtNode (node_of m w)) ≡ A (worked_on p w a) (AtNode (node_of m w))
+read-same : (p : Program) → Proper p → (m : Machine) (A : Arrays) (t : Task) (w : Worker) → w.0 < p.workers → (a : Access) → Contains (task_of p t).accesses a → reads_value a.mode ≡ true → arrays_after out p m A (Run t w) (worked_on p w a) (AtNode (node_of m w)) ≡ A (worked_on p w a) (AtNode (node_of m w))
 read-same p proper m A t w known a among reads =
     second_fails (same_place (AtNode (node_of m w)) (AtNode (node_of m w))) (has_cell (fresh_cells p t w) (worked_on p w a)) (zeros (dims_of p (worked_on p w a))) (A (worked_on p w a) (AtNode (node_of m w))) (found-not_fresh p proper t w known a among (ap not reads))
 
@@ -87,7 +88,7 @@ module _ {D : Type 0} (size faults mismatches : D → ℕ) (held : D → Option 
     its-state : state y.run ≡ after b.run.program b.run.machine (state b.run) (Run t w)
     its-state = state-after b y (Run t w) (ap (λ (k : BoardState D). k.run) its-event)
 
-    its-arrays : run_arrays y.run ≡ arrays_after b.run.program b.run.machine (run_arrays b.run) (Run t w)
+    its-arrays : run_arrays y.run ≡ arrays_after out b.run.program b.run.machine (run_arrays b.run) (Run t w)
     its-arrays = arrays-after b y (Run t w) (ap (λ (k : BoardState D). k.run) its-event)
 
     pub begun-turn : Spares x.run (Run t w) y.run → IsTurnOf faults mismatches w b y

@@ -8,6 +8,7 @@ use Rattle.sj_base.specs.declared.ids.Worker.{Worker}
 use Rattle.sj_base.specs.declared.trace.Event.{Event}
 use Rattle.sj_base.specs.declared.trace.Event.TheVariants.{Moved, Drop}
 use Rattle.sj_base.specs.Array.{Array}
+use Rattle.sj_codelet.specs.Kernel.{out}
 use Rattle.sj_core.specs.declared.progress.Progress.TheVariants.{Claimed}
 use Rattle.sj_core.specs.declared.progress.Transfer.{Transfer}
 use Rattle.sj_core.specs.Machine.{State, WorkerState, cell_state, progress, transfer, with_row, with_transfer}
@@ -37,8 +38,8 @@ use Rattle.sj_core.specs.Arrays.{arrays_after}
 pub state-after : {D : Type 0} (b : BoardState D) (y : BoardState D) (e : Event) → y.run ≡ with_event b.run e → state y.run ≡ after b.run.program b.run.machine (state b.run) e
 state-after b y e run = ap state run ∙ state_of-more b.run.program b.run.machine b.run.trace e
 
-pub arrays-after : {D : Type 0} (b : BoardState D) (y : BoardState D) (e : Event) → y.run ≡ with_event b.run e → run_arrays y.run ≡ arrays_after b.run.program b.run.machine (run_arrays b.run) e
-arrays-after b y e run = ap run_arrays run ∙ arrays_of-more b.run.program b.run.machine b.run.trace e
+pub arrays-after : {D : Type 0} (b : BoardState D) (y : BoardState D) (e : Event) → y.run ≡ with_event b.run e → run_arrays y.run ≡ arrays_after out b.run.program b.run.machine (run_arrays b.run) e
+arrays-after b y e run = ap run_arrays run ∙ arrays_of-more out b.run.program b.run.machine b.run.trace e
 
 -- what has happened on a board that was found as another
 module _ {D : Type 0} (b x y : BoardState D) (ex : x ≡ b) where

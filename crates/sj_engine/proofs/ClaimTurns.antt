@@ -85,7 +85,7 @@ reads-data Scratch h = absurd (false≢true h)
 reads-data Redux h = refl
 reads-data Commute h = refl
 
-pub results-agree : (p : Program) (t : Task) (w : Worker) (f g : Cell → Array) → map f (cells_of p t w) ≡ map g (cells_of p t w) → results p t w f ≡ results p t w g
+pub results-agree : (p : Program) (t : Task) (w : Worker) (f g : Cell → Array) → map f (cells_of p t w) ≡ map g (cells_of p t w) → results out p t w f ≡ results out p t w g
 results-agree p t w f g e = ap (λ (ins : List Array). out (task_of p t).codelet (task_of p t).args ins) (map-agree (found p w f) (found p w g) (task_of p t).accesses (λ a among. one a among (reads_value a.mode) refl))
   where
     over : map (λ (a : Access). f (worked_on p w a)) (data_operands (task_of p t)) ≡ map (λ (a : Access). g (worked_on p w a)) (data_operands (task_of p t))
@@ -122,7 +122,7 @@ module _ {D : Type 0} (size faults mismatches : D → ℕ) (held : D → Option 
         ∙ ap (λ (g : Progress). Some (if is_running_on w g then m else [])) runs
         ∙ ap (λ (c : Bool). Some (if c then m else [])) (same_worker-refl w)
 
-    told-results : HoldResults b.run.program w t (row_in b w) slots → arrays slots ≡ results b.run.program t w (held_at (run_arrays b.run) (AtNode (node_of b.run.machine w)))
+    told-results : HoldResults b.run.program w t (row_in b w) slots → arrays slots ≡ results out b.run.program t w (held_at (run_arrays b.run) (AtNode (node_of b.run.machine w)))
     told-results k = k.results ∙ results-agree b.run.program t w k.holds (held_at (run_arrays b.run) (AtNode (node_of b.run.machine w))) (same_Some _ _ (sym k.cells ∙ operands-are))
 
     pub end-written : AreResultsFor held x.run t w slots

@@ -9,7 +9,6 @@ use Rattle.std.proofs.Crossing.{crosses}
 use Rattle.std.specs.contracts.alloc.Global as Global
 use Rattle.std.specs.contracts.option.Option as Options
 use Rattle.sj_base.proofs.program.Program.TheSendSync as Program
-use Rattle.sj_base.proofs.program.Machine.TheSendSync as Machine
 use Rattle.sj_base.proofs.trace.Trace.TheSendSync as Trace
 use Rattle.sj_deps.specs.contracts.deps.Deps as Deps
 use Rattle.sj_pool.proofs.chunk.Chunk.TheSendSync as Chunk

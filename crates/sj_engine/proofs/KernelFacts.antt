@@ -304,7 +304,7 @@ module _ (p : Program) (proper : Proper p) (t : Task) (inside : t.0 < length p.t
       ready = subst (λ (fs : List Formal). AreReady fs (operands_from p (task_of p t).accesses (arrays taken))) (sym the-formals) (ready-from p (formals_of the-fit.kernel) (task_of p t).accesses (arrays taken) the-suit);
     }
 
-    pub frame-fits : (has : Kernel → Bool) → IsLawful has p → IsTrue (fits_in has (task_of p t).codelet (task_of p t).args (all_dims (operands_from p (task_of p t).accesses (arrays taken))))
+    pub frame-fits : (has : Kernel → Bool) → IsLawful out has p → IsTrue (fits_in has (task_of p t).codelet (task_of p t).args (all_dims (operands_from p (task_of p t).accesses (arrays taken))))
     frame-fits has lawful =
         let l = task_of p t in
         let ds = all_dims (operands_from p l.accesses (arrays taken)) in
@@ -323,7 +323,7 @@ module _ (p : Program) (proper : Proper p) (t : Task) (inside : t.0 < length p.t
           let suit : all_suit fs (modes_in (task_of p t).accesses) ≡ true = ap (λ (l : List Formal). all_suit l (modes_in (task_of p t).accesses)) the-formals ∙ the-suit in
           results-dims p fs (task_of p t).accesses old.slots new.slots suit (ap all_dims made ∙ frame-dims) ran.kept
 
-      pub ran-results : (w : Worker) (held : Cell → Array) → arrays taken ≡ held_for p w held (read_operands p t) → arrays (map shared (written_arrays (formals_in (task_of p t).codelet) new.slots)) ≡ results p t w held
+      pub ran-results : (w : Worker) (held : Cell → Array) → arrays taken ≡ held_for p w held (read_operands p t) → arrays (map shared (written_arrays (formals_in (task_of p t).codelet) new.slots)) ≡ results out p t w held
       ran-results w held e =
           let l = task_of p t in
           shared-arrays (written_arrays (formals_in l.codelet) new.slots) ∙ ran.written
@@ -338,7 +338,7 @@ module _ (p : Program) (proper : Proper p) (t : Task) (inside : t.0 < length p.t
     its-slots : old.slots ≡ operands_from p (task_of p t).accesses (arrays taken)
     its-slots = made ∙ ap (λ (xs : List Access). operands_from p xs (arrays taken)) (at ∙ ap (λ (x : Lowered). x.accesses) is)
 
-    pub compute-fits : (has : Kernel → Bool) → IsLawful has p → IsTrue (fits_in has l.codelet l.args (all_dims old.slots))
+    pub compute-fits : (has : Kernel → Bool) → IsLawful out has p → IsTrue (fits_in has l.codelet l.args (all_dims old.slots))
     compute-fits has lawful =
         subst (λ (x : Lowered). IsTrue (fits_in has x.codelet x.args (all_dims old.slots))) (sym is)
         (subst (λ (xs : List Slot). IsTrue (fits_in has (task_of p t).codelet (task_of p t).args (all_dims xs))) (sym its-slots) (frame-fits p proper t inside taken shares has lawful))
@@ -362,5 +362,5 @@ module _ (p : Program) (proper : Proper p) (t : Task) (inside : t.0 < length p.t
         pub compute-dims : AllZip (IsShare p) (written_operands (task_of p t)) f.slots
         compute-dims = subst (λ (xs : List Slot). AllZip (IsShare p) (written_operands (task_of p t)) xs) (sym its-given) (ran-dims p proper t inside taken shares old new its-slots its-run)
 
-        pub compute-results : (w : Worker) (held : Cell → Array) → arrays taken ≡ held_for p w held (read_operands p t) → arrays f.slots ≡ results p t w held
+        pub compute-results : (w : Worker) (held : Cell → Array) → arrays taken ≡ held_for p w held (read_operands p t) → arrays f.slots ≡ results out p t w held
         compute-results w held e = ap arrays its-given ∙ ran-results p proper t inside taken shares old new its-slots its-run w held e

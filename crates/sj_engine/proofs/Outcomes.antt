@@ -13,6 +13,7 @@ use Rattle.sj_base.specs.declared.program.Machine.{Machine}
 use Rattle.sj_base.specs.declared.program.Program.{Program}
 use Rattle.sj_base.specs.declared.trace.Event.{Event}
 use Rattle.sj_base.specs.Array.{Array}
+use Rattle.sj_codelet.specs.Kernel.{out}
 use Rattle.sj_core.specs.Legal.{IsComplete}
 use Rattle.sj_core.specs.Machine.{CellState, State, cell_state, no_copy, on_disk, opening, writes}
 use Rattle.sj_core.specs.Step.{has_copy, is_home}
@@ -60,7 +61,7 @@ module _ {D : Type 0} (size faults mismatches : D → ℕ) (held : D → Option 
     in-block c d k None is holds = absurd is
     in-block c d k (Some e) is holds = λ x there. subst (λ (at : ℕ). GivesHeld (held x) at (block c.0 (writes s c) (run_arrays b.run c (OnDisk d)).elements)) is.position (holds.told x (ap (λ (n : DiskNo). slice_get b.run.disks.disks n.0) is.disk ∙ there))
 
-    blocks : AllDisksTell held b.run.opened → HoldBlocks held p m b.run.trace b.run.disks.disks
+    blocks : AllDisksTell held b.run.opened → HoldBlocks held out p m b.run.trace b.run.disks.disks
     blocks tells c d valid = by_block (block_of p m c) refl (home-is p m c d (and_parts (on_disk s c) (is_home p m c d) valid).1) (sound.run.blocks.placed c)
       where
         by_block : (o : Option Block) → block_of p m c ≡ o → option_map (λ k. k.disk) o ≡ Some d → IfSome o (λ k. IsSomeAnd (extent_of b.run.disks.directory c.0) (IsBlock p c k)) → IsSomeAnd o (HoldsBlockAt held b.run.disks.disks s (run_arrays b.run) c d)
@@ -115,7 +116,7 @@ module _ {D : Type 0} (size faults mismatches : D → ℕ) (held : D → Option 
         | inr kept ↦ absurd (false≢true (sym (ap is_some none) ∙ kept))
       ]
 
-      module _ {A : Type 0} (pairs : List (Task × Array)) (each : IsComplete s → DeliversEach p (AllTell held b.run) pairs) where
+      module _ {A : Type 0} (pairs : List (Task × Array)) (each : IsComplete s → DeliversEach out p (AllTell held b.run) pairs) where
         by_fault : (fault : Option RunFault) → b.fault ≡ fault → (result : Result A RunFault) → MatchOption fault (IsOk result) (λ f. result ≡ Err f) → IsOutcome size faults mismatches held p m b.run.opened result pairs b.run.trace b.run.disks.disks
         by_fault None e (Err f) ok = absurd (false≢true ok)
         by_fault None e (Ok x) ok = record {

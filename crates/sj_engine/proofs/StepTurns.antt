@@ -9,6 +9,7 @@ use Rattle.sj_base.specs.declared.ids.Task.{Task}
 use Rattle.sj_base.specs.declared.ids.Worker.{Worker}
 use Rattle.sj_base.specs.declared.trace.Event.TheVariants.{Move}
 use Rattle.sj_base.specs.Array.{Array}
+use Rattle.sj_codelet.specs.Kernel.{out}
 use Rattle.sj_core.specs.declared.progress.Progress.TheVariants.{Claimed}
 use Rattle.sj_core.specs.declared.progress.Transfer.{Transfer}
 use Rattle.sj_core.specs.Machine.{State, WorkerState, is_entry, mark, progress, transfer, with_transfer, writes}
@@ -52,7 +53,7 @@ module _ {D : Type 0} (size faults mismatches : D → ℕ) (held : D → Option 
   its-state : state y.run ≡ after b.run.program b.run.machine (state b.run) (Move c from to)
   its-state = state-after b y (Move c from to) (ap (λ (k : BoardState D). k.run) its-event)
 
-  its-arrays : run_arrays y.run ≡ arrays_after b.run.program b.run.machine (run_arrays b.run) (Move c from to)
+  its-arrays : run_arrays y.run ≡ arrays_after out b.run.program b.run.machine (run_arrays b.run) (Move c from to)
   its-arrays = arrays-after b y (Move c from to) (ap (λ (k : BoardState D). k.run) its-event)
 
   staff : w.0 < length (state b.run).workers

@@ -3,6 +3,7 @@ use Rattle.std.specs.Prelude.{◌≡◌, ◌<◌, Bool, true, false, Option, is_
 use Rattle.sj_base.specs.declared.program.Program.{Program}
 use Rattle.sj_base.specs.declared.ids.Worker.{Worker}
 use Rattle.sj_codelet.specs.declared.kernel.Kernel.{Kernel}
+use Rattle.sj_codelet.specs.Kernel.{out}
 use Rattle.sj_core.specs.Laws.{IsLawful}
 use Rattle.sj_core.specs.Proper.{Proper}
 use Rattle.sj_desk.specs.Seats.{DeskFacts, SeatFacts}
@@ -53,4 +54,4 @@ module _ {D : Type 0} where
     pub program : desk.opening.board.run.program ≡ p
     pub workers : desk.seats ≡ p.workers
     pub proper : Proper p
-    pub lawful : IsLawful has p
+    pub lawful : IsLawful out has p

@@ -6,6 +6,7 @@ use Rattle.sj_base.specs.declared.ids.Place.TheVariants.{Disk as OnDisk}
 use Rattle.sj_base.specs.declared.program.Program.{Program}
 use Rattle.sj_base.specs.declared.program.Machine.{Machine}
 use Rattle.sj_base.specs.declared.trace.Event.{Event}
+use Rattle.sj_codelet.specs.Kernel.{Equations}
 use Rattle.sj_core.specs.Arrays.{Arrays, arrays_of}
 use Rattle.sj_core.specs.Legal.{state_of}
 use Rattle.sj_core.specs.Machine.{State, writes}
@@ -44,7 +45,7 @@ HoldsBlockAt {D} held disks s A c d b =
 
 -- each cell that has a copy on a disk in the state that the events leave has its block in its place there, with its write
 -- count and its array, where that disk tells
-abbrev pub HoldBlocks : {D : Type 0} → (D → Option (List ℕ)) → Program → Machine → List Event → List D → Type 0
-HoldBlocks held p m trace disks =
+abbrev pub HoldBlocks : {D : Type 0} → (D → Option (List ℕ)) → Equations → Program → Machine → List Event → List D → Type 0
+HoldBlocks held eq p m trace disks =
     (c : Cell) (d : DiskNo) → IsTrue (has_copy p m (state_of p m trace) c (OnDisk d))
-    → IsSomeAnd (block_of p m c) (HoldsBlockAt held disks (state_of p m trace) (arrays_of p m trace) c d)
+    → IsSomeAnd (block_of p m c) (HoldsBlockAt held disks (state_of p m trace) (arrays_of eq p m trace) c d)

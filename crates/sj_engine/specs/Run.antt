@@ -6,6 +6,7 @@ use Rattle.sj_base.specs.declared.program.Program.{Program}
 use Rattle.sj_base.specs.declared.program.Machine.{Machine}
 use Rattle.sj_base.specs.declared.trace.Event.{Event}
 use Rattle.sj_base.specs.Array.{Array}
+use Rattle.sj_codelet.specs.Kernel.{out}
 use Rattle.sj_core.specs.Legal.{IsFinished, IsLegal}
 use Rattle.sj_desk.specs.Seats.{DeskFacts, SeatFacts}
 use Rattle.sj_disk.specs.Holding.{CountsStay}
@@ -61,8 +62,8 @@ pub record IsOutcome {D A : Type 0} (size faults mismatches : D → ℕ) (held :
   pub legal : IsLegal p m events
   pub given_back : AreGivenBack size faults mismatches held disks back
   pub finished : IsOk result → IsFinished p m events
-  pub delivers : IsOk result → DeliversEach p (AllDisksTell held disks) pairs
+  pub delivers : IsOk result → DeliversEach out p (AllDisksTell held disks) pairs
   pub no_fault_is_swallowed : IsOk result → CountsStay faults mismatches disks back
-  pub blocks : AllDisksTell held disks → HoldBlocks held p m events back
+  pub blocks : AllDisksTell held disks → HoldBlocks held out p m events back
   pub cause : IfErr result (IsCausedBy faults mismatches held disks back)
   pub wanted : IfErr result (WantsLastWritten p m events)

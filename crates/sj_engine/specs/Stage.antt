@@ -11,6 +11,7 @@ use Rattle.sj_base.specs.Array.{Array, area}
 use Rattle.sj_disk.specs.declared.refusal.DiskRefusal.{DiskRefusal}
 use Rattle.sj_disk.specs.Units.{UnitFetches, UnitState, UnitStores}
 use Rattle.sj_codelet.specs.Frame.{Frame, Slot, arrays}
+use Rattle.sj_codelet.specs.Kernel.{out}
 use Rattle.sj_core.specs.declared.progress.Progress.TheVariants.{Claimed, Running}
 use Rattle.sj_core.specs.declared.progress.Transfer.{Transfer}
 use Rattle.sj_core.specs.Operands.{cells_of, results}
@@ -124,7 +125,7 @@ HasOperands held k w t r f = RunsRow w t r × AreLent held k w t r f.slots × Ha
 pub record HoldResults {D : Type 0} (p : Program) (w : Worker) (t : Task) (r : BoardRow D) (slots : List Slot) : Type 0 where
   pub holds : Cell → Array
   pub cells : HoldsCells p w t r holds
-  pub results : arrays slots ≡ results p t w holds
+  pub results : arrays slots ≡ results out p t w holds
 
 pub record AreDone {D : Type 0} (held : D → Option (List ℕ)) (k : BoardKey D) (w : Worker) (t : Task) (r : BoardRow D) (slots : List Slot) : Type 0 where
   pub shares : AllZip (IsShare k.program) (written_operands (task_of k.program t)) slots

@@ -1,6 +1,7 @@
 //! The run of a program by its workers.
 
 ghost use Rattle.std.specs.Prelude.{◌≡◌, IfErr, IsOk, map};
+ghost use Rattle.sj_codelet.specs.Kernel.{out};
 ghost use Rattle.sj_core.specs.Bound.{HasAtMostThreePerTaskAndFivePerOperand};
 ghost use Rattle.sj_core.specs.Laws.{IsLawful};
 ghost use Rattle.sj_core.specs.Legal.{IsFinished, IsLegal};
@@ -52,7 +53,7 @@ fn run_over<C: Codelets, G: Gate, D: Disk + Send, R: Threads + Wait + Sync>(
 ) -> RunOutcome<D>
     requires opened { IsOpened program.now board.run.machine board.run.opened board }
     requires proper { Proper program.now }
-    requires lawful { IsLawful C.has program.now }
+    requires lawful { IsLawful out C.has program.now }
     ensures { IsOutcome D.size D.faults D.mismatches D.held program.now board.run.machine
         board.run.opened result.result result.delivered.pairs result.trace.events
         result.disks.items }
@@ -102,7 +103,7 @@ pub fn run<C: Codelets, G: Gate, D: Disk + Send, R: Threads + Wait + Sync>(
     gate: &G,
 ) -> RunOutcome<D>
     requires proper { Proper program.value }
-    requires lawful { IsLawful C.has program.value }
+    requires lawful { IsLawful out C.has program.value }
     requires footprints { AreFootprints program.value footprints.items }
     requires machine { IsMachineFor program.value machine }
     requires swap { HasSwapFor program.value machine }
@@ -114,12 +115,12 @@ pub fn run<C: Codelets, G: Gate, D: Disk + Send, R: Threads + Wait + Sync>(
         result.disks.items }
     ensures finished { IsOk result.result → IsFinished program.value machine result.trace.events }
     ensures delivers { IsOk result.result
-        → DeliversEach program.value (AllDisksTell D.held disks.items)
+        → DeliversEach out program.value (AllDisksTell D.held disks.items)
         result.delivered.pairs }
     ensures no_fault_is_swallowed { IsOk result.result →
         CountsStay D.faults D.mismatches disks.items result.disks.items }
     ensures blocks { AllDisksTell D.held disks.items →
-        HoldBlocks D.held program.value machine result.trace.events result.disks.items }
+        HoldBlocks D.held out program.value machine result.trace.events result.disks.items }
     ensures cause { IfErr result.result (IsCausedBy D.faults D.mismatches D.held disks.items
         result.disks.items) }
     // Of a disk that held another header: the one that was wanted is the one last written there.

@@ -6,7 +6,7 @@ ghost use Rattle.sj_base.specs.declared.ids.Cell.{Cell};
 ghost use Rattle.sj_base.specs.declared.ids.Worker.{Worker};
 ghost use Rattle.sj_base.specs.Array.{Array};
 ghost use Rattle.sj_codelet.specs.Frame.{all_dims, arrays};
-ghost use Rattle.sj_codelet.specs.Kernel.{fits_in};
+ghost use Rattle.sj_codelet.specs.Kernel.{fits_in, out};
 ghost use Rattle.sj_codelet.specs.Runs.{IsReadyFor, IsRun};
 ghost use Rattle.sj_core.specs.Laws.{IsLawful};
 ghost use Rattle.sj_core.specs.Operands.{results};
@@ -62,14 +62,14 @@ pub fn compute<C: Codelets, G: Gate>(
 ) -> Result<Frame, OutOfMemory>
     requires task { t.0 < length program.now.tasks }
     requires proper { Proper program.now }
-    requires lawful { IsLawful C.has program.now }
+    requires lawful { IsLawful out C.has program.now }
     requires shares { AreSharesOf program.now t taken.slots }
     requires room { HasRoomForOperands program.now t taken }
     ensures dims { IfOk result (λ f. AllZip (IsShare program.now)
         (written_operands (task_of program.now t)) f.slots) }
     ensures results { IfOk result (λ f. (w : Worker) (held : Cell → Array) →
         arrays taken.slots ≡ held_for program.now w held (read_operands program.now t) →
-        arrays f.slots ≡ results program.now t w held) }
+        arrays f.slots ≡ results out program.now t w held) }
 {
     let task = task_at(program, t);
     let mut frame = operands(alloc, program, task.accesses.items(), taken)?;

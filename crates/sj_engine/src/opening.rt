@@ -1,6 +1,7 @@
 //! How the board of a run is made.
 
 ghost use Rattle.std.specs.Prelude.{◌≡◌, IfErr, IfOk, map};
+ghost use Rattle.sj_codelet.specs.Kernel.{out};
 ghost use Rattle.sj_core.specs.Laws.{IsLawful};
 ghost use Rattle.sj_core.specs.Needs.{AreFootprints};
 ghost use Rattle.sj_core.specs.Proper.{HasSwapFor, IsMachineFor, Proper};
@@ -24,7 +25,7 @@ pub(crate) fn opened<D: Disk>(
     machine: Machine,
     disks: Vec<D>,
 ) -> Result<Board<D>, Vec<D>>
-    requires run { IsRunnableOn program.value machine }
+    requires run { IsRunnableOn out program.value machine }
     requires footprints { AreFootprints program.value footprints.items }
     requires sizes { machine.disks ≡ map D.size disks.items }
     ensures ok { IfOk result (IsOpened program.value machine disks.items) }

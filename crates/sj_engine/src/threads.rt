@@ -1,6 +1,7 @@
 //! The threads of a run: one for each worker, or fewer where one can't be started.
 
 ghost use Rattle.std.specs.Prelude.{◌≡◌, ◌≤◌, [], All, length, vec_capacity};
+ghost use Rattle.sj_codelet.specs.Kernel.{out};
 ghost use Rattle.sj_core.specs.Laws.{IsLawful};
 ghost use Rattle.sj_core.specs.Proper.{Proper};
 ghost use Rattle.sj_engine.specs.Member.{IsSeatOf, MayWork};
@@ -76,7 +77,7 @@ pub(crate) fn worked<C: Codelets, G: Gate, D: Disk + Send, R: Threads + Wait + S
     requires program { desk.opening.board.run.program ≡ program.now }
     requires workers { desk.seats ≡ program.now.workers }
     requires proper { Proper program.now }
-    requires lawful { IsLawful C.has program.now }
+    requires lawful { IsLawful out C.has program.now }
     requires free { AreAt desk IsFreeRow seats.items }
     requires passes { ArePassesFor desk queues.now seats.items passes.items }
     requires none { posts.items ≡ [] }

@@ -1,6 +1,7 @@
 //! A worker: it claims a task, makes what the plan says, runs its kernel and ends it, until it can't go on or the run is over.
 
 ghost use Rattle.std.specs.Prelude.{◌≡◌, ◌≢◌, ◌<◌, ◌⊎◌, if◌then◌else◌, MatchBool, false, is_some, length, true};
+ghost use Rattle.sj_codelet.specs.Kernel.{out};
 ghost use Rattle.sj_core.specs.Laws.{IsLawful};
 ghost use Rattle.sj_board.specs.Standing.{is_node};
 ghost use Rattle.sj_engine.specs.Member.{HasHeard, IsRowAt};
@@ -248,7 +249,7 @@ impl<R: Wait, D: Disk> Workplace<'_, R, D> {
         requires workplace { IsProperWorkplace self.now }
         requires ready { IsItsSource (policy_here self.now) self.now.worker.0 ready.old }
         requires outside { seat.old.keeps_turn ≡ false }
-        requires lawful { IsLawful C.has self.now.program.now }
+        requires lawful { IsLawful out C.has self.now.program.now }
         requires task { t.0 < length self.now.program.now.tasks }
         requires runs { IsSeated self.now
             (λ r. HasOperands D.held (board_key self.now) self.now.worker t r taken) seat.old }
@@ -275,7 +276,7 @@ impl<R: Wait, D: Disk> Workplace<'_, R, D> {
     ) -> Stage
         requires workplace { IsProperWorkplace self.now }
         requires ready { IsItsSource (policy_here self.now) self.now.worker.0 ready.old }
-        requires lawful { IsLawful C.has self.now.program.now }
+        requires lawful { IsLawful out C.has self.now.program.now }
         requires claimed { IsSeated self.now (HasClaimedRow self.now.worker t) seat.old }
         ensures ready { StaysItsSource ready.old ready.new }
         ensures row { IsSeated self.now (IsRowAt self.now.worker result) seat.new }
@@ -306,7 +307,7 @@ impl<R: Wait, D: Disk> Workplace<'_, R, D> {
     ) -> Stage
         requires workplace { IsProperWorkplace self.now }
         requires ready { IsItsSource (policy_here self.now) self.now.worker.0 ready.old }
-        requires lawful { IsLawful C.has self.now.program.now }
+        requires lawful { IsLawful out C.has self.now.program.now }
         requires free { IsSeated self.now IsFreeRow seat.old }
         ensures ready { StaysItsSource ready.old ready.new }
         ensures row { IsSeated self.now (IsRowAt self.now.worker result) seat.new }
@@ -335,7 +336,7 @@ impl<R: Wait, D: Disk> Workplace<'_, R, D> {
         requires workplace { IsProperWorkplace self.now }
         requires ready { IsItsSource (policy_here self.now) self.now.worker.0 ready.old }
         requires outside { seat.old.keeps_turn ≡ false }
-        requires lawful { IsLawful C.has self.now.program.now }
+        requires lawful { IsLawful out C.has self.now.program.now }
         requires row { IsSeated self.now (IsRowAt self.now.worker stage) seat.old }
         ensures ready { StaysItsSource ready.old ready.new }
         ensures row { IsSeated self.now (IsRowAt self.now.worker result) seat.new }
@@ -368,7 +369,7 @@ impl<R: Wait, D: Disk> Workplace<'_, R, D> {
         requires workplace { IsProperWorkplace self.now }
         requires ready { IsItsSource (policy_here self.now) self.now.worker.0 ready.old }
         requires outside { seat.old.keeps_turn ≡ false }
-        requires lawful { IsLawful C.has self.now.program.now }
+        requires lawful { IsLawful out C.has self.now.program.now }
         requires row { IsSeated self.now (IsRowAt self.now.worker stage) seat.old }
         ensures ready { StaysItsSource ready.old ready.new }
         ensures row { IsSeated self.now (IsRowAt self.now.worker result) seat.new }

@@ -15,7 +15,7 @@ use Rattle.sj_codelet.specs.declared.kernel.Kernel.{Kernel}
 use Rattle.sj_codelet.specs.declared.kernel.Kernel.TheVariants.{Scale, Add, Axpy, Gemm, GemmThree, Dot, Sum}
 use Rattle.sj_codelet.specs.Ring.{wrap, sum_below}
 use Rattle.sj_codelet.specs.Equations.{scale, add, axpy, gemm, gemm3, product, dot, sum}
-use Rattle.sj_codelet.specs.Kernel.{formals_of, operand, commutes_of, contributes_of, has_reduction}
+use Rattle.sj_codelet.specs.Kernel.{formals_of, operand, commutes_of, contributes_of, has_reduction, out}
 use Rattle.sj_codelet.specs.Laws.{IsTile, result_of, DoCommute, DoesContribute, IsReduction}
 use Rattle.sj_codelet.proofs.Integers.{int_mul_comm, int_mul_assoc, int_add-zero, int_zero-add}
 use Rattle.sj_codelet.proofs.Elements.{at-each, same_each, element-zeros}
@@ -67,7 +67,7 @@ placed v f = same_each v.dims (λ p. wrap (element v (p / v.dims.cols) (p % v.di
     ap (λ (q : ℕ). wrap (at v.elements q +ℤ f p)) (div-add-mod' p v.dims.cols))
 
 -- a contributing codelet of the ring is such a sum
-adds : (k : Kernel) (args : List ℤ) (before : List Array) (v : Array) → contributes_of k Plus ≡ true → length before + 1 ≡ length (formals_of k) → result_of k args before v ≡ plus_each (added k args before v.dims) v
+adds : (k : Kernel) (args : List ℤ) (before : List Array) (v : Array) → contributes_of k Plus ≡ true → length before + 1 ≡ length (formals_of k) → result_of out k args before v ≡ plus_each (added k args before v.dims) v
 adds Add args before v c l =
     ap (λ (a : Array). add a (operand (before ++ v ∷ []) 1)) (front before v 0 (omega arith)) ∙ ap (λ (a : Array). add (operand before 0) a) (back before v 1 (omega arith))
 adds Axpy args before v c l =
@@ -91,21 +91,21 @@ adds Sum args before v c l =
     ap (λ (a : Array). sum a (operand (before ++ v ∷ []) 1)) (front before v 0 (omega arith)) ∙ ap (λ (a : Array). sum (operand before 0) a) (back before v 1 (omega arith))
 adds k args before v c l = cc
 
-pub sums_commute : (k : Kernel) → contributes_of k Plus ≡ true → DoCommute k
+pub sums_commute : (k : Kernel) → contributes_of k Plus ≡ true → DoCommute out k
 sums_commute k c = record {
   either_order = λ args args' before before' v call call'.
       let n = operands_before k args before v call in
       let n' = operands_before k args' before' v call' in
       let f = added k args before v.dims in
       let g = added k args' before' v.dims in
-      ap (λ (a : Array). result_of k args' before' a) (adds k args before v c n)
+      ap (λ (a : Array). result_of out k args' before' a) (adds k args before v c n)
       ∙ adds k args' before' (plus_each f v) c n'
       ∙ plus_swap v f g
       ∙ sym (adds k args before (plus_each g v) c n)
-      ∙ sym (ap (λ (a : Array). result_of k args before a) (adds k args' before' v c n'));
+      ∙ sym (ap (λ (a : Array). result_of out k args before a) (adds k args' before' v c n'));
 }
 
-pub sums_contribute : (k : Kernel) → contributes_of k Plus ≡ true → DoesContribute k Plus
+pub sums_contribute : (k : Kernel) → contributes_of k Plus ≡ true → DoesContribute out k Plus
 sums_contribute k c = record {
   through_unit = λ args before v call.
       let n = operands_before k args before v call in
@@ -124,16 +124,16 @@ scale_swap a b v =
     ∙ ap (λ (z : ℤ). wrap z) (sym (int_mul_assoc b a x) ∙ ap (λ (z : ℤ). z *ℤ x) (int_mul_comm b a) ∙ int_mul_assoc a b x)
     ∙ sym (twice b a p l))
 
-pub scales_commute : DoCommute Scale
+pub scales_commute : DoCommute out Scale
 scales_commute = record {
   either_order = λ args args' before before' v call call'.
       let n = operands_before Scale args before v call in
       let n' = operands_before Scale args' before' v call' in
-      let one : (w : Array) → result_of Scale args before w ≡ scale (at args 0) w = λ w. ap (λ (a : Array). scale (at args 0) a) (back before w 0 (omega arith)) in
-      let two : (w : Array) → result_of Scale args' before' w ≡ scale (at args' 0) w = λ w. ap (λ (a : Array). scale (at args' 0) a) (back before' w 0 (omega arith)) in
-      two (result_of Scale args before v) ∙ ap (λ (a : Array). scale (at args' 0) a) (one v)
+      let one : (w : Array) → result_of out Scale args before w ≡ scale (at args 0) w = λ w. ap (λ (a : Array). scale (at args 0) a) (back before w 0 (omega arith)) in
+      let two : (w : Array) → result_of out Scale args' before' w ≡ scale (at args' 0) w = λ w. ap (λ (a : Array). scale (at args' 0) a) (back before' w 0 (omega arith)) in
+      two (result_of out Scale args before v) ∙ ap (λ (a : Array). scale (at args' 0) a) (one v)
       ∙ scale_swap (at args 0) (at args' 0) v
-      ∙ sym (one (result_of Scale args' before' v) ∙ ap (λ (a : Array). scale (at args 0) a) (two v));
+      ∙ sym (one (result_of out Scale args' before' v) ∙ ap (λ (a : Array). scale (at args 0) a) (two v));
 }
 
 unit_adds_nothing : (v : Array) → IsTile v → add (zeros v.dims) v ≡ v
@@ -147,7 +147,7 @@ unit_adds_nothing v t =
     sym (ap (λ (xs : List ℤ). array v.dims xs) same)
 
 -- sums of arrays are a reduction
-pub plus_reduces : IsReduction Plus
+pub plus_reduces : IsReduction out Plus
 plus_reduces = record {
   associative = λ u v w tu tv tw du dv.
       let inner : (p : ℕ) → p < area w.dims → at (add u v).elements p ≡ wrap (at v.elements p +ℤ at u.elements p) =
@@ -168,7 +168,7 @@ plus_reduces = record {
 }
 
 -- of a codelet of the set
-pub ring_commuting : (k : Kernel) → IsTrue (ring_has k && commutes_of k) → DoCommute k
+pub ring_commuting : (k : Kernel) → IsTrue (ring_has k && commutes_of k) → DoCommute out k
 ring_commuting Scale h = scales_commute
 ring_commuting Add h = sums_commute Add refl
 ring_commuting Axpy h = sums_commute Axpy refl
@@ -178,10 +178,10 @@ ring_commuting Dot h = sums_commute Dot refl
 ring_commuting Sum h = sums_commute Sum refl
 ring_commuting k h = absurd (false≢true h)
 
-pub ring_contributing : (k : Kernel) (by : Reduction) → IsTrue (ring_has k && contributes_of k by && has_reduction ring_has by) → DoesContribute k by
+pub ring_contributing : (k : Kernel) (by : Reduction) → IsTrue (ring_has k && contributes_of k by && has_reduction ring_has by) → DoesContribute out k by
 ring_contributing k Plus h = sums_contribute k (and_parts (ring_has k) (contributes_of k Plus) (and_parts (ring_has k && contributes_of k Plus) true h).0).1
 ring_contributing k Least h = absurd (false≢true (and_parts (ring_has k && contributes_of k Least) false h).1)
 
-pub ring_reducing : (by : Reduction) → IsTrue (has_reduction ring_has by) → IsReduction by
+pub ring_reducing : (by : Reduction) → IsTrue (has_reduction ring_has by) → IsReduction out by
 ring_reducing Plus h = plus_reduces
 ring_reducing Least h = absurd (false≢true h)

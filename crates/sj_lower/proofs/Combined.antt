@@ -6,6 +6,7 @@ use Rattle.sj_base.specs.declared.program.Program.{Program}
 use Rattle.sj_base.specs.Array.{Array}
 use Rattle.sj_base.proofs.Numbers.{all_of}
 use Rattle.sj_codelet.specs.declared.kernel.Kernel.{Kernel}
+use Rattle.sj_codelet.specs.Kernel.{out}
 use Rattle.sj_codelet.specs.Laws.{combined}
 use Rattle.sj_core.specs.Fold.{Contents, held_in}
 use Rattle.sj_core.specs.Laws.{IsLawful}
@@ -16,7 +17,7 @@ use Rattle.sj_lower.specs.Cells.{copy_at}
 -- a proper program for some worker, whose set obeys the laws
 pub record IsTrusted (p : Program) : Type 0 where
   pub has : Kernel → Bool
-  pub lawful : IsLawful has p
+  pub lawful : IsLawful out has p
   pub proper : Proper p
   pub staffed : 0 < p.workers
 
@@ -26,7 +27,7 @@ Phases = Cell → Option OpenPhase
 
 -- the partial copy of one worker more is combined
 abbrev pub with_copy : Program → Contents → OpenPhase → Array → ℕ → Array
-with_copy p k f v w = combined f.by (held_in p k (copy_at f.copies w)) v
+with_copy p k f v w = combined out f.by (held_in p k (copy_at f.copies w)) v
 
 -- those of these workers are
 abbrev pub with_all : Program → Contents → OpenPhase → List ℕ → Array → Array
@@ -55,7 +56,7 @@ SameCopies p k new f = (w : ℕ) → w < p.workers → held_in p new (copy_at f.
 pub with_all-same : (p : Program) (k new : Contents) (f : OpenPhase) (ws : List ℕ) (v : Array) → SameCopies p k new f → AllByRecursion (λ w. w < p.workers) ws → with_all p new f ws v ≡ with_all p k f ws v
 with_all-same p k new f [] v same all = refl
 with_all-same p k new f (w ∷ ws) v same all =
-    ap (λ (x : Array). with_all p new f ws (combined f.by x v)) (same w all.0) ∙ with_all-same p k new f ws (with_copy p k f v w) same all.1
+    ap (λ (x : Array). with_all p new f ws (combined out f.by x v)) (same w all.0) ∙ with_all-same p k new f ws (with_copy p k f v w) same all.1
 
 -- what the cell denotes is the same where it and its partial copies hold the same
 pub denoted-same : (p : Program) (phases after : Phases) (k new : Contents) (c : Cell) → after c ≡ phases c → held_in p new c ≡ held_in p k c → ((f : OpenPhase) → phases c ≡ Some f → SameCopies p k new f) → denoted p after new c ≡ denoted p phases k c

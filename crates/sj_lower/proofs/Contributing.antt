@@ -11,13 +11,14 @@ use Rattle.sj_base.specs.declared.tile.Dims.{Dims}
 use Rattle.sj_base.specs.declared.mode.Mode.{Mode}
 use Rattle.sj_base.specs.declared.mode.Mode.TheVariants.{Redux}
 use Rattle.sj_base.specs.declared.mode.Access.{Access}
+use Rattle.sj_base.specs.declared.program.Codelet.{Codelet}
 use Rattle.sj_base.specs.declared.program.Lowered.{Lowered}
 use Rattle.sj_base.specs.declared.program.Program.{Program}
 use Rattle.sj_base.specs.Array.{Array}
 use Rattle.sj_codelet.specs.declared.kernel.Kernel.{Kernel}
-use Rattle.sj_codelet.specs.Kernel.{kernel_of, new_arrays, operand, out, contributes_of}
+use Rattle.sj_codelet.specs.Kernel.{kernel_of, codelet_of, operand, out, contributes_of}
 use Rattle.sj_codelet.specs.Laws.{result_of, combined, IsReduction}
-use Rattle.sj_codelet.proofs.Table.{each_dims}
+use Rattle.sj_codelet.proofs.Table.{codelet_of-kernel, each_dims}
 use Rattle.sj_core.specs.Program.{same_cell, dims_of, task_of, cell_info}
 use Rattle.sj_core.specs.Proper.{HasValueBefore}
 use Rattle.sj_core.specs.Fold.{Contents, held_in, after_task}
@@ -104,11 +105,11 @@ module _ (has : Kernel → Bool) (S : JobState) (t : TaskLine (List ℕ)) (s : I
       first (x ∷ xs) e = refl
 
   -- it is what the codelet makes of what is contributed to
-  pub news-is : news ≡ result_of kernel t.args (each_of (operand_array S) con.before) (operand_array S o)
+  pub news-is : news ≡ result_of out kernel t.args (each_of (operand_array S) con.before) (operand_array S o)
   news-is =
-      ap (λ (x : Option Kernel). operand (elim x as (λ _. List Array) [ None ↦ [] | Some k ↦ new_arrays k t.args (each_of (operand_array S) t.operands) ]) 0) (kernel_there has S t s).call.is
-      ∙ ap (λ (os : List (Operand (List ℕ))). operand (new_arrays kernel t.args (each_of (operand_array S) os)) 0) con.is
-      ∙ ap (λ (xs : List Array). operand (new_arrays kernel t.args xs) 0) (map-append (operand_array S) con.before (o ∷ []))
+      ap (λ (id : Codelet). operand (out id t.args (each_of (operand_array S) t.operands)) 0) (codelet_of-kernel t.codelet kernel (kernel_there has S t s).call.is)
+      ∙ ap (λ (os : List (Operand (List ℕ))). operand (out (codelet_of kernel) t.args (each_of (operand_array S) os)) 0) con.is
+      ∙ ap (λ (xs : List Array). operand (out (codelet_of kernel) t.args xs) 0) (map-append (operand_array S) con.before (o ∷ []))
 
 -- ---- what the lowered task finds
 
@@ -148,7 +149,7 @@ module _ (has : Kernel → Bool) (p : Program) (L M : Lowering) (S : JobState) (
   stand : Stand p n (l ∷ [])
   stand = stands-own p S (record { line = line; act = Tasks t }) M begins
 
-  next : new ≡ after_task p first_worker (task n) mid
+  next : new ≡ after_task out p first_worker (task n) mid
   next = contents-next p n now longer
 
   b : HasRoot p L.cells L.phase (length L.tasks) k u.name root
@@ -264,7 +265,7 @@ module _ (has : Kernel → Bool) (p : Program) (L M : Lowering) (S : JobState) (
     is_sized : AreSized p mid
     is_sized = sized p trust n inside a among con.redux op.f partials its_kernel codelet contributes
 
-    its_law : IsReduction op.f.by
+    its_law : IsReduction out op.f.by
     its_law = law p trust n inside a among con.redux op.f partials its_kernel codelet contributes
 
     abbrev size : Dims
@@ -317,12 +318,12 @@ module _ (has : Kernel → Bool) (p : Program) (L M : Lowering) (S : JobState) (
         ap (with_all p new op.f (all_workers p)) (rest_kept c (same_cell-unlike c (copy_at op.f.copies 0) (own_not_copy 0 trust.staffed)))
         ∙ ap (λ (z : Contents). with_all p z op.f (all_workers p) (held_in p mid c)) next
         ∙ denotes-more p trust n inside a among con.redux op.f partials its_kernel codelet contributes copies_sized (held_in p mid c) own_sized
-        ∙ ap (combined op.f.by (added p trust n inside a among con.redux op.f partials its_kernel codelet contributes)) meant
+        ∙ ap (combined out op.f.by (added p trust n inside a among con.redux op.f partials its_kernel codelet contributes)) meant
         ∙ sym (result-more p trust n inside a among con.redux op.f partials its_kernel codelet contributes x x-sized)
-        ∙ ap (λ (j : Kernel). result_of j (task_of p (task n)).args (first_ins p (task n) first_worker (worked_on p first_worker a) up (held_in p mid)) x) same_kernel
-        ∙ ap (λ (z : Lowered). result_of its_kernel z.args (first_ins p (task n) first_worker (worked_on p first_worker a) up (held_in p mid)) x) stand.0
-        ∙ ap (λ (zs : List Array). result_of its_kernel t.args zs x) firsts
-        ∙ ap (result_of its_kernel t.args (each_of (operand_array S) con.before)) (sym seen)
+        ∙ ap (λ (j : Kernel). result_of out j (task_of p (task n)).args (first_ins p (task n) first_worker (worked_on p first_worker a) up (held_in p mid)) x) same_kernel
+        ∙ ap (λ (z : Lowered). result_of out its_kernel z.args (first_ins p (task n) first_worker (worked_on p first_worker a) up (held_in p mid)) x) stand.0
+        ∙ ap (λ (zs : List Array). result_of out its_kernel t.args zs x) firsts
+        ∙ ap (result_of out its_kernel t.args (each_of (operand_array S) con.before)) (sym seen)
         ∙ sym (news-is has S t s con)
 
     -- another child, and the partial copies of its phase

@@ -19,7 +19,7 @@ use Rattle.sj_base.specs.Array.{Array, area, zeros}
 use Rattle.sj_base.proofs.Numbers.{none_more, one_more, positive_product}
 use Rattle.sj_base.specs.Ids.{task}
 use Rattle.sj_codelet.specs.declared.kernel.Kernel.TheVariants.{Deliver}
-use Rattle.sj_codelet.specs.Kernel.{kernel_of}
+use Rattle.sj_codelet.specs.Kernel.{kernel_of, out}
 use Rattle.sj_core.specs.Program.{task_of, data_operands}
 use Rattle.sj_core.specs.Operands.{worked_on}
 use Rattle.sj_core.specs.Fold.{Contents, given, held_before, held_in}
@@ -93,10 +93,10 @@ of_print k ds = filter (λ d. nat_eq d.print k) ds
 abbrev pub Delivers : Program → ℕ → Type 0
 Delivers p n = kernel_of (task_of p (task n)).codelet ≡ Some Deliver
 
-pub record AreDelivered (T : Table) (p : Program) (L : Lowering) (out : List Printed) : Type 0 where
-  pub each : (k : ℕ) (x : Printed) → slice_get out k ≡ Some x → AreHanded T p (of_print k L.deliveries) x
-  pub counted : L.prints ≡ length out
-  pub printed : All (λ (d : Delivery). d.print < length out) L.deliveries
+pub record AreDelivered (T : Table) (p : Program) (L : Lowering) (xs : List Printed) : Type 0 where
+  pub each : (k : ℕ) (x : Printed) → slice_get xs k ≡ Some x → AreHanded T p (of_print k L.deliveries) x
+  pub counted : L.prints ≡ length xs
+  pub printed : All (λ (d : Delivery). d.print < length xs) L.deliveries
   pub in_order : AllPairs (λ (d e : Delivery). d.print ≤ e.print) L.deliveries
   pub rooted : All (λ (d : Delivery). d.root.0 < length T.names) L.deliveries
   pub below : All (λ (d : Delivery). d.task.0 < length L.tasks) L.deliveries
@@ -136,11 +136,11 @@ not_among p n m (l ∷ ls) s other lo hi e =
       | inr past ↦ (let here : n ≡ m = omega arith in other.0 (ap (λ (k : Lowered). kernel_of k.codelet) (sym s.0) ∙ ap (λ i. kernel_of (task_of p (task i)).codelet) here ∙ e))
     ]
 
-pub delivered_beside : (T : Table) (p : Program) (L M : Lowering) (out : List Printed) (ls : List Lowered) → M.deliveries ≡ L.deliveries → M.prints ≡ L.prints → M.tasks ≡ L.tasks ++ ls → Stand p (length L.tasks) ls → NoneDelivers ls → AreDelivered T p L out → AreDelivered T p M out
-delivered_beside T p L M out ls ed ep et s other g = record {
+pub delivered_beside : (T : Table) (p : Program) (L M : Lowering) (xs : List Printed) (ls : List Lowered) → M.deliveries ≡ L.deliveries → M.prints ≡ L.prints → M.tasks ≡ L.tasks ++ ls → Stand p (length L.tasks) ls → NoneDelivers ls → AreDelivered T p L xs → AreDelivered T p M xs
+delivered_beside T p L M xs ls ed ep et s other g = record {
   each = λ k x e. subst (λ (ds : List Delivery). AreHanded T p (of_print k ds) x) (sym ed) (g.each k x e);
   counted = ep ∙ g.counted;
-  printed = subst (λ (ds : List Delivery). All (λ (d : Delivery). d.print < length out) ds) (sym ed) g.printed;
+  printed = subst (λ (ds : List Delivery). All (λ (d : Delivery). d.print < length xs) ds) (sym ed) g.printed;
   in_order = subst (λ (ds : List Delivery). AllPairs (λ (d e : Delivery). d.print ≤ e.print) ds) (sym ed) g.in_order;
   rooted = subst (λ (ds : List Delivery). All (λ (d : Delivery). d.root.0 < length T.names) ds) (sym ed) g.rooted;
   below = subst (λ (ds : List Delivery). All (λ (d : Delivery). d.task.0 < length M.tasks) ds) (sym ed) (All-weaker (λ (d : Delivery). d.task.0 < length L.tasks) (λ (d : Delivery). d.task.0 < length M.tasks) (λ d h. omega (arith, longer)) L.deliveries g.below);
@@ -175,8 +175,8 @@ delivers_keep p n (suc i) cell line (q ∷ qs) s h =
     ap (contents_before p) (one_more n i) ∙ delivers_keep p (n + 1) i cell line qs s.2 (omega arith)
     ∙ contents-next p n (n + 1) refl ∙ after_row-is p n (contents_before p n) (deliver_row (cell q) line) s.0 ∙ after_deliver p (contents_before p n) (cell q) line
 
-given_there : (p : Program) (m : ℕ) (c : Cell) (line : Line) → task_of p (task m) ≡ deliver_row c line → given p (task m) ≡ held_in p (contents_before p m) c
-given_there p m c line e = ap (λ (l : Lowered). held_before p m (get_or (each_of (worked_on p first_worker) (data_operands l)) 0 (record { 0 = 0 }))) e
+given_there : (p : Program) (m : ℕ) (c : Cell) (line : Line) → task_of p (task m) ≡ deliver_row c line → given out p (task m) ≡ held_in p (contents_before p m) c
+given_there p m c line e = ap (λ (l : Lowered). held_before out p m (get_or (each_of (worked_on p first_worker) (data_operands l)) 0 (record { 0 = 0 }))) e
 
 at_child : (s : Parts) (place : ℕ × ℕ) → IsPlace s place → get_or (places s) (number s place) (0, 0) ≡ place
 at_child s place h =
@@ -203,7 +203,7 @@ child_task p C phases S name r n line place t h =
     ∙ ap (λ q. deliver_row (cell_of C name r.parts q) line) (at_child r.parts place h)
 
 -- a child's task hands over its window
-child_given : (p : Program) (C : Cells) (phases : Phases) (S : JobState) (name : List ℕ) (r : RootState) (n : ℕ) (line : Line) (place : ℕ × ℕ) → IsTrusted p → Stands p C phases S name r n line → IsPlace r.parts place → given p (task (n + number r.parts place)) ≡ window (root_array r) (child r.dims r.parts place)
+child_given : (p : Program) (C : Cells) (phases : Phases) (S : JobState) (name : List ℕ) (r : RootState) (n : ℕ) (line : Line) (place : ℕ × ℕ) → IsTrusted p → Stands p C phases S name r n line → IsPlace r.parts place → given out p (task (n + number r.parts place)) ≡ window (root_array r) (child r.dims r.parts place)
 child_given p C phases S name r n line place trust t h =
     given_there p (n + number r.parts place) (cell_of C name r.parts place) line (child_task p C phases S name r n line place t h)
     ∙ ap (λ (k : Contents). held_in p k (cell_of C name r.parts place)) (delivers_keep p n (number r.parts place) (cell_of C name r.parts) line (places r.parts) t.stand (omega (arith, number-below r.parts place h, many r.parts)))
@@ -272,19 +272,19 @@ one_task s n m lo hi =
         let is = number-alone s place (place_at s (m - n)) h (place_at-inside s (m - n) (omega arith)) one in
         false≢true (sym e ∙ ap (same_child_place (place_at s (m - n))) is ∙ same_child_place-refl (place_at s (m - n))))
 
-pub delivered_print : (T : Table) (p : Program) (L M : Lowering) (S : JobState) (out : List Printed) (line : Line) (name : List ℕ) (r : RootState) (root : Root)
+pub delivered_print : (T : Table) (p : Program) (L M : Lowering) (S : JobState) (xs : List Printed) (line : Line) (name : List ℕ) (r : RootState) (root : Root)
     → Stands p L.cells L.phase S name r (length L.tasks) line → printed_as T root ≡ (name, r.kind) → (info_of T root).dims ≡ r.dims → root.0 < length T.names
     → M.deliveries ≡ L.deliveries ++ deliveries_by r (length L.tasks) root L.prints → M.prints ≡ L.prints + 1 → length M.tasks ≡ length L.tasks + r.parts.r * r.parts.c
-    → AreDelivered T p L out → AreDelivered T p M (out ++ record { name = name; kind = r.kind; array = root_array r } ∷ [])
-delivered_print T p L M S out line name r root t named dims there ed ep et g = record {
-  each = λ k y e. subst (λ (ds : List Delivery). AreHanded T p (of_print k ds) y) (sym ed) (each_print k y (slice-push out x y k e));
+    → AreDelivered T p L xs → AreDelivered T p M (xs ++ record { name = name; kind = r.kind; array = root_array r } ∷ [])
+delivered_print T p L M S xs line name r root t named dims there ed ep et g = record {
+  each = λ k y e. subst (λ (ds : List Delivery). AreHanded T p (of_print k ds) y) (sym ed) (each_print k y (slice-push xs x y k e));
   counted = ep ∙ ap (λ n. n + 1) g.counted ∙ sym more_out;
-  printed = subst (λ (ds : List Delivery). All (λ (d : Delivery). d.print < length (out ++ x ∷ [])) ds) (sym ed)
-      (All-append (λ (d : Delivery). d.print < length (out ++ x ∷ [])) L.deliveries news (All-weaker (λ (d : Delivery). d.print < length out) (λ (d : Delivery). d.print < length (out ++ x ∷ [])) (λ d h. omega (arith, more_out)) L.deliveries g.printed)
-      (from_places (λ (d : Delivery). d.print < length (out ++ x ∷ [])) (λ place h. omega (arith, more_out, g.counted))));
+  printed = subst (λ (ds : List Delivery). All (λ (d : Delivery). d.print < length (xs ++ x ∷ [])) ds) (sym ed)
+      (All-append (λ (d : Delivery). d.print < length (xs ++ x ∷ [])) L.deliveries news (All-weaker (λ (d : Delivery). d.print < length xs) (λ (d : Delivery). d.print < length (xs ++ x ∷ [])) (λ d h. omega (arith, more_out)) L.deliveries g.printed)
+      (from_places (λ (d : Delivery). d.print < length (xs ++ x ∷ [])) (λ place h. omega (arith, more_out, g.counted))));
   in_order = subst (λ (ds : List Delivery). AllPairs (λ (d e : Delivery). d.print ≤ e.print) ds) (sym ed)
       (pairs-append (λ (d e : Delivery). d.print ≤ e.print) L.deliveries news g.in_order same_print
-      (each-all (λ (d : Delivery). d.print < length out) (λ (d : Delivery). AllByRecursion (λ (e : Delivery). d.print ≤ e.print) news) (λ d h. all_places (λ (e : Delivery). d.print ≤ e.print) r n root L.prints (λ place at. omega (arith, h, g.counted))) L.deliveries (recursion_from_All (λ (d : Delivery). d.print < length out) L.deliveries g.printed)));
+      (each-all (λ (d : Delivery). d.print < length xs) (λ (d : Delivery). AllByRecursion (λ (e : Delivery). d.print ≤ e.print) news) (λ d h. all_places (λ (e : Delivery). d.print ≤ e.print) r n root L.prints (λ place at. omega (arith, h, g.counted))) L.deliveries (recursion_from_All (λ (d : Delivery). d.print < length xs) L.deliveries g.printed)));
   rooted = subst (λ (ds : List Delivery). All (λ (d : Delivery). d.root.0 < length T.names) ds) (sym ed)
       (All-append (λ (d : Delivery). d.root.0 < length T.names) L.deliveries news g.rooted (from_places (λ (d : Delivery). d.root.0 < length T.names) (λ place h. there)));
   below = subst (λ (ds : List Delivery). All (λ (d : Delivery). d.task.0 < length M.tasks) ds) (sym ed)
@@ -307,8 +307,8 @@ delivered_print T p L M S out line name r root t named dims there ed ep et g = r
     news : List Delivery
     news = deliveries_by r n root L.prints
 
-    more_out : length (out ++ x ∷ []) ≡ length out + 1
-    more_out = length-append out (x ∷ [])
+    more_out : length (xs ++ x ∷ []) ≡ length xs + 1
+    more_out = length-append xs (x ∷ [])
 
     from_places : (P : Delivery → Type 0) → ((place : ℕ × ℕ) → IsPlace r.parts place → P (a_delivery n root r.dims r.parts L.prints place)) → All P news
     from_places P h = All-from_recursion P news (all_places P r n root L.prints h)
@@ -326,13 +326,13 @@ delivered_print T p L M S out line name r root t named dims there ed ep et g = r
         omega (arith, a, b, number-place_at r.parts i, number-place_at r.parts j)
 
     -- the old deliveries are of other print statements
-    each_print : (k : ℕ) (y : Printed) → (slice_get out k ≡ Some y) ⊎ ((k ≡ length out) × (x ≡ y)) → AreHanded T p (of_print k (L.deliveries ++ news)) y
+    each_print : (k : ℕ) (y : Printed) → (slice_get xs k ≡ Some y) ⊎ ((k ≡ length xs) × (x ≡ y)) → AreHanded T p (of_print k (L.deliveries ++ news)) y
     each_print k y (inl e) =
-        let h = slice_get_within out k y e in
+        let h = slice_get_within xs k y e in
         let gone : of_print k news ≡ [] = filter_gone (λ (d : Delivery). nat_eq d.print k) news (all_places (λ (d : Delivery). nat_eq d.print k ≡ false) r n root L.prints (λ place at. ne_eqb L.prints k (λ same. omega (arith, same, h, g.counted)))) in
         subst (λ (ds : List Delivery). AreHanded T p ds y) (sym (filter-append (λ (d : Delivery). nat_eq d.print k) L.deliveries news ∙ ap (λ ds. of_print k L.deliveries ++ ds) gone ∙ append-nil (of_print k L.deliveries))) (g.each k y e)
     each_print k y (inr e) =
-        let gone : of_print k L.deliveries ≡ [] = filter_gone (λ (d : Delivery). nat_eq d.print k) L.deliveries (each-all (λ (d : Delivery). d.print < length out) (λ (d : Delivery). nat_eq d.print k ≡ false) (λ d h. ne_eqb d.print k (λ same. omega (arith, same, h, e.0))) L.deliveries (recursion_from_All (λ (d : Delivery). d.print < length out) L.deliveries g.printed)) in
+        let gone : of_print k L.deliveries ≡ [] = filter_gone (λ (d : Delivery). nat_eq d.print k) L.deliveries (each-all (λ (d : Delivery). d.print < length xs) (λ (d : Delivery). nat_eq d.print k ≡ false) (λ d h. ne_eqb d.print k (λ same. omega (arith, same, h, e.0))) L.deliveries (recursion_from_All (λ (d : Delivery). d.print < length xs) L.deliveries g.printed)) in
         let all : of_print k news ≡ news = filter_all (λ (d : Delivery). nat_eq d.print k) news (all_places (λ (d : Delivery). nat_eq d.print k ≡ true) r n root L.prints (λ place at. eq-eqb L.prints k (omega (arith, g.counted, e.0)))) in
         subst (λ (ds : List Delivery). AreHanded T p ds y) (sym (filter-append (λ (d : Delivery). nat_eq d.print k) L.deliveries news ∙ ap (λ ds. ds ++ of_print k news) gone ∙ all))
         (subst (λ (y : Printed). AreHanded T p news y) e.1 (handed T p L.cells L.phase S name r n line root L.prints t named dims))

@@ -12,11 +12,11 @@ use Rattle.sj_base.specs.declared.program.Program.{Program}
 use Rattle.sj_base.specs.Array.{Array, zeros}
 use Rattle.sj_base.proofs.SameIds.{cell_of_number}
 use Rattle.sj_base.specs.Ids.{task}
+use Rattle.sj_codelet.specs.Kernel.{out}
 use Rattle.sj_codelet.specs.Laws.{IsReduction, IsTile, combined, unit_of}
 use Rattle.sj_core.specs.Program.{same_cell, dims_of}
 use Rattle.sj_core.specs.Proper.{HasValueBefore}
 use Rattle.sj_core.specs.Fold.{Contents, held_in}
-use Rattle.sj_core.proofs.Combining.{unit-same}
 use Rattle.sj_core.proofs.Sized.{AreSized}
 use Rattle.sj_plan.specs.Parts.{IsPlace}
 use Rattle.sj_plan.specs.Rect.{child, rect_dims}
@@ -47,14 +47,13 @@ pub record IsOpened (p : Program) (L M : Lowering) (c : Cell) (by : Reduction) (
   pub kept : (d : Cell) → same_cell c d ≡ false → IsBeside p f.copies d → held_in p (contents_before p (length M.tasks)) d ≡ held_in p (contents_before p (length L.tasks)) d
   pub given : HasValueBefore p (task (length M.tasks)) c
   pub copies_given : (w : ℕ) → w < p.workers → HasValueBefore p (task (length M.tasks)) (copy_at f.copies w)
-  pub value : IsTrusted p → IsReduction f.by → AreSized p (contents_before p (length M.tasks)) → with_all p (contents_before p (length M.tasks)) f (all_workers p) (held_in p (contents_before p (length M.tasks)) c) ≡ x
+  pub value : IsTrusted p → IsReduction out f.by → AreSized p (contents_before p (length M.tasks)) → with_all p (contents_before p (length M.tasks)) f (all_workers p) (held_in p (contents_before p (length M.tasks)) c) ≡ x
 
 -- what is combined from units alone
-all-units : (p : Program) (k : Contents) (f : OpenPhase) (ws : List ℕ) (v : Array) → IsReduction f.by → IsTile v → AllByRecursion (λ w. (u : Array) × (u.dims ≡ v.dims) × (held_in p k (copy_at f.copies w) ≡ unit_of f.by u)) ws → with_all p k f ws v ≡ v
+all-units : (p : Program) (k : Contents) (f : OpenPhase) (ws : List ℕ) (v : Array) → IsReduction out f.by → IsTile v → AllByRecursion (λ w. held_in p k (copy_at f.copies w) ≡ unit_of out f.by v.dims) ws → with_all p k f ws v ≡ v
 all-units p k f [] v law tile all = refl
 all-units p k f (w ∷ ws) v law tile all =
-    let u = all.0 in
-    let here : combined f.by (held_in p k (copy_at f.copies w)) v ≡ v = ap (λ (y : Array). combined f.by y v) (u.2 ∙ unit-same f.by u.0 v u.1) ∙ law.unit v tile in
+    let here : combined out f.by (held_in p k (copy_at f.copies w)) v ≡ v = ap (λ (y : Array). combined out f.by y v) all.0 ∙ law.unit v tile in
     ap (with_all p k f ws) here ∙ all-units p k f ws v law tile all.1
 
 -- a child of a name's active plan
@@ -188,8 +187,8 @@ module _ (p : Program) (L : Lowering) (S : JobState) (g : Agrees p L S) (name : 
         ap (λ (k : Contents). held_in p k c) left
         ∙ ap (λ v. held_in p (after_rows p (contents_before p (length L.tasks)) (begin_rows by first c v p.workers line)) c) e
         ∙ begin-own p (contents_before p (length L.tasks)) by first c line
-        ∙ unit-same by (zeros (dims_of p c)) (child_array root place) size
-        ∙ sym (ap (λ (o : Option Reduction). elim o as (λ _. Array) [ None ↦ zeros (rect_dims (child_rect root place)) | Some by ↦ unit_of by (child_array root place) ]) reduction)
+        ∙ ap (unit_of out by) size
+        ∙ sym (ap (λ (o : Option Reduction). elim o as (λ _. Array) [ None ↦ zeros (rect_dims (child_rect root place)) | Some by ↦ unit_of out by (rect_dims (child_rect root place)) ]) reduction)
         ∙ sym (contributed-is false e)
 
     pub begins_now : IsOpened p L New c by (contributed_to root place)
@@ -212,11 +211,9 @@ module _ (p : Program) (L : Lowering) (S : JobState) (g : Agrees p L S) (name : 
       copies_given = λ w below. given_after (copy_at first w) (given-rows p (length L.tasks) ls (copy_at first w) stand (begin-gives by first c (is_valued_child root place) p.workers line w below));
       value = λ trust law sized.
           all-units p (contents_before p now) new (all_workers p) (held_in p (contents_before p now) c) law (sized c).tile
-          (each-of_all (λ w. (u : Array) × (u.dims ≡ (held_in p (contents_before p now) c).dims) × (held_in p (contents_before p now) (copy_at first w) ≡ unit_of by u)) p.workers (λ w below. (
-            zeros (dims_of p (copy_at first w)),
-            copy-size w below ∙ sym (sized c).dims,
-            ap (λ (k : Contents). held_in p k (copy_at first w)) left ∙ begin-copies p (contents_before p (length L.tasks)) by first c (is_valued_child root place) line w beside_own below,
-          )))
+          (each-of_all (λ w. held_in p (contents_before p now) (copy_at first w) ≡ unit_of out by (held_in p (contents_before p now) c).dims) p.workers (λ w below.
+          ap (λ (k : Contents). held_in p k (copy_at first w)) left ∙ begin-copies p (contents_before p (length L.tasks)) by first c (is_valued_child root place) line w beside_own below
+          ∙ ap (unit_of out by) (copy-size w below ∙ sym (sized c).dims)))
           ∙ own_value trust (is_valued_child root place) refl;
     }
 

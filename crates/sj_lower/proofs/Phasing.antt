@@ -8,9 +8,10 @@ use Rattle.sj_base.specs.declared.mode.Reduction.{Reduction}
 use Rattle.sj_base.specs.declared.mode.Reduction.TheVariants.{Plus, Least}
 use Rattle.sj_base.specs.declared.program.Lowered.{Lowered}
 use Rattle.sj_base.specs.declared.program.Program.{Program}
-use Rattle.sj_base.specs.Array.{Array, zeros}
+use Rattle.sj_base.specs.Array.{Array}
 use Rattle.sj_base.proofs.Numbers.{all_of}
 use Rattle.sj_base.proofs.SameIds.{same_cell-is, same_cell-itself, same_cell-turned}
+use Rattle.sj_codelet.specs.Kernel.{out}
 use Rattle.sj_codelet.specs.Laws.{combined, unit_of}
 use Rattle.sj_core.specs.Program.{same_cell, dims_of}
 use Rattle.sj_core.specs.Proper.{gives_value}
@@ -25,7 +26,7 @@ use Rattle.sj_lower.proofs.Folding.{after_row, after_rows, after_rows-append, on
 
 -- ---- combining
 
-after_combine : (p : Program) (k : Contents) (by : Reduction) (c : Cell) (line : Line) (q : Cell) → after_row p k (combine_row by c line q) ≡ (c, combined by (held_in p k q) (held_in p k c)) ∷ k
+after_combine : (p : Program) (k : Contents) (by : Reduction) (c : Cell) (line : Line) (q : Cell) → after_row p k (combine_row by c line q) ≡ (c, combined out by (held_in p k q) (held_in p k c)) ∷ k
 after_combine p k Plus c line q = refl
 after_combine p k Least c line q = refl
 
@@ -39,7 +40,7 @@ IsBare p f c = (w : ℕ) → w < p.workers → same_cell c (copy_at f.copies w) 
 combines-value : (p : Program) (k : Contents) (f : OpenPhase) (c : Cell) (ws : List ℕ) → IsBare p f c → AllByRecursion (λ w. w < p.workers) ws → held_in p (after_rows p k (combines f c ws)) c ≡ with_all p k f ws (held_in p k c)
 combines-value p k f c [] bare all = refl
 combines-value p k f c (w ∷ ws) bare all =
-    let x = combined f.by (held_in p k (copy_at f.copies w)) (held_in p k c) in
+    let x = combined out f.by (held_in p k (copy_at f.copies w)) (held_in p k c) in
     ap (λ (n : Contents). held_in p (after_rows p n (combines f c ws)) c) (after_combine p k f.by c f.line (copy_at f.copies w))
     ∙ combines-value p ((c, x) ∷ k) f c ws bare all.1
     ∙ ap (with_all p ((c, x) ∷ k) f ws) (held-same p c x k)
@@ -48,7 +49,7 @@ combines-value p k f c (w ∷ ws) bare all =
 combines-others : (p : Program) (k : Contents) (f : OpenPhase) (c : Cell) (ws : List ℕ) (d : Cell) → same_cell c d ≡ false → held_in p (after_rows p k (combines f c ws)) d ≡ held_in p k d
 combines-others p k f c [] d other = refl
 combines-others p k f c (w ∷ ws) d other =
-    let x = combined f.by (held_in p k (copy_at f.copies w)) (held_in p k c) in
+    let x = combined out f.by (held_in p k (copy_at f.copies w)) (held_in p k c) in
     ap (λ (n : Contents). held_in p (after_rows p n (combines f c ws)) d) (after_combine p k f.by c f.line (copy_at f.copies w))
     ∙ combines-others p ((c, x) ∷ k) f c ws d other ∙ held-other p c x k d other
 
@@ -63,7 +64,7 @@ closed-others p k f c d other = combines-others p k f c (all_workers p) d other
 
 -- the unit as large as a cell
 abbrev pub unit_at : Program → Reduction → Cell → Array
-unit_at p by c = unit_of by (zeros (dims_of p c))
+unit_at p by c = unit_of out by (dims_of p c)
 
 after_init : (p : Program) (k : Contents) (by : Reduction) (line : Line) (c : Cell) → after_row p k (init_row by line c) ≡ (c, unit_at p by c) ∷ k
 after_init p k Plus line c = refl

@@ -16,7 +16,7 @@ use Rattle.sj_base.specs.declared.program.Program.{Program}
 use Rattle.sj_base.specs.Array.{Array, array, area, zeros}
 use Rattle.sj_codelet.specs.declared.kernel.Kernel.{Kernel}
 use Rattle.sj_codelet.specs.declared.formal.Formal.{Formal}
-use Rattle.sj_codelet.specs.Kernel.{formals_of, out, fits}
+use Rattle.sj_codelet.specs.Kernel.{formals_of, init_of, out, fits}
 use Rattle.sj_core.specs.Program.{same_cell, dims_of, task_of}
 use Rattle.sj_base.specs.Mode.{is_written, is_redux, is_data, is_read_only}
 use Rattle.sj_base.proofs.Bools.{implied}
@@ -25,7 +25,7 @@ use Rattle.sj_base.specs.Ids.{task}
 use Rattle.sj_codelet.specs.Formal.{outputs_among}
 use Rattle.sj_codelet.specs.Laws.{unit_of}
 use Rattle.sj_codelet.proofs.Table.{each_dims}
-use Rattle.sj_core.proofs.Combining.{unit-dims, unit-tile}
+use Rattle.sj_core.proofs.Combining.{unit-fills}
 use Rattle.sj_core.specs.Fold.{Contents, held_in, after_task}
 use Rattle.sj_core.specs.Operands.{worked_on, written_cells, found, results}
 use Rattle.sj_plan.specs.declared.parts.Parts.{Parts}
@@ -46,7 +46,7 @@ use Rattle.sj_lower.proofs.Elements.{child-whole}
 use Rattle.sj_lower.proofs.Holding.{HasCells, HaveRoots, HaveTheirs, GivesAll, IsOther, same_child, cell-dims, holds-put_all, holds-later, holds-same}
 use Rattle.sj_lower.proofs.Combined.{IsTrusted, Phases, denoted-closed}
 use Rattle.sj_lower.proofs.Laid.{AreLaid}
-use Rattle.sj_codelet.proofs.NewArrays.{AreWhole}
+use Rattle.sj_codelet.proofs.NewArrays.{AreWhole, out-makes_tiles}
 use Rattle.sj_lower.proofs.Writing.{outputs-written, out_dims, out_whole, IsCall, call_of, fit_from_fits}
 use Rattle.sj_job.proofs.Children.{place-from_test}
 
@@ -296,9 +296,9 @@ seen_dims : (S : JobState) (o : Operand (List ℕ)) (x : Option RootState) → r
 seen_dims S o None e = refl
 seen_dims S o (Some r) e = by o.mode
   where
-    unit : (x : Option Reduction) → (elim x as (λ _. Array) [ None ↦ zeros (rect_dims (child_rect r o.place)) | Some by ↦ unit_of by (child_array r o.place) ]).dims ≡ rect_dims (child_rect r o.place)
+    unit : (x : Option Reduction) → (elim x as (λ _. Array) [ None ↦ zeros (rect_dims (child_rect r o.place)) | Some by ↦ unit_of out by (rect_dims (child_rect r o.place)) ]).dims ≡ rect_dims (child_rect r o.place)
     unit None = refl
-    unit (Some by) = unit-dims by (child_array r o.place)
+    unit (Some by) = (unit-fills out by (out-makes_tiles (init_of by)) (rect_dims (child_rect r o.place))).1
 
     contributed : (b : Bool) → (cond b (child_array r o.place) (child_unit r o.place)).dims ≡ rect_dims (child_rect r o.place)
     contributed true = refl
@@ -323,9 +323,9 @@ seen_whole S o (Some r) = by o.mode
     none : IsWhole (zeros (rect_dims (child_rect r o.place)))
     none = length-replicate (area (rect_dims (child_rect r o.place))) _
 
-    unit : (x : Option Reduction) → IsWhole (elim x as (λ _. Array) [ None ↦ zeros (rect_dims (child_rect r o.place)) | Some by ↦ unit_of by (child_array r o.place) ])
+    unit : (x : Option Reduction) → IsWhole (elim x as (λ _. Array) [ None ↦ zeros (rect_dims (child_rect r o.place)) | Some by ↦ unit_of out by (rect_dims (child_rect r o.place)) ])
     unit None = none
-    unit (Some by) = (unit-tile by (child_array r o.place)).whole
+    unit (Some by) = (unit-fills out by (out-makes_tiles (init_of by)) (rect_dims (child_rect r o.place))).0.whole
 
     contributed : (b : Bool) → IsWhole (cond b (child_array r o.place) (child_unit r o.place))
     contributed true = child-whole r o.place
@@ -373,16 +373,16 @@ new_whole has S t s =
 pub holds-task : (has : Kernel → Bool) (p : Program) (C : Cells) (phases : Phases) (n : ℕ) (k : Contents) (S : JobState) (t : TaskLine (List ℕ)) (l : Lowered)
     → HasCells p C → AreLaid C → HaveTheirs p.workers C phases → HaveRoots p C phases n k S → IsSoundTask has S t → list_all (λ o. is_direct o.mode) t.operands ≡ true → AllByRecursion (IsClosed phases S C) t.operands
     → task_of p (task n) ≡ l → l.codelet ≡ t.codelet → l.args ≡ t.args → l.accesses ≡ each_of (access_of S C) t.operands
-    → HaveRoots p C phases (n + 1) (after_task p first_worker (task n) k) (run_task t S)
+    → HaveRoots p C phases (n + 1) (after_task out p first_worker (task n) k) (run_task t S)
 holds-task has p C phases n k S t l cells laid theirs roots s direct closed is ec ea eo =
     let accesses : (task_of p (task n)).accesses ≡ each_of (access_of S C) t.operands = ap (λ (k : Lowered). k.accesses) is ∙ eo in
     let outs = out t.codelet t.args (each_of (operand_array S) t.operands) in
     let g = gives_all p C phases n S (each_of (access_of S C) t.operands) (written_operands t.operands) outs accesses (all_written S C t.operands direct) (all_placed S t.operands s.placed) (all_other t.operands s.apart) (all_closed phases S C t.operands closed) (new_dims has S t s) (new_whole has S t s) in
     let meant = holds-put_all p C phases (n + 1) (operand_cell S C) (written_operands t.operands) outs k S laid theirs (holds-later p C phases n (n + 1) k S (omega arith) roots) g in
     let written : written_cells p (task n) first_worker ≡ each_of (operand_cell S C) (written_operands t.operands) = ap (λ (as' : List Access). each_of (worked_on p first_worker) (filter (λ a. is_written a.mode) as')) accesses ∙ cells_written p S C t.operands direct in
-    let made : IsTrusted p → results p (task n) first_worker (held_in p k) ≡ outs = λ trust.
+    let made : IsTrusted p → results out p (task n) first_worker (held_in p k) ≡ outs = λ trust.
     ap (λ (l : Lowered). out l.codelet l.args (each_of (found p first_worker (held_in p k)) l.accesses)) is
     ∙ (λ i. out (ec i) (ea i) (each_of (found p first_worker (held_in p k)) (eo i)))
     ∙ ap (out t.codelet t.args) (all_found p C phases n k S t.operands trust cells laid roots closed direct s.placed s.valued) in
-    holds-same p C phases (n + 1) (zip (each_of (operand_cell S C) (written_operands t.operands)) outs ++ k) (after_task p first_worker (task n) k) (run_task t S)
+    holds-same p C phases (n + 1) (zip (each_of (operand_cell S C) (written_operands t.operands)) outs ++ k) (after_task out p first_worker (task n) k) (run_task t S)
     (λ trust c. ap (λ (new : Contents). held_in p new c) (λ i. zip (written i) (made trust i) ++ k)) meant

@@ -2,6 +2,7 @@
 
 ghost use Rattle.std.specs.Prelude.{◌≡◌, ◌+◌, ◌<◌, ◌≤◌, Bool, IsTrue, None, Some, All, IfOk, IfErr, OnOk, nat_le, vec_len};
 ghost use Rattle.sj_codelet.specs.declared.kernel.Kernel.{Kernel};
+ghost use Rattle.sj_codelet.specs.Kernel.{out};
 ghost use Rattle.sj_core.specs.Laws.{IsLawful, is_known};
 ghost use Rattle.sj_core.specs.Proper.{Proper};
 ghost use Rattle.sj_meaning.specs.State.{JobState, start};
@@ -182,8 +183,8 @@ pub fn lower(alloc: Global, job: Job, workers: u8) -> Result<LoweredJob, LowerRe
     ensures proper { IfOk result (λ l. Proper l.program) }
     ensures known { IfOk result (λ l. (has : Kernel → Bool) → IsJobIn has (statements_of job)
         → All (λ t. IsTrue (is_known has t.codelet)) l.program.tasks) }
-    ensures prints { IfOk result (λ l. (has : Kernel → Bool) → IsLawful has l.program → 0 < workers
-        → DeliversPrinted job.roots l.program (statements_of job)) }
+    ensures prints { IfOk result (λ l. (has : Kernel → Bool) → IsLawful out has l.program
+        → 0 < workers → DeliversPrinted job.roots l.program (statements_of job)) }
     ensures handed_over { IfOk result (λ l. NamesDeliverTasks l.program) }
     ensures in_order { IfOk result (λ l. DeliversInOrder l.program) }
     ensures refused { IfErr result (λ e. IsLate e (late_limit workers (statements_of job))) }

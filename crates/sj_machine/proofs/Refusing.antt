@@ -10,6 +10,7 @@ use Rattle.std.specs.List.{list_any}
 use Rattle.sj_base.specs.declared.mode.Access.{Access}
 use Rattle.sj_base.specs.declared.mode.Mode.TheVariants.{R}
 use Rattle.sj_base.specs.Mode.{is_redux}
+use Rattle.sj_core.proofs.Sized.{worked_on-dims}
 use Rattle.sj_core.proofs.Advancing.{claimed_by-task_of, idle-has_none, task_of-worker}
 use Rattle.sj_core.proofs.Bytes.{bytes_where, entry-cell, once-bytes}
 use Rattle.sj_core.proofs.CellLists.{has_cell-distinct, has_cell-filter_is, same_cell-from, times-distinct, times-filter}
@@ -44,10 +45,6 @@ sum-split {X} f test xs =
     by_case x b = search arith
 
 -- ---- what a task brings is no more than what it needs
-
--- the cell that is worked on is as large as the operand's
-worked-dims : (p : Program) → Proper p → (w : Worker) → w.0 < p.workers → (a : Access) → dims_of p (worked_on p w a) ≡ dims_of p a.cell
-worked-dims p proper w staffed a = search arith
 
 module _ (p : Program) (w : Worker) (sized : (a : Access) → dims_of p (worked_on p w a) ≡ dims_of p a.cell) where
   same-bytes : (a : Access) → tile_bytes p (worked_on p w a) ≡ tile_bytes p a.cell
@@ -117,7 +114,7 @@ module _ (p : Program) (m : Machine) (s : State) (h : IsSound p m s) (t : Task) 
       (λ c. omega (arith, times-filter (has_cell (order s n)) (distinct cells) c, times-distinct cells c)))
 
   needs : bytes (distinct cells) + scratch_bytes p (task_of p t) ≤ node_size m n
-  needs = omega (arith, worked-le p w (worked-dims p h.proper w may.worker) (data_operands (task_of p t)) (h.proper.unaliased t.0 no_task may.ready.task), may.fits)
+  needs = omega (arith, worked-le p w (worked_on-dims p h.proper w may.worker) (data_operands (task_of p t)) (h.proper.unaliased t.0 no_task may.ready.task), may.fits)
 
   abbrev spare : Cell → Bool
   spare c = not (is_pinned m s n c) && not (has_cell cells c)

@@ -80,7 +80,7 @@ child_array r place = array (rect_dims (child_rect r place)) (integers_of (child
 
 -- the unit of a root's reduction, as large as a child; zeros where the root has none
 abbrev pub child_unit : RootState → ℕ × ℕ → Array
-child_unit r place = elim r.reduction [ None ↦ zeros (rect_dims (child_rect r place)) | Some by ↦ unit_of by (child_array r place) ]
+child_unit r place = elim r.reduction [ None ↦ zeros (rect_dims (child_rect r place)) | Some by ↦ unit_of out by (rect_dims (child_rect r place)) ]
 
 -- what a contribution adds to: the elements of the child, or the unit where it has no value
 abbrev pub contributed_to : RootState → ℕ × ℕ → Array

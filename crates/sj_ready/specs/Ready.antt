@@ -2,6 +2,7 @@
 use Rattle.std.specs.Prelude.{◌≡◌, Bool, IsTrue, Ok, Err, IsOkAnd}
 use Rattle.sj_codelet.specs.declared.kernel.Kernel.{Kernel}
 use Rattle.sj_codelet.specs.declared.kernel.Kernel.TheVariants.{Load, LoadFill, Paste, Deliver}
+use Rattle.sj_codelet.specs.Kernel.{out}
 use Rattle.sj_core.specs.Laws.{IsLawful}
 use Rattle.sj_core.specs.Needs.{AreFootprints}
 use Rattle.sj_core.specs.Proper.{HasSwapFor, IsMachineFor, Proper}
@@ -28,7 +29,7 @@ pub record IsReady (has : Kernel → Bool) (asked : WorkOrRefusal) (r : ReadyJob
   pub summary_is : r.shows_summary ≡ work.shows_summary
   pub trace_is : r.shows_trace ≡ work.shows_trace
   pub proper : Proper r.program.value
-  pub lawful : IsLawful has r.program.value
+  pub lawful : IsLawful out has r.program.value
   pub machine_for : IsMachineFor r.program.value r.machine
   pub tasks_fit : FitRoom r.program.value r.machine
   pub blocks_have_places : HasSwapFor r.program.value r.machine

@@ -4,6 +4,7 @@ ghost use Rattle.std.specs.Prelude.{◌≡◌, ◌<◌, ◌≤◌, ◌^◌, Bool
 ghost use Rattle.sj_apps.specs.Application.{job_for, IsSized};
 ghost use Rattle.sj_codelet.specs.Laws.{CommutingCommute, ContributingContribute, ReductionsReduce};
 ghost use Rattle.sj_codelet.specs.declared.kernel.Kernel.{Kernel};
+ghost use Rattle.sj_codelet.specs.Kernel.{out};
 ghost use Rattle.sj_core.specs.Laws.{IsLawful, is_known};
 ghost use Rattle.sj_core.specs.Proper.{Proper};
 ghost use Rattle.sj_job.specs.Reading.{job_of, IsReadRefusal};
@@ -80,9 +81,9 @@ fn machine_for(
 
 /// No code: its contract is what a set of codelets obeys.
 fn laws_of<C: Codelets>(_codelets: &C)
-    ensures commuting { CommutingCommute C.has }
-    ensures contributing { ContributingContribute C.has }
-    ensures reducing { ReductionsReduce C.has }
+    ensures commuting { CommutingCommute out C.has }
+    ensures contributing { ContributingContribute out C.has }
+    ensures reducing { ReductionsReduce out C.has }
 {}
 
 /// A program that can be shared. Constant time.
@@ -108,7 +109,7 @@ fn lowered_for(alloc: Global, job: Job, workers: u8) -> Result<SharedJob, Unread
     ensures proper { IfOk result (λ r. Proper r.program.value) }
     ensures known { IfOk result (λ r. (has : Kernel → Bool) → IsJobIn has (statements_of job)
         → All (λ l. IsTrue (is_known has l.codelet)) r.program.value.tasks) }
-    ensures prints { IfOk result (λ r. (has : Kernel → Bool) → IsLawful has r.program.value
+    ensures prints { IfOk result (λ r. (has : Kernel → Bool) → IsLawful out has r.program.value
         → 0 < workers → DeliversPrinted r.roots r.program.value (statements_of job)) }
     ensures handed_over { IfOk result (λ r. NamesDeliverTasks r.program.value) }
     ensures unready { IfErr result (λ why. (w : Work) → w.statements ≡ statements_of job →

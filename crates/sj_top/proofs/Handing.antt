@@ -1,7 +1,6 @@
 -- What a run hands over is what the deliver tasks have to hand over.
 use Rattle.std.proofs.Common.{◌≡◌, ℕ, suc, ◌+◌, ◌<◌, Bool, true, false, cond, List, [], ◌∷◌, length, get_or, refl, sym, ap, ◌∙◌, subst, arith, nat_eq, Some, inl, inr}
-use Rattle.std.specs.Prelude.{All, Contains, FitsSigned, IsTrue}
-use Rattle.std.specs.Int.{w64}
+use Rattle.std.specs.Prelude.{All, Contains, IsTrue}
 use Rattle.std.specs.List.{range_with_len}
 use Rattle.std.proofs.lemmas.Bool.{cases_lt, false≢true}
 use Rattle.std.proofs.lemmas.Bool.Decides.{Decides-eqb}
@@ -17,9 +16,11 @@ use Rattle.sj_base.specs.declared.tile.Dims.{Dims}
 use Rattle.sj_base.specs.Array.{Array, zeros}
 use Rattle.sj_base.proofs.Bools.{tally}
 use Rattle.sj_base.specs.Ids.{task}
+use Rattle.sj_codelet.specs.declared.kernel.Kernel.{Kernel}
 use Rattle.sj_codelet.specs.declared.kernel.Kernel.TheVariants.{Deliver}
-use Rattle.sj_codelet.specs.Kernel.{kernel_of}
+use Rattle.sj_codelet.specs.Kernel.{kernel_of, out}
 use Rattle.sj_core.specs.Fold.{given}
+use Rattle.sj_core.specs.Laws.{IsLawful}
 use Rattle.sj_core.specs.Program.{dims_of, no_task, task_of}
 use Rattle.sj_core.specs.Proper.{Proper}
 use Rattle.sj_core.proofs.Folding.{map-same}
@@ -45,13 +46,13 @@ found-each p h pairs e index handed =
     p.deliveries (All-contains_itself p.deliveries)
 
 -- it has the dimensions of what the task has to hand over
-pub dims-found : (p : Program) (pairs : List (Task × Array)) (arrays : Task → Array) → HandedOver p pairs → AreAmong p pairs arrays → All (λ (d : Delivery). (arrays d.task).dims ≡ (given p d.task).dims) p.deliveries
+pub dims-found : (p : Program) (pairs : List (Task × Array)) (arrays : Task → Array) → HandedOver p pairs → AreAmong p pairs arrays → All (λ (d : Delivery). (arrays d.task).dims ≡ (given out p d.task).dims) p.deliveries
 dims-found p pairs arrays handed among =
-    All-weaker (λ (d : Delivery). Contains pairs (d.task, arrays d.task)) (λ (d : Delivery). (arrays d.task).dims ≡ (given p d.task).dims)
-    (λ d has. All-contains (λ (pair : Task × Array). pair.1.dims ≡ (given p pair.0).dims) pairs (d.task, arrays d.task) handed.dims has) p.deliveries among
+    All-weaker (λ (d : Delivery). Contains pairs (d.task, arrays d.task)) (λ (d : Delivery). (arrays d.task).dims ≡ (given out p d.task).dims)
+    (λ d has. All-contains (λ (pair : Task × Array). pair.1.dims ≡ (given out p pair.0).dims) pairs (d.task, arrays d.task) handed.dims has) p.deliveries among
 
 -- so the deliveries of a print statement lie in their root
-pub shown-by : (T : Table) (p : Program) (k : ℕ) (arrays : Task → Array) → All (λ (d : Delivery). (arrays d.task).dims ≡ (given p d.task).dims) p.deliveries → IsShown T (given p) (deliveries_for p k) → IsShown T arrays (deliveries_for p k)
+pub shown-by : (T : Table) (p : Program) (k : ℕ) (arrays : Task → Array) → All (λ (d : Delivery). (arrays d.task).dims ≡ (given out p d.task).dims) p.deliveries → IsShown T (given out p) (deliveries_for p k) → IsShown T arrays (deliveries_for p k)
 shown-by T p k arrays same shown =
     let ds = deliveries_for p k in
     let dims = (info_of T (delivered_root ds)).dims in
@@ -61,21 +62,21 @@ shown-by T p k arrays same shown =
       within = λ i d below.
           let x = get_or ds i d in
           let among : Contains p.deliveries x = Contains-from_filter (λ (e : Delivery). nat_eq e.print k) p.deliveries x (All-contains_itself ds i d below) in
-          let has = All-contains (λ (e : Delivery). (arrays e.task).dims ≡ (given p e.task).dims) p.deliveries x same among in
+          let has = All-contains (λ (e : Delivery). (arrays e.task).dims ≡ (given out p e.task).dims) p.deliveries x same among in
           subst (λ (z : Dims). Within (rect_at x z) dims) (sym has) (shown.within i d below);
     }
 
 -- where each array is what its task has to hand over, the deliveries show the same as these
-pub same-shown : (T : Table) (p : Program) (pairs : List (Task × Array)) (arrays : Task → Array) → AreAmong p pairs arrays → All (λ (pair : Task × Array). pair.1 ≡ given p pair.0) pairs → all_shown T arrays p ≡ all_shown T (given p) p
-same-shown T p pairs arrays among are = map-same (λ k. shown T arrays (deliveries_for p k)) (λ k. shown T (given p) (deliveries_for p k)) (range_with_len 0 (prints_of p)) (λ k h. same-of k)
+pub same-shown : (T : Table) (p : Program) (pairs : List (Task × Array)) (arrays : Task → Array) → AreAmong p pairs arrays → All (λ (pair : Task × Array). pair.1 ≡ given out p pair.0) pairs → all_shown T arrays p ≡ all_shown T (given out p) p
+same-shown T p pairs arrays among are = map-same (λ k. shown T arrays (deliveries_for p k)) (λ k. shown T (given out p) (deliveries_for p k)) (range_with_len 0 (prints_of p)) (λ k h. same-of k)
   where
-    same-of : (k : ℕ) → shown T arrays (deliveries_for p k) ≡ shown T (given p) (deliveries_for p k)
+    same-of : (k : ℕ) → shown T arrays (deliveries_for p k) ≡ shown T (given out p) (deliveries_for p k)
     same-of k =
         let ds = deliveries_for p k in
-        let parts = map-same (part_by arrays) (part_by (given p)) ds (λ d h.
+        let parts = map-same (part_by arrays) (part_by (given out p)) ds (λ d h.
         let own : Contains p.deliveries d = Contains-from_filter (λ (e : Delivery). nat_eq e.print k) p.deliveries d h in
         let has = All-contains (λ (e : Delivery). Contains pairs (e.task, arrays e.task)) p.deliveries d among own in
-        let is = All-contains (λ (pair : Task × Array). pair.1 ≡ given p pair.0) pairs (d.task, arrays d.task) are has in
+        let is = All-contains (λ (pair : Task × Array). pair.1 ≡ given out p pair.0) pairs (d.task, arrays d.task) are has in
         ap (λ (a : Array). (rect_at d a.dims, a)) is) in
         let info = info_of T (delivered_root ds) in
         λ i. record { name = name_of T (delivered_root ds); kind = info.kind; array = gathered (zeros info.dims) (parts i) }
@@ -106,15 +107,15 @@ kernel-delivery : (id : Codelet) → kernel_of id ≡ Some Deliver → is_delive
 kernel-delivery id e = rw e refl
 
 -- what all tasks before it leave in a deliver task's cell has the cell's dimensions
-given-dims : (p : Program) (t : Task) → Proper p → All (λ (l : Lowered). All (FitsSigned w64) l.args) p.tasks → 0 < p.workers → t.0 < length p.tasks → (given p t).dims ≡ dims_of p (delivered_cell p t)
-given-dims p t proper arguments some inside = (after_chosen-sized p proper arguments (λ u. true) (λ u. record { 0 = 0 }) (λ u. some) t.0 (omega (arith, inside)) (delivered_cell p t)).dims
+given-dims : (has : Kernel → Bool) (p : Program) (t : Task) → Proper p → IsLawful out has p → 0 < p.workers → t.0 < length p.tasks → (given out p t).dims ≡ dims_of p (delivered_cell p t)
+given-dims has p t proper lawful some inside = (after_chosen-sized out has p proper lawful (λ u. true) (λ u. record { 0 = 0 }) (λ u. some) t.0 (omega (arith, inside)) (delivered_cell p t)).dims
 
-pub handed-over : (p : Program) (Tells : Type 0) (pairs : List (Task × Array)) → Proper p → All (λ (l : Lowered). All (FitsSigned w64) l.args) p.tasks → 0 < p.workers → NamesDeliverTasks p → DeliversEach p Tells pairs → HandedOver p pairs
-handed-over p Tells pairs proper arguments some named each = record {
+pub handed-over : (has : Kernel → Bool) (p : Program) (Tells : Type 0) (pairs : List (Task × Array)) → Proper p → IsLawful out has p → 0 < p.workers → NamesDeliverTasks p → DeliversEach out p Tells pairs → HandedOver p pairs
+handed-over has p Tells pairs proper lawful some named each = record {
   of_program = All-weaker (λ (d : Task × Array). IsTrue (is_deliver_task p d.0)) (λ (d : Task × Array). d.0.0 < length p.tasks) (λ d is. deliver-inside p d.0 is) pairs each.only;
   dims = λ i d below.
       let x = get_or pairs i d in
-      each.dims i d below ∙ sym (given-dims p x.0 proper arguments some (deliver-inside p x.0 (each.only i d below)));
+      each.dims i d below ∙ sym (given-dims has p x.0 proper lawful some (deliver-inside p x.0 (each.only i d below)));
   every = All-weaker (λ (d : Delivery). (d.task.0 < length p.tasks) × (kernel_of (task_of p d.task).codelet ≡ Some Deliver)) (λ (d : Delivery). Contains (tasks_in pairs) d.task)
       (λ d is. let one = each.once d.task (kernel-delivery (task_of p d.task).codelet is.1) in one-counted d.task pairs (omega (arith, one))) p.deliveries named;
 }

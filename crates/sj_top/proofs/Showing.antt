@@ -14,6 +14,7 @@ use Rattle.sj_base.specs.declared.program.Program.{Program}
 use Rattle.sj_base.specs.declared.tile.Dims.{Dims}
 use Rattle.sj_base.specs.Array.{array, zeros}
 use Rattle.sj_core.proofs.Readiness.{Contains-from_filter, filter-Contains}
+use Rattle.sj_codelet.specs.Kernel.{out}
 use Rattle.sj_core.specs.Fold.{given}
 use Rattle.sj_plan.specs.Rect.{Within}
 use Rattle.sj_plan.specs.Window.{gathered}
@@ -91,17 +92,17 @@ module _ (T : Table) (p : Program) (ss : List (Statement (List ℕ))) (h : Deliv
   ]
 
   -- what the deliveries of a print statement show is what it finds
-  pub shown-is : (k : ℕ) → k < length (printed ss) → shown T (given p) (deliveries_for p k) ≡ found k
+  pub shown-is : (k : ℕ) → k < length (printed ss) → shown T (given out p) (deliveries_for p k) ≡ found k
   shown-is k below =
       let x = found k in
       let is = each k below in
       let ds = deliveries_for p k in
       let named = is.named 0 no_delivery is.some in
       let dims : (info_of T (delivered_root ds)).dims ≡ x.array.dims = is.dims 0 no_delivery is.some in
-      let made : assembled (given p) (info_of T (delivered_root ds)).dims ds ≡ x.array = ap (λ (d : Dims). gathered (zeros d) (map (part_of p) ds)) dims ∙ is.array (map (part_of p) ds) (IsPermutation-refl (map (part_of p) ds)) in
+      let made : assembled (given out p) (info_of T (delivered_root ds)).dims ds ≡ x.array = ap (λ (d : Dims). gathered (zeros d) (map (part_of p) ds)) dims ∙ is.array (map (part_of p) ds) (IsPermutation-refl (map (part_of p) ds)) in
       λ i. record { name = (named i).0; kind = (named i).1; array = made i }
 
-  grouped-each : (k : ℕ) → k < prints_of p → IsShown T (given p) (deliveries_for p k)
+  grouped-each : (k : ℕ) → k < prints_of p → IsShown T (given out p) (deliveries_for p k)
   grouped-each k below =
       let inside : k < length (printed ss) = omega (arith, count-prints) in
       let is = each k inside in
@@ -115,7 +116,7 @@ module _ (T : Table) (p : Program) (ss : List (Statement (List ℕ))) (h : Deliv
   pub grouped : AreGrouped T p
   grouped = record { ascending = h.ascending; each = grouped-each }
 
-  pub all-shown : all_shown T (given p) p ≡ printed ss
+  pub all-shown : all_shown T (given out p) p ≡ printed ss
   all-shown =
-      let f = λ (k : ℕ). shown T (given p) (deliveries_for p k) in
+      let f = λ (k : ℕ). shown T (given out p) (deliveries_for p k) in
       ap (λ n. map f (range_with_len 0 n)) count-prints ∙ sym (fill_by_all f (printed ss) (length (printed ss)) nothing_found refl (λ k below. sym (shown-is k below)))

@@ -7,6 +7,7 @@ use Rattle.sj_base.specs.declared.program.Program.{Program}
 use Rattle.sj_base.specs.declared.trace.Event.{Event}
 use Rattle.sj_base.specs.Array.{Array}
 use Rattle.sj_codelet.specs.declared.kernel.Kernel.{Kernel}
+use Rattle.sj_codelet.specs.Kernel.{out}
 use Rattle.sj_core.specs.Legal.{IsFinished, IsLegal}
 use Rattle.sj_core.specs.Once.{EachRanOnce}
 use Rattle.sj_meaning.specs.Meaning.{printed}
@@ -52,7 +53,7 @@ module _ (has : Kernel → Bool) (asked : WorkOrRefusal) (r : ReadyJob) (ready :
     each_once = subst (λ (q : Program). EachRanOnce q trace) ready.program_is once;
   }
 
-  module _ (Tells : Type 0) (pairs : List (Task × Array)) (trace : List Event) (text : List ℕ) (each : DeliversEach p Tells pairs) (shows : ShowsRun r.shows_summary r.roots p pairs (behind r.shows_trace trace) text) where
+  module _ (Tells : Type 0) (pairs : List (Task × Array)) (trace : List Event) (text : List ℕ) (each : DeliversEach out p Tells pairs) (shows : ShowsRun r.shows_summary r.roots p pairs (behind r.shows_trace trace) text) where
     told : Tells → text ≡ answer_text trace w
     told tells =
         let same = same-shown r.roots p pairs shows.shows.arrays shows.shows.among (each.arrays tells) in

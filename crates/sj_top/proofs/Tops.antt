@@ -9,6 +9,7 @@ use Rattle.sj_engine.specs.Outcome.{AllDisksTell, HoldBlocks}
 use Rattle.sj_meaning.specs.Job.{Job}
 use Rattle.sj_job.specs.Reading.{Refusal}
 use Rattle.sj_lower.specs.Limits.{late_limit}
+use Rattle.sj_codelet.specs.Kernel.{out}
 use Rattle.sj_core.specs.Legal.{state_of}
 use Rattle.sj_board.specs.Headers.{IsLastWritten}
 use Rattle.sj_board.specs.declared.fault.RunFault.{RunFault}
@@ -123,14 +124,14 @@ module _ (o : Options) (sizes : List ℕ) (jobs : Option (Result Job Refusal)) (
     holds : (P : Work → Type 0) → IsOkAnd work P → IfTold asked P
     holds P h = told-of (λ w. IsOkAnd w P) h
 
-    whole : (Takes : List ℕ → Type 0) → IsOkAnd work (IsWritten (AllDisksTell disk.held before.disks) Takes trace) → CountsStay disk.faults disk.mismatches before.disks after.disks → (AllDisksTell disk.held before.disks → IsOkAnd work (λ w. HoldBlocks disk.held (program_of w) w.machine trace after.disks)) → RunIsWhole asked before after trace
+    whole : (Takes : List ℕ → Type 0) → IsOkAnd work (IsWritten (AllDisksTell disk.held before.disks) Takes trace) → CountsStay disk.faults disk.mismatches before.disks after.disks → (AllDisksTell disk.held before.disks → IsOkAnd work (λ w. HoldBlocks disk.held out (program_of w) w.machine trace after.disks)) → RunIsWhole asked before after trace
     whole Takes h stay blocks =
         let W = IsWritten (AllDisksTell disk.held before.disks) Takes trace in
         record {
           had_room = holds HasRoom (of-work W HasRoom (λ w is. is.had_room) work h);
           each_task_ran_once = holds (RanWhole trace) (of-work W (RanWhole trace) (λ w is. is.ran) work h);
           no_disk_failed = stay;
-          blocks = λ tells. holds (λ w. HoldBlocks disk.held (program_of w) w.machine trace after.disks) (blocks tells);
+          blocks = λ tells. holds (λ w. HoldBlocks disk.held out (program_of w) w.machine trace after.disks) (blocks tells);
           read = read;
         }
 

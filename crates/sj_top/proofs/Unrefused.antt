@@ -1,5 +1,5 @@
 -- The job of an application is never refused.
-use Rattle.std.proofs.Common.{◌≡◌, ◌∙◌, ℕ, List, Ok, Err, sym}
+use Rattle.std.proofs.Common.{◌≡◌, ℕ, List, Ok, Err}
 use Rattle.sj_apps.specs.Application.{IsSized, job_for}
 use Rattle.sj_apps.specs.declared.application.Application.{Application}
 use Rattle.sj_base.specs.declared.trace.Event.{Event}

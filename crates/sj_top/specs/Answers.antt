@@ -2,6 +2,7 @@
 use Rattle.std.specs.Prelude.{◌≡◌, ◌≢◌, ℕ, Result, Ok, Err, IsOkAnd, List, [], Vec, map}
 use Rattle.std.specs.declared.alloc.Global.{Global}
 use Rattle.std.specs.Io.KnownBytes.{Appends}
+use Rattle.sj_codelet.specs.Kernel.{out}
 use Rattle.sj_base.specs.declared.ids.DiskNo.{DiskNo}
 use Rattle.sj_base.specs.declared.trace.Event.{Event}
 use Rattle.sj_disk.specs.declared.header.Header.{Header}
@@ -97,7 +98,7 @@ pub record IsDamage (Tells : Type 0) (disk : DiskNo) (want found : Header) (mism
 pub record LeavesDisks {D : Type 0} (disk : DiskOf D) (asked : WorkOrRefusal) (ended : Status) (trace : List Event) (old new : List D) : Type 0 where
   pub come_back : ComeBack disk old new ended
   pub counts_stay : IsBehindTheRun ended → CountsStay disk.faults disk.mismatches old new
-  pub blocks : IsBehindTheRun ended → AllDisksTell disk.held old → IsOkAnd asked (λ w. HoldBlocks disk.held (program_of w) w.machine trace new)
+  pub blocks : IsBehindTheRun ended → AllDisksTell disk.held old → IsOkAnd asked (λ w. HoldBlocks disk.held out (program_of w) w.machine trace new)
   pub fault : (number : DiskNo) → ended ≡ status.DiskFault number → RoseAt number.0 (map disk.faults old) (map disk.faults new)
   pub damage : (number : DiskNo) (want found : Header) → ended ≡ status.Damaged number want found → IsDamage (AllDisksTell disk.held old) number want found (map disk.mismatches old) (map disk.mismatches new)
 

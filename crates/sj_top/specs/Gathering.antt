@@ -7,6 +7,7 @@ use Rattle.sj_base.specs.declared.program.Delivery.{Delivery}
 use Rattle.sj_base.specs.declared.program.Program.{Program}
 use Rattle.sj_base.specs.declared.tile.Dims.{Dims}
 use Rattle.sj_base.specs.Array.{Array, zeros}
+use Rattle.sj_codelet.specs.Kernel.{out}
 use Rattle.sj_core.specs.Fold.{given}
 use Rattle.sj_plan.specs.declared.rect.Rect.{Rect}
 use Rattle.sj_plan.specs.Rect.{Within}
@@ -20,7 +21,7 @@ use Rattle.sj_top.specs.Output.{output}
 -- those of all deliveries are there
 pub record HandedOver (p : Program) (pairs : List (Task × Array)) : Type 0 where
   pub of_program : All (λ pair. pair.0.0 < length p.tasks) pairs
-  pub dims : All (λ pair. pair.1.dims ≡ (given p pair.0).dims) pairs
+  pub dims : All (λ pair. pair.1.dims ≡ (given out p pair.0).dims) pairs
   pub every : All (λ d. Contains (map (λ pair. pair.0) pairs) d.task) p.deliveries
 
 -- a table has at a task's number the place of a pair of the task
@@ -87,7 +88,7 @@ pub record IsShown (T : Table) (arrays : Task → Array) (ds : List Delivery) : 
 -- the deliveries of a print statement stand together, and each statement has some
 pub record AreGrouped (T : Table) (p : Program) : Type 0 where
   pub ascending : AllPairs (λ d e. d.print ≤ e.print) p.deliveries
-  pub each : (k : ℕ) → k < prints_of p → IsShown T (given p) (deliveries_for p k)
+  pub each : (k : ℕ) → k < prints_of p → IsShown T (given out p) (deliveries_for p k)
 
 -- these arrays are among what was handed over, for each delivery one of its task
 abbrev pub AreAmong : Program → List (Task × Array) → (Task → Array) → Type 0

@@ -11,6 +11,7 @@ use Rattle.sj_edge.specs.GivenBack.{AreGivenBack, AreUntouched}
 use Rattle.sj_engine.specs.Outcome.{AllDisksTell, HoldBlocks}
 use Rattle.sj_job.specs.declared.reason.Reason.{Reason}
 use Rattle.sj_board.specs.Headers.{IsLastWritten}
+use Rattle.sj_codelet.specs.Kernel.{out}
 use Rattle.sj_core.specs.Legal.{state_of}
 use Rattle.sj_meaning.specs.Meaning.{printed}
 use Rattle.sj_needs.specs.Shortage.{IsSwapTooSmall, IsTooLarge}
@@ -55,7 +56,7 @@ module _ {D : Type 0} {disk : DiskOf D} (asked : Asked) (before after : Devices 
     pub had_room : IfTold asked HasRoom
     pub each_task_ran_once : IfTold asked (RanWhole trace)
     pub no_disk_failed : CountsStay disk.faults disk.mismatches before.disks after.disks
-    pub blocks : AllDisksTell disk.held before.disks → IfTold asked (λ w. HoldBlocks disk.held (program_of w) w.machine trace after.disks)
+    pub blocks : AllDisksTell disk.held before.disks → IfTold asked (λ w. HoldBlocks disk.held out (program_of w) w.machine trace after.disks)
     pub read : IsRead before.source after.source
 
   -- the run broke off: there was room, and its events begin a legal run

@@ -1,4 +1,4 @@
-use Rattle.std.proofs.Common.{◌≡◌, ◌<◌, ◌∙◌, length, ◌++◌, ◌∷◌, [], List, Some, ap, arith, false, rules, sym, subst, true}
+use Rattle.std.proofs.Common.{◌≡◌, ◌<◌, ◌∙◌, length, ◌++◌, ◌∷◌, [], List, ap, arith, false, rules, sym, subst, true}
 use Rattle.std.proofs.lemmas.List.{length_push}
 use Rattle.sj_base.specs.declared.ids.Cell.{Cell}
 use Rattle.sj_base.specs.Mode.{is_written}

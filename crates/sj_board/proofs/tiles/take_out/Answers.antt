@@ -1,5 +1,4 @@
-use Rattle.std.proofs.Common.{◌∙◌, Option, List, None, ap, set}
-use Rattle.std.specs.declared.sync.Arc.{Arc}
+use Rattle.std.proofs.Common.{◌∙◌, Option, ap, set}
 use Rattle.sj_base.specs.Array.{Array}
 use Rattle.sj_board.specs.Tiles.{array_in, arrays_in}
 use Rattle.sj_board.proofs.LoanedTiles.{arrays-set}

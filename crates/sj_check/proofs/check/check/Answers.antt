@@ -13,9 +13,9 @@ returns-clause-each_state_is_coherent c = λ ok n.
     c.traces.ensures.keep_coherence c.args.program.value c.args.machine (take n c.args.trace.now.events) c.requires.proper c.requires.machine (fronts-legal _ _ c.args.trace.now.events (finished c ok).legal n)
 
 pub returns-clause-each_state_has_its_content : goal.returns-clause-each_state_has_its_content
-returns-clause-each_state_has_its_content c = λ ok has lawful n.
-    c.traces.ensures.keep_content has c.args.program.value c.args.machine (take n c.args.trace.now.events) c.requires.proper c.requires.machine lawful (fronts-legal _ _ c.args.trace.now.events (finished c ok).legal n)
+returns-clause-each_state_has_its_content c = λ ok eq has lawful n.
+    c.traces.ensures.keep_content eq has c.args.program.value c.args.machine (take n c.args.trace.now.events) c.requires.proper c.requires.machine lawful (fronts-legal _ _ c.args.trace.now.events (finished c ok).legal n)
 
 pub returns-clause-holds_what_all_tasks_leave : goal.returns-clause-holds_what_all_tasks_leave
-returns-clause-holds_what_all_tasks_leave c = λ ok has lawful.
-    c.traces.ensures.hold_final has c.args.program.value c.args.machine c.args.trace.now.events c.requires.proper c.requires.machine lawful (finished c ok)
+returns-clause-holds_what_all_tasks_leave c = λ ok eq has lawful.
+    c.traces.ensures.hold_final eq has c.args.program.value c.args.machine c.args.trace.now.events c.requires.proper c.requires.machine lawful (finished c ok)

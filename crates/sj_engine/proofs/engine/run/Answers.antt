@@ -1,5 +1,6 @@
 use Rattle.std.proofs.Common.{rules, ◌≡◌, ◌∙◌, List, subst}
 use Rattle.sj_base.specs.declared.program.Program.{Program}
+use Rattle.sj_codelet.specs.Kernel.{out}
 use Rattle.sj_board.specs.Delivered.{DeliversEach}
 use Rattle.std.specs.Prelude.{IfErr}
 use Rattle.sj_engine.specs.Outcome.{AllDisksTell, WantsLastWritten}
@@ -22,8 +23,8 @@ pub returns-in-Ok-opened-clause-delivers : goal.returns-in-Ok-opened-clause-deli
 returns-in-Ok-opened-clause-delivers g c =
     let program : c.deref.result.now ≡ c.args.program.value = search rules in
     λ ok.
-    subst (λ (disks : List _). DeliversEach c.args.program.value (AllDisksTell g.D.Disk.held disks) c.run_over.result.delivered.pairs) c.in-Ok-opened.ensures.ok.opened
-    (subst (λ (p : Program). DeliversEach p (AllDisksTell g.D.Disk.held c.in-Ok-opened.board.run.opened) c.run_over.result.delivered.pairs) program (c.run_over.ensures.delivers ok))
+    subst (λ (disks : List _). DeliversEach out c.args.program.value (AllDisksTell g.D.Disk.held disks) c.run_over.result.delivered.pairs) c.in-Ok-opened.ensures.ok.opened
+    (subst (λ (p : Program). DeliversEach out p (AllDisksTell g.D.Disk.held c.in-Ok-opened.board.run.opened) c.run_over.result.delivered.pairs) program (c.run_over.ensures.delivers ok))
 
 pub returns-clause-legal : goal.returns-clause-legal
 returns-clause-legal g c = (unopened-is g.D.Disk.size g.D.Disk.faults g.D.Disk.mismatches g.D.Disk.held c.args.program.value c.args.machine c.args.disks.items c.unopened-in-Err.result.result c.unopened-in-Err.ensures.result c.unopened-in-Err.result.delivered.pairs c.unopened-in-Err.result.trace.events c.unopened-in-Err.ensures.trace c.unopened-in-Err.result.disks.items (c.unopened-in-Err.ensures.disks ∙ c.in-Err.ensures.err)).legal

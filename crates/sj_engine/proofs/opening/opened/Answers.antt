@@ -1,4 +1,5 @@
 use Rattle.std.proofs.Common.{rules}
+use Rattle.sj_codelet.specs.Kernel.{out}
 use Rattle.sj_board.proofs.Opened.{opening-taken}
 use Rattle.sj_engine.proofs.opening.opened.Goals as goal
 
@@ -9,6 +10,6 @@ returns-in-Ok-make-clause-ok g c = record {
   opened = search rules;
   disks_are = search rules;
   hands = search rules;
-  taken = opening-taken c.args.program.value c.args.machine c.in-Ok.set c.in-Ok-make.board c.in-Ok-make.ensures.ok;
+  taken = opening-taken out c.args.program.value c.args.machine c.in-Ok.set c.in-Ok-make.board c.in-Ok-make.ensures.ok;
   no_fault = search rules;
 }

@@ -4,6 +4,8 @@ use Rattle.std.specs.Int.{w64}
 use Rattle.sj_base.specs.declared.program.Lowered.{Lowered}
 use Rattle.sj_base.specs.declared.program.Machine.{Machine}
 use Rattle.sj_base.specs.declared.program.Program.{Program}
+use Rattle.sj_codelet.specs.Kernel.{out}
+use Rattle.sj_codelet.proofs.NewArrays.{out-makes_tiles}
 use Rattle.sj_core.specs.Laws.{IsLawful}
 use Rattle.sj_core.specs.Needs.{AreFootprints}
 use Rattle.sj_core.specs.Proper.{HasSwapFor}
@@ -60,9 +62,10 @@ returns-clause-ready g c =
     let limits = c.in_ok-machine.ensures in
     let few : length m.disks ≤ 16 = subst (λ (n : Machine). length n.disks ≤ 16) (sym limits.machine) c.requires.few in
     let workers : p.workers ≡ m.workers = ap (λ (q : Program). q.workers) r.program in
-    let lawful : IsLawful has p = record {
+    let lawful : IsLawful out has p = record {
       known = r.known has (job-in has c.requires.own job.statements c.in_ok-job.ensures.well);
       arguments = subst (λ (q : Program). All (λ (l : Lowered). All (FitsSigned w64) l.args) q.tasks) c.deref.ensures c.arguments_fit.ensures;
+      making = λ k h. out-makes_tiles k;
       commuting = c.laws_of.ensures.commuting;
       contributing = c.laws_of.ensures.contributing;
       reducing = c.laws_of.ensures.reducing;

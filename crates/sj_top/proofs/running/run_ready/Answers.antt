@@ -1,5 +1,6 @@
 use Rattle.std.proofs.Common.{ℕ, ap, refl, subst, sym, arith, Result, IfErr, IsOk, Vec, Global}
 use Rattle.sj_base.specs.declared.program.Program.{Program}
+use Rattle.sj_codelet.specs.Kernel.{out}
 use Rattle.sj_core.specs.Legal.{IsFinished, IsLegal}
 use Rattle.sj_engine.specs.Outcome.{AllDisksTell, IsCausedBy, WantsLastWritten}
 use Rattle.sj_board.specs.declared.fault.RunFault.{RunFault}
@@ -55,9 +56,9 @@ shown-requires-clause-handed g c =
     let pairs = c.run-result.result.delivered.pairs in
     let Tells = AllDisksTell g.D.Disk.held c.args.disks.items in
     let ok : IsOk c.run-result.result.result = subst IsOk (sym c.in_default-result.is) refl in
-    let each = subst (λ (q : Program). DeliversEach q Tells pairs) c.in-Ok.ensures (c.run-result.ensures.delivers ok) in
+    let each = subst (λ (q : Program). DeliversEach out q Tells pairs) c.in-Ok.ensures (c.run-result.ensures.delivers ok) in
     subst (λ (q : Program). HandedOver q pairs) (sym c.deref.ensures)
-    (handed-over p Tells pairs ready.proper ready.lawful.arguments (omega (arith, ready.machine_for.some_worker, ready.machine_for.workers)) ready.named each)
+    (handed-over g.C.Codelets.has p Tells pairs ready.proper ready.lawful (omega (arith, ready.machine_for.some_worker, ready.machine_for.workers)) ready.named each)
 
 pub shown-requires-clause-grouped : goal.shown-requires-clause-grouped
 shown-requires-clause-grouped g c =
@@ -72,7 +73,7 @@ returns-in-Ok-shown-clause-runs g c asked ready =
     let trace = c.run-result.result.trace.events in
     let Tells = AllDisksTell g.D.Disk.held c.args.disks.items in
     let ok : IsOk c.run-result.result.result = subst IsOk (sym c.in_default-result.is) refl in
-    let each = subst (λ (q : Program). DeliversEach q Tells pairs) c.in-Ok.ensures (c.run-result.ensures.delivers ok) in
+    let each = subst (λ (q : Program). DeliversEach out q Tells pairs) c.in-Ok.ensures (c.run-result.ensures.delivers ok) in
     let finished = subst (λ (q : Program). IsFinished q m trace) c.in-Ok.ensures (c.run-result.ensures.finished ok) in
     let shows = subst (λ (q : Program). ShowsRun c.args.ready.shows_summary c.args.ready.roots q pairs (behind c.args.ready.shows_trace trace) c.in-Ok-shown.text.items) c.deref.ensures c.in-Ok-shown.ensures in
     shows-work g.C.Codelets.has asked c.args.ready ready Tells pairs trace c.in-Ok-shown.text.items each shows finished (c.finishes.ensures p m trace finished)

@@ -1,4 +1,5 @@
 use Rattle.std.proofs.Common.{subst, sym}
+use Rattle.sj_codelet.specs.Kernel.{out}
 use Rattle.sj_core.specs.Legal.{IsComplete}
 use Rattle.sj_board.specs.Standing.{AllTell, state}
 use Rattle.sj_board.specs.Board.{BoardState}
@@ -12,7 +13,7 @@ use Rattle.sj_board.proofs.board.Board.close.Goals as goal
 
 pub returns-clause-each : goal.returns-clause-each
 returns-clause-each g c =
-    λ complete. subst (λ (b : BoardState _). DeliversEach b.run.program (AllTell g.D.Disk.held b.run) c.self.inside.delivered.pairs) c.self.view_is
+    λ complete. subst (λ (b : BoardState _). DeliversEach out b.run.program (AllTell g.D.Disk.held b.run) c.self.inside.delivered.pairs) c.self.view_is
     (closes g.D.Disk.held c.self.inside.run _ _ _ _ c.self.invariant.ends _ _ _ c.is_sound.ensures (subst (λ (b : BoardState _). IsComplete (state b.run)) (sym c.self.view_is) complete))
 
 pub returns-clause-none_is_out : goal.returns-clause-none_is_out

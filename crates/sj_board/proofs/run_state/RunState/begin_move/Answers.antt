@@ -20,7 +20,7 @@ invariant_of-self g c =
     let a = c.args in
     let i = c.self.inside in
     let e = Move a.cell a.from a.to in
-    keeps-told _ _ _ _ i.rows i.trace i.disks i.opened.value e i.tiles.items c.begin_move.new.self i.tiles.items c.add.new.self c.begin_move.ensures refl c.add.ensures.events
+    keeps-told _ _ _ _ _ i.rows i.trace i.disks i.opened.value e i.tiles.items c.begin_move.new.self i.tiles.items c.add.new.self c.begin_move.ensures refl c.add.ensures.events
     (keeps-begin _ _ _ _ _ _ _ _ c.self.invariant a.cell a.from a.to (now-can _ _ _ _ _ _ _ _ c.self.invariant _ c.self.view_is e c.requires.can) c.add.new.self.spare c.add.ensures.room)
 
 pub returns-clause-share : goal.returns-clause-share

@@ -16,5 +16,5 @@ pub invariant_of-self-2 : goal.invariant_of-self-2
 invariant_of-self-2 g c =
     let i = c.self.inside in
     let e = Claim c.args.t c.args.w in
-    keeps-told _ _ _ _ i.rows i.trace i.disks i.opened.value e i.tiles.items c.claim.new.self i.tiles.items c.add.new.self c.in_ok-claim.ensures.ok refl c.add.ensures.events
+    keeps-told _ _ _ _ _ i.rows i.trace i.disks i.opened.value e i.tiles.items c.claim.new.self i.tiles.items c.add.new.self c.in_ok-claim.ensures.ok refl c.add.ensures.events
     (keeps-claim _ _ _ _ _ _ _ _ c.self.invariant c.args.t c.args.w (now-can _ _ _ _ _ _ _ _ c.self.invariant _ c.self.view_is e c.requires.can) c.add.new.self.spare c.add.ensures.room)

@@ -1,6 +1,5 @@
-use Rattle.std.proofs.Common.{subst, sym, ap}
 use Rattle.sj_base.specs.declared.trace.Event.TheVariants.{Drop}
-use Rattle.sj_board.proofs.EventTiles.{drop-cell, drop-place, event-room, keeps-drop, now-can, rows-can}
+use Rattle.sj_board.proofs.EventTiles.{drop-place, event-room, keeps-drop, now-can, rows-can}
 use Rattle.sj_board.proofs.Keeping.{keeps-told}
 use Rattle.sj_board.proofs.run_state.RunState.drop_copy.Goals as goal
 
@@ -8,10 +7,10 @@ pub drop_copy-requires : goal.drop_copy-requires
 drop_copy-requires g c = rows-can _ _ _ _ _ _ _ _ c.self.invariant _ c.self.view_is (Drop c.args.cell c.args.n) c.requires
 
 pub clear-requires-clause-cell : goal.clear-requires-clause-cell
-clear-requires-clause-cell g c = drop-cell _ _ _ _ _ _ _ _ c.self.invariant c.args.cell c.args.n (now-can _ _ _ _ _ _ _ _ c.self.invariant _ c.self.view_is (Drop c.args.cell c.args.n) c.requires)
+clear-requires-clause-cell g c = (drop-place _ _ _ _ _ _ _ _ c.self.invariant c.args.cell c.args.n (now-can _ _ _ _ _ _ _ _ c.self.invariant _ c.self.view_is (Drop c.args.cell c.args.n) c.requires)).0
 
 pub clear-requires-clause-node : goal.clear-requires-clause-node
-clear-requires-clause-node g c = drop-place _ _ _ _ _ _ _ _ c.self.invariant c.args.cell c.args.n (now-can _ _ _ _ _ _ _ _ c.self.invariant _ c.self.view_is (Drop c.args.cell c.args.n) c.requires)
+clear-requires-clause-node g c = (drop-place _ _ _ _ _ _ _ _ c.self.invariant c.args.cell c.args.n (now-can _ _ _ _ _ _ _ _ c.self.invariant _ c.self.view_is (Drop c.args.cell c.args.n) c.requires)).1
 
 pub add-requires : goal.add-requires
 add-requires g c = event-room _ _ _ _ _ _ _ _ c.self.invariant _ c.self.view_is (Drop c.args.cell c.args.n) c.requires
@@ -19,5 +18,5 @@ add-requires g c = event-room _ _ _ _ _ _ _ _ c.self.invariant _ c.self.view_is 
 pub invariant_of-self : goal.invariant_of-self
 invariant_of-self g c =
     let can = now-can _ _ _ _ _ _ _ _ c.self.invariant _ c.self.view_is (Drop c.args.cell c.args.n) c.requires in
-    keeps-told _ _ _ _ c.self.inside.rows c.self.inside.trace c.self.inside.disks c.self.inside.opened.value (Drop c.args.cell c.args.n) _ c.drop_copy.new.self c.clear.new.tiles.items c.add.new.self c.drop_copy.ensures c.clear.ensures c.add.ensures.events
+    keeps-told _ _ _ _ _ c.self.inside.rows c.self.inside.trace c.self.inside.disks c.self.inside.opened.value (Drop c.args.cell c.args.n) _ c.drop_copy.new.self c.clear.new.tiles.items c.add.new.self c.drop_copy.ensures c.clear.ensures c.add.ensures.events
     (keeps-drop _ _ _ _ _ _ _ _ c.self.invariant c.args.cell c.args.n can c.add.new.self.spare c.add.ensures.room)

@@ -16,5 +16,5 @@ pub invariant_of-self : goal.invariant_of-self
 invariant_of-self g c =
     let i = c.self.inside in
     let x = c.end_move-x.result in
-    keeps-told _ _ _ _ i.rows i.trace i.disks i.opened.value (Moved x.cell x.from x.to) _ c.end_move-x.new.self c.put_tile.new.tiles.items c.add.new.self c.end_move-x.ensures.ended c.put_tile.ensures c.add.ensures.events
+    keeps-told _ _ _ _ _ i.rows i.trace i.disks i.opened.value (Moved x.cell x.from x.to) _ c.end_move-x.new.self c.put_tile.new.tiles.items c.add.new.self c.end_move-x.ensures.ended c.put_tile.ensures c.add.ensures.events
     (found-moved_in _ _ _ _ _ _ _ _ c.self.invariant _ c.self.view_is c.args.w x c.end_move-x.ensures.under_way c.node_at.result c.node_at.ensures c.args.tile.value c.requires.tile c.add.new.self.spare c.add.ensures.room)

@@ -1,4 +1,4 @@
-use Rattle.std.proofs.Common.{◌≡◌, ◌∙◌, ◌<◌, true, ap, length, sym}
+use Rattle.std.proofs.Common.{◌≡◌, ◌∙◌, true, ap, sym}
 use Rattle.sj_base.specs.declared.ids.Node.{Node}
 use Rattle.sj_core.specs.Machine.{is_leaving, mark}
 use Rattle.sj_core.proofs.Replicas.{leaving_by-leaves}
