@@ -1,29 +1,9 @@
 -- What the rows answer is so of the run's state; and what is done with a victim, and from where a cell is brought.
-use Rattle.std.proofs.Common.{◌≡◌, ℕ, ◌<◌, Bool, true, false, List, Option, None, Some, is_some, length, sym, ap, ◌∙◌, subst, refl, arith, if◌then◌else◌}
-use Rattle.std.specs.Prelude.{IfSome, IsSomeAnd, MatchBool, option_map, position}
+use Rattle.sj_board.proofs.Words.{ap, arith, Array, AtNode, Block, block_of, Bool, Cell, cell_state, Discard, disk_of, DiskNo, Equations, Evicts, Extent, extent_of, false, first_node, IfSome, is_elsewhere, is_entry, is_leaving, is_read, is_some, is_valid, IsBlock, IsSomeAnd, IsSound, Keeps, length, List, Machine, mark, MatchBool, next_cell, Node, node_of, None, OnDisk, Option, option_map, Place, position, Program, refl, Rows, Some, source_of, StandingBy, State, state, subst, sym, Task, Todo, TransferNext, true, Wait, Worker, writes, ℕ, ◌<◌, ◌∙◌, ◌≡◌}
+use Rattle.std.proofs.Common.{if◌then◌else◌}
 use Rattle.std.proofs.lemmas.Option.{none-some}
-use Rattle.sj_base.specs.Array.{Array}
-use Rattle.sj_codelet.specs.Kernel.{Equations}
-use Rattle.sj_core.proofs.Blocks.{has-disk}
-use Rattle.sj_core.proofs.Placing.{copy-row}
-use Rattle.sj_core.proofs.Reading.{entry-inside, transfer-inside}
-use Rattle.sj_core.proofs.Replicas.{coming_by-is, leaving-by_some, leaving_by-valid}
-use Rattle.sj_core.proofs.Words.{AtNode, Block, Cell, DiskNo, Machine, Node, OnDisk, Place, Program, State, Task, Worker, cell_state, is_elsewhere, is_entry, is_leaving, is_read, is_valid, mark, node_of, transfer, writes}
-use Rattle.sj_core.specs.declared.progress.Transfer.{Transfer}
-use Rattle.sj_core.specs.Laws.{IsSound}
-use Rattle.sj_core.specs.Step.{disk_of, source_of}
-use Rattle.sj_disk.specs.declared.directory.Extent.{Extent}
-use Rattle.sj_disk.specs.Directory.{extent_of}
-use Rattle.sj_machine.specs.Choosing.{next_cell}
-use Rattle.sj_machine.specs.Rows.{Rows}
-use Rattle.sj_replica.specs.Replica.{first_node}
-use Rattle.sj_board.specs.NextStep.{Evicts}
-use Rattle.sj_board.specs.Sound.{IsBlock, Keeps, block_of}
-use Rattle.sj_board.specs.Standing.{StandingBy, state}
-use Rattle.sj_board.specs.declared.todo.Todo.{Todo}
-use Rattle.sj_board.specs.declared.todo.Todo.TheVariants.{Discard, Transfer as TransferNext, Wait}
-use Rattle.sj_board.proofs.Keeping.{sound_state}
-use Rattle.sj_board.proofs.NextSteps.{cell-comes}
+use Rattle.sj_core.proofs.{Blocks.has-disk, Placing.copy-row, Reading.entry-inside, Replicas.coming_by-is, Replicas.leaving-by_some, Replicas.leaving_by-valid}
+use Rattle.sj_board.proofs.{Keeping.sound_state, NextSteps.cell-comes}
 
 module _ {D : Type 0} {eq : Equations} (size faults mismatches : D → ℕ) (held : D → Option (List ℕ)) (b : StandingBy eq D) (rows : Rows) (tiles : List (List (Option Array))) (spare : ℕ) (keeps : Keeps size faults mismatches held b rows tiles spare) where
   abbrev p : Program
@@ -48,10 +28,6 @@ module _ {D : Type 0} {eq : Equations} (size faults mismatches : D → ℕ) (hel
   -- and the other way round
   pub to-rows : (b' : StandingBy eq D) → b ≡ b' → (P : Program → Machine → State → Type 0) → P b'.program b'.machine (state b') → P rows.program rows.machine rows.state
   to-rows b' same P told = subst (λ (r : Rows). P r.program r.machine r.state) (sym keeps.rows) (subst (λ (z : StandingBy eq D). P z.program z.machine (state z)) (sym same) told)
-
-  -- a worker with a transfer is one of the program
-  pub transfer-staffed : (w : Worker) (x : Transfer) → transfer s w ≡ Some x → w.0 < p.workers
-  transfer-staffed w x under_way = omega (arith, transfer-inside s w x under_way, keeps.sound.coherent.state.rows.workers, keeps.sound.run.machine.workers)
 
   -- the disk of a cell's block is the one that the directory has
   pub home-is : (c : Cell) → c.0 < length p.cells → option_map (λ (e : Extent). e.disk) (extent_of b.disks.directory c.0) ≡ disk_of p m c

@@ -1,46 +1,10 @@
 -- What the ends of tasks leave on a board, as its events happen.
-use Rattle.std.proofs.Common.{◌≡◌, ◌∙◌, ◌++◌, ◌<◌, ◌+◌, ◌-◌, ◌*◌, ℕ, [], List, Option, None, Some, true, ◌&&◌, ap, arith, cond, is_some, length, map, not, refl, replicate, set, subst, sum_by, sym}
-use Rattle.std.specs.Prelude.{IfSome, IsSomeAnd, OnErr, OnOk, Ok, Err, Result, if◌then◌else◌}
-use Rattle.std.proofs.lemmas.List.{ext_get_or, get_or-map, length-map, length-replicate}
-use Rattle.std.proofs.lemmas.List.Folds.{sum_by-replicate}
-use Rattle.std.proofs.lemmas.List.FromFn.{get_or-map-range_with_len, length-map-range_with_len}
-use Rattle.std.proofs.lemmas.List.Sums.{AllPass-from_list_all}
-use Rattle.sj_core.proofs.Eviction.{evicted-after}
-use Rattle.sj_base.specs.declared.program.Lowered.{Lowered}
-use Rattle.sj_base.specs.declared.trace.Event.{Event}
-use Rattle.sj_base.specs.declared.trace.Event.TheVariants.{Claim, End, Moved, Run}
-use Rattle.sj_codelet.specs.Kernel.{Equations}
-use Rattle.sj_core.proofs.Advancing.{Advances, Claims-advances, Ends-advances, Runs-advances, claimed-is_mine, claimed-task_of}
-use Rattle.sj_core.proofs.Claimed.{claimed-inside, claimed-staffed}
-use Rattle.sj_core.proofs.Coherence.{Claims-keeps_coherence}
-use Rattle.sj_core.proofs.Finding.{running-inside}
-use Rattle.sj_core.proofs.Replicas.{same_worker-refl}
-use Rattle.sj_core.proofs.States.{state_of-more}
-use Rattle.sj_core.proofs.Sums.{sum-agree, tally}
-use Rattle.sj_core.proofs.Words.{Array, Machine, Program, State, Task, Worker, done_in, is_done, is_task_of, no_task, opening, progress, task_of, tasks_of, worker_of}
-use Rattle.sj_core.specs.Coherent.{Coherent, is_begun}
-use Rattle.sj_core.specs.Laws.{IsSound}
-use Rattle.sj_core.specs.Legal.{IsComplete}
-use Rattle.sj_core.specs.Step.{after}
-use Rattle.sj_core.specs.declared.progress.Progress.{Progress}
-use Rattle.sj_core.specs.declared.progress.Progress.TheVariants.{Claimed, Done, Running, Waiting}
-use Rattle.sj_core.specs.declared.progress.Transfer.{Transfer}
-use Rattle.sj_core.specs.Machine.{transfer}
-use Rattle.sj_board.specs.Delivery.{IsGift, is_deliver_task, is_delivery}
-use Rattle.sj_disk.specs.Directory.{DiskState}
-use Rattle.sj_machine.specs.Planning.{HoldsCommutersAlone}
-use Rattle.sj_board.specs.Sound.{IsSoundRun}
-use Rattle.sj_board.specs.Standing.{AllTell, CanHappen, HasMoved, StandingBy, starting, state, with_event}
+use Rattle.sj_board.proofs.Words.{[], after, AllTell, ap, arith, Array, CanHappen, Claim, Claimed, Coherent, cond, Deliveries, DeliversEach, delivery_count, DiskState, Done, done_in, End, Equations, Err, Event, gift_in, handed, HasMoved, HoldsCommutersAlone, IfSome, if◌then◌else◌, is_begun, is_deliver_task, is_delivery, is_done, is_some, is_task_of, IsComplete, IsGift, IsReadyToDeliver, IsSomeAnd, IsSound, IsSoundRun, KeepsEnds, length, List, Lowered, Machine, map, Moved, no_task, None, not, Ok, OnErr, OnOk, opening, Option, Program, Progress, progress, refl, replicate, Result, Run, Running, set, Some, StandingBy, starting, State, state, subst, sum_by, sym, Task, task_of, tasks_of, Transfer, transfer, true, undelivered, undone, Waiting, with_event, Worker, worker_of, ℕ, ◌&&◌, ◌*◌, ◌++◌, ◌+◌, ◌-◌, ◌<◌, ◌∙◌, ◌≡◌}
+use Rattle.std.proofs.lemmas.{List.ext_get_or, List.get_or-map, List.length-map, List.length-replicate, List.Folds.sum_by-replicate, List.FromFn.get_or-map-range_with_len, List.FromFn.length-map-range_with_len, List.Sums.AllPass-from_list_all}
+use Rattle.sj_core.proofs.{Advancing.Advances, Advancing.claimed-is_mine, Advancing.claimed-task_of, Advancing.Claims-advances, Advancing.Ends-advances, Advancing.Runs-advances, Claimed.claimed-inside, Claimed.claimed-staffed, Coherence.Claims-keeps_coherence, Eviction.evicted-after, Finding.running-inside, Opening.waits, Replicas.same_worker-refl, States.state_of-more, Sums.sum-agree, Sums.tally}
 use Rattle.sj_machine.proofs.Commuting.{holds-alone}
-use Rattle.sj_board.proofs.Delivering.{deliver-inside, run-has}
-use Rattle.sj_board.specs.BoardSound.{KeepsEnds, undone}
-use Rattle.sj_board.specs.Delivered.{Deliveries, DeliversEach, gift_in, handed, undelivered}
-use Rattle.sj_board.specs.Preparing.{IsReadyToDeliver, delivery_count}
-use Rattle.sj_board.proofs.KeptGifts.{gift-kept, kept-gift}
-use Rattle.sj_board.proofs.Ends.{delivers-each, ends-begun, ends-claimed, ends-ended, ends-same, ends-some_left, ends-spare}
-use Rattle.sj_base.proofs.Bools.{and_true}
-use Rattle.sj_base.proofs.Lists.{sum_by-map}
-use Rattle.sj_core.proofs.Opening.{waits}
+use Rattle.sj_board.proofs.{Delivering.deliver-inside, Delivering.run-has, Ends.delivers-each, Ends.ends-begun, Ends.ends-claimed, Ends.ends-ended, Ends.ends-same, Ends.ends-some_left, Ends.ends-spare, KeptGifts.gift-kept, KeptGifts.kept-gift}
+use Rattle.sj_base.proofs.{Bools.and_true, Lists.sum_by-map}
 
 -- of a run as it stands
 abbrev pub Keeps : {D : Type 0} {eq : Equations} → (D → Option (List ℕ)) → StandingBy eq D → List (Task × Array) → List (Option Array) → ℕ → ℕ → Type 0

@@ -1,33 +1,7 @@
 -- A board stays sound where an event changes no task's progress.
-use Rattle.std.proofs.Common.{◌≡◌, ◌↔◌, ℕ, List, Option, Some, None, IsTrue, subst, sym, ap, ◌∙◌, refl, is_some, ◌⊎◌}
-use Rattle.std.specs.List.{Contains}
-use Rattle.std.specs.Prelude.{IfSome, IsSomeAnd, OnErr, OnOk, Ok, Err, Result}
-use Rattle.sj_base.specs.declared.trace.Event.{Event}
-use Rattle.sj_base.specs.declared.trace.Event.TheVariants.{Moved}
-use Rattle.sj_base.specs.declared.program.Program.{Program}
-use Rattle.sj_base.specs.declared.program.Machine.{Machine}
-use Rattle.sj_base.specs.declared.ids.Worker.{Worker}
-use Rattle.sj_codelet.specs.Kernel.{Equations}
+use Rattle.sj_board.proofs.Words.{after, ap, AreGivenBack, BoardBy, Contains, Dependencies, done_tasks, Equations, Err, Event, Hand, has_event, HasCause, HasMoved, IfSome, is_some, is_task_of, IsComplete, IsSomeAnd, IsSoundIn, IsTrue, KeepsBoard, List, Machine, Moved, None, Ok, OnErr, OnlyDisksChange, OnOk, Option, Pooled, Program, Progress, refl, Result, RunFault, Some, StandingBy, State, state, subst, sym, Transfer, transfer, with_event, Worker, ℕ, ◌↔◌, ◌∙◌, ◌≡◌, ◌⊎◌}
 use Rattle.sj_core.proofs.States.{state_of-more}
-use Rattle.sj_core.specs.Legal.{IsComplete}
-use Rattle.sj_core.specs.Machine.{State, is_task_of, transfer}
-use Rattle.sj_core.specs.Step.{after, done_tasks}
-use Rattle.sj_core.specs.declared.progress.Progress.{Progress}
-use Rattle.sj_core.specs.declared.progress.Transfer.{Transfer}
-use Rattle.sj_deps.specs.Progress.{Dependencies}
-use Rattle.sj_pool.specs.Pool.{Pooled}
-use Rattle.sj_board.specs.Cause.{HasCause}
-use Rattle.sj_board.specs.Standing.{HasMoved, StandingBy, state, with_event}
-use Rattle.sj_board.specs.declared.fault.RunFault.{RunFault}
-use Rattle.sj_board.specs.Sound.{OnlyDisksChange}
-use Rattle.sj_board.proofs.Stepping.{counts-same, done-same, progress-same, taken-back, taken-same, tasks_alone}
-use Rattle.sj_board.specs.Board.{BoardBy, has_event}
-use Rattle.sj_board.specs.BoardSound.{IsSoundIn, KeepsBoard}
-use Rattle.sj_board.specs.declared.hand.Hand.{Hand}
-use Rattle.sj_board.proofs.LastHeaders.{moved-cause}
-use Rattle.sj_board.proofs.Faulting.{kept-cause}
-use Rattle.sj_board.proofs.ReleasedTasks.{released-same}
-use Rattle.sj_edge.specs.GivenBack.{AreGivenBack}
+use Rattle.sj_board.proofs.{Faulting.kept-cause, LastHeaders.moved-cause, ReleasedTasks.released-same, Stepping.counts-same, Stepping.done-same, Stepping.progress-same, Stepping.taken-back, Stepping.taken-same, Stepping.tasks_alone}
 
 -- ---- what is said of a board is said of the tasks in its state alone
 

@@ -1,30 +1,8 @@
 -- Deliver tasks: each reads one cell, and what it finds there is what it is to hand over.
-use Rattle.std.proofs.Common.{◌≡◌, ◌∙◌, ◌∷◌, ◌<◌, ◌||◌, ℕ, [], List, Option, None, Some, Bool, true, false, ap, arith, get_or, inl, inr, length, map, refl, subst, sym, filter}
+use Rattle.sj_board.proofs.Words.{[], Access, access, ap, arith, AtNode, Bool, Brought, CanHappen, Cell, cells_of, Commuting, Contributing, Deliver, delivered_cell, Equations, false, filter, FirstPaste, FitsCodelet, fresh_cells, get_or, given, has_cell, HasAtHand, inl, inr, is_data, is_deliver, is_deliver_task, is_delivery, is_valid, IsSound, IsSoundRun, Kernel, length, List, Lowered, map, mark, MayHaveModes, Mode, no_task, Node, node_of, None, Option, Own, Program, Proper, R, refl, Run, run_arrays, Some, StandingBy, state, subst, sym, Task, task_of, true, worked_on, Worker, ℕ, ◌<◌, ◌||◌, ◌∙◌, ◌∷◌, ◌≡◌}
 use Rattle.std.specs.Prelude.{Contains, slice_index_or}
-use Rattle.std.proofs.lemmas.Bool.{cases_lt, false≢true}
-use Rattle.std.proofs.lemmas.List.{get_or_past}
-use Rattle.std.proofs.lemmas.List.Elements.{All-get_or}
-use Rattle.sj_base.specs.declared.mode.Access.{Access}
-use Rattle.sj_base.specs.declared.mode.Mode.{Mode}
-use Rattle.sj_base.specs.declared.mode.Mode.TheVariants.{R}
-use Rattle.sj_base.specs.declared.program.Lowered.{Lowered}
-use Rattle.sj_base.specs.declared.trace.Event.TheVariants.{Run}
-use Rattle.sj_base.specs.Mode.{is_data}
-use Rattle.sj_codelet.specs.declared.kernel.Kernel.{Kernel}
-use Rattle.sj_codelet.specs.declared.kernel.Kernel.TheVariants.{Deliver}
-use Rattle.sj_codelet.specs.Kernel.{Equations}
-use Rattle.sj_core.proofs.Claimed.{claimed-staffed}
-use Rattle.sj_core.proofs.Folding.{read-among_cells}
-use Rattle.sj_core.proofs.Found.{found-not_fresh}
-use Rattle.sj_core.proofs.Given.{delivers-given}
-use Rattle.sj_core.proofs.Reading.{list_all-has}
-use Rattle.sj_core.proofs.Words.{AtNode, Cell, Node, Program, Task, Worker, cells_of, fresh_cells, has_cell, is_valid, mark, no_task, node_of, task_of, worked_on}
-use Rattle.sj_core.specs.Fold.{given}
-use Rattle.sj_core.specs.Laws.{Brought, HasAtHand, IsSound}
-use Rattle.sj_core.specs.Proper.{Commuting, Contributing, FirstPaste, FitsCodelet, MayHaveModes, Own, Proper, access}
-use Rattle.sj_board.specs.Delivery.{delivered_cell, is_deliver, is_deliver_task, is_delivery}
-use Rattle.sj_board.specs.Sound.{IsSoundRun}
-use Rattle.sj_board.specs.Standing.{CanHappen, StandingBy, run_arrays, state}
+use Rattle.std.proofs.lemmas.{Bool.cases_lt, Bool.false≢true, List.get_or_past, List.Elements.All-get_or}
+use Rattle.sj_core.proofs.{Claimed.claimed-staffed, Folding.read-among_cells, Found.found-not_fresh, Given.delivers-given, Reading.list_all-has}
 
 delivers : (k : Kernel) → is_deliver k ≡ true → k ≡ Deliver
 delivers Deliver e = refl

@@ -1,34 +1,7 @@
 -- What a store and a fetch count, and that a refusal has its cause.
-use Rattle.std.proofs.Common.{◌≡◌, ◌≢◌, ◌<◌, ◌≤◌, ℕ, ℤ, true, false, List, [], ◌∷◌, get_or, map, Option, None, Some, refl, sym, ap, ◌∙◌, subst, arith, inl, inr, length, nat_eq}
-use Rattle.std.specs.Prelude.{Err, IfErr, IfSome, IsSomeAnd, MatchOption, Ok, Result, is_err, slice_get}
-use Rattle.std.specs.List.{AllZip}
-use Rattle.std.proofs.lemmas.Bool.{cases_eq, false≢true, ne_eqb}
-use Rattle.std.proofs.lemmas.List.{length-map}
-use Rattle.std.proofs.lemmas.Bool.Decides.{Decides-eqb}
-use Rattle.std.proofs.lemmas.Option.{none-some, slice_get-get_or, same_Some}
-use Rattle.std.proofs.lemmas.Slice.Zip.{AllZip-right}
-use Rattle.sj_base.specs.Array.{Array}
-use Rattle.sj_base.specs.declared.ids.DiskNo.{DiskNo}
-use Rattle.sj_codelet.specs.Kernel.{Equations}
-use Rattle.sj_edge.specs.Faults.{Rose, counted}
-use Rattle.sj_edge.specs.GivenBack.{AreGivenBack, IsGivenBack}
-use Rattle.sj_disk.specs.declared.directory.Extent.{Extent}
-use Rattle.sj_disk.specs.declared.header.Header.{Header}
-use Rattle.sj_disk.specs.declared.refusal.DiskRefusal.{DiskRefusal}
+use Rattle.sj_board.proofs.Words.{[], AllTell, AllZip, ap, AreCounted, AreGivenBack, arith, Array, block, ChangesAt, counted, CountsFaults, differed_at, DiskNo, DiskRefusal, Equations, Err, Extent, extent_of, failed_at, false, fault_of, Fetches, get_or, HasCause, HasRisen, Header, header, IfErr, IfSome, inl, inr, is_damage, is_err, is_fault, IsGivenBack, IsLaidOut, IsLastWritten, IsSomeAnd, Keeps, LendingState, length, List, Looks, map, MatchOption, nat_eq, None, Ok, Option, refl, RefusesFor, Result, Rose, Rows, slice_get, Some, StandingBy, state, Stores, subst, sym, true, Writes, ℕ, ℤ, ◌<◌, ◌∙◌, ◌∷◌, ◌≡◌, ◌≢◌, ◌≤◌}
+use Rattle.std.proofs.lemmas.{Bool.cases_eq, Bool.false≢true, Bool.ne_eqb, Bool.Decides.Decides-eqb, List.length-map, Option.none-some, Option.same_Some, Option.slice_get-get_or, Slice.Zip.AllZip-right}
 use Rattle.sj_disk.specs.declared.refusal.DiskRefusal.TheVariants.{Damaged, DiskFault}
-use Rattle.sj_disk.specs.Block.{block, header}
-use Rattle.sj_disk.specs.Calls.{Fetches, Stores}
-use Rattle.sj_disk.specs.Lending.{LendingState}
-use Rattle.sj_disk.specs.Directory.{extent_of, IsLaidOut}
-use Rattle.sj_disk.specs.Holding.{ChangesAt}
-use Rattle.sj_disk.specs.Refusals.{RefusesFor, is_damage, is_fault}
-use Rattle.sj_disk.specs.Transfers.{Looks, Writes}
-use Rattle.sj_machine.specs.Rows.{Rows}
-use Rattle.sj_board.specs.Cause.{HasCause, HasRisen}
-use Rattle.sj_board.specs.Counts.{AreCounted, CountsFaults, differed_at, failed_at, fault_of}
-use Rattle.sj_board.specs.Headers.{IsLastWritten}
-use Rattle.sj_board.specs.Sound.{Keeps}
-use Rattle.sj_board.specs.Standing.{AllTell, StandingBy, state}
 use Rattle.sj_board.proofs.Storing.{tell-still}
 
 -- ---- a call of one disk

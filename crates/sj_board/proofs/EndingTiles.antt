@@ -1,46 +1,10 @@
 -- The tiles that the end of a kernel's run leaves.
-use Rattle.std.proofs.Common.{◌≡◌, ◌≢◌, ◌<◌, ◌+◌, ℕ, Bool, true, false, List, [], ◌∷◌, ◌++◌, Option, None, Some, ◌∙◌, ap, arith, cond, find, get_or, inl, inr, length, map, refl, sym, subst, ◌||◌}
-use Rattle.std.specs.Prelude.{All}
-use Rattle.std.specs.List.{AllByRecursion, AllZip, zip}
-use Rattle.std.proofs.lemmas.Bool.{cases_Bool, false≢true}
-use Rattle.std.proofs.lemmas.Nat.{mod_below}
-use Rattle.std.proofs.lemmas.List.{get_or-set_other, get_or-set_same, length-map}
-use Rattle.std.proofs.lemmas.List.Elements.{All-from_recursion}
-use Rattle.std.proofs.lemmas.List.Folds.{list_any_at}
-use Rattle.std.proofs.lemmas.Slice.Zip.{AllZip-long}
+use Rattle.sj_board.proofs.Words.{[], Access, after, All, AllByRecursion, AllTell, AllZip, ap, AreResultsFor, AreShared, arith, Array, Arrays, arrays, arrays_after, AtNode, Bool, CanHappen, CanPutBack, Cell, CellState, cond, dims_of, DiskState, Done, End, Equations, false, find, get_or, has_cell, has_happened, HasTiles, held_at, held_in, HoldsBlocks, inl, inr, is_begun, is_being_written, is_entry, is_task_of, IsOwnedBy, IsShare, IsSound, Keeps, LendingState, length, List, Machine, map, mark, Node, node_of, None, on_disk, Option, Program, Progress, progress, put_each, Recorded, refl, result_in, Rows, run_arrays, Running, same_cell, same_place, Slot, Some, standing, StandingBy, State, state, subst, sym, Task, task_of, tile_at, tile_in, tiles_of, true, with_event, worked_on, Worker, worker_of, written_among, written_cells, written_operands, zeros, zip, ℕ, ◌++◌, ◌+◌, ◌<◌, ◌||◌, ◌∙◌, ◌∷◌, ◌≡◌, ◌≢◌}
+use Rattle.std.proofs.lemmas.{Bool.cases_Bool, Bool.false≢true, List.get_or-set_other, List.get_or-set_same, List.length-map, List.Elements.All-from_recursion, List.Folds.list_any_at, Nat.mod_below, Slice.Zip.AllZip-long}
 use Rattle.sj_base.proofs.SameIds.{other_node, same_cell-itself, same_place-itself}
-use Rattle.sj_base.specs.Recorded.{Recorded}
-use Rattle.sj_base.specs.declared.mode.Access.{Access}
-use Rattle.sj_codelet.specs.Frame.{Slot, arrays}
-use Rattle.sj_codelet.specs.Kernel.{Equations}
-use Rattle.sj_core.specs.declared.progress.Progress.{Progress}
-use Rattle.sj_core.specs.declared.progress.Progress.TheVariants.{Done, Running}
-use Rattle.sj_core.proofs.Words.{Array, AtNode, Cell, CellState, End, Machine, Node, Program, State, Task, Worker, dims_of, has_cell, is_entry, is_task_of, mark, node_of, on_disk, progress, same_cell, task_of, worked_on, worker_of, written_cells, zeros}
-use Rattle.sj_core.proofs.Advancing.{Ends-advances}
-use Rattle.sj_core.proofs.Ending.{end-alone, end-spared_row, end-spares}
-use Rattle.sj_core.proofs.Finding.{being_written-by, being_written-here, both_pass, not_written-before, running-inside, second_fails}
-use Rattle.sj_core.proofs.Reading.{entry-inside, same_cell-is, same_node}
-use Rattle.sj_core.proofs.Replicas.{same_worker-refl}
-use Rattle.sj_core.proofs.Sized.{worked_on-dims}
-use Rattle.sj_core.proofs.TaskCells.{written-among_cells}
-use Rattle.sj_core.specs.Arrays.{Arrays, arrays_after, held_at, result_in}
-use Rattle.sj_core.specs.Coherent.{IsOwnedBy, is_begun, is_being_written}
-use Rattle.sj_core.specs.Fold.{held_in}
-use Rattle.sj_core.specs.Laws.{IsSound}
-use Rattle.sj_core.specs.Program.{written_operands}
-use Rattle.sj_core.specs.Step.{after, same_place}
-use Rattle.sj_disk.specs.Directory.{DiskState}
-use Rattle.sj_disk.specs.Lending.{LendingState}
+use Rattle.sj_core.proofs.{Advancing.Ends-advances, Ending.end-alone, Ending.end-spared_row, Ending.end-spares, Finding.being_written-by, Finding.being_written-here, Finding.both_pass, Finding.not_written-before, Finding.running-inside, Finding.second_fails, Reading.entry-inside, Reading.same_cell-is, Reading.same_node, Replicas.same_worker-refl, Sized.worked_on-dims, TaskCells.written-among_cells}
 use Rattle.sj_machine.proofs.Written.{can-work, works-small, written-once}
-use Rattle.sj_machine.specs.Operands.{written_among}
-use Rattle.sj_machine.specs.Rows.{Rows, has_happened}
-use Rattle.sj_board.specs.Shares.{AreResultsFor, AreShared, CanPutBack, IsShare, put_each}
-use Rattle.sj_board.specs.Sound.{HoldsBlocks, Keeps}
-use Rattle.sj_board.specs.Standing.{AllTell, CanHappen, StandingBy, run_arrays, standing, state, with_event}
-use Rattle.sj_board.specs.Tiles.{HasTiles, tile_at, tile_in, tiles_of}
-use Rattle.sj_board.proofs.Keeping.{HoldsBlocks-kept, keeps-event, keeps-told, sound_state}
-use Rattle.sj_board.proofs.PuttingBack.{at_node, length-put_each, put-row, put-row_none, wide-put_each}
-use Rattle.sj_board.proofs.TileTables.{Places, wide-at}
+use Rattle.sj_board.proofs.{Keeping.HoldsBlocks-kept, Keeping.keeps-event, Keeping.keeps-told, Keeping.sound_state, PuttingBack.at_node, PuttingBack.length-put_each, PuttingBack.put-row, PuttingBack.put-row_none, PuttingBack.wide-put_each, TileTables.Places, TileTables.wide-at}
 
 -- ---- the results of a task
 

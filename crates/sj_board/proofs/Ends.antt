@@ -1,23 +1,8 @@
 -- What the ends of tasks leave, as events happen: what was handed over, what is kept for that, and how many tasks aren't done.
-use Rattle.std.proofs.Common.{◌≡◌, ◌≢◌, ◌∙◌, ◌∷◌, ◌++◌, ◌<◌, ◌≤◌, ◌+◌, ◌-◌, ◌&&◌, ℕ, [], List, Option, None, Some, Bool, true, false, not, ap, arith, cond, get_or, inl, inr, is_some, length, nat_eq, refl, set, subst, sum_by, sym}
-use Rattle.std.specs.Prelude.{IsSomeAnd, if◌then◌else◌, nat_le, nat_lt}
-use Rattle.std.specs.List.{list_all}
-use Rattle.std.proofs.lemmas.Bool.{and_from, cases_Bool, eq-eqb, false≢true, le-leb, lt-ltb, ne_eqb}
-use Rattle.std.proofs.lemmas.List.{append-nil, get_or-set_other, get_or-set_same, length-set}
-use Rattle.std.proofs.lemmas.List.Elements.{All-push}
-use Rattle.std.proofs.lemmas.List.Sums.{sum_by-append, sum_by-cons, sum_by-set}
-use Rattle.sj_codelet.specs.Kernel.{Equations}
-use Rattle.sj_core.proofs.Advancing.{Advances, same_task}
-use Rattle.sj_core.proofs.Finding.{task-counted}
-use Rattle.sj_core.proofs.Sums.{count-numbered, sum-agree, sum-plus, tally}
-use Rattle.sj_core.proofs.Words.{Array, Program, State, Task, Worker, dims_of, done_in, is_done, is_task_of, progress, tasks_of}
-use Rattle.sj_core.specs.Fold.{given}
-use Rattle.sj_core.specs.Legal.{IsComplete}
-use Rattle.sj_core.specs.declared.progress.Progress.{Progress}
-use Rattle.sj_core.specs.declared.progress.Progress.TheVariants.{Claimed, Done, Running, Waiting}
-use Rattle.sj_board.specs.Delivery.{delivered_cell, is_deliver_task}
-use Rattle.sj_board.specs.BoardSound.{KeepsEnds, undone}
-use Rattle.sj_board.specs.Delivered.{DeliversDone, DeliversEach, IsDeliveryOf, IsKeptFor, gift_in, handed, times_delivered, undelivered}
+use Rattle.sj_board.proofs.Words.{[], ap, arith, Array, Bool, Claimed, cond, delivered_cell, DeliversDone, DeliversEach, dims_of, Done, done_in, Equations, false, get_or, gift_in, given, handed, if◌then◌else◌, inl, inr, is_deliver_task, is_done, is_some, is_task_of, IsComplete, IsDeliveryOf, IsKeptFor, IsSomeAnd, KeepsEnds, length, List, list_all, nat_eq, nat_lt, None, not, Option, Program, Progress, progress, refl, Running, set, Some, State, subst, sum_by, sym, Task, tasks_of, times_delivered, true, undelivered, undone, Waiting, Worker, ℕ, ◌&&◌, ◌++◌, ◌+◌, ◌-◌, ◌<◌, ◌∙◌, ◌∷◌, ◌≡◌, ◌≢◌, ◌≤◌}
+use Rattle.std.specs.Prelude.{nat_le}
+use Rattle.std.proofs.lemmas.{Bool.and_from, Bool.cases_Bool, Bool.eq-eqb, Bool.false≢true, Bool.le-leb, Bool.lt-ltb, Bool.ne_eqb, List.append-nil, List.get_or-set_other, List.get_or-set_same, List.length-set, List.Elements.All-push, List.Sums.sum_by-append, List.Sums.sum_by-cons, List.Sums.sum_by-set}
+use Rattle.sj_core.proofs.{Advancing.Advances, Advancing.same_task, Finding.task-counted, Sums.count-numbered, Sums.sum-agree, Sums.sum-plus, Sums.tally}
 
 -- ---- counting tasks that aren't done
 

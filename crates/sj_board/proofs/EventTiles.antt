@@ -1,41 +1,11 @@
 -- What claims, drops and moves leave of a run: its blocks, and its tiles.
-use Rattle.std.proofs.Common.{◌≡◌, ◌<◌, ◌+◌, ℕ, Bool, true, false, List, Option, None, Some, ◌∙◌, ap, arith, inl, inr, is_some, length, refl, subst, sym, ◌&&◌}
-use Rattle.std.specs.Prelude.{All, IfSome, IsSomeAnd}
-use Rattle.std.proofs.lemmas.Bool.{and_parts, cases_Bool, false_from_ne_true, false≢true}
-use Rattle.std.proofs.lemmas.List.{get_or-set_same}
-use Rattle.std.proofs.lemmas.List.Elements.{All-get_or, All-weaker}
-use Rattle.std.proofs.lemmas.List.Quantifiers.{position-Some}
-use Rattle.sj_base.proofs.Options.{IfSome-at}
-use Rattle.sj_base.proofs.SameIds.{same_cell-is, same_cell-itself, same_place-itself}
-use Rattle.sj_base.specs.declared.trace.Event.{Event}
-use Rattle.sj_base.specs.declared.trace.Event.TheVariants.{Claim, Drop, Move, Moved}
-use Rattle.sj_codelet.specs.Kernel.{Equations}
-use Rattle.sj_core.proofs.Claiming.{claim-on_disk, claim-rested, claim-rests, claim-valid, claim-writes}
-use Rattle.sj_core.proofs.Eviction.{evicted-after}
-use Rattle.sj_core.proofs.Finding.{being_written-by, both_pass, second_fails}
-use Rattle.sj_core.proofs.Placing.{cells_differ, home-is, mark-cases, on_disk-same, owned-fails, row-cases, same_place-is, writes-same}
-use Rattle.sj_core.proofs.Reading.{mark_in-same, no_row}
-use Rattle.sj_core.proofs.Replicas.{leaving_by-leaves, leaving_by-valid}
-use Rattle.sj_core.proofs.States.{one-mover}
-use Rattle.sj_core.proofs.Words.{Array, AtNode, Cell, CellState, DiskNo, Machine, Node, OnDisk, Place, Program, State, Task, Worker, cell_state, dims_of, has_copy, is_coming_by, is_leaving, is_leaving_by, is_valid, mark, mark_in, same_cell, transfer, with_row, writes}
-use Rattle.sj_core.specs.Arrays.{Arrays, arrays_after}
-use Rattle.sj_core.specs.Coherent.{is_being_written}
-use Rattle.sj_core.specs.Laws.{IsSound}
-use Rattle.sj_core.specs.Step.{CanDrop, May, a_transfer, after, disk_of, is_home, mover_of, source_of}
-use Rattle.sj_core.specs.declared.progress.Transfer.{Transfer}
+use Rattle.sj_board.proofs.Words.{a_transfer, after, All, AllTell, ap, arith, Array, Arrays, arrays_after, AtNode, Bool, CanDrop, CanHappen, CanShare, Cell, cell_state, CellState, Claim, dims_of, disk_of, DiskNo, Drop, Equations, Event, extent_of, false, has_copy, has_happened, HoldsArray, HoldsBlocks, IfSome, inl, inr, Invalid, is_being_written, is_coming_by, is_home, is_leaving, is_leaving_by, is_some, is_valid, IsBlockCopyOf, IsShareOf, IsSomeAnd, IsSound, IsStored, IsTileMoved, IsTileOf, IsWrittenOut, Keeps, length, List, Machine, Mark, mark, mark_in, May, MayHappen, Move, Moved, mover_of, Node, None, OnDisk, Option, Place, Program, refl, Rows, run_arrays, same_cell, Some, source_of, StandingBy, State, state, stored, subst, sym, Task, tile_at, tile_kept, tiles_of, Transfer, transfer, true, Valid, with_event, with_mark, with_row, with_tile, with_tiles_of, Worker, writes, ℕ, ◌&&◌, ◌+◌, ◌<◌, ◌∙◌, ◌≡◌}
+use Rattle.std.proofs.lemmas.{Bool.and_parts, Bool.cases_Bool, Bool.false_from_ne_true, Bool.false≢true, List.get_or-set_same, List.Elements.All-get_or, List.Elements.All-weaker, List.Quantifiers.position-Some}
+use Rattle.sj_base.proofs.{Options.IfSome-at, SameIds.same_cell-is, SameIds.same_cell-itself, SameIds.same_place-itself}
+use Rattle.sj_core.proofs.{Claiming.claim-on_disk, Claiming.claim-rested, Claiming.claim-rests, Claiming.claim-valid, Claiming.claim-writes, Eviction.evicted-after, Finding.being_written-by, Finding.both_pass, Finding.second_fails, Placing.cells_differ, Placing.home-is, Placing.mark-cases, Placing.on_disk-same, Placing.owned-fails, Placing.row-cases, Placing.same_place-is, Placing.writes-same, Reading.mark_in-same, Reading.no_row, Replicas.leaving_by-leaves, Replicas.leaving_by-valid, States.one-mover}
 use Rattle.sj_base.specs.Ids.{same_place}
-use Rattle.sj_disk.specs.Directory.{extent_of}
 use Rattle.sj_machine.proofs.Happening.{mark-inside}
-use Rattle.sj_machine.specs.Rows.{MayHappen, Rows, has_happened}
-use Rattle.sj_replica.specs.Replica.{stored, with_mark}
-use Rattle.sj_replica.specs.declared.mark.Mark.{Mark}
-use Rattle.sj_replica.specs.declared.mark.Mark.TheVariants.{Invalid, Valid}
-use Rattle.sj_board.specs.Sound.{HoldsArray, HoldsBlocks, IsBlockCopyOf, IsStored, IsWrittenOut, Keeps}
-use Rattle.sj_board.specs.Standing.{AllTell, CanHappen, IsShareOf, IsTileMoved, IsTileOf, StandingBy, run_arrays, state, with_event}
-use Rattle.sj_board.specs.Tiles.{CanShare, tile_at, tile_kept, tiles_of, with_tile, with_tiles_of}
-use Rattle.sj_board.proofs.Answering.{rows-state, to-rows}
-use Rattle.sj_board.proofs.Keeping.{HoldsArray-moved, HoldsBlocks-kept, IsSomeAnd-map, IsStored-kept, copy-on_disk, has-room, keeps-event, sound_state}
-use Rattle.sj_board.proofs.TileTables.{HasTiles-kept, HasTiles-put, Places, wide-at}
+use Rattle.sj_board.proofs.{Answering.rows-state, Answering.to-rows, Keeping.copy-on_disk, Keeping.has-room, Keeping.HoldsArray-moved, Keeping.HoldsBlocks-kept, Keeping.IsSomeAnd-map, Keeping.IsStored-kept, Keeping.keeps-event, Keeping.sound_state, TileTables.HasTiles-kept, TileTables.HasTiles-put, TileTables.Places, TileTables.wide-at}
 
 same-bool : (x y : Bool) → (x ≡ false → y ≡ false) → (y ≡ false → x ≡ false) → x ≡ y
 same-bool x y f g = search (arith, cases_Bool)

@@ -1,24 +1,7 @@
 -- A board stays sound where a worker fails, and where it stops.
-use Rattle.std.proofs.Common.{◌≡◌, ℕ, ◌+◌, ◌<◌, true, false, IsTrue, Option, Some, None, List, inl, inr, refl, sym, subst, ap, ◌∙◌, length, length-set, is_some, slice_set}
-use Rattle.std.specs.Prelude.{IfSome}
-use Rattle.std.proofs.lemmas.Bool.{cases_lt, false≢true}
-use Rattle.std.proofs.lemmas.List.{get_or_past}
-use Rattle.std.proofs.lemmas.List.Sums.{AllPass-from_list_all}
-use Rattle.sj_codelet.specs.Kernel.{Equations}
-use Rattle.sj_core.specs.declared.progress.Progress.{Progress}
-use Rattle.sj_core.specs.declared.progress.Progress.TheVariants.{Claimed, Done, Running, Waiting}
-use Rattle.sj_core.proofs.Words.{Machine, Program, State, Task, Worker, is_done, is_task_of, progress}
-use Rattle.sj_core.specs.Legal.{IsComplete}
-use Rattle.sj_deps.specs.Progress.{Dependencies}
-use Rattle.sj_board.specs.Cause.{HasCause}
-use Rattle.sj_board.specs.Standing.{state}
-use Rattle.sj_board.specs.declared.fault.RunFault.{RunFault}
-use Rattle.sj_board.specs.Board.{BoardBy, IsOver, IsWorking, failed, first_fault, hand_of, stopped, with_hand}
-use Rattle.sj_board.specs.BoardSound.{HandsAgree, KeepsBoard, StopsAtTheEnd, times_pooled}
-use Rattle.sj_board.specs.declared.hand.Hand.{Hand}
-use Rattle.sj_board.proofs.Hands.{given-same, hand-set, pool_for-same, stands-same, inside-hands}
-use Rattle.sj_board.proofs.ReleasedTasks.{released-hands}
-use Rattle.std.proofs.lemmas.Option.{none-some}
+use Rattle.sj_board.proofs.Words.{ap, BoardBy, Claimed, Dependencies, Done, Equations, failed, false, first_fault, Hand, hand_of, HandsAgree, HasCause, IfSome, inl, inr, is_done, is_some, is_task_of, IsComplete, IsOver, IsTrue, IsWorking, KeepsBoard, length, length-set, List, Machine, None, Option, Program, Progress, progress, refl, RunFault, Running, slice_set, Some, State, state, stopped, StopsAtTheEnd, subst, sym, Task, times_pooled, true, Waiting, with_hand, Worker, ℕ, ◌+◌, ◌<◌, ◌∙◌, ◌≡◌}
+use Rattle.std.proofs.lemmas.{Bool.cases_lt, Bool.false≢true, List.get_or_past, List.Sums.AllPass-from_list_all, Option.none-some}
+use Rattle.sj_board.proofs.{Hands.given-same, Hands.hand-set, Hands.inside-hands, Hands.pool_for-same, Hands.stands-same, ReleasedTasks.released-hands}
 
 -- there is a fault from then on, and it has its cause
 pub first-some : (kept : Option RunFault) (fault : RunFault) → is_some (first_fault kept fault) ≡ true

@@ -1,16 +1,6 @@
 -- A fault that is kept has its cause still where disks were used: their counts never fall.
-use Rattle.std.proofs.Common.{ℕ, ◌≤◌, Bool, Option, Some, None, List, arith}
-use Rattle.std.specs.Prelude.{IfSome, IsSomeAnd, MatchOption, slice_get}
-use Rattle.std.specs.List.{AllZip}
+use Rattle.sj_board.proofs.Words.{AllZip, AreGivenBack, arith, Bool, Damaged, DiskFault, DiskState, Equations, HasCause, HasRisen, IfSome, IsGivenBack, IsSomeAnd, List, MatchOption, None, Option, OutOfMemory, Rose, RunFault, slice_get, Some, StandingBy, ℕ, ◌≤◌}
 use Rattle.std.proofs.lemmas.Slice.Zip.{AllZip-left}
-use Rattle.sj_codelet.specs.Kernel.{Equations}
-use Rattle.sj_disk.specs.Directory.{DiskState}
-use Rattle.sj_edge.specs.Faults.{Rose}
-use Rattle.sj_edge.specs.GivenBack.{AreGivenBack, IsGivenBack}
-use Rattle.sj_board.specs.Cause.{HasCause, HasRisen}
-use Rattle.sj_board.specs.Standing.{StandingBy}
-use Rattle.sj_board.specs.declared.fault.RunFault.{RunFault}
-use Rattle.sj_board.specs.declared.fault.RunFault.TheVariants.{Damaged, DiskFault, OutOfMemory}
 
 -- a count that rose and never falls is above still
 risen-more : (n x y : ℕ) → Rose n x → x ≤ y → Rose n y

@@ -1,26 +1,9 @@
 -- Blocks by first fit: how a set of disks stands while the cells of a program get theirs in order.
-use Rattle.std.proofs.Common.{◌≡◌, ℕ, ◌+◌, ◌<◌, ◌≤◌, ◌∙◌, Option, Some, None, List, [], ◌∷◌, true, ap, arith, drop, get_or, inl, inr, length, map, refl, replicate, set, subst, sym}
-use Rattle.std.specs.Prelude.{IfSome, IsSome, IsSomeAnd, is_some, option_and_then, option_map, slice_get}
+use Rattle.sj_board.proofs.Words.{[], ap, area, ArePlaced, arith, Block, block_bytes, Cell, cell_block_bytes, cell_info, CellInfo, dims_of, DiskNo, DiskState, drop, Extent, extent_of, first_fit, first_that_fits, get_or, HasSwapFor, IfSome, inl, inr, IsBlock, IsEmptySet, IsSome, IsSomeAnd, length, List, Machine, map, no_cell, None, Option, option_and_then, option_map, place, place_after, Program, refl, replicate, Reserves, ReservesSome, set, slice_get, Some, subst, sym, true, ℕ, ◌+◌, ◌<◌, ◌∙◌, ◌∷◌, ◌≡◌, ◌≤◌}
+use Rattle.std.specs.Prelude.{is_some}
 use Rattle.std.specs.List.{slice_index_or}
-use Rattle.std.proofs.lemmas.Bool.{cases_lt, false≢true}
-use Rattle.std.proofs.lemmas.List.{drop_all, drop_more, get_or-drop, length-drop}
-use Rattle.std.proofs.lemmas.Option.{none-some, same_Some, slice_get-get_or, slice_get_past}
+use Rattle.std.proofs.lemmas.{Bool.cases_lt, Bool.false≢true, List.drop_all, List.drop_more, List.get_or-drop, List.length-drop, Option.none-some, Option.same_Some, Option.slice_get-get_or, Option.slice_get_past}
 use lib.Seq.{drop-drop}
-use Rattle.sj_base.specs.declared.ids.Cell.{Cell}
-use Rattle.sj_base.specs.declared.ids.DiskNo.{DiskNo}
-use Rattle.sj_base.specs.declared.program.CellInfo.{CellInfo}
-use Rattle.sj_base.specs.declared.program.Machine.{Machine}
-use Rattle.sj_base.specs.declared.program.Program.{Program}
-use Rattle.sj_base.specs.Array.{area}
-use Rattle.sj_core.specs.Needs.{Block, cell_block_bytes, first_fit, place, place_after}
-use Rattle.sj_core.specs.Program.{cell_info, dims_of, no_cell}
-use Rattle.sj_core.specs.Proper.{HasSwapFor}
-use Rattle.sj_disk.specs.Block.{block_bytes}
-use Rattle.sj_disk.specs.Calls.{Reserves}
-use Rattle.sj_disk.specs.Directory.{DiskState, extent_of, first_fit as first_that_fits}
-use Rattle.sj_disk.specs.declared.directory.Extent.{Extent}
-use Rattle.sj_board.specs.Sound.{IsBlock}
-use Rattle.sj_board.specs.Placing.{ArePlaced, IsEmptySet, ReservesSome}
 
 -- the cells before the i-th have their blocks on these disks, those from it on have none, and the blocks of these are as if
 -- they were placed now

@@ -1,25 +1,8 @@
 -- The share that is taken of what a deliver task hands over, as the task begins to run.
-use Rattle.std.proofs.Common.{◌≡◌, ◌∙◌, ◌∷◌, ◌<◌, ℕ, [], List, Option, None, Some, true, ap, arith, get_or, is_some, length, refl, subst, sym}
-use Rattle.std.specs.Prelude.{All, Contains, IfSome, unwrap_or}
-use Rattle.std.proofs.lemmas.Bool.{false≢true}
-use Rattle.std.proofs.lemmas.List.{get_or_default}
-use Rattle.sj_base.specs.declared.ids.Place.TheVariants.{Node as AtNode}
-use Rattle.sj_base.specs.declared.mode.Access.{Access}
-use Rattle.sj_base.specs.declared.mode.Mode.TheVariants.{R}
-use Rattle.sj_base.specs.declared.program.Lowered.{Lowered}
-use Rattle.sj_base.specs.declared.trace.Event.TheVariants.{Run}
-use Rattle.sj_base.specs.Array.{Array}
-use Rattle.sj_codelet.specs.Kernel.{Equations}
-use Rattle.sj_core.proofs.Words.{Cell, Node, Program, Task, Worker, dims_of, node_of, task_of}
-use Rattle.sj_core.specs.Proper.{access}
-use Rattle.sj_machine.specs.Rows.{Rows}
-use Rattle.sj_board.specs.Tiles.{tile_at, tile_in, tiles_of}
-use Rattle.sj_board.specs.Delivery.{delivered_cell, is_deliver_task, is_delivery, IsGift}
-use Rattle.sj_board.specs.Shares.{CanGive, kept_at}
-use Rattle.sj_board.specs.Sound.{Keeps}
-use Rattle.sj_board.specs.Standing.{AllTell, CanHappen, IsTileOf, StandingBy, run_arrays}
-use Rattle.sj_board.proofs.Delivering.{deliver-reads}
-use Rattle.sj_board.proofs.RunningTiles.{run-can_give}
+use Rattle.sj_board.proofs.Words.{[], Access, access, All, AllTell, ap, arith, Array, AtNode, CanGive, CanHappen, Cell, delivered_cell, dims_of, Equations, get_or, IfSome, is_deliver_task, is_delivery, is_some, IsGift, IsTileOf, Keeps, kept_at, length, List, Lowered, Node, node_of, None, Option, Program, R, refl, Rows, Run, run_arrays, Some, StandingBy, subst, sym, Task, task_of, tile_at, tile_in, tiles_of, true, unwrap_or, Worker, ℕ, ◌<◌, ◌∙◌, ◌∷◌, ◌≡◌}
+use Rattle.std.specs.Prelude.{Contains}
+use Rattle.std.proofs.lemmas.{Bool.false≢true, List.get_or_default}
+use Rattle.sj_board.proofs.{Delivering.deliver-reads, RunningTiles.run-can_give}
 
 module _ {D : Type 0} {eq : Equations} (size faults mismatches : D → ℕ) (held : D → Option (List ℕ)) (b : StandingBy eq D) (rows : Rows) (tiles : List (List (Option Array))) (spare : ℕ) (keeps : Keeps size faults mismatches held b rows tiles spare) (t : Task) (w : Worker) (can : CanHappen b (Run t w)) (hands : is_deliver_task b.program t ≡ true) where
   abbrev cell : Cell

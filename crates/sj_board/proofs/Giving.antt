@@ -1,27 +1,9 @@
 -- A board stays sound where a worker is given a task from the pool, and where it gives one back.
-use Rattle.std.proofs.Common.{◌≡◌, ℕ, ◌+◌, ◌<◌, ◌≤◌, true, false, IsTrue, ◌⊎◌, Option, Some, None, IfSome, List, cond, inl, inr, refl, sym, subst, ap, ◌∙◌, arith, length, length-set, slice_set, is_some}
-use Rattle.std.proofs.lemmas.Bool.{cases_lt}
-use Rattle.std.proofs.lemmas.List.Sums.{get_or-le-sum_by}
-use Rattle.sj_base.specs.declared.mode.Policy.TheVariants.{Prio}
-use Rattle.sj_codelet.specs.Kernel.{Equations}
-use Rattle.sj_core.proofs.Words.{Machine, Program, State, Task, Worker, footprint, is_task_of, node_of, node_size, progress}
-use Rattle.sj_core.specs.Legal.{IsComplete}
-use Rattle.sj_deps.specs.Progress.{Dependencies}
+use Rattle.sj_board.proofs.Words.{ap, arith, Array, board_state, BoardBy, cond, contains, Dependencies, empty_hand, entry_of, Equations, false, footprint, given_back, given_from, Hand, hand_of, home, inl, inr, is_given, is_some, is_task_of, IsComplete, IsEntry, IsLeft, IsPoolFor, IsPoolOf, IsTakenBehind, IsToBeTaken, IsTrue, KeepsBoard, length, length-set, List, Machine, node_of, node_size, None, Option, Pooled, Prio, Program, progress, refl, room_of, RunFault, slice_set, Some, StandingBy, State, state, subst, sym, Task, times_given, times_pooled, true, with_entry, Worker, ℕ, ◌+◌, ◌<◌, ◌∙◌, ◌≡◌, ◌≤◌, ◌⊎◌}
+use Rattle.std.proofs.Common.{IfSome}
+use Rattle.std.proofs.lemmas.{Bool.cases_lt, List.Sums.get_or-le-sum_by, Option.none-some}
 use Rattle.sj_pool.proofs.Keeping.{home-within}
-use Rattle.sj_pool.specs.Pool.{Pooled, contains, home, with_entry}
-use Rattle.sj_base.specs.Array.{Array}
-use Rattle.sj_machine.specs.ReadyTasks.{IsToBeTaken}
-use Rattle.sj_board.specs.Standing.{StandingBy, state}
-use Rattle.sj_board.specs.declared.fault.RunFault.{RunFault}
-use Rattle.sj_board.specs.Board.{BoardBy, board_state, empty_hand, given_back, given_from, hand_of, room_of}
-use Rattle.sj_board.specs.Filling.{entry_of}
-use Rattle.sj_board.specs.BoardSound.{IsEntry, IsPoolFor, KeepsBoard, is_given, times_given, times_pooled}
-use Rattle.sj_board.specs.Passing.{IsLeft, IsPoolOf, IsTakenBehind}
-use Rattle.sj_board.specs.declared.hand.Hand.{Hand}
-use Rattle.std.proofs.lemmas.Option.{none-some}
-use Rattle.sj_board.proofs.Hands.{given-set, hand-set, stands-same, inside-hands}
-use Rattle.sj_board.proofs.Policies.{prio-pool}
-use Rattle.sj_board.proofs.Pooling.{all-pooled, none-contains, once, times-put}
+use Rattle.sj_board.proofs.{Hands.given-set, Hands.hand-set, Hands.inside-hands, Hands.stands-same, Policies.prio-pool, Pooling.all-pooled, Pooling.none-contains, Pooling.once, Pooling.times-put}
 
 pub once-given : (t : Task) (hand : Hand) → cond {A = ℕ} (is_given t hand) 1 0 ≡ once t hand.given
 once-given t hand = by_given hand.given

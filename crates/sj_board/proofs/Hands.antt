@@ -1,14 +1,6 @@
 -- What becomes of a board's hands where one of them changes.
-use Rattle.std.proofs.Common.{◌≡◌, ◌≢◌, ℕ, ◌+◌, ◌<◌, ◌≤◌, Bool, false, Option, Some, None, List, cond, inl, inr, sym, subst, ap, ◌∙◌, arith, length, slice_set, slice_index_or}
-use Rattle.std.proofs.lemmas.Bool.{cases_eq}
-use Rattle.std.proofs.lemmas.List.{get_or-set_other, get_or-set_same}
-use Rattle.std.proofs.lemmas.List.Sums.{sum_by-set}
-use Rattle.sj_core.proofs.Words.{Machine, Program, State, Task, Worker, footprint, node_of, node_size}
-use Rattle.sj_pool.specs.Pool.{Pooled}
-use Rattle.sj_board.specs.declared.fault.RunFault.{RunFault}
-use Rattle.sj_board.specs.Board.{empty_hand, hand_in}
-use Rattle.sj_board.specs.BoardSound.{IsPoolFor, StandsOnce, is_given, times_given, times_pooled, HandsAgree}
-use Rattle.sj_board.specs.declared.hand.Hand.{Hand}
+use Rattle.sj_board.proofs.Words.{ap, arith, Bool, cond, empty_hand, false, footprint, Hand, hand_in, HandsAgree, inl, inr, is_given, IsPoolFor, length, List, Machine, node_of, node_size, None, Option, Pooled, Program, RunFault, slice_index_or, slice_set, Some, StandsOnce, State, subst, sym, Task, times_given, times_pooled, Worker, ℕ, ◌+◌, ◌<◌, ◌∙◌, ◌≡◌, ◌≢◌, ◌≤◌}
+use Rattle.std.proofs.lemmas.{Bool.cases_eq, List.get_or-set_other, List.get_or-set_same, List.Sums.sum_by-set}
 
 -- each worker has a hand
 pub inside-hands : (p : Program) (s : State) (hands : List Hand) (fault : Option RunFault) → HandsAgree p s hands fault → (w : Worker) → w.0 < p.workers → w.0 < length hands

@@ -1,30 +1,7 @@
 -- What one legal event more leaves: a legal trace, a coherent state, and blocks that stay.
-use Rattle.std.proofs.Common.{◌≡◌, ◌<◌, ◌+◌, ℕ, true, List, [], ◌∷◌, ◌++◌, length, Option, Some, None, sym, ap, ◌∙◌, subst, arith}
-use Rattle.std.specs.Prelude.{All, FitsSigned, IsSomeAnd}
-use Rattle.std.specs.Int.{w64}
-use Rattle.std.proofs.lemmas.Bool.{and_from, and_parts}
-use Rattle.std.proofs.lemmas.List.{length-append}
-use Rattle.sj_base.specs.Array.{Array}
-use Rattle.sj_base.specs.Recorded.{Recorded}
-use Rattle.sj_base.specs.declared.trace.Event.{Event}
-use Rattle.sj_codelet.specs.Kernel.{Equations}
-use Rattle.sj_core.proofs.Words.{Cell, DiskNo, Machine, OnDisk, Place, Program, State, has_copy, on_disk, writes}
-use Rattle.sj_core.proofs.Bound.{legal-within_bound}
-use Rattle.sj_core.proofs.Replaying.{legal-coherent, legal-content}
-use Rattle.sj_core.proofs.States.{legal-more, state_of-more, arrays_of-more}
-use Rattle.sj_core.specs.Arrays.{Arrays, arrays_after}
-use Rattle.sj_core.specs.Laws.{IsSound}
-use Rattle.sj_core.specs.Legal.{IsLegal}
-use Rattle.sj_core.specs.Step.{after, is_home}
-use Rattle.sj_disk.specs.declared.directory.Extent.{Extent}
-use Rattle.sj_disk.specs.Block.{block}
-use Rattle.sj_disk.specs.Directory.{DiskState, extent_of, last_store}
-use Rattle.sj_disk.specs.Holding.{Holds}
-use Rattle.sj_disk.specs.Lending.{LendingState}
-use Rattle.sj_machine.specs.Rows.{Rows, has_happened}
-use Rattle.sj_board.specs.Sound.{HoldsArray, HoldsBlocks, IsStored, Keeps}
-use Rattle.sj_board.specs.Standing.{AllTell, CanHappen, StandingBy, run_arrays, standing, state, with_event}
-use Rattle.sj_board.specs.Tiles.{HasTiles}
+use Rattle.sj_board.proofs.Words.{[], after, All, AllTell, ap, arith, Array, Arrays, arrays_after, block, CanHappen, Cell, DiskNo, DiskState, Equations, Event, Extent, extent_of, FitsSigned, has_copy, has_happened, HasTiles, Holds, HoldsArray, HoldsBlocks, is_home, IsLegal, IsSomeAnd, IsSound, IsStored, Keeps, last_store, LendingState, length, List, Machine, None, on_disk, OnDisk, Option, Place, Program, Recorded, Rows, run_arrays, Some, standing, StandingBy, State, state, subst, sym, true, w64, with_event, writes, ℕ, ◌++◌, ◌+◌, ◌<◌, ◌∙◌, ◌∷◌, ◌≡◌}
+use Rattle.std.proofs.lemmas.{Bool.and_from, Bool.and_parts, List.length-append}
+use Rattle.sj_core.proofs.{Bound.legal-within_bound, Replaying.legal-coherent, Replaying.legal-content, States.arrays_of-more, States.legal-more, States.state_of-more}
 
 -- a block that holds a cell's array still does where the array and the count of writes stay, at whichever place
 pub HoldsArray-moved : {D : Type 0} (held : D → Option (List ℕ)) (disks : List D) (p : Program) (s s' : State) (A A' : Arrays) (c : Cell) (q q' : Place) (e : Extent) → A' c q' ≡ A c q → writes s' c ≡ writes s c → HoldsArray held disks p s A c q e → HoldsArray held disks p s' A' c q' e

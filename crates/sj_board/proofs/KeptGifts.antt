@@ -1,15 +1,6 @@
 -- What a deliver task is to hand over is kept from its beginning to its end.
-use Rattle.std.proofs.Common.{◌≡◌, ◌∙◌, ℕ, List, Option, None, Some, true, sym}
-use Rattle.std.specs.Prelude.{IsSomeAnd}
-use Rattle.sj_codelet.specs.Kernel.{Equations}
-use Rattle.sj_core.proofs.Words.{Array, AtNode, Node, Program, Task, Worker, node_of, progress}
-use Rattle.sj_core.specs.Laws.{HasAtHand, Works}
-use Rattle.sj_core.specs.declared.progress.Progress.TheVariants.{Running}
-use Rattle.sj_board.specs.Delivery.{IsGift, delivered_cell, is_deliver_task}
-use Rattle.sj_board.specs.Sound.{IsSoundRun}
-use Rattle.sj_board.specs.Standing.{AllTell, IsTileOf, StandingBy, state}
+use Rattle.sj_board.proofs.Words.{AllTell, Array, AtNode, delivered_cell, Equations, HasAtHand, is_deliver_task, IsDeliveryOf, IsGift, IsKeptFor, IsSomeAnd, IsSoundRun, IsTileOf, List, Node, node_of, None, Option, Program, progress, Running, Some, StandingBy, state, sym, Task, true, Worker, Works, ℕ, ◌∙◌, ◌≡◌}
 use Rattle.sj_board.proofs.Delivering.{at-hand}
-use Rattle.sj_board.specs.Delivered.{IsDeliveryOf, IsKeptFor}
 
 module _ {D : Type 0} {eq : Equations} (size faults mismatches : D → ℕ) (held : D → Option (List ℕ)) (b : StandingBy eq D) (sound : IsSoundRun size faults mismatches held b) (t : Task) (w : Worker) where
   abbrev p : Program

@@ -1,27 +1,8 @@
 -- What was last written of a cell with a copy on a disk stays so by each event that writes no cell and takes no copy from a disk,
 -- and by the end of a task: a cell that a running task writes has no copy there.
-use Rattle.std.proofs.Common.{◌≡◌, ℕ, true, false, Option, None, Some, List, ap, inl, inr, refl, subst, sym, ◌∙◌}
-use Rattle.std.specs.Prelude.{IfSome}
+use Rattle.sj_board.proofs.Words.{after, after_end, ap, area, arrived, AtNode, CanHappen, Cell, cell_state, CellState, Coherent, Damaged, dims_of, DiskFault, DiskNo, Drop, End, Equations, Event, false, has_cell, HasCause, Header, header, IfSome, inl, inr, Invalid, is_home, IsLastWritten, List, Machine, Mark, Moved, Node, None, on_disk, OnDisk, Option, OutOfMemory, Place, Program, progress, refl, RunFault, Running, Some, StandingBy, State, state, stored, subst, sym, Task, true, Valid, with_event, with_mark, with_row, Worker, writes, written_cells, written_once_more, ℕ, ◌∙◌, ◌≡◌}
 use Rattle.std.proofs.lemmas.Bool.{and_from, false_from_ne_true, false≢true}
-use Rattle.sj_codelet.specs.Kernel.{Equations}
-use Rattle.sj_core.specs.declared.progress.Progress.TheVariants.{Running}
-use Rattle.sj_base.specs.Array.{area}
-use Rattle.sj_base.specs.declared.trace.Event.{Event}
-use Rattle.sj_base.specs.declared.trace.Event.TheVariants.{Drop, End, Moved}
-use Rattle.sj_core.proofs.Placing.{on_disk-same, row-cases, writes-same}
-use Rattle.sj_core.proofs.Reading.{cells-untouched}
-use Rattle.sj_core.proofs.States.{state_of-more}
-use Rattle.sj_core.proofs.Words.{AtNode, Cell, CellState, DiskNo, Invalid, Machine, Mark, Node, OnDisk, Place, Program, State, Task, Valid, Worker, cell_state, dims_of, has_cell, on_disk, progress, stored, with_mark, with_row, writes, written_once_more}
-use Rattle.sj_core.specs.Coherent.{Coherent}
-use Rattle.sj_core.specs.Operands.{written_cells}
-use Rattle.sj_core.specs.Step.{after, after_end, arrived, is_home}
-use Rattle.sj_disk.specs.Block.{header}
-use Rattle.sj_disk.specs.declared.header.Header.{Header}
-use Rattle.sj_board.specs.Cause.{HasCause}
-use Rattle.sj_board.specs.Headers.{IsLastWritten}
-use Rattle.sj_board.specs.Standing.{CanHappen, StandingBy, state, with_event}
-use Rattle.sj_board.specs.declared.fault.RunFault.{RunFault}
-use Rattle.sj_board.specs.declared.fault.RunFault.TheVariants.{Damaged, DiskFault, OutOfMemory}
+use Rattle.sj_core.proofs.{Placing.on_disk-same, Placing.row-cases, Placing.writes-same, Reading.cells-untouched, States.state_of-more}
 use Rattle.sj_board.proofs.Keeping.{copy-on_disk}
 
 -- copies on disks stay there, and their cells are written no more

@@ -45,3 +45,4 @@ pub mod UnitBoards
 pub mod UnitHands
 pub mod UnitPuts
 pub mod WaitsOut
+pub mod Words

@@ -1,13 +1,7 @@
 -- Shared tiles as arrays, and lists that are written one item after another, or in a loan.
-use Rattle.std.proofs.Common.{◌≡◌, ◌<◌, ◌+◌, ◌∷◌, [], ℕ, zero, suc, List, Option, None, ◌∙◌, ap, arith, get_or, inl, inr, length, refl, replicate, set, subst, sym}
+use Rattle.sj_board.proofs.Words.{[], all_out, ap, Arc, arith, Array, array_in, arrays_in, get_or, inl, inr, length, List, None, Option, refill, refl, replicate, set, subst, suc, sym, zero, ℕ, ◌+◌, ◌<◌, ◌∙◌, ◌∷◌, ◌≡◌}
 use Rattle.std.proofs.Math.Seq.{take-append_seam}
-use Rattle.std.specs.List.{refill}
-use Rattle.std.proofs.lemmas.Bool.{cases_eq}
-use Rattle.std.proofs.lemmas.Grind.{get_or-set_at}
-use Rattle.std.proofs.lemmas.List.{ext_get_or, get_or-set_other, length-map, length-set, map-set}
-use Rattle.std.specs.declared.sync.Arc.{Arc}
-use Rattle.sj_base.specs.Array.{Array}
-use Rattle.sj_board.specs.Tiles.{all_out, array_in, arrays_in}
+use Rattle.std.proofs.lemmas.{Bool.cases_eq, Grind.get_or-set_at, List.ext_get_or, List.get_or-set_other, List.length-map, List.length-set, List.map-set}
 
 pub arrays-set : {Z : Type 0} (ts : List (Option (Arc Array Z))) (i : ℕ) (t : Option (Arc Array Z)) → arrays_in (set ts i t) ≡ set (arrays_in ts) i (array_in t)
 arrays-set ts i t = map-set array_in ts i t

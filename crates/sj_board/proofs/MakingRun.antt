@@ -1,30 +1,10 @@
 -- A run on which nothing has happened.
-use Rattle.std.proofs.Common.{◌≡◌, ◌≤◌, ◌+◌, ◌∙◌, ℕ, true, false, List, [], Option, None, refl, sym, ap, subst, arith, inl, inr, length, replicate, is_some}
-use Rattle.std.specs.Prelude.{IfSome, IsSomeAnd}
-use Rattle.std.proofs.lemmas.Bool.{cases_lt, false≢true}
-use Rattle.std.proofs.lemmas.List.{get_or-replicate, get_or_past, length-replicate}
-use Rattle.std.proofs.lemmas.List.Elements.{All-replicate}
+use Rattle.sj_board.proofs.Words.{[], AllTell, ap, arith, Array, Arrays, AtNode, block_of, Cell, CellState, dims_of, DiskNo, DiskState, Equations, Event, extent_of, false, has_copy, HasTiles, IfSome, inl, inr, is_being_written, is_some, is_valid, IsBlock, IsRunnableOn, IsSomeAnd, Keeps, lending, LendingState, length, List, Machine, most_events, no_copy, Node, None, on_disk, OnDisk, opening, Option, Program, progress, Recorded, refl, replicate, Rows, rows_at_start, run_arrays, standing, StandingBy, starting, subst, sym, tile_at, tile_in, true, Waiting, ℕ, ◌+◌, ◌∙◌, ◌≡◌, ◌≤◌}
+use Rattle.std.proofs.lemmas.{Bool.cases_lt, Bool.false≢true, List.get_or-replicate, List.get_or_past, List.length-replicate, List.Elements.All-replicate}
 use Rattle.sj_base.proofs.Lists.{get_or-replicate_same}
-use Rattle.sj_base.specs.Recorded.{Recorded}
-use Rattle.sj_base.specs.declared.trace.Event.{Event}
-use Rattle.sj_codelet.specs.Kernel.{Equations}
-use Rattle.sj_core.proofs.Finding.{being_written-by}
-use Rattle.sj_core.proofs.Opening.{opening-coherent, opening-content, nowhere}
-use Rattle.sj_core.proofs.Reading.{no_row}
-use Rattle.sj_core.proofs.Words.{Array, AtNode, Cell, CellState, DiskNo, Machine, Node, OnDisk, Program, dims_of, has_copy, is_valid, on_disk, opening, progress}
-use Rattle.sj_core.specs.Arrays.{Arrays}
-use Rattle.sj_core.specs.Coherent.{is_being_written}
-use Rattle.sj_core.specs.declared.progress.Progress.TheVariants.{Waiting}
+use Rattle.sj_core.proofs.{Finding.being_written-by, Opening.nowhere, Opening.opening-coherent, Opening.opening-content, Reading.no_row}
 use Rattle.sj_edge.proofs.GivenBackLemmas.{all_given_back-untouched, all_untouched-same}
-use Rattle.sj_disk.specs.Directory.{DiskState, extent_of}
-use Rattle.sj_disk.specs.Lending.{LendingState, lending}
-use Rattle.sj_machine.specs.Rows.{Rows, rows_at_start}
-use Rattle.sj_replica.specs.Replica.{no_copy}
-use Rattle.sj_board.specs.Sound.{IsBlock, IsRunnableOn, Keeps, block_of, most_events}
-use Rattle.sj_board.specs.Standing.{AllTell, StandingBy, run_arrays, standing, starting}
-use Rattle.sj_board.specs.Tiles.{HasTiles, tile_at, tile_in}
-use Rattle.sj_board.proofs.Keeping.{copy-on_disk}
-use Rattle.sj_board.proofs.TileTables.{Places}
+use Rattle.sj_board.proofs.{Keeping.copy-on_disk, TileTables.Places}
 
 module _ (p : Program) (m : Machine) where
   resting : (c : Cell) → is_being_written p (opening p m) c ≡ true → ⊥

@@ -1,24 +1,9 @@
 -- What follows of a board's next step for a worker.
-use Rattle.std.proofs.Common.{arith, ◌≡◌, ◌∙◌, ℕ, false, List, Option, None, Some, ap, subst, sym, get_or}
-use Rattle.std.specs.Prelude.{IfSome, is_some, if◌then◌else◌}
+use Rattle.sj_board.proofs.Words.{AnotherGoesOn, ap, arith, BoardBy, CanBegin, CanHappen, Claimed, Dependencies, Discard, empty_hand, Equations, false, get_or, Hand, hand_of, IfSome, if◌then◌else◌, is_claimed_by, is_running_on, IsMoverOf, IsNext, IsSound, IsSoundRun, IsWorking, KeepsBoard, List, Machine, None, Nothing, Option, Program, progress, Run, RunsNone, Some, Start, State, state, subst, sym, Task, Todo, transfer, transfer_of, TransferNext, Wait, Worker, ℕ, ◌∙◌, ◌≡◌}
+use Rattle.std.specs.Prelude.{is_some}
 use Rattle.std.proofs.lemmas.List.{get_or_default}
-use Rattle.sj_base.specs.declared.trace.Event.TheVariants.{Run}
-use Rattle.sj_codelet.specs.Kernel.{Equations}
-use Rattle.sj_core.proofs.Words.{Machine, Program, State, Task, Worker, is_claimed_by, is_running_on, progress, transfer}
-use Rattle.sj_core.specs.declared.progress.Progress.TheVariants.{Claimed}
 use Rattle.sj_core.proofs.Advancing.{claimed_by-is}
-use Rattle.sj_core.specs.Laws.{IsSound}
-use Rattle.sj_deps.specs.Progress.{Dependencies}
-use Rattle.sj_board.specs.Sound.{IsSoundRun}
-use Rattle.sj_board.specs.Standing.{CanHappen, state}
-use Rattle.sj_board.specs.NextStep.{AnotherGoesOn, IsNext}
-use Rattle.sj_board.specs.declared.todo.Todo.{Todo}
-use Rattle.sj_board.specs.declared.todo.Todo.TheVariants.{Discard, Nothing, Start, Transfer as TransferNext, Wait}
 use Rattle.sj_board.proofs.NextSteps.{IsPossible, next-possible, wait-ends}
-use Rattle.sj_board.specs.Board.{BoardBy, IsWorking, RunsNone, empty_hand, hand_of, transfer_of}
-use Rattle.sj_board.specs.declared.hand.Hand.{Hand}
-use Rattle.sj_board.specs.BoardSound.{KeepsBoard}
-use Rattle.sj_board.specs.Todo.{CanBegin, IsMoverOf}
 use Rattle.sj_base.proofs.Bools.{or_first}
 
 -- what is read of the worker's hand

@@ -1,36 +1,9 @@
 -- What follows of a worker's next step: that it can be made, by whom, and that a worker waits only while another goes on.
-use Rattle.std.proofs.Common.{◌≡◌, ◌≢◌, ℕ, ◌<◌, Bool, true, false, not, ◌&&◌, ◌||◌, cond, List, [], ◌∷◌, Option, Some, None, length, is_some, reverse, refl, sym, ap, ◌∙◌, subst, inl, inr, ◌⊎◌, arith}
-use Rattle.std.specs.Prelude.{IsSomeAnd, MatchBool, MatchOption, if◌then◌else◌, option_map, position}
-use Rattle.std.specs.List.{find, list_all, list_any}
-use Rattle.std.proofs.lemmas.Bool.{and_from, and_parts, cases_Bool, false_from_ne_true, false≢true, not-false}
-use Rattle.std.proofs.lemmas.List.{get_or_default, reverse-append}
-use Rattle.std.proofs.lemmas.List.Folds.{Any-from_list_any, list_any-append}
-use Rattle.std.proofs.lemmas.Option.{none-some}
-use Rattle.sj_base.specs.declared.trace.Event.TheVariants.{Drop, Move, Run}
+use Rattle.sj_board.proofs.Words.{[], AnotherGoesOn, ap, arith, AtNode, Bool, Brings, CanMoveIn, CanMoveOut, Cell, cell_state, cells_of, claimant_of, Claimed, Coherent, cond, Discard, disk_of, DiskNo, Drop, Evicts, false, fresh_cells, has_cell, has_room, HasStep, HasSwapFor, idle_row, if◌then◌else◌, inl, inr, is_begun, is_claimed_by, is_coming_by, is_elsewhere, is_entry, is_fresh, is_gone, is_leaving_by, is_moving, is_present, is_read, is_some, is_to_come, is_valid, IsClaimed, IsNext, IsSomeAnd, IsSound, length, List, list_all, list_any, Machine, mark, MatchBool, MatchOption, May, may_run, Move, mover_of, moves_in, next_cell, next_victim, Node, node_of, None, not, Nothing, OnDisk, Option, option_map, Place, position, Program, progress, reads_in, refl, reverse, Run, same_cell, same_place, Some, source_of, Start, State, subst, sym, Task, Todo, Transfer, transfer, TransferNext, true, victims_of, Wait, Worker, WorkerState, writes, written_cells, ℕ, ◌&&◌, ◌<◌, ◌||◌, ◌∙◌, ◌∷◌, ◌≡◌, ◌≢◌, ◌⊎◌}
+use Rattle.std.specs.List.{find}
+use Rattle.std.proofs.lemmas.{Bool.and_from, Bool.and_parts, Bool.cases_Bool, Bool.false_from_ne_true, Bool.false≢true, Bool.not-false, List.get_or_default, List.reverse-append, List.Folds.Any-from_list_any, List.Folds.list_any-append, Option.none-some}
 use Rattle.sj_base.proofs.Bools.{or_true, not_not}
-use Rattle.sj_core.proofs.Words.{AtNode, Cell, DiskNo, Machine, Node, OnDisk, Place, Program, State, Task, Worker, WorkerState, cell_state, cells_of, fresh_cells, has_cell, has_room, idle_row, is_claimed_by, is_coming_by, is_elsewhere, is_entry, is_gone, is_leaving_by, is_moving, is_read, is_valid, mark, moves_in, node_of, progress, reads_in, same_cell, same_place, transfer, victims_of, written_cells, writes}
-use Rattle.sj_core.specs.declared.progress.Progress.TheVariants.{Claimed}
-use Rattle.sj_core.specs.declared.progress.Transfer.{Transfer}
-use Rattle.sj_core.proofs.Advancing.{claimed-task_of, claimed_by-is}
-use Rattle.sj_core.proofs.Blocks.{has-disk}
-use Rattle.sj_core.proofs.CellLists.{same_cell-refl}
-use Rattle.sj_core.proofs.Claimed.{claimed-inside, list_any-task}
-use Rattle.sj_core.proofs.Dependencies.{Proper-dependencies}
-use Rattle.sj_core.proofs.Placing.{copy-row}
-use Rattle.sj_core.proofs.Reading.{entry-inside, same_cell-is}
-use Rattle.sj_core.proofs.Readiness.{list_any-some}
-use Rattle.sj_core.proofs.Replicas.{coming_by-is, entry-cases, leaving_by-is, leaving_by-leaves, leaving_by-valid, same_worker-refl}
-use Rattle.sj_core.proofs.Separation.{separated}
-use Rattle.sj_core.proofs.TaskCells.{fresh-among_written}
-use Rattle.sj_core.specs.Coherent.{Coherent, IsClaimed, is_begun}
-use Rattle.sj_core.specs.Laws.{IsSound}
-use Rattle.sj_core.specs.Proper.{HasSwapFor}
-use Rattle.sj_core.specs.Machine.{claimant_of}
-use Rattle.sj_core.specs.Step.{CanMoveIn, CanMoveOut, May, disk_of, is_fresh, is_present, mover_of, source_of}
-use Rattle.sj_board.specs.NextStep.{AnotherGoesOn, Brings, Evicts, HasStep, IsNext}
-use Rattle.sj_machine.specs.Choosing.{is_to_come, may_run, next_cell, next_victim}
-use Rattle.sj_board.specs.declared.todo.Todo.{Todo}
-use Rattle.sj_board.specs.declared.todo.Todo.TheVariants.{Discard, Nothing, Start, Transfer as TransferNext, Wait}
+use Rattle.sj_core.proofs.{Advancing.claimed-task_of, Advancing.claimed_by-is, Blocks.has-disk, CellLists.same_cell-refl, Claimed.claimed-inside, Claimed.list_any-task, Dependencies.Proper-dependencies, Placing.copy-row, Readiness.list_any-some, Reading.entry-inside, Reading.same_cell-is, Replicas.coming_by-is, Replicas.entry-cases, Replicas.leaving_by-is, Replicas.leaving_by-leaves, Replicas.leaving_by-valid, Replicas.same_worker-refl, Separation.separated, TaskCells.fresh-among_written}
 
 -- ---- finding a cell
 

@@ -1,18 +1,6 @@
 -- A board on which nothing has happened has released nothing.
-use Rattle.std.proofs.Common.{◌≡◌, ◌∙◌, ℕ, List, [], ap, arith, get_or, inl, inr, length, refl, replicate}
-use Rattle.std.proofs.lemmas.Bool.{cases_lt}
-use Rattle.std.proofs.lemmas.List.{get_or-replicate, get_or_past, length-replicate}
-use Rattle.sj_base.specs.declared.ids.Task.{Task}
-use Rattle.sj_base.specs.declared.ids.Worker.{Worker}
-use Rattle.sj_base.specs.declared.mode.Policy.{Policy}
-use Rattle.sj_base.specs.declared.mode.Policy.TheVariants.{Eager, Prio, Ws}
-use Rattle.sj_base.specs.declared.program.Machine.{Machine}
-use Rattle.sj_base.specs.declared.program.Program.{Program}
-use Rattle.sj_codelet.specs.Kernel.{Equations}
-use Rattle.sj_disk.specs.Directory.{DiskState}
-use Rattle.sj_board.specs.Board.{BoardBy, HasTakenReleased, released_of}
-use Rattle.sj_board.specs.Preparing.{IsOpening, first_pool}
-use Rattle.sj_board.specs.Released.{released_in}
+use Rattle.sj_board.proofs.Words.{[], ap, arith, BoardBy, DiskState, Eager, Equations, first_pool, get_or, HasTakenReleased, inl, inr, IsOpening, length, List, Machine, Policy, Prio, Program, refl, released_in, released_of, replicate, Task, Worker, Ws, ℕ, ◌∙◌, ◌≡◌}
+use Rattle.std.proofs.lemmas.{Bool.cases_lt, List.get_or-replicate, List.get_or_past, List.length-replicate}
 
 no-items : {X : Type 0} (k n : ℕ) → get_or (replicate {A = List X} k []) n [] ≡ []
 no-items {X} k n = elim (cases_lt n k) as (λ _. get_or (replicate {A = List X} k []) n [] ≡ []) [

@@ -1,39 +1,9 @@
 -- A board on which nothing has happened is sound.
-use Rattle.std.proofs.Common.{◌≡◌, ◌≢◌, ℕ, cond, ◌+◌, ◌<◌, ◌≤◌, ◌↔◌, Option, None, List, [], All, inl, inr, refl, sym, subst, ap, ◌∙◌, arith, length, map, replicate, get_or}
-use Rattle.std.specs.Prelude.{count_by}
-use Rattle.std.specs.List.{Contains}
-use Rattle.std.specs.List.Sorted.{IsStrictlyIncreasing}
-use Rattle.std.proofs.lemmas.Bool.{cases_lt, false≢true}
-use Rattle.std.proofs.lemmas.List.{get_or-replicate, get_or_past, length-replicate}
-use Rattle.std.proofs.lemmas.List.Elements.{All-contains_itself, All-from_get_or, All-get_or, All-nil}
-use Rattle.std.proofs.lemmas.List.Folds.{sum_by-replicate}
-use Rattle.std.proofs.lemmas.List.Kept.{AllPairs-from_increasing}
-use Rattle.std.proofs.lemmas.Option.{none-some}
-use Rattle.sj_base.specs.declared.mode.Policy.{Policy}
-use Rattle.sj_base.specs.declared.mode.Policy.TheVariants.{Eager, Prio, Ws}
-use Rattle.sj_codelet.specs.Kernel.{Equations}
+use Rattle.sj_board.proofs.Words.{[], ap, AreFirst, AreFootprints, arith, Array, board_state, CanPutEach, cond, Contains, count_by, Dependencies, dependencies, DiskState, done_tasks, Eager, empty_hand, empty_pool, Entry, Equations, first_hands, first_pool, get_or, Hand, hand_in, inl, inr, is_done, is_entry_of, is_given, is_task_of, IsEntry, IsPoolFor, IsPrepared, IsStrictlyIncreasing, KeepsBoard, length, List, Machine, map, None, opening, Option, Policy, pool_policy, Pooled, Prio, Program, progress, putter, queue_count, queued_tasks, Ready, refl, replicate, StandingBy, starting, State, subst, sym, Task, times_given, times_pooled, Waiting, with_each, Worker, Ws, ℕ, ◌+◌, ◌<◌, ◌↔◌, ◌∙◌, ◌≡◌, ◌≢◌, ◌≤◌}
+use Rattle.std.proofs.Common.{All}
+use Rattle.std.proofs.lemmas.{Bool.cases_lt, Bool.false≢true, List.get_or-replicate, List.get_or_past, List.length-replicate, List.Elements.All-contains_itself, List.Elements.All-from_get_or, List.Elements.All-get_or, List.Elements.All-nil, List.Folds.sum_by-replicate, List.Kept.AllPairs-from_increasing, Option.none-some}
 use Rattle.sj_core.proofs.Readiness.{done_tasks-done}
-use Rattle.sj_core.proofs.Words.{Machine, Program, State, Task, Worker, is_done, is_task_of, opening, progress}
-use Rattle.sj_core.specs.declared.progress.Progress.TheVariants.{Waiting}
-use Rattle.sj_core.specs.Needs.{AreFootprints}
-use Rattle.sj_core.specs.Step.{done_tasks}
-use Rattle.sj_deps.specs.Conflict.{Ready}
-use Rattle.sj_deps.specs.Progress.{Dependencies, dependencies}
-use Rattle.sj_disk.specs.Directory.{DiskState}
-use Rattle.sj_pool.specs.Pool.{Pooled, empty_pool, queue_count}
-use Rattle.sj_pool.specs.declared.entry.Entry.{Entry}
-use Rattle.sj_base.specs.Array.{Array}
-use Rattle.sj_board.specs.Standing.{StandingBy, starting}
-use Rattle.sj_board.proofs.Stepping.{ready-same}
-use Rattle.sj_board.specs.Board.{board_state, empty_hand, hand_in}
-use Rattle.sj_board.specs.BoardSound.{IsEntry, IsPoolFor, KeepsBoard, is_entry_of, is_given, times_given, times_pooled}
-use Rattle.sj_board.specs.Filling.{CanPutEach, putter, with_each}
-use Rattle.sj_board.specs.Released.{pool_policy, queued_tasks}
-use Rattle.sj_board.specs.Preparing.{AreFirst, IsPrepared, first_hands, first_pool}
-use Rattle.sj_board.specs.declared.hand.Hand.{Hand}
-use Rattle.sj_board.proofs.Policies.{by-policy, other-pool, prio-pool}
-use Rattle.sj_board.proofs.PoolFilling.{IsFilled, fill, times_among}
-use Rattle.sj_board.proofs.TaskEnding.{among-contains, among-once, contains-among}
+use Rattle.sj_board.proofs.{Policies.by-policy, Policies.other-pool, Policies.prio-pool, PoolFilling.fill, PoolFilling.IsFilled, PoolFilling.times_among, Stepping.ready-same, TaskEnding.among-contains, TaskEnding.among-once, TaskEnding.contains-among}
 
 -- what stands in each place of a list stands there wherever one looks
 always : {X : Type 0} (n : ℕ) (x : X) (i : ℕ) → get_or (replicate n x) i x ≡ x

@@ -1,22 +1,9 @@
 -- What is taken from a pool for a worker that has passed some tasks.
-use Rattle.std.proofs.Common.{◌≡◌, ℕ, ◌+◌, ◌<◌, ◌≤◌, Bool, true, false, IsTrue, nat_eq, nat_le, Option, Some, None, IfSome, List, [], ◌∷◌, All, cond, inl, inr, refl, sym, subst, ap, ◌∙◌, arith, length, length-set}
-use Rattle.std.specs.Prelude.{count_by}
-use Rattle.std.specs.List.{list_any}
+use Rattle.sj_board.proofs.Words.{[], ap, arith, Bool, cond, count_by, count_entries, Entry, entry_for, entry_of, false, first_fitting, fits_room, footprint, has_fitting, HasLost, home, inl, inr, is_among, is_entry_of, is_passed, IsEntry, IsFirstLeft, IsLeft, IsMostUrgent, IsPoolOf, IsTakenBehind, IsTrue, length, length-set, List, list_any, nat_eq, nat_le, None, Option, Pooled, precedes, Prio, Program, queue, refl, serves, Some, subst, sym, Task, task_for, times_of, times_pooled, true, turns, with_entry, without_entry_for, without_first_fitting, ℕ, ◌+◌, ◌<◌, ◌∙◌, ◌∷◌, ◌≡◌, ◌≤◌}
+use Rattle.std.proofs.Common.{IfSome, All}
 use Rattle.std.specs.Option.{option_and_then, option_map}
-use Rattle.std.proofs.lemmas.Bool.{cases_lt, false≢true}
-use Rattle.std.proofs.lemmas.List.Elements.{All-cons, All-get_or, All-head, All-nil, All-tail}
-use Rattle.std.proofs.lemmas.List.Sums.{sum_by-cons, sum_by-set}
-use Rattle.sj_base.specs.declared.mode.Policy.TheVariants.{Prio}
-use Rattle.sj_core.proofs.Words.{Program, Task, footprint}
-use Rattle.sj_pool.proofs.Keeping.{home-within}
-use Rattle.sj_pool.proofs.Serving.{serving-fits}
-use Rattle.sj_pool.specs.Entry.{fits_room, precedes}
-use Rattle.sj_pool.specs.Pool.{IsMostUrgent, Pooled, count_entries, entry_for, home, queue, serves, task_for, turns, with_entry, without_entry_for}
-use Rattle.sj_pool.specs.Queue.{first_fitting, has_fitting, without_first_fitting}
-use Rattle.sj_pool.specs.declared.entry.Entry.{Entry}
-use Rattle.sj_board.specs.BoardSound.{IsEntry, is_entry_of, times_pooled}
-use Rattle.sj_board.specs.Filling.{entry_of}
-use Rattle.sj_board.specs.Passing.{HasLost, IsFirstLeft, IsLeft, IsPoolOf, IsTakenBehind, is_among, is_passed, times_of}
+use Rattle.std.proofs.lemmas.{Bool.cases_lt, Bool.false≢true, List.Elements.All-cons, List.Elements.All-get_or, List.Elements.All-head, List.Elements.All-nil, List.Elements.All-tail, List.Sums.sum_by-cons, List.Sums.sum_by-set}
+use Rattle.sj_pool.proofs.{Keeping.home-within, Serving.serving-fits}
 use Rattle.sj_board.proofs.Pooling.{Serves, all-pooled, all-taken, count-cons, first-all, first-fits, queue-inside, queues-length, queues_from, task_from, times-put, times-taken, times_in}
 
 -- ---- a task that stands in a pool has an entry there

@@ -1,9 +1,5 @@
 -- What the policy of a machine tells of a board's pool.
-use Rattle.std.proofs.Common.{◌≡◌, ◌≢◌, ◌⊎◌, ◌∙◌, ℕ, [], inl, inr, refl, sym, ap, slice_set, drop}
-use Rattle.sj_base.specs.declared.mode.Policy.{Policy}
-use Rattle.sj_base.specs.declared.mode.Policy.TheVariants.{Eager, Prio, Ws}
-use Rattle.sj_pool.specs.Pool.{Pooled, queue}
-use Rattle.sj_board.specs.Released.{pool_policy, queued_tasks, released_in, without_first_of}
+use Rattle.sj_board.proofs.Words.{[], ap, drop, Eager, inl, inr, Policy, pool_policy, Pooled, Prio, queue, queued_tasks, refl, released_in, slice_set, sym, without_first_of, Ws, ℕ, ◌∙◌, ◌≡◌, ◌≢◌, ◌⊎◌}
 
 eager-other : Eager ≡ Prio → ⊥
 eager-other e = absurd (cc)
@@ -23,9 +19,6 @@ prio-pool q e = ap pool_policy e
 
 pub prio-released : (q : Policy) (pool : Pooled) (n : ℕ) → q ≡ Prio → released_in q pool n ≡ []
 prio-released q pool n e = ap (λ (x : Policy). released_in x pool n) e
-
-pub prio-left : (q : Policy) (pool : Pooled) (n : ℕ) → q ≡ Prio → without_first_of q pool n ≡ pool
-prio-left q pool n e = ap (λ (x : Policy). without_first_of x pool n) e
 
 -- ---- under another
 

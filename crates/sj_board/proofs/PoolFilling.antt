@@ -1,14 +1,8 @@
 -- Tasks that stand nowhere in the pool can be put there one after another, and then each stands there once more.
-use Rattle.std.proofs.Common.{◌≡◌, ℕ, ◌+◌, ◌<◌, ◌≤◌, Option, List, [], ◌∷◌, All, cond, refl, sym, subst, ◌∙◌, arith, length, length-set, nat_eq}
-use Rattle.std.specs.Prelude.{count_by}
-use Rattle.std.proofs.lemmas.List.Elements.{All-head, All-tail}
-use Rattle.std.proofs.lemmas.List.Sums.{sum_by-cons}
-use Rattle.sj_core.proofs.Words.{Machine, Program, Task, Worker}
+use Rattle.sj_board.proofs.Words.{[], arith, CanPutEach, cond, count_by, entry_of, Hand, home, IsEntry, IsPoolFor, length, length-set, List, Machine, nat_eq, Option, Pooled, Program, put_into, putter, queue, refl, subst, sym, Task, times_pooled, with_each, with_task, Worker, ℕ, ◌+◌, ◌<◌, ◌∙◌, ◌∷◌, ◌≡◌, ◌≤◌}
+use Rattle.std.proofs.Common.{All}
+use Rattle.std.proofs.lemmas.{List.Elements.All-head, List.Elements.All-tail, List.Sums.sum_by-cons}
 use Rattle.sj_pool.proofs.Keeping.{home-within}
-use Rattle.sj_pool.specs.Pool.{Pooled, home, queue, put_into}
-use Rattle.sj_board.specs.BoardSound.{IsEntry, IsPoolFor, times_pooled}
-use Rattle.sj_board.specs.Filling.{entry_of, CanPutEach, putter, with_each, with_task}
-use Rattle.sj_board.specs.declared.hand.Hand.{Hand}
 use Rattle.sj_board.proofs.Pooling.{all-pooled, none-contains, times-put}
 
 -- how often the task is among these

@@ -1,21 +1,10 @@
 -- How often a task stands in a pool, where an entry is put there or taken.
-use Rattle.std.proofs.Common.{◌≡◌, ℕ, ◌+◌, ◌<◌, Bool, true, false, Option, Some, None, List, [], ◌∷◌, ◌++◌, All, cond, inl, inr, refl, sym, subst, ap, ◌∙◌, arith, length, length-set}
-use Rattle.std.specs.Prelude.{count_by, sum_by}
-use Rattle.std.specs.Option.{option_map, option_map_or, option_and_then}
-use Rattle.std.proofs.lemmas.Bool.{cases_lt, false≢true}
-use Rattle.std.proofs.lemmas.List.{get_or_past}
-use Rattle.std.proofs.lemmas.List.Elements.{All-cons, All-get_or, All-head, All-set, All-tail}
-use Rattle.std.proofs.lemmas.List.Sums.{sum_by-cons, sum_by-set}
-use Rattle.sj_base.specs.declared.mode.Policy.{Policy}
-use Rattle.sj_base.specs.declared.mode.Policy.TheVariants.{Eager, Prio, Ws}
-use Rattle.sj_base.specs.declared.ids.Task.{Task}
+use Rattle.sj_board.proofs.Words.{[], ap, arith, Bool, cond, contains, count_by, Eager, Entry, false, first_fitting, fits_room, has_fitting, has_task, inl, inr, is_entry_of, length, length-set, List, None, Option, option_map_or, Policy, precedes, Prio, put_by_urgency, put_into, queue, refl, Some, subst, sym, Task, times_of, true, with_entry_at, without_first_at, without_first_fitting, Ws, ℕ, ◌++◌, ◌+◌, ◌<◌, ◌∙◌, ◌∷◌, ◌≡◌}
+use Rattle.std.proofs.Common.{All}
+use Rattle.std.specs.Prelude.{sum_by}
+use Rattle.std.specs.Option.{option_map, option_and_then}
+use Rattle.std.proofs.lemmas.{Bool.cases_lt, Bool.false≢true, List.get_or_past, List.Elements.All-cons, List.Elements.All-get_or, List.Elements.All-head, List.Elements.All-set, List.Elements.All-tail, List.Sums.sum_by-cons, List.Sums.sum_by-set}
 use Rattle.sj_pool.proofs.Serving.{never-none}
-use Rattle.sj_pool.specs.Entry.{fits_room, precedes}
-use Rattle.sj_pool.specs.Pool.{contains, has_task, put_into, queue, with_entry_at, without_first_at}
-use Rattle.sj_pool.specs.Queue.{first_fitting, has_fitting, put_by_urgency, without_first_fitting}
-use Rattle.sj_pool.specs.declared.entry.Entry.{Entry}
-use Rattle.sj_board.specs.BoardSound.{is_entry_of}
-use Rattle.sj_board.specs.Passing.{times_of}
 
 -- how often a task stands in these queues
 abbrev pub times_in : Task → List (List Entry) → ℕ

@@ -1,16 +1,6 @@
 -- What a board has beside its run when nothing has happened.
-use Rattle.std.proofs.Common.{◌≡◌, ℕ, ◌+◌, ◌<◌, ◌≤◌, ◌↔◌, List, [], ◌∷◌, ◌++◌, inl, inr, sym, subst, ap, arith, length, map, get_or}
-use Rattle.std.specs.Prelude.{AllPairs}
-use Rattle.std.specs.List.{Contains}
-use Rattle.std.proofs.lemmas.Bool.{cases_eq}
-use Rattle.std.proofs.lemmas.List.Elements.{All-contains_itself, All-get_or, Contains-append_left, Contains-push, Contains-push_cases}
-use Rattle.std.proofs.lemmas.List.{get_or-map, length-map, map-append}
-use Rattle.std.proofs.lemmas.List.Kept.{AllPairs-from_increasing}
-use Rattle.std.proofs.lemmas.List.Quantifiers.{all_pairs_push}
-use Rattle.sj_base.specs.declared.ids.Task.{Task}
-use Rattle.sj_base.specs.declared.program.Program.{Program}
-use Rattle.sj_deps.specs.Conflict.{Ready}
-use Rattle.sj_board.specs.Preparing.{AreReadyBelow}
+use Rattle.sj_board.proofs.Words.{[], AllPairs, ap, AreReadyBelow, arith, Contains, get_or, inl, inr, length, List, map, Program, Ready, subst, sym, Task, ℕ, ◌++◌, ◌+◌, ◌<◌, ◌↔◌, ◌∷◌, ◌≡◌, ◌≤◌}
+use Rattle.std.proofs.lemmas.{Bool.cases_eq, List.get_or-map, List.length-map, List.map-append, List.Elements.All-contains_itself, List.Elements.All-get_or, List.Elements.Contains-append_left, List.Elements.Contains-push, List.Elements.Contains-push_cases, List.Kept.AllPairs-from_increasing, List.Quantifiers.all_pairs_push}
 
 -- ---- the tasks that are ready
 

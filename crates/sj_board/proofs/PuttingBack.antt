@@ -1,24 +1,9 @@
 -- The tiles of cells after new ones of some were put.
-use Rattle.std.proofs.Common.{◌≡◌, ◌<◌, ◌≤◌, ℕ, suc, Bool, true, false, List, [], ◌∷◌, ◌++◌, None, Some, ◌∙◌, ap, arith, cond, find, length, map, refl, subst, sym, ◌||◌}
-use Rattle.std.specs.Prelude.{All, filter}
-use Rattle.std.specs.List.{zip}
-use Rattle.std.proofs.lemmas.Bool.{false_from_ne_true, false≢true, or_parts}
-use Rattle.std.proofs.lemmas.List.{append-nil, get_or_push, length-map, length-set, length_push, map-append}
-use Rattle.std.proofs.lemmas.List.Elements.{All-get_or, All-set, filter-append}
+use Rattle.sj_board.proofs.Words.{[], Access, All, ap, arith, Array, arrays, Bool, CanPutBack, CanWorkOn, Cell, cond, dims_of, false, find, has_cell, held_in, is_written, length, List, map, Node, None, Program, put_each, refl, same_cell, shared, Slot, Some, subst, suc, sym, tiles_of, true, with_tile, with_tiles_of, worked_on, Worker, written_among, zeros, zip, ℕ, ◌++◌, ◌<◌, ◌||◌, ◌∙◌, ◌∷◌, ◌≡◌, ◌≤◌}
+use Rattle.std.specs.Prelude.{filter}
+use Rattle.std.proofs.lemmas.{Bool.false_from_ne_true, Bool.false≢true, Bool.or_parts, List.append-nil, List.get_or_push, List.length-map, List.length-set, List.length_push, List.map-append, List.Elements.All-get_or, List.Elements.All-set, List.Elements.filter-append}
 use Rattle.sj_base.proofs.Lists.{All-front}
-use Rattle.sj_base.specs.Array.{Array, zeros}
-use Rattle.sj_base.specs.Mode.{is_written}
-use Rattle.sj_base.specs.declared.mode.Access.{Access}
-use Rattle.sj_codelet.specs.Frame.{Slot, arrays, shared}
-use Rattle.sj_core.proofs.Words.{Cell, Node, Program, Worker, dims_of, has_cell, same_cell}
-use Rattle.sj_core.proofs.CellLists.{same_cell-refl, times, times-cons, times-has}
-use Rattle.sj_core.proofs.Reading.{same_cell-is}
-use Rattle.sj_core.proofs.Sums.{tally}
-use Rattle.sj_core.specs.Fold.{held_in}
-use Rattle.sj_core.specs.Operands.{worked_on}
-use Rattle.sj_machine.specs.Operands.{CanWorkOn, written_among}
-use Rattle.sj_board.specs.Shares.{CanPutBack, put_each}
-use Rattle.sj_board.specs.Tiles.{tiles_of, with_tile, with_tiles_of}
+use Rattle.sj_core.proofs.{CellLists.same_cell-refl, CellLists.times, CellLists.times-cons, CellLists.times-has, Reading.same_cell-is, Sums.tally}
 use Rattle.sj_board.proofs.TileTables.{Places, length-changed, tiles-other, tiles-same, wide-changed}
 
 -- ---- the operands from the last to the first

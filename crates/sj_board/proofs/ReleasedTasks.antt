@@ -1,24 +1,7 @@
 -- Released tasks: they stay so by what others do, and more come as a task ends.
-use Rattle.std.proofs.Common.{◌≡◌, ◌≢◌, ℕ, ◌<◌, ◌⊎◌, ◌↔◌, None, Some, List, [], ◌∷◌, ◌++◌, inl, inr, refl, sym, subst, ap, ◌∙◌, arith, length, length-set, map, slice_set}
-use Rattle.std.specs.List.{Contains}
-use Rattle.std.specs.List.Sorted.{IsStrictlyIncreasing}
-use Rattle.std.proofs.lemmas.Bool.{cases_eq}
-use Rattle.std.proofs.lemmas.List.{get_or-set_other, get_or-set_same, map-append}
-use Rattle.sj_base.specs.declared.mode.Policy.{Policy}
-use Rattle.sj_base.specs.declared.mode.Policy.TheVariants.{Ws}
-use Rattle.sj_core.proofs.Words.{Program, State, Task, Worker}
-use Rattle.sj_core.specs.Step.{done_tasks}
-use Rattle.sj_deps.specs.Conflict.{Ready}
-use Rattle.sj_deps.specs.Progress.{Dependencies}
-use Rattle.sj_pool.specs.Pool.{Pooled, pooled, queue}
-use Rattle.sj_pool.specs.declared.entry.Entry.{Entry}
-use Rattle.sj_machine.specs.ReadyTasks.{CountsDone}
+use Rattle.sj_board.proofs.Words.{[], ap, arith, Contains, CountsDone, Dependencies, done_tasks, Entry, entry_of, Hand, hand_in, HasBecomeReady, inl, inr, IsStrictlyIncreasing, length, length-set, List, map, None, Policy, Pooled, pooled, Program, queue, queued_tasks, Ready, refl, slice_set, Some, StandsReleased, State, subst, sym, Task, with_each, Worker, Ws, ℕ, ◌++◌, ◌<◌, ◌↔◌, ◌∙◌, ◌∷◌, ◌≡◌, ◌≢◌, ◌⊎◌}
+use Rattle.std.proofs.lemmas.{Bool.cases_eq, List.get_or-set_other, List.get_or-set_same, List.map-append}
 use Rattle.sj_board.proofs.Stepping.{ready-same}
-use Rattle.sj_board.specs.Board.{hand_in}
-use Rattle.sj_board.specs.BoardSound.{HasBecomeReady, StandsReleased}
-use Rattle.sj_board.specs.Filling.{entry_of, with_each}
-use Rattle.sj_board.specs.Released.{queued_tasks}
-use Rattle.sj_board.specs.declared.hand.Hand.{Hand}
 
 -- ---- where the pool stays
 

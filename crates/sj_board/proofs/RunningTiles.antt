@@ -1,47 +1,11 @@
 -- The tiles that the beginning of a kernel's run leaves, and the shares that its task takes.
-use Rattle.std.proofs.Common.{◌≡◌, ◌<◌, ◌≤◌, ◌+◌, ℕ, Bool, true, false, not, List, [], ◌∷◌, ◌++◌, Option, None, Some, ◌∙◌, ap, arith, get_or, inl, inr, is_some, length, map, refl, suc, sym, subst, ◌||◌}
-use Rattle.std.specs.Prelude.{All, Contains, IfSome, if◌then◌else◌, unwrap_or}
-use Rattle.std.specs.List.{AllZip}
-use Rattle.std.proofs.lemmas.Bool.{cases_Bool, false≢true}
-use Rattle.std.proofs.lemmas.Nat.{mod_below}
-use Rattle.std.proofs.lemmas.List.Elements.{Contains-get_or}
-use Rattle.std.proofs.lemmas.List.Folds.{list_any_at}
+use Rattle.sj_board.proofs.Words.{[], Access, after, All, all_out, AllTell, AllZip, ap, AreSharesFor, arith, Array, Arrays, arrays_after, AtNode, Bool, CanGive, CanHappen, CanRun, CanWorkOn, Cell, cells_of, CellState, dims_of, DiskState, Equations, false, fresh_cells, get_or, has_cell, has_happened, HasTiles, HoldsBlocks, IfSome, if◌then◌else◌, inl, inr, is_being_written, is_some, is_valid, IsShareIn, IsSound, IsTileOf, Keeps, kept_at, LendingState, length, List, Machine, map, mark, Node, node_of, None, not, Option, out_each, owned_at, Program, reads_of, reads_value, Recorded, refl, renewed, Rows, Run, run_arrays, same_cell, same_place, shared, shares_at, Slot, Some, standing, StandingBy, starts_as_zeros, State, state, subst, suc, sym, Task, task_of, tile_at, tile_in, tiles_of, true, unwrap_or, with_event, worked_on, Worker, written_among, written_cells, zeros, ℕ, ◌++◌, ◌+◌, ◌<◌, ◌||◌, ◌∙◌, ◌∷◌, ◌≡◌, ◌≤◌}
+use Rattle.std.specs.Prelude.{Contains}
+use Rattle.std.proofs.lemmas.{Bool.cases_Bool, Bool.false≢true, List.Elements.Contains-get_or, List.Folds.list_any_at, Nat.mod_below}
 use Rattle.sj_base.proofs.SameIds.{same_cell-itself}
-use Rattle.sj_base.specs.Mode.{reads_of, reads_value, starts_as_zeros}
-use Rattle.sj_base.specs.Recorded.{Recorded}
-use Rattle.sj_base.specs.declared.mode.Access.{Access}
-use Rattle.sj_codelet.specs.Frame.{Slot, shared}
-use Rattle.sj_codelet.specs.Kernel.{Equations}
-use Rattle.sj_core.proofs.Words.{Array, AtNode, Cell, CellState, Machine, Node, Program, Run, State, Task, Worker, cells_of, dims_of, fresh_cells, has_cell, is_valid, mark, node_of, owned_at, same_cell, task_of, worked_on, written_cells, zeros}
-use Rattle.sj_core.proofs.CellLists.{cells-written, times}
-use Rattle.sj_core.proofs.Changing.{All-renewed}
-use Rattle.sj_core.proofs.Claimed.{claimed-inside, claimed-not_written, claimed-staffed}
-use Rattle.sj_core.proofs.Finding.{second_fails}
-use Rattle.sj_core.proofs.Folding.{read-among_cells}
-use Rattle.sj_core.proofs.Found.{found-not_fresh}
-use Rattle.sj_core.proofs.Readiness.{Contains-from_filter, filter-Contains}
-use Rattle.sj_core.proofs.Reading.{cells-untouched, entry-inside, list_all-has}
-use Rattle.sj_core.proofs.Running.{run-other, run-rested, run-rests, run-spared, run-stale, run-unstored}
-use Rattle.sj_core.proofs.Sized.{worked_on-dims}
-use Rattle.sj_core.proofs.Tables.{length-renewed, renewed-at_or}
-use Rattle.sj_core.proofs.TaskCells.{written-among_cells}
-use Rattle.sj_core.specs.Arrays.{Arrays, arrays_after}
-use Rattle.sj_core.specs.Coherent.{is_being_written}
-use Rattle.sj_core.specs.Laws.{IsSound}
-use Rattle.sj_core.specs.Step.{CanRun, after, same_place}
-use Rattle.sj_core.specs.Table.{renewed}
-use Rattle.sj_disk.specs.Directory.{DiskState}
-use Rattle.sj_disk.specs.Lending.{LendingState}
-use Rattle.sj_machine.proofs.FewPins.{few-operands}
-use Rattle.sj_machine.proofs.Written.{can-work, works-small, written-once}
-use Rattle.sj_machine.specs.Operands.{CanWorkOn, written_among}
-use Rattle.sj_machine.specs.Rows.{Rows, has_happened}
-use Rattle.sj_board.specs.Shares.{AreSharesFor, CanGive, IsShareIn, kept_at, shares_at}
-use Rattle.sj_board.specs.Sound.{HoldsBlocks, Keeps}
-use Rattle.sj_board.specs.Standing.{AllTell, CanHappen, IsTileOf, StandingBy, run_arrays, standing, state, with_event}
-use Rattle.sj_board.specs.Tiles.{HasTiles, all_out, out_each, tile_at, tile_in, tiles_of}
-use Rattle.sj_board.proofs.Keeping.{HoldsBlocks-kept, keeps-event, keeps-told, sound_state}
-use Rattle.sj_board.proofs.TileTables.{Places, out-length, out-none, wide-at}
+use Rattle.sj_core.proofs.{CellLists.cells-written, CellLists.times, Changing.All-renewed, Claimed.claimed-inside, Claimed.claimed-not_written, Claimed.claimed-staffed, Finding.second_fails, Folding.read-among_cells, Found.found-not_fresh, Readiness.Contains-from_filter, Readiness.filter-Contains, Reading.cells-untouched, Reading.entry-inside, Reading.list_all-has, Running.run-other, Running.run-rested, Running.run-rests, Running.run-spared, Running.run-stale, Running.run-unstored, Sized.worked_on-dims, Tables.length-renewed, Tables.renewed-at_or, TaskCells.written-among_cells}
+use Rattle.sj_machine.proofs.{FewPins.few-operands, Written.can-work, Written.works-small, Written.written-once}
+use Rattle.sj_board.proofs.{Keeping.HoldsBlocks-kept, Keeping.keeps-event, Keeping.keeps-told, Keeping.sound_state, TileTables.out-length, TileTables.out-none, TileTables.Places, TileTables.wide-at}
 
 -- ---- tiles that are out
 

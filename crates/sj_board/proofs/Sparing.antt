@@ -1,29 +1,8 @@
 -- No event takes away a copy that a task or a transfer works on.
-use Rattle.std.proofs.Common.{◌≡◌, true, false, Option, Some, ◌∙◌, ap, inl, inr, nat_eq, sym, subst, ◌||◌, List, ℕ, refl, cond, ◌&&◌}
-use Rattle.std.proofs.lemmas.Bool.{and_parts, cases_Bool, false≢true, not-true}
-use Rattle.std.proofs.lemmas.Bool.Decides.{Decides-eqb}
+use Rattle.sj_board.proofs.Words.{a_transfer, after, ap, Array, Arrays, arrays_after, arrived, AtNode, CanHappen, Cell, cell_state, CellState, Claim, cond, dims_of, Drop, End, Equations, Event, EventsSpareUsed, false, fresh_cells, has_cell, has_copy, held_at, inl, inr, Invalid, is_home, is_leaving, is_pinned, is_read, is_used, is_valid, IsSound, IsTransferTo, Keeps, List, Machine, mark, mark_in, May, Move, Moved, mover_of, nat_eq, Node, node_of, on_disk, OnDisk, Option, pins, Place, Program, refl, result_in, Rows, Run, run_arrays, same_cell, same_place, Some, Spares, SparesUsed, StandingBy, State, state, stored, subst, sym, transfer, true, Valid, with_event, with_mark, with_row, Worker, workers_at, workers_of, written_cells, zeros, ℕ, ◌&&◌, ◌||◌, ◌∙◌, ◌≡◌}
+use Rattle.std.proofs.lemmas.{Bool.and_parts, Bool.cases_Bool, Bool.false≢true, Bool.not-true, Bool.Decides.Decides-eqb}
 use Rattle.sj_base.proofs.SameIds.{same_cell-is}
-use Rattle.sj_base.specs.Array.{Array}
-use Rattle.sj_codelet.specs.Kernel.{Equations}
-use Rattle.sj_core.proofs.Changing.{copies-left}
-use Rattle.sj_core.proofs.Claiming.{claim-copy}
-use Rattle.sj_core.proofs.Ending.{end-alone}
-use Rattle.sj_core.proofs.Eviction.{evicted-after}
-use Rattle.sj_core.proofs.Finding.{second_fails}
-use Rattle.sj_core.proofs.Placing.{mark-cases, on_disk-same, row-cases, same_place-is}
-use Rattle.sj_core.proofs.Readiness.{filter-Contains, list_any-some}
-use Rattle.sj_core.proofs.Replicas.{coming_by-is}
-use Rattle.sj_core.proofs.Running.{run-other, run-stale}
-use Rattle.sj_core.proofs.States.{state_of-more, arrays_of-more}
-use Rattle.sj_core.proofs.Words.{AtNode, Cell, CellState, Claim, Drop, End, Event, Invalid, Machine, Move, Moved, Node, OnDisk, Place, Program, Run, State, Valid, Worker, cell_state, dims_of, fresh_cells, has_cell, has_copy, is_leaving, is_pinned, is_read, is_valid, mark, mark_in, node_of, on_disk, pins, same_cell, stored, transfer, with_mark, with_row, workers_at, workers_of, written_cells, zeros}
-use Rattle.sj_core.specs.Arrays.{Arrays, arrays_after, held_at, result_in}
-use Rattle.sj_core.specs.Coherent.{IsTransferTo}
-use Rattle.sj_core.specs.Laws.{IsSound}
-use Rattle.sj_core.specs.Step.{May, a_transfer, after, arrived, is_home, mover_of, same_place}
-use Rattle.sj_machine.specs.Rows.{Rows}
-use Rattle.sj_board.specs.Sound.{Keeps}
-use Rattle.sj_board.specs.Sparing.{EventsSpareUsed, Spares, SparesUsed, is_used}
-use Rattle.sj_board.specs.Standing.{CanHappen, StandingBy, run_arrays, state, with_event}
+use Rattle.sj_core.proofs.{Changing.copies-left, Claiming.claim-copy, Ending.end-alone, Eviction.evicted-after, Finding.second_fails, Placing.mark-cases, Placing.on_disk-same, Placing.row-cases, Placing.same_place-is, Readiness.filter-Contains, Readiness.list_any-some, Replicas.coming_by-is, Running.run-other, Running.run-stale, States.arrays_of-more, States.state_of-more}
 use Rattle.sj_board.proofs.Keeping.{sound_state}
 
 module _ (p : Program) (m : Machine) (s : State) (h : IsSound p m s) where

@@ -1,17 +1,6 @@
 -- Each event of a board spares the copies that are used.
-use Rattle.std.proofs.Common.{◌≡◌, ℕ, List, Option, None, Some, refl, subst, sym}
-use Rattle.std.specs.Prelude.{Err, IfSome, Ok, OnOk, Result}
-use Rattle.sj_base.specs.declared.trace.Event.{Event}
-use Rattle.sj_base.specs.declared.trace.Event.TheVariants.{Moved}
-use Rattle.sj_codelet.specs.Kernel.{Equations}
+use Rattle.sj_board.proofs.Words.{a_transfer, CanHappen, Equations, Err, Event, HasMoved, IfSome, IsSound, IsSoundRun, List, Moved, None, Ok, OnOk, Option, refl, Result, Some, Spares, SparesMoved, StandingBy, state, subst, sym, Transfer, transfer, with_event, Worker, ℕ, ◌≡◌}
 use Rattle.sj_core.proofs.States.{one-mover}
-use Rattle.sj_core.proofs.Words.{Worker, transfer}
-use Rattle.sj_core.specs.Laws.{IsSound}
-use Rattle.sj_core.specs.Step.{a_transfer}
-use Rattle.sj_core.specs.declared.progress.Transfer.{Transfer}
-use Rattle.sj_board.specs.Sound.{IsSoundRun}
-use Rattle.sj_board.specs.Sparing.{Spares, SparesMoved}
-use Rattle.sj_board.specs.Standing.{CanHappen, HasMoved, StandingBy, state, with_event}
 use Rattle.sj_board.proofs.Sparing.{spares-event}
 
 module _ {D : Type 0} {eq : Equations} (size faults mismatches : D → ℕ) (held : D → Option (List ℕ)) (b : StandingBy eq D) (run : IsSoundRun size faults mismatches held b) where

@@ -1,23 +1,7 @@
 -- A board stays sound where the kernel of a claimed task begins.
-use Rattle.std.proofs.Common.{◌≡◌, ℕ, ◌⊎◌, IsTrue, None, Option, List, inl, inr, refl, sym, subst, ap, ◌∙◌, arith, is_some}
-use Rattle.std.specs.Prelude.{OnErr, OnOk, Ok, Err, Result}
-use Rattle.sj_base.specs.declared.trace.Event.TheVariants.{Run}
-use Rattle.sj_codelet.specs.Kernel.{Equations}
-use Rattle.sj_core.proofs.Advancing.{Advances, Runs-advances, same_task}
-use Rattle.sj_core.proofs.Reading.{progress-inside}
-use Rattle.sj_core.proofs.States.{state_of-more}
-use Rattle.sj_core.proofs.Words.{Machine, Program, State, Task, Worker, is_done, is_task_of, progress}
-use Rattle.sj_core.specs.declared.progress.Progress.TheVariants.{Claimed, Running, Waiting}
-use Rattle.sj_core.specs.Legal.{IsComplete}
-use Rattle.sj_core.specs.Step.{after}
-use Rattle.sj_deps.specs.Progress.{Dependencies}
-use Rattle.sj_machine.specs.ReadyTasks.{CountsDone, IsToBeTaken}
-use Rattle.sj_board.specs.Standing.{CanHappen, StandingBy, state, with_event}
-use Rattle.sj_board.proofs.Stepping.{counts-still, not-complete, taken-before, taken-still}
-use Rattle.sj_board.specs.Board.{BoardBy, has_event}
-use Rattle.sj_board.specs.BoardSound.{KeepsBoard}
-use Rattle.sj_board.proofs.LastHeaders.{none-caused}
-use Rattle.sj_board.proofs.ReleasedTasks.{counts-both, released-same}
+use Rattle.sj_board.proofs.Words.{after, ap, arith, BoardBy, CanHappen, Claimed, CountsDone, Dependencies, Equations, Err, has_event, inl, inr, is_done, is_some, is_task_of, IsComplete, IsToBeTaken, IsTrue, KeepsBoard, List, Machine, None, Ok, OnErr, OnOk, Option, Program, progress, refl, Result, Run, Running, StandingBy, State, state, subst, sym, Task, Waiting, with_event, Worker, ℕ, ◌∙◌, ◌≡◌, ◌⊎◌}
+use Rattle.sj_core.proofs.{Advancing.Advances, Advancing.Runs-advances, Advancing.same_task, Reading.progress-inside, States.state_of-more}
+use Rattle.sj_board.proofs.{LastHeaders.none-caused, ReleasedTasks.counts-both, ReleasedTasks.released-same, Stepping.counts-still, Stepping.not-complete, Stepping.taken-before, Stepping.taken-still}
 
 claimed-waits : (w : Worker) → Claimed w ≡ Waiting → ⊥
 claimed-waits w e = absurd (cc)

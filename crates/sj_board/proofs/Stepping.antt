@@ -1,18 +1,7 @@
 -- What is said of ready tasks and of hands, where one task's progress changes.
-use Rattle.std.proofs.Common.{◌≡◌, ◌≢◌, ℕ, ◌<◌, ◌↔◌, false, List, inl, inr, sym, subst, ap, ◌∙◌, length, [], slice_index_or}
-use Rattle.std.specs.List.{Contains}
-use Rattle.std.proofs.lemmas.Bool.{false≢true}
-use Rattle.std.proofs.lemmas.List.Sums.{AllPass-from_list_all}
-use Rattle.sj_core.proofs.Advancing.{Advances, same_task}
-use Rattle.sj_core.proofs.Readiness.{done_tasks-done, done_tasks-has}
-use Rattle.sj_core.proofs.Words.{Program, State, Task, done_in, is_done, progress}
-use Rattle.sj_core.specs.declared.progress.Progress.{Progress}
-use Rattle.sj_core.specs.declared.progress.Progress.TheVariants.{Waiting}
-use Rattle.sj_core.specs.Legal.{IsComplete}
-use Rattle.sj_core.specs.Step.{done_tasks}
-use Rattle.sj_deps.specs.Conflict.{Ready}
-use Rattle.sj_deps.specs.Progress.{Dependencies}
-use Rattle.sj_machine.specs.ReadyTasks.{CountsDone, IsToBeTaken}
+use Rattle.sj_board.proofs.Words.{[], ap, Contains, CountsDone, Dependencies, done_in, done_tasks, false, inl, inr, is_done, IsComplete, IsToBeTaken, length, List, Program, Progress, progress, Ready, slice_index_or, State, subst, sym, Task, Waiting, ℕ, ◌<◌, ◌↔◌, ◌∙◌, ◌≡◌, ◌≢◌}
+use Rattle.std.proofs.lemmas.{Bool.false≢true, List.Sums.AllPass-from_list_all}
+use Rattle.sj_core.proofs.{Advancing.Advances, Advancing.same_task, Readiness.done_tasks-done, Readiness.done_tasks-has}
 
 -- a task is ready where the same tasks are done
 pub ready-same : (p : Program) (done done' : List ℕ) (u : ℕ) → ((n : ℕ) → Contains done n ↔ Contains done' n) → Ready p done u → Ready p done' u

@@ -1,30 +1,10 @@
 -- Victims that are gone stay so until their worker claims again.
-use Rattle.std.proofs.Common.{◌≡◌, ◌≢◌, ℕ, ◌<◌, Bool, true, false, not, ◌&&◌, List, [], ◌∷◌, Option, None, Some, length, get_or, set, take, reverse, refl, sym, ap, ◌∙◌, subst, inl, inr, arith}
-use Rattle.std.specs.Prelude.{Err, IfSome, IsSomeAnd, Ok, OnErr, OnOk, Result, replicate}
-use Rattle.std.specs.List.{list_all}
-use Rattle.std.proofs.lemmas.Bool.{cases_lt, false_from_ne_true, false≢true, not-true}
-use Rattle.std.proofs.lemmas.List.{get_or_default, get_or-replicate, get_or-set_other, get_or-set_same, get_or_past, length-replicate, length-set}
-use Rattle.sj_core.proofs.Eviction.{evicted-after}
-use Rattle.sj_base.specs.declared.trace.Event.{Event}
-use Rattle.sj_base.specs.declared.trace.Event.TheVariants.{Claim, Drop, End, Move, Moved, Run}
+use Rattle.sj_board.proofs.Words.{[], a_transfer, after, ap, AreGone, arith, arrived, AtNode, Bool, CanHappen, Cell, cell_state, CellState, Claim, DiskState, Drop, End, Equations, Err, Event, false, get_or, HasMoved, IfSome, inl, inr, Invalid, is_gone, is_leaving_by, IsSomeAnd, IsSound, IsSoundRun, KnowsGone, length, List, list_all, Machine, Mark, mark, mark_in, May, Move, Moved, Node, node_of, None, not, Ok, OnDisk, OnErr, OnOk, Option, Place, Program, refl, Result, reverse, Run, set, Some, StandingBy, starting, State, state, stored, subst, sym, take, Task, Transfer, transfer, true, Valid, victims_of, with_event, with_mark, with_row, Worker, WorkerState, ℕ, ◌&&◌, ◌<◌, ◌∙◌, ◌∷◌, ◌≡◌, ◌≢◌}
+use Rattle.std.specs.Prelude.{replicate}
+use Rattle.std.proofs.lemmas.{Bool.cases_lt, Bool.false_from_ne_true, Bool.false≢true, Bool.not-true, List.get_or-replicate, List.get_or-set_other, List.get_or-set_same, List.get_or_default, List.get_or_past, List.length-replicate, List.length-set}
+use Rattle.sj_core.proofs.{Claiming.claim-leaving, Claiming.Claims-other_worker, Ending.end-change, Eviction.evicted-after, Placing.mark-cases, Placing.row-cases, Placing.victims-same, Reading.workers_differ, Running.run-leaving, Running.run-worker, States.one-mover, States.state_of-more}
 use Rattle.sj_base.proofs.Bools.{and_rest}
-use Rattle.sj_codelet.specs.Kernel.{Equations}
-use Rattle.sj_core.proofs.Claiming.{Claims-other_worker, claim-leaving}
-use Rattle.sj_core.proofs.Ending.{end-change}
-use Rattle.sj_core.proofs.Placing.{mark-cases, row-cases, victims-same}
-use Rattle.sj_core.proofs.Reading.{workers_differ}
-use Rattle.sj_core.proofs.Running.{run-leaving, run-worker}
-use Rattle.sj_core.proofs.States.{one-mover, state_of-more}
-use Rattle.sj_core.proofs.Words.{AtNode, Cell, CellState, Invalid, Machine, Mark, Node, OnDisk, Place, Program, State, Task, Valid, Worker, WorkerState, arrived, cell_state, is_gone, is_leaving_by, mark, mark_in, node_of, stored, transfer, victims_of, with_mark, with_row}
-use Rattle.sj_core.specs.Laws.{IsSound}
-use Rattle.sj_core.specs.Step.{May, a_transfer, after}
-use Rattle.sj_core.specs.declared.progress.Transfer.{Transfer}
-use Rattle.sj_disk.specs.Directory.{DiskState}
-use Rattle.sj_machine.specs.Gone.{AreGone}
-use Rattle.sj_board.specs.Sound.{IsSoundRun}
-use Rattle.sj_board.specs.Standing.{CanHappen, HasMoved, StandingBy, starting, state, with_event}
 use Rattle.sj_machine.proofs.GoneVictims.{and_first}
-use Rattle.sj_board.specs.BoardSound.{KnowsGone}
 use Rattle.sj_board.proofs.SparingBoards.{sound as run-sound}
 
 list_all-weaker : (f g : Cell → Bool) → ((c : Cell) → f c ≡ true → g c ≡ true) → (xs : List Cell) → list_all f xs ≡ true → list_all g xs ≡ true

@@ -1,38 +1,11 @@
 -- What a store and a fetch of a disk leave: the same state, over disks that hold what they held.
-use Rattle.std.proofs.Common.{◌≡◌, ◌≢◌, ◌<◌, ℕ, ℤ, Bool, true, List, Option, None, Some, refl, sym, ap, ◌∙◌, subst, arith, inl, inr, ◌⊎◌, length, get_or, is_some, false}
-use Rattle.std.specs.Prelude.{All, FitsSigned, IfSome, IsSome, IsSomeAnd, OnOk, Result, Ok, Err, is_ok, option_map, slice_get}
-use Rattle.std.specs.Int.{w64}
-use Rattle.std.proofs.lemmas.Bool.{cases_lt, false≢true}
-use Rattle.std.proofs.lemmas.List.{get_or-set_other, get_or-set_same, get_or_past}
-use Rattle.std.proofs.lemmas.List.Elements.{All-get_or, AllZip-get_or, length_all_zip}
-use Rattle.std.proofs.lemmas.Option.{get_or_from_slice_get, slice_get_within}
-use Rattle.sj_base.specs.Array.{area}
-use Rattle.sj_base.specs.declared.tile.Dims.{Dims}
+use Rattle.sj_board.proofs.Words.{a_transfer, All, AllTell, ap, area, AreGivenBack, arith, Array, AtNode, Block, block, block_bytes, block_of, Bool, Cell, Dims, dims_of, disk_of, DiskNo, DiskRefusal, DiskState, Equations, Err, Extent, extent_of, Fetches, FitsSigned, get_or, has_copy, HasDimsMoved, HasItsDiskIn, header, Holds, HoldsArray, HoldsBlocks, IfSome, inl, inr, is_ok, is_some, IsBlock, IsBlockCopyOf, IsGivenBack, IsInFor, IsLastWritten, IsSome, IsSomeAnd, IsStored, IsTileMoved, IsTileOf, IsTransferTo, IsWrittenOut, Keeps, last_store, LendingState, length, lent, List, Machine, None, Ok, OnDisk, OnOk, Option, option_map, Place, Program, refl, Result, Rows, run_arrays, slice_get, Some, StandingBy, State, state, Stores, subst, sym, TellsBytes, Transfer, transfer, true, w64, with_store, Worker, writes, ℕ, ℤ, ◌<◌, ◌∙◌, ◌≡◌, ◌≢◌, ◌⊎◌}
+use Rattle.std.proofs.lemmas.{Bool.cases_lt, Bool.false≢true, List.get_or-set_other, List.get_or-set_same, List.get_or_past, List.Elements.All-get_or, List.Elements.AllZip-get_or, List.Elements.length_all_zip, Option.get_or_from_slice_get, Option.slice_get_within}
 use Rattle.sj_base.proofs.Options.{IfSome-at, IfSome-from, IsSomeAnd-from, IsSomeAnd-at}
-use Rattle.sj_codelet.specs.Kernel.{Equations}
-use Rattle.sj_core.specs.declared.progress.Transfer.{Transfer}
-use Rattle.sj_core.proofs.Words.{Array, AtNode, Block, Cell, DiskNo, Machine, OnDisk, Place, Program, State, Worker, dims_of, has_copy, transfer, writes}
 use Rattle.sj_core.proofs.Placing.{cells_differ, copy-row, home-is}
-use Rattle.sj_core.specs.Coherent.{IsTransferTo}
-use Rattle.sj_core.specs.Step.{a_transfer, disk_of}
-use Rattle.sj_edge.specs.GivenBack.{AreGivenBack, IsGivenBack}
 use Rattle.sj_edge.proofs.GivenBackLemmas.{all_given_back-then}
-use Rattle.sj_disk.specs.declared.directory.Extent.{Extent}
-use Rattle.sj_disk.specs.declared.refusal.DiskRefusal.{DiskRefusal}
-use Rattle.sj_disk.specs.Block.{block, block_bytes, header}
-use Rattle.sj_disk.specs.Calls.{Fetches, Stores}
-use Rattle.sj_disk.specs.Lending.{IsInFor, LendingState}
-use Rattle.sj_disk.specs.Directory.{DiskState, extent_of, last_store, with_store}
-use Rattle.sj_disk.specs.Holding.{Holds, TellsBytes}
 use Rattle.sj_disk.proofs.Uniting.{length-block}
-use Rattle.sj_disk.specs.Rack.{is_out}
-use Rattle.sj_machine.specs.Rows.{Rows}
-use Rattle.sj_board.specs.Headers.{IsLastWritten}
-use Rattle.sj_board.specs.Sound.{HoldsArray, HoldsBlocks, IsBlock, IsBlockCopyOf, IsStored, IsWrittenOut, Keeps, block_of}
-use Rattle.sj_board.specs.DiskUnits.{HasItsDiskIn, lent}
-use Rattle.sj_board.specs.Standing.{AllTell, HasDimsMoved, IsTileMoved, IsTileOf, StandingBy, run_arrays, state}
 use Rattle.sj_board.proofs.Keeping.{copy-on_disk}
-use Rattle.sj_board.specs.NextStep.{is_out_for}
 
 -- disks that all told still tell
 told_as : {X : Type 0} (a b : Option X) → is_some b ≡ is_some a → IsSome a → IsSome b
@@ -337,11 +310,3 @@ stores-back size faults mismatches held c n xs result old new Q some stores = so
 
 pub fetches-back : {D A : Type 0} (size faults mismatches : D → ℕ) (held : D → Option (List ℕ)) (c n : ℕ) (xs : List ℤ) (result : Result A DiskRefusal) (old new : DiskState D) (Q : Extent → Type 0) → IsSomeAnd (extent_of old.directory c) Q → IfSome (extent_of old.directory c) (Fetches size faults mismatches held c n xs result old new) → AreGivenBack size faults mismatches held old.disks new.disks
 fetches-back size faults mismatches held c n xs result old new Q some fetches = some-if Q (Fetches size faults mismatches held c n xs result old new) (AreGivenBack size faults mismatches held old.disks new.disks) (extent_of old.directory c) some fetches (λ e (is : Fetches size faults mismatches held c n xs result old new e). is.disks_are_given_back)
-
--- where the disk of the cell of a worker's transfer isn't out, it is in
-pub not-out : {D : Type 0} {eq : Equations} (b : StandingBy eq D) (w : Worker) (x : Transfer) → transfer (state b) w ≡ Some x → is_out_for b x.cell ≡ false → HasItsDiskIn b w
-not-out b w x under_way none = subst (λ (o : Option Transfer). IfSome o (λ y. IsInFor (lent b) y.cell.0)) (sym under_way) (by_extent (extent_of b.disks.directory x.cell.0) none)
-  where
-    by_extent : (o : Option Extent) → elim o [ None ↦ false | Some e ↦ is_out b.out e.disk.0 ] ≡ false → IfSome o (λ e. is_out b.out e.disk.0 ≡ false)
-    by_extent None e = tt
-    by_extent (Some x) e = e

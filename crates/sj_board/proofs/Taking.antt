@@ -1,40 +1,11 @@
 -- A board stays sound where a worker claims the task that it was given.
-use Rattle.std.proofs.Common.{◌≡◌, ◌≢◌, ℕ, ◌+◌, ◌<◌, ◌≤◌, ◌⊎◌, true, false, not, IsTrue, Option, Some, None, Err, List, inl, inr, refl, sym, subst, ap, ◌∙◌, arith, length, length-set, slice_set, is_some}
-use Rattle.std.proofs.lemmas.Bool.{cases_eq, false≢true, false_from_ne_true}
-use Rattle.std.proofs.lemmas.List.Elements.{All-from_get_or}
-use Rattle.std.proofs.lemmas.List.Sums.{list_all-from_AllPass}
-use Rattle.std.proofs.lemmas.Option.{none-some}
-use Rattle.sj_codelet.specs.Kernel.{Equations}
-use Rattle.sj_core.proofs.Eviction.{evicted-after}
-use Rattle.sj_base.specs.declared.mode.Policy.TheVariants.{Prio}
-use Rattle.sj_base.specs.declared.trace.Event.TheVariants.{Claim}
-use Rattle.sj_core.proofs.Advancing.{Advances, Claims-advances, claimed-is_mine, same_task, task_of-worker}
-use Rattle.sj_core.proofs.States.{state_of-more}
-use Rattle.sj_core.proofs.Words.{Machine, Program, State, Task, Worker, footprint, is_done, is_task_of, node_of, node_size, progress}
-use Rattle.sj_core.specs.declared.progress.Progress.TheVariants.{Claimed, Waiting}
-use Rattle.sj_core.specs.Legal.{IsComplete}
-use Rattle.sj_core.specs.Step.{after}
-use Rattle.sj_core.proofs.Separation.{worker-inside}
-use Rattle.sj_core.proofs.Dependencies.{Proper-dependencies}
-use Rattle.sj_deps.specs.Progress.{Dependencies}
-use Rattle.sj_machine.specs.ReadyTasks.{CountsDone, IsToBeTaken}
-use Rattle.sj_machine.specs.Planning.{AnotherHasTask, IsWhy, MayClaim}
-use Rattle.sj_board.specs.Sound.{IsSoundRun}
-use Rattle.sj_board.specs.Standing.{CanHappen, StandingBy, state, with_event}
-use Rattle.sj_board.proofs.Stepping.{counts-still, not-complete, taken-before, taken-still}
-use Rattle.sj_machine.specs.declared.plan.Why.{Why}
+use Rattle.sj_board.proofs.Words.{after, AnotherHasTask, ap, arith, BoardBy, CanHappen, Claim, Claimed, CountsDone, Dependencies, Equations, false, footprint, Hand, hand_in, hand_of, HandsAgree, has_claimed, inl, inr, is_done, is_some, is_task_of, IsComplete, IsSoundRun, IsToBeTaken, IsTrue, IsWhy, IsWorking, KeepsBoard, length, length-set, List, Machine, MayAsk, MayClaim, node_of, node_size, None, not, NotNow, Option, Prio, Program, progress, refl, slice_set, Some, StandingBy, StandsOnce, StandsReleased, State, state, StopsAtTheEnd, subst, sym, Task, times_given, times_pooled, true, Waiting, Why, with_event, Worker, ℕ, ◌+◌, ◌<◌, ◌∙◌, ◌≡◌, ◌≢◌, ◌≤◌, ◌⊎◌}
+use Rattle.std.proofs.Common.{Err}
+use Rattle.std.proofs.lemmas.{Bool.cases_eq, Bool.false_from_ne_true, Bool.false≢true, List.Elements.All-from_get_or, List.Sums.list_all-from_AllPass, Option.none-some}
+use Rattle.sj_core.proofs.{Advancing.Advances, Advancing.claimed-is_mine, Advancing.Claims-advances, Advancing.same_task, Advancing.task_of-worker, Dependencies.Proper-dependencies, Eviction.evicted-after, Separation.worker-inside, States.state_of-more}
+use Rattle.sj_board.proofs.{Giving.back-taken, Giving.once-given, Hands.given-set, Hands.hand-set, Hands.hand-set_apart, Hands.inside-hands, LastHeaders.none-caused, Policies.by-policy, Pooling.once, ReleasedTasks.counts-both, ReleasedTasks.released-same, Stepping.counts-still, Stepping.not-complete, Stepping.taken-before, Stepping.taken-still}
 use Rattle.sj_machine.proofs.Refusing.{found-waits}
-use Rattle.sj_board.specs.Board.{BoardBy, IsWorking, hand_in, hand_of, has_claimed}
-use Rattle.sj_board.specs.BoardSound.{HandsAgree, KeepsBoard, StandsOnce, StandsReleased, StopsAtTheEnd, times_given, times_pooled}
-use Rattle.sj_board.specs.Claimable.{MayAsk}
-use Rattle.sj_board.specs.declared.hand.Hand.{Hand}
-use Rattle.sj_board.proofs.Giving.{back-taken, once-given}
-use Rattle.sj_board.proofs.Hands.{given-set, hand-set, hand-set_apart, inside-hands}
-use Rattle.sj_board.proofs.Pooling.{once}
-use Rattle.sj_board.proofs.LastHeaders.{none-caused}
-use Rattle.sj_board.proofs.Policies.{by-policy}
-use Rattle.sj_board.proofs.ReleasedTasks.{counts-both, released-same}
-use Rattle.sj_board.specs.declared.refusal.ClaimRefusal.TheVariants.{NotNow, OutOfMemory}
+use Rattle.sj_board.specs.declared.refusal.ClaimRefusal.TheVariants.{OutOfMemory}
 
 -- a task is given once where the number is its own
 once-own : (t : Task) → once t (Some t) ≡ 1

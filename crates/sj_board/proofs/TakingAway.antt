@@ -1,34 +1,9 @@
 -- A board stays sound where a worker takes the first of its released tasks away.
-use Rattle.std.proofs.Common.{◌≡◌, ◌≢◌, ℕ, zero, suc, ◌+◌, ◌<◌, ◌≤◌, ◌⊎◌, ◌↔◌, Bool, true, nat_le, Option, None, Some, IfSome, List, [], ◌∷◌, ◌++◌, All, cond, inl, inr, refl, sym, subst, ap, ◌∙◌, arith, drop, length, length-set, map, get_or, slice_set}
-use Rattle.std.specs.Prelude.{count_by}
-use Rattle.std.specs.List.{Contains}
-use Rattle.std.specs.List.Sorted.{IsStrictlyIncreasing}
-use Rattle.std.specs.Option.{option_to_list}
-use Rattle.std.proofs.lemmas.Bool.{cases_eq, false≢true}
-use Rattle.std.proofs.lemmas.List.{get_or-map, get_or-set_other, get_or-set_same, length-map}
-use Rattle.std.proofs.lemmas.List.Elements.{All-from_get_or, All-get_or, All-head, All-set, All-tail}
-use Rattle.std.proofs.lemmas.List.Kept.{AllPairs-from_increasing}
-use Rattle.std.proofs.lemmas.List.Sums.{get_or-le-sum_by, sum_by-set}
-use Rattle.sj_base.specs.declared.mode.Policy.{Policy}
-use Rattle.sj_base.specs.declared.mode.Policy.TheVariants.{Prio, Ws}
-use Rattle.sj_codelet.specs.Kernel.{Equations}
+use Rattle.sj_board.proofs.Words.{[], ap, arith, BoardBy, Bool, cond, Contains, count_by, Dependencies, done_tasks, drop, Entry, entry_of, Equations, first_task, fits_room, footprint, get_or, has_released, home, inl, inr, is_done, is_entry_of, IsEntry, IsReadyWhereItWaits, IsStrictlyIncreasing, KeepsBoard, length, length-set, List, Machine, map, nat_le, None, Option, option_to_list, Policy, Pooled, Prio, Program, queue, queue_count, queued_tasks, Ready, refl, released_of, slice_set, Some, StandsReleased, State, state, subst, suc, sym, Task, true, without_first_at, without_first_fitting, Worker, Ws, zero, ℕ, ◌++◌, ◌+◌, ◌<◌, ◌↔◌, ◌∙◌, ◌∷◌, ◌≡◌, ◌≢◌, ◌≤◌, ◌⊎◌}
+use Rattle.std.proofs.Common.{IfSome, All}
+use Rattle.std.proofs.lemmas.{Bool.cases_eq, Bool.false≢true, List.get_or-map, List.get_or-set_other, List.get_or-set_same, List.length-map, List.Elements.All-from_get_or, List.Elements.All-get_or, List.Elements.All-head, List.Elements.All-set, List.Elements.All-tail, List.Kept.AllPairs-from_increasing, List.Sums.get_or-le-sum_by, List.Sums.sum_by-set}
 use Rattle.sj_core.proofs.Readiness.{done_tasks-done}
-use Rattle.sj_core.proofs.Words.{Machine, Program, State, Task, Worker, footprint, is_done}
-use Rattle.sj_core.specs.Step.{done_tasks}
-use Rattle.sj_deps.specs.Conflict.{Ready}
-use Rattle.sj_deps.specs.Progress.{Dependencies}
-use Rattle.sj_pool.specs.Entry.{fits_room}
-use Rattle.sj_pool.specs.Pool.{Pooled, first_task, home, queue, queue_count, without_first_at}
-use Rattle.sj_pool.specs.Queue.{without_first_fitting}
-use Rattle.sj_pool.specs.declared.entry.Entry.{Entry}
-use Rattle.sj_board.specs.Standing.{state}
-use Rattle.sj_board.specs.Board.{BoardBy, has_released, released_of}
-use Rattle.sj_board.specs.BoardSound.{IsEntry, KeepsBoard, StandsReleased, is_entry_of}
-use Rattle.sj_board.specs.Claimable.{IsReadyWhereItWaits}
-use Rattle.sj_board.specs.Filling.{entry_of}
-use Rattle.sj_board.specs.Released.{queued_tasks}
-use Rattle.sj_board.proofs.Policies.{other-left, other-pool, other-released}
-use Rattle.sj_board.proofs.Pooling.{count-cons, times_in}
+use Rattle.sj_board.proofs.{Policies.other-left, Policies.other-pool, Policies.other-released, Pooling.count-cons, Pooling.times_in}
 
 -- the most bytes that a number has room for
 abbrev pub most : ℕ

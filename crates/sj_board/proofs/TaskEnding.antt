@@ -1,49 +1,9 @@
 -- A board stays sound where a task ends, and the tasks that become ready go to the pool.
-use Rattle.std.proofs.Common.{◌≡◌, ◌≢◌, ℕ, suc, ◌+◌, ◌<◌, ◌≤◌, ◌⊎◌, ◌↔◌, true, false, IsTrue, nat_eq, Option, Some, None, List, [], ◌∷◌, ◌++◌, All, cond, inl, inr, refl, sym, subst, ap, ◌∙◌, arith, length, length-set, slice_set, is_some, map, get_or}
-use Rattle.std.specs.Prelude.{AllPairs}
-use Rattle.std.specs.List.{Contains}
-use Rattle.std.proofs.lemmas.Bool.{cases_eq, cases_lt, false≢true}
-use Rattle.std.proofs.lemmas.List.{get_or-map, length-map}
-use Rattle.std.proofs.lemmas.List.Elements.{All-contains_itself, All-from_get_or, All-get_or, Contains-append_cases, Contains-append_left, Contains-append_right}
-use Rattle.std.proofs.lemmas.List.Kept.{AllPairs-from_increasing}
-use Rattle.std.proofs.lemmas.List.Sums.{get_or-le-sum_by}
-use Rattle.std.proofs.lemmas.Option.{none-some}
-use Rattle.sj_base.specs.declared.mode.Policy.{Policy}
-use Rattle.sj_base.specs.declared.mode.Policy.TheVariants.{Prio, Ws}
-use Rattle.sj_base.specs.declared.trace.Event.TheVariants.{End}
-use Rattle.sj_codelet.specs.Kernel.{Equations}
-use Rattle.sj_core.proofs.Advancing.{Advances, Ends-advances, same_task, task_of-worker}
-use Rattle.sj_core.proofs.Readiness.{Ready-earlier, Ready-from, done_tasks-done, done_tasks-has}
-use Rattle.sj_core.proofs.Reading.{progress-inside}
-use Rattle.sj_core.proofs.States.{state_of-more}
-use Rattle.sj_core.proofs.Words.{Machine, Program, State, Task, Worker, done_in, is_done, is_task_of, progress}
-use Rattle.sj_core.specs.Coherent.{is_begun}
-use Rattle.sj_core.specs.Legal.{IsComplete}
-use Rattle.sj_core.specs.Step.{EarlierAreDone, after, done_tasks}
-use Rattle.sj_core.specs.declared.progress.Progress.{Progress}
-use Rattle.sj_core.specs.declared.progress.Progress.TheVariants.{Claimed, Done, Running, Waiting}
-use Rattle.sj_deps.specs.Conflict.{Ready}
-use Rattle.sj_deps.specs.Progress.{Dependencies, after_done}
-use Rattle.sj_pool.specs.Pool.{Pooled, queue_count}
-use Rattle.sj_machine.specs.ReadyTasks.{IsToBeTaken}
-use Rattle.sj_board.specs.Delivery.{IsGift}
-use Rattle.sj_board.specs.Sound.{IsSoundRun}
-use Rattle.sj_base.specs.Array.{Array}
-use Rattle.sj_board.specs.Standing.{CanHappen, StandingBy, state, with_event}
-use Rattle.sj_board.proofs.Stepping.{not-complete, ready-counted, ready-same}
-use Rattle.sj_board.specs.Board.{BoardBy, HasTakenReleased, IsWorking, board_state, hand_in, hand_of, has_ended, released_of}
-use Rattle.sj_board.specs.BoardSound.{HandsAgree, HasBecomeReady, KeepsBoard, StandsOnce, StandsReleased, StopsAtTheEnd, times_given, times_pooled}
-use Rattle.sj_board.specs.Delivered.{handed}
-use Rattle.sj_board.specs.Filling.{CanPutEach, with_each}
-use Rattle.sj_board.specs.Released.{queued_tasks}
-use Rattle.sj_board.specs.Releasing.{AreReleased, BecomeReady, EndsTask, Releases}
-use Rattle.sj_board.specs.declared.hand.Hand.{Hand}
-use Rattle.sj_board.proofs.PoolFilling.{IsFilled, among-cons, fill, times_among}
-use Rattle.sj_board.proofs.Hands.{given-same, hand-set, hand-set_apart, pool_for-same, inside-hands}
-use Rattle.sj_board.proofs.LastHeaders.{ended-cause}
-use Rattle.sj_board.proofs.Policies.{by-policy, other-pool, other-released}
-use Rattle.sj_board.proofs.ReleasedTasks.{by-number, own-tasks}
-use Rattle.sj_board.proofs.Starting.{running-waits}
+use Rattle.sj_board.proofs.Words.{[], after, after_done, AllPairs, ap, AreReleased, arith, Array, BecomeReady, board_state, BoardBy, CanHappen, CanPutEach, Claimed, cond, Contains, Dependencies, Done, done_in, done_tasks, EarlierAreDone, End, EndsTask, Equations, false, get_or, Hand, hand_in, hand_of, handed, HandsAgree, has_ended, HasBecomeReady, HasTakenReleased, inl, inr, is_begun, is_done, is_some, is_task_of, IsComplete, IsGift, IsSoundRun, IsToBeTaken, IsTrue, IsWorking, KeepsBoard, length, length-set, List, Machine, map, nat_eq, None, Option, Policy, Pooled, Prio, Program, Progress, progress, queue_count, queued_tasks, Ready, refl, released_of, Releases, Running, slice_set, Some, StandingBy, StandsOnce, StandsReleased, State, state, StopsAtTheEnd, subst, suc, sym, Task, times_given, times_pooled, true, Waiting, with_each, with_event, Worker, Ws, ℕ, ◌++◌, ◌+◌, ◌<◌, ◌↔◌, ◌∙◌, ◌∷◌, ◌≡◌, ◌≢◌, ◌≤◌, ◌⊎◌}
+use Rattle.std.proofs.Common.{All}
+use Rattle.std.proofs.lemmas.{Bool.cases_eq, Bool.cases_lt, Bool.false≢true, List.get_or-map, List.length-map, List.Elements.All-contains_itself, List.Elements.All-from_get_or, List.Elements.All-get_or, List.Elements.Contains-append_cases, List.Elements.Contains-append_left, List.Elements.Contains-append_right, List.Kept.AllPairs-from_increasing, List.Sums.get_or-le-sum_by, Option.none-some}
+use Rattle.sj_core.proofs.{Advancing.Advances, Advancing.Ends-advances, Advancing.same_task, Advancing.task_of-worker, Readiness.done_tasks-done, Readiness.done_tasks-has, Readiness.Ready-earlier, Readiness.Ready-from, Reading.progress-inside, States.state_of-more}
+use Rattle.sj_board.proofs.{Hands.given-same, Hands.hand-set, Hands.hand-set_apart, Hands.inside-hands, Hands.pool_for-same, LastHeaders.ended-cause, Policies.by-policy, Policies.other-pool, Policies.other-released, PoolFilling.among-cons, PoolFilling.fill, PoolFilling.IsFilled, PoolFilling.times_among, ReleasedTasks.by-number, ReleasedTasks.own-tasks, Starting.running-waits, Stepping.not-complete, Stepping.ready-counted, Stepping.ready-same}
 
 -- ---- how often a task is in a list
 

@@ -1,15 +1,8 @@
 -- The tiles of cells at nodes after some were written, and when they are still those of a state.
-use Rattle.std.proofs.Common.{◌≡◌, ◌≢◌, ◌<◌, ◌⊎◌, ℕ, zero, suc, false, List, [], ◌∷◌, Option, None, ◌∙◌, ap, arith, get_or, is_some, length, refl, subst, sym}
-use Rattle.std.specs.Prelude.{All, IfSome}
-use Rattle.std.proofs.lemmas.List.{get_or-set_other, get_or-set_same, length-map, length-set}
-use Rattle.std.proofs.lemmas.List.Elements.{All-get_or, All-set}
+use Rattle.sj_board.proofs.Words.{[], All, all_out, ap, arith, Array, Arrays, AtNode, Cell, dims_of, false, get_or, HasTiles, IfSome, is_being_written, is_some, is_valid, length, List, Machine, mark, Node, None, Option, Program, refl, State, subst, suc, sym, tile_at, tile_in, tiles_of, with_tile, with_tiles_of, zero, ℕ, ◌<◌, ◌∙◌, ◌∷◌, ◌≡◌, ◌≢◌, ◌⊎◌}
+use Rattle.std.proofs.lemmas.{List.get_or-set_other, List.get_or-set_same, List.length-map, List.length-set, List.Elements.All-get_or, List.Elements.All-set}
 use Rattle.sj_base.proofs.SameIds.{other_node}
-use Rattle.sj_core.proofs.Words.{Array, AtNode, Cell, Machine, Node, Program, State, dims_of, is_valid, mark}
-use Rattle.sj_core.proofs.Placing.{cells_differ}
-use Rattle.sj_core.proofs.Reading.{same_node}
-use Rattle.sj_core.specs.Arrays.{Arrays}
-use Rattle.sj_core.specs.Coherent.{is_being_written}
-use Rattle.sj_board.specs.Tiles.{HasTiles, all_out, tile_at, tile_in, tiles_of, with_tile, with_tiles_of}
+use Rattle.sj_core.proofs.{Placing.cells_differ, Reading.same_node}
 
 -- a place for each node
 abbrev pub Places : Type 0

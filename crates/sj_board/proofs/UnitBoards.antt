@@ -1,35 +1,7 @@
 -- A board stays sound where a worker takes a unit, and where it puts it back.
-use Rattle.std.proofs.Common.{◌≡◌, ℕ, ◌+◌, ◌<◌, true, false, IsTrue, Option, Some, None, List, refl, sym, subst, ap, ◌∙◌, length, length-set, slice_set, is_some, ◌⊎◌}
-use Rattle.std.specs.Prelude.{IfSome, OnOk, Result, Ok, Err}
-use Rattle.sj_base.specs.Array.{Array}
-use Rattle.sj_base.specs.declared.ids.Task.{Task}
-use Rattle.sj_codelet.specs.Kernel.{Equations}
-use Rattle.sj_core.proofs.Words.{Cell, State, Worker, is_task_of, progress, transfer}
-use Rattle.sj_core.specs.declared.progress.Transfer.{Transfer}
-use Rattle.sj_core.specs.Legal.{IsComplete}
-use Rattle.sj_deps.specs.Progress.{Dependencies}
-use Rattle.sj_edge.specs.GivenBack.{AreGivenBack}
+use Rattle.sj_board.proofs.Words.{ap, AreGivenBack, Array, board_state, BoardBy, Cell, Dependencies, DiskRefusal, Equations, Err, extent_of, false, GivesUnitBack, Hand, hand_in, hand_of, has_back, has_taken, HasFetchedMoved, HasStoredMoved, IfSome, is_out, is_some, is_task_of, IsComplete, IsFetching, IsMovingOut, IsTaken, IsTileMoved, IsTileOf, IsTrue, IsUnitOf, IsWorkedOn, KeepsBoard, LendingState, length, length-set, lent, List, None, Ok, OnlyDisksChange, OnOk, Option, OthersKeepUnits, Pooled, progress, refl, Result, RunFault, slice_set, Some, StandingBy, State, state, subst, sym, TakesUnit, Task, times_pooled, Transfer, transfer, true, unit_in_hand, UnitFetches, UnitsStand, UnitState, UnitStores, with_hand, Worker, ℕ, ◌+◌, ◌<◌, ◌∙◌, ◌≡◌, ◌⊎◌}
 use Rattle.sj_edge.proofs.GivenBackLemmas.{all_given_back-untouched, all_untouched-same}
-use Rattle.sj_disk.specs.declared.refusal.DiskRefusal.{DiskRefusal}
-use Rattle.sj_disk.specs.Directory.{extent_of}
-use Rattle.sj_disk.specs.Lending.{IsTaken, LendingState, has_back}
-use Rattle.sj_disk.specs.Rack.{is_out}
-use Rattle.sj_disk.specs.Units.{IsWorkedOn, UnitFetches, UnitState, UnitStores}
-use Rattle.sj_pool.specs.Pool.{Pooled}
-use Rattle.sj_board.specs.Sound.{OnlyDisksChange}
-use Rattle.sj_board.specs.Standing.{IsFetching, IsMovingOut, IsTileMoved, IsTileOf, StandingBy, state}
-use Rattle.sj_board.specs.DiskUnits.{HasFetchedMoved, HasStoredMoved, IsUnitOf, TakesUnit, lent}
-use Rattle.sj_board.specs.declared.fault.RunFault.{RunFault}
-use Rattle.sj_board.proofs.Storing.{some-if}
-use Rattle.sj_board.proofs.UnitPuts.{same-back}
-use Rattle.sj_board.specs.Board.{BoardBy, GivesUnitBack, board_state, hand_in, hand_of, has_taken, with_hand}
-use Rattle.sj_board.specs.BoardSound.{KeepsBoard, times_pooled}
-use Rattle.sj_board.specs.Units.{OthersKeepUnits, UnitsStand, unit_in_hand}
-use Rattle.sj_board.specs.declared.hand.Hand.{Hand}
-use Rattle.sj_board.proofs.Boarding.{keeps-disks}
-use Rattle.sj_board.proofs.Hands.{given-same, hand-set, pool_for-same, stands-same}
-use Rattle.sj_board.proofs.ReleasedTasks.{released-hands}
-use Rattle.sj_board.proofs.UnitHands.{others-keep, units-back, units-taken}
+use Rattle.sj_board.proofs.{Boarding.keeps-disks, Hands.given-same, Hands.hand-set, Hands.pool_for-same, Hands.stands-same, ReleasedTasks.released-hands, Storing.some-if, UnitHands.others-keep, UnitHands.units-back, UnitHands.units-taken, UnitPuts.same-back}
 
 -- a worker's unit is no matter of what a board keeps beside
 keeps-unit : {D : Type 0} {eq : Equations} (faults mismatches : D → ℕ) (held : D → Option (List ℕ)) (b : BoardBy eq D) (deps : Dependencies) (footprints : List ℕ) (w : Worker) (unit : Option Cell) → w.0 < length b.hands → KeepsBoard faults mismatches held b deps footprints → KeepsBoard faults mismatches held (with_hand b w (record (hand_of b w) { unit = unit })) deps footprints

@@ -1,26 +1,7 @@
 -- The disks in workers' hands: what is in hand is out, and only that.
-use Rattle.std.proofs.Common.{◌≡◌, ◌≢◌, ℕ, zero, suc, ◌<◌, Bool, true, false, List, [], ◌∷◌, Option, Some, None, inl, inr, ◌⊎◌, refl, sym, ap, ◌∙◌, subst, arith, length, get_or, set, slice_get, slice_set, replicate}
-use Rattle.std.specs.Prelude.{All, IfSome, IsSomeAnd, OnErr, OnOk, Ok, Err, Result, option_and_then, option_map}
-use Rattle.std.proofs.lemmas.Bool.{cases_eq, cases_lt, false≢true}
-use Rattle.std.proofs.lemmas.List.{get_or-replicate, get_or-set_other, get_or-set_same, get_or_past, length-replicate, length-set}
-use Rattle.std.proofs.lemmas.List.Elements.{All-get_or}
-use Rattle.sj_base.specs.declared.trace.Event.{Event}
-use Rattle.sj_base.specs.declared.trace.Event.TheVariants.{Moved}
-use Rattle.sj_codelet.specs.Kernel.{Equations}
-use Rattle.sj_core.proofs.Words.{Cell, Program, Worker, transfer}
-use Rattle.sj_core.specs.declared.progress.Transfer.{Transfer}
-use Rattle.sj_disk.specs.declared.directory.Extent.{Extent}
-use Rattle.sj_disk.specs.Directory.{DiskState, extent_of}
-use Rattle.sj_disk.specs.Lending.{NoneIsOut}
-use Rattle.sj_disk.specs.Rack.{is_out}
-use Rattle.sj_disk.specs.Units.{UnitState, unit_state}
-use Rattle.sj_board.specs.Standing.{HasMoved, StandingBy, state, with_event}
-use Rattle.sj_board.specs.DiskUnits.{lent}
-use Rattle.sj_board.specs.Board.{empty_hand, hand_in}
-use Rattle.sj_board.specs.Preparing.{first_hands}
-use Rattle.sj_board.specs.Units.{IsInHand, UnitsStand, unit_at}
-use Rattle.sj_board.specs.declared.hand.Hand.{Hand}
-use Rattle.std.proofs.lemmas.Option.{same_Some, none-some}
+use Rattle.sj_board.proofs.Words.{[], All, ap, arith, Bool, Cell, DiskState, empty_hand, Equations, Err, Event, Extent, extent_of, false, first_hands, get_or, Hand, hand_in, HasMoved, IfSome, inl, inr, is_out, IsInHand, IsSomeAnd, length, lent, List, Moved, None, NoneIsOut, Ok, OnErr, OnOk, Option, option_and_then, option_map, Program, refl, replicate, Result, set, slice_set, Some, StandingBy, state, subst, suc, sym, Transfer, transfer, true, unit_at, unit_state, UnitsStand, UnitState, with_event, Worker, zero, ℕ, ◌<◌, ◌∙◌, ◌∷◌, ◌≡◌, ◌≢◌, ◌⊎◌}
+use Rattle.std.proofs.Common.{slice_get}
+use Rattle.std.proofs.lemmas.{Bool.cases_eq, Bool.cases_lt, Bool.false≢true, List.get_or-replicate, List.get_or-set_other, List.get_or-set_same, List.get_or_past, List.length-replicate, List.length-set, List.Elements.All-get_or, Option.none-some, Option.same_Some}
 
 -- ---- where no unit is taken or put
 

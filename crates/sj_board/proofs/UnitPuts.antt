@@ -1,32 +1,10 @@
 -- A unit that a worker takes for its move, works on and puts back: the run holds what it held, and what was stored or fetched.
-use Rattle.std.proofs.Common.{◌≡◌, ℕ, Bool, true, false, List, Option, Some, inl, inr, refl, sym, ap, ◌∙◌, subst, length, map, slice_set}
-use Rattle.std.specs.Prelude.{IfErr, IfSome, IsSome, IsSomeAnd, OnOk, Result, Ok, Err}
-use Rattle.sj_base.specs.Array.{Array, area}
-use Rattle.sj_base.proofs.Options.{IfSome-at, IfSome-from, IsSomeAnd-at}
-use Rattle.sj_codelet.specs.Kernel.{Equations}
-use Rattle.sj_core.specs.declared.progress.Transfer.{Transfer}
-use Rattle.sj_core.proofs.Words.{Cell, DiskNo, OnDisk, Place, Worker, dims_of, has_copy, transfer, writes}
-use Rattle.sj_core.specs.Step.{a_transfer, disk_of}
-use Rattle.sj_edge.specs.GivenBack.{AreGivenBack}
-use Rattle.sj_disk.specs.declared.directory.Extent.{Extent}
-use Rattle.sj_disk.specs.declared.refusal.DiskRefusal.{DiskRefusal}
-use Rattle.sj_disk.specs.Calls.{Fetches, Stores}
-use Rattle.sj_disk.specs.Directory.{IsLaidOut, extent_of, last_store}
-use Rattle.sj_disk.specs.Lending.{ComesFrom, HasFetched, HasStored, IsTaken, LendingState, TakesOut, has_back}
-use Rattle.sj_disk.specs.Units.{IsWorkedOn, UnitFetches, UnitState, UnitStores}
-use Rattle.sj_machine.specs.Rows.{Rows}
-use Rattle.sj_board.specs.Cause.{HasCause}
-use Rattle.sj_board.specs.Counts.{AreCounted, fault_of}
-use Rattle.sj_board.specs.Sound.{IsStored, IsWrittenOut, Keeps}
-use Rattle.sj_board.specs.Standing.{IsFetching, IsMovingOut, IsTileMoved, IsTileOf, StandingBy, is_node, state}
-use Rattle.sj_board.specs.DiskUnits.{HasBlockOf, HasFetchedMoved, HasStoredMoved, IsDiskMove, IsUnitOf, TakesUnit, lent}
+use Rattle.sj_board.proofs.Words.{a_transfer, ap, area, AreCounted, AreGivenBack, Array, Bool, Cell, ComesFrom, dims_of, disk_of, DiskNo, DiskRefusal, Equations, Err, Extent, extent_of, false, fault_of, Fetches, has_back, has_copy, HasBlockOf, HasCause, HasFetched, HasFetchedMoved, HasStored, HasStoredMoved, IfErr, IfSome, inl, inr, is_node, IsDiskMove, IsFetching, IsLaidOut, IsMovingOut, IsSome, IsSomeAnd, IsStored, IsTaken, IsTileMoved, IsTileOf, IsUnitOf, IsWorkedOn, IsWrittenOut, Keeps, last_store, LendingState, length, lent, List, map, Ok, OnDisk, OnOk, Option, Place, refl, Result, Rows, slice_set, Some, StandingBy, state, Stores, subst, sym, TakesOut, TakesUnit, Transfer, transfer, true, UnitFetches, UnitState, UnitStores, Worker, writes, ℕ, ◌∙◌, ◌≡◌}
+use Rattle.sj_base.proofs.{Lists.set-slice_get, Options.IfSome-at, Options.IfSome-from, Options.IsSomeAnd-at}
 use Rattle.sj_core.proofs.Placing.{home-is}
-use Rattle.sj_board.proofs.Keeping.{copy-on_disk}
-use Rattle.sj_board.proofs.DiskCounts.{fetches-cause, fetches-counted, stores-cause, stores-counted}
-use Rattle.sj_board.proofs.Storing.{OnOk-from, at-place, extent, fetch-last, fetched-well, keeps-fetched, keeps-stored, stored-well}
+use Rattle.sj_board.proofs.{DiskCounts.fetches-cause, DiskCounts.fetches-counted, DiskCounts.stores-cause, DiskCounts.stores-counted, Keeping.copy-on_disk, Storing.at-place, Storing.extent, Storing.fetch-last, Storing.fetched-well, Storing.keeps-fetched, Storing.keeps-stored, Storing.OnOk-from, Storing.stored-well}
 use Rattle.std.proofs.lemmas.Option.{same_Some}
 use Rattle.sj_disk.proofs.Returning.{extent-stays}
-use Rattle.sj_base.proofs.Lists.{set-slice_get}
 
 -- which disks are out is no matter of what a run keeps
 pub keeps-out : {D : Type 0} {eq : Equations} (size faults mismatches : D → ℕ) (held : D → Option (List ℕ)) (b : StandingBy eq D) (rows : Rows) (tiles : List (List (Option Array))) (spare : ℕ) (out : List Bool) → Keeps size faults mismatches held b rows tiles spare → Keeps size faults mismatches held (record b { out = out }) rows tiles spare

@@ -1,24 +1,6 @@
 -- A worker's next step, for which it waits while another has the disk in hand that it needs.
-use Rattle.std.proofs.Common.{◌≡◌, ◌&&◌, ◌⊎◌, ◌∙◌, Bool, true, false, Option, None, Some, ap, inl, inr, not, refl, subst, sym}
-use Rattle.std.specs.Prelude.{IfSome, IsSomeAnd, MatchBool, MatchOption, if◌then◌else◌}
-use Rattle.std.proofs.lemmas.Bool.{false≢true}
-use Rattle.sj_codelet.specs.Kernel.{Equations}
-use Rattle.sj_core.proofs.Words.{AtNode, Cell, DiskNo, Machine, OnDisk, Place, Program, State, Task, Worker, node_of, writes}
-use Rattle.sj_core.specs.Step.{disk_of, is_elsewhere, is_read, source_of}
-use Rattle.sj_disk.specs.declared.directory.Extent.{Extent}
-use Rattle.sj_disk.specs.Directory.{extent_of}
-use Rattle.sj_disk.specs.Lending.{IsInFor}
-use Rattle.sj_disk.specs.Rack.{is_out}
-use Rattle.sj_board.specs.Standing.{is_node, state}
-use Rattle.sj_board.specs.NextStep.{AnotherGoesOn, Brings, Evicts, IsNext, IsStepFor, is_out_for, needs_disk_out}
-use Rattle.sj_machine.specs.Choosing.{may_run, next_cell, next_victim}
-use Rattle.sj_board.specs.DiskUnits.{lent}
-use Rattle.sj_board.specs.declared.todo.Todo.{Todo}
-use Rattle.sj_board.specs.declared.todo.Todo.TheVariants.{Discard, Nothing, Start, Transfer as TransferNext, Wait}
-use Rattle.sj_board.specs.Board.{BoardBy, hand_of}
-use Rattle.sj_board.specs.Todo.{CanBegin, HasDiskIn, IsCounted, IsMoverOf, IsTodoOf}
-use Rattle.sj_board.specs.Units.{AnotherHasUnit, UnitsStand}
-use Rattle.std.proofs.lemmas.Option.{none-some}
+use Rattle.sj_board.proofs.Words.{AnotherGoesOn, AnotherHasUnit, ap, AtNode, BoardBy, Bool, Brings, CanBegin, Cell, Discard, disk_of, DiskNo, Equations, Evicts, Extent, extent_of, false, hand_of, HasDiskIn, IfSome, if◌then◌else◌, inl, inr, is_elsewhere, is_node, is_out, is_out_for, is_read, IsCounted, IsInFor, IsMoverOf, IsNext, IsSomeAnd, IsStepFor, IsTodoOf, lent, Machine, MatchBool, MatchOption, may_run, needs_disk_out, next_cell, next_victim, node_of, None, not, Nothing, OnDisk, Option, Place, Program, refl, Some, source_of, Start, State, state, subst, sym, Task, Todo, TransferNext, true, UnitsStand, Wait, Worker, writes, ◌&&◌, ◌∙◌, ◌≡◌, ◌⊎◌}
+use Rattle.std.proofs.lemmas.{Bool.false≢true, Option.none-some}
 
 -- what is so of each kind of step is so of the next one
 next-case : (P : Todo → Type 0) → P Wait → P Start → ((c : Cell) → P (Discard c)) → (p : Program) (m : Machine) (s : State) (t : Task) (w : Worker) → ((c : Cell) (from to : Place) → P (TransferNext c from to (writes s c))) → (todo : Todo) → IsNext p m s t w todo → P todo
@@ -52,10 +34,6 @@ next-case P waits starts discards p m s t w transfers todo next = by_victim (nex
     by_victim None is = by_cell (next_cell p m s t w) is
     by_victim (Some c) is = by_copies c (is_elsewhere s c (node_of m w)) is
 
--- for a claimed task there is a step
-not-nothing : (p : Program) (m : Machine) (s : State) (t : Task) (w : Worker) (todo : Todo) → IsNext p m s t w todo → todo ≡ Nothing → ⊥
-not-nothing p m s t w todo next = next-case (λ x. x ≡ Nothing → ⊥) (λ e. (let clash : Wait ≡ Nothing = e in cc)) (λ e. (let clash : Start ≡ Nothing = e in cc)) (λ c e. (let clash : Discard c ≡ Nothing = e in cc)) p m s t w (λ c from to e. (let clash : TransferNext c from to (writes s c) ≡ Nothing = e in cc)) todo next
-
 module _ {D : Type 0} {eq : Equations} (b : BoardBy eq D) (w : Worker) (t : Task) (has : (hand_of b w).task ≡ Some t) (first todo : Todo) (next : IsNext b.run.program b.run.machine (state b.run) t w first) (or_waits : todo ≡ (if needs_disk_out b.run first then Wait else first)) where
   -- it is the step itself, or to wait
   which : (out : Bool) → needs_disk_out b.run first ≡ out → todo ≡ (if out then Wait else first)
@@ -70,9 +48,6 @@ module _ {D : Type 0} {eq : Equations} (b : BoardBy eq D) (w : Worker) (t : Task
 
   pub step-todo : IsTodoOf b w todo
   step-todo = subst (λ (o : Option Task). MatchOption o (todo ≡ Nothing) (λ u. IsStepFor b.run u w todo)) (sym has) (record { first = first; next = next; or_waits = or_waits })
-
-  pub step-some : todo ≡ Nothing → ⊥
-  step-some e = by-step (λ x. x ≡ Nothing → ⊥) (λ k. (let clash : Wait ≡ Nothing = k in cc)) (not-nothing b.run.program b.run.machine (state b.run) t w first next) e
 
   pub step-can : CanBegin b w first → CanBegin b w todo
   step-can can = by-step (CanBegin b w) tt can

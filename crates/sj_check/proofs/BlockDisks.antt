@@ -1,14 +1,6 @@
 -- The disks of blocks, one cell after another.
-use Rattle.std.proofs.Common.{◌≡◌, ℕ, ◌+◌, ◌<◌, ◌≤◌, ◌++◌, ◌∙◌, List, [], ◌∷◌, None, Option, Some, add-one, ap, drop, drop-cons, get_or, length, map, refl, suc, sym}
-use Rattle.std.proofs.lemmas.List.{append-nil, append_assoc, drop_all}
-use Rattle.std.proofs.lemmas.Option.{slice_get-map}
-use Rattle.std.specs.Prelude.{option_and_then, option_map, slice_get, slice_set, unwrap_or}
-use Rattle.sj_base.specs.declared.ids.DiskNo.{DiskNo}
-use Rattle.sj_base.specs.declared.program.CellInfo.{CellInfo}
-use Rattle.sj_base.specs.declared.program.Machine.{Machine}
-use Rattle.sj_base.specs.declared.program.Program.{Program}
-use Rattle.sj_core.specs.Needs.{Block, cell_block_bytes, first_fit, place, place_after}
-use Rattle.sj_check.specs.Watching.{AreHomes}
+use Rattle.sj_check.proofs.Words.{[], ap, AreHomes, Block, cell_block_bytes, CellInfo, DiskNo, drop, drop-cons, first_fit, get_or, length, List, Machine, map, None, Option, option_and_then, option_map, place, place_after, Program, refl, slice_get, slice_set, Some, suc, sym, unwrap_or, ℕ, ◌++◌, ◌+◌, ◌<◌, ◌∙◌, ◌∷◌, ◌≡◌, ◌≤◌}
+use Rattle.std.proofs.lemmas.{List.append-nil, List.drop_all, Option.slice_get-map}
 
 -- the disks of the blocks of these cells, behind what is taken
 abbrev pub disks_after : List ℕ → List ℕ → List CellInfo → Option (List DiskNo)
@@ -29,17 +21,6 @@ module _ (sizes taken : List ℕ) (homes : List DiskNo) (cells : List CellInfo) 
   next x inside bytes =
       ap (λ cs. behind homes (disks_after sizes taken cs)) (drop-cons cells i x inside)
       ∙ ap (λ k. behind homes (with_first sizes taken k (drop (suc i) cells) (first_fit sizes taken k))) (sym bytes)
-
-  -- the block of the next cell has its disk
-  pub homes-next : (x : CellInfo) → i < length cells → need ≡ cell_block_bytes (get_or cells i x) → (d : ℕ) → first_fit sizes taken need ≡ Some d → behind homes (disks_after sizes taken (drop i cells)) ≡ behind (homes ++ (record { 0 = d }) ∷ []) (disks_after sizes (slice_set taken d (get_or taken d 0 + need)) (drop (i + 1) cells))
-  homes-next x inside bytes d fits =
-      next x inside bytes ∙ ap (λ o. behind homes (with_first sizes taken need (drop (suc i) cells) o)) fits
-      ∙ by_rest (place_after sizes (slice_set taken d (get_or taken d 0 + need)) (drop (suc i) cells))
-      ∙ ap (λ n. behind (homes ++ (record { 0 = d }) ∷ []) (disks_after sizes (slice_set taken d (get_or taken d 0 + need)) (drop n cells))) (sym (add-one i))
-    where
-      by_rest : (o : Option (List Block)) → behind homes (option_map (map (λ b. b.disk)) (option_map (λ blocks. (record { disk = record { 0 = d }; position = get_or taken d 0 }) ∷ blocks) o)) ≡ behind (homes ++ (record { 0 = d }) ∷ []) (option_map (map (λ b. b.disk)) o)
-      by_rest None = refl
-      by_rest (Some blocks) = ap Some (sym (append_assoc homes ((record { 0 = d }) ∷ []) (map (λ (b : Block). b.disk) blocks)))
 
   -- it fits nowhere
   pub homes-none : (x : CellInfo) → i < length cells → need ≡ cell_block_bytes (get_or cells i x) → first_fit sizes taken need ≡ None → behind homes (disks_after sizes taken (drop i cells)) ≡ None

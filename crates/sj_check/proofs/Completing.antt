@@ -1,12 +1,6 @@
 -- All tasks are done where each of them is.
-use Rattle.std.proofs.Common.{◌≡◌, ℕ, ◌+◌, ◌<◌, ◌≤◌, ◌∙◌, true, false, ap, arith, inl, inr, length, sym}
-use Rattle.std.proofs.lemmas.Bool.{cases_eq, false≢true}
-use Rattle.std.proofs.lemmas.List.Elements.{All-from_get_or}
-use Rattle.std.proofs.lemmas.List.Sums.{AllPass-from_list_all, list_all-from_AllPass}
-use Rattle.sj_core.proofs.Words.{Machine, Program, State, is_done, progress}
-use Rattle.sj_core.specs.Coherent.{Coherent}
-use Rattle.sj_core.specs.Legal.{IsComplete}
-use Rattle.sj_core.specs.declared.progress.Progress.TheVariants.{Waiting}
+use Rattle.sj_check.proofs.Words.{ap, arith, Coherent, false, inl, inr, is_done, IsComplete, length, Machine, Program, progress, State, sym, true, Waiting, ℕ, ◌+◌, ◌<◌, ◌∙◌, ◌≡◌, ◌≤◌}
+use Rattle.std.proofs.lemmas.{Bool.cases_eq, Bool.false≢true, List.Elements.All-from_get_or, List.Sums.AllPass-from_list_all, List.Sums.list_all-from_AllPass}
 
 -- the tasks below a number are done
 abbrev pub AreDone : State → ℕ → Type 0

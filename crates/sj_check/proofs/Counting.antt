@@ -1,18 +1,7 @@
 -- The dependencies count the tasks that are done: which tasks are ready, and what is counted as one task goes on.
-use Rattle.std.proofs.Common.{◌↔◌, ◌++◌, ◌∷◌, ◌≡◌, ◌∙◌, Contains, [], ap, arith, false, inl, inr, subst, sym, true, ℕ, ◌<◌}
-use Rattle.std.proofs.lemmas.Bool.{false≢true}
-use Rattle.std.proofs.lemmas.List.Elements.{Contains-append_left, Contains-append_right, Contains-push_cases}
-use Rattle.sj_core.proofs.Advancing.{Advances, same_task}
-use Rattle.sj_core.proofs.Readiness.{done_tasks-done, done_tasks-has}
-use Rattle.sj_core.proofs.Reading.{progress-inside}
-use Rattle.sj_core.proofs.Words.{Machine, Program, State, Task, Worker, done_in, is_done, progress}
-use Rattle.sj_core.specs.declared.progress.Progress.{Progress}
-use Rattle.sj_core.specs.declared.progress.Progress.TheVariants.{Running, Waiting}
-use Rattle.sj_core.specs.Coherent.{Coherent, is_begun}
-use Rattle.sj_core.specs.Step.{done_tasks}
-use Rattle.sj_deps.specs.Conflict.{Ready}
-use Rattle.sj_deps.specs.Progress.{Dependencies, after_done}
-use Rattle.sj_machine.specs.ReadyTasks.{CountsDone}
+use Rattle.sj_check.proofs.Words.{[], after_done, ap, arith, Coherent, Contains, CountsDone, Dependencies, done_in, done_tasks, false, inl, inr, is_begun, is_done, Machine, Program, Progress, progress, Ready, Running, State, subst, sym, Task, true, Waiting, Worker, ℕ, ◌++◌, ◌<◌, ◌↔◌, ◌∙◌, ◌∷◌, ◌≡◌}
+use Rattle.std.proofs.lemmas.{Bool.false≢true, List.Elements.Contains-append_left, List.Elements.Contains-append_right, List.Elements.Contains-push_cases}
+use Rattle.sj_core.proofs.{Advancing.Advances, Advancing.same_task, Readiness.done_tasks-done, Readiness.done_tasks-has, Reading.progress-inside}
 
 ready-same : (p : Program) (done done' : _) (t : ℕ) → ((n : ℕ) → Contains done n ↔ Contains done' n) → Ready p done t → Ready p done' t
 ready-same p done done' t same ready = record {

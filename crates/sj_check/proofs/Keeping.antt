@@ -1,27 +1,9 @@
 -- What is kept beside rows, as an event happens.
-use Rattle.std.proofs.Common.{◌↔◌, ◌≡◌, ◌∙◌, Contains, List, None, Option, Some, [], ap, arith, length, refl, replicate, set, subst, sym, ℕ}
-use Rattle.std.specs.List.{slice_index_or}
-use Rattle.std.proofs.lemmas.Bool.{false≢true}
-use Rattle.std.proofs.lemmas.List.{length-replicate}
+use Rattle.sj_check.proofs.Words.{[], after, after_done, ap, AreHomes, arith, Claim, Claimed, Coherent, Contains, Dependencies, dependencies, DiskNo, Done, done_tasks, End, has_happened, is_done, is_task_of, length, List, Machine, MayHappen, None, opening, Option, Program, Progress, progress, refl, replicate, Rows, rows_at_start, Run, Running, set, slice_index_or, Some, State, subst, sym, Task, Waiting, Watches, Worker, ℕ, ◌↔◌, ◌∙◌, ◌≡◌}
+use Rattle.std.proofs.lemmas.{Bool.false≢true, List.length-replicate}
 use Rattle.sj_base.proofs.Lists.{get_or-replicate_same}
-use Rattle.sj_base.specs.declared.ids.DiskNo.{DiskNo}
-use Rattle.sj_base.specs.declared.ids.Task.{Task}
-use Rattle.sj_base.specs.declared.ids.Worker.{Worker}
-use Rattle.sj_base.specs.declared.program.Machine.{Machine}
-use Rattle.sj_base.specs.declared.program.Program.{Program}
-use Rattle.sj_base.specs.declared.trace.Event.TheVariants.{Claim, End, Run}
-use Rattle.sj_core.proofs.Advancing.{Claims-advances, Ends-advances, Runs-advances}
-use Rattle.sj_core.proofs.Eviction.{evicted-after}
-use Rattle.sj_core.specs.Coherent.{Coherent}
-use Rattle.sj_core.specs.Machine.{State, is_done, is_task_of, opening, progress}
-use Rattle.sj_core.specs.Step.{after, done_tasks}
-use Rattle.sj_core.specs.declared.progress.Progress.{Progress}
-use Rattle.sj_core.specs.declared.progress.Progress.TheVariants.{Claimed, Done, Running, Waiting}
-use Rattle.sj_deps.specs.Progress.{Dependencies, after_done, dependencies}
-use Rattle.sj_machine.specs.Rows.{MayHappen, Rows, has_happened, rows_at_start}
-use Rattle.sj_check.proofs.Counting.{counts-by_task, counts-ended, counts-still}
-use Rattle.sj_check.proofs.Tasks.{tasks-claimed, tasks-still}
-use Rattle.sj_check.specs.Watching.{AreHomes, Watches}
+use Rattle.sj_core.proofs.{Advancing.Claims-advances, Advancing.Ends-advances, Advancing.Runs-advances, Eviction.evicted-after}
+use Rattle.sj_check.proofs.{Counting.counts-by_task, Counting.counts-ended, Counting.counts-still, Tasks.tasks-claimed, Tasks.tasks-still}
 
 module _ (r : Rows) (homes : List DiskNo) (tasks : List (Option Task)) (deps : Dependencies) (watches : Watches r homes tasks deps) (t : Task) (w : Worker) where
   -- a worker without a task claims one

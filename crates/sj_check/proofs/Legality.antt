@@ -1,29 +1,7 @@
 -- When events are legal in a coherent state, by what is asked of the rows.
-use Rattle.std.proofs.Common.{◌≡◌, ◌&&◌, ◌∙◌, Bool, true, false, not, List, [], ◌∷◌, Option, Some, ap, cond, is_some, refl, sym}
-use Rattle.std.specs.List.{find, list_all}
-use Rattle.std.proofs.lemmas.Bool.{false≢true}
-use Rattle.std.proofs.lemmas.Option.{none-some}
-use Rattle.sj_base.specs.declared.ids.Cell.{Cell}
-use Rattle.sj_base.specs.declared.ids.Node.{Node}
-use Rattle.sj_base.specs.declared.ids.Task.{Task}
-use Rattle.sj_base.specs.declared.ids.Worker.{Worker}
-use Rattle.sj_base.specs.declared.program.Machine.{Machine}
-use Rattle.sj_base.specs.declared.program.Program.{Program}
-use Rattle.sj_base.specs.declared.trace.Event.TheVariants.{Claim}
-use Rattle.sj_core.proofs.Advancing.{claimed-is_mine}
-use Rattle.sj_core.proofs.Reading.{settled-at}
-use Rattle.sj_core.proofs.Replicas.{same_worker-refl}
-use Rattle.sj_core.specs.Coherent.{Coherent}
-use Rattle.sj_core.specs.Machine.{State, is_coming_by, is_task_of, mark, progress}
-use Rattle.sj_core.specs.Needs.{node_of}
-use Rattle.sj_core.specs.Operands.{commuting_cells}
-use Rattle.sj_core.specs.Step.{May, is_in_use}
-use Rattle.sj_core.specs.declared.progress.Progress.TheVariants.{Claimed}
-use Rattle.sj_machine.specs.Planning.{IsWhy}
-use Rattle.sj_machine.specs.declared.plan.Why.{Why}
-use Rattle.sj_machine.specs.declared.plan.Why.TheVariants.{Commute, Leaving, NoRoom}
-use Rattle.sj_replica.specs.declared.mark.Mark.TheVariants.{Coming}
-use Rattle.sj_check.specs.Watching.{HasTasks, task_in}
+use Rattle.sj_check.proofs.Words.{[], ap, Bool, Cell, Claim, Claimed, Coherent, Coming, Commute, commuting_cells, cond, false, find, HasTasks, is_coming_by, is_in_use, is_some, is_task_of, IsWhy, Leaving, List, list_all, Machine, mark, May, Node, node_of, NoRoom, not, Option, Program, progress, refl, Some, State, sym, Task, task_in, true, Why, Worker, ◌&&◌, ◌∙◌, ◌∷◌, ◌≡◌}
+use Rattle.std.proofs.lemmas.{Bool.false≢true, Option.none-some}
+use Rattle.sj_core.proofs.{Advancing.claimed-is_mine, Reading.settled-at, Replicas.same_worker-refl}
 
 found-fails : (test : Cell → Bool) (xs : List Cell) (c : Cell) → find test xs ≡ Some c → list_all (λ d. not (test d)) xs ≡ false
 found-fails test [] c e = absurd (none-some c e)

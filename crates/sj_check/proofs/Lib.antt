@@ -5,3 +5,4 @@ pub mod Keeping
 pub mod Legality
 pub mod Tasks
 pub mod Traces
+pub mod Words

@@ -1,15 +1,7 @@
 -- The task that each worker claimed last, as a task goes on; and whether a worker has a task.
-use Rattle.std.proofs.Common.{◌≡◌, ◌≢◌, ◌<◌, ◌∙◌, List, None, Option, Some, ap, arith, false, inl, inr, length, length-set, not, refl, set, sym, true}
-use Rattle.std.proofs.lemmas.Bool.{false_from_ne_true, false≢true}
-use Rattle.std.proofs.lemmas.List.{get_or-set_other, get_or-set_same}
-use Rattle.std.proofs.lemmas.List.Elements.{All-from_get_or}
-use Rattle.std.proofs.lemmas.List.Sums.{list_all-from_AllPass}
-use Rattle.std.proofs.lemmas.Option.{none-some}
+use Rattle.sj_check.proofs.Words.{ap, arith, Claimed, false, HasTasks, inl, inr, is_idle, is_task_of, length, length-set, List, None, not, Option, Program, Progress, progress, refl, set, Some, State, sym, Task, task_in, true, Waiting, Worker, ◌<◌, ◌∙◌, ◌≡◌, ◌≢◌}
+use Rattle.std.proofs.lemmas.{Bool.false_from_ne_true, Bool.false≢true, List.get_or-set_other, List.get_or-set_same, List.Elements.All-from_get_or, List.Sums.list_all-from_AllPass, Option.none-some}
 use Rattle.sj_core.proofs.Advancing.{Advances, idle-has_none, same_task, task_of-worker}
-use Rattle.sj_core.proofs.Words.{Program, State, Task, Worker, is_idle, is_task_of, progress}
-use Rattle.sj_core.specs.declared.progress.Progress.{Progress}
-use Rattle.sj_core.specs.declared.progress.Progress.TheVariants.{Claimed, Waiting}
-use Rattle.sj_check.specs.Watching.{HasTasks, task_in}
 
 module _ (p : Program) (s : State) (tasks : List (Option Task)) (has : HasTasks p s tasks) where
   all-idle : (w : Worker) → ((t : Task) → is_task_of w (progress s t) ≡ false) → is_idle s w ≡ true

@@ -1,19 +1,6 @@
 -- Fronts of legal traces, and the first event with which a trace isn't legal.
-use Rattle.std.proofs.Common.{◌≡◌, ◌+◌, ◌<◌, ◌≤◌, ◌++◌, ◌∷◌, ◌∙◌, List, Some, [], ap, length, suc, subst, sym, take, zero, ℕ}
-use Rattle.std.proofs.lemmas.List.{take_all, take_more}
-use Rattle.std.proofs.lemmas.List.Sums.{fold-append}
-use Rattle.std.proofs.lemmas.Option.{get_or_from_slice_get, slice_get_within}
-use Rattle.std.specs.Prelude.{slice_get}
-use Rattle.sj_base.specs.declared.program.Machine.{Machine}
-use Rattle.sj_base.specs.declared.program.Program.{Program}
-use Rattle.sj_base.specs.declared.trace.Event.{Event}
-use Rattle.sj_core.specs.Laws.{TracesGoOn}
-use Rattle.sj_core.specs.Legal.{CanFollow, IsLegal, state_of}
-use Rattle.sj_core.specs.Machine.{State, opening}
-use Rattle.sj_core.specs.Step.{after}
-use Rattle.sj_machine.specs.Rows.{MayHappen, Rows, has_happened}
-use Rattle.sj_check.specs.Judging.{HappensLegally, IsRefused}
-use Rattle.sj_check.specs.Refusal.{IsFirstBad}
+use Rattle.sj_check.proofs.Words.{[], after, ap, CanFollow, Event, HappensLegally, has_happened, IsFirstBad, IsLegal, IsRefused, length, List, Machine, MayHappen, opening, Program, Rows, slice_get, Some, State, state_of, subst, suc, sym, take, TracesGoOn, zero, ℕ, ◌++◌, ◌+◌, ◌<◌, ◌∙◌, ◌∷◌, ◌≡◌, ◌≤◌}
+use Rattle.std.proofs.lemmas.{List.take_all, List.take_more, List.Sums.fold-append, Option.get_or_from_slice_get, Option.slice_get_within}
 
 -- one more event of a trace
 take-next : (trace : List Event) (i : ℕ) (e : Event) → slice_get trace i ≡ Some e → take (i + 1) trace ≡ take i trace ++ e ∷ []

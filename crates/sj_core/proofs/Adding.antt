@@ -1,26 +1,9 @@
 -- What the tasks of a phase leave: a contribution adds to its worker's copy, and a combine adds the copy to the cell.
-use Rattle.sj_codelet.specs.Kernel.{Equations}
-use Rattle.std.proofs.Common.{Bool, List, Some, nat_eq, suc, arith, [], ap, false, length, map, refl, sym, true, ◌++◌, ◌<◌, ◌∙◌, ◌∷◌, ◌≡◌, ℤ, All}
-use Rattle.std.proofs.Common.{FitsSigned, is_some, if◌then◌else◌, Contains, filter}
-use Rattle.sj_core.proofs.Words.{Access, Array, Dims, Kernel, Least, Plus, Program, R, RW, Reduction, Redux, Task, Worker}
-use Rattle.sj_core.proofs.Words.{cell_info, copy_of, dims_of, found, no_task, task_of, worked_on, zeros}
-use Rattle.std.specs.Int.{w64}
-use Rattle.std.proofs.lemmas.List.Elements.{All-contains, All-get_or}
-use Rattle.sj_base.specs.Mode.{is_in_order, is_redux, is_written, starts_as_zeros, access}
-use Rattle.sj_base.proofs.Bools.{and_middle}
-use Rattle.sj_base.proofs.Lists.{one_is, map-agree}
-use Rattle.sj_codelet.specs.Kernel.{arguments_fit, combine_of, contributes_of, dims_fit, fits}
-use Rattle.sj_codelet.specs.declared.kernel.Kernel.TheVariants.{Add, Lowest}
-use Rattle.std.proofs.lemmas.{Bool.Decides.Decides-eqb}
-use Rattle.sj_codelet.specs.Laws.{DoesContribute, IsCall, IsTile, MakesTiles, combined, result_of}
-use Rattle.sj_core.specs.Proper.{IsCombine, IsContribution, IsPhase, Phase, Proper, task_number}
-use Rattle.sj_core.specs.{Fold.Contents, Fold.after_task, Fold.held_in, Laws.IsLawful}
-use Rattle.sj_core.proofs.Combining.{call-with, combines, contribution, contribution-fills}
-use Rattle.sj_core.proofs.Swapping.{Updates, first_ins, update-call, updated}
-use Rattle.sj_core.proofs.{Copies.copy-bare, Copies.direct-cell}
-use Rattle.sj_core.proofs.{Phases.does_contribute, Phases.kernel-contributes, Phases.reduces, Sized.AreSized, Sized.knows, Sized.task-fits}
+use Rattle.sj_core.proofs.Words.{[], Access, access, Add, after_task, All, ap, arguments_fit, arith, Array, Bool, cell_info, combine_of, combined, Contains, Contents, contributes_of, copy_of, Dims, dims_fit, dims_of, DoesContribute, Equations, false, filter, fits, FitsSigned, found, held_in, if◌then◌else◌, is_in_order, is_redux, is_some, is_written, IsCall, IsCombine, IsContribution, IsLawful, IsPhase, IsTile, Kernel, Least, length, List, Lowest, MakesTiles, map, nat_eq, no_task, Phase, Plus, Program, Proper, R, Reduction, Redux, refl, result_of, RW, Some, starts_as_zeros, suc, sym, Task, task_number, task_of, true, w64, worked_on, Worker, zeros, ℤ, ◌++◌, ◌<◌, ◌∙◌, ◌∷◌, ◌≡◌}
+use Rattle.std.proofs.lemmas.{Bool.Decides.Decides-eqb, List.Elements.All-contains, List.Elements.All-get_or}
+use Rattle.sj_base.proofs.{Bools.and_middle, Lists.map-agree, Lists.one_is}
+use Rattle.sj_core.proofs.{Combining.call-with, Combining.combines, Combining.contribution, Combining.contribution-fills, Copies.copy-bare, Copies.direct-cell, Phases.does_contribute, Phases.kernel-contributes, Phases.reduces, Sized.AreSized, Sized.knows, Sized.task-fits, Sized.worked_on-dims, Swapping.first_ins, Swapping.update-call, Swapping.updated, Swapping.Updates, Updating.updates}
 use Rattle.sj_codelet.proofs.NewArrays.{zeros-tile}
-use Rattle.sj_core.proofs.{Sized.worked_on-dims, Updating.updates}
 
 module _ (eq : Equations) (has : Kernel → Bool) (p : Program) (proper : Proper p) (lawful : IsLawful eq has p) (f : Phase) (phase : IsPhase p f) where
   -- ---- contributions

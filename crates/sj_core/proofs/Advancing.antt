@@ -1,16 +1,7 @@
 -- One step of a task: from waiting to claimed, to running, to done; and that each keeps the order of conflicting tasks.
-use Rattle.std.proofs.Common.{ap, arith, false, inl, inr, length, refl, subst, sym, true, ◌<◌, ◌||◌, ◌∙◌, ◌≡◌, ◌≢◌, ◌⊎◌, IsTrue}
-use Rattle.std.proofs.lemmas.Bool.{cases_eq, cases_lt, false≢true, true≢false, or_cases, not-true}
-use Rattle.std.proofs.lemmas.List.{get_or_past}
-use Rattle.std.proofs.lemmas.List.Sums.{AllPass-from_list_all}
-use Rattle.sj_core.proofs.Words.{Claimed, Done, Machine, Program, Progress, Running, State, Task, Waiting, Worker, cells_of, done_in, has_cell, is_claimed_by, is_done, is_idle, is_running_on, is_task_of, is_waiting, progress, worker_of}
-use Rattle.sj_deps.specs.Conflict.{Conflict}
-use Rattle.sj_core.specs.Coherent.{HasRows, OrderIsKept, SharesCommuting, is_active, is_begun}
-use Rattle.sj_core.specs.Step.{CanClaim, CanRun, EarlierAreDone, after_claim, after_end, after_run}
-use Rattle.sj_core.proofs.Eviction.{evicted_by}
-use Rattle.sj_core.proofs.Readiness.{Ready-earlier}
-use Rattle.sj_core.proofs.Reading.{progress-inside, progress-other, progress-same}
-use Rattle.sj_core.proofs.Replicas.{same_worker-is, same_worker-refl}
+use Rattle.sj_core.proofs.Words.{after_claim, after_end, after_run, ap, arith, CanClaim, CanRun, cells_of, Claimed, Conflict, Done, done_in, EarlierAreDone, false, has_cell, HasRows, inl, inr, is_active, is_begun, is_claimed_by, is_done, is_idle, is_running_on, is_task_of, is_waiting, IsTrue, length, Machine, OrderIsKept, Program, Progress, progress, refl, Running, SharesCommuting, State, subst, sym, Task, true, Waiting, Worker, worker_of, ◌<◌, ◌||◌, ◌∙◌, ◌≡◌, ◌≢◌, ◌⊎◌}
+use Rattle.std.proofs.lemmas.{Bool.cases_eq, Bool.cases_lt, Bool.false≢true, Bool.not-true, Bool.or_cases, Bool.true≢false, List.get_or_past, List.Sums.AllPass-from_list_all}
+use Rattle.sj_core.proofs.{Eviction.evicted_by, Readiness.Ready-earlier, Reading.progress-inside, Reading.progress-other, Reading.progress-same, Replicas.same_worker-is, Replicas.same_worker-refl}
 
 pub same_task : (t u : Task) → (t ≡ u) ⊎ (t ≢ u)
 same_task t u = search (arith, cases_eq)

@@ -1,12 +1,6 @@
 -- Where blocks lie: each cell's on one of the machine's disks, if all fit there.
-use Rattle.std.proofs.Common.{◌≡◌, ℕ, ◌+◌, ◌<◌, true, Option, None, Some, List, [], ◌∷◌, length, set, refl, ap, subst}
-use Rattle.std.proofs.Common.{arith, All, is_some, option_and_then, option_map, slice_get, slice_index_or, zip}
-use Rattle.sj_core.proofs.Words.{Block, Cell, CellInfo, DiskNo, Machine, Program, cell_block_bytes, first_fit, place}
-use Rattle.sj_core.proofs.Words.{place_after}
-use Rattle.std.proofs.lemmas.List.Elements.{All-nil, All-cons}
-use Rattle.std.proofs.lemmas.Option.{slice_get-get_or, slice_get_within, get_or_from_slice_get}
-use Rattle.std.proofs.lemmas.{Bool.false≢true, List.Quantifiers.position-Some, Slice.Zip.length-zip}
-use Rattle.sj_core.specs.{Proper.HasSwapFor, Step.disk_of}
+use Rattle.sj_core.proofs.Words.{[], All, ap, arith, Block, Cell, cell_block_bytes, CellInfo, disk_of, DiskNo, first_fit, HasSwapFor, is_some, length, List, Machine, None, Option, option_and_then, option_map, place, place_after, Program, refl, set, slice_get, slice_index_or, Some, subst, true, zip, ℕ, ◌+◌, ◌<◌, ◌∷◌, ◌≡◌}
+use Rattle.std.proofs.lemmas.{Bool.false≢true, List.Elements.All-cons, List.Elements.All-nil, List.Quantifiers.position-Some, Option.get_or_from_slice_get, Option.slice_get-get_or, Option.slice_get_within, Slice.Zip.length-zip}
 
 -- as many blocks as cells, each on a disk that there is
 abbrev ArePlaced : List ℕ → List CellInfo → List Block → Type 0

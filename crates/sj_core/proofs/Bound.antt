@@ -1,39 +1,8 @@
 -- A legal trace has at most three events for each task of its program and five for each operand.
-use Rattle.std.proofs.Common.{Bool, List, [], ap, arith, cond, false, get_or, length, map, refl, subst, suc, sym, true, fold}
-use Rattle.std.proofs.Common.{zero, ℕ, ◌*◌, ◌+◌, ◌<◌, ◌||◌, ◌∙◌, ◌∷◌, ◌≡◌, ◌≤◌, None, Option, Some, set}
-use Rattle.std.proofs.Common.{slice_set, count_by, nat_eq, nat_le, nat_lt, sum_by, ◌&&◌, if◌then◌else◌, is_some}
-use Rattle.sj_core.proofs.Words.{AtNode, Cell, CellState, Claimed, Coming, DiskNo, Done, Event, Invalid, owned_at, written_once_more, on_disk, stored, arrived, with_row}
-use Rattle.sj_core.proofs.Words.{Leaving, Lowered, Machine, Mark, Node, OnDisk, Place, Program, Progress, Running}
-use Rattle.sj_core.proofs.Words.{State, Task, Transfer, Valid, Waiting, Worker, WorkerState, cell_state, cells_of}
-use Rattle.sj_core.proofs.Words.{data_operands, has_cell, is_entry, is_leaving, is_leaving_by, no_task}
-use Rattle.sj_core.proofs.Words.{node_of, opening, progress, mark, mark_in, same_cell, scratch_bytes, task_of}
-use Rattle.sj_core.proofs.Words.{tasks_of, transfer, victims_of, with_mark, with_transfer}
-use Rattle.sj_core.proofs.Words.{worked_on, worker_of, written_cells}
-use Rattle.std.specs.List.{enumerate_from, range_with_len}
-use Rattle.std.proofs.lemmas.List.{map-id, length-map, get_or_default}
-use Rattle.std.proofs.lemmas.List.FromFn.{fill_by_all, get_or-map-range_with_len, length-map-range_with_len}
-use Rattle.std.proofs.lemmas.List.Sums.{get_or-le-sum_by, sum_by-cons, sum_by-set, count_by-le-length, length-filter}
-use Rattle.std.proofs.lemmas.List.Sums.{sum_by-le-sum_by}
-use Rattle.std.proofs.lemmas.Bool.{false≢true, eq-eqb, ne_eqb}
-use Rattle.std.proofs.lemmas.List.Folds.{Any-from_list_any, sum_by-replicate}
-use Rattle.sj_base.specs.Ids.{cell}
-use Rattle.sj_base.proofs.Bools.{tally, tally-le}
-use Rattle.sj_base.proofs.Lists.{sum_by-map, counted_some}
-use Rattle.sj_core.specs.Step.{claimed_mark, leave, CanClaim, CanDrop, CanMoveIn, CanMoveOut, CanRun, mover_of}
-use Rattle.sj_core.specs.Step.{May, a_transfer, after, after_claim, after_end, after_run, missing}
-use Rattle.sj_core.specs.{Table.renewed, Coherent.IsTransferTo, Coherent.is_begun, Coherent.Coherent, Laws.IsSound}
-use Rattle.sj_core.specs.{Legal.CanFollow, Legal.IsLegal, Legal.state_of, Proper.IsMachineFor, Proper.Proper}
-use Rattle.sj_core.specs.{Bound.HasAtMostThreePerTaskAndFivePerOperand, Bound.operands}
-use Rattle.sj_core.proofs.Sums.{count-numbered, sum-one_more, sum-within, sum-nothing}
-use Rattle.sj_core.proofs.Advancing.{Advances, Ends-advances, Runs-advances, claimed_by-is, same_task}
-use Rattle.sj_core.proofs.Reading.{entry-inside, idle_row, no_row, transfer-inside}
-use Rattle.sj_core.proofs.Replicas.{coming_by-is, leaving-by_some, leaving_by-leaves, leaving_by-valid}
-use Rattle.sj_core.proofs.{CellLists.same_cell-sym, Claiming.claim-advance, Claiming.missing-absent}
-use Rattle.sj_core.proofs.{Claiming.node-inside, Placing.copy-row, Placing.valid-within}
-use Rattle.sj_core.proofs.{TaskCells.written-among_cells, Moving.Ended_moves-keep_coherence, Opening.opening-coherent}
-use Rattle.sj_core.proofs.Replaying.{Step-keeps_coherence, legal-coherent, sound}
-use Rattle.sj_core.proofs.{Eviction.evicted-after, Eviction.evicted_by, Claimed.claimed-inside, Finding.running-inside}
-use Rattle.sj_core.proofs.Words.{Claim, Drop, End, Move, Moved, Run}
+use Rattle.sj_core.proofs.Words.{[], a_transfer, after, after_claim, after_end, after_run, ap, arith, arrived, AtNode, Bool, CanClaim, CanDrop, CanFollow, CanMoveIn, CanMoveOut, CanRun, Cell, cell, cell_state, cells_of, CellState, Claim, Claimed, claimed_mark, Coherent, Coming, cond, count_by, data_operands, DiskNo, Done, Drop, End, enumerate_from, Event, false, fold, get_or, has_cell, HasAtMostThreePerTaskAndFivePerOperand, if◌then◌else◌, Invalid, is_begun, is_entry, is_leaving, is_leaving_by, is_some, IsLegal, IsMachineFor, IsSound, IsTransferTo, leave, Leaving, length, List, Lowered, Machine, map, Mark, mark, mark_in, May, missing, Move, Moved, mover_of, nat_eq, nat_le, nat_lt, no_task, Node, node_of, None, on_disk, OnDisk, opening, operands, Option, owned_at, Place, Program, Progress, progress, Proper, range_with_len, refl, renewed, Run, Running, same_cell, scratch_bytes, set, slice_set, Some, State, state_of, stored, subst, suc, sum_by, sym, Task, task_of, tasks_of, Transfer, transfer, true, Valid, victims_of, Waiting, with_mark, with_row, with_transfer, worked_on, Worker, worker_of, WorkerState, written_cells, written_once_more, zero, ℕ, ◌&&◌, ◌*◌, ◌+◌, ◌<◌, ◌||◌, ◌∙◌, ◌∷◌, ◌≡◌, ◌≤◌}
+use Rattle.std.proofs.lemmas.{Bool.eq-eqb, Bool.false≢true, Bool.ne_eqb, List.get_or_default, List.length-map, List.map-id, List.Folds.Any-from_list_any, List.Folds.sum_by-replicate, List.FromFn.fill_by_all, List.FromFn.get_or-map-range_with_len, List.FromFn.length-map-range_with_len, List.Sums.count_by-le-length, List.Sums.get_or-le-sum_by, List.Sums.length-filter, List.Sums.sum_by-cons, List.Sums.sum_by-le-sum_by, List.Sums.sum_by-set}
+use Rattle.sj_base.proofs.{Bools.tally, Bools.tally-le, Lists.counted_some, Lists.sum_by-map}
+use Rattle.sj_core.proofs.{Advancing.Advances, Advancing.claimed_by-is, Advancing.Ends-advances, Advancing.Runs-advances, Advancing.same_task, CellLists.same_cell-sym, Claimed.claimed-inside, Claiming.claim-advance, Claiming.missing-absent, Claiming.node-inside, Eviction.evicted-after, Eviction.evicted_by, Finding.running-inside, Moving.Ended_moves-keep_coherence, Opening.opening-coherent, Placing.copy-row, Placing.valid-within, Reading.entry-inside, Reading.idle_row, Reading.no_row, Reading.transfer-inside, Replaying.legal-coherent, Replaying.sound, Replaying.Step-keeps_coherence, Replicas.coming_by-is, Replicas.leaving-by_some, Replicas.leaving_by-leaves, Replicas.leaving_by-valid, Sums.count-numbered, Sums.sum-nothing, Sums.sum-one_more, Sums.sum-within, TaskCells.written-among_cells}
 
 -- ---- sums that rise at one element, sums over a table whose rows were renewed, and sums over numbered elements
 

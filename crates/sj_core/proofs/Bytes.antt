@@ -1,18 +1,9 @@
 -- The bytes on a node: sums over its entries, its leaving copies and its workers; a step that brings nothing keeps that
 -- they suffice.
-use Rattle.std.proofs.Common.{Bool, List, ap, arith, cond, length, not, refl, sym, true, ℕ, ◌&&◌, ◌+◌, ◌<◌, ◌∙◌, ◌≡◌}
-use Rattle.std.proofs.Common.{◌≢◌, ◌≤◌, filter, count_by, nat_eq, nat_le, nat_lt, sum_by}
-use Rattle.sj_core.proofs.Words.{Cell, Machine, Node, Program, State, Worker, cells_of_program, has_cell}
-use Rattle.sj_core.proofs.Words.{is_coming_by, is_leaving_by, node_of, order, mark, same_worker, scratch, tile_bytes}
-use Rattle.sj_core.proofs.Words.{workers_at, workers_of, used}
-use Rattle.std.proofs.lemmas.Bool.{and_from, and_parts, false≢true}
-use Rattle.std.proofs.lemmas.{Bool.Decides.Decides-eqb, List.Sums.sum_by-le-sum_by}
-use Rattle.sj_base.proofs.Bools.{tally, tally-le}
-use Rattle.sj_base.proofs.Lists.{sum_by-agree}
-use Rattle.sj_core.specs.Coherent.{IsStateOf, entries_beside, leaving_by, others_at, used_while_leaving}
-use Rattle.sj_core.proofs.CellLists.{has_cell-filter_is, share, sum-once, times, times-filter, times-program}
-use Rattle.sj_core.proofs.Sums.{count-numbered, filter-sum-le, sum-filter, sum-filter-le}
-use Rattle.sj_core.proofs.{Reading.entry-inside, TaskCells.filter-filter}
+use Rattle.sj_core.proofs.Words.{ap, arith, Bool, Cell, cells_of_program, cond, count_by, entries_beside, filter, has_cell, is_coming_by, is_leaving_by, IsStateOf, leaving_by, length, List, Machine, mark, nat_eq, nat_le, nat_lt, Node, node_of, not, order, others_at, Program, refl, same_worker, scratch, State, sum_by, sym, tile_bytes, true, used, used_while_leaving, Worker, workers_at, workers_of, ℕ, ◌&&◌, ◌+◌, ◌<◌, ◌∙◌, ◌≡◌, ◌≢◌, ◌≤◌}
+use Rattle.std.proofs.lemmas.{Bool.and_from, Bool.and_parts, Bool.false≢true, Bool.Decides.Decides-eqb, List.Sums.sum_by-le-sum_by}
+use Rattle.sj_base.proofs.{Bools.tally, Bools.tally-le, Lists.sum_by-agree}
+use Rattle.sj_core.proofs.{CellLists.has_cell-filter_is, CellLists.share, CellLists.sum-once, CellLists.times, CellLists.times-filter, CellLists.times-program, Reading.entry-inside, Sums.count-numbered, Sums.filter-sum-le, Sums.sum-filter, Sums.sum-filter-le, TaskCells.filter-filter}
 
 -- ---- the bytes of the cells that pass a test
 

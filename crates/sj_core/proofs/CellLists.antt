@@ -1,20 +1,9 @@
 -- Lists of cells: which cells an edited list has, how often, and the sum over a list that has each at most once.
-use Rattle.std.proofs.Common.{Bool, List, [], ap, arith, cond, false, get_or, length, not, refl, set, sym, true, ℕ}
-use Rattle.std.proofs.Common.{◌&&◌, ◌*◌, ◌++◌, ◌+◌, ◌<◌, ◌||◌, ◌∙◌, ◌∷◌, ◌≡◌, ◌≤◌, inl, inr, filter, count_by, fold}
-use Rattle.std.proofs.Common.{if◌then◌else◌, sum_by, nat_le, nat_lt}
-use Rattle.sj_core.proofs.Words.{Cell, Program, cells_of_program, distinct, has_cell, same_cell}
-use Rattle.std.proofs.lemmas.{Bool.and_from, Bool.and_parts, Bool.false_from_ne_true, Bool.false≢true, Bool.or_right}
-use Rattle.std.proofs.lemmas.{Bool.le-leb, Bool.lt-ltb, Bool.cases_lt, Bool.Decides.Decides-eqb, List.ext_get_or}
-use Rattle.std.proofs.lemmas.{List.get_or-set_other, List.get_or-set_same, List.length-set, List.Sums.sum_by-append}
-use Rattle.std.proofs.lemmas.{List.Sums.sum_by-cons, Map.Views.any-filter_same, List.Folds.list_any-append}
-use Rattle.sj_base.proofs.Bools.{same_test, tally}
-use Rattle.sj_base.proofs.Lists.{sum_by-agree, counted_some}
-use Rattle.sj_base.proofs.SameIds.{same_cell-is, same_cell-itself}
+use Rattle.sj_core.proofs.Words.{[], ap, arith, Bool, Cell, cells_of_program, cond, count_by, distinct, false, filter, fold, get_or, has_cell, if◌then◌else◌, inl, inr, length, List, nat_le, nat_lt, not, Program, refl, renewed, same_cell, set, sum_by, sym, to_front, true, without, ℕ, ◌&&◌, ◌*◌, ◌++◌, ◌+◌, ◌<◌, ◌||◌, ◌∙◌, ◌∷◌, ◌≡◌, ◌≤◌}
+use Rattle.std.proofs.lemmas.{Bool.and_from, Bool.and_parts, Bool.false_from_ne_true, Bool.false≢true, Bool.or_right, Bool.le-leb, Bool.lt-ltb, Bool.cases_lt, Bool.Decides.Decides-eqb, List.ext_get_or, List.get_or-set_other, List.get_or-set_same, List.length-set, List.Sums.sum_by-append, List.Sums.sum_by-cons, Map.Views.any-filter_same, List.Folds.list_any-append}
+use Rattle.sj_base.proofs.{Bools.same_test, Bools.tally, Lists.counted_some, Lists.sum_by-agree, SameIds.same_cell-is, SameIds.same_cell-itself}
 pub use Rattle.sj_base.proofs.SameIds.{same_cell-itself as same_cell-refl}
-use Rattle.sj_core.specs.{Step.to_front, Step.without, Table.renewed}
-use Rattle.sj_core.proofs.Sums.{filter-sum-le, sum-each, count-numbered, sum-plus}
-use Rattle.sj_core.proofs.Sums.{sum-nothing, counted-has}
-use Rattle.sj_core.proofs.{Tables.length-renewed, Tables.renewed-at}
+use Rattle.sj_core.proofs.{Sums.count-numbered, Sums.counted-has, Sums.filter-sum-le, Sums.sum-each, Sums.sum-nothing, Sums.sum-plus, Tables.length-renewed, Tables.renewed-at}
 
 -- ---- tests
 

@@ -1,16 +1,8 @@
 -- A step in which a claimed or running task goes on, or a copy moves: nothing more leaves or comes. What it owes, and that it
 -- keeps what tasks, pins, bytes and workers ask of a coherent state.
-use Rattle.std.proofs.Common.{Bool, List, None, Option, Some, length, [], arith, false, inl, inr, refl, sym, true, ◌∙◌, ◌≡◌, ◌≢◌, ◌≤◌, ◌⊎◌, ap, subst, get_or, ℕ, ◌<◌, ◌&&◌, All}
+use Rattle.sj_core.proofs.Words.{[], All, ap, arith, AtNode, Bool, Cell, cell_state, cells_of, CellState, Claimed, Coherent, DiskNo, false, get_or, has_cell, has_copy, HasBlocks, HasRows, HasWorkers, inl, inr, is_claimed_by, is_coming_by, is_entry, is_home, is_leaving, is_leaving_by, is_task_of, is_valid, IsOwnedBy, IsSound, IsStateOf, IsTransferTo, length, List, Machine, mark, mark_in, moves, Node, node_of, NodesSuffice, None, on_disk, OnDisk, Option, order, OrderIsKept, pins, PinsHold, Place, Program, Progress, progress, refl, renewed, Running, same_cell, scratch, Some, State, subst, sym, Task, TasksHaveCells, Transfer, transfer, TransfersAreSound, true, victims_of, Worker, worker_of, WorkersAreSound, WritersOwn, WritesAreCounted, written_cells, WrittenIsKept, ℕ, ◌&&◌, ◌<◌, ◌∙◌, ◌≡◌, ◌≢◌, ◌≤◌, ◌⊎◌}
 use Rattle.std.proofs.lemmas.Bool.{false_from_ne_true, false≢true}
-use Rattle.sj_core.proofs.Words.{AtNode, Cell, CellState, Claimed, same_cell, Machine, Node, OnDisk, Place, Program, Progress, Running, State, Task, Transfer, Worker, cells_of, has_cell, is_claimed_by, is_coming_by, is_entry, is_leaving, is_leaving_by, is_task_of, is_valid, moves, node_of, order, pins, progress, mark, scratch, transfer, victims_of, written_cells, DiskNo, worker_of, has_copy, on_disk, mark_in, cell_state}
-use Rattle.sj_core.specs.Coherent.{Coherent, HasRows, IsOwnedBy, IsStateOf, IsTransferTo, NodesSuffice, OrderIsKept, PinsHold, TasksHaveCells, TransfersAreSound, WorkersAreSound, WritersOwn, WritesAreCounted, HasBlocks, HasWorkers, WrittenIsKept}
-use Rattle.sj_core.specs.Laws.{IsSound}
-use Rattle.sj_core.specs.Step.{is_home}
-use Rattle.sj_core.proofs.Advancing.{Advances, claimed_by-is, claimed_by-task_of, same_task, task_of-worker}
-use Rattle.sj_core.proofs.Bytes.{fewer-entries, fewer-leaving}
-use Rattle.sj_core.proofs.Replicas.{leaving-by_some, leaving_by-leaves, same_worker-refl}
-use Rattle.sj_core.specs.Table.{renewed}
-use Rattle.sj_core.proofs.Tables.{length-renewed, renewed-at}
+use Rattle.sj_core.proofs.{Advancing.Advances, Advancing.claimed_by-is, Advancing.claimed_by-task_of, Advancing.same_task, Advancing.task_of-worker, Bytes.fewer-entries, Bytes.fewer-leaving, Replicas.leaving-by_some, Replicas.leaving_by-leaves, Replicas.same_worker-refl, Tables.length-renewed, Tables.renewed-at}
 
 -- ---- parts
 

@@ -1,16 +1,7 @@
 -- A claimed task of a coherent state: its worker, and what it finds in the cells whose old values it reads.
-use Rattle.std.proofs.Common.{Bool, ap, arith, false, length, sym, true, ◌<◌, ◌∙◌, ◌≡◌}
-use Rattle.std.specs.List.{list_any}
+use Rattle.sj_core.proofs.Words.{ap, arith, Bool, Cell, cells_of, Claimed, false, fresh_cells, has_cell, is_begun, is_being_written, IsSound, length, list_any, Machine, Program, progress, Running, State, sym, Task, tasks_of, true, Worker, writes, ◌<◌, ◌∙◌, ◌≡◌}
 use Rattle.sj_base.proofs.Lists.{list_any-numbered}
-use Rattle.sj_core.proofs.Words.{Cell, Claimed, Machine, Program, Running, State, Task, Worker, cells_of, fresh_cells, has_cell, progress, tasks_of, writes}
-use Rattle.sj_core.specs.Coherent.{is_begun, is_being_written}
-use Rattle.sj_core.specs.Laws.{IsSound}
-use Rattle.sj_core.proofs.Advancing.{claimed-task_of}
-use Rattle.sj_core.proofs.Dependencies.{Proper-dependencies}
-use Rattle.sj_core.proofs.Finding.{not_being_written}
-use Rattle.sj_core.proofs.Reading.{progress-inside}
-use Rattle.sj_core.proofs.Separation.{worker-inside}
-use Rattle.sj_core.proofs.Values.{old_value-written}
+use Rattle.sj_core.proofs.{Advancing.claimed-task_of, Dependencies.Proper-dependencies, Finding.not_being_written, Reading.progress-inside, Separation.worker-inside, Values.old_value-written}
 
 -- some task of the program passes a test that this one passes
 pub list_any-task : (p : Program) (test : Task → Bool) (t : Task) → t.0 < length p.tasks → test t ≡ true → list_any test (tasks_of p) ≡ true

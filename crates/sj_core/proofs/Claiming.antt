@@ -1,35 +1,8 @@
 -- What a claim changes, and that it leaves a coherent state: a victim leaves, a missing cell comes, and the rest stays as it is.
-use Rattle.sj_codelet.specs.Kernel.{Equations}
-use Rattle.std.proofs.Common.{Bool, List, Some, [], ap, arith, cond, false, filter, fold, inl, inr, length, nat_eq, not, refl, subst, sum_by, sym, true, ℕ, ◌&&◌, ◌++◌, ◌+◌, ◌<◌, ◌||◌, ◌∙◌, ◌≡◌, ◌≢◌, ◌≤◌, ◌⊎◌}
-use Rattle.std.proofs.lemmas.Bool.{and_from, and_parts, cases_Bool, cases_lt, false_from_ne_true, false≢true, leb-true, not-true}
-use Rattle.std.proofs.lemmas.Bool.Decides.{Decides-eqb}
-use Rattle.std.proofs.lemmas.List.{get_or-set_other, get_or-set_same, get_or_past, length-set}
-use Rattle.sj_base.proofs.Lists.{list_any-filter}
-use Rattle.sj_base.proofs.SameIds.{workers_differ}
-use Rattle.sj_core.proofs.Words.{AtNode, has_copy, mark, mark_in, on_disk, with_mark, Cell, CellState, Claimed, Coming, Invalid, Leaving, Machine, Mark, Node, OnDisk, Place, Program, Running, State, Task, Transfer, Valid, Waiting, Worker, WorkerState, cell_state, cells_of, cells_of_program, distinct, free, has_cell, is_claimed_by, is_coming_by, is_entry, is_leaving, is_leaving_by, is_pinned, is_task_of, is_valid, node_of, node_size, order, pins, progress, same_worker, scratch, scratch_bytes, task_of, tile_bytes, transfer, used, worker_state, workers_at, workers_of, writes, written_cells, worked_on}
-use Rattle.sj_core.specs.Coherent.{Coherent, HasEntries, HasRows, IsOwnedBy, IsStateOf, NodesSuffice, OrderIsKept, PinsHold, TasksHaveCells, TransfersAreSound, WorkersAreSound, WritersOwn, WritesAreCounted, is_being_written, used_while_leaving, WrittenIsKept}
-use Rattle.sj_core.specs.Laws.{IsSound}
-use Rattle.sj_core.specs.Proper.{IsMachineFor}
-use Rattle.sj_core.specs.Step.{CanClaim, is_home, after_claim, claimed_mark, leave, missing, to_come, to_front, without}
-use Rattle.sj_core.specs.Victims.{covers}
-use Rattle.sj_core.proofs.Advancing.{Advances, Claims-advances, claimed-is_mine, claimed-task_of, claimed_by-task_of, idle-has_none, same_task, task_of-worker}
-use Rattle.sj_core.proofs.CellLists.{filter-has_cell, has_cell-append, has_cell-distinct, has_cell-filter, has_cell-fronted, has_cell-without, share, times, times-append, times-distinct, times-filter, times-fronted}
-use Rattle.sj_core.proofs.Eviction.{evicted-chosen, evicted_by, shortest_suffix-passes, shortest_suffix-suffix}
-use Rattle.sj_core.proofs.Placing.{mark_in-cases}
-use Rattle.sj_core.proofs.Reading.{cells-renewed_or, entry-inside, idle_row, list_any-worker, no_row, mark_in-same, same_node, settled-at, worker-other, worker-same}
-use Rattle.sj_core.proofs.Replicas.{coming_by-is, entry-cases, invalid-is, leaving-by_some, leaving_by-leaves, leaving_by-no_entry, same_worker-is, same_worker-refl}
-use Rattle.sj_core.proofs.Sharing.{operand_for, manner_of}
-use Rattle.sj_core.proofs.Tables.{renewed-at}
-use Rattle.sj_core.proofs.Bytes.{beside-bytes, bytes_where, entry-cell, fewer-entries, fewer-leaving, leaving-bytes, once-bytes, order-bytes, others-le, worker-once_at}
-use Rattle.sj_core.proofs.Ending.{content-kept, counted-same, written-undone}
-use Rattle.sj_core.proofs.Dependencies.{Proper-dependencies}
-use Rattle.sj_core.proofs.Changing.{HasBlocks-kept, HasRows-kept, HasWorkers-kept, TransfersAreSound-kept, moves-kept}
-use Rattle.sj_core.proofs.Finding.{not_written-after, not_written-before, HoldsContent-kept}
-use Rattle.sj_core.proofs.Separation.{Claims-keeps_order, separated}
-use Rattle.sj_core.proofs.Sums.{filter-sum-le, sum-balanced, sum-one_more, sum-within}
-use Rattle.sj_core.specs.Arrays.{Arrays, HoldsContent}
-use Rattle.sj_core.proofs.Updating.{operand-used}
-use Rattle.sj_base.specs.Mode.{is_scratch}
+use Rattle.sj_core.proofs.Words.{[], after_claim, ap, arith, Arrays, AtNode, Bool, CanClaim, Cell, cell_state, cells_of, cells_of_program, CellState, Claimed, claimed_mark, Coherent, Coming, cond, covers, distinct, Equations, false, filter, fold, free, has_cell, has_copy, HasEntries, HasRows, HoldsContent, inl, inr, Invalid, is_being_written, is_claimed_by, is_coming_by, is_entry, is_home, is_leaving, is_leaving_by, is_pinned, is_scratch, is_task_of, is_valid, IsMachineFor, IsOwnedBy, IsSound, IsStateOf, leave, Leaving, length, List, Machine, Mark, mark, mark_in, missing, nat_eq, Node, node_of, node_size, NodesSuffice, not, on_disk, OnDisk, order, OrderIsKept, pins, PinsHold, Place, Program, progress, refl, Running, same_worker, scratch, scratch_bytes, Some, State, subst, sum_by, sym, Task, task_of, TasksHaveCells, tile_bytes, to_come, to_front, Transfer, transfer, TransfersAreSound, true, used, used_while_leaving, Valid, Waiting, with_mark, without, worked_on, Worker, worker_state, workers_at, workers_of, WorkersAreSound, WorkerState, WritersOwn, writes, WritesAreCounted, written_cells, WrittenIsKept, ℕ, ◌&&◌, ◌++◌, ◌+◌, ◌<◌, ◌||◌, ◌∙◌, ◌≡◌, ◌≢◌, ◌≤◌, ◌⊎◌}
+use Rattle.std.proofs.lemmas.{Bool.and_from, Bool.and_parts, Bool.cases_Bool, Bool.cases_lt, Bool.false_from_ne_true, Bool.false≢true, Bool.leb-true, Bool.not-true, Bool.Decides.Decides-eqb, List.get_or-set_other, List.get_or-set_same, List.get_or_past, List.length-set}
+use Rattle.sj_base.proofs.{Lists.list_any-filter, SameIds.workers_differ}
+use Rattle.sj_core.proofs.{Advancing.Advances, Advancing.claimed-is_mine, Advancing.claimed-task_of, Advancing.claimed_by-task_of, Advancing.Claims-advances, Advancing.idle-has_none, Advancing.same_task, Advancing.task_of-worker, Bytes.beside-bytes, Bytes.bytes_where, Bytes.entry-cell, Bytes.fewer-entries, Bytes.fewer-leaving, Bytes.leaving-bytes, Bytes.once-bytes, Bytes.order-bytes, Bytes.others-le, Bytes.worker-once_at, CellLists.filter-has_cell, CellLists.has_cell-append, CellLists.has_cell-distinct, CellLists.has_cell-filter, CellLists.has_cell-fronted, CellLists.has_cell-without, CellLists.share, CellLists.times, CellLists.times-append, CellLists.times-distinct, CellLists.times-filter, CellLists.times-fronted, Changing.HasBlocks-kept, Changing.HasRows-kept, Changing.HasWorkers-kept, Changing.moves-kept, Changing.TransfersAreSound-kept, Dependencies.Proper-dependencies, Ending.content-kept, Ending.counted-same, Ending.written-undone, Eviction.evicted-chosen, Eviction.evicted_by, Eviction.shortest_suffix-passes, Eviction.shortest_suffix-suffix, Finding.HoldsContent-kept, Finding.not_written-after, Finding.not_written-before, Placing.mark_in-cases, Reading.cells-renewed_or, Reading.entry-inside, Reading.idle_row, Reading.list_any-worker, Reading.mark_in-same, Reading.no_row, Reading.same_node, Reading.settled-at, Reading.worker-other, Reading.worker-same, Replicas.coming_by-is, Replicas.entry-cases, Replicas.invalid-is, Replicas.leaving-by_some, Replicas.leaving_by-leaves, Replicas.leaving_by-no_entry, Replicas.same_worker-is, Replicas.same_worker-refl, Separation.Claims-keeps_order, Separation.separated, Sharing.manner_of, Sharing.operand_for, Sums.filter-sum-le, Sums.sum-balanced, Sums.sum-one_more, Sums.sum-within, Tables.renewed-at, Updating.operand-used}
 
 -- ---- what a claim evicts and brings
 

@@ -1,13 +1,6 @@
 -- A claim, a run and an end leave a coherent state.
-use Rattle.std.proofs.Common.{refl}
-use Rattle.sj_core.proofs.Words.{Claim, End, Run}
-use Rattle.sj_core.specs.Coherent.{Coherent}
-use Rattle.sj_core.specs.Laws.{IsKeptByClaims, IsKeptByEnds, IsKeptByRuns}
-use Rattle.sj_core.specs.Step.{after}
-use Rattle.sj_core.proofs.ClaimKeeps.{Claims-coherent}
-use Rattle.sj_core.proofs.Ending.{Ends-coherent}
-use Rattle.sj_core.proofs.Eviction.{evicted-after}
-use Rattle.sj_core.proofs.Running.{Runs-coherent}
+use Rattle.sj_core.proofs.Words.{after, Claim, Coherent, End, IsKeptByClaims, IsKeptByEnds, IsKeptByRuns, refl, Run}
+use Rattle.sj_core.proofs.{ClaimKeeps.Claims-coherent, Ending.Ends-coherent, Eviction.evicted-after, Running.Runs-coherent}
 
 pub Claims-keeps_coherence : IsKeptByClaims Coherent
 Claims-keeps_coherence p m s t w h claim = Claims-coherent p m s h t w (after p m s (Claim t w)) claim (evicted-after p m s t w)

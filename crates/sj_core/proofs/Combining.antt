@@ -1,16 +1,7 @@
 -- Contributions by codelets of one reduction may be exchanged: each combines an array that doesn't depend on the old one.
-use Rattle.sj_codelet.specs.Kernel.{Equations}
-use Rattle.std.proofs.Common.{List, [], ap, arith, cond, length, not, refl, sym, true, ℤ, ◌++◌, ◌∙◌, ◌∷◌, ◌≡◌, All}
-use Rattle.std.proofs.Common.{FitsSigned}
-use Rattle.sj_core.proofs.Words.{Array, Dims, Formal, Kernel, Least, Plus, Reduction, UpdateFormal, zeros}
-use Rattle.std.specs.{Int.w64, List.list_all}
-use Rattle.std.proofs.lemmas.List.Elements.{All-append, All-cons, All-head, All-nil, All-tail}
-use Rattle.std.proofs.lemmas.{List.length-append, List.length-map, List.map-append, Bool.and_parts, Bool.not-true}
-use Rattle.sj_codelet.proofs.Table.{each_dims}
-use Rattle.sj_codelet.specs.Kernel.{arguments_fit, codelet_of, commutes_of, contributes_of, dims_fit, fits, formals_of, init_of, operand}
-use Rattle.sj_codelet.specs.Laws.{DoesContribute, IsCall, IsReduction, IsTile, MakesTiles, combined, result_of, unit_of}
-use Rattle.sj_codelet.specs.Formal.{is_output, outputs_among}
-use Rattle.sj_codelet.proofs.NewArrays.{fits-parts, operand-tile, zeros-tile}
+use Rattle.sj_core.proofs.Words.{[], All, ap, arguments_fit, arith, Array, codelet_of, combined, commutes_of, cond, contributes_of, Dims, dims_fit, DoesContribute, Equations, fits, FitsSigned, Formal, formals_of, init_of, is_output, IsCall, IsReduction, IsTile, Kernel, Least, length, List, list_all, MakesTiles, not, operand, outputs_among, Plus, Reduction, refl, result_of, sym, true, unit_of, UpdateFormal, w64, zeros, ℤ, ◌++◌, ◌∙◌, ◌∷◌, ◌≡◌}
+use Rattle.std.proofs.lemmas.{Bool.and_parts, Bool.not-true, List.length-append, List.length-map, List.map-append, List.Elements.All-append, List.Elements.All-cons, List.Elements.All-head, List.Elements.All-nil, List.Elements.All-tail}
+use Rattle.sj_codelet.proofs.{NewArrays.fits-parts, NewArrays.operand-tile, NewArrays.zeros-tile, Table.each_dims}
 use Rattle.sj_core.proofs.{Swapping.Exchange, Updating.contributing-commutes, Updating.updates-last}
 
 -- ---- what a commuting codelet makes

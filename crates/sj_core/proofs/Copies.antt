@@ -1,19 +1,8 @@
 -- The partial copies of a cell under reduction: which tasks work on them while a phase is open, and what these leave there.
-use Rattle.std.proofs.Common.{List, [], ap, arith, cond, false, get_or, inl, inr, not, refl, subst, suc, sym, true}
-use Rattle.std.proofs.Common.{zero, ℕ, ◌<◌, ◌∙◌, ◌∷◌, ◌≡◌, ◌≢◌, ◌≤◌, ◌⊎◌, IsTrue, is_some, Contains}
-use Rattle.sj_core.proofs.Words.{Access, Cell, Mode, Program, R, RW, Redux, W, Worker, cell_info, copy_of}
-use Rattle.sj_core.proofs.Words.{data_operands, no_task, same_cell, worked_on}
-use Rattle.std.proofs.lemmas.{Bool.cases_lt, Bool.false≢true, Bool.true≢false, Bool.Decides.Decides-eqb}
-use Rattle.std.proofs.lemmas.{List.get_or_default, List.Elements.All-contains, List.Elements.Contains-get_or}
-use Rattle.sj_base.specs.Mode.{is_redux, is_scratch, starts_as_zeros, access}
-use Rattle.sj_base.specs.Ids.{task}
+use Rattle.sj_core.proofs.Words.{[], Access, access, ap, arith, Cell, cell_info, cond, Contains, copy_of, data_operands, false, get_or, inl, inr, is_redux, is_scratch, is_some, IsCombine, IsContribution, IsCopyOf, IsFirstUnit, IsInit, IsOfPhase, IsOpenAt, IsPhase, IsTrue, List, Mode, no_task, not, Phase, Program, Proper, R, Redux, refl, RW, same_cell, starts_as_zeros, subst, suc, sym, task, task_number, Touches, true, W, worked_on, Worker, zero, ℕ, ◌<◌, ◌∙◌, ◌∷◌, ◌≡◌, ◌≢◌, ◌≤◌, ◌⊎◌}
+use Rattle.std.proofs.lemmas.{Bool.cases_lt, Bool.false≢true, Bool.true≢false, Bool.Decides.Decides-eqb, List.get_or_default, List.Elements.All-contains, List.Elements.Contains-get_or}
 use Rattle.sj_base.proofs.Lists.{one_is}
-use Rattle.sj_core.specs.Proper.{IsCombine, IsContribution, IsCopyOf, IsFirstUnit, IsInit, IsOfPhase, IsOpenAt, IsPhase}
-use Rattle.sj_core.specs.Proper.{Phase, Proper, Touches, task_number}
-use Rattle.sj_core.proofs.Phases.{combine-after, combine-among, combine-reads, combine_at, contributes, copy-of}
-use Rattle.sj_core.proofs.Phases.{init-among, init-before, init_at}
-use Rattle.sj_core.proofs.Dependencies.{not_both, own-of_phase}
-use Rattle.sj_core.proofs.{TaskCells.operand-inside, Readiness.AllPairs-two, Readiness.Contains-filter}
+use Rattle.sj_core.proofs.{Dependencies.not_both, Dependencies.own-of_phase, Phases.combine-after, Phases.combine-among, Phases.combine-reads, Phases.combine_at, Phases.contributes, Phases.copy-of, Phases.init-among, Phases.init-before, Phases.init_at, Readiness.AllPairs-two, Readiness.Contains-filter, TaskCells.operand-inside}
 
 -- a mode is REDUX or not
 pub redux_or : (x : Mode) → (x ≡ Redux) ⊎ (is_redux x ≡ false)

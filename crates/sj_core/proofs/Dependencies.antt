@@ -1,18 +1,7 @@
 -- The dependencies of a proper program can be counted: each access names a cell, and a task accesses a cell in one manner.
-use Rattle.std.proofs.Common.{List, None, Option, Some, [], ap, arith, false, get_or, inl, inr, length, map, not, refl}
-use Rattle.std.proofs.Common.{subst, suc, sym, true, zero, ℕ, ◌+◌, ◌<◌, ◌∙◌, ◌∷◌, ◌≡◌, ◌⊎◌, Contains, flat_map}
-use Rattle.std.proofs.Common.{AllPairs, IsTrue, is_some, option_and_then, slice_get}
-use Rattle.sj_core.proofs.Words.{Access, Cell, CellInfo, Codelet, Commute, CommuteMode, Contribute, Lowered, Manner}
-use Rattle.sj_core.proofs.Words.{Mode, Program, R, RW, Read, Redux, Scratch, Usage, W, Worker, Write, cell_info}
-use Rattle.sj_core.proofs.Words.{copy_of, data_operands, no_cell, no_task, same_cell}
-use Rattle.std.proofs.lemmas.{Bool.cases_lt, Bool.Decides.Decides-eqb, List.get_or_default, List.Elements.All-contains}
-use Rattle.std.proofs.lemmas.{List.Elements.Contains-append_cases, List.FromFn.get_or-range_with_len}
-use Rattle.std.proofs.lemmas.{List.FromFn.length-range_with_len, Option.slice_get-get_or, Option.slice_get_past}
-use Rattle.std.specs.List.{range_with_len}
-use Rattle.sj_base.specs.Mode.{is_redux, is_scratch, access}
+use Rattle.sj_core.proofs.Words.{[], Access, access, AllPairs, ap, arith, Cell, cell_info, CellInfo, Codelet, Commute, CommuteMode, Contains, Contribute, copies_of, copy_of, data_operands, false, flat_map, get_or, HasDependencies, inl, inr, is_redux, is_scratch, is_some, IsCopyOf, IsInit, IsPhase, IsTrue, length, List, Lowered, Manner, map, Mode, no_cell, no_task, None, not, Option, option_and_then, Phase, Program, Proper, R, range_with_len, Read, Redux, refl, RW, same_cell, Scratch, slice_get, Some, subst, suc, sym, task_number, true, Usage, usage, usages_of, Uses, W, Worker, Write, zero, ℕ, ◌+◌, ◌<◌, ◌∙◌, ◌∷◌, ◌≡◌, ◌⊎◌}
+use Rattle.std.proofs.lemmas.{Bool.cases_lt, Bool.Decides.Decides-eqb, List.get_or_default, List.Elements.All-contains, List.Elements.Contains-append_cases, List.FromFn.get_or-range_with_len, List.FromFn.length-range_with_len, Option.slice_get-get_or, Option.slice_get_past}
 use Rattle.sj_base.proofs.Lists.{one_is}
-use Rattle.sj_deps.specs.Conflict.{HasDependencies, Uses, copies_of, usage, usages_of}
-use Rattle.sj_core.specs.Proper.{IsCopyOf, IsInit, IsPhase, Phase, Proper, task_number}
 use Rattle.sj_core.proofs.{Readiness.AllPairs-two, Readiness.Contains-filter, Sharing.manner_of}
 
 -- ---- what lists contain

@@ -1,37 +1,8 @@
 -- The end of a kernel's run leaves a coherent state.
-use Rattle.sj_codelet.specs.Kernel.{Equations}
-use Rattle.std.proofs.Common.{Bool, List, ap, arith, false, inl, inr, length, refl, subst, sym, true, ◌<◌, ◌∙◌, ◌≡◌, ◌&&◌, ◌+◌, ◌≢◌, [], ◌≤◌, ◌⊎◌, zip, count_by, nat_eq, nat_le, nat_lt, if◌then◌else◌, cond}
-use Rattle.std.proofs.lemmas.Bool.{false≢true, eq-eqb, ne_eqb, and_from, le-leb, lt-ltb, cases_Bool, cases_lt, false_from_ne_true, cond_both}
-use Rattle.std.proofs.lemmas.List.{get_or_past, length-set}
-use Rattle.sj_base.proofs.Bools.{tally}
-use Rattle.sj_base.proofs.Lists.{sum_by-agree}
-use Rattle.sj_base.proofs.SameIds.{workers_differ}
-use Rattle.sj_deps.specs.Conflict.{Conflict}
-use Rattle.sj_core.specs.Coherent.{Coherent, HasWorkers, OrderIsKept, is_begun, IsStateOf, TasksHaveCells, WritesAreCounted, has_written, HasRows, IsOwnedBy, WritersOwn, is_being_written, WrittenIsKept}
-use Rattle.sj_core.specs.Fold.{after_chosen, after_task, held_in}
-use Rattle.sj_core.specs.Laws.{IsLawful, IsSound}
-use Rattle.sj_core.specs.Proper.{Proper}
-use Rattle.sj_core.specs.Step.{after_end, after, is_home, same_place}
-use Rattle.sj_core.proofs.Words.{Array, AtNode, Cell, CellState, Claimed, Done, Kernel, Machine, Program, Progress, Running, State, Task, Worker, dims_of, done_by, done_in, has_cell, is_done, is_task_of, node_of, progress, results, tasks_of, worked_on, worker_of, writes, written_cells, zeros, OnDisk, Place, WorkerState, cell_state, cells_of, is_coming_by, is_entry, is_leaving_by, is_valid, Node, mark_in, has_copy, written_once_more, order, transfer, victims_of, worker_state, fresh_cells, End}
-use Rattle.sj_core.proofs.Advancing.{Advances, Ends-advances, done-begun, same_task, OrderIsKept-advances}
-use Rattle.sj_core.proofs.Values.{results-complete}
-use Rattle.sj_core.proofs.Sized.{task-fits, task-makes_tiles}
-use Rattle.sj_core.proofs.Updating.{may-swap}
-use Rattle.sj_core.proofs.Folding.{AddsTask, after_chosen-same, after_task-other, held-append, held_over, held_over-own, read-among_cells, results-same}
-use Rattle.sj_core.proofs.Found.{found-content}
-use Rattle.sj_core.proofs.Phases.{contributions-exchange}
-use Rattle.sj_core.proofs.Reading.{same_node, cells-touched, cells-untouched, cells-renewed_or, idle_row, worker-other, worker-same}
-use Rattle.sj_core.proofs.Replicas.{same_worker-refl}
-use Rattle.sj_core.proofs.Swapping.{put-last}
-use Rattle.sj_core.proofs.Placing.{copy-row}
-use Rattle.sj_core.proofs.TaskCells.{written-among_cells}
-use Rattle.sj_core.proofs.Sums.{sum-plus, count-numbered}
-use Rattle.sj_core.proofs.CellLists.{times}
-use Rattle.sj_core.proofs.Changing.{IsLeftAlone, copies-left, Changes, Changes-coherent, Changes-writers, TransfersAreSound-spared, HasBlocks-kept, HasRows-kept, moves-kept, HasWorkers-kept}
-use Rattle.sj_core.proofs.Dependencies.{Proper-dependencies}
-use Rattle.sj_core.proofs.Finding.{not_written-before, running-inside, second_fails, both_pass}
-use Rattle.sj_core.proofs.Separation.{separated}
-use Rattle.sj_core.specs.Arrays.{Arrays, HoldsContent, arrays_after, content, held_at, result_in}
+use Rattle.sj_core.proofs.Words.{[], after, after_chosen, after_end, after_task, ap, arith, Array, Arrays, arrays_after, AtNode, Bool, Cell, cell_state, cells_of, CellState, Claimed, Coherent, cond, Conflict, content, count_by, dims_of, Done, done_by, done_in, End, Equations, false, fresh_cells, has_cell, has_copy, has_written, HasRows, HasWorkers, held_at, held_in, HoldsContent, if◌then◌else◌, inl, inr, is_begun, is_being_written, is_coming_by, is_done, is_entry, is_home, is_leaving_by, is_task_of, is_valid, IsLawful, IsOwnedBy, IsSound, IsStateOf, Kernel, length, List, Machine, mark_in, nat_eq, nat_le, nat_lt, Node, node_of, OnDisk, order, OrderIsKept, Place, Program, Progress, progress, Proper, refl, result_in, results, Running, same_place, State, subst, sym, Task, tasks_of, TasksHaveCells, transfer, true, victims_of, worked_on, Worker, worker_of, worker_state, WorkerState, WritersOwn, writes, WritesAreCounted, written_cells, written_once_more, WrittenIsKept, zeros, zip, ◌&&◌, ◌+◌, ◌<◌, ◌∙◌, ◌≡◌, ◌≢◌, ◌≤◌, ◌⊎◌}
+use Rattle.std.proofs.lemmas.{Bool.and_from, Bool.cases_Bool, Bool.cases_lt, Bool.cond_both, Bool.eq-eqb, Bool.false_from_ne_true, Bool.false≢true, Bool.le-leb, Bool.lt-ltb, Bool.ne_eqb, List.get_or_past, List.length-set}
+use Rattle.sj_base.proofs.{Bools.tally, Lists.sum_by-agree, SameIds.workers_differ}
+use Rattle.sj_core.proofs.{Advancing.Advances, Advancing.done-begun, Advancing.Ends-advances, Advancing.OrderIsKept-advances, Advancing.same_task, CellLists.times, Changing.Changes, Changing.Changes-coherent, Changing.Changes-writers, Changing.copies-left, Changing.HasBlocks-kept, Changing.HasRows-kept, Changing.HasWorkers-kept, Changing.IsLeftAlone, Changing.moves-kept, Changing.TransfersAreSound-spared, Dependencies.Proper-dependencies, Finding.both_pass, Finding.not_written-before, Finding.running-inside, Finding.second_fails, Folding.AddsTask, Folding.after_chosen-same, Folding.after_task-other, Folding.held-append, Folding.held_over, Folding.held_over-own, Folding.read-among_cells, Folding.results-same, Found.found-content, Phases.contributions-exchange, Placing.copy-row, Reading.cells-renewed_or, Reading.cells-touched, Reading.cells-untouched, Reading.idle_row, Reading.same_node, Reading.worker-other, Reading.worker-same, Replicas.same_worker-refl, Separation.separated, Sized.task-fits, Sized.task-makes_tiles, Sums.count-numbered, Sums.sum-plus, Swapping.put-last, TaskCells.written-among_cells, Updating.may-swap, Values.results-complete}
 
 -- ---- where no task more is done
 

@@ -1,12 +1,6 @@
 -- The victims of a need are the shortest end of the unpinned entries that covers it; and those of a claim, as one term.
-use Rattle.std.proofs.Common.{◌≡◌, ℕ, Bool, true, false, List, [], ◌∷◌, ◌++◌, drop, refl, sym, ap, ◌∙◌, Option, Some}
-use Rattle.std.proofs.Common.{None, arith}
-use Rattle.std.specs.{Bool.then_some, Option.option_or}
-use Rattle.std.proofs.Common.{is_some}
-use Rattle.std.specs.Prelude.{unwrap_or}
+use Rattle.sj_core.proofs.Words.{[], after, after_claim, ap, arith, Bool, CanClaim, Cell, Claim, drop, false, is_some, List, Machine, None, Option, option_or, Program, refl, shortest_suffix, Some, State, sym, Task, then_some, true, unwrap_or, victims_for, Worker, ℕ, ◌++◌, ◌∙◌, ◌∷◌, ◌≡◌}
 use Rattle.std.proofs.lemmas.Bool.{false≢true}
-use Rattle.sj_core.specs.{Step.CanClaim, Step.after, Step.after_claim, Step.victims_for, Victims.shortest_suffix}
-use Rattle.sj_core.proofs.Words.{Cell, Claim, Machine, Program, State, Task, Worker}
 
 -- ---- the victims of a claim
 

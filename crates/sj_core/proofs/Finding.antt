@@ -1,22 +1,9 @@
 -- What a claimed or running task finds in the cells whose old value it reads; and which cells no running task writes, before
 -- and after a step.
-use Rattle.sj_codelet.specs.Kernel.{Equations}
-use Rattle.std.proofs.Common.{Bool, ap, arith, cond, false, inl, inr, length, not, sym, true, ◌&&◌, ◌<◌, ◌∙◌, refl, if◌then◌else◌}
-use Rattle.std.proofs.Common.{◌≡◌, Contains, count_by}
-use Rattle.sj_core.proofs.Words.{Access, Array, Cell, Machine, Program, Progress, Running, State, Task, Worker, zeros, dims_of, fresh_cells, node_of, Place, AtNode, has_copy}
-use Rattle.sj_core.proofs.Words.{cells_of, copy_of, done_by, has_cell, is_running_on, is_task_of, progress, same_cell}
-use Rattle.sj_core.proofs.Words.{task_of, tasks_of, worked_on, worker_of, writes, written_cells}
-use Rattle.std.proofs.lemmas.Bool.{and_parts, false_from_ne_true, false≢true, not-true, and_from}
-use Rattle.std.proofs.lemmas.List.Folds.{Any-from_list_any}
-use Rattle.sj_base.specs.Mode.{is_redux, is_written}
+use Rattle.sj_core.proofs.Words.{Access, ap, arith, Array, Arrays, AtNode, Bool, Cell, cells_of, Coherent, cond, Contains, content, copy_of, count_by, dims_of, done_by, Equations, false, fresh_cells, gives_value, has_cell, has_copy, HasDependencies, HasRows, HoldsContent, if◌then◌else◌, inl, inr, is_being_written, is_redux, is_running_on, is_task_of, is_written, length, Machine, node_of, not, Place, Program, Progress, progress, Proper, refl, Running, same_cell, State, sym, Task, task_of, tasks_of, true, worked_on, Worker, worker_of, writes, written_cells, zeros, ◌&&◌, ◌<◌, ◌∙◌, ◌≡◌}
+use Rattle.std.proofs.lemmas.{Bool.and_from, Bool.and_parts, Bool.false_from_ne_true, Bool.false≢true, Bool.not-true, List.Folds.Any-from_list_any}
 use Rattle.sj_base.proofs.Lists.{list_any-numbered}
-use Rattle.sj_deps.specs.Conflict.{HasDependencies}
-use Rattle.sj_core.specs.Coherent.{Coherent, is_being_written, HasRows}
-use Rattle.sj_core.specs.Proper.{Proper, gives_value}
-use Rattle.sj_core.proofs.Advancing.{running_on-is, same_task, task_of-worker, Advances}
-use Rattle.sj_core.proofs.Reading.{progress-inside}
-use Rattle.sj_core.proofs.{Replicas.same_worker-refl, Separation.separated, Sharing.operand-has_cell, Sums.counted-has}
-use Rattle.sj_core.specs.Arrays.{Arrays, HoldsContent, content}
+use Rattle.sj_core.proofs.{Advancing.Advances, Advancing.running_on-is, Advancing.same_task, Advancing.task_of-worker, Reading.progress-inside, Replicas.same_worker-refl, Separation.separated, Sharing.operand-has_cell, Sums.counted-has}
 
 -- ---- lists
 

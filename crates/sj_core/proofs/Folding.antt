@@ -1,16 +1,8 @@
 -- What cells hold after tasks in submission order: on which tasks it depends, and that a task may come last.
-use Rattle.sj_codelet.specs.Kernel.{Equations}
-use Rattle.std.proofs.Common.{Bool, List, None, Some, [], ap, arith, cond, false, inl, inr, length, not, refl, suc}
-use Rattle.std.proofs.Common.{sym, true, zero, ℕ, ◌++◌, ◌<◌, ◌||◌, ◌∙◌, ◌∷◌, ◌≡◌, ◌≢◌, ◌≤◌, Contains, find, zip}
-use Rattle.sj_core.proofs.Words.{Access, Array, Cell, Program, Task, Worker, cells_of, has_cell, results, same_cell}
-use Rattle.sj_core.proofs.Words.{task_of, worked_on, written_cells}
-use Rattle.std.proofs.lemmas.Bool.{cases_lt, false_from_ne_true, false≢true, true≢false}
-use Rattle.std.proofs.lemmas.{Bool.Decides.Decides-eqb, List.Folds.find-append}
-use Rattle.sj_base.specs.Mode.{is_scratch, starts_as_zeros}
-use Rattle.sj_base.specs.Ids.{task}
+use Rattle.sj_core.proofs.Words.{[], Access, after_chosen, after_task, ap, arith, Array, Bool, Cell, cells_of, cond, Contains, Contents, Equations, false, find, has_cell, held_in, inl, inr, is_scratch, length, List, None, not, Program, refl, results, same_cell, Some, starts_as_zeros, suc, sym, Task, task, task_of, true, worked_on, Worker, written_cells, zero, zip, ℕ, ◌++◌, ◌<◌, ◌||◌, ◌∙◌, ◌∷◌, ◌≡◌, ◌≢◌, ◌≤◌}
+use Rattle.std.proofs.lemmas.{Bool.cases_lt, Bool.false_from_ne_true, Bool.false≢true, Bool.true≢false, Bool.Decides.Decides-eqb, List.Folds.find-append}
 use Rattle.sj_base.proofs.Lists.{map-agree}
 pub use Rattle.sj_base.proofs.Lists.{map-agree as map-same}
-use Rattle.sj_core.specs.Fold.{Contents, after_chosen, after_task, held_in}
 use Rattle.sj_core.proofs.{Modes.reads_isn't_scratch, Readiness.Contains-from_filter, Sharing.operand-has_cell}
 
 -- ---- lists

@@ -1,22 +1,7 @@
 -- What a claimed or running task finds where it works, whatever the modes: the content of each cell whose old value it reads.
-use Rattle.sj_codelet.specs.Kernel.{Equations}
-use Rattle.std.proofs.Common.{arith, Bool, ap, false, not, refl, subst, sym, true, ◌<◌, ◌∙◌, ◌≡◌, ◌⊎◌, Contains, IsTrue, cond}
-use Rattle.sj_core.proofs.Words.{Access, AtNode, Cell, Codelet, Machine, Mode, Program, R, Running, State, Task, W}
-use Rattle.sj_core.proofs.Words.{Worker, Write, cells_of, data_operands, dims_of, fresh_cells, has_cell}
-use Rattle.sj_core.proofs.Words.{is_running_on, is_task_of, is_valid, no_task, node_of, progress, mark, same_cell}
-use Rattle.sj_core.proofs.Words.{task_of, worked_on, written_cells, zeros}
+use Rattle.sj_core.proofs.Words.{Access, ap, arith, Arrays, AtNode, Bool, Cell, cells_of, Codelet, Coherent, cond, Contains, content, data_operands, dims_of, Equations, false, fresh_cells, has_cell, HoldsContent, is_redux, is_running_on, is_scratch, is_task_of, is_valid, IsTrue, Machine, mark, Mode, no_task, node_of, not, Program, progress, Proper, R, refl, Running, same_cell, starts_as_zeros, State, subst, sym, Task, task_of, true, Uses, W, worked_on, Worker, Write, written_cells, zeros, ◌<◌, ◌∙◌, ◌≡◌, ◌⊎◌}
 use Rattle.std.proofs.lemmas.Bool.{false_from_ne_true, false≢true}
-use Rattle.sj_base.specs.Mode.{is_redux, is_scratch, starts_as_zeros}
-use Rattle.sj_deps.specs.Conflict.{Uses}
-use Rattle.sj_core.specs.{Coherent.Coherent, Proper.Proper}
-use Rattle.sj_core.proofs.Advancing.{active-begun, running_on-is, task_of-active}
-use Rattle.sj_core.proofs.Readiness.{AllPairs-two, Contains-filter, Contains-from_filter, filter-Contains}
-use Rattle.sj_core.proofs.{Dependencies.Proper-dependencies, Finding.not_being_written}
-use Rattle.sj_core.proofs.{Folding.read-among_cells, Modes.reads_isn't_scratch, TaskCells.operand-inside}
-use Rattle.sj_core.proofs.{Replicas.same_worker-refl, Separation.worker-inside, Sharing.manner_of, Sharing.operand_for}
-use Rattle.sj_core.proofs.{Updating.operand-used, Values.old_value-written, Copies.direct-cell}
-use Rattle.sj_core.proofs.{CellLists.same_cell-from}
-use Rattle.sj_core.specs.Arrays.{Arrays, HoldsContent, content}
+use Rattle.sj_core.proofs.{Advancing.active-begun, Advancing.running_on-is, Advancing.task_of-active, CellLists.same_cell-from, Copies.direct-cell, Dependencies.Proper-dependencies, Finding.not_being_written, Folding.read-among_cells, Modes.reads_isn't_scratch, Readiness.AllPairs-two, Readiness.Contains-filter, Readiness.Contains-from_filter, Readiness.filter-Contains, Replicas.same_worker-refl, Separation.worker-inside, Sharing.manner_of, Sharing.operand_for, TaskCells.operand-inside, Updating.operand-used, Values.old_value-written}
 
 module _ (p : Program) (proper : Proper p) where
   -- a cell whose old value one operand reads is none that another one finds as zeros

@@ -1,33 +1,9 @@
 -- What a task finds where it works: the contents of its cells; and in a settled cell of an access in order what all tasks
 -- before it leave, in submission order. Where all tasks are done, cells hold what all tasks leave.
-use Rattle.sj_codelet.specs.Kernel.{Equations}
-use Rattle.std.proofs.Common.{Bool, List, [], ap, arith, false, get_or, inl, inr, length, map, not, refl, subst, sym}
-use Rattle.std.proofs.Common.{true, ℕ, ◌<◌, ◌||◌, ◌∙◌, ◌∷◌, ◌≡◌, ◌≢◌, ◌&&◌, ◌⊎◌, Contains, filter, slice_index_or}
-use Rattle.std.proofs.Common.{IsTrue, is_some}
-use Rattle.sj_core.proofs.Words.{Claimed, Access, AtNode, Cell, Kernel, Machine, Program, Progress, R, RW, Redux}
-use Rattle.sj_core.proofs.Words.{Running, State, Task, W, Waiting, Worker, cell_info, cells_of, copy_of}
-use Rattle.sj_core.proofs.Words.{done_by, done_in, has_cell, is_done, is_task_of, node_of, progress, same_cell}
-use Rattle.sj_core.proofs.Words.{task_of, worked_on, worker_of, writes, written_cells}
-use Rattle.std.proofs.lemmas.Bool.{false_from_ne_true, false≢true}
-use Rattle.std.proofs.lemmas.List.Elements.{All-contains, Contains-get_or}
-use Rattle.std.proofs.lemmas.{List.Folds.Any-from_list_any, List.Sums.AllPass-from_list_all}
-use Rattle.sj_base.specs.Mode.{is_in_order, is_redux, is_scratch, is_written, reads_value, access}
+use Rattle.sj_core.proofs.Words.{[], Access, access, ap, arith, Arrays, AtNode, Bool, Brought, Cell, cell_info, cells_of, Claimed, Conflict, Contains, content, copy_of, done_by, done_in, EarlierAreDone, Equations, false, filter, final, get_or, given, gives_value, has_cell, has_written, HasAtHand, held_before, held_in, HoldsContent, HoldsFinal, inl, inr, is_begun, is_being_written, is_done, is_in_order, is_redux, is_scratch, is_some, is_task_of, is_written, IsComplete, IsContribution, IsFirstUnit, IsLawful, IsOfPhase, IsOpenAt, IsPhase, IsPlain, IsSettled, IsSound, IsTrue, Kernel, length, List, Machine, map, node_of, not, Phase, Program, Progress, progress, Proper, R, reads_value, Redux, refl, Running, RW, same_cell, slice_index_or, State, subst, sym, Task, task_number, task_of, true, W, Waiting, worked_on, Worker, worker_of, Works, writes, written_cells, ℕ, ◌&&◌, ◌<◌, ◌||◌, ◌∙◌, ◌∷◌, ◌≡◌, ◌≢◌, ◌⊎◌}
+use Rattle.std.proofs.lemmas.{Bool.false_from_ne_true, Bool.false≢true, List.Elements.All-contains, List.Elements.Contains-get_or, List.Folds.Any-from_list_any, List.Sums.AllPass-from_list_all}
 use Rattle.sj_base.proofs.Lists.{one_is}
-use Rattle.sj_deps.specs.Conflict.{Conflict}
-use Rattle.sj_core.specs.Laws.{Brought, HasAtHand, HoldsFinal, IsLawful, IsSettled, IsSound, Works, final}
-use Rattle.sj_core.specs.Proper.{IsContribution, IsFirstUnit, IsOfPhase, IsOpenAt, IsPhase, IsPlain, Phase, Proper}
-use Rattle.sj_core.specs.Proper.{gives_value, task_number}
-use Rattle.sj_core.specs.Coherent.{has_written, is_begun, is_being_written}
-use Rattle.sj_core.specs.Fold.{given, held_before, held_in}
-use Rattle.sj_core.specs.{Legal.IsComplete, Step.EarlierAreDone}
-use Rattle.sj_core.proofs.Finding.{being_written-by, gives-writes, task-counted, running-inside}
-use Rattle.sj_core.proofs.{Advancing.done-begun, Ending.all-staffed, Ending.later-free, Copies.combine-of}
-use Rattle.sj_core.proofs.{Copies.direct-cell, Copies.init-of, Workers.cone-shared, Workers.in_order-conflicts}
-use Rattle.sj_core.proofs.{Workers.workers-alike, Folding.after_chosen-same, Folding.held-until}
-use Rattle.sj_core.proofs.{Folding.read-among_cells, Found.found-content, Modes.plain_isn't_redux}
-use Rattle.sj_core.proofs.{Modes.reads_isn't_scratch, TaskCells.operand-inside, Readiness.Contains-filter}
-use Rattle.sj_core.proofs.{Replicas.same_worker-refl, Sharing.Conflict-sym, Sharing.one, Sharing.redux-has_copies}
-use Rattle.sj_core.specs.Arrays.{Arrays, HoldsContent, content}
+use Rattle.sj_core.proofs.{Advancing.done-begun, Copies.combine-of, Copies.direct-cell, Copies.init-of, Ending.all-staffed, Ending.later-free, Finding.being_written-by, Finding.gives-writes, Finding.running-inside, Finding.task-counted, Folding.after_chosen-same, Folding.held-until, Folding.read-among_cells, Found.found-content, Modes.plain_isn't_redux, Modes.reads_isn't_scratch, Readiness.Contains-filter, Replicas.same_worker-refl, Sharing.Conflict-sym, Sharing.one, Sharing.redux-has_copies, TaskCells.operand-inside, Workers.cone-shared, Workers.in_order-conflicts, Workers.workers-alike}
 
 -- ---- phases
 

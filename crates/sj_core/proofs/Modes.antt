@@ -1,10 +1,6 @@
 -- What a mode says of its operand, by a look at each mode.
-use Rattle.std.proofs.Common.{arith, Bool, [], false, not, refl, true, ◌||◌, ◌∷◌, ◌≡◌, List}
-use Rattle.sj_core.proofs.Words.{Mode, R, RW, Redux, Scratch, W}
-use Rattle.std.proofs.lemmas.Bool.{and_parts, not-true, not-false}
-use Rattle.std.proofs.lemmas.List.Sums.{AllPass-from_list_all}
-use Rattle.std.specs.List.{list_all}
-use Rattle.sj_base.specs.Mode.{is_in_order, starts_as_zeros, is_written, is_scratch, is_commute, is_redux, reads_value}
+use Rattle.sj_core.proofs.Words.{[], arith, Bool, false, is_commute, is_in_order, is_redux, is_scratch, is_written, List, list_all, Mode, not, R, reads_value, Redux, refl, RW, Scratch, starts_as_zeros, true, W, ◌||◌, ◌∷◌, ◌≡◌}
+use Rattle.std.proofs.lemmas.{Bool.and_parts, Bool.not-false, Bool.not-true, List.Sums.AllPass-from_list_all}
 use Rattle.sj_base.specs.declared.mode.Mode.TheVariants.{Commute}
 use Rattle.sj_base.proofs.Bools.{implied}
 

@@ -1,23 +1,8 @@
 -- A move that begins, one that ends, and a drop leave a coherent state.
-use Rattle.sj_codelet.specs.Kernel.{Equations}
-use Rattle.std.proofs.Common.{arith, length, List, Some, false, inl, inr, refl, sym, true, ◌∙◌, ◌≡◌, ap, subst, None, Option, not, ◌&&◌, ◌⊎◌, Bool, ◌<◌, ◌≢◌, IsTrue, cond}
-use Rattle.std.proofs.lemmas.List.{length-set}
-use Rattle.std.proofs.lemmas.Bool.{true≢false, and_from, false_from_ne_true, false≢true, and_parts, cases_Bool, not-true, or_parts}
-use Rattle.std.proofs.lemmas.List.Quantifiers.{position-Some}
+use Rattle.sj_core.proofs.Words.{a_transfer, ap, arith, Arrays, arrays_after, arrived, AtNode, Bool, CanDrop, CanMoveIn, CanMoveOut, Cell, cell_state, CellState, Claimed, Coherent, cond, disk_of, DiskNo, Equations, false, fresh_cells, has_cell, has_copy, HasBlocks, HasRows, HoldsContent, inl, inr, Invalid, is_claimed_by, is_coming_by, is_entry, is_fresh, is_leaving, is_leaving_by, is_read, is_valid, IsClaimed, IsOwnedBy, IsSound, IsTransferTo, IsTrue, length, List, Machine, Mark, mark, Moved, moves, Node, node_of, None, NoneLeavesBy, not, on_disk, OnDisk, Option, pins, Place, Program, progress, reads_in, refl, Running, same_cell, same_place, scratch, Some, State, subst, sym, Task, Transfer, transfer, TransfersAreSound, true, Valid, victims_of, with_mark, with_row, with_transfer, Worker, worker_state, WorkerState, writes, WrittenIsKept, ◌&&◌, ◌<◌, ◌∙◌, ◌≡◌, ◌≢◌, ◌⊎◌}
+use Rattle.std.proofs.lemmas.{Bool.and_from, Bool.and_parts, Bool.cases_Bool, Bool.false_from_ne_true, Bool.false≢true, Bool.not-true, Bool.or_parts, Bool.true≢false, List.length-set, List.Quantifiers.position-Some}
 use Rattle.sj_base.proofs.SameIds.{same_cell-itself, same_place-itself, same_cell-is}
-use Rattle.sj_core.specs.Coherent.{Coherent, HasBlocks, HasRows, IsOwnedBy, IsTransferTo, NoneLeavesBy, TransfersAreSound, IsClaimed, WrittenIsKept}
-use Rattle.sj_core.specs.Laws.{IsSound}
-use Rattle.sj_core.specs.Step.{CanDrop, CanMoveIn, CanMoveOut, a_transfer, disk_of, is_fresh}
-use Rattle.sj_core.proofs.Words.{AtNode, Cell, CellState, Claimed, Machine, Mark, Node, Place, Program, Running, State, Task, Transfer, Worker, WorkerState, has_cell, is_claimed_by, is_coming_by, is_entry, is_leaving_by, is_valid, moves, node_of, pins, progress, mark, scratch, transfer, victims_of, writes, DiskNo, OnDisk, with_transfer, Invalid, fresh_cells, Valid, same_cell, with_row, is_leaving, Moved, has_copy, with_mark, arrived, cell_state, on_disk, is_read, reads_in, same_place, worker_state}
-use Rattle.sj_core.proofs.Advancing.{claimed-is_mine, task_of-worker, claimed_by-is}
-use Rattle.sj_core.proofs.Changing.{Changes, Changes-coherent, Changes-writers, HasBlocks-kept, IsLeftAlone, TransfersAreSound-kept}
-use Rattle.sj_core.proofs.Placing.{elsewhere-from, elsewhere-some, home-from, home-is, mark_in-cases, mark-cases, HasRows-written, on_disk-same, row-cases, transfer-is, pins-same, scratch-same, victims-same, owned-fails, position-none, room-leaves_none, valid-within, same_place-is, transfer-cases, transfer-own, writes-same}
-use Rattle.sj_core.proofs.Reading.{unmoved-from, moves-it, transfer-inside, unread-by}
-use Rattle.sj_core.proofs.Replicas.{same_worker-refl, leaving_by-one, leaving_by-valid, coming_by-is, coming_by-one, leaving-by_some, leaving-is_none}
-use Rattle.sj_core.proofs.Claimed.{claimed-inside, claimed-not_written, claimed-old_value, list_any-task}
-use Rattle.sj_core.proofs.CellLists.{same_cell-from}
-use Rattle.sj_core.specs.Arrays.{Arrays, HoldsContent, arrays_after}
-use Rattle.sj_core.proofs.Finding.{second_fails, HoldsContent-kept}
+use Rattle.sj_core.proofs.{Advancing.claimed-is_mine, Advancing.claimed_by-is, Advancing.task_of-worker, CellLists.same_cell-from, Changing.Changes, Changing.Changes-coherent, Changing.Changes-writers, Changing.HasBlocks-kept, Changing.IsLeftAlone, Changing.TransfersAreSound-kept, Claimed.claimed-inside, Claimed.claimed-not_written, Claimed.claimed-old_value, Claimed.list_any-task, Finding.HoldsContent-kept, Finding.second_fails, Placing.elsewhere-from, Placing.elsewhere-some, Placing.HasRows-written, Placing.home-from, Placing.home-is, Placing.mark-cases, Placing.mark_in-cases, Placing.on_disk-same, Placing.owned-fails, Placing.pins-same, Placing.position-none, Placing.room-leaves_none, Placing.row-cases, Placing.same_place-is, Placing.scratch-same, Placing.transfer-cases, Placing.transfer-is, Placing.transfer-own, Placing.valid-within, Placing.victims-same, Placing.writes-same, Reading.moves-it, Reading.transfer-inside, Reading.unmoved-from, Reading.unread-by, Replicas.coming_by-is, Replicas.coming_by-one, Replicas.leaving-by_some, Replicas.leaving-is_none, Replicas.leaving_by-one, Replicas.leaving_by-valid, Replicas.same_worker-refl}
 
 -- ---- a step that changes rows of cells and transfers alone, and what it owes so as to leave a coherent state
 

@@ -1,19 +1,8 @@
 -- The opening state is coherent.
-use Rattle.sj_codelet.specs.Kernel.{Equations}
-use Rattle.std.proofs.Common.{Option, None, Some, List, [], ap, arith, cond, inl, inr, length}
-use Rattle.std.proofs.Common.{sym, true, ◌&&◌, ◌<◌, ◌∙◌, ◌≡◌, ◌⊎◌, count_by}
-use Rattle.sj_core.proofs.Words.{Cell, CellState, Invalid, Machine, Node, zeros, dims_of}
-use Rattle.sj_core.proofs.Words.{Program, Task, Transfer, Waiting, Worker, WorkerState, cell_state, done_by, has_cell}
-use Rattle.sj_core.proofs.Words.{on_disk, is_coming_by, is_done, is_entry, is_leaving_by, is_task_of, no_copy}
-use Rattle.sj_core.proofs.Words.{opening, order, pins, progress, mark, same_cell, scratch, tasks_of, transfer}
-use Rattle.sj_core.proofs.Words.{worker_state, writes, written_cells, used}
-use Rattle.std.proofs.lemmas.List.{get_or-replicate, get_or_past, length-replicate}
-use Rattle.std.proofs.lemmas.{Bool.cases_lt, Bool.false≢true, List.Elements.All-replicate}
+use Rattle.sj_core.proofs.Words.{[], ap, arith, Cell, cell_state, CellState, Coherent, cond, count_by, dims_of, done_by, Equations, has_cell, has_written, HoldsContent, inl, inr, Invalid, is_active, is_begun, is_coming_by, is_done, is_entry, is_leaving_by, is_task_of, length, List, Machine, mark, no_copy, Node, None, on_disk, opening, Option, order, pins, Program, progress, same_cell, scratch, Some, sym, Task, tasks_of, Transfer, transfer, true, used, Waiting, Worker, worker_state, WorkerState, writes, written_cells, zeros, ◌&&◌, ◌<◌, ◌∙◌, ◌≡◌, ◌⊎◌}
+use Rattle.std.proofs.lemmas.{Bool.cases_lt, Bool.false≢true, List.get_or-replicate, List.get_or_past, List.length-replicate, List.Elements.All-replicate}
 use Rattle.sj_base.proofs.Lists.{get_or-replicate_same}
-use Rattle.sj_core.specs.Coherent.{Coherent, has_written, is_active, is_begun}
-use Rattle.sj_core.proofs.Reading.{idle_row, no_row}
-use Rattle.sj_core.proofs.{Advancing.claimed-is_mine, Replicas.same_worker-refl, Sums.sum-nothing}
-use Rattle.sj_core.specs.Arrays.{HoldsContent}
+use Rattle.sj_core.proofs.{Advancing.claimed-is_mine, Reading.idle_row, Reading.no_row, Replicas.same_worker-refl, Sums.sum-nothing}
 
 module _ (p : Program) (m : Machine) where
   pub waits : (t : Task) → progress (opening p m) t ≡ Waiting

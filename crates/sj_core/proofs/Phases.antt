@@ -1,23 +1,7 @@
 -- The phases of a program: which tasks contribute to a cell, and what stands between them.
-use Rattle.sj_codelet.specs.Kernel.{Equations}
-use Rattle.std.proofs.Common.{Bool, List, Some, ap, arith, get_or, inl, inr, length, not, refl, subst}
-use Rattle.std.proofs.Common.{sym, true, ℕ, ◌<◌, ◌&&◌, ◌∙◌, ◌≡◌, ◌≢◌, ◌≤◌, ◌⊎◌, All, Contains}
-use Rattle.sj_core.proofs.Words.{Access, Cell, Contribute, Kernel, Mode, Program, R, Read, Redux, Task, W, Worker}
-use Rattle.sj_core.proofs.Words.{copy_of, task_of, worked_on}
-use Rattle.std.proofs.lemmas.Bool.{and_from, and_parts, cases_lt}
-use Rattle.std.proofs.lemmas.List.Elements.{All-contains, Contains-get_or}
-use Rattle.sj_base.specs.Mode.{is_scratch, access}
-use Rattle.sj_base.specs.Ids.{task}
-use Rattle.sj_codelet.specs.Kernel.{combine_of, contributes_of, has_reduction, init_of, kernel_of}
-use Rattle.sj_codelet.specs.Laws.{DoesContribute}
-use Rattle.sj_deps.specs.Conflict.{Conflict, Uses}
-use Rattle.sj_core.specs.Laws.{IsLawful}
-use Rattle.sj_core.specs.Proper.{IsContribution, IsCopyOf, IsFirstUnit, IsOfPhase, IsOpenAt, IsPhase, Phase, Proper}
-use Rattle.sj_core.specs.Proper.{task_number}
-use Rattle.sj_core.proofs.Dependencies.{Proper-dependencies, own-of_phase}
-use Rattle.sj_core.proofs.Updating.{ContributionsExchange, operand-used}
-use Rattle.sj_core.proofs.Sharing.{manner_of, redux-has_copies, contribute_isn't_read}
-use Rattle.sj_core.proofs.{Combining.Reduces, Combining.contributing-exchange, Sized.knows, TaskCells.operand-inside, Readiness.Contains-filter}
+use Rattle.sj_core.proofs.Words.{Access, access, All, ap, arith, Bool, Cell, combine_of, Conflict, Contains, Contribute, contributes_of, copy_of, DoesContribute, Equations, get_or, has_reduction, init_of, inl, inr, is_scratch, IsContribution, IsCopyOf, IsFirstUnit, IsLawful, IsOfPhase, IsOpenAt, IsPhase, Kernel, kernel_of, length, List, Mode, not, Phase, Program, Proper, R, Read, Redux, refl, Some, subst, sym, Task, task, task_number, task_of, true, Uses, W, worked_on, Worker, ℕ, ◌&&◌, ◌<◌, ◌∙◌, ◌≡◌, ◌≢◌, ◌≤◌, ◌⊎◌}
+use Rattle.std.proofs.lemmas.{Bool.and_from, Bool.and_parts, Bool.cases_lt, List.Elements.All-contains, List.Elements.Contains-get_or}
+use Rattle.sj_core.proofs.{Combining.contributing-exchange, Combining.Reduces, Dependencies.own-of_phase, Dependencies.Proper-dependencies, Readiness.Contains-filter, Sharing.contribute_isn't_read, Sharing.manner_of, Sharing.redux-has_copies, Sized.knows, TaskCells.operand-inside, Updating.ContributionsExchange, Updating.operand-used}
 
 module _ (p : Program) (proper : Proper p) where
   -- a task that contributes to a cell, with the phase to which it belongs

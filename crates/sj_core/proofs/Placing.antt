@@ -1,24 +1,8 @@
 -- What the accessors of a state give after one row, one mark, or one worker's transfer was written.
-use Rattle.std.proofs.Common.{Bool, List, None, Option, Some, ap, arith, false, get_or, inl, inr, length, subst}
-use Rattle.std.proofs.Common.{sym, true, ℕ, ◌<◌, ◌∙◌, ◌≡◌, ◌≢◌, ◌⊎◌, All, position, refl, nat_eq, not, if◌then◌else◌}
-use Rattle.sj_core.proofs.Words.{AtNode, Cell, CellState, DiskNo, Invalid, Machine, Node, OnDisk, Place, Program, has_copy}
-use Rattle.sj_core.proofs.Words.{Mark, State, Transfer, Valid, Worker, WorkerState, cell_state, has_room}
-use Rattle.sj_core.proofs.Words.{is_valid, pins, mark, mark_in, scratch, transfer, victims_of}
-use Rattle.sj_core.proofs.Words.{is_elsewhere, on_disk, Claim, Drop, End, Move, Moved, Run, arrived, same_cell, with_row, with_mark, with_transfer, worker_state, writes}
-use Rattle.std.proofs.lemmas.Bool.{cases_eq, cases_lt, false_from_ne_true, false≢true, ltb-false, not-true, or_right, or_cases, and_from, and_parts, cases_Bool}
-use Rattle.std.proofs.lemmas.List.{get_or-set_other, get_or-set_same, get_or_past, length-set}
-use Rattle.std.proofs.lemmas.{Bool.Decides.Decides-eqb, List.Elements.All-set, List.Folds.list_any_at, List.FromFn.get_or-range_with_len, List.FromFn.length-range_with_len}
-use Rattle.sj_replica.specs.Replica.{is_copy_beside}
-use Rattle.std.proofs.lemmas.{List.Sums.fails_before_first}
-use Rattle.std.specs.List.{list_any, range_with_len}
+use Rattle.sj_core.proofs.Words.{All, ap, arith, arrived, AtNode, Bool, Cell, cell_state, CellState, Claim, disk_of, DiskNo, Drop, End, EventsChangeRows, false, get_or, has_copy, has_room, HasBlocks, HasRows, if◌then◌else◌, inl, inr, Invalid, is_copy_beside, is_elsewhere, is_home, is_valid, IsOwnedBy, IsSound, length, List, list_any, Machine, Mark, mark, mark_in, Move, Moved, nat_eq, Node, None, NoneLeavesBy, not, on_disk, OnDisk, Option, pins, Place, position, Program, range_with_len, refl, Run, same_cell, same_place, scratch, Some, State, subst, sym, Transfer, transfer, true, Valid, victims_of, with_mark, with_row, with_transfer, Worker, worker_state, WorkerState, writes, ℕ, ◌<◌, ◌∙◌, ◌≡◌, ◌≢◌, ◌⊎◌}
+use Rattle.std.proofs.lemmas.{Bool.and_from, Bool.and_parts, Bool.cases_Bool, Bool.cases_eq, Bool.cases_lt, Bool.false_from_ne_true, Bool.false≢true, Bool.ltb-false, Bool.not-true, Bool.or_cases, Bool.or_right, Bool.Decides.Decides-eqb, List.get_or-set_other, List.get_or-set_same, List.get_or_past, List.length-set, List.Elements.All-set, List.Folds.list_any_at, List.FromFn.get_or-range_with_len, List.FromFn.length-range_with_len, List.Sums.fails_before_first}
 use Rattle.sj_base.proofs.SameIds.{same_cell-is, same_cell-unlike, workers_differ}
-use Rattle.sj_core.specs.Coherent.{HasBlocks, HasRows, IsOwnedBy, NoneLeavesBy}
-use Rattle.sj_core.specs.Laws.{EventsChangeRows, IsSound}
-use Rattle.sj_core.specs.Step.{disk_of, is_home, same_place}
-use Rattle.sj_core.proofs.Tables.{renewed-at}
-use Rattle.sj_core.proofs.{Reading.idle_row, Reading.list_all-has, Reading.no_row}
-use Rattle.sj_core.proofs.Readiness.{list_any-some}
-use Rattle.sj_core.proofs.{Reading.same_node}
+use Rattle.sj_core.proofs.{Readiness.list_any-some, Reading.idle_row, Reading.list_all-has, Reading.no_row, Reading.same_node, Tables.renewed-at}
 
 pub cells_differ : (c d : Cell) → (c ≡ d) ⊎ (c ≢ d)
 cells_differ c d = search (arith, cases_eq)

@@ -1,17 +1,7 @@
 -- The tasks that are done in a state, as a list and as a test; when a waiting task is ready.
-use Rattle.std.proofs.Common.{Bool, List, ap, arith, false, get_or, inl, inr, length, refl, subst, sym, true}
-use Rattle.std.proofs.Common.{ℕ, ◌<◌, ◌∙◌, ◌≡◌, ◌⊎◌, map, ◌++◌, not, Contains, filter, AllPairs}
-use Rattle.sj_core.proofs.Words.{Program, State, Task, Waiting, done_in, is_done, progress}
-use Rattle.std.proofs.lemmas.List.Elements.{All-contains, All-contains_itself, All-filter, Contains-append_cases}
-use Rattle.std.proofs.lemmas.List.Elements.{filter_passes}
-use Rattle.std.proofs.lemmas.{List.Sorted.Contains-permutation, List.Sorted.IsPermutation-filter_both, Bool.cases_eq}
-use Rattle.std.proofs.lemmas.{Bool.cases_lt, Bool.false≢true, List.get_or_default, List.get_or_past, List.get_or-map}
-use Rattle.std.proofs.lemmas.{List.length-map, List.Folds.Any-from_list_any, List.FromFn.get_or-range_with_len}
-use Rattle.std.proofs.lemmas.{List.FromFn.length-range_with_len, List.Sums.AllPass-from_list_all}
-use Rattle.std.specs.List.{list_all, list_any, range_with_len}
+use Rattle.sj_core.proofs.Words.{AllPairs, ap, arith, Bool, Contains, done_in, done_tasks, EarlierAreDone, false, filter, get_or, inl, inr, is_done, length, List, list_all, list_any, map, not, Program, progress, range_with_len, Ready, refl, State, subst, sym, Task, true, Waiting, ℕ, ◌++◌, ◌<◌, ◌∙◌, ◌≡◌, ◌⊎◌}
+use Rattle.std.proofs.lemmas.{Bool.cases_eq, Bool.cases_lt, Bool.false≢true, List.get_or-map, List.get_or_default, List.get_or_past, List.length-map, List.Elements.All-contains, List.Elements.All-contains_itself, List.Elements.All-filter, List.Elements.Contains-append_cases, List.Elements.filter_passes, List.Folds.Any-from_list_any, List.FromFn.get_or-range_with_len, List.FromFn.length-range_with_len, List.Sorted.Contains-permutation, List.Sorted.IsPermutation-filter_both, List.Sums.AllPass-from_list_all}
 pub use Rattle.sj_base.proofs.Lists.{list_any-map}
-use Rattle.sj_deps.specs.Conflict.{Ready}
-use Rattle.sj_core.specs.Step.{EarlierAreDone, done_tasks}
 
 -- what a filter keeps passes the test
 pub filter-Contains : {X : Type 0} (f : X → Bool) (xs : List X) (x : X) → Contains (filter f xs) x → f x ≡ true

@@ -1,20 +1,9 @@
 -- What the accessors of a state give after a claim, a run and an end.
-use Rattle.std.proofs.Common.{Bool, List, None, Option, Some, [], ap, arith, false, get_or, length, map, refl, suc}
-use Rattle.std.proofs.Common.{true, zero, ℕ, ◌<◌, ◌∙◌, ◌∷◌, ◌≡◌, ◌≢◌, ◌⊎◌, if◌then◌else◌}
-use Rattle.sj_core.proofs.Words.{Cell, CellState, Invalid, Machine, Mark, Node, Place, Progress, State, Task}
-use Rattle.sj_core.proofs.Words.{Transfer, Waiting, Worker, WorkerState, cell_state, has_cell, is_entry, is_leaving}
-use Rattle.sj_core.proofs.Words.{is_moving, is_read, reads_in, moves, progress, mark, mark_in, same_cell, transfer, with_cells, with_progress}
-use Rattle.sj_core.proofs.Words.{with_mark, with_worker, worker_state, workers_of}
-use Rattle.std.proofs.lemmas.Bool.{cases_eq, cases_lt, false_from_ne_true, false≢true, not-true}
-use Rattle.std.proofs.lemmas.List.{get_or-set_other, get_or-set_same, get_or_past}
-use Rattle.std.proofs.lemmas.{Bool.Decides.Decides-eqb, List.Sums.AllPass-from_list_all}
-use Rattle.std.specs.List.{list_all, list_any}
-use Rattle.std.proofs.lemmas.List.Folds.{list_any_at}
-use Rattle.sj_core.specs.Machine.{moves_in}
+use Rattle.sj_core.proofs.Words.{[], ap, arith, Bool, Cell, cell_state, CellState, false, get_or, has_cell, if◌then◌else◌, Invalid, is_entry, is_leaving, is_moving, is_read, length, List, list_all, list_any, Machine, map, Mark, mark, mark_in, moves, moves_in, Node, None, none_leaving, Option, Place, Progress, progress, reads_in, refl, same_cell, Some, State, suc, Task, Transfer, transfer, true, Waiting, with_cells, with_mark, with_progress, with_worker, Worker, worker_state, workers_of, WorkerState, zero, ℕ, ◌<◌, ◌∙◌, ◌∷◌, ◌≡◌, ◌≢◌, ◌⊎◌}
+use Rattle.std.proofs.lemmas.{Bool.cases_eq, Bool.cases_lt, Bool.false_from_ne_true, Bool.false≢true, Bool.not-true, Bool.Decides.Decides-eqb, List.get_or-set_other, List.get_or-set_same, List.get_or_past, List.Folds.list_any_at, List.Sums.AllPass-from_list_all}
 pub use Rattle.sj_base.proofs.SameIds.{same_cell-is}
 pub use Rattle.sj_base.proofs.SameIds.{workers_differ}
 pub use Rattle.sj_base.proofs.Lists.{list_any-numbered}
-use Rattle.sj_core.specs.Step.{none_leaving}
 use Rattle.sj_core.proofs.Tables.{length-renewed, renewed-at}
 pub use Rattle.sj_core.specs.Machine.{idle_row}
 

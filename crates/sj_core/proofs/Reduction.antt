@@ -1,27 +1,9 @@
 -- A job with a reduction on two workers: a sum to a scalar of which each has a partial copy. While the phase is open, another
 -- task has the scalar as a scratch buffer, which is no access. The program is proper.
-use Rattle.std.proofs.Common.{Bool, List, None, Option, Some, [], ap, arith, false, get_or, inl, inr, lit<, lit≤, map}
-use Rattle.std.proofs.Common.{not, refl, subst, suc, sym, true, zero, ℕ, ◌&&◌, ◌+◌, ◌<◌, ◌||◌, ◌∷◌, ◌≡◌, ◌≤◌, ◌⊎◌, All}
-use Rattle.std.proofs.Common.{AllPairs, Contains, IsTrue, is_some, nat_eq, nat_le, nat_lt, pos, ◌^◌}
-use Rattle.sj_core.proofs.Words.{Access, Cell, Kernel, Lowered, Mode, Plus, Program, R, RW, Redux, Scratch, Task, W}
-use Rattle.sj_core.proofs.Words.{Worker, area, cell_info, copy_of, data_operands, dims_of, no_task, same_cell, task_of}
-use Rattle.std.proofs.lemmas.Bool.{and_from, and_parts, cases_lt, eqb-true, false≢true, le-leb, ltb-true}
-use Rattle.std.proofs.lemmas.List.Elements.{All-contains, All-from_get_or, All-from_recursion, All-nil}
-use Rattle.std.proofs.lemmas.List.Elements.{Contains-append_cases, Contains-get_or}
-use Rattle.std.proofs.lemmas.List.FromFn.{get_or-range_with_len, length-range_with_len}
-use Rattle.std.proofs.lemmas.{List.get_or_past, List.Kept.AllPairs-cons, List.Sums.AllPass-from_list_all}
-use Rattle.std.specs.List.{list_all, list_any, range_with_len}
-use Rattle.sj_base.specs.Mode.{is_redux, reads_value, is_read_only}
-use Rattle.sj_base.specs.Ids.{cell, worker}
+use Rattle.sj_core.proofs.Words.{[], Access, Add, All, AllPairs, ap, area, arith, Bool, Cell, cell, cell_info, Contains, Contributing, copy_of, data_operands, Deliver, dims_of, false, fits, FitsCodelet, GemmThree, get_or, gives_value, HasDeliveries, HasPhases, HasValueBefore, InitPlus, inl, inr, is_read_only, is_redux, is_some, IsCombine, IsContribution, IsCopyOf, IsInit, IsOfPhase, IsPhase, IsTrue, IsUnaliased, IsWithinLimits, Kernel, kernel_of, List, list_all, list_any, lit<, lit≤, Load, Lowered, map, Mode, NamesCells, nat_eq, nat_le, nat_lt, no_task, None, not, Option, Own, own_modes, Phase, Plus, pos, Program, Proper, R, range_with_len, reads_value, ReadsValues, Redux, refl, RW, same_cell, Scratch, Some, subst, suc, Sum, sym, Task, task_number, task_of, Touches, true, W, Worker, worker, zero, ℕ, ◌&&◌, ◌+◌, ◌<◌, ◌^◌, ◌||◌, ◌∷◌, ◌≡◌, ◌≤◌, ◌⊎◌}
+use Rattle.std.proofs.lemmas.{Bool.and_from, Bool.and_parts, Bool.cases_lt, Bool.eqb-true, Bool.false≢true, Bool.le-leb, Bool.ltb-true, List.get_or_past, List.Elements.All-contains, List.Elements.All-from_get_or, List.Elements.All-from_recursion, List.Elements.All-nil, List.Elements.Contains-append_cases, List.Elements.Contains-get_or, List.FromFn.get_or-range_with_len, List.FromFn.length-range_with_len, List.Kept.AllPairs-cons, List.Sums.AllPass-from_list_all}
 use Rattle.sj_base.proofs.Bools.{implied}
-use Rattle.sj_codelet.specs.Kernel.{fits, kernel_of}
-use Rattle.sj_codelet.specs.declared.kernel.Kernel.TheVariants.{Add, Deliver, GemmThree, InitPlus, Load, Sum}
-use Rattle.sj_core.specs.Proper.{Contributing, FitsCodelet, HasDeliveries, HasPhases, HasValueBefore, IsCombine}
-use Rattle.sj_core.specs.Proper.{IsContribution, IsCopyOf, IsInit, IsOfPhase, IsPhase, IsUnaliased, IsWithinLimits}
-use Rattle.sj_core.specs.Proper.{NamesCells, Own, Phase, Proper, ReadsValues, Touches, gives_value, own_modes}
-use Rattle.sj_core.specs.Proper.{task_number}
-use Rattle.sj_core.proofs.Worked.{a_task, access, columns}
-use Rattle.sj_core.proofs.{Readiness.list_any-some}
+use Rattle.sj_core.proofs.{Readiness.list_any-some, Worked.a_task, Worked.access, Worked.columns}
 
 -- x, d and s are loaded; the copies of s are filled, x is added to s by a contribution, and the copies are combined;
 -- d gets x times x times x in between, with s as scratch; s is printed

@@ -1,25 +1,8 @@
 -- Each step keeps coherence whole, and arrays what the tasks leave, and so does each legal trace; a complete one leaves what all
 -- tasks leave in submission order.
-use Rattle.sj_codelet.specs.Kernel.{Equations}
-use Rattle.std.proofs.Common.{Bool, List, [], ◌∷◌, ◌∙◌, fold, refl, sym}
-use Rattle.sj_core.proofs.Words.{AtNode, Claim, Drop, End, Event, Kernel, Machine, Move, Moved, OnDisk, Program, Run, zeros, dims_of}
-use Rattle.sj_core.proofs.Words.{Cell, Place, State, opening}
+use Rattle.sj_core.proofs.Words.{[], after, Arrays, arrays_after, arrays_of, AtNode, Bool, CanFollow, Cell, Claim, Coherent, dims_of, Drop, End, Equations, Event, fold, HoldsContent, HoldsFinal, IsFinished, IsLawful, IsLegal, IsMachineFor, IsSound, Kernel, List, Machine, May, Move, Moved, mover_of, OnDisk, opening, Place, Program, Proper, refl, Run, State, state_of, sym, zeros, ◌∙◌, ◌∷◌}
 use Rattle.std.proofs.lemmas.Bool.{false≢true}
-use Rattle.sj_core.specs.{Step.May, Step.after, Step.mover_of, Legal.CanFollow, Legal.IsFinished, Legal.IsLegal}
-use Rattle.sj_core.specs.{Legal.state_of, Proper.Proper}
-use Rattle.sj_core.specs.{Proper.IsMachineFor, Coherent.Coherent, Laws.IsLawful, Laws.IsSound, Laws.HoldsFinal}
-use Rattle.sj_core.proofs.Moving.{Drops-keeps_coherence, Moves_in-keep_coherence, Moves_out-keep_coherence, Drops-content, Ended_moves-content}
-use Rattle.sj_core.proofs.Moving.{Ended_moves-keep_coherence}
-use Rattle.sj_core.proofs.Coherence.{Claims-keeps_coherence, Runs-keeps_coherence, Ends-keep_coherence}
-use Rattle.sj_core.proofs.{Given.complete-final, Opening.opening-coherent}
-use Rattle.sj_core.specs.Arrays.{Arrays, HoldsContent, arrays_after, arrays_of}
-use Rattle.sj_core.proofs.Ending.{Ends-content}
-use Rattle.sj_core.proofs.Running.{Runs-content}
-use Rattle.sj_core.proofs.Opening.{opening-content}
-use Rattle.sj_core.proofs.Claiming.{Claims-content}
-use Rattle.sj_core.proofs.Changing.{copies-left, left_alone}
-use Rattle.sj_core.proofs.Finding.{HoldsContent-kept}
-use Rattle.sj_core.proofs.Eviction.{evicted-after}
+use Rattle.sj_core.proofs.{Changing.copies-left, Changing.left_alone, Claiming.Claims-content, Coherence.Claims-keeps_coherence, Coherence.Ends-keep_coherence, Coherence.Runs-keeps_coherence, Ending.Ends-content, Eviction.evicted-after, Finding.HoldsContent-kept, Given.complete-final, Moving.Drops-content, Moving.Drops-keeps_coherence, Moving.Ended_moves-content, Moving.Ended_moves-keep_coherence, Moving.Moves_in-keep_coherence, Moving.Moves_out-keep_coherence, Opening.opening-coherent, Opening.opening-content, Running.Runs-content}
 
 pub sound : (p : Program) (m : Machine) → Proper p → IsMachineFor p m → (s : State) → Coherent p m s → IsSound p m s
 sound p m proper machine s c = record { proper = proper; machine = machine; coherent = c }

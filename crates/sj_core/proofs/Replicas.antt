@@ -1,7 +1,5 @@
 -- What a test of one mark says of it.
-use Rattle.std.proofs.Common.{arith, ap, false, refl, sym, true, ◌∙◌, ◌≡◌, ◌⊎◌}
-use Rattle.sj_core.proofs.Words.{Coming, Invalid, Leaving, Mark, Valid, Worker, is_coming_by, is_entry, claimant_of}
-use Rattle.sj_core.proofs.Words.{is_leaving, is_leaving_by, is_valid, same_worker}
+use Rattle.sj_core.proofs.Words.{ap, arith, claimant_of, Coming, false, Invalid, is_coming_by, is_entry, is_leaving, is_leaving_by, is_valid, Leaving, Mark, refl, same_worker, sym, true, Valid, Worker, ◌∙◌, ◌≡◌, ◌⊎◌}
 use Rattle.std.proofs.lemmas.{Bool.false≢true, Bool.Decides.Decides-eqb}
 
 pub same_worker-is : (v w : Worker) → same_worker v w ≡ true → v ≡ w

@@ -1,28 +1,8 @@
 -- The beginning of a kernel's run leaves a coherent state.
-use Rattle.sj_codelet.specs.Kernel.{Equations}
-use Rattle.std.proofs.Common.{Bool, List, Some, arith, false, inl, inr, length, map, not, refl, sym, true, ℕ, ◌<◌, ◌||◌, ◌∙◌, ◌≡◌, ◌≢◌, ◌≤◌, ◌⊎◌, ap, subst, if◌then◌else◌, nat_eq, cond}
-use Rattle.std.proofs.lemmas.Bool.{cases_Bool, false_from_ne_true, false≢true, not-true, true_from_ne_false, cond_both}
-use Rattle.std.proofs.lemmas.Bool.Decides.{Decides-eqb}
-use Rattle.std.proofs.lemmas.List.{get_or-set_same, length-map, length-set}
+use Rattle.sj_core.proofs.Words.{after_run, ap, arith, Array, Arrays, arrays_after, AtNode, Bool, CanRun, Cell, cell_state, cells_of, CellState, Claimed, Coherent, cond, content, dims_of, Equations, false, fresh_cells, has_cell, HasEntries, HasRows, HoldsContent, if◌then◌else◌, inl, inr, Invalid, is_begun, is_being_written, is_coming_by, is_entry, is_leaving_by, is_moving, is_task_of, is_valid, IsSound, IsStateOf, length, List, Machine, map, Mark, mark, mark_in, nat_eq, Node, node_of, not, on_disk, order, owned_at, Place, Program, Progress, progress, refl, Run, Running, same_place, Some, State, subst, sym, Task, Transfer, transfer, true, Valid, without, Worker, worker_of, worker_state, WorkerState, WritersOwn, writes, written_cells, written_content, WrittenIsKept, zeros, ℕ, ◌<◌, ◌||◌, ◌∙◌, ◌≡◌, ◌≢◌, ◌≤◌, ◌⊎◌}
+use Rattle.std.proofs.lemmas.{Bool.cases_Bool, Bool.cond_both, Bool.false_from_ne_true, Bool.false≢true, Bool.not-true, Bool.true_from_ne_false, Bool.Decides.Decides-eqb, List.get_or-set_same, List.length-map, List.length-set}
 use Rattle.sj_base.proofs.SameIds.{same_place-itself}
-use Rattle.sj_core.proofs.Words.{Array, AtNode, Cell, CellState, Claimed, Invalid, Machine, Mark, Node, Place, Program, Progress, Running, State, Task, Transfer, Valid, Worker, WorkerState, cell_state, cells_of, dims_of, fresh_cells, has_cell, is_coming_by, is_entry, is_leaving_by, is_task_of, is_valid, mark, mark_in, on_disk, owned_at, node_of, order, progress, transfer, worker_of, worker_state, writes, written_cells, zeros, Run}
-use Rattle.sj_core.specs.Coherent.{Coherent, HasEntries, HasRows, IsStateOf, WritersOwn, is_begun, is_being_written, WrittenIsKept}
-use Rattle.sj_core.specs.Laws.{IsSound}
-use Rattle.sj_core.specs.Step.{CanRun, after_run, is_moving, same_place, without}
-use Rattle.sj_core.proofs.Advancing.{Advances, Runs-advances, OrderIsKept-advances, claimed-is_mine, claimed-task_of, same_task}
-use Rattle.sj_core.proofs.CellLists.{has_cell-without, times, times-filter}
-use Rattle.sj_core.proofs.Changing.{IsLeftAlone, left_alone, copies-left, Changes, Changes-coherent, Changes-writers, TransfersAreSound-spared, HasBlocks-kept, HasRows-kept, moves-kept, HasWorkers-kept}
-use Rattle.sj_core.proofs.Claimed.{claimed-not_written, claimed-old_value}
-use Rattle.sj_core.proofs.Ending.{content-kept, counted-same, written-undone}
-use Rattle.sj_core.proofs.Dependencies.{Proper-dependencies}
-use Rattle.sj_core.proofs.Finding.{being_written-here, not_written-after, not_written-before, running-inside, second_fails, both_pass}
-use Rattle.sj_core.proofs.Placing.{mark_in-cases, room-leaves_none}
-use Rattle.sj_core.proofs.Reading.{all_invalid, cells-renewed_or, cells-touched, cells-untouched, entry-inside, list_all-has, moves-it, same_node, unmoved-by, unmoved-from}
-use Rattle.sj_core.proofs.Replicas.{coming_by-is, same_worker-is, same_worker-refl}
-use Rattle.sj_core.proofs.Separation.{separated}
-use Rattle.sj_core.proofs.Tables.{length-renewed, renewed-at_or}
-use Rattle.sj_core.proofs.TaskCells.{fresh-among_written, written-among_cells}
-use Rattle.sj_core.specs.Arrays.{Arrays, HoldsContent, arrays_after, content, written_content}
+use Rattle.sj_core.proofs.{Advancing.Advances, Advancing.claimed-is_mine, Advancing.claimed-task_of, Advancing.OrderIsKept-advances, Advancing.Runs-advances, Advancing.same_task, CellLists.has_cell-without, CellLists.times, CellLists.times-filter, Changing.Changes, Changing.Changes-coherent, Changing.Changes-writers, Changing.copies-left, Changing.HasBlocks-kept, Changing.HasRows-kept, Changing.HasWorkers-kept, Changing.IsLeftAlone, Changing.left_alone, Changing.moves-kept, Changing.TransfersAreSound-spared, Claimed.claimed-not_written, Claimed.claimed-old_value, Dependencies.Proper-dependencies, Ending.content-kept, Ending.counted-same, Ending.written-undone, Finding.being_written-here, Finding.both_pass, Finding.not_written-after, Finding.not_written-before, Finding.running-inside, Finding.second_fails, Placing.mark_in-cases, Placing.room-leaves_none, Reading.all_invalid, Reading.cells-renewed_or, Reading.cells-touched, Reading.cells-untouched, Reading.entry-inside, Reading.list_all-has, Reading.moves-it, Reading.same_node, Reading.unmoved-by, Reading.unmoved-from, Replicas.coming_by-is, Replicas.same_worker-is, Replicas.same_worker-refl, Separation.separated, Tables.length-renewed, Tables.renewed-at_or, TaskCells.fresh-among_written, TaskCells.written-among_cells}
 
 module _ (p : Program) (m : Machine) (s : State) (t : Task) (w : Worker) (s' : State) (run : CanRun p m s t w) (leaves : s' ≡ after_run p m s t w) where
   abbrev owns : Cell → CellState → CellState

@@ -1,22 +1,8 @@
 -- Claimed and running tasks keep apart: none writes a cell on which another works. And a claim keeps the order of tasks.
-use Rattle.std.proofs.Common.{Bool, ap, arith, inl, inr, length, not, subst, sym, true, ℕ, ◌&&◌, ◌<◌, ◌∙◌, ◌≡◌, ◌≢◌}
-use Rattle.std.proofs.Common.{IsTrue, if◌then◌else◌}
-use Rattle.sj_core.proofs.Eviction.{evicted_by}
-use Rattle.sj_core.proofs.Words.{Cell, Claimed, Machine, Program, Progress, State, Task, Waiting, Worker, cells_of}
-use Rattle.sj_core.proofs.Words.{commuting_cells, copy_of, has_cell, is_done, is_task_of, progress, task_of, worked_on}
-use Rattle.sj_core.proofs.Words.{worker_of, written_cells}
+use Rattle.sj_core.proofs.Words.{after_claim, ap, arith, Bool, CanClaim, Cell, cells_of, Claimed, commuting_cells, copy_of, has_cell, HasDependencies, if◌then◌else◌, inl, inr, is_active, is_commute, is_done, is_in_use, is_task_of, is_written, IsStateOf, IsTrue, length, Machine, NamesCells, not, OrderIsKept, Program, Progress, progress, SharesCommuting, State, subst, sym, Task, task_of, true, Waiting, worked_on, Worker, worker_of, WorkersAreSound, written_cells, ℕ, ◌&&◌, ◌<◌, ◌∙◌, ◌≡◌, ◌≢◌}
+use Rattle.sj_core.proofs.{Advancing.active-begun, Advancing.active_isn't_done, Advancing.Advances, Advancing.apart-from_earlier, Advancing.Claims-advances, Advancing.Claims-keeps_earlier, Advancing.idle-has_none, Advancing.same_task, Advancing.task_of-active, Advancing.task_of-worker, Eviction.evicted_by, Modes.commute_isn't_redux, Modes.commutes_is_written, Readiness.Ready-earlier, Reading.list_all-has, Reading.progress-inside, Sharing.Commuting, Sharing.Conflicting, Sharing.Contributing, Sharing.operand-has_cell, Sharing.operand_for, Sharing.Sharing, Sharing.sharing, TaskCells.written-among_cells}
 use Rattle.std.proofs.lemmas.{Bool.cases_lt, Bool.false≢true, Bool.true≢false, Bool.Decides.Decides-eqb}
-use Rattle.sj_base.specs.Mode.{is_commute, is_written}
 use Rattle.sj_base.proofs.Lists.{list_any-numbered}
-use Rattle.sj_deps.specs.Conflict.{HasDependencies}
-use Rattle.sj_core.specs.Coherent.{IsStateOf, OrderIsKept, SharesCommuting, WorkersAreSound, is_active}
-use Rattle.sj_core.specs.{Proper.NamesCells, Step.CanClaim, Step.after_claim, Step.is_in_use}
-use Rattle.sj_core.proofs.Advancing.{Advances, Claims-advances, Claims-keeps_earlier, active-begun, active_isn't_done}
-use Rattle.sj_core.proofs.Advancing.{apart-from_earlier, idle-has_none, same_task, task_of-active, task_of-worker}
-use Rattle.sj_core.proofs.{Modes.commute_isn't_redux, Modes.commutes_is_written, Readiness.Ready-earlier}
-use Rattle.sj_core.proofs.{Reading.list_all-has, Reading.progress-inside, Sharing.Commuting}
-use Rattle.sj_core.proofs.{Sharing.Conflicting, Sharing.Contributing, Sharing.Sharing, Sharing.operand-has_cell}
-use Rattle.sj_core.proofs.{Sharing.operand_for, Sharing.sharing, TaskCells.written-among_cells}
 
 active-isn't_waiting : (x : Progress) → is_active x ≡ true → x ≢ Waiting
 active-isn't_waiting x h e = false≢true (sym (ap is_active e) ∙ h)

@@ -1,20 +1,8 @@
 -- Two tasks that work on one cell, of which one writes it: they conflict, or commute, or contribute by one worker.
-use Rattle.std.proofs.Common.{Bool, List, None, Option, Some, [], ap, arith, inl, inr, length, map, not, refl, subst, suc, sym, true, zero, ℕ, ◌+◌, ◌<◌, ◌∙◌, ◌∷◌, ◌≡◌, ◌≢◌, ◌⊎◌, Contains, filter, flat_map, IsTrue, is_some, option_and_then, slice_get}
-use Rattle.std.proofs.lemmas.Bool.{cases_eq, false≢true}
-use Rattle.std.proofs.lemmas.Bool.Decides.{Decides-eqb}
-use Rattle.std.proofs.lemmas.List.Elements.{Contains-append_left, Contains-append_right}
-use Rattle.std.proofs.lemmas.List.Folds.{list_any_at}
-use Rattle.std.proofs.lemmas.List.FromFn.{get_or-range_with_len, length-range_with_len}
-use Rattle.std.proofs.lemmas.Option.{slice_get-get_or}
-use Rattle.std.specs.List.{range_with_len}
-use Rattle.sj_base.specs.Mode.{is_commute, is_redux, is_scratch, is_written, access}
-use Rattle.sj_base.proofs.Lists.{list_any-map}
-use Rattle.sj_base.proofs.SameIds.{same_cell-is}
-use Rattle.sj_core.proofs.Words.{Access, Cell, CellInfo, Codelet, Commute, CommuteMode, Contribute, Lowered, Manner, Mode, Program, R, RW, Read, Redux, Scratch, Task, Usage, W, Worker, Write, cell_info, cells_of, commuting_cells, copy_of, has_cell, no_cell, no_task, same_cell, task_of, worked_on, written_cells}
-use Rattle.sj_deps.specs.Conflict.{Conflict, HasDependencies, IsShared, SameGroup, Uses, copies_of, usage, usages, usages_of}
-use Rattle.sj_core.specs.Proper.{NamesCells}
-use Rattle.sj_core.proofs.Modes.{written_isn't_scratch}
-use Rattle.sj_core.proofs.Readiness.{Contains-filter, Contains-from_filter, filter-Contains, list_any-some, Contains-map}
+use Rattle.sj_core.proofs.Words.{[], Access, access, ap, arith, Bool, Cell, cell_info, CellInfo, cells_of, Codelet, Commute, CommuteMode, commuting_cells, Conflict, Contains, Contribute, copies_of, copy_of, filter, flat_map, has_cell, HasDependencies, inl, inr, is_commute, is_redux, is_scratch, is_some, is_written, IsShared, IsTrue, length, List, Lowered, Manner, map, Mode, NamesCells, no_cell, no_task, None, not, Option, option_and_then, Program, R, range_with_len, Read, Redux, refl, RW, same_cell, SameGroup, Scratch, slice_get, Some, subst, suc, sym, Task, task_of, true, Usage, usage, usages, usages_of, Uses, W, worked_on, Worker, Write, written_cells, zero, ℕ, ◌+◌, ◌<◌, ◌∙◌, ◌∷◌, ◌≡◌, ◌≢◌, ◌⊎◌}
+use Rattle.std.proofs.lemmas.{Bool.cases_eq, Bool.false≢true, Bool.Decides.Decides-eqb, List.Elements.Contains-append_left, List.Elements.Contains-append_right, List.Folds.list_any_at, List.FromFn.get_or-range_with_len, List.FromFn.length-range_with_len, Option.slice_get-get_or}
+use Rattle.sj_base.proofs.{Lists.list_any-map, SameIds.same_cell-is}
+use Rattle.sj_core.proofs.{Modes.written_isn't_scratch, Readiness.Contains-filter, Readiness.Contains-from_filter, Readiness.Contains-map, Readiness.filter-Contains, Readiness.list_any-some}
 
 -- ---- an operand behind a cell
 

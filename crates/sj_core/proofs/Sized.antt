@@ -1,27 +1,9 @@
 -- After any tasks of a proper program each cell holds a tile of its own dimensions.
-use Rattle.sj_codelet.specs.Kernel.{Equations}
+use Rattle.sj_core.proofs.Words.{[], Access, after_chosen, after_task, All, ap, arith, Array, Bool, Cell, Codelet, codelet_of, cond, Contents, dims_of, Equations, false, filter, find, fits, FitsCodelet, FitsSigned, Formal, formals_of, found, get_or, held_in, if◌then◌else◌, is_known, is_output, is_written, IsCall, IsLawful, IsTile, IsTrue, Kernel, kernel_of, length, List, MakesTiles, map, MayHaveModes, Mode, mode_of, modes_writing_by, no_task, None, Option, outputs_among, Program, Proper, ReadFormal, refl, results, same_cell, ScratchFormal, Some, subst, suc, sym, Task, task_of, true, UpdateFormal, w64, worked_on, Worker, WriteFormal, written_cells, zero, zeros, zip, ℕ, ◌<◌, ◌∙◌, ◌∷◌, ◌≡◌, ◌≤◌}
 use mathlib.Core.List.{map-map}
-use Rattle.std.proofs.Common.{Bool, List, [], ap, arith, length, map, refl, subst, suc, sym, true, zero, ℕ, false}
-use Rattle.std.proofs.Common.{get_or, ◌∙◌, ◌∷◌, ◌≡◌, None, Option, Some, cond}
-use Rattle.std.proofs.Common.{◌≤◌, ◌<◌, All, FitsSigned, IsTrue, if◌then◌else◌, filter, find, zip}
-use Rattle.sj_core.proofs.Words.{Array, Codelet, Kernel, zeros, Access, Cell, Formal, Mode, Program, ReadFormal}
-use Rattle.sj_core.proofs.Words.{ScratchFormal, Task, UpdateFormal, Worker, WriteFormal, dims_of, found, no_task}
-use Rattle.sj_core.proofs.Words.{results, same_cell, task_of, worked_on, written_cells}
-use Rattle.std.specs.{Int.w64}
-use Rattle.std.proofs.lemmas.List.{length-map}
-use Rattle.std.proofs.lemmas.List.Elements.{All-get_or, All-map, All-head, All-tail}
-use Rattle.std.proofs.lemmas.{Bool.false≢true}
-use Rattle.sj_base.specs.{Mode.is_written}
-use Rattle.sj_base.proofs.Lists.{cons_same, map-agree}
-use Rattle.sj_base.proofs.SameIds.{same_cell-is}
-use Rattle.sj_codelet.specs.Kernel.{codelet_of, fits, formals_of, kernel_of}
-use Rattle.sj_codelet.specs.Laws.{IsCall, IsTile, MakesTiles}
-use Rattle.sj_codelet.specs.Formal.{is_output, outputs_among}
-use Rattle.sj_codelet.proofs.Table.{codelet_of-kernel, each_dims}
-use Rattle.sj_codelet.proofs.NewArrays.{zeros-tile}
-use Rattle.sj_core.specs.Laws.{IsLawful, is_known}
-use Rattle.sj_core.specs.Fold.{Contents, after_chosen, after_task, held_in}
-use Rattle.sj_core.specs.Proper.{FitsCodelet, MayHaveModes, Proper, mode_of, modes_writing_by}
+use Rattle.std.proofs.lemmas.{Bool.false≢true, List.length-map, List.Elements.All-get_or, List.Elements.All-head, List.Elements.All-map, List.Elements.All-tail}
+use Rattle.sj_base.proofs.{Lists.cons_same, Lists.map-agree, SameIds.same_cell-is}
+use Rattle.sj_codelet.proofs.{NewArrays.zeros-tile, Table.codelet_of-kernel, Table.each_dims}
 use Rattle.sj_core.proofs.{Folding.held-append, Folding.held_over}
 
 -- ---- which operands get new arrays

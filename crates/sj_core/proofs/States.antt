@@ -1,21 +1,8 @@
 -- Legal traces: where all tasks are done each was claimed, ran and ended once; and what one event more needs and leaves.
-use Rattle.sj_codelet.specs.Kernel.{Equations}
-use Rattle.std.proofs.Common.{◌≡◌, ℕ, ◌+◌, Bool, true, false, List, [], ◌∷◌, length, refl, ◌∙◌, arith}
-use Rattle.std.proofs.Common.{Some, ◌++◌, count_by, nat_eq, fold}
-use Rattle.sj_core.proofs.Words.{AtNode, Claim, Claimed, Done, End, Event, Machine, Move, OnDisk, Program, Progress, zeros, dims_of}
-use Rattle.sj_core.proofs.Words.{Run, Running, State, Task, Waiting, is_done, opening, progress, Cell, Place, Worker}
-use Rattle.sj_core.proofs.Words.{transfer}
-use Rattle.std.proofs.lemmas.List.{length-set, length-replicate, get_or-replicate}
-use Rattle.std.proofs.lemmas.List.Sums.{AllPass-from_list_all, sum_by-cons, fold-append}
-use Rattle.std.proofs.lemmas.{Bool.false≢true, Bool.Decides.Decides-eqb}
+use Rattle.sj_core.proofs.Words.{[], a_transfer, after, arith, arrays_after, arrays_of, AtNode, Bool, CanFollow, Cell, Claim, Claimed, Coherent, count_by, dims_of, Done, EachRanOnce, End, Equations, Event, false, fold, is_begun, is_claim_of, is_done, is_end_of, is_run_of, IsFinished, IsLegal, length, List, Machine, May, Move, mover_of, nat_eq, OnDisk, opening, Place, Program, Progress, progress, refl, Run, Running, Some, State, state_of, Task, transfer, true, Waiting, Worker, zeros, ℕ, ◌++◌, ◌+◌, ◌∙◌, ◌∷◌, ◌≡◌}
+use Rattle.std.proofs.lemmas.{Bool.false≢true, Bool.Decides.Decides-eqb, List.get_or-replicate, List.length-replicate, List.length-set, List.Sums.AllPass-from_list_all, List.Sums.fold-append, List.Sums.sum_by-cons}
 use Rattle.sj_base.proofs.Bools.{tally}
-use Rattle.sj_core.specs.{Step.May, Step.a_transfer, Step.after, Step.mover_of, Coherent.Coherent, Coherent.is_begun}
-use Rattle.sj_core.specs.{Legal.CanFollow, Legal.IsFinished, Legal.IsLegal, Legal.state_of}
-use Rattle.sj_core.specs.{Once.EachRanOnce, Once.is_claim_of, Once.is_run_of, Once.is_end_of}
-use Rattle.sj_core.proofs.Advancing.{Advances, Claims-advances_task, Runs-advances, Ends-advances, done-begun}
-use Rattle.sj_core.proofs.Eviction.{evicted-after}
-use Rattle.sj_core.proofs.Replicas.{coming_by-is, leaving_by-is}
-use Rattle.sj_core.specs.Arrays.{arrays_after, arrays_of}
+use Rattle.sj_core.proofs.{Advancing.Advances, Advancing.Claims-advances_task, Advancing.done-begun, Advancing.Ends-advances, Advancing.Runs-advances, Eviction.evicted-after, Replicas.coming_by-is, Replicas.leaving_by-is}
 
 -- ---- legal traces: where all tasks are done each was claimed, ran and ended once
 

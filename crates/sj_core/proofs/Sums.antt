@@ -1,12 +1,6 @@
 -- Sums over lists whose terms balance, or bound one another, element by element.
-use Rattle.std.proofs.Common.{◌≡◌, ℕ, ◌+◌, ◌≤◌, Bool, true, false, not, cond, List, [], ◌∷◌, refl, sym, ap, ◌∙◌, arith}
-use Rattle.std.proofs.Common.{map, inl, inr, ◌&&◌, ◌<◌, zero, suc, ◌*◌, sum_by, count_by, nat_le, nat_lt, nat_eq}
-use Rattle.std.proofs.Common.{filter}
-use Rattle.std.proofs.lemmas.List.Sums.{sum_by-cons, sum_by-le-sum_by, get_or-le-sum_by}
-use Rattle.std.proofs.lemmas.Bool.{false_from_ne_true, and_parts, and_from, and_left, leb-true, ltb-true, le-leb}
-use Rattle.std.proofs.lemmas.Bool.{lt-leb, lt-ltb, eq-eqb, ne_eqb, cases_eq}
-use Rattle.std.proofs.lemmas.{List.Folds.Any-from_list_any, List.Filters.sum_by-filter_both}
-use Rattle.std.specs.List.{range_with_len, list_any}
+use Rattle.sj_core.proofs.Words.{[], ap, arith, Bool, cond, count_by, false, filter, inl, inr, List, list_any, map, nat_eq, nat_le, nat_lt, not, range_with_len, refl, suc, sum_by, sym, true, zero, ℕ, ◌&&◌, ◌*◌, ◌+◌, ◌<◌, ◌∙◌, ◌∷◌, ◌≡◌, ◌≤◌}
+use Rattle.std.proofs.lemmas.{Bool.and_from, Bool.and_left, Bool.and_parts, Bool.cases_eq, Bool.eq-eqb, Bool.false_from_ne_true, Bool.le-leb, Bool.leb-true, Bool.lt-leb, Bool.lt-ltb, Bool.ltb-true, Bool.ne_eqb, List.Filters.sum_by-filter_both, List.Folds.Any-from_list_any, List.Sums.get_or-le-sum_by, List.Sums.sum_by-cons, List.Sums.sum_by-le-sum_by}
 pub use Rattle.sj_base.proofs.Lists.{sum_by-agree as sum-agree}
 pub use Rattle.sj_base.proofs.Bools.{tally}
 pub use Rattle.sj_base.proofs.Bools.{same_test}

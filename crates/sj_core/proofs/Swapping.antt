@@ -1,25 +1,10 @@
 -- Tasks that may change places: they work on different cells, or each updates one and the same cell by codelets that may be
 -- exchanged. One that may change places with all later chosen tasks may be put last.
-use Rattle.sj_codelet.specs.Kernel.{Equations}
-use Rattle.std.proofs.Common.{Bool, List, None, Some, [], ap, arith, cond, false, inl, inr, length, map, refl, subst, suc, sym, true, zero, ℕ, ℤ, ◌++◌, ◌<◌, ◌≤◌, ◌||◌, ◌∙◌, ◌∷◌, ◌≡◌, ◌≢◌, All, FitsSigned, IsTrue, if◌then◌else◌, Contains, find, zip}
-use Rattle.std.specs.Int.{w64}
-use Rattle.std.proofs.lemmas.Bool.{cases_Bool, cases_lt, false_from_ne_true}
-use Rattle.std.proofs.lemmas.List.{map-append}
-use Rattle.std.proofs.lemmas.List.Elements.{All-get_or}
-use Rattle.sj_base.specs.Mode.{is_redux, starts_as_zeros}
-use Rattle.sj_base.proofs.Lists.{map-agree}
-use Rattle.sj_base.proofs.SameIds.{same_cell-is, same_cell-itself}
+use Rattle.sj_core.proofs.Words.{[], Access, after_chosen, after_task, All, ap, arith, Array, Bool, Cell, cells_of, Codelet, codelet_of, cond, Contains, Contents, dims_of, DoCommute, Equations, false, find, fits, FitsSigned, found, has_cell, held_in, if◌then◌else◌, inl, inr, is_redux, IsCall, IsLawful, IsTile, IsTrue, Kernel, kernel_of, length, List, map, no_task, None, operand, Program, Proper, refl, result_of, results, same_cell, Some, starts_as_zeros, subst, suc, sym, Task, task_of, true, w64, worked_on, Worker, written_cells, zero, zeros, zip, ℕ, ℤ, ◌++◌, ◌<◌, ◌||◌, ◌∙◌, ◌∷◌, ◌≡◌, ◌≢◌, ◌≤◌}
+use Rattle.std.proofs.lemmas.{Bool.cases_Bool, Bool.cases_lt, Bool.false_from_ne_true, List.map-append, List.Elements.All-get_or}
+use Rattle.sj_base.proofs.{Lists.map-agree, SameIds.same_cell-is, SameIds.same_cell-itself}
 use Rattle.sj_codelet.proofs.Table.{codelet_of-kernel, each_dims}
-use Rattle.sj_codelet.specs.Kernel.{codelet_of, fits, kernel_of, operand}
-use Rattle.sj_codelet.specs.Laws.{DoCommute, IsCall, IsTile, result_of}
-use Rattle.sj_core.proofs.Words.{Access, Array, Cell, Codelet, Kernel, Program, Task, Worker, cells_of, dims_of, found, has_cell, no_task, results, same_cell, task_of, worked_on, written_cells, zeros}
-use Rattle.sj_core.specs.Fold.{Contents, after_chosen, after_task, held_in}
-use Rattle.sj_core.specs.Proper.{Proper}
-use Rattle.sj_core.specs.Laws.{IsLawful}
-use Rattle.sj_core.proofs.Values.{results-complete}
-use Rattle.sj_core.proofs.Folding.{AddsTask, after_chosen-same, after_task-other, after_task-same, held-append, held_over}
-use Rattle.sj_core.proofs.Sized.{AreSized, after_chosen-sized, ins-fit, ins-tiles, task-fits, task-makes_tiles}
-use Rattle.sj_core.proofs.TaskCells.{written-among_cells}
+use Rattle.sj_core.proofs.{Folding.AddsTask, Folding.after_chosen-same, Folding.after_task-other, Folding.after_task-same, Folding.held-append, Folding.held_over, Sized.after_chosen-sized, Sized.AreSized, Sized.ins-fit, Sized.ins-tiles, Sized.task-fits, Sized.task-makes_tiles, TaskCells.written-among_cells, Values.results-complete}
 
 -- ---- one cell that a task updates
 

@@ -1,9 +1,6 @@
 -- Reading a table after rows of it were written.
-use Rattle.std.proofs.Common.{◌≡◌, ℕ, ◌<◌, List, length, get_or, ap, ◌∙◌, arith}
-use Rattle.std.proofs.lemmas.List.{length-map, get_or-map, get_or_past}
-use Rattle.std.proofs.lemmas.{List.FromFn.length-enumerate_from, List.FromFn.get_or-enumerate_from, Bool.cases_lt}
-use Rattle.std.specs.List.{enumerate_from}
-use Rattle.sj_core.specs.Table.{renewed}
+use Rattle.sj_core.proofs.Words.{ap, arith, enumerate_from, get_or, length, List, renewed, ℕ, ◌<◌, ◌∙◌, ◌≡◌}
+use Rattle.std.proofs.lemmas.{Bool.cases_lt, List.get_or-map, List.get_or_past, List.length-map, List.FromFn.get_or-enumerate_from, List.FromFn.length-enumerate_from}
 
 pub length-renewed : {X : Type 0} (f : ℕ → X → X) (xs : List X) → length (renewed f xs) ≡ length xs
 length-renewed f xs = length-map (enumerate_from 0 xs) (λ row. f row.0 row.1) ∙ length-enumerate_from 0 xs

@@ -1,12 +1,7 @@
 -- Which cells a task works on: those it writes, those it finds as zeros, those to which it contributes in any order.
-use Rattle.std.proofs.Common.{arith, length, ◌<◌, Bool, List, [], not, refl, true, ◌&&◌, ◌∷◌, ◌≡◌, Contains, filter}
-use Rattle.sj_core.proofs.Words.{Access, Cell, Program, Task, Worker, cells_of, fresh_cells, has_cell, task_of}
-use Rattle.sj_core.proofs.Words.{worked_on, written_cells}
+use Rattle.sj_core.proofs.Words.{[], Access, arith, Bool, Cell, cells_of, Contains, filter, fresh_cells, has_cell, is_scratch, is_written, length, List, not, Program, refl, starts_as_zeros, Task, task_of, true, worked_on, Worker, written_cells, ◌&&◌, ◌<◌, ◌∷◌, ◌≡◌}
 use Rattle.std.proofs.lemmas.{Bool.cases_lt, List.get_or_past}
-use Rattle.sj_base.specs.Mode.{is_scratch, is_written, starts_as_zeros}
-use Rattle.sj_core.proofs.{CellLists.same_cell-from, Modes.fresh_is_written, Modes.written_isn't_scratch}
-use Rattle.sj_core.proofs.{Readiness.Contains-from_filter, Readiness.filter-Contains, Sharing.operand-has_cell}
-use Rattle.sj_core.proofs.{Sharing.operand_for}
+use Rattle.sj_core.proofs.{CellLists.same_cell-from, Modes.fresh_is_written, Modes.written_isn't_scratch, Readiness.Contains-from_filter, Readiness.filter-Contains, Sharing.operand-has_cell, Sharing.operand_for}
 
 -- ---- each operand of a task names a cell of its program
 

@@ -1,21 +1,8 @@
 -- A computed test of legal traces, for worked runs: in it a task begins only once all earlier tasks are done.
-use Rattle.std.proofs.Common.{arith, Bool, List, None, Option, Some, [], false, length, not, true, ◌&&◌, ◌∷◌, ◌≡◌}
-use Rattle.std.proofs.Common.{is_none, is_some, nat_eq, nat_le, nat_lt}
-use Rattle.sj_core.proofs.Words.{AtNode, Cell, Claim, DiskNo, Drop, End, Event, Machine, Move, Moved, OnDisk, Place}
-use Rattle.sj_core.proofs.Words.{Program, Progress, Run, State, Task, Transfer, Waiting, commuting_cells, done_in}
-use Rattle.sj_core.proofs.Words.{footprint, has_room, is_claimed_by, is_coming_by, is_idle, is_leaving, is_leaving_by}
-use Rattle.sj_core.proofs.Words.{is_running_on, is_waiting, node_of, node_size, opening, progress, mark, same_cell}
-use Rattle.sj_core.proofs.Words.{transfer, written_cells}
+use Rattle.sj_core.proofs.Words.{[], a_transfer, after, arith, AtNode, Bool, CanFollow, Cell, Claim, commuting_cells, disk_of, DiskNo, done_in, Drop, End, Event, false, fits, footprint, has_room, is_claimed_by, is_coming_by, is_elsewhere, is_fresh, is_idle, is_in_use, is_leaving, is_leaving_by, is_moving, is_none, is_present, is_read, is_running_on, is_some, is_waiting, IsLegal, length, List, list_all, Machine, mark, May, Move, Moved, mover_of, nat_eq, nat_le, nat_lt, node_of, node_size, None, none_leaving, not, OnDisk, opening, Option, Place, Program, Progress, progress, range_with_len, Run, same_cell, same_place, Some, source_of, State, Task, Transfer, transfer, true, victims_for, Waiting, worker, written_cells, ◌&&◌, ◌∷◌, ◌≡◌}
 use Rattle.std.proofs.lemmas.Bool.{and_parts, eqb-true, false≢true, leb-true, ltb-true}
-use Rattle.std.specs.List.{list_all, range_with_len}
-use Rattle.sj_base.specs.Ids.{worker}
 use Rattle.sj_base.proofs.SameIds.{same_cell-is}
-use Rattle.sj_codelet.specs.Kernel.{fits}
-use Rattle.sj_core.specs.Legal.{CanFollow, IsLegal}
-use Rattle.sj_core.specs.Step.{May, a_transfer, after, disk_of, is_fresh, is_in_use, is_moving, is_present, is_read}
-use Rattle.sj_core.specs.Step.{is_elsewhere, mover_of, none_leaving, same_place, source_of, victims_for}
-use Rattle.sj_core.proofs.{Advancing.claimed_by-is, Advancing.running_on-is, Placing.same_place-is}
-use Rattle.sj_core.proofs.{Readiness.EarlierAreDone-all, Readiness.Ready-from}
+use Rattle.sj_core.proofs.{Advancing.claimed_by-is, Advancing.running_on-is, Placing.same_place-is, Readiness.EarlierAreDone-all, Readiness.Ready-from}
 
 abbrev all_earlier_done : State → Task → Bool
 all_earlier_done s t = list_all (λ n. done_in s (record { 0 = n })) (range_with_len 0 t.0)

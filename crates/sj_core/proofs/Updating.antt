@@ -1,29 +1,9 @@
 -- A task with a COMMUTE or a REDUX operand updates one cell alone, by its last operand.
-use Rattle.sj_codelet.specs.Kernel.{Equations}
-use Rattle.std.proofs.Common.{◌&&◌, Bool, List, [], ap, arith, cond, false, inl, inr, length, map, not, refl, subst, suc, sym, true, ◌++◌, ◌<◌, ◌||◌, ◌∙◌, ◌∷◌, ◌≡◌, ◌≢◌, ◌⊎◌, Some, Contains, filter}
-use Rattle.std.specs.List.{list_all, list_any}
-use Rattle.std.proofs.lemmas.Bool.{cases_Bool, false≢true, true≢false, not-true, and_from, and_parts}
-use Rattle.std.proofs.lemmas.List.{map-append}
-use Rattle.std.proofs.lemmas.List.Elements.{Contains-append_cases, Contains-append_left}
-use Rattle.std.proofs.lemmas.List.Sums.{AllPass-from_list_all}
-use Rattle.std.proofs.lemmas.List.Folds.{list_any_at}
-use Rattle.sj_base.specs.Mode.{is_in_order, is_redux, is_scratch, is_written, starts_as_zeros}
-use Rattle.sj_base.proofs.Bools.{implied}
-use Rattle.sj_base.proofs.Lists.{one_is}
-use Rattle.sj_base.proofs.SameIds.{same_cell-is, same_cell-itself}
+use Rattle.sj_core.proofs.Words.{[], Access, ap, arith, Bool, Cell, cells_of, Codelet, Commute, CommuteMode, commutes_of, cond, Conflict, Contains, Contribute, contributes_of, Equations, false, filter, Formal, formals_of, has_cell, inl, inr, is_in_order, is_output, is_redux, is_scratch, is_written, IsLawful, IsSharedManner, Kernel, kernel_of, Least, length, List, list_all, list_any, Manner, map, MayHaveModes, Mode, mode_of, modes_writing_by, not, own_modes, Plus, Program, Proper, R, Read, Reduction, Redux, refl, RW, same_cell, Scratch, Some, starts_as_zeros, subst, suc, sym, Task, task_of, true, UpdateFormal, Uses, worked_on, Worker, Write, written_cells, ◌&&◌, ◌++◌, ◌<◌, ◌||◌, ◌∙◌, ◌∷◌, ◌≡◌, ◌≢◌, ◌⊎◌}
+use Rattle.std.proofs.lemmas.{Bool.and_from, Bool.and_parts, Bool.cases_Bool, Bool.false≢true, Bool.not-true, Bool.true≢false, List.map-append, List.Elements.Contains-append_cases, List.Elements.Contains-append_left, List.Folds.list_any_at, List.Sums.AllPass-from_list_all}
+use Rattle.sj_base.proofs.{Bools.implied, Lists.one_is, SameIds.same_cell-is, SameIds.same_cell-itself}
 use Rattle.sj_codelet.proofs.Table.{by_table}
-use Rattle.sj_codelet.specs.Formal.{is_output}
-use Rattle.sj_codelet.specs.Kernel.{commutes_of, contributes_of, formals_of, kernel_of}
-use Rattle.sj_deps.specs.Conflict.{Uses, Conflict, IsShared as IsSharedManner}
-use Rattle.sj_core.specs.Proper.{MayHaveModes, Proper, mode_of, modes_writing_by, own_modes}
-use Rattle.sj_core.specs.Laws.{IsLawful}
-use Rattle.sj_core.proofs.Words.{Access, Cell, Codelet, CommuteMode, Formal, Kernel, Least, Mode, Plus, Program, R, RW, Read, Reduction, Redux, Scratch, Task, UpdateFormal, Worker, task_of, worked_on, written_cells, Commute, Contribute, Manner, Write, cells_of, has_cell, same_cell}
-use Rattle.sj_core.proofs.Dependencies.{Proper-dependencies, map-from}
-use Rattle.sj_core.proofs.Modes.{written_isn't_scratch}
-use Rattle.sj_core.proofs.Sharing.{manner_of, operand-uses, redux-has_copies, BothCommute, BothContribute, Conflict-sym, Differ, commuting-is, conflict-by, contributing-is, meeting, operand_for, written-isn't_read}
-use Rattle.sj_core.proofs.Swapping.{Updates, Apart, Exchange, MaySwap, Together, commuting-exchange}
-use Rattle.sj_core.proofs.Sized.{knows, task-fits}
-use Rattle.sj_core.proofs.Readiness.{list_any-some, Contains-map}
+use Rattle.sj_core.proofs.{Dependencies.map-from, Dependencies.Proper-dependencies, Modes.written_isn't_scratch, Readiness.Contains-map, Readiness.list_any-some, Sharing.BothCommute, Sharing.BothContribute, Sharing.commuting-is, Sharing.conflict-by, Sharing.Conflict-sym, Sharing.contributing-is, Sharing.Differ, Sharing.manner_of, Sharing.meeting, Sharing.operand-uses, Sharing.operand_for, Sharing.redux-has_copies, Sharing.written-isn't_read, Sized.knows, Sized.task-fits, Swapping.Apart, Swapping.commuting-exchange, Swapping.Exchange, Swapping.MaySwap, Swapping.Together, Swapping.Updates}
 
 -- ---- a task with a COMMUTE or a REDUX operand updates one cell alone, by its last operand
 

@@ -1,29 +1,9 @@
 -- A cell whose old value a task reads has been written by the time that the task may run.
-use Rattle.sj_codelet.specs.Kernel.{Equations}
-use Rattle.std.proofs.Common.{arith, ◌≡◌, Bool, true, false, cond, List, map, length, refl, sym, ap, ◌∙◌}
-use Rattle.std.proofs.Common.{inl, inr, not, subst, suc, zero, ℕ, ◌&&◌, ◌<◌, ◌⊎◌, ℤ, count_by, IsTrue}
-use Rattle.std.proofs.Common.{filter, Contains}
-use Rattle.sj_core.proofs.Words.{Access, Array, Cell, Codelet, CommuteMode, Kernel, Manner, Mode, Program, R, Redux, Scratch}
-use Rattle.sj_core.proofs.Words.{State, Task, W, Worker, Write, cells_of, copy_of, data_operands, done_by, found}
-use Rattle.sj_core.proofs.Words.{fresh_cells, has_cell, results, same_cell, task_of, tasks_of, worked_on, writes}
-use Rattle.sj_core.proofs.Words.{written_cells}
-use Rattle.std.proofs.lemmas.{List.Sums.length-filter, List.length-map, Bool.false≢true, Bool.Decides.Decides-eqb}
-use Rattle.std.proofs.lemmas.{List.Elements.All-contains}
+use Rattle.sj_core.proofs.Words.{Access, access, ap, arith, Array, Bool, Cell, cells_of, Codelet, codelet_of, CommuteMode, cond, Conflict, Contains, copy_of, count_by, data_operands, done_by, EarlierAreDone, Equations, false, filter, FitsCodelet, formals_of, found, fresh_cells, gives_value, has_cell, has_written, HasValueBefore, inl, inr, is_output, is_redux, is_scratch, is_written, IsShared, IsTrue, Kernel, length, List, MakesTiles, Manner, map, MayHaveModes, Mode, modes_writing_by, not, own_modes, Program, Proper, R, reads_value, Redux, refl, results, same_cell, Scratch, starts_as_zeros, State, subst, suc, sym, Task, task_of, tasks_of, true, Uses, W, worked_on, Worker, Write, writes, WritesAreCounted, written_cells, zero, ℕ, ℤ, ◌&&◌, ◌<◌, ◌∙◌, ◌≡◌, ◌⊎◌}
+use Rattle.std.proofs.lemmas.{List.Sums.length-filter, List.length-map, Bool.false≢true, Bool.Decides.Decides-eqb, List.Elements.All-contains}
 use Rattle.sj_codelet.proofs.Table.{codelet_of-kernel}
-use Rattle.sj_codelet.specs.Kernel.{codelet_of, formals_of}
-use Rattle.sj_codelet.specs.Formal.{is_output}
-use Rattle.sj_codelet.specs.Laws.{MakesTiles}
-use Rattle.sj_base.specs.Mode.{is_written, is_redux, is_scratch, reads_value, starts_as_zeros, access}
-use Rattle.sj_base.proofs.Lists.{list_any-numbered, sum_by-agree, sum_by-map}
-use Rattle.sj_base.proofs.SameIds.{same_cell-is}
-use Rattle.sj_core.specs.Proper.{FitsCodelet, MayHaveModes, own_modes, modes_writing_by, HasValueBefore, Proper}
-use Rattle.sj_core.specs.Proper.{gives_value}
-use Rattle.sj_core.specs.{Coherent.WritesAreCounted, Coherent.has_written, Step.EarlierAreDone}
-use Rattle.sj_deps.specs.Conflict.{Conflict, IsShared, Uses}
-use Rattle.sj_core.proofs.{Dependencies.Proper-dependencies, Readiness.Contains-filter, Readiness.list_any-some}
-use Rattle.sj_core.proofs.{Sharing.manner_of, Sharing.operand-has_cell}
-use Rattle.sj_core.proofs.{Sharing.operand-uses, Sharing.operand_for, Sharing.redux-has_copies}
-use Rattle.sj_core.proofs.{Sharing.write_isn't_read, Sums.counted-has}
+use Rattle.sj_base.proofs.{Lists.list_any-numbered, Lists.sum_by-agree, Lists.sum_by-map, SameIds.same_cell-is}
+use Rattle.sj_core.proofs.{Dependencies.Proper-dependencies, Readiness.Contains-filter, Readiness.list_any-some, Sharing.manner_of, Sharing.operand-has_cell, Sharing.operand-uses, Sharing.operand_for, Sharing.redux-has_copies, Sharing.write_isn't_read, Sums.counted-has}
 
 -- ---- a task's codelet has a new array for each operand that the task writes
 

@@ -1,13 +1,5 @@
 -- Needs, first fit and victims on small programs, with the numbers worked out by hand.
-use Rattle.std.proofs.Common.{ℕ, Option, List, ◌∷◌, ◌≡◌, not, [], map, refl, Some, None, ℤ, pos, option_map, nat_eq}
-use Rattle.sj_core.proofs.Words.{Access, AtNode, Cell, CellInfo, Claim, End, Event, Kernel, Lowered, Machine, Mode}
-use Rattle.sj_core.proofs.Words.{OnDisk, Place, Run, Block, Program, R, Redux, Scratch, footprint, place}
-use Rattle.sj_core.proofs.Words.{room, swap_need}
-use Rattle.sj_base.specs.declared.mode.Policy.TheVariants.{Eager}
-use Rattle.sj_base.specs.Ids.{task, cell, worker}
-use Rattle.sj_codelet.specs.Kernel.{codelet_of}
-use Rattle.sj_codelet.specs.declared.kernel.Kernel.TheVariants.{Sum, GemmThree}
-use Rattle.sj_core.specs.Victims.{victims}
+use Rattle.sj_core.proofs.Words.{[], Access, AtNode, Block, Cell, cell, CellInfo, Claim, codelet_of, Eager, End, Event, footprint, GemmThree, Kernel, List, Lowered, Machine, map, Mode, nat_eq, None, not, OnDisk, Option, option_map, Place, place, pos, Program, R, Redux, refl, room, Run, Scratch, Some, Sum, swap_need, task, victims, worker, ℕ, ℤ, ◌∷◌, ◌≡◌}
 
 -- ---- words in which worked jobs and their events are told
 

@@ -1,20 +1,9 @@
 -- Worked jobs whose runs are legal and complete: a sum, vectors that don't fit their node together, a reduction.
-use Rattle.sj_codelet.specs.Kernel.{out}
-use Rattle.std.proofs.Common.{◌≡◌, ℕ, List, [], ◌∷◌, refl, None, arith, lit<, lit≤, pos}
-use Rattle.sj_core.proofs.Words.{Claim, Drop, End, Event, Machine, Manner, Move, Moved, Program, R, RW, Run}
-use Rattle.sj_core.proofs.Words.{Valid, W, Write, order, mark, victims_of, writes}
+use Rattle.sj_core.proofs.Words.{[], Add, arith, arrays_of, cell, Claim, Conflict, Deliver, disk_of, Drop, End, Event, given, HasSwapFor, IsComplete, IsLegal, IsMachineFor, IsShared, List, lit<, lit≤, Load, Machine, Manner, mark, May, Move, Moved, None, order, out, pos, Program, R, refl, Run, RW, state_of, task, Uses, Valid, vector, victims_of, W, worker, Write, writes, ℕ, ◌∷◌, ◌≡◌}
 use Rattle.std.specs.Int.{int_wrap}
 use Rattle.std.proofs.lemmas.Bool.{false≢true}
-use Rattle.sj_base.specs.Ids.{task, cell, worker}
-use Rattle.sj_codelet.specs.declared.kernel.Kernel.TheVariants.{Load, Add, Deliver}
-use Rattle.sj_codelet.specs.Equations.{vector}
-use Rattle.sj_deps.specs.Conflict.{Conflict, Uses, IsShared}
-use Rattle.sj_core.specs.{Fold.given, Legal.IsLegal, Legal.IsComplete, Legal.state_of, Proper.IsMachineFor}
-use Rattle.sj_core.specs.{Proper.HasSwapFor, Step.May, Step.disk_of}
-use Rattle.sj_core.proofs.Worked.{a_machine, a_task, access, columns, disk, node, turn}
-use Rattle.sj_core.proofs.{Readiness.Ready-earlier, Testing.legal-from, Sharing.write_isn't_read}
+use Rattle.sj_core.proofs.{Readiness.Ready-earlier, Sharing.write_isn't_read, Testing.legal-from, Worked.a_machine, Worked.a_task, Worked.access, Worked.columns, Worked.disk, Worked.node, Worked.turn}
 use Rattle.sj_core.proofs.Reduction
-use Rattle.sj_core.specs.Arrays.{arrays_of}
 
 -- ---- a sum
 

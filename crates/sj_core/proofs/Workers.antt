@@ -1,37 +1,9 @@
 -- What cells hold after all tasks up to one doesn't depend on the workers of the contributions, but in partial copies and
 -- under open phases.
-use Rattle.sj_codelet.specs.Kernel.{Equations}
-use Rattle.std.proofs.Common.{Bool, List, ap, arith, cond, false, inl, inr, length, not, refl, subst, suc, sym, true}
-use Rattle.std.proofs.Common.{zero, ℕ, ◌<◌, ◌≤◌, ◌∙◌, ◌≡◌, ◌≢◌, [], get_or, ◌∷◌, ◌⊎◌, Contains, zip, is_some}
-use Rattle.std.proofs.Common.{nat_lt}
-use Rattle.sj_core.proofs.Words.{Access, Array, Cell, Codelet, Kernel, Mode, Program, R, Read, Redux, Task, W, Worker}
-use Rattle.sj_core.proofs.Words.{cells_of, has_cell, results, task_of, worked_on, written_cells, cell_info}
-use Rattle.sj_core.proofs.Words.{copy_of, dims_of, same_cell}
-use Rattle.std.specs.List.{list_any}
-use Rattle.std.proofs.lemmas.Bool.{cases_Bool, false_from_ne_true, false≢true, cases_lt, true≢false, cases_eq}
-use Rattle.std.proofs.lemmas.List.Elements.{Contains-append_left}
-use Rattle.std.proofs.lemmas.{Bool.Decides.nat_tests, List.Folds.list_any_at}
-use Rattle.sj_base.specs.Mode.{is_in_order, is_scratch, is_written, starts_as_zeros, is_redux, access}
-use Rattle.sj_base.specs.Ids.{task}
-use Rattle.sj_base.proofs.Bools.{or_false}
-use Rattle.sj_base.proofs.SameIds.{same_cell-is, same_cell-itself}
-use Rattle.sj_deps.specs.Conflict.{Conflict, IsShared, Uses}
-use Rattle.sj_core.specs.Proper.{Proper, IsCombine, IsOpenAt, IsPhase, IsPlain, Phase, task_number}
-use Rattle.sj_core.specs.{Fold.Contents, Fold.after_chosen, Fold.after_task, Fold.held_in, Laws.IsLawful}
-use Rattle.sj_codelet.specs.Laws.{IsReduction, IsTile, combined}
-use Rattle.sj_core.proofs.Folding.{after_task-other, held-append, held_over, held_over-own, read-among_cells}
-use Rattle.sj_core.proofs.Folding.{results-same, after_chosen-same, WorksAlike, cone-holds}
-use Rattle.sj_core.proofs.Phases.{contributions-exchange, Contributes, combine-after, combine-among, combine-reads}
-use Rattle.sj_core.proofs.Phases.{combine_at, contributes, copy-of, init-among, init-before, init_at, reduces}
-use Rattle.sj_core.proofs.Adding.{adds, merge, merges, part, part-fills, part-same, update}
-use Rattle.sj_core.proofs.Copies.{AtWork, Contribution, IsRefilled, OfCell, OfCopy, at-work, copy-bare, copy-own}
-use Rattle.sj_core.proofs.Copies.{direct-cell, refilled, redux_or}
-use Rattle.sj_core.proofs.{Sharing.conflict-by, Sharing.manner_of, Sharing.operand_for, Swapping.MaySwap}
-use Rattle.sj_core.proofs.{Swapping.update-spares, Values.results-complete, Dependencies.Proper-dependencies}
-use Rattle.sj_core.proofs.{Updating.may-swap, Updating.operand-used, Modes.written_isn't_scratch}
-use Rattle.sj_core.proofs.{Modes.reads_isn't_scratch, Combining.Reduces, Combining.combined-swap}
-use Rattle.sj_core.proofs.{TaskCells.operand-inside, TaskCells.written-among_cells}
-use Rattle.sj_core.proofs.{Sized.AreSized, Sized.after_chosen-sized, Sized.task-fits, Sized.task-makes_tiles, Advancing.same_task, Readiness.list_any-some}
+use Rattle.sj_core.proofs.Words.{[], Access, access, after_chosen, after_task, ap, arith, Array, Bool, Cell, cell_info, cells_of, Codelet, combined, cond, Conflict, Contains, Contents, copy_of, dims_of, Equations, false, get_or, has_cell, held_in, inl, inr, is_in_order, is_redux, is_scratch, is_some, is_written, IsCombine, IsLawful, IsOpenAt, IsPhase, IsPlain, IsReduction, IsShared, IsTile, Kernel, length, List, list_any, Mode, nat_lt, not, Phase, Program, Proper, R, Read, Redux, refl, results, same_cell, starts_as_zeros, subst, suc, sym, Task, task, task_number, task_of, true, Uses, W, worked_on, Worker, written_cells, zero, zip, ℕ, ◌<◌, ◌∙◌, ◌∷◌, ◌≡◌, ◌≢◌, ◌≤◌, ◌⊎◌}
+use Rattle.std.proofs.lemmas.{Bool.cases_Bool, Bool.cases_eq, Bool.cases_lt, Bool.false_from_ne_true, Bool.false≢true, Bool.true≢false, Bool.Decides.nat_tests, List.Elements.Contains-append_left, List.Folds.list_any_at}
+use Rattle.sj_base.proofs.{Bools.or_false, SameIds.same_cell-is, SameIds.same_cell-itself}
+use Rattle.sj_core.proofs.{Adding.adds, Adding.merge, Adding.merges, Adding.part, Adding.part-fills, Adding.part-same, Adding.update, Advancing.same_task, Combining.combined-swap, Combining.Reduces, Copies.at-work, Copies.AtWork, Copies.Contribution, Copies.copy-bare, Copies.copy-own, Copies.direct-cell, Copies.IsRefilled, Copies.OfCell, Copies.OfCopy, Copies.redux_or, Copies.refilled, Dependencies.Proper-dependencies, Folding.after_chosen-same, Folding.after_task-other, Folding.cone-holds, Folding.held-append, Folding.held_over, Folding.held_over-own, Folding.read-among_cells, Folding.results-same, Folding.WorksAlike, Modes.reads_isn't_scratch, Modes.written_isn't_scratch, Phases.combine-after, Phases.combine-among, Phases.combine-reads, Phases.combine_at, Phases.Contributes, Phases.contributes, Phases.contributions-exchange, Phases.copy-of, Phases.init-among, Phases.init-before, Phases.init_at, Phases.reduces, Readiness.list_any-some, Sharing.conflict-by, Sharing.manner_of, Sharing.operand_for, Sized.after_chosen-sized, Sized.AreSized, Sized.task-fits, Sized.task-makes_tiles, Swapping.MaySwap, Swapping.update-spares, TaskCells.operand-inside, TaskCells.written-among_cells, Updating.may-swap, Updating.operand-used, Values.results-complete}
 
 -- ---- on which tasks a cell depends, whatever the modes: those with which its writers conflict, and no member of their
 -- groups beside those that write it

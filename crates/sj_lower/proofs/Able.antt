@@ -1,12 +1,6 @@
 -- What lowering needs of the acts of a job.
-use Rattle.std.proofs.Common.{◌≡◌, Bool, List, [], ◌∷◌, Some, ℕ}
-use Rattle.sj_codelet.specs.declared.kernel.Kernel.{Kernel}
-use Rattle.sj_codelet.specs.declared.kernel.Kernel.TheVariants.{Deliver}
-use Rattle.sj_codelet.specs.Kernel.{kernel_of}
-use Rattle.sj_meaning.specs.Act.{Act, Statement, Register, Plan, Redux, Task, Print, Invalidate, Unregister}
-use Rattle.sj_meaning.specs.Meaning.{apply}
-use Rattle.sj_meaning.specs.State.{JobState}
-use Rattle.sj_meaning.specs.Sound.{IsSoundAct}
+use Rattle.sj_lower.proofs.Words.{[], Act, apply, Bool, Deliver, Invalidate, IsSoundAct, JobState, Kernel, kernel_of, List, Plan, Print, Some, Statement, Task, Unregister, ℕ, ◌∷◌, ◌≡◌}
+use Rattle.sj_meaning.specs.Act.{Register, Redux}
 
 -- a job can't name the codelet that delivers
 abbrev pub DoesNotDeliver : Act (List ℕ) → Type 0

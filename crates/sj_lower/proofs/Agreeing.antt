@@ -1,60 +1,11 @@
 -- Statement by statement, the cells of a program agree with the names of its job.
 use Rattle.std.specs.FinMap as map
-use Rattle.std.proofs.Common.{◌≡◌, ℕ, ◌+◌, ◌≤◌, Bool, true, false, cond, not, ◌||◌, Option, Some, None, List, [], ◌∷◌, ◌++◌, ℤ, pos, length, map as each_of, refl, sym, ap, subst, ◌∙◌, arith, length-append}
-use Rattle.std.specs.List.{AllByRecursion, list_all}
-use Rattle.std.specs.Option.{is_none}
-use Rattle.std.specs.Str.{bytes_eq}
-use Rattle.std.proofs.lemmas.Bool.{false≢true}
-use Rattle.std.proofs.lemmas.List.{length-replicate, append-nil}
-use Rattle.std.proofs.lemmas.Option.{same_Some}
-use Rattle.sj_base.specs.declared.ids.Cell.{Cell}
-use Rattle.sj_base.specs.declared.ids.Line.{Line}
-use Rattle.sj_base.specs.declared.tile.Dims.{Dims}
-use Rattle.sj_base.specs.declared.program.Lowered.{Lowered}
-use Rattle.sj_base.specs.declared.program.Program.{Program}
-use Rattle.sj_base.specs.Array.{Array, array, area, zeros}
-use Rattle.sj_codelet.specs.Equations.{loadfill}
-use Rattle.sj_codelet.specs.declared.kernel.Kernel.{Kernel}
-use Rattle.sj_codelet.specs.declared.kernel.Kernel.TheVariants.{Load, LoadFill}
-use Rattle.sj_core.specs.Program.{same_cell}
-use Rattle.sj_core.specs.Proper.{HasValueBefore}
-use Rattle.sj_base.specs.declared.mode.Reduction.{Reduction}
-use Rattle.sj_base.proofs.SameIds.{cell_of_number}
-use Rattle.sj_base.proofs.Texts.{same_text, other_text}
-use Rattle.sj_base.specs.Ids.{task}
-use Rattle.sj_lower.specs.declared.phase.OpenPhase.{OpenPhase}
-use Rattle.sj_core.specs.Fold.{Contents, held_in}
-use Rattle.sj_plan.specs.declared.parts.Parts.{Parts}
-use Rattle.sj_plan.specs.Parts.{Fits, IsPlace, places}
-use Rattle.sj_plan.specs.Paste.{pastes_of}
-use Rattle.sj_plan.specs.Rect.{child}
-use Rattle.sj_plan.specs.Window.{window}
+use Rattle.sj_lower.proofs.Words.{[], Act, active_cell, add_own, AllByRecursion, ap, apply, area, arith, Array, array, Bool, bytes_eq, Cell, cell_of, Cells, child, child_array, cond, Contents, copy_at, deliver_rows, Dims, each_of, false, Fill, fill_arguments, fill_row, first_elements, Fits, Handle, has_no_value, has_none, has_root, has_valued_root, HasValueBefore, held_in, Init, InitFits, integers_of, invalidate, Invalidates, is_none, is_valued, is_valued_child, IsPlace, IsSoundAct, IsSoundPlan, IsSoundRegistration, IsSoundTask, JobState, Kernel, leaves_plan, length, length-append, Line, List, list_all, Load, load_row, load_rows, LoadFill, loadfill, Lowered, Lowering, next_handle, no_values, None, not, Nothing, nothing, OpenPhase, Operand, operand_array, Option, out, Parts, parts_in, paste_row, pastes_of, places, plan, plan_rows, Plans, pos, Prints, Program, put, put_all, reduce, Reduces, Reduction, reduction_of, refl, Register, register, registered_root, Registers, root_array, root_of, RootState, run_task, same_cell, same_parts, Some, start, subst, sym, take, task, task_row, TaskLine, Tasks, true, unregister, Unregisters, Values, window, with_child, with_elements, with_new_root, with_parts, with_reduction, written_of, zeros, ℕ, ℤ, ◌++◌, ◌+◌, ◌||◌, ◌∙◌, ◌∷◌, ◌≡◌, ◌≤◌}
+use Rattle.std.proofs.lemmas.{Bool.false≢true, List.append-nil, List.length-replicate, Option.same_Some}
+use Rattle.sj_base.proofs.{SameIds.cell_of_number, Texts.other_text, Texts.same_text}
 use Rattle.sj_plan.proofs.Repartitioning.{child-within}
-use Rattle.sj_meaning.specs.declared.job.Init.{Init}
-use Rattle.sj_meaning.specs.declared.job.Init.TheVariants.{Values, Fill, Nothing}
-use Rattle.sj_codelet.specs.Kernel.{out}
-use Rattle.sj_meaning.specs.Statement.{Register, Operand, TaskLine}
-use Rattle.sj_meaning.specs.Act.{Act}
-use Rattle.sj_meaning.specs.Act.{Register as Registers, Plan as Plans, Redux as Reduces, Task as Tasks, Print as Prints, Invalidate as Invalidates, Unregister as Unregisters}
-use Rattle.sj_meaning.specs.State.{RootState, JobState, root_of, is_valued, has_no_value, is_valued_child, start}
-use Rattle.sj_meaning.specs.Meaning.{root_array, child_array, with_child, put, put_all, written_of, operand_array, integers_of, first_elements, registered_root, register, no_values, with_parts, with_elements, with_reduction, reduce, plan, invalidate, unregister, run_task, apply}
-use Rattle.sj_meaning.specs.Sound.{has_root, has_valued_root, has_none, reduction_of, InitFits, IsSoundTask, IsSoundRegistration, IsSoundPlan, IsSoundAct}
-use Rattle.sj_lower.specs.Cells.{Cells, Handle, same_parts, cell_of, take, with_new_root, next_handle, copy_at}
-use Rattle.sj_lower.specs.Rows.{load_row, fill_row, fill_arguments, paste_row}
-use Rattle.sj_lower.specs.Lowering.{Lowering, nothing, load_rows, parts_in, active_cell, leaves_plan, plan_rows, task_row, deliver_rows, add_own}
-use Rattle.sj_lower.proofs.Combined.{IsTrusted, Phases, denoted-closed}
-use Rattle.sj_lower.proofs.Contents.{contents_before, contents-next}
-use Rattle.sj_lower.proofs.Copies.{copies-none, copies-root, copies-take, take-more}
-use Rattle.sj_lower.proofs.Elements.{child-window, valued-child, blank-child, no_values-blank, unwrapped, filled-window}
-use Rattle.sj_lower.proofs.Filling.{AreFilled, HaveOwn, rows-filled, rows-give, blocks-give, after_load, after_fill, after_delivers, gives_own}
-use Rattle.sj_lower.proofs.Folding.{Stand, after_rows, contents-rows, one_gives, given-rows}
+use Rattle.sj_lower.proofs.{Combined.denoted-closed, Combined.IsTrusted, Combined.Phases, Contents.contents-next, Contents.contents_before, Copies.copies-none, Copies.copies-root, Copies.copies-take, Copies.take-more, Elements.blank-child, Elements.child-window, Elements.filled-window, Elements.no_values-blank, Elements.unwrapped, Elements.valued-child, Filling.after_delivers, Filling.after_fill, Filling.after_load, Filling.AreFilled, Filling.blocks-give, Filling.gives_own, Filling.HaveOwn, Filling.rows-filled, Filling.rows-give, Folding.after_rows, Folding.contents-rows, Folding.given-rows, Folding.one_gives, Folding.Stand, Holding.cell-dims, Holding.differs, Holding.HasCells, Holding.HasRoot, Holding.HaveRoots, Holding.HaveTheirs, Holding.held-kept, Holding.IsHeld, Holding.not_copy, Holding.root-kept, Laid.AreLaid, Laid.cell-is, Laid.cells-apart, Laid.IsTaken, Laid.laid-none, Laid.laid-root, Laid.laid-take, Laid.none_isn't, Laid.root-keeps, Laid.root-there, Laid.take-keeps, Laid.take-takes, Pasting.pastes-filled, Pasting.pastes-give, Pasting.rows-by_child, Pasting.rows_to, Places.parts-are, Places.parts-itself, Running.holds-task, Running.is_direct, Running.IsClosed, Running.root_there, Stating.Agrees, Stating.Begins, Stating.IsActiveChild, Stating.stands-own}
 use Rattle.sj_meaning.proofs.Finding.{get-put, get-gone, root-change}
-use Rattle.sj_lower.proofs.Holding.{IsHeld, HasRoot, HaveRoots, HaveTheirs, HasCells, differs, not_copy, root-kept, held-kept, cell-dims}
-use Rattle.sj_lower.proofs.Laid.{none_isn't, IsTaken, AreLaid, cell-is, cells-apart, laid-none, laid-root, laid-take, root-keeps, root-there, take-keeps, take-takes}
-use Rattle.sj_lower.proofs.Pasting.{rows_to, rows-by_child, pastes-filled, pastes-give}
-use Rattle.sj_lower.proofs.Places.{parts-are, parts-itself}
-use Rattle.sj_lower.proofs.Running.{is_direct, IsClosed, root_there, holds-task}
-use Rattle.sj_lower.proofs.Stating.{Begins, stands-own, IsActiveChild, Agrees}
 use Rattle.sj_job.proofs.Children.{first_length}
 
 pub none_of : {X : Type 0} (o : Option X) → ((x : X) → o ≡ Some x → ⊥) → o ≡ None

@@ -1,20 +1,10 @@
 -- What a statement that lines may say has.
-use Rattle.std.proofs.Common.{◌≡◌, ℕ, ◌&&◌, ◌+◌, Bool, true, List, [], ◌∷◌, Some, Ok, ap, subst, sym, ◌∙◌}
+use Rattle.sj_lower.proofs.Words.{[], Act, ap, apply, Bool, codelet_of, Deliver, first_of, Form, has_name, init_said, Invalidate, IsAllowed, IsWell, JobState, judged, Kernel, kernel_of, kernels, List, name_reasons, Ok, parts_said, Plan, plan_reasons, Print, print_reasons, redux_reasons, register_reasons, registered_by, Scope, scope_of, Some, Statement, subst, sym, TaskForm, true, Unregister, ℕ, ◌&&◌, ◌+◌, ◌∙◌, ◌∷◌, ◌≡◌}
 use Rattle.std.proofs.lemmas.Bool.{false≢true}
 use Rattle.sj_base.proofs.Bools.{and_rest}
-use Rattle.sj_codelet.specs.declared.kernel.Kernel.{Kernel}
-use Rattle.sj_codelet.specs.declared.kernel.Kernel.TheVariants.{Deliver}
-use Rattle.sj_codelet.specs.Kernel.{kernels, kernel_of, codelet_of, has_name}
 use Rattle.sj_codelet.proofs.Table.{kernel_of-codelet_of}
-use Rattle.sj_meaning.specs.Act.{Act, Statement, Register, Plan, Redux, Print, Invalidate, Unregister}
-use Rattle.sj_meaning.specs.Meaning.{apply}
-use Rattle.sj_job.specs.declared.form.TaskForm.{TaskForm}
-use Rattle.sj_job.specs.declared.form.Form.{Form}
+use Rattle.sj_meaning.specs.Act.{Register, Redux}
 use Rattle.sj_job.specs.declared.form.Form.TheVariants as form
-use Rattle.sj_job.specs.Sentence.{init_said, parts_said, registered_by}
-use Rattle.sj_meaning.specs.State.{JobState}
-use Rattle.sj_job.specs.Judge.{Scope, scope_of, first_of, judged, register_reasons, plan_reasons, print_reasons, name_reasons, redux_reasons}
-use Rattle.sj_job.specs.Well.{IsAllowed, IsWell}
 use Rattle.sj_lower.proofs.Able.{DoesNotDeliver, CanBe, AllCanBe}
 use Rattle.sj_job.proofs.Sounding.{IsJudged, unless_parts, judged-task, found_passes, sound_from_allowed}
 

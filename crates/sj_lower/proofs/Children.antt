@@ -1,31 +1,8 @@
 -- The tasks of the runtime's own codelets, one child after another.
-use Rattle.std.proofs.Common.{◌≡◌, ℕ, ◌+◌, ◌*◌, ◌/◌, ◌%◌, ◌<◌, inl, inr, ℤ, pos, List, [], ◌∷◌, ◌++◌, map, length, get_or, sym, ap, ◌∙◌, arith}
-use Rattle.std.specs.List.{range_with_len}
-use Rattle.std.proofs.lemmas.List.{same_lists}
-use Rattle.std.proofs.lemmas.List.FromFn.{length-map-range_with_len, get_or-map-range_with_len}
-use Rattle.sj_base.specs.declared.ids.Cell.{Cell}
-use Rattle.std.proofs.lemmas.Nat.{div-add-mod', mul-le}
-use Rattle.std.proofs.lemmas.Bool.{cases_lt}
-use Rattle.sj_base.specs.declared.ids.Line.{Line}
-use Rattle.sj_base.specs.declared.mode.Mode.TheVariants.{W}
-use Rattle.sj_base.specs.declared.program.Lowered.{Lowered}
-use Rattle.sj_base.specs.declared.tile.Dims.{Dims}
-use Rattle.sj_base.specs.Array.{array, area}
+use Rattle.sj_lower.proofs.Words.{[], access, ap, area, arith, array, Cell, cells_from, child, children_count, children_of, Dims, Fits, get_or, inl, inr, length, Line, List, Load, load_row, Lowered, map, own_task, part_len, Parts, places, pos, range_with_len, Rect, sym, undivided, W, window, ℕ, ℤ, ◌%◌, ◌*◌, ◌++◌, ◌+◌, ◌/◌, ◌<◌, ◌∙◌, ◌∷◌, ◌≡◌}
+use Rattle.std.proofs.lemmas.{Bool.cases_lt, List.same_lists, List.FromFn.get_or-map-range_with_len, List.FromFn.length-map-range_with_len, Nat.div-add-mod', Nat.mul-le}
 use Rattle.sj_base.proofs.Tables.{table_from_items}
-use Rattle.sj_base.specs.Mode.{access}
-use Rattle.sj_codelet.specs.declared.kernel.Kernel.TheVariants.{Load}
-use Rattle.sj_plan.specs.Interval.{part_len}
-use Rattle.sj_plan.specs.Window.{window}
-use Rattle.sj_plan.proofs.Tiling.{part_first-all}
-use Rattle.sj_meaning.specs.Table.{undivided}
-use Rattle.sj_lower.specs.Rows.{load_row, own_task}
-use Rattle.sj_plan.specs.declared.parts.Parts.{Parts}
-use Rattle.sj_plan.specs.declared.rect.Rect.{Rect}
-use Rattle.sj_plan.specs.Parts.{Fits, places}
-use Rattle.sj_plan.specs.Rect.{child, children_of}
-use Rattle.sj_plan.proofs.Lists.{pushed_more}
-use Rattle.sj_job.specs.Track.{children_count}
-use Rattle.sj_lower.specs.Cells.{cells_from}
+use Rattle.sj_plan.proofs.{Lists.pushed_more, Tiling.part_first-all}
 use Rattle.sj_lower.proofs.Places.{place_at, length-places, number-place_at, places-by_number}
 
 -- what f gives of the first n children, by their numbers

@@ -1,26 +1,6 @@
 -- The phases that a statement closes: the cells hold afterwards what they denoted.
-use Rattle.std.proofs.Common.{◌≡◌, ℕ, ◌+◌, ◌<◌, false, Option, Some, None, List, [], ◌∷◌, ◌++◌, length, refl, sym, ap, ◌∙◌, arith, length-append}
-use Rattle.std.specs.List.{AllByRecursion}
-use Rattle.sj_base.specs.declared.ids.Cell.{Cell}
-use Rattle.sj_base.specs.declared.program.Lowered.{Lowered}
-use Rattle.sj_base.specs.declared.program.Program.{Program}
-use Rattle.sj_base.specs.Array.{Array}
-use Rattle.sj_core.specs.Program.{same_cell}
-use Rattle.sj_core.specs.Fold.{Contents, held_in}
-use Rattle.sj_meaning.specs.State.{JobState}
-use Rattle.sj_meaning.specs.Meaning.{child_array}
-use Rattle.sj_lower.specs.declared.phase.OpenPhase.{OpenPhase}
-use Rattle.sj_lower.specs.Cells.{cell_of, copy_at}
-use Rattle.sj_lower.specs.Rows.{combine_rows}
-use Rattle.sj_lower.specs.Lowering.{Lowering, with_phase, phase_turned, closed, all_closed}
-use Rattle.sj_lower.proofs.Combined.{Phases, denoted-closed, denoted-open}
-use Rattle.sj_lower.proofs.Contents.{contents_before}
-use Rattle.sj_lower.proofs.Folding.{after_rows, contents-rows, later}
-use Rattle.sj_lower.proofs.Growing.{grows-refl}
-use Rattle.sj_lower.proofs.Holding.{IsHeld, not_copy, held-kept}
-use Rattle.sj_lower.proofs.Laid.{none_isn't}
-use Rattle.sj_lower.proofs.Phasing.{IsBare, closed-value, closed-others}
-use Rattle.sj_lower.proofs.Stating.{Begins, begins-less, stands-more, IsActiveChild, Agrees, phase-own, phase-other, by_cell}
+use Rattle.sj_lower.proofs.Words.{[], all_closed, AllByRecursion, ap, arith, Array, Cell, cell_of, child_array, closed, combine_rows, Contents, copy_at, false, held_in, JobState, length, length-append, List, Lowered, Lowering, None, OpenPhase, Option, phase_turned, Program, refl, same_cell, Some, sym, with_phase, ℕ, ◌++◌, ◌+◌, ◌<◌, ◌∙◌, ◌∷◌, ◌≡◌}
+use Rattle.sj_lower.proofs.{Combined.denoted-closed, Combined.denoted-open, Combined.Phases, Contents.contents_before, Folding.after_rows, Folding.contents-rows, Folding.later, Growing.grows-refl, Holding.held-kept, Holding.IsHeld, Holding.not_copy, Laid.none_isn't, Phasing.closed-others, Phasing.closed-value, Phasing.IsBare, Stating.Agrees, Stating.Begins, Stating.begins-less, Stating.by_cell, Stating.IsActiveChild, Stating.phase-other, Stating.phase-own, Stating.stands-more}
 
 -- ---- one cell
 

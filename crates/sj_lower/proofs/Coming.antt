@@ -1,42 +1,9 @@
 -- One statement more: what its lowering needs, and what it leaves.
-use Rattle.std.proofs.Common.{◌≡◌, ℕ, ◌+◌, ◌<◌, ◌≤◌, Bool, Some, None, List, [], ◌∷◌, All, map, length, vec_len, ap, sym, subst, ◌∙◌, arith, length-append}
-use Rattle.std.specs.List.{AllByRecursion}
-use Rattle.std.proofs.lemmas.List.Elements.{All-head, All-tail, All-from_recursion}
-use Rattle.std.proofs.lemmas.Option.{same_Some}
-use Rattle.indexmap.specs.IndexMap.{get}
-use Rattle.sj_base.specs.declared.ids.Cell.{Cell}
-use Rattle.sj_base.specs.declared.ids.Line.{Line}
-use Rattle.sj_codelet.specs.declared.kernel.Kernel.{Kernel}
-use Rattle.sj_plan.specs.declared.parts.Parts.{Parts}
-use Rattle.sj_plan.specs.Parts.{IsPlace, places}
-use Rattle.sj_meaning.specs.declared.job.Act.{Act as KeptAct}
+use Rattle.sj_lower.proofs.Words.{[], a_root, Act, act_seen, active_at, add_own, All, AllByRecursion, ap, apply, AreCopied, AreDistinct, arith, Bool, CanPass, Cell, Cells, cells_after, cells_in, child_cell, children_after, children_count, count_after, Does, first_after, get, Goes, GoesOwn, Handle, handle_in, HasActive, HasAt, HasComing, HasNext, HasPass, HasRoomFor, Invalidates, IsActiveOperand, IsComing, IsCut, IsFull, IsFullBy, IsFullOwn, IsPlace, IsPlaced, IsSoundAct, JobState, KeptAct, KeptOperand, Kernel, Layout, Lays, length, length-append, Line, List, lower_one, Lowering, LoweringProgress, LowerRefusal, map, MayComeNext, most, name_of, NamesActives, None, operand_seen, OutOfMemory, over_after, Parts, Passes, places, plan_taken, Plans, prepared, Prepares, preparing_by, Prints, Reduces, Registers, root_of, RootState, rows_added, same_taken, Some, StandsAt, Statement, statement_seen, subst, sym, Table, take, Tasks, tasks_in, TooManyCells, TooManyTasks, Unregisters, vec_len, with_new_root, ℕ, ◌+◌, ◌<◌, ◌∙◌, ◌∷◌, ◌≡◌, ◌≤◌}
+use Rattle.std.proofs.lemmas.{List.Elements.All-from_recursion, List.Elements.All-head, List.Elements.All-tail, Option.same_Some}
 use Rattle.sj_meaning.specs.declared.job.Act.TheVariants as kept
-use Rattle.sj_meaning.specs.declared.job.Operand.{Operand as KeptOperand}
 use Rattle.sj_meaning.specs.declared.job.Statement.{Statement as Kept}
-use Rattle.sj_meaning.specs.Act.{Act, Statement}
-use Rattle.sj_meaning.specs.Act.{Register as Registers, Plan as Plans, Redux as Reduces, Task as Tasks, Print as Prints, Invalidate as Invalidates, Unregister as Unregisters}
-use Rattle.sj_meaning.specs.Meaning.{apply}
-use Rattle.sj_meaning.specs.State.{RootState, JobState, root_of}
-use Rattle.sj_meaning.specs.Sound.{IsSoundAct}
-use Rattle.sj_meaning.specs.Table.{Table, AreDistinct, a_root, name_of}
-use Rattle.sj_job.specs.Track.{children_count}
-use Rattle.sj_meaning.specs.View.{act_seen, operand_seen, statement_seen, count_after, IsPlaced}
-use Rattle.sj_lower.specs.declared.layout.Layout.{Layout}
-use Rattle.sj_lower.specs.declared.lower.LowerRefusal.{LowerRefusal}
-use Rattle.sj_lower.specs.declared.lower.LowerRefusal.TheVariants.{TooManyCells, TooManyTasks, OutOfMemory}
-use Rattle.sj_lower.specs.declared.lower.LoweringProgress.{LoweringProgress}
-use Rattle.sj_lower.specs.Cells.{Cells, Handle, child_cell, take, with_new_root}
-use Rattle.sj_lower.specs.Limits.{most, cells_in, tasks_in}
-use Rattle.sj_lower.specs.Lowering.{Lowering, cells_after, rows_added, prepared, add_own, lower_one}
-use Rattle.sj_lower.specs.Seen.{Lays, IsCut, MayComeNext, HasNext, CanPass, HasPass, Passes, HasRoomFor, Does, active_at, handle_in, same_taken, plan_taken, first_after, children_after}
-use Rattle.sj_lower.specs.Progress.{AreCopied, StandsAt, HasAt, IsComing, HasComing, Goes, GoesOwn, IsFull, IsFullBy, IsFullOwn, Prepares, HasActive, IsActiveOperand, NamesActives, preparing_by, over_after}
-use Rattle.sj_lower.proofs.Copies.{by_taken, child_none}
-use Rattle.sj_lower.proofs.Growing.{row_at, append-partials}
-use Rattle.sj_lower.proofs.Matching.{AreThere, seen-there, preparing-is}
-use Rattle.sj_lower.proofs.Naming.{prepared-names}
-use Rattle.sj_lower.proofs.Preparing.{over-late, over-early, over-again, over-stays}
-use Rattle.sj_lower.proofs.Running.{child_there, root_there, valued_there}
-use Rattle.sj_lower.proofs.Stating.{cells-grow}
+use Rattle.sj_lower.proofs.{Copies.by_taken, Copies.child_none, Growing.append-partials, Growing.row_at, Matching.AreThere, Matching.preparing-is, Matching.seen-there, Naming.prepared-names, Preparing.over-again, Preparing.over-early, Preparing.over-late, Preparing.over-stays, Running.child_there, Running.root_there, Running.valued_there, Stating.cells-grow}
 
 -- ---- what a statement needs
 

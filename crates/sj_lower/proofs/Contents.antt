@@ -1,16 +1,7 @@
 -- What cells hold after arrays were put into them.
-use Rattle.std.proofs.Common.{◌≡◌, ℕ, suc, ◌+◌, Bool, true, false, cond, Some, None, List, [], ◌∷◌, ◌++◌, refl, sym, ap, ◌∙◌, arith}
-use Rattle.std.specs.List.{find, zip}
+use Rattle.sj_lower.proofs.Words.{[], after_chosen, after_task, ap, arith, Array, Bool, Cell, cond, Contents, dims_of, false, find, held_in, List, None, out, Program, refl, same_cell, Some, suc, sym, task, true, Worker, zeros, zip, ℕ, ◌++◌, ◌+◌, ◌∙◌, ◌∷◌, ◌≡◌}
 use Rattle.std.proofs.lemmas.Bool.{false≢true}
-use Rattle.sj_base.specs.declared.ids.Cell.{Cell}
-use Rattle.sj_base.specs.declared.ids.Worker.{Worker}
-use Rattle.sj_base.specs.declared.program.Program.{Program}
-use Rattle.sj_base.specs.Array.{Array, zeros}
 use Rattle.sj_base.proofs.SameIds.{same_cell-is, same_cell-itself}
-use Rattle.sj_base.specs.Ids.{task}
-use Rattle.sj_codelet.specs.Kernel.{out}
-use Rattle.sj_core.specs.Program.{same_cell, dims_of}
-use Rattle.sj_core.specs.Fold.{Contents, held_in, after_task, after_chosen}
 
 pub held-cons : (p : Program) (c : Cell) (a : Array) (contents : Contents) (d : Cell) → held_in p ((c, a) ∷ contents) d ≡ cond (same_cell c d) a (held_in p contents d)
 held-cons p c a contents d = by_cases (same_cell c d)

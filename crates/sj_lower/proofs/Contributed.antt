@@ -1,62 +1,10 @@
 -- A task that contributes keeps all that is known of the program.
-use Rattle.std.proofs.Common.{◌≡◌, ℕ, ◌+◌, ◌<◌, ◌≤◌, Bool, true, false, cond, not, ◌&&◌, ◌||◌, Option, Some, None, List, [], ◌∷◌, ◌++◌, length, map as each_of, refl, sym, ap, subst, ◌∙◌, inl, inr, arith, append_assoc, length-append}
-use Rattle.std.specs.Prelude.{All, Contains, unwrap_or}
-use Rattle.std.specs.List.{AllByRecursion, range_with_len, list_all}
-use Rattle.std.specs.Option.{is_some}
-use Rattle.std.proofs.lemmas.Bool.{and_parts}
-use Rattle.std.proofs.lemmas.List.{append-nil, map-append}
-use Rattle.std.proofs.lemmas.List.Elements.{All-nil, All-cons, All-append, All-weaker, All-contains, Contains-append_cases}
-use Rattle.std.proofs.lemmas.Option.{same_Some}
-use Rattle.sj_base.specs.declared.ids.Cell.{Cell}
-use Rattle.sj_base.specs.declared.ids.Line.{Line}
-use Rattle.sj_base.specs.declared.mode.Mode.TheVariants.{Redux}
-use Rattle.sj_base.specs.declared.mode.Access.{Access}
-use Rattle.sj_base.specs.declared.mode.Reduction.{Reduction}
-use Rattle.sj_base.specs.declared.mode.Reduction.TheVariants.{Plus, Least}
-use Rattle.sj_base.specs.declared.program.Delivery.{Delivery}
-use Rattle.sj_base.specs.declared.program.Lowered.{Lowered}
-use Rattle.sj_base.specs.declared.program.Program.{Program}
-use Rattle.sj_base.specs.Mode.{reads_value, access}
+use Rattle.sj_lower.proofs.Words.{[], Access, access, access_of, add_own, AllByRecursion, ap, append_assoc, arith, begin_rows, begun, Bool, Cell, cell_info, cell_of, cells_from, cond, Contains, contributed_to, copy_at, Deliver, Delivery, each_of, extended, false, first_partial, Handle, has_child, has_child_values, HasValueBefore, init_row, init_rows, inl, inr, is_some, is_valued_child, IsPlain, IsSoundTask, JobState, Kernel, kernel_of, Least, length, length-append, Line, List, list_all, Lowered, Lowering, needs_value, None, not, opened, OpenPhase, Operand, Option, parts_in, phase_turned, Plus, Printed, Program, range_with_len, reads_value, Reduction, Redux, refl, root_of, RootState, run_task, Some, Statement, subst, sym, Table, task, task_row, TaskLine, Tasks, true, with_copies, ℕ, ◌&&◌, ◌++◌, ◌+◌, ◌<◌, ◌||◌, ◌∙◌, ◌∷◌, ◌≡◌, ◌≤◌}
+use Rattle.std.specs.Prelude.{All, unwrap_or}
+use Rattle.std.proofs.lemmas.{Bool.and_parts, List.append-nil, List.map-append, List.Elements.All-append, List.Elements.All-cons, List.Elements.All-contains, List.Elements.All-nil, List.Elements.All-weaker, List.Elements.Contains-append_cases, Option.same_Some}
 use Rattle.sj_base.proofs.Lists.{one_is, each-append}
-use Rattle.sj_base.specs.Ids.{task}
-use Rattle.sj_codelet.specs.declared.kernel.Kernel.{Kernel}
-use Rattle.sj_codelet.specs.declared.kernel.Kernel.TheVariants.{Deliver}
-use Rattle.sj_codelet.specs.Kernel.{kernel_of}
-use Rattle.sj_core.specs.Program.{cell_info}
-use Rattle.sj_core.specs.Proper.{IsPlain, HasValueBefore}
 use Rattle.sj_plan.proofs.Lists.{each-map}
-use Rattle.sj_meaning.specs.Statement.{Operand, TaskLine}
-use Rattle.sj_meaning.specs.Act.{Statement}
-use Rattle.sj_meaning.specs.Act.{Task as Tasks}
-use Rattle.sj_meaning.specs.State.{JobState, RootState, root_of, is_valued_child}
-use Rattle.sj_meaning.specs.Meaning.{Printed, contributed_to, run_task}
-use Rattle.sj_meaning.specs.Sound.{needs_value}
-use Rattle.sj_meaning.specs.Sound.{IsSoundTask, has_child, has_child_values}
-use Rattle.sj_meaning.specs.Table.{Table}
-use Rattle.sj_lower.specs.declared.phase.OpenPhase.{OpenPhase}
-use Rattle.sj_lower.specs.Cells.{Handle, cell_of, cells_from, copy_at, first_partial, with_copies}
-use Rattle.sj_lower.specs.Rows.{init_row, init_rows}
-use Rattle.sj_lower.specs.Lowering.{Lowering, parts_in, access_of, task_row, add_own, phase_turned, begun, opened, extended, begin_rows}
-use Rattle.sj_lower.proofs.Able.{CanBe}
-use Rattle.sj_lower.proofs.Agreeing.{reduction-is}
-use Rattle.sj_lower.proofs.Contents.{contents_before}
-use Rattle.sj_lower.proofs.Contributing.{agrees_contributed}
-use Rattle.sj_lower.proofs.Copies.{copied-first}
-use Rattle.sj_lower.proofs.Delivered.{AreDelivered, NoneDelivers, delivered_beside}
-use Rattle.sj_lower.proofs.Fine.{IsFine, good-more, open-plain}
-use Rattle.sj_lower.proofs.Folding.{Stand, stand-append, later}
-use Rattle.sj_lower.proofs.Giving.{IsGiving, log-extend, log-begin}
-use Rattle.sj_lower.proofs.Good.{IsGood, AreGood, HasItsCopies, good-all, good-append, good_init, good_task, plans-of, contribution-modes, all_given, no_copies}
-use Rattle.sj_lower.proofs.Holding.{HasRoot}
-use Rattle.sj_lower.proofs.Laid.{cell-inside}
-use Rattle.sj_lower.proofs.Logging.{Logged, IsAway, last-has}
-use Rattle.sj_lower.proofs.Opening.{IsOpened, IsChildOf, goes_on, begins_now, by_opened}
-use Rattle.sj_lower.proofs.Operands.{IsRead, Contributes, all-before}
-use Rattle.sj_lower.proofs.Owning.{one-owner, plain-child, copy-is}
-use Rattle.sj_lower.proofs.Phasing.{each-of_all}
-use Rattle.sj_lower.proofs.Running.{is_direct, IsClosed, active_cell-is, kernel_there}
-use Rattle.sj_lower.proofs.Stating.{Begins, begins-own, stands-more, Agrees}
-use Rattle.sj_lower.proofs.Whole.{operand-away}
+use Rattle.sj_lower.proofs.{Able.CanBe, Agreeing.reduction-is, Contents.contents_before, Contributing.agrees_contributed, Copies.copied-first, Delivered.AreDelivered, Delivered.delivered_beside, Delivered.NoneDelivers, Fine.good-more, Fine.IsFine, Fine.open-plain, Folding.later, Folding.Stand, Folding.stand-append, Giving.IsGiving, Giving.log-begin, Giving.log-extend, Good.all_given, Good.AreGood, Good.contribution-modes, Good.good-all, Good.good-append, Good.good_init, Good.good_task, Good.HasItsCopies, Good.IsGood, Good.no_copies, Good.plans-of, Holding.HasRoot, Laid.cell-inside, Logging.IsAway, Logging.last-has, Logging.Logged, Opening.begins_now, Opening.by_opened, Opening.goes_on, Opening.IsChildOf, Opening.IsOpened, Operands.all-before, Operands.Contributes, Operands.IsRead, Owning.copy-is, Owning.one-owner, Owning.plain-child, Phasing.each-of_all, Running.active_cell-is, Running.is_direct, Running.IsClosed, Running.kernel_there, Stating.Agrees, Stating.Begins, Stating.begins-own, Stating.stands-more, Whole.operand-away}
 
 reads-direct : (vs : List (Operand (List ℕ))) → AllByRecursion IsRead vs → list_all (λ o. is_direct o.mode) vs ≡ true
 reads-direct [] h = refl

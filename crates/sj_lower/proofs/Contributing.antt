@@ -1,68 +1,13 @@
 -- A task that contributes: its child denotes afterwards what the task line leaves there.
-use Rattle.std.proofs.Common.{◌≡◌, ℕ, suc, ◌+◌, ◌<◌, ◌≤◌, Bool, true, false, cond, not, ◌&&◌, ◌||◌, Option, Some, None, List, [], ◌∷◌, ◌++◌, ℤ, length, map as each_of, refl, sym, ap, subst, ◌∙◌, arith, length-append}
-use Rattle.std.specs.Prelude.{Contains, unwrap_or}
-use Rattle.std.specs.List.{AllByRecursion, list_all, list_any}
-use Rattle.std.specs.Str.{bytes_eq}
-use Rattle.std.proofs.lemmas.Bool.{false≢true, and_parts, or_parts}
-use Rattle.std.proofs.lemmas.List.{map-append}
-use Rattle.sj_base.specs.declared.ids.Cell.{Cell}
-use Rattle.sj_base.specs.declared.ids.Line.{Line}
-use Rattle.sj_base.specs.declared.tile.Dims.{Dims}
-use Rattle.sj_base.specs.declared.mode.Mode.{Mode}
-use Rattle.sj_base.specs.declared.mode.Mode.TheVariants.{Redux}
-use Rattle.sj_base.specs.declared.mode.Access.{Access}
-use Rattle.sj_base.specs.declared.program.Codelet.{Codelet}
-use Rattle.sj_base.specs.declared.program.Lowered.{Lowered}
-use Rattle.sj_base.specs.declared.program.Program.{Program}
-use Rattle.sj_base.specs.Array.{Array}
-use Rattle.sj_codelet.specs.declared.kernel.Kernel.{Kernel}
-use Rattle.sj_codelet.specs.Kernel.{kernel_of, codelet_of, operand, out, contributes_of}
-use Rattle.sj_codelet.specs.Laws.{result_of, combined, IsReduction}
-use Rattle.sj_codelet.proofs.Table.{codelet_of-kernel, each_dims}
-use Rattle.sj_core.specs.Program.{same_cell, dims_of, task_of, cell_info}
-use Rattle.sj_core.specs.Proper.{HasValueBefore}
-use Rattle.sj_core.specs.Fold.{Contents, held_in, after_task}
-use Rattle.sj_core.specs.Operands.{found, worked_on, copy_of}
-use Rattle.sj_core.proofs.Sized.{AreSized}
-use Rattle.sj_core.proofs.Swapping.{first_ins}
-use Rattle.sj_base.specs.declared.ids.Worker.{Worker}
-use Rattle.sj_base.proofs.Numbers.{all_of}
-use Rattle.sj_base.proofs.Texts.{same_text}
-use Rattle.sj_base.proofs.Bools.{implied}
-use Rattle.sj_base.proofs.SameIds.{same_cell-unlike, same_cell-itself}
-use Rattle.sj_base.specs.Ids.{task}
-use Rattle.sj_base.specs.Mode.{is_read_only}
-use Rattle.std.specs.Option.{is_some}
-use Rattle.std.proofs.lemmas.Option.{same_Some}
-use Rattle.sj_plan.specs.declared.parts.Parts.{Parts}
-use Rattle.sj_plan.specs.Parts.{IsPlace}
-use Rattle.sj_plan.specs.Paste.{same_child_place}
-use Rattle.sj_plan.specs.Rect.{rect_dims}
-use Rattle.sj_plan.specs.Window.{IsWhole}
+use Rattle.sj_lower.proofs.Words.{[], Access, access_of, add_own, after_task, AllByRecursion, ap, arith, Array, Bool, bytes_eq, Cell, cell_info, cell_of, cells_from, child_array, child_dims, child_rect, clashes, Codelet, codelet_of, combined, cond, Contains, Contents, contributed_to, contributes_of, copy_at, copy_of, Dims, dims_of, each_of, false, found, Handle, has_child, has_child_values, HasValueBefore, held_in, integers_of, is_aliased, is_child, is_read_only, is_some, is_valued_child, IsPlace, IsReduction, IsSoundTask, IsWhole, JobState, Kernel, kernel_of, length, length-append, Line, List, list_all, list_any, Lowered, Lowering, Mode, needs_value, None, not, OpenPhase, Operand, operand, operand_array, Option, out, Parts, Program, put, put_all, rect_dims, Redux, refl, result_of, root_of, RootState, run_task, same_cell, same_child_place, seen_by, Some, subst, suc, sym, task, task_of, task_row, TaskLine, Tasks, true, with_child, worked_on, Worker, written_of, ℕ, ℤ, ◌&&◌, ◌++◌, ◌+◌, ◌<◌, ◌||◌, ◌∙◌, ◌∷◌, ◌≡◌, ◌≤◌}
+use Rattle.std.specs.Prelude.{unwrap_or}
+use Rattle.std.proofs.lemmas.{Bool.and_parts, Bool.false≢true, Bool.or_parts, List.map-append, Option.same_Some}
+use Rattle.sj_codelet.proofs.{NewArrays.AreWhole, Table.codelet_of-kernel, Table.each_dims}
+use Rattle.sj_core.proofs.{Sized.AreSized, Swapping.first_ins}
+use Rattle.sj_base.proofs.{Bools.implied, Numbers.all_of, SameIds.same_cell-itself, SameIds.same_cell-unlike, Texts.same_text}
 use Rattle.sj_plan.proofs.Repartitioning.{same_child_place-law, same_child_place-refl}
-use Rattle.sj_meaning.specs.Statement.{Operand, TaskLine}
-use Rattle.sj_meaning.specs.Act.{Task as Tasks}
-use Rattle.sj_meaning.specs.State.{RootState, JobState, root_of, child_rect, is_child, is_valued_child}
-use Rattle.sj_meaning.specs.Meaning.{child_array, contributed_to, seen_by, operand_array, written_of, with_child, put, put_all, run_task, integers_of}
-use Rattle.sj_meaning.specs.Sound.{needs_value, clashes, is_aliased}
-use Rattle.sj_meaning.specs.Sound.{IsSoundTask, has_child, has_child_values, child_dims}
-use Rattle.sj_lower.specs.declared.phase.OpenPhase.{OpenPhase}
-use Rattle.sj_lower.specs.Cells.{Handle, cell_of, cells_from, copy_at}
-use Rattle.sj_lower.specs.Lowering.{Lowering, access_of, task_row, add_own}
-use Rattle.sj_lower.proofs.Adding.{IsSized, SizedCopies, sized, law, added, denotes-more, result-more, others-kept, updates, all-sized}
-use Rattle.sj_lower.proofs.Agreeing.{puts-parts, reduction-is}
-use Rattle.sj_lower.proofs.Combined.{IsTrusted, with_all, all_workers, range-below, denoted-open, denoted-closed}
-use Rattle.sj_lower.proofs.Contents.{first_worker, contents_before, contents-next}
-use Rattle.sj_lower.proofs.Elements.{written-whole, written-array, written-other, written-valued}
-use Rattle.sj_lower.proofs.Folding.{Stand, later}
+use Rattle.sj_lower.proofs.{Adding.added, Adding.all-sized, Adding.denotes-more, Adding.IsSized, Adding.law, Adding.others-kept, Adding.result-more, Adding.sized, Adding.SizedCopies, Adding.updates, Agreeing.puts-parts, Agreeing.reduction-is, Combined.all_workers, Combined.denoted-closed, Combined.denoted-open, Combined.IsTrusted, Combined.range-below, Combined.with_all, Contents.contents-next, Contents.contents_before, Contents.first_worker, Elements.written-array, Elements.written-other, Elements.written-valued, Elements.written-whole, Folding.later, Folding.Stand, Holding.cell-dims, Holding.differs, Holding.HasRoot, Holding.HaveRoots, Holding.held-kept, Holding.IsHeld, Holding.not_copy, Laid.bytes_eq-itself, Laid.cells-apart, Laid.IsTaken, Opening.IsChildOf, Opening.IsOpened, Operands.all-before, Operands.Contributes, Operands.IsRead, Operands.snoc-parts, Running.active_cell-is, Running.by_mode, Running.child_dims-are, Running.child_there, Running.child_values-are, Running.data_needs, Running.is_direct, Running.IsClosed, Running.kernel_there, Running.new_dims, Running.new_whole, Running.seen_there, Stating.Agrees, Stating.Begins, Stating.by_cell, Stating.IsActiveChild, Stating.stands-own}
 use Rattle.sj_meaning.proofs.Finding.{root-change}
-use Rattle.sj_lower.proofs.Holding.{IsHeld, HasRoot, HaveRoots, cell-dims, differs, not_copy, held-kept}
-use Rattle.sj_lower.proofs.Laid.{IsTaken, bytes_eq-itself, cells-apart}
-use Rattle.sj_lower.proofs.Opening.{IsOpened, IsChildOf}
-use Rattle.sj_lower.proofs.Operands.{IsRead, Contributes, all-before, snoc-parts}
-use Rattle.sj_lower.proofs.Running.{is_direct, IsClosed, kernel_there, child_there, child_dims-are, child_values-are, active_cell-is, seen_there, by_mode, data_needs, new_dims, new_whole}
-use Rattle.sj_lower.proofs.Stating.{Begins, stands-own, IsActiveChild, Agrees, by_cell}
-use Rattle.sj_codelet.proofs.NewArrays.{AreWhole}
 
 -- ---- what the task line leaves
 

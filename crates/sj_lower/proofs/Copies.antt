@@ -1,26 +1,10 @@
 -- The partial copies of a cell: cells of their own, as large as it.
-use Rattle.std.proofs.Common.{◌≡◌, ℕ, ◌+◌, ◌-◌, ◌<◌, ◌≤◌, ◌^◌, Bool, true, false, cond, Option, Some, None, List, [], ◌++◌, length, map as each_of, refl, sym, ap, subst, ◌∙◌, inl, inr, arith, length-append}
-use Rattle.std.specs.Prelude.{◌⊎◌, nat_eq, set, replicate, unwrap_or}
+use Rattle.sj_lower.proofs.Words.{[], ap, area, arith, Bool, Cell, CellInfo, Cells, child_cell, cond, copy_info, Dims, each_of, false, first_partial, Handle, info_at, inl, inr, is_some, IsPlace, length, length-append, List, nat_eq, no_cell, no_cells, None, number, Option, Parts, places, refl, set, Some, subst, sym, take, take_by, true, with_copies, with_new_root, with_partials, ℕ, ◌++◌, ◌+◌, ◌-◌, ◌<◌, ◌^◌, ◌∙◌, ◌≡◌, ◌≤◌, ◌⊎◌}
+use Rattle.std.specs.Prelude.{replicate, unwrap_or}
 use Rattle.std.specs.List.{All}
-use Rattle.std.specs.Option.{is_some}
-use Rattle.std.proofs.lemmas.Bool.{cases_lt, false≢true}
-use Rattle.std.proofs.lemmas.Bool.Decides.{Decides-eqb}
-use Rattle.std.proofs.lemmas.List.{get_or_append_left, get_or-append_right, get_or_past, get_or-set_same, get_or-set_other, get_or-replicate, length-set, length-replicate, set_past}
-use Rattle.std.proofs.lemmas.List.Elements.{All-map, All-append, All-set, All-replicate, All-get_or}
-use Rattle.std.proofs.lemmas.Option.{same_Some}
-use Rattle.sj_base.specs.declared.ids.Cell.{Cell}
-use Rattle.sj_base.specs.declared.tile.Dims.{Dims}
-use Rattle.sj_base.specs.declared.program.CellInfo.{CellInfo}
-use Rattle.sj_base.specs.Array.{area}
+use Rattle.std.proofs.lemmas.{Bool.cases_lt, Bool.false≢true, Bool.Decides.Decides-eqb, List.get_or-append_right, List.get_or-replicate, List.get_or-set_other, List.get_or-set_same, List.get_or_append_left, List.get_or_past, List.length-replicate, List.length-set, List.set_past, List.Elements.All-append, List.Elements.All-get_or, List.Elements.All-map, List.Elements.All-replicate, List.Elements.All-set, Option.same_Some}
 use Rattle.sj_base.proofs.SameIds.{cell_of_number}
-use Rattle.sj_core.specs.Program.{no_cell}
-use Rattle.sj_plan.specs.declared.parts.Parts.{Parts}
-use Rattle.sj_plan.specs.Parts.{IsPlace, places}
-use Rattle.sj_job.specs.Track.{number}
-use Rattle.sj_lower.specs.Cells.{Cells, Handle, child_cell, take_by, take, with_new_root, no_cells, info_at, copy_info, with_partials, first_partial, with_copies}
-use Rattle.sj_lower.proofs.Growing.{Grows, row_at, grows-refl, grows-append, has-row, NoneHas, append-partials}
-use Rattle.sj_lower.proofs.Laid.{IsTaken, AreLaid, Old, New, News, old_or_new, none_isn't, taken-root}
-use Rattle.sj_lower.proofs.Places.{number-below}
+use Rattle.sj_lower.proofs.{Growing.append-partials, Growing.Grows, Growing.grows-append, Growing.grows-refl, Growing.has-row, Growing.NoneHas, Growing.row_at, Laid.AreLaid, Laid.IsTaken, Laid.New, Laid.News, Laid.none_isn't, Laid.Old, Laid.old_or_new, Laid.taken-root, Places.number-below}
 
 -- each cell that has partial copies has so many, which are cells of their own
 pub record HaveCopies (workers : ℕ) (C : Cells) : Type 0 where

@@ -1,25 +1,9 @@
 -- How many tasks a statement gives.
-use Rattle.std.proofs.Common.{◌≡◌, ℕ, ◌*◌, true, false, not, ◌||◌, cond, List, [], length, map, ap, sym, subst, ◌∙◌, Option, Some, None}
-use Rattle.sj_base.specs.declared.ids.Line.{Line}
-use Rattle.sj_base.specs.declared.ids.Root.{Root}
-use Rattle.sj_base.specs.declared.tile.Dims.{Dims}
-use Rattle.sj_plan.specs.declared.parts.Parts.{Parts}
-use Rattle.sj_plan.specs.Parts.{Fits, places}
-use Rattle.sj_plan.specs.Paste.{pastes_of}
+use Rattle.sj_lower.proofs.Words.{[], active_at, active_cell, all_valued, ap, cell_of, Cells, cond, deliver_row, deliver_rows, Dims, false, Fits, info_of, is_valued, IsActive, JobState, length, Line, List, Lowerer, Lowering, map, MayComeNext, name_of, None, not, Option, Parts, paste_row, pastes_of, places, plan_rows, Root, root_of, RootState, same_parts, Some, subst, sym, Table, true, undivided, ℕ, ◌*◌, ◌||◌, ◌∙◌, ◌≡◌}
 use Rattle.std.proofs.lemmas.List.{length-map}
 use Rattle.sj_meaning.specs.declared.job.Act.TheVariants as kept
-use Rattle.sj_meaning.specs.State.{RootState, JobState, root_of, is_valued}
-use Rattle.sj_meaning.specs.Table.{Table, name_of, info_of, undivided}
-use Rattle.sj_job.specs.Track.{all_valued}
 use Rattle.sj_job.proofs.Children.{all_valued-same}
-use Rattle.sj_lower.specs.declared.lowerer.Lowerer.{Lowerer}
-use Rattle.sj_lower.specs.Cells.{Cells, same_parts, cell_of}
-use Rattle.sj_lower.specs.Rows.{paste_row, deliver_row}
-use Rattle.sj_lower.specs.Lowering.{Lowering, deliver_rows, plan_rows, active_cell}
-use Rattle.sj_lower.specs.Seen.{active_at, IsActive, MayComeNext}
-use Rattle.sj_lower.proofs.Agreeing.{plan_rows-are}
-use Rattle.sj_lower.proofs.Places.{length-places}
-use Rattle.sj_lower.proofs.Running.{root_there, valued_there}
+use Rattle.sj_lower.proofs.{Agreeing.plan_rows-are, Places.length-places, Running.root_there, Running.valued_there}
 
 -- the root that an act speaks of, with its active plan
 pub record Speaks (T : Table) (l : Lowerer) (r : Root) (S : JobState) (L : Lowering) : Type 0 where

@@ -1,54 +1,11 @@
 -- Deliveries follow the print statements.
-use Rattle.std.proofs.Common.{◌≡◌, ℕ, zero, suc, ◌+◌, ◌-◌, ◌*◌, ◌<◌, ◌≤◌, Bool, true, false, cond, Some, None, List, [], ◌∷◌, ◌++◌, length, get_or, map as each_of, refl, sym, ap, subst, ◌∙◌, inl, inr, arith, length-append, pos}
-use Rattle.std.specs.Prelude.{◌⊎◌, nat_eq, count_by, slice_get, IsPermutation}
-use Rattle.std.specs.List.{All, AllPairs, AllByRecursion, filter}
-use Rattle.std.proofs.lemmas.Bool.{false≢true, cases_lt, eq-eqb, ne_eqb}
-use Rattle.std.proofs.lemmas.List.{append-nil, length-map, length-replicate}
-use Rattle.std.proofs.lemmas.List.Elements.{All-nil, All-append, All-weaker, All-from_recursion, recursion_from_All, filter-append}
-use Rattle.std.proofs.lemmas.List.Sorted.{IsPermutation-map, All-permutation}
-use Rattle.std.proofs.lemmas.List.Sums.{sum_by-cons, sum_by-append}
-use Rattle.std.proofs.lemmas.Option.{slice_get_within}
-use Rattle.std.proofs.lemmas.Simd.{map-map}
-use Rattle.sj_base.specs.declared.ids.Cell.{Cell}
-use Rattle.sj_base.specs.declared.ids.Line.{Line}
-use Rattle.sj_base.specs.declared.ids.Root.{Root}
-use Rattle.sj_base.specs.declared.program.Lowered.{Lowered}
-use Rattle.sj_base.specs.declared.program.Delivery.{Delivery}
-use Rattle.sj_base.specs.declared.program.Program.{Program}
-use Rattle.sj_base.specs.Array.{Array, area, zeros}
+use Rattle.sj_lower.proofs.Words.{[], a_delivery, AllByRecursion, AllPairs, ap, area, arith, Array, Assemble, Bool, Cell, cell_of, Cells, child, children_of, cond, Contents, count_by, data_operands, Deliver, deliver_row, Delivery, each_of, false, filter, gathered, get_or, given, held_before, held_in, info_of, inl, inr, is_valued, IsPermutation, IsPlace, IsWhole, JobState, kernel_of, length, length-append, Line, List, Lowered, Lowering, nat_eq, None, nothing, number, out, part_of, Parts, places, pos, Printed, printed_as, Program, Rect, refl, Root, root_array, root_of, RootState, same_child_place, slice_get, Some, subst, suc, sym, Table, task, task_of, true, window, Within, worked_on, zero, zeros, ℕ, ◌*◌, ◌++◌, ◌+◌, ◌-◌, ◌<◌, ◌∙◌, ◌∷◌, ◌≡◌, ◌≤◌, ◌⊎◌}
+use Rattle.std.specs.List.{All}
+use Rattle.std.proofs.lemmas.{Bool.cases_lt, Bool.eq-eqb, Bool.false≢true, Bool.ne_eqb, List.append-nil, List.length-map, List.length-replicate, List.Elements.All-append, List.Elements.All-from_recursion, List.Elements.All-nil, List.Elements.All-weaker, List.Elements.filter-append, List.Elements.recursion_from_All, List.Sorted.All-permutation, List.Sorted.IsPermutation-map, List.Sums.sum_by-append, List.Sums.sum_by-cons, Option.slice_get_within, Simd.map-map}
 use Rattle.sj_base.proofs.Numbers.{none_more, one_more, positive_product}
-use Rattle.sj_base.specs.Ids.{task}
-use Rattle.sj_codelet.specs.declared.kernel.Kernel.TheVariants.{Deliver}
-use Rattle.sj_codelet.specs.Kernel.{kernel_of, out}
-use Rattle.sj_core.specs.Program.{task_of, data_operands}
-use Rattle.sj_core.specs.Operands.{worked_on}
-use Rattle.sj_core.specs.Fold.{Contents, given, held_before, held_in}
-use Rattle.sj_plan.specs.declared.parts.Parts.{Parts}
-use Rattle.sj_plan.specs.declared.rect.Rect.{Rect}
-use Rattle.sj_plan.specs.Parts.{IsPlace, places}
-use Rattle.sj_plan.specs.Paste.{same_child_place}
-use Rattle.sj_plan.specs.Rect.{child, children_of, Within}
-use Rattle.sj_plan.specs.Window.{window, gathered, IsWhole}
-use Rattle.sj_plan.proofs.Gathering.{tiling-reassembles}
-use Rattle.sj_plan.proofs.Lists.{each-map, each-places, each-of, each-all, filter_all, filter_gone, count_by-map, count_places, ordered-append, pairs-from_ordered, ordered-from_pairs}
-use Rattle.sj_plan.proofs.Tiling.{children_of-tiling}
-use Rattle.sj_plan.proofs.Repartitioning.{child-within, same_child_place-law, same_child_place-refl}
-use Rattle.sj_meaning.specs.State.{RootState, JobState, root_of, is_valued}
-use Rattle.sj_meaning.specs.Meaning.{Printed, root_array}
-use Rattle.sj_meaning.specs.Table.{Table, info_of}
-use Rattle.sj_job.specs.Track.{number}
+use Rattle.sj_plan.proofs.{Gathering.tiling-reassembles, Lists.count_by-map, Lists.count_places, Lists.each-all, Lists.each-map, Lists.each-of, Lists.each-places, Lists.filter_all, Lists.filter_gone, Lists.ordered-append, Lists.ordered-from_pairs, Lists.pairs-from_ordered, Repartitioning.child-within, Repartitioning.same_child_place-law, Repartitioning.same_child_place-refl, Tiling.children_of-tiling}
 use Rattle.sj_job.proofs.Children.{number-alone}
-use Rattle.sj_lower.specs.Cells.{Cells, cell_of}
-use Rattle.sj_lower.specs.Rows.{deliver_row}
-use Rattle.sj_lower.specs.Lowering.{Lowering, nothing, a_delivery}
-use Rattle.sj_lower.specs.Delivering.{part_of, printed_as, Assemble}
-use Rattle.sj_lower.proofs.Combined.{IsTrusted, Phases, denoted-closed}
-use Rattle.sj_lower.proofs.Contents.{first_worker, contents_before, contents-next}
-use Rattle.sj_lower.proofs.Elements.{child-window, valued-child}
-use Rattle.sj_lower.proofs.Filling.{after_deliver}
-use Rattle.sj_lower.proofs.Folding.{Stand, after_row-is}
-use Rattle.sj_lower.proofs.Holding.{HasRoot}
-use Rattle.sj_lower.proofs.Places.{number-below, length-places, place_at, place_at-inside, number-place_at, places-at, places-by_number}
+use Rattle.sj_lower.proofs.{Combined.denoted-closed, Combined.IsTrusted, Combined.Phases, Contents.contents-next, Contents.contents_before, Contents.first_worker, Elements.child-window, Elements.valued-child, Filling.after_deliver, Folding.after_row-is, Folding.Stand, Holding.HasRoot, Places.length-places, Places.number-below, Places.number-place_at, Places.place_at, Places.place_at-inside, Places.places-at, Places.places-by_number}
 
 -- ---- lists
 

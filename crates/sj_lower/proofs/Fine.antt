@@ -1,41 +1,8 @@
 -- What holds of the program after the statements so far, and that closing a phase keeps it.
-use Rattle.std.proofs.Common.{◌≡◌, ℕ, ◌+◌, ◌<◌, Bool, true, false, Some, List, [], ◌∷◌, ◌++◌, length, refl, sym, ap, subst, ◌∙◌, inl, inr, arith, length-append}
-use Rattle.std.specs.List.{AllByRecursion, range_with_len}
-use Rattle.std.proofs.lemmas.Bool.{cases_lt}
-use Rattle.std.proofs.lemmas.List.{length-map}
-use Rattle.std.proofs.lemmas.List.FromFn.{length-range_with_len}
-use Rattle.sj_base.specs.declared.ids.Cell.{Cell}
-use Rattle.sj_base.specs.declared.ids.Line.{Line}
-use Rattle.sj_base.specs.declared.mode.Reduction.{Reduction}
-use Rattle.sj_base.specs.declared.mode.Reduction.TheVariants.{Plus, Least}
-use Rattle.sj_base.specs.declared.program.CellInfo.{CellInfo}
-use Rattle.sj_base.specs.declared.program.Lowered.{Lowered}
-use Rattle.sj_base.specs.declared.program.Program.{Program}
-use Rattle.sj_base.specs.Ids.{task}
-use Rattle.sj_codelet.specs.declared.kernel.Kernel.TheVariants.{Deliver}
-use Rattle.sj_codelet.specs.Kernel.{kernel_of}
-use Rattle.sj_core.specs.Program.{task_of, dims_of, same_cell}
-use Rattle.sj_core.specs.Proper.{IsPlain}
+use Rattle.sj_lower.proofs.Words.{[], all_closed, AllByRecursion, ap, arith, Bool, Cell, CellInfo, child_array, closed, combine_row, combine_rows, copy_at, Deliver, dims_of, false, inl, inr, is_valued_child, IsPlain, JobState, kernel_of, Least, length, length-append, Line, List, Lowered, Lowering, OpenPhase, Plus, Printed, Program, range_with_len, Reduction, refl, same_cell, Some, subst, sym, Table, task, task_of, true, ℕ, ◌++◌, ◌+◌, ◌<◌, ◌∙◌, ◌∷◌, ◌≡◌}
+use Rattle.std.proofs.lemmas.{Bool.cases_lt, List.length-map, List.FromFn.length-range_with_len}
 use Rattle.sj_plan.proofs.Lists.{each-map}
-use Rattle.sj_meaning.specs.State.{JobState, is_valued_child}
-use Rattle.sj_meaning.specs.Meaning.{Printed, child_array}
-use Rattle.sj_meaning.specs.Table.{Table}
-use Rattle.sj_lower.specs.declared.phase.OpenPhase.{OpenPhase}
-use Rattle.sj_lower.specs.Cells.{copy_at}
-use Rattle.sj_lower.specs.Rows.{combine_row, combine_rows}
-use Rattle.sj_lower.specs.Lowering.{Lowering, closed, all_closed}
-use Rattle.sj_lower.proofs.Closing.{Closed, by_phase, agrees_turned, begins-all_closed}
-use Rattle.sj_lower.proofs.Contents.{contents_before}
-use Rattle.sj_lower.proofs.Delivered.{AreDelivered, delivered_beside}
-use Rattle.sj_lower.proofs.Folding.{Stand}
-use Rattle.sj_lower.proofs.Good.{IsGood, AreGood, good-all, good-at, good_combine}
-use Rattle.sj_lower.proofs.Growing.{grows-refl}
-use Rattle.sj_lower.proofs.Holding.{IsHeld, differs}
-use Rattle.sj_lower.proofs.Laid.{none_isn't, cell-is, cell-inside}
-use Rattle.sj_lower.proofs.Logging.{Logged, IsOwn, log-close}
-use Rattle.sj_lower.proofs.Owning.{one-owner, plain-child}
-use Rattle.sj_lower.proofs.Phasing.{each-of_all}
-use Rattle.sj_lower.proofs.Stating.{Begins, begins-less, stands-more, IsActiveChild, Agrees}
+use Rattle.sj_lower.proofs.{Closing.agrees_turned, Closing.begins-all_closed, Closing.by_phase, Closing.Closed, Contents.contents_before, Delivered.AreDelivered, Delivered.delivered_beside, Folding.Stand, Good.AreGood, Good.good-all, Good.good-at, Good.good_combine, Good.IsGood, Growing.grows-refl, Holding.differs, Holding.IsHeld, Laid.cell-inside, Laid.cell-is, Laid.none_isn't, Logging.IsOwn, Logging.log-close, Logging.Logged, Owning.one-owner, Owning.plain-child, Phasing.each-of_all, Stating.Agrees, Stating.Begins, Stating.begins-less, Stating.IsActiveChild, Stating.stands-more}
 
 -- what holds after the statements so far
 pub record IsFine (T : Table) (p : Program) (L : Lowering) (S : JobState) (out : List Printed) : Type 0 where

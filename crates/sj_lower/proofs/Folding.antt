@@ -1,21 +1,8 @@
 -- What cells hold after tasks that stand one after another in a program.
-use Rattle.std.proofs.Common.{◌≡◌, ℕ, ◌+◌, ◌<◌, ◌≤◌, Bool, true, false, ◌||◌, List, [], ◌∷◌, ◌++◌, length, get_or, map as each_of, refl, sym, ap, subst, ◌∙◌, arith, append_assoc, length-append}
-use Rattle.std.specs.List.{AllByRecursion, zip, filter, flat_map, list_any}
+use Rattle.sj_lower.proofs.Words.{[], after_task, AllByRecursion, ap, append_assoc, arith, Array, Bool, Cell, Contents, each_of, false, filter, flat_map, found, get_or, gives_value, HasValueBefore, held_in, is_written, length, length-append, List, list_any, Lowered, no_task, out, Program, refl, same_cell, same_child_place, subst, sym, task, task_of, true, worked_on, zip, ℕ, ◌++◌, ◌+◌, ◌<◌, ◌||◌, ◌∙◌, ◌∷◌, ◌≡◌, ◌≤◌}
 use Rattle.std.proofs.lemmas.Bool.{false≢true}
 use Rattle.std.proofs.Math.Seq.{get_or-append_seam}
-use Rattle.sj_base.specs.declared.ids.Cell.{Cell}
-use Rattle.sj_base.specs.declared.program.Lowered.{Lowered}
-use Rattle.sj_base.specs.declared.program.Program.{Program}
-use Rattle.sj_base.specs.Array.{Array}
-use Rattle.sj_base.specs.Mode.{is_written}
 use Rattle.sj_base.proofs.Numbers.{none_more, length_more}
-use Rattle.sj_base.specs.Ids.{task}
-use Rattle.sj_codelet.specs.Kernel.{out}
-use Rattle.sj_core.specs.Program.{no_task, task_of, same_cell}
-use Rattle.sj_core.specs.Proper.{HasValueBefore, gives_value}
-use Rattle.sj_core.specs.Fold.{Contents, held_in, after_task}
-use Rattle.sj_core.specs.Operands.{worked_on, found}
-use Rattle.sj_plan.specs.Paste.{same_child_place}
 use Rattle.sj_plan.proofs.Repartitioning.{same_child_place-law, same_child_place-refl}
 use Rattle.sj_lower.proofs.Contents.{first_worker, contents_before, contents-next}
 

@@ -1,54 +1,14 @@
 -- What the code's steps leave is what the definition says.
-use Rattle.std.proofs.Common.{◌≡◌, ℕ, ◌+◌, ◌<◌, ◌≤◌, Bool, true, false, cond, not, ◌||◌, Option, Some, None, List, [], ◌∷◌, ◌++◌, length, get_or, unwrap_or, map as each_of, refl, ap, sym, subst, ◌∙◌, inl, inr, arith, length-append, get_or-set_same, get_or-set_other}
+use Rattle.sj_lower.proofs.Words.{[], a_delivery, a_root, Access, access, access_by, access_of, act_seen, Active, active_at, all_valued, AllByRecursion, ap, apply, AreActive, AreDistinct, arith, Bool, bytes_eq, CanPass, Cell, Cells, cells_after, cells_from, children_after, children_count, cond, deliver_row, deliver_rows, Dims, Does, each_of, even, false, first_after, first_cell, Fits, get, get_or, get_or-set_other, get_or-set_same, gives_values, Handle, has_child, HasRoomFor, info_of, Init, inl, inr, invalidate, IsActive, IsSmallPlan, JobState, Kept, KeptOperand, length, length-append, Line, List, list_all, load_rows, Lowered, Lowerer, Lowering, MayComeNext, most, name_of, nat_eq, next_handle, no_active, no_values, None, none_valued, not, operand_seen, Option, Parts, paste_row, pasted_by, pastes_of, places, plan, plan_rows, print_deliveries, reduce, Reduction, refl, Register, registered_root, registration, Root, root_dims, root_of, RootState, same_parts, Some, subst, sym, Table, take, true, unwrap_or, with_elements, with_new_root, with_parts, with_reduction, ℕ, ◌++◌, ◌+◌, ◌<◌, ◌||◌, ◌∙◌, ◌∷◌, ◌≡◌, ◌≤◌, ◌⊎◌}
 use Rattle.std.proofs.Math.ListN.{set}
-use Rattle.std.specs.List.{All, AllByRecursion, list_all}
-use Rattle.std.specs.Str.{bytes_eq}
-use Rattle.std.specs.Prelude.{◌⊎◌, nat_eq}
+use Rattle.std.specs.List.{All}
 use Rattle.std.proofs.Math.Seq.{get_or-append_seam}
-use Rattle.std.proofs.lemmas.Bool.{and_parts, cases_lt}
-use Rattle.std.proofs.lemmas.List.{append-nil, get_or_append_left, get_or_default, length-set}
-use Rattle.std.proofs.lemmas.List.Elements.{All-head, All-tail}
-use Rattle.std.proofs.lemmas.Option.{same_Some}
-use Rattle.indexmap.specs.IndexMap.{get}
-use Rattle.sj_base.specs.declared.ids.Line.{Line}
-use Rattle.sj_base.specs.declared.ids.Cell.{Cell}
-use Rattle.sj_base.specs.declared.ids.Root.{Root}
-use Rattle.sj_base.specs.declared.mode.Access.{Access}
-use Rattle.sj_base.specs.declared.mode.Reduction.{Reduction}
-use Rattle.sj_base.specs.declared.tile.Dims.{Dims}
-use Rattle.sj_base.specs.declared.program.Lowered.{Lowered}
-use Rattle.sj_base.proofs.Numbers.{positive_product}
-use Rattle.sj_base.proofs.Texts.{same_text}
-use Rattle.sj_base.specs.Mode.{access}
-use Rattle.sj_plan.specs.declared.parts.Parts.{Parts}
-use Rattle.sj_plan.specs.Parts.{Fits, places}
-use Rattle.sj_plan.specs.Paste.{pastes_of}
-use Rattle.sj_meaning.specs.declared.job.Act.{Act as Kept}
+use Rattle.std.proofs.lemmas.{Bool.and_parts, Bool.cases_lt, List.append-nil, List.get_or_append_left, List.get_or_default, List.length-set, List.Elements.All-head, List.Elements.All-tail, Option.same_Some}
+use Rattle.sj_base.proofs.{Numbers.positive_product, Texts.same_text}
 use Rattle.sj_meaning.specs.declared.job.Act.TheVariants as kept
-use Rattle.sj_meaning.specs.declared.job.Init.{Init}
-use Rattle.sj_meaning.specs.declared.job.Operand.{Operand as KeptOperand}
-use Rattle.sj_meaning.specs.Statement.{Register}
-use Rattle.sj_meaning.specs.State.{RootState, JobState, root_of}
-use Rattle.sj_meaning.specs.Meaning.{apply, registered_root, with_parts, with_elements, with_reduction, no_values, plan, reduce, invalidate}
-use Rattle.sj_job.specs.Names.{gives_values}
-use Rattle.sj_meaning.specs.Sound.{has_child, root_dims}
-use Rattle.sj_meaning.specs.Table.{Table, AreDistinct, a_root, name_of, info_of}
-use Rattle.sj_job.specs.Track.{IsSmallPlan, all_valued, none_valued, children_count, even}
-use Rattle.sj_lower.proofs.Places.{length-places}
-use Rattle.sj_meaning.specs.View.{operand_seen, registration, act_seen}
+use Rattle.sj_lower.proofs.{Agreeing.plan_rows-are, Agreeing.values_are, Laid.bytes_eq-itself, Laid.IsTaken, Laid.none_isn't, Laid.root-keeps, Laid.root-there, Laid.take-keeps, Laid.take-roots, Laid.take-takes, Places.length-places, Running.active_cell-is, Running.child_there, Running.root_there, Running.valued_there, Whole.deliver_rows-are, Whole.print_deliveries-are}
 use Rattle.sj_job.proofs.Children.{tracks-registered, tracks-planned, tracks-reduced, tracks-invalidated, all_valued-same, none_valued-same}
-use Rattle.sj_lower.specs.declared.lowerer.Active.{Active}
-use Rattle.sj_lower.specs.declared.lowerer.Lowerer.{Lowerer}
-use Rattle.sj_lower.specs.Cells.{Cells, Handle, same_parts, first_cell, cells_from, take, with_new_root, next_handle}
-use Rattle.sj_lower.specs.Limits.{most}
-use Rattle.sj_lower.specs.Rows.{paste_row, deliver_row}
-use Rattle.sj_lower.specs.Lowering.{Lowering, cells_after, load_rows, access_of, plan_rows, deliver_rows, a_delivery, print_deliveries}
-use Rattle.sj_lower.specs.Seen.{no_active, active_at, pasted_by, IsActive, AreActive, MayComeNext, CanPass, Does, HasRoomFor, access_by, first_after, children_after}
-use Rattle.sj_lower.proofs.Agreeing.{plan_rows-are, values_are}
 use Rattle.sj_meaning.proofs.Finding.{get-put, get-gone, root-change}
-use Rattle.sj_lower.proofs.Laid.{bytes_eq-itself, none_isn't, IsTaken, take-keeps, take-takes, take-roots, root-keeps, root-there}
-use Rattle.sj_lower.proofs.Running.{child_there, root_there, valued_there, active_cell-is}
-use Rattle.sj_lower.proofs.Whole.{deliver_rows-are, print_deliveries-are}
 
 -- ---- active plans
 

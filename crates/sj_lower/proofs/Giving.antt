@@ -1,34 +1,10 @@
 -- The log of phases when a task contributes: its phase goes on, or begins.
-use Rattle.std.proofs.Common.{◌≡◌, ℕ, ◌+◌, ◌-◌, ◌<◌, ◌≤◌, Bool, true, false, cond, Some, None, List, [], ◌∷◌, ◌++◌, length, refl, sym, ap, subst, ◌∙◌, inl, inr, arith, length-append}
-use Rattle.std.specs.Prelude.{◌⊎◌, All, Contains}
-use Rattle.std.specs.List.{range_with_len}
-use Rattle.std.proofs.lemmas.Bool.{false≢true, cases_lt}
-use Rattle.std.proofs.lemmas.List.{length-map}
-use Rattle.std.proofs.lemmas.List.FromFn.{length-range_with_len}
-use Rattle.std.proofs.lemmas.List.Elements.{All-nil, All-cons, All-append, All-weaker, Contains-append_left}
-use Rattle.sj_base.specs.declared.ids.Cell.{Cell}
-use Rattle.sj_base.specs.declared.ids.Line.{Line}
-use Rattle.sj_base.specs.declared.ids.Worker.{Worker}
-use Rattle.sj_base.specs.declared.mode.Mode.TheVariants.{W, Redux}
-use Rattle.sj_base.specs.declared.mode.Access.{Access}
-use Rattle.sj_base.specs.declared.mode.Reduction.{Reduction}
-use Rattle.sj_base.specs.declared.program.Lowered.{Lowered}
-use Rattle.sj_base.specs.declared.program.Program.{Program}
-use Rattle.sj_base.proofs.Numbers.{none_more, none_first}
-use Rattle.sj_base.proofs.SameIds.{same_cell-unlike, same_cell-is, same_cell-itself}
-use Rattle.sj_base.proofs.Lists.{one_is}
-use Rattle.sj_codelet.specs.Kernel.{kernel_of}
-use Rattle.sj_core.specs.Program.{data_operands, same_cell}
-use Rattle.sj_core.specs.Proper.{IsCopyOf, IsPlain, IsInit, IsContribution, Touches, names_as, task_number, access}
-use Rattle.sj_lower.specs.declared.phase.OpenPhase.{OpenPhase}
-use Rattle.sj_lower.specs.Cells.{copy_at}
-use Rattle.sj_lower.specs.Rows.{init_row, init_rows}
-use Rattle.sj_lower.specs.Lowering.{with_phase, begin_rows, extended}
-use Rattle.sj_lower.proofs.Combined.{Phases}
-use Rattle.sj_lower.proofs.Folding.{Stand, stand-append}
-use Rattle.sj_lower.proofs.Logging.{IsLogged, IsOpen, IsNamed, IsAdded, Logged, IsAway, away-touches, data-of, row-range, IsOwn, kernel-init, last-has}
-use Rattle.sj_lower.proofs.Owning.{is-copy}
-use Rattle.sj_lower.proofs.Stating.{phase-own, phase-other}
+use Rattle.sj_lower.proofs.Words.{[], Access, ap, arith, begin_rows, Bool, Cell, cond, Contains, copy_at, data_operands, extended, false, init_row, init_rows, inl, inr, IsContribution, IsCopyOf, IsInit, IsPlain, kernel_of, length, length-append, Line, List, Lowered, names_as, None, OpenPhase, Program, range_with_len, Reduction, Redux, refl, same_cell, Some, subst, sym, task_number, Touches, true, W, with_phase, Worker, ℕ, ◌++◌, ◌+◌, ◌-◌, ◌<◌, ◌∙◌, ◌∷◌, ◌≡◌, ◌≤◌, ◌⊎◌}
+use Rattle.std.specs.Prelude.{All}
+use Rattle.std.proofs.lemmas.{Bool.cases_lt, Bool.false≢true, List.length-map, List.Elements.All-append, List.Elements.All-cons, List.Elements.All-nil, List.Elements.All-weaker, List.Elements.Contains-append_left, List.FromFn.length-range_with_len}
+use Rattle.sj_base.proofs.{Lists.one_is, Numbers.none_first, Numbers.none_more, SameIds.same_cell-is, SameIds.same_cell-itself, SameIds.same_cell-unlike}
+use Rattle.sj_core.specs.Proper.{access}
+use Rattle.sj_lower.proofs.{Combined.Phases, Folding.Stand, Folding.stand-append, Logging.away-touches, Logging.data-of, Logging.IsAdded, Logging.IsAway, Logging.IsLogged, Logging.IsNamed, Logging.IsOpen, Logging.IsOwn, Logging.kernel-init, Logging.last-has, Logging.Logged, Logging.row-range, Owning.is-copy, Stating.phase-other, Stating.phase-own}
 
 -- the task contributes to the cell, and otherwise accesses no cell with an open phase
 pub record IsGiving (p : Program) (phases : Phases) (c : Cell) (by : Reduction) (l : Lowered) : Type 0 where

@@ -1,25 +1,9 @@
 -- A job lowered one statement after another.
-use Rattle.std.proofs.Common.{◌≡◌, ℕ, ◌+◌, ◌<◌, ◌≤◌, Bool, true, false, List, [], ◌∷◌, length, map, refl, ap, sym, subst, ◌∙◌, arith, Option, Some, None, if◌then◌else◌, nat_lt}
-use Rattle.std.specs.List.{last_or}
+use Rattle.sj_lower.proofs.Words.{[], above_at_end, act_seen, ActsArePlaced, ap, apply, arith, Bool, cells_in, count_after, count_from, false, finished, first_above, Goes, HasAt, HasComing, if◌then◌else◌, IsComing, IsFull, IsLate, IsOverLimit, IsTable, IsWell, JobState, Kernel, last_or, late_cells, late_limit, late_tasks, length, Line, line_or, List, lower_from, lower_one, Lowering, LoweringProgress, LowerRefusal, map, most, nat_lt, None, nothing, Option, OutOfMemory, over_after, Prepares, refl, seen_from, Some, StandsAt, start, Statement, statement_seen, subst, sym, Table, tasks_in, TooManyCells, TooManyTasks, true, ℕ, ◌+◌, ◌<◌, ◌∙◌, ◌∷◌, ◌≡◌, ◌≤◌}
 use Rattle.std.proofs.lemmas.Bool.Decides.{nat_tests}
-use Rattle.sj_base.specs.declared.ids.Line.{Line}
-use Rattle.sj_codelet.specs.declared.kernel.Kernel.{Kernel}
 use Rattle.sj_meaning.specs.declared.job.Statement.{Statement as Kept}
-use Rattle.sj_meaning.specs.Act.{Statement}
-use Rattle.sj_meaning.specs.State.{JobState, start}
-use Rattle.sj_meaning.specs.Meaning.{apply}
-use Rattle.sj_meaning.specs.Table.{Table, IsTable}
-use Rattle.sj_meaning.specs.View.{ActsArePlaced, count_after, count_from, act_seen, statement_seen, seen_from}
-use Rattle.sj_job.specs.Well.{IsWell}
 use Rattle.sj_meaning.proofs.Views.{counts-grow, count-grows}
-use Rattle.sj_lower.specs.declared.lower.LowerRefusal.{LowerRefusal}
-use Rattle.sj_lower.specs.declared.lower.LowerRefusal.TheVariants.{TooManyCells, TooManyTasks, OutOfMemory}
-use Rattle.sj_lower.specs.declared.lower.LoweringProgress.{LoweringProgress}
-use Rattle.sj_lower.specs.Limits.{most, cells_in, tasks_in, first_above, above_at_end, line_or, late_tasks, late_cells, late_limit}
-use Rattle.sj_lower.specs.Lowering.{Lowering, nothing, lower_from, lower_one, finished}
-use Rattle.sj_lower.specs.Progress.{StandsAt, IsComing, HasComing, HasAt, Goes, IsFull, IsOverLimit, IsLate, Prepares, over_after}
-use Rattle.sj_lower.proofs.Allowed.{can_be}
-use Rattle.sj_lower.proofs.Naming.{AreNumbered, numbered-one, numbered-cut, numbered-none}
+use Rattle.sj_lower.proofs.{Allowed.can_be, Naming.AreNumbered, Naming.numbered-cut, Naming.numbered-none, Naming.numbered-one}
 
 line_or-none : (o : Option Line) → line_or o None ≡ o
 line_or-none None = refl

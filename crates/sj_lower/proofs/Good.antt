@@ -1,70 +1,12 @@
 -- Each lowered task is as a proper program has it.
-use Rattle.std.proofs.Common.{◌≡◌, ℕ, ◌+◌, ◌<◌, ◌≤◌, Bool, true, false, cond, not, ◌&&◌, List, [], ◌∷◌, ◌++◌, ℤ, pos, length, map as each_of, refl, sym, ap, subst, ◌∙◌, inl, inr, arith, Option, Some, None}
-use Rattle.std.specs.Prelude.{◌||◌, count_by}
-use Rattle.std.proofs.lemmas.List.Sums.{sum_by-cons}
-use Rattle.sj_codelet.specs.Formal.{is_output}
-use Rattle.std.specs.List.{All, AllPairs, AllByRecursion, flat_map, list_all, list_any}
-use Rattle.std.specs.Int.RustNames.{int_le}
-use Rattle.std.specs.Str.{bytes_eq}
-use Rattle.std.proofs.lemmas.Bool.{false≢true, and_parts, and_from, le-leb, cases_lt, or_parts, not-true}
-use Rattle.std.proofs.lemmas.Bool.Decides.{Decides-eqb}
-use Rattle.std.proofs.lemmas.List.Elements.{All-nil, All-cons}
-use Rattle.std.proofs.lemmas.List.Kept.{AllPairs-cons, AllPairs-filter}
-use Rattle.sj_base.specs.declared.ids.Cell.{Cell}
-use Rattle.sj_base.specs.declared.ids.Line.{Line}
-use Rattle.sj_base.specs.declared.tile.Dims.{Dims}
-use Rattle.sj_base.specs.declared.mode.Mode.{Mode}
-use Rattle.sj_base.specs.declared.mode.Mode.TheVariants.{R, W, RW, Scratch, Redux, Commute}
-use Rattle.sj_base.specs.declared.mode.Access.{Access}
-use Rattle.sj_base.specs.declared.program.Lowered.{Lowered}
-use Rattle.sj_base.specs.declared.program.Program.{Program}
-use Rattle.sj_base.specs.Array.{array, area, element}
-use Rattle.sj_base.proofs.Tables.{length-table}
-use Rattle.sj_codelet.specs.declared.kernel.Kernel.{Kernel}
-use Rattle.sj_codelet.specs.declared.formal.Formal.{Formal}
-use Rattle.sj_codelet.specs.declared.formal.Formal.TheVariants.{R as FormalR, W as FormalW, RW as FormalRW, Scratch as FormalScratch}
-use Rattle.sj_codelet.specs.declared.kernel.Kernel.TheVariants.{Load, LoadFill, Paste as PasteKernel, Deliver}
-use Rattle.sj_codelet.specs.Kernel.{kernel_of, formals_of, fits, commutes_of, commutes_in, init_of, combine_of}
-use Rattle.sj_core.specs.Program.{same_cell, dims_of, cell_info, task_of}
-use Rattle.sj_core.specs.Operands.{copy_of}
-use Rattle.sj_base.specs.declared.ids.Worker.{Worker}
-use Rattle.sj_base.specs.declared.mode.Reduction.{Reduction}
-use Rattle.sj_base.specs.declared.mode.Reduction.TheVariants.{Plus, Least}
-use Rattle.std.specs.Option.{is_some}
-use Rattle.sj_base.specs.Mode.{is_scratch, is_redux, is_commute, is_written, reads_value, access, is_read_only}
-use Rattle.sj_base.proofs.Numbers.{length_more, none_more}
-use Rattle.sj_base.proofs.Bools.{or_first, implied}
-use Rattle.sj_base.proofs.SameIds.{same_cell-is}
-use Rattle.sj_base.specs.Ids.{task}
-use Rattle.sj_core.specs.Proper.{HasValueBefore, FitsCodelet, MayHaveModes, IsPlain, IsUnaliased, gives_value, mode_of}
-use Rattle.sj_core.specs.Fold.{Contents}
-use Rattle.sj_core.proofs.Reduction.{read-is}
-use Rattle.sj_plan.specs.declared.parts.Parts.{Parts}
-use Rattle.sj_plan.specs.declared.paste.Paste.{Paste}
-use Rattle.sj_plan.specs.declared.rect.Rect.{Rect}
-use Rattle.sj_plan.specs.Parts.{IsPlace, Fits}
-use Rattle.sj_plan.specs.Paste.{same_child_place, paste_copy, is_first, pastes_to, IsPasteBetween}
-use Rattle.sj_plan.specs.Pieces.{BeginOnce}
-use Rattle.sj_plan.specs.Rect.{child, rect_dims}
-use Rattle.sj_plan.specs.Window.{window}
+use Rattle.sj_lower.proofs.Words.{[], Access, access, access_of, AllByRecursion, AllPairs, ap, area, arith, array, BeginOnce, Bool, bytes_eq, Cell, cell_info, Cells, child, child_dims, clashes, combine_of, combine_row, Commute, commutes_in, commutes_of, cond, Contents, copy_of, count_by, Deliver, deliver_row, Dims, dims_of, each_of, element, false, fill_row, Fits, fits, FitsCodelet, flat_map, Formal, FormalR, FormalRW, formals_of, FormalScratch, FormalW, gives_value, has_child, has_child_values, HasValueBefore, init_of, init_row, inl, inr, int_le, is_aliased, is_commute, is_first, is_lawful, is_output, is_read_only, is_redux, is_scratch, is_some, is_unordered, is_written, IsPasteBetween, IsPlace, IsPlain, IsSoundTask, IsUnaliased, JobState, Kernel, kernel_of, Least, length, Line, List, list_all, list_any, Load, load_row, LoadFill, Lowered, MayHaveModes, Mode, mode_fits, mode_of, modes_fit, needs_value, None, not, Operand, Option, own_task, Parts, Paste, paste_arguments, paste_copy, paste_row, PasteKernel, pastes_to, Plus, pos, Program, R, reads_value, Rect, rect_dims, Reduction, Redux, refl, root_of, RootState, RW, same_cell, same_child_place, Scratch, Some, subst, sym, task, task_of, task_row, TaskLine, true, W, window, Worker, written_of, ℕ, ℤ, ◌&&◌, ◌++◌, ◌+◌, ◌<◌, ◌∙◌, ◌∷◌, ◌≡◌, ◌≤◌}
+use Rattle.std.specs.Prelude.{◌||◌}
+use Rattle.std.proofs.lemmas.{Bool.and_from, Bool.and_parts, Bool.cases_lt, Bool.false≢true, Bool.le-leb, Bool.not-true, Bool.or_parts, Bool.Decides.Decides-eqb, List.Elements.All-cons, List.Elements.All-nil, List.Kept.AllPairs-cons, List.Kept.AllPairs-filter, List.Sums.sum_by-cons}
+use Rattle.std.specs.List.{All}
+use Rattle.sj_base.proofs.{Bools.implied, Bools.or_first, Numbers.length_more, Numbers.none_more, SameIds.same_cell-is, Tables.length-table}
+use Rattle.sj_core.proofs.{Modes.commutes_is_written, Reduction.read-is}
 use Rattle.sj_plan.proofs.Repartitioning.{same_child_place-refl}
-use Rattle.sj_meaning.specs.Statement.{Operand, TaskLine}
-use Rattle.sj_meaning.specs.State.{RootState, JobState, root_of}
-use Rattle.sj_meaning.specs.Sound.{is_unordered, mode_fits, modes_fit, needs_value, clashes, is_aliased}
-use Rattle.sj_meaning.specs.Meaning.{written_of}
-use Rattle.sj_meaning.specs.Sound.{is_lawful, has_child, has_child_values, child_dims, IsSoundTask}
-use Rattle.sj_lower.specs.Cells.{Cells}
-use Rattle.sj_lower.specs.Rows.{own_task, load_row, fill_row, paste_arguments, paste_row, deliver_row, init_row, combine_row}
-use Rattle.sj_lower.specs.Lowering.{access_of, task_row}
-use Rattle.sj_lower.proofs.Folding.{Stand, stand-append, later}
-use Rattle.sj_lower.proofs.Holding.{HasCells, HaveRoots, cell-dims}
-use Rattle.sj_lower.proofs.Combined.{Phases}
-use Rattle.sj_lower.proofs.Adding.{same-itself}
-use Rattle.sj_lower.proofs.Operands.{IsRead, Contributes}
-use Rattle.sj_lower.proofs.Laid.{AreLaid, IsTaken, bytes_eq-itself, cell-inside, cells-apart}
-use Rattle.sj_lower.proofs.Pasting.{GoesTo, pastes-begin, pastes-go, pastes-between, paste-gives}
-use Rattle.sj_lower.proofs.Running.{is_direct, child_there, child_dims-are, child_values-are, active_cell-is, operand_cell, kernel_there}
-use Rattle.sj_core.proofs.Modes.{commutes_is_written}
+use Rattle.sj_lower.proofs.{Adding.same-itself, Combined.Phases, Folding.later, Folding.Stand, Folding.stand-append, Holding.cell-dims, Holding.HasCells, Holding.HaveRoots, Laid.AreLaid, Laid.bytes_eq-itself, Laid.cell-inside, Laid.cells-apart, Laid.IsTaken, Operands.Contributes, Operands.IsRead, Pasting.GoesTo, Pasting.paste-gives, Pasting.pastes-begin, Pasting.pastes-between, Pasting.pastes-go, Running.active_cell-is, Running.child_dims-are, Running.child_there, Running.child_values-are, Running.is_direct, Running.kernel_there, Running.operand_cell}
 use Rattle.sj_meaning.proofs.Giving.{written_as}
 
 -- where the access is a contribution, its cell has partial copies, and each has a value

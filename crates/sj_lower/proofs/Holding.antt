@@ -1,39 +1,10 @@
 -- A program's cells hold what the children of the job's roots hold.
-use Rattle.std.proofs.Common.{◌≡◌, ℕ, ◌<◌, ◌≤◌, Bool, true, false, cond, ◌&&◌, Option, Some, None, List, [], ◌∷◌, ◌++◌, ℤ, length, map as each_of, refl, sym, ap, subst, ◌∙◌, arith}
-use Rattle.std.specs.List.{zip, list_all}
-use Rattle.std.specs.Option.{is_some}
-use Rattle.std.specs.Str.{bytes_eq}
-use Rattle.std.proofs.lemmas.Bool.{false≢true, and_from}
-use Rattle.std.proofs.lemmas.Option.{same_Some}
-use Rattle.sj_base.specs.declared.ids.Cell.{Cell}
-use Rattle.sj_base.specs.declared.tile.Dims.{Dims}
-use Rattle.sj_base.specs.declared.program.Program.{Program}
-use Rattle.sj_base.specs.Array.{Array, area}
-use Rattle.sj_base.proofs.SameIds.{cell_of_number, same_cell-is}
-use Rattle.sj_base.proofs.Texts.{same_text, other_text}
-use Rattle.sj_base.specs.Ids.{task}
-use Rattle.sj_lower.specs.declared.phase.OpenPhase.{OpenPhase}
-use Rattle.sj_core.specs.Program.{same_cell, dims_of}
-use Rattle.sj_core.specs.Proper.{HasValueBefore}
-use Rattle.sj_core.specs.Fold.{Contents, held_in}
-use Rattle.sj_plan.specs.declared.parts.Parts.{Parts}
-use Rattle.sj_plan.specs.Parts.{Fits, IsPlace}
-use Rattle.sj_plan.specs.Paste.{same_child_place}
-use Rattle.sj_plan.specs.Rect.{child, rect_dims}
-use Rattle.sj_plan.specs.Window.{IsWhole}
+use Rattle.sj_lower.proofs.Words.{[], ap, area, arith, Array, Bool, bytes_eq, Cell, cell_of, Cells, child, child_array, child_rect, cond, Contents, copy_at, Dims, dims_of, each_of, false, Fits, HasValueBefore, held_in, info_at, integers_of, is_child, is_some, is_valued_child, IsPlace, IsWhole, JobState, length, List, list_all, None, OpenPhase, Operand, Option, Parts, Program, put, put_all, rect_dims, refl, root_of, RootState, same_cell, same_child_place, Some, subst, sym, task, true, with_child, zip, ℕ, ℤ, ◌&&◌, ◌++◌, ◌<◌, ◌∙◌, ◌∷◌, ◌≡◌, ◌≤◌}
+use Rattle.std.proofs.lemmas.{Bool.and_from, Bool.false≢true, Option.same_Some}
+use Rattle.sj_base.proofs.{SameIds.cell_of_number, SameIds.same_cell-is, Texts.other_text, Texts.same_text}
 use Rattle.sj_plan.proofs.Repartitioning.{same_child_place-law, same_child_place-refl}
-use Rattle.sj_meaning.specs.Statement.{Operand}
-use Rattle.sj_meaning.specs.State.{RootState, JobState, root_of, is_child, child_rect, is_valued_child}
-use Rattle.sj_meaning.specs.Meaning.{integers_of, child_array, with_child, put, put_all}
 use Rattle.sj_meaning.proofs.Finding.{root-change}
-use Rattle.sj_lower.specs.Cells.{Cells, cell_of, info_at, copy_at}
-use Rattle.sj_lower.proofs.Combined.{IsTrusted, Phases, denoted, denoted-closed, denoted-same, SameCopies}
-use Rattle.sj_lower.proofs.Copies.{HaveCopies}
-use Rattle.sj_lower.proofs.Growing.{Grows}
-use Rattle.sj_lower.proofs.Contents.{NotAmong, held-same, held-other, held-moved}
-use Rattle.sj_lower.proofs.Elements.{written-whole, written-other, written-array}
-use Rattle.sj_lower.proofs.Folding.{later}
-use Rattle.sj_lower.proofs.Laid.{bytes_eq-itself, none_isn't, IsTaken, AreLaid, cell-inside, cell-is, cell-row, cells-apart}
+use Rattle.sj_lower.proofs.{Combined.denoted, Combined.denoted-closed, Combined.denoted-same, Combined.IsTrusted, Combined.Phases, Combined.SameCopies, Contents.held-moved, Contents.held-other, Contents.held-same, Contents.NotAmong, Copies.HaveCopies, Elements.written-array, Elements.written-other, Elements.written-whole, Folding.later, Growing.Grows, Laid.AreLaid, Laid.bytes_eq-itself, Laid.cell-inside, Laid.cell-is, Laid.cell-row, Laid.cells-apart, Laid.IsTaken, Laid.none_isn't}
 
 -- ---- what agrees
 

@@ -1,40 +1,10 @@
 -- The codelets of a lowered program are those of the set by which its job was read.
-use Rattle.std.proofs.Common.{◌≡◌, ℕ, Bool, true, false, cond, not, ◌&&◌, ◌||◌, Option, Some, None, List, [], ◌∷◌, length, map as each_of, refl, sym, ap, ◌∙◌, fold}
+use Rattle.sj_lower.proofs.Words.{[], Act, active_cell, all_closed, ap, apply, begin_rows, begun, Bool, Cell, cell_of, Cells, cells_after, child, child_dims, closed, closed_by, Codelet, combine_of, combine_row, combine_rows, commutes_in, cond, contributes_in, contributes_of, contributions, copy_at, Deliver, deliver_row, each_of, extended, false, Fill, fill_row, filter, finished, first_partial, fits, fold, has_child_values, has_reduction, Init, init_of, init_row, init_rows, Invalidates, is_commute, is_known, is_lawful, is_redux, IsSoundTask, JobState, Kernel, kernel_of, Least, leaves_plan, length, Line, List, list_all, Load, load_row, load_rows, LoadFill, lower_from, lower_one, Lowered, Lowering, None, not, Nothing, nothing, opened, opened_for, OpenPhase, Operand, Option, Parts, parts_in, paste_row, pastes_of, phase_turned, places, plan_rows, Plans, Plus, prepared, Prints, range_with_len, Reduces, Reduction, reduction_of, refl, Register, Registers, root_of, RootState, rows_added, Some, start, Statement, sym, TaskLine, Tasks, true, Unregisters, Values, with_phase, ℕ, ◌&&◌, ◌||◌, ◌∙◌, ◌∷◌, ◌≡◌}
 use Rattle.std.specs.Prelude.{All}
-use Rattle.std.specs.List.{range_with_len, filter, list_all}
-use Rattle.std.proofs.lemmas.Bool.{false≢true, and_parts}
-use Rattle.std.proofs.lemmas.List.Elements.{All-nil, All-cons, All-append, All-from_recursion}
-use Rattle.sj_base.specs.declared.ids.Cell.{Cell}
-use Rattle.sj_base.specs.declared.ids.Line.{Line}
-use Rattle.sj_base.specs.declared.mode.Reduction.{Reduction}
-use Rattle.sj_base.specs.declared.mode.Reduction.TheVariants.{Plus, Least}
-use Rattle.sj_base.specs.declared.program.Codelet.{Codelet}
-use Rattle.sj_base.specs.declared.program.Lowered.{Lowered}
-use Rattle.sj_base.specs.Mode.{is_redux, is_commute}
-use Rattle.sj_codelet.specs.declared.kernel.Kernel.{Kernel}
-use Rattle.sj_codelet.specs.declared.kernel.Kernel.TheVariants.{Load, LoadFill, Paste, Deliver}
-use Rattle.sj_codelet.specs.Kernel.{kernel_of, fits, init_of, combine_of, has_reduction, contributes_of, contributes_in, commutes_in}
-use Rattle.sj_core.specs.Laws.{is_known}
-use Rattle.sj_plan.specs.declared.parts.Parts.{Parts}
-use Rattle.sj_plan.specs.Parts.{places}
-use Rattle.sj_plan.specs.Paste.{pastes_of}
-use Rattle.sj_plan.specs.Rect.{child}
+use Rattle.std.proofs.lemmas.{Bool.and_parts, Bool.false≢true, List.Elements.All-append, List.Elements.All-cons, List.Elements.All-from_recursion, List.Elements.All-nil}
+use Rattle.sj_codelet.specs.declared.kernel.Kernel.TheVariants.{Paste}
 use Rattle.sj_plan.proofs.Lists.{each-map, each-of}
-use Rattle.sj_meaning.specs.declared.job.Init.{Init}
-use Rattle.sj_meaning.specs.declared.job.Init.TheVariants.{Values, Fill, Nothing}
-use Rattle.sj_meaning.specs.Statement.{Operand, Register, TaskLine}
-use Rattle.sj_meaning.specs.Act.{Act, Statement}
-use Rattle.sj_meaning.specs.Act.{Register as Registers, Plan as Plans, Redux as Reduces, Task as Tasks, Print as Prints, Invalidate as Invalidates, Unregister as Unregisters}
-use Rattle.sj_meaning.specs.State.{RootState, JobState, root_of, start}
-use Rattle.sj_meaning.specs.Meaning.{apply}
-use Rattle.sj_meaning.specs.Sound.{IsSoundTask, is_lawful, reduction_of, has_child_values, child_dims}
-use Rattle.sj_lower.specs.declared.phase.OpenPhase.{OpenPhase}
-use Rattle.sj_lower.specs.Cells.{Cells, cell_of, copy_at, first_partial}
-use Rattle.sj_lower.specs.Rows.{load_row, fill_row, paste_row, deliver_row, init_row, combine_row, init_rows, combine_rows}
-use Rattle.sj_lower.specs.Lowering.{Lowering, nothing, cells_after, load_rows, leaves_plan, plan_rows, parts_in, active_cell, rows_added, closed_by, closed, all_closed, begin_rows, begun, opened, opened_for, contributions, extended, phase_turned, with_phase, prepared, lower_one, lower_from, finished}
-use Rattle.sj_lower.proofs.Able.{CanBe, AllCanBe}
-use Rattle.sj_lower.proofs.Closing.{by_phase}
-use Rattle.sj_lower.proofs.Stating.{phase-own, phase-other, by_cell}
+use Rattle.sj_lower.proofs.{Able.AllCanBe, Able.CanBe, Closing.by_phase, Stating.by_cell, Stating.phase-other, Stating.phase-own}
 
 -- the set has the task's codelet
 abbrev pub IsKnown : (Kernel → Bool) → Lowered → Type 0

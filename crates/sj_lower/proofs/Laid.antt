@@ -1,26 +1,10 @@
 -- Each child of each plan that a root has taken has a cell of its own.
-use Rattle.std.proofs.Common.{◌≡◌, ℕ, ◌+◌, ◌-◌, ◌*◌, ◌^◌, ◌<◌, ◌≤◌, Bool, true, false, cond, Option, Some, None, List, [], ◌++◌, length, get_or, unwrap_or, map as each_of, refl, sym, ap, subst, ◌∙◌, arith, length-append}
+use Rattle.sj_lower.proofs.Words.{[], ap, area, arith, Bool, bytes_eq, Cell, cell_of, CellInfo, Cells, child, child_cell, cond, Dims, each_of, false, Fits, get_or, Handle, is_some, IsPlace, length, length-append, List, next_handle, no_cell, no_cells, None, number, Option, Parts, places, rect_dims, refl, same_parts, Some, subst, sym, take, take_by, taking_plan, true, unwrap_or, with_handle, with_new_root, ℕ, ◌*◌, ◌++◌, ◌+◌, ◌-◌, ◌<◌, ◌^◌, ◌∙◌, ◌≡◌, ◌≤◌}
 use Rattle.std.specs.List.{All}
-use Rattle.std.specs.Option.{is_some}
-use Rattle.std.specs.Str.{bytes_eq}
-use Rattle.std.proofs.lemmas.List.{get_or_append_left, get_or-append_right}
-use Rattle.std.proofs.lemmas.List.Elements.{All-append, All-from_recursion}
-use Rattle.std.proofs.lemmas.Slice.Eq.{bytes_eq-Decides}
-use Rattle.std.proofs.lemmas.Option.{same_Some}
-use Rattle.sj_base.specs.declared.ids.Cell.{Cell}
-use Rattle.sj_base.specs.declared.tile.Dims.{Dims}
-use Rattle.sj_base.specs.declared.program.CellInfo.{CellInfo}
-use Rattle.sj_base.specs.Array.{area}
+use Rattle.std.proofs.lemmas.{List.get_or-append_right, List.get_or_append_left, List.Elements.All-append, List.Elements.All-from_recursion, Option.same_Some, Slice.Eq.bytes_eq-Decides}
 use Rattle.sj_base.proofs.Texts.{same_text}
-use Rattle.sj_core.specs.Program.{no_cell}
-use Rattle.sj_plan.specs.declared.parts.Parts.{Parts}
-use Rattle.sj_plan.specs.Parts.{Fits, IsPlace, places}
-use Rattle.sj_plan.specs.Rect.{child, rect_dims}
-use Rattle.sj_plan.proofs.Lists.{each-map, each-places}
-use Rattle.sj_plan.proofs.Splitting.{part_end}
-use Rattle.sj_job.specs.Track.{number}
+use Rattle.sj_plan.proofs.{Lists.each-map, Lists.each-places, Splitting.part_end}
 use Rattle.sj_job.proofs.Children.{number-alone}
-use Rattle.sj_lower.specs.Cells.{Cells, Handle, same_parts, with_handle, cell_of, taking_plan, child_cell, take_by, take, next_handle, with_new_root, no_cells}
 use Rattle.sj_lower.proofs.Places.{parts-are, parts-itself, number-below, length-places, places-at}
 
 pub bytes_eq-itself : (a : List ℕ) → bytes_eq a a ≡ true

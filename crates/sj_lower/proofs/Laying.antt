@@ -1,38 +1,10 @@
 -- The code's layout is that of the definition, after a root takes a plan or a cell gets its partial copies.
-use Rattle.std.proofs.Common.{◌≡◌, ℕ, ◌+◌, ◌*◌, ◌<◌, ◌≤◌, Bool, true, false, cond, ◌&&◌, Option, Some, None, List, ◌++◌, length, map as each_of, get_or, unwrap_or, refl, sym, ap, subst, ◌∙◌, arith, length-append}
-use Rattle.std.specs.Prelude.{nat_eq, replicate, set}
-use Rattle.std.specs.Option.{is_some}
-use Rattle.std.specs.Str.{bytes_eq}
-use Rattle.std.proofs.lemmas.Bool.{false≢true, and_parts, and_from, ne_eqb}
-use Rattle.std.proofs.lemmas.List.{set-append_left}
-use Rattle.std.proofs.lemmas.Simd.{map-map}
-use Rattle.std.proofs.lemmas.Option.{same_Some}
-use Rattle.indexmap.specs.IndexMap.{get}
-use Rattle.sj_base.specs.declared.ids.Cell.{Cell}
-use Rattle.sj_base.specs.declared.ids.Root.{Root}
-use Rattle.sj_base.specs.declared.program.CellInfo.{CellInfo}
-use Rattle.sj_base.specs.declared.tile.Dims.{Dims}
-use Rattle.sj_base.proofs.Texts.{same_text}
-use Rattle.sj_base.proofs.Bools.{nat_eq-itself}
-use Rattle.sj_core.specs.Program.{no_cell}
-use Rattle.sj_plan.specs.declared.parts.Parts.{Parts}
-use Rattle.sj_plan.specs.Parts.{places}
-use Rattle.sj_plan.specs.Rect.{child, children_of}
-use Rattle.sj_meaning.specs.Table.{Table, AreDistinct, a_root, name_of, info_of}
-use Rattle.sj_lower.specs.declared.layout.Taken.{Taken}
-use Rattle.sj_lower.specs.declared.layout.Layout.{Layout}
-use Rattle.sj_lower.specs.Cells.{Cells, same_parts, with_handle, with_first, first_cell, taking_plan, rect_cell, child_cell, take, next_handle, with_new_root, info_at, copy_info, with_partials, first_partial, with_copies}
-use Rattle.sj_lower.specs.Limits.{most}
-use Rattle.sj_meaning.specs.declared.job.Init.{Init}
-use Rattle.sj_meaning.specs.declared.job.RootInfo.{RootInfo}
+use Rattle.sj_lower.proofs.Words.{a_root, act_seen, ap, AreDistinct, arith, Bool, bytes_eq, Cell, CellInfo, Cells, cells_after, child, child_cell, children_after, children_count, children_of, cond, copy_info, Dims, each_of, false, first_after, first_cell, first_partial, get, get_or, handle_in, info_at, info_of, Init, is_some, Layout, Lays, length, length-append, List, most, name_of, nat_eq, next_handle, no_cell, None, Option, Parts, places, plan_taken, rect_cell, refl, Root, RootInfo, same_parts, same_taken, set, Some, subst, sym, Table, take, Taken, taking_plan, true, unwrap_or, with_copies, with_first, with_handle, with_new_root, with_partials, ℕ, ◌&&◌, ◌*◌, ◌++◌, ◌+◌, ◌<◌, ◌∙◌, ◌≡◌, ◌≤◌}
+use Rattle.std.specs.Prelude.{replicate}
+use Rattle.std.proofs.lemmas.{Bool.and_from, Bool.and_parts, Bool.false≢true, Bool.ne_eqb, List.set-append_left, Option.same_Some, Simd.map-map}
+use Rattle.sj_base.proofs.{Bools.nat_eq-itself, Texts.same_text}
 use Rattle.sj_meaning.specs.declared.job.Act.TheVariants as kept
-use Rattle.sj_meaning.specs.View.{act_seen}
-use Rattle.sj_job.specs.Track.{children_count}
-use Rattle.sj_lower.specs.Lowering.{cells_after}
-use Rattle.sj_lower.specs.Seen.{plan_taken, same_taken, handle_in, Lays, first_after, children_after}
-use Rattle.sj_lower.proofs.Laid.{bytes_eq-itself, none_isn't, take-by}
-use Rattle.sj_lower.proofs.Copies.{by_copies, copied-length, first-new}
-use Rattle.sj_lower.proofs.Places.{length-places, parts-are}
+use Rattle.sj_lower.proofs.{Copies.by_copies, Copies.copied-length, Copies.first-new, Laid.bytes_eq-itself, Laid.none_isn't, Laid.take-by, Places.length-places, Places.parts-are}
 
 -- a plan that is new
 news : (T : Table) (l : Layout) (C : Cells) (r : Root) (p : Parts) → Lays T l C → r.0 < C.roots → get same_taken l.firsts (plan_taken r.0 p) ≡ None → take (name_of T r) p C ≡ record {

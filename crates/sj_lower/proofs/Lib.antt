@@ -45,3 +45,4 @@ pub mod Preparing
 pub mod Preparations
 pub mod Matching
 pub mod Steps
+pub mod Words

@@ -1,35 +1,11 @@
 -- The phases of a program, as they are begun, go on and are closed task by task.
-use Rattle.std.proofs.Common.{◌≡◌, ℕ, zero, suc, ◌+◌, ◌-◌, ◌<◌, ◌≤◌, Bool, true, false, not, Some, None, List, [], ◌∷◌, ◌++◌, length, get_or, map, refl, sym, ap, subst, ◌∙◌, inl, inr, arith}
-use Rattle.std.specs.Prelude.{◌⊎◌, All, Contains, slice_index_or}
-use Rattle.std.specs.List.{AllByRecursion, range_with_len}
-use Rattle.std.proofs.lemmas.Bool.{false≢true, cases_lt}
-use Rattle.std.proofs.lemmas.List.FromFn.{get_or-range_with_len, length-range_with_len}
-use Rattle.std.proofs.lemmas.List.Elements.{All-nil, All-cons, All-contains, All-weaker, Contains-append_right}
-use Rattle.sj_base.specs.declared.ids.Cell.{Cell}
-use Rattle.sj_base.specs.declared.ids.Worker.{Worker}
-use Rattle.sj_base.specs.declared.mode.Mode.TheVariants.{R, RW, Redux}
-use Rattle.sj_base.specs.declared.mode.Access.{Access}
-use Rattle.sj_base.specs.declared.mode.Reduction.{Reduction}
-use Rattle.sj_base.specs.declared.mode.Reduction.TheVariants.{Plus, Least}
-use Rattle.sj_base.specs.declared.program.Lowered.{Lowered}
-use Rattle.sj_base.specs.declared.program.Program.{Program}
-use Rattle.sj_base.specs.Mode.{is_data, is_redux, is_scratch}
-use Rattle.sj_base.proofs.Numbers.{none_more, one_more, none_first}
-use Rattle.sj_base.proofs.SameIds.{same_cell-is, same_cell-itself}
-use Rattle.sj_base.proofs.Lists.{Contains-range}
-use Rattle.sj_codelet.specs.Kernel.{kernel_of, codelet_of, init_of, combine_of}
-use Rattle.sj_core.specs.Program.{data_operands, cell_info, same_cell}
-use Rattle.sj_core.specs.Operands.{copy_of}
-use Rattle.sj_core.specs.Proper.{IsCopyOf, IsPlain, Phase, IsPhase, HasPhases, IsInit, IsCombine, IsContribution, IsOfPhase, IsFirstUnit, IsOpenAt, Touches, names_as, task_number, access}
+use Rattle.sj_lower.proofs.Words.{[], Access, AllByRecursion, ap, arith, Bool, Cell, cell_info, codelet_of, combine_of, combine_row, combine_rows, Contains, copy_at, copy_of, data_operands, false, get_or, HasPhases, init_of, inl, inr, is_data, is_redux, is_scratch, IsCombine, IsContribution, IsCopyOf, IsFirstUnit, IsInit, IsOfPhase, IsOpenAt, IsPhase, IsPlain, kernel_of, Least, length, List, Lowered, map, names_as, None, not, OpenPhase, Phase, Plus, Program, R, range_with_len, Reduction, Redux, refl, RW, same_cell, slice_index_or, Some, subst, suc, sym, task_number, Touches, true, with_phase, Worker, zero, ℕ, ◌++◌, ◌+◌, ◌-◌, ◌<◌, ◌∙◌, ◌∷◌, ◌≡◌, ◌≤◌, ◌⊎◌}
+use Rattle.std.specs.Prelude.{All}
+use Rattle.std.proofs.lemmas.{Bool.cases_lt, Bool.false≢true, List.Elements.All-cons, List.Elements.All-contains, List.Elements.All-nil, List.Elements.All-weaker, List.Elements.Contains-append_right, List.FromFn.get_or-range_with_len, List.FromFn.length-range_with_len}
+use Rattle.sj_base.proofs.{Lists.Contains-range, Numbers.none_first, Numbers.none_more, Numbers.one_more, SameIds.same_cell-is, SameIds.same_cell-itself}
+use Rattle.sj_core.specs.Proper.{access}
 use Rattle.sj_core.proofs.Readiness.{filter-Contains, Contains-from_filter}
-use Rattle.sj_lower.specs.declared.phase.OpenPhase.{OpenPhase}
-use Rattle.sj_lower.specs.Cells.{copy_at}
-use Rattle.sj_lower.specs.Rows.{combine_row, combine_rows}
-use Rattle.sj_lower.specs.Lowering.{with_phase}
-use Rattle.sj_lower.proofs.Combined.{Phases}
-use Rattle.sj_lower.proofs.Folding.{Stand}
-use Rattle.sj_lower.proofs.Owning.{copy-is, is-copy}
-use Rattle.sj_lower.proofs.Stating.{phase-own, phase-other}
+use Rattle.sj_lower.proofs.{Combined.Phases, Folding.Stand, Owning.copy-is, Owning.is-copy, Stating.phase-other, Stating.phase-own}
 
 -- ---- tasks one after another
 

@@ -1,45 +1,8 @@
 -- All statements: the tasks of the lowered program are good, its phases are logged, and its deliveries are those of the job's
 -- prints.
-use Rattle.std.proofs.Common.{◌≡◌, ℕ, ◌<◌, Bool, true, false, cond, not, ◌&&◌, Option, Some, None, List, [], ◌∷◌, ◌++◌, length, map as each_of, refl, sym, ap, subst, ◌∙◌, arith, append_assoc, fold}
-use Rattle.std.specs.List.{AllByRecursion, range_with_len, list_all, list_any, filter}
-use Rattle.std.proofs.lemmas.Bool.{false≢true, and_parts, or_parts, not-true}
-use Rattle.std.proofs.lemmas.List.{append-nil}
-use Rattle.std.proofs.lemmas.List.Elements.{All-from_recursion, All-get_or}
-use Rattle.sj_base.specs.declared.ids.Cell.{Cell}
-use Rattle.sj_base.specs.declared.ids.Line.{Line}
-use Rattle.sj_base.specs.declared.mode.Reduction.{Reduction}
-use Rattle.sj_base.specs.declared.program.Program.{Program}
-use Rattle.sj_base.specs.Mode.{is_redux}
-use Rattle.sj_codelet.specs.declared.kernel.Kernel.{Kernel}
-use Rattle.sj_plan.specs.declared.parts.Parts.{Parts}
-use Rattle.sj_plan.specs.Parts.{IsPlace, places}
-use Rattle.sj_meaning.specs.Statement.{Operand, TaskLine}
-use Rattle.sj_meaning.specs.Act.{Act, Statement}
-use Rattle.sj_meaning.specs.Act.{Register as Registers, Plan as Plans, Redux as Reduces, Task as Tasks, Print as Prints, Invalidate as Invalidates, Unregister as Unregisters}
-use Rattle.sj_meaning.specs.State.{RootState, JobState, root_of, is_valued_child, start}
-use Rattle.sj_meaning.specs.Meaning.{Printed, apply, prints, printed_from, printed, run_from}
-use Rattle.sj_meaning.specs.Sound.{has_child, has_child_values, reduction_of}
-use Rattle.sj_meaning.specs.Table.{Table}
-use Rattle.sj_job.specs.Track.{number}
-use Rattle.sj_lower.specs.declared.phase.OpenPhase.{OpenPhase}
-use Rattle.sj_lower.specs.Cells.{Cells, same_parts, cell_of}
-use Rattle.sj_lower.specs.Lowering.{Lowering, nothing, parts_in, active_cell, active_cells, is_other_access, closed_by, all_closed, opened, opened_for, contributions, prepared, add_own, lower_one, lower_from, finished, lowered, phase_turned, begun, extended}
-use Rattle.sj_lower.proofs.Able.{CanBe, AllCanBe}
-use Rattle.sj_lower.proofs.Agreeing.{IsShutBy, agrees_start}
-use Rattle.sj_lower.proofs.Closing.{begins-all_closed, all_closed-cells, all_closed-none, all_closed-own}
-use Rattle.sj_lower.proofs.Contributed.{fine_contributed}
-use Rattle.sj_lower.proofs.Copies.{copies-more}
-use Rattle.sj_lower.proofs.Delivered.{delivered_none}
-use Rattle.sj_lower.proofs.Fine.{IsFine, open-inside, fine_all_closed}
-use Rattle.sj_lower.proofs.Growing.{grows-refl}
-use Rattle.sj_lower.proofs.Logging.{logged-none}
-use Rattle.sj_lower.proofs.Operands.{IsRead, Contributes, contributes-there, all-before, each-before}
-use Rattle.sj_lower.proofs.Phasing.{each-worker}
-use Rattle.sj_lower.proofs.Places.{number-below, places-at, length-places}
-use Rattle.sj_lower.proofs.Running.{is_direct, IsClosed, child_there, child_values-are, active_cell-is, kernel_there}
-use Rattle.sj_lower.proofs.Stating.{Begins, begins-less, begins-own, Agrees}
-use Rattle.sj_lower.proofs.Whole.{IsReady, NamesAct, NamesAll, fine_own}
-use Rattle.sj_lower.proofs.Matching.{parts-of}
+use Rattle.sj_lower.proofs.Words.{[], Act, active_cell, active_cells, add_own, all_closed, AllByRecursion, ap, append_assoc, apply, arith, begun, Bool, Cell, cell_of, Cells, closed_by, cond, contributions, each_of, extended, false, filter, finished, fold, has_child, has_child_values, Invalidates, is_other_access, is_redux, is_valued_child, IsPlace, JobState, Kernel, length, Line, List, list_all, list_any, lower_from, lower_one, lowered, Lowering, None, not, nothing, number, opened, opened_for, OpenPhase, Operand, Option, Parts, parts_in, phase_turned, places, Plans, prepared, Printed, printed, printed_from, Prints, prints, Program, range_with_len, Reduces, Reduction, reduction_of, refl, Registers, root_of, RootState, run_from, same_parts, Some, start, Statement, subst, sym, Table, TaskLine, Tasks, true, Unregisters, ℕ, ◌&&◌, ◌++◌, ◌<◌, ◌∙◌, ◌∷◌, ◌≡◌}
+use Rattle.std.proofs.lemmas.{Bool.and_parts, Bool.false≢true, Bool.not-true, Bool.or_parts, List.append-nil, List.Elements.All-from_recursion, List.Elements.All-get_or}
+use Rattle.sj_lower.proofs.{Able.AllCanBe, Able.CanBe, Agreeing.agrees_start, Agreeing.IsShutBy, Closing.all_closed-cells, Closing.all_closed-none, Closing.all_closed-own, Closing.begins-all_closed, Contributed.fine_contributed, Copies.copies-more, Delivered.delivered_none, Fine.fine_all_closed, Fine.IsFine, Fine.open-inside, Growing.grows-refl, Logging.logged-none, Matching.parts-of, Operands.all-before, Operands.Contributes, Operands.contributes-there, Operands.each-before, Operands.IsRead, Phasing.each-worker, Places.length-places, Places.number-below, Places.places-at, Running.active_cell-is, Running.child_there, Running.child_values-are, Running.is_direct, Running.IsClosed, Running.kernel_there, Stating.Agrees, Stating.Begins, Stating.begins-less, Stating.begins-own, Whole.fine_own, Whole.IsReady, Whole.NamesAct, Whole.NamesAll}
 
 -- ---- the program begins with each part of the lowering
 

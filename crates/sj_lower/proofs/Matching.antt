@@ -1,39 +1,10 @@
 -- What comes before a statement's own tasks, by the code's active plans, is what the definition says.
-use Rattle.std.proofs.Common.{◌≡◌, ℕ, ◌+◌, ◌<◌, ◌≤◌, Bool, true, false, cond, ◌&&◌, Option, Some, None, List, [], ◌∷◌, ◌++◌, map, filter, length, take, drop, get_or, refl, sym, ap, subst, ◌∙◌, arith, fold, All}
-use Rattle.std.specs.List.{AllByRecursion, list_all}
-use Rattle.std.specs.Option.{is_some}
-use Rattle.std.proofs.lemmas.Bool.{and_parts}
-use Rattle.std.proofs.lemmas.List.{take_more, take-append-drop, append-nil}
-use Rattle.std.proofs.lemmas.List.Elements.{All-head, All-tail, filter-append}
-use Rattle.sj_base.specs.declared.ids.Cell.{Cell}
-use Rattle.sj_base.specs.declared.ids.Line.{Line}
-use Rattle.sj_base.specs.declared.ids.Root.{Root}
-use Rattle.sj_base.specs.declared.mode.Reduction.{Reduction}
-use Rattle.sj_base.specs.Mode.{is_redux}
-use Rattle.sj_codelet.specs.declared.kernel.Kernel.{Kernel}
-use Rattle.sj_plan.specs.declared.parts.Parts.{Parts}
-use Rattle.sj_plan.specs.Parts.{IsPlace, places}
-use Rattle.sj_meaning.specs.declared.job.Act.{Act as Kept}
+use Rattle.sj_lower.proofs.Words.{[], a_root, act_seen, Active, active_at, active_cell, active_cells, All, all_closed, AllByRecursion, ap, AreActive, arith, Bool, Cell, cell_by, Cells, cells_by, cells_from, cells_in, child_elements, closed_by, closing_by, cond, contributed_by, contributions, drop, false, fold, get_or, Handle, has_child, has_child_values, is_child, is_contributed, is_other, is_other_access, is_redux, is_set, is_some, is_valued_child, IsActive, IsPlace, IsPlaced, IsSoundAct, JobState, Kept, KeptOperand, Kernel, length, Line, List, list_all, Lowering, map, name_of, None, opened, opened_for, opening_all, opening_for, Operand, operand_seen, Option, Parts, parts_in, places, prepared, preparing_by, Reduction, reduction_of, refl, Root, root_of, RootState, same_parts, Some, subst, sym, Table, tasks_in, true, undivided, ℕ, ◌&&◌, ◌++◌, ◌+◌, ◌<◌, ◌∙◌, ◌∷◌, ◌≡◌, ◌≤◌}
+use Rattle.std.proofs.Common.{filter, take}
+use Rattle.std.proofs.lemmas.{Bool.and_parts, List.append-nil, List.take-append-drop, List.take_more, List.Elements.All-head, List.Elements.All-tail, List.Elements.filter-append}
 use Rattle.sj_meaning.specs.declared.job.Act.TheVariants as kept
-use Rattle.sj_meaning.specs.declared.job.Operand.{Operand as KeptOperand}
-use Rattle.sj_meaning.specs.Statement.{Operand}
-use Rattle.sj_meaning.specs.State.{RootState, JobState, root_of, is_child, is_valued_child, child_elements}
-use Rattle.sj_meaning.specs.Sound.{IsSoundAct, has_child, has_child_values, reduction_of}
-use Rattle.sj_meaning.specs.Table.{Table, a_root, name_of, undivided}
-use Rattle.sj_job.specs.Track.{is_set}
-use Rattle.sj_meaning.specs.View.{operand_seen, act_seen, IsPlaced}
 use Rattle.sj_job.proofs.Children.{child-valued}
-use Rattle.sj_lower.specs.declared.lowerer.Active.{Active}
-use Rattle.sj_lower.specs.Cells.{Cells, Handle, same_parts, cells_from}
-use Rattle.sj_lower.specs.Limits.{cells_in, tasks_in}
-use Rattle.sj_lower.specs.Lowering.{Lowering, active_cell, active_cells, parts_in, closed_by, all_closed, is_other_access, contributions, opened, opened_for, prepared}
-use Rattle.sj_lower.specs.Seen.{AreActive, IsActive, active_at}
-use Rattle.sj_lower.specs.Progress.{is_other, is_contributed, cells_by, cell_by, closing_by, opening_for, opening_all, contributed_by, preparing_by}
-use Rattle.sj_lower.proofs.Closing.{all_closed-cells}
-use Rattle.sj_lower.proofs.Naming.{SameNames, opened-names}
-use Rattle.sj_lower.proofs.Preparations.{opened-more}
-use Rattle.sj_lower.proofs.Running.{child_there, root_there, valued_there, active_cell-is}
-use Rattle.sj_lower.proofs.Following.{active-first}
+use Rattle.sj_lower.proofs.{Closing.all_closed-cells, Following.active-first, Naming.opened-names, Naming.SameNames, Preparations.opened-more, Running.active_cell-is, Running.child_there, Running.root_there, Running.valued_there}
 
 -- ---- lists
 

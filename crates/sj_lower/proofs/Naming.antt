@@ -1,43 +1,13 @@
 -- The number of a root is its name's, as the job's table has it.
 use Rattle.std.specs.FinMap as map
-use Rattle.std.proofs.Common.{◌≡◌, ℕ, ◌+◌, ◌<◌, ◌≤◌, Bool, true, false, cond, List, [], ◌∷◌, ◌++◌, map as each_of, length, fold, refl, ap, sym, subst, ◌∙◌, Option, Some, None, option_map, arith, bytes_eq, inl, inr}
-use Rattle.std.proofs.lemmas.Bool.{cases_lt}
-use Rattle.std.specs.Ordering.{nat_cmp}
-use Rattle.std.specs.Cmp.Lexicographic.{slice_cmp}
-use Rattle.sj_base.specs.declared.ids.Root.{Root}
-use Rattle.sj_base.specs.declared.tile.Dims.{Dims}
-use Rattle.sj_base.specs.Array.{Array}
-use Rattle.sj_codelet.specs.declared.kernel.Kernel.{Kernel}
-use Rattle.sj_plan.specs.declared.parts.Parts.{Parts}
-use Rattle.sj_plan.specs.Parts.{Fits, places}
-use Rattle.std.specs.Option.{is_some}
-use Rattle.std.proofs.lemmas.Option.{same_Some}
-use Rattle.sj_meaning.specs.declared.job.Kind.{Kind}
-use Rattle.sj_meaning.specs.declared.job.Act.{Act as KeptAct}
+use Rattle.sj_lower.proofs.Words.{[], a_root, act_seen, active_cell, ActsArePlaced, all_closed, ap, apply, AreDistinct, arith, Array, begun, Bool, Cell, Cells, cells_after, change, child_cell, closed_by, cond, contributions, count_after, count_from, Dims, each_of, extended, false, Fits, fold, Handle, has_child_values, info_of, inl, inr, invalidate, is_some, IsCut, IsPlaced, IsSoundAct, JobState, KeptAct, Kernel, Kind, length, Line, List, lower_one, Lowering, name_of, nat_cmp, next_handle, no_values, None, nothing, opened, opened_for, OpenPhase, Operand, Option, option_map, Parts, phase_turned, places, plan, prepared, printed_as, put, put_all, reduce, Reduction, reduction_of, refl, register, registered_root, Registration, registration, Root, root_of, RootState, run_task, seen_from, slice_cmp, Some, start, Statement, statement_seen, subst, sym, Table, take, take_by, taking_plan, task_seen, TaskLine, true, unregister, with_child, with_elements, with_handle, with_new_root, with_parts, with_reduction, written_of, ℕ, ◌++◌, ◌+◌, ◌<◌, ◌∙◌, ◌∷◌, ◌≡◌, ◌≤◌}
+use Rattle.std.proofs.Common.{bytes_eq}
+use Rattle.std.proofs.lemmas.{Bool.cases_lt, Option.same_Some}
 use Rattle.sj_meaning.specs.declared.job.Act.TheVariants as kept
 use Rattle.sj_meaning.specs.declared.job.Statement.{Statement as Kept}
-use Rattle.sj_meaning.specs.Statement.{Register as Registration, Operand, TaskLine}
-use Rattle.sj_meaning.specs.Table.{Table, a_root, name_of, info_of, AreDistinct}
-use Rattle.sj_meaning.specs.View.{registration, task_seen, act_seen, statement_seen, seen_from, count_after, count_from, IsPlaced, ActsArePlaced}
-use Rattle.sj_meaning.specs.State.{RootState, JobState, root_of, start}
-use Rattle.sj_meaning.specs.Meaning.{registered_root, register, change, with_parts, with_elements, with_reduction, with_child, no_values, reduce, plan, invalidate, unregister, put, put_all, written_of, run_task, apply}
-use Rattle.sj_meaning.proofs.Views.{count-grows, counts-grow}
-use Rattle.sj_lower.specs.Cells.{Cells, Handle, with_handle, taking_plan, child_cell, take_by, take, next_handle, with_new_root}
-use Rattle.sj_lower.specs.Lowering.{Lowering, nothing, cells_after, active_cell, closed_by, all_closed, contributions, extended, phase_turned, begun, opened, opened_for, prepared, lower_one}
-use Rattle.sj_lower.specs.Delivering.{printed_as}
-use Rattle.sj_lower.specs.Seen.{IsCut}
-use Rattle.sj_base.specs.declared.ids.Cell.{Cell}
-use Rattle.sj_base.specs.declared.ids.Line.{Line}
-use Rattle.sj_base.specs.declared.mode.Reduction.{Reduction}
+use Rattle.sj_meaning.proofs.{Finding.get-gone, Finding.get-put, Finding.root-change, Views.count-grows, Views.counts-grow}
 use Rattle.sj_base.proofs.Texts.{same_text}
-use Rattle.sj_meaning.specs.Act.{Statement}
-use Rattle.sj_meaning.specs.Sound.{IsSoundAct, has_child_values, reduction_of}
-use Rattle.sj_lower.specs.declared.phase.OpenPhase.{OpenPhase}
-use Rattle.sj_lower.proofs.Closing.{all_closed-cells}
-use Rattle.sj_lower.proofs.Copies.{by_copies}
-use Rattle.sj_meaning.proofs.Finding.{get-put, get-gone, root-change}
-use Rattle.sj_lower.proofs.Laid.{bytes_eq-itself, take-roots}
-use Rattle.sj_lower.proofs.Whole.{NamesAct, NamesAll}
+use Rattle.sj_lower.proofs.{Closing.all_closed-cells, Copies.by_copies, Laid.bytes_eq-itself, Laid.take-roots, Whole.NamesAct, Whole.NamesAll}
 
 -- ---- kinds
 

@@ -1,38 +1,9 @@
 -- The phase of a contribution is open: the partial copies and the cell denote together what the contribution adds to.
-use Rattle.std.proofs.Common.{◌≡◌, ℕ, ◌+◌, ◌<◌, ◌≤◌, Bool, true, false, cond, Option, Some, None, List, [], ◌∷◌, ◌++◌, length, refl, sym, ap, subst, ◌∙◌, arith, length-append}
-use Rattle.std.specs.List.{AllByRecursion}
-use Rattle.std.proofs.lemmas.List.{append-nil}
-use Rattle.std.proofs.lemmas.Option.{same_Some}
-use Rattle.sj_base.specs.declared.ids.Cell.{Cell}
-use Rattle.sj_base.specs.declared.ids.Line.{Line}
-use Rattle.sj_base.specs.declared.mode.Reduction.{Reduction}
-use Rattle.sj_base.specs.declared.program.CellInfo.{CellInfo}
-use Rattle.sj_base.specs.declared.program.Lowered.{Lowered}
-use Rattle.sj_base.specs.declared.program.Program.{Program}
-use Rattle.sj_base.specs.Array.{Array, zeros}
+use Rattle.sj_lower.proofs.Words.{[], AllByRecursion, ap, arith, Array, begin_rows, begun, Bool, Cell, cell_of, CellInfo, Cells, child, child_array, child_rect, child_unit, combined, cond, Contents, contributed_to, copy_at, dims_of, extended, false, first_partial, HasValueBefore, held_in, info_at, is_valued_child, IsPlace, IsReduction, IsTile, JobState, length, length-append, Line, List, Lowered, Lowering, None, opened, OpenPhase, Option, out, phase_turned, Program, rect_dims, Reduction, refl, root_of, RootState, same_cell, Some, subst, sym, task, true, unit_of, with_copies, with_phase, zeros, ℕ, ◌++◌, ◌+◌, ◌<◌, ◌∙◌, ◌∷◌, ◌≡◌, ◌≤◌}
+use Rattle.std.proofs.lemmas.{List.append-nil, Option.same_Some}
 use Rattle.sj_base.proofs.SameIds.{cell_of_number}
-use Rattle.sj_base.specs.Ids.{task}
-use Rattle.sj_codelet.specs.Kernel.{out}
-use Rattle.sj_codelet.specs.Laws.{IsReduction, IsTile, combined, unit_of}
-use Rattle.sj_core.specs.Program.{same_cell, dims_of}
-use Rattle.sj_core.specs.Proper.{HasValueBefore}
-use Rattle.sj_core.specs.Fold.{Contents, held_in}
 use Rattle.sj_core.proofs.Sized.{AreSized}
-use Rattle.sj_plan.specs.Parts.{IsPlace}
-use Rattle.sj_plan.specs.Rect.{child, rect_dims}
-use Rattle.sj_meaning.specs.State.{RootState, JobState, root_of, child_rect, is_valued_child}
-use Rattle.sj_meaning.specs.Meaning.{child_array, child_unit, contributed_to}
-use Rattle.sj_lower.specs.declared.phase.OpenPhase.{OpenPhase}
-use Rattle.sj_lower.specs.Cells.{Cells, cell_of, info_at, copy_at, first_partial, with_copies}
-use Rattle.sj_lower.specs.Lowering.{Lowering, with_phase, phase_turned, begin_rows, begun, opened, extended}
-use Rattle.sj_lower.proofs.Combined.{IsTrusted, with_all, all_workers, denoted-closed, denoted-open}
-use Rattle.sj_lower.proofs.Contents.{contents_before}
-use Rattle.sj_lower.proofs.Copies.{HaveCopies, IsNoCopy, copies-grow, copies-copied, laid-copied, copied-first, copied-handles}
-use Rattle.sj_lower.proofs.Folding.{Stand, after_rows, contents-rows, one_gives, given-rows, later}
-use Rattle.sj_lower.proofs.Holding.{IsHeld, HasRoot, HaveTheirs, differs, cell-dims}
-use Rattle.sj_lower.proofs.Laid.{AreLaid, IsTaken, none_isn't, cell-is, cell-inside}
-use Rattle.sj_lower.proofs.Phasing.{IsBeside, begin-copies, begin-own, begin-valued, begin-others, begin-gives, begin-gives_own, each-of_all}
-use Rattle.sj_lower.proofs.Stating.{Begins, stands-more, Agrees, phase-own, phase-other, by_cell}
+use Rattle.sj_lower.proofs.{Combined.all_workers, Combined.denoted-closed, Combined.denoted-open, Combined.IsTrusted, Combined.with_all, Contents.contents_before, Copies.copied-first, Copies.copied-handles, Copies.copies-copied, Copies.copies-grow, Copies.HaveCopies, Copies.IsNoCopy, Copies.laid-copied, Folding.after_rows, Folding.contents-rows, Folding.given-rows, Folding.later, Folding.one_gives, Folding.Stand, Holding.cell-dims, Holding.differs, Holding.HasRoot, Holding.HaveTheirs, Holding.IsHeld, Laid.AreLaid, Laid.cell-inside, Laid.cell-is, Laid.IsTaken, Laid.none_isn't, Phasing.begin-copies, Phasing.begin-gives, Phasing.begin-gives_own, Phasing.begin-others, Phasing.begin-own, Phasing.begin-valued, Phasing.each-of_all, Phasing.IsBeside, Stating.Agrees, Stating.Begins, Stating.by_cell, Stating.phase-other, Stating.phase-own, Stating.stands-more}
 
 -- after M the phase of the cell is open, and the cell denotes x; nothing else is changed since L
 pub record IsOpened (p : Program) (L M : Lowering) (c : Cell) (by : Reduction) (x : Array) : Type 0 where

@@ -1,23 +1,8 @@
 -- The operands of a task that contributes: the last one gets the contribution, and those before it are only read, scratch aside.
-use Rattle.std.proofs.Common.{◌≡◌, ◌+◌, Bool, true, false, cond, not, ◌&&◌, ◌||◌, Option, Some, None, List, [], ◌∷◌, ◌++◌, length, refl, sym, ap, ◌∙◌, arith, length-append, ℕ}
-use Rattle.std.specs.List.{filter, list_all, list_any, AllByRecursion}
+use Rattle.sj_lower.proofs.Words.{[], AllByRecursion, ap, arith, Bool, Commute, commutes_in, cond, contributes_in, contributes_of, false, filter, Formal, FormalR, FormalRW, FormalScratch, FormalW, has_reduction, is_commute, is_lawful, is_output, is_redux, is_written, IsSoundTask, JobState, Kernel, kernel_of, length, length-append, List, list_all, list_any, Mode, mode_fits, modes_fit, None, not, Operand, Option, R, Reduction, reduction_of, Redux, refl, RW, Scratch, Some, sym, TaskLine, true, W, written_of, ℕ, ◌&&◌, ◌++◌, ◌+◌, ◌||◌, ◌∙◌, ◌∷◌, ◌≡◌}
 use Rattle.std.proofs.lemmas.Bool.{false≢true, and_parts}
-use Rattle.sj_base.specs.declared.mode.Mode.{Mode}
-use Rattle.sj_base.specs.declared.mode.Mode.TheVariants.{R, W, RW, Scratch, Redux, Commute}
-use Rattle.sj_base.specs.declared.mode.Reduction.{Reduction}
-use Rattle.sj_base.specs.Mode.{is_redux, is_written, is_commute}
 use Rattle.sj_base.proofs.Bools.{or_false, and_middle}
-use Rattle.sj_codelet.specs.declared.formal.Formal.{Formal}
-use Rattle.sj_codelet.specs.declared.formal.Formal.TheVariants.{R as FormalR, W as FormalW, RW as FormalRW, Scratch as FormalScratch}
-use Rattle.sj_codelet.specs.declared.kernel.Kernel.{Kernel}
-use Rattle.sj_codelet.specs.Formal.{is_output}
-use Rattle.sj_codelet.specs.Kernel.{kernel_of, contributes_of, commutes_in, contributes_in, has_reduction}
 use Rattle.sj_core.proofs.Updating.{updates-last, contributing-commutes}
-use Rattle.sj_meaning.specs.Statement.{Operand, TaskLine}
-use Rattle.sj_meaning.specs.State.{JobState}
-use Rattle.sj_meaning.specs.Meaning.{written_of}
-use Rattle.sj_meaning.specs.Sound.{mode_fits, modes_fit}
-use Rattle.sj_meaning.specs.Sound.{IsSoundTask, is_lawful, reduction_of}
 use Rattle.sj_lower.proofs.Running.{kernel_there}
 
 -- the operand is only read, or scratch

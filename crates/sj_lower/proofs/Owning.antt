@@ -1,20 +1,7 @@
 -- Whose partial copy a cell of the program is.
-use Rattle.std.proofs.Common.{◌≡◌, ℕ, ◌+◌, ◌<◌, Option, Some, None, List, refl, sym, ap, ◌∙◌, inl, inr, arith}
-use Rattle.std.specs.Option.{is_some}
+use Rattle.sj_lower.proofs.Words.{ap, arith, Cell, cell_info, cell_of, Cells, copy_at, copy_of, Dims, info_at, inl, inr, is_some, IsCopyOf, IsPlace, IsPlain, List, None, Option, Parts, Program, refl, Some, sym, Worker, ℕ, ◌+◌, ◌<◌, ◌∙◌, ◌≡◌}
 use Rattle.std.proofs.lemmas.Bool.{false≢true}
-use Rattle.sj_base.specs.declared.ids.Cell.{Cell}
-use Rattle.sj_base.specs.declared.ids.Worker.{Worker}
-use Rattle.sj_base.specs.declared.tile.Dims.{Dims}
-use Rattle.sj_base.specs.declared.program.Program.{Program}
-use Rattle.sj_core.specs.Program.{cell_info}
-use Rattle.sj_core.specs.Operands.{copy_of}
-use Rattle.sj_core.specs.Proper.{IsCopyOf, IsPlain}
-use Rattle.sj_plan.specs.declared.parts.Parts.{Parts}
-use Rattle.sj_plan.specs.Parts.{IsPlace}
-use Rattle.sj_lower.specs.Cells.{Cells, cell_of, info_at, copy_at}
-use Rattle.sj_lower.proofs.Copies.{HaveCopies}
-use Rattle.sj_lower.proofs.Holding.{HasCells}
-use Rattle.sj_lower.proofs.Laid.{AreLaid, IsTaken, cell-is, cell-inside}
+use Rattle.sj_lower.proofs.{Copies.HaveCopies, Holding.HasCells, Laid.AreLaid, Laid.cell-inside, Laid.cell-is, Laid.IsTaken}
 
 -- the first partial copy of a cell that has copies
 pub first-of : (p : Program) (q c : Cell) (w : Worker) → IsCopyOf p q c w → (f : Cell) × ((cell_info p c).partials ≡ Some f) × (q.0 ≡ f.0 + w.0)

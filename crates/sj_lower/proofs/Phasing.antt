@@ -1,28 +1,8 @@
 -- What the tasks that begin and close a phase leave in the cells.
-use Rattle.std.proofs.Common.{◌≡◌, ℕ, zero, suc, ◌+◌, ◌<◌, ◌≤◌, Bool, true, false, cond, ◌||◌, List, [], ◌∷◌, ◌++◌, map, refl, sym, ap, subst, ◌∙◌, inl, inr, arith}
-use Rattle.std.specs.List.{AllByRecursion, range_with_len, list_any}
+use Rattle.sj_lower.proofs.Words.{[], AllByRecursion, ap, arith, Array, begin_rows, Bool, Cell, combine_row, combine_rows, combined, cond, Contents, copy_at, dims_of, false, gives_value, held_in, init_row, init_rows, inl, inr, Least, Line, List, list_any, Lowered, map, OpenPhase, out, Plus, Program, range_with_len, Reduction, refl, same_cell, subst, suc, sym, true, unit_of, zero, ℕ, ◌++◌, ◌+◌, ◌<◌, ◌||◌, ◌∙◌, ◌∷◌, ◌≡◌, ◌≤◌}
 use Rattle.std.proofs.lemmas.Bool.{false≢true, cases_lt}
-use Rattle.sj_base.specs.declared.ids.Cell.{Cell}
-use Rattle.sj_base.specs.declared.ids.Line.{Line}
-use Rattle.sj_base.specs.declared.mode.Reduction.{Reduction}
-use Rattle.sj_base.specs.declared.mode.Reduction.TheVariants.{Plus, Least}
-use Rattle.sj_base.specs.declared.program.Lowered.{Lowered}
-use Rattle.sj_base.specs.declared.program.Program.{Program}
-use Rattle.sj_base.specs.Array.{Array}
-use Rattle.sj_base.proofs.Numbers.{all_of}
-use Rattle.sj_base.proofs.SameIds.{same_cell-is, same_cell-itself, same_cell-turned}
-use Rattle.sj_codelet.specs.Kernel.{out}
-use Rattle.sj_codelet.specs.Laws.{combined, unit_of}
-use Rattle.sj_core.specs.Program.{same_cell, dims_of}
-use Rattle.sj_core.specs.Proper.{gives_value}
-use Rattle.sj_core.specs.Fold.{Contents, held_in}
-use Rattle.sj_lower.specs.declared.phase.OpenPhase.{OpenPhase}
-use Rattle.sj_lower.specs.Cells.{copy_at}
-use Rattle.sj_lower.specs.Rows.{init_row, init_rows, combine_row, combine_rows}
-use Rattle.sj_lower.specs.Lowering.{begin_rows}
-use Rattle.sj_lower.proofs.Combined.{with_all, all_workers, range-below, with_all-same}
-use Rattle.sj_lower.proofs.Contents.{held-same, held-other, held-cons}
-use Rattle.sj_lower.proofs.Folding.{after_row, after_rows, after_rows-append, one_gives}
+use Rattle.sj_base.proofs.{Numbers.all_of, SameIds.same_cell-is, SameIds.same_cell-itself, SameIds.same_cell-turned}
+use Rattle.sj_lower.proofs.{Combined.all_workers, Combined.range-below, Combined.with_all, Combined.with_all-same, Contents.held-cons, Contents.held-other, Contents.held-same, Folding.after_row, Folding.after_rows, Folding.after_rows-append, Folding.one_gives}
 
 -- ---- combining
 

@@ -1,19 +1,8 @@
 -- A plan's children by their number, row by row.
-use Rattle.std.proofs.Common.{◌≡◌, ℕ, zero, suc, ◌+◌, ◌-◌, ◌*◌, ◌/◌, ◌%◌, ◌<◌, ◌≤◌, true, ◌++◌, map, length, get_or, refl, sym, ap, ◌∙◌, arith, length-append}
-use Rattle.std.specs.Prelude.{nat_eq}
-use Rattle.std.specs.List.{flat_map, range_with_len}
-use Rattle.std.proofs.lemmas.Bool.{and_parts, and_from}
-use Rattle.std.proofs.lemmas.Bool.Decides.{Decides-eqb}
-use Rattle.std.proofs.lemmas.List.{map-append, get_or_append_left, get_or-append_right}
-use Rattle.std.proofs.lemmas.List.FromFn.{length-map-range_with_len, get_or-map-range_with_len}
-use Rattle.std.proofs.lemmas.Nat.{div_below, mod_below, div-add-mod', mul-add-lt}
-use Rattle.std.proofs.lemmas.Simd.{map-map}
+use Rattle.sj_lower.proofs.Words.{ap, arith, flat_map, get_or, IsPlace, length, length-append, map, nat_eq, number, Parts, places, range_with_len, refl, same_parts, suc, sym, true, zero, ℕ, ◌%◌, ◌*◌, ◌++◌, ◌+◌, ◌-◌, ◌/◌, ◌<◌, ◌∙◌, ◌≡◌, ◌≤◌}
+use Rattle.std.proofs.lemmas.{Bool.and_from, Bool.and_parts, Bool.Decides.Decides-eqb, List.get_or-append_right, List.get_or_append_left, List.map-append, List.FromFn.get_or-map-range_with_len, List.FromFn.length-map-range_with_len, Nat.div-add-mod', Nat.div_below, Nat.mod_below, Nat.mul-add-lt, Simd.map-map}
 use Rattle.sj_base.proofs.Numbers.{some_factor}
-use Rattle.sj_plan.specs.declared.parts.Parts.{Parts}
-use Rattle.sj_plan.specs.Parts.{IsPlace, places}
 use Rattle.sj_plan.proofs.Lists.{grid_row}
-use Rattle.sj_job.specs.Track.{number}
-use Rattle.sj_lower.specs.Cells.{same_parts}
 
 pub parts-are : (p q : Parts) → same_parts p q ≡ true → p ≡ q
 parts-are p q h =

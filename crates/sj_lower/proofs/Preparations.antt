@@ -1,31 +1,9 @@
 -- The phases of a statement's contributions go on or begin; and what comes before its own tasks, by the active plans, is what the
 -- definition says.
-use Rattle.std.proofs.Common.{◌≡◌, ℕ, ◌+◌, ◌<◌, ◌≤◌, Bool, true, false, cond, Option, Some, None, List, [], ◌∷◌, ◌++◌, length, vec_len, nat_eq, is_some, refl, sym, ap, subst, ◌∙◌, arith, length-append, inl, inr}
-use Rattle.std.proofs.lemmas.List.{append-nil}
-use Rattle.std.proofs.lemmas.List.FromFn.{length-map-range_with_len}
-use Rattle.indexmap.specs.IndexMap.{get}
-use Rattle.sj_base.specs.declared.ids.Cell.{Cell}
-use Rattle.sj_base.specs.declared.ids.Line.{Line}
-use Rattle.sj_base.specs.declared.mode.Reduction.{Reduction}
-use Rattle.sj_base.specs.declared.program.CellInfo.{CellInfo}
-use Rattle.sj_base.specs.declared.program.Lowered.{Lowered}
-use Rattle.sj_meaning.specs.State.{JobState}
-use Rattle.sj_meaning.specs.Table.{Table, a_root, name_of}
-use Rattle.sj_lower.specs.declared.layout.Layout.{Layout}
-use Rattle.sj_lower.specs.declared.lower.LoweringProgress.{LoweringProgress}
-use Rattle.sj_lower.specs.declared.lowerer.Active.{Active}
-use Rattle.sj_lower.specs.declared.phase.OpenPhase.{OpenPhase}
-use Rattle.sj_lower.specs.Cells.{Cells, Handle, info_at, first_partial, with_copies}
-use Rattle.sj_lower.specs.Limits.{most, cells_in, tasks_in}
-use Rattle.sj_lower.specs.Rows.{init_row, init_rows}
-use Rattle.sj_lower.specs.Cells.{copy_at}
-use Rattle.sj_lower.specs.Lowering.{Lowering, nothing, phase_turned, extended, begin_rows, begun, opened}
-use Rattle.sj_lower.specs.Seen.{AreActive, Lays}
-use Rattle.sj_lower.specs.Progress.{AreCopied, StandsAt, HasAt, HasCopies, Prepares}
-use Rattle.sj_lower.proofs.Copies.{Copied, first-old, by_copies, copied-length, copied-partials, copied-first, copied-handles, copied-roots, copies-more}
-use Rattle.sj_lower.proofs.Growing.{row_at, has-row}
-use Rattle.sj_lower.proofs.Laid.{none_isn't}
-use Rattle.sj_lower.proofs.Preparing.{IsBeside, Turns, Sets, over-kept, prepares-over, prepares-late, prepares-on, few-at}
+use Rattle.sj_lower.proofs.Words.{[], a_root, Active, ap, AreActive, AreCopied, arith, begin_rows, begun, Bool, Cell, CellInfo, Cells, cells_in, cond, copy_at, extended, false, first_partial, get, Handle, HasAt, HasCopies, info_at, init_row, init_rows, inl, inr, JobState, Layout, Lays, length, length-append, Line, List, Lowered, Lowering, LoweringProgress, most, name_of, None, nothing, opened, OpenPhase, Option, phase_turned, Prepares, Reduction, refl, Some, StandsAt, subst, sym, Table, tasks_in, true, vec_len, with_copies, ℕ, ◌++◌, ◌+◌, ◌<◌, ◌∙◌, ◌∷◌, ◌≡◌, ◌≤◌}
+use Rattle.std.proofs.Common.{nat_eq, is_some}
+use Rattle.std.proofs.lemmas.{List.append-nil, List.FromFn.length-map-range_with_len}
+use Rattle.sj_lower.proofs.{Copies.by_copies, Copies.Copied, Copies.copied-first, Copies.copied-handles, Copies.copied-length, Copies.copied-partials, Copies.copied-roots, Copies.copies-more, Copies.first-old, Growing.has-row, Growing.row_at, Laid.none_isn't, Preparing.few-at, Preparing.IsBeside, Preparing.over-kept, Preparing.prepares-late, Preparing.prepares-on, Preparing.prepares-over, Preparing.Sets, Preparing.Turns}
 
 -- ---- one cell
 

@@ -1,25 +1,8 @@
 -- Phases that are closed, go on or begin before a statement's own tasks: the code does what the definition does.
-use Rattle.std.proofs.Common.{◌≡◌, ℕ, ◌+◌, ◌<◌, ◌≤◌, Bool, true, false, cond, Option, Some, None, List, [], ◌∷◌, ◌++◌, length, vec_len, nat_eq, nat_lt, is_some, refl, sym, ap, subst, ◌∙◌, arith, length-append, if◌then◌else◌}
-use Rattle.std.proofs.lemmas.List.FromFn.{length-map-range_with_len}
-use Rattle.std.proofs.lemmas.Bool.{ltb-true}
-use Rattle.std.proofs.lemmas.Bool.Decides.{nat_tests}
-use Rattle.indexmap.specs.IndexMap.{get}
-use Rattle.sj_base.specs.declared.ids.Cell.{Cell}
-use Rattle.sj_base.specs.declared.ids.Line.{Line}
-use Rattle.sj_base.specs.declared.program.Lowered.{Lowered}
-use Rattle.sj_meaning.specs.State.{JobState}
-use Rattle.sj_meaning.specs.Table.{Table}
-use Rattle.sj_lower.specs.declared.lower.LoweringProgress.{LoweringProgress}
-use Rattle.sj_lower.specs.declared.phase.OpenPhase.{OpenPhase}
-use Rattle.sj_lower.specs.Cells.{info_at, copy_at}
-use Rattle.sj_lower.specs.Limits.{most, tasks_in}
-use Rattle.sj_lower.specs.Rows.{combine_row, combine_rows}
-use Rattle.sj_lower.specs.Lowering.{Lowering, with_phase, phase_turned, closed, all_closed}
-use Rattle.sj_lower.specs.Seen.{AreActive, Lays}
-use Rattle.sj_lower.specs.Progress.{AreCopied, StandsAt, HasAt, Prepares, over_after}
-use Rattle.sj_lower.proofs.Closing.{by_phase}
-use Rattle.sj_lower.proofs.Laid.{none_isn't}
-use Rattle.sj_lower.proofs.Stating.{phase-own, phase-other, by_cell}
+use Rattle.sj_lower.proofs.Words.{[], all_closed, ap, AreActive, AreCopied, arith, Bool, Cell, closed, combine_row, combine_rows, cond, copy_at, false, get, HasAt, if◌then◌else◌, info_at, JobState, Lays, length, length-append, Line, List, Lowered, Lowering, LoweringProgress, most, nat_lt, None, OpenPhase, Option, over_after, phase_turned, Prepares, refl, Some, StandsAt, subst, sym, Table, tasks_in, true, vec_len, with_phase, ℕ, ◌++◌, ◌+◌, ◌<◌, ◌∙◌, ◌∷◌, ◌≡◌, ◌≤◌}
+use Rattle.std.proofs.Common.{nat_eq, is_some}
+use Rattle.std.proofs.lemmas.{Bool.ltb-true, Bool.Decides.nat_tests, List.FromFn.length-map-range_with_len}
+use Rattle.sj_lower.proofs.{Closing.by_phase, Laid.none_isn't, Stating.by_cell, Stating.phase-other, Stating.phase-own}
 
 -- ---- the line with which there were too many tasks
 

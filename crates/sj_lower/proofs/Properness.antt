@@ -1,38 +1,8 @@
 -- The program of a job is proper.
-use Rattle.std.proofs.Common.{◌≡◌, ℕ, ◌+◌, ◌<◌, ◌≤◌, ◌^◌, true, Some, List, length, get_or, sym, ap, subst, ◌∙◌, inl, inr, arith}
-use Rattle.std.specs.Option.{is_some}
-use Rattle.std.specs.Prelude.{◌⊎◌, nat_eq, count_by, Contains}
-use Rattle.std.specs.List.{All, AllPairs}
-use Rattle.std.proofs.lemmas.Bool.{cases_lt}
-use Rattle.std.proofs.lemmas.List.{get_or_past}
-use Rattle.std.proofs.lemmas.List.Elements.{All-nil, All-from_get_or}
-use Rattle.sj_base.specs.declared.ids.Cell.{Cell}
-use Rattle.sj_base.specs.declared.ids.Worker.{Worker}
-use Rattle.sj_base.specs.declared.mode.Access.{Access}
-use Rattle.sj_base.specs.declared.program.CellInfo.{CellInfo}
-use Rattle.sj_base.specs.declared.program.Delivery.{Delivery}
-use Rattle.sj_base.specs.declared.program.Lowered.{Lowered}
-use Rattle.sj_base.specs.declared.program.Program.{Program}
-use Rattle.sj_base.specs.Array.{area}
-use Rattle.sj_base.specs.Mode.{is_redux, reads_value}
-use Rattle.sj_base.specs.Ids.{task}
-use Rattle.sj_codelet.specs.declared.kernel.Kernel.TheVariants.{Deliver}
-use Rattle.sj_codelet.specs.Kernel.{kernel_of}
-use Rattle.sj_core.specs.Operands.{copy_of}
-use Rattle.sj_core.specs.Program.{no_cell, no_task, cell_info, task_of}
-use Rattle.sj_core.specs.Proper.{Proper, NamesCells, IsCopyOf, IsPlain, FitsCodelet, IsUnaliased, HasValueBefore, ReadsValues, HasPhases, HasDeliveries, IsWithinLimits, task_number}
-use Rattle.sj_meaning.specs.Act.{Statement}
-use Rattle.sj_meaning.specs.Meaning.{printed}
-use Rattle.sj_meaning.specs.Table.{Table}
-use Rattle.sj_lower.specs.Cells.{Cells, info_at, copy_info}
-use Rattle.sj_lower.specs.Delivering.{DeliversPrinted, NamesDeliverTasks, DeliversInOrder}
-use Rattle.sj_lower.proofs.Combined.{IsTrusted}
-use Rattle.sj_lower.proofs.Copies.{HaveCopies}
-use Rattle.sj_lower.proofs.Delivered.{AreDelivered, AreHanded, of_print}
-use Rattle.sj_lower.proofs.Good.{IsGood}
-use Rattle.sj_lower.proofs.Logging.{Logged, has-phases}
-use Rattle.sj_lower.proofs.Lowered.{IsWhole}
-use Rattle.sj_lower.proofs.Owning.{first-of}
+use Rattle.sj_lower.proofs.Words.{Access, AllPairs, ap, area, arith, Cell, cell_info, CellInfo, Cells, Contains, copy_info, copy_of, count_by, Deliver, DeliversInOrder, DeliversPrinted, Delivery, FitsCodelet, get_or, HasDeliveries, HasPhases, HasValueBefore, info_at, inl, inr, is_redux, is_some, IsCopyOf, IsPlain, IsUnaliased, IsWithinLimits, kernel_of, length, List, Lowered, NamesCells, NamesDeliverTasks, nat_eq, no_cell, no_task, printed, Program, Proper, reads_value, ReadsValues, Some, Statement, subst, sym, Table, task, task_number, task_of, true, Worker, ℕ, ◌+◌, ◌<◌, ◌^◌, ◌∙◌, ◌≡◌, ◌≤◌, ◌⊎◌}
+use Rattle.std.specs.List.{All}
+use Rattle.std.proofs.lemmas.{Bool.cases_lt, List.get_or_past, List.Elements.All-from_get_or, List.Elements.All-nil}
+use Rattle.sj_lower.proofs.{Combined.IsTrusted, Copies.HaveCopies, Delivered.AreDelivered, Delivered.AreHanded, Delivered.of_print, Good.IsGood, Logging.has-phases, Logging.Logged, Lowered.IsWhole, Owning.first-of}
 
 module _ (T : Table) (p : Program) (ss : List (Statement (List ℕ))) (w : IsWhole T p ss) where
   abbrev C : Cells

@@ -1,5 +1,6 @@
 -- Lists to which a loop appends.
-use Rattle.std.proofs.Common.{◌≡◌, ℕ, ◌+◌, ◌<◌, List, [], ◌∷◌, ◌++◌, map, take, get_or, length, sym, ap, ◌∙◌, append_assoc}
+use Rattle.sj_lower.proofs.Words.{[], ap, append_assoc, get_or, length, List, map, sym, ℕ, ◌++◌, ◌+◌, ◌<◌, ◌∙◌, ◌∷◌, ◌≡◌}
+use Rattle.std.proofs.Common.{take}
 use Rattle.std.proofs.lemmas.List.{take_more, map-append}
 
 -- one item more

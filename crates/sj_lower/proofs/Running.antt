@@ -1,53 +1,10 @@
 -- A lowered task does to its cells what the task line does to its children.
-use Rattle.std.proofs.Common.{◌≡◌, ℕ, ◌+◌, Bool, true, false, not, ◌&&◌, ◌||◌, cond, Option, Some, None, List, [], ◌∷◌, ◌++◌, length, map as each_of, refl, sym, ap, ◌∙◌, arith}
-use Rattle.std.specs.List.{AllByRecursion, zip, filter, list_all, list_any}
-use Rattle.std.specs.Option.{is_some}
-use Rattle.std.specs.Str.{bytes_eq}
-use Rattle.std.proofs.lemmas.Bool.{false≢true, and_parts, or_left, or_right, or_parts}
-use Rattle.std.proofs.lemmas.List.{length-map, length-replicate}
-use Rattle.sj_base.specs.declared.ids.Cell.{Cell}
-use Rattle.sj_base.specs.declared.tile.Dims.{Dims}
-use Rattle.sj_base.specs.declared.mode.Mode.{Mode}
-use Rattle.sj_base.specs.declared.mode.Reduction.{Reduction}
-use Rattle.sj_base.specs.declared.mode.Mode.TheVariants.{R, W, RW, Scratch, Redux, Commute}
-use Rattle.sj_base.specs.declared.mode.Access.{Access}
-use Rattle.sj_base.specs.declared.program.Lowered.{Lowered}
-use Rattle.sj_base.specs.declared.program.Program.{Program}
-use Rattle.sj_base.specs.Array.{Array, array, area, zeros}
-use Rattle.sj_codelet.specs.declared.kernel.Kernel.{Kernel}
-use Rattle.sj_codelet.specs.declared.formal.Formal.{Formal}
-use Rattle.sj_codelet.specs.Kernel.{formals_of, init_of, out, fits}
-use Rattle.sj_core.specs.Program.{same_cell, dims_of, task_of}
-use Rattle.sj_base.specs.Mode.{is_written, is_redux, is_data, is_read_only}
-use Rattle.sj_base.proofs.Bools.{implied}
-use Rattle.sj_base.proofs.SameIds.{same_cell-itself}
-use Rattle.sj_base.specs.Ids.{task}
-use Rattle.sj_codelet.specs.Formal.{outputs_among}
-use Rattle.sj_codelet.specs.Laws.{unit_of}
-use Rattle.sj_codelet.proofs.Table.{each_dims}
+use Rattle.sj_lower.proofs.Words.{[], Access, access_of, active_cell, after_task, AllByRecursion, ap, area, arith, Array, array, Bool, bytes_eq, Cell, cell_of, Cells, child_array, child_dims, child_rect, child_unit, clashes, Commute, cond, Contents, Dims, dims_of, each_of, false, filter, fits, Formal, formals_of, found, has_child, has_child_values, held_in, init_of, is_aliased, is_child, is_data, is_read_only, is_redux, is_some, is_valued, is_valued_child, is_written, IsPlace, IsSoundTask, IsWhole, JobState, Kernel, length, List, list_all, list_any, Lowered, Mode, modes_fit, needs_value, None, not, Operand, operand_array, Option, out, outputs_among, Parts, Program, R, rect_dims, Reduction, Redux, refl, results, root_of, RootState, run_task, RW, same_cell, same_child_place, Scratch, seen_by, Some, sym, task, task_of, TaskLine, true, undivided, unit_of, W, worked_on, written_cells, written_operands, zeros, zip, ℕ, ◌&&◌, ◌++◌, ◌+◌, ◌||◌, ◌∙◌, ◌∷◌, ◌≡◌}
+use Rattle.std.proofs.lemmas.{Bool.and_parts, Bool.false≢true, Bool.or_left, Bool.or_parts, Bool.or_right, List.length-map, List.length-replicate}
+use Rattle.sj_base.proofs.{Bools.implied, SameIds.same_cell-itself}
+use Rattle.sj_codelet.proofs.{NewArrays.AreWhole, NewArrays.out-makes_tiles, Table.each_dims}
 use Rattle.sj_core.proofs.Combining.{unit-fills}
-use Rattle.sj_core.specs.Fold.{Contents, held_in, after_task}
-use Rattle.sj_core.specs.Operands.{worked_on, written_cells, found, results}
-use Rattle.sj_plan.specs.declared.parts.Parts.{Parts}
-use Rattle.sj_plan.specs.Parts.{IsPlace}
-use Rattle.sj_plan.specs.Paste.{same_child_place}
-use Rattle.sj_plan.specs.Rect.{rect_dims}
-use Rattle.sj_plan.specs.Window.{IsWhole}
-use Rattle.sj_meaning.specs.Statement.{Operand, TaskLine}
-use Rattle.sj_meaning.specs.State.{RootState, JobState, root_of, is_valued, is_child, child_rect, is_valued_child}
-use Rattle.sj_meaning.specs.Meaning.{child_array, child_unit, seen_by, operand_array, written_of as written_operands, run_task}
-use Rattle.sj_meaning.specs.Sound.{modes_fit, needs_value, clashes, is_aliased}
-use Rattle.sj_meaning.specs.Sound.{has_child, has_child_values, child_dims, IsSoundTask}
-use Rattle.sj_meaning.specs.Table.{undivided}
-use Rattle.sj_lower.specs.Cells.{Cells, cell_of}
-use Rattle.sj_lower.specs.Lowering.{active_cell, access_of}
-use Rattle.sj_lower.proofs.Contents.{first_worker}
-use Rattle.sj_lower.proofs.Elements.{child-whole}
-use Rattle.sj_lower.proofs.Holding.{HasCells, HaveRoots, HaveTheirs, GivesAll, IsOther, same_child, cell-dims, holds-put_all, holds-later, holds-same}
-use Rattle.sj_lower.proofs.Combined.{IsTrusted, Phases, denoted-closed}
-use Rattle.sj_lower.proofs.Laid.{AreLaid}
-use Rattle.sj_codelet.proofs.NewArrays.{AreWhole, out-makes_tiles}
-use Rattle.sj_lower.proofs.Writing.{outputs-written, out_dims, out_whole, IsCall, call_of, fit_from_fits}
+use Rattle.sj_lower.proofs.{Combined.denoted-closed, Combined.IsTrusted, Combined.Phases, Contents.first_worker, Elements.child-whole, Holding.cell-dims, Holding.GivesAll, Holding.HasCells, Holding.HaveRoots, Holding.HaveTheirs, Holding.holds-later, Holding.holds-put_all, Holding.holds-same, Holding.IsOther, Holding.same_child, Laid.AreLaid, Writing.call_of, Writing.fit_from_fits, Writing.IsCall, Writing.out_dims, Writing.out_whole, Writing.outputs-written}
 use Rattle.sj_job.proofs.Children.{place-from_test}
 
 -- ---- words

@@ -1,24 +1,7 @@
 -- What agrees between the lowering so far and the state of the job, and how far the program has the lowering.
-use Rattle.std.proofs.Common.{◌≡◌, ℕ, Bool, true, false, cond, Option, Some, List, ◌++◌, length, refl, ap, subst, ◌∙◌, append_assoc}
-use Rattle.sj_base.specs.declared.ids.Cell.{Cell}
-use Rattle.sj_base.specs.declared.program.Lowered.{Lowered}
-use Rattle.sj_base.specs.declared.program.Program.{Program}
+use Rattle.sj_lower.proofs.Words.{Act, add_own, ap, append_assoc, Bool, Cell, cell_of, Cells, cells_after, cond, false, Invalidates, IsPlace, JobState, length, List, Lowered, Lowering, OpenPhase, Option, Plans, Prints, Program, Reduces, refl, Registers, root_of, RootState, rows_added, same_cell, Some, Statement, subst, Tasks, true, Unregisters, with_new_root, with_phase, ℕ, ◌++◌, ◌∙◌, ◌≡◌}
 use Rattle.sj_base.proofs.SameIds.{same_cell-is, same_cell-itself}
-use Rattle.sj_core.specs.Program.{same_cell}
-use Rattle.sj_plan.specs.Parts.{IsPlace}
-use Rattle.sj_meaning.specs.Act.{Act, Statement}
-use Rattle.sj_meaning.specs.Act.{Register as Registers, Plan as Plans, Redux as Reduces, Task as Tasks, Print as Prints, Invalidate as Invalidates, Unregister as Unregisters}
-use Rattle.sj_meaning.specs.State.{RootState, JobState, root_of}
-use Rattle.sj_lower.specs.declared.phase.OpenPhase.{OpenPhase}
-use Rattle.sj_lower.specs.Cells.{Cells, cell_of, with_new_root}
-use Rattle.sj_lower.specs.Lowering.{Lowering, cells_after, rows_added, add_own, with_phase}
-use Rattle.sj_lower.proofs.Combined.{Phases}
-use Rattle.sj_lower.proofs.Contents.{contents_before}
-use Rattle.sj_lower.proofs.Copies.{take-more}
-use Rattle.sj_lower.proofs.Folding.{Stand, stand-there}
-use Rattle.sj_lower.proofs.Growing.{Grows, grows-refl, grows-trans}
-use Rattle.sj_lower.proofs.Holding.{HasCells, HaveRoots, HaveTheirs}
-use Rattle.sj_lower.proofs.Laid.{AreLaid}
+use Rattle.sj_lower.proofs.{Combined.Phases, Contents.contents_before, Copies.take-more, Folding.Stand, Folding.stand-there, Growing.Grows, Growing.grows-refl, Growing.grows-trans, Holding.HasCells, Holding.HaveRoots, Holding.HaveTheirs, Laid.AreLaid}
 
 -- ---- the program begins with what is lowered so far
 

@@ -1,37 +1,13 @@
 -- Phases that are closed or opened one after another.
-use Rattle.std.proofs.Common.{◌≡◌, ◌∙◌, ℕ, ◌+◌, ◌<◌, ◌≤◌, Bool, true, false, Option, Some, None, List, [], ◌∷◌, ◌++◌, All, length, map, filter, take, drop, get_or, vec_len, nat_eq, refl, sym, ap, subst, arith, Result, Ok, Err, IfErr, IsErrAnd}
-use Rattle.std.specs.List.{range_with_len}
-use Rattle.std.proofs.lemmas.List.{get_or_default}
-use Rattle.std.proofs.lemmas.List.Elements.{All-get_or}
-use Rattle.indexmap.specs.IndexMap.{IndexMap, get, with_entries}
-use Rattle.sj_base.specs.declared.ids.Cell.{Cell}
-use Rattle.sj_base.specs.declared.ids.Line.{Line}
-use Rattle.sj_base.specs.declared.mode.Reduction.{Reduction}
-use Rattle.sj_plan.specs.declared.parts.Parts.{Parts}
-use Rattle.sj_plan.specs.Parts.{IsPlace, places}
+use Rattle.sj_lower.proofs.Words.{[], Active, active_at, All, all_closed, ap, arith, Bool, Cell, cell_by, Cells, cells_by, cells_from, cells_in, children_count, closed, closing_by, contributed_by, drop, Err, false, finished, get, get_or, HasActive, HasAt, IfErr, IndexMap, is_contributed, is_other, is_set, IsActiveOperand, IsErrAnd, IsFullBy, IsPlace, JobState, Lays, length, Line, List, Lowering, LoweringProgress, LowerRefusal, map, most, None, Ok, opened, opening_all, opening_for, Option, OutOfMemory, Parts, places, Prepares, preparing_by, range_with_len, Reduction, refl, Result, Some, StandsAt, subst, sym, Table, TooManyCells, TooManyTasks, true, vec_len, with_copies, with_entries, ℕ, ◌++◌, ◌+◌, ◌<◌, ◌∙◌, ◌∷◌, ◌≡◌, ◌≤◌}
+use Rattle.std.proofs.Common.{filter, take, nat_eq}
+use Rattle.std.proofs.lemmas.{List.get_or_default, List.Elements.All-get_or}
 use Rattle.sj_plan.proofs.Lists.{pushed_more}
 use Rattle.sj_meaning.specs.declared.job.Act.{Act}
 use Rattle.sj_meaning.specs.declared.job.Act.TheVariants as kept
 use Rattle.sj_meaning.specs.declared.job.Operand.{Operand}
 use Rattle.sj_meaning.specs.declared.job.TaskLine.{TaskLine}
-use Rattle.sj_meaning.specs.State.{JobState}
-use Rattle.sj_meaning.specs.Table.{Table}
-use Rattle.sj_job.specs.Track.{children_count, is_set}
-use Rattle.sj_lower.specs.declared.lower.LowerRefusal.{LowerRefusal}
-use Rattle.sj_lower.specs.declared.lower.LowerRefusal.TheVariants.{TooManyCells, TooManyTasks, OutOfMemory}
-use Rattle.sj_lower.specs.declared.lower.LoweringProgress.{LoweringProgress}
-use Rattle.sj_lower.specs.declared.lowerer.Active.{Active}
-use Rattle.sj_lower.specs.Cells.{Cells, cells_from, with_copies}
-use Rattle.sj_lower.specs.Limits.{most, cells_in}
-use Rattle.sj_lower.specs.Lowering.{Lowering, closed, all_closed, opened, finished}
-use Rattle.sj_lower.specs.Seen.{Lays, active_at}
-use Rattle.sj_lower.specs.Progress.{StandsAt, HasAt, Prepares, IsFullBy, HasActive, IsActiveOperand, is_other, is_contributed, cells_by, cell_by, closing_by, contributed_by, opening_for, opening_all, preparing_by}
-use Rattle.sj_lower.proofs.Children.{first_children, child-pushed, all-pushed}
-use Rattle.sj_lower.proofs.Following.{at-default}
-use Rattle.sj_lower.proofs.Matching.{filter-passed, filter-left, filter-parts, closed-snoc, opening-parts, opening_for-more, opening_all-more}
-use Rattle.sj_lower.proofs.Places.{place_at, number-below}
-use Rattle.sj_lower.proofs.Preparations.{IsCopying, copied_by, copies-prepare, opened-copied, opened-full, opened-more}
-use Rattle.sj_lower.proofs.Preparing.{IsBeside, closed-more, all_closed-more, closes-over, closes-none, prepares-none, prepares-then, prepares-as}
+use Rattle.sj_lower.proofs.{Children.all-pushed, Children.child-pushed, Children.first_children, Following.at-default, Matching.closed-snoc, Matching.filter-left, Matching.filter-parts, Matching.filter-passed, Matching.opening-parts, Matching.opening_all-more, Matching.opening_for-more, Places.number-below, Places.place_at, Preparations.copied_by, Preparations.copies-prepare, Preparations.IsCopying, Preparations.opened-copied, Preparations.opened-full, Preparations.opened-more, Preparing.all_closed-more, Preparing.closed-more, Preparing.closes-none, Preparing.closes-over, Preparing.IsBeside, Preparing.prepares-as, Preparing.prepares-none, Preparing.prepares-then}
 
 pub beside-itself : (g : LoweringProgress) → IsBeside g g
 beside-itself g = record { layout = refl; workers = refl; last = refl; actives = refl; deliveries = refl; prints = refl }

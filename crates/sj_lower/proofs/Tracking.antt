@@ -1,38 +1,12 @@
 -- A task's operands and the active plans that it leaves.
-use Rattle.std.proofs.Common.{◌≡◌, ℕ, suc, ◌+◌, ◌<◌, ◌≤◌, Bool, true, false, cond, Option, Some, None, List, [], ◌∷◌, ◌++◌, length, get_or, map, refl, ap, sym, subst, ◌∙◌, arith, All}
+use Rattle.sj_lower.proofs.Words.{[], access_by, Active, active_at, actives_after_writes, All, AllByRecursion, ap, AreActive, AreDistinct, AreIn, arith, Array, Bool, bytes_eq, CanPass, Cells, children_count, cond, Does, false, get_or, has_child, is_child, is_written, IsPlace, JobState, KeptOperand, KeptTask, length, Line, List, lowered_task, Lowerer, Lowering, map, most, name_of, None, Operand, operand_array, operand_seen, Option, out, Parts, put, put_all, refl, root_of, RootState, run_task, Some, subst, suc, sym, Table, task_seen, true, with_child, with_child_valued, written_of, ℕ, ◌++◌, ◌+◌, ◌<◌, ◌∙◌, ◌∷◌, ◌≡◌, ◌≤◌}
 use Rattle.std.proofs.Math.ListN.{set}
-use Rattle.std.specs.List.{AllByRecursion}
-use Rattle.std.specs.Str.{bytes_eq}
-use Rattle.std.proofs.lemmas.List.{append-nil, length-map, get_or-map}
-use Rattle.std.proofs.lemmas.List.Sums.{AllPass-from_list_all}
-use Rattle.sj_base.specs.declared.ids.Line.{Line}
-use Rattle.sj_base.specs.Array.{Array}
+use Rattle.std.proofs.lemmas.{List.append-nil, List.get_or-map, List.length-map, List.Sums.AllPass-from_list_all}
 use Rattle.sj_base.proofs.Texts.{same_text}
-use Rattle.sj_base.specs.Mode.{is_written}
-use Rattle.sj_codelet.specs.Kernel.{out}
-use Rattle.sj_plan.specs.declared.parts.Parts.{Parts}
-use Rattle.sj_plan.specs.Parts.{IsPlace}
 use Rattle.sj_meaning.specs.declared.job.Act.TheVariants as kept
-use Rattle.sj_meaning.specs.declared.job.Operand.{Operand as KeptOperand}
-use Rattle.sj_meaning.specs.declared.job.TaskLine.{TaskLine as KeptTask}
-use Rattle.sj_meaning.specs.Statement.{Operand}
-use Rattle.sj_meaning.specs.State.{RootState, JobState, root_of, is_child}
-use Rattle.sj_meaning.specs.Meaning.{operand_array, run_task, written_of, with_child, put, put_all}
-use Rattle.sj_meaning.specs.Sound.{has_child}
-use Rattle.sj_meaning.specs.Table.{Table, AreDistinct, name_of}
-use Rattle.sj_job.specs.Track.{children_count, with_child_valued}
-use Rattle.sj_meaning.specs.View.{operand_seen, task_seen}
 use Rattle.sj_job.proofs.Children.{tracks-with_child_valued}
-use Rattle.sj_meaning.proofs.Giving.{gives_all}
-use Rattle.sj_lower.specs.declared.lowerer.Active.{Active}
-use Rattle.sj_lower.specs.declared.lowerer.Lowerer.{Lowerer}
-use Rattle.sj_lower.specs.Cells.{Cells}
-use Rattle.sj_lower.specs.Limits.{most}
-use Rattle.sj_lower.specs.Lowering.{Lowering}
-use Rattle.sj_lower.specs.Seen.{active_at, AreActive, CanPass, Does, AreIn, access_by, actives_after_writes, lowered_task}
-use Rattle.sj_lower.proofs.Following.{PassesTo, can-pass, changed-actives, accesses_same, same_phases, seen-children}
-use Rattle.sj_meaning.proofs.Finding.{root-change}
-use Rattle.sj_lower.proofs.Running.{child_there}
+use Rattle.sj_meaning.proofs.{Finding.root-change, Giving.gives_all}
+use Rattle.sj_lower.proofs.{Following.accesses_same, Following.can-pass, Following.changed-actives, Following.PassesTo, Following.same_phases, Following.seen-children, Running.child_there}
 
 -- ---- operands
 

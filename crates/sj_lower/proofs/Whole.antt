@@ -1,61 +1,10 @@
 -- All statements: the tasks of the lowered program are good, and its deliveries are those of the job's prints.
-use Rattle.std.proofs.Common.{◌≡◌, ℕ, ◌+◌, ◌<◌, ◌≤◌, Bool, true, false, cond, not, ◌||◌, Option, Some, None, List, [], ◌∷◌, ◌++◌, length, map as each_of, refl, sym, ap, subst, ◌∙◌, arith, length-append}
-use Rattle.std.specs.List.{All, AllByRecursion, flat_map, list_all}
-use Rattle.std.proofs.lemmas.List.Elements.{All-nil, All-cons}
-use Rattle.sj_base.specs.Mode.{is_data, is_redux, access}
-use Rattle.sj_base.specs.declared.ids.Cell.{Cell}
-use Rattle.sj_base.specs.declared.mode.Access.{Access}
-use Rattle.sj_base.specs.declared.mode.Mode.{Mode}
-use Rattle.sj_base.specs.declared.mode.Mode.TheVariants.{R, W, RW}
-use Rattle.std.specs.Str.{bytes_eq}
-use Rattle.std.proofs.lemmas.Bool.{false≢true, and_parts, not-true}
-use Rattle.std.proofs.lemmas.List.{append-nil}
-use Rattle.sj_base.specs.declared.ids.Line.{Line}
-use Rattle.sj_base.specs.declared.tile.Dims.{Dims}
-use Rattle.sj_base.specs.declared.program.Delivery.{Delivery}
-use Rattle.sj_base.specs.declared.program.Lowered.{Lowered}
-use Rattle.sj_base.specs.declared.program.Program.{Program}
-use Rattle.sj_codelet.specs.declared.kernel.Kernel.{Kernel}
-use Rattle.sj_codelet.specs.declared.kernel.Kernel.TheVariants.{Deliver}
-use Rattle.sj_codelet.specs.Kernel.{kernel_of}
-use Rattle.sj_plan.specs.declared.parts.Parts.{Parts}
-use Rattle.sj_plan.specs.declared.paste.Paste.{Paste}
-use Rattle.sj_plan.specs.Parts.{IsPlace, places}
-use Rattle.sj_plan.specs.Paste.{pastes_of, pastes_to, is_first, IsPasteBetween}
-use Rattle.sj_plan.specs.Rect.{child}
+use Rattle.sj_lower.proofs.Words.{[], a_delivery, Access, access, access_of, Act, add_own, AllByRecursion, ap, apply, arith, Bool, bytes_eq, Cell, cell_of, Cells, cells_after, child, cond, Deliver, deliver_row, deliver_rows, Delivery, Dims, each_of, false, Fill, fill_row, flat_map, found_by, Handle, has_child, info_of, Init, Invalidates, is_data, is_first, is_redux, is_valued, IsPasteBetween, IsPlace, JobState, Kernel, kernel_of, leaves_plan, length, length-append, Line, List, list_all, load_row, load_rows, lower_one, Lowered, Lowering, Mode, None, not, Nothing, Operand, Option, Parts, parts_in, Paste, paste_mode, paste_row, pastes_of, pastes_to, places, plan_rows, Plans, print_deliveries, Printed, printed_as, Prints, prints, Program, R, Reduces, refl, Register, registered_root, Registers, root_array, root_of, RootState, rows_added, RW, same_parts, Some, Statement, subst, sym, Table, take, Tasks, true, undivided, Unregisters, Values, W, with_parts, ℕ, ◌++◌, ◌+◌, ◌<◌, ◌||◌, ◌∙◌, ◌∷◌, ◌≡◌, ◌≤◌}
+use Rattle.std.specs.List.{All}
+use Rattle.std.proofs.lemmas.{Bool.and_parts, Bool.false≢true, Bool.not-true, List.append-nil, List.Elements.All-cons, List.Elements.All-nil}
 use Rattle.sj_plan.proofs.Lists.{each-map, each-of, each-places}
-use Rattle.sj_meaning.specs.declared.job.Init.{Init}
-use Rattle.sj_meaning.specs.declared.job.Init.TheVariants.{Values, Fill, Nothing}
-use Rattle.sj_meaning.specs.Statement.{Operand, Register}
-use Rattle.sj_meaning.specs.Sound.{has_child}
-use Rattle.sj_meaning.specs.Act.{Act, Statement}
-use Rattle.sj_meaning.specs.Act.{Register as Registers, Plan as Plans, Redux as Reduces, Task as Tasks, Print as Prints, Invalidate as Invalidates, Unregister as Unregisters}
-use Rattle.sj_meaning.specs.State.{RootState, JobState, root_of, is_valued}
-use Rattle.sj_meaning.specs.Meaning.{Printed, root_array, registered_root, with_parts, apply, found_by, prints}
-use Rattle.sj_meaning.specs.Table.{Table, info_of, undivided}
-use Rattle.sj_lower.specs.Cells.{Cells, Handle, same_parts, cell_of, take}
-use Rattle.sj_lower.specs.Rows.{load_row, fill_row, paste_mode, paste_row, deliver_row}
-use Rattle.sj_lower.specs.Lowering.{Lowering, cells_after, load_rows, parts_in, access_of, leaves_plan, plan_rows, deliver_rows, a_delivery, print_deliveries, rows_added, add_own, lower_one}
-use Rattle.sj_lower.specs.Delivering.{printed_as}
-use Rattle.sj_lower.proofs.Contents.{contents_before}
-use Rattle.sj_lower.proofs.Elements.{valued-child}
-use Rattle.sj_lower.proofs.Folding.{Stand}
+use Rattle.sj_lower.proofs.{Able.CanBe, Agreeing.agrees_act, Agreeing.has-taken, Agreeing.IsPrepared, Agreeing.IsShut, Agreeing.IsShutBy, Agreeing.none_of, Agreeing.plan-fresh, Agreeing.plan_rows-are, Agreeing.same_child_cell, Combined.Phases, Contents.contents_before, Copies.HaveCopies, Delivered.AreDelivered, Delivered.delivered_beside, Delivered.delivered_print, Delivered.deliveries_by, Delivered.NoneDelivers, Elements.valued-child, Fine.good-more, Fine.IsFine, Folding.Stand, Good.all_given, Good.AreGood, Good.CanPaste, Good.direct-modes, Good.good-all, Good.good-blocks, Good.good_deliver, Good.good_fill, Good.good_load, Good.good_pastes_to, Good.good_task, Good.IsGood, Good.no_copies, Good.plans-of, Holding.cell-dims, Holding.differs, Holding.HasCells, Holding.HasRoot, Laid.AreLaid, Laid.bytes_eq-itself, Laid.cell-inside, Laid.cells-apart, Laid.IsTaken, Laid.take-keeps, Laid.taken-once, Logging.AreAway, Logging.IsAway, Logging.log-beside, Owning.plain-child, Pasting.pastes-between, Pasting.rows-by_child, Pasting.rows_to, Places.length-places, Places.parts-itself, Running.active_cell-is, Running.child_there, Running.is_direct, Running.IsClosed, Running.root_there, Running.valued_there, Stating.Agrees, Stating.Begins, Stating.begins-own, Stating.stands-own}
 use Rattle.sj_meaning.proofs.Finding.{get-put, root-change}
-use Rattle.sj_lower.proofs.Holding.{HasRoot, HasCells, differs, cell-dims}
-use Rattle.sj_lower.proofs.Laid.{AreLaid, IsTaken, taken-once, take-keeps, bytes_eq-itself, cell-inside, cells-apart}
-use Rattle.sj_lower.proofs.Pasting.{rows_to, rows-by_child, pastes-between}
-use Rattle.sj_lower.proofs.Places.{parts-itself, length-places}
-use Rattle.sj_lower.proofs.Running.{is_direct, IsClosed, child_there, active_cell-is, root_there, valued_there}
-use Rattle.sj_lower.proofs.Able.{CanBe}
-use Rattle.sj_lower.proofs.Agreeing.{none_of, plan_rows-are, plan-fresh, has-taken, IsShut, IsShutBy, IsPrepared, same_child_cell, agrees_act}
-use Rattle.sj_lower.proofs.Combined.{Phases}
-use Rattle.sj_lower.proofs.Copies.{HaveCopies}
-use Rattle.sj_lower.proofs.Fine.{IsFine, good-more}
-use Rattle.sj_lower.proofs.Logging.{AreAway, IsAway, log-beside}
-use Rattle.sj_lower.proofs.Owning.{plain-child}
-use Rattle.sj_lower.proofs.Stating.{Begins, begins-own, stands-own, Agrees}
-use Rattle.sj_lower.proofs.Good.{IsGood, AreGood, CanPaste, good-all, good-blocks, good_load, good_fill, good_deliver, good_pastes_to, good_task, plans-of, direct-modes, all_given, no_copies}
-use Rattle.sj_lower.proofs.Delivered.{AreDelivered, NoneDelivers, deliveries_by, delivered_beside, delivered_print}
 
 -- ---- the tasks of each statement are good
 

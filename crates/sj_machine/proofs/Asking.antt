@@ -1,12 +1,8 @@
 -- What the rows say of a claimed task's next step.
-use Rattle.std.proofs.Common.{◌≡◌, ℕ, ◌+◌, ◌<◌, ◌^◌, Bool, true, false, not, ◌&&◌, Option, Some, None, find, get_or, is_some, length, refl, sym, ap, ◌∙◌, arith}
-use Rattle.sj_machine.proofs.Words.{Cell, cell_info, CellInfo, cells_of, Claimed, fresh_cells, has_cell, HasNumbers, is_brought, is_claimed_by, is_coming_by, is_fresh, is_to_come, IsCopyOf, IsSound, Machine, mark, next_cell, node_of, Program, progress, State, Task, task_of, worked_among, Worker}
-use Rattle.std.specs.{Prelude.IfSome}
+use Rattle.sj_machine.proofs.Words.{ap, arith, Bool, Cell, cell_info, CellInfo, cells_of, Claimed, false, find, fresh_cells, get_or, has_cell, HasNumbers, IfSome, is_brought, is_claimed_by, is_coming_by, is_fresh, is_some, is_to_come, IsCopyOf, IsSound, length, Machine, mark, next_cell, node_of, None, not, Option, Program, progress, refl, Some, State, sym, Task, task_of, true, worked_among, Worker, ℕ, ◌&&◌, ◌+◌, ◌<◌, ◌^◌, ◌∙◌, ◌≡◌}
 use Rattle.std.proofs.{Math.Path.fun_ext}
 use Rattle.std.proofs.lemmas.{Bool.and_from, Bool.and_parts, Bool.false_from_ne_true, Bool.false≢true, List.get_or_default}
-use Rattle.sj_core.proofs.{Advancing.claimed-task_of, Advancing.claimed_by-is, Claimed.claimed-inside}
-use Rattle.sj_core.proofs.{Claimed.claimed-staffed, Claimed.list_any-task, Readiness.list_any-some}
-use Rattle.sj_core.proofs.{Replicas.same_worker-refl}
+use Rattle.sj_core.proofs.{Advancing.claimed-task_of, Advancing.claimed_by-is, Claimed.claimed-inside, Claimed.claimed-staffed, Claimed.list_any-task, Readiness.list_any-some, Replicas.same_worker-refl}
 
 module _ (p : Program) (m : Machine) (s : State) (h : IsSound p m s) (t : Task) (w : Worker) (claimed : progress s t ≡ Claimed w) where
   -- the worker's partial copies have numbers

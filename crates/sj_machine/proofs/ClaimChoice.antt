@@ -1,24 +1,7 @@
 -- What is answered to a claim: its plan, or why it can't be made.
-use Rattle.std.proofs.Common.{◌≡◌, ℕ, true, List, Option, Some, None, get_or, option_map, sym, ap, ◌∙◌, subst}
-use Rattle.std.specs.Prelude.{Err, Result}
-use Rattle.std.specs.Option.{ok_or}
-use Rattle.sj_core.proofs.Words.{Access, Cell, CellState, Machine, Node, Program, State, Task, Worker, WorkerState, node_of, task_of}
-use Rattle.sj_core.specs.Step.{none_leaving}
-use Rattle.sj_node.specs.Store.{Store}
-use Rattle.sj_machine.specs.Gone.{KnownGone}
-use Rattle.sj_machine.specs.Operands.{first_held}
-use Rattle.sj_machine.specs.Plan.{ClaimPlan}
-use Rattle.sj_machine.specs.Planning.{CommutersAreFree, HasSmallWork, IsAnswer, MayClaim, NoneLeavesFor, chosen_on, commuter_in_use, is_leaving_at, planned}
-use Rattle.sj_machine.specs.Rows.{Rows}
-use Rattle.sj_machine.specs.Stores.{KeepsStores}
-use Rattle.sj_machine.specs.declared.plan.Why.{Why}
-use Rattle.sj_machine.specs.declared.plan.Why.TheVariants.{Commute, Leaving, NoRoom}
-use Rattle.sj_machine.proofs.ClaimFinding.{plan-answers}
-use Rattle.sj_machine.proofs.ClaimPlanning.{proper-work}
-use Rattle.sj_machine.proofs.Commuting.{first-is}
-use Rattle.sj_machine.proofs.Happening.{rows_in}
-use Rattle.sj_machine.proofs.KnownVictims.{none-leaves}
-use Rattle.sj_machine.proofs.Marked.{read-store}
+use Rattle.sj_machine.proofs.Words.{Access, ap, Cell, CellState, chosen_on, ClaimPlan, Commute, commuter_in_use, CommutersAreFree, Err, first_held, get_or, HasSmallWork, is_leaving_at, IsAnswer, KeepsStores, KnownGone, List, Machine, MayClaim, Node, node_of, None, none_leaving, NoneLeavesFor, NoRoom, ok_or, Option, option_map, planned, Program, Result, Rows, Some, State, Store, subst, sym, Task, task_of, true, Why, Worker, WorkerState, ℕ, ◌∙◌, ◌≡◌}
+use Rattle.sj_machine.specs.declared.plan.Why.TheVariants.{Leaving}
+use Rattle.sj_machine.proofs.{ClaimFinding.plan-answers, ClaimPlanning.proper-work, Commuting.first-is, Happening.rows_in, KnownVictims.none-leaves, Marked.read-store}
 
 module _ (p : Program) (m : Machine) (s : State) (nodes : List Store) (keeps : KeepsStores p m s nodes) (r : Rows) (same : rows_in p m s ≡ r) (t : Task) (w : Worker) (asked : MayClaim r.program r.machine r.state t w) where
   may : MayClaim p m s t w

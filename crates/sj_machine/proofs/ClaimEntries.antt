@@ -1,17 +1,8 @@
 -- The entries of a node, whose bytes and pins are told by the cell, while a claim admits, touches and pins its cells.
-use Rattle.std.proofs.Common.{◌≡◌, ℕ, ◌+◌, ◌≤◌, Bool, true, not, ◌||◌, List, [], ◌∷◌, ◌++◌, map, filter, fold, length, refl, sym, ap, ◌∙◌, subst, arith, sum_by, nat_eq}
-use Rattle.std.proofs.lemmas.Bool.{cases_Bool, false≢true, or_right}
-use Rattle.std.proofs.lemmas.List.Elements.{filter-append, filter_agree}
-use Rattle.std.proofs.lemmas.List.Sums.{sum_by-cons}
-use Rattle.sj_core.proofs.Words.{Cell, has_cell, same_cell}
-use Rattle.sj_core.proofs.CellLists.{has_cell-to_front, same_cell-refl, same_cell-sym, times, times-cons, times-to_front}
-use Rattle.sj_core.proofs.Reading.{same_cell-is}
-use Rattle.sj_core.proofs.Sums.{tally}
-use Rattle.sj_core.specs.Step.{to_front, without}
+use Rattle.sj_machine.proofs.Words.{[], ap, arith, Bool, CanTakeAll, Cell, entry_to_front, filter, fold, has_cell, has_entry, is_of_cell, is_of_cells, length, List, map, nat_eq, NodeEntry, not, pins_of, put_cells, refl, repinned, same_cell, Store, subst, sum_by, sym, taken, to_front, total, true, with_entries, without, without_all, without_entry, ℕ, ◌++◌, ◌+◌, ◌||◌, ◌∙◌, ◌∷◌, ◌≡◌, ◌≤◌}
+use Rattle.std.proofs.lemmas.{Bool.cases_Bool, Bool.false≢true, Bool.or_right, List.Elements.filter-append, List.Elements.filter_agree, List.Sums.sum_by-cons}
+use Rattle.sj_core.proofs.{CellLists.has_cell-to_front, CellLists.same_cell-refl, CellLists.same_cell-sym, CellLists.times, CellLists.times-cons, CellLists.times-to_front, Reading.same_cell-is, Sums.tally}
 use Rattle.sj_node.proofs.CallerLemmas.{filter-map}
-use Rattle.sj_node.specs.Entry.{NodeEntry, has_entry, is_of_cells, is_of_cell, pins_of, put_cells, repinned, entry_to_front, total, without_entry, without_all}
-use Rattle.sj_node.specs.Store.{Store, with_entries}
-use Rattle.sj_machine.specs.Plan.{CanTakeAll, taken}
 use Rattle.std.proofs.Math.Path.{fun_ext}
 use Rattle.sj_base.proofs.Bools.{tally-le}
 

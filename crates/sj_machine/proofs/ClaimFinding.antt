@@ -1,27 +1,9 @@
 -- What a plan on a node says of the claim in the state: its cells, its victims, and why it can't be made.
-use Rattle.std.proofs.Common.{◌≡◌, ℕ, ◌+◌, ◌-◌, Bool, true, not, ◌&&◌, List, [], ◌∷◌, Option, Some, None, map, reverse, option_map, refl, sym, ap, ◌∙◌, subst, arith, sum_by, nat_eq, is_some}
-use Rattle.std.specs.List.{list_any}
-use Rattle.std.specs.Option.{ok_or}
-use Rattle.std.specs.Prelude.{All}
-use Rattle.std.proofs.lemmas.List.{map-append, reverse-append, reverse-reverse}
-use Rattle.std.proofs.lemmas.List.Elements.{filter_agree}
-use Rattle.std.proofs.lemmas.List.Sums.{sum_by-cons}
-use Rattle.sj_core.proofs.CellLists.{times, times-has, times-none}
-use Rattle.sj_core.proofs.Readiness.{list_any-some}
-use Rattle.sj_core.proofs.Reading.{same_cell-is}
-use Rattle.sj_core.proofs.Words.{Cell, Machine, Node, Program, State, Task, Worker, cells_of, distinct, free, has_cell, is_pinned, node_of, node_size, order, pins, same_cell, scratch, scratch_bytes, task_of, tile_bytes, workers_at}
-use Rattle.sj_core.specs.Step.{missing, none_leaving, to_come, victims_for}
-use Rattle.sj_core.specs.Victims.{covers, shortest_suffix, victims}
+use Rattle.sj_machine.proofs.Words.{[], All, ap, arith, Bool, Cell, cells_of, chosen_on, ClaimPlan, CommutersAreFree, covers, distinct, free, free_bytes, has_cell, has_entry, is_pinned, is_some, is_spare, IsAnswer, IsPlan, lacking, List, list_any, Machine, map, MayClaim, missing, nat_eq, need_on, Node, node_of, node_size, NodeEntry, None, none_leaving, NoRoom, not, ok_or, Option, option_map, order, pins, pins_on, plan_with, planned, Program, refl, reverse, same_cell, scratch, scratch_bytes, shortest_suffix, Some, State, Store, store_of, subst, sum_by, sym, Task, task_of, tile_bytes, to_come, true, victims, victims_for, Worker, workers_at, ℕ, ◌&&◌, ◌+◌, ◌-◌, ◌∙◌, ◌∷◌, ◌≡◌}
+use Rattle.std.proofs.lemmas.{List.map-append, List.reverse-append, List.reverse-reverse, List.Elements.filter_agree, List.Sums.sum_by-cons}
+use Rattle.sj_core.proofs.{CellLists.times, CellLists.times-has, CellLists.times-none, Readiness.list_any-some, Reading.same_cell-is}
 use Rattle.sj_node.proofs.CallerLemmas.{victims-map}
-use Rattle.sj_node.specs.Entry.{NodeEntry, has_entry, is_spare}
-use Rattle.sj_node.specs.Store.{Store, free_bytes}
-use Rattle.sj_machine.specs.Stores.{pins_on, store_of}
-use Rattle.sj_machine.specs.Plan.{ClaimPlan, IsPlan, plan_with}
-use Rattle.sj_machine.specs.Planning.{CommutersAreFree, IsAnswer, MayClaim, chosen_on, lacking, need_on, planned}
-use Rattle.sj_machine.specs.declared.plan.Why.TheVariants.{NoRoom}
-use Rattle.sj_machine.proofs.Commuting.{commuters-alone}
-use Rattle.sj_machine.proofs.Happening.{entry-cells, rows_in}
-use Rattle.sj_machine.proofs.ClaimEntries.{entries, entries-has, entries-total, entry}
+use Rattle.sj_machine.proofs.{ClaimEntries.entries, ClaimEntries.entries-has, ClaimEntries.entries-total, ClaimEntries.entry, Commuting.commuters-alone, Happening.entry-cells, Happening.rows_in}
 
 -- ---- lists
 

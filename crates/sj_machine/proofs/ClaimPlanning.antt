@@ -1,26 +1,8 @@
 -- What is found in planning a claim.
-use Rattle.std.proofs.Common.{◌*◌, ◌^◌, ◌≤◌, Bool, not, List, [], ◌∷◌, map, filter, length, sym, ◌∙◌, arith, sum, ◌<◌}
-use Rattle.std.specs.Prelude.{All}
-use Rattle.std.proofs.lemmas.List.{length-map}
-use Rattle.std.proofs.lemmas.List.Elements.{All-filter, All-get_or, All-map, All-weaker}
-use Rattle.std.proofs.lemmas.List.Sums.{count_by-le-length, length-filter, sum-map, sum_by-le}
-use Rattle.sj_base.specs.Mode.{is_data}
-use Rattle.sj_base.specs.declared.mode.Access.{Access}
-use Rattle.sj_base.specs.Array.{area}
-use Rattle.sj_base.specs.declared.program.CellInfo.{CellInfo}
-use Rattle.sj_base.specs.declared.program.Lowered.{Lowered}
+use Rattle.sj_machine.proofs.Words.{[], Access, All, area, arith, Bool, Cell, CellInfo, cells_of, distinct, filter, has_entry, HasSmallTask, HasSmallWork, is_data, IsSmallCell, lacking, length, List, Lowered, map, no_cell, no_task, not, Program, Proper, Store, sum, sym, Task, task_of, tile_bytes, worked_on, Worker, ◌*◌, ◌<◌, ◌^◌, ◌∙◌, ◌∷◌, ◌≤◌}
+use Rattle.std.proofs.lemmas.{List.length-map, List.Elements.All-filter, List.Elements.All-get_or, List.Elements.All-map, List.Elements.All-weaker, List.Sums.count_by-le-length, List.Sums.length-filter, List.Sums.sum-map, List.Sums.sum_by-le}
 use Rattle.sj_core.proofs.CellLists.{has_cell-distinct}
-use Rattle.sj_core.proofs.Words.{Cell, Program, Task, Worker, cells_of, distinct, task_of, tile_bytes, worked_on}
-use Rattle.sj_core.specs.Program.{no_cell, no_task}
-use Rattle.sj_core.specs.Proper.{Proper}
-use Rattle.sj_node.specs.Entry.{has_entry}
-use Rattle.sj_node.specs.Store.{Store}
-use Rattle.sj_machine.specs.Plan.{IsSmallCell}
-use Rattle.sj_machine.specs.Planning.{HasSmallTask, HasSmallWork, lacking}
-use Rattle.sj_machine.proofs.ClaimFinding.{All-of}
-use Rattle.sj_machine.proofs.Happening.{All-has}
-use Rattle.sj_machine.proofs.FewPins.{few-operands}
-use Rattle.sj_machine.proofs.Written.{can-work, works-small}
+use Rattle.sj_machine.proofs.{ClaimFinding.All-of, FewPins.few-operands, Happening.All-has, Written.can-work, Written.works-small}
 
 -- ---- small cells
 

@@ -1,17 +1,8 @@
 -- What a claim leaves of the rows.
-use Rattle.std.proofs.Common.{◌≡◌, ℕ, ◌<◌, ◌≤◌, Bool, true, false, not, ◌&&◌, filter, List, Some, length, get_or, set, refl, sym, ap, ◌∙◌, subst, arith}
-use Rattle.sj_machine.proofs.Words.{after, after_claim, CanClaim, MayHappen, CanHold, Cell, cell_state, cells_of, CellState, Claim, Claimed, claimed_mark, ClaimPlan, Coming, covers, distinct, free, has_cell, HasStores, holding, is_pinned, IsPlan, KeepsStores, leave, Leaving, Machine, mark, Mark, mark_in, marked, missing, Node, node_of, order, plan_with, Program, Progress, renewed, row_at, row_with, Rows, State, state_in, Store, store_at, store_of, Task, tile_bytes, to_come, with_mark, Worker, WorkerState}
-use Rattle.sj_machine.proofs.Happening.{AreLeft, All-has, HasStores-set, may-happen, rows-left, rows_in, store-at}
-use Rattle.std.specs.{Prelude.All, Prelude.if◌then◌else◌}
-use Rattle.std.proofs.lemmas.{Bool.false≢true}
-use Rattle.std.proofs.lemmas.{List.length-set, List.set-get_or}
-use Rattle.sj_core.proofs.{Bytes.entry-cell, CellLists.times, CellLists.times-append, CellLists.times-distinct}
-use Rattle.sj_core.proofs.{CellLists.times-filter, Claiming.evicted-free, Claiming.missing-absent, Claiming.task-cell}
-use Rattle.sj_core.proofs.{Claiming.victim-valid, Eviction.evicted-after, Eviction.evicted-chosen, Eviction.evicted_by}
-use Rattle.sj_core.proofs.{Eviction.shortest_suffix-suffix, Reading.no_row, Tables.length-renewed}
-use Rattle.sj_core.proofs.{Tables.renewed-at}
-use Rattle.sj_machine.proofs.{ClaimStores.can-hold, ClaimStores.holding-is, ClaimStores.store-elsewhere, FewPins.few-cells}
-use Rattle.sj_machine.proofs.{FewPins.pins_on-few, Loops.renewed-twice, Loops.rows-written}
+use Rattle.sj_machine.proofs.Words.{after, after_claim, All, ap, arith, Bool, CanClaim, CanHold, Cell, cell_state, cells_of, CellState, Claim, Claimed, claimed_mark, ClaimPlan, Coming, covers, distinct, false, filter, free, get_or, has_cell, HasStores, holding, if◌then◌else◌, is_pinned, IsPlan, KeepsStores, leave, Leaving, length, List, Machine, Mark, mark, mark_in, marked, MayHappen, missing, Node, node_of, not, order, plan_with, Program, Progress, refl, renewed, row_at, row_with, Rows, set, Some, State, state_in, Store, store_at, store_of, subst, sym, Task, tile_bytes, to_come, true, with_mark, Worker, WorkerState, ℕ, ◌&&◌, ◌<◌, ◌∙◌, ◌≡◌, ◌≤◌}
+use Rattle.sj_machine.proofs.{ClaimStores.can-hold, ClaimStores.holding-is, ClaimStores.store-elsewhere, FewPins.few-cells, FewPins.pins_on-few, Happening.All-has, Happening.AreLeft, Happening.HasStores-set, Happening.may-happen, Happening.rows-left, Happening.rows_in, Happening.store-at, Loops.renewed-twice, Loops.rows-written}
+use Rattle.std.proofs.lemmas.{Bool.false≢true, List.length-set, List.set-get_or}
+use Rattle.sj_core.proofs.{Bytes.entry-cell, CellLists.times, CellLists.times-append, CellLists.times-distinct, CellLists.times-filter, Claiming.evicted-free, Claiming.missing-absent, Claiming.task-cell, Claiming.victim-valid, Eviction.evicted-after, Eviction.evicted-chosen, Eviction.evicted_by, Eviction.shortest_suffix-suffix, Reading.no_row, Tables.length-renewed, Tables.renewed-at}
 
 some_is : (vs ws : List Cell) → Some vs ≡ Some ws → vs ≡ ws
 some_is vs ws e = cc

@@ -1,21 +1,10 @@
 -- What a claim leaves of the nodes' stores.
-use Rattle.std.proofs.Common.{◌≡◌, ◌≢◌, ℕ, ◌+◌, ◌<◌, ◌≤◌, Bool, true, false, not, ◌||◌, cond, List, [], ◌∷◌, map, fold, length, refl, sym, ap, ◌∙◌, subst, arith, inl, inr, sum, sum_by}
-use Rattle.std.proofs.lemmas.Bool.{cases_Bool, and_from, false_from_ne_true, false≢true, or_cases, or_parts, or_left, or_right}
-use Rattle.sj_core.proofs.CellLists.{same_cell-sym, has_cell-fronted, has_cell-without, share, sum-once, times, times-cons, times-distinct, times-filter, times-has, times-none, times-program}
-use Rattle.sj_core.proofs.Claiming.{Claims-other_worker, Claims-worker, absent-missing, evicted-free, missing-absent, own-spared, pinned-at, pins-inside, task-cell}
-use Rattle.sj_core.proofs.Sums.{sum-agree, sum-nothing, tally}
-use Rattle.sj_machine.proofs.Words.{admitting, after_claim, AreDistinctCells, CanClaim, CanHold, CanTakeAll, Cell, cells_of, cells_of_program, ClaimPlan, Coherent, distinct, free_bytes, has_cell, has_entry, holding, IsSound, Machine, missing, Node, node_entry_of, node_of, NodeEntry, order, pins, pins_of, pins_on, plan_with, Program, put_cells, same_cell, scratch, scratch_bytes, State, Store, store_of, taken, taking, Task, task_of, tile_bytes, total, with_entries, without, without_all, Worker, worker_state, workers_at, WorkerState}
-use Rattle.sj_machine.proofs.ClaimEntries.{can_take-all, entries, entries-has, entries-pins, entries-put, entries-total, entries-without, fronted-put_first, has_cell-put_first, more, put_first, taken-all, times-put_first}
-use Rattle.std.specs.{List.AllByRecursion, List.IsDistinct, Prelude.IsTrue}
-use Rattle.std.proofs.lemmas.{Bool.Decides.Decides-eqb, List.length-map}
-use Rattle.std.proofs.lemmas.{List.FromFn.length-map-range_with_len, List.Sums.sum-map, List.Sums.sum_by-cons}
-use Rattle.std.proofs.lemmas.{List.Sums.sum_by-le-sum_by}
+use Rattle.sj_machine.proofs.Words.{[], admitting, after_claim, AllByRecursion, ap, AreDistinctCells, arith, Bool, CanClaim, CanHold, CanTakeAll, Cell, cells_of, cells_of_program, ClaimPlan, Coherent, cond, distinct, false, fold, free_bytes, has_cell, has_entry, holding, inl, inr, IsSound, IsTrue, length, List, Machine, map, missing, Node, node_entry_of, node_of, NodeEntry, not, order, pins, pins_of, pins_on, plan_with, Program, put_cells, refl, same_cell, scratch, scratch_bytes, State, Store, store_of, subst, sum, sum_by, sym, taken, taking, Task, task_of, tile_bytes, total, true, with_entries, without, without_all, Worker, worker_state, workers_at, WorkerState, ℕ, ◌+◌, ◌<◌, ◌||◌, ◌∙◌, ◌∷◌, ◌≡◌, ◌≢◌, ◌≤◌}
+use Rattle.std.proofs.lemmas.{Bool.and_from, Bool.cases_Bool, Bool.false_from_ne_true, Bool.false≢true, Bool.or_cases, Bool.or_left, Bool.or_parts, Bool.or_right, Bool.Decides.Decides-eqb, List.length-map, List.FromFn.length-map-range_with_len, List.Sums.sum-map, List.Sums.sum_by-cons, List.Sums.sum_by-le-sum_by}
+use Rattle.sj_core.proofs.{Advancing.idle-has_none, Bytes.entry-cell, Bytes.once-bytes, CellLists.has_cell-fronted, CellLists.has_cell-without, CellLists.same_cell-sym, CellLists.share, CellLists.sum-once, CellLists.times, CellLists.times-cons, CellLists.times-distinct, CellLists.times-filter, CellLists.times-has, CellLists.times-none, CellLists.times-program, Claiming.absent-missing, Claiming.Claims-other_worker, Claiming.Claims-worker, Claiming.evicted-free, Claiming.missing-absent, Claiming.own-spared, Claiming.pinned-at, Claiming.pins-inside, Claiming.task-cell, ClaimKeeps.claim-order_elsewhere, ClaimKeeps.claim-order_here, ClaimKeeps.Claims-coherent, Eviction.evicted_by, Sums.sum-agree, Sums.sum-nothing, Sums.tally}
+use Rattle.sj_machine.proofs.{ClaimEntries.can_take-all, ClaimEntries.entries, ClaimEntries.entries-has, ClaimEntries.entries-pins, ClaimEntries.entries-put, ClaimEntries.entries-total, ClaimEntries.entries-without, ClaimEntries.fronted-put_first, ClaimEntries.has_cell-put_first, ClaimEntries.more, ClaimEntries.put_first, ClaimEntries.taken-all, ClaimEntries.times-put_first, Happening.All-has, Happening.pinned-entry, Happening.store-same, Happening.store_by, NodeSums.sum-at, NodeSums.sum-grown}
+use Rattle.std.specs.List.{IsDistinct}
 use Rattle.sj_base.proofs.{Bools.tally-le}
-use Rattle.sj_core.proofs.{Eviction.evicted_by, Advancing.idle-has_none}
-use Rattle.sj_core.proofs.{Bytes.entry-cell, Bytes.once-bytes, ClaimKeeps.Claims-coherent, ClaimKeeps.claim-order_elsewhere}
-use Rattle.sj_core.proofs.{ClaimKeeps.claim-order_here}
-use Rattle.sj_machine.proofs.{Happening.All-has, Happening.pinned-entry, Happening.store-same, Happening.store_by}
-use Rattle.sj_machine.proofs.{NodeSums.sum-at, NodeSums.sum-grown}
 
 -- ---- lists
 

@@ -1,23 +1,7 @@
 -- The commuting cells of a task that a claimed or running task has: those that a worker pins.
-use Rattle.std.proofs.Common.{◌≡◌, ◌≢◌, ◌<◌, ◌∷◌, ◌&&◌, [], Bool, true, not, List, None, ◌∙◌, ap, arith, find, get_or, length, refl, sym}
-use Rattle.std.specs.List.{list_all}
-use Rattle.std.proofs.lemmas.Bool.{and_parts, false_from_ne_true, false≢true}
-use Rattle.std.proofs.lemmas.List.{get_or_default}
-use Rattle.std.proofs.lemmas.List.Folds.{list_any_at}
-use Rattle.sj_core.proofs.Advancing.{task_of-active, task_of-worker}
-use Rattle.sj_core.proofs.Reading.{idle_row, progress-inside}
-use Rattle.sj_core.proofs.Readiness.{list_any-some}
-use Rattle.sj_core.proofs.Separation.{in_use}
-use Rattle.sj_core.proofs.Sums.{same_test}
-use Rattle.sj_core.proofs.Words.{Cell, Machine, Program, State, Task, Worker, WorkerState, cells_of, has_cell, is_task_of, pins, progress, task_of, tasks_of, worker_of}
-use Rattle.sj_core.specs.Coherent.{Coherent, IsHeld, is_active}
-use Rattle.sj_core.specs.declared.progress.Progress.{Progress}
-use Rattle.sj_core.specs.declared.progress.Progress.TheVariants.{Waiting}
-use Rattle.sj_core.specs.Operands.{commuting_cells}
-use Rattle.sj_core.specs.Step.{is_in_use}
-use Rattle.sj_machine.specs.Operands.{first_held, is_held}
-use Rattle.sj_machine.specs.Planning.{CommutersAreFree, HoldsCommutersAlone, commuter_in_use}
-use Rattle.sj_core.proofs.Claiming.{pins-inside}
+use Rattle.sj_machine.proofs.Words.{[], ap, arith, Bool, Cell, cells_of, Coherent, commuter_in_use, CommutersAreFree, commuting_cells, find, first_held, get_or, has_cell, HoldsCommutersAlone, is_active, is_held, is_in_use, is_task_of, IsHeld, length, List, list_all, Machine, None, not, pins, Program, Progress, progress, refl, State, sym, Task, task_of, tasks_of, true, Waiting, Worker, worker_of, WorkerState, ◌&&◌, ◌<◌, ◌∙◌, ◌∷◌, ◌≡◌, ◌≢◌}
+use Rattle.std.proofs.lemmas.{Bool.and_parts, Bool.false_from_ne_true, Bool.false≢true, List.get_or_default, List.Folds.list_any_at}
+use Rattle.sj_core.proofs.{Advancing.task_of-active, Advancing.task_of-worker, Claiming.pins-inside, Readiness.list_any-some, Reading.idle_row, Reading.progress-inside, Separation.in_use, Sums.same_test}
 
 -- ---- lists
 

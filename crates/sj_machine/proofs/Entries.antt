@@ -1,12 +1,6 @@
 -- Entries of a node that are taken away.
-use Rattle.std.proofs.Common.{◌≡◌, ◌<◌, ℕ, false, true, List, [], ◌∷◌, arith, get_or, length, not, refl, take}
-use Rattle.std.specs.Prelude.{All}
-use Rattle.std.proofs.lemmas.Bool.{cases_Bool, or_parts}
-use Rattle.std.proofs.lemmas.List.Elements.{All-filter, All-tail}
-use Rattle.std.proofs.lemmas.List.Folds.{list_any_at}
-use Rattle.sj_base.specs.declared.ids.Cell.{Cell}
-use Rattle.sj_node.specs.Entry.{NodeEntry, has_entry, is_of_cells, is_of_cell, pins_of, without_entry, without_all}
-use Rattle.sj_machine.specs.Running.{AreUnpinned}
+use Rattle.sj_machine.proofs.Words.{[], All, AreUnpinned, arith, Cell, false, get_or, has_entry, is_of_cell, is_of_cells, length, List, NodeEntry, not, pins_of, refl, take, true, without_all, without_entry, ℕ, ◌<◌, ◌∷◌, ◌≡◌}
+use Rattle.std.proofs.lemmas.{Bool.cases_Bool, Bool.or_parts, List.Elements.All-filter, List.Elements.All-tail, List.Folds.list_any_at}
 
 -- where the cell has no entry
 pub without_entry-absent : (c : Cell) (es : List NodeEntry) → has_entry es c ≡ false → without_entry c es ≡ es

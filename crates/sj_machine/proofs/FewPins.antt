@@ -1,18 +1,8 @@
 -- A worker pins at most as many cells as a codelet has operands, and so a node's entries have few pins.
-use Rattle.std.proofs.Common.{ℕ, ◌≤◌, Bool, ◌&&◌, List, map, length, get_or, set, sym, subst, arith, inl, inr}
-use Rattle.std.specs.Prelude.{count_by, nat_eq}
-use Rattle.std.proofs.lemmas.Bool.{and_parts, cases_eq, cases_lt, eqb-true}
-use Rattle.std.proofs.lemmas.List.{get_or-replicate, get_or-set_other, get_or-set_same, get_or_past, length-map, length-replicate, length-set}
-use Rattle.std.proofs.lemmas.List.Elements.{All-get_or}
-use Rattle.std.proofs.lemmas.List.FromFn.{length-map-range_with_len}
-use Rattle.std.proofs.lemmas.List.Sums.{count_by-le-length, length-filter, sum_by-le}
-use Rattle.sj_base.specs.Mode.{is_data}
-use Rattle.sj_codelet.specs.Kernel.{arguments_fit, dims_fit, formals_of}
+use Rattle.sj_machine.proofs.Words.{Access, after, arguments_fit, arith, AtNode, Bool, Cell, cells_of, Claim, count_by, data_operands, dims_fit, dims_of, Drop, End, Event, FitsCodelet, formals_of, get_or, idle_row, inl, inr, is_data, IsMachineFor, length, List, Lowered, Machine, map, Move, Moved, no_task, Node, node_of, OnDisk, opening, pins, pins_on, PinsFew, Program, Proper, Run, same_cell, set, State, subst, sym, Task, task_of, worked_on, Worker, workers_at, workers_of, WorkerState, ℕ, ◌&&◌, ◌≤◌}
+use Rattle.std.specs.Prelude.{nat_eq}
+use Rattle.std.proofs.lemmas.{Bool.and_parts, Bool.cases_eq, Bool.cases_lt, Bool.eqb-true, List.get_or-replicate, List.get_or-set_other, List.get_or-set_same, List.get_or_past, List.length-map, List.length-replicate, List.length-set, List.Elements.All-get_or, List.FromFn.length-map-range_with_len, List.Sums.count_by-le-length, List.Sums.length-filter, List.Sums.sum_by-le}
 use Rattle.sj_core.proofs.Placing.{pins-same}
-use Rattle.sj_core.proofs.Words.{Access, AtNode, Cell, Claim, Drop, End, Event, Lowered, Machine, Move, Moved, Node, OnDisk, Program, Run, State, Task, Worker, WorkerState, cells_of, data_operands, dims_of, idle_row, no_task, node_of, opening, pins, same_cell, task_of, worked_on, workers_at, workers_of}
-use Rattle.sj_core.specs.Proper.{FitsCodelet, IsMachineFor, Proper}
-use Rattle.sj_core.specs.Step.{after}
-use Rattle.sj_machine.specs.Stores.{PinsFew, pins_on}
 use Rattle.sj_codelet.proofs.Table.{few-formals}
 
 -- ---- operands

@@ -1,16 +1,9 @@
 -- What the end of a run leaves.
-use Rattle.std.proofs.Common.{[], ◌≡◌, ◌≢◌, ◌<◌, ◌≤◌, ◌+◌, ◌-◌, ◌^◌, ◌∙◌, ℕ, Bool, ap, arith, length, List, refl, set, sum_by, sym, subst}
-use Rattle.sj_machine.proofs.Words.{Access, after, CanCount, MayHappen, CanRelease, CanWorkOn, Cell, CellState, Done, End, has_written, HasStores, is_begun, is_valid, is_written, IsSound, KeepsStores, let_go, Machine, Node, node_of, node_size, order, pins, pins_on, Program, Progress, progress, released, row_at, Rows, Running, scratch, State, state_in, store, Store, store_at, store_of, Task, task_of, tasks_of, tile_bytes, worked_on, Worker, worker_of, worker_state, workers_at, WorkerState, writes, written_cells, written_each, written_once_more}
-use Rattle.sj_machine.proofs.Happening.{AreLeft, All-has, HasStores-set, mark-inside, pinned-entry, may-happen, rows_in, rows-left, store-at, store-same}
-use Rattle.std.specs.{Prelude.All, Prelude.filter}
-use Rattle.std.proofs.lemmas.{Nat.mod_below, List.length-map}
-use Rattle.std.proofs.lemmas.{List.Elements.All-from_get_or}
-use Rattle.std.proofs.lemmas.{List.FromFn.length-map-range_with_len, List.Sums.count_by-le-length, List.Sums.length-filter}
-use Rattle.sj_core.proofs.{CellLists.times, Finding.running-inside, Reading.no_row, Reading.worker-other}
-use Rattle.sj_core.proofs.{Reading.worker-same}
-use Rattle.sj_machine.proofs.{FewPins.few-operands, Loops.rows-written, NodeSums.sum-at}
-use Rattle.sj_machine.proofs.{NodeSums.sum-grown, Unpinning.all-less, Unpinning.can-unpin, Written.can-work}
-use Rattle.sj_machine.proofs.{Written.written-once}
+use Rattle.sj_machine.proofs.Words.{[], Access, after, All, ap, arith, Bool, CanCount, CanRelease, CanWorkOn, Cell, CellState, Done, End, has_written, HasStores, is_begun, is_valid, is_written, IsSound, KeepsStores, length, let_go, List, Machine, MayHappen, Node, node_of, node_size, order, pins, pins_on, Program, Progress, progress, refl, released, row_at, Rows, Running, scratch, set, State, state_in, Store, store, store_at, store_of, subst, sum_by, sym, Task, task_of, tasks_of, tile_bytes, worked_on, Worker, worker_of, worker_state, workers_at, WorkerState, writes, written_cells, written_each, written_once_more, ℕ, ◌+◌, ◌-◌, ◌<◌, ◌^◌, ◌∙◌, ◌≡◌, ◌≢◌, ◌≤◌}
+use Rattle.sj_machine.proofs.{FewPins.few-operands, Happening.All-has, Happening.AreLeft, Happening.HasStores-set, Happening.mark-inside, Happening.may-happen, Happening.pinned-entry, Happening.rows-left, Happening.rows_in, Happening.store-at, Happening.store-same, Loops.rows-written, NodeSums.sum-at, NodeSums.sum-grown, Unpinning.all-less, Unpinning.can-unpin, Written.can-work, Written.written-once}
+use Rattle.std.specs.Prelude.{filter}
+use Rattle.std.proofs.lemmas.{Nat.mod_below, List.length-map, List.Elements.All-from_get_or, List.FromFn.length-map-range_with_len, List.Sums.count_by-le-length, List.Sums.length-filter}
+use Rattle.sj_core.proofs.{CellLists.times, Finding.running-inside, Reading.no_row, Reading.worker-other, Reading.worker-same}
 
 module _ (p : Program) (m : Machine) (tasks : List Progress) (cells : List CellState) (nodes : List Store) (workers : List WorkerState) (keeps : KeepsStores p m (state_in tasks cells nodes workers) nodes) (r : Rows) (same : rows_in p m (state_in tasks cells nodes workers) ≡ r) (t : Task) (w : Worker) (can : MayHappen r (End t w)) where
   abbrev s : State

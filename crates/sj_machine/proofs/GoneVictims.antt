@@ -1,16 +1,11 @@
 -- Which victims are gone.
-use Rattle.std.proofs.Common.{◌&&◌, ◌≡◌, ℕ, ◌<◌, ◌≤◌, ◌+◌, ◌-◌, ◌++◌, Bool, true, false, not, cond, List, [], ◌∷◌, Some, length, get_or, suc, take, zero, drop, reverse, refl, sym, ap, ◌∙◌, inl, inr, arith}
-use Rattle.std.specs.List.{find, list_all}
+use Rattle.sj_machine.proofs.Words.{[], ap, AreGone, AreGoneIn, arith, Bool, Cell, CellState, cond, drop, false, get_or, inl, inr, is_gone, is_leaving_by, leaves_in, length, List, list_all, Machine, mark, next_victim, Node, node_of, not, refl, reverse, Some, State, suc, sym, take, true, victims_of, Worker, zero, ℕ, ◌&&◌, ◌++◌, ◌+◌, ◌-◌, ◌<◌, ◌∙◌, ◌∷◌, ◌≡◌, ◌≤◌}
+use Rattle.std.specs.List.{find}
 use Rattle.std.proofs.Math.ListN.{drop_of_length-le}
 use Rattle.std.proofs.Math.Path.{fun_ext}
 use Rattle.std.proofs.Math.Seq.{drop-append_seam}
-use Rattle.std.proofs.lemmas.Bool.{and_from, and_parts, cases_lt, not-true}
-use Rattle.std.proofs.lemmas.List.{get_or-reverse, length-drop, length-reverse, reverse-append, take-append-drop}
-use Rattle.std.proofs.lemmas.List.Folds.{list_all_more}
+use Rattle.std.proofs.lemmas.{Bool.and_from, Bool.and_parts, Bool.cases_lt, Bool.not-true, List.get_or-reverse, List.length-drop, List.length-reverse, List.reverse-append, List.take-append-drop, List.Folds.list_all_more}
 use Rattle.sj_base.proofs.Bools.{not_not}
-use Rattle.sj_core.proofs.Words.{Cell, CellState, Machine, Node, State, Worker, is_gone, is_leaving_by, mark, node_of, victims_of}
-use Rattle.sj_machine.specs.Choosing.{leaves_in, next_victim}
-use Rattle.sj_machine.specs.Gone.{AreGone, AreGoneIn}
 
 -- one more is gone, where its copy doesn't leave
 pub gone_more : (rows : List CellState) (n : Node) (w : Worker) (victims : List Cell) (i : ℕ) (d : Cell) → i < length victims → AreGoneIn rows n w victims i → leaves_in rows n w (get_or victims (length victims - 1 - i) d) ≡ false → AreGoneIn rows n w victims (i + 1)

@@ -1,11 +1,9 @@
 -- What one event leaves: a sound state, and rows of it where the nodes' stores are those of that state.
-use Rattle.std.proofs.Common.{◌≡◌, ◌≢◌, ◌<◌, ◌∙◌, Bool, All, inl, inr, set, ap, arith, false, true, length, List, map, refl, sym, subst, ℕ, zero, suc, [], ◌∷◌, get_or}
-use Rattle.std.proofs.lemmas.List.{ext_get_or, get_or-map, get_or-set_other, get_or-set_same, get_or_past, length-map, length-set}
-use Rattle.sj_machine.proofs.Words.{after, MayHappen, Cell, cell_state, CellState, Coherent, Event, has_cell, has_happened, HasStores, Invalid, is_claimed_by, is_entry, is_running_on, IsSound, KeepsStores, Machine, mark, Mark, May, Node, node_entry_of, node_of, node_size, NodeEntry, order, order_in, pins, PinsFew, Program, Progress, progress, row_of, Rows, same_cell, State, state_in, store, Store, store_of, tile_bytes, Worker, WorkerState}
-use Rattle.std.proofs.lemmas.{Bool.cases_lt, Bool.false≢true, Bool.or_cases, List.Folds.list_any_at}
+use Rattle.sj_machine.proofs.Words.{[], after, ap, arith, Bool, Cell, cell_state, CellState, Coherent, Event, false, get_or, has_cell, has_happened, HasStores, inl, inr, Invalid, is_claimed_by, is_entry, is_running_on, IsSound, KeepsStores, length, List, Machine, map, Mark, mark, May, MayHappen, Node, node_entry_of, node_of, node_size, NodeEntry, order, order_in, pins, PinsFew, Program, Progress, progress, refl, row_of, Rows, same_cell, set, State, state_in, Store, store, store_of, subst, suc, sym, tile_bytes, true, Worker, WorkerState, zero, ℕ, ◌<◌, ◌∙◌, ◌∷◌, ◌≡◌, ◌≢◌}
+use Rattle.std.proofs.Common.{All}
+use Rattle.std.proofs.lemmas.{Bool.cases_lt, Bool.false≢true, Bool.or_cases, List.ext_get_or, List.get_or-map, List.get_or-set_other, List.get_or-set_same, List.get_or_past, List.length-map, List.length-set, List.Folds.list_any_at}
 use Rattle.sj_base.proofs.{SameIds.other_node, SameIds.same_cell-itself}
-use Rattle.sj_core.proofs.{Advancing.claimed_by-is, Advancing.running_on-is, Replicas.valid-entry}
-use Rattle.sj_core.proofs.{Replaying.Step-keeps_coherence, Reading.no_row, Reading.same_node}
+use Rattle.sj_core.proofs.{Advancing.claimed_by-is, Advancing.running_on-is, Replicas.valid-entry, Replaying.Step-keeps_coherence, Reading.no_row, Reading.same_node}
 use Rattle.std.proofs.{Math.Path.fun_ext}
 use Rattle.sj_machine.proofs.{FewPins.few-after}
 

@@ -1,20 +1,9 @@
 -- Where of each worker's victims some are known to be gone, and none of the others leaves, nothing does.
-use Rattle.std.proofs.Common.{arith, ◌≡◌, ℕ, ◌-◌, Bool, true, false, not, List, [], ◌∷◌, drop, get_or, length, refl, reverse, sym, take, ap, ◌∙◌}
-use Rattle.std.specs.List.{list_all}
-use Rattle.std.proofs.lemmas.Bool.{false_from_ne_true, false≢true, not-true}
-use Rattle.std.proofs.lemmas.List.{get_or_default, reverse-append, take-append-drop}
-use Rattle.std.proofs.lemmas.List.Folds.{list_all-append}
-use Rattle.std.proofs.lemmas.List.Sums.{AllPass-from_list_all, list_all-from_AllPass}
-use Rattle.sj_core.proofs.Reading.{list_all-has, no_row}
-use Rattle.sj_core.proofs.Replicas.{leaving-by_some, leaving_by-leaves}
-use Rattle.sj_core.proofs.Words.{Cell, CellState, Machine, Node, Program, State, Worker, has_room, is_gone, is_leaving, is_leaving_by, mark, mark_in, node_of, victims_of}
-use Rattle.sj_core.specs.Coherent.{Coherent}
-use Rattle.sj_core.specs.Step.{none_leaving}
+use Rattle.sj_machine.proofs.Words.{[], ap, arith, Bool, Cell, CellState, Coherent, drop, false, get_or, has_room, is_gone, is_leaving, is_leaving_at, is_leaving_by, KnownGone, length, List, list_all, Machine, mark, mark_in, Node, node_of, none_leaving, NoneLeavesFor, not, Program, refl, reverse, State, sym, take, true, victims_of, Worker, ℕ, ◌-◌, ◌∙◌, ◌∷◌, ◌≡◌}
+use Rattle.std.proofs.lemmas.{Bool.false_from_ne_true, Bool.false≢true, Bool.not-true, List.get_or_default, List.reverse-append, List.take-append-drop, List.Folds.list_all-append, List.Sums.AllPass-from_list_all, List.Sums.list_all-from_AllPass}
+use Rattle.sj_core.proofs.{Reading.list_all-has, Reading.no_row, Replicas.leaving-by_some, Replicas.leaving_by-leaves}
 use Rattle.sj_replica.specs.Replica.{CellState}
-use Rattle.sj_machine.specs.Gone.{KnownGone}
-use Rattle.sj_machine.specs.Planning.{NoneLeavesFor, is_leaving_at}
-use Rattle.sj_machine.proofs.Commuting.{found-none}
-use Rattle.sj_machine.proofs.GoneVictims.{rest-is}
+use Rattle.sj_machine.proofs.{Commuting.found-none, GoneVictims.rest-is}
 
 all-turned : (f : Cell → Bool) (xs : List Cell) → list_all f (reverse xs) ≡ list_all f xs
 all-turned f [] = refl

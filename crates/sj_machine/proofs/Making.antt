@@ -1,6 +1,5 @@
 -- Rows of a run on which nothing has happened.
-use Rattle.std.proofs.Common.{◌≡◌, ◌∙◌, List, [], length, map, replicate, subst, sym, ap}
-use Rattle.sj_machine.proofs.Words.{Cell, CellState, empty, HasStores, idle_row, IsMachineFor, KeepsStores, Machine, no_copy, Node, node_entry_of, node_size, opening, order, order_in, Program, Progress, Proper, rows_at_start, scratch, State, state_in, Store, store, store_of, Waiting, workers_at, WorkerState}
+use Rattle.sj_machine.proofs.Words.{[], ap, Cell, CellState, empty, HasStores, idle_row, IsMachineFor, KeepsStores, length, List, Machine, map, no_copy, Node, node_entry_of, node_size, opening, order, order_in, Program, Progress, Proper, replicate, rows_at_start, scratch, State, state_in, Store, store, store_of, subst, sym, Waiting, workers_at, WorkerState, ◌∙◌, ◌≡◌}
 use Rattle.std.proofs.lemmas.{List.get_or-map, List.length-map, List.length-replicate}
 use Rattle.sj_base.proofs.{Lists.get_or-replicate_same}
 use Rattle.sj_core.proofs.{Opening.no_scratch, Opening.opening-coherent, Sums.sum-nothing}

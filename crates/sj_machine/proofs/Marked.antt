@@ -1,6 +1,5 @@
 -- A node's entries are those of the cells of which the marks tell so.
-use Rattle.std.proofs.Common.{◌≡◌, ◌<◌, List, arith, filter, get_or, length, not, subst, sym, ap, ◌∙◌}
-use Rattle.sj_machine.proofs.Words.{AreMarked, Cell, CellState, distinct, has_entry, is_entry, KeepsStores, lacking, Machine, mark_at, need_on, Node, node_of, order, pins_on, Program, State, Store, store_of, Task, tile_bytes, to_come, Worker}
+use Rattle.sj_machine.proofs.Words.{ap, AreMarked, arith, Cell, CellState, distinct, filter, get_or, has_entry, is_entry, KeepsStores, lacking, length, List, Machine, mark_at, need_on, Node, node_of, not, order, pins_on, Program, State, Store, store_of, subst, sym, Task, tile_bytes, to_come, Worker, ◌<◌, ◌∙◌, ◌≡◌}
 use Rattle.std.proofs.lemmas.{List.Elements.filter_agree}
 use Rattle.sj_machine.proofs.{ClaimEntries.entries-has, ClaimFinding.need-same, Happening.store-at}
 

@@ -1,11 +1,9 @@
 -- What the beginning and the end of a move leave, and a drop.
-use Rattle.std.proofs.Common.{◌≡◌, ◌<◌, ◌∙◌, ap, length, List, None, Option, refl, set, slice_index_or, slice_set, Some, sym, subst}
-use Rattle.sj_machine.proofs.Words.{a_transfer, after, arrived, AtNode, CanDrop, MayHappen, Cell, cell_state, CellState, Drop, HasStores, Invalid, is_coming_by, is_leaving, is_leaving_by, IsTransferTo, KeepsStores, Machine, May, Move, Moved, mover_of, Node, OnDisk, order, pins, pins_on, Place, Program, Progress, row_of, Rows, scratch, State, state_in, Store, store_of, transfer, Transfer, transfer_in, with_mark, with_row, with_row_of, with_transfer, with_transfer_of, Worker, workers_at, WorkerState}
+use Rattle.sj_machine.proofs.Words.{a_transfer, after, ap, arrived, AtNode, CanDrop, Cell, cell_state, CellState, Drop, HasStores, Invalid, is_coming_by, is_leaving, is_leaving_by, IsTransferTo, KeepsStores, length, List, Machine, May, MayHappen, Move, Moved, mover_of, Node, None, OnDisk, Option, order, pins, pins_on, Place, Program, Progress, refl, row_of, Rows, scratch, set, slice_index_or, slice_set, Some, State, state_in, Store, store_of, subst, sym, Transfer, transfer, transfer_in, with_mark, with_row, with_row_of, with_transfer, with_transfer_of, Worker, workers_at, WorkerState, ◌<◌, ◌∙◌, ◌≡◌}
 use Rattle.sj_machine.proofs.Happening.{AreLeft, HasStores-same, mark-inside, may-happen, row-at, rows_in, rows-left, store-same}
 use Rattle.std.proofs.lemmas.{Bool.false≢true}
 use Rattle.sj_base.proofs.{Lists.sum_by-agree}
-use Rattle.sj_core.proofs.{CellLists.times, Placing.pins-same, Placing.scratch-same}
-use Rattle.sj_core.proofs.{States.one-mover}
+use Rattle.sj_core.proofs.{CellLists.times, Placing.pins-same, Placing.scratch-same, States.one-mover}
 
 -- a node's store stays where a transfer begins or ends
 transfer-store : (p : Program) (m : Machine) (s : State) (w : Worker) (move : Option Transfer) (n : Node) → store_of p m (with_transfer s w move) n ≡ store_of p m s n

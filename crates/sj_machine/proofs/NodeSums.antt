@@ -1,11 +1,9 @@
 -- Sums over the workers of a node, where one worker's term grows.
-use Rattle.std.proofs.Common.{◌≡◌, ◌≢◌, ℕ, ◌+◌, ◌*◌, ◌<◌, Bool, true, cond, ap, arith, count_by, sum_by, sym, ◌∙◌, ◌&&◌, inl, inr, nat_eq}
-use Rattle.sj_machine.proofs.Words.{Machine, Node, node_of, same_worker, Worker, workers_at, workers_of}
+use Rattle.sj_machine.proofs.Words.{ap, arith, Bool, cond, inl, inr, list_any, Machine, nat_eq, Node, node_of, same_worker, sum_by, sym, true, Worker, workers_at, workers_of, ℕ, ◌&&◌, ◌*◌, ◌+◌, ◌<◌, ◌∙◌, ◌≡◌, ◌≢◌}
+use Rattle.std.proofs.Common.{count_by}
 use Rattle.std.proofs.lemmas.{Bool.and_from, Bool.cases_Bool, Bool.false≢true, Bool.Decides.Decides-eqb}
-use Rattle.std.specs.{List.list_any}
 use Rattle.sj_base.proofs.{Lists.list_any-filter, Lists.list_any-numbered}
-use Rattle.sj_core.proofs.{Bytes.worker-once_at, Replicas.same_worker-is, Replicas.same_worker-refl, Sums.counted-has}
-use Rattle.sj_core.proofs.{Sums.sum-each, Sums.sum-filter-le, Sums.sum-plus}
+use Rattle.sj_core.proofs.{Bytes.worker-once_at, Replicas.same_worker-is, Replicas.same_worker-refl, Sums.counted-has, Sums.sum-each, Sums.sum-filter-le, Sums.sum-plus}
 
 module _ (m : Machine) (n : Node) where
   abbrev here : Worker → Bool

@@ -1,15 +1,9 @@
 -- What the beginning of a run leaves.
-use Rattle.std.proofs.Common.{[], ◌≡◌, ◌≢◌, ◌<◌, ◌∙◌, ℕ, Bool, ap, arith, false, true, not, get_or, length, List, map, nat_eq, refl, set, sum_by, sym, subst}
-use Rattle.sj_machine.proofs.Words.{after, AreMarked, AreUnpinned, MayHappen, CanRun, CanWorkOn, Cell, CellState, evicted_at, has_cell, has_entry, is_entry, is_of_cells, is_valid, IsOwnedBy, IsSound, KeepsStores, Machine, mark, Node, node_entry_of, node_of, node_size, NodeEntry, order, owned_at, owned_each, pins, pins_on, Program, Progress, Rows, Run, Running, scratch, State, state_in, store, Store, store_of, Task, task_of, tile_bytes, with_entries, without, without_all, Worker, workers_at, WorkerState, written_cells}
-use Rattle.sj_machine.proofs.Happening.{AreLeft, All-has, mark-inside, pinned-entry, may-happen, rows_in, rows-left, sound-after, store-at}
-use Rattle.std.specs.{Prelude.All, Prelude.if◌then◌else◌}
-use Rattle.std.proofs.lemmas.{Bool.false_from_ne_true, Bool.false≢true}
-use Rattle.std.proofs.lemmas.{List.get_or-map, List.length-map}
-use Rattle.sj_core.proofs.{CellLists.times, CellLists.times-none, Claimed.claimed-inside, Claimed.claimed-staffed}
-use Rattle.sj_core.proofs.{Reading.progress-same, Sums.sum-nothing, Tables.renewed-at}
+use Rattle.sj_machine.proofs.Words.{[], after, All, ap, AreMarked, AreUnpinned, arith, Bool, CanRun, CanWorkOn, Cell, CellState, evicted_at, false, get_or, has_cell, has_entry, if◌then◌else◌, is_entry, is_of_cells, is_valid, IsOwnedBy, IsSound, KeepsStores, length, List, Machine, map, mark, MayHappen, nat_eq, Node, node_entry_of, node_of, node_size, NodeEntry, not, order, owned_at, owned_each, pins, pins_on, Program, Progress, refl, Rows, Run, Running, scratch, set, State, state_in, Store, store, store_of, subst, sum_by, sym, Task, task_of, tile_bytes, true, with_entries, without, without_all, Worker, workers_at, WorkerState, written_cells, ℕ, ◌<◌, ◌∙◌, ◌≡◌, ◌≢◌}
+use Rattle.sj_machine.proofs.{ClaimEntries.entries-has, Happening.All-has, Happening.AreLeft, Happening.mark-inside, Happening.may-happen, Happening.pinned-entry, Happening.rows-left, Happening.rows_in, Happening.sound-after, Happening.store-at, Loops.rows-written, NodeSums.sum-at, Written.can-work, Written.written-once}
+use Rattle.std.proofs.lemmas.{Bool.false_from_ne_true, Bool.false≢true, List.get_or-map, List.length-map}
+use Rattle.sj_core.proofs.{CellLists.times, CellLists.times-none, Claimed.claimed-inside, Claimed.claimed-staffed, Reading.progress-same, Sums.sum-nothing, Tables.renewed-at}
 use Rattle.sj_node.proofs.{CallerLemmas.filter-map}
-use Rattle.sj_machine.proofs.{ClaimEntries.entries-has, Loops.rows-written, NodeSums.sum-at, Written.can-work}
-use Rattle.sj_machine.proofs.{Written.written-once}
 
 module _ (p : Program) (m : Machine) (tasks : List Progress) (cells : List CellState) (nodes : List Store) (workers : List WorkerState) (keeps : KeepsStores p m (state_in tasks cells nodes workers) nodes) (r : Rows) (same : rows_in p m (state_in tasks cells nodes workers) ≡ r) (t : Task) (w : Worker) (can : MayHappen r (Run t w)) where
   abbrev s : State

@@ -1,38 +1,11 @@
 -- A claim is refused only while another worker has a task: where none has one, nothing is in use, nothing leaves, and the node
 -- has room.
-use Rattle.std.proofs.Common.{◌≡◌, ◌∙◌, ◌∷◌, ◌<◌, ◌≤◌, ◌+◌, ◌*◌, ◌&&◌, ℕ, suc, [], List, None, Some, Bool, true, false, not, IsTrue, ap, arith, cond, filter, get_or, inl, inr, length, map, sum_by, sym}
-use Rattle.std.specs.Prelude.{AllPairs, Contains, Err, IfErr, Ok, OnErr, Result}
-use Rattle.std.proofs.lemmas.Bool.{and_parts, cases_Bool, false_from_ne_true, false≢true, le-leb}
-use Rattle.std.proofs.lemmas.List.Elements.{filter_agree}
-use Rattle.std.proofs.lemmas.List.Folds.{list_any_at}
-use Rattle.std.proofs.lemmas.List.Sums.{sum_by-cons}
-use Rattle.std.specs.List.{list_any}
-use Rattle.sj_base.specs.declared.mode.Access.{Access}
-use Rattle.sj_base.specs.declared.mode.Mode.TheVariants.{R}
-use Rattle.sj_base.specs.Mode.{is_redux}
-use Rattle.sj_core.proofs.Sized.{worked_on-dims}
-use Rattle.sj_core.proofs.Advancing.{claimed_by-task_of, idle-has_none, task_of-worker}
-use Rattle.sj_core.proofs.Bytes.{bytes_where, entry-cell, once-bytes}
-use Rattle.sj_core.proofs.CellLists.{has_cell-distinct, has_cell-filter_is, same_cell-from, times-distinct, times-filter}
-use Rattle.sj_core.proofs.Copies.{direct-cell}
-use Rattle.sj_core.proofs.Eviction.{shortest_suffix-none}
-use Rattle.sj_core.proofs.Reading.{list_any-numbered, progress-inside, same_cell-is}
-use Rattle.sj_core.proofs.Readiness.{list_any-map, list_any-some}
-use Rattle.sj_core.proofs.Replicas.{leaving-by_some}
-use Rattle.sj_core.proofs.Sums.{sum-filter, sum-nothing, sum-plus}
-use Rattle.sj_core.proofs.Words.{Cell, Machine, Node, Program, State, Task, Worker, cells_of, data_operands, dims_of, distinct, free, has_cell, is_leaving, is_pinned, is_task_of, no_task, node_of, node_size, order, pins, progress, mark, same_cell, scratch, scratch_bytes, task_of, tasks_of, tile_bytes, worked_on, worker_of, workers_at}
-use Rattle.sj_core.specs.Laws.{IsSound}
-use Rattle.sj_core.specs.Proper.{Proper}
-use Rattle.sj_core.specs.Step.{is_in_use, to_come, victims_for}
-use Rattle.sj_core.specs.Victims.{covers}
-use Rattle.sj_base.specs.Array.{area}
-use Rattle.std.proofs.lemmas.List.{get_or_default}
-use Rattle.sj_machine.specs.Plan.{ClaimPlan}
-use Rattle.sj_machine.specs.Planning.{AnotherHasTask, IsWhy, MayClaim, commuter_in_use}
-use Rattle.sj_machine.specs.declared.plan.Why.{Why}
-use Rattle.sj_machine.specs.declared.plan.Why.TheVariants.{Commute, Leaving, NoRoom}
-use Rattle.sj_base.proofs.Bools.{and_swap}
-use Rattle.sj_base.proofs.Lists.{find-passes}
+use Rattle.sj_machine.proofs.Words.{[], Access, AllPairs, AnotherHasTask, ap, area, arith, Bool, Cell, cells_of, ClaimPlan, Commute, commuter_in_use, cond, Contains, covers, data_operands, dims_of, distinct, Err, false, filter, free, get_or, has_cell, IfErr, inl, inr, is_in_use, is_leaving, is_pinned, is_redux, is_task_of, IsSound, IsWhy, length, List, list_any, Machine, map, mark, MayClaim, no_task, Node, node_of, node_size, None, NoRoom, not, Ok, OnErr, order, pins, Program, progress, Proper, R, Result, same_cell, scratch, scratch_bytes, Some, State, suc, sum_by, sym, Task, task_of, tasks_of, tile_bytes, to_come, true, victims_for, Why, worked_on, Worker, worker_of, workers_at, ℕ, ◌&&◌, ◌*◌, ◌+◌, ◌<◌, ◌∙◌, ◌∷◌, ◌≡◌, ◌≤◌}
+use Rattle.std.proofs.Common.{IsTrue}
+use Rattle.std.proofs.lemmas.{Bool.and_parts, Bool.cases_Bool, Bool.false_from_ne_true, Bool.false≢true, Bool.le-leb, List.get_or_default, List.Elements.filter_agree, List.Folds.list_any_at, List.Sums.sum_by-cons}
+use Rattle.sj_core.proofs.{Advancing.claimed_by-task_of, Advancing.idle-has_none, Advancing.task_of-worker, Bytes.bytes_where, Bytes.entry-cell, Bytes.once-bytes, CellLists.has_cell-distinct, CellLists.has_cell-filter_is, CellLists.same_cell-from, CellLists.times-distinct, CellLists.times-filter, Copies.direct-cell, Eviction.shortest_suffix-none, Readiness.list_any-map, Readiness.list_any-some, Reading.list_any-numbered, Reading.progress-inside, Reading.same_cell-is, Replicas.leaving-by_some, Sized.worked_on-dims, Sums.sum-filter, Sums.sum-nothing, Sums.sum-plus}
+use Rattle.sj_machine.specs.declared.plan.Why.TheVariants.{Leaving}
+use Rattle.sj_base.proofs.{Bools.and_swap, Lists.find-passes}
 
 -- ---- lists
 

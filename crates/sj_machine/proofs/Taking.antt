@@ -1,10 +1,6 @@
 -- The loop over the cells that a claim takes.
-use Rattle.std.proofs.Common.{◌≡◌, ℕ, ◌+◌, ◌<◌, ◌≤◌, true, List, ◌∷◌, fold, length, drop, get_or, sym, ap, ◌∙◌, subst}
+use Rattle.sj_machine.proofs.Words.{ap, CanTakeAll, Cell, drop, fold, get_or, has_entry, length, List, pins_of, Store, subst, sym, taken, true, ℕ, ◌+◌, ◌<◌, ◌∙◌, ◌∷◌, ◌≡◌, ◌≤◌}
 use Rattle.std.proofs.lemmas.List.{drop_all, drop_more}
-use Rattle.sj_base.specs.declared.ids.Cell.{Cell}
-use Rattle.sj_node.specs.Entry.{has_entry, pins_of}
-use Rattle.sj_node.specs.Store.{Store}
-use Rattle.sj_machine.specs.Plan.{CanTakeAll, taken}
 
 -- so many of the cells were taken, and the rest is to come
 pub record IsTaking (old now : Store) (cells : List Cell) (i : ℕ) : Type 0 where

@@ -1,11 +1,8 @@
 -- Entries of a node whose pins are taken off.
-use Rattle.std.proofs.Common.{◌≡◌, ◌<◌, ◌≤◌, ◌+◌, ◌-◌, ℕ, true, List, [], ◌∷◌, ◌∙◌, ap, arith, drop, get_or, length, refl, sym, take}
-use Rattle.sj_core.proofs.CellLists.{same_cell-refl, same_cell-sym, times, times-append, times-cons}
-use Rattle.sj_machine.proofs.Words.{Cell, has_cell, NodeEntry, pins_of, repinned, same_cell, unpinned_each}
-use Rattle.std.proofs.lemmas.{Bool.cases_Bool, Bool.false≢true, List.take-append-drop, List.take_more}
-use Rattle.std.proofs.lemmas.{List.Folds.list_any_at}
+use Rattle.sj_machine.proofs.Words.{[], ap, arith, Cell, drop, get_or, has_cell, length, List, NodeEntry, pins_of, refl, repinned, same_cell, sym, take, true, unpinned_each, ℕ, ◌+◌, ◌-◌, ◌<◌, ◌∙◌, ◌∷◌, ◌≡◌, ◌≤◌}
+use Rattle.sj_core.proofs.{CellLists.same_cell-refl, CellLists.same_cell-sym, CellLists.times, CellLists.times-append, CellLists.times-cons, Reading.same_cell-is, Sums.tally}
+use Rattle.std.proofs.lemmas.{Bool.cases_Bool, Bool.false≢true, List.take-append-drop, List.take_more, List.Folds.list_any_at}
 use Rattle.std.proofs.{Math.Path.fun_ext}
-use Rattle.sj_core.proofs.{Reading.same_cell-is, Sums.tally}
 use Rattle.sj_machine.proofs.{ClaimEntries.entries}
 
 module _ (bytes : Cell → ℕ) where

@@ -1,17 +1,9 @@
 -- What a worker works on for the operands of a task: each written cell comes once, and all are cells of the program.
-use Rattle.std.proofs.Common.{◌≡◌, ◌≢◌, ◌<◌, ◌≤◌, ◌^◌, ◌⊎◌, suc, Bool, true, false, List, [], ◌∷◌, ◌∙◌, ap, arith, get_or, inl, inr, is_some, length, map, sym, subst, ◌&&◌}
-use Rattle.sj_machine.proofs.Words.{Access, area, CanWorkOn, Cell, CellInfo, Codelet, copy_of, data_operands, has_cell, is_data, is_redux, is_written, IsCopyOf, IsSmallCell, Mode, no_cell, no_task, Program, Proper, R, Redux, same_cell, Task, task_of, Uses, worked_on, Worker, written_cells}
-use Rattle.std.specs.{Prelude.All, Prelude.AllPairs, Prelude.Contains, Prelude.IsTrue, Prelude.filter}
-use Rattle.std.specs.{Prelude.if◌then◌else◌}
-use Rattle.std.proofs.lemmas.{Bool.cases_Bool, Bool.false_from_ne_true, Bool.false≢true, List.Elements.All-get_or}
-use Rattle.std.proofs.lemmas.{List.Elements.Contains-get_or, List.Kept.AllPairs-filter}
+use Rattle.sj_machine.proofs.Words.{[], Access, All, AllPairs, ap, area, arith, Bool, CanWorkOn, Cell, CellInfo, Codelet, Contains, copy_of, data_operands, false, get_or, has_cell, if◌then◌else◌, inl, inr, is_data, is_redux, is_some, is_written, IsCopyOf, IsSmallCell, IsTrue, length, List, map, Mode, no_cell, no_task, Program, Proper, R, Redux, same_cell, subst, suc, sym, Task, task_of, true, Uses, worked_on, Worker, written_cells, ◌&&◌, ◌<◌, ◌^◌, ◌∙◌, ◌∷◌, ◌≡◌, ◌≢◌, ◌≤◌, ◌⊎◌}
+use Rattle.std.specs.Prelude.{filter}
+use Rattle.std.proofs.lemmas.{Bool.cases_Bool, Bool.false_from_ne_true, Bool.false≢true, List.Elements.All-get_or, List.Elements.Contains-get_or, List.Kept.AllPairs-filter}
 use Rattle.sj_base.proofs.{Bools.tally-le}
-use Rattle.sj_core.proofs.{CellLists.same_cell-from, CellLists.times, CellLists.times-cons, CellLists.times-none}
-use Rattle.sj_core.proofs.{Copies.direct-cell, Copies.redux_or, Dependencies.Proper-dependencies}
-use Rattle.sj_core.proofs.{Modes.written_isn't_scratch, Reading.same_cell-is, Readiness.Contains-from_filter}
-use Rattle.sj_core.proofs.{Readiness.filter-Contains, Readiness.list_any-map, Readiness.list_any-some, Sharing.manner_of}
-use Rattle.sj_core.proofs.{Sharing.redux-has_copies, Sharing.contributing-is, Sums.tally, TaskCells.filter-filter}
-use Rattle.sj_core.proofs.{Updating.operand-used}
+use Rattle.sj_core.proofs.{CellLists.same_cell-from, CellLists.times, CellLists.times-cons, CellLists.times-none, Copies.direct-cell, Copies.redux_or, Dependencies.Proper-dependencies, Modes.written_isn't_scratch, Reading.same_cell-is, Readiness.Contains-from_filter, Readiness.filter-Contains, Readiness.list_any-map, Readiness.list_any-some, Sharing.manner_of, Sharing.redux-has_copies, Sharing.contributing-is, Sums.tally, TaskCells.filter-filter, Updating.operand-used}
 
 abbrev Unaliased : Access → Access → Type 0
 Unaliased a b = IsTrue (same_cell a.cell b.cell) → (a.mode ≡ R) × (b.mode ≡ R)

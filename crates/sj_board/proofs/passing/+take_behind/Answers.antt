@@ -1,8 +1,5 @@
-use Rattle.std.proofs.Common.{◌<◌, ◌∙◌, None, Some, ap, rules, sym, subst}
-use Rattle.sj_pool.specs.Pool.{Pooled, count_entries}
-use Rattle.sj_board.specs.Passing.{IsPoolOf, IsTakenBehind}
-use Rattle.sj_board.proofs.Pooling.{none-contains}
-use Rattle.sj_board.proofs.PassedTasks.{back-absent, back-known, back-task, fewer, pool-taken, put-behind, taken-none, taken-some}
+use Rattle.sj_board.proofs.Words.{ap, count_entries, IsPoolOf, IsTakenBehind, None, Pooled, rules, Some, subst, sym, ◌<◌, ◌∙◌}
+use Rattle.sj_board.proofs.{PassedTasks.back-absent, PassedTasks.back-known, PassedTasks.back-task, PassedTasks.fewer, PassedTasks.pool-taken, PassedTasks.put-behind, PassedTasks.taken-none, PassedTasks.taken-some, Pooling.none-contains}
 use Rattle.sj_board.proofs.passing.+take_behind.Goals as goal
 
 pub returns-in_default : goal.returns-in_default

@@ -1,4 +1,4 @@
-use Rattle.sj_pool.specs.Pool.{count_entries}
+use Rattle.sj_board.proofs.Words.{count_entries}
 use Rattle.sj_board.proofs.passing.+take_behind.Given as goal
 
 abbrev pub decreases-take_behind : goal.decreases-take_behind

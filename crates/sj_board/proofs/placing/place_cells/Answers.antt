@@ -1,11 +1,5 @@
-use Rattle.std.proofs.Common.{◌<◌, List, arith, length, map, refl, subst, sym, slice_index_or}
-use Rattle.std.specs.Prelude.{IsSome}
-use Rattle.sj_base.specs.declared.program.CellInfo.{CellInfo}
-use Rattle.sj_base.specs.Array.{area}
-use Rattle.sj_core.specs.Program.{no_cell}
-use Rattle.sj_disk.specs.Block.{block_bytes}
+use Rattle.sj_board.proofs.Words.{area, arith, block_bytes, CellInfo, IsSome, length, List, map, no_cell, refl, ReservesSome, slice_index_or, subst, sym, ◌<◌}
 use Rattle.sj_disk.specs.Directory.{first_fit}
-use Rattle.sj_board.specs.Placing.{ReservesSome}
 use Rattle.sj_board.proofs.FirstFit.{one-fits, placing-begins, placing-ends, placing-goes-on}
 use Rattle.sj_board.proofs.placing.place_cells.Goals as goal
 

@@ -1,7 +1,5 @@
-use Rattle.std.proofs.Common.{◌+◌, ◌∙◌, List, subst, sym}
+use Rattle.sj_board.proofs.Words.{AreReadyBelow, List, subst, sym, Task, ◌+◌, ◌∙◌}
 use Rattle.std.proofs.lemmas.Bool.{false≢true}
-use Rattle.sj_base.specs.declared.ids.Task.{Task}
-use Rattle.sj_board.specs.Preparing.{AreReadyBelow}
 use Rattle.sj_board.proofs.Prepared.{ready-more, ready-past}
 use Rattle.sj_board.proofs.preparing.add_if_ready.Goals as goal
 

@@ -1,7 +1,5 @@
-use Rattle.std.proofs.Common.{rules, ◌≡◌, ◌∙◌, [], ap}
+use Rattle.sj_board.proofs.Words.{[], ap, deliveries, first_hands, rules, ◌∙◌, ◌≡◌}
 use Rattle.sj_core.proofs.Dependencies.{Proper-dependencies}
-use Rattle.sj_board.specs.Delivered.{deliveries}
-use Rattle.sj_board.specs.Preparing.{first_hands}
 use Rattle.sj_board.proofs.Opening.{first-listed, prepared}
 use Rattle.sj_board.proofs.preparing.prepare.Goals as goal
 

@@ -1,4 +1,4 @@
-use Rattle.std.proofs.Common.{arith}
+use Rattle.sj_board.proofs.Words.{arith}
 use Rattle.sj_board.proofs.Prepared.{ready-all}
 use Rattle.sj_board.proofs.preparing.ready_tasks.Goals as goal
 

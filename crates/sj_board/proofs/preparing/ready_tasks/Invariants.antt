@@ -1,4 +1,4 @@
-use Rattle.sj_board.specs.Preparing.{AreReadyBelow}
+use Rattle.sj_board.proofs.Words.{AreReadyBelow}
 use Rattle.sj_board.proofs.preparing.ready_tasks.Given as goal
 
 abbrev pub invariant-loop-i : goal.invariant-loop-i

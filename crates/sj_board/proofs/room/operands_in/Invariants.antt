@@ -1,4 +1,4 @@
-use Rattle.std.proofs.Common.{◌≡◌, ◌≤◌, ◌*◌, length, sum_by, take}
+use Rattle.sj_board.proofs.Words.{length, sum_by, take, ◌*◌, ◌≡◌, ◌≤◌}
 use Rattle.sj_board.proofs.room.operands_in.Given as goal
 
 abbrev pub invariant-loop-task : goal.invariant-loop-task

@@ -1,4 +1,4 @@
-use Rattle.std.proofs.Common.{◌≡◌, None, replicate}
+use Rattle.sj_board.proofs.Words.{None, replicate, ◌≡◌}
 use Rattle.sj_board.proofs.run_state.no_tiles.Given as goal
 
 abbrev pub invariant-loop-i : goal.invariant-loop-i

@@ -1,6 +1,4 @@
-use Rattle.std.proofs.Common.{arith, pos}
-use Rattle.std.specs.Prelude.{FitsSigned}
-use Rattle.std.specs.Int.{w64}
+use Rattle.sj_board.proofs.Words.{arith, FitsSigned, pos, w64}
 use Rattle.std.proofs.lemmas.List.Elements.{All-from_get_or}
 use Rattle.sj_board.proofs.run_state.told.Goals as goal
 

@@ -1,6 +1,4 @@
-use Rattle.std.proofs.Common.{ℕ, ◌<◌, get_or, pos}
-use Rattle.std.specs.Prelude.{FitsSigned}
-use Rattle.std.specs.Int.{w64}
+use Rattle.sj_board.proofs.Words.{FitsSigned, get_or, pos, w64, ℕ, ◌<◌}
 use Rattle.sj_board.proofs.run_state.told.Given as goal
 
 abbrev pub invariant-loop-x : goal.invariant-loop-x

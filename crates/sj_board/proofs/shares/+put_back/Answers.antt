@@ -1,14 +1,6 @@
-use Rattle.std.proofs.Common.{◌≡◌, ◌<◌, ◌∙◌, length, ◌++◌, ◌∷◌, [], List, ap, arith, false, rules, sym, subst, true}
+use Rattle.sj_board.proofs.Words.{[], ap, arith, arrays, CanWorkOn, Cell, false, is_written, length, List, put_each, rules, shared, subst, sym, true, with_tiles_of, worked_on, written_among, ◌++◌, ◌<◌, ◌∙◌, ◌∷◌, ◌≡◌}
 use Rattle.std.proofs.lemmas.List.{length_push}
-use Rattle.sj_base.specs.declared.ids.Cell.{Cell}
-use Rattle.sj_base.specs.Mode.{is_written}
-use Rattle.sj_codelet.specs.Frame.{arrays, shared}
-use Rattle.sj_core.specs.Operands.{worked_on}
-use Rattle.sj_machine.specs.Operands.{CanWorkOn, written_among}
-use Rattle.sj_board.specs.Shares.{put_each}
-use Rattle.sj_board.specs.Tiles.{with_tiles_of}
-use Rattle.sj_board.proofs.PuttingBack.{all-last, at_node, can_put-skip, can_put-take, put_back-puts}
-use Rattle.sj_board.proofs.TileTables.{Places}
+use Rattle.sj_board.proofs.{PuttingBack.all-last, PuttingBack.at_node, PuttingBack.can_put-skip, PuttingBack.can_put-take, PuttingBack.put_back-puts, TileTables.Places}
 use Rattle.sj_board.proofs.shares.+put_back.Goals as goal
 
 pub returns-clause-tiles : goal.returns-clause-tiles

@@ -1,4 +1,4 @@
-use Rattle.std.proofs.Common.{length}
+use Rattle.sj_board.proofs.Words.{length}
 use Rattle.sj_board.proofs.shares.+put_back.Given as goal
 
 abbrev pub decreases-put_back : goal.decreases-put_back

@@ -1,5 +1,4 @@
-use Rattle.std.proofs.Common.{◌≡◌, length, take}
-use Rattle.sj_board.specs.Tiles.{out_each}
+use Rattle.sj_board.proofs.Words.{length, out_each, take, ◌≡◌}
 use Rattle.sj_board.proofs.shares.lend_each.Given as goal
 
 abbrev pub invariant-loop-cell : goal.invariant-loop-cell

@@ -1,9 +1,6 @@
-use Rattle.std.proofs.Common.{◌≤◌, ◌+◌, ◌∷◌, [], arith, get_or, length}
-use Rattle.sj_base.specs.declared.mode.Access.{Access}
-use Rattle.sj_base.specs.declared.mode.Mode.TheVariants.{R}
+use Rattle.sj_board.proofs.Words.{[], Access, arith, get_or, length, R, reads_of, ◌+◌, ◌∷◌, ◌≤◌}
 use Rattle.sj_board.proofs.SharesInOrder.{read-more, read-some}
 use Rattle.sj_board.proofs.shares.share_into.Goals as goal
-use Rattle.sj_base.specs.Mode.{reads_of}
 
 pub share_one-requires-clause-room : goal.share_one-requires-clause-room
 share_one-requires-clause-room c =

@@ -1,7 +1,5 @@
-use Rattle.std.proofs.Common.{◌≡◌, ◌+◌, ◌++◌, length, take}
-use Rattle.sj_board.specs.Shares.{shares_at}
+use Rattle.sj_board.proofs.Words.{length, reads_of, shares_at, take, ◌++◌, ◌+◌, ◌≡◌}
 use Rattle.sj_board.proofs.shares.share_into.Given as goal
-use Rattle.sj_base.specs.Mode.{reads_of}
 
 abbrev pub invariant-loop-access : goal.invariant-loop-access
 invariant-loop-access l = record {

@@ -1,5 +1,4 @@
-use Rattle.std.proofs.Common.{◌≡◌, ◌∙◌, ap, rules, replicate, None}
-use Rattle.sj_board.specs.Tiles.{arrays_in}
+use Rattle.sj_board.proofs.Words.{ap, arrays_in, None, replicate, rules, ◌∙◌, ◌≡◌}
 use Rattle.sj_board.proofs.LoanedTiles.{arrays-none}
 use Rattle.sj_board.proofs.tiles.empty_places.Goals as goal
 

@@ -1,4 +1,4 @@
-use Rattle.std.proofs.Common.{◌≡◌, None, replicate}
+use Rattle.sj_board.proofs.Words.{None, replicate, ◌≡◌}
 use Rattle.sj_board.proofs.tiles.empty_places.Given as goal
 
 abbrev pub invariant-loop-i : goal.invariant-loop-i

@@ -1,6 +1,5 @@
-use Rattle.std.proofs.Common.{◌∙◌, None, ap, arith, get_or, length}
+use Rattle.sj_board.proofs.Words.{ap, arith, array_in, arrays_in, get_or, length, None, ◌∙◌}
 use Rattle.std.proofs.lemmas.List.{length-map, length-set}
-use Rattle.sj_board.specs.Tiles.{array_in, arrays_in}
 use Rattle.sj_board.proofs.LoanedTiles.{all-out, set-more}
 use Rattle.sj_board.proofs.tiles.take_all_out.Goals as goal
 

@@ -1,6 +1,4 @@
-use Rattle.std.proofs.Common.{◌≡◌, ◌<◌, ℕ, None, Option, get_or, length}
-use Rattle.sj_base.specs.Array.{Array}
-use Rattle.sj_board.specs.Tiles.{arrays_in}
+use Rattle.sj_board.proofs.Words.{Array, arrays_in, get_or, length, None, Option, ℕ, ◌<◌, ◌≡◌}
 use Rattle.sj_board.proofs.tiles.take_all_out.Given as goal
 
 abbrev pub invariant-loop-k : goal.invariant-loop-k

@@ -1,6 +1,4 @@
-use Rattle.std.proofs.Common.{◌∙◌, Option, ap, set}
-use Rattle.sj_base.specs.Array.{Array}
-use Rattle.sj_board.specs.Tiles.{array_in, arrays_in}
+use Rattle.sj_board.proofs.Words.{ap, Array, array_in, arrays_in, Option, set, ◌∙◌}
 use Rattle.sj_board.proofs.LoanedTiles.{arrays-set}
 use Rattle.sj_board.proofs.tiles.take_out.Goals as goal
 

@@ -1,7 +1,4 @@
-use Rattle.std.proofs.Common.{subst, take}
-use Rattle.std.specs.Prelude.{IsOk}
-use Rattle.sj_core.specs.Legal.{IsFinished}
-use Rattle.sj_machine.specs.Rows.{Rows}
+use Rattle.sj_check.proofs.Words.{IsFinished, IsOk, Rows, subst, take}
 use Rattle.sj_check.proofs.Traces.{fronts-legal}
 use Rattle.sj_check.proofs.check.check.Goals as goal
 

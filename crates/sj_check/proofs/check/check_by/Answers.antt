@@ -1,7 +1,5 @@
-use Rattle.std.proofs.Common.{◌∙◌, Bool, arith, subst, sym}
+use Rattle.sj_check.proofs.Words.{arith, Bool, IsComplete, Judges, subst, sym, ◌∙◌}
 use Rattle.std.proofs.lemmas.Bool.{false≢true}
-use Rattle.sj_core.specs.Legal.{IsComplete}
-use Rattle.sj_check.specs.Judging.{Judges}
 use Rattle.sj_check.proofs.Traces.{all-seen, first-bad, one-more}
 use Rattle.sj_check.proofs.check.check_by.Goals as goal
 

@@ -1,5 +1,4 @@
-use Rattle.std.proofs.Common.{◌≡◌, ◌∙◌, None, Option, Some, arith, refl, sym, w64, ℕ}
-use Rattle.std.specs.Prelude.{IfSome}
+use Rattle.sj_check.proofs.Words.{arith, IfSome, None, Option, refl, Some, sym, w64, ℕ, ◌∙◌, ◌≡◌}
 use Rattle.std.proofs.Math.Facts.{Fits-lt-pow}
 use Rattle.sj_base.proofs.FirstFit.{first_fit-room}
 use Rattle.sj_check.proofs.homes.fitting.Goals as goal

@@ -1,9 +1,5 @@
-use Rattle.std.proofs.Common.{◌≡◌, ◌∙◌, ◌++◌, List, None, Option, Some, [], ap, length, map, refl, sym, ℕ}
-use Rattle.std.specs.Prelude.{unwrap_or}
+use Rattle.sj_check.proofs.Words.{[], ap, CellInfo, DiskNo, first_fit, length, List, map, None, Option, refl, Some, sym, unwrap_or, ℕ, ◌++◌, ◌∙◌, ◌≡◌}
 use Rattle.std.proofs.lemmas.List.{length-replicate}
-use Rattle.sj_base.specs.declared.ids.DiskNo.{DiskNo}
-use Rattle.sj_base.specs.declared.program.CellInfo.{CellInfo}
-use Rattle.sj_core.specs.Needs.{first_fit}
 use Rattle.sj_needs.proofs.Placing.{none-taken}
 use Rattle.sj_check.proofs.BlockDisks.{behind, disks_after, homes-all, homes-none}
 use Rattle.sj_check.proofs.homes.homes_of.Goals as goal

@@ -1,4 +1,4 @@
-use Rattle.std.proofs.Common.{◌≡◌, drop, length, map}
+use Rattle.sj_check.proofs.Words.{drop, length, map, ◌≡◌}
 use Rattle.sj_check.proofs.BlockDisks.{behind, disks_after}
 use Rattle.sj_check.proofs.homes.homes_of.Given as goal
 

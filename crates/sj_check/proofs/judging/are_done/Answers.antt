@@ -1,7 +1,5 @@
-use Rattle.std.proofs.Common.{◌<◌, ◌≤◌, ◌∙◌, ap, arith, length, refl, sym}
+use Rattle.sj_check.proofs.Words.{ap, arith, is_done, length, Program, refl, sym, ◌<◌, ◌∙◌, ◌≤◌}
 use Rattle.std.proofs.lemmas.Bool.{false≢true}
-use Rattle.sj_base.specs.declared.program.Program.{Program}
-use Rattle.sj_core.specs.Machine.{is_done}
 use Rattle.sj_check.proofs.Completing.{done-all, done-more, done-not}
 use Rattle.sj_check.proofs.judging.are_done.Goals as goal
 

@@ -1,5 +1,4 @@
-use Rattle.std.proofs.Common.{◌∙◌, ap, not, sym}
-use Rattle.sj_core.specs.Machine.{is_task_of}
+use Rattle.sj_check.proofs.Words.{ap, is_task_of, not, sym, ◌∙◌}
 use Rattle.sj_check.proofs.Tasks.{last-tells, never-claimed}
 use Rattle.sj_check.proofs.judging.is_idle.Goals as goal
 

@@ -1,9 +1,5 @@
-use Rattle.std.proofs.Common.{◌≡◌, ◌∙◌, IsTrue, None, Some, ap, not, rules, subst, sym}
-use Rattle.sj_base.specs.declared.ids.Worker.{Worker}
+use Rattle.sj_check.proofs.Words.{ap, CanMoveIn, claimant_of, is_coming_by, IsTrue, None, not, rules, Some, source_of, subst, sym, transfer, Worker, ◌∙◌, ◌≡◌}
 use Rattle.sj_core.proofs.Replicas.{same_worker-refl}
-use Rattle.sj_core.specs.Machine.{is_coming_by, transfer}
-use Rattle.sj_core.specs.Step.{CanMoveIn, source_of}
-use Rattle.sj_replica.specs.Mark.{claimant_of}
 use Rattle.sj_check.proofs.judging.may_bring.Goals as goal
 
 pub returns-in-Some : goal.returns-in-Some

@@ -1,7 +1,5 @@
-use Rattle.std.proofs.Common.{◌≡◌, ◌≤◌, ◌∙◌, ap, arith, sym}
+use Rattle.sj_check.proofs.Words.{ap, arith, footprint, Program, sym, ◌∙◌, ◌≡◌, ◌≤◌}
 use Rattle.std.proofs.lemmas.Bool.{false≢true}
-use Rattle.sj_base.specs.declared.program.Program.{Program}
-use Rattle.sj_core.specs.Needs.{footprint}
 use Rattle.sj_check.proofs.Counting.{ready-counted}
 use Rattle.sj_core.proofs.Testing.{waiting-is}
 use Rattle.sj_check.proofs.judging.may_claim.Goals as goal

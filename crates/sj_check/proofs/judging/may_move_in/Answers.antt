@@ -1,9 +1,5 @@
-use Rattle.std.proofs.Common.{◌≡◌, ◌∙◌, Some, subst, sym}
-use Rattle.std.proofs.lemmas.Bool.{false≢true}
-use Rattle.std.proofs.lemmas.Option.{none-some}
-use Rattle.sj_base.specs.declared.ids.Task.{Task}
-use Rattle.sj_core.specs.Machine.{progress}
-use Rattle.sj_core.specs.declared.progress.Progress.TheVariants.{Claimed}
+use Rattle.sj_check.proofs.Words.{Claimed, progress, Some, subst, sym, Task, ◌∙◌, ◌≡◌}
+use Rattle.std.proofs.lemmas.{Bool.false≢true, Option.none-some}
 use Rattle.sj_check.proofs.Legality.{comes-for}
 use Rattle.sj_check.proofs.judging.may_move_in.Goals as goal
 

@@ -1,12 +1,5 @@
-use Rattle.std.proofs.Common.{◌≡◌, ◌∙◌, ap, not, rules, sym}
-use Rattle.std.specs.List.{list_all}
+use Rattle.sj_check.proofs.Words.{ap, Claimed, is_begun, is_moving, is_present, list_all, node_of, not, progress, rules, sym, written_cells, ◌∙◌, ◌≡◌}
 use Rattle.std.proofs.lemmas.Bool.{and_from, and_parts}
-use Rattle.sj_core.specs.Coherent.{is_begun}
-use Rattle.sj_core.specs.Machine.{progress}
-use Rattle.sj_core.specs.Needs.{node_of}
-use Rattle.sj_core.specs.Operands.{written_cells}
-use Rattle.sj_core.specs.Step.{is_moving, is_present}
-use Rattle.sj_core.specs.declared.progress.Progress.TheVariants.{Claimed}
 use Rattle.sj_check.proofs.judging.run_is_legal.Goals as goal
 
 pub returns-then-has_room : goal.returns-then-has_room

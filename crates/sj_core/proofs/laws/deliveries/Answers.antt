@@ -1,5 +1,4 @@
-use Rattle.sj_core.proofs.Given.{delivers-given, finds-content, finds-earlier}
-use Rattle.sj_core.proofs.Workers.{workers-alike}
+use Rattle.sj_core.proofs.{Given.delivers-given, Given.finds-content, Given.finds-earlier, Workers.workers-alike}
 use Rattle.sj_core.proofs.laws.deliveries.Goals as goal
 
 pub returns : goal.returns

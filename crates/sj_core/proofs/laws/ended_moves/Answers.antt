@@ -1,5 +1,5 @@
 use Rattle.sj_core.proofs.Moving.{Ended_moves-keep_coherence}
-use Rattle.sj_core.specs.Step.{mover_of}
+use Rattle.sj_core.proofs.Words.{mover_of}
 use Rattle.sj_core.proofs.laws.ended_moves.Goals as goal
 
 pub returns : goal.returns

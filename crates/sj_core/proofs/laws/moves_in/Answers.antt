@@ -1,6 +1,5 @@
 use Rattle.sj_core.proofs.Moving.{Moves_in-keep_coherence}
-use Rattle.sj_core.specs.Step.{mover_of}
-use Rattle.sj_core.proofs.Words.{AtNode}
+use Rattle.sj_core.proofs.Words.{AtNode, mover_of}
 use Rattle.sj_core.proofs.laws.moves_in.Goals as goal
 
 pub returns : goal.returns

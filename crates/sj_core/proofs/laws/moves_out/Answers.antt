@@ -1,9 +1,6 @@
 use Rattle.std.proofs.lemmas.Bool.{false≢true}
-use Rattle.sj_core.specs.Laws.{IsKeptByMovesOut}
-use Rattle.sj_core.specs.Coherent.{Coherent}
-use Rattle.sj_core.specs.Step.{mover_of}
+use Rattle.sj_core.proofs.Words.{AtNode, Coherent, IsKeptByMovesOut, mover_of, OnDisk}
 use Rattle.sj_core.proofs.Moving.{Moves_out-keep_coherence}
-use Rattle.sj_core.proofs.Words.{AtNode, OnDisk}
 use Rattle.sj_core.proofs.laws.moves_out.Goals as goal
 
 keep : IsKeptByMovesOut Coherent

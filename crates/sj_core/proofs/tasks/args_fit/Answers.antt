@@ -1,6 +1,5 @@
-use Rattle.std.proofs.Common.{arith, pos}
+use Rattle.sj_core.proofs.Words.{arith, pos, w64}
 use Rattle.std.specs.Prelude.{FitsSigned}
-use Rattle.std.specs.Int.{w64}
 use Rattle.std.proofs.lemmas.List.Elements.{All-from_get_or}
 use Rattle.sj_core.proofs.tasks.args_fit.Goals as goal
 

@@ -1,6 +1,5 @@
-use Rattle.std.proofs.Common.{ℕ, ◌<◌, get_or, pos}
+use Rattle.sj_core.proofs.Words.{get_or, pos, w64, ℕ, ◌<◌}
 use Rattle.std.specs.Prelude.{FitsSigned}
-use Rattle.std.specs.Int.{w64}
 use Rattle.sj_core.proofs.tasks.args_fit.Given as goal
 
 abbrev pub invariant-loop-arg : goal.invariant-loop-arg

@@ -1,6 +1,5 @@
-use Rattle.std.proofs.Common.{take}
+use Rattle.sj_core.proofs.Words.{take, w64}
 use Rattle.std.specs.Prelude.{All, FitsSigned}
-use Rattle.std.specs.Int.{w64}
 use Rattle.sj_core.proofs.tasks.arguments_fit.Given as goal
 
 abbrev pub invariant-loop-task : goal.invariant-loop-task

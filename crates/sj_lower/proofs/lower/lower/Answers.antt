@@ -1,28 +1,6 @@
-use Rattle.std.proofs.Common.{◌≡◌, ◌∙◌, ℕ, ◌≤◌, ◌<◌, Bool, List, [], ◌∷◌, None, Some, All, refl, ap, subst, sym, length, arith}
-use Rattle.std.specs.Vec.Iter.{into_iter_items}
-use Rattle.sj_base.specs.declared.ids.Line.{Line}
-use Rattle.sj_base.specs.declared.program.Program.{Program}
-use Rattle.sj_codelet.specs.declared.kernel.Kernel.{Kernel}
+use Rattle.sj_lower.proofs.Words.{[], ActsArePlaced, All, ap, arith, Bool, count_from, finished, into_iter_items, IsFull, IsJob, IsJobIn, IsLate, IsNumbered, IsTable, IsWell, JobState, Kernel, late_limit, late_tasks, length, Line, List, lowered, lowered_program, Lowering, LoweringProgress, LowerRefusal, None, nothing, Prepares, Program, refl, seen_from, Some, StandsAt, start, Statement, statements_of, subst, sym, Table, ℕ, ◌<◌, ◌∙◌, ◌∷◌, ◌≡◌, ◌≤◌}
 use Rattle.sj_meaning.specs.declared.job.Statement.{Statement as Kept}
-use Rattle.sj_meaning.specs.Act.{Statement}
-use Rattle.sj_meaning.specs.State.{JobState, start}
-use Rattle.sj_meaning.specs.Table.{Table, IsTable}
-use Rattle.sj_meaning.specs.View.{ActsArePlaced, IsNumbered, count_from, seen_from, statements_of}
-use Rattle.sj_job.specs.Well.{IsWell}
-use Rattle.sj_lower.specs.declared.lower.LowerRefusal.{LowerRefusal}
-use Rattle.sj_lower.specs.declared.lower.LoweringProgress.{LoweringProgress}
-use Rattle.sj_lower.specs.Job.{IsJob, IsJobIn}
-use Rattle.sj_lower.specs.Limits.{late_limit, late_tasks}
-use Rattle.sj_lower.specs.Lowering.{Lowering, nothing, lowered, finished, lowered_program}
-use Rattle.sj_lower.specs.Progress.{StandsAt, IsFull, IsLate, Prepares}
-use Rattle.sj_lower.proofs.Allowed.{all_can_be}
-use Rattle.sj_lower.proofs.Combined.{IsTrusted}
-use Rattle.sj_lower.proofs.Steps.{handed-on}
-use Rattle.sj_lower.proofs.Going.{GoesOn, IsDone, IsShut, going-start, going-has, going-more, going-full, going-end, done-has, shut, shut-over}
-use Rattle.sj_lower.proofs.Known.{IsKnown, known, own-of}
-use Rattle.sj_lower.proofs.Lowered.{IsWhole, whole}
-use Rattle.sj_lower.proofs.Naming.{names-all, numbered-none}
-use Rattle.sj_lower.proofs.Properness.{proper, delivers_printed, names_deliver_tasks, delivers_in_order}
+use Rattle.sj_lower.proofs.{Allowed.all_can_be, Combined.IsTrusted, Going.done-has, Going.GoesOn, Going.going-end, Going.going-full, Going.going-has, Going.going-more, Going.going-start, Going.IsDone, Going.IsShut, Going.shut, Going.shut-over, Known.IsKnown, Known.known, Known.own-of, Lowered.IsWhole, Lowered.whole, Naming.names-all, Naming.numbered-none, Properness.delivers_in_order, Properness.delivers_printed, Properness.names_deliver_tasks, Properness.proper, Steps.handed-on}
 use Rattle.sj_lower.proofs.lower.lower.Goals as goal
 
 pub loop-statement-init : goal.loop-statement-init

@@ -1,5 +1,5 @@
-use Rattle.std.proofs.Common.{◌≡◌, map, take}
-use Rattle.sj_lower.specs.Seen.{access_by}
+use Rattle.sj_lower.proofs.Words.{access_by, map, ◌≡◌}
+use Rattle.std.proofs.Common.{take}
 use Rattle.sj_lower.proofs.lowerer.accesses.Given as goal
 
 -- the accesses of the operands so far

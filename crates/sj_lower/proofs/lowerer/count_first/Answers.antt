@@ -1,8 +1,4 @@
-use Rattle.std.proofs.Common.{◌∙◌, ap, sym, ℕ, length}
-use Rattle.sj_plan.specs.Rect.{child}
-use Rattle.sj_meaning.specs.declared.job.Init.{Init}
-use Rattle.sj_lower.specs.Rows.{load_row, fill_row}
-use Rattle.sj_lower.specs.Lowering.{load_rows}
+use Rattle.sj_lower.proofs.Words.{ap, child, fill_row, Init, length, load_row, load_rows, sym, ℕ, ◌∙◌}
 use Rattle.sj_lower.proofs.Places.{length-places}
 use Rattle.sj_lower.proofs.lowerer.count_first.Goals as goal
 

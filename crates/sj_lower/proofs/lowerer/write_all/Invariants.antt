@@ -1,5 +1,4 @@
-use Rattle.std.proofs.Common.{◌≡◌, drop}
-use Rattle.sj_lower.specs.Seen.{actives_after_writes}
+use Rattle.sj_lower.proofs.Words.{actives_after_writes, drop, ◌≡◌}
 use Rattle.sj_lower.proofs.Tracking.{SamePlans}
 use Rattle.sj_lower.proofs.lowerer.write_all.Given as goal
 

@@ -1,7 +1,5 @@
-use Rattle.std.proofs.Common.{◌∙◌, ◌++◌, ℕ, ap, arith}
+use Rattle.sj_lower.proofs.Words.{ap, arith, combine_row, combine_rows, copy_at, ℕ, ◌++◌, ◌∙◌}
 use Rattle.sj_plan.proofs.Lists.{pushed_more}
-use Rattle.sj_lower.specs.Cells.{copy_at}
-use Rattle.sj_lower.specs.Rows.{combine_row, combine_rows}
 use Rattle.sj_lower.proofs.phase.push_close.Goals as goal
 
 pub loop-w-preserved : goal.loop-w-preserved

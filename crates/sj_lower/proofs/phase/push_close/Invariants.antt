@@ -1,5 +1,4 @@
-use Rattle.std.proofs.Common.{◌≡◌, ◌++◌}
-use Rattle.sj_lower.specs.Rows.{combine_rows}
+use Rattle.sj_lower.proofs.Words.{combine_rows, ◌++◌, ◌≡◌}
 use Rattle.sj_lower.proofs.phase.push_close.Given as goal
 
 -- the copies of the workers so far are combined

@@ -1,5 +1,4 @@
-use Rattle.std.proofs.Common.{◌≡◌, ◌++◌}
-use Rattle.sj_lower.specs.Rows.{init_rows}
+use Rattle.sj_lower.proofs.Words.{init_rows, ◌++◌, ◌≡◌}
 use Rattle.sj_lower.proofs.phase.push_inits.Given as goal
 
 -- the copies of the workers so far get the unit

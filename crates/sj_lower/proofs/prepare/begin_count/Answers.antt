@@ -1,4 +1,4 @@
-use Rattle.std.proofs.Common.{sym}
+use Rattle.sj_lower.proofs.Words.{sym}
 use Rattle.sj_lower.proofs.Preparations.{begin-valued, begin-unvalued}
 use Rattle.sj_lower.proofs.prepare.begin_count.Goals as goal
 

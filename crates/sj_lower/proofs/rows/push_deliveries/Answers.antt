@@ -1,10 +1,5 @@
-use Rattle.std.proofs.Common.{◌≡◌, ◌∙◌, ◌+◌, ap, sym, arith, rules, ℕ, length}
-use Rattle.sj_base.specs.declared.program.Delivery.{Delivery}
-use Rattle.sj_plan.specs.declared.rect.Rect.{Rect}
-use Rattle.sj_plan.specs.Rect.{child, children_of, place_of}
-use Rattle.sj_lower.specs.Lowering.{a_delivery}
-use Rattle.sj_lower.proofs.Children.{child-pushed, all-pushed, rect-at, length-children}
-use Rattle.sj_lower.proofs.Places.{place_at, number-place_at}
+use Rattle.sj_lower.proofs.Words.{a_delivery, ap, arith, child, children_of, Delivery, length, place_of, Rect, rules, sym, ℕ, ◌+◌, ◌∙◌, ◌≡◌}
+use Rattle.sj_lower.proofs.{Children.all-pushed, Children.child-pushed, Children.length-children, Children.rect-at, Places.number-place_at, Places.place_at}
 use Rattle.sj_lower.proofs.rows.push_deliveries.Goals as goal
 
 pub bounds-items-k : goal.bounds-items-k

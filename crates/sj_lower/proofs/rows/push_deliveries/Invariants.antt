@@ -1,5 +1,4 @@
-use Rattle.std.proofs.Common.{◌≡◌, ◌++◌}
-use Rattle.sj_lower.specs.Lowering.{a_delivery}
+use Rattle.sj_lower.proofs.Words.{a_delivery, ◌++◌, ◌≡◌}
 use Rattle.sj_lower.proofs.Children.{first_children}
 use Rattle.sj_lower.proofs.rows.push_deliveries.Given as goal
 

@@ -1,7 +1,4 @@
-use Rattle.std.proofs.Common.{◌∙◌, ap, arith, ℕ}
-use Rattle.sj_base.specs.declared.ids.Cell.{Cell}
-use Rattle.sj_lower.specs.Cells.{cells_from}
-use Rattle.sj_lower.specs.Rows.{deliver_row}
+use Rattle.sj_lower.proofs.Words.{ap, arith, Cell, cells_from, deliver_row, ℕ, ◌∙◌}
 use Rattle.sj_lower.proofs.Children.{child-pushed, all-pushed, cell-at}
 use Rattle.sj_lower.proofs.rows.push_delivers.Goals as goal
 

@@ -1,6 +1,4 @@
-use Rattle.std.proofs.Common.{◌≡◌, ◌++◌, ℕ}
-use Rattle.sj_lower.specs.Cells.{cells_from}
-use Rattle.sj_lower.specs.Rows.{deliver_row}
+use Rattle.sj_lower.proofs.Words.{cells_from, deliver_row, ℕ, ◌++◌, ◌≡◌}
 use Rattle.sj_lower.proofs.Children.{first_children}
 use Rattle.sj_lower.proofs.rows.push_delivers.Given as goal
 

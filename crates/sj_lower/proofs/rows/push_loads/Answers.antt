@@ -1,11 +1,4 @@
-use Rattle.std.proofs.Common.{◌≡◌, ◌∙◌, ◌++◌, ◌∷◌, [], ap, sym, rules}
-use Rattle.sj_base.specs.declared.ids.Cell.{Cell}
-use Rattle.sj_base.specs.declared.mode.Mode.TheVariants.{W}
-use Rattle.sj_base.specs.declared.program.Lowered.{Lowered}
-use Rattle.sj_base.specs.Mode.{access}
-use Rattle.sj_codelet.specs.declared.kernel.Kernel.TheVariants.{Load}
-use Rattle.sj_codelet.specs.Kernel.{codelet_of}
-use Rattle.sj_lower.specs.Rows.{task_by}
+use Rattle.sj_lower.proofs.Words.{[], access, ap, Cell, codelet_of, Load, Lowered, rules, sym, task_by, W, ◌++◌, ◌∙◌, ◌∷◌, ◌≡◌}
 use Rattle.sj_lower.proofs.Children.{one-load}
 use Rattle.sj_lower.proofs.rows.push_loads.Goals as goal
 

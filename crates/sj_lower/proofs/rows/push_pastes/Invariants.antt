@@ -1,7 +1,5 @@
-use Rattle.std.proofs.Common.{◌≡◌, ◌++◌, map, take}
-use Rattle.sj_plan.specs.Paste.{pastes_of}
-use Rattle.sj_lower.specs.Cells.{cells_from}
-use Rattle.sj_lower.specs.Rows.{paste_row}
+use Rattle.sj_lower.proofs.Words.{cells_from, map, paste_row, pastes_of, ◌++◌, ◌≡◌}
+use Rattle.std.proofs.Common.{take}
 use Rattle.sj_lower.proofs.rows.push_pastes.Given as goal
 
 -- the tasks of the pastes so far

@@ -1,11 +1,5 @@
-use Rattle.std.proofs.Common.{◌≡◌, ◌∙◌, ◌+◌, ap, arith, rules, ℕ, length}
-use Rattle.sj_base.specs.declared.ids.Cell.{Cell}
-use Rattle.sj_plan.specs.declared.rect.Rect.{Rect}
-use Rattle.sj_plan.specs.Rect.{child, children_of}
-use Rattle.sj_lower.specs.Cells.{cells_from}
-use Rattle.sj_lower.specs.Rows.{load_row}
-use Rattle.sj_lower.proofs.Children.{child-pushed, all-pushed, cell-at, rect-at, length-children}
-use Rattle.sj_lower.proofs.Places.{place_at}
+use Rattle.sj_lower.proofs.Words.{ap, arith, Cell, cells_from, child, children_of, length, load_row, Rect, rules, ℕ, ◌+◌, ◌∙◌, ◌≡◌}
+use Rattle.sj_lower.proofs.{Children.all-pushed, Children.cell-at, Children.child-pushed, Children.length-children, Children.rect-at, Places.place_at}
 use Rattle.sj_lower.proofs.rows.push_windows.Goals as goal
 
 pub bounds-items-k : goal.bounds-items-k

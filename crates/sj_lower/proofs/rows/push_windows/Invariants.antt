@@ -1,7 +1,4 @@
-use Rattle.std.proofs.Common.{◌≡◌, ◌++◌, ℕ}
-use Rattle.sj_plan.specs.Rect.{child}
-use Rattle.sj_lower.specs.Cells.{cells_from}
-use Rattle.sj_lower.specs.Rows.{load_row}
+use Rattle.sj_lower.proofs.Words.{cells_from, child, load_row, ℕ, ◌++◌, ◌≡◌}
 use Rattle.sj_lower.proofs.Children.{first_children}
 use Rattle.sj_lower.proofs.rows.push_windows.Given as goal
 

@@ -1,5 +1,5 @@
-use Rattle.std.proofs.Common.{◌≡◌, ◌<◌, All, length, take}
-use Rattle.sj_machine.specs.Plan.{marked}
+use Rattle.sj_machine.proofs.Words.{length, marked, take, ◌<◌, ◌≡◌}
+use Rattle.std.proofs.Common.{All}
 use Rattle.sj_machine.proofs.claiming.mark_all.Given as goal
 
 abbrev pub invariant-loop-cell : goal.invariant-loop-cell

@@ -1,4 +1,4 @@
-use Rattle.std.proofs.Common.{arith, refl}
+use Rattle.sj_machine.proofs.Words.{arith, refl}
 use Rattle.sj_machine.proofs.Taking.{taking-ends, taking-has, taking-next, taking-pins}
 use Rattle.sj_machine.proofs.claiming.take_all.Goals as goal
 

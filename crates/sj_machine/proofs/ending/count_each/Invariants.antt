@@ -1,5 +1,5 @@
-use Rattle.std.proofs.Common.{◌≡◌, ◌<◌, ◌+◌, ◌^◌, All, length, take}
-use Rattle.sj_machine.specs.Ending.{written_each}
+use Rattle.sj_machine.proofs.Words.{length, take, written_each, ◌+◌, ◌<◌, ◌^◌, ◌≡◌}
+use Rattle.std.proofs.Common.{All}
 use Rattle.sj_machine.proofs.ending.count_each.Given as goal
 
 abbrev pub invariant-loop-cell : goal.invariant-loop-cell

@@ -1,6 +1,4 @@
-use Rattle.std.proofs.Common.{◌≡◌, take}
-use Rattle.sj_node.specs.Store.{with_entries}
-use Rattle.sj_machine.specs.Ending.{unpinned_each}
+use Rattle.sj_machine.proofs.Words.{take, unpinned_each, with_entries, ◌≡◌}
 use Rattle.sj_machine.proofs.ending.unpin_each.Given as goal
 
 abbrev pub invariant-loop-cell : goal.invariant-loop-cell

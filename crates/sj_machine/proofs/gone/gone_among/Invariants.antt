@@ -1,4 +1,4 @@
-use Rattle.sj_machine.specs.Gone.{AreGoneIn}
+use Rattle.sj_machine.proofs.Words.{AreGoneIn}
 use Rattle.sj_machine.proofs.gone.gone_among.Given as goal
 
 abbrev pub invariant-loop-i : goal.invariant-loop-i

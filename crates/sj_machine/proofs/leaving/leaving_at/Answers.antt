@@ -1,6 +1,5 @@
-use Rattle.std.proofs.Common.{sym}
+use Rattle.sj_machine.proofs.Words.{is_leaving_at, sym}
 use Rattle.sj_base.proofs.Lists.{find-passes}
-use Rattle.sj_machine.specs.Planning.{is_leaving_at}
 use Rattle.sj_machine.proofs.leaving.leaving_at.Goals as goal
 
 pub returns-in-Some-clause-some : goal.returns-in-Some-clause-some

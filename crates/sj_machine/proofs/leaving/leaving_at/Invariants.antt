@@ -1,5 +1,4 @@
-use Rattle.std.proofs.Common.{◌≡◌, ◌<◌, ℕ, None, find}
-use Rattle.sj_machine.specs.Planning.{is_leaving_at, victims_left}
+use Rattle.sj_machine.proofs.Words.{find, is_leaving_at, None, victims_left, ℕ, ◌<◌, ◌≡◌}
 use Rattle.sj_machine.proofs.leaving.leaving_at.Given as goal
 
 abbrev pub invariant-loop-i : goal.invariant-loop-i

@@ -1,5 +1,4 @@
-use Rattle.std.proofs.Common.{◌≡◌, map, take}
-use Rattle.sj_core.specs.Needs.{tile_bytes}
+use Rattle.sj_machine.proofs.Words.{map, take, tile_bytes, ◌≡◌}
 use Rattle.sj_machine.proofs.needs.bytes_of.Given as goal
 
 abbrev pub invariant-loop-cell : goal.invariant-loop-cell

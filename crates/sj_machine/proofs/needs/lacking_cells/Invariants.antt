@@ -1,7 +1,4 @@
-use Rattle.std.proofs.Common.{◌≡◌, ◌≤◌, ◌++◌, drop, filter, length, not}
-use Rattle.sj_core.specs.Program.{distinct}
-use Rattle.sj_machine.specs.Cells.{mark_at}
-use Rattle.sj_core.specs.Machine.{is_entry}
+use Rattle.sj_machine.proofs.Words.{distinct, drop, filter, is_entry, length, mark_at, not, ◌++◌, ◌≡◌, ◌≤◌}
 use Rattle.sj_machine.proofs.needs.lacking_cells.Given as goal
 
 abbrev pub invariant-loop-i : goal.invariant-loop-i

@@ -1,6 +1,4 @@
-use Rattle.std.proofs.Common.{◌≡◌, ◌≤◌, ◌*◌, ◌^◌, filter, sum_by, take}
-use Rattle.sj_base.specs.Mode.{is_scratch}
-use Rattle.sj_core.specs.Needs.{tile_bytes}
+use Rattle.sj_machine.proofs.Words.{filter, is_scratch, sum_by, take, tile_bytes, ◌*◌, ◌^◌, ◌≡◌, ◌≤◌}
 use Rattle.sj_machine.proofs.needs.scratch_bytes.Given as goal
 
 abbrev pub invariant-loop-access : goal.invariant-loop-access

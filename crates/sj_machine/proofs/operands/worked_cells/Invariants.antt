@@ -1,5 +1,4 @@
-use Rattle.std.proofs.Common.{◌≡◌, ◌≤◌, length, take}
-use Rattle.sj_machine.specs.Operands.{worked_among}
+use Rattle.sj_machine.proofs.Words.{length, take, worked_among, ◌≡◌, ◌≤◌}
 use Rattle.sj_machine.proofs.operands.worked_cells.Given as goal
 
 abbrev pub invariant-loop-access : goal.invariant-loop-access

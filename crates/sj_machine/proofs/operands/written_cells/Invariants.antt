@@ -1,5 +1,4 @@
-use Rattle.std.proofs.Common.{◌≡◌, ◌≤◌, length, take}
-use Rattle.sj_machine.specs.Operands.{written_among}
+use Rattle.sj_machine.proofs.Words.{length, take, written_among, ◌≡◌, ◌≤◌}
 use Rattle.sj_machine.proofs.operands.written_cells.Given as goal
 
 abbrev pub invariant-loop-access : goal.invariant-loop-access

@@ -1,7 +1,4 @@
-use Rattle.std.proofs.Common.{◌≤◌, ◌∙◌, List, ap, length, subst, sym}
-use Rattle.std.specs.Prelude.{All}
-use Rattle.sj_base.specs.declared.mode.Access.{Access}
-use Rattle.sj_machine.specs.Operands.{CanWorkOn, worked_among}
+use Rattle.sj_machine.proofs.Words.{Access, All, ap, CanWorkOn, length, List, subst, sym, worked_among, ◌∙◌, ◌≤◌}
 use Rattle.sj_machine.proofs.plan.cells_for.Goals as goal
 
 pub worked_cells-requires-clause-can : goal.worked_cells-requires-clause-can

@@ -1,4 +1,4 @@
-use Rattle.std.proofs.Common.{◌∙◌}
+use Rattle.sj_machine.proofs.Words.{◌∙◌}
 use Rattle.sj_machine.proofs.Marked.{lacking-marked}
 use Rattle.sj_machine.proofs.plan.lacking_on.Goals as goal
 

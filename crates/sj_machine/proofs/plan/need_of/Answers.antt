@@ -1,4 +1,4 @@
-use Rattle.std.proofs.Common.{arith}
+use Rattle.sj_machine.proofs.Words.{arith}
 use Rattle.sj_machine.proofs.ClaimPlanning.{lacking-small, lacking-sum, work-few}
 use Rattle.sj_machine.proofs.plan.need_of.Goals as goal
 

@@ -1,7 +1,4 @@
-use Rattle.std.proofs.Common.{◌∙◌, List, ap, filter, sum_by}
-use Rattle.sj_base.specs.declared.mode.Access.{Access}
-use Rattle.sj_base.specs.Mode.{is_scratch}
-use Rattle.sj_core.specs.Needs.{tile_bytes}
+use Rattle.sj_machine.proofs.Words.{Access, ap, filter, is_scratch, List, sum_by, tile_bytes, ◌∙◌}
 use Rattle.sj_machine.proofs.plan.scratch_for.Goals as goal
 
 pub returns-clause-bytes : goal.returns-clause-bytes

@@ -1,5 +1,4 @@
-use Rattle.std.proofs.Common.{◌≡◌, map, take}
-use Rattle.sj_node.specs.Store.{empty}
+use Rattle.sj_machine.proofs.Words.{empty, map, take, ◌≡◌}
 use Rattle.sj_machine.proofs.rows.empty_nodes.Given as goal
 
 abbrev pub invariant-loop-size : goal.invariant-loop-size

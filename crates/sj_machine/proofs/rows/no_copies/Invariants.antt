@@ -1,4 +1,4 @@
-use Rattle.std.proofs.Common.{◌≡◌, replicate}
+use Rattle.sj_machine.proofs.Words.{replicate, ◌≡◌}
 use Rattle.sj_replica.specs.Replica.{no_copy}
 use Rattle.sj_machine.proofs.rows.no_copies.Given as goal
 

@@ -1,10 +1,5 @@
-use Rattle.std.proofs.Common.{◌<◌, ◌∙◌, ap, arith, length}
-use Rattle.std.proofs.lemmas.Bool.{cases_eq}
-use Rattle.std.proofs.lemmas.Grind.{get_or-set_at}
-use Rattle.std.proofs.lemmas.List.{get_or-set_other, length-set}
-use Rattle.sj_base.specs.declared.ids.Node.{Node}
-use Rattle.sj_node.specs.Entry.{has_entry}
-use Rattle.sj_node.specs.Store.{Store, empty}
+use Rattle.sj_machine.proofs.Words.{ap, arith, empty, has_entry, length, Node, Store, ◌<◌, ◌∙◌}
+use Rattle.std.proofs.lemmas.{Bool.cases_eq, Grind.get_or-set_at, List.get_or-set_other, List.length-set}
 use Rattle.sj_machine.proofs.running.evict_elsewhere.Goals as goal
 
 pub loop-k-preserved : goal.loop-k-preserved

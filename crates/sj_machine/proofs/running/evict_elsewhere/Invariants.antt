@@ -1,6 +1,4 @@
-use Rattle.std.proofs.Common.{◌≡◌, ◌<◌, ◌≤◌, ℕ, get_or, length}
-use Rattle.sj_node.specs.Store.{Store}
-use Rattle.sj_machine.specs.Running.{evicted_at}
+use Rattle.sj_machine.proofs.Words.{evicted_at, get_or, length, Store, ℕ, ◌<◌, ◌≡◌, ◌≤◌}
 use Rattle.sj_machine.proofs.running.evict_elsewhere.Given as goal
 
 abbrev pub invariant-loop-k : goal.invariant-loop-k

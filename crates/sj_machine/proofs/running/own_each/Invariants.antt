@@ -1,5 +1,5 @@
-use Rattle.std.proofs.Common.{◌≡◌, ◌<◌, All, length, take}
-use Rattle.sj_machine.specs.Running.{owned_each}
+use Rattle.sj_machine.proofs.Words.{length, owned_each, take, ◌<◌, ◌≡◌}
+use Rattle.std.proofs.Common.{All}
 use Rattle.sj_machine.proofs.running.own_each.Given as goal
 
 abbrev pub invariant-loop-cell : goal.invariant-loop-cell

@@ -1,5 +1,4 @@
-use Rattle.std.proofs.Common.{◌∙◌, arith, get_or, take}
-use Rattle.sj_base.specs.declared.ids.Cell.{Cell}
+use Rattle.sj_machine.proofs.Words.{arith, Cell, get_or, take, ◌∙◌}
 use Rattle.sj_node.proofs.Putting.{without_all-none, without_all_more}
 use Rattle.sj_machine.proofs.Entries.{absent-rest, unpinned-rest}
 use Rattle.sj_machine.proofs.running.remove_entries.Goals as goal

@@ -1,6 +1,4 @@
-use Rattle.std.proofs.Common.{◌≡◌, take}
-use Rattle.sj_node.specs.Entry.{without_all}
-use Rattle.sj_node.specs.Store.{with_entries}
+use Rattle.sj_machine.proofs.Words.{take, with_entries, without_all, ◌≡◌}
 use Rattle.sj_machine.proofs.running.remove_entries.Given as goal
 
 abbrev pub invariant-loop-cell : goal.invariant-loop-cell

@@ -1,8 +1,4 @@
-use Rattle.std.proofs.Common.{◌≡◌, ◌∙◌, List, ap, false, rules, sym}
-use Rattle.sj_node.specs.Entry.{NodeEntry}
-use Rattle.sj_node.specs.Store.{with_entries}
-use Rattle.sj_machine.specs.Cells.{mark_at}
-use Rattle.sj_core.specs.Machine.{is_entry}
+use Rattle.sj_machine.proofs.Words.{ap, false, is_entry, List, mark_at, NodeEntry, rules, sym, with_entries, ◌∙◌, ◌≡◌}
 use Rattle.sj_machine.proofs.Entries.{without_entry-absent}
 use Rattle.sj_machine.proofs.running.remove_entry.Goals as goal
 

@@ -1,8 +1,5 @@
-use Rattle.std.proofs.Common.{subst, sym}
+use Rattle.sj_board.proofs.Words.{BoardState, IsComplete, state, subst, sym}
 use Rattle.std.proofs.lemmas.Bool.{eq-eqb, eqb-true}
-use Rattle.sj_core.specs.Legal.{IsComplete}
-use Rattle.sj_board.specs.Standing.{state}
-use Rattle.sj_board.specs.Board.{BoardState}
 use Rattle.sj_board.proofs.Ends.{complete-none, none-undone}
 use Rattle.sj_board.proofs.board.Board.all_done.Goals as goal
 

@@ -1,15 +1,5 @@
-use Rattle.std.proofs.Common.{◌≡◌, None, refl, subst, sym}
-use Rattle.sj_base.specs.declared.trace.Event.TheVariants.{Move}
-use Rattle.sj_board.specs.Standing.{CanHappen, with_event}
-use Rattle.sj_board.specs.Sparing.{Spares}
-use Rattle.sj_board.proofs.BoardEnds.{stays-tried}
-use Rattle.sj_board.proofs.Boarding.{keeps-tried}
-use Rattle.sj_board.proofs.LastHeaders.{none-caused}
-use Rattle.std.specs.Prelude.{OnOk}
-use Rattle.sj_board.specs.Board.{BoardState}
-use Rattle.sj_board.proofs.SparingBoards.{tried-spares}
-use Rattle.sj_board.proofs.StillGone.{knows-tried}
-use Rattle.sj_board.proofs.UnitHands.{units-tried}
+use Rattle.sj_board.proofs.Words.{BoardState, CanHappen, Move, None, OnOk, refl, Spares, subst, sym, with_event, ◌≡◌}
+use Rattle.sj_board.proofs.{BoardEnds.stays-tried, Boarding.keeps-tried, LastHeaders.none-caused, SparingBoards.tried-spares, StillGone.knows-tried, UnitHands.units-tried}
 use Rattle.sj_board.proofs.board.Board.begin_move.Goals as goal
 
 pub invariant_of-self : goal.invariant_of-self

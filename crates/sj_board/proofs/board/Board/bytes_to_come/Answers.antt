@@ -1,8 +1,4 @@
-use Rattle.std.proofs.Common.{◌∙◌, ap}
-use Rattle.sj_core.specs.Needs.{node_of}
-use Rattle.sj_core.specs.Step.{to_come}
-use Rattle.sj_board.specs.Standing.{state}
-use Rattle.sj_board.specs.Board.{BoardState}
+use Rattle.sj_board.proofs.Words.{ap, BoardState, node_of, state, to_come, ◌∙◌}
 use Rattle.sj_board.proofs.board.Board.bytes_to_come.Goals as goal
 
 pub returns : goal.returns

@@ -1,18 +1,5 @@
-use Rattle.std.proofs.Common.{refl, ℕ, List, ◌≡◌, ◌∙◌, None, ap, subst, sym}
-use Rattle.std.specs.Prelude.{IfErr, OnErr, OnOk, Result}
-use Rattle.sj_base.specs.declared.trace.Event.TheVariants.{Claim}
-use Rattle.sj_machine.specs.Gone.{KnownGone}
-use Rattle.sj_machine.specs.Plan.{ClaimPlan}
-use Rattle.sj_machine.specs.Planning.{AnotherHasTask, IsWhy}
-use Rattle.sj_board.specs.Standing.{CanHappen, state}
-use Rattle.sj_machine.specs.declared.plan.Why.{Why}
-use Rattle.sj_board.specs.Board.{BoardState, IsIdle}
-use Rattle.sj_board.specs.Claimable.{MayAsk}
-use Rattle.sj_board.proofs.BoardEnds.{claims-alone, stays-claimed}
-use Rattle.sj_board.proofs.Taking.{lone-refusal, keeps-claimed_left, may-claim}
-use Rattle.sj_board.proofs.SparingBoards.{told-spares}
-use Rattle.sj_board.proofs.StillGone.{knows-claimed}
-use Rattle.sj_board.proofs.UnitHands.{units-event, units-set}
+use Rattle.sj_board.proofs.Words.{AnotherHasTask, ap, BoardState, CanHappen, Claim, ClaimPlan, IfErr, IsIdle, IsWhy, KnownGone, List, MayAsk, None, OnErr, OnOk, refl, Result, state, subst, sym, Why, ℕ, ◌∙◌, ◌≡◌}
+use Rattle.sj_board.proofs.{BoardEnds.claims-alone, BoardEnds.stays-claimed, SparingBoards.told-spares, StillGone.knows-claimed, Taking.keeps-claimed_left, Taking.lone-refusal, Taking.may-claim, UnitHands.units-event, UnitHands.units-set}
 use Rattle.sj_board.proofs.board.Board.claim.Goals as goal
 
 pub claim_plan_knowing-requires-clause-gone : goal.claim_plan_knowing-requires-clause-gone

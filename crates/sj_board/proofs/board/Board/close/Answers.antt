@@ -1,14 +1,6 @@
-use Rattle.std.proofs.Common.{subst, sym}
-use Rattle.sj_codelet.specs.Kernel.{out}
-use Rattle.sj_core.specs.Legal.{IsComplete}
-use Rattle.sj_board.specs.Standing.{AllTell, state}
-use Rattle.sj_board.specs.Board.{BoardState}
-use Rattle.sj_board.specs.Delivered.{DeliversEach}
-use Rattle.sj_board.proofs.BoardEnds.{closes}
-use Rattle.sj_board.proofs.UnitHands.{units-none}
-use Rattle.sj_disk.specs.Lending.{NoneIsOut}
-use Rattle.std.specs.Prelude.{All, None, ◌≡◌}
-use Rattle.sj_board.specs.declared.hand.Hand.{Hand}
+use Rattle.sj_board.proofs.Words.{All, AllTell, BoardState, DeliversEach, Hand, IsComplete, NoneIsOut, out, state, subst, sym}
+use Rattle.sj_board.proofs.{BoardEnds.closes, UnitHands.units-none}
+use Rattle.std.specs.Prelude.{None, ◌≡◌}
 use Rattle.sj_board.proofs.board.Board.close.Goals as goal
 
 pub returns-clause-each : goal.returns-clause-each

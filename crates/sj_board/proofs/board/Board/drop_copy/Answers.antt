@@ -1,17 +1,5 @@
-use Rattle.std.proofs.Common.{ap, arith, length, refl, subst, sym, ◌<◌, ◌∙◌}
-use Rattle.sj_board.specs.Standing.{CanHappen, with_event}
-use Rattle.sj_board.specs.Sparing.{Spares}
-use Rattle.sj_board.proofs.BoardEnds.{stays}
-use Rattle.sj_board.proofs.Boarding.{keeps-run}
-use Rattle.sj_board.proofs.LastHeaders.{dropped-cause}
-use Rattle.sj_base.specs.declared.trace.Event.TheVariants.{Drop}
-use Rattle.sj_core.specs.Needs.{node_of}
-use Rattle.sj_board.specs.Board.{BoardState, IsBusy}
-use Rattle.sj_board.proofs.SparingBoards.{event-spares}
-use Rattle.sj_base.specs.declared.ids.Node.{Node}
-use Rattle.sj_base.specs.declared.trace.Event.{Event}
-use Rattle.sj_board.proofs.StillGone.{knows-event, knows-found, knows-read}
-use Rattle.sj_board.proofs.UnitHands.{units-event}
+use Rattle.sj_board.proofs.Words.{ap, arith, BoardState, CanHappen, Drop, Event, IsBusy, length, Node, node_of, refl, Spares, subst, sym, with_event, ◌<◌, ◌∙◌}
+use Rattle.sj_board.proofs.{BoardEnds.stays, Boarding.keeps-run, LastHeaders.dropped-cause, SparingBoards.event-spares, StillGone.knows-event, StillGone.knows-found, StillGone.knows-read, UnitHands.units-event}
 use Rattle.sj_board.proofs.board.Board.drop_copy.Goals as goal
 
 pub gone-gone-requires-clause-known : goal.gone-gone-requires-clause-known

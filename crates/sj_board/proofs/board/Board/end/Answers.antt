@@ -1,14 +1,5 @@
-use Rattle.std.proofs.Common.{refl, ◌∙◌, ap, subst, sym}
-use Rattle.sj_base.specs.declared.trace.Event.TheVariants.{End}
-use Rattle.sj_board.specs.Standing.{CanHappen, Standing}
-use Rattle.sj_board.specs.Sparing.{Spares}
-use Rattle.sj_board.specs.Board.{BoardState, HasTakenReleased, HasTask}
-use Rattle.sj_board.specs.Delivered.{gift_in}
-use Rattle.sj_board.proofs.BoardEnds.{ends, ends-gift, ends-has_room, ends-some, ends-staffed}
-use Rattle.sj_board.proofs.TaskEnding.{ends-can, ends-left, ends-ready, ends-task}
-use Rattle.sj_board.proofs.SparingBoards.{event-spares}
-use Rattle.sj_board.proofs.StillGone.{knows-event}
-use Rattle.sj_board.proofs.UnitHands.{units-event, units-set}
+use Rattle.sj_board.proofs.Words.{ap, BoardState, CanHappen, End, gift_in, HasTakenReleased, HasTask, refl, Spares, Standing, subst, sym, ◌∙◌}
+use Rattle.sj_board.proofs.{BoardEnds.ends, BoardEnds.ends-gift, BoardEnds.ends-has_room, BoardEnds.ends-some, BoardEnds.ends-staffed, SparingBoards.event-spares, StillGone.knows-event, TaskEnding.ends-can, TaskEnding.ends-left, TaskEnding.ends-ready, TaskEnding.ends-task, UnitHands.units-event, UnitHands.units-set}
 use Rattle.sj_board.proofs.board.Board.end.Goals as goal
 
 pub release-requires-clause-ready : goal.release-requires-clause-ready

@@ -1,12 +1,5 @@
-use Rattle.std.proofs.Common.{subst, sym, true, ◌≡◌}
-use Rattle.sj_board.specs.Standing.{IsMovingIn, is_node}
-use Rattle.sj_board.specs.Sparing.{SparesMoved}
-use Rattle.sj_board.specs.Board.{BoardState}
-use Rattle.sj_board.proofs.BoardEnds.{stays-moved}
-use Rattle.sj_board.proofs.Boarding.{keeps-moved}
-use Rattle.sj_board.proofs.SparingBoards.{moved-spares}
-use Rattle.sj_board.proofs.StillGone.{knows-moved}
-use Rattle.sj_board.proofs.UnitHands.{units-moved}
+use Rattle.sj_board.proofs.Words.{BoardState, is_node, IsMovingIn, SparesMoved, subst, sym, true, ◌≡◌}
+use Rattle.sj_board.proofs.{BoardEnds.stays-moved, Boarding.keeps-moved, SparingBoards.moved-spares, StillGone.knows-moved, UnitHands.units-moved}
 use Rattle.sj_board.proofs.board.Board.end_move_in.Goals as goal
 
 pub invariant_of-self : goal.invariant_of-self

@@ -1,12 +1,5 @@
-use Rattle.std.proofs.Common.{false, subst, sym, ◌≡◌}
-use Rattle.sj_board.specs.Standing.{IsMovingOut, is_node}
-use Rattle.sj_board.specs.Sparing.{SparesMoved}
-use Rattle.sj_board.specs.Board.{BoardState}
-use Rattle.sj_board.proofs.BoardEnds.{stays-moved}
-use Rattle.sj_board.proofs.Boarding.{keeps-moved}
-use Rattle.sj_board.proofs.SparingBoards.{moved-spares}
-use Rattle.sj_board.proofs.StillGone.{knows-moved}
-use Rattle.sj_board.proofs.UnitHands.{units-moved}
+use Rattle.sj_board.proofs.Words.{BoardState, false, is_node, IsMovingOut, SparesMoved, subst, sym, ◌≡◌}
+use Rattle.sj_board.proofs.{BoardEnds.stays-moved, Boarding.keeps-moved, SparingBoards.moved-spares, StillGone.knows-moved, UnitHands.units-moved}
 use Rattle.sj_board.proofs.board.Board.end_move_out.Goals as goal
 
 pub invariant_of-self : goal.invariant_of-self

@@ -1,8 +1,5 @@
-use Rattle.std.proofs.Common.{refl, subst, sym}
-use Rattle.sj_board.specs.Cause.{HasCause}
-use Rattle.sj_board.specs.Board.{BoardState, IsWorking}
-use Rattle.sj_board.proofs.Failing.{failed-left}
-use Rattle.sj_board.proofs.UnitHands.{units-set}
+use Rattle.sj_board.proofs.Words.{BoardState, HasCause, IsWorking, refl, subst, sym}
+use Rattle.sj_board.proofs.{Failing.failed-left, UnitHands.units-set}
 use Rattle.sj_board.proofs.board.Board.fail.Goals as goal
 
 pub invariant_of-self : goal.invariant_of-self

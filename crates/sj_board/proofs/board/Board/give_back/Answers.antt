@@ -1,9 +1,5 @@
-use Rattle.std.proofs.Common.{◌≡◌, refl, ◌<◌, length, subst, sym}
-use Rattle.sj_base.specs.declared.mode.Policy.TheVariants.{Prio}
-use Rattle.sj_base.specs.declared.program.Program.{Program}
-use Rattle.sj_board.specs.Board.{BoardState, WasGiven}
-use Rattle.sj_board.proofs.Giving.{back-absent, back-known, back-task, keeps-back_left}
-use Rattle.sj_board.proofs.UnitHands.{units-set}
+use Rattle.sj_board.proofs.Words.{BoardState, length, Prio, Program, refl, subst, sym, WasGiven, ◌<◌, ◌≡◌}
+use Rattle.sj_board.proofs.{Giving.back-absent, Giving.back-known, Giving.back-task, Giving.keeps-back_left, UnitHands.units-set}
 use Rattle.sj_board.proofs.board.Board.give_back.Goals as goal
 
 pub put_ready-requires-clause-task : goal.put_ready-requires-clause-task

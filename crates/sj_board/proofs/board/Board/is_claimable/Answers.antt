@@ -1,8 +1,5 @@
-use Rattle.std.proofs.Common.{◌∙◌, subst, sym}
-use Rattle.sj_machine.specs.ReadyTasks.{IsToBeTaken}
-use Rattle.sj_board.specs.Standing.{state}
+use Rattle.sj_board.proofs.Words.{BoardState, IsToBeTaken, state, subst, sym, ◌∙◌}
 use Rattle.sj_board.proofs.Stepping.{ready-counted}
-use Rattle.sj_board.specs.Board.{BoardState}
 use Rattle.sj_board.proofs.board.Board.is_claimable.Goals as goal
 
 pub returns-then-is_ready : goal.returns-then-is_ready

@@ -1,6 +1,4 @@
-use Rattle.std.proofs.Common.{subst}
-use Rattle.sj_board.specs.Board.{BoardState}
-use Rattle.sj_board.specs.BoardSound.{IsSoundBoard}
+use Rattle.sj_board.proofs.Words.{BoardState, IsSoundBoard, subst}
 use Rattle.sj_board.proofs.board.Board.is_sound.Goals as goal
 
 pub returns : goal.returns

@@ -1,13 +1,5 @@
-use Rattle.std.proofs.Common.{◌<◌, ap, arith, length, rules, subst, sym}
-use Rattle.sj_base.specs.declared.program.Program.{Program}
-use Rattle.sj_board.specs.Standing.{Standing}
-use Rattle.sj_board.specs.Delivered.{Deliveries}
-use Rattle.sj_board.specs.Preparing.{IsPrepared, IsReadyToDeliver}
-use Rattle.sj_board.proofs.BoardEnds.{opens-run}
-use Rattle.sj_board.proofs.Opening.{opens-with}
-use Rattle.sj_board.proofs.StillGone.{knows-none}
-use Rattle.sj_board.proofs.UnitHands.{units-first}
-use Rattle.sj_board.specs.Units.{UnitsStand}
+use Rattle.sj_board.proofs.Words.{ap, arith, Deliveries, IsPrepared, IsReadyToDeliver, length, Program, rules, Standing, subst, sym, UnitsStand, ◌<◌}
+use Rattle.sj_board.proofs.{BoardEnds.opens-run, Opening.opens-with, StillGone.knows-none, UnitHands.units-first}
 use Rattle.sj_board.proofs.board.Board.make.Goals as goal
 
 pub invariant_of-result : goal.invariant_of-result

@@ -1,11 +1,5 @@
-use Rattle.std.proofs.Common.{◌≡◌, ◌∙◌, ap, refl, subst, sym}
-use Rattle.sj_base.specs.declared.mode.Policy.TheVariants.{Prio}
-use Rattle.sj_base.specs.declared.program.Machine.{Machine}
-use Rattle.sj_base.specs.declared.program.Program.{Program}
-use Rattle.sj_board.specs.Passing.{IsPoolOf}
-use Rattle.sj_board.specs.Board.{BoardState, IsFree}
-use Rattle.sj_board.proofs.Giving.{keeps-next_left, pool-of, pool-policy}
-use Rattle.sj_board.proofs.UnitHands.{units-set}
+use Rattle.sj_board.proofs.Words.{ap, BoardState, IsFree, IsPoolOf, Machine, Prio, Program, refl, subst, sym, ◌∙◌, ◌≡◌}
+use Rattle.sj_board.proofs.{Giving.keeps-next_left, Giving.pool-of, Giving.pool-policy, UnitHands.units-set}
 use Rattle.sj_board.proofs.board.Board.next.Goals as goal
 
 pub take_behind-task-requires-clause-pool : goal.take_behind-task-requires-clause-pool

@@ -1,11 +1,5 @@
-use Rattle.std.proofs.Common.{◌≡◌, ◌⊎◌, None, subst, sym}
-use Rattle.sj_board.specs.Standing.{state}
-use Rattle.sj_board.specs.NextStep.{AnotherGoesOn}
-use Rattle.sj_board.specs.Board.{BoardState, board_state, IsWorking, RunsNone, hand_of, transfer_of}
-use Rattle.sj_board.specs.Todo.{CanBegin, HasDiskIn, IsCounted, IsMoverOf, IsTodoOf}
-use Rattle.sj_board.specs.Units.{AnotherHasUnit}
-use Rattle.sj_board.proofs.NextBoards.{hand-read, next-can, next-ends, next-mover}
-use Rattle.sj_board.proofs.WaitsOut.{step-can, step-counted, step-ends, step-in, step-mover, step-todo}
+use Rattle.sj_board.proofs.Words.{AnotherGoesOn, AnotherHasUnit, board_state, BoardState, CanBegin, hand_of, HasDiskIn, IsCounted, IsMoverOf, IsTodoOf, IsWorking, None, RunsNone, state, subst, sym, transfer_of, ◌≡◌, ◌⊎◌}
+use Rattle.sj_board.proofs.{NextBoards.hand-read, NextBoards.next-can, NextBoards.next-ends, NextBoards.next-mover, WaitsOut.step-can, WaitsOut.step-counted, WaitsOut.step-ends, WaitsOut.step-in, WaitsOut.step-mover, WaitsOut.step-todo}
 use Rattle.sj_board.proofs.board.Board.plan_of.Goals as goal
 
 pub returns-in-Some-clause-todo : goal.returns-in-Some-clause-todo

@@ -1,12 +1,5 @@
-use Rattle.std.proofs.Common.{◌≡◌, ◌<◌, Some, arith, length, subst, sym}
-use Rattle.sj_board.specs.Standing.{IsFetching, IsTileMoved}
-use Rattle.std.specs.Prelude.{OnOk}
-use Rattle.sj_base.specs.Array.{Array}
-use Rattle.sj_board.specs.DiskUnits.{HasFetchedMoved}
-use Rattle.sj_board.specs.Board.{BoardState, IsBusy, hand_of}
-use Rattle.sj_board.proofs.BoardEnds.{stays-stored}
-use Rattle.sj_board.proofs.StillGone.{knows-stored}
-use Rattle.sj_board.proofs.UnitBoards.{fetched-worked, keeps-unit_left, put-board, put-others, put-units, tiles-now}
+use Rattle.sj_board.proofs.Words.{arith, Array, BoardState, hand_of, HasFetchedMoved, IsBusy, IsFetching, IsTileMoved, length, OnOk, Some, subst, sym, ◌<◌, ◌≡◌}
+use Rattle.sj_board.proofs.{BoardEnds.stays-stored, StillGone.knows-stored, UnitBoards.fetched-worked, UnitBoards.keeps-unit_left, UnitBoards.put-board, UnitBoards.put-others, UnitBoards.put-units, UnitBoards.tiles-now}
 use Rattle.sj_board.proofs.board.Board.put_read.Goals as goal
 
 pub hold_unit-requires : goal.hold_unit-requires

@@ -1,10 +1,5 @@
-use Rattle.std.proofs.Common.{◌≡◌, ◌∙◌, ◌<◌, Some, ap, arith, length, refl, subst, sym}
-use Rattle.sj_board.specs.Standing.{Standing}
-use Rattle.sj_board.specs.DiskUnits.{IsUnitOf}
-use Rattle.sj_board.specs.Board.{BoardState, IsBusy, hand_of}
-use Rattle.sj_board.proofs.BoardEnds.{stays-stored}
-use Rattle.sj_board.proofs.StillGone.{knows-stored}
-use Rattle.sj_board.proofs.UnitBoards.{keeps-unit_left, put-board, put-others, put-units, untouched-back, untouched-given, untouched-only}
+use Rattle.sj_board.proofs.Words.{ap, arith, BoardState, hand_of, IsBusy, IsUnitOf, length, refl, Some, Standing, subst, sym, ◌<◌, ◌∙◌, ◌≡◌}
+use Rattle.sj_board.proofs.{BoardEnds.stays-stored, StillGone.knows-stored, UnitBoards.keeps-unit_left, UnitBoards.put-board, UnitBoards.put-others, UnitBoards.put-units, UnitBoards.untouched-back, UnitBoards.untouched-given, UnitBoards.untouched-only}
 use Rattle.sj_board.proofs.board.Board.put_untouched.Goals as goal
 
 pub hold_unit-requires : goal.hold_unit-requires

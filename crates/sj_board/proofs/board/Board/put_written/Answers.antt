@@ -1,10 +1,5 @@
-use Rattle.std.proofs.Common.{◌≡◌, ◌<◌, Some, arith, length, subst, sym}
-use Rattle.sj_board.specs.Standing.{IsMovingOut}
-use Rattle.sj_board.specs.DiskUnits.{HasStoredMoved}
-use Rattle.sj_board.specs.Board.{BoardState, IsBusy, hand_of}
-use Rattle.sj_board.proofs.BoardEnds.{stays-stored}
-use Rattle.sj_board.proofs.StillGone.{knows-stored}
-use Rattle.sj_board.proofs.UnitBoards.{stored-worked, keeps-unit_left, put-board, put-others, put-units}
+use Rattle.sj_board.proofs.Words.{arith, BoardState, hand_of, HasStoredMoved, IsBusy, IsMovingOut, length, Some, subst, sym, ◌<◌, ◌≡◌}
+use Rattle.sj_board.proofs.{BoardEnds.stays-stored, StillGone.knows-stored, UnitBoards.keeps-unit_left, UnitBoards.put-board, UnitBoards.put-others, UnitBoards.put-units, UnitBoards.stored-worked}
 use Rattle.sj_board.proofs.board.Board.put_written.Goals as goal
 
 pub hold_unit-requires : goal.hold_unit-requires

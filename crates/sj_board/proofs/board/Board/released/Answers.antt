@@ -1,9 +1,6 @@
-use Rattle.std.proofs.Common.{◌≡◌, ◌≢◌, ◌↔◌, ◌∙◌, ◌<◌, ◌≤◌, [], All, IfSome, None, ap, subst, sym}
-use Rattle.sj_base.specs.declared.mode.Policy.TheVariants.{Prio}
-use Rattle.sj_board.specs.Board.{BoardState, has_released, released_of}
-use Rattle.sj_board.specs.Claimable.{IsReadyWhereItWaits}
-use Rattle.sj_board.proofs.Policies.{other-of}
-use Rattle.sj_board.proofs.TakingAway.{released-first, released-is, released-keeps, released-least, released-none, released-ready}
+use Rattle.sj_board.proofs.Words.{[], ap, BoardState, has_released, IsReadyWhereItWaits, None, Prio, released_of, subst, sym, ◌<◌, ◌↔◌, ◌∙◌, ◌≡◌, ◌≢◌, ◌≤◌}
+use Rattle.std.proofs.Common.{All, IfSome}
+use Rattle.sj_board.proofs.{Policies.other-of, TakingAway.released-first, TakingAway.released-is, TakingAway.released-keeps, TakingAway.released-least, TakingAway.released-none, TakingAway.released-ready}
 use Rattle.sj_board.proofs.board.Board.released.Goals as goal
 
 pub invariant_of-self : goal.invariant_of-self

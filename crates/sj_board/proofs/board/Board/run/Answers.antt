@@ -1,14 +1,5 @@
-use Rattle.std.proofs.Common.{◌≡◌, ◌<◌, None, ap, arith, length, subst, sym}
-use Rattle.sj_base.specs.declared.trace.Event.TheVariants.{Run}
-use Rattle.sj_board.specs.Standing.{CanHappen, Standing}
-use Rattle.sj_board.specs.Tiles.{array_in}
-use Rattle.sj_board.specs.Board.{BoardState, HasTask, board_state}
-use Rattle.sj_board.specs.BoardSound.{IsKept}
-use Rattle.sj_board.proofs.BoardEnds.{begins}
-use Rattle.sj_board.proofs.SparingBoards.{told-spares}
-use Rattle.sj_board.proofs.Starting.{keeps-begun_left}
-use Rattle.sj_board.proofs.StillGone.{knows-event, knows-found, knows-read}
-use Rattle.sj_board.proofs.UnitHands.{units-tried}
+use Rattle.sj_board.proofs.Words.{ap, arith, array_in, board_state, BoardState, CanHappen, HasTask, IsKept, length, None, Run, Standing, subst, sym, ◌<◌, ◌≡◌}
+use Rattle.sj_board.proofs.{BoardEnds.begins, SparingBoards.told-spares, Starting.keeps-begun_left, StillGone.knows-event, StillGone.knows-found, StillGone.knows-read, UnitHands.units-tried}
 use Rattle.sj_board.proofs.board.Board.run.Goals as goal
 
 pub invariant_of-self : goal.invariant_of-self

@@ -1,7 +1,5 @@
-use Rattle.std.proofs.Common.{refl, subst, sym}
-use Rattle.sj_board.specs.Board.{BoardState, IsOver, IsWorking}
-use Rattle.sj_board.proofs.Failing.{stopped-left}
-use Rattle.sj_board.proofs.UnitHands.{units-set}
+use Rattle.sj_board.proofs.Words.{BoardState, IsOver, IsWorking, refl, subst, sym}
+use Rattle.sj_board.proofs.{Failing.stopped-left, UnitHands.units-set}
 use Rattle.sj_board.proofs.board.Board.stop.Goals as goal
 
 pub invariant_of-self : goal.invariant_of-self

@@ -1,12 +1,6 @@
-use Rattle.std.proofs.Common.{◌≡◌, ◌∙◌, ◌<◌, None, Some, ap, arith, length, subst, sym}
-use Rattle.sj_base.specs.declared.ids.Cell.{Cell}
-use Rattle.sj_board.specs.Standing.{Standing}
-use Rattle.sj_board.specs.DiskUnits.{HasBlockOf}
-use Rattle.sj_board.specs.Board.{BoardState, IsBusy, hand_in, hand_of, has_taken}
+use Rattle.sj_board.proofs.Words.{ap, arith, BoardState, Cell, hand_in, hand_of, has_taken, HasBlockOf, IsBusy, length, None, Some, Standing, subst, sym, ◌<◌, ◌∙◌, ◌≡◌}
 use Rattle.std.specs.List.{slice_set}
-use Rattle.sj_board.proofs.BoardEnds.{stays-stored}
-use Rattle.sj_board.proofs.StillGone.{knows-stored}
-use Rattle.sj_board.proofs.UnitBoards.{keeps-unit_left, taken-back, taken-board, taken-only, taken-units}
+use Rattle.sj_board.proofs.{BoardEnds.stays-stored, StillGone.knows-stored, UnitBoards.keeps-unit_left, UnitBoards.taken-back, UnitBoards.taken-board, UnitBoards.taken-only, UnitBoards.taken-units}
 use Rattle.sj_board.proofs.board.Board.take_unit.Goals as goal
 
 pub hold_unit-requires : goal.hold_unit-requires

@@ -1,6 +1,4 @@
-use Rattle.std.proofs.Common.{◌∙◌, ap, List, Option, set}
-use Rattle.sj_base.specs.Array.{Array}
-use Rattle.sj_board.specs.Tiles.{array_in}
+use Rattle.sj_board.proofs.Words.{ap, Array, array_in, List, Option, set, ◌∙◌}
 use Rattle.sj_board.proofs.LoanedTiles.{arrays-set}
 use Rattle.sj_board.proofs.gifts.Gifts.keep.Goals as goal
 

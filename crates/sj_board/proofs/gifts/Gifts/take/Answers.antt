@@ -1,6 +1,4 @@
-use Rattle.std.proofs.Common.{◌∙◌, None, ap, List, Option, set}
-use Rattle.sj_base.specs.Array.{Array}
-use Rattle.sj_board.specs.Tiles.{arrays_in}
+use Rattle.sj_board.proofs.Words.{ap, Array, arrays_in, List, None, Option, set, ◌∙◌}
 use Rattle.sj_board.proofs.LoanedTiles.{arrays-set}
 use Rattle.sj_board.proofs.gifts.Gifts.take.Goals as goal
 

@@ -1,9 +1,5 @@
-use Rattle.std.proofs.Common.{◌∙◌, List, ap, refl, subst, sym}
-use Rattle.sj_base.specs.declared.trace.Event.TheVariants.{Move}
-use Rattle.sj_board.specs.Tiles.{CanShare, tile_kept}
-use Rattle.sj_board.proofs.EventTiles.{begin-can_share, begin-share, event-room, keeps-begin, now-can}
-use Rattle.sj_board.proofs.Keeping.{keeps-told}
-use Rattle.sj_board.proofs.TileTables.{Places}
+use Rattle.sj_board.proofs.Words.{ap, CanShare, List, Move, refl, subst, sym, tile_kept, ◌∙◌}
+use Rattle.sj_board.proofs.{EventTiles.begin-can_share, EventTiles.begin-share, EventTiles.event-room, EventTiles.keeps-begin, EventTiles.now-can, Keeping.keeps-told, TileTables.Places}
 use Rattle.sj_board.proofs.run_state.RunState.begin_move.Goals as goal
 
 pub share_of-requires : goal.share_of-requires

@@ -1,6 +1,4 @@
-use Rattle.std.proofs.Common.{◌≡◌}
-use Rattle.sj_core.specs.Needs.{node_of}
-use Rattle.sj_core.specs.Step.{to_come}
+use Rattle.sj_board.proofs.Words.{node_of, to_come, ◌≡◌}
 use Rattle.sj_board.proofs.Answering.{from-rows}
 use Rattle.sj_board.proofs.run_state.RunState.bytes_to_come.Goals as goal
 

@@ -1,9 +1,5 @@
-use Rattle.std.proofs.Common.{refl}
-use Rattle.sj_base.specs.declared.trace.Event.TheVariants.{Claim}
-use Rattle.sj_machine.specs.Plan.{IsPlan}
-use Rattle.sj_board.proofs.Answering.{to-rows}
-use Rattle.sj_board.proofs.EventTiles.{event-room, keeps-claim, now-can}
-use Rattle.sj_board.proofs.Keeping.{keeps-told}
+use Rattle.sj_board.proofs.Words.{Claim, IsPlan, refl}
+use Rattle.sj_board.proofs.{Answering.to-rows, EventTiles.event-room, EventTiles.keeps-claim, EventTiles.now-can, Keeping.keeps-told}
 use Rattle.sj_board.proofs.run_state.RunState.claim.Goals as goal
 
 pub claim-requires-clause-plan : goal.claim-requires-clause-plan

@@ -1,5 +1,4 @@
-use Rattle.std.specs.Prelude.{IfErr, IfOk}
-use Rattle.sj_machine.specs.Planning.{IsWhy}
+use Rattle.sj_board.proofs.Words.{IfErr, IfOk, IsWhy}
 use Rattle.sj_board.proofs.Answering.{from-rows}
 use Rattle.sj_board.proofs.run_state.RunState.claim_plan_knowing.Goals as goal
 

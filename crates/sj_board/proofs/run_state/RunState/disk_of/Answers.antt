@@ -1,6 +1,4 @@
-use Rattle.std.proofs.Common.{◌≡◌, ◌∙◌, ◌<◌, Some, ap, is_some, length, subst, sym}
-use Rattle.sj_core.specs.Step.{disk_of}
-use Rattle.sj_board.specs.Standing.{Standing}
+use Rattle.sj_board.proofs.Words.{ap, disk_of, is_some, length, Some, Standing, subst, sym, ◌<◌, ◌∙◌, ◌≡◌}
 use Rattle.sj_board.proofs.Answering.{disk-some, home-is}
 use Rattle.sj_board.proofs.run_state.RunState.disk_of.Goals as goal
 

@@ -1,6 +1,5 @@
-use Rattle.sj_base.specs.declared.trace.Event.TheVariants.{Drop}
-use Rattle.sj_board.proofs.EventTiles.{drop-place, event-room, keeps-drop, now-can, rows-can}
-use Rattle.sj_board.proofs.Keeping.{keeps-told}
+use Rattle.sj_board.proofs.Words.{Drop}
+use Rattle.sj_board.proofs.{EventTiles.drop-place, EventTiles.event-room, EventTiles.keeps-drop, EventTiles.now-can, EventTiles.rows-can, Keeping.keeps-told}
 use Rattle.sj_board.proofs.run_state.RunState.drop_copy.Goals as goal
 
 pub drop_copy-requires : goal.drop_copy-requires

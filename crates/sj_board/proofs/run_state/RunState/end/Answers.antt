@@ -1,10 +1,5 @@
-use Rattle.std.proofs.Common.{◌≡◌, ◌∙◌, ap, subst, sym}
-use Rattle.sj_base.specs.declared.program.Lowered.{Lowered}
-use Rattle.sj_base.specs.declared.trace.Event.TheVariants.{End}
-use Rattle.sj_core.specs.Program.{task_of}
-use Rattle.sj_board.specs.Standing.{CanHappen, Standing}
-use Rattle.sj_board.proofs.EndingTiles.{found-can_put, found-keeps_end}
-use Rattle.sj_board.proofs.Keeping.{has-room}
+use Rattle.sj_board.proofs.Words.{ap, CanHappen, End, Lowered, Standing, subst, sym, task_of, ◌∙◌, ◌≡◌}
+use Rattle.sj_board.proofs.{EndingTiles.found-can_put, EndingTiles.found-keeps_end, Keeping.has-room}
 use Rattle.sj_board.proofs.run_state.RunState.end.Goals as goal
 
 pub put_back-requires : goal.put_back-requires

@@ -1,6 +1,5 @@
-use Rattle.sj_base.specs.declared.trace.Event.TheVariants.{Moved}
-use Rattle.sj_board.proofs.EventTiles.{found-in_cell, found-in_places, found-moved_in, moved-room}
-use Rattle.sj_board.proofs.Keeping.{keeps-told}
+use Rattle.sj_board.proofs.Words.{Moved}
+use Rattle.sj_board.proofs.{EventTiles.found-in_cell, EventTiles.found-in_places, EventTiles.found-moved_in, EventTiles.moved-room, Keeping.keeps-told}
 use Rattle.sj_board.proofs.run_state.RunState.end_move_in.Goals as goal
 
 pub put_tile-requires-clause-cell : goal.put_tile-requires-clause-cell

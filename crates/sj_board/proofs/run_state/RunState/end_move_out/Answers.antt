@@ -1,7 +1,5 @@
-use Rattle.std.proofs.Common.{refl}
-use Rattle.sj_base.specs.declared.trace.Event.TheVariants.{Moved}
-use Rattle.sj_board.proofs.EventTiles.{found-moved_out, moved-room}
-use Rattle.sj_board.proofs.Keeping.{keeps-told}
+use Rattle.sj_board.proofs.Words.{Moved, refl}
+use Rattle.sj_board.proofs.{EventTiles.found-moved_out, EventTiles.moved-room, Keeping.keeps-told}
 use Rattle.sj_board.proofs.run_state.RunState.end_move_out.Goals as goal
 
 pub add-requires : goal.add-requires

@@ -1,6 +1,4 @@
-use Rattle.std.proofs.Common.{◌≡◌, ◌∙◌, true, ap, is_some, subst, sym}
-use Rattle.sj_core.specs.Machine.{is_leaving, mark}
-use Rattle.sj_board.specs.Standing.{Standing, state}
+use Rattle.sj_board.proofs.Words.{ap, is_leaving, is_some, mark, Standing, state, subst, sym, true, ◌∙◌, ◌≡◌}
 use Rattle.sj_board.proofs.Answering.{disk-some, evict-here, evict-out, leaving-inside}
 use Rattle.sj_board.proofs.run_state.RunState.eviction_of.Goals as goal
 

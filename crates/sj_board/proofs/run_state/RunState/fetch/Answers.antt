@@ -1,9 +1,5 @@
-use Rattle.std.proofs.Common.{subst}
-use Rattle.sj_edge.specs.GivenBack.{AreGivenBack}
-use Rattle.sj_board.specs.Counts.{AreCounted}
-use Rattle.sj_board.specs.Standing.{Standing}
-use Rattle.sj_board.proofs.DiskCounts.{fetches-cause, fetches-counted}
-use Rattle.sj_board.proofs.Storing.{fetches-back, found-fetched, found-in, found-keeps_fetched, found-last, found-to_fetch, moved-cell}
+use Rattle.sj_board.proofs.Words.{AreCounted, AreGivenBack, Standing, subst}
+use Rattle.sj_board.proofs.{DiskCounts.fetches-cause, DiskCounts.fetches-counted, Storing.fetches-back, Storing.found-fetched, Storing.found-in, Storing.found-keeps_fetched, Storing.found-last, Storing.found-to_fetch, Storing.moved-cell}
 use Rattle.sj_board.proofs.run_state.RunState.fetch.Goals as goal
 
 pub writes-writes-requires : goal.writes-writes-requires

@@ -1,13 +1,5 @@
-use Rattle.std.proofs.Common.{◌≡◌, ◌∙◌, ◌∷◌, [], true, ap, rules}
-use Rattle.sj_base.specs.declared.mode.Access.{Access}
-use Rattle.sj_base.specs.declared.mode.Mode.TheVariants.{R}
-use Rattle.sj_base.specs.declared.program.Lowered.{Lowered}
-use Rattle.sj_base.specs.declared.program.Program.{Program}
-use Rattle.sj_core.specs.Program.{task_of}
-use Rattle.sj_core.specs.Proper.{access}
-use Rattle.sj_board.specs.Delivery.{delivered_cell, is_delivery}
-use Rattle.sj_board.proofs.Delivering.{deliver-reads}
-use Rattle.sj_board.proofs.Gifting.{gift-given, gift-inside, gift-row, gift-there, hands-over}
+use Rattle.sj_board.proofs.Words.{[], Access, access, ap, delivered_cell, is_delivery, Lowered, Program, R, rules, task_of, true, ◌∙◌, ◌∷◌, ◌≡◌}
+use Rattle.sj_board.proofs.{Delivering.deliver-reads, Gifting.gift-given, Gifting.gift-inside, Gifting.gift-row, Gifting.gift-there, Gifting.hands-over}
 use Rattle.sj_board.proofs.run_state.RunState.gift.Goals as goal
 
 pub share-requires-clause-inside : goal.share-requires-clause-inside

@@ -1,6 +1,4 @@
-use Rattle.std.proofs.Common.{◌≡◌, ◌∙◌, None, Option, arith, ap, length, replicate, rules}
-use Rattle.sj_base.specs.Array.{Array}
-use Rattle.sj_board.specs.Sound.{most_events}
+use Rattle.sj_board.proofs.Words.{ap, arith, Array, length, most_events, None, Option, replicate, rules, ◌∙◌, ◌≡◌}
 use Rattle.sj_board.proofs.MakingRun.{keeps-made}
 use Rattle.sj_board.proofs.run_state.RunState.make.Goals as goal
 

@@ -1,9 +1,6 @@
-use Rattle.std.proofs.Common.{◌≡◌, ◌∙◌, true, ap, sym}
-use Rattle.sj_base.specs.declared.ids.Node.{Node}
-use Rattle.sj_core.specs.Machine.{is_leaving, mark}
+use Rattle.sj_board.proofs.Words.{ap, is_leaving, mark, Node, sym, true, ◌∙◌, ◌≡◌}
 use Rattle.sj_core.proofs.Replicas.{leaving_by-leaves}
-use Rattle.sj_board.proofs.Answering.{brought-inside, from-rows}
-use Rattle.sj_board.proofs.NextSteps.{victim-leaves}
+use Rattle.sj_board.proofs.{Answering.brought-inside, Answering.from-rows, NextSteps.victim-leaves}
 use Rattle.sj_board.proofs.run_state.RunState.next_step.Goals as goal
 
 pub eviction_of-requires : goal.eviction_of-requires

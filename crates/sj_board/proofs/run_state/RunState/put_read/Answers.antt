@@ -1,7 +1,4 @@
-use Rattle.std.proofs.Common.{subst, ◌≡◌}
-use Rattle.sj_disk.specs.Lending.{has_back}
-use Rattle.sj_board.specs.Standing.{Standing}
-use Rattle.sj_board.specs.DiskUnits.{lent}
+use Rattle.sj_board.proofs.Words.{has_back, lent, Standing, subst, ◌≡◌}
 use Rattle.sj_board.proofs.UnitPuts.{read-back, read-cause, read-comes, read-counted, read-keeps, read-tiles}
 use Rattle.sj_board.proofs.run_state.RunState.put_read.Goals as goal
 

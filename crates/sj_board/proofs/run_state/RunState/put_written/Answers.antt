@@ -1,7 +1,4 @@
-use Rattle.std.proofs.Common.{subst, ◌≡◌}
-use Rattle.sj_disk.specs.Lending.{has_back}
-use Rattle.sj_board.specs.Standing.{Standing}
-use Rattle.sj_board.specs.DiskUnits.{lent}
+use Rattle.sj_board.proofs.Words.{has_back, lent, Standing, subst, ◌≡◌}
 use Rattle.sj_board.proofs.UnitPuts.{wrote-back, wrote-cause, wrote-comes, wrote-counted, wrote-keeps, wrote-written}
 use Rattle.sj_board.proofs.run_state.RunState.put_written.Goals as goal
 

@@ -1,11 +1,5 @@
-use Rattle.std.proofs.Common.{◌≡◌, ◌∙◌, ap, subst, sym}
-use Rattle.sj_base.specs.declared.program.Lowered.{Lowered}
-use Rattle.sj_base.specs.declared.trace.Event.TheVariants.{Run}
-use Rattle.sj_core.specs.Program.{task_of}
-use Rattle.sj_machine.specs.Operands.{written_among}
-use Rattle.sj_board.specs.Standing.{CanHappen, Standing}
-use Rattle.sj_board.proofs.Keeping.{has-room}
-use Rattle.sj_board.proofs.RunningTiles.{found-can_give, found-can_work, found-cells, found-few, found-keeps_run, found-shares}
+use Rattle.sj_board.proofs.Words.{ap, CanHappen, Lowered, Run, Standing, subst, sym, task_of, written_among, ◌∙◌, ◌≡◌}
+use Rattle.sj_board.proofs.{Keeping.has-room, RunningTiles.found-can_give, RunningTiles.found-can_work, RunningTiles.found-cells, RunningTiles.found-few, RunningTiles.found-keeps_run, RunningTiles.found-shares}
 use Rattle.sj_board.proofs.run_state.RunState.run.Goals as goal
 
 pub share_into-requires-clause-can : goal.share_into-requires-clause-can

@@ -1,5 +1,4 @@
-use Rattle.std.proofs.Common.{◌∙◌, ◌<◌, length, subst, sym, ap, is_some}
-use Rattle.sj_board.specs.Standing.{Standing}
+use Rattle.sj_board.proofs.Words.{ap, is_some, length, Standing, subst, sym, ◌<◌, ◌∙◌}
 use Rattle.sj_board.proofs.Answering.{disk-some, source-disk, source-node}
 use Rattle.sj_board.proofs.run_state.RunState.source_of.Goals as goal
 

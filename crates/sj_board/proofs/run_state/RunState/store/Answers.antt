@@ -1,9 +1,5 @@
-use Rattle.std.proofs.Common.{subst}
-use Rattle.sj_edge.specs.GivenBack.{AreGivenBack}
-use Rattle.sj_board.specs.Counts.{AreCounted}
-use Rattle.sj_board.specs.Standing.{Standing}
-use Rattle.sj_board.proofs.DiskCounts.{stores-cause, stores-counted}
-use Rattle.sj_board.proofs.Storing.{stores-back, found-in, found-keeps_stored, found-reserved, found-stored, moved-cell}
+use Rattle.sj_board.proofs.Words.{AreCounted, AreGivenBack, Standing, subst}
+use Rattle.sj_board.proofs.{DiskCounts.stores-cause, DiskCounts.stores-counted, Storing.found-in, Storing.found-keeps_stored, Storing.found-reserved, Storing.found-stored, Storing.moved-cell, Storing.stores-back}
 use Rattle.sj_board.proofs.run_state.RunState.store.Goals as goal
 
 pub writes-writes-requires : goal.writes-writes-requires

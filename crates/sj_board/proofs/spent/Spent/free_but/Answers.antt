@@ -1,4 +1,4 @@
-use Rattle.std.proofs.Common.{rules}
+use Rattle.sj_board.proofs.Words.{rules}
 use Rattle.std.proofs.lemmas.List.{take-map}
 use Rattle.sj_board.proofs.spent.Spent.free_but.Goals as goal
 

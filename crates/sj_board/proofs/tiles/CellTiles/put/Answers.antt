@@ -1,6 +1,4 @@
-use Rattle.std.proofs.Common.{◌∙◌, Option, List, Some, ap}
-use Rattle.sj_base.specs.Array.{Array}
-use Rattle.sj_board.specs.Tiles.{with_tile}
+use Rattle.sj_board.proofs.Words.{ap, Array, List, Option, Some, with_tile, ◌∙◌}
 use Rattle.sj_board.proofs.LoanedTiles.{refill-put}
 use Rattle.sj_board.proofs.tiles.CellTiles.put.Goals as goal
 

@@ -1,7 +1,5 @@
-use Rattle.std.proofs.Common.{subst, sym}
-use Rattle.sj_machine.specs.Rows.{Rows}
+use Rattle.sj_check.proofs.Words.{Rows, subst, sym, Watches}
 use Rattle.sj_check.proofs.Keeping.{watches-begun}
-use Rattle.sj_check.specs.Watching.{Watches}
 use Rattle.sj_check.proofs.checker.Checker.begin_run.Goals as goal
 
 pub invariant_of-self : goal.invariant_of-self

@@ -1,15 +1,5 @@
-use Rattle.std.proofs.Common.{List, Option, Result, refl, subst, sym}
-use Rattle.std.specs.Prelude.{IfErr, OnOk}
-use Rattle.sj_base.specs.declared.ids.Task.{Task}
-use Rattle.sj_base.specs.declared.trace.Event.TheVariants.{Claim}
-use Rattle.sj_machine.specs.Plan.{ClaimPlan}
-use Rattle.sj_machine.specs.Planning.{IsWhy}
-use Rattle.sj_machine.specs.Rows.{MayHappen, Rows, has_happened}
-use Rattle.sj_machine.specs.declared.plan.Why.{Why}
-use Rattle.sj_check.proofs.Keeping.{watches-claimed}
-use Rattle.sj_check.proofs.Legality.{why-not}
-use Rattle.sj_check.specs.Judging.{HappensLegally, IsRefused}
-use Rattle.sj_check.specs.Watching.{Watches}
+use Rattle.sj_check.proofs.Words.{Claim, ClaimPlan, HappensLegally, has_happened, IfErr, IsRefused, IsWhy, List, MayHappen, OnOk, Option, refl, Result, Rows, subst, sym, Task, Watches, Why}
+use Rattle.sj_check.proofs.{Keeping.watches-claimed, Legality.why-not}
 use Rattle.sj_check.proofs.checker.Checker.claim.Goals as goal
 
 pub returns-in_default : goal.returns-in_default

@@ -1,4 +1,4 @@
-use Rattle.std.proofs.Common.{refl}
+use Rattle.sj_check.proofs.Words.{refl}
 use Rattle.sj_check.proofs.Keeping.{watches-still}
 use Rattle.sj_check.proofs.checker.Checker.discard.Goals as goal
 

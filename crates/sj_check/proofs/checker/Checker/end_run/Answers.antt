@@ -1,10 +1,5 @@
-use Rattle.std.proofs.Common.{subst, sym}
-use Rattle.sj_deps.specs.Progress.{Dependencies}
-use Rattle.sj_machine.specs.Rows.{Rows, has_happened}
-use Rattle.sj_base.specs.declared.trace.Event.TheVariants.{End}
-use Rattle.sj_check.proofs.Counting.{running-ready}
-use Rattle.sj_check.proofs.Keeping.{watches-ended}
-use Rattle.sj_check.specs.Watching.{Watches}
+use Rattle.sj_check.proofs.Words.{Dependencies, End, has_happened, Rows, subst, sym, Watches}
+use Rattle.sj_check.proofs.{Counting.running-ready, Keeping.watches-ended}
 use Rattle.sj_check.proofs.checker.Checker.end_run.Goals as goal
 
 pub set_done-requires : goal.set_done-requires

@@ -1,10 +1,5 @@
-use Rattle.std.proofs.Common.{◌≡◌, List, None, Option, [], replicate, rules, subst, sym}
-use Rattle.sj_base.specs.declared.ids.Task.{Task}
-use Rattle.sj_deps.specs.Progress.{Dependencies, dependencies}
-use Rattle.sj_machine.specs.Rows.{Rows, rows_at_start}
-use Rattle.sj_check.proofs.BlockDisks.{homes-each}
-use Rattle.sj_check.proofs.Keeping.{watches-fresh}
-use Rattle.sj_check.specs.Watching.{Watches}
+use Rattle.sj_check.proofs.Words.{[], Dependencies, dependencies, List, None, Option, replicate, Rows, rows_at_start, rules, subst, sym, Task, Watches, ◌≡◌}
+use Rattle.sj_check.proofs.{BlockDisks.homes-each, Keeping.watches-fresh}
 use Rattle.sj_check.proofs.checker.Checker.make.Goals as goal
 
 pub invariant_of-result : goal.invariant_of-result

@@ -1,12 +1,5 @@
-use Rattle.std.proofs.Common.{◌≡◌, ◌+◌, ◌<◌, ◌≤◌, Option, Some, None, IfSome, IfNone, length, sym, subst}
+use Rattle.sj_lower.proofs.Words.{act_seen, AreDistinct, Cells, cells_after, children_after, count_after, first_after, IfNone, IfSome, Kept, Lays, length, most, None, Option, Some, subst, sym, ◌+◌, ◌<◌, ◌≡◌, ◌≤◌}
 use Rattle.std.proofs.lemmas.Option.{IfSome_then}
-use Rattle.sj_meaning.specs.declared.job.Act.{Act as Kept}
-use Rattle.sj_meaning.specs.Table.{AreDistinct}
-use Rattle.sj_meaning.specs.View.{act_seen, count_after}
-use Rattle.sj_lower.specs.Cells.{Cells}
-use Rattle.sj_lower.specs.Limits.{most}
-use Rattle.sj_lower.specs.Lowering.{cells_after}
-use Rattle.sj_lower.specs.Seen.{Lays, first_after, children_after}
 use Rattle.sj_lower.proofs.Laying.{lays_register, full_register}
 use Rattle.sj_lower.proofs.layout.Layout.lay.Goals as goal
 

@@ -1,7 +1,6 @@
 use Rattle.std.proofs.lemmas.Result.{IfErr-weaker, on_ok_weaker}
-use Rattle.sj_lower.specs.Progress.{IsFull}
-use Rattle.sj_lower.proofs.Coming.{last-has, last-names, still-has, goes-whole, full-own, full-before}
-use Rattle.sj_lower.proofs.Steps.{handed-on}
+use Rattle.sj_lower.proofs.Words.{IsFull}
+use Rattle.sj_lower.proofs.{Coming.full-before, Coming.full-own, Coming.goes-whole, Coming.last-has, Coming.last-names, Coming.still-has, Steps.handed-on}
 use Rattle.sj_lower.proofs.lower.LoweringProgress.add.Goals as goal
 
 pub prepare-requires-clause-at : goal.prepare-requires-clause-at

@@ -1,10 +1,6 @@
-use Rattle.std.proofs.Common.{◌≡◌, ◌∙◌, ℕ, Option, Some, IfSome, refl, sym, subst, arith}
+use Rattle.sj_lower.proofs.Words.{arith, IfSome, Kept, Layout, Option, refl, Some, subst, sym, Table, ℕ, ◌∙◌, ◌≡◌}
 use Rattle.std.proofs.lemmas.Bool.{leb-true, leb-false}
-use Rattle.sj_meaning.specs.Table.{Table}
-use Rattle.sj_meaning.specs.declared.job.Act.{Act as Kept}
-use Rattle.sj_lower.specs.declared.layout.Layout.{Layout}
-use Rattle.sj_lower.proofs.Coming.{has-next, has-pass, has-room, with-tasks, few-with, goes-past, goes-late, goes-on, IsLaid}
-use Rattle.sj_lower.proofs.Preparing.{is-over, none-over}
+use Rattle.sj_lower.proofs.{Coming.few-with, Coming.goes-late, Coming.goes-on, Coming.goes-past, Coming.has-next, Coming.has-pass, Coming.has-room, Coming.IsLaid, Coming.with-tasks, Preparing.is-over, Preparing.none-over}
 use Rattle.sj_lower.proofs.lower.LoweringProgress.add_own.Goals as goal
 
 laid : (T : Table) (old new : Layout) (a : Kept) (first : ℕ) (o : Option ℕ) → o ≡ Some first → IfSome o (λ f. IsLaid T old new a f) → IsLaid T old new a first

@@ -1,7 +1,6 @@
-use Rattle.std.proofs.Common.{◌∙◌, refl, sym}
-use Rattle.std.proofs.lemmas.Bool.{leb-true, leb-false}
+use Rattle.sj_lower.proofs.Words.{refl, sym, ◌∙◌}
+use Rattle.std.proofs.lemmas.{Bool.leb-false, Bool.leb-true, Result.on_ok_weaker}
 use Rattle.sj_lower.proofs.Preparing.{is-over, none-over, copies-at, closes-over, closes-late, closes-on}
-use Rattle.std.proofs.lemmas.Result.{on_ok_weaker}
 use Rattle.sj_lower.proofs.lower.LoweringProgress.close.Goals as goal
 
 pub returns-then-is_some : goal.returns-then-is_some

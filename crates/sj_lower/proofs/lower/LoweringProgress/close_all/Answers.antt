@@ -1,7 +1,5 @@
-use Rattle.std.proofs.Common.{◌+◌, refl, arith}
-use Rattle.sj_lower.specs.Lowering.{all_closed}
-use Rattle.sj_lower.proofs.Preparing.{has-at}
-use Rattle.sj_lower.proofs.Steps.{closes-more, first_cells, cell-more, finishes}
+use Rattle.sj_lower.proofs.Words.{all_closed, arith, refl, ◌+◌}
+use Rattle.sj_lower.proofs.{Preparing.has-at, Steps.cell-more, Steps.closes-more, Steps.finishes, Steps.first_cells}
 use Rattle.sj_lower.proofs.lower.LoweringProgress.close_all.Goals as goal
 
 pub close-requires : goal.close-requires

@@ -1,5 +1,4 @@
-use Rattle.sj_lower.specs.Lowering.{all_closed}
-use Rattle.sj_lower.specs.Progress.{Prepares}
+use Rattle.sj_lower.proofs.Words.{all_closed, Prepares}
 use Rattle.sj_lower.proofs.Steps.{first_cells}
 use Rattle.sj_lower.proofs.lower.LoweringProgress.close_all.Given as goal
 

@@ -1,8 +1,6 @@
-use Rattle.std.proofs.Common.{sym, subst, inl, inr}
+use Rattle.sj_lower.proofs.Words.{all_closed, closing_by, inl, inr, Prepares, subst, sym}
 use Rattle.std.proofs.lemmas.Result.{on_ok_weaker}
 use Rattle.sj_meaning.specs.declared.job.Act.{Act}
-use Rattle.sj_lower.specs.Lowering.{all_closed}
-use Rattle.sj_lower.specs.Progress.{Prepares, closing_by}
 use Rattle.sj_lower.proofs.lower.LoweringProgress.close_by.Goals as goal
 
 pub returns-in-Print : goal.returns-in-Print

@@ -1,14 +1,8 @@
-use Rattle.std.proofs.Common.{◌∙◌, ◌+◌, List, sym, subst, map, filter}
-use Rattle.sj_base.specs.declared.ids.Cell.{Cell}
+use Rattle.sj_lower.proofs.Words.{Active, all_closed, Cell, cell_by, is_other, List, LoweringProgress, map, Prepares, subst, sym, ◌+◌, ◌∙◌}
+use Rattle.std.proofs.Common.{filter}
 use Rattle.sj_meaning.specs.declared.job.Operand.{Operand}
-use Rattle.sj_lower.specs.declared.lowerer.Active.{Active}
-use Rattle.sj_lower.specs.declared.lower.LoweringProgress.{LoweringProgress}
-use Rattle.sj_lower.specs.Lowering.{all_closed}
-use Rattle.sj_lower.specs.Progress.{Prepares, cell_by, is_other}
-use Rattle.sj_lower.proofs.Preparing.{has-at, is-over, none-over}
-use Rattle.sj_lower.proofs.Steps.{over-closes, empty-closes, others_so_far, closes-operand, leaves-operand}
+use Rattle.sj_lower.proofs.{lower.LoweringProgress.close_operands.Goals.else-is_other_access, lower.LoweringProgress.close_operands.Goals.then-is_other_access+in_ok-close, Preparing.has-at, Preparing.is-over, Preparing.none-over, Steps.closes-operand, Steps.empty-closes, Steps.leaves-operand, Steps.others_so_far, Steps.over-closes}
 use Rattle.sj_lower.proofs.lower.LoweringProgress.close_operands.Goals as goal
-use Rattle.sj_lower.proofs.lower.LoweringProgress.close_operands.Goals.{then-is_other_access+in_ok-close, else-is_other_access}
 
 abbrev cells : List Active → List Operand → List Cell
 cells actives os = map (cell_by actives) (filter is_other os)

@@ -1,12 +1,5 @@
-use Rattle.std.proofs.Common.{◌+◌, List, subst, arith}
-use Rattle.sj_base.specs.declared.ids.Cell.{Cell}
-use Rattle.sj_lower.specs.Cells.{cells_from}
-use Rattle.sj_lower.specs.Lowering.{all_closed}
-use Rattle.sj_lower.specs.Progress.{Prepares, cells_by}
-use Rattle.sj_lower.specs.Seen.{active_at}
-use Rattle.sj_lower.proofs.Children.{first_children, cell-at}
-use Rattle.sj_lower.proofs.Preparing.{has-at, is-over, none-over}
-use Rattle.sj_lower.proofs.Steps.{closes-more, over-closes, empty-closes, child-more, active-is, cells-are-by}
+use Rattle.sj_lower.proofs.Words.{active_at, all_closed, arith, Cell, cells_by, cells_from, List, Prepares, subst, ◌+◌}
+use Rattle.sj_lower.proofs.{Children.cell-at, Children.first_children, Preparing.has-at, Preparing.is-over, Preparing.none-over, Steps.active-is, Steps.cells-are-by, Steps.child-more, Steps.closes-more, Steps.empty-closes, Steps.over-closes}
 use Rattle.sj_lower.proofs.lower.LoweringProgress.close_root.Goals as goal
 
 pub returns-then-is_some : goal.returns-then-is_some

@@ -1,6 +1,4 @@
-use Rattle.sj_lower.specs.Cells.{cells_from}
-use Rattle.sj_lower.specs.Lowering.{all_closed}
-use Rattle.sj_lower.specs.Progress.{Prepares}
+use Rattle.sj_lower.proofs.Words.{all_closed, cells_from, Prepares}
 use Rattle.sj_lower.proofs.Children.{first_children}
 use Rattle.sj_lower.proofs.lower.LoweringProgress.close_root.Given as goal
 

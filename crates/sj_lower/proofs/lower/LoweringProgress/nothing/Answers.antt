@@ -1,4 +1,4 @@
-use Rattle.std.proofs.Common.{arith}
+use Rattle.sj_lower.proofs.Words.{arith}
 use Rattle.sj_lower.proofs.Preparations.{copied-none}
 use Rattle.sj_lower.proofs.lower.LoweringProgress.nothing.Goals as goal
 

@@ -1,9 +1,6 @@
-use Rattle.std.proofs.Common.{◌∙◌, refl, sym, ap}
-use Rattle.std.specs.Option.{option_copied}
-use Rattle.std.proofs.lemmas.Bool.{leb-true, leb-false}
-use Rattle.std.proofs.lemmas.Result.{on_ok_weaker}
-use Rattle.sj_lower.proofs.Preparing.{is-over, none-over}
-use Rattle.sj_lower.proofs.Preparations.{opens-over, opens-more, opens-late, opens-on}
+use Rattle.sj_lower.proofs.Words.{ap, option_copied, refl, sym, ◌∙◌}
+use Rattle.std.proofs.lemmas.{Bool.leb-false, Bool.leb-true, Result.on_ok_weaker}
+use Rattle.sj_lower.proofs.{Preparations.opens-late, Preparations.opens-more, Preparations.opens-on, Preparations.opens-over, Preparing.is-over, Preparing.none-over}
 use Rattle.sj_lower.proofs.lower.LoweringProgress.open.Goals as goal
 
 pub returns-then-is_some : goal.returns-then-is_some

@@ -1,19 +1,6 @@
-use Rattle.std.proofs.Common.{◌≡◌, ◌<◌, Bool, Option, None, Some, IfSome, IfNone, length, get_or, refl, subst}
-use Rattle.sj_base.specs.declared.ids.Cell.{Cell}
-use Rattle.sj_base.specs.declared.mode.Reduction.{Reduction}
+use Rattle.sj_lower.proofs.Words.{Active, Bool, Cell, Cells, cells_from, get_or, IfNone, IfSome, is_set, IsActiveOperand, Lays, length, LoweringProgress, most, None, Option, Placed, Reduction, refl, Some, subst, Table, with_copies, ◌<◌, ◌≡◌}
 use Rattle.sj_meaning.specs.declared.job.Operand.{Operand}
-use Rattle.sj_meaning.specs.Table.{Table}
-use Rattle.sj_job.specs.Track.{is_set}
-use Rattle.sj_lower.specs.declared.lowerer.Active.{Active}
-use Rattle.sj_lower.specs.declared.rows.Placed.{Placed}
-use Rattle.sj_lower.specs.declared.lower.LoweringProgress.{LoweringProgress}
-use Rattle.sj_lower.specs.Cells.{Cells, cells_from, with_copies}
-use Rattle.sj_lower.specs.Limits.{most}
-use Rattle.sj_lower.specs.Progress.{IsActiveOperand}
-use Rattle.sj_lower.specs.Seen.{Lays}
-use Rattle.sj_lower.proofs.Preparing.{has-at}
-use Rattle.sj_lower.proofs.Preparations.{IsCopying, copied_by, copies-prepare, copies-there}
-use Rattle.sj_lower.proofs.Steps.{Reads, found-there, opens-crowded, opens-operand}
+use Rattle.sj_lower.proofs.{Preparations.copied_by, Preparations.copies-prepare, Preparations.copies-there, Preparations.IsCopying, Preparing.has-at, Steps.found-there, Steps.opens-crowded, Steps.opens-operand, Steps.Reads}
 use Rattle.sj_lower.proofs.lower.LoweringProgress.open_for.Goals as goal
 
 none_at : {X : Type 0} (o : Option X) (P : Type 0) → o ≡ None → IfNone o P → P

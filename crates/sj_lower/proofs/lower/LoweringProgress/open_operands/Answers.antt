@@ -1,10 +1,6 @@
-use Rattle.std.proofs.Common.{◌∙◌, ◌+◌, sym, subst}
-use Rattle.sj_lower.specs.declared.lower.LoweringProgress.{LoweringProgress}
-use Rattle.sj_lower.specs.Progress.{Prepares}
-use Rattle.sj_lower.proofs.Preparing.{has-at}
-use Rattle.sj_lower.proofs.Steps.{opened_so_far, opens-next, opens-left, opens-full, handed-on}
+use Rattle.sj_lower.proofs.Words.{LoweringProgress, Prepares, subst, sym, ◌+◌, ◌∙◌}
+use Rattle.sj_lower.proofs.{lower.LoweringProgress.open_operands.Goals.else-is_contribution, lower.LoweringProgress.open_operands.Goals.then-is_contribution+in_ok-open_for, Preparing.has-at, Steps.handed-on, Steps.opened_so_far, Steps.opens-full, Steps.opens-left, Steps.opens-next}
 use Rattle.sj_lower.proofs.lower.LoweringProgress.open_operands.Goals as goal
-use Rattle.sj_lower.proofs.lower.LoweringProgress.open_operands.Goals.{then-is_contribution+in_ok-open_for, else-is_contribution}
 
 pub open_for-requires-clause-at : goal.open_for-requires-clause-at
 open_for-requires-clause-at c = has-at c.args.self.now c.loop-operand.self c.args.line (opened_so_far c.args.self.now c.args.line c.args.operands.now c.loop-operand.operand-index) c.loop-operand.invariant c.requires.at

@@ -1,4 +1,4 @@
-use Rattle.sj_lower.specs.Progress.{Prepares}
+use Rattle.sj_lower.proofs.Words.{Prepares}
 use Rattle.sj_lower.proofs.Steps.{opened_so_far}
 use Rattle.sj_lower.proofs.lower.LoweringProgress.open_operands.Given as goal
 

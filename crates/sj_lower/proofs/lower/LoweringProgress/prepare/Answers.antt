@@ -1,8 +1,6 @@
 use Rattle.std.proofs.lemmas.Result.{IfErr-weaker, on_ok_weaker}
-use Rattle.sj_lower.specs.Lowering.{all_closed}
-use Rattle.sj_lower.specs.Progress.{closing_by}
-use Rattle.sj_lower.proofs.Preparing.{has-at}
-use Rattle.sj_lower.proofs.Steps.{prepares-other, prepares-task, full-task}
+use Rattle.sj_lower.proofs.Words.{all_closed, closing_by}
+use Rattle.sj_lower.proofs.{Preparing.has-at, Steps.full-task, Steps.prepares-other, Steps.prepares-task}
 use Rattle.sj_lower.proofs.lower.LoweringProgress.prepare.Goals as goal
 
 pub open_operands-requires-clause-at : goal.open_operands-requires-clause-at

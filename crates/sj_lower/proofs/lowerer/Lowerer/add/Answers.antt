@@ -1,10 +1,5 @@
-use Rattle.std.proofs.Common.{◌+◌, ◌≤◌, sym, subst, length, refl}
+use Rattle.sj_lower.proofs.Words.{act_seen, Does, Kept, length, MayComeNext, most, refl, rows_added, subst, sym, ◌+◌, ◌≤◌}
 use Rattle.std.specs.Prelude.{vec_len}
-use Rattle.sj_meaning.specs.declared.job.Act.{Act as Kept}
-use Rattle.sj_meaning.specs.View.{act_seen}
-use Rattle.sj_lower.specs.Limits.{most}
-use Rattle.sj_lower.specs.Lowering.{rows_added}
-use Rattle.sj_lower.specs.Seen.{Does, MayComeNext}
 use Rattle.sj_lower.proofs.Following.{does-unregister}
 use Rattle.sj_lower.proofs.lowerer.Lowerer.add.Goals as goal
 

@@ -1,12 +1,6 @@
-use Rattle.std.proofs.Common.{◌≡◌, ◌∙◌, ◌*◌, ap, sym, subst, length, rules}
+use Rattle.sj_lower.proofs.Words.{act_seen, Active, active_at, ap, Kept, length, MayComeNext, no_active, Parts, rows_added, rules, subst, sym, ◌*◌, ◌∙◌, ◌≡◌}
 use Rattle.std.specs.Prelude.{vec_len}
 use Rattle.std.proofs.lemmas.List.{get_or_read}
-use Rattle.sj_plan.specs.declared.parts.Parts.{Parts}
-use Rattle.sj_meaning.specs.declared.job.Act.{Act as Kept}
-use Rattle.sj_meaning.specs.View.{act_seen}
-use Rattle.sj_lower.specs.declared.lowerer.Active.{Active}
-use Rattle.sj_lower.specs.Lowering.{rows_added}
-use Rattle.sj_lower.specs.Seen.{no_active, active_at, MayComeNext}
 use Rattle.sj_lower.proofs.Counting.{count-print}
 use Rattle.sj_lower.proofs.lowerer.Lowerer.count.Goals as goal
 

@@ -1,14 +1,5 @@
-use Rattle.std.proofs.Common.{◌≡◌, ◌∙◌, ◌||◌, ap, sym, subst, length, not, rules}
+use Rattle.sj_lower.proofs.Words.{Active, active_at, all_valued, ap, Fits, info_of, length, no_active, not, Parts, pastes_of, RootInfo, rules, same_parts, subst, sym, ◌||◌, ◌∙◌, ◌≡◌}
 use Rattle.std.proofs.lemmas.List.{get_or_read}
-use Rattle.sj_plan.specs.declared.parts.Parts.{Parts}
-use Rattle.sj_plan.specs.Parts.{Fits}
-use Rattle.sj_plan.specs.Paste.{pastes_of}
-use Rattle.sj_meaning.specs.declared.job.RootInfo.{RootInfo}
-use Rattle.sj_meaning.specs.Table.{info_of}
-use Rattle.sj_job.specs.Track.{all_valued}
-use Rattle.sj_lower.specs.declared.lowerer.Active.{Active}
-use Rattle.sj_lower.specs.Cells.{same_parts}
-use Rattle.sj_lower.specs.Seen.{no_active, active_at}
 use Rattle.sj_lower.proofs.Counting.{speaks-plan, count-idle, count-pastes, fits-active, fits-new}
 use Rattle.sj_lower.proofs.lowerer.Lowerer.count_plan.Goals as goal
 

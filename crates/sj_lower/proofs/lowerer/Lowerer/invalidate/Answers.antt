@@ -1,7 +1,5 @@
-use Rattle.std.proofs.Common.{◌≡◌, ◌∙◌, refl, false, arith}
+use Rattle.sj_lower.proofs.Words.{active_at, arith, even, false, refl, ◌∙◌, ◌≡◌}
 use Rattle.std.proofs.Math.ListN.{set}
-use Rattle.sj_job.specs.Track.{even}
-use Rattle.sj_lower.specs.Seen.{active_at}
 use Rattle.sj_lower.proofs.Following.{does-invalidate, at-default}
 use Rattle.sj_lower.proofs.lowerer.Lowerer.invalidate.Goals as goal
 

@@ -1,14 +1,8 @@
-use Rattle.std.proofs.Common.{◌≡◌, ◌∙◌, ◌++◌, ◌∷◌, ◌||◌, [], ℕ, None, List, All, length, refl, ap, sym, subst, vec_len, arith}
+use Rattle.sj_lower.proofs.Words.{[], a_root, Active, active_at, actives_after_writes, All, all_valued, ap, AreIn, arith, CanPass, even, HasRoomFor, info_of, Kept, length, List, None, none_valued, refl, subst, sym, vec_len, ℕ, ◌++◌, ◌||◌, ◌∙◌, ◌∷◌, ◌≡◌}
 use Rattle.std.proofs.Math.ListN.{set}
-use Rattle.sj_meaning.specs.declared.job.Act.{Act as Kept}
 use Rattle.sj_meaning.specs.declared.job.Act.TheVariants as kept
 use Rattle.sj_meaning.specs.declared.job.Operand.{Operand}
-use Rattle.sj_meaning.specs.Table.{a_root, info_of}
-use Rattle.sj_job.specs.Track.{all_valued, none_valued, even}
-use Rattle.sj_lower.specs.declared.lowerer.Active.{Active}
-use Rattle.sj_lower.specs.Seen.{active_at, actives_after_writes, AreIn, CanPass, HasRoomFor}
-use Rattle.sj_lower.proofs.Following.{PassesTo, passes-register, passes-plan, passes-redux, passes-invalidate, passes-unregister, planned_active, reduced_active, blank_active, plan-even, at-default}
-use Rattle.sj_lower.proofs.Tracking.{are-in, passes-task}
+use Rattle.sj_lower.proofs.{Following.at-default, Following.blank_active, Following.passes-invalidate, Following.passes-plan, Following.passes-redux, Following.passes-register, Following.passes-unregister, Following.PassesTo, Following.plan-even, Following.planned_active, Following.reduced_active, Tracking.are-in, Tracking.passes-task}
 use Rattle.sj_lower.proofs.lowerer.Lowerer.pass.Goals as goal
 
 pub plan-requires-clause-even : goal.plan-requires-clause-even

@@ -1,14 +1,6 @@
-use Rattle.std.proofs.Common.{◌≡◌, ◌∙◌, ◌++◌, ◌||◌, ◌+◌, ◌≤◌, refl, ap, sym, subst, length, arith, length-append}
+use Rattle.sj_lower.proofs.Words.{Active, active_at, all_valued, ap, arith, children_count, Dims, even, Fits, length, length-append, most, none_valued, Parts, pasted_by, refl, RootInfo, subst, sym, ◌++◌, ◌+◌, ◌||◌, ◌∙◌, ◌≡◌, ◌≤◌}
 use Rattle.std.proofs.Math.ListN.{set}
 use Rattle.sj_meaning.specs.declared.job.Act.TheVariants as kept
-use Rattle.sj_meaning.specs.declared.job.RootInfo.{RootInfo}
-use Rattle.sj_base.specs.declared.tile.Dims.{Dims}
-use Rattle.sj_plan.specs.declared.parts.Parts.{Parts}
-use Rattle.sj_plan.specs.Parts.{Fits}
-use Rattle.sj_job.specs.Track.{all_valued, none_valued, even, children_count}
-use Rattle.sj_lower.specs.Limits.{most}
-use Rattle.sj_lower.specs.declared.lowerer.Active.{Active}
-use Rattle.sj_lower.specs.Seen.{active_at, pasted_by}
 use Rattle.sj_lower.proofs.Following.{can-pass, does-plan, at-default, plan-known, plan-fits, plan-even}
 use Rattle.sj_lower.proofs.lowerer.Lowerer.plan.Goals as goal
 

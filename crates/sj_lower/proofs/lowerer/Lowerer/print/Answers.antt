@@ -1,17 +1,5 @@
-use Rattle.std.proofs.Common.{◌≡◌, ◌∙◌, ◌++◌, ◌+◌, ◌≤◌, ℕ, map, length, refl, ap, sym, subst, arith, length-append}
-use Rattle.sj_base.specs.declared.tile.Dims.{Dims}
-use Rattle.sj_plan.specs.declared.parts.Parts.{Parts}
-use Rattle.sj_plan.specs.Parts.{Fits, places}
-use Rattle.sj_meaning.specs.declared.job.RootInfo.{RootInfo}
-use Rattle.sj_job.specs.Track.{IsSmallPlan, children_count}
-use Rattle.sj_lower.specs.declared.lowerer.Active.{Active}
-use Rattle.sj_lower.specs.Cells.{cells_from}
-use Rattle.sj_lower.specs.Rows.{deliver_row}
-use Rattle.sj_lower.specs.Lowering.{a_delivery}
-use Rattle.sj_lower.specs.Limits.{most}
-use Rattle.sj_lower.specs.Seen.{active_at}
-use Rattle.sj_lower.proofs.Following.{does-print, at-default, print-known, fits-plan, many-delivered}
-use Rattle.sj_lower.proofs.Places.{length-places}
+use Rattle.sj_lower.proofs.Words.{a_delivery, Active, active_at, ap, arith, cells_from, children_count, deliver_row, Dims, Fits, IsSmallPlan, length, length-append, map, most, Parts, places, refl, RootInfo, subst, sym, ℕ, ◌++◌, ◌+◌, ◌∙◌, ◌≡◌, ◌≤◌}
+use Rattle.sj_lower.proofs.{Following.at-default, Following.does-print, Following.fits-plan, Following.many-delivered, Following.print-known, Places.length-places}
 use Rattle.sj_lower.proofs.lowerer.Lowerer.print.Goals as goal
 
 pub overflow_cast-task : goal.overflow_cast-task

@@ -1,6 +1,5 @@
-use Rattle.std.proofs.Common.{◌≡◌, ◌∙◌, refl, arith}
+use Rattle.sj_lower.proofs.Words.{active_at, arith, refl, ◌∙◌, ◌≡◌}
 use Rattle.std.proofs.Math.ListN.{set}
-use Rattle.sj_lower.specs.Seen.{active_at}
 use Rattle.sj_lower.proofs.Following.{does-redux, reduced_active, at-default}
 use Rattle.sj_lower.proofs.lowerer.Lowerer.reduce.Goals as goal
 

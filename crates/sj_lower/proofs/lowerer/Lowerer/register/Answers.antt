@@ -1,10 +1,5 @@
-use Rattle.std.proofs.Common.{◌≡◌, ◌∙◌, ◌++◌, ◌∷◌, [], ℕ, None, length, refl, ap, subst, vec_len, arith, length-append}
+use Rattle.sj_lower.proofs.Words.{[], a_root, ap, arith, cells_from, even, HasRoomFor, info_of, length, length-append, load_rows, None, refl, subst, vec_len, ℕ, ◌++◌, ◌∙◌, ◌∷◌, ◌≡◌}
 use Rattle.sj_meaning.specs.declared.job.Act.TheVariants as kept
-use Rattle.sj_lower.specs.Seen.{HasRoomFor}
-use Rattle.sj_meaning.specs.Table.{a_root, info_of}
-use Rattle.sj_job.specs.Track.{even}
-use Rattle.sj_lower.specs.Cells.{cells_from}
-use Rattle.sj_lower.specs.Lowering.{load_rows}
 use Rattle.sj_lower.proofs.Following.{does-register}
 use Rattle.sj_lower.proofs.lowerer.Lowerer.register.Goals as goal
 

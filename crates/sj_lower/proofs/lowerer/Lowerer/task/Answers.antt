@@ -1,11 +1,7 @@
-use Rattle.std.proofs.Common.{◌∙◌, ◌++◌, ◌∷◌, [], List, All, ap, sym, subst, refl, map}
-use Rattle.sj_base.specs.declared.program.Lowered.{Lowered}
+use Rattle.sj_lower.proofs.Words.{[], access_by, Active, actives_after_writes, All, ap, AreIn, List, Lowered, lowered_task, map, refl, subst, sym, ◌++◌, ◌∙◌, ◌∷◌}
 use Rattle.sj_meaning.specs.declared.job.Act.TheVariants as kept
 use Rattle.sj_meaning.specs.declared.job.Operand.{Operand}
-use Rattle.sj_lower.specs.declared.lowerer.Active.{Active}
-use Rattle.sj_lower.specs.Seen.{AreIn, access_by, actives_after_writes, lowered_task}
-use Rattle.sj_lower.proofs.Following.{can-pass}
-use Rattle.sj_lower.proofs.Tracking.{are-in, does-task}
+use Rattle.sj_lower.proofs.{Following.can-pass, Tracking.are-in, Tracking.does-task}
 use Rattle.sj_lower.proofs.lowerer.Lowerer.task.Goals as goal
 
 pub accesses-requires : goal.accesses-requires

@@ -1,7 +1,5 @@
-use Rattle.std.proofs.Common.{◌≡◌, refl, sym}
-use Rattle.sj_core.specs.Program.{task_of}
-use Rattle.sj_machine.proofs.ClaimChoice.{choice-commuter, choice-found, choice-leaving, choice-work}
-use Rattle.sj_machine.proofs.Marked.{marked-at}
+use Rattle.sj_machine.proofs.Words.{refl, sym, task_of, ◌≡◌}
+use Rattle.sj_machine.proofs.{ClaimChoice.choice-commuter, ClaimChoice.choice-found, ClaimChoice.choice-leaving, ClaimChoice.choice-work, Marked.marked-at}
 use Rattle.sj_machine.proofs.rows.Rows.answer_to_claim.Goals as goal
 
 pub returns-in-Some : goal.returns-in-Some

@@ -1,7 +1,5 @@
-use Rattle.std.proofs.Common.{◌<◌, ◌∙◌, length, subst, sym}
-use Rattle.sj_machine.specs.Rows.{Rows}
-use Rattle.sj_machine.proofs.ClaimPlanning.{proper-work}
-use Rattle.sj_machine.proofs.Marked.{marked-at, need-read}
+use Rattle.sj_machine.proofs.Words.{length, Rows, subst, sym, ◌<◌, ◌∙◌}
+use Rattle.sj_machine.proofs.{ClaimPlanning.proper-work, Marked.marked-at, Marked.need-read}
 use Rattle.sj_machine.proofs.rows.Rows.bytes_to_come.Goals as goal
 
 pub bytes_to_come-requires-clause-work : goal.bytes_to_come-requires-clause-work

@@ -1,6 +1,4 @@
-use Rattle.std.proofs.Common.{◌≡◌, ◌∙◌, refl}
-use Rattle.sj_core.proofs.Words.{Coming, Leaving}
-use Rattle.sj_machine.specs.Plan.{marked}
+use Rattle.sj_machine.proofs.Words.{Coming, Leaving, marked, refl, ◌∙◌, ◌≡◌}
 use Rattle.sj_machine.proofs.ClaimRows.{claim-can, claimed}
 use Rattle.sj_machine.proofs.rows.Rows.claim.Goals as goal
 

@@ -1,5 +1,4 @@
-use Rattle.sj_machine.proofs.Refusing.{found-waits}
-use Rattle.sj_machine.proofs.Results.{if-ok}
+use Rattle.sj_machine.proofs.{Refusing.found-waits, Results.if-ok}
 use Rattle.sj_machine.proofs.rows.Rows.claim_plan_knowing.Goals as goal
 
 pub returns-clause-can : goal.returns-clause-can

@@ -1,5 +1,4 @@
-use Rattle.std.proofs.Common.{◌∙◌, ap}
-use Rattle.sj_core.proofs.Words.{Program, written_cells}
+use Rattle.sj_machine.proofs.Words.{ap, Program, written_cells, ◌∙◌}
 use Rattle.sj_machine.proofs.Finishing.{end-can_release, end-can_work, end-cells, end-few, end-left}
 use Rattle.sj_machine.proofs.rows.Rows.end.Goals as goal
 

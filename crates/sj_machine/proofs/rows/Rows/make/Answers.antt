@@ -1,7 +1,4 @@
-use Rattle.std.proofs.Common.{rules, ◌≡◌, length, map, replicate}
-use Rattle.sj_core.proofs.Words.{idle_row, no_copy}
-use Rattle.sj_core.specs.declared.progress.Progress.TheVariants.{Waiting}
-use Rattle.sj_node.specs.Store.{empty}
+use Rattle.sj_machine.proofs.Words.{empty, idle_row, length, map, no_copy, replicate, rules, Waiting, ◌≡◌}
 use Rattle.sj_machine.proofs.Making.{made}
 use Rattle.sj_machine.proofs.rows.Rows.make.Goals as goal
 

@@ -1,4 +1,4 @@
-use Rattle.std.proofs.Common.{refl, sym, ◌∙◌}
+use Rattle.sj_machine.proofs.Words.{refl, sym, ◌∙◌}
 use Rattle.sj_machine.proofs.rows.Rows.may_run.Goals as goal
 
 pub returns : goal.returns

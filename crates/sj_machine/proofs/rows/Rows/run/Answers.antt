@@ -1,5 +1,4 @@
-use Rattle.std.proofs.Common.{◌∙◌, ap}
-use Rattle.sj_core.proofs.Words.{Program, written_cells}
+use Rattle.sj_machine.proofs.Words.{ap, Program, written_cells, ◌∙◌}
 use Rattle.sj_machine.proofs.Owning.{run-can_work, run-cells, run-left, run-marked, run-unpinned}
 use Rattle.sj_machine.proofs.rows.Rows.run.Goals as goal
 
