@@ -1,5 +1,5 @@
 -- What a store and a fetch count, and that a refusal has its cause.
-use Rattle.sj_board.proofs.Words.{[], AllTell, AllZip, ap, AreCounted, AreGivenBack, arith, Array, block, ChangesAt, counted, CountsFaults, differed_at, DiskNo, DiskRefusal, Equations, Err, Extent, extent_of, failed_at, false, fault_of, Fetches, get_or, HasCause, HasRisen, Header, header, IfErr, IfSome, inl, inr, is_damage, is_err, is_fault, IsGivenBack, IsLaidOut, IsLastWritten, IsSomeAnd, Keeps, LendingState, length, List, Looks, map, MatchOption, nat_eq, None, Ok, Option, refl, RefusesFor, Result, Rose, Rows, slice_get, Some, StandingBy, state, Stores, subst, sym, true, Writes, ℕ, ℤ, ◌<◌, ◌∙◌, ◌∷◌, ◌≡◌, ◌≢◌, ◌≤◌}
+use Rattle.sj_board.proofs.Words.{[], AllTell, AllZip, ap, AreCounted, AreGivenBack, arith, Array, block, ChangesAt, counted, CountsFaults, differed_at, DiskNo, DiskRefusal, Equations, Err, Extent, extent_of, failed_at, false, fault_of, Fetches, get_or, HasCause, HasRisen, Header, header, IfErr, inl, inr, is_damage, is_err, is_fault, IsGivenBack, IsLaidOut, IsLastWritten, IsSomeAnd, Keeps, LendingState, length, List, Looks, map, MatchOption, nat_eq, None, Ok, Option, refl, RefusesFor, Result, Rose, Rows, slice_get, Some, StandingBy, state, Stores, subst, sym, true, Writes, ℕ, ℤ, ◌<◌, ◌∙◌, ◌∷◌, ◌≡◌, ◌≢◌, ◌≤◌}
 use Rattle.std.proofs.lemmas.{Bool.cases_eq, Bool.false≢true, Bool.ne_eqb, Bool.Decides.Decides-eqb, List.length-map, Option.none-some, Option.same_Some, Option.slice_get-get_or, Slice.Zip.AllZip-right}
 use Rattle.sj_disk.specs.declared.refusal.DiskRefusal.TheVariants.{Damaged, DiskFault}
 use Rattle.sj_board.proofs.Storing.{tell-still}
@@ -168,40 +168,27 @@ wanted-last {A} number want result is P so d w found e = named (subst (RefusesFo
 
 -- ---- as a run's store and fetch tell it
 
-module _ {D A : Type 0} {eq : Equations} (size faults mismatches : D → ℕ) (held : D → Option (List ℕ)) (b : StandingBy eq D) (rows : Rows) (tiles : List (List (Option Array))) (spare : ℕ) (keeps : Keeps size faults mismatches held b rows tiles spare) (new : LendingState D) (c n : ℕ) (xs : List ℤ) (result : Result A DiskRefusal) (laid : IsLaidOut (map size b.disks.disks) b.disks.taken b.disks.directory) (Q : Extent → Type 0) (some : IsSomeAnd (extent_of b.disks.directory c) Q) where
+module _ {D A : Type 0} {eq : Equations} (size faults mismatches : D → ℕ) (held : D → Option (List ℕ)) (b : StandingBy eq D) (rows : Rows) (tiles : List (List (Option Array))) (spare : ℕ) (keeps : Keeps size faults mismatches held b rows tiles spare) (new : LendingState D) (c n : ℕ) (xs : List ℤ) (result : Result A DiskRefusal) (laid : IsLaidOut (map size b.disks.disks) b.disks.taken b.disks.directory) (e : Extent) (its : extent_of b.disks.directory c ≡ Some e) where
   back : AreGivenBack size faults mismatches held b.opened b.disks.disks
   back = keeps.sound.given_back
 
   -- the disk of the cell's block is there
-  on_a_disk : (e : Extent) → extent_of b.disks.directory c ≡ Some e → e.disk.0 < length b.disks.disks
-  on_a_disk e is = omega (arith, laid.on_a_disk c e is, length-map b.disks.disks size)
+  on_a_disk : e.disk.0 < length b.disks.disks
+  on_a_disk = omega (arith, laid.on_a_disk c e its, length-map b.disks.disks size)
 
-  found : (e : Extent) × (extent_of b.disks.directory c ≡ Some e)
-  found = by_extent (extent_of b.disks.directory c) some
-    where
-      by_extent : (o : Option Extent) → IsSomeAnd o Q → (e : Extent) × (o ≡ Some e)
-      by_extent None h = absurd h
-      by_extent (Some e) h = (e, refl)
+  pub stores-counted : Stores size faults mismatches held c n xs result b.disks new.set e → AreCounted faults mismatches result b.disks.disks new.set.disks
+  stores-counted is = call-counted faults mismatches e.disk result b.disks.disks new.set.disks (refused-names e.disk result is.refused_by_its_disk) (store-call size faults mismatches held b new c n xs result e is)
 
-  pub stores-counted : IfSome (extent_of b.disks.directory c) (Stores size faults mismatches held c n xs result b.disks new.set) → AreCounted faults mismatches result b.disks.disks new.set.disks
-  stores-counted told =
-      let is = subst (λ (o : Option Extent). IfSome o (Stores size faults mismatches held c n xs result b.disks new.set)) found.1 told in
-      call-counted faults mismatches found.0.disk result b.disks.disks new.set.disks (refused-names found.0.disk result is.refused_by_its_disk) (store-call size faults mismatches held b new c n xs result found.0 is)
+  pub stores-cause : Stores size faults mismatches held c n xs result b.disks new.set e → IfErr result (λ r. HasCause faults mismatches held (record b { disks = new.set; out = new.out }) (fault_of r))
+  stores-cause is =
+      let only = refused-fault e.disk result is.refused_by_its_disk in
+      call-cause size faults mismatches held b new e.disk result back on_a_disk (refused-names e.disk result is.refused_by_its_disk) (store-call size faults mismatches held b new c n xs result e is) (λ damaged tells. false≢true (sym only.1 ∙ damaged)) (λ d want found at. absurd (false≢true (sym only.1 ∙ ap is_damage at)))
 
-  pub stores-cause : IfSome (extent_of b.disks.directory c) (Stores size faults mismatches held c n xs result b.disks new.set) → IfErr result (λ r. HasCause faults mismatches held (record b { disks = new.set; out = new.out }) (fault_of r))
-  stores-cause told =
-      let is = subst (λ (o : Option Extent). IfSome o (Stores size faults mismatches held c n xs result b.disks new.set)) found.1 told in
-      let only = refused-fault found.0.disk result is.refused_by_its_disk in
-      call-cause size faults mismatches held b new found.0.disk result back (on_a_disk found.0 found.1) (refused-names found.0.disk result is.refused_by_its_disk) (store-call size faults mismatches held b new c n xs result found.0 is) (λ damaged tells. false≢true (sym only.1 ∙ damaged)) (λ d want found e. absurd (false≢true (sym only.1 ∙ ap is_damage e)))
+  pub fetches-counted : Fetches size faults mismatches held c n xs result b.disks new.set e → AreCounted faults mismatches result b.disks.disks new.set.disks
+  fetches-counted is = call-counted faults mismatches e.disk result b.disks.disks new.set.disks (refuses-names e.disk (header c n e.length) result is.refused_by_its_disk) (fetch-call size faults mismatches held b new c n xs result e is)
 
-  pub fetches-counted : IfSome (extent_of b.disks.directory c) (Fetches size faults mismatches held c n xs result b.disks new.set) → AreCounted faults mismatches result b.disks.disks new.set.disks
-  fetches-counted told =
-      let is = subst (λ (o : Option Extent). IfSome o (Fetches size faults mismatches held c n xs result b.disks new.set)) found.1 told in
-      call-counted faults mismatches found.0.disk result b.disks.disks new.set.disks (refuses-names found.0.disk (header c n found.0.length) result is.refused_by_its_disk) (fetch-call size faults mismatches held b new c n xs result found.0 is)
-
-  pub fetches-cause : ((e : Extent) → extent_of b.disks.directory c ≡ Some e → IsLastWritten b.program b.machine (state b) e.disk (header c n e.length)) → IfSome (extent_of b.disks.directory c) (Fetches size faults mismatches held c n xs result b.disks new.set) → IfErr result (λ r. HasCause faults mismatches held (record b { disks = new.set; out = new.out }) (fault_of r))
-  fetches-cause last told =
-      let is = subst (λ (o : Option Extent). IfSome o (Fetches size faults mismatches held c n xs result b.disks new.set)) found.1 told in
-      call-cause size faults mismatches held b new found.0.disk result back (on_a_disk found.0 found.1) (refuses-names found.0.disk (header c n found.0.length) result is.refused_by_its_disk) (fetch-call size faults mismatches held b new c n xs result found.0 is)
-      (λ damaged tells. false≢true (sym (is.undamaged_where_it_tells (λ x there. tell-still size faults mismatches held b.opened b.disks.disks back tells found.0.disk.0 x there)) ∙ damaged))
-      (λ d want held_there e. wanted-last found.0.disk (header c n found.0.length) result is.refused_by_its_disk (IsLastWritten b.program b.machine (state b)) (last found.0 found.1) d want held_there e)
+  pub fetches-cause : IsLastWritten b.program b.machine (state b) e.disk (header c n e.length) → Fetches size faults mismatches held c n xs result b.disks new.set e → IfErr result (λ r. HasCause faults mismatches held (record b { disks = new.set; out = new.out }) (fault_of r))
+  fetches-cause last is =
+      call-cause size faults mismatches held b new e.disk result back on_a_disk (refuses-names e.disk (header c n e.length) result is.refused_by_its_disk) (fetch-call size faults mismatches held b new c n xs result e is)
+      (λ damaged tells. false≢true (sym (is.undamaged_where_it_tells (tell-still size faults mismatches held b.opened b.disks.disks back tells e.disk.0)) ∙ damaged))
+      (λ d want found at. wanted-last e.disk (header c n e.length) result is.refused_by_its_disk (IsLastWritten b.program b.machine (state b)) last d want found at)
