@@ -14,6 +14,7 @@ pub mod Gifting
 pub mod Giving
 pub mod Hands
 pub mod Keeping
+pub mod KeptEvents
 pub mod KeptGifts
 pub mod LastHeaders
 pub mod LoanedTiles

@@ -44,9 +44,7 @@ module _ {D : Type 0} {eq : Equations} (size faults mismatches : D → ℕ) (hel
       by_block None e is = absurd (let f : ◌≡◌ {A = Option DiskNo} None (Some d) = is in cc)
       by_block (Some k) e is =
           let found = IsSomeAnd-at (IsBlock p c k) (extent_of b.disks.directory c.0) (IfSome-at (λ (k : Block). IsSomeAnd (extent_of b.disks.directory c.0) (IsBlock p c k)) (block_of p m c) k e (keeps.sound.blocks.placed c)) in
-          let one : ◌≡◌ {A = Option DiskNo} (Some k.disk) (Some d) = is in
-          let same : k.disk ≡ d = cc in
-          (found.0, found.1, found.2.whole, found.2.disk ∙ same)
+          (found.0, found.1, found.2.whole, found.2.disk ∙ same_Some k.disk d is)
 
   -- the same state over other disks
   keeps-over : (new : LendingState D) → HoldsBlocks held p m s (run_arrays b) (AllTell held b) new.set → AreGivenBack size faults mismatches held b.disks.disks new.set.disks → Keeps size faults mismatches held (record b { disks = new.set; out = new.out }) rows tiles spare

@@ -1,5 +1,5 @@
 -- The disks in workers' hands: what is in hand is out, and only that.
-use Rattle.sj_board.proofs.Words.{[], All, ap, arith, Bool, Cell, DiskState, empty_hand, Equations, Err, Event, Extent, extent_of, false, first_hands, get_or, Hand, hand_in, HasMoved, IfSome, inl, inr, is_out, IsInHand, IsSomeAnd, length, lent, List, Moved, None, NoneIsOut, Ok, OnErr, OnOk, Option, option_and_then, option_map, Program, refl, replicate, Result, set, slice_set, Some, StandingBy, state, subst, suc, sym, Transfer, transfer, true, unit_at, unit_state, UnitsStand, UnitState, with_event, Worker, worker, zero, ℕ, ◌<◌, ◌∙◌, ◌∷◌, ◌≡◌, ◌≢◌, ◌⊎◌}
+use Rattle.sj_board.proofs.Words.{[], All, ap, arith, Bool, Cell, DiskState, empty_hand, Equations, Event, Extent, extent_of, false, first_hands, get_or, Hand, hand_in, inl, inr, is_out, IsInHand, IsSomeAnd, length, lent, List, None, NoneIsOut, Option, option_and_then, option_map, Program, refl, replicate, set, slice_set, Some, StandingBy, subst, suc, sym, true, unit_at, unit_state, UnitsStand, UnitState, with_event, Worker, worker, zero, ℕ, ◌<◌, ◌∙◌, ◌∷◌, ◌≡◌, ◌≢◌, ◌⊎◌}
 use Rattle.std.proofs.Common.{slice_get}
 use Rattle.std.proofs.lemmas.{Bool.cases_eq, Bool.cases_lt, Bool.false≢true, List.get_or-set_other, List.get_or-set_same, List.get_or_past, List.length-set, List.Elements.All-get_or, Option.none-some, Option.same_Some}
 use Rattle.sj_base.proofs.{Lists.get_or-replicate_same, Options.IsSomeAnd-at, Options.IsSomeAnd-from, SameIds.workers_differ}
@@ -29,17 +29,6 @@ units-set disks out hands hands' w h is same stand =
 -- an event happens
 pub units-event : {D : Type 0} {eq : Equations} (run run' : StandingBy eq D) (hands : List Hand) (e : Event) → run' ≡ with_event run e → UnitsStand run.disks run.out hands → UnitsStand run'.disks run'.out hands
 units-event run run' hands e is stand = subst (λ (r : StandingBy _ _). UnitsStand r.disks r.out hands) (sym is) stand
-
-pub units-tried : {D A E : Type 0} {eq : Equations} (run run' : StandingBy eq D) (hands : List Hand) (result : Result A E) (e : Event) → OnOk result (run' ≡ with_event run e) → OnErr result (run' ≡ run) → UnitsStand run.disks run.out hands → UnitsStand run'.disks run'.out hands
-units-tried run run' hands (Ok a) e ok err stand = units-event run run' hands e ok stand
-units-tried run run' hands (Err x) e ok err stand = subst (λ (r : StandingBy _ _). UnitsStand r.disks r.out hands) (sym err) stand
-
-pub units-moved : {D : Type 0} {eq : Equations} (run run' : StandingBy eq D) (hands : List Hand) (w : Worker) (Q : Transfer → Type 0) → IsSomeAnd (transfer (state run) w) Q → HasMoved w run run' → UnitsStand run.disks run.out hands → UnitsStand run'.disks run'.out hands
-units-moved {D} run run' hands w Q some moved stand = by_move (transfer (state run) w) some moved
-  where
-    by_move : (o : Option Transfer) → IsSomeAnd o Q → IfSome o (λ x. run' ≡ with_event run (Moved x.cell x.from x.to)) → UnitsStand run'.disks run'.out hands
-    by_move None none is = absurd none
-    by_move (Some x) some is = units-event run run' hands (Moved x.cell x.from x.to) is stand
 
 -- ---- at the beginning and at the end
 

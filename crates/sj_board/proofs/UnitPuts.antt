@@ -1,9 +1,9 @@
 -- A unit that a worker takes for its move, works on and puts back: the run holds what it held, and what was stored or fetched.
-use Rattle.sj_board.proofs.Words.{a_transfer, ap, area, AreCounted, AreGivenBack, Array, Bool, Cell, ComesFrom, dims_of, disk_of, DiskNo, DiskRefusal, Equations, Err, Extent, extent_of, false, fault_of, Fetches, has_back, has_copy, HasBlockOf, HasCause, HasFetched, HasFetchedMoved, HasItsDiskIn, HasStored, HasStoredMoved, IfErr, inl, inr, is_node, IsDiskMove, IsFetching, IsInFor, IsLaidOut, IsMovingOut, IsSome, IsSomeAnd, IsStored, IsTaken, IsTileMoved, IsTileOf, IsUnitOf, IsWorkedOn, IsWrittenOut, Keeps, last_store, LendingState, length, lent, List, map, Ok, OnDisk, OnOk, Option, Place, refl, Result, Rows, slice_set, Some, StandingBy, state, Stores, subst, sym, TakesOut, TakesUnit, Transfer, transfer, true, UnitFetches, UnitState, UnitStores, Worker, writes, ℕ, ◌∙◌, ◌≡◌}
+use Rattle.sj_board.proofs.Words.{a_transfer, ap, area, AreCounted, AreGivenBack, Array, AtNode, Bool, Cell, ComesFrom, dims_of, disk_of, DiskNo, DiskRefusal, Equations, Err, Extent, extent_of, false, fault_of, Fetches, has_back, has_copy, HasBlockOf, HasCause, HasFetched, HasFetchedMoved, HasItsDiskIn, HasStored, HasStoredMoved, IfErr, inl, inr, is_node, IsDiskMove, IsFetching, IsInFor, IsLaidOut, IsMovingOut, IsSome, IsSomeAnd, IsStored, IsTaken, IsTileMoved, IsTileOf, IsUnitOf, IsWorkedOn, IsWrittenOut, Keeps, last_store, LendingState, length, lent, List, map, Ok, OnDisk, OnOk, Option, Place, refl, Result, Rows, slice_set, Some, StandingBy, state, Stores, subst, sym, TakesOut, TakesUnit, Transfer, transfer, true, UnitFetches, UnitState, UnitStores, Worker, writes, ℕ, ◌∙◌, ◌≡◌}
 use Rattle.sj_base.proofs.{Lists.set-slice_get, Options.IfSome-at, Options.IfSome-from, Options.IsSomeAnd-at}
 use Rattle.sj_core.proofs.Placing.{home-is}
 use Rattle.sj_board.proofs.{DiskCounts.fetches-cause, DiskCounts.fetches-counted, DiskCounts.stores-cause, DiskCounts.stores-counted, Keeping.copy-on_disk, Storing.extent, Storing.fetch-last, Storing.fetched-well, Storing.keeps-fetched, Storing.keeps-stored, Storing.stored-well}
-use Rattle.std.proofs.lemmas.Option.{same_Some}
+use Rattle.std.proofs.lemmas.{Bool.false≢true, Option.same_Some}
 use Rattle.sj_disk.proofs.Returning.{extent-stays}
 
 -- which disks are out is no matter of what a run keeps
@@ -50,10 +50,7 @@ module _ {D : Type 0} {eq : Equations} (size faults mismatches : D → ℕ) (hel
 
     on-disk : (q : Place) → is_node q ≡ false → (d : DiskNo) × (q ≡ OnDisk d)
     on-disk (OnDisk d) e = (d, refl)
-    on-disk _ e = absurd (the-clash e)
-      where
-        the-clash : true ≡ false → ⊥
-        the-clash e = absurd (cc)
+    on-disk (AtNode n) e = absurd (false≢true (sym e))
 
     -- ---- a unit of it
     module _ (u : UnitState D) (is : IsUnitOf b w u) where
