@@ -52,7 +52,7 @@ pub use Rattle.sj_disk.specs.Units.{IsWorkedOn, unit_state, UnitFetches, UnitSta
 pub use Rattle.sj_disk.specs.declared.directory.Extent.{Extent}
 pub use Rattle.sj_disk.specs.declared.header.Header.{Header}
 pub use Rattle.sj_disk.specs.declared.refusal.DiskRefusal.{DiskRefusal}
-pub use Rattle.sj_edge.specs.Faults.{counted, Rose}
+pub use Rattle.sj_edge.specs.Faults.{counted, Counts, Rose}
 pub use Rattle.sj_edge.specs.GivenBack.{AreGivenBack, IsGivenBack}
 pub use Rattle.sj_machine.specs.Choosing.{may_run}
 pub use Rattle.sj_machine.specs.ReadyTasks.{CountsDone, IsToBeTaken}
