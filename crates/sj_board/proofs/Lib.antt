@@ -14,8 +14,11 @@ pub mod Gifting
 pub mod Giving
 pub mod Hands
 pub mod Keeping
+<<<<<<< ours
 pub mod KeptEvents
 pub mod KeptGifts
+=======
+>>>>>>> theirs
 pub mod LastHeaders
 pub mod LoanedTiles
 pub mod MakingRun
