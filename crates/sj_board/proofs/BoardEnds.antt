@@ -1,14 +1,10 @@
 -- What the ends of tasks leave on a board, as its events happen.
-<<<<<<< ours
-use Rattle.sj_board.proofs.Words.{[], after, AllTell, ap, arith, Array, CanHappen, Claim, Claimed, Coherent, cond, Deliveries, DeliversEach, delivery_count, DiskState, Done, done_in, End, Equations, Event, gift_in, handed, HoldsCommutersAlone, if◌then◌else◌, is_begun, is_deliver_task, is_delivery, is_done, is_some, is_task_of, IsComplete, IsGift, IsReadyToDeliver, IsSound, IsSoundRun, KeepsEnds, length, List, Lowered, Machine, map, no_task, None, not, opening, Option, Program, Progress, progress, refl, replicate, Run, Running, set, StandingBy, starting, State, state, subst, sum_by, sym, Task, task_of, tasks_of, true, undelivered, undone, Waiting, with_event, Worker, worker_of, ℕ, ◌&&◌, ◌*◌, ◌++◌, ◌+◌, ◌-◌, ◌<◌, ◌∙◌, ◌≡◌}
-=======
-use Rattle.sj_board.proofs.Words.{after, AllTell, ap, arith, Array, AtNode, CanHappen, Claim, Claimed, Coherent, cond, delivered_cell, Deliveries, DeliversEach, delivery_count, DiskState, Done, done_in, End, Equations, Err, Event, gift_in, handed, HasAtHand, HasMoved, HoldsCommutersAlone, if◌then◌else◌, is_begun, is_deliver_task, is_delivery, is_done, is_some, is_task_of, IsComplete, IsDeliveryOf, IsGift, IsKeptFor, IsReadyToDeliver, IsSomeAnd, IsSound, IsSoundRun, IsTileOf, KeepsEnds, length, List, Lowered, Machine, map, Moved, no_task, node_of, None, not, Ok, OnErr, OnOk, opening, Option, Program, Progress, progress, refl, replicate, Result, Run, Running, set, StandingBy, starting, State, state, subst, sum_by, sym, Task, task_of, tasks_of, Transfer, transfer, true, undelivered, undone, Waiting, with_event, Worker, worker_of, Works, ℕ, ◌&&◌, ◌*◌, ◌++◌, ◌+◌, ◌-◌, ◌<◌, ◌∙◌, ◌≡◌}
->>>>>>> theirs
+use Rattle.sj_board.proofs.Words.{after, AllTell, ap, arith, Array, AtNode, CanHappen, Claim, Claimed, Coherent, cond, delivered_cell, Deliveries, DeliversEach, delivery_count, DiskState, Done, done_in, End, Equations, Event, gift_in, handed, HasAtHand, HoldsCommutersAlone, if◌then◌else◌, is_begun, is_deliver_task, is_delivery, is_done, is_some, is_task_of, IsComplete, IsDeliveryOf, IsGift, IsKeptFor, IsReadyToDeliver, IsSound, IsSoundRun, IsTileOf, KeepsEnds, length, List, Lowered, Machine, map, no_task, node_of, None, not, opening, Option, Program, Progress, progress, refl, replicate, Run, Running, set, StandingBy, starting, State, state, subst, sum_by, sym, Task, task_of, tasks_of, true, undelivered, undone, Waiting, with_event, Worker, worker_of, Works, ℕ, ◌&&◌, ◌*◌, ◌++◌, ◌+◌, ◌-◌, ◌<◌, ◌∙◌, ◌≡◌}
 use Rattle.std.proofs.lemmas.{List.ext_get_or, List.get_or-map, List.length-map, List.length-replicate, List.Folds.sum_by-replicate, List.FromFn.get_or-map-range_with_len, List.FromFn.length-map-range_with_len, List.Sums.AllPass-from_list_all}
 use Rattle.sj_core.proofs.{Advancing.Advances, Advancing.claimed-is_mine, Advancing.claimed-task_of, Advancing.Claims-advances, Advancing.Ends-advances, Advancing.Runs-advances, Claimed.claimed-inside, Claimed.claimed-staffed, Coherence.Claims-keeps_coherence, Eviction.evicted-after, Finding.running-inside, Opening.waits, Replicas.same_worker-refl, States.state_of-more, Sums.sum-agree, Sums.tally}
 use Rattle.sj_machine.proofs.Commuting.{holds-alone}
 use Rattle.sj_board.proofs.{Delivering.at-hand, Delivering.deliver-inside, Delivering.run-has, Ends.delivers-each, Ends.ends-begun, Ends.ends-claimed, Ends.ends-ended, Ends.ends-same, Ends.ends-some_left, Ends.ends-spare, Keeping.IsSomeAnd-map}
-use Rattle.sj_base.proofs.{Bools.and_true, Lists.sum_by-map, Options.IfSome-at, Options.IsSomeAnd-at}
+use Rattle.sj_base.proofs.{Bools.and_true, Lists.sum_by-map}
 
 -- of a run as it stands
 abbrev pub Keeps : {D : Type 0} {eq : Equations} → (D → Option (List ℕ)) → StandingBy eq D → List (Task × Array) → List (Option Array) → ℕ → ℕ → Type 0
@@ -31,18 +27,6 @@ module _ {D : Type 0} {eq : Equations} (held : D → Option (List ℕ)) (run : S
   pub stays : (e : Event) (run' : StandingBy eq D) → run' ≡ with_event run e → (after p m s e).tasks ≡ s.tasks → Keeps held run' pairs gifts spare left
   stays e run' is same = subst (λ (r : StandingBy eq D). Keeps held r pairs gifts spare left) (sym is) (ends-same eq p s (state (with_event run e)) (AllTell held run) pairs gifts spare left keeps (ap (λ (z : State). z.tasks) (now-is e) ∙ same))
 
-<<<<<<< ours
-=======
-  pub stays-tried : {A E : Type 0} (result : Result A E) (e : Event) (run' : StandingBy eq D) → OnOk result (run' ≡ with_event run e) → OnErr result (run' ≡ run) → (after p m s e).tasks ≡ s.tasks → Keeps held run' pairs gifts spare left
-  stays-tried (Ok a) e run' ok err same = stays e run' ok same
-  stays-tried (Err x) e run' ok err same = subst (λ (r : StandingBy eq D). Keeps held r pairs gifts spare left) (sym err) keeps
-
-  pub stays-moved : (w : Worker) (run' : StandingBy eq D) (Q : Transfer → Type 0) → IsSomeAnd (transfer s w) Q → HasMoved w run run' → Keeps held run' pairs gifts spare left
-  stays-moved w run' Q some moved =
-      let (x, at, its) = IsSomeAnd-at Q (transfer s w) some in
-      stays (Moved x.cell x.from x.to) run' (IfSome-at (λ (y : Transfer). run' ≡ with_event run (Moved y.cell y.from y.to)) (transfer s w) x at moved) refl
-
->>>>>>> theirs
   -- where the disks alone change
   pub stays-stored : (run' : StandingBy eq D) → run' ≡ record run { disks = run'.disks; out = run'.out } → Keeps held run' pairs gifts spare left
   stays-stored run' is = subst (λ (r : StandingBy eq D). Keeps held r pairs gifts spare left) (sym is) keeps

@@ -1,13 +1,7 @@
 -- A board stays sound where an event changes no task's progress.
-<<<<<<< ours
-use Rattle.sj_board.proofs.Words.{after, ap, AreGivenBack, BoardBy, Contains, Dependencies, done_tasks, Equations, Event, Hand, has_event, HasCause, IfSome, is_some, is_task_of, IsComplete, IsSoundIn, IsTrue, KeepsBoard, List, Machine, OnlyDisksChange, Option, Pooled, Program, Progress, RunFault, StandingBy, State, state, subst, sym, with_event, ℕ, ◌↔◌, ◌∙◌, ◌≡◌, ◌⊎◌}
+use Rattle.sj_board.proofs.Words.{after, ap, AreGivenBack, BoardBy, Contains, Dependencies, done_tasks, Equations, Event, Hand, has_event, HasCause, IfSome, is_some, is_task_of, IsComplete, IsSoundIn, IsToBeTaken, IsTrue, KeepsBoard, List, Machine, OnlyDisksChange, Option, Pooled, Program, Progress, progress, RunFault, StandingBy, State, state, subst, sym, Task, with_event, Worker, ℕ, ◌↔◌, ◌∙◌, ◌≡◌, ◌⊎◌}
 use Rattle.sj_core.proofs.States.{state_of-more}
 use Rattle.sj_board.proofs.{Faulting.kept-cause, ReleasedTasks.released-same, Stepping.counts-same, Stepping.done-same, Stepping.progress-same, Stepping.taken-back, Stepping.taken-same, Stepping.tasks_alone}
-=======
-use Rattle.sj_board.proofs.Words.{after, ap, AreGivenBack, BoardBy, Contains, Dependencies, done_tasks, Equations, Err, Event, Hand, has_event, HasCause, HasMoved, IfSome, is_some, is_task_of, IsComplete, IsSomeAnd, IsSoundIn, IsToBeTaken, IsTrue, KeepsBoard, List, Machine, Moved, Ok, OnErr, OnlyDisksChange, OnOk, Option, Pooled, Program, Progress, progress, refl, Result, RunFault, StandingBy, State, state, subst, sym, Task, Transfer, transfer, with_event, Worker, ℕ, ◌↔◌, ◌∙◌, ◌≡◌, ◌⊎◌}
-use Rattle.sj_core.proofs.States.{state_of-more}
-use Rattle.sj_board.proofs.{Faulting.kept-cause, LastHeaders.moved-cause, ReleasedTasks.released-same, Stepping.counts-same, Stepping.done-same, Stepping.progress-same, Stepping.taken-back, Stepping.taken-same, Stepping.tasks_alone, Storing.some-if}
->>>>>>> theirs
 
 -- ---- what is said of a board is said of the tasks in its state alone
 
@@ -54,20 +48,6 @@ module _ {D : Type 0} {eq : Equations} (faults mismatches : D → ℕ) (held : D
   pub keeps-run : (e : Event) (run' : StandingBy eq D) → run' ≡ with_event b.run e → IfSome b.fault (HasCause faults mismatches held (with_event b.run e)) → (after b.run.program b.run.machine (state b.run) e).tasks ≡ (state b.run).tasks → KeepsBoard faults mismatches held b deps footprints → KeepsBoard faults mismatches held (record b { run = run' }) deps footprints
   keeps-run e run' is cause same keeps = subst (λ (r : StandingBy eq D). KeepsBoard faults mismatches held (record b { run = r }) deps footprints) (sym is) (keeps-event e cause same keeps)
 
-<<<<<<< ours
-=======
-  -- where the event may fail to come, and then nothing has changed
-  pub keeps-tried : {A E : Type 0} (result : Result A E) (e : Event) (run' : StandingBy eq D) → OnOk result (run' ≡ with_event b.run e) → OnErr result (run' ≡ b.run) → IfSome b.fault (HasCause faults mismatches held (with_event b.run e)) → (after b.run.program b.run.machine (state b.run) e).tasks ≡ (state b.run).tasks → KeepsBoard faults mismatches held b deps footprints → KeepsBoard faults mismatches held (record b { run = run' }) deps footprints
-  keeps-tried (Ok a) e run' ok err cause same keeps = keeps-run e run' ok cause same keeps
-  keeps-tried (Err x) e run' ok err cause same keeps = subst (λ (r : StandingBy eq D). KeepsBoard faults mismatches held (record b { run = r }) deps footprints) (sym err) keeps
-
-  -- the end of a worker's move
-  pub keeps-moved : (w : Worker) (run' : StandingBy eq D) (Q : Transfer → Type 0) → IsSomeAnd (transfer (state b.run) w) Q → HasMoved w b.run run' → KeepsBoard faults mismatches held b deps footprints → KeepsBoard faults mismatches held (record b { run = run' }) deps footprints
-  keeps-moved w run' Q some moved keeps =
-      some-if Q (λ x. run' ≡ with_event b.run (Moved x.cell x.from x.to)) (KeepsBoard faults mismatches held (record b { run = run' }) deps footprints) (transfer (state b.run) w) some moved
-      (λ x is. keeps-run (Moved x.cell x.from x.to) run' is (moved-cause faults mismatches held b.run x.cell x.from x.to b.fault keeps.fault) refl keeps)
-
->>>>>>> theirs
 -- ---- no event
 
 -- where the disks alone change

@@ -1,12 +1,7 @@
 -- What a store and a fetch count, and that a refusal has its cause.
-<<<<<<< ours
-use Rattle.sj_board.proofs.Words.{[], AllTell, AllZip, ap, AreCounted, AreGivenBack, arith, Array, block, ChangesAt, counted, CountsFaults, differed_at, DiskNo, DiskRefusal, Equations, Err, Extent, extent_of, failed_at, false, fault_of, Fetches, get_or, HasCause, HasRisen, Header, header, IfErr, inl, inr, is_damage, is_err, is_fault, IsGivenBack, IsLaidOut, IsLastWritten, IsSomeAnd, Keeps, LendingState, length, List, Looks, map, MatchOption, nat_eq, None, Ok, Option, refl, RefusesFor, Result, Rose, Rows, slice_get, Some, StandingBy, state, Stores, subst, sym, true, Writes, ℕ, ℤ, ◌<◌, ◌∙◌, ◌∷◌, ◌≡◌, ◌≢◌, ◌≤◌}
-use Rattle.std.proofs.lemmas.{Bool.cases_eq, Bool.false≢true, Bool.ne_eqb, Bool.Decides.Decides-eqb, List.length-map, Option.none-some, Option.same_Some, Option.slice_get-get_or, Slice.Zip.AllZip-right}
-=======
-use Rattle.sj_board.proofs.Words.{AllTell, AllZip, ap, AreCounted, AreGivenBack, arith, Array, block, Bool, ChangesAt, counted, Counts, CountsFaults, differed_at, DiskNo, DiskRefusal, Equations, Err, Extent, extent_of, failed_at, false, fault_of, Fetches, HasCause, HasRisen, Header, header, IfErr, IfSome, inl, inr, is_damage, is_err, is_fault, IsGivenBack, IsLaidOut, IsLastWritten, IsSomeAnd, Keeps, LendingState, length, List, Looks, map, nat_eq, Ok, Option, refl, RefusesFor, Result, Rose, Rows, slice_get, Some, StandingBy, state, Stores, subst, sym, true, Writes, ℕ, ℤ, ◌&&◌, ◌<◌, ◌∙◌, ◌≡◌, ◌≤◌}
+use Rattle.sj_board.proofs.Words.{AllTell, AllZip, ap, AreCounted, AreGivenBack, arith, Array, block, Bool, ChangesAt, counted, Counts, CountsFaults, differed_at, DiskNo, DiskRefusal, Equations, Err, Extent, extent_of, failed_at, false, fault_of, Fetches, HasCause, HasRisen, Header, header, IfErr, inl, inr, is_damage, is_err, is_fault, IsGivenBack, IsLaidOut, IsLastWritten, IsSomeAnd, Keeps, LendingState, length, List, Looks, map, nat_eq, Ok, Option, refl, RefusesFor, Result, Rose, Rows, slice_get, Some, StandingBy, state, Stores, subst, sym, true, Writes, ℕ, ℤ, ◌&&◌, ◌<◌, ◌∙◌, ◌≡◌, ◌≢◌, ◌≤◌}
 use Rattle.std.proofs.lemmas.{Bool.and_right, Bool.cases_Bool, Bool.eqb-false, Bool.eqb-true, Bool.false≢true, List.length-map, Option.same_Some, Slice.Zip.AllZip-right}
 use Rattle.sj_base.proofs.{Bools.and_true, Options.IfSome-at, Options.IsSomeAnd-at, Options.IsSomeAnd-from, Options.the}
->>>>>>> theirs
 use Rattle.sj_disk.specs.declared.refusal.DiskRefusal.TheVariants.{Damaged, DiskFault}
 use Rattle.sj_disk.proofs.Sounding.{found}
 use Rattle.sj_board.proofs.Storing.{tell-still}
@@ -114,61 +109,26 @@ module _ {D A : Type 0} {eq : Equations} (size faults mismatches : D → ℕ) (h
 
 -- ---- as a run's store and fetch tell it
 
-<<<<<<< ours
 module _ {D A : Type 0} {eq : Equations} (size faults mismatches : D → ℕ) (held : D → Option (List ℕ)) (b : StandingBy eq D) (rows : Rows) (tiles : List (List (Option Array))) (spare : ℕ) (keeps : Keeps size faults mismatches held b rows tiles spare) (new : LendingState D) (c n : ℕ) (xs : List ℤ) (result : Result A DiskRefusal) (laid : IsLaidOut (map size b.disks.disks) b.disks.taken b.disks.directory) (e : Extent) (its : extent_of b.disks.directory c ≡ Some e) where
-  back : AreGivenBack size faults mismatches held b.opened b.disks.disks
-  back = keeps.sound.given_back
-
   -- the disk of the cell's block is there
   on_a_disk : e.disk.0 < length b.disks.disks
   on_a_disk = omega (arith, laid.on_a_disk c e its, length-map b.disks.disks size)
 
-  pub stores-counted : Stores size faults mismatches held c n xs result b.disks new.set e → AreCounted faults mismatches result b.disks.disks new.set.disks
-  stores-counted is = call-counted faults mismatches e.disk result b.disks.disks new.set.disks (refused-names e.disk result is.refused_by_its_disk) (store-call size faults mismatches held b new c n xs result e is)
-
-  pub stores-cause : Stores size faults mismatches held c n xs result b.disks new.set e → IfErr result (λ r. HasCause faults mismatches held (record b { disks = new.set; out = new.out }) (fault_of r))
-  stores-cause is =
-      let only = refused-fault e.disk result is.refused_by_its_disk in
-      call-cause size faults mismatches held b new e.disk result back on_a_disk (refused-names e.disk result is.refused_by_its_disk) (store-call size faults mismatches held b new c n xs result e is) (λ damaged tells. false≢true (sym only.1 ∙ damaged)) (λ d want found at. absurd (false≢true (sym only.1 ∙ ap is_damage at)))
-
-  pub fetches-counted : Fetches size faults mismatches held c n xs result b.disks new.set e → AreCounted faults mismatches result b.disks.disks new.set.disks
-  fetches-counted is = call-counted faults mismatches e.disk result b.disks.disks new.set.disks (refuses-names e.disk (header c n e.length) result is.refused_by_its_disk) (fetch-call size faults mismatches held b new c n xs result e is)
-
-  pub fetches-cause : IsLastWritten b.program b.machine (state b) e.disk (header c n e.length) → Fetches size faults mismatches held c n xs result b.disks new.set e → IfErr result (λ r. HasCause faults mismatches held (record b { disks = new.set; out = new.out }) (fault_of r))
-  fetches-cause last is =
-      call-cause size faults mismatches held b new e.disk result back on_a_disk (refuses-names e.disk (header c n e.length) result is.refused_by_its_disk) (fetch-call size faults mismatches held b new c n xs result e is)
-      (λ damaged tells. false≢true (sym (is.undamaged_where_it_tells (tell-still size faults mismatches held b.opened b.disks.disks back tells e.disk.0)) ∙ damaged))
-      (λ d want found at. wanted-last e.disk (header c n e.length) result is.refused_by_its_disk (IsLastWritten b.program b.machine (state b)) last d want found at)
-=======
-module _ {D A : Type 0} {eq : Equations} (size faults mismatches : D → ℕ) (held : D → Option (List ℕ)) (b : StandingBy eq D) (rows : Rows) (tiles : List (List (Option Array))) (spare : ℕ) (keeps : Keeps size faults mismatches held b rows tiles spare) (new : LendingState D) (c n : ℕ) (xs : List ℤ) (result : Result A DiskRefusal) (laid : IsLaidOut (map size b.disks.disks) b.disks.taken b.disks.directory) (Q : Extent → Type 0) (some : IsSomeAnd (extent_of b.disks.directory c) Q) where
-  its : (e : Extent) × (extent_of b.disks.directory c ≡ Some e) × Q e
-  its = IsSomeAnd-at Q (extent_of b.disks.directory c) some
-
-  -- the disk of the cell's block is there
-  on_a_disk : its.0.disk.0 < length b.disks.disks
-  on_a_disk = omega (arith, laid.on_a_disk c its.0 its.1, length-map b.disks.disks size)
-
-  module _ (told : IfSome (extent_of b.disks.directory c) (Stores size faults mismatches held c n xs result b.disks new.set)) where
-    stored : Stores size faults mismatches held c n xs result b.disks new.set its.0
-    stored = IfSome-at (Stores size faults mismatches held c n xs result b.disks new.set) (extent_of b.disks.directory c) its.0 its.1 told
+  module _ (is : Stores size faults mismatches held c n xs result b.disks new.set e) where
+    only : (is_err result ≡ is_fault result) × (is_damage result ≡ false) × RefusesFor e.disk (header c n e.length) result
+    only = refused-fault e.disk (header c n e.length) result is.refused_by_its_disk
 
     pub stores-counted : AreCounted faults mismatches result b.disks.disks new.set.disks
-    stores-counted = call-counted faults mismatches its.0.disk (header c n its.0.length) result b.disks.disks new.set.disks (refused-fault its.0.disk (header c n its.0.length) result stored.refused_by_its_disk).2 (store-call size faults mismatches held b new c n xs result its.0 stored)
+    stores-counted = call-counted faults mismatches e.disk (header c n e.length) result b.disks.disks new.set.disks only.2 (store-call size faults mismatches held b new c n xs result e is)
 
     pub stores-cause : IfErr result (λ r. HasCause faults mismatches held (record b { disks = new.set; out = new.out }) (fault_of r))
-    stores-cause =
-        let only = refused-fault its.0.disk (header c n its.0.length) result stored.refused_by_its_disk in
-        call-cause size faults mismatches held b new its.0.disk (header c n its.0.length) result keeps.sound.given_back on_a_disk only.2 (store-call size faults mismatches held b new c n xs result its.0 stored) (λ damaged tells. false≢true (sym only.1 ∙ damaged)) (λ damaged. absurd (false≢true (sym only.1 ∙ damaged)))
+    stores-cause = call-cause size faults mismatches held b new e.disk (header c n e.length) result keeps.sound.given_back on_a_disk only.2 (store-call size faults mismatches held b new c n xs result e is) (λ damaged tells. false≢true (sym only.1 ∙ damaged)) (λ damaged. absurd (false≢true (sym only.1 ∙ damaged)))
 
-  fetched : IfSome (extent_of b.disks.directory c) (Fetches size faults mismatches held c n xs result b.disks new.set) → Fetches size faults mismatches held c n xs result b.disks new.set its.0
-  fetched told = IfSome-at (Fetches size faults mismatches held c n xs result b.disks new.set) (extent_of b.disks.directory c) its.0 its.1 told
+  module _ (is : Fetches size faults mismatches held c n xs result b.disks new.set e) where
+    pub fetches-counted : AreCounted faults mismatches result b.disks.disks new.set.disks
+    fetches-counted = call-counted faults mismatches e.disk (header c n e.length) result b.disks.disks new.set.disks is.refused_by_its_disk (fetch-call size faults mismatches held b new c n xs result e is)
 
-  pub fetches-counted : IfSome (extent_of b.disks.directory c) (Fetches size faults mismatches held c n xs result b.disks new.set) → AreCounted faults mismatches result b.disks.disks new.set.disks
-  fetches-counted told = call-counted faults mismatches its.0.disk (header c n its.0.length) result b.disks.disks new.set.disks (fetched told).refused_by_its_disk (fetch-call size faults mismatches held b new c n xs result its.0 (fetched told))
-
-  pub fetches-cause : ((e : Extent) → extent_of b.disks.directory c ≡ Some e → IsLastWritten b.program b.machine (state b) e.disk (header c n e.length)) → IfSome (extent_of b.disks.directory c) (Fetches size faults mismatches held c n xs result b.disks new.set) → IfErr result (λ r. HasCause faults mismatches held (record b { disks = new.set; out = new.out }) (fault_of r))
-  fetches-cause last told =
-      call-cause size faults mismatches held b new its.0.disk (header c n its.0.length) result keeps.sound.given_back on_a_disk (fetched told).refused_by_its_disk (fetch-call size faults mismatches held b new c n xs result its.0 (fetched told))
-      (λ damaged tells. false≢true (sym ((fetched told).undamaged_where_it_tells (λ x there. tell-still size faults mismatches held b.opened b.disks.disks keeps.sound.given_back tells its.0.disk.0 x there)) ∙ damaged))
-      (λ damaged. last its.0 its.1)
->>>>>>> theirs
+    pub fetches-cause : IsLastWritten b.program b.machine (state b) e.disk (header c n e.length) → IfErr result (λ r. HasCause faults mismatches held (record b { disks = new.set; out = new.out }) (fault_of r))
+    fetches-cause last =
+        call-cause size faults mismatches held b new e.disk (header c n e.length) result keeps.sound.given_back on_a_disk is.refused_by_its_disk (fetch-call size faults mismatches held b new c n xs result e is)
+        (λ damaged tells. false≢true (sym (is.undamaged_where_it_tells (tell-still size faults mismatches held b.opened b.disks.disks keeps.sound.given_back tells e.disk.0)) ∙ damaged)) (λ damaged. last)

@@ -1,9 +1,5 @@
 -- The share that is taken of what a deliver task hands over, as the task begins to run.
-<<<<<<< ours
-use Rattle.sj_board.proofs.Words.{[], Access, access, All, AllTell, ap, arith, Array, AtNode, CanGive, CanHappen, Cell, delivered_cell, dims_of, Equations, get_or, IfSome, is_deliver_task, is_delivery, is_some, IsGift, IsTileOf, Keeps, kept_at, length, List, Lowered, Node, node_of, None, Option, R, refl, Rows, Run, run_arrays, Some, StandingBy, subst, sym, Task, task_of, tile_at, tile_in, tiles_of, true, unwrap_or, Worker, ℕ, ◌<◌, ◌∙◌, ◌∷◌, ◌≡◌}
-=======
-use Rattle.sj_board.proofs.Words.{[], Access, access, All, ap, arith, Array, AtNode, CanGive, CanHappen, Cell, delivered_cell, Equations, get_or, is_deliver_task, is_delivery, is_some, IsGift, IsSomeAnd, IsTileOf, Keeps, length, List, Lowered, Node, node_of, Option, Program, R, refl, Rows, Run, Some, StandingBy, subst, sym, Task, task_of, tile_at, tile_in, tiles_of, true, Worker, ℕ, ◌<◌, ◌∙◌, ◌∷◌, ◌≡◌}
->>>>>>> theirs
+use Rattle.sj_board.proofs.Words.{[], Access, access, All, ap, arith, Array, AtNode, CanGive, CanHappen, Cell, delivered_cell, Equations, get_or, is_deliver_task, is_delivery, is_some, IsGift, IsSomeAnd, IsTileOf, Keeps, length, List, Lowered, Node, node_of, Option, R, refl, Rows, Run, Some, StandingBy, subst, sym, Task, task_of, tile_at, tile_in, tiles_of, true, Worker, ℕ, ◌<◌, ◌∙◌, ◌∷◌, ◌≡◌}
 use Rattle.std.proofs.lemmas.{Bool.false≢true, List.get_or_default}
 use Rattle.sj_board.proofs.{Delivering.deliver-reads, EventTiles.tile_there, RunningTiles.run-can_give}
 
@@ -24,20 +20,8 @@ module _ {D : Type 0} {eq : Equations} (size faults mismatches : D → ℕ) (hel
   there : is_some (tile_at tiles cell (node_of b.machine w)) ≡ true
   there = give.tile refl
 
-<<<<<<< ours
-  tile : IsTileOf held b cell (AtNode (node_of b.machine w)) (kept_at tiles (node_of b.machine w) cell)
-  tile = by_tile (tile_at tiles cell (node_of b.machine w)) there (keeps.tiles.dims cell (node_of b.machine w)) (λ tells. keeps.tiles.arrays tells cell (node_of b.machine w))
-    where
-      by_tile : (o : Option Array) → is_some o ≡ true → IfSome o (λ a. a.dims ≡ dims_of b.program cell) → (AllTell held b → IfSome o (λ a. a ≡ run_arrays b cell (AtNode (node_of b.machine w)))) → IsTileOf held b cell (AtNode (node_of b.machine w)) (unwrap_or o (record { dims = record { rows = 0; cols = 0 }; elements = [] }))
-      by_tile None some dims arrays = absurd (false≢true some)
-      by_tile (Some a) some dims arrays = record { dims = dims; array = arrays }
-
   -- the row of its one operand's cell, and the node, as the code finds them
   module _ (operands : List Access) (listed : operands ≡ l.accesses) (a : Access) (row none : List (Option Array)) (found : row ≡ get_or tiles (get_or operands 0 a).cell.0 none) (n : Node) (at : n ≡ node_of b.machine w) where
-=======
-  -- the row and the node as the code finds them
-  module _ (row : List (Option Array)) (n : Node) (found : row ≡ get_or tiles cell.0 row) (at : n ≡ node_of b.machine w) where
->>>>>>> theirs
     its : row ≡ tiles_of tiles cell
     its =
         found ∙ ap (λ (xs : List Access). get_or tiles (get_or xs 0 a).cell.0 none) (listed ∙ ap (λ (x : Lowered). x.accesses) is ∙ reads)
@@ -57,22 +41,3 @@ module _ {D : Type 0} {eq : Equations} (size faults mismatches : D → ℕ) (hel
       some = λ yes. subst (λ (o : Option Array). IsSomeAnd o (IsTileOf held b cell (AtNode (node_of b.machine w)))) (sym found-tile ∙ kept_there) (tile_there size faults mismatches held b rows tiles spare keeps cell (node_of b.machine w) there).0;
       none = λ other. absurd (false≢true (sym other ∙ hands));
     })
-<<<<<<< ours
-      where
-        no_array : Array
-        no_array = record { dims = record { rows = 0; cols = 0 }; elements = [] }
-
-        kept : kept_at tiles (node_of b.machine w) cell ≡ x
-        kept = ap (λ (o : Option Array). unwrap_or o no_array) (sym (ap (λ (r : List (Option Array)). tile_in r n) its ∙ ap (λ (j : Node). tile_in (tiles_of tiles cell) j) at) ∙ kept_there)
-=======
-
--- ---- as the code finds it
-
--- the task is a deliver task where its codelet is
-pub hands-over : (p : Program) (t : Task) (l : Lowered) → l ≡ task_of p t → is_delivery l.codelet ≡ true → is_deliver_task p t ≡ true
-hands-over p t l is hands = sym (ap (λ (x : Lowered). is_delivery x.codelet) is) ∙ hands
-
--- and its one operand's row is that of its cell
-pub gift-row : (p : Program) (t : Task) (accesses : List Access) (a : Access) (rows : List (List (Option Array))) (row none : List (Option Array)) → accesses ≡ access R (delivered_cell p t) ∷ [] → row ≡ get_or rows (get_or accesses 0 a).cell.0 none → row ≡ get_or rows (delivered_cell p t).0 none
-gift-row p t accesses a rows row none reads is = is ∙ ap (λ (xs : List Access). get_or rows (get_or xs 0 a).cell.0 none) reads
->>>>>>> theirs

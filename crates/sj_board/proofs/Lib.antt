@@ -14,11 +14,7 @@ pub mod Gifting
 pub mod Giving
 pub mod Hands
 pub mod Keeping
-<<<<<<< ours
 pub mod KeptEvents
-pub mod KeptGifts
-=======
->>>>>>> theirs
 pub mod LastHeaders
 pub mod LoanedTiles
 pub mod MakingRun

@@ -20,21 +20,13 @@ module _ {D : Type 0} {eq : Equations} (size faults mismatches : D → ℕ) (hel
   tried-spares (Ok a) e can b' is = event-spares e can b' is
   tried-spares (Err x) e can b' is = is
 
-  -- a worker's transfer can end
-  pub can-end : (w : Worker) (x : Transfer) → transfer (state b) w ≡ Some x → CanHappen b (Moved x.cell x.from x.to)
-  can-end w x under_way = subst (λ (v : Worker). transfer (state b) v ≡ Some x) (one-mover b.program b.machine (state b) x.cell x.from x.to w run.coherent under_way) under_way
-
   -- the end of a worker's transfer
   pub moved-can : (w : Worker) (x : Transfer) → transfer (state b) w ≡ Some x → CanHappen b (Moved x.cell x.from x.to)
-  moved-can w x under_way = subst (λ (v : Worker). transfer (state b) v ≡ Some (a_transfer x.cell x.from x.to)) (one-mover b.program b.machine (state b) x.cell x.from x.to w run.coherent under_way) under_way
+  moved-can w x under_way = subst (λ (v : Worker). transfer (state b) v ≡ Some x) (one-mover b.program b.machine (state b) x.cell x.from x.to w run.coherent under_way) under_way
 
   pub moved-spares : (w : Worker) (b' : StandingBy eq D) → HasMoved w b b' → SparesMoved w b b'
   moved-spares w b' moved = by_transfer (transfer (state b) w) refl moved
     where
       by_transfer : (o : Option Transfer) → transfer (state b) w ≡ o → IfSome o (λ x. b' ≡ with_event b (Moved x.cell x.from x.to)) → IfSome o (λ x. Spares b (Moved x.cell x.from x.to) b')
       by_transfer None e is = tt
-<<<<<<< ours
       by_transfer (Some x) e is = event-spares (Moved x.cell x.from x.to) (moved-can w x e) b' is
-=======
-      by_transfer (Some x) e is = event-spares (Moved x.cell x.from x.to) (can-end w x e) b' is
->>>>>>> theirs

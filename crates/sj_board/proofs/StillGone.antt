@@ -1,24 +1,10 @@
 -- Victims that are gone stay so until their worker claims again.
-<<<<<<< ours
-use Rattle.sj_board.proofs.Words.{[], after, ap, AreGone, arith, arrived, AtNode, Bool, CanHappen, Cell, cell_state, CellState, Claim, DiskState, Drop, End, Equations, Event, false, get_or, inl, inr, Invalid, is_gone, is_leaving_by, IsSound, IsSoundRun, KnowsGone, length, List, list_all, Machine, Mark, mark, mark_in, May, Move, Moved, Node, node_of, not, OnDisk, Option, Place, Program, refl, reverse, Run, set, StandingBy, starting, State, state, stored, subst, sym, take, Task, true, Valid, victims_of, with_event, with_mark, with_row, Worker, WorkerState, ℕ, ◌&&◌, ◌<◌, ◌∙◌, ◌∷◌, ◌≡◌, ◌≢◌}
-use Rattle.std.specs.Prelude.{replicate}
-use Rattle.std.proofs.lemmas.{Bool.cases_lt, Bool.false_from_ne_true, Bool.false≢true, Bool.not-true, List.get_or-replicate, List.get_or-set_other, List.get_or-set_same, List.get_or_default, List.get_or_past, List.length-replicate, List.length-set}
-use Rattle.sj_core.proofs.{Claiming.claim-leaving, Claiming.Claims-other_worker, Ending.end-change, Eviction.evicted-after, Placing.mark-cases, Placing.row-cases, Placing.victims-same, Reading.workers_differ, Running.run-leaving, Running.run-worker, States.state_of-more}
-use Rattle.sj_base.proofs.Bools.{and_rest}
-use Rattle.sj_machine.proofs.GoneVictims.{and_first}
-use Rattle.sj_board.proofs.SparingBoards.{sound as run-sound}
-
-list_all-weaker : (f g : Cell → Bool) → ((c : Cell) → f c ≡ true → g c ≡ true) → (xs : List Cell) → list_all f xs ≡ true → list_all g xs ≡ true
-list_all-weaker f g more [] h = refl
-list_all-weaker f g more (x ∷ xs) h = ap (λ b. b && list_all g xs) (more x (and_first (f x) (list_all f xs) h)) ∙ list_all-weaker f g more xs (and_rest (f x) (list_all f xs) h)
-=======
-use Rattle.sj_board.proofs.Words.{after, ap, AreGone, arith, arrived, AtNode, CanHappen, Cell, cell_state, CellState, Claim, DiskState, Drop, End, Equations, Err, Event, false, get_or, HasMoved, IfSome, inl, inr, Invalid, is_gone, is_leaving_by, IsSomeAnd, IsSound, IsSoundRun, KnowsGone, length, List, list_all, Machine, Mark, mark, mark_in, May, Move, Moved, Node, node_of, None, not, Ok, OnDisk, OnErr, OnOk, Option, Place, Program, refl, Result, reverse, Run, set, Some, StandingBy, starting, State, state, stored, subst, sym, take, Task, Transfer, transfer, true, Valid, victims_of, with_event, with_mark, with_row, Worker, WorkerState, ℕ, ◌<◌, ◌∙◌, ◌≡◌, ◌≢◌}
+use Rattle.sj_board.proofs.Words.{after, ap, AreGone, arith, arrived, AtNode, CanHappen, Cell, cell_state, CellState, Claim, DiskState, Drop, End, Equations, Event, false, get_or, inl, inr, Invalid, is_gone, is_leaving_by, IsSound, IsSoundRun, KnowsGone, length, List, list_all, Machine, Mark, mark, mark_in, May, Move, Moved, Node, node_of, not, OnDisk, Option, Place, Program, refl, reverse, Run, set, StandingBy, starting, State, state, stored, subst, sym, take, Task, true, Valid, victims_of, with_event, with_mark, with_row, Worker, WorkerState, ℕ, ◌<◌, ◌∙◌, ◌≡◌, ◌≢◌}
 use Rattle.std.specs.Prelude.{replicate}
 use Rattle.std.proofs.lemmas.{Bool.cases_lt, Bool.false_from_ne_true, Bool.false≢true, Bool.not-true, List.get_or-set_other, List.get_or-set_same, List.get_or_default, List.get_or_past, List.length-replicate, List.length-set, List.Elements.All-weaker, List.Sums.AllPass-from_list_all, List.Sums.list_all-from_AllPass}
 use Rattle.sj_core.proofs.{Claiming.claim-leaving, Claiming.Claims-other_worker, Ending.end-change, Eviction.evicted-after, Placing.mark-cases, Placing.row-cases, Placing.victims-same, Reading.workers_differ, Running.run-leaving, Running.run-worker, States.state_of-more}
 use Rattle.sj_base.proofs.Lists.{get_or-replicate_same}
-use Rattle.sj_board.proofs.SparingBoards.{can-end, sound as run-sound}
->>>>>>> theirs
+use Rattle.sj_board.proofs.SparingBoards.{sound as run-sound}
 
 -- ---- events
 
@@ -124,21 +110,6 @@ module _ {D : Type 0} {eq : Equations} (size faults mismatches : D → ℕ) (hel
       gone = λ v. gone-stays run.machine v (state run) (state (with_event run e)) (event-stays e can v (other v)) (get_or gone v.0 0) (knows.gone v);
     })
 
-<<<<<<< ours
-=======
-    pub knows-tried : {A E : Type 0} (result : Result A E) (e : Event) → CanHappen run e → ((v : Worker) → NotClaimedBy e v) → (run' : StandingBy eq D) → OnOk result (run' ≡ with_event run e) → OnErr result (run' ≡ run) → Knows run' gone
-    knows-tried (Ok a) e can other run' ok err = knows-event e can other run' ok
-    knows-tried (Err x) e can other run' ok err = subst (λ (r : StandingBy eq D). Knows r gone) (sym err) knows
-
-    -- the end of a worker's move
-    pub knows-moved : (w : Worker) (run' : StandingBy eq D) (Q : Transfer → Type 0) → IsSomeAnd (transfer (state run) w) Q → HasMoved w run run' → Knows run' gone
-    knows-moved w run' Q some moved = by_move (transfer (state run) w) refl some moved
-      where
-        by_move : (o : Option Transfer) → transfer (state run) w ≡ o → IsSomeAnd o Q → IfSome o (λ x. run' ≡ with_event run (Moved x.cell x.from x.to)) → Knows run' gone
-        by_move None e none is = absurd none
-        by_move (Some x) e some is = knows-event (Moved x.cell x.from x.to) (can-end size faults mismatches held run sound w x e) (λ v. tt) run' is
-
->>>>>>> theirs
     -- a claim: none of its victims is known to be gone
     pub knows-claimed : (t : Task) (w : Worker) → CanHappen run (Claim t w) → (run' : StandingBy eq D) → run' ≡ with_event run (Claim t w) → (gone' : List ℕ) → gone' ≡ set gone w.0 0 → Knows run' gone'
     knows-claimed t w can run' is gone' noted = subst (λ (r : StandingBy eq D). Knows r gone') (sym is) (knows-noted run (with_event run (Claim t w)) refl w (λ v other. event-stays (Claim t w) can v other) refl gone knows 0 refl gone' noted)

@@ -148,7 +148,7 @@ module _ {D : Type 0} {eq : Equations} (size faults mismatches : D → ℕ) (hel
             read-counted = subst (λ (z : StandingBy eq D). AreCounted faults mismatches result z.disks.disks new.set.disks) same (fetches-counted size faults mismatches held b rows tiles spare keeps new x.cell.0 (writes (state b) x.cell) array.elements result laid fetched.before.extent its read-fetches)
 
             pub read-cause : IfErr result (λ r. HasCause faults mismatches held (record b { disks = new.set; out = new.out }) (fault_of r))
-            read-cause = fetches-cause size faults mismatches held b rows tiles spare keeps new x.cell.0 (writes (state b) x.cell) array.elements result laid fetched.before.extent its (fetch-last size faults mismatches held b rows tiles spare keeps x.cell w d x.to (at-source d at) fetched.before.extent its) read-fetches
+            read-cause = fetches-cause size faults mismatches held b rows tiles spare keeps new x.cell.0 (writes (state b) x.cell) array.elements result laid fetched.before.extent its read-fetches (fetch-last size faults mismatches held b rows tiles spare keeps x.cell w d x.to (at-source d at) fetched.before.extent its)
 
       -- the elements that were fetched well are the move's tile, whoever asks
       pub read-tiles : (new : LendingState D) → HasFetched size faults mismatches held u (lent b) new → OnOk result ((array : Array) → HasFetchedMoved size faults mismatches held b' w u result array → IsTileMoved held b' w array)
