@@ -1,5 +1,5 @@
 -- What a store and a fetch of a disk leave: the same state, over disks that hold what they held.
-use Rattle.sj_board.proofs.Words.{a_transfer, All, ap, area, AreGivenBack, arith, Array, AtNode, Block, block, block_bytes, block_of, Bool, Cell, Dims, dims_of, disk_of, DiskNo, DiskRefusal, Equations, Err, Extent, extent_of, Fetches, FitsSigned, has_copy, header, Holds, HoldsArray, IfSome, inl, inr, is_ok, IsBlock, IsBlockCopyOf, IsGivenBack, IsLastWritten, IsSome, IsSomeAnd, IsStored, IsTileMoved, IsTileOf, IsTransferTo, IsWrittenOut, Keeps, last_store, LendingState, length, List, Machine, None, Ok, OnDisk, OnOk, Option, option_map, Place, Program, refl, Result, Rows, run_arrays, slice_get, Some, StandingBy, State, state, Stores, subst, sym, TellsBytes, Transfer, transfer, true, w64, with_store, Worker, writes, ℕ, ℤ, ◌<◌, ◌∙◌, ◌≡◌, ◌≢◌, ◌⊎◌}
+use Rattle.sj_board.proofs.Words.{a_transfer, All, ap, area, AreGivenBack, arith, Array, AtNode, Block, block, block_bytes, block_of, Bool, Cell, Dims, dims_of, disk_of, DiskNo, DiskRefusal, Equations, Err, Extent, extent_of, Fetches, FitsSigned, has_copy, header, Holds, HoldsArray, IfSome, inl, inr, is_ok, IsBlock, IsBlockCopyOf, IsGivenBack, IsLastWritten, IsSome, IsSomeAnd, IsStored, IsTileMoved, IsTileOf, IsTransferTo, IsWrittenOut, Keeps, KeepsBlock, last_store, LendingState, length, List, Machine, None, Ok, OnDisk, OnOk, Option, option_map, Place, Program, refl, Result, Rows, run_arrays, slice_get, Some, StandingBy, State, state, Stores, subst, sym, TellsBytes, Transfer, transfer, true, w64, with_store, Worker, writes, ℕ, ℤ, ◌<◌, ◌∙◌, ◌≡◌, ◌≢◌, ◌⊎◌}
 use Rattle.std.proofs.lemmas.{Bool.false≢true, List.get_or-set_other, List.get_or-set_same, List.Elements.All-get_or, List.Elements.AllZip-get_or, List.Elements.length_all_zip, Option.get_or_from_slice_get, Option.none-some, Option.same_Some, Option.slice_get_within}
 use Rattle.sj_base.proofs.{Options.IfSome-from, Options.IsSomeAnd-at, Options.IsSomeAnd-from, SameIds.cell_of_number}
 use Rattle.sj_core.proofs.Placing.{cells_differ, home-is}
