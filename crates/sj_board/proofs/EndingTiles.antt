@@ -99,11 +99,13 @@ module _ {D : Type 0} {eq : Equations} (size faults mismatches : D → ℕ) (hel
 
   blocks-stay : (c : Cell) → on_disk s' c ≡ true → (on_disk s c ≡ true) × (writes s' c ≡ writes s c)
   blocks-stay c there =
-      let was : on_disk s c ≡ true = sym (end-alone p m s t w s' can refl c).disk ∙ there in
-      (was, elim (cases_Bool (has_cell ws c)) [
-        | inr left ↦ ap (λ (row : CellState). row.writes) (end-spared_row p m s t w s' can refl c left)
-        | inl has ↦ absurd (false≢true (sym (own c has).unstored ∙ was))
-      ])
+      let was : on_disk s c ≡ true = sym (end-alone p m s t w s' can refl c).disk ∙ there in (
+        was,
+        elim (cases_Bool (has_cell ws c)) [
+          | inr left ↦ ap (λ (row : CellState). row.writes) (end-spared_row p m s t w s' can refl c left)
+          | inl has ↦ absurd (false≢true (sym (own c has).unstored ∙ was))
+        ],
+      )
 
   -- ---- the tiles
 

@@ -73,10 +73,10 @@ next-case p m s t w todo next = by_victim (next_victim m s w) refl next
 pub fresh-is : (p : Program) (m : Machine) (s : State) (h : IsSound p m s) (t : Task) (w : Worker) → progress s t ≡ Claimed w → (c : Cell) → is_fresh p s w c ≡ has_cell (fresh_cells p t w) c
 fresh-is p m s h t w claimed c = same_test (is_fresh p s w c) (has_cell (fresh_cells p t w) c)
     (λ some.
-        (let found = list_any-some (λ u. is_claimed_by w (progress s u) && has_cell (fresh_cells p u w) c) _ some in
-        let parts = and_parts (is_claimed_by w (progress s found.0)) (has_cell (fresh_cells p found.0 w) c) found.2 in
-        let one = h.coherent.workers.one_task found.0 t w (claimed-task_of s found.0 w (claimed_by-is w (progress s found.0) parts.0)) (claimed-task_of s t w claimed) in
-        ap (λ (u : Task). has_cell (fresh_cells p u w) c) (sym one) ∙ parts.1))
+    (let found = list_any-some (λ u. is_claimed_by w (progress s u) && has_cell (fresh_cells p u w) c) _ some in
+    let parts = and_parts (is_claimed_by w (progress s found.0)) (has_cell (fresh_cells p found.0 w) c) found.2 in
+    let one = h.coherent.workers.one_task found.0 t w (claimed-task_of s found.0 w (claimed_by-is w (progress s found.0) parts.0)) (claimed-task_of s t w claimed) in
+    ap (λ (u : Task). has_cell (fresh_cells p u w) c) (sym one) ∙ parts.1))
     (λ e. list_any-task p (λ u. is_claimed_by w (progress s u) && has_cell (fresh_cells p u w) c) t (claimed-inside p m s h t w claimed) (and_from (is_claimed_by w (progress s t)) (has_cell (fresh_cells p t w) c) (ap (is_claimed_by w) claimed ∙ same_worker-refl w) e))
 
 -- ---- that another worker goes on

@@ -119,8 +119,8 @@ module _ {D : Type 0} {eq : Equations} (size faults mismatches : D → ℕ) (hel
         unit-fetches : UnitFetches size faults mismatches held (writes (state b) x.cell) array.elements result fetched.before u
         unit-fetches = IfSome-at (λ (y : Transfer). UnitFetches size faults mismatches held (writes (state b) y.cell) array.elements result fetched.before u) (transfer (state b) w) x under_way fetched.fetches
 
-        its : extent_of b.disks.directory x.cell.0 ≡ Some fetched.before.extent
-        its = its-extent fetched.before fetched.is_its_unit
+        its-block : extent_of b.disks.directory x.cell.0 ≡ Some fetched.before.extent
+        its-block = its-extent fetched.before fetched.is_its_unit
 
         dims-of : array.dims ≡ dims_of b.program x.cell
         dims-of = IfSome-at (λ (y : Transfer). array.dims ≡ dims_of b.program y.cell) (transfer (state b) w) x under_way fetched.dims
@@ -135,20 +135,20 @@ module _ {D : Type 0} {eq : Equations} (size faults mismatches : D → ℕ) (hel
               (has fetched.before (writes (state b) x.cell) array.elements result fetched.is_its_unit.taken unit-fetches)
 
           pub read-keeps : Keeps size faults mismatches held (record b { disks = new.set; out = new.out }) rows tiles spare
-          read-keeps = keeps-fetched size faults mismatches held b rows tiles spare keeps x.cell w d x.to (at-source d at) fetched.before.extent its result array dims-of new read-fetches
+          read-keeps = keeps-fetched size faults mismatches held b rows tiles spare keeps x.cell w d x.to (at-source d at) fetched.before.extent its-block result array dims-of new read-fetches
 
           pub read-tile : OnOk result (IsTileMoved held b' w array)
-          read-tile = fetched-well size faults mismatches held b rows tiles spare keeps x.cell w d x.to (at-source d at) fetched.before.extent its result array dims-of new read-fetches b' same
+          read-tile = fetched-well size faults mismatches held b rows tiles spare keeps x.cell w d x.to (at-source d at) fetched.before.extent its-block result array dims-of new read-fetches b' same
 
           pub read-back : AreGivenBack size faults mismatches held b'.disks.disks new.set.disks
           read-back = subst (λ (z : StandingBy eq D). AreGivenBack size faults mismatches held z.disks.disks new.set.disks) same read-fetches.disks_are_given_back
 
           module _ (laid : IsLaidOut (map size b.disks.disks) b.disks.taken b.disks.directory) where
             pub read-counted : AreCounted faults mismatches result b'.disks.disks new.set.disks
-            read-counted = subst (λ (z : StandingBy eq D). AreCounted faults mismatches result z.disks.disks new.set.disks) same (fetches-counted size faults mismatches held b rows tiles spare keeps new x.cell.0 (writes (state b) x.cell) array.elements result laid fetched.before.extent its read-fetches)
+            read-counted = subst (λ (z : StandingBy eq D). AreCounted faults mismatches result z.disks.disks new.set.disks) same (fetches-counted size faults mismatches held b rows tiles spare keeps new x.cell.0 (writes (state b) x.cell) array.elements result laid fetched.before.extent its-block read-fetches)
 
             pub read-cause : IfErr result (λ r. HasCause faults mismatches held (record b { disks = new.set; out = new.out }) (fault_of r))
-            read-cause = fetches-cause size faults mismatches held b rows tiles spare keeps new x.cell.0 (writes (state b) x.cell) array.elements result laid fetched.before.extent its read-fetches (fetch-last size faults mismatches held b rows tiles spare keeps x.cell w d x.to (at-source d at) fetched.before.extent its)
+            read-cause = fetches-cause size faults mismatches held b rows tiles spare keeps new x.cell.0 (writes (state b) x.cell) array.elements result laid fetched.before.extent its-block read-fetches (fetch-last size faults mismatches held b rows tiles spare keeps x.cell w d x.to (at-source d at) fetched.before.extent its-block)
 
       -- the elements that were fetched well are the move's tile, whoever asks
       pub read-tiles : (new : LendingState D) → HasFetched size faults mismatches held u (lent b) new → OnOk result ((array : Array) → HasFetchedMoved size faults mismatches held b' w u result array → IsTileMoved held b' w array)
