@@ -8,6 +8,7 @@ use Rattle.sj_base.specs.declared.ids.Task.{Task}
 use Rattle.sj_base.specs.declared.ids.Worker.{Worker}
 use Rattle.sj_base.specs.declared.program.Program.{Program}
 use Rattle.sj_base.specs.Array.{Array, zeros}
+use Rattle.sj_codelet.specs.Kernel.{out}
 use Rattle.sj_core.specs.Program.{same_cell, dims_of}
 use Rattle.sj_core.specs.Fold.{Contents, held_in, after_task, after_chosen}
 
@@ -54,7 +55,7 @@ held-moved p c a (e ∷ cs) (x ∷ xs) contents d h =
 
 -- what the cells hold after all tasks numbered below n
 abbrev pub contents_before : Program → ℕ → Contents
-contents_before p n = after_chosen p (λ t. true) (λ t. record { 0 = 0 }) n
+contents_before p n = after_chosen out p (λ t. true) (λ t. record { 0 = 0 }) n
 
 abbrev pub first_worker : Worker
 first_worker = record { 0 = 0 }
@@ -62,5 +63,5 @@ first_worker = record { 0 = 0 }
 abbrev pub task_at : ℕ → Task
 task_at n = record { 0 = n }
 
-pub contents-next : (p : Program) (n m : ℕ) → m ≡ n + 1 → contents_before p m ≡ after_task p first_worker (task_at n) (contents_before p n)
+pub contents-next : (p : Program) (n m : ℕ) → m ≡ n + 1 → contents_before p m ≡ after_task out p first_worker (task_at n) (contents_before p n)
 contents-next p n m h = let e : m ≡ suc n = omega (arith, h) in ap (contents_before p) e

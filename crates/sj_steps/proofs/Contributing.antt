@@ -17,15 +17,14 @@ use Rattle.sj_base.specs.declared.program.Program.{Program}
 use Rattle.sj_base.specs.Array.{Array, area, zeros}
 use Rattle.sj_base.specs.Mode.{is_redux, is_commute}
 use Rattle.sj_codelet.specs.declared.kernel.Kernel.{Kernel}
-use Rattle.sj_codelet.specs.Kernel.{init_of}
+use Rattle.sj_codelet.specs.Kernel.{init_of, out}
 use Rattle.sj_codelet.specs.Laws.{unit_of}
-use Rattle.sj_core.proofs.Combining.{unit-same}
 use Rattle.sj_core.specs.Program.{same_cell, dims_of, task_of}
 use Rattle.sj_core.specs.Proper.{HasValueBefore}
 use Rattle.sj_core.specs.Fold.{Contents, held_in, after_task}
 use Rattle.sj_plan.specs.declared.parts.Parts.{Parts}
 use Rattle.sj_plan.specs.Parts.{IsPlace}
-use Rattle.sj_plan.specs.Rect.{rect_dims as rect_dims}
+use Rattle.sj_plan.specs.Rect.{rect_dims}
 use Rattle.sj_meaning.specs.Statement.{Operand, TaskLine}
 use Rattle.sj_meaning.specs.State.{RootState, child_rect, is_valued_child}
 use Rattle.sj_meaning.specs.Meaning.{child_array, child_unit, contributed_to, seen_by, written_of}
@@ -169,7 +168,7 @@ laid-contributed q C n k rs (u ∷ us) a copies has placed =
 
 -- ---- units
 
-after-init : (q : Program) (k : Contents) (by : Reduction) (line : Line) (c : Cell) → after_row q k (init_row by line c) ≡ (c, unit_of by (zeros (dims_of q c))) ∷ k
+after-init : (q : Program) (k : Contents) (by : Reduction) (line : Line) (c : Cell) → after_row q k (init_row by line c) ≡ (c, unit_of out by (dims_of q c)) ∷ k
 after-init q k Plus line c = refl
 after-init q k Least line c = refl
 
@@ -231,15 +230,15 @@ unit-ready q D n rs u by line false cells laid has p m reduction blank stand = r
     c = the_cell rs D u
 
     unit : Array
-    unit = unit_of by (zeros (dims_of q c))
+    unit = unit_of out by (dims_of q c)
 
     left : contents_before q (n + 1) ≡ (c, unit) ∷ contents_before q n
     left = contents-rows q n (init_row by line c ∷ []) stand ∙ after-init q (contents_before q n) by line c
 
     is_unit : unit ≡ child_unit r u.place
     is_unit =
-        unit-same by (zeros (dims_of q c)) (child_array r u.place) (cell-size q D n (contents_before q n) rs u cells laid has p)
-        ∙ sym (ap (λ (o : Option Reduction). elim o as (λ _. Array) [ None ↦ zeros (rect_dims (child_rect r u.place)) | Some by ↦ unit_of by (child_array r u.place) ]) reduction)
+        ap (unit_of out by) (cell-size q D n (contents_before q n) rs u cells laid has p)
+        ∙ sym (ap (λ (o : Option Reduction). elim o as (λ _. Array) [ None ↦ zeros (rect_dims (child_rect r u.place)) | Some by ↦ unit_of out by (rect_dims (child_rect r u.place)) ]) reduction)
 
     later : (x : ℕ) → HasRoot q D n ((c, unit) ∷ contents_before q n) x (root_at rs x) → HasRoot q D (n + 1) ((c, unit) ∷ contents_before q n) x (root_at rs x)
     later x b = root-kept q D D n (n + 1) ((c, unit) ∷ contents_before q n) ((c, unit) ∷ contents_before q n) x (root_at rs x) b b.taken (omega arith) (λ place inside. refl)
@@ -328,7 +327,7 @@ roots-task has q C n rs t line s laid copies roots cells stand =
     let ran = holds-task has q D (n + length us) (contents_before q (n + length us)) rs t line cells laid_after.0 u.roots s ready parts.1.0 in
     let longer : n + length (us ++ row ∷ []) ≡ (n + length us) + 1 = omega (arith, length-append us (row ∷ [])) in
     subst (λ k. HaveRoots q D (n + length (us ++ row ∷ [])) k (run_task_at t rs)) (sym (contents-next q (n + length us) (n + length (us ++ row ∷ [])) longer))
-    (subst (λ m. HaveRoots q D m (after_task q first_worker (task_at (n + length us)) (contents_before q (n + length us))) (run_task_at t rs)) (sym longer) ran)
+    (subst (λ m. HaveRoots q D m (after_task out q first_worker (task_at (n + length us)) (contents_before q (n + length us))) (run_task_at t rs)) (sym longer) ran)
   where
     D : Laid
     D = Contributed q.workers rs C t

@@ -17,15 +17,16 @@ use Rattle.sj_base.specs.Array.{Array, area, zeros}
 use Rattle.sj_base.specs.Mode.{is_written, is_redux}
 use Rattle.sj_codelet.specs.declared.kernel.Kernel.{Kernel}
 use Rattle.sj_codelet.specs.Formal.{outputs_among}
-use Rattle.sj_codelet.specs.Kernel.{formals_of, fits, out}
+use Rattle.sj_codelet.specs.Kernel.{formals_of, fits, init_of, out}
 use Rattle.sj_codelet.specs.Laws.{unit_of}
-use Rattle.sj_core.proofs.Combining.{unit-dims, unit-tile}
+use Rattle.sj_codelet.proofs.NewArrays.{out-makes_tiles}
+use Rattle.sj_core.proofs.Combining.{unit-fills}
 use Rattle.sj_core.specs.Program.{same_cell, dims_of, task_of}
 use Rattle.sj_core.specs.Operands.{found, worked_on, written_cells, results}
 use Rattle.sj_core.specs.Fold.{Contents, held_in, after_task}
 use Rattle.sj_plan.specs.Parts.{IsPlace}
 use Rattle.sj_plan.specs.Paste.{same_child_place}
-use Rattle.sj_plan.specs.Rect.{rect_dims as rect_dims}
+use Rattle.sj_plan.specs.Rect.{rect_dims}
 use Rattle.sj_plan.specs.Window.{IsWhole}
 use Rattle.sj_meaning.specs.Statement.{Operand, TaskLine}
 use Rattle.sj_meaning.specs.State.{RootState, child_rect, is_valued_child}
@@ -225,9 +226,9 @@ gives_all q C n rs accesses (u ∷ us) (a ∷ xs) t w r o d whole = (
 
 -- ---- the arrays of a task
 
-unit_dims : (r : RootState) (place : ℕ × ℕ) (x : Option Reduction) → (elim x as (λ _. Array) [ None ↦ zeros (rect_dims (child_rect r place)) | Some by ↦ unit_of by (child_array r place) ]).dims ≡ rect_dims (child_rect r place)
+unit_dims : (r : RootState) (place : ℕ × ℕ) (x : Option Reduction) → (elim x as (λ _. Array) [ None ↦ zeros (rect_dims (child_rect r place)) | Some by ↦ unit_of out by (rect_dims (child_rect r place)) ]).dims ≡ rect_dims (child_rect r place)
 unit_dims r place None = refl
-unit_dims r place (Some by) = unit-dims by (child_array r place)
+unit_dims r place (Some by) = (unit-fills out by (out-makes_tiles (init_of by)) (rect_dims (child_rect r place))).1
 
 contributed_dims : (r : RootState) (place : ℕ × ℕ) (b : Bool) → (cond b (child_array r place) (child_unit r place)).dims ≡ rect_dims (child_rect r place)
 contributed_dims r place true = refl
@@ -248,9 +249,9 @@ all_seen_dims rs (o ∷ os) = λ i. seen_dims o.mode (root_at rs o.name) o.place
 none_whole : (d : Dims) → IsWhole (zeros d)
 none_whole d = length-replicate (area d) _
 
-unit_whole : (r : RootState) (place : ℕ × ℕ) (x : Option Reduction) → IsWhole (elim x as (λ _. Array) [ None ↦ zeros (rect_dims (child_rect r place)) | Some by ↦ unit_of by (child_array r place) ])
+unit_whole : (r : RootState) (place : ℕ × ℕ) (x : Option Reduction) → IsWhole (elim x as (λ _. Array) [ None ↦ zeros (rect_dims (child_rect r place)) | Some by ↦ unit_of out by (rect_dims (child_rect r place)) ])
 unit_whole r place None = none_whole (rect_dims (child_rect r place))
-unit_whole r place (Some by) = (unit-tile by (child_array r place)).whole
+unit_whole r place (Some by) = (unit-fills out by (out-makes_tiles (init_of by)) (rect_dims (child_rect r place))).0.whole
 
 contributed_whole : (r : RootState) (place : ℕ × ℕ) (b : Bool) → IsWhole (cond b (child_array r place) (child_unit r place))
 contributed_whole r place true = child-whole r place
@@ -330,7 +331,7 @@ map-through g h (x ∷ xs) = ap (λ zs. g (h x) ∷ zs) (map-through g h xs)
 
 -- the roots after a task, whose operands are ready
 pub holds-task : (has : Kernel → Bool) (q : Program) (C : Laid) (n : ℕ) (k : Contents) (rs : List RootState) (t : TaskLine ℕ) (line : Line) → HasCells q C → AreLaid C → HaveRoots q C n k rs → IsSoundTask has rs t → AllByRecursion (IsReady q C k rs) t.operands
-    → task_of q (task_at n) ≡ direct (task_row (by_number rs) C t line) → HaveRoots q C (n + 1) (after_task q first_worker (task_at n) k) (run_task_at t rs)
+    → task_of q (task_at n) ≡ direct (task_row (by_number rs) C t line) → HaveRoots q C (n + 1) (after_task out q first_worker (task_at n) k) (run_task_at t rs)
 holds-task has q C n k rs t line cells laid roots s ready is =
     let through : each_of direct_access (each_of (access_of (by_number rs) C) t.operands) ≡ each_of (the_access rs C) t.operands = map-through direct_access (access_of (by_number rs) C) t.operands in
     let accesses : (task_of q (task_at n)).accesses ≡ each_of (the_access rs C) t.operands = ap (λ (l : Lowered). l.accesses) is ∙ through in
@@ -338,9 +339,9 @@ holds-task has q C n k rs t line cells laid roots s ready is =
     let g = gives_all q C n rs (each_of (the_access rs C) t.operands) (written_of t.operands) outs accesses (all_written rs C t.operands) (of_written (IsPlaced rs) t.operands s.placed) (all_other t.operands s.apart) (new_dims has rs t s) (new_whole has rs t s) in
     let meant = holds-put_all q C (n + 1) (the_cell rs C) (written_of t.operands) outs k rs laid (holds-later q C n (n + 1) k rs (omega arith) roots) g in
     let written : written_cells q (task_at n) first_worker ≡ each_of (the_cell rs C) (written_of t.operands) = ap (λ (as' : List Access). each_of (worked_on q first_worker) (filter (λ a. is_written a.mode) as')) accesses ∙ cells_written q rs C t.operands in
-    let made : results q (task_at n) first_worker (held_in q k) ≡ outs =
+    let made : results out q (task_at n) first_worker (held_in q k) ≡ outs =
     ap (λ (l : Lowered). out l.codelet l.args (each_of (found q first_worker (held_in q k)) l.accesses)) is
     ∙ ap (λ as'. out t.codelet t.args (each_of (found q first_worker (held_in q k)) as')) through
     ∙ ap (out t.codelet t.args) (all_found q C n k rs t.operands cells laid roots s.placed ready) in
-    holds-same q C (n + 1) (zip (each_of (the_cell rs C) (written_of t.operands)) outs ++ k) (after_task q first_worker (task_at n) k) (run_task_at t rs)
+    holds-same q C (n + 1) (zip (each_of (the_cell rs C) (written_of t.operands)) outs ++ k) (after_task out q first_worker (task_at n) k) (run_task_at t rs)
     (λ c. ap (λ (new : Contents). held_in q new c) (λ i. zip (written i) (made i) ++ k)) meant

@@ -56,7 +56,7 @@ abbrev pub after_row : Program → Contents → Lowered → Contents
 after_row p contents l =
     zip (each_of (worked_on p first_worker) (filter (λ a. is_written a.mode) l.accesses)) (out l.codelet l.args (each_of (found p first_worker (held_in p contents)) l.accesses)) ++ contents
 
-pub after_row-is : (p : Program) (n : ℕ) (contents : Contents) (l : Lowered) → task_of p (task_at n) ≡ l → after_task p first_worker (task_at n) contents ≡ after_row p contents l
+pub after_row-is : (p : Program) (n : ℕ) (contents : Contents) (l : Lowered) → task_of p (task_at n) ≡ l → after_task out p first_worker (task_at n) contents ≡ after_row p contents l
 after_row-is p n contents l e = ap (after_row p contents) e
 
 abbrev pub after_rows : Program → Contents → List Lowered → Contents

@@ -30,9 +30,9 @@ use Rattle.sj_plan.specs.declared.parts.Parts.{Parts}
 use Rattle.sj_plan.specs.declared.paste.Paste.{Paste}
 use Rattle.sj_plan.specs.declared.rect.Rect.{Rect}
 use Rattle.sj_plan.specs.Parts.{IsPlace, Fits as PlanFits}
-use Rattle.sj_plan.specs.Paste.{same_child_place, paste_copy as paste_copy, is_first, pastes_to, IsPasteBetween}
+use Rattle.sj_plan.specs.Paste.{same_child_place, paste_copy, is_first, pastes_to, IsPasteBetween}
 use Rattle.sj_plan.specs.Pieces.{BeginOnce}
-use Rattle.sj_plan.specs.Rect.{child, rect_dims as rect_dims}
+use Rattle.sj_plan.specs.Rect.{child, rect_dims}
 use Rattle.sj_plan.specs.Window.{window}
 use Rattle.sj_meaning.specs.Statement.{Operand, TaskLine}
 use Rattle.sj_meaning.specs.State.{RootState, child_rect, is_valued_child}

@@ -10,6 +10,7 @@ use Rattle.sj_base.specs.declared.program.Delivery.{Delivery}
 use Rattle.sj_base.specs.declared.program.Lowered.{Lowered}
 use Rattle.sj_base.specs.declared.program.Program.{Program}
 use Rattle.sj_base.specs.Array.{Array}
+use Rattle.sj_codelet.specs.Kernel.{out}
 use Rattle.sj_codelet.specs.declared.kernel.Kernel.{Kernel}
 use Rattle.sj_core.specs.Fold.{Contents, held_in, held_before, given}
 use Rattle.sj_core.specs.Operands.{worked_on}
@@ -61,8 +62,8 @@ pieces_from k (x ∷ xs) = each_of (piece k x) (places x.1.parts) ++ pieces_from
 
 -- ---- the deliveries of one print statement
 
-given_there : (p : Program) (m : ℕ) (c : Cell) (line : Line) → task_of p (task_at m) ≡ deliver_row c line → given p (task_at m) ≡ held_in p (contents_before p m) c
-given_there p m c line e = ap (λ (l : Lowered). held_before p m (get_or (each_of (worked_on p first_worker) (data_operands l)) 0 (record { 0 = 0 }))) e
+given_there : (p : Program) (m : ℕ) (c : Cell) (line : Line) → task_of p (task_at m) ≡ deliver_row c line → given out p (task_at m) ≡ held_in p (contents_before p m) c
+given_there p m c line e = ap (λ (l : Lowered). held_before out p m (get_or (each_of (worked_on p first_worker) (data_operands l)) 0 (record { 0 = 0 }))) e
 
 module _ (q : Program) (C : Laid) (n : ℕ) (m : ℕ) (r : RootState) (k : ℕ) (line : Line) (valued : is_valued r ≡ true) (b : HasRoot q C n (contents_before q n) m r) where
   cell : ℕ × ℕ → Cell
@@ -76,7 +77,7 @@ module _ (q : Program) (C : Laid) (n : ℕ) (m : ℕ) (r : RootState) (k : ℕ) 
   hands a [] inside stand same = refl
   hands a (place ∷ ps) inside stand same =
       let c = cell_of C m r.parts place in
-      let array : given q (task_at (n + a)) ≡ window (root_array r) (child r.dims r.parts place) =
+      let array : given out q (task_at (n + a)) ≡ window (root_array r) (child r.dims r.parts place) =
       given_there q (n + a) c line stand.0 ∙ ap (λ (x : Contents). held_in q x c) same
       ∙ (b.held place inside.0 (valued-child r place b.whole valued inside.0)).value ∙ child-window r place in
       let next : n + (a + 1) ≡ (n + a) + 1 = omega arith in

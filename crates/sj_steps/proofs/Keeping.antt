@@ -16,7 +16,7 @@ use Rattle.sj_core.specs.Fold.{Contents, held_in}
 use Rattle.sj_plan.specs.declared.parts.Parts.{Parts}
 use Rattle.sj_plan.specs.Parts.{Fits, IsPlace}
 use Rattle.sj_plan.specs.Paste.{same_child_place}
-use Rattle.sj_plan.specs.Rect.{child, rect_dims as rect_dims}
+use Rattle.sj_plan.specs.Rect.{child, rect_dims}
 use Rattle.sj_plan.specs.Window.{IsWhole}
 use Rattle.sj_meaning.specs.Statement.{Operand}
 use Rattle.sj_meaning.specs.State.{RootState, is_child, child_rect, is_valued_child}

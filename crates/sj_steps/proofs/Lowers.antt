@@ -4,6 +4,7 @@ use Rattle.std.proofs.lemmas.List.{drop_all}
 use Rattle.sj_base.specs.declared.ids.Line.{Line}
 use Rattle.sj_base.specs.declared.program.Program.{Program}
 use Rattle.sj_base.specs.declared.program.CellInfo.{CellInfo}
+use Rattle.sj_codelet.specs.Kernel.{out}
 use Rattle.sj_codelet.specs.declared.kernel.Kernel.{Kernel}
 use Rattle.sj_core.specs.Laws.{IsLawful}
 use Rattle.sj_core.specs.Proper.{Proper}
@@ -133,13 +134,13 @@ module _ (T : Table) (kss : List Kept) (d : AreDistinct T.names) (numbered : IsN
   proper-few few_cells few =
       proper (subst (λ (x : Program). length x.cells ≤ 2 ^ 22) program-is few_cells) (subst (λ (x : Program). length x.tasks ≤ 2 ^ 22) program-is few)
 
-  pub delivers : length p.cells ≤ 2 ^ 22 → length p.tasks ≤ 2 ^ 22 → IsLawful has p → 0 < workers → DeliversPrinted T p ss
+  pub delivers : length p.cells ≤ 2 ^ 22 → length p.tasks ≤ 2 ^ 22 → IsLawful out has p → 0 < workers → DeliversPrinted T p ss
   delivers cells tasks lawful staffed =
       let few_cells : length rows ≤ 2 ^ 22 = subst (λ (x : Program). length x.cells ≤ 2 ^ 22) program-is cells in
       let few : length (expand workers nothing bs).tasks ≤ 2 ^ 22 = subst (λ (x : Program). length x.tasks ≤ 2 ^ 22) program-is tasks in
       subst (λ (x : Program). DeliversPrinted T x ss) (sym program-is)
       (delivers-printed T (Rattle.sj_phases.specs.Law.program_by rows workers bs) ss (printed_at [] ns)
-      (hands-over has workers ns line sound-here (few-here few) few_cells few (subst (IsLawful has) program-is lawful) staffed)
+      (hands-over has workers ns line sound-here (few-here few) few_cells few (subst (IsLawful out has) program-is lawful) staffed)
       printed-same
       (all-known T has q ns no_cells [] 0 none_open sound-here (told-all T 0 kss (omega (arith, numbered.counted))) (knows-none T) (all has workers ns line sound-here)))
 

@@ -20,7 +20,7 @@ use Rattle.sj_plan.specs.declared.paste.Paste.{Paste}
 use Rattle.sj_plan.specs.Parts.{Fits, IsPlace, places}
 use Rattle.sj_plan.specs.Paste.{pieces, paste_copy, paste_at, overlaps, is_first, pastes_to, pastes_of, IsPasteBetween}
 use Rattle.sj_plan.specs.Pieces.{Copy, begins, copied, all_copied, BeginOnce}
-use Rattle.sj_plan.specs.Rect.{child, rect_dims as rect_dims}
+use Rattle.sj_plan.specs.Rect.{child, rect_dims}
 use Rattle.sj_plan.specs.Window.{window}
 use Rattle.sj_plan.proofs.Copying.{copies_to-begin, copy_between-within}
 use Rattle.sj_plan.proofs.Lists.{each-map, each-filter, each-places}

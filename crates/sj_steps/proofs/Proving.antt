@@ -9,6 +9,7 @@ use Rattle.sj_base.specs.declared.program.Delivery.{Delivery}
 use Rattle.sj_base.specs.declared.program.Lowered.{Lowered}
 use Rattle.sj_base.specs.declared.program.Program.{Program}
 use Rattle.sj_base.specs.Array.{area}
+use Rattle.sj_codelet.specs.Kernel.{out}
 use Rattle.sj_codelet.specs.declared.kernel.Kernel.{Kernel}
 use Rattle.sj_core.specs.Laws.{IsLawful}
 use Rattle.sj_core.specs.Proper.{Proper}
@@ -124,7 +125,7 @@ module _ (has : Kernel → Bool) (workers : ℕ) (ss : List (Statement ℕ)) (li
   is-proper few_plain few_cells few = proper rows workers blocks (can few_plain few_cells few)
 
   -- by a set that obeys the laws it hands over the children of what the print statements find
-  pub hands-over : length q.tasks ≤ 2 ^ 22 → length rows ≤ 2 ^ 22 → length (expand workers nothing blocks).tasks ≤ 2 ^ 22 → IsLawful has (program_by rows workers blocks) → 0 < workers
+  pub hands-over : length q.tasks ≤ 2 ^ 22 → length rows ≤ 2 ^ 22 → length (expand workers nothing blocks).tasks ≤ 2 ^ 22 → IsLawful out has (program_by rows workers blocks) → 0 < workers
       → map (handed_over (program_by rows workers blocks)) (program_by rows workers blocks).deliveries ≡ pieces_from 0 (printed_at [] ss)
   hands-over few_plain few_cells few lawful staffed =
       (holds_plain rows workers blocks (can few_plain few_cells few) has lawful staffed).handed

@@ -6,7 +6,7 @@ use Rattle.sj_base.specs.declared.program.Program.{Program}
 use Rattle.sj_base.specs.declared.ids.Root.{Root}
 use Rattle.sj_base.specs.Array.{Array, zeros}
 use Rattle.sj_codelet.specs.declared.kernel.Kernel.TheVariants.{Deliver}
-use Rattle.sj_codelet.specs.Kernel.{kernel_of}
+use Rattle.sj_codelet.specs.Kernel.{kernel_of, out}
 use Rattle.sj_core.specs.Program.{task_of}
 use Rattle.sj_core.specs.Fold.{given}
 use Rattle.sj_plan.specs.declared.rect.Rect.{Rect}
@@ -20,7 +20,7 @@ use Rattle.sj_meaning.specs.Meaning.{Printed, printed}
 -- what a delivery hands over, and its rectangle of the root: from its place on, as large as it is
 abbrev pub part_of : Program → Delivery → Rect × Array
 part_of p d =
-    let a = given p d.task in
+    let a = given out p d.task in
     (record { row = d.place.0; col = d.place.1; rows = a.dims.rows; cols = a.dims.cols }, a)
 
 -- the deliveries of print statement k, in order

@@ -10,7 +10,7 @@ use Rattle.sj_codelet.specs.Kernel.{kernel_of, fits_in}
 use Rattle.sj_codelet.specs.Runs.{formals_in}
 use Rattle.sj_plan.specs.Parts.{Fits, IsPlace}
 use Rattle.sj_plan.specs.Paste.{same_child_place}
-use Rattle.sj_plan.specs.Rect.{rect_dims as rect_dims}
+use Rattle.sj_plan.specs.Rect.{rect_dims}
 use Rattle.sj_meaning.specs.Statement.{Register, Operand, TaskLine}
 use Rattle.sj_meaning.specs.Act.{Act, Statement}
 use Rattle.sj_meaning.specs.Act.{Register as Registers, Plan as Plans, Redux as Reduces, Task as Tasks, Print as Prints, Invalidate as Invalidates, Unregister as Unregisters}
