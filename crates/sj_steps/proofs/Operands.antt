@@ -51,9 +51,6 @@ reduction_of rs n = (root_at rs n).reduction
 abbrev pub is_lawful : (Kernel → Bool) → List RootState → Codelet → Operand ℕ → Bool
 is_lawful has rs id o = is_lawful_for has id (reduction_of rs o.name) o.mode
 
-pub same_writes : (m : Mode) → is_written m ≡ is_written m
-same_writes m = refl
-
 -- the operand is only read, or scratch
 abbrev pub IsRead : Operand ℕ → Type 0
 IsRead o = (is_redux o.mode ≡ false) × (is_written o.mode ≡ false) × (is_commute o.mode ≡ false)
