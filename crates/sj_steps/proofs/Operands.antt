@@ -24,7 +24,7 @@ use Rattle.sj_codelet.specs.declared.kernel.Kernel.{Kernel}
 use Rattle.sj_codelet.specs.Formal.{is_output}
 use Rattle.sj_codelet.specs.Kernel.{contributes_of, commutes_in, contributes_in, has_reduction}
 use Rattle.sj_core.specs.Fold.{Contents}
-use Rattle.sj_core.proofs.Readiness.{list_any-some}
+use Rattle.sj_core.proofs.Readiness.{Contains-filter, list_any-some}
 use Rattle.sj_core.proofs.Updating.{updates-last, contributing-commutes}
 use Rattle.sj_plan.specs.Paste.{same_child_place}
 use Rattle.sj_meaning.specs.Statement.{Operand, TaskLine}
@@ -35,7 +35,7 @@ use Rattle.sj_meaning.specs.Sound.{mode_fits, is_lawful_for, needs_value}
 use Rattle.sj_phases.specs.declared.phase.Opening.{Opening}
 use Rattle.sj_phases.specs.Expand.{first_units}
 use Rattle.sj_phases.specs.Plain.{units}
-use Rattle.sj_phases.proofs.Lists.{all-from, filter-last, last-has}
+use Rattle.sj_phases.proofs.Lists.{all-from, filter-last, last-has, one-case}
 use Rattle.sj_steps.specs.Laid.{Laid, first_copy}
 use Rattle.sj_steps.specs.SoundAt.{IsPlaced, IsSoundTask, clashes, has_value, is_aliased, modes_fit}
 use Rattle.sj_steps.specs.Step.{by_number, contributed, opening_of, task_block}
@@ -156,6 +156,9 @@ contributes-there has rs t s any =
 module _ {rs : List RootState} {t : TaskLine ℕ} {kernel : Kernel} (con : Contributes rs t kernel) where
   pub last-there : Contains t.operands con.last
   last-there = subst (λ (os : List (Operand ℕ)). Contains os con.last) (sym con.is) (last-has con.before con.last)
+
+  pub only-last : (o : Operand ℕ) → Contains t.operands o → is_redux o.mode ≡ true → con.last ≡ o
+  only-last o among redux = one-case con.last o (subst (λ (os : List (Operand ℕ)). Contains os o) con.contributed (Contains-filter (λ (u : Operand ℕ). is_redux u.mode) t.operands o redux among))
 
   -- what it opens
   abbrev pub opening_by : Laid → Opening
