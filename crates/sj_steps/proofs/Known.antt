@@ -1,44 +1,41 @@
 -- The codelets of what statements give are those of the set by which they are sound.
-use Rattle.std.proofs.Common.{◌≡◌, ℕ, Bool, true, false, cond, not, ◌&&◌, ◌||◌, Option, Some, None, List, [], ◌∷◌, ◌++◌, length, map as each_of, fold, refl, sym, ap, subst, ◌∙◌}
+use Rattle.std.proofs.Common.{◌≡◌, ℕ, Bool, true, false, cond, ◌&&◌, Option, Some, None, List, [], ◌∷◌, ◌++◌, length, map as each_of, fold, refl, sym, ap, subst, ◌∙◌, inl, inr}
 use Rattle.std.specs.Prelude.{All}
-use Rattle.std.specs.List.{range_with_len, filter, list_all, flat_map}
-use Rattle.std.proofs.lemmas.Bool.{false≢true, and_parts}
+use Rattle.std.specs.List.{range_with_len, flat_map, list_any}
+use Rattle.std.proofs.lemmas.Bool.{and_parts, cases_Bool, cond_both}
 use Rattle.std.proofs.lemmas.List.Elements.{All-nil, All-cons, All-head, All-tail, All-append, All-from_recursion}
 use Rattle.sj_base.specs.declared.ids.Cell.{Cell}
 use Rattle.sj_base.specs.declared.ids.Line.{Line}
 use Rattle.sj_base.specs.declared.mode.Reduction.{Reduction}
 use Rattle.sj_base.specs.declared.mode.Reduction.TheVariants.{Plus, Least}
-use Rattle.sj_base.specs.declared.program.Codelet.{Codelet}
 use Rattle.sj_base.specs.declared.program.Lowered.{Lowered}
-use Rattle.sj_base.specs.Mode.{is_redux, is_commute}
+use Rattle.sj_base.specs.Mode.{is_redux}
 use Rattle.sj_codelet.specs.declared.kernel.Kernel.{Kernel}
 use Rattle.sj_codelet.specs.declared.kernel.Kernel.TheVariants.{Load, LoadFill, Paste, Deliver}
-use Rattle.sj_codelet.specs.Kernel.{kernel_of, fits, init_of, combine_of, has_reduction, contributes_of, contributes_in, commutes_in}
+use Rattle.sj_codelet.specs.Kernel.{fits, init_of, combine_of, has_reduction, contributes_of}
 use Rattle.sj_core.specs.Laws.{is_known}
 use Rattle.sj_plan.specs.declared.parts.Parts.{Parts}
-use Rattle.sj_plan.specs.Parts.{places}
 use Rattle.sj_plan.specs.Paste.{pastes_of}
-use Rattle.sj_plan.specs.Rect.{child}
 use Rattle.sj_plan.proofs.Lists.{each-map, each-of}
-use Rattle.sj_meaning.specs.declared.job.Init.{Init}
-use Rattle.sj_meaning.specs.declared.job.Init.TheVariants.{Values, Fill, Nothing}
-use Rattle.sj_meaning.specs.Statement.{Operand, Register, TaskLine}
+use Rattle.sj_meaning.specs.Statement.{Operand, TaskLine}
 use Rattle.sj_meaning.specs.Act.{Act, Statement}
 use Rattle.sj_meaning.specs.Act.{Register as Registers, Plan as Plans, Redux as Reduces, Task as Tasks, Print as Prints, Invalidate as Invalidates, Unregister as Unregisters}
-use Rattle.sj_meaning.specs.State.{RootState, is_valued, is_valued_child}
+use Rattle.sj_meaning.specs.State.{RootState, is_valued}
 use Rattle.sj_meaning.specs.Numbers.{root_at, apply_at}
-use Rattle.sj_meaning.specs.Sound.{is_lawful_for}
 use Rattle.sj_phases.specs.declared.phase.Opening.{Opening}
 use Rattle.sj_phases.specs.declared.phase.OpenPhase.{OpenPhase}
 use Rattle.sj_phases.specs.Block.{Block}
 use Rattle.sj_phases.specs.Rows.{init_row, combine_row, init_rows, combine_rows, copy_at}
-use Rattle.sj_phases.specs.Expand.{Expansion, nothing, turned, with_phase, closed, opened, begin_rows, phase_at, prepared, expanded, expand, last_block}
+use Rattle.sj_phases.specs.Expand.{Expansion, nothing, turned, with_phase, closed, opened, begin_rows, phase_at, prepared, expanded, expand, cells_below, last_block}
 use Rattle.sj_phases.proofs.Logging.{phase-own, phase-other, by_which, some_is, none_isn't}
 use Rattle.sj_steps.specs.Cells.{same_parts}
-use Rattle.sj_steps.specs.Laid.{Laid, cell_of, take, with_root, first_copy, with_copies}
-use Rattle.sj_steps.specs.Rows.{load_row, fill_row, load_rows, paste_row, deliver_row}
+use Rattle.sj_steps.specs.Laid.{Laid, cell_of, take, with_root, with_copies}
+use Rattle.sj_steps.specs.Rows.{load_rows, paste_row, deliver_row}
 use Rattle.sj_steps.specs.SoundAt.{IsSoundTask, IsSound, AreSound, child_dims}
-use Rattle.sj_steps.specs.Step.{by_number, step_of, active_cells, operand_cell, opening_of, contributed, plan_block}
+use Rattle.sj_steps.specs.Step.{by_number, step_of, active_cells, closing, operand_cell, opening_of, contributed, plan_block, task_row}
+use Rattle.sj_steps.proofs.Doing.{kernel_there}
+use Rattle.sj_steps.proofs.Good.{each-load}
+use Rattle.sj_steps.proofs.Operands.{contributes-there, last-there, lawful-at, lawful-contribution, none-filter, one-opens, opening_by, reduction_of}
 use Rattle.sj_steps.proofs.Properly.{blocks_from}
 
 -- the set has the task's codelet
@@ -82,17 +79,21 @@ known-combine has Least c line q h = (and_parts (has (init_of Least)) (has (comb
 all-rows : {X : Type 0} (has : Kernel → Bool) (row : X → Lowered) (xs : List X) → ((x : X) → IsKnown has (row x)) → All (IsKnown has) (each_of row xs)
 all-rows has row xs h = All-from_recursion (IsKnown has) (each_of row xs) (each-map (IsKnown has) row xs (each-of (λ x. IsKnown has (row x)) h xs))
 
+-- tasks more, and the phase of a cell, which is of the set's reductions
+known-turned : (has : Kernel → Bool) (ls : List Lowered) (c : Cell) (o : Option OpenPhase) (E : Expansion) → AreKnown has E → All (IsKnown has) ls → ((g : OpenPhase) → o ≡ Some g → has_reduction has g.by ≡ true) → AreKnown has (turned ls c o E)
+known-turned has ls c o E k more own = record {
+  tasks = All-append (IsKnown has) E.tasks ls k.tasks more;
+  reductions = λ d g h. by_which c d (has_reduction has g.by ≡ true)
+      (λ same. own g (sym (phase-own c o E.phase) ∙ ap (with_phase c o E.phase) same ∙ h))
+      (λ other. k.reductions d g (sym (phase-other c o E.phase d other) ∙ h));
+}
+
 known-closed : (has : Kernel → Bool) (w : ℕ) (E : Expansion) (c : Cell) → AreKnown has E → AreKnown has (closed w E c)
 known-closed has w E c k = by_phase (E.phase c) refl
   where
     by_phase : (o : Option OpenPhase) → E.phase c ≡ o → AreKnown has (elim o as (λ _. Expansion) [ None ↦ E | Some f ↦ turned (combine_rows f c w) c None E ])
     by_phase None e = k
-    by_phase (Some f) e = record {
-      tasks = All-append (IsKnown has) E.tasks (combine_rows f c w) k.tasks (all-rows has (λ n. combine_row f.by c f.line (copy_at f.copies n)) (range_with_len 0 w) (λ n. known-combine has f.by c f.line (copy_at f.copies n) (k.reductions c f e)));
-      reductions = λ d g h. by_which c d (has_reduction has g.by ≡ true)
-          (λ same. absurd (none_isn't g (sym (phase-own c None E.phase) ∙ ap (with_phase c None E.phase) same ∙ h)))
-          (λ other. k.reductions d g (sym (phase-other c None E.phase d other) ∙ h));
-    }
+    by_phase (Some f) e = known-turned has (combine_rows f c w) c None E k (all-rows has (λ n. combine_row f.by c f.line (copy_at f.copies n)) (range_with_len 0 w) (λ n. known-combine has f.by c f.line (copy_at f.copies n) (k.reductions c f e))) (λ g h. absurd (none_isn't g h))
 
 known-closes : (has : Kernel → Bool) (w : ℕ) (cs : List Cell) (E : Expansion) → AreKnown has E → AreKnown has (fold (closed w) E cs)
 known-closes has w [] E k = k
@@ -100,19 +101,12 @@ known-closes has w (c ∷ cs) E k = known-closes has w cs (closed w E c) (known-
 
 known-begins : (has : Kernel → Bool) (w : ℕ) (o : Opening) (line : Line) → has_reduction has o.by ≡ true → All (IsKnown has) (begin_rows w o line)
 known-begins has w o line own =
-    All-append (IsKnown has) (init_rows o.by o.copies w line) (cond o.valued [] (init_row o.by line o.cell ∷ [])) (all-rows has (λ n. init_row o.by line (copy_at o.copies n)) (range_with_len 0 w) (λ n. known-init has o.by line (copy_at o.copies n) own)) (by_valued o.valued)
-  where
-    by_valued : (x : Bool) → All (IsKnown has) (cond x [] (init_row o.by line o.cell ∷ []))
-    by_valued true = All-nil (IsKnown has)
-    by_valued false = All-cons (IsKnown has) (init_row o.by line o.cell) [] (known-init has o.by line o.cell own) (All-nil (IsKnown has))
+    All-append (IsKnown has) (init_rows o.by o.copies w line) (cond o.valued [] (init_row o.by line o.cell ∷ [])) (all-rows has (λ n. init_row o.by line (copy_at o.copies n)) (range_with_len 0 w) (λ n. known-init has o.by line (copy_at o.copies n) own))
+    (cond_both o.valued [] (init_row o.by line o.cell ∷ []) (All (IsKnown has)) (λ e. All-nil (IsKnown has)) (λ e. All-cons (IsKnown has) (init_row o.by line o.cell) [] (known-init has o.by line o.cell own) (All-nil (IsKnown has))))
 
 known-opened : (has : Kernel → Bool) (w : ℕ) (line : Line) (E : Expansion) (o : Opening) → has_reduction has o.by ≡ true → AreKnown has E → AreKnown has (opened w line E o)
-known-opened has w line E o own k = record {
-  tasks = All-append (IsKnown has) E.tasks (elim (E.phase o.cell) as (λ _. List Lowered) [ None ↦ begin_rows w o line | Some f ↦ [] ]) k.tasks (by_phase (E.phase o.cell));
-  reductions = λ d g h. by_which o.cell d (has_reduction has g.by ≡ true)
-      (λ same. ap (λ (f : OpenPhase). has_reduction has f.by) (sym (some_is (phase_at o line) g (sym (phase-own o.cell (Some (phase_at o line)) E.phase) ∙ ap (with_phase o.cell (Some (phase_at o line)) E.phase) same ∙ h))) ∙ own)
-      (λ other. k.reductions d g (sym (phase-other o.cell (Some (phase_at o line)) E.phase d other) ∙ h));
-}
+known-opened has w line E o own k =
+    known-turned has (elim (E.phase o.cell) as (λ _. List Lowered) [ None ↦ begin_rows w o line | Some f ↦ [] ]) o.cell (Some (phase_at o line)) E k (by_phase (E.phase o.cell)) (λ g h. ap (λ (f : OpenPhase). has_reduction has f.by) (sym (some_is (phase_at o line) g h)) ∙ own)
   where
     by_phase : (x : Option OpenPhase) → All (IsKnown has) (elim x as (λ _. List Lowered) [ None ↦ begin_rows w o line | Some f ↦ [] ])
     by_phase None = known-begins has w o line own
@@ -138,92 +132,52 @@ known-expand has w (b ∷ bs) E h k = known-expand has w bs (expanded w E b) h.1
 
 -- ---- statements
 
-known-loads : (has : Kernel → Bool) (r : Register ℕ) (cell : ℕ × ℕ → Cell) (line : Line) (i : Init) → HasOwn has → All (IsKnown has) (load_rows i r.dims r.parts cell line)
-known-loads has r cell line (Values xs) own = all-rows has (λ place. load_row xs r.dims (child r.dims r.parts place) (cell place) line) (places r.parts) (λ place. own.load)
-known-loads has r cell line (Fill a b) own = all-rows has (λ place. fill_row a b r.dims (child r.dims r.parts place) (cell place) line) (places r.parts) (λ place. own.load_fill)
-known-loads has r cell line Nothing own = All-nil (IsKnown has)
+known-quiet : (has : Kernel → Bool) (line : Line) (cs : List Cell) (ls : List Lowered) → All (IsKnown has) ls → AreKnownIn has (closing line cs ls)
+known-quiet has line cs ls h = record { tasks = h; reductions = All-nil (λ (o : Opening). has_reduction has o.by ≡ true) }
 
 -- a contribution's reduction is one of the set's
-known-reduction : (has : Kernel → Bool) (id : Codelet) (r : Option Reduction) (o : Operand ℕ) (by : Reduction) → is_lawful_for has id r o.mode ≡ true → is_redux o.mode ≡ true → r ≡ Some by → has_reduction has by ≡ true
-known-reduction has id r o by law redux e = by_kernel (kernel_of id) contributes
-  where
-    contributes : contributes_in has id by ≡ true
-    contributes =
-        let both = and_parts (not (is_commute o.mode) || commutes_in has id) _ law in
-        sym (ap (λ (x : Option Reduction). elim x as (λ _. Bool) [ None ↦ false | Some by ↦ contributes_in has id by ]) e)
-        ∙ sym (ap (λ b. not b || (elim r as (λ _. Bool) [ None ↦ false | Some by ↦ contributes_in has id by ])) redux) ∙ both.1
-
-    by_kernel : (x : Option Kernel) → (elim x as (λ _. Bool) [ None ↦ false | Some k ↦ has k && contributes_of k by && has_reduction has by ]) ≡ true → has_reduction has by ≡ true
-    by_kernel None h = absurd (false≢true h)
-    by_kernel (Some k) h = (and_parts (has k && contributes_of k by) (has_reduction has by) h).1
-
-known-openings : (has : Kernel → Bool) (rs : List RootState) (D : Laid) (id : Codelet) (os : List (Operand ℕ)) → list_all (λ o. is_lawful_for has id (root_at rs o.name).reduction o.mode) os ≡ true
-    → All (λ (o : Opening). has_reduction has o.by ≡ true) (flat_map (opening_of (by_number rs) D) (filter (λ (o : Operand ℕ). is_redux o.mode) os))
-known-openings has rs D id [] law = All-nil (λ (o : Opening). has_reduction has o.by ≡ true)
-known-openings has rs D id (o ∷ os) law =
-    let a = and_parts (is_lawful_for has id (root_at rs o.name).reduction o.mode) (list_all (λ o. is_lawful_for has id (root_at rs o.name).reduction o.mode) os) law in
-    by_test (is_redux o.mode) refl a.0 (known-openings has rs D id os a.1)
-  where
-    P : Opening → Type 0
-    P x = has_reduction has x.by ≡ true
-
-    rest : List (Operand ℕ)
-    rest = filter (λ (o : Operand ℕ). is_redux o.mode) os
-
-    one : Reduction → Opening
-    one by = let c = operand_cell (by_number rs) D o in record { cell = c; by = by; copies = first_copy D c; valued = is_valued_child (root_at rs o.name) o.place }
-
-    by_test : (b : Bool) → is_redux o.mode ≡ b → is_lawful_for has id (root_at rs o.name).reduction o.mode ≡ true → All P (flat_map (opening_of (by_number rs) D) rest) → All P (flat_map (opening_of (by_number rs) D) (cond b (o ∷ rest) rest))
-    by_test false e law h = h
-    by_test true e law h = All-append P (opening_of (by_number rs) D o) (flat_map (opening_of (by_number rs) D) rest) (by_option (root_at rs o.name).reduction refl) h
-      where
-        by_option : (x : Option Reduction) → (root_at rs o.name).reduction ≡ x → All P (elim x as (λ _. List Opening) [ None ↦ [] | Some by ↦ one by ∷ [] ])
-        by_option None r = All-nil P
-        by_option (Some by) r = All-cons P (one by) [] (known-reduction has id (root_at rs o.name).reduction o by law e r) (All-nil P)
+known-openings : (has : Kernel → Bool) (rs : List RootState) (D : Laid) (t : TaskLine ℕ) → IsSoundTask has rs t → All (λ (o : Opening). has_reduction has o.by ≡ true) (flat_map (opening_of (by_number rs) D) (contributed t))
+known-openings has rs D t s = elim (cases_Bool (list_any (λ (o : Operand ℕ). is_redux o.mode) t.operands)) [
+  | inl some ↦
+      let con = contributes-there has rs t s some in
+      let k = (kernel_there has rs t s).call in
+      let law = lawful-contribution has t.codelet (reduction_of rs con.last.name) con.last.mode (lawful-at has rs t s con.last (last-there con)) (ap is_redux con.redux) in
+      let its = subst (λ (o : Option Kernel). (elim o as (λ _. Bool) [ None ↦ false | Some j ↦ has j && contributes_of j law.0 && has_reduction has law.0 ]) ≡ true) k.is law.2 in
+      let known = (and_parts (has k.kernel && contributes_of k.kernel law.0) (has_reduction has law.0) its).1 in
+      let same = some_is law.0 con.by (sym law.1 ∙ con.reduction) in
+      subst (All (λ (o : Opening). has_reduction has o.by ≡ true)) (sym (one-opens con D))
+      (All-cons (λ (o : Opening). has_reduction has o.by ≡ true) (opening_by con D) [] (subst (λ (by : Reduction). has_reduction has by ≡ true) same known) (All-nil (λ (o : Opening). has_reduction has o.by ≡ true)))
+  | inr none ↦ subst (λ (us : List (Operand ℕ)). All (λ (o : Opening). has_reduction has o.by ≡ true) (flat_map (opening_of (by_number rs) D) us)) (sym (none-filter t.operands none)) (All-nil (λ (o : Opening). has_reduction has o.by ≡ true))
+]
 
 known-task : (has : Kernel → Bool) (rs : List RootState) (t : TaskLine ℕ) → IsSoundTask has rs t → is_known has t.codelet ≡ true
-known-task has rs t s = by_kernel (kernel_of t.codelet) s.fits
-  where
-    by_kernel : (x : Option Kernel) → (elim x as (λ _. Bool) [ None ↦ false | Some k ↦ has k && fits k t.args (each_of (child_dims rs) t.operands) ]) ≡ true → (elim x as (λ _. Bool) [ None ↦ false | Some k ↦ has k ]) ≡ true
-    by_kernel None h = absurd (false≢true h)
-    by_kernel (Some k) h = (and_parts (has k) (fits k t.args (each_of (child_dims rs) t.operands)) h).0
-
-no-openings : (has : Kernel → Bool) → All (λ (o : Opening). has_reduction has o.by ≡ true) []
-no-openings has = All-nil (λ (o : Opening). has_reduction has o.by ≡ true)
+known-task has rs t s =
+    let k = (kernel_there has rs t s).call in
+    let fit = subst (λ (o : Option Kernel). (elim o as (λ _. Bool) [ None ↦ false | Some j ↦ has j && fits j t.args (each_of (child_dims rs) t.operands) ]) ≡ true) k.is s.fits in
+    ap (λ (o : Option Kernel). elim o as (λ _. Bool) [ None ↦ false | Some j ↦ has j ]) k.is ∙ (and_parts (has k.kernel) (fits k.kernel t.args (each_of (child_dims rs) t.operands)) fit).0
 
 known-plan : (has : Kernel → Bool) (r : RootState) (old : List Cell) (D : Laid) (n : ℕ) (p : Parts) (line : Line) → HasOwn has → AreKnownIn has (plan_block r old D n p line)
-known-plan has r old D n p line own = by_same (same_parts r.parts p)
-  where
-    pastes : List Lowered
-    pastes = each_of (paste_row (cell_of D n r.parts) (cell_of D n p) line) (pastes_of r.dims r.parts p)
-
-    shuts : List Cell → List Lowered → Block
-    shuts cs ls = record { line = line; closes = cs; opens = []; tasks = ls; deliveries = [] }
-
-    by_valued : (v : Bool) → All (IsKnown has) (cond v pastes [])
-    by_valued true = all-rows has (paste_row (cell_of D n r.parts) (cell_of D n p) line) (pastes_of r.dims r.parts p) (λ x. own.paste)
-    by_valued false = All-nil (IsKnown has)
-
-    by_same : (b : Bool) → AreKnownIn has (cond b (shuts [] []) (shuts old (cond (is_valued r) pastes [])))
-    by_same true = record { tasks = All-nil (IsKnown has); reductions = no-openings has }
-    by_same false = record { tasks = by_valued (is_valued r); reductions = no-openings has }
+known-plan has r old D n p line own =
+    let row = paste_row (cell_of D n r.parts) (cell_of D n p) line in
+    let pastes = each_of row (pastes_of r.dims r.parts p) in
+    let known = cond_both (is_valued r) pastes [] (All (IsKnown has)) (λ e. all-rows has row (pastes_of r.dims r.parts p) (λ x. own.paste)) (λ e. All-nil (IsKnown has)) in
+    cond_both (same_parts r.parts p) (closing line [] []) (closing line old (cond (is_valued r) pastes [])) (AreKnownIn has) (λ e. known-quiet has line [] [] (All-nil (IsKnown has))) (λ e. known-quiet has line old (cond (is_valued r) pastes []) known)
 
 pub known-step : (has : Kernel → Bool) (w : ℕ) (rs : List RootState) (C : Laid) (line : Line) (a : Act ℕ) → HasOwn has → IsSound has rs a → AreKnownIn has (step_of w (by_number rs) C line a).block
-known-step has w rs C line (Registers r) own s = record { tasks = known-loads has r (cell_of (take (length C.handles) r.parts (with_root r.dims C)) (length C.handles) r.parts) line r.init own; reductions = no-openings has }
+known-step has w rs C line (Registers r) own s =
+    let cell = cell_of (take (length C.handles) r.parts (with_root r.dims C)) (length C.handles) r.parts in
+    let rows = load_rows r.init r.dims r.parts cell line in
+    known-quiet has line [] rows (All-from_recursion (IsKnown has) rows (each-load (IsKnown has) r.init r.dims r.parts cell line (λ xs place at. own.load) (λ a b place at. own.load_fill)))
 known-step has w rs C line (Plans n p) own s = known-plan has (root_at rs n) (active_cells (by_number rs) C n) (take n p C) n p line own
-known-step has w rs C line (Reduces n by) own s = record { tasks = All-nil (IsKnown has); reductions = no-openings has }
-known-step has w rs C line (Tasks t) own s = record {
-  tasks = All-cons (IsKnown has) _ [] (known-task has rs t s) (All-nil (IsKnown has));
-  reductions = known-openings has rs (fold (with_copies w) C (each_of (operand_cell (by_number rs) C) (contributed t))) t.codelet t.operands s.lawful;
-}
-known-step has w rs C line (Prints n) own s = record { tasks = all-rows has (λ c. deliver_row c line) (active_cells (by_number rs) C n) (λ c. own.deliver); reductions = no-openings has }
-known-step has w rs C line (Invalidates n) own s = record { tasks = All-nil (IsKnown has); reductions = no-openings has }
-known-step has w rs C line (Unregisters n) own s = record { tasks = All-nil (IsKnown has); reductions = no-openings has }
+known-step has w rs C line (Reduces n by) own s = known-quiet has line [] [] (All-nil (IsKnown has))
+known-step has w rs C line (Tasks t) own s =
+    let D = fold (with_copies w) C (each_of (operand_cell (by_number rs) C) (contributed t)) in
+    record { tasks = All-cons (IsKnown has) (task_row (by_number rs) D t line) [] (known-task has rs t s) (All-nil (IsKnown has)); reductions = known-openings has rs D t s }
+known-step has w rs C line (Prints n) own s = record { tasks = all-rows has (λ c. deliver_row c line) (active_cells (by_number rs) C n) (λ c. own.deliver); reductions = All-nil (λ (o : Opening). has_reduction has o.by ≡ true) }
+known-step has w rs C line (Invalidates n) own s = known-quiet has line (active_cells (by_number rs) C n) [] (All-nil (IsKnown has))
+known-step has w rs C line (Unregisters n) own s = known-quiet has line (active_cells (by_number rs) C n) [] (All-nil (IsKnown has))
 
 -- ---- a job
-
-known-last : (has : Kernel → Bool) (cells : ℕ) (line : Line) → AreKnownIn has (last_block cells line)
-known-last has cells line = record { tasks = All-nil (IsKnown has); reductions = no-openings has }
 
 known-blocks : (has : Kernel → Bool) (w : ℕ) (ss : List (Statement ℕ)) (rs : List RootState) (C : Laid) (more : List Block) → HasOwn has → AreSound has rs ss → AllKnown has more → AllKnown has (blocks_from w rs C ss ++ more)
 known-blocks has w [] rs C more own sound rest = rest
@@ -234,5 +188,5 @@ known-blocks has w (s ∷ ss) rs C more own sound rest =
 -- the set has the codelets of the job's program
 pub known-all : (has : Kernel → Bool) (w : ℕ) (ss : List (Statement ℕ)) (rs : List RootState) (C : Laid) (cells : ℕ) (line : Line) → HasOwn has → AreSound has rs ss → All (IsKnown has) (expand w nothing (blocks_from w rs C ss ++ last_block cells line ∷ [])).tasks
 known-all has w ss rs C cells line own sound =
-    (known-expand has w (blocks_from w rs C ss ++ last_block cells line ∷ []) nothing (known-blocks has w ss rs C (last_block cells line ∷ []) own sound (known-last has cells line, tt))
+    (known-expand has w (blocks_from w rs C ss ++ last_block cells line ∷ []) nothing (known-blocks has w ss rs C (last_block cells line ∷ []) own sound (known-quiet has line (cells_below cells) [] (All-nil (IsKnown has)), tt))
     (record { tasks = All-nil (IsKnown has); reductions = λ c f e. absurd (none_isn't f e) })).tasks
