@@ -1,44 +1,35 @@
 -- What a job's statements give is proper, with phases, and hands over what the print statements find.
-use Rattle.std.proofs.Common.{◌≡◌, ℕ, ◌+◌, ◌<◌, ◌≤◌, ◌^◌, Bool, List, [], ◌∷◌, ◌++◌, None, length, map, fold, refl, sym, ap, subst, ◌∙◌, arith, length-append}
+use Rattle.std.proofs.Common.{◌≡◌, ℕ, ◌<◌, ◌≤◌, ◌^◌, Bool, List, [], ◌∷◌, ◌++◌, length, map, fold, refl, sym, ap, subst, ◌∙◌, arith}
 use Rattle.std.proofs.lemmas.List.{append-nil}
-use Rattle.std.proofs.lemmas.List.Elements.{All-nil}
-use Rattle.sj_base.specs.declared.ids.Cell.{Cell}
+use Rattle.std.proofs.lemmas.List.Sums.{fold-append}
 use Rattle.sj_base.specs.declared.ids.Line.{Line}
 use Rattle.sj_base.specs.declared.program.CellInfo.{CellInfo}
-use Rattle.sj_base.specs.declared.program.Delivery.{Delivery}
 use Rattle.sj_base.specs.declared.program.Lowered.{Lowered}
 use Rattle.sj_base.specs.declared.program.Program.{Program}
-use Rattle.sj_base.specs.Array.{area}
 use Rattle.sj_codelet.specs.Kernel.{out}
 use Rattle.sj_codelet.specs.declared.kernel.Kernel.{Kernel}
 use Rattle.sj_core.specs.Laws.{IsLawful}
 use Rattle.sj_core.specs.Proper.{Proper}
-use Rattle.sj_meaning.specs.Act.{Act, Statement}
-use Rattle.sj_meaning.specs.State.{RootState}
+use Rattle.sj_meaning.specs.Act.{Statement}
 use Rattle.sj_meaning.specs.Numbers.{printed_at}
 use Rattle.sj_phases.specs.Block.{Block}
-use Rattle.sj_phases.specs.Expand.{nothing, expand, last_block}
-use Rattle.sj_phases.specs.Plain.{Opens, Plainly, plain_next, plain_program, none_open, open_at, open_after}
-use Rattle.sj_phases.specs.Orderly.{IsOrderlyTask, IsOrderly, AreOrderly, IsDelivered}
-use Rattle.sj_phases.specs.Law.{program_by, handed_over, MayExpand, HoldsPlain}
-use Rattle.sj_phases.proofs.Delivered.{delivered-none}
+use Rattle.sj_phases.specs.Expand.{nothing, expand, cells_below, last_block}
+use Rattle.sj_phases.specs.Plain.{Opens, Plainly, plain_next, plain_program, none_open, open_at}
+use Rattle.sj_phases.specs.Orderly.{IsOrderly, AreOrderly, IsDelivered}
+use Rattle.sj_phases.specs.Law.{program_by, handed_over, MayExpand}
 use Rattle.sj_phases.proofs.Expanded.{delivered, proper, holds_plain, last-shuts}
-use Rattle.sj_steps.specs.Laid.{Laid, no_cells}
-use Rattle.sj_steps.specs.SoundAt.{AreSound, Lives}
+use Rattle.sj_steps.specs.Laid.{no_cells}
+use Rattle.sj_steps.specs.SoundAt.{AreSound}
 use Rattle.sj_steps.proofs.Agrees.{Agrees}
-use Rattle.sj_steps.proofs.Contents.{contents_before}
 use Rattle.sj_steps.proofs.Copying.{copies-none}
 use Rattle.sj_steps.proofs.Folding.{Stand, stand-there}
 use Rattle.sj_steps.proofs.Following.{AllAgree, all-agree, laid_from, laid-grows, rows_from}
 use Rattle.sj_steps.proofs.Growing.{Grows, grows-refl}
-use Rattle.sj_steps.proofs.Handing.{Handed, pieces_from, deliveries_from, all-handed, plain-tasks, plain-deliveries}
+use Rattle.sj_steps.proofs.Handing.{pieces_from, deliveries_from, all-handed, plain-tasks, plain-deliveries}
 use Rattle.sj_steps.proofs.Opens.{opens-step}
+use Rattle.sj_steps.proofs.Orderly.{orderly-nothing}
 use Rattle.sj_steps.proofs.Properly.{blocks_from, orderly-all, proper-plain}
 use Rattle.sj_steps.proofs.Taken.{laid-none, none_isn't}
-
-fold-append : {A B : Type 0} (f : A → B → A) (a : A) (xs ys : List B) → fold f a (xs ++ ys) ≡ fold f (fold f a xs) ys
-fold-append f a [] ys = refl
-fold-append f a (x ∷ xs) ys = fold-append f (f a x) xs ys
 
 -- before the first statement
 agrees-start : (q : Program) → Grows [] q.cells → Agrees q no_cells [] 0 none_open
@@ -65,9 +56,6 @@ agrees-all has q ss sound cells tasks =
 orderly-last : (p : Program) (was : Opens) (bs : List Block) (b : Block) → AreOrderly p was bs → ((w : Opens) → IsOrderly p w b) → AreOrderly p was (bs ++ b ∷ [])
 orderly-last p was [] b h last = (last was, tt)
 orderly-last p was (c ∷ bs) b h last = (h.0, orderly-last p (open_at was c) bs b h.1 last)
-
-ends-orderly : (p : Program) (cells : ℕ) (line : Line) (w : Opens) → IsOrderly p w (last_block cells line)
-ends-orderly p cells line w = record { tasks = All-nil (IsOrderlyTask p (open_at w (last_block cells line))); openings = tt; delivered = delivered-none }
 
 module _ (has : Kernel → Bool) (workers : ℕ) (ss : List (Statement ℕ)) (line : Line) (sound : AreSound has [] ss) where
   abbrev rows : List CellInfo
@@ -107,7 +95,7 @@ module _ (has : Kernel → Bool) (workers : ℕ) (ss : List (Statement ℕ)) (li
   orderly-before = orderly-all has before ss no_cells [] 0 none_open sound (agrees-all has before ss sound refl (plain-tasks workers ss [] no_cells start))
 
   pub orderly : AreOrderly q none_open blocks
-  orderly = orderly-last q none_open own (last_block (length rows) line) (orderly-all has q ss no_cells [] 0 none_open sound all) (ends-orderly q (length rows) line)
+  orderly = orderly-last q none_open own (last_block (length rows) line) (orderly-all has q ss no_cells [] 0 none_open sound all) (λ w. orderly-nothing q w line (cells_below (length rows)))
 
   pub are-delivered : IsDelivered (program_by rows workers blocks).tasks (program_by rows workers blocks).deliveries
   are-delivered = (delivered q rows workers blocks orderly).expanded
