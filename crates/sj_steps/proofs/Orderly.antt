@@ -1,14 +1,13 @@
 -- The block of a statement has what expanding it needs, by the roots' numbers.
 use mathlib.Core.List.{map-map}
-use Rattle.std.proofs.Common.{◌≡◌, ℕ, ◌+◌, ◌<◌, ◌≤◌, Bool, true, false, cond, not, Option, Some, None, List, [], ◌∷◌, length, get_or, map as each_of, fold, refl, sym, ap, subst, ◌∙◌, inl, inr, arith, unwrap_or}
-use Rattle.std.specs.Prelude.{All, Contains, filter, nat_eq, count_by}
+use Rattle.std.proofs.Common.{◌≡◌, ℕ, ◌+◌, ◌<◌, Bool, true, false, cond, not, Option, Some, None, List, [], ◌∷◌, length, get_or, map as each_of, fold, refl, sym, ap, subst, ◌∙◌, inl, inr, arith, unwrap_or}
+use Rattle.std.specs.Prelude.{All, Contains, filter, nat_eq, nat_le, nat_lt, count_by}
 use Rattle.std.specs.List.{AllByRecursion, flat_map, list_any, range_with_len, zip}
 use Rattle.std.specs.Option.{is_some}
-use Rattle.std.proofs.lemmas.Bool.{and_from, cases_lt, cond_both, eq-eqb, false_from_ne_true, false≢true, ne_eqb, not-true}
-use Rattle.std.proofs.lemmas.List.{length-map, get_or-map}
+use Rattle.std.proofs.lemmas.Bool.{and_from, cond_both, false_from_ne_true, false≢true, le-leb, lt-ltb, not-true}
+use Rattle.std.proofs.lemmas.List.{length-map, get_or-map, map-id}
 use Rattle.std.proofs.lemmas.List.FromFn.{length-range_with_len, get_or-range_with_len}
 use Rattle.std.proofs.lemmas.List.Elements.{All-contains, All-filter, All-from_recursion, All-map, All-weaker, Contains-get_or}
-use Rattle.std.proofs.lemmas.List.Sums.{sum_by-cons}
 use Rattle.sj_base.specs.declared.ids.Cell.{Cell}
 use Rattle.sj_base.specs.declared.ids.Line.{Line}
 use Rattle.sj_base.specs.declared.ids.Worker.{Worker}
@@ -21,7 +20,8 @@ use Rattle.sj_base.specs.declared.program.Delivery.{Delivery}
 use Rattle.sj_base.specs.declared.program.Lowered.{Lowered}
 use Rattle.sj_base.specs.declared.program.Program.{Program}
 use Rattle.sj_base.specs.Mode.{is_data, is_read_only, is_redux, is_scratch}
-use Rattle.sj_base.proofs.Lists.{cons_same, each-weaker}
+use Rattle.sj_base.proofs.Bools.{tally}
+use Rattle.sj_base.proofs.Lists.{each-weaker}
 use Rattle.sj_base.proofs.Numbers.{none_first}
 use Rattle.sj_codelet.specs.declared.kernel.Kernel.{Kernel}
 use Rattle.sj_codelet.specs.declared.kernel.Kernel.TheVariants.{Deliver}
@@ -30,12 +30,13 @@ use Rattle.sj_core.specs.Program.{cell_info, data_operands, no_task, same_cell}
 use Rattle.sj_core.specs.Fold.{Contents}
 use Rattle.sj_core.specs.Proper.{IsCopyOf, IsPlain, access}
 use Rattle.sj_core.proofs.Dependencies.{map-from}
+use Rattle.sj_core.proofs.Sums.{count-numbered}
 use Rattle.sj_core.proofs.Readiness.{AllPairs-two, Contains-filter, Contains-from_filter, Contains-map, filter-Contains}
 use Rattle.sj_plan.specs.declared.parts.Parts.{Parts}
 use Rattle.sj_plan.specs.declared.paste.Paste.{Paste}
 use Rattle.sj_plan.specs.Parts.{IsPlace, places}
 use Rattle.sj_plan.specs.Paste.{pastes_of, pastes_to, IsPasteBetween, is_first}
-use Rattle.sj_plan.proofs.Lists.{each-flat_map, each-map, each-places}
+use Rattle.sj_plan.proofs.Lists.{count_by-map, each-flat_map, each-map, each-places}
 use Rattle.sj_meaning.specs.declared.job.Init.{Init}
 use Rattle.sj_meaning.specs.Statement.{Operand, TaskLine}
 use Rattle.sj_meaning.specs.State.{RootState, is_valued_child}
@@ -275,26 +276,13 @@ module _ (p : Program) (D : Laid) (n : ℕ) (k : Contents) (rs : List RootState)
 abbrev numbers : List Delivery → List ℕ
 numbers ds = each_of (λ (d : Delivery). d.task.0) ds
 
-count-past : (ds : List Delivery) (a n : ℕ) → numbers ds ≡ range_with_len a (length ds) → n < a → count_by (λ (d : Delivery). nat_eq d.task.0 n) ds ≡ 0
-count-past [] a n e lt = refl
-count-past (d ∷ ds) a n e lt =
-    let h = cons_same d.task.0 a (numbers ds) (range_with_len (a + 1) (length ds)) e in
-    sum_by-cons (λ (x : Delivery). cond (nat_eq x.task.0 n) 1 0) d ds ∙ (λ i. cond (ne_eqb d.task.0 n (λ same. omega (arith, same, h.0, lt)) i) 1 0 + count-past ds (a + 1) n h.1 (omega (arith, lt)) i)
-
-count-at : (ds : List Delivery) (a n : ℕ) → numbers ds ≡ range_with_len a (length ds) → a ≤ n → n < a + length ds → count_by (λ (d : Delivery). nat_eq d.task.0 n) ds ≡ 1
-count-at [] a n e lo hi = absurd (omega (arith, lo, hi))
-count-at (d ∷ ds) a n e lo hi =
-    let h = cons_same d.task.0 a (numbers ds) (range_with_len (a + 1) (length ds)) e in
-    sum_by-cons (λ (x : Delivery). cond (nat_eq x.task.0 n) 1 0) d ds ∙ elim (cases_lt a n) [
-      | inl later ↦ (λ i. cond (ne_eqb d.task.0 n (λ same. omega (arith, same, h.0, later)) i) 1 0 + count-at ds (a + 1) n h.1 (omega (arith, later)) (omega (arith, hi)) i)
-      | inr here ↦ (λ i. cond (eq-eqb d.task.0 n (omega (arith, h.0, lo, here)) i) 1 0 + count-past ds (a + 1) n h.1 (omega (arith, lo, here)) i)
-    ]
-
 delivered-numbered : (ls : List Lowered) (ds : List Delivery) → ((l : Lowered) → Contains ls l → kernel_of l.codelet ≡ Some Deliver) → numbers ds ≡ range_with_len 0 (length ls) → IsDelivered ls ds
 delivered-numbered ls ds deliver e = record {
   below = λ k d lt. omega (arith, at k d lt, lt, many);
   deliver = λ k d lt. ap (λ n. kernel_of (get_or ls n no_task).codelet) (at k d lt) ∙ deliver (get_or ls k no_task) (Contains-get_or ls k no_task (omega (arith, lt, many)));
-  once = λ n lt is. count-at ds 0 n (e ∙ ap (range_with_len 0) (sym many)) (omega arith) (omega (arith, lt, many));
+  once = λ n lt is.
+      sym (count_by-map (λ i. nat_eq i n) (λ (d : Delivery). d.task.0) ds) ∙ ap (λ (xs : List ℕ). count_by (λ i. nat_eq i n) xs) (e ∙ sym (map-id (range_with_len 0 (length ls)))) ∙ count-numbered (λ (i : ℕ). i) (λ (i : ℕ). nat_eq i n) n (λ i. refl) 0 (length ls)
+      ∙ ap tally (and_from (nat_le 0 n) (nat_lt n (0 + length ls)) (le-leb 0 n (omega arith)) (lt-ltb n (0 + length ls) (omega (arith, lt))));
   in_order = λ i j d before within. (let x = at i d (omega (arith, before, within)) in let y = at j d within in omega (arith, x, y, before));
 }
   where
