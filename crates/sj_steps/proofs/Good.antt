@@ -35,7 +35,7 @@ use Rattle.sj_plan.specs.declared.parts.Parts.{Parts}
 use Rattle.sj_plan.specs.declared.paste.Paste.{Paste}
 use Rattle.sj_plan.specs.declared.rect.Rect.{Rect}
 use Rattle.sj_plan.specs.Parts.{IsPlace, Fits as PlanFits, places}
-use Rattle.sj_plan.specs.Paste.{paste_copy, is_first, pastes_to, IsPasteBetween}
+use Rattle.sj_plan.specs.Paste.{paste_copy, is_first, pastes_of, pastes_to, IsPasteBetween}
 use Rattle.sj_plan.specs.Pieces.{BeginOnce}
 use Rattle.sj_plan.specs.Rect.{child, rect_dims}
 use Rattle.sj_plan.specs.Window.{window}
@@ -60,7 +60,7 @@ use Rattle.sj_steps.proofs.Modes.{plain-modes}
 use Rattle.sj_steps.proofs.Operands.{both-read, contributes-there, none-passes, placed-at, valued-at}
 use Rattle.sj_steps.proofs.Folding.{Stand, stand-append, later}
 use Rattle.sj_steps.proofs.Keeping.{HasCells, HaveRoots}
-use Rattle.sj_steps.proofs.Pasting.{GoesTo, pastes-begin, pastes-go, pastes-between, paste-gives}
+use Rattle.sj_steps.proofs.Pasting.{GoesTo, pastes-begin, pastes-go, pastes-between, paste-gives, rows_to, rows-by_child}
 use Rattle.sj_steps.proofs.Taken.{cell-inside}
 
 -- a task of the program is one that it may have at that number
@@ -100,7 +100,7 @@ good-append p n [] ys g h = subst (λ (m : ℕ). AreGood p m ys) (none_more n) h
 good-append p n (x ∷ xs) ys g h = (g.0, good-append p (n + 1) xs ys g.1 (subst (λ (m : ℕ). AreGood p m ys) (sym (length_more n x xs)) h))
 
 -- blocks of tasks, each of which is good where it stands
-pub good-blocks : {X : Type 0} (p : Program) (n m : ℕ) (rows : X → List Lowered) (xs : List X) → n ≤ m → AllByRecursion (λ x. (k : ℕ) → n ≤ k → Stand p k (rows x) → AreGood p k (rows x)) xs → Stand p m (flat_map rows xs) → AreGood p m (flat_map rows xs)
+good-blocks : {X : Type 0} (p : Program) (n m : ℕ) (rows : X → List Lowered) (xs : List X) → n ≤ m → AllByRecursion (λ x. (k : ℕ) → n ≤ k → Stand p k (rows x) → AreGood p k (rows x)) xs → Stand p m (flat_map rows xs) → AreGood p m (flat_map rows xs)
 good-blocks p n m rows [] h g s = tt
 good-blocks p n m rows (x ∷ xs) h g s =
     let both = stand-append p m (rows x) (flat_map rows xs) s in
@@ -216,10 +216,12 @@ good_first p n m d s t old new line to (x ∷ xs) can h bs gs once stand =
     let gives : HasValueBefore p (task_at (m + 1)) (new to) = (task_at m, omega arith, ap (λ (l : Lowered). gives_value l (new to)) stand.0 ∙ ap (λ (q : ℕ × ℕ). gives_value (paste_row old new line x) (new q)) (sym gs.0.1) ∙ paste-gives old new line x) in
     (good_paste p n m d s t old new line x can h bs.0 (λ e. absurd (false≢true (sym e ∙ once.0))), good-all p (m + 1) (each_of (paste_row old new line) xs) (good_further p n (m + 1) d s t old new line to xs can (omega arith) bs.1 gs.1 gives))
 
-pub good_pastes_to : (p : Program) (n m : ℕ) (d : Dims) (s t : Parts) (old new : ℕ × ℕ → Cell) (line : Line) (to : ℕ × ℕ) → CanPaste p n d s t old new → PlanFits s d → PlanFits t d → IsPlace t to → n ≤ m
-    → Stand p m (each_of (paste_row old new line) (pastes_to d s t to)) → AreGood p m (each_of (paste_row old new line) (pastes_to d s t to))
-good_pastes_to p n m d s t old new line to can fs ft at h stand =
-    good_first p n m d s t old new line to (pastes_to d s t to) can h (pastes-between d s t to at) (pastes-go d s t to) (pastes-begin d s t to fs ft at) stand
+-- the pastes of a plan line, child by child
+pub good_pastes : (q : Program) (n : ℕ) (d : Dims) (s t : Parts) (old new : ℕ × ℕ → Cell) (line : Line) → CanPaste q n d s t old new → PlanFits s d → PlanFits t d → Stand q n (each_of (paste_row old new line) (pastes_of d s t)) → AreGood q n (each_of (paste_row old new line) (pastes_of d s t))
+good_pastes q n d s t old new line can fs ft stand =
+    let by_child = rows-by_child d s t old new line in
+    subst (AreGood q n) (sym by_child) (good-blocks q n n (rows_to d s t old new line) (places t) (omega arith) (each-places (λ to. (k : ℕ) → n ≤ k → Stand q k (rows_to d s t old new line to) → AreGood q k (rows_to d s t old new line to)) t (λ to at k more st.
+    good_first q n k d s t old new line to (pastes_to d s t to) can more (pastes-between d s t to at) (pastes-go d s t to) (pastes-begin d s t to fs ft at) st)) (subst (Stand q n) by_child stand))
 
 -- ---- tasks of task lines
 

@@ -13,7 +13,7 @@ use Rattle.sj_codelet.specs.declared.kernel.Kernel.{Kernel}
 use Rattle.sj_codelet.specs.Kernel.{init_of}
 use Rattle.sj_core.specs.Proper.{HasValueBefore, gives_value}
 use Rattle.sj_plan.specs.declared.parts.Parts.{Parts}
-use Rattle.sj_plan.specs.Parts.{Fits, places}
+use Rattle.sj_plan.specs.Parts.{places}
 use Rattle.sj_plan.specs.Paste.{pastes_of}
 use Rattle.sj_plan.specs.Rect.{child}
 use Rattle.sj_plan.proofs.Lists.{each-map, each-places}
@@ -40,12 +40,11 @@ use Rattle.sj_steps.proofs.Elements.{valued-child}
 use Rattle.sj_steps.proofs.Filling.{gives_own}
 use Rattle.sj_steps.proofs.Folding.{Stand}
 use Rattle.sj_steps.proofs.Following.{IsAt}
-use Rattle.sj_steps.proofs.Good.{AreGood, IsGood, CanPaste, cell-there, each-load, good-all, good-blocks, good_load, good_fill, good_deliver, good_init, good_pastes_to, good_task}
+use Rattle.sj_steps.proofs.Good.{AreGood, IsGood, cell-there, each-load, good-all, good_load, good_fill, good_deliver, good_init, good_pastes, good_task}
 use Rattle.sj_steps.proofs.Keeping.{HasCells, HaveRoots, cell-dims, differs, holds-later}
 use Rattle.sj_steps.proofs.Opens.{kept-cell, takes-planned, takes-registered}
 use Rattle.sj_steps.proofs.Operands.{Contributes, contributes-there, last-there, none-filter, none-passes, one-unit, only-last, placed-at}
 use Rattle.sj_steps.proofs.Orderly.{plain-child}
-use Rattle.sj_steps.proofs.Pasting.{rows_to, rows-by_child}
 use Rattle.sj_steps.proofs.Places.{parts-itself}
 use Rattle.sj_steps.proofs.Stepping.{keeps-step, direct-loads, plain-plan, direct-delivers}
 use Rattle.sj_steps.proofs.Taken.{cells-apart}
@@ -56,14 +55,6 @@ good_loads : (q : Program) (D : Laid) (n m : ℕ) (d : Dims) (s : Parts) (f : �
 good_loads q D n m d s f i line cells laid t = good-all q n (load_rows i d s (cell_of D m s) line) (each-load (IsGood q n) i d s (cell_of D m s) line
     (λ xs place at. good_load q n xs d (child d s place) (cell_of D m s place) line (cell-there q D m d s f place cells laid t at) (cell-dims q D m d s f place cells laid t at))
     (λ a b place at. good_fill q n a b d (child d s place) (cell_of D m s place) line (cell-there q D m d s f place cells laid t at)))
-
--- ---- pastes
-
-good_pastes : (q : Program) (n : ℕ) (d : Dims) (s t : Parts) (old new : ℕ × ℕ → Cell) (line : Line) → CanPaste q n d s t old new → Fits s d → Fits t d → Stand q n (each_of (paste_row old new line) (pastes_of d s t)) → AreGood q n (each_of (paste_row old new line) (pastes_of d s t))
-good_pastes q n d s t old new line can fs ft stand =
-    let by_child = rows-by_child d s t old new line in
-    subst (AreGood q n) (sym by_child) (good-blocks q n n (rows_to d s t old new line) (places t) (omega arith)
-    (each-places (λ to. (k : ℕ) → n ≤ k → Stand q k (rows_to d s t old new line to) → AreGood q k (rows_to d s t old new line to)) t (λ to at k more st. good_pastes_to q n k d s t old new line to can fs ft at more st)) (subst (Stand q n) by_child stand))
 
 -- ---- task lines
 
