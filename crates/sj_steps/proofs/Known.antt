@@ -7,12 +7,12 @@ use Rattle.std.proofs.lemmas.List.Elements.{All-nil, All-cons, All-head, All-tai
 use Rattle.sj_base.specs.declared.ids.Cell.{Cell}
 use Rattle.sj_base.specs.declared.ids.Line.{Line}
 use Rattle.sj_base.specs.declared.mode.Reduction.{Reduction}
-use Rattle.sj_base.specs.declared.mode.Reduction.TheVariants.{Plus, Least}
 use Rattle.sj_base.specs.declared.program.Lowered.{Lowered}
 use Rattle.sj_base.specs.Mode.{is_redux}
 use Rattle.sj_codelet.specs.declared.kernel.Kernel.{Kernel}
 use Rattle.sj_codelet.specs.declared.kernel.Kernel.TheVariants.{Load, LoadFill, Paste, Deliver}
-use Rattle.sj_codelet.specs.Kernel.{fits, init_of, combine_of, has_reduction, contributes_of}
+use Rattle.sj_codelet.specs.Kernel.{codelet_of, fits, init_of, combine_of, has_reduction, contributes_of}
+use Rattle.sj_codelet.proofs.Table.{kernel_of-codelet_of}
 use Rattle.sj_core.specs.Laws.{is_known}
 use Rattle.sj_plan.specs.declared.parts.Parts.{Parts}
 use Rattle.sj_plan.specs.Paste.{pastes_of}
@@ -68,13 +68,8 @@ own-of has h =
 
 -- ---- tasks of phases
 
-known-init : (has : Kernel → Bool) (by : Reduction) (line : Line) (c : Cell) → has_reduction has by ≡ true → IsKnown has (init_row by line c)
-known-init has Plus line c h = (and_parts (has (init_of Plus)) (has (combine_of Plus)) h).0
-known-init has Least line c h = (and_parts (has (init_of Least)) (has (combine_of Least)) h).0
-
-known-combine : (has : Kernel → Bool) (by : Reduction) (c : Cell) (line : Line) (q : Cell) → has_reduction has by ≡ true → IsKnown has (combine_row by c line q)
-known-combine has Plus c line q h = (and_parts (has (init_of Plus)) (has (combine_of Plus)) h).1
-known-combine has Least c line q h = (and_parts (has (init_of Least)) (has (combine_of Least)) h).1
+known-kernel : (has : Kernel → Bool) (k : Kernel) → has k ≡ true → is_known has (codelet_of k) ≡ true
+known-kernel has k h = ap (λ (o : Option Kernel). elim o as (λ _. Bool) [ None ↦ false | Some j ↦ has j ]) (kernel_of-codelet_of k) ∙ h
 
 all-rows : {X : Type 0} (has : Kernel → Bool) (row : X → Lowered) (xs : List X) → ((x : X) → IsKnown has (row x)) → All (IsKnown has) (each_of row xs)
 all-rows has row xs h = All-from_recursion (IsKnown has) (each_of row xs) (each-map (IsKnown has) row xs (each-of (λ x. IsKnown has (row x)) h xs))
@@ -93,7 +88,7 @@ known-closed has w E c k = by_phase (E.phase c) refl
   where
     by_phase : (o : Option OpenPhase) → E.phase c ≡ o → AreKnown has (elim o as (λ _. Expansion) [ None ↦ E | Some f ↦ turned (combine_rows f c w) c None E ])
     by_phase None e = k
-    by_phase (Some f) e = known-turned has (combine_rows f c w) c None E k (all-rows has (λ n. combine_row f.by c f.line (copy_at f.copies n)) (range_with_len 0 w) (λ n. known-combine has f.by c f.line (copy_at f.copies n) (k.reductions c f e))) (λ g h. absurd (none_isn't g h))
+    by_phase (Some f) e = known-turned has (combine_rows f c w) c None E k (all-rows has (λ n. combine_row f.by c f.line (copy_at f.copies n)) (range_with_len 0 w) (λ n. known-kernel has (combine_of f.by) (and_parts (has (init_of f.by)) (has (combine_of f.by)) (k.reductions c f e)).1)) (λ g h. absurd (none_isn't g h))
 
 known-closes : (has : Kernel → Bool) (w : ℕ) (cs : List Cell) (E : Expansion) → AreKnown has E → AreKnown has (fold (closed w) E cs)
 known-closes has w [] E k = k
@@ -101,8 +96,9 @@ known-closes has w (c ∷ cs) E k = known-closes has w cs (closed w E c) (known-
 
 known-begins : (has : Kernel → Bool) (w : ℕ) (o : Opening) (line : Line) → has_reduction has o.by ≡ true → All (IsKnown has) (begin_rows w o line)
 known-begins has w o line own =
-    All-append (IsKnown has) (init_rows o.by o.copies w line) (cond o.valued [] (init_row o.by line o.cell ∷ [])) (all-rows has (λ n. init_row o.by line (copy_at o.copies n)) (range_with_len 0 w) (λ n. known-init has o.by line (copy_at o.copies n) own))
-    (cond_both o.valued [] (init_row o.by line o.cell ∷ []) (All (IsKnown has)) (λ e. All-nil (IsKnown has)) (λ e. All-cons (IsKnown has) (init_row o.by line o.cell) [] (known-init has o.by line o.cell own) (All-nil (IsKnown has))))
+    let unit = known-kernel has (init_of o.by) (and_parts (has (init_of o.by)) (has (combine_of o.by)) own).0 in
+    All-append (IsKnown has) (init_rows o.by o.copies w line) (cond o.valued [] (init_row o.by line o.cell ∷ [])) (all-rows has (λ n. init_row o.by line (copy_at o.copies n)) (range_with_len 0 w) (λ n. unit))
+    (cond_both o.valued [] (init_row o.by line o.cell ∷ []) (All (IsKnown has)) (λ e. All-nil (IsKnown has)) (λ e. All-cons (IsKnown has) (init_row o.by line o.cell) [] unit (All-nil (IsKnown has))))
 
 known-opened : (has : Kernel → Bool) (w : ℕ) (line : Line) (E : Expansion) (o : Opening) → has_reduction has o.by ≡ true → AreKnown has E → AreKnown has (opened w line E o)
 known-opened has w line E o own k =

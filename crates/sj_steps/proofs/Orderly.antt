@@ -120,10 +120,7 @@ orderly-nothing p was line cs = quiet-block p was line cs [] tt
 place-of : (s : Parts) (x : ℕ × ℕ) → Contains (places s) x → IsPlace s x
 place-of s x h = All-contains (IsPlace s) (places s) x (All-from_recursion (IsPlace s) (places s) (each-places (IsPlace s) s (λ y k. k))) h
 
--- what is shut stays so
-pub shut-stays : (cs : List Cell) (was : Opens) (c : Cell) → was c ≡ None → fold with_shut was cs c ≡ None
-shut-stays cs was c e = shuts cs was c (inr e)
-
+-- what is open behind them was so before
 pub shut-less : (cs : List Cell) (was : Opens) (c : Cell) (by : Reduction) → fold with_shut was cs c ≡ Some by → was c ≡ Some by
 shut-less [] was c by e = e
 shut-less (d ∷ cs) was c by e =
@@ -155,7 +152,7 @@ module _ (p : Program) (D : Laid) (was : Opens) (line : Line) (cells : HasCells 
       pasted x b = (
         All-from_recursion (IsBeside p (fold with_shut was cs)) (access R (cell_of D m s x.from) ∷ access (cond (is_first x) W RW) (cell_of D m t x.to) ∷ []) (
           record { plain = plain-child p D m d s f x.from cells copies laid old b.from; direct = refl; shut = shuts cs was (cell_of D m s x.from) (inl (closed x.from b.from)) },
-          (record { plain = plain-child p D m d t g x.to cells copies laid new b.to; direct = cond_both (is_first x) W RW (λ (mode : Mode). is_redux mode ≡ false) (λ e. refl) (λ e. refl); shut = shut-stays cs was (cell_of D m t x.to) (fresh x.to b.to) }, tt),
+          (record { plain = plain-child p D m d t g x.to cells copies laid new b.to; direct = cond_both (is_first x) W RW (λ (mode : Mode). is_redux mode ≡ false) (λ e. refl) (λ e. refl); shut = shuts cs was (cell_of D m t x.to) (inr (fresh x.to b.to)) }, tt),
         ),
         (λ e. absurd (cc)),
       )
