@@ -119,16 +119,18 @@ other-root C rs was q c by e h same =
 
 -- ---- a child that is put
 
-shape-put : (rs : List RootState) (o : Operand ℕ) (a : Array) (m : ℕ) → Lives rs o.name → SameShape (root_at (change_at (with_child o.place a) o.name rs) m) (root_at rs m)
-shape-put rs o a m lives = elim (cases_eq m o.name) [
-  | inl e ↦
-      (let here = changed-here (with_child o.place a) o.name rs lives in
-      subst (λ (i : ℕ). SameShape (root_at (change_at (with_child o.place a) o.name rs) i) (root_at rs i)) (sym e) (record { dims = ap (λ (r : RootState). r.dims) here; parts = ap (λ (r : RootState). r.parts) here; reduction = ap (λ (r : RootState). r.reduction) here }))
-  | inr other ↦ same-shape (root_at (change_at (with_child o.place a) o.name rs) m) (root_at rs m) (changed-beside (with_child o.place a) o.name m rs other)
+-- what holds of the changed root, and held of all, holds of each behind the change
+changed-each : (f : RootState → RootState) (m : ℕ) (rs : List RootState) (P : ℕ → RootState → Type 0) → Lives rs m → P m (f (root_at rs m)) → ((i : ℕ) → P i (root_at rs i)) → (i : ℕ) → P i (root_at (change_at f m rs) i)
+changed-each f m rs P lives here all i = elim (cases_eq i m) [
+  | inl e ↦ subst (λ (j : ℕ). P j (root_at (change_at f m rs) j)) (sym e) (subst (P m) (sym (changed-here f m rs lives)) here)
+  | inr other ↦ subst (P i) (sym (changed-beside f m i rs other)) (all i)
 ]
 
+shape-put : (rs : List RootState) (o : Operand ℕ) (a : Array) → Lives rs o.name → (m : ℕ) → SameShape (root_at (change_at (with_child o.place a) o.name rs) m) (root_at rs m)
+shape-put rs o a lives = changed-each (with_child o.place a) o.name rs (λ i r. SameShape r (root_at rs i)) lives (record { dims = refl; parts = refl; reduction = refl }) (λ i. same-shape (root_at rs i) (root_at rs i) refl)
+
 placed-put : (rs : List RootState) (o : Operand ℕ) (a : Array) (u : Operand ℕ) → Lives rs o.name → IsPlaced rs u → IsPlaced (change_at (with_child o.place a) o.name rs) u
-placed-put rs o a u lives h = let s = shape-put rs o a u.name lives in record { lives = subst (λ (d : Dims). 0 < area d) (sym s.dims) h.lives; place = subst (λ (x : Parts). IsPlace x u.place) (sym s.parts) h.place }
+placed-put rs o a u lives h = let s = shape-put rs o a lives u.name in record { lives = subst (λ (d : Dims). 0 < area d) (sym s.dims) h.lives; place = subst (λ (x : Parts). IsPlace x u.place) (sym s.parts) h.place }
 
 child-put : (r : RootState) (put place : ℕ × ℕ) (a : Array) → IsPlace r.parts put → IsPlace r.parts place → is_valued_child r place ≡ true → is_valued_child (with_child put a r) place ≡ true
 child-put r put place a into at v = elim (cases_Bool (same_child_place put place)) [
@@ -136,20 +138,15 @@ child-put r put place a into at v = elim (cases_Bool (same_child_place put place
   | inr other ↦ ap (λ es. is_child r.parts place && list_all (λ (e : Option ℤ). is_some e) es) (written-other r put place a into at (λ same. false≢true (sym other ∙ ap (same_child_place put) (sym same) ∙ place-itself put))) ∙ v
 ]
 
-valued-put : (rs : List RootState) (o : Operand ℕ) (a : Array) (m : ℕ) (place : ℕ × ℕ) → IsPlaced rs o → IsPlace (root_at rs m).parts place → is_valued_child (root_at rs m) place ≡ true → is_valued_child (root_at (change_at (with_child o.place a) o.name rs) m) place ≡ true
-valued-put rs o a m place placed at v = elim (cases_eq m o.name) [
-  | inl e ↦
-      (let now = ap (root_at (change_at (with_child o.place a) o.name rs)) e ∙ changed-here (with_child o.place a) o.name rs placed.lives in
-      ap (λ (r : RootState). is_valued_child r place) now
-      ∙ child-put (root_at rs o.name) o.place place a placed.place (subst (λ (i : ℕ). IsPlace (root_at rs i).parts place) e at) (ap (λ i. is_valued_child (root_at rs i) place) (sym e) ∙ v))
-  | inr other ↦ ap (λ (r : RootState). is_valued_child r place) (changed-beside (with_child o.place a) o.name m rs other) ∙ v
-]
+valued-put : (rs : List RootState) (o : Operand ℕ) (a : Array) (place : ℕ × ℕ) → IsPlaced rs o → (m : ℕ) → IsPlace (root_at rs m).parts place → is_valued_child (root_at rs m) place ≡ true → is_valued_child (root_at (change_at (with_child o.place a) o.name rs) m) place ≡ true
+valued-put rs o a place placed =
+    changed-each (with_child o.place a) o.name rs (λ i r. IsPlace (root_at rs i).parts place → is_valued_child (root_at rs i) place ≡ true → is_valued_child r place ≡ true) placed.lives (child-put (root_at rs o.name) o.place place a placed.place) (λ i at v. v)
 
 keeps-puts : (os : List (Operand ℕ)) (xs : List Array) (rs : List RootState) (m : ℕ) (place : ℕ × ℕ) → AllByRecursion (IsPlaced rs) os → IsPlace (root_at rs m).parts place → is_valued_child (root_at rs m) place ≡ true → Keeps (put_all_at os xs rs) rs m place
 keeps-puts (o ∷ os) (a ∷ xs) rs m place placed at v =
     let next = change_at (with_child o.place a) o.name rs in
-    let s = shape-put rs o a m placed.0.lives in
-    let rest = keeps-puts os xs next m place (each-weaker (IsPlaced rs) (IsPlaced next) (λ u h. placed-put rs o a u placed.0.lives h) os placed.1) (subst (λ (x : Parts). IsPlace x place) (sym s.parts) at) (valued-put rs o a m place placed.0 at v) in
+    let s = shape-put rs o a placed.0.lives m in
+    let rest = keeps-puts os xs next m place (each-weaker (IsPlaced rs) (IsPlaced next) (λ u h. placed-put rs o a u placed.0.lives h) os placed.1) (subst (λ (x : Parts). IsPlace x place) (sym s.parts) at) (valued-put rs o a place placed.0 m at v) in
     record { shape = record { dims = rest.shape.dims ∙ s.dims; parts = rest.shape.parts ∙ s.parts; reduction = rest.shape.reduction ∙ s.reduction }; valued = rest.valued }
 keeps-puts os xs rs m place placed at v = record { shape = same-shape (root_at rs m) (root_at rs m) refl; valued = v }
 
@@ -239,15 +236,11 @@ plan-opens q C rs n was line m p lives g =
     let old = active_cells (by_number rs) C m in
     let t = takes-planned q C rs n was m p lives g in
     cond_both (same_parts r.parts p) (closing line [] []) (closing line old (cond (is_valued r) (each_of (paste_row (cell_of D m r.parts) (cell_of D m p) line) (pastes_of r.dims r.parts p)) [])) (λ (b : Block). AreOpenChildren D new (open_at was b))
-    (λ e c by is. (let h = g.opens c by is in child-moved C D rs new c by h (stays e h.number) (kept-child q C D rs n was m r.dims p c by g t h)))
+    (λ e c by is.
+        (let h = g.opens c by is in
+        let stays = changed-each (with_parts p) m rs (λ i x. x ≡ root_at rs i) lives (λ j. with_parts (sym (parts-are r.parts p e) j) r) (λ i. refl) h.number in
+        child-moved C D rs new c by h stays (kept-child q C D rs n was m r.dims p c by g t h)))
     (λ e c by is. (let h = g.opens c by (shut-less old was c by is) in child-moved C D rs new c by h (changed-beside (with_parts p) m h.number rs (other-root C rs was m c by is h)) (kept-child q C D rs n was m r.dims p c by g t h)))
-  where
-    -- the plan that is active leaves the roots
-    stays : same_parts (root_at rs m).parts p ≡ true → (i : ℕ) → root_at (change_at (with_parts p) m rs) i ≡ root_at rs i
-    stays e i = elim (cases_eq i m) [
-      | inl here ↦ ap (root_at (change_at (with_parts p) m rs)) here ∙ changed-here (with_parts p) m rs lives ∙ (λ j. with_parts (sym (parts-are (root_at rs m).parts p e) j) (root_at rs m)) ∙ ap (root_at rs) (sym here)
-      | inr other ↦ changed-beside (with_parts p) m i rs other
-    ]
 
 -- another root is changed, whose active cells are closed
 closed-opens : (q : Program) (C : Laid) (rs new : List RootState) (n : ℕ) (was : Opens) (m : ℕ) → Agrees q C rs n was → ((i : ℕ) → (i ≡ m → ⊥) → root_at new i ≡ root_at rs i) → AreOpenChildren C new (fold with_shut was (active_cells (by_number rs) C m))
