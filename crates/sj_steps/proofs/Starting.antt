@@ -98,6 +98,13 @@ turned_roots q C D n rs new m f x ls has laid keeps fits whole t stand turns her
     ap (λ (k : Contents). held_in q k (cell_of D u r.parts place)) left
     ∙ turns.others (cell_of D u r.parts place) (λ from at. differs (cell_of D m x.parts from) (cell_of D u r.parts place) (λ same. other (sym (cells-apart D m u x.dims r.dims x.parts r.parts f o.first from place laid t kept at inside same).0)))))
 
+-- what of a statement's agreement isn't about phases
+pub record Keeps (q : Program) (C : Laid) (rs : List RootState) (n : ℕ) (ls : List Lowered) : Type 0 where
+  pub laid : AreLaid C
+  pub copies : HaveCopies q.workers C
+  pub roots : HaveRoots q C (n + length ls) (contents_before q (n + length ls)) rs
+  pub counted : length C.handles ≡ length rs
+
 -- ---- registrations
 
 -- a root as it is registered
@@ -157,22 +164,20 @@ module _ (q : Program) (C : Laid) (n : ℕ) (rs : List RootState) (line : Line) 
   dims_there : (handle_at B m).dims ≡ r.dims
   dims_there = ap (λ h. h.dims) (root-there C r.dims m refl)
 
-  pub laid-registered : AreLaid Registered
+  laid-registered : AreLaid Registered
   laid-registered = laid-take B m r.parts there (subst (λ (d : Dims). Fits r.parts d) (sym dims_there) s.parts) (laid-root C r.dims a s.elements)
-
-  pub copies-registered : HaveCopies q.workers Registered
-  copies-registered = copies-take q.workers B m r.parts there (laid-root C r.dims a s.elements) (copies-root q.workers C r.dims copies)
-
-  pub counted-registered : length Registered.handles ≡ length (rs ++ registered_root r ∷ [])
-  counted-registered = omega (arith, take-handles B m r.parts, length-append C.handles (handle_of r.dims ∷ []), length-append rs (registered_root r ∷ []), counted)
 
   taken : (f : ℕ) × IsTaken Registered m r.dims r.parts f
   taken = let t = take-takes B m r.parts there in (t.0, subst (λ (d : Dims). IsTaken Registered m d r.parts t.0) dims_there t.1)
 
-  pub roots-registered : HasCells q Registered → Stand q n loads → HaveRoots q Registered (n + length loads) (contents_before q (n + length loads)) (rs ++ registered_root r ∷ [])
-  roots-registered cells stand =
-      turned_roots q C Registered n rs (rs ++ registered_root r ∷ []) m taken.0 (registered_root r) loads has laid-registered (λ u d p f t. take-keeps B m r.parts there u d p f (keeps-root C r.dims u d p f t)) s.parts (first_whole r.init r.dims s.values) taken.1 stand
-      (starts q Registered m r.kind r.init r.dims r.parts line n taken.0 s.parts s.values cells laid-registered taken.1 stand) (pushed-there rs (registered_root r) m counted) (λ u other. pushed-beside rs (registered_root r) u (λ e. other (e ∙ sym counted)))
+  pub keeps-registered : HasCells q Registered → Stand q n loads → Keeps q Registered (rs ++ registered_root r ∷ []) n loads
+  keeps-registered cells stand = record {
+    laid = laid-registered;
+    copies = copies-take q.workers B m r.parts there (laid-root C r.dims a s.elements) (copies-root q.workers C r.dims copies);
+    roots = turned_roots q C Registered n rs (rs ++ registered_root r ∷ []) m taken.0 (registered_root r) loads has laid-registered (λ u d p f t. take-keeps B m r.parts there u d p f (keeps-root C r.dims u d p f t)) s.parts (first_whole r.init r.dims s.values) taken.1 stand
+        (starts q Registered m r.kind r.init r.dims r.parts line n taken.0 s.parts s.values cells laid-registered taken.1 stand) (pushed-there rs (registered_root r) m counted) (λ u other. pushed-beside rs (registered_root r) u (λ e. other (e ∙ sym counted)));
+    counted = omega (arith, take-handles B m r.parts, length-append C.handles (handle_of r.dims ∷ []), length-append rs (registered_root r ∷ []), counted);
+  }
 
 -- ---- plans
 
@@ -225,20 +230,18 @@ module _ (q : Program) (C : Laid) (n : ℕ) (rs : List RootState) (line : Line) 
   plan_there : m < length C.handles
   plan_there = omega (arith, counted, lives-below rs m sound.lives)
 
-  pub laid-planned : AreLaid Planned
+  laid-planned : AreLaid Planned
   laid-planned = laid-take C m p plan_there (subst (λ (d : Dims). Fits p d) (sym had.taken.dims) fit) a
-
-  pub copies-planned : HaveCopies q.workers Planned
-  copies-planned = copies-take q.workers C m p plan_there a copies
-
-  pub counted-planned : length Planned.handles ≡ length (change_at (with_parts p) m rs)
-  counted-planned = omega (arith, take-handles C m p, counted, length-set rs m (with_parts p r))
 
   plan_taken : (f : ℕ) × IsTaken Planned m r.dims p f
   plan_taken = let t = take-takes C m p plan_there in (t.0, subst (λ (d : Dims). IsTaken Planned m d p t.0) had.taken.dims t.1)
 
-  pub roots-planned : HasCells q Planned → Stand q n pastes → HaveRoots q Planned (n + length pastes) (contents_before q (n + length pastes)) (change_at (with_parts p) m rs)
-  roots-planned cells stand =
-      turned_roots q C Planned n rs (change_at (with_parts p) m rs) m plan_taken.0 (with_parts p r) pastes has laid-planned (take-keeps C m p plan_there) fit had.whole plan_taken.1 stand
-      (turns_by q Planned m r p line n plan_taken.0 cells laid-planned (root-kept q C Planned n n (contents_before q n) (contents_before q n) m r had (take-keeps C m p plan_there m r.dims r.parts had.first had.taken) (omega arith) (λ place inside. refl)) plan_taken.1 sound.even stand)
-      (changed-here (with_parts p) m rs sound.lives) (λ u other. changed-beside (with_parts p) m u rs other)
+  pub keeps-planned : HasCells q Planned → Stand q n pastes → Keeps q Planned (change_at (with_parts p) m rs) n pastes
+  keeps-planned cells stand = record {
+    laid = laid-planned;
+    copies = copies-take q.workers C m p plan_there a copies;
+    roots = turned_roots q C Planned n rs (change_at (with_parts p) m rs) m plan_taken.0 (with_parts p r) pastes has laid-planned (take-keeps C m p plan_there) fit had.whole plan_taken.1 stand
+        (turns_by q Planned m r p line n plan_taken.0 cells laid-planned (root-kept q C Planned n n (contents_before q n) (contents_before q n) m r had (take-keeps C m p plan_there m r.dims r.parts had.first had.taken) (omega arith) (λ place inside. refl)) plan_taken.1 sound.even stand)
+        (changed-here (with_parts p) m rs sound.lives) (λ u other. changed-beside (with_parts p) m u rs other);
+    counted = omega (arith, take-handles C m p, counted, length-set rs m (with_parts p r));
+  }
