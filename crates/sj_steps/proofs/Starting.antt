@@ -29,7 +29,7 @@ use Rattle.sj_meaning.specs.Meaning.{root_array, child_array, first_elements, re
 use Rattle.sj_meaning.specs.Numbers.{no_root, root_at, change_at}
 use Rattle.sj_meaning.specs.Sound.{InitFits}
 use Rattle.sj_steps.specs.Cells.{same_parts}
-use Rattle.sj_steps.specs.Laid.{Laid, handle_of, handle_at, cell_of, take, with_root}
+use Rattle.sj_steps.specs.Laid.{Laid, Handle, handle_of, handle_at, cell_of, take, with_root}
 use Rattle.sj_steps.specs.Rows.{load_row, fill_row, fill_arguments, paste_row, load_rows}
 use Rattle.sj_steps.specs.SoundAt.{IsSoundRegistration, IsSoundPlan}
 use Rattle.sj_steps.specs.Whole.{IsTaken, AreLaid, HaveCopies}
@@ -76,34 +76,45 @@ turns_rows q C m x row n f stand laid t puts gives =
     let cell = cell_of C m x.parts in
     turns_filled q C m x (each_of row (places x.parts)) n stand (rows-filled q row cell (child_array x) x.parts (contents_before q n) puts (own_cells C m x.dims x.parts f laid t)) (λ place inside. rows-give row x.parts place (cell place) inside (gives place))
 
--- the roots after the tasks of one of them
-turned_roots : (q : Program) (C D : Laid) (n : ℕ) (rs new : List RootState) (m f : ℕ) (x : RootState) (ls : List Lowered) → HaveRoots q C n (contents_before q n) rs → AreLaid D → ((u : ℕ) (d : Dims) (s : Parts) (g : ℕ) → IsTaken C u d s g → IsTaken D u d s g)
-    → Fits x.parts x.dims → length x.elements ≡ area x.dims → IsTaken D m x.dims x.parts f → Stand q n ls → Turns q D m x ls n → root_at new m ≡ x → ((u : ℕ) → (u ≡ m → ⊥) → root_at new u ≡ root_at rs u) → HaveRoots q D (n + length ls) (contents_before q (n + length ls)) new
-turned_roots q C D n rs new m f x ls has laid keeps fits whole t stand turns here beside =
-    let after = contents_before q (n + length ls) in
-    let left = contents-rows q n ls stand in
-    holds-changed q D (n + length ls) after rs new m x here beside
-    (λ lives. record {
-      fits = fits;
-      whole = whole;
-      first = f;
-      taken = t;
-      held = λ place inside v. subst (λ (k : Contents). IsHeld q (n + length ls) k (cell_of D m x.parts place) (child_array x place)) (sym left) (turns.held place inside v);
-    })
-    (λ u other alive.
-    let o = has u alive in
-    let r = root_at rs u in
-    let kept = keeps u r.dims r.parts o.first o.taken in
-    root-kept q C D n (n + length ls) (contents_before q n) after u r o kept (omega arith) (λ place inside.
-    ap (λ (k : Contents). held_in q k (cell_of D u r.parts place)) left
-    ∙ turns.others (cell_of D u r.parts place) (λ from at. differs (cell_of D m x.parts from) (cell_of D u r.parts place) (λ same. other (sym (cells-apart D m u x.dims r.dims x.parts r.parts f o.first from place laid t kept at inside same).0)))))
-
 -- what of a statement's agreement isn't about phases
 pub record Keeps (q : Program) (C : Laid) (rs : List RootState) (n : ℕ) (ls : List Lowered) : Type 0 where
   pub laid : AreLaid C
   pub copies : HaveCopies q.workers C
   pub roots : HaveRoots q C (n + length ls) (contents_before q (n + length ls)) rs
   pub counted : length C.handles ≡ length rs
+
+-- a root takes its plan, and its tasks follow: so it is after them
+keeps_taken : (q : Program) (C B : Laid) (n : ℕ) (rs new : List RootState) (m : ℕ) (x : RootState) (ls : List Lowered) → HaveRoots q C n (contents_before q n) rs → ((u : ℕ) (d : Dims) (s : Parts) (g : ℕ) → IsTaken C u d s g → IsTaken B u d s g)
+    → AreLaid B → HaveCopies q.workers B → m < length B.handles → (handle_at B m).dims ≡ x.dims → Fits x.parts x.dims → length x.elements ≡ area x.dims → length B.handles ≡ length new → root_at new m ≡ x → ((u : ℕ) → (u ≡ m → ⊥) → root_at new u ≡ root_at rs u)
+    → let D = take m x.parts B in Stand q n ls → ((f : ℕ) → AreLaid D → IsTaken D m x.dims x.parts f → Turns q D m x ls n) → Keeps q D new n ls
+keeps_taken q C B n rs new m x ls has keeps a copies there dims fits whole counted here beside stand turns =
+    let D = take m x.parts B in
+    let laid = laid-take B m x.parts there (subst (λ (d : Dims). Fits x.parts d) (sym dims) fits) a in
+    let found = take-takes B m x.parts there in
+    let t = subst (λ (d : Dims). IsTaken D m d x.parts found.0) dims found.1 in
+    let turned = turns found.0 laid t in
+    let after = contents_before q (n + length ls) in
+    let left = contents-rows q n ls stand in
+    record {
+      laid = laid;
+      copies = copies-take q.workers B m x.parts there a copies;
+      roots = holds-changed q D (n + length ls) after rs new m x here beside
+          (λ lives. record {
+            fits = fits;
+            whole = whole;
+            first = found.0;
+            taken = t;
+            held = λ place inside v. subst (λ (k : Contents). IsHeld q (n + length ls) k (cell_of D m x.parts place) (child_array x place)) (sym left) (turned.held place inside v);
+          })
+          (λ u other alive.
+          let o = has u alive in
+          let r = root_at rs u in
+          let kept = take-keeps B m x.parts there u r.dims r.parts o.first (keeps u r.dims r.parts o.first o.taken) in
+          root-kept q C D n (n + length ls) (contents_before q n) after u r o kept (omega arith) (λ place inside.
+          ap (λ (k : Contents). held_in q k (cell_of D u r.parts place)) left
+          ∙ turned.others (cell_of D u r.parts place) (λ from at. differs (cell_of D m x.parts from) (cell_of D u r.parts place) (λ same. other (sym (cells-apart D m u x.dims r.dims x.parts r.parts found.0 o.first from place laid t kept at inside same).0)))));
+      counted = take-handles B m x.parts ∙ counted;
+    }
 
 -- ---- registrations
 
@@ -145,39 +156,16 @@ pushed-beside rs x m other = elim (cases_lt m (length rs)) as (λ _. root_at (rs
   | inr le ↦ get_or_past (rs ++ x ∷ []) m no_root (omega (arith, le, other, length-append rs (x ∷ []))) ∙ sym (get_or_past rs m no_root le)
 ]
 
-module _ (q : Program) (C : Laid) (n : ℕ) (rs : List RootState) (line : Line) (r : Register ℕ) (s : IsSoundRegistration rs r) (a : AreLaid C) (copies : HaveCopies q.workers C) (counted : length C.handles ≡ length rs) (has : HaveRoots q C n (contents_before q n) rs) where
-  abbrev m : ℕ
-  m = length C.handles
-
-  abbrev B : Laid
-  B = with_root r.dims C
-
-  abbrev pub Registered : Laid
-  Registered = take m r.parts B
-
-  abbrev loads : List Lowered
-  loads = load_rows r.init r.dims r.parts (cell_of Registered m r.parts) line
-
-  there : m < length B.handles
-  there = omega (arith, length-append C.handles (handle_of r.dims ∷ []))
-
-  dims_there : (handle_at B m).dims ≡ r.dims
-  dims_there = ap (λ h. h.dims) (root-there C r.dims m refl)
-
-  laid-registered : AreLaid Registered
-  laid-registered = laid-take B m r.parts there (subst (λ (d : Dims). Fits r.parts d) (sym dims_there) s.parts) (laid-root C r.dims a s.elements)
-
-  taken : (f : ℕ) × IsTaken Registered m r.dims r.parts f
-  taken = let t = take-takes B m r.parts there in (t.0, subst (λ (d : Dims). IsTaken Registered m d r.parts t.0) dims_there t.1)
-
-  pub keeps-registered : HasCells q Registered → Stand q n loads → Keeps q Registered (rs ++ registered_root r ∷ []) n loads
-  keeps-registered cells stand = record {
-    laid = laid-registered;
-    copies = copies-take q.workers B m r.parts there (laid-root C r.dims a s.elements) (copies-root q.workers C r.dims copies);
-    roots = turned_roots q C Registered n rs (rs ++ registered_root r ∷ []) m taken.0 (registered_root r) loads has laid-registered (λ u d p f t. take-keeps B m r.parts there u d p f (keeps-root C r.dims u d p f t)) s.parts (first_whole r.init r.dims s.values) taken.1 stand
-        (starts q Registered m r.kind r.init r.dims r.parts line n taken.0 s.parts s.values cells laid-registered taken.1 stand) (pushed-there rs (registered_root r) m counted) (λ u other. pushed-beside rs (registered_root r) u (λ e. other (e ∙ sym counted)));
-    counted = omega (arith, take-handles B m r.parts, length-append C.handles (handle_of r.dims ∷ []), length-append rs (registered_root r ∷ []), counted);
-  }
+pub keeps-registered : (q : Program) (C : Laid) (n : ℕ) (rs : List RootState) (line : Line) (r : Register ℕ) → IsSoundRegistration rs r → AreLaid C → HaveCopies q.workers C → length C.handles ≡ length rs → HaveRoots q C n (contents_before q n) rs
+    → let m = length C.handles in let D = take m r.parts (with_root r.dims C) in let ls = load_rows r.init r.dims r.parts (cell_of D m r.parts) line in HasCells q D → Stand q n ls → Keeps q D (rs ++ registered_root r ∷ []) n ls
+keeps-registered q C n rs line r s a copies counted has cells stand =
+    let m = length C.handles in
+    let B = with_root r.dims C in
+    let D = take m r.parts B in
+    let long = length-append C.handles (handle_of r.dims ∷ []) in
+    keeps_taken q C B n rs (rs ++ registered_root r ∷ []) m (registered_root r) (load_rows r.init r.dims r.parts (cell_of D m r.parts) line) has (keeps-root C r.dims) (laid-root C r.dims a s.elements) (copies-root q.workers C r.dims copies)
+    (omega (arith, long)) (ap (λ (h : Handle). h.dims) (root-there C r.dims m refl)) s.parts (first_whole r.init r.dims s.values) (omega (arith, long, length-append rs (registered_root r ∷ []), counted))
+    (pushed-there rs (registered_root r) m counted) (λ u other. pushed-beside rs (registered_root r) u (λ e. other (e ∙ sym counted))) stand (λ f laid t. starts q D m r.kind r.init r.dims r.parts line n f s.parts s.values cells laid t stand)
 
 -- ---- plans
 
@@ -214,34 +202,13 @@ turns_by q C m r s line n f cells laid b t even =
     (λ none stand. turns_idle q C m (with_parts s r) n (λ place inside h.
     absurd (blank-child (with_parts s r) place b.whole (sym (ap (λ x. x || has_no_value r) none) ∙ even) (laid.fits m r.dims s f t) inside h))))
 
-module _ (q : Program) (C : Laid) (n : ℕ) (rs : List RootState) (line : Line) (m : ℕ) (p : Parts) (sound : IsSoundPlan rs m) (fit : Fits p (root_at rs m).dims) (a : AreLaid C) (copies : HaveCopies q.workers C) (has : HaveRoots q C n (contents_before q n) rs) (counted : length C.handles ≡ length rs) where
-  abbrev r : RootState
-  r = root_at rs m
-
-  abbrev pub Planned : Laid
-  Planned = take m p C
-
-  abbrev pastes : List Lowered
-  pastes = planned_rows r Planned m p line
-
-  had : HasRoot q C n (contents_before q n) m r
-  had = has m sound.lives
-
-  plan_there : m < length C.handles
-  plan_there = omega (arith, counted, lives-below rs m sound.lives)
-
-  laid-planned : AreLaid Planned
-  laid-planned = laid-take C m p plan_there (subst (λ (d : Dims). Fits p d) (sym had.taken.dims) fit) a
-
-  plan_taken : (f : ℕ) × IsTaken Planned m r.dims p f
-  plan_taken = let t = take-takes C m p plan_there in (t.0, subst (λ (d : Dims). IsTaken Planned m d p t.0) had.taken.dims t.1)
-
-  pub keeps-planned : HasCells q Planned → Stand q n pastes → Keeps q Planned (change_at (with_parts p) m rs) n pastes
-  keeps-planned cells stand = record {
-    laid = laid-planned;
-    copies = copies-take q.workers C m p plan_there a copies;
-    roots = turned_roots q C Planned n rs (change_at (with_parts p) m rs) m plan_taken.0 (with_parts p r) pastes has laid-planned (take-keeps C m p plan_there) fit had.whole plan_taken.1 stand
-        (turns_by q Planned m r p line n plan_taken.0 cells laid-planned (root-kept q C Planned n n (contents_before q n) (contents_before q n) m r had (take-keeps C m p plan_there m r.dims r.parts had.first had.taken) (omega arith) (λ place inside. refl)) plan_taken.1 sound.even stand)
-        (changed-here (with_parts p) m rs sound.lives) (λ u other. changed-beside (with_parts p) m u rs other);
-    counted = omega (arith, take-handles C m p, counted, length-set rs m (with_parts p r));
-  }
+pub keeps-planned : (q : Program) (C : Laid) (n : ℕ) (rs : List RootState) (line : Line) (m : ℕ) (p : Parts) → IsSoundPlan rs m → Fits p (root_at rs m).dims → AreLaid C → HaveCopies q.workers C → HaveRoots q C n (contents_before q n) rs → length C.handles ≡ length rs
+    → let D = take m p C in let ls = planned_rows (root_at rs m) D m p line in HasCells q D → Stand q n ls → Keeps q D (change_at (with_parts p) m rs) n ls
+keeps-planned q C n rs line m p sound fit a copies has counted cells stand =
+    let r = root_at rs m in
+    let D = take m p C in
+    let had = has m sound.lives in
+    let there : m < length C.handles = omega (arith, counted, lives-below rs m sound.lives) in
+    let stays = root-kept q C D n n (contents_before q n) (contents_before q n) m r had (take-keeps C m p there m r.dims r.parts had.first had.taken) (omega arith) (λ place inside. refl) in
+    keeps_taken q C C n rs (change_at (with_parts p) m rs) m (with_parts p r) (planned_rows r D m p line) has (λ u d s g t. t) a copies there had.taken.dims fit had.whole (counted ∙ sym (length-set rs m (with_parts p r)))
+    (changed-here (with_parts p) m rs sound.lives) (λ u other. changed-beside (with_parts p) m u rs other) stand (λ f laid t. turns_by q D m r p line n f cells laid stays t sound.even stand)
