@@ -92,6 +92,9 @@ Copied workers c C = record {
   prints = C.prints;
 }
 
+copies-have_none : (workers : ℕ) (i : CellInfo) → NoneHas (replicate workers (copy_info i))
+copies-have_none workers i = none-have (replicate workers (copy_info i)) (All-replicate (λ (j : CellInfo). j.partials ≡ None) workers (copy_info i) refl)
+
 -- the next cell
 abbrev pub next_cell : Laid → Cell
 next_cell C = record { 0 = length C.rows }
@@ -137,20 +140,13 @@ module _ (workers : ℕ) (c : Cell) (C : Laid) (none : (info_at C c).partials �
       get_or-append_right first_part copies (length first_part) n no_cell refl (omega (arith, first_length, e))
       ∙ get_or-replicate workers (n - length first_part) (copy_info (info_at C c)) no_cell (omega (arith, first_length, e, h))
 
-  past : (n : ℕ) → length C.rows ≤ n → (row_at (Copied workers c C).rows n).partials ≡ None
-  past n h = elim (cases_lt n (length C.rows + workers)) [
-    | inl inside ↦ ap (λ (i : CellInfo). i.partials) (copied-copy n (n - length C.rows) (omega (arith, h)) (omega (arith, h, inside)))
-    | inr beyond ↦ ap (λ (i : CellInfo). i.partials) (get_or_past (Copied workers c C).rows n no_cell (omega (arith, copied-length, beyond)))
-  ]
-
   pub copied-partials : (n : ℕ) (f : Cell) → (row_at (Copied workers c C).rows n).partials ≡ Some f → ((row_at C.rows n).partials ≡ Some f) ⊎ ((n ≡ c.0) × (f.0 ≡ length C.rows))
-  copied-partials n f e = elim (cases_lt n (length C.rows)) [
-    | inr beyond ↦ absurd (none_isn't f (sym (past n beyond) ∙ e))
-    | inl inside ↦ elim (cases_eq n c.0) [
-      | inl same ↦ inr (same, ap (λ (x : Cell). x.0) (some_is f (next_cell C) (sym e ∙ ap (λ m. (row_at (Copied workers c C).rows m).partials) same ∙ ap (λ (i : CellInfo). i.partials) copied-own ∙ ap (λ (x : Cell). Some x) (first-new C c none))))
-      | inr other ↦ inl (sym (ap (λ (i : CellInfo). i.partials) (copied-other n inside other)) ∙ e)
-    ]
-  ]
+  copied-partials n f e =
+      let own = append-partials first_part copies (copies-have_none workers (info_at C c)) n f e in
+      elim (cases_eq n c.0) [
+        | inl same ↦ inr (same, ap (λ (x : Cell). x.0) (some_is f (next_cell C) (sym own ∙ ap (λ m. (row_at first_part m).partials) same ∙ ap (λ (i : CellInfo). i.partials) (get_or-set_same C.rows c.0 (with_partials (first_copy C c) (info_at C c)) no_cell there) ∙ ap (λ (x : Cell). Some x) (first-new C c none))))
+        | inr other ↦ inl (sym (ap (λ (i : CellInfo). i.partials) (get_or-set_other C.rows c.0 n (with_partials (first_copy C c) (info_at C c)) no_cell other)) ∙ own)
+      ]
 
   grows_copied : Grows C.rows (Copied workers c C).rows
   grows_copied = record {
@@ -231,5 +227,5 @@ pub copies-more : (workers : ℕ) (c : Cell) (C : Laid) → Grows C.rows (with_c
 copies-more workers c C = elim (cases_lt c.0 (length C.rows)) [
   | inl inside ↦ copies-grow workers c C inside
   | inr past ↦ by_copies workers c C (λ (D : Laid). Grows C.rows D.rows) (λ f e. grows-refl C.rows) (λ e.
-      subst (λ (rows : List CellInfo). Grows C.rows (rows ++ replicate workers (copy_info (info_at C c)))) (sym (set_past C.rows c.0 (with_partials (first_copy C c) (info_at C c)) past)) (grows-append C.rows (replicate workers (copy_info (info_at C c))) (none-have (replicate workers (copy_info (info_at C c))) (All-replicate (λ (i : CellInfo). i.partials ≡ None) workers (copy_info (info_at C c)) refl))))
+      subst (λ (rows : List CellInfo). Grows C.rows (rows ++ replicate workers (copy_info (info_at C c)))) (sym (set_past C.rows c.0 (with_partials (first_copy C c) (info_at C c)) past)) (grows-append C.rows (replicate workers (copy_info (info_at C c))) (copies-have_none workers (info_at C c))))
 ]
