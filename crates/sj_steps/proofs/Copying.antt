@@ -16,11 +16,11 @@ use Rattle.sj_plan.specs.declared.parts.Parts.{Parts}
 use Rattle.sj_plan.specs.Parts.{places}
 use Rattle.sj_meaning.specs.Table.{a_root}
 use Rattle.sj_base.specs.declared.ids.Root.{Root}
-use Rattle.sj_steps.specs.Cells.{number, child_cell, copy_info, with_partials}
+use Rattle.sj_steps.specs.Cells.{child_cell, copy_info, with_partials}
 use Rattle.sj_steps.specs.Laid.{Laid, Handle, handle_of, handle_at, taking, take, with_root, no_cells, info_at, first_copy, with_copies}
 use Rattle.sj_steps.specs.Whole.{IsTaken, AreLaid, HaveCopies}
 use Rattle.sj_steps.proofs.Growing.{Grows, row_at, grows-refl, grows-append, has-row, NoneHas, append-partials}
-use Rattle.sj_steps.proofs.Taken.{Old, New, old_or_new, none_isn't, some_is, taken-as, taken-root, by_first}
+use Rattle.sj_steps.proofs.Taken.{Old, New, old_or_new, none_isn't, some_is, laid-as, taken-as, taken-root, by_first}
 use Rattle.sj_steps.proofs.Places.{number-below}
 
 pub copies-none : (workers : ℕ) → HaveCopies workers no_cells
@@ -193,19 +193,11 @@ module _ (workers : ℕ) (c : Cell) (C : Laid) (none : (info_at C c).partials �
   }
 
   laid_made : AreLaid C → AreLaid (Copied workers c C)
-  laid_made a = record {
-    fits = λ q d s f t. a.fits q d s f (taken q d s f t);
-    inside = λ q d s f t. omega (arith, a.inside q d s f (taken q d s f t), copied-length);
-    row = λ q d s f place t hp. grows_copied.dims (f + number s place) (omega (arith, a.inside q d s f (taken q d s f t), number-below s place hp)) ∙ a.row q d s f place (taken q d s f t) hp;
-    apart = λ q u d e s t f g place other k l hp ho same. a.apart q u d e s t f g place other (taken q d s f k) (taken u e t g l) hp ho same;
-    sized = a.sized;
-    small = All-append (λ (i : CellInfo). area i.dims ≤ 2 ^ 24) first_part copies
-        (All-set (λ (i : CellInfo). area i.dims ≤ 2 ^ 24) C.rows c.0 (with_partials (first_copy C c) (info_at C c)) own a.small)
-        (All-replicate (λ (i : CellInfo). area i.dims ≤ 2 ^ 24) workers (copy_info (info_at C c)) own);
-  }
-    where
-      own : area (info_at C c).dims ≤ 2 ^ 24
-      own = All-get_or (λ (i : CellInfo). area i.dims ≤ 2 ^ 24) C.rows c.0 no_cell there a.small
+  laid_made a =
+      let own = All-get_or (λ (i : CellInfo). area i.dims ≤ 2 ^ 24) C.rows c.0 no_cell there a.small in
+      laid-as C (Copied workers c C) taken grows_copied.longer grows_copied.dims a.sized (All-append (λ (i : CellInfo). area i.dims ≤ 2 ^ 24) first_part copies
+      (All-set (λ (i : CellInfo). area i.dims ≤ 2 ^ 24) C.rows c.0 (with_partials (first_copy C c) (info_at C c)) own a.small)
+      (All-replicate (λ (i : CellInfo). area i.dims ≤ 2 ^ 24) workers (copy_info (info_at C c)) own)) a
 
 module _ (workers : ℕ) (c : Cell) (C : Laid) (there : c.0 < length C.rows) where
   pub copies-grow : Grows C.rows (with_copies workers C c).rows

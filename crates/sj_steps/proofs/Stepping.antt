@@ -117,9 +117,8 @@ reduced-root q C n k m r by o = record { fits = o.fits; whole = o.whole; first =
 -- ---- a task
 
 length-put : (os : List (Operand ℕ)) (xs : List Array) (rs : List RootState) → length (put_all_at os xs rs) ≡ length rs
-length-put [] xs rs = refl
-length-put (o ∷ os) [] rs = refl
 length-put (o ∷ os) (a ∷ xs) rs = length-put os xs (change_at (with_child o.place a) o.name rs) ∙ length-set rs o.name (with_child o.place a (root_at rs o.name))
+length-put os xs rs = refl
 
 -- ---- one statement more
 
@@ -152,7 +151,7 @@ keeps-step has q C n rs line (Prints m) s a copies roots counted cells stand =
     let left : contents_before q (n + length ls) ≡ contents_before q n = contents-rows q n ls stand ∙ ap (after_rows q (contents_before q n)) same ∙ after_delivers q (contents_before q n) cell line (places r.parts) in
     let back = λ (u : ℕ) (d : Dims) (s : Parts) (f : ℕ) (t : IsTaken (with_print C) u d s f). taken-as (with_print C) C u u d s f refl t in
     record {
-      laid = laid-as C C.handles (C.prints + 1) back a.sized a;
+      laid = laid-as C (with_print C) back (omega arith) (λ u h. refl) a.sized a.small a;
       copies = copies-as q.workers C C.handles (C.prints + 1) back copies;
       roots = subst (λ (k : Contents). HaveRoots q (with_print C) (n + length ls) k rs) (sym left) (holds-later q (with_print C) n (n + length ls) (contents_before q n) rs (omega arith) (roots-copied q C (with_print C) n (contents_before q n) rs refl roots));
       counted = counted;

@@ -1,8 +1,10 @@
 -- Each child of each plan that a root has taken has a cell of its own.
-use Rattle.std.proofs.Common.{◌≡◌, ℕ, zero, suc, ◌+◌, ◌-◌, ◌*◌, ◌^◌, ◌<◌, ◌≤◌, Bool, true, false, cond, Option, Some, None, List, [], ◌∷◌, ◌++◌, length, get_or, unwrap_or, map as each_of, refl, sym, ap, subst, ◌∙◌, inl, inr, arith, length-append, get_or-set_same, get_or-set_other}
+use Rattle.std.proofs.Common.{◌≡◌, ℕ, zero, suc, ◌+◌, ◌-◌, ◌*◌, ◌^◌, ◌<◌, ◌≤◌, ◌&&◌, cond, Option, Some, None, List, [], ◌∷◌, ◌++◌, length, get_or, unwrap_or, map as each_of, refl, sym, ap, subst, ◌∙◌, inl, inr, arith, length-append, get_or-set_same, get_or-set_other}
+use Rattle.std.specs.Prelude.{nat_eq}
+use Rattle.std.specs.List.{All}
 use Rattle.std.specs.Option.{is_some}
 use Rattle.std.proofs.Math.Seq.{get_or-append_seam}
-use Rattle.std.proofs.lemmas.Bool.{cases_eq, cases_lt, cond_both}
+use Rattle.std.proofs.lemmas.Bool.{and_parts, cases_eq, cases_lt, cond_both, eq-eqb, eqb-true, ne_eqb}
 use Rattle.std.proofs.lemmas.List.{get_or_append_left, get_or-append-add, get_or-append_right, get_or_past, length-set}
 use Rattle.std.proofs.lemmas.List.Elements.{All-append, All-from_recursion}
 use Rattle.sj_base.specs.declared.ids.Cell.{Cell}
@@ -43,15 +45,16 @@ pub cells-apart : (C : Laid) (n m : ℕ) (d e : Dims) (s t : Parts) (f g : ℕ) 
 cells-apart C n m d e s t f g place other a k l hp ho same =
     a.apart n m d e s t f g place other k l hp ho (sym (cell-is C n d s f place k) ∙ ap (λ (c : Cell). c.0) same ∙ cell-is C m e t g other l)
 
--- the same rows, where no plan is taken that wasn't
-pub laid-as : (C : Laid) (handles : List Handle) (prints : ℕ) → let D : Laid = record { rows = C.rows; handles = handles; prints = prints } in ((n : ℕ) (d : Dims) (s : Parts) (f : ℕ) → IsTaken D n d s f → IsTaken C n d s f) → ((n : ℕ) → area (handle_at D n).dims ≤ 16777216) → AreLaid C → AreLaid D
-laid-as C handles prints taken few a = record {
+-- where cells are only added, and no plan is taken that wasn't
+pub laid-as : (C D : Laid) → ((n : ℕ) (d : Dims) (s : Parts) (f : ℕ) → IsTaken D n d s f → IsTaken C n d s f) → length C.rows ≤ length D.rows → ((n : ℕ) → n < length C.rows → (get_or D.rows n no_cell).dims ≡ (get_or C.rows n no_cell).dims)
+    → ((n : ℕ) → area (handle_at D n).dims ≤ 16777216) → All (λ (i : CellInfo). area i.dims ≤ 2 ^ 24) D.rows → AreLaid C → AreLaid D
+laid-as C D taken longer same few small a = record {
   fits = λ n d s f k. a.fits n d s f (taken n d s f k);
-  inside = λ n d s f k. a.inside n d s f (taken n d s f k);
-  row = λ n d s f place k h. a.row n d s f place (taken n d s f k) h;
+  inside = λ n d s f k. omega (arith, a.inside n d s f (taken n d s f k), longer);
+  row = λ n d s f place k h. same (f + number s place) (omega (arith, a.inside n d s f (taken n d s f k), number-below s place h)) ∙ a.row n d s f place (taken n d s f k) h;
   apart = λ n m d e s t f g place other k l hp ho same. a.apart n m d e s t f g place other (taken n d s f k) (taken m e t g l) hp ho same;
   sized = few;
-  small = a.small;
+  small = small;
 }
 
 -- ---- no cells
@@ -97,10 +100,10 @@ keeps-root C b n d s f k = elim (cases_lt n (length C.handles)) as (λ _. IsTake
 ]
 
 pub laid-root : (C : Laid) (b : Dims) → AreLaid C → area b ≤ 16777216 → AreLaid (with_root b C)
-laid-root C b a few = laid-as C (C.handles ++ handle_of b ∷ []) C.prints (taken-root C b) (λ n. elim (cases_lt n (length C.handles)) as (λ _. area (handle_at (with_root b C) n).dims ≤ 16777216) [
+laid-root C b a few = laid-as C (with_root b C) (taken-root C b) (omega arith) (λ n h. refl) (λ n. elim (cases_lt n (length C.handles)) as (λ _. area (handle_at (with_root b C) n).dims ≤ 16777216) [
   | inl lt ↦ subst (λ (h : Handle). area h.dims ≤ 16777216) (sym (root-keeps C b n lt)) (a.sized n)
   | inr le ↦ subst (λ (h : Handle). area h.dims ≤ 16777216) (sym (get_or-append_right C.handles (handle_of b ∷ []) (length C.handles) n no_handle refl le)) (at_end (λ (h : Handle). area h.dims ≤ 16777216) (handle_of b) no_handle (n - length C.handles) few (omega arith))
-]) a
+]) a.small a
 
 -- ---- a plan more
 
@@ -126,17 +129,20 @@ took-dims C n p lt m = elim (cases_eq m n) as (λ _. (handle_at (taking n p C) m
   | inr other ↦ ap (λ (h : Handle). h.dims) (took-other C n p m other)
 ]
 
-pub old_or_new : (C : Laid) (n : ℕ) (p : Parts) → n < length C.handles → (m : ℕ) (d : Dims) (s : Parts) (f : ℕ) → IsTaken (taking n p C) m d s f → IsOldOrNew C n p m d s f
-old_or_new C n p lt m d s f k = elim (cases_eq m n) as (λ _. IsOldOrNew C n p m d s f) [
-  | inl e ↦
-      let is = ap (handle_at (taking n p C)) e ∙ took-there C n p lt in
-      by_plan (same_parts p s) refl e (sym (ap (λ (h : Handle). h.dims) is) ∙ k.dims) (sym (ap (λ (h : Handle). h.first s) is) ∙ k.first)
-  | inr other ↦ Old (taken-as (taking n p C) C m m d s f (sym (took-other C n p m other)) k)
+-- the plans of a root afterwards
+took-first : (C : Laid) (n : ℕ) (p : Parts) → n < length C.handles → (m : ℕ) (s : Parts) → (handle_at (taking n p C) m).first s ≡ cond (nat_eq n m && same_parts p s) (Some (length C.rows)) ((handle_at C m).first s)
+took-first C n p lt m s = elim (cases_eq n m) as (λ _. (handle_at (taking n p C) m).first s ≡ cond (nat_eq n m && same_parts p s) (Some (length C.rows)) ((handle_at C m).first s)) [
+  | inl e ↦ ap (λ (h : Handle). h.first s) (ap (handle_at (taking n p C)) (sym e) ∙ took-there C n p lt) ∙ (λ i. cond (sym (eq-eqb n m e) i && same_parts p s) (Some (length C.rows)) ((handle_at C (e i)).first s))
+  | inr other ↦ ap (λ (h : Handle). h.first s) (took-other C n p m (λ e. other (sym e))) ∙ (λ i. cond (sym (ne_eqb n m other) i && same_parts p s) (Some (length C.rows)) ((handle_at C m).first s))
 ]
-  where
-    by_plan : (b : Bool) → same_parts p s ≡ b → m ≡ n → (handle_at C n).dims ≡ d → cond b (Some (length C.rows)) ((handle_at C n).first s) ≡ Some f → IsOldOrNew C n p m d s f
-    by_plan true t e dims first = New (sym e) (parts-are p s t) dims (sym (some_is (length C.rows) f first))
-    by_plan false t e dims first = Old (record { dims = ap (λ i. (handle_at C i).dims) e ∙ dims; first = ap (λ i. (handle_at C i).first s) e ∙ first })
+
+pub old_or_new : (C : Laid) (n : ℕ) (p : Parts) → n < length C.handles → (m : ℕ) (d : Dims) (s : Parts) (f : ℕ) → IsTaken (taking n p C) m d s f → IsOldOrNew C n p m d s f
+old_or_new C n p lt m d s f k =
+    let dims = sym (took-dims C n p lt m) ∙ k.dims in
+    cond_both (nat_eq n m && same_parts p s) (Some (length C.rows)) ((handle_at C m).first s) (λ (o : Option ℕ). o ≡ Some f → IsOldOrNew C n p m d s f) (λ t first.
+    let both = and_parts (nat_eq n m) (same_parts p s) t in
+    let one = eqb-true n m both.0 in
+    New one (parts-are p s both.1) (ap (λ i. (handle_at C i).dims) one ∙ dims) (sym (some_is (length C.rows) f first))) (λ t first. Old (record { dims = dims; first = first })) (sym (took-first C n p lt m s) ∙ k.first)
 
 pub longer : (C : Laid) (n : ℕ) (p : Parts) → length (taking n p C).rows ≡ length C.rows + p.r * p.c
 longer C n p = length-append C.rows (each_of (child_cell (a_root n) (handle_at C n).dims p) (places p)) ∙ ap (λ i. length C.rows + i) (length-places (child_cell (a_root n) (handle_at C n).dims p) p)
@@ -205,16 +211,12 @@ laid-take C n p there fit a = by_first C n p AreLaid (λ f e. a) (λ e. laid_new
 
 -- a plan that was taken stays so
 pub keeps-new : (C : Laid) (n : ℕ) (p : Parts) → n < length C.handles → (handle_at C n).first p ≡ None → (m : ℕ) (d : Dims) (s : Parts) (f : ℕ) → IsTaken C m d s f → IsTaken (taking n p C) m d s f
-keeps-new C n p lt none m d s f k = elim (cases_eq m n) as (λ _. IsTaken (taking n p C) m d s f) [
-  | inl e ↦
-      let is = ap (handle_at (taking n p C)) e ∙ took-there C n p lt in
-      let was = ap (λ i. (handle_at C i).first s) (sym e) ∙ k.first in
-      record {
-        dims = took-dims C n p lt m ∙ k.dims;
-        first = ap (λ (h : Handle). h.first s) is ∙ cond_both (same_parts p s) (Some (length C.rows)) ((handle_at C n).first s) (λ (o : Option ℕ). o ≡ Some f) (λ t. absurd (none_isn't f (sym none ∙ ap (handle_at C n).first (parts-are p s t) ∙ was))) (λ t. was);
-      }
-  | inr other ↦ taken-as C (taking n p C) m m d s f (took-other C n p m other) k
-]
+keeps-new C n p lt none m d s f k = record {
+  dims = took-dims C n p lt m ∙ k.dims;
+  first = took-first C n p lt m s ∙ cond_both (nat_eq n m && same_parts p s) (Some (length C.rows)) ((handle_at C m).first s) (λ (o : Option ℕ). o ≡ Some f) (λ t.
+      let both = and_parts (nat_eq n m) (same_parts p s) t in
+      absurd (none_isn't f (sym none ∙ (λ i. (handle_at C (eqb-true n m both.0 i)).first (parts-are p s both.1 i)) ∙ k.first))) (λ t. k.first);
+}
 
 pub take-keeps : (C : Laid) (n : ℕ) (p : Parts) → n < length C.handles → (m : ℕ) (d : Dims) (s : Parts) (f : ℕ) → IsTaken C m d s f → IsTaken (take n p C) m d s f
 take-keeps C n p lt m d s f k = by_first C n p (λ (D : Laid). IsTaken D m d s f) (λ g e. k) (λ e. keeps-new C n p lt e m d s f k)
