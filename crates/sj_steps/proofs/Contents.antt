@@ -1,5 +1,5 @@
 -- What cells hold after arrays were put into them.
-use Rattle.std.proofs.Common.{◌≡◌, Bool, true, false, cond, List, [], ◌∷◌, ◌++◌, refl, sym, ap, ◌∙◌}
+use Rattle.std.proofs.Common.{◌≡◌, Bool, true, false, cond, List, ◌∷◌, ◌++◌, refl, sym, ap, ◌∙◌}
 use Rattle.std.specs.List.{AllByRecursion, zip}
 use Rattle.sj_base.specs.declared.ids.Cell.{Cell}
 use Rattle.sj_base.specs.declared.program.Program.{Program}
@@ -22,11 +22,10 @@ swapped false c x y z h = refl
 
 -- an array that was put before others into a cell that isn't among theirs
 pub held-moved : (p : Program) (c : Cell) (a : Array) (cs : List Cell) (xs : List Array) (contents : Contents) (d : Cell) → NotAmong c cs → held_in p (zip cs xs ++ (c, a) ∷ contents) d ≡ held_in p ((c, a) ∷ zip cs xs ++ contents) d
-held-moved p c a [] xs contents d h = refl
-held-moved p c a (e ∷ cs) [] contents d h = refl
 held-moved p c a (e ∷ cs) (x ∷ xs) contents d h =
     held-cons p e x (zip cs xs ++ (c, a) ∷ contents) d
     ∙ ap (λ y. cond (same_cell e d) x y) (held-moved p c a cs xs contents d h.1 ∙ held-cons p c a (zip cs xs ++ contents) d)
     ∙ sym (swapped (same_cell c d) (same_cell e d) a x (held_in p (zip cs xs ++ contents) d) (λ s t. same_cell-unlike c e h.0 (same_cell-is c d s ∙ sym (same_cell-is e d t))))
     ∙ ap (λ y. cond (same_cell c d) a y) (sym (held-cons p e x (zip cs xs ++ contents) d))
     ∙ sym (held-cons p c a (zip (e ∷ cs) (x ∷ xs) ++ contents) d)
+held-moved p c a cs xs contents d h = refl
