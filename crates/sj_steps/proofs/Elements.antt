@@ -1,5 +1,5 @@
 -- The elements of a root's children: as windows of its array, and after a child is written.
-use Rattle.std.proofs.Common.{◌≡◌, ℕ, zero, suc, ◌+◌, ◌-◌, ◌*◌, ◌/◌, ◌%◌, ◌<◌, Bool, true, cond, Option, Some, None, List, ℤ, pos, ◌+ℤ◌, ◌*ℤ◌, length, get_or, unwrap_or, map, replicate, refl, sym, ap, ◌∙◌, arith}
+use Rattle.std.proofs.Common.{◌≡◌, ℕ, ◌+◌, ◌-◌, ◌*◌, ◌/◌, ◌%◌, ◌<◌, Bool, true, cond, Option, Some, None, List, ℤ, pos, ◌+ℤ◌, ◌*ℤ◌, length, get_or, unwrap_or, map, replicate, refl, sym, ap, ◌∙◌, arith}
 use Rattle.std.specs.Prelude.{not}
 use Rattle.std.specs.List.{list_all, range_with_len}
 use Rattle.std.specs.Option.{is_some, is_none}
@@ -8,6 +8,7 @@ use Rattle.std.proofs.lemmas.Bool.{false≢true, and_from, and_parts, cond-true,
 use Rattle.std.proofs.lemmas.Bool.Decides.{nat_tests}
 use Rattle.std.proofs.lemmas.Int.{ints}
 use Rattle.std.proofs.lemmas.List.{map-id}
+use Rattle.std.proofs.lemmas.List.Elements.{All-replicate}
 use Rattle.std.proofs.lemmas.List.FromFn.{get_or-map-range_with_len}
 use Rattle.std.proofs.lemmas.List.Sums.{AllPass-from_list_all, list_all-from_AllPass}
 use Rattle.std.proofs.lemmas.Nat.{div_below, mod_below}
@@ -137,8 +138,7 @@ blank-child r place whole blank fits h v =
     false≢true (sym (ap not some) ∙ none)
 
 pub no_values-blank : (n : ℕ) → list_all (λ (e : Option ℤ). is_none e) (replicate n None) ≡ true
-no_values-blank zero = refl
-no_values-blank (suc n) = no_values-blank n
+no_values-blank n = list_all-from_AllPass (λ (e : Option ℤ). is_none e) (replicate n None) (All-replicate (λ (e : Option ℤ). is_none e ≡ true) n None refl)
 
 -- ---- first elements
 
