@@ -78,20 +78,16 @@ own-delivered ls ds l d e E is = λ i. record {
   phase = E.phase;
 }
   where
-    m : ℕ
-    m = length E.tasks
-
-    place : moved (length (E.tasks ++ ls)) d ≡ moved m e
+    place : moved (length (E.tasks ++ ls)) d ≡ moved (length E.tasks) e
     place =
-        ap (λ n. moved n d) (length-append E.tasks ls)
-        ∙ (let at : (m + length ls) + d.task.0 ≡ m + (length ls + d.task.0) = omega arith in ap (λ n. let x : Delivery = record { task = record { 0 = n }; root = d.root; place = d.place; print = d.print } in x) at)
-        ∙ ap (moved m) is
+        let at : length (E.tasks ++ ls) + d.task.0 ≡ length E.tasks + (length ls + d.task.0) = omega (arith, length-append E.tasks ls) in
+        ap (λ n. let x : Delivery = record d { task = record { 0 = n } } in x) at ∙ ap (moved (length E.tasks)) is
 
-    deliveries : (E.deliveries ++ map (moved m) ds) ++ moved (length (E.tasks ++ ls)) d ∷ [] ≡ E.deliveries ++ map (moved m) (ds ++ e ∷ [])
+    deliveries : (E.deliveries ++ map (moved (length E.tasks)) ds) ++ moved (length (E.tasks ++ ls)) d ∷ [] ≡ E.deliveries ++ map (moved (length E.tasks)) (ds ++ e ∷ [])
     deliveries =
-        append_assoc E.deliveries (map (moved m) ds) (moved (length (E.tasks ++ ls)) d ∷ [])
-        ∙ ap (λ (x : Delivery). E.deliveries ++ (map (moved m) ds ++ x ∷ [])) place
-        ∙ ap (λ ys. E.deliveries ++ ys) (sym (map-append (moved m) ds (e ∷ [])))
+        append_assoc E.deliveries (map (moved (length E.tasks)) ds) (moved (length (E.tasks ++ ls)) d ∷ [])
+        ∙ ap (λ (x : Delivery). E.deliveries ++ (map (moved (length E.tasks)) ds ++ x ∷ [])) place
+        ∙ ap (λ ys. E.deliveries ++ ys) (sym (map-append (moved (length E.tasks)) ds (e ∷ [])))
 
 pub delivered-child : (f : ℕ × ℕ → Lowered) (p : Parts) (root : ℕ) (dims : Dims) (print : ℕ) (a b c : Expander) (line : Line) (l : Lowered) (d : Delivery) (n : ℕ) → Does a b line (with_own (first_children f p n) (first_deliveries root dims p print n)) → Does b c line (with_own (l ∷ []) (d ∷ []))
     → l ≡ f (place_at p n) → d ≡ a_delivery root dims p print (0, place_at p n) → Does a c line (with_own (first_children f p (n + 1)) (first_deliveries root dims p print (n + 1)))
