@@ -93,25 +93,23 @@ made_by p d s old new a line to k w x dims here holds none goes =
 copied_dims : (old : ℕ × ℕ → Array) (w : Array) (c : Copy (ℕ × ℕ)) → (copied old w c).dims ≡ w.dims
 copied_dims old w c = cond_both (begins c) (zeros w.dims) w (λ (y : Array). y.dims ≡ w.dims) (λ e. refl) (λ e. refl)
 
--- further pastes to a child
-further_made : (p : Program) (d : Dims) (s : Parts) (old new : ℕ × ℕ → Cell) (a : Array) (line : Line) (to : ℕ × ℕ) (xs : List Paste) (k : Contents) (w : Array) → w.dims ≡ dims_of p (new to) → held_in p k (new to) ≡ w → HoldOld p d s old a k → IsNoOld s old (new to) → AllByRecursion (GoesTo s to) xs
-    → AreMade p d s old a k (after_rows p k (map (paste_row old new line) xs)) (new to) (all_copied (windows_of d s a) w (map paste_copy xs))
-further_made p d s old new a line to [] k w dims here holds none go = record { fills = record { value = here; others = λ c beside. refl }; holds = holds }
-further_made p d s old new a line to (x ∷ xs) k w dims here holds none go =
-    let one = made_by p d s old new a line to k w x dims (λ e. here) holds none go.0 in
-    let made = copied (windows_of d s a) w (paste_copy x) in
-    let rest = further_made p d s old new a line to xs (after_row p k (paste_row old new line x)) made (copied_dims (windows_of d s a) w (paste_copy x) ∙ dims) one.fills.value one.holds none go.1 in
-    record { fills = record { value = rest.fills.value; others = λ c beside. rest.fills.others c beside ∙ one.fills.others c beside }; holds = rest.holds }
+-- the first of the pastes, if there is one, begins its child
+abbrev first_begins : List Paste → Bool
+first_begins [] = false
+first_begins (x ∷ xs) = is_first x
 
--- all pastes to a child, of which the first begins it
-all_made : (p : Program) (d : Dims) (s : Parts) (old new : ℕ × ℕ → Cell) (a : Array) (line : Line) (to : ℕ × ℕ) (xs : List Paste) (k : Contents) → BeginOnce (map paste_copy xs) → HoldOld p d s old a k → IsNoOld s old (new to) → AllByRecursion (GoesTo s to) xs
-    → AreMade p d s old a k (after_rows p k (map (paste_row old new line) xs)) (new to) (all_copied (windows_of d s a) (zeros (dims_of p (new to))) (map paste_copy xs))
-all_made p d s old new a line to [] k once holds none go = absurd once
-all_made p d s old new a line to (x ∷ xs) k once holds none go =
-    let w = zeros (dims_of p (new to)) in
-    let one = made_by p d s old new a line to k w x refl (λ e. absurd (false≢true (sym e ∙ once.0))) holds none go.0 in
+begin_once : (xs : List Paste) → BeginOnce (map paste_copy xs) → first_begins xs ≡ true
+begin_once [] once = absurd once
+begin_once (x ∷ xs) once = once.0
+
+-- all pastes to a child, into what it held before where the first of them doesn't begin it
+all_made : (p : Program) (d : Dims) (s : Parts) (old new : ℕ × ℕ → Cell) (a : Array) (line : Line) (to : ℕ × ℕ) (xs : List Paste) (k : Contents) (w : Array) → w.dims ≡ dims_of p (new to) → (first_begins xs ≡ false → held_in p k (new to) ≡ w) → HoldOld p d s old a k → IsNoOld s old (new to) → AllByRecursion (GoesTo s to) xs
+    → AreMade p d s old a k (after_rows p k (map (paste_row old new line) xs)) (new to) (all_copied (windows_of d s a) w (map paste_copy xs))
+all_made p d s old new a line to [] k w dims here holds none go = record { fills = record { value = here refl; others = λ c beside. refl }; holds = holds }
+all_made p d s old new a line to (x ∷ xs) k w dims here holds none go =
+    let one = made_by p d s old new a line to k w x dims here holds none go.0 in
     let made = copied (windows_of d s a) w (paste_copy x) in
-    let rest = further_made p d s old new a line to xs (after_row p k (paste_row old new line x)) made (copied_dims (windows_of d s a) w (paste_copy x)) one.fills.value one.holds none go.1 in
+    let rest = all_made p d s old new a line to xs (after_row p k (paste_row old new line x)) made (copied_dims (windows_of d s a) w (paste_copy x) ∙ dims) (λ e. one.fills.value) one.holds none go.1 in
     record { fills = record { value = rest.fills.value; others = λ c beside. rest.fills.others c beside ∙ one.fills.others c beside }; holds = rest.holds }
 
 -- what holds of the paste of each old child that overlaps holds of each paste to the new one
@@ -155,7 +153,8 @@ pub pastes-filled : (p : Program) (d : Dims) (s t : Parts) (old new : ℕ × ℕ
 pastes-filled p d s t old new a line k fs ft holds dims none own =
     subst (λ (ls : List Lowered). AreFilled p k (after_rows p k ls) t new (λ to. window a (child d t to))) (sym (rows-by_child d s t old new line))
     (blocks-filled p (HoldOld p d s old a) (rows_to d s t old new line) new (λ to. window a (child d t to)) t k (λ to at k i.
-    let made = all_made p d s old new a line to (pastes_to d s t to) k (pastes-begin d s t to fs ft at) i (none to at) (pastes-go d s t to) in
+    let once = begin_once (pastes_to d s t to) (pastes-begin d s t to fs ft at) in
+    let made = all_made p d s old new a line to (pastes_to d s t to) k (zeros (dims_of p (new to))) refl (λ e. absurd (false≢true (sym e ∙ once))) i (none to at) (pastes-go d s t to) in
     let is : all_copied (windows_of d s a) (zeros (dims_of p (new to))) (map paste_copy (pastes_to d s t to)) ≡ window a (child d t to) =
     pastes_to-make d s t to a (windows_of d s a) (zeros (dims_of p (new to))) fs ft at (λ from inside. refl) (length-replicate (area (dims_of p (new to))) (pos 0)) (dims to at) in
     (record { value = made.fills.value ∙ is; others = made.fills.others }, made.holds)) holds own)
