@@ -3,7 +3,7 @@ use Rattle.std.proofs.Common.{◌≡◌, ℕ, ◌<◌, ◌≤◌, Bool, true, fa
 use Rattle.std.specs.Prelude.{nat_eq}
 use Rattle.std.specs.List.{AllByRecursion, zip, list_all}
 use Rattle.std.specs.Option.{is_some}
-use Rattle.std.proofs.lemmas.Bool.{and_from, cases_eq, cases_lt, false≢true, false_from_ne_true}
+use Rattle.std.proofs.lemmas.Bool.{and_from, cases_Bool, cases_eq, cases_lt, false≢true, false_from_ne_true}
 use Rattle.std.proofs.lemmas.Bool.Decides.{Decides-eqb}
 use Rattle.std.proofs.lemmas.List.{get_or_past}
 use Rattle.sj_base.specs.declared.ids.Cell.{Cell}
@@ -114,30 +114,27 @@ other_place x y e same = false≢true (sym e ∙ ap (same_child_place x) (sym sa
 
 -- the root itself, after a child of it was put
 put_child : (p : Program) (C : Laid) (n : ℕ) (k : Contents) (rs : List RootState) (c : Cell) (o : Operand ℕ) (a : Array) → AreLaid C → Gives p C n rs c o a → HasRoot p C n k o.name (root_at rs o.name) → HasRoot p C n ((c, a) ∷ k) o.name (with_child o.place a (root_at rs o.name))
-put_child p C n k rs c o a laid g b = record {
-  fits = b.fits;
-  whole = written-whole r o.place a;
-  first = b.first;
-  taken = b.taken;
-  held = λ place inside v. by_place place inside v (same_child_place o.place place) refl;
-}
-  where
-    r : RootState
-    r = root_at rs o.name
-
-    by_place : (place : ℕ × ℕ) → IsPlace r.parts place → is_valued_child (with_child o.place a r) place ≡ true → (t : Bool) → same_child_place o.place place ≡ t → IsHeld p n ((c, a) ∷ k) (cell_of C o.name r.parts place) (child_array (with_child o.place a r) place)
-    by_place place inside v true t =
-        let here = place-is o.place place t in
-        subst (λ (x : ℕ × ℕ). IsHeld p n ((c, a) ∷ k) (cell_of C o.name r.parts x) (child_array (with_child o.place a r) x)) here
-        (subst (λ (d : Cell). IsHeld p n ((c, a) ∷ k) d (child_array (with_child o.place a r) o.place)) g.cell_is
-        (record { value = held-same p c a k ∙ sym (written-array r o.place a g.placed g.dims g.whole); given = g.given }))
-    by_place place inside v false t =
-        let apart = other_place o.place place t in
-        let stays = written-other r o.place place a g.placed inside apart in
-        let old = b.held place inside (ap (λ es. is_child r.parts place && list_all (λ (e : Option ℤ). is_some e) es) (sym stays) ∙ v) in
-        subst (λ (x : Array). IsHeld p n ((c, a) ∷ k) (cell_of C o.name r.parts place) x) (ap (λ es. record { dims = rect_dims (child_rect r place); elements = integers_of es }) (sym stays))
-        (held-kept p n n k ((c, a) ∷ k) (cell_of C o.name r.parts place) (child_array r place) (omega arith)
-        (held-other p c a k (cell_of C o.name r.parts place) (differs c (cell_of C o.name r.parts place) (λ e. apart (cells-apart C o.name o.name r.dims r.dims r.parts r.parts b.first b.first o.place place laid b.taken b.taken g.placed inside (sym g.cell_is ∙ e)).2))) old)
+put_child p C n k rs c o a laid g b =
+    let r = root_at rs o.name in
+    let now = with_child o.place a r in
+    record {
+      fits = b.fits;
+      whole = written-whole r o.place a;
+      first = b.first;
+      taken = b.taken;
+      held = λ place inside v. elim (cases_Bool (same_child_place o.place place)) as (λ _. IsHeld p n ((c, a) ∷ k) (cell_of C o.name r.parts place) (child_array now place)) [
+        | inl t ↦
+            subst (λ (x : ℕ × ℕ). IsHeld p n ((c, a) ∷ k) (cell_of C o.name r.parts x) (child_array now x)) (place-is o.place place t)
+            (subst (λ (d : Cell). IsHeld p n ((c, a) ∷ k) d (child_array now o.place)) g.cell_is (record { value = held-same p c a k ∙ sym (written-array r o.place a g.placed g.dims g.whole); given = g.given }))
+        | inr t ↦
+            let apart = other_place o.place place t in
+            let stays = written-other r o.place place a g.placed inside apart in
+            let away = differs c (cell_of C o.name r.parts place) (λ e. apart (cells-apart C o.name o.name r.dims r.dims r.parts r.parts b.first b.first o.place place laid b.taken b.taken g.placed inside (sym g.cell_is ∙ e)).2) in
+            subst (λ (x : Array). IsHeld p n ((c, a) ∷ k) (cell_of C o.name r.parts place) x) (ap (λ es. record { dims = rect_dims (child_rect r place); elements = integers_of es }) (sym stays))
+            (held-kept p n n k ((c, a) ∷ k) (cell_of C o.name r.parts place) (child_array r place) (omega arith) (held-other p c a k (cell_of C o.name r.parts place) away)
+            (b.held place inside (ap (λ es. is_child r.parts place && list_all (λ (e : Option ℤ). is_some e) es) (sym stays) ∙ v)))
+      ];
+    }
 
 -- another root
 put_beside : (p : Program) (C : Laid) (n : ℕ) (k : Contents) (rs : List RootState) (c : Cell) (o : Operand ℕ) (a : Array) (q : ℕ) (r : RootState) → AreLaid C → Gives p C n rs c o a → HasRoot p C n k o.name (root_at rs o.name) → (q ≡ o.name → ⊥) → HasRoot p C n k q r → HasRoot p C n ((c, a) ∷ k) q r
