@@ -7,6 +7,7 @@ use Rattle.std.proofs.Math.Seq.{get_or-append_seam}
 use Rattle.std.proofs.lemmas.Bool.{and_parts, cases_eq, cases_lt, cond_both, eq-eqb, eqb-true, ne_eqb}
 use Rattle.std.proofs.lemmas.List.{get_or_append_left, get_or-append-add, get_or-append_right, get_or_past, length-set}
 use Rattle.std.proofs.lemmas.List.Elements.{All-append, All-from_recursion}
+use Rattle.std.proofs.lemmas.Nat.{mul-le}
 use Rattle.sj_base.specs.declared.ids.Cell.{Cell}
 use Rattle.sj_base.specs.declared.tile.Dims.{Dims}
 use Rattle.sj_base.specs.declared.program.CellInfo.{CellInfo}
@@ -148,10 +149,7 @@ pub longer : (C : Laid) (n : ℕ) (p : Parts) → length (taking n p C).rows ≡
 longer C n p = length-append C.rows (each_of (child_cell (a_root n) (handle_at C n).dims p) (places p)) ∙ ap (λ i. length C.rows + i) (length-places (child_cell (a_root n) (handle_at C n).dims p) p)
 
 child_area : (d : Dims) (p : Parts) (place : ℕ × ℕ) → IsPlace p place → area (rect_dims (child d p place)) ≤ area d
-child_area d p place h = product (rect_dims (child d p place)).rows d.rows (rect_dims (child d p place)).cols d.cols (omega (arith, part_end d.rows p.r place.0 h.0)) (omega (arith, part_end d.cols p.c place.1 h.1))
-  where
-    product : (a b c d : ℕ) → a ≤ b → c ≤ d → a * c ≤ b * d
-    product a b c d h k = grind arith
+child_area d p place h = mul-le (rect_dims (child d p place)).rows (rect_dims (child d p place)).cols d.rows d.cols (omega (arith, part_end d.rows p.r place.0 h.0)) (omega (arith, part_end d.cols p.c place.1 h.1))
 
 laid_new : (C : Laid) (n : ℕ) (p : Parts) → n < length C.handles → Fits p (handle_at C n).dims → AreLaid C → AreLaid (taking n p C)
 laid_new C n p there fit a = record {
