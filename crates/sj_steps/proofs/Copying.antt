@@ -200,9 +200,6 @@ module _ (workers : ℕ) (c : Cell) (C : Laid) (none : (info_at C c).partials �
       (All-replicate (λ (i : CellInfo). area i.dims ≤ 2 ^ 24) workers (copy_info (info_at C c)) own)) a
 
 module _ (workers : ℕ) (c : Cell) (C : Laid) (there : c.0 < length C.rows) where
-  pub copies-grow : Grows C.rows (with_copies workers C c).rows
-  copies-grow = by_copies workers c C (λ (D : Laid). Grows C.rows D.rows) (λ f e. grows-refl C.rows) (λ e. grows_copied workers c C e there)
-
   pub copies-copied : IsNoCopy workers C c → AreLaid C → HaveCopies workers C → HaveCopies workers (with_copies workers C c)
   copies-copied alone a k = by_copies workers c C (HaveCopies workers) (λ f e. k) (λ e. copies_made workers c C e there alone a k)
 
@@ -216,8 +213,7 @@ module _ (workers : ℕ) (c : Cell) (C : Laid) (there : c.0 < length C.rows) whe
 
 -- cells are only added
 pub copies-more : (workers : ℕ) (c : Cell) (C : Laid) → Grows C.rows (with_copies workers C c).rows
-copies-more workers c C = elim (cases_lt c.0 (length C.rows)) [
-  | inl inside ↦ copies-grow workers c C inside
-  | inr past ↦ by_copies workers c C (λ (D : Laid). Grows C.rows D.rows) (λ f e. grows-refl C.rows) (λ e.
-      subst (λ (rows : List CellInfo). Grows C.rows (rows ++ replicate workers (copy_info (info_at C c)))) (sym (set_past C.rows c.0 (with_partials (first_copy C c) (info_at C c)) past)) (grows-append C.rows (replicate workers (copy_info (info_at C c))) (copies-have_none workers (info_at C c))))
-]
+copies-more workers c C = by_copies workers c C (λ (D : Laid). Grows C.rows D.rows) (λ f e. grows-refl C.rows) (λ e. elim (cases_lt c.0 (length C.rows)) as (λ _. Grows C.rows (Copied workers c C).rows) [
+  | inl inside ↦ grows_copied workers c C e inside
+  | inr past ↦ subst (λ (rows : List CellInfo). Grows C.rows (rows ++ replicate workers (copy_info (info_at C c)))) (sym (set_past C.rows c.0 (with_partials (first_copy C c) (info_at C c)) past)) (grows-append C.rows (replicate workers (copy_info (info_at C c))) (copies-have_none workers (info_at C c)))
+])
