@@ -140,7 +140,8 @@ module _ (workers : ℕ) (c : Cell) (C : Laid) (none : (info_at C c).partials �
       get_or-append_right first_part copies (length first_part) n no_cell refl (omega (arith, first_length, e))
       ∙ get_or-replicate workers (n - length first_part) (copy_info (info_at C c)) no_cell (omega (arith, first_length, e, h))
 
-  pub copied-partials : (n : ℕ) (f : Cell) → (row_at (Copied workers c C).rows n).partials ≡ Some f → ((row_at C.rows n).partials ≡ Some f) ⊎ ((n ≡ c.0) × (f.0 ≡ length C.rows))
+  -- a row has the partial copies that it had, or is the cell's and has the next cells
+  copied-partials : (n : ℕ) (f : Cell) → (row_at (Copied workers c C).rows n).partials ≡ Some f → ((row_at C.rows n).partials ≡ Some f) ⊎ ((n ≡ c.0) × (f.0 ≡ length C.rows))
   copied-partials n f e =
       let own = append-partials first_part copies (copies-have_none workers (info_at C c)) n f e in
       elim (cases_eq n c.0) [
@@ -176,21 +177,18 @@ module _ (workers : ℕ) (c : Cell) (C : Laid) (none : (info_at C c).partials �
           ∙ ap copy_info (sym (copied-other d.0 (has-row C.rows d.0 f old) (λ same. none_isn't f (sym none ∙ ap (λ m. (row_at C.rows m).partials) (sym same) ∙ old))))
       | inr new ↦ copied-copy (f.0 + w) w (omega (arith, new.1)) h ∙ ap copy_info (sym (ap (λ m. row_at (Copied workers c C).rows m) new.0 ∙ copied-own))
     ];
-    apart = λ d e f g v w i j hv hw same. elim (copied-partials d.0 f i) [
-      | inl old ↦ elim (copied-partials e.0 g j) [
-        | inl old2 ↦ k.apart d e f g v w old old2 hv hw same
-        | inr new2 ↦ absurd (omega (arith, new2.1, same, k.inside d f old, hv))
-      ]
-      | inr new ↦ elim (copied-partials e.0 g j) [
-        | inl old2 ↦ absurd (omega (arith, new.1, same, k.inside e g old2, hw))
-        | inr new2 ↦ cell_of_number d e (new.0 ∙ sym new2.0)
-      ]
-    ];
+    apart = λ d e f g v w i j hv hw same. apart_by d e f g v w hv hw same (copied-partials d.0 f i) (copied-partials e.0 g j);
     beside = λ d f w q n s g place e h t hp same. elim (copied-partials d.0 f e) [
       | inl old ↦ k.beside d f w q n s g place old h (taken q n s g t) hp same
       | inr new ↦ omega (arith, new.1, same, a.inside q n s g (taken q n s g t), number-below s place hp)
     ];
   }
+    where
+      apart_by : (d e f g : Cell) (v w : ℕ) → v < workers → w < workers → f.0 + v ≡ g.0 + w → ((row_at C.rows d.0).partials ≡ Some f) ⊎ ((d.0 ≡ c.0) × (f.0 ≡ length C.rows)) → ((row_at C.rows e.0).partials ≡ Some g) ⊎ ((e.0 ≡ c.0) × (g.0 ≡ length C.rows)) → d ≡ e
+      apart_by d e f g v w hv hw same (inl old) (inl old2) = k.apart d e f g v w old old2 hv hw same
+      apart_by d e f g v w hv hw same (inl old) (inr new2) = absurd (omega (arith, new2.1, same, k.inside d f old, hv))
+      apart_by d e f g v w hv hw same (inr new) (inl old2) = absurd (omega (arith, new.1, same, k.inside e g old2, hw))
+      apart_by d e f g v w hv hw same (inr new) (inr new2) = cell_of_number d e (new.0 ∙ sym new2.0)
 
   laid_made : AreLaid C → AreLaid (Copied workers c C)
   laid_made a =
