@@ -169,17 +169,7 @@ laid_new C n p there fit a = record {
         ∙ places-at (child_cell (a_root n) h.dims p) p place no_cell (subst (λ (x : Parts). IsPlace x place) (sym ep) hp))
         ∙ (λ i. rect_dims (child (ed i) (ep i) place))
   ];
-  apart = λ m u d e s t f g place other k l hp ho same. elim (old_or_new C n p there m d s f k) as (λ _. (m ≡ u) × (s ≡ t) × (place ≡ other)) [
-    | Old o ↦ elim (old_or_new C n p there u e t g l) as (λ _. (m ≡ u) × (s ≡ t) × (place ≡ other)) [
-      | Old w ↦ a.apart m u d e s t f g place other o w hp ho same
-      | New eq ep ed ef ↦ absurd (omega (arith, ef, same, a.inside m d s f o, number-below s place hp))
-    ]
-    | New eq ep ed ef ↦ elim (old_or_new C n p there u e t g l) as (λ _. (m ≡ u) × (s ≡ t) × (place ≡ other)) [
-      | Old w ↦ absurd (omega (arith, ef, same, a.inside u e t g w, number-below t other ho))
-      | New eq2 ep2 ed2 ef2 ↦ (let st : s ≡ t = sym ep ∙ ep2 in
-          (sym eq ∙ eq2, st, number-apart s place other hp (subst (λ (x : Parts). IsPlace x other) (sym st) ho) (equal f g (length C.rows) (number s place) (number t other) ef ef2 same ∙ ap (λ (x : Parts). number x other) (sym st))))
-    ]
-  ];
+  apart = λ m u d e s t f g place other k l hp ho same. apart_by m u d e s t f g place other hp ho same (old_or_new C n p there m d s f k) (old_or_new C n p there u e t g l);
   sized = λ m. subst (λ (x : Dims). area x ≤ 16777216) (sym (took-dims C n p there m)) (a.sized m);
   small = All-append (λ (i : CellInfo). area i.dims ≤ 2 ^ 24) C.rows news a.small
       (All-from_recursion (λ (i : CellInfo). area i.dims ≤ 2 ^ 24) news
@@ -195,6 +185,14 @@ laid_new C n p there fit a = record {
 
     equal : (f g n x y : ℕ) → f ≡ n → g ≡ n → f + x ≡ g + y → x ≡ y
     equal f g n x y ef eg e = omega arith
+
+    apart_by : (m u : ℕ) (d e : Dims) (s t : Parts) (f g : ℕ) (place other : ℕ × ℕ) → IsPlace s place → IsPlace t other → f + number s place ≡ g + number t other → IsOldOrNew C n p m d s f → IsOldOrNew C n p u e t g → (m ≡ u) × (s ≡ t) × (place ≡ other)
+    apart_by m u d e s t f g place other hp ho same (Old o) (Old w) = a.apart m u d e s t f g place other o w hp ho same
+    apart_by m u d e s t f g place other hp ho same (Old o) (New eq ep ed ef) = absurd (omega (arith, ef, same, a.inside m d s f o, number-below s place hp))
+    apart_by m u d e s t f g place other hp ho same (New eq ep ed ef) (Old w) = absurd (omega (arith, ef, same, a.inside u e t g w, number-below t other ho))
+    apart_by m u d e s t f g place other hp ho same (New eq ep ed ef) (New eq2 ep2 ed2 ef2) =
+        let st : s ≡ t = sym ep ∙ ep2 in
+        (sym eq ∙ eq2, st, number-apart s place other hp (subst (λ (x : Parts). IsPlace x other) (sym st) ho) (equal f g (length C.rows) (number s place) (number t other) ef ef2 same ∙ ap (λ (x : Parts). number x other) (sym st)))
 
 -- by whether the plan was taken before
 pub by_first : (C : Laid) (n : ℕ) (p : Parts) (P : Laid → Type 0) → ((f : ℕ) → (handle_at C n).first p ≡ Some f → P C) → ((handle_at C n).first p ≡ None → P (taking n p C)) → P (take n p C)
