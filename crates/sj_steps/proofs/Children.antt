@@ -3,7 +3,8 @@ use Rattle.std.proofs.Common.{◌≡◌, ℕ, ◌+◌, ◌*◌, ◌/◌, ◌%◌
 use Rattle.std.specs.List.{range_with_len}
 use Rattle.std.specs.Prelude.{zip}
 use Rattle.std.proofs.Common.{length-append, append_assoc, refl, subst}
-use Rattle.std.proofs.lemmas.List.{map-append, length-map}
+use Rattle.std.proofs.Math.Nat.{mul_comm}
+use Rattle.std.proofs.lemmas.List.{map-append, map-id, length-map}
 use Rattle.std.proofs.lemmas.List.{same_lists}
 use Rattle.std.proofs.lemmas.List.FromFn.{length-map-range_with_len, get_or-map-range_with_len}
 use Rattle.sj_base.specs.declared.ids.Cell.{Cell}
@@ -14,6 +15,7 @@ use Rattle.sj_base.specs.declared.mode.Mode.TheVariants.{W}
 use Rattle.sj_base.specs.declared.program.Lowered.{Lowered}
 use Rattle.sj_base.specs.declared.tile.Dims.{Dims}
 use Rattle.sj_base.specs.Array.{array, area}
+use Rattle.sj_base.proofs.Numbers.{none_more}
 use Rattle.sj_base.proofs.Tables.{table_from_items}
 use Rattle.sj_codelet.specs.declared.kernel.Kernel.TheVariants.{Load}
 use Rattle.sj_plan.specs.Interval.{part_len}
@@ -25,9 +27,8 @@ use Rattle.sj_phases.specs.Rows.{an_access, own_task}
 use Rattle.sj_plan.specs.declared.parts.Parts.{Parts}
 use Rattle.sj_plan.specs.declared.rect.Rect.{Rect}
 use Rattle.sj_plan.specs.Parts.{Fits, places}
-use Rattle.sj_plan.specs.Rect.{Within, child, children_of}
+use Rattle.sj_plan.specs.Rect.{child, children_of}
 use Rattle.sj_plan.proofs.Lists.{pushed_more}
-use Rattle.sj_plan.proofs.Splitting.{part_end}
 use Rattle.sj_steps.specs.Cells.{children_count}
 use Rattle.sj_base.specs.declared.program.Delivery.{Delivery}
 use Rattle.sj_phases.specs.declared.expander.Expander.{Expander}
@@ -39,7 +40,7 @@ use Rattle.sj_steps.specs.Adds.{cells_after}
 use Rattle.sj_steps.specs.Follows.{cells_by}
 use Rattle.sj_steps.specs.Step.{a_delivery}
 use Rattle.sj_steps.specs.Cells.{cells_from}
-use Rattle.sj_steps.proofs.Places.{place_at, place_at-inside, length-places, number-place_at, places-by_number}
+use Rattle.sj_steps.proofs.Places.{place_at, length-places, number-place_at, places-by_number}
 
 -- what f gives of the first n children, by their numbers
 abbrev pub first_children : {X : Type 0} → (ℕ × ℕ → X) → Parts → ℕ → List X
@@ -52,18 +53,10 @@ listed f p =
     let inside : k < p.r * p.c = omega (arith, here, length-places f p) in
     places-by_number f p k d inside ∙ sym (get_or-map-range_with_len g 0 (children_count p) k k d inside (omega arith)))
 
--- one child more
-pub child-pushed : {X : Type 0} (f : ℕ × ℕ → X) (p : Parts) (start now next : List X) (x : X) (n : ℕ) → now ≡ start ++ first_children f p n → next ≡ now ++ x ∷ [] → x ≡ f (place_at p n) → next ≡ start ++ first_children f p (n + 1)
-child-pushed f p start now next x n e g h = pushed_more (λ k. f (place_at p k)) start now next x n e g h
-
--- all of them
-pub all-pushed : {X : Type 0} (f : ℕ × ℕ → X) (p : Parts) (start now : List X) (n : ℕ) → n ≡ children_count p → now ≡ start ++ first_children f p n → now ≡ start ++ map f (places p)
-all-pushed f p start now n last e = e ∙ ap (λ m. start ++ first_children f p m) last ∙ ap (λ xs. start ++ xs) (sym (listed f p))
-
--- so it is of tasks that an expander takes
+-- one child more, and all of them, of tasks that an expander takes
 pub does-child : (f : ℕ × ℕ → Lowered) (p : Parts) (a b c : Expander) (line : Line) (l : Lowered) (n : ℕ) → Does a b line (with_own (first_children f p n) []) → Does b c line (with_own (l ∷ []) []) → l ≡ f (place_at p n) → Does a c line (with_own (first_children f p (n + 1)) [])
 does-child f p a b c line l n so step is =
-    does-more a b c line (first_children f p n) (first_children f p (n + 1)) l (sym (child-pushed f p [] (first_children f p n) (first_children f p n ++ l ∷ []) l n refl refl is)) so step
+    does-more a b c line (first_children f p n) (first_children f p (n + 1)) l (sym (pushed_more (λ k. f (place_at p k)) [] (first_children f p n) (first_children f p n ++ l ∷ []) l n refl refl is)) so step
 
 pub does-children : (f : ℕ × ℕ → Lowered) (p : Parts) (a b : Expander) (line : Line) (n : ℕ) → n ≡ children_count p → Does a b line (with_own (first_children f p n) []) → Does a b line (with_own (map f (places p)) [])
 does-children f p a b line n last so = subst (λ (ls : List Lowered). Does a b line (with_own ls [])) (ap (first_children f p) last ∙ sym (listed f p)) so
@@ -85,20 +78,16 @@ own-delivered ls ds l d e E is = λ i. record {
   phase = E.phase;
 }
   where
-    m : ℕ
-    m = length E.tasks
-
-    place : moved (length (E.tasks ++ ls)) d ≡ moved m e
+    place : moved (length (E.tasks ++ ls)) d ≡ moved (length E.tasks) e
     place =
-        ap (λ n. moved n d) (length-append E.tasks ls)
-        ∙ (let at : (m + length ls) + d.task.0 ≡ m + (length ls + d.task.0) = omega arith in ap (λ n. let x : Delivery = record { task = record { 0 = n }; root = d.root; place = d.place; print = d.print } in x) at)
-        ∙ ap (moved m) is
+        let at : length (E.tasks ++ ls) + d.task.0 ≡ length E.tasks + (length ls + d.task.0) = omega (arith, length-append E.tasks ls) in
+        ap (λ n. let x : Delivery = record d { task = record { 0 = n } } in x) at ∙ ap (moved (length E.tasks)) is
 
-    deliveries : (E.deliveries ++ map (moved m) ds) ++ moved (length (E.tasks ++ ls)) d ∷ [] ≡ E.deliveries ++ map (moved m) (ds ++ e ∷ [])
+    deliveries : (E.deliveries ++ map (moved (length E.tasks)) ds) ++ moved (length (E.tasks ++ ls)) d ∷ [] ≡ E.deliveries ++ map (moved (length E.tasks)) (ds ++ e ∷ [])
     deliveries =
-        append_assoc E.deliveries (map (moved m) ds) (moved (length (E.tasks ++ ls)) d ∷ [])
-        ∙ ap (λ (x : Delivery). E.deliveries ++ (map (moved m) ds ++ x ∷ [])) place
-        ∙ ap (λ ys. E.deliveries ++ ys) (sym (map-append (moved m) ds (e ∷ [])))
+        append_assoc E.deliveries (map (moved (length E.tasks)) ds) (moved (length (E.tasks ++ ls)) d ∷ [])
+        ∙ ap (λ (x : Delivery). E.deliveries ++ (map (moved (length E.tasks)) ds ++ x ∷ [])) place
+        ∙ ap (λ ys. E.deliveries ++ ys) (sym (map-append (moved (length E.tasks)) ds (e ∷ [])))
 
 pub delivered-child : (f : ℕ × ℕ → Lowered) (p : Parts) (root : ℕ) (dims : Dims) (print : ℕ) (a b c : Expander) (line : Line) (l : Lowered) (d : Delivery) (n : ℕ) → Does a b line (with_own (first_children f p n) (first_deliveries root dims p print n)) → Does b c line (with_own (l ∷ []) (d ∷ []))
     → l ≡ f (place_at p n) → d ≡ a_delivery root dims p print (0, place_at p n) → Does a c line (with_own (first_children f p (n + 1)) (first_deliveries root dims p print (n + 1)))
@@ -108,33 +97,23 @@ delivered-child f p root dims print a b c line l d n so step is at =
     let e = a_delivery root dims p print (n, place_at p n) in
     let long : length ls ≡ n = length-map-range_with_len (λ k. f (place_at p k)) 0 n in
     let mk : ℕ → Delivery = λ k. a_delivery root dims p print (k, place_at p n) in
-    let here : moved (length ls) d ≡ e = ap (λ (x : Delivery). moved (length ls) x) at ∙ ap (λ k. mk (k + 0)) long ∙ (let zero_more : n + 0 ≡ n = omega arith in ap mk zero_more) in
+    let here : moved (length ls) d ≡ e = ap (λ (x : Delivery). moved (length ls) x) at ∙ ap (λ k. mk (k + 0)) long ∙ ap mk (none_more n) in
     does-as a c line (λ E. with_own (l ∷ []) (d ∷ []) (with_own ls ds E)) (with_own (first_children f p (n + 1)) (first_deliveries root dims p print (n + 1)))
     (λ E. own-delivered ls ds l d e E here ∙ (λ i. with_own
-    (child-pushed f p [] ls (ls ++ l ∷ []) l n refl refl is i)
+    (pushed_more (λ k. f (place_at p k)) [] ls (ls ++ l ∷ []) l n refl refl is i)
     (pushed_more (λ k. a_delivery root dims p print (k, place_at p k)) [] ds (ds ++ e ∷ []) e n refl refl refl i) E))
     (does-then a b c line (with_own ls ds) (with_own (l ∷ []) (d ∷ [])) (goes-own (l ∷ []) (d ∷ [])) so step)
 
 deliveries-listed : (root : ℕ) (d : Dims) (p : Parts) (print : ℕ) → first_deliveries root d p print (children_count p) ≡ map (a_delivery root d p print) (zip (range_with_len 0 (length (places p))) (places p))
 deliveries-listed root d p print =
     let count : length (places p) ≡ children_count p = sym (length-map (places p) (λ (x : ℕ × ℕ). x)) ∙ length-places (λ (x : ℕ × ℕ). x) p in
-    ap (λ n. first_deliveries root d p print n) (sym count) ∙ zipped (range_with_len 0 (length (places p))) (places p) same
+    let numbers = range_with_len 0 (length (places p)) in
+    let all : map (place_at p) numbers ≡ places p = ap (first_children (λ (x : ℕ × ℕ). x) p) count ∙ sym (listed (λ (x : ℕ × ℕ). x) p) ∙ map-id (places p) in
+    ap (first_deliveries root d p print) (sym count) ∙ zipped numbers ∙ ap (λ ps. map (a_delivery root d p print) (zip numbers ps)) all
   where
-    zipped : (ks : List ℕ) (ps : List (ℕ × ℕ)) → map (place_at p) ks ≡ ps → map (λ k. a_delivery root d p print (k, place_at p k)) ks ≡ map (a_delivery root d p print) (zip ks ps)
-    zipped ks ps e = by_lists ks ∙ ap (λ qs. map (a_delivery root d p print) (zip ks qs)) e
-      where
-        by_lists : (ks : List ℕ) → map (λ k. a_delivery root d p print (k, place_at p k)) ks ≡ map (a_delivery root d p print) (zip ks (map (place_at p) ks))
-        by_lists [] = refl
-        by_lists (k ∷ ks) = ap (λ xs. a_delivery root d p print (k, place_at p k) ∷ xs) (by_lists ks)
-
-    same : map (place_at p) (range_with_len 0 (length (places p))) ≡ places p
-    same =
-        let count : length (places p) ≡ children_count p = sym (length-map (places p) (λ (x : ℕ × ℕ). x)) ∙ length-places (λ (x : ℕ × ℕ). x) p in
-        ap (λ n. first_children (λ (x : ℕ × ℕ). x) p n) count ∙ sym (listed (λ (x : ℕ × ℕ). x) p) ∙ map-itself (places p)
-      where
-        map-itself : (ps : List (ℕ × ℕ)) → map (λ (x : ℕ × ℕ). x) ps ≡ ps
-        map-itself [] = refl
-        map-itself (x ∷ ps) = ap (λ qs. x ∷ qs) (map-itself ps)
+    zipped : (ks : List ℕ) → map (λ k. a_delivery root d p print (k, place_at p k)) ks ≡ map (a_delivery root d p print) (zip ks (map (place_at p) ks))
+    zipped [] = refl
+    zipped (k ∷ ks) = ap (λ xs. a_delivery root d p print (k, place_at p k) ∷ xs) (zipped ks)
 
 pub delivered-children : (f : ℕ × ℕ → Lowered) (p : Parts) (root : ℕ) (d : Dims) (print : ℕ) (a b : Expander) (line : Line) (n : ℕ) → n ≡ children_count p → Does a b line (with_own (first_children f p n) (first_deliveries root d p print n))
     → Does a b line (with_own (map f (places p)) (map (a_delivery root d p print) (zip (range_with_len 0 (length (places p))) (places p))))
@@ -153,11 +132,6 @@ cell-at first p k = ap (λ n. let c : Cell = record { 0 = first + n } in c) (sym
 pub length-children : (d : Dims) (p : Parts) → length (children_of d p) ≡ children_count p
 length-children d p = length-places (child d p) p
 
-pub children-within : (d : Dims) (p : Parts) (k : ℕ) → Fits p d → k < children_count p → Within (child d p (place_at p k)) d
-children-within d p k fits lt =
-    let at = place_at-inside p k lt in
-    (part_end d.rows p.r (k / p.c) at.0, part_end d.cols p.c (k % p.c) at.1)
-
 -- ---- a root of one child
 
 one_factor : (r c : ℕ) → 0 < r → 0 < c → r * c ≡ 1 → r ≡ 1
@@ -166,13 +140,10 @@ one_factor r c some_r some_c e = elim (cases_lt r 2) as (λ _. r ≡ 1) [
   | inr many ↦ (let h = mul-le 2 1 r c many some_c in absurd (omega arith))
 ]
 
-turned : (r c : ℕ) → r * c ≡ 1 → c * r ≡ 1
-turned r c e = omega arith
-
 one_child : (p : Parts) (d : Dims) → Fits p d → p.r * p.c ≡ 1 → p ≡ undivided
 one_child p d fits e =
     let r = one_factor p.r p.c fits.some_rows fits.some_cols e in
-    let c = one_factor p.c p.r fits.some_cols fits.some_rows (turned p.r p.c e) in
+    let c = one_factor p.c p.r fits.some_cols fits.some_rows (mul_comm p.c p.r ∙ e) in
     λ i. record { r = r i; c = c i }
 
 -- one part of n items has them all
@@ -194,12 +165,11 @@ window-whole d xs long =
 pub one-load : (xs : List ℤ) (d : Dims) (p : Parts) (first : ℕ) (line : Line) → Fits p d → p.r * p.c ≡ 1 → length xs ≡ area d → let c : Cell = record { 0 = first } in map (λ place. load_row xs d (child d p place) (cells_from first p place) line) (places p) ≡ own_task Load xs (an_access W c ∷ []) line ∷ []
 one-load xs d p first line fits one long =
     let mk : ℕ → Cell = λ n. record { 0 = n } in
-    let whole : Rect = record { row = 0; col = 0; rows = d.rows; cols = d.cols } in
     let f : Parts → ℕ × ℕ → Lowered = λ p place. load_row xs d (child d p place) (cells_from first p place) line in
     listed (f p) p ∙ ap (first_children (f p) p) one ∙ ap (λ (q : Parts). f q (place_at q 0) ∷ []) (one_child p d fits one)
     ∙ ap (λ (r : Rect). load_row xs d r (mk (first + 0)) line ∷ []) (child-whole d)
     ∙ ap (λ ys. own_task Load ys (an_access W (mk (first + 0)) ∷ []) line ∷ []) (window-whole d xs long)
-    ∙ ap (λ n. own_task Load xs (an_access W (mk n) ∷ []) line ∷ []) (let e : first + 0 ≡ first = omega arith in e)
+    ∙ ap (λ n. own_task Load xs (an_access W (mk n) ∷ []) line ∷ []) (none_more first)
 
 -- the cells of a plan's children stand one after another
 pub cells-listed : (x : Placed) → cells_after x.first (children_count x.parts) ≡ cells_by x

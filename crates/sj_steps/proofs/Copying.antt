@@ -1,26 +1,26 @@
 -- The partial copies of a cell: cells of their own, as large as it.
-use Rattle.std.proofs.Common.{◌≡◌, ℕ, ◌+◌, ◌-◌, ◌<◌, ◌≤◌, ◌^◌, Bool, true, false, cond, Option, Some, None, List, [], ◌++◌, length, map as each_of, refl, sym, ap, subst, ◌∙◌, inl, inr, arith, length-append}
-use Rattle.std.specs.Prelude.{◌⊎◌, nat_eq, set, replicate, unwrap_or}
+use Rattle.std.proofs.Common.{◌≡◌, ℕ, ◌+◌, ◌-◌, ◌<◌, ◌≤◌, ◌^◌, cond, Option, Some, None, List, [], ◌∷◌, ◌++◌, length, map as each_of, refl, sym, ap, subst, ◌∙◌, inl, inr, arith, length-append}
+use Rattle.std.specs.Prelude.{◌⊎◌, set, replicate, unwrap_or}
 use Rattle.std.specs.List.{All}
 use Rattle.std.specs.Option.{is_some}
-use Rattle.std.proofs.lemmas.Bool.{cases_lt, false≢true}
-use Rattle.std.proofs.lemmas.Bool.Decides.{Decides-eqb}
+use Rattle.std.proofs.lemmas.Bool.{cases_eq, cases_lt}
 use Rattle.std.proofs.lemmas.List.{get_or_append_left, get_or-append_right, get_or_past, get_or-set_same, get_or-set_other, get_or-replicate, length-set, length-replicate, set_past}
 use Rattle.std.proofs.lemmas.List.Elements.{All-map, All-append, All-set, All-replicate, All-get_or}
 use Rattle.sj_base.specs.declared.ids.Cell.{Cell}
 use Rattle.sj_base.specs.declared.tile.Dims.{Dims}
 use Rattle.sj_base.specs.declared.program.CellInfo.{CellInfo}
 use Rattle.sj_base.specs.Array.{area}
+use Rattle.sj_base.proofs.SameIds.{cell_of_number}
 use Rattle.sj_core.specs.Program.{no_cell}
 use Rattle.sj_plan.specs.declared.parts.Parts.{Parts}
-use Rattle.sj_plan.specs.Parts.{IsPlace, places}
+use Rattle.sj_plan.specs.Parts.{places}
 use Rattle.sj_meaning.specs.Table.{a_root}
 use Rattle.sj_base.specs.declared.ids.Root.{Root}
-use Rattle.sj_steps.specs.Cells.{number, child_cell, copy_info, with_partials}
-use Rattle.sj_steps.specs.Laid.{Laid, handle_at, taking, take, with_root, no_cells, info_at, first_copy, with_copies}
+use Rattle.sj_steps.specs.Cells.{child_cell, copy_info, with_partials}
+use Rattle.sj_steps.specs.Laid.{Laid, Handle, handle_of, handle_at, taking, take, with_root, no_cells, info_at, first_copy, with_copies}
 use Rattle.sj_steps.specs.Whole.{IsTaken, AreLaid, HaveCopies}
 use Rattle.sj_steps.proofs.Growing.{Grows, row_at, grows-refl, grows-append, has-row, NoneHas, append-partials}
-use Rattle.sj_steps.proofs.Taken.{Old, New, old_or_new, none_isn't, some_is, taken-root, by_first}
+use Rattle.sj_steps.proofs.Taken.{Old, New, old_or_new, none_isn't, some_is, laid-as, taken-as, taken-root, by_first}
 use Rattle.sj_steps.proofs.Places.{number-below}
 
 pub copies-none : (workers : ℕ) → HaveCopies workers no_cells
@@ -34,30 +34,28 @@ copies-none workers = record {
     no : (c f : Cell) → (info_at no_cells c).partials ≡ Some f → ⊥
     no c f e = let h = has-row [] c.0 f e in omega (arith, h)
 
-pub copies-root : (workers : ℕ) (C : Laid) (n : Dims) → HaveCopies workers C → HaveCopies workers (with_root n C)
-copies-root workers C n h = record {
+-- the same rows, where no plan is taken that wasn't
+pub copies-as : (workers : ℕ) (C : Laid) (handles : List Handle) (prints : ℕ) → let D : Laid = record { rows = C.rows; handles = handles; prints = prints } in ((n : ℕ) (d : Dims) (s : Parts) (f : ℕ) → IsTaken D n d s f → IsTaken C n d s f) → HaveCopies workers C → HaveCopies workers D
+copies-as workers C handles prints taken h = record {
   inside = h.inside;
   copy = h.copy;
   apart = h.apart;
-  beside = λ c f w q d s g place e k t p same. h.beside c f w q d s g place e k (taken-root C n q d s g t) p same;
+  beside = λ c f w q d s g place e k t p same. h.beside c f w q d s g place e k (taken q d s g t) p same;
 }
+
+pub copies-root : (workers : ℕ) (C : Laid) (n : Dims) → HaveCopies workers C → HaveCopies workers (with_root n C)
+copies-root workers C n h = copies-as workers C (C.handles ++ handle_of n ∷ []) C.prints (taken-root C n) h
 
 -- ---- a plan more
 
-pub child_none : (root : Root) (d : Dims) (p : Parts) → NoneHas (each_of (child_cell root d p) (places p))
-child_none root d p n = by_length (each_of (child_cell root d p) (places p)) (none (places p)) n
-  where
-    none : (ps : List (ℕ × ℕ)) → All (λ (i : CellInfo). i.partials ≡ None) (each_of (child_cell root d p) ps)
-    none ps = all_map ps
-      where
-        all_map : (ps : List (ℕ × ℕ)) → All (λ (i : CellInfo). i.partials ≡ None) (each_of (child_cell root d p) ps)
-        all_map ps = All-map (λ (i : CellInfo). i.partials ≡ None) (child_cell root d p) ps (λ i e l. refl)
+none-have : (zs : List CellInfo) → All (λ (i : CellInfo). i.partials ≡ None) zs → NoneHas zs
+none-have zs all n = elim (cases_lt n (length zs)) [
+  | inl inside ↦ All-get_or (λ (i : CellInfo). i.partials ≡ None) zs n no_cell inside all
+  | inr past ↦ ap (λ (i : CellInfo). i.partials) (get_or_past zs n no_cell past)
+]
 
-    by_length : (zs : List CellInfo) → All (λ (i : CellInfo). i.partials ≡ None) zs → NoneHas zs
-    by_length zs all n = elim (cases_lt n (length zs)) [
-      | inl inside ↦ All-get_or (λ (i : CellInfo). i.partials ≡ None) zs n no_cell inside all
-      | inr past ↦ ap (λ (i : CellInfo). i.partials) (get_or_past zs n no_cell past)
-    ]
+pub child_none : (root : Root) (d : Dims) (p : Parts) → NoneHas (each_of (child_cell root d p) (places p))
+child_none root d p = none-have (each_of (child_cell root d p) (places p)) (All-map (λ (i : CellInfo). i.partials ≡ None) (child_cell root d p) (places p) (λ i e l. refl))
 
 copies_new : (workers : ℕ) (C : Laid) (n : ℕ) (p : Parts) → n < length C.handles → AreLaid C → HaveCopies workers C → HaveCopies workers (taking n p C)
 copies_new workers C n p there a k = record {
@@ -93,6 +91,9 @@ Copied workers c C = record {
   handles = C.handles;
   prints = C.prints;
 }
+
+copies-have_none : (workers : ℕ) (i : CellInfo) → NoneHas (replicate workers (copy_info i))
+copies-have_none workers i = none-have (replicate workers (copy_info i)) (All-replicate (λ (j : CellInfo). j.partials ≡ None) workers (copy_info i) refl)
 
 -- the next cell
 abbrev pub next_cell : Laid → Cell
@@ -139,102 +140,64 @@ module _ (workers : ℕ) (c : Cell) (C : Laid) (none : (info_at C c).partials �
       get_or-append_right first_part copies (length first_part) n no_cell refl (omega (arith, first_length, e))
       ∙ get_or-replicate workers (n - length first_part) (copy_info (info_at C c)) no_cell (omega (arith, first_length, e, h))
 
-  past : (n : ℕ) → length C.rows ≤ n → (row_at (Copied workers c C).rows n).partials ≡ None
-  past n h = elim (cases_lt n (length C.rows + workers)) [
-    | inl inside ↦ ap (λ (i : CellInfo). i.partials) (copied-copy n (n - length C.rows) (omega (arith, h)) (omega (arith, h, inside)))
-    | inr beyond ↦ ap (λ (i : CellInfo). i.partials) (get_or_past (Copied workers c C).rows n no_cell (omega (arith, copied-length, beyond)))
-  ]
-
-  pub copied-partials : (n : ℕ) (f : Cell) → (row_at (Copied workers c C).rows n).partials ≡ Some f → ((row_at C.rows n).partials ≡ Some f) ⊎ ((n ≡ c.0) × (f ≡ next_cell C))
-  copied-partials n f e = elim (cases_lt n (length C.rows)) [
-    | inr beyond ↦ absurd (none_isn't f (sym (past n beyond) ∙ e))
-    | inl inside ↦ elim (same_number n c.0) [
-      | inl same ↦ inr (same, some_is f (next_cell C) (sym e ∙ ap (λ m. (row_at (Copied workers c C).rows m).partials) same ∙ ap (λ (i : CellInfo). i.partials) copied-own ∙ ap (λ (x : Cell). Some x) (first-new C c none)))
-      | inr other ↦ inl (sym (ap (λ (i : CellInfo). i.partials) (copied-other n inside other)) ∙ e)
-    ]
-  ]
-    where
-      same_number : (m n : ℕ) → (m ≡ n) ⊎ (m ≡ n → ⊥)
-      same_number m n = by_test (nat_eq m n) refl
-        where
-          by_test : (b : Bool) → nat_eq m n ≡ b → (m ≡ n) ⊎ (m ≡ n → ⊥)
-          by_test true e = inl ((Decides-eqb m n).0 e)
-          by_test false e = inr (λ same. false≢true (sym e ∙ (Decides-eqb m n).1 same))
+  -- a row has the partial copies that it had, or is the cell's and has the next cells
+  copied-partials : (n : ℕ) (f : Cell) → (row_at (Copied workers c C).rows n).partials ≡ Some f → ((row_at C.rows n).partials ≡ Some f) ⊎ ((n ≡ c.0) × (f.0 ≡ length C.rows))
+  copied-partials n f e =
+      let own = append-partials first_part copies (copies-have_none workers (info_at C c)) n f e in
+      elim (cases_eq n c.0) [
+        | inl same ↦ inr (same, ap (λ (x : Cell). x.0) (some_is f (next_cell C) (sym own ∙ ap (λ m. (row_at first_part m).partials) same ∙ ap (λ (i : CellInfo). i.partials) (get_or-set_same C.rows c.0 (with_partials (first_copy C c) (info_at C c)) no_cell there) ∙ ap (λ (x : Cell). Some x) (first-new C c none))))
+        | inr other ↦ inl (sym (ap (λ (i : CellInfo). i.partials) (get_or-set_other C.rows c.0 n (with_partials (first_copy C c) (info_at C c)) no_cell other)) ∙ own)
+      ]
 
   grows_copied : Grows C.rows (Copied workers c C).rows
   grows_copied = record {
     longer = omega (arith, copied-length);
-    dims = λ n h. (let s = all_dims n h in s);
+    dims = λ n h. elim (cases_eq n c.0) [
+      | inl same ↦ ap (λ m. (row_at (Copied workers c C).rows m).dims) same ∙ ap (λ (i : CellInfo). i.dims) copied-own ∙ ap (λ m. (row_at C.rows m).dims) (sym same)
+      | inr other ↦ ap (λ (i : CellInfo). i.dims) (copied-other n h other)
+    ];
     kept = λ n f e. ap (λ (i : CellInfo). i.partials) (copied-other n (has-row C.rows n f e) (λ same. none_isn't f (sym none ∙ ap (λ m. (row_at C.rows m).partials) (sym same) ∙ e))) ∙ e;
     news = λ n f e. elim (copied-partials n f e) [
       | inl old ↦ inl old
-      | inr new ↦ inr (let s = ap (λ (x : Cell). x.0) new.1 in omega (arith, s))
+      | inr new ↦ inr (omega (arith, new.1))
     ];
   }
-    where
-      all_dims : (n : ℕ) → n < length C.rows → (row_at (Copied workers c C).rows n).dims ≡ (row_at C.rows n).dims
-      all_dims n h = by_test (nat_eq n c.0) refl
-        where
-          by_test : (b : Bool) → nat_eq n c.0 ≡ b → (row_at (Copied workers c C).rows n).dims ≡ (row_at C.rows n).dims
-          by_test true e = let same : n ≡ c.0 = (Decides-eqb n c.0).0 e in ap (λ m. (row_at (Copied workers c C).rows m).dims) same ∙ ap (λ (i : CellInfo). i.dims) copied-own ∙ ap (λ m. (row_at C.rows m).dims) (sym same)
-          by_test false e = ap (λ (i : CellInfo). i.dims) (copied-other n h (λ same. false≢true (sym e ∙ (Decides-eqb n c.0).1 same)))
+
+  taken : (q : ℕ) (d : Dims) (s : Parts) (f : ℕ) → IsTaken (Copied workers c C) q d s f → IsTaken C q d s f
+  taken q d s f t = taken-as (Copied workers c C) C q q d s f refl t
 
   copies_made : IsNoCopy workers C c → AreLaid C → HaveCopies workers C → HaveCopies workers (Copied workers c C)
   copies_made alone a k = record {
     inside = λ d f e. elim (copied-partials d.0 f e) [
       | inl old ↦ omega (arith, k.inside d f old, copied-length)
-      | inr new ↦ (let s = ap (λ (x : Cell). x.0) new.1 in omega (arith, s, copied-length))
+      | inr new ↦ omega (arith, new.1, copied-length)
     ];
     copy = λ d f w e h. elim (copied-partials d.0 f e) [
       | inl old ↦ copied-other (f.0 + w) (omega (arith, k.inside d f old, h)) (λ same. alone d f w old h same) ∙ k.copy d f w old h
           ∙ ap copy_info (sym (copied-other d.0 (has-row C.rows d.0 f old) (λ same. none_isn't f (sym none ∙ ap (λ m. (row_at C.rows m).partials) (sym same) ∙ old))))
-      | inr new ↦ (let s = ap (λ (x : Cell). x.0) new.1 in
-          copied-copy (f.0 + w) w (omega (arith, s)) h ∙ ap copy_info (sym (ap (λ m. row_at (Copied workers c C).rows m) new.0 ∙ copied-own)))
+      | inr new ↦ copied-copy (f.0 + w) w (omega (arith, new.1)) h ∙ ap copy_info (sym (ap (λ m. row_at (Copied workers c C).rows m) new.0 ∙ copied-own))
     ];
-    apart = λ d e f g v w i j hv hw same. elim (copied-partials d.0 f i) [
-      | inl old ↦ elim (copied-partials e.0 g j) [
-        | inl old2 ↦ k.apart d e f g v w old old2 hv hw same
-        | inr new2 ↦ absurd (let s = ap (λ (x : Cell). x.0) new2.1 in omega (arith, s, same, k.inside d f old, hv))
-      ]
-      | inr new ↦ elim (copied-partials e.0 g j) [
-        | inl old2 ↦ absurd (let s = ap (λ (x : Cell). x.0) new.1 in omega (arith, s, same, k.inside e g old2, hw))
-        | inr new2 ↦ one_cell d e (new.0 ∙ sym new2.0)
-      ]
-    ];
+    apart = λ d e f g v w i j hv hw same. apart_by d e f g v w hv hw same (copied-partials d.0 f i) (copied-partials e.0 g j);
     beside = λ d f w q n s g place e h t hp same. elim (copied-partials d.0 f e) [
-      | inl old ↦ k.beside d f w q n s g place old h (taken t) hp same
-      | inr new ↦ (let s2 = ap (λ (x : Cell). x.0) new.1 in omega (arith, s2, same, a.inside q n s g (taken t), number-below s place hp))
+      | inl old ↦ k.beside d f w q n s g place old h (taken q n s g t) hp same
+      | inr new ↦ omega (arith, new.1, same, a.inside q n s g (taken q n s g t), number-below s place hp)
     ];
   }
     where
-      one_cell : (d e : Cell) → d.0 ≡ e.0 → d ≡ e
-      one_cell d e h = λ i. record { 0 = h i }
-
-      taken : {q : ℕ} {d : Dims} {s : Parts} {f : ℕ} → IsTaken (Copied workers c C) q d s f → IsTaken C q d s f
-      taken t = record { dims = t.dims; first = t.first }
+      apart_by : (d e f g : Cell) (v w : ℕ) → v < workers → w < workers → f.0 + v ≡ g.0 + w → ((row_at C.rows d.0).partials ≡ Some f) ⊎ ((d.0 ≡ c.0) × (f.0 ≡ length C.rows)) → ((row_at C.rows e.0).partials ≡ Some g) ⊎ ((e.0 ≡ c.0) × (g.0 ≡ length C.rows)) → d ≡ e
+      apart_by d e f g v w hv hw same (inl old) (inl old2) = k.apart d e f g v w old old2 hv hw same
+      apart_by d e f g v w hv hw same (inl old) (inr new2) = absurd (omega (arith, new2.1, same, k.inside d f old, hv))
+      apart_by d e f g v w hv hw same (inr new) (inl old2) = absurd (omega (arith, new.1, same, k.inside e g old2, hw))
+      apart_by d e f g v w hv hw same (inr new) (inr new2) = cell_of_number d e (new.0 ∙ sym new2.0)
 
   laid_made : AreLaid C → AreLaid (Copied workers c C)
-  laid_made a = record {
-    fits = λ q d s f t. a.fits q d s f (taken t);
-    inside = λ q d s f t. omega (arith, a.inside q d s f (taken t), copied-length);
-    row = λ q d s f place t hp. grows_copied.dims (f + number s place) (omega (arith, a.inside q d s f (taken t), number-below s place hp)) ∙ a.row q d s f place (taken t) hp;
-    apart = λ q u d e s t f g place other k l hp ho same. a.apart q u d e s t f g place other (taken k) (taken l) hp ho same;
-    sized = a.sized;
-    small = All-append (λ (i : CellInfo). area i.dims ≤ 2 ^ 24) first_part copies
-        (All-set (λ (i : CellInfo). area i.dims ≤ 2 ^ 24) C.rows c.0 (with_partials (first_copy C c) (info_at C c)) own a.small)
-        (All-replicate (λ (i : CellInfo). area i.dims ≤ 2 ^ 24) workers (copy_info (info_at C c)) own);
-  }
-    where
-      own : area (info_at C c).dims ≤ 2 ^ 24
-      own = All-get_or (λ (i : CellInfo). area i.dims ≤ 2 ^ 24) C.rows c.0 no_cell there a.small
-
-      taken : {q : ℕ} {d : Dims} {s : Parts} {f : ℕ} → IsTaken (Copied workers c C) q d s f → IsTaken C q d s f
-      taken t = record { dims = t.dims; first = t.first }
+  laid_made a =
+      let own = All-get_or (λ (i : CellInfo). area i.dims ≤ 2 ^ 24) C.rows c.0 no_cell there a.small in
+      laid-as C (Copied workers c C) taken grows_copied.longer grows_copied.dims a.sized (All-append (λ (i : CellInfo). area i.dims ≤ 2 ^ 24) first_part copies
+      (All-set (λ (i : CellInfo). area i.dims ≤ 2 ^ 24) C.rows c.0 (with_partials (first_copy C c) (info_at C c)) own a.small)
+      (All-replicate (λ (i : CellInfo). area i.dims ≤ 2 ^ 24) workers (copy_info (info_at C c)) own)) a
 
 module _ (workers : ℕ) (c : Cell) (C : Laid) (there : c.0 < length C.rows) where
-  pub copies-grow : Grows C.rows (with_copies workers C c).rows
-  copies-grow = by_copies workers c C (λ (D : Laid). Grows C.rows D.rows) (λ f e. grows-refl C.rows) (λ e. grows_copied workers c C e there)
-
   pub copies-copied : IsNoCopy workers C c → AreLaid C → HaveCopies workers C → HaveCopies workers (with_copies workers C c)
   copies-copied alone a k = by_copies workers c C (HaveCopies workers) (λ f e. k) (λ e. copies_made workers c C e there alone a k)
 
@@ -246,22 +209,9 @@ module _ (workers : ℕ) (c : Cell) (C : Laid) (there : c.0 < length C.rows) whe
   copied-first = by_copies workers c C (λ (D : Laid). (info_at D c).partials ≡ Some (first_copy C c)) (λ f e. e ∙ ap (λ (x : Cell). Some x) (sym (first-old C c f e)))
       (λ e. ap (λ (i : CellInfo). i.partials) (copied-own workers c C e there))
 
-  pub copied-handles : (with_copies workers C c).handles ≡ C.handles
-  copied-handles = by_copies workers c C (λ (D : Laid). D.handles ≡ C.handles) (λ f e. refl) (λ e. refl)
-
-  pub copied-prints : (with_copies workers C c).prints ≡ C.prints
-  copied-prints = by_copies workers c C (λ (D : Laid). D.prints ≡ C.prints) (λ f e. refl) (λ e. refl)
-
 -- cells are only added
 pub copies-more : (workers : ℕ) (c : Cell) (C : Laid) → Grows C.rows (with_copies workers C c).rows
-copies-more workers c C = elim (cases_lt c.0 (length C.rows)) [
-  | inl inside ↦ copies-grow workers c C inside
-  | inr past ↦ by_copies workers c C (λ (D : Laid). Grows C.rows D.rows) (λ f e. grows-refl C.rows) (λ e.
-      subst (λ (rows : List CellInfo). Grows C.rows (rows ++ replicate workers (copy_info (info_at C c)))) (sym (set_past C.rows c.0 (with_partials (first_copy C c) (info_at C c)) past)) (grows-append C.rows (replicate workers (copy_info (info_at C c))) (none (copy_info (info_at C c)) refl)))
-]
-  where
-    none : (i : CellInfo) → i.partials ≡ None → NoneHas (replicate workers i)
-    none i e n = elim (cases_lt n workers) [
-      | inl inside ↦ ap (λ (x : CellInfo). x.partials) (get_or-replicate workers n i no_cell inside) ∙ e
-      | inr past ↦ ap (λ (x : CellInfo). x.partials) (get_or_past (replicate workers i) n no_cell (omega (arith, past, length-replicate workers i)))
-    ]
+copies-more workers c C = by_copies workers c C (λ (D : Laid). Grows C.rows D.rows) (λ f e. grows-refl C.rows) (λ e. elim (cases_lt c.0 (length C.rows)) as (λ _. Grows C.rows (Copied workers c C).rows) [
+  | inl inside ↦ grows_copied workers c C e inside
+  | inr past ↦ subst (λ (rows : List CellInfo). Grows C.rows (rows ++ replicate workers (copy_info (info_at C c)))) (sym (set_past C.rows c.0 (with_partials (first_copy C c) (info_at C c)) past)) (grows-append C.rows (replicate workers (copy_info (info_at C c))) (copies-have_none workers (info_at C c)))
+])

@@ -1,15 +1,17 @@
 -- The deliveries of the program without phases hand over the children of what the print statements find, in order.
-use Rattle.std.proofs.Common.{◌≡◌, ℕ, suc, ◌+◌, ◌<◌, ◌≤◌, Bool, true, false, cond, List, [], ◌∷◌, ◌++◌, length, get_or, map as each_of, fold, refl, sym, ap, subst, ◌∙◌, arith, length-append, append_assoc}
+use Rattle.std.proofs.Common.{◌≡◌, ℕ, ◌+◌, Bool, true, cond, List, [], ◌∷◌, ◌++◌, length, get_or, map as each_of, fold, refl, sym, ap, subst, ◌∙◌, arith, length-append, append_assoc}
 use Rattle.std.specs.List.{AllByRecursion, zip, range_with_len}
-use Rattle.std.proofs.lemmas.List.{append-nil, map-append, length-map}
+use Rattle.std.proofs.lemmas.Bool.{cond_both}
+use Rattle.std.proofs.lemmas.List.{append-nil, map-append}
+use Rattle.std.proofs.lemmas.Simd.{map-map}
 use Rattle.sj_base.specs.declared.ids.Cell.{Cell}
 use Rattle.sj_base.specs.declared.ids.Line.{Line}
 use Rattle.sj_base.specs.declared.ids.Root.{Root as RootNumber}
-use Rattle.sj_base.specs.declared.tile.Dims.{Dims}
 use Rattle.sj_base.specs.declared.program.Delivery.{Delivery}
 use Rattle.sj_base.specs.declared.program.Lowered.{Lowered}
 use Rattle.sj_base.specs.declared.program.Program.{Program}
 use Rattle.sj_base.specs.Array.{Array}
+use Rattle.sj_base.proofs.Numbers.{length_more, none_more}
 use Rattle.sj_codelet.specs.Kernel.{out}
 use Rattle.sj_codelet.specs.declared.kernel.Kernel.{Kernel}
 use Rattle.sj_core.specs.Fold.{Contents, held_in, held_before, given}
@@ -21,7 +23,7 @@ use Rattle.sj_plan.specs.Rect.{child, place_of}
 use Rattle.sj_plan.specs.Window.{window}
 use Rattle.sj_plan.proofs.Lists.{each-places}
 use Rattle.sj_meaning.specs.Act.{Act, Statement}
-use Rattle.sj_meaning.specs.Act.{Register as Registers, Plan as Plans, Redux as Reduces, Task as Tasks, Print as Prints, Invalidate as Invalidates, Unregister as Unregisters}
+use Rattle.sj_meaning.specs.Act.{Register as Registers, Plan as Plans, Task as Tasks, Print as Prints}
 use Rattle.sj_meaning.specs.State.{RootState, is_valued}
 use Rattle.sj_meaning.specs.Meaning.{root_array}
 use Rattle.sj_meaning.specs.Table.{a_root}
@@ -29,13 +31,13 @@ use Rattle.sj_meaning.specs.Numbers.{root_at, apply_at, prints_at, printed_at}
 use Rattle.sj_phases.specs.Block.{Block}
 use Rattle.sj_phases.specs.Expand.{moved}
 use Rattle.sj_phases.specs.Law.{handed_over}
-use Rattle.sj_phases.specs.Plain.{Opens, Plainly, units, plain_rows, plain_next, direct, open_at}
+use Rattle.sj_phases.specs.Plain.{Opens, Plainly, units, plain_rows, plain_next, open_at}
 use Rattle.sj_plan.specs.Paste.{pastes_of}
 use Rattle.sj_steps.specs.Cells.{same_parts}
 use Rattle.sj_steps.specs.Laid.{Laid, cell_of, take, with_root, with_copies}
 use Rattle.sj_steps.specs.Rows.{paste_row, deliver_row}
 use Rattle.sj_steps.specs.SoundAt.{IsSound, AreSound}
-use Rattle.sj_steps.specs.Step.{by_number, closing, contributed, operand_cell, active_cells, a_delivery, plan_block, print_block, Step, step_of, steps_from}
+use Rattle.sj_steps.specs.Step.{by_number, closing, contributed, operand_cell, active_cells, a_delivery, plan_block, print_block, step_of}
 use Rattle.sj_steps.proofs.Contents.{first_worker, task_at, contents_before, contents-next}
 use Rattle.sj_steps.proofs.Elements.{child-window, valued-child}
 use Rattle.sj_steps.proofs.Filling.{after_deliver}
@@ -66,12 +68,6 @@ given_there : (p : Program) (m : ℕ) (c : Cell) (line : Line) → task_of p (ta
 given_there p m c line e = ap (λ (l : Lowered). held_before out p m (get_or (each_of (worked_on p first_worker) (data_operands l)) 0 (record { 0 = 0 }))) e
 
 module _ (q : Program) (C : Laid) (n : ℕ) (m : ℕ) (r : RootState) (k : ℕ) (line : Line) (valued : is_valued r ≡ true) (b : HasRoot q C n (contents_before q n) m r) where
-  cell : ℕ × ℕ → Cell
-  cell place = cell_of C m r.parts place
-
-  delivered : ℕ → List (ℕ × ℕ) → List Delivery
-  delivered a ps = each_of (λ x. moved n (a_delivery m r.dims r.parts k x)) (zip (range_with_len a (length ps)) ps)
-
   hands : (a : ℕ) (ps : List (ℕ × ℕ)) → AllByRecursion (IsPlace r.parts) ps → Stand q (n + a) (each_of (λ place. deliver_row (cell_of C m r.parts place) line) ps) → contents_before q (n + a) ≡ contents_before q n
       → each_of (handed_over q) (each_of (λ x. moved n (a_delivery m r.dims r.parts k x)) (zip (range_with_len a (length ps)) ps)) ≡ each_of (piece k (m, r)) ps
   hands a [] inside stand same = refl
@@ -86,10 +82,6 @@ module _ (q : Program) (C : Laid) (n : ℕ) (m : ℕ) (r : RootState) (k : ℕ) 
       λ i. (a_root m, place_of (child r.dims r.parts place), k, array i)
       ∷ hands (a + 1) ps inside.1 (subst (λ x. Stand q x (each_of (λ place. deliver_row (cell_of C m r.parts place) line) ps)) (sym next) stand.2) later i
 
-map-through : {X Y Z : Type 0} (g : Y → Z) (h : X → Y) (xs : List X) → each_of g (each_of h xs) ≡ each_of (λ x. g (h x)) xs
-map-through g h [] = refl
-map-through g h (x ∷ xs) = ap (λ zs. g (h x) ∷ zs) (map-through g h xs)
-
 -- the deliveries of a block, whose first task has this number
 abbrev pub moved_deliveries : ℕ → Block → List Delivery
 moved_deliveries n b = each_of (moved (n + length (units b))) b.deliveries
@@ -97,20 +89,15 @@ moved_deliveries n b = each_of (moved (n + length (units b))) b.deliveries
 print-hands : (q : Program) (C : Laid) (n : ℕ) (m : ℕ) (r : RootState) (k : ℕ) (line : Line) (cells : List Cell) → is_valued r ≡ true → HasRoot q C n (contents_before q n) m r → Stand q n (each_of (λ place. deliver_row (cell_of C m r.parts place) line) (places r.parts))
     → each_of (handed_over q) (moved_deliveries n (print_block m r cells k line)) ≡ each_of (piece k (m, r)) (places r.parts)
 print-hands q C n m r k line cells valued b stand =
-    let none : n + 0 ≡ n = omega arith in
-    ap (λ (j : ℕ). each_of (handed_over q) (each_of (moved j) (print_block m r cells k line).deliveries)) none
-    ∙ ap (each_of (handed_over q)) (map-through (moved n) (a_delivery m r.dims r.parts k) (zip (range_with_len 0 (length (places r.parts))) (places r.parts)))
-    ∙ hands q C n m r k line valued b 0 (places r.parts) (each-places (IsPlace r.parts) r.parts (λ place h. h)) (subst (λ x. Stand q x (each_of (λ place. deliver_row (cell_of C m r.parts place) line) (places r.parts))) (sym none) stand) (ap (contents_before q) none)
+    ap (λ (j : ℕ). each_of (handed_over q) (each_of (moved j) (print_block m r cells k line).deliveries)) (none_more n)
+    ∙ ap (each_of (handed_over q)) (map-map (moved n) (a_delivery m r.dims r.parts k) (zip (range_with_len 0 (length (places r.parts))) (places r.parts)))
+    ∙ hands q C n m r k line valued b 0 (places r.parts) (each-places (IsPlace r.parts) r.parts (λ place h. h)) (subst (λ x. Stand q x (each_of (λ place. deliver_row (cell_of C m r.parts place) line) (places r.parts))) (sym (none_more n)) stand) (ap (contents_before q) (none_more n))
 
 -- ---- statements
 
 -- no deliveries
 plan-none : (r : RootState) (old : List Cell) (C : Laid) (m : ℕ) (p : Parts) (line : Line) → (plan_block r old C m p line).deliveries ≡ []
-plan-none r old C m p line = by_test (same_parts r.parts p)
-  where
-    by_test : (b : Bool) → (cond b (closing line [] []) (closing line old (cond (is_valued r) (each_of (paste_row (cell_of C m r.parts) (cell_of C m p) line) (pastes_of r.dims r.parts p)) []))).deliveries ≡ []
-    by_test true = refl
-    by_test false = refl
+plan-none r old C m p line = cond_both (same_parts r.parts p) (closing line [] []) (closing line old (cond (is_valued r) (each_of (paste_row (cell_of C m r.parts) (cell_of C m p) line) (pastes_of r.dims r.parts p)) [])) (λ (b : Block). b.deliveries ≡ []) (λ e. refl) (λ e. refl)
 
 -- the deliveries of statements, whose tasks begin with number n
 abbrev pub deliveries_from : ℕ → List RootState → Laid → ℕ → List (Statement ℕ) → List Delivery
@@ -126,18 +113,14 @@ hands-step has q C rs n was s sound at = by_act s.act sound at.agrees.roots at.s
   where
     by_act : (a : Act ℕ) → IsSound has rs a → HaveRoots q C n (contents_before q n) rs → Stand q n (plain_rows (step_of q.workers (by_number rs) C s.line a).block)
         → each_of (handed_over q) (moved_deliveries n (step_of q.workers (by_number rs) C s.line a).block) ≡ pieces_from C.prints (prints_at a rs)
-    by_act (Registers r) sound roots stand = refl
     by_act (Plans m p) sound roots stand =
         let b = plan_block (root_at rs m) (active_cells (by_number rs) C m) (take m p C) m p s.line in
         ap (λ ds. each_of (handed_over q) (each_of (moved (n + length (units b))) ds)) (plan-none (root_at rs m) (active_cells (by_number rs) C m) (take m p C) m p s.line)
-    by_act (Reduces m by) sound roots stand = refl
-    by_act (Tasks t) sound roots stand = refl
     by_act (Prints m) sound roots stand =
         print-hands q C n m (root_at rs m) C.prints s.line (active_cells (by_number rs) C m) sound.1 (roots m sound.0)
         (subst (Stand q n) (direct-delivers (cell_of C m (root_at rs m).parts) s.line (places (root_at rs m).parts)) stand)
         ∙ sym (append-nil (each_of (piece C.prints (m, root_at rs m)) (places (root_at rs m).parts)))
-    by_act (Invalidates m) sound roots stand = refl
-    by_act (Unregisters m) sound roots stand = refl
+    by_act a sound roots stand = refl
 
 copied-prints : (workers : ℕ) (cs : List Cell) (C : Laid) → (fold (with_copies workers) C cs).prints ≡ C.prints
 copied-prints workers [] C = refl
@@ -150,16 +133,14 @@ take-prints C m p = by_first C m p (λ (D : Laid). D.prints ≡ C.prints) (λ f 
 prints-step : (workers : ℕ) (C : Laid) (rs : List RootState) (line : Line) (a : Act ℕ) → (step_of workers (by_number rs) C line a).laid.prints ≡ C.prints + length (prints_at a rs)
 prints-step workers C rs line (Registers r) = omega (arith, take-prints (with_root r.dims C) (length C.handles) r.parts)
 prints-step workers C rs line (Plans m p) = omega (arith, take-prints C m p)
-prints-step workers C rs line (Reduces m by) = omega arith
 prints-step workers C rs line (Tasks t) = omega (arith, copied-prints workers (each_of (operand_cell (by_number rs) C) (contributed t)) C)
 prints-step workers C rs line (Prints m) = refl
-prints-step workers C rs line (Invalidates m) = omega arith
-prints-step workers C rs line (Unregisters m) = omega arith
+prints-step workers C rs line a = omega arith
 
 pieces-append : (k : ℕ) (xs ys : List (ℕ × RootState)) → pieces_from k (xs ++ ys) ≡ pieces_from k xs ++ pieces_from (k + length xs) ys
-pieces-append k [] ys = ap (λ j. pieces_from j ys) (let e : k ≡ k + 0 = omega arith in e)
+pieces-append k [] ys = ap (λ j. pieces_from j ys) (sym (none_more k))
 pieces-append k (x ∷ xs) ys =
-    ap (λ zs. each_of (piece k x) (places x.1.parts) ++ zs) (pieces-append (k + 1) xs ys ∙ ap (λ j. pieces_from (k + 1) xs ++ pieces_from j ys) (let e : (k + 1) + length xs ≡ k + length (x ∷ xs) = omega arith in e))
+    ap (λ zs. each_of (piece k x) (places x.1.parts) ++ zs) (pieces-append (k + 1) xs ys ∙ ap (λ j. pieces_from (k + 1) xs ++ pieces_from j ys) (length_more k x xs))
     ∙ sym (append_assoc (each_of (piece k x) (places x.1.parts)) (pieces_from (k + 1) xs) (pieces_from (k + length (x ∷ xs)) ys))
 
 -- all deliveries hand over the children of all that is printed

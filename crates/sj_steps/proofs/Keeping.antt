@@ -1,15 +1,16 @@
 -- A program's cells hold what the children of the job's roots hold, by the roots' numbers.
-use Rattle.std.proofs.Common.{◌≡◌, ℕ, ◌<◌, ◌≤◌, Bool, true, false, cond, ◌&&◌, Option, Some, None, List, [], ◌∷◌, ◌++◌, ℤ, length, map as each_of, refl, sym, ap, subst, ◌∙◌, inl, inr, arith, get_or-set_same, get_or-set_other}
+use Rattle.std.proofs.Common.{◌≡◌, ℕ, ◌<◌, ◌≤◌, Bool, true, false, ◌&&◌, Option, List, [], ◌∷◌, ◌++◌, ℤ, length, map as each_of, refl, sym, ap, subst, ◌∙◌, inl, inr, arith, get_or-set_same, get_or-set_other}
 use Rattle.std.specs.Prelude.{nat_eq}
-use Rattle.std.specs.List.{zip, list_all}
+use Rattle.std.specs.List.{AllByRecursion, zip, list_all}
 use Rattle.std.specs.Option.{is_some}
-use Rattle.std.proofs.lemmas.Bool.{false≢true, cases_eq, cases_lt}
+use Rattle.std.proofs.lemmas.Bool.{and_from, cases_Bool, cases_eq, cases_lt, false≢true, false_from_ne_true}
 use Rattle.std.proofs.lemmas.Bool.Decides.{Decides-eqb}
 use Rattle.std.proofs.lemmas.List.{get_or_past}
 use Rattle.sj_base.specs.declared.ids.Cell.{Cell}
 use Rattle.sj_base.specs.declared.tile.Dims.{Dims}
 use Rattle.sj_base.specs.declared.program.Program.{Program}
 use Rattle.sj_base.specs.Array.{Array, area}
+use Rattle.sj_base.proofs.SameIds.{cell_of_number}
 use Rattle.sj_core.specs.Program.{same_cell, dims_of}
 use Rattle.sj_core.specs.Proper.{HasValueBefore}
 use Rattle.sj_core.specs.Fold.{Contents, held_in}
@@ -28,6 +29,7 @@ use Rattle.sj_steps.specs.Whole.{IsTaken, AreLaid}
 use Rattle.sj_steps.proofs.Growing.{Grows}
 use Rattle.sj_steps.proofs.Contents.{NotAmong, held-same, held-other, held-moved, same_cell-is, task_at}
 use Rattle.sj_steps.proofs.Elements.{written-whole, written-other, written-array}
+use Rattle.sj_steps.proofs.Folding.{later}
 use Rattle.sj_steps.proofs.Taken.{cell-inside, cell-is, cell-row, cells-apart}
 use Rattle.sj_steps.proofs.Places.{place-is, place-itself}
 
@@ -63,16 +65,9 @@ pub cell-dims : (p : Program) (C : Laid) (m : ℕ) (d : Dims) (s : Parts) (f : �
 cell-dims p C m d s f place has laid k h = has.dims (cell_of C m s place).0 (cell-inside C m d s f place laid k h) ∙ cell-row C m d s f place laid k h
 
 pub differs : (c d : Cell) → (c ≡ d → ⊥) → same_cell c d ≡ false
-differs c d h = by_test (same_cell c d) refl
-  where
-    by_test : (b : Bool) → same_cell c d ≡ b → b ≡ false
-    by_test false e = refl
-    by_test true e = absurd (h (same_cell-is c d e))
+differs c d h = false_from_ne_true (same_cell c d) (λ e. h (same_cell-is c d e))
 
 -- ---- what stays
-
-later : (p : Program) (m n : ℕ) (c : Cell) → m ≤ n → HasValueBefore p (task_at m) c → HasValueBefore p (task_at n) c
-later p m n c h g = (g.0, omega (arith, g.1), g.2)
 
 pub held-kept : (p : Program) (m n : ℕ) (k new : Contents) (c : Cell) (x : Array) → m ≤ n → held_in p new c ≡ held_in p k c → IsHeld p m k c x → IsHeld p n new c x
 held-kept p m n k new c x more same h = record { value = same ∙ h.value; given = later p m n c more h.given }
@@ -90,10 +85,7 @@ root-kept p C D m n k new q r b t more same = record {
 }
   where
     cell : (place : ℕ × ℕ) → cell_of C q r.parts place ≡ cell_of D q r.parts place
-    cell place = one_cell (cell_of C q r.parts place) (cell_of D q r.parts place) (cell-is C q r.dims r.parts b.first place b.taken ∙ sym (cell-is D q r.dims r.parts b.first place t))
-      where
-        one_cell : (c d : Cell) → c.0 ≡ d.0 → c ≡ d
-        one_cell c d e = λ i. record { 0 = e i }
+    cell place = cell_of_number (cell_of C q r.parts place) (cell_of D q r.parts place) (cell-is C q r.dims r.parts b.first place b.taken ∙ sym (cell-is D q r.dims r.parts b.first place t))
 
 pub holds-later : (p : Program) (C : Laid) (m n : ℕ) (k : Contents) (rs : List RootState) → m ≤ n → HaveRoots p C m k rs → HaveRoots p C n k rs
 holds-later p C m n k rs h has q e = let b = has q e in root-kept p C C m n k k q (root_at rs q) b b.taken h (λ place inside. refl)
@@ -122,30 +114,27 @@ other_place x y e same = false≢true (sym e ∙ ap (same_child_place x) (sym sa
 
 -- the root itself, after a child of it was put
 put_child : (p : Program) (C : Laid) (n : ℕ) (k : Contents) (rs : List RootState) (c : Cell) (o : Operand ℕ) (a : Array) → AreLaid C → Gives p C n rs c o a → HasRoot p C n k o.name (root_at rs o.name) → HasRoot p C n ((c, a) ∷ k) o.name (with_child o.place a (root_at rs o.name))
-put_child p C n k rs c o a laid g b = record {
-  fits = b.fits;
-  whole = written-whole r o.place a;
-  first = b.first;
-  taken = b.taken;
-  held = λ place inside v. by_place place inside v (same_child_place o.place place) refl;
-}
-  where
-    r : RootState
-    r = root_at rs o.name
-
-    by_place : (place : ℕ × ℕ) → IsPlace r.parts place → is_valued_child (with_child o.place a r) place ≡ true → (t : Bool) → same_child_place o.place place ≡ t → IsHeld p n ((c, a) ∷ k) (cell_of C o.name r.parts place) (child_array (with_child o.place a r) place)
-    by_place place inside v true t =
-        let here = place-is o.place place t in
-        subst (λ (x : ℕ × ℕ). IsHeld p n ((c, a) ∷ k) (cell_of C o.name r.parts x) (child_array (with_child o.place a r) x)) here
-        (subst (λ (d : Cell). IsHeld p n ((c, a) ∷ k) d (child_array (with_child o.place a r) o.place)) g.cell_is
-        (record { value = held-same p c a k ∙ sym (written-array r o.place a g.placed g.dims g.whole); given = g.given }))
-    by_place place inside v false t =
-        let apart = other_place o.place place t in
-        let stays = written-other r o.place place a g.placed inside apart in
-        let old = b.held place inside (ap (λ es. is_child r.parts place && list_all (λ (e : Option ℤ). is_some e) es) (sym stays) ∙ v) in
-        subst (λ (x : Array). IsHeld p n ((c, a) ∷ k) (cell_of C o.name r.parts place) x) (ap (λ es. record { dims = rect_dims (child_rect r place); elements = integers_of es }) (sym stays))
-        (held-kept p n n k ((c, a) ∷ k) (cell_of C o.name r.parts place) (child_array r place) (omega arith)
-        (held-other p c a k (cell_of C o.name r.parts place) (differs c (cell_of C o.name r.parts place) (λ e. apart (cells-apart C o.name o.name r.dims r.dims r.parts r.parts b.first b.first o.place place laid b.taken b.taken g.placed inside (sym g.cell_is ∙ e)).2))) old)
+put_child p C n k rs c o a laid g b =
+    let r = root_at rs o.name in
+    let now = with_child o.place a r in
+    record {
+      fits = b.fits;
+      whole = written-whole r o.place a;
+      first = b.first;
+      taken = b.taken;
+      held = λ place inside v. elim (cases_Bool (same_child_place o.place place)) as (λ _. IsHeld p n ((c, a) ∷ k) (cell_of C o.name r.parts place) (child_array now place)) [
+        | inl t ↦
+            subst (λ (x : ℕ × ℕ). IsHeld p n ((c, a) ∷ k) (cell_of C o.name r.parts x) (child_array now x)) (place-is o.place place t)
+            (subst (λ (d : Cell). IsHeld p n ((c, a) ∷ k) d (child_array now o.place)) g.cell_is (record { value = held-same p c a k ∙ sym (written-array r o.place a g.placed g.dims g.whole); given = g.given }))
+        | inr t ↦
+            let apart = other_place o.place place t in
+            let stays = written-other r o.place place a g.placed inside apart in
+            let away = differs c (cell_of C o.name r.parts place) (λ e. apart (cells-apart C o.name o.name r.dims r.dims r.parts r.parts b.first b.first o.place place laid b.taken b.taken g.placed inside (sym g.cell_is ∙ e)).2) in
+            subst (λ (x : Array). IsHeld p n ((c, a) ∷ k) (cell_of C o.name r.parts place) x) (ap (λ es. record { dims = rect_dims (child_rect r place); elements = integers_of es }) (sym stays))
+            (held-kept p n n k ((c, a) ∷ k) (cell_of C o.name r.parts place) (child_array r place) (omega arith) (held-other p c a k (cell_of C o.name r.parts place) away)
+            (b.held place inside (ap (λ es. is_child r.parts place && list_all (λ (e : Option ℤ). is_some e) es) (sym stays) ∙ v)))
+      ];
+    }
 
 -- another root
 put_beside : (p : Program) (C : Laid) (n : ℕ) (k : Contents) (rs : List RootState) (c : Cell) (o : Operand ℕ) (a : Array) (q : ℕ) (r : RootState) → AreLaid C → Gives p C n rs c o a → HasRoot p C n k o.name (root_at rs o.name) → (q ≡ o.name → ⊥) → HasRoot p C n k q r → HasRoot p C n ((c, a) ∷ k) q r
@@ -160,24 +149,30 @@ changed-here f m rs h = get_or-set_same rs m (f (root_at rs m)) no_root (lives-b
 pub changed-beside : (f : RootState → RootState) (m q : ℕ) (rs : List RootState) → (q ≡ m → ⊥) → root_at (change_at f m rs) q ≡ root_at rs q
 changed-beside f m q rs other = get_or-set_other rs m q (f (root_at rs m)) no_root other
 
-pub holds-put : (p : Program) (C : Laid) (n : ℕ) (k : Contents) (rs : List RootState) (c : Cell) (o : Operand ℕ) (a : Array) → AreLaid C → HaveRoots p C n k rs → Gives p C n rs c o a → HaveRoots p C n ((c, a) ∷ k) (change_at (with_child o.place a) o.name rs)
-holds-put p C n k rs c o a laid has g q lives = elim (cases_eq q o.name) as (λ _. HasRoot p C n ((c, a) ∷ k) q (root_at (change_at (with_child o.place a) o.name rs) q)) [
+-- roots of which one has changed
+pub holds-changed : (p : Program) (C : Laid) (n : ℕ) (k : Contents) (rs new : List RootState) (m : ℕ) (r : RootState) → root_at new m ≡ r → ((q : ℕ) → (q ≡ m → ⊥) → root_at new q ≡ root_at rs q)
+    → (0 < area r.dims → HasRoot p C n k m r) → ((q : ℕ) → (q ≡ m → ⊥) → Lives rs q → HasRoot p C n k q (root_at rs q)) → HaveRoots p C n k new
+holds-changed p C n k rs new m r here beside changed others q lives = elim (cases_eq q m) as (λ _. HasRoot p C n k q (root_at new q)) [
   | inl e ↦
-      let now = ap (root_at (change_at (with_child o.place a) o.name rs)) e ∙ changed-here (with_child o.place a) o.name rs g.lives in
-      subst (λ (r : RootState). HasRoot p C n ((c, a) ∷ k) q r) (sym now)
-      (subst (λ (m : ℕ). HasRoot p C n ((c, a) ∷ k) m (with_child o.place a (root_at rs o.name))) (sym e) (put_child p C n k rs c o a laid g (has o.name g.lives)))
+      let now = ap (root_at new) e ∙ here in
+      subst (λ (x : RootState). HasRoot p C n k q x) (sym now) (subst (λ (i : ℕ). HasRoot p C n k i r) (sym e) (changed (subst (λ (x : RootState). 0 < area x.dims) now lives)))
   | inr other ↦
-      let now = changed-beside (with_child o.place a) o.name q rs other in
-      subst (λ (r : RootState). HasRoot p C n ((c, a) ∷ k) q r) (sym now)
-      (put_beside p C n k rs c o a q (root_at rs q) laid g (has o.name g.lives) other (has q (subst (λ (r : RootState). 0 < area r.dims) now lives)))
+      let now = beside q other in
+      subst (λ (x : RootState). HasRoot p C n k q x) (sym now) (others q other (subst (λ (x : RootState). 0 < area x.dims) now lives))
 ]
+
+pub holds-put : (p : Program) (C : Laid) (n : ℕ) (k : Contents) (rs : List RootState) (c : Cell) (o : Operand ℕ) (a : Array) → AreLaid C → HaveRoots p C n k rs → Gives p C n rs c o a → HaveRoots p C n ((c, a) ∷ k) (change_at (with_child o.place a) o.name rs)
+holds-put p C n k rs c o a laid has g =
+    let b = has o.name g.lives in
+    let put = with_child o.place a in
+    holds-changed p C n ((c, a) ∷ k) rs (change_at put o.name rs) o.name (put (root_at rs o.name)) (changed-here put o.name rs g.lives) (λ q other. changed-beside put o.name q rs other)
+    (λ lives. put_child p C n k rs c o a laid g b) (λ q other lives. put_beside p C n k rs c o a q (root_at rs q) laid g b other (has q lives))
 
 -- ---- the arrays of a task
 
 -- the operand is none of these children
 abbrev pub IsOther : Operand ℕ → List (Operand ℕ) → Type 0
-IsOther o [] = Unit {0}
-IsOther o (u ∷ us) = (same_child o u ≡ false) × IsOther o us
+IsOther o us = AllByRecursion (λ (u : Operand ℕ). same_child o u ≡ false) us
 
 -- arrays for operands, each another child
 abbrev pub GivesAll : Program → Laid → ℕ → List RootState → (Operand ℕ → Cell) → List (Operand ℕ) → List Array → Type 0
@@ -217,11 +212,7 @@ cell_apart p C n k rs c d o u a x laid has g h other =
     let s = root_at rs u.name in
     differs c d (λ e.
     let same = cells-apart C o.name u.name r.dims s.dims r.parts s.parts b.first i.first o.place u.place laid b.taken i.taken g.placed h.placed (sym g.cell_is ∙ e ∙ h.cell_is) in
-    false≢true (sym other ∙ both (nat_eq o.name u.name) (same_child_place o.place u.place) ((Decides-eqb o.name u.name).1 same.0) (ap (same_child_place o.place) (sym same.2) ∙ place-itself o.place)))
-  where
-    both : (a b : Bool) → a ≡ true → b ≡ true → (a && b) ≡ true
-    both true b e f = f
-    both false b e f = e
+    false≢true (sym other ∙ and_from (nat_eq o.name u.name) (same_child_place o.place u.place) ((Decides-eqb o.name u.name).1 same.0) (ap (same_child_place o.place) (sym same.2) ∙ place-itself o.place)))
 
 not_among : (p : Program) (C : Laid) (n : ℕ) (k : Contents) (rs : List RootState) (cell : Operand ℕ → Cell) (o : Operand ℕ) (a : Array) (us : List (Operand ℕ)) (xs : List Array) → AreLaid C → HaveRoots p C n k rs → Gives p C n rs (cell o) o a → IsOther o us → GivesAll p C n rs cell us xs → NotAmong (cell o) (each_of cell us)
 not_among p C n k rs cell o a [] xs laid has g other all = tt

@@ -1,7 +1,7 @@
 -- The paste tasks of a plan line make in the new plan's cells what pastes make of the old plan's children.
 use Rattle.std.proofs.Common.{◌≡◌, ℕ, Bool, true, false, cond, ◌||◌, List, [], ◌∷◌, ◌++◌, pos, map, refl, sym, ap, subst, ◌∙◌}
 use Rattle.std.specs.List.{AllByRecursion, flat_map}
-use Rattle.std.proofs.lemmas.Bool.{false≢true}
+use Rattle.std.proofs.lemmas.Bool.{cond_both, false≢true, or_left}
 use Rattle.std.proofs.lemmas.List.{map-append, length-replicate}
 use Rattle.sj_base.specs.declared.ids.Cell.{Cell}
 use Rattle.sj_base.specs.declared.ids.Line.{Line}
@@ -43,16 +43,10 @@ pasted_by : (p : Program) (k : Contents) (old new : ℕ × ℕ → Cell) (line :
 pasted_by p k old new line x true = refl
 pasted_by p k old new line x false = refl
 
-pub after_paste : (p : Program) (k : Contents) (old new : ℕ × ℕ → Cell) (line : Line) (x : Paste)
-    → after_row p k (paste_row old new line x) ≡ (new x.to, pasted (held_in p k (old x.from)) x.at_from (record { rows = x.rows; cols = x.cols }) (cond (is_first x) (zeros (dims_of p (new x.to))) (held_in p k (new x.to))) x.at_to) ∷ k
-after_paste p k old new line x = pasted_by p k old new line x (is_first x)
-
 pub paste-gives : (old new : ℕ × ℕ → Cell) (line : Line) (x : Paste) → gives_value (paste_row old new line x) (new x.to) ≡ true
-paste-gives old new line x = by_mode (is_first x)
-  where
-    by_mode : (b : Bool) → gives_value (own_task PasteKernel (paste_arguments x) (an_access R (old x.from) ∷ an_access (cond b W RW) (new x.to) ∷ []) line) (new x.to) ≡ true
-    by_mode true = ap (λ b. b || false) (same_cell-itself (new x.to))
-    by_mode false = ap (λ b. b || false) (same_cell-itself (new x.to))
+paste-gives old new line x =
+    let own = ap (λ b. b || false) (same_cell-itself (new x.to)) in
+    cond_both (is_first x) W RW (λ m. gives_value (own_task PasteKernel (paste_arguments x) (an_access R (old x.from) ∷ an_access m (new x.to) ∷ []) line) (new x.to) ≡ true) (λ e. own) (λ e. own)
 
 -- ---- the pastes to one child
 
@@ -81,9 +75,9 @@ made_by : (p : Program) (d : Dims) (s : Parts) (old new : ℕ × ℕ → Cell) (
 made_by p d s old new a line to k w x dims here holds none goes =
     let there : (new x.to) ≡ new to = ap new goes.1 in
     let row : after_row p k (paste_row old new line x) ≡ (new to, copied (windows_of d s a) w (paste_copy x)) ∷ k =
-    after_paste p k old new line x
+    pasted_by p k old new line x (is_first x)
     ∙ (λ i. (there i, pasted (holds x.from goes.0 i) x.at_from (record { rows = x.rows; cols = x.cols }) (cond (is_first x) (zeros (dims_of p (there i))) (held_in p k (there i))) x.at_to) ∷ k)
-    ∙ ap (λ (y : Array). (new to, pasted (window a (child d s x.from)) x.at_from (record { rows = x.rows; cols = x.cols }) y x.at_to) ∷ k) (by_first (is_first x) refl) in
+    ∙ ap (λ (y : Array). (new to, pasted (window a (child d s x.from)) x.at_from (record { rows = x.rows; cols = x.cols }) y x.at_to) ∷ k) (by_first (is_first x) here) in
     record {
       fills = record {
         value = ap (λ (n : Contents). held_in p n (new to)) row ∙ held-same p (new to) (copied (windows_of d s a) w (paste_copy x)) k;
@@ -92,36 +86,30 @@ made_by p d s old new a line to k w x dims here holds none goes =
       holds = λ from inside. ap (λ (n : Contents). held_in p n (old from)) row ∙ held-other p (new to) (copied (windows_of d s a) w (paste_copy x)) k (old from) (none from inside) ∙ holds from inside;
     }
   where
-    by_first : (b : Bool) → is_first x ≡ b → cond (is_first x) (zeros (dims_of p (new to))) (held_in p k (new to)) ≡ cond (is_first x) (zeros w.dims) w
-    by_first true e = ap (λ b. cond b (zeros (dims_of p (new to))) (held_in p k (new to))) e ∙ ap zeros (sym dims) ∙ sym (ap (λ b. cond b (zeros w.dims) w) e)
-    by_first false e = ap (λ b. cond b (zeros (dims_of p (new to))) (held_in p k (new to))) e ∙ here e ∙ sym (ap (λ b. cond b (zeros w.dims) w) e)
+    by_first : (b : Bool) → (b ≡ false → held_in p k (new to) ≡ w) → cond b (zeros (dims_of p (new to))) (held_in p k (new to)) ≡ cond b (zeros w.dims) w
+    by_first true h = ap zeros (sym dims)
+    by_first false h = h refl
 
 copied_dims : (old : ℕ × ℕ → Array) (w : Array) (c : Copy (ℕ × ℕ)) → (copied old w c).dims ≡ w.dims
-copied_dims old w c = by_first (begins c)
-  where
-    by_first : (b : Bool) → (cond b (zeros w.dims) w).dims ≡ w.dims
-    by_first true = refl
-    by_first false = refl
+copied_dims old w c = cond_both (begins c) (zeros w.dims) w (λ (y : Array). y.dims ≡ w.dims) (λ e. refl) (λ e. refl)
 
--- further pastes to a child
-further_made : (p : Program) (d : Dims) (s : Parts) (old new : ℕ × ℕ → Cell) (a : Array) (line : Line) (to : ℕ × ℕ) (xs : List Paste) (k : Contents) (w : Array) → w.dims ≡ dims_of p (new to) → held_in p k (new to) ≡ w → HoldOld p d s old a k → IsNoOld s old (new to) → AllByRecursion (GoesTo s to) xs
+-- the first of the pastes, if there is one, begins its child
+abbrev first_begins : List Paste → Bool
+first_begins [] = false
+first_begins (x ∷ xs) = is_first x
+
+begin_once : (xs : List Paste) → BeginOnce (map paste_copy xs) → first_begins xs ≡ true
+begin_once [] once = absurd once
+begin_once (x ∷ xs) once = once.0
+
+-- all pastes to a child, into what it held before where the first of them doesn't begin it
+all_made : (p : Program) (d : Dims) (s : Parts) (old new : ℕ × ℕ → Cell) (a : Array) (line : Line) (to : ℕ × ℕ) (xs : List Paste) (k : Contents) (w : Array) → w.dims ≡ dims_of p (new to) → (first_begins xs ≡ false → held_in p k (new to) ≡ w) → HoldOld p d s old a k → IsNoOld s old (new to) → AllByRecursion (GoesTo s to) xs
     → AreMade p d s old a k (after_rows p k (map (paste_row old new line) xs)) (new to) (all_copied (windows_of d s a) w (map paste_copy xs))
-further_made p d s old new a line to [] k w dims here holds none go = record { fills = record { value = here; others = λ c beside. refl }; holds = holds }
-further_made p d s old new a line to (x ∷ xs) k w dims here holds none go =
-    let one = made_by p d s old new a line to k w x dims (λ e. here) holds none go.0 in
+all_made p d s old new a line to [] k w dims here holds none go = record { fills = record { value = here refl; others = λ c beside. refl }; holds = holds }
+all_made p d s old new a line to (x ∷ xs) k w dims here holds none go =
+    let one = made_by p d s old new a line to k w x dims here holds none go.0 in
     let made = copied (windows_of d s a) w (paste_copy x) in
-    let rest = further_made p d s old new a line to xs (after_row p k (paste_row old new line x)) made (copied_dims (windows_of d s a) w (paste_copy x) ∙ dims) one.fills.value one.holds none go.1 in
-    record { fills = record { value = rest.fills.value; others = λ c beside. rest.fills.others c beside ∙ one.fills.others c beside }; holds = rest.holds }
-
--- all pastes to a child, of which the first begins it
-all_made : (p : Program) (d : Dims) (s : Parts) (old new : ℕ × ℕ → Cell) (a : Array) (line : Line) (to : ℕ × ℕ) (xs : List Paste) (k : Contents) → BeginOnce (map paste_copy xs) → HoldOld p d s old a k → IsNoOld s old (new to) → AllByRecursion (GoesTo s to) xs
-    → AreMade p d s old a k (after_rows p k (map (paste_row old new line) xs)) (new to) (all_copied (windows_of d s a) (zeros (dims_of p (new to))) (map paste_copy xs))
-all_made p d s old new a line to [] k once holds none go = absurd once
-all_made p d s old new a line to (x ∷ xs) k once holds none go =
-    let w = zeros (dims_of p (new to)) in
-    let one = made_by p d s old new a line to k w x refl (λ e. absurd (false≢true (sym e ∙ once.0))) holds none go.0 in
-    let made = copied (windows_of d s a) w (paste_copy x) in
-    let rest = further_made p d s old new a line to xs (after_row p k (paste_row old new line x)) made (copied_dims (windows_of d s a) w (paste_copy x)) one.fills.value one.holds none go.1 in
+    let rest = all_made p d s old new a line to xs (after_row p k (paste_row old new line x)) made (copied_dims (windows_of d s a) w (paste_copy x) ∙ dims) (λ e. one.fills.value) one.holds none go.1 in
     record { fills = record { value = rest.fills.value; others = λ c beside. rest.fills.others c beside ∙ one.fills.others c beside }; holds = rest.holds }
 
 -- what holds of the paste of each old child that overlaps holds of each paste to the new one
@@ -165,7 +153,8 @@ pub pastes-filled : (p : Program) (d : Dims) (s t : Parts) (old new : ℕ × ℕ
 pastes-filled p d s t old new a line k fs ft holds dims none own =
     subst (λ (ls : List Lowered). AreFilled p k (after_rows p k ls) t new (λ to. window a (child d t to))) (sym (rows-by_child d s t old new line))
     (blocks-filled p (HoldOld p d s old a) (rows_to d s t old new line) new (λ to. window a (child d t to)) t k (λ to at k i.
-    let made = all_made p d s old new a line to (pastes_to d s t to) k (pastes-begin d s t to fs ft at) i (none to at) (pastes-go d s t to) in
+    let once = begin_once (pastes_to d s t to) (pastes-begin d s t to fs ft at) in
+    let made = all_made p d s old new a line to (pastes_to d s t to) k (zeros (dims_of p (new to))) refl (λ e. absurd (false≢true (sym e ∙ once))) i (none to at) (pastes-go d s t to) in
     let is : all_copied (windows_of d s a) (zeros (dims_of p (new to))) (map paste_copy (pastes_to d s t to)) ≡ window a (child d t to) =
     pastes_to-make d s t to a (windows_of d s a) (zeros (dims_of p (new to))) fs ft at (λ from inside. refl) (length-replicate (area (dims_of p (new to))) (pos 0)) (dims to at) in
     (record { value = made.fills.value ∙ is; others = made.fills.others }, made.holds)) holds own)
@@ -177,7 +166,3 @@ pastes-give d s t old new line to fs ft at = first (pastes_to d s t to) (pastes-
     first : (xs : List Paste) → BeginOnce (map paste_copy xs) → AllByRecursion (GoesTo s to) xs → one_gives (map (paste_row old new line) xs) (new to) ≡ true
     first [] once go = absurd once
     first (x ∷ xs) once go = or_left (gives_value (paste_row old new line x) (new to)) (one_gives (map (paste_row old new line) xs) (new to)) (ap (λ (q : ℕ × ℕ). gives_value (paste_row old new line x) (new q)) (sym go.0.1) ∙ paste-gives old new line x)
-      where
-        or_left : (a b : Bool) → a ≡ true → (a || b) ≡ true
-        or_left true b e = refl
-        or_left false b e = absurd (false≢true e)

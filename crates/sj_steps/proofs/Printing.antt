@@ -1,22 +1,24 @@
 -- Deliveries that hand over the children of what the print statements find follow the print statements.
-use Rattle.std.proofs.Common.{◌≡◌, ℕ, zero, suc, ◌+◌, ◌-◌, ◌*◌, ◌<◌, ◌≤◌, Bool, true, false, cond, Option, Some, None, List, [], ◌∷◌, ◌++◌, pos, length, map as each_of, refl, sym, ap, subst, ◌∙◌, arith, length-append}
+use Rattle.std.proofs.Common.{◌≡◌, ℕ, zero, suc, ◌+◌, ◌<◌, ◌≤◌, true, false, Some, List, [], ◌∷◌, ◌++◌, pos, length, map as each_of, refl, sym, ap, subst, ◌∙◌, arith}
 use Rattle.std.specs.Prelude.{nat_eq, slice_get, IsPermutation}
-use Rattle.std.specs.List.{All, AllPairs, AllByRecursion, filter}
-use Rattle.std.proofs.lemmas.Bool.{false≢true}
+use Rattle.std.specs.List.{All, AllByRecursion, filter}
+use Rattle.std.proofs.lemmas.Bool.{ne_eqb}
 use Rattle.std.proofs.lemmas.Bool.Decides.{Decides-eqb}
 use Rattle.std.proofs.lemmas.List.{append-nil, length-map, length-replicate}
 use Rattle.std.proofs.lemmas.List.Elements.{All-from_recursion, filter-append}
 use Rattle.std.proofs.lemmas.List.Sorted.{IsPermutation-map, All-permutation}
-use Rattle.sj_base.specs.declared.ids.Root.{Root as RootNumber}
+use Rattle.std.proofs.lemmas.Option.{none-some, same_Some, slice_get_within}
+use Rattle.std.proofs.lemmas.Simd.{map-map}
 use Rattle.sj_base.specs.declared.program.Delivery.{Delivery}
 use Rattle.sj_base.specs.declared.program.Program.{Program}
 use Rattle.sj_base.specs.Array.{Array, area, zeros}
+use Rattle.sj_base.proofs.Numbers.{none_first, none_more, one_more, positive_product}
 use Rattle.sj_plan.specs.declared.rect.Rect.{Rect}
 use Rattle.sj_plan.specs.Parts.{Fits, IsPlace, places}
 use Rattle.sj_plan.specs.Rect.{child, children_of, Within}
-use Rattle.sj_plan.specs.Window.{window, gathered, IsWhole}
+use Rattle.sj_plan.specs.Window.{window, gathered}
 use Rattle.sj_plan.proofs.Gathering.{tiling-reassembles}
-use Rattle.sj_plan.proofs.Lists.{each-map, each-places, each-of, filter_all, filter_gone, ordered-append, pairs-from_ordered, ordered-from_pairs}
+use Rattle.sj_plan.proofs.Lists.{each-append, each-from_map, each-map, each-places, each-of, filter_all, filter_gone, map-filter, Ordered, ordered-append, ordered-from_map, ordered-from_pairs, ordered-map, pairs-from_ordered}
 use Rattle.sj_plan.proofs.Tiling.{children_of-tiling}
 use Rattle.sj_meaning.specs.Act.{Statement}
 use Rattle.sj_meaning.specs.State.{RootState}
@@ -30,105 +32,46 @@ use Rattle.sj_steps.proofs.Elements.{child-within}
 use Rattle.sj_steps.proofs.Handing.{Handed, piece, pieces_from}
 use Rattle.sj_steps.proofs.Places.{length-places}
 
--- ---- lists
-
-map-through : {X Y Z : Type 0} (g : Y → Z) (h : X → Y) (xs : List X) → each_of g (each_of h xs) ≡ each_of (λ x. g (h x)) xs
-map-through g h [] = refl
-map-through g h (x ∷ xs) = ap (λ zs. g (h x) ∷ zs) (map-through g h xs)
-
-filter-through : {X Y : Type 0} (p : Y → Bool) (h : X → Y) (xs : List X) → filter p (each_of h xs) ≡ each_of h (filter (λ x. p (h x)) xs)
-filter-through p h [] = refl
-filter-through p h (x ∷ xs) = by_test (p (h x)) (filter-through p h xs)
-  where
-    by_test : (b : Bool) → filter p (each_of h xs) ≡ each_of h (filter (λ x. p (h x)) xs) → cond b (h x ∷ filter p (each_of h xs)) (filter p (each_of h xs)) ≡ each_of h (cond b (x ∷ filter (λ x. p (h x)) xs) (filter (λ x. p (h x)) xs))
-    by_test true rest = ap (λ ys. h x ∷ ys) rest
-    by_test false rest = rest
-
-each-back : {X Y : Type 0} (P : Y → Type 0) (f : X → Y) (xs : List X) → AllByRecursion P (each_of f xs) → AllByRecursion (λ x. P (f x)) xs
-each-back P f [] h = tt
-each-back P f (x ∷ xs) h = (h.0, each-back P f xs h.1)
-
--- the same of pairs
-abbrev Rising : {X : Type 0} → (X → X → Type 0) → List X → Type 0
-Rising R [] = Unit {0}
-Rising R (x ∷ xs) = AllByRecursion (R x) xs × Rising R xs
-
-rising-back : {X Y : Type 0} (R : Y → Y → Type 0) (f : X → Y) (xs : List X) → Rising R (each_of f xs) → Rising (λ x y. R (f x) (f y)) xs
-rising-back R f [] h = tt
-rising-back R f (x ∷ xs) h = (each-back (R (f x)) f xs h.0, rising-back R f xs h.1)
-
-rising-append : {X : Type 0} (R : X → X → Type 0) (xs ys : List X) → Rising R xs → Rising R ys → AllByRecursion (λ x. AllByRecursion (R x) ys) xs → Rising R (xs ++ ys)
-rising-append R [] ys a b c = b
-rising-append {X} R (x ∷ xs) ys a b c = (join xs a.0, rising-append R xs ys a.1 b c.1)
-  where
-    join : (zs : List X) → AllByRecursion (R x) zs → AllByRecursion (R x) (zs ++ ys)
-    join [] h = c.0
-    join (z ∷ zs) h = (h.0, join zs h.1)
-
-unequal : (m n : ℕ) → (m ≡ n → ⊥) → nat_eq m n ≡ false
-unequal m n h = by_test (nat_eq m n) refl
-  where
-    by_test : (b : Bool) → nat_eq m n ≡ b → b ≡ false
-    by_test false e = refl
-    by_test true e = absurd (h ((Decides-eqb m n).0 e))
-
 -- ---- the pieces of print statements
 
 all-piece : (P : Handed → Type 0) (k : ℕ) (x : ℕ × RootState) → ((place : ℕ × ℕ) → IsPlace x.1.parts place → P (piece k x place)) → AllByRecursion P (each_of (piece k x) (places x.1.parts))
 all-piece P k x h = each-map P (piece k x) (places x.1.parts) (each-places (λ place. P (piece k x place)) x.1.parts h)
 
-join-each : {X : Type 0} (P : X → Type 0) (xs ys : List X) → AllByRecursion P xs → AllByRecursion P ys → AllByRecursion P (xs ++ ys)
-join-each P [] ys a b = b
-join-each P (x ∷ xs) ys a b = (a.0, join-each P xs ys a.1 b)
-
 -- what holds of each piece of each print statement
 all-pieces : (P : Handed → Type 0) (xs : List (ℕ × RootState)) (k : ℕ) → ((j : ℕ) (x : ℕ × RootState) (place : ℕ × ℕ) → slice_get xs j ≡ Some x → IsPlace x.1.parts place → P (piece (k + j) x place)) → AllByRecursion P (pieces_from k xs)
 all-pieces P [] k h = tt
 all-pieces P (x ∷ xs) k h =
-    join-each P (each_of (piece k x) (places x.1.parts)) (pieces_from (k + 1) xs)
-    (all-piece P k x (λ place at. subst (λ j. P (piece j x place)) (let e : k + 0 ≡ k = omega arith in e) (h 0 x place refl at)))
-    (all-pieces P xs (k + 1) (λ j y place e at. subst (λ i. P (piece i y place)) (let e : k + suc j ≡ (k + 1) + j = omega arith in e) (h (suc j) y place e at)))
+    each-append P (each_of (piece k x) (places x.1.parts)) (pieces_from (k + 1) xs)
+    (all-piece P k x (λ place at. subst (λ j. P (piece j x place)) (none_more k) (h 0 x place refl at)))
+    (all-pieces P xs (k + 1) (λ j y place e at. subst (λ i. P (piece i y place)) (one_more k j) (h (suc j) y place e at)))
 
-inside-get : {X : Type 0} (xs : List X) (j : ℕ) (x : X) → slice_get xs j ≡ Some x → j < length xs
-inside-get [] zero x e = absurd (cc)
-inside-get [] (suc j) x e = absurd (cc)
-inside-get (y ∷ xs) zero x e = omega arith
-inside-get (y ∷ xs) (suc j) x e = let h = inside-get xs j x e in omega (arith, h)
-
-rising-pieces : (xs : List (ℕ × RootState)) (k : ℕ) → Rising (λ (a b : Handed). a.2 ≤ b.2) (pieces_from k xs)
+rising-pieces : (xs : List (ℕ × RootState)) (k : ℕ) → Ordered (λ (a b : Handed). a.2 ≤ b.2) (pieces_from k xs)
 rising-pieces [] k = tt
 rising-pieces (x ∷ xs) k =
-    rising-append (λ (a b : Handed). a.2 ≤ b.2) (each_of (piece k x) (places x.1.parts)) (pieces_from (k + 1) xs) (same (places x.1.parts)) (rising-pieces xs (k + 1))
+    ordered-append (λ (a b : Handed). a.2 ≤ b.2) (each_of (piece k x) (places x.1.parts)) (pieces_from (k + 1) xs)
+    (ordered-map (λ (a b : Handed). a.2 ≤ b.2) (piece k x) (places x.1.parts) (ordered-from_pairs (λ (p q : ℕ × ℕ). k ≤ k) (places x.1.parts) (λ i j d before inside. omega arith))) (rising-pieces xs (k + 1))
     (each-map (λ (a : Handed). AllByRecursion (λ (b : Handed). a.2 ≤ b.2) (pieces_from (k + 1) xs)) (piece k x) (places x.1.parts)
     (each-of (λ place. AllByRecursion (λ (b : Handed). k ≤ b.2) (pieces_from (k + 1) xs)) (λ place. all-pieces (λ (b : Handed). k ≤ b.2) xs (k + 1) (λ j y place e at. omega arith)) (places x.1.parts)))
-  where
-    same : (ps : List (ℕ × ℕ)) → Rising (λ (a b : Handed). a.2 ≤ b.2) (each_of (piece k x) ps)
-    same [] = tt
-    same (p ∷ ps) = (each-map (λ (b : Handed). k ≤ b.2) (piece k x) ps (each-of (λ place. k ≤ k) (λ place. omega arith) ps), same ps)
 
 -- the pieces of one print statement
 abbrev of_print : ℕ → List Handed → List Handed
 of_print k hs = filter (λ (h : Handed). nat_eq h.2 k) hs
 
 pieces-of : (xs : List (ℕ × RootState)) (k j : ℕ) (x : ℕ × RootState) → slice_get xs j ≡ Some x → of_print (k + j) (pieces_from k xs) ≡ each_of (piece (k + j) x) (places x.1.parts)
-pieces-of [] k zero x e = absurd (cc)
-pieces-of [] k (suc j) x e = absurd (cc)
+pieces-of [] k j x e = absurd (none-some x e)
 pieces-of (y ∷ xs) k zero x e =
-    let one : y ≡ x = cc in
-    let here : k + 0 ≡ k = omega arith in
-    ap (λ i. of_print i (pieces_from k (y ∷ xs))) here
+    ap (λ i. of_print i (pieces_from k (y ∷ xs))) (none_more k)
     ∙ filter-append (λ (h : Handed). nat_eq h.2 k) (each_of (piece k y) (places y.1.parts)) (pieces_from (k + 1) xs)
     ∙ (λ i. filter_all (λ (h : Handed). nat_eq h.2 k) (each_of (piece k y) (places y.1.parts)) (all-piece (λ (h : Handed). nat_eq h.2 k ≡ true) k y (λ place at. (Decides-eqb k k).1 refl)) i
-    ++ filter_gone (λ (h : Handed). nat_eq h.2 k) (pieces_from (k + 1) xs) (all-pieces (λ (h : Handed). nat_eq h.2 k ≡ false) xs (k + 1) (λ j z place e at. unequal ((k + 1) + j) k (λ same. omega (arith, same)))) i)
+    ++ filter_gone (λ (h : Handed). nat_eq h.2 k) (pieces_from (k + 1) xs) (all-pieces (λ (h : Handed). nat_eq h.2 k ≡ false) xs (k + 1) (λ j z place e at. ne_eqb ((k + 1) + j) k (λ same. omega (arith, same)))) i)
     ∙ append-nil (each_of (piece k y) (places y.1.parts))
-    ∙ (λ i. each_of (piece (sym here i) (one i)) (places (one i).1.parts))
+    ∙ (λ i. each_of (piece (sym (none_more k) i) (same_Some y x e i)) (places (same_Some y x e i).1.parts))
 pieces-of (y ∷ xs) k (suc j) x e =
-    let next : k + suc j ≡ (k + 1) + j = omega arith in
-    ap (λ i. of_print i (pieces_from k (y ∷ xs))) next
+    ap (λ i. of_print i (pieces_from k (y ∷ xs))) (one_more k j)
     ∙ filter-append (λ (h : Handed). nat_eq h.2 ((k + 1) + j)) (each_of (piece k y) (places y.1.parts)) (pieces_from (k + 1) xs)
-    ∙ ap (λ hs. hs ++ of_print ((k + 1) + j) (pieces_from (k + 1) xs)) (filter_gone (λ (h : Handed). nat_eq h.2 ((k + 1) + j)) (each_of (piece k y) (places y.1.parts)) (all-piece (λ (h : Handed). nat_eq h.2 ((k + 1) + j) ≡ false) k y (λ place at. unequal k ((k + 1) + j) (λ same. omega (arith, same)))))
+    ∙ ap (λ hs. hs ++ of_print ((k + 1) + j) (pieces_from (k + 1) xs)) (filter_gone (λ (h : Handed). nat_eq h.2 ((k + 1) + j)) (each_of (piece k y) (places y.1.parts)) (all-piece (λ (h : Handed). nat_eq h.2 ((k + 1) + j) ≡ false) k y (λ place at. ne_eqb k ((k + 1) + j) (λ same. omega (arith, same)))))
     ∙ pieces-of xs (k + 1) j x e
-    ∙ ap (λ i. each_of (piece i x) (places x.1.parts)) (sym next)
+    ∙ ap (λ i. each_of (piece i x) (places x.1.parts)) (sym (one_more k j))
 
 -- ---- what is printed
 
@@ -150,16 +93,9 @@ piece_of r place = (child r.dims r.parts place, window (root_array r) (child r.d
 abbrev IsPiece : RootState → Rect × Array → Type 0
 IsPiece r x = x.1 ≡ window (root_array r) x.0
 
-positive : (a b : ℕ) → 0 < a → 0 < b → 0 < a * b
-positive a b h k = grind arith
-
-left : (k : ℕ) → k ≡ 0 + k
-left k = omega arith
-
 get-found : (names : List (List ℕ)) (xs : List (ℕ × RootState)) (k : ℕ) (y : Printed) → slice_get (each_of (found_as names) xs) k ≡ Some y → (x : ℕ × RootState) × (slice_get xs k ≡ Some x) × (found_as names x ≡ y)
-get-found names [] zero y e = absurd (cc)
-get-found names [] (suc k) y e = absurd (cc)
-get-found names (x ∷ xs) zero y e = (x, refl, cc)
+get-found names [] k y e = absurd (none-some y e)
+get-found names (x ∷ xs) zero y e = (x, refl, same_Some (found_as names x) y e)
 get-found names (x ∷ xs) (suc k) y e = get-found names xs k y e
 
 module _ (T : Table) (p : Program) (ss : List (Statement (List ℕ))) (xs : List (ℕ × RootState)) (handed : each_of (handed_over p) p.deliveries ≡ pieces_from 0 xs) (found : printed ss ≡ each_of (found_as T.names) xs) (known : (k : ℕ) (x : ℕ × RootState) → slice_get xs k ≡ Some x → IsKnown T x) where
@@ -167,22 +103,22 @@ module _ (T : Table) (p : Program) (ss : List (Statement (List ℕ))) (xs : List
   of-all : (P : Handed → Type 0) → ((j : ℕ) (x : ℕ × RootState) (place : ℕ × ℕ) → slice_get xs j ≡ Some x → IsPlace x.1.parts place → P (piece j x place)) → All (λ (d : Delivery). P (handed_over p d)) p.deliveries
   of-all P h =
       All-from_recursion (λ (d : Delivery). P (handed_over p d)) p.deliveries
-      (each-back P (handed_over p) p.deliveries (subst (AllByRecursion P) (sym handed) (all-pieces P xs 0 (λ j x place e at. subst (λ i. P (piece i x place)) (left j) (h j x place e at)))))
+      (each-from_map P (handed_over p) p.deliveries (subst (AllByRecursion P) (sym handed) (all-pieces P xs 0 (λ j x place e at. subst (λ i. P (piece i x place)) (sym (none_first j)) (h j x place e at)))))
 
   many : length (printed ss) ≡ length xs
   many = ap length found ∙ length-map xs (found_as T.names)
 
   own : (k : ℕ) (x : ℕ × RootState) → slice_get xs k ≡ Some x → each_of (handed_over p) (deliveries_for p k) ≡ each_of (piece k x) (places x.1.parts)
-  own k x e = sym (filter-through (λ (h : Handed). nat_eq h.2 k) (handed_over p) p.deliveries) ∙ ap (of_print k) handed ∙ ap (λ i. of_print i (pieces_from 0 xs)) (left k) ∙ pieces-of xs 0 k x e ∙ ap (λ i. each_of (piece i x) (places x.1.parts)) (sym (left k))
+  own k x e = map-filter (handed_over p) (λ (h : Handed). nat_eq h.2 k) p.deliveries ∙ ap (of_print k) handed ∙ ap (λ i. of_print i (pieces_from 0 xs)) (sym (none_first k)) ∙ pieces-of xs 0 k x e ∙ ap (λ i. each_of (piece i x) (places x.1.parts)) (none_first k)
 
   of-own : (P : Handed → Type 0) (k : ℕ) (x : ℕ × RootState) → slice_get xs k ≡ Some x → ((place : ℕ × ℕ) → IsPlace x.1.parts place → P (piece k x place)) → All (λ (d : Delivery). P (handed_over p d)) (deliveries_for p k)
   of-own P k x e h =
       All-from_recursion (λ (d : Delivery). P (handed_over p d)) (deliveries_for p k)
-      (each-back P (handed_over p) (deliveries_for p k) (subst (AllByRecursion P) (sym (own k x e)) (all-piece P k x h)))
+      (each-from_map P (handed_over p) (deliveries_for p k) (subst (AllByRecursion P) (sym (own k x e)) (all-piece P k x h)))
 
   is-printed : (k : ℕ) (x : ℕ × RootState) → slice_get xs k ≡ Some x → IsKnown T x → IsPrinted T p k (found_as T.names x)
   is-printed k x e i = record {
-    some = let longer = length-map (deliveries_for p k) (handed_over p) in let same = ap length (own k x e) in let all = length-places (piece k x) x.1.parts in omega (arith, longer, same, all, positive x.1.parts.r x.1.parts.c i.fits.some_rows i.fits.some_cols);
+    some = let longer = length-map (deliveries_for p k) (handed_over p) in let same = ap length (own k x e) in let all = length-places (piece k x) x.1.parts in omega (arith, longer, same, all, positive_product x.1.parts.r x.1.parts.c i.fits.some_rows i.fits.some_cols);
     named = of-own (λ (h : Handed). printed_as T h.0 ≡ (name_at T.names x.0, x.1.kind)) k x e (λ place at. ap (λ c. (name_at T.names x.0, c)) i.kind);
     dims = of-own (λ (h : Handed). (info_of T h.0).dims ≡ x.1.dims) k x e (λ place at. i.dims);
     within = of-own (λ (h : Handed). Within (part h).0 x.1.dims) k x e (λ place at. child-within x.1.dims x.1.parts place at);
@@ -193,12 +129,12 @@ module _ (T : Table) (p : Program) (ss : List (Statement (List ℕ))) (xs : List
       r = x.1
 
       pieces : each_of (part_of p) (deliveries_for p k) ≡ each_of (piece_of r) (places r.parts)
-      pieces = sym (map-through part (handed_over p) (deliveries_for p k)) ∙ ap (each_of part) (own k x e) ∙ map-through part (piece k x) (places r.parts)
+      pieces = sym (map-map part (handed_over p) (deliveries_for p k)) ∙ ap (each_of part) (own k x e) ∙ map-map part (piece k x) (places r.parts)
 
       assembled : (parts : List (Rect × Array)) → IsPermutation (each_of (piece_of r) (places r.parts)) parts → gathered (zeros r.dims) parts ≡ root_array r
       assembled parts order =
           tiling-reassembles r.dims (children_of r.dims r.parts) (children_of-tiling r.dims r.parts i.fits) (root_array r) (zeros r.dims) parts refl (length-map r.elements _ ∙ i.whole) refl (length-replicate (area r.dims) (pos 0))
-          (subst (λ (zs : List Rect). IsPermutation zs (each_of (λ (part : Rect × Array). part.0) parts)) (map-through (λ (part : Rect × Array). part.0) (piece_of r) (places r.parts)) (IsPermutation-map (λ (part : Rect × Array). part.0) (each_of (piece_of r) (places r.parts)) parts order))
+          (subst (λ (zs : List Rect). IsPermutation zs (each_of (λ (part : Rect × Array). part.0) parts)) (map-map (λ (part : Rect × Array). part.0) (piece_of r) (places r.parts)) (IsPermutation-map (λ (part : Rect × Array). part.0) (each_of (piece_of r) (places r.parts)) parts order))
           (All-permutation (IsPiece r) (each_of (piece_of r) (places r.parts)) parts order (All-from_recursion (IsPiece r) (each_of (piece_of r) (places r.parts)) (each-map (IsPiece r) (piece_of r) (places r.parts) (each-of (λ place. IsPiece r (piece_of r place)) (λ place. refl) (places r.parts)))))
 
   pub delivers-printed : DeliversPrinted T p ss
@@ -206,10 +142,7 @@ module _ (T : Table) (p : Program) (ss : List (Statement (List ℕ))) (xs : List
     each = λ k y e.
         let g = get-found T.names xs k y (ap (λ ys. slice_get ys k) (sym found) ∙ e) in
         subst (IsPrinted T p k) g.2 (is-printed k g.0 g.1 (known k g.0 g.1));
-    below = of-all (λ (h : Handed). h.2 < length (printed ss)) (λ j x place e at. omega (arith, many, inside-get xs j x e));
-    ascending = pairs-from_ordered (λ (d e : Delivery). d.print ≤ e.print) p.deliveries (ordered (rising-back (λ (a b : Handed). a.2 ≤ b.2) (handed_over p) p.deliveries (subst (Rising (λ (a b : Handed). a.2 ≤ b.2)) (sym handed) (rising-pieces xs 0))));
+    below = of-all (λ (h : Handed). h.2 < length (printed ss)) (λ j x place e at. omega (arith, many, slice_get_within xs j x e));
+    ascending = pairs-from_ordered (λ (d e : Delivery). d.print ≤ e.print) p.deliveries (ordered-from_map (λ (a b : Handed). a.2 ≤ b.2) (handed_over p) p.deliveries (subst (Ordered (λ (a b : Handed). a.2 ≤ b.2)) (sym handed) (rising-pieces xs 0)));
     rooted = of-all (λ (h : Handed). h.0.0 < length T.names) (λ j x place e at. (known j x e).below);
   }
-    where
-      ordered : Rising (λ (d e : Delivery). d.print ≤ e.print) p.deliveries → Rising (λ (d e : Delivery). d.print ≤ e.print) p.deliveries
-      ordered h = h

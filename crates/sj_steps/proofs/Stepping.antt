@@ -1,8 +1,9 @@
 -- Statement by statement the cells of the program without phases agree with the job's roots, by their numbers.
-use Rattle.std.proofs.Common.{◌≡◌, ℕ, ◌+◌, ◌<◌, ◌≤◌, Bool, true, false, cond, not, Option, Some, None, List, [], ◌∷◌, ◌++◌, length, map as each_of, refl, sym, ap, subst, ◌∙◌, inl, inr, arith, get_or-set_same, get_or-set_other}
+use Rattle.std.proofs.Common.{◌≡◌, ℕ, ◌+◌, Bool, true, false, cond, None, List, [], ◌∷◌, length, map as each_of, refl, sym, ap, subst, ◌∙◌, arith, get_or-set_same, get_or-set_other}
 use Rattle.std.proofs.Math.ListN.{set}
-use Rattle.std.proofs.lemmas.Bool.{false≢true, cases_eq}
+use Rattle.std.proofs.lemmas.Bool.{cond_both}
 use Rattle.std.proofs.lemmas.List.{length-set, length-replicate}
+use Rattle.std.proofs.lemmas.Simd.{map-map}
 use Rattle.sj_base.specs.declared.ids.Cell.{Cell}
 use Rattle.sj_base.specs.declared.ids.Line.{Line}
 use Rattle.sj_base.specs.declared.mode.Mode.{Mode}
@@ -11,52 +12,52 @@ use Rattle.sj_base.specs.declared.mode.Reduction.{Reduction}
 use Rattle.sj_base.specs.declared.tile.Dims.{Dims}
 use Rattle.sj_base.specs.declared.program.Lowered.{Lowered}
 use Rattle.sj_base.specs.declared.program.Program.{Program}
-use Rattle.sj_base.specs.Array.{area}
+use Rattle.sj_base.specs.Array.{Array, area}
 use Rattle.sj_base.specs.Mode.{is_redux}
+use Rattle.sj_base.proofs.Lists.{each-weaker}
+use Rattle.sj_base.proofs.Numbers.{none_more}
 use Rattle.sj_codelet.specs.declared.kernel.Kernel.{Kernel}
 use Rattle.sj_codelet.specs.declared.kernel.Kernel.TheVariants.{Paste as PasteKernel}
 use Rattle.sj_core.specs.Fold.{Contents}
 use Rattle.sj_plan.specs.declared.parts.Parts.{Parts}
-use Rattle.sj_plan.specs.declared.rect.Rect.{Rect}
 use Rattle.sj_plan.specs.declared.paste.Paste.{Paste}
-use Rattle.sj_plan.specs.Parts.{Fits, IsPlace, places}
+use Rattle.sj_plan.specs.Parts.{places}
 use Rattle.sj_plan.specs.Paste.{is_first, pastes_of}
 use Rattle.sj_plan.specs.Rect.{child}
 use Rattle.sj_meaning.specs.declared.job.Init.{Init}
 use Rattle.sj_meaning.specs.declared.job.Init.TheVariants.{Values, Fill, Nothing}
-use Rattle.sj_meaning.specs.Statement.{Register, Operand, TaskLine}
+use Rattle.sj_meaning.specs.Statement.{Operand}
 use Rattle.sj_meaning.specs.Act.{Act}
 use Rattle.sj_meaning.specs.Act.{Register as Registers, Plan as Plans, Redux as Reduces, Task as Tasks, Print as Prints, Invalidate as Invalidates, Unregister as Unregisters}
-use Rattle.sj_meaning.specs.State.{RootState, is_valued, has_no_value, is_valued_child}
+use Rattle.sj_meaning.specs.State.{RootState, is_valued}
 use Rattle.sj_meaning.specs.Meaning.{with_reduction, with_elements, with_child, no_values, written_of}
-use Rattle.sj_meaning.specs.Numbers.{no_root, root_at, change_at, apply_at, put_all_at, run_task_at, operand_array_at}
-use Rattle.sj_base.specs.Array.{Array}
+use Rattle.sj_meaning.specs.Numbers.{no_root, root_at, change_at, apply_at, put_all_at, operand_array_at}
 use Rattle.sj_codelet.specs.Kernel.{out}
-use Rattle.sj_phases.specs.Block.{Block}
 use Rattle.sj_phases.specs.Plain.{Opens, direct_mode, direct, plain_rows, open_at}
 use Rattle.sj_phases.specs.Rows.{an_access, own_task}
 use Rattle.sj_steps.specs.Cells.{same_parts}
-use Rattle.sj_steps.specs.Laid.{Laid, handle_at, cell_of, take, with_root, with_print}
+use Rattle.sj_steps.specs.Laid.{Laid, cell_of, take, with_root, with_print}
 use Rattle.sj_steps.specs.Rows.{load_row, fill_row, paste_arguments, paste_row, deliver_row, load_rows}
 use Rattle.sj_steps.specs.SoundAt.{Lives, IsPlaced, IsSound}
 use Rattle.sj_steps.specs.Step.{by_number, active_cells, closing, plan_block, print_block, contributed, step_of}
 use Rattle.sj_steps.specs.Whole.{IsTaken, AreLaid, HaveCopies}
 use Rattle.sj_steps.proofs.Agrees.{Agrees, AreOpenChildren}
 use Rattle.sj_steps.proofs.Contents.{contents_before}
-use Rattle.sj_steps.proofs.Contributing.{fold-handles, laid-contributed, of_redux, roots-task}
+use Rattle.sj_steps.proofs.Contributing.{fold-handles, laid-contributed, of_redux, roots-copied, roots-task}
+use Rattle.sj_steps.proofs.Copying.{copies-as}
 use Rattle.sj_steps.proofs.Doing.{the_cell}
 use Rattle.sj_steps.proofs.Elements.{blank-child, no_values-blank}
 use Rattle.sj_steps.proofs.Filling.{after_delivers}
 use Rattle.sj_steps.proofs.Folding.{Stand, after_rows, contents-rows}
-use Rattle.sj_steps.proofs.Keeping.{HasRoot, HaveRoots, HasCells, root-kept, holds-later, lives-below, changed-here, changed-beside}
-use Rattle.sj_steps.proofs.Starting.{planned_rows, laid-registered, copies-registered, counted-registered, roots-registered, laid-planned, copies-planned, counted-planned, roots-planned}
-use Rattle.std.specs.List.{AllByRecursion}
+use Rattle.sj_steps.proofs.Keeping.{HasRoot, HaveRoots, HasCells, holds-changed, holds-later, lives-below, changed-here, changed-beside}
+use Rattle.sj_steps.proofs.Starting.{planned_rows, keeps-registered, keeps-planned}
+use Rattle.sj_steps.proofs.Taken.{laid-as, taken-as}
+pub use Rattle.sj_steps.proofs.Starting.{Keeps}
 
 -- ---- the tasks that no task line names are what they are without phases
 
 direct-each : {X : Type 0} (row : X → Lowered) → ((x : X) → direct (row x) ≡ row x) → (xs : List X) → each_of direct (each_of row xs) ≡ each_of row xs
-direct-each row h [] = refl
-direct-each row h (x ∷ xs) = λ i. h x i ∷ direct-each row h xs i
+direct-each row h xs = map-map direct row xs ∙ (λ i. each_of (λ x. h x i) xs)
 
 pub direct-loads : (i : Init) (d : Dims) (p : Parts) (cell : ℕ × ℕ → Cell) (line : Line) → each_of direct (load_rows i d p cell line) ≡ load_rows i d p cell line
 direct-loads (Values xs) d p cell line = direct-each (λ place. load_row xs d (child d p place) (cell place) line) (λ place. refl) (places p)
@@ -66,15 +67,10 @@ direct-loads Nothing d p cell line = refl
 direct-paste : (old new : ℕ × ℕ → Cell) (line : Line) (x : Paste) → direct (paste_row old new line x) ≡ paste_row old new line x
 direct-paste old new line x =
     let mk : Mode → Lowered = λ m. own_task PasteKernel (paste_arguments x) (an_access R (old x.from) ∷ an_access m (new x.to) ∷ []) line in
-    ap mk (by_first (is_first x))
-  where
-    by_first : (b : Bool) → direct_mode (cond b W RW) ≡ cond b W RW
-    by_first true = refl
-    by_first false = refl
+    ap mk (cond_both (is_first x) W RW (λ m. direct_mode m ≡ m) (λ e. refl) (λ e. refl))
 
 pub direct-delivers : (cell : ℕ × ℕ → Cell) (line : Line) (ps : List (ℕ × ℕ)) → each_of direct (each_of (λ c. deliver_row c line) (each_of cell ps)) ≡ each_of (λ place. deliver_row (cell place) line) ps
-direct-delivers cell line [] = refl
-direct-delivers cell line (p ∷ ps) = ap (λ ls. deliver_row (cell p) line ∷ ls) (direct-delivers cell line ps)
+direct-delivers cell line ps = map-map direct (λ (c : Cell). deliver_row c line) (each_of cell ps) ∙ map-map (λ (c : Cell). deliver_row c line) cell ps
 
 -- the tasks of a plan line
 pub plain-plan : (r : RootState) (old : List Cell) (C : Laid) (m : ℕ) (p : Parts) (line : Line) → plain_rows (plan_block r old C m p line) ≡ planned_rows r C m p line
@@ -90,28 +86,19 @@ plain-plan r old C m p line = by_tests (same_parts r.parts p) (is_valued r)
 
 -- ---- the statements that leave the cells
 
--- roots that hold what they held, in the same cells, somewhat later
-roots-stay : (q : Program) (C : Laid) (n : ℕ) (rs : List RootState) → HaveRoots q C n (contents_before q n) rs → HaveRoots q C (n + 0) (contents_before q (n + 0)) rs
-roots-stay q C n rs h = subst (λ k. HaveRoots q C k (contents_before q k) rs) (let e : n ≡ n + 0 = omega arith in e) h
+-- no tasks
+keeps-idle : (q : Program) (C : Laid) (rs : List RootState) (n : ℕ) → AreLaid C → HaveCopies q.workers C → HaveRoots q C n (contents_before q n) rs → length C.handles ≡ length rs → Keeps q C rs n []
+keeps-idle q C rs n a copies roots counted = record { laid = a; copies = copies; roots = subst (λ (k : ℕ). HaveRoots q C k (contents_before q k) rs) (sym (none_more n)) roots; counted = counted }
 
 -- a change of one root that keeps its plan, its dimensions and what its children hold
 changed-roots : (q : Program) (C : Laid) (n : ℕ) (rs : List RootState) (m : ℕ) (f : RootState → RootState) → Lives rs m → HaveRoots q C n (contents_before q n) rs → (HasRoot q C n (contents_before q n) m (root_at rs m) → HasRoot q C n (contents_before q n) m (f (root_at rs m))) → HaveRoots q C n (contents_before q n) (change_at f m rs)
-changed-roots q C n rs m f there has step u lives = elim (cases_eq u m) as (λ _. HasRoot q C n (contents_before q n) u (root_at (change_at f m rs) u)) [
-  | inl e ↦
-      subst (λ (r : RootState). HasRoot q C n (contents_before q n) u r) (sym (ap (root_at (change_at f m rs)) e ∙ changed-here f m rs there))
-      (subst (λ i. HasRoot q C n (contents_before q n) i (f (root_at rs m))) (sym e) (step (has m there)))
-  | inr other ↦
-      let same = changed-beside f m u rs other in
-      subst (λ (r : RootState). HasRoot q C n (contents_before q n) u r) (sym same) (has u (subst (λ (r : RootState). 0 < area r.dims) same lives))
-]
+changed-roots q C n rs m f there has step =
+    holds-changed q C n (contents_before q n) rs (change_at f m rs) m (f (root_at rs m)) (changed-here f m rs there) (λ u other. changed-beside f m u rs other) (λ lives. step (has m there)) (λ u other lives. has u lives)
 
 ended-roots : (q : Program) (C : Laid) (n : ℕ) (rs : List RootState) (m : ℕ) → Lives rs m → HaveRoots q C n (contents_before q n) rs → HaveRoots q C n (contents_before q n) (set rs m no_root)
-ended-roots q C n rs m there has u lives = elim (cases_eq u m) as (λ _. HasRoot q C n (contents_before q n) u (root_at (set rs m no_root) u)) [
-  | inl e ↦ absurd (omega (arith, lives, ap (λ (r : RootState). area r.dims) (ap (root_at (set rs m no_root)) e ∙ get_or-set_same rs m no_root no_root (lives-below rs m there))))
-  | inr other ↦
-      let same : root_at (set rs m no_root) u ≡ root_at rs u = get_or-set_other rs m u no_root no_root other in
-      subst (λ (r : RootState). HasRoot q C n (contents_before q n) u r) (sym same) (has u (subst (λ (r : RootState). 0 < area r.dims) same lives))
-]
+ended-roots q C n rs m there has =
+    holds-changed q C n (contents_before q n) rs (set rs m no_root) m no_root (get_or-set_same rs m no_root no_root (lives-below rs m there)) (λ u other. get_or-set_other rs m u no_root no_root other)
+    (λ lives. absurd (omega (arith, lives))) (λ u other lives. has u lives)
 
 blank-root : (q : Program) (C : Laid) (n : ℕ) (k : Contents) (m : ℕ) (r : RootState) → HasRoot q C n k m r → HasRoot q C n k m (with_elements (no_values r.dims) r)
 blank-root q C n k m r o =
@@ -127,82 +114,28 @@ blank-root q C n k m r o =
 reduced-root : (q : Program) (C : Laid) (n : ℕ) (k : Contents) (m : ℕ) (r : RootState) (by : Reduction) → HasRoot q C n k m r → HasRoot q C n k m (with_reduction by r)
 reduced-root q C n k m r by o = record { fits = o.fits; whole = o.whole; first = o.first; taken = o.taken; held = o.held }
 
--- ---- a print statement more
-
-taken-print : (C : Laid) (n : ℕ) (d : Dims) (s : Parts) (f : ℕ) → IsTaken (with_print C) n d s f → IsTaken C n d s f
-taken-print C n d s f t = record { dims = t.dims; first = t.first }
-
-print-taken : (C : Laid) (n : ℕ) (d : Dims) (s : Parts) (f : ℕ) → IsTaken C n d s f → IsTaken (with_print C) n d s f
-print-taken C n d s f t = record { dims = t.dims; first = t.first }
-
-laid-print : (C : Laid) → AreLaid C → AreLaid (with_print C)
-laid-print C a = record {
-  fits = λ n d s f t. a.fits n d s f (taken-print C n d s f t);
-  inside = λ n d s f t. a.inside n d s f (taken-print C n d s f t);
-  row = λ n d s f place t h. a.row n d s f place (taken-print C n d s f t) h;
-  apart = λ n m d e s t f g place other k l hp ho same. a.apart n m d e s t f g place other (taken-print C n d s f k) (taken-print C m e t g l) hp ho same;
-  sized = a.sized;
-  small = a.small;
-}
-
-copies-print : (workers : ℕ) (C : Laid) → HaveCopies workers C → HaveCopies workers (with_print C)
-copies-print workers C h = record {
-  inside = h.inside;
-  copy = h.copy;
-  apart = h.apart;
-  beside = λ c f w n d s g place e k t p same. h.beside c f w n d s g place e k (taken-print C n d s g t) p same;
-}
-
-roots-print : (q : Program) (C : Laid) (n m : ℕ) (k l : Contents) (rs : List RootState) → n ≤ m → l ≡ k → HaveRoots q C n k rs → HaveRoots q (with_print C) m l rs
-roots-print q C n m k l rs more same has u lives =
-    let b = has u lives in
-    let r = root_at rs u in
-    subst (λ (x : Contents). HasRoot q (with_print C) m x u r) (sym same) (root-kept q C (with_print C) n m k k u r b (print-taken C u r.dims r.parts b.first b.taken) more (λ place inside. refl))
-
 -- ---- a task
 
 length-put : (os : List (Operand ℕ)) (xs : List Array) (rs : List RootState) → length (put_all_at os xs rs) ≡ length rs
-length-put [] xs rs = refl
-length-put (o ∷ os) [] rs = refl
 length-put (o ∷ os) (a ∷ xs) rs = length-put os xs (change_at (with_child o.place a) o.name rs) ∙ length-set rs o.name (with_child o.place a (root_at rs o.name))
+length-put os xs rs = refl
 
 -- ---- one statement more
-
--- what of a statement's agreement isn't about phases
-pub record Keeps (q : Program) (C : Laid) (rs : List RootState) (n : ℕ) (ls : List Lowered) : Type 0 where
-  pub laid : AreLaid C
-  pub copies : HaveCopies q.workers C
-  roots : HaveRoots q C (n + length ls) (contents_before q (n + length ls)) rs
-  counted : length C.handles ≡ length rs
 
 pub keeps-step : (has : Kernel → Bool) (q : Program) (C : Laid) (n : ℕ) (rs : List RootState) (line : Line) (a : Act ℕ) → IsSound has rs a → AreLaid C → HaveCopies q.workers C → HaveRoots q C n (contents_before q n) rs → length C.handles ≡ length rs
     → let x = step_of q.workers (by_number rs) C line a in HasCells q x.laid → Stand q n (plain_rows x.block) → Keeps q x.laid (apply_at a rs) n (plain_rows x.block)
 keeps-step has q C n rs line (Registers r) s a copies roots counted cells stand =
-    let m = length C.handles in
-    let same = direct-loads r.init r.dims r.parts (cell_of (take m r.parts (with_root r.dims C)) m r.parts) line in
-    subst (Keeps q (take m r.parts (with_root r.dims C)) (apply_at (Registers r) rs) n) (sym same) (record {
-      laid = laid-registered q C n rs line r s a copies counted roots;
-      copies = copies-registered q C n rs line r s a copies counted roots;
-      roots = roots-registered q C n rs line r s a copies counted roots cells (subst (Stand q n) same stand);
-      counted = counted-registered q C n rs line r s a copies counted roots;
-    })
+    let D = take (length C.handles) r.parts (with_root r.dims C) in
+    let same = direct-loads r.init r.dims r.parts (cell_of D (length C.handles) r.parts) line in
+    subst (Keeps q D (apply_at (Registers r) rs) n) (sym same) (keeps-registered q C n rs line r s a copies counted roots cells (subst (Stand q n) same stand))
 keeps-step has q C n rs line (Plans m p) s a copies roots counted cells stand =
     let D = take m p C in
     let same = plain-plan (root_at rs m) (active_cells (by_number rs) C m) D m p line in
-    subst (Keeps q D (apply_at (Plans m p) rs) n) (sym same) (record {
-      laid = laid-planned q C n rs line m p s.0 s.1 a copies roots counted;
-      copies = copies-planned q C n rs line m p s.0 s.1 a copies roots counted;
-      roots = roots-planned q C n rs line m p s.0 s.1 a copies roots counted cells (subst (Stand q n) same stand);
-      counted = counted-planned q C n rs line m p s.0 s.1 a copies roots counted;
-    })
-keeps-step has q C n rs line (Reduces m by) s a copies roots counted cells stand = record {
-  laid = a;
-  copies = copies;
-  roots = roots-stay q C n (change_at (with_reduction by) m rs) (changed-roots q C n rs m (with_reduction by) s.0 roots (reduced-root q C n (contents_before q n) m (root_at rs m) by));
-  counted = counted ∙ sym (length-set rs m (with_reduction by (root_at rs m)));
-}
+    subst (Keeps q D (apply_at (Plans m p) rs) n) (sym same) (keeps-planned q C n rs line m p s.0 s.1 a copies roots counted cells (subst (Stand q n) same stand))
+keeps-step has q C n rs line (Reduces m by) s a copies roots counted cells stand =
+    keeps-idle q C (change_at (with_reduction by) m rs) n a copies (changed-roots q C n rs m (with_reduction by) s.0 roots (reduced-root q C n (contents_before q n) m (root_at rs m) by)) (counted ∙ sym (length-set rs m (with_reduction by (root_at rs m))))
 keeps-step has q C n rs line (Tasks t) s a copies roots counted cells stand =
-    let placed = firsts (contributed t) (of_redux (IsPlaced rs) t.operands s.placed) in
+    let placed = each-weaker (λ (u : Operand ℕ). IsPlaced rs u × (is_redux u.mode ≡ true)) (IsPlaced rs) (λ u h. h.0) (contributed t) (of_redux (IsPlaced rs) t.operands s.placed) in
     let laid = laid-contributed q C n (contents_before q n) rs (contributed t) a copies roots placed in
     record {
       laid = laid.0;
@@ -210,34 +143,23 @@ keeps-step has q C n rs line (Tasks t) s a copies roots counted cells stand =
       roots = roots-task has q C n rs t line s a copies roots cells stand;
       counted = ap length (fold-handles q.workers (each_of (the_cell rs C) (contributed t)) C) ∙ counted ∙ sym (length-put (written_of t.operands) (out t.codelet t.args (each_of (operand_array_at rs) t.operands)) rs);
     }
-  where
-    firsts : (us : List (Operand ℕ)) → AllByRecursion (λ o. IsPlaced rs o × (is_redux o.mode ≡ true)) us → AllByRecursion (IsPlaced rs) us
-    firsts [] h = tt
-    firsts (u ∷ us) h = (h.0.0, firsts us h.1)
 keeps-step has q C n rs line (Prints m) s a copies roots counted cells stand =
     let r = root_at rs m in
     let cell = cell_of C m r.parts in
     let same = direct-delivers cell line (places r.parts) in
     let ls = plain_rows (print_block m r (active_cells (by_number rs) C m) C.prints line) in
     let left : contents_before q (n + length ls) ≡ contents_before q n = contents-rows q n ls stand ∙ ap (after_rows q (contents_before q n)) same ∙ after_delivers q (contents_before q n) cell line (places r.parts) in
+    let back = λ (u : ℕ) (d : Dims) (s : Parts) (f : ℕ) (t : IsTaken (with_print C) u d s f). taken-as (with_print C) C u u d s f refl t in
     record {
-      laid = laid-print C a;
-      copies = copies-print q.workers C copies;
-      roots = roots-print q C n (n + length ls) (contents_before q n) (contents_before q (n + length ls)) rs (omega arith) left roots;
+      laid = laid-as C (with_print C) back (omega arith) (λ u h. refl) a.sized a.small a;
+      copies = copies-as q.workers C C.handles (C.prints + 1) back copies;
+      roots = subst (λ (k : Contents). HaveRoots q (with_print C) (n + length ls) k rs) (sym left) (holds-later q (with_print C) n (n + length ls) (contents_before q n) rs (omega arith) (roots-copied q C (with_print C) n (contents_before q n) rs refl roots));
       counted = counted;
     }
-keeps-step has q C n rs line (Invalidates m) s a copies roots counted cells stand = record {
-  laid = a;
-  copies = copies;
-  roots = roots-stay q C n (change_at (λ r. with_elements (no_values r.dims) r) m rs) (changed-roots q C n rs m (λ r. with_elements (no_values r.dims) r) s roots (blank-root q C n (contents_before q n) m (root_at rs m)));
-  counted = counted ∙ sym (length-set rs m (with_elements (no_values (root_at rs m).dims) (root_at rs m)));
-}
-keeps-step has q C n rs line (Unregisters m) s a copies roots counted cells stand = record {
-  laid = a;
-  copies = copies;
-  roots = roots-stay q C n (set rs m no_root) (ended-roots q C n rs m s roots);
-  counted = counted ∙ sym (length-set rs m no_root);
-}
+keeps-step has q C n rs line (Invalidates m) s a copies roots counted cells stand =
+    keeps-idle q C (change_at (λ r. with_elements (no_values r.dims) r) m rs) n a copies (changed-roots q C n rs m (λ r. with_elements (no_values r.dims) r) s roots (blank-root q C n (contents_before q n) m (root_at rs m))) (counted ∙ sym (length-set rs m (with_elements (no_values (root_at rs m).dims) (root_at rs m))))
+keeps-step has q C n rs line (Unregisters m) s a copies roots counted cells stand =
+    keeps-idle q C (set rs m no_root) n a copies (ended-roots q C n rs m s roots) (counted ∙ sym (length-set rs m no_root))
 
 -- after one statement more
 pub agrees-step : (has : Kernel → Bool) (q : Program) (C : Laid) (n : ℕ) (rs : List RootState) (was : Opens) (line : Line) (a : Act ℕ) → IsSound has rs a → Agrees q C rs n was
