@@ -246,9 +246,9 @@ fn plans_and_children_are_kept(rt: HostRuntime) -> Result<(), Fail> {
         return Err(Fail::from("an operand"));
     };
     assert!(rt; operand.root == Root(1) && operand.place.0 == 2 && operand.place.1 == 1);
-    let Act::Plan(root, parts) = &plan.act else {
+    let Act::Plan(root, parts, valued) = &plan.act else {
         return Err(Fail::from("a plan"));
     };
-    assert!(rt; *root == Root(1) && parts.r == 1 && parts.c == 4);
+    assert!(rt; *root == Root(1) && parts.r == 1 && parts.c == 4 && *valued);
     Ok(())
 }

@@ -151,13 +151,12 @@ fn lines_on_reductions_without_a_reason_are_read(rt: HostRuntime) {
 
 #[test]
 fn a_reduction_and_a_contribution_are_kept_with_their_roots(rt: HostRuntime) -> Result<(), Fail> {
-    let text =
-        "starjob 1\nvector x 1 values 1\nvector s 1 none\nredux s plus\ntask sum x:R s:REDUX\n";
+    let text = "starjob 1\nvector x 1 values 1\nvector s 1 none\nredux s plus\ntask sum x:R s:REDUX\ntask sum x:R s:REDUX\n";
     let Ok(job) = read(rt.alloc(), text.as_bytes(), &Ring) else {
         return Err(Fail::from("a job"));
     };
-    let [_, _, redux, task] = job.statements.items() else {
-        return Err(Fail::from("four statements"));
+    let [_, _, redux, task, more] = job.statements.items() else {
+        return Err(Fail::from("five statements"));
     };
     let Act::Redux(root, by) = &redux.act else {
         return Err(Fail::from("a reduction"));
@@ -170,5 +169,9 @@ fn a_reduction_and_a_contribution_are_kept_with_their_roots(rt: HostRuntime) -> 
         return Err(Fail::from("two operands"));
     };
     assert!(rt; x.mode == Mode::R && s.mode == Mode::Redux && s.root == Root(1));
+    let Act::Task(more) = &more.act else {
+        return Err(Fail::from("another task"));
+    };
+    assert!(rt; !task.valued && more.valued);
     Ok(())
 }
