@@ -26,9 +26,6 @@ none-yet p xs i d lt none other = filter_more p xs i d lt ∙ (λ k. none k ++ c
 pub none-at-all : {X : Type 0} (p : X → Bool) (xs : List X) (i : ℕ) → length xs ≤ i → filter p (take i xs) ≡ [] → filter p xs ≡ []
 none-at-all p xs i past none = ap (filter p) (sym (take_all i xs past)) ∙ none
 
-pub not-some : {X : Type 0} (x : X) (xs : List X) → x ∷ xs ≡ [] → ⊥
-not-some x xs e = absurd (omega (arith, ap length e))
-
 pub first-found : {X : Type 0} (p : X → Bool) (xs : List X) (i : ℕ) (d : X) → i < length xs → filter p (take i xs) ≡ [] → p (get_or xs i d) ≡ true → (rest : List X) × (filter p xs ≡ get_or xs i d ∷ rest)
 first-found p xs i d lt none here = (
   filter p (drop (i + 1) xs),
