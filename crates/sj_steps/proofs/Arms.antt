@@ -90,14 +90,10 @@ goes old new line rs qs C D E b at follows prints does = record {
   workers = does.workers;
 }
 
--- the number of print statements stays
-pub prints-kept : (old new : Steps) (line : Line) (rs : List RootState) (C D : Laid) (E : Expansion) (f : Expansion → Expansion) → StepsAt old rs C E → Does old.phases new.phases line f → new.prints ≡ old.prints → D.prints ≡ C.prints → new.phases.over ≡ None → new.prints ≡ D.prints
-prints-kept old new line rs C D E f at does same kept none = same ∙ at.prints (early-before old.phases new.phases line f E at.phases does none) ∙ sym kept
-
 -- what comes of a statement that is no print statement
 pub goes-kept : (old new : Steps) (line : Line) (rs qs : List RootState) (C D : Laid) (E : Expansion) (b : Block) → StepsAt old rs C E → Follows new.layout qs D → Does old.phases new.phases line (λ F. expanded old.phases.workers F b) → new.prints ≡ old.prints → D.prints ≡ C.prints → Goes old new line qs D (expanded old.phases.workers E b)
 goes-kept old new line rs qs C D E b at follows does same kept =
-    goes old new line rs qs C D E b at follows (prints-kept old new line rs C D E (λ F. expanded old.phases.workers F b) at does same kept) does
+    goes old new line rs qs C D E b at follows (λ none. same ∙ at.prints (early-before old.phases new.phases line (λ F. expanded old.phases.workers F b) E at.phases does none) ∙ sym kept) does
 
 -- ---- roots that keep their dimensions, plans and reductions
 
