@@ -1,9 +1,8 @@
 -- Each arm of the code does what the statement's block says.
-use Rattle.std.proofs.Common.{◌≡◌, ℕ, ◌+◌, ◌<◌, ◌≤◌, Bool, true, false, cond, Option, Some, None, List, [], ◌∷◌, ◌++◌, length, map as each_of, fold, get_or, refl, sym, ap, subst, ◌∙◌, inl, inr, arith, get_or-set_same, get_or-set_other}
+use Rattle.std.proofs.Common.{◌≡◌, ℕ, ◌+◌, ◌<◌, Option, Some, None, List, [], ◌∷◌, ◌++◌, length, fold, refl, sym, ap, subst, ◌∙◌, inl, inr, arith, get_or-set_same, get_or-set_other}
 use Rattle.std.specs.Prelude.{set}
-use Rattle.std.specs.List.{range_with_len}
 use Rattle.std.proofs.lemmas.Bool.{cases_eq, cases_lt}
-use Rattle.std.proofs.lemmas.List.{get_or_past, length-set}
+use Rattle.std.proofs.lemmas.List.{set_past}
 use Rattle.std.proofs.lemmas.List.Sums.{fold-append}
 use Rattle.sj_base.specs.declared.ids.Cell.{Cell}
 use Rattle.sj_base.specs.declared.ids.Line.{Line}
@@ -20,10 +19,10 @@ use Rattle.sj_phases.specs.Block.{Block}
 use Rattle.sj_phases.specs.Does.{IsAt, HasAt, over_after, Does}
 use Rattle.sj_phases.specs.Expand.{Expansion, closed, opened, expanded, with_own}
 use Rattle.sj_phases.proofs.Blocks.{goes-closed, goes-opened}
-use Rattle.sj_phases.proofs.Doing.{does-then, does-as, does-where, does-nothing, goes-own, own-nothing}
+use Rattle.sj_phases.proofs.Doing.{does-then, does-as, does-nothing, goes-own, own-nothing}
 use Rattle.sj_phases.proofs.Logging.{none_isn't}
 use Rattle.sj_steps.specs.declared.steps.Steps.{Steps}
-use Rattle.sj_steps.specs.Adds.{cells_after, StepsAt, Goes}
+use Rattle.sj_steps.specs.Adds.{StepsAt, Goes}
 use Rattle.sj_steps.specs.Follows.{Follows}
 use Rattle.sj_steps.specs.Laid.{Laid}
 use Rattle.sj_steps.specs.SoundAt.{Lives}
@@ -31,11 +30,11 @@ use Rattle.sj_steps.specs.SoundAt.{Lives}
 -- ---- what was done before there were too many tasks
 
 pub early-before : (a b : Expander) (line : Line) (f : Expansion → Expansion) (E : Expansion) → IsAt a E → Does a b line f → b.over ≡ None → a.over ≡ None
-early-before a b line f E at d none = by_over a.over refl
+early-before a b line f E at d none = by_over a.over (sym none ∙ d.over E at)
   where
-    by_over : (o : Option Line) → a.over ≡ o → o ≡ None
+    by_over : (o : Option Line) → None ≡ over_after o line (f E) → o ≡ None
     by_over None e = refl
-    by_over (Some first) e = absurd (none_isn't first (sym none ∙ d.over E at ∙ ap (λ o. over_after o line (f E)) e))
+    by_over (Some first) e = absurd (none_isn't first e)
 
 -- another change, which is the same unless there were too many tasks before
 pub does-if : (a b : Expander) (line : Line) (f g : Expansion → Expansion) → (a.over ≡ None → (E : Expansion) → f E ≡ g E) → Does a b line f → Does a b line g
@@ -91,41 +90,36 @@ goes old new line rs qs C D E b at follows prints does = record {
   workers = does.workers;
 }
 
--- the number of print statements stays
-pub prints-kept : (old new : Steps) (line : Line) (rs : List RootState) (C D : Laid) (E : Expansion) (f : Expansion → Expansion) → StepsAt old rs C E → Does old.phases new.phases line f → new.prints ≡ old.prints → D.prints ≡ C.prints → new.phases.over ≡ None → new.prints ≡ D.prints
-prints-kept old new line rs C D E f at does same kept none = same ∙ at.prints (early-before old.phases new.phases line f E at.phases does none) ∙ sym kept
+-- what comes of a statement that is no print statement
+pub goes-kept : (old new : Steps) (line : Line) (rs qs : List RootState) (C D : Laid) (E : Expansion) (b : Block) → StepsAt old rs C E → Follows new.layout qs D → Does old.phases new.phases line (λ F. expanded old.phases.workers F b) → new.prints ≡ old.prints → D.prints ≡ C.prints → Goes old new line qs D (expanded old.phases.workers E b)
+goes-kept old new line rs qs C D E b at follows does same kept =
+    goes old new line rs qs C D E b at follows (λ none. same ∙ at.prints (early-before old.phases new.phases line (λ F. expanded old.phases.workers F b) E at.phases does none) ∙ sym kept) does
 
 -- ---- roots that keep their dimensions, plans and reductions
+
+-- after a change of one root each is as it was, or as the change makes it
+pub by_changed : (f : RootState → RootState) (n : ℕ) (rs : List RootState) (m : ℕ) (P : RootState → Type 0) → P (root_at rs m) → P (f (root_at rs m)) → P (root_at (change_at f n rs) m)
+by_changed f n rs m P was now = elim (cases_eq m n) as (λ _. P (root_at (change_at f n rs) m)) [
+  | inr other ↦ subst P (sym (get_or-set_other rs n m (f (root_at rs n)) no_root other)) was
+  | inl e ↦ elim (cases_lt n (length rs)) as (λ _. P (root_at (change_at f n rs) m)) [
+    | inl lt ↦ subst P (sym (ap (root_at (change_at f n rs)) e ∙ get_or-set_same rs n (f (root_at rs n)) no_root lt ∙ ap (λ i. f (root_at rs i)) (sym e))) now
+    | inr le ↦ subst P (ap (λ qs. root_at qs m) (sym (set_past rs n (f (root_at rs n)) le))) was
+  ]
+]
 
 pub record Keeps (rs qs : List RootState) (m : ℕ) : Type 0 where
   pub dims : (root_at qs m).dims ≡ (root_at rs m).dims
   pub parts : (root_at qs m).parts ≡ (root_at rs m).parts
   pub reduction : (root_at qs m).reduction ≡ (root_at rs m).reduction
 
-keeps-itself : (rs : List RootState) (m : ℕ) → Keeps rs rs m
-keeps-itself rs m = record { dims = refl; parts = refl; reduction = refl }
-
 pub keeps-change : (f : RootState → RootState) (n : ℕ) (rs : List RootState) → ((r : RootState) → ((f r).dims ≡ r.dims) × ((f r).parts ≡ r.parts) × ((f r).reduction ≡ r.reduction)) → (m : ℕ) → Keeps rs (change_at f n rs) m
-keeps-change f n rs h m = elim (cases_eq m n) as (λ _. Keeps rs (change_at f n rs) m) [
-  | inr other ↦ is (root_at rs m) (get_or-set_other rs n m (f (root_at rs n)) no_root other) (refl, refl, refl)
-  | inl e ↦ elim (cases_lt n (length rs)) as (λ _. Keeps rs (change_at f n rs) m) [
-    | inl lt ↦
-        let k = h (root_at rs n) in
-        is (f (root_at rs n)) (ap (root_at (change_at f n rs)) e ∙ get_or-set_same rs n (f (root_at rs n)) no_root lt)
-        (k.0 ∙ ap (λ i. (root_at rs i).dims) (sym e), k.1 ∙ ap (λ i. (root_at rs i).parts) (sym e), k.2 ∙ ap (λ i. (root_at rs i).reduction) (sym e))
-    | inr le ↦
-        let now = get_or_past (change_at f n rs) m no_root (omega (arith, le, e, length-set rs n (f (root_at rs n)))) in
-        let was = get_or_past rs m no_root (omega (arith, le, e)) in
-        is no_root now (ap (λ (r : RootState). r.dims) (sym was), ap (λ (r : RootState). r.parts) (sym was), ap (λ (r : RootState). r.reduction) (sym was))
-  ]
-]
-  where
-    is : (r : RootState) → root_at (change_at f n rs) m ≡ r → (r.dims ≡ (root_at rs m).dims) × (r.parts ≡ (root_at rs m).parts) × (r.reduction ≡ (root_at rs m).reduction) → Keeps rs (change_at f n rs) m
-    is r e k = record { dims = ap (λ (x : RootState). x.dims) e ∙ k.0; parts = ap (λ (x : RootState). x.parts) e ∙ k.1; reduction = ap (λ (x : RootState). x.reduction) e ∙ k.2 }
+keeps-change f n rs h m =
+    let k = by_changed f n rs m (λ (r : RootState). (r.dims ≡ (root_at rs m).dims) × (r.parts ≡ (root_at rs m).parts) × (r.reduction ≡ (root_at rs m).reduction)) (refl, refl, refl) (h (root_at rs m)) in
+    record { dims = k.0; parts = k.1; reduction = k.2 }
 
 pub keeps-put : (os : List (Operand ℕ)) (xs : List Array) (rs : List RootState) (m : ℕ) → Keeps rs (put_all_at os xs rs) m
-keeps-put [] xs rs m = keeps-itself rs m
-keeps-put (o ∷ os) [] rs m = keeps-itself rs m
+keeps-put [] xs rs m = record { dims = refl; parts = refl; reduction = refl }
+keeps-put (o ∷ os) [] rs m = record { dims = refl; parts = refl; reduction = refl }
 keeps-put (o ∷ os) (a ∷ xs) rs m =
     let here = keeps-change (with_child o.place a) o.name rs (λ r. (refl, refl, refl)) m in
     let later = keeps-put os xs (change_at (with_child o.place a) o.name rs) m in
@@ -136,9 +130,5 @@ kept-of rs qs m k lives = (subst (λ d. 0 < area d) k.dims lives, k.parts, k.red
 
 -- a root that is no more
 pub kept-end : (rs : List RootState) (n m : ℕ) → n < length rs → Lives (set rs n no_root) m → Lives rs m × ((root_at (set rs n no_root) m).parts ≡ (root_at rs m).parts) × ((root_at (set rs n no_root) m).reduction ≡ (root_at rs m).reduction)
-kept-end rs n m lt lives = elim (cases_eq m n) as (λ _. Lives rs m × ((root_at (set rs n no_root) m).parts ≡ (root_at rs m).parts) × ((root_at (set rs n no_root) m).reduction ≡ (root_at rs m).reduction)) [
-  | inl e ↦ absurd (omega (arith, lives, ap (λ (r : RootState). area r.dims) (ap (root_at (set rs n no_root)) e ∙ get_or-set_same rs n no_root no_root lt)))
-  | inr other ↦
-      let now : root_at (set rs n no_root) m ≡ root_at rs m = get_or-set_other rs n m no_root no_root other in
-      (subst (λ (r : RootState). 0 < area r.dims) now lives, ap (λ (r : RootState). r.parts) now, ap (λ (r : RootState). r.reduction) now)
-]
+kept-end rs n m lt lives =
+    by_changed (λ r. no_root) n rs m (λ (r : RootState). 0 < area r.dims → Lives rs m × (r.parts ≡ (root_at rs m).parts) × (r.reduction ≡ (root_at rs m).reduction)) (λ l. (l, refl, refl)) (λ l. absurd (omega (arith, l))) lives

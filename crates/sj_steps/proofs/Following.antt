@@ -1,21 +1,18 @@
 -- The statements of a job, one after another: the cells of the program without phases agree with the roots before each.
-use Rattle.std.proofs.Common.{◌≡◌, ℕ, ◌+◌, ◌≤◌, Bool, List, [], ◌∷◌, ◌++◌, length, map, fold, refl, sym, ap, subst, ◌∙◌, arith, length-append}
-use Rattle.std.specs.List.{flat_map}
-use Rattle.std.proofs.lemmas.List.{append-nil}
+use Rattle.std.proofs.Common.{ℕ, ◌+◌, Bool, List, [], ◌∷◌, ◌++◌, length, map, fold}
 use Rattle.sj_base.specs.declared.ids.Cell.{Cell}
-use Rattle.sj_base.specs.declared.program.CellInfo.{CellInfo}
 use Rattle.sj_base.specs.declared.program.Lowered.{Lowered}
 use Rattle.sj_base.specs.declared.program.Program.{Program}
 use Rattle.sj_codelet.specs.declared.kernel.Kernel.{Kernel}
 use Rattle.sj_base.specs.declared.ids.Line.{Line}
 use Rattle.sj_meaning.specs.Act.{Act, Statement}
-use Rattle.sj_meaning.specs.Act.{Register as Registers, Plan as Plans, Redux as Reduces, Task as Tasks, Print as Prints, Invalidate as Invalidates, Unregister as Unregisters}
+use Rattle.sj_meaning.specs.Act.{Register as Registers, Plan as Plans, Task as Tasks}
 use Rattle.sj_meaning.specs.State.{RootState}
 use Rattle.sj_meaning.specs.Numbers.{apply_at}
 use Rattle.sj_phases.specs.Plain.{Opens, plain_rows, open_at}
-use Rattle.sj_steps.specs.Laid.{Laid, take, with_root, with_copies}
+use Rattle.sj_steps.specs.Laid.{Laid, with_root, with_copies}
 use Rattle.sj_steps.specs.SoundAt.{IsSound, AreSound}
-use Rattle.sj_steps.specs.Step.{Lookup, by_number, operand_cell, contributed, Step, step_of, steps_from}
+use Rattle.sj_steps.specs.Step.{Lookup, by_number, operand_cell, contributed, step_of}
 use Rattle.sj_steps.proofs.Agrees.{Agrees, AreOpenChildren}
 use Rattle.sj_steps.proofs.Copying.{copies-more, take-more}
 use Rattle.sj_steps.proofs.Folding.{Stand, stand-append}
@@ -32,11 +29,8 @@ copied-grows workers (c ∷ cs) C = grows-trans C.rows (with_copies workers C c)
 pub step-grows : {N : Type 0} (workers : ℕ) (L : Lookup N) (C : Laid) (line : Line) (a : Act N) → Grows C.rows (step_of workers L C line a).laid.rows
 step-grows workers L C line (Registers r) = take-more (with_root r.dims C) (length C.handles) r.parts
 step-grows workers L C line (Plans q p) = take-more C (L.number q) p
-step-grows workers L C line (Reduces q by) = grows-refl C.rows
 step-grows workers L C line (Tasks t) = copied-grows workers (map (operand_cell L C) (contributed t)) C
-step-grows workers L C line (Prints q) = grows-refl C.rows
-step-grows workers L C line (Invalidates q) = grows-refl C.rows
-step-grows workers L C line (Unregisters q) = grows-refl C.rows
+step-grows workers L C line a = grows-refl C.rows
 
 -- the cells after statements
 abbrev pub laid_from : ℕ → List RootState → Laid → List (Statement ℕ) → Laid

@@ -1,11 +1,9 @@
 -- The code's layout is that of the definition, after a root takes a plan or a cell gets its partial copies.
-use Rattle.std.proofs.Common.{◌≡◌, ℕ, ◌+◌, ◌*◌, ◌<◌, ◌≤◌, Bool, true, false, cond, ◌&&◌, Option, Some, None, List, [], ◌∷◌, ◌++◌, length, map as each_of, fold, get_or, refl, sym, ap, subst, ◌∙◌, inl, inr, arith, length-append, get_or-set_same, get_or-set_other}
+use Rattle.std.proofs.Common.{◌≡◌, ℕ, zero, suc, ◌+◌, ◌*◌, ◌<◌, ◌≤◌, cond, ◌&&◌, Option, Some, None, List, [], ◌∷◌, ◌++◌, length, map as each_of, fold, get_or, refl, sym, ap, subst, ◌∙◌, inl, inr, arith, length-append, get_or-set_same, get_or-set_other}
 use Rattle.std.specs.Prelude.{nat_eq, replicate, set, unwrap_or}
-use Rattle.std.specs.Option.{is_some}
 use Rattle.std.proofs.Math.Seq.{get_or-append_seam}
-use Rattle.std.proofs.lemmas.Bool.{cases_eq, cases_lt}
-use Rattle.std.proofs.lemmas.Bool.Decides.{Decides-eqb}
-use Rattle.std.proofs.lemmas.List.{get_or_append_left, get_or_past, length-set, set-append_left}
+use Rattle.std.proofs.lemmas.Bool.{cases_eq, eq-eqb, ne_eqb}
+use Rattle.std.proofs.lemmas.List.{get_or_append_left, length-set, set-append_left}
 use Rattle.std.proofs.lemmas.Simd.{map-map}
 use Rattle.indexmap.specs.IndexMap.{get}
 use Rattle.sj_base.specs.declared.ids.Cell.{Cell}
@@ -21,48 +19,38 @@ use Rattle.sj_meaning.specs.declared.job.Operand.{Operand}
 use Rattle.sj_meaning.specs.Statement.{Register}
 use Rattle.sj_meaning.specs.Meaning.{registered_root, with_parts}
 use Rattle.sj_meaning.specs.State.{RootState}
-use Rattle.sj_meaning.specs.Numbers.{root_at, no_root, change_at, operand_at}
-use Rattle.sj_meaning.specs.Table.{a_root}
+use Rattle.sj_meaning.specs.Numbers.{root_at, change_at, operand_at}
 use Rattle.sj_phases.specs.Expand.{most}
 use Rattle.sj_steps.specs.declared.layout.Active.{Active}
 use Rattle.sj_steps.specs.declared.layout.Layout.{Layout}
 use Rattle.sj_steps.specs.declared.layout.Taken.{Taken}
 use Rattle.sj_steps.specs.declared.rows.Placed.{Placed}
-use Rattle.sj_steps.specs.Cells.{rect_cell, child_cell, cells_from, copy_info, with_partials}
+use Rattle.sj_steps.specs.Cells.{rect_cell, cells_from, same_parts, copy_info, with_partials}
 use Rattle.sj_steps.specs.Follows.{taken, same_taken, Lays, IsActive, AreActive, Follows, no_active, active_at, HasCells, IsInside, cell_by, cells_by}
-use Rattle.sj_steps.specs.Laid.{Laid, Handle, handle_of, handle_at, first_cell, cell_of, taking, take, with_root, info_at, first_copy, with_copies}
+use Rattle.sj_steps.specs.Laid.{Laid, Handle, handle_of, handle_at, first_cell, taking, take, with_root, info_at, first_copy, with_copies}
 use Rattle.sj_steps.specs.SoundAt.{Lives}
 use Rattle.sj_steps.specs.Step.{by_number, operand_cell, active_cells}
-use Rattle.sj_steps.specs.Whole.{IsTaken, IsWhole}
+use Rattle.sj_steps.specs.Whole.{IsWhole}
 use Rattle.sj_steps.proofs.Copying.{by_copies, copied-length, first-new, first-old}
 use Rattle.sj_steps.proofs.Keeping.{lives-below, changed-here, changed-beside}
+use Rattle.sj_steps.proofs.Places.{parts-itself}
 use Rattle.sj_steps.proofs.Starting.{pushed-there, pushed-beside}
-use Rattle.sj_steps.proofs.Taken.{none_isn't, some_is, by_first, Took, took-there, took-other, longer, root-keeps, root-there, take-keeps, take-handles}
+use Rattle.sj_steps.proofs.Taken.{none_isn't, some_is, by_first, took-there, took-other, longer, take-keeps, take-handles}
 
 -- ---- a plan more
-
-take-old : (C : Laid) (n : ℕ) (p : Parts) (f : ℕ) → (handle_at C n).first p ≡ Some f → take n p C ≡ C
-take-old C n p f e = ap (λ (o : Option ℕ). cond (is_some o) C (taking n p C)) e
-
-take-new : (C : Laid) (n : ℕ) (p : Parts) → (handle_at C n).first p ≡ None → take n p C ≡ taking n p C
-take-new C n p e = ap (λ (o : Option ℕ). cond (is_some o) C (taking n p C)) e
 
 -- a plan that was taken before
 pub lays-old : (l : Layout) (C : Laid) (n : ℕ) (p : Parts) (f : ℕ) → Lays l C → get same_taken l.firsts (taken n p) ≡ Some f → Lays l (take n p C) × ((handle_at (take n p C) n).first p ≡ Some f)
 lays-old l C n p f s there =
     let e = sym (s.firsts n p) ∙ there in
-    let same = take-old C n p f e in
-    (subst (Lays l) (sym same) s, ap (λ (D : Laid). (handle_at D n).first p) same ∙ e)
+    by_first C n p (λ (D : Laid). Lays l D × ((handle_at D n).first p ≡ Some f)) (λ g had. (s, e)) (λ none. absurd (none_isn't f (sym none ∙ e)))
 
-equal : (n : ℕ) → nat_eq n n ≡ true
-equal n = (Decides-eqb n n).1 refl
-
-unequal : (m n : ℕ) → (m ≡ n → ⊥) → nat_eq m n ≡ false
-unequal m n h = by_test (nat_eq m n) refl
-  where
-    by_test : (b : Bool) → nat_eq m n ≡ b → b ≡ false
-    by_test false e = refl
-    by_test true e = absurd (h ((Decides-eqb m n).0 e))
+-- the plans of a root afterwards
+first-after : (C : Laid) (n : ℕ) (p : Parts) → n < length C.handles → (m : ℕ) (q : Parts) → (handle_at (taking n p C) m).first q ≡ cond (nat_eq n m && same_parts p q) (Some (length C.rows)) ((handle_at C m).first q)
+first-after C n p lt m q = elim (cases_eq n m) as (λ _. (handle_at (taking n p C) m).first q ≡ cond (nat_eq n m && same_parts p q) (Some (length C.rows)) ((handle_at C m).first q)) [
+  | inl e ↦ ap (λ (h : Handle). h.first q) (ap (handle_at (taking n p C)) (sym e) ∙ took-there C n p lt) ∙ (λ i. cond (sym (eq-eqb n m e) i && same_parts p q) (Some (length C.rows)) ((handle_at C (e i)).first q))
+  | inr other ↦ ap (λ (h : Handle). h.first q) (took-other C n p m (λ e. other (sym e))) ∙ (λ i. cond (sym (ne_eqb n m other) i && same_parts p q) (Some (length C.rows)) ((handle_at C m).first q))
+]
 
 -- a plan that is new
 pub lays-new : (old new : Layout) (C : Laid) (r : RootNumber) (d : Dims) (p : Parts) (first : ℕ) → Lays old C → r.0 < length C.handles → (handle_at C r.0).dims ≡ d → get same_taken old.firsts (taken r.0 p) ≡ None
@@ -70,53 +58,60 @@ pub lays-new : (old new : Layout) (C : Laid) (r : RootNumber) (d : Dims) (p : Pa
     → Lays new (take r.0 p C) × ((handle_at (take r.0 p C) r.0).first p ≡ Some first)
 lays-new old new C r d p first s inside dims none rows firsts number few =
     let n = r.0 in
-    let whole = take-new C n p (sym (s.firsts n p) ∙ none) in
     let one = number ∙ ap length s.rows in
     let same_rows : new.infos.items ≡ (taking n p C).rows =
     rows ∙ (λ i. s.rows i ++ each_of (rect_cell r) (children_of (sym dims i) p)) ∙ ap (λ is. C.rows ++ is) (map-map (rect_cell r) (child (handle_at C n).dims p) (places p)) in
-    let all : (m : ℕ) (q : Parts) → get same_taken new.firsts (taken m q) ≡ (handle_at (taking n p C) m).first q =
-    λ m q. elim (cases_eq m n) as (λ _. get same_taken new.firsts (taken m q) ≡ (handle_at (taking n p C) m).first q) [
-      | inl e ↦
-          ap (λ i. get same_taken new.firsts (taken i q)) e ∙ firsts (taken n q) ∙ ap (λ b. cond (b && (nat_eq p.r q.r && nat_eq p.c q.c)) (Some first) (get same_taken old.firsts (taken n q))) (equal n)
-          ∙ (λ i. cond (nat_eq p.r q.r && nat_eq p.c q.c) (Some (one i)) (s.firsts n q i))
-          ∙ sym (ap (λ i. (handle_at (taking n p C) i).first q) e ∙ ap (λ (h : Handle). h.first q) (took-there C n p inside))
-      | inr other ↦
-          firsts (taken m q) ∙ ap (λ b. cond (b && (nat_eq p.r q.r && nat_eq p.c q.c)) (Some first) (get same_taken old.firsts (taken m q))) (unequal n m (λ e. other (sym e)))
-          ∙ s.firsts m q ∙ sym (ap (λ (h : Handle). h.first q) (took-other C n p m other))
-    ] in
-    let lays : Lays new (taking n p C) = record { rows = same_rows; few = omega (arith, few, ap length same_rows); firsts = all } in (
-      subst (Lays new) (sym whole) lays,
-      ap (λ (D : Laid). (handle_at D n).first p) whole ∙ sym (all n p) ∙ firsts (taken n p)
-          ∙ (λ i. cond (equal n i && (equal p.r i && equal p.c i)) (Some first) (get same_taken old.firsts (taken n p))),
-    )
+    let lays : Lays new (taking n p C) = record {
+      rows = same_rows;
+      few = omega (arith, few, ap length same_rows);
+      firsts = λ m q. firsts (taken m q) ∙ (λ i. cond (nat_eq n m && same_parts p q) (Some (one i)) (s.firsts m q i)) ∙ sym (first-after C n p inside m q);
+    } in
+    by_first C n p (λ (D : Laid). Lays new D × ((handle_at D n).first p ≡ Some first)) (λ f had. absurd (none_isn't f (sym none ∙ s.firsts n p ∙ had)))
+    (λ fresh. (lays, ap (λ (h : Handle). h.first p) (took-there C n p inside) ∙ (λ i. cond (parts-itself p i) (Some (sym one i)) ((handle_at C n).first p))))
 
 -- too many cells
 pub lays-full : (l : Layout) (C : Laid) (n : ℕ) (p : Parts) → Lays l C → get same_taken l.firsts (taken n p) ≡ None → most < length l.infos.items + p.r * p.c → most < length (take n p C).rows
 lays-full l C n p s none above =
-    let e = ap (λ (D : Laid). length D.rows) (take-new C n p (sym (s.firsts n p) ∙ none)) in
-    omega (arith, e, longer C n p, ap length s.rows, above)
+    by_first C n p (λ (D : Laid). most < length D.rows) (λ f had. absurd (none_isn't f (sym none ∙ s.firsts n p ∙ had))) (λ fresh. omega (arith, longer C n p, ap length s.rows, above))
 
 -- ---- a root more
 
-root-first : (C : Laid) (d : Dims) (n : ℕ) (p : Parts) → (handle_at (with_root d C) n).first p ≡ (handle_at C n).first p
-root-first C d n p = elim (cases_lt n (length C.handles)) as (λ _. (handle_at (with_root d C) n).first p ≡ (handle_at C n).first p) [
-  | inl lt ↦ ap (λ (h : Handle). h.first p) (root-keeps C d n lt)
-  | inr le ↦ elim (cases_eq n (length C.handles)) as (λ _. (handle_at (with_root d C) n).first p ≡ (handle_at C n).first p) [
-    | inl e ↦ ap (λ (h : Handle). h.first p) (root-there C d n e) ∙ sym (ap (λ (h : Handle). h.first p) (get_or_past C.handles n _ le))
-    | inr other ↦ ap (λ (h : Handle). h.first p) (get_or_past (with_root d C).handles n _ (omega (arith, le, other, length-append C.handles (handle_of d ∷ []))))
-        ∙ sym (ap (λ (h : Handle). h.first p) (get_or_past C.handles n _ le))
-  ]
-]
+root-first : (hs : List Handle) (d : Dims) (n : ℕ) (p : Parts) → (get_or (hs ++ handle_of d ∷ []) n (handle_of (record { rows = 0; cols = 0 }))).first p ≡ (get_or hs n (handle_of (record { rows = 0; cols = 0 }))).first p
+root-first [] d zero p = refl
+root-first [] d (suc n) p = refl
+root-first (h ∷ hs) d zero p = refl
+root-first (h ∷ hs) d (suc n) p = root-first hs d n p
 
 pub lays-root : (l : Layout) (C : Laid) (d : Dims) → Lays l C → Lays l (with_root d C)
-lays-root l C d s = record { rows = s.rows; few = s.few; firsts = λ n p. s.firsts n p ∙ sym (root-first C d n p) }
+lays-root l C d s = record { rows = s.rows; few = s.few; firsts = λ n p. s.firsts n p ∙ sym (root-first C.handles d n p) }
 
 -- ---- active plans
 
-active-kept : (C D : Laid) (n : ℕ) (a : Active) (r : RootState) → ((f : ℕ) → (handle_at C n).first r.parts ≡ Some f → (handle_at D n).first r.parts ≡ Some f) → IsActive C n a r → IsActive D n a r
-active-kept C D n a r keeps h = record { parts = h.parts; first = keeps a.placed.first h.first; reduction = h.reduction }
+-- the active plans of which that of one root has changed with the root, in cells where each plan that was taken is so
+active-changed : (as' bs : List Active) (rs qs : List RootState) (C D : Laid) (n : ℕ) (a : Active) (r : RootState) → AreActive as' rs C → length bs ≡ length D.handles → active_at bs n ≡ a → root_at qs n ≡ r → IsActive D n a r
+    → ((m : ℕ) → (m ≡ n → ⊥) → Lives rs m → active_at bs m ≡ active_at as' m) → ((m : ℕ) → (m ≡ n → ⊥) → root_at qs m ≡ root_at rs m) → ((m : ℕ) (s : Parts) (f : ℕ) → (handle_at C m).first s ≡ Some f → (handle_at D m).first s ≡ Some f) → AreActive bs qs D
+active-changed as' bs rs qs C D n a r old counted mine here is others roots keeps = record {
+  counted = counted;
+  each = λ m lives. elim (cases_eq m n) as (λ _. IsActive D m (active_at bs m) (root_at qs m)) [
+    | inl e ↦ subst (λ i. IsActive D i (active_at bs i) (root_at qs i)) (sym e) (subst (λ (x : Active). IsActive D n x (root_at qs n)) (sym mine) (subst (λ (x : RootState). IsActive D n a x) (sym here) is))
+    | inr other ↦
+        let root = roots m other in
+        let was : Lives rs m = subst (λ (x : RootState). 0 < area x.dims) root lives in
+        let h = old.each m was in
+        subst (λ (x : RootState). IsActive D m (active_at bs m) x) (sym root) (subst (λ (x : Active). IsActive D m x (root_at rs m)) (sym (others m other was))
+        (record { parts = h.parts; first = keeps m (root_at rs m).parts (active_at as' m).placed.first h.first; reduction = h.reduction }))
+  ];
+}
 
-keeps-take : (C : Laid) (n : ℕ) (p : Parts) → n < length C.handles → (m : ℕ) (s : Parts) (f : ℕ) → (handle_at C m).first s ≡ Some f → (handle_at (take n p C) m).first s ≡ Some f
+-- the same where the root is that of a number which is there
+pub active-set : (as' : List Active) (rs : List RootState) (C D : Laid) (n : ℕ) (f : RootState → RootState) (a : Active) → AreActive as' rs C → Lives rs n → length C.handles ≡ length rs → length D.handles ≡ length C.handles → IsActive D n a (f (root_at rs n))
+    → ((m : ℕ) (s : Parts) (g : ℕ) → (handle_at C m).first s ≡ Some g → (handle_at D m).first s ≡ Some g) → AreActive (set as' n a) (change_at f n rs) D
+active-set as' rs C D n f a old lives counted handles is keeps =
+    active-changed as' (set as' n a) rs (change_at f n rs) C D n a (f (root_at rs n)) old (length-set as' n a ∙ old.counted ∙ sym handles)
+    (get_or-set_same as' n a no_active (omega (arith, lives-below rs n lives, counted, old.counted))) (changed-here f n rs lives) is
+    (λ m other was. get_or-set_other as' n m a no_active other) (λ m other. changed-beside f n m rs other) keeps
+
+pub keeps-take : (C : Laid) (n : ℕ) (p : Parts) → n < length C.handles → (m : ℕ) (s : Parts) (f : ℕ) → (handle_at C m).first s ≡ Some f → (handle_at (take n p C) m).first s ≡ Some f
 keeps-take C n p lt m s f e = (take-keeps C n p lt m (handle_at C m).dims s f (record { dims = refl; first = e })).first
 
 -- another root's, or the same one's first plan
@@ -127,90 +122,42 @@ module _ (old new : Layout) (rs : List RootState) (C : Laid) (r : Register ℕ) 
   abbrev D : Laid
   D = take n r.parts (with_root r.dims C)
 
-  there : n < length (with_root r.dims C).handles
-  there = omega (arith, length-append C.handles (handle_of r.dims ∷ []))
-
   pub follows-register : Lays new D → (handle_at D n).first r.parts ≡ Some placed.first → placed.parts ≡ r.parts → (let a : Active = record { placed = placed; reduction = None } in new.actives.items ≡ old.actives.items ++ a ∷ []) → Follows new (rs ++ registered_root r ∷ []) D
-  follows-register lays first parts actives = record {
-    lays = lays;
-    active = record {
-      counted = ap length actives ∙ length-append old.actives.items (mine ∷ []) ∙ ap (λ k. k + 1) follows.active.counted ∙ sym (take-handles (with_root r.dims C) n r.parts ∙ length-append C.handles (handle_of r.dims ∷ []));
-      each = λ m lives. elim (cases_eq m n) as (λ _. IsActive D m (active_at new.actives.items m) (root_at (rs ++ registered_root r ∷ []) m)) [
-        | inl e ↦
-            let root = pushed-there rs (registered_root r) m (e ∙ counted) in
-            let active : active_at new.actives.items m ≡ mine =
-            ap (λ as'. active_at as' m) actives ∙ ap (active_at (old.actives.items ++ mine ∷ [])) (e ∙ sym follows.active.counted) ∙ get_or-append_seam old.actives.items mine [] no_active in
-            record {
-              parts = ap (λ (a : Active). a.placed.parts) active ∙ parts ∙ sym (ap (λ (x : RootState). x.parts) root);
-              first = (λ i. (handle_at D (e i)).first (root i).parts) ∙ first ∙ ap (λ (a : Active). Some a.placed.first) (sym active);
-              reduction = ap (λ (a : Active). a.reduction) active ∙ sym (ap (λ (x : RootState). x.reduction) root);
-            }
-        | inr other ↦
-            let root = pushed-beside rs (registered_root r) m (λ e. other (e ∙ sym counted)) in
-            let was : Lives rs m = subst (λ (x : RootState). 0 < area x.dims) root lives in
-            let below : m < length old.actives.items = omega (arith, lives-below rs m was, counted, follows.active.counted) in
-            let active : active_at new.actives.items m ≡ active_at old.actives.items m = ap (λ as'. active_at as' m) actives ∙ get_or_append_left old.actives.items (mine ∷ []) no_active m below in
-            subst (λ (x : RootState). IsActive D m (active_at new.actives.items m) x) (sym root) (subst (λ (a : Active). IsActive D m a (root_at rs m)) (sym active)
-            (active-kept C D m (active_at old.actives.items m) (root_at rs m)
-            (λ f e. keeps-take (with_root r.dims C) n r.parts there m (root_at rs m).parts f (root-first C r.dims m (root_at rs m).parts ∙ e)) (follows.active.each m was)))
-      ];
-    };
-  }
-    where
-      mine : Active
-      mine = record { placed = placed; reduction = None }
+  follows-register lays first parts actives =
+      let a : Active = record { placed = placed; reduction = None } in
+      let root = registered_root r in
+      let as' = old.actives.items in
+      let long = length-append C.handles (handle_of r.dims ∷ []) in
+      let active = active-changed as' (as' ++ a ∷ []) rs (rs ++ root ∷ []) C D n a root follows.active
+      (length-append as' (a ∷ []) ∙ ap (λ k. k + 1) follows.active.counted ∙ sym (take-handles (with_root r.dims C) n r.parts ∙ long))
+      (ap (active_at (as' ++ a ∷ [])) (sym follows.active.counted) ∙ get_or-append_seam as' a [] no_active) (pushed-there rs root n counted) (record { parts = parts; first = first; reduction = refl })
+      (λ m other was. get_or_append_left as' (a ∷ []) no_active m (omega (arith, lives-below rs m was, counted, follows.active.counted))) (λ m other. pushed-beside rs root m (λ e. other (e ∙ sym counted)))
+      (λ m s f e. keeps-take (with_root r.dims C) n r.parts (omega (arith, long)) m s f (root-first C.handles r.dims m s ∙ e)) in
+      record { lays = lays; active = subst (λ bs. AreActive bs (rs ++ root ∷ []) D) (sym actives) active }
 
 -- another plan of a root
 module _ (old new : Layout) (rs : List RootState) (C : Laid) (n : ℕ) (p : Parts) (placed : Placed) (follows : Follows old rs C) (lives : Lives rs n) (counted : length C.handles ≡ length rs) where
   abbrev next : Active
   next = record { placed = placed; reduction = (active_at old.actives.items n).reduction }
 
-  under : n < length old.actives.items
-  under = omega (arith, lives-below rs n lives, counted, follows.active.counted)
-
-  stands : n < length C.handles
-  stands = omega (arith, lives-below rs n lives, counted)
-
   pub follows-plan : Lays new (take n p C) → (handle_at (take n p C) n).first p ≡ Some placed.first → placed.parts ≡ p → new.actives.items ≡ set old.actives.items n next → Follows new (change_at (with_parts p) n rs) (take n p C)
-  follows-plan lays first parts actives = record {
-    lays = lays;
-    active = record {
-      counted = ap length actives ∙ length-set old.actives.items n next ∙ follows.active.counted ∙ sym (take-handles C n p);
-      each = λ m alive. elim (cases_eq m n) as (λ _. IsActive (take n p C) m (active_at new.actives.items m) (root_at (change_at (with_parts p) n rs) m)) [
-        | inl e ↦
-            let root : root_at (change_at (with_parts p) n rs) m ≡ with_parts p (root_at rs n) = ap (root_at (change_at (with_parts p) n rs)) e ∙ changed-here (with_parts p) n rs lives in
-            let active : active_at new.actives.items m ≡ next = ap (λ as'. active_at as' m) actives ∙ ap (active_at (set old.actives.items n next)) e ∙ get_or-set_same old.actives.items n next no_active under in
-            record {
-              parts = ap (λ (a : Active). a.placed.parts) active ∙ parts ∙ sym (ap (λ (x : RootState). x.parts) root);
-              first = (λ i. (handle_at (take n p C) (e i)).first (root i).parts) ∙ first ∙ ap (λ (a : Active). Some a.placed.first) (sym active);
-              reduction = ap (λ (a : Active). a.reduction) active ∙ (follows.active.each n lives).reduction ∙ sym (ap (λ (x : RootState). x.reduction) root);
-            }
-        | inr other ↦
-            let root = changed-beside (with_parts p) n m rs other in
-            let was : Lives rs m = subst (λ (x : RootState). 0 < area x.dims) root alive in
-            let active : active_at new.actives.items m ≡ active_at old.actives.items m = ap (λ as'. active_at as' m) actives ∙ get_or-set_other old.actives.items n m next no_active other in
-            subst (λ (x : RootState). IsActive (take n p C) m (active_at new.actives.items m) x) (sym root) (subst (λ (a : Active). IsActive (take n p C) m a (root_at rs m)) (sym active)
-            (active-kept C (take n p C) m (active_at old.actives.items m) (root_at rs m) (λ f e. keeps-take C n p stands m (root_at rs m).parts f e) (follows.active.each m was)))
-      ];
-    };
-  }
+  follows-plan lays first parts actives =
+      let is : IsActive (take n p C) n next (with_parts p (root_at rs n)) = record { parts = parts; first = first; reduction = (follows.active.each n lives).reduction } in
+      let active = active-set old.actives.items rs C (take n p C) n (with_parts p) next follows.active lives counted (take-handles C n p) is (keeps-take C n p (omega (arith, lives-below rs n lives, counted))) in
+      record { lays = lays; active = subst (λ bs. AreActive bs (change_at (with_parts p) n rs) (take n p C)) (sym actives) active }
 
 -- roots that keep their plans and reductions, in cells that keep their handles
 pub follows-kept : (old new : Layout) (rs qs : List RootState) (C D : Laid) → Follows old rs C → Lays new D → D.handles ≡ C.handles → new.actives ≡ old.actives
     → ((m : ℕ) → Lives qs m → Lives rs m × ((root_at qs m).parts ≡ (root_at rs m).parts) × ((root_at qs m).reduction ≡ (root_at rs m).reduction)) → Follows new qs D
 follows-kept old new rs qs C D follows lays handles actives kept = record {
   lays = lays;
-  active = record {
-    counted = ap (λ v. length v.items) actives ∙ follows.active.counted ∙ ap length (sym handles);
+  active = subst (λ v. AreActive v.items qs D) (sym actives) (record {
+    counted = follows.active.counted ∙ ap length (sym handles);
     each = λ m lives.
         let k = kept m lives in
         let a = follows.active.each m k.0 in
-        subst (λ v. IsActive D m (active_at v.items m) (root_at qs m)) (sym actives) (record {
-          parts = a.parts ∙ sym k.1;
-          first = (λ i. (get_or (handles i) m (handle_of (record { rows = 0; cols = 0 }))).first (k.1 i)) ∙ a.first;
-          reduction = a.reduction ∙ sym k.2;
-        });
-  };
+        record { parts = a.parts ∙ sym k.1; first = (λ i. (get_or (handles i) m (handle_of (record { rows = 0; cols = 0 }))).first (k.1 i)) ∙ a.first; reduction = a.reduction ∙ sym k.2 };
+  });
 }
 
 -- ---- partial copies
@@ -223,32 +170,21 @@ lays-copied l C c first workers s there =
 pub lays-copies : (old new : Layout) (C : Laid) (c first : Cell) (workers : ℕ) → let i = get_or old.infos.items c.0 no_cell in Lays old C → c.0 < length old.infos.items → i.partials ≡ None
     → new.infos.items ≡ set (old.infos.items ++ replicate workers i) c.0 (with_partials first i) → new.firsts ≡ old.firsts → first.0 ≡ length old.infos.items → length new.infos.items ≤ most
     → Lays new (with_copies workers C c) × (first_copy C c ≡ first)
-lays-copies old new C c first workers s there none rows firsts number few = (
-  by_copies workers c C (Lays new) (λ f e. absurd (none_isn't f (sym none_here ∙ e))) (λ e. record {
-    rows = same;
-    few = omega (arith, few, ap length same);
-    firsts = λ n p. ap (λ m. get same_taken m (taken n p)) firsts ∙ s.firsts n p;
-  }),
-  sym first_is,
-)
-  where
-    i : CellInfo
-    i = get_or old.infos.items c.0 no_cell
-
-    is : i ≡ info_at C c
-    is = ap (λ (is : List CellInfo). get_or is c.0 no_cell) s.rows
-
-    none_here : (info_at C c).partials ≡ None
-    none_here = ap (λ (i : CellInfo). i.partials) (sym is) ∙ none
-
-    first_is : first ≡ first_copy C c
-    first_is = (λ k. let d : Cell = record { 0 = (number ∙ ap length s.rows) k } in d) ∙ sym (first-new C c none_here)
-
-    plain : i ≡ copy_info (info_at C c)
-    plain = (λ k. let j : CellInfo = record { root = i.root; dims = i.dims; partials = none k } in j) ∙ ap copy_info is
-
-    same : new.infos.items ≡ set C.rows c.0 (with_partials (first_copy C c) (info_at C c)) ++ replicate workers (copy_info (info_at C c))
-    same = rows ∙ set-append_left old.infos.items (replicate workers i) c.0 (with_partials first i) there ∙ (λ k. set (s.rows k) c.0 (with_partials (first_is k) (is k)) ++ replicate workers (plain k))
+lays-copies old new C c first workers s there none rows firsts number few =
+    let i = get_or old.infos.items c.0 no_cell in
+    let is : i ≡ info_at C c = ap (λ (is : List CellInfo). get_or is c.0 no_cell) s.rows in
+    let none_here = ap (λ (i : CellInfo). i.partials) (sym is) ∙ none in
+    let first_is : first ≡ first_copy C c = (λ k. let d : Cell = record { 0 = (number ∙ ap length s.rows) k } in d) ∙ sym (first-new C c none_here) in
+    let plain : i ≡ copy_info (info_at C c) = (λ k. let j : CellInfo = record { root = i.root; dims = i.dims; partials = none k } in j) ∙ ap copy_info is in
+    let same : new.infos.items ≡ set C.rows c.0 (with_partials (first_copy C c) (info_at C c)) ++ replicate workers (copy_info (info_at C c)) =
+    rows ∙ set-append_left old.infos.items (replicate workers i) c.0 (with_partials first i) there ∙ (λ k. set (s.rows k) c.0 (with_partials (first_is k) (is k)) ++ replicate workers (plain k)) in (
+      by_copies workers c C (Lays new) (λ f e. absurd (none_isn't f (sym none_here ∙ e))) (λ e. record {
+        rows = same;
+        few = omega (arith, few, ap length same);
+        firsts = λ n p. ap (λ m. get same_taken m (taken n p)) firsts ∙ s.firsts n p;
+      }),
+      sym first_is,
+    )
 
 pub copies-full : (l : Layout) (C : Laid) (c : Cell) (workers : ℕ) → Lays l C → c.0 < length l.infos.items → (get_or l.infos.items c.0 no_cell).partials ≡ None → most < length l.infos.items + workers → most < length (with_copies workers C c).rows
 copies-full l C c workers s there none above =

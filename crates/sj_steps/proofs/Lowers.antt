@@ -1,6 +1,6 @@
 -- What a kept job is lowered to, by its names, is proper and delivers what it prints.
-use Rattle.std.proofs.Common.{◌≡◌, ℕ, suc, ◌+◌, ◌<◌, ◌≤◌, ◌^◌, Bool, List, [], ◌∷◌, ◌++◌, All, length, map, fold, drop, get_or, refl, sym, ap, subst, ◌∙◌, arith, drop-cons}
-use Rattle.std.proofs.lemmas.List.{drop_all}
+use Rattle.std.proofs.Common.{◌≡◌, ℕ, ◌+◌, ◌<◌, ◌≤◌, ◌^◌, Bool, List, [], ◌∷◌, ◌++◌, All, length, map, fold, drop, refl, sym, ap, subst, ◌∙◌, arith}
+use Rattle.std.proofs.lemmas.List.{drop_all, drop_more}
 use Rattle.sj_base.specs.declared.ids.Line.{Line}
 use Rattle.sj_base.specs.declared.program.Program.{Program}
 use Rattle.sj_base.specs.declared.program.CellInfo.{CellInfo}
@@ -14,10 +14,10 @@ use Rattle.sj_meaning.specs.declared.job.Statement.{Statement as Kept}
 use Rattle.sj_meaning.specs.Act.{Statement}
 use Rattle.sj_meaning.specs.State.{RootState, start}
 use Rattle.sj_meaning.specs.Meaning.{apply, printed}
-use Rattle.sj_meaning.specs.Numbers.{name_at, statement_by, statements_from, act_at, apply_at, printed_at}
+use Rattle.sj_meaning.specs.Numbers.{name_at, statements_from, act_at, apply_at, printed_at}
 use Rattle.sj_meaning.specs.Sound.{AreSound as AreSoundByName}
 use Rattle.sj_meaning.specs.Table.{Table, AreDistinct}
-use Rattle.sj_meaning.specs.View.{act_seen, seen_from, count_after, count_from, values_from, ActsArePlaced, IsNumbered}
+use Rattle.sj_meaning.specs.View.{act_seen, seen_from, count_after, count_from, values_from, IsNumbered}
 use Rattle.sj_meaning.proofs.Mirroring.{AreTimely, printed-by, printed_as as found_as}
 use Rattle.sj_meaning.proofs.Timely.{statements-named, timely}
 use Rattle.sj_meaning.proofs.Views.{counts-grow}
@@ -28,7 +28,7 @@ use Rattle.sj_phases.specs.Plain.{none_open, plain_program}
 use Rattle.sj_steps.specs.Delivering.{DeliversPrinted}
 use Rattle.sj_steps.specs.Laid.{Laid, no_cells}
 use Rattle.sj_steps.specs.SoundAt.{AreSound}
-use Rattle.sj_steps.specs.Step.{by_name, by_number, names_in, names_of, Step, step_of, steps_from, steps_of, laid_by, last_line, blocks_by, program_by}
+use Rattle.sj_steps.specs.Step.{by_name, by_number, names_in, names_of, Step, step_of, steps_from, steps_of, last_line, program_by}
 use Rattle.sj_steps.proofs.Following.{laid_from}
 use Rattle.sj_steps.proofs.Naming.{mirror-start, AreSilent, sounds-at, AreTold, IsTold, knows-none, all-known}
 use Rattle.sj_steps.proofs.Printing.{delivers-printed}
@@ -48,13 +48,8 @@ names-from T k (s ∷ ss) e = by_act s.act (counts-grow (count_after k s.act) ss
   where
     by_act : (a : KeptAct) → count_after k a ≤ count_from (count_after k a) ss → count_from (count_after k a) ss ≡ length T.names → (count_from (count_after k a) ss ≡ length T.names → names_of (seen_from T (count_after k a) ss) ≡ drop (count_after k a) T.names)
         → names_in (act_seen T k a) ++ names_of (seen_from T (count_after k a) ss) ≡ drop k T.names
-    by_act (kept.Register init) le e rest = ap (λ ns. name_at T.names k ∷ ns) (rest e) ∙ (let next : k + 1 ≡ suc k = omega arith in ap (λ n. name_at T.names k ∷ drop n T.names) next) ∙ sym (drop-cons T.names k [] (omega (arith, le, e)))
-    by_act (kept.Plan r p valued) le e rest = rest e
-    by_act (kept.Redux r by) le e rest = rest e
-    by_act (kept.Task t) le e rest = rest e
-    by_act (kept.Print r) le e rest = rest e
-    by_act (kept.Invalidate r) le e rest = rest e
-    by_act (kept.Unregister r) le e rest = rest e
+    by_act (kept.Register init) le e rest = ap (λ ns. name_at T.names k ∷ ns) (rest e) ∙ sym (drop_more T.names k [] (omega (arith, le, e)))
+    by_act a le e rest = rest e
 
 told-all : (T : Table) (k : ℕ) (ss : List Kept) → count_from k ss ≤ length T.names → AreTold T (statements_from T k ss)
 told-all T k [] le = tt
@@ -62,12 +57,7 @@ told-all T k (s ∷ ss) le = (by_act s.act (omega (arith, le, counts-grow (count
   where
     by_act : (a : KeptAct) → count_after k a ≤ length T.names → IsTold T (act_at T k a)
     by_act (kept.Register init) le = (refl, refl, omega (arith, le))
-    by_act (kept.Plan r p valued) le = tt
-    by_act (kept.Redux r by) le = tt
-    by_act (kept.Task t) le = tt
-    by_act (kept.Print r) le = tt
-    by_act (kept.Invalidate r) le = tt
-    by_act (kept.Unregister r) le = tt
+    by_act a le = tt
 
 laid-last : (workers : ℕ) (rs : List RootState) (C : Laid) (ss : List (Statement ℕ)) → fold (λ (D : Laid) (x : Step). x.laid) C (steps_from workers by_number apply_at rs C ss) ≡ laid_from workers rs C ss
 laid-last workers rs C [] = refl

@@ -6,13 +6,12 @@ use Rattle.sj_phases.specs.declared.expander.Expander.{Expander}
 use Rattle.sj_phases.specs.Does.{Does}
 use Rattle.sj_phases.specs.Expand.{with_own}
 use Rattle.sj_phases.proofs.Doing.{does-more}
-use Rattle.std.proofs.lemmas.List.{take_more, take_all, map-append}
+use Rattle.std.proofs.lemmas.List.{take_all, map_more}
 
 -- one item more
 pub pushed : {X Y : Type 0} (f : X → Y) (xs : List X) (start now next : List Y) (i : ℕ) (x : X) → i < length xs → now ≡ start ++ map f (take i xs) → next ≡ now ++ f x ∷ [] → x ≡ get_or xs i x → next ≡ start ++ map f (take (i + 1) xs)
 pushed f xs start now next i x below e more is =
-    more ∙ ap (λ ys. ys ++ f x ∷ []) e ∙ append_assoc start (map f (take i xs)) (f x ∷ []) ∙ ap (λ y. start ++ (map f (take i xs) ++ f y ∷ [])) is
-    ∙ ap (λ ys. start ++ ys) (sym (map-append f (take i xs) (get_or xs i x ∷ [])) ∙ ap (map f) (sym (take_more xs i x below)))
+    more ∙ ap (λ ys. ys ++ f x ∷ []) e ∙ append_assoc start (map f (take i xs)) (f x ∷ []) ∙ ap (λ ys. start ++ ys) (ap (λ y. map f (take i xs) ++ f y ∷ []) is ∙ sym (map_more f xs i x below))
 
 -- all items
 pub pushed_all : {X Y : Type 0} (f : X → Y) (xs : List X) (start now : List Y) (i : ℕ) → length xs ≤ i → now ≡ start ++ map f (take i xs) → now ≡ start ++ map f xs

@@ -1,15 +1,15 @@
 -- An act that is sound by its roots' names is so by their numbers.
-use Rattle.std.proofs.Common.{◌≡◌, ℕ, ◌<◌, Bool, true, false, ◌&&◌, ◌||◌, not, Option, Some, None, List, [], ◌∷◌, length, map, refl, ap, sym, subst, ◌∙◌, arith, bytes_eq, nat_lt}
+use Rattle.std.proofs.Common.{◌≡◌, ℕ, ◌<◌, Bool, true, false, ◌&&◌, ◌||◌, not, Option, Some, None, List, [], ◌∷◌, length, map, refl, ap, sym, subst, ◌∙◌, bytes_eq, nat_lt}
 use Rattle.std.specs.Prelude.{nat_eq}
 use Rattle.std.specs.List.{AllByRecursion, list_all, list_any}
 use Rattle.std.specs.Option.{is_none}
-use Rattle.std.proofs.lemmas.Bool.{false≢true, and_parts}
-use Rattle.std.proofs.lemmas.Bool.Decides.{Decides-eqb, nat_tests}
+use Rattle.std.proofs.lemmas.Bool.{false≢true, and_parts, eq-eqb, eqb-true, ltb-true}
 use Rattle.std.proofs.lemmas.List.{length-map}
+use Rattle.std.proofs.lemmas.Slice.Eq.{bytes_eq-Decides}
+use Rattle.sj_base.proofs.Bools.{same_test}
+use Rattle.sj_base.proofs.Lists.{list_any-map}
 use Rattle.sj_base.specs.declared.tile.Dims.{Dims}
-use Rattle.sj_base.specs.declared.mode.Mode.{Mode}
 use Rattle.sj_base.specs.declared.mode.Reduction.{Reduction}
-use Rattle.sj_base.specs.declared.program.Codelet.{Codelet}
 use Rattle.sj_base.specs.Array.{area}
 use Rattle.sj_codelet.specs.declared.kernel.Kernel.{Kernel}
 use Rattle.sj_codelet.specs.declared.kernel.Kernel.TheVariants.{Deliver}
@@ -30,19 +30,14 @@ use Rattle.sj_meaning.specs.Sound as by_name
 use Rattle.sj_meaning.specs.Sound.{mode_fits, is_unordered, is_lawful_for, needs_value, IsSoundAct}
 use Rattle.sj_base.specs.Mode.{is_read_only}
 use Rattle.sj_meaning.specs.Table.{AreDistinct}
-use Rattle.sj_meaning.proofs.Mirroring.{IsThere, IsMirror, IsTimely, apart, root-there, written-by}
+use Rattle.sj_meaning.proofs.Mirroring.{IsThere, IsMirror, IsTimely, root-there, written-by}
 use Rattle.sj_meaning.proofs.Finding.{text-itself}
 use Rattle.sj_steps.specs.SoundAt.{Lives, child_dims, has_value, modes_fit, clashes, is_aliased, IsPlaced, IsSoundTask, IsSound}
 
 -- a job can't name the codelet that delivers
 abbrev pub IsSilent : Act ℕ → Type 0
-IsSilent (Registers r) = Unit {0}
-IsSilent (Plans n p) = Unit {0}
-IsSilent (Reduces n by) = Unit {0}
 IsSilent (Tasks t) = kernel_of t.codelet ≡ Some Deliver → ⊥
-IsSilent (Prints n) = Unit {0}
-IsSilent (Invalidates n) = Unit {0}
-IsSilent (Unregisters n) = Unit {0}
+IsSilent _ = Unit {0}
 
 module _ (names : List (List ℕ)) (d : AreDistinct names) (S : JobState) (rs : List RootState) (m : IsMirror names S rs) where
   abbrev named : Operand ℕ → Operand (List ℕ)
@@ -67,35 +62,26 @@ module _ (names : List (List ℕ)) (d : AreDistinct names) (S : JobState) (rs : 
   modes-at (f ∷ fs) [] = refl
   modes-at (f ∷ fs) (o ∷ os) = ap (λ b. mode_fits f o.mode && b) (modes-at fs os)
 
-  unordered-at : (os : List (Operand ℕ)) → list_any (λ o. is_unordered o.mode) (map (operand_by (name_at names)) os) ≡ list_any (λ o. is_unordered o.mode) os
-  unordered-at [] = refl
-  unordered-at (o ∷ os) = ap (λ b. is_unordered o.mode || b) (unordered-at os)
+  -- a test that says of operands by name what another says by number, of some and of all
+  pub any-at : (p : Operand (List ℕ) → Bool) (q : Operand ℕ → Bool) → ((o : Operand ℕ) → There o → p (named o) ≡ q o) → (os : List (Operand ℕ)) → AllByRecursion There os → list_any p (map (operand_by (name_at names)) os) ≡ list_any q os
+  any-at p q f [] h = refl
+  any-at p q f (o ∷ os) h = λ i. f o h.0 i || any-at p q f os h.1 i
 
-  lawful-at : (has : Kernel → Bool) (id : Codelet) (os : List (Operand ℕ)) → AllByRecursion There os → list_all (by_name.is_lawful has S id) (map (operand_by (name_at names)) os) ≡ list_all (λ o. is_lawful_for has id (root_at rs o.name).reduction o.mode) os
-  lawful-at has id [] h = refl
-  lawful-at has id (o ∷ os) h = λ i. is_lawful_for has id (looked None (λ r. r.reduction) o.name h.0 i) o.mode && lawful-at has id os h.1 i
+  all-at : (p : Operand (List ℕ) → Bool) (q : Operand ℕ → Bool) → ((o : Operand ℕ) → There o → p (named o) ≡ q o) → (os : List (Operand ℕ)) → AllByRecursion There os → list_all p (map (operand_by (name_at names)) os) ≡ list_all q os
+  all-at p q f [] h = refl
+  all-at p q f (o ∷ os) h = λ i. f o h.0 i && all-at p q f os h.1 i
 
   same-name : (a b : ℕ) → a < length names → b < length names → bytes_eq (name_at names a) (name_at names b) ≡ nat_eq a b
-  same-name a b la lb = by_test (nat_eq a b) refl
-    where
-      by_test : (t : Bool) → nat_eq a b ≡ t → bytes_eq (name_at names a) (name_at names b) ≡ t
-      by_test true e = text-itself (name_at names a) (name_at names b) (ap (name_at names) ((Decides-eqb a b).0 e))
-      by_test false e = apart names d a b la lb (λ same. false≢true (sym e ∙ (Decides-eqb a b).1 (sym same)))
-
-  clashes-at : (o : Operand ℕ) (os : List (Operand ℕ)) → There o → AllByRecursion There os → list_any (by_name.clashes (operand_by (name_at names) o)) (map (operand_by (name_at names)) os) ≡ list_any (clashes o) os
-  clashes-at o [] h a = refl
-  clashes-at o (p ∷ os) h a = λ i. (same-name o.name p.name h.below a.0.below i && same_child_place o.place p.place && not (is_read_only o.mode && is_read_only p.mode)) || clashes-at o os h a.1 i
+  same-name a b la lb =
+      same_test (bytes_eq (name_at names a) (name_at names b)) (nat_eq a b) (λ e. eq-eqb a b (d a b la lb ((bytes_eq-Decides (name_at names a) (name_at names b)).0 e))) (λ e. text-itself (name_at names a) (name_at names b) (ap (name_at names) (eqb-true a b e)))
 
   aliased-at : (os : List (Operand ℕ)) → AllByRecursion There os → by_name.is_aliased (map (operand_by (name_at names)) os) ≡ is_aliased os
   aliased-at [] h = refl
-  aliased-at (o ∷ os) h = λ i. clashes-at o os h.0 h.1 i || aliased-at os h.1 i
-
-  valued-at : (os : List (Operand ℕ)) → AllByRecursion There os → list_all (λ o. not (needs_value o.mode) || by_name.has_child_values S o) (map (operand_by (name_at names)) os) ≡ list_all (λ o. not (needs_value o.mode) || has_value rs o) os
-  valued-at [] h = refl
-  valued-at (o ∷ os) h = λ i. (not (needs_value o.mode) || looked false (λ r. is_valued_child r o.place) o.name h.0 i) && valued-at os h.1 i
+  aliased-at (o ∷ os) h = λ i.
+      any-at (by_name.clashes (operand_by (name_at names) o)) (clashes o) (λ p g. λ j. same-name o.name p.name h.0.below g.below j && same_child_place o.place p.place && not (is_read_only o.mode && is_read_only p.mode)) os h.1 i || aliased-at os h.1 i
 
   place-of : (p : Parts) (place : ℕ × ℕ) → is_child p place ≡ true → IsPlace p place
-  place-of p place h = let both = and_parts (nat_lt place.0 p.r) (nat_lt place.1 p.c) h in (grind (arith, nat_tests, both.0), grind (arith, nat_tests, both.1))
+  place-of p place h = let both = and_parts (nat_lt place.0 p.r) (nat_lt place.1 p.c) h in (ltb-true place.0 p.r both.0, ltb-true place.1 p.c both.1)
 
   placed-at : (os : List (Operand ℕ)) → AllByRecursion There os → list_all (by_name.has_child S) (map (operand_by (name_at names)) os) ≡ true → AllByRecursion (IsPlaced rs) os
   placed-at [] h e = tt
@@ -109,11 +95,11 @@ module _ (names : List (List ℕ)) (d : AreDistinct names) (S : JobState) (rs : 
   task-at has t h s silent = record {
     fits = ap (fits_in has t.codelet t.args) (sym (dims-at t.operands h)) ∙ s.fits;
     modes = sym (modes-at (formals_in t.codelet) t.operands) ∙ s.modes;
-    alone = λ e. sym (ap length (written-by (name_at names) t.operands) ∙ length-map (written_of t.operands) (operand_by (name_at names))) ∙ s.alone (unordered-at t.operands ∙ e);
-    lawful = sym (lawful-at has t.codelet t.operands h) ∙ s.lawful;
+    alone = λ e. sym (ap length (written-by (name_at names) t.operands) ∙ length-map (written_of t.operands) (operand_by (name_at names))) ∙ s.alone (list_any-map (λ (o : Operand (List ℕ)). is_unordered o.mode) (operand_by (name_at names)) t.operands ∙ e);
+    lawful = sym (all-at (by_name.is_lawful has S t.codelet) (λ o. is_lawful_for has t.codelet (root_at rs o.name).reduction o.mode) (λ o g. λ i. is_lawful_for has t.codelet (looked None (λ r. r.reduction) o.name g i) o.mode) t.operands h) ∙ s.lawful;
     apart = sym (aliased-at t.operands h) ∙ s.apart;
     placed = placed-at t.operands h s.placed;
-    valued = sym (valued-at t.operands h) ∙ s.valued;
+    valued = sym (all-at (λ o. not (needs_value o.mode) || by_name.has_child_values S o) (λ o. not (needs_value o.mode) || has_value rs o) (λ o g. λ i. not (needs_value o.mode) || looked false (λ r. is_valued_child r o.place) o.name g i) t.operands h) ∙ s.valued;
     silent = silent;
   }
 

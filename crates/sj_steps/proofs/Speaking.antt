@@ -1,44 +1,31 @@
 -- By their roots' names and by their numbers statements give the same cells and blocks.
-use Rattle.std.proofs.Common.{◌≡◌, ℕ, ◌<◌, Bool, true, false, cond, Option, Some, None, List, [], ◌∷◌, ◌++◌, map, filter, fold, unwrap_or, refl, ap, sym, ◌∙◌}
+use Rattle.std.proofs.Common.{◌≡◌, ℕ, Bool, List, [], ◌∷◌, ◌++◌, map, filter, fold, refl, ap, sym, ◌∙◌}
 use Rattle.std.specs.List.{AllByRecursion, flat_map}
+use Rattle.std.proofs.lemmas.List.Folds.{flat_map-map}
+use Rattle.std.proofs.lemmas.Simd.{map-map}
 use Rattle.sj_base.specs.declared.ids.Line.{Line}
 use Rattle.sj_base.specs.declared.ids.Cell.{Cell}
 use Rattle.sj_base.specs.declared.mode.Access.{Access}
 use Rattle.sj_base.specs.Mode.{is_redux}
-use Rattle.sj_base.specs.declared.program.Lowered.{Lowered}
+use Rattle.sj_base.proofs.Lists.{each-weaker}
 use Rattle.sj_plan.specs.Parts.{places}
-use Rattle.sj_meaning.specs.Statement.{Register, Operand, TaskLine}
+use Rattle.sj_plan.proofs.Lists.{each-filter, map-filter}
+use Rattle.sj_meaning.specs.Statement.{Operand, TaskLine}
 use Rattle.sj_meaning.specs.Act.{Act, Statement}
-use Rattle.sj_meaning.specs.Act.{Register as Registers, Plan as Plans, Redux as Reduces, Task as Tasks, Print as Prints, Invalidate as Invalidates, Unregister as Unregisters}
-use Rattle.sj_meaning.specs.State.{RootState, JobState, root_of}
+use Rattle.sj_meaning.specs.Act.{Plan as Plans, Task as Tasks, Print as Prints, Invalidate as Invalidates, Unregister as Unregisters}
+use Rattle.sj_meaning.specs.State.{RootState, JobState}
 use Rattle.sj_meaning.specs.Table.{AreDistinct}
 use Rattle.sj_meaning.specs.Meaning.{apply}
-use Rattle.sj_meaning.specs.Numbers.{name_at, number_in, operand_by, task_by, act_by, statement_by, no_root, root_at, apply_at}
+use Rattle.sj_meaning.specs.Numbers.{name_at, operand_by, task_by, act_by, statement_by, apply_at}
 use Rattle.sj_meaning.proofs.Mirroring.{IsThere, IsMirror, IsTimely, AreTimely, mirror-apply}
 use Rattle.sj_meaning.proofs.Timely.{number-named}
 use Rattle.sj_phases.specs.declared.phase.Opening.{Opening}
-use Rattle.sj_steps.specs.Laid.{Laid, cell_of, take, with_print, first_copy, with_copies}
-use Rattle.sj_steps.specs.Step.{Lookup, by_name, by_number, operand_cell, active_cells, closing, plan_block, is_other_access, contributed, access_of, opening_of, task_row, task_block, print_block, Step, step, step_of, steps_from}
+use Rattle.sj_steps.specs.Laid.{Laid, cell_of, take, with_print, with_copies}
+use Rattle.sj_steps.specs.Step.{Lookup, by_name, by_number, operand_cell, active_cells, closing, plan_block, is_other_access, contributed, access_of, opening_of, task_block, print_block, Step, step, step_of, steps_from}
 
 -- ---- lists
 
-map-through : {X Y Z : Type 0} (g : Y → Z) (h : X → Y) (xs : List X) → map g (map h xs) ≡ map (λ x. g (h x)) xs
-map-through g h [] = refl
-map-through g h (x ∷ xs) = ap (λ zs. g (h x) ∷ zs) (map-through g h xs)
-
-flat-through : {X Y Z : Type 0} (g : Y → List Z) (h : X → Y) (xs : List X) → flat_map g (map h xs) ≡ flat_map (λ x. g (h x)) xs
-flat-through g h [] = refl
-flat-through g h (x ∷ xs) = ap (λ zs. g (h x) ++ zs) (flat-through g h xs)
-
-filter-through : {X Y : Type 0} (p : Y → Bool) (h : X → Y) (xs : List X) → filter p (map h xs) ≡ map h (filter (λ x. p (h x)) xs)
-filter-through p h [] = refl
-filter-through p h (x ∷ xs) = by_test (p (h x)) (filter-through p h xs)
-  where
-    by_test : (b : Bool) → filter p (map h xs) ≡ map h (filter (λ x. p (h x)) xs) → cond b (h x ∷ filter p (map h xs)) (filter p (map h xs)) ≡ map h (cond b (x ∷ filter (λ x. p (h x)) xs) (filter (λ x. p (h x)) xs))
-    by_test true rest = ap (λ ys. h x ∷ ys) rest
-    by_test false rest = rest
-
-map-same : {X Y : Type 0} (f g : X → Y) (xs : List X) → AllByRecursion (λ x. f x ≡ g x) xs → map f xs ≡ map g xs
+pub map-same : {X Y : Type 0} (f g : X → Y) (xs : List X) → AllByRecursion (λ x. f x ≡ g x) xs → map f xs ≡ map g xs
 map-same f g [] h = refl
 map-same f g (x ∷ xs) h = λ i. h.0 i ∷ map-same f g xs h.1 i
 
@@ -47,16 +34,7 @@ flat-same f g [] h = refl
 flat-same f g (x ∷ xs) h = λ i. h.0 i ++ flat-same f g xs h.1 i
 
 filtered : {X : Type 0} (P : X → Type 0) (p : X → Bool) (xs : List X) → AllByRecursion P xs → AllByRecursion P (filter p xs)
-filtered P p [] h = tt
-filtered P p (x ∷ xs) h = by_test (p x) (filtered P p xs h.1)
-  where
-    by_test : (b : Bool) → AllByRecursion P (filter p xs) → AllByRecursion P (cond b (x ∷ filter p xs) (filter p xs))
-    by_test true rest = (h.0, rest)
-    by_test false rest = rest
-
-all-of : {X : Type 0} (P Q : X → Type 0) → ((x : X) → P x → Q x) → (xs : List X) → AllByRecursion P xs → AllByRecursion Q xs
-all-of P Q f [] h = tt
-all-of P Q f (x ∷ xs) h = (f x h.0, all-of P Q f xs h.1)
+filtered P p xs h = each-filter P p xs (each-weaker P (λ x. p x ≡ true → P x) (λ x q e. q) xs h)
 
 -- ---- a look-up through a map
 
@@ -75,29 +53,19 @@ task_with t line C cs os as' = step C (record {
 
 module _ {M N : Type 0} (f : M → N) (L : Lookup N) where
   cells-through : (C : Laid) (p : Operand N → Bool) (os : List (Operand M)) → map (operand_cell (through f L) C) (filter (λ o. p (operand_by f o)) os) ≡ map (operand_cell L C) (filter p (map (operand_by f) os))
-  cells-through C p os = sym (ap (map (operand_cell L C)) (filter-through p (operand_by f) os) ∙ map-through (operand_cell L C) (operand_by f) (filter (λ o. p (operand_by f o)) os))
+  cells-through C p os = sym (map-map (operand_cell L C) (operand_by f) (filter (λ o. p (operand_by f o)) os)) ∙ ap (map (operand_cell L C)) (map-filter (operand_by f) p os)
 
   opens-through : (C : Laid) (os : List (Operand M)) → flat_map (opening_of (through f L) C) (filter (λ o. is_redux o.mode) os) ≡ flat_map (opening_of L C) (filter (λ o. is_redux o.mode) (map (operand_by f) os))
-  opens-through C os = sym (ap (flat_map (opening_of L C)) (filter-through (λ (o : Operand N). is_redux o.mode) (operand_by f) os) ∙ flat-through (opening_of L C) (operand_by f) (filter (λ o. is_redux o.mode) os))
+  opens-through C os = sym (flat_map-map (opening_of L C) (operand_by f) (filter (λ o. is_redux o.mode) os)) ∙ ap (flat_map (opening_of L C)) (map-filter (operand_by f) (λ (o : Operand N). is_redux o.mode) os)
 
-  task-through : (workers : ℕ) (C : Laid) (line : Line) (t : TaskLine M) → step_of workers (through f L) C line (Tasks t) ≡ step_of workers L C line (Tasks (task_by f t))
-  task-through workers C line t =
-      let laid : fold (with_copies workers) C (map (operand_cell (through f L) C) (contributed t)) ≡ fold (with_copies workers) C (map (operand_cell L C) (contributed (task_by f t))) =
-      ap (fold (with_copies workers) C) (cells-through C (λ o. is_redux o.mode) t.operands) in
-      ap (λ (D : Laid). step D (task_block (through f L) D t line)) laid
+  pub step-same : (workers : ℕ) (C : Laid) (line : Line) (a : Act M) → step_of workers (through f L) C line a ≡ step_of workers L C line (act_by f a)
+  step-same workers C line (Tasks t) =
+      ap (λ (D : Laid). step D (task_block (through f L) D t line)) (ap (fold (with_copies workers) C) (cells-through C (λ o. is_redux o.mode) t.operands))
       ∙ rest (fold (with_copies workers) C (map (operand_cell L C) (contributed (task_by f t))))
     where
       rest : (D : Laid) → step D (task_block (through f L) D t line) ≡ step D (task_block L D (task_by f t) line)
-      rest D = λ i. task_with t line D (cells-through D is_other_access t.operands i) (opens-through D t.operands i) (sym (map-through (access_of L D) (operand_by f) t.operands) i)
-
-  pub step-same : (workers : ℕ) (C : Laid) (line : Line) (a : Act M) → step_of workers (through f L) C line a ≡ step_of workers L C line (act_by f a)
-  step-same workers C line (Registers r) = refl
-  step-same workers C line (Plans q p) = refl
-  step-same workers C line (Reduces q by) = refl
-  step-same workers C line (Tasks t) = task-through workers C line t
-  step-same workers C line (Prints q) = refl
-  step-same workers C line (Invalidates q) = refl
-  step-same workers C line (Unregisters q) = refl
+      rest D = λ i. task_with t line D (cells-through D is_other_access t.operands i) (opens-through D t.operands i) (sym (map-map (access_of L D) (operand_by f) t.operands) i)
+  step-same workers C line a = refl
 
 -- ---- look-ups that agree
 
@@ -108,13 +76,12 @@ record Agree {N : Type 0} (L M : Lookup N) (q : N) : Type 0 where
 
 -- of the roots that an act names
 abbrev AgreeOn : {N : Type 0} → Lookup N → Lookup N → Act N → Type 0
-AgreeOn L M (Registers r) = Unit {0}
 AgreeOn L M (Plans q p) = Agree L M q
-AgreeOn L M (Reduces q by) = Unit {0}
 AgreeOn L M (Tasks t) = AllByRecursion (λ o. Agree L M o.name) t.operands
 AgreeOn L M (Prints q) = Agree L M q
 AgreeOn L M (Invalidates q) = Agree L M q
 AgreeOn L M (Unregisters q) = Agree L M q
+AgreeOn L M _ = Unit {0}
 
 module _ {N : Type 0} (L M : Lookup N) where
   cell-agrees : (C : Laid) (o : Operand N) → Agree L M o.name → operand_cell L C o ≡ operand_cell M C o
@@ -128,25 +95,24 @@ module _ {N : Type 0} (L M : Lookup N) where
       let told : ℕ → RootState → List Opening = λ n r. opening_of (record { number = λ q. n; root = λ q. r }) C o in
       λ i. told (a.number i) (a.root i)
 
+  cells-agree : (D : Laid) (p : Operand N → Bool) (os : List (Operand N)) → AllByRecursion (λ o. Agree L M o.name) os → map (operand_cell L D) (filter p os) ≡ map (operand_cell M D) (filter p os)
+  cells-agree D p os h = map-same (operand_cell L D) (operand_cell M D) (filter p os) (each-weaker _ _ (cell-agrees D) (filter p os) (filtered _ p os h))
+
   step-agree : (workers : ℕ) (C : Laid) (line : Line) (a : Act N) → AgreeOn L M a → step_of workers L C line a ≡ step_of workers M C line a
-  step-agree workers C line (Registers r) h = refl
   step-agree workers C line (Plans q p) h = λ i. let D = take (h.number i) p C in step D (plan_block (h.root i) (active-agrees C q h i) D (h.number i) p line)
-  step-agree workers C line (Reduces q by) h = refl
   step-agree workers C line (Tasks t) h =
-      let cells : (D : Laid) (os : List (Operand N)) → AllByRecursion (λ o. Agree L M o.name) os → map (operand_cell L D) os ≡ map (operand_cell M D) os =
-      λ D os g. map-same (operand_cell L D) (operand_cell M D) os (all-of _ _ (cell-agrees D) os g) in
-      let laid = ap (fold (with_copies workers) C) (cells C (contributed t) (filtered _ (λ o. is_redux o.mode) t.operands h)) in
-      ap (λ (D : Laid). step D (task_block L D t line)) laid
-      ∙ rest (fold (with_copies workers) C (map (operand_cell M C) (contributed t))) cells
+      ap (λ (D : Laid). step D (task_block L D t line)) (ap (fold (with_copies workers) C) (cells-agree C (λ o. is_redux o.mode) t.operands h))
+      ∙ rest (fold (with_copies workers) C (map (operand_cell M C) (contributed t)))
     where
-      rest : (D : Laid) → ((D : Laid) (os : List (Operand N)) → AllByRecursion (λ o. Agree L M o.name) os → map (operand_cell L D) os ≡ map (operand_cell M D) os) → step D (task_block L D t line) ≡ step D (task_block M D t line)
-      rest D cells = λ i. task_with t line D
-          (cells D (filter is_other_access t.operands) (filtered _ is_other_access t.operands h) i)
-          (flat-same (opening_of L D) (opening_of M D) (contributed t) (all-of _ _ (opening-agrees D) (contributed t) (filtered _ (λ o. is_redux o.mode) t.operands h)) i)
-          (map-same (access_of L D) (access_of M D) t.operands (all-of _ _ (λ o a. λ j. record { mode = o.mode; cell = cell-agrees D o a j }) t.operands h) i)
+      rest : (D : Laid) → step D (task_block L D t line) ≡ step D (task_block M D t line)
+      rest D = λ i. task_with t line D
+          (cells-agree D is_other_access t.operands h i)
+          (flat-same (opening_of L D) (opening_of M D) (contributed t) (each-weaker _ _ (opening-agrees D) (contributed t) (filtered _ (λ o. is_redux o.mode) t.operands h)) i)
+          (map-same (access_of L D) (access_of M D) t.operands (each-weaker _ _ (λ o a. λ j. record { mode = o.mode; cell = cell-agrees D o a j }) t.operands h) i)
   step-agree workers C line (Prints q) h = λ i. step (with_print C) (print_block (h.number i) (h.root i) (active-agrees C q h i) C.prints line)
   step-agree workers C line (Invalidates q) h = λ i. step C (closing line (active-agrees C q h i) [])
   step-agree workers C line (Unregisters q) h = λ i. step C (closing line (active-agrees C q h i) [])
+  step-agree workers C line a h = refl
 
 -- ---- whole jobs
 
@@ -154,13 +120,12 @@ agrees : (names : List (List ℕ)) → AreDistinct names → (S : JobState) (rs 
 agrees names d S rs m n h = record { number = number-named names n d h.below; root = m.same n h.below }
 
 agrees-on : (names : List (List ℕ)) → AreDistinct names → (S : JobState) (rs : List RootState) → IsMirror names S rs → (a : Act ℕ) → IsTimely names S rs a → AgreeOn (through (name_at names) (by_name names S)) (by_number rs) a
-agrees-on names d S rs m (Registers r) h = tt
 agrees-on names d S rs m (Plans n p) h = agrees names d S rs m n h
-agrees-on names d S rs m (Reduces n by) h = tt
-agrees-on names d S rs m (Tasks t) h = all-of _ _ (λ (o : Operand ℕ) k. agrees names d S rs m o.name k) t.operands h
+agrees-on names d S rs m (Tasks t) h = each-weaker _ _ (λ (o : Operand ℕ) k. agrees names d S rs m o.name k) t.operands h
 agrees-on names d S rs m (Prints n) h = agrees names d S rs m n h
 agrees-on names d S rs m (Invalidates n) h = agrees names d S rs m n h
 agrees-on names d S rs m (Unregisters n) h = agrees names d S rs m n h
+agrees-on names d S rs m a h = tt
 
 -- statements that come in time give the same by names and by numbers
 pub steps-same : (workers : ℕ) (names : List (List ℕ)) → AreDistinct names → (S : JobState) (rs : List RootState) (C : Laid) (ss : List (Statement ℕ)) → IsMirror names S rs → AreTimely names S rs ss

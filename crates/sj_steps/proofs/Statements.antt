@@ -1,64 +1,68 @@
 -- What each kind of statement does, by what the code's calls gave.
-use Rattle.std.proofs.Common.{◌≡◌, ℕ, ◌+◌, ◌*◌, ◌<◌, ◌≤◌, Bool, true, false, cond, ◌&&◌, ◌||◌, Option, Some, None, List, [], ◌∷◌, ◌++◌, length, map as each_of, fold, get_or, refl, sym, ap, subst, ◌∙◌, inl, inr, arith, length-append, get_or-set_same, get_or-set_other}
-use Rattle.std.specs.Prelude.{All, set, unwrap_or, zip}
+use Rattle.std.proofs.Common.{◌≡◌, ℕ, ◌+◌, ◌*◌, ◌<◌, ◌≤◌, Bool, true, false, cond, Option, Some, None, List, [], ◌∷◌, ◌++◌, length, map as each_of, fold, refl, sym, ap, subst, ◌∙◌, arith, length-append}
+use Rattle.std.specs.Prelude.{set, unwrap_or, zip}
 use Rattle.std.specs.List.{range_with_len}
-use Rattle.std.proofs.lemmas.Bool.{cases_eq}
-use Rattle.std.proofs.lemmas.List.{length-set}
 use Rattle.std.proofs.lemmas.Simd.{map-map}
 use Rattle.indexmap.specs.IndexMap.{get}
 use Rattle.sj_base.specs.declared.ids.Cell.{Cell}
 use Rattle.sj_base.specs.declared.ids.Line.{Line}
 use Rattle.sj_base.specs.declared.ids.Root.{Root as RootNumber}
-use Rattle.sj_base.specs.declared.mode.Access.{Access}
 use Rattle.sj_base.specs.declared.mode.Reduction.{Reduction}
 use Rattle.sj_base.specs.declared.program.Delivery.{Delivery}
 use Rattle.sj_base.specs.declared.program.Lowered.{Lowered}
 use Rattle.sj_base.specs.declared.tile.Dims.{Dims}
-use Rattle.sj_base.specs.Array.{area}
 use Rattle.sj_plan.specs.declared.parts.Parts.{Parts}
-use Rattle.sj_plan.specs.Parts.{Fits, IsPlace, places}
+use Rattle.sj_plan.specs.Parts.{Fits, places}
 use Rattle.sj_plan.specs.Paste.{pastes_of}
 use Rattle.sj_meaning.specs.declared.job.Init.{Init}
 use Rattle.sj_meaning.specs.declared.job.RootInfo.{RootInfo}
-use Rattle.sj_meaning.specs.declared.job.Operand.{Operand as Kept}
-use Rattle.sj_meaning.specs.declared.job.TaskLine.{TaskLine as KeptTask}
 use Rattle.sj_meaning.specs.declared.job.Act.{Act as KeptAct}
 use Rattle.sj_meaning.specs.declared.job.Act.TheVariants as kept
-use Rattle.sj_meaning.specs.Statement.{Register, Operand}
-use Rattle.sj_meaning.specs.State.{RootState, is_valued, is_valued_child}
+use Rattle.sj_meaning.specs.Statement.{Register}
+use Rattle.sj_meaning.specs.State.{RootState, is_valued}
 use Rattle.sj_meaning.specs.Meaning.{registered_root, with_parts, with_reduction, with_elements, no_values}
-use Rattle.sj_meaning.specs.Numbers.{root_at, no_root, change_at, registration_at, act_at, apply_at}
-use Rattle.sj_meaning.specs.Sound.{InitFits, is_lawful_for}
+use Rattle.sj_meaning.specs.Numbers.{root_at, no_root, change_at, registration_at}
 use Rattle.sj_meaning.specs.Table.{Table, a_root, info_of}
 use Rattle.sj_phases.specs.declared.expander.Expander.{Expander}
-use Rattle.sj_phases.specs.declared.phase.Opening.{Opening}
 use Rattle.sj_phases.specs.Block.{Block}
-use Rattle.sj_phases.specs.Does.{HasAt, IsAt, Does}
-use Rattle.sj_phases.specs.Expand.{Expansion, closed, opened, expanded, with_own, most}
-use Rattle.sj_phases.proofs.Doing.{has-after}
+use Rattle.sj_phases.specs.Does.{Does}
+use Rattle.sj_phases.specs.Expand.{Expansion, closed, expanded, with_own, most}
 use Rattle.sj_steps.specs.declared.layout.Active.{Active}
 use Rattle.sj_steps.specs.declared.layout.Layout.{Layout}
 use Rattle.sj_steps.specs.declared.rows.Placed.{Placed}
 use Rattle.sj_steps.specs.declared.steps.Steps.{Steps}
-use Rattle.sj_steps.specs.Adds.{is_contributed, CanOpen, Opens, StepsAt, IsNext, HasNext, Goes, Adds, finds_at}
+use Rattle.sj_steps.specs.Adds.{StepsAt, IsNext, HasNext, Goes, Adds}
 use Rattle.sj_steps.specs.Cells.{cells_from, same_parts}
-use Rattle.sj_steps.specs.Follows.{taken, same_taken, Lays, Follows, AreActive, IsActive, no_active, active_at, HasCells, IsInside, cell_by, cells_by, access_by, is_other}
-use Rattle.sj_steps.specs.Laid.{Laid, handle_at, handle_of, first_cell, cell_of, take, with_root, with_print, info_at, first_copy, with_copies}
+use Rattle.sj_steps.specs.Follows.{taken, same_taken, Lays, Follows, AreActive, IsActive, active_at, HasCells, cells_by}
+use Rattle.sj_steps.specs.Laid.{Laid, Handle, handle_at, handle_of, first_cell, cell_of, take, with_root, with_print}
 use Rattle.sj_steps.specs.Rows.{load_rows, paste_row, deliver_row}
-use Rattle.sj_steps.specs.SoundAt.{Lives, has_value, IsPlaced, IsSoundTask}
-use Rattle.sj_steps.specs.Step.{by_number, step_of, closing, active_cells, operand_cell, opening_of, contributed, a_delivery, task_row, access_of}
+use Rattle.sj_steps.specs.SoundAt.{Lives}
+use Rattle.sj_steps.specs.Step.{by_number, closing, active_cells, a_delivery}
 use Rattle.sj_steps.specs.Step as step
-use Rattle.sj_steps.specs.Whole.{IsTaken, IsWhole, HaveCopies}
-use Rattle.sj_steps.proofs.Arms.{early-before, does-if, does-block, does-closing, does-empty, does-task, does-start-close, goes, prints-kept, keeps-change, keeps-put, kept-of, kept-end}
-use Rattle.sj_steps.proofs.Keeping.{lives-below, changed-here, changed-beside}
-use Rattle.sj_steps.proofs.Laying.{follows-kept, cell-same, cells-same, has-cells, is-inside, take-prints, copies-prints}
-use Rattle.sj_steps.proofs.Places.{parts-are}
-use Rattle.sj_steps.proofs.Taken.{some_is, none_isn't, laid-root, laid-take, root-there, take-keeps, take-dims, cell-inside}
+use Rattle.sj_steps.specs.Whole.{AreLaid}
+use Rattle.sj_steps.proofs.Arms.{early-before, does-if, does-block, does-closing, does-empty, does-start-close, goes, goes-kept, keeps-change, kept-of, kept-end}
+use Rattle.sj_steps.proofs.Keeping.{lives-below}
+use Rattle.sj_steps.proofs.Laying.{active-set, keeps-take, follows-kept, cells-same, has-cells, take-prints}
+use Rattle.sj_steps.proofs.Taken.{laid-root, laid-take, root-there}
 
--- ---- what the code has before a statement
+-- ---- what the code has
 
-at-phases : (T : Table) (x : Steps) (a : KeptAct) → HasNext T x a → HasAt x.phases
-at-phases T x a h = record { expansion = h.expansion; at = h.at.phases }
+-- the cells of a plan that a root has taken are within the limit
+room : (B : Laid) (n : ℕ) (p : Parts) (first : ℕ) → n < length B.handles → Fits p (handle_at B n).dims → AreLaid B → (handle_at (take n p B) n).first p ≡ Some first → length (take n p B).rows ≤ most → first + p.r * p.c ≤ most
+room B n p first there fits laid is few =
+    let d = (handle_at (take n p B) n).dims in
+    omega (arith, (laid-take B n p there fits laid).inside n d p first (record { dims = refl; first = is }), few)
+
+-- the active plan of a root fits its dimensions
+fits-active : (T : Table) (old : Steps) (a : KeptAct) (n : ℕ) → (h : HasNext T old a) → Lives h.roots n → Fits (active_at old.layout.actives.items n).placed.parts (info_of T (a_root n)).dims
+fits-active T old a n h lives =
+    let r = root_at h.roots n in
+    let t = h.next.whole.taken n lives in
+    subst (λ (d : Dims). Fits (active_at old.layout.actives.items n).placed.parts d) (sym (h.next.dims n lives)) (subst (λ (s : Parts). Fits s r.dims) (sym (h.at.layout.active.each n lives).parts) (h.next.whole.laid.fits n r.dims r.parts t.0 t.1))
+
+-- what closes the cells of a root's active plan
+shuts : (old : Steps) (x : Expander) (line : Line) (n : ℕ) (rs : List RootState) (C : Laid) → Follows old.layout rs C → Lives rs n → Does old.phases x line (λ F. fold (closed old.phases.workers) F (cells_by (active_at old.layout.actives.items n).placed)) → Does old.phases x line (λ F. fold (closed old.phases.workers) F (active_cells (by_number rs) C n))
+shuts old x line n rs C follows lives does = subst (λ (cs : List Cell). Does old.phases x line (λ F. fold (closed old.phases.workers) F cs)) (cells-same old.layout rs C n follows lives) does
 
 -- ---- registrations
 
@@ -84,20 +88,11 @@ module _ (T : Table) (old : Steps) (init : Init) (h : HasNext T old (kept.Regist
   pub register-table : length rs < 4096
   register-table = omega (arith, h.next.named, h.next.table)
 
-  abbrev n : ℕ
-  n = length C.handles
-
-  there : n < length (with_root r.dims C).handles
-  there = omega (arith, length-append C.handles (handle_of r.dims ∷ []))
-
   -- the cells of the new root are within the limit
-  pub register-room : (l : Layout) (placed : Placed) → Follows l (rs ++ registered_root r ∷ []) (take n r.parts (with_root r.dims C)) → (handle_at (take n r.parts (with_root r.dims C)) n).first r.parts ≡ Some placed.first → placed.first + r.parts.r * r.parts.c ≤ most
+  pub register-room : (l : Layout) (placed : Placed) → Follows l (rs ++ registered_root r ∷ []) (take (length C.handles) r.parts (with_root r.dims C)) → (handle_at (take (length C.handles) r.parts (with_root r.dims C)) (length C.handles)).first r.parts ≡ Some placed.first → placed.first + r.parts.r * r.parts.c ≤ most
   register-room l placed follows first =
-      let D = take n r.parts (with_root r.dims C) in
-      let dims : (handle_at (with_root r.dims C) n).dims ≡ r.dims = ap (λ x. x.dims) (root-there C r.dims n refl) in
-      let laid = laid-take (with_root r.dims C) n r.parts there (subst (λ (d : Dims). Fits r.parts d) (sym dims) h.next.sound.parts) (laid-root C r.dims h.next.whole.laid h.next.sound.elements) in
-      let t : IsTaken D n r.dims r.parts placed.first = record { dims = take-dims (with_root r.dims C) n r.parts there n ∙ dims; first = first } in
-      omega (arith, laid.inside n r.dims r.parts placed.first t, follows.lays.few)
+      room (with_root r.dims C) (length C.handles) r.parts placed.first (omega (arith, length-append C.handles (handle_of r.dims ∷ []))) (subst (λ (x : Handle). Fits r.parts x.dims) (sym (root-there C r.dims (length C.handles) refl)) h.next.sound.parts)
+      (laid-root C r.dims h.next.whole.laid h.next.sound.elements) first follows.lays.few
 
 pub register-adds : (T : Table) (old new : Steps) (init : Init) (line : Line) (info : RootInfo) (placed : Placed) (k : ℕ) → k ≡ length old.layout.actives.items → info ≡ info_of T (a_root k) → placed.parts ≡ info.parts
     → ((rs : List RootState) (C : Laid) (r : Register ℕ) → Follows old.layout rs C → length C.handles ≡ length rs → r.dims ≡ info.dims → r.parts ≡ info.parts
@@ -106,24 +101,18 @@ pub register-adds : (T : Table) (old new : Steps) (init : Init) (line : Line) (i
 register-adds T old new init line info placed k count is parts laid does prints = λ rs C E at next.
     let r : Register ℕ = registration_at (length rs) (info_of T (a_root (length rs))) init in
     let info_is : info ≡ info_of T (a_root (length rs)) = is ∙ ap (λ i. info_of T (a_root i)) (count ∙ at.layout.active.counted ∙ next.whole.counted) in
-    let d : info.dims ≡ r.dims = ap (λ (i : RootInfo). i.dims) info_is in
-    let p : info.parts ≡ r.parts = ap (λ (i : RootInfo). i.parts) info_is in
     let n = length C.handles in
     let D = take n r.parts (with_root r.dims C) in
-    let lays = laid rs C r at.layout next.whole.counted (sym d) (sym p) in
+    let lays = laid rs C r at.layout next.whole.counted (ap (λ (i : RootInfo). i.dims) (sym info_is)) (ap (λ (i : RootInfo). i.parts) (sym info_is)) in
     let f : placed.first ≡ first_cell D n r.parts = sym (ap (λ (o : Option ℕ). unwrap_or o 0) lays.1) in
-    let q : placed.parts ≡ r.parts = parts ∙ p in
-    let rows : load_rows init info.dims placed.parts (cells_from placed.first placed.parts) line ≡ load_rows init r.dims r.parts (cell_of D n r.parts) line =
-    λ i. load_rows init (d i) (q i) (cells_from (f i) (q i)) line in
-    let b = closing line [] (load_rows init r.dims r.parts (cell_of D n r.parts) line) in
-    let here = does-block old.phases old.phases new.phases line [] (load_rows init r.dims r.parts (cell_of D n r.parts) line) [] (does-start-close old.phases line [] refl (record { expansion = E; at = at.phases }))
-    (subst (λ (ls : List Lowered). Does old.phases new.phases line (with_own ls [])) rows does) in
-    goes old new line rs (rs ++ registered_root r ∷ []) C D E b at lays.0 (prints-kept old new line rs C D E (λ F. expanded old.phases.workers F b) at here prints (take-prints (with_root r.dims C) n r.parts)) here
+    let q : placed.parts ≡ r.parts = parts ∙ ap (λ (i : RootInfo). i.parts) info_is in
+    let ls = load_rows init r.dims r.parts (cell_of D n r.parts) line in
+    let rows : load_rows init info.dims placed.parts (cells_from placed.first placed.parts) line ≡ ls = λ i. load_rows init (info_is i).dims (q i) (cells_from (f i) (q i)) line in
+    goes-kept old new line rs (rs ++ registered_root r ∷ []) C D E (closing line [] ls) at lays.0
+    (does-block old.phases old.phases new.phases line [] ls [] (does-start-close old.phases line [] refl (record { expansion = E; at = at.phases })) (subst (λ (xs : List Lowered). Does old.phases new.phases line (with_own xs [])) rows does))
+    prints (take-prints (with_root r.dims C) n r.parts)
 
 -- ---- plan lines
-
-parts-eq : (p q : Parts) → same_parts p q ≡ true → p ≡ q
-parts-eq p q e = parts-are p q e
 
 module _ (T : Table) (old : Steps) (root : RootNumber) (p : Parts) (v : Bool) (h : HasNext T old (kept.Plan root p v)) where
   abbrev pub plan-old : Placed
@@ -148,10 +137,7 @@ module _ (T : Table) (old : Steps) (root : RootNumber) (p : Parts) (v : Bool) (h
   plan-fits = subst (λ (d : Dims). Fits p d) (sym plan-dims) h.next.sound.1
 
   pub plan-old-fits : Fits plan-old.parts (info_of T root).dims
-  plan-old-fits =
-      let t = h.next.whole.taken root.0 plan-lives in
-      let fits : Fits (root_at h.roots root.0).parts (root_at h.roots root.0).dims = h.next.whole.laid.fits root.0 (root_at h.roots root.0).dims (root_at h.roots root.0).parts t.0 t.1 in
-      subst (λ (d : Dims). Fits plan-old.parts d) (sym plan-dims) (subst (λ (s : Parts). Fits s (root_at h.roots root.0).dims) (sym (h.at.layout.active.each root.0 plan-lives).parts) fits)
+  plan-old-fits = fits-active T old (kept.Plan root p v) root.0 h plan-lives
 
   stands : root.0 < length h.cells.handles
   stands = omega (arith, lives-below h.roots root.0 plan-lives, h.next.whole.counted)
@@ -160,10 +146,7 @@ module _ (T : Table) (old : Steps) (root : RootNumber) (p : Parts) (v : Bool) (h
   handle-dims = (h.next.whole.taken root.0 plan-lives).1.dims ∙ sym plan-dims
 
   pub plan-room : (l : Layout) (placed : Placed) → Follows l (change_at (with_parts p) root.0 h.roots) (take root.0 p h.cells) → (handle_at (take root.0 p h.cells) root.0).first p ≡ Some placed.first → placed.first + p.r * p.c ≤ most
-  plan-room l placed follows first =
-      let laid = laid-take h.cells root.0 p stands (subst (λ (d : Dims). Fits p d) (sym handle-dims) plan-fits) h.next.whole.laid in
-      let t : IsTaken (take root.0 p h.cells) root.0 (info_of T root).dims p placed.first = record { dims = take-dims h.cells root.0 p stands root.0 ∙ handle-dims; first = first } in
-      omega (arith, laid.inside root.0 (info_of T root).dims p placed.first t, follows.lays.few)
+  plan-room l placed follows first = room h.cells root.0 p placed.first stands (subst (λ (d : Dims). Fits p d) (sym handle-dims) plan-fits) h.next.whole.laid first follows.lays.few
 
 -- what the layout has after a plan line
 abbrev pub Plans : Layout → Layout → RootNumber → Dims → Parts → Placed → Type 0
@@ -185,74 +168,63 @@ module _ (T : Table) (old new : Steps) (root : RootNumber) (p : Parts) (v : Bool
     abbrev a : IsActive C root.0 (active_at old.layout.actives.items root.0) now
     a = at.layout.active.each root.0 next.sound.0.lives
 
+    abbrev cs : List Cell
+    cs = active_cells (by_number rs) C root.0
+
+    abbrev ls : List Lowered
+    ls = each_of (paste_row (cell_of D root.0 now.parts) (cell_of D root.0 p) line) (pastes_of now.dims now.parts p)
+
     lays : Follows new.layout (change_at (with_parts p) root.0 rs) D × ((handle_at D root.0).first p ≡ Some placed.first)
     lays = laid rs C at.layout next.sound.0.lives next.whole.counted ((next.whole.taken root.0 next.sound.0.lives).1.dims ∙ sym (next.dims root.0 next.sound.0.lives))
 
-    ends : (b : Block) → Does old.phases new.phases line (λ F. expanded old.phases.workers F b) → Goes old new line (change_at (with_parts p) root.0 rs) D (expanded old.phases.workers E b)
-    ends b does = goes old new line rs (change_at (with_parts p) root.0 rs) C D E b at lays.0 (prints-kept old new line rs C D E (λ F. expanded old.phases.workers F b) at does prints (take-prints C root.0 p)) does
-
     -- the first cell of the plan before it is so afterwards, too
     still : first_cell D root.0 now.parts ≡ was.first
-    still =
-        let t = next.whole.taken root.0 next.sound.0.lives in
-        ap (λ (o : Option ℕ). unwrap_or o 0) (take-keeps C root.0 p (omega (arith, lives-below rs root.0 next.sound.0.lives, next.whole.counted)) root.0 now.dims now.parts was.first (record { dims = t.1.dims; first = a.first })).first
+    still = ap (λ (o : Option ℕ). unwrap_or o 0) (keeps-take C root.0 p (omega (arith, lives-below rs root.0 next.sound.0.lives, next.whole.counted)) root.0 now.parts was.first a.first)
 
-    same-block : (t : Bool) → same_parts now.parts p ≡ t → step.plan_block now (active_cells (by_number rs) C root.0) D root.0 p line ≡ cond t (closing line [] []) (closing line (active_cells (by_number rs) C root.0) (cond (is_valued now) (each_of (paste_row (cell_of D root.0 now.parts) (cell_of D root.0 p) line) (pastes_of now.dims now.parts p)) []))
-    same-block t e = ap (λ b. cond b (closing line [] []) (closing line (active_cells (by_number rs) C root.0) (cond (is_valued now) (each_of (paste_row (cell_of D root.0 now.parts) (cell_of D root.0 p) line) (pastes_of now.dims now.parts p)) []))) e
+    -- by whether the plan is active already, and whether the root has values
+    ends : (t u : Bool) → same_parts was.parts p ≡ t → is_valued now ≡ u → (let b : Block = cond t (closing line [] []) (closing line cs (cond u ls [])) in Does old.phases new.phases line (λ F. expanded old.phases.workers F b))
+        → Goes old new line (change_at (with_parts p) root.0 rs) D (expanded old.phases.workers E (step.plan_block now cs D root.0 p line))
+    ends t u e valued does =
+        let same = ap (λ (s : Parts). same_parts s p) (sym a.parts) ∙ e in
+        let b : Block = cond t (closing line [] []) (closing line cs (cond u ls [])) in
+        let is : step.plan_block now cs D root.0 p line ≡ b = λ i. cond (same i) (closing line [] []) (closing line cs (cond (valued i) ls [])) in
+        subst (λ (x : Block). Goes old new line (change_at (with_parts p) root.0 rs) D (expanded old.phases.workers E x)) (sym is) (goes-kept old new line rs (change_at (with_parts p) root.0 rs) C D E b at lays.0 does prints (take-prints C root.0 p))
 
     pub plan-same : same_parts was.parts p ≡ true → new.phases ≡ old.phases → Goes old new line (change_at (with_parts p) root.0 rs) D (expanded old.phases.workers E (step.plan_block now (active_cells (by_number rs) C root.0) D root.0 p line))
     plan-same e phases =
-        let none = same-block true (ap (λ (s : Parts). same_parts s p) (sym a.parts) ∙ e) in
-        subst (λ (b : Block). Goes old new line (change_at (with_parts p) root.0 rs) D (expanded old.phases.workers E b)) (sym none)
-        (ends (closing line [] []) (subst (λ (x : Expander). Does old.phases x line (λ F. expanded old.phases.workers F (closing line [] []))) (sym phases) (does-empty old.phases line (record { expansion = E; at = at.phases }))))
-
-    closes-same : (x : Expander) → Does old.phases x line (λ F. fold (closed old.phases.workers) F (cells_by was)) → Does old.phases x line (λ F. fold (closed old.phases.workers) F (active_cells (by_number rs) C root.0))
-    closes-same x does = subst (λ (cs : List Cell). Does old.phases x line (λ F. fold (closed old.phases.workers) F cs)) (cells-same old.layout rs C root.0 at.layout next.sound.0.lives) does
+        ends true (is_valued now) e refl (subst (λ (x : Expander). Does old.phases x line (λ F. expanded old.phases.workers F (closing line [] []))) (sym phases) (does-empty old.phases line (record { expansion = E; at = at.phases })))
 
     pub plan-bare : same_parts was.parts p ≡ false → v ≡ false → Does old.phases new.phases line (λ F. fold (closed old.phases.workers) F (cells_by was)) → Goes old new line (change_at (with_parts p) root.0 rs) D (expanded old.phases.workers E (step.plan_block now (active_cells (by_number rs) C root.0) D root.0 p line))
-    plan-bare e bare does =
-        let is = same-block false (ap (λ (s : Parts). same_parts s p) (sym a.parts) ∙ e)
-        ∙ ap (λ t. closing line (active_cells (by_number rs) C root.0) (cond t (each_of (paste_row (cell_of D root.0 now.parts) (cell_of D root.0 p) line) (pastes_of now.dims now.parts p)) [])) (sym next.valued ∙ bare) in
-        subst (λ (b : Block). Goes old new line (change_at (with_parts p) root.0 rs) D (expanded old.phases.workers E b)) (sym is)
-        (ends (closing line (active_cells (by_number rs) C root.0) []) (does-closing old.phases new.phases line (active_cells (by_number rs) C root.0) (closes-same new.phases does)))
+    plan-bare e bare does = ends false false e (sym next.valued ∙ bare) (does-closing old.phases new.phases line cs (shuts old new.phases line root.0 rs C at.layout next.sound.0.lives does))
 
     pub plan-pastes : (mid : Expander) → same_parts was.parts p ≡ false → v ≡ true → Does old.phases mid line (λ F. fold (closed old.phases.workers) F (cells_by was))
         → Does mid new.phases line (with_own (each_of (paste_row (cells_from was.first was.parts) (cells_from placed.first placed.parts) line) (pastes_of (info_of T root).dims was.parts placed.parts)) [])
         → Goes old new line (change_at (with_parts p) root.0 rs) D (expanded old.phases.workers E (step.plan_block now (active_cells (by_number rs) C root.0) D root.0 p line))
     plan-pastes mid e valued does pastes =
-        let is = same-block false (ap (λ (s : Parts). same_parts s p) (sym a.parts) ∙ e)
-        ∙ ap (λ t. closing line (active_cells (by_number rs) C root.0) (cond t (each_of (paste_row (cell_of D root.0 now.parts) (cell_of D root.0 p) line) (pastes_of now.dims now.parts p)) [])) (sym next.valued ∙ valued) in
         let first : placed.first ≡ first_cell D root.0 p = sym (ap (λ (o : Option ℕ). unwrap_or o 0) lays.1) in
-        let rows : each_of (paste_row (cells_from was.first was.parts) (cells_from placed.first placed.parts) line) (pastes_of (info_of T root).dims was.parts placed.parts) ≡ each_of (paste_row (cell_of D root.0 now.parts) (cell_of D root.0 p) line) (pastes_of now.dims now.parts p) =
+        let rows : each_of (paste_row (cells_from was.first was.parts) (cells_from placed.first placed.parts) line) (pastes_of (info_of T root).dims was.parts placed.parts) ≡ ls =
         λ i. each_of (paste_row (cells_from (sym still i) (a.parts i)) (cells_from (first i) (parts i)) line) (pastes_of (next.dims root.0 next.sound.0.lives i) (a.parts i) (parts i)) in
-        let ls = each_of (paste_row (cell_of D root.0 now.parts) (cell_of D root.0 p) line) (pastes_of now.dims now.parts p) in
-        subst (λ (b : Block). Goes old new line (change_at (with_parts p) root.0 rs) D (expanded old.phases.workers E b)) (sym is)
-        (ends (closing line (active_cells (by_number rs) C root.0) ls) (does-block old.phases mid new.phases line (active_cells (by_number rs) C root.0) ls [] (closes-same mid does) (subst (λ (xs : List Lowered). Does mid new.phases line (with_own xs [])) rows pastes)))
+        ends false true e (sym next.valued ∙ valued) (does-block old.phases mid new.phases line cs ls [] (shuts old mid line root.0 rs C at.layout next.sound.0.lives does) (subst (λ (xs : List Lowered). Does mid new.phases line (with_own xs [])) rows pastes))
 
 -- ---- roots whose cells are closed
 
-module _ (T : Table) (old new : Steps) (n : ℕ) (a : KeptAct) (line : Line) where
-  closes : (rs : List RootState) (C : Laid) → Follows old.layout rs C → Lives rs n → Does old.phases new.phases line (λ F. fold (closed old.phases.workers) F (cells_by (active_at old.layout.actives.items n).placed)) → Does old.phases new.phases line (λ F. expanded old.phases.workers F (closing line (active_cells (by_number rs) C n) []))
-  closes rs C follows lives does =
-      does-closing old.phases new.phases line (active_cells (by_number rs) C n) (subst (λ (cs : List Cell). Does old.phases new.phases line (λ F. fold (closed old.phases.workers) F cs)) (cells-same old.layout rs C n follows lives) does)
+-- the phases of a root's cells are closed, and each root that lives keeps its plan
+closes-root : (old new : Steps) (n : ℕ) (line : Line) → new.layout ≡ old.layout → new.prints ≡ old.prints → Does old.phases new.phases line (λ F. fold (closed old.phases.workers) F (cells_by (active_at old.layout.actives.items n).placed)) → (rs qs : List RootState) (C : Laid) (E : Expansion) → StepsAt old rs C E → Lives rs n
+    → ((m : ℕ) → Lives qs m → Lives rs m × ((root_at qs m).parts ≡ (root_at rs m).parts) × ((root_at qs m).reduction ≡ (root_at rs m).reduction)) → Goes old new line qs C (expanded old.phases.workers E (closing line (active_cells (by_number rs) C n) []))
+closes-root old new n line layout prints does rs qs C E at lives kept =
+    let cs = active_cells (by_number rs) C n in
+    goes-kept old new line rs qs C C E (closing line cs []) at
+    (follows-kept old.layout new.layout rs qs C C at.layout (subst (λ (l : Layout). Lays l C) (sym layout) at.layout.lays) refl (ap (λ (l : Layout). l.actives) layout) kept)
+    (does-closing old.phases new.phases line cs (shuts old new.phases line n rs C at.layout lives does)) prints refl
 
 pub invalidate-adds : (T : Table) (old new : Steps) (root : RootNumber) (line : Line) → new.layout ≡ old.layout → new.prints ≡ old.prints → Does old.phases new.phases line (λ F. fold (closed old.phases.workers) F (cells_by (active_at old.layout.actives.items root.0).placed)) → Adds T old new (kept.Invalidate root) line
 invalidate-adds T old new root line layout prints does = λ rs C E at next.
-    let qs = change_at (λ r. with_elements (no_values r.dims) r) root.0 rs in
-    let here = closes T old new root.0 (kept.Invalidate root) line rs C at.layout next.sound does in
-    goes old new line rs qs C C E (closing line (active_cells (by_number rs) C root.0) []) at
-    (follows-kept old.layout new.layout rs qs C C at.layout (subst (λ (l : Layout). Lays l C) (sym layout) at.layout.lays) refl (ap (λ (l : Layout). l.actives) layout)
-    (λ m lives. kept-of rs qs m (keeps-change (λ r. with_elements (no_values r.dims) r) root.0 rs (λ r. (refl, refl, refl)) m) lives))
-    (prints-kept old new line rs C C E (λ F. expanded old.phases.workers F (closing line (active_cells (by_number rs) C root.0) [])) at here prints refl) here
+    let f : RootState → RootState = λ r. with_elements (no_values r.dims) r in
+    closes-root old new root.0 line layout prints does rs (change_at f root.0 rs) C E at next.sound (λ m. kept-of rs (change_at f root.0 rs) m (keeps-change f root.0 rs (λ r. (refl, refl, refl)) m))
 
 pub unregister-adds : (T : Table) (old new : Steps) (root : RootNumber) (line : Line) → new.layout ≡ old.layout → new.prints ≡ old.prints → Does old.phases new.phases line (λ F. fold (closed old.phases.workers) F (cells_by (active_at old.layout.actives.items root.0).placed)) → Adds T old new (kept.Unregister root) line
 unregister-adds T old new root line layout prints does = λ rs C E at next.
-    let qs = set rs root.0 no_root in
-    let here = closes T old new root.0 (kept.Unregister root) line rs C at.layout next.sound does in
-    goes old new line rs qs C C E (closing line (active_cells (by_number rs) C root.0) []) at
-    (follows-kept old.layout new.layout rs qs C C at.layout (subst (λ (l : Layout). Lays l C) (sym layout) at.layout.lays) refl (ap (λ (l : Layout). l.actives) layout)
-    (λ m lives. kept-end rs root.0 m (lives-below rs root.0 next.sound) lives))
-    (prints-kept old new line rs C C E (λ F. expanded old.phases.workers F (closing line (active_cells (by_number rs) C root.0) [])) at here prints refl) here
+    closes-root old new root.0 line layout prints does rs (set rs root.0 no_root) C E at next.sound (λ m. kept-end rs root.0 m (lives-below rs root.0 next.sound))
 
 -- ---- print lines
 
@@ -267,10 +239,7 @@ module _ (T : Table) (old : Steps) (root : RootNumber) (h : HasNext T old (kept.
   print-named = omega (arith, lives-below h.roots root.0 h.next.sound.0, h.next.named)
 
   pub print-fits : Fits print-placed.parts (info_of T root).dims
-  print-fits =
-      let r = root_at h.roots root.0 in
-      let t = h.next.whole.taken root.0 h.next.sound.0 in
-      subst (λ (d : Dims). Fits print-placed.parts d) (sym (h.next.dims root.0 h.next.sound.0)) (subst (λ (s : Parts). Fits s r.dims) (sym (h.at.layout.active.each root.0 h.next.sound.0).parts) (h.next.whole.laid.fits root.0 r.dims r.parts t.0 t.1))
+  print-fits = fits-active T old (kept.Print root) root.0 h h.next.sound.0
 
   -- there are no more print statements than tasks
   pub print-few : old.phases.over ≡ None → old.prints ≤ most
@@ -284,18 +253,14 @@ print-adds T old new root line mid layout prints does delivers = λ rs C E at ne
     let r = root_at rs root.0 in
     let x = (active_at old.layout.actives.items root.0).placed in
     let cs = active_cells (by_number rs) C root.0 in
-    let cells = cells-same old.layout rs C root.0 at.layout next.sound.0 in
-    let parts = (at.layout.active.each root.0 next.sound.0).parts in
-    let dims = next.dims root.0 next.sound.0 in
     let rows : each_of (λ place. deliver_row (cells_from x.first x.parts place) line) (places x.parts) ≡ each_of (λ c. deliver_row c line) cs =
-    sym (map-map (λ c. deliver_row c line) (cells_from x.first x.parts) (places x.parts)) ∙ ap (each_of (λ (c : Cell). deliver_row c line)) cells in
+    sym (map-map (λ c. deliver_row c line) (cells_from x.first x.parts) (places x.parts)) ∙ ap (each_of (λ (c : Cell). deliver_row c line)) (cells-same old.layout rs C root.0 at.layout next.sound.0) in
     let ds : ℕ → Dims → Parts → List Delivery = λ print d p. each_of (a_delivery root.0 d p print) (zip (range_with_len 0 (length (places p))) (places p)) in
     let own : Does mid new.phases line (with_own (each_of (λ c. deliver_row c line) cs) (ds C.prints r.dims r.parts)) =
     does-if mid new.phases line (with_own (each_of (λ place. deliver_row (cells_from x.first x.parts place) line) (places x.parts)) (ds old.prints (info_of T root).dims x.parts)) (with_own (each_of (λ c. deliver_row c line) cs) (ds C.prints r.dims r.parts))
-    (λ none F. λ i. with_own (rows i) (ds (at.prints (early-before old.phases mid line (λ F. fold (closed old.phases.workers) F (cells_by x)) E at.phases does none) i) (dims i) (parts i)) F) delivers in
-    let shut = subst (λ (xs : List Cell). Does old.phases mid line (λ F. fold (closed old.phases.workers) F xs)) cells does in
+    (λ none F. λ i. with_own (rows i) (ds (at.prints (early-before old.phases mid line (λ F. fold (closed old.phases.workers) F (cells_by x)) E at.phases does none) i) (next.dims root.0 next.sound.0 i) ((at.layout.active.each root.0 next.sound.0).parts i)) F) delivers in
     let block = step.print_block root.0 r cs C.prints line in
-    let here = does-block old.phases mid new.phases line cs (each_of (λ c. deliver_row c line) cs) (ds C.prints r.dims r.parts) shut own in
+    let here = does-block old.phases mid new.phases line cs (each_of (λ c. deliver_row c line) cs) (ds C.prints r.dims r.parts) (shuts old mid line root.0 rs C at.layout next.sound.0 does) own in
     goes old new line rs rs C (with_print C) E block at
     (follows-kept old.layout new.layout rs rs C (with_print C) at.layout (subst (λ (l : Layout). Lays l (with_print C)) (sym layout) (record { rows = at.layout.lays.rows; few = at.layout.lays.few; firsts = at.layout.lays.firsts })) refl (ap (λ (l : Layout). l.actives) layout) (λ m lives. (lives, refl, refl)))
     (λ none. prints none ∙ ap (λ n. n + 1) (at.prints (early-before old.phases new.phases line (λ F. expanded old.phases.workers F block) E at.phases here none))) here
@@ -310,35 +275,15 @@ module _ (T : Table) (old new : Steps) (root : RootNumber) (by : Reduction) (lin
   reduce-adds infos firsts actives phases prints = λ rs C E at next.
       let n = root.0 in
       let qs = change_at (with_reduction by) n rs in
-      let lives = next.sound.0 in
-      let below : n < length old.layout.actives.items = omega (arith, lives-below rs n lives, next.whole.counted, at.layout.active.counted) in
-      let lays : Lays new.layout C = record {
-        rows = ap (λ v. v.items) infos ∙ at.layout.lays.rows;
-        few = at.layout.lays.few;
-        firsts = λ m p. ap (λ f. get same_taken f (taken m p)) firsts ∙ at.layout.lays.firsts m p;
-      } in
+      let was = at.layout.active.each n next.sound.0 in
+      let is : IsActive C n mine (with_reduction by (root_at rs n)) = record { parts = was.parts; first = was.first; reduction = refl } in
       let follows : Follows new.layout qs C = record {
-        lays = lays;
-        active = record {
-          counted = ap length actives ∙ length-set old.layout.actives.items n mine ∙ at.layout.active.counted;
-          each = λ m alive. elim (cases_eq m n) as (λ _. IsActive C m (active_at new.layout.actives.items m) (root_at qs m)) [
-            | inl e ↦
-                let was = at.layout.active.each n lives in
-                let is : root_at qs m ≡ with_reduction by (root_at rs n) = ap (root_at qs) e ∙ changed-here (with_reduction by) n rs lives in
-                let active : active_at new.layout.actives.items m ≡ mine = ap (λ as'. active_at as' m) actives ∙ ap (active_at (set old.layout.actives.items n mine)) e ∙ get_or-set_same old.layout.actives.items n mine no_active below in
-                record {
-                  parts = ap (λ (a : Active). a.placed.parts) active ∙ was.parts ∙ sym (ap (λ (x : RootState). x.parts) is);
-                  first = (λ i. (handle_at C (e i)).first (is i).parts) ∙ was.first ∙ ap (λ (a : Active). Some a.placed.first) (sym active);
-                  reduction = ap (λ (a : Active). a.reduction) active ∙ sym (ap (λ (x : RootState). x.reduction) is);
-                }
-            | inr other ↦
-                let is = changed-beside (with_reduction by) n m rs other in
-                let was : Lives rs m = subst (λ (x : RootState). 0 < area x.dims) is alive in
-                let active : active_at new.layout.actives.items m ≡ active_at old.layout.actives.items m = ap (λ as'. active_at as' m) actives ∙ get_or-set_other old.layout.actives.items n m mine no_active other in
-                subst (λ (x : RootState). IsActive C m (active_at new.layout.actives.items m) x) (sym is) (subst (λ (a : Active). IsActive C m a (root_at rs m)) (sym active) (at.layout.active.each m was))
-          ];
+        lays = record {
+          rows = ap (λ v. v.items) infos ∙ at.layout.lays.rows;
+          few = at.layout.lays.few;
+          firsts = λ m p. ap (λ f. get same_taken f (taken m p)) firsts ∙ at.layout.lays.firsts m p;
         };
+        active = subst (λ bs. AreActive bs qs C) (sym actives) (active-set old.layout.actives.items rs C C n (with_reduction by) mine at.layout.active next.sound.0 next.whole.counted refl is (λ m s f e. e));
       } in
-      let block = closing line [] [] in
-      let here = subst (λ (x : Expander). Does old.phases x line (λ F. expanded old.phases.workers F block)) (sym phases) (does-empty old.phases line (record { expansion = E; at = at.phases })) in
-      goes old new line rs qs C C E block at follows (prints-kept old new line rs C C E (λ F. expanded old.phases.workers F block) at here prints refl) here
+      goes-kept old new line rs qs C C E (closing line [] []) at follows
+      (subst (λ (x : Expander). Does old.phases x line (λ F. expanded old.phases.workers F (closing line [] []))) (sym phases) (does-empty old.phases line (record { expansion = E; at = at.phases }))) prints refl

@@ -1,9 +1,11 @@
 -- What a task line does, by what the code's calls gave.
-use Rattle.std.proofs.Common.{◌≡◌, ℕ, ◌+◌, ◌<◌, ◌≤◌, Bool, true, false, cond, not, ◌&&◌, ◌||◌, Option, Some, None, List, [], ◌∷◌, ◌++◌, length, map, fold, get_or, refl, sym, ap, subst, ◌∙◌, arith}
+use Rattle.std.proofs.Common.{◌≡◌, ℕ, ◌+◌, ◌<◌, Bool, true, false, not, ◌||◌, Option, Some, None, List, [], ◌∷◌, ◌++◌, length, map, fold, get_or, refl, sym, ap, subst, ◌∙◌}
 use Rattle.std.specs.Prelude.{All, unwrap_or}
-use Rattle.std.specs.List.{AllByRecursion, filter, flat_map, list_any, list_all}
+use Rattle.std.specs.List.{AllByRecursion, filter, flat_map}
 use Rattle.std.proofs.lemmas.Bool.{false≢true, and_parts}
-use Rattle.std.proofs.lemmas.List.Elements.{All-from_recursion}
+use Rattle.std.proofs.lemmas.List.Elements.{All-from_recursion, recursion_from_All}
+use Rattle.std.proofs.lemmas.List.Sums.{AllPass-from_list_all}
+use Rattle.std.proofs.lemmas.Simd.{map-map}
 use Rattle.sj_base.specs.declared.ids.Cell.{Cell}
 use Rattle.sj_base.specs.declared.ids.Line.{Line}
 use Rattle.sj_base.specs.declared.mode.Mode.{Mode}
@@ -12,64 +14,59 @@ use Rattle.sj_base.specs.declared.mode.Reduction.{Reduction}
 use Rattle.sj_base.specs.declared.program.Codelet.{Codelet}
 use Rattle.sj_base.specs.declared.program.Lowered.{Lowered}
 use Rattle.sj_base.specs.Mode.{is_redux, is_commute}
+use Rattle.sj_base.proofs.Bools.{implied}
+use Rattle.sj_base.proofs.Lists.{each-weaker}
 use Rattle.sj_codelet.specs.declared.kernel.Kernel.{Kernel}
-use Rattle.sj_codelet.specs.Kernel.{codelet_of, commutes_in, contributes_in, out}
+use Rattle.sj_codelet.specs.Kernel.{codelet_of, commutes_in, out}
 use Rattle.sj_plan.specs.declared.parts.Parts.{Parts}
-use Rattle.sj_plan.specs.Parts.{IsPlace}
+use Rattle.sj_plan.proofs.Lists.{each-filter, each-from_map, map-filter}
 use Rattle.sj_meaning.specs.declared.job.Operand.{Operand as Kept}
 use Rattle.sj_meaning.specs.declared.job.TaskLine.{TaskLine as KeptTask}
 use Rattle.sj_meaning.specs.declared.job.Act.TheVariants as kept
-use Rattle.sj_meaning.specs.Statement.{Operand}
+use Rattle.sj_meaning.specs.Statement.{Operand, TaskLine}
 use Rattle.sj_meaning.specs.State.{RootState, is_valued_child}
 use Rattle.sj_meaning.specs.Meaning.{written_of}
 use Rattle.sj_meaning.specs.Numbers.{root_at, operand_at, operand_array_at, task_at, run_task_at}
-use Rattle.sj_meaning.specs.Sound.{is_lawful_for, is_unordered}
+use Rattle.sj_meaning.specs.Sound.{is_lawful_for}
 use Rattle.sj_meaning.specs.Table.{Table}
 use Rattle.sj_phases.specs.declared.expander.Expander.{Expander}
 use Rattle.sj_phases.specs.declared.phase.Opening.{Opening}
 use Rattle.sj_phases.specs.Block.{Block}
-use Rattle.sj_phases.specs.Does.{HasAt, Does}
-use Rattle.sj_phases.specs.Expand.{Expansion, closed, expanded, opened, with_own}
-use Rattle.sj_steps.specs.declared.layout.Active.{Active}
+use Rattle.sj_phases.specs.Does.{Does}
+use Rattle.sj_phases.specs.Expand.{Expansion, closed, expanded, with_own}
 use Rattle.sj_steps.specs.declared.layout.Layout.{Layout}
 use Rattle.sj_steps.specs.declared.steps.Steps.{Steps}
-use Rattle.sj_steps.specs.Adds.{is_contributed, CanOpen, Opens, StepsAt, IsNext, HasNext, Goes, Adds}
-use Rattle.sj_steps.specs.Cells.{number, cells_from}
-use Rattle.sj_steps.specs.Follows.{Lays, Follows, active_at, IsInside, cell_by, access_by, is_other}
-use Rattle.sj_steps.specs.Laid.{Laid, handle_at, handle_of, cell_of, info_at, first_copy, with_copies}
+use Rattle.sj_steps.specs.Adds.{is_contributed, CanOpen, Opens, StepsAt, IsNext, HasNext, Goes}
+use Rattle.sj_steps.specs.Cells.{cells_from}
+use Rattle.sj_steps.specs.Follows.{Lays, Follows, IsInside, cell_by, access_by, is_other}
+use Rattle.sj_steps.specs.Laid.{Laid, handle_of, cell_of, first_copy, with_copies}
 use Rattle.sj_steps.specs.SoundAt.{Lives, has_value, IsPlaced, IsSoundTask}
-use Rattle.sj_steps.specs.Step.{by_number, operand_cell, is_other_access, opening_of, contributed, access_of, task_row, task_block}
-use Rattle.sj_steps.specs.Whole.{IsTaken, IsWhole, HaveCopies}
-use Rattle.sj_steps.proofs.Arms.{does-block, does-task, goes, prints-kept, keeps-put, kept-of}
+use Rattle.sj_steps.specs.Step.{by_number, operand_cell, is_other_access, opening_of, access_of, task_row}
+use Rattle.sj_steps.specs.Whole.{IsWhole, HaveCopies}
+use Rattle.sj_steps.proofs.Arms.{does-block, does-task, goes-kept, keeps-put, kept-of}
 use Rattle.sj_steps.proofs.Copying.{IsNoCopy, by_copies, copies-copied, copied-first, first-old}
-use Rattle.sj_steps.proofs.Finding.{contributed-at, only-one, value-of, not-some}
+use Rattle.sj_steps.proofs.Finding.{contributed-at, only-one, value-of}
 use Rattle.sj_steps.proofs.Laying.{follows-kept, cell-same, is-inside, copies-prints}
-use Rattle.sj_steps.proofs.Taken.{some_is, none_isn't, cell-is, cell-inside}
+use Rattle.sj_steps.proofs.Speaking.{map-same}
+use Rattle.sj_steps.proofs.Taken.{cell-is, cell-inside}
 
 -- ---- the first that passes
 
 head-has : {X : Type 0} (Q : X → Type 0) (p : X → Bool) (xs : List X) (x : X) (rest : List X) → AllByRecursion Q xs → filter p xs ≡ x ∷ rest → Q x × (p x ≡ true)
-head-has Q p [] x rest h e = absurd (not-some x rest (sym e))
-head-has Q p (y ∷ ys) x rest h e = by_test (p y) refl e (λ f. head-has Q p ys x rest h.1 f)
-  where
-    by_test : (b : Bool) → p y ≡ b → cond b (y ∷ filter p ys) (filter p ys) ≡ x ∷ rest → (filter p ys ≡ x ∷ rest → Q x × (p x ≡ true)) → Q x × (p x ≡ true)
-    by_test true t f later = let same : y ≡ x = cc in (subst Q same h.0, ap p (sym same) ∙ t)
-    by_test false t f later = later f
-
-all-list : {X : Type 0} (f : X → Bool) (xs : List X) → list_all f xs ≡ true → AllByRecursion (λ x. f x ≡ true) xs
-all-list f [] h = tt
-all-list f (x ∷ xs) h = let both = and_parts (f x) (list_all f xs) h in (both.0, all-list f xs both.1)
+head-has Q p xs x rest h e = (subst (AllByRecursion (λ y. Q y × (p y ≡ true))) e (each-filter (λ y. Q y × (p y ≡ true)) p xs (each-weaker Q (λ y. p y ≡ true → Q y × (p y ≡ true)) (λ y q t. (q, t)) xs h))).0
 
 -- the reduction of what is contributed to
 reduction-is : (has : Kernel → Bool) (id : Codelet) (r : Option Reduction) (m : Mode) → is_lawful_for has id r m ≡ true → is_redux m ≡ true → (by : Reduction) × (r ≡ Some by)
-reduction-is has id r m law redux = by_option r contributes
-  where
-    contributes : (elim r as (λ _. Bool) [ None ↦ false | Some by ↦ contributes_in has id by ]) ≡ true
-    contributes = sym (ap (λ b. not b || (elim r as (λ _. Bool) [ None ↦ false | Some by ↦ contributes_in has id by ])) redux) ∙ (and_parts (not (is_commute m) || commutes_in has id) _ law).1
+reduction-is has id None m law redux = absurd (false≢true (implied (is_redux m) false (and_parts (not (is_commute m) || commutes_in has id) (not (is_redux m) || false) law).1 redux))
+reduction-is has id (Some by) m law redux = (by, refl)
 
-    by_option : (r : Option Reduction) → (elim r as (λ _. Bool) [ None ↦ false | Some by ↦ contributes_in has id by ]) ≡ true → (by : Reduction) × (r ≡ Some by)
-    by_option None h = absurd (false≢true h)
-    by_option (Some by) h = (by, refl)
+-- what is contributed to is a child, whose root has a reduction
+contributes-to : (has : Kernel → Bool) (rs : List RootState) (t : TaskLine ℕ) (o : Operand ℕ) (rest : List (Operand ℕ)) → IsSoundTask has rs t → filter (λ (o : Operand ℕ). is_redux o.mode) t.operands ≡ o ∷ rest → IsPlaced rs o × ((by : Reduction) × ((root_at rs o.name).reduction ≡ Some by))
+contributes-to has rs t o rest s first =
+    let redux : Operand ℕ → Bool = λ o. is_redux o.mode in
+    let lawful : Operand ℕ → Bool = λ o. is_lawful_for has t.codelet (root_at rs o.name).reduction o.mode in
+    let law = head-has (λ o. lawful o ≡ true) redux t.operands o rest (recursion_from_All (λ o. lawful o ≡ true) t.operands (AllPass-from_list_all lawful t.operands s.lawful)) first in
+    ((head-has (IsPlaced rs) redux t.operands o rest s.placed first).0, reduction-is has t.codelet (root_at rs o.name).reduction o.mode law.0 law.1)
 
 -- ---- cells
 
@@ -90,12 +87,12 @@ inside-cells w rs C o whole placed =
     cell-inside C o.name r.dims r.parts t.0 o.place whole.laid t.1 placed.place
 
 module _ (l : Layout) (w : ℕ) (rs : List RootState) (C : Laid) (follows : Follows l rs C) (whole : IsWhole w rs C) where
-  insides : (os : List Kept) → AllByRecursion (IsPlaced rs) (map operand_at os) → AllByRecursion (IsInside l.actives.items) os
-  insides [] h = tt
-  insides (o ∷ os) h = (is-inside l w rs C o follows whole h.0.lives h.0.place, insides os h.1)
+  -- what is so of each child is so of each operand
+  each-placed : (Q : Kept → Type 0) → ((o : Kept) → IsPlaced rs (operand_at o) → Q o) → (os : List Kept) → AllByRecursion (IsPlaced rs) (map operand_at os) → AllByRecursion Q os
+  each-placed Q f os h = each-weaker (λ o. IsPlaced rs (operand_at o)) Q f os (each-from_map (IsPlaced rs) operand_at os h)
 
   pub all-inside : (os : List Kept) → AllByRecursion (IsPlaced rs) (map operand_at os) → All (IsInside l.actives.items) os
-  all-inside os h = All-from_recursion (IsInside l.actives.items) os (insides os h)
+  all-inside os h = All-from_recursion (IsInside l.actives.items) os (each-placed (IsInside l.actives.items) (λ o placed. is-inside l w rs C o follows whole placed.lives placed.place) os h)
 
   can-open : (o : Kept) → IsPlaced rs (operand_at o) → CanOpen l w o
   can-open o placed =
@@ -109,25 +106,18 @@ module _ (l : Layout) (w : ℕ) (rs : List RootState) (C : Laid) (follows : Foll
         copies = subst (λ (x : Cell). HaveCopies w (with_copies w C x)) (sym same) (copies-copied w c C there (no-copy w rs C (operand_at o) whole placed) whole.laid whole.copies);
       }
 
-  cans : (os : List Kept) → AllByRecursion (IsPlaced rs) (map operand_at os) → AllByRecursion (λ o. is_redux o.mode ≡ true → CanOpen l w o) os
-  cans [] h = tt
-  cans (o ∷ os) h = ((λ e. can-open o h.0), cans os h.1)
-
   pub all-can : (os : List Kept) → AllByRecursion (IsPlaced rs) (map operand_at os) → All (λ o. is_redux o.mode ≡ true → CanOpen l w o) os
-  all-can os h = All-from_recursion (λ o. is_redux o.mode ≡ true → CanOpen l w o) os (cans os h)
+  all-can os h = All-from_recursion (λ o. is_redux o.mode ≡ true → CanOpen l w o) os (each-placed (λ o. is_redux o.mode ≡ true → CanOpen l w o) (λ o placed e. can-open o placed) os h)
 
   module _ (D : Laid) (handles : D.handles ≡ C.handles) where
     cell-after : (o : Kept) → Lives rs o.root.0 → cell_by l.actives.items o ≡ operand_cell (by_number rs) D (operand_at o)
     cell-after o lives = cell-same l rs C o follows lives ∙ cell-kept C D handles o.root.0 (root_at rs o.root.0).parts o.place
 
     pub closes-after : (os : List Kept) → AllByRecursion (IsPlaced rs) (map operand_at os) → map (cell_by l.actives.items) (filter is_other os) ≡ map (operand_cell (by_number rs) D) (filter is_other_access (map operand_at os))
-    closes-after [] h = refl
-    closes-after (o ∷ os) h = by_test (is_other o) (closes-after os h.1)
-      where
-        by_test : (b : Bool) → map (cell_by l.actives.items) (filter is_other os) ≡ map (operand_cell (by_number rs) D) (filter is_other_access (map operand_at os))
-            → map (cell_by l.actives.items) (cond b (o ∷ filter is_other os) (filter is_other os)) ≡ map (operand_cell (by_number rs) D) (cond b (operand_at o ∷ filter is_other_access (map operand_at os)) (filter is_other_access (map operand_at os)))
-        by_test true e = λ i. cell-after o h.0.lives i ∷ e i
-        by_test false e = e
+    closes-after os h =
+        let cell : Kept → Cell = λ o. operand_cell (by_number rs) D (operand_at o) in
+        map-same (cell_by l.actives.items) cell (filter is_other os) (each-filter (λ o. cell_by l.actives.items o ≡ cell o) is_other os (each-placed (λ o. is_other o ≡ true → cell_by l.actives.items o ≡ cell o) (λ o placed e. cell-after o placed.lives) os h))
+        ∙ sym (map-map (operand_cell (by_number rs) D) operand_at (filter is_other os)) ∙ ap (map (operand_cell (by_number rs) D)) (map-filter operand_at is_other_access os)
 
     pub accesses-after : (os : List Kept) → AllByRecursion (IsPlaced rs) (map operand_at os) → map (access_by l.actives.items) os ≡ map (access_of (by_number rs) D) (map operand_at os)
     accesses-after [] h = refl
@@ -142,11 +132,8 @@ actives-kept T x t m a b line h none opens = by_list (filter is_contributed t.op
     by_list : (fs : List Kept) → filter is_contributed t.operands ≡ fs → m.actives ≡ x.layout.actives
     by_list [] e = ap (λ (l : Layout). l.actives) (none e)
     by_list (o ∷ rest) e =
-        let first : filter (λ (o : Operand ℕ). is_redux o.mode) (map operand_at t.operands) ≡ operand_at o ∷ map operand_at rest = contributed-at t.operands ∙ ap (map operand_at) e in
-        let placed = head-has (IsPlaced h.roots) (λ (o : Operand ℕ). is_redux o.mode) (map operand_at t.operands) (operand_at o) (map operand_at rest) h.next.sound.placed first in
-        let law = head-has (λ (o : Operand ℕ). is_lawful_for h.next.has (task_at t).codelet (root_at h.roots o.name).reduction o.mode ≡ true) (λ (o : Operand ℕ). is_redux o.mode) (map operand_at t.operands) (operand_at o) (map operand_at rest) (all-list (λ (o : Operand ℕ). is_lawful_for h.next.has (task_at t).codelet (root_at h.roots o.name).reduction o.mode) (map operand_at t.operands) h.next.sound.lawful) first in
-        let by = reduction-is h.next.has (task_at t).codelet (root_at h.roots o.root.0).reduction o.mode law.0 law.1 in
-        (opens o rest e h.cells by.0 h.at.layout.lays ((h.at.layout.active.each o.root.0 placed.0.lives).reduction ∙ by.1)).1
+        let to = contributes-to h.next.has h.roots (task_at t) (operand_at o) (map operand_at rest) h.next.sound (contributed-at t.operands ∙ ap (map operand_at) e) in
+        (opens o rest e h.cells to.1.0 h.at.layout.lays ((h.at.layout.active.each o.root.0 to.0.lives).reduction ∙ to.1.1)).1
 
 module _ (T : Table) (old new : Steps) (t : KeptTask) (line : Line) (a b : Expander) (workers : a.workers ≡ old.phases.workers)
     (closes : Does old.phases a line (λ F. fold (closed old.phases.workers) F (map (cell_by old.layout.actives.items) (filter is_other t.operands))))
@@ -167,74 +154,58 @@ module _ (T : Table) (old new : Steps) (t : KeptTask) (line : Line) (a b : Expan
     abbrev After : List (Operand ℕ) → Laid
     After us = fold (with_copies w) C (map (operand_cell (by_number rs) C) us)
 
+    -- its block, by the cells after it and the phases that it opens
+    abbrev block_with : Laid → List Opening → Block
+    block_with D xs = record { line = line; closes = map (operand_cell (by_number rs) D) (filter is_other_access os); opens = xs; tasks = task_row (by_number rs) D (task_at t) line ∷ []; deliveries = [] }
+
     -- what comes of it, by the operands that are contributed to
     abbrev Wanted : List (Operand ℕ) → Type 0
-    Wanted us =
-        let D = After us in
-        let block : Block = record {
-          line = line;
-          closes = map (operand_cell (by_number rs) D) (filter is_other_access os);
-          opens = flat_map (opening_of (by_number rs) D) us;
-          tasks = task_row (by_number rs) D (task_at t) line ∷ [];
-          deliveries = [];
-        } in
-        Goes old new line qs D (expanded w E block)
+    Wanted us = Goes old new line qs (After us) (expanded w E (block_with (After us) (flat_map (opening_of (by_number rs) (After us)) us)))
 
-    kept-roots : (m : ℕ) → Lives qs m → Lives rs m × ((root_at qs m).parts ≡ (root_at rs m).parts) × ((root_at qs m).reduction ≡ (root_at rs m).reduction)
-    kept-roots m lives = kept-of rs qs m (keeps-put (written_of os) (out (task_at t).codelet (task_at t).args (map (operand_array_at rs) os)) rs m) lives
-
-    task-is : (D : Laid) → D.handles ≡ C.handles → row ≡ task_row (by_number rs) D (task_at t) line
-    task-is D handles = row_is ∙ (λ i. record { codelet = codelet_of t.kernel; args = t.args; accesses = accesses-after old.layout w rs C at.layout next.whole D handles t.operands next.sound.placed i; line = line; priority = t.priority })
+    ends : (D : Laid) (xs : List Opening) → D.handles ≡ C.handles → D.prints ≡ C.prints → Lays new.layout D → new.layout.actives ≡ old.layout.actives
+        → (let x : Block = block_with D xs in Does old.phases a line (λ F. fold (closed w) F x.closes) → Does b new.phases line (with_own x.tasks []) → Does old.phases new.phases line (λ F. expanded w F x)) → Goes old new line qs D (expanded w E (block_with D xs))
+    ends D xs handles kept lays actives does =
+        let is : row ≡ task_row (by_number rs) D (task_at t) line = row_is ∙ (λ i. record { codelet = codelet_of t.kernel; args = t.args; accesses = accesses-after old.layout w rs C at.layout next.whole D handles t.operands next.sound.placed i; line = line; priority = t.priority }) in
+        let shut = subst (λ (cs : List Cell). Does old.phases a line (λ F. fold (closed w) F cs)) (closes-after old.layout w rs C at.layout next.whole D handles t.operands next.sound.placed) closes in
+        let put = subst (λ (l : Lowered). Does b new.phases line (with_own (l ∷ []) [])) is pushes in
+        goes-kept old new line rs qs C D E (block_with D xs) at
+        (follows-kept old.layout new.layout rs qs C D at.layout lays handles actives (λ m. kept-of rs qs m (keeps-put (written_of os) (out (task_at t).codelet (task_at t).args (map (operand_array_at rs) os)) rs m)))
+        (does shut put) prints kept
 
     none-open : filter is_contributed t.operands ≡ [] → Wanted []
     none-open e =
         let n = none e in
-        let ls = task_row (by_number rs) C (task_at t) line ∷ [] in
-        let cs = map (operand_cell (by_number rs) C) (filter is_other_access os) in
-        let shut = subst (λ (xs : List Cell). Does old.phases a line (λ F. fold (closed w) F xs)) (closes-after old.layout w rs C at.layout next.whole C refl t.operands next.sound.placed) closes in
-        let put = subst (λ (x : Expander). Does x new.phases line (with_own ls [])) n.1 (subst (λ (l : Lowered). Does b new.phases line (with_own (l ∷ []) [])) (task-is C refl) pushes) in
-        let block : Block = record { line = line; closes = cs; opens = []; tasks = ls; deliveries = [] } in
-        let does = does-block old.phases a new.phases line cs ls [] shut put in
-        goes old new line rs qs C C E block at
-        (follows-kept old.layout new.layout rs qs C C at.layout (subst (λ (l : Layout). Lays l C) (sym n.0) at.layout.lays) refl (ap (λ (l : Layout). l.actives) n.0) kept-roots)
-        (prints-kept old new line rs C C E (λ F. expanded w F block) at does prints refl) does
+        let x : Block = block_with C [] in
+        ends C [] refl refl (subst (λ (l : Layout). Lays l C) (sym n.0) at.layout.lays) (ap (λ (l : Layout). l.actives) n.0)
+        (λ shut put. does-block old.phases a new.phases line x.closes x.tasks [] shut (subst (λ (y : Expander). Does y new.phases line (with_own x.tasks [])) n.1 put))
 
     one-opens : (o : Kept) (rest : List Kept) → filter is_contributed t.operands ≡ o ∷ rest → filter (λ (o : Operand ℕ). is_redux o.mode) os ≡ operand_at o ∷ [] → Wanted (operand_at o ∷ [])
     one-opens o rest e alone =
         let u = operand_at o in
-        let placed = (head-has (IsPlaced rs) (λ (o : Operand ℕ). is_redux o.mode) os u [] next.sound.placed alone).0 in
-        let law = head-has (λ (o : Operand ℕ). is_lawful_for next.has (task_at t).codelet (root_at rs o.name).reduction o.mode ≡ true) (λ (o : Operand ℕ). is_redux o.mode) os u [] (all-list (λ (o : Operand ℕ). is_lawful_for next.has (task_at t).codelet (root_at rs o.name).reduction o.mode) os next.sound.lawful) alone in
-        let by = reduction-is next.has (task_at t).codelet (root_at rs o.root.0).reduction o.mode law.0 law.1 in
+        let to = contributes-to next.has rs (task_at t) u [] next.sound alone in
+        let by = to.1 in
         let c = operand_cell (by_number rs) C u in
         let D = with_copies w C c in
         let handles : D.handles ≡ C.handles = by_copies w c C (λ (X : Laid). X.handles ≡ C.handles) (λ f e. refl) (λ e. refl) in
-        let there = inside-cells w rs C u next.whole placed in
-        let mine = cell-same old.layout rs C o at.layout placed.lives in
+        let mine = cell-same old.layout rs C o at.layout to.0.lives in
         let also = cell-kept C D handles o.root.0 (root_at rs o.root.0).parts o.place in
-        let opened_one = opens o rest e C by.0 at.layout.lays ((at.layout.active.each o.root.0 placed.lives).reduction ∙ by.1) in
+        let opened_one = opens o rest e C by.0 at.layout.lays ((at.layout.active.each o.root.0 to.0.lives).reduction ∙ by.1) in
         let lays : Lays new.layout D = subst (λ (x : Cell). Lays new.layout (with_copies w C x)) mine (subst (λ n. Lays new.layout (with_copies n C (cell_by old.layout.actives.items o))) workers opened_one.0) in
         let opening : Opening = record { cell = operand_cell (by_number rs) D u; by = by.0; copies = first_copy D (operand_cell (by_number rs) D u); valued = is_valued_child (root_at rs o.root.0) o.place } in
-        let copies : first_copy C c ≡ first_copy D (operand_cell (by_number rs) D u) = sym (first-old D c (first_copy C c) (copied-first w c C there)) ∙ ap (first_copy D) also in
+        let copies : first_copy C c ≡ first_copy D (operand_cell (by_number rs) D u) = sym (first-old D c (first_copy C c) (copied-first w c C (inside-cells w rs C u next.whole to.0))) ∙ ap (first_copy D) also in
         let value : t.valued ≡ is_valued_child (root_at rs o.root.0) o.place = next.valued ∙ value-of (has_value rs) os u alone in
         let was : Cell → Opening = λ x. record { cell = x; by = by.0; copies = first_copy C x; valued = t.valued } in
         let same : was (cell_by old.layout.actives.items o) ≡ opening =
         ap was mine ∙ (λ i. record { cell = also i; by = by.0; copies = copies i; valued = value i }) in
-        let ls = task_row (by_number rs) D (task_at t) line ∷ [] in
-        let cs = map (operand_cell (by_number rs) D) (filter is_other_access os) in
-        let shut = subst (λ (xs : List Cell). Does old.phases a line (λ F. fold (closed w) F xs)) (closes-after old.layout w rs C at.layout next.whole D handles t.operands next.sound.placed) closes in
-        let begins = subst (λ (x : Opening). Does a b line (λ F. opened a.workers line F x)) same opened_one.2 in
-        let put = subst (λ (l : Lowered). Does b new.phases line (with_own (l ∷ []) [])) (task-is D handles) pushes in
-        let block : Block = record { line = line; closes = cs; opens = opening ∷ []; tasks = ls; deliveries = [] } in
-        let does = does-task old.phases a b new.phases line cs opening (task_row (by_number rs) D (task_at t) line) shut begins put in
         let found : flat_map (opening_of (by_number rs) D) (u ∷ []) ≡ opening ∷ [] =
         ap (λ (r : Option Reduction). elim r as (λ _. List Opening) [
           | None ↦ []
           | Some by ↦ (let x : Opening = record { cell = operand_cell (by_number rs) D u; by = by; copies = first_copy D (operand_cell (by_number rs) D u); valued = is_valued_child (root_at rs o.root.0) o.place } in x) ∷ []
         ] ++ []) by.1 in
-        let here = goes old new line rs qs C D E block at
-        (follows-kept old.layout new.layout rs qs C D at.layout lays handles opened_one.1 kept-roots)
-        (prints-kept old new line rs C D E (λ F. expanded w F block) at does prints (copies-prints w (c ∷ []) C)) does in
-        subst (λ (xs : List Opening). let x : Block = record { line = line; closes = cs; opens = xs; tasks = ls; deliveries = [] } in Goes old new line qs D (expanded w E x)) (sym found) here
+        let x : Block = block_with D [] in
+        subst (λ (xs : List Opening). Goes old new line qs D (expanded w E (block_with D xs))) (ap (λ (y : Opening). y ∷ []) same ∙ sym found)
+        (ends D (was (cell_by old.layout.actives.items o) ∷ []) handles (copies-prints w (c ∷ []) C) lays opened_one.1
+        (λ shut put. does-task old.phases a b new.phases line x.closes (was (cell_by old.layout.actives.items o)) (task_row (by_number rs) D (task_at t) line) shut opened_one.2 put))
 
     pub task-goes : Wanted (filter (λ (o : Operand ℕ). is_redux o.mode) os)
     task-goes = by_list (filter is_contributed t.operands) refl

@@ -1,5 +1,6 @@
 use Rattle.std.proofs.Common.{◌≡◌, ◌∙◌, ◌+◌, [], ap, arith, refl, rules, ℕ, length}
 use Rattle.sj_base.specs.declared.ids.Cell.{Cell}
+use Rattle.sj_base.specs.Ids.{cell}
 use Rattle.sj_plan.specs.declared.rect.Rect.{Rect}
 use Rattle.sj_plan.specs.Rect.{child, children_of}
 use Rattle.sj_phases.specs.Expand.{with_own}
@@ -27,10 +28,9 @@ loop-k-preserved c =
     let first = c.args.placed.first in
     let d = c.args.dims in
     let listed : c.items.result.now ≡ children_of d p = search rules in
-    let mk : ℕ → Cell = λ n. record { 0 = n } in
     does-child (λ (place : ℕ × ℕ). fill_row c.args.fill.0 c.args.fill.1 d (child d p place) (cells_from first p place) c.args.line) p c.args.phases.now c.loop-k.phases _ c.args.line _ c.loop-k.k c.loop-k.invariant c.in_ok-push.ensures
     (c.in_ok-fill_row.ensures
-    ∙ ap (λ (r : Rect). fill_row c.args.fill.0 c.args.fill.1 d r (mk (first + c.loop-k.k)) c.args.line) (rect-at d p c.items.result.now c.loop-k.k _ listed c.loop-k-test.true)
+    ∙ ap (λ (r : Rect). fill_row c.args.fill.0 c.args.fill.1 d r (cell (first + c.loop-k.k)) c.args.line) (rect-at d p c.items.result.now c.loop-k.k _ listed c.loop-k-test.true)
     ∙ ap (λ (x : Cell). fill_row c.args.fill.0 c.args.fill.1 d (child d p (place_at p c.loop-k.k)) x c.args.line) (cell-at first p c.loop-k.k))
 
 pub returns : goal.returns
