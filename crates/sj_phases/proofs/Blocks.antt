@@ -1,7 +1,8 @@
 -- The program of blocks and that without phases, block by block.
-use Rattle.std.proofs.Common.{◌≡◌, ℕ, zero, suc, ◌+◌, ◌<◌, true, Option, Some, None, List, [], ◌∷◌, ◌++◌, length, get_or, map, fold, refl, sym, ap, subst, ◌∙◌, inl, inr, arith, append_assoc}
+use Rattle.std.proofs.Common.{◌≡◌, ℕ, zero, suc, ◌+◌, ◌<◌, true, Some, None, List, [], ◌∷◌, ◌++◌, length, get_or, map, fold, refl, sym, ap, subst, ◌∙◌, inl, inr, arith, append_assoc}
 use Rattle.std.specs.Prelude.{Contains}
 use Rattle.std.specs.List.{flat_map}
+use Rattle.std.proofs.lemmas.List.Folds.{fold_along}
 use Rattle.std.proofs.lemmas.List.{append-nil, map-append}
 use Rattle.std.proofs.lemmas.List.Elements.{All-contains}
 use Rattle.sj_base.specs.declared.ids.Cell.{Cell}
@@ -14,6 +15,7 @@ use Rattle.sj_base.specs.declared.program.Lowered.{Lowered}
 use Rattle.sj_base.specs.declared.program.Program.{Program}
 use Rattle.sj_base.specs.Array.{zeros}
 use Rattle.sj_base.specs.Mode.{is_redux}
+use Rattle.sj_base.proofs.Numbers.{none_more, one_more}
 use Rattle.sj_codelet.specs.Kernel.{kernel_of, out}
 use Rattle.sj_codelet.specs.Laws.{IsReduction}
 use Rattle.sj_core.specs.Program.{task_of}
@@ -31,8 +33,8 @@ use Rattle.sj_base.specs.Ids.{task}
 use Rattle.sj_phases.proofs.Fine.{Begins, Fine, begins-stand, fine-close, fine-open, fine-own}
 use Rattle.sj_phases.proofs.Folding.{Stand}
 use Rattle.sj_phases.proofs.Good.{AreTwins, twin-dims, twin-info, twin-plain}
-use Rattle.sj_phases.proofs.Lists.{cons-cases, first-has, more-has}
-use Rattle.sj_phases.proofs.Logging.{IsToCome, logged-none, log-come, none_isn't, some_is, phase-own, phase-other, by_which}
+use Rattle.sj_phases.proofs.Lists.{by_option, fold_keeps, cons-cases, none-has, first-has, more-has}
+use Rattle.sj_phases.proofs.Logging.{logged-none, log-come, none_isn't, some_is, phase-own, phase-other, by_which}
 
 -- ---- tasks are only added
 
@@ -49,52 +51,28 @@ goes-itself ts = ([], sym (append-nil ts))
 pub begins-less : (all ts us : List Lowered) → GoesOn ts us → Begins all us → Begins all ts
 begins-less all ts us g b = goes-trans ts us all g b
 
+-- what holds where a cell's phase is closed, whether or not one is open
+pub by_closed : (w : ℕ) (E : Expansion) (c : Cell) (P : Expansion → Type 0) → (E.phase c ≡ None → P E) → ((f : OpenPhase) → E.phase c ≡ Some f → P (turned (combine_rows f c w) c None E)) → P (closed w E c)
+by_closed w E c P = by_option (E.phase c) (λ o. P (elim o as (λ _. Expansion) [ None ↦ E | Some f ↦ turned (combine_rows f c w) c None E ]))
+
 pub goes-closed : (w : ℕ) (E : Expansion) (c : Cell) → GoesOn E.tasks (closed w E c).tasks
-goes-closed w E c = by_phase (E.phase c)
-  where
-    by_phase : (o : Option OpenPhase) → GoesOn E.tasks (elim o as (λ _. Expansion) [ None ↦ E | Some f ↦ turned (combine_rows f c w) c None E ]).tasks
-    by_phase None = goes-itself E.tasks
-    by_phase (Some f) = (combine_rows f c w, refl)
+goes-closed w E c = by_closed w E c (λ F. GoesOn E.tasks F.tasks) (λ none. goes-itself E.tasks) (λ f is. (combine_rows f c w, refl))
 
 pub goes-closes : (w : ℕ) (cs : List Cell) (E : Expansion) → GoesOn E.tasks (fold (closed w) E cs).tasks
-goes-closes w [] E = goes-itself E.tasks
-goes-closes w (c ∷ cs) E = goes-trans E.tasks (closed w E c).tasks (fold (closed w) E (c ∷ cs)).tasks (goes-closed w E c) (goes-closes w cs (closed w E c))
-
-pub goes-opened : (w : ℕ) (line : Line) (E : Expansion) (o : Opening) → GoesOn E.tasks (opened w line E o).tasks
-goes-opened w line E o = (elim (E.phase o.cell) as (λ _. List Lowered) [ None ↦ begin_rows w o line | Some f ↦ [] ], refl)
+goes-closes w cs E = fold_keeps (λ (F : Expansion). GoesOn E.tasks F.tasks) (closed w) (λ F c g. goes-trans E.tasks F.tasks (closed w F c).tasks g (goes-closed w F c)) E cs (goes-itself E.tasks)
 
 pub goes-opens : (w : ℕ) (line : Line) (os : List Opening) (E : Expansion) → GoesOn E.tasks (fold (opened w line) E os).tasks
-goes-opens w line [] E = goes-itself E.tasks
-goes-opens w line (o ∷ os) E = goes-trans E.tasks (opened w line E o).tasks (fold (opened w line) E (o ∷ os)).tasks (goes-opened w line E o) (goes-opens w line os (opened w line E o))
+goes-opens w line os E = fold_keeps (λ (F : Expansion). GoesOn E.tasks F.tasks) (opened w line) (λ F o g. goes-trans E.tasks F.tasks (opened w line F o).tasks g (elim (F.phase o.cell) as (λ _. List Lowered) [ None ↦ begin_rows w o line | Some f ↦ [] ], refl)) E os (goes-itself E.tasks)
 
 pub goes-expanded : (w : ℕ) (E : Expansion) (b : Block) → GoesOn E.tasks (expanded w E b).tasks
 goes-expanded w E b =
     let shut = fold (closed w) E b.closes in
     goes-trans E.tasks (prepared w E b).tasks (expanded w E b).tasks (goes-trans E.tasks shut.tasks (prepared w E b).tasks (goes-closes w b.closes E) (goes-opens w b.line b.opens shut)) (b.tasks, refl)
 
-pub goes-expand : (w : ℕ) (bs : List Block) (E : Expansion) → GoesOn E.tasks (expand w E bs).tasks
-goes-expand w [] E = goes-itself E.tasks
-goes-expand w (b ∷ bs) E = goes-trans E.tasks (expanded w E b).tasks (expand w E (b ∷ bs)).tasks (goes-expanded w E b) (goes-expand w bs (expanded w E b))
-
-pub goes-plain : (bs : List Block) (Q : Plainly) → GoesOn Q.tasks (fold plain_next Q bs).tasks
-goes-plain [] Q = goes-itself Q.tasks
-goes-plain (b ∷ bs) Q = goes-trans Q.tasks (plain_next Q b).tasks (fold plain_next Q (b ∷ bs)).tasks (plain_rows b, refl) (goes-plain bs (plain_next Q b))
-
 -- deliveries are a block's own
-still-closes : (w : ℕ) (cs : List Cell) (E : Expansion) → (fold (closed w) E cs).deliveries ≡ E.deliveries
-still-closes w [] E = refl
-still-closes w (c ∷ cs) E = still-closes w cs (closed w E c) ∙ by_phase (E.phase c)
-  where
-    by_phase : (o : Option OpenPhase) → (elim o as (λ _. Expansion) [ None ↦ E | Some f ↦ turned (combine_rows f c w) c None E ]).deliveries ≡ E.deliveries
-    by_phase None = refl
-    by_phase (Some f) = refl
-
-still-opens : (w : ℕ) (line : Line) (os : List Opening) (E : Expansion) → (fold (opened w line) E os).deliveries ≡ E.deliveries
-still-opens w line [] E = refl
-still-opens w line (o ∷ os) E = still-opens w line os (opened w line E o)
-
 pub prepared-deliveries : (w : ℕ) (E : Expansion) (b : Block) → (prepared w E b).deliveries ≡ E.deliveries
-prepared-deliveries w E b = still-opens w b.line b.opens (fold (closed w) E b.closes) ∙ still-closes w b.closes E
+prepared-deliveries w E b = fold_keeps (λ (F : Expansion). F.deliveries ≡ E.deliveries) (opened w b.line) (λ F o h. h) (fold (closed w) E b.closes) b.opens
+    (fold_keeps (λ (F : Expansion). F.deliveries ≡ E.deliveries) (closed w) (λ F c h. by_closed w F c (λ G. G.deliveries ≡ E.deliveries) (λ none. h) (λ f is. h)) E b.closes refl)
 
 -- ---- which phases are open
 
@@ -104,25 +82,12 @@ opening-stays p tasks was (o ∷ os) c by h e = opening-stays p tasks (with_open
     (λ same. ap (with_opening was o) (sym same) ∙ phase-own o.cell (Some o.by) was ∙ ap (λ y. Some y) (h.0.valued by (ap was same ∙ e)).1)
     (λ other. phase-other o.cell (Some o.by) was c other ∙ e))
 
-opening-opens : (p : Program) (tasks : List Lowered) (was : Opens) (os : List Opening) (o : Opening) → AreOpenings p tasks was os → Contains os o → fold with_opening was os o.cell ≡ Some o.by
-opening-opens p tasks was [] o h c = absurd (omega (arith, c.1))
-opening-opens p tasks was (x ∷ os) o h c = elim (cons-cases x os o c) [
-  | inl same ↦ subst (λ (y : Opening). fold with_opening (with_opening was x) os y.cell ≡ Some y.by) same (opening-stays p tasks (with_opening was x) os x.cell x.by h.1 (phase-own x.cell (Some x.by) was))
-  | inr later ↦ opening-opens p tasks (with_opening was x) os o h.1 later
-]
-
-openings-used : (p : Program) (tasks : List Lowered) (was : Opens) (os : List Opening) (o : Opening) → AreOpenings p tasks was os → Contains os o → IsToCome tasks o.cell
-openings-used p tasks was [] o h c = absurd (omega (arith, c.1))
-openings-used p tasks was (x ∷ os) o h c = elim (cons-cases x os o c) [
-  | inl same ↦ subst (λ (y : Opening). IsToCome tasks y.cell) same h.0.used
-  | inr later ↦ openings-used p tasks (with_opening was x) os o h.1 later
-]
-
-openings-copies : (p : Program) (tasks : List Lowered) (was : Opens) (os : List Opening) (o : Opening) → AreOpenings p tasks was os → Contains os o → (c : Opens) × IsOpening p c tasks o
-openings-copies p tasks was [] o h c = absurd (omega (arith, c.1))
-openings-copies p tasks was (x ∷ os) o h c = elim (cons-cases x os o c) [
-  | inl same ↦ (was, subst (IsOpening p was tasks) same h.0)
-  | inr later ↦ openings-copies p tasks (with_opening was x) os o h.1 later
+-- of one of the openings: what there was before it, what it needs, and that its phase is open after them all
+opening-of : (p : Program) (tasks : List Lowered) (was : Opens) (os : List Opening) (o : Opening) → AreOpenings p tasks was os → Contains os o → (before : Opens) × IsOpening p before tasks o × (fold with_opening was os o.cell ≡ Some o.by)
+opening-of p tasks was [] o h c = absurd (none-has o c)
+opening-of p tasks was (x ∷ os) o h c = elim (cons-cases x os o c) [
+  | inl same ↦ subst (λ (y : Opening). (before : Opens) × IsOpening p before tasks y × (fold with_opening (with_opening was x) os y.cell ≡ Some y.by)) same (was, h.0, opening-stays p tasks (with_opening was x) os x.cell x.by h.1 (phase-own x.cell (Some x.by) was))
+  | inr later ↦ opening-of p tasks (with_opening was x) os o h.1 later
 ]
 
 -- ---- what blocks need, said of another program of the same cells
@@ -147,50 +112,39 @@ module _ (p q : Program) (twins : AreTwins p q) where
 -- the task of a number in a row
 pub stand-at : (p : Program) (n : ℕ) (ls : List Lowered) (l : Lowered) (i : ℕ) → Stand p n ls → i < length ls → get_or ls i l ≡ l → (task_of p (task (n + i)) ≡ l) × (n + i < length p.tasks)
 stand-at p n [] l i s lt e = absurd (omega (arith, lt))
-stand-at p n (x ∷ ls) l zero s lt e = (ap (λ k. task_of p (task k)) (no_more n) ∙ s.0 ∙ e, omega (arith, s.1))
-  where
-    no_more : (n : ℕ) → n + 0 ≡ n
-    no_more n = omega arith
+stand-at p n (x ∷ ls) l zero s lt e = (ap (λ k. task_of p (task k)) (none_more n) ∙ s.0 ∙ e, omega (arith, s.1))
 stand-at p n (x ∷ ls) l (suc i) s lt e =
     let rest = stand-at p (n + 1) ls l i s.2 (omega (arith, lt)) e in
     (ap (λ k. task_of p (task k)) (one_more n i) ∙ rest.0, omega (arith, rest.1))
-  where
-    one_more : (n i : ℕ) → n + suc i ≡ (n + 1) + i
-    one_more n i = omega arith
 
 module _ (p q : Program) (twins : AreTwins p q) (proper : Proper q) where
   fine-closes : (cs : List Cell) (E : Expansion) (us : List Lowered) (was : Opens) → Begins p.tasks (fold (closed p.workers) E cs).tasks → Fine p q E.tasks E.phase us [] was → Fine p q (fold (closed p.workers) E cs).tasks (fold (closed p.workers) E cs).phase us [] (fold with_shut was cs)
-  fine-closes [] E us was b fine = fine
-  fine-closes (c ∷ cs) E us was b fine =
-      let next = closed p.workers E c in
-      fine-closes cs next us (with_shut was c) b (fine-close p q twins proper E us was c (begins-less p.tasks next.tasks (fold (closed p.workers) next cs).tasks (goes-closes p.workers cs next) b) fine)
+  fine-closes cs E us was b fine = fold_along (closed p.workers) with_shut (λ (F : Expansion) (o : Opens). Begins p.tasks F.tasks → Fine p q F.tasks F.phase us [] o)
+      (λ F o c before here. fine-close p q twins proper F us o c here (before (begins-less p.tasks F.tasks (closed p.workers F c).tasks (goes-closed p.workers F c) here))) E was cs (λ here. fine) b
 
   -- what opening a phase needs of the tasks to come
   abbrev CanOpen : Opening → Type 0
   CanOpen o = IsPlain p o.cell × (IsTrusted p → IsReduction out o.by)
 
-  fine-opens : (os : List Opening) (E : Expansion) (us ls : List Lowered) (was : Opens) (line : Line) → AreOpenings p ls was os → ((o : Opening) → Contains os o → CanOpen o) → Begins p.tasks (fold (opened p.workers line) E os).tasks → Begins q.tasks (us ++ flat_map (λ o. first_units o line) os)
-      → Fine p q E.tasks E.phase us ls was → Fine p q (fold (opened p.workers line) E os).tasks (fold (opened p.workers line) E os).phase (us ++ flat_map (λ o. first_units o line) os) ls (fold with_opening was os)
-  fine-opens [] E us ls was line h can b d fine = subst (λ (xs : List Lowered). Fine p q E.tasks E.phase xs ls was) (sym (append-nil us)) fine
-  fine-opens (o ∷ os) E us ls was line h can b d fine =
+  fine-opens : (os : List Opening) (E : Expansion) (us vs ls : List Lowered) (was : Opens) (line : Line) → vs ≡ us ++ flat_map (λ o. first_units o line) os → AreOpenings p ls was os → ((o : Opening) → Contains os o → CanOpen o) → Begins p.tasks (fold (opened p.workers line) E os).tasks → Begins q.tasks vs
+      → Fine p q E.tasks E.phase us ls was → Fine p q (fold (opened p.workers line) E os).tasks (fold (opened p.workers line) E os).phase vs ls (fold with_opening was os)
+  fine-opens [] E us vs ls was line e h can b d fine = subst (λ (xs : List Lowered). Fine p q E.tasks E.phase xs ls was) (sym (e ∙ append-nil us)) fine
+  fine-opens (o ∷ os) E us vs ls was line e h can b d fine =
       let next = opened p.workers line E o in
       let rest = flat_map (λ x. first_units x line) os in
-      let split = append_assoc us (first_units o line) rest in
+      let goes : GoesOn (us ++ first_units o line) vs = (rest, e ∙ sym (append_assoc us (first_units o line) rest)) in
       let c = can o (first-has o os) in
-      subst (λ (xs : List Lowered). Fine p q (fold (opened p.workers line) next os).tasks (fold (opened p.workers line) next os).phase xs ls (fold with_opening (with_opening was o) os)) split
-      (fine-opens os next (us ++ first_units o line) ls (with_opening was o) line h.1 (λ x k. can x (more-has o os x k)) b (d.0, d.1 ∙ ap (λ xs. xs ++ d.0) (sym split))
-      (fine-open p q twins proper E us ls was o line h.0 c.0 c.1 (begins-less p.tasks next.tasks (fold (opened p.workers line) next os).tasks (goes-opens p.workers line os next) b)
-      (begins-less q.tasks (us ++ first_units o line) (us ++ (first_units o line ++ rest)) (rest, sym split) d) fine))
+      fine-opens os next (us ++ first_units o line) vs ls (with_opening was o) line goes.1 h.1 (λ x k. can x (more-has o os x k)) b d
+      (fine-open p q twins proper E us ls was o line h.0 c.0 c.1 (begins-less p.tasks next.tasks (fold (opened p.workers line) next os).tasks (goes-opens p.workers line os next) b) (begins-less q.tasks (us ++ first_units o line) vs goes d) fine)
 
   -- after the first of a block's own tasks
-  pub fine-part : (xs ys ts us : List Lowered) (phases : Phases) (was : Opens) → ((l : Lowered) → Contains (xs ++ ys) l → IsOrderlyTask p was l) → Begins p.tasks (ts ++ xs) → Begins q.tasks (us ++ map direct xs) → Fine p q ts phases us (xs ++ ys) was → Fine p q (ts ++ xs) phases (us ++ map direct xs) ys was
-  fine-part [] ys ts us phases was orderly b d fine = subst (λ (zs : List Lowered). Fine p q zs phases (us ++ []) ys was) (sym (append-nil ts)) (subst (λ (zs : List Lowered). Fine p q ts phases zs ys was) (sym (append-nil us)) fine)
-  fine-part (x ∷ xs) ys ts us phases was orderly b d fine =
-      let split = append_assoc ts (x ∷ []) xs in
-      let plain_split = append_assoc us (direct x ∷ []) (map direct xs) in
-      subst (λ (zs : List Lowered). Fine p q zs phases (us ++ map direct (x ∷ xs)) ys was) split (subst (λ (zs : List Lowered). Fine p q ((ts ++ x ∷ []) ++ xs) phases zs ys was) plain_split
-      (fine-part xs ys (ts ++ x ∷ []) (us ++ direct x ∷ []) phases was (λ l h. orderly l (more-has x (xs ++ ys) l h)) (b.0, b.1 ∙ ap (λ zs. zs ++ b.0) (sym split)) (d.0, d.1 ∙ ap (λ zs. zs ++ d.0) (sym plain_split))
-      (fine-own p q twins proper ts us x (xs ++ ys) phases was (orderly x (first-has x (xs ++ ys))) (begins-less p.tasks (ts ++ x ∷ []) (ts ++ x ∷ xs) (xs, sym split) b) (begins-less q.tasks (us ++ direct x ∷ []) (us ++ map direct (x ∷ xs)) (map direct xs, sym plain_split) d) fine)))
+  fine-part : (xs ys ts ts' us us' : List Lowered) (phases : Phases) (was : Opens) → ts' ≡ ts ++ xs → us' ≡ us ++ map direct xs → ((l : Lowered) → Contains (xs ++ ys) l → IsOrderlyTask p was l) → Begins p.tasks ts' → Begins q.tasks us' → Fine p q ts phases us (xs ++ ys) was → Fine p q ts' phases us' ys was
+  fine-part [] ys ts ts' us us' phases was e f orderly b d fine = subst (λ (zs : List Lowered). Fine p q zs phases us' ys was) (sym (e ∙ append-nil ts)) (subst (λ (zs : List Lowered). Fine p q ts phases zs ys was) (sym (f ∙ append-nil us)) fine)
+  fine-part (x ∷ xs) ys ts ts' us us' phases was e f orderly b d fine =
+      let goes : GoesOn (ts ++ x ∷ []) ts' = (xs, e ∙ sym (append_assoc ts (x ∷ []) xs)) in
+      let plain_goes : GoesOn (us ++ direct x ∷ []) us' = (map direct xs, f ∙ sym (append_assoc us (direct x ∷ []) (map direct xs))) in
+      fine-part xs ys (ts ++ x ∷ []) ts' (us ++ direct x ∷ []) us' phases was goes.1 plain_goes.1 (λ l h. orderly l (more-has x (xs ++ ys) l h)) b d
+      (fine-own p q twins proper ts us x (xs ++ ys) phases was (orderly x (first-has x (xs ++ ys))) (begins-less p.tasks (ts ++ x ∷ []) ts' goes b) (begins-less q.tasks (us ++ direct x ∷ []) us' plain_goes d) fine)
 
   module _ (E : Expansion) (us : List Lowered) (was : Opens) (b : Block) (orderly : IsOrderly p was b) (begins : Begins p.tasks (expanded p.workers E b).tasks) (plain_begins : Begins q.tasks (us ++ plain_rows b)) (fine : Fine p q E.tasks E.phase us [] was) where
     abbrev pub Ready : Expansion
@@ -199,26 +153,18 @@ module _ (p q : Program) (twins : AreTwins p q) (proper : Proper q) where
     its_task : (l : Lowered) → Contains b.tasks l → IsOrderlyTask p (open_at was b) l
     its_task l h = All-contains (IsOrderlyTask p (open_at was b)) b.tasks l orderly.tasks h
 
-    pub stand : Stand p (length Ready.tasks) b.tasks
-    stand = begins-stand p Ready.tasks b.tasks begins
-
     can : (o : Opening) → Contains b.opens o → CanOpen o
     can o h =
-        let used = openings-used p b.tasks (shut_by was b) b.opens o orderly.openings h in
+        let opening = opening-of p b.tasks (shut_by was b) b.opens o orderly.openings h in
+        let used = opening.1.used in
         let l = used.0 in
-        (All-contains (λ (a : Access). IsPlain p a.cell) l.accesses (access Redux o.cell) (its_task l used.1).plain used.2, λ trust. lawful trust l used.1 used.2)
-      where
-        lawful : IsTrusted p → (l : Lowered) → Contains b.tasks l → names_as Redux o.cell l → IsReduction out o.by
-        lawful trust l (i, lt, e) names =
-            let con = All-contains (λ (a : Access). is_redux a.mode ≡ true → Contributes (open_at was b) l a.cell) l.accesses (access Redux o.cell) (its_task l (i, lt, e)).contributes names refl in
-            let same : con.by ≡ o.by = some_is con.by o.by (sym con.is_open ∙ opening-opens p b.tasks (shut_by was b) b.opens o orderly.openings h) in
-            let at = stand-at p (length Ready.tasks) b.tasks l i stand lt e in
-            let opening = (openings-copies p b.tasks (shut_by was b) b.opens o orderly.openings h).1 in
-            subst (IsReduction out) same (law p trust (length Ready.tasks + i) at.1 (access Redux o.cell) (subst (λ (x : Lowered). names_as Redux o.cell x) (sym at.0) names) refl (record { by = con.by; copies = o.copies; line = b.line }) opening.copies con.contribution.kernel
-            (ap (λ (x : Lowered). kernel_of x.codelet) at.0 ∙ con.contribution.codelet) con.contribution.contributes)
-
-    abbrev Shut : Expansion
-    Shut = fold (closed p.workers) E b.closes
+        let own = its_task l used.1 in
+        let con = All-contains (λ (a : Access). is_redux a.mode ≡ true → Contributes (open_at was b) l a.cell) l.accesses (access Redux o.cell) own.contributes used.2 refl in
+        let same : con.by ≡ o.by = some_is con.by o.by (sym con.is_open ∙ opening.2) in
+        let at = stand-at p (length Ready.tasks) b.tasks l used.1.0 (begins-stand p Ready.tasks b.tasks begins) used.1.1 used.1.2 in
+        (All-contains (λ (a : Access). IsPlain p a.cell) l.accesses (access Redux o.cell) own.plain used.2, λ trust.
+        subst (IsReduction out) same (law p trust (length Ready.tasks + used.1.0) at.1 (access Redux o.cell) (subst (λ (x : Lowered). names_as Redux o.cell x) (sym at.0) used.2) refl (record { by = con.by; copies = o.copies; line = b.line }) opening.1.copies con.contribution.kernel
+        (ap (λ (x : Lowered). kernel_of x.codelet) at.0 ∙ con.contribution.codelet) con.contribution.contributes))
 
     split : (us ++ units b) ++ map direct b.tasks ≡ us ++ plain_rows b
     split = append_assoc us (units b) (map direct b.tasks)
@@ -227,33 +173,21 @@ module _ (p q : Program) (twins : AreTwins p q) (proper : Proper q) where
     pub fine-ready : Fine p q Ready.tasks Ready.phase (us ++ units b) b.tasks (open_at was b)
     fine-ready =
         let ready_begins = begins-less p.tasks Ready.tasks (expanded p.workers E b).tasks (b.tasks, refl) begins in
-        fine-opens b.opens Shut us b.tasks (shut_by was b) b.line orderly.openings can ready_begins (begins-less q.tasks (us ++ units b) (us ++ plain_rows b) (map direct b.tasks, sym split) plain_begins)
-        (fine-come (fine-closes b.closes E us was (begins-less p.tasks Shut.tasks Ready.tasks (goes-opens p.workers b.line b.opens Shut) ready_begins) fine))
-      where
-        fine-come : Fine p q Shut.tasks Shut.phase us [] (shut_by was b) → Fine p q Shut.tasks Shut.phase us b.tasks (shut_by was b)
-        fine-come f = record { good = f.good; logged = log-come p (length Shut.tasks) Shut.phase b.tasks f.logged; values = f.values; owned = f.owned; linked = f.linked; holds = f.holds }
+        let left = fold (closed p.workers) E b.closes in
+        let shut = fine-closes b.closes E us was (begins-less p.tasks left.tasks Ready.tasks (goes-opens p.workers b.line b.opens left) ready_begins) fine in
+        fine-opens b.opens left us (us ++ units b) b.tasks (shut_by was b) b.line refl orderly.openings can ready_begins (begins-less q.tasks (us ++ units b) (us ++ plain_rows b) (map direct b.tasks, sym split) plain_begins)
+        (record { good = shut.good; logged = log-come p (length left.tasks) left.phase b.tasks shut.logged; values = shut.values; owned = shut.owned; linked = shut.linked; holds = shut.holds })
 
     -- among them
     pub fine-among : (xs ys : List Lowered) → b.tasks ≡ xs ++ ys → Fine p q (Ready.tasks ++ xs) Ready.phase ((us ++ units b) ++ map direct xs) ys (open_at was b)
     fine-among xs ys e =
-        fine-part xs ys Ready.tasks (us ++ units b) Ready.phase (open_at was b) (λ l h. its_task l (subst (λ (zs : List Lowered). Contains zs l) (sym e) h))
+        fine-part xs ys Ready.tasks (Ready.tasks ++ xs) (us ++ units b) ((us ++ units b) ++ map direct xs) Ready.phase (open_at was b) refl refl (λ l h. its_task l (subst (λ (zs : List Lowered). Contains zs l) (sym e) h))
         (begins-less p.tasks (Ready.tasks ++ xs) (Ready.tasks ++ b.tasks) (ys, ap (λ zs. Ready.tasks ++ zs) e ∙ sym (append_assoc Ready.tasks xs ys)) begins)
-        (begins-less q.tasks ((us ++ units b) ++ map direct xs) ((us ++ units b) ++ map direct b.tasks) (map direct ys, ap (λ zs. (us ++ units b) ++ map direct zs) e ∙ ap (λ zs. (us ++ units b) ++ zs) (map-append direct xs ys) ∙ sym (append_assoc (us ++ units b) (map direct xs) (map direct ys)))
-        (plain_begins.0, plain_begins.1 ∙ ap (λ zs. zs ++ plain_begins.0) (sym split)))
+        (begins-less q.tasks ((us ++ units b) ++ map direct xs) (us ++ plain_rows b) (map direct ys, sym split ∙ ap (λ zs. (us ++ units b) ++ map direct zs) e ∙ ap (λ zs. (us ++ units b) ++ zs) (map-append direct xs ys) ∙ sym (append_assoc (us ++ units b) (map direct xs) (map direct ys))) plain_begins)
         (subst (λ (zs : List Lowered). Fine p q Ready.tasks Ready.phase (us ++ units b) zs (open_at was b)) e fine-ready)
 
     pub fine-block : Fine p q (expanded p.workers E b).tasks (expanded p.workers E b).phase (us ++ plain_rows b) [] (open_at was b)
     fine-block = subst (λ (zs : List Lowered). Fine p q (Ready.tasks ++ b.tasks) Ready.phase zs [] (open_at was b)) split (fine-among b.tasks [] (sym (append-nil b.tasks)))
-
-  -- ---- all blocks
-
-  pub fine-blocks : (bs : List Block) (E : Expansion) (Q : Plainly) (was : Opens) → AreOrderly p was bs → Begins p.tasks (expand p.workers E bs).tasks → Begins q.tasks (fold plain_next Q bs).tasks → Fine p q E.tasks E.phase Q.tasks [] was
-      → Fine p q (expand p.workers E bs).tasks (expand p.workers E bs).phase (fold plain_next Q bs).tasks [] (open_after was bs)
-  fine-blocks [] E Q was h b d fine = fine
-  fine-blocks (x ∷ bs) E Q was h b d fine =
-      let next = expanded p.workers E x in
-      fine-blocks bs next (plain_next Q x) (open_at was x) h.1 b d
-      (fine-block E Q.tasks was x h.0 (begins-less p.tasks next.tasks (expand p.workers next bs).tasks (goes-expand p.workers bs next) b) (begins-less q.tasks (Q.tasks ++ plain_rows x) (fold plain_next (plain_next Q x) bs).tasks (goes-plain bs (plain_next Q x)) d) fine)
 
   pub fine-start : Fine p q [] (λ c. None) [] [] none_open
   fine-start = record {
@@ -264,3 +198,18 @@ module _ (p q : Program) (twins : AreTwins p q) (proper : Proper q) where
     linked = λ c. refl;
     holds = λ trust c plain. ap zeros (twin-dims p q twins c);
   }
+
+-- ---- all blocks
+
+-- what one block after another keeps
+pub along-blocks : (p : Program) (w : ℕ) (P : Expansion → Plainly → Opens → Type 0) → ((b : Block) (E : Expansion) (Q : Plainly) (was : Opens) → IsOrderly p was b → P E Q was → P (expanded w E b) (plain_next Q b) (open_at was b))
+    → (bs : List Block) (E : Expansion) (Q : Plainly) (was : Opens) → AreOrderly p was bs → P E Q was → P (expand w E bs) (fold plain_next Q bs) (open_after was bs)
+along-blocks p w P step [] E Q was h start = start
+along-blocks p w P step (b ∷ bs) E Q was h start = along-blocks p w P step bs (expanded w E b) (plain_next Q b) (open_at was b) h.1 (step b E Q was h.0 start)
+
+-- the same where both programs begin with what each block gives
+pub begun-blocks : (p q : Program) (P : Expansion → Plainly → Opens → Type 0) → ((b : Block) (E : Expansion) (Q : Plainly) (was : Opens) → IsOrderly p was b → Begins p.tasks (expanded p.workers E b).tasks → Begins q.tasks (Q.tasks ++ plain_rows b) → P E Q was → P (expanded p.workers E b) (plain_next Q b) (open_at was b))
+    → (bs : List Block) (E : Expansion) (Q : Plainly) (was : Opens) → AreOrderly p was bs → Begins p.tasks (expand p.workers E bs).tasks → Begins q.tasks (fold plain_next Q bs).tasks → P E Q was → P (expand p.workers E bs) (fold plain_next Q bs) (open_after was bs)
+begun-blocks p q P step bs E Q was h b d start = along-blocks p p.workers (λ F R o. Begins p.tasks F.tasks → Begins q.tasks R.tasks → P F R o)
+    (λ x F R o orderly before here plain_here. step x F R o orderly here plain_here (before (begins-less p.tasks F.tasks (expanded p.workers F x).tasks (goes-expanded p.workers F x) here) (begins-less q.tasks R.tasks (R.tasks ++ plain_rows x) (plain_rows x, refl) plain_here)))
+    bs E Q was h (λ here plain_here. start) b d

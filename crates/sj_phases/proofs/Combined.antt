@@ -1,10 +1,10 @@
 -- What a cell holds once the phase that is open on it is closed.
-use Rattle.std.proofs.Common.{◌≡◌, ℕ, zero, suc, ◌+◌, ◌<◌, ◌≤◌, Bool, Option, Some, None, List, [], ◌∷◌, refl, sym, ap, ◌∙◌, arith, fold}
-use Rattle.std.specs.List.{AllByRecursion, range_with_len}
+use Rattle.std.proofs.Common.{◌≡◌, ℕ, ◌<◌, Bool, Option, Some, None, List, [], ◌∷◌, refl, sym, ap, ◌∙◌, arith, fold}
+use Rattle.std.specs.Prelude.{Contains}
+use Rattle.std.specs.List.{range_with_len}
 use Rattle.sj_base.specs.declared.ids.Cell.{Cell}
 use Rattle.sj_base.specs.declared.program.Program.{Program}
 use Rattle.sj_base.specs.Array.{Array}
-use Rattle.sj_base.proofs.Numbers.{all_of}
 use Rattle.sj_codelet.specs.declared.kernel.Kernel.{Kernel}
 use Rattle.sj_codelet.specs.Kernel.{out}
 use Rattle.sj_codelet.specs.Laws.{combined}
@@ -13,6 +13,7 @@ use Rattle.sj_core.specs.Laws.{IsLawful}
 use Rattle.sj_core.specs.Proper.{Proper}
 use Rattle.sj_phases.specs.declared.phase.OpenPhase.{OpenPhase}
 use Rattle.sj_phases.specs.Rows.{copy_at}
+use Rattle.sj_phases.proofs.Lists.{by_option, in-range, first-has, more-has}
 
 -- a proper program for some worker, whose set obeys the laws
 pub record IsTrusted (p : Program) : Type 0 where
@@ -45,26 +46,22 @@ denoted-closed p phases k c e = ap (λ (o : Option OpenPhase). elim o as (λ _. 
 pub denoted-open : (p : Program) (phases : Phases) (k : Contents) (c : Cell) (f : OpenPhase) → phases c ≡ Some f → denoted p phases k c ≡ with_all p k f (all_workers p) (held_in p k c)
 denoted-open p phases k c f e = ap (λ (o : Option OpenPhase). elim o as (λ _. Array) [ None ↦ held_in p k c | Some f ↦ with_all p k f (all_workers p) (held_in p k c) ]) e
 
-pub range-below : (a n m : ℕ) → a + n ≤ m → AllByRecursion (λ w. w < m) (range_with_len a n)
-range-below a zero m h = tt
-range-below a (suc n) m h = (omega (arith, h), range-below (a + 1) n m (omega (arith, h)))
+pub all_workers-below : (p : Program) (w : ℕ) → Contains (all_workers p) w → w < p.workers
+all_workers-below p w h = omega (arith, (in-range 0 p.workers w h).1)
 
 -- the partial copies are the same
 abbrev pub SameCopies : Program → Contents → Contents → OpenPhase → Type 0
 SameCopies p k new f = (w : ℕ) → w < p.workers → held_in p new (copy_at f.copies w) ≡ held_in p k (copy_at f.copies w)
 
-pub with_all-same : (p : Program) (k new : Contents) (f : OpenPhase) (ws : List ℕ) (v : Array) → SameCopies p k new f → AllByRecursion (λ w. w < p.workers) ws → with_all p new f ws v ≡ with_all p k f ws v
-with_all-same p k new f [] v same all = refl
-with_all-same p k new f (w ∷ ws) v same all =
-    ap (λ (x : Array). with_all p new f ws (combined out f.by x v)) (same w all.0) ∙ with_all-same p k new f ws (with_copy p k f v w) same all.1
+pub with_all-same : (p : Program) (k new : Contents) (f : OpenPhase) (ws : List ℕ) (v : Array) → ((w : ℕ) → Contains ws w → held_in p new (copy_at f.copies w) ≡ held_in p k (copy_at f.copies w)) → with_all p new f ws v ≡ with_all p k f ws v
+with_all-same p k new f [] v same = refl
+with_all-same p k new f (w ∷ ws) v same =
+    ap (λ (x : Array). with_all p new f ws (combined out f.by x v)) (same w (first-has w ws)) ∙ with_all-same p k new f ws (with_copy p k f v w) (λ u h. same u (more-has w ws u h))
 
 -- what the cell denotes is the same where it and its partial copies hold the same
 pub denoted-same : (p : Program) (phases after : Phases) (k new : Contents) (c : Cell) → after c ≡ phases c → held_in p new c ≡ held_in p k c → ((f : OpenPhase) → phases c ≡ Some f → SameCopies p k new f) → denoted p after new c ≡ denoted p phases k c
-denoted-same p phases after k new c e same copies = by_phase (phases c) refl
-  where
-    by_phase : (o : Option OpenPhase) → phases c ≡ o → denoted p after new c ≡ denoted p phases k c
-    by_phase None g = denoted-closed p after new c (e ∙ g) ∙ same ∙ sym (denoted-closed p phases k c g)
-    by_phase (Some f) g =
-        denoted-open p after new c f (e ∙ g) ∙ ap (with_all p new f (all_workers p)) same
-        ∙ with_all-same p k new f (all_workers p) (held_in p k c) (copies f g) (range-below 0 p.workers p.workers (all_of p.workers))
-        ∙ sym (denoted-open p phases k c f g)
+denoted-same p phases after k new c e same copies = by_option (phases c) (λ o. denoted p after new c ≡ denoted p phases k c)
+    (λ g. denoted-closed p after new c (e ∙ g) ∙ same ∙ sym (denoted-closed p phases k c g))
+    (λ f g. denoted-open p after new c f (e ∙ g) ∙ ap (with_all p new f (all_workers p)) same
+    ∙ with_all-same p k new f (all_workers p) (held_in p k c) (λ w h. copies f g w (all_workers-below p w h))
+    ∙ sym (denoted-open p phases k c f g))

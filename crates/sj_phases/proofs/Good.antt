@@ -1,19 +1,19 @@
 -- Each task is as a proper program has it, by the same blocks without phases.
-use Rattle.std.proofs.Common.{◌≡◌, ℕ, ◌+◌, ◌<◌, Bool, true, false, cond, not, ◌&&◌, Some, None, List, [], ◌∷◌, length, get_or, map, refl, sym, ap, subst, ◌∙◌, inl, inr, arith}
+use Rattle.std.proofs.Common.{◌≡◌, ℕ, ◌+◌, ◌<◌, Bool, true, false, cond, not, ◌&&◌, Some, None, List, [], ◌∷◌, length, get_or, map, refl, sym, ap, subst, subst₂, ◌∙◌, inl, inr, arith}
 use Rattle.std.specs.Prelude.{All, AllPairs, Contains, filter}
 use Rattle.std.specs.List.{list_any}
 use Rattle.std.specs.Option.{is_some}
 use mathlib.Core.List.{map-map}
-use Rattle.std.proofs.lemmas.Bool.{false≢true, cases_lt, and_parts}
-use Rattle.std.proofs.lemmas.List.{length-map, get_or-map, get_or_default}
-use Rattle.std.proofs.lemmas.List.Folds.{list_any_at}
-use Rattle.std.proofs.lemmas.List.Elements.{All-nil, All-cons, All-contains, All-get_or}
+use Rattle.std.proofs.lemmas.Bool.{false≢true, false_from_ne_true, cases_lt, cases_Bool, cond_both}
+use Rattle.std.proofs.lemmas.List.{length-map, get_or-map}
+use Rattle.std.proofs.lemmas.List.Folds.{list_any-from_Any, map_fixed}
+use Rattle.std.proofs.lemmas.List.Elements.{All-from_recursion, All-contains, All-get_or}
 use Rattle.std.proofs.lemmas.List.Kept.{AllPairs-cons}
 use Rattle.sj_base.specs.declared.ids.Cell.{Cell}
 use Rattle.sj_base.specs.declared.ids.Line.{Line}
 use Rattle.sj_base.specs.declared.ids.Worker.{Worker}
 use Rattle.sj_base.specs.declared.mode.Mode.{Mode}
-use Rattle.sj_base.specs.declared.mode.Mode.TheVariants.{R, W, RW, Scratch, Redux, Commute}
+use Rattle.sj_base.specs.declared.mode.Mode.TheVariants.{R, W, RW, Redux}
 use Rattle.sj_base.specs.declared.mode.Access.{Access}
 use Rattle.sj_base.specs.declared.mode.Reduction.{Reduction}
 use Rattle.sj_base.specs.declared.mode.Reduction.TheVariants.{Plus, Least}
@@ -37,9 +37,11 @@ use Rattle.sj_phases.specs.Plain.{Opens, direct_mode, direct_access, direct}
 use Rattle.sj_phases.specs.Orderly.{Contributes}
 use Rattle.sj_phases.proofs.Adding.{same-itself}
 use Rattle.sj_base.specs.Ids.{task}
+use Rattle.sj_base.proofs.Bools.{and_rest}
 use Rattle.sj_base.proofs.SameIds.{same_cell-is}
 use Rattle.sj_phases.proofs.Folding.{Stand, later}
-use Rattle.sj_phases.proofs.Lists.{All-unmap}
+use Rattle.sj_phases.proofs.Lists.{All-unmap, all-from}
+use Rattle.sj_phases.proofs.Logging.{redux-is, some_is}
 
 -- ---- programs of the same cells
 
@@ -61,9 +63,6 @@ module _ (p q : Program) (twins : AreTwins p q) where
     is = h.is ∙ ap (λ (i : CellInfo). elim i.partials as (λ _. Cell) [ None ↦ c | Some f ↦ record { 0 = f.0 + w.0 } ]) (twin-info c);
   }
 
-pub twins-back : (p q : Program) → AreTwins p q → AreTwins q p
-twins-back p q t = record { cells = sym t.cells; workers = sym t.workers }
-
 pub twin-plain : (p q : Program) → AreTwins p q → (x : Cell) → IsPlain q x → IsPlain p x
 twin-plain p q t x h c w copy = h c w (twin-copy p q t x c w copy)
 
@@ -84,17 +83,8 @@ pub record IsGood (p : Program) (n : ℕ) (l : Lowered) : Type 0 where
 
 -- ---- tasks of phases
 
-one_alone : {X : Type 0} (P : X → Type 0) (x : X) → P x → All P (x ∷ [])
-one_alone P x h = All-cons P x [] h (All-nil P)
-
-both_alone : {X : Type 0} (P : X → Type 0) (x y : X) → P x → P y → All P (x ∷ y ∷ [])
-both_alone P x y h k = All-cons P x (y ∷ []) h (one_alone P y k)
-
 alone : {X : Type 0} (P : X → X → Type 0) (x : X) → AllPairs P (x ∷ [])
 alone P x i j d h k = absurd (omega arith)
-
-pair_alone : {X : Type 0} (P : X → X → Type 0) (x y : X) → P x y → AllPairs P (x ∷ y ∷ [])
-pair_alone P x y h = AllPairs-cons P x (y ∷ []) (one_alone (P x) y h) (alone P y)
 
 -- two operands on one cell only read it
 abbrev ReadOnly : Access → Access → Type 0
@@ -104,13 +94,13 @@ pub good_init : (p : Program) (n : ℕ) (by : Reduction) (line : Line) (c : Cell
 good_init p n by line c inside = by_reduction by
   where
     cells_in : All (λ (a : Access). a.cell.0 < length p.cells) (an_access W c ∷ [])
-    cells_in = one_alone (λ (a : Access). a.cell.0 < length p.cells) (an_access W c) inside
+    cells_in = All-from_recursion (λ (a : Access). a.cell.0 < length p.cells) (an_access W c ∷ []) (inside, tt)
 
     copies_in : All (HasItsCopies p n) (an_access W c ∷ [])
-    copies_in = one_alone (HasItsCopies p n) (an_access W c) (λ h. absurd (false≢true h))
+    copies_in = All-from_recursion (HasItsCopies p n) (an_access W c ∷ []) ((λ h. absurd (false≢true h)), tt)
 
     values_in : All (λ (a : Access). reads_value a.mode ≡ true → HasValueBefore p (task n) a.cell) (an_access W c ∷ [])
-    values_in = one_alone (λ (a : Access). reads_value a.mode ≡ true → HasValueBefore p (task n) a.cell) (an_access W c) (λ h. absurd (false≢true h))
+    values_in = All-from_recursion (λ (a : Access). reads_value a.mode ≡ true → HasValueBefore p (task n) a.cell) (an_access W c ∷ []) ((λ h. absurd (false≢true h)), tt)
 
     by_reduction : (by : Reduction) → IsGood p n (init_row by line c)
     by_reduction Plus = record { cells = cells_in; copies = copies_in; plain = λ e. absurd (cc); fits = record { kernel = init_of Plus; codelet = refl; operands = refl; modes = MayHaveModes.Own refl }; unaliased = alone ReadOnly (an_access W c); values = values_in }
@@ -120,16 +110,16 @@ pub good_combine : (p : Program) (n : ℕ) (by : Reduction) (c : Cell) (line : L
 good_combine p n by c line q iq ic dims apart gq gc = by_reduction by
   where
     cells_in : All (λ (a : Access). a.cell.0 < length p.cells) (an_access R q ∷ an_access RW c ∷ [])
-    cells_in = both_alone (λ (a : Access). a.cell.0 < length p.cells) (an_access R q) (an_access RW c) iq ic
+    cells_in = All-from_recursion (λ (a : Access). a.cell.0 < length p.cells) (an_access R q ∷ an_access RW c ∷ []) (iq, (ic, tt))
 
     copies_in : All (HasItsCopies p n) (an_access R q ∷ an_access RW c ∷ [])
-    copies_in = both_alone (HasItsCopies p n) (an_access R q) (an_access RW c) (λ h. absurd (false≢true h)) (λ h. absurd (false≢true h))
+    copies_in = All-from_recursion (HasItsCopies p n) (an_access R q ∷ an_access RW c ∷ []) ((λ h. absurd (false≢true h)), ((λ h. absurd (false≢true h)), tt))
 
     pair : AllPairs ReadOnly (an_access R q ∷ an_access RW c ∷ [])
-    pair = pair_alone ReadOnly (an_access R q) (an_access RW c) (λ same. absurd (false≢true (sym apart ∙ same)))
+    pair = AllPairs-cons ReadOnly (an_access R q) (an_access RW c ∷ []) (All-from_recursion (ReadOnly (an_access R q)) (an_access RW c ∷ []) ((λ same. absurd (false≢true (sym apart ∙ same))), tt)) (alone ReadOnly (an_access RW c))
 
     values_in : All (λ (a : Access). reads_value a.mode ≡ true → HasValueBefore p (task n) a.cell) (an_access R q ∷ an_access RW c ∷ [])
-    values_in = both_alone (λ (a : Access). reads_value a.mode ≡ true → HasValueBefore p (task n) a.cell) (an_access R q) (an_access RW c) (λ h. gq) (λ h. gc)
+    values_in = All-from_recursion (λ (a : Access). reads_value a.mode ≡ true → HasValueBefore p (task n) a.cell) (an_access R q ∷ an_access RW c ∷ []) ((λ h. gq), ((λ h. gc), tt))
 
     by_reduction : (by : Reduction) → IsGood p n (combine_row by c line q)
     by_reduction Plus = record { cells = cells_in; copies = copies_in; plain = λ e. absurd (cc); fits = record { kernel = combine_of Plus; codelet = refl; operands = same-itself (dims_of p q) (dims_of p c) dims; modes = MayHaveModes.Own refl }; unaliased = pair; values = values_in }
@@ -141,46 +131,20 @@ pub direct-same : (a : Access) → is_redux a.mode ≡ false → direct_access a
 direct-same a h = ap (λ b. let m = cond b RW a.mode in let x : Access = record { mode = m; cell = a.cell } in x) h
 
 direct-read : (m : Mode) → direct_mode m ≡ R → m ≡ R
-direct-read R h = refl
-direct-read W h = absurd (cc)
-direct-read RW h = absurd (cc)
-direct-read Scratch h = absurd (cc)
-direct-read Redux h = absurd (cc)
-direct-read Commute h = absurd (cc)
+direct-read m = cond_both (is_redux m) RW m (λ x. x ≡ R → m ≡ R) (λ e h. absurd (cc)) (λ e h. h)
 
 direct-reads : (m : Mode) → reads_value m ≡ true → reads_value (direct_mode m) ≡ true
-direct-reads R h = refl
-direct-reads W h = absurd (false≢true h)
-direct-reads RW h = refl
-direct-reads Scratch h = absurd (false≢true h)
-direct-reads Redux h = refl
-direct-reads Commute h = refl
+direct-reads m h = cond_both (is_redux m) RW m (λ x. reads_value x ≡ true) (λ e. refl) (λ e. h)
 
 direct-data : (m : Mode) → not (is_scratch (direct_mode m)) ≡ not (is_scratch m)
-direct-data R = refl
-direct-data W = refl
-direct-data RW = refl
-direct-data Scratch = refl
-direct-data Redux = refl
-direct-data Commute = refl
-
-redux-reads : (m : Mode) → is_redux m ≡ true → reads_value (direct_mode m) ≡ true
-redux-reads m h = ap (λ b. reads_value (cond b RW m)) h
+direct-data m = cond_both (is_redux m) RW m (λ x. not (is_scratch x) ≡ not (is_scratch m)) (λ e. ap (λ x. not (is_scratch x)) (sym (redux-is m e))) (λ e. refl)
 
 -- without a contribution the task is its own
 pub none-redux : (l : Lowered) → list_any (λ a. is_redux a.mode) l.accesses ≡ false → (a : Access) → Contains l.accesses a → is_redux a.mode ≡ false
-none-redux l none a (k, inside, e) = by_mode (is_redux a.mode) refl
-  where
-    by_mode : (b : Bool) → is_redux a.mode ≡ b → b ≡ false
-    by_mode false h = refl
-    by_mode true h = absurd (false≢true (sym none ∙ list_any_at (λ (b : Access). is_redux b.mode) l.accesses k a inside (ap (λ (b : Access). is_redux b.mode) e ∙ h)))
+none-redux l none a h = false_from_ne_true (is_redux a.mode) (λ e. false≢true (sym none ∙ list_any-from_Any (λ (b : Access). is_redux b.mode) l.accesses (h.0, a, h.1, h.2, e)))
 
 pub map-itself : {X : Type 0} (f : X → X) (xs : List X) → ((x : X) → Contains xs x → f x ≡ x) → map f xs ≡ xs
-map-itself f xs h = map-same f (λ x. x) xs h ∙ map-id xs
-  where
-    map-id : {X : Type 0} (xs : List X) → map (λ x. x) xs ≡ xs
-    map-id [] = refl
-    map-id (x ∷ xs) = ap (λ ys. x ∷ ys) (map-id xs)
+map-itself f xs h = map_fixed f xs (all-from (λ x. f x ≡ x) xs h)
 
 pub direct-itself : (l : Lowered) → list_any (λ a. is_redux a.mode) l.accesses ≡ false → direct l ≡ l
 direct-itself l none =
@@ -196,6 +160,13 @@ filter-direct (x ∷ xs) = by_test (not (is_scratch x.mode)) (direct-data x.mode
     by_test true e rest = ap (λ b. cond b (direct_access x ∷ filter (λ a. not (is_scratch a.mode)) (map direct_access xs)) (filter (λ a. not (is_scratch a.mode)) (map direct_access xs))) e ∙ ap (λ ys. direct_access x ∷ ys) rest
     by_test false e rest = ap (λ b. cond b (direct_access x ∷ filter (λ a. not (is_scratch a.mode)) (map direct_access xs)) (filter (λ a. not (is_scratch a.mode)) (map direct_access xs))) e ∙ rest
 
+-- a cell with a value after one task more has it before that task, or by it
+values-row : (p q : Program) (n m : ℕ) (c : Cell) → ((c : Cell) → HasValueBefore q (task m) c → HasValueBefore p (task n) c) → (gives_value (task_of q (task m)) c ≡ true → HasValueBefore p (task (n + 1)) c) → HasValueBefore q (task (m + 1)) c → HasValueBefore p (task (n + 1)) c
+values-row p q n m c values new (u, before, gives) = elim (cases_lt u.0 m) [
+  | inl old ↦ later p n (n + 1) c (omega arith) (values c (u, old, gives))
+  | inr here ↦ (let same : u.0 ≡ m = omega (arith, here, before) in new (ap (λ i. gives_value (task_of q (task i)) c) (sym same) ∙ gives))
+]
+
 module _ (p q : Program) (twins : AreTwins p q) (proper : Proper q) (m : ℕ) (inside : m < length q.tasks) (l : Lowered) (row : task_of q (task m) ≡ direct l) where
   -- what the plain program's task reads has a value there
   pub plain-value : (a : Access) → Contains l.accesses a → reads_value (direct_mode a.mode) ≡ true → HasValueBefore q (task m) a.cell
@@ -207,18 +178,18 @@ module _ (p q : Program) (twins : AreTwins p q) (proper : Proper q) (m : ℕ) (i
   pub good_own : (n : ℕ) (opens : Opens) → ((c : Cell) → HasValueBefore q (task m) c → HasValueBefore p (task n) c) → ((a : Access) → Contains l.accesses a → is_redux a.mode ≡ true → Contributes opens l a.cell)
       → All (HasItsCopies p n) l.accesses → All (λ a. IsPlain p a.cell) l.accesses → IsGood p n l
   good_own n opens values contributes copies plain = record {
-    cells = All-unmap (λ (a : Access). a.cell.0 < length p.cells) direct_access l.accesses (subst (λ (x : Lowered). All (λ (a : Access). a.cell.0 < length p.cells) x.accesses) row
-        (subst (λ (is : List CellInfo). All (λ (a : Access). a.cell.0 < length is) (task_of q (task m)).accesses) (sym twins.cells) (All-get_or (λ (x : Lowered). All (λ (a : Access). a.cell.0 < length q.cells) x.accesses) q.tasks m no_task inside proper.cells.named)));
-    fits = its_fit;
-    unaliased = λ i j d before within same. its_pairs i j d before within same;
-    values = λ k d lt reads. values (get_or l.accesses k d).cell (plain-value (get_or l.accesses k d) (k, lt, default_same l.accesses k d lt) (direct-reads (get_or l.accesses k d).mode reads));
+    cells = All-unmap (λ (a : Access). a.cell.0 < length p.cells) direct_access l.accesses (subst₂ (λ (x : Lowered) (is : List CellInfo). All (λ (a : Access). a.cell.0 < length is) x.accesses) row (sym twins.cells)
+        (All-get_or (λ (x : Lowered). All (λ (a : Access). a.cell.0 < length q.cells) x.accesses) q.tasks m no_task inside proper.cells.named));
+    fits = record { kernel = fit.kernel; codelet = fit.codelet; operands = ap (fits fit.kernel l.args) (sym same_dims) ∙ fit.operands; modes = its_modes (list_any (λ (a : Access). is_redux a.mode) l.accesses) refl };
+    unaliased = λ i j d before within same.
+        let both = subst₂ ReadOnly (get_or-map direct_access (data_operands l) i d (direct_access d) (omega (arith, before, within))) (get_or-map direct_access (data_operands l) j d (direct_access d) within)
+            (q_pairs i j (direct_access d) before (omega (arith, within, length-map (data_operands l) direct_access))) same in
+        (direct-read (get_or (data_operands l) i d).mode both.0, direct-read (get_or (data_operands l) j d).mode both.1);
+    values = all-from (λ (a : Access). reads_value a.mode ≡ true → HasValueBefore p (task n) a.cell) l.accesses (λ a h reads. values a.cell (plain-value a h (direct-reads a.mode reads)));
     copies = copies;
     plain = λ e. plain;
   }
     where
-      default_same : (xs : List Access) (k : ℕ) (d : Access) → k < length xs → get_or xs k (get_or xs k d) ≡ get_or xs k d
-      default_same xs k d lt = get_or_default xs k (get_or xs k d) d lt
-
       fit : FitsCodelet q (direct l)
       fit = subst (FitsCodelet q) row (All-get_or (FitsCodelet q) q.tasks m no_task inside proper.codelets)
 
@@ -230,46 +201,23 @@ module _ (p q : Program) (twins : AreTwins p q) (proper : Proper q) (m : ℕ) (i
       its_modes true any =
           let found = list_any-some (λ (a : Access). is_redux a.mode) l.accesses any in
           let con = contributes found.0 found.1 found.2 in
-          let same : Some con.contribution.kernel ≡ Some fit.kernel = sym con.contribution.codelet ∙ fit.codelet in
-          let one : con.contribution.kernel ≡ fit.kernel = cc in
+          let one = some_is con.contribution.kernel fit.kernel (sym con.contribution.codelet ∙ fit.codelet) in
           MayHaveModes.Contributing con.by (ap (λ (k : Kernel). contributes_of k con.by) (sym one) ∙ con.contribution.contributes) (subst (λ (k : Kernel). writes_one k) one con.one) (con.modes ∙ ap (modes_writing_by Redux) one)
-
-      its_fit : FitsCodelet p l
-      its_fit = record { kernel = fit.kernel; codelet = fit.codelet; operands = ap (fits fit.kernel l.args) (sym same_dims) ∙ fit.operands; modes = its_modes (list_any (λ (a : Access). is_redux a.mode) l.accesses) refl }
 
       q_pairs : AllPairs ReadOnly (map direct_access (data_operands l))
       q_pairs = subst (AllPairs ReadOnly) (filter-direct l.accesses) (subst (λ (x : Lowered). IsUnaliased x) row (All-get_or IsUnaliased q.tasks m no_task inside proper.unaliased))
 
-      its_pairs : (i j : ℕ) (d : Access) → i < j → j < length (data_operands l) → ReadOnly (get_or (data_operands l) i d) (get_or (data_operands l) j d)
-      its_pairs i j d before within same =
-          let ei = get_or-map direct_access (data_operands l) i d (direct_access d) (omega (arith, before, within)) in
-          let ej = get_or-map direct_access (data_operands l) j d (direct_access d) within in
-          let both = q_pairs i j (direct_access d) before (omega (arith, within, length-map (data_operands l) direct_access)) ((λ k. same_cell (ei k).cell (ej k).cell) ∙ same) in
-          (direct-read (get_or (data_operands l) i d).mode (sym (ap (λ (a : Access). a.mode) ei) ∙ both.0), direct-read (get_or (data_operands l) j d).mode (sym (ap (λ (a : Access). a.mode) ej) ∙ both.1))
-
   -- what has a value after it has one in the program with phases
   pub values-own : (n : ℕ) → task_of p (task n) ≡ l → ((c : Cell) → HasValueBefore q (task m) c → HasValueBefore p (task n) c) → (c : Cell) → HasValueBefore q (task (m + 1)) c → HasValueBefore p (task (n + 1)) c
-  values-own n here values c (u, before, gives) = elim (cases_lt u.0 m) [
-    | inl old ↦ later p n (n + 1) c (omega arith) (values c (u, old, gives))
-    | inr new ↦ (let same : u.0 ≡ m = omega (arith, new, before) in by_access (ap (λ i. gives_value (task_of q (task i)) c) (sym same) ∙ gives))
-  ]
-    where
-      by_access : gives_value (task_of q (task m)) c ≡ true → HasValueBefore p (task (n + 1)) c
-      by_access gives =
-          let test : Access → Bool = λ a. is_written a.mode && not (is_redux a.mode) && same_cell a.cell c in
-          let found = list_any-some test (map direct_access l.accesses) (sym (ap (λ (x : Lowered). gives_value x c) row) ∙ gives) in
-          let own = map-from direct_access l.accesses found.0 found.1 in
-          by_mode own.0 own.1 (ap test own.2 ∙ found.2) (is_redux own.0.mode) refl
-        where
-          by_mode : (a : Access) → Contains l.accesses a → (is_written (direct_mode a.mode) && not (is_redux (direct_mode a.mode)) && same_cell a.cell c) ≡ true → (b : Bool) → is_redux a.mode ≡ b → HasValueBefore p (task (n + 1)) c
-          by_mode a h test true e =
-              later p n (n + 1) c (omega arith) (values c (subst (HasValueBefore q (task m)) (same_cell-is a.cell c (and_parts (is_written (direct_mode a.mode) && not (is_redux (direct_mode a.mode))) (same_cell a.cell c) test).1) (plain-value a h (redux-reads a.mode e))))
-          by_mode a (k, lt, is) test false e = (
-            task n,
-            omega arith,
-            ap (λ (x : Lowered). gives_value x c) here ∙ list_any_at (λ (a : Access). is_written a.mode && not (is_redux a.mode) && same_cell a.cell c) l.accesses k a lt
-                (ap (λ (a : Access). is_written a.mode && not (is_redux a.mode) && same_cell a.cell c) is ∙ ap (λ (a : Access). is_written a.mode && not (is_redux a.mode) && same_cell a.cell c) (sym (direct-same a e)) ∙ test),
-          )
+  values-own n here values c = values-row p q n m c values (λ gives.
+      let test : Access → Bool = λ a. is_written a.mode && not (is_redux a.mode) && same_cell a.cell c in
+      let found = list_any-some test (map direct_access l.accesses) (sym (ap (λ (x : Lowered). gives_value x c) row) ∙ gives) in
+      let own = map-from direct_access l.accesses found.0 found.1 in
+      let passes : test (direct_access own.0) ≡ true = ap test own.2 ∙ found.2 in
+      elim (cases_Bool (is_redux own.0.mode)) [
+        | inl e ↦ later p n (n + 1) c (omega arith) (values c (subst (HasValueBefore q (task m)) (same_cell-is own.0.cell c (and_rest (is_written (direct_mode own.0.mode) && not (is_redux (direct_mode own.0.mode))) (same_cell own.0.cell c) passes)) (plain-value own.0 own.1 (ap (λ b. reads_value (cond b RW own.0.mode)) e))))
+        | inr e ↦ (task n, omega arith, ap (λ (x : Lowered). gives_value x c) here ∙ list_any-from_Any test l.accesses (own.1.0, own.0, own.1.1, own.1.2, ap test (sym (direct-same own.0 e)) ∙ passes))
+      ])
 
 -- the same after the unit that both programs have
 pub values-units : (p q : Program) (n m : ℕ) (o : Opening) (line : Line) → Stand p n (first_units o line) → Stand q m (first_units o line) → ((c : Cell) → HasValueBefore q (task m) c → HasValueBefore p (task n) c)
@@ -278,7 +226,4 @@ values-units p q n m o line s r values c = by_valued o.valued s r
   where
     by_valued : (v : Bool) → Stand p n (cond v [] (init_row o.by line o.cell ∷ [])) → Stand q m (cond v [] (init_row o.by line o.cell ∷ [])) → HasValueBefore q (task (m + length (cond v [] (init_row o.by line o.cell ∷ [])))) c → HasValueBefore p (task (n + length (cond v [] (init_row o.by line o.cell ∷ [])))) c
     by_valued true s r h = later p n (n + 0) c (omega arith) (values c (h.0, omega (arith, h.1), h.2))
-    by_valued false s r (u, before, gives) = elim (cases_lt u.0 m) [
-      | inl old ↦ later p n (n + 1) c (omega arith) (values c (u, old, gives))
-      | inr new ↦ (let same : u.0 ≡ m = omega (arith, new, before) in (task n, omega arith, ap (λ (x : Lowered). gives_value x c) (s.0 ∙ sym r.0) ∙ ap (λ i. gives_value (task_of q (task i)) c) (sym same) ∙ gives))
-    ]
+    by_valued false s r h = values-row p q n m c values (λ gives. (task n, omega arith, ap (λ (x : Lowered). gives_value x c) (s.0 ∙ sym r.0) ∙ gives)) h

@@ -1,14 +1,21 @@
--- Lists of accesses, of tasks and of numbers.
-use Rattle.std.proofs.Common.{◌≡◌, ℕ, zero, suc, ◌+◌, ◌-◌, ◌<◌, ◌≤◌, Bool, true, false, cond, List, [], ◌∷◌, ◌++◌, length, get_or, map, refl, sym, ap, subst, ◌∙◌, inl, inr, arith}
+-- Lists of accesses, of tasks and of numbers; options, and what a fold keeps.
+use Rattle.std.proofs.Common.{◌≡◌, ℕ, zero, suc, ◌+◌, ◌-◌, ◌<◌, ◌≤◌, Bool, true, false, cond, Option, Some, None, List, [], ◌∷◌, ◌++◌, length, get_or, map, fold, refl, sym, ap, subst, ◌∙◌, inl, inr, arith}
 use Rattle.std.specs.Prelude.{◌⊎◌, All, Contains}
 use Rattle.std.specs.List.{range_with_len, filter}
 use Rattle.std.proofs.lemmas.List.{length-map, get_or-map}
+use Rattle.std.proofs.lemmas.List.Elements.{All-weaker, All-contains_itself}
+use Rattle.std.proofs.lemmas.List.Folds.{fold_along}
 use Rattle.std.proofs.lemmas.List.FromFn.{get_or-range_with_len, length-range_with_len}
-use Rattle.std.proofs.lemmas.List.Elements.{Contains-append_right}
+pub use Rattle.sj_base.proofs.Lists.{one_is as one-case, Contains-range as in-range}
 
-pub one-case : {X : Type 0} (x a : X) → Contains (x ∷ []) a → x ≡ a
-one-case x a (zero, l, e) = e
-one-case x a (suc k, l, e) = absurd (omega (arith, l))
+-- whether there is one: what holds in either case
+pub by_option : {X : Type 0} (o : Option X) (P : Option X → Type 0) → (o ≡ None → P None) → ((x : X) → o ≡ Some x → P (Some x)) → P o
+by_option None P none some = none refl
+by_option (Some x) P none some = some x refl
+
+-- what each step keeps a fold keeps
+pub fold_keeps : {A B : Type 0} (P : B → Type 0) (f : B → A → B) → ((b : B) (x : A) → P b → P (f b x)) → (b : B) (xs : List A) → P b → P (fold f b xs)
+fold_keeps P f step b xs = fold_along f f (λ c d. P c) (λ c d x. step c x) b b xs
 
 pub two-cases : {X : Type 0} (x y a : X) → Contains (x ∷ y ∷ []) a → (x ≡ a) ⊎ (y ≡ a)
 two-cases x y a (zero, l, e) = inl e
@@ -28,25 +35,15 @@ more-has x xs y (k, l, e) = (suc k, omega (arith, l), e)
 pub first-has : {X : Type 0} (x : X) (xs : List X) → Contains (x ∷ xs) x
 first-has x xs = (0, omega arith, refl)
 
-pub last-has : {X : Type 0} (xs : List X) (x : X) → Contains (xs ++ x ∷ []) x
-last-has xs x = Contains-append_right xs (x ∷ []) x (first-has x [])
-
 -- what holds of each image holds of each item
 pub All-unmap : {X Y : Type 0} (P : Y → Type 0) (f : X → Y) (xs : List X) → All P (map f xs) → All (λ x. P (f x)) xs
 All-unmap P f xs h k d l = subst P (get_or-map f xs k d (f d) l) (h k (f d) (omega (arith, length-map xs f, l)))
 
 -- numbers from a on
-pub in-range : (a n m : ℕ) → Contains (range_with_len a n) m → (a ≤ m) × (m < a + n)
-in-range a n m (k, l, e) =
-    let inside : k < n = omega (arith, l, length-range_with_len a n) in
-    let is = sym (get_or-range_with_len a n k m inside) ∙ e in
-    (omega (arith, is), omega (arith, is, inside))
-
 pub range-has : (a n m : ℕ) → a ≤ m → m < a + n → Contains (range_with_len a n) m
-range-has a n m lo hi = (m - a, omega (arith, lo, hi, length-range_with_len a n), get_or-range_with_len a n (m - a) m (omega (arith, lo, hi)) ∙ back)
-  where
-    back : a + (m - a) ≡ m
-    back = omega (arith, lo)
+range-has a n m lo hi =
+    let back : a + (m - a) ≡ m = omega (arith, lo) in
+    (m - a, omega (arith, lo, hi, length-range_with_len a n), get_or-range_with_len a n (m - a) m (omega (arith, lo, hi)) ∙ back)
 
 pub all-range : (P : ℕ → Type 0) (a n : ℕ) → ((m : ℕ) → a ≤ m → m < a + n → P m) → All P (range_with_len a n)
 all-range P a n f k d h =
@@ -55,12 +52,7 @@ all-range P a n f k d h =
 
 -- what is contained in a list has a property that all have
 pub all-from : {X : Type 0} (P : X → Type 0) (xs : List X) → ((x : X) → Contains xs x → P x) → All P xs
-all-from P xs f k d l = f (get_or xs k d) (k, l, get_or-same xs k d l)
-  where
-    get_or-same : {X : Type 0} (xs : List X) (k : ℕ) (d : X) → k < length xs → get_or xs k (get_or xs k d) ≡ get_or xs k d
-    get_or-same [] k d l = absurd (omega (arith, l))
-    get_or-same (x ∷ xs) zero d l = refl
-    get_or-same (x ∷ xs) (suc k) d l = get_or-same xs k d (omega (arith, l))
+all-from P xs f = All-weaker (Contains xs) P f xs (All-contains_itself xs)
 
 pub filter-last : {X : Type 0} (f : X → Bool) (xs : List X) (x : X) → ((y : X) → Contains xs y → f y ≡ false) → f x ≡ true → filter f (xs ++ x ∷ []) ≡ x ∷ []
 filter-last f [] x none passes = ap (λ b. cond b (x ∷ []) []) passes

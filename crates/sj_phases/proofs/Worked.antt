@@ -1,22 +1,18 @@
 -- Blocks of two jobs on two workers, and what they come to, worked out by hand.
 use Rattle.std.proofs.Common.{ℕ, true, false, Some, None, List, [], ◌∷◌, ◌≡◌, refl}
-use Rattle.sj_base.specs.declared.ids.Cell.{Cell}
 use Rattle.sj_base.specs.declared.ids.Line.{Line}
 use Rattle.sj_base.specs.declared.mode.Mode.TheVariants.{R, W, RW, Redux}
 use Rattle.sj_base.specs.declared.mode.Access.{Access}
 use Rattle.sj_base.specs.declared.mode.Reduction.TheVariants.{Plus, Least}
 use Rattle.sj_base.specs.declared.program.Delivery.{Delivery}
 use Rattle.sj_base.specs.declared.program.Lowered.{Lowered}
+use Rattle.sj_base.specs.Ids.{cell}
 use Rattle.sj_codelet.specs.declared.kernel.Kernel.{Kernel}
 use Rattle.sj_codelet.specs.declared.kernel.Kernel.TheVariants.{Load, Sum, Add, InitPlus, InitLeast, Lowest, MinGemm, Deliver}
-use Rattle.sj_phases.specs.declared.phase.Opening.{Opening}
 use Rattle.sj_phases.specs.Block.{Block}
 use Rattle.sj_phases.specs.Rows.{an_access, own_task}
 use Rattle.sj_phases.specs.Expand.{expand, nothing, last_block, first_above}
 use Rattle.sj_phases.specs.Plain.{plain_program, none_open, open_after}
-
-abbrev cell : ℕ → Cell
-cell n = record { 0 = n }
 
 abbrev line : ℕ → Line
 line n = record { 0 = n }
@@ -43,11 +39,8 @@ abbrev alone : ℕ → List Lowered → Block
 alone n ls = record { line = line n; closes = []; opens = []; tasks = ls; deliveries = [] }
 
 -- a sum to cell 0, whose copies are cells 2 and 3: it is loaded, gets two contributions of cell 1, and is printed
-abbrev sum_opening : Opening
-sum_opening = record { cell = cell 0; by = Plus; copies = cell 2; valued = true }
-
 abbrev giving : ℕ → Block
-giving n = record { line = line n; closes = []; opens = sum_opening ∷ []; tasks = task Sum (reads 1 ∷ gives 0 ∷ []) n ∷ []; deliveries = [] }
+giving n = record { line = line n; closes = []; opens = record { cell = cell 0; by = Plus; copies = cell 2; valued = true } ∷ []; tasks = task Sum (reads 1 ∷ gives 0 ∷ []) n ∷ []; deliveries = [] }
 
 abbrev printing : Block
 printing = record { line = line 6; closes = cell 0 ∷ []; opens = []; tasks = task Deliver (reads 0 ∷ []) 6 ∷ []; deliveries = delivery 0 ∷ [] }

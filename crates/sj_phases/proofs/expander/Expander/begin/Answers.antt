@@ -1,10 +1,9 @@
-use Rattle.std.proofs.Common.{◌+◌, ◌++◌, ◌∷◌, [], ℕ, List, ◌∙◌, sym, ap, subst, arith}
-use Rattle.std.proofs.lemmas.List.FromFn.{map-range_with_len_more}
+use Rattle.std.proofs.Common.{◌++◌, ◌∷◌, [], ℕ, List, ◌∙◌, sym, ap, subst, arith}
 use Rattle.sj_base.specs.declared.program.Lowered.{Lowered}
 use Rattle.sj_phases.specs.Does.{Does}
 use Rattle.sj_phases.specs.Expand.{begin_rows, with_own}
 use Rattle.sj_phases.specs.Rows.{copy_at, init_row, init_rows}
-use Rattle.sj_phases.proofs.Doing.{has-after, does-more, begin-valued, begin-unvalued}
+use Rattle.sj_phases.proofs.Doing.{has-after, does-more, does-next, begin-valued, begin-unvalued}
 use Rattle.sj_phases.proofs.expander.Expander.begin.Goals as goal
 
 pub push-requires : goal.push-requires
@@ -14,9 +13,7 @@ pub loop-w-preserved : goal.loop-w-preserved
 loop-w-preserved c =
     let a = c.args in
     let o = a.opening in
-    let w = c.loop-w.w in
-    does-more a.self.now c.loop-w.self c.push.new.self a.line (init_rows o.by o.copies w a.line) (init_rows o.by o.copies (w + 1) a.line) _
-    (map-range_with_len_more (λ w. init_row o.by a.line (copy_at o.copies w)) 0 w w (omega arith) ∙ ap (λ (l : Lowered). init_rows o.by o.copies w a.line ++ l ∷ []) (sym c.in_ok-task.ensures)) c.loop-w.invariant c.in_ok-push.ensures
+    does-next a.self.now c.loop-w.self c.push.new.self a.line (λ w. init_row o.by a.line (copy_at o.copies w)) c.loop-w.w _ c.in_ok-task.ensures c.loop-w.invariant c.in_ok-push.ensures
 
 pub push-requires-then-not-opening : goal.push-requires-then-not-opening
 push-requires-then-not-opening c = let o = c.args.opening in record { at = has-after c.args.self.now c.loop-w.self c.args.line (with_own (init_rows o.by o.copies c.loop-w.w c.args.line) []) c.loop-w.invariant c.requires.at }

@@ -1,17 +1,19 @@
-use Rattle.std.proofs.Common.{◌∙◌, refl, sym}
+use Rattle.std.proofs.Common.{None, Some, ◌∙◌, refl, sym}
 use Rattle.std.proofs.lemmas.Result.{on_ok_weaker}
-use Rattle.sj_phases.proofs.Doing.{none-over, mid-at, close-on}
-use Rattle.sj_phases.proofs.Logging.{none_isn't}
+use Rattle.sj_phases.specs.Expand.{closed}
+use Rattle.sj_phases.specs.Rows.{combine_rows}
+use Rattle.sj_phases.proofs.Doing.{none-over, sets-at, sets-then, closed-is}
 use Rattle.sj_phases.proofs.expander.Expander.close.Goals as goal
 
 pub combine-requires-clause-at : goal.combine-requires-clause-at
 combine-requires-clause-at c =
     let g = c.args.self.now in
     let none = none-over g.over c.is_some.result c.is_some.ensures c.if-is_some.false in
-    mid-at g _ c.args.line c.args.cell _ none none refl refl refl c.swap_remove.ensures.updates.0 (λ f e. absurd (none_isn't f e)) c.requires.at
+    sets-at g _ c.args.line c.args.cell None none none refl refl refl c.swap_remove.ensures.updates.0 tt c.requires.at
 
 pub returns : goal.returns
 returns c =
     let g = c.args.self.now in
     let none = none-over g.over c.is_some.result c.is_some.ensures c.if-is_some.false in
-    on_ok_weaker c.combine.result (close-on g _ c.combine.new.self c.args.line c.args.cell c.in-Some.phase none none refl refl refl c.swap_remove.ensures.updates.0 (sym c.swap_remove.ensures.value ∙ c.in-Some.is)) c.combine.ensures
+    on_ok_weaker c.combine.result (sets-then g _ c.args.line c.args.cell None none none refl refl refl c.swap_remove.ensures.updates.0 tt c.combine.new.self (combine_rows c.in-Some.phase c.args.cell g.workers) (λ E. closed g.workers E c.args.cell)
+    (λ E f. closed-is g.workers E c.args.cell (Some c.in-Some.phase) (sym (f.phases c.args.cell) ∙ sym c.swap_remove.ensures.value ∙ c.in-Some.is))) c.combine.ensures

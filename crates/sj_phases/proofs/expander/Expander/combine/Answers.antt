@@ -1,10 +1,8 @@
-use Rattle.std.proofs.Common.{◌+◌, ◌++◌, ◌∷◌, [], ℕ, ◌∙◌, sym, ap, subst, arith}
-use Rattle.std.proofs.lemmas.List.FromFn.{map-range_with_len_more}
-use Rattle.sj_base.specs.declared.program.Lowered.{Lowered}
+use Rattle.std.proofs.Common.{[], ℕ, subst, arith}
 use Rattle.sj_phases.specs.Does.{Does}
 use Rattle.sj_phases.specs.Expand.{with_own}
 use Rattle.sj_phases.specs.Rows.{copy_at, combine_row, combine_rows}
-use Rattle.sj_phases.proofs.Doing.{has-after, does-more}
+use Rattle.sj_phases.proofs.Doing.{has-after, does-next}
 use Rattle.sj_phases.proofs.expander.Expander.combine.Goals as goal
 
 pub push-requires : goal.push-requires
@@ -13,9 +11,7 @@ push-requires c = record { at = has-after c.args.self.now c.loop-w.self c.args.l
 pub loop-w-preserved : goal.loop-w-preserved
 loop-w-preserved c =
     let a = c.args in
-    let w = c.loop-w.w in
-    does-more a.self.now c.loop-w.self c.push.new.self a.line (combine_rows a.phase a.cell w) (combine_rows a.phase a.cell (w + 1)) _
-    (map-range_with_len_more (λ w. combine_row a.phase.by a.cell a.phase.line (copy_at a.phase.copies w)) 0 w w (omega arith) ∙ ap (λ (l : Lowered). combine_rows a.phase a.cell w ++ l ∷ []) (sym c.in_ok-task.ensures)) c.loop-w.invariant c.in_ok-push.ensures
+    does-next a.self.now c.loop-w.self c.push.new.self a.line (λ w. combine_row a.phase.by a.cell a.phase.line (copy_at a.phase.copies w)) c.loop-w.w _ c.in_ok-task.ensures c.loop-w.invariant c.in_ok-push.ensures
 
 pub returns : goal.returns
 returns c = subst (λ (n : ℕ). Does c.args.self.now c.loop-w.self c.args.line (with_own (combine_rows c.args.phase c.args.cell n) [])) (omega (arith, c.loop-w.auto.w-end, c.loop-w-test.false)) c.loop-w.invariant
