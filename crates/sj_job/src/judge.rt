@@ -729,7 +729,14 @@ pub fn judge_task<C: Codelets>(
     if !has_priority(priority) {
         return Err(Objection::Bad(Reason::Limit(LimitKind::Priority)));
     }
-    let (kernel, operands, valued) = judge_call(alloc, names, form, args.items(), indexes, codelets)?;
+    let (kernel, operands, valued) = judge_call(
+        alloc,
+        names,
+        form,
+        args.items(),
+        indexes,
+        codelets,
+    )?;
     Ok(TaskLine {
         kernel,
         args,

@@ -72,8 +72,8 @@ module _ (names : List (List ℕ)) (d : AreDistinct names) (f : RootState → Ro
   mirror-change keeps rs m = record {
     same = λ k lt. elim (cases_eq k n) as (λ _. unwrap_or (root_of (change f (name_at names n) S) (name_at names k)) no_root ≡ root_at (change_at f n rs) k) [
       | inl e ↦
-        ap (λ o. unwrap_or o no_root) (roots k ∙ ap (λ b. cond b (Some (f h.root)) (root_of S (name_at names k))) (one-name names n k e))
-        ∙ ap f (sym (root-there names S rs n m h)) ∙ sym (get_or-set_same rs n (f (root_at rs n)) no_root here) ∙ ap (root_at (change_at f n rs)) (sym e)
+          ap (λ o. unwrap_or o no_root) (roots k ∙ ap (λ b. cond b (Some (f h.root)) (root_of S (name_at names k))) (one-name names n k e))
+          ∙ ap f (sym (root-there names S rs n m h)) ∙ sym (get_or-set_same rs n (f (root_at rs n)) no_root here) ∙ ap (root_at (change_at f n rs)) (sym e)
       | inr other ↦ ap (λ o. unwrap_or o no_root) (beside k lt other) ∙ m.same k lt ∙ sym (get_or-set_other rs n k (f (root_at rs n)) no_root other)
     ];
     live = λ k r lt e. elim (cases_eq k n) as (λ _. k < length (change_at f n rs)) [
@@ -82,8 +82,8 @@ module _ (names : List (List ℕ)) (d : AreDistinct names) (f : RootState → Ro
     ];
     some = λ k r lt e. elim (cases_eq k n) as (λ _. 0 < area r.dims) [
       | inl same ↦
-        let is : f h.root ≡ r = some_is (f h.root) r (sym (roots k ∙ ap (λ b. cond b (Some (f h.root)) (root_of S (name_at names k))) (one-name names n k same)) ∙ e) in
-        subst (λ (d : Dims). 0 < area d) (sym (keeps h.root) ∙ ap (λ (x : RootState). x.dims) is) (m.some n h.root h.below h.is)
+          let is : f h.root ≡ r = some_is (f h.root) r (sym (roots k ∙ ap (λ b. cond b (Some (f h.root)) (root_of S (name_at names k))) (one-name names n k same)) ∙ e) in
+          subst (λ (d : Dims). 0 < area d) (sym (keeps h.root) ∙ ap (λ (x : RootState). x.dims) is) (m.some n h.root h.below h.is)
       | inr other ↦ m.some k r lt (sym (beside k lt other) ∙ e)
     ];
   }
@@ -148,8 +148,8 @@ mirror-register : (names : List (List ℕ)) → AreDistinct names → (r : Regis
 mirror-register names d r S rs m e lt more = record {
   same = λ k lk. elim (cases_eq k r.name) as (λ _. unwrap_or (root_of (register (registration_by (name_at names) r) S) (name_at names k)) no_root ≡ root_at (rs ++ registered_root r ∷ []) k) [
     | inl same ↦
-      ap (λ o. unwrap_or o no_root) (roots k ∙ ap (λ b. cond b (Some (registered_root r)) (root_of S (name_at names k))) (one-name names r.name k same))
-      ∙ sym (get_or-append_seam rs (registered_root r) [] no_root) ∙ ap (root_at (rs ++ registered_root r ∷ [])) (sym e ∙ sym same)
+        ap (λ o. unwrap_or o no_root) (roots k ∙ ap (λ b. cond b (Some (registered_root r)) (root_of S (name_at names k))) (one-name names r.name k same))
+        ∙ sym (get_or-append_seam rs (registered_root r) [] no_root) ∙ ap (root_at (rs ++ registered_root r ∷ [])) (sym e ∙ sym same)
     | inr other ↦ ap (λ o. unwrap_or o no_root) (beside k lk other) ∙ m.same k lk ∙ elsewhere k other
   ];
   live = λ k s lk h. elim (cases_eq k r.name) as (λ _. k < length (rs ++ registered_root r ∷ [])) [
@@ -158,8 +158,8 @@ mirror-register names d r S rs m e lt more = record {
   ];
   some = λ k s lk h. elim (cases_eq k r.name) as (λ _. 0 < area s.dims) [
     | inl same ↦
-      let is : registered_root r ≡ s = some_is (registered_root r) s (sym (roots k ∙ ap (λ b. cond b (Some (registered_root r)) (root_of S (name_at names k))) (one-name names r.name k same)) ∙ h) in
-      subst (λ (x : RootState). 0 < area x.dims) is more
+        let is : registered_root r ≡ s = some_is (registered_root r) s (sym (roots k ∙ ap (λ b. cond b (Some (registered_root r)) (root_of S (name_at names k))) (one-name names r.name k same)) ∙ h) in
+        subst (λ (x : RootState). 0 < area x.dims) is more
     | inr other ↦ m.some k s lk (sym (beside k lk other) ∙ h)
   ];
 }
@@ -177,16 +177,16 @@ mirror-register names d r S rs m e lt more = record {
     elsewhere k other = elim (cases_lt k (length rs)) as (λ _. root_at rs k ≡ root_at (rs ++ registered_root r ∷ []) k) [
       | inl lk ↦ sym (get_or_append_left rs (registered_root r ∷ []) no_root k lk)
       | inr le ↦
-        get_or_past rs k no_root le
-        ∙ sym (get_or_past (rs ++ registered_root r ∷ []) k no_root (elim (cases_eq k r.name) as (λ _. length (rs ++ registered_root r ∷ []) ≤ k) [ inl same ↦ absurd (other same) | inr not ↦ omega (arith, longer, le, e, not) ]))
+          get_or_past rs k no_root le
+          ∙ sym (get_or_past (rs ++ registered_root r ∷ []) k no_root (elim (cases_eq k r.name) as (λ _. length (rs ++ registered_root r ∷ []) ≤ k) [ inl same ↦ absurd (other same) | inr not ↦ omega (arith, longer, le, e, not) ]))
     ]
 
 mirror-end : (names : List (List ℕ)) → AreDistinct names → (n : ℕ) (S : JobState) (rs : List RootState) → IsMirror names S rs → IsThere names S n → IsMirror names (unregister (name_at names n) S) (set rs n no_root)
 mirror-end names d n S rs m h = record {
   same = λ k lk. elim (cases_eq k n) as (λ _. unwrap_or (root_of (unregister (name_at names n) S) (name_at names k)) no_root ≡ root_at (set rs n no_root) k) [
     | inl e ↦
-      ap (λ o. unwrap_or o no_root) (roots k ∙ ap (λ b. cond b None (root_of S (name_at names k))) (one-name names n k e))
-      ∙ sym (get_or-set_same rs n no_root no_root (m.live n h.root h.below h.is)) ∙ ap (root_at (set rs n no_root)) (sym e)
+        ap (λ o. unwrap_or o no_root) (roots k ∙ ap (λ b. cond b None (root_of S (name_at names k))) (one-name names n k e))
+        ∙ sym (get_or-set_same rs n no_root no_root (m.live n h.root h.below h.is)) ∙ ap (root_at (set rs n no_root)) (sym e)
     | inr other ↦ ap (λ o. unwrap_or o no_root) (beside k lk other) ∙ m.same k lk ∙ sym (get_or-set_other rs n k no_root no_root other)
   ];
   live = λ k r lk e. elim (cases_eq k n) as (λ _. k < length (set rs n no_root)) [

@@ -97,10 +97,9 @@ both false c e = absurd (cc)
 all-there : (T : Table) (S : JobState) (k : ℕ) (os : List Access) → k ≤ length T.names → ((i : ℕ) (d : Access) → i < length os → (get_or os i d).root.0 < k) → list_all (has_child S) (map (operand_seen T) os) ≡ true → AllByRecursion (λ (o : Operand ℕ). IsThere T.names S o.name) (map operand_at os)
 all-there T S k [] le below h = tt
 all-there T S k (o ∷ os) le below h =
-    let parts = both (has_child S (operand_seen T o)) (list_all (has_child S) (map (operand_seen T) os)) h in
-    (
+    let parts = both (has_child S (operand_seen T o)) (list_all (has_child S) (map (operand_seen T) os)) h in (
       there-by T.names S o.root.0 (omega (arith, le, below 0 o (omega arith))) (root_of S (name_at T.names o.root.0)) refl
-        (rooted (root_of S (name_at T.names o.root.0)) _ parts.0),
+          (rooted (root_of S (name_at T.names o.root.0)) _ parts.0),
       all-there T S k os le (λ i d lt. below (suc i) d (omega (arith, lt))) parts.1,
     )
 
@@ -121,10 +120,9 @@ pub timely : (has : Kernel → Bool) (T : Table) (k : ℕ) (S : JobState) (rs : 
 timely has T k S rs [] d e le p m s = tt
 timely has T k S rs (t ∷ ts) d e le p m s =
     let now = timely-act has T k S rs t.act e (omega (arith, le, counts-grow (count_after k t.act) ts)) p.0 s.0 in
-    let same = act-named T k t.act in
-    (
+    let same = act-named T k t.act in (
       now,
       timely has T (count_after k t.act) (apply (act_by (name_at T.names) (act_at T k t.act)) S) (apply_at (act_at T k t.act) rs) ts d (length-apply T k t.act rs e) le p.1
-        (mirror-apply T.names d (act_at T k t.act) S rs m now)
-        (subst (λ (a : Act (List ℕ)). AreSound has (apply a S) (seen_from T (count_after k t.act) ts)) same s.1),
+          (mirror-apply T.names d (act_at T k t.act) S rs m now)
+          (subst (λ (a : Act (List ℕ)). AreSound has (apply a S) (seen_from T (count_after k t.act) ts)) same s.1),
     )

@@ -161,10 +161,12 @@ module _ (p q : Program) (twins : AreTwins p q) (proper : Proper q) where
         let own = its_task l used.1 in
         let con = All-contains (λ (a : Access). is_redux a.mode ≡ true → Contributes (open_at was b) l a.cell) l.accesses (access Redux o.cell) own.contributes used.2 refl in
         let same : con.by ≡ o.by = some_is con.by o.by (sym con.is_open ∙ opening.2) in
-        let at = stand-at p (length Ready.tasks) b.tasks l used.1.0 (begins-stand p Ready.tasks b.tasks begins) used.1.1 used.1.2 in
-        (All-contains (λ (a : Access). IsPlain p a.cell) l.accesses (access Redux o.cell) own.plain used.2, λ trust.
-        subst (IsReduction out) same (law p trust (length Ready.tasks + used.1.0) at.1 (access Redux o.cell) (subst (λ (x : Lowered). names_as Redux o.cell x) (sym at.0) used.2) refl (record { by = con.by; copies = o.copies; line = b.line }) opening.1.copies con.contribution.kernel
-        (ap (λ (x : Lowered). kernel_of x.codelet) at.0 ∙ con.contribution.codelet) con.contribution.contributes))
+        let at = stand-at p (length Ready.tasks) b.tasks l used.1.0 (begins-stand p Ready.tasks b.tasks begins) used.1.1 used.1.2 in (
+          All-contains (λ (a : Access). IsPlain p a.cell) l.accesses (access Redux o.cell) own.plain used.2,
+          λ trust.
+              subst (IsReduction out) same (law p trust (length Ready.tasks + used.1.0) at.1 (access Redux o.cell) (subst (λ (x : Lowered). names_as Redux o.cell x) (sym at.0) used.2) refl (record { by = con.by; copies = o.copies; line = b.line }) opening.1.copies con.contribution.kernel
+              (ap (λ (x : Lowered). kernel_of x.codelet) at.0 ∙ con.contribution.codelet) con.contribution.contributes),
+        )
 
     split : (us ++ units b) ++ map direct b.tasks ≡ us ++ plain_rows b
     split = append_assoc us (units b) (map direct b.tasks)

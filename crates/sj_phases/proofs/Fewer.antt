@@ -56,16 +56,18 @@ fewer-block : (p : Program) (w : ℕ) (b : Block) (E : Expansion) (Q : Plainly) 
 fewer-block p w b E Q was h before =
     let shut = fold (closed w) E b.closes in
     let goes = goes-closes w b.closes E in
-    let opens = fewer-opens p w b.line b.tasks b.opens Q.tasks shut (shut_by was b) h.openings (fold_along (closed w) with_shut AreLinked (linked-closed w) E was b.closes before.0) (omega (arith, before.1, ap length goes.1, length-append E.tasks goes.0)) in
-    (opens.0, omega (
-      arith,
-      opens.1,
-      length-append Q.tasks (plain_rows b),
-      length-append Q.tasks (units b),
-      length-append (units b) (map direct b.tasks),
-      length-map b.tasks direct,
-      length-append (prepared w E b).tasks b.tasks,
-    ))
+    let opens = fewer-opens p w b.line b.tasks b.opens Q.tasks shut (shut_by was b) h.openings (fold_along (closed w) with_shut AreLinked (linked-closed w) E was b.closes before.0) (omega (arith, before.1, ap length goes.1, length-append E.tasks goes.0)) in (
+      opens.0,
+      omega (
+        arith,
+        opens.1,
+        length-append Q.tasks (plain_rows b),
+        length-append Q.tasks (units b),
+        length-append (units b) (map direct b.tasks),
+        length-map b.tasks direct,
+        length-append (prepared w E b).tasks b.tasks,
+      ),
+    )
 
 -- the program without phases has no more tasks
 pub few-plain : (p : Program) (rows : List CellInfo) (w : ℕ) (bs : List Block) → AreOrderly p none_open bs → length (plain_program rows w bs).tasks ≤ length (expand w nothing bs).tasks

@@ -59,4 +59,3 @@ after_rows-append p contents (x ∷ xs) ys = after_rows-append p (after_row p co
 
 pub later : (p : Program) (m n : ℕ) (c : Cell) → m ≤ n → HasValueBefore p (task m) c → HasValueBefore p (task n) c
 later p m n c h g = (g.0, omega (arith, g.1), g.2)
-

@@ -183,7 +183,7 @@ module _ (p q : Program) (twins : AreTwins p q) (proper : Proper q) (m : ℕ) (i
     fits = record { kernel = fit.kernel; codelet = fit.codelet; operands = ap (fits fit.kernel l.args) (sym same_dims) ∙ fit.operands; modes = its_modes (list_any (λ (a : Access). is_redux a.mode) l.accesses) refl };
     unaliased = λ i j d before within same.
         let both = subst₂ ReadOnly (get_or-map direct_access (data_operands l) i d (direct_access d) (omega (arith, before, within))) (get_or-map direct_access (data_operands l) j d (direct_access d) within)
-            (q_pairs i j (direct_access d) before (omega (arith, within, length-map (data_operands l) direct_access))) same in
+        (q_pairs i j (direct_access d) before (omega (arith, within, length-map (data_operands l) direct_access))) same in
         (direct-read (get_or (data_operands l) i d).mode both.0, direct-read (get_or (data_operands l) j d).mode both.1);
     values = all-from (λ (a : Access). reads_value a.mode ≡ true → HasValueBefore p (task n) a.cell) l.accesses (λ a h reads. values a.cell (plain-value a h (direct-reads a.mode reads)));
     copies = copies;
