@@ -5,6 +5,7 @@ use Rattle.std.proofs.Math.Seq.{get_or-append_seam}
 use Rattle.std.proofs.lemmas.Bool.{cases_eq, cases_lt}
 use Rattle.std.proofs.lemmas.List.{length-set, get_or_append_left, get_or_past, map-append}
 use Rattle.std.specs.List.{AllByRecursion}
+use Rattle.std.proofs.lemmas.Slice.Eq.{bytes_eq-Decides}
 use Rattle.sj_base.specs.declared.tile.Dims.{Dims}
 use Rattle.sj_base.specs.Array.{Array, area}
 use Rattle.sj_base.specs.Mode.{is_written}
@@ -15,7 +16,7 @@ use Rattle.sj_meaning.specs.State.{RootState, JobState, root_of}
 use Rattle.sj_meaning.specs.Table.{AreDistinct}
 use Rattle.sj_meaning.specs.Meaning.{registered_root, register, change, with_parts, with_elements, with_reduction, with_child, no_values, seen_by, operand_array, written_of, put_all, run_task, unregister, apply, prints, Printed, printed_from, root_array}
 use Rattle.sj_meaning.specs.Numbers.{name_at, registration_by, operand_by, task_by, act_by, statement_by, no_root, root_at, change_at, operand_array_at, put_all_at, run_task_at, apply_at, prints_at, printed_at}
-use Rattle.sj_meaning.proofs.Finding.{same-text, text-itself, get-put, get-gone, root-change}
+use Rattle.sj_meaning.proofs.Finding.{text-itself, get-put, get-gone, root-change}
 
 -- ---- names that differ
 
@@ -23,7 +24,7 @@ pub apart : (names : List (List ℕ)) → AreDistinct names → (n k : ℕ) → 
 apart names d n k ln lk other = by_test (bytes_eq (name_at names n) (name_at names k)) refl
   where
     by_test : (b : Bool) → bytes_eq (name_at names n) (name_at names k) ≡ b → bytes_eq (name_at names n) (name_at names k) ≡ false
-    by_test true t = absurd (other (sym (d n k ln lk (same-text (name_at names n) (name_at names k) t))))
+    by_test true t = absurd (other (sym (d n k ln lk ((bytes_eq-Decides (name_at names n) (name_at names k)).0 t))))
     by_test false t = t
 
 one-name : (names : List (List ℕ)) (n k : ℕ) → k ≡ n → bytes_eq (name_at names n) (name_at names k) ≡ true

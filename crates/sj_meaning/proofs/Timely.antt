@@ -3,6 +3,7 @@ use Rattle.std.proofs.Common.{◌≡◌, ℕ, zero, suc, ◌+◌, ◌*◌, ◌<�
 use Rattle.std.specs.Option.{is_some}
 use Rattle.std.specs.List.{AllByRecursion, list_all, position_or_len}
 use Rattle.std.proofs.lemmas.List.{length-set}
+use Rattle.std.proofs.lemmas.Slice.Eq.{bytes_eq-Decides}
 use Rattle.sj_base.specs.Array.{Array}
 use Rattle.sj_codelet.specs.declared.kernel.Kernel.{Kernel}
 use Rattle.sj_codelet.specs.Kernel.{out}
@@ -18,7 +19,7 @@ use Rattle.sj_meaning.specs.Meaning.{registered_root, with_parts, with_reduction
 use Rattle.sj_meaning.specs.Sound.{IsSoundAct, AreSound, has_child, has_root, has_valued_root}
 use Rattle.sj_meaning.specs.View.{operand_seen, task_seen, act_seen, statement_seen, seen_from, count_after, count_from, IsPlaced, ActsArePlaced}
 use Rattle.sj_meaning.specs.Numbers.{registration_at, no_root, operand_array_at, name_at, number_in, operand_at, operand_by, task_at, task_by, act_at, act_by, statement_at, statement_by, statements_from, root_at, change_at, put_all_at, apply_at}
-use Rattle.sj_meaning.proofs.Finding.{same-text, text-itself}
+use Rattle.sj_meaning.proofs.Finding.{text-itself}
 use Rattle.sj_meaning.proofs.Mirroring.{IsThere, IsMirror, IsTimely, AreTimely, mirror-apply}
 use Rattle.sj_meaning.proofs.Views.{count-grows, counts-grow}
 
@@ -37,7 +38,7 @@ number-named (x ∷ xs) (suc m) d lt =
     ∙ (let last : 1 + m ≡ suc m = omega arith in last)
   where
     by_test : (b : Bool) → bytes_eq (name_at xs m) x ≡ b → bytes_eq (name_at xs m) x ≡ false
-    by_test true t = absurd (omega (arith, d (suc m) 0 lt (omega arith) (same-text (name_at xs m) x t)))
+    by_test true t = absurd (omega (arith, d (suc m) 0 lt (omega arith) ((bytes_eq-Decides (name_at xs m) x).0 t)))
     by_test false t = t
 
 -- ---- the same acts
