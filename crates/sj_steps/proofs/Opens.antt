@@ -237,9 +237,9 @@ plan-opens q C rs n was line m p lives g =
     let t = takes-planned q C rs n was m p lives g in
     cond_both (same_parts r.parts p) (closing line [] []) (closing line old (cond (is_valued r) (each_of (paste_row (cell_of D m r.parts) (cell_of D m p) line) (pastes_of r.dims r.parts p)) [])) (λ (b : Block). AreOpenChildren D new (open_at was b))
     (λ e c by is.
-        (let h = g.opens c by is in
-        let stays = changed-each (with_parts p) m rs (λ i x. x ≡ root_at rs i) lives (λ j. with_parts (sym (parts-are r.parts p e) j) r) (λ i. refl) h.number in
-        child-moved C D rs new c by h stays (kept-child q C D rs n was m r.dims p c by g t h)))
+    (let h = g.opens c by is in
+    let stays = changed-each (with_parts p) m rs (λ i x. x ≡ root_at rs i) lives (λ j. with_parts (sym (parts-are r.parts p e) j) r) (λ i. refl) h.number in
+    child-moved C D rs new c by h stays (kept-child q C D rs n was m r.dims p c by g t h)))
     (λ e c by is. (let h = g.opens c by (shut-less old was c by is) in child-moved C D rs new c by h (changed-beside (with_parts p) m h.number rs (other-root C rs was m c by is h)) (kept-child q C D rs n was m r.dims p c by g t h)))
 
 -- another root is changed, whose active cells are closed

@@ -196,8 +196,11 @@ module _ (p : Program) (D : Laid) (n : ℕ) (k : Contents) (rs : List RootState)
   orderly-direct none =
       let quiet = ap (flat_map (opening_of (by_number rs) D)) (none-filter t.operands none) in
       record {
-        tasks = All-from_recursion (IsOrderlyTask p (open_at was b)) (l ∷ []) (orderly-task (open_at was b) (λ o h data' direct. ap (λ (os : List Opening). fold with_opening (shut_by was b) os (the_cell rs D o)) quiet ∙ shut o h data' direct)
-            (λ o h redux. absurd (false≢true (sym (none-passes (λ (u : Operand ℕ). is_redux u.mode) t.operands none o h) ∙ redux))), tt);
+        tasks = All-from_recursion (IsOrderlyTask p (open_at was b)) (l ∷ []) (
+          orderly-task (open_at was b) (λ o h data' direct. ap (λ (os : List Opening). fold with_opening (shut_by was b) os (the_cell rs D o)) quiet ∙ shut o h data' direct)
+              (λ o h redux. absurd (false≢true (sym (none-passes (λ (u : Operand ℕ). is_redux u.mode) t.operands none o h) ∙ redux))),
+          tt,
+        );
         openings = subst (AreOpenings p (l ∷ []) (shut_by was b)) (sym quiet) tt;
         delivered = delivered-quiet (l ∷ []) silent;
       }
@@ -253,9 +256,12 @@ module _ (p : Program) (D : Laid) (n : ℕ) (k : Contents) (rs : List RootState)
 
     pub orderly-gift : IsOrderly p was b
     orderly-gift = record {
-      tasks = All-from_recursion (IsOrderlyTask p (open_at was b)) (l ∷ []) (orderly-task (open_at was b)
-          (λ o h data' direct. ap (λ (f : Opens). f (the_cell rs D o)) one_open ∙ phase-other c (Some con.by) (shut_by was b) (the_cell rs D o) (apart o h direct) ∙ shut o h data' direct)
-          (λ o h redux. subst (λ (x : Operand ℕ). ContributesTo (open_at was b) l (the_cell rs D x)) (only-last con o h redux) gift), tt);
+      tasks = All-from_recursion (IsOrderlyTask p (open_at was b)) (l ∷ []) (
+        orderly-task (open_at was b)
+            (λ o h data' direct. ap (λ (f : Opens). f (the_cell rs D o)) one_open ∙ phase-other c (Some con.by) (shut_by was b) (the_cell rs D o) (apart o h direct) ∙ shut o h data' direct)
+            (λ o h redux. subst (λ (x : Operand ℕ). ContributesTo (open_at was b) l (the_cell rs D x)) (only-last con o h redux) gift),
+        tt,
+      );
       openings = subst (AreOpenings p (l ∷ []) (shut_by was b)) (sym (one-opens con D)) (
         record {
           used = (l, first-has l [], gives);
