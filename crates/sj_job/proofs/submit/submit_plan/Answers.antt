@@ -24,5 +24,5 @@ returns-clause-ok c = λ has.
       unopposed = (λ i. first_of (plan_reasons (scope_in c.args.names.now) (sym c.bytes.ensures i) (parts i))) ∙ c.in_ok-root.ensures.none;
       roots = c.plan.ensures.roots;
       sees = c.plan.ensures.names;
-      tells = c.is_all.ensures ∙ ap is_all c.standing.ensures;
+      tells = c.is_all-valued.ensures ∙ ap is_all c.standing.ensures;
     })
