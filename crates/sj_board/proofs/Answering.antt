@@ -1,9 +1,8 @@
 -- What the rows answer is so of the run's state; and what is done with a victim, and from where a cell is brought.
-use Rattle.sj_board.proofs.Words.{ap, arith, Array, AtNode, Block, block_of, Bool, Cell, cell_state, Discard, disk_of, DiskNo, Equations, Evicts, Extent, extent_of, false, first_node, IfSome, is_elsewhere, is_entry, is_leaving, is_read, is_some, is_valid, IsBlock, IsSomeAnd, IsSound, Keeps, length, List, Machine, mark, MatchBool, next_cell, Node, node_of, None, OnDisk, Option, option_map, Place, position, Program, refl, Rows, Some, source_of, StandingBy, State, state, subst, sym, Task, Todo, TransferNext, true, Wait, Worker, writes, ℕ, ◌<◌, ◌∙◌, ◌≡◌}
+use Rattle.sj_board.proofs.Words.{ap, arith, Array, AtNode, Bool, Cell, cell_state, Discard, disk_of, DiskNo, Equations, Evicts, Extent, extent_of, false, first_node, is_elsewhere, is_entry, is_leaving, is_read, is_some, is_valid, IsSomeAnd, IsSound, Keeps, length, List, Machine, mark, MatchBool, next_cell, Node, node_of, None, OnDisk, Option, option_map, Place, position, Program, refl, Rows, Some, source_of, StandingBy, State, state, subst, sym, Task, Todo, TransferNext, true, Wait, Worker, writes, ℕ, ◌<◌, ◌∙◌, ◌≡◌}
 use Rattle.std.proofs.Common.{if◌then◌else◌}
-use Rattle.std.proofs.lemmas.Option.{none-some}
 use Rattle.sj_core.proofs.{Blocks.has-disk, Placing.copy-row, Reading.entry-inside, Replicas.coming_by-is, Replicas.leaving-by_some, Replicas.leaving_by-valid}
-use Rattle.sj_board.proofs.{Keeping.sound_state, NextSteps.cell-comes}
+use Rattle.sj_board.proofs.{Keeping.sound_state, NextSteps.cell-comes, Storing.extent}
 
 module _ {D : Type 0} {eq : Equations} (size faults mismatches : D → ℕ) (held : D → Option (List ℕ)) (b : StandingBy eq D) (rows : Rows) (tiles : List (List (Option Array))) (spare : ℕ) (keeps : Keeps size faults mismatches held b rows tiles spare) where
   abbrev p : Program
@@ -31,18 +30,10 @@ module _ {D : Type 0} {eq : Equations} (size faults mismatches : D → ℕ) (hel
 
   -- the disk of a cell's block is the one that the directory has
   pub home-is : (c : Cell) → c.0 < length p.cells → option_map (λ (e : Extent). e.disk) (extent_of b.disks.directory c.0) ≡ disk_of p m c
-  home-is c inside = by_block (block_of p m c) refl (keeps.sound.blocks.placed c) (has-disk p m c keeps.sound.run.swap inside).1
-    where
-      home : DiskNo
-      home = (has-disk p m c keeps.sound.run.swap inside).0
-
-      by_extent : (bl : Block) (o : Option Extent) → IsSomeAnd o (IsBlock p c bl) → option_map (λ (e : Extent). e.disk) o ≡ Some bl.disk
-      by_extent bl None some = absurd some
-      by_extent bl (Some e) is = ap Some is.disk
-
-      by_block : (o : Option Block) → block_of p m c ≡ o → IfSome o (λ bl. IsSomeAnd (extent_of b.disks.directory c.0) (IsBlock p c bl)) → disk_of p m c ≡ Some home → option_map (λ (e : Extent). e.disk) (extent_of b.disks.directory c.0) ≡ disk_of p m c
-      by_block None e placed disk = absurd (none-some home (sym (ap (λ (o : Option Block). option_map (λ (x : Block). x.disk) o) e) ∙ disk))
-      by_block (Some bl) e placed disk = by_extent bl (extent_of b.disks.directory c.0) placed ∙ sym (ap (λ (o : Option Block). option_map (λ (x : Block). x.disk) o) e)
+  home-is c inside =
+      let home = has-disk p m c keeps.sound.run.swap inside in
+      let e = extent size faults mismatches held b rows tiles spare keeps c home.0 home.1 in
+      ap (λ (o : Option Extent). option_map (λ (x : Extent). x.disk) o) e.1 ∙ ap Some e.3 ∙ sym home.1
 
   -- a cell that leaves is one of the program
   pub leaving-inside : (c : Cell) (n : Node) → is_leaving (mark s c n) ≡ true → c.0 < length p.cells
@@ -62,42 +53,33 @@ module _ {D : Type 0} {eq : Equations} (size faults mismatches : D → ℕ) (hel
 
     -- ---- where the cell is fetched from
 
-    pub source-node : (n : Node) → first_node (cell_state rows.state c) ≡ Some n → (b' : StandingBy eq D) → b ≡ b' → source_of b'.program b'.machine (state b') c ≡ Some (AtNode n)
-    source-node n first b' same = subst (λ (z : StandingBy eq D). source_of z.program z.machine (state z) c ≡ Some (AtNode n)) same
-        (by_place (position is_valid (cell_state s c).marks) (sym (ap (λ (z : State). first_node (cell_state z c)) rows-state) ∙ first))
+    source-from : (first : Option Node) → first_node (cell_state rows.state c) ≡ first → source_of p m s c ≡ (elim first as (λ _. Option Place) [ None ↦ option_map OnDisk (disk_of p m c) | Some n ↦ Some (AtNode n) ])
+    source-from first is = by_place (position is_valid (cell_state s c).marks) ∙ ap (λ (o : Option Node). elim o as (λ _. Option Place) [ None ↦ option_map OnDisk (disk_of p m c) | Some n ↦ Some (AtNode n) ]) (sym (ap (λ (z : State). first_node (cell_state z c)) rows-state) ∙ is)
       where
-        by_place : (o : Option ℕ) → option_map (λ k. let j : Node = record { 0 = k } in j) o ≡ Some n → (elim o as (λ _. Option Place) [ None ↦ option_map OnDisk (disk_of p m c) | Some k ↦ Some (AtNode (record { 0 = k })) ]) ≡ Some (AtNode n)
-        by_place None is = absurd (none-some n is)
-        by_place (Some k) is = let j : Node = record { 0 = k } in let at : j ≡ n = cc in ap (λ (i : Node). Some (AtNode i)) at
+        by_place : (o : Option ℕ) → (elim o as (λ _. Option Place) [ None ↦ option_map OnDisk (disk_of p m c) | Some k ↦ Some (AtNode (record { 0 = k })) ]) ≡ (elim (option_map (λ k. let j : Node = record { 0 = k } in j) o) as (λ _. Option Place) [ None ↦ option_map OnDisk (disk_of p m c) | Some n ↦ Some (AtNode n) ])
+        by_place None = refl
+        by_place (Some k) = refl
+
+    pub source-node : (n : Node) → first_node (cell_state rows.state c) ≡ Some n → (b' : StandingBy eq D) → b ≡ b' → source_of b'.program b'.machine (state b') c ≡ Some (AtNode n)
+    source-node n first b' same = subst (λ (z : StandingBy eq D). source_of z.program z.machine (state z) c ≡ Some (AtNode n)) same (source-from (Some n) first)
 
     pub source-disk : first_node (cell_state rows.state c) ≡ None → (k : DiskNo) → option_map (λ (e : Extent). e.disk) (extent_of b.disks.directory c.0) ≡ Some k → (b' : StandingBy eq D) → b ≡ b' → source_of b'.program b'.machine (state b') c ≡ Some (OnDisk k)
-    source-disk first k home b' same = subst (λ (z : StandingBy eq D). source_of z.program z.machine (state z) c ≡ Some (OnDisk k)) same
-        (by_place (position is_valid (cell_state s c).marks) (sym (ap (λ (z : State). first_node (cell_state z c)) rows-state) ∙ first))
-      where
-        by_place : (o : Option ℕ) → option_map (λ i. let j : Node = record { 0 = i } in j) o ≡ None → (elim o as (λ _. Option Place) [ None ↦ option_map OnDisk (disk_of p m c) | Some i ↦ Some (AtNode (record { 0 = i })) ]) ≡ Some (OnDisk k)
-        by_place None is = ap (λ (o : Option DiskNo). option_map OnDisk o) (sym (home-is c inside) ∙ home)
-        by_place (Some i) is = absurd (let j : Node = record { 0 = i } in none-some j (sym is))
+    source-disk first k home b' same = subst (λ (z : StandingBy eq D). source_of z.program z.machine (state z) c ≡ Some (OnDisk k)) same (source-from None first ∙ ap (λ (o : Option DiskNo). option_map OnDisk o) (sym (home-is c inside) ∙ home))
 
     -- ---- what is done with a victim
 
     module _ (n : Node) (b' : StandingBy eq D) (same : b ≡ b') where
-      told : (todo : Todo) → Evicts p m s c n todo → Evicts b'.program b'.machine (state b') c n todo
-      told todo is = subst (λ (z : StandingBy eq D). Evicts z.program z.machine (state z) c n todo) same is
-
-      elsewhere-read : is_elsewhere rows.state c n ≡ is_elsewhere s c n
-      elsewhere-read = ap (λ (z : State). is_elsewhere z c n) rows-state
+      evicts-by : (y : Bool) → is_elsewhere rows.state c n ≡ y → (todo : Todo) → MatchBool y (todo ≡ (if is_read s c (AtNode n) then Wait else Discard c)) (IsSomeAnd (disk_of p m c) (λ j. todo ≡ TransferNext c (AtNode n) (OnDisk j) (writes s c))) → Evicts b'.program b'.machine (state b') c n todo
+      evicts-by y asked todo is =
+          subst (λ (z : StandingBy eq D). Evicts z.program z.machine (state z) c n todo) same
+          (subst (λ (x : Bool). MatchBool x (todo ≡ (if is_read s c (AtNode n) then Wait else Discard c)) (IsSomeAnd (disk_of p m c) (λ j. todo ≡ TransferNext c (AtNode n) (OnDisk j) (writes s c)))) (sym asked ∙ ap (λ (z : State). is_elsewhere z c n) rows-state) is)
 
       pub evict-out : is_elsewhere rows.state c n ≡ false → (k : DiskNo) → option_map (λ (e : Extent). e.disk) (extent_of b.disks.directory c.0) ≡ Some k → (count : ℕ) → count ≡ writes rows.state c → Evicts b'.program b'.machine (state b') c n (TransferNext c (AtNode n) (OnDisk k) count)
       evict-out only k home count counts =
           let todo : Todo = TransferNext c (AtNode n) (OnDisk k) count in
-          told todo
-          (subst (λ (y : Bool). MatchBool y (todo ≡ (if is_read s c (AtNode n) then Wait else Discard c)) (IsSomeAnd (disk_of p m c) (λ j. todo ≡ TransferNext c (AtNode n) (OnDisk j) (writes s c)))) (sym only ∙ elsewhere-read)
+          evicts-by false only todo
           (subst (λ (o : Option DiskNo). IsSomeAnd o (λ j. todo ≡ TransferNext c (AtNode n) (OnDisk j) (writes s c))) (sym home ∙ home-is c inside)
-          (ap (λ (i : ℕ). TransferNext c (AtNode n) (OnDisk k) i) (counts ∙ ap (λ (z : State). writes z c) rows-state))))
+          (ap (λ (i : ℕ). TransferNext c (AtNode n) (OnDisk k) i) (counts ∙ ap (λ (z : State). writes z c) rows-state)))
 
       pub evict-here : is_elsewhere rows.state c n ≡ true → (y : Bool) → is_read rows.state c (AtNode n) ≡ y → Evicts b'.program b'.machine (state b') c n (if y then Wait else Discard c)
-      evict-here shared y asked =
-          let todo : Todo = if y then Wait else Discard c in
-          told todo
-          (subst (λ (z : Bool). MatchBool z (todo ≡ (if is_read s c (AtNode n) then Wait else Discard c)) (IsSomeAnd (disk_of p m c) (λ j. todo ≡ TransferNext c (AtNode n) (OnDisk j) (writes s c)))) (sym shared ∙ elsewhere-read)
-          (ap (λ (z : Bool). if z then Wait else Discard c) (sym asked ∙ ap (λ (z : State). is_read z c (AtNode n)) rows-state)))
+      evict-here shared y asked = evicts-by true shared (if y then Wait else Discard c) (ap (λ (z : Bool). if z then Wait else Discard c) (sym asked ∙ ap (λ (z : State). is_read z c (AtNode n)) rows-state))

@@ -1,29 +1,35 @@
 -- A board stays sound where an event changes no task's progress.
-use Rattle.sj_board.proofs.Words.{after, ap, AreGivenBack, BoardBy, Contains, Dependencies, done_tasks, Equations, Err, Event, Hand, has_event, HasCause, HasMoved, IfSome, is_some, is_task_of, IsComplete, IsSomeAnd, IsSoundIn, IsTrue, KeepsBoard, List, Machine, Moved, None, Ok, OnErr, OnlyDisksChange, OnOk, Option, Pooled, Program, Progress, refl, Result, RunFault, Some, StandingBy, State, state, subst, sym, Transfer, transfer, with_event, Worker, ℕ, ◌↔◌, ◌∙◌, ◌≡◌, ◌⊎◌}
+use Rattle.sj_board.proofs.Words.{after, ap, AreGivenBack, BoardBy, Contains, Dependencies, done_tasks, Equations, Event, Hand, has_event, HasCause, IfSome, is_some, is_task_of, IsComplete, IsSoundIn, IsToBeTaken, IsTrue, KeepsBoard, List, Machine, OnlyDisksChange, Option, Pooled, Program, Progress, progress, RunFault, StandingBy, State, state, subst, sym, Task, with_event, Worker, ℕ, ◌↔◌, ◌∙◌, ◌≡◌, ◌⊎◌}
 use Rattle.sj_core.proofs.States.{state_of-more}
-use Rattle.sj_board.proofs.{Faulting.kept-cause, LastHeaders.moved-cause, ReleasedTasks.released-same, Stepping.counts-same, Stepping.done-same, Stepping.progress-same, Stepping.taken-back, Stepping.taken-same, Stepping.tasks_alone}
+use Rattle.sj_board.proofs.{Faulting.kept-cause, ReleasedTasks.released-same, Stepping.counts-same, Stepping.done-same, Stepping.progress-same, Stepping.taken-back, Stepping.taken-same, Stepping.tasks_alone}
 
 -- ---- what is said of a board is said of the tasks in its state alone
 
-module _ (p : Program) (m : Machine) (s s' : State) (same : s'.tasks ≡ s.tasks) where
-  pub sound_in-same : (hands : List Hand) (pool : Pooled) (fault : Option RunFault) → IsSoundIn p m s hands pool fault → IsSoundIn p m s' hands pool fault
-  sound_in-same hands pool fault sound = record {
-    hands_agree = record {
-      every_worker = sound.hands_agree.every_worker;
-      has = λ w t e. ap (is_task_of w) (progress-same p s s' same t) ∙ sound.hands_agree.has w t e;
-      tells = λ none w t has. sound.hands_agree.tells none w t (ap (is_task_of w) (sym (progress-same p s s' same t)) ∙ has);
-    };
-    stops = record {
-      no_task = sound.stops.no_task;
-      over = λ w has_stopped. subst (λ (ts : List Progress). IsComplete (tasks_alone ts) ⊎ IsTrue (is_some fault)) (sym same) (sound.stops.over w has_stopped);
-    };
-    stands_once = λ prio. record {
-      once = λ t is. (sound.stands_once prio).once t (taken-back p s s' same t is);
-      only = λ t some. taken-same p s s' same t ((sound.stands_once prio).only t some);
-    };
-    stands_released = λ other. released-same p s s' hands hands pool (λ n. subst (λ (ns : List ℕ). Contains (done_tasks s) n ↔ Contains ns n) (sym (done-same p s s' same)) (λ c. c, λ c. c)) (sound.stands_released other).none_given (sound.stands_released other);
-    pool_fits = sound.pool_fits;
-  }
+-- it stays sound where each task has the worker that it had, the same ones are to be taken and are done, and all are if all were
+pub sound_in-alike : (p : Program) (m : Machine) (s s' : State) (hands : List Hand) (pool : Pooled) (fault : Option RunFault) → ((w : Worker) (t : Task) → is_task_of w (progress s' t) ≡ is_task_of w (progress s t)) → ((t : Task) → IsToBeTaken p s t → IsToBeTaken p s' t) → ((t : Task) → IsToBeTaken p s' t → IsToBeTaken p s t) → ((n : ℕ) → Contains (done_tasks s) n ↔ Contains (done_tasks s') n) → (IsComplete s ⊎ IsTrue (is_some fault) → IsComplete s' ⊎ IsTrue (is_some fault)) → IsSoundIn p m s hands pool fault → IsSoundIn p m s' hands pool fault
+sound_in-alike p m s s' hands pool fault owners there back done over sound = record {
+  hands_agree = record {
+    every_worker = sound.hands_agree.every_worker;
+    has = λ w t e. owners w t ∙ sound.hands_agree.has w t e;
+    tells = λ none w t has. sound.hands_agree.tells none w t (sym (owners w t) ∙ has);
+  };
+  stops = record {
+    no_task = sound.stops.no_task;
+    over = λ w has_stopped. over (sound.stops.over w has_stopped);
+  };
+  stands_once = λ prio. record {
+    once = λ t is. (sound.stands_once prio).once t (back t is);
+    only = λ t some. there t ((sound.stands_once prio).only t some);
+  };
+  stands_released = λ other. released-same p s s' hands hands pool done (sound.stands_released other).none_given (sound.stands_released other);
+  pool_fits = sound.pool_fits;
+}
+
+sound_in-same : (p : Program) (m : Machine) (s s' : State) (same : s'.tasks ≡ s.tasks) (hands : List Hand) (pool : Pooled) (fault : Option RunFault) → IsSoundIn p m s hands pool fault → IsSoundIn p m s' hands pool fault
+sound_in-same p m s s' same hands pool fault =
+    sound_in-alike p m s s' hands pool fault (λ w t. ap (is_task_of w) (progress-same p s s' same t)) (taken-same p s s' same) (taken-back p s s' same)
+    (subst (λ (ns : List ℕ). (n : ℕ) → Contains (done_tasks s) n ↔ Contains ns n) (sym (done-same p s s' same)) (λ n. (λ c. c, λ c. c)))
+    (subst (λ (ts : List Progress). IsComplete (tasks_alone ts) ⊎ IsTrue (is_some fault)) (sym same))
 
 -- ---- an event that leaves all tasks as they are
 
@@ -41,19 +47,6 @@ module _ {D : Type 0} {eq : Equations} (faults mismatches : D → ℕ) (held : D
   -- as the code leaves it
   pub keeps-run : (e : Event) (run' : StandingBy eq D) → run' ≡ with_event b.run e → IfSome b.fault (HasCause faults mismatches held (with_event b.run e)) → (after b.run.program b.run.machine (state b.run) e).tasks ≡ (state b.run).tasks → KeepsBoard faults mismatches held b deps footprints → KeepsBoard faults mismatches held (record b { run = run' }) deps footprints
   keeps-run e run' is cause same keeps = subst (λ (r : StandingBy eq D). KeepsBoard faults mismatches held (record b { run = r }) deps footprints) (sym is) (keeps-event e cause same keeps)
-
-  -- where the event may fail to come, and then nothing has changed
-  pub keeps-tried : {A E : Type 0} (result : Result A E) (e : Event) (run' : StandingBy eq D) → OnOk result (run' ≡ with_event b.run e) → OnErr result (run' ≡ b.run) → IfSome b.fault (HasCause faults mismatches held (with_event b.run e)) → (after b.run.program b.run.machine (state b.run) e).tasks ≡ (state b.run).tasks → KeepsBoard faults mismatches held b deps footprints → KeepsBoard faults mismatches held (record b { run = run' }) deps footprints
-  keeps-tried (Ok a) e run' ok err cause same keeps = keeps-run e run' ok cause same keeps
-  keeps-tried (Err x) e run' ok err cause same keeps = subst (λ (r : StandingBy eq D). KeepsBoard faults mismatches held (record b { run = r }) deps footprints) (sym err) keeps
-
-  -- the end of a worker's move
-  pub keeps-moved : (w : Worker) (run' : StandingBy eq D) (Q : Transfer → Type 0) → IsSomeAnd (transfer (state b.run) w) Q → HasMoved w b.run run' → KeepsBoard faults mismatches held b deps footprints → KeepsBoard faults mismatches held (record b { run = run' }) deps footprints
-  keeps-moved w run' Q some moved keeps = by_move (transfer (state b.run) w) some moved
-    where
-      by_move : (o : Option Transfer) → IsSomeAnd o Q → IfSome o (λ x. run' ≡ with_event b.run (Moved x.cell x.from x.to)) → KeepsBoard faults mismatches held (record b { run = run' }) deps footprints
-      by_move None none is = absurd none
-      by_move (Some x) some is = keeps-run (Moved x.cell x.from x.to) run' is (moved-cause faults mismatches held b.run x.cell x.from x.to b.fault keeps.fault) refl keeps
 
 -- ---- no event
 

@@ -1,5 +1,5 @@
 -- Deliver tasks: each reads one cell, and what it finds there is what it is to hand over.
-use Rattle.sj_board.proofs.Words.{[], Access, access, ap, arith, AtNode, Bool, Brought, CanHappen, Cell, cells_of, Commuting, Contributing, Deliver, delivered_cell, Equations, false, filter, FirstPaste, FitsCodelet, fresh_cells, get_or, given, has_cell, HasAtHand, inl, inr, is_data, is_deliver, is_deliver_task, is_delivery, is_valid, IsSound, IsSoundRun, Kernel, length, List, Lowered, map, mark, MayHaveModes, Mode, no_task, Node, node_of, None, Option, Own, Program, Proper, R, refl, Run, run_arrays, Some, StandingBy, state, subst, sym, Task, task_of, true, worked_on, Worker, ℕ, ◌<◌, ◌||◌, ◌∙◌, ◌∷◌, ◌≡◌}
+use Rattle.sj_board.proofs.Words.{[], Access, access, ap, arith, AtNode, Bool, Brought, CanHappen, CanRun, Cell, cells_of, Commuting, Contributing, Deliver, delivered_cell, Equations, false, filter, FirstPaste, FitsCodelet, fresh_cells, get_or, given, has_cell, HasAtHand, inl, inr, is_data, is_deliver, is_deliver_task, is_delivery, is_valid, IsSound, IsSoundRun, Kernel, length, List, Lowered, Machine, map, mark, MayHaveModes, Mode, no_task, Node, node_of, None, Option, Own, Program, Proper, R, refl, Run, run_arrays, Some, StandingBy, starts_as_zeros, State, state, subst, sym, Task, task_of, true, worked_on, Worker, ℕ, ◌<◌, ◌||◌, ◌∙◌, ◌∷◌, ◌≡◌}
 use Rattle.std.specs.Prelude.{Contains, slice_index_or}
 use Rattle.std.proofs.lemmas.{Bool.cases_lt, Bool.false≢true, List.get_or_past, List.Elements.All-get_or}
 use Rattle.sj_core.proofs.{Claimed.claimed-staffed, Folding.read-among_cells, Found.found-not_fresh, Given.delivers-given, Reading.list_all-has}
@@ -46,6 +46,12 @@ module _ (p : Program) (proper : Proper p) (t : Task) (hands_over : is_deliver_t
 
 -- ---- what it is to hand over
 
+-- a cell whose old value a task reads is there as the task begins to run
+pub read-valid : (p : Program) → Proper p → (m : Machine) (s : State) (t : Task) (w : Worker) → w.0 < p.workers → CanRun p m s t w → (a : Access) → Contains (task_of p t).accesses a → starts_as_zeros a.mode ≡ false → is_valid (mark s (worked_on p w a) (node_of m w)) ≡ true
+read-valid p proper m s t w staffed can a has old =
+    sym (ap (λ b. b || is_valid (mark s (worked_on p w a) (node_of m w))) (found-not_fresh p proper t w staffed a has old))
+    ∙ list_all-has (λ c. has_cell (fresh_cells p t w) c || is_valid (mark s c (node_of m w))) (cells_of p t w) (worked_on p w a) can.present (read-among_cells p t w a has old)
+
 module _ {D : Type 0} {eq : Equations} (size faults mismatches : D → ℕ) (held : D → Option (List ℕ)) (b : StandingBy eq D) (sound : IsSoundRun size faults mismatches held b) (t : Task) (w : Worker) where
   abbrev p : Program
   p = b.program
@@ -53,24 +59,17 @@ module _ {D : Type 0} {eq : Equations} (size faults mismatches : D → ℕ) (hel
   abbrev n : Node
   n = node_of b.machine w
 
+  h : IsSound p b.machine (state b)
+  h = record { proper = sound.run.proper; machine = sound.run.machine; coherent = sound.coherent }
+
   -- what it has on its worker's node
   pub at-hand : is_deliver_task p t ≡ true → HasAtHand b.machine (state b) t w (delivered_cell p t) → run_arrays b (delivered_cell p t) (AtNode n) ≡ given eq p t
   at-hand hands has =
-      delivers-given p b.machine (state b) (record { proper = sound.run.proper; machine = sound.run.machine; coherent = sound.coherent }) eq sound.run.has sound.run.lawful (run_arrays b) sound.content t w (delivered_cell p t)
+      delivers-given p b.machine (state b) h eq sound.run.has sound.run.lawful (run_arrays b) sound.content t w (delivered_cell p t)
       (deliver-reads p sound.run.proper t hands) has
 
   -- as the task begins to run it has that cell there
   pub run-has : CanHappen b (Run t w) → is_deliver_task p t ≡ true → HasAtHand b.machine (state b) t w (delivered_cell p t)
-  run-has can hands = Brought can.claimed (
-      sym (ap (λ x. x || is_valid (mark (state b) (delivered_cell p t) n)) (found-not_fresh p sound.run.proper t w (claimed-staffed p b.machine (state b) h t w can.claimed) its among refl))
-      ∙ list_all-has (λ c. has_cell (fresh_cells p t w) c || is_valid (mark (state b) c n)) (cells_of p t w) (delivered_cell p t) can.present (read-among_cells p t w its among refl)
-      )
-    where
-      h : IsSound p b.machine (state b)
-      h = record { proper = sound.run.proper; machine = sound.run.machine; coherent = sound.coherent }
-
-      its : Access
-      its = access R (delivered_cell p t)
-
-      among : Contains (task_of p t).accesses its
-      among = subst (λ (xs : List Access). Contains xs its) (sym (deliver-reads p sound.run.proper t hands)) (0, omega arith, refl)
+  run-has can hands =
+      let among : Contains (task_of p t).accesses (access R (delivered_cell p t)) = subst (λ (xs : List Access). Contains xs (access R (delivered_cell p t))) (sym (deliver-reads p sound.run.proper t hands)) (0, omega arith, refl) in
+      Brought can.claimed (read-valid p sound.run.proper b.machine (state b) t w (claimed-staffed p b.machine (state b) h t w can.claimed) can (access R (delivered_cell p t)) among refl)

@@ -1,5 +1,5 @@
 -- What claims, drops and moves leave of a run: its blocks, and its tiles.
-use Rattle.sj_board.proofs.Words.{a_transfer, after, All, AllTell, ap, arith, Array, Arrays, arrays_after, AtNode, Bool, CanDrop, CanHappen, CanShare, Cell, cell_state, CellState, Claim, dims_of, disk_of, DiskNo, Drop, Equations, Event, extent_of, false, has_copy, has_happened, HoldsArray, HoldsBlocks, IfSome, inl, inr, Invalid, is_being_written, is_coming_by, is_home, is_leaving, is_leaving_by, is_some, is_valid, IsBlockCopyOf, IsShareOf, IsSomeAnd, IsSound, IsStored, IsTileMoved, IsTileOf, IsWrittenOut, Keeps, length, List, Machine, Mark, mark, mark_in, May, MayHappen, Move, Moved, mover_of, Node, None, OnDisk, Option, Place, Program, refl, Rows, run_arrays, same_cell, Some, source_of, StandingBy, State, state, stored, subst, sym, Task, tile_at, tile_kept, tiles_of, Transfer, transfer, true, Valid, with_event, with_mark, with_row, with_tile, with_tiles_of, Worker, writes, ℕ, ◌&&◌, ◌+◌, ◌<◌, ◌∙◌, ◌≡◌}
+use Rattle.sj_board.proofs.Words.{[], a_transfer, Access, after, All, AllTell, ap, arith, Array, Arrays, arrays_after, AtNode, Bool, CanHappen, CanShare, Cell, cell_state, CellState, Claim, dims_of, DiskNo, Drop, Equations, Event, extent_of, false, has_copy, has_happened, HasTiles, HoldsArray, HoldsBlocks, IfSome, inl, inr, Invalid, is_being_written, is_coming_by, is_home, is_leaving, is_some, is_valid, IsBlockCopyOf, IsShareOf, IsSomeAnd, IsSound, IsStored, IsTileMoved, IsTileOf, IsWrittenOut, Keeps, kept_at, length, List, Machine, Mark, mark, mark_in, May, MayHappen, Move, Moved, mover_of, Node, None, on_disk, OnDisk, Option, Place, Program, refl, Rows, run_arrays, same_cell, Some, source_of, StandingBy, State, state, stored, subst, sym, Task, task_of, tile_at, tile_kept, tiles_of, Transfer, transfer, true, unwrap_or, Valid, with_event, with_mark, with_row, with_tile, with_tiles_of, Worker, writes, ℕ, ◌&&◌, ◌+◌, ◌<◌, ◌∙◌, ◌≡◌}
 use Rattle.std.proofs.lemmas.{Bool.and_parts, Bool.cases_Bool, Bool.false_from_ne_true, Bool.false≢true, List.get_or-set_same, List.Elements.All-get_or, List.Elements.All-weaker, List.Quantifiers.position-Some}
 use Rattle.sj_base.proofs.{Options.IfSome-at, SameIds.same_cell-is, SameIds.same_cell-itself, SameIds.same_place-itself}
 use Rattle.sj_core.proofs.{Claiming.claim-on_disk, Claiming.claim-rested, Claiming.claim-rests, Claiming.claim-valid, Claiming.claim-writes, Eviction.evicted-after, Finding.being_written-by, Finding.both_pass, Finding.second_fails, Placing.cells_differ, Placing.home-is, Placing.mark-cases, Placing.on_disk-same, Placing.owned-fails, Placing.row-cases, Placing.same_place-is, Placing.writes-same, Reading.mark_in-same, Reading.no_row, Replicas.leaving_by-leaves, Replicas.leaving_by-valid, States.one-mover}
@@ -49,76 +49,73 @@ module _ {D : Type 0} {eq : Equations} (size faults mismatches : D → ℕ) (hel
   rests : (test : Mark → Bool) → test Valid ≡ false → test Invalid ≡ false → (c : Cell) (n : Node) → test (mark s c n) ≡ true → is_being_written p s c ≡ false
   rests test valid none c n passes = search (arith, false_from_ne_true, being_written-by, h.coherent.writers.owned, owned-fails, false≢true)
 
+  -- a tile that is there is the run's
+  pub tile_there : (c : Cell) (n : Node) → is_some (tile_at tiles c n) ≡ true → IsSomeAnd (tile_at tiles c n) (IsTileOf held b c (AtNode n)) × IsTileOf held b c (AtNode n) (kept_at tiles n c)
+  tile_there c n some = by_tile (tile_at tiles c n) some (keeps.tiles.dims c n) (λ tells. keeps.tiles.arrays tells c n)
+    where
+      by_tile : (o : Option Array) → is_some o ≡ true → IfSome o (λ a. a.dims ≡ dims_of p c) → (AllTell held b → IfSome o (λ a. a ≡ A c (AtNode n))) → IsSomeAnd o (IsTileOf held b c (AtNode n)) × IsTileOf held b c (AtNode n) (unwrap_or o (record { dims = record { rows = 0; cols = 0 }; elements = [] }))
+      by_tile None some dims arrays = absurd (false≢true some)
+      by_tile (Some a) some dims arrays = (record { dims = dims; array = arrays }, record { dims = dims; array = arrays })
+
+  -- an event after which each copy on a disk is one that was there, written as often
+  pub keeps-blocks_stay : (e : Event) → CanHappen b e → (tiles' : List Places) (spare' : ℕ) → ((c : Cell) (d : DiskNo) → arrays_after eq p m A e c (OnDisk d) ≡ A c (OnDisk d)) → ((c : Cell) → on_disk (after p m s e) c ≡ true → (on_disk s c ≡ true) × (writes (after p m s e) c ≡ writes s c)) → HasTiles p m (after p m s e) (arrays_after eq p m A e) (AllTell held b) tiles' → spare' + 1 ≡ spare → Keeps size faults mismatches held (with_event b e) (has_happened rows e) tiles' spare'
+  keeps-blocks_stay e can tiles' spare' same kept has left =
+      keeps-event size faults mismatches held b rows tiles spare keeps e tiles' spare' can (HoldsBlocks-kept held p m s (after p m s e) A (arrays_after eq p m A e) (AllTell held b) b.disks same kept keeps.sound.blocks) has left
+
+  -- a move that is under way can end
+  can_end : (w : Worker) (c : Cell) (from to : Place) → transfer s w ≡ Some (a_transfer c from to) → CanHappen b (Moved c from to)
+  can_end w c from to under_way = subst (λ (v : Worker). transfer s v ≡ Some (a_transfer c from to)) (one-mover p m s c from to w h.coherent under_way) under_way
+
   -- ---- a claim
 
   pub keeps-claim : (t : Task) (w : Worker) → CanHappen b (Claim t w) → (spare' : ℕ) → spare' + 1 ≡ spare → Keeps size faults mismatches held (with_event b (Claim t w)) (has_happened rows (Claim t w)) tiles spare'
   keeps-claim t w can spare' left =
       let s' : State = after p m s (Claim t w) in
-      keeps-event size faults mismatches held b rows tiles spare keeps (Claim t w) tiles spare' can
-      (HoldsBlocks-kept held p m s s' A (arrays_after eq p m A (Claim t w)) (AllTell held b) b.disks (λ c d. refl) (λ c on. (sym (claim-on_disk p m s t w s' can (evicted-after p m s t w) c) ∙ on, claim-writes p m s t w s' can (evicted-after p m s t w) c)) keeps.sound.blocks)
+      keeps-blocks_stay (Claim t w) can tiles spare' (λ c d. refl) (λ c on. (sym (claim-on_disk p m s t w s' can (evicted-after p m s t w) c) ∙ on, claim-writes p m s t w s' can (evicted-after p m s t w) c))
       (HasTiles-kept p m s s' A (arrays_after eq p m A (Claim t w)) (AllTell held b) tiles keeps.tiles (λ d. same-bool (is_being_written p s' d) (is_being_written p s d) (claim-rested p m s h t w s' can (evicted-after p m s t w) d) (claim-rests p m s h t w s' can (evicted-after p m s t w) d)) (claim-valid p m s h t w s' can (evicted-after p m s t w)) (λ d k. refl)) left
 
   -- ---- a drop
 
   module _ (c : Cell) (n : Node) (can : CanHappen b (Drop c n)) where
-    drop : CanDrop s c n
-    drop = can
-
     pub drop-place : (c.0 < length tiles) × (n.0 < length (tiles_of tiles c))
-    drop-place = there is_leaving refl c n drop.leaving
+    drop-place = there is_leaving refl c n can.leaving
 
     pub keeps-drop : (spare' : ℕ) → spare' + 1 ≡ spare → Keeps size faults mismatches held (with_event b (Drop c n)) (has_happened rows (Drop c n)) (with_tiles_of tiles c (λ places. with_tile places n None)) spare'
     keeps-drop spare' left =
-        let s' : State = after p m s (Drop c n) in
         let row : CellState = with_mark (cell_state s c) n Invalid in
-        let at = mark-inside is_leaving refl s c n drop.leaving in
-        keeps-event size faults mismatches held b rows tiles spare keeps (Drop c n) (with_tiles_of tiles c (λ places. with_tile places n None)) spare' can
-        (HoldsBlocks-kept held p m s s' A (arrays_after eq p m A (Drop c n)) (AllTell held b) b.disks (λ d k. refl) (λ d on. (sym (on_disk-same s c row refl d) ∙ on, writes-same s c row refl d)) keeps.sound.blocks)
-        (HasTiles-put p m s s' A (arrays_after eq p m A (Drop c n)) (AllTell held b) tiles keeps.tiles (λ d. refl) c n drop-place.0 drop-place.1 None (mark-far s c n Invalid) (λ d k far. refl) (rests is_leaving refl refl c n drop.leaving) (ap is_valid (sym (mark-here s c n Invalid at.0 at.1))) tt (λ tells. tt)) left
+        let at = mark-inside is_leaving refl s c n can.leaving in
+        keeps-blocks_stay (Drop c n) can (with_tiles_of tiles c (λ places. with_tile places n None)) spare' (λ d k. refl) (λ d on. (sym (on_disk-same s c row refl d) ∙ on, writes-same s c row refl d))
+        (HasTiles-put p m s (after p m s (Drop c n)) A (arrays_after eq p m A (Drop c n)) (AllTell held b) tiles keeps.tiles (λ d. refl) c n drop-place.0 drop-place.1 None (mark-far s c n Invalid) (λ d k far. refl) (rests is_leaving refl refl c n can.leaving) (ap is_valid (sym (mark-here s c n Invalid at.0 at.1))) tt (λ tells. tt)) left
 
   -- ---- a move begins
 
   module _ (c : Cell) (from to : Place) (can : CanHappen b (Move c from to)) where
     pub keeps-begin : (spare' : ℕ) → spare' + 1 ≡ spare → Keeps size faults mismatches held (with_event b (Move c from to)) (has_happened rows (Move c from to)) tiles spare'
     keeps-begin spare' left =
-        let s' : State = after p m s (Move c from to) in
-        keeps-event size faults mismatches held b rows tiles spare keeps (Move c from to) tiles spare' can
-        (HoldsBlocks-kept held p m s s' A (arrays_after eq p m A (Move c from to)) (AllTell held b) b.disks (λ d k. refl) (λ d on. (on, refl)) keeps.sound.blocks)
-        (HasTiles-kept p m s s' A (arrays_after eq p m A (Move c from to)) (AllTell held b) tiles keeps.tiles (λ d. refl) (λ d k. refl) (λ d k. refl)) left
+        keeps-blocks_stay (Move c from to) can tiles spare' (λ d k. refl) (λ d on. (on, refl))
+        (HasTiles-kept p m s (after p m s (Move c from to)) A (arrays_after eq p m A (Move c from to)) (AllTell held b) tiles keeps.tiles (λ d. refl) (λ d k. refl) (λ d k. refl)) left
 
-    -- the copy that it reads at a node is there, and rests
-    read : (n : Node) → from ≡ AtNode n → (is_valid (mark s c n) ≡ true) × (is_being_written p s c ≡ false)
-    read n at = by_places from to can at
+    -- of a copy at a node that is there, and rests, a share can be given, and it is the run's
+    share_there : (n : Node) → is_valid (mark s c n) ≡ true → is_being_written p s c ≡ false → CanShare tiles c (AtNode n) × IsShareOf held b c (AtNode n) (tile_at tiles c n)
+    share_there n valid resting =
+        let at = there is_valid refl c n valid in
+        let some = keeps.tiles.there c n resting ∙ valid in
+        ((at.0, at.1, some), (tile_there c n some).0)
+
+    -- and so it is of the source
+    source_share : CanShare tiles c from × IsShareOf held b c from (tile_kept tiles c from)
+    source_share = by_places from to can
       where
-        by_places : (q k : Place) → CanHappen b (Move c q k) → q ≡ AtNode n → (is_valid (mark s c n) ≡ true) × (is_being_written p s c ≡ false)
-        by_places q (AtNode k) move is = (source-there p m s c n (move.source ∙ ap Some is), rests (is_coming_by (mover_of s c q (AtNode k))) refl refl c k move.coming)
-        by_places (AtNode k) (OnDisk d) move is =
-            let same : k ≡ n = cc in
-            let leaving : is_leaving_by (mover_of s c (AtNode k) (OnDisk d)) (mark s c n) ≡ true = ap (λ (j : Node). is_leaving_by (mover_of s c (AtNode k) (OnDisk d)) (mark s c j)) (sym same) ∙ move.leaving in
-            (leaving_by-valid _ (mark s c n) leaving, rests is_leaving refl refl c n (leaving_by-leaves _ (mark s c n) leaving))
-        by_places (OnDisk e) (OnDisk d) move is = absurd (false≢true move)
+        by_places : (q k : Place) → CanHappen b (Move c q k) → CanShare tiles c q × IsShareOf held b c q (tile_kept tiles c q)
+        by_places (OnDisk e) k move = (tt, refl)
+        by_places (AtNode n) (AtNode k) move = share_there n (source-there p m s c n move.source) (rests (is_coming_by (mover_of s c (AtNode n) (AtNode k))) refl refl c k move.coming)
+        by_places (AtNode n) (OnDisk d) move = share_there n (leaving_by-valid (mover_of s c (AtNode n) (OnDisk d)) (mark s c n) move.leaving) (rests is_leaving refl refl c n (leaving_by-leaves (mover_of s c (AtNode n) (OnDisk d)) (mark s c n) move.leaving))
 
-    -- a share of the source can be given, and it is the run's
     pub begin-can_share : CanShare tiles c from
-    begin-can_share = by_source from (λ n at. read n at)
-      where
-        by_source : (q : Place) → ((n : Node) → q ≡ AtNode n → (is_valid (mark s c n) ≡ true) × (is_being_written p s c ≡ false)) → CanShare tiles c q
-        by_source (OnDisk d) reads = tt
-        by_source (AtNode n) reads = (let r = reads n refl in let at = there is_valid refl c n r.0 in (at.0, at.1, keeps.tiles.there c n r.1 ∙ r.0))
-
-    share-kept : IsShareOf held b c from (tile_kept tiles c from)
-    share-kept = by_source from (λ n at. read n at)
-      where
-        by_source : (q : Place) → ((n : Node) → q ≡ AtNode n → (is_valid (mark s c n) ≡ true) × (is_being_written p s c ≡ false)) → IsShareOf held b c q (tile_kept tiles c q)
-        by_source (OnDisk d) reads = refl
-        by_source (AtNode n) reads = (let r = reads n refl in by_tile (tile_at tiles c n) (keeps.tiles.there c n r.1 ∙ r.0) (keeps.tiles.dims c n) (λ tells. keeps.tiles.arrays tells c n))
-          where
-            by_tile : (o : Option Array) → is_some o ≡ true → IfSome o (λ a. a.dims ≡ dims_of p c) → (AllTell held b → IfSome o (λ a. a ≡ A c (AtNode n))) → IsSomeAnd o (IsTileOf held b c (AtNode n))
-            by_tile None some dims arrays = absurd (false≢true some)
-            by_tile (Some a) some dims arrays = record { dims = dims; array = arrays }
+    begin-can_share = source_share.0
 
     pub begin-share : (b' : StandingBy eq D) (share : Option Array) → b ≡ b' → share ≡ tile_kept tiles c from → IsShareOf held b' c from share
-    begin-share b' share same is = subst (λ (x : StandingBy eq D). IsShareOf held x c from share) same (subst (λ (o : Option Array). IsShareOf held b c from o) (sym is) share-kept)
+    begin-share b' share same is = subst (λ (x : StandingBy eq D). IsShareOf held x c from share) same (subst (λ (o : Option Array). IsShareOf held b c from o) (sym is) source_share.1)
 
   -- ---- a move into a node ends
 
@@ -126,17 +123,11 @@ module _ {D : Type 0} {eq : Equations} (size faults mismatches : D → ℕ) (hel
     coming : is_coming_by w (mark s c n) ≡ true
     coming = (h.coherent.transfers.target w (a_transfer c from (AtNode n)) under_way).1
 
-    can-end_in : CanHappen b (Moved c from (AtNode n))
-    can-end_in = subst (λ (v : Worker). transfer s v ≡ Some (a_transfer c from (AtNode n))) (one-mover p m s c from (AtNode n) w h.coherent under_way) under_way
-
-    pub in-cell : c.0 < length tiles
-    in-cell = (there (is_coming_by w) refl c n coming).0
-
-    place : n.0 < length (tiles_of tiles c)
-    place = (there (is_coming_by w) refl c n coming).1
+    its_place : (c.0 < length tiles) × (n.0 < length (tiles_of tiles c))
+    its_place = there (is_coming_by w) refl c n coming
 
     pub in-places : All (λ places. n.0 < length places) tiles
-    in-places = All-weaker (λ (places : Places). length places ≡ length m.nodes) (λ (places : Places). n.0 < length places) (λ places wide. omega (arith, wide, place, wide-at (length m.nodes) tiles c keeps.tiles.every_node in-cell)) tiles keeps.tiles.every_node
+    in-places = All-weaker (λ (places : Places). length places ≡ length m.nodes) (λ (places : Places). n.0 < length places) (λ places wide. omega (arith, wide, its_place.1, wide-at (length m.nodes) tiles c keeps.tiles.every_node its_place.0)) tiles keeps.tiles.every_node
 
     abbrev moved_in : Arrays
     moved_in = arrays_after eq p m A (Moved c from (AtNode n))
@@ -150,22 +141,14 @@ module _ {D : Type 0} {eq : Equations} (size faults mismatches : D → ℕ) (hel
 
     pub keeps-moved_in : (tile : Array) → IsTileOf held b c from tile → (spare' : ℕ) → spare' + 1 ≡ spare → Keeps size faults mismatches held (with_event b (Moved c from (AtNode n))) (has_happened rows (Moved c from (AtNode n))) (with_tiles_of tiles c (λ places. with_tile places n (Some tile))) spare'
     keeps-moved_in tile is spare' left =
-        let s' : State = after p m s (Moved c from (AtNode n)) in
         let row : CellState = with_mark (cell_state s c) n Valid in
         let at = mark-inside (is_coming_by w) refl s c n coming in
-        keeps-event size faults mismatches held b rows tiles spare keeps (Moved c from (AtNode n)) (with_tiles_of tiles c (λ places. with_tile places n (Some tile))) spare' can-end_in
-        (HoldsBlocks-kept held p m s s' A moved_in (AllTell held b) b.disks (λ d k. refl) (λ d on. (sym (on_disk-same s c row refl d) ∙ on, writes-same s c row refl d)) keeps.sound.blocks)
-        (HasTiles-put p m s s' A moved_in (AllTell held b) tiles keeps.tiles (λ d. refl) c n in-cell place (Some tile) (mark-far s c n Valid) array-far (rests (is_coming_by w) refl refl c n coming) (ap is_valid (sym (mark-here s c n Valid at.0 at.1))) is.dims (λ tells. is.array tells ∙ sym array-here)) left
+        keeps-blocks_stay (Moved c from (AtNode n)) (can_end w c from (AtNode n) under_way) (with_tiles_of tiles c (λ places. with_tile places n (Some tile))) spare' (λ d k. refl) (λ d on. (sym (on_disk-same s c row refl d) ∙ on, writes-same s c row refl d))
+        (HasTiles-put p m s (after p m s (Moved c from (AtNode n))) A moved_in (AllTell held b) tiles keeps.tiles (λ d. refl) c n its_place.0 its_place.1 (Some tile) (mark-far s c n Valid) array-far (rests (is_coming_by w) refl refl c n coming) (ap is_valid (sym (mark-here s c n Valid at.0 at.1))) is.dims (λ tells. is.array tells ∙ sym array-here)) left
 
   -- ---- a move out to a disk ends
 
   module _ (w : Worker) (c : Cell) (from : Place) (d : DiskNo) (under_way : transfer s w ≡ Some (a_transfer c from (OnDisk d))) where
-    can-end_out : CanHappen b (Moved c from (OnDisk d))
-    can-end_out = subst (λ (v : Worker). transfer s v ≡ Some (a_transfer c from (OnDisk d))) (one-mover p m s c from (OnDisk d) w h.coherent under_way) under_way
-
-    aimed : disk_of p m c ≡ Some d
-    aimed = h.coherent.state.blocks.aimed w (a_transfer c from (OnDisk d)) d under_way refl
-
     abbrev out_row : CellState
     out_row = stored (cell_state s c)
 
@@ -187,7 +170,7 @@ module _ {D : Type 0} {eq : Equations} (size faults mismatches : D → ℕ) (hel
 
     -- the disk of the cell is the one
     home : (k : DiskNo) → has_copy p m s1 c (OnDisk k) ≡ true → k ≡ d
-    home k copy = (let at : Some d ≡ Some k = sym aimed ∙ home-is p m c k (copy-on_disk p m s1 c k copy).1 in cc)
+    home k copy = (let at : Some d ≡ Some k = sym (h.coherent.state.blocks.aimed w (a_transfer c from (OnDisk d)) d under_way refl) ∙ home-is p m c k (copy-on_disk p m s1 c k copy).1 in cc)
 
     module _ (written : IsSomeAnd (extent_of b.disks.directory c.0) (IsBlockCopyOf held b c from)) where
       blocks-out : HoldsBlocks held p m s1 moved_out (AllTell held b) b.disks
@@ -206,49 +189,52 @@ module _ {D : Type 0} {eq : Equations} (size faults mismatches : D → ℕ) (hel
 
       pub keeps-moved_out : (spare' : ℕ) → spare' + 1 ≡ spare → Keeps size faults mismatches held (with_event b (Moved c from (OnDisk d))) (has_happened rows (Moved c from (OnDisk d))) tiles spare'
       keeps-moved_out spare' left =
-          keeps-event size faults mismatches held b rows tiles spare keeps (Moved c from (OnDisk d)) tiles spare' can-end_out blocks-out
+          keeps-event size faults mismatches held b rows tiles spare keeps (Moved c from (OnDisk d)) tiles spare' (can_end w c from (OnDisk d) under_way) blocks-out
           (HasTiles-kept p m s s1 A moved_out (AllTell held b) tiles keeps.tiles (λ x. refl) (λ x k. ap is_valid (marks-stay x k)) (λ x k. refl)) left
 
--- ---- as the code finds it
+  -- ---- as the code finds it
 
-module _ {D : Type 0} {eq : Equations} (size faults mismatches : D → ℕ) (held : D → Option (List ℕ)) (b : StandingBy eq D) (rows : Rows) (tiles : List Places) (spare : ℕ) (keeps : Keeps size faults mismatches held b rows tiles spare) (b' : StandingBy eq D) (same : b ≡ b') where
-  -- an event that can happen to the run can happen to its rows, and the trace has room for it
-  pub rows-can : (e : Event) → CanHappen b' e → MayHappen rows e
-  rows-can e can = to-rows size faults mismatches held b rows tiles spare keeps b' same (λ p m s. May p m s e) can
+  module _ (b' : StandingBy eq D) (same : b ≡ b') where
+    -- an event that can happen to the run can happen to its rows, and the trace has room for it
+    pub rows-can : (e : Event) → CanHappen b' e → MayHappen rows e
+    rows-can e can = to-rows size faults mismatches held b rows tiles spare keeps b' same (λ p m s. May p m s e) can
 
-  pub now-can : (e : Event) → CanHappen b' e → CanHappen b e
-  now-can e can = subst (λ (x : StandingBy eq D). CanHappen x e) (sym same) can
+    pub now-can : (e : Event) → CanHappen b' e → CanHappen b e
+    now-can e can = subst (λ (x : StandingBy eq D). CanHappen x e) (sym same) can
 
-  pub event-room : (e : Event) → CanHappen b' e → 0 < spare
-  event-room e can = has-room size faults mismatches held b rows tiles spare keeps e (now-can e can)
+    pub event-room : (e : Event) → CanHappen b' e → 0 < spare
+    event-room e can = has-room size faults mismatches held b rows tiles spare keeps e (now-can e can)
 
-  -- the transfer of a worker that the rows end
-  module _ (w : Worker) (x : Transfer) (found : transfer rows.state w ≡ Some x) where
-    pub its-transfer : (to : Place) → x.to ≡ to → transfer (state b) w ≡ Some (a_transfer x.cell x.from to)
-    its-transfer to at = ap (λ (z : State). transfer z w) (sym (rows-state size faults mismatches held b rows tiles spare keeps)) ∙ found ∙ ap (λ (q : Place). Some (a_transfer x.cell x.from q)) at
+    -- the transfer of a worker that the rows end
+    module _ (w : Worker) (x : Transfer) (found : transfer rows.state w ≡ Some x) where
+      its-transfer : (to : Place) → x.to ≡ to → transfer s w ≡ Some (a_transfer x.cell x.from to)
+      its-transfer to at = ap (λ (z : State). transfer z w) (sym (rows-state size faults mismatches held b rows tiles spare keeps)) ∙ found ∙ ap (λ (q : Place). Some (a_transfer x.cell x.from q)) at
 
-    pub moved-room : 0 < spare
-    moved-room = has-room size faults mismatches held b rows tiles spare keeps (Moved x.cell x.from x.to) (subst (λ (v : Worker). transfer (state b) v ≡ Some x) (one-mover b.program b.machine (state b) x.cell x.from x.to w keeps.sound.coherent (its-transfer x.to refl)) (its-transfer x.to refl))
+      pub moved-room : 0 < spare
+      moved-room = has-room size faults mismatches held b rows tiles spare keeps (Moved x.cell x.from x.to) (can_end w x.cell x.from x.to (its-transfer x.to refl))
 
-    pub its-tile : (a : Array) → IsTileMoved held b' w a → IsTileOf held b x.cell x.from a
-    its-tile a is = IfSome-at (λ (y : Transfer). IsTileOf held b y.cell y.from a) (transfer (state b) w) x (its-transfer x.to refl) (subst (λ (z : StandingBy eq D). IsTileMoved held z w a) (sym same) is)
+      module _ (n : Node) (at : x.to ≡ AtNode n) where
+        pub found-in_cell : x.cell.0 < length tiles
+        found-in_cell = (its_place w x.cell x.from n (its-transfer (AtNode n) at)).0
 
-    pub its-block : IsWrittenOut held b' w → IsSomeAnd (extent_of b.disks.directory x.cell.0) (IsBlockCopyOf held b x.cell x.from)
-    its-block is = IfSome-at (λ (y : Transfer). IsSomeAnd (extent_of b.disks.directory y.cell.0) (IsBlockCopyOf held b y.cell y.from)) (transfer (state b) w) x (its-transfer x.to refl) (subst (λ (z : StandingBy eq D). IsWrittenOut held z w) (sym same) is)
+        pub found-in_places : All (λ places. n.0 < length places) tiles
+        found-in_places = in-places w x.cell x.from n (its-transfer (AtNode n) at)
 
-    module _ (n : Node) (at : x.to ≡ AtNode n) where
-      pub found-in_cell : x.cell.0 < length tiles
-      found-in_cell = in-cell size faults mismatches held b rows tiles spare keeps w x.cell x.from n (its-transfer (AtNode n) at)
+        pub found-moved_in : (tile : Array) → IsTileMoved held b' w tile → (spare' : ℕ) → spare' + 1 ≡ spare → Keeps size faults mismatches held (with_event b (Moved x.cell x.from x.to)) (has_happened rows (Moved x.cell x.from x.to)) (with_tiles_of tiles x.cell (λ places. with_tile places n (Some tile))) spare'
+        found-moved_in tile given spare' left =
+            let its = IfSome-at (λ (y : Transfer). IsTileOf held b y.cell y.from tile) (transfer s w) x (its-transfer x.to refl) (subst (λ (z : StandingBy eq D). IsTileMoved held z w tile) (sym same) given) in
+            subst (λ (q : Place). Keeps size faults mismatches held (with_event b (Moved x.cell x.from q)) (has_happened rows (Moved x.cell x.from q)) (with_tiles_of tiles x.cell (λ places. with_tile places n (Some tile))) spare') (sym at)
+            (keeps-moved_in w x.cell x.from n (its-transfer (AtNode n) at) tile its spare' left)
 
-      pub found-in_places : All (λ places. n.0 < length places) tiles
-      found-in_places = in-places size faults mismatches held b rows tiles spare keeps w x.cell x.from n (its-transfer (AtNode n) at)
+      pub found-moved_out : (d : DiskNo) → x.to ≡ OnDisk d → IsWrittenOut held b' w → (spare' : ℕ) → spare' + 1 ≡ spare → Keeps size faults mismatches held (with_event b (Moved x.cell x.from x.to)) (has_happened rows (Moved x.cell x.from x.to)) tiles spare'
+      found-moved_out d at given spare' left =
+          let its = IfSome-at (λ (y : Transfer). IsSomeAnd (extent_of b.disks.directory y.cell.0) (IsBlockCopyOf held b y.cell y.from)) (transfer s w) x (its-transfer x.to refl) (subst (λ (z : StandingBy eq D). IsWrittenOut held z w) (sym same) given) in
+          subst (λ (q : Place). Keeps size faults mismatches held (with_event b (Moved x.cell x.from q)) (has_happened rows (Moved x.cell x.from q)) tiles spare') (sym at)
+          (keeps-moved_out w x.cell x.from d (its-transfer (OnDisk d) at) its spare' left)
 
-      pub found-moved_in : (tile : Array) → IsTileMoved held b' w tile → (spare' : ℕ) → spare' + 1 ≡ spare → Keeps size faults mismatches held (with_event b (Moved x.cell x.from x.to)) (has_happened rows (Moved x.cell x.from x.to)) (with_tiles_of tiles x.cell (λ places. with_tile places n (Some tile))) spare'
-      found-moved_in tile given spare' left =
-          subst (λ (q : Place). Keeps size faults mismatches held (with_event b (Moved x.cell x.from q)) (has_happened rows (Moved x.cell x.from q)) (with_tiles_of tiles x.cell (λ places. with_tile places n (Some tile))) spare') (sym at)
-          (keeps-moved_in size faults mismatches held b rows tiles spare keeps w x.cell x.from n (its-transfer (AtNode n) at) tile (its-tile tile given) spare' left)
-
-    pub found-moved_out : (d : DiskNo) → x.to ≡ OnDisk d → IsWrittenOut held b' w → (spare' : ℕ) → spare' + 1 ≡ spare → Keeps size faults mismatches held (with_event b (Moved x.cell x.from x.to)) (has_happened rows (Moved x.cell x.from x.to)) tiles spare'
-    found-moved_out d at given spare' left =
-        subst (λ (q : Place). Keeps size faults mismatches held (with_event b (Moved x.cell x.from q)) (has_happened rows (Moved x.cell x.from q)) tiles spare') (sym at)
-        (keeps-moved_out size faults mismatches held b rows tiles spare keeps w x.cell x.from d (its-transfer (OnDisk d) at) (its-block given) spare' left)
+-- what is so of a program, of a worker's node and of a task's operands is so of what the code read of them
+pub as_read : (P : Program → Node → List Access → Type 0) (p q : Program) (n at : Node) (t : Task) (accesses : List Access) → q ≡ p → at ≡ n → accesses ≡ (task_of q t).accesses → P p n (task_of p t).accesses → P q at accesses
+as_read P p q n at t accesses program bound of_task is =
+    subst (λ (x : Program). P x at accesses) (sym program)
+    (subst (λ (j : Node). P p j accesses) (sym bound)
+    (subst (P p n) (sym (of_task ∙ ap (λ (x : Program). (task_of x t).accesses) program)) is))

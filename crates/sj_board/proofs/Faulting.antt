@@ -1,6 +1,7 @@
 -- A fault that is kept has its cause still where disks were used: their counts never fall.
 use Rattle.sj_board.proofs.Words.{AllZip, AreGivenBack, arith, Bool, Damaged, DiskFault, DiskState, Equations, HasCause, HasRisen, IfSome, IsGivenBack, IsSomeAnd, List, MatchOption, None, Option, OutOfMemory, Rose, RunFault, slice_get, Some, StandingBy, ℕ, ◌≤◌}
-use Rattle.std.proofs.lemmas.Slice.Zip.{AllZip-left}
+use Rattle.std.proofs.lemmas.{Option.IfSome_then, Slice.Zip.AllZip-left}
+use Rattle.sj_board.proofs.Keeping.{IsSomeAnd-map}
 
 -- a count that rose and never falls is above still
 risen-more : (n x y : ℕ) → Rose n x → x ≤ y → Rose n y
@@ -13,11 +14,9 @@ above count n Q (Some y) (Some z) grows h back = risen-more n (count y) (count z
 
 -- a count that has risen is still above where it was
 pub risen-kept : {D : Type 0} (count : D → ℕ) (Q : D → D → Type 0) (opened old new : List D) (d : ℕ) → ((y z : D) → Q y z → count y ≤ count z) → AllZip Q old new → HasRisen count opened old d → HasRisen count opened new d
-risen-kept count Q opened old new d grows back risen = by_opened (slice_get opened d) risen
-  where
-    by_opened : (o : Option _) → IsSomeAnd o (λ x. IsSomeAnd (slice_get old d) (λ y. Rose (count x) (count y))) → IsSomeAnd o (λ x. IsSomeAnd (slice_get new d) (λ y. Rose (count x) (count y)))
-    by_opened None h = h
-    by_opened (Some x) h = above count (count x) Q (slice_get old d) (slice_get new d) grows h (AllZip-left Q old new back d)
+risen-kept count Q opened old new d grows back =
+    IsSomeAnd-map (λ x. IsSomeAnd (slice_get old d) (λ y. Rose (count x) (count y))) (λ x. IsSomeAnd (slice_get new d) (λ y. Rose (count x) (count y)))
+    (λ x h. above count (count x) Q (slice_get old d) (slice_get new d) grows h (AllZip-left Q old new back d)) (slice_get opened d)
 
 module _ {D : Type 0} {eq : Equations} (size faults mismatches : D → ℕ) (held : D → Option (List ℕ)) (b : StandingBy eq D) (disks : DiskState D) (out : List Bool) (back : AreGivenBack size faults mismatches held b.disks.disks disks.disks) where
   pub cause-kept : (fault : RunFault) → HasCause faults mismatches held b fault → HasCause faults mismatches held (record b { disks = disks; out = out }) fault
@@ -26,5 +25,4 @@ module _ {D : Type 0} {eq : Equations} (size faults mismatches : D → ℕ) (hel
   cause-kept OutOfMemory h = h
 
   pub kept-cause : (fault : Option RunFault) → IfSome fault (HasCause faults mismatches held b) → IfSome fault (HasCause faults mismatches held (record b { disks = disks; out = out }))
-  kept-cause None h = h
-  kept-cause (Some fault) h = cause-kept fault h
+  kept-cause fault had = IfSome_then fault had cause-kept

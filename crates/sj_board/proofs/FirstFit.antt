@@ -1,9 +1,10 @@
 -- Blocks by first fit: how a set of disks stands while the cells of a program get theirs in order.
-use Rattle.sj_board.proofs.Words.{[], ap, area, ArePlaced, arith, Block, block_bytes, Cell, cell_block_bytes, cell_info, CellInfo, dims_of, DiskNo, DiskState, drop, Extent, extent_of, first_fit, first_that_fits, get_or, HasSwapFor, IfSome, inl, inr, IsBlock, IsEmptySet, IsSome, IsSomeAnd, length, List, Machine, map, no_cell, None, Option, option_and_then, option_map, place, place_after, Program, refl, replicate, Reserves, ReservesSome, set, slice_get, Some, subst, sym, true, ℕ, ◌+◌, ◌<◌, ◌∙◌, ◌∷◌, ◌≡◌, ◌≤◌}
+use Rattle.sj_board.proofs.Words.{[], ap, area, ArePlaced, arith, Block, block_bytes, Cell, cell_block_bytes, cell_info, CellInfo, dims_of, DiskNo, DiskState, drop, Extent, extent_of, first_fit, first_that_fits, get_or, HasSwapFor, IfSome, inl, inr, IsBlock, IsEmptySet, IsSome, IsSomeAnd, length, List, Machine, map, no_cell, None, Option, option_and_then, option_map, place, place_after, Program, refl, replicate, ReservesSome, set, slice_get, Some, subst, sym, true, ℕ, ◌+◌, ◌<◌, ◌∙◌, ◌∷◌, ◌≡◌, ◌≤◌}
 use Rattle.std.specs.Prelude.{is_some}
 use Rattle.std.specs.List.{slice_index_or}
 use Rattle.std.proofs.lemmas.{Bool.cases_lt, Bool.false≢true, List.drop_all, List.drop_more, List.get_or-drop, List.length-drop, Option.none-some, Option.same_Some, Option.slice_get-get_or, Option.slice_get_past}
 use lib.Seq.{drop-drop}
+use Rattle.sj_base.proofs.SameIds.{cell_of_number}
 
 -- the cells before the i-th have their blocks on these disks, those from it on have none, and the blocks of these are as if
 -- they were placed now
@@ -70,9 +71,6 @@ module _ {D : Type 0} (size : D → ℕ) (p : Program) (m : Machine) (disks : Li
       }
 
   module _ (i : ℕ) (s : DiskState D) (is : IsPlacing p m disks i s) where
-    pub none-yet : extent_of s.directory i ≡ None
-    none-yet = is.behind i (omega arith)
-
     module _ (inside : i < length p.cells) where
       abbrev pub cell : Cell
       cell = record { 0 = i }
@@ -80,11 +78,8 @@ module _ {D : Type 0} (size : D → ℕ) (p : Program) (m : Machine) (disks : Li
       first : GetsFirst m.disks s.taken (cell_info p cell) (drop (i + 1) p.cells) (drop i is.blocks)
       first = gets-first m.disks s.taken (cell_info p cell) (drop (i + 1) p.cells) (drop i is.blocks) (ap (λ (cs : List CellInfo). place_after m.disks s.taken cs) (sym (drop_more p.cells i no_cell inside)) ∙ is.rest)
 
-      sizes-now : map size s.disks ≡ m.disks
-      sizes-now = ap (λ (ds : List D). map size ds) is.disks_stay ∙ sym sizes
-
       fits-now : first_that_fits (map size s.disks) s.taken (block_bytes (area (dims_of p cell))) ≡ Some first.disk
-      fits-now = ap (λ (ns : List ℕ). first_that_fits ns s.taken (block_bytes (area (dims_of p cell)))) sizes-now ∙ first.fits
+      fits-now = ap (λ (ns : List ℕ). first_that_fits ns s.taken (block_bytes (area (dims_of p cell)))) (ap (λ (ds : List D). map size ds) is.disks_stay ∙ sym sizes) ∙ first.fits
 
       pub one-fits : IsSome (first_that_fits (map size s.disks) s.taken (block_bytes (area (dims_of p cell))))
       one-fits = ap is_some fits-now
@@ -96,44 +91,31 @@ module _ {D : Type 0} (size : D → ℕ) (p : Program) (m : Machine) (disks : Li
           let short = length-drop i is.blocks in
           slice_get-get_or is.blocks i b (omega (arith, long, short)) ∙ ap (λ (x : Block). Some x) (ap (λ (k : ℕ). get_or is.blocks k b) (let n : i ≡ i + 0 = omega arith in n) ∙ sym (get_or-drop i is.blocks 0 b) ∙ ap (λ (bs : List Block). get_or bs 0 b) first.are)
 
-      its-later : drop (i + 1) is.blocks ≡ first.later
-      its-later = sym (drop-drop 1 i is.blocks) ∙ ap (λ (bs : List Block). drop 1 bs) first.are
-
-      module _ (new : DiskState D) (d : DiskNo) (gets : Reserves size i (area (dims_of p cell)) d s new) where
-        same-disk : d.0 ≡ first.disk
-        same-disk = same_Some d.0 first.disk (sym gets.on_the_first_that_fits ∙ fits-now)
+      module _ (new : DiskState D) (gets : ReservesSome size i (area (dims_of p cell)) s new) where
+        same-disk : gets.0.0 ≡ first.disk
+        same-disk = same_Some gets.0.0 first.disk (sym gets.1.on_the_first_that_fits ∙ fits-now)
 
         has-block : IsSomeAnd (extent_of new.directory i) (IsBlock p cell (block_at s.taken first.disk))
-        has-block = subst (λ (o : Option Extent). IsSomeAnd o (IsBlock p cell (block_at s.taken first.disk))) (sym gets.behind_what_is_taken) (record {
+        has-block = subst (λ (o : Option Extent). IsSomeAnd o (IsBlock p cell (block_at s.taken first.disk))) (sym gets.1.behind_what_is_taken) (record {
           disk = ap (λ (k : ℕ). let n : DiskNo = record { 0 = k } in n) same-disk;
           position = ap (λ (k : ℕ). slice_index_or s.taken k 0) same-disk;
           whole = refl;
         })
 
-        later-done : (c : Cell) → c.0 < i + 1 → IfSome (slice_get is.blocks c.0) (λ b. IsSomeAnd (extent_of new.directory c.0) (IsBlock p c b))
-        later-done c l = elim (cases_lt c.0 i) [
-          | inl before ↦ subst (λ (o : Option Extent). IfSome (slice_get is.blocks c.0) (λ b. IsSomeAnd o (IsBlock p c b))) (sym (gets.other_extents_stay c.0 (λ e. omega (arith, e, before)))) (is.done c before)
-          | inr from ↦
-              let here : i ≡ c.0 = omega (arith, from, l) in
-              let same : cell ≡ c = ap (λ (k : ℕ). let q : Cell = record { 0 = k } in q) here in
-              subst (λ (q : Cell). IfSome (slice_get is.blocks q.0) (λ b. IsSomeAnd (extent_of new.directory q.0) (IsBlock p q b))) same (subst (λ (o : Option Block). IfSome o (λ b. IsSomeAnd (extent_of new.directory i) (IsBlock p cell b))) (sym its-block) has-block)
-        ]
-
-        takes : place_after m.disks new.taken (drop (i + 1) p.cells) ≡ Some (drop (i + 1) is.blocks)
-        takes = ap (λ (ns : List ℕ). place_after m.disks ns (drop (i + 1) p.cells)) (gets.takes_its_bytes ∙ ap (λ (k : ℕ). taking s.taken k (cell_info p cell)) same-disk) ∙ first.after ∙ ap (λ (bs : List Block). Some bs) (sym its-later)
-
-        goes-on : IsPlacing p m disks (i + 1) new
-        goes-on = record {
+        pub placing-goes-on : IsPlacing p m disks (i + 1) new
+        placing-goes-on = record {
           blocks = is.blocks;
           all = is.all;
-          disks_stay = gets.disks_stay ∙ is.disks_stay;
-          rest = takes;
-          behind = λ c l. gets.other_extents_stay c (λ e. omega (arith, e, l)) ∙ is.behind c (omega (arith, l));
-          done = later-done;
+          disks_stay = gets.1.disks_stay ∙ is.disks_stay;
+          rest = ap (λ (ns : List ℕ). place_after m.disks ns (drop (i + 1) p.cells)) (gets.1.takes_its_bytes ∙ ap (λ (k : ℕ). taking s.taken k (cell_info p cell)) same-disk) ∙ first.after ∙ ap (λ (bs : List Block). Some (drop 1 bs)) (sym first.are) ∙ ap (λ (bs : List Block). Some bs) (drop-drop 1 i is.blocks);
+          behind = λ c l. gets.1.other_extents_stay c (λ e. omega (arith, e, l)) ∙ is.behind c (omega (arith, l));
+          done = λ c l. elim (cases_lt c.0 i) [
+            | inl before ↦ subst (λ (o : Option Extent). IfSome (slice_get is.blocks c.0) (λ b. IsSomeAnd o (IsBlock p c b))) (sym (gets.1.other_extents_stay c.0 (λ e. omega (arith, e, before)))) (is.done c before)
+            | inr from ↦
+                let here : i ≡ c.0 = omega (arith, from, l) in
+                subst (λ (q : Cell). IfSome (slice_get is.blocks q.0) (λ b. IsSomeAnd (extent_of new.directory q.0) (IsBlock p q b))) (cell_of_number cell c here) (subst (λ (o : Option Block). IfSome o (λ b. IsSomeAnd (extent_of new.directory i) (IsBlock p cell b))) (sym its-block) has-block)
+          ];
         }
-
-      pub placing-goes-on : (new : DiskState D) → ReservesSome size i (area (dims_of p cell)) s new → IsPlacing p m disks (i + 1) new
-      placing-goes-on new gets = goes-on new gets.0 gets.1
 
     pub placing-ends : length p.cells ≤ i → ArePlaced p m s.directory
     placing-ends past c = subst (λ (o : Option (List Block)). IfSome (option_and_then (λ blocks. slice_get blocks c.0) o) (λ b. IsSomeAnd (extent_of s.directory c.0) (IsBlock p c b))) (sym is.all) (has c)

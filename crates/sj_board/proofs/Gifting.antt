@@ -1,18 +1,18 @@
 -- The share that is taken of what a deliver task hands over, as the task begins to run.
-use Rattle.sj_board.proofs.Words.{[], Access, access, All, AllTell, ap, arith, Array, AtNode, CanGive, CanHappen, Cell, delivered_cell, dims_of, Equations, get_or, IfSome, is_deliver_task, is_delivery, is_some, IsGift, IsTileOf, Keeps, kept_at, length, List, Lowered, Node, node_of, None, Option, Program, R, refl, Rows, Run, run_arrays, Some, StandingBy, subst, sym, Task, task_of, tile_at, tile_in, tiles_of, true, unwrap_or, Worker, ℕ, ◌<◌, ◌∙◌, ◌∷◌, ◌≡◌}
-use Rattle.std.specs.Prelude.{Contains}
+use Rattle.sj_board.proofs.Words.{[], Access, access, All, ap, arith, Array, AtNode, CanGive, CanHappen, Cell, delivered_cell, Equations, get_or, is_deliver_task, is_delivery, is_some, IsGift, IsSomeAnd, IsTileOf, Keeps, length, List, Lowered, Node, node_of, Option, R, refl, Rows, Run, Some, StandingBy, subst, sym, Task, task_of, tile_at, tile_in, tiles_of, true, Worker, ℕ, ◌<◌, ◌∙◌, ◌∷◌, ◌≡◌}
 use Rattle.std.proofs.lemmas.{Bool.false≢true, List.get_or_default}
-use Rattle.sj_board.proofs.{Delivering.deliver-reads, RunningTiles.run-can_give}
+use Rattle.sj_board.proofs.{Delivering.deliver-reads, EventTiles.tile_there, RunningTiles.run-can_give}
 
-module _ {D : Type 0} {eq : Equations} (size faults mismatches : D → ℕ) (held : D → Option (List ℕ)) (b : StandingBy eq D) (rows : Rows) (tiles : List (List (Option Array))) (spare : ℕ) (keeps : Keeps size faults mismatches held b rows tiles spare) (t : Task) (w : Worker) (can : CanHappen b (Run t w)) (hands : is_deliver_task b.program t ≡ true) where
+module _ {D : Type 0} {eq : Equations} (size faults mismatches : D → ℕ) (held : D → Option (List ℕ)) (b : StandingBy eq D) (rows : Rows) (tiles : List (List (Option Array))) (spare : ℕ) (keeps : Keeps size faults mismatches held b rows tiles spare) (t : Task) (w : Worker) (can : CanHappen b (Run t w)) (l : Lowered) (is : l ≡ task_of b.program t) (delivers : is_delivery l.codelet ≡ true) where
   abbrev cell : Cell
   cell = delivered_cell b.program t
 
+  -- the task is a deliver task where its codelet is
+  hands : is_deliver_task b.program t ≡ true
+  hands = sym (ap (λ (x : Lowered). is_delivery x.codelet) is) ∙ delivers
+
   reads : (task_of b.program t).accesses ≡ access R cell ∷ []
   reads = deliver-reads b.program keeps.sound.run.proper t hands
-
-  among : Contains (task_of b.program t).accesses (access R cell)
-  among = subst (λ (xs : List Access). Contains xs (access R cell)) (sym reads) (0, omega arith, refl)
 
   give : CanGive b.program w tiles (node_of b.machine w) (access R cell)
   give = subst (λ (xs : List Access). All (CanGive b.program w tiles (node_of b.machine w)) xs) reads (run-can_give size faults mismatches held b rows tiles spare keeps t w can) 0 (access R cell) (omega arith)
@@ -20,42 +20,24 @@ module _ {D : Type 0} {eq : Equations} (size faults mismatches : D → ℕ) (hel
   there : is_some (tile_at tiles cell (node_of b.machine w)) ≡ true
   there = give.tile refl
 
-  tile : IsTileOf held b cell (AtNode (node_of b.machine w)) (kept_at tiles (node_of b.machine w) cell)
-  tile = by_tile (tile_at tiles cell (node_of b.machine w)) there (keeps.tiles.dims cell (node_of b.machine w)) (λ tells. keeps.tiles.arrays tells cell (node_of b.machine w))
-    where
-      by_tile : (o : Option Array) → is_some o ≡ true → IfSome o (λ a. a.dims ≡ dims_of b.program cell) → (AllTell held b → IfSome o (λ a. a ≡ run_arrays b cell (AtNode (node_of b.machine w)))) → IsTileOf held b cell (AtNode (node_of b.machine w)) (unwrap_or o (record { dims = record { rows = 0; cols = 0 }; elements = [] }))
-      by_tile None some dims arrays = absurd (false≢true some)
-      by_tile (Some a) some dims arrays = record { dims = dims; array = arrays }
-
-  -- the row and the node as the code finds them
-  module _ (row : List (Option Array)) (n : Node) (found : row ≡ get_or tiles cell.0 row) (at : n ≡ node_of b.machine w) where
+  -- the row of its one operand's cell, and the node, as the code finds them
+  module _ (operands : List Access) (listed : operands ≡ l.accesses) (a : Access) (row none : List (Option Array)) (found : row ≡ get_or tiles (get_or operands 0 a).cell.0 none) (n : Node) (at : n ≡ node_of b.machine w) where
     its : row ≡ tiles_of tiles cell
-    its = found ∙ get_or_default tiles cell.0 row [] give.cell
+    its =
+        found ∙ ap (λ (xs : List Access). get_or tiles (get_or xs 0 a).cell.0 none) (listed ∙ ap (λ (x : Lowered). x.accesses) is ∙ reads)
+        ∙ get_or_default tiles cell.0 none [] give.cell
 
     pub gift-inside : n.0 < length row
     gift-inside = subst (λ (r : List (Option Array)). n.0 < length r) (sym its) (subst (λ (j : Node). j.0 < length (tiles_of tiles cell)) (sym at) give.node)
 
+    found-tile : tile_in row n ≡ tile_at tiles cell (node_of b.machine w)
+    found-tile = ap (λ (r : List (Option Array)). tile_in r n) its ∙ ap (λ (j : Node). tile_in (tiles_of tiles cell) j) at
+
     pub gift-there : is_some (tile_in row n) ≡ true
-    gift-there = ap (λ (r : List (Option Array)). is_some (tile_in r n)) its ∙ ap (λ (j : Node). is_some (tile_in (tiles_of tiles cell) j)) at ∙ there
+    gift-there = ap is_some found-tile ∙ there
 
     pub gift-given : (b' : StandingBy eq D) → b ≡ b' → (x : Array) → tile_in row n ≡ Some x → IsGift held b' t w (Some x)
     gift-given b' same x kept_there = subst (λ (z : StandingBy eq D). IsGift held z t w (Some x)) same (record {
-      some = λ yes. subst (λ (a : Array). IsTileOf held b cell (AtNode (node_of b.machine w)) a) kept tile;
+      some = λ yes. subst (λ (o : Option Array). IsSomeAnd o (IsTileOf held b cell (AtNode (node_of b.machine w)))) (sym found-tile ∙ kept_there) (tile_there size faults mismatches held b rows tiles spare keeps cell (node_of b.machine w) there).0;
       none = λ other. absurd (false≢true (sym other ∙ hands));
     })
-      where
-        no_array : Array
-        no_array = record { dims = record { rows = 0; cols = 0 }; elements = [] }
-
-        kept : kept_at tiles (node_of b.machine w) cell ≡ x
-        kept = ap (λ (o : Option Array). unwrap_or o no_array) (sym (ap (λ (r : List (Option Array)). tile_in r n) its ∙ ap (λ (j : Node). tile_in (tiles_of tiles cell) j) at) ∙ kept_there)
-
--- ---- as the code finds it
-
--- the task is a deliver task where its codelet is
-pub hands-over : (p : Program) (t : Task) (l : Lowered) → l ≡ task_of p t → is_delivery l.codelet ≡ true → is_deliver_task p t ≡ true
-hands-over p t l is hands = sym (ap (λ (x : Lowered). is_delivery x.codelet) is) ∙ hands
-
--- and its one operand's row is that of its cell
-pub gift-row : (p : Program) (t : Task) (accesses : List Access) (a : Access) (rows : List (List (Option Array))) (row none : List (Option Array)) → accesses ≡ access R (delivered_cell p t) ∷ [] → row ≡ get_or rows (get_or accesses 0 a).cell.0 none → row ≡ get_or rows (delivered_cell p t).0 none
-gift-row p t accesses a rows row none reads is = is ∙ ap (λ (xs : List Access). get_or rows (get_or xs 0 a).cell.0 none) reads

@@ -1,16 +1,16 @@
 -- A board stays sound where a worker is given a task from the pool, and where it gives one back.
-use Rattle.sj_board.proofs.Words.{ap, arith, Array, board_state, BoardBy, cond, contains, Dependencies, empty_hand, entry_of, Equations, false, footprint, given_back, given_from, Hand, hand_of, home, inl, inr, is_given, is_some, is_task_of, IsComplete, IsEntry, IsLeft, IsPoolFor, IsPoolOf, IsTakenBehind, IsToBeTaken, IsTrue, KeepsBoard, length, length-set, List, Machine, node_of, node_size, None, Option, Pooled, Prio, Program, progress, refl, room_of, RunFault, slice_set, Some, StandingBy, State, state, subst, sym, Task, times_given, times_pooled, true, with_entry, Worker, ℕ, ◌+◌, ◌<◌, ◌∙◌, ◌≡◌, ◌≤◌, ◌⊎◌}
-use Rattle.std.proofs.Common.{IfSome}
+use Rattle.sj_board.proofs.Words.{ap, arith, Array, board_state, BoardBy, cond, contains, Dependencies, empty_hand, entry_of, Equations, false, footprint, Hand, hand_of, home, inl, inr, is_given, is_some, is_task_of, IsComplete, IsEntry, IsLeft, IsPoolFor, IsPoolOf, IsTakenBehind, IsToBeTaken, IsTrue, KeepsBoard, length, length-set, List, Machine, node_of, node_size, None, Option, Pooled, Prio, Program, progress, refl, room_of, RunFault, slice_set, Some, StandingBy, State, state, subst, sym, Task, times_given, times_pooled, true, with_entry, Worker, ℕ, ◌+◌, ◌<◌, ◌∙◌, ◌≡◌, ◌≤◌, ◌⊎◌}
 use Rattle.std.proofs.lemmas.{Bool.cases_lt, List.Sums.get_or-le-sum_by, Option.none-some}
+use Rattle.sj_base.proofs.Options.{IfSome-at}
 use Rattle.sj_pool.proofs.Keeping.{home-within}
 use Rattle.sj_board.proofs.{Hands.given-set, Hands.hand-set, Hands.inside-hands, Hands.stands-same, Policies.prio-pool, Pooling.all-pooled, Pooling.none-contains, Pooling.once, Pooling.times-put}
 
 pub once-given : (t : Task) (hand : Hand) → cond {A = ℕ} (is_given t hand) 1 0 ≡ once t hand.given
-once-given t hand = by_given hand.given
-  where
-    by_given : (g : Option Task) → cond {A = ℕ} (is_given t (record { given = g; task = None; unit = None; has_stopped = false })) 1 0 ≡ once t g
-    by_given None = refl
-    by_given (Some u) = refl
+once-given t hand = elim hand.given as (λ g. cond {A = ℕ} (is_given t (record { given = g; task = None; unit = None; has_stopped = false })) 1 0 ≡ once t g) [ None ↦ refl | Some u ↦ refl ]
+
+-- a task is given once where the number is its own
+pub once-own : (t : Task) → once t (Some t) ≡ 1
+once-own t = grind arith
 
 -- as the code leaves it
 pub keeps-left : {D : Type 0} {eq : Equations} (faults mismatches : D → ℕ) (held : D → Option (List ℕ)) (run : StandingBy eq D) (hs hs' : List Hand) (q q' : Pooled) (fault : Option RunFault) (delivered : List (Task × Array)) (deps : Dependencies) (footprints : List ℕ) → hs' ≡ hs → q' ≡ q → KeepsBoard faults mismatches held (board_state run hs q fault delivered) deps footprints → KeepsBoard faults mismatches held (board_state run hs' q' fault delivered) deps footprints
@@ -78,29 +78,22 @@ module _ {D : Type 0} {eq : Equations} (faults mismatches : D → ℕ) (held : D
   abbrev room : ℕ
   room = room_of b w
 
-  module _ (passed : List Task) (g : Option Task) (pool' : Pooled) (behind : IsTakenBehind p passed w.0 room b.pool pool' g) where
-    fits-next : IsPoolFor p m (slice_set b.hands w.0 (giving g)) pool'
-    fits-next = record {
-      policy = behind.policy ∙ keeps.inside.pool_fits.policy;
-      workers = behind.pool.workers;
-      tasks = behind.pool.tasks;
-      queues = behind.pool.queues;
-      entries = behind.pool.entries;
-      fits = hand-set (λ v x. (t : Task) → x.given ≡ Some t → footprint p t ≤ node_size m (node_of m v)) b.hands w (giving g) hand-inside (λ t e. given-fits g behind.left t e) keeps.inside.pool_fits.fits;
-    }
-      where
-        given-fits : (o : Option Task) → IfSome o (IsLeft p passed room b.pool) → (t : Task) → o ≡ Some t → footprint p t ≤ room
-        given-fits None left t e = absurd (none-some t e)
-        given-fits (Some u) left t e = let same : u ≡ t = cc in subst (λ (k : Task). footprint p k ≤ room) same left.fits
-
-    pub keeps-next : (hand_of b w).given ≡ None → KeepsBoard faults mismatches held (given_from b w g pool') deps footprints
-    keeps-next free = keeps-given g pool' (λ t. omega (arith, behind.lost t, ap (once t) free)) fits-next
+  fits-next : (passed : List Task) (g : Option Task) (pool' : Pooled) → IsTakenBehind p passed w.0 room b.pool pool' g → IsPoolFor p m (slice_set b.hands w.0 (giving g)) pool'
+  fits-next passed g pool' behind = record {
+    policy = behind.policy ∙ keeps.inside.pool_fits.policy;
+    workers = behind.pool.workers;
+    tasks = behind.pool.tasks;
+    queues = behind.pool.queues;
+    entries = behind.pool.entries;
+    fits = hand-set (λ v x. (t : Task) → x.given ≡ Some t → footprint p t ≤ node_size m (node_of m v)) b.hands w (giving g) hand-inside (λ t e. (IfSome-at (IsLeft p passed room b.pool) g t e behind.left).fits) keeps.inside.pool_fits.fits;
+  }
 
   -- as the code leaves it
   pub keeps-next_left : (n : ℕ) (passed : List Task) (p' : Program) (g : Option Task) (hands' : List Hand) (pool' : Pooled) → n ≡ room → p' ≡ p → IsTakenBehind p' passed w.0 n b.pool pool' g → hands' ≡ slice_set b.hands w.0 (giving g) → (hand_of b w).given ≡ None → KeepsBoard faults mismatches held (board_state b.run hands' pool' b.fault b.delivered) deps footprints
   keeps-next_left n passed p' g hands' pool' size same behind hands free =
       let here : IsTakenBehind p passed w.0 room b.pool pool' g = subst (λ (k : ℕ). IsTakenBehind p passed w.0 k b.pool pool' g) size (subst (λ (q : Program). IsTakenBehind q passed w.0 n b.pool pool' g) same behind) in
-      keeps-left faults mismatches held b.run _ hands' _ pool' b.fault b.delivered deps footprints hands refl (keeps-next passed g pool' here free)
+      keeps-left faults mismatches held b.run _ hands' _ pool' b.fault b.delivered deps footprints hands refl
+      (keeps-given g pool' (λ t. omega (arith, here.lost t, ap (once t) free)) (fits-next passed g pool' here))
 
   -- ---- a task back to the pool
 
@@ -108,8 +101,7 @@ module _ {D : Type 0} {eq : Equations} (faults mismatches : D → ℕ) (held : D
     stands-here : 1 ≤ times_given b.hands t
     stands-here =
         let least : cond {A = ℕ} (is_given t (hand_of b w)) 1 0 ≤ times_given b.hands t = get_or-le-sum_by (λ (x : Hand). cond {A = ℕ} (is_given t x) 1 0) b.hands w.0 empty_hand hand-inside in
-        let one : once t (Some t) ≡ 1 = grind arith in
-        omega (arith, least, once-given t (hand_of b w), ap (once t) given, one)
+        omega (arith, least, once-given t (hand_of b w), ap (once t) given, once-own t)
 
     pub back-taken : IsToBeTaken p s t
     back-taken = (keeps.inside.stands_once prio).only t (omega (arith, stands-here))
@@ -123,11 +115,8 @@ module _ {D : Type 0} {eq : Equations} (faults mismatches : D → ℕ) (held : D
     pub back-known : t.0 < b.pool.limit
     back-known = subst (λ (n : ℕ). t.0 < n) (sym keeps.inside.pool_fits.tasks) back-task
 
-    pub back-worker : w.0 < b.pool.workers
-    back-worker = subst (λ (n : ℕ). w.0 < n) (sym keeps.inside.pool_fits.workers) known
-
     home-here : home b.pool.policy w.0 < length b.pool.queues
-    home-here = subst (λ (n : ℕ). home b.pool.policy w.0 < n) (sym keeps.inside.pool_fits.queues) (home-within b.pool.policy b.pool.workers w.0 back-worker)
+    home-here = subst (λ (n : ℕ). home b.pool.policy w.0 < n) (sym keeps.inside.pool_fits.queues) (home-within b.pool.policy b.pool.workers w.0 (omega (arith, known, keeps.inside.pool_fits.workers)))
 
     fits-back : IsPoolFor p m (slice_set b.hands w.0 (giving None)) (with_entry b.pool (entry_of p t) w.0)
     fits-back = record {
@@ -139,9 +128,8 @@ module _ {D : Type 0} {eq : Equations} (faults mismatches : D → ℕ) (held : D
       fits = hand-set (λ v x. (u : Task) → x.given ≡ Some u → footprint p u ≤ node_size m (node_of m v)) b.hands w (giving None) hand-inside (λ u none. absurd (none-some u none)) keeps.inside.pool_fits.fits;
     }
 
-    pub keeps-back : KeepsBoard faults mismatches held (given_back b t w) deps footprints
-    keeps-back = keeps-given None (with_entry b.pool (entry_of p t) w.0) (λ u. omega (arith, times-put b.pool.policy b.pool.queues (home b.pool.policy w.0) (entry_of p t) u home-here, ap (once u) given)) fits-back
-
     -- as the code leaves it
     pub keeps-back_left : (p' : Program) (hands' : List Hand) (pool' : Pooled) → p' ≡ p → hands' ≡ slice_set b.hands w.0 (giving None) → pool' ≡ with_entry b.pool (entry_of p' t) w.0 → KeepsBoard faults mismatches held (board_state b.run hands' pool' b.fault b.delivered) deps footprints
-    keeps-back_left p' hands' pool' same hands pool = keeps-left faults mismatches held b.run _ hands' _ pool' b.fault b.delivered deps footprints hands (pool ∙ ap (λ (q : Program). with_entry b.pool (entry_of q t) w.0) same) keeps-back
+    keeps-back_left p' hands' pool' same hands pool =
+        keeps-left faults mismatches held b.run _ hands' _ pool' b.fault b.delivered deps footprints hands (pool ∙ ap (λ (q : Program). with_entry b.pool (entry_of q t) w.0) same)
+        (keeps-given None (with_entry b.pool (entry_of p t) w.0) (λ u. omega (arith, times-put b.pool.policy b.pool.queues (home b.pool.policy w.0) (entry_of p t) u home-here, ap (once u) given)) fits-back)

@@ -1,5 +1,5 @@
 -- What becomes of a board's hands where one of them changes.
-use Rattle.sj_board.proofs.Words.{ap, arith, Bool, cond, empty_hand, false, footprint, Hand, hand_in, HandsAgree, inl, inr, is_given, IsPoolFor, length, List, Machine, node_of, node_size, None, Option, Pooled, Program, RunFault, slice_index_or, slice_set, Some, StandsOnce, State, subst, sym, Task, times_given, times_pooled, Worker, ℕ, ◌+◌, ◌<◌, ◌∙◌, ◌≡◌, ◌≢◌, ◌≤◌}
+use Rattle.sj_board.proofs.Words.{ap, arith, cond, empty_hand, false, footprint, Hand, hand_in, HandsAgree, inl, inr, is_given, IsPoolFor, length, List, Machine, node_of, node_size, None, Option, Pooled, Program, RunFault, slice_index_or, slice_set, Some, StandsOnce, State, subst, sym, Task, times_given, times_pooled, Worker, ℕ, ◌+◌, ◌<◌, ◌∙◌, ◌≡◌, ◌≢◌, ◌≤◌}
 use Rattle.std.proofs.lemmas.{Bool.cases_eq, List.get_or-set_other, List.get_or-set_same, List.Sums.sum_by-set}
 
 -- each worker has a hand
@@ -24,8 +24,7 @@ given-set hands w h t inside = sum_by-set (λ (x : Hand). cond {A = ℕ} (is_giv
 
 pub given-same : (hands : List Hand) (w : Worker) (h : Hand) (t : Task) → w.0 < length hands → h.given ≡ (hand_in hands w).given → times_given (slice_set hands w.0 h) t ≡ times_given hands t
 given-same hands w h t inside same =
-    let tests : is_given t h ≡ is_given t (hand_in hands w) = ap (λ (g : Option Task). is_given t (record { given = g; task = None; unit = None; has_stopped = false })) same in
-    let counts : cond {A = ℕ} (is_given t h) 1 0 ≡ cond {A = ℕ} (is_given t (hand_in hands w)) 1 0 = ap (λ (b : Bool). cond {A = ℕ} b 1 0) tests in
+    let counts : cond {A = ℕ} (is_given t h) 1 0 ≡ cond {A = ℕ} (is_given t (hand_in hands w)) 1 0 = ap (λ (g : Option Task). cond {A = ℕ} (is_given t (record { given = g; task = None; unit = None; has_stopped = false })) 1 0) same in
     omega (arith, given-set hands w h t inside, counts)
 
 -- ready tasks stand once where no task stands more often or less often than before

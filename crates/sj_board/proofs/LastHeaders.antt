@@ -1,6 +1,6 @@
 -- What was last written of a cell with a copy on a disk stays so by each event that writes no cell and takes no copy from a disk,
 -- and by the end of a task: a cell that a running task writes has no copy there.
-use Rattle.sj_board.proofs.Words.{after, after_end, ap, area, arrived, AtNode, CanHappen, Cell, cell_state, CellState, Coherent, Damaged, dims_of, DiskFault, DiskNo, Drop, End, Equations, Event, false, has_cell, HasCause, Header, header, IfSome, inl, inr, Invalid, is_home, IsLastWritten, List, Machine, Mark, Moved, Node, None, on_disk, OnDisk, Option, OutOfMemory, Place, Program, progress, refl, RunFault, Running, Some, StandingBy, State, state, stored, subst, sym, Task, true, Valid, with_event, with_mark, with_row, Worker, writes, written_cells, written_once_more, ℕ, ◌∙◌, ◌≡◌}
+use Rattle.sj_board.proofs.Words.{after, after_end, ap, area, arrived, AtNode, CanHappen, Cell, cell_state, CellState, Coherent, Damaged, dims_of, DiskNo, Drop, End, Equations, Event, false, has_cell, HasCause, Header, header, IfSome, inl, inr, Invalid, is_home, IsLastWritten, List, Machine, Mark, Moved, Node, None, on_disk, OnDisk, Option, Place, Program, progress, refl, RunFault, Running, Some, StandingBy, State, state, stored, subst, sym, Task, true, Valid, with_event, with_mark, with_row, Worker, writes, written_cells, written_once_more, ℕ, ◌∙◌, ◌≡◌}
 use Rattle.std.proofs.lemmas.Bool.{and_from, false_from_ne_true, false≢true}
 use Rattle.sj_core.proofs.{Placing.on_disk-same, Placing.row-cases, Placing.writes-same, Reading.cells-untouched, States.state_of-more}
 use Rattle.sj_board.proofs.Keeping.{copy-on_disk}
@@ -39,9 +39,7 @@ arrived-kept s c (OnDisk d) x there = (
 module _ (p : Program) (m : Machine) (s : State) (coherent : Coherent p m s) (t : Task) (w : Worker) (ends : progress s t ≡ Running w) where
   end-kept : KeepsOnDisks s (after_end p m s t w)
   end-kept c there =
-      let untouched : has_cell (written_cells p t w) c ≡ false = false_from_ne_true (has_cell (written_cells p t w) c) (λ written.
-      (let own = coherent.writers.owned t w c ends written in
-      false≢true (sym own.unstored ∙ there))) in
+      let untouched : has_cell (written_cells p t w) c ≡ false = false_from_ne_true (has_cell (written_cells p t w) c) (λ written. false≢true (sym (coherent.writers.owned t w c ends written).unstored ∙ there)) in
       let same : cell_state (after_end p m s t w) c ≡ cell_state s c = cells-untouched s (has_cell (written_cells p t w)) (λ x row. written_once_more row) c untouched in
       (ap (λ (row : CellState). row.on_disk) same ∙ there, ap (λ (row : CellState). row.writes) same)
 
@@ -53,12 +51,10 @@ module _ {D : Type 0} {eq : Equations} (faults mismatches : D → ℕ) (held : D
   none-caused b' fault none = subst (λ (o : Option RunFault). IfSome o (HasCause faults mismatches held b')) (sym none) tt
 
   cause-more : (e : Event) → KeepsOnDisks (state b) (after b.program b.machine (state b) e) → (fault : Option RunFault) → IfSome fault (HasCause faults mismatches held b) → IfSome fault (HasCause faults mismatches held (with_event b e))
-  cause-more e keeps None h = tt
-  cause-more e keeps (Some (DiskFault d)) h = h
-  cause-more e keeps (Some OutOfMemory) h = tt
   cause-more e keeps (Some (Damaged d want found)) h =
       let last = last-kept b.program b.machine (state b) (after b.program b.machine (state b) e) keeps d want h.3 in
       (h.0, h.1, h.2, subst (λ (s : State). IsLastWritten b.program b.machine s d want) (sym (state_of-more b.program b.machine b.trace e)) last)
+  cause-more e keeps _ h = h
 
   pub dropped-cause : (c : Cell) (n : Node) (fault : Option RunFault) → IfSome fault (HasCause faults mismatches held b) → IfSome fault (HasCause faults mismatches held (with_event b (Drop c n)))
   dropped-cause c n = cause-more (Drop c n) (marked-kept (state b) c n Invalid)

@@ -14,7 +14,7 @@ pub mod Gifting
 pub mod Giving
 pub mod Hands
 pub mod Keeping
-pub mod KeptGifts
+pub mod KeptEvents
 pub mod LastHeaders
 pub mod LoanedTiles
 pub mod MakingRun

@@ -1,7 +1,8 @@
 -- Shared tiles as arrays, and lists that are written one item after another, or in a loan.
-use Rattle.sj_board.proofs.Words.{[], all_out, ap, Arc, arith, Array, array_in, arrays_in, get_or, inl, inr, length, List, None, Option, refill, refl, replicate, set, subst, suc, sym, zero, ℕ, ◌+◌, ◌<◌, ◌∙◌, ◌∷◌, ◌≡◌}
+use Rattle.sj_board.proofs.Words.{all_out, ap, Arc, arith, Array, array_in, arrays_in, get_or, inl, inr, length, List, None, Option, refill, refl, replicate, set, subst, suc, sym, zero, ℕ, ◌+◌, ◌<◌, ◌∙◌, ◌∷◌, ◌≡◌}
 use Rattle.std.proofs.Math.Seq.{take-append_seam}
 use Rattle.std.proofs.lemmas.{Bool.cases_eq, Grind.get_or-set_at, List.ext_get_or, List.get_or-set_other, List.length-map, List.length-set, List.map-set}
+use Rattle.sj_board.proofs.TileTables.{out-none}
 
 pub arrays-set : {Z : Type 0} (ts : List (Option (Arc Array Z))) (i : ℕ) (t : Option (Arc Array Z)) → arrays_in (set ts i t) ≡ set (arrays_in ts) i (array_in t)
 arrays-set ts i t = map-set array_in ts i t
@@ -21,12 +22,7 @@ set-more xs i a inside done k d h =
 -- places of which all are empty
 pub all-out : (old new : List (Option Array)) → length new ≡ length old → ((k : ℕ) (d : Option Array) → k < length old → get_or new k d ≡ None) → new ≡ all_out old
 all-out old new same all =
-    ext_get_or None new (all_out old) (same ∙ sym (length-map old (λ x. None))) (λ i inside. all i None (omega (arith, inside, same)) ∙ sym (emptied old i))
-  where
-    emptied : (zs : List (Option Array)) (i : ℕ) → get_or (all_out zs) i None ≡ None
-    emptied [] i = refl
-    emptied (z ∷ zs) zero = refl
-    emptied (z ∷ zs) (suc i) = emptied zs i
+    ext_get_or None new (all_out old) (same ∙ sym (length-map old (λ x. None))) (λ i inside. all i None (omega (arith, inside, same)) ∙ sym (out-none old (record { 0 = i })))
 
 -- what a loan of as many items leaves is what was written
 pub refill-whole : {X : Type 0} (xs ys : List X) → length ys ≡ length xs → refill (length xs) xs ys ≡ ys

@@ -1,28 +1,23 @@
 -- A run on which nothing has happened.
-use Rattle.sj_board.proofs.Words.{[], AllTell, ap, arith, Array, Arrays, AtNode, block_of, Cell, CellState, dims_of, DiskNo, DiskState, Equations, Event, extent_of, false, has_copy, HasTiles, IfSome, inl, inr, is_being_written, is_some, is_valid, IsBlock, IsRunnableOn, IsSomeAnd, Keeps, lending, LendingState, length, List, Machine, most_events, no_copy, Node, None, on_disk, OnDisk, opening, Option, Program, progress, Recorded, refl, replicate, Rows, rows_at_start, run_arrays, standing, StandingBy, starting, subst, sym, tile_at, tile_in, true, Waiting, ℕ, ◌+◌, ◌∙◌, ◌≡◌, ◌≤◌}
-use Rattle.std.proofs.lemmas.{Bool.cases_lt, Bool.false≢true, List.get_or-replicate, List.get_or_past, List.length-replicate, List.Elements.All-replicate}
+use Rattle.sj_board.proofs.Words.{[], AllTell, ap, arith, Array, Arrays, AtNode, block_of, Cell, CellState, dims_of, DiskNo, DiskState, Equations, extent_of, false, get_or, has_copy, HasTiles, IfSome, is_some, is_valid, IsBlock, IsRunnableOn, IsSomeAnd, Keeps, lending, LendingState, length, List, Machine, most_events, no_copy, Node, None, on_disk, OnDisk, opening, Option, Program, Recorded, refl, replicate, Rows, rows_at_start, run_arrays, standing, StandingBy, starting, subst, suc, sym, tile_at, tile_in, true, zero, ℕ, ◌+◌, ◌∙◌, ◌≡◌, ◌≤◌}
+use Rattle.std.proofs.lemmas.{Bool.false≢true, List.length-replicate, List.Elements.All-replicate}
 use Rattle.sj_base.proofs.Lists.{get_or-replicate_same}
-use Rattle.sj_core.proofs.{Finding.being_written-by, Opening.nowhere, Opening.opening-coherent, Opening.opening-content, Reading.no_row}
+use Rattle.sj_core.proofs.{Opening.nowhere, Opening.opening-coherent, Opening.opening-content, Reading.no_row}
 use Rattle.sj_edge.proofs.GivenBackLemmas.{all_given_back-untouched, all_untouched-same}
 use Rattle.sj_board.proofs.{Keeping.copy-on_disk, TileTables.Places}
 
-module _ (p : Program) (m : Machine) where
-  resting : (c : Cell) → is_being_written p (opening p m) c ≡ true → ⊥
-  resting c h =
-      let by = being_written-by p (opening p m) c h in
-      let waits : progress (opening p m) by.0 ≡ Waiting = get_or-replicate_same (length p.tasks) by.0.0 Waiting in
-      let run = sym waits ∙ by.1 in
-      cc
+-- what is so of the item in each place, and of the one past the last, is so wherever one looks
+replicate-at : {X : Type 0} (P : X → Type 0) (n i : ℕ) (x d : X) → P x → P d → P (get_or (replicate n x) i d)
+replicate-at P zero i x d there past = past
+replicate-at P (suc n) zero x d there past = there
+replicate-at P (suc n) (suc i) x d there past = replicate-at P n i x d there past
 
+module _ (p : Program) (m : Machine) where
   abbrev pub no_tiles : List Places
   no_tiles = replicate (length p.cells) (replicate (length m.nodes) None)
 
   no_tile : (c : Cell) (n : Node) → tile_at no_tiles c n ≡ None
-  no_tile c n =
-      elim (cases_lt c.0 (length p.cells)) [
-        | inl inside ↦ ap (λ (places : Places). tile_in places n) (get_or-replicate (length p.cells) c.0 (replicate (length m.nodes) None) [] inside) ∙ get_or-replicate_same (length m.nodes) n.0 None
-        | inr out ↦ ap (λ (places : Places). tile_in places n) (get_or_past no_tiles c.0 [] (omega (arith, length-replicate (length p.cells) (replicate {A = Option Array} (length m.nodes) None))))
-      ]
+  no_tile c n = replicate-at (λ (places : Places). tile_in places n ≡ None) (length p.cells) c.0 (replicate (length m.nodes) None) [] (get_or-replicate_same (length m.nodes) n.0 None) refl
 
   first_tiles : (A : Arrays) (Tells : Type 0) → HasTiles p m (opening p m) A Tells no_tiles
   first_tiles A Tells = record {
@@ -59,18 +54,11 @@ module _ {D : Type 0} (size faults mismatches : D → ℕ) (held : D → Option 
     where
       no_block : (c : Cell) (d : DiskNo) → has_copy p m (opening p m) c (OnDisk d) ≡ true → ⊥
       no_block c d copy =
-          let row : CellState = no_copy (length m.nodes) in
-          let none : on_disk (opening p m) c ≡ false = elim (cases_lt c.0 (length p.cells)) [
-            | inl inside ↦ ap (λ (r : CellState). r.on_disk) (get_or-replicate (length p.cells) c.0 row no_row inside)
-            | inr out ↦ ap (λ (r : CellState). r.on_disk) (get_or_past (replicate (length p.cells) row) c.0 no_row (omega (arith, out, length-replicate (length p.cells) row)))
-          ] in
+          let none : on_disk (opening p m) c ≡ false = replicate-at (λ (row : CellState). row.on_disk ≡ false) (length p.cells) c.0 (no_copy (length m.nodes)) no_row refl refl in
           false≢true (sym none ∙ (copy-on_disk p m (opening p m) c d copy).0)
 
   -- as the code makes it
   pub keeps-made : (rows : Rows) (tiles : List Places) (trace : Recorded) (lends : LendingState D) (opened : DiskState D) → rows ≡ rows_at_start p m → tiles ≡ no_tiles p m → trace.events ≡ [] → most_events p ≤ trace.spare → lends ≡ lending disks (replicate (length disks.disks) false) → opened ≡ disks → Keeps size faults mismatches held (standing eq rows.program rows.machine trace lends opened) rows tiles trace.spare
   keeps-made rows tiles trace lends opened at_start are none room lent as_opened =
-      subst (λ (o : DiskState D). Keeps size faults mismatches held (standing eq rows.program rows.machine trace lends o) rows tiles trace.spare) (sym as_opened)
-      (subst (λ (l : LendingState D). Keeps size faults mismatches held (standing eq rows.program rows.machine trace l disks) rows tiles trace.spare) (sym lent)
-      (subst (λ (ts : List Places). Keeps size faults mismatches held (standing eq rows.program rows.machine trace (lending disks (replicate (length disks.disks) false)) disks) rows ts trace.spare) (sym are)
-      (subst (λ (r : Rows). Keeps size faults mismatches held (standing eq r.program r.machine trace (lending disks (replicate (length disks.disks) false)) disks) r (no_tiles p m) trace.spare) (sym at_start)
-      (subst (λ (es : List Event). Keeps size faults mismatches held (record b { trace = es }) (rows_at_start p m) (no_tiles p m) trace.spare) (sym none) (keeps-first trace.spare room)))))
+      let made : standing eq rows.program rows.machine trace lends opened ≡ b = λ i. standing eq (at_start i).program (at_start i).machine (record trace { events = none i }) (lent i) (as_opened i) in
+      subst (λ (x : StandingBy eq D × Rows × List Places). Keeps size faults mismatches held x.0 x.1 x.2 trace.spare) (λ i. (sym made i, sym at_start i, sym are i)) (keeps-first trace.spare room)

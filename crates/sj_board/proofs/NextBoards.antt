@@ -1,9 +1,9 @@
 -- What follows of a board's next step for a worker.
-use Rattle.sj_board.proofs.Words.{AnotherGoesOn, ap, arith, BoardBy, CanBegin, CanHappen, Claimed, Dependencies, Discard, empty_hand, Equations, false, get_or, Hand, hand_of, IfSome, if◌then◌else◌, is_claimed_by, is_running_on, IsMoverOf, IsNext, IsSound, IsSoundRun, IsWorking, KeepsBoard, List, Machine, None, Nothing, Option, Program, progress, Run, RunsNone, Some, Start, State, state, subst, sym, Task, Todo, transfer, transfer_of, TransferNext, Wait, Worker, ℕ, ◌∙◌, ◌≡◌}
+use Rattle.sj_board.proofs.Words.{AnotherGoesOn, ap, arith, AtNode, BoardBy, CanBegin, CanHappen, CanMoveIn, CanMoveOut, claimant_of, Claimed, Dependencies, empty_hand, Equations, false, get_or, Hand, hand_of, IfSome, if◌then◌else◌, is_begun, is_claimed_by, is_moving, is_present, is_running_on, IsMoverOf, IsNext, IsSoundRun, IsWorking, KeepsBoard, List, list_all, Machine, mark, mover_of, Node, node_of, None, not, OnDisk, Option, Program, progress, refl, Run, RunsNone, Some, State, state, subst, sym, Task, Todo, transfer, transfer_of, Wait, Worker, written_cells, ℕ, ◌∙◌, ◌≡◌}
 use Rattle.std.specs.Prelude.{is_some}
-use Rattle.std.proofs.lemmas.List.{get_or_default}
-use Rattle.sj_core.proofs.Advancing.{claimed_by-is}
-use Rattle.sj_board.proofs.NextSteps.{IsPossible, next-possible, wait-ends}
+use Rattle.std.proofs.lemmas.{Bool.and_parts, List.get_or_default}
+use Rattle.sj_core.proofs.{Advancing.claimed_by-is, Replicas.coming_by-is, Replicas.leaving_by-is, Replicas.leaving_by-leaves}
+use Rattle.sj_board.proofs.{NextSteps.Begins, NextSteps.cell-comes, NextSteps.ComesIn, NextSteps.GoesAway, NextSteps.GoesOut, NextSteps.next-case, NextSteps.NextCase, NextSteps.none-room, NextSteps.victim-leaves, NextSteps.wait-ends, SparingBoards.sound}
 use Rattle.sj_base.proofs.Bools.{or_first}
 
 -- what is read of the worker's hand
@@ -20,8 +20,8 @@ module _ {D : Type 0} {eq : Equations} (faults mismatches : D → ℕ) (held : D
   abbrev s : State
   s = state b.run
 
-  sound : IsSound p m s
-  sound = record { proper = run.run.proper; machine = run.run.machine; coherent = run.coherent }
+  abbrev k : Node
+  k = node_of m w
 
   claimed : progress s t ≡ Claimed w
   claimed = claimed_by-is w (progress s t) (or_first (is_claimed_by w (progress s t)) (is_running_on w (progress s t)) (keeps.inside.hands_agree.has w t has) (subst (λ (o : Option Task). IfSome o (λ u. is_running_on w (progress s u) ≡ false)) has runs_none))
@@ -29,25 +29,27 @@ module _ {D : Type 0} {eq : Equations} (faults mismatches : D → ℕ) (held : D
   free : transfer s w ≡ None
   free = sym (ap (λ (o : Option Task). if is_some o then transfer s w else None) has) ∙ moves_none
 
-  can-from : (todo : Todo) → IsPossible p m s t w todo → CanBegin b w todo
-  can-from Nothing h = h
-  can-from (TransferNext c from to n) h = h.0
-  can-from (Discard c) h = h
-  can-from Wait h = h
-  can-from Start h = subst (λ (o : Option Task). IfSome o (λ u. CanHappen b.run (Run u w))) (sym has) h
-
-  mover-from : (todo : Todo) → IsPossible p m s t w todo → IsMoverOf b w todo
-  mover-from Nothing h = h
-  mover-from (TransferNext c from to n) h = h.1
-  mover-from (Discard c) h = tt
-  mover-from Wait h = h
-  mover-from Start h = tt
+  -- the event that it begins with can happen, and a move is the worker's
+  possible : (todo : Todo) → NextCase p m s t w todo → CanBegin b w todo × IsMoverOf b w todo
+  possible todo (GoesOut c d victim only target) =
+      let leaving = victim-leaves p m s w c victim in
+      let mover : mover_of s c (AtNode k) (OnDisk d) ≡ w = ap claimant_of (leaving_by-is w (mark s c k) leaving) in
+      (subst (λ (v : Worker). CanMoveOut p m s c k d v) (sym mover) (record { free = free; leaving = leaving; only = ap not only; target = target }), mover)
+  possible todo (ComesIn c from none cell source) =
+      let comes = cell-comes p m s w t c cell in
+      let mover : mover_of s c from (AtNode k) ≡ w = ap claimant_of (coming_by-is w (mark s c k) comes.0) in
+      (subst (λ (v : Worker). CanMoveIn p m s c from k v) (sym mover) (record { own_node = refl; free = free; coming = comes.0; old_value_needed = comes.1; room = none-room p m s w none; source = source }), mover)
+  possible todo (GoesAway c victim shared unread) = (record { leaving = leaving_by-leaves w (mark s c k) (victim-leaves p m s w c victim); unread = ap not unread; shared = shared }, tt)
+  possible todo (Begins none nothing may) =
+      let parts = and_parts (is_present p s t w k) (list_all (λ c. not (is_moving s c)) (written_cells p t w)) may in
+      (subst (λ (o : Option Task). IfSome o (λ u. CanHappen b.run (Run u w))) (sym has) (record { claimed = claimed; earlier = run.coherent.order.earlier t (ap is_begun claimed); room = none-room p m s w none; present = parts.0; unmoved = parts.1 }), tt)
+  possible todo waits = (tt, tt)
 
   pub next-can : (todo : Todo) → IsNext p m s t w todo → CanBegin b w todo
-  next-can todo next = can-from todo (next-possible p m s sound t w claimed free todo next)
+  next-can todo next = (possible todo (next-case p m s t w todo next)).0
 
   pub next-mover : (todo : Todo) → IsNext p m s t w todo → IsMoverOf b w todo
-  next-mover todo next = mover-from todo (next-possible p m s sound t w claimed free todo next)
+  next-mover todo next = (possible todo (next-case p m s t w todo next)).1
 
   pub next-ends : (todo : Todo) → IsNext p m s t w todo → todo ≡ Wait → AnotherGoesOn p m s w
-  next-ends todo next waits = wait-ends p m s sound run.run.swap t w claimed free (subst (λ (x : Todo). IsNext p m s t w x) waits next)
+  next-ends todo next waits = wait-ends p m s (sound size faults mismatches held b.run run) run.run.swap t w claimed free (subst (λ (x : Todo). IsNext p m s t w x) waits next)

@@ -1,23 +1,17 @@
 -- A board on which nothing has happened is sound.
-use Rattle.sj_board.proofs.Words.{[], ap, AreFirst, AreFootprints, arith, Array, board_state, CanPutEach, cond, Contains, count_by, Dependencies, dependencies, DiskState, done_tasks, Eager, empty_hand, empty_pool, Entry, Equations, first_hands, first_pool, get_or, Hand, hand_in, inl, inr, is_done, is_entry_of, is_given, is_task_of, IsEntry, IsPoolFor, IsPrepared, IsStrictlyIncreasing, KeepsBoard, length, List, Machine, map, None, opening, Option, Policy, pool_policy, Pooled, Prio, Program, progress, putter, queue_count, queued_tasks, Ready, refl, replicate, StandingBy, starting, State, subst, sym, Task, times_given, times_pooled, Waiting, with_each, Worker, Ws, ℕ, ◌+◌, ◌<◌, ◌↔◌, ◌∙◌, ◌≡◌, ◌≢◌, ◌≤◌}
+use Rattle.sj_board.proofs.Words.{[], ap, AreFirst, AreFootprints, arith, Array, board_state, CanPutEach, cond, Contains, count_by, Dependencies, dependencies, DiskState, done_tasks, empty_hand, empty_pool, Entry, Equations, first_hands, first_pool, get_or, Hand, hand_in, inl, inr, is_done, is_entry_of, is_given, is_task_of, IsEntry, IsPoolFor, IsPrepared, IsStrictlyIncreasing, KeepsBoard, length, List, Machine, map, None, opening, Option, Policy, pool_policy, Pooled, Prio, Program, progress, putter, queue_count, queued_tasks, Ready, refl, replicate, StandingBy, starting, State, subst, sym, Task, times_given, times_pooled, Waiting, with_each, Worker, Ws, ℕ, ◌+◌, ◌<◌, ◌↔◌, ◌∙◌, ◌≡◌, ◌≢◌, ◌≤◌}
 use Rattle.std.proofs.Common.{All}
-use Rattle.std.proofs.lemmas.{Bool.cases_lt, Bool.false≢true, List.get_or-replicate, List.get_or_past, List.length-replicate, List.Elements.All-contains_itself, List.Elements.All-from_get_or, List.Elements.All-get_or, List.Elements.All-nil, List.Folds.sum_by-replicate, List.Kept.AllPairs-from_increasing, Option.none-some}
+use Rattle.std.proofs.lemmas.{Bool.false≢true, List.length-replicate, List.Elements.All-contains_itself, List.Elements.All-from_get_or, List.Elements.All-get_or, List.Elements.All-nil, List.Folds.sum_by-replicate, List.Kept.AllPairs-from_increasing, Option.none-some}
+use Rattle.sj_base.proofs.Lists.{get_or-replicate_same}
 use Rattle.sj_core.proofs.Readiness.{done_tasks-done}
 use Rattle.sj_board.proofs.{Policies.by-policy, Policies.other-pool, Policies.prio-pool, PoolFilling.fill, PoolFilling.IsFilled, PoolFilling.times_among, Stepping.ready-same, TaskEnding.among-contains, TaskEnding.among-once, TaskEnding.contains-among}
-
--- what stands in each place of a list stands there wherever one looks
-always : {X : Type 0} (n : ℕ) (x : X) (i : ℕ) → get_or (replicate n x) i x ≡ x
-always {X} n x i = elim (cases_lt i n) as (λ _. get_or (replicate n x) i x ≡ x) [
-  | inl inside ↦ get_or-replicate n i x x inside
-  | inr past ↦ get_or_past (replicate n x) i x (omega (arith, past, length-replicate n x))
-]
 
 module _ (p : Program) (m : Machine) (some : 0 < p.workers) where
   pub staffed : (t : Task) → putter p None t < p.workers
   staffed t = omega (arith, some)
 
   first-hand : (w : Worker) → hand_in (first_hands p) w ≡ empty_hand
-  first-hand w = always p.workers empty_hand w.0
+  first-hand w = get_or-replicate_same p.workers w.0 empty_hand
 
   none-pooled : (policy : Policy) (t : Task) → times_pooled (empty_pool policy p.workers (length p.tasks)) t ≡ 0
   none-pooled policy t = omega (arith, sum_by-replicate (λ (q : List Entry). count_by (is_entry_of t) q) (queue_count policy p.workers) [])
@@ -31,27 +25,26 @@ module _ (p : Program) (m : Machine) (some : 0 < p.workers) where
     workers = refl;
     tasks = refl;
     queues = length-replicate (queue_count policy p.workers) [];
-    entries = All-from_get_or (All (IsEntry p)) (replicate (queue_count policy p.workers) []) [] (λ i inside. subst (All (IsEntry p)) (sym (always (queue_count policy p.workers) [] i)) (All-nil (IsEntry p)));
+    entries = All-from_get_or (All (IsEntry p)) (replicate (queue_count policy p.workers) []) [] (λ i inside. subst (All (IsEntry p)) (sym (get_or-replicate_same (queue_count policy p.workers) i [])) (All-nil (IsEntry p)));
     fits = λ w t e. absurd (none-some t (sym (ap (λ (h : Hand). h.given) (first-hand w)) ∙ e));
   }
 
   module _ (ready : List Task) (first : AreFirst p ready) where
+    few : (u : Task) → times_among ready u ≤ 1
+    few u = among-once ready u (AllPairs-from_increasing (map (λ (k : Task). k.0) ready) first.by_number)
+
     pub first-filled : m.policy ≡ Prio → IsFilled p m (first_hands p) None staffed (empty_pool Prio p.workers (length p.tasks)) ready
     first-filled prio = fill p m (first_hands p) None staffed ready (empty_pool Prio p.workers (length p.tasks)) (empty-fits Prio (sym (prio-pool m.policy prio)))
         (All-from_get_or (λ (k : Task). k.0 < length p.tasks) ready (record { 0 = 0 }) (λ i l. ((first.each (get_or ready i (record { 0 = 0 }))).0 (All-get_or (Contains ready) ready i (record { 0 = 0 }) l (All-contains_itself ready))).task))
         (λ u. omega (arith, none-pooled Prio u, few u))
-      where
-        few : (u : Task) → times_among ready u ≤ 1
-        few u = among-once ready u (AllPairs-from_increasing (map (λ (k : Task). k.0) ready) first.by_number)
 
     -- under prio all that are ready stand there, and else nothing
     prio-first : m.policy ≡ Prio → first_pool p m.policy ready ≡ with_each p None (empty_pool Prio p.workers (length p.tasks)) ready
     prio-first prio = ap (λ (q : Policy). first_pool p q ready) prio
 
     other-first : (q : Policy) → q ≢ Prio → first_pool p q ready ≡ empty_pool Ws p.workers (length p.tasks)
-    other-first Eager other = refl
     other-first Prio other = absurd (other refl)
-    other-first Ws other = refl
+    other-first q other = refl
 
     first-fits : IsPoolFor p m (first_hands p) (first_pool p m.policy ready)
     first-fits = elim (by-policy m.policy) as (λ _. IsPoolFor p m (first_hands p) (first_pool p m.policy ready)) [
@@ -63,13 +56,10 @@ module _ (p : Program) (m : Machine) (some : 0 < p.workers) where
     s = opening p m
 
     waits : (t : Task) → progress s t ≡ Waiting
-    waits t = always (length p.tasks) Waiting t.0
+    waits t = get_or-replicate_same (length p.tasks) t.0 Waiting
 
     none-done : (n : ℕ) → Contains [] n ↔ Contains (done_tasks s) n
     none-done n = (λ (i, l, e). absurd (omega (arith, l)), λ c. absurd (false≢true (sym (ap is_done (waits (record { 0 = n }))) ∙ done_tasks-done s (record { 0 = n }) c)))
-
-    done-none : (n : ℕ) → Contains (done_tasks s) n ↔ Contains [] n
-    done-none n = ((none-done n).1, (none-done n).0)
 
     times : m.policy ≡ Prio → (u : Task) → times_pooled (first_pool p m.policy ready) u + times_given (first_hands p) u ≡ times_among ready u
     times prio u = omega (arith, ap (λ (q : Pooled). times_pooled q u) (prio-first prio), (first-filled prio).times u, none-pooled Prio u, none-given u)
@@ -78,7 +68,7 @@ module _ (p : Program) (m : Machine) (some : 0 < p.workers) where
     nothing other u = ap (λ (q : Pooled). times_pooled q u) (other-first m.policy other) ∙ none-pooled Ws u
 
     no-queue : m.policy ≢ Prio → (n : ℕ) → queued_tasks (first_pool p m.policy ready) n ≡ []
-    no-queue other n = ap (λ (q : Pooled). queued_tasks q n) (other-first m.policy other) ∙ ap (map (λ (e : Entry). e.task)) (always (queue_count Ws p.workers) [] n)
+    no-queue other n = ap (λ (q : Pooled). queued_tasks q n) (other-first m.policy other) ∙ ap (map (λ (e : Entry). e.task)) (get_or-replicate_same (queue_count Ws p.workers) n [])
 
     pub keeps-opening : {D : Type 0} (eq : Equations) (faults mismatches : D → ℕ) (held : D → Option (List ℕ)) (disks : DiskState D) (footprints : List ℕ) → AreFootprints p footprints → KeepsBoard faults mismatches held (board_state (starting eq p m disks) (first_hands p) (first_pool p m.policy ready) None []) (dependencies p []) footprints
     keeps-opening eq faults mismatches held disks footprints bytes = record {
@@ -94,7 +84,7 @@ module _ (p : Program) (m : Machine) (some : 0 < p.workers) where
           over = λ w e. absurd (false≢true (sym (ap (λ (h : Hand). h.has_stopped) (first-hand w)) ∙ e));
         };
         stands_once = λ prio. record {
-          once = λ u is. omega (arith, times prio u, contains-among ready u ((first.each u).1 (ready-same p (done_tasks s) [] u.0 done-none is.ready)), among-once ready u (AllPairs-from_increasing (map (λ (k : Task). k.0) ready) first.by_number));
+          once = λ u is. omega (arith, times prio u, contains-among ready u ((first.each u).1 (ready-same p (done_tasks s) [] u.0 (λ n. ((none-done n).1, (none-done n).0)) is.ready)), few u);
           only = λ u stands. record { waiting = waits u; ready = ready-same p [] (done_tasks s) u.0 none-done ((first.each u).0 (among-contains ready u (omega (arith, times prio u, stands)))) };
         };
         stands_released = λ other. record {
@@ -111,20 +101,14 @@ module _ (p : Program) (m : Machine) (some : 0 < p.workers) where
 
 -- ---- as the code leaves it
 
-abbrev machine_by_urgency : Machine
-machine_by_urgency = record { workers = 0; nodes = []; disks = []; policy = Prio }
-
 pub first-can : (p : Program) (some : 0 < p.workers) (ready : List Task) → AreFirst p ready → (pool : Pooled) (n : ℕ) → n ≡ length p.tasks → pool ≡ empty_pool Prio p.workers n → CanPutEach p None pool ready
 first-can p some ready first pool n count made =
-    subst (λ (q : Pooled). CanPutEach p None q ready) (sym (made ∙ ap (empty_pool Prio p.workers) count)) (first-filled p machine_by_urgency some ready first refl).can
+    subst (λ (q : Pooled). CanPutEach p None q ready) (sym (made ∙ ap (empty_pool Prio p.workers) count)) (first-filled p (record { workers = 0; nodes = []; disks = []; policy = Prio }) some ready first refl).can
 
 module _ (p : Program) (policy : Policy) (deps : Dependencies) (program : deps.program ≡ p) (none : deps.done ≡ []) (listed ready : List Task) (same : listed ≡ ready) (each : (u : Task) → Contains ready u ↔ Ready deps.program deps.done u.0) (rising : IsStrictlyIncreasing (map (λ u. u.0) ready)) where
   first : AreFirst p ready
   first = record {
-    each = λ u. (
-      λ c. subst (λ (q : Program). Ready q [] u.0) program (subst (λ (done : List ℕ). Ready deps.program done u.0) none ((each u).0 c)),
-      λ r. (each u).1 (subst (λ (done : List ℕ). Ready deps.program done u.0) (sym none) (subst (λ (q : Program). Ready q [] u.0) (sym program) r)),
-    );
+    each = λ u. subst (λ (q : Program). Contains ready u ↔ Ready q [] u.0) program (subst (λ (done : List ℕ). Contains ready u ↔ Ready deps.program done u.0) none (each u));
     by_number = rising;
   }
 

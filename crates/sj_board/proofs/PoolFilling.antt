@@ -1,7 +1,8 @@
 -- Tasks that stand nowhere in the pool can be put there one after another, and then each stands there once more.
-use Rattle.sj_board.proofs.Words.{[], arith, CanPutEach, cond, count_by, entry_of, Hand, home, IsEntry, IsPoolFor, length, length-set, List, Machine, nat_eq, Option, Pooled, Program, put_into, putter, queue, refl, subst, sym, Task, times_pooled, with_each, with_task, Worker, ℕ, ◌+◌, ◌<◌, ◌∙◌, ◌∷◌, ◌≡◌, ◌≤◌}
+use Rattle.sj_board.proofs.Words.{[], ap, arith, Bool, CanPutEach, cond, count_by, entry_of, Hand, home, IsEntry, IsPoolFor, length, length-set, List, Machine, nat_eq, Option, Pooled, Program, put_into, putter, queue, refl, subst, sym, Task, times_pooled, with_each, with_task, Worker, ℕ, ◌+◌, ◌<◌, ◌∙◌, ◌∷◌, ◌≡◌, ◌≤◌}
 use Rattle.std.proofs.Common.{All}
 use Rattle.std.proofs.lemmas.{List.Elements.All-head, List.Elements.All-tail, List.Sums.sum_by-cons}
+use Rattle.sj_base.proofs.Bools.{nat_eq-itself}
 use Rattle.sj_pool.proofs.Keeping.{home-within}
 use Rattle.sj_board.proofs.Pooling.{all-pooled, none-contains, times-put}
 
@@ -13,9 +14,7 @@ pub among-cons : (t : Task) (ts : List Task) (u : Task) → times_among (t ∷ t
 among-cons t ts u = sum_by-cons (λ (x : Task). cond {A = ℕ} (nat_eq x.0 u.0) 1 0) t ts
 
 pub among-own : (t : Task) (ts : List Task) → 1 ≤ times_among (t ∷ ts) t
-among-own t ts =
-    let one : cond {A = ℕ} (nat_eq t.0 t.0) 1 0 ≡ 1 = grind arith in
-    omega (arith, among-cons t ts t, one)
+among-own t ts = omega (arith, among-cons t ts t, ap (λ (b : Bool). cond {A = ℕ} b 1 0) (nat_eq-itself t.0))
 
 module _ (p : Program) (m : Machine) (hands : List Hand) (by : Option Worker) (staffed : (t : Task) → putter p by t < p.workers) where
   home-of : (pool : Pooled) (t : Task) → IsPoolFor p m hands pool → home pool.policy (putter p by t) < length pool.queues
@@ -34,9 +33,6 @@ module _ (p : Program) (m : Machine) (hands : List Hand) (by : Option Worker) (s
     fits = fits.fits;
   }
 
-  pub times-task : (pool : Pooled) (t u : Task) → IsPoolFor p m hands pool → times_pooled (with_task p by pool t) u ≡ times_pooled pool u + cond {A = ℕ} (nat_eq t.0 u.0) 1 0
-  times-task pool t u fits = times-put pool.policy pool.queues (home pool.policy (putter p by t)) (entry_of p t) u (home-of pool t fits)
-
   -- what is so once these tasks are in the pool
   pub record IsFilled (pool : Pooled) (ts : List Task) : Type 0 where
     pub can : CanPutEach p by pool ts
@@ -46,7 +42,7 @@ module _ (p : Program) (m : Machine) (hands : List Hand) (by : Option Worker) (s
   pub fill : (ts : List Task) (pool : Pooled) → IsPoolFor p m hands pool → All (λ t. t.0 < length p.tasks) ts → ((u : Task) → times_pooled pool u + times_among ts u ≤ 1) → IsFilled pool ts
   fill [] pool fits known few = record { can = tt; fits = fits; times = λ u. omega arith }
   fill (t ∷ ts) pool fits known few =
-      let more : (u : Task) → times_pooled (with_task p by pool t) u ≡ times_pooled pool u + cond {A = ℕ} (nat_eq t.0 u.0) 1 0 = λ u. times-task pool t u fits in
+      let more : (u : Task) → times_pooled (with_task p by pool t) u ≡ times_pooled pool u + cond {A = ℕ} (nat_eq t.0 u.0) 1 0 = λ u. times-put pool.policy pool.queues (home pool.policy (putter p by t)) (entry_of p t) u (home-of pool t fits) in
       let rest : IsFilled (with_task p by pool t) ts = fill ts (with_task p by pool t) (fits-put pool t fits) (All-tail (λ (k : Task). k.0 < length p.tasks) t ts known) (λ u. omega (arith, few u, more u, among-cons t ts u)) in
       record {
         can = (

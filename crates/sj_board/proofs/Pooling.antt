@@ -1,9 +1,9 @@
 -- How often a task stands in a pool, where an entry is put there or taken.
-use Rattle.sj_board.proofs.Words.{[], ap, arith, Bool, cond, contains, count_by, Eager, Entry, false, first_fitting, fits_room, has_fitting, has_task, inl, inr, is_entry_of, length, length-set, List, None, Option, option_map_or, Policy, precedes, Prio, put_by_urgency, put_into, queue, refl, Some, subst, sym, Task, times_of, true, with_entry_at, without_first_at, without_first_fitting, Ws, ℕ, ◌++◌, ◌+◌, ◌<◌, ◌∙◌, ◌∷◌, ◌≡◌}
+use Rattle.sj_board.proofs.Words.{[], ap, arith, cond, contains, count_by, Entry, false, first_fitting, fits_room, has_fitting, has_task, inl, inr, is_entry_of, length, length-set, List, None, Option, option_map_or, Policy, precedes, Prio, put_by_urgency, put_into, queue, refl, Some, subst, sym, Task, times_of, true, with_entry_at, without_first_at, without_first_fitting, ℕ, ◌+◌, ◌<◌, ◌∙◌, ◌∷◌, ◌≡◌}
 use Rattle.std.proofs.Common.{All}
 use Rattle.std.specs.Prelude.{sum_by}
 use Rattle.std.specs.Option.{option_map, option_and_then}
-use Rattle.std.proofs.lemmas.{Bool.cases_lt, Bool.false≢true, List.get_or_past, List.Elements.All-cons, List.Elements.All-get_or, List.Elements.All-head, List.Elements.All-set, List.Elements.All-tail, List.Sums.sum_by-cons, List.Sums.sum_by-set}
+use Rattle.std.proofs.lemmas.{Bool.cases_lt, Bool.cond_both, Bool.false≢true, List.get_or_past, List.Elements.All-cons, List.Elements.All-get_or, List.Elements.All-head, List.Elements.All-push, List.Elements.All-set, List.Elements.All-tail, List.Folds.find_at, List.Sums.sum_by-cons, List.Sums.sum_by-set, List.Sums.sum_by_push, Option.get_or_from_slice_get, Option.slice_get_within}
 use Rattle.sj_pool.proofs.Serving.{never-none}
 
 -- how often a task stands in these queues
@@ -18,10 +18,6 @@ count-cons t x xs = sum_by-cons (λ (e : Entry). cond {A = ℕ} (is_entry_of t e
 pub count-taken : (room : ℕ) (es : List Entry) (e : Entry) (t : Task) → first_fitting room es ≡ Some e → count_by (is_entry_of t) (without_first_fitting room es) + cond {A = ℕ} (is_entry_of t e) 1 0 ≡ count_by (is_entry_of t) es
 count-taken room [] e t f = grind arith
 count-taken room (x ∷ xs) e t f = grind (arith, count-taken room xs e t, count-cons t x xs, count-cons t x (without_first_fitting room xs))
-
-pub first-fits : (room : ℕ) (es : List Entry) (e : Entry) → first_fitting room es ≡ Some e → fits_room room e ≡ true
-first-fits room [] e f = grind arith
-first-fits room (x ∷ xs) e f = grind (arith, first-fits room xs e)
 
 -- a queue where an entry fits is one of them
 pub queue-inside : (qs : List (List Entry)) (room i : ℕ) → has_fitting room (queue qs i) ≡ true → i < length qs
@@ -60,20 +56,15 @@ queues-length qs room (Some i) = length-set qs i (without_first_fitting room (qu
 
 -- what is so of each entry is so of the one that is taken, and of those that are left
 pub first-all : (P : Entry → Type 0) (room : ℕ) (es : List Entry) (e : Entry) → All P es → first_fitting room es ≡ Some e → P e
-first-all P room [] e all f = absurd (cc)
-first-all P room (x ∷ xs) e all f = by_fit (fits_room room x) refl (first-all P room xs e (All-tail P x xs all))
-  where
-    by_fit : (b : Bool) → fits_room room x ≡ b → (first_fitting room xs ≡ Some e → P e) → P e
-    by_fit true is rest = let same : x ≡ e = grind arith in subst P same (All-head P x xs all)
-    by_fit false is rest = let later : first_fitting room xs ≡ Some e = grind arith in rest later
+first-all P room es e all f =
+    let at = sym (find_at (fits_room room) es) ∙ f in
+    subst P (get_or_from_slice_get es _ e e at) (All-get_or P es _ e (slice_get_within es _ e at) all)
 
 pub all-left : (P : Entry → Type 0) (room : ℕ) (es : List Entry) → All P es → All P (without_first_fitting room es)
 all-left P room [] all = all
-all-left P room (x ∷ xs) all = by_fit (fits_room room x) (all-left P room xs (All-tail P x xs all))
-  where
-    by_fit : (b : Bool) → All P (without_first_fitting room xs) → All P (cond b xs (x ∷ without_first_fitting room xs))
-    by_fit true rest = All-tail P x xs all
-    by_fit false rest = All-cons P x (without_first_fitting room xs) (All-head P x xs all) rest
+all-left P room (x ∷ xs) all =
+    cond_both (fits_room room x) xs (x ∷ without_first_fitting room xs) (All P) (λ _. All-tail P x xs all)
+    (λ _. All-cons P x (without_first_fitting room xs) (All-head P x xs all) (all-left P room xs (All-tail P x xs all)))
 
 pub all-taken : (P : Entry → Type 0) (qs : List (List Entry)) (room : ℕ) (o : Option ℕ) → Serves qs room o → All (All P) qs → All (All P) (queues_from qs room o)
 all-taken P qs room None serves all = all
@@ -85,31 +76,19 @@ pub count-put_by_urgency : (e : Entry) (es : List Entry) (t : Task) → count_by
 count-put_by_urgency e [] t = grind arith
 count-put_by_urgency e (x ∷ xs) t = grind (arith, count-put_by_urgency e xs t, count-cons t x xs, count-cons t x (put_by_urgency e xs), count-cons t e (x ∷ xs))
 
-pub count-put_last : (e : Entry) (es : List Entry) (t : Task) → count_by (is_entry_of t) (es ++ e ∷ []) ≡ count_by (is_entry_of t) es + cond {A = ℕ} (is_entry_of t e) 1 0
-count-put_last e [] t = grind arith
-count-put_last e (x ∷ xs) t = grind (arith, count-put_last e xs t, count-cons t x xs, count-cons t x (xs ++ e ∷ []))
-
 pub count-put : (p : Policy) (e : Entry) (es : List Entry) (t : Task) → count_by (is_entry_of t) (put_into p e es) ≡ count_by (is_entry_of t) es + cond {A = ℕ} (is_entry_of t e) 1 0
-count-put Eager e es t = count-put_last e es t
 count-put Prio e es t = count-put_by_urgency e es t
-count-put Ws e es t = count-put_last e es t
+count-put _ e es t = sum_by_push (λ (x : Entry). cond {A = ℕ} (is_entry_of t x) 1 0) es e
 
 pub all-put_by_urgency : (P : Entry → Type 0) (e : Entry) (es : List Entry) → P e → All P es → All P (put_by_urgency e es)
 all-put_by_urgency P e [] here all = All-cons P e [] here all
-all-put_by_urgency P e (x ∷ xs) here all = by_order (precedes x e) (all-put_by_urgency P e xs here (All-tail P x xs all))
-  where
-    by_order : (b : Bool) → All P (put_by_urgency e xs) → All P (cond b (x ∷ put_by_urgency e xs) (e ∷ x ∷ xs))
-    by_order true rest = All-cons P x (put_by_urgency e xs) (All-head P x xs all) rest
-    by_order false rest = All-cons P e (x ∷ xs) here all
-
-pub all-put_last : (P : Entry → Type 0) (e : Entry) (es : List Entry) → P e → All P es → All P (es ++ e ∷ [])
-all-put_last P e [] here all = All-cons P e [] here all
-all-put_last P e (x ∷ xs) here all = All-cons P x (xs ++ e ∷ []) (All-head P x xs all) (all-put_last P e xs here (All-tail P x xs all))
+all-put_by_urgency P e (x ∷ xs) here all =
+    cond_both (precedes x e) (x ∷ put_by_urgency e xs) (e ∷ x ∷ xs) (All P)
+    (λ _. All-cons P x (put_by_urgency e xs) (All-head P x xs all) (all-put_by_urgency P e xs here (All-tail P x xs all))) (λ _. All-cons P e (x ∷ xs) here all)
 
 pub all-put : (P : Entry → Type 0) (p : Policy) (e : Entry) (es : List Entry) → P e → All P es → All P (put_into p e es)
-all-put P Eager e es here all = all-put_last P e es here all
 all-put P Prio e es here all = all-put_by_urgency P e es here all
-all-put P Ws e es here all = all-put_last P e es here all
+all-put P _ e es here all = All-push P es e all here
 
 pub times-put : (p : Policy) (qs : List (List Entry)) (i : ℕ) (e : Entry) (t : Task) → i < length qs → times_in t (with_entry_at p qs i e) ≡ times_in t qs + cond {A = ℕ} (is_entry_of t e) 1 0
 times-put p qs i e t inside = omega (arith, sum_by-set (λ q. count_by (is_entry_of t) q) qs i (put_into p e (queue qs i)) [] inside, count-put p e (queue qs i) t)

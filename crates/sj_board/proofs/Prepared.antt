@@ -1,6 +1,6 @@
 -- What a board has beside its run when nothing has happened.
-use Rattle.sj_board.proofs.Words.{[], AllPairs, ap, AreReadyBelow, arith, Contains, get_or, inl, inr, length, List, map, Program, Ready, subst, sym, Task, ℕ, ◌++◌, ◌+◌, ◌<◌, ◌↔◌, ◌∷◌, ◌≡◌, ◌≤◌}
-use Rattle.std.proofs.lemmas.{Bool.cases_eq, List.get_or-map, List.length-map, List.map-append, List.Elements.All-contains_itself, List.Elements.All-get_or, List.Elements.Contains-append_left, List.Elements.Contains-push, List.Elements.Contains-push_cases, List.Kept.AllPairs-from_increasing, List.Quantifiers.all_pairs_push}
+use Rattle.sj_board.proofs.Words.{[], All, AllPairs, ap, AreReadyBelow, arith, Contains, inl, inr, length, List, map, Program, Ready, subst, sym, Task, ℕ, ◌++◌, ◌+◌, ◌<◌, ◌↔◌, ◌∷◌, ◌≢◌, ◌≤◌}
+use Rattle.std.proofs.lemmas.{Bool.cases_eq, List.map-append, List.Elements.All-contains_itself, List.Elements.All-map, List.Elements.All-weaker, List.Elements.Contains-append_left, List.Elements.Contains-push, List.Elements.Contains-push_cases, List.Kept.AllPairs-from_increasing, List.Quantifiers.all_pairs_push}
 
 -- ---- the tasks that are ready
 
@@ -8,14 +8,8 @@ module _ (p : Program) (done : List ℕ) (n : ℕ) (ts : List Task) (so_far : Ar
   abbrev next : Task
   next = record { 0 = n }
 
-  numbered : (u : Task) → u.0 ≡ n → next ≡ u
-  numbered u e = ap (λ (k : ℕ). let x : Task = record { 0 = k } in x) (sym e)
-
-  below : (k d : ℕ) → k < length (map (λ (t : Task). t.0) ts) → get_or (map (λ (t : Task). t.0) ts) k d < n
-  below k d within =
-      let inside : k < length ts = omega (arith, within, length-map ts (λ (t : Task). t.0)) in
-      let at : get_or (map (λ (t : Task). t.0) ts) k d ≡ (get_or ts k next).0 = get_or-map (λ (t : Task). t.0) ts k next d inside in
-      subst (λ (x : ℕ). x < n) (sym at) ((so_far.each (get_or ts k next)).0 (All-get_or (Contains ts) ts k next inside (All-contains_itself ts))).0
+  below : All (λ x. x < n) (map (λ (t : Task). t.0) ts)
+  below = All-map (λ (x : ℕ). x < n) (λ (t : Task). t.0) ts (All-weaker (Contains ts) (λ (t : Task). t.0 < n) (λ t had. ((so_far.each t).0 had).0) ts (All-contains_itself ts))
 
   rising : AllPairs (λ x y. x < y) (map (λ (t : Task). t.0) (ts ++ next ∷ []))
   rising = subst (AllPairs (λ x y. x < y)) (sym (map-append (λ (t : Task). t.0) ts (next ∷ []))) (all_pairs_push (λ x y. x < y) (map (λ (t : Task). t.0) ts) n (AllPairs-from_increasing (map (λ (t : Task). t.0) ts) so_far.by_number) below)
@@ -35,22 +29,19 @@ module _ (p : Program) (done : List ℕ) (n : ℕ) (ts : List Task) (so_far : Ar
 
       back : (u : Task) → (u.0 < n + 1) × Ready p done u.0 → Contains (ts ++ next ∷ []) u
       back u h = elim (cases_eq u.0 n) as (λ _. Contains (ts ++ next ∷ []) u) [
-        | inl e ↦ subst (Contains (ts ++ next ∷ [])) (numbered u e) (Contains-push ts next)
+        | inl e ↦ subst (Contains (ts ++ next ∷ [])) (ap (λ (k : ℕ). let x : Task = record { 0 = k } in x) (sym e)) (Contains-push ts next)
         | inr d ↦ Contains-append_left ts (next ∷ []) u ((so_far.each u).1 (omega (arith, h.0, d), h.1))
       ]
 
   -- or one that isn't
   pub ready-past : ¬ Ready p done n → AreReadyBelow p done (n + 1) ts
   ready-past unready = record {
-    each = λ u. (λ c. let h = (so_far.each u).0 c in (omega (arith, h.0), h.1), back u);
+    each = λ u. (
+      λ c. let h = (so_far.each u).0 c in (omega (arith, h.0), h.1),
+      λ h. let apart : u.0 ≢ n = λ e. unready (subst (Ready p done) e h.1) in (so_far.each u).1 (omega (arith, h.0, apart), h.1),
+    );
     by_number = so_far.by_number;
   }
-    where
-      back : (u : Task) → (u.0 < n + 1) × Ready p done u.0 → Contains ts u
-      back u h = elim (cases_eq u.0 n) as (λ _. Contains ts u) [
-        | inl e ↦ absurd (unready (subst (Ready p done) e h.1))
-        | inr d ↦ (so_far.each u).1 (omega (arith, h.0, d), h.1)
-      ]
 
 -- all tasks have been looked at
 pub ready-all : (p : Program) (done : List ℕ) (n : ℕ) (ts : List Task) → length p.tasks ≤ n → AreReadyBelow p done n ts → (u : Task) → Contains ts u ↔ Ready p done u.0

@@ -2,8 +2,8 @@
 use Rattle.sj_board.proofs.Words.{[], Access, All, ap, arith, Array, arrays, Bool, CanPutBack, CanWorkOn, Cell, cond, dims_of, false, find, has_cell, held_in, is_written, length, List, map, Node, None, Program, put_each, refl, same_cell, shared, Slot, Some, subst, suc, sym, tiles_of, true, with_tile, with_tiles_of, worked_on, Worker, written_among, zeros, zip, ℕ, ◌++◌, ◌<◌, ◌||◌, ◌∙◌, ◌∷◌, ◌≡◌, ◌≤◌}
 use Rattle.std.specs.Prelude.{filter}
 use Rattle.std.proofs.lemmas.{Bool.false_from_ne_true, Bool.false≢true, Bool.or_parts, List.append-nil, List.get_or_push, List.length-map, List.length-set, List.length_push, List.map-append, List.Elements.All-get_or, List.Elements.All-set, List.Elements.filter-append}
-use Rattle.sj_base.proofs.Lists.{All-front}
-use Rattle.sj_core.proofs.{CellLists.same_cell-refl, CellLists.times, CellLists.times-cons, CellLists.times-has, Reading.same_cell-is, Sums.tally}
+use Rattle.sj_base.proofs.{Lists.All-front, SameIds.same_cell-unlike}
+use Rattle.sj_core.proofs.{CellLists.times, CellLists.times-cons, CellLists.times-has, Reading.same_cell-is, Sums.tally}
 use Rattle.sj_board.proofs.TileTables.{Places, length-changed, tiles-other, tiles-same, wide-changed}
 
 -- ---- the operands from the last to the first
@@ -90,23 +90,23 @@ put-row_none n [] xs tiles c h = refl
 put-row_none n (d ∷ cs) [] tiles c h = refl
 put-row_none n (d ∷ cs) (x ∷ xs) tiles c h =
     let parts = or_parts (same_cell d c) (has_cell cs c) h in
-    tiles-other (put_each n cs xs tiles) d c (at_node n x) (λ e. false≢true (sym parts.0 ∙ ap (λ (k : Cell). same_cell d k) e ∙ same_cell-refl d)) ∙ put-row_none n cs xs tiles c parts.1
+    tiles-other (put_each n cs xs tiles) d c (at_node n x) (λ e. same_cell-unlike d c parts.0 (sym e)) ∙ put-row_none n cs xs tiles c parts.1
+
+-- what a cell finds in a list of arrays: the first one, or what it finds in the others
+pub held_in-cons : (p : Program) (d c : Cell) (x : Array) (cs : List Cell) (xs : List Array) → held_in p (zip (d ∷ cs) (x ∷ xs)) c ≡ cond (same_cell d c) x (held_in p (zip cs xs) c)
+held_in-cons p d c x cs xs = elim (same_cell d c) as (λ b. elim (cond b (Some (d, x)) (find (λ entry. same_cell entry.0 c) (zip cs xs))) as (λ _. Array) [ None ↦ zeros (dims_of p c) | Some entry ↦ entry.1 ] ≡ cond b x (held_in p (zip cs xs) c)) [ true ↦ refl | false ↦ refl ]
 
 pub put-row : (p : Program) (n : Node) (cs : List Cell) (xs : List Array) (tiles : List Places) (c : Cell) → ((d : Cell) → times cs d ≤ 1) → length cs ≡ length xs → c.0 < length tiles → has_cell cs c ≡ true → tiles_of (put_each n cs xs tiles) c ≡ at_node n (held_in p (zip cs xs) c) (tiles_of tiles c)
 put-row p n [] xs tiles c once many inside h = absurd (false≢true h)
 put-row p n (d ∷ cs) [] tiles c once many inside h = absurd (omega arith)
-put-row p n (d ∷ cs) (x ∷ xs) tiles c once many inside h = by_case (same_cell d c) refl h (λ has. put-row p n cs xs tiles c (λ e. (let o = once e in let t = times-cons d cs e in omega arith)) (omega arith) inside has)
+put-row p n (d ∷ cs) (x ∷ xs) tiles c once many inside h =
+    by_case (same_cell d c) refl h (λ has. put-row p n cs xs tiles c (λ e. (let o = once e in let t = times-cons d cs e in omega arith)) (omega arith) inside has)
+    ∙ ap (λ (a : Array). at_node n a (tiles_of tiles c)) (sym (held_in-cons p d c x cs xs))
   where
-    by_case : (b : Bool) → same_cell d c ≡ b → (b || has_cell cs c) ≡ true → (has_cell cs c ≡ true → tiles_of (put_each n cs xs tiles) c ≡ at_node n (held_in p (zip cs xs) c) (tiles_of tiles c)) → tiles_of (put_each n (d ∷ cs) (x ∷ xs) tiles) c ≡ at_node n (held_in p (zip (d ∷ cs) (x ∷ xs)) c) (tiles_of tiles c)
+    by_case : (b : Bool) → same_cell d c ≡ b → (b || has_cell cs c) ≡ true → (has_cell cs c ≡ true → tiles_of (put_each n cs xs tiles) c ≡ at_node n (held_in p (zip cs xs) c) (tiles_of tiles c)) → tiles_of (put_each n (d ∷ cs) (x ∷ xs) tiles) c ≡ at_node n (cond b x (held_in p (zip cs xs) c)) (tiles_of tiles c)
     by_case true same has rest =
-        let is : d ≡ c = same_cell-is d c same in
         let gone : has_cell cs c ≡ false = false_from_ne_true (has_cell cs c) (λ more. (let o = once c in let t = times-cons d cs c in let one : tally (same_cell d c) ≡ 1 = ap tally same in let k = times-has cs c more in omega arith)) in
-        let now : List Places = put_each n cs xs tiles in
-        let here : d.0 < length now = omega (arith, inside, length-put_each n cs xs tiles, ap (λ (k : Cell). k.0) is) in
-        let found : held_in p (zip (d ∷ cs) (x ∷ xs)) c ≡ x = ap (λ b. elim (cond b (Some (d, x)) (find (λ entry. same_cell entry.0 c) (zip cs xs))) as (λ _. Array) [ None ↦ zeros (dims_of p c) | Some entry ↦ entry.1 ]) same in
-        ap (λ (k : Cell). tiles_of (with_tiles_of now d (at_node n x)) k) (sym is) ∙ tiles-same now d (at_node n x) here
-        ∙ ap (λ (k : Cell). at_node n x (tiles_of now k)) is ∙ ap (at_node n x) (put-row_none n cs xs tiles c gone) ∙ ap (λ (a : Array). at_node n a (tiles_of tiles c)) (sym found)
-    by_case false same has rest =
-        let skip : held_in p (zip (d ∷ cs) (x ∷ xs)) c ≡ held_in p (zip cs xs) c = ap (λ b. elim (cond b (Some (d, x)) (find (λ entry. same_cell entry.0 c) (zip cs xs))) as (λ _. Array) [ None ↦ zeros (dims_of p c) | Some entry ↦ entry.1 ]) same in
-        tiles-other (put_each n cs xs tiles) d c (at_node n x) (λ e. false≢true (sym same ∙ ap (λ (k : Cell). same_cell d k) e ∙ same_cell-refl d))
-        ∙ rest has ∙ ap (λ (a : Array). at_node n a (tiles_of tiles c)) (sym skip)
+        ap (λ (k : Cell). tiles_of (with_tiles_of (put_each n cs xs tiles) k (at_node n x)) c) (same_cell-is d c same)
+        ∙ tiles-same (put_each n cs xs tiles) c (at_node n x) (omega (arith, inside, length-put_each n cs xs tiles))
+        ∙ ap (at_node n x) (put-row_none n cs xs tiles c gone)
+    by_case false same has rest = tiles-other (put_each n cs xs tiles) d c (at_node n x) (λ e. same_cell-unlike d c same (sym e)) ∙ rest has

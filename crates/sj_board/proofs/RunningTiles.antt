@@ -1,11 +1,10 @@
 -- The tiles that the beginning of a kernel's run leaves, and the shares that its task takes.
-use Rattle.sj_board.proofs.Words.{[], Access, after, All, all_out, AllTell, AllZip, ap, AreSharesFor, arith, Array, Arrays, arrays_after, AtNode, Bool, CanGive, CanHappen, CanRun, CanWorkOn, Cell, cells_of, CellState, dims_of, DiskState, Equations, false, fresh_cells, get_or, has_cell, has_happened, HasTiles, HoldsBlocks, IfSome, if◌then◌else◌, inl, inr, is_being_written, is_some, is_valid, IsShareIn, IsSound, IsTileOf, Keeps, kept_at, LendingState, length, List, Machine, map, mark, Node, node_of, None, not, Option, out_each, owned_at, Program, reads_of, reads_value, Recorded, refl, renewed, Rows, Run, run_arrays, same_cell, same_place, shared, shares_at, Slot, Some, standing, StandingBy, starts_as_zeros, State, state, subst, suc, sym, Task, task_of, tile_at, tile_in, tiles_of, true, unwrap_or, with_event, worked_on, Worker, written_among, written_cells, zeros, ℕ, ◌++◌, ◌+◌, ◌<◌, ◌||◌, ◌∙◌, ◌∷◌, ◌≡◌, ◌≤◌}
+use Rattle.sj_board.proofs.Words.{[], Access, after, All, all_out, AllTell, AllZip, ap, AreSharesFor, arith, Arrays, arrays_after, AtNode, Bool, CanGive, CanHappen, CanWorkOn, Cell, CellState, dims_of, DiskState, Equations, false, fresh_cells, get_or, has_cell, has_happened, HasTiles, if◌then◌else◌, inl, inr, is_being_written, is_some, is_valid, IsShareIn, IsSound, IsTileOf, Keeps, kept_at, LendingState, length, List, Machine, map, Node, node_of, None, not, on_disk, Option, out_each, owned_at, Program, reads_of, reads_value, Recorded, refl, renewed, Rows, Run, run_arrays, same_place, shared, shares_at, Slot, standing, StandingBy, starts_as_zeros, State, state, subst, suc, sym, Task, task_of, tile_at, tile_in, tiles_of, true, with_event, worked_on, Worker, writes, written_among, written_cells, zeros, ℕ, ◌++◌, ◌+◌, ◌<◌, ◌∙◌, ◌∷◌, ◌≡◌, ◌≤◌}
 use Rattle.std.specs.Prelude.{Contains}
-use Rattle.std.proofs.lemmas.{Bool.cases_Bool, Bool.false≢true, List.Elements.Contains-get_or, List.Folds.list_any_at, Nat.mod_below}
-use Rattle.sj_base.proofs.SameIds.{same_cell-itself}
-use Rattle.sj_core.proofs.{CellLists.cells-written, CellLists.times, Changing.All-renewed, Claimed.claimed-inside, Claimed.claimed-not_written, Claimed.claimed-staffed, Finding.second_fails, Folding.read-among_cells, Found.found-not_fresh, Readiness.Contains-from_filter, Readiness.filter-Contains, Reading.cells-untouched, Reading.entry-inside, Reading.list_all-has, Running.run-other, Running.run-rested, Running.run-rests, Running.run-spared, Running.run-stale, Running.run-unstored, Sized.worked_on-dims, Tables.length-renewed, Tables.renewed-at_or, TaskCells.written-among_cells}
-use Rattle.sj_machine.proofs.{FewPins.few-operands, Written.can-work, Written.works-small, Written.written-once}
-use Rattle.sj_board.proofs.{Keeping.HoldsBlocks-kept, Keeping.keeps-event, Keeping.keeps-told, Keeping.sound_state, TileTables.out-length, TileTables.out-none, TileTables.Places, TileTables.wide-at}
+use Rattle.std.proofs.lemmas.{Bool.cases_Bool, Bool.cond_both, Bool.false≢true, List.Elements.Contains-get_or, Nat.mod_below}
+use Rattle.sj_core.proofs.{CellLists.cells-written, CellLists.times, Changing.All-renewed, Claimed.claimed-inside, Claimed.claimed-not_written, Claimed.claimed-staffed, Finding.second_fails, Folding.read-among_cells, Readiness.Contains-from_filter, Readiness.filter-Contains, Reading.cells-untouched, Reading.entry-inside, Running.run-other, Running.run-rested, Running.run-rests, Running.run-spared, Running.run-stale, Running.run-unstored, Sized.worked_on-dims, Tables.length-renewed, Tables.renewed-at_or, TaskCells.written-among_cells}
+use Rattle.sj_machine.proofs.{FewPins.few-operands, Happening.All-has, Written.can-work, Written.works-small, Written.written-once}
+use Rattle.sj_board.proofs.{Delivering.read-valid, EventTiles.as_read, EventTiles.keeps-blocks_stay, EventTiles.tile_there, Keeping.keeps-told, Keeping.sound_state, TileTables.out-length, TileTables.out-none, TileTables.Places, TileTables.wide-at}
 
 -- ---- tiles that are out
 
@@ -24,18 +23,10 @@ module _ (cs : List Cell) (tiles : List Places) (once : (c : Cell) → times cs 
   out_each-length = ap length outs-all ∙ length-renewed outs tiles
 
   out_each-wide : (w : ℕ) → All (λ places. length places ≡ w) tiles → All (λ places. length places ≡ w) (out_each cs tiles)
-  out_each-wide w wide = subst (All (λ places. length places ≡ w)) (sym outs-all) (All-renewed (λ places. length places ≡ w) outs tiles (λ k places same. by_test places (has_cell cs (record { 0 = k })) same) wide)
-    where
-      by_test : (places : Places) (b : Bool) → length places ≡ w → length (out_if b places) ≡ w
-      by_test places true same = out-length places ∙ same
-      by_test places false same = same
+  out_each-wide w wide = subst (All (λ places. length places ≡ w)) (sym outs-all) (All-renewed (λ places. length places ≡ w) outs tiles (λ k places same. cond_both (has_cell cs (record { 0 = k })) (all_out places) places (λ (row : Places). length row ≡ w) (λ out. out-length places ∙ same) (λ left. same)) wide)
 
   out_each-row : (c : Cell) → tiles_of (out_each cs tiles) c ≡ out_if (has_cell cs c) (tiles_of tiles c)
-  out_each-row c = ap (λ (ts : List Places). tiles_of ts c) outs-all ∙ renewed-at_or outs tiles c.0 [] (none (has_cell cs c))
-    where
-      none : (b : Bool) → out_if b [] ≡ []
-      none true = refl
-      none false = refl
+  out_each-row c = ap (λ (ts : List Places). tiles_of ts c) outs-all ∙ renewed-at_or outs tiles c.0 [] (cond_both (has_cell cs c) (all_out []) [] (λ (row : Places). row ≡ []) (λ out. refl) (λ left. refl))
 
   out_each-out : (c : Cell) (k : Node) → has_cell cs c ≡ true → tile_at (out_each cs tiles) c k ≡ None
   out_each-out c k has = ap (λ (places : Places). tile_in places k) (out_each-row c ∙ ap (λ b. out_if b (tiles_of tiles c)) has) ∙ out-none (tiles_of tiles c) k
@@ -68,17 +59,14 @@ module _ {D : Type 0} {eq : Equations} (size faults mismatches : D → ℕ) (hel
   abbrev A' : Arrays
   A' = arrays_after eq p m (run_arrays b) (Run t w)
 
-  run : CanRun p m s t w
-  run = can
-
   h : IsSound p m s
   h = sound_state size faults mismatches held b rows tiles spare keeps
 
   program_task : t.0 < length p.tasks
-  program_task = claimed-inside p m s h t w run.claimed
+  program_task = claimed-inside p m s h t w can.claimed
 
   staffed : w.0 < p.workers
-  staffed = claimed-staffed p m s h t w run.claimed
+  staffed = claimed-staffed p m s h t w can.claimed
 
   node : n.0 < length m.nodes
   node = mod_below w.0 (length m.nodes) (let one = keeps.sound.run.machine.some_node in omega arith)
@@ -92,54 +80,45 @@ module _ {D : Type 0} {eq : Equations} (size faults mismatches : D → ℕ) (hel
   once = written-once p h.proper t program_task w staffed
 
   inside : (c : Cell) → has_cell ws c ≡ true → c.0 < length tiles
-  inside c has = omega (arith, (entry-inside s c n (h.coherent.cells.claimed t w c run.claimed (written-among_cells p t w c has))).0, h.coherent.state.rows.cells, keeps.tiles.every_cell)
+  inside c has = omega (arith, (entry-inside s c n (h.coherent.cells.claimed t w c can.claimed (written-among_cells p t w c has))).0, h.coherent.state.rows.cells, keeps.tiles.every_cell)
 
   pub run-cells : All (λ c. c.0 < length tiles) ws
-  run-cells = λ k d within. inside (get_or ws k d) (list_any_at (λ e. same_cell e (get_or ws k d)) ws k d within (same_cell-itself (get_or ws k d)))
-
-  spare-mark : (c : Cell) (k : Node) → has_cell ws c ≡ false → mark s' c k ≡ mark s c k
-  spare-mark c k left = (run-other p m s t w s' run refl c left).marks k
+  run-cells = All-has (λ c. c.0 < length tiles) ws inside
 
   was-being : (c : Cell) → has_cell ws c ≡ false → is_being_written p s' c ≡ true → is_being_written p s c ≡ true
-  was-being c left being = search (arith, cases_Bool, run-rests p m s h t w s' run refl c left, false≢true)
+  was-being c left being = search (arith, cases_Bool, run-rests p m s h t w s' can refl c left, false≢true)
 
   -- ---- the blocks
 
-  blocks-stay : HoldsBlocks held p m s' A' (AllTell held b) b.disks
-  blocks-stay = HoldsBlocks-kept held p m s s' (run_arrays b) A' (AllTell held b) b.disks (λ c d. refl) (λ c there. elim (cases_Bool (has_cell ws c)) [
-    | inl has ↦ absurd (false≢true (sym (run-unstored p m s t w s' run refl c has) ∙ there))
-    | inr left ↦ (sym (run-other p m s t w s' run refl c left).disk ∙ there, ap (λ (row : CellState). row.writes) (cells-untouched s (has_cell ws) (λ d row. owned_at n row) c left))
-  ]) keeps.sound.blocks
+  blocks-stay : (c : Cell) → on_disk s' c ≡ true → (on_disk s c ≡ true) × (writes s' c ≡ writes s c)
+  blocks-stay c there = elim (cases_Bool (has_cell ws c)) [
+    | inl has ↦ absurd (false≢true (sym (run-unstored p m s t w s' can refl c has) ∙ there))
+    | inr left ↦ (sym (run-other p m s t w s' can refl c left).disk ∙ there, ap (λ (row : CellState). row.writes) (cells-untouched s (has_cell ws) (λ d row. owned_at n row) c left))
+  ]
 
   -- ---- the tiles
 
   abbrev new : List Places
   new = out_each ws tiles
 
-  tile-out : (c : Cell) (k : Node) → has_cell ws c ≡ true → tile_at new c k ≡ None
-  tile-out = out_each-out ws tiles once
-
-  tile-left : (c : Cell) (k : Node) → has_cell ws c ≡ false → tile_at new c k ≡ tile_at tiles c k
-  tile-left = out_each-left ws tiles once
-
   array-left : (c : Cell) (k : Node) → has_cell ws c ≡ false → A' c (AtNode k) ≡ run_arrays b c (AtNode k)
-  array-left c k left = second_fails (same_place (AtNode k) (AtNode n)) (has_cell (fresh_cells p t w) c) (zeros (dims_of p c)) (run_arrays b c (AtNode k)) (run-stale p m s h t w s' run refl c left)
+  array-left c k left = second_fails (same_place (AtNode k) (AtNode n)) (has_cell (fresh_cells p t w) c) (zeros (dims_of p c)) (run_arrays b c (AtNode k)) (run-stale p m s h t w s' can refl c left)
 
   tiles-agree : HasTiles p m s' A' (AllTell held b) new
   tiles-agree = record {
     every_cell = out_each-length ws tiles once ∙ keeps.tiles.every_cell;
     every_node = out_each-wide ws tiles once (length m.nodes) keeps.tiles.every_node;
     there = λ c k rests. (
-        let left : has_cell ws c ≡ false = run-spared p m s h t w s' run refl c rests in
-        ap is_some (tile-left c k left) ∙ keeps.tiles.there c k (run-rested p m s h t w s' run refl c rests) ∙ ap is_valid (sym (spare-mark c k left))
+        let left : has_cell ws c ≡ false = run-spared p m s h t w s' can refl c rests in
+        ap is_some (out_each-left ws tiles once c k left) ∙ keeps.tiles.there c k (run-rested p m s h t w s' can refl c rests) ∙ ap is_valid (sym ((run-other p m s t w s' can refl c left).marks k))
         );
-    out = λ c k being. search (arith, cases_Bool (has_cell ws c), tile-out c k, tile-left c k, keeps.tiles.out c k, was-being c);
-    dims = λ c k. search (arith, cases_Bool (has_cell ws c), tile-out c k, tile-left c k, keeps.tiles.dims c k);
-    arrays = λ tells c k. search (arith, cases_Bool (has_cell ws c), tile-out c k, tile-left c k, keeps.tiles.arrays tells c k, array-left c k);
+    out = λ c k being. search (arith, cases_Bool (has_cell ws c), out_each-out ws tiles once c k, out_each-left ws tiles once c k, keeps.tiles.out c k, was-being c);
+    dims = λ c k. search (arith, cases_Bool (has_cell ws c), out_each-out ws tiles once c k, out_each-left ws tiles once c k, keeps.tiles.dims c k);
+    arrays = λ tells c k. search (arith, cases_Bool (has_cell ws c), out_each-out ws tiles once c k, out_each-left ws tiles once c k, keeps.tiles.arrays tells c k, array-left c k);
   }
 
   pub keeps-run : (spare' : ℕ) → spare' + 1 ≡ spare → Keeps size faults mismatches held (with_event b (Run t w)) (has_happened rows (Run t w)) new spare'
-  keeps-run spare' left = keeps-event size faults mismatches held b rows tiles spare keeps (Run t w) new spare' can blocks-stay tiles-agree left
+  keeps-run spare' left = keeps-blocks_stay size faults mismatches held b rows tiles spare keeps (Run t w) can new spare' (λ c d. refl) blocks-stay tiles-agree left
 
   -- ---- the operands that are read
 
@@ -152,17 +131,12 @@ module _ {D : Type 0} {eq : Equations} (size faults mismatches : D → ℕ) (hel
 
     read-there : is_some (tile_at tiles worked n) ≡ true
     read-there =
-        keeps.tiles.there worked n (claimed-not_written p m s h t w run.claimed worked (read-among_cells p t w a has reads-old))
-        ∙ sym (ap (λ b. b || is_valid (mark s worked n)) (found-not_fresh p h.proper t w staffed a has reads-old))
-        ∙ list_all-has (λ c. has_cell (fresh_cells p t w) c || is_valid (mark s c n)) (cells_of p t w) worked run.present (read-among_cells p t w a has reads-old)
+        keeps.tiles.there worked n (claimed-not_written p m s h t w can.claimed worked (read-among_cells p t w a has reads-old))
+        ∙ read-valid p h.proper m s t w staffed can a has reads-old
 
     -- the tile that is kept of what the worker works on is the array there
     read-tile : IsTileOf held b worked (AtNode n) (kept_at tiles n worked)
-    read-tile = by_tile (tile_at tiles worked n) read-there (keeps.tiles.dims worked n) (λ tells. keeps.tiles.arrays tells worked n)
-      where
-        by_tile : (o : Option Array) → is_some o ≡ true → IfSome o (λ a. a.dims ≡ dims_of p worked) → (AllTell held b → IfSome o (λ a. a ≡ run_arrays b worked (AtNode n))) → IsTileOf held b worked (AtNode n) (unwrap_or o (record { dims = record { rows = 0; cols = 0 }; elements = [] }))
-        by_tile None there dims arrays = absurd (false≢true there)
-        by_tile (Some a) there dims arrays = record { dims = dims; array = arrays }
+    read-tile = (tile_there size faults mismatches held b rows tiles spare keeps worked n read-there).1
 
     read-share : IsShareIn held b w a (shared (kept_at tiles n worked))
     read-share = record {
@@ -199,35 +173,30 @@ module _ {D : Type 0} (size faults mismatches : D → ℕ) (held : D → Option 
   can : CanHappen b (Run t w)
   can = subst (λ (x : StandingBy eq D). CanHappen x (Run t w)) (sym same) can'
 
-  of : accesses ≡ (task_of rows.program t).accesses
-  of = of_task ∙ ap (λ (x : Program). (task_of x t).accesses) program
+  found : (P : Program → Node → List Access → Type 0) → P rows.program (node_of rows.machine w) (task_of rows.program t).accesses → P q at accesses
+  found P is = as_read P rows.program q (node_of rows.machine w) at t accesses program bound of_task is
 
   pub found-can_work : All (CanWorkOn q w) accesses
-  found-can_work =
-      subst (λ (x : Program). All (CanWorkOn x w) accesses) (sym program)
-      (subst (All (CanWorkOn rows.program w)) (sym of) (run-can_work size faults mismatches held b rows tiles trace.spare keeps t w can))
+  found-can_work = found (λ x j l. All (CanWorkOn x w) l) (run-can_work size faults mismatches held b rows tiles trace.spare keeps t w can)
 
   pub found-few : length accesses ≤ 5
-  found-few = subst (λ (l : List Access). length l ≤ 5) (sym of) (few-operands rows.program keeps.sound.run.proper t)
+  found-few = found (λ x j l. length l ≤ 5) (few-operands rows.program keeps.sound.run.proper t)
 
   module _ (now : List Places) (kept : now ≡ tiles) where
     pub found-can_give : All (CanGive q w now at) accesses
     found-can_give =
-        subst (λ (x : Program). All (CanGive x w now at) accesses) (sym program)
-        (subst (λ (ts : List Places). All (CanGive rows.program w ts at) accesses) (sym kept)
-        (subst (λ (j : Node). All (CanGive rows.program w tiles j) accesses) (sym bound)
-        (subst (All (CanGive rows.program w tiles (node_of rows.machine w))) (sym of) (run-can_give size faults mismatches held b rows tiles trace.spare keeps t w can))))
+        subst (λ (ts : List Places). All (CanGive q w ts at) accesses) (sym kept)
+        (found (λ x j l. All (CanGive x w tiles j) l) (run-can_give size faults mismatches held b rows tiles trace.spare keeps t w can))
 
     pub found-shares : (before slots : List Slot) → before ≡ [] → slots ≡ before ++ shares_at q w now at accesses → AreSharesFor held b' t w slots
     found-shares before slots none made =
         subst (λ (x : StandingBy eq D). AreSharesFor held x t w slots) same
-        (subst (AreSharesFor held b t w) (sym (made ∙ ap (λ (l : List Slot). l ++ shares_at q w now at accesses) none ∙ ap (λ (x : Program). shares_at x w now at accesses) program ∙ ap (λ (ts : List Places). shares_at rows.program w ts at accesses) kept
-        ∙ ap (λ (j : Node). shares_at rows.program w tiles j accesses) bound ∙ ap (shares_at rows.program w tiles (node_of rows.machine w)) of))
-        (run-shares size faults mismatches held b rows tiles trace.spare keeps t w can))
+        (subst (AreSharesFor held b t w) (sym (made ∙ ap (λ (l : List Slot). l ++ shares_at q w now at accesses) none ∙ ap (λ (ts : List Places). shares_at q w ts at accesses) kept))
+        (found (λ x j l. AreSharesFor held b t w (shares_at x w tiles j l)) (run-shares size faults mismatches held b rows tiles trace.spare keeps t w can)))
 
   module _ (written : List Cell) (are : written ≡ written_among q w accesses) where
     all-written : written ≡ written_cells rows.program t w
-    all-written = are ∙ ap (λ (x : Program). written_among x w accesses) program ∙ ap (written_among rows.program w) of
+    all-written = are ∙ found (λ x j l. written_among x w l ≡ written_cells rows.program t w) refl
 
     pub found-cells : All (λ c. c.0 < length tiles) written
     found-cells = subst (All (λ c. c.0 < length tiles)) (sym all-written) (run-cells size faults mismatches held b rows tiles trace.spare keeps t w can)

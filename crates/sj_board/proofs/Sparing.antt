@@ -2,7 +2,7 @@
 use Rattle.sj_board.proofs.Words.{a_transfer, after, ap, Array, Arrays, arrays_after, arrived, AtNode, CanHappen, Cell, cell_state, CellState, Claim, cond, dims_of, Drop, End, Equations, Event, EventsSpareUsed, false, fresh_cells, has_cell, has_copy, held_at, inl, inr, Invalid, is_home, is_leaving, is_pinned, is_read, is_used, is_valid, IsSound, IsTransferTo, Keeps, List, Machine, mark, mark_in, May, Move, Moved, mover_of, nat_eq, Node, node_of, on_disk, OnDisk, Option, pins, Place, Program, refl, result_in, Rows, Run, run_arrays, same_cell, same_place, Some, Spares, SparesUsed, StandingBy, State, state, stored, subst, sym, transfer, true, Valid, with_event, with_mark, with_row, Worker, workers_at, workers_of, written_cells, zeros, ℕ, ◌&&◌, ◌||◌, ◌∙◌, ◌≡◌}
 use Rattle.std.proofs.lemmas.{Bool.and_parts, Bool.cases_Bool, Bool.false≢true, Bool.not-true, Bool.Decides.Decides-eqb}
 use Rattle.sj_base.proofs.SameIds.{same_cell-is}
-use Rattle.sj_core.proofs.{Changing.copies-left, Claiming.claim-copy, Ending.end-alone, Eviction.evicted-after, Finding.second_fails, Placing.mark-cases, Placing.on_disk-same, Placing.row-cases, Placing.same_place-is, Readiness.filter-Contains, Readiness.list_any-some, Replicas.coming_by-is, Running.run-other, Running.run-stale, States.arrays_of-more, States.state_of-more}
+use Rattle.sj_core.proofs.{Changing.copies-left, Changing.left_alone, Claiming.claim-copy, Ending.end-alone, Eviction.evicted-after, Finding.second_fails, Placing.mark-cases, Placing.on_disk-same, Placing.row-cases, Placing.same_place-is, Readiness.filter-Contains, Readiness.list_any-some, Replicas.coming_by-is, Running.run-other, Running.run-stale, States.arrays_of-more, States.state_of-more}
 use Rattle.sj_board.proofs.Keeping.{sound_state}
 
 module _ (p : Program) (m : Machine) (s : State) (h : IsSound p m s) where
@@ -62,16 +62,11 @@ module _ (p : Program) (m : Machine) (s : State) (h : IsSound p m s) where
 
     pub Step-spares : (e : Event) → May p m s e → SparesUsed p m s A e (after p m s e) (arrays_after eq p m A e)
     Step-spares (Claim t w) may c q used copy spared = (claim-copy p m s h t w (after p m s (Claim t w)) may (evicted-after p m s t w) c q ∙ copy, refl)
-    Step-spares (Move x from to) may c q used copy spared = (moving-copy q copy, refl)
-      where
-        moving-copy : (k : Place) → has_copy p m s c k ≡ true → has_copy p m (after p m s (Move x from to)) c k ≡ true
-        moving-copy (AtNode n) there = there
-        moving-copy (OnDisk d) there = there
-    Step-spares (Moved x from to) may c q used copy spared = (moved-copy q (arrived-copy x to c q copy), moved-array x from to c q may copy)
-      where
-        moved-copy : (k : Place) → has_copy p m (with_row s x (arrived to (cell_state s x))) c k ≡ true → has_copy p m (after p m s (Moved x from to)) c k ≡ true
-        moved-copy (AtNode n) there = there
-        moved-copy (OnDisk d) there = there
+    Step-spares (Move x from to) may c q used copy spared = (copies-left p m s (after p m s (Move x from to)) c (left_alone s (after p m s (Move x from to)) c refl) q ∙ copy, refl)
+    Step-spares (Moved x from to) may c q used copy spared = (
+      copies-left p m (with_row s x (arrived to (cell_state s x))) (after p m s (Moved x from to)) c (left_alone (with_row s x (arrived to (cell_state s x))) (after p m s (Moved x from to)) c refl) q ∙ arrived-copy x to c q copy,
+      moved-array x from to c q may copy,
+    )
     Step-spares (Drop x n) may c q used copy spared = (
       marked-copy x n Invalid c q copy (λ e at. absurd (left-unused x n may.leaving (not-true (is_read s x (AtNode n)) may.unread) (ap (λ (y : Cell). is_used m s y (AtNode n)) (sym e) ∙ ap (is_used m s c) (sym at) ∙ used))),
       refl,

@@ -1,5 +1,5 @@
 -- Each event of a board spares the copies that are used.
-use Rattle.sj_board.proofs.Words.{a_transfer, CanHappen, Equations, Err, Event, HasMoved, IfSome, IsSound, IsSoundRun, List, Moved, None, Ok, OnOk, Option, refl, Result, Some, Spares, SparesMoved, StandingBy, state, subst, sym, Transfer, transfer, with_event, Worker, ℕ, ◌≡◌}
+use Rattle.sj_board.proofs.Words.{CanHappen, Equations, Err, Event, HasMoved, IfSome, IsSound, IsSoundRun, List, Moved, None, Ok, OnOk, Option, refl, Result, Some, Spares, SparesMoved, StandingBy, state, subst, sym, Transfer, transfer, with_event, Worker, ℕ, ◌≡◌}
 use Rattle.sj_core.proofs.States.{one-mover}
 use Rattle.sj_board.proofs.Sparing.{spares-event}
 
@@ -21,14 +21,12 @@ module _ {D : Type 0} {eq : Equations} (size faults mismatches : D → ℕ) (hel
   tried-spares (Err x) e can b' is = is
 
   -- the end of a worker's transfer
+  pub moved-can : (w : Worker) (x : Transfer) → transfer (state b) w ≡ Some x → CanHappen b (Moved x.cell x.from x.to)
+  moved-can w x under_way = subst (λ (v : Worker). transfer (state b) v ≡ Some x) (one-mover b.program b.machine (state b) x.cell x.from x.to w run.coherent under_way) under_way
+
   pub moved-spares : (w : Worker) (b' : StandingBy eq D) → HasMoved w b b' → SparesMoved w b b'
   moved-spares w b' moved = by_transfer (transfer (state b) w) refl moved
     where
-      can : (x : Transfer) → transfer (state b) w ≡ Some x → CanHappen b (Moved x.cell x.from x.to)
-      can x under_way =
-          let s = state b in
-          subst (λ (v : Worker). transfer s v ≡ Some (a_transfer x.cell x.from x.to)) (one-mover b.program b.machine s x.cell x.from x.to w run.coherent under_way) under_way
-
       by_transfer : (o : Option Transfer) → transfer (state b) w ≡ o → IfSome o (λ x. b' ≡ with_event b (Moved x.cell x.from x.to)) → IfSome o (λ x. Spares b (Moved x.cell x.from x.to) b')
       by_transfer None e is = tt
-      by_transfer (Some x) e is = event-spares (Moved x.cell x.from x.to) (can x e) b' is
+      by_transfer (Some x) e is = event-spares (Moved x.cell x.from x.to) (moved-can w x e) b' is

@@ -1,7 +1,7 @@
 -- What is said of ready tasks and of hands, where one task's progress changes.
-use Rattle.sj_board.proofs.Words.{[], ap, Contains, CountsDone, Dependencies, done_in, done_tasks, false, inl, inr, is_done, IsComplete, IsToBeTaken, length, List, Program, Progress, progress, Ready, slice_index_or, State, subst, sym, Task, Waiting, ℕ, ◌<◌, ◌↔◌, ◌∙◌, ◌≡◌, ◌≢◌}
+use Rattle.sj_board.proofs.Words.{[], ap, Contains, CountsDone, Dependencies, done_tasks, false, is_begun, is_done, IsComplete, IsToBeTaken, length, List, Program, Progress, progress, Ready, slice_index_or, State, subst, sym, Task, true, Waiting, ℕ, ◌<◌, ◌↔◌, ◌∙◌, ◌≡◌, ◌≢◌}
 use Rattle.std.proofs.lemmas.{Bool.false≢true, List.Sums.AllPass-from_list_all}
-use Rattle.sj_core.proofs.{Advancing.Advances, Advancing.same_task, Readiness.done_tasks-done, Readiness.done_tasks-has}
+use Rattle.sj_core.proofs.{Advancing.Advances, Advancing.done-kept, Readiness.done_tasks-done, Readiness.done_tasks-has}
 
 -- a task is ready where the same tasks are done
 pub ready-same : (p : Program) (done done' : List ℕ) (u : ℕ) → ((n : ℕ) → Contains done n ↔ Contains done' n) → Ready p done u → Ready p done' u
@@ -22,6 +22,10 @@ ready-counted p s deps counts u = (
 pub not-complete : (s : State) (t : Task) → t.0 < length s.tasks → is_done (progress s t) ≡ false → IsComplete s → ⊥
 not-complete s t inside undone complete = false≢true (sym undone ∙ AllPass-from_list_all is_done s.tasks complete t.0 Waiting inside)
 
+-- a task that was begun is another than one that waits
+pub begun-other : (s : State) (t u : Task) (x : Progress) → progress s t ≡ x → is_begun x ≡ true → progress s u ≡ Waiting → u ≢ t
+begun-other s t u x is begun waits e = false≢true (sym (ap is_begun waits) ∙ ap (λ (k : Task). is_begun (progress s k)) e ∙ ap is_begun is ∙ begun)
+
 -- ---- no task goes on
 
 abbrev pub tasks_alone : List Progress → State
@@ -40,35 +44,32 @@ module _ (p : Program) (s s' : State) (same : s'.tasks ≡ s.tasks) where
     ready = subst (λ (ns : List ℕ). Ready p ns t.0) (sym done-same) is.ready;
   }
 
-  pub taken-back : (t : Task) → IsToBeTaken p s' t → IsToBeTaken p s t
-  taken-back t is = record {
-    waiting = sym (progress-same t) ∙ is.waiting;
-    ready = subst (λ (ns : List ℕ). Ready p ns t.0) done-same is.ready;
-  }
-
   pub counts-same : (deps : Dependencies) → CountsDone p s deps → CountsDone p s' deps
   counts-same deps counts = record {
     program = counts.program;
     done = subst (λ (ns : List ℕ). (n : ℕ) → Contains deps.done n ↔ Contains ns n) (sym done-same) counts.done;
   }
 
+pub taken-back : (p : Program) (s s' : State) (same : s'.tasks ≡ s.tasks) (t : Task) → IsToBeTaken p s' t → IsToBeTaken p s t
+taken-back p s s' same = taken-same p s' s (sym same)
+
+-- ---- a task goes on
+
+-- what is done stays done, where the task that goes on wasn't
+pub done_tasks-kept : (s s' : State) (t : Task) (old new : Progress) → Advances s s' t old new → is_done old ≡ false → (n : ℕ) → Contains (done_tasks s) n → Contains (done_tasks s') n
+done_tasks-kept s s' t old new step undone n c =
+    let u : Task = record { 0 = n } in
+    done_tasks-has s' u (done-kept s s' t u old new step undone (done_tasks-done s u c))
+
+-- the step read from its end
+turned : (s s' : State) (t : Task) (old new : Progress) → Advances s s' t old new → Advances s' s t new old
+turned s s' t old new step = record { was = step.is; is = step.was; others = λ u d. sym (step.others u d) }
+
 -- ---- a task goes on that isn't done before or after
 
 module _ (p : Program) (s s' : State) (t : Task) (old new : Progress) (step : Advances s s' t old new) (undone : is_done old ≡ false) (still : is_done new ≡ false) where
-  done-alike : (u : Task) → done_in s' u ≡ done_in s u
-  done-alike u =
-      elim (same_task u t) as (λ _. done_in s' u ≡ done_in s u) [
-        | inl e ↦ ap (done_in s') e ∙ ap is_done step.is ∙ still ∙ sym undone ∙ sym (ap is_done step.was) ∙ sym (ap (done_in s) e)
-        | inr d ↦ ap is_done (step.others u d)
-      ]
-
-  pub same-done : (n : ℕ) → Contains (done_tasks s) n ↔ Contains (done_tasks s') n
-  same-done n =
-      let u : Task = record { 0 = n } in
-      (λ c. done_tasks-has s' u (done-alike u ∙ done_tasks-done s u c), λ c. done_tasks-has s u (sym (done-alike u) ∙ done_tasks-done s' u c))
-
-  pub back-done : (n : ℕ) → Contains (done_tasks s') n ↔ Contains (done_tasks s) n
-  back-done n = ((same-done n).1, (same-done n).0)
+  same-done : (n : ℕ) → Contains (done_tasks s) n ↔ Contains (done_tasks s') n
+  same-done n = (done_tasks-kept s s' t old new step undone n, done_tasks-kept s' s t new old (turned s s' t old new step) still n)
 
   -- the other tasks are to be taken just where they were
   pub taken-still : (u : Task) → u ≢ t → IsToBeTaken p s u → IsToBeTaken p s' u
@@ -77,14 +78,11 @@ module _ (p : Program) (s s' : State) (t : Task) (old new : Progress) (step : Ad
     ready = ready-same p (done_tasks s) (done_tasks s') u.0 same-done is.ready;
   }
 
-  pub taken-before : (u : Task) → u ≢ t → IsToBeTaken p s' u → IsToBeTaken p s u
-  taken-before u d is = record {
-    waiting = sym (step.others u d) ∙ is.waiting;
-    ready = ready-same p (done_tasks s') (done_tasks s) u.0 back-done is.ready;
-  }
-
   pub counts-still : (deps : Dependencies) → CountsDone p s deps → CountsDone p s' deps
   counts-still deps counts = record {
     program = counts.program;
     done = λ n. (λ c. (same-done n).0 ((counts.done n).0 c), λ c. (counts.done n).1 ((same-done n).1 c));
   }
+
+pub taken-before : (p : Program) (s s' : State) (t : Task) (old new : Progress) (step : Advances s s' t old new) (undone : is_done old ≡ false) (still : is_done new ≡ false) (u : Task) → u ≢ t → IsToBeTaken p s' u → IsToBeTaken p s u
+taken-before p s s' t old new step undone still = taken-still p s' s t new old (turned s s' t old new step) still undone

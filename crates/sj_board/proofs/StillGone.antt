@@ -1,15 +1,10 @@
 -- Victims that are gone stay so until their worker claims again.
-use Rattle.sj_board.proofs.Words.{[], a_transfer, after, ap, AreGone, arith, arrived, AtNode, Bool, CanHappen, Cell, cell_state, CellState, Claim, DiskState, Drop, End, Equations, Err, Event, false, get_or, HasMoved, IfSome, inl, inr, Invalid, is_gone, is_leaving_by, IsSomeAnd, IsSound, IsSoundRun, KnowsGone, length, List, list_all, Machine, Mark, mark, mark_in, May, Move, Moved, Node, node_of, None, not, Ok, OnDisk, OnErr, OnOk, Option, Place, Program, refl, Result, reverse, Run, set, Some, StandingBy, starting, State, state, stored, subst, sym, take, Task, Transfer, transfer, true, Valid, victims_of, with_event, with_mark, with_row, Worker, WorkerState, ℕ, ◌&&◌, ◌<◌, ◌∙◌, ◌∷◌, ◌≡◌, ◌≢◌}
+use Rattle.sj_board.proofs.Words.{after, ap, AreGone, arith, arrived, AtNode, CanHappen, Cell, cell_state, CellState, Claim, DiskState, Drop, End, Equations, Event, false, get_or, inl, inr, Invalid, is_gone, is_leaving_by, IsSound, IsSoundRun, KnowsGone, length, List, list_all, Machine, Mark, mark, mark_in, May, Move, Moved, Node, node_of, not, OnDisk, Option, Place, Program, refl, reverse, Run, set, StandingBy, starting, State, state, stored, subst, sym, take, Task, true, Valid, victims_of, with_event, with_mark, with_row, Worker, WorkerState, ℕ, ◌<◌, ◌∙◌, ◌≡◌, ◌≢◌}
 use Rattle.std.specs.Prelude.{replicate}
-use Rattle.std.proofs.lemmas.{Bool.cases_lt, Bool.false_from_ne_true, Bool.false≢true, Bool.not-true, List.get_or-replicate, List.get_or-set_other, List.get_or-set_same, List.get_or_default, List.get_or_past, List.length-replicate, List.length-set}
-use Rattle.sj_core.proofs.{Claiming.claim-leaving, Claiming.Claims-other_worker, Ending.end-change, Eviction.evicted-after, Placing.mark-cases, Placing.row-cases, Placing.victims-same, Reading.workers_differ, Running.run-leaving, Running.run-worker, States.one-mover, States.state_of-more}
-use Rattle.sj_base.proofs.Bools.{and_rest}
-use Rattle.sj_machine.proofs.GoneVictims.{and_first}
+use Rattle.std.proofs.lemmas.{Bool.cases_lt, Bool.false_from_ne_true, Bool.false≢true, Bool.not-true, List.get_or-set_other, List.get_or-set_same, List.get_or_default, List.get_or_past, List.length-replicate, List.length-set, List.Elements.All-weaker, List.Sums.AllPass-from_list_all, List.Sums.list_all-from_AllPass}
+use Rattle.sj_core.proofs.{Claiming.claim-leaving, Claiming.Claims-other_worker, Ending.end-change, Eviction.evicted-after, Placing.mark-cases, Placing.row-cases, Placing.victims-same, Reading.workers_differ, Running.run-leaving, Running.run-worker, States.state_of-more}
+use Rattle.sj_base.proofs.Lists.{get_or-replicate_same}
 use Rattle.sj_board.proofs.SparingBoards.{sound as run-sound}
-
-list_all-weaker : (f g : Cell → Bool) → ((c : Cell) → f c ≡ true → g c ≡ true) → (xs : List Cell) → list_all f xs ≡ true → list_all g xs ≡ true
-list_all-weaker f g more [] h = refl
-list_all-weaker f g more (x ∷ xs) h = ap (λ b. b && list_all g xs) (more x (and_first (f x) (list_all f xs) h)) ∙ list_all-weaker f g more xs (and_rest (f x) (list_all f xs) h)
 
 -- ---- events
 
@@ -21,7 +16,7 @@ pub record Stays (v : Worker) (s s' : State) : Type 0 where
 gone-stays : (m : Machine) (v : Worker) (s s' : State) → Stays v s s' → (count : ℕ) → AreGone m s v count → AreGone m s' v count
 gone-stays m v s s' stays count gone =
     ap (λ (cs : List Cell). list_all (is_gone m s' v) (take count (reverse cs))) stays.victims
-    ∙ list_all-weaker (is_gone m s v) (is_gone m s' v) (λ c was. ap not (false_from_ne_true (is_leaving_by v (mark s' c (node_of m v))) (λ leaving. false≢true (sym (not-true (is_leaving_by v (mark s c (node_of m v))) was) ∙ stays.leaves c (node_of m v) leaving)))) (take count (reverse (victims_of s v))) gone
+    ∙ list_all-from_AllPass (is_gone m s' v) (take count (reverse (victims_of s v))) (All-weaker (λ (c : Cell). is_gone m s v c ≡ true) (λ (c : Cell). is_gone m s' v c ≡ true) (λ c was. ap not (false_from_ne_true (is_leaving_by v (mark s' c (node_of m v))) (λ leaving. false≢true (sym (not-true (is_leaving_by v (mark s c (node_of m v))) was) ∙ stays.leaves c (node_of m v) leaving)))) (take count (reverse (victims_of s v))) (AllPass-from_list_all (is_gone m s v) (take count (reverse (victims_of s v))) gone))
 
 -- the event isn't a claim of the worker
 abbrev pub NotClaimedBy : Event → Worker → Type 0
@@ -41,11 +36,7 @@ module _ (p : Program) (m : Machine) (s : State) (h : IsSound p m s) (v : Worker
     victims = ap (λ (row : WorkerState). row.victims) (Claims-other_worker p m s t w v s' step (leaves ∙ (evicted-after p m s t w)) other);
     leaves = λ c n leaving. elim (claim-leaving p m s h t w s' step (leaves ∙ (evicted-after p m s t w)) v c n leaving) [ inl (at, same, evicted) ↦ absurd (other same) | inr (away, was) ↦ was ];
   }
-  Step-stays (Move x from (AtNode k)) s' step leaves other = record {
-    victims = ap (λ (z : State). victims_of z v) leaves ∙ victims-same s _ _ v;
-    leaves = λ c n leaving. sym (ap (λ (z : State). is_leaving_by v (mark z c n)) leaves) ∙ leaving;
-  }
-  Step-stays (Move x from (OnDisk d)) s' step leaves other = record {
+  Step-stays (Move x from to) s' step leaves other = record {
     victims = ap (λ (z : State). victims_of z v) leaves ∙ victims-same s _ _ v;
     leaves = λ c n leaving. sym (ap (λ (z : State). is_leaving_by v (mark z c n)) leaves) ∙ leaving;
   }
@@ -85,7 +76,7 @@ Knows run gone = KnowsGone run.program.workers run.machine (state run) gone
 pub knows-none : {D : Type 0} (eq : Equations) (p : Program) (m : Machine) (disks : DiskState D) (run : StandingBy eq D) → run ≡ starting eq p m disks → (n : ℕ) → n ≡ p.workers → (gone : List ℕ) → gone ≡ replicate n 0 → Knows run gone
 knows-none eq p m disks run starts n many gone is = subst (λ (ks : List ℕ). Knows run ks) (sym is) (record {
   every_worker = length-replicate {A = ℕ} n 0 ∙ many ∙ ap (λ (r : StandingBy _ _). r.program.workers) (sym starts);
-  gone = λ w. ap (λ (k : ℕ). list_all (is_gone run.machine (state run) w) (take k (reverse (victims_of (state run) w)))) (elim (cases_lt w.0 n) [ inl inside ↦ get_or-replicate n w.0 0 0 inside | inr past ↦ get_or_past (replicate n 0) w.0 0 (omega (arith, past, length-replicate {A = ℕ} n 0)) ]);
+  gone = λ w. ap (λ (k : ℕ). list_all (is_gone run.machine (state run) w) (take k (reverse (victims_of (state run) w)))) (get_or-replicate_same n w.0 0);
 })
 
 -- what is read of the count of a worker
@@ -97,14 +88,10 @@ pub knows-noted : {D : Type 0} {eq : Equations} (run run' : StandingBy eq D) →
 knows-noted run run' program w stays machine gone knows count first gone' is = subst (λ (ks : List ℕ). Knows run' ks) (sym is) (record {
   every_worker = length-set gone w.0 count ∙ knows.every_worker ∙ ap (λ (p : Program). p.workers) (sym program);
   gone = λ v. elim (workers_differ v w) [
-    | inl e ↦ elim (cases_lt w.0 (length gone)) [
-      | inl inside ↦
-          subst (λ (x : Worker). AreGone run'.machine (state run') x (get_or (set gone w.0 count) x.0 0)) (sym e)
-          (subst (λ (k : ℕ). AreGone run'.machine (state run') w k) (sym (get_or-set_same gone w.0 count 0 inside)) first)
-      | inr past ↦
-          subst (λ (x : Worker). AreGone run'.machine (state run') x (get_or (set gone w.0 count) x.0 0)) (sym e)
-          (subst (λ (k : ℕ). AreGone run'.machine (state run') w k) (sym (get_or_past (set gone w.0 count) w.0 0 (omega (arith, past, length-set gone w.0 count)))) refl)
-    ]
+    | inl e ↦ subst (λ (x : Worker). AreGone run'.machine (state run') x (get_or (set gone w.0 count) x.0 0)) (sym e) (elim (cases_lt w.0 (length gone)) [
+      | inl inside ↦ subst (λ (k : ℕ). AreGone run'.machine (state run') w k) (sym (get_or-set_same gone w.0 count 0 inside)) first
+      | inr past ↦ subst (λ (k : ℕ). AreGone run'.machine (state run') w k) (sym (get_or_past (set gone w.0 count) w.0 0 (omega (arith, past, length-set gone w.0 count)))) refl
+    ])
     | inr d ↦
         subst (λ (k : ℕ). AreGone run'.machine (state run') v k) (sym (get_or-set_other gone w.0 v.0 count 0 (λ e. d (ap (λ (i : ℕ). let x : Worker = record { 0 = i } in x) e))))
         (subst (λ (n : Machine). AreGone n (state run') v (get_or gone v.0 0)) (sym machine) (gone-stays run.machine v (state run) (state run') (stays v d) (get_or gone v.0 0) (knows.gone v)))
@@ -122,23 +109,6 @@ module _ {D : Type 0} {eq : Equations} (size faults mismatches : D → ℕ) (hel
       every_worker = knows.every_worker;
       gone = λ v. gone-stays run.machine v (state run) (state (with_event run e)) (event-stays e can v (other v)) (get_or gone v.0 0) (knows.gone v);
     })
-
-    pub knows-tried : {A E : Type 0} (result : Result A E) (e : Event) → CanHappen run e → ((v : Worker) → NotClaimedBy e v) → (run' : StandingBy eq D) → OnOk result (run' ≡ with_event run e) → OnErr result (run' ≡ run) → Knows run' gone
-    knows-tried (Ok a) e can other run' ok err = knows-event e can other run' ok
-    knows-tried (Err x) e can other run' ok err = subst (λ (r : StandingBy eq D). Knows r gone) (sym err) knows
-
-    -- the end of a worker's move
-    pub knows-moved : (w : Worker) (run' : StandingBy eq D) (Q : Transfer → Type 0) → IsSomeAnd (transfer (state run) w) Q → HasMoved w run run' → Knows run' gone
-    knows-moved w run' Q some moved = by_move (transfer (state run) w) refl some moved
-      where
-        can : (x : Transfer) → transfer (state run) w ≡ Some x → CanHappen run (Moved x.cell x.from x.to)
-        can x under_way =
-            let s = state run in
-            subst (λ (v : Worker). transfer s v ≡ Some (a_transfer x.cell x.from x.to)) (one-mover run.program run.machine s x.cell x.from x.to w sound.coherent under_way) under_way
-
-        by_move : (o : Option Transfer) → transfer (state run) w ≡ o → IsSomeAnd o Q → IfSome o (λ x. run' ≡ with_event run (Moved x.cell x.from x.to)) → Knows run' gone
-        by_move None e none is = absurd none
-        by_move (Some x) e some is = knows-event (Moved x.cell x.from x.to) (can x e) (λ v. tt) run' is
 
     -- a claim: none of its victims is known to be gone
     pub knows-claimed : (t : Task) (w : Worker) → CanHappen run (Claim t w) → (run' : StandingBy eq D) → run' ≡ with_event run (Claim t w) → (gone' : List ℕ) → gone' ≡ set gone w.0 0 → Knows run' gone'

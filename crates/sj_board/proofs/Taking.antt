@@ -1,21 +1,14 @@
 -- A board stays sound where a worker claims the task that it was given.
-use Rattle.sj_board.proofs.Words.{after, AnotherHasTask, ap, arith, BoardBy, CanHappen, Claim, Claimed, CountsDone, Dependencies, Equations, false, footprint, Hand, hand_in, hand_of, HandsAgree, has_claimed, inl, inr, is_done, is_some, is_task_of, IsComplete, IsSoundRun, IsToBeTaken, IsTrue, IsWhy, IsWorking, KeepsBoard, length, length-set, List, Machine, MayAsk, MayClaim, node_of, node_size, None, not, NotNow, Option, Prio, Program, progress, refl, slice_set, Some, StandingBy, StandsOnce, StandsReleased, State, state, StopsAtTheEnd, subst, sym, Task, times_given, times_pooled, true, Waiting, Why, with_event, Worker, ℕ, ◌+◌, ◌<◌, ◌∙◌, ◌≡◌, ◌≢◌, ◌≤◌, ◌⊎◌}
+use Rattle.sj_board.proofs.Words.{after, AnotherHasTask, ap, arith, BoardBy, Bool, CanHappen, Claim, Claimed, cond, CountsDone, Dependencies, Equations, false, footprint, Hand, hand_in, hand_of, HandsAgree, has_claimed, inl, inr, is_done, is_some, is_task_of, IsComplete, IsSoundRun, IsToBeTaken, IsTrue, IsWhy, IsWorking, KeepsBoard, length, length-set, List, Machine, MayAsk, MayClaim, node_of, node_size, None, not, NotNow, Option, Prio, Program, progress, refl, slice_set, Some, StandingBy, StandsOnce, StandsReleased, State, state, StopsAtTheEnd, subst, sym, Task, times_given, times_pooled, true, Waiting, Why, with_event, Worker, ℕ, ◌+◌, ◌<◌, ◌∙◌, ◌≡◌, ◌≢◌, ◌≤◌, ◌⊎◌}
 use Rattle.std.proofs.Common.{Err}
-use Rattle.std.proofs.lemmas.{Bool.cases_eq, Bool.false_from_ne_true, Bool.false≢true, List.Elements.All-from_get_or, List.Sums.list_all-from_AllPass, Option.none-some}
+use Rattle.std.proofs.lemmas.{Bool.false_from_ne_true, Bool.false≢true, Bool.ne_eqb, List.Elements.All-from_get_or, List.Sums.list_all-from_AllPass, Option.none-some}
 use Rattle.sj_core.proofs.{Advancing.Advances, Advancing.claimed-is_mine, Advancing.Claims-advances, Advancing.same_task, Advancing.task_of-worker, Dependencies.Proper-dependencies, Eviction.evicted-after, Separation.worker-inside, States.state_of-more}
-use Rattle.sj_board.proofs.{Giving.back-taken, Giving.once-given, Hands.given-set, Hands.hand-set, Hands.hand-set_apart, Hands.inside-hands, LastHeaders.none-caused, Policies.by-policy, Pooling.once, ReleasedTasks.counts-both, ReleasedTasks.released-same, Stepping.counts-still, Stepping.not-complete, Stepping.taken-before, Stepping.taken-still}
+use Rattle.sj_board.proofs.{Giving.back-taken, Giving.once-given, Giving.once-own, Hands.given-set, Hands.hand-set, Hands.hand-set_apart, Hands.inside-hands, LastHeaders.none-caused, Policies.by-policy, Pooling.once, ReleasedTasks.counts-both, ReleasedTasks.released-same, Stepping.counts-still, Stepping.not-complete, Stepping.taken-before, Stepping.taken-still}
 use Rattle.sj_machine.proofs.Refusing.{found-waits}
 use Rattle.sj_board.specs.declared.refusal.ClaimRefusal.TheVariants.{OutOfMemory}
 
--- a task is given once where the number is its own
-once-own : (t : Task) → once t (Some t) ≡ 1
-once-own t = grind arith
-
 once-other : (u t : Task) → u ≢ t → once u (Some t) ≡ 0
-once-other u t d = elim (cases_eq t.0 u.0) as (λ _. once u (Some t) ≡ 0) [
-  | inl e ↦ absurd (d (ap (λ (n : ℕ). let k : Task = record { 0 = n } in k) (sym e)))
-  | inr ne ↦ grind arith
-]
+once-other u t d = ap (λ (b : Bool). cond {A = ℕ} b 1 0) (ne_eqb t.0 u.0 (λ e. d (ap (λ (n : ℕ). let k : Task = record { 0 = n } in k) (sym e))))
 
 module _ {D : Type 0} {eq : Equations} (size faults mismatches : D → ℕ) (held : D → Option (List ℕ)) (b : BoardBy eq D) (deps : Dependencies) (footprints : List ℕ) (keeps : KeepsBoard faults mismatches held b deps footprints) (sound : IsSoundRun size faults mismatches held b.run) (w : Worker) (works : IsWorking b w) (t : Task) (may : MayAsk b w t) (idle : (hand_of b w).task ≡ None) (none : b.fault ≡ None) where
   abbrev p : Program
@@ -30,16 +23,11 @@ module _ {D : Type 0} {eq : Equations} (size faults mismatches : D → ℕ) (hel
   given : m.policy ≡ Prio → (hand_of b w).given ≡ Some t
   given prio = (may.given prio).given
 
-  taken : IsToBeTaken p s t
-  taken = elim (by-policy m.policy) as (λ _. IsToBeTaken p s t) [
-    | inl prio ↦ back-taken faults mismatches held b deps footprints keeps w works.known prio t (given prio)
-    | inr other ↦ (may.outside other).0
-  ]
-
-  fitting : footprint p t ≤ node_size m (node_of m w)
-  fitting = elim (by-policy m.policy) as (λ _. footprint p t ≤ node_size m (node_of m w)) [
-    | inl prio ↦ keeps.inside.pool_fits.fits w t (given prio)
-    | inr other ↦ (may.outside other).1
+  -- it is ready, waits, and fits the worker's node
+  taken : IsToBeTaken p s t × (footprint p t ≤ node_size m (node_of m w))
+  taken = elim (by-policy m.policy) as (λ _. IsToBeTaken p s t × (footprint p t ≤ node_size m (node_of m w))) [
+    | inl prio ↦ (back-taken faults mismatches held b deps footprints keeps w works.known prio t (given prio), keeps.inside.pool_fits.fits w t (given prio))
+    | inr other ↦ may.outside other
   ]
 
   has-none : (u : Task) → is_task_of w (progress s u) ≡ false
@@ -48,10 +36,10 @@ module _ {D : Type 0} {eq : Equations} (size faults mismatches : D → ℕ) (hel
   pub may-claim : MayClaim p m s t w
   may-claim = record {
     worker = works.known;
-    waiting = taken.waiting;
-    ready = taken.ready;
+    waiting = taken.0.waiting;
+    ready = taken.0.ready;
     idle = list_all-from_AllPass (λ x. not (is_task_of w x)) s.tasks (All-from_get_or (λ x. not (is_task_of w x) ≡ true) s.tasks Waiting (λ k within. ap not (has-none (record { 0 = k }))));
-    fits = fitting;
+    fits = taken.1;
   }
 
   abbrev claiming : Hand
@@ -68,7 +56,7 @@ module _ {D : Type 0} {eq : Equations} (size faults mismatches : D → ℕ) (hel
     step = subst (λ (z : State). Advances s z t Waiting (Claimed w)) (sym (state_of-more p m b.run.trace (Claim t w))) (Claims-advances p m s t w (after p m s (Claim t w)) sound.coherent.state.rows can (evicted-after p m s t w))
 
     waited : (v : Worker) (u : Task) → is_task_of v (progress s u) ≡ true → u ≢ t
-    waited v u has e = false≢true (sym (ap (is_task_of v) taken.waiting) ∙ ap (λ (k : Task). is_task_of v (progress s k)) (sym e) ∙ has)
+    waited v u has e = false≢true (sym (ap (is_task_of v) taken.0.waiting) ∙ ap (λ (k : Task). is_task_of v (progress s k)) (sym e) ∙ has)
 
     claimed-hands : HandsAgree p s' (has_claimed b t w).hands b.fault
     claimed-hands = record {
@@ -88,7 +76,7 @@ module _ {D : Type 0} {eq : Equations} (size faults mismatches : D → ℕ) (hel
     }
 
     unfinished : IsComplete s ⊎ IsTrue (is_some b.fault) → ⊥
-    unfinished (inl complete) = not-complete s t (subst (λ (n : ℕ). t.0 < n) (sym sound.coherent.state.rows.tasks) taken.ready.task) (ap is_done taken.waiting) complete
+    unfinished (inl complete) = not-complete s t (subst (λ (n : ℕ). t.0 < n) (sym sound.coherent.state.rows.tasks) taken.0.ready.task) (ap is_done taken.0.waiting) complete
     unfinished (inr some) = false≢true (ap is_some (sym none) ∙ some)
 
     claimed-stops : StopsAtTheEnd s' (has_claimed b t w).hands b.fault
@@ -104,23 +92,17 @@ module _ {D : Type 0} {eq : Equations} (size faults mismatches : D → ℕ) (hel
     claimed-stands : m.policy ≡ Prio → StandsOnce p s' (has_claimed b t w).hands b.pool
     claimed-stands prio = record {
       once = λ u is. elim (same_task u t) as (λ _. times_pooled b.pool u + times_given (has_claimed b t w).hands u ≡ 1) [
-        | inl e ↦ absurd (claimed-waits (sym step.is ∙ ap (progress s') (sym e) ∙ is.waiting))
+        | inl e ↦ absurd (let f : Claimed w ≡ Waiting = sym step.is ∙ ap (progress s') (sym e) ∙ is.waiting in cc)
         | inr d ↦ omega (arith, times prio u, once-other u t d, (keeps.inside.stands_once prio).once u (taken-before p s s' t Waiting (Claimed w) step refl refl u d is))
       ];
       only = λ u some. elim (same_task u t) as (λ _. IsToBeTaken p s' u) [
-        | inl e ↦ absurd (gone u e some)
+        | inl e ↦ (
+            let one = (keeps.inside.stands_once prio).once u ((keeps.inside.stands_once prio).only u (omega (arith, times prio u, some))) in
+            absurd (omega (arith, times prio u, some, one, ap (λ (k : Task). once k (Some t)) e ∙ once-own t))
+            )
         | inr d ↦ taken-still p s s' t Waiting (Claimed w) step refl refl u d ((keeps.inside.stands_once prio).only u (omega (arith, times prio u, some)))
       ];
     }
-      where
-        claimed-waits : Claimed w ≡ Waiting → ⊥
-        claimed-waits e = absurd (cc)
-
-        gone : (u : Task) → u ≡ t → 0 < times_pooled b.pool u + times_given (has_claimed b t w).hands u → ⊥
-        gone u e some =
-            let one = (keeps.inside.stands_once prio).once u ((keeps.inside.stands_once prio).only u (omega (arith, times prio u, some))) in
-            let own : once u (Some t) ≡ 1 = subst (λ (k : Task). once k (Some t) ≡ 1) (sym e) (once-own t) in
-            absurd (omega (arith, times prio u, some, one, own))
 
     counts-now : CountsDone p s' deps
     counts-now = counts-still p s s' t Waiting (Claimed w) step refl refl deps keeps.counts

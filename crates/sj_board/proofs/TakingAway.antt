@@ -1,7 +1,7 @@
 -- A board stays sound where a worker takes the first of its released tasks away.
-use Rattle.sj_board.proofs.Words.{[], ap, arith, BoardBy, Bool, cond, Contains, count_by, Dependencies, done_tasks, drop, Entry, entry_of, Equations, first_task, fits_room, footprint, get_or, has_released, home, inl, inr, is_done, is_entry_of, IsEntry, IsReadyWhereItWaits, IsStrictlyIncreasing, KeepsBoard, length, length-set, List, Machine, map, nat_le, None, Option, option_to_list, Policy, Pooled, Prio, Program, queue, queue_count, queued_tasks, Ready, refl, released_of, slice_set, Some, StandsReleased, State, state, subst, suc, sym, Task, true, without_first_at, without_first_fitting, Worker, Ws, zero, ℕ, ◌++◌, ◌+◌, ◌<◌, ◌↔◌, ◌∙◌, ◌∷◌, ◌≡◌, ◌≢◌, ◌≤◌, ◌⊎◌}
+use Rattle.sj_board.proofs.Words.{[], ap, arith, BoardBy, Bool, cond, count_by, Dependencies, drop, Entry, Equations, first_task, fits_room, get_or, has_released, home, inl, inr, is_done, is_entry_of, IsEntry, IsReadyWhereItWaits, IsStrictlyIncreasing, KeepsBoard, length, length-set, List, Machine, map, None, Option, option_to_list, Policy, Pooled, Prio, Program, queue, queue_count, queued_tasks, refl, released_of, slice_set, Some, StandsReleased, State, state, subst, suc, sym, Task, true, without_first_at, without_first_fitting, Worker, Ws, ℕ, ◌++◌, ◌+◌, ◌<◌, ◌↔◌, ◌∙◌, ◌∷◌, ◌≡◌, ◌≢◌, ◌≤◌}
 use Rattle.std.proofs.Common.{IfSome, All}
-use Rattle.std.proofs.lemmas.{Bool.cases_eq, Bool.false≢true, List.get_or-map, List.get_or-set_other, List.get_or-set_same, List.length-map, List.Elements.All-from_get_or, List.Elements.All-get_or, List.Elements.All-head, List.Elements.All-set, List.Elements.All-tail, List.Kept.AllPairs-from_increasing, List.Sums.get_or-le-sum_by, List.Sums.sum_by-set}
+use Rattle.std.proofs.lemmas.{Bool.cases_eq, Bool.eq-eqb, Bool.false≢true, Bool.le-leb, List.get_or-map, List.get_or-set_other, List.get_or-set_same, List.length-map, List.Elements.All-cons, List.Elements.All-drop, List.Elements.All-get_or, List.Elements.All-head, List.Elements.All-set, List.Kept.AllPairs-from_increasing, List.Sums.get_or-le-sum_by, List.Sums.sum_by-set, Option.none-some, Option.same_Some}
 use Rattle.sj_core.proofs.Readiness.{done_tasks-done}
 use Rattle.sj_board.proofs.{Policies.other-left, Policies.other-pool, Policies.other-released, Pooling.count-cons, Pooling.times_in}
 
@@ -15,47 +15,32 @@ abbrev first_of : List Entry → Option Task
 first_of [] = None
 first_of (e ∷ es) = Some e.task
 
-fits-cons : (room : ℕ) (e : Entry) (es : List Entry) → All (λ x. fits_room room x ≡ true) (e ∷ es) → fits_room room e ≡ true
-fits-cons room e es all = All-head (λ x. fits_room room x ≡ true) e es all
-
 first-is : (room : ℕ) (es : List Entry) → All (λ x. fits_room room x ≡ true) es → first_task room es ≡ first_of es
 first-is room [] all = refl
-first-is room (e ∷ es) all = let fits = fits-cons room e es all in grind arith
+first-is room (e ∷ es) all = let fits : fits_room room e ≡ true = All-head (λ (x : Entry). fits_room room x ≡ true) e es all in grind arith
 
 rest-is : (room : ℕ) (es : List Entry) → All (λ x. fits_room room x ≡ true) es → without_first_fitting room es ≡ drop 1 es
 rest-is room [] all = refl
-rest-is room (e ∷ es) all = ap (λ (b : Bool). cond b es (e ∷ without_first_fitting room es)) (fits-cons room e es all)
+rest-is room (e ∷ es) all = ap (λ (b : Bool). cond b es (e ∷ without_first_fitting room es)) (All-head (λ (x : Entry). fits_room room x ≡ true) e es all)
 
-rising-rest : (xs : List ℕ) → IsStrictlyIncreasing xs → IsStrictlyIncreasing (drop 1 xs)
+rising-rest : (es : List Entry) → IsStrictlyIncreasing (map (λ (t : Task). t.0) (map (λ (e : Entry). e.task) es)) → IsStrictlyIncreasing (map (λ (t : Task). t.0) (map (λ (e : Entry). e.task) (drop 1 es)))
 rising-rest [] rising = rising
-rising-rest (x ∷ xs) rising = λ k within. AllPairs-from_increasing (x ∷ xs) rising (suc k) (suc (k + 1)) 0 (omega arith) (omega (arith, within))
-
-numbers-rest : (es : List Entry) → map (λ (t : Task). t.0) (map (λ (e : Entry). e.task) (drop 1 es)) ≡ drop 1 (map (λ (t : Task). t.0) (map (λ (e : Entry). e.task) es))
-numbers-rest [] = refl
-numbers-rest (e ∷ es) = refl
+rising-rest (e ∷ es) rising = λ k within. AllPairs-from_increasing (map (λ (t : Task). t.0) (map (λ (x : Entry). x.task) (e ∷ es))) rising (suc k) (suc (k + 1)) 0 (omega arith) (omega (arith, within))
 
 -- it is the least, and the others are left
 first-left : (es : List Entry) → map (λ (e : Entry). e.task) es ≡ option_to_list (first_of es) ++ map (λ (e : Entry). e.task) (drop 1 es)
 first-left [] = refl
 first-left (e ∷ es) = refl
 
+-- a number before those of tasks that rise is at most as large as each
+before_least : (n : ℕ) (ts : List Task) → IsStrictlyIncreasing (n ∷ map (λ (t : Task). t.0) ts) → All (λ u. n ≤ u.0) ts
+before_least n ts rising k d within =
+    let less : n < get_or (map (λ (t : Task). t.0) ts) k 0 = AllPairs-from_increasing (n ∷ map (λ (t : Task). t.0) ts) rising 0 (suc k) 0 (omega arith) (omega (arith, within, length-map ts (λ (t : Task). t.0))) in
+    omega (arith, less, get_or-map (λ (t : Task). t.0) ts k d 0 within)
+
 first-least : (es : List Entry) → IsStrictlyIncreasing (map (λ (t : Task). t.0) (map (λ (e : Entry). e.task) es)) → IfSome (first_of es) (λ t. All (λ u. t.0 ≤ u.0) (map (λ (e : Entry). e.task) es))
 first-least [] rising = tt
-first-least (e ∷ es) rising = All-from_get_or (λ (u : Task). e.task.0 ≤ u.0) ts e.task at_place
-  where
-    ts : List Task
-    ts = e.task ∷ map (λ (x : Entry). x.task) es
-
-    ns : List ℕ
-    ns = map (λ (t : Task). t.0) ts
-
-    at_place : (i : ℕ) → i < length ts → e.task.0 ≤ (get_or ts i e.task).0
-    at_place zero l = omega arith
-    at_place (suc i) l =
-        let long : length ns ≡ length ts = length-map ts (λ (t : Task). t.0) in
-        let less : e.task.0 < get_or ns (suc i) 0 = AllPairs-from_increasing ns rising 0 (suc i) 0 (omega arith) (omega (arith, l, long)) in
-        let same : get_or ns (suc i) 0 ≡ (get_or ts (suc i) e.task).0 = get_or-map (λ (t : Task). t.0) ts (suc i) e.task 0 l in
-        omega (arith, less, same)
+first-least (e ∷ es) rising = All-cons (λ (u : Task). e.task.0 ≤ u.0) e.task (map (λ (x : Entry). x.task) es) (omega arith) (before_least e.task.0 (map (λ (x : Entry). x.task) es) rising)
 
 first-none : (es : List Entry) → (first_of es ≡ None) ↔ (map (λ (e : Entry). e.task) es ≡ [])
 first-none [] = (λ e. refl, λ e. refl)
@@ -76,17 +61,13 @@ stands-there qs n i d inside l =
     let own : cond {A = ℕ} (is_entry_of e.task e) 1 0 ≡ 1 = grind arith in
     omega (arith, here, there, own)
 
+-- and the first of one
+first-counted : (es : List Entry) (t : Task) → first_of es ≡ Some t → 0 < count_by (is_entry_of t) es
+first-counted [] t is = absurd (none-some t is)
+first-counted (x ∷ es) t is = omega (arith, count-cons t x es, ap (λ (b : Bool). cond {A = ℕ} b 1 0) (eq-eqb x.task.0 t.0 (ap (λ (u : Task). u.0) (same_Some x.task t is))))
+
 stands-first : (qs : List (List Entry)) (n : ℕ) (t : Task) → n < length qs → first_of (queue qs n) ≡ Some t → 0 < times_in t qs
-stands-first qs n t inside is = by_queue (queue qs n) refl
-  where
-    by_queue : (es : List Entry) → queue qs n ≡ es → 0 < times_in t qs
-    by_queue [] e = let none : ◌≡◌ {A = Option Task} None (Some t) = sym (ap first_of e) ∙ is in absurd (cc)
-    by_queue (x ∷ es) e =
-        let some : Some x.task ≡ Some t = sym (ap first_of e) ∙ is in
-        let same : x.task ≡ t = cc in
-        let there = stands-there qs n 0 x inside (subst (λ (q : List Entry). 0 < length q) (sym e) (omega arith)) in
-        let its : (get_or (queue qs n) 0 x).task ≡ t = ap (λ (q : List Entry). (get_or q 0 x).task) e ∙ same in
-        subst (λ (u : Task). 0 < times_in u qs) its (omega (arith, there))
+stands-first qs n t inside is = omega (arith, get_or-le-sum_by (λ (q : List Entry). count_by (is_entry_of t) q) qs n [] inside, first-counted (queue qs n) t is)
 
 -- ---- on a board
 
@@ -122,20 +103,12 @@ module _ {D : Type 0} {eq : Equations} (faults mismatches : D → ℕ) (held : D
 
   -- each fits
   all-fit : All (λ x. fits_room most x ≡ true) own
-  all-fit = All-from_get_or (λ (x : Entry). fits_room most x ≡ true) own (entry_of p (record { 0 = 0 })) at_place
-    where
-      d : Entry
-      d = entry_of p (record { 0 = 0 })
-
-      at_place : (i : ℕ) → i < length own → fits_room most (get_or own i d) ≡ true
-      at_place i l =
-          let e : Entry = get_or own i d in
-          let its : IsEntry p e = All-get_or (IsEntry p) own i d l (All-get_or (All (IsEntry p)) qs w.0 [] inside keeps.inside.pool_fits.entries) in
-          let task = (was.become e.task (stands-there qs w.0 i d inside l)).task in
-          let bytes : e.bytes ≡ footprint p e.task = ap (λ (x : Entry). x.bytes) its in
-          let small : e.bytes ≤ most = subst (λ (k : ℕ). k ≤ most) (sym bytes) (keeps.bytes.small e.task task) in
-          let fits : nat_le e.bytes most ≡ true = grind arith in
-          fits
+  all-fit k d within =
+      let e : Entry = get_or own k d in
+      let its : IsEntry p e = All-get_or (IsEntry p) own k d within (All-get_or (All (IsEntry p)) qs w.0 [] inside keeps.inside.pool_fits.entries) in
+      let task = (was.become e.task (stands-there qs w.0 k d inside within)).task in
+      let small : e.bytes ≤ most = subst (λ (n : ℕ). n ≤ most) (sym (ap (λ (x : Entry). x.bytes) its)) (keeps.bytes.small e.task task) in
+      le-leb e.bytes most small
 
   abbrev left : Pooled
   left = record b.pool { queues = slice_set qs w.0 (drop 1 own) }
@@ -146,7 +119,7 @@ module _ {D : Type 0} {eq : Equations} (faults mismatches : D → ℕ) (held : D
   rising-left : (n : ℕ) → IsStrictlyIncreasing (map (λ (t : Task). t.0) (queued_tasks left n))
   rising-left n = elim (cases_eq n w.0) as (λ _. IsStrictlyIncreasing (map (λ (t : Task). t.0) (queued_tasks left n))) [
     | inl e ↦ subst (λ (es : List Entry). IsStrictlyIncreasing (map (λ (t : Task). t.0) (map (λ (x : Entry). x.task) es))) (sym (ap (queue (slice_set qs w.0 (drop 1 own))) e ∙ get_or-set_same qs w.0 (drop 1 own) [] inside))
-        (subst IsStrictlyIncreasing (sym (numbers-rest own)) (rising-rest _ (was.by_number w.0)))
+        (rising-rest own (was.by_number w.0))
     | inr far ↦ subst (λ (es : List Entry). IsStrictlyIncreasing (map (λ (t : Task). t.0) (map (λ (x : Entry). x.task) es))) (sym (get_or-set_other qs w.0 n (drop 1 own) [] far)) (was.by_number n)
   ]
 
@@ -168,17 +141,13 @@ module _ {D : Type 0} {eq : Equations} (faults mismatches : D → ℕ) (held : D
         workers = keeps.inside.pool_fits.workers;
         tasks = keeps.inside.pool_fits.tasks;
         queues = length-set qs w.0 (drop 1 own) ∙ keeps.inside.pool_fits.queues;
-        entries = All-set (All (IsEntry p)) qs w.0 (drop 1 own) (All-rest own (All-get_or (All (IsEntry p)) qs w.0 [] inside keeps.inside.pool_fits.entries)) keeps.inside.pool_fits.entries;
+        entries = All-set (All (IsEntry p)) qs w.0 (drop 1 own) (All-drop (IsEntry p) 1 own (All-get_or (All (IsEntry p)) qs w.0 [] inside keeps.inside.pool_fits.entries)) keeps.inside.pool_fits.entries;
         fits = keeps.inside.pool_fits.fits;
       };
     };
     counts = keeps.counts;
     bytes = keeps.bytes;
   }
-    where
-      All-rest : (es : List Entry) → All (IsEntry p) es → All (IsEntry p) (drop 1 es)
-      All-rest [] all = all
-      All-rest (e ∷ es) all = All-tail (IsEntry p) e es all
 
   -- ---- as the code leaves it
 
@@ -218,8 +187,7 @@ module _ {D : Type 0} {eq : Equations} (faults mismatches : D → ℕ) (held : D
       where
         by_task : (o : Option Task) → t ≡ o → IfSome o (IsReadyWhereItWaits b)
         by_task None e = tt
-        by_task (Some u) e = by_ready (was.become u (stands-first qs w.0 u inside (sym took-first ∙ e))).ready
-          where
-            by_ready : Ready p (done_tasks s) u.0 ⊎ Contains (done_tasks s) u.0 → IsReadyWhereItWaits b u
-            by_ready (inl ready) = λ waits. record { waiting = waits; ready = ready }
-            by_ready (inr done) = λ waits. absurd (false≢true (sym (ap is_done waits) ∙ done_tasks-done s u done))
+        by_task (Some u) e = λ waits. elim ((was.become u (stands-first qs w.0 u inside (sym took-first ∙ e))).ready) [
+          | inl ready ↦ record { waiting = waits; ready = ready }
+          | inr done ↦ absurd (false≢true (sym (ap is_done waits) ∙ done_tasks-done s u done))
+        ]

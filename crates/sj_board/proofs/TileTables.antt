@@ -1,15 +1,12 @@
 -- The tiles of cells at nodes after some were written, and when they are still those of a state.
-use Rattle.sj_board.proofs.Words.{[], All, all_out, ap, arith, Array, Arrays, AtNode, Cell, dims_of, false, get_or, HasTiles, IfSome, is_being_written, is_some, is_valid, length, List, Machine, mark, Node, None, Option, Program, refl, State, subst, suc, sym, tile_at, tile_in, tiles_of, with_tile, with_tiles_of, zero, ℕ, ◌<◌, ◌∙◌, ◌∷◌, ◌≡◌, ◌≢◌, ◌⊎◌}
+use Rattle.sj_board.proofs.Words.{[], All, all_out, arith, Array, Arrays, AtNode, Cell, dims_of, false, get_or, HasTiles, IfSome, is_being_written, is_some, is_valid, length, List, Machine, mark, Node, None, Option, Program, refl, State, subst, suc, sym, tile_at, tile_in, tiles_of, with_tile, with_tiles_of, zero, ℕ, ◌<◌, ◌∙◌, ◌∷◌, ◌≡◌, ◌≢◌, ◌⊎◌}
 use Rattle.std.proofs.lemmas.{List.get_or-set_other, List.get_or-set_same, List.length-map, List.length-set, List.Elements.All-get_or, List.Elements.All-set}
-use Rattle.sj_base.proofs.SameIds.{other_node}
+use Rattle.sj_base.proofs.SameIds.{cell_of_number, other_node}
 use Rattle.sj_core.proofs.{Placing.cells_differ, Reading.same_node}
 
 -- a place for each node
 abbrev pub Places : Type 0
 Places = List (Option Array)
-
-cell_number : (c d : Cell) → d ≢ c → d.0 ≢ c.0
-cell_number c d h e = h (ap (λ (i : ℕ). let j : Cell = record { 0 = i } in j) e)
 
 -- ---- the places of one cell
 
@@ -17,7 +14,7 @@ pub tiles-same : (tiles : List Places) (c : Cell) (f : Places → Places) → c.
 tiles-same tiles c f h = get_or-set_same tiles c.0 (f (tiles_of tiles c)) [] h
 
 pub tiles-other : (tiles : List Places) (c d : Cell) (f : Places → Places) → d ≢ c → tiles_of (with_tiles_of tiles c f) d ≡ tiles_of tiles d
-tiles-other tiles c d f h = get_or-set_other tiles c.0 d.0 (f (tiles_of tiles c)) [] (cell_number c d h)
+tiles-other tiles c d f h = get_or-set_other tiles c.0 d.0 (f (tiles_of tiles c)) [] (λ e. h (cell_of_number d c e))
 
 pub length-changed : (tiles : List Places) (c : Cell) (f : Places → Places) → length (with_tiles_of tiles c f) ≡ length tiles
 length-changed tiles c f = length-set tiles c.0 (f (tiles_of tiles c))

@@ -1,7 +1,8 @@
 -- A board stays sound where a worker takes a unit, and where it puts it back.
-use Rattle.sj_board.proofs.Words.{ap, AreGivenBack, Array, board_state, BoardBy, Cell, Dependencies, DiskRefusal, Equations, Err, extent_of, false, GivesUnitBack, Hand, hand_in, hand_of, has_back, has_taken, HasFetchedMoved, HasStoredMoved, IfSome, is_out, is_some, is_task_of, IsComplete, IsFetching, IsMovingOut, IsTaken, IsTileMoved, IsTileOf, IsTrue, IsUnitOf, IsWorkedOn, KeepsBoard, LendingState, length, length-set, lent, List, None, Ok, OnlyDisksChange, OnOk, Option, OthersKeepUnits, Pooled, progress, refl, Result, RunFault, slice_set, Some, StandingBy, State, state, subst, sym, TakesUnit, Task, times_pooled, Transfer, transfer, true, unit_in_hand, UnitFetches, UnitsStand, UnitState, UnitStores, with_hand, Worker, ℕ, ◌+◌, ◌<◌, ◌∙◌, ◌≡◌, ◌⊎◌}
+use Rattle.sj_board.proofs.Words.{ap, AreGivenBack, arith, Array, board_state, BoardBy, Bool, Cell, Dependencies, DiskRefusal, Equations, Err, extent_of, false, GivesUnitBack, Hand, hand_in, hand_of, has_back, has_taken, HasFetchedMoved, HasStoredMoved, IfSome, is_node, is_out, is_some, is_task_of, IsBusy, IsComplete, IsFetching, IsKept, IsMovingOut, IsTaken, IsTileMoved, IsTileOf, IsTrue, IsWorkedOn, KeepsBoard, LendingState, length, length-set, lent, List, None, Ok, OnlyDisksChange, OnOk, Option, OthersKeepUnits, Pooled, progress, refl, Result, RunFault, slice_set, Some, StandingBy, State, state, subst, sym, TakesUnit, Task, times_pooled, Transfer, transfer, true, unit_in_hand, UnitFetches, UnitsStand, UnitState, UnitStores, with_hand, Worker, writes, ℕ, ◌+◌, ◌<◌, ◌∙◌, ◌≡◌, ◌⊎◌}
+use Rattle.sj_base.proofs.Options.{IfSome-at, IsSomeAnd-at}
 use Rattle.sj_edge.proofs.GivenBackLemmas.{all_given_back-untouched, all_untouched-same}
-use Rattle.sj_board.proofs.{Boarding.keeps-disks, Hands.given-same, Hands.hand-set, Hands.pool_for-same, Hands.stands-same, ReleasedTasks.released-hands, Storing.some-if, UnitHands.others-keep, UnitHands.units-back, UnitHands.units-taken, UnitPuts.same-back}
+use Rattle.sj_board.proofs.{BoardEnds.stays-stored, Boarding.keeps-disks, Hands.given-same, Hands.hand-set, Hands.pool_for-same, Hands.stands-same, ReleasedTasks.released-hands, StillGone.knows-stored, UnitHands.others-keep, UnitHands.units-back, UnitHands.units-taken, UnitPuts.same-back}
 
 -- a worker's unit is no matter of what a board keeps beside
 keeps-unit : {D : Type 0} {eq : Equations} (faults mismatches : D → ℕ) (held : D → Option (List ℕ)) (b : BoardBy eq D) (deps : Dependencies) (footprints : List ℕ) (w : Worker) (unit : Option Cell) → w.0 < length b.hands → KeepsBoard faults mismatches held b deps footprints → KeepsBoard faults mismatches held (with_hand b w (record (hand_of b w) { unit = unit })) deps footprints
@@ -34,17 +35,20 @@ keeps-unit_left size faults mismatches held b deps footprints run' w unit hands'
     subst (λ (hs : List Hand). KeepsBoard faults mismatches held (record b { run = run'; hands = hs }) deps footprints) (sym is)
     (keeps-unit faults mismatches held (record b { run = run' }) deps footprints w unit inside (keeps-disks size faults mismatches held b deps footprints run' only back keeps))
 
+-- ---- where only what is out changes
+
+module _ {D : Type 0} {eq : Equations} (run run' : StandingBy eq D) (out : List Bool) (now : run' ≡ record run { out = out }) where
+  pub out-only : OnlyDisksChange run run'
+  out-only = now ∙ ap (λ (z : StandingBy eq D). record run { disks = z.disks; out = z.out }) (sym now)
+
+  pub out-given : (size faults mismatches : D → ℕ) (held : D → Option (List ℕ)) → AreGivenBack size faults mismatches held run.disks.disks run'.disks.disks
+  out-given size faults mismatches held =
+      subst (λ (z : StandingBy eq D). AreGivenBack size faults mismatches held run.disks.disks z.disks.disks) (sym now)
+      (all_given_back-untouched size faults mismatches held run.disks.disks run.disks.disks (all_untouched-same size faults mismatches held run.disks.disks))
+
 -- ---- a unit is taken
 
 module _ {D : Type 0} {eq : Equations} (run run' : StandingBy eq D) (w : Worker) (u : UnitState D) (takes : TakesUnit w u run run') where
-  pub taken-only : OnlyDisksChange run run'
-  taken-only = takes.nothing_else ∙ ap (λ (z : StandingBy eq D). record run { disks = z.disks; out = z.out }) (sym takes.nothing_else)
-
-  pub taken-back : (size faults mismatches : D → ℕ) (held : D → Option (List ℕ)) → AreGivenBack size faults mismatches held run.disks.disks run'.disks.disks
-  taken-back size faults mismatches held =
-      subst (λ (z : StandingBy eq D). AreGivenBack size faults mismatches held run.disks.disks z.disks.disks) (sym takes.nothing_else)
-      (all_given_back-untouched size faults mismatches held run.disks.disks run.disks.disks (all_untouched-same size faults mismatches held run.disks.disks))
-
   pub taken-units : (hands hands' : List Hand) → w.0 < length hands → (hand_in hands w).unit ≡ None → hands' ≡ slice_set hands w.0 (record (hand_in hands w) { unit = Some u.cell }) → UnitsStand run.disks run.out hands → UnitsStand run'.disks run'.out hands'
   taken-units hands hands' inside none is stand =
       let its = ap (λ (z : StandingBy eq D). extent_of z.disks.directory u.cell.0) (sym takes.nothing_else) ∙ takes.is_its_unit.taken.its_extent in
@@ -60,42 +64,56 @@ module _ {D : Type 0} {eq : Equations} (run run' : StandingBy eq D) (w : Worker)
 
 -- ---- and put back
 
-module _ {D : Type 0} {eq : Equations} (run run' : StandingBy eq D) (w : Worker) (hands hands' : List Hand) (is : hands' ≡ slice_set hands w.0 (record (hand_in hands w) { unit = None })) where
-  gives-back : (pool : Pooled) (fault : Option RunFault) (delivered : List (Task × Array)) → OnlyDisksChange run run' → GivesUnitBack w (board_state run hands pool fault delivered) (board_state run' hands' pool fault delivered)
-  gives-back pool fault delivered only =
-      ap (λ (hs : List Hand). board_state run' hs pool fault delivered) is
-      ∙ ap (λ (z : StandingBy eq D). board_state z (slice_set hands w.0 (record (hand_in hands w) { unit = None })) pool fault delivered) only
+pub put-board : {D : Type 0} {eq : Equations} (run run' : StandingBy eq D) (w : Worker) (hands hands' : List Hand) → hands' ≡ slice_set hands w.0 (record (hand_in hands w) { unit = None }) → (pool : Pooled) (fault : Option RunFault) (delivered : List (Task × Array)) (b : BoardBy eq D) → board_state run hands pool fault delivered ≡ b → OnlyDisksChange run run' → GivesUnitBack w b (board_state run' hands' pool fault delivered)
+put-board {D} {eq} run run' w hands hands' is pool fault delivered b same only =
+    subst (λ (k : BoardBy eq D). GivesUnitBack w k (board_state run' hands' pool fault delivered)) same
+    (ap (λ (hs : List Hand). board_state run' hs pool fault delivered) is
+    ∙ ap (λ (z : StandingBy eq D). board_state z (slice_set hands w.0 (record (hand_in hands w) { unit = None })) pool fault delivered) only)
 
-  pub put-board : (pool : Pooled) (fault : Option RunFault) (delivered : List (Task × Array)) (b : BoardBy eq D) → board_state run hands pool fault delivered ≡ b → OnlyDisksChange run run' → GivesUnitBack w b (board_state run' hands' pool fault delivered)
-  put-board pool fault delivered b same only =
-      subst (λ (k : BoardBy eq D). GivesUnitBack w k (board_state run' hands' pool fault delivered)) same (gives-back pool fault delivered only)
+-- a busy worker's hand, on a board that is kept
+module _ {D : Type 0} {eq : Equations} (faults mismatches : D → ℕ) (held : D → Option (List ℕ)) (b : BoardBy eq D) (deps : Dependencies) (footprints : List ℕ) (gifts : List (Option Array)) (spare left : ℕ) (gone : List ℕ) (kept : IsKept faults mismatches held b deps footprints gifts spare left gone) (b' : BoardBy eq D) (same : b ≡ b') (w : Worker) (busy : IsBusy b' w) where
+  pub busy-inside : w.0 < length b.hands
+  busy-inside =
+      let known = (subst (λ (k : BoardBy eq D). IsBusy k w) (sym same) busy).works.known in
+      omega (arith, known, kept.board.inside.hands_agree.every_worker)
 
-  module _ (u before : UnitState D) (taken : IsTaken (lent run) before) (cell : u.cell ≡ before.cell) (disk : u.extent.disk ≡ before.extent.disk) (back : lent run' ≡ has_back (lent run) u) (stand : UnitsStand run.disks run.out hands) (inside : w.0 < length hands) (held : (hand_in hands w).unit ≡ Some u.cell) where
-    its : extent_of run.disks.directory u.cell.0 ≡ Some before.extent
-    its = ap (λ (c : Cell). extent_of run.disks.directory c.0) cell ∙ taken.its_extent
+  -- its unit comes back
+  module _ (size : D → ℕ) (u before : UnitState D) (in_hand : (hand_of b' w).unit ≡ Some u.cell) (run' : StandingBy eq D) (hands' : List Hand) (is : hands' ≡ slice_set b.hands w.0 (record (hand_of b w) { unit = None })) (taken : IsTaken (lent b.run) before) (cell : u.cell ≡ before.cell) (disk : u.extent.disk ≡ before.extent.disk) (back : lent run' ≡ has_back (lent b.run) u) where
+    its : extent_of b.run.disks.directory u.cell.0 ≡ Some before.extent
+    its = ap (λ (c : Cell). extent_of b.run.disks.directory c.0) cell ∙ taken.its_extent
 
-    pub put-units : UnitsStand run'.disks run'.out hands'
-    put-units =
-        subst (λ (l : LendingState D). UnitsStand l.set l.out hands') (sym back)
-        (subst (λ (hs : List Hand). UnitsStand (has_back (lent run) u).set (has_back (lent run) u).out hs) (sym is)
-        (units-back run.disks run.out hands stand w inside u.cell held before.extent u.extent its disk u.disk))
+    was-in_hand : (hand_of b w).unit ≡ Some u.cell
+    was-in_hand = ap (λ (k : BoardBy eq D). (hand_of k w).unit) same ∙ in_hand
 
-    keep-others : (pool : Pooled) (fault : Option RunFault) (delivered : List (Task × Array)) → OthersKeepUnits w (board_state run hands pool fault delivered) (board_state run' hands' pool fault delivered)
-    keep-others pool fault delivered v far =
-        ap (λ (hs : List Hand). unit_in_hand (board_state run' hs pool fault delivered) v) is
-        ∙ ap (λ (l : LendingState D). unit_in_hand (board_state (record run { disks = l.set }) (slice_set hands w.0 (record (hand_in hands w) { unit = None })) pool fault delivered) v) back
-        ∙ others-keep run.disks run.out hands stand w inside u.cell held before.extent u.extent its disk u.disk v far
+    pub put-kept : OnlyDisksChange b.run run' → AreGivenBack size faults mismatches held b.run.disks.disks run'.disks.disks → IsKept faults mismatches held (record b { run = run'; hands = hands' }) deps footprints gifts spare left gone
+    put-kept only given_back = record {
+      board = keeps-unit_left size faults mismatches held b deps footprints run' w None hands' busy-inside only given_back is kept.board;
+      ends = stays-stored held b.run b.delivered gifts spare left kept.ends run' only;
+      victims = knows-stored b.run run' gone kept.victims only;
+      units =
+          subst (λ (l : LendingState D). UnitsStand l.set l.out hands') (sym back)
+          (subst (λ (hs : List Hand). UnitsStand (has_back (lent b.run) u).set (has_back (lent b.run) u).out hs) (sym is)
+          (units-back b.run.disks b.run.out b.hands kept.units w busy-inside u.cell was-in_hand before.extent u.extent its disk u.disk));
+    }
 
-    pub put-others : (pool : Pooled) (fault : Option RunFault) (delivered : List (Task × Array)) (b : BoardBy eq D) → board_state run hands pool fault delivered ≡ b → OthersKeepUnits w b (board_state run' hands' pool fault delivered)
-    put-others pool fault delivered b same = subst (λ (k : BoardBy eq D). OthersKeepUnits w k (board_state run' hands' pool fault delivered)) same (keep-others pool fault delivered)
+    pub put-others : OthersKeepUnits w b' (record b { run = run'; hands = hands' })
+    put-others v far =
+        ap (λ (hs : List Hand). unit_in_hand (record b { run = run'; hands = hs }) v) is
+        ∙ ap (λ (l : LendingState D). unit_in_hand (record b { run = record b.run { disks = l.set }; hands = slice_set b.hands w.0 (record (hand_of b w) { unit = None }) }) v) back
+        ∙ others-keep b.run.disks b.run.out b.hands kept.units w busy-inside u.cell was-in_hand before.extent u.extent its disk u.disk v far
+        ∙ ap (λ (k : BoardBy eq D). unit_in_hand k v) same
 
 -- what was done with a unit kept its cell and its disk
 module _ {D : Type 0} {eq : Equations} (size faults mismatches : D → ℕ) (held : D → Option (List ℕ)) (run : StandingBy eq D) (w : Worker) (u : UnitState D) (result : Result (Unit {0}) DiskRefusal) where
   pub stored-worked : IsMovingOut run w → (moved : HasStoredMoved size faults mismatches held run w u result) → IsWorkedOn size faults mismatches held moved.before u
-  stored-worked under_way moved = some-if _ _ (IsWorkedOn size faults mismatches held moved.before u) (transfer (state run) w) under_way moved.stores (λ x (s : UnitStores size faults mismatches held _ moved.array.elements result moved.before u). s.is_worked_on)
+  stored-worked under_way moved =
+      let x = IsSomeAnd-at (λ (y : Transfer). is_node y.to ≡ false) (transfer (state run) w) under_way in
+      (IfSome-at (λ (y : Transfer). UnitStores size faults mismatches held (writes (state run) y.cell) moved.array.elements result moved.before u) (transfer (state run) w) x.0 x.1 moved.stores).is_worked_on
 
   pub fetched-worked : IsFetching run w → (array : Array) (moved : HasFetchedMoved size faults mismatches held run w u result array) → IsWorkedOn size faults mismatches held moved.before u
-  fetched-worked under_way array moved = some-if _ _ (IsWorkedOn size faults mismatches held moved.before u) (transfer (state run) w) under_way moved.fetches (λ x (s : UnitFetches size faults mismatches held _ array.elements result moved.before u). s.is_worked_on)
+  fetched-worked under_way array moved =
+      let x = IsSomeAnd-at (λ (y : Transfer). is_node y.from ≡ false) (transfer (state run) w) under_way in
+      (IfSome-at (λ (y : Transfer). UnitFetches size faults mismatches held (writes (state run) y.cell) array.elements result moved.before u) (transfer (state run) w) x.0 x.1 moved.fetches).is_worked_on
 
 -- ---- what is told of the move stays so as the disks change
 
@@ -111,16 +129,6 @@ module _ {D : Type 0} {eq : Equations} (held : D → Option (List ℕ)) (run run
   tiles-now (Ok x) M h = λ a m. tile-now a (h a m)
   tiles-now (Err x) M h = tt
 
--- ---- a unit that comes back as it was taken
-
-module _ {D : Type 0} {eq : Equations} (run run' : StandingBy eq D) (w : Worker) (u : UnitState D) (is_its : IsUnitOf run w u) (now : run' ≡ record run { out = slice_set run.out u.extent.disk.0 false }) where
-  pub untouched-only : OnlyDisksChange run run'
-  untouched-only = now ∙ ap (λ (z : StandingBy eq D). record run { disks = z.disks; out = z.out }) (sym now)
-
-  pub untouched-given : (size faults mismatches : D → ℕ) (held : D → Option (List ℕ)) → AreGivenBack size faults mismatches held run.disks.disks run'.disks.disks
-  untouched-given size faults mismatches held =
-      subst (λ (z : StandingBy eq D). AreGivenBack size faults mismatches held run.disks.disks z.disks.disks) (sym now)
-      (all_given_back-untouched size faults mismatches held run.disks.disks run.disks.disks (all_untouched-same size faults mismatches held run.disks.disks))
-
-  pub untouched-back : lent run' ≡ has_back (lent run) u
-  untouched-back = ap (λ (z : StandingBy eq D). lent z) now ∙ sym (same-back (lent run) u is_its.taken)
+-- a unit that comes back as it was taken
+pub untouched-back : {D : Type 0} {eq : Equations} (run run' : StandingBy eq D) (u : UnitState D) → IsTaken (lent run) u → run' ≡ record run { out = slice_set run.out u.extent.disk.0 false } → lent run' ≡ has_back (lent run) u
+untouched-back {D} {eq} run run' u taken now = ap (λ (z : StandingBy eq D). lent z) now ∙ sym (same-back (lent run) u taken)

@@ -1,7 +1,8 @@
 -- The disks in workers' hands: what is in hand is out, and only that.
-use Rattle.sj_board.proofs.Words.{[], All, ap, arith, Bool, Cell, DiskState, empty_hand, Equations, Err, Event, Extent, extent_of, false, first_hands, get_or, Hand, hand_in, HasMoved, IfSome, inl, inr, is_out, IsInHand, IsSomeAnd, length, lent, List, Moved, None, NoneIsOut, Ok, OnErr, OnOk, Option, option_and_then, option_map, Program, refl, replicate, Result, set, slice_set, Some, StandingBy, state, subst, suc, sym, Transfer, transfer, true, unit_at, unit_state, UnitsStand, UnitState, with_event, Worker, zero, ℕ, ◌<◌, ◌∙◌, ◌∷◌, ◌≡◌, ◌≢◌, ◌⊎◌}
+use Rattle.sj_board.proofs.Words.{[], All, ap, arith, Bool, Cell, DiskState, empty_hand, Equations, Event, Extent, extent_of, false, first_hands, get_or, Hand, hand_in, inl, inr, is_out, IsInHand, IsSomeAnd, length, lent, List, None, NoneIsOut, Option, option_and_then, option_map, Program, refl, replicate, set, slice_set, Some, StandingBy, subst, suc, sym, true, unit_at, unit_state, UnitsStand, UnitState, with_event, Worker, worker, zero, ℕ, ◌<◌, ◌∙◌, ◌∷◌, ◌≡◌, ◌≢◌, ◌⊎◌}
 use Rattle.std.proofs.Common.{slice_get}
-use Rattle.std.proofs.lemmas.{Bool.cases_eq, Bool.cases_lt, Bool.false≢true, List.get_or-replicate, List.get_or-set_other, List.get_or-set_same, List.get_or_past, List.length-replicate, List.length-set, List.Elements.All-get_or, Option.none-some, Option.same_Some}
+use Rattle.std.proofs.lemmas.{Bool.cases_eq, Bool.cases_lt, Bool.false≢true, List.get_or-set_other, List.get_or-set_same, List.get_or_past, List.length-set, List.Elements.All-get_or, Option.none-some, Option.same_Some}
+use Rattle.sj_base.proofs.{Lists.get_or-replicate_same, Options.IsSomeAnd-at, Options.IsSomeAnd-from, SameIds.workers_differ}
 
 -- ---- where no unit is taken or put
 
@@ -29,37 +30,17 @@ units-set disks out hands hands' w h is same stand =
 pub units-event : {D : Type 0} {eq : Equations} (run run' : StandingBy eq D) (hands : List Hand) (e : Event) → run' ≡ with_event run e → UnitsStand run.disks run.out hands → UnitsStand run'.disks run'.out hands
 units-event run run' hands e is stand = subst (λ (r : StandingBy _ _). UnitsStand r.disks r.out hands) (sym is) stand
 
-pub units-tried : {D A E : Type 0} {eq : Equations} (run run' : StandingBy eq D) (hands : List Hand) (result : Result A E) (e : Event) → OnOk result (run' ≡ with_event run e) → OnErr result (run' ≡ run) → UnitsStand run.disks run.out hands → UnitsStand run'.disks run'.out hands
-units-tried run run' hands (Ok a) e ok err stand = units-event run run' hands e ok stand
-units-tried run run' hands (Err x) e ok err stand = subst (λ (r : StandingBy _ _). UnitsStand r.disks r.out hands) (sym err) stand
-
-pub units-moved : {D : Type 0} {eq : Equations} (run run' : StandingBy eq D) (hands : List Hand) (w : Worker) (Q : Transfer → Type 0) → IsSomeAnd (transfer (state run) w) Q → HasMoved w run run' → UnitsStand run.disks run.out hands → UnitsStand run'.disks run'.out hands
-units-moved {D} run run' hands w Q some moved stand = by_move (transfer (state run) w) some moved
-  where
-    by_move : (o : Option Transfer) → IsSomeAnd o Q → IfSome o (λ x. run' ≡ with_event run (Moved x.cell x.from x.to)) → UnitsStand run'.disks run'.out hands
-    by_move None none is = absurd none
-    by_move (Some x) some is = units-event run run' hands (Moved x.cell x.from x.to) is stand
-
 -- ---- at the beginning and at the end
-
-always : (n k : ℕ) → is_out (replicate n false) k ≡ false
-always n k = elim (cases_lt k n) [
-  | inl inside ↦ get_or-replicate n k false false inside
-  | inr past ↦ get_or_past (replicate n false) k false (omega (arith, length-replicate n false, past))
-]
-
-empty-unit : (n k : ℕ) → (get_or (replicate n empty_hand) k empty_hand).unit ≡ None
-empty-unit n k = elim (cases_lt k n) [
-  | inl inside ↦ ap (λ (h : Hand). h.unit) (get_or-replicate n k empty_hand empty_hand inside)
-  | inr past ↦ ap (λ (h : Hand). h.unit) (get_or_past (replicate n empty_hand) k empty_hand (omega (arith, length-replicate n empty_hand, past)))
-]
 
 pub units-first : {D : Type 0} (p : Program) (disks : DiskState D) (n : ℕ) (hands : List Hand) → hands ≡ first_hands p → UnitsStand disks (replicate n false) hands
 units-first {D} p disks n hands is = subst (λ (hs : List Hand). UnitsStand disks (replicate n false) hs) (sym is) (record {
-  in_hand_is_out = λ w c e. absurd (none-some c (sym (empty-unit p.workers w.0) ∙ e));
-  in_one_hand = λ v w c d e f ev ew. absurd (none-some c (sym (empty-unit p.workers v.0) ∙ ev));
-  out_is_in_hand = λ d is. absurd (false≢true (sym (always n d) ∙ is));
+  in_hand_is_out = λ w c e. absurd (none-some c (sym (no-unit w) ∙ e));
+  in_one_hand = λ v w c d e f ev ew. absurd (none-some c (sym (no-unit v) ∙ ev));
+  out_is_in_hand = λ d is. absurd (false≢true (sym (get_or-replicate_same n d false) ∙ is));
 })
+  where
+    no-unit : (v : Worker) → (hand_in (first_hands p) v).unit ≡ None
+    no-unit v = ap (λ (h : Hand). h.unit) (get_or-replicate_same p.workers v.0 empty_hand)
 
 -- where no hand has a unit, no disk is out
 pub units-none : {D : Type 0} {eq : Equations} (run : StandingBy eq D) (hands : List Hand) → UnitsStand run.disks run.out hands → All (λ (h : Hand). h.unit ≡ None) hands → NoneIsOut (lent run)
@@ -77,16 +58,6 @@ units-none run hands stand none d = by_out (is_out run.out d) refl
 
 -- ---- a unit is taken
 
-worker-is : (v w : Worker) → v.0 ≡ w.0 → v ≡ w
-worker-is v w e = ap (λ (n : ℕ). (let x : Worker = record { 0 = n } in x)) e
-
-known-at : (P : Extent → Type 0) (o : Option Extent) (e : Extent) → o ≡ Some e → P e → IsSomeAnd o P
-known-at P o e is h = subst (λ (k : Option Extent). IsSomeAnd k P) (sym is) h
-
-known-of : (P : Extent → Type 0) (o : Option Extent) → IsSomeAnd o P → (e : Extent) × (o ≡ Some e) × P e
-known-of P None h = absurd h
-known-of P (Some e) h = (e, refl, h)
-
 -- a disk that was out still is
 still-out : (out : List Bool) (d k : ℕ) → is_out out k ≡ true → is_out (slice_set out d true) k ≡ true
 still-out [] d k e = e
@@ -101,19 +72,13 @@ was-out out d k far e = sym (get_or-set_other out d k true false far) ∙ e
 
 module _ {D : Type 0} (disks : DiskState D) (out : List Bool) (hands : List Hand) (stand : UnitsStand disks out hands) (w : Worker) (inside : w.0 < length hands) where
   other-hand : (h : Hand) (v : Worker) → v ≢ w → hand_in (slice_set hands w.0 h) v ≡ hand_in hands v
-  other-hand h v far = get_or-set_other hands w.0 v.0 h empty_hand (λ e. far (worker-is v w e))
+  other-hand h v far = get_or-set_other hands w.0 v.0 h empty_hand (λ e. far (ap worker e))
 
   own-hand : (h : Hand) → hand_in (slice_set hands w.0 h) w ≡ h
   own-hand h = get_or-set_same hands w.0 h empty_hand inside
 
   own-unit : (h : Hand) (v : Worker) → v ≡ w → (hand_in (slice_set hands w.0 h) v).unit ≡ h.unit
   own-unit h v e = ap (λ (x : Worker). (hand_in (slice_set hands w.0 h) x).unit) e ∙ ap (λ (x : Hand). x.unit) (own-hand h)
-
-  which : (v : Worker) → (v ≡ w) ⊎ (v ≢ w)
-  which v = elim (cases_eq v.0 w.0) [
-    | inl e ↦ inl (worker-is v w e)
-    | inr far ↦ inr (λ e. far (ap (λ (x : Worker). x.0) e))
-  ]
 
   module _ (none : (hand_in hands w).unit ≡ None) (c : Cell) (x : Extent) (its : extent_of disks.directory c.0 ≡ Some x) (was_in : is_out out x.disk.0 ≡ false) (now_out : is_out (slice_set out x.disk.0 true) x.disk.0 ≡ true) where
     abbrev hands' : List Hand
@@ -134,22 +99,22 @@ module _ {D : Type 0} (disks : DiskState D) (out : List Bool) (hands : List Hand
     -- what another has in hand is another disk
     apart : (v : Worker) (d : Cell) (f : Extent) → v ≢ w → (hand_in hands' v).unit ≡ Some d → extent_of disks.directory d.0 ≡ Some f → f.disk.0 ≢ x.disk.0
     apart v d f far is ext same =
-        let was = known-of (λ e. is_out out e.disk.0 ≡ true) (extent_of disks.directory d.0) (stand.in_hand_is_out v d (sym (theirs v far) ∙ is)) in
+        let was = IsSomeAnd-at (λ e. is_out out e.disk.0 ≡ true) (extent_of disks.directory d.0) (stand.in_hand_is_out v d (sym (theirs v far) ∙ is)) in
         let one : was.0 ≡ f = same_Some was.0 f (sym was.1 ∙ ext) in
         false≢true (sym was_in ∙ ap (is_out out) (sym same) ∙ ap (λ (e : Extent). is_out out e.disk.0) (sym one) ∙ was.2)
 
     pub units-taken : UnitsStand disks (slice_set out x.disk.0 true) (slice_set hands w.0 (record (hand_in hands w) { unit = Some c }))
     units-taken = record {
-      in_hand_is_out = λ v d is. in_hand v d is (which v);
-      in_one_hand = λ v u d f e g iv iu ed ef same. one_hand v u d f e g iv iu ed ef same (which v) (which u);
+      in_hand_is_out = λ v d is. in_hand v d is (workers_differ v w);
+      in_one_hand = λ v u d f e g iv iu ed ef same. one_hand v u d f e g iv iu ed ef same (workers_differ v w) (workers_differ u w);
       out_is_in_hand = λ d is. out_in d is (cases_eq d x.disk.0);
     }
       where
         in_hand : (v : Worker) (d : Cell) → (hand_in hands' v).unit ≡ Some d → (v ≡ w) ⊎ (v ≢ w) → IsSomeAnd (extent_of disks.directory d.0) (λ e. is_out out' e.disk.0 ≡ true)
-        in_hand v d is (inl e) = subst (λ (q : Cell). IsSomeAnd (extent_of disks.directory q.0) (λ e. is_out out' e.disk.0 ≡ true)) (sym (same-cell d v e is)) (known-at (λ e. is_out out' e.disk.0 ≡ true) (extent_of disks.directory c.0) x its now_out)
+        in_hand v d is (inl e) = subst (λ (q : Cell). IsSomeAnd (extent_of disks.directory q.0) (λ e. is_out out' e.disk.0 ≡ true)) (sym (same-cell d v e is)) (IsSomeAnd-from (λ e. is_out out' e.disk.0 ≡ true) (extent_of disks.directory c.0) x its now_out)
         in_hand v d is (inr far) =
-            let was = known-of (λ e. is_out out e.disk.0 ≡ true) (extent_of disks.directory d.0) (stand.in_hand_is_out v d (sym (theirs v far) ∙ is)) in
-            known-at (λ e. is_out out' e.disk.0 ≡ true) (extent_of disks.directory d.0) was.0 was.1 (still-out out x.disk.0 was.0.disk.0 was.2)
+            let was = IsSomeAnd-at (λ e. is_out out e.disk.0 ≡ true) (extent_of disks.directory d.0) (stand.in_hand_is_out v d (sym (theirs v far) ∙ is)) in
+            IsSomeAnd-from (λ e. is_out out' e.disk.0 ≡ true) (extent_of disks.directory d.0) was.0 was.1 (still-out out x.disk.0 was.0.disk.0 was.2)
 
         mine-at : (v : Worker) (d : Cell) (e : Extent) → v ≡ w → (hand_in hands' v).unit ≡ Some d → extent_of disks.directory d.0 ≡ Some e → e ≡ x
         mine-at v d e mv iv ed = same_Some e x (sym ed ∙ ap (λ (q : Cell). extent_of disks.directory q.0) (same-cell d v mv iv) ∙ its)
@@ -164,7 +129,7 @@ module _ {D : Type 0} (disks : DiskState D) (out : List Bool) (hands : List Hand
         out_in d is (inl e) = record { worker = w; cell = c; extent = x; in_hand = mine w refl; its_extent = its; its_disk = sym e }
         out_in d is (inr far) =
             let one = stand.out_is_in_hand d (was-out out x.disk.0 d far is) in
-            elim (which one.worker) as (λ _. IsInHand disks hands' d) [
+            elim (workers_differ one.worker w) as (λ _. IsInHand disks hands' d) [
               | inl e ↦ absurd (none-some one.cell (sym none ∙ ap (λ (v : Worker). (hand_in hands v).unit) (sym e) ∙ one.in_hand))
               | inr f ↦ record { worker = one.worker; cell = one.cell; extent = one.extent; in_hand = theirs one.worker f ∙ one.in_hand; its_extent = one.its_extent; its_disk = one.its_disk }
             ]
@@ -212,8 +177,8 @@ module _ {D : Type 0} (disks : DiskState D) (out : List Bool) (hands : List Hand
 
     pub units-back : UnitsStand disks' less given
     units-back = record {
-      in_hand_is_out = λ v d is. in_hand v d is (which v);
-      in_one_hand = λ v u d f e g iv iu ed ef same. one_hand v u d f e g iv iu ed ef same (which v) (which u);
+      in_hand_is_out = λ v d is. in_hand v d is (workers_differ v w);
+      in_one_hand = λ v u d f e g iv iu ed ef same. one_hand v u d f e g iv iu ed ef same (workers_differ v w) (workers_differ u w);
       out_is_in_hand = λ d is. out_in d is (cases_eq d x.disk.0);
     }
       where
@@ -221,8 +186,8 @@ module _ {D : Type 0} (disks : DiskState D) (out : List Bool) (hands : List Hand
         in_hand v d is (inl e) = absurd (has-none v d e is)
         in_hand v d is (inr far) =
             let had : (hand_in hands v).unit ≡ Some d = sym (kept v far) ∙ is in
-            let was = known-of (λ e. is_out out e.disk.0 ≡ true) (extent_of disks.directory d.0) (stand.in_hand_is_out v d had) in
-            known-at (λ e. is_out less e.disk.0 ≡ true) (extent_of directory' d.0) was.0 (stays v d far had ∙ was.1)
+            let was = IsSomeAnd-at (λ e. is_out out e.disk.0 ≡ true) (extent_of disks.directory d.0) (stand.in_hand_is_out v d had) in
+            IsSomeAnd-from (λ e. is_out less e.disk.0 ≡ true) (extent_of directory' d.0) was.0 (stays v d far had ∙ was.1)
             (get_or-set_other out y.disk.0 was.0.disk.0 false false (λ e. elsewhere v d was.0 far had was.1 (e ∙ ap (λ d. d.0) same_disk)) ∙ was.2)
 
         one_hand : (v u : Worker) (d f : Cell) (e g : Extent) → (hand_in given v).unit ≡ Some d → (hand_in given u).unit ≡ Some f → extent_of directory' d.0 ≡ Some e → extent_of directory' f.0 ≡ Some g → e.disk.0 ≡ g.disk.0 → (v ≡ w) ⊎ (v ≢ w) → (u ≡ w) ⊎ (u ≢ w) → v ≡ u
@@ -237,7 +202,7 @@ module _ {D : Type 0} (disks : DiskState D) (out : List Bool) (hands : List Hand
         out_in d is (inl e) = absurd (is-in (sym (ap (is_out less) e) ∙ is))
         out_in d is (inr far) =
             let one = stand.out_is_in_hand d (sym (get_or-set_other out y.disk.0 d false false (λ e. far (e ∙ ap (λ d. d.0) same_disk))) ∙ is) in
-            elim (which one.worker) as (λ _. IsInHand disks' given d) [
+            elim (workers_differ one.worker w) as (λ _. IsInHand disks' given d) [
               | inl e ↦ absurd (
                   let has : Some c ≡ Some one.cell = sym held ∙ ap (λ (v : Worker). (hand_in hands v).unit) (sym e) ∙ one.in_hand in
                   let same : one.extent ≡ x = same_Some one.extent x (sym one.its_extent ∙ ap (λ (q : Cell). extent_of disks.directory q.0) (sym (same_Some c one.cell has)) ∙ its) in

@@ -1,9 +1,9 @@
 -- A unit that a worker takes for its move, works on and puts back: the run holds what it held, and what was stored or fetched.
-use Rattle.sj_board.proofs.Words.{a_transfer, ap, area, AreCounted, AreGivenBack, Array, Bool, Cell, ComesFrom, dims_of, disk_of, DiskNo, DiskRefusal, Equations, Err, Extent, extent_of, false, fault_of, Fetches, has_back, has_copy, HasBlockOf, HasCause, HasFetched, HasFetchedMoved, HasStored, HasStoredMoved, IfErr, IfSome, inl, inr, is_node, IsDiskMove, IsFetching, IsLaidOut, IsMovingOut, IsSome, IsSomeAnd, IsStored, IsTaken, IsTileMoved, IsTileOf, IsUnitOf, IsWorkedOn, IsWrittenOut, Keeps, last_store, LendingState, length, lent, List, map, Ok, OnDisk, OnOk, Option, Place, refl, Result, Rows, slice_set, Some, StandingBy, state, Stores, subst, sym, TakesOut, TakesUnit, Transfer, transfer, true, UnitFetches, UnitState, UnitStores, Worker, writes, ℕ, ◌∙◌, ◌≡◌}
+use Rattle.sj_board.proofs.Words.{a_transfer, ap, area, AreCounted, AreGivenBack, Array, AtNode, Bool, Cell, ComesFrom, dims_of, disk_of, DiskNo, DiskRefusal, Equations, Err, Extent, extent_of, false, fault_of, Fetches, has_back, has_copy, HasBlockOf, HasCause, HasFetched, HasFetchedMoved, HasItsDiskIn, HasStored, HasStoredMoved, IfErr, inl, inr, is_node, IsDiskMove, IsFetching, IsInFor, IsLaidOut, IsMovingOut, IsSome, IsSomeAnd, IsStored, IsTaken, IsTileMoved, IsTileOf, IsUnitOf, IsWorkedOn, IsWrittenOut, Keeps, last_store, LendingState, length, lent, List, map, Ok, OnDisk, OnOk, Option, Place, refl, Result, Rows, slice_set, Some, StandingBy, state, Stores, subst, sym, TakesOut, TakesUnit, Transfer, transfer, true, UnitFetches, UnitState, UnitStores, Worker, writes, ℕ, ◌∙◌, ◌≡◌}
 use Rattle.sj_base.proofs.{Lists.set-slice_get, Options.IfSome-at, Options.IfSome-from, Options.IsSomeAnd-at}
 use Rattle.sj_core.proofs.Placing.{home-is}
-use Rattle.sj_board.proofs.{DiskCounts.fetches-cause, DiskCounts.fetches-counted, DiskCounts.stores-cause, DiskCounts.stores-counted, Keeping.copy-on_disk, Storing.at-place, Storing.extent, Storing.fetch-last, Storing.fetched-well, Storing.keeps-fetched, Storing.keeps-stored, Storing.OnOk-from, Storing.stored-well}
-use Rattle.std.proofs.lemmas.Option.{same_Some}
+use Rattle.sj_board.proofs.{DiskCounts.fetches-cause, DiskCounts.fetches-counted, DiskCounts.stores-cause, DiskCounts.stores-counted, Keeping.copy-on_disk, Storing.extent, Storing.fetch-last, Storing.fetched-well, Storing.keeps-fetched, Storing.keeps-stored, Storing.stored-well}
+use Rattle.std.proofs.lemmas.{Bool.false≢true, Option.same_Some}
 use Rattle.sj_disk.proofs.Returning.{extent-stays}
 
 -- which disks are out is no matter of what a run keeps
@@ -27,7 +27,11 @@ module _ {D : Type 0} {eq : Equations} (size faults mismatches : D → ℕ) (hel
 
   module _ (w : Worker) (b' : StandingBy eq D) (same : b ≡ b') (o : Option Transfer) (read : o ≡ transfer rows.state w) (x : Transfer) (found : o ≡ Some x) where
     under_way : transfer (state b) w ≡ Some x
-    under_way = at-place size faults mismatches held b rows tiles spare keeps w b' same o read x found x.to refl
+    under_way = ap (λ (r : Rows). transfer r.state w) (sym keeps.rows) ∙ sym read ∙ found
+
+    -- the disk of its cell is in
+    pub found-in : HasItsDiskIn b' w → IsInFor (lent b) x.cell.0
+    found-in is_in = IfSome-at (λ (y : Transfer). IsInFor (lent b) y.cell.0) (transfer (state b) w) x under_way (subst (λ (z : StandingBy eq D). HasItsDiskIn z w) (sym same) is_in)
 
     at-source : (d : DiskNo) → x.from ≡ OnDisk d → transfer (state b) w ≡ Some (a_transfer x.cell (OnDisk d) x.to)
     at-source d at = under_way ∙ ap (λ (q : Place). Some (a_transfer x.cell q x.to)) at
@@ -46,10 +50,7 @@ module _ {D : Type 0} {eq : Equations} (size faults mismatches : D → ℕ) (hel
 
     on-disk : (q : Place) → is_node q ≡ false → (d : DiskNo) × (q ≡ OnDisk d)
     on-disk (OnDisk d) e = (d, refl)
-    on-disk _ e = absurd (the-clash e)
-      where
-        the-clash : true ≡ false → ⊥
-        the-clash e = absurd (cc)
+    on-disk (AtNode n) e = absurd (false≢true (sym e))
 
     -- ---- a unit of it
     module _ (u : UnitState D) (is : IsUnitOf b w u) where
@@ -75,8 +76,14 @@ module _ {D : Type 0} {eq : Equations} (size faults mismatches : D → ℕ) (hel
       tile-of : IsTileOf held b x.cell x.from stored.array
       tile-of = IfSome-at (λ (y : Transfer). IsTileOf held b y.cell y.from stored.array) (transfer (state b) w) x under_way stored.is_moved
 
+      its : extent_of b.disks.directory x.cell.0 ≡ Some stored.before.extent
+      its = its-extent stored.before stored.is_its_unit
+
+      long : stored.before.extent.length ≡ area (dims_of b.program x.cell)
+      long = its-whole stored.before stored.is_its_unit d (home-target d at)
+
       whole : length stored.array.elements ≡ area stored.array.dims
-      whole = unit-stores.fills_the_block ∙ its-whole stored.before stored.is_its_unit d (home-target d at) ∙ sym (ap area tile-of.dims)
+      whole = unit-stores.fills_the_block ∙ long ∙ sym (ap area tile-of.dims)
 
       pub wrote-comes : ComesFrom size faults mismatches held (lent b) u
       wrote-comes = record { before = stored.before; taken = stored.is_its_unit.taken; worked = unit-stores.is_worked_on }
@@ -87,27 +94,21 @@ module _ {D : Type 0} {eq : Equations} (size faults mismatches : D → ℕ) (hel
             subst (λ (q : Cell). Stores size faults mismatches held q.0 (writes (state b) x.cell) stored.array.elements result b.disks new.set stored.before.extent) (its-cell stored.before stored.is_its_unit)
             (has stored.before (writes (state b) x.cell) stored.array.elements result stored.is_its_unit.taken unit-stores)
 
-        told : IfSome (extent_of b.disks.directory x.cell.0) (Stores size faults mismatches held x.cell.0 (writes (state b) x.cell) stored.array.elements result b.disks new.set)
-        told = IfSome-from (Stores size faults mismatches held x.cell.0 (writes (state b) x.cell) stored.array.elements result b.disks new.set) (extent_of b.disks.directory x.cell.0) stored.before.extent (its-extent stored.before stored.is_its_unit) wrote-stores
-
-        some : IsSomeAnd (extent_of b.disks.directory x.cell.0) (λ e. Unit {0})
-        some = subst (λ (o : Option Extent). IsSomeAnd o (λ e. Unit {0})) (sym (its-extent stored.before stored.is_its_unit)) tt
-
         pub wrote-keeps : Keeps size faults mismatches held (record b { disks = new.set; out = new.out }) rows tiles spare
-        wrote-keeps = keeps-stored size faults mismatches held b rows tiles spare keeps x.cell w x.from d (at-target d at) stored.array tile-of whole stored.fits result new told
+        wrote-keeps = keeps-stored size faults mismatches held b rows tiles spare keeps x.cell w x.from d (at-target d at) stored.array tile-of whole stored.fits result new stored.before.extent its long wrote-stores
 
         pub wrote-written : OnOk result (IsWrittenOut held (record b { disks = new.set; out = new.out }) w)
-        wrote-written = OnOk-from result (IsWrittenOut held (record b { disks = new.set; out = new.out }) w) (stored-well size faults mismatches held b rows tiles spare keeps x.cell w x.from d (at-target d at) stored.array tile-of whole stored.fits result new told)
+        wrote-written = stored-well size faults mismatches held b rows tiles spare keeps x.cell w x.from d (at-target d at) stored.array tile-of whole stored.fits result new stored.before.extent its long wrote-stores
 
         pub wrote-back : AreGivenBack size faults mismatches held b'.disks.disks new.set.disks
         wrote-back = subst (λ (z : StandingBy eq D). AreGivenBack size faults mismatches held z.disks.disks new.set.disks) same wrote-stores.disks_are_given_back
 
         module _ (laid : IsLaidOut (map size b.disks.disks) b.disks.taken b.disks.directory) where
           pub wrote-counted : AreCounted faults mismatches result b'.disks.disks new.set.disks
-          wrote-counted = subst (λ (z : StandingBy eq D). AreCounted faults mismatches result z.disks.disks new.set.disks) same (stores-counted size faults mismatches held b rows tiles spare keeps new x.cell.0 (writes (state b) x.cell) stored.array.elements result laid (λ e. Unit {0}) some told)
+          wrote-counted = subst (λ (z : StandingBy eq D). AreCounted faults mismatches result z.disks.disks new.set.disks) same (stores-counted size faults mismatches held b rows tiles spare keeps new x.cell.0 (writes (state b) x.cell) stored.array.elements result laid stored.before.extent its wrote-stores)
 
           pub wrote-cause : IfErr result (λ r. HasCause faults mismatches held (record b { disks = new.set; out = new.out }) (fault_of r))
-          wrote-cause = stores-cause size faults mismatches held b rows tiles spare keeps new x.cell.0 (writes (state b) x.cell) stored.array.elements result laid (λ e. Unit {0}) some told
+          wrote-cause = stores-cause size faults mismatches held b rows tiles spare keeps new x.cell.0 (writes (state b) x.cell) stored.array.elements result laid stored.before.extent its wrote-stores
 
     -- ---- fetched through a unit
     module _ (u : UnitState D) (result : Result (Unit {0}) DiskRefusal) (d : DiskNo) (at : x.from ≡ OnDisk d) where
@@ -117,6 +118,9 @@ module _ {D : Type 0} {eq : Equations} (size faults mismatches : D → ℕ) (hel
 
         unit-fetches : UnitFetches size faults mismatches held (writes (state b) x.cell) array.elements result fetched.before u
         unit-fetches = IfSome-at (λ (y : Transfer). UnitFetches size faults mismatches held (writes (state b) y.cell) array.elements result fetched.before u) (transfer (state b) w) x under_way fetched.fetches
+
+        its-block : extent_of b.disks.directory x.cell.0 ≡ Some fetched.before.extent
+        its-block = its-extent fetched.before fetched.is_its_unit
 
         dims-of : array.dims ≡ dims_of b.program x.cell
         dims-of = IfSome-at (λ (y : Transfer). array.dims ≡ dims_of b.program y.cell) (transfer (state b) w) x under_way fetched.dims
@@ -130,27 +134,21 @@ module _ {D : Type 0} {eq : Equations} (size faults mismatches : D → ℕ) (hel
               subst (λ (q : Cell). Fetches size faults mismatches held q.0 (writes (state b) x.cell) array.elements result b.disks new.set fetched.before.extent) (its-cell fetched.before fetched.is_its_unit)
               (has fetched.before (writes (state b) x.cell) array.elements result fetched.is_its_unit.taken unit-fetches)
 
-          told-fetch : IfSome (extent_of b.disks.directory x.cell.0) (Fetches size faults mismatches held x.cell.0 (writes (state b) x.cell) array.elements result b.disks new.set)
-          told-fetch = IfSome-from (Fetches size faults mismatches held x.cell.0 (writes (state b) x.cell) array.elements result b.disks new.set) (extent_of b.disks.directory x.cell.0) fetched.before.extent (its-extent fetched.before fetched.is_its_unit) read-fetches
-
-          some-fetch : IsSomeAnd (extent_of b.disks.directory x.cell.0) (λ e. Unit {0})
-          some-fetch = subst (λ (o : Option Extent). IsSomeAnd o (λ e. Unit {0})) (sym (its-extent fetched.before fetched.is_its_unit)) tt
-
           pub read-keeps : Keeps size faults mismatches held (record b { disks = new.set; out = new.out }) rows tiles spare
-          read-keeps = keeps-fetched size faults mismatches held b rows tiles spare keeps x.cell w d x.to (at-source d at) array dims-of fetched.whole result array refl new told-fetch
+          read-keeps = keeps-fetched size faults mismatches held b rows tiles spare keeps x.cell w d x.to (at-source d at) fetched.before.extent its-block result array dims-of new read-fetches
 
           pub read-tile : OnOk result (IsTileMoved held b' w array)
-          read-tile = OnOk-from result (IsTileMoved held b' w array) (fetched-well size faults mismatches held b rows tiles spare keeps x.cell w d x.to (at-source d at) array dims-of fetched.whole result array refl new told-fetch b' same)
+          read-tile = fetched-well size faults mismatches held b rows tiles spare keeps x.cell w d x.to (at-source d at) fetched.before.extent its-block result array dims-of new read-fetches b' same
 
           pub read-back : AreGivenBack size faults mismatches held b'.disks.disks new.set.disks
           read-back = subst (λ (z : StandingBy eq D). AreGivenBack size faults mismatches held z.disks.disks new.set.disks) same read-fetches.disks_are_given_back
 
           module _ (laid : IsLaidOut (map size b.disks.disks) b.disks.taken b.disks.directory) where
             pub read-counted : AreCounted faults mismatches result b'.disks.disks new.set.disks
-            read-counted = subst (λ (z : StandingBy eq D). AreCounted faults mismatches result z.disks.disks new.set.disks) same (fetches-counted size faults mismatches held b rows tiles spare keeps new x.cell.0 (writes (state b) x.cell) array.elements result laid (λ e. Unit {0}) some-fetch told-fetch)
+            read-counted = subst (λ (z : StandingBy eq D). AreCounted faults mismatches result z.disks.disks new.set.disks) same (fetches-counted size faults mismatches held b rows tiles spare keeps new x.cell.0 (writes (state b) x.cell) array.elements result laid fetched.before.extent its-block read-fetches)
 
             pub read-cause : IfErr result (λ r. HasCause faults mismatches held (record b { disks = new.set; out = new.out }) (fault_of r))
-            read-cause = fetches-cause size faults mismatches held b rows tiles spare keeps new x.cell.0 (writes (state b) x.cell) array.elements result laid (λ e. Unit {0}) some-fetch (fetch-last size faults mismatches held b rows tiles spare keeps x.cell w d x.to (at-source d at) array dims-of fetched.whole (writes (state b) x.cell) refl) told-fetch
+            read-cause = fetches-cause size faults mismatches held b rows tiles spare keeps new x.cell.0 (writes (state b) x.cell) array.elements result laid fetched.before.extent its-block read-fetches (fetch-last size faults mismatches held b rows tiles spare keeps x.cell w d x.to (at-source d at) fetched.before.extent its-block)
 
       -- the elements that were fetched well are the move's tile, whoever asks
       pub read-tiles : (new : LendingState D) → HasFetched size faults mismatches held u (lent b) new → OnOk result ((array : Array) → HasFetchedMoved size faults mismatches held b' w u result array → IsTileMoved held b' w array)

@@ -1,5 +1,5 @@
 -- What is true of every run between two calls.
-use Rattle.std.specs.Prelude.{◌≡◌, ◌+◌, ◌*◌, ◌≤◌, Bool, ℕ, ℤ, All, Result, FitsSigned, length, Option, true, Some, IsTrue, IfSome, IsSomeAnd, List, slice_get, option_and_then}
+use Rattle.std.specs.Prelude.{◌≡◌, ◌+◌, ◌*◌, ◌≤◌, Bool, ℕ, All, FitsSigned, length, Option, true, Some, IsTrue, IfSome, IsSomeAnd, List, slice_get, option_and_then}
 use Rattle.std.specs.Int.{w64}
 use Rattle.sj_base.specs.declared.ids.Cell.{Cell}
 use Rattle.sj_base.specs.declared.ids.DiskNo.{DiskNo}
@@ -23,9 +23,7 @@ use Rattle.sj_core.specs.Proper.{HasSwapFor, IsMachineFor, Proper}
 use Rattle.sj_core.specs.Step.{has_copy}
 use Rattle.sj_edge.specs.GivenBack.{AreGivenBack}
 use Rattle.sj_disk.specs.declared.directory.Extent.{Extent}
-use Rattle.sj_disk.specs.declared.refusal.DiskRefusal.{DiskRefusal}
 use Rattle.sj_disk.specs.Block.{block}
-use Rattle.sj_disk.specs.Calls.{Fetches, Stores}
 use Rattle.sj_disk.specs.Directory.{DiskState, extent_of, last_store}
 use Rattle.sj_disk.specs.Holding.{Holds}
 use Rattle.sj_machine.specs.Rows.{Rows}
@@ -120,13 +118,3 @@ IsWrittenOut held b w = IfSome (transfer (state b) w) (λ x. IsSomeAnd (extent_o
 -- no event has happened: the disks alone may have changed
 abbrev pub OnlyDisksChange : {D : Type 0} {eq : Equations} → StandingBy eq D → StandingBy eq D → Type 0
 OnlyDisksChange old new = new ≡ record old { disks = new.disks; out = new.out }
-
--- the disks changed by a store of these elements for the cell of the worker's transfer
-abbrev pub StoresMoved : {D A : Type 0} {eq : Equations} → (D → ℕ) → (D → ℕ) → (D → ℕ) → (D → Option (List ℕ)) → Worker → List ℤ → Result A DiskRefusal → StandingBy eq D → StandingBy eq D → Type 0
-StoresMoved size faults mismatches held w xs result old new =
-    IfSome (transfer (state old) w) (λ x. IfSome (extent_of old.disks.directory x.cell.0) (Stores size faults mismatches held x.cell.0 (writes (state old) x.cell) xs result old.disks new.disks))
-
--- the disks changed by a fetch of these elements for the cell of the worker's transfer
-abbrev pub FetchesMoved : {D A : Type 0} {eq : Equations} → (D → ℕ) → (D → ℕ) → (D → ℕ) → (D → Option (List ℕ)) → Worker → List ℤ → Result A DiskRefusal → StandingBy eq D → StandingBy eq D → Type 0
-FetchesMoved size faults mismatches held w xs result old new =
-    IfSome (transfer (state old) w) (λ x. IfSome (extent_of old.disks.directory x.cell.0) (Fetches size faults mismatches held x.cell.0 (writes (state old) x.cell) xs result old.disks new.disks))

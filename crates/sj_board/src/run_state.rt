@@ -8,21 +8,16 @@ ghost use Rattle.sj_base.specs.declared.ids.Place.TheVariants.{Disk as OnDisk, N
 ghost use Rattle.sj_codelet.specs.Kernel.{out};
 ghost use Rattle.sj_core.specs.Program.{task_of};
 ghost use Rattle.sj_core.specs.Step.{mover_of};
-ghost use Rattle.sj_edge.specs.GivenBack.{AreGivenBack};
 ghost use Rattle.sj_machine.specs.Gone.{KnownGone};
 ghost use Rattle.sj_machine.specs.Plan.{IsPlan};
 ghost use Rattle.sj_machine.specs.Planning.{AnotherHasTask, IsWhy, MayClaim};
-ghost use Rattle.sj_board.specs.Cause.{HasCause};
-ghost use Rattle.sj_board.specs.Counts.{AreCounted, fault_of};
 ghost use Rattle.sj_board.specs.Delivery.{IsGift};
-ghost use Rattle.sj_board.specs.DiskUnits.{HasItsDiskIn};
 ghost use Rattle.sj_board.specs.Shares.{AreResultsFor, AreSharesFor};
-ghost use Rattle.sj_board.specs.Sound.{CanStart, FetchesMoved, IsSoundRun, IsWrittenOut, OnlyDisksChange, StoresMoved};
+ghost use Rattle.sj_board.specs.Sound.{CanStart, IsSoundRun, IsWrittenOut};
 ghost use Rattle.sj_board.specs.Sparing.{EventsSpareUsed};
-ghost use Rattle.sj_board.specs.Standing.{CanHappen, HasDimsMoved, HasMoved, IsFetching, IsMovingIn, IsMovingOut, IsShareOf, IsTileMoved, is_node, starting, state, with_event};
+ghost use Rattle.sj_board.specs.Standing.{CanHappen, HasMoved, IsMovingIn, IsMovingOut, IsShareOf, IsTileMoved, is_node, starting, state, with_event};
 ghost use Rattle.sj_board.specs.Tiles.{CanShare, array_in, tile_kept, tiles_of, with_tile, with_tiles_of};
 
-mod asking;
 mod lending;
 mod looking;
 mod planning;
@@ -38,11 +33,9 @@ use sj_base::program::{Machine, Program};
 use sj_base::tile::Tile;
 use sj_base::trace::{Event, Trace};
 use sj_codelet::frame::Frame;
-use sj_core::progress::Transfer;
 use sj_core::tasks::task_at;
 use sj_disk::disk_set::DiskSet;
 use sj_disk::lending_set::LendingSet;
-use sj_disk::refusal::DiskRefusal;
 use sj_edge::disk::Disk;
 use sj_machine::operands::written_cells;
 use sj_machine::plan::{Plan, Why};
@@ -294,58 +287,6 @@ impl<D: Disk> RunState<D> {
         let x = self.rows.end_move(w);
         let _d = disk_at(x.to);
         self.trace.add(Event::Moved(x.cell, x.from, x.to));
-    }
-
-    /// Writes the tile of a worker's move to the block of its cell. No event, and no memory. Linear in the tile.
-    ///
-    /// After an `Err` the block may hold any bytes, and the move is still under way.
-    pub fn store(&mut self, w: Worker, tile: &Tile) -> Result<(), DiskRefusal>
-        requires under_way { IsMovingOut self.old w }
-        requires tile { IsTileMoved D.held self.old w tile.now }
-        requires disk_in { HasItsDiskIn self.old w }
-        ensures no_event { OnlyDisksChange self.old self.new }
-        ensures stores { StoresMoved D.size D.faults D.mismatches D.held w tile.now.elements result
-            self.old self.new }
-        ensures counts { AreCounted D.faults D.mismatches result self.old.disks.disks
-            self.new.disks.disks }
-        ensures cause { IfErr result (λ r. HasCause D.faults D.mismatches D.held self.new
-            (fault_of r)) }
-        ensures given_back { AreGivenBack D.size D.faults D.mismatches D.held self.old.disks.disks
-            self.new.disks.disks }
-        ensures written { OnOk result (IsWrittenOut D.held self.new w) }
-    {
-        let x = self.rows.transfer(w).unwrap();
-        let _d = disk_at(x.to);
-        let _extent = self.disks.extent(x.cell);
-        measured(tile);
-        let writes = self.rows.writes(x.cell);
-        self.disks.store(x.cell, writes, tile)
-    }
-
-    /// Reads the block of the cell of a worker's move into a tile. No event, and no memory. Linear in the tile.
-    ///
-    /// After an `Err` the tile holds any elements, and the move is still under way.
-    pub fn fetch(&mut self, w: Worker, tile: &mut Tile) -> Result<(), DiskRefusal>
-        requires under_way { IsFetching self.old w }
-        requires dims { HasDimsMoved self.old w tile.old.dims }
-        requires disk_in { HasItsDiskIn self.old w }
-        ensures no_event { OnlyDisksChange self.old self.new }
-        ensures fetches { FetchesMoved D.size D.faults D.mismatches D.held w tile.new.elements
-            result self.old self.new }
-        ensures counts { AreCounted D.faults D.mismatches result self.old.disks.disks
-            self.new.disks.disks }
-        ensures cause { IfErr result (λ r. HasCause D.faults D.mismatches D.held self.new
-            (fault_of r)) }
-        ensures given_back { AreGivenBack D.size D.faults D.mismatches D.held self.old.disks.disks
-            self.new.disks.disks }
-        ensures tile { OnOk result (IsTileMoved D.held self.old w tile.new) }
-    {
-        let x = self.rows.transfer(w).unwrap();
-        let _d = disk_at(x.from);
-        let _extent = self.disks.extent(x.cell);
-        let _dims = tile.dims();
-        let writes = self.rows.writes(x.cell);
-        self.disks.fetch(x.cell, writes, tile)
     }
 
     /// A further share of the tile that a task will hand over, at the node of the worker that has claimed it, where it is a

@@ -1,10 +1,8 @@
 -- A task's operands are ready for its codelet, and what its kernel leaves are the task's results.
-use Rattle.std.proofs.Common.{◌≡◌, ℕ, zero, suc, ◌<◌, ◌≤◌, Bool, true, false, ◌&&◌, cond, List, [], ◌∷◌, map, length, refl, sym, ap, ◌∙◌, subst, Option, None, Some, arith, inl, inr}
-use Rattle.std.specs.Prelude.{All, IsTrue, nat_eq, not, ◌^◌, ◌||◌}
+use Rattle.std.proofs.Common.{◌≡◌, ℕ, zero, suc, ◌<◌, Bool, true, false, ◌&&◌, cond, List, [], ◌∷◌, map, length, refl, sym, ap, ◌∙◌, subst, Option, None, Some, arith}
+use Rattle.std.specs.Prelude.{All, IsTrue, not, ◌||◌}
 use Rattle.std.specs.List.{AllZip, slice_index_or}
-use Rattle.std.proofs.lemmas.Bool.{and_parts, cases_lt, false≢true}
-use Rattle.std.proofs.lemmas.Bool.Decides.{nat_tests}
-use Rattle.std.proofs.lemmas.List.{get_or_past, length-map}
+use Rattle.std.proofs.lemmas.Bool.{and_parts, false≢true}
 use Rattle.std.proofs.lemmas.List.Elements.{All-get_or}
 use Rattle.sj_base.specs.declared.ids.Cell.{Cell}
 use Rattle.sj_base.specs.declared.ids.Task.{Task}
@@ -13,24 +11,23 @@ use Rattle.sj_base.specs.declared.mode.Access.{Access}
 use Rattle.sj_base.specs.declared.mode.Mode.{Mode}
 use Rattle.sj_base.specs.declared.mode.Mode.TheVariants.{R, W, RW, Scratch, Redux, Commute}
 use Rattle.sj_base.specs.declared.mode.Reduction.{Reduction}
-use Rattle.sj_base.specs.declared.program.CellInfo.{CellInfo}
 use Rattle.sj_base.specs.declared.program.Lowered.{Lowered}
 use Rattle.sj_base.specs.declared.program.Program.{Program}
 use Rattle.sj_base.specs.declared.tile.Dims.{Dims}
-use Rattle.sj_base.specs.Array.{Array, area, zeros}
+use Rattle.sj_base.specs.Array.{Array, zeros}
 use Rattle.sj_base.specs.Mode.{is_written, reads_value, access, reads_of, writes_of}
 use Rattle.sj_codelet.specs.declared.formal.Formal.{Formal}
 use Rattle.sj_codelet.specs.declared.formal.Formal.TheVariants.{R as ReadFormal, W as WriteFormal, RW as UpdateFormal, Scratch as ScratchFormal}
 use Rattle.sj_codelet.specs.declared.kernel.Kernel.{Kernel}
 use Rattle.sj_codelet.specs.Frame.{AllKeep, AreReady, Frame, SuitsFormal, KeepsOperand, Slot, all_dims, arrays, own, shared, written_arrays}
-use Rattle.sj_codelet.specs.Kernel.{arguments_fit, commutes_of, contributes_of, dims_fit, fits, fits_in, formals_of, out}
+use Rattle.sj_codelet.specs.Kernel.{commutes_of, contributes_of, fits, fits_in, formals_of, out}
 use Rattle.sj_codelet.specs.Runs.{IsReadyFor, IsRun, formals_in}
 use Rattle.sj_core.specs.Laws.{IsLawful, is_known}
 use Rattle.sj_core.specs.Operands.{found, results, worked_on}
-use Rattle.sj_core.specs.Program.{dims_of, no_cell, no_task, task_of, written_operands}
+use Rattle.sj_core.specs.Program.{dims_of, no_task, task_of, written_operands}
 use Rattle.sj_core.specs.Proper.{Commuting, Contributing, FirstPaste, FitsCodelet, MayHaveModes, Own, Proper, mode_of, modes_writing_by}
-use Rattle.sj_engine.specs.Operands.{AreSharesOf, IsSmall, first_share, held_for, later_shares, operand_from, operands_from, read_operands}
-use Rattle.sj_codelet.proofs.Table.{few-formals, by_table}
+use Rattle.sj_engine.specs.Operands.{AreSharesOf, first_share, held_for, later_shares, operand_from, operands_from, read_operands}
+use Rattle.sj_codelet.proofs.Table.{by_table}
 use Rattle.sj_base.proofs.Lists.{cons_same}
 use Rattle.sj_core.proofs.Sized.{task-fits}
 use Rattle.sj_board.specs.Shares.{IsShare}
@@ -237,9 +234,6 @@ shared-arrays : (xs : List Array) → arrays (map shared xs) ≡ xs
 shared-arrays [] = refl
 shared-arrays (x ∷ xs) = ap (λ l. x ∷ l) (shared-arrays xs)
 
-same-count : (a b : Bool) (n m : ℕ) → IsTrue (nat_eq n m && a && b) → n ≡ m
-same-count a b n m h = grind (arith, nat_tests)
-
 shares-shared : (p : Program) (accesses : List Access) (slots : List Slot) → AllZip (IsShare p) accesses slots → All (λ s. s.owned ≡ false) slots
 shares-shared p accesses slots h = λ k d i. at accesses slots h k d i
   where
@@ -266,28 +260,6 @@ module _ (p : Program) (proper : Proper p) (t : Task) (inside : t.0 < length p.t
 
   the-formals : formals_in (task_of p t).codelet ≡ formals_of the-fit.kernel
   the-formals = ap (λ (o : Option Kernel). elim o as (λ _. List Formal) [ None ↦ [] | Some k ↦ formals_of k ]) the-fit.codelet
-
-  pub few-accesses : length (task_of p t).accesses ≤ 5
-  few-accesses =
-      let l = task_of p t in
-      let ds = map (λ (a : Access). dims_of p a.cell) l.accesses in
-      let e : length ds ≡ length (formals_of the-fit.kernel) = same-count (arguments_fit the-fit.kernel l.args ds) (dims_fit the-fit.kernel l.args ds) (length ds) (length (formals_of the-fit.kernel)) the-fit.operands in
-      let few = few-formals the-fit.kernel in
-      omega (arith, length-map l.accesses (λ (a : Access). dims_of p a.cell))
-
-  tile-small : (c : Cell) → area (dims_of p c) ≤ 2 ^ 24
-  tile-small c =
-      elim (cases_lt c.0 (length p.cells)) [
-        | inl here ↦ All-get_or (λ (i : CellInfo). area i.dims ≤ 2 ^ 24) p.cells c.0 no_cell here proper.limits.elements
-        | inr past ↦ subst (λ (i : CellInfo). area i.dims ≤ 2 ^ 24) (sym (get_or_past p.cells c.0 no_cell past)) (omega arith)
-      ]
-
-  pub all-small : All (IsSmall p) (task_of p t).accesses
-  all-small = λ k d h. (let a = slice_index_or (task_of p t).accesses k d in
-      record {
-        cell = All-get_or (λ (l : Lowered). All (λ (b : Access). b.cell.0 < length p.cells) l.accesses) p.tasks t.0 no_task inside proper.cells.named k d h;
-        small = tile-small a.cell;
-      })
 
   module _ (taken : List Slot) (shares : AreSharesOf p t taken) where
     pub taken-shared : All (λ s. s.owned ≡ false) taken

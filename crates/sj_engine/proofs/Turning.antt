@@ -155,18 +155,6 @@ module _ {D : Type 0} (faults mismatches : D → ℕ) (w : Worker) where
     taken = λ h. y.taken (x.taken h);
   }
 
-  -- and of which the second makes none
-  pub turn-before : (a b c : BoardState D) → NothingHappens b c → IsTurnOf faults mismatches w a b → IsTurnOf faults mismatches w b c → IsTurnOf faults mismatches w a c
-  turn-before a b c nothing x y = record {
-    key = y.key ∙ x.key;
-    others = λ n other. y.others n other ∙ x.others n other;
-    one_event = subst (λ (l : List Event). (l ≡ a.run.trace) ⊎ ((e : Event) × (l ≡ a.run.trace ++ e ∷ []))) (sym nothing) x.one_event;
-    events = (x.events.0 ++ y.events.0, y.events.1 ∙ ap (λ (l : List Event). l ++ y.events.0) x.events.1 ∙ append_assoc (row_in a w).events x.events.0 y.events.0);
-    no_fault = λ e. x.no_fault (y.no_fault e);
-    counts = λ e. (let one = x.counts (y.no_fault e) in let two = y.counts e in (two.0 ∙ one.0, two.1 ∙ one.1));
-    taken = λ h. y.taken (x.taken h);
-  }
-
   -- nothing has changed
   pub turn-still : (b b' : BoardState D) → b' ≡ b → IsTurnOf faults mismatches w b b'
   turn-still b b' same = record {

@@ -4,14 +4,15 @@ use super::RunState;
 use sj_base::ids::{Node, Task, Worker};
 use sj_base::program::{Machine, Program};
 use sj_base::trace::Trace;
-use sj_core::progress::{Progress, Transfer};
+use sj_core::progress::Progress;
 use sj_disk::lending_set::LendingSet;
 use sj_edge::disk::Disk;
 
 impl<D: Disk> RunState<D> {
     ghost use Rattle.std.specs.Prelude.{◌≡◌, ◌<◌, length};
-    ghost use Rattle.sj_core.specs.Machine.{progress, transfer};
+    ghost use Rattle.sj_core.specs.Machine.{progress};
     ghost use Rattle.sj_core.specs.Needs.{node_of, node_size};
+    ghost use Rattle.sj_core.specs.Step.{to_come};
     ghost use Rattle.sj_board.specs.Standing.{state};
     ghost use Rattle.sj_board.specs.DiskUnits.{lent};
 
@@ -51,12 +52,15 @@ impl<D: Disk> RunState<D> {
         self.rows.progress(t)
     }
 
-    /// A worker's transfer, where it has one. Constant time.
-    pub fn transfer(&self, w: Worker) -> Option<Transfer>
-        requires { w.0 < self.now.program.workers }
-        ensures { result ≡ transfer (state self.now) w }
+    /// The bytes that a claim of a task brings to the worker's node: of those of its cells that have no entry there, each once,
+    /// and of its scratch. Quadratic in the operands; no memory.
+    pub fn bytes_to_come(&self, t: Task, w: Worker) -> u64
+        requires task { t.0 < length self.now.program.tasks }
+        requires worker { w.0 < self.now.program.workers }
+        ensures { result ≡ to_come self.now.program (state self.now) t w
+            (node_of self.now.machine w) }
     {
-        self.rows.transfer(w)
+        self.rows.bytes_to_come(t, w)
     }
 
     /// The events, and the disks. Constant time, and no memory.

@@ -1,5 +1,5 @@
 use Rattle.sj_board.proofs.Words.{ap, arith, array_in, board_state, BoardState, CanHappen, HasTask, IsKept, length, None, Run, Standing, subst, sym, ◌<◌, ◌≡◌}
-use Rattle.sj_board.proofs.{BoardEnds.begins, SparingBoards.told-spares, Starting.keeps-begun_left, StillGone.knows-event, StillGone.knows-found, StillGone.knows-read, UnitHands.units-tried}
+use Rattle.sj_board.proofs.{BoardEnds.begins, SparingBoards.told-spares, Starting.keeps-begun_left, StillGone.knows-event, StillGone.knows-found, StillGone.knows-read, UnitHands.units-event}
 use Rattle.sj_board.proofs.board.Board.run.Goals as goal
 
 pub invariant_of-self : goal.invariant_of-self
@@ -24,7 +24,7 @@ invariant_of-self-2 g c =
       board = keeps-begun_left _ _ _ _ _ _ c.self.invariant.board none c.args.t c.args.w can c.run.result _ c.run.ensures.ok c.run.ensures.err;
       ends = begins g.D.Disk.held c.self.inside.run _ _ _ _ c.self.invariant.ends _ _ _ c.is_sound.ensures c.args.t c.args.w can (array_in c.in_ok-gift.gift) c.in_ok-gift.ensures _ c.in_ok-frame.ensures.ok _ c.keep.ensures;
       victims = knows-found c.run.new.self c.self.inside.gone.items known c.args.w c.gone-gone.result c.gone-gone.ensures _ c.note_gone.ensures;
-      units = units-tried _ _ _ c.run.result (Run c.args.t c.args.w) c.run.ensures.ok c.run.ensures.err c.self.invariant.units;
+      units = units-event _ _ _ _ c.in_ok-frame.ensures.ok c.self.invariant.units;
     }
 
 pub returns-clause-spares : goal.returns-clause-spares

@@ -1,7 +1,7 @@
 use Rattle.sj_base.proofs.Options.{IfSome-at}
 use Rattle.sj_disk.proofs.Lent.{is-given}
 use Rattle.sj_board.proofs.Words.{TakesOut}
-use Rattle.sj_board.proofs.{Storing.found-in, UnitPuts.take-block, UnitPuts.take-keeps, UnitPuts.take-reserved, UnitPuts.take-takes}
+use Rattle.sj_board.proofs.{UnitPuts.found-in, UnitPuts.take-block, UnitPuts.take-keeps, UnitPuts.take-reserved, UnitPuts.take-takes}
 use Rattle.sj_board.proofs.run_state.RunState.take_unit.Goals as goal
 
 pub take_out-requires : goal.take_out-requires
