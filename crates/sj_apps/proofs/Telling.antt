@@ -2,6 +2,7 @@
 use Rattle.std.proofs.Common.{◌≡◌, ℕ, ◌+◌, ◌<◌, List, [], ◌∷◌, ◌++◌, length, map, refl, ap, sym, ◌∙◌, subst, arith, cond, Bool, true, false, not, eqb, append_assoc, append-nil, length-append}
 use Rattle.std.specs.List.{range_with_len, flat_map, filter, All, AllByRecursion}
 use Rattle.std.proofs.lemmas.List.Elements.{filter-append, All-from_recursion}
+use Rattle.std.proofs.lemmas.List.{map-append}
 use Rattle.std.proofs.lemmas.List.Concat.{flat_map_single}
 use Rattle.std.proofs.lemmas.List.FromFn.{map-range_with_len_more}
 use Rattle.std.proofs.lemmas.Grind.{flat_map-append}
@@ -13,7 +14,10 @@ use Rattle.sj_meaning.specs.declared.job.TaskLine.{TaskLine as KeptTask}
 use Rattle.sj_meaning.specs.declared.job.Act.TheVariants.{Task as TaskOf, Print as PrintOf}
 use Rattle.sj_meaning.specs.declared.job.Act.{Act as KeptAct}
 use Rattle.sj_meaning.specs.declared.job.Statement.{Statement as Kept}
-use Rattle.sj_meaning.specs.View.{act_seen, task_seen, statement_seen, seen_from, count_after, count_from, IsPlaced, ActsArePlaced}
+use Rattle.sj_meaning.specs.State.{JobState, start}
+use Rattle.sj_meaning.specs.Meaning.{run_from}
+use Rattle.sj_meaning.proofs.Views.{values-push}
+use Rattle.sj_meaning.specs.View.{finds_value, says_value, values_from, values_said, act_seen, task_seen, statement_seen, seen_from, count_after, count_from, IsPlaced, ActsArePlaced}
 use Rattle.sj_apps.specs.declared.draft.Draft.{Draft}
 use Rattle.sj_apps.specs.Generated.{numbered, first_line, others}
 use Rattle.sj_apps.specs.Draft.{Tells, unless_same}
@@ -51,18 +55,25 @@ pub record Speaks (T : Table) (kept : KeptAct) (act : Act (List ℕ)) : Type 0 w
   pub seen : (k : ℕ) → act_seen T k kept ≡ act
   pub count : (k : ℕ) → count_after k kept ≡ k
   pub placed : IsPlaced (length T.names) kept
+  pub valued : (S : JobState) → says_value kept ≡ finds_value S act
 
 pub tells-one : (a b : Draft) (kept : KeptAct) (act : Act (List ℕ)) → Speaks a.roots kept act → b.roots ≡ a.roots → b.statements ≡ a.statements ++ record { line = record { 0 = length a.statements + first_line }; act = kept } ∷ [] → Tells a b (act ∷ [])
 tells-one a b kept act s r e =
     let last : Kept = record { line = record { 0 = length a.statements + first_line }; act = kept } in
+    let seen : seen_from b.roots 0 b.statements ≡ seen_from a.roots 0 a.statements ++ record { line = record { 0 = length a.statements + first_line }; act = act } ∷ [] =
+    ap (λ T. seen_from T 0 b.statements) r ∙ ap (seen_from a.roots 0) e ∙ seen_from-append a.roots 0 a.statements (last ∷ [])
+    ∙ ap (λ x. seen_from a.roots 0 a.statements ++ record { line = record { 0 = length a.statements + first_line }; act = x } ∷ []) (s.seen (count_from 0 a.statements)) in
     record {
       roots = r;
       long = ap length e ∙ length-append a.statements (last ∷ []);
-      seen = ap (λ T. seen_from T 0 b.statements) r ∙ ap (seen_from a.roots 0) e ∙ seen_from-append a.roots 0 a.statements (last ∷ [])
-          ∙ ap (λ x. seen_from a.roots 0 a.statements ++ record { line = record { 0 = length a.statements + first_line }; act = x } ∷ []) (s.seen (count_from 0 a.statements));
+      seen = seen;
       numbered = λ h. record {
         placed = subst (ActsArePlaced 0) (sym e) (placed-append 0 a.statements (last ∷ []) h.placed (subst (λ k. IsPlaced k kept) (sym h.counted) s.placed, tt));
         counted = ap (count_from 0) e ∙ count_from-append 0 a.statements (last ∷ []) ∙ s.count (count_from 0 a.statements) ∙ h.counted ∙ ap (λ (T : Table). length T.names) (sym r);
+        valued =
+            ap values_said e ∙ map-append (λ (x : Kept). says_value x.act) a.statements (last ∷ [])
+            ∙ (λ i. h.valued i ++ s.valued (run_from start (seen_from a.roots 0 a.statements)) i ∷ [])
+            ∙ sym (ap (values_from start) seen ∙ values-push start (seen_from a.roots 0 a.statements) (record { line = record { 0 = length a.statements + first_line }; act = act }));
       };
     }
 
@@ -94,12 +105,13 @@ pub tells-other : (a b : Draft) (j k : ℕ) (acts : List (Act (List ℕ))) → e
 tells-other a b j k acts e h = subst (λ t. Tells a b (cond t [] acts)) (sym e) h
 
 -- a task of roots of these names
-pub task-told : (a b : Draft) (names : List (List ℕ)) (t : KeptTask) (kept : KeptAct) → a.roots.names ≡ names → b.roots ≡ a.roots → kept ≡ TaskOf t → AllByRecursion (λ o. o.root.0 < length names) t.operands → b.statements ≡ a.statements ++ record { line = record { 0 = length a.statements + first_line }; act = kept } ∷ [] → Tells a b (Task (task_seen (table_of names []) t) ∷ [])
-task-told a b names t kept e r is placed s =
+pub task-told : (a b : Draft) (names : List (List ℕ)) (t : KeptTask) (kept : KeptAct) → a.roots.names ≡ names → b.roots ≡ a.roots → kept ≡ TaskOf t → AllByRecursion (λ o. o.root.0 < length names) t.operands → ((S : JobState) → t.valued ≡ finds_value S (Task (task_seen (table_of names []) t))) → b.statements ≡ a.statements ++ record { line = record { 0 = length a.statements + first_line }; act = kept } ∷ [] → Tells a b (Task (task_seen (table_of names []) t) ∷ [])
+task-told a b names t kept e r is placed valued s =
     tells-one a b (TaskOf t) (Task (task_seen (table_of names []) t)) (record {
       seen = λ k. ap (λ ns. Task (task_seen (table_of ns []) t)) e;
       count = λ k. refl;
       placed = subst (λ (ns : List (List ℕ)). All (λ o. o.root.0 < length ns) t.operands) (sym e) (All-from_recursion (λ o. o.root.0 < length names) t.operands placed);
+      valued = valued;
     }) r (s ∙ ap (λ x. a.statements ++ record { line = record { 0 = length a.statements + first_line }; act = x } ∷ []) is)
 
 -- a root that is printed
@@ -109,6 +121,7 @@ print-told a b names root e r placed s =
       seen = λ k. ap (λ ns. Print (name_of (table_of ns []) root)) e;
       count = λ k. refl;
       placed = subst (λ (ns : List (List ℕ)). root.0 < length ns) (sym e) placed;
+      valued = λ S. refl;
     }) r s
 
 -- the whole of a job: its registrations, its tasks and its print

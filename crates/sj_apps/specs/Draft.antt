@@ -4,14 +4,16 @@ use Rattle.sj_meaning.specs.declared.job.Act.TheVariants as kept
 use Rattle.sj_meaning.specs.declared.job.Init.TheVariants.{Fill}
 use Rattle.sj_meaning.specs.declared.job.Statement.{Statement}
 use Rattle.sj_meaning.specs.Act.{Act}
-use Rattle.sj_meaning.specs.View.{seen_from, ActsArePlaced, count_from}
+use Rattle.sj_meaning.specs.State.{start}
+use Rattle.sj_meaning.specs.View.{seen_from, ActsArePlaced, count_from, values_from, values_said}
 use Rattle.sj_apps.specs.declared.draft.Draft.{Draft}
 use Rattle.sj_apps.specs.Generated.{numbered, first_line, name_A, name_B, name_C, name_D}
 
--- the statements speak of roots that are registered before them
+-- the statements speak of roots that are registered before them, and say which values they find
 pub record IsNumberedSoFar (d : Draft) : Type 0 where
   pub placed : ActsArePlaced 0 d.statements
   pub counted : count_from 0 d.statements ≡ length d.roots.names
+  pub valued : values_said d.statements ≡ values_from start (seen_from d.roots 0 d.statements)
 
 -- the new draft says these acts more, in the next lines
 pub record Tells (old new : Draft) (acts : List (Act (List ℕ))) : Type 0 where

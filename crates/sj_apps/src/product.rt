@@ -1,7 +1,7 @@
 //! The product of two matrices, as a job: each tile of C takes the products of a row of A's tiles and a column of B's, in
 //! any order.
 
-ghost use Rattle.std.specs.Prelude.{◌≡◌, ◌+◌, ◌<◌, ◌≤◌, ◌∷◌, [], pos, length, IfOk, OnOk};
+ghost use Rattle.std.specs.Prelude.{◌≡◌, ◌+◌, ◌<◌, ◌≤◌, ◌∷◌, [], false, pos, length, IfOk, OnOk};
 ghost use Rattle.sj_meaning.specs.Settings.{unset};
 ghost use Rattle.sj_meaning.specs.Table.{table_of};
 ghost use Rattle.sj_meaning.specs.declared.job.Act.TheVariants as kept;
@@ -61,6 +61,7 @@ pub fn codelet_task<const M: usize>(
           args = [];
           operands = operands.entry;
           priority = pos 0;
+          valued = false;
         })) }
 {
     Ok(Act::Task(TaskLine {
@@ -68,6 +69,7 @@ pub fn codelet_task<const M: usize>(
         args: Few::empty(alloc),
         operands: Few::of(alloc, operands)?,
         priority: 0,
+        valued: false,
     }))
 }
 

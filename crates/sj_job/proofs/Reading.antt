@@ -1,5 +1,6 @@
 -- A line more is read.
 use Rattle.std.proofs.Common.{◌≡◌, ℕ, ◌+◌, Bool, List, [], ◌∷◌, ◌++◌, length, ap, sym, subst, ◌∙◌, arith, Err, length-append}
+use Rattle.std.proofs.lemmas.List.{map-append}
 use Rattle.sj_codelet.specs.declared.kernel.Kernel.{Kernel}
 use Rattle.sj_meaning.specs.declared.job.Act.{Act as KeptAct}
 use Rattle.sj_meaning.specs.declared.job.Statement.{Statement as Kept}
@@ -17,10 +18,10 @@ use Rattle.sj_job.specs.Sees.{Sees}
 use Rattle.sj_job.specs.Reading.{statement, verdict_of, refusal, refused, IsBad, IsReadRefusal}
 use Rattle.sj_job.specs.Progress.{text_with}
 use Rattle.sj_job.specs.Submits.{act_noted, LineDoes, AreRead}
-use Rattle.sj_meaning.specs.View.{act_seen, seen_from, count_after, IsPlaced}
+use Rattle.sj_meaning.specs.View.{says_value, values_from, act_seen, seen_from, count_after, IsPlaced}
 use Rattle.sj_job.proofs.Seen.{same_scope}
 use Rattle.sj_job.proofs.Progressing.{text_skipped, text_bad, text_does, run_from-push}
-use Rattle.sj_meaning.proofs.Views.{count-push, seen-push, length-seen, placed-push, seen-kept}
+use Rattle.sj_meaning.proofs.Views.{count-push, seen-push, length-seen, placed-push, values-push, seen-kept}
 
 abbrev seen : Names → List Kept → List (Statement (List ℕ))
 seen names ss = seen_from names.roots 0 ss
@@ -55,6 +56,10 @@ read-more has old new ss n line a h d = record {
   numbered = record {
     placed = placed-push 0 ss (a_kept n a) h.numbered.placed (subst (λ (k : ℕ). IsPlaced k a) (sym h.numbered.counted) d.notes.placed);
     counted = count-push 0 ss (a_kept n a) ∙ ap (λ k. count_after k a) h.numbered.counted ∙ sym d.notes.counted;
+    valued =
+        map-append (λ (k : Kept). says_value k.act) ss (a_kept n a ∷ [])
+        ∙ (λ i. h.numbered.valued i ++ d.notes.valued (length ss) (run_from start (seen old ss)) h.sees i ∷ [])
+        ∙ sym (ap (values_from start) (seen-more has old new ss n line a h d) ∙ values-push start (seen old ss) (statement n (act_noted old new a)));
   };
   whole = d.notes.whole h.whole;
   sees =

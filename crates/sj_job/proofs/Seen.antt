@@ -1,6 +1,6 @@
 -- The reader's names go on agreeing with the state, statement by statement.
 use Rattle.std.specs.FinMap as map
-use Rattle.std.proofs.Common.{◌≡◌, ℕ, suc, ◌+◌, Bool, true, false, List, [], ◌∷◌, length, drop, refl, ap, ◌∙◌, sym, subst, inl, inr, Option, Some, None, option_map, cond, ◌||◌, arith, bytes_eq, get_or, length-append, ◌++◌, ◌<◌, get_or-set_same, get_or-set_other, map as each_of}
+use Rattle.std.proofs.Common.{◌≡◌, ℕ, suc, ◌+◌, Bool, true, false, List, [], ◌∷◌, length, drop, refl, ap, ◌∙◌, sym, subst, inl, inr, Option, Some, None, option_map, cond, ◌&&◌, ◌||◌, arith, bytes_eq, get_or, length-append, ◌++◌, ◌<◌, get_or-set_same, get_or-set_other, map as each_of}
 use Rattle.std.proofs.Math.ListN.{set}
 use Rattle.std.proofs.lemmas.List.{length-set, get_or_read}
 use Rattle.std.proofs.lemmas.Bool.{cases_eq}
@@ -11,7 +11,7 @@ use Rattle.sj_base.specs.Array.{Array}
 use Rattle.sj_base.specs.declared.ids.Root.{Root}
 use Rattle.sj_base.specs.declared.mode.Reduction.{Reduction}
 use Rattle.sj_base.specs.declared.tile.Dims.{Dims}
-use Rattle.sj_base.specs.Mode.{is_written}
+use Rattle.sj_base.specs.Mode.{is_redux, is_written}
 use Rattle.sj_plan.specs.declared.parts.Parts.{Parts}
 use Rattle.sj_plan.specs.Parts.{Fits, IsPlace}
 use Rattle.sj_meaning.specs.declared.job.Init.{Init}
@@ -21,11 +21,11 @@ use Rattle.sj_job.specs.declared.names.RootStanding.{RootStanding}
 use Rattle.sj_job.specs.declared.names.RootStanding.TheVariants.{Live, Ended}
 use Rattle.sj_job.specs.declared.names.Names.{Names}
 use Rattle.sj_meaning.specs.Statement.{Operand}
-use Rattle.sj_meaning.specs.State.{RootState, JobState, root_of, start, is_valued, has_no_value}
+use Rattle.sj_meaning.specs.State.{RootState, JobState, root_of, start, is_valued, has_no_value, is_valued_child}
 use Rattle.sj_meaning.specs.Meaning.{no_values, registered_root, register, written_of, with_parts, with_elements, with_reduction, with_child, change, plan, reduce, put, put_all, invalidate, unregister}
-use Rattle.sj_job.specs.Judge.{known_of, scope_of}
-use Rattle.sj_job.specs.Names.{Found, HasStandings, IsPlaceIn, after_write, after_writes, child_written, ended_from, first_standing, found_in, invalidated, is_name_ended, known_by, known_from, plan_in, replanned, reduced, scope_in, standing_of}
-use Rattle.sj_meaning.specs.Sound.{IsSoundPlan, IsSoundRegistration}
+use Rattle.sj_job.specs.Judge.{Scope, known_of, scope_of}
+use Rattle.sj_job.specs.Names.{Found, HasStandings, IsPlaceIn, after_write, after_writes, child_valued, child_written, ended_from, finds_value_in, first_standing, found_at, found_in, invalidated, is_all, is_name_ended, known_by, known_from, plan_in, replanned, reduced, scope_in, standing_of}
+use Rattle.sj_meaning.specs.Sound.{IsSoundPlan, IsSoundRegistration, has_valued_root, has_child_values}
 use Rattle.sj_meaning.specs.Table.{Table, table_of, a_root, name_of, info_of, root_in, IsRoot, with_root}
 use Rattle.sj_job.specs.Track.{all_valued, none_valued, even}
 use Rattle.sj_meaning.specs.View.{operand_seen, registration}
@@ -56,6 +56,29 @@ same_scope names n S h = λ i. record {
   ended = λ q. h.shows.ended q i;
   known = λ q. known_found (found_in names q) (root_of S q) (h.shows.found q) i;
 }
+
+-- ---- values
+
+-- a root that was found has values where it is known to have them
+pub known-all : (names : Names) (n : ℕ) (S : JobState) (q : List ℕ) (r : Root) → Sees names n S → root_in names.roots q ≡ Some r → is_all (standing_of names r) ≡ has_valued_root S q
+known-all names n S q r h e = by_standing (standing_of names r) (root_of S q) (subst (λ (f : Option Found). IsFound f (root_of S q)) (ap (option_map (found_at names)) e) (h.shows.found q))
+  where
+    by_standing : (st : RootStanding) (o : Option RootState) → StandsFor (info_of names.roots r).dims st o → is_all st ≡ (elim o as (λ _. Bool) [ None ↦ false | Some r ↦ is_valued r ])
+    by_standing (Live t by) o k = all_valued-same t k.root k.tracks ∙ sym (ap (λ (o : Option RootState). elim o as (λ _. Bool) [ None ↦ false | Some r ↦ is_valued r ]) k.there)
+    by_standing Ended o k = sym (ap (λ (o : Option RootState). elim o as (λ _. Bool) [ None ↦ false | Some r ↦ is_valued r ]) k)
+
+child_valued-same : (n : ℕ) (S : JobState) (o : Operand (List ℕ)) → child_valued (scope_of n S) o ≡ has_child_values S o
+child_valued-same n S o = by_root (root_of S o.name)
+  where
+    by_root : (x : Option RootState) → (elim (option_map known_of x) as (λ _. Bool) [ None ↦ false | Some k ↦ k.child o.place ]) ≡ (elim x as (λ _. Bool) [ None ↦ false | Some r ↦ is_valued_child r o.place ])
+    by_root None = refl
+    by_root (Some r) = refl
+
+-- so has a child
+pub known-children : (names : Names) (n : ℕ) (S : JobState) (os : List (Operand (List ℕ))) → Sees names n S → finds_value_in (scope_in names) os ≡ list_any (λ o. is_redux o.mode && has_child_values S o) os
+known-children names n S os h =
+    ap (λ (s : Scope). finds_value_in s os) (same_scope names n S h)
+    ∙ (λ i. list_any (λ o. is_redux o.mode && child_valued-same n S o i) os)
 
 -- ---- a change of one root
 

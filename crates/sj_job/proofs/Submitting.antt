@@ -24,15 +24,15 @@ use Rattle.sj_job.specs.Sentence.{is_numbered, is_numbered_array, is_numbered_ta
 use Rattle.sj_job.specs.Word.{is_count, count}
 use Rattle.sj_meaning.specs.State.{JobState, plan_of_parts}
 use Rattle.sj_meaning.specs.Meaning.{apply, register, run_task, plan, reduce, invalidate, unregister}
-use Rattle.sj_meaning.specs.Sound.{IsSoundAct, IsSoundTask, IsSoundRegistration, IsSoundPlan}
+use Rattle.sj_meaning.specs.Sound.{IsSoundAct, IsSoundTask, IsSoundRegistration, IsSoundPlan, has_valued_root}
 use Rattle.sj_job.specs.Judge.{Scope, scope_of, first_of, unless, judged, judged_task, register_reasons, plan_reasons, print_reasons, redux_reasons, name_reasons}
 use Rattle.sj_meaning.specs.Table.{Table, table_of, no_info, name_of, root_in, IsRoot, with_root}
-use Rattle.sj_meaning.specs.View.{registration, task_seen, act_seen, count_after, IsPlaced, Extends}
-use Rattle.sj_job.specs.Names.{scope_in}
+use Rattle.sj_meaning.specs.View.{registration, task_seen, act_seen, count_after, finds_value, says_value, IsPlaced, Extends}
+use Rattle.sj_job.specs.Names.{finds_value_in, is_all, scope_in, standing_of}
 use Rattle.sj_job.specs.Sees.{Sees}
 use Rattle.sj_job.specs.Submits.{act_of_form, act_noted, Notes, Submits}
 use Rattle.sj_meaning.proofs.Finding.{is-at}
-use Rattle.sj_job.proofs.Seen.{same_scope}
+use Rattle.sj_job.proofs.Seen.{same_scope, known-all, known-children}
 use Rattle.sj_job.proofs.Sounding.{sound_from_judged}
 
 pub weaker_ok : {A E : Type 0} {P Q : A → Type 0} (r : Result A E) → ((a : A) → P a → Q a) → IfOk r P → IfOk r Q
@@ -101,6 +101,7 @@ registers has old new a name info init h =
         sees = λ n S k.
             let sound = subst (λ (r : Registration (List ℕ)). IsSoundAct has S (Register r)) said (sound_done has old n S (form.Register a) (Register (registered_by a)) k done) in
             subst (λ (x : Act (List ℕ)). Sees new (n + 1) (apply x S)) (sym seen) (h.sees n S k sound);
+        valued = λ n S k. ap (finds_value S) (sym seen);
       };
     }
 
@@ -123,6 +124,7 @@ pub record Runs (has : Kernel → Bool) (old new : Names) (t : TaskForm) (line :
   pub operands : All (λ o. IsRoot old.roots o.root) line.operands
   pub roots : new.roots ≡ old.roots
   pub sees : (n : ℕ) (S : JobState) → Sees old n S → IsSoundTask has S (task_seen old.roots line) → Sees new (n + 1) (run_task (task_seen old.roots line) S)
+  pub valued : line.valued ≡ finds_value_in (scope_in old) (task_seen old.roots line).operands
 
 pub runs : (has : Kernel → Bool) (old new : Names) (t : TaskForm) (line : KeptTask) → Runs has old new t line → Submits has old (form.Task t) new (kept.Task line)
 runs has old new t line h =
@@ -136,6 +138,7 @@ runs has old new t line h =
         kept = same_table old new h.roots;
         whole = same_whole old new h.roots;
         sees = λ n S k. subst (λ (x : Act (List ℕ)). Sees new (n + 1) (apply x S)) (sym seen) (h.sees n S k (sound_done has old n S (form.Task t) (Task (task_seen old.roots line)) k done));
+        valued = λ n S k. h.valued ∙ known-children old n S (task_seen old.roots line).operands k ∙ ap (finds_value S) (sym seen);
       };
     }
 
@@ -143,13 +146,14 @@ named_as : (old : Names) (q : List ℕ) (r : Root) → root_in old.roots q ≡ S
 named_as old q r e = (is-at old.roots q r e).named
 
 -- what is noted of an act that registers nothing
-noted : (old new : Names) (a : KeptAct) → IsPlaced (length old.roots.names) a → count_after (length old.roots.names) a ≡ length old.roots.names → new.roots ≡ old.roots → ((n : ℕ) (S : JobState) → Sees old n S → Sees new (n + 1) (apply (act_noted old new a) S)) → Notes old new a
-noted old new a placed same roots sees = record {
+noted : (old new : Names) (a : KeptAct) → ((n : ℕ) (S : JobState) → Sees old n S → says_value a ≡ finds_value S (act_noted old new a)) → IsPlaced (length old.roots.names) a → count_after (length old.roots.names) a ≡ length old.roots.names → new.roots ≡ old.roots → ((n : ℕ) (S : JobState) → Sees old n S → Sees new (n + 1) (apply (act_noted old new a) S)) → Notes old new a
+noted old new a valued placed same roots sees = record {
   placed = placed;
   counted = ap (λ (T : Table). length T.names) roots ∙ sym same;
   kept = same_table old new roots;
   whole = same_whole old new roots;
   sees = sees;
+  valued = valued;
 }
 
 pub printed : (has : Kernel → Bool) (old new : Names) (q : List ℕ) (r : Root) → root_in old.roots q ≡ Some r → first_of (print_reasons (scope_in old) q) ≡ None → new.roots ≡ old.roots → ((n : ℕ) (S : JobState) → Sees old n S → Sees new (n + 1) S) → Submits has old (form.Print q) new (kept.Print r)
@@ -157,7 +161,7 @@ printed has old new q r e none roots sees =
     let named : name_of new.roots r ≡ q = ap (λ (T : Table). name_of T r) roots ∙ named_as old q r e in
     record {
       act = ap (λ o. unless o (Print q)) none ∙ ap (λ (n : List ℕ). Ok (Print n)) (sym named);
-      notes = noted old new (kept.Print r) (is-at old.roots q r e).below refl roots sees;
+      notes = noted old new (kept.Print r) (λ n S h. refl) (is-at old.roots q r e).below refl roots sees;
     }
 
 pub invalidated : (has : Kernel → Bool) (old new : Names) (q : List ℕ) (r : Root) → root_in old.roots q ≡ Some r → first_of (name_reasons (scope_in old) q) ≡ None → new.roots ≡ old.roots → ((n : ℕ) (S : JobState) → Sees old n S → Sees new (n + 1) (invalidate (name_of old.roots r) S)) → Submits has old (form.Invalidate q) new (kept.Invalidate r)
@@ -165,7 +169,7 @@ invalidated has old new q r e none roots sees =
     let named : name_of new.roots r ≡ name_of old.roots r = ap (λ (T : Table). name_of T r) roots in
     record {
       act = ap (λ o. unless o (Invalidate q)) none ∙ ap (λ (n : List ℕ). Ok (Invalidate n)) (sym (named ∙ named_as old q r e));
-      notes = noted old new (kept.Invalidate r) (is-at old.roots q r e).below refl roots (λ n S h. subst (λ (m : List ℕ). Sees new (n + 1) (invalidate m S)) (sym named) (sees n S h));
+      notes = noted old new (kept.Invalidate r) (λ n S h. refl) (is-at old.roots q r e).below refl roots (λ n S h. subst (λ (m : List ℕ). Sees new (n + 1) (invalidate m S)) (sym named) (sees n S h));
     }
 
 pub ended : (has : Kernel → Bool) (old new : Names) (q : List ℕ) (r : Root) → root_in old.roots q ≡ Some r → first_of (name_reasons (scope_in old) q) ≡ None → new.roots ≡ old.roots → ((n : ℕ) (S : JobState) → Sees old n S → Sees new (n + 1) (unregister (name_of old.roots r) S)) → Submits has old (form.Unregister q) new (kept.Unregister r)
@@ -173,7 +177,7 @@ ended has old new q r e none roots sees =
     let named : name_of new.roots r ≡ name_of old.roots r = ap (λ (T : Table). name_of T r) roots in
     record {
       act = ap (λ o. unless o (Unregister q)) none ∙ ap (λ (n : List ℕ). Ok (Unregister n)) (sym (named ∙ named_as old q r e));
-      notes = noted old new (kept.Unregister r) (is-at old.roots q r e).below refl roots (λ n S h. subst (λ (m : List ℕ). Sees new (n + 1) (unregister m S)) (sym named) (sees n S h));
+      notes = noted old new (kept.Unregister r) (λ n S h. refl) (is-at old.roots q r e).below refl roots (λ n S h. subst (λ (m : List ℕ). Sees new (n + 1) (unregister m S)) (sym named) (sees n S h));
     }
 
 pub reduced : (has : Kernel → Bool) (old new : Names) (q : List ℕ) (by : Reduction) (r : Root) → root_in old.roots q ≡ Some r → first_of (redux_reasons (scope_in old) q) ≡ None → new.roots ≡ old.roots → ((n : ℕ) (S : JobState) → Sees old n S → Sees new (n + 1) (reduce (name_of old.roots r) by S)) → Submits has old (form.Redux q by) new (kept.Redux r by)
@@ -181,20 +185,21 @@ reduced has old new q by r e none roots sees =
     let named : name_of new.roots r ≡ name_of old.roots r = ap (λ (T : Table). name_of T r) roots in
     record {
       act = ap (λ o. unless o (Redux q by)) none ∙ ap (λ (n : List ℕ). Ok (Redux n by)) (sym (named ∙ named_as old q r e));
-      notes = noted old new (kept.Redux r by) (is-at old.roots q r e).below refl roots (λ n S h. subst (λ (m : List ℕ). Sees new (n + 1) (reduce m by S)) (sym named) (sees n S h));
+      notes = noted old new (kept.Redux r by) (λ n S h. refl) (is-at old.roots q r e).below refl roots (λ n S h. subst (λ (m : List ℕ). Sees new (n + 1) (reduce m by S)) (sym named) (sees n S h));
     }
 
 -- what a plan line needs to have been done
-pub record Plans (old new : Names) (q r c : List ℕ) (root : Root) (p : Parts) : Type 0 where
+pub record Plans (old new : Names) (q r c : List ℕ) (root : Root) (p : Parts) (valued : Bool) : Type 0 where
   pub there : root_in old.roots q ≡ Some root
   pub numbered : (is_count r && is_count c) ≡ true
   pub parts : p ≡ plan_of_parts (count r) (count c)
   pub unopposed : first_of (plan_reasons (scope_in old) q p) ≡ None
   pub roots : new.roots ≡ old.roots
   pub sees : (n : ℕ) (S : JobState) → Sees old n S → IsSoundPlan S (name_of old.roots root) p → Sees new (n + 1) (plan (name_of old.roots root) p S)
+  pub tells : valued ≡ is_all (standing_of old root)
 
-pub plans : (has : Kernel → Bool) (old new : Names) (q r c : List ℕ) (root : Root) (p : Parts) → Plans old new q r c root p → Submits has old (form.Plan q r c) new (kept.Plan root p)
-plans has old new q r c root p h =
+pub plans : (has : Kernel → Bool) (old new : Names) (q r c : List ℕ) (root : Root) (p : Parts) (valued : Bool) → Plans old new q r c root p valued → Submits has old (form.Plan q r c) new (kept.Plan root p valued)
+plans has old new q r c root p valued h =
     let here = named_as old q root h.there in
     let named : name_of new.roots root ≡ name_of old.roots root = ap (λ (T : Table). name_of T root) h.roots in
     let done : act_of_form has (scope_in old) (form.Plan q r c) ≡ Ok (Plan q p) =
@@ -203,7 +208,7 @@ plans has old new q r c root p h =
     ∙ ap (λ o. unless o (Plan q p)) h.unopposed in
     record {
       act = done ∙ ap (λ (n : List ℕ). Ok (Plan n p)) (sym (named ∙ here));
-      notes = noted old new (kept.Plan root p) (is-at old.roots q root h.there).below refl h.roots (λ n S k.
+      notes = noted old new (kept.Plan root p valued) (λ n S k. h.tells ∙ known-all old n S q root k h.there ∙ ap (has_valued_root S) (sym (named ∙ here))) (is-at old.roots q root h.there).below refl h.roots (λ n S k.
           let sound = sound_done has old n S (form.Plan q r c) (Plan q p) k done in
           subst (λ (m : List ℕ). Sees new (n + 1) (plan m p S)) (sym named) (h.sees n S k (subst (λ (m : List ℕ). IsSoundPlan S m p) (sym here) sound)));
     }

@@ -19,7 +19,6 @@ use Rattle.sj_plan.specs.Rect.{child, rect_dims}
 use Rattle.sj_job.specs.declared.form.OperandForm.{OperandForm}
 use Rattle.sj_job.specs.declared.form.TaskForm.{TaskForm}
 use Rattle.sj_meaning.specs.declared.job.Operand.{Operand as Access}
-use Rattle.sj_meaning.specs.declared.job.TaskLine.{TaskLine as KeptTask}
 use Rattle.sj_job.specs.declared.judge.Target.{Target}
 use Rattle.sj_job.specs.declared.names.RootStanding.{RootStanding}
 use Rattle.sj_job.specs.declared.names.RootStanding.TheVariants.{Live, Ended}
@@ -39,7 +38,7 @@ use Rattle.sj_meaning.specs.View.{operand_seen, task_seen}
 use Rattle.sj_meaning.specs.Meaning.{written_of}
 use Rattle.sj_job.specs.Judge.{Known, first_of, is_full, is_unknown, is_ended, is_child_said, is_missing, dims_in, is_lacking, is_counted, is_shaped, has_mixed_outputs, is_unlawful, lacks_reduction, operand_reasons, reduction_known, kernel_named, judged_by, judged_call, judged_task, unless}
 use Rattle.sj_meaning.specs.Sound.{is_priority, modes_fit, mode_fits, clashes, is_aliased, needs_value, is_lawful_for, is_unordered}
-use Rattle.sj_job.specs.Names.{Found, IsInLine, IsPlaceIn, a_target, any_collide, any_missing, any_over, are_mixed, collide, ended_from, found_at, found_in, is_counted_for, is_name_ended, is_shaped_for, is_unlawful_for, is_unreduced, is_wanting, known_by, known_from, known_with, law_reasons, no_child, operand_by, plan_in, scope_in, standing_of, target_by, target_dims, target_in, target_reasons, targets_fit}
+use Rattle.sj_job.specs.Names.{Found, IsInLine, IsPlaceIn, a_target, adds_to_value, any_collide, any_missing, any_over, are_mixed, child_valued, collide, ended_from, finds_value_in, found_at, found_in, is_counted_for, is_name_ended, is_shaped_for, is_unlawful_for, is_unreduced, is_wanting, kept_task, known_by, known_from, known_with, law_reasons, no_child, operand_by, plan_in, scope_in, standing_of, target_by, target_dims, target_in, target_reasons, targets_fit}
 use Rattle.sj_job.proofs.Children.{place-from_test, said-child}
 use Rattle.sj_meaning.proofs.Finding.{is-at, is-root, text-itself}
 
@@ -225,6 +224,10 @@ valued_when : (b v : Bool) → b ≡ true → not (b && v) ≡ not v
 valued_when true v e = refl
 valued_when false v e = absurd (cc)
 
+set_when : (b v : Bool) → b ≡ true → (b && v) ≡ v
+set_when true v e = refl
+set_when false v e = absurd (cc)
+
 wanting_same : (names : Names) (os : List OperandForm) (ts : List Target) → AreLive names os ts → list_any (is_lacking (scope_in names)) (map operand_said os) ≡ list_any is_wanting ts
 wanting_same names [] [] h = refl
 wanting_same names [] (t ∷ ts) h = absurd h
@@ -236,6 +239,19 @@ wanting_same names (o ∷ os) (t ∷ ts) h =
     ∙ valued_when (is_child c.track.parts (place_said o)) (is_set c.track (place_said o)) (said-child c.track.parts (index_said o.child) c.said)
     ∙ sym (ap (λ (u : Target). not u.valued) c.is) in
     λ i. (needs_value (mode_same names o t h.0 i) && lacks i) || wanting_same names os ts h.1 i
+
+-- the contributions to children with values are the same
+adds_same : (names : Names) (os : List OperandForm) (ts : List Target) → AreLive names os ts → finds_value_in (scope_in names) (map operand_said os) ≡ list_any adds_to_value ts
+adds_same names [] [] h = refl
+adds_same names [] (t ∷ ts) h = absurd h
+adds_same names (o ∷ os) [] h = absurd h
+adds_same names (o ∷ os) (t ∷ ts) h =
+    let c = h.0.child in
+    let has : child_valued (scope_in names) (operand_said o) ≡ t.valued =
+    ap (λ (k : Option Known). elim k as (λ _. Bool) [ None ↦ false | Some k ↦ k.child (place_said o) ]) (known_live names o t h.0)
+    ∙ set_when (is_child c.track.parts (place_said o)) (is_set c.track (place_said o)) (said-child c.track.parts (index_said o.child) c.said)
+    ∙ sym (ap (λ (u : Target). u.valued) c.is) in
+    λ i. (is_redux (mode_same names o t h.0 i) && has i) || adds_same names os ts h.1 i
 
 -- ---- reductions and laws
 
@@ -360,6 +376,13 @@ unmissed : (has : Kernel → Bool) (k : Kernel) (args : List ℤ) (ts : List Tar
 unmissed has k args ts e =
     no_part (not (is_counted_for k args ts)) (any_missing ts) (first_of ((not (is_shaped_for k args ts), Shape) ∷ (any_collide ts, Aliased) ∷ law_reasons has k ts)) e
 
+-- what is kept of a task says whether it contributes to a child with a value
+pub task-adds : (has : Kernel → Bool) (names : Names) (os : List OperandForm) (ts : List Target) (kernel : Kernel) (args : List ℤ) → each_some (target_in names) os ≡ Some ts → any_over ts ≡ false → first_of (target_reasons has kernel args ts) ≡ None
+    → list_any adds_to_value ts ≡ finds_value_in (scope_in names) (map (operand_seen names.roots) (map operand_by ts))
+task-adds has names os ts kernel args e over none =
+    let live = lives names os ts (targets names os ts e) over (unmissed has kernel args ts none) in
+    sym (adds_same names os ts live) ∙ ap (finds_value_in (scope_in names)) (sym (seen_same names os ts live))
+
 pub all-kept : (has : Kernel → Bool) (names : Names) (os : List OperandForm) (ts : List Target) (kernel : Kernel) (args : List ℤ) (k : ℕ) (d : Access) → each_some (target_in names) os ≡ Some ts → any_over ts ≡ false → first_of (target_reasons has kernel args ts) ≡ None → k < length (map operand_by ts) → IsKept names (get_or (map operand_by ts) k d)
 all-kept has names os ts kernel args k d e over none lt = kept_at names os ts k d (lives names os ts (targets names os ts e) over (unmissed has kernel args ts none)) lt
 
@@ -420,10 +443,10 @@ called has names form ts k why h over named e =
 pub task-why : (has : Kernel → Bool) (names : Names) (form : TaskForm) (ts : List Target) (k : Kernel) (why : Reason) → IsInLine names form ts → any_over ts ≡ false → kernel_named has form.codelet ≡ Some k → first_of (target_reasons has k (map integer form.args) ts) ≡ Some why → judged_task has (scope_in names) form ≡ Err why
 task-why has names form ts k why h over named e = called has names form ts k (Some why) h over named e
 
-pub task-ok : (has : Kernel → Bool) (names : Names) (form : TaskForm) (ts : List Target) (k : Kernel) (args : List ℤ) (os : List Access) (p : ℤ) → IsInLine names form ts → any_over ts ≡ false → kernel_named has form.codelet ≡ Some k → first_of (target_reasons has k (map integer form.args) ts) ≡ None
+pub task-ok : (has : Kernel → Bool) (names : Names) (form : TaskForm) (ts : List Target) (k : Kernel) (args : List ℤ) (os : List Access) (p : ℤ) (valued : Bool) → IsInLine names form ts → any_over ts ≡ false → kernel_named has form.codelet ≡ Some k → first_of (target_reasons has k (map integer form.args) ts) ≡ None
     → args ≡ map integer form.args → os ≡ map operand_by ts → p ≡ priority_said form.priority
-    → let t : KeptTask = record { kernel = k; args = args; operands = os; priority = p } in judged_task has (scope_in names) form ≡ Ok (Task (task_seen names.roots t))
-task-ok has names form ts k args os p h over named e ea eo ep =
+    → judged_task has (scope_in names) form ≡ Ok (Task (task_seen names.roots (kept_task k args os p valued)))
+task-ok has names form ts k args os p valued h over named e ea eo ep =
     let a = targets names form.operands ts h.found in
     let same : map (operand_seen names.roots) os ≡ operands_said form = ap (map (operand_seen names.roots)) eo ∙ seen_same names form.operands ts (lives names form.operands ts a over (unmissed has k (map integer form.args) ts e)) in
     let line : List ℤ → List (Operand (List ℕ)) → ℤ → TaskLine (List ℕ) = λ args os p. record { codelet = codelet_of k; args = args; operands = os; priority = p } in

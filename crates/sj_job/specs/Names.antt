@@ -27,6 +27,7 @@ use Rattle.sj_job.specs.declared.reason.Reason.{Reason}
 use Rattle.sj_job.specs.declared.reason.Reason.TheVariants.{OperandCount, Part, Shape, Aliased, NoValue, NoReduction, MixedOutputs, NotLawful}
 use Rattle.sj_job.specs.Form.{each_some}
 use Rattle.sj_job.specs.Sentence.{index_said, priority_said}
+use Rattle.sj_meaning.specs.Statement.{Operand}
 use Rattle.sj_meaning.specs.State.{is_child}
 use Rattle.sj_meaning.specs.Table.{root_in, info_of}
 use Rattle.sj_job.specs.Track.{Track, all_valued, none_valued, even, is_set, with_child_valued}
@@ -114,6 +115,14 @@ scope_in names = record {
   known = known_in names;
 }
 
+-- an operand's child has a value
+abbrev pub child_valued : Scope → Operand (List ℕ) → Bool
+child_valued s o = elim (s.known o.name) [ None ↦ false | Some k ↦ k.child o.place ]
+
+-- one of these operands contributes to a child with a value
+abbrev pub finds_value_in : Scope → List (Operand (List ℕ)) → Bool
+finds_value_in s os = list_any (λ o. is_redux o.mode && child_valued s o) os
+
 -- ---- changes
 
 -- each element has a value from the registration on
@@ -191,8 +200,8 @@ abbrev pub operand_by : Target → Access
 operand_by t = record { root = t.root; place = t.place; mode = t.mode }
 
 -- a task as it is kept
-abbrev pub kept_task : Kernel → List ℤ → List Access → ℤ → TaskLine
-kept_task k args os p = record { kernel = k; args = args; operands = os; priority = p }
+abbrev pub kept_task : Kernel → List ℤ → List Access → ℤ → Bool → TaskLine
+kept_task k args os p valued = record { kernel = k; args = args; operands = os; priority = p; valued = valued }
 
 abbrev pub any_over : List Target → Bool
 any_over ts = list_any (λ t. t.over) ts
@@ -211,6 +220,10 @@ is_counted_for k args ts = nat_eq (length args) (arguments_of k) && nat_eq (leng
 
 abbrev pub is_shaped_for : Kernel → List ℤ → List Target → Bool
 is_shaped_for k args ts = targets_fit (formals_of k) ts && fits k args (target_dims ts)
+
+-- a contribution to a child with a value
+abbrev pub adds_to_value : Target → Bool
+adds_to_value t = is_redux t.mode && t.valued
 
 -- both are of one child, and not both only read it
 abbrev pub collide : Target → Target → Bool

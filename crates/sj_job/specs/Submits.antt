@@ -14,7 +14,7 @@ use Rattle.sj_meaning.specs.Meaning.{apply, run_from}
 use Rattle.sj_job.specs.Judge.{Scope, judged}
 use Rattle.sj_job.specs.Names.{scope_in}
 use Rattle.sj_job.specs.Reading.{verdict_of}
-use Rattle.sj_meaning.specs.View.{act_seen, seen_from, count_after, IsPlaced, Extends, IsNumbered}
+use Rattle.sj_meaning.specs.View.{act_seen, seen_from, count_after, finds_value, says_value, IsPlaced, Extends, IsNumbered}
 use Rattle.sj_job.specs.Sees.{Sees}
 
 -- what a form does, or the first reason against it
@@ -32,6 +32,7 @@ pub record Notes (old new : Names) (a : KeptAct) : Type 0 where
   pub kept : Extends old.roots new.roots
   pub whole : length old.roots.infos ≡ length old.roots.names → length new.roots.infos ≡ length new.roots.names
   pub sees : (n : ℕ) (S : JobState) → Sees old n S → Sees new (n + 1) (apply (act_noted old new a) S)
+  pub valued : (n : ℕ) (S : JobState) → Sees old n S → says_value a ≡ finds_value S (act_noted old new a)
 
 -- a form does this, and the names have followed
 pub record Submits (has : Kernel → Bool) (old : Names) (f : Form) (new : Names) (a : KeptAct) : Type 0 where

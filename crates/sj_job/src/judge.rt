@@ -8,11 +8,11 @@ ghost use Rattle.sj_job.specs.declared.names.Names.{Names};
 ghost use Rattle.sj_job.specs.Form.{each_some};
 ghost use Rattle.sj_job.specs.Sentence.{index_said, priority_said};
 ghost use Rattle.sj_job.specs.Word.{integer};
-ghost use Rattle.sj_job.specs.Names.{HasStandings, IsEven, IsInLine, IsPlaceIn, any_collide, any_missing, any_over, collide, is_counted_for, is_shaped_for, is_wanting, is_unreduced, is_unlawful_for, are_mixed, kept_task, law_reasons, no_child, operand_by, plan_in, scope_in, standing_of, target_by, target_dims, target_in, target_reasons, target_under, targets_fit};
+ghost use Rattle.sj_job.specs.Names.{HasStandings, IsEven, IsInLine, IsPlaceIn, adds_to_value, any_collide, any_missing, any_over, collide, finds_value_in, is_counted_for, is_shaped_for, is_wanting, is_unreduced, is_unlawful_for, are_mixed, kept_task, law_reasons, no_child, operand_by, plan_in, scope_in, standing_of, target_by, target_dims, target_in, target_reasons, target_under, targets_fit};
 ghost use Rattle.sj_meaning.specs.State.{dims_with, plan_of_parts};
 ghost use Rattle.sj_meaning.specs.Table.{root_in, IsRoot};
 ghost use Rattle.sj_job.specs.Track.{IsSmallPlan};
-ghost use Rattle.sj_meaning.specs.View.{task_seen};
+ghost use Rattle.sj_meaning.specs.View.{operand_seen, task_seen};
 ghost use Rattle.sj_job.specs.Reason.{Objects};
 ghost use Rattle.sj_meaning.specs.Act.{Task};
 ghost use Rattle.sj_job.specs.Judge.{first_of, is_child_said, is_crowded, is_cut, is_full, is_miscounted, is_outside, is_uncut, judged_task, name_reasons, plan_reasons, print_reasons, redux_reasons, register_reasons};
@@ -491,6 +491,13 @@ fn any_unreduced(targets: &[Target]) -> bool
         .any(|t| t.mode == Mode::Redux && t.reduction.is_none())
 }
 
+/// Whether one contributes to a child with a value.
+fn any_adds_to_value(targets: &[Target]) -> bool
+    ensures { result ≡ list_any adds_to_value targets.now }
+{
+    targets.iter().any(|t| t.mode == Mode::Redux && t.valued)
+}
+
 fn is_unordered(mode: Mode) -> bool
     ensures { result ≡ is_unordered mode }
 {
@@ -621,7 +628,8 @@ fn narrowed(priority: i64) -> i32
 }
 
 /// The codelet and the operands of a task line whose number and priority are within their limits, with these arguments and
-/// indexes of its operands; or why it has none. Linear in its names, but that the codelet's is looked up in the table.
+/// indexes of its operands, and whether it contributes to a child with a value; or why it has none. Linear in its names, but
+/// that the codelet's is looked up in the table.
 fn judge_call<C: Codelets>(
     alloc: Global,
     names: &Names,
@@ -629,7 +637,7 @@ fn judge_call<C: Codelets>(
     args: &[i64],
     indexes: &[Option<(u64, u64)>],
     codelets: &C,
-) -> Result<(Kernel, Few<Operand>), Objection>
+) -> Result<(Kernel, Few<Operand>, bool), Objection>
     requires counted { HasStandings names.now }
     requires room { is_full (scope_in names.now) ≡ false }
     requires priority { is_priority (priority_said form.now.priority) ≡ true }
@@ -637,7 +645,10 @@ fn judge_call<C: Codelets>(
     requires indexes { indexes.now ≡ map (λ o. index_said o.child) form.now.operands }
     ensures ok { IfOk result (λ call.
         judged_task C.has (scope_in names.now) form.now ≡ Ok (Task (task_seen names.now.roots
-        (kept_task call.0 (map integer form.now.args) call.1 (priority_said form.now.priority))))) }
+        (kept_task call.0 (map integer form.now.args) call.1 (priority_said form.now.priority)
+        call.2)))) }
+    ensures valued { IfOk result (λ call.
+        call.2 ≡ finds_value_in (scope_in names.now) (map (operand_seen names.now.roots) call.1)) }
     ensures roots { IfOk result (λ call. All (λ o. IsRoot names.now.roots o.root) call.1) }
     ensures places { IfOk result (λ call.
         All (λ o. IsPlaceIn (plan_in (standing_of names.now o.root)) o.place) call.1) }
@@ -649,19 +660,22 @@ fn judge_call<C: Codelets>(
     call_over(alloc, form, args, found.items(), codelets)
 }
 
-/// The codelet of a task line over these targets and its operands, or why it has none. Linear in the targets, but that the
-/// codelet is looked up in the table.
+/// The codelet of a task line over these targets, its operands, and whether it contributes to a child with a value; or why it
+/// has none. Linear in the targets, but that the codelet is looked up in the table.
 fn call_over<C: Codelets>(
     alloc: Global,
     form: &TaskForm<'_>,
     args: &[i64],
     targets: &[Target],
     codelets: &C,
-) -> Result<(Kernel, Few<Operand>), Objection>
+) -> Result<(Kernel, Few<Operand>, bool), Objection>
     requires args { args.now ≡ map integer form.now.args }
     ensures ok { IfOk result (λ call. (names : Names) → IsInLine names form.now targets.now →
         judged_task C.has (scope_in names) form.now ≡ Ok (Task (task_seen names.roots
-        (kept_task call.0 (map integer form.now.args) call.1 (priority_said form.now.priority))))) }
+        (kept_task call.0 (map integer form.now.args) call.1 (priority_said form.now.priority)
+        call.2)))) }
+    ensures valued { IfOk result (λ call. (names : Names) → IsInLine names form.now targets.now →
+        call.2 ≡ finds_value_in (scope_in names) (map (operand_seen names.roots) call.1)) }
     ensures roots { IfOk result (λ call. (names : Names) → IsInLine names form.now targets.now →
         All (λ o. IsRoot names.roots o.root) call.1) }
     ensures places { IfOk result (λ call. (names : Names) → IsInLine names form.now targets.now →
@@ -678,7 +692,11 @@ fn call_over<C: Codelets>(
     if let Some(why) = target_complaint(alloc, codelets, kernel, args, targets)? {
         return Err(Objection::Bad(why));
     }
-    Ok((kernel, operands_of(alloc, targets)?))
+    Ok((
+        kernel,
+        operands_of(alloc, targets)?,
+        any_adds_to_value(targets),
+    ))
 }
 
 /// The task of a form with these arguments, indexes of its operands and this priority, or why there is none. Linear in its
@@ -698,6 +716,8 @@ pub fn judge_task<C: Codelets>(
     requires priority { priority ≡ priority_said form.now.priority }
     ensures ok { IfOk result (λ t.
         judged_task C.has (scope_in names.now) form.now ≡ Ok (Task (task_seen names.now.roots t))) }
+    ensures valued { IfOk result (λ t.
+        t.valued ≡ finds_value_in (scope_in names.now) (task_seen names.now.roots t).operands) }
     ensures roots { IfOk result (λ t. All (λ o. IsRoot names.now.roots o.root) t.operands) }
     ensures places { IfOk result (λ t.
         All (λ o. IsPlaceIn (plan_in (standing_of names.now o.root)) o.place) t.operands) }
@@ -709,11 +729,19 @@ pub fn judge_task<C: Codelets>(
     if !has_priority(priority) {
         return Err(Objection::Bad(Reason::Limit(LimitKind::Priority)));
     }
-    let (kernel, operands) = judge_call(alloc, names, form, args.items(), indexes, codelets)?;
+    let (kernel, operands, valued) = judge_call(
+        alloc,
+        names,
+        form,
+        args.items(),
+        indexes,
+        codelets,
+    )?;
     Ok(TaskLine {
         kernel,
         args,
         operands,
         priority: narrowed(priority),
+        valued,
     })
 }

@@ -5,7 +5,7 @@ ghost use Rattle.std.specs.List.{list_all};
 ghost use Rattle.sj_codelet.specs.declared.kernel.Kernel.{Kernel};
 ghost use Rattle.std.specs.Bool.{IsFalse};
 ghost use Rattle.sj_job.specs.Judge.{is_outside, judged_task};
-ghost use Rattle.sj_job.specs.Names.{HasStandings, IsPlaceIn, plan_in, scope_in, standing_of};
+ghost use Rattle.sj_job.specs.Names.{HasStandings, IsPlaceIn, finds_value_in, plan_in, scope_in, standing_of};
 ghost use Rattle.sj_job.specs.Reason.{Objects};
 ghost use Rattle.sj_job.specs.Sentence.{col_count, first_values, init_said, is_numbered_array, is_numbered_priority, is_numbered_task, kind_of, parts_said, priority_said, row_count};
 ghost use Rattle.sj_job.specs.Word.{integer, is_integer};
@@ -135,8 +135,9 @@ fn submit_plan(
     };
     let root = planned_root(names, name.bytes(), r, c)?;
     let parts = narrowed(r, c);
+    let valued = names.standing(root).is_all();
     names.plan(root, parts);
-    Ok(Act::Plan(root, parts))
+    Ok(Act::Plan(root, parts, valued))
 }
 
 /// Gives a root its reduction. Linear in the name.
@@ -195,6 +196,8 @@ fn task_line_of<C: Codelets>(
     ensures numbered { IfOk result (λ _. is_numbered_task form.now ≡ true) }
     ensures ok { IfOk result (λ t.
         judged_task C.has (scope_in names.now) form.now ≡ Ok (Task (task_seen names.now.roots t))) }
+    ensures valued { IfOk result (λ t.
+        t.valued ≡ finds_value_in (scope_in names.now) (task_seen names.now.roots t).operands) }
     ensures roots { IfOk result (λ t. All (λ o. IsRoot names.now.roots o.root) t.operands) }
     ensures places { IfOk result (λ t.
         All (λ o. IsPlaceIn (plan_in (standing_of names.now o.root)) o.place) t.operands) }

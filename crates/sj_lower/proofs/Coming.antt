@@ -183,7 +183,7 @@ active-operands T g S L (o ∷ os) at placed there =
 
 names-actives : (has : Kernel → Bool) (T : Table) (g : LoweringProgress) (S : JobState) (L : Lowering) (a : KeptAct) → StandsAt T g S L → IsPlaced L.cells.roots a → IsSoundAct has S (act_seen T L.cells.roots a) → NamesActives g a
 names-actives has T g S L (kept.Register init) at placed sound = tt
-names-actives has T g S L (kept.Plan r p) at placed sound = let there = root_there (root_of S (name_of T r)) sound.rooted in active-cells T g S L r.0 there.0 at placed there.1
+names-actives has T g S L (kept.Plan r p v) at placed sound = let there = root_there (root_of S (name_of T r)) sound.rooted in active-cells T g S L r.0 there.0 at placed there.1
 names-actives has T g S L (kept.Redux r by) at placed sound = let there = root_there (root_of S (name_of T r)) sound.1 in active-cells T g S L r.0 there.0 at placed there.1
 names-actives has T g S L (kept.Task t) at placed sound = All-from_recursion (IsActiveOperand g) t.operands (active-operands T g S L t.operands at placed (seen-there T S t.operands sound.placed))
 names-actives has T g S L (kept.Print r) at placed sound = let there = valued_there (root_of S (name_of T r)) sound in active-cells T g S L r.0 there.0 at placed there.1

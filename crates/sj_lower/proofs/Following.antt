@@ -173,15 +173,15 @@ dims_are : (S : JobState) (name : List ℕ) (r : RootState) → root_of S name �
 dims_are S name r e = ap (λ (o : Option RootState). elim o as (λ _. Dims) [ None ↦ record { rows = 0; cols = 0 } | Some r ↦ r.dims ]) e
 
 -- a plan line's root, its plan and its values
-pub plan-known : (T : Table) (l : Lowerer) (S : JobState) (L : Lowering) (r : Root) (p : Parts) → CanPass T l (kept.Plan r p) S L → IsKnown T l S L r
-plan-known T l S L r p pass = let there = root_there (root_of S (name_of T r)) pass.sound.rooted in known T l (kept.Plan r p) S L r pass pass.placed there.0 there.1
+pub plan-known : (T : Table) (l : Lowerer) (S : JobState) (L : Lowering) (r : Root) (p : Parts) (v : Bool) → CanPass T l (kept.Plan r p v) S L → IsKnown T l S L r
+plan-known T l S L r p v pass = let there = root_there (root_of S (name_of T r)) pass.sound.rooted in known T l (kept.Plan r p v) S L r pass pass.placed there.0 there.1
 
-pub plan-fits : (T : Table) (l : Lowerer) (S : JobState) (L : Lowering) (r : Root) (p : Parts) (pass : CanPass T l (kept.Plan r p) S L) → Fits p (plan-known T l S L r p pass).root.dims
-plan-fits T l S L r p pass = let k = plan-known T l S L r p pass in subst (λ (d : Dims). Fits p d) (dims_are S (name_of T r) k.root k.is_root) pass.sound.parts
+pub plan-fits : (T : Table) (l : Lowerer) (S : JobState) (L : Lowering) (r : Root) (p : Parts) (v : Bool) (pass : CanPass T l (kept.Plan r p v) S L) → Fits p (plan-known T l S L r p v pass).root.dims
+plan-fits T l S L r p v pass = let k = plan-known T l S L r p v pass in subst (λ (d : Dims). Fits p d) (dims_are S (name_of T r) k.root k.is_root) pass.sound.parts
 
-pub plan-even : (T : Table) (l : Lowerer) (S : JobState) (L : Lowering) (r : Root) (p : Parts) → CanPass T l (kept.Plan r p) S L → (all_valued (active_at l.actives.items r.0).tracked || none_valued (active_at l.actives.items r.0).tracked) ≡ true
-plan-even T l S L r p pass =
-    let k = plan-known T l S L r p pass in
+pub plan-even : (T : Table) (l : Lowerer) (S : JobState) (L : Lowering) (r : Root) (p : Parts) (v : Bool) → CanPass T l (kept.Plan r p v) S L → (all_valued (active_at l.actives.items r.0).tracked || none_valued (active_at l.actives.items r.0).tracked) ≡ true
+plan-even T l S L r p v pass =
+    let k = plan-known T l S L r p v pass in
     let t = (active_at l.actives.items r.0).tracked in
     (λ i. all_valued-same t k.root k.active.tracks i || none_valued-same t k.root k.active.tracks i) ∙ sym (values_are S (name_of T r) k.root k.is_root) ∙ pass.sound.even
 
@@ -193,9 +193,9 @@ planned_active a p first = record { tracked = even p (all_valued a.tracked); fir
 plan_keeps : (T : Table) (l : Lowerer) (S : JobState) (L : Lowering) (r : Root) (p : Parts) → IsKnown T l S L r → (q : List ℕ) (d : Dims) (s : Parts) (g : ℕ) → IsTaken L.cells q d s g → IsTaken (take (name_of T r) p L.cells) q d s g
 plan_keeps T l S L r p k q d s g t = take-keeps L.cells (name_of T r) p k.active.handle k.active.named q d s g t
 
-pub passes-plan : (T : Table) (old : Lowerer) (as' : List Active) (r : Root) (p : Parts) (first : ℕ) → HasRoomFor T (length old.actives.items) (kept.Plan r p) first
-    → as' ≡ set old.actives.items r.0 (planned_active (active_at old.actives.items r.0) p first) → PassesTo T old as' (kept.Plan r p) first
-passes-plan T old as' r p first room ea S L pass place =
+pub passes-plan : (T : Table) (old : Lowerer) (as' : List Active) (r : Root) (p : Parts) (v : Bool) (first : ℕ) → HasRoomFor T (length old.actives.items) (kept.Plan r p v) first
+    → as' ≡ set old.actives.items r.0 (planned_active (active_at old.actives.items r.0) p first) → PassesTo T old as' (kept.Plan r p v) first
+passes-plan T old as' r p v first room ea S L pass place =
     subst (λ (as' : List Active). AreActive T D as' (plan name p S)) (sym ea)
     (changed-actives T L.cells D old.actives.items S r.0 (with_parts p) k.root new_active pass.actives pass.placed pass.distinct pass.few (take-roots L.cells name p) (plan_keeps T old S L r p k) k.is_root here (plan name p S) (λ q. root-change (with_parts p) name S k.root q k.is_root))
   where
@@ -203,7 +203,7 @@ passes-plan T old as' r p first room ea S L pass place =
     name = name_of T r
 
     k : IsKnown T old S L r
-    k = plan-known T old S L r p pass
+    k = plan-known T old S L r p v pass
 
     D : Cells
     D = take name p L.cells
@@ -220,7 +220,7 @@ passes-plan T old as' r p first room ea S L pass place =
     here : IsActive T D r.0 new_active (with_parts p k.root)
     here = record {
       dims = k.active.dims;
-      tracks = tracks-planned p (active_at old.actives.items r.0).tracked k.root k.active.tracks (plan-fits T old S L r p pass) (plan-even T old S L r p pass);
+      tracks = tracks-planned p (active_at old.actives.items r.0).tracked k.root k.active.tracks (plan-fits T old S L r p v pass) (plan-even T old S L r p v pass);
       reduction = k.active.reduction;
       handle = taken.1.handle;
       named = taken.1.is;
@@ -228,22 +228,22 @@ passes-plan T old as' r p first room ea S L pass place =
       room = room;
     }
 
-pub does-plan : (T : Table) (old new : Lowerer) (r : Root) (p : Parts) (first : ℕ) (line : Line) → let a = active_at old.actives.items r.0 in HasRoomFor T (length old.actives.items) (kept.Plan r p) first
+pub does-plan : (T : Table) (old new : Lowerer) (r : Root) (p : Parts) (v : Bool) (first : ℕ) (line : Line) → let a = active_at old.actives.items r.0 in HasRoomFor T (length old.actives.items) (kept.Plan r p v) first
     → new.tasks.items ≡ old.tasks.items ++ pasted_by (info_of T r).dims a p first line → new.deliveries.items ≡ old.deliveries.items → new.prints ≡ old.prints → new.phases ≡ old.phases
-    → new.actives.items ≡ set old.actives.items r.0 (planned_active a p first) → Does T old new (kept.Plan r p) first line
-does-plan T old new r p first line room et ed ep eh ea S L next place = record {
+    → new.actives.items ≡ set old.actives.items r.0 (planned_active a p first) → Does T old new (kept.Plan r p v) first line
+does-plan T old new r p v first line room et ed ep eh ea S L next place = record {
   tasks = et ∙ (λ i. next.follows.tasks i ++ sym (plan_rows-by T D S r p first line (active_at old.actives.items r.0) k.root k.is_root kept_here place) i);
   deliveries = ed ∙ next.follows.deliveries ∙ sym (append-nil L.deliveries);
   prints = ep ∙ next.follows.prints;
-  phases = same_phases T old new (kept.Plan r p) S L next eh;
-  actives = passes-plan T old new.actives.items r p first room ea S L pass place;
+  phases = same_phases T old new (kept.Plan r p v) S L next eh;
+  actives = passes-plan T old new.actives.items r p v first room ea S L pass place;
 }
   where
-    pass : CanPass T old (kept.Plan r p) S L
-    pass = can-pass T old (kept.Plan r p) S L next
+    pass : CanPass T old (kept.Plan r p v) S L
+    pass = can-pass T old (kept.Plan r p v) S L next
 
     k : IsKnown T old S L r
-    k = plan-known T old S L r p pass
+    k = plan-known T old S L r p v pass
 
     D : Cells
     D = take (name_of T r) p L.cells

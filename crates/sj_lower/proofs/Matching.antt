@@ -98,7 +98,7 @@ seen-there T S (o ∷ os) h = let both = and_parts (has_child S (operand_seen T 
 
 pub closing-is : (has : Kernel → Bool) (T : Table) (C : Cells) (as' : List Active) (S : JobState) (a : Kept) → AreActive T C as' S → IsPlaced C.roots a → IsSoundAct has S (act_seen T C.roots a) → closed_by S C (act_seen T C.roots a) ≡ closing_by as' a
 closing-is has T C as' S (kept.Register init) g placed sound = refl
-closing-is has T C as' S (kept.Plan r p) g placed sound =
+closing-is has T C as' S (kept.Plan r p v) g placed sound =
     let there = root_there (root_of S (name_of T r)) sound.rooted in
     let k = known-as T C as' S r g placed there.0 there.1 in
     let parts = parts-of S (name_of T r) k.root k.is_root ∙ sym k.active.tracks.parts in
@@ -174,7 +174,7 @@ opening-are T as' S workers line (o ∷ os) L g placed there =
 opening-acts : (has : Kernel → Bool) (T : Table) (n : ℕ) (as' : List Active) (S : JobState) (workers : ℕ) (line : Line) (a : Kept) (L : Lowering) → L.cells.roots ≡ n → AreActive T L.cells as' S → IsPlaced n a → IsSoundAct has S (act_seen T n a)
     → fold (opened_for workers S line) L (contributions (act_seen T n a)) ≡ opening_all workers as' line (contributed_by a) L
 opening-acts has T n as' S workers line (kept.Register init) L e g placed sound = refl
-opening-acts has T n as' S workers line (kept.Plan r p) L e g placed sound = refl
+opening-acts has T n as' S workers line (kept.Plan r p v) L e g placed sound = refl
 opening-acts has T n as' S workers line (kept.Redux r by) L e g placed sound = refl
 opening-acts has T n as' S workers line (kept.Task t) L e g placed sound = opening-are T as' S workers line t.operands L g (subst (λ (m : ℕ). All (λ (o : KeptOperand). o.root.0 < m) t.operands) (sym e) placed) (seen-there T S t.operands sound.placed)
 opening-acts has T n as' S workers line (kept.Print r) L e g placed sound = refl

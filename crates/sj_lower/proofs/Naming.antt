@@ -147,7 +147,7 @@ numbered-act T n C S (kept.Register init) d few t =
       roots = take-roots D r.name r.parts ∙ ap (λ m. m + 1) t.roots;
       knows = knows_registered T n S r refl refl refl t.knows;
     }
-numbered-act T n C S (kept.Plan r p) d few t = record {
+numbered-act T n C S (kept.Plan r p v) d few t = record {
   handles = handles_taken T n C (name_of T r) p t.handles;
   roots = take-roots C (name_of T r) p ∙ t.roots;
   knows = knows_kept T n S (plan (name_of T r) p S) (λ q. changed_kinds (with_parts p) (name_of T r) S q (λ r. refl)) t.knows;
@@ -160,7 +160,7 @@ numbered-act T n C S (kept.Unregister r) d few t = record { handles = t.handles;
 
 names_act : (T : Table) (n : ℕ) (C : Cells) (S : JobState) (a : KeptAct) → AreDistinct T.names → n ≤ length T.names → IsPlaced n a → AreNumbered T n C S → NamesAct T S C (act_seen T n a)
 names_act T n C S (kept.Register init) d few placed t = tt
-names_act T n C S (kept.Plan r p) d few placed t = tt
+names_act T n C S (kept.Plan r p v) d few placed t = tt
 names_act T n C S (kept.Redux r by) d few placed t = tt
 names_act T n C S (kept.Task task) d few placed t = tt
 names_act T n C S (kept.Print r) d few placed t = λ h root there is.
@@ -239,7 +239,7 @@ numbered-none T = record {
 
 pub numbered-cut : (has : Kernel → Bool) (T : Table) (n : ℕ) (C : Cells) (S : JobState) (a : KeptAct) → AreDistinct T.names → n ≤ length T.names → IsPlaced n a → AreNumbered T n C S → IsSoundAct has S (act_seen T n a) → IsCut T n a
 numbered-cut has T n C S (kept.Register init) d few placed t sound = sound.parts
-numbered-cut has T n C S (kept.Plan r p) d few placed t sound = by_root (root_of S (name_of T r)) refl sound.rooted sound.parts
+numbered-cut has T n C S (kept.Plan r p v) d few placed t sound = by_root (root_of S (name_of T r)) refl sound.rooted sound.parts
   where
     by_root : (o : Option RootState) → root_of S (name_of T r) ≡ o → is_some o ≡ true → Fits p (elim o as (λ _. Dims) [ None ↦ record { rows = 0; cols = 0 } | Some x ↦ x.dims ]) → Fits p (info_of T r).dims
     by_root None is rooted fits = absurd (cc)

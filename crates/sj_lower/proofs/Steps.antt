@@ -224,7 +224,7 @@ module _ (g : LoweringProgress) (line : Line) (o : Operand) (c : Cell) (by : Red
 -- only a task contributes
 none-contributed : (a : Act) → ((t : TaskLine) → a ≡ kept.Task t → ⊥) → contributed_by a ≡ []
 none-contributed (kept.Register init) other = refl
-none-contributed (kept.Plan r p) other = refl
+none-contributed (kept.Plan r p v) other = refl
 none-contributed (kept.Redux r by) other = refl
 none-contributed (kept.Task t) other = absurd (other t refl)
 none-contributed (kept.Print r) other = refl

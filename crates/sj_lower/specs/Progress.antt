@@ -135,7 +135,7 @@ pub record IsActiveOperand (g : LoweringProgress) (o : Operand) : Type 0 where
 -- the roots of an act have such plans
 abbrev pub NamesActives : LoweringProgress → Act → Type 0
 NamesActives g (kept.Register init) = Unit {0}
-NamesActives g (kept.Plan r p) = HasActive g r.0
+NamesActives g (kept.Plan r p valued) = HasActive g r.0
 NamesActives g (kept.Redux r by) = HasActive g r.0
 NamesActives g (kept.Task t) = All (IsActiveOperand g) t.operands
 NamesActives g (kept.Print r) = HasActive g r.0
@@ -157,7 +157,7 @@ is_other o = is_data o.mode && not (is_redux o.mode)
 -- the cells whose phases an act closes, in order, by the active plans
 abbrev pub closing_by : List Active → Act → List Cell
 closing_by actives (kept.Register init) = []
-closing_by actives (kept.Plan r p) = if same_parts (active_at actives r.0).tracked.parts p then [] else cells_by (active_at actives r.0)
+closing_by actives (kept.Plan r p valued) = if same_parts (active_at actives r.0).tracked.parts p then [] else cells_by (active_at actives r.0)
 closing_by actives (kept.Redux r by) = []
 closing_by actives (kept.Task t) = map (cell_by actives) (filter is_other t.operands)
 closing_by actives (kept.Print r) = cells_by (active_at actives r.0)
@@ -181,7 +181,7 @@ is_contributed o = is_redux o.mode
 -- the operands that an act contributes to
 abbrev pub contributed_by : Act → List Operand
 contributed_by (kept.Register init) = []
-contributed_by (kept.Plan r p) = []
+contributed_by (kept.Plan r p valued) = []
 contributed_by (kept.Redux r by) = []
 contributed_by (kept.Task t) = filter is_contributed t.operands
 contributed_by (kept.Print r) = []

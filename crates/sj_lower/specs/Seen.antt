@@ -59,7 +59,7 @@ pub record Lays (T : Table) (l : Layout) (C : Cells) : Type 0 where
 -- the plan that an act makes active cuts its root
 abbrev pub IsCut : Table → ℕ → Kept → Type 0
 IsCut T n (kept.Register init) = Fits (info_of T (a_root n)).parts (info_of T (a_root n)).dims
-IsCut T n (kept.Plan r p) = Fits p (info_of T r).dims
+IsCut T n (kept.Plan r p valued) = Fits p (info_of T r).dims
 IsCut T n (kept.Redux r by) = Unit {0}
 IsCut T n (kept.Task t) = Unit {0}
 IsCut T n (kept.Print r) = Unit {0}

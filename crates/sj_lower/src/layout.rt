@@ -131,7 +131,7 @@ impl Layout {
                 let first = self.take(alloc, root, info.dims, info.parts)?;
                 Ok(first)
             }
-            Act::Plan(root, parts) => self.take(alloc, *root, roots.info(*root).dims, *parts),
+            Act::Plan(root, parts, _) => self.take(alloc, *root, roots.info(*root).dims, *parts),
             Act::Redux(_, _)
             | Act::Task(_)
             | Act::Print(_)

@@ -204,7 +204,7 @@ impl Lowerer {
                 let info = roots.info(Root(self.actives.len() as u32));
                 count_first(init, info.parts)
             }
-            Act::Plan(root, parts) => self.count_plan(roots, *root, *parts),
+            Act::Plan(root, parts, valued) => self.count_plan(roots, *root, *parts, *valued),
             Act::Redux(_, _) => 0,
             Act::Task(_) => 1,
             Act::Print(root) => {
@@ -216,12 +216,12 @@ impl Lowerer {
     }
 
     /// How many pastes a plan line gives.
-    fn count_plan(&self, roots: &Roots, root: Root, parts: Parts) -> u64
-        requires { HasNext roots.now self.now (kept.Plan root parts) }
+    fn count_plan(&self, roots: &Roots, root: Root, parts: Parts, valued: bool) -> u64
+        requires { HasNext roots.now self.now (kept.Plan root parts valued) }
         ensures { (S : JobState) (L : Lowering) (C : Cells) (line : Line)
-            → MayComeNext roots.now self.now (kept.Plan root parts) S L
+            → MayComeNext roots.now self.now (kept.Plan root parts valued) S L
             → result ≡ length (rows_added S C line
-            (act_seen roots.now (vec_len self.now.actives) (kept.Plan root parts))) }
+            (act_seen roots.now (vec_len self.now.actives) (kept.Plan root parts valued))) }
     {
         let active = &self.actives[root.0 as usize];
         if active.is_idle(parts) {
@@ -268,14 +268,15 @@ impl Lowerer {
         roots: &Roots,
         root: Root,
         placed: Placed,
+        valued: bool,
         line: Line,
     ) -> Result<(), OutOfMemory>
-        requires next { HasNext roots.now self.old (kept.Plan root placed.parts) }
+        requires next { HasNext roots.now self.old (kept.Plan root placed.parts valued) }
         requires room { HasRoomFor roots.now (vec_len self.old.actives)
-            (kept.Plan root placed.parts) placed.first }
+            (kept.Plan root placed.parts valued) placed.first }
         requires prints { self.old.prints ≤ vec_len self.old.tasks }
         ensures does { OnOk result (Does roots.now self.old self.new
-            (kept.Plan root placed.parts) placed.first line) }
+            (kept.Plan root placed.parts valued) placed.first line) }
         ensures prints { OnOk result (self.new.prints ≤ vec_len self.new.tasks) }
     {
         let dims = roots.info(root).dims;
@@ -384,7 +385,7 @@ impl Lowerer {
                     reduction: None,
                 })?;
             }
-            Act::Plan(root, parts) => {
+            Act::Plan(root, parts, _) => {
                 self.actives[root.0 as usize].plan(Placed {
                     parts: *parts,
                     first,
@@ -421,7 +422,9 @@ impl Lowerer {
     {
         match act {
             Act::Register(init) => self.register(alloc, roots, init, first, line)?,
-            Act::Plan(root, parts) => self.plan(alloc, roots, root, Placed { parts, first }, line)?,
+            Act::Plan(root, parts, valued) => {
+                self.plan(alloc, roots, root, Placed { parts, first }, valued, line)?
+            }
             Act::Redux(root, by) => self.reduce(roots, root, by, line),
             Act::Task(task) => self.task(alloc, roots, task, line)?,
             Act::Print(root) => self.print(alloc, roots, root, line)?,

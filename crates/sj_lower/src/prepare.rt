@@ -125,7 +125,7 @@ impl LoweringProgress {
     {
         match act {
             Act::Register(_) | Act::Redux(_, _) => Ok(()),
-            Act::Plan(root, parts) => {
+            Act::Plan(root, parts, _) => {
                 if self.lowerer.actives[root.0 as usize].placed().parts == *parts {
                     return Ok(());
                 }

@@ -2,3 +2,5 @@ pub mod Finding
 pub mod Adding
 pub mod Views
 pub mod Giving
+pub mod Mirroring
+pub mod Timely

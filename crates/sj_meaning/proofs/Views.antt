@@ -9,15 +9,17 @@ use Rattle.sj_meaning.specs.declared.job.Act.TheVariants as kept
 use Rattle.sj_meaning.specs.declared.job.Statement.{Statement as Kept}
 use Rattle.sj_meaning.specs.Statement.{Operand, TaskLine}
 use Rattle.sj_meaning.specs.Act.{Act, Register, Plan, Redux, Task, Print, Invalidate, Unregister, Statement}
+use Rattle.sj_meaning.specs.State.{JobState}
 use Rattle.sj_meaning.specs.Table.{Table, table_of, a_root, no_info, name_of}
-use Rattle.sj_meaning.specs.View.{operand_seen, registration, act_seen, statement_seen, seen_from, count_after, count_from, IsPlaced, ActsArePlaced, Extends}
+use Rattle.sj_meaning.specs.Meaning.{apply, run_from}
+use Rattle.sj_meaning.specs.View.{finds_value, values_from, operand_seen, registration, act_seen, statement_seen, seen_from, count_after, count_from, IsPlaced, ActsArePlaced, Extends}
 use Rattle.sj_codelet.specs.Kernel.{codelet_of}
 
 -- ---- counts
 
 pub count-grows : (k : ℕ) (a : KeptAct) → k ≤ count_after k a
 count-grows k (kept.Register init) = omega arith
-count-grows k (kept.Plan r p) = omega arith
+count-grows k (kept.Plan r p valued) = omega arith
 count-grows k (kept.Redux r by) = omega arith
 count-grows k (kept.Task t) = omega arith
 count-grows k (kept.Print r) = omega arith
@@ -44,6 +46,12 @@ pub placed-push : (k : ℕ) (ss : List Kept) (s : Kept) → ActsArePlaced k ss �
 placed-push k [] s h p = (p, tt)
 placed-push k (t ∷ ts) s h p = (h.0, placed-push (count_after k t.act) ts s h.1 p)
 
+-- ---- values
+
+pub values-push : (S : JobState) (ss : List (Statement (List ℕ))) (s : Statement (List ℕ)) → values_from S (ss ++ s ∷ []) ≡ values_from S ss ++ finds_value (run_from S ss) s.act ∷ []
+values-push S [] s = refl
+values-push S (t ∷ ts) s = ap (λ bs. finds_value S t.act ∷ bs) (values-push (apply t.act S) ts s)
+
 -- ---- a table that has grown
 
 name-kept : (T : Table) (names : List (List ℕ)) (infos : List RootInfo) (r : Root) → r.0 < length T.names → name_of (table_of (T.names ++ names) (T.infos ++ infos)) r ≡ name_of T r
@@ -63,7 +71,7 @@ act-kept T names infos k (kept.Register init) e le h =
     let in_names : k < length T.names = omega arith in
     let in_infos : k < length T.infos = omega arith in
     λ i. Register (registration (name-kept T names infos (a_root k) in_names i) (get_or_append_left T.infos infos no_info k in_infos i) init)
-act-kept T names infos k (kept.Plan r p) e le h = ap (λ n. Plan n p) (name-kept T names infos r (omega arith))
+act-kept T names infos k (kept.Plan r p valued) e le h = ap (λ n. Plan n p) (name-kept T names infos r (omega arith))
 act-kept T names infos k (kept.Redux r by) e le h = ap (λ n. Redux n by) (name-kept T names infos r (omega arith))
 act-kept T names infos k (kept.Task t) e le h =
     let line : List (Operand (List ℕ)) → TaskLine (List ℕ) = λ os. record { codelet = codelet_of t.kernel; args = t.args; operands = os; priority = t.priority } in

@@ -7,3 +7,4 @@ pub mod View
 pub mod State
 pub mod Meaning
 pub mod Sound
+pub mod Numbers

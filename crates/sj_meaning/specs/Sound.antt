@@ -23,9 +23,9 @@ use Rattle.sj_meaning.specs.declared.job.Init.{Init}
 use Rattle.sj_meaning.specs.declared.job.Init.TheVariants.{Values, Fill, Nothing}
 use Rattle.sj_meaning.specs.Statement.{Register}
 use Rattle.sj_meaning.specs.Statement.{Operand, TaskLine}
-use Rattle.sj_meaning.specs.Act.{Act}
+use Rattle.sj_meaning.specs.Act.{Act, Statement}
 use Rattle.sj_meaning.specs.Act.{Register as Registers, Plan, Redux as Reduces, Task, Print, Invalidate, Unregister}
-use Rattle.sj_meaning.specs.Meaning.{written_of}
+use Rattle.sj_meaning.specs.Meaning.{written_of, apply}
 use Rattle.sj_meaning.specs.State.{JobState, root_of, is_valued, has_no_value, is_child, child_rect, is_valued_child}
 
 -- ---- sizes, priorities and modes
@@ -157,3 +157,8 @@ IsSoundAct has S (Task t) = IsSoundTask has S t
 IsSoundAct has S (Print name) = IsTrue (has_valued_root S name)
 IsSoundAct has S (Invalidate name) = IsTrue (has_root S name)
 IsSoundAct has S (Unregister name) = IsTrue (has_root S name)
+
+-- what acts need, one after another
+abbrev pub AreSound : (Kernel → Bool) → JobState → List (Statement (List ℕ)) → Type 0
+AreSound has S [] = Unit {0}
+AreSound has S (s ∷ ss) = IsSoundAct has S s.act × AreSound has (apply s.act S) ss

@@ -77,6 +77,8 @@ pub struct TaskLine {
     pub operands: Few<Operand>,
     /// Higher is more urgent; 0 where the line has no `prio=`.
     pub priority: i32,
+    /// Whether the child that the task contributes to has a value before it; false where it contributes to none.
+    pub valued: bool,
 }
 
 /// What a statement does.
@@ -84,8 +86,8 @@ pub struct TaskLine {
 pub enum Act {
     /// `vector NAME N INIT` or `matrix NAME R C INIT`: registers the next root, with these first elements.
     Register(Init),
-    /// Makes a plan the active one.
-    Plan(Root, Parts),
+    /// Makes a plan the active one, of a root that has values before it or has none.
+    Plan(Root, Parts, bool),
     /// Gives a root its reduction, for good.
     Redux(Root, Reduction),
     Task(TaskLine),

@@ -83,7 +83,7 @@ pub fn write_act(
             let root = Root(plans.len() as u32);
             write_array(text, roots.name(root), roots.info(root), init)
         }
-        Act::Plan(root, parts) => write_plan(text, roots.name(*root), *parts),
+        Act::Plan(root, parts, _) => write_plan(text, roots.name(*root), *parts),
         Act::Redux(root, by) => write_redux(text, roots.name(*root), *by),
         Act::Task(task) => write_task(text, roots, plans, task),
         Act::Print(root) => write_line(text, b"print", roots.name(*root)),

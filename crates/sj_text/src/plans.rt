@@ -27,7 +27,7 @@ pub fn activate(plans: &mut Vec<Parts>, roots: &Roots, act: &Act) -> Result<(), 
             let root = Root(plans.len() as u32);
             plans.push(roots.info(root).parts)?;
         }
-        Act::Plan(root, parts) => {
+        Act::Plan(root, parts, _) => {
             let _count = roots.len();
             plans[root.0 as usize] = *parts;
         }

@@ -22,7 +22,7 @@ returns-clause-statements c =
 pub returns-clause-numbered : goal.returns-clause-numbered
 returns-clause-numbered c =
     let n = (printed_last (goal.at.returns-clause-numbered c).In_ok-say).numbered (c.in_ok-gemms.ensures.tells.numbered c.in_ok-draft.ensures.numbered) in
-    subst (λ (job : Job). IsNumbered job.roots job.statements) (sym c.into_job.ensures) (record { placed = n.placed; counted = n.counted })
+    subst (λ (job : Job). IsNumbered job.roots job.statements) (sym c.into_job.ensures) (record { placed = n.placed; counted = n.counted; valued = n.valued })
 
 pub returns-clause-multiplies : goal.returns-clause-multiplies
 returns-clause-multiplies c =

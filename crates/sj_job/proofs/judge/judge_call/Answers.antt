@@ -23,6 +23,14 @@ returns-clause-ok g c =
     let targets : each_some (target_in names) form.operands ≡ Some c.items-2.result.now = found ∙ ap Some (sym c.items-2.ensures) in
     weaker_ok c.call_over.result (λ x h. h names (record { full = c.requires.room; early = c.requires.priority; found = targets })) c.call_over.ensures.ok
 
+pub returns-clause-valued : goal.returns-clause-valued
+returns-clause-valued g c =
+    let names = c.args.names.now in
+    let form = c.args.form.now in
+    let found : each_some (target_in names) form.operands ≡ Some c.in-Some.found = ap (each_some (target_in names)) (sym c.items.ensures) ∙ (rw c.in-Some.is at c.in_ok-found.ensures) in
+    let targets : each_some (target_in names) form.operands ≡ Some c.items-2.result.now = found ∙ ap Some (sym c.items-2.ensures) in
+    weaker_ok c.call_over.result (λ x h. h names (record { full = c.requires.room; early = c.requires.priority; found = targets })) c.call_over.ensures.valued
+
 pub returns-clause-roots : goal.returns-clause-roots
 returns-clause-roots g c =
     let names = c.args.names.now in

@@ -21,4 +21,4 @@ returns-clause-ok g c =
     let small : FitsSigned w32 c.narrowed.result = search rules in
     let wide : FitsSigned w64 c.args.priority = search rules in
     let priority = to_z-of_z w32 c.narrowed.result small ∙ c.narrowed.ensures ∙ to_z-of_z w64 c.args.priority wide ∙ c.requires.priority in
-    call.ensures.ok ∙ (λ i. Ok (Task (task_seen c.args.names.now.roots (kept_task call.kernel (sym c.requires.args i) call.operands (sym priority i)))))
+    call.ensures.ok ∙ (λ i. Ok (Task (task_seen c.args.names.now.roots (kept_task call.kernel (sym c.requires.args i) call.operands (sym priority i) call.valued))))

@@ -9,4 +9,5 @@ returns-clause-ok g c =
       operands = c.in_ok-task.ensures.roots;
       roots = c.in_ok-run.ensures.roots;
       sees = c.in_ok-run.ensures.names g.C.Codelets.has;
+      valued = c.in_ok-task.ensures.valued;
     })

@@ -5,4 +5,4 @@ use Rattle.sj_apps.proofs.draft.Draft.gemm.Goals as goal
 
 pub returns : goal.returns
 returns c =
-    record { tells = task-told c.args.self.now c.say.new.self product_names _ c.in_ok-codelet_task.field-0 c.requires.roots c.in_ok-say.ensures.roots c.in_ok-codelet_task.ensures (omega arith, (omega arith, (omega arith, tt))) c.in_ok-say.ensures.said }
+    record { tells = task-told c.args.self.now c.say.new.self product_names _ c.in_ok-codelet_task.field-0 c.requires.roots c.in_ok-say.ensures.roots c.in_ok-codelet_task.ensures (omega arith, (omega arith, (omega arith, tt))) (λ S. refl) c.in_ok-say.ensures.said }

@@ -13,7 +13,7 @@ plan-requires-clause-even c =
     let p = c.requires.pass in
     let pass = subst (λ (a : Kept). CanPass T l a p.state p.lowering) c.in-Plan.is p.pass in
     let is : c.index_mut.result.now ≡ active_at l.actives.items r.0 = c.index_mut.ensures.value ∙ at-default l.actives.items r.0 c.index_mut.result.now (omega (arith, pass.placed, pass.actives.counted)) in
-    ap (λ (a : Active). all_valued a.tracked || none_valued a.tracked) is ∙ plan-even T l p.state p.lowering r c.in-Plan.parts pass
+    ap (λ (a : Active). all_valued a.tracked || none_valued a.tracked) is ∙ plan-even T l p.state p.lowering r c.in-Plan.parts c.in-Plan.field-2 pass
 
 pub write_all-requires : goal.write_all-requires
 write_all-requires c =
@@ -50,7 +50,7 @@ returns-in-Plan-clause-passes c =
     let room = subst (λ (a : Kept). HasRoomFor T (vec_len l.actives) a first) c.in-Plan.is c.requires.room in
     let is : c.index_mut.result.now ≡ active_at l.actives.items r.0 = c.index_mut.ensures.value ∙ at-default l.actives.items r.0 c.index_mut.result.now (omega (arith, pass.placed, pass.actives.counted)) in
     subst (λ (a : Kept). PassesTo T l (set l.actives.items r.0 c.plan.new.self) a first) (sym c.in-Plan.is)
-    (passes-plan T l (set l.actives.items r.0 c.plan.new.self) r plan first room
+    (passes-plan T l (set l.actives.items r.0 c.plan.new.self) r plan c.in-Plan.field-2 first room
     ((λ k. set l.actives.items r.0 (record { tracked = c.plan.ensures.tracked k; first = c.plan.ensures.first k; reduction = c.plan.ensures.reduction k }))
     ∙ (λ k. set l.actives.items r.0 (planned_active (is k) plan first))))
 

@@ -12,7 +12,7 @@ returns-clause-does c =
     let next = c.requires.next.next in
     let is : c.index-active.result.now ≡ active_at l.actives.items i = c.index-active.ensures ∙ at-default l.actives.items i c.index-active.result.now (omega (arith, next.placed, next.follows.actives.counted)) in
     let also : c.index_mut.result.now ≡ active_at l.actives.items i = c.index_mut.ensures.value ∙ at-default l.actives.items i c.index_mut.result.now (omega (arith, next.placed, next.follows.actives.counted)) in
-    does-plan T l _ c.args.root c.args.placed.parts c.args.placed.first c.args.line c.requires.room
+    does-plan T l _ c.args.root c.args.placed.parts c.args.valued c.args.placed.first c.args.line c.requires.room
     (c.in_ok-push_plan.ensures ∙ (λ k. l.tasks.items ++ pasted_by (c.info.ensures k).dims (is k) c.args.placed.parts c.args.placed.first c.args.line)) refl refl refl
     ((λ k. set l.actives.items i (record { tracked = c.plan.ensures.tracked k; first = c.plan.ensures.first k; reduction = c.plan.ensures.reduction k }))
     ∙ (λ k. set l.actives.items i (record { tracked = even c.args.placed.parts (all_valued (also k).tracked); first = c.args.placed.first; reduction = (also k).reduction })))
@@ -21,7 +21,7 @@ pub push_plan-requires-clause-old_plan : goal.push_plan-requires-clause-old_plan
 push_plan-requires-clause-old_plan c =
     let n = c.requires.next in
     let l = c.args.self.now in
-    let k = plan-known c.args.roots.now l n.state n.lowering c.args.root c.args.placed.parts (can-pass c.args.roots.now l (kept.Plan c.args.root c.args.placed.parts) n.state n.lowering n.next) in
+    let k = plan-known c.args.roots.now l n.state n.lowering c.args.root c.args.placed.parts c.args.valued (can-pass c.args.roots.now l (kept.Plan c.args.root c.args.placed.parts c.args.valued) n.state n.lowering n.next) in
     let is : c.index-active.result.now ≡ active_at l.actives.items c.args.root.0 = c.index-active.ensures ∙ at-default l.actives.items c.args.root.0 c.index-active.result.now (omega (arith, n.next.placed, n.next.follows.actives.counted)) in
     let parts = ap (λ (a : Active). a.tracked.parts) is ∙ k.active.tracks.parts in
     subst (λ (p : Parts). Fits p c.info.result.dims) (sym parts) (subst (λ (d : Dims). Fits k.root.parts d) (k.active.dims ∙ ap (λ (x : RootInfo). x.dims) (sym c.info.ensures)) k.active.tracks.fits)
@@ -30,14 +30,14 @@ pub push_plan-requires-clause-new_plan : goal.push_plan-requires-clause-new_plan
 push_plan-requires-clause-new_plan c =
     let n = c.requires.next in
     let l = c.args.self.now in
-    let k = plan-known c.args.roots.now l n.state n.lowering c.args.root c.args.placed.parts (can-pass c.args.roots.now l (kept.Plan c.args.root c.args.placed.parts) n.state n.lowering n.next) in
-    subst (λ (d : Dims). Fits c.args.placed.parts d) (k.active.dims ∙ ap (λ (x : RootInfo). x.dims) (sym c.info.ensures)) (plan-fits c.args.roots.now l n.state n.lowering c.args.root c.args.placed.parts (can-pass c.args.roots.now l (kept.Plan c.args.root c.args.placed.parts) n.state n.lowering n.next))
+    let k = plan-known c.args.roots.now l n.state n.lowering c.args.root c.args.placed.parts c.args.valued (can-pass c.args.roots.now l (kept.Plan c.args.root c.args.placed.parts c.args.valued) n.state n.lowering n.next) in
+    subst (λ (d : Dims). Fits c.args.placed.parts d) (k.active.dims ∙ ap (λ (x : RootInfo). x.dims) (sym c.info.ensures)) (plan-fits c.args.roots.now l n.state n.lowering c.args.root c.args.placed.parts c.args.valued (can-pass c.args.roots.now l (kept.Plan c.args.root c.args.placed.parts c.args.valued) n.state n.lowering n.next))
 
 pub push_plan-requires-clause-old_cells : goal.push_plan-requires-clause-old_cells
 push_plan-requires-clause-old_cells c =
     let n = c.requires.next in
     let l = c.args.self.now in
-    let k = plan-known c.args.roots.now l n.state n.lowering c.args.root c.args.placed.parts (can-pass c.args.roots.now l (kept.Plan c.args.root c.args.placed.parts) n.state n.lowering n.next) in
+    let k = plan-known c.args.roots.now l n.state n.lowering c.args.root c.args.placed.parts c.args.valued (can-pass c.args.roots.now l (kept.Plan c.args.root c.args.placed.parts c.args.valued) n.state n.lowering n.next) in
     let is : c.index-active.result.now ≡ active_at l.actives.items c.args.root.0 = c.index-active.ensures ∙ at-default l.actives.items c.args.root.0 c.index-active.result.now (omega (arith, n.next.placed, n.next.follows.actives.counted)) in
     let first = ap (λ (a : Active). a.first) is in
     let parts = ap (λ (a : Active). a.tracked.parts) is ∙ k.active.tracks.parts in
@@ -48,7 +48,7 @@ plan-requires-clause-even c =
     let n = c.requires.next in
     let l = c.args.self.now in
     let is : c.index_mut.result.now ≡ active_at l.actives.items c.args.root.0 = c.index_mut.ensures.value ∙ at-default l.actives.items c.args.root.0 c.index_mut.result.now (omega (arith, n.next.placed, n.next.follows.actives.counted)) in
-    ap (λ (a : Active). all_valued a.tracked || none_valued a.tracked) is ∙ plan-even c.args.roots.now l n.state n.lowering c.args.root c.args.placed.parts (can-pass c.args.roots.now l (kept.Plan c.args.root c.args.placed.parts) n.state n.lowering n.next)
+    ap (λ (a : Active). all_valued a.tracked || none_valued a.tracked) is ∙ plan-even c.args.roots.now l n.state n.lowering c.args.root c.args.placed.parts c.args.valued (can-pass c.args.roots.now l (kept.Plan c.args.root c.args.placed.parts c.args.valued) n.state n.lowering n.next)
 
 pub returns-clause-prints : goal.returns-clause-prints
 returns-clause-prints c =

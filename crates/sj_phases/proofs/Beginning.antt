@@ -1,0 +1,94 @@
+-- The log of phases where a phase begins.
+use Rattle.std.proofs.Common.{◌≡◌, ℕ, ◌+◌, ◌-◌, ◌<◌, ◌≤◌, Bool, true, false, cond, Some, None, List, [], ◌∷◌, length, refl, sym, ap, subst, ◌∙◌, inl, inr, arith, length-append}
+use Rattle.std.specs.Prelude.{Contains}
+use Rattle.std.proofs.lemmas.Bool.{false≢true, cases_lt}
+use Rattle.std.proofs.lemmas.List.FromFn.{length-map-range_with_len}
+use Rattle.sj_base.specs.declared.ids.Cell.{Cell}
+use Rattle.sj_base.specs.declared.ids.Line.{Line}
+use Rattle.sj_base.specs.declared.mode.Mode.TheVariants.{W, Redux}
+use Rattle.sj_base.specs.declared.mode.Access.{Access}
+use Rattle.sj_base.specs.declared.program.Lowered.{Lowered}
+use Rattle.sj_base.specs.declared.program.Program.{Program}
+use Rattle.sj_codelet.specs.Kernel.{kernel_of, init_of}
+use Rattle.sj_codelet.proofs.Table.{kernel_of-codelet_of}
+use Rattle.sj_core.specs.Proper.{IsPlain, IsInit, names_as, task_number, access}
+use Rattle.sj_phases.specs.declared.phase.Opening.{Opening}
+use Rattle.sj_phases.specs.declared.phase.OpenPhase.{OpenPhase}
+use Rattle.sj_phases.specs.Rows.{copy_at, init_row, init_rows}
+use Rattle.sj_phases.specs.Expand.{with_phase, begin_rows, first_units, phase_at}
+use Rattle.sj_phases.proofs.Combined.{Phases}
+use Rattle.sj_phases.proofs.Folding.{Stand, stand-append}
+use Rattle.sj_phases.proofs.Lists.{one-case}
+use Rattle.sj_phases.proofs.Logging.{IsLogged, CopyInit, CellInit, IsToCome, InOpen, IsInner, Logged, some_is, none_isn't, row-at, row-of, log-turned}
+pub use Rattle.sj_phases.proofs.Logging.{AreApart}
+use Rattle.sj_phases.proofs.Owning.{IsOwn}
+
+-- ---- the tasks that begin a phase
+
+inits-length : (p : Program) (o : Opening) (line : Line) → length (init_rows o.by o.copies p.workers line) ≡ p.workers
+inits-length p o line = length-map-range_with_len (λ w. init_row o.by line (copy_at o.copies w)) 0 p.workers
+
+-- the tasks from n on: a worker's init, or the cell's own after all of them
+pub data Beginner (p : Program) (n : ℕ) (o : Opening) (line : Line) (m : ℕ) : Type 0 where
+  OfCopy : m < n + p.workers → task_number p m ≡ init_row o.by line (copy_at o.copies (m - n)) → Beginner p n o line m
+  OfCell : m ≡ n + p.workers → task_number p m ≡ init_row o.by line o.cell → Beginner p n o line m
+
+module _ (p : Program) (n : ℕ) (o : Opening) (line : Line) (stand : Stand p n (begin_rows p.workers o line)) where
+  pub begin-parts : Stand p n (init_rows o.by o.copies p.workers line) × Stand p (n + p.workers) (first_units o line)
+  begin-parts =
+      let parts = stand-append p n (init_rows o.by o.copies p.workers line) (first_units o line) stand in
+      (parts.0, subst (λ (x : ℕ). Stand p (n + x) (first_units o line)) (inits-length p o line) parts.1)
+
+  pub begin-length : length (begin_rows p.workers o line) ≡ p.workers + length (first_units o line)
+  begin-length = length-append (init_rows o.by o.copies p.workers line) (first_units o line) ∙ ap (λ x. x + length (first_units o line)) (inits-length p o line)
+
+  pub beginner : (m : ℕ) → n ≤ m → m < n + length (begin_rows p.workers o line) → Beginner p n o line m
+  beginner m lo hi = elim (cases_lt m (n + p.workers)) [
+    | inl early ↦ OfCopy early (row-at p (λ w. init_row o.by line (copy_at o.copies w)) n begin-parts.0 m lo early)
+    | inr late ↦ by_valued o.valued begin-parts.1 (omega (arith, hi, begin-length)) late
+  ]
+    where
+      by_valued : (v : Bool) → Stand p (n + p.workers) (cond v [] (init_row o.by line o.cell ∷ [])) → m < (n + p.workers) + length (cond v [] (init_row o.by line o.cell ∷ [])) → n + p.workers ≤ m → Beginner p n o line m
+      by_valued true s hi late = absurd (omega (arith, hi, late))
+      by_valued false s hi late = let same : m ≡ n + p.workers = omega (arith, hi, late) in OfCell same (ap (task_number p) same ∙ s.0)
+
+-- ---- the log
+
+module _ (p : Program) (n k : ℕ) (phases : Phases) (ls : List Lowered) (o : Opening) (line : Line) (none : phases o.cell ≡ None) (stand : Stand p n (begin_rows p.workers o line)) (e : k ≡ n + length (begin_rows p.workers o line))
+    (own : IsOwn p o.cell o.copies) (apart : AreApart p) (others : (d : Cell) (g : OpenPhase) → phases d ≡ Some g → IsPlain p d) (come : IsToCome ls o.cell) (log : Logged p n phases ls) where
+  abbrev c : Cell
+  c = o.cell
+
+  init_is : (d : Cell) (m : ℕ) → task_number p m ≡ init_row o.by line d → IsInit o.by d (task_number p m)
+  init_is d m row = record { codelet = ap (λ (x : Lowered). kernel_of x.codelet) row ∙ kernel_of-codelet_of (init_of o.by); operands = ap (λ (x : Lowered). x.accesses) row }
+
+  written : (d : Cell) (m : ℕ) (a : Access) → task_number p m ≡ init_row o.by line d → Contains (task_number p m).accesses a → access W d ≡ a
+  written d m a row h = one-case (access W d) a (subst (λ (x : Lowered). Contains x.accesses a) row h)
+
+  inner : (m : ℕ) (a : Access) → n ≤ m → m < k → Contains (task_number p m).accesses a → IsInner p c o.copies (m - n) a
+  inner m a lo hi h = elim (beginner p n o line stand m lo (omega (arith, hi, e))) [
+    | OfCopy early row ↦ subst (IsInner p c o.copies (m - n)) (written (copy_at o.copies (m - n)) m a row h) (record { direct = refl; there = inl (omega (arith, lo, early), refl) })
+    | OfCell here row ↦ subst (IsInner p c o.copies (m - n)) (written c m a row h) (record { direct = refl; there = inr refl })
+  ]
+
+  none_gives : (m : ℕ) (d : Cell) → n ≤ m → m < k → names_as Redux d (task_number p m) → ⊥
+  none_gives m d lo hi h = false≢true (sym (inner m (access Redux d) lo hi h).direct)
+
+  fresh_log : IsLogged p k c o.by o.copies n
+  fresh_log = record {
+    begun = omega (arith, e, begin-length p n o line stand);
+    init = λ w h. init_is (copy_at o.copies w) (n + w) (row-of p (λ v. init_row o.by line (copy_at o.copies v)) n (begin-parts p n o line stand).0 w h);
+    alone = λ m a lo hi among touches. elim (beginner p n o line stand m lo (omega (arith, hi, e))) [
+      | OfCopy early row ↦ CopyInit early
+      | OfCell here row ↦ CellInit (init_is c m row) (λ j late names. elim (cases_lt m j) [
+        | inl later ↦ later
+        | inr past ↦ absurd (none_gives j c (omega (arith, late)) (omega (arith, past, hi)) names)
+      ])
+    ];
+  }
+
+  pub log-begin : Logged p k (with_phase c (Some (phase_at o line)) phases) ls
+  log-begin =
+      log-turned p n k phases ls c o.copies own apart others log (omega (arith, e)) inner (Some (phase_at o line)) n log.closed log.each (λ f has. has)
+      (λ f is. (subst (λ (y : OpenPhase). IsLogged p k c y.by y.copies n) (some_is (phase_at o line) f is) fresh_log, inr come))
+      (λ m f is lt now. absurd (none_isn't f (sym none ∙ is))) (λ m f is lt now names. absurd (none_isn't f (sym none ∙ is))) (λ m lo hi early. InOpen (phase_at o line) refl (lo, early))

@@ -1,0 +1,169 @@
+-- Each task of a program of blocks that delivers has one delivery, in order.
+use Rattle.std.proofs.Common.{◌≡◌, ℕ, suc, ◌+◌, ◌-◌, ◌<◌, ◌≤◌, Bool, false, cond, Option, Some, None, List, [], ◌∷◌, ◌++◌, length, get_or, map, fold, refl, sym, ap, subst, ◌∙◌, inl, inr, arith, length-append, append_assoc}
+use Rattle.std.specs.Prelude.{All, AllPairs, nat_eq, count_by}
+use Rattle.std.specs.List.{flat_map, range_with_len}
+use Rattle.std.proofs.lemmas.Bool.{cases_lt, cond_both, ne_eqb}
+use Rattle.std.proofs.lemmas.Bool.Decides.{Decides-eqb}
+use Rattle.std.proofs.lemmas.List.{get_or_append_left, get_or-append_right, get_or-append-add, get_or-map, length-map}
+use Rattle.std.proofs.lemmas.List.Elements.{All-nil, All-append, All-map, All-weaker, All-head, All-tail, All-get_or, All-from_recursion}
+use Rattle.std.proofs.lemmas.List.Kept.{AllPairs-cons}
+use Rattle.std.proofs.lemmas.List.Sums.{sum_by-cons, sum_by-append}
+use Rattle.sj_base.specs.declared.ids.Cell.{Cell}
+use Rattle.sj_base.specs.declared.ids.Line.{Line}
+use Rattle.sj_base.specs.declared.mode.Reduction.{Reduction}
+use Rattle.sj_base.specs.declared.mode.Reduction.TheVariants.{Plus, Least}
+use Rattle.sj_base.specs.declared.program.Delivery.{Delivery}
+use Rattle.sj_base.specs.declared.program.Lowered.{Lowered}
+use Rattle.sj_base.proofs.Bools.{same_test}
+use Rattle.sj_base.proofs.Lists.{sum_by-agree, sum_by-map}
+use Rattle.sj_codelet.specs.declared.kernel.Kernel.{Kernel}
+use Rattle.sj_codelet.specs.declared.kernel.Kernel.TheVariants.{Deliver}
+use Rattle.sj_codelet.specs.Kernel.{kernel_of}
+use Rattle.sj_core.specs.Program.{no_task}
+use Rattle.sj_phases.specs.declared.phase.Opening.{Opening}
+use Rattle.sj_phases.specs.Block.{Block}
+use Rattle.sj_phases.specs.Rows.{copy_at, init_row, init_rows, combine_row, combine_rows}
+use Rattle.sj_phases.specs.Expand.{Expansion, turned, closed, opened, begin_rows, first_units, moved, prepared, expanded, expand}
+use Rattle.sj_phases.specs.Plain.{Opens, Plainly, direct, units, plain_next, open_at}
+use Rattle.sj_phases.specs.Orderly.{IsDelivered, AreOrderly}
+use Rattle.sj_phases.proofs.Logging.{option-cases}
+use Rattle.sj_base.specs.declared.program.Program.{Program}
+
+-- ---- lists
+
+count-none : {X : Type 0} (f : X → Bool) (xs : List X) → All (λ x. f x ≡ false) xs → count_by f xs ≡ 0
+count-none f [] h = refl
+count-none f (x ∷ xs) h = sum_by-cons (λ y. cond (f y) 1 0) x xs ∙ (λ i. cond (All-head (λ y. f y ≡ false) x xs h i) 1 0 + count-none f xs (All-tail (λ y. f y ≡ false) x xs h) i)
+
+same_sum : (a m n : ℕ) → a ≤ n → nat_eq (a + m) n ≡ nat_eq m (n - a)
+same_sum a m n lo = same_test (nat_eq (a + m) n) (nat_eq m (n - a))
+    (λ e. let h = (Decides-eqb (a + m) n).0 e in (Decides-eqb m (n - a)).1 (omega (arith, h, lo)))
+    (λ e. let h = (Decides-eqb m (n - a)).0 e in (Decides-eqb (a + m) n).1 (omega (arith, h, lo)))
+
+pairs-append : {X : Type 0} (R : X → X → Type 0) (xs ys : List X) → AllPairs R xs → AllPairs R ys → ((i j : ℕ) (d : X) → i < length xs → j < length ys → R (get_or xs i d) (get_or ys j d)) → AllPairs R (xs ++ ys)
+pairs-append R [] ys a b across = b
+pairs-append R (x ∷ xs) ys a b across =
+    AllPairs-cons R x (xs ++ ys) (All-append (R x) xs ys (λ k d lt. a 0 (suc k) d (omega arith) (omega (arith, lt))) (λ k d lt. across 0 k d (omega arith) lt))
+    (pairs-append R xs ys (λ i j d before within. a (suc i) (suc j) d (omega (arith, before)) (omega (arith, within))) b (λ i j d before within. across (suc i) j d (omega (arith, before)) within))
+
+-- ---- tasks more
+
+-- what a task of a number runs
+abbrev runs : List Lowered → ℕ → Option Kernel
+runs ts n = kernel_of (get_or ts n no_task).codelet
+
+-- the task doesn't deliver
+abbrev pub IsOther : Lowered → Type 0
+IsOther l = kernel_of l.codelet ≡ Some Deliver → ⊥
+
+left : (ts ls : List Lowered) (n : ℕ) → n < length ts → runs (ts ++ ls) n ≡ runs ts n
+left ts ls n h = ap (λ (l : Lowered). kernel_of l.codelet) (get_or_append_left ts ls no_task n h)
+
+right : (ts ls : List Lowered) (n : ℕ) → length ts ≤ n → runs (ts ++ ls) n ≡ runs ls (n - length ts)
+right ts ls n h = ap (λ (l : Lowered). kernel_of l.codelet) (get_or-append_right ts ls (length ts) n no_task refl h)
+
+-- tasks that run the same, and more that don't deliver
+delivered-like : (ts us : List Lowered) (ds : List Delivery) → length ts ≤ length us → ((n : ℕ) → n < length ts → runs us n ≡ runs ts n) → ((n : ℕ) → length ts ≤ n → n < length us → runs us n ≡ Some Deliver → ⊥) → IsDelivered ts ds → IsDelivered us ds
+delivered-like ts us ds long same none h = record {
+  below = All-weaker (λ (d : Delivery). d.task.0 < length ts) (λ (d : Delivery). d.task.0 < length us) (λ d lt. omega (arith, lt, long)) ds h.below;
+  deliver = λ k d lt. same (get_or ds k d).task.0 (h.below k d lt) ∙ h.deliver k d lt;
+  once = λ n lt e. elim (cases_lt n (length ts)) [
+    | inl inside ↦ h.once n inside (sym (same n inside) ∙ e)
+    | inr past ↦ absurd (none n past lt e)
+  ];
+  in_order = h.in_order;
+}
+
+pub delivered-more : (ts ls : List Lowered) (ds : List Delivery) → All IsOther ls → IsDelivered ts ds → IsDelivered (ts ++ ls) ds
+delivered-more ts ls ds others = delivered-like ts (ts ++ ls) ds (omega (arith, length-append ts ls)) (left ts ls)
+    (λ n past lt e. All-get_or IsOther ls (n - length ts) no_task (omega (arith, lt, past, length-append ts ls)) others (sym (right ts ls n past) ∙ e))
+
+-- tasks with their deliveries
+delivered-own : (ts us : List Lowered) (ds es : List Delivery) → IsDelivered us es → IsDelivered ts ds → IsDelivered (ts ++ us) (ds ++ map (moved (length ts)) es)
+delivered-own ts us ds es own h = record {
+  below = All-append (λ (d : Delivery). d.task.0 < length (ts ++ us)) ds (map (moved (length ts)) es) (All-weaker (λ (d : Delivery). d.task.0 < length ts) (λ (d : Delivery). d.task.0 < length (ts ++ us)) (λ d lt. omega (arith, lt, length-append ts us)) ds h.below)
+      (All-map (λ (d : Delivery). d.task.0 < length (ts ++ us)) (moved (length ts)) es (λ k d lt. let inside : length ts + (get_or es k d).task.0 < length (ts ++ us) = omega (arith, own.below k d lt, length-append ts us) in inside));
+  deliver = All-append (λ (d : Delivery). runs (ts ++ us) d.task.0 ≡ Some Deliver) ds (map (moved (length ts)) es) (λ k d lt. left ts us (get_or ds k d).task.0 (h.below k d lt) ∙ h.deliver k d lt)
+      (All-map (λ (d : Delivery). runs (ts ++ us) d.task.0 ≡ Some Deliver) (moved (length ts)) es (λ k d lt. ap (λ (l : Lowered). kernel_of l.codelet) (get_or-append-add ts us (get_or es k d).task.0 no_task) ∙ own.deliver k d lt));
+  once = λ n lt e. sum_by-append (λ (d : Delivery). cond (nat_eq d.task.0 n) 1 0) ds (map (moved (length ts)) es) ∙ elim (cases_lt n (length ts)) [
+    | inl inside ↦
+        let old = h.once n inside (sym (left ts us n inside) ∙ e) in
+        let new = count-none (λ (d : Delivery). nat_eq d.task.0 n) (map (moved (length ts)) es) (All-map (λ (d : Delivery). nat_eq d.task.0 n ≡ false) (moved (length ts)) es (λ k d lt. ne_eqb (length ts + (get_or es k d).task.0) n (λ same. omega (arith, same, inside)))) in
+        omega (arith, old, new)
+    | inr past ↦
+        let old = count-none (λ (d : Delivery). nat_eq d.task.0 n) ds (λ k d lt. ne_eqb (get_or ds k d).task.0 n (λ same. omega (arith, same, past, h.below k d lt))) in
+        let new = sum_by-map (λ (d : Delivery). cond (nat_eq d.task.0 n) 1 0) (moved (length ts)) es
+        ∙ sum_by-agree (λ (d : Delivery). cond (nat_eq (length ts + d.task.0) n) 1 0) (λ (d : Delivery). cond (nat_eq d.task.0 (n - length ts)) 1 0) (λ d i. cond (same_sum (length ts) d.task.0 n past i) 1 0) es
+        ∙ own.once (n - length ts) (omega (arith, lt, past, length-append ts us)) (sym (right ts us n past) ∙ e) in
+        omega (arith, old, new)
+  ];
+  in_order = pairs-append (λ (d e : Delivery). d.task.0 < e.task.0) ds (map (moved (length ts)) es) h.in_order (λ i j d before within.
+      (let ei = moved-at i d (omega (arith, before, within)) in let ej = moved-at j d within in
+      omega (arith, ei, ej, own.in_order i j d before (omega (arith, within, length-map es (moved (length ts)))))))
+      (λ i j d lt within. (let ej = moved-at j d within in omega (arith, ej, h.below i d lt)));
+}
+  where
+    moved-at : (k : ℕ) (d : Delivery) → k < length (map (moved (length ts)) es) → (get_or (map (moved (length ts)) es) k d).task.0 ≡ length ts + (get_or es k d).task.0
+    moved-at k d lt = ap (λ (x : Delivery). x.task.0) (get_or-map (moved (length ts)) es k d d (omega (arith, lt, length-map es (moved (length ts)))))
+
+-- ---- blocks
+
+none-init : (by : Reduction) (line : Line) (c : Cell) → IsOther (init_row by line c)
+none-init Plus line c e = absurd (cc)
+none-init Least line c e = absurd (cc)
+
+none-combine : (by : Reduction) (c : Cell) (line : Line) (q : Cell) → IsOther (combine_row by c line q)
+none-combine Plus c line q e = absurd (cc)
+none-combine Least c line q e = absurd (cc)
+
+none-map : (g : ℕ → Lowered) (ws : List ℕ) → ((w : ℕ) → IsOther (g w)) → All IsOther (map g ws)
+none-map g ws none = All-map IsOther g ws (λ k d lt. none (get_or ws k d))
+
+none-units : (o : Opening) (line : Line) → All IsOther (first_units o line)
+none-units o line = cond_both o.valued [] (init_row o.by line o.cell ∷ []) (All IsOther) (λ e. All-nil IsOther) (λ e. All-from_recursion IsOther (init_row o.by line o.cell ∷ []) (none-init o.by line o.cell, tt))
+
+none-all : (os : List Opening) (line : Line) → All IsOther (flat_map (λ o. first_units o line) os)
+none-all [] line = All-nil IsOther
+none-all (o ∷ os) line = All-append IsOther (first_units o line) (flat_map (λ x. first_units x line) os) (none-units o line) (none-all os line)
+
+delivered-closed : (w : ℕ) (E : Expansion) (c : Cell) → IsDelivered E.tasks E.deliveries → IsDelivered (closed w E c).tasks (closed w E c).deliveries
+delivered-closed w E c h = option-cases (E.phase c) E (λ f. turned (combine_rows f c w) c None E) (λ (F : Expansion). IsDelivered F.tasks F.deliveries) (λ none. h)
+    (λ f is. delivered-more E.tasks (combine_rows f c w) E.deliveries (none-map (λ v. combine_row f.by c f.line (copy_at f.copies v)) (range_with_len 0 w) (λ v. none-combine f.by c f.line (copy_at f.copies v))) h)
+
+delivered-closes : (w : ℕ) (cs : List Cell) (E : Expansion) → IsDelivered E.tasks E.deliveries → IsDelivered (fold (closed w) E cs).tasks (fold (closed w) E cs).deliveries
+delivered-closes w [] E h = h
+delivered-closes w (c ∷ cs) E h = delivered-closes w cs (closed w E c) (delivered-closed w E c h)
+
+delivered-opened : (w : ℕ) (line : Line) (E : Expansion) (o : Opening) → IsDelivered E.tasks E.deliveries → IsDelivered (opened w line E o).tasks (opened w line E o).deliveries
+delivered-opened w line E o h = option-cases (E.phase o.cell) (begin_rows w o line) (λ f. []) (λ (ls : List Lowered). IsDelivered (E.tasks ++ ls) E.deliveries)
+    (λ none. delivered-more E.tasks (begin_rows w o line) E.deliveries (All-append IsOther (init_rows o.by o.copies w line) (first_units o line) (none-map (λ v. init_row o.by line (copy_at o.copies v)) (range_with_len 0 w) (λ v. none-init o.by line (copy_at o.copies v))) (none-units o line)) h)
+    (λ f is. delivered-more E.tasks [] E.deliveries (All-nil IsOther) h)
+
+delivered-opens : (w : ℕ) (line : Line) (os : List Opening) (E : Expansion) → IsDelivered E.tasks E.deliveries → IsDelivered (fold (opened w line) E os).tasks (fold (opened w line) E os).deliveries
+delivered-opens w line [] E h = h
+delivered-opens w line (o ∷ os) E h = delivered-opens w line os (opened w line E o) (delivered-opened w line E o h)
+
+pub delivered-expand : (p : Program) (was : Opens) (w : ℕ) (bs : List Block) (E : Expansion) → AreOrderly p was bs → IsDelivered E.tasks E.deliveries → IsDelivered (expand w E bs).tasks (expand w E bs).deliveries
+delivered-expand p was w [] E orderly h = h
+delivered-expand p was w (b ∷ bs) E orderly h =
+    delivered-expand p (open_at was b) w bs (expanded w E b) orderly.1
+    (delivered-own (prepared w E b).tasks b.tasks (prepared w E b).deliveries b.deliveries orderly.0.delivered (delivered-opens w b.line b.opens (fold (closed w) E b.closes) (delivered-closes w b.closes E h)))
+
+-- without phases
+delivered-direct : (ts : List Lowered) (ds : List Delivery) → IsDelivered ts ds → IsDelivered (map direct ts) ds
+delivered-direct ts ds = delivered-like ts (map direct ts) ds (omega (arith, length-map ts direct)) (λ n lt. ap (λ (l : Lowered). kernel_of l.codelet) (get_or-map direct ts n no_task no_task lt)) (λ n past lt. absurd (omega (arith, past, lt, length-map ts direct)))
+
+pub delivered-plain : (p : Program) (was : Opens) (bs : List Block) (Q : Plainly) → AreOrderly p was bs → IsDelivered Q.tasks Q.deliveries → IsDelivered (fold plain_next Q bs).tasks (fold plain_next Q bs).deliveries
+delivered-plain p was [] Q orderly h = h
+delivered-plain p was (b ∷ bs) Q orderly h =
+    delivered-plain p (open_at was b) bs (plain_next Q b) orderly.1
+    (subst (λ (ts : List Lowered). IsDelivered ts (Q.deliveries ++ map (moved (length (Q.tasks ++ units b))) b.deliveries)) (append_assoc Q.tasks (units b) (map direct b.tasks))
+    (delivered-own (Q.tasks ++ units b) (map direct b.tasks) Q.deliveries b.deliveries (delivered-direct b.tasks b.deliveries orderly.0.delivered) (delivered-more Q.tasks (units b) Q.deliveries (none-all b.opens b.line) h)))
+
+pub delivered-none : IsDelivered [] []
+delivered-none = record {
+  below = All-nil (λ (d : Delivery). d.task.0 < 0);
+  deliver = All-nil (λ (d : Delivery). runs [] d.task.0 ≡ Some Deliver);
+  once = λ n lt e. absurd (omega (arith, lt));
+  in_order = λ i j d before within. absurd (omega (arith, within));
+}

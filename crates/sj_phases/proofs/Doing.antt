@@ -1,0 +1,160 @@
+-- Steps of the code: what each does to an expansion, and several one after another.
+use Rattle.std.proofs.Common.{◌≡◌, ℕ, ◌+◌, ◌<◌, ◌≤◌, Bool, true, false, cond, not, Option, Some, None, List, [], ◌∷◌, ◌++◌, length, map, fold, nat_eq, nat_lt, is_some, refl, sym, ap, subst, ◌∙◌, arith, length-append, append_assoc, if◌then◌else◌}
+use Rattle.std.specs.Prelude.{IfSome}
+use Rattle.std.specs.List.{range_with_len}
+use Rattle.std.proofs.lemmas.Bool.{cond_both, le-ltb, lt-ltb, ltb-true, not-false, not-true}
+use Rattle.std.proofs.lemmas.List.{append-nil, nil_from_length}
+use Rattle.std.proofs.lemmas.List.Folds.{fold_stays}
+use Rattle.std.proofs.lemmas.List.FromFn.{map-range_with_len_more}
+use Rattle.indexmap.specs.IndexMap.{IndexMap, get, with_entries}
+use Rattle.sj_base.specs.declared.ids.Cell.{Cell}
+use Rattle.sj_base.specs.declared.ids.Line.{Line}
+use Rattle.sj_base.specs.declared.program.Delivery.{Delivery}
+use Rattle.sj_base.specs.declared.program.Lowered.{Lowered}
+use Rattle.sj_base.proofs.Options.{IfSome-at}
+use Rattle.sj_phases.specs.declared.expander.Expander.{Expander}
+use Rattle.sj_phases.specs.declared.phase.Opening.{Opening}
+use Rattle.sj_phases.specs.declared.phase.OpenPhase.{OpenPhase}
+use Rattle.sj_phases.specs.Does.{Follows, IsAt, HasAt, over_after, Does}
+use Rattle.sj_phases.specs.Expand.{Expansion, most, with_phase, turned, closed, opened, with_own, begin_rows, phase_at}
+use Rattle.sj_phases.specs.Rows.{init_row, init_rows, combine_rows}
+use Rattle.sj_phases.proofs.Blocks.{GoesOn}
+use Rattle.sj_phases.proofs.Logging.{phase-own, phase-other, by_which}
+
+-- ---- the line with which there were too many tasks
+
+over-late : (line : Line) (E : Expansion) → most < length E.tasks → over_after None line E ≡ Some line
+over-late line E h = ap (λ b. if b then Some line else None) (lt-ltb most (length E.tasks) h)
+
+over-early : (line : Line) (E : Expansion) → length E.tasks ≤ most → over_after None line E ≡ None
+over-early line E h = ap (λ b. if b then Some line else None) (le-ltb most (length E.tasks) h)
+
+-- a line stays, also where there are more tasks
+over-again : (o : Option Line) (line : Line) (E F : Expansion) → length E.tasks ≤ length F.tasks → over_after (over_after o line E) line F ≡ over_after o line F
+over-again (Some first) line E F h = refl
+over-again None line E F h = cond_both {A = Option Line} (nat_lt most (length E.tasks)) (Some line) None (λ o. over_after o line F ≡ over_after None line F)
+    (λ e. (let above = ltb-true most (length E.tasks) e in sym (over-late line F (omega (arith, above, h))))) (λ e. refl)
+
+pub none-over : {X : Type 0} (o : Option X) (b : Bool) → b ≡ is_some o → b ≡ false → o ≡ None
+none-over None b is none = refl
+none-over (Some x) b is none = absurd (cc (is, none))
+
+-- ---- one step
+
+pub does-on : (old new : Expander) (line : Line) (change : Expansion → Expansion) → old.over ≡ None → new.over ≡ None → new.workers ≡ old.workers → ((E : Expansion) → Follows old E → Follows new (change E)) → Does old new line change
+does-on old new line change none early workers step = record {
+  at = λ E at still. step E (at none);
+  over = λ E at. early ∙ sym (ap (λ o. over_after o line (change E)) none ∙ over-early line (change E) (step E (at none)).few);
+  workers = workers;
+}
+
+pub has-after : (old new : Expander) (line : Line) (change : Expansion → Expansion) → Does old new line change → HasAt old → HasAt new
+has-after old new line change d h = record { expansion = change h.expansion; at = d.at h.expansion h.at }
+
+-- ---- steps one after another
+
+pub does-then : (a b c : Expander) (line : Line) (f g : Expansion → Expansion) → ((E : Expansion) → GoesOn E.tasks (g E).tasks) → Does a b line f → Does b c line g → Does a c line (λ E. g (f E))
+does-then a b c line f g more p q = record {
+  at = λ E at. q.at (f E) (p.at E at);
+  over = λ E at. q.over (f E) (p.at E at) ∙ ap (λ o. over_after o line (g (f E))) (p.over E at) ∙ over-again a.over line (f E) (g (f E)) (let m = more (f E) in omega (arith, ap length m.1, length-append (f E).tasks m.0));
+  workers = q.workers ∙ p.workers;
+}
+
+-- another change that is the same unless there were too many tasks
+pub does-where : (old new : Expander) (line : Line) (f g : Expansion → Expansion) → ((E : Expansion) → IsAt old E → f E ≡ g E) → Does old new line f → Does old new line g
+does-where old new line f g same p = record {
+  at = λ E at. subst (IsAt new) (same E at) (p.at E at);
+  over = λ E at. p.over E at ∙ ap (over_after old.over line) (same E at);
+  workers = p.workers;
+}
+
+-- another change that is the same
+pub does-as : (old new : Expander) (line : Line) (f g : Expansion → Expansion) → ((E : Expansion) → f E ≡ g E) → Does old new line f → Does old new line g
+does-as old new line f g same p = does-where old new line f g (λ E at. same E) p
+
+-- ---- own tasks
+
+pub own-nothing : (E : Expansion) → E ≡ with_own [] [] E
+own-nothing E = λ i. record { tasks = sym (append-nil E.tasks) i; deliveries = sym (append-nil E.deliveries) i; phase = E.phase }
+
+pub goes-own : (ls : List Lowered) (ds : List Delivery) (E : Expansion) → GoesOn E.tasks (with_own ls ds E).tasks
+goes-own ls ds E = (ls, refl)
+
+-- nothing is done
+pub does-nothing : (x : Expander) (line : Line) → Does x x line (λ E. E)
+does-nothing x line = record { at = λ E at. at; over = λ E at. by_over x.over refl E at; workers = refl }
+  where
+    by_over : (o : Option Line) → x.over ≡ o → (E : Expansion) → IsAt x E → x.over ≡ over_after x.over line E
+    by_over None e E at = e ∙ sym (over-early line E (at e).few) ∙ ap (λ o. over_after o line E) (sym e)
+    by_over (Some first) e E at = e ∙ ap (λ o. over_after o line E) (sym e)
+
+-- no task yet
+pub does-start : (x : Expander) (line : Line) (ls : List Lowered) → ls ≡ [] → Does x x line (with_own ls [])
+does-start x line ls none = does-as x x line (λ E. E) (with_own ls []) (λ E. own-nothing E ∙ ap (λ (ms : List Lowered). with_own ms [] E) (sym none)) (does-nothing x line)
+
+pub own-append : (ls ms : List Lowered) (E : Expansion) → with_own ms [] (with_own ls [] E) ≡ with_own (ls ++ ms) [] E
+own-append ls ms E = λ i. record { tasks = append_assoc E.tasks ls ms i; deliveries = append-nil (E.deliveries ++ []) i; phase = E.phase }
+
+-- a task more
+pub does-more : (a b c : Expander) (line : Line) (ls ms : List Lowered) (l : Lowered) → ms ≡ ls ++ l ∷ [] → Does a b line (with_own ls []) → Does b c line (with_own (l ∷ []) []) → Does a c line (with_own ms [])
+does-more a b c line ls ms l e p q =
+    does-where a c line (λ E. with_own (l ∷ []) [] (with_own ls [] E)) (with_own ms []) (λ E at. own-append ls (l ∷ []) E ∙ ap (λ (xs : List Lowered). with_own xs [] E) (sym e))
+    (does-then a b c line (with_own ls []) (with_own (l ∷ []) []) (goes-own (l ∷ []) []) p q)
+
+-- a task more of those that are numbered
+pub does-next : (a b c : Expander) (line : Line) (g : ℕ → Lowered) (n : ℕ) (l : Lowered) → l ≡ g n → Does a b line (with_own (map g (range_with_len 0 n)) []) → Does b c line (with_own (l ∷ []) []) → Does a c line (with_own (map g (range_with_len 0 (n + 1))) [])
+does-next a b c line g n l e = does-more a b c line (map g (range_with_len 0 n)) (map g (range_with_len 0 (n + 1))) l (map-range_with_len_more g 0 n n (omega arith) ∙ ap (λ (x : Lowered). map g (range_with_len 0 n) ++ x ∷ []) (sym e))
+
+-- ---- phases
+
+-- the phases afterwards
+abbrev pub Sets : Expander → Expander → Cell → Option OpenPhase → Type 0
+Sets old new c o = (d : ℕ) → get nat_eq new.phases d ≡ cond (nat_eq c.0 d) o (get nat_eq old.phases d)
+
+own-turned : (ls : List Lowered) (c : Cell) (o : Option OpenPhase) (E : Expansion) → with_own ls [] (turned [] c o E) ≡ turned ls c o E
+own-turned ls c o E = λ i. record { tasks = append-nil E.tasks i ++ ls; deliveries = append-nil E.deliveries i; phase = with_phase c o E.phase }
+
+-- the phase of a cell is this one, or none
+module _ (old mid : Expander) (line : Line) (c : Cell) (o : Option OpenPhase) (none : old.over ≡ None) (early : mid.over ≡ None) (workers : mid.workers ≡ old.workers) (tasks : mid.tasks ≡ old.tasks) (deliveries : mid.deliveries ≡ old.deliveries) (sets : Sets old mid c o)
+    (inside : IfSome o (λ f. f.copies.0 + old.workers ≤ most)) where
+  sets-on : Does old mid line (turned [] c o)
+  sets-on = does-on old mid line (turned [] c o) none early workers (λ E f. record {
+    tasks = ap (λ v. v.items) tasks ∙ f.tasks ∙ sym (append-nil E.tasks);
+    deliveries = ap (λ v. v.items) deliveries ∙ f.deliveries;
+    phases = λ d. sets d.0 ∙ ap (λ x. cond (nat_eq c.0 d.0) o x) (f.phases d);
+    few = omega (arith, f.few, length-append E.tasks []);
+    copies = λ d g e. subst (λ n. g.copies.0 + n ≤ most) (sym workers) (by_which c d (g.copies.0 + old.workers ≤ most)
+        (λ same. IfSome-at (λ (h : OpenPhase). h.copies.0 + old.workers ≤ most) o g (sym (phase-own c o E.phase) ∙ ap (with_phase c o E.phase) same ∙ e) inside)
+        (λ other. f.copies d g (sym (phase-other c o E.phase d other) ∙ e)));
+  })
+
+  pub sets-at : HasAt old → HasAt mid
+  sets-at h = has-after old mid line (turned [] c o) sets-on h
+
+  -- then come tasks: both together are a change that comes to the same
+  pub sets-then : (new : Expander) (ls : List Lowered) (change : Expansion → Expansion) → ((E : Expansion) → Follows old E → change E ≡ turned ls c o E) → Does mid new line (with_own ls []) → Does old new line change
+  sets-then new ls change same p = does-where old new line (λ E. with_own ls [] (turned [] c o E)) change (λ E at. own-turned ls c o E ∙ sym (same E (at none)))
+      (does-then old mid new line (turned [] c o) (with_own ls []) (λ E. (ls, refl)) sets-on p)
+
+-- what closing and opening come to, by the cell's phase
+pub closed-is : (w : ℕ) (E : Expansion) (c : Cell) (x : Option OpenPhase) → E.phase c ≡ x → closed w E c ≡ elim x as (λ _. Expansion) [ None ↦ E | Some f ↦ turned (combine_rows f c w) c None E ]
+closed-is w E c x e = ap (λ (y : Option OpenPhase). elim y as (λ _. Expansion) [ None ↦ E | Some f ↦ turned (combine_rows f c w) c None E ]) e
+
+pub opened-is : (w : ℕ) (line : Line) (E : Expansion) (o : Opening) (x : Option OpenPhase) → E.phase o.cell ≡ x → opened w line E o ≡ turned (elim x as (λ _. List Lowered) [ None ↦ begin_rows w o line | Some f ↦ [] ]) o.cell (Some (phase_at o line)) E
+opened-is w line E o x e = ap (λ (y : Option OpenPhase). turned (elim y as (λ _. List Lowered) [ None ↦ begin_rows w o line | Some f ↦ [] ]) o.cell (Some (phase_at o line)) E) e
+
+-- what begins a phase
+pub begin-valued : (w : ℕ) (o : Opening) (line : Line) → not o.valued ≡ false → begin_rows w o line ≡ init_rows o.by o.copies w line
+begin-valued w o line h = ap (λ (v : Bool). init_rows o.by o.copies w line ++ cond v [] (init_row o.by line o.cell ∷ [])) (not-false o.valued h) ∙ append-nil (init_rows o.by o.copies w line)
+
+pub begin-unvalued : (w : ℕ) (o : Opening) (line : Line) → not o.valued ≡ true → begin_rows w o line ≡ init_rows o.by o.copies w line ++ init_row o.by line o.cell ∷ []
+begin-unvalued w o line h = ap (λ (v : Bool). init_rows o.by o.copies w line ++ cond v [] (init_row o.by line o.cell ∷ [])) (not-true o.valued h)
+
+-- ---- several cells, where none is open
+
+empty-get : {X S : Type 0} (m : IndexMap ℕ X S) (k : ℕ) → length m.entries ≡ 0 → get nat_eq m k ≡ None
+empty-get m k h = ap (λ es. get nat_eq (with_entries m es) k) (nil_from_length m.entries h)
+
+pub closes-none : (x : Expander) (line : Line) (cs : List Cell) → x.over ≡ None → length x.phases.entries ≡ 0 → Does x x line (λ E. fold (closed x.workers) E cs)
+closes-none x line cs none empty = does-where x x line (λ E. E) (λ E. fold (closed x.workers) E cs) (λ E at. sym (fold_stays (closed x.workers) E (λ c. closed-is x.workers E c None (sym ((at none).phases c) ∙ empty-get x.phases c.0 empty)) cs))
+    (does-on x x line (λ E. E) none none refl (λ E f. f))

@@ -1,0 +1,237 @@
+-- The program of blocks is proper, and holds and hands over what it does without phases.
+use mathlib.Core.List.{map-map}
+use Rattle.std.proofs.Common.{◌≡◌, ℕ, ◌+◌, ◌<◌, Bool, true, false, cond, not, Some, None, List, [], ◌∷◌, ◌++◌, length, get_or, map, fold, refl, sym, ap, subst, ◌∙◌, inl, inr, arith, length-append, append_assoc}
+use Rattle.std.specs.Prelude.{◌⊎◌, All, Contains, filter}
+use Rattle.std.specs.List.{range_with_len}
+use Rattle.std.specs.Option.{is_some}
+use Rattle.std.proofs.lemmas.Bool.{false≢true, cases_lt}
+use Rattle.std.proofs.lemmas.List.{append-nil, get_or_past, get_or_default, get_or-map, length-map, map-append}
+use Rattle.std.proofs.lemmas.List.Sums.{fold-append}
+use Rattle.std.proofs.lemmas.List.Elements.{All-contains, All-from_get_or, Contains-get_or}
+use Rattle.sj_base.specs.declared.ids.Cell.{Cell}
+use Rattle.sj_base.specs.declared.ids.Line.{Line}
+use Rattle.sj_base.specs.declared.ids.Task.{Task}
+use Rattle.sj_base.specs.declared.ids.Worker.{Worker}
+use Rattle.sj_base.specs.declared.mode.Mode.{Mode}
+use Rattle.sj_base.specs.declared.mode.Mode.TheVariants.{R}
+use Rattle.sj_base.specs.declared.mode.Access.{Access}
+use Rattle.sj_base.specs.declared.mode.Reduction.{Reduction}
+use Rattle.sj_base.specs.declared.program.CellInfo.{CellInfo}
+use Rattle.sj_base.specs.declared.program.Delivery.{Delivery}
+use Rattle.sj_base.specs.declared.program.Lowered.{Lowered}
+use Rattle.sj_base.specs.declared.program.Program.{Program}
+use Rattle.sj_base.specs.Mode.{is_data, is_redux, is_scratch, reads_value}
+use Rattle.sj_codelet.specs.declared.kernel.Kernel.{Kernel}
+use Rattle.sj_codelet.specs.declared.kernel.Kernel.TheVariants.{Deliver}
+use Rattle.sj_codelet.specs.Kernel.{kernel_of, out}
+use Rattle.sj_core.specs.Program.{same_cell, cell_info, data_operands, task_of, no_cell, no_task}
+use Rattle.sj_core.specs.Operands.{copy_of, worked_on, cells_of}
+use Rattle.sj_core.specs.Fold.{after_chosen, held_in, held_before, given}
+use Rattle.sj_core.specs.Laws.{IsLawful, final}
+use Rattle.sj_core.specs.Proper.{Proper, FitsCodelet, MayHaveModes, IsPlain, IsUnaliased, HasValueBefore, access}
+use Rattle.sj_core.proofs.Folding.{map-same}
+use Rattle.sj_core.proofs.Given.{none-open}
+use Rattle.sj_core.proofs.Readiness.{Contains-filter, Contains-map}
+use Rattle.sj_core.proofs.TaskCells.{operand-inside}
+use Rattle.sj_core.proofs.Workers.{workers-alike}
+use Rattle.sj_phases.specs.declared.phase.Opening.{Opening}
+use Rattle.sj_phases.specs.Block.{Block}
+use Rattle.sj_phases.specs.Expand.{Expansion, nothing, expand, expanded, prepared, moved, cells_below, last_block}
+use Rattle.sj_phases.specs.Plain.{Opens, Plainly, direct, direct_access, units, plain_rows, plain_next, plain_program, none_open, open_at, open_after, shut_by, with_shut, with_opening}
+use Rattle.sj_phases.specs.Orderly.{IsOrderlyTask, IsOrderly, AreOrderly, AreOpenings}
+use Rattle.sj_phases.specs.Law.{program_by, MayExpand, HoldsPlain, AreDelivered, handed_over}
+use Rattle.sj_phases.proofs.Blocks.{orderly-twin, along-blocks, begun-blocks, fine-among, fine-block, fine-start, stand-at, prepared-deliveries}
+use Rattle.sj_phases.proofs.Combined.{IsTrusted, Phases, denoted-closed}
+use Rattle.sj_base.specs.Ids.{task}
+use Rattle.sj_phases.proofs.Contents.{first_worker, contents_before}
+use Rattle.sj_phases.proofs.Delivered.{delivered-expand, delivered-plain, delivered-none}
+use Rattle.sj_phases.proofs.Fine.{Begins, Fine, by_of, none-by, begins-stand}
+use Rattle.sj_phases.proofs.Good.{AreTwins, twin-copy, twin-plain, IsGood}
+use Rattle.sj_phases.proofs.Holding.{Holds}
+use Rattle.sj_phases.proofs.Lists.{by_option, fold_keeps, cons-cases, range-has, all-from, split-at}
+use Rattle.sj_phases.proofs.Logging.{has-phases, some_is, none_isn't, by_which, phase-own, phase-other}
+
+abbrev start : Plainly
+start = record { tasks = []; deliveries = [] }
+
+pub delivered : (p : Program) (rows : List CellInfo) (workers : ℕ) (bs : List Block) → AreOrderly p none_open bs → AreDelivered rows workers bs
+delivered p rows workers bs orderly = record { expanded = delivered-expand p none_open workers bs nothing orderly delivered-none; plain = delivered-plain p none_open bs start orderly delivered-none }
+
+-- a task that delivers has its codelet's own mode: it reads one cell
+deliver-modes : (modes : List Mode) → MayHaveModes Deliver modes → modes ≡ R ∷ []
+deliver-modes modes (MayHaveModes.Own own) = own
+deliver-modes modes (MayHaveModes.FirstPaste paste own) = absurd (cc)
+deliver-modes modes (MayHaveModes.Commuting commutes one own) = absurd (false≢true commutes)
+deliver-modes modes (MayHaveModes.Contributing by contributes one own) = absurd (false≢true contributes)
+
+one_read : (xs : List Access) → map (λ (a : Access). a.mode) xs ≡ R ∷ [] → (c : Cell) × (xs ≡ access R c ∷ [])
+one_read [] e = absurd (let n : 0 ≡ 1 = ap length e in omega (arith, n))
+one_read (a ∷ []) e = (a.cell, ap (λ (m : Mode). access m a.cell ∷ []) (ap (λ (ms : List Mode). get_or ms 0 R) e))
+one_read (a ∷ b ∷ xs) e = absurd (let n : length (a.mode ∷ b.mode ∷ map (λ (x : Access). x.mode) xs) ≡ 1 = ap length e in omega (arith, n))
+
+module _ (rows : List CellInfo) (workers : ℕ) (bs : List Block) (can : MayExpand rows workers bs) where
+  abbrev p : Program
+  p = program_by rows workers bs
+
+  abbrev q : Program
+  q = plain_program rows workers bs
+
+  abbrev E : Expansion
+  E = expand workers nothing bs
+
+  twins : AreTwins p q
+  twins = record { cells = refl; workers = refl }
+
+  orderly : AreOrderly p none_open bs
+  orderly = orderly-twin p q twins none_open bs can.orderly
+
+  fine : Fine p q p.tasks E.phase q.tasks [] (open_after none_open bs)
+  fine = begun-blocks p q (λ F Q o. Fine p q F.tasks F.phase Q.tasks [] o) (λ x F Q o. fine-block p q twins can.proper F Q.tasks o x) bs nothing start none_open orderly ([], sym (append-nil p.tasks)) ([], sym (append-nil q.tasks)) (fine-start p q twins can.proper)
+
+  shut : (c : Cell) → E.phase c ≡ None
+  shut c = none-by (E.phase c) (fine.linked c ∙ can.shut c)
+
+  each_task : (P : Lowered → Type 0) → ((n : ℕ) → IsGood p n (task_of p (task n)) → P (task_of p (task n))) → All P p.tasks
+  each_task P f = All-from_get_or P p.tasks no_task (λ n h. f n (fine.good n h))
+
+  -- what holds of each operand where the task is one of the program holds of each operand
+  every_operand : (P : Access → Type 0) (n : ℕ) → (n < length p.tasks → All P (task_of p (task n)).accesses) → All P (task_of p (task n)).accesses
+  every_operand P n f = all-from P (task_of p (task n)).accesses (λ a h. All-contains P (task_of p (task n)).accesses a (f (operand-inside p (task n) a h)) h)
+
+  pub proper : Proper p
+  proper = record {
+    cells = record {
+      named = each_task (λ (l : Lowered). All (λ (a : Access). a.cell.0 < length p.cells) l.accesses) (λ n g. g.cells);
+      copies = λ x c w h. can.proper.cells.copies x c w (twin-copy p q twins x c w h);
+      apart = λ x c d v w h k. can.proper.cells.apart x c d v w (twin-copy p q twins x c v h) (twin-copy p q twins x d w k);
+      plain = λ x c w h. can.proper.cells.plain x c w (twin-copy p q twins x c w h);
+      reduced = each_task (λ (l : Lowered). All (λ (a : Access). is_redux a.mode ≡ true → is_some (cell_info p a.cell).partials ≡ true) l.accesses) (λ n g k d h e. (g.copies k d h e).0);
+    };
+    codelets = each_task (FitsCodelet p) (λ n g. g.fits);
+    unaliased = each_task IsUnaliased (λ n g. g.unaliased);
+    values = record {
+      cells = λ t. every_operand (λ (a : Access). reads_value a.mode ≡ true → HasValueBefore p (task t.0) a.cell) t.0 (λ h. (fine.good t.0 h).values);
+      copies = λ t. every_operand (λ (a : Access). is_redux a.mode ≡ true → (w : Worker) → w.0 < p.workers → HasValueBefore p (task t.0) (copy_of p a.cell w)) t.0 (λ h k d l e. ((fine.good t.0 h).copies k d l e).1);
+    };
+    phases = has-phases p E.phase (length p.tasks) shut fine.logged (λ m a. operand-inside p (task m) a);
+    deliveries = record {
+      once = λ t e h. (delivered p rows workers bs orderly).expanded.once t.0 h e;
+      plain = λ t e. every_operand (λ (a : Access). IsPlain p a.cell) t.0 (λ h. (fine.good t.0 h).plain e);
+    };
+    limits = record { tasks = can.few; cells = can.proper.limits.cells; elements = can.proper.limits.elements };
+  }
+
+  -- ---- what is handed over
+
+  module _ (has : Kernel → Bool) (lawful : IsLawful out has p) (some : 0 < workers) where
+    trust : IsTrusted p
+    trust = record { has = has; lawful = lawful; proper = proper; staffed = some }
+
+    pub held : (c : Cell) (by : Task → Worker) → IsPlain q c → ((u : Task) → (by u).0 < workers) → held_in p (after_chosen out p (λ t. true) by (length p.tasks)) c ≡ final out q c
+    held c by plain staffed =
+        let own = twin-plain p q twins c plain in
+        workers-alike out has p proper lawful (length p.tasks) (omega arith) c own (λ f phase same. none-open p proper f phase) by (λ u. record { 0 = 0 }) staffed (λ u. some)
+        ∙ sym (denoted-closed p E.phase (contents_before p (length p.tasks)) c (shut c)) ∙ fine.holds trust c own
+
+    -- one delivery
+    given-alike : (n m : ℕ) (phases : Phases) (was : Opens) (l : Lowered) → Holds p q phases (contents_before p n) (contents_before q m) → ((c : Cell) → by_of (phases c) ≡ was c) → IsOrderlyTask p was l → kernel_of l.codelet ≡ Some Deliver
+        → n < length p.tasks → task_of p (task n) ≡ l → task_of q (task m) ≡ direct l → given out p (task n) ≡ given out q (task m)
+    given-alike n m phases was l holds linked orderly deliver lt row plain_row =
+        let fit = subst (FitsCodelet p) row (fine.good n lt).fits in
+        let one = one_read l.accesses (deliver-modes (map (λ (a : Access). a.mode) l.accesses) (subst (λ (k : Kernel). MayHaveModes k (map (λ (a : Access). a.mode) l.accesses)) (some_is fit.kernel Deliver (sym fit.codelet ∙ deliver)) fit.modes)) in
+        let c = one.0 in
+        let among : Contains l.accesses (access R c) = subst (λ (xs : List Access). Contains xs (access R c)) (sym one.1) (0, omega arith, refl) in
+        let kept : Contains (data_operands l) (access R c) = Contains-filter (λ (b : Access). not (is_scratch b.mode)) l.accesses (access R c) refl among in
+        let closed : phases c ≡ None = none-by (phases c) (linked c ∙ All-contains (λ (b : Access). not (is_redux b.mode) ≡ true → was b.cell ≡ None) (data_operands l) (access R c) orderly.shut kept refl) in
+        ap (held_before out p n) (cell_of p n c (ap (λ (x : Lowered). x.accesses) row ∙ one.1))
+        ∙ sym (denoted-closed p phases (contents_before p n) c closed)
+        ∙ holds c (All-contains (λ (b : Access). IsPlain p b.cell) l.accesses (access R c) orderly.plain among)
+        ∙ ap (held_before out q m) (sym (cell_of q m c (ap (λ (x : Lowered). x.accesses) plain_row ∙ ap (map direct_access) one.1)))
+      where
+        cell_of : (r : Program) (i : ℕ) (c : Cell) → (task_of r (task i)).accesses ≡ access R c ∷ [] → get_or (cells_of r (task i) first_worker) 0 (record { 0 = 0 }) ≡ c
+        cell_of r i c accesses = ap (λ (xs : List Access). get_or (map (worked_on r first_worker) (filter (λ b. is_data b.mode) xs)) 0 (record { 0 = 0 })) accesses
+
+    module _ (x : Block) (F : Expansion) (Q : Plainly) (was : Opens) (h : IsOrderly p was x) (b : Begins p.tasks (expanded p.workers F x).tasks) (d : Begins q.tasks (Q.tasks ++ plain_rows x)) (fine_before : Fine p q F.tasks F.phase Q.tasks [] was) (same : map (handed_over p) F.deliveries ≡ map (handed_over q) Q.deliveries) where
+      abbrev Ready : Expansion
+      Ready = prepared p.workers F x
+
+      abbrev us : List Lowered
+      us = Q.tasks ++ units x
+
+      abbrev n : ℕ
+      n = length Ready.tasks
+
+      abbrev m : ℕ
+      m = length us
+
+      one : (e : Delivery) → Contains x.deliveries e → handed_over p (moved n e) ≡ handed_over q (moved m e)
+      one e has' =
+          let i = e.task.0 in
+          let lt = All-contains (λ (z : Delivery). z.task.0 < length x.tasks) x.deliveries e h.delivered.below has' in
+          let deliver = All-contains (λ (z : Delivery). kernel_of (get_or x.tasks z.task.0 no_task).codelet ≡ Some Deliver) x.deliveries e h.delivered.deliver has' in
+          let l = get_or x.tasks i no_task in
+          let s = split-at x.tasks i no_task lt in
+          let f = fine-among p q twins can.proper F Q.tasks was x h b d fine_before s.0 (l ∷ s.1) s.2 in
+          let at = stand-at p n x.tasks l i (begins-stand p Ready.tasks x.tasks b) lt (get_or_default x.tasks i l no_task lt) in
+          let plain_stand = begins-stand q us (map direct x.tasks) (d.0, d.1 ∙ ap (λ zs. zs ++ d.0) (sym (append_assoc Q.tasks (units x) (map direct x.tasks)))) in
+          let plain_at = stand-at q m (map direct x.tasks) (direct l) i plain_stand (omega (arith, lt, length-map x.tasks direct)) (get_or-map direct x.tasks i no_task (direct l) lt) in
+          let there : length (Ready.tasks ++ s.0) ≡ n + i = length-append Ready.tasks s.0 ∙ ap (λ k. n + k) s.3 in
+          let plain_there : length (us ++ map direct s.0) ≡ m + i = length-append us (map direct s.0) ∙ ap (λ k. m + k) (length-map s.0 direct ∙ s.3) in
+          let holds = subst (λ k. Holds p q Ready.phase (contents_before p k) (contents_before q (m + i))) there (subst (λ k. Holds p q Ready.phase (contents_before p (length (Ready.tasks ++ s.0))) (contents_before q k)) plain_there (f.holds trust)) in
+          let alike = given-alike (n + i) (m + i) Ready.phase (open_at was x) l holds f.linked (All-contains (IsOrderlyTask p (open_at was x)) x.tasks l h.tasks (Contains-get_or x.tasks i no_task lt)) deliver at.1 at.0 plain_at.0 in
+          λ k. (e.root, e.place, e.print, alike k)
+
+      own : map (handed_over p) (map (moved n) x.deliveries) ≡ map (handed_over q) (map (moved m) x.deliveries)
+      own = map-map (handed_over p) (moved n) x.deliveries ∙ map-same (λ e. handed_over p (moved n e)) (λ e. handed_over q (moved m e)) x.deliveries one ∙ sym (map-map (handed_over q) (moved m) x.deliveries)
+
+      handed-block : map (handed_over p) (expanded p.workers F x).deliveries ≡ map (handed_over q) (plain_next Q x).deliveries
+      handed-block =
+          map-append (handed_over p) Ready.deliveries (map (moved n) x.deliveries)
+          ∙ (λ i. (ap (map (handed_over p)) (prepared-deliveries p.workers F x) ∙ same) i ++ own i)
+          ∙ sym (map-append (handed_over q) Q.deliveries (map (moved m) x.deliveries))
+
+    pub holds_plain : HoldsPlain rows workers bs
+    holds_plain = record {
+      held = held;
+      handed = (begun-blocks p q (λ F Q o. Fine p q F.tasks F.phase Q.tasks [] o × (map (handed_over p) F.deliveries ≡ map (handed_over q) Q.deliveries))
+          (λ x F Q o h b d before. (fine-block p q twins can.proper F Q.tasks o x h b d before.0, handed-block x F Q o h b d before.0 before.1))
+          bs nothing start none_open orderly ([], sym (append-nil p.tasks)) ([], sym (append-nil q.tasks)) (fine-start p q twins can.proper, refl)).1;
+    }
+
+-- ---- the end
+
+pub shuts : (cs : List Cell) (was : Opens) (c : Cell) → Contains cs c ⊎ (was c ≡ None) → fold with_shut was cs c ≡ None
+shuts [] was c (inl h) = absurd (omega (arith, h.1))
+shuts [] was c (inr e) = e
+shuts (d ∷ cs) was c h = shuts cs (with_shut was d) c (elim h [
+  | inl has ↦ elim (cons-cases d cs c has) [
+    | inl same ↦ inr (subst (λ (x : Cell). with_shut was d x ≡ None) same (phase-own d None was))
+    | inr later ↦ inl later
+  ]
+  | inr e ↦ inr (by_which d c (with_shut was d c ≡ None) (λ same. subst (λ (x : Cell). with_shut was d x ≡ None) same (phase-own d None was)) (λ other. phase-other d None was c other ∙ e))
+])
+
+-- a cell whose phase is open is one of the program's
+abbrev AreInside : List CellInfo → Opens → Type 0
+AreInside rows was = (c : Cell) (by : Reduction) → was c ≡ Some by → c.0 < length rows
+
+shut-inside : (rows : List CellInfo) (cs : List Cell) (was : Opens) → AreInside rows was → AreInside rows (fold with_shut was cs)
+shut-inside rows cs was = fold_keeps (AreInside rows) with_shut (λ o d h c by. elim (same_cell d c) as (λ b. cond b None (o c) ≡ Some by → c.0 < length rows) [ true ↦ (λ e. absurd (none_isn't by e)) | false ↦ h c by ]) was cs
+
+opening-inside : (p : Program) (tasks : List Lowered) (os : List Opening) (was : Opens) → AreOpenings p tasks was os → AreInside p.cells was → AreInside p.cells (fold with_opening was os)
+opening-inside p tasks [] was h k = k
+opening-inside p tasks (o ∷ os) was h k = opening-inside p tasks os (with_opening was o) h.1 (λ c by e. by_which o.cell c (c.0 < length p.cells) (λ same. subst (λ (x : Cell). x.0 < length p.cells) same (there o.cell o.copies h.0.copies)) (λ other. k c by (sym (phase-other o.cell (Some o.by) was c other) ∙ e)))
+  where
+    there : (c first : Cell) → (cell_info p c).partials ≡ Some first → c.0 < length p.cells
+    there c first e = elim (cases_lt c.0 (length p.cells)) [
+      | inl inside ↦ inside
+      | inr past ↦ absurd (none_isn't first (sym (ap (λ (i : CellInfo). i.partials) (get_or_past p.cells c.0 no_cell past)) ∙ e))
+    ]
+
+pub last-shuts : (rows : List CellInfo) (workers : ℕ) (bs : List Block) (line : Line) → AreOrderly (plain_program rows workers bs) none_open bs → (c : Cell) → open_after none_open (bs ++ last_block (length rows) line ∷ []) c ≡ None
+last-shuts rows workers bs line h c =
+    ap (λ (was : Opens). was c) (fold-append open_at none_open bs (last_block (length rows) line ∷ []))
+    ∙ shuts (cells_below (length rows)) (open_after none_open bs) c (by_option (open_after none_open bs c) (λ o. Contains (cells_below (length rows)) c ⊎ (open_after none_open bs c ≡ None)) (λ e. inr e)
+    (λ by e. (let p = plain_program rows workers bs in
+    let inside = along-blocks p workers (λ F Q o. AreInside rows o) (λ b F Q o k was. opening-inside p b.tasks b.opens (shut_by o b) k.openings (shut-inside rows b.closes o was)) bs nothing start none_open h (λ d by e. absurd (none_isn't by e)) in
+    inl (Contains-map (λ k. let d : Cell = record { 0 = k } in d) (range_with_len 0 (length rows)) c.0 (range-has 0 (length rows) c.0 (omega arith) (omega (arith, inside c by e)))))))

@@ -1,0 +1,229 @@
+-- Each task is as a proper program has it, by the same blocks without phases.
+use Rattle.std.proofs.Common.{◌≡◌, ℕ, ◌+◌, ◌<◌, Bool, true, false, cond, not, ◌&&◌, Some, None, List, [], ◌∷◌, length, get_or, map, refl, sym, ap, subst, subst₂, ◌∙◌, inl, inr, arith}
+use Rattle.std.specs.Prelude.{All, AllPairs, Contains, filter}
+use Rattle.std.specs.List.{list_any}
+use Rattle.std.specs.Option.{is_some}
+use mathlib.Core.List.{map-map}
+use Rattle.std.proofs.lemmas.Bool.{false≢true, false_from_ne_true, cases_lt, cases_Bool, cond_both}
+use Rattle.std.proofs.lemmas.List.{length-map, get_or-map}
+use Rattle.std.proofs.lemmas.List.Folds.{list_any-from_Any, map_fixed}
+use Rattle.std.proofs.lemmas.List.Elements.{All-from_recursion, All-contains, All-get_or}
+use Rattle.std.proofs.lemmas.List.Kept.{AllPairs-cons}
+use Rattle.sj_base.specs.declared.ids.Cell.{Cell}
+use Rattle.sj_base.specs.declared.ids.Line.{Line}
+use Rattle.sj_base.specs.declared.ids.Worker.{Worker}
+use Rattle.sj_base.specs.declared.mode.Mode.{Mode}
+use Rattle.sj_base.specs.declared.mode.Mode.TheVariants.{R, W, RW, Redux}
+use Rattle.sj_base.specs.declared.mode.Access.{Access}
+use Rattle.sj_base.specs.declared.mode.Reduction.{Reduction}
+use Rattle.sj_base.specs.declared.mode.Reduction.TheVariants.{Plus, Least}
+use Rattle.sj_base.specs.declared.program.CellInfo.{CellInfo}
+use Rattle.sj_base.specs.declared.program.Lowered.{Lowered}
+use Rattle.sj_base.specs.declared.program.Program.{Program}
+use Rattle.sj_base.specs.Mode.{is_scratch, is_redux, is_written, reads_value}
+use Rattle.sj_codelet.specs.declared.kernel.Kernel.{Kernel}
+use Rattle.sj_codelet.specs.declared.kernel.Kernel.TheVariants.{Deliver}
+use Rattle.sj_codelet.specs.Kernel.{kernel_of, fits, init_of, combine_of, contributes_of}
+use Rattle.sj_core.specs.Program.{same_cell, dims_of, cell_info, task_of, data_operands, no_task, no_cell}
+use Rattle.sj_core.specs.Operands.{copy_of}
+use Rattle.sj_core.specs.Proper.{Proper, IsCopyOf, IsPlain, HasValueBefore, FitsCodelet, MayHaveModes, IsUnaliased, gives_value, modes_writing_by, writes_one}
+use Rattle.sj_core.proofs.Dependencies.{map-from}
+use Rattle.sj_core.proofs.Folding.{map-same}
+use Rattle.sj_core.proofs.Readiness.{Contains-map, list_any-some}
+use Rattle.sj_phases.specs.declared.phase.Opening.{Opening}
+use Rattle.sj_phases.specs.Rows.{an_access, init_row, combine_row}
+use Rattle.sj_phases.specs.Expand.{first_units}
+use Rattle.sj_phases.specs.Plain.{Opens, direct_mode, direct_access, direct}
+use Rattle.sj_phases.specs.Orderly.{Contributes}
+use Rattle.sj_phases.proofs.Adding.{same-itself}
+use Rattle.sj_base.specs.Ids.{task}
+use Rattle.sj_base.proofs.Bools.{and_rest}
+use Rattle.sj_base.proofs.SameIds.{same_cell-is}
+use Rattle.sj_phases.proofs.Folding.{Stand, later}
+use Rattle.sj_phases.proofs.Lists.{All-unmap, all-from}
+use Rattle.sj_phases.proofs.Logging.{redux-is, some_is}
+
+-- ---- programs of the same cells
+
+pub record AreTwins (p q : Program) : Type 0 where
+  pub cells : p.cells ≡ q.cells
+  pub workers : p.workers ≡ q.workers
+
+module _ (p q : Program) (twins : AreTwins p q) where
+  pub twin-info : (c : Cell) → cell_info p c ≡ cell_info q c
+  twin-info c = ap (λ (is : List CellInfo). get_or is c.0 no_cell) twins.cells
+
+  pub twin-dims : (c : Cell) → dims_of p c ≡ dims_of q c
+  twin-dims c = ap (λ (i : CellInfo). i.dims) (twin-info c)
+
+  pub twin-copy : (x c : Cell) (w : Worker) → IsCopyOf p x c w → IsCopyOf q x c w
+  twin-copy x c w h = record {
+    has_copies = ap (λ (i : CellInfo). is_some i.partials) (sym (twin-info c)) ∙ h.has_copies;
+    of_worker = subst (λ (n : ℕ). w.0 < n) twins.workers h.of_worker;
+    is = h.is ∙ ap (λ (i : CellInfo). elim i.partials as (λ _. Cell) [ None ↦ c | Some f ↦ record { 0 = f.0 + w.0 } ]) (twin-info c);
+  }
+
+pub twin-plain : (p q : Program) → AreTwins p q → (x : Cell) → IsPlain q x → IsPlain p x
+twin-plain p q t x h c w copy = h c w (twin-copy p q t x c w copy)
+
+-- ---- good tasks
+
+-- where the access is a contribution, its cell has partial copies, and each has a value
+abbrev pub HasItsCopies : Program → ℕ → Access → Type 0
+HasItsCopies p n a = is_redux a.mode ≡ true → (is_some (cell_info p a.cell).partials ≡ true) × ((w : Worker) → w.0 < p.workers → HasValueBefore p (task n) (copy_of p a.cell w))
+
+-- a task of the program is one that it may have at that number
+pub record IsGood (p : Program) (n : ℕ) (l : Lowered) : Type 0 where
+  pub cells : All (λ a. a.cell.0 < length p.cells) l.accesses
+  pub fits : FitsCodelet p l
+  pub unaliased : IsUnaliased l
+  pub values : All (λ a. reads_value a.mode ≡ true → HasValueBefore p (task n) a.cell) l.accesses
+  pub copies : All (HasItsCopies p n) l.accesses
+  pub plain : kernel_of l.codelet ≡ Some Deliver → All (λ a. IsPlain p a.cell) l.accesses
+
+-- ---- tasks of phases
+
+alone : {X : Type 0} (P : X → X → Type 0) (x : X) → AllPairs P (x ∷ [])
+alone P x i j d h k = absurd (omega arith)
+
+-- two operands on one cell only read it
+abbrev ReadOnly : Access → Access → Type 0
+ReadOnly a b = same_cell a.cell b.cell ≡ true → (a.mode ≡ R) × (b.mode ≡ R)
+
+pub good_init : (p : Program) (n : ℕ) (by : Reduction) (line : Line) (c : Cell) → c.0 < length p.cells → IsGood p n (init_row by line c)
+good_init p n by line c inside = by_reduction by
+  where
+    cells_in : All (λ (a : Access). a.cell.0 < length p.cells) (an_access W c ∷ [])
+    cells_in = All-from_recursion (λ (a : Access). a.cell.0 < length p.cells) (an_access W c ∷ []) (inside, tt)
+
+    copies_in : All (HasItsCopies p n) (an_access W c ∷ [])
+    copies_in = All-from_recursion (HasItsCopies p n) (an_access W c ∷ []) ((λ h. absurd (false≢true h)), tt)
+
+    values_in : All (λ (a : Access). reads_value a.mode ≡ true → HasValueBefore p (task n) a.cell) (an_access W c ∷ [])
+    values_in = All-from_recursion (λ (a : Access). reads_value a.mode ≡ true → HasValueBefore p (task n) a.cell) (an_access W c ∷ []) ((λ h. absurd (false≢true h)), tt)
+
+    by_reduction : (by : Reduction) → IsGood p n (init_row by line c)
+    by_reduction Plus = record { cells = cells_in; copies = copies_in; plain = λ e. absurd (cc); fits = record { kernel = init_of Plus; codelet = refl; operands = refl; modes = MayHaveModes.Own refl }; unaliased = alone ReadOnly (an_access W c); values = values_in }
+    by_reduction Least = record { cells = cells_in; copies = copies_in; plain = λ e. absurd (cc); fits = record { kernel = init_of Least; codelet = refl; operands = refl; modes = MayHaveModes.Own refl }; unaliased = alone ReadOnly (an_access W c); values = values_in }
+
+pub good_combine : (p : Program) (n : ℕ) (by : Reduction) (c : Cell) (line : Line) (q : Cell) → q.0 < length p.cells → c.0 < length p.cells → dims_of p q ≡ dims_of p c → same_cell q c ≡ false → HasValueBefore p (task n) q → HasValueBefore p (task n) c → IsGood p n (combine_row by c line q)
+good_combine p n by c line q iq ic dims apart gq gc = by_reduction by
+  where
+    cells_in : All (λ (a : Access). a.cell.0 < length p.cells) (an_access R q ∷ an_access RW c ∷ [])
+    cells_in = All-from_recursion (λ (a : Access). a.cell.0 < length p.cells) (an_access R q ∷ an_access RW c ∷ []) (iq, (ic, tt))
+
+    copies_in : All (HasItsCopies p n) (an_access R q ∷ an_access RW c ∷ [])
+    copies_in = All-from_recursion (HasItsCopies p n) (an_access R q ∷ an_access RW c ∷ []) ((λ h. absurd (false≢true h)), ((λ h. absurd (false≢true h)), tt))
+
+    pair : AllPairs ReadOnly (an_access R q ∷ an_access RW c ∷ [])
+    pair = AllPairs-cons ReadOnly (an_access R q) (an_access RW c ∷ []) (All-from_recursion (ReadOnly (an_access R q)) (an_access RW c ∷ []) ((λ same. absurd (false≢true (sym apart ∙ same))), tt)) (alone ReadOnly (an_access RW c))
+
+    values_in : All (λ (a : Access). reads_value a.mode ≡ true → HasValueBefore p (task n) a.cell) (an_access R q ∷ an_access RW c ∷ [])
+    values_in = All-from_recursion (λ (a : Access). reads_value a.mode ≡ true → HasValueBefore p (task n) a.cell) (an_access R q ∷ an_access RW c ∷ []) ((λ h. gq), ((λ h. gc), tt))
+
+    by_reduction : (by : Reduction) → IsGood p n (combine_row by c line q)
+    by_reduction Plus = record { cells = cells_in; copies = copies_in; plain = λ e. absurd (cc); fits = record { kernel = combine_of Plus; codelet = refl; operands = same-itself (dims_of p q) (dims_of p c) dims; modes = MayHaveModes.Own refl }; unaliased = pair; values = values_in }
+    by_reduction Least = record { cells = cells_in; copies = copies_in; plain = λ e. absurd (cc); fits = record { kernel = combine_of Least; codelet = refl; operands = same-itself (dims_of p q) (dims_of p c) dims; modes = MayHaveModes.Own refl }; unaliased = pair; values = values_in }
+
+-- ---- a block's own tasks
+
+pub direct-same : (a : Access) → is_redux a.mode ≡ false → direct_access a ≡ a
+direct-same a h = ap (λ b. let m = cond b RW a.mode in let x : Access = record { mode = m; cell = a.cell } in x) h
+
+direct-read : (m : Mode) → direct_mode m ≡ R → m ≡ R
+direct-read m = cond_both (is_redux m) RW m (λ x. x ≡ R → m ≡ R) (λ e h. absurd (cc)) (λ e h. h)
+
+direct-reads : (m : Mode) → reads_value m ≡ true → reads_value (direct_mode m) ≡ true
+direct-reads m h = cond_both (is_redux m) RW m (λ x. reads_value x ≡ true) (λ e. refl) (λ e. h)
+
+direct-data : (m : Mode) → not (is_scratch (direct_mode m)) ≡ not (is_scratch m)
+direct-data m = cond_both (is_redux m) RW m (λ x. not (is_scratch x) ≡ not (is_scratch m)) (λ e. ap (λ x. not (is_scratch x)) (sym (redux-is m e))) (λ e. refl)
+
+-- without a contribution the task is its own
+pub none-redux : (l : Lowered) → list_any (λ a. is_redux a.mode) l.accesses ≡ false → (a : Access) → Contains l.accesses a → is_redux a.mode ≡ false
+none-redux l none a h = false_from_ne_true (is_redux a.mode) (λ e. false≢true (sym none ∙ list_any-from_Any (λ (b : Access). is_redux b.mode) l.accesses (h.0, a, h.1, h.2, e)))
+
+pub map-itself : {X : Type 0} (f : X → X) (xs : List X) → ((x : X) → Contains xs x → f x ≡ x) → map f xs ≡ xs
+map-itself f xs h = map_fixed f xs (all-from (λ x. f x ≡ x) xs h)
+
+pub direct-itself : (l : Lowered) → list_any (λ a. is_redux a.mode) l.accesses ≡ false → direct l ≡ l
+direct-itself l none =
+    ap (λ (as' : List Access). let x : Lowered = record { codelet = l.codelet; args = l.args; accesses = as'; line = l.line; priority = l.priority } in x)
+    (map-itself direct_access l.accesses (λ a h. direct-same a (none-redux l none a h)))
+
+pub filter-direct : (xs : List Access) → filter (λ a. not (is_scratch a.mode)) (map direct_access xs) ≡ map direct_access (filter (λ a. not (is_scratch a.mode)) xs)
+filter-direct [] = refl
+filter-direct (x ∷ xs) = by_test (not (is_scratch x.mode)) (direct-data x.mode) (filter-direct xs)
+  where
+    by_test : (b : Bool) → not (is_scratch (direct_mode x.mode)) ≡ b → filter (λ a. not (is_scratch a.mode)) (map direct_access xs) ≡ map direct_access (filter (λ a. not (is_scratch a.mode)) xs)
+        → cond (not (is_scratch (direct_mode x.mode))) (direct_access x ∷ filter (λ a. not (is_scratch a.mode)) (map direct_access xs)) (filter (λ a. not (is_scratch a.mode)) (map direct_access xs)) ≡ map direct_access (cond b (x ∷ filter (λ a. not (is_scratch a.mode)) xs) (filter (λ a. not (is_scratch a.mode)) xs))
+    by_test true e rest = ap (λ b. cond b (direct_access x ∷ filter (λ a. not (is_scratch a.mode)) (map direct_access xs)) (filter (λ a. not (is_scratch a.mode)) (map direct_access xs))) e ∙ ap (λ ys. direct_access x ∷ ys) rest
+    by_test false e rest = ap (λ b. cond b (direct_access x ∷ filter (λ a. not (is_scratch a.mode)) (map direct_access xs)) (filter (λ a. not (is_scratch a.mode)) (map direct_access xs))) e ∙ rest
+
+-- a cell with a value after one task more has it before that task, or by it
+values-row : (p q : Program) (n m : ℕ) (c : Cell) → ((c : Cell) → HasValueBefore q (task m) c → HasValueBefore p (task n) c) → (gives_value (task_of q (task m)) c ≡ true → HasValueBefore p (task (n + 1)) c) → HasValueBefore q (task (m + 1)) c → HasValueBefore p (task (n + 1)) c
+values-row p q n m c values new (u, before, gives) = elim (cases_lt u.0 m) [
+  | inl old ↦ later p n (n + 1) c (omega arith) (values c (u, old, gives))
+  | inr here ↦ (let same : u.0 ≡ m = omega (arith, here, before) in new (ap (λ i. gives_value (task_of q (task i)) c) (sym same) ∙ gives))
+]
+
+module _ (p q : Program) (twins : AreTwins p q) (proper : Proper q) (m : ℕ) (inside : m < length q.tasks) (l : Lowered) (row : task_of q (task m) ≡ direct l) where
+  -- what the plain program's task reads has a value there
+  pub plain-value : (a : Access) → Contains l.accesses a → reads_value (direct_mode a.mode) ≡ true → HasValueBefore q (task m) a.cell
+  plain-value a h reads =
+      All-contains (λ (b : Access). reads_value b.mode ≡ true → HasValueBefore q (task m) b.cell) (task_of q (task m)).accesses (direct_access a) (proper.values.cells (task m))
+      (subst (λ (x : Lowered). Contains x.accesses (direct_access a)) (sym row) (Contains-map direct_access l.accesses a h)) reads
+
+  -- it is good in the program with phases too
+  pub good_own : (n : ℕ) (opens : Opens) → ((c : Cell) → HasValueBefore q (task m) c → HasValueBefore p (task n) c) → ((a : Access) → Contains l.accesses a → is_redux a.mode ≡ true → Contributes opens l a.cell)
+      → All (HasItsCopies p n) l.accesses → All (λ a. IsPlain p a.cell) l.accesses → IsGood p n l
+  good_own n opens values contributes copies plain = record {
+    cells = All-unmap (λ (a : Access). a.cell.0 < length p.cells) direct_access l.accesses (subst₂ (λ (x : Lowered) (is : List CellInfo). All (λ (a : Access). a.cell.0 < length is) x.accesses) row (sym twins.cells)
+        (All-get_or (λ (x : Lowered). All (λ (a : Access). a.cell.0 < length q.cells) x.accesses) q.tasks m no_task inside proper.cells.named));
+    fits = record { kernel = fit.kernel; codelet = fit.codelet; operands = ap (fits fit.kernel l.args) (sym same_dims) ∙ fit.operands; modes = its_modes (list_any (λ (a : Access). is_redux a.mode) l.accesses) refl };
+    unaliased = λ i j d before within same.
+        let both = subst₂ ReadOnly (get_or-map direct_access (data_operands l) i d (direct_access d) (omega (arith, before, within))) (get_or-map direct_access (data_operands l) j d (direct_access d) within)
+        (q_pairs i j (direct_access d) before (omega (arith, within, length-map (data_operands l) direct_access))) same in
+        (direct-read (get_or (data_operands l) i d).mode both.0, direct-read (get_or (data_operands l) j d).mode both.1);
+    values = all-from (λ (a : Access). reads_value a.mode ≡ true → HasValueBefore p (task n) a.cell) l.accesses (λ a h reads. values a.cell (plain-value a h (direct-reads a.mode reads)));
+    copies = copies;
+    plain = λ e. plain;
+  }
+    where
+      fit : FitsCodelet q (direct l)
+      fit = subst (FitsCodelet q) row (All-get_or (FitsCodelet q) q.tasks m no_task inside proper.codelets)
+
+      same_dims : map (λ (a : Access). dims_of q a.cell) (map direct_access l.accesses) ≡ map (λ (a : Access). dims_of p a.cell) l.accesses
+      same_dims = map-map (λ (a : Access). dims_of q a.cell) direct_access l.accesses ∙ map-same (λ (a : Access). dims_of q a.cell) (λ (a : Access). dims_of p a.cell) l.accesses (λ a h. sym (twin-dims p q twins a.cell))
+
+      its_modes : (b : Bool) → list_any (λ (a : Access). is_redux a.mode) l.accesses ≡ b → MayHaveModes fit.kernel (map (λ (a : Access). a.mode) l.accesses)
+      its_modes false none = subst (λ (x : Lowered). MayHaveModes fit.kernel (map (λ (a : Access). a.mode) x.accesses)) (direct-itself l none) fit.modes
+      its_modes true any =
+          let found = list_any-some (λ (a : Access). is_redux a.mode) l.accesses any in
+          let con = contributes found.0 found.1 found.2 in
+          let one = some_is con.contribution.kernel fit.kernel (sym con.contribution.codelet ∙ fit.codelet) in
+          MayHaveModes.Contributing con.by (ap (λ (k : Kernel). contributes_of k con.by) (sym one) ∙ con.contribution.contributes) (subst (λ (k : Kernel). writes_one k) one con.one) (con.modes ∙ ap (modes_writing_by Redux) one)
+
+      q_pairs : AllPairs ReadOnly (map direct_access (data_operands l))
+      q_pairs = subst (AllPairs ReadOnly) (filter-direct l.accesses) (subst (λ (x : Lowered). IsUnaliased x) row (All-get_or IsUnaliased q.tasks m no_task inside proper.unaliased))
+
+  -- what has a value after it has one in the program with phases
+  pub values-own : (n : ℕ) → task_of p (task n) ≡ l → ((c : Cell) → HasValueBefore q (task m) c → HasValueBefore p (task n) c) → (c : Cell) → HasValueBefore q (task (m + 1)) c → HasValueBefore p (task (n + 1)) c
+  values-own n here values c = values-row p q n m c values (λ gives.
+      let test : Access → Bool = λ a. is_written a.mode && not (is_redux a.mode) && same_cell a.cell c in
+      let found = list_any-some test (map direct_access l.accesses) (sym (ap (λ (x : Lowered). gives_value x c) row) ∙ gives) in
+      let own = map-from direct_access l.accesses found.0 found.1 in
+      let passes : test (direct_access own.0) ≡ true = ap test own.2 ∙ found.2 in
+      elim (cases_Bool (is_redux own.0.mode)) [
+        | inl e ↦ later p n (n + 1) c (omega arith) (values c (subst (HasValueBefore q (task m)) (same_cell-is own.0.cell c (and_rest (is_written (direct_mode own.0.mode) && not (is_redux (direct_mode own.0.mode))) (same_cell own.0.cell c) passes)) (plain-value own.0 own.1 (ap (λ b. reads_value (cond b RW own.0.mode)) e))))
+        | inr e ↦ (task n, omega arith, ap (λ (x : Lowered). gives_value x c) here ∙ list_any-from_Any test l.accesses (own.1.0, own.0, own.1.1, own.1.2, ap test (sym (direct-same own.0 e)) ∙ passes))
+      ])
+
+-- the same after the unit that both programs have
+pub values-units : (p q : Program) (n m : ℕ) (o : Opening) (line : Line) → Stand p n (first_units o line) → Stand q m (first_units o line) → ((c : Cell) → HasValueBefore q (task m) c → HasValueBefore p (task n) c)
+    → (c : Cell) → HasValueBefore q (task (m + length (first_units o line))) c → HasValueBefore p (task (n + length (first_units o line))) c
+values-units p q n m o line s r values c = by_valued o.valued s r
+  where
+    by_valued : (v : Bool) → Stand p n (cond v [] (init_row o.by line o.cell ∷ [])) → Stand q m (cond v [] (init_row o.by line o.cell ∷ [])) → HasValueBefore q (task (m + length (cond v [] (init_row o.by line o.cell ∷ [])))) c → HasValueBefore p (task (n + length (cond v [] (init_row o.by line o.cell ∷ [])))) c
+    by_valued true s r h = later p n (n + 0) c (omega arith) (values c (h.0, omega (arith, h.1), h.2))
+    by_valued false s r h = values-row p q n m c values (λ gives. (task n, omega arith, ap (λ (x : Lowered). gives_value x c) (s.0 ∙ sym r.0) ∙ gives)) h

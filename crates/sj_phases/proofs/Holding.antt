@@ -1,0 +1,301 @@
+-- What the cells denote, with contributions in partial copies, is what they hold by the same blocks without phases.
+use Rattle.sj_codelet.proofs.NewArrays.{out-makes_tiles}
+use Rattle.sj_codelet.proofs.Table.{codelet_of-kernel}
+use Rattle.std.proofs.Common.{◌≡◌, ◌≢◌, ℕ, ◌<◌, true, false, cond, not, ◌||◌, Some, None, List, [], ◌∷◌, ◌++◌, length, map, refl, sym, ap, subst, ◌∙◌, inl, inr, arith}
+use Rattle.std.specs.Prelude.{Contains, filter}
+use Rattle.std.specs.List.{list_any, find, zip}
+use Rattle.std.proofs.lemmas.Bool.{cond_both, false_from_ne_true}
+use Rattle.std.proofs.lemmas.List.{map-append}
+use Rattle.std.proofs.lemmas.List.Elements.{Contains-append_left}
+use Rattle.sj_base.specs.declared.ids.Cell.{Cell}
+use Rattle.sj_base.specs.declared.ids.Line.{Line}
+use Rattle.sj_base.specs.declared.ids.Worker.{Worker}
+use Rattle.sj_base.specs.declared.mode.Mode.TheVariants.{RW, Redux}
+use Rattle.sj_base.specs.declared.mode.Access.{Access}
+use Rattle.sj_base.specs.declared.program.Codelet.{Codelet}
+use Rattle.sj_base.specs.declared.program.Lowered.{Lowered}
+use Rattle.sj_base.specs.declared.program.Program.{Program}
+use Rattle.sj_base.specs.Array.{Array, zeros}
+use Rattle.sj_base.specs.Mode.{is_in_order, is_redux, is_scratch, is_written, starts_as_zeros}
+use Rattle.sj_codelet.specs.declared.kernel.Kernel.{Kernel}
+use Rattle.sj_codelet.specs.Kernel.{kernel_of, operand, out}
+use Rattle.sj_codelet.specs.Laws.{IsReduction, IsTile, combined, unit_of, result_of}
+use Rattle.sj_core.specs.Program.{same_cell, has_cell, dims_of, cell_info, task_of, data_operands}
+use Rattle.sj_core.specs.Operands.{worked_on, found, results, written_cells}
+use Rattle.sj_core.specs.Fold.{Contents, held_in, after_task}
+use Rattle.sj_core.specs.Proper.{FitsCodelet, IsCopyOf, IsPlain, IsContribution, access}
+use Rattle.sj_core.proofs.CellLists.{same_cell-refl}
+use Rattle.sj_core.proofs.Copies.{direct-cell}
+use Rattle.sj_core.proofs.Folding.{held_over, held-append, held_over-other, after_task-other, map-same}
+use Rattle.sj_core.proofs.Modes.{reads_isn't_scratch, written_isn't_scratch}
+use Rattle.sj_core.proofs.Readiness.{Contains-filter, Contains-from_filter}
+use Rattle.sj_core.proofs.Sharing.{operand_for}
+use Rattle.sj_core.proofs.Sized.{AreSized, Fills}
+use Rattle.sj_core.proofs.Swapping.{Updates, first_ins}
+use Rattle.sj_core.proofs.Updating.{first-is, last-is}
+use Rattle.sj_core.proofs.Values.{results-complete}
+use Rattle.sj_phases.specs.declared.phase.Opening.{Opening}
+use Rattle.sj_phases.specs.declared.phase.OpenPhase.{OpenPhase}
+use Rattle.sj_phases.specs.Rows.{copy_at, init_rows, combine_rows}
+use Rattle.sj_phases.specs.Expand.{with_phase, begin_rows, first_units, phase_at}
+use Rattle.sj_phases.specs.Plain.{direct_access, direct}
+use Rattle.sj_phases.proofs.Adding.{SizedCopies, sized, added, denotes-more, result-more, others-kept, updates, all-sized}
+use Rattle.sj_phases.proofs.Beginning.{AreApart}
+use Rattle.sj_phases.proofs.Combined.{IsTrusted, Phases, with_all, all_workers, denoted, denoted-closed, denoted-open, denoted-same, all_workers-below}
+use Rattle.sj_base.specs.Ids.{task}
+use Rattle.sj_base.proofs.SameIds.{same_cell-is, same_cell-turned}
+use Rattle.sj_phases.proofs.Contents.{first_worker, contents_before}
+use Rattle.sj_phases.proofs.Folding.{after_row, after_rows, after_rows-append}
+use Rattle.sj_phases.proofs.Good.{AreTwins, twin-dims, direct-same, direct-itself, none-redux, map-itself}
+use Rattle.sj_phases.proofs.Lists.{by_option, filter-last, first-has, more-has}
+use Rattle.sj_phases.proofs.Logging.{IsOwnTask, phase-own, phase-other, unlike, some_is, none_isn't, redux-access}
+use Rattle.sj_phases.proofs.Owning.{IsOwn, is-copy}
+use Rattle.sj_phases.proofs.Phasing.{IsBare, closed-value, closed-others, inits-copies, inits-others, units-others, units-same, each_cell}
+
+-- each cell that is no partial copy denotes what it holds in the program without phases
+abbrev pub Holds : (p q : Program) → Phases → Contents → Contents → Type 0
+Holds p q phases k j = (c : Cell) → IsPlain p c → denoted p phases k c ≡ held_in q j c
+
+-- each open phase is of such a cell
+abbrev pub AreOwned : Program → Phases → Type 0
+AreOwned p phases = (c : Cell) (f : OpenPhase) → phases c ≡ Some f → IsOwn p c f.copies
+
+-- a cell that is no partial copy isn't one of these
+pub bare : (p : Program) (c d first : Cell) → IsPlain p c → (cell_info p d).partials ≡ Some first → IsBare p first c
+bare p c d first plain partials w below = false_from_ne_true (same_cell c (copy_at first w)) (λ h. plain d (record { 0 = w }) (subst (λ (x : Cell). IsCopyOf p x d (record { 0 = w })) (sym (same_cell-is c (copy_at first w) h)) (is-copy p d first (record { 0 = w }) partials below)))
+
+-- copies of two cells
+copies-apart : (p : Program) → AreApart p → (c d first other : Cell) (v w : ℕ) → same_cell c d ≡ false → (cell_info p c).partials ≡ Some first → (cell_info p d).partials ≡ Some other → v < p.workers → w < p.workers → copy_at first v ≢ copy_at other w
+copies-apart p apart c d first other v w differ one two below below' same =
+    unlike c d differ (apart (copy_at first v) c d (record { 0 = v }) (record { 0 = w }) (is-copy p c first (record { 0 = v }) one below) (subst (λ (x : Cell). IsCopyOf p x d (record { 0 = w })) (sym same) (is-copy p d other (record { 0 = w }) two below')))
+
+-- ---- a phase is closed, or has another line
+
+module _ (p q : Program) (phases : Phases) (owned : AreOwned p phases) (k j : Contents) (holds : Holds p q phases k j) (c : Cell) (f : OpenPhase) (is : phases c ≡ Some f) where
+  pub holds-close : Holds p q (with_phase c None phases) (after_rows p k (combine_rows f c p.workers)) j
+  holds-close =
+      let after = with_phase c None phases in
+      let left = after_rows p k (combine_rows f c p.workers) in
+      each_cell c (λ d. IsPlain p d → denoted p after left d ≡ held_in q j d)
+      (λ plain. denoted-closed p after left c (phase-own c None phases) ∙ closed-value p k f c (bare p c c f.copies plain (owned c f is).partials) ∙ sym (denoted-open p phases k c f is) ∙ holds c plain)
+      (λ d other plain. denoted-same p phases after k left d (phase-other c None phases d other) (closed-others p k f c d other)
+      (λ g there w below. closed-others p k f c (copy_at g.copies w) (bare p c d g.copies (owned c f is).plain (owned d g there).partials w below)) ∙ holds d plain)
+
+  pub holds-line : (g : OpenPhase) → f.by ≡ g.by → f.copies ≡ g.copies → Holds p q (with_phase c (Some g) phases) k j
+  holds-line g by copies =
+      let after = with_phase c (Some g) phases in
+      each_cell c (λ d. IsPlain p d → denoted p after k d ≡ held_in q j d)
+      (λ plain. denoted-open p after k c g (phase-own c (Some g) phases) ∙ (λ i. with_all p k (record { by = sym by i; copies = sym copies i; line = f.line }) (all_workers p) (held_in p k c)) ∙ sym (denoted-open p phases k c f is) ∙ holds c plain)
+      (λ d other plain. denoted-same p phases after k k d (phase-other c (Some g) phases d other) refl (λ h there w below. refl) ∙ holds d plain)
+
+-- ---- a phase begins
+
+-- what is combined from units alone
+all-units : (p : Program) (k : Contents) (f : OpenPhase) (ws : List ℕ) (v : Array) → IsReduction out f.by → IsTile v → ((w : ℕ) → Contains ws w → held_in p k (copy_at f.copies w) ≡ unit_of out f.by v.dims) → with_all p k f ws v ≡ v
+all-units p k f [] v law tile all = refl
+all-units p k f (w ∷ ws) v law tile all =
+    let here : combined out f.by (held_in p k (copy_at f.copies w)) v ≡ v = ap (λ (y : Array). combined out f.by y v) (all w (first-has w ws)) ∙ law.unit v tile in
+    ap (with_all p k f ws) here ∙ all-units p k f ws v law tile (λ u h. all u (more-has w ws u h))
+
+module _ (p q : Program) (twins : AreTwins p q) (phases : Phases) (owned : AreOwned p phases) (apart : AreApart p) (k j : Contents) (holds : Holds p q phases k j) (o : Opening) (line : Line) (none : phases o.cell ≡ None) (own : IsOwn p o.cell o.copies)
+    (copies : (w : Worker) → w.0 < p.workers → dims_of p (copy_at o.copies w.0) ≡ dims_of p o.cell) (law : IsReduction out o.by) where
+  abbrev k1 : Contents
+  k1 = after_rows p k (init_rows o.by o.copies p.workers line)
+
+  abbrev begun : Contents
+  begun = after_rows p k (begin_rows p.workers o line)
+
+  abbrev begun_phases : Phases
+  begun_phases = with_phase o.cell (Some (phase_at o line)) phases
+
+  begun_split : begun ≡ after_rows p k1 (first_units o line)
+  begun_split = after_rows-append p k (init_rows o.by o.copies p.workers line) (first_units o line)
+
+  -- no copy is a cell that is none
+  beside : (d : Cell) → IsPlain p d → (w : ℕ) → w < p.workers → same_cell (copy_at o.copies w) d ≡ false
+  beside d plain w below = same_cell-turned d (copy_at o.copies w) (bare p d o.cell o.copies plain own.partials w below)
+
+  other_kept : (d : Cell) → same_cell o.cell d ≡ false → ((w : ℕ) → w < p.workers → same_cell (copy_at o.copies w) d ≡ false) → held_in p begun d ≡ held_in p k d
+  other_kept d other free = ap (λ (n : Contents). held_in p n d) begun_split ∙ units-others p k1 o line d other ∙ inits-others p k o.by o.copies line d free
+
+  pub holds-begin : AreSized p begun → Holds p q begun_phases begun (after_rows q j (first_units o line))
+  holds-begin sized = each_cell o.cell (λ d. IsPlain p d → denoted p begun_phases begun d ≡ held_in q (after_rows q j (first_units o line)) d)
+      (λ plain. denoted-open p begun_phases begun o.cell (phase_at o line) (phase-own o.cell (Some (phase_at o line)) phases)
+      ∙ all-units p begun (phase_at o line) (all_workers p) (held_in p begun o.cell) law (sized o.cell).tile (λ w h. (let below = all_workers-below p w h in
+      ap (λ (n : Contents). held_in p n (copy_at o.copies w)) begun_split ∙ units-others p k1 o line (copy_at o.copies w) (bare p o.cell o.cell o.copies plain own.partials w below) ∙ inits-copies p k o.by o.copies line w below
+      ∙ ap (unit_of out o.by) (copies (record { 0 = w }) below ∙ sym (sized o.cell).dims)))
+      ∙ ap (λ (n : Contents). held_in p n o.cell) begun_split
+      ∙ units-same p q k1 j o line o.cell (twin-dims p q twins o.cell) (inits-others p k o.by o.copies line o.cell (beside o.cell plain) ∙ sym (denoted-closed p phases k o.cell none) ∙ holds o.cell plain))
+      (λ d other plain. denoted-same p phases begun_phases k begun d (phase-other o.cell (Some (phase_at o line)) phases d other) (other_kept d other (beside d plain))
+      (λ g there w below. other_kept (copy_at g.copies w) (bare p o.cell d g.copies own.plain (owned d g there).partials w below)
+      (λ v lt. false_from_ne_true (same_cell (copy_at o.copies v) (copy_at g.copies w)) (λ h. copies-apart p apart o.cell d o.copies g.copies v w other own.partials (owned d g there).partials lt below (same_cell-is (copy_at o.copies v) (copy_at g.copies w) h))))
+      ∙ holds d plain ∙ sym (units-others q j o line d other))
+
+-- ---- a block's own task
+
+module _ (p q : Program) (twins : AreTwins p q) (phases : Phases) (owned : AreOwned p phases) (apart : AreApart p) (n m : ℕ) (holds : Holds p q phases (contents_before p n) (contents_before q m)) (l : Lowered)
+    (row : task_of p (task n) ≡ l) (plain_row : task_of q (task m) ≡ direct l) (own : IsOwnTask p phases l) where
+  abbrev k : Contents
+  k = contents_before p n
+
+  abbrev j : Contents
+  j = contents_before q m
+
+  abbrev new : Contents
+  new = after_task out p first_worker (task n) k
+
+  abbrev newj : Contents
+  newj = after_task out q first_worker (task m) j
+
+  data_in : (a : Access) → Contains l.accesses a → not (is_scratch a.mode) ≡ true → Contains (data_operands l) a
+  data_in a h kept = Contains-filter (λ (b : Access). not (is_scratch b.mode)) l.accesses a kept h
+
+  -- an operand that isn't contributed to is found alike
+  found-alike : (a : Access) → Contains l.accesses a → is_redux a.mode ≡ false → found q first_worker (held_in q j) a ≡ found p first_worker (held_in p k) a
+  found-alike a h direct = cond_both (starts_as_zeros a.mode) (zeros (dims_of p a.cell)) (held_in p k (worked_on p first_worker a)) (λ x. found q first_worker (held_in q j) a ≡ x)
+      (λ e. ap (λ b. cond b (zeros (dims_of q a.cell)) (held_in q j (worked_on q first_worker a))) e ∙ ap zeros (sym (twin-dims p q twins a.cell)))
+      (λ e. ap (λ b. cond b (zeros (dims_of q a.cell)) (held_in q j (worked_on q first_worker a))) e
+      ∙ ap (held_in q j) (direct-cell q first_worker a direct) ∙ sym (holds a.cell (own.plain a h)) ∙ denoted-closed p phases k a.cell (own.shut a (data_in a h (reads_isn't_scratch a.mode e)) direct) ∙ ap (held_in p k) (sym (direct-cell p first_worker a direct)))
+
+  -- ---- one that contributes to nothing
+
+  module _ (none : list_any (λ a. is_redux a.mode) l.accesses ≡ false) where
+    abbrev cs : List Cell
+    cs = map (worked_on p first_worker) (filter (λ a. is_written a.mode) l.accesses)
+
+    abbrev xs : List Array
+    xs = out l.codelet l.args (map (found p first_worker (held_in p k)) l.accesses)
+
+    left_plain : newj ≡ zip cs xs ++ j
+    left_plain =
+        ap (after_row q j) (plain_row ∙ direct-itself l none)
+        ∙ ap (λ (ds : List Cell). zip ds (out l.codelet l.args (map (found q first_worker (held_in q j)) l.accesses)) ++ j) (map-same (worked_on q first_worker) (worked_on p first_worker) (filter (λ a. is_written a.mode) l.accesses) (λ a h.
+        (let direct = none-redux l none a (Contains-from_filter (λ (b : Access). is_written b.mode) l.accesses a h) in direct-cell q first_worker a direct ∙ sym (direct-cell p first_worker a direct))))
+        ∙ ap (λ (ys : List Array). zip cs (out l.codelet l.args ys) ++ j) (map-same (found q first_worker (held_in q j)) (found p first_worker (held_in p k)) l.accesses (λ a h. found-alike a h (none-redux l none a h)))
+
+    -- what a cell holds afterwards, by what it held
+    over : (d : Cell) → held_in p new d ≡ held_over (zip cs xs) d (held_in p k d)
+    over d = ap (λ (z : Contents). held_in p z d) (ap (after_row p k) row) ∙ held-append p (zip cs xs) k d
+
+    over_plain : (d : Cell) → held_in q newj d ≡ held_over (zip cs xs) d (held_in q j d)
+    over_plain d = ap (λ (z : Contents). held_in q z d) left_plain ∙ held-append q (zip cs xs) j d
+
+    -- a cell that it writes is none of an open phase
+    unwritten : (d : Cell) → ((a : Access) → Contains l.accesses a → Contains (data_operands l) a → a.cell ≢ d) → has_cell cs d ≡ false
+    unwritten d free = false_from_ne_true (has_cell cs d) (λ h.
+        (let a = operand_for (worked_on p first_worker) (λ a. is_written a.mode) l.accesses d h in
+        free a.0 a.1 (data_in a.0 a.1 (written_isn't_scratch a.0.mode a.2)) (sym (direct-cell p first_worker a.0 (none-redux l none a.0 a.1)) ∙ a.3)))
+
+    pub holds-beside : Holds p q phases new newj
+    holds-beside d plain = by_option (phases d) (λ o. denoted p phases new d ≡ held_in q newj d)
+        (λ e. denoted-closed p phases new d e ∙ over d ∙ ap (held_over (zip cs xs) d) (sym (denoted-closed p phases k d e) ∙ holds d plain) ∙ sym (over_plain d))
+        (λ f e. (let free = unwritten d (λ a h kept same. none_isn't f (sym (own.shut a kept (none-redux l none a h)) ∙ ap phases same ∙ e)) in
+        denoted-same p phases phases k new d refl (over d ∙ held_over-other cs xs d (held_in p k d) free)
+        (λ g there w below. (let x = copy_at g.copies w in
+        over x ∙ held_over-other cs xs x (held_in p k x) (unwritten x (λ a h kept same. own.plain a h d (record { 0 = w }) (subst (λ (y : Cell). IsCopyOf p y d (record { 0 = w })) (sym same) (is-copy p d g.copies (record { 0 = w }) (owned d g there).partials below))))))
+        ∙ holds d plain ∙ sym (over_plain d ∙ held_over-other cs xs d (held_in q j d) free)))
+
+  -- ---- one that contributes
+
+  module _ (trust : IsTrusted p) (inside : n < length p.tasks) (fit : FitsCodelet q (task_of q (task m))) (a : Access) (here : Contains l.accesses a) (mode : is_redux a.mode ≡ true) where
+    abbrev c : Cell
+    c = a.cell
+
+    is_redux_mode : a.mode ≡ Redux
+    is_redux_mode = ap (λ (b : Access). b.mode) (redux-access a mode)
+
+    gift : (f : OpenPhase) × (phases c ≡ Some f) × IsContribution f.by c l
+    gift = own.gives c (subst (λ (b : Access). Contains l.accesses b) (redux-access a mode) here)
+
+    abbrev f : OpenPhase
+    f = gift.0
+
+    abbrev con : IsContribution f.by c l
+    con = gift.2
+
+    its : IsOwn p c f.copies
+    its = owned c f gift.1
+
+    among : Contains (task_of p (task n)).accesses a
+    among = subst (λ (x : Lowered). Contains x.accesses a) (sym row) here
+
+    codelet : kernel_of (task_of p (task n)).codelet ≡ Some con.kernel
+    codelet = ap (λ (x : Lowered). kernel_of x.codelet) row ∙ con.codelet
+
+    abbrev up : Updates p (task n) first_worker (worked_on p first_worker a)
+    up = updates p trust n inside a among is_redux_mode f its.partials con.kernel codelet con.contributes
+
+    abbrev ins : List Array
+    ins = first_ins p (task n) first_worker (worked_on p first_worker a) up (held_in p k)
+
+    -- the operands before the last one, which contributes, are only read, and found alike
+    ends : l.accesses ≡ up.before ++ a ∷ []
+    ends =
+        ap (λ (x : Lowered). x.accesses) (sym row) ∙ up.accesses
+        ∙ ap (λ (b : Access). up.before ++ b ∷ []) (last-is p trust.proper (task n) inside a among (ap is_in_order is_redux_mode))
+
+    plain_accesses : (task_of q (task m)).accesses ≡ up.before ++ access RW c ∷ []
+    plain_accesses =
+        ap (λ (x : Lowered). x.accesses) plain_row ∙ ap (map direct_access) ends ∙ map-append direct_access up.before (a ∷ [])
+        ∙ ap (λ (bs : List Access). bs ++ direct_access a ∷ []) (map-itself direct_access up.before (λ b h. direct-same b (up.direct b h)))
+        ∙ ap (λ x. let y = cond x RW a.mode in let b : Access = record { mode = y; cell = c } in up.before ++ b ∷ []) mode
+
+    plain_written : written_cells q (task m) first_worker ≡ c ∷ []
+    plain_written =
+        ap (λ (bs : List Access). map (worked_on q first_worker) (filter (λ b. is_written b.mode) bs)) plain_accesses
+        ∙ ap (map (worked_on q first_worker)) (filter-last (λ b. is_written b.mode) up.before (access RW c) (λ b h. elim (first-is p trust.proper (task n) inside a among (ap is_in_order is_redux_mode) b h) [ inl e ↦ ap is_written e | inr e ↦ ap is_written e ]) refl)
+
+    plain_found : map (found q first_worker (held_in q j)) (task_of q (task m)).accesses ≡ ins ++ held_in q j c ∷ []
+    plain_found =
+        ap (map (found q first_worker (held_in q j))) plain_accesses ∙ map-append (found q first_worker (held_in q j)) up.before (access RW c ∷ [])
+        ∙ ap (λ (ys : List Array). ys ++ held_in q j c ∷ []) (map-same (found q first_worker (held_in q j)) (found p first_worker (held_in p k)) up.before
+        (λ b h. found-alike b (subst (λ (bs : List Access). Contains bs b) (sym ends) (Contains-append_left up.before (a ∷ []) b h)) (up.direct b h)))
+
+    plain_left : held_in q newj c ≡ result_of out con.kernel l.args ins (held_in q j c)
+    plain_left =
+        held-append q (zip (written_cells q (task m) first_worker) (results out q (task m) first_worker (held_in q j))) j c
+        ∙ ap (λ (ds : List Cell). held_over (zip ds (results out q (task m) first_worker (held_in q j))) c (held_in q j c)) plain_written
+        ∙ first (results out q (task m) first_worker (held_in q j)) (results-complete out q (task m) first_worker (held_in q j) fit (out-makes_tiles fit.kernel) ∙ ap length plain_written) (held_in q j c)
+        ∙ (λ i. operand (out (plain_row i).codelet (plain_row i).args (plain_found i)) 0)
+        ∙ ap (λ (id : Codelet). operand (out id l.args (ins ++ held_in q j c ∷ [])) 0) (codelet_of-kernel l.codelet con.kernel con.codelet)
+      where
+        first : (ys : List Array) → length ys ≡ 1 → (below : Array) → held_over (zip (c ∷ []) ys) c below ≡ operand ys 0
+        first [] e below = absurd (omega (arith, e))
+        first (y ∷ ys) e below = ap (λ b. elim (cond b (Some (c, y)) (find (λ (entry : Cell × Array). same_cell entry.0 c) (zip [] ys))) as (λ _. Array) [ None ↦ below | Some entry ↦ entry.1 ]) (same_cell-refl c)
+
+    -- ---- the partial copy
+
+    rest_kept : (d : Cell) → d ≢ copy_at f.copies 0 → held_in p new d ≡ held_in p k d
+    rest_kept = others-kept p trust n inside a among is_redux_mode f its.partials con.kernel codelet con.contributes
+
+    is_sized : AreSized p k
+    is_sized = sized p trust n inside a among is_redux_mode f its.partials con.kernel codelet con.contributes
+
+    copies_sized : SizedCopies p k f c
+    copies_sized w below =
+        let x = copy_at f.copies w in
+        let same = (trust.proper.cells.copies x c (record { 0 = w }) (is-copy p c f.copies (record { 0 = w }) its.partials below)).1 in
+        record { tile = (is_sized x).tile; dims = (is_sized x).dims ∙ same }
+
+    meant : with_all p k f (all_workers p) (held_in p k c) ≡ held_in q j c
+    meant = sym (denoted-open p phases k c f gift.1) ∙ holds c its.plain
+
+    found_sized : Fills p c (held_in q j c)
+    found_sized = subst (Fills p c) meant (all-sized p k f c (all_workers p) (held_in p k c) (λ w h. copies_sized w (all_workers-below p w h)) (is_sized c))
+
+    leaves : denoted p phases new c ≡ held_in q newj c
+    leaves =
+        denoted-open p phases new c f gift.1
+        ∙ ap (with_all p new f (all_workers p)) (rest_kept c (unlike c (copy_at f.copies 0) (bare p c c f.copies its.plain its.partials 0 trust.staffed)))
+        ∙ denotes-more p trust n inside a among is_redux_mode f its.partials con.kernel codelet con.contributes copies_sized (held_in p k c) (is_sized c)
+        ∙ ap (combined out f.by (added p trust n inside a among is_redux_mode f its.partials con.kernel codelet con.contributes)) meant
+        ∙ sym (result-more p trust n inside a among is_redux_mode f its.partials con.kernel codelet con.contributes (held_in q j c) found_sized)
+        ∙ ap (λ (g : Kernel). result_of out g (task_of p (task n)).args ins (held_in q j c)) (some_is up.kernel con.kernel (sym up.codelet ∙ codelet))
+        ∙ ap (λ (x : Lowered). result_of out con.kernel x.args ins (held_in q j c)) row
+        ∙ sym plain_left
+
+    pub holds-gift : Holds p q phases new newj
+    holds-gift = each_cell c (λ d. IsPlain p d → denoted p phases new d ≡ held_in q newj d) (λ plain. leaves)
+        (λ d other plain. denoted-same p phases phases k new d refl (rest_kept d (unlike d (copy_at f.copies 0) (bare p d c f.copies plain its.partials 0 trust.staffed)))
+        (λ g there w below. rest_kept (copy_at g.copies w) (λ e. copies-apart p apart c d f.copies g.copies 0 w other its.partials (owned d g there).partials trust.staffed below (sym e)))
+        ∙ holds d plain ∙ sym (after_task-other out q first_worker (task m) j d (ap (λ (ds : List Cell). has_cell ds d) plain_written ∙ ap (λ b. b || false) other)))

@@ -1,0 +1,114 @@
+-- Blocks of two jobs on two workers, and what they come to, worked out by hand.
+use Rattle.std.proofs.Common.{ℕ, true, false, Some, None, List, [], ◌∷◌, ◌≡◌, refl}
+use Rattle.sj_base.specs.declared.ids.Line.{Line}
+use Rattle.sj_base.specs.declared.mode.Mode.TheVariants.{R, W, RW, Redux}
+use Rattle.sj_base.specs.declared.mode.Access.{Access}
+use Rattle.sj_base.specs.declared.mode.Reduction.TheVariants.{Plus, Least}
+use Rattle.sj_base.specs.declared.program.Delivery.{Delivery}
+use Rattle.sj_base.specs.declared.program.Lowered.{Lowered}
+use Rattle.sj_base.specs.Ids.{cell}
+use Rattle.sj_codelet.specs.declared.kernel.Kernel.{Kernel}
+use Rattle.sj_codelet.specs.declared.kernel.Kernel.TheVariants.{Load, Sum, Add, InitPlus, InitLeast, Lowest, MinGemm, Deliver}
+use Rattle.sj_phases.specs.Block.{Block}
+use Rattle.sj_phases.specs.Rows.{an_access, own_task}
+use Rattle.sj_phases.specs.Expand.{expand, nothing, last_block, first_above}
+use Rattle.sj_phases.specs.Plain.{plain_program, none_open, open_after}
+
+abbrev line : ℕ → Line
+line n = record { 0 = n }
+
+abbrev task : Kernel → List Access → ℕ → Lowered
+task k accesses n = own_task k [] accesses (line n)
+
+abbrev reads : ℕ → Access
+reads n = an_access R (cell n)
+
+abbrev writes : ℕ → Access
+writes n = an_access W (cell n)
+
+abbrev updates : ℕ → Access
+updates n = an_access RW (cell n)
+
+abbrev gives : ℕ → Access
+gives n = an_access Redux (cell n)
+
+abbrev delivery : ℕ → Delivery
+delivery n = record { task = record { 0 = n }; root = record { 0 = 0 }; place = (0, 0); print = 0 }
+
+abbrev alone : ℕ → List Lowered → Block
+alone n ls = record { line = line n; closes = []; opens = []; tasks = ls; deliveries = [] }
+
+-- a sum to cell 0, whose copies are cells 2 and 3: it is loaded, gets two contributions of cell 1, and is printed
+abbrev giving : ℕ → Block
+giving n = record { line = line n; closes = []; opens = record { cell = cell 0; by = Plus; copies = cell 2; valued = true } ∷ []; tasks = task Sum (reads 1 ∷ gives 0 ∷ []) n ∷ []; deliveries = [] }
+
+abbrev printing : Block
+printing = record { line = line 6; closes = cell 0 ∷ []; opens = []; tasks = task Deliver (reads 0 ∷ []) 6 ∷ []; deliveries = delivery 0 ∷ [] }
+
+abbrev sums : List Block
+sums = alone 2 (task Load (writes 0 ∷ []) 2 ∷ task Load (writes 1 ∷ []) 2 ∷ []) ∷ giving 4 ∷ giving 5 ∷ printing ∷ last_block 4 (line 6) ∷ []
+
+-- the copies get the unit once, and are combined by worker with the line of the last contribution
+sums-tasks : (expand 2 nothing sums).tasks ≡
+    task Load (writes 0 ∷ []) 2 ∷
+    task Load (writes 1 ∷ []) 2 ∷
+    task InitPlus (writes 2 ∷ []) 4 ∷
+    task InitPlus (writes 3 ∷ []) 4 ∷
+    task Sum (reads 1 ∷ gives 0 ∷ []) 4 ∷
+    task Sum (reads 1 ∷ gives 0 ∷ []) 5 ∷
+    task Add (reads 2 ∷ updates 0 ∷ []) 5 ∷
+    task Add (reads 3 ∷ updates 0 ∷ []) 5 ∷
+    task Deliver (reads 0 ∷ []) 6 ∷
+    []
+sums-tasks = refl
+
+sums-deliveries : (expand 2 nothing sums).deliveries ≡ delivery 8 ∷ []
+sums-deliveries = refl
+
+-- without phases a contribution reads and writes the cell itself
+sums-plain : (plain_program [] 2 sums).tasks ≡
+    task Load (writes 0 ∷ []) 2 ∷
+    task Load (writes 1 ∷ []) 2 ∷
+    task Sum (reads 1 ∷ updates 0 ∷ []) 4 ∷
+    task Sum (reads 1 ∷ updates 0 ∷ []) 5 ∷
+    task Deliver (reads 0 ∷ []) 6 ∷
+    []
+sums-plain = refl
+
+sums-plain_deliveries : (plain_program [] 2 sums).deliveries ≡ delivery 4 ∷ []
+sums-plain_deliveries = refl
+
+-- a least to cell 1 without a value, whose copies are cells 2 and 3, of the factors in cell 0; nobody prints it
+abbrev least : List Block
+least = alone 2 (task Load (writes 0 ∷ []) 2 ∷ []) ∷ record {
+  line = line 5;
+  closes = cell 0 ∷ [];
+  opens = record { cell = cell 1; by = Least; copies = cell 2; valued = false } ∷ [];
+  tasks = task MinGemm (reads 0 ∷ reads 0 ∷ gives 1 ∷ []) 5 ∷ [];
+  deliveries = [];
+} ∷ last_block 4 (line 7) ∷ []
+
+-- the cell gets the unit after its copies, and its phase is closed at the end
+least-tasks : (expand 2 nothing least).tasks ≡
+    task Load (writes 0 ∷ []) 2 ∷
+    task InitLeast (writes 2 ∷ []) 5 ∷
+    task InitLeast (writes 3 ∷ []) 5 ∷
+    task InitLeast (writes 1 ∷ []) 5 ∷
+    task MinGemm (reads 0 ∷ reads 0 ∷ gives 1 ∷ []) 5 ∷
+    task Lowest (reads 2 ∷ updates 1 ∷ []) 5 ∷
+    task Lowest (reads 3 ∷ updates 1 ∷ []) 5 ∷
+    []
+least-tasks = refl
+
+least-plain : (plain_program [] 2 least).tasks ≡ task Load (writes 0 ∷ []) 2 ∷ task InitLeast (writes 1 ∷ []) 5 ∷ task MinGemm (reads 0 ∷ reads 0 ∷ updates 1 ∷ []) 5 ∷ []
+least-plain = refl
+
+-- which phases are open after the contributions and at the end
+is_open : open_after none_open (giving 4 ∷ giving 5 ∷ []) (cell 0) ≡ Some Plus
+is_open = refl
+
+is_shut : open_after none_open sums (cell 0) ≡ None
+is_shut = refl
+
+few : first_above 2 nothing sums ≡ None
+few = refl

@@ -1,0 +1,208 @@
+-- A task line with its contribution, in the program without phases: its child gets the unit first where it has no value.
+use Rattle.std.proofs.Common.{◌≡◌, ℕ, ◌+◌, Bool, true, false, cond, Option, Some, None, List, [], ◌∷◌, ◌++◌, length, map as each_of, filter, fold, refl, sym, ap, subst, ◌∙◌, inl, inr, arith, length-append}
+use Rattle.std.specs.List.{AllByRecursion, list_any, flat_map}
+use Rattle.std.proofs.lemmas.Bool.{cases_Bool, false≢true}
+use Rattle.std.proofs.lemmas.List.Elements.{All-contains, All-filter, All-from_recursion, recursion_from_All}
+use Rattle.sj_base.specs.declared.ids.Cell.{Cell}
+use Rattle.sj_base.specs.declared.ids.Line.{Line}
+use Rattle.sj_base.specs.declared.mode.Mode.{Mode}
+use Rattle.sj_base.specs.declared.mode.Reduction.{Reduction}
+use Rattle.sj_base.specs.declared.mode.Reduction.TheVariants.{Plus, Least}
+use Rattle.sj_base.specs.declared.tile.Dims.{Dims}
+use Rattle.sj_base.specs.declared.program.Program.{Program}
+use Rattle.sj_base.specs.Array.{Array, zeros}
+use Rattle.sj_base.specs.Mode.{is_redux}
+use Rattle.sj_base.proofs.Lists.{each-weaker, map-agree}
+use Rattle.sj_base.proofs.Numbers.{none_more}
+use Rattle.sj_codelet.specs.declared.kernel.Kernel.{Kernel}
+use Rattle.sj_codelet.specs.Kernel.{out}
+use Rattle.sj_codelet.specs.Laws.{unit_of}
+use Rattle.sj_core.specs.Program.{dims_of}
+use Rattle.sj_core.specs.Fold.{Contents, held_in, after_task}
+use Rattle.sj_core.proofs.Readiness.{Contains-filter}
+use Rattle.sj_plan.specs.declared.parts.Parts.{Parts}
+use Rattle.sj_plan.specs.Rect.{rect_dims}
+use Rattle.sj_plan.proofs.Lists.{each-filter}
+use Rattle.sj_meaning.specs.Statement.{Operand, TaskLine}
+use Rattle.sj_meaning.specs.State.{RootState, child_rect, is_valued_child}
+use Rattle.sj_meaning.specs.Meaning.{child_array, child_unit, seen_by}
+use Rattle.sj_meaning.specs.Numbers.{root_at, run_task_at}
+use Rattle.sj_phases.specs.Plain.{direct, units, plain_rows}
+use Rattle.sj_phases.specs.Expand.{first_units}
+use Rattle.sj_phases.specs.Rows.{init_row}
+use Rattle.sj_phases.proofs.Lists.{all-from}
+use Rattle.sj_steps.specs.Laid.{Laid, Handle, handle_at, cell_of, with_copies}
+use Rattle.sj_steps.specs.Step.{by_number, operand_cell, contributed, opening_of, task_row, task_block}
+use Rattle.sj_steps.specs.SoundAt.{IsPlaced, IsSoundTask, has_value}
+use Rattle.sj_steps.specs.Whole.{IsTaken, AreLaid, HaveCopies}
+use Rattle.sj_steps.proofs.Contents.{first_worker, task_at, contents_before, contents-next, held-same, held-other}
+use Rattle.sj_steps.proofs.Copying.{IsNoCopy, by_copies, copies-copied, laid-copied}
+use Rattle.sj_steps.proofs.Doing.{the_cell, IsReady, cell-size, kernel_there, ready-held, holds-task}
+use Rattle.sj_steps.proofs.Folding.{Stand, after_row, stand-append, contents-rows}
+use Rattle.sj_steps.proofs.Keeping.{HaveRoots, HasCells, differs, holds-later, root-kept}
+use Rattle.sj_steps.proofs.Operands.{Contributes, contributes-there, last-there, none-filter, one-unit, opening_by, placed-at, valued-at}
+use Rattle.sj_steps.proofs.Taken.{cell-inside, cell-is, cells-apart}
+
+-- ---- operands that are contributed to
+
+pub of_redux : (P : Operand ℕ → Type 0) (os : List (Operand ℕ)) → AllByRecursion P os → AllByRecursion (λ o. P o × (is_redux o.mode ≡ true)) (filter (λ o. is_redux o.mode) os)
+of_redux P os h = each-filter (λ (o : Operand ℕ). P o × (is_redux o.mode ≡ true)) (λ (o : Operand ℕ). is_redux o.mode) os (each-weaker P (λ (o : Operand ℕ). is_redux o.mode ≡ true → P o × (is_redux o.mode ≡ true)) (λ o p e. (p, e)) os h)
+
+-- ---- cells with partial copies more
+
+one-handles : (workers : ℕ) (C : Laid) (c : Cell) → (with_copies workers C c).handles ≡ C.handles
+one-handles workers C c = by_copies workers c C (λ (D : Laid). D.handles ≡ C.handles) (λ f e. refl) (λ e. refl)
+
+pub fold-handles : (workers : ℕ) (cs : List Cell) (C : Laid) → (fold (with_copies workers) C cs).handles ≡ C.handles
+fold-handles workers [] C = refl
+fold-handles workers (c ∷ cs) C = fold-handles workers cs (with_copies workers C c) ∙ one-handles workers C c
+
+-- where the handles are the same, so are the cells
+pub same-cells : (C D : Laid) → D.handles ≡ C.handles → (m : ℕ) (s : Parts) (place : ℕ × ℕ) → cell_of D m s place ≡ cell_of C m s place
+same-cells C D e m s place = ap (λ (hs : List Handle). let E : Laid = record { rows = D.rows; handles = hs; prints = D.prints } in cell_of E m s place) e
+
+same-taken : (C D : Laid) → D.handles ≡ C.handles → (m : ℕ) (d : Dims) (s : Parts) (f : ℕ) → IsTaken C m d s f → IsTaken D m d s f
+same-taken C D e m d s f t =
+    let at : (hs : List Handle) → Laid = λ hs. record { rows = D.rows; handles = hs; prints = D.prints } in
+    record { dims = ap (λ hs. (handle_at (at hs) m).dims) e ∙ t.dims; first = ap (λ hs. (handle_at (at hs) m).first s) e ∙ t.first }
+
+-- roots hold what they held where cells only got partial copies
+pub roots-copied : (q : Program) (C D : Laid) (n : ℕ) (k : Contents) (rs : List RootState) → D.handles ≡ C.handles → HaveRoots q C n k rs → HaveRoots q D n k rs
+roots-copied q C D n k rs e has m lives =
+    let b = has m lives in
+    root-kept q C D n n k k m (root_at rs m) b (same-taken C D e m (root_at rs m).dims (root_at rs m).parts b.first b.taken) (omega arith) (λ place inside. refl)
+
+-- the cells of the contributed operands, with their partial copies; the cell of a child is none of these
+pub laid-contributed : (q : Program) (C : Laid) (n : ℕ) (k : Contents) (rs : List RootState) (us : List (Operand ℕ)) → AreLaid C → HaveCopies q.workers C → HaveRoots q C n k rs → AllByRecursion (IsPlaced rs) us
+    → AreLaid (fold (with_copies q.workers) C (each_of (the_cell rs C) us)) × HaveCopies q.workers (fold (with_copies q.workers) C (each_of (the_cell rs C) us))
+laid-contributed q C n k rs [] a copies has placed = (a, copies)
+laid-contributed q C n k rs (u ∷ us) a copies has placed =
+    let b = has u.name placed.0.lives in
+    let r = root_at rs u.name in
+    let c = the_cell rs C u in
+    let inside = cell-inside C u.name r.dims r.parts b.first u.place a b.taken placed.0.place in
+    let D = with_copies q.workers C c in
+    let handles = one-handles q.workers C c in
+    let alone : IsNoCopy q.workers C c = λ e g w is below same. copies.beside e g w u.name r.dims r.parts b.first u.place is below b.taken placed.0.place (same ∙ cell-is C u.name r.dims r.parts b.first u.place b.taken) in
+    let rest = laid-contributed q D n k rs us (laid-copied q.workers c C inside a) (copies-copied q.workers c C inside alone a copies) (roots-copied q C D n k rs handles has) placed.1 in
+    let same = map-agree (the_cell rs C) (the_cell rs D) us (λ v among. sym (same-cells C D handles v.name (root_at rs v.name).parts v.place)) in
+    subst (λ cs. AreLaid (fold (with_copies q.workers) D cs) × HaveCopies q.workers (fold (with_copies q.workers) D cs)) (sym same) rest
+
+-- ---- units
+
+after-init : (q : Program) (k : Contents) (by : Reduction) (line : Line) (c : Cell) → after_row q k (init_row by line c) ≡ (c, unit_of out by (dims_of q c)) ∷ k
+after-init q k Plus line c = refl
+after-init q k Least line c = refl
+
+-- an array in the cell of a child without a value
+pub holds-blank : (q : Program) (C : Laid) (n : ℕ) (k : Contents) (rs : List RootState) (u : Operand ℕ) (a : Array) → AreLaid C → HaveRoots q C n k rs → IsPlaced rs u → has_value rs u ≡ false → HaveRoots q C n ((the_cell rs C u, a) ∷ k) rs
+holds-blank q C n k rs u a laid has p blank m lives =
+    let b = has m lives in
+    let o = has u.name p.lives in
+    let r = root_at rs m in
+    let s = root_at rs u.name in
+    record {
+      fits = b.fits;
+      whole = b.whole;
+      first = b.first;
+      taken = b.taken;
+      held = λ place inside v.
+          let h = b.held place inside v in
+          let other : the_cell rs C u ≡ cell_of C m r.parts place → ⊥ = λ e.
+          (let same = cells-apart C u.name m s.dims r.dims s.parts r.parts o.first b.first u.place place laid o.taken b.taken p.place inside e in
+          false≢true (sym blank ∙ (λ i. is_valued_child (root_at rs (same.0 i)) (same.2 i)) ∙ v)) in
+          record { value = held-other q (the_cell rs C u) a k (cell_of C m r.parts place) (differs (the_cell rs C u) (cell_of C m r.parts place) other) ∙ h.value; given = h.given };
+    }
+
+-- what the units of a contribution leave before task m: the roots, and the children that are contributed to
+record AreUnits (q : Program) (D : Laid) (m : ℕ) (rs : List RootState) (us : List (Operand ℕ)) : Type 0 where
+  roots : HaveRoots q D m (contents_before q m) rs
+  ready : AllByRecursion (λ u. IsReady q D (contents_before q m) rs u) us
+
+module _ (has : Kernel → Bool) (q : Program) (D : Laid) (n : ℕ) (rs : List RootState) (t : TaskLine ℕ) (line : Line) (s : IsSoundTask has rs t) (cells : HasCells q D) (laid : AreLaid D) (roots : HaveRoots q D n (contents_before q n) rs) where
+  module _ (con : Contributes rs t (kernel_there has rs t s).call.kernel) where
+    abbrev u : Operand ℕ
+    u = con.last
+
+    abbrev r : RootState
+    r = root_at rs u.name
+
+    abbrev c : Cell
+    c = the_cell rs D u
+
+    placed : IsPlaced rs u
+    placed = placed-at has rs t s u (last-there con)
+
+    -- what the contribution adds to
+    seen : (v : Bool) → has_value rs u ≡ v → cond v (child_array r u.place) (child_unit r u.place) ≡ seen_by u.mode r u.place
+    seen v e = sym (ap (λ (m : Mode). seen_by m r u.place) con.redux ∙ ap (λ b. cond b (child_array r u.place) (child_unit r u.place)) e)
+
+    is_unit : unit_of out con.by (dims_of q c) ≡ child_unit r u.place
+    is_unit =
+        ap (unit_of out con.by) (cell-size q D n (contents_before q n) rs u cells laid roots placed)
+        ∙ sym (ap (λ (o : Option Reduction). elim o as (λ _. Array) [ None ↦ zeros (rect_dims (child_rect r u.place)) | Some by ↦ unit_of out by (rect_dims (child_rect r u.place)) ]) con.reduction)
+
+    by_valued : (v : Bool) → has_value rs u ≡ v → let ls = cond v [] (init_row con.by line c ∷ []) in Stand q n ls → AreUnits q D (n + length ls) rs (u ∷ [])
+    by_valued true valued stand = subst (λ m. AreUnits q D m rs (u ∷ [])) (sym (none_more n)) (record {
+      roots = roots;
+      ready = ((λ f. ((roots u.name placed.lives).held u.place placed.place valued).value ∙ seen true valued), tt);
+    })
+    by_valued false blank stand =
+        let unit = unit_of out con.by (dims_of q c) in
+        let left : contents_before q (n + 1) ≡ (c, unit) ∷ contents_before q n = contents-rows q n (init_row con.by line c ∷ []) stand ∙ after-init q (contents_before q n) con.by line c in
+        record {
+          roots = subst (λ k. HaveRoots q D (n + 1) k rs) (sym left) (holds-later q D n (n + 1) ((c, unit) ∷ contents_before q n) rs (omega arith) (holds-blank q D n (contents_before q n) rs u unit laid roots placed blank));
+          ready = ((λ f. ap (λ k. held_in q k c) left ∙ held-same q c unit (contents_before q n) ∙ is_unit ∙ seen false blank), tt);
+        }
+
+  -- the units of a task line
+  all-units : Stand q n (units (task_block (by_number rs) D t line)) → AreUnits q D (n + length (units (task_block (by_number rs) D t line))) rs (contributed t)
+  all-units stand = elim (cases_Bool (list_any (λ (o : Operand ℕ). is_redux o.mode) t.operands)) [
+    | inl some ↦
+        let con = contributes-there has rs t s some in
+        let one = one-unit con D line in
+        subst (λ ls. AreUnits q D (n + length ls) rs (contributed t)) (sym one)
+        (subst (AreUnits q D (n + length (first_units (opening_by con D) line)) rs) (sym con.contributed) (by_valued con (has_value rs con.last) refl (subst (Stand q n) one stand)))
+    | inr none ↦
+        subst (λ (us : List (Operand ℕ)). AreUnits q D (n + length (flat_map (λ o. first_units o line) (flat_map (opening_of (by_number rs) D) us))) rs us) (sym (none-filter t.operands none))
+        (subst (λ m. AreUnits q D m rs []) (sym (none_more n)) (record { roots = roots; ready = tt }))
+  ]
+
+  -- behind them all that the task reads is ready
+  all-ready : (m : ℕ) → AreUnits q D m rs (contributed t) → AllByRecursion (IsReady q D (contents_before q m) rs) t.operands
+  all-ready m left = recursion_from_All (IsReady q D (contents_before q m) rs) t.operands (all-from (IsReady q D (contents_before q m) rs) t.operands (λ o h. elim (cases_Bool (is_redux o.mode)) [
+    | inl e ↦ All-contains (IsReady q D (contents_before q m) rs) (contributed t) o (All-from_recursion (IsReady q D (contents_before q m) rs) (contributed t) left.ready) (Contains-filter (λ (u : Operand ℕ). is_redux u.mode) t.operands o e h)
+    | inr e ↦ ready-held q D m (contents_before q m) rs o left.roots (placed-at has rs t s o h) (valued-at has rs t s o h) e
+  ]))
+
+-- ---- the task line
+
+-- the cells after a task line
+abbrev pub Contributed : ℕ → List RootState → Laid → TaskLine ℕ → Laid
+Contributed workers rs C t = fold (with_copies workers) C (each_of (operand_cell (by_number rs) C) (contributed t))
+
+-- the roots after the tasks of a task line
+pub roots-task : (has : Kernel → Bool) (q : Program) (C : Laid) (n : ℕ) (rs : List RootState) (t : TaskLine ℕ) (line : Line) → IsSoundTask has rs t → AreLaid C → HaveCopies q.workers C → HaveRoots q C n (contents_before q n) rs
+    → let D = Contributed q.workers rs C t in let ls = plain_rows (task_block (by_number rs) D t line) in HasCells q D → Stand q n ls → HaveRoots q D (n + length ls) (contents_before q (n + length ls)) (run_task_at t rs)
+roots-task has q C n rs t line s laid copies roots cells stand =
+    let us = units (task_block (by_number rs) D t line) in
+    let row = direct (task_row (by_number rs) D t line) in
+    let parts = stand-append q n us (row ∷ []) stand in
+    let left = all-units has q D n rs t line s cells laid_after roots_after parts.0 in
+    let ready = all-ready has q D n rs t line s cells laid_after roots_after (n + length us) left in
+    let ran = holds-task has q D (n + length us) (contents_before q (n + length us)) rs t line cells laid_after left.roots s ready parts.1.0 in
+    let longer : n + length (us ++ row ∷ []) ≡ (n + length us) + 1 = omega (arith, length-append us (row ∷ [])) in
+    subst (λ k. HaveRoots q D (n + length (us ++ row ∷ [])) k (run_task_at t rs)) (sym (contents-next q (n + length us) (n + length (us ++ row ∷ [])) longer))
+    (subst (λ m. HaveRoots q D m (after_task out q first_worker (task_at (n + length us)) (contents_before q (n + length us))) (run_task_at t rs)) (sym longer) ran)
+  where
+    D : Laid
+    D = Contributed q.workers rs C t
+
+    placed : AllByRecursion (IsPlaced rs) (contributed t)
+    placed = recursion_from_All (IsPlaced rs) (contributed t) (All-filter (λ (o : Operand ℕ). is_redux o.mode) (IsPlaced rs) t.operands (All-from_recursion (IsPlaced rs) t.operands s.placed))
+
+    laid_after : AreLaid D
+    laid_after = (laid-contributed q C n (contents_before q n) rs (contributed t) laid copies roots placed).0
+
+    roots_after : HaveRoots q D n (contents_before q n) rs
+    roots_after = roots-copied q C D n (contents_before q n) rs (fold-handles q.workers (each_of (the_cell rs C) (contributed t)) C) roots

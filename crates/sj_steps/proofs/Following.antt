@@ -1,0 +1,82 @@
+-- The statements of a job, one after another: the cells of the program without phases agree with the roots before each.
+use Rattle.std.proofs.Common.{ℕ, ◌+◌, Bool, List, [], ◌∷◌, ◌++◌, length, map, fold}
+use Rattle.sj_base.specs.declared.ids.Cell.{Cell}
+use Rattle.sj_base.specs.declared.program.Lowered.{Lowered}
+use Rattle.sj_base.specs.declared.program.Program.{Program}
+use Rattle.sj_codelet.specs.declared.kernel.Kernel.{Kernel}
+use Rattle.sj_base.specs.declared.ids.Line.{Line}
+use Rattle.sj_meaning.specs.Act.{Act, Statement}
+use Rattle.sj_meaning.specs.Act.{Register as Registers, Plan as Plans, Task as Tasks}
+use Rattle.sj_meaning.specs.State.{RootState}
+use Rattle.sj_meaning.specs.Numbers.{apply_at}
+use Rattle.sj_phases.specs.Plain.{Opens, plain_rows, open_at}
+use Rattle.sj_steps.specs.Laid.{Laid, with_root, with_copies}
+use Rattle.sj_steps.specs.SoundAt.{IsSound, AreSound}
+use Rattle.sj_steps.specs.Step.{Lookup, by_number, operand_cell, contributed, step_of}
+use Rattle.sj_steps.proofs.Agrees.{Agrees, AreOpenChildren}
+use Rattle.sj_steps.proofs.Copying.{copies-more, take-more}
+use Rattle.sj_steps.proofs.Folding.{Stand, stand-append}
+use Rattle.sj_steps.proofs.Growing.{Grows, grows-refl, grows-trans}
+use Rattle.sj_steps.proofs.Keeping.{HasCells}
+use Rattle.sj_steps.proofs.Stepping.{agrees-step}
+
+-- ---- cells are only added
+
+copied-grows : (workers : ℕ) (cs : List Cell) (C : Laid) → Grows C.rows (fold (with_copies workers) C cs).rows
+copied-grows workers [] C = grows-refl C.rows
+copied-grows workers (c ∷ cs) C = grows-trans C.rows (with_copies workers C c).rows (fold (with_copies workers) (with_copies workers C c) cs).rows (copies-more workers c C) (copied-grows workers cs (with_copies workers C c))
+
+pub step-grows : {N : Type 0} (workers : ℕ) (L : Lookup N) (C : Laid) (line : Line) (a : Act N) → Grows C.rows (step_of workers L C line a).laid.rows
+step-grows workers L C line (Registers r) = take-more (with_root r.dims C) (length C.handles) r.parts
+step-grows workers L C line (Plans q p) = take-more C (L.number q) p
+step-grows workers L C line (Tasks t) = copied-grows workers (map (operand_cell L C) (contributed t)) C
+step-grows workers L C line a = grows-refl C.rows
+
+-- the cells after statements
+abbrev pub laid_from : ℕ → List RootState → Laid → List (Statement ℕ) → Laid
+laid_from workers rs C [] = C
+laid_from workers rs C (s ∷ ss) = laid_from workers (apply_at s.act rs) (step_of workers (by_number rs) C s.line s.act).laid ss
+
+pub laid-grows : (workers : ℕ) (rs : List RootState) (C : Laid) (ss : List (Statement ℕ)) → Grows C.rows (laid_from workers rs C ss).rows
+laid-grows workers rs C [] = grows-refl C.rows
+laid-grows workers rs C (s ∷ ss) =
+    let D = (step_of workers (by_number rs) C s.line s.act).laid in
+    grows-trans C.rows D.rows (laid_from workers (apply_at s.act rs) D ss).rows (step-grows workers (by_number rs) C s.line s.act) (laid-grows workers (apply_at s.act rs) D ss)
+
+-- ---- statement by statement
+
+-- the tasks of statements, without phases
+abbrev pub rows_from : ℕ → List RootState → Laid → List (Statement ℕ) → List Lowered
+rows_from workers rs C [] = []
+rows_from workers rs C (s ∷ ss) =
+    let x = step_of workers (by_number rs) C s.line s.act in
+    plain_rows x.block ++ rows_from workers (apply_at s.act rs) x.laid ss
+
+-- what is so before a statement whose tasks begin with number n
+pub record IsAt (q : Program) (C : Laid) (rs : List RootState) (n : ℕ) (was : Opens) (s : Statement ℕ) : Type 0 where
+  pub agrees : Agrees q C rs n was
+  pub cells : HasCells q (step_of q.workers (by_number rs) C s.line s.act).laid
+  pub stand : Stand q n (plain_rows (step_of q.workers (by_number rs) C s.line s.act).block)
+
+-- so it is before each statement, and at the end
+abbrev pub AllAgree : Program → Laid → List RootState → ℕ → Opens → List (Statement ℕ) → Type 0
+AllAgree q C rs n was [] = Agrees q C rs n was
+AllAgree q C rs n was (s ∷ ss) =
+    let x = step_of q.workers (by_number rs) C s.line s.act in
+    IsAt q C rs n was s × AllAgree q x.laid (apply_at s.act rs) (n + length (plain_rows x.block)) (open_at was x.block) ss
+
+-- which phases a statement leaves open
+abbrev pub OpensStep : (Kernel → Bool) → Program → Type 0
+OpensStep has q =
+    (C : Laid) (rs : List RootState) (n : ℕ) (was : Opens) (s : Statement ℕ) → IsSound has rs s.act → IsAt q C rs n was s
+    → let x = step_of q.workers (by_number rs) C s.line s.act in AreOpenChildren x.laid (apply_at s.act rs) (open_at was x.block)
+
+pub all-agree : (has : Kernel → Bool) (q : Program) → OpensStep has q → (ss : List (Statement ℕ)) (C : Laid) (rs : List RootState) (n : ℕ) (was : Opens) → AreSound has rs ss → Agrees q C rs n was → Grows (laid_from q.workers rs C ss).rows q.cells → Stand q n (rows_from q.workers rs C ss) → AllAgree q C rs n was ss
+all-agree has q opens [] C rs n was sound g cells stand = g
+all-agree has q opens (s ∷ ss) C rs n was sound g cells stand =
+    let x = step_of q.workers (by_number rs) C s.line s.act in
+    let parts = stand-append q n (plain_rows x.block) (rows_from q.workers (apply_at s.act rs) x.laid ss) stand in
+    let fits : HasCells q x.laid = grows-trans x.laid.rows (laid_from q.workers (apply_at s.act rs) x.laid ss).rows q.cells (laid-grows q.workers (apply_at s.act rs) x.laid ss) cells in
+    let at : IsAt q C rs n was s = record { agrees = g; cells = fits; stand = parts.0 } in
+    let next = agrees-step has q C n rs was s.line s.act sound.0 g fits parts.0 (opens C rs n was s sound.0 at) in
+    (at, all-agree has q opens ss x.laid (apply_at s.act rs) (n + length (plain_rows x.block)) (open_at was x.block) sound.1 next cells parts.1)

@@ -1,0 +1,281 @@
+-- Each task of the program without phases is as a proper program has it, by the roots' numbers.
+use mathlib.Core.List.{map-map}
+use Rattle.std.proofs.Common.{◌≡◌, ℕ, ◌+◌, ◌<◌, ◌≤◌, Bool, true, false, not, ◌&&◌, ◌||◌, List, [], ◌∷◌, ◌++◌, ℤ, pos, length, map as each_of, refl, sym, ap, subst, ◌∙◌, inl, inr, arith, Some}
+use Rattle.std.specs.Prelude.{Contains}
+use Rattle.std.specs.List.{All, AllPairs, AllByRecursion, flat_map, list_all, list_any}
+use Rattle.std.specs.Int.RustNames.{int_le}
+use Rattle.std.proofs.lemmas.Bool.{false≢true, and_from, cond_both, le-leb, cases_lt, or_cases, or_parts}
+use Rattle.std.proofs.lemmas.Bool.Decides.{Decides-eqb}
+use Rattle.std.proofs.lemmas.List.Elements.{All-contains, All-from_recursion, All-map}
+use Rattle.std.proofs.lemmas.List.Kept.{AllPairs-cons, AllPairs-filter}
+use Rattle.std.proofs.lemmas.Option.{same_Some}
+use Rattle.sj_base.specs.declared.ids.Cell.{Cell}
+use Rattle.sj_base.specs.declared.ids.Line.{Line}
+use Rattle.sj_base.specs.declared.tile.Dims.{Dims}
+use Rattle.sj_base.specs.declared.mode.Mode.{Mode}
+use Rattle.sj_base.specs.declared.mode.Mode.TheVariants.{R, W, RW, Scratch}
+use Rattle.sj_base.specs.declared.mode.Reduction.{Reduction}
+use Rattle.sj_base.specs.declared.mode.Reduction.TheVariants.{Plus, Least}
+use Rattle.sj_base.specs.declared.mode.Access.{Access}
+use Rattle.sj_base.specs.declared.program.Lowered.{Lowered}
+use Rattle.sj_base.specs.declared.program.Program.{Program}
+use Rattle.sj_base.specs.Array.{array, area, element}
+use Rattle.sj_base.specs.Mode.{is_read_only, is_redux, is_scratch, reads_value}
+use Rattle.sj_base.proofs.Lists.{map-agree}
+use Rattle.sj_base.proofs.Numbers.{length_more, none_more}
+use Rattle.sj_base.proofs.Tables.{length-table}
+use Rattle.sj_codelet.specs.declared.kernel.Kernel.{Kernel}
+use Rattle.sj_codelet.specs.declared.kernel.Kernel.TheVariants.{Load, LoadFill, Paste as PasteKernel, Deliver}
+use Rattle.sj_codelet.specs.Kernel.{kernel_of, fits, init_of}
+use Rattle.sj_codelet.proofs.Table.{kernel_of-codelet_of}
+use Rattle.sj_core.specs.Program.{same_cell, dims_of, task_of}
+use Rattle.sj_core.specs.Proper.{HasValueBefore, FitsCodelet, MayHaveModes, IsPlain, IsUnaliased, gives_value, own_modes}
+use Rattle.sj_core.specs.Fold.{Contents}
+use Rattle.sj_plan.specs.declared.parts.Parts.{Parts}
+use Rattle.sj_plan.specs.declared.paste.Paste.{Paste}
+use Rattle.sj_plan.specs.declared.rect.Rect.{Rect}
+use Rattle.sj_plan.specs.Parts.{IsPlace, Fits as PlanFits, places}
+use Rattle.sj_plan.specs.Paste.{paste_copy, is_first, pastes_of, pastes_to, IsPasteBetween}
+use Rattle.sj_plan.specs.Pieces.{BeginOnce}
+use Rattle.sj_plan.specs.Rect.{child, rect_dims}
+use Rattle.sj_plan.specs.Window.{window}
+use Rattle.sj_plan.proofs.Lists.{each-map, each-places, pairs-from_ordered}
+use Rattle.sj_meaning.specs.declared.job.Init.{Init}
+use Rattle.sj_meaning.specs.declared.job.Init.TheVariants.{Values, Fill, Nothing}
+use Rattle.sj_meaning.specs.Statement.{Operand, TaskLine}
+use Rattle.sj_meaning.specs.State.{RootState}
+use Rattle.sj_meaning.specs.Numbers.{root_at}
+use Rattle.sj_meaning.specs.Sound.{needs_value}
+use Rattle.sj_phases.specs.Plain.{direct_mode, direct_access, direct}
+use Rattle.sj_phases.specs.Rows.{an_access, own_task, init_row}
+use Rattle.sj_phases.proofs.Lists.{all-from}
+use Rattle.sj_steps.specs.Laid.{Laid, cell_of}
+use Rattle.sj_steps.specs.Rows.{fill_arguments, load_row, fill_row, load_rows, paste_arguments, paste_row, deliver_row}
+use Rattle.sj_steps.specs.SoundAt.{IsPlaced, IsSoundTask, child_dims, clashes, is_aliased}
+use Rattle.sj_steps.specs.Step.{by_number, access_of, task_row}
+use Rattle.sj_steps.specs.Whole.{AreLaid, IsTaken}
+use Rattle.sj_steps.proofs.Contents.{task_at, same_cell-is}
+use Rattle.sj_steps.proofs.Doing.{the_cell, the_access, cell-size, kernel_there}
+use Rattle.sj_steps.proofs.Modes.{plain-modes}
+use Rattle.sj_steps.proofs.Operands.{both-read, contributes-there, none-passes, placed-at, valued-at}
+use Rattle.sj_steps.proofs.Folding.{Stand, stand-append, later}
+use Rattle.sj_steps.proofs.Keeping.{HasCells, HaveRoots}
+use Rattle.sj_steps.proofs.Pasting.{GoesTo, pastes-begin, pastes-go, pastes-between, paste-gives, rows_to, rows-by_child}
+use Rattle.sj_steps.proofs.Taken.{cell-inside}
+
+-- a task of the program is one that it may have at that number
+pub record IsGood (p : Program) (n : ℕ) (l : Lowered) : Type 0 where
+  pub cells : All (λ a. a.cell.0 < length p.cells) l.accesses
+  pub fits : FitsCodelet p l
+  pub unaliased : IsUnaliased l
+  pub values : All (λ a. reads_value a.mode ≡ true → HasValueBefore p (task_at n) a.cell) l.accesses
+  pub plain : kernel_of l.codelet ≡ Some Deliver → All (λ a. IsPlain p a.cell) l.accesses
+
+-- ---- tasks one after another
+
+-- each of the tasks may stand in the program, from number n on
+abbrev pub AreGood : Program → ℕ → List Lowered → Type 0
+AreGood p n [] = Unit {0}
+AreGood p n (l ∷ ls) = IsGood p n l × AreGood p (n + 1) ls
+
+pub good-later : (p : Program) (m n : ℕ) (l : Lowered) → m ≤ n → IsGood p m l → IsGood p n l
+good-later p m n l h g = record {
+  cells = g.cells;
+  fits = g.fits;
+  unaliased = g.unaliased;
+  values = λ k d inside e. later p m n _ h (g.values k d inside e);
+  plain = g.plain;
+}
+
+-- tasks that all may stand at the first number
+good-each : (p : Program) (m n : ℕ) (ls : List Lowered) → m ≤ n → AllByRecursion (IsGood p m) ls → AreGood p n ls
+good-each p m n [] h g = tt
+good-each p m n (l ∷ ls) h g = (good-later p m n l h g.0, good-each p m (n + 1) ls (omega arith) g.1)
+
+pub good-all : (p : Program) (n : ℕ) (ls : List Lowered) → AllByRecursion (IsGood p n) ls → AreGood p n ls
+good-all p n ls g = good-each p n n ls (omega arith) g
+
+pub good-append : (p : Program) (n : ℕ) (xs ys : List Lowered) → AreGood p n xs → AreGood p (n + length xs) ys → AreGood p n (xs ++ ys)
+good-append p n [] ys g h = subst (λ (m : ℕ). AreGood p m ys) (none_more n) h
+good-append p n (x ∷ xs) ys g h = (g.0, good-append p (n + 1) xs ys g.1 (subst (λ (m : ℕ). AreGood p m ys) (sym (length_more n x xs)) h))
+
+-- blocks of tasks, each of which is good where it stands
+good-blocks : {X : Type 0} (p : Program) (n m : ℕ) (rows : X → List Lowered) (xs : List X) → n ≤ m → AllByRecursion (λ x. (k : ℕ) → n ≤ k → Stand p k (rows x) → AreGood p k (rows x)) xs → Stand p m (flat_map rows xs) → AreGood p m (flat_map rows xs)
+good-blocks p n m rows [] h g s = tt
+good-blocks p n m rows (x ∷ xs) h g s =
+    let both = stand-append p m (rows x) (flat_map rows xs) s in
+    good-append p m (rows x) (flat_map rows xs) (g.0 m h both.0) (good-blocks p n (m + length (rows x)) rows xs (omega arith) g.1 both.1)
+
+-- the task of a number among them is good
+pub good-at : (p : Program) (n : ℕ) (ls : List Lowered) (i : ℕ) → AreGood p n ls → Stand p n ls → n ≤ i → i < n + length ls → IsGood p i (task_of p (task_at i))
+good-at p n [] i g s lo hi = absurd (omega arith)
+good-at p n (l ∷ ls) i g s lo hi =
+    elim (cases_lt n i) [
+      | inl later ↦ good-at p (n + 1) ls i g.1 s.2 (omega arith) (omega arith)
+      | inr past ↦ (let here : n ≡ i = omega arith in subst (λ (m : ℕ). IsGood p m (task_of p (task_at m))) here (subst (λ (k : Lowered). IsGood p n k) (sym s.0) g.0))
+    ]
+
+-- ---- tasks of the runtime's own
+
+-- the cell of a child is one of the program's
+pub cell-there : (p : Program) (C : Laid) (m : ℕ) (d : Dims) (s : Parts) (f : ℕ) (place : ℕ × ℕ) → HasCells p C → AreLaid C → IsTaken C m d s f → IsPlace s place → (cell_of C m s place).0 < length p.cells
+cell-there p C m d s f place cells laid t at = omega (arith, cell-inside C m d s f place laid t at, cells.longer)
+
+-- two operands on one cell only read it
+abbrev ReadOnly : Access → Access → Type 0
+ReadOnly a b = same_cell a.cell b.cell ≡ true → (a.mode ≡ R) × (b.mode ≡ R)
+
+-- a task of one operand
+good_one : (p : Program) (n : ℕ) (k : Kernel) (args : List ℤ) (m : Mode) (c : Cell) (line : Line) → c.0 < length p.cells → fits k args (dims_of p c ∷ []) ≡ true → m ∷ [] ≡ own_modes k → (reads_value m ≡ true → HasValueBefore p (task_at n) c) → (k ≡ Deliver → IsPlain p c)
+    → IsGood p n (own_task k args (an_access m c ∷ []) line)
+good_one p n k args m c line inside fit own given plain = record {
+  cells = All-from_recursion (λ (a : Access). a.cell.0 < length p.cells) (an_access m c ∷ []) (inside, tt);
+  fits = record { kernel = k; codelet = kernel_of-codelet_of k; operands = fit; modes = MayHaveModes.Own own };
+  unaliased = AllPairs-filter ReadOnly (λ (a : Access). not (is_scratch a.mode)) (an_access m c ∷ []) (pairs-from_ordered ReadOnly (an_access m c ∷ []) (tt, tt));
+  values = All-from_recursion (λ (a : Access). reads_value a.mode ≡ true → HasValueBefore p (task_at n) a.cell) (an_access m c ∷ []) (given, tt);
+  plain = λ e. All-from_recursion (λ (a : Access). IsPlain p a.cell) (an_access m c ∷ []) (plain (same_Some k Deliver (sym (kernel_of-codelet_of k) ∙ e)), tt);
+}
+
+pub good_load : (p : Program) (n : ℕ) (xs : List ℤ) (d : Dims) (r : Rect) (c : Cell) (line : Line) → c.0 < length p.cells → dims_of p c ≡ rect_dims r → IsGood p n (load_row xs d r c line)
+good_load p n xs d r c line inside e =
+    let a = array d xs in
+    let args = (window a r).elements in
+    let many : length args ≡ area (dims_of p c) = length-table (rect_dims r) (λ i j. element a (r.row + i) (r.col + j)) ∙ ap area (sym e) in
+    good_one p n Load args W c line inside (ap (λ b. (true && b) && true) ((Decides-eqb (length args) (area (dims_of p c))).1 many)) refl (λ h. absurd (false≢true h)) (λ h. absurd (cc))
+
+pub good_fill : (p : Program) (n : ℕ) (a b : ℤ) (d : Dims) (r : Rect) (x : Cell) (line : Line) → x.0 < length p.cells → IsGood p n (fill_row a b d r x line)
+good_fill p n a b d r x line inside = good_one p n LoadFill (fill_arguments a b d.cols r) W x line inside refl refl (λ h. absurd (false≢true h)) (λ h. absurd (cc))
+
+pub good_deliver : (p : Program) (n : ℕ) (c : Cell) (line : Line) → c.0 < length p.cells → IsPlain p c → HasValueBefore p (task_at n) c → IsGood p n (deliver_row c line)
+good_deliver p n c line inside bare given = good_one p n Deliver [] R c line inside refl refl (λ h. given) (λ h. bare)
+
+-- a unit
+pub good_init : (p : Program) (n : ℕ) (by : Reduction) (line : Line) (c : Cell) → c.0 < length p.cells → IsGood p n (init_row by line c)
+good_init p n Plus line c inside = good_one p n (init_of Plus) [] W c line inside refl refl (λ h. absurd (false≢true h)) (λ h. absurd (cc))
+good_init p n Least line c inside = good_one p n (init_of Least) [] W c line inside refl refl (λ h. absurd (false≢true h)) (λ h. absurd (cc))
+
+-- what holds of each row that loads a child holds of all that load a root's
+pub each-load : (P : Lowered → Type 0) (i : Init) (d : Dims) (s : Parts) (cell : ℕ × ℕ → Cell) (line : Line) → ((xs : List ℤ) (place : ℕ × ℕ) → IsPlace s place → P (load_row xs d (child d s place) (cell place) line))
+    → ((a b : ℤ) (place : ℕ × ℕ) → IsPlace s place → P (fill_row a b d (child d s place) (cell place) line)) → AllByRecursion P (load_rows i d s cell line)
+each-load P (Values xs) d s cell line load fill = each-map P (λ place. load_row xs d (child d s place) (cell place) line) (places s) (each-places (λ place. P (load_row xs d (child d s place) (cell place) line)) s (load xs))
+each-load P (Fill a b) d s cell line load fill = each-map P (λ place. fill_row a b d (child d s place) (cell place) line) (places s) (each-places (λ place. P (fill_row a b d (child d s place) (cell place) line)) s (fill a b))
+each-load P Nothing d s cell line load fill = tt
+
+-- ---- pastes
+
+-- numbers of rows and columns are no negative arguments
+counts_pass : (a b c d e f : ℕ) → list_all (int_le (pos 0)) (pos a ∷ pos b ∷ pos c ∷ pos d ∷ pos e ∷ pos f ∷ []) ≡ true
+counts_pass a b c d e f = and_from _ _ (le-leb 0 a (omega arith)) (and_from _ _ (le-leb 0 b (omega arith)) (and_from _ _ (le-leb 0 c (omega arith)) (and_from _ _ (le-leb 0 d (omega arith)) (and_from _ _ (le-leb 0 e (omega arith)) (and_from _ _ (le-leb 0 f (omega arith)) refl)))))
+
+paste_fits : (d : Dims) (s t : Parts) (x : Paste) (o w : Dims) → IsPasteBetween d s t x → o ≡ rect_dims (child d s x.from) → w ≡ rect_dims (child d t x.to) → fits PasteKernel (paste_arguments x) (o ∷ w ∷ []) ≡ true
+paste_fits d s t x o w h eo ew =
+    ap (λ (o : Dims). fits PasteKernel (paste_arguments x) (o ∷ w ∷ [])) eo ∙ ap (λ (w : Dims). fits PasteKernel (paste_arguments x) (rect_dims (child d s x.from) ∷ w ∷ [])) ew
+    ∙ and_from _ _ (and_from _ _ (counts_pass x.at_from.0 x.at_from.1 x.at_to.0 x.at_to.1 x.rows x.cols) (and_from _ _ (le-leb _ _ h.in_old.0) (le-leb _ _ h.in_old.1))) (and_from _ _ (le-leb _ _ h.in_new.0) (le-leb _ _ h.in_new.1))
+
+-- what pastes between these cells stand on
+pub record CanPaste (p : Program) (n : ℕ) (d : Dims) (s t : Parts) (old new : ℕ × ℕ → Cell) : Type 0 where
+  pub from_inside : (from : ℕ × ℕ) → IsPlace s from → (old from).0 < length p.cells
+  pub to_inside : (to : ℕ × ℕ) → IsPlace t to → (new to).0 < length p.cells
+  pub from_dims : (from : ℕ × ℕ) → IsPlace s from → dims_of p (old from) ≡ rect_dims (child d s from)
+  pub to_dims : (to : ℕ × ℕ) → IsPlace t to → dims_of p (new to) ≡ rect_dims (child d t to)
+  pub apart : (from to : ℕ × ℕ) → IsPlace s from → IsPlace t to → same_cell (old from) (new to) ≡ false
+  pub given : (from : ℕ × ℕ) → IsPlace s from → HasValueBefore p (task_at n) (old from)
+
+-- a paste in this mode, where what it reads has a value
+good_as : (p : Program) (n m : ℕ) (d : Dims) (s t : Parts) (old new : ℕ × ℕ → Cell) (line : Line) (x : Paste) (mode : Mode) → MayHaveModes PasteKernel (R ∷ mode ∷ []) → CanPaste p n d s t old new → n ≤ m → IsPasteBetween d s t x → (reads_value mode ≡ true → HasValueBefore p (task_at m) (new x.to))
+    → IsGood p m (own_task PasteKernel (paste_arguments x) (an_access R (old x.from) ∷ an_access mode (new x.to) ∷ []) line)
+good_as p n m d s t old new line x mode modes can h b had =
+    let as' : List Access = an_access R (old x.from) ∷ an_access mode (new x.to) ∷ [] in
+    let fit = paste_fits d s t x (dims_of p (old x.from)) (dims_of p (new x.to)) b (can.from_dims x.from b.from) (can.to_dims x.to b.to) in
+    record {
+      cells = All-from_recursion (λ (a : Access). a.cell.0 < length p.cells) as' (can.from_inside x.from b.from, (can.to_inside x.to b.to, tt));
+      fits = record { kernel = PasteKernel; codelet = refl; operands = fit; modes = modes };
+      unaliased = AllPairs-filter ReadOnly (λ (a : Access). not (is_scratch a.mode)) as' (pairs-from_ordered ReadOnly as' (((λ same. absurd (false≢true (sym (can.apart x.from x.to b.from b.to) ∙ same))), tt), (tt, tt)));
+      values = All-from_recursion (λ (a : Access). reads_value a.mode ≡ true → HasValueBefore p (task_at m) a.cell) as' ((λ reads. later p n m (old x.from) h (can.given x.from b.from)), (had, tt));
+      plain = λ e. absurd (cc);
+    }
+
+-- a paste to a child that has a value, unless this is the first one to it
+good_paste : (p : Program) (n m : ℕ) (d : Dims) (s t : Parts) (old new : ℕ × ℕ → Cell) (line : Line) (x : Paste) → CanPaste p n d s t old new → n ≤ m → IsPasteBetween d s t x → (is_first x ≡ false → HasValueBefore p (task_at m) (new x.to)) → IsGood p m (paste_row old new line x)
+good_paste p n m d s t old new line x can h b had =
+    cond_both (is_first x) W RW (λ (mode : Mode). IsGood p m (own_task PasteKernel (paste_arguments x) (an_access R (old x.from) ∷ an_access mode (new x.to) ∷ []) line))
+    (λ first. good_as p n m d s t old new line x W (MayHaveModes.FirstPaste refl refl) can h b (λ reads. absurd (false≢true reads)))
+    (λ further. good_as p n m d s t old new line x RW (MayHaveModes.Own refl) can h b (λ reads. had further))
+
+-- further pastes to a child that has a value
+good_further : (p : Program) (n m : ℕ) (d : Dims) (s t : Parts) (old new : ℕ × ℕ → Cell) (line : Line) (to : ℕ × ℕ) (xs : List Paste) → CanPaste p n d s t old new → n ≤ m → AllByRecursion (IsPasteBetween d s t) xs → AllByRecursion (GoesTo s to) xs → HasValueBefore p (task_at m) (new to) → AllByRecursion (IsGood p m) (each_of (paste_row old new line) xs)
+good_further p n m d s t old new line to [] can h bs gs had = tt
+good_further p n m d s t old new line to (x ∷ xs) can h bs gs had =
+    (good_paste p n m d s t old new line x can h bs.0 (λ e. subst (λ (q : ℕ × ℕ). HasValueBefore p (task_at m) (new q)) (sym gs.0.1) had), good_further p n m d s t old new line to xs can h bs.1 gs.1 had)
+
+-- all pastes to a child, of which the first gives it a value
+good_first : (p : Program) (n m : ℕ) (d : Dims) (s t : Parts) (old new : ℕ × ℕ → Cell) (line : Line) (to : ℕ × ℕ) (xs : List Paste) → CanPaste p n d s t old new → n ≤ m → AllByRecursion (IsPasteBetween d s t) xs → AllByRecursion (GoesTo s to) xs → BeginOnce (each_of paste_copy xs)
+    → Stand p m (each_of (paste_row old new line) xs) → AreGood p m (each_of (paste_row old new line) xs)
+good_first p n m d s t old new line to [] can h bs gs once stand = tt
+good_first p n m d s t old new line to (x ∷ xs) can h bs gs once stand =
+    let gives : HasValueBefore p (task_at (m + 1)) (new to) = (task_at m, omega arith, ap (λ (l : Lowered). gives_value l (new to)) stand.0 ∙ ap (λ (q : ℕ × ℕ). gives_value (paste_row old new line x) (new q)) (sym gs.0.1) ∙ paste-gives old new line x) in
+    (good_paste p n m d s t old new line x can h bs.0 (λ e. absurd (false≢true (sym e ∙ once.0))), good-all p (m + 1) (each_of (paste_row old new line) xs) (good_further p n (m + 1) d s t old new line to xs can (omega arith) bs.1 gs.1 gives))
+
+-- the pastes of a plan line, child by child
+pub good_pastes : (q : Program) (n : ℕ) (d : Dims) (s t : Parts) (old new : ℕ × ℕ → Cell) (line : Line) → CanPaste q n d s t old new → PlanFits s d → PlanFits t d → Stand q n (each_of (paste_row old new line) (pastes_of d s t)) → AreGood q n (each_of (paste_row old new line) (pastes_of d s t))
+good_pastes q n d s t old new line can fs ft stand =
+    let by_child = rows-by_child d s t old new line in
+    subst (AreGood q n) (sym by_child) (good-blocks q n n (rows_to d s t old new line) (places t) (omega arith) (each-places (λ to. (k : ℕ) → n ≤ k → Stand q k (rows_to d s t old new line to) → AreGood q k (rows_to d s t old new line to)) t (λ to at k more st.
+    good_first q n k d s t old new line to (pastes_to d s t to) can more (pastes-between d s t to at) (pastes-go d s t to) (pastes-begin d s t to fs ft at) st)) (subst (Stand q n) by_child stand))
+
+-- ---- tasks of task lines
+
+found-needs : (m : Mode) → reads_value (direct_mode m) ≡ true → (needs_value m || is_redux m) ≡ true
+found-needs W h = absurd (false≢true h)
+found-needs Scratch h = absurd (false≢true h)
+found-needs m h = refl
+
+direct-reads : (m : Mode) → is_read_only m ≡ true → direct_mode m ≡ R
+direct-reads R h = refl
+direct-reads m h = absurd (false≢true h)
+
+module _ (p : Program) (C : Laid) (n : ℕ) (k : Contents) (rs : List RootState) (cells : HasCells p C) (laid : AreLaid C) (has : HaveRoots p C n k rs) where
+  abbrev Accessed : List (Operand ℕ) → List Access
+  Accessed os = each_of direct_access (each_of (access_of (by_number rs) C) os)
+
+  accessed-map : {Y : Type 0} (f : Access → Y) (os : List (Operand ℕ)) → each_of f (Accessed os) ≡ each_of (λ (o : Operand ℕ). f (the_access rs C o)) os
+  accessed-map f os = map-map f direct_access (each_of (access_of (by_number rs) C) os) ∙ map-map (λ (a : Access). f (direct_access a)) (access_of (by_number rs) C) os
+
+  -- what holds of the access of each operand holds of all accesses
+  all_accessed : (P : Access → Type 0) (os : List (Operand ℕ)) → ((o : Operand ℕ) → Contains os o → P (the_access rs C o)) → All P (Accessed os)
+  all_accessed P os h = All-map P direct_access (each_of (access_of (by_number rs) C) os) (All-map (λ (a : Access). P (direct_access a)) (access_of (by_number rs) C) os (all-from (λ (o : Operand ℕ). P (the_access rs C o)) os h))
+
+  pair_reads : (o u : Operand ℕ) → IsPlaced rs o → IsPlaced rs u → clashes o u ≡ false → ReadOnly (the_access rs C o) (the_access rs C u)
+  pair_reads o u ho hu e same =
+      let reads = both-read p C n k rs o u laid has ho hu e (same_cell-is (the_cell rs C o) (the_cell rs C u) same) in
+      (direct-reads o.mode reads.0, direct-reads u.mode reads.1)
+
+  all_apart : (os : List (Operand ℕ)) → AllByRecursion (IsPlaced rs) os → is_aliased os ≡ false → AllPairs ReadOnly (Accessed os)
+  all_apart [] h e = λ i j d before within. absurd (omega arith)
+  all_apart (o ∷ os) h e =
+      let c = or_parts (list_any (clashes o) os) (is_aliased os) e in
+      AllPairs-cons ReadOnly (the_access rs C o) (Accessed os) (all_accessed (ReadOnly (the_access rs C o)) os (λ u among.
+      pair_reads o u h.0 (All-contains (IsPlaced rs) os u (All-from_recursion (IsPlaced rs) os h.1) among) (none-passes (clashes o) os c.0 u among))) (all_apart os h.1 c.1)
+
+  -- the task of a task line, where the child that it contributes to has a value
+  pub good_task : (set : Kernel → Bool) (t : TaskLine ℕ) (line : Line) → IsSoundTask set rs t → ((o : Operand ℕ) → Contains t.operands o → is_redux o.mode ≡ true → HasValueBefore p (task_at n) (the_cell rs C o)) → IsGood p n (direct (task_row (by_number rs) C t line))
+  good_task set t line s added =
+      let kernel = kernel_there set rs t s in
+      let placed = placed-at set rs t s in
+      let dims = accessed-map (λ (a : Access). dims_of p a.cell) t.operands ∙ map-agree (λ (o : Operand ℕ). dims_of p (the_cell rs C o)) (child_dims rs) t.operands (λ o among. cell-size p C n k rs o cells laid has (placed o among)) in
+      record {
+        cells = all_accessed (λ (a : Access). a.cell.0 < length p.cells) t.operands (λ o among.
+            (let h = placed o among in let r = has o.name h.lives in cell-there p C o.name (root_at rs o.name).dims (root_at rs o.name).parts r.first o.place cells laid r.taken h.place));
+        fits = record {
+          kernel = kernel.call.kernel;
+          codelet = kernel.call.is;
+          operands = ap (fits kernel.call.kernel t.args) dims ∙ kernel.call.fits;
+          modes = subst (MayHaveModes kernel.call.kernel) (sym (accessed-map (λ (a : Access). a.mode) t.operands)) (plain-modes set rs t s (contributes-there set rs t s));
+        };
+        unaliased = AllPairs-filter ReadOnly (λ (a : Access). not (is_scratch a.mode)) (Accessed t.operands) (all_apart t.operands s.placed s.apart);
+        values = all_accessed (λ (a : Access). reads_value a.mode ≡ true → HasValueBefore p (task_at n) a.cell) t.operands (λ o among reads. elim (or_cases (needs_value o.mode) (is_redux o.mode) (found-needs o.mode reads)) [
+          | inl needs ↦ (let h = placed o among in ((has o.name h.lives).held o.place h.place (valued-at set rs t s o among needs)).given)
+          | inr redux ↦ added o among redux
+        ]);
+        plain = λ e. absurd (s.silent e);
+      }

@@ -1,0 +1,232 @@
+-- The code's layout is that of the definition, after a root takes a plan or a cell gets its partial copies.
+use Rattle.std.proofs.Common.{◌≡◌, ℕ, zero, suc, ◌+◌, ◌*◌, ◌<◌, ◌≤◌, cond, ◌&&◌, Option, Some, None, List, [], ◌∷◌, ◌++◌, length, map as each_of, fold, get_or, refl, sym, ap, subst, ◌∙◌, inl, inr, arith, length-append, get_or-set_same, get_or-set_other}
+use Rattle.std.specs.Prelude.{nat_eq, replicate, set, unwrap_or}
+use Rattle.std.proofs.Math.Seq.{get_or-append_seam}
+use Rattle.std.proofs.lemmas.Bool.{cases_eq, eq-eqb, ne_eqb}
+use Rattle.std.proofs.lemmas.List.{get_or_append_left, length-set, set-append_left}
+use Rattle.std.proofs.lemmas.Simd.{map-map}
+use Rattle.indexmap.specs.IndexMap.{get}
+use Rattle.sj_base.specs.declared.ids.Cell.{Cell}
+use Rattle.sj_base.specs.declared.ids.Root.{Root as RootNumber}
+use Rattle.sj_base.specs.declared.program.CellInfo.{CellInfo}
+use Rattle.sj_base.specs.declared.tile.Dims.{Dims}
+use Rattle.sj_base.specs.Array.{area}
+use Rattle.sj_core.specs.Program.{no_cell}
+use Rattle.sj_plan.specs.declared.parts.Parts.{Parts}
+use Rattle.sj_plan.specs.Parts.{IsPlace, places}
+use Rattle.sj_plan.specs.Rect.{child, children_of}
+use Rattle.sj_meaning.specs.declared.job.Operand.{Operand}
+use Rattle.sj_meaning.specs.Statement.{Register}
+use Rattle.sj_meaning.specs.Meaning.{registered_root, with_parts}
+use Rattle.sj_meaning.specs.State.{RootState}
+use Rattle.sj_meaning.specs.Numbers.{root_at, change_at, operand_at}
+use Rattle.sj_phases.specs.Expand.{most}
+use Rattle.sj_steps.specs.declared.layout.Active.{Active}
+use Rattle.sj_steps.specs.declared.layout.Layout.{Layout}
+use Rattle.sj_steps.specs.declared.layout.Taken.{Taken}
+use Rattle.sj_steps.specs.declared.rows.Placed.{Placed}
+use Rattle.sj_steps.specs.Cells.{rect_cell, cells_from, same_parts, copy_info, with_partials}
+use Rattle.sj_steps.specs.Follows.{taken, same_taken, Lays, IsActive, AreActive, Follows, no_active, active_at, HasCells, IsInside, cell_by, cells_by}
+use Rattle.sj_steps.specs.Laid.{Laid, Handle, handle_of, handle_at, first_cell, taking, take, with_root, info_at, first_copy, with_copies}
+use Rattle.sj_steps.specs.SoundAt.{Lives}
+use Rattle.sj_steps.specs.Step.{by_number, operand_cell, active_cells}
+use Rattle.sj_steps.specs.Whole.{IsWhole}
+use Rattle.sj_steps.proofs.Copying.{by_copies, copied-length, first-new, first-old}
+use Rattle.sj_steps.proofs.Keeping.{lives-below, changed-here, changed-beside}
+use Rattle.sj_steps.proofs.Places.{parts-itself}
+use Rattle.sj_steps.proofs.Starting.{pushed-there, pushed-beside}
+use Rattle.sj_steps.proofs.Taken.{none_isn't, some_is, by_first, took-there, took-other, longer, take-keeps, take-handles}
+
+-- ---- a plan more
+
+-- a plan that was taken before
+pub lays-old : (l : Layout) (C : Laid) (n : ℕ) (p : Parts) (f : ℕ) → Lays l C → get same_taken l.firsts (taken n p) ≡ Some f → Lays l (take n p C) × ((handle_at (take n p C) n).first p ≡ Some f)
+lays-old l C n p f s there =
+    let e = sym (s.firsts n p) ∙ there in
+    by_first C n p (λ (D : Laid). Lays l D × ((handle_at D n).first p ≡ Some f)) (λ g had. (s, e)) (λ none. absurd (none_isn't f (sym none ∙ e)))
+
+-- the plans of a root afterwards
+first-after : (C : Laid) (n : ℕ) (p : Parts) → n < length C.handles → (m : ℕ) (q : Parts) → (handle_at (taking n p C) m).first q ≡ cond (nat_eq n m && same_parts p q) (Some (length C.rows)) ((handle_at C m).first q)
+first-after C n p lt m q = elim (cases_eq n m) as (λ _. (handle_at (taking n p C) m).first q ≡ cond (nat_eq n m && same_parts p q) (Some (length C.rows)) ((handle_at C m).first q)) [
+  | inl e ↦ ap (λ (h : Handle). h.first q) (ap (handle_at (taking n p C)) (sym e) ∙ took-there C n p lt) ∙ (λ i. cond (sym (eq-eqb n m e) i && same_parts p q) (Some (length C.rows)) ((handle_at C (e i)).first q))
+  | inr other ↦ ap (λ (h : Handle). h.first q) (took-other C n p m (λ e. other (sym e))) ∙ (λ i. cond (sym (ne_eqb n m other) i && same_parts p q) (Some (length C.rows)) ((handle_at C m).first q))
+]
+
+-- a plan that is new
+pub lays-new : (old new : Layout) (C : Laid) (r : RootNumber) (d : Dims) (p : Parts) (first : ℕ) → Lays old C → r.0 < length C.handles → (handle_at C r.0).dims ≡ d → get same_taken old.firsts (taken r.0 p) ≡ None
+    → new.infos.items ≡ old.infos.items ++ each_of (rect_cell r) (children_of d p) → ((q : Taken) → get same_taken new.firsts q ≡ cond (same_taken (taken r.0 p) q) (Some first) (get same_taken old.firsts q)) → first ≡ length old.infos.items → length new.infos.items ≤ most
+    → Lays new (take r.0 p C) × ((handle_at (take r.0 p C) r.0).first p ≡ Some first)
+lays-new old new C r d p first s inside dims none rows firsts number few =
+    let n = r.0 in
+    let one = number ∙ ap length s.rows in
+    let same_rows : new.infos.items ≡ (taking n p C).rows =
+    rows ∙ (λ i. s.rows i ++ each_of (rect_cell r) (children_of (sym dims i) p)) ∙ ap (λ is. C.rows ++ is) (map-map (rect_cell r) (child (handle_at C n).dims p) (places p)) in
+    let lays : Lays new (taking n p C) = record {
+      rows = same_rows;
+      few = omega (arith, few, ap length same_rows);
+      firsts = λ m q. firsts (taken m q) ∙ (λ i. cond (nat_eq n m && same_parts p q) (Some (one i)) (s.firsts m q i)) ∙ sym (first-after C n p inside m q);
+    } in
+    by_first C n p (λ (D : Laid). Lays new D × ((handle_at D n).first p ≡ Some first)) (λ f had. absurd (none_isn't f (sym none ∙ s.firsts n p ∙ had)))
+    (λ fresh. (lays, ap (λ (h : Handle). h.first p) (took-there C n p inside) ∙ (λ i. cond (parts-itself p i) (Some (sym one i)) ((handle_at C n).first p))))
+
+-- too many cells
+pub lays-full : (l : Layout) (C : Laid) (n : ℕ) (p : Parts) → Lays l C → get same_taken l.firsts (taken n p) ≡ None → most < length l.infos.items + p.r * p.c → most < length (take n p C).rows
+lays-full l C n p s none above =
+    by_first C n p (λ (D : Laid). most < length D.rows) (λ f had. absurd (none_isn't f (sym none ∙ s.firsts n p ∙ had))) (λ fresh. omega (arith, longer C n p, ap length s.rows, above))
+
+-- ---- a root more
+
+root-first : (hs : List Handle) (d : Dims) (n : ℕ) (p : Parts) → (get_or (hs ++ handle_of d ∷ []) n (handle_of (record { rows = 0; cols = 0 }))).first p ≡ (get_or hs n (handle_of (record { rows = 0; cols = 0 }))).first p
+root-first [] d zero p = refl
+root-first [] d (suc n) p = refl
+root-first (h ∷ hs) d zero p = refl
+root-first (h ∷ hs) d (suc n) p = root-first hs d n p
+
+pub lays-root : (l : Layout) (C : Laid) (d : Dims) → Lays l C → Lays l (with_root d C)
+lays-root l C d s = record { rows = s.rows; few = s.few; firsts = λ n p. s.firsts n p ∙ sym (root-first C.handles d n p) }
+
+-- ---- active plans
+
+-- the active plans of which that of one root has changed with the root, in cells where each plan that was taken is so
+active-changed : (as' bs : List Active) (rs qs : List RootState) (C D : Laid) (n : ℕ) (a : Active) (r : RootState) → AreActive as' rs C → length bs ≡ length D.handles → active_at bs n ≡ a → root_at qs n ≡ r → IsActive D n a r
+    → ((m : ℕ) → (m ≡ n → ⊥) → Lives rs m → active_at bs m ≡ active_at as' m) → ((m : ℕ) → (m ≡ n → ⊥) → root_at qs m ≡ root_at rs m) → ((m : ℕ) (s : Parts) (f : ℕ) → (handle_at C m).first s ≡ Some f → (handle_at D m).first s ≡ Some f) → AreActive bs qs D
+active-changed as' bs rs qs C D n a r old counted mine here is others roots keeps = record {
+  counted = counted;
+  each = λ m lives. elim (cases_eq m n) as (λ _. IsActive D m (active_at bs m) (root_at qs m)) [
+    | inl e ↦ subst (λ i. IsActive D i (active_at bs i) (root_at qs i)) (sym e) (subst (λ (x : Active). IsActive D n x (root_at qs n)) (sym mine) (subst (λ (x : RootState). IsActive D n a x) (sym here) is))
+    | inr other ↦
+        let root = roots m other in
+        let was : Lives rs m = subst (λ (x : RootState). 0 < area x.dims) root lives in
+        let h = old.each m was in
+        subst (λ (x : RootState). IsActive D m (active_at bs m) x) (sym root) (subst (λ (x : Active). IsActive D m x (root_at rs m)) (sym (others m other was))
+        (record { parts = h.parts; first = keeps m (root_at rs m).parts (active_at as' m).placed.first h.first; reduction = h.reduction }))
+  ];
+}
+
+-- the same where the root is that of a number which is there
+pub active-set : (as' : List Active) (rs : List RootState) (C D : Laid) (n : ℕ) (f : RootState → RootState) (a : Active) → AreActive as' rs C → Lives rs n → length C.handles ≡ length rs → length D.handles ≡ length C.handles → IsActive D n a (f (root_at rs n))
+    → ((m : ℕ) (s : Parts) (g : ℕ) → (handle_at C m).first s ≡ Some g → (handle_at D m).first s ≡ Some g) → AreActive (set as' n a) (change_at f n rs) D
+active-set as' rs C D n f a old lives counted handles is keeps =
+    active-changed as' (set as' n a) rs (change_at f n rs) C D n a (f (root_at rs n)) old (length-set as' n a ∙ old.counted ∙ sym handles)
+    (get_or-set_same as' n a no_active (omega (arith, lives-below rs n lives, counted, old.counted))) (changed-here f n rs lives) is
+    (λ m other was. get_or-set_other as' n m a no_active other) (λ m other. changed-beside f n m rs other) keeps
+
+pub keeps-take : (C : Laid) (n : ℕ) (p : Parts) → n < length C.handles → (m : ℕ) (s : Parts) (f : ℕ) → (handle_at C m).first s ≡ Some f → (handle_at (take n p C) m).first s ≡ Some f
+keeps-take C n p lt m s f e = (take-keeps C n p lt m (handle_at C m).dims s f (record { dims = refl; first = e })).first
+
+-- another root's, or the same one's first plan
+module _ (old new : Layout) (rs : List RootState) (C : Laid) (r : Register ℕ) (placed : Placed) (follows : Follows old rs C) (counted : length C.handles ≡ length rs) where
+  abbrev n : ℕ
+  n = length C.handles
+
+  abbrev D : Laid
+  D = take n r.parts (with_root r.dims C)
+
+  pub follows-register : Lays new D → (handle_at D n).first r.parts ≡ Some placed.first → placed.parts ≡ r.parts → (let a : Active = record { placed = placed; reduction = None } in new.actives.items ≡ old.actives.items ++ a ∷ []) → Follows new (rs ++ registered_root r ∷ []) D
+  follows-register lays first parts actives =
+      let a : Active = record { placed = placed; reduction = None } in
+      let root = registered_root r in
+      let as' = old.actives.items in
+      let long = length-append C.handles (handle_of r.dims ∷ []) in
+      let active = active-changed as' (as' ++ a ∷ []) rs (rs ++ root ∷ []) C D n a root follows.active
+      (length-append as' (a ∷ []) ∙ ap (λ k. k + 1) follows.active.counted ∙ sym (take-handles (with_root r.dims C) n r.parts ∙ long))
+      (ap (active_at (as' ++ a ∷ [])) (sym follows.active.counted) ∙ get_or-append_seam as' a [] no_active) (pushed-there rs root n counted) (record { parts = parts; first = first; reduction = refl })
+      (λ m other was. get_or_append_left as' (a ∷ []) no_active m (omega (arith, lives-below rs m was, counted, follows.active.counted))) (λ m other. pushed-beside rs root m (λ e. other (e ∙ sym counted)))
+      (λ m s f e. keeps-take (with_root r.dims C) n r.parts (omega (arith, long)) m s f (root-first C.handles r.dims m s ∙ e)) in
+      record { lays = lays; active = subst (λ bs. AreActive bs (rs ++ root ∷ []) D) (sym actives) active }
+
+-- another plan of a root
+module _ (old new : Layout) (rs : List RootState) (C : Laid) (n : ℕ) (p : Parts) (placed : Placed) (follows : Follows old rs C) (lives : Lives rs n) (counted : length C.handles ≡ length rs) where
+  abbrev next : Active
+  next = record { placed = placed; reduction = (active_at old.actives.items n).reduction }
+
+  pub follows-plan : Lays new (take n p C) → (handle_at (take n p C) n).first p ≡ Some placed.first → placed.parts ≡ p → new.actives.items ≡ set old.actives.items n next → Follows new (change_at (with_parts p) n rs) (take n p C)
+  follows-plan lays first parts actives =
+      let is : IsActive (take n p C) n next (with_parts p (root_at rs n)) = record { parts = parts; first = first; reduction = (follows.active.each n lives).reduction } in
+      let active = active-set old.actives.items rs C (take n p C) n (with_parts p) next follows.active lives counted (take-handles C n p) is (keeps-take C n p (omega (arith, lives-below rs n lives, counted))) in
+      record { lays = lays; active = subst (λ bs. AreActive bs (change_at (with_parts p) n rs) (take n p C)) (sym actives) active }
+
+-- roots that keep their plans and reductions, in cells that keep their handles
+pub follows-kept : (old new : Layout) (rs qs : List RootState) (C D : Laid) → Follows old rs C → Lays new D → D.handles ≡ C.handles → new.actives ≡ old.actives
+    → ((m : ℕ) → Lives qs m → Lives rs m × ((root_at qs m).parts ≡ (root_at rs m).parts) × ((root_at qs m).reduction ≡ (root_at rs m).reduction)) → Follows new qs D
+follows-kept old new rs qs C D follows lays handles actives kept = record {
+  lays = lays;
+  active = subst (λ v. AreActive v.items qs D) (sym actives) (record {
+    counted = follows.active.counted ∙ ap length (sym handles);
+    each = λ m lives.
+        let k = kept m lives in
+        let a = follows.active.each m k.0 in
+        record { parts = a.parts ∙ sym k.1; first = (λ i. (get_or (handles i) m (handle_of (record { rows = 0; cols = 0 }))).first (k.1 i)) ∙ a.first; reduction = a.reduction ∙ sym k.2 };
+  });
+}
+
+-- ---- partial copies
+
+pub lays-copied : (l : Layout) (C : Laid) (c first : Cell) (workers : ℕ) → Lays l C → (get_or l.infos.items c.0 no_cell).partials ≡ Some first → Lays l (with_copies workers C c) × (first_copy C c ≡ first)
+lays-copied l C c first workers s there =
+    let is : (info_at C c).partials ≡ Some first = ap (λ (is : List CellInfo). (get_or is c.0 no_cell).partials) (sym s.rows) ∙ there in
+    (by_copies workers c C (Lays l) (λ f e. s) (λ e. absurd (none_isn't first (sym e ∙ is))), first-old C c first is)
+
+pub lays-copies : (old new : Layout) (C : Laid) (c first : Cell) (workers : ℕ) → let i = get_or old.infos.items c.0 no_cell in Lays old C → c.0 < length old.infos.items → i.partials ≡ None
+    → new.infos.items ≡ set (old.infos.items ++ replicate workers i) c.0 (with_partials first i) → new.firsts ≡ old.firsts → first.0 ≡ length old.infos.items → length new.infos.items ≤ most
+    → Lays new (with_copies workers C c) × (first_copy C c ≡ first)
+lays-copies old new C c first workers s there none rows firsts number few =
+    let i = get_or old.infos.items c.0 no_cell in
+    let is : i ≡ info_at C c = ap (λ (is : List CellInfo). get_or is c.0 no_cell) s.rows in
+    let none_here = ap (λ (i : CellInfo). i.partials) (sym is) ∙ none in
+    let first_is : first ≡ first_copy C c = (λ k. let d : Cell = record { 0 = (number ∙ ap length s.rows) k } in d) ∙ sym (first-new C c none_here) in
+    let plain : i ≡ copy_info (info_at C c) = (λ k. let j : CellInfo = record { root = i.root; dims = i.dims; partials = none k } in j) ∙ ap copy_info is in
+    let same : new.infos.items ≡ set C.rows c.0 (with_partials (first_copy C c) (info_at C c)) ++ replicate workers (copy_info (info_at C c)) =
+    rows ∙ set-append_left old.infos.items (replicate workers i) c.0 (with_partials first i) there ∙ (λ k. set (s.rows k) c.0 (with_partials (first_is k) (is k)) ++ replicate workers (plain k)) in (
+      by_copies workers c C (Lays new) (λ f e. absurd (none_isn't f (sym none_here ∙ e))) (λ e. record {
+        rows = same;
+        few = omega (arith, few, ap length same);
+        firsts = λ n p. ap (λ m. get same_taken m (taken n p)) firsts ∙ s.firsts n p;
+      }),
+      sym first_is,
+    )
+
+pub copies-full : (l : Layout) (C : Laid) (c : Cell) (workers : ℕ) → Lays l C → c.0 < length l.infos.items → (get_or l.infos.items c.0 no_cell).partials ≡ None → most < length l.infos.items + workers → most < length (with_copies workers C c).rows
+copies-full l C c workers s there none above =
+    let none_here : (info_at C c).partials ≡ None = ap (λ (is : List CellInfo). (get_or is c.0 no_cell).partials) (sym s.rows) ∙ none in
+    by_copies workers c C (λ (D : Laid). most < length D.rows) (λ f e. absurd (none_isn't f (sym none_here ∙ e)))
+    (λ e. omega (arith, copied-length workers c C e (omega (arith, there, ap length s.rows)), ap length s.rows, above))
+
+-- ---- operands
+
+-- the first cell of a root's active plan
+first-is : (l : Layout) (rs : List RootState) (C : Laid) (n : ℕ) → Follows l rs C → Lives rs n → (active_at l.actives.items n).placed.first ≡ first_cell C n (root_at rs n).parts
+first-is l rs C n follows lives = sym (ap (λ (o : Option ℕ). unwrap_or o 0) (follows.active.each n lives).first)
+
+pub cell-same : (l : Layout) (rs : List RootState) (C : Laid) (o : Operand) → Follows l rs C → Lives rs o.root.0 → cell_by l.actives.items o ≡ operand_cell (by_number rs) C (operand_at o)
+cell-same l rs C o follows lives = λ i. cells_from (first-is l rs C o.root.0 follows lives i) ((follows.active.each o.root.0 lives).parts i) o.place
+
+pub cells-same : (l : Layout) (rs : List RootState) (C : Laid) (n : ℕ) → Follows l rs C → Lives rs n → cells_by (active_at l.actives.items n).placed ≡ active_cells (by_number rs) C n
+cells-same l rs C n follows lives = λ i. each_of (cells_from (first-is l rs C n follows lives i) ((follows.active.each n lives).parts i)) (places ((follows.active.each n lives).parts i))
+
+-- the cells of a root's active plan are there
+pub has-cells : (l : Layout) (workers : ℕ) (rs : List RootState) (C : Laid) (n : ℕ) → Follows l rs C → IsWhole workers rs C → Lives rs n → HasCells l.actives.items n
+has-cells l workers rs C n follows whole lives =
+    let a = follows.active.each n lives in
+    let t = whole.taken n lives in
+    let f = (active_at l.actives.items n).placed.first in
+    let is : t.0 ≡ f = some_is t.0 f (sym t.1.first ∙ a.first) in
+    record {
+      root = omega (arith, lives-below rs n lives, whole.counted, follows.active.counted);
+      cells = subst (λ (p : Parts). f + p.r * p.c ≤ most) (sym a.parts) (omega (arith, whole.laid.inside n (root_at rs n).dims (root_at rs n).parts t.0 t.1, is, follows.lays.few));
+    }
+
+pub is-inside : (l : Layout) (workers : ℕ) (rs : List RootState) (C : Laid) (o : Operand) → Follows l rs C → IsWhole workers rs C → Lives rs o.root.0 → IsPlace (root_at rs o.root.0).parts o.place → IsInside l.actives.items o
+is-inside l workers rs C o follows whole lives place = record {
+  has = has-cells l workers rs C o.root.0 follows whole lives;
+  place = subst (λ (p : Parts). IsPlace p o.place) (sym (follows.active.each o.root.0 lives).parts) place;
+}
+
+-- ---- print statements
+
+pub take-prints : (C : Laid) (n : ℕ) (p : Parts) → (take n p C).prints ≡ C.prints
+take-prints C n p = by_first C n p (λ (D : Laid). D.prints ≡ C.prints) (λ f e. refl) (λ e. refl)
+
+pub copies-prints : (w : ℕ) (cs : List Cell) (C : Laid) → (fold (with_copies w) C cs).prints ≡ C.prints
+copies-prints w [] C = refl
+copies-prints w (c ∷ cs) C = copies-prints w cs (with_copies w C c) ∙ by_copies w c C (λ (D : Laid). D.prints ≡ C.prints) (λ f e. refl) (λ e. refl)

@@ -1,0 +1,15 @@
+use Rattle.std.proofs.Common.{◌∙◌, ◌++◌, ◌∷◌, [], List, ℕ, ap, replicate, append_assoc, arith}
+use Rattle.std.proofs.lemmas.List.{replicate-append-replicate}
+use Rattle.sj_base.specs.declared.program.CellInfo.{CellInfo}
+use Rattle.sj_steps.proofs.layout.push_copies.Goals as goal
+
+pub loop-preserved : goal.loop-preserved
+loop-preserved c =
+    let i = c.args.info in
+    let old = c.args.infos.now.items in
+    c.in_ok-push.ensures.items ∙ ap (λ (is : List CellInfo). is ++ i ∷ []) c.loop.invariant ∙ append_assoc old (replicate c.loop.counter i) (i ∷ [])
+    ∙ ap (λ (is : List CellInfo). old ++ is) (replicate-append-replicate c.loop.counter 1 i)
+
+pub returns : goal.returns
+returns c =
+    c.loop.invariant ∙ ap (λ (n : ℕ). c.args.infos.now.items ++ replicate n c.args.info) (omega (arith, c.loop.auto.counter-end, c.loop-test.false))

@@ -1,0 +1,17 @@
+use Rattle.std.proofs.Common.{◌≡◌, ◌∙◌, ◌∷◌, [], List, ap, sym, subst, rules}
+use Rattle.sj_base.specs.declared.program.Lowered.{Lowered}
+use Rattle.sj_codelet.specs.declared.kernel.Kernel.TheVariants.{Load}
+use Rattle.sj_codelet.specs.Kernel.{codelet_of}
+use Rattle.std.proofs.lemmas.Result.{on_ok_weaker}
+use Rattle.sj_phases.specs.Does.{Does}
+use Rattle.sj_phases.specs.Expand.{with_own}
+use Rattle.sj_phases.specs.Rows.{task_by}
+use Rattle.sj_steps.proofs.Children.{one-load}
+use Rattle.sj_steps.proofs.pushes.push_loads.Goals as goal
+
+pub returns-then-placed-eq1 : goal.returns-then-placed-eq1
+returns-then-placed-eq1 c =
+    let values : c.into_items.result.items ≡ c.args.values = search rules in
+    let same = (c.own_task.ensures ∙ (λ i. task_by (codelet_of Load) (values i) (c.in_ok-accesses.ensures i) c.args.line)) in
+    on_ok_weaker c.push.result (λ d. subst (λ (ls : List Lowered). Does c.args.phases.now c.push.new.self c.args.line (with_own ls []))
+    (ap (λ (t : Lowered). t ∷ []) same ∙ sym (one-load c.args.values c.args.dims c.args.placed.parts c.args.placed.first c.args.line c.requires.plan c.if-placed-eq1.true c.requires.values)) d) c.push.ensures

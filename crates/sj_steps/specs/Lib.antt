@@ -1,0 +1,10 @@
+pub mod Cells
+pub mod Rows
+pub mod Laid
+pub mod Step
+pub mod SoundAt
+pub mod Whole
+pub mod Follows
+pub mod Adds
+pub mod Running
+pub mod Delivering
