@@ -1,5 +1,5 @@
 -- What each kind of statement does, by what the code's calls gave.
-use Rattle.std.proofs.Common.{◌≡◌, ℕ, ◌+◌, ◌*◌, ◌<◌, ◌≤◌, Bool, true, false, cond, Option, Some, None, List, [], ◌∷◌, ◌++◌, length, map as each_of, fold, refl, sym, ap, subst, ◌∙◌, arith, length-append}
+use Rattle.std.proofs.Common.{◌≡◌, ℕ, ◌+◌, ◌*◌, ◌<◌, ◌≤◌, Bool, true, false, cond, Option, Some, None, IfSome, IfNone, Result, Ok, Err, IfErr, IsErrAnd, List, [], ◌∷◌, ◌++◌, length, map as each_of, fold, refl, sym, ap, subst, ◌∙◌, arith, length-append}
 use Rattle.std.specs.Prelude.{set, unwrap_or, zip}
 use Rattle.std.specs.List.{range_with_len}
 use Rattle.std.proofs.lemmas.Simd.{map-map}
@@ -11,6 +11,7 @@ use Rattle.sj_base.specs.declared.mode.Reduction.{Reduction}
 use Rattle.sj_base.specs.declared.program.Delivery.{Delivery}
 use Rattle.sj_base.specs.declared.program.Lowered.{Lowered}
 use Rattle.sj_base.specs.declared.tile.Dims.{Dims}
+use Rattle.sj_base.proofs.Options.{IfSome-at}
 use Rattle.sj_plan.specs.declared.parts.Parts.{Parts}
 use Rattle.sj_plan.specs.Parts.{Fits, places}
 use Rattle.sj_plan.specs.Paste.{pastes_of}
@@ -22,17 +23,19 @@ use Rattle.sj_meaning.specs.Statement.{Register}
 use Rattle.sj_meaning.specs.State.{RootState, is_valued}
 use Rattle.sj_meaning.specs.Meaning.{registered_root, with_parts, with_reduction, with_elements, no_values}
 use Rattle.sj_meaning.specs.Numbers.{root_at, no_root, change_at, registration_at}
+use Rattle.sj_meaning.specs.Sound.{InitFits}
 use Rattle.sj_meaning.specs.Table.{Table, a_root, info_of}
 use Rattle.sj_phases.specs.declared.expander.Expander.{Expander}
 use Rattle.sj_phases.specs.Block.{Block}
-use Rattle.sj_phases.specs.Does.{Does}
+use Rattle.sj_phases.specs.Does.{HasAt, Does}
 use Rattle.sj_phases.specs.Expand.{Expansion, closed, expanded, with_own, most}
+use Rattle.sj_steps.specs.declared.contributions.StepRefusal.TheVariants.{TooManyCells}
 use Rattle.sj_steps.specs.declared.layout.Active.{Active}
 use Rattle.sj_steps.specs.declared.layout.Layout.{Layout}
 use Rattle.sj_steps.specs.declared.rows.Placed.{Placed}
 use Rattle.sj_steps.specs.declared.steps.Steps.{Steps}
-use Rattle.sj_steps.specs.Adds.{StepsAt, IsNext, HasNext, Goes, Adds}
-use Rattle.sj_steps.specs.Cells.{cells_from, same_parts}
+use Rattle.sj_steps.specs.Adds.{StepsAt, IsNext, HasNext, Goes, Adds, IsFull}
+use Rattle.sj_steps.specs.Cells.{children_count, cells_from, same_parts}
 use Rattle.sj_steps.specs.Follows.{taken, same_taken, Lays, Follows, AreActive, IsActive, active_at, HasCells, cells_by}
 use Rattle.sj_steps.specs.Laid.{Laid, Handle, handle_at, handle_of, first_cell, cell_of, take, with_root, with_print}
 use Rattle.sj_steps.specs.Rows.{load_rows, paste_row, deliver_row}
@@ -47,6 +50,14 @@ use Rattle.sj_steps.proofs.Taken.{laid-root, laid-take, root-there}
 
 -- ---- what the code has
 
+-- what is true of the reason that `?` hands over
+pub handed : {A E : Type 0} (r : Result A E) (e : E) (P : E → Type 0) → IsErrAnd r (λ x. x ≡ e) → P e → IfErr r P
+handed (Ok x) e P is h = tt
+handed (Err x) e P is h = subst P (sym is) h
+
+pub has-phases : (T : Table) (old : Steps) (a : KeptAct) → HasNext T old a → HasAt old.phases
+has-phases T old a h = record { expansion = h.expansion; at = h.at.phases }
+
 -- the cells of a plan that a root has taken are within the limit
 room : (B : Laid) (n : ℕ) (p : Parts) (first : ℕ) → n < length B.handles → Fits p (handle_at B n).dims → AreLaid B → (handle_at (take n p B) n).first p ≡ Some first → length (take n p B).rows ≤ most → first + p.r * p.c ≤ most
 room B n p first there fits laid is few =
@@ -60,11 +71,36 @@ fits-active T old a n h lives =
     let t = h.next.whole.taken n lives in
     subst (λ (d : Dims). Fits (active_at old.layout.actives.items n).placed.parts d) (sym (h.next.dims n lives)) (subst (λ (s : Parts). Fits s r.dims) (sym (h.at.layout.active.each n lives).parts) (h.next.whole.laid.fits n r.dims r.parts t.0 t.1))
 
+-- the same of what the code reads
+pub active-fits : (T : Table) (old : Steps) (a : KeptAct) (n : ℕ) (h : HasNext T old a) (x : Placed) (i : RootInfo) → Lives h.roots n → x ≡ (active_at old.layout.actives.items n).placed → i ≡ info_of T (a_root n) → Fits x.parts i.dims
+active-fits T old a n h x i lives is info =
+    subst (λ (j : RootInfo). Fits x.parts j.dims) (sym info) (subst (λ (y : Placed). Fits y.parts (info_of T (a_root n)).dims) (sym is) (fits-active T old a n h lives))
+
+pub has-active : (T : Table) (old : Steps) (a : KeptAct) (n : ℕ) (h : HasNext T old a) → Lives h.roots n → HasCells old.layout.actives.items n
+has-active T old a n h lives = has-cells old.layout old.phases.workers h.roots h.cells n h.at.layout h.next.whole lives
+
+pub active-room : (T : Table) (old : Steps) (a : KeptAct) (n : ℕ) (h : HasNext T old a) (x : Placed) → Lives h.roots n → x ≡ (active_at old.layout.actives.items n).placed → x.first + children_count x.parts ≤ most
+active-room T old a n h x lives is = subst (λ (y : Placed). y.first + children_count y.parts ≤ most) (sym is) (has-active T old a n h lives).cells
+
+-- the phases of a plan's cells are closed
+abbrev pub Closes : Expander → Expander → Line → Placed → Type 0
+Closes a b line x = Does a b line (λ F. fold (closed a.workers) F (cells_by x))
+
 -- what closes the cells of a root's active plan
 shuts : (old : Steps) (x : Expander) (line : Line) (n : ℕ) (rs : List RootState) (C : Laid) → Follows old.layout rs C → Lives rs n → Does old.phases x line (λ F. fold (closed old.phases.workers) F (cells_by (active_at old.layout.actives.items n).placed)) → Does old.phases x line (λ F. fold (closed old.phases.workers) F (active_cells (by_number rs) C n))
 shuts old x line n rs C follows lives does = subst (λ (cs : List Cell). Does old.phases x line (λ F. fold (closed old.phases.workers) F cs)) (cells-same old.layout rs C n follows lives) does
 
 -- ---- registrations
+
+-- what the layout has after a registration
+abbrev pub Registers : Layout → Layout → RootInfo → Placed → Type 0
+Registers l m info placed =
+    (rs : List RootState) (C : Laid) (r : Register ℕ) → Follows l rs C → length C.handles ≡ length rs → r.dims ≡ info.dims → r.parts ≡ info.parts
+    → Follows m (rs ++ registered_root r ∷ []) (take (length C.handles) r.parts (with_root r.dims C)) × ((handle_at (take (length C.handles) r.parts (with_root r.dims C)) (length C.handles)).first r.parts ≡ Some placed.first)
+
+-- with it there are too many cells
+abbrev pub HasNoRoom : Layout → RootInfo → Type 0
+HasNoRoom l info = (rs : List RootState) (C : Laid) (r : Register ℕ) → Follows l rs C → r.dims ≡ info.dims → r.parts ≡ info.parts → most < length (take (length C.handles) r.parts (with_root r.dims C)).rows
 
 module _ (T : Table) (old : Steps) (init : Init) (h : HasNext T old (kept.Register init)) where
   abbrev rs : List RootState
@@ -94,9 +130,27 @@ module _ (T : Table) (old : Steps) (init : Init) (h : HasNext T old (kept.Regist
       room (with_root r.dims C) (length C.handles) r.parts placed.first (omega (arith, length-append C.handles (handle_of r.dims ∷ []))) (subst (λ (x : Handle). Fits r.parts x.dims) (sym (root-there C r.dims (length C.handles) refl)) h.next.sound.parts)
       (laid-root C r.dims h.next.whole.laid h.next.sound.elements) first follows.lays.few
 
-pub register-adds : (T : Table) (old new : Steps) (init : Init) (line : Line) (info : RootInfo) (placed : Placed) (k : ℕ) → k ≡ length old.layout.actives.items → info ≡ info_of T (a_root k) → placed.parts ≡ info.parts
-    → ((rs : List RootState) (C : Laid) (r : Register ℕ) → Follows old.layout rs C → length C.handles ≡ length rs → r.dims ≡ info.dims → r.parts ≡ info.parts
-    → Follows new.layout (rs ++ registered_root r ∷ []) (take (length C.handles) r.parts (with_root r.dims C)) × ((handle_at (take (length C.handles) r.parts (with_root r.dims C)) (length C.handles)).first r.parts ≡ Some placed.first))
+  pub register-info : (info : RootInfo) (k : ℕ) → k ≡ length old.layout.actives.items → info ≡ info_of T (a_root k) → info ≡ info_of T (a_root (length rs))
+  register-info info k count is = is ∙ ap (λ (n : ℕ). info_of T (a_root n)) (count ∙ register-count)
+
+  pub register-fits : (info : RootInfo) → info ≡ info_of T (a_root (length rs)) → Fits info.parts info.dims
+  register-fits info is = subst (λ (i : RootInfo). Fits i.parts i.dims) (sym is) h.next.sound.parts
+
+  pub register-values : (info : RootInfo) → info ≡ info_of T (a_root (length rs)) → InitFits init info.dims
+  register-values info is = subst (λ (i : RootInfo). InitFits init i.dims) (sym is) h.next.sound.values
+
+  pub register-cells : (l : Layout) (info : RootInfo) (placed : Placed) → info ≡ info_of T (a_root (length rs)) → placed.parts ≡ info.parts → Registers old.layout l info placed → placed.first + children_count placed.parts ≤ most
+  register-cells l info placed is parts laid =
+      let lays = laid rs C r h.at.layout h.next.whole.counted (ap (λ (i : RootInfo). i.dims) (sym is)) (ap (λ (i : RootInfo). i.parts) (sym is)) in
+      subst (λ (s : Parts). placed.first + children_count s ≤ most) (sym (parts ∙ ap (λ (i : RootInfo). i.parts) is)) (register-room l placed lays.0 lays.1)
+
+pub register-full : (T : Table) (old : Steps) (init : Init) (line : Line) (info : RootInfo) (k : ℕ) (o : Option Placed) → k ≡ length old.layout.actives.items → info ≡ info_of T (a_root k) → o ≡ None → IfNone o (HasNoRoom old.layout info) → IsFull T old (kept.Register init) line TooManyCells
+register-full T old init line info k o count is none full = λ rs C E at next.
+    let info_is : info ≡ info_of T (a_root (length rs)) = is ∙ ap (λ (n : ℕ). info_of T (a_root n)) (count ∙ at.layout.active.counted ∙ next.whole.counted) in
+    let above : HasNoRoom old.layout info = subst (λ (x : Option Placed). IfNone x (HasNoRoom old.layout info)) none full in
+    above rs C (registration_at (length rs) (info_of T (a_root (length rs))) init) at.layout (ap (λ (i : RootInfo). i.dims) (sym info_is)) (ap (λ (i : RootInfo). i.parts) (sym info_is))
+
+pub register-adds : (T : Table) (old new : Steps) (init : Init) (line : Line) (info : RootInfo) (placed : Placed) (k : ℕ) → k ≡ length old.layout.actives.items → info ≡ info_of T (a_root k) → placed.parts ≡ info.parts → Registers old.layout new.layout info placed
     → Does old.phases new.phases line (with_own (load_rows init info.dims placed.parts (cells_from placed.first placed.parts) line) []) → new.prints ≡ old.prints → Adds T old new (kept.Register init) line
 register-adds T old new init line info placed k count is parts laid does prints = λ rs C E at next.
     let r : Register ℕ = registration_at (length rs) (info_of T (a_root (length rs))) init in
@@ -114,10 +168,21 @@ register-adds T old new init line info placed k count is parts laid does prints 
 
 -- ---- plan lines
 
-module _ (T : Table) (old : Steps) (root : RootNumber) (p : Parts) (v : Bool) (h : HasNext T old (kept.Plan root p v)) where
-  abbrev pub plan-old : Placed
-  plan-old = (active_at old.layout.actives.items root.0).placed
+-- what the layout has after a plan line
+abbrev pub Plans : Layout → Layout → RootNumber → Dims → Parts → Placed → Type 0
+Plans l m root d p new =
+    (rs : List RootState) (C : Laid) → Follows l rs C → Lives rs root.0 → length C.handles ≡ length rs → (handle_at C root.0).dims ≡ d
+    → Follows m (change_at (with_parts p) root.0 rs) (take root.0 p C) × ((handle_at (take root.0 p C) root.0).first p ≡ Some new.first)
 
+-- with it there are too many cells
+abbrev pub HasNoRoomFor : Layout → RootNumber → Dims → Parts → Type 0
+HasNoRoomFor l root d p = (rs : List RootState) (C : Laid) → Follows l rs C → (handle_at C root.0).dims ≡ d → most < length (take root.0 p C).rows
+
+-- the old children are pasted into the new ones
+abbrev pub Pastes : Expander → Expander → Line → Dims → Placed → Placed → Type 0
+Pastes a b line d x y = Does a b line (with_own (each_of (paste_row (cells_from x.first x.parts) (cells_from y.first y.parts) line) (pastes_of d x.parts y.parts)) [])
+
+module _ (T : Table) (old : Steps) (root : RootNumber) (p : Parts) (v : Bool) (h : HasNext T old (kept.Plan root p v)) where
   pub plan-lives : Lives h.roots root.0
   plan-lives = h.next.sound.0.lives
 
@@ -128,16 +193,13 @@ module _ (T : Table) (old : Steps) (root : RootNumber) (p : Parts) (v : Bool) (h
   plan-few = omega (arith, ap length h.at.layout.lays.rows, h.at.layout.lays.few)
 
   pub plan-has : HasCells old.layout.actives.items root.0
-  plan-has = has-cells old.layout old.phases.workers h.roots h.cells root.0 h.at.layout h.next.whole plan-lives
+  plan-has = has-active T old (kept.Plan root p v) root.0 h plan-lives
 
   pub plan-dims : (info_of T root).dims ≡ (root_at h.roots root.0).dims
   plan-dims = h.next.dims root.0 plan-lives
 
   pub plan-fits : Fits p (info_of T root).dims
   plan-fits = subst (λ (d : Dims). Fits p d) (sym plan-dims) h.next.sound.1
-
-  pub plan-old-fits : Fits plan-old.parts (info_of T root).dims
-  plan-old-fits = fits-active T old (kept.Plan root p v) root.0 h plan-lives
 
   stands : root.0 < length h.cells.handles
   stands = omega (arith, lives-below h.roots root.0 plan-lives, h.next.whole.counted)
@@ -148,11 +210,17 @@ module _ (T : Table) (old : Steps) (root : RootNumber) (p : Parts) (v : Bool) (h
   pub plan-room : (l : Layout) (placed : Placed) → Follows l (change_at (with_parts p) root.0 h.roots) (take root.0 p h.cells) → (handle_at (take root.0 p h.cells) root.0).first p ≡ Some placed.first → placed.first + p.r * p.c ≤ most
   plan-room l placed follows first = room h.cells root.0 p placed.first stands (subst (λ (d : Dims). Fits p d) (sym handle-dims) plan-fits) h.next.whole.laid first follows.lays.few
 
--- what the layout has after a plan line
-abbrev pub Plans : Layout → Layout → RootNumber → Dims → Parts → Placed → Type 0
-Plans l m root d p new =
-    (rs : List RootState) (C : Laid) → Follows l rs C → Lives rs root.0 → length C.handles ≡ length rs → (handle_at C root.0).dims ≡ d
-    → Follows m (change_at (with_parts p) root.0 rs) (take root.0 p C) × ((handle_at (take root.0 p C) root.0).first p ≡ Some new.first)
+  pub plan-cells : (l : Layout) (i : RootInfo) (o : Option Placed) (placed : Placed) → i ≡ info_of T root → o ≡ Some placed → IfSome o (λ y. y.parts ≡ p) → IfSome o (λ y. Plans old.layout l root i.dims p y) → placed.first + children_count placed.parts ≤ most
+  plan-cells l i o placed info found parts laid =
+      let plans : Plans old.layout l root i.dims p placed = IfSome-at (λ (y : Placed). Plans old.layout l root i.dims p y) o placed found laid in
+      let lays = plans h.roots h.cells h.at.layout plan-lives h.next.whole.counted (handle-dims ∙ ap (λ (j : RootInfo). j.dims) (sym info)) in
+      subst (λ (s : Parts). placed.first + children_count s ≤ most) (sym (IfSome-at (λ (y : Placed). y.parts ≡ p) o placed found parts)) (plan-room l placed lays.0 lays.1)
+
+pub plan-full : (T : Table) (old : Steps) (root : RootNumber) (p : Parts) (v : Bool) (line : Line) (i : RootInfo) (o : Option Placed) → i ≡ info_of T root → o ≡ None → IfNone o (HasNoRoomFor old.layout root i.dims p) → IsFull T old (kept.Plan root p v) line TooManyCells
+plan-full T old root p v line i o info none full = λ rs C E at next.
+    let lives = next.sound.0.lives in
+    let above : HasNoRoomFor old.layout root i.dims p = subst (λ (x : Option Placed). IfNone x (HasNoRoomFor old.layout root i.dims p)) none full in
+    above rs C at.layout ((next.whole.taken root.0 lives).1.dims ∙ sym (next.dims root.0 lives) ∙ ap (λ (j : RootInfo). j.dims) (sym info))
 
 module _ (T : Table) (old new : Steps) (root : RootNumber) (p : Parts) (v : Bool) (line : Line) (placed : Placed) (parts : placed.parts ≡ p) (laid : Plans old.layout new.layout root (info_of T root).dims p placed) (prints : new.prints ≡ old.prints) where
   module _ (rs : List RootState) (C : Laid) (E : Expansion) (at : StepsAt old rs C E) (next : IsNext T old.phases.workers (kept.Plan root p v) rs C E) where
@@ -206,6 +274,32 @@ module _ (T : Table) (old new : Steps) (root : RootNumber) (p : Parts) (v : Bool
         λ i. each_of (paste_row (cells_from (sym still i) (a.parts i)) (cells_from (first i) (parts i)) line) (pastes_of (next.dims root.0 next.sound.0.lives i) (a.parts i) (parts i)) in
         ends false true e (sym next.valued ∙ valued) (does-block old.phases mid new.phases line cs ls [] (shuts old mid line root.0 rs C at.layout next.sound.0.lives does) (subst (λ (xs : List Lowered). Does mid new.phases line (with_own xs [])) rows pastes))
 
+-- the same by what the code's calls gave: its active plan x, what is fixed of the root, and the new plan
+module _ (T : Table) (old new : Steps) (root : RootNumber) (p : Parts) (v : Bool) (line : Line) (x : Placed) (i : RootInfo) (o : Option Placed) (placed : Placed)
+    (is : x ≡ (active_at old.layout.actives.items root.0).placed) (info : i ≡ info_of T root) (found : o ≡ Some placed) (parts : IfSome o (λ y. y.parts ≡ p)) (laid : IfSome o (λ y. Plans old.layout new.layout root i.dims p y)) (prints : new.prints ≡ old.prints) where
+  its-parts : placed.parts ≡ p
+  its-parts = IfSome-at (λ (y : Placed). y.parts ≡ p) o placed found parts
+
+  its-cells : Plans old.layout new.layout root (info_of T root).dims p placed
+  its-cells = subst (λ (j : RootInfo). Plans old.layout new.layout root j.dims p placed) info (IfSome-at (λ (y : Placed). Plans old.layout new.layout root i.dims p y) o placed found laid)
+
+  tested : (b : Bool) → same_parts x.parts p ≡ b → same_parts (active_at old.layout.actives.items root.0).placed.parts p ≡ b
+  tested b e = ap (λ (y : Placed). same_parts y.parts p) (sym is) ∙ e
+
+  closed-are : (mid : Expander) → Closes old.phases mid line x → Closes old.phases mid line (active_at old.layout.actives.items root.0).placed
+  closed-are mid closes = subst (λ (y : Placed). Closes old.phases mid line y) is closes
+
+  pub same-adds : same_parts x.parts p ≡ true → new.phases ≡ old.phases → Adds T old new (kept.Plan root p v) line
+  same-adds e phases = λ rs C E at next. plan-same T old new root p v line placed its-parts its-cells prints rs C E at next (tested true e) phases
+
+  pub bare-adds : same_parts x.parts p ≡ false → v ≡ false → Closes old.phases new.phases line x → Adds T old new (kept.Plan root p v) line
+  bare-adds e bare closes = λ rs C E at next. plan-bare T old new root p v line placed its-parts its-cells prints rs C E at next (tested false e) bare (closed-are new.phases closes)
+
+  pub pastes-adds : (mid : Expander) → same_parts x.parts p ≡ false → v ≡ true → Closes old.phases mid line x → Pastes mid new.phases line i.dims x placed → Adds T old new (kept.Plan root p v) line
+  pastes-adds mid e valued closes pastes = λ rs C E at next.
+      plan-pastes T old new root p v line placed its-parts its-cells prints rs C E at next mid (tested false e) valued (closed-are mid closes)
+      (subst (λ (y : Placed). Pastes mid new.phases line (info_of T root).dims y placed) is (subst (λ (j : RootInfo). Pastes mid new.phases line j.dims x placed) info pastes))
+
 -- ---- roots whose cells are closed
 
 -- the phases of a root's cells are closed, and each root that lives keeps its plan
@@ -229,21 +323,20 @@ unregister-adds T old new root line layout prints does = λ rs C E at next.
 -- ---- print lines
 
 module _ (T : Table) (old : Steps) (root : RootNumber) (h : HasNext T old (kept.Print root)) where
-  abbrev pub print-placed : Placed
-  print-placed = (active_at old.layout.actives.items root.0).placed
-
   pub print-has : HasCells old.layout.actives.items root.0
-  print-has = has-cells old.layout old.phases.workers h.roots h.cells root.0 h.at.layout h.next.whole h.next.sound.0
+  print-has = has-active T old (kept.Print root) root.0 h h.next.sound.0
 
   pub print-named : root.0 < length T.names
   print-named = omega (arith, lives-below h.roots root.0 h.next.sound.0, h.next.named)
 
-  pub print-fits : Fits print-placed.parts (info_of T root).dims
-  print-fits = fits-active T old (kept.Print root) root.0 h h.next.sound.0
-
   -- there are no more print statements than tasks
   pub print-few : old.phases.over ≡ None → old.prints ≤ most
   print-few none = omega (arith, h.at.prints none, h.next.prints, (h.at.phases none).few)
+
+  -- so it was before, if there are not too many tasks afterwards
+  pub print-few-after : (mid late : Expander) (line : Line) (f g : Expansion → Expansion) → Does old.phases mid line f → Does mid late line g → late.over ≡ None → old.prints ≤ most
+  print-few-after mid late line f g p q none =
+      print-few (early-before old.phases mid line f h.expansion h.at.phases p (early-before mid late line g (f h.expansion) (p.at h.expansion h.at.phases) q none))
 
 pub print-adds : (T : Table) (old new : Steps) (root : RootNumber) (line : Line) (mid : Expander) → new.layout ≡ old.layout → (new.phases.over ≡ None → new.prints ≡ old.prints + 1)
     → Does old.phases mid line (λ F. fold (closed old.phases.workers) F (cells_by (active_at old.layout.actives.items root.0).placed))
@@ -264,6 +357,17 @@ print-adds T old new root line mid layout prints does delivers = λ rs C E at ne
     goes old new line rs rs C (with_print C) E block at
     (follows-kept old.layout new.layout rs rs C (with_print C) at.layout (subst (λ (l : Layout). Lays l (with_print C)) (sym layout) (record { rows = at.layout.lays.rows; few = at.layout.lays.few; firsts = at.layout.lays.firsts })) refl (ap (λ (l : Layout). l.actives) layout) (λ m lives. (lives, refl, refl)))
     (λ none. prints none ∙ ap (λ n. n + 1) (at.prints (early-before old.phases new.phases line (λ F. expanded old.phases.workers F block) E at.phases here none))) here
+
+-- a plan's children are handed over
+abbrev pub Delivers : Expander → Expander → Line → ℕ → Dims → Placed → ℕ → Type 0
+Delivers a b line n d x print = Does a b line (with_own (each_of (λ (place : ℕ × ℕ). deliver_row (cells_from x.first x.parts place) line) (places x.parts)) (each_of (a_delivery n d x.parts print) (zip (range_with_len 0 (length (places x.parts))) (places x.parts))))
+
+-- the same by what the code's calls gave
+pub delivers-adds : (T : Table) (old new : Steps) (root : RootNumber) (line : Line) (mid : Expander) (x : Placed) (i : RootInfo) → x ≡ (active_at old.layout.actives.items root.0).placed → i ≡ info_of T root → new.layout ≡ old.layout → (new.phases.over ≡ None → new.prints ≡ old.prints + 1)
+    → Closes old.phases mid line x → Delivers mid new.phases line root.0 i.dims x old.prints → Adds T old new (kept.Print root) line
+delivers-adds T old new root line mid x i is info layout prints closes delivers =
+    print-adds T old new root line mid layout prints (subst (λ (y : Placed). Closes old.phases mid line y) is closes)
+    (subst (λ (y : Placed). Delivers mid new.phases line root.0 (info_of T root).dims y old.prints) is (subst (λ (j : RootInfo). Delivers mid new.phases line root.0 j.dims x old.prints) info delivers))
 
 -- ---- reductions
 
