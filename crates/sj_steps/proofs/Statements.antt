@@ -130,19 +130,29 @@ module _ (T : Table) (old : Steps) (init : Init) (h : HasNext T old (kept.Regist
       room (with_root r.dims C) (length C.handles) r.parts placed.first (omega (arith, length-append C.handles (handle_of r.dims ∷ []))) (subst (λ (x : Handle). Fits r.parts x.dims) (sym (root-there C r.dims (length C.handles) refl)) h.next.sound.parts)
       (laid-root C r.dims h.next.whole.laid h.next.sound.elements) first follows.lays.few
 
-  pub register-info : (info : RootInfo) (k : ℕ) → k ≡ length old.layout.actives.items → info ≡ info_of T (a_root k) → info ≡ info_of T (a_root (length rs))
-  register-info info k count is = is ∙ ap (λ (n : ℕ). info_of T (a_root n)) (count ∙ register-count)
+  -- the same by what is fixed of the next root, as the code reads it
+  module _ (info : RootInfo) (k : ℕ) (count : k ≡ length old.layout.actives.items) (is : info ≡ info_of T (a_root k)) where
+    fixed : info ≡ info_of T (a_root (length rs))
+    fixed = is ∙ ap (λ (n : ℕ). info_of T (a_root n)) (count ∙ register-count)
 
-  pub register-fits : (info : RootInfo) → info ≡ info_of T (a_root (length rs)) → Fits info.parts info.dims
-  register-fits info is = subst (λ (i : RootInfo). Fits i.parts i.dims) (sym is) h.next.sound.parts
+    pub register-fits : Fits info.parts info.dims
+    register-fits = subst (λ (i : RootInfo). Fits i.parts i.dims) (sym fixed) h.next.sound.parts
 
-  pub register-values : (info : RootInfo) → info ≡ info_of T (a_root (length rs)) → InitFits init info.dims
-  register-values info is = subst (λ (i : RootInfo). InitFits init i.dims) (sym is) h.next.sound.values
+    pub register-values : InitFits init info.dims
+    register-values = subst (λ (i : RootInfo). InitFits init i.dims) (sym fixed) h.next.sound.values
 
-  pub register-cells : (l : Layout) (info : RootInfo) (placed : Placed) → info ≡ info_of T (a_root (length rs)) → placed.parts ≡ info.parts → Registers old.layout l info placed → placed.first + children_count placed.parts ≤ most
-  register-cells l info placed is parts laid =
-      let lays = laid rs C r h.at.layout h.next.whole.counted (ap (λ (i : RootInfo). i.dims) (sym is)) (ap (λ (i : RootInfo). i.parts) (sym is)) in
-      subst (λ (s : Parts). placed.first + children_count s ≤ most) (sym (parts ∙ ap (λ (i : RootInfo). i.parts) is)) (register-room l placed lays.0 lays.1)
+    module _ (o : Option Placed) (placed : Placed) (found : o ≡ Some placed) (parts : IfSome o (λ x. x.parts ≡ info.parts)) where
+      cut : placed.parts ≡ info.parts
+      cut = IfSome-at (λ (x : Placed). x.parts ≡ info.parts) o placed found parts
+
+      pub placed-fits : Fits placed.parts info.dims
+      placed-fits = subst (λ (p : Parts). Fits p info.dims) (sym cut) register-fits
+
+      pub placed-room : (l : Layout) → IfSome o (λ x. Registers old.layout l info x) → placed.first + children_count placed.parts ≤ most
+      placed-room l laid =
+          let registers : Registers old.layout l info placed = IfSome-at (λ (x : Placed). Registers old.layout l info x) o placed found laid in
+          let lays = registers rs C r h.at.layout h.next.whole.counted (ap (λ (i : RootInfo). i.dims) (sym fixed)) (ap (λ (i : RootInfo). i.parts) (sym fixed)) in
+          subst (λ (p : Parts). placed.first + children_count p ≤ most) (sym (cut ∙ ap (λ (i : RootInfo). i.parts) fixed)) (register-room l placed lays.0 lays.1)
 
 pub register-full : (T : Table) (old : Steps) (init : Init) (line : Line) (info : RootInfo) (k : ℕ) (o : Option Placed) → k ≡ length old.layout.actives.items → info ≡ info_of T (a_root k) → o ≡ None → IfNone o (HasNoRoom old.layout info) → IsFull T old (kept.Register init) line TooManyCells
 register-full T old init line info k o count is none full = λ rs C E at next.
@@ -150,16 +160,18 @@ register-full T old init line info k o count is none full = λ rs C E at next.
     let above : HasNoRoom old.layout info = subst (λ (x : Option Placed). IfNone x (HasNoRoom old.layout info)) none full in
     above rs C (registration_at (length rs) (info_of T (a_root (length rs))) init) at.layout (ap (λ (i : RootInfo). i.dims) (sym info_is)) (ap (λ (i : RootInfo). i.parts) (sym info_is))
 
-pub register-adds : (T : Table) (old new : Steps) (init : Init) (line : Line) (info : RootInfo) (placed : Placed) (k : ℕ) → k ≡ length old.layout.actives.items → info ≡ info_of T (a_root k) → placed.parts ≡ info.parts → Registers old.layout new.layout info placed
+pub register-adds : (T : Table) (old new : Steps) (init : Init) (line : Line) (info : RootInfo) (k : ℕ) (o : Option Placed) (placed : Placed) → k ≡ length old.layout.actives.items → info ≡ info_of T (a_root k)
+    → o ≡ Some placed → IfSome o (λ x. x.parts ≡ info.parts) → IfSome o (λ x. Registers old.layout new.layout info x)
     → Does old.phases new.phases line (with_own (load_rows init info.dims placed.parts (cells_from placed.first placed.parts) line) []) → new.prints ≡ old.prints → Adds T old new (kept.Register init) line
-register-adds T old new init line info placed k count is parts laid does prints = λ rs C E at next.
+register-adds T old new init line info k o placed count is found parts laid does prints = λ rs C E at next.
+    let registers : Registers old.layout new.layout info placed = IfSome-at (λ (x : Placed). Registers old.layout new.layout info x) o placed found laid in
     let r : Register ℕ = registration_at (length rs) (info_of T (a_root (length rs))) init in
     let info_is : info ≡ info_of T (a_root (length rs)) = is ∙ ap (λ i. info_of T (a_root i)) (count ∙ at.layout.active.counted ∙ next.whole.counted) in
     let n = length C.handles in
     let D = take n r.parts (with_root r.dims C) in
-    let lays = laid rs C r at.layout next.whole.counted (ap (λ (i : RootInfo). i.dims) (sym info_is)) (ap (λ (i : RootInfo). i.parts) (sym info_is)) in
+    let lays = registers rs C r at.layout next.whole.counted (ap (λ (i : RootInfo). i.dims) (sym info_is)) (ap (λ (i : RootInfo). i.parts) (sym info_is)) in
     let f : placed.first ≡ first_cell D n r.parts = sym (ap (λ (o : Option ℕ). unwrap_or o 0) lays.1) in
-    let q : placed.parts ≡ r.parts = parts ∙ ap (λ (i : RootInfo). i.parts) info_is in
+    let q : placed.parts ≡ r.parts = IfSome-at (λ (x : Placed). x.parts ≡ info.parts) o placed found parts ∙ ap (λ (i : RootInfo). i.parts) info_is in
     let ls = load_rows init r.dims r.parts (cell_of D n r.parts) line in
     let rows : load_rows init info.dims placed.parts (cells_from placed.first placed.parts) line ≡ ls = λ i. load_rows init (info_is i).dims (q i) (cells_from (f i) (q i)) line in
     goes-kept old new line rs (rs ++ registered_root r ∷ []) C D E (closing line [] ls) at lays.0

@@ -52,7 +52,7 @@ overflow_add-self c =
     let late = c.push_delivers.new.phases in
     let none : late.over ≡ None = none-over late.over c.is_some.result c.is_some.ensures c.if-is_some.false in
     let few : c.args.self.now.prints ≤ most = print-few-after c.args.roots.now c.args.self.now c.args.root c.requires c.close_plan.new.phases late c.args.line _ _ c.in_ok-close_plan.ensures c.in_ok-push_delivers.ensures none in
-    omega (arith, few)
+    omega arith
 
 pub returns-clause-adds : goal.returns-clause-adds
 returns-clause-adds c =
