@@ -125,7 +125,7 @@ module _ (T : Table) (old : Steps) (init : Init) (h : HasNext T old (kept.Regist
   register-table = omega (arith, h.next.named, h.next.table)
 
   -- the cells of the new root are within the limit
-  pub register-room : (l : Layout) (placed : Placed) → Follows l (rs ++ registered_root r ∷ []) (take (length C.handles) r.parts (with_root r.dims C)) → (handle_at (take (length C.handles) r.parts (with_root r.dims C)) (length C.handles)).first r.parts ≡ Some placed.first → placed.first + r.parts.r * r.parts.c ≤ most
+  register-room : (l : Layout) (placed : Placed) → Follows l (rs ++ registered_root r ∷ []) (take (length C.handles) r.parts (with_root r.dims C)) → (handle_at (take (length C.handles) r.parts (with_root r.dims C)) (length C.handles)).first r.parts ≡ Some placed.first → placed.first + r.parts.r * r.parts.c ≤ most
   register-room l placed follows first =
       room (with_root r.dims C) (length C.handles) r.parts placed.first (omega (arith, length-append C.handles (handle_of r.dims ∷ []))) (subst (λ (x : Handle). Fits r.parts x.dims) (sym (root-there C r.dims (length C.handles) refl)) h.next.sound.parts)
       (laid-root C r.dims h.next.whole.laid h.next.sound.elements) first follows.lays.few
@@ -207,7 +207,7 @@ module _ (T : Table) (old : Steps) (root : RootNumber) (p : Parts) (v : Bool) (h
   pub plan-has : HasCells old.layout.actives.items root.0
   plan-has = has-active T old (kept.Plan root p v) root.0 h plan-lives
 
-  pub plan-dims : (info_of T root).dims ≡ (root_at h.roots root.0).dims
+  plan-dims : (info_of T root).dims ≡ (root_at h.roots root.0).dims
   plan-dims = h.next.dims root.0 plan-lives
 
   pub plan-fits : Fits p (info_of T root).dims
@@ -216,10 +216,10 @@ module _ (T : Table) (old : Steps) (root : RootNumber) (p : Parts) (v : Bool) (h
   stands : root.0 < length h.cells.handles
   stands = omega (arith, lives-below h.roots root.0 plan-lives, h.next.whole.counted)
 
-  pub handle-dims : (handle_at h.cells root.0).dims ≡ (info_of T root).dims
+  handle-dims : (handle_at h.cells root.0).dims ≡ (info_of T root).dims
   handle-dims = (h.next.whole.taken root.0 plan-lives).1.dims ∙ sym plan-dims
 
-  pub plan-room : (l : Layout) (placed : Placed) → Follows l (change_at (with_parts p) root.0 h.roots) (take root.0 p h.cells) → (handle_at (take root.0 p h.cells) root.0).first p ≡ Some placed.first → placed.first + p.r * p.c ≤ most
+  plan-room : (l : Layout) (placed : Placed) → Follows l (change_at (with_parts p) root.0 h.roots) (take root.0 p h.cells) → (handle_at (take root.0 p h.cells) root.0).first p ≡ Some placed.first → placed.first + p.r * p.c ≤ most
   plan-room l placed follows first = room h.cells root.0 p placed.first stands (subst (λ (d : Dims). Fits p d) (sym handle-dims) plan-fits) h.next.whole.laid first follows.lays.few
 
   pub plan-cells : (l : Layout) (i : RootInfo) (o : Option Placed) (placed : Placed) → i ≡ info_of T root → o ≡ Some placed → IfSome o (λ y. y.parts ≡ p) → IfSome o (λ y. Plans old.layout l root i.dims p y) → placed.first + children_count placed.parts ≤ most
@@ -270,14 +270,14 @@ module _ (T : Table) (old new : Steps) (root : RootNumber) (p : Parts) (v : Bool
         let is : step.plan_block now cs D root.0 p line ≡ b = λ i. cond (same i) (closing line [] []) (closing line cs (cond (valued i) ls [])) in
         subst (λ (x : Block). Goes old new line (change_at (with_parts p) root.0 rs) D (expanded old.phases.workers E x)) (sym is) (goes-kept old new line rs (change_at (with_parts p) root.0 rs) C D E b at lays.0 does prints (take-prints C root.0 p))
 
-    pub plan-same : same_parts was.parts p ≡ true → new.phases ≡ old.phases → Goes old new line (change_at (with_parts p) root.0 rs) D (expanded old.phases.workers E (step.plan_block now (active_cells (by_number rs) C root.0) D root.0 p line))
+    plan-same : same_parts was.parts p ≡ true → new.phases ≡ old.phases → Goes old new line (change_at (with_parts p) root.0 rs) D (expanded old.phases.workers E (step.plan_block now (active_cells (by_number rs) C root.0) D root.0 p line))
     plan-same e phases =
         ends true (is_valued now) e refl (subst (λ (x : Expander). Does old.phases x line (λ F. expanded old.phases.workers F (closing line [] []))) (sym phases) (does-empty old.phases line))
 
-    pub plan-bare : same_parts was.parts p ≡ false → v ≡ false → Does old.phases new.phases line (λ F. fold (closed old.phases.workers) F (cells_by was)) → Goes old new line (change_at (with_parts p) root.0 rs) D (expanded old.phases.workers E (step.plan_block now (active_cells (by_number rs) C root.0) D root.0 p line))
+    plan-bare : same_parts was.parts p ≡ false → v ≡ false → Does old.phases new.phases line (λ F. fold (closed old.phases.workers) F (cells_by was)) → Goes old new line (change_at (with_parts p) root.0 rs) D (expanded old.phases.workers E (step.plan_block now (active_cells (by_number rs) C root.0) D root.0 p line))
     plan-bare e bare does = ends false false e (sym next.valued ∙ bare) (does-closing old.phases new.phases line cs (shuts old new.phases line root.0 rs C at.layout next.sound.0.lives does))
 
-    pub plan-pastes : (mid : Expander) → same_parts was.parts p ≡ false → v ≡ true → Does old.phases mid line (λ F. fold (closed old.phases.workers) F (cells_by was))
+    plan-pastes : (mid : Expander) → same_parts was.parts p ≡ false → v ≡ true → Does old.phases mid line (λ F. fold (closed old.phases.workers) F (cells_by was))
         → Does mid new.phases line (with_own (each_of (paste_row (cells_from was.first was.parts) (cells_from placed.first placed.parts) line) (pastes_of (info_of T root).dims was.parts placed.parts)) [])
         → Goes old new line (change_at (with_parts p) root.0 rs) D (expanded old.phases.workers E (step.plan_block now (active_cells (by_number rs) C root.0) D root.0 p line))
     plan-pastes mid e valued does pastes =
@@ -342,7 +342,7 @@ module _ (T : Table) (old : Steps) (root : RootNumber) (h : HasNext T old (kept.
   print-named = omega (arith, lives-below h.roots root.0 h.next.sound.0, h.next.named)
 
   -- there are no more print statements than tasks
-  pub print-few : old.phases.over ≡ None → old.prints ≤ most
+  print-few : old.phases.over ≡ None → old.prints ≤ most
   print-few none = omega (arith, h.at.prints none, h.next.prints, (h.at.phases none).few)
 
   -- so it was before, if there are not too many tasks afterwards
@@ -350,7 +350,7 @@ module _ (T : Table) (old : Steps) (root : RootNumber) (h : HasNext T old (kept.
   print-few-after mid late line f g p q none =
       print-few (early-before old.phases mid line f h.expansion h.at.phases p (early-before mid late line g (f h.expansion) (p.at h.expansion h.at.phases) q none))
 
-pub print-adds : (T : Table) (old new : Steps) (root : RootNumber) (line : Line) (mid : Expander) → new.layout ≡ old.layout → (new.phases.over ≡ None → new.prints ≡ old.prints + 1)
+print-adds : (T : Table) (old new : Steps) (root : RootNumber) (line : Line) (mid : Expander) → new.layout ≡ old.layout → (new.phases.over ≡ None → new.prints ≡ old.prints + 1)
     → Does old.phases mid line (λ F. fold (closed old.phases.workers) F (cells_by (active_at old.layout.actives.items root.0).placed))
     → (let x = (active_at old.layout.actives.items root.0).placed in Does mid new.phases line (with_own (each_of (λ place. deliver_row (cells_from x.first x.parts place) line) (places x.parts)) (each_of (a_delivery root.0 (info_of T root).dims x.parts old.prints) (zip (range_with_len 0 (length (places x.parts))) (places x.parts)))))
     → Adds T old new (kept.Print root) line
