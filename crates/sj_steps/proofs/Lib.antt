@@ -40,3 +40,6 @@ pub mod Values
 pub mod Running
 pub mod Statements
 pub mod Tasking
+pub mod Allowed
+pub mod Going
+pub mod Making

@@ -124,13 +124,14 @@ module _ (T : Table) (kss : List Kept) (d : AreDistinct T.names) (numbered : IsN
   proper-few few_cells few =
       proper (subst (λ (x : Program). length x.cells ≤ 2 ^ 22) program-is few_cells) (subst (λ (x : Program). length x.tasks ≤ 2 ^ 22) program-is few)
 
-  pub delivers : length p.cells ≤ 2 ^ 22 → length p.tasks ≤ 2 ^ 22 → IsLawful out has p → 0 < workers → DeliversPrinted T p ss
-  delivers cells tasks lawful staffed =
+  -- by any set that obeys the laws
+  pub delivers : (other : Kernel → Bool) → length p.cells ≤ 2 ^ 22 → length p.tasks ≤ 2 ^ 22 → IsLawful out other p → 0 < workers → DeliversPrinted T p ss
+  delivers other cells tasks lawful staffed =
       let few_cells : length rows ≤ 2 ^ 22 = subst (λ (x : Program). length x.cells ≤ 2 ^ 22) program-is cells in
       let few : length (expand workers nothing bs).tasks ≤ 2 ^ 22 = subst (λ (x : Program). length x.tasks ≤ 2 ^ 22) program-is tasks in
       subst (λ (x : Program). DeliversPrinted T x ss) (sym program-is)
       (delivers-printed T (Rattle.sj_phases.specs.Law.program_by rows workers bs) ss (printed_at [] ns)
-      (hands-over has workers ns line sound-here (few-here few) few_cells few (subst (IsLawful out has) program-is lawful) staffed)
+      (hands-over has workers ns line sound-here other (few-here few) few_cells few (subst (IsLawful out other) program-is lawful) staffed)
       printed-same
       (all-known T has q ns no_cells [] 0 none_open sound-here (told-all T 0 kss (omega (arith, numbered.counted))) (knows-none T) (all has workers ns line sound-here)))
 

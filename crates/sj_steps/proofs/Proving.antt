@@ -112,10 +112,10 @@ module _ (has : Kernel → Bool) (workers : ℕ) (ss : List (Statement ℕ)) (li
   pub is-proper : length q.tasks ≤ 2 ^ 22 → length rows ≤ 2 ^ 22 → length (expand workers nothing blocks).tasks ≤ 2 ^ 22 → Proper (program_by rows workers blocks)
   is-proper few_plain few_cells few = proper rows workers blocks (can few_plain few_cells few)
 
-  -- by a set that obeys the laws it hands over the children of what the print statements find
-  pub hands-over : length q.tasks ≤ 2 ^ 22 → length rows ≤ 2 ^ 22 → length (expand workers nothing blocks).tasks ≤ 2 ^ 22 → IsLawful out has (program_by rows workers blocks) → 0 < workers
+  -- by any set that obeys the laws it hands over the children of what the print statements find
+  pub hands-over : (other : Kernel → Bool) → length q.tasks ≤ 2 ^ 22 → length rows ≤ 2 ^ 22 → length (expand workers nothing blocks).tasks ≤ 2 ^ 22 → IsLawful out other (program_by rows workers blocks) → 0 < workers
       → map (handed_over (program_by rows workers blocks)) (program_by rows workers blocks).deliveries ≡ pieces_from 0 (printed_at [] ss)
-  hands-over few_plain few_cells few lawful staffed =
-      (holds_plain rows workers blocks (can few_plain few_cells few) has lawful staffed).handed
+  hands-over other few_plain few_cells few lawful staffed =
+      (holds_plain rows workers blocks (can few_plain few_cells few) other lawful staffed).handed
       ∙ ap (map (handed_over q)) deliveries-are
       ∙ all-handed has q ss no_cells [] 0 none_open sound all

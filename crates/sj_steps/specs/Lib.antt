@@ -8,3 +8,7 @@ pub mod Follows
 pub mod Adds
 pub mod Running
 pub mod Delivering
+pub mod Lowering
+pub mod Limits
+pub mod Job
+pub mod Progress

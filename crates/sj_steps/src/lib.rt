@@ -3,6 +3,7 @@
 
 pub mod contributions;
 pub mod layout;
+pub mod lower;
 pub mod pushes;
 pub mod rows;
 pub mod steps;

@@ -1,0 +1,179 @@
+-- A job lowered one statement after another, up to its end.
+use Rattle.std.proofs.Common.{◌≡◌, ℕ, ◌<◌, ◌≤◌, Option, Some, None, Result, Ok, Err, IfErr, IsErrAnd, List, [], ◌∷◌, length, map, fold, vec_len, sym, ap, subst, ◌∙◌, arith}
+use Rattle.std.specs.List.{range_with_len}
+use Rattle.sj_base.specs.declared.ids.Cell.{Cell}
+use Rattle.sj_base.specs.declared.ids.Line.{Line}
+use Rattle.sj_base.specs.declared.program.Program.{Program}
+use Rattle.sj_base.proofs.Numbers.{none_first}
+use Rattle.sj_job.specs.Reading.{Refusal}
+use Rattle.sj_meaning.specs.declared.job.Statement.{Statement as Kept}
+use Rattle.sj_meaning.specs.Act.{Act}
+use Rattle.sj_meaning.specs.State.{RootState}
+use Rattle.sj_meaning.specs.Numbers.{act_at, apply_at}
+use Rattle.sj_meaning.specs.Table.{Table}
+use Rattle.sj_phases.specs.declared.expander.Expander.{Expander}
+use Rattle.sj_phases.specs.Block.{Block}
+use Rattle.sj_phases.specs.Does.{IsAt, HasAt, over_after, Does}
+use Rattle.sj_phases.specs.Expand.{Expansion, nothing, closed, expanded, cells_below, last_block, program_of, most}
+use Rattle.sj_phases.proofs.Doing.{own-nothing}
+use Rattle.sj_steps.specs.declared.layout.Layout.{Layout}
+use Rattle.sj_steps.specs.declared.lower.LowerRefusal.{LowerRefusal}
+use Rattle.sj_steps.specs.declared.lower.LowerRefusal.TheVariants.{TooManyCells, TooManyTasks, OutOfMemory}
+use Rattle.sj_steps.specs.declared.lower.LoweringProgress.{LoweringProgress}
+use Rattle.sj_steps.specs.Adds.{StepsAt, IsNext, HasNext, Goes, Adds, cells_after}
+use Rattle.sj_steps.specs.Laid.{Laid, no_cells}
+use Rattle.sj_steps.specs.Limits.{late_tasks, late_cells}
+use Rattle.sj_steps.specs.Progress.{no_line, IsFullWith, IsOverLimit, IsLate}
+use Rattle.sj_steps.specs.Running.{AreReady, Leaves, steps_at}
+use Rattle.sj_steps.specs.Step.{Step, by_number, step_of, program_by, cells_above, tasks_above}
+use Rattle.sj_steps.proofs.Running.{leaves-start, leaves-next, leaves-full, leaves-none}
+
+-- what is true of the refusal that `?` hands over
+pub handed-on : {A : Type 0} (r : Result A LowerRefusal) (e : LowerRefusal) (P : LowerRefusal → Type 0) → IsErrAnd r (λ x. x ≡ e) → P e → IfErr r P
+handed-on (Ok x) e P is h = tt
+handed-on (Err x) e P is h = subst P (sym is) h
+
+-- the limit that steps exceed, and the line that first does
+abbrev pub late_by : ℕ → List Step → Option Refusal
+late_by workers xs = late_cells (cells_above xs) (late_tasks (tasks_above workers xs))
+
+-- the steps of all statements
+abbrev pub steps_from_start : ℕ → Table → List Kept → List Step
+steps_from_start workers T ss = steps_at workers [] no_cells T ss
+
+-- what is lowered so far for so many workers, and which statements are left
+pub record GoesOn (T : Table) (workers : ℕ) (x : LoweringProgress) (whole rest : List Kept) : Type 0 where
+  pub roots : List RootState
+  pub cells : Laid
+  pub expansion : Expansion
+  pub at : StepsAt x.steps roots cells expansion
+  pub workers_are : x.steps.phases.workers ≡ workers
+  pub leaves : Leaves T workers (steps_from_start workers T whole) roots cells expansion x.steps.phases.over x.last rest
+
+pub going-start : (T : Table) (workers : ℕ) (x : LoweringProgress) (ss : List Kept) → StepsAt x.steps [] no_cells nothing → x.steps.phases.over ≡ None → x.last ≡ no_line → x.steps.phases.workers ≡ workers → AreReady T workers [] no_cells nothing ss → GoesOn T workers x ss ss
+going-start T workers x ss at none first same ready =
+    let xs = steps_from_start workers T ss in
+    record {
+      roots = [];
+      cells = no_cells;
+      expansion = nothing;
+      at = at;
+      workers_are = same;
+      leaves = subst (λ (o : Option Line). Leaves T workers xs [] no_cells nothing o x.last ss) (sym none)
+          (subst (λ (l : Line). Leaves T workers xs [] no_cells nothing None l ss) (sym first) (leaves-start T workers ss ready));
+    }
+
+-- ---- one statement more
+
+module _ (T : Table) (workers : ℕ) (x : LoweringProgress) (whole rest : List Kept) (s : Kept) (w : GoesOn T workers x whole (s ∷ rest)) where
+  next : IsNext T x.steps.phases.workers s.act w.roots w.cells w.expansion
+  next = subst (λ (n : ℕ). IsNext T n s.act w.roots w.cells w.expansion) (sym w.workers_are) w.leaves.ready.0
+
+  pub going-has : HasNext T x.steps s.act
+  going-has = record { roots = w.roots; cells = w.cells; expansion = w.expansion; at = w.at; next = next }
+
+  abbrev act : Act ℕ
+  act = act_at T (length w.roots) s.act
+
+  abbrev here : Step
+  here = step_of workers (by_number w.roots) w.cells s.line act
+
+  pub going-more : (new : LoweringProgress) → Adds T x.steps new.steps s.act s.line → new.last ≡ s.line → GoesOn T workers new whole rest
+  going-more new adds last =
+      let xs = steps_from_start workers T whole in
+      let E = expanded workers w.expansion here.block in
+      let goes : Goes x.steps new.steps s.line (apply_at act w.roots) here.laid E =
+      subst (λ (n : ℕ). Goes x.steps new.steps s.line (apply_at act w.roots) (step_of n (by_number w.roots) w.cells s.line act).laid (expanded n w.expansion (step_of n (by_number w.roots) w.cells s.line act).block)) w.workers_are (adds w.roots w.cells w.expansion w.at next) in
+      record {
+        roots = apply_at act w.roots;
+        cells = here.laid;
+        expansion = E;
+        at = goes.at;
+        workers_are = goes.workers ∙ w.workers_are;
+        leaves = subst (λ (l : Line). Leaves T workers xs (apply_at act w.roots) here.laid E new.steps.phases.over l rest) (sym last)
+            (leaves-next T workers xs w.roots w.cells w.expansion x.steps new.steps x.last s rest w.leaves goes);
+      }
+
+  -- with it there are too many cells
+  pub going-full : (e : LowerRefusal) → IsFullWith T x.steps s e → IsLate e (late_by workers (steps_from_start workers T whole))
+  going-full OutOfMemory full = tt
+  going-full (TooManyTasks line) full = absurd full
+  going-full (TooManyCells line) full =
+      let xs = steps_from_start workers T whole in
+      let many : most < length here.laid.rows =
+      subst (λ (n : ℕ). most < length (step_of n (by_number w.roots) w.cells s.line act).laid.rows) w.workers_are (full.1 w.roots w.cells w.expansion w.at next) in
+      let first : cells_above xs ≡ Some line =
+      leaves-full T workers xs w.roots w.cells w.expansion x.steps.phases.over x.last s rest w.leaves many ∙ ap (λ (l : Line). Some l) (sym full.0) in
+      ap (λ (o : Option Line). late_cells o (late_tasks (tasks_above workers xs))) first
+
+-- ---- at the end
+
+pub done-has : (T : Table) (workers : ℕ) (x : LoweringProgress) (whole : List Kept) → GoesOn T workers x whole [] → HasAt x.steps.phases
+done-has T workers x whole w = record { expansion = w.expansion; at = w.at.phases }
+
+pub done-few : (T : Table) (workers : ℕ) (x : LoweringProgress) (whole : List Kept) → GoesOn T workers x whole [] → vec_len x.steps.layout.infos ≤ most
+done-few T workers x whole w =
+    let lays = w.at.layout.lays in
+    omega (arith, lays.few, ap length lays.rows, x.steps.layout.infos.ok)
+
+-- the cells from the first on are all cells
+all-cells : (n : ℕ) → cells_after 0 n ≡ cells_below n
+all-cells n = λ i. map (λ (k : ℕ). let c : Cell = record { 0 = none_first k i } in c) (range_with_len 0 n)
+
+pub closes-all : (old new : Expander) (line : Line) (n m : ℕ) → n ≡ m → Does old new line (λ E. fold (closed old.workers) E (cells_after 0 n)) → Does old new line (λ E. fold (closed old.workers) E (cells_below m))
+closes-all old new line n m same does = subst (λ (cs : List Cell). Does old new line (λ E. fold (closed old.workers) E cs)) (all-cells n ∙ ap cells_below same) does
+
+-- all phases are closed
+pub record IsShut (workers : ℕ) (x : LoweringProgress) (xs : List Step) : Type 0 where
+  pub expansion : Expansion
+  pub at : IsAt x.steps.phases expansion
+  pub workers_are : x.steps.phases.workers ≡ workers
+  pub few_cells : length x.steps.layout.infos.items ≤ most
+  pub program : program_of x.steps.layout.infos.items workers expansion ≡ program_by workers xs
+  pub late : late_by workers xs ≡ late_tasks x.steps.phases.over
+
+pub shut : (T : Table) (workers : ℕ) (old new : LoweringProgress) (whole : List Kept) → GoesOn T workers old whole [] → new.steps.layout ≡ old.steps.layout
+    → Does old.steps.phases new.steps.phases old.last (λ E. fold (closed old.steps.phases.workers) E (cells_below (vec_len old.steps.layout.infos))) → IsShut workers new (steps_from_start workers T whole)
+shut T workers old new whole w layout does =
+    let xs = steps_from_start workers T whole in
+    let C = w.cells in
+    let E = w.expansion in
+    let lays = w.at.layout.lays in
+    let ends = leaves-none T workers xs w.roots C E old.steps.phases.over old.last w.leaves in
+    let end : Block = last_block (length C.rows) old.last in
+    let F : Expansion = fold (closed old.steps.phases.workers) E (cells_below (vec_len old.steps.layout.infos)) in
+    let many : vec_len old.steps.layout.infos ≡ length C.rows = omega (arith, ap length lays.rows, old.steps.layout.infos.ok) in
+    let same : F ≡ expanded workers E end = (λ i. fold (closed (w.workers_are i)) E (cells_below (many i))) ∙ own-nothing (fold (closed workers) E (cells_below (length C.rows))) in
+    let rows : new.steps.layout.infos.items ≡ C.rows = ap (λ (l : Layout). l.infos.items) layout ∙ lays.rows in
+    let over : new.steps.phases.over ≡ over_after old.steps.phases.over old.last (expanded workers E end) = does.over E w.at.phases ∙ ap (over_after old.steps.phases.over old.last) same in
+    record {
+      expansion = F;
+      at = does.at E w.at.phases;
+      workers_are = does.workers ∙ w.workers_are;
+      few_cells = omega (arith, lays.few, ap length rows);
+      program = (λ i. program_of (rows i) workers (same i)) ∙ ends.program;
+      late = λ i. late_cells (ends.cells i) (late_tasks ((ends.tasks ∙ sym over) i));
+    }
+
+pub shut-over : (workers : ℕ) (x : LoweringProgress) (xs : List Step) (e : LowerRefusal) → IsShut workers x xs → IsOverLimit e x.steps.phases.over → IsLate e (late_by workers xs)
+shut-over workers x xs OutOfMemory d h = tt
+shut-over workers x xs (TooManyCells line) d h = absurd h
+shut-over workers x xs (TooManyTasks line) d h = d.late ∙ ap late_tasks h
+
+-- ---- the program
+
+-- a program of these steps, within the limits
+pub record IsMade (workers : ℕ) (p : Program) (xs : List Step) : Type 0 where
+  pub is : p ≡ program_by workers xs
+  pub few_tasks : length p.tasks ≤ 262144
+  pub few_cells : length p.cells ≤ 262144
+
+pub made : (workers : ℕ) (x : LoweringProgress) (xs : List Step) (p : Program) → IsShut workers x xs → x.steps.phases.over ≡ None → ((E : Expansion) → IsAt x.steps.phases E → p ≡ program_of x.steps.layout.infos.items x.steps.phases.workers E) → IsMade workers p xs
+made workers x xs p d none finish =
+    let is : p ≡ program_of x.steps.layout.infos.items x.steps.phases.workers d.expansion = finish d.expansion d.at in
+    let few = (d.at none).few in
+    record {
+      is = is ∙ (λ i. program_of x.steps.layout.infos.items (d.workers_are i) d.expansion) ∙ d.program;
+      few_tasks = omega (arith, few, ap (λ (q : Program). length q.tasks) is);
+      few_cells = omega (arith, d.few_cells, ap (λ (q : Program). length q.cells) is);
+    }

@@ -1,0 +1,10 @@
+use Rattle.std.proofs.Common.{◌≡◌, length}
+use Rattle.std.specs.Vec.Iter.{into_iter_items, into_iter_len}
+use Rattle.sj_steps.proofs.Going.{GoesOn}
+use Rattle.sj_steps.proofs.lower.lower.Given as goal
+
+abbrev pub invariant-loop-statement : goal.invariant-loop-statement
+invariant-loop-statement l = record {
+  going : GoesOn l.fn.job.roots l.fn.workers l.progress (into_iter_items l.initial.statement-iterator) (into_iter_items l.statement-iterator);
+  left : into_iter_len l.statement-iterator ≡ length (into_iter_items l.statement-iterator);
+}
