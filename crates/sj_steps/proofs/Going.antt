@@ -1,5 +1,5 @@
 -- A job lowered one statement after another, up to its end.
-use Rattle.std.proofs.Common.{◌≡◌, ℕ, ◌<◌, ◌≤◌, Option, Some, None, Result, Ok, Err, IfErr, IsErrAnd, List, [], ◌∷◌, length, map, fold, vec_len, sym, ap, subst, ◌∙◌, arith}
+use Rattle.std.proofs.Common.{◌≡◌, ℕ, ◌<◌, ◌≤◌, Option, Some, None, List, [], ◌∷◌, length, map, fold, vec_len, sym, ap, subst, ◌∙◌, arith}
 use Rattle.std.specs.List.{range_with_len}
 use Rattle.sj_base.specs.declared.ids.Cell.{Cell}
 use Rattle.sj_base.specs.declared.ids.Line.{Line}
@@ -27,11 +27,6 @@ use Rattle.sj_steps.specs.Progress.{no_line, IsFullWith, IsOverLimit, IsLate}
 use Rattle.sj_steps.specs.Running.{AreReady, Leaves, steps_at}
 use Rattle.sj_steps.specs.Step.{Step, by_number, step_of, program_by, cells_above, tasks_above}
 use Rattle.sj_steps.proofs.Running.{leaves-start, leaves-next, leaves-full, leaves-none}
-
--- what is true of the refusal that `?` hands over
-pub handed-on : {A : Type 0} (r : Result A LowerRefusal) (e : LowerRefusal) (P : LowerRefusal → Type 0) → IsErrAnd r (λ x. x ≡ e) → P e → IfErr r P
-handed-on (Ok x) e P is h = tt
-handed-on (Err x) e P is h = subst P (sym is) h
 
 -- the limit that steps exceed, and the line that first does
 abbrev pub late_by : ℕ → List Step → Option Refusal

@@ -2,7 +2,7 @@ use Rattle.std.proofs.Common.{◌≡◌, ℕ, List, [], ◌∷◌, length, refl,
 use Rattle.std.specs.Vec.Iter.{into_iter_items}
 use Rattle.sj_meaning.specs.declared.job.Statement.{Statement as Kept}
 use Rattle.sj_meaning.specs.Table.{Table, IsTable}
-use Rattle.sj_meaning.specs.View.{seen_from, statements_of}
+use Rattle.sj_meaning.specs.View.{statements_of}
 use Rattle.sj_phases.specs.Expand.{nothing}
 use Rattle.sj_steps.specs.declared.lower.LowerRefusal.{LowerRefusal}
 use Rattle.sj_steps.specs.declared.lower.LoweringProgress.{LoweringProgress}
@@ -10,8 +10,8 @@ use Rattle.sj_steps.specs.Laid.{no_cells}
 use Rattle.sj_steps.specs.Limits.{late_limit, late_tasks}
 use Rattle.sj_steps.specs.Progress.{IsFullWith, IsLate}
 use Rattle.sj_steps.specs.Running.{AreReady}
-use Rattle.sj_steps.specs.Step.{Step}
-use Rattle.sj_steps.proofs.Going.{handed-on, late_by, steps_from_start, GoesOn, going-start, going-has, going-more, going-full, done-has, done-few, IsShut, shut, shut-over, IsMade, made}
+use Rattle.sj_steps.proofs.Going.{late_by, steps_from_start, GoesOn, going-start, going-has, going-more, going-full, done-has, done-few, IsShut, shut, shut-over, IsMade, made}
+use Rattle.sj_steps.proofs.Statements.{handed}
 use Rattle.sj_steps.proofs.Making.{is-ready, is-late, limit-is, is-lowered, is-proper, names-deliver-tasks, in-order, is-printed, all-known}
 use Rattle.sj_steps.proofs.lower.lower.Goals as goal
 
@@ -63,7 +63,7 @@ returns-in_err-add-clause-refused c =
     let full : (e : LowerRefusal) → IsFullWith T at.progress.steps c.in-Some.statement e → IsLate e (late_limit workers (statements_of c.args.job)) =
     λ e h. is-late T c.args.job.statements table c.requires.numbered c.requires.job.has c.requires.job.well workers e
         (subst (λ (xs : List Kept). IsLate e (late_by workers (steps_from_start workers T xs))) same (going-full T workers at.progress all rest c.in-Some.statement going e h)) in
-    handed-on c.from_residual.result c.in_err-add.field-0.0 (λ e. IsLate e (late_limit workers (statements_of c.args.job))) c.from_residual.ensures.1 (full c.in_err-add.field-0.0 c.in_err-add.ensures.full)
+    handed c.from_residual.result c.in_err-add.field-0.0 (λ e. IsLate e (late_limit workers (statements_of c.args.job))) c.from_residual.ensures.1 (full c.in_err-add.field-0.0 c.in_err-add.ensures.full)
 
 -- ---- all statements are lowered
 
@@ -107,7 +107,7 @@ returns-in_err-program-clause-refused c =
     let same : all ≡ c.args.job.statements = c.into_iter-statement-iterator.ensures.into_iter_gives.0 ∙ c.into_items-statement-items.ensures in
     let going = ended T workers at.progress all (into_iter_items at.statement-iterator) c.args.job.statements at.invariant.going (sym at.invariant.left ∙ c.in-None.ensures.steps.0) same in
     let done = shut T workers at.progress c.close_last.new.self c.args.job.statements going c.in_ok-close_last.ensures.layout c.in_ok-close_last.ensures.closes in
-    handed-on c.from_residual-in_err-program.result e (λ e. IsLate e (late_limit workers (statements_of c.args.job))) c.from_residual-in_err-program.ensures.1
+    handed c.from_residual-in_err-program.result e (λ e. IsLate e (late_limit workers (statements_of c.args.job))) c.from_residual-in_err-program.ensures.1
     (is-late T c.args.job.statements table c.requires.numbered c.requires.job.has c.requires.job.well workers e (shut-over workers c.close_last.new.self (steps_from_start workers T c.args.job.statements) e done c.in_err-program.ensures.err))
 
 -- ---- the program is that of the job, and within the limits
