@@ -62,7 +62,7 @@ returns-in_err-add-clause-refused c =
     let going = subst (λ (xs : List Kept). GoesOn T workers at.progress all xs) c.in-Some.ensures.steps.0 at.invariant.going in
     let full : (e : LowerRefusal) → IsFullWith T at.progress.steps c.in-Some.statement e → IsLate e (late_limit workers (statements_of c.args.job)) =
     λ e h. is-late T c.args.job.statements table c.requires.numbered c.requires.job.has c.requires.job.well workers e
-        (subst (λ (xs : List Kept). IsLate e (late_by workers (steps_from_start workers T xs))) same (going-full T workers at.progress all rest c.in-Some.statement going e h)) in
+    (subst (λ (xs : List Kept). IsLate e (late_by workers (steps_from_start workers T xs))) same (going-full T workers at.progress all rest c.in-Some.statement going e h)) in
     handed c.from_residual.result c.in_err-add.field-0.0 (λ e. IsLate e (late_limit workers (statements_of c.args.job))) c.from_residual.ensures.1 (full c.in_err-add.field-0.0 c.in_err-add.ensures.full)
 
 -- ---- all statements are lowered
