@@ -8,6 +8,10 @@ use Rattle.sj_steps.proofs.Laying.{lays-old, lays-new, lays-full}
 use Rattle.sj_steps.proofs.Places.{length-places}
 use Rattle.sj_steps.proofs.layout.Layout.take.Goals as goal
 
+pub returns-in-Some-clause-taken : goal.returns-in-Some-clause-taken
+returns-in-Some-clause-taken c = λ C s inside dims.
+    lays-old c.args.self.now C c.args.root.0 c.args.parts c.in-Some.first.now s (sym c.get.ensures.value ∙ ap option_copied c.in-Some.is)
+
 pub returns-then-first-parts-gt-MOST-clause-full : goal.returns-then-first-parts-gt-MOST-clause-full
 returns-then-first-parts-gt-MOST-clause-full c = λ C s inside dims.
     lays-full c.args.self.now C c.args.root.0 c.args.parts s (sym c.get.ensures.value ∙ ap option_copied c.in_default.is) (omega (arith, c.len-first.ensures, c.args.self.now.infos.ok, c.if-first-parts-gt-MOST.true))
