@@ -1,4 +1,4 @@
-use Rattle.std.proofs.Common.{◌≡◌, ◌∙◌, ◌∷◌, [], All, List, ℕ, true, fold, map, refl, sym, ap, subst}
+use Rattle.std.proofs.Common.{◌≡◌, ◌∙◌, All, List, ℕ, true, fold, map, refl, sym, ap, subst}
 use Rattle.std.specs.List.{filter}
 use Rattle.sj_base.specs.Mode.{is_redux}
 use Rattle.sj_meaning.specs.declared.job.Act.TheVariants as kept
@@ -62,8 +62,8 @@ accesses-requires c =
     let T = c.requires.0 in
     let h = c.requires.1 in
     let same = ap (filter is_contributed) c.items-operands.ensures in
-    let kept = actives-kept T x t c.open_operands.new.layout c.close_operands.new.phases c.open_operands.new.phases c.args.line h (λ f. (c.in_ok-open_operands.ensures.none (same ∙ f)).0) (λ o rest f. c.in_ok-open_operands.ensures.opens o rest (same ∙ f)) in
-    subst (λ v. All (IsInside v.items) c.items-operands.result.now) (sym kept)
+    let plans = actives-kept T x t c.open_operands.new.layout c.close_operands.new.phases c.open_operands.new.phases c.args.line h (λ f. (c.in_ok-open_operands.ensures.none (same ∙ f)).0) (λ o rest f. c.in_ok-open_operands.ensures.opens o rest (same ∙ f)) in
+    subst (λ v. All (IsInside v.items) c.items-operands.result.now) (sym plans)
     (subst (λ (os : List Operand). All (IsInside x.layout.actives.items) os) (sym c.items-operands.ensures) (all-inside x.layout x.phases.workers h.roots h.cells h.at.layout h.next.whole t.operands h.next.sound.placed))
 
 pub returns-in_err-accesses-clause-full : goal.returns-in_err-accesses-clause-full
@@ -94,7 +94,7 @@ returns-clause-adds c = λ T.
     let is : c.items-operands.result.now ≡ t.operands = c.items-operands.ensures in
     let same = ap (filter is_contributed) is in
     let closes = subst (λ (os : List Operand). Does x.phases a c.args.line (λ F. fold (closed x.phases.workers) F (map (cell_by x.layout.actives.items) (filter is_other os)))) is c.in_ok-close_operands.ensures in
-    let kept = actives-kept c.requires.0 x t new.layout a b c.args.line c.requires.1 (λ f. (c.in_ok-open_operands.ensures.none (same ∙ f)).0) (λ o rest f. c.in_ok-open_operands.ensures.opens o rest (same ∙ f)) in
-    let accesses = c.in_ok-accesses.ensures ∙ (λ i. map (access_by (kept i).items) (is i)) in
+    let plans = actives-kept c.requires.0 x t new.layout a b c.args.line c.requires.1 (λ f. (c.in_ok-open_operands.ensures.none (same ∙ f)).0) (λ o rest f. c.in_ok-open_operands.ensures.opens o rest (same ∙ f)) in
+    let accesses = c.in_ok-accesses.ensures ∙ (λ i. map (access_by (plans i).items) (is i)) in
     task-goes T x new t c.args.line a b c.in_ok-close_operands.ensures.workers closes (λ f. c.in_ok-open_operands.ensures.none (same ∙ f)) (λ o rest f. c.in_ok-open_operands.ensures.opens o rest (same ∙ f))
     c.lowered_task.result (c.lowered_task.ensures ∙ ap (lowered_task t c.args.line) accesses) c.in_ok-push.ensures refl
