@@ -2,7 +2,7 @@
 use Rattle.std.proofs.Common.{◌≡◌, ℕ, ◌+◌, ◌<◌, ◌≤◌, Bool, true, false, cond, not, ◌&&◌, ◌||◌, List, [], ◌∷◌, ◌++◌, length, map, take, drop, get_or, refl, sym, ap, ◌∙◌, arith}
 use Rattle.std.specs.List.{filter, list_any, count_by}
 use Rattle.std.proofs.lemmas.Bool.{or_left}
-use Rattle.std.proofs.lemmas.List.{take_all, take-append-drop, drop_more, nil_from_length}
+use Rattle.std.proofs.lemmas.List.{append-nil, map-append, take_all, take-append-drop, drop_more, nil_from_length}
 use Rattle.std.proofs.lemmas.List.Elements.{filter-append, filter_more}
 use Rattle.std.proofs.lemmas.List.Sums.{length-filter, sum_by-le-sum_by}
 use Rattle.sj_base.specs.declared.mode.Mode.{Mode}
@@ -32,6 +32,15 @@ first-found p xs i d lt none here = (
   ap (filter p) (sym (take-append-drop i xs) ∙ ap (λ ys. take i xs ++ ys) (drop_more xs i d lt)) ∙ filter-append p (take i xs) (get_or xs i d ∷ drop (i + 1) xs)
       ∙ (λ k. none k ++ cond (here k) (get_or xs i d ∷ filter p (drop (i + 1) xs)) (filter p (drop (i + 1) xs))),
 )
+
+-- what f gives of those that pass, after one more
+pub more-found : {X Y : Type 0} (f : X → Y) (p : X → Bool) (xs : List X) (i : ℕ) (d : X) → i < length xs → p (get_or xs i d) ≡ true → map f (filter p (take (i + 1) xs)) ≡ map f (filter p (take i xs)) ++ f (get_or xs i d) ∷ []
+more-found f p xs i d lt here =
+    ap (map f) (filter_more p xs i d lt) ∙ (λ k. map f (filter p (take i xs) ++ cond (here k) (get_or xs i d ∷ []) [])) ∙ map-append f (filter p (take i xs)) (get_or xs i d ∷ [])
+
+pub none-more : {X Y : Type 0} (f : X → Y) (p : X → Bool) (xs : List X) (i : ℕ) (d : X) → i < length xs → p (get_or xs i d) ≡ false → map f (filter p (take (i + 1) xs)) ≡ map f (filter p (take i xs))
+none-more f p xs i d lt other =
+    ap (map f) (filter_more p xs i d lt) ∙ (λ k. map f (filter p (take i xs) ++ cond (other k) (get_or xs i d ∷ []) [])) ∙ ap (map f) (append-nil (filter p (take i xs)))
 
 fewer : {X : Type 0} (p q : X → Bool) (xs : List X) → ((x : X) → p x ≡ true → q x ≡ true) → length (filter p xs) ≤ length (filter q xs)
 fewer p q xs h =

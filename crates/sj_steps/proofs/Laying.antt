@@ -1,9 +1,9 @@
 -- The code's layout is that of the definition, after a root takes a plan or a cell gets its partial copies.
-use Rattle.std.proofs.Common.{◌≡◌, ℕ, zero, suc, ◌+◌, ◌*◌, ◌<◌, ◌≤◌, cond, ◌&&◌, Option, Some, None, List, [], ◌∷◌, ◌++◌, length, map as each_of, fold, get_or, refl, sym, ap, subst, ◌∙◌, inl, inr, arith, length-append, get_or-set_same, get_or-set_other}
+use Rattle.std.proofs.Common.{◌≡◌, ℕ, zero, suc, ◌+◌, ◌*◌, ◌<◌, ◌≤◌, cond, ◌&&◌, Option, Some, None, IfSome, IfNone, List, [], ◌∷◌, ◌++◌, length, map as each_of, fold, get_or, refl, sym, ap, subst, ◌∙◌, inl, inr, arith, length-append, get_or-set_same, get_or-set_other}
 use Rattle.std.specs.Prelude.{nat_eq, replicate, set, unwrap_or}
 use Rattle.std.proofs.Math.Seq.{get_or-append_seam}
 use Rattle.std.proofs.lemmas.Bool.{cases_eq, eq-eqb, ne_eqb}
-use Rattle.std.proofs.lemmas.List.{get_or_append_left, length-set, set-append_left}
+use Rattle.std.proofs.lemmas.List.{get_or_append_left, get_or_default, length-set, set-append_left}
 use Rattle.std.proofs.lemmas.Simd.{map-map}
 use Rattle.indexmap.specs.IndexMap.{get}
 use Rattle.sj_base.specs.declared.ids.Cell.{Cell}
@@ -11,6 +11,7 @@ use Rattle.sj_base.specs.declared.ids.Root.{Root as RootNumber}
 use Rattle.sj_base.specs.declared.program.CellInfo.{CellInfo}
 use Rattle.sj_base.specs.declared.tile.Dims.{Dims}
 use Rattle.sj_base.specs.Array.{area}
+use Rattle.sj_base.proofs.Options.{IfSome-at}
 use Rattle.sj_core.specs.Program.{no_cell}
 use Rattle.sj_plan.specs.declared.parts.Parts.{Parts}
 use Rattle.sj_plan.specs.Parts.{IsPlace, places}
@@ -35,7 +36,21 @@ use Rattle.sj_steps.proofs.Copying.{by_copies, copied-length, first-new, first-o
 use Rattle.sj_steps.proofs.Keeping.{lives-below, changed-here, changed-beside}
 use Rattle.sj_steps.proofs.Places.{parts-itself}
 use Rattle.sj_steps.proofs.Starting.{pushed-there, pushed-beside}
-use Rattle.sj_steps.proofs.Taken.{none_isn't, some_is, by_first, took-there, took-other, longer, take-keeps, take-handles}
+use Rattle.sj_steps.proofs.Taken.{none_isn't, some_is, by_first, took-there, took-other, longer, take-keeps, take-handles, root-there}
+
+-- ---- what the code's calls say
+
+-- what is so where there is no value
+pub none-at : {X : Type 0} (o : Option X) (P : Type 0) → o ≡ None → IfNone o P → P
+none-at o P e h = subst (λ x. IfNone x P) e h
+
+-- a root's plan has its cells, from this one on
+abbrev pub Takes : Layout → Layout → ℕ → Dims → Parts → Placed → Type 0
+Takes l m n d p placed = (C : Laid) → Lays l C → n < length C.handles → (handle_at C n).dims ≡ d → Lays m (take n p C) × ((handle_at (take n p C) n).first p ≡ Some placed.first)
+
+-- with them there are too many
+abbrev pub TakesTooMany : Layout → ℕ → Dims → Parts → Type 0
+TakesTooMany l n d p = (C : Laid) → Lays l C → n < length C.handles → (handle_at C n).dims ≡ d → most < length (take n p C).rows
 
 -- ---- a plan more
 
@@ -146,7 +161,69 @@ module _ (old new : Layout) (rs : List RootState) (C : Laid) (n : ℕ) (p : Part
       let active = active-set old.actives.items rs C (take n p C) n (with_parts p) next follows.active lives counted (take-handles C n p) is (keeps-take C n p (omega (arith, lives-below rs n lives, counted))) in
       record { lays = lays; active = subst (λ bs. AreActive bs (change_at (with_parts p) n rs) (take n p C)) (sym actives) active }
 
--- roots that keep their plans and reductions, in cells that keep their handles
+-- ---- the same by what the code's calls gave
+
+-- the same cells, whichever plans are active
+lays-as : (old new : Layout) (C : Laid) → new.infos ≡ old.infos → new.firsts ≡ old.firsts → Lays old C → Lays new C
+lays-as old new C infos firsts s = record { rows = ap (λ v. v.items) infos ∙ s.rows; few = s.few; firsts = λ n p. ap (λ m. get same_taken m (taken n p)) firsts ∙ s.firsts n p }
+
+-- the active plan that the code reads
+pub active-is : (actives : List Active) (n : ℕ) (a : Active) → n < length actives → a ≡ get_or actives n a → a ≡ active_at actives n
+active-is actives n a inside is = is ∙ get_or_default actives n a no_active inside
+
+-- the number of the next root
+next-inside : (C : Laid) (d : Dims) (k : ℕ) → k ≡ length C.handles → k < length (with_root d C).handles
+next-inside C d k at = omega (arith, at, length-append C.handles (handle_of d ∷ []))
+
+next-dims : (C : Laid) (b d : Dims) (k : ℕ) → k ≡ length C.handles → b ≡ d → (handle_at (with_root b C) k).dims ≡ d
+next-dims C b d k at same = ap (λ (h : Handle). h.dims) (root-there C b k at) ∙ same
+
+pub registers : (old mid new : Layout) (d : Dims) (p : Parts) (placed : Placed) (k : ℕ) (o : Option Placed) → o ≡ Some placed → IfSome o (λ x. x.parts ≡ p) → IfSome o (Takes old mid k d p) → mid.actives ≡ old.actives → new.infos ≡ mid.infos → new.firsts ≡ mid.firsts
+    → (let a : Active = record { placed = placed; reduction = None } in new.actives.items ≡ mid.actives.items ++ a ∷ []) → k ≡ length old.actives.items
+    → (rs : List RootState) (C : Laid) (r : Register ℕ) → Follows old rs C → length C.handles ≡ length rs → r.dims ≡ d → r.parts ≡ p
+    → Follows new (rs ++ registered_root r ∷ []) (take (length C.handles) r.parts (with_root r.dims C)) × ((handle_at (take (length C.handles) r.parts (with_root r.dims C)) (length C.handles)).first r.parts ≡ Some placed.first)
+registers old mid new d p placed k o some parts taken kept infos firsts pushes number rs C r follows counted dims same =
+    let B = with_root r.dims C in
+    let n = length C.handles in
+    let a : Active = record { placed = placed; reduction = None } in
+    let at : k ≡ n = number ∙ follows.active.counted in
+    let takes : Takes old mid k d p placed = IfSome-at (Takes old mid k d p) o placed some taken in
+    let t = takes B (lays-root old C r.dims follows.lays) (next-inside C r.dims k at) (next-dims C r.dims d k at dims) in
+    let lays : Lays mid (take n r.parts B) = subst (λ (i : ℕ). Lays mid (take i r.parts B)) at (subst (λ (q : Parts). Lays mid (take k q B)) (sym same) t.0) in
+    let first : (handle_at (take n r.parts B) n).first r.parts ≡ Some placed.first =
+    subst (λ (i : ℕ). (handle_at (take i r.parts B) i).first r.parts ≡ Some placed.first) at (subst (λ (q : Parts). (handle_at (take k q B) k).first q ≡ Some placed.first) (sym same) t.1) in
+    let its = IfSome-at (λ (x : Placed). x.parts ≡ p) o placed some parts in
+    (follows-register old new rs C r placed follows counted (lays-as mid new (take n r.parts B) infos firsts lays) first (its ∙ sym same) (pushes ∙ (λ i. (kept i).items ++ a ∷ [])), first)
+
+pub registers-full : (old : Layout) (d : Dims) (p : Parts) (k : ℕ) (o : Option Placed) → o ≡ None → IfNone o (TakesTooMany old k d p) → k ≡ length old.actives.items
+    → (rs : List RootState) (C : Laid) (r : Register ℕ) → Follows old rs C → r.dims ≡ d → r.parts ≡ p → most < length (take (length C.handles) r.parts (with_root r.dims C)).rows
+registers-full old d p k o none full number rs C r follows dims same =
+    let B = with_root r.dims C in
+    let at : k ≡ length C.handles = number ∙ follows.active.counted in
+    let many : TakesTooMany old k d p = none-at o (TakesTooMany old k d p) none full in
+    let above = many B (lays-root old C r.dims follows.lays) (next-inside C r.dims k at) (next-dims C r.dims d k at dims) in
+    subst (λ (i : ℕ). most < length (take i r.parts B).rows) at (subst (λ (q : Parts). most < length (take k q B).rows) (sym same) above)
+
+pub plans : (old mid new : Layout) (n : ℕ) (d : Dims) (p : Parts) (placed : Placed) (a : Active) (o : Option Placed) → o ≡ Some placed → IfSome o (λ x. x.parts ≡ p) → IfSome o (Takes old mid n d p) → mid.actives ≡ old.actives → new.infos ≡ mid.infos → new.firsts ≡ mid.firsts
+    → n < length old.actives.items → a ≡ get_or mid.actives.items n a → (let b : Active = record { placed = placed; reduction = a.reduction } in new.actives.items ≡ set mid.actives.items n b)
+    → (rs : List RootState) (C : Laid) → Follows old rs C → Lives rs n → length C.handles ≡ length rs → (handle_at C n).dims ≡ d
+    → Follows new (change_at (with_parts p) n rs) (take n p C) × ((handle_at (take n p C) n).first p ≡ Some placed.first)
+plans old mid new n d p placed a o some parts taken kept infos firsts inside was sets rs C follows lives counted dims =
+    let takes : Takes old mid n d p placed = IfSome-at (Takes old mid n d p) o placed some taken in
+    let t = takes C follows.lays (omega (arith, inside, follows.active.counted)) dims in
+    let its = IfSome-at (λ (x : Placed). x.parts ≡ p) o placed some parts in
+    let is : a ≡ active_at old.actives.items n = was ∙ (λ i. get_or (kept i).items n a) ∙ get_or_default old.actives.items n a no_active inside in
+    let changed : Active → Active = λ x. record { placed = placed; reduction = x.reduction } in
+    (follows-plan old new rs C n p placed follows lives counted (lays-as mid new (take n p C) infos firsts t.0) t.1 its (sets ∙ (λ i. set (kept i).items n (changed (is i)))), t.1)
+
+pub plans-full : (old : Layout) (n : ℕ) (d : Dims) (p : Parts) (o : Option Placed) → o ≡ None → IfNone o (TakesTooMany old n d p) → n < length old.actives.items
+    → (rs : List RootState) (C : Laid) → Follows old rs C → (handle_at C n).dims ≡ d → most < length (take n p C).rows
+plans-full old n d p o none full inside rs C follows dims =
+    let many : TakesTooMany old n d p = none-at o (TakesTooMany old n d p) none full in
+    many C follows.lays (omega (arith, inside, follows.active.counted)) dims
+
+-- ---- roots that keep their plans and reductions, in cells that keep their handles
+
 pub follows-kept : (old new : Layout) (rs qs : List RootState) (C D : Laid) → Follows old rs C → Lays new D → D.handles ≡ C.handles → new.actives ≡ old.actives
     → ((m : ℕ) → Lives qs m → Lives rs m × ((root_at qs m).parts ≡ (root_at rs m).parts) × ((root_at qs m).reduction ≡ (root_at rs m).reduction)) → Follows new qs D
 follows-kept old new rs qs C D follows lays handles actives kept = record {

@@ -1,5 +1,5 @@
 -- What a task line does, by what the code's calls gave.
-use Rattle.std.proofs.Common.{◌≡◌, ℕ, ◌+◌, ◌<◌, Bool, true, false, not, ◌||◌, Option, Some, None, List, [], ◌∷◌, ◌++◌, length, map, fold, get_or, refl, sym, ap, subst, ◌∙◌}
+use Rattle.std.proofs.Common.{◌≡◌, ℕ, ◌+◌, ◌<◌, ◌≤◌, Bool, true, false, not, ◌||◌, Option, Some, None, IfSome, IfNone, Result, Ok, Err, IfErr, IsErrAnd, List, [], ◌∷◌, ◌++◌, length, map, fold, get_or, refl, sym, ap, subst, ◌∙◌, arith}
 use Rattle.std.specs.Prelude.{All, unwrap_or}
 use Rattle.std.specs.List.{AllByRecursion, filter, flat_map}
 use Rattle.std.proofs.lemmas.Bool.{false≢true, and_parts}
@@ -16,8 +16,9 @@ use Rattle.sj_base.specs.declared.program.Lowered.{Lowered}
 use Rattle.sj_base.specs.Mode.{is_redux, is_commute}
 use Rattle.sj_base.proofs.Bools.{implied}
 use Rattle.sj_base.proofs.Lists.{each-weaker}
+use Rattle.sj_base.proofs.Options.{IfSome-at}
 use Rattle.sj_codelet.specs.declared.kernel.Kernel.{Kernel}
-use Rattle.sj_codelet.specs.Kernel.{codelet_of, commutes_in, out}
+use Rattle.sj_codelet.specs.Kernel.{commutes_in, out}
 use Rattle.sj_plan.specs.declared.parts.Parts.{Parts}
 use Rattle.sj_plan.proofs.Lists.{each-filter, each-from_map, map-filter}
 use Rattle.sj_meaning.specs.declared.job.Operand.{Operand as Kept}
@@ -32,13 +33,16 @@ use Rattle.sj_meaning.specs.Table.{Table}
 use Rattle.sj_phases.specs.declared.expander.Expander.{Expander}
 use Rattle.sj_phases.specs.declared.phase.Opening.{Opening}
 use Rattle.sj_phases.specs.Block.{Block}
-use Rattle.sj_phases.specs.Does.{Does}
-use Rattle.sj_phases.specs.Expand.{Expansion, closed, expanded, with_own}
+use Rattle.sj_phases.specs.Does.{HasAt, Does}
+use Rattle.sj_phases.specs.Expand.{Expansion, closed, opened, expanded, with_own, most}
+use Rattle.sj_phases.proofs.Doing.{has-after}
+use Rattle.sj_steps.specs.declared.contributions.StepRefusal.{StepRefusal}
+use Rattle.sj_steps.specs.declared.contributions.StepRefusal.TheVariants.{TooManyCells, OutOfMemory}
 use Rattle.sj_steps.specs.declared.layout.Layout.{Layout}
 use Rattle.sj_steps.specs.declared.steps.Steps.{Steps}
-use Rattle.sj_steps.specs.Adds.{is_contributed, CanOpen, Opens, StepsAt, IsNext, HasNext, Goes}
+use Rattle.sj_steps.specs.Adds.{is_contributed, CanOpen, Opens, IsFullFor, lowered_task, StepsAt, IsNext, HasNext, Goes, IsFull}
 use Rattle.sj_steps.specs.Cells.{cells_from}
-use Rattle.sj_steps.specs.Follows.{Lays, Follows, IsInside, cell_by, access_by, is_other}
+use Rattle.sj_steps.specs.Follows.{Lays, Follows, IsInside, active_at, cell_by, access_by, is_other}
 use Rattle.sj_steps.specs.Laid.{Laid, handle_of, cell_of, first_copy, with_copies}
 use Rattle.sj_steps.specs.SoundAt.{Lives, has_value, IsPlaced, IsSoundTask}
 use Rattle.sj_steps.specs.Step.{by_number, operand_cell, is_other_access, opening_of, access_of, task_row}
@@ -46,14 +50,32 @@ use Rattle.sj_steps.specs.Whole.{IsWhole, HaveCopies}
 use Rattle.sj_steps.proofs.Arms.{does-block, does-task, goes-kept, keeps-put, kept-of}
 use Rattle.sj_steps.proofs.Copying.{IsNoCopy, by_copies, copies-copied, copied-first, first-old}
 use Rattle.sj_steps.proofs.Finding.{contributed-at, only-one, value-of}
-use Rattle.sj_steps.proofs.Laying.{follows-kept, cell-same, is-inside, copies-prints}
+use Rattle.sj_steps.proofs.Laying.{none-at, follows-kept, cell-same, is-inside, copies-prints}
 use Rattle.sj_steps.proofs.Speaking.{map-same}
-use Rattle.sj_steps.proofs.Taken.{cell-is, cell-inside}
+use Rattle.sj_steps.proofs.Taken.{none_isn't, some_is, cell-is, cell-inside}
 
 -- ---- the first that passes
 
 head-has : {X : Type 0} (Q : X → Type 0) (p : X → Bool) (xs : List X) (x : X) (rest : List X) → AllByRecursion Q xs → filter p xs ≡ x ∷ rest → Q x × (p x ≡ true)
 head-has Q p xs x rest h e = (subst (AllByRecursion (λ y. Q y × (p y ≡ true))) e (each-filter (λ y. Q y × (p y ≡ true)) p xs (each-weaker Q (λ y. p y ≡ true → Q y × (p y ≡ true)) (λ y q t. (q, t)) xs h))).0
+
+-- the operand is the first that is contributed to
+abbrev IsFirst : List Kept → Kept → Type 0
+IsFirst os o = (rest : List Kept) × (filter is_contributed os ≡ o ∷ rest)
+
+module _ (os : List Kept) (x : Option Kept) (o : Kept) (some : x ≡ Some o) (first : IfSome x (λ (p : Kept). (rest : List Kept) × (filter is_contributed os ≡ p ∷ rest))) where
+  is-first : IsFirst os o
+  is-first = IfSome-at (IsFirst os) x o some first
+
+  pub first-has : (Q : Kept → Type 0) → All Q os → Q o × (is_contributed o ≡ true)
+  first-has Q all = head-has Q is_contributed os o is-first.0 (recursion_from_All Q os all) is-first.1
+
+  -- there is no other first one
+  pub of-first : (P : Kept → Type 0) → P o → (p : Kept) (rest : List Kept) → filter is_contributed os ≡ p ∷ rest → P p
+  of-first P h p rest e = subst P (ap (λ (ps : List Kept). get_or ps 0 p) (sym is-first.1 ∙ e)) h
+
+  pub not-none : filter is_contributed os ≡ [] → ⊥
+  not-none none = omega (arith, ap length (sym is-first.1 ∙ none))
 
 -- the reduction of what is contributed to
 reduction-is : (has : Kernel → Bool) (id : Codelet) (r : Option Reduction) (m : Mode) → is_lawful_for has id r m ≡ true → is_redux m ≡ true → (by : Reduction) × (r ≡ Some by)
@@ -123,7 +145,50 @@ module _ (l : Layout) (w : ℕ) (rs : List RootState) (C : Laid) (follows : Foll
     accesses-after [] h = refl
     accesses-after (o ∷ os) h = λ i. (let a : Access = record { mode = o.mode; cell = cell-after o h.0.lives i } in a) ∷ accesses-after os h.1 i
 
+-- ---- the phase of one operand
+
+-- a cell has its partial copies, from this one on
+abbrev Copies : Layout → Layout → ℕ → Cell → Cell → Type 0
+Copies l m w c first = (C : Laid) → Lays l C → Lays m (with_copies w C c) × (first_copy C c ≡ first)
+
+module _ (l m : Layout) (a : Expander) (o : Kept) (c first : Cell) (x : Option Cell) (is : c ≡ cell_by l.actives.items o) (some : x ≡ Some first) (copied : IfSome x (λ (d : Cell). (C : Laid) → Lays l C → Lays m (with_copies a.workers C c) × (first_copy C c ≡ d))) where
+  copies-are : Copies l m a.workers (cell_by l.actives.items o) first
+  copies-are = subst (λ (d : Cell). Copies l m a.workers d first) is (IfSome-at (Copies l m a.workers c) x first some copied)
+
+  -- they are within the limit
+  pub copies-room : CanOpen l a.workers o → first.0 + a.workers ≤ most
+  copies-room can =
+      let at = cell_by l.actives.items o in
+      let h = copies-are can.cells can.lays in
+      let inside = can.copies.inside at (first_copy can.cells at) (copied-first a.workers at can.cells can.there) in
+      subst (λ (d : Cell). d.0 + a.workers ≤ most) h.1 (omega (arith, inside, h.0.few))
+
+  pub opens-by : (b : Expander) (valued : Bool) (line : Line) (by : Reduction) → (active_at l.actives.items o.root.0).reduction ≡ Some by → m.actives ≡ l.actives
+      → (let y : Opening = record { cell = c; by = by; copies = first; valued = valued } in Does a b line (λ E. opened a.workers line E y)) → Opens l m a b o valued line
+  opens-by b valued line by reduced actives does = λ C also s so.
+      let at = cell_by l.actives.items o in
+      let h = copies-are C s in
+      let same : by ≡ also = some_is by also (sym reduced ∙ so) in
+      let opening : Cell → Reduction → Cell → Opening = λ d r f. record { cell = d; by = r; copies = f; valued = valued } in
+      let is_it : opening c by first ≡ opening at also (first_copy C at) = λ i. opening (is i) (same i) (sym h.1 i) in
+      (h.0, actives, subst (λ (y : Opening). Does a b line (λ E. opened a.workers line E y)) is_it does)
+
+-- its root has no reduction
+pub opens-none : (l m : Layout) (a b : Expander) (o : Kept) (valued : Bool) (line : Line) → (active_at l.actives.items o.root.0).reduction ≡ None → Opens l m a b o valued line
+opens-none l m a b o valued line none = λ C by s so. absurd (none_isn't by (sym none ∙ so))
+
+-- too many cells
+pub opens-full : (l : Layout) (w : ℕ) (o : Kept) (c : Cell) (x : Option Cell) → c ≡ cell_by l.actives.items o → x ≡ None → IfNone x ((C : Laid) → Lays l C → most < length (with_copies w C c).rows) → IsFullFor l w o TooManyCells
+opens-full l w o c x is none full = λ C s.
+    let many : (C : Laid) → Lays l C → most < length (with_copies w C c).rows = none-at x ((C : Laid) → Lays l C → most < length (with_copies w C c).rows) none full in
+    subst (λ (d : Cell). most < length (with_copies w C d).rows) is (many C s)
+
 -- ---- the line
+
+-- what is true of the reason that `?` hands over
+pub handed : {A E : Type 0} (r : Result A E) (e : E) (P : E → Type 0) → IsErrAnd r (λ x. x ≡ e) → P e → IfErr r P
+handed (Ok x) e P is h = tt
+handed (Err x) e P is h = subst P (sym is) h
 
 -- the layout's active plans are as they were
 pub actives-kept : (T : Table) (x : Steps) (t : KeptTask) (m : Layout) (a b : Expander) (line : Line) → HasNext T x (kept.Task t) → (filter is_contributed t.operands ≡ [] → m ≡ x.layout) → ((o : Kept) (rest : List Kept) → filter is_contributed t.operands ≡ o ∷ rest → Opens x.layout m a b o t.valued line) → m.actives ≡ x.layout.actives
@@ -135,11 +200,37 @@ actives-kept T x t m a b line h none opens = by_list (filter is_contributed t.op
         let to = contributes-to h.next.has h.roots (task_at t) (operand_at o) (map operand_at rest) h.next.sound (contributed-at t.operands ∙ ap (map operand_at) e) in
         (opens o rest e h.cells to.1.0 h.at.layout.lays ((h.at.layout.active.each o.root.0 to.0.lives).reduction ∙ to.1.1)).1
 
+-- the tasks and phases are those of an expansion, as they were
+pub still-has : (T : Table) (x : Steps) (t : KeptTask) (m : Layout) (a b : Expander) (line : Line) → HasNext T x (kept.Task t) → HasAt a → (filter is_contributed t.operands ≡ [] → b ≡ a) → ((o : Kept) (rest : List Kept) → filter is_contributed t.operands ≡ o ∷ rest → Opens x.layout m a b o t.valued line) → HasAt b
+still-has T x t m a b line h has none opens = by_list (filter is_contributed t.operands) refl
+  where
+    by_list : (fs : List Kept) → filter is_contributed t.operands ≡ fs → HasAt b
+    by_list [] e = subst HasAt (sym (none e)) has
+    by_list (o ∷ rest) e =
+        let to = contributes-to h.next.has h.roots (task_at t) (operand_at o) (map operand_at rest) h.next.sound (contributed-at t.operands ∙ ap (map operand_at) e) in
+        has-after a b line _ (opens o rest e h.cells to.1.0 h.at.layout.lays ((h.at.layout.active.each o.root.0 to.0.lives).reduction ∙ to.1.1)).2 has
+
+-- too many cells
+pub task-full : (T : Table) (old : Steps) (t : KeptTask) (line : Line) (w : ℕ) → w ≡ old.phases.workers → (e : StepRefusal) → ((o : Kept) (rest : List Kept) → filter is_contributed t.operands ≡ o ∷ rest → IsFullFor old.layout w o e) → (filter is_contributed t.operands ≡ [] → ⊥) → IsFull T old (kept.Task t) line e
+task-full T old t line w workers OutOfMemory full some = tt
+task-full T old t line w workers TooManyCells full some = λ rs C E at next. by_list rs C E at next (filter is_contributed t.operands) refl
+  where
+    by_list : (rs : List RootState) (C : Laid) (E : Expansion) → StepsAt old rs C E → IsNext T old.phases.workers (kept.Task t) rs C E → (fs : List Kept) → filter is_contributed t.operands ≡ fs
+        → most < length (fold (with_copies old.phases.workers) C (map (operand_cell (by_number rs) C) (filter (λ (o : Operand ℕ). is_redux o.mode) (map operand_at t.operands)))).rows
+    by_list rs C E at next [] e = absurd (some e)
+    by_list rs C E at next (o ∷ rest) e =
+        let first : filter (λ (o : Operand ℕ). is_redux o.mode) (map operand_at t.operands) ≡ operand_at o ∷ map operand_at rest = contributed-at t.operands ∙ ap (map operand_at) e in
+        let alone : filter (λ (o : Operand ℕ). is_redux o.mode) (map operand_at t.operands) ≡ operand_at o ∷ [] = first ∙ ap (λ us. operand_at o ∷ us) (only-one (map operand_at t.operands) (operand_at o) (map operand_at rest) first next.sound.alone) in
+        let to = contributes-to next.has rs (task_at t) (operand_at o) [] next.sound alone in
+        let many : most < length (with_copies old.phases.workers C (cell_by old.layout.actives.items o)).rows = subst (λ (n : ℕ). most < length (with_copies n C (cell_by old.layout.actives.items o)).rows) workers (full o rest e C at.layout.lays) in
+        subst (λ (us : List (Operand ℕ)). most < length (fold (with_copies old.phases.workers) C (map (operand_cell (by_number rs) C) us)).rows) (sym alone)
+        (subst (λ (x : Cell). most < length (with_copies old.phases.workers C x).rows) (cell-same old.layout rs C o at.layout to.0.lives) many)
+
 module _ (T : Table) (old new : Steps) (t : KeptTask) (line : Line) (a b : Expander) (workers : a.workers ≡ old.phases.workers)
     (closes : Does old.phases a line (λ F. fold (closed old.phases.workers) F (map (cell_by old.layout.actives.items) (filter is_other t.operands))))
     (none : filter is_contributed t.operands ≡ [] → (new.layout ≡ old.layout) × (b ≡ a))
     (opens : (o : Kept) (rest : List Kept) → filter is_contributed t.operands ≡ o ∷ rest → Opens old.layout new.layout a b o t.valued line)
-    (row : Lowered) (row_is : (let r : Lowered = record { codelet = codelet_of t.kernel; args = t.args; accesses = map (access_by old.layout.actives.items) t.operands; line = line; priority = t.priority } in row ≡ r))
+    (row : Lowered) (row_is : row ≡ lowered_task t line (map (access_by old.layout.actives.items) t.operands))
     (pushes : Does b new.phases line (with_own (row ∷ []) [])) (prints : new.prints ≡ old.prints) where
   module _ (rs : List RootState) (C : Laid) (E : Expansion) (at : StepsAt old rs C E) (next : IsNext T old.phases.workers (kept.Task t) rs C E) where
     abbrev w : ℕ
@@ -165,7 +256,7 @@ module _ (T : Table) (old new : Steps) (t : KeptTask) (line : Line) (a b : Expan
     ends : (D : Laid) (xs : List Opening) → D.handles ≡ C.handles → D.prints ≡ C.prints → Lays new.layout D → new.layout.actives ≡ old.layout.actives
         → (let x : Block = block_with D xs in Does old.phases a line (λ F. fold (closed w) F x.closes) → Does b new.phases line (with_own x.tasks []) → Does old.phases new.phases line (λ F. expanded w F x)) → Goes old new line qs D (expanded w E (block_with D xs))
     ends D xs handles kept lays actives does =
-        let is : row ≡ task_row (by_number rs) D (task_at t) line = row_is ∙ (λ i. record { codelet = codelet_of t.kernel; args = t.args; accesses = accesses-after old.layout w rs C at.layout next.whole D handles t.operands next.sound.placed i; line = line; priority = t.priority }) in
+        let is : row ≡ task_row (by_number rs) D (task_at t) line = row_is ∙ ap (lowered_task t line) (accesses-after old.layout w rs C at.layout next.whole D handles t.operands next.sound.placed) in
         let shut = subst (λ (cs : List Cell). Does old.phases a line (λ F. fold (closed w) F cs)) (closes-after old.layout w rs C at.layout next.whole D handles t.operands next.sound.placed) closes in
         let put = subst (λ (l : Lowered). Does b new.phases line (with_own (l ∷ []) [])) is pushes in
         goes-kept old new line rs qs C D E (block_with D xs) at

@@ -3,10 +3,14 @@ use Rattle.std.specs.Prelude.{◌≡◌, ◌<◌, ◌≤◌, ◌+◌, ℕ, Bool,
 use Rattle.std.specs.List.{list_any, range_with_len, filter}
 use Rattle.sj_base.specs.declared.ids.Cell.{Cell}
 use Rattle.sj_base.specs.declared.ids.Line.{Line}
+use Rattle.sj_base.specs.declared.mode.Access.{Access}
 use Rattle.sj_base.specs.declared.mode.Reduction.{Reduction}
+use Rattle.sj_base.specs.declared.program.Lowered.{Lowered}
 use Rattle.sj_base.specs.Mode.{is_redux}
 use Rattle.sj_codelet.specs.declared.kernel.Kernel.{Kernel}
+use Rattle.sj_codelet.specs.Kernel.{codelet_of}
 use Rattle.sj_meaning.specs.declared.job.Operand.{Operand}
+use Rattle.sj_meaning.specs.declared.job.TaskLine.{TaskLine as KeptTask}
 use Rattle.sj_meaning.specs.declared.job.Act.{Act as KeptAct}
 use Rattle.sj_meaning.specs.Act.{Act}
 use Rattle.sj_meaning.specs.Act.{Register as Registers, Plan as Plans, Redux as Reduces, Task as Tasks, Print as Prints, Invalidate as Invalidates, Unregister as Unregisters}
@@ -54,6 +58,12 @@ Opens l m old new o valued line =
 abbrev pub IsFullFor : Layout → ℕ → Operand → StepRefusal → Type 0
 IsFullFor l workers o OutOfMemory = Unit {0}
 IsFullFor l workers o TooManyCells = (C : Laid) → Lays l C → most < length (with_copies workers C (cell_by l.actives.items o)).rows
+
+-- ---- tasks
+
+-- a task line with these accesses in place of its operands
+abbrev pub lowered_task : KeptTask → Line → List Access → Lowered
+lowered_task t line accesses = record { codelet = codelet_of t.kernel; args = t.args; accesses = accesses; line = line; priority = t.priority }
 
 -- ---- statements
 

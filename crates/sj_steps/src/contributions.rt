@@ -114,13 +114,20 @@ pub fn close_operands(
     Ok(())
 }
 
+/// Whether an operand is a contribution. Constant time.
+fn is_contribution(operand: &Operand) -> bool
+    ensures { result ≡ is_contributed operand.now }
+{
+    operand.mode == Mode::Redux
+}
+
 /// The first operand that is contributed to. Linear in the operands.
 fn contributed(operands: &[Operand]) -> Option<Operand>
     ensures none { IfNone result (filter is_contributed operands.now ≡ []) }
     ensures some { IfSome result (λ o. (rest : List Operand) × (filter is_contributed operands.now ≡ o ∷ rest)) }
 {
     for operand in operands {
-        if operand.mode == Mode::Redux {
+        if is_contribution(operand) {
             return Some(*operand);
         }
     }

@@ -5,14 +5,15 @@ ghost use Rattle.std.specs.Prelude.{◌≡◌, None, [], IfErr, OnOk};
 ghost use Rattle.sj_meaning.specs.Table.{Table};
 ghost use Rattle.sj_meaning.specs.declared.job.Act.TheVariants as kept;
 ghost use Rattle.sj_phases.specs.Expand.{nothing};
-ghost use Rattle.sj_steps.specs.Adds.{StepsAt, HasNext, Adds, IsFull};
+ghost use Rattle.sj_steps.specs.Adds.{StepsAt, HasNext, Adds, IsFull, lowered_task};
 ghost use Rattle.sj_steps.specs.Laid.{no_cells};
 
 use crate::contributions::{StepRefusal, close_operands, close_plan, open_operands};
 use crate::layout::Layout;
 use crate::pushes::{push_delivers, push_first, push_pastes};
+use sj_base::few::Few;
 use sj_base::ids::{Line, Root};
-use sj_base::mode::Reduction;
+use sj_base::mode::{Access, Reduction};
 use sj_base::program::Lowered;
 use sj_meaning::job::{Act, Init, Statement, TaskLine};
 use sj_meaning::roots::Roots;
@@ -27,6 +28,19 @@ pub struct Steps {
     pub layout: Layout,
     pub phases: Expander,
     pub prints: u32,
+}
+
+/// A task line with these accesses in place of its operands. Constant time.
+fn lowered_task(task: TaskLine, line: Line, accesses: Few<Access>) -> Lowered
+    ensures { result ≡ lowered_task task line accesses }
+{
+    Lowered {
+        codelet: task.kernel.id(),
+        args: task.args,
+        accesses,
+        line,
+        priority: task.priority,
+    }
 }
 
 impl Steps {
@@ -119,14 +133,7 @@ impl Steps {
             line,
         )?;
         let accesses = self.layout.accesses(alloc, operands)?;
-        let row = Lowered {
-            codelet: task.kernel.id(),
-            args: task.args,
-            accesses,
-            line,
-            priority: task.priority,
-        };
-        self.phases.push(row, line)?;
+        self.phases.push(lowered_task(task, line, accesses), line)?;
         Ok(())
     }
 

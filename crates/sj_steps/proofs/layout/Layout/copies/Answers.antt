@@ -7,6 +7,23 @@ use Rattle.sj_steps.specs.Cells.{with_partials}
 use Rattle.sj_steps.proofs.Laying.{lays-copies, lays-copied, copies-full}
 use Rattle.sj_steps.proofs.layout.Layout.copies.Goals as goal
 
+pub returns-in-Some-clause-copied : goal.returns-in-Some-clause-copied
+returns-in-Some-clause-copied c = λ C s.
+    let is = c.args.self.now.infos.items in
+    let i = c.args.cell.0 in
+    let info = c.index-info.result.now in
+    let there : i < length is = omega (arith, c.requires.cell, c.args.self.now.infos.ok) in
+    lays-copied c.args.self.now C c.args.cell c.in-Some.first c.args.workers s (ap (λ (x : CellInfo). x.partials) (sym (c.index-info.ensures ∙ get_or_default is i info no_cell there)) ∙ c.in-Some.is)
+
+pub returns-then-first-workers-gt-MOST-clause-full : goal.returns-then-first-workers-gt-MOST-clause-full
+returns-then-first-workers-gt-MOST-clause-full c = λ C s.
+    let is = c.args.self.now.infos.items in
+    let i = c.args.cell.0 in
+    let info = c.index-info.result.now in
+    let there : i < length is = omega (arith, c.requires.cell, c.args.self.now.infos.ok) in
+    copies-full c.args.self.now C c.args.cell c.args.workers s there (ap (λ (x : CellInfo). x.partials) (sym (c.index-info.ensures ∙ get_or_default is i info no_cell there)) ∙ c.in_default.is)
+    (omega (arith, c.len-first.ensures, c.args.self.now.infos.ok, c.if-first-workers-gt-MOST.true))
+
 pub returns-clause-copied : goal.returns-clause-copied
 returns-clause-copied c = λ C s.
     let l = c.args.self.now in

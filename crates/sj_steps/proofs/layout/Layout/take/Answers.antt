@@ -1,4 +1,4 @@
-use Rattle.std.proofs.Common.{◌≡◌, ◌∙◌, ◌++◌, List, length, map, refl, sym, ap, arith, length-append}
+use Rattle.std.proofs.Common.{◌≡◌, ◌∙◌, ◌++◌, List, length, map, sym, ap, arith, length-append}
 use Rattle.std.proofs.lemmas.List.{length-map}
 use Rattle.std.specs.Option.{option_copied}
 use Rattle.sj_plan.specs.declared.rect.Rect.{Rect}
@@ -7,6 +7,10 @@ use Rattle.sj_steps.specs.Cells.{rect_cell}
 use Rattle.sj_steps.proofs.Laying.{lays-old, lays-new, lays-full}
 use Rattle.sj_steps.proofs.Places.{length-places}
 use Rattle.sj_steps.proofs.layout.Layout.take.Goals as goal
+
+pub returns-in-Some-clause-taken : goal.returns-in-Some-clause-taken
+returns-in-Some-clause-taken c = λ C s inside dims.
+    lays-old c.args.self.now C c.args.root.0 c.args.parts c.in-Some.first.now s (sym c.get.ensures.value ∙ ap option_copied c.in-Some.is)
 
 pub returns-then-first-parts-gt-MOST-clause-full : goal.returns-then-first-parts-gt-MOST-clause-full
 returns-then-first-parts-gt-MOST-clause-full c = λ C s inside dims.
