@@ -1,5 +1,5 @@
 -- What a task line does, by what the code's calls gave.
-use Rattle.std.proofs.Common.{◌≡◌, ℕ, ◌+◌, ◌<◌, ◌≤◌, Bool, true, false, not, ◌||◌, Option, Some, None, IfSome, IfNone, Result, Ok, Err, IfErr, IsErrAnd, List, [], ◌∷◌, ◌++◌, length, map, fold, get_or, refl, sym, ap, subst, ◌∙◌, arith}
+use Rattle.std.proofs.Common.{◌≡◌, ℕ, ◌+◌, ◌<◌, ◌≤◌, Bool, true, false, not, ◌||◌, Option, Some, None, IfSome, IfNone, List, [], ◌∷◌, ◌++◌, length, map, fold, get_or, refl, sym, ap, subst, ◌∙◌, arith}
 use Rattle.std.specs.Prelude.{All, unwrap_or}
 use Rattle.std.specs.List.{AllByRecursion, filter, flat_map}
 use Rattle.std.proofs.lemmas.Bool.{false≢true, and_parts}
@@ -184,11 +184,6 @@ opens-full l w o c x is none full = λ C s.
     subst (λ (d : Cell). most < length (with_copies w C d).rows) is (many C s)
 
 -- ---- the line
-
--- what is true of the reason that `?` hands over
-pub handed : {A E : Type 0} (r : Result A E) (e : E) (P : E → Type 0) → IsErrAnd r (λ x. x ≡ e) → P e → IfErr r P
-handed (Ok x) e P is h = tt
-handed (Err x) e P is h = subst P (sym is) h
 
 -- the layout's active plans are as they were
 pub actives-kept : (T : Table) (x : Steps) (t : KeptTask) (m : Layout) (a b : Expander) (line : Line) → HasNext T x (kept.Task t) → (filter is_contributed t.operands ≡ [] → m ≡ x.layout) → ((o : Kept) (rest : List Kept) → filter is_contributed t.operands ≡ o ∷ rest → Opens x.layout m a b o t.valued line) → m.actives ≡ x.layout.actives

@@ -12,7 +12,8 @@ use Rattle.sj_steps.specs.declared.contributions.StepRefusal.TheVariants.{OutOfM
 use Rattle.sj_steps.specs.declared.steps.Steps.{Steps}
 use Rattle.sj_steps.specs.Adds.{is_contributed, lowered_task, CanOpen, IsFull}
 use Rattle.sj_steps.specs.Follows.{IsInside, cell_by, access_by, is_other}
-use Rattle.sj_steps.proofs.Tasking.{all-inside, all-can, handed, actives-kept, still-has, task-full, task-goes}
+use Rattle.sj_steps.proofs.Statements.{handed}
+use Rattle.sj_steps.proofs.Tasking.{all-inside, all-can, actives-kept, still-has, task-full, task-goes}
 use Rattle.sj_steps.proofs.steps.Steps.task.Goals as goal
 
 pub close_operands-requires-clause-at : goal.close_operands-requires-clause-at
