@@ -1,12 +1,49 @@
--- What a statement that lines may say has.
-use Rattle.sj_lower.proofs.Words.{[], Act, ap, apply, Bool, codelet_of, Deliver, first_of, Form, has_name, init_said, Invalidate, IsAllowed, IsWell, JobState, judged, Kernel, kernel_of, kernels, List, name_reasons, Ok, parts_said, Plan, plan_reasons, Print, print_reasons, redux_reasons, register_reasons, registered_by, Scope, scope_of, Some, Statement, subst, sym, TaskForm, true, Unregister, ℕ, ◌&&◌, ◌+◌, ◌∙◌, ◌∷◌, ◌≡◌}
+-- A job that lines may say is sound by its roots' names, and no task of it has the codelet that delivers.
+use Rattle.std.proofs.Common.{◌≡◌, ℕ, ◌+◌, Bool, true, ◌&&◌, Some, Ok, List, [], ◌∷◌, ap, sym, subst, ◌∙◌}
 use Rattle.std.proofs.lemmas.Bool.{false≢true}
 use Rattle.sj_base.proofs.Bools.{and_rest}
+use Rattle.sj_codelet.specs.declared.kernel.Kernel.{Kernel}
+use Rattle.sj_codelet.specs.declared.kernel.Kernel.TheVariants.{Deliver}
+use Rattle.sj_codelet.specs.Kernel.{codelet_of, has_name, kernel_of, kernels}
 use Rattle.sj_codelet.proofs.Table.{kernel_of-codelet_of}
-use Rattle.sj_meaning.specs.Act.{Register, Redux}
+use Rattle.sj_meaning.specs.declared.job.Act.{Act as KeptAct}
+use Rattle.sj_meaning.specs.declared.job.Act.TheVariants as kept
+use Rattle.sj_meaning.specs.declared.job.Statement.{Statement as Kept}
+use Rattle.sj_meaning.specs.Act.{Act, Statement}
+use Rattle.sj_meaning.specs.Act.{Register as Registers, Plan as Plans, Redux as Reduces, Task as Tasks, Print as Prints, Invalidate as Invalidates, Unregister as Unregisters}
+use Rattle.sj_meaning.specs.State.{JobState}
+use Rattle.sj_meaning.specs.Meaning.{apply}
+use Rattle.sj_meaning.specs.Numbers.{act_at, statements_from}
+use Rattle.sj_meaning.specs.Sound.{AreSound}
+use Rattle.sj_meaning.specs.Table.{Table}
+use Rattle.sj_meaning.specs.View.{act_seen, seen_from, count_after}
+use Rattle.sj_job.specs.declared.form.Form.{Form}
 use Rattle.sj_job.specs.declared.form.Form.TheVariants as form
-use Rattle.sj_lower.proofs.Able.{DoesNotDeliver, CanBe, AllCanBe}
+use Rattle.sj_job.specs.declared.form.TaskForm.{TaskForm}
+use Rattle.sj_job.specs.Judge.{first_of, judged, name_reasons, plan_reasons, print_reasons, redux_reasons, register_reasons, Scope, scope_of}
+use Rattle.sj_job.specs.Sentence.{init_said, parts_said, registered_by}
+use Rattle.sj_job.specs.Well.{IsAllowed, IsWell}
 use Rattle.sj_job.proofs.Sounding.{IsJudged, unless_parts, judged-task, found_passes, sound_from_allowed}
+use Rattle.sj_lower.proofs.Naming.{AreSilent}
+use Rattle.sj_lower.proofs.Sounding.{IsSilent}
+
+-- ---- soundness
+
+pub all-sound : (has : Kernel → Bool) (k : ℕ) (S : JobState) (ss : List (Statement (List ℕ))) → IsWell has k S ss → AreSound has S ss
+all-sound has k S [] w = tt
+all-sound has k S (s ∷ ss) w = (sound_from_allowed has k S s.act w.0, all-sound has (k + 1) (apply s.act S) ss w.1)
+
+-- ---- codelets that have a name
+
+-- the same by names: a job can't name the codelet that delivers
+abbrev DoesNotDeliver : Act (List ℕ) → Type 0
+DoesNotDeliver (Registers r) = Unit {0}
+DoesNotDeliver (Plans name p) = Unit {0}
+DoesNotDeliver (Reduces name by) = Unit {0}
+DoesNotDeliver (Tasks t) = kernel_of t.codelet ≡ Some Deliver → ⊥
+DoesNotDeliver (Prints name) = Unit {0}
+DoesNotDeliver (Invalidates name) = Unit {0}
+DoesNotDeliver (Unregisters name) = Unit {0}
 
 -- a codelet with a name doesn't deliver
 named_isn't : (name : List ℕ) (k : Kernel) → has_name name k ≡ true → kernel_of (codelet_of k) ≡ Some Deliver → ⊥
@@ -20,18 +57,28 @@ task_isn't has s t act j =
     subst DoesNotDeliver j.is (named_isn't t.codelet j.kernel (and_rest (has j.kernel) (has_name t.codelet j.kernel) passes))
 
 nameable : (has : Kernel → Bool) (s : Scope) (f : Form) (act : Act (List ℕ)) → judged has s f ≡ Ok act → DoesNotDeliver act
-nameable has s (form.Register a) act e = subst DoesNotDeliver (unless_parts (first_of (register_reasons s a.name (registered_by a).dims (parts_said a.parts) (init_said a.init))) (Register (registered_by a)) act e).1 tt
-nameable has s (form.Plan name r c) act e = subst DoesNotDeliver (unless_parts (first_of (plan_reasons s name (parts_said (Some (r, c))))) (Plan name (parts_said (Some (r, c)))) act e).1 tt
-nameable has s (form.Redux name by) act e = subst DoesNotDeliver (unless_parts (first_of (redux_reasons s name)) (Redux name by) act e).1 tt
+nameable has s (form.Register a) act e = subst DoesNotDeliver (unless_parts (first_of (register_reasons s a.name (registered_by a).dims (parts_said a.parts) (init_said a.init))) (Registers (registered_by a)) act e).1 tt
+nameable has s (form.Plan name r c) act e = subst DoesNotDeliver (unless_parts (first_of (plan_reasons s name (parts_said (Some (r, c))))) (Plans name (parts_said (Some (r, c)))) act e).1 tt
+nameable has s (form.Redux name by) act e = subst DoesNotDeliver (unless_parts (first_of (redux_reasons s name)) (Reduces name by) act e).1 tt
 nameable has s (form.Task t) act e = task_isn't has s t act (judged-task has s t act e)
-nameable has s (form.Print name) act e = subst DoesNotDeliver (unless_parts (first_of (print_reasons s name)) (Print name) act e).1 tt
-nameable has s (form.Invalidate name) act e = subst DoesNotDeliver (unless_parts (first_of (name_reasons s name)) (Invalidate name) act e).1 tt
-nameable has s (form.Unregister name) act e = subst DoesNotDeliver (unless_parts (first_of (name_reasons s name)) (Unregister name) act e).1 tt
+nameable has s (form.Print name) act e = subst DoesNotDeliver (unless_parts (first_of (print_reasons s name)) (Prints name) act e).1 tt
+nameable has s (form.Invalidate name) act e = subst DoesNotDeliver (unless_parts (first_of (name_reasons s name)) (Invalidates name) act e).1 tt
+nameable has s (form.Unregister name) act e = subst DoesNotDeliver (unless_parts (first_of (name_reasons s name)) (Unregisters name) act e).1 tt
 
-pub can_be : (has : Kernel → Bool) (k : ℕ) (S : JobState) (a : Act (List ℕ)) → IsAllowed has (scope_of k S) a → CanBe has S a
-can_be has k S a h = record { sound = sound_from_allowed has k S a h; nameable = nameable has (scope_of k S) h.form a h.judged }
+-- the names say nothing of the codelet
+silent-at : (T : Table) (k : ℕ) (a : KeptAct) → DoesNotDeliver (act_seen T k a) → IsSilent (act_at T k a)
+silent-at T k (kept.Register init) h = tt
+silent-at T k (kept.Plan r p valued) h = tt
+silent-at T k (kept.Redux r by) h = tt
+silent-at T k (kept.Task t) h = h
+silent-at T k (kept.Print r) h = tt
+silent-at T k (kept.Invalidate r) h = tt
+silent-at T k (kept.Unregister r) h = tt
 
--- and so have all that are allowed one after another
-pub all_can_be : (has : Kernel → Bool) (k : ℕ) (S : JobState) (ss : List (Statement (List ℕ))) → IsWell has k S ss → AllCanBe has S ss
-all_can_be has k S [] w = tt
-all_can_be has k S (s ∷ ss) w = (can_be has k S s.act w.0, all_can_be has (k + 1) (apply s.act S) ss w.1)
+-- of a kept job's statements, before which k roots were registered and n statements stand
+pub all-silent : (has : Kernel → Bool) (T : Table) (k n : ℕ) (S : JobState) (ss : List Kept) → IsWell has n S (seen_from T k ss) → AreSilent (statements_from T k ss)
+all-silent has T k n S [] w = tt
+all-silent has T k n S (s ∷ ss) w = (
+  silent-at T k s.act (nameable has (scope_of n S) w.0.form (act_seen T k s.act) w.0.judged),
+  all-silent has T (count_after k s.act) (n + 1) (apply (act_seen T k s.act) S) ss w.1,
+)

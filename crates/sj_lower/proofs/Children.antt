@@ -1,28 +1,126 @@
 -- The tasks of the runtime's own codelets, one child after another.
-use Rattle.sj_lower.proofs.Words.{[], access, ap, area, arith, array, Cell, cells_from, child, children_count, children_of, Dims, Fits, get_or, inl, inr, length, Line, List, Load, load_row, Lowered, map, own_task, part_len, Parts, places, pos, range_with_len, Rect, sym, undivided, W, window, ℕ, ℤ, ◌%◌, ◌*◌, ◌++◌, ◌+◌, ◌/◌, ◌<◌, ◌∙◌, ◌∷◌, ◌≡◌}
-use Rattle.std.proofs.lemmas.{Bool.cases_lt, List.same_lists, List.FromFn.get_or-map-range_with_len, List.FromFn.length-map-range_with_len, Nat.div-add-mod', Nat.mul-le}
+use Rattle.std.proofs.Common.{◌≡◌, ℕ, ◌+◌, ◌*◌, ◌/◌, ◌%◌, ◌<◌, inl, inr, ℤ, pos, List, [], ◌∷◌, ◌++◌, map, length, get_or, sym, ap, ◌∙◌, arith}
+use Rattle.std.specs.List.{range_with_len}
+use Rattle.std.specs.Prelude.{zip}
+use Rattle.std.proofs.Common.{length-append, append_assoc, refl, subst}
+use Rattle.std.proofs.Math.Nat.{mul_comm}
+use Rattle.std.proofs.lemmas.List.{map-append, map-id, length-map}
+use Rattle.std.proofs.lemmas.List.{same_lists}
+use Rattle.std.proofs.lemmas.List.FromFn.{length-map-range_with_len, get_or-map-range_with_len}
+use Rattle.sj_base.specs.declared.ids.Cell.{Cell}
+use Rattle.std.proofs.lemmas.Nat.{div-add-mod', mul-le}
+use Rattle.std.proofs.lemmas.Bool.{cases_lt}
+use Rattle.sj_base.specs.declared.ids.Line.{Line}
+use Rattle.sj_base.specs.declared.mode.Mode.TheVariants.{W}
+use Rattle.sj_base.specs.declared.program.Lowered.{Lowered}
+use Rattle.sj_base.specs.declared.tile.Dims.{Dims}
+use Rattle.sj_base.specs.Array.{array, area}
+use Rattle.sj_base.proofs.Numbers.{none_more}
 use Rattle.sj_base.proofs.Tables.{table_from_items}
-use Rattle.sj_plan.proofs.{Lists.pushed_more, Tiling.part_first-all}
+use Rattle.sj_codelet.specs.declared.kernel.Kernel.TheVariants.{Load}
+use Rattle.sj_plan.specs.Interval.{part_len}
+use Rattle.sj_plan.specs.Window.{window}
+use Rattle.sj_plan.proofs.Tiling.{part_first-all}
+use Rattle.sj_meaning.specs.Table.{undivided}
+use Rattle.sj_lower.specs.Rows.{load_row}
+use Rattle.sj_phases.specs.Rows.{an_access, own_task}
+use Rattle.sj_plan.specs.declared.parts.Parts.{Parts}
+use Rattle.sj_plan.specs.declared.rect.Rect.{Rect}
+use Rattle.sj_plan.specs.Parts.{Fits, places}
+use Rattle.sj_plan.specs.Rect.{child, children_of}
+use Rattle.sj_plan.proofs.Lists.{pushed_more}
+use Rattle.sj_lower.specs.Cells.{children_count}
+use Rattle.sj_base.specs.declared.program.Delivery.{Delivery}
+use Rattle.sj_phases.specs.declared.expander.Expander.{Expander}
+use Rattle.sj_phases.specs.Does.{Does}
+use Rattle.sj_phases.specs.Expand.{Expansion, with_own, moved}
+use Rattle.sj_phases.proofs.Doing.{does-then, does-as, does-start, does-more, goes-own}
+use Rattle.sj_lower.specs.declared.rows.Placed.{Placed}
+use Rattle.sj_lower.specs.Adds.{cells_after}
+use Rattle.sj_lower.specs.Follows.{cells_by}
+use Rattle.sj_lower.specs.Step.{a_delivery}
+use Rattle.sj_lower.specs.Cells.{cells_from}
 use Rattle.sj_lower.proofs.Places.{place_at, length-places, number-place_at, places-by_number}
 
 -- what f gives of the first n children, by their numbers
 abbrev pub first_children : {X : Type 0} → (ℕ × ℕ → X) → Parts → ℕ → List X
 first_children f p n = map (λ k. f (place_at p k)) (range_with_len 0 n)
 
-listed : {X : Type 0} (f : ℕ × ℕ → X) (p : Parts) → map f (places p) ≡ first_children f p (children_count p)
+pub listed : {X : Type 0} (f : ℕ × ℕ → X) (p : Parts) → map f (places p) ≡ first_children f p (children_count p)
 listed f p =
     let g = λ (k : ℕ). f (place_at p k) in
     same_lists (map f (places p)) (first_children f p (children_count p)) (length-places f p ∙ sym (length-map-range_with_len g 0 (children_count p))) (λ k d here.
     let inside : k < p.r * p.c = omega (arith, here, length-places f p) in
     places-by_number f p k d inside ∙ sym (get_or-map-range_with_len g 0 (children_count p) k k d inside (omega arith)))
 
--- one child more
-pub child-pushed : {X : Type 0} (f : ℕ × ℕ → X) (p : Parts) (start now next : List X) (x : X) (n : ℕ) → now ≡ start ++ first_children f p n → next ≡ now ++ x ∷ [] → x ≡ f (place_at p n) → next ≡ start ++ first_children f p (n + 1)
-child-pushed f p start now next x n e g h = pushed_more (λ k. f (place_at p k)) start now next x n e g h
+-- one child more, and all of them, of tasks that an expander takes
+pub does-child : (f : ℕ × ℕ → Lowered) (p : Parts) (a b c : Expander) (line : Line) (l : Lowered) (n : ℕ) → Does a b line (with_own (first_children f p n) []) → Does b c line (with_own (l ∷ []) []) → l ≡ f (place_at p n) → Does a c line (with_own (first_children f p (n + 1)) [])
+does-child f p a b c line l n so step is =
+    does-more a b c line (first_children f p n) (first_children f p (n + 1)) l (sym (pushed_more (λ k. f (place_at p k)) [] (first_children f p n) (first_children f p n ++ l ∷ []) l n refl refl is)) so step
 
--- all of them
-pub all-pushed : {X : Type 0} (f : ℕ × ℕ → X) (p : Parts) (start now : List X) (n : ℕ) → n ≡ children_count p → now ≡ start ++ first_children f p n → now ≡ start ++ map f (places p)
-all-pushed f p start now n last e = e ∙ ap (λ m. start ++ first_children f p m) last ∙ ap (λ xs. start ++ xs) (sym (listed f p))
+pub does-children : (f : ℕ × ℕ → Lowered) (p : Parts) (a b : Expander) (line : Line) (n : ℕ) → n ≡ children_count p → Does a b line (with_own (first_children f p n) []) → Does a b line (with_own (map f (places p)) [])
+does-children f p a b line n last so = subst (λ (ls : List Lowered). Does a b line (with_own ls [])) (ap (first_children f p) last ∙ sym (listed f p)) so
+
+-- ---- deliveries
+
+-- the child of a number, and where it belongs
+abbrev pub first_deliveries : ℕ → Dims → Parts → ℕ → ℕ → List Delivery
+first_deliveries root d p print n = map (λ k. a_delivery root d p print (k, place_at p k)) (range_with_len 0 n)
+
+pub no-deliveries : (x : Expander) (line : Line) (ls : List Lowered) (ds : List Delivery) → ls ≡ [] → ds ≡ [] → Does x x line (with_own ls ds)
+no-deliveries x line ls ds none also = subst (λ (es : List Delivery). Does x x line (with_own ls es)) (sym also) (does-start x line ls none)
+
+-- tasks with deliveries, and one more with its own
+own-delivered : (ls : List Lowered) (ds : List Delivery) (l : Lowered) (d e : Delivery) (E : Expansion) → moved (length ls) d ≡ e → with_own (l ∷ []) (d ∷ []) (with_own ls ds E) ≡ with_own (ls ++ l ∷ []) (ds ++ e ∷ []) E
+own-delivered ls ds l d e E is = λ i. record {
+  tasks = append_assoc E.tasks ls (l ∷ []) i;
+  deliveries = deliveries i;
+  phase = E.phase;
+}
+  where
+    place : moved (length (E.tasks ++ ls)) d ≡ moved (length E.tasks) e
+    place =
+        let at : length (E.tasks ++ ls) + d.task.0 ≡ length E.tasks + (length ls + d.task.0) = omega (arith, length-append E.tasks ls) in
+        ap (λ n. let x : Delivery = record d { task = record { 0 = n } } in x) at ∙ ap (moved (length E.tasks)) is
+
+    deliveries : (E.deliveries ++ map (moved (length E.tasks)) ds) ++ moved (length (E.tasks ++ ls)) d ∷ [] ≡ E.deliveries ++ map (moved (length E.tasks)) (ds ++ e ∷ [])
+    deliveries =
+        append_assoc E.deliveries (map (moved (length E.tasks)) ds) (moved (length (E.tasks ++ ls)) d ∷ [])
+        ∙ ap (λ (x : Delivery). E.deliveries ++ (map (moved (length E.tasks)) ds ++ x ∷ [])) place
+        ∙ ap (λ ys. E.deliveries ++ ys) (sym (map-append (moved (length E.tasks)) ds (e ∷ [])))
+
+pub delivered-child : (f : ℕ × ℕ → Lowered) (p : Parts) (root : ℕ) (dims : Dims) (print : ℕ) (a b c : Expander) (line : Line) (l : Lowered) (d : Delivery) (n : ℕ) → Does a b line (with_own (first_children f p n) (first_deliveries root dims p print n)) → Does b c line (with_own (l ∷ []) (d ∷ []))
+    → l ≡ f (place_at p n) → d ≡ a_delivery root dims p print (0, place_at p n) → Does a c line (with_own (first_children f p (n + 1)) (first_deliveries root dims p print (n + 1)))
+delivered-child f p root dims print a b c line l d n so step is at =
+    let ls = first_children f p n in
+    let ds = first_deliveries root dims p print n in
+    let e = a_delivery root dims p print (n, place_at p n) in
+    let long : length ls ≡ n = length-map-range_with_len (λ k. f (place_at p k)) 0 n in
+    let mk : ℕ → Delivery = λ k. a_delivery root dims p print (k, place_at p n) in
+    let here : moved (length ls) d ≡ e = ap (λ (x : Delivery). moved (length ls) x) at ∙ ap (λ k. mk (k + 0)) long ∙ ap mk (none_more n) in
+    does-as a c line (λ E. with_own (l ∷ []) (d ∷ []) (with_own ls ds E)) (with_own (first_children f p (n + 1)) (first_deliveries root dims p print (n + 1)))
+    (λ E. own-delivered ls ds l d e E here ∙ (λ i. with_own
+    (pushed_more (λ k. f (place_at p k)) [] ls (ls ++ l ∷ []) l n refl refl is i)
+    (pushed_more (λ k. a_delivery root dims p print (k, place_at p k)) [] ds (ds ++ e ∷ []) e n refl refl refl i) E))
+    (does-then a b c line (with_own ls ds) (with_own (l ∷ []) (d ∷ [])) (goes-own (l ∷ []) (d ∷ [])) so step)
+
+deliveries-listed : (root : ℕ) (d : Dims) (p : Parts) (print : ℕ) → first_deliveries root d p print (children_count p) ≡ map (a_delivery root d p print) (zip (range_with_len 0 (length (places p))) (places p))
+deliveries-listed root d p print =
+    let count : length (places p) ≡ children_count p = sym (length-map (places p) (λ (x : ℕ × ℕ). x)) ∙ length-places (λ (x : ℕ × ℕ). x) p in
+    let numbers = range_with_len 0 (length (places p)) in
+    let all : map (place_at p) numbers ≡ places p = ap (first_children (λ (x : ℕ × ℕ). x) p) count ∙ sym (listed (λ (x : ℕ × ℕ). x) p) ∙ map-id (places p) in
+    ap (first_deliveries root d p print) (sym count) ∙ zipped numbers ∙ ap (λ ps. map (a_delivery root d p print) (zip numbers ps)) all
+  where
+    zipped : (ks : List ℕ) → map (λ k. a_delivery root d p print (k, place_at p k)) ks ≡ map (a_delivery root d p print) (zip ks (map (place_at p) ks))
+    zipped [] = refl
+    zipped (k ∷ ks) = ap (λ xs. a_delivery root d p print (k, place_at p k) ∷ xs) (zipped ks)
+
+pub delivered-children : (f : ℕ × ℕ → Lowered) (p : Parts) (root : ℕ) (d : Dims) (print : ℕ) (a b : Expander) (line : Line) (n : ℕ) → n ≡ children_count p → Does a b line (with_own (first_children f p n) (first_deliveries root d p print n))
+    → Does a b line (with_own (map f (places p)) (map (a_delivery root d p print) (zip (range_with_len 0 (length (places p))) (places p))))
+delivered-children f p root d print a b line n last so =
+    subst (λ (ds : List Delivery). Does a b line (with_own (map f (places p)) ds)) (deliveries-listed root d p print)
+    (subst (λ (ls : List Lowered). Does a b line (with_own ls (first_deliveries root d p print (children_count p)))) (sym (listed f p))
+    (subst (λ m. Does a b line (with_own (first_children f p m) (first_deliveries root d p print m))) last so))
 
 -- the rectangle and the cell of the child of a number
 pub rect-at : (d : Dims) (p : Parts) (rects : List Rect) (k : ℕ) (blank : Rect) → rects ≡ children_of d p → k < children_count p → get_or rects k blank ≡ child d p (place_at p k)
@@ -42,13 +140,10 @@ one_factor r c some_r some_c e = elim (cases_lt r 2) as (λ _. r ≡ 1) [
   | inr many ↦ (let h = mul-le 2 1 r c many some_c in absurd (omega arith))
 ]
 
-turned : (r c : ℕ) → r * c ≡ 1 → c * r ≡ 1
-turned r c e = omega arith
-
 one_child : (p : Parts) (d : Dims) → Fits p d → p.r * p.c ≡ 1 → p ≡ undivided
 one_child p d fits e =
     let r = one_factor p.r p.c fits.some_rows fits.some_cols e in
-    let c = one_factor p.c p.r fits.some_cols fits.some_rows (turned p.r p.c e) in
+    let c = one_factor p.c p.r fits.some_cols fits.some_rows (mul_comm p.c p.r ∙ e) in
     λ i. record { r = r i; c = c i }
 
 -- one part of n items has them all
@@ -67,12 +162,15 @@ window-whole d xs long =
     there i c j = omega arith
 
 -- the load of a root that is one child has all elements
-pub one-load : (xs : List ℤ) (d : Dims) (p : Parts) (first : ℕ) (line : Line) → Fits p d → p.r * p.c ≡ 1 → length xs ≡ area d → let c : Cell = record { 0 = first } in map (λ place. load_row xs d (child d p place) (cells_from first p place) line) (places p) ≡ own_task Load xs (access W c ∷ []) line ∷ []
+pub one-load : (xs : List ℤ) (d : Dims) (p : Parts) (first : ℕ) (line : Line) → Fits p d → p.r * p.c ≡ 1 → length xs ≡ area d → let c : Cell = record { 0 = first } in map (λ place. load_row xs d (child d p place) (cells_from first p place) line) (places p) ≡ own_task Load xs (an_access W c ∷ []) line ∷ []
 one-load xs d p first line fits one long =
     let mk : ℕ → Cell = λ n. record { 0 = n } in
-    let whole : Rect = record { row = 0; col = 0; rows = d.rows; cols = d.cols } in
     let f : Parts → ℕ × ℕ → Lowered = λ p place. load_row xs d (child d p place) (cells_from first p place) line in
     listed (f p) p ∙ ap (first_children (f p) p) one ∙ ap (λ (q : Parts). f q (place_at q 0) ∷ []) (one_child p d fits one)
     ∙ ap (λ (r : Rect). load_row xs d r (mk (first + 0)) line ∷ []) (child-whole d)
-    ∙ ap (λ ys. own_task Load ys (access W (mk (first + 0)) ∷ []) line ∷ []) (window-whole d xs long)
-    ∙ ap (λ n. own_task Load xs (access W (mk n) ∷ []) line ∷ []) (let e : first + 0 ≡ first = omega arith in e)
+    ∙ ap (λ ys. own_task Load ys (an_access W (mk (first + 0)) ∷ []) line ∷ []) (window-whole d xs long)
+    ∙ ap (λ n. own_task Load xs (an_access W (mk n) ∷ []) line ∷ []) (none_more first)
+
+-- the cells of a plan's children stand one after another
+pub cells-listed : (x : Placed) → cells_after x.first (children_count x.parts) ≡ cells_by x
+cells-listed x = (λ i. map (λ k. cell-at x.first x.parts k i) (range_with_len 0 (children_count x.parts))) ∙ sym (listed (cells_from x.first x.parts) x.parts)

@@ -1,40 +1,50 @@
 -- The elements of a root's children: as windows of its array, and after a child is written.
-use Rattle.sj_lower.proofs.Words.{[], ap, area, arith, Array, array, Bool, child, child_array, child_elements, child_rect, cond, Dims, element, false, Fill, first_elements, Fits, get_or, has_no_value, holds, in_rect, integers_of, is_child, is_none, is_some, is_valued, is_valued_child, IsPlace, IsWhole, item, length, List, list_all, loadfill, map, None, Option, Parts, place_of, pos, range_with_len, read_rect, Rect, rect_dims, refl, replicate, root_array, RootState, Some, suc, sym, table, true, unwrap_or, window, with_child, Within, wrap, zero, zeros, ℕ, ℤ, ◌%◌, ◌*ℤ◌, ◌*◌, ◌+ℤ◌, ◌+◌, ◌-◌, ◌/◌, ◌<◌, ◌∙◌, ◌∷◌, ◌≡◌, ◌≤◌}
+use Rattle.std.proofs.Common.{◌≡◌, ℕ, ◌+◌, ◌-◌, ◌*◌, ◌/◌, ◌%◌, ◌<◌, Bool, true, cond, Option, Some, None, List, ℤ, pos, ◌+ℤ◌, ◌*ℤ◌, length, get_or, unwrap_or, map, replicate, refl, sym, ap, ◌∙◌, arith}
+use Rattle.std.specs.Prelude.{not}
+use Rattle.std.specs.List.{list_all, range_with_len}
+use Rattle.std.specs.Option.{is_some, is_none}
 use Rattle.std.proofs.Math.ListN.{get_or-map}
-use Rattle.std.proofs.lemmas.{Bool.and_from, Bool.and_parts, Bool.cond-false, Bool.cond-true, Bool.false≢true, Bool.Decides.nat_tests, Int.ints, List.Folds.list_all_at, List.FromFn.get_or-map-range_with_len, Nat.div_below, Nat.mod_below, Simd.map-map}
-use Rattle.sj_base.proofs.{Numbers.same_pair, Numbers.some_factor, Tables.item-table, Tables.item_inside, Tables.length-table, Tables.table-same}
-use Rattle.sj_plan.proofs.{Repartitioning.child-within, Splitting.lies_alone, Splitting.part_len-positive, Windows.element-tabulate, Windows.holds-false, Windows.holds-true, Windows.IsWhole-tabulate, Windows.same_arrays, Windows.tabulate}
+use Rattle.std.proofs.lemmas.Bool.{false≢true, and_from, and_parts, cond-true, cond-false}
+use Rattle.std.proofs.lemmas.Bool.Decides.{nat_tests}
+use Rattle.std.proofs.lemmas.Int.{ints}
+use Rattle.std.proofs.lemmas.List.{map-id}
+use Rattle.std.proofs.lemmas.List.Elements.{All-replicate}
+use Rattle.std.proofs.lemmas.List.FromFn.{get_or-map-range_with_len}
+use Rattle.std.proofs.lemmas.List.Sums.{AllPass-from_list_all, list_all-from_AllPass}
+use Rattle.std.proofs.lemmas.Nat.{div_below, mod_below}
+use Rattle.std.proofs.lemmas.Simd.{map-map}
+use Rattle.sj_base.specs.declared.tile.Dims.{Dims}
+use Rattle.sj_base.specs.Array.{Array, array, area, element, zeros}
+use Rattle.sj_base.specs.Window.{item, table, read_rect, in_rect}
+use Rattle.sj_base.proofs.Numbers.{same_pair, some_factor}
+use Rattle.sj_base.proofs.Tables.{at-table, item-table, item_inside, length-table, table-same}
+use Rattle.sj_codelet.specs.Ring.{wrap}
+use Rattle.sj_codelet.specs.Equations.{loadfill}
+use Rattle.sj_plan.specs.declared.parts.Parts.{Parts}
+use Rattle.sj_plan.specs.declared.rect.Rect.{Rect}
+use Rattle.sj_plan.specs.Parts.{Fits, IsPlace}
+use Rattle.sj_plan.specs.Rect.{place_of, rect_dims, Within, holds}
+use Rattle.sj_plan.specs.Window.{window, IsWhole}
+use Rattle.sj_plan.proofs.Splitting.{part_len-positive, lies_alone}
+use Rattle.sj_plan.proofs.Windows.{tabulate, IsWhole-tabulate, element-tabulate, same_arrays, holds-true, holds-false}
+use Rattle.sj_meaning.specs.declared.job.Init.TheVariants.{Fill}
+use Rattle.sj_meaning.specs.State.{RootState, is_valued, has_no_value, is_child, child_rect, child_elements, is_valued_child}
+use Rattle.sj_meaning.specs.Meaning.{integers_of, root_array, child_array, with_child, first_elements}
+pub use Rattle.sj_plan.proofs.Repartitioning.{child-within}
 
 -- ---- tables
 
 map-table : {X Y : Type 0} (g : X → Y) (d : Dims) (f : ℕ → ℕ → X) → map g (table d f) ≡ table d (λ i j. g (f i j))
 map-table g d f = map-map g (λ p. f (p / d.cols) (p % d.cols)) (range_with_len 0 (area d))
 
-all-range : {X : Type 0} (test : X → Bool) (g : ℕ → X) (a n : ℕ) → ((k : ℕ) → a ≤ k → k < a + n → test (g k) ≡ true) → list_all test (map g (range_with_len a n)) ≡ true
-all-range test g a zero h = refl
-all-range test g a (suc n) h = and_from (test (g a)) (list_all test (map g (range_with_len (a + 1) n))) (h a (omega arith) (omega arith)) (all-range test g (a + 1) n (λ k lo hi. h k (omega arith) (omega arith)))
-
 all-table : {X : Type 0} (test : X → Bool) (d : Dims) (f : ℕ → ℕ → X) → ((i j : ℕ) → i < d.rows → j < d.cols → test (f i j) ≡ true) → list_all test (table d f) ≡ true
 all-table test d f h =
-    all-range test (λ p. f (p / d.cols) (p % d.cols)) 0 (area d) (λ k lo hi.
-    let some = some_factor d.rows d.cols k (omega arith) in
-    h (k / d.cols) (k % d.cols) (div_below k d.cols d.rows some (omega arith)) (mod_below k d.cols some))
-
-pub all-at : {X : Type 0} (test : X → Bool) (xs : List X) (i : ℕ) (d : X) → list_all test xs ≡ true → i < length xs → test (get_or xs i d) ≡ true
-all-at test xs i d all h = by_test (test (get_or xs i d)) refl
-  where
-    by_test : (b : Bool) → test (get_or xs i d) ≡ b → b ≡ true
-    by_test true e = refl
-    by_test false e = absurd (false≢true (sym (list_all_at test xs i d h e) ∙ all))
+    list_all-from_AllPass test (table d f) (λ k blank inside.
+    let below : k < area d = omega (arith, inside, length-table d f) in
+    let some = some_factor d.rows d.cols k below in
+    ap test (at-table blank d f k below) ∙ h (k / d.cols) (k % d.cols) (div_below k d.cols d.rows some below) (mod_below k d.cols some))
 
 -- ---- windows
-
--- a child has an element
-pub child-rows : (d : Dims) (p : Parts) (place : ℕ × ℕ) → Fits p d → 0 < (child d p place).rows
-child-rows d p place f = part_len-positive d.rows p.r place.0 f.some_rows f.rows
-
-pub child-cols : (d : Dims) (p : Parts) (place : ℕ × ℕ) → Fits p d → 0 < (child d p place).cols
-child-cols d p place f = part_len-positive d.cols p.c place.1 f.some_cols f.cols
 
 pub integers-read : (es : List (Option ℤ)) (cols : ℕ) (at : ℕ × ℕ) (d : Dims) → integers_of (read_rect None cols es at d) ≡ read_rect (pos 0) cols (integers_of es) at d
 integers-read es cols at d =
@@ -111,39 +121,29 @@ valued-child r place whole all h =
     let inside = child-within r.dims r.parts place h in
     and_from (is_child r.parts place) (list_all (λ (e : Option ℤ). is_some e) (child_elements r place)) (is_child-from r.parts place h)
     (all-table (λ (e : Option ℤ). is_some e) (rect_dims rect) (λ i j. item None r.dims.cols r.elements (rect.row + i) (rect.col + j)) (λ i j hi hj.
-    all-at (λ (e : Option ℤ). is_some e) r.elements ((rect.row + i) * r.dims.cols + (rect.col + j)) None all (omega (arith, whole, item_inside r.dims (rect.row + i) (rect.col + j) (omega (arith, inside.0)) (omega (arith, inside.1))))))
-
-not_both : (o : Option ℤ) → is_some o ≡ true → is_none o ≡ true → ⊥
-not_both None e f = false≢true e
-not_both (Some x) e f = false≢true f
+    AllPass-from_list_all (λ (e : Option ℤ). is_some e) r.elements all ((rect.row + i) * r.dims.cols + (rect.col + j)) None (omega (arith, whole, item_inside r.dims (rect.row + i) (rect.col + j) (omega (arith, inside.0)) (omega (arith, inside.1))))))
 
 -- where no element has a value, no child has
 pub blank-child : (r : RootState) (place : ℕ × ℕ) → length r.elements ≡ area r.dims → has_no_value r ≡ true → Fits r.parts r.dims → IsPlace r.parts place → is_valued_child r place ≡ true → ⊥
 blank-child r place whole blank fits h v =
     let rect = child_rect r place in
     let inside = child-within r.dims r.parts place h in
-    let rows = child-rows r.dims r.parts place fits in
-    let cols = child-cols r.dims r.parts place fits in
+    let rows : 0 < rect.rows = part_len-positive r.dims.rows r.parts.r place.0 fits.some_rows fits.rows in
+    let cols : 0 < rect.cols = part_len-positive r.dims.cols r.parts.c place.1 fits.some_cols fits.cols in
     let f = λ (i j : ℕ). item None r.dims.cols r.elements (rect.row + i) (rect.col + j) in
     let parts = and_parts (is_child r.parts place) (list_all (λ (e : Option ℤ). is_some e) (child_elements r place)) v in
-    let here : list_all (λ (e : Option ℤ). is_some e) (table (rect_dims rect) f) ≡ true = parts.1 in
     let first : 0 * rect.cols + 0 < length (table (rect_dims rect) f) = omega (arith, length-table (rect_dims rect) f, item_inside (rect_dims rect) 0 0 rows cols) in
-    let some = sym (ap (λ (e : Option ℤ). is_some e) (item-table None (rect_dims rect) f 0 0 rows cols)) ∙ all-at (λ (e : Option ℤ). is_some e) (table (rect_dims rect) f) (0 * rect.cols + 0) None here first in
-    let none = all-at (λ (e : Option ℤ). is_none e) r.elements ((rect.row + 0) * r.dims.cols + (rect.col + 0)) None blank (omega (arith, whole, item_inside r.dims (rect.row + 0) (rect.col + 0) (omega (arith, inside.0, rows)) (omega (arith, inside.1, cols)))) in
-    not_both (f 0 0) some none
+    let some = sym (ap (λ (e : Option ℤ). is_some e) (item-table None (rect_dims rect) f 0 0 rows cols)) ∙ AllPass-from_list_all (λ (e : Option ℤ). is_some e) (table (rect_dims rect) f) parts.1 (0 * rect.cols + 0) None first in
+    let none = AllPass-from_list_all (λ (e : Option ℤ). is_none e) r.elements blank ((rect.row + 0) * r.dims.cols + (rect.col + 0)) None (omega (arith, whole, item_inside r.dims (rect.row + 0) (rect.col + 0) (omega (arith, inside.0, rows)) (omega (arith, inside.1, cols)))) in
+    false≢true (sym (ap not some) ∙ none)
 
 pub no_values-blank : (n : ℕ) → list_all (λ (e : Option ℤ). is_none e) (replicate n None) ≡ true
-no_values-blank zero = refl
-no_values-blank (suc n) = no_values-blank n
+no_values-blank n = list_all-from_AllPass (λ (e : Option ℤ). is_none e) (replicate n None) (All-replicate (λ (e : Option ℤ). is_none e ≡ true) n None refl)
 
 -- ---- first elements
 
 pub unwrapped : (xs : List ℤ) → integers_of (map Some xs) ≡ xs
-unwrapped [] = refl
-unwrapped (x ∷ xs) = ap (λ ys. x ∷ ys) (unwrapped xs)
-
-filled : (a b : ℤ) (ps : List ℕ) → integers_of (map (λ p. Some (wrap (a +ℤ (b *ℤ pos p)))) ps) ≡ map (λ p. wrap (a +ℤ (b *ℤ pos p))) ps
-filled a b ps = map-map (λ (e : Option ℤ). unwrap_or e (pos 0)) (λ p. Some (wrap (a +ℤ (b *ℤ pos p)))) ps
+unwrapped xs = map-map (λ (e : Option ℤ). unwrap_or e (pos 0)) (λ (x : ℤ). Some x) xs ∙ map-id xs
 
 exact : (r i c l j : ℕ) → ((pos r +ℤ pos i) *ℤ pos c) +ℤ (pos l +ℤ pos j) ≡ pos ((r + i) * c + (l + j))
 exact r i c l j = omega (arith, ints)
@@ -153,7 +153,7 @@ pub filled-window : (a b : ℤ) (d : Dims) (r : Rect) → Within r d → loadfil
 filled-window a b d r inside =
     ap (array (rect_dims r)) (table-same (pos 0) (rect_dims r) (λ i j. wrap (a +ℤ (b *ℤ (((pos r.row +ℤ pos i) *ℤ pos d.cols) +ℤ (pos r.col +ℤ pos j))))) (λ i j. item (pos 0) d.cols (integers_of (first_elements (Fill a b) d)) (r.row + i) (r.col + j)) (λ i j hi hj.
     ap (λ z. wrap (a +ℤ (b *ℤ z))) (exact r.row i d.cols r.col j)
-    ∙ sym (ap (λ xs. get_or xs ((r.row + i) * d.cols + (r.col + j)) (pos 0)) (filled a b (range_with_len 0 (area d)))
+    ∙ sym (ap (λ (xs : List ℤ). get_or xs ((r.row + i) * d.cols + (r.col + j)) (pos 0)) (map-map (λ (e : Option ℤ). unwrap_or e (pos 0)) (λ (p : ℕ). Some (wrap (a +ℤ (b *ℤ pos p)))) (range_with_len 0 (area d)))
     ∙ get_or-map-range_with_len (λ p. wrap (a +ℤ (b *ℤ pos p))) 0 (area d) ((r.row + i) * d.cols + (r.col + j)) ((r.row + i) * d.cols + (r.col + j)) (pos 0) (item_inside d (r.row + i) (r.col + j) (omega (arith, inside.0)) (omega (arith, inside.1))) (omega arith))))
 
 -- a child has a value after an array was put into it

@@ -1,9 +1,30 @@
 -- Tasks that fill the cells of a plan's children, one child after another.
-use Rattle.sj_lower.proofs.Words.{[], access, ap, Array, array, Cell, Contents, deliver_row, Dims, dims_of, each_of, false, fill_row, flat_map, gives_value, held_in, IsPlace, Kernel, Line, List, load_row, loadfill, Lowered, own_task, Parts, places, pos, Program, Rect, refl, same_cell, same_child_place, subst, true, W, window, zeros, ℕ, ℤ, ◌||◌, ◌∙◌, ◌∷◌, ◌≡◌}
+use Rattle.std.proofs.Common.{◌≡◌, ℕ, true, false, ◌||◌, List, [], ◌∷◌, ℤ, pos, map as each_of, refl, ap, subst, ◌∙◌}
+use Rattle.std.specs.List.{flat_map}
 use Rattle.std.proofs.lemmas.List.Concat.{flat_map_single}
-use Rattle.sj_base.proofs.SameIds.{same_cell-is, same_cell-itself}
-use Rattle.sj_plan.proofs.{Lists.any-flat_map, Lists.any-map, Lists.any-places, Lists.each-places, Repartitioning.same_child_place-refl}
-use Rattle.sj_lower.proofs.{Contents.held-other, Contents.held-same, Folding.after_row, Folding.after_rows, Folding.blocks-fill, Folding.blocks-others, Folding.IsAlone, Folding.IsBeside, Folding.IsBlock, Folding.one_gives}
+use Rattle.sj_base.specs.declared.ids.Cell.{Cell}
+use Rattle.sj_base.specs.declared.ids.Line.{Line}
+use Rattle.sj_base.specs.declared.tile.Dims.{Dims}
+use Rattle.sj_base.specs.declared.mode.Mode.TheVariants.{W}
+use Rattle.sj_base.specs.declared.program.Lowered.{Lowered}
+use Rattle.sj_base.specs.declared.program.Program.{Program}
+use Rattle.sj_base.specs.Array.{Array, array, zeros}
+use Rattle.sj_codelet.specs.declared.kernel.Kernel.{Kernel}
+use Rattle.sj_codelet.specs.Equations.{loadfill}
+use Rattle.sj_core.specs.Program.{same_cell, dims_of}
+use Rattle.sj_core.specs.Proper.{gives_value}
+use Rattle.sj_core.specs.Fold.{Contents, held_in}
+use Rattle.sj_plan.specs.declared.parts.Parts.{Parts}
+use Rattle.sj_plan.specs.declared.rect.Rect.{Rect}
+use Rattle.sj_plan.specs.Parts.{IsPlace, places}
+use Rattle.sj_plan.specs.Paste.{same_child_place}
+use Rattle.sj_plan.specs.Window.{window}
+use Rattle.sj_plan.proofs.Lists.{each-places, any-places, any-map, any-flat_map}
+use Rattle.sj_phases.specs.Rows.{an_access, own_task}
+use Rattle.sj_lower.specs.Rows.{load_row, fill_row, deliver_row}
+use Rattle.sj_lower.proofs.Contents.{held-same, held-other, same_cell-is, same_cell-itself}
+use Rattle.sj_lower.proofs.Folding.{after_row, after_rows, one_gives, IsBlock, IsBeside, IsAlone, blocks-others, blocks-fill}
+use Rattle.sj_lower.proofs.Places.{place-itself}
 
 -- ---- all children of a plan
 
@@ -21,7 +42,7 @@ pub blocks-filled : (p : Program) (I : Contents → Type 0) (rows : ℕ × ℕ �
 blocks-filled p I rows cell x s k blocks i own =
     let all = each-places (IsBlock p I rows cell x) s blocks in
     record {
-      value = λ place inside. blocks-fill p I rows cell x (places s) k place all i (any-places (same_child_place place) s place inside (same_child_place-refl place)) (each-places (IsAlone cell place) s (λ q hq e. own q place hq inside (same_cell-is (cell q) (cell place) e)));
+      value = λ place inside. blocks-fill p I rows cell x (places s) k place all i (any-places (same_child_place place) s place inside (place-itself place)) (each-places (IsAlone cell place) s (λ q hq e. own q place hq inside (same_cell-is (cell q) (cell place) e)));
       others = λ d beside. blocks-others p I rows cell x (places s) k d all i (each-places (IsBeside cell d) s beside);
     }
 
@@ -60,5 +81,5 @@ pub after_delivers : (p : Program) (k : Contents) (cell : ℕ × ℕ → Cell) (
 after_delivers p k cell line [] = refl
 after_delivers p k cell line (q ∷ qs) = after_delivers p k cell line qs
 
-pub gives_own : (k : Kernel) (args : List ℤ) (c : Cell) (line : Line) → gives_value (own_task k args (access W c ∷ []) line) c ≡ true
+pub gives_own : (k : Kernel) (args : List ℤ) (c : Cell) (line : Line) → gives_value (own_task k args (an_access W c ∷ []) line) c ≡ true
 gives_own k args c line = ap (λ b. b || false) (same_cell-itself c)

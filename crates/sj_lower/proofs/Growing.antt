@@ -1,7 +1,11 @@
 -- Cells are only added, and a cell that gets partial copies keeps them.
-use Rattle.sj_lower.proofs.Words.{ap, arith, Cell, CellInfo, get_or, inl, inr, length, length-append, List, no_cell, None, refl, Some, sym, ℕ, ◌++◌, ◌-◌, ◌<◌, ◌∙◌, ◌≡◌, ◌≤◌, ◌⊎◌}
-use Rattle.std.proofs.lemmas.{Bool.cases_lt, List.get_or-append_right, List.get_or_append_left, List.get_or_past}
-use Rattle.sj_lower.proofs.Laid.{none_isn't}
+use Rattle.std.proofs.Common.{◌≡◌, ℕ, zero, suc, ◌<◌, ◌≤◌, Some, None, List, [], ◌∷◌, ◌++◌, length, get_or, refl, sym, ap, ◌∙◌, inl, inr, arith, length-append}
+use Rattle.std.specs.Prelude.{◌⊎◌}
+use Rattle.std.proofs.lemmas.List.{get_or_append_left}
+use Rattle.sj_base.specs.declared.ids.Cell.{Cell}
+use Rattle.sj_base.specs.declared.program.CellInfo.{CellInfo}
+use Rattle.sj_core.specs.Program.{no_cell}
+use Rattle.sj_lower.proofs.Taken.{none_isn't}
 
 abbrev pub row_at : List CellInfo → ℕ → CellInfo
 row_at rows n = get_or rows n no_cell
@@ -29,20 +33,18 @@ grows-trans xs ys zs a b = record {
 
 -- a cell that has partial copies is there
 pub has-row : (xs : List CellInfo) (n : ℕ) (f : Cell) → (row_at xs n).partials ≡ Some f → n < length xs
-has-row xs n f e = elim (cases_lt n (length xs)) [
-  | inl inside ↦ inside
-  | inr past ↦ absurd (none_isn't f (sym (ap (λ (i : CellInfo). i.partials) (get_or_past xs n no_cell past)) ∙ e))
-]
+has-row [] n f e = absurd (none_isn't f e)
+has-row (x ∷ xs) zero f e = omega arith
+has-row (x ∷ xs) (suc n) f e = omega (arith, has-row xs n f e)
 
 -- rows without partial copies
 abbrev pub NoneHas : List CellInfo → Type 0
 NoneHas zs = (n : ℕ) → (row_at zs n).partials ≡ None
 
 pub append-partials : (xs zs : List CellInfo) → NoneHas zs → (n : ℕ) (f : Cell) → (row_at (xs ++ zs) n).partials ≡ Some f → (row_at xs n).partials ≡ Some f
-append-partials xs zs none n f e = elim (cases_lt n (length xs)) [
-  | inl inside ↦ sym (ap (λ (i : CellInfo). i.partials) (get_or_append_left xs zs no_cell n inside)) ∙ e
-  | inr past ↦ absurd (none_isn't f (sym (none (n - length xs)) ∙ sym (ap (λ (i : CellInfo). i.partials) (get_or-append_right xs zs (length xs) n no_cell refl past)) ∙ e))
-]
+append-partials [] zs none n f e = absurd (none_isn't f (sym (none n) ∙ e))
+append-partials (x ∷ xs) zs none zero f e = e
+append-partials (x ∷ xs) zs none (suc n) f e = append-partials xs zs none n f e
 
 pub grows-append : (xs zs : List CellInfo) → NoneHas zs → Grows xs (xs ++ zs)
 grows-append xs zs none = record {

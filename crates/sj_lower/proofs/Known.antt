@@ -1,19 +1,56 @@
--- The codelets of a lowered program are those of the set by which its job was read.
-use Rattle.sj_lower.proofs.Words.{[], Act, active_cell, all_closed, ap, apply, begin_rows, begun, Bool, Cell, cell_of, Cells, cells_after, child, child_dims, closed, closed_by, Codelet, combine_of, combine_row, combine_rows, commutes_in, cond, contributes_in, contributes_of, contributions, copy_at, Deliver, deliver_row, each_of, extended, false, Fill, fill_row, filter, finished, first_partial, fits, fold, has_child_values, has_reduction, Init, init_of, init_row, init_rows, Invalidates, is_commute, is_known, is_lawful, is_redux, IsSoundTask, JobState, Kernel, kernel_of, Least, leaves_plan, length, Line, List, list_all, Load, load_row, load_rows, LoadFill, lower_from, lower_one, Lowered, Lowering, None, not, Nothing, nothing, opened, opened_for, OpenPhase, Operand, Option, Parts, parts_in, paste_row, pastes_of, phase_turned, places, plan_rows, Plans, Plus, prepared, Prints, range_with_len, Reduces, Reduction, reduction_of, refl, Register, Registers, root_of, RootState, rows_added, Some, start, Statement, sym, TaskLine, Tasks, true, Unregisters, Values, with_phase, ℕ, ◌&&◌, ◌||◌, ◌∙◌, ◌∷◌, ◌≡◌}
+-- The codelets of what statements give are those of the set by which they are sound.
+use Rattle.std.proofs.Common.{◌≡◌, ℕ, Bool, true, false, cond, ◌&&◌, Option, Some, None, List, [], ◌∷◌, ◌++◌, length, map as each_of, fold, refl, sym, ap, subst, ◌∙◌, inl, inr}
 use Rattle.std.specs.Prelude.{All}
-use Rattle.std.proofs.lemmas.{Bool.and_parts, Bool.false≢true, List.Elements.All-append, List.Elements.All-cons, List.Elements.All-from_recursion, List.Elements.All-nil}
-use Rattle.sj_codelet.specs.declared.kernel.Kernel.TheVariants.{Paste}
+use Rattle.std.specs.List.{range_with_len, flat_map, list_any}
+use Rattle.std.proofs.lemmas.Bool.{and_parts, cases_Bool, cond_both}
+use Rattle.std.proofs.lemmas.List.Elements.{All-nil, All-cons, All-head, All-tail, All-append, All-from_recursion}
+use Rattle.sj_base.specs.declared.ids.Cell.{Cell}
+use Rattle.sj_base.specs.declared.ids.Line.{Line}
+use Rattle.sj_base.specs.declared.mode.Reduction.{Reduction}
+use Rattle.sj_base.specs.declared.program.Lowered.{Lowered}
+use Rattle.sj_base.specs.Mode.{is_redux}
+use Rattle.sj_codelet.specs.declared.kernel.Kernel.{Kernel}
+use Rattle.sj_codelet.specs.declared.kernel.Kernel.TheVariants.{Load, LoadFill, Paste, Deliver}
+use Rattle.sj_codelet.specs.Kernel.{codelet_of, fits, init_of, combine_of, has_reduction, contributes_of}
+use Rattle.sj_codelet.proofs.Table.{kernel_of-codelet_of}
+use Rattle.sj_core.specs.Laws.{is_known}
+use Rattle.sj_plan.specs.declared.parts.Parts.{Parts}
+use Rattle.sj_plan.specs.Paste.{pastes_of}
 use Rattle.sj_plan.proofs.Lists.{each-map, each-of}
-use Rattle.sj_lower.proofs.{Able.AllCanBe, Able.CanBe, Closing.by_phase, Stating.by_cell, Stating.phase-other, Stating.phase-own}
+use Rattle.sj_meaning.specs.Statement.{Operand, TaskLine}
+use Rattle.sj_meaning.specs.Act.{Act, Statement}
+use Rattle.sj_meaning.specs.Act.{Register as Registers, Plan as Plans, Redux as Reduces, Task as Tasks, Print as Prints, Invalidate as Invalidates, Unregister as Unregisters}
+use Rattle.sj_meaning.specs.State.{RootState, is_valued}
+use Rattle.sj_meaning.specs.Numbers.{root_at, apply_at}
+use Rattle.sj_phases.specs.declared.phase.Opening.{Opening}
+use Rattle.sj_phases.specs.declared.phase.OpenPhase.{OpenPhase}
+use Rattle.sj_phases.specs.Block.{Block}
+use Rattle.sj_phases.specs.Rows.{init_row, combine_row, init_rows, combine_rows, copy_at}
+use Rattle.sj_phases.specs.Expand.{Expansion, nothing, turned, with_phase, closed, opened, begin_rows, phase_at, prepared, expanded, expand, cells_below, last_block}
+use Rattle.sj_phases.proofs.Logging.{phase-own, phase-other, by_which, some_is, none_isn't}
+use Rattle.sj_lower.specs.Cells.{same_parts}
+use Rattle.sj_lower.specs.Laid.{Laid, cell_of, take, with_root, with_copies}
+use Rattle.sj_lower.specs.Rows.{load_rows, paste_row, deliver_row}
+use Rattle.sj_lower.specs.SoundAt.{IsSoundTask, IsSound, AreSound, child_dims}
+use Rattle.sj_lower.specs.Step.{by_number, step_of, active_cells, closing, operand_cell, opening_of, contributed, plan_block, task_row}
+use Rattle.sj_lower.proofs.Doing.{kernel_there}
+use Rattle.sj_lower.proofs.Good.{each-load}
+use Rattle.sj_lower.proofs.Operands.{contributes-there, last-there, lawful-at, lawful-contribution, none-filter, one-opens, opening_by, reduction_of}
+use Rattle.sj_lower.proofs.Properly.{blocks_from}
 
 -- the set has the task's codelet
 abbrev pub IsKnown : (Kernel → Bool) → Lowered → Type 0
 IsKnown has l = is_known has l.codelet ≡ true
 
+-- it has those of a block, and the reductions that it opens
+pub record AreKnownIn (has : Kernel → Bool) (b : Block) : Type 0 where
+  pub tasks : All (IsKnown has) b.tasks
+  pub reductions : All (λ (o : Opening). has_reduction has o.by ≡ true) b.opens
+
 -- it has those of the tasks so far, and the reductions of the open phases
-pub record AreKnown (has : Kernel → Bool) (L : Lowering) : Type 0 where
-  pub tasks : All (IsKnown has) L.tasks
-  pub reductions : (c : Cell) (f : OpenPhase) → L.phase c ≡ Some f → has_reduction has f.by ≡ true
+pub record AreKnown (has : Kernel → Bool) (E : Expansion) : Type 0 where
+  pub tasks : All (IsKnown has) E.tasks
+  pub reductions : (c : Cell) (f : OpenPhase) → E.phase c ≡ Some f → has_reduction has f.by ≡ true
 
 -- the runtime's own codelets
 pub record HasOwn (has : Kernel → Bool) : Type 0 where
@@ -31,140 +68,121 @@ own-of has h =
 
 -- ---- tasks of phases
 
-known-init : (has : Kernel → Bool) (by : Reduction) (line : Line) (c : Cell) → has_reduction has by ≡ true → IsKnown has (init_row by line c)
-known-init has Plus line c h = (and_parts (has (init_of Plus)) (has (combine_of Plus)) h).0
-known-init has Least line c h = (and_parts (has (init_of Least)) (has (combine_of Least)) h).0
-
-known-combine : (has : Kernel → Bool) (by : Reduction) (c : Cell) (line : Line) (q : Cell) → has_reduction has by ≡ true → IsKnown has (combine_row by c line q)
-known-combine has Plus c line q h = (and_parts (has (init_of Plus)) (has (combine_of Plus)) h).1
-known-combine has Least c line q h = (and_parts (has (init_of Least)) (has (combine_of Least)) h).1
+known-kernel : (has : Kernel → Bool) (k : Kernel) → has k ≡ true → is_known has (codelet_of k) ≡ true
+known-kernel has k h = ap (λ (o : Option Kernel). elim o as (λ _. Bool) [ None ↦ false | Some j ↦ has j ]) (kernel_of-codelet_of k) ∙ h
 
 all-rows : {X : Type 0} (has : Kernel → Bool) (row : X → Lowered) (xs : List X) → ((x : X) → IsKnown has (row x)) → All (IsKnown has) (each_of row xs)
 all-rows has row xs h = All-from_recursion (IsKnown has) (each_of row xs) (each-map (IsKnown has) row xs (each-of (λ x. IsKnown has (row x)) h xs))
 
--- ---- closing
+-- tasks more, and the phase of a cell, which is of the set's reductions
+known-turned : (has : Kernel → Bool) (ls : List Lowered) (c : Cell) (o : Option OpenPhase) (E : Expansion) → AreKnown has E → All (IsKnown has) ls → ((g : OpenPhase) → o ≡ Some g → has_reduction has g.by ≡ true) → AreKnown has (turned ls c o E)
+known-turned has ls c o E k more own = record {
+  tasks = All-append (IsKnown has) E.tasks ls k.tasks more;
+  reductions = λ d g h. by_which c d (has_reduction has g.by ≡ true)
+      (λ same. own g (sym (phase-own c o E.phase) ∙ ap (with_phase c o E.phase) same ∙ h))
+      (λ other. k.reductions d g (sym (phase-other c o E.phase d other) ∙ h));
+}
 
-known_closed : (has : Kernel → Bool) (workers : ℕ) (L : Lowering) (c : Cell) → AreKnown has L → AreKnown has (closed workers L c)
-known_closed has workers L c k = by_phase workers L c (AreKnown has) (λ e. k) (λ f e. record {
-  tasks = All-append (IsKnown has) L.tasks (combine_rows f c workers) k.tasks (all-rows has (λ w. combine_row f.by c f.line (copy_at f.copies w)) (range_with_len 0 workers) (λ w. known-combine has f.by c f.line (copy_at f.copies w) (k.reductions c f e)));
-  reductions = λ d g h. by_cell (λ d. with_phase c None L.phase d ≡ Some g → has_reduction has g.by ≡ true) c d (λ x. absurd (let no : None ≡ Some g = sym (phase-own c None L.phase) ∙ x in cc)) (λ other x. k.reductions _ g (sym (phase-other c None L.phase _ other) ∙ x)) h;
-})
-
-pub known_all_closed : (has : Kernel → Bool) (workers : ℕ) (cs : List Cell) (L : Lowering) → AreKnown has L → AreKnown has (all_closed workers cs L)
-known_all_closed has workers [] L k = k
-known_all_closed has workers (c ∷ cs) L k = known_all_closed has workers cs (closed workers L c) (known_closed has workers L c k)
-
--- ---- opening
-
-by_some : (has : Kernel → Bool) (L : Lowering) (c : Cell) (f : OpenPhase) → has_reduction has f.by ≡ true → AreKnown has L → (d : Cell) (g : OpenPhase) → with_phase c (Some f) L.phase d ≡ Some g → has_reduction has g.by ≡ true
-by_some has L c f own k d g h = by_cell (λ d. with_phase c (Some f) L.phase d ≡ Some g → has_reduction has g.by ≡ true) c d
-    (λ x. let same : Some f ≡ Some g = sym (phase-own c (Some f) L.phase) ∙ x in let is : f ≡ g = cc in ap (λ (j : OpenPhase). has_reduction has j.by) (sym is) ∙ own)
-    (λ other x. k.reductions _ g (sym (phase-other c (Some f) L.phase _ other) ∙ x)) h
-
-known_opened : (has : Kernel → Bool) (workers : ℕ) (by : Reduction) (v : Bool) (line : Line) (c : Cell) (L : Lowering) → has_reduction has by ≡ true → AreKnown has L → AreKnown has (opened workers by v line c L)
-known_opened has workers by v line c L own k = by_option (L.phase c) refl
+known-closed : (has : Kernel → Bool) (w : ℕ) (E : Expansion) (c : Cell) → AreKnown has E → AreKnown has (closed w E c)
+known-closed has w E c k = by_phase (E.phase c) refl
   where
-    by_option : (o : Option OpenPhase) → L.phase c ≡ o → AreKnown has (elim o as (λ _. Lowering) [ None ↦ begun workers by v line c L | Some f ↦ phase_turned L.cells [] c (Some (extended f line)) L ])
-    by_option None e = record {
-      tasks = All-append (IsKnown has) L.tasks (begin_rows by (first_partial L.cells c) c v workers line) k.tasks
-          (All-append (IsKnown has) (init_rows by (first_partial L.cells c) workers line) (cond v [] (init_row by line c ∷ [])) (all-rows has (λ w. init_row by line (copy_at (first_partial L.cells c) w)) (range_with_len 0 workers) (λ w. known-init has by line (copy_at (first_partial L.cells c) w) own)) (by_valued v));
-      reductions = by_some has L c (record { by = by; copies = first_partial L.cells c; line = line }) own k;
-    }
-      where
-        by_valued : (x : Bool) → All (IsKnown has) (cond x [] (init_row by line c ∷ []))
-        by_valued true = All-nil (IsKnown has)
-        by_valued false = All-cons (IsKnown has) (init_row by line c) [] (known-init has by line c own) (All-nil (IsKnown has))
-    by_option (Some f) e = record {
-      tasks = All-append (IsKnown has) L.tasks [] k.tasks (All-nil (IsKnown has));
-      reductions = by_some has L c (extended f line) (k.reductions c f e) k;
-    }
+    by_phase : (o : Option OpenPhase) → E.phase c ≡ o → AreKnown has (elim o as (λ _. Expansion) [ None ↦ E | Some f ↦ turned (combine_rows f c w) c None E ])
+    by_phase None e = k
+    by_phase (Some f) e = known-turned has (combine_rows f c w) c None E k (all-rows has (λ n. combine_row f.by c f.line (copy_at f.copies n)) (range_with_len 0 w) (λ n. known-kernel has (combine_of f.by) (and_parts (has (init_of f.by)) (has (combine_of f.by)) (k.reductions c f e)).1)) (λ g h. absurd (none_isn't g h))
+
+known-closes : (has : Kernel → Bool) (w : ℕ) (cs : List Cell) (E : Expansion) → AreKnown has E → AreKnown has (fold (closed w) E cs)
+known-closes has w [] E k = k
+known-closes has w (c ∷ cs) E k = known-closes has w cs (closed w E c) (known-closed has w E c k)
+
+known-begins : (has : Kernel → Bool) (w : ℕ) (o : Opening) (line : Line) → has_reduction has o.by ≡ true → All (IsKnown has) (begin_rows w o line)
+known-begins has w o line own =
+    let unit = known-kernel has (init_of o.by) (and_parts (has (init_of o.by)) (has (combine_of o.by)) own).0 in
+    All-append (IsKnown has) (init_rows o.by o.copies w line) (cond o.valued [] (init_row o.by line o.cell ∷ [])) (all-rows has (λ n. init_row o.by line (copy_at o.copies n)) (range_with_len 0 w) (λ n. unit))
+    (cond_both o.valued [] (init_row o.by line o.cell ∷ []) (All (IsKnown has)) (λ e. All-nil (IsKnown has)) (λ e. All-cons (IsKnown has) (init_row o.by line o.cell) [] unit (All-nil (IsKnown has))))
+
+known-opened : (has : Kernel → Bool) (w : ℕ) (line : Line) (E : Expansion) (o : Opening) → has_reduction has o.by ≡ true → AreKnown has E → AreKnown has (opened w line E o)
+known-opened has w line E o own k =
+    known-turned has (elim (E.phase o.cell) as (λ _. List Lowered) [ None ↦ begin_rows w o line | Some f ↦ [] ]) o.cell (Some (phase_at o line)) E k (by_phase (E.phase o.cell)) (λ g h. ap (λ (f : OpenPhase). has_reduction has f.by) (sym (some_is (phase_at o line) g h)) ∙ own)
+  where
+    by_phase : (x : Option OpenPhase) → All (IsKnown has) (elim x as (λ _. List Lowered) [ None ↦ begin_rows w o line | Some f ↦ [] ])
+    by_phase None = known-begins has w o line own
+    by_phase (Some f) = All-nil (IsKnown has)
+
+known-opens : (has : Kernel → Bool) (w : ℕ) (line : Line) (os : List Opening) (E : Expansion) → All (λ (o : Opening). has_reduction has o.by ≡ true) os → AreKnown has E → AreKnown has (fold (opened w line) E os)
+known-opens has w line [] E h k = k
+known-opens has w line (o ∷ os) E h k = known-opens has w line os (opened w line E o) (All-tail (λ (x : Opening). has_reduction has x.by ≡ true) o os h) (known-opened has w line E o (All-head (λ (x : Opening). has_reduction has x.by ≡ true) o os h) k)
+
+known-expanded : (has : Kernel → Bool) (w : ℕ) (E : Expansion) (b : Block) → AreKnownIn has b → AreKnown has E → AreKnown has (expanded w E b)
+known-expanded has w E b h k =
+    let ready = known-opens has w b.line b.opens (fold (closed w) E b.closes) h.reductions (known-closes has w b.closes E k) in
+    record { tasks = All-append (IsKnown has) (prepared w E b).tasks b.tasks ready.tasks h.tasks; reductions = ready.reductions }
+
+-- of blocks, one after another
+abbrev pub AllKnown : (Kernel → Bool) → List Block → Type 0
+AllKnown has [] = Unit {0}
+AllKnown has (b ∷ bs) = AreKnownIn has b × AllKnown has bs
+
+pub known-expand : (has : Kernel → Bool) (w : ℕ) (bs : List Block) (E : Expansion) → AllKnown has bs → AreKnown has E → AreKnown has (expand w E bs)
+known-expand has w [] E h k = k
+known-expand has w (b ∷ bs) E h k = known-expand has w bs (expanded w E b) h.1 (known-expanded has w E b h.0 k)
+
+-- ---- statements
+
+known-quiet : (has : Kernel → Bool) (line : Line) (cs : List Cell) (ls : List Lowered) → All (IsKnown has) ls → AreKnownIn has (closing line cs ls)
+known-quiet has line cs ls h = record { tasks = h; reductions = All-nil (λ (o : Opening). has_reduction has o.by ≡ true) }
 
 -- a contribution's reduction is one of the set's
-known-reduction : (has : Kernel → Bool) (S : JobState) (id : Codelet) (o : Operand (List ℕ)) (by : Reduction) → is_lawful has S id o ≡ true → is_redux o.mode ≡ true → reduction_of S o.name ≡ Some by → has_reduction has by ≡ true
-known-reduction has S id o by law redux e = by_kernel (kernel_of id) contributes
-  where
-    contributes : contributes_in has id by ≡ true
-    contributes =
-        let both = and_parts (not (is_commute o.mode) || commutes_in has id) _ law in
-        sym (ap (λ (x : Option Reduction). elim x as (λ _. Bool) [ None ↦ false | Some by ↦ contributes_in has id by ]) e)
-        ∙ sym (ap (λ b. not b || (elim (reduction_of S o.name) as (λ _. Bool) [ None ↦ false | Some by ↦ contributes_in has id by ])) redux) ∙ both.1
+known-openings : (has : Kernel → Bool) (rs : List RootState) (D : Laid) (t : TaskLine ℕ) → IsSoundTask has rs t → All (λ (o : Opening). has_reduction has o.by ≡ true) (flat_map (opening_of (by_number rs) D) (contributed t))
+known-openings has rs D t s = elim (cases_Bool (list_any (λ (o : Operand ℕ). is_redux o.mode) t.operands)) [
+  | inl some ↦
+      let con = contributes-there has rs t s some in
+      let k = (kernel_there has rs t s).call in
+      let law = lawful-contribution has t.codelet (reduction_of rs con.last.name) con.last.mode (lawful-at has rs t s con.last (last-there con)) (ap is_redux con.redux) in
+      let its = subst (λ (o : Option Kernel). (elim o as (λ _. Bool) [ None ↦ false | Some j ↦ has j && contributes_of j law.0 && has_reduction has law.0 ]) ≡ true) k.is law.2 in
+      let known = (and_parts (has k.kernel && contributes_of k.kernel law.0) (has_reduction has law.0) its).1 in
+      let same = some_is law.0 con.by (sym law.1 ∙ con.reduction) in
+      subst (All (λ (o : Opening). has_reduction has o.by ≡ true)) (sym (one-opens con D))
+      (All-cons (λ (o : Opening). has_reduction has o.by ≡ true) (opening_by con D) [] (subst (λ (by : Reduction). has_reduction has by ≡ true) same known) (All-nil (λ (o : Opening). has_reduction has o.by ≡ true)))
+  | inr none ↦ subst (λ (us : List (Operand ℕ)). All (λ (o : Opening). has_reduction has o.by ≡ true) (flat_map (opening_of (by_number rs) D) us)) (sym (none-filter t.operands none)) (All-nil (λ (o : Opening). has_reduction has o.by ≡ true))
+]
 
-    by_kernel : (x : Option Kernel) → (elim x as (λ _. Bool) [ None ↦ false | Some k ↦ has k && contributes_of k by && has_reduction has by ]) ≡ true → has_reduction has by ≡ true
-    by_kernel None h = absurd (false≢true h)
-    by_kernel (Some k) h = (and_parts (has k && contributes_of k by) (has_reduction has by) h).1
+known-task : (has : Kernel → Bool) (rs : List RootState) (t : TaskLine ℕ) → IsSoundTask has rs t → is_known has t.codelet ≡ true
+known-task has rs t s =
+    let k = (kernel_there has rs t s).call in
+    let fit = subst (λ (o : Option Kernel). (elim o as (λ _. Bool) [ None ↦ false | Some j ↦ has j && fits j t.args (each_of (child_dims rs) t.operands) ]) ≡ true) k.is s.fits in
+    ap (λ (o : Option Kernel). elim o as (λ _. Bool) [ None ↦ false | Some j ↦ has j ]) k.is ∙ (and_parts (has k.kernel) (fits k.kernel t.args (each_of (child_dims rs) t.operands)) fit).0
 
-known_opened_for : (has : Kernel → Bool) (workers : ℕ) (S : JobState) (id : Codelet) (line : Line) (os : List (Operand (List ℕ))) (L : Lowering) → list_all (is_lawful has S id) os ≡ true → AreKnown has L → AreKnown has (fold (opened_for workers S line) L (filter (λ o. is_redux o.mode) os))
-known_opened_for has workers S id line [] L law k = k
-known_opened_for has workers S id line (o ∷ os) L law k =
-    let a = and_parts (is_lawful has S id o) (list_all (is_lawful has S id) os) law in
-    by_test (is_redux o.mode) refl a.0 (λ M m. known_opened_for has workers S id line os M a.1 m)
-  where
-    by_test : (b : Bool) → is_redux o.mode ≡ b → is_lawful has S id o ≡ true → ((M : Lowering) → AreKnown has M → AreKnown has (fold (opened_for workers S line) M (filter (λ o. is_redux o.mode) os)))
-        → AreKnown has (fold (opened_for workers S line) L (cond b (o ∷ filter (λ o. is_redux o.mode) os) (filter (λ o. is_redux o.mode) os)))
-    by_test false e law rest = rest L k
-    by_test true e law rest = rest (opened_for workers S line L o) (by_option (reduction_of S o.name) refl)
-      where
-        by_option : (x : Option Reduction) → reduction_of S o.name ≡ x → AreKnown has (elim x as (λ _. Lowering) [ None ↦ L | Some by ↦ opened workers by (has_child_values S o) line (active_cell S L.cells o.name o.place) L ])
-        by_option None r = k
-        by_option (Some by) r = known_opened has workers by (has_child_values S o) line (active_cell S L.cells o.name o.place) L (known-reduction has S id o by law e r) k
+known-plan : (has : Kernel → Bool) (r : RootState) (old : List Cell) (D : Laid) (n : ℕ) (p : Parts) (line : Line) → HasOwn has → AreKnownIn has (plan_block r old D n p line)
+known-plan has r old D n p line own =
+    let row = paste_row (cell_of D n r.parts) (cell_of D n p) line in
+    let pastes = each_of row (pastes_of r.dims r.parts p) in
+    let known = cond_both (is_valued r) pastes [] (All (IsKnown has)) (λ e. all-rows has row (pastes_of r.dims r.parts p) (λ x. own.paste)) (λ e. All-nil (IsKnown has)) in
+    cond_both (same_parts r.parts p) (closing line [] []) (closing line old (cond (is_valued r) pastes [])) (AreKnownIn has) (λ e. known-quiet has line [] [] (All-nil (IsKnown has))) (λ e. known-quiet has line old (cond (is_valued r) pastes []) known)
 
--- ---- a statement's own tasks
+pub known-step : (has : Kernel → Bool) (w : ℕ) (rs : List RootState) (C : Laid) (line : Line) (a : Act ℕ) → HasOwn has → IsSound has rs a → AreKnownIn has (step_of w (by_number rs) C line a).block
+known-step has w rs C line (Registers r) own s =
+    let cell = cell_of (take (length C.handles) r.parts (with_root r.dims C)) (length C.handles) r.parts in
+    let rows = load_rows r.init r.dims r.parts cell line in
+    known-quiet has line [] rows (All-from_recursion (IsKnown has) rows (each-load (IsKnown has) r.init r.dims r.parts cell line (λ xs place at. own.load) (λ a b place at. own.load_fill)))
+known-step has w rs C line (Plans n p) own s = known-plan has (root_at rs n) (active_cells (by_number rs) C n) (take n p C) n p line own
+known-step has w rs C line (Reduces n by) own s = known-quiet has line [] [] (All-nil (IsKnown has))
+known-step has w rs C line (Tasks t) own s =
+    let D = fold (with_copies w) C (each_of (operand_cell (by_number rs) C) (contributed t)) in
+    record { tasks = All-cons (IsKnown has) (task_row (by_number rs) D t line) [] (known-task has rs t s) (All-nil (IsKnown has)); reductions = known-openings has rs D t s }
+known-step has w rs C line (Prints n) own s = record { tasks = all-rows has (λ c. deliver_row c line) (active_cells (by_number rs) C n) (λ c. own.deliver); reductions = All-nil (λ (o : Opening). has_reduction has o.by ≡ true) }
+known-step has w rs C line (Invalidates n) own s = known-quiet has line (active_cells (by_number rs) C n) [] (All-nil (IsKnown has))
+known-step has w rs C line (Unregisters n) own s = known-quiet has line (active_cells (by_number rs) C n) [] (All-nil (IsKnown has))
 
-known-loads : (has : Kernel → Bool) (r : Register (List ℕ)) (C : Cells) (line : Line) (i : Init) → HasOwn has → All (IsKnown has) (load_rows i r.dims r.parts (cell_of C r.name r.parts) line)
-known-loads has r C line (Values xs) own = all-rows has (λ place. load_row xs r.dims (child r.dims r.parts place) (cell_of C r.name r.parts place) line) (places r.parts) (λ place. own.load)
-known-loads has r C line (Fill a b) own = all-rows has (λ place. fill_row a b r.dims (child r.dims r.parts place) (cell_of C r.name r.parts place) line) (places r.parts) (λ place. own.load_fill)
-known-loads has r C line Nothing own = All-nil (IsKnown has)
+-- ---- a job
 
-known-plan : (has : Kernel → Bool) (S : JobState) (C : Cells) (name : List ℕ) (s : Parts) (line : Line) → HasOwn has → All (IsKnown has) (plan_rows S C name s line)
-known-plan has S C name s line own = by_root (root_of S name)
-  where
-    by_idle : (b : Bool) (r : RootState) → All (IsKnown has) (cond b [] (each_of (paste_row (cell_of C name r.parts) (cell_of C name s) line) (pastes_of r.dims r.parts s)))
-    by_idle true r = All-nil (IsKnown has)
-    by_idle false r = all-rows has (paste_row (cell_of C name r.parts) (cell_of C name s) line) (pastes_of r.dims r.parts s) (λ x. own.paste)
+known-blocks : (has : Kernel → Bool) (w : ℕ) (ss : List (Statement ℕ)) (rs : List RootState) (C : Laid) (more : List Block) → HasOwn has → AreSound has rs ss → AllKnown has more → AllKnown has (blocks_from w rs C ss ++ more)
+known-blocks has w [] rs C more own sound rest = rest
+known-blocks has w (s ∷ ss) rs C more own sound rest =
+    let x = step_of w (by_number rs) C s.line s.act in
+    (known-step has w rs C s.line s.act own sound.0, known-blocks has w ss (apply_at s.act rs) x.laid more own sound.1 rest)
 
-    by_root : (o : Option RootState) → All (IsKnown has) (elim o as (λ _. List Lowered) [
-      | None ↦ []
-      | Some r ↦ cond (leaves_plan s r) [] (each_of (paste_row (cell_of C name r.parts) (cell_of C name s) line) (pastes_of r.dims r.parts s))
-    ])
-    by_root None = All-nil (IsKnown has)
-    by_root (Some r) = by_idle (leaves_plan s r) r
-
-known-task : (has : Kernel → Bool) (S : JobState) (t : TaskLine (List ℕ)) → IsSoundTask has S t → is_known has t.codelet ≡ true
-known-task has S t s = by_kernel (kernel_of t.codelet) s.fits
-  where
-    by_kernel : (x : Option Kernel) → (elim x as (λ _. Bool) [ None ↦ false | Some k ↦ has k && fits k t.args (each_of (child_dims S) t.operands) ]) ≡ true → (elim x as (λ _. Bool) [ None ↦ false | Some k ↦ has k ]) ≡ true
-    by_kernel None h = absurd (false≢true h)
-    by_kernel (Some k) h = (and_parts (has k) (fits k t.args (each_of (child_dims S) t.operands)) h).0
-
-known-rows : (has : Kernel → Bool) (S : JobState) (C : Cells) (line : Line) (a : Act (List ℕ)) → HasOwn has → CanBe has S a → All (IsKnown has) (rows_added S C line a)
-known-rows has S C line (Registers r) own can = known-loads has r C line r.init own
-known-rows has S C line (Plans name s) own can = known-plan has S C name s line own
-known-rows has S C line (Reduces name by) own can = All-nil (IsKnown has)
-known-rows has S C line (Tasks t) own can = All-cons (IsKnown has) _ [] (known-task has S t can.sound) (All-nil (IsKnown has))
-known-rows has S C line (Prints name) own can = all-rows has (λ place. deliver_row (active_cell S C name place) line) (places (parts_in S name)) (λ place. own.deliver)
-known-rows has S C line (Invalidates name) own can = All-nil (IsKnown has)
-known-rows has S C line (Unregisters name) own can = All-nil (IsKnown has)
-
--- ---- all statements
-
-known_prepared : (has : Kernel → Bool) (workers : ℕ) (S : JobState) (line : Line) (a : Act (List ℕ)) (L : Lowering) → CanBe has S a → AreKnown has L → AreKnown has (fold (opened_for workers S line) L (contributions a))
-known_prepared has workers S line (Registers r) L can k = k
-known_prepared has workers S line (Plans name s) L can k = k
-known_prepared has workers S line (Reduces name by) L can k = k
-known_prepared has workers S line (Tasks t) L can k = known_opened_for has workers S t.codelet line t.operands L can.sound.lawful k
-known_prepared has workers S line (Prints name) L can k = k
-known_prepared has workers S line (Invalidates name) L can k = k
-known_prepared has workers S line (Unregisters name) L can k = k
-
-pub known_from : (has : Kernel → Bool) (workers : ℕ) (S : JobState) (L : Lowering) (ss : List (Statement (List ℕ))) → HasOwn has → AllCanBe has S ss → AreKnown has L → AreKnown has (lower_from workers S L ss)
-known_from has workers S L [] own can k = k
-known_from has workers S L (s ∷ ss) own can k =
-    let M = prepared workers S s L in
-    let m = known_prepared has workers S s.line s.act (all_closed workers (closed_by S L.cells s.act) L) can.0 (known_all_closed has workers (closed_by S L.cells s.act) L k) in
-    known_from has workers (apply s.act S) (lower_one workers S s L) ss own can.1
-    (record { tasks = All-append (IsKnown has) M.tasks (rows_added S (cells_after s.act M.cells) s.line s.act) m.tasks (known-rows has S (cells_after s.act M.cells) s.line s.act own can.0); reductions = m.reductions })
-
--- the set has the codelets of a job's program
-pub known : (has : Kernel → Bool) (workers : ℕ) (ss : List (Statement (List ℕ))) → HasOwn has → AllCanBe has start ss → All (IsKnown has) (finished workers (lower_from workers start nothing ss)).tasks
-known has workers ss own can =
-    (known_all_closed has workers (each_of (λ n. let d : Cell = record { 0 = n } in d) (range_with_len 0 (length (lower_from workers start nothing ss).cells.rows))) (lower_from workers start nothing ss) (known_from has workers start nothing ss own can (record { tasks = All-nil (IsKnown has); reductions = λ c f e. absurd (cc) }))).tasks
+-- the set has the codelets of the job's program
+pub known-all : (has : Kernel → Bool) (w : ℕ) (ss : List (Statement ℕ)) (rs : List RootState) (C : Laid) (cells : ℕ) (line : Line) → HasOwn has → AreSound has rs ss → All (IsKnown has) (expand w nothing (blocks_from w rs C ss ++ last_block cells line ∷ [])).tasks
+known-all has w ss rs C cells line own sound =
+    (known-expand has w (blocks_from w rs C ss ++ last_block cells line ∷ []) nothing (known-blocks has w ss rs C (last_block cells line ∷ []) own sound (known-quiet has line (cells_below cells) [] (All-nil (IsKnown has)), tt))
+    (record { tasks = All-nil (IsKnown has); reductions = λ c f e. absurd (none_isn't f e) })).tasks

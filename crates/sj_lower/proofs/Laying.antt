@@ -1,160 +1,309 @@
 -- The code's layout is that of the definition, after a root takes a plan or a cell gets its partial copies.
-use Rattle.sj_lower.proofs.Words.{a_root, act_seen, ap, AreDistinct, arith, Bool, bytes_eq, Cell, CellInfo, Cells, cells_after, child, child_cell, children_after, children_count, children_of, cond, copy_info, Dims, each_of, false, first_after, first_cell, first_partial, get, get_or, handle_in, info_at, info_of, Init, is_some, Layout, Lays, length, length-append, List, most, name_of, nat_eq, next_handle, no_cell, None, Option, Parts, places, plan_taken, rect_cell, refl, Root, RootInfo, same_parts, same_taken, set, Some, subst, sym, Table, take, Taken, taking_plan, true, unwrap_or, with_copies, with_first, with_handle, with_new_root, with_partials, ℕ, ◌&&◌, ◌*◌, ◌++◌, ◌+◌, ◌<◌, ◌∙◌, ◌≡◌, ◌≤◌}
-use Rattle.std.specs.Prelude.{replicate}
-use Rattle.std.proofs.lemmas.{Bool.and_from, Bool.and_parts, Bool.false≢true, Bool.ne_eqb, List.set-append_left, Option.same_Some, Simd.map-map}
-use Rattle.sj_base.proofs.{Bools.nat_eq-itself, Texts.same_text}
-use Rattle.sj_meaning.specs.declared.job.Act.TheVariants as kept
-use Rattle.sj_lower.proofs.{Copies.by_copies, Copies.copied-length, Copies.first-new, Laid.bytes_eq-itself, Laid.none_isn't, Laid.take-by, Places.length-places, Places.parts-are}
+use Rattle.std.proofs.Common.{◌≡◌, ℕ, zero, suc, ◌+◌, ◌*◌, ◌<◌, ◌≤◌, cond, ◌&&◌, Option, Some, None, IfSome, IfNone, List, [], ◌∷◌, ◌++◌, length, map as each_of, fold, get_or, refl, sym, ap, subst, ◌∙◌, inl, inr, arith, length-append, get_or-set_same, get_or-set_other}
+use Rattle.std.specs.Prelude.{nat_eq, replicate, set, unwrap_or}
+use Rattle.std.proofs.Math.Seq.{get_or-append_seam}
+use Rattle.std.proofs.lemmas.Bool.{cases_eq, eq-eqb, ne_eqb}
+use Rattle.std.proofs.lemmas.List.{get_or_append_left, get_or_default, length-set, set-append_left}
+use Rattle.std.proofs.lemmas.Simd.{map-map}
+use Rattle.indexmap.specs.IndexMap.{get}
+use Rattle.sj_base.specs.declared.ids.Cell.{Cell}
+use Rattle.sj_base.specs.declared.ids.Root.{Root as RootNumber}
+use Rattle.sj_base.specs.declared.program.CellInfo.{CellInfo}
+use Rattle.sj_base.specs.declared.tile.Dims.{Dims}
+use Rattle.sj_base.specs.Array.{area}
+use Rattle.sj_base.proofs.Options.{IfSome-at}
+use Rattle.sj_core.specs.Program.{no_cell}
+use Rattle.sj_plan.specs.declared.parts.Parts.{Parts}
+use Rattle.sj_plan.specs.Parts.{IsPlace, places}
+use Rattle.sj_plan.specs.Rect.{child, children_of}
+use Rattle.sj_meaning.specs.declared.job.Operand.{Operand}
+use Rattle.sj_meaning.specs.Statement.{Register}
+use Rattle.sj_meaning.specs.Meaning.{registered_root, with_parts}
+use Rattle.sj_meaning.specs.State.{RootState}
+use Rattle.sj_meaning.specs.Numbers.{root_at, change_at, operand_at}
+use Rattle.sj_phases.specs.Expand.{most}
+use Rattle.sj_lower.specs.declared.layout.Active.{Active}
+use Rattle.sj_lower.specs.declared.layout.Layout.{Layout}
+use Rattle.sj_lower.specs.declared.layout.Taken.{Taken}
+use Rattle.sj_lower.specs.declared.rows.Placed.{Placed}
+use Rattle.sj_lower.specs.Cells.{rect_cell, cells_from, same_parts, copy_info, with_partials}
+use Rattle.sj_lower.specs.Follows.{taken, same_taken, Lays, IsActive, AreActive, Follows, no_active, active_at, HasCells, IsInside, cell_by, cells_by}
+use Rattle.sj_lower.specs.Laid.{Laid, Handle, handle_of, handle_at, first_cell, taking, take, with_root, info_at, first_copy, with_copies}
+use Rattle.sj_lower.specs.SoundAt.{Lives}
+use Rattle.sj_lower.specs.Step.{by_number, operand_cell, active_cells}
+use Rattle.sj_lower.specs.Whole.{IsWhole}
+use Rattle.sj_lower.proofs.Copying.{by_copies, copied-length, first-new, first-old}
+use Rattle.sj_lower.proofs.Keeping.{lives-below, changed-here, changed-beside}
+use Rattle.sj_lower.proofs.Places.{parts-itself}
+use Rattle.sj_lower.proofs.Starting.{pushed-there, pushed-beside}
+use Rattle.sj_lower.proofs.Taken.{none_isn't, some_is, by_first, took-there, took-other, longer, take-keeps, take-handles, root-there}
+
+-- ---- what the code's calls say
+
+-- what is so where there is no value
+pub none-at : {X : Type 0} (o : Option X) (P : Type 0) → o ≡ None → IfNone o P → P
+none-at o P e h = subst (λ x. IfNone x P) e h
+
+-- a root's plan has its cells, from this one on
+abbrev pub Takes : Layout → Layout → ℕ → Dims → Parts → Placed → Type 0
+Takes l m n d p placed = (C : Laid) → Lays l C → n < length C.handles → (handle_at C n).dims ≡ d → Lays m (take n p C) × ((handle_at (take n p C) n).first p ≡ Some placed.first)
+
+-- with them there are too many
+abbrev pub TakesTooMany : Layout → ℕ → Dims → Parts → Type 0
+TakesTooMany l n d p = (C : Laid) → Lays l C → n < length C.handles → (handle_at C n).dims ≡ d → most < length (take n p C).rows
+
+-- ---- a plan more
+
+-- a plan that was taken before
+pub lays-old : (l : Layout) (C : Laid) (n : ℕ) (p : Parts) (f : ℕ) → Lays l C → get same_taken l.firsts (taken n p) ≡ Some f → Lays l (take n p C) × ((handle_at (take n p C) n).first p ≡ Some f)
+lays-old l C n p f s there =
+    let e = sym (s.firsts n p) ∙ there in
+    by_first C n p (λ (D : Laid). Lays l D × ((handle_at D n).first p ≡ Some f)) (λ g had. (s, e)) (λ none. absurd (none_isn't f (sym none ∙ e)))
+
+-- the plans of a root afterwards
+first-after : (C : Laid) (n : ℕ) (p : Parts) → n < length C.handles → (m : ℕ) (q : Parts) → (handle_at (taking n p C) m).first q ≡ cond (nat_eq n m && same_parts p q) (Some (length C.rows)) ((handle_at C m).first q)
+first-after C n p lt m q = elim (cases_eq n m) as (λ _. (handle_at (taking n p C) m).first q ≡ cond (nat_eq n m && same_parts p q) (Some (length C.rows)) ((handle_at C m).first q)) [
+  | inl e ↦ ap (λ (h : Handle). h.first q) (ap (handle_at (taking n p C)) (sym e) ∙ took-there C n p lt) ∙ (λ i. cond (sym (eq-eqb n m e) i && same_parts p q) (Some (length C.rows)) ((handle_at C (e i)).first q))
+  | inr other ↦ ap (λ (h : Handle). h.first q) (took-other C n p m (λ e. other (sym e))) ∙ (λ i. cond (sym (ne_eqb n m other) i && same_parts p q) (Some (length C.rows)) ((handle_at C m).first q))
+]
 
 -- a plan that is new
-news : (T : Table) (l : Layout) (C : Cells) (r : Root) (p : Parts) → Lays T l C → r.0 < C.roots → get same_taken l.firsts (plan_taken r.0 p) ≡ None → take (name_of T r) p C ≡ record {
-  rows = C.rows ++ each_of (child_cell r (info_of T r).dims p) (places p);
-  handles = with_handle (name_of T r) (taking_plan p (length C.rows) (handle_in T l r.0)) C.handles;
-  roots = C.roots;
-}
-news T l C r p s inside none =
-    let name = name_of T r in
-    let h = handle_in T l r.0 in
-    take-by C name p h (s.handles r.0 inside) ∙ ap (λ (o : Option ℕ). cond (is_some o) C (record {
-      rows = C.rows ++ each_of (child_cell h.root h.dims p) (places p);
-      handles = with_handle name (taking_plan p (length C.rows) h) C.handles;
-      roots = C.roots;
-    })) none
-
-pub lays_new : (T : Table) (old new : Layout) (C : Cells) (r : Root) (d : Dims) (p : Parts) (first : ℕ) → Lays T old C → r.0 < C.roots → AreDistinct T.names → C.roots ≤ length T.names → (info_of T r).dims ≡ d → get same_taken old.firsts (plan_taken r.0 p) ≡ None
-    → new.infos.items ≡ old.infos.items ++ each_of (rect_cell r) (children_of d p) → ((q : Taken) → get same_taken new.firsts q ≡ cond (same_taken (plan_taken r.0 p) q) (Some first) (get same_taken old.firsts q)) → new.roots ≡ old.roots → first ≡ length old.infos.items
-    → Lays T new (take (name_of T r) p C) × (first_cell (take (name_of T r) p C) (name_of T r) p ≡ first) × (first + children_count p ≤ length (take (name_of T r) p C).rows)
-lays_new T old new C r d p first s inside distinct few dims none rows firsts roots number =
-    let whole = news T old C r p s inside none in
-    let one = number ∙ ap length s.rows in (
-      subst (Lays T new) (sym whole) (record {
-        rows = rows ∙ (λ i. s.rows i ++ each_of (rect_cell r) (children_of (sym dims i) p)) ∙ ap (λ is. C.rows ++ is) (map-map (rect_cell r) (child (info_of T r).dims p) (places p));
-        roots = roots ∙ s.roots;
-        handles = λ m lt. by_name m lt (bytes_eq (name_of T r) (name_of T (a_root m))) refl;
-        room = λ m q f e. room_by m q f (same_taken (plan_taken r.0 p) (plan_taken m q)) refl (sym (firsts (plan_taken m q)) ∙ e);
-        fresh = λ m q past. sym (there m (λ same. omega (arith, same, past, inside)) q) ∙ s.fresh m q past;
-      }),
-      ap (λ (D : Cells). first_cell D (name_of T r) p) whole
-          ∙ ap (λ b. elim (cond b (Some (taking_plan p (length C.rows) (handle_in T old r.0))) (C.handles (name_of T r))) as (λ _. ℕ) [ None ↦ 0 | Some h ↦ unwrap_or (h.first p) 0 ]) (bytes_eq-itself (name_of T r))
-          ∙ ap (λ b. unwrap_or (cond b (Some (length C.rows)) (get same_taken old.firsts (plan_taken r.0 p))) 0) (and_from (nat_eq p.r p.r) (nat_eq p.c p.c) (nat_eq-itself p.r) (nat_eq-itself p.c))
-          ∙ sym one,
-      subst (λ (D : Cells). first + children_count p ≤ length D.rows) (sym whole) (omega (arith, one, longer)),
-    )
-  where
-    longer : length (C.rows ++ each_of (child_cell r (info_of T r).dims p) (places p)) ≡ length C.rows + children_count p
-    longer = length-append C.rows (each_of (child_cell r (info_of T r).dims p) (places p)) ∙ ap (λ n. length C.rows + n) (length-places (child_cell r (info_of T r).dims p) p)
-
-    room_by : (m : ℕ) (q : Parts) (f : ℕ) (b : Bool) → same_taken (plan_taken r.0 p) (plan_taken m q) ≡ b → cond b (Some first) (get same_taken old.firsts (plan_taken m q)) ≡ Some f → f + children_count q ≤ length (C.rows ++ each_of (child_cell r (info_of T r).dims p) (places p))
-    room_by m q f true t e =
-        let plan : p ≡ q = parts-are p q (and_parts (nat_eq r.0 m) (same_parts p q) t).1 in
-        let is : first ≡ f = same_Some first f e in
-        subst (λ (x : Parts). f + children_count x ≤ length (C.rows ++ each_of (child_cell r (info_of T r).dims p) (places p))) plan (omega (arith, is, number, ap length s.rows, longer))
-    room_by m q f false t e = omega (arith, s.room m q f e, longer)
-
-    here : (q : Parts) → with_first p (length C.rows) (handle_in T old r.0).first q ≡ get same_taken new.firsts (plan_taken r.0 q)
-    here q =
-        ap (λ n. cond (same_parts p q) (Some n) (get same_taken old.firsts (plan_taken r.0 q))) (sym (number ∙ ap length s.rows))
-        ∙ ap (λ b. cond (b && same_parts p q) (Some first) (get same_taken old.firsts (plan_taken r.0 q))) (sym (nat_eq-itself r.0)) ∙ sym (firsts (plan_taken r.0 q))
-
-    there : (m : ℕ) → (r.0 ≡ m → ⊥) → (q : Parts) → get same_taken old.firsts (plan_taken m q) ≡ get same_taken new.firsts (plan_taken m q)
-    there m other q = ap (λ b. cond (b && same_parts p q) (Some first) (get same_taken old.firsts (plan_taken m q))) (sym (ne_eqb r.0 m other)) ∙ sym (firsts (plan_taken m q))
-
-    by_name : (m : ℕ) → m < C.roots → (b : Bool) → bytes_eq (name_of T r) (name_of T (a_root m)) ≡ b
-        → cond b (Some (taking_plan p (length C.rows) (handle_in T old r.0))) (C.handles (name_of T (a_root m))) ≡ Some (handle_in T new m)
-    by_name m lt true e =
-        let same : r.0 ≡ m = distinct r.0 m (omega (arith, inside, few)) (omega (arith, lt, few)) (same_text (name_of T r) (name_of T (a_root m)) e) in
-        (λ i. Some (record { root = r; dims = (info_of T r).dims; first = λ q. here q i })) ∙ ap (λ n. Some (handle_in T new n)) same
-    by_name m lt false e =
-        let other : r.0 ≡ m → ⊥ = λ same. false≢true (sym e ∙ ap (λ n. bytes_eq (name_of T r) (name_of T (a_root n))) (sym same) ∙ bytes_eq-itself (name_of T r)) in
-        s.handles m lt ∙ (λ i. Some (record { root = a_root m; dims = (info_of T (a_root m)).dims; first = λ q. there m other q i }))
+pub lays-new : (old new : Layout) (C : Laid) (r : RootNumber) (d : Dims) (p : Parts) (first : ℕ) → Lays old C → r.0 < length C.handles → (handle_at C r.0).dims ≡ d → get same_taken old.firsts (taken r.0 p) ≡ None
+    → new.infos.items ≡ old.infos.items ++ each_of (rect_cell r) (children_of d p) → ((q : Taken) → get same_taken new.firsts q ≡ cond (same_taken (taken r.0 p) q) (Some first) (get same_taken old.firsts q)) → first ≡ length old.infos.items → length new.infos.items ≤ most
+    → Lays new (take r.0 p C) × ((handle_at (take r.0 p C) r.0).first p ≡ Some first)
+lays-new old new C r d p first s inside dims none rows firsts number few =
+    let n = r.0 in
+    let one = number ∙ ap length s.rows in
+    let same_rows : new.infos.items ≡ (taking n p C).rows =
+    rows ∙ (λ i. s.rows i ++ each_of (rect_cell r) (children_of (sym dims i) p)) ∙ ap (λ is. C.rows ++ is) (map-map (rect_cell r) (child (handle_at C n).dims p) (places p)) in
+    let lays : Lays new (taking n p C) = record {
+      rows = same_rows;
+      few = omega (arith, few, ap length same_rows);
+      firsts = λ m q. firsts (taken m q) ∙ (λ i. cond (nat_eq n m && same_parts p q) (Some (one i)) (s.firsts m q i)) ∙ sym (first-after C n p inside m q);
+    } in
+    by_first C n p (λ (D : Laid). Lays new D × ((handle_at D n).first p ≡ Some first)) (λ f had. absurd (none_isn't f (sym none ∙ s.firsts n p ∙ had)))
+    (λ fresh. (lays, ap (λ (h : Handle). h.first p) (took-there C n p inside) ∙ (λ i. cond (parts-itself p i) (Some (sym one i)) ((handle_at C n).first p))))
 
 -- too many cells
-pub lays_full : (T : Table) (l : Layout) (C : Cells) (r : Root) (p : Parts) → Lays T l C → r.0 < C.roots → get same_taken l.firsts (plan_taken r.0 p) ≡ None → most < length l.infos.items + p.r * p.c → most < length (take (name_of T r) p C).rows
-lays_full T l C r p s inside none above =
-    let e = ap (λ (D : Cells). length D.rows) (news T l C r p s inside none) in
-    let longer = length-append C.rows (each_of (child_cell r (info_of T r).dims p) (places p)) in
-    omega (arith, e, longer, length-places (child_cell r (info_of T r).dims p) p, ap length s.rows, above)
+pub lays-full : (l : Layout) (C : Laid) (n : ℕ) (p : Parts) → Lays l C → get same_taken l.firsts (taken n p) ≡ None → most < length l.infos.items + p.r * p.c → most < length (take n p C).rows
+lays-full l C n p s none above =
+    by_first C n p (λ (D : Laid). most < length D.rows) (λ f had. absurd (none_isn't f (sym none ∙ s.firsts n p ∙ had))) (λ fresh. omega (arith, longer C n p, ap length s.rows, above))
 
--- a root more, before it has taken a plan
-pub lays_root : (T : Table) (old new : Layout) (C : Cells) → Lays T old C → AreDistinct T.names → C.roots < length T.names → new.infos.items ≡ old.infos.items → new.firsts ≡ old.firsts → new.roots ≡ old.roots + 1
-    → Lays T new (with_new_root (name_of T (a_root C.roots)) (info_of T (a_root C.roots)).dims C)
-lays_root T old new C s distinct few rows firsts roots = record {
-  rows = rows ∙ s.rows;
-  roots = roots ∙ ap (λ n. n + 1) s.roots;
-  handles = λ m lt. by_name m lt (bytes_eq (name_of T (a_root C.roots)) (name_of T (a_root m))) refl;
-  room = λ m q f e. s.room m q f (ap (λ x. get same_taken x (plan_taken m q)) (sym firsts) ∙ e);
-  fresh = λ m q past. ap (λ f. get same_taken f (plan_taken m q)) firsts ∙ s.fresh m q (omega (arith, past));
+-- ---- a root more
+
+root-first : (hs : List Handle) (d : Dims) (n : ℕ) (p : Parts) → (get_or (hs ++ handle_of d ∷ []) n (handle_of (record { rows = 0; cols = 0 }))).first p ≡ (get_or hs n (handle_of (record { rows = 0; cols = 0 }))).first p
+root-first [] d zero p = refl
+root-first [] d (suc n) p = refl
+root-first (h ∷ hs) d zero p = refl
+root-first (h ∷ hs) d (suc n) p = root-first hs d n p
+
+pub lays-root : (l : Layout) (C : Laid) (d : Dims) → Lays l C → Lays l (with_root d C)
+lays-root l C d s = record { rows = s.rows; few = s.few; firsts = λ n p. s.firsts n p ∙ sym (root-first C.handles d n p) }
+
+-- ---- active plans
+
+-- the active plans of which that of one root has changed with the root, in cells where each plan that was taken is so
+active-changed : (as' bs : List Active) (rs qs : List RootState) (C D : Laid) (n : ℕ) (a : Active) (r : RootState) → AreActive as' rs C → length bs ≡ length D.handles → active_at bs n ≡ a → root_at qs n ≡ r → IsActive D n a r
+    → ((m : ℕ) → (m ≡ n → ⊥) → Lives rs m → active_at bs m ≡ active_at as' m) → ((m : ℕ) → (m ≡ n → ⊥) → root_at qs m ≡ root_at rs m) → ((m : ℕ) (s : Parts) (f : ℕ) → (handle_at C m).first s ≡ Some f → (handle_at D m).first s ≡ Some f) → AreActive bs qs D
+active-changed as' bs rs qs C D n a r old counted mine here is others roots keeps = record {
+  counted = counted;
+  each = λ m lives. elim (cases_eq m n) as (λ _. IsActive D m (active_at bs m) (root_at qs m)) [
+    | inl e ↦ subst (λ i. IsActive D i (active_at bs i) (root_at qs i)) (sym e) (subst (λ (x : Active). IsActive D n x (root_at qs n)) (sym mine) (subst (λ (x : RootState). IsActive D n a x) (sym here) is))
+    | inr other ↦
+        let root = roots m other in
+        let was : Lives rs m = subst (λ (x : RootState). 0 < area x.dims) root lives in
+        let h = old.each m was in
+        subst (λ (x : RootState). IsActive D m (active_at bs m) x) (sym root) (subst (λ (x : Active). IsActive D m x (root_at rs m)) (sym (others m other was))
+        (record { parts = h.parts; first = keeps m (root_at rs m).parts (active_at as' m).placed.first h.first; reduction = h.reduction }))
+  ];
 }
-  where
-    by_name : (m : ℕ) → m < C.roots + 1 → (b : Bool) → bytes_eq (name_of T (a_root C.roots)) (name_of T (a_root m)) ≡ b
-        → cond b (Some (next_handle (info_of T (a_root C.roots)).dims C)) (C.handles (name_of T (a_root m))) ≡ Some (handle_in T new m)
-    by_name m lt true e =
-        let same : C.roots ≡ m = distinct C.roots m few (omega (arith, lt, few)) (same_text (name_of T (a_root C.roots)) (name_of T (a_root m)) e) in
-        (λ i. Some (record { root = a_root C.roots; dims = (info_of T (a_root C.roots)).dims; first = λ q. sym (s.fresh C.roots q (omega arith)) i })) ∙ (λ i. Some (record { root = a_root (same i); dims = (info_of T (a_root (same i))).dims; first = λ q. get same_taken (sym firsts i) (plan_taken (same i) q) }))
-    by_name m lt false e =
-        let other : m ≡ C.roots → ⊥ = λ same. false≢true (sym e ∙ ap (λ n. bytes_eq (name_of T (a_root C.roots)) (name_of T (a_root n))) same ∙ bytes_eq-itself (name_of T (a_root C.roots))) in
-        s.handles m (below other lt) ∙ (λ i. Some (record { root = a_root m; dims = (info_of T (a_root m)).dims; first = λ q. get same_taken (sym firsts i) (plan_taken m q) }))
-      where
-        below : (m ≡ C.roots → ⊥) → m < C.roots + 1 → m < C.roots
-        below other lt = omega (arith, other, lt)
 
--- ---- a registration
+-- the same where the root is that of a number which is there
+pub active-set : (as' : List Active) (rs : List RootState) (C D : Laid) (n : ℕ) (f : RootState → RootState) (a : Active) → AreActive as' rs C → Lives rs n → length C.handles ≡ length rs → length D.handles ≡ length C.handles → IsActive D n a (f (root_at rs n))
+    → ((m : ℕ) (s : Parts) (g : ℕ) → (handle_at C m).first s ≡ Some g → (handle_at D m).first s ≡ Some g) → AreActive (set as' n a) (change_at f n rs) D
+active-set as' rs C D n f a old lives counted handles is keeps =
+    active-changed as' (set as' n a) rs (change_at f n rs) C D n a (f (root_at rs n)) old (length-set as' n a ∙ old.counted ∙ sym handles)
+    (get_or-set_same as' n a no_active (omega (arith, lives-below rs n lives, counted, old.counted))) (changed-here f n rs lives) is
+    (λ m other was. get_or-set_other as' n m a no_active other) (λ m other. changed-beside f n m rs other) keeps
 
-abbrev pub one_root_more : Layout → Layout
-one_root_more l = record { infos = l.infos; firsts = l.firsts; roots = l.roots + 1 }
+pub keeps-take : (C : Laid) (n : ℕ) (p : Parts) → n < length C.handles → (m : ℕ) (s : Parts) (f : ℕ) → (handle_at C m).first s ≡ Some f → (handle_at (take n p C) m).first s ≡ Some f
+keeps-take C n p lt m s f e = (take-keeps C n p lt m (handle_at C m).dims s f (record { dims = refl; first = e })).first
 
-root_at : (T : Table) (old : Layout) (C : Cells) → Lays T old C → AreDistinct T.names → old.roots + 1 ≤ length T.names → Lays T (one_root_more old) (with_new_root (name_of T (a_root old.roots)) (info_of T (a_root old.roots)).dims C)
-root_at T old C s distinct few =
-    subst (λ (n : ℕ). Lays T (one_root_more old) (with_new_root (name_of T (a_root n)) (info_of T (a_root n)).dims C)) (sym s.roots)
-    (lays_root T old (one_root_more old) C s distinct (omega (arith, s.roots, few)) refl refl refl)
+-- another root's, or the same one's first plan
+module _ (old new : Layout) (rs : List RootState) (C : Laid) (r : Register ℕ) (placed : Placed) (follows : Follows old rs C) (counted : length C.handles ≡ length rs) where
+  abbrev n : ℕ
+  n = length C.handles
 
--- what the root's first plan leaves, is what the registration does
-pub lays_register : (T : Table) (old new : Layout) (C : Cells) (info : RootInfo) (init : Init) (first : ℕ) → Lays T old C → AreDistinct T.names → old.roots + 1 ≤ length T.names → info ≡ info_of T (a_root old.roots)
-    → ((D : Cells) → Lays T (one_root_more old) D → old.roots < D.roots → AreDistinct T.names → D.roots ≤ length T.names → (info_of T (a_root old.roots)).dims ≡ info.dims → Lays T new (take (name_of T (a_root old.roots)) info.parts D) × (first_cell (take (name_of T (a_root old.roots)) info.parts D) (name_of T (a_root old.roots)) info.parts ≡ first) × (first + children_count info.parts ≤ length (take (name_of T (a_root old.roots)) info.parts D).rows))
-    → Lays T new (cells_after (act_seen T old.roots (kept.Register init)) C) × (first_after (act_seen T old.roots (kept.Register init)) (cells_after (act_seen T old.roots (kept.Register init)) C) ≡ first) × (first + children_after (act_seen T old.roots (kept.Register init)) ≤ length (cells_after (act_seen T old.roots (kept.Register init)) C).rows)
-lays_register T old new C info init first s distinct few is takes =
-    let D = with_new_root (name_of T (a_root old.roots)) (info_of T (a_root old.roots)).dims C in
-    let h = takes D (root_at T old C s distinct few) (omega (arith, s.roots)) distinct (omega (arith, s.roots, few)) (ap (λ (x : RootInfo). x.dims) (sym is)) in
-    subst (λ (x : RootInfo). Lays T new (take (name_of T (a_root old.roots)) x.parts D) × (first_cell (take (name_of T (a_root old.roots)) x.parts D) (name_of T (a_root old.roots)) x.parts ≡ first) × (first + children_count x.parts ≤ length (take (name_of T (a_root old.roots)) x.parts D).rows)) is h
+  abbrev D : Laid
+  D = take n r.parts (with_root r.dims C)
 
-pub full_register : (T : Table) (old : Layout) (C : Cells) (info : RootInfo) (init : Init) → Lays T old C → AreDistinct T.names → old.roots + 1 ≤ length T.names → info ≡ info_of T (a_root old.roots)
-    → ((D : Cells) → Lays T (one_root_more old) D → old.roots < D.roots → (info_of T (a_root old.roots)).dims ≡ info.dims → most < length (take (name_of T (a_root old.roots)) info.parts D).rows)
-    → most < length (cells_after (act_seen T old.roots (kept.Register init)) C).rows
-full_register T old C info init s distinct few is full =
-    let D = with_new_root (name_of T (a_root old.roots)) (info_of T (a_root old.roots)).dims C in
-    subst (λ (x : RootInfo). most < length (take (name_of T (a_root old.roots)) x.parts D).rows) is (full D (root_at T old C s distinct few) (omega (arith, s.roots)) (ap (λ (x : RootInfo). x.dims) (sym is)))
+  pub follows-register : Lays new D → (handle_at D n).first r.parts ≡ Some placed.first → placed.parts ≡ r.parts → (let a : Active = record { placed = placed; reduction = None } in new.actives.items ≡ old.actives.items ++ a ∷ []) → Follows new (rs ++ registered_root r ∷ []) D
+  follows-register lays first parts actives =
+      let a : Active = record { placed = placed; reduction = None } in
+      let root = registered_root r in
+      let as' = old.actives.items in
+      let long = length-append C.handles (handle_of r.dims ∷ []) in
+      let active = active-changed as' (as' ++ a ∷ []) rs (rs ++ root ∷ []) C D n a root follows.active
+      (length-append as' (a ∷ []) ∙ ap (λ k. k + 1) follows.active.counted ∙ sym (take-handles (with_root r.dims C) n r.parts ∙ long))
+      (ap (active_at (as' ++ a ∷ [])) (sym follows.active.counted) ∙ get_or-append_seam as' a [] no_active) (pushed-there rs root n counted) (record { parts = parts; first = first; reduction = refl })
+      (λ m other was. get_or_append_left as' (a ∷ []) no_active m (omega (arith, lives-below rs m was, counted, follows.active.counted))) (λ m other. pushed-beside rs root m (λ e. other (e ∙ sym counted)))
+      (λ m s f e. keeps-take (with_root r.dims C) n r.parts (omega (arith, long)) m s f (root-first C.handles r.dims m s ∙ e)) in
+      record { lays = lays; active = subst (λ bs. AreActive bs (rs ++ root ∷ []) D) (sym actives) active }
+
+-- another plan of a root
+module _ (old new : Layout) (rs : List RootState) (C : Laid) (n : ℕ) (p : Parts) (placed : Placed) (follows : Follows old rs C) (lives : Lives rs n) (counted : length C.handles ≡ length rs) where
+  abbrev next : Active
+  next = record { placed = placed; reduction = (active_at old.actives.items n).reduction }
+
+  pub follows-plan : Lays new (take n p C) → (handle_at (take n p C) n).first p ≡ Some placed.first → placed.parts ≡ p → new.actives.items ≡ set old.actives.items n next → Follows new (change_at (with_parts p) n rs) (take n p C)
+  follows-plan lays first parts actives =
+      let is : IsActive (take n p C) n next (with_parts p (root_at rs n)) = record { parts = parts; first = first; reduction = (follows.active.each n lives).reduction } in
+      let active = active-set old.actives.items rs C (take n p C) n (with_parts p) next follows.active lives counted (take-handles C n p) is (keeps-take C n p (omega (arith, lives-below rs n lives, counted))) in
+      record { lays = lays; active = subst (λ bs. AreActive bs (change_at (with_parts p) n rs) (take n p C)) (sym actives) active }
+
+-- ---- the same by what the code's calls gave
+
+-- the same cells, whichever plans are active
+lays-as : (old new : Layout) (C : Laid) → new.infos ≡ old.infos → new.firsts ≡ old.firsts → Lays old C → Lays new C
+lays-as old new C infos firsts s = record { rows = ap (λ v. v.items) infos ∙ s.rows; few = s.few; firsts = λ n p. ap (λ m. get same_taken m (taken n p)) firsts ∙ s.firsts n p }
+
+-- the active plan that the code reads
+pub active-is : (actives : List Active) (n : ℕ) (a : Active) → n < length actives → a ≡ get_or actives n a → a ≡ active_at actives n
+active-is actives n a inside is = is ∙ get_or_default actives n a no_active inside
+
+-- the number of the next root
+next-inside : (C : Laid) (d : Dims) (k : ℕ) → k ≡ length C.handles → k < length (with_root d C).handles
+next-inside C d k at = omega (arith, at, length-append C.handles (handle_of d ∷ []))
+
+next-dims : (C : Laid) (b d : Dims) (k : ℕ) → k ≡ length C.handles → b ≡ d → (handle_at (with_root b C) k).dims ≡ d
+next-dims C b d k at same = ap (λ (h : Handle). h.dims) (root-there C b k at) ∙ same
+
+pub registers : (old mid new : Layout) (d : Dims) (p : Parts) (placed : Placed) (k : ℕ) (o : Option Placed) → o ≡ Some placed → IfSome o (λ x. x.parts ≡ p) → IfSome o (Takes old mid k d p) → mid.actives ≡ old.actives → new.infos ≡ mid.infos → new.firsts ≡ mid.firsts
+    → (let a : Active = record { placed = placed; reduction = None } in new.actives.items ≡ mid.actives.items ++ a ∷ []) → k ≡ length old.actives.items
+    → (rs : List RootState) (C : Laid) (r : Register ℕ) → Follows old rs C → length C.handles ≡ length rs → r.dims ≡ d → r.parts ≡ p
+    → Follows new (rs ++ registered_root r ∷ []) (take (length C.handles) r.parts (with_root r.dims C)) × ((handle_at (take (length C.handles) r.parts (with_root r.dims C)) (length C.handles)).first r.parts ≡ Some placed.first)
+registers old mid new d p placed k o some parts taken kept infos firsts pushes number rs C r follows counted dims same =
+    let B = with_root r.dims C in
+    let n = length C.handles in
+    let a : Active = record { placed = placed; reduction = None } in
+    let at : k ≡ n = number ∙ follows.active.counted in
+    let takes : Takes old mid k d p placed = IfSome-at (Takes old mid k d p) o placed some taken in
+    let t = takes B (lays-root old C r.dims follows.lays) (next-inside C r.dims k at) (next-dims C r.dims d k at dims) in
+    let lays : Lays mid (take n r.parts B) = subst (λ (i : ℕ). Lays mid (take i r.parts B)) at (subst (λ (q : Parts). Lays mid (take k q B)) (sym same) t.0) in
+    let first : (handle_at (take n r.parts B) n).first r.parts ≡ Some placed.first =
+    subst (λ (i : ℕ). (handle_at (take i r.parts B) i).first r.parts ≡ Some placed.first) at (subst (λ (q : Parts). (handle_at (take k q B) k).first q ≡ Some placed.first) (sym same) t.1) in
+    let its = IfSome-at (λ (x : Placed). x.parts ≡ p) o placed some parts in
+    (follows-register old new rs C r placed follows counted (lays-as mid new (take n r.parts B) infos firsts lays) first (its ∙ sym same) (pushes ∙ (λ i. (kept i).items ++ a ∷ [])), first)
+
+pub registers-full : (old : Layout) (d : Dims) (p : Parts) (k : ℕ) (o : Option Placed) → o ≡ None → IfNone o (TakesTooMany old k d p) → k ≡ length old.actives.items
+    → (rs : List RootState) (C : Laid) (r : Register ℕ) → Follows old rs C → r.dims ≡ d → r.parts ≡ p → most < length (take (length C.handles) r.parts (with_root r.dims C)).rows
+registers-full old d p k o none full number rs C r follows dims same =
+    let B = with_root r.dims C in
+    let at : k ≡ length C.handles = number ∙ follows.active.counted in
+    let many : TakesTooMany old k d p = none-at o (TakesTooMany old k d p) none full in
+    let above = many B (lays-root old C r.dims follows.lays) (next-inside C r.dims k at) (next-dims C r.dims d k at dims) in
+    subst (λ (i : ℕ). most < length (take i r.parts B).rows) at (subst (λ (q : Parts). most < length (take k q B).rows) (sym same) above)
+
+pub plans : (old mid new : Layout) (n : ℕ) (d : Dims) (p : Parts) (placed : Placed) (a : Active) (o : Option Placed) → o ≡ Some placed → IfSome o (λ x. x.parts ≡ p) → IfSome o (Takes old mid n d p) → mid.actives ≡ old.actives → new.infos ≡ mid.infos → new.firsts ≡ mid.firsts
+    → n < length old.actives.items → a ≡ get_or mid.actives.items n a → (let b : Active = record { placed = placed; reduction = a.reduction } in new.actives.items ≡ set mid.actives.items n b)
+    → (rs : List RootState) (C : Laid) → Follows old rs C → Lives rs n → length C.handles ≡ length rs → (handle_at C n).dims ≡ d
+    → Follows new (change_at (with_parts p) n rs) (take n p C) × ((handle_at (take n p C) n).first p ≡ Some placed.first)
+plans old mid new n d p placed a o some parts taken kept infos firsts inside was sets rs C follows lives counted dims =
+    let takes : Takes old mid n d p placed = IfSome-at (Takes old mid n d p) o placed some taken in
+    let t = takes C follows.lays (omega (arith, inside, follows.active.counted)) dims in
+    let its = IfSome-at (λ (x : Placed). x.parts ≡ p) o placed some parts in
+    let is : a ≡ active_at old.actives.items n = was ∙ (λ i. get_or (kept i).items n a) ∙ get_or_default old.actives.items n a no_active inside in
+    let changed : Active → Active = λ x. record { placed = placed; reduction = x.reduction } in
+    (follows-plan old new rs C n p placed follows lives counted (lays-as mid new (take n p C) infos firsts t.0) t.1 its (sets ∙ (λ i. set (kept i).items n (changed (is i)))), t.1)
+
+pub plans-full : (old : Layout) (n : ℕ) (d : Dims) (p : Parts) (o : Option Placed) → o ≡ None → IfNone o (TakesTooMany old n d p) → n < length old.actives.items
+    → (rs : List RootState) (C : Laid) → Follows old rs C → (handle_at C n).dims ≡ d → most < length (take n p C).rows
+plans-full old n d p o none full inside rs C follows dims =
+    let many : TakesTooMany old n d p = none-at o (TakesTooMany old n d p) none full in
+    many C follows.lays (omega (arith, inside, follows.active.counted)) dims
+
+-- ---- roots that keep their plans and reductions, in cells that keep their handles
+
+pub follows-kept : (old new : Layout) (rs qs : List RootState) (C D : Laid) → Follows old rs C → Lays new D → D.handles ≡ C.handles → new.actives ≡ old.actives
+    → ((m : ℕ) → Lives qs m → Lives rs m × ((root_at qs m).parts ≡ (root_at rs m).parts) × ((root_at qs m).reduction ≡ (root_at rs m).reduction)) → Follows new qs D
+follows-kept old new rs qs C D follows lays handles actives kept = record {
+  lays = lays;
+  active = subst (λ v. AreActive v.items qs D) (sym actives) (record {
+    counted = follows.active.counted ∙ ap length (sym handles);
+    each = λ m lives.
+        let k = kept m lives in
+        let a = follows.active.each m k.0 in
+        record { parts = a.parts ∙ sym k.1; first = (λ i. (get_or (handles i) m (handle_of (record { rows = 0; cols = 0 }))).first (k.1 i)) ∙ a.first; reduction = a.reduction ∙ sym k.2 };
+  });
+}
 
 -- ---- partial copies
 
--- a cell that gets them
-pub lays_copies : (T : Table) (old new : Layout) (C : Cells) (c first : Cell) (workers : ℕ) → let i = get_or old.infos.items c.0 no_cell in Lays T old C → c.0 < length old.infos.items → i.partials ≡ None
-    → new.infos.items ≡ set (old.infos.items ++ replicate workers i) c.0 (with_partials first i) → new.firsts ≡ old.firsts → new.roots ≡ old.roots → first.0 ≡ length old.infos.items
-    → Lays T new (with_copies workers c C) × (first_partial C c ≡ first)
-lays_copies T old new C c first workers s there none rows firsts roots number = (
-  by_copies workers c C (Lays T new) (λ f e. absurd (none_isn't f (sym none_here ∙ e))) (λ e. record {
-    rows = rows ∙ set-append_left old.infos.items (replicate workers i) c.0 (with_partials first i) there ∙ (λ k. set (s.rows k) c.0 (with_partials (first_is k) (is k)) ++ replicate workers (plain k));
-    roots = roots ∙ s.roots;
-    handles = λ n lt. s.handles n lt ∙ (λ k. Some (record { root = a_root n; dims = (info_of T (a_root n)).dims; first = λ p. get same_taken (sym firsts k) (plan_taken n p) }));
-    room = λ n p f h. omega (arith, s.room n p f (ap (λ m. get same_taken m (plan_taken n p)) (sym firsts) ∙ h), copied-length workers c C e inside);
-    fresh = λ n p past. ap (λ m. get same_taken m (plan_taken n p)) firsts ∙ s.fresh n p past;
-  }),
-  sym first_is,
-)
-  where
-    i : CellInfo
-    i = get_or old.infos.items c.0 no_cell
+pub lays-copied : (l : Layout) (C : Laid) (c first : Cell) (workers : ℕ) → Lays l C → (get_or l.infos.items c.0 no_cell).partials ≡ Some first → Lays l (with_copies workers C c) × (first_copy C c ≡ first)
+lays-copied l C c first workers s there =
+    let is : (info_at C c).partials ≡ Some first = ap (λ (is : List CellInfo). (get_or is c.0 no_cell).partials) (sym s.rows) ∙ there in
+    (by_copies workers c C (Lays l) (λ f e. s) (λ e. absurd (none_isn't first (sym e ∙ is))), first-old C c first is)
 
-    is : i ≡ info_at C c
-    is = ap (λ (is : List CellInfo). get_or is c.0 no_cell) s.rows
+pub lays-copies : (old new : Layout) (C : Laid) (c first : Cell) (workers : ℕ) → let i = get_or old.infos.items c.0 no_cell in Lays old C → c.0 < length old.infos.items → i.partials ≡ None
+    → new.infos.items ≡ set (old.infos.items ++ replicate workers i) c.0 (with_partials first i) → new.firsts ≡ old.firsts → first.0 ≡ length old.infos.items → length new.infos.items ≤ most
+    → Lays new (with_copies workers C c) × (first_copy C c ≡ first)
+lays-copies old new C c first workers s there none rows firsts number few =
+    let i = get_or old.infos.items c.0 no_cell in
+    let is : i ≡ info_at C c = ap (λ (is : List CellInfo). get_or is c.0 no_cell) s.rows in
+    let none_here = ap (λ (i : CellInfo). i.partials) (sym is) ∙ none in
+    let first_is : first ≡ first_copy C c = (λ k. let d : Cell = record { 0 = (number ∙ ap length s.rows) k } in d) ∙ sym (first-new C c none_here) in
+    let plain : i ≡ copy_info (info_at C c) = (λ k. let j : CellInfo = record { root = i.root; dims = i.dims; partials = none k } in j) ∙ ap copy_info is in
+    let same : new.infos.items ≡ set C.rows c.0 (with_partials (first_copy C c) (info_at C c)) ++ replicate workers (copy_info (info_at C c)) =
+    rows ∙ set-append_left old.infos.items (replicate workers i) c.0 (with_partials first i) there ∙ (λ k. set (s.rows k) c.0 (with_partials (first_is k) (is k)) ++ replicate workers (plain k)) in (
+      by_copies workers c C (Lays new) (λ f e. absurd (none_isn't f (sym none_here ∙ e))) (λ e. record {
+        rows = same;
+        few = omega (arith, few, ap length same);
+        firsts = λ n p. ap (λ m. get same_taken m (taken n p)) firsts ∙ s.firsts n p;
+      }),
+      sym first_is,
+    )
 
-    none_here : (info_at C c).partials ≡ None
-    none_here = ap (λ (i : CellInfo). i.partials) (sym is) ∙ none
+pub copies-full : (l : Layout) (C : Laid) (c : Cell) (workers : ℕ) → Lays l C → c.0 < length l.infos.items → (get_or l.infos.items c.0 no_cell).partials ≡ None → most < length l.infos.items + workers → most < length (with_copies workers C c).rows
+copies-full l C c workers s there none above =
+    let none_here : (info_at C c).partials ≡ None = ap (λ (is : List CellInfo). (get_or is c.0 no_cell).partials) (sym s.rows) ∙ none in
+    by_copies workers c C (λ (D : Laid). most < length D.rows) (λ f e. absurd (none_isn't f (sym none_here ∙ e)))
+    (λ e. omega (arith, copied-length workers c C e (omega (arith, there, ap length s.rows)), ap length s.rows, above))
 
-    inside : c.0 < length C.rows
-    inside = omega (arith, there, ap length s.rows)
+-- ---- operands
 
-    first_is : first ≡ first_partial C c
-    first_is = (λ k. let d : Cell = record { 0 = (number ∙ ap length s.rows) k } in d) ∙ sym (first-new C c none_here)
+-- the first cell of a root's active plan
+first-is : (l : Layout) (rs : List RootState) (C : Laid) (n : ℕ) → Follows l rs C → Lives rs n → (active_at l.actives.items n).placed.first ≡ first_cell C n (root_at rs n).parts
+first-is l rs C n follows lives = sym (ap (λ (o : Option ℕ). unwrap_or o 0) (follows.active.each n lives).first)
 
-    plain : i ≡ copy_info (info_at C c)
-    plain = (λ k. let j : CellInfo = record { root = i.root; dims = i.dims; partials = none k } in j) ∙ ap copy_info is
+pub cell-same : (l : Layout) (rs : List RootState) (C : Laid) (o : Operand) → Follows l rs C → Lives rs o.root.0 → cell_by l.actives.items o ≡ operand_cell (by_number rs) C (operand_at o)
+cell-same l rs C o follows lives = λ i. cells_from (first-is l rs C o.root.0 follows lives i) ((follows.active.each o.root.0 lives).parts i) o.place
+
+pub cells-same : (l : Layout) (rs : List RootState) (C : Laid) (n : ℕ) → Follows l rs C → Lives rs n → cells_by (active_at l.actives.items n).placed ≡ active_cells (by_number rs) C n
+cells-same l rs C n follows lives = λ i. each_of (cells_from (first-is l rs C n follows lives i) ((follows.active.each n lives).parts i)) (places ((follows.active.each n lives).parts i))
+
+-- the cells of a root's active plan are there
+pub has-cells : (l : Layout) (workers : ℕ) (rs : List RootState) (C : Laid) (n : ℕ) → Follows l rs C → IsWhole workers rs C → Lives rs n → HasCells l.actives.items n
+has-cells l workers rs C n follows whole lives =
+    let a = follows.active.each n lives in
+    let t = whole.taken n lives in
+    let f = (active_at l.actives.items n).placed.first in
+    let is : t.0 ≡ f = some_is t.0 f (sym t.1.first ∙ a.first) in
+    record {
+      root = omega (arith, lives-below rs n lives, whole.counted, follows.active.counted);
+      cells = subst (λ (p : Parts). f + p.r * p.c ≤ most) (sym a.parts) (omega (arith, whole.laid.inside n (root_at rs n).dims (root_at rs n).parts t.0 t.1, is, follows.lays.few));
+    }
+
+pub is-inside : (l : Layout) (workers : ℕ) (rs : List RootState) (C : Laid) (o : Operand) → Follows l rs C → IsWhole workers rs C → Lives rs o.root.0 → IsPlace (root_at rs o.root.0).parts o.place → IsInside l.actives.items o
+is-inside l workers rs C o follows whole lives place = record {
+  has = has-cells l workers rs C o.root.0 follows whole lives;
+  place = subst (λ (p : Parts). IsPlace p o.place) (sym (follows.active.each o.root.0 lives).parts) place;
+}
+
+-- ---- print statements
+
+pub take-prints : (C : Laid) (n : ℕ) (p : Parts) → (take n p C).prints ≡ C.prints
+take-prints C n p = by_first C n p (λ (D : Laid). D.prints ≡ C.prints) (λ f e. refl) (λ e. refl)
+
+pub copies-prints : (w : ℕ) (cs : List Cell) (C : Laid) → (fold (with_copies w) C cs).prints ≡ C.prints
+copies-prints w [] C = refl
+copies-prints w (c ∷ cs) C = copies-prints w cs (with_copies w C c) ∙ by_copies w c C (λ (D : Laid). D.prints ≡ C.prints) (λ f e. refl) (λ e. refl)

@@ -1,141 +1,143 @@
--- The operands of a task that contributes: the last one gets the contribution, and those before it are only read, scratch aside.
-use Rattle.sj_lower.proofs.Words.{[], AllByRecursion, ap, arith, Bool, Commute, commutes_in, cond, contributes_in, contributes_of, false, filter, Formal, FormalR, FormalRW, FormalScratch, FormalW, has_reduction, is_commute, is_lawful, is_output, is_redux, is_written, IsSoundTask, JobState, Kernel, kernel_of, length, length-append, List, list_all, list_any, Mode, mode_fits, modes_fit, None, not, Operand, Option, R, Reduction, reduction_of, Redux, refl, RW, Scratch, Some, sym, TaskLine, true, W, written_of, ℕ, ◌&&◌, ◌++◌, ◌+◌, ◌||◌, ◌∙◌, ◌∷◌, ◌≡◌}
-use Rattle.std.proofs.lemmas.Bool.{false≢true, and_parts}
-use Rattle.sj_base.proofs.Bools.{or_false, and_middle}
+-- The operands of a task that contributes, by its roots' numbers: the last one gets the contribution, and those before it are only
+-- read, scratch aside.
+use Rattle.std.proofs.Common.{◌≡◌, ℕ, ◌+◌, Bool, true, false, cond, not, ◌&&◌, ◌||◌, Option, Some, None, List, [], ◌∷◌, ◌++◌, length, refl, sym, ap, subst, ◌∙◌, inl, inr, arith, length-append}
+use Rattle.std.specs.Prelude.{AllPairs, Contains, nat_eq}
+use Rattle.std.specs.List.{filter, flat_map, list_all, list_any, AllByRecursion}
+use Rattle.std.proofs.lemmas.Bool.{false≢true, false_from_ne_true, not-false, and_parts, or_parts}
+use Rattle.std.proofs.lemmas.Bool.Decides.{Decides-eqb}
+use Rattle.std.proofs.lemmas.List.{append-nil}
+use Rattle.std.proofs.lemmas.List.Elements.{All-contains, All-from_recursion, Contains-push_cases}
+use Rattle.std.proofs.lemmas.List.Folds.{list_any_at}
+use Rattle.std.proofs.lemmas.List.Kept.{AllPairs-cons}
+use Rattle.std.proofs.lemmas.List.Sums.{AllPass-from_list_all}
+use Rattle.sj_base.specs.declared.mode.Mode.{Mode}
+use Rattle.sj_base.specs.declared.mode.Mode.TheVariants.{R, Scratch, Redux}
+use Rattle.sj_base.specs.declared.mode.Reduction.{Reduction}
+use Rattle.sj_base.specs.declared.ids.Line.{Line}
+use Rattle.sj_base.specs.declared.program.Codelet.{Codelet}
+use Rattle.sj_base.specs.declared.program.Program.{Program}
+use Rattle.sj_base.specs.Mode.{is_redux, is_read_only, is_written, is_commute}
+use Rattle.sj_base.proofs.Bools.{and_middle, and_rest, implied}
+use Rattle.sj_codelet.specs.declared.formal.Formal.{Formal}
+use Rattle.sj_codelet.specs.declared.formal.Formal.TheVariants.{R as FormalR, RW as FormalRW, Scratch as FormalScratch}
+use Rattle.sj_codelet.specs.declared.kernel.Kernel.{Kernel}
+use Rattle.sj_codelet.specs.Formal.{is_output}
+use Rattle.sj_codelet.specs.Kernel.{contributes_of, commutes_in, contributes_in, has_reduction}
+use Rattle.sj_core.specs.Fold.{Contents}
+use Rattle.sj_core.proofs.Readiness.{Contains-filter, list_any-some}
 use Rattle.sj_core.proofs.Updating.{updates-last, contributing-commutes}
-use Rattle.sj_lower.proofs.Running.{kernel_there}
+use Rattle.sj_plan.specs.Paste.{same_child_place}
+use Rattle.sj_meaning.specs.Statement.{Operand, TaskLine}
+use Rattle.sj_meaning.specs.State.{RootState, is_valued_child}
+use Rattle.sj_meaning.specs.Meaning.{written_of}
+use Rattle.sj_meaning.specs.Numbers.{root_at}
+use Rattle.sj_meaning.specs.Sound.{mode_fits, is_lawful_for, needs_value}
+use Rattle.sj_phases.specs.declared.phase.Opening.{Opening}
+use Rattle.sj_phases.specs.Expand.{first_units}
+use Rattle.sj_phases.specs.Plain.{units}
+use Rattle.sj_phases.proofs.Lists.{all-from, filter-last, last-has, one-case}
+use Rattle.sj_lower.specs.Laid.{Laid, first_copy}
+use Rattle.sj_lower.specs.SoundAt.{IsPlaced, IsSoundTask, clashes, has_value, is_aliased, modes_fit}
+use Rattle.sj_lower.specs.Step.{by_number, contributed, opening_of, task_block}
+use Rattle.sj_lower.specs.Whole.{AreLaid}
+use Rattle.sj_lower.proofs.Doing.{kernel_there, the_cell}
+use Rattle.sj_lower.proofs.Keeping.{HaveRoots}
+use Rattle.sj_lower.proofs.Places.{place-itself}
+use Rattle.sj_lower.proofs.Taken.{cells-apart}
+
+abbrev pub reduction_of : List RootState → ℕ → Option Reduction
+reduction_of rs n = (root_at rs n).reduction
+
+abbrev pub is_lawful : (Kernel → Bool) → List RootState → Codelet → Operand ℕ → Bool
+is_lawful has rs id o = is_lawful_for has id (reduction_of rs o.name) o.mode
 
 -- the operand is only read, or scratch
-abbrev pub IsRead : Operand (List ℕ) → Type 0
+abbrev pub IsRead : Operand ℕ → Type 0
 IsRead o = (is_redux o.mode ≡ false) × (is_written o.mode ≡ false) × (is_commute o.mode ≡ false)
 
--- an operand before the last one
-pub record EndsIn (os : List (Operand (List ℕ))) (f : Formal) : Type 0 where
-  pub before : List (Operand (List ℕ))
-  pub last : Operand (List ℕ)
-  pub is : os ≡ before ++ last ∷ []
-  pub fits : mode_fits f last.mode ≡ true
-  pub reads : AllByRecursion IsRead before
+-- the operands before the last one are only read
+record EndsIn (os : List (Operand ℕ)) : Type 0 where
+  before : List (Operand ℕ)
+  last : Operand ℕ
+  is : os ≡ before ++ last ∷ []
+  reads : AllByRecursion IsRead before
 
-reads_only : (f : Formal) (m : Mode) → mode_fits f m ≡ true → not (is_output f) ≡ true → (is_redux m ≡ false) × (is_written m ≡ false) × (is_commute m ≡ false)
+pub reads_only : (f : Formal) (m : Mode) → mode_fits f m ≡ true → not (is_output f) ≡ true → (is_redux m ≡ false) × (is_written m ≡ false) × (is_commute m ≡ false)
 reads_only FormalR R e h = (refl, refl, refl)
-reads_only FormalR W e h = absurd (cc)
-reads_only FormalR RW e h = absurd (cc)
-reads_only FormalR Scratch e h = absurd (cc)
-reads_only FormalR Redux e h = absurd (cc)
-reads_only FormalR Commute e h = absurd (cc)
-reads_only FormalW m e h = absurd (false≢true h)
-reads_only FormalRW m e h = absurd (false≢true h)
-reads_only FormalScratch R e h = absurd (cc)
-reads_only FormalScratch W e h = absurd (cc)
-reads_only FormalScratch RW e h = absurd (cc)
 reads_only FormalScratch Scratch e h = (refl, refl, refl)
-reads_only FormalScratch Redux e h = absurd (cc)
-reads_only FormalScratch Commute e h = absurd (cc)
+reads_only f m e h = absurd (cc)
 
-ends-in : (fs : List Formal) (f : Formal) (os : List (Operand (List ℕ))) → modes_fit (fs ++ f ∷ []) os ≡ true → length os ≡ length fs + 1 → list_all (λ g. not (is_output g)) fs ≡ true → EndsIn os f
-ends-in [] f [] e l h = absurd (omega (arith, l))
-ends-in [] f (o ∷ []) e l h = record { before = []; last = o; is = refl; fits = (and_parts (mode_fits f o.mode) true e).0; reads = tt }
-ends-in [] f (o ∷ u ∷ os) e l h = absurd (omega (arith, l))
-ends-in (g ∷ fs) f [] e l h = absurd (omega (arith, l))
+ends-in : (fs : List Formal) (f : Formal) (os : List (Operand ℕ)) → modes_fit (fs ++ f ∷ []) os ≡ true → length os ≡ length fs + 1 → list_all (λ g. not (is_output g)) fs ≡ true → EndsIn os
+ends-in [] f (o ∷ []) e l h = record { before = []; last = o; is = refl; reads = tt }
 ends-in (g ∷ fs) f (o ∷ os) e l h =
     let m = and_parts (mode_fits g o.mode) (modes_fit (fs ++ f ∷ []) os) e in
     let n = and_parts (not (is_output g)) (list_all (λ g. not (is_output g)) fs) h in
     let rest = ends-in fs f os m.1 (omega (arith, l)) n.1 in
-    record { before = o ∷ rest.before; last = rest.last; is = ap (λ us. o ∷ us) rest.is; fits = rest.fits; reads = (reads_only g o.mode m.0 n.0, rest.reads) }
+    record { before = o ∷ rest.before; last = rest.last; is = ap (λ us. o ∷ us) rest.is; reads = (reads_only g o.mode m.0 n.0, rest.reads) }
+ends-in fs f os e l h = absurd (omega (arith, l))
 
 -- ---- lists
 
-pub any-there : {X : Type 0} (f : X → Bool) (xs : List X) (x : X) → list_any f (xs ++ x ∷ []) ≡ true → AllByRecursion (λ y. f y ≡ false) xs → f x ≡ true
-any-there f [] x h all = or_false (f x) h
-any-there f (y ∷ xs) x h all = any-there f xs x (ap (λ b. b || list_any f (xs ++ x ∷ [])) (sym all.0) ∙ h) all.1
+-- where none of a list passes, each of its items fails
+pub none-passes : {X : Type 0} (f : X → Bool) (xs : List X) → list_any f xs ≡ false → (x : X) → Contains xs x → f x ≡ false
+none-passes f xs none x h = false_from_ne_true (f x) (λ e. false≢true (sym none ∙ list_any_at f xs h.0 x h.1 (ap f h.2 ∙ e)))
 
-pub filter-none : {X : Type 0} (f : X → Bool) (xs : List X) (x : X) → AllByRecursion (λ y. f y ≡ false) xs → f x ≡ true → filter f (xs ++ x ∷ []) ≡ x ∷ []
-filter-none f [] x all e = ap (λ b. cond b (x ∷ []) []) e
-filter-none f (y ∷ xs) x all e = ap (λ b. cond b (y ∷ filter f (xs ++ x ∷ [])) (filter f (xs ++ x ∷ []))) all.0 ∙ filter-none f xs x all.1 e
-
-pub all-before : {X : Type 0} (f : X → Bool) (xs : List X) (x : X) → list_all f (xs ++ x ∷ []) ≡ true → (list_all f xs ≡ true) × (f x ≡ true)
-all-before f [] x h = (refl, (and_parts (f x) true h).0)
-all-before f (y ∷ xs) x h =
-    let a = and_parts (f y) (list_all f (xs ++ x ∷ [])) h in
-    let r = all-before f xs x a.1 in
-    (ap (λ b. b && list_all f xs) a.0 ∙ r.0, r.1)
-
-pub each-before : {X : Type 0} (P : X → Type 0) (xs : List X) (x : X) → AllByRecursion P (xs ++ x ∷ []) → AllByRecursion P xs × P x
-each-before P [] x h = (tt, h.0)
-each-before P (y ∷ xs) x h = let r = each-before P xs x h.1 in ((h.0, r.0), r.1)
-
-each-weaker : {X : Type 0} (P Q : X → Type 0) (xs : List X) → ((x : X) → P x → Q x) → AllByRecursion P xs → AllByRecursion Q xs
-each-weaker P Q [] f h = tt
-each-weaker P Q (x ∷ xs) f h = (f x h.0, each-weaker P Q xs f h.1)
-
-pub snoc-parts : {X : Type 0} (xs ys : List X) (x y : X) → xs ++ x ∷ [] ≡ ys ++ y ∷ [] → (xs ≡ ys) × (x ≡ y)
-snoc-parts [] [] x y e = (refl, let f : x ∷ [] ≡ y ∷ [] = e in cc)
-snoc-parts [] (z ∷ ys) x y e = absurd (let n : 1 ≡ length (z ∷ (ys ++ y ∷ [])) = ap length e in omega (arith, n, length-append ys (y ∷ [])))
-snoc-parts (z ∷ xs) [] x y e = absurd (let n : length (z ∷ (xs ++ x ∷ [])) ≡ 1 = ap length e in omega (arith, n, length-append xs (x ∷ [])))
-snoc-parts (z ∷ xs) (w ∷ ys) x y e =
-    let f : z ∷ (xs ++ x ∷ []) ≡ w ∷ (ys ++ y ∷ []) = e in
-    let heads : z ≡ w = cc in
-    let tails : xs ++ x ∷ [] ≡ ys ++ y ∷ [] = cc in
-    let rest = snoc-parts xs ys x y tails in
-    (ap (λ zs. z ∷ zs) rest.0 ∙ ap (λ v. v ∷ ys) heads, rest.1)
+-- none is contributed to
+pub none-filter : (os : List (Operand ℕ)) → list_any (λ o. is_redux o.mode) os ≡ false → filter (λ o. is_redux o.mode) os ≡ []
+none-filter [] e = refl
+none-filter (o ∷ os) e = let c = or_parts (is_redux o.mode) (list_any (λ o. is_redux o.mode) os) e in ap (λ x. cond x (o ∷ filter (λ o. is_redux o.mode) os) (filter (λ o. is_redux o.mode) os)) c.0 ∙ none-filter os c.1
 
 -- ---- tasks
 
+-- what holds of each operand of a sound task
+module _ (has : Kernel → Bool) (rs : List RootState) (t : TaskLine ℕ) (s : IsSoundTask has rs t) (o : Operand ℕ) (there : Contains t.operands o) where
+  pub placed-at : IsPlaced rs o
+  placed-at = All-contains (IsPlaced rs) t.operands o (All-from_recursion (IsPlaced rs) t.operands s.placed) there
+
+  pub lawful-at : is_lawful has rs t.codelet o ≡ true
+  lawful-at = All-contains (λ (u : Operand ℕ). is_lawful has rs t.codelet u ≡ true) t.operands o (AllPass-from_list_all (is_lawful has rs t.codelet) t.operands s.lawful) there
+
+  pub valued-at : needs_value o.mode ≡ true → has_value rs o ≡ true
+  valued-at = implied (needs_value o.mode) (has_value rs o) (All-contains (λ (u : Operand ℕ). (not (needs_value u.mode) || has_value rs u) ≡ true) t.operands o (AllPass-from_list_all (λ (u : Operand ℕ). not (needs_value u.mode) || has_value rs u) t.operands s.valued) there)
+
 -- the operand to which a task contributes is its last, and the only one that it writes
-pub record Contributes (S : JobState) (t : TaskLine (List ℕ)) (kernel : Kernel) : Type 0 where
-  pub before : List (Operand (List ℕ))
-  pub last : Operand (List ℕ)
+pub record Contributes (rs : List RootState) (t : TaskLine ℕ) (kernel : Kernel) : Type 0 where
+  pub before : List (Operand ℕ)
+  pub last : Operand ℕ
   pub is : t.operands ≡ before ++ last ∷ []
   pub reads : AllByRecursion IsRead before
   pub redux : last.mode ≡ Redux
   pub by : Reduction
-  pub reduction : reduction_of S last.name ≡ Some by
+  pub reduction : reduction_of rs last.name ≡ Some by
   pub contributes : contributes_of kernel by ≡ true
   pub written : written_of t.operands ≡ last ∷ []
   pub contributed : filter (λ o. is_redux o.mode) t.operands ≡ last ∷ []
 
--- a task with a contribution, by the codelet of its line
-contributing : (has : Kernel → Bool) (S : JobState) (t : TaskLine (List ℕ)) (k : Kernel) → kernel_of t.codelet ≡ Some k → (os : List (Operand (List ℕ))) → list_all (is_lawful has S t.codelet) os ≡ true → list_any (λ o. is_redux o.mode) os ≡ true → (by : Reduction) × (contributes_of k by ≡ true)
-contributing has S t k e [] h any = absurd (false≢true any)
-contributing has S t k e (o ∷ os) h any =
-    let a = and_parts (is_lawful has S t.codelet o) (list_all (is_lawful has S t.codelet) os) h in
-    by_test (is_redux o.mode) any (and_parts (not (is_commute o.mode) || commutes_in has t.codelet) (not (is_redux o.mode) || contributing_to (reduction_of S o.name)) a.0).1 (contributing has S t k e os a.1)
-  where
-    contributing_to : Option Reduction → Bool
-    contributing_to x = elim x as (λ _. Bool) [ None ↦ false | Some by ↦ contributes_in has t.codelet by ]
-
-    by_kernel : (by : Reduction) → contributes_in has t.codelet by ≡ true → contributes_of k by ≡ true
-    by_kernel by h = and_middle (has k) (contributes_of k by) _ (sym (ap (λ (o : Option Kernel). elim o as (λ _. Bool) [ None ↦ false | Some k ↦ has k && contributes_of k by && has_reduction has by ]) e) ∙ h)
-
-    by_reduction : (x : Option Reduction) → contributing_to x ≡ true → (by : Reduction) × (contributes_of k by ≡ true)
-    by_reduction None e = absurd (false≢true e)
-    by_reduction (Some by) e = (by, by_kernel by e)
-
-    by_test : (b : Bool) → (b || list_any (λ o. is_redux o.mode) os) ≡ true → (not b || contributing_to (reduction_of S o.name)) ≡ true → (list_any (λ o. is_redux o.mode) os ≡ true → (by : Reduction) × (contributes_of k by ≡ true)) → (by : Reduction) × (contributes_of k by ≡ true)
-    by_test true any h rest = by_reduction (reduction_of S o.name) h
-    by_test false any h rest = rest any
+-- a contribution's root has a reduction, to which the codelet contributes
+pub lawful-contribution : (has : Kernel → Bool) (id : Codelet) (r : Option Reduction) (m : Mode) → is_lawful_for has id r m ≡ true → is_redux m ≡ true → (by : Reduction) × (r ≡ Some by) × (contributes_in has id by ≡ true)
+lawful-contribution has id None m law redux = absurd (false≢true (implied (is_redux m) false (and_rest (not (is_commute m) || commutes_in has id) (not (is_redux m) || false) law) redux))
+lawful-contribution has id (Some by) m law redux = (by, refl, implied (is_redux m) (contributes_in has id by) (and_rest (not (is_commute m) || commutes_in has id) (not (is_redux m) || contributes_in has id by) law) redux)
 
 is-redux : (m : Mode) → is_redux m ≡ true → m ≡ Redux
-is-redux R e = absurd (false≢true e)
-is-redux W e = absurd (false≢true e)
-is-redux RW e = absurd (false≢true e)
-is-redux Scratch e = absurd (false≢true e)
 is-redux Redux e = refl
-is-redux Commute e = absurd (false≢true e)
+is-redux m e = absurd (false≢true e)
 
-pub contributes-there : (has : Kernel → Bool) (S : JobState) (t : TaskLine (List ℕ)) (s : IsSoundTask has S t) → list_any (λ o. is_redux o.mode) t.operands ≡ true → Contributes S t (kernel_there has S t s).call.kernel
-contributes-there has S t s any =
-    let kernel = kernel_there has S t s in
+pub contributes-there : (has : Kernel → Bool) (rs : List RootState) (t : TaskLine ℕ) (s : IsSoundTask has rs t) → list_any (λ o. is_redux o.mode) t.operands ≡ true → Contributes rs t (kernel_there has rs t s).call.kernel
+contributes-there has rs t s any =
+    let kernel = kernel_there has rs t s in
     let k = kernel.call.kernel in
-    let by_any = contributing has S t k kernel.call.is t.operands s.lawful any in
-    let last_row = updates-last k (contributing-commutes k by_any.0 by_any.1) in
+    let found = list_any-some (λ (o : Operand ℕ). is_redux o.mode) t.operands any in
+    let by = lawful-contribution has t.codelet (reduction_of rs found.0.name) found.0.mode (lawful-at has rs t s found.0 found.1) found.2 in
+    let contributes = and_middle (has k) (contributes_of k by.0) (has_reduction has by.0) (subst (λ (o : Option Kernel). (elim o as (λ _. Bool) [ None ↦ false | Some j ↦ has j && contributes_of j by.0 && has_reduction has by.0 ]) ≡ true) kernel.call.is by.2) in
+    let last_row = updates-last k (contributing-commutes k by.0 contributes) in
     let e = ends-in last_row.first FormalRW t.operands (ap (λ fs. modes_fit fs t.operands) (sym last_row.formals) ∙ kernel.modes) (kernel.count ∙ ap length last_row.formals ∙ length-append last_row.first (FormalRW ∷ [])) last_row.read_only in
-    let none = each-weaker IsRead (λ o. is_redux o.mode ≡ false) e.before (λ o h. h.0) e.reads in
-    let redux = any-there (λ o. is_redux o.mode) e.before e.last (ap (list_any (λ o. is_redux o.mode)) (sym e.is) ∙ any) none in
+    let read = λ (o : Operand ℕ) (h : Contains e.before o). All-contains IsRead e.before o (All-from_recursion IsRead e.before e.reads) h in
+    let same : e.last ≡ found.0 = elim (Contains-push_cases e.before e.last found.0 (subst (λ (os : List (Operand ℕ)). Contains os found.0) e.is found.1)) [
+      | inl first ↦ absurd (false≢true (sym (read found.0 first).0 ∙ found.2))
+      | inr last ↦ last
+    ] in
+    let redux = ap (λ (o : Operand ℕ). is_redux o.mode) same ∙ found.2 in
     let mode = is-redux e.last.mode redux in
-    let law = (all-before (is_lawful has S t.codelet) e.before e.last (ap (list_all (is_lawful has S t.codelet)) (sym e.is) ∙ s.lawful)).1 in
-    let by = its_reduction k kernel.call.is e.last redux law in
     record {
       before = e.before;
       last = e.last;
@@ -143,23 +145,51 @@ contributes-there has S t s any =
       reads = e.reads;
       redux = mode;
       by = by.0;
-      reduction = by.1;
-      contributes = by.2;
-      written = ap (λ os. written_of os) e.is ∙ filter-none (λ o. is_written o.mode) e.before e.last (each-weaker IsRead (λ o. is_written o.mode ≡ false) e.before (λ o h. h.1) e.reads) (ap is_written mode);
-      contributed = ap (filter (λ o. is_redux o.mode)) e.is ∙ filter-none (λ o. is_redux o.mode) e.before e.last none redux;
+      reduction = ap (λ (o : Operand ℕ). reduction_of rs o.name) same ∙ by.1;
+      contributes = contributes;
+      written = ap (λ os. written_of os) e.is ∙ filter-last (λ o. is_written o.mode) e.before e.last (λ o h. (read o h).1) (ap is_written mode);
+      contributed = ap (filter (λ o. is_redux o.mode)) e.is ∙ filter-last (λ o. is_redux o.mode) e.before e.last (λ o h. (read o h).0) redux;
     }
-  where
-    its_reduction : (k : Kernel) → kernel_of t.codelet ≡ Some k → (o : Operand (List ℕ)) → is_redux o.mode ≡ true → is_lawful has S t.codelet o ≡ true → (by : Reduction) × (reduction_of S o.name ≡ Some by) × (contributes_of k by ≡ true)
-    its_reduction k e o redux law =
-        let both = and_parts (not (is_commute o.mode) || commutes_in has t.codelet) (not (is_redux o.mode) || contributing_to (reduction_of S o.name)) law in
-        by_option (reduction_of S o.name) refl (sym (ap (λ b. not b || contributing_to (reduction_of S o.name)) redux) ∙ both.1)
-      where
-        contributing_to : Option Reduction → Bool
-        contributing_to x = elim x as (λ _. Bool) [ None ↦ false | Some by ↦ contributes_in has t.codelet by ]
 
-        by_kernel : (by : Reduction) → contributes_in has t.codelet by ≡ true → contributes_of k by ≡ true
-        by_kernel by h = and_middle (has k) (contributes_of k by) _ (sym (ap (λ (o : Option Kernel). elim o as (λ _. Bool) [ None ↦ false | Some k ↦ has k && contributes_of k by && has_reduction has by ]) e) ∙ h)
+-- ---- the contribution of a task
 
-        by_option : (x : Option Reduction) → reduction_of S o.name ≡ x → contributing_to x ≡ true → (by : Reduction) × (reduction_of S o.name ≡ Some by) × (contributes_of k by ≡ true)
-        by_option None e h = absurd (false≢true h)
-        by_option (Some by) e h = (by, e, by_kernel by h)
+module _ {rs : List RootState} {t : TaskLine ℕ} {kernel : Kernel} (con : Contributes rs t kernel) where
+  pub last-there : Contains t.operands con.last
+  last-there = subst (λ (os : List (Operand ℕ)). Contains os con.last) (sym con.is) (last-has con.before con.last)
+
+  pub only-last : (o : Operand ℕ) → Contains t.operands o → is_redux o.mode ≡ true → con.last ≡ o
+  only-last o among redux = one-case con.last o (subst (λ (os : List (Operand ℕ)). Contains os o) con.contributed (Contains-filter (λ (u : Operand ℕ). is_redux u.mode) t.operands o redux among))
+
+  -- what it opens
+  abbrev pub opening_by : Laid → Opening
+  opening_by D = let c = the_cell rs D con.last in record { cell = c; by = con.by; copies = first_copy D c; valued = is_valued_child (root_at rs con.last.name) con.last.place }
+
+  pub one-opens : (D : Laid) → flat_map (opening_of (by_number rs) D) (contributed t) ≡ opening_by D ∷ []
+  one-opens D =
+      let c = the_cell rs D con.last in
+      ap (flat_map (opening_of (by_number rs) D)) con.contributed
+      ∙ ap (λ (o : Option Reduction). (elim o as (λ _. List Opening) [ None ↦ [] | Some by ↦ (record { cell = c; by = by; copies = first_copy D c; valued = is_valued_child (root_at rs con.last.name) con.last.place }) ∷ [] ]) ++ []) con.reduction
+
+  pub one-unit : (D : Laid) (line : Line) → units (task_block (by_number rs) D t line) ≡ first_units (opening_by D) line
+  one-unit D line = ap (flat_map (λ o. first_units o line)) (one-opens D) ∙ append-nil (first_units (opening_by D) line)
+
+-- ---- operands that stand for one child
+
+no_clash : (a b c d : Bool) → (a && b && not (c && d)) ≡ false → a ≡ true → b ≡ true → (c ≡ true) × (d ≡ true)
+no_clash true true c d e h k = and_parts c d (not-false (c && d) e)
+no_clash a b c d e h k = absurd (cc)
+
+-- two that don't clash have one cell only where both only read it
+pub both-read : (p : Program) (C : Laid) (n : ℕ) (k : Contents) (rs : List RootState) (o u : Operand ℕ) → AreLaid C → HaveRoots p C n k rs → IsPlaced rs o → IsPlaced rs u → clashes o u ≡ false → the_cell rs C o ≡ the_cell rs C u → (is_read_only o.mode ≡ true) × (is_read_only u.mode ≡ true)
+both-read p C n k rs o u laid has ho hu e same =
+    let r = has o.name ho.lives in
+    let s = has u.name hu.lives in
+    let one = cells-apart C o.name u.name (root_at rs o.name).dims (root_at rs u.name).dims (root_at rs o.name).parts (root_at rs u.name).parts r.first s.first o.place u.place laid r.taken s.taken ho.place hu.place same in
+    no_clash (nat_eq o.name u.name) (same_child_place o.place u.place) (is_read_only o.mode) (is_read_only u.mode) e ((Decides-eqb o.name u.name).1 one.0) (ap (same_child_place o.place) (sym one.2) ∙ place-itself o.place)
+
+-- no operand clashes with a later one
+pub none-clash : (os : List (Operand ℕ)) → is_aliased os ≡ false → AllPairs (λ o u. clashes o u ≡ false) os
+none-clash [] e = λ i j d before within. absurd (omega arith)
+none-clash (o ∷ os) e =
+    let c = or_parts (list_any (clashes o) os) (is_aliased os) e in
+    AllPairs-cons (λ (v u : Operand ℕ). clashes v u ≡ false) o os (all-from (λ (u : Operand ℕ). clashes o u ≡ false) os (none-passes (clashes o) os c.0)) (none-clash os c.1)

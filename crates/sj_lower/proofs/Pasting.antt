@@ -1,29 +1,52 @@
 -- The paste tasks of a plan line make in the new plan's cells what pastes make of the old plan's children.
-use Rattle.sj_lower.proofs.Words.{[], access, all_copied, AllByRecursion, ap, area, Array, BeginOnce, begins, Bool, Cell, child, cond, Contents, copied, Copy, Dims, dims_of, false, Fits, flat_map, gives_value, held_in, is_first, IsPasteBetween, IsPlace, Line, List, Lowered, map, overlaps, own_task, Parts, Paste, paste_arguments, paste_at, paste_copy, paste_row, pasted, PasteKernel, pastes_of, pastes_to, pieces, places, pos, Program, R, rect_dims, refl, RW, same_cell, subst, sym, true, W, window, zeros, ℕ, ◌++◌, ◌||◌, ◌∙◌, ◌∷◌, ◌≡◌}
-use Rattle.std.proofs.lemmas.{Bool.false≢true, Bool.or_left, List.length-replicate, List.map-append}
-use Rattle.sj_base.proofs.SameIds.{same_cell-itself}
-use Rattle.sj_plan.proofs.{Copying.copies_to-begin, Copying.copy_between-within, Lists.each-filter, Lists.each-map, Lists.each-places, Repartitioning.child-within, Repartitioning.pastes_to-copies, Repartitioning.pastes_to-make, Splitting.part_len-positive, Tiling.children_of-order, Tiling.children_of-tiling}
-use Rattle.sj_lower.proofs.{Contents.held-other, Contents.held-same, Filling.AreFilled, Filling.blocks-filled, Filling.HaveOwn, Folding.after_row, Folding.after_rows, Folding.Fills, Folding.one_gives}
+use Rattle.std.proofs.Common.{◌≡◌, ℕ, Bool, true, false, cond, ◌||◌, List, [], ◌∷◌, ◌++◌, pos, map, refl, sym, ap, subst, ◌∙◌}
+use Rattle.std.specs.List.{AllByRecursion, flat_map}
+use Rattle.std.proofs.lemmas.Bool.{cond_both, false≢true, or_left}
+use Rattle.std.proofs.lemmas.List.{map-append, length-replicate}
+use Rattle.sj_base.specs.declared.ids.Cell.{Cell}
+use Rattle.sj_base.specs.declared.ids.Line.{Line}
+use Rattle.sj_base.specs.declared.mode.Mode.TheVariants.{R, W, RW}
+use Rattle.sj_base.specs.declared.tile.Dims.{Dims}
+use Rattle.sj_base.specs.declared.program.Lowered.{Lowered}
+use Rattle.sj_base.specs.declared.program.Program.{Program}
+use Rattle.sj_base.specs.Array.{Array, area, zeros}
+use Rattle.sj_base.specs.Window.{pasted}
+use Rattle.sj_codelet.specs.declared.kernel.Kernel.TheVariants.{Paste as PasteKernel}
+use Rattle.sj_core.specs.Program.{same_cell, dims_of}
+use Rattle.sj_core.specs.Proper.{gives_value}
+use Rattle.sj_core.specs.Fold.{Contents, held_in}
+use Rattle.sj_plan.specs.declared.parts.Parts.{Parts}
+use Rattle.sj_plan.specs.declared.paste.Paste.{Paste}
+use Rattle.sj_plan.specs.Parts.{Fits, IsPlace, places}
+use Rattle.sj_plan.specs.Paste.{pieces, paste_copy, paste_at, overlaps, is_first, pastes_to, pastes_of, IsPasteBetween}
+use Rattle.sj_plan.specs.Pieces.{Copy, begins, copied, all_copied, BeginOnce}
+use Rattle.sj_plan.specs.Rect.{child, rect_dims}
+use Rattle.sj_plan.specs.Window.{window}
+use Rattle.sj_plan.proofs.Copying.{copies_to-begin, copy_between-within}
+use Rattle.sj_plan.proofs.Lists.{each-map, each-filter, each-places}
+use Rattle.sj_plan.proofs.Repartitioning.{pastes_to-copies, pastes_to-make}
+use Rattle.sj_plan.proofs.Splitting.{part_len-positive}
+use Rattle.sj_plan.proofs.Tiling.{children_of-tiling, children_of-order}
+use Rattle.sj_phases.specs.Rows.{an_access, own_task}
+use Rattle.sj_lower.specs.Rows.{paste_arguments, paste_row}
+use Rattle.sj_lower.proofs.Contents.{held-same, held-other, same_cell-itself}
+use Rattle.sj_lower.proofs.Elements.{child-within}
+use Rattle.sj_lower.proofs.Filling.{AreFilled, HaveOwn, blocks-filled}
+use Rattle.sj_lower.proofs.Folding.{after_row, after_rows, one_gives, Fills}
 
 -- ---- one paste
 
 -- a paste puts what a copy makes into the new child's cell
 pasted_by : (p : Program) (k : Contents) (old new : ℕ × ℕ → Cell) (line : Line) (x : Paste) (b : Bool)
-    → after_row p k (own_task PasteKernel (paste_arguments x) (access R (old x.from) ∷ access (cond b W RW) (new x.to) ∷ []) line)
+    → after_row p k (own_task PasteKernel (paste_arguments x) (an_access R (old x.from) ∷ an_access (cond b W RW) (new x.to) ∷ []) line)
     ≡ (new x.to, pasted (held_in p k (old x.from)) x.at_from (record { rows = x.rows; cols = x.cols }) (cond b (zeros (dims_of p (new x.to))) (held_in p k (new x.to))) x.at_to) ∷ k
 pasted_by p k old new line x true = refl
 pasted_by p k old new line x false = refl
 
-pub after_paste : (p : Program) (k : Contents) (old new : ℕ × ℕ → Cell) (line : Line) (x : Paste)
-    → after_row p k (paste_row old new line x) ≡ (new x.to, pasted (held_in p k (old x.from)) x.at_from (record { rows = x.rows; cols = x.cols }) (cond (is_first x) (zeros (dims_of p (new x.to))) (held_in p k (new x.to))) x.at_to) ∷ k
-after_paste p k old new line x = pasted_by p k old new line x (is_first x)
-
 pub paste-gives : (old new : ℕ × ℕ → Cell) (line : Line) (x : Paste) → gives_value (paste_row old new line x) (new x.to) ≡ true
-paste-gives old new line x = by_mode (is_first x)
-  where
-    by_mode : (b : Bool) → gives_value (own_task PasteKernel (paste_arguments x) (access R (old x.from) ∷ access (cond b W RW) (new x.to) ∷ []) line) (new x.to) ≡ true
-    by_mode true = ap (λ b. b || false) (same_cell-itself (new x.to))
-    by_mode false = ap (λ b. b || false) (same_cell-itself (new x.to))
+paste-gives old new line x =
+    let own = ap (λ b. b || false) (same_cell-itself (new x.to)) in
+    cond_both (is_first x) W RW (λ m. gives_value (own_task PasteKernel (paste_arguments x) (an_access R (old x.from) ∷ an_access m (new x.to) ∷ []) line) (new x.to) ≡ true) (λ e. own) (λ e. own)
 
 -- ---- the pastes to one child
 
@@ -52,9 +75,9 @@ made_by : (p : Program) (d : Dims) (s : Parts) (old new : ℕ × ℕ → Cell) (
 made_by p d s old new a line to k w x dims here holds none goes =
     let there : (new x.to) ≡ new to = ap new goes.1 in
     let row : after_row p k (paste_row old new line x) ≡ (new to, copied (windows_of d s a) w (paste_copy x)) ∷ k =
-    after_paste p k old new line x
+    pasted_by p k old new line x (is_first x)
     ∙ (λ i. (there i, pasted (holds x.from goes.0 i) x.at_from (record { rows = x.rows; cols = x.cols }) (cond (is_first x) (zeros (dims_of p (there i))) (held_in p k (there i))) x.at_to) ∷ k)
-    ∙ ap (λ (y : Array). (new to, pasted (window a (child d s x.from)) x.at_from (record { rows = x.rows; cols = x.cols }) y x.at_to) ∷ k) (by_first (is_first x) refl) in
+    ∙ ap (λ (y : Array). (new to, pasted (window a (child d s x.from)) x.at_from (record { rows = x.rows; cols = x.cols }) y x.at_to) ∷ k) (by_first (is_first x) here) in
     record {
       fills = record {
         value = ap (λ (n : Contents). held_in p n (new to)) row ∙ held-same p (new to) (copied (windows_of d s a) w (paste_copy x)) k;
@@ -63,36 +86,30 @@ made_by p d s old new a line to k w x dims here holds none goes =
       holds = λ from inside. ap (λ (n : Contents). held_in p n (old from)) row ∙ held-other p (new to) (copied (windows_of d s a) w (paste_copy x)) k (old from) (none from inside) ∙ holds from inside;
     }
   where
-    by_first : (b : Bool) → is_first x ≡ b → cond (is_first x) (zeros (dims_of p (new to))) (held_in p k (new to)) ≡ cond (is_first x) (zeros w.dims) w
-    by_first true e = ap (λ b. cond b (zeros (dims_of p (new to))) (held_in p k (new to))) e ∙ ap zeros (sym dims) ∙ sym (ap (λ b. cond b (zeros w.dims) w) e)
-    by_first false e = ap (λ b. cond b (zeros (dims_of p (new to))) (held_in p k (new to))) e ∙ here e ∙ sym (ap (λ b. cond b (zeros w.dims) w) e)
+    by_first : (b : Bool) → (b ≡ false → held_in p k (new to) ≡ w) → cond b (zeros (dims_of p (new to))) (held_in p k (new to)) ≡ cond b (zeros w.dims) w
+    by_first true h = ap zeros (sym dims)
+    by_first false h = h refl
 
 copied_dims : (old : ℕ × ℕ → Array) (w : Array) (c : Copy (ℕ × ℕ)) → (copied old w c).dims ≡ w.dims
-copied_dims old w c = by_first (begins c)
-  where
-    by_first : (b : Bool) → (cond b (zeros w.dims) w).dims ≡ w.dims
-    by_first true = refl
-    by_first false = refl
+copied_dims old w c = cond_both (begins c) (zeros w.dims) w (λ (y : Array). y.dims ≡ w.dims) (λ e. refl) (λ e. refl)
 
--- further pastes to a child
-further_made : (p : Program) (d : Dims) (s : Parts) (old new : ℕ × ℕ → Cell) (a : Array) (line : Line) (to : ℕ × ℕ) (xs : List Paste) (k : Contents) (w : Array) → w.dims ≡ dims_of p (new to) → held_in p k (new to) ≡ w → HoldOld p d s old a k → IsNoOld s old (new to) → AllByRecursion (GoesTo s to) xs
+-- the first of the pastes, if there is one, begins its child
+abbrev first_begins : List Paste → Bool
+first_begins [] = false
+first_begins (x ∷ xs) = is_first x
+
+begin_once : (xs : List Paste) → BeginOnce (map paste_copy xs) → first_begins xs ≡ true
+begin_once [] once = absurd once
+begin_once (x ∷ xs) once = once.0
+
+-- all pastes to a child, into what it held before where the first of them doesn't begin it
+all_made : (p : Program) (d : Dims) (s : Parts) (old new : ℕ × ℕ → Cell) (a : Array) (line : Line) (to : ℕ × ℕ) (xs : List Paste) (k : Contents) (w : Array) → w.dims ≡ dims_of p (new to) → (first_begins xs ≡ false → held_in p k (new to) ≡ w) → HoldOld p d s old a k → IsNoOld s old (new to) → AllByRecursion (GoesTo s to) xs
     → AreMade p d s old a k (after_rows p k (map (paste_row old new line) xs)) (new to) (all_copied (windows_of d s a) w (map paste_copy xs))
-further_made p d s old new a line to [] k w dims here holds none go = record { fills = record { value = here; others = λ c beside. refl }; holds = holds }
-further_made p d s old new a line to (x ∷ xs) k w dims here holds none go =
-    let one = made_by p d s old new a line to k w x dims (λ e. here) holds none go.0 in
+all_made p d s old new a line to [] k w dims here holds none go = record { fills = record { value = here refl; others = λ c beside. refl }; holds = holds }
+all_made p d s old new a line to (x ∷ xs) k w dims here holds none go =
+    let one = made_by p d s old new a line to k w x dims here holds none go.0 in
     let made = copied (windows_of d s a) w (paste_copy x) in
-    let rest = further_made p d s old new a line to xs (after_row p k (paste_row old new line x)) made (copied_dims (windows_of d s a) w (paste_copy x) ∙ dims) one.fills.value one.holds none go.1 in
-    record { fills = record { value = rest.fills.value; others = λ c beside. rest.fills.others c beside ∙ one.fills.others c beside }; holds = rest.holds }
-
--- all pastes to a child, of which the first begins it
-all_made : (p : Program) (d : Dims) (s : Parts) (old new : ℕ × ℕ → Cell) (a : Array) (line : Line) (to : ℕ × ℕ) (xs : List Paste) (k : Contents) → BeginOnce (map paste_copy xs) → HoldOld p d s old a k → IsNoOld s old (new to) → AllByRecursion (GoesTo s to) xs
-    → AreMade p d s old a k (after_rows p k (map (paste_row old new line) xs)) (new to) (all_copied (windows_of d s a) (zeros (dims_of p (new to))) (map paste_copy xs))
-all_made p d s old new a line to [] k once holds none go = absurd once
-all_made p d s old new a line to (x ∷ xs) k once holds none go =
-    let w = zeros (dims_of p (new to)) in
-    let one = made_by p d s old new a line to k w x refl (λ e. absurd (false≢true (sym e ∙ once.0))) holds none go.0 in
-    let made = copied (windows_of d s a) w (paste_copy x) in
-    let rest = further_made p d s old new a line to xs (after_row p k (paste_row old new line x)) made (copied_dims (windows_of d s a) w (paste_copy x)) one.fills.value one.holds none go.1 in
+    let rest = all_made p d s old new a line to xs (after_row p k (paste_row old new line x)) made (copied_dims (windows_of d s a) w (paste_copy x) ∙ dims) (λ e. one.fills.value) one.holds none go.1 in
     record { fills = record { value = rest.fills.value; others = λ c beside. rest.fills.others c beside ∙ one.fills.others c beside }; holds = rest.holds }
 
 -- what holds of the paste of each old child that overlaps holds of each paste to the new one
@@ -136,7 +153,8 @@ pub pastes-filled : (p : Program) (d : Dims) (s t : Parts) (old new : ℕ × ℕ
 pastes-filled p d s t old new a line k fs ft holds dims none own =
     subst (λ (ls : List Lowered). AreFilled p k (after_rows p k ls) t new (λ to. window a (child d t to))) (sym (rows-by_child d s t old new line))
     (blocks-filled p (HoldOld p d s old a) (rows_to d s t old new line) new (λ to. window a (child d t to)) t k (λ to at k i.
-    let made = all_made p d s old new a line to (pastes_to d s t to) k (pastes-begin d s t to fs ft at) i (none to at) (pastes-go d s t to) in
+    let once = begin_once (pastes_to d s t to) (pastes-begin d s t to fs ft at) in
+    let made = all_made p d s old new a line to (pastes_to d s t to) k (zeros (dims_of p (new to))) refl (λ e. absurd (false≢true (sym e ∙ once))) i (none to at) (pastes-go d s t to) in
     let is : all_copied (windows_of d s a) (zeros (dims_of p (new to))) (map paste_copy (pastes_to d s t to)) ≡ window a (child d t to) =
     pastes_to-make d s t to a (windows_of d s a) (zeros (dims_of p (new to))) fs ft at (λ from inside. refl) (length-replicate (area (dims_of p (new to))) (pos 0)) (dims to at) in
     (record { value = made.fills.value ∙ is; others = made.fills.others }, made.holds)) holds own)

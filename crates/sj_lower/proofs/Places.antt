@@ -1,72 +1,62 @@
 -- A plan's children by their number, row by row.
-use Rattle.sj_lower.proofs.Words.{ap, arith, flat_map, get_or, IsPlace, length, length-append, map, nat_eq, number, Parts, places, range_with_len, refl, same_parts, suc, sym, true, zero, ℕ, ◌%◌, ◌*◌, ◌++◌, ◌+◌, ◌-◌, ◌/◌, ◌<◌, ◌∙◌, ◌≡◌, ◌≤◌}
-use Rattle.std.proofs.lemmas.{Bool.and_from, Bool.and_parts, Bool.Decides.Decides-eqb, List.get_or-append_right, List.get_or_append_left, List.map-append, List.FromFn.get_or-map-range_with_len, List.FromFn.length-map-range_with_len, Nat.div-add-mod', Nat.div_below, Nat.mod_below, Nat.mul-add-lt, Simd.map-map}
-use Rattle.sj_base.proofs.Numbers.{some_factor}
+use Rattle.std.proofs.Common.{◌≡◌, ℕ, ◌+◌, ◌*◌, ◌/◌, ◌%◌, ◌<◌, true, map, length, take, get_or, sym, ap, ◌∙◌, arith}
+use Rattle.std.specs.Prelude.{nat_eq}
+use Rattle.std.specs.List.{flat_map, range_with_len}
+use Rattle.std.proofs.lemmas.Bool.{and_from, and_parts, eqb-true}
+use Rattle.std.proofs.lemmas.List.{map-id, length-map, get_or-map}
+use Rattle.std.proofs.lemmas.List.Concat.{get_or-flat_map}
+use Rattle.std.proofs.lemmas.List.FromFn.{length-range_with_len, get_or-range_with_len, length-map-range_with_len, get_or-map-range_with_len, take-map-range_with_len}
+use Rattle.std.proofs.lemmas.Nat.{div_below, mod_below, div-add-mod', mul-add-lt, same_from_place}
+use Rattle.sj_base.proofs.Bools.{nat_eq-itself}
+use Rattle.sj_base.proofs.Numbers.{none_first, some_factor}
+use Rattle.sj_plan.specs.declared.parts.Parts.{Parts}
+use Rattle.sj_plan.specs.Parts.{IsPlace, places}
 use Rattle.sj_plan.proofs.Lists.{grid_row}
+use Rattle.sj_plan.proofs.Windows.{length-rows}
+use Rattle.sj_lower.specs.Cells.{number, same_parts}
+pub use Rattle.sj_base.proofs.Numbers.{same_pair}
+pub use Rattle.sj_plan.proofs.Repartitioning.{same_child_place-law as place-is, same_child_place-refl as place-itself}
 
 pub parts-are : (p q : Parts) → same_parts p q ≡ true → p ≡ q
 parts-are p q h =
     let both = and_parts (nat_eq p.r q.r) (nat_eq p.c q.c) h in
-    let r = (Decides-eqb p.r q.r).0 both.0 in
-    let c = (Decides-eqb p.c q.c).0 both.1 in
-    λ i. record { r = r i; c = c i }
+    λ i. record { r = eqb-true p.r q.r both.0 i; c = eqb-true p.c q.c both.1 i }
 
 pub parts-itself : (p : Parts) → same_parts p p ≡ true
-parts-itself p = and_from (nat_eq p.r p.r) (nat_eq p.c p.c) ((Decides-eqb p.r p.r).1 refl) ((Decides-eqb p.c p.c).1 refl)
+parts-itself p = and_from (nat_eq p.r p.r) (nat_eq p.c p.c) (nat_eq-itself p.r) (nat_eq-itself p.c)
 
 -- ---- numbers
 
 pub number-below : (p : Parts) (place : ℕ × ℕ) → IsPlace p place → number p place < p.r * p.c
 number-below p place h = omega (arith, mul-add-lt place.0 p.c place.1 p.r h.0 h.1)
 
+pub number-apart : (p : Parts) (x y : ℕ × ℕ) → IsPlace p x → IsPlace p y → number p x ≡ number p y → x ≡ y
+number-apart p x y hx hy e = let same = same_from_place x.0 x.1 y.0 y.1 p.c hx.1 hy.1 e in same_pair x y same.0 same.1
+
 -- ---- lists
 
-length-row : {X : Type 0} (f : ℕ × ℕ → X) (c i : ℕ) → length (map f (grid_row c i)) ≡ c
-length-row f c i = ap length (map-map f (λ j. (i, j)) (range_with_len 0 c)) ∙ length-map-range_with_len (λ j. f (i, j)) 0 c
-
-row-at : {X : Type 0} (f : ℕ × ℕ → X) (c i j : ℕ) (d : X) → j < c → get_or (map f (grid_row c i)) j d ≡ f (i, j)
-row-at f c i j d h = ap (λ xs. get_or xs j d) (map-map f (λ j. (i, j)) (range_with_len 0 c)) ∙ get_or-map-range_with_len (λ j. f (i, j)) 0 c j j d h (omega arith)
-
-length-rows : {X : Type 0} (f : ℕ × ℕ → X) (c a n : ℕ) → length (map f (flat_map (grid_row c) (range_with_len a n))) ≡ n * c
-length-rows f c a zero = omega arith
-length-rows f c a (suc n) =
-    ap length (map-append f (grid_row c a) (flat_map (grid_row c) (range_with_len (a + 1) n)))
-    ∙ length-append (map f (grid_row c a)) (map f (flat_map (grid_row c) (range_with_len (a + 1) n)))
-    ∙ (λ i. length-row f c a i + length-rows f c (a + 1) n i) ∙ one_more n c
-  where
-    one_more : (n c : ℕ) → c + n * c ≡ suc n * c
-    one_more n c = omega arith
-
-rows-at : {X : Type 0} (f : ℕ × ℕ → X) (c a n i j : ℕ) (d : X) → i < n → j < c → get_or (map f (flat_map (grid_row c) (range_with_len a n))) (i * c + j) d ≡ f (a + i, j)
-rows-at f c a zero i j d hi hj = absurd (omega arith)
-rows-at f c a (suc n) zero j d hi hj =
-    ap (λ xs. get_or xs (0 * c + j) d) (map-append f (grid_row c a) (flat_map (grid_row c) (range_with_len (a + 1) n)))
-    ∙ ap (λ k. get_or (map f (grid_row c a) ++ map f (flat_map (grid_row c) (range_with_len (a + 1) n))) k d) (first j c)
-    ∙ get_or_append_left (map f (grid_row c a)) (map f (flat_map (grid_row c) (range_with_len (a + 1) n))) d j (omega (arith, length-row f c a))
-    ∙ row-at f c a j d hj ∙ ap (λ k. f (k, j)) (omega arith)
-  where
-    first : (j c : ℕ) → 0 * c + j ≡ j
-    first j c = omega arith
-rows-at f c a (suc n) (suc i) j d hi hj =
-    let row = map f (grid_row c a) in
-    let rest = map f (flat_map (grid_row c) (range_with_len (a + 1) n)) in
-    ap (λ xs. get_or xs (suc i * c + j) d) (map-append f (grid_row c a) (flat_map (grid_row c) (range_with_len (a + 1) n)))
-    ∙ get_or-append_right row rest c (suc i * c + j) d (length-row f c a) (past i c j)
-    ∙ ap (λ k. get_or rest k d) (less i c j)
-    ∙ rows-at f c (a + 1) n i j d (omega arith) hj ∙ ap (λ k. f (k, j)) (omega arith)
-  where
-    past : (i c j : ℕ) → c ≤ suc i * c + j
-    past i c j = omega arith
-
-    less : (i c j : ℕ) → (suc i * c + j) - c ≡ i * c + j
-    less i c j = omega arith
+places-count : (p : Parts) → length (places p) ≡ p.r * p.c
+places-count p = length-rows {X = ℕ × ℕ} (λ i j. (i, j)) p.c 0 p.r
 
 pub length-places : {X : Type 0} (f : ℕ × ℕ → X) (p : Parts) → length (map f (places p)) ≡ p.r * p.c
-length-places f p = length-rows f p.c 0 p.r
+length-places f p = length-map (places p) f ∙ places-count p
+
+-- a child's place stands at its number
+places-have : (p : Parts) (place : ℕ × ℕ) → IsPlace p place → get_or (places p) (number p place) place ≡ place
+places-have p place h =
+    let rows = range_with_len 0 p.r in
+    let found = get_or rows place.0 0 in
+    let above : take place.0 rows ≡ range_with_len 0 place.0 = ap (take place.0) (sym (map-id rows)) ∙ take-map-range_with_len (λ k. k) 0 p.r place.0 (omega (arith, h.0)) ∙ map-id (range_with_len 0 place.0) in
+    let before = ap (λ ks. length (flat_map (grid_row p.c) ks)) above ∙ length-rows {X = ℕ × ℕ} (λ i j. (i, j)) p.c 0 place.0 in
+    let long : length (grid_row p.c found) ≡ p.c = length-map-range_with_len {X = ℕ × ℕ} (λ j. (found, j)) 0 p.c in
+    ap (λ k. get_or (places p) (k + place.1) place) (sym before)
+    ∙ get_or-flat_map (grid_row p.c) rows place.0 place.1 0 place (omega (arith, h.0, length-range_with_len 0 p.r)) (omega (arith, h.1, long))
+    ∙ ap (λ k. get_or (grid_row p.c k) place.1 place) (get_or-range_with_len 0 p.r place.0 0 h.0 ∙ none_first place.0)
+    ∙ get_or-map-range_with_len {X = ℕ × ℕ} (λ j. (place.0, j)) 0 p.c place.1 place.1 place h.1 (omega arith)
 
 -- what stands at a child's number
 pub places-at : {X : Type 0} (f : ℕ × ℕ → X) (p : Parts) (place : ℕ × ℕ) (d : X) → IsPlace p place → get_or (map f (places p)) (number p place) d ≡ f place
-places-at f p place d h = rows-at f p.c 0 p.r place.0 place.1 d h.0 h.1 ∙ ap (λ k. f (k, place.1)) (omega arith)
+places-at f p place d h = get_or-map f (places p) (number p place) place d (omega (arith, number-below p place h, places-count p)) ∙ ap f (places-have p place h)
 
 -- the child of a number
 abbrev pub place_at : Parts → ℕ → ℕ × ℕ

@@ -1,27 +1,42 @@
 -- What a task writes: which operands get new arrays, and with which dimensions.
-use Rattle.sj_lower.proofs.Words.{[], ap, arguments_fit, arith, Array, Bool, Codelet, cond, Dims, dims_fit, false, filter, fits, fits_in, Formal, formals_in, formals_of, is_output, is_written, Kernel, kernel_of, length, List, map, mode_fits, modes_fit, nat_eq, new_arrays, None, Operand, Option, out, outputs_among, refl, Some, subst, sym, true, ℕ, ℤ, ◌&&◌, ◌∙◌, ◌∷◌, ◌≡◌}
-use Rattle.std.proofs.lemmas.{Bool.and_parts, Bool.Decides.Decides-eqb, List.length-map}
-use Rattle.sj_codelet.proofs.{NewArrays.AreWhole, NewArrays.new_arrays-whole, Table.each_dims, Table.new_arrays-dims}
-use Rattle.sj_meaning.proofs.Giving.{written_as}
-
--- ---- modes
+use Rattle.std.proofs.Common.{◌≡◌, ℕ, Bool, true, false, ◌&&◌, cond, ℤ, Option, Some, None, List, [], ◌∷◌, map, length, refl, sym, ap, subst, ◌∙◌, arith}
+use Rattle.std.specs.Prelude.{nat_eq}
+use Rattle.std.specs.List.{filter}
+use Rattle.std.proofs.lemmas.Bool.{and_parts}
+use Rattle.std.proofs.lemmas.Bool.Decides.{Decides-eqb}
+use Rattle.std.proofs.lemmas.List.{length-map}
+use Rattle.sj_base.specs.declared.tile.Dims.{Dims}
+use Rattle.sj_base.specs.declared.program.Codelet.{Codelet}
+use Rattle.sj_base.specs.Array.{Array}
+use Rattle.sj_base.specs.Mode.{is_written}
+use Rattle.sj_codelet.specs.declared.kernel.Kernel.{Kernel}
+use Rattle.sj_codelet.specs.declared.formal.Formal.{Formal}
+use Rattle.sj_codelet.specs.Kernel.{kernel_of, formals_of, arguments_fit, dims_fit, fits, fits_in, new_arrays, out}
+use Rattle.sj_codelet.specs.Formal.{outputs_among}
+use Rattle.sj_codelet.specs.Runs.{formals_in}
+use Rattle.sj_codelet.proofs.NewArrays.{new_arrays-whole}
+use Rattle.sj_codelet.proofs.Table.{new_arrays-dims}
+use Rattle.sj_meaning.specs.Statement.{Operand}
+use Rattle.sj_meaning.specs.Sound.{mode_fits}
+use Rattle.sj_lower.specs.SoundAt.{modes_fit}
+pub use Rattle.sj_codelet.proofs.NewArrays.{AreWhole}
+pub use Rattle.sj_codelet.proofs.Table.{each_dims as all_dims}
+pub use Rattle.sj_meaning.proofs.Giving.{written_as as writes_output}
 
 -- ---- new arrays
 
 -- the outputs of a codelet stand where a task's operands are written
-pub outputs-written : {X : Type 0} (f : Operand (List ℕ) → X) (fs : List Formal) (os : List (Operand (List ℕ))) → modes_fit fs os ≡ true → length os ≡ length fs → outputs_among fs (map f os) ≡ map f (filter (λ (o : Operand (List ℕ)). is_written o.mode) os)
+pub outputs-written : {X : Type 0} (f : Operand ℕ → X) (fs : List Formal) (os : List (Operand ℕ)) → modes_fit fs os ≡ true → length os ≡ length fs → outputs_among fs (map f os) ≡ map f (filter (λ (o : Operand ℕ). is_written o.mode) os)
 outputs-written f [] [] e l = refl
-outputs-written f [] (o ∷ os) e l = absurd (omega arith)
-outputs-written f (g ∷ fs) [] e l = absurd (omega arith)
 outputs-written f (g ∷ fs) (o ∷ os) e l =
     let m = and_parts (mode_fits g o.mode) (modes_fit fs os) e in
-    by_cases (is_output g) (is_written o.mode) (sym (written_as g o.mode m.0)) (outputs-written f fs os m.1 (omega (arith, l)))
+    let rest = outputs-written f fs os m.1 (omega (arith, l)) in
+    (λ i. cond (sym (writes_output g o.mode m.0) i) (f o ∷ rest i) (rest i)) ∙ through (is_written o.mode) (filter (λ (o : Operand ℕ). is_written o.mode) os)
   where
-    by_cases : (b c : Bool) → b ≡ c → outputs_among fs (map f os) ≡ map f (filter (λ (o : Operand (List ℕ)). is_written o.mode) os) → cond b (f o ∷ outputs_among fs (map f os)) (outputs_among fs (map f os)) ≡ map f (cond c (o ∷ filter (λ (o : Operand (List ℕ)). is_written o.mode) os) (filter (λ (o : Operand (List ℕ)). is_written o.mode) os))
-    by_cases true true e r = ap (λ xs. f o ∷ xs) r
-    by_cases false false e r = r
-    by_cases true false e r = absurd (cc)
-    by_cases false true e r = absurd (cc)
+    through : (b : Bool) (us : List (Operand ℕ)) → cond b (f o ∷ map f us) (map f us) ≡ map f (cond b (o ∷ us) us)
+    through true us = refl
+    through false us = refl
+outputs-written f fs os e l = absurd (omega (arith, l))
 
 -- ---- calls
 
@@ -38,17 +53,17 @@ fit_from_fits k args ds h =
     record { count = (Decides-eqb (length ds) (length (formals_of k))).0 q.0; arguments = q.1; dims = p.1 }
 
 -- the new arrays have the dimensions of the operands that are written
-pub out_dims : (k : Kernel) (id : Codelet) (args : List ℤ) (ins : List Array) → kernel_of id ≡ Some k → fits k args (each_dims ins) ≡ true → each_dims (out id args ins) ≡ outputs_among (formals_of k) (each_dims ins)
+pub out_dims : (k : Kernel) (id : Codelet) (args : List ℤ) (ins : List Array) → kernel_of id ≡ Some k → fits k args (all_dims ins) ≡ true → all_dims (out id args ins) ≡ outputs_among (formals_of k) (all_dims ins)
 out_dims k id args ins e h =
-    let f = fit_from_fits k args (each_dims ins) h in
-    ap (λ (o : Option Kernel). each_dims (elim o as (λ _. List Array) [ None ↦ [] | Some j ↦ new_arrays j args ins ])) e
+    let f = fit_from_fits k args (all_dims ins) h in
+    ap (λ (o : Option Kernel). all_dims (elim o as (λ _. List Array) [ None ↦ [] | Some j ↦ new_arrays j args ins ])) e
     ∙ new_arrays-dims k args ins (sym (length-map ins (λ (a : Array). a.dims)) ∙ f.count) f.dims
 
 -- and are whole where the operands are
-pub out_whole : (k : Kernel) (id : Codelet) (args : List ℤ) (ins : List Array) → kernel_of id ≡ Some k → fits k args (each_dims ins) ≡ true → AreWhole ins → AreWhole (out id args ins)
+pub out_whole : (k : Kernel) (id : Codelet) (args : List ℤ) (ins : List Array) → kernel_of id ≡ Some k → fits k args (all_dims ins) ≡ true → AreWhole ins → AreWhole (out id args ins)
 out_whole k id args ins e h w =
     subst (λ (o : Option Kernel). AreWhole (elim o as (λ _. List Array) [ None ↦ [] | Some j ↦ new_arrays j args ins ])) (sym e)
-    (new_arrays-whole k args ins (fit_from_fits k args (each_dims ins) h).arguments w)
+    (new_arrays-whole k args ins (fit_from_fits k args (all_dims ins) h).arguments w)
 
 -- the codelet of a sound task
 pub record IsCall (id : Codelet) (args : List ℤ) (ds : List Dims) : Type 0 where

@@ -1,6 +1,6 @@
 -- The cells of a job: a plan's children become cells, row by row, when the plan first becomes active for its root, and a
 -- cell gets partial copies, one for each worker, when it is first contributed to.
-use Rattle.std.specs.Prelude.{ℕ, ◌+◌, Bool, ◌&&◌, nat_eq, Option, Some, None, List, [], ◌++◌, map, length, is_some, unwrap_or, replicate, slice_set, if◌then◌else◌}
+use Rattle.std.specs.Prelude.{ℕ, ◌+◌, ◌*◌, Bool, ◌&&◌, nat_eq, Option, Some, None, List, [], ◌++◌, map, length, is_some, unwrap_or, replicate, slice_set, if◌then◌else◌}
 use Rattle.std.specs.List.{slice_index_or}
 use Rattle.std.specs.Str.{bytes_eq}
 use Rattle.sj_base.specs.declared.ids.Cell.{Cell}
@@ -12,7 +12,13 @@ use Rattle.sj_plan.specs.declared.parts.Parts.{Parts}
 use Rattle.sj_plan.specs.declared.rect.Rect.{Rect}
 use Rattle.sj_plan.specs.Parts.{places}
 use Rattle.sj_plan.specs.Rect.{child, rect_dims}
-use Rattle.sj_job.specs.Track.{number}
+
+-- the place of a child in the list of its plan's children
+abbrev pub number : Parts → ℕ × ℕ → ℕ
+number p place = place.0 * p.c + place.1
+
+abbrev pub children_count : Parts → ℕ
+children_count p = p.r * p.c
 
 abbrev pub same_parts : Parts → Parts → Bool
 same_parts p q = nat_eq p.r q.r && nat_eq p.c q.c
@@ -53,8 +59,8 @@ cell_of C name p place = cells_from (first_cell C name p) p place
 abbrev pub with_first : Parts → ℕ → (Parts → Option ℕ) → Parts → Option ℕ
 with_first p n first q = if same_parts p q then Some n else first q
 
-abbrev pub taking_plan : Parts → ℕ → Handle → Handle
-taking_plan p n h = record { root = h.root; dims = h.dims; first = with_first p n h.first }
+abbrev pub taking : Parts → ℕ → Handle → Handle
+taking p n h = record { root = h.root; dims = h.dims; first = with_first p n h.first }
 
 -- the cell of a rectangle of a root
 abbrev pub rect_cell : Root → Rect → CellInfo
@@ -70,7 +76,7 @@ take_by name p h C =
     if is_some (h.first p) then C
     else record {
       rows = C.rows ++ map (child_cell h.root h.dims p) (places p);
-      handles = with_handle name (taking_plan p (length C.rows) h) C.handles;
+      handles = with_handle name (taking p (length C.rows) h) C.handles;
       roots = C.roots;
     }
 
@@ -85,8 +91,8 @@ abbrev pub next_handle : Dims → Cells → Handle
 next_handle d C = record { root = record { 0 = C.roots }; dims = d; first = λ p. None }
 
 -- a root more
-abbrev pub with_new_root : List ℕ → Dims → Cells → Cells
-with_new_root name d C = record { rows = C.rows; handles = with_handle name (next_handle d C) C.handles; roots = C.roots + 1 }
+abbrev pub with_root : List ℕ → Dims → Cells → Cells
+with_root name d C = record { rows = C.rows; handles = with_handle name (next_handle d C) C.handles; roots = C.roots + 1 }
 
 -- no root
 abbrev pub no_cells : Cells
@@ -109,15 +115,15 @@ abbrev pub with_partials : Cell → CellInfo → CellInfo
 with_partials first i = record { root = i.root; dims = i.dims; partials = Some first }
 
 -- the first partial copy of a cell; where there is none yet, the next cell is to be it
-abbrev pub first_partial : Cells → Cell → Cell
-first_partial C c = unwrap_or (info_at C c).partials (record { 0 = length C.rows })
+abbrev pub first_copy : Cells → Cell → Cell
+first_copy C c = unwrap_or (info_at C c).partials (record { 0 = length C.rows })
 
 -- the cells with the partial copies of this one, so many, which arise if they aren't there
 abbrev pub with_copies : ℕ → Cell → Cells → Cells
 with_copies workers c C =
     if is_some (info_at C c).partials then C
     else record {
-      rows = slice_set C.rows c.0 (with_partials (first_partial C c) (info_at C c)) ++ replicate workers (copy_info (info_at C c));
+      rows = slice_set C.rows c.0 (with_partials (first_copy C c) (info_at C c)) ++ replicate workers (copy_info (info_at C c));
       handles = C.handles;
       roots = C.roots;
     }

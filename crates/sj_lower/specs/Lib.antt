@@ -1,8 +1,14 @@
 pub mod Cells
 pub mod Rows
+pub mod Laid
+pub mod Step
+pub mod SoundAt
+pub mod Whole
+pub mod Follows
+pub mod Adds
+pub mod Running
+pub mod Delivering
 pub mod Lowering
 pub mod Limits
 pub mod Job
-pub mod Delivering
-pub mod Seen
 pub mod Progress

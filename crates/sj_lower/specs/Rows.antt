@@ -12,28 +12,23 @@ use Rattle.sj_base.specs.declared.tile.Dims.{Dims}
 use Rattle.sj_base.specs.declared.program.Codelet.{Codelet}
 use Rattle.sj_base.specs.declared.program.Lowered.{Lowered}
 use Rattle.sj_base.specs.Array.{array}
-use Rattle.sj_base.specs.Mode.{access}
 use Rattle.sj_codelet.specs.declared.kernel.Kernel.{Kernel}
 use Rattle.sj_codelet.specs.declared.kernel.Kernel.TheVariants.{Load, LoadFill, Paste as PasteKernel, Deliver}
 use Rattle.sj_codelet.specs.Kernel.{codelet_of, init_of, combine_of}
 use Rattle.sj_plan.specs.declared.paste.Paste.{Paste}
 use Rattle.sj_plan.specs.declared.rect.Rect.{Rect}
+use Rattle.sj_plan.specs.declared.parts.Parts.{Parts}
+use Rattle.sj_plan.specs.Parts.{places}
+use Rattle.sj_plan.specs.Rect.{child}
 use Rattle.sj_plan.specs.Paste.{is_first}
+use Rattle.sj_meaning.specs.declared.job.Init.{Init}
+use Rattle.sj_meaning.specs.declared.job.Init.TheVariants.{Values, Fill, Nothing}
 use Rattle.sj_plan.specs.Window.{window}
-use Rattle.sj_lower.specs.declared.phase.OpenPhase.{OpenPhase}
-use Rattle.sj_lower.specs.Cells.{copy_at}
-
--- a task that no task line names
-abbrev pub task_by : Codelet → List ℤ → List Access → Line → Lowered
-task_by codelet args accesses line = record { codelet = codelet; args = args; accesses = accesses; line = line; priority = pos 0 }
-
--- a task of the runtime's own codelets
-abbrev pub own_task : Kernel → List ℤ → List Access → Line → Lowered
-own_task k args accesses line = task_by (codelet_of k) args accesses line
+use Rattle.sj_phases.specs.Rows.{an_access, own_task}
 
 -- the child of a root with these elements gets its own
 abbrev pub load_row : List ℤ → Dims → Rect → Cell → Line → Lowered
-load_row xs d r c line = own_task Load (window (array d xs) r).elements (access W c ∷ []) line
+load_row xs d r c line = own_task Load (window (array d xs) r).elements (an_access W c ∷ []) line
 
 -- the arguments of `loadfill` for the child of a root of so many columns
 abbrev pub fill_arguments : ℤ → ℤ → ℕ → Rect → List ℤ
@@ -41,7 +36,7 @@ fill_arguments a b cols r = a ∷ b ∷ pos r.row ∷ pos r.col ∷ pos cols ∷
 
 -- the same of a root whose element at position i is a + b i
 abbrev pub fill_row : ℤ → ℤ → Dims → Rect → Cell → Line → Lowered
-fill_row a b d r c line = own_task LoadFill (fill_arguments a b d.cols r) (access W c ∷ []) line
+fill_row a b d r c line = own_task LoadFill (fill_arguments a b d.cols r) (an_access W c ∷ []) line
 
 abbrev pub paste_arguments : Paste → List ℤ
 paste_arguments x = pos x.at_from.0 ∷ pos x.at_from.1 ∷ pos x.at_to.0 ∷ pos x.at_to.1 ∷ pos x.rows ∷ pos x.cols ∷ []
@@ -53,24 +48,14 @@ paste_mode x = if is_first x then W else RW
 -- a paste of an old child's cell into a new child's
 abbrev pub paste_row : (ℕ × ℕ → Cell) → (ℕ × ℕ → Cell) → Line → Paste → Lowered
 paste_row old new line x =
-    own_task PasteKernel (paste_arguments x) (access R (old x.from) ∷ access (paste_mode x) (new x.to) ∷ []) line
+    own_task PasteKernel (paste_arguments x) (an_access R (old x.from) ∷ an_access (paste_mode x) (new x.to) ∷ []) line
 
 -- a cell's array is handed over
 abbrev pub deliver_row : Cell → Line → Lowered
-deliver_row c line = own_task Deliver [] (access R c ∷ []) line
+deliver_row c line = own_task Deliver [] (an_access R c ∷ []) line
 
--- a cell gets the reduction's unit
-abbrev pub init_row : Reduction → Line → Cell → Lowered
-init_row by line c = own_task (init_of by) [] (access W c ∷ []) line
-
--- so do the partial copies of so many workers, by worker
-abbrev pub init_rows : Reduction → Cell → ℕ → Line → List Lowered
-init_rows by first workers line = map (λ w. init_row by line (copy_at first w)) (range_with_len 0 workers)
-
--- a partial copy is combined into its cell
-abbrev pub combine_row : Reduction → Cell → Line → Cell → Lowered
-combine_row by c line q = own_task (combine_of by) [] (access R q ∷ access RW c ∷ []) line
-
--- the partial copies of so many workers are combined into their cell, by worker, with the line of the last contribution
-abbrev pub combine_rows : OpenPhase → Cell → ℕ → List Lowered
-combine_rows f c workers = map (λ w. combine_row f.by c f.line (copy_at f.copies w)) (range_with_len 0 workers)
+-- each child of a root that has values is loaded, row by row
+abbrev pub load_rows : Init → Dims → Parts → (ℕ × ℕ → Cell) → Line → List Lowered
+load_rows (Values xs) d p cell line = map (λ place. load_row xs d (child d p place) (cell place) line) (places p)
+load_rows (Fill a b) d p cell line = map (λ place. fill_row a b d (child d p place) (cell place) line) (places p)
+load_rows Nothing d p cell line = []

@@ -1,25 +1,26 @@
 //! Lowering a job.
 
-ghost use Rattle.std.specs.Prelude.{◌≡◌, ◌+◌, ◌<◌, ◌≤◌, Bool, IsTrue, None, Some, All, IfOk, IfErr, OnOk, nat_le, vec_len};
+ghost use Rattle.std.specs.Prelude.{◌≡◌, ◌<◌, ◌≤◌, Bool, IsTrue, None, [], All, fold, IfOk, IfErr, OnOk, vec_len};
 ghost use Rattle.sj_codelet.specs.declared.kernel.Kernel.{Kernel};
 ghost use Rattle.sj_codelet.specs.Kernel.{out};
 ghost use Rattle.sj_core.specs.Laws.{IsLawful, is_known};
 ghost use Rattle.sj_core.specs.Proper.{Proper};
-ghost use Rattle.sj_meaning.specs.State.{JobState, start};
-ghost use Rattle.sj_meaning.specs.Table.{Table};
 ghost use Rattle.sj_meaning.specs.View.{statements_of, IsNumbered};
+ghost use Rattle.sj_phases.specs.Does.{IsAt, HasAt, Does};
+ghost use Rattle.sj_phases.specs.Expand.{Expansion, nothing, closed, cells_below, program_of, most};
+ghost use Rattle.sj_lower.specs.Adds.{StepsAt, HasNext, Adds};
 ghost use Rattle.sj_lower.specs.Delivering.{DeliversPrinted, NamesDeliverTasks, DeliversInOrder};
 ghost use Rattle.sj_lower.specs.Job.{IsJob, IsJobIn};
-ghost use Rattle.sj_lower.specs.Limits.{most, late_limit};
-ghost use Rattle.sj_lower.specs.Lowering.{Lowering, lowered, nothing, lowered_program};
-ghost use Rattle.sj_lower.specs.Progress.{StandsAt, HasComing, Goes, IsFull, GoesOwn, IsFullOwn, IsOverLimit, IsLate};
+ghost use Rattle.sj_lower.specs.Laid.{no_cells};
+ghost use Rattle.sj_lower.specs.Limits.{late_limit};
+ghost use Rattle.sj_lower.specs.Lowering.{lowered};
+ghost use Rattle.sj_lower.specs.Progress.{no_line, IsFullWith, IsOverLimit, IsLate};
 
-use crate::layout::{Layout, MOST_PER_JOB};
-use crate::lowerer::Lowerer;
+use crate::contributions::{StepRefusal, close_from};
+use crate::steps::Steps;
 use sj_base::ids::Line;
 use sj_base::memory;
 use sj_base::program::Program;
-use sj_base::sequence::Sequence;
 use sj_meaning::job::{Job, Statement};
 use sj_meaning::roots::Roots;
 use std::alloc::Global;
@@ -52,119 +53,78 @@ pub struct LoweredJob {
     pub roots: Roots,
 }
 
-/// How far a job is lowered, for so many workers, and the line of the last statement. Once there are too many tasks, at a line,
-/// none is made any more, and only cells are counted.
+/// How far a job is lowered, and the line of the last statement, which is 0 before the first.
 #[derive(Drop)]
 pub struct LoweringProgress {
-    pub workers: u8,
-    pub layout: Layout,
-    pub lowerer: Lowerer,
-    pub over: Option<Line>,
-    pub last: Option<Line>,
+    pub steps: Steps,
+    pub last: Line,
 }
 
 impl LoweringProgress {
-    /// Before the first statement.
+    /// Before the first statement. Takes no memory.
     fn nothing(alloc: Global, workers: u8) -> LoweringProgress
-        ensures at { (T : Table) → StandsAt T result start nothing }
-        ensures over { result.over ≡ None }
-        ensures last { result.last ≡ None }
-        ensures workers { result.workers ≡ workers }
+        ensures at { StepsAt result.steps [] no_cells nothing }
+        ensures over { result.steps.phases.over ≡ None }
+        ensures last { result.last ≡ no_line }
+        ensures workers { result.steps.phases.workers ≡ workers }
     {
         LoweringProgress {
-            workers,
-            layout: Layout::none(alloc),
-            lowerer: Lowerer::nothing(alloc),
-            over: None,
-            last: None,
+            steps: Steps::nothing(alloc, workers),
+            last: Line(0),
         }
     }
 
     /// Lowers one statement more. Linear in its operands and in the cells and tasks that it gives, and in the children of a root
-    /// whose open phases it closes; where there are too many tasks, in what it takes to count the cells.
+    /// whose phases it closes.
     fn add(
         &mut self,
         alloc: Global,
         roots: &Roots,
         statement: Statement,
     ) -> Result<(), LowerRefusal>
-        requires { HasComing roots.now self.old statement }
-        ensures workers { OnOk result (self.new.workers ≡ self.old.workers) }
-        ensures last { OnOk result (self.new.last ≡ Some statement.line) }
-        ensures goes { OnOk result (Goes roots.now self.old self.new statement) }
-        ensures full { IfErr result (IsFull roots.now self.old statement) }
+        requires { HasNext roots.now self.old.steps statement.act }
+        ensures adds { OnOk result (Adds roots.now self.old.steps self.new.steps statement.act statement.line) }
+        ensures last { OnOk result (self.new.last ≡ statement.line) }
+        ensures full { IfErr result (IsFullWith roots.now self.old.steps statement) }
     {
-        self.last = Some(statement.line);
-        self.prepare(alloc, &statement.act, statement.line)?;
-        self.add_own(alloc, roots, statement)
+        let line = statement.line;
+        match self.steps.add(alloc, roots, statement) {
+            Ok(()) => {
+                self.last = line;
+                Ok(())
+            }
+            Err(StepRefusal::TooManyCells) => Err(LowerRefusal::TooManyCells { line }),
+            Err(StepRefusal::OutOfMemory) => Err(LowerRefusal::OutOfMemory),
+        }
     }
 
-    /// What the statement's own tasks give.
-    fn add_own(
-        &mut self,
-        alloc: Global,
-        roots: &Roots,
-        statement: Statement,
-    ) -> Result<(), LowerRefusal>
-        requires { HasComing roots.now self.old statement }
-        ensures workers { OnOk result (self.new.workers ≡ self.old.workers) }
-        ensures last { OnOk result (self.new.last ≡ self.old.last) }
-        ensures goes { OnOk result (GoesOwn roots.now self.old self.new statement) }
-        ensures full { IfErr result (IsFullOwn roots.now self.old statement) }
+    /// Closes all phases at the end, by cell, for the last statement. Linear in the cells, but constant time where no phase is
+    /// open.
+    fn close_last(&mut self, alloc: Global) -> Result<(), memory::OutOfMemory>
+        requires at { HasAt self.old.steps.phases }
+        requires few { vec_len self.old.steps.layout.infos ≤ most }
+        ensures layout { OnOk result (self.new.steps.layout ≡ self.old.steps.layout) }
+        ensures closes { OnOk result (Does self.old.steps.phases self.new.steps.phases self.old.last
+            (λ E. fold (closed self.old.steps.phases.workers) E (cells_below (vec_len self.old.steps.layout.infos)))) }
     {
-        let Statement { line, act } = statement;
-        let Some(first) = self.layout.lay(alloc, roots, &act)? else {
-            return Err(LowerRefusal::TooManyCells { line });
-        };
-        if self.over.is_some() {
-            self.lowerer.pass(alloc, roots, &act, first)?;
-            return Ok(());
-        }
-        if !self.has_room(self.lowerer.count(roots, &act)) {
-            self.over = Some(line);
-            self.lowerer.pass(alloc, roots, &act, first)?;
-            return Ok(());
-        }
-        self.lowerer.add(alloc, roots, act, first, line)?;
+        let count = self.steps.layout.infos.len() as u32;
+        close_from(&mut self.steps.phases, alloc, 0, count, self.last)?;
         Ok(())
-    }
-
-    /// Whether there is room for so many tasks more. Constant time.
-    pub fn has_room(&self, count: u64) -> bool
-        requires few { vec_len self.now.lowerer.tasks ≤ most }
-        ensures { result ≡ nat_le (vec_len self.now.lowerer.tasks + count) most }
-    {
-        count <= (MOST_PER_JOB - self.lowerer.tasks.len()) as u64
     }
 
     /// The program of the statements so far, or the line with which there were too many tasks. Constant time.
     fn finish(self) -> Result<Program, LowerRefusal>
-        ensures ok { IfOk result (λ p. (self.over ≡ None)
-            × ((T : Table) (S : JobState) (L : Lowering) → StandsAt T self S L → p
-            ≡ lowered_program self.workers L)) }
-        ensures err { IfErr result (λ e. IsOverLimit e self.over) }
+        ensures ok { IfOk result (λ p. (self.steps.phases.over ≡ None)
+            × ((E : Expansion) → IsAt self.steps.phases E → p
+            ≡ program_of self.steps.layout.infos.items self.steps.phases.workers E)) }
+        ensures err { IfErr result (λ e. IsOverLimit e self.steps.phases.over) }
     {
-        let LoweringProgress {
-            workers,
-            layout,
-            lowerer,
-            over,
-            ..
-        } = self;
-        if let Some(line) = over {
-            return Err(LowerRefusal::TooManyTasks { line });
+        let LoweringProgress { steps, .. } = self;
+        let Steps { layout, phases, .. } = steps;
+        match phases.finish(layout.infos) {
+            Ok(program) => Ok(program),
+            Err(line) => Err(LowerRefusal::TooManyTasks { line }),
         }
-        let Lowerer {
-            tasks,
-            deliveries,
-            ..
-        } = lowerer;
-        Ok(Program {
-            cells: Sequence::of(layout.infos),
-            tasks: Sequence::of(tasks),
-            deliveries: Sequence::of(deliveries),
-            workers,
-        })
     }
 }
 
@@ -172,8 +132,8 @@ impl LoweringProgress {
 /// are too many cells, else where there are too many tasks, at the first line with which there are; or for want of memory. One
 /// pass over the statements: linear in them, in their operands, and in the cells and tasks that they give; while a phase of
 /// contributions is open, a statement that may close phases of a root takes time for each of its children. A contribution is one
-/// task; a phase takes a task for each worker when it begins, and again when it is closed. A job with too many tasks takes no
-/// memory for those of the statements from that line on.
+/// task; a phase takes a task for each worker when it begins, and again when it is closed. A job with too many tasks takes memory
+/// for at most 262,144 of them.
 pub fn lower(alloc: Global, job: Job, workers: u8) -> Result<LoweredJob, LowerRefusal>
     requires job { IsJob (statements_of job) }
     requires numbered { IsNumbered job.roots job.statements }

@@ -1,0 +1,39 @@
+-- What of a job's roots holds in the program without phases, before its task of a number.
+use Rattle.std.proofs.Common.{◌≡◌, ℕ, ◌+◌, List, [], ◌∷◌, Some, length, true}
+use Rattle.sj_base.specs.declared.ids.Cell.{Cell}
+use Rattle.sj_base.specs.declared.mode.Reduction.{Reduction}
+use Rattle.sj_base.specs.declared.program.Lowered.{Lowered}
+use Rattle.sj_base.specs.declared.program.Program.{Program}
+use Rattle.sj_core.specs.Program.{task_of}
+use Rattle.sj_plan.specs.Parts.{IsPlace}
+use Rattle.sj_meaning.specs.State.{RootState, is_valued_child}
+use Rattle.sj_meaning.specs.Numbers.{root_at}
+use Rattle.sj_phases.specs.Plain.{Opens}
+use Rattle.sj_lower.specs.Laid.{Laid, cell_of}
+use Rattle.sj_lower.specs.SoundAt.{Lives}
+use Rattle.sj_lower.specs.Whole.{AreLaid, HaveCopies}
+use Rattle.sj_lower.proofs.Contents.{task_at, contents_before}
+use Rattle.sj_lower.proofs.Folding.{Stand}
+use Rattle.sj_lower.proofs.Keeping.{HasCells, HaveRoots}
+
+-- a cell whose phase is open is that of a child of its root's active plan, which has a value, and the root has that reduction
+pub record IsOpenChild (C : Laid) (rs : List RootState) (c : Cell) (by : Reduction) : Type 0 where
+  pub number : ℕ
+  pub place : ℕ × ℕ
+  pub lives : Lives rs number
+  pub inside : IsPlace (root_at rs number).parts place
+  pub is : c ≡ cell_of C number (root_at rs number).parts place
+  pub valued : is_valued_child (root_at rs number) place ≡ true
+  pub reduction : (root_at rs number).reduction ≡ Some by
+
+abbrev pub AreOpenChildren : Laid → List RootState → Opens → Type 0
+AreOpenChildren C rs was = (c : Cell) (by : Reduction) → was c ≡ Some by → IsOpenChild C rs c by
+
+-- before task n of the program without phases
+pub record Agrees (q : Program) (C : Laid) (rs : List RootState) (n : ℕ) (was : Opens) : Type 0 where
+  pub laid : AreLaid C
+  pub copies : HaveCopies q.workers C
+  pub cells : HasCells q C
+  pub roots : HaveRoots q C n (contents_before q n) rs
+  pub counted : length C.handles ≡ length rs
+  pub opens : AreOpenChildren C rs was

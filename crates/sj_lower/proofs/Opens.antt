@@ -1,0 +1,269 @@
+-- Which phases a statement leaves open: those of children with values, whose roots have the reduction.
+use Rattle.std.proofs.Common.{◌≡◌, ℕ, ◌<◌, Bool, true, false, cond, ◌&&◌, Option, Some, List, [], ◌∷◌, ◌++◌, ℤ, length, map as each_of, fold, refl, sym, ap, subst, ◌∙◌, inl, inr, arith, length-append, get_or-set_other}
+use Rattle.std.specs.Prelude.{Contains, slice_set}
+use Rattle.std.specs.List.{AllByRecursion, list_all, list_any, flat_map}
+use Rattle.std.specs.Option.{is_some}
+use Rattle.std.proofs.lemmas.Bool.{cases_Bool, cases_eq, cond_both, false≢true}
+use Rattle.std.proofs.lemmas.List.{length-map, get_or-map}
+use Rattle.std.proofs.lemmas.List.Elements.{All-filter, All-from_recursion, recursion_from_All}
+use Rattle.sj_base.specs.declared.ids.Cell.{Cell}
+use Rattle.sj_base.specs.declared.ids.Line.{Line}
+use Rattle.sj_base.specs.declared.tile.Dims.{Dims}
+use Rattle.sj_base.specs.declared.mode.Reduction.{Reduction}
+use Rattle.sj_base.specs.declared.program.Program.{Program}
+use Rattle.sj_base.specs.Array.{Array, area}
+use Rattle.sj_base.specs.Mode.{is_redux, is_written}
+use Rattle.sj_base.proofs.Lists.{each-weaker}
+use Rattle.sj_base.proofs.SameIds.{cell_of_number}
+use Rattle.sj_codelet.specs.declared.kernel.Kernel.{Kernel}
+use Rattle.sj_codelet.specs.Kernel.{out}
+use Rattle.sj_core.specs.Program.{same_cell}
+use Rattle.sj_core.proofs.Readiness.{Contains-map}
+use Rattle.sj_plan.specs.declared.parts.Parts.{Parts}
+use Rattle.sj_plan.specs.Parts.{IsPlace, places}
+use Rattle.sj_plan.specs.Paste.{same_child_place}
+use Rattle.sj_meaning.specs.Act.{Act}
+use Rattle.sj_meaning.specs.Act.{Register as Registers, Plan as Plans, Redux as Reduces, Task as Tasks, Print as Prints, Invalidate as Invalidates, Unregister as Unregisters}
+use Rattle.sj_meaning.specs.Statement.{Operand, TaskLine}
+use Rattle.sj_meaning.specs.State.{RootState, is_child, is_valued, is_valued_child}
+use Rattle.sj_meaning.specs.Meaning.{with_child, with_parts, with_reduction, with_elements, no_values, registered_root, written_of}
+use Rattle.sj_meaning.specs.Numbers.{no_root, root_at, change_at, put_all_at, operand_array_at, run_task_at, apply_at}
+use Rattle.sj_phases.specs.Block.{Block}
+use Rattle.sj_lower.specs.Rows.{paste_row}
+use Rattle.sj_plan.specs.Paste.{pastes_of}
+use Rattle.sj_phases.specs.Plain.{Opens, with_shut, with_opening, shut_by, open_at}
+use Rattle.sj_phases.proofs.Expanded.{shuts}
+use Rattle.sj_phases.proofs.Logging.{by_which, phase-own, phase-other}
+use Rattle.sj_lower.specs.Cells.{number, same_parts}
+use Rattle.sj_lower.specs.Laid.{Laid, handle_of, cell_of, take, with_root, with_print, with_copies}
+use Rattle.sj_lower.specs.SoundAt.{Lives, IsPlaced, IsSoundTask, IsSound, child_dims}
+use Rattle.sj_lower.specs.Step.{by_number, closing, contributed, opening_of, operand_cell, task_block, plan_block, active_cells, step_of}
+use Rattle.sj_lower.specs.Whole.{IsTaken}
+use Rattle.sj_lower.proofs.Agrees.{IsOpenChild, AreOpenChildren, Agrees}
+use Rattle.sj_lower.proofs.Contributing.{fold-handles, same-cells}
+use Rattle.sj_lower.proofs.Doing.{kernel_there, new_dims, the_cell}
+use Rattle.sj_lower.proofs.Elements.{written-other, written-valued}
+use Rattle.sj_lower.proofs.Following.{IsAt, OpensStep}
+use Rattle.sj_lower.proofs.Keeping.{lives-below, changed-here, changed-beside}
+use Rattle.sj_lower.proofs.Operands.{Contributes, contributes-there, last-there, none-filter, one-opens, opening_by, placed-at}
+use Rattle.sj_lower.proofs.Orderly.{shut-less}
+use Rattle.sj_lower.proofs.Places.{number-below, length-places, places-at, parts-are, place-is, place-itself}
+use Rattle.sj_lower.proofs.Starting.{pushed-beside}
+use Rattle.sj_lower.proofs.Taken.{cell-is, root-there, keeps-root, take-keeps, take-takes, some_is, none_isn't}
+use Rattle.sj_lower.proofs.Writing.{all_dims}
+
+-- ---- places and cells
+
+pub place-in : (s : Parts) (x : ℕ × ℕ) → IsPlace s x → Contains (places s) x
+place-in s x at = (number s x, omega (arith, number-below s x at, length-places (λ (y : ℕ × ℕ). y) s, length-map (places s) (λ (y : ℕ × ℕ). y)), sym (get_or-map (λ (y : ℕ × ℕ). y) (places s) (number s x) x x (omega (arith, number-below s x at, length-places (λ (y : ℕ × ℕ). y) s, length-map (places s) (λ (y : ℕ × ℕ). y)))) ∙ places-at (λ (y : ℕ × ℕ). y) s x x at)
+
+pub kept-cell : (C D : Laid) (m : ℕ) (d : Dims) (s : Parts) (f : ℕ) (place : ℕ × ℕ) → IsTaken C m d s f → IsTaken D m d s f → cell_of C m s place ≡ cell_of D m s place
+kept-cell C D m d s f place t u = cell_of_number (cell_of C m s place) (cell_of D m s place) (cell-is C m d s f place t ∙ sym (cell-is D m d s f place u))
+
+-- a root takes a plan, and each plan that was taken before stays so
+pub record Takes (C D : Laid) (m : ℕ) (d : Dims) (p : Parts) : Type 0 where
+  pub first : ℕ
+  pub own : IsTaken D m d p first
+  pub kept : (i : ℕ) (e : Dims) (s : Parts) (f : ℕ) → IsTaken C i e s f → IsTaken D i e s f
+
+pub takes-planned : (q : Program) (C : Laid) (rs : List RootState) (n : ℕ) (was : Opens) (m : ℕ) (p : Parts) → Lives rs m → Agrees q C rs n was → Takes C (take m p C) m (root_at rs m).dims p
+takes-planned q C rs n was m p lives g =
+    let there : m < length C.handles = omega (arith, lives-below rs m lives, g.counted) in
+    let t = take-takes C m p there in
+    record { first = t.0; own = subst (λ (d : Dims). IsTaken (take m p C) m d p t.0) (g.roots m lives).taken.dims t.1; kept = take-keeps C m p there }
+
+pub takes-registered : (C : Laid) (d : Dims) (p : Parts) → Takes C (take (length C.handles) p (with_root d C)) (length C.handles) d p
+takes-registered C d p =
+    let m = length C.handles in
+    let E = with_root d C in
+    let there : m < length E.handles = omega (arith, length-append C.handles (handle_of d ∷ [])) in
+    let t = take-takes E m p there in
+    record { first = t.0; own = subst (λ (e : Dims). IsTaken (take m p E) m e p t.0) (ap (λ h. h.dims) (root-there C d m refl)) t.1; kept = λ i e s f k. take-keeps E m p there i e s f (keeps-root C d i e s f k) }
+
+-- dimensions, parts and reduction
+record SameShape (r s : RootState) : Type 0 where
+  dims : r.dims ≡ s.dims
+  parts : r.parts ≡ s.parts
+  reduction : r.reduction ≡ s.reduction
+
+same-shape : (r s : RootState) → r ≡ s → SameShape r s
+same-shape r s e = record { dims = ap (λ (x : RootState). x.dims) e; parts = ap (λ (x : RootState). x.parts) e; reduction = ap (λ (x : RootState). x.reduction) e }
+
+-- a child with a value keeps one, and its root's shape
+record Keeps (new rs : List RootState) (m : ℕ) (place : ℕ × ℕ) : Type 0 where
+  shape : SameShape (root_at new m) (root_at rs m)
+  valued : is_valued_child (root_at new m) place ≡ true
+
+child-kept : (C D : Laid) (rs new : List RootState) (c : Cell) (by : Reduction) (h : IsOpenChild C rs c by) → Keeps new rs h.number h.place → cell_of C h.number (root_at rs h.number).parts h.place ≡ cell_of D h.number (root_at rs h.number).parts h.place → IsOpenChild D new c by
+child-kept C D rs new c by h k cell = record {
+  number = h.number;
+  place = h.place;
+  lives = subst (λ (d : Dims). 0 < area d) (sym k.shape.dims) h.lives;
+  inside = subst (λ (s : Parts). IsPlace s h.place) (sym k.shape.parts) h.inside;
+  is = h.is ∙ cell ∙ ap (λ (s : Parts). cell_of D h.number s h.place) (sym k.shape.parts);
+  valued = k.valued;
+  reduction = k.shape.reduction ∙ h.reduction;
+}
+
+-- a child whose root is the same, in the same cell
+pub child-moved : (C D : Laid) (rs new : List RootState) (c : Cell) (by : Reduction) (h : IsOpenChild C rs c by) → root_at new h.number ≡ root_at rs h.number → cell_of C h.number (root_at rs h.number).parts h.place ≡ cell_of D h.number (root_at rs h.number).parts h.place → IsOpenChild D new c by
+child-moved C D rs new c by h same cell = child-kept C D rs new c by h (record { shape = same-shape (root_at new h.number) (root_at rs h.number) same; valued = ap (λ (r : RootState). is_valued_child r h.place) same ∙ h.valued }) cell
+
+-- an open child is none of a root whose active cells are closed
+other-root : (C : Laid) (rs : List RootState) (was : Opens) (q : ℕ) (c : Cell) (by : Reduction) → fold with_shut was (active_cells (by_number rs) C q) c ≡ Some by → (h : IsOpenChild C rs c by) → h.number ≡ q → ⊥
+other-root C rs was q c by e h same =
+    let s = (root_at rs q).parts in
+    let at : IsPlace s h.place = subst (λ (m : ℕ). IsPlace (root_at rs m).parts h.place) same h.inside in
+    let here : cell_of C q s h.place ≡ c = ap (λ (m : ℕ). cell_of C m (root_at rs m).parts h.place) (sym same) ∙ sym h.is in
+    none_isn't by (sym (shuts (active_cells (by_number rs) C q) was c (inl (subst (Contains (active_cells (by_number rs) C q)) here (Contains-map (cell_of C q s) (places s) h.place (place-in s h.place at))))) ∙ e)
+
+-- ---- a child that is put
+
+-- what holds of the changed root, and held of all, holds of each behind the change
+changed-each : (f : RootState → RootState) (m : ℕ) (rs : List RootState) (P : ℕ → RootState → Type 0) → Lives rs m → P m (f (root_at rs m)) → ((i : ℕ) → P i (root_at rs i)) → (i : ℕ) → P i (root_at (change_at f m rs) i)
+changed-each f m rs P lives here all i = elim (cases_eq i m) [
+  | inl e ↦ subst (λ (j : ℕ). P j (root_at (change_at f m rs) j)) (sym e) (subst (P m) (sym (changed-here f m rs lives)) here)
+  | inr other ↦ subst (P i) (sym (changed-beside f m i rs other)) (all i)
+]
+
+shape-put : (rs : List RootState) (o : Operand ℕ) (a : Array) → Lives rs o.name → (m : ℕ) → SameShape (root_at (change_at (with_child o.place a) o.name rs) m) (root_at rs m)
+shape-put rs o a lives = changed-each (with_child o.place a) o.name rs (λ i r. SameShape r (root_at rs i)) lives (record { dims = refl; parts = refl; reduction = refl }) (λ i. same-shape (root_at rs i) (root_at rs i) refl)
+
+placed-put : (rs : List RootState) (o : Operand ℕ) (a : Array) (u : Operand ℕ) → Lives rs o.name → IsPlaced rs u → IsPlaced (change_at (with_child o.place a) o.name rs) u
+placed-put rs o a u lives h = let s = shape-put rs o a lives u.name in record { lives = subst (λ (d : Dims). 0 < area d) (sym s.dims) h.lives; place = subst (λ (x : Parts). IsPlace x u.place) (sym s.parts) h.place }
+
+child-put : (r : RootState) (put place : ℕ × ℕ) (a : Array) → IsPlace r.parts put → IsPlace r.parts place → is_valued_child r place ≡ true → is_valued_child (with_child put a r) place ≡ true
+child-put r put place a into at v = elim (cases_Bool (same_child_place put place)) [
+  | inl same ↦ subst (λ (x : ℕ × ℕ). is_valued_child (with_child put a r) x ≡ true) (place-is put place same) (written-valued r put a into)
+  | inr other ↦ ap (λ es. is_child r.parts place && list_all (λ (e : Option ℤ). is_some e) es) (written-other r put place a into at (λ same. false≢true (sym other ∙ ap (same_child_place put) (sym same) ∙ place-itself put))) ∙ v
+]
+
+valued-put : (rs : List RootState) (o : Operand ℕ) (a : Array) (place : ℕ × ℕ) → IsPlaced rs o → (m : ℕ) → IsPlace (root_at rs m).parts place → is_valued_child (root_at rs m) place ≡ true → is_valued_child (root_at (change_at (with_child o.place a) o.name rs) m) place ≡ true
+valued-put rs o a place placed =
+    changed-each (with_child o.place a) o.name rs (λ i r. IsPlace (root_at rs i).parts place → is_valued_child (root_at rs i) place ≡ true → is_valued_child r place ≡ true) placed.lives (child-put (root_at rs o.name) o.place place a placed.place) (λ i at v. v)
+
+keeps-puts : (os : List (Operand ℕ)) (xs : List Array) (rs : List RootState) (m : ℕ) (place : ℕ × ℕ) → AllByRecursion (IsPlaced rs) os → IsPlace (root_at rs m).parts place → is_valued_child (root_at rs m) place ≡ true → Keeps (put_all_at os xs rs) rs m place
+keeps-puts (o ∷ os) (a ∷ xs) rs m place placed at v =
+    let next = change_at (with_child o.place a) o.name rs in
+    let s = shape-put rs o a placed.0.lives m in
+    let rest = keeps-puts os xs next m place (each-weaker (IsPlaced rs) (IsPlaced next) (λ u h. placed-put rs o a u placed.0.lives h) os placed.1) (subst (λ (x : Parts). IsPlace x place) (sym s.parts) at) (valued-put rs o a place placed.0 m at v) in
+    record { shape = record { dims = rest.shape.dims ∙ s.dims; parts = rest.shape.parts ∙ s.parts; reduction = rest.shape.reduction ∙ s.reduction }; valued = rest.valued }
+keeps-puts os xs rs m place placed at v = record { shape = same-shape (root_at rs m) (root_at rs m) refl; valued = v }
+
+-- ---- task lines
+
+module _ (q : Program) (C : Laid) (rs : List RootState) (n : ℕ) (was : Opens) (line : Line) (set : Kernel → Bool) (t : TaskLine ℕ) (s : IsSoundTask set rs t) (at : IsAt q C rs n was (record { line = line; act = Tasks t })) where
+  abbrev D : Laid
+  D = fold (with_copies q.workers) C (each_of (operand_cell (by_number rs) C) (contributed t))
+
+  abbrev b : Block
+  b = task_block (by_number rs) D t line
+
+  abbrev outs : List Array
+  outs = out t.codelet t.args (each_of (operand_array_at rs) t.operands)
+
+  abbrev new : List RootState
+  new = run_task_at t rs
+
+  old : (c : Cell) (by : Reduction) → was c ≡ Some by → IsOpenChild D new c by
+  old c by e =
+      let h = at.agrees.opens c by e in
+      let placed = recursion_from_All (IsPlaced rs) (written_of t.operands) (All-filter (λ (o : Operand ℕ). is_written o.mode) (IsPlaced rs) t.operands (All-from_recursion (IsPlaced rs) t.operands s.placed)) in
+      child-kept C D rs new c by h (keeps-puts (written_of t.operands) outs rs h.number h.place placed h.inside h.valued)
+      (sym (same-cells C D (fold-handles q.workers (each_of (operand_cell (by_number rs) C) (contributed t)) C) h.number (root_at rs h.number).parts h.place))
+
+  none-opens : list_any (λ o. is_redux o.mode) t.operands ≡ false → AreOpenChildren D new (open_at was b)
+  none-opens none c by e =
+      let quiet = ap (λ us. fold with_opening (shut_by was b) (flat_map (opening_of (by_number rs) D) us)) (none-filter t.operands none) in
+      old c by (shut-less b.closes was c by (ap (λ (f : Opens). f c) (sym quiet) ∙ e))
+
+  module _ (con : Contributes rs t (kernel_there set rs t s).call.kernel) where
+    abbrev u : Operand ℕ
+    u = con.last
+
+    abbrev its : Cell
+    its = the_cell rs D u
+
+    placed : IsPlaced rs u
+    placed = placed-at set rs t s u (last-there con)
+
+    opened-child : (ys : List Array) → outs ≡ ys → all_dims ys ≡ child_dims rs u ∷ [] → IsOpenChild D new its con.by
+    opened-child [] e h = absurd (let m : 0 ≡ 1 = ap length h in omega (arith, m))
+    opened-child (a ∷ xs) e h =
+        let run : new ≡ change_at (with_child u.place a) u.name rs = ap (λ os. put_all_at os outs rs) con.written ∙ ap (λ ys. put_all_at (u ∷ []) ys rs) e in
+        let now = ap (λ (rs : List RootState). root_at rs u.name) run ∙ changed-here (with_child u.place a) u.name rs placed.lives in
+        record {
+          number = u.name;
+          place = u.place;
+          lives = subst (λ (r : RootState). 0 < area r.dims) (sym now) placed.lives;
+          inside = subst (λ (r : RootState). IsPlace r.parts u.place) (sym now) placed.place;
+          is = ap (λ (r : RootState). cell_of D u.name r.parts u.place) (sym now);
+          valued = ap (λ (r : RootState). is_valued_child r u.place) now ∙ written-valued (root_at rs u.name) u.place a placed.place;
+          reduction = ap (λ (r : RootState). r.reduction) now ∙ con.reduction;
+        }
+
+    gift-opens : AreOpenChildren D new (open_at was b)
+    gift-opens c by e =
+        let one : open_at was b ≡ with_opening (shut_by was b) (opening_by con D) = ap (fold with_opening (shut_by was b)) (one-opens con D) in
+        let is = ap (λ (f : Opens). f c) (sym one) ∙ e in
+        by_which its c (IsOpenChild D new c by)
+        (λ same. subst (λ (x : Cell). IsOpenChild D new x by) same
+        (subst (λ (x : Reduction). IsOpenChild D new its x) (some_is con.by by (sym (phase-own its (Some con.by) (shut_by was b)) ∙ ap (λ x. cond (same_cell its x) (Some con.by) (shut_by was b x)) same ∙ is))
+        (opened-child outs refl (new_dims set rs t s ∙ ap (each_of (child_dims rs)) con.written))))
+        (λ other. old c by (shut-less b.closes was c by (sym (phase-other its (Some con.by) (shut_by was b) c other) ∙ is)))
+
+  task-opens : AreOpenChildren D new (open_at was b)
+  task-opens = elim (cases_Bool (list_any (λ (o : Operand ℕ). is_redux o.mode) t.operands)) [
+    | inl some ↦ gift-opens (contributes-there set rs t s some)
+    | inr none ↦ none-opens none
+  ]
+
+-- ---- all statements
+
+-- the cell of an open child is the same behind a plan that is taken
+kept-child : (q : Program) (C D : Laid) (rs : List RootState) (n : ℕ) (was : Opens) (m : ℕ) (d : Dims) (p : Parts) (c : Cell) (by : Reduction) → Agrees q C rs n was → Takes C D m d p → (h : IsOpenChild C rs c by) → cell_of C h.number (root_at rs h.number).parts h.place ≡ cell_of D h.number (root_at rs h.number).parts h.place
+kept-child q C D rs n was m d p c by g t h =
+    let r = root_at rs h.number in
+    let b = g.roots h.number h.lives in
+    kept-cell C D h.number r.dims r.parts b.first h.place b.taken (t.kept h.number r.dims r.parts b.first b.taken)
+
+plan-opens : (q : Program) (C : Laid) (rs : List RootState) (n : ℕ) (was : Opens) (line : Line) (m : ℕ) (p : Parts) → Lives rs m → Agrees q C rs n was
+    → AreOpenChildren (take m p C) (change_at (with_parts p) m rs) (open_at was (plan_block (root_at rs m) (active_cells (by_number rs) C m) (take m p C) m p line))
+plan-opens q C rs n was line m p lives g =
+    let r = root_at rs m in
+    let D = take m p C in
+    let new = change_at (with_parts p) m rs in
+    let old = active_cells (by_number rs) C m in
+    let t = takes-planned q C rs n was m p lives g in
+    cond_both (same_parts r.parts p) (closing line [] []) (closing line old (cond (is_valued r) (each_of (paste_row (cell_of D m r.parts) (cell_of D m p) line) (pastes_of r.dims r.parts p)) [])) (λ (b : Block). AreOpenChildren D new (open_at was b))
+    (λ e c by is.
+    (let h = g.opens c by is in
+    let stays = changed-each (with_parts p) m rs (λ i x. x ≡ root_at rs i) lives (λ j. with_parts (sym (parts-are r.parts p e) j) r) (λ i. refl) h.number in
+    child-moved C D rs new c by h stays (kept-child q C D rs n was m r.dims p c by g t h)))
+    (λ e c by is. (let h = g.opens c by (shut-less old was c by is) in child-moved C D rs new c by h (changed-beside (with_parts p) m h.number rs (other-root C rs was m c by is h)) (kept-child q C D rs n was m r.dims p c by g t h)))
+
+-- another root is changed, whose active cells are closed
+closed-opens : (q : Program) (C : Laid) (rs new : List RootState) (n : ℕ) (was : Opens) (m : ℕ) → Agrees q C rs n was → ((i : ℕ) → (i ≡ m → ⊥) → root_at new i ≡ root_at rs i) → AreOpenChildren C new (fold with_shut was (active_cells (by_number rs) C m))
+closed-opens q C rs new n was m g others c by is =
+    let h = g.opens c by (shut-less (active_cells (by_number rs) C m) was c by is) in
+    child-moved C C rs new c by h (others h.number (other-root C rs was m c by is h)) refl
+
+register-opens : (q : Program) (C : Laid) (rs : List RootState) (n : ℕ) (was : Opens) (x : RootState) (d : Dims) (p : Parts) → Agrees q C rs n was → AreOpenChildren (take (length C.handles) p (with_root d C)) (rs ++ x ∷ []) was
+register-opens q C rs n was x d p g c by is =
+    let h = g.opens c by is in
+    let D = take (length C.handles) p (with_root d C) in
+    child-moved C D rs (rs ++ x ∷ []) c by h (pushed-beside rs x h.number (λ same. omega (arith, same, lives-below rs h.number h.lives))) (kept-child q C D rs n was (length C.handles) d p c by g (takes-registered C d p) h)
+
+pub opens-step : (has : Kernel → Bool) (q : Program) → OpensStep has q
+opens-step has q C rs n was s sound at = by_act s.act sound at
+  where
+    by_act : (a : Act ℕ) → IsSound has rs a → IsAt q C rs n was (record { line = s.line; act = a }) → let x = step_of q.workers (by_number rs) C s.line a in AreOpenChildren x.laid (apply_at a rs) (open_at was x.block)
+    by_act (Registers r) sound at = register-opens q C rs n was (registered_root r) r.dims r.parts at.agrees
+    by_act (Plans m p) sound at = plan-opens q C rs n was s.line m p sound.0.lives at.agrees
+    by_act (Reduces m by) sound at = λ c other is.
+        (let h = at.agrees.opens c other is in
+        child-moved C C rs (change_at (with_reduction by) m rs) c other h (changed-beside (with_reduction by) m h.number rs (λ same. none_isn't other (sym sound.1 ∙ ap (λ i. (root_at rs i).reduction) (sym same) ∙ h.reduction))) refl)
+    by_act (Tasks t) sound at = task-opens q C rs n was s.line has t sound at
+    by_act (Prints m) sound at = λ c by is. (let h = at.agrees.opens c by (shut-less (active_cells (by_number rs) C m) was c by is) in child-moved C (with_print C) rs rs c by h refl refl)
+    by_act (Invalidates m) sound at = closed-opens q C rs (change_at (λ r. with_elements (no_values r.dims) r) m rs) n was m at.agrees (λ i other. changed-beside (λ r. with_elements (no_values r.dims) r) m i rs other)
+    by_act (Unregisters m) sound at = closed-opens q C rs (slice_set rs m no_root) n was m at.agrees (λ i other. get_or-set_other rs m i no_root no_root other)

@@ -1,0 +1,170 @@
+-- The program of a job without phases is proper, and its blocks are orderly.
+use Rattle.std.proofs.Common.{◌≡◌, ℕ, ◌+◌, ◌<◌, ◌≤◌, ◌^◌, Bool, true, false, Some, List, [], ◌∷◌, length, get_or, map as each_of, refl, sym, ap, subst, ◌∙◌, inl, inr, arith}
+use Rattle.std.specs.Prelude.{All, Contains}
+use Rattle.std.specs.List.{flat_map}
+use Rattle.std.specs.Option.{is_some}
+use Rattle.std.proofs.lemmas.Bool.{cases_lt, cond_both, false≢true}
+use Rattle.std.proofs.lemmas.List.{get_or_past}
+use Rattle.std.proofs.lemmas.List.Elements.{All-append, All-cons, All-contains, All-from_get_or, All-get_or, All-map, All-nil, All-weaker}
+use Rattle.sj_base.specs.declared.ids.Cell.{Cell}
+use Rattle.sj_base.specs.declared.ids.Line.{Line}
+use Rattle.sj_base.specs.declared.ids.Worker.{Worker}
+use Rattle.sj_base.specs.declared.mode.Mode.{Mode}
+use Rattle.sj_base.specs.declared.mode.Mode.TheVariants.{W, Redux}
+use Rattle.sj_base.specs.declared.mode.Access.{Access}
+use Rattle.sj_base.specs.declared.program.CellInfo.{CellInfo}
+use Rattle.sj_base.specs.declared.program.Lowered.{Lowered}
+use Rattle.sj_base.specs.declared.program.Program.{Program}
+use Rattle.sj_base.specs.Array.{area}
+use Rattle.sj_base.specs.Mode.{is_redux, reads_value}
+use Rattle.sj_codelet.specs.declared.kernel.Kernel.{Kernel}
+use Rattle.sj_core.specs.Program.{cell_info, task_of, no_cell, no_task}
+use Rattle.sj_core.specs.Proper.{Proper, FitsCodelet, IsUnaliased, IsCopyOf, IsPlain, IsPhase, HasValueBefore, task_number, access}
+use Rattle.sj_meaning.specs.Act.{Statement}
+use Rattle.sj_meaning.specs.State.{RootState}
+use Rattle.sj_meaning.specs.Numbers.{apply_at}
+use Rattle.sj_phases.specs.declared.phase.Opening.{Opening}
+use Rattle.sj_phases.specs.Block.{Block}
+use Rattle.sj_phases.specs.Rows.{init_row}
+use Rattle.sj_phases.specs.Expand.{first_units}
+use Rattle.sj_phases.specs.Plain.{Opens, direct, direct_mode, direct_access, units, plain_rows, with_opening, shut_by, open_at}
+use Rattle.sj_phases.specs.Orderly.{IsOrderlyTask, AreOpenings, IsOrderly, AreOrderly, IsDelivered}
+use Rattle.sj_lower.specs.Laid.{Laid, info_at}
+use Rattle.sj_lower.specs.Cells.{copy_info}
+use Rattle.sj_lower.specs.SoundAt.{AreSound}
+use Rattle.sj_lower.specs.Step.{by_number, Step, step_of, steps_from}
+use Rattle.sj_lower.specs.Whole.{HaveCopies}
+use Rattle.sj_lower.proofs.Agrees.{Agrees}
+use Rattle.sj_lower.proofs.Contents.{task_at}
+use Rattle.sj_lower.proofs.Folding.{Stand}
+use Rattle.sj_lower.proofs.Following.{AllAgree, rows_from, laid_from}
+use Rattle.sj_lower.proofs.Good.{AreGood, IsGood, good-append, good-at}
+use Rattle.sj_lower.proofs.Goods.{goods-step}
+use Rattle.sj_lower.proofs.Orderly.{first-of}
+use Rattle.sj_lower.proofs.OrderlySteps.{orderly-step}
+
+-- ---- cells that tasks without phases access
+
+-- the access is to a cell that is no partial copy, and no contribution
+abbrev pub IsOrdinary : Program → Access → Type 0
+IsOrdinary p a = IsPlain p a.cell × (is_redux a.mode ≡ false)
+
+-- all accesses of a task are
+abbrev AreOrdinary : Program → Lowered → Type 0
+AreOrdinary p l = All (IsOrdinary p) l.accesses
+
+direct-redux : (m : Mode) → is_redux (direct_mode m) ≡ false
+direct-redux Redux = refl
+direct-redux m = refl
+
+-- of the cells that are contributed to
+openings-plain : (p : Program) (tasks : List Lowered) (was : Opens) (os : List Opening) (line : Line) → AreOpenings p tasks was os → ((l : Lowered) → Contains tasks l → (a : Access) → Contains l.accesses a → IsPlain p a.cell) → All (AreOrdinary p) (flat_map (λ o. first_units o line) os)
+openings-plain p tasks was [] line h plain = All-nil (AreOrdinary p)
+openings-plain p tasks was (o ∷ os) line h plain =
+    let unit = init_row o.by line o.cell in
+    let its = All-cons (IsOrdinary p) (access W o.cell) [] (plain h.0.used.0 h.0.used.1 (access Redux o.cell) h.0.used.2, refl) (All-nil (IsOrdinary p)) in
+    let first = cond_both o.valued [] (unit ∷ []) (All (AreOrdinary p)) (λ e. All-nil (AreOrdinary p)) (λ e. All-cons (AreOrdinary p) unit [] its (All-nil (AreOrdinary p))) in
+    All-append (AreOrdinary p) (first_units o line) (flat_map (λ o. first_units o line) os) first (openings-plain p tasks (with_opening was o) os line h.1 plain)
+
+ordinary-block : (p : Program) (was : Opens) (b : Block) → IsOrderly p was b → All (AreOrdinary p) (plain_rows b)
+ordinary-block p was b h =
+    All-append (AreOrdinary p) (units b) (each_of direct b.tasks) (openings-plain p b.tasks (shut_by was b) b.opens b.line h.openings (λ l k a among. All-contains (λ (x : Access). IsPlain p x.cell) l.accesses a (All-contains (IsOrderlyTask p (open_at was b)) b.tasks l h.tasks k).plain among))
+    (All-map (AreOrdinary p) direct b.tasks (All-weaker (IsOrderlyTask p (open_at was b)) (λ (l : Lowered). AreOrdinary p (direct l)) (λ l t.
+    All-map (IsOrdinary p) direct_access l.accesses (All-weaker (λ (a : Access). IsPlain p a.cell) (λ (a : Access). IsOrdinary p (direct_access a)) (λ a plain. (plain, direct-redux a.mode)) l.accesses t.plain)) b.tasks h.tasks))
+
+-- ---- all statements
+
+abbrev pub blocks_from : ℕ → List RootState → Laid → List (Statement ℕ) → List Block
+blocks_from workers rs C ss = each_of (λ (x : Step). x.block) (steps_from workers by_number apply_at rs C ss)
+
+module _ (has : Kernel → Bool) (q : Program) where
+  pub orderly-all : (ss : List (Statement ℕ)) (C : Laid) (rs : List RootState) (n : ℕ) (was : Opens) → AreSound has rs ss → AllAgree q C rs n was ss → AreOrderly q was (blocks_from q.workers rs C ss)
+  orderly-all [] C rs n was sound all = tt
+  orderly-all (s ∷ ss) C rs n was sound all =
+      let x = step_of q.workers (by_number rs) C s.line s.act in
+      (orderly-step has q C rs n was s.line s.act sound.0 all.0, orderly-all ss x.laid (apply_at s.act rs) (n + length (plain_rows x.block)) (open_at was x.block) sound.1 all.1)
+
+  -- each task is good, and so are its accesses
+  goods-all : (ss : List (Statement ℕ)) (C : Laid) (rs : List RootState) (n : ℕ) (was : Opens) → AreSound has rs ss → AllAgree q C rs n was ss → AreGood q n (rows_from q.workers rs C ss) × All (AreOrdinary q) (rows_from q.workers rs C ss)
+  goods-all [] C rs n was sound all = (tt, All-nil (AreOrdinary q))
+  goods-all (s ∷ ss) C rs n was sound all =
+      let x = step_of q.workers (by_number rs) C s.line s.act in
+      let later = rows_from q.workers (apply_at s.act rs) x.laid ss in
+      let rest = goods-all ss x.laid (apply_at s.act rs) (n + length (plain_rows x.block)) (open_at was x.block) sound.1 all.1 in (
+        good-append q n (plain_rows x.block) later (goods-step has q C rs n was s.line s.act sound.0 all.0) rest.0,
+        All-append (AreOrdinary q) (plain_rows x.block) later (ordinary-block q was x.block (orderly-step has q C rs n was s.line s.act sound.0 all.0)) rest.1,
+      )
+
+-- at the end
+pub agrees-end : (q : Program) (ss : List (Statement ℕ)) (C : Laid) (rs : List RootState) (n : ℕ) (was : Opens) → AllAgree q C rs n was ss → (new : List RootState) × (m : ℕ) × (opens : Opens) × Agrees q (laid_from q.workers rs C ss) new m opens
+agrees-end q [] C rs n was all = (rs, n, was, all)
+agrees-end q (s ∷ ss) C rs n was all =
+    let x = step_of q.workers (by_number rs) C s.line s.act in
+    agrees-end q ss x.laid (apply_at s.act rs) (n + length (plain_rows x.block)) (open_at was x.block) all.1
+
+module _ (has : Kernel → Bool) (q : Program) (ss : List (Statement ℕ)) (C : Laid) (rs : List RootState) (was : Opens) (sound : AreSound has rs ss) (all : AllAgree q C rs 0 was ss) (cells : q.cells ≡ (laid_from q.workers rs C ss).rows) (tasks : q.tasks ≡ rows_from q.workers rs C ss)
+    (stand : Stand q 0 (rows_from q.workers rs C ss)) (delivered : IsDelivered q.tasks q.deliveries) (few_tasks : length q.tasks ≤ 2 ^ 22) (few_cells : length q.cells ≤ 2 ^ 22) where
+  abbrev D : Laid
+  D = laid_from q.workers rs C ss
+
+  end : (new : List RootState) × (m : ℕ) × (opens : Opens) × Agrees q D new m opens
+  end = agrees-end q ss C rs 0 was all
+
+  abbrev copies : HaveCopies q.workers D
+  copies = end.3.copies
+
+  goods : AreGood q 0 (rows_from q.workers rs C ss) × All (AreOrdinary q) (rows_from q.workers rs C ss)
+  goods = goods-all has q ss C rs 0 was sound all
+
+  good : (n : ℕ) → n < length q.tasks → IsGood q n (task_of q (task_at n))
+  good n lt = good-at q 0 (rows_from q.workers rs C ss) n goods.0 stand (omega arith) (subst (λ (ts : List Lowered). n < 0 + length ts) tasks (omega (arith, lt)))
+
+  each_task : (P : Lowered → Type 0) → ((n : ℕ) → n < length q.tasks → P (task_of q (task_at n))) → All P q.tasks
+  each_task P f = All-from_get_or P q.tasks no_task f
+
+  -- what holds of each operand of each task of the program holds of each operand of any number's task
+  every_task : (P : ℕ → Access → Type 0) → ((n : ℕ) → n < length q.tasks → All (P n) (task_of q (task_at n)).accesses) → (n : ℕ) → All (P n) (task_of q (task_at n)).accesses
+  every_task P f n = elim (cases_lt n (length q.tasks)) [
+    | inl inside ↦ f n inside
+    | inr past ↦ subst (λ (l : Lowered). All (P n) l.accesses) (sym (get_or_past q.tasks n no_task past)) (All-nil (P n))
+  ]
+
+  ordinary : (n : ℕ) → All (IsOrdinary q) (task_number q n).accesses
+  ordinary n = every_task (λ n. IsOrdinary q) (λ n lt. All-get_or (AreOrdinary q) q.tasks n no_task lt (subst (All (AreOrdinary q)) (sym tasks) goods.1)) n
+
+  same-info : (c : Cell) → cell_info q c ≡ info_at D c
+  same-info c = ap (λ (is : List CellInfo). get_or is c.0 no_cell) cells
+
+  its_first : (x c : Cell) (v : Worker) → IsCopyOf q x c v → (f : Cell) × ((info_at D c).partials ≡ Some f) × (x.0 ≡ f.0 + v.0)
+  its_first x c v h = let o = first-of q x c v h in (o.0, sym (ap (λ (i : CellInfo). i.partials) (same-info c)) ∙ o.1, o.2)
+
+  its_row : (x c : Cell) (v : Worker) (h : IsCopyOf q x c v) → cell_info q x ≡ copy_info (info_at D c)
+  its_row x c v h = let o = its_first x c v h in same-info x ∙ ap (λ n. get_or D.rows n no_cell) o.2 ∙ copies.copy c o.0 v.0 o.1 h.of_worker
+
+  pub proper-plain : Proper q
+  proper-plain = record {
+    cells = record {
+      named = each_task (λ (l : Lowered). All (λ (a : Access). a.cell.0 < length q.cells) l.accesses) (λ n lt. (good n lt).cells);
+      copies = λ x c v h. (let o = its_first x c v h in (omega (arith, o.2, copies.inside c o.0 o.1, h.of_worker, ap length cells), ap (λ (i : CellInfo). i.dims) (its_row x c v h) ∙ sym (ap (λ (i : CellInfo). i.dims) (same-info c))));
+      apart = λ x c d v u h k. (let o = its_first x c v h in let i = its_first x d u k in copies.apart c d o.0 i.0 v.0 u.0 o.1 i.1 h.of_worker k.of_worker (sym o.2 ∙ i.2));
+      plain = λ x c v h. ap (λ (i : CellInfo). i.partials) (its_row x c v h);
+      reduced = each_task (λ (l : Lowered). All (λ (a : Access). is_redux a.mode ≡ true → is_some (cell_info q a.cell).partials ≡ true) l.accesses) (λ n lt k d inside redux. absurd (false≢true (sym (ordinary n k d inside).1 ∙ redux)));
+    };
+    codelets = each_task (FitsCodelet q) (λ n lt. (good n lt).fits);
+    unaliased = each_task IsUnaliased (λ n lt. (good n lt).unaliased);
+    values = record {
+      cells = λ t. every_task (λ n a. reads_value a.mode ≡ true → HasValueBefore q (task_at n) a.cell) (λ n lt. (good n lt).values) t.0;
+      copies = λ t k d inside redux. absurd (false≢true (sym (ordinary t.0 k d inside).1 ∙ redux));
+    };
+    phases = record {
+      phases = [];
+      each = All-nil (IsPhase q);
+      copies = λ n a c w h copy. absurd ((All-contains (IsOrdinary q) (task_number q n).accesses a (ordinary n) h).0 c w copy);
+      contributions = λ n c h. absurd (false≢true (sym (All-contains (IsOrdinary q) (task_number q n).accesses (access Redux c) (ordinary n) h).1));
+    };
+    deliveries = record {
+      once = λ t e h. delivered.once t.0 h e;
+      plain = λ t e k d inside. (ordinary t.0 k d inside).0;
+    };
+    limits = record { tasks = few_tasks; cells = few_cells; elements = subst (All (λ (i : CellInfo). area i.dims ≤ 2 ^ 24)) (sym cells) end.3.laid.small };
+  }

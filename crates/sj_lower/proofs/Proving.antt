@@ -1,0 +1,121 @@
+-- What a job's statements give is proper, with phases, and hands over what the print statements find.
+use Rattle.std.proofs.Common.{◌≡◌, ℕ, ◌<◌, ◌≤◌, ◌^◌, Bool, List, [], ◌∷◌, ◌++◌, length, map, fold, refl, sym, ap, subst, ◌∙◌, arith}
+use Rattle.std.proofs.lemmas.List.{append-nil}
+use Rattle.std.proofs.lemmas.List.Sums.{fold-append}
+use Rattle.sj_base.specs.declared.ids.Line.{Line}
+use Rattle.sj_base.specs.declared.program.CellInfo.{CellInfo}
+use Rattle.sj_base.specs.declared.program.Lowered.{Lowered}
+use Rattle.sj_base.specs.declared.program.Program.{Program}
+use Rattle.sj_codelet.specs.Kernel.{out}
+use Rattle.sj_codelet.specs.declared.kernel.Kernel.{Kernel}
+use Rattle.sj_core.specs.Laws.{IsLawful}
+use Rattle.sj_core.specs.Proper.{Proper}
+use Rattle.sj_meaning.specs.Act.{Statement}
+use Rattle.sj_meaning.specs.Numbers.{printed_at}
+use Rattle.sj_phases.specs.Block.{Block}
+use Rattle.sj_phases.specs.Expand.{nothing, expand, cells_below, last_block}
+use Rattle.sj_phases.specs.Plain.{Opens, Plainly, plain_next, plain_program, none_open, open_at}
+use Rattle.sj_phases.specs.Orderly.{IsOrderly, AreOrderly, IsDelivered}
+use Rattle.sj_phases.specs.Law.{program_by, handed_over, MayExpand}
+use Rattle.sj_phases.proofs.Expanded.{delivered, proper, holds_plain, last-shuts}
+use Rattle.sj_lower.specs.Laid.{no_cells}
+use Rattle.sj_lower.specs.SoundAt.{AreSound}
+use Rattle.sj_lower.proofs.Agrees.{Agrees}
+use Rattle.sj_lower.proofs.Copying.{copies-none}
+use Rattle.sj_lower.proofs.Folding.{Stand, stand-there}
+use Rattle.sj_lower.proofs.Following.{AllAgree, all-agree, laid_from, laid-grows, rows_from}
+use Rattle.sj_lower.proofs.Growing.{Grows, grows-refl}
+use Rattle.sj_lower.proofs.Handing.{pieces_from, deliveries_from, all-handed, plain-tasks, plain-deliveries}
+use Rattle.sj_lower.proofs.Opens.{opens-step}
+use Rattle.sj_lower.proofs.Orderly.{orderly-nothing}
+use Rattle.sj_lower.proofs.Properly.{blocks_from, orderly-all, proper-plain}
+use Rattle.sj_lower.proofs.Taken.{laid-none, none_isn't}
+
+-- before the first statement
+agrees-start : (q : Program) → Grows [] q.cells → Agrees q no_cells [] 0 none_open
+agrees-start q grows = record {
+  laid = laid-none;
+  copies = copies-none q.workers;
+  cells = grows;
+  roots = λ m lives. absurd (omega (arith, lives));
+  counted = refl;
+  opens = λ c by e. absurd (none_isn't by e);
+}
+
+stands : (q : Program) (ls : List Lowered) → q.tasks ≡ ls → Stand q 0 ls
+stands q ls e = stand-there q [] ls [] (e ∙ sym (append-nil ls))
+
+-- a program with the cells and the tasks of the statements agrees with the roots before each
+agrees-all : (has : Kernel → Bool) (q : Program) (ss : List (Statement ℕ)) → AreSound has [] ss → q.cells ≡ (laid_from q.workers [] no_cells ss).rows → q.tasks ≡ rows_from q.workers [] no_cells ss → AllAgree q no_cells [] 0 none_open ss
+agrees-all has q ss sound cells tasks =
+    let grows : Grows (laid_from q.workers [] no_cells ss).rows q.cells = subst (λ (rows : List CellInfo). Grows (laid_from q.workers [] no_cells ss).rows rows) (sym cells) (grows-refl (laid_from q.workers [] no_cells ss).rows) in
+    let begins : Grows [] q.cells = subst (λ (rows : List CellInfo). Grows [] rows) (sym cells) (laid-grows q.workers [] no_cells ss) in
+    all-agree has q (opens-step has q) ss no_cells [] 0 none_open sound (agrees-start q begins) grows (stands q (rows_from q.workers [] no_cells ss) tasks)
+
+-- a block more that has no tasks
+orderly-last : (p : Program) (was : Opens) (bs : List Block) (b : Block) → AreOrderly p was bs → ((w : Opens) → IsOrderly p w b) → AreOrderly p was (bs ++ b ∷ [])
+orderly-last p was [] b h last = (last was, tt)
+orderly-last p was (c ∷ bs) b h last = (h.0, orderly-last p (open_at was c) bs b h.1 last)
+
+module _ (has : Kernel → Bool) (workers : ℕ) (ss : List (Statement ℕ)) (line : Line) (sound : AreSound has [] ss) where
+  abbrev rows : List CellInfo
+  rows = (laid_from workers [] no_cells ss).rows
+
+  abbrev own : List Block
+  own = blocks_from workers [] no_cells ss
+
+  abbrev pub blocks : List Block
+  blocks = own ++ last_block (length rows) line ∷ []
+
+  abbrev q : Program
+  q = plain_program rows workers blocks
+
+  abbrev before : Program
+  before = plain_program rows workers own
+
+  abbrev start : Plainly
+  start = record { tasks = []; deliveries = [] }
+
+  abbrev ended : Plainly
+  ended = fold plain_next start own
+
+  last-plain : fold plain_next start blocks ≡ plain_next ended (last_block (length rows) line)
+  last-plain = fold-append plain_next start own (last_block (length rows) line ∷ [])
+
+  tasks-are : q.tasks ≡ rows_from workers [] no_cells ss
+  tasks-are = ap (λ (Q : Plainly). Q.tasks) last-plain ∙ append-nil ended.tasks ∙ plain-tasks workers ss [] no_cells start
+
+  deliveries-are : q.deliveries ≡ deliveries_from workers [] no_cells 0 ss
+  deliveries-are = ap (λ (Q : Plainly). Q.deliveries) last-plain ∙ append-nil ended.deliveries ∙ plain-deliveries workers ss [] no_cells start 0 refl
+
+  pub all : AllAgree q no_cells [] 0 none_open ss
+  all = agrees-all has q ss sound refl tasks-are
+
+  orderly-before : AreOrderly before none_open own
+  orderly-before = orderly-all has before ss no_cells [] 0 none_open sound (agrees-all has before ss sound refl (plain-tasks workers ss [] no_cells start))
+
+  pub orderly : AreOrderly q none_open blocks
+  orderly = orderly-last q none_open own (last_block (length rows) line) (orderly-all has q ss no_cells [] 0 none_open sound all) (λ w. orderly-nothing q w line (cells_below (length rows)))
+
+  pub are-delivered : IsDelivered (program_by rows workers blocks).tasks (program_by rows workers blocks).deliveries
+  are-delivered = (delivered q rows workers blocks orderly).expanded
+
+  can : length q.tasks ≤ 2 ^ 22 → length rows ≤ 2 ^ 22 → length (expand workers nothing blocks).tasks ≤ 2 ^ 22 → MayExpand rows workers blocks
+  can few_plain few_cells few = record {
+    proper = proper-plain has q ss no_cells [] none_open sound all refl tasks-are (stands q (rows_from workers [] no_cells ss) tasks-are) (delivered q rows workers blocks orderly).plain few_plain few_cells;
+    orderly = orderly;
+    shut = last-shuts rows workers own line orderly-before;
+    few = few;
+  }
+
+  -- the program is proper
+  pub is-proper : length q.tasks ≤ 2 ^ 22 → length rows ≤ 2 ^ 22 → length (expand workers nothing blocks).tasks ≤ 2 ^ 22 → Proper (program_by rows workers blocks)
+  is-proper few_plain few_cells few = proper rows workers blocks (can few_plain few_cells few)
+
+  -- by any set that obeys the laws it hands over the children of what the print statements find
+  pub hands-over : (other : Kernel → Bool) → length q.tasks ≤ 2 ^ 22 → length rows ≤ 2 ^ 22 → length (expand workers nothing blocks).tasks ≤ 2 ^ 22 → IsLawful out other (program_by rows workers blocks) → 0 < workers
+      → map (handed_over (program_by rows workers blocks)) (program_by rows workers blocks).deliveries ≡ pieces_from 0 (printed_at [] ss)
+  hands-over other few_plain few_cells few lawful staffed =
+      (holds_plain rows workers blocks (can few_plain few_cells few) other lawful staffed).handed
+      ∙ ap (map (handed_over q)) deliveries-are
+      ∙ all-handed has q ss no_cells [] 0 none_open sound all

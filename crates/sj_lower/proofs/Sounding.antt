@@ -1,0 +1,120 @@
+-- An act that is sound by its roots' names is so by their numbers.
+use Rattle.std.proofs.Common.{◌≡◌, ℕ, ◌<◌, Bool, true, false, ◌&&◌, ◌||◌, not, Option, Some, None, List, [], ◌∷◌, length, map, refl, ap, sym, subst, ◌∙◌, bytes_eq, nat_lt}
+use Rattle.std.specs.Prelude.{nat_eq}
+use Rattle.std.specs.List.{AllByRecursion, list_all, list_any}
+use Rattle.std.specs.Option.{is_none}
+use Rattle.std.proofs.lemmas.Bool.{false≢true, and_parts, eq-eqb, eqb-true, ltb-true}
+use Rattle.std.proofs.lemmas.List.{length-map}
+use Rattle.std.proofs.lemmas.Slice.Eq.{bytes_eq-Decides}
+use Rattle.sj_base.proofs.Bools.{same_test}
+use Rattle.sj_base.proofs.Lists.{list_any-map}
+use Rattle.sj_base.specs.declared.tile.Dims.{Dims}
+use Rattle.sj_base.specs.declared.mode.Reduction.{Reduction}
+use Rattle.sj_base.specs.Array.{area}
+use Rattle.sj_codelet.specs.declared.kernel.Kernel.{Kernel}
+use Rattle.sj_codelet.specs.declared.kernel.Kernel.TheVariants.{Deliver}
+use Rattle.sj_codelet.specs.declared.formal.Formal.{Formal}
+use Rattle.sj_codelet.specs.Kernel.{kernel_of, fits_in}
+use Rattle.sj_codelet.specs.Runs.{formals_in}
+use Rattle.sj_plan.specs.declared.parts.Parts.{Parts}
+use Rattle.sj_plan.specs.Parts.{Fits, IsPlace}
+use Rattle.sj_plan.specs.Paste.{same_child_place}
+use Rattle.sj_plan.specs.Rect.{rect_dims}
+use Rattle.sj_meaning.specs.Statement.{Operand, TaskLine}
+use Rattle.sj_meaning.specs.Act.{Act}
+use Rattle.sj_meaning.specs.Act.{Register as Registers, Plan as Plans, Redux as Reduces, Task as Tasks, Print as Prints, Invalidate as Invalidates, Unregister as Unregisters}
+use Rattle.sj_meaning.specs.State.{RootState, JobState, root_of, is_valued, has_no_value, is_child, child_rect, is_valued_child}
+use Rattle.sj_meaning.specs.Meaning.{written_of}
+use Rattle.sj_meaning.specs.Numbers.{name_at, operand_by, task_by, act_by, root_at}
+use Rattle.sj_meaning.specs.Sound as by_name
+use Rattle.sj_meaning.specs.Sound.{mode_fits, is_unordered, is_lawful_for, needs_value, IsSoundAct}
+use Rattle.sj_base.specs.Mode.{is_read_only}
+use Rattle.sj_meaning.specs.Table.{AreDistinct}
+use Rattle.sj_meaning.proofs.Mirroring.{IsThere, IsMirror, IsTimely, root-there, written-by}
+use Rattle.sj_meaning.proofs.Finding.{text-itself}
+use Rattle.sj_lower.specs.SoundAt.{Lives, child_dims, has_value, modes_fit, clashes, is_aliased, IsPlaced, IsSoundTask, IsSound}
+
+-- a job can't name the codelet that delivers
+abbrev pub IsSilent : Act ℕ → Type 0
+IsSilent (Tasks t) = kernel_of t.codelet ≡ Some Deliver → ⊥
+IsSilent _ = Unit {0}
+
+module _ (names : List (List ℕ)) (d : AreDistinct names) (S : JobState) (rs : List RootState) (m : IsMirror names S rs) where
+  abbrev named : Operand ℕ → Operand (List ℕ)
+  named o = operand_by (name_at names) o
+
+  abbrev There : Operand ℕ → Type 0
+  There o = IsThere names S o.name
+
+  -- what is looked up of a root by name is that of its number
+  pub looked : {A : Type 0} (none : A) (f : RootState → A) (n : ℕ) → IsThere names S n → (elim (root_of S (name_at names n)) as (λ _. A) [ None ↦ none | Some r ↦ f r ]) ≡ f (root_at rs n)
+  looked {A} none f n h = ap (λ (o : Option RootState). elim o as (λ _. A) [ None ↦ none | Some r ↦ f r ]) h.is ∙ ap f (sym (root-there names S rs n m h))
+
+  lives : (n : ℕ) → IsThere names S n → Lives rs n
+  lives n h = subst (λ (r : RootState). 0 < area r.dims) (sym (root-there names S rs n m h)) (m.some n h.root h.below h.is)
+
+  dims-at : (os : List (Operand ℕ)) → AllByRecursion There os → map (by_name.child_dims S) (map (operand_by (name_at names)) os) ≡ map (child_dims rs) os
+  dims-at [] h = refl
+  dims-at (o ∷ os) h = λ i. looked (record { rows = 0; cols = 0 }) (λ r. rect_dims (child_rect r o.place)) o.name h.0 i ∷ dims-at os h.1 i
+
+  modes-at : (fs : List Formal) (os : List (Operand ℕ)) → by_name.modes_fit fs (map (operand_by (name_at names)) os) ≡ modes_fit fs os
+  modes-at [] os = refl
+  modes-at (f ∷ fs) [] = refl
+  modes-at (f ∷ fs) (o ∷ os) = ap (λ b. mode_fits f o.mode && b) (modes-at fs os)
+
+  -- a test that says of operands by name what another says by number, of some and of all
+  pub any-at : (p : Operand (List ℕ) → Bool) (q : Operand ℕ → Bool) → ((o : Operand ℕ) → There o → p (named o) ≡ q o) → (os : List (Operand ℕ)) → AllByRecursion There os → list_any p (map (operand_by (name_at names)) os) ≡ list_any q os
+  any-at p q f [] h = refl
+  any-at p q f (o ∷ os) h = λ i. f o h.0 i || any-at p q f os h.1 i
+
+  all-at : (p : Operand (List ℕ) → Bool) (q : Operand ℕ → Bool) → ((o : Operand ℕ) → There o → p (named o) ≡ q o) → (os : List (Operand ℕ)) → AllByRecursion There os → list_all p (map (operand_by (name_at names)) os) ≡ list_all q os
+  all-at p q f [] h = refl
+  all-at p q f (o ∷ os) h = λ i. f o h.0 i && all-at p q f os h.1 i
+
+  same-name : (a b : ℕ) → a < length names → b < length names → bytes_eq (name_at names a) (name_at names b) ≡ nat_eq a b
+  same-name a b la lb =
+      same_test (bytes_eq (name_at names a) (name_at names b)) (nat_eq a b) (λ e. eq-eqb a b (d a b la lb ((bytes_eq-Decides (name_at names a) (name_at names b)).0 e))) (λ e. text-itself (name_at names a) (name_at names b) (ap (name_at names) (eqb-true a b e)))
+
+  aliased-at : (os : List (Operand ℕ)) → AllByRecursion There os → by_name.is_aliased (map (operand_by (name_at names)) os) ≡ is_aliased os
+  aliased-at [] h = refl
+  aliased-at (o ∷ os) h = λ i.
+      any-at (by_name.clashes (operand_by (name_at names) o)) (clashes o) (λ p g. λ j. same-name o.name p.name h.0.below g.below j && same_child_place o.place p.place && not (is_read_only o.mode && is_read_only p.mode)) os h.1 i || aliased-at os h.1 i
+
+  place-of : (p : Parts) (place : ℕ × ℕ) → is_child p place ≡ true → IsPlace p place
+  place-of p place h = let both = and_parts (nat_lt place.0 p.r) (nat_lt place.1 p.c) h in (ltb-true place.0 p.r both.0, ltb-true place.1 p.c both.1)
+
+  placed-at : (os : List (Operand ℕ)) → AllByRecursion There os → list_all (by_name.has_child S) (map (operand_by (name_at names)) os) ≡ true → AllByRecursion (IsPlaced rs) os
+  placed-at [] h e = tt
+  placed-at (o ∷ os) h e =
+      let both = and_parts (by_name.has_child S (operand_by (name_at names) o)) (list_all (by_name.has_child S) (map (operand_by (name_at names)) os)) e in (
+        record { lives = lives o.name h.0; place = place-of (root_at rs o.name).parts o.place (sym (looked false (λ r. is_child r.parts o.place) o.name h.0) ∙ both.0) },
+        placed-at os h.1 both.1,
+      )
+
+  task-at : (has : Kernel → Bool) (t : TaskLine ℕ) → AllByRecursion There t.operands → by_name.IsSoundTask has S (task_by (name_at names) t) → (kernel_of t.codelet ≡ Some Deliver → ⊥) → IsSoundTask has rs t
+  task-at has t h s silent = record {
+    fits = ap (fits_in has t.codelet t.args) (sym (dims-at t.operands h)) ∙ s.fits;
+    modes = sym (modes-at (formals_in t.codelet) t.operands) ∙ s.modes;
+    alone = λ e. sym (ap length (written-by (name_at names) t.operands) ∙ length-map (written_of t.operands) (operand_by (name_at names))) ∙ s.alone (list_any-map (λ (o : Operand (List ℕ)). is_unordered o.mode) (operand_by (name_at names)) t.operands ∙ e);
+    lawful = sym (all-at (by_name.is_lawful has S t.codelet) (λ o. is_lawful_for has t.codelet (root_at rs o.name).reduction o.mode) (λ o g. λ i. is_lawful_for has t.codelet (looked None (λ r. r.reduction) o.name g i) o.mode) t.operands h) ∙ s.lawful;
+    apart = sym (aliased-at t.operands h) ∙ s.apart;
+    placed = placed-at t.operands h s.placed;
+    valued = sym (all-at (λ o. not (needs_value o.mode) || by_name.has_child_values S o) (λ o. not (needs_value o.mode) || has_value rs o) (λ o g. λ i. not (needs_value o.mode) || looked false (λ r. is_valued_child r o.place) o.name g i) t.operands h) ∙ s.valued;
+    silent = silent;
+  }
+
+  none-is : (o : Option Reduction) → is_none o ≡ true → o ≡ None
+  none-is None e = refl
+  none-is (Some x) e = absurd (false≢true e)
+
+  pub sound-at : (has : Kernel → Bool) (a : Act ℕ) → IsTimely names S rs a → IsSoundAct has S (act_by (name_at names) a) → IsSilent a → IsSound has rs a
+  sound-at has (Registers r) h s q = record { next = h.0; some = h.2; elements = s.elements; parts = s.parts; values = s.values }
+  sound-at has (Plans n p) h s q = (
+    record { lives = lives n h; even = sym (λ i. looked false is_valued n h i || looked false has_no_value n h i) ∙ s.even },
+    subst (λ (x : Dims). Fits p x) (looked (record { rows = 0; cols = 0 }) (λ r. r.dims) n h) s.parts,
+  )
+  sound-at has (Reduces n by) h s q = (lives n h, none-is (root_at rs n).reduction (ap is_none (sym (looked None (λ r. r.reduction) n h)) ∙ s.0))
+  sound-at has (Tasks t) h s q = task-at has t h s q
+  sound-at has (Prints n) h s q = (lives n h, sym (looked false is_valued n h) ∙ s)
+  sound-at has (Invalidates n) h s q = lives n h
+  sound-at has (Unregisters n) h s q = lives n h

@@ -1,0 +1,214 @@
+-- A registration and a plan line leave in the cells of a root's children what the children hold, by the roots' numbers.
+use Rattle.std.proofs.Common.{◌≡◌, ℕ, ◌+◌, ◌<◌, true, false, cond, ◌||◌, Some, None, List, [], ◌∷◌, ◌++◌, ℤ, pos, length, map as each_of, refl, sym, ap, subst, ◌∙◌, inl, inr, arith, length-append}
+use Rattle.std.proofs.Math.Seq.{get_or-append_seam}
+use Rattle.std.proofs.lemmas.Bool.{cases_lt, cond_both, false≢true}
+use Rattle.std.proofs.lemmas.List.{length-map, length-replicate, length-set, get_or_append_left, get_or_past}
+use Rattle.std.proofs.lemmas.List.FromFn.{length-map-range_with_len}
+use Rattle.sj_base.specs.declared.ids.Cell.{Cell}
+use Rattle.sj_base.specs.declared.ids.Line.{Line}
+use Rattle.sj_base.specs.declared.tile.Dims.{Dims}
+use Rattle.sj_base.specs.declared.program.Lowered.{Lowered}
+use Rattle.sj_base.specs.declared.program.Program.{Program}
+use Rattle.sj_base.specs.Array.{Array, array, area, zeros}
+use Rattle.sj_codelet.specs.Equations.{loadfill}
+use Rattle.sj_codelet.specs.declared.kernel.Kernel.TheVariants.{Load, LoadFill}
+use Rattle.sj_core.specs.Program.{same_cell}
+use Rattle.sj_core.specs.Proper.{gives_value}
+use Rattle.sj_core.specs.Fold.{Contents, held_in}
+use Rattle.sj_plan.specs.declared.parts.Parts.{Parts}
+use Rattle.sj_plan.specs.Parts.{Fits, IsPlace, places}
+use Rattle.sj_plan.specs.Paste.{pastes_of}
+use Rattle.sj_plan.specs.Rect.{child}
+use Rattle.sj_plan.specs.Window.{window}
+use Rattle.sj_meaning.specs.declared.job.Kind.{Kind}
+use Rattle.sj_meaning.specs.declared.job.Init.{Init}
+use Rattle.sj_meaning.specs.declared.job.Init.TheVariants.{Values, Fill, Nothing}
+use Rattle.sj_meaning.specs.Statement.{Register}
+use Rattle.sj_meaning.specs.State.{RootState, is_valued, has_no_value, is_valued_child}
+use Rattle.sj_meaning.specs.Meaning.{root_array, child_array, first_elements, registered_root, with_parts}
+use Rattle.sj_meaning.specs.Numbers.{no_root, root_at, change_at}
+use Rattle.sj_meaning.specs.Sound.{InitFits}
+use Rattle.sj_lower.specs.Cells.{same_parts}
+use Rattle.sj_lower.specs.Laid.{Laid, Handle, handle_of, handle_at, cell_of, take, with_root}
+use Rattle.sj_lower.specs.Rows.{load_row, fill_row, fill_arguments, paste_row, load_rows}
+use Rattle.sj_lower.specs.SoundAt.{IsSoundRegistration, IsSoundPlan}
+use Rattle.sj_lower.specs.Whole.{IsTaken, AreLaid, HaveCopies}
+use Rattle.sj_lower.proofs.Contents.{contents_before}
+use Rattle.sj_lower.proofs.Copying.{copies-root, copies-take}
+use Rattle.sj_lower.proofs.Elements.{child-within, child-window, valued-child, blank-child, no_values-blank, unwrapped, filled-window}
+use Rattle.sj_lower.proofs.Filling.{AreFilled, HaveOwn, rows-filled, rows-give, blocks-give, after_load, after_fill, gives_own}
+use Rattle.sj_lower.proofs.Folding.{Stand, after_row, after_rows, contents-rows, one_gives, given-rows}
+use Rattle.sj_lower.proofs.Keeping.{IsHeld, HasRoot, HaveRoots, HasCells, differs, holds-changed, root-kept, held-kept, cell-dims, lives-below, changed-here, changed-beside}
+use Rattle.sj_lower.proofs.Taken.{cells-apart, laid-root, laid-take, keeps-root, root-there, take-keeps, take-takes, take-handles}
+use Rattle.sj_lower.proofs.Pasting.{rows_to, rows-by_child, pastes-filled, pastes-give}
+use Rattle.sj_lower.proofs.Places.{parts-are, parts-itself}
+
+-- two children of a plan have two cells
+own_cells : (C : Laid) (m : ℕ) (d : Dims) (s : Parts) (f : ℕ) → AreLaid C → IsTaken C m d s f → HaveOwn s (cell_of C m s)
+own_cells C m d s f laid t place other hp ho same = (cells-apart C m m d d s s f f place other laid t t hp ho same).2
+
+-- ---- what the tasks of a root leave
+
+-- its cells hold what its children hold, and other cells hold what they held
+record Turns (q : Program) (C : Laid) (m : ℕ) (x : RootState) (ls : List Lowered) (n : ℕ) : Type 0 where
+  held : (place : ℕ × ℕ) → IsPlace x.parts place → is_valued_child x place ≡ true → IsHeld q (n + length ls) (after_rows q (contents_before q n) ls) (cell_of C m x.parts place) (child_array x place)
+  others : (c : Cell) → ((place : ℕ × ℕ) → IsPlace x.parts place → same_cell (cell_of C m x.parts place) c ≡ false) → held_in q (after_rows q (contents_before q n) ls) c ≡ held_in q (contents_before q n) c
+
+-- no tasks
+turns_idle : (q : Program) (C : Laid) (m : ℕ) (x : RootState) (n : ℕ) → ((place : ℕ × ℕ) → IsPlace x.parts place → is_valued_child x place ≡ true → IsHeld q n (contents_before q n) (cell_of C m x.parts place) (child_array x place)) → Turns q C m x [] n
+turns_idle q C m x n holds = record {
+  held = λ place inside v. held-kept q n (n + 0) (contents_before q n) (contents_before q n) (cell_of C m x.parts place) (child_array x place) (omega arith) refl (holds place inside v);
+  others = λ c away. refl;
+}
+
+-- tasks that fill the cells
+turns_filled : (q : Program) (C : Laid) (m : ℕ) (x : RootState) (ls : List Lowered) (n : ℕ) → Stand q n ls → AreFilled q (contents_before q n) (after_rows q (contents_before q n) ls) x.parts (cell_of C m x.parts) (child_array x)
+    → ((place : ℕ × ℕ) → IsPlace x.parts place → one_gives ls (cell_of C m x.parts place) ≡ true) → Turns q C m x ls n
+turns_filled q C m x ls n stand filled gives = record {
+  held = λ place inside v. record { value = filled.value place inside; given = given-rows q n ls (cell_of C m x.parts place) stand (gives place inside) };
+  others = filled.others;
+}
+
+-- a task for each cell
+turns_rows : (q : Program) (C : Laid) (m : ℕ) (x : RootState) (row : ℕ × ℕ → Lowered) (n f : ℕ) → Stand q n (each_of row (places x.parts)) → AreLaid C → IsTaken C m x.dims x.parts f
+    → ((place : ℕ × ℕ) → IsPlace x.parts place → (k : Contents) → after_row q k (row place) ≡ (cell_of C m x.parts place, child_array x place) ∷ k) → ((place : ℕ × ℕ) → gives_value (row place) (cell_of C m x.parts place) ≡ true) → Turns q C m x (each_of row (places x.parts)) n
+turns_rows q C m x row n f stand laid t puts gives =
+    let cell = cell_of C m x.parts in
+    turns_filled q C m x (each_of row (places x.parts)) n stand (rows-filled q row cell (child_array x) x.parts (contents_before q n) puts (own_cells C m x.dims x.parts f laid t)) (λ place inside. rows-give row x.parts place (cell place) inside (gives place))
+
+-- what of a statement's agreement isn't about phases
+pub record Keeps (q : Program) (C : Laid) (rs : List RootState) (n : ℕ) (ls : List Lowered) : Type 0 where
+  pub laid : AreLaid C
+  pub copies : HaveCopies q.workers C
+  pub roots : HaveRoots q C (n + length ls) (contents_before q (n + length ls)) rs
+  pub counted : length C.handles ≡ length rs
+
+-- a root takes its plan, and its tasks follow: so it is after them
+keeps_taken : (q : Program) (C B : Laid) (n : ℕ) (rs new : List RootState) (m : ℕ) (x : RootState) (ls : List Lowered) → HaveRoots q C n (contents_before q n) rs → ((u : ℕ) (d : Dims) (s : Parts) (g : ℕ) → IsTaken C u d s g → IsTaken B u d s g)
+    → AreLaid B → HaveCopies q.workers B → m < length B.handles → (handle_at B m).dims ≡ x.dims → Fits x.parts x.dims → length x.elements ≡ area x.dims → length B.handles ≡ length new → root_at new m ≡ x → ((u : ℕ) → (u ≡ m → ⊥) → root_at new u ≡ root_at rs u)
+    → let D = take m x.parts B in Stand q n ls → ((f : ℕ) → AreLaid D → IsTaken D m x.dims x.parts f → Turns q D m x ls n) → Keeps q D new n ls
+keeps_taken q C B n rs new m x ls has keeps a copies there dims fits whole counted here beside stand turns =
+    let D = take m x.parts B in
+    let laid = laid-take B m x.parts there (subst (λ (d : Dims). Fits x.parts d) (sym dims) fits) a in
+    let found = take-takes B m x.parts there in
+    let t = subst (λ (d : Dims). IsTaken D m d x.parts found.0) dims found.1 in
+    let turned = turns found.0 laid t in
+    let after = contents_before q (n + length ls) in
+    let left = contents-rows q n ls stand in
+    record {
+      laid = laid;
+      copies = copies-take q.workers B m x.parts there a copies;
+      roots = holds-changed q D (n + length ls) after rs new m x here beside
+          (λ lives. record {
+            fits = fits;
+            whole = whole;
+            first = found.0;
+            taken = t;
+            held = λ place inside v. subst (λ (k : Contents). IsHeld q (n + length ls) k (cell_of D m x.parts place) (child_array x place)) (sym left) (turned.held place inside v);
+          })
+          (λ u other alive.
+          let o = has u alive in
+          let r = root_at rs u in
+          let kept = take-keeps B m x.parts there u r.dims r.parts o.first (keeps u r.dims r.parts o.first o.taken) in
+          root-kept q C D n (n + length ls) (contents_before q n) after u r o kept (omega arith) (λ place inside.
+          ap (λ (k : Contents). held_in q k (cell_of D u r.parts place)) left
+          ∙ turned.others (cell_of D u r.parts place) (λ from at. differs (cell_of D m x.parts from) (cell_of D u r.parts place) (λ same. other (sym (cells-apart D m u x.dims r.dims x.parts r.parts found.0 o.first from place laid t kept at inside same).0)))));
+      counted = take-handles B m x.parts ∙ counted;
+    }
+
+-- ---- registrations
+
+-- a root as it is registered
+abbrev begun : Kind → Init → Dims → Parts → RootState
+begun kind i d s = record { kind = kind; dims = d; parts = s; reduction = None; elements = first_elements i d }
+
+first_whole : (i : Init) (d : Dims) → InitFits i d → length (first_elements i d) ≡ area d
+first_whole (Values xs) d f = length-map xs (λ x. Some x) ∙ f
+first_whole (Fill a b) d f = length-map-range_with_len _ 0 (area d)
+first_whole Nothing d f = length-replicate (area d) None
+
+starts : (q : Program) (C : Laid) (m : ℕ) (kind : Kind) (i : Init) (d : Dims) (s : Parts) (line : Line) (n f : ℕ) → Fits s d → InitFits i d → HasCells q C → AreLaid C → IsTaken C m d s f → Stand q n (load_rows i d s (cell_of C m s) line) → Turns q C m (begun kind i d s) (load_rows i d s (cell_of C m s) line) n
+starts q C m kind (Values xs) d s line n f fits init cells laid t stand =
+    let x = begun kind (Values xs) d s in
+    turns_rows q C m x (λ place. load_row xs d (child d s place) (cell_of C m s place) line) n f stand laid t (λ place inside k.
+    after_load q k xs d (child d s place) (cell_of C m s place) line
+    ∙ ap (λ (e : Dims). (cell_of C m s place, array e (window (array d xs) (child d s place)).elements) ∷ k) (cell-dims q C m d s f place cells laid t inside)
+    ∙ ap (λ (a : Array). (cell_of C m s place, a) ∷ k) (sym (child-window x place ∙ ap (λ (zs : List ℤ). window (array d zs) (child d s place)) (unwrapped xs))))
+    (λ place. gives_own Load (window (array d xs) (child d s place)).elements (cell_of C m s place) line)
+starts q C m kind (Fill a b) d s line n f fits init cells laid t stand =
+    let x = begun kind (Fill a b) d s in
+    turns_rows q C m x (λ place. fill_row a b d (child d s place) (cell_of C m s place) line) n f stand laid t (λ place inside k.
+    after_fill q k a b d (child d s place) (cell_of C m s place) line
+    ∙ ap (λ (y : Array). (cell_of C m s place, y) ∷ k) (ap (λ (e : Dims). loadfill a b (pos (child d s place).row) (pos (child d s place).col) (pos d.cols) (zeros e)) (cell-dims q C m d s f place cells laid t inside)
+    ∙ filled-window a b d (child d s place) (child-within d s place inside) ∙ sym (child-window x place)))
+    (λ place. gives_own LoadFill (fill_arguments a b d.cols (child d s place)) (cell_of C m s place) line)
+starts q C m kind Nothing d s line n f fits init cells laid t stand =
+    let x = begun kind Nothing d s in
+    turns_idle q C m x n (λ place inside v. absurd (blank-child x place (first_whole Nothing d init) (no_values-blank (area d)) fits inside v))
+
+-- the root of a number, after a root more
+pub pushed-there : (rs : List RootState) (x : RootState) (m : ℕ) → m ≡ length rs → root_at (rs ++ x ∷ []) m ≡ x
+pushed-there rs x m e = ap (λ i. root_at (rs ++ x ∷ []) i) e ∙ get_or-append_seam rs x [] no_root
+
+pub pushed-beside : (rs : List RootState) (x : RootState) (m : ℕ) → (m ≡ length rs → ⊥) → root_at (rs ++ x ∷ []) m ≡ root_at rs m
+pushed-beside rs x m other = elim (cases_lt m (length rs)) as (λ _. root_at (rs ++ x ∷ []) m ≡ root_at rs m) [
+  | inl lt ↦ get_or_append_left rs (x ∷ []) no_root m lt
+  | inr le ↦ get_or_past (rs ++ x ∷ []) m no_root (omega (arith, le, other, length-append rs (x ∷ []))) ∙ sym (get_or_past rs m no_root le)
+]
+
+pub keeps-registered : (q : Program) (C : Laid) (n : ℕ) (rs : List RootState) (line : Line) (r : Register ℕ) → IsSoundRegistration rs r → AreLaid C → HaveCopies q.workers C → length C.handles ≡ length rs → HaveRoots q C n (contents_before q n) rs
+    → let m = length C.handles in let D = take m r.parts (with_root r.dims C) in let ls = load_rows r.init r.dims r.parts (cell_of D m r.parts) line in HasCells q D → Stand q n ls → Keeps q D (rs ++ registered_root r ∷ []) n ls
+keeps-registered q C n rs line r s a copies counted has cells stand =
+    let m = length C.handles in
+    let B = with_root r.dims C in
+    let D = take m r.parts B in
+    let long = length-append C.handles (handle_of r.dims ∷ []) in
+    keeps_taken q C B n rs (rs ++ registered_root r ∷ []) m (registered_root r) (load_rows r.init r.dims r.parts (cell_of D m r.parts) line) has (keeps-root C r.dims) (laid-root C r.dims a s.elements) (copies-root q.workers C r.dims copies)
+    (omega (arith, long)) (ap (λ (h : Handle). h.dims) (root-there C r.dims m refl)) s.parts (first_whole r.init r.dims s.values) (omega (arith, long, length-append rs (registered_root r ∷ []), counted))
+    (pushed-there rs (registered_root r) m counted) (λ u other. pushed-beside rs (registered_root r) u (λ e. other (e ∙ sym counted))) stand (λ f laid t. starts q D m r.kind r.init r.dims r.parts line n f s.parts s.values cells laid t stand)
+
+-- ---- plans
+
+-- the tasks of a plan line, by its root
+abbrev pub planned_rows : RootState → Laid → ℕ → Parts → Line → List Lowered
+planned_rows r C m s line = cond (same_parts r.parts s) [] (cond (is_valued r) (each_of (paste_row (cell_of C m r.parts) (cell_of C m s) line) (pastes_of r.dims r.parts s)) [])
+
+turns_pasted : (q : Program) (C : Laid) (m : ℕ) (r : RootState) (s : Parts) (line : Line) (n f : ℕ) → let ls = each_of (paste_row (cell_of C m r.parts) (cell_of C m s) line) (pastes_of r.dims r.parts s) in
+    Stand q n ls → HasCells q C → AreLaid C → HasRoot q C n (contents_before q n) m r → IsTaken C m r.dims s f → same_parts r.parts s ≡ false → is_valued r ≡ true → Turns q C m (with_parts s r) ls n
+turns_pasted q C m r s line n f stand cells laid b t changed valued =
+    let d = r.dims in
+    let old = cell_of C m r.parts in
+    let new = cell_of C m s in
+    let fit = laid.fits m d s f t in
+    let other : r.parts ≡ s → ⊥ = λ e. false≢true (sym changed ∙ ap (same_parts r.parts) (sym e) ∙ parts-itself r.parts) in
+    let filled = pastes-filled q d r.parts s old new (root_array r) line (contents_before q n) b.fits fit
+    (λ from at. (b.held from at (valued-child r from b.whole valued at)).value ∙ child-window r from)
+    (λ to at. cell-dims q C m d s f to cells laid t at)
+    (λ to at from there. differs (new to) (old from) (λ e. other (sym (cells-apart C m m d d s r.parts f b.first to from laid t b.taken at there e).1)))
+    (own_cells C m d s f laid t) in
+    turns_filled q C m (with_parts s r) (each_of (paste_row old new line) (pastes_of d r.parts s)) n stand (record { value = λ place inside. filled.value place inside ∙ sym (child-window (with_parts s r) place); others = filled.others })
+    (λ place inside. ap (λ ls. one_gives ls (new place)) (rows-by_child d r.parts s old new line) ∙ blocks-give (rows_to d r.parts s old new line) s place (new place) inside (pastes-give d r.parts s old new line place b.fits fit inside))
+
+turns_by : (q : Program) (C : Laid) (m : ℕ) (r : RootState) (s : Parts) (line : Line) (n f : ℕ) → HasCells q C → AreLaid C → HasRoot q C n (contents_before q n) m r → IsTaken C m r.dims s f
+    → (is_valued r || has_no_value r) ≡ true → Stand q n (planned_rows r C m s line) → Turns q C m (with_parts s r) (planned_rows r C m s line) n
+turns_by q C m r s line n f cells laid b t even =
+    let pastes = each_of (paste_row (cell_of C m r.parts) (cell_of C m s) line) (pastes_of r.dims r.parts s) in
+    let P : List Lowered → Type 0 = λ ls. Stand q n ls → Turns q C m (with_parts s r) ls n in
+    cond_both (same_parts r.parts s) [] (cond (is_valued r) pastes []) P
+    (λ same stand. turns_idle q C m (with_parts s r) n
+    (subst (λ (x : Parts). (place : ℕ × ℕ) → IsPlace x place → is_valued_child (with_parts x r) place ≡ true → IsHeld q n (contents_before q n) (cell_of C m x place) (child_array (with_parts x r) place)) (parts-are r.parts s same) b.held))
+    (λ changed. cond_both (is_valued r) pastes [] P
+    (λ valued stand. turns_pasted q C m r s line n f stand cells laid b t changed valued)
+    (λ none stand. turns_idle q C m (with_parts s r) n (λ place inside h.
+    absurd (blank-child (with_parts s r) place b.whole (sym (ap (λ x. x || has_no_value r) none) ∙ even) (laid.fits m r.dims s f t) inside h))))
+
+pub keeps-planned : (q : Program) (C : Laid) (n : ℕ) (rs : List RootState) (line : Line) (m : ℕ) (p : Parts) → IsSoundPlan rs m → Fits p (root_at rs m).dims → AreLaid C → HaveCopies q.workers C → HaveRoots q C n (contents_before q n) rs → length C.handles ≡ length rs
+    → let D = take m p C in let ls = planned_rows (root_at rs m) D m p line in HasCells q D → Stand q n ls → Keeps q D (change_at (with_parts p) m rs) n ls
+keeps-planned q C n rs line m p sound fit a copies has counted cells stand =
+    let r = root_at rs m in
+    let D = take m p C in
+    let had = has m sound.lives in
+    let there : m < length C.handles = omega (arith, counted, lives-below rs m sound.lives) in
+    let stays = root-kept q C D n n (contents_before q n) (contents_before q n) m r had (take-keeps C m p there m r.dims r.parts had.first had.taken) (omega arith) (λ place inside. refl) in
+    keeps_taken q C C n rs (change_at (with_parts p) m rs) m (with_parts p r) (planned_rows r D m p line) has (λ u d s g t. t) a copies there had.taken.dims fit had.whole (counted ∙ sym (length-set rs m (with_parts p r)))
+    (changed-here (with_parts p) m rs sound.lives) (λ u other. changed-beside (with_parts p) m u rs other) stand (λ f laid t. turns_by q D m r p line n f cells laid stays t sound.even stand)

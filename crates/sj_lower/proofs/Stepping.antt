@@ -1,0 +1,169 @@
+-- Statement by statement the cells of the program without phases agree with the job's roots, by their numbers.
+use Rattle.std.proofs.Common.{◌≡◌, ℕ, ◌+◌, Bool, true, false, cond, None, List, [], ◌∷◌, length, map as each_of, refl, sym, ap, subst, ◌∙◌, arith, get_or-set_same, get_or-set_other}
+use Rattle.std.proofs.Math.ListN.{set}
+use Rattle.std.proofs.lemmas.Bool.{cond_both}
+use Rattle.std.proofs.lemmas.List.{length-set, length-replicate}
+use Rattle.std.proofs.lemmas.Simd.{map-map}
+use Rattle.sj_base.specs.declared.ids.Cell.{Cell}
+use Rattle.sj_base.specs.declared.ids.Line.{Line}
+use Rattle.sj_base.specs.declared.mode.Mode.{Mode}
+use Rattle.sj_base.specs.declared.mode.Mode.TheVariants.{R, W, RW}
+use Rattle.sj_base.specs.declared.mode.Reduction.{Reduction}
+use Rattle.sj_base.specs.declared.tile.Dims.{Dims}
+use Rattle.sj_base.specs.declared.program.Lowered.{Lowered}
+use Rattle.sj_base.specs.declared.program.Program.{Program}
+use Rattle.sj_base.specs.Array.{Array, area}
+use Rattle.sj_base.specs.Mode.{is_redux}
+use Rattle.sj_base.proofs.Lists.{each-weaker}
+use Rattle.sj_base.proofs.Numbers.{none_more}
+use Rattle.sj_codelet.specs.declared.kernel.Kernel.{Kernel}
+use Rattle.sj_codelet.specs.declared.kernel.Kernel.TheVariants.{Paste as PasteKernel}
+use Rattle.sj_core.specs.Fold.{Contents}
+use Rattle.sj_plan.specs.declared.parts.Parts.{Parts}
+use Rattle.sj_plan.specs.declared.paste.Paste.{Paste}
+use Rattle.sj_plan.specs.Parts.{places}
+use Rattle.sj_plan.specs.Paste.{is_first, pastes_of}
+use Rattle.sj_plan.specs.Rect.{child}
+use Rattle.sj_meaning.specs.declared.job.Init.{Init}
+use Rattle.sj_meaning.specs.declared.job.Init.TheVariants.{Values, Fill, Nothing}
+use Rattle.sj_meaning.specs.Statement.{Operand}
+use Rattle.sj_meaning.specs.Act.{Act}
+use Rattle.sj_meaning.specs.Act.{Register as Registers, Plan as Plans, Redux as Reduces, Task as Tasks, Print as Prints, Invalidate as Invalidates, Unregister as Unregisters}
+use Rattle.sj_meaning.specs.State.{RootState, is_valued}
+use Rattle.sj_meaning.specs.Meaning.{with_reduction, with_elements, with_child, no_values, written_of}
+use Rattle.sj_meaning.specs.Numbers.{no_root, root_at, change_at, apply_at, put_all_at, operand_array_at}
+use Rattle.sj_codelet.specs.Kernel.{out}
+use Rattle.sj_phases.specs.Plain.{Opens, direct_mode, direct, plain_rows, open_at}
+use Rattle.sj_phases.specs.Rows.{an_access, own_task}
+use Rattle.sj_lower.specs.Cells.{same_parts}
+use Rattle.sj_lower.specs.Laid.{Laid, cell_of, take, with_root, with_print}
+use Rattle.sj_lower.specs.Rows.{load_row, fill_row, paste_arguments, paste_row, deliver_row, load_rows}
+use Rattle.sj_lower.specs.SoundAt.{Lives, IsPlaced, IsSound}
+use Rattle.sj_lower.specs.Step.{by_number, active_cells, closing, plan_block, print_block, contributed, step_of}
+use Rattle.sj_lower.specs.Whole.{IsTaken, AreLaid, HaveCopies}
+use Rattle.sj_lower.proofs.Agrees.{Agrees, AreOpenChildren}
+use Rattle.sj_lower.proofs.Contents.{contents_before}
+use Rattle.sj_lower.proofs.Contributing.{fold-handles, laid-contributed, of_redux, roots-copied, roots-task}
+use Rattle.sj_lower.proofs.Copying.{copies-as}
+use Rattle.sj_lower.proofs.Doing.{the_cell}
+use Rattle.sj_lower.proofs.Elements.{blank-child, no_values-blank}
+use Rattle.sj_lower.proofs.Filling.{after_delivers}
+use Rattle.sj_lower.proofs.Folding.{Stand, after_rows, contents-rows}
+use Rattle.sj_lower.proofs.Keeping.{HasRoot, HaveRoots, HasCells, holds-changed, holds-later, lives-below, changed-here, changed-beside}
+use Rattle.sj_lower.proofs.Starting.{planned_rows, keeps-registered, keeps-planned}
+use Rattle.sj_lower.proofs.Taken.{laid-as, taken-as}
+pub use Rattle.sj_lower.proofs.Starting.{Keeps}
+
+-- ---- the tasks that no task line names are what they are without phases
+
+direct-each : {X : Type 0} (row : X → Lowered) → ((x : X) → direct (row x) ≡ row x) → (xs : List X) → each_of direct (each_of row xs) ≡ each_of row xs
+direct-each row h xs = map-map direct row xs ∙ (λ i. each_of (λ x. h x i) xs)
+
+pub direct-loads : (i : Init) (d : Dims) (p : Parts) (cell : ℕ × ℕ → Cell) (line : Line) → each_of direct (load_rows i d p cell line) ≡ load_rows i d p cell line
+direct-loads (Values xs) d p cell line = direct-each (λ place. load_row xs d (child d p place) (cell place) line) (λ place. refl) (places p)
+direct-loads (Fill a b) d p cell line = direct-each (λ place. fill_row a b d (child d p place) (cell place) line) (λ place. refl) (places p)
+direct-loads Nothing d p cell line = refl
+
+direct-paste : (old new : ℕ × ℕ → Cell) (line : Line) (x : Paste) → direct (paste_row old new line x) ≡ paste_row old new line x
+direct-paste old new line x =
+    let mk : Mode → Lowered = λ m. own_task PasteKernel (paste_arguments x) (an_access R (old x.from) ∷ an_access m (new x.to) ∷ []) line in
+    ap mk (cond_both (is_first x) W RW (λ m. direct_mode m ≡ m) (λ e. refl) (λ e. refl))
+
+pub direct-delivers : (cell : ℕ × ℕ → Cell) (line : Line) (ps : List (ℕ × ℕ)) → each_of direct (each_of (λ c. deliver_row c line) (each_of cell ps)) ≡ each_of (λ place. deliver_row (cell place) line) ps
+direct-delivers cell line ps = map-map direct (λ (c : Cell). deliver_row c line) (each_of cell ps) ∙ map-map (λ (c : Cell). deliver_row c line) cell ps
+
+-- the tasks of a plan line
+pub plain-plan : (r : RootState) (old : List Cell) (C : Laid) (m : ℕ) (p : Parts) (line : Line) → plain_rows (plan_block r old C m p line) ≡ planned_rows r C m p line
+plain-plan r old C m p line = by_tests (same_parts r.parts p) (is_valued r)
+  where
+    pastes : List Lowered
+    pastes = each_of (paste_row (cell_of C m r.parts) (cell_of C m p) line) (pastes_of r.dims r.parts p)
+
+    by_tests : (b v : Bool) → plain_rows (cond b (closing line [] []) (closing line old (cond v pastes []))) ≡ cond b [] (cond v pastes [])
+    by_tests true v = refl
+    by_tests false true = direct-each (paste_row (cell_of C m r.parts) (cell_of C m p) line) (direct-paste (cell_of C m r.parts) (cell_of C m p) line) (pastes_of r.dims r.parts p)
+    by_tests false false = refl
+
+-- ---- the statements that leave the cells
+
+-- no tasks
+keeps-idle : (q : Program) (C : Laid) (rs : List RootState) (n : ℕ) → AreLaid C → HaveCopies q.workers C → HaveRoots q C n (contents_before q n) rs → length C.handles ≡ length rs → Keeps q C rs n []
+keeps-idle q C rs n a copies roots counted = record { laid = a; copies = copies; roots = subst (λ (k : ℕ). HaveRoots q C k (contents_before q k) rs) (sym (none_more n)) roots; counted = counted }
+
+-- a change of one root that keeps its plan, its dimensions and what its children hold
+changed-roots : (q : Program) (C : Laid) (n : ℕ) (rs : List RootState) (m : ℕ) (f : RootState → RootState) → Lives rs m → HaveRoots q C n (contents_before q n) rs → (HasRoot q C n (contents_before q n) m (root_at rs m) → HasRoot q C n (contents_before q n) m (f (root_at rs m))) → HaveRoots q C n (contents_before q n) (change_at f m rs)
+changed-roots q C n rs m f there has step =
+    holds-changed q C n (contents_before q n) rs (change_at f m rs) m (f (root_at rs m)) (changed-here f m rs there) (λ u other. changed-beside f m u rs other) (λ lives. step (has m there)) (λ u other lives. has u lives)
+
+ended-roots : (q : Program) (C : Laid) (n : ℕ) (rs : List RootState) (m : ℕ) → Lives rs m → HaveRoots q C n (contents_before q n) rs → HaveRoots q C n (contents_before q n) (set rs m no_root)
+ended-roots q C n rs m there has =
+    holds-changed q C n (contents_before q n) rs (set rs m no_root) m no_root (get_or-set_same rs m no_root no_root (lives-below rs m there)) (λ u other. get_or-set_other rs m u no_root no_root other)
+    (λ lives. absurd (omega (arith, lives))) (λ u other lives. has u lives)
+
+blank-root : (q : Program) (C : Laid) (n : ℕ) (k : Contents) (m : ℕ) (r : RootState) → HasRoot q C n k m r → HasRoot q C n k m (with_elements (no_values r.dims) r)
+blank-root q C n k m r o =
+    let whole : length (no_values r.dims) ≡ area r.dims = length-replicate (area r.dims) None in
+    record {
+      fits = o.fits;
+      whole = whole;
+      first = o.first;
+      taken = o.taken;
+      held = λ place inside v. absurd (blank-child (with_elements (no_values r.dims) r) place whole (no_values-blank (area r.dims)) o.fits inside v);
+    }
+
+reduced-root : (q : Program) (C : Laid) (n : ℕ) (k : Contents) (m : ℕ) (r : RootState) (by : Reduction) → HasRoot q C n k m r → HasRoot q C n k m (with_reduction by r)
+reduced-root q C n k m r by o = record { fits = o.fits; whole = o.whole; first = o.first; taken = o.taken; held = o.held }
+
+-- ---- a task
+
+length-put : (os : List (Operand ℕ)) (xs : List Array) (rs : List RootState) → length (put_all_at os xs rs) ≡ length rs
+length-put (o ∷ os) (a ∷ xs) rs = length-put os xs (change_at (with_child o.place a) o.name rs) ∙ length-set rs o.name (with_child o.place a (root_at rs o.name))
+length-put os xs rs = refl
+
+-- ---- one statement more
+
+pub keeps-step : (has : Kernel → Bool) (q : Program) (C : Laid) (n : ℕ) (rs : List RootState) (line : Line) (a : Act ℕ) → IsSound has rs a → AreLaid C → HaveCopies q.workers C → HaveRoots q C n (contents_before q n) rs → length C.handles ≡ length rs
+    → let x = step_of q.workers (by_number rs) C line a in HasCells q x.laid → Stand q n (plain_rows x.block) → Keeps q x.laid (apply_at a rs) n (plain_rows x.block)
+keeps-step has q C n rs line (Registers r) s a copies roots counted cells stand =
+    let D = take (length C.handles) r.parts (with_root r.dims C) in
+    let same = direct-loads r.init r.dims r.parts (cell_of D (length C.handles) r.parts) line in
+    subst (Keeps q D (apply_at (Registers r) rs) n) (sym same) (keeps-registered q C n rs line r s a copies counted roots cells (subst (Stand q n) same stand))
+keeps-step has q C n rs line (Plans m p) s a copies roots counted cells stand =
+    let D = take m p C in
+    let same = plain-plan (root_at rs m) (active_cells (by_number rs) C m) D m p line in
+    subst (Keeps q D (apply_at (Plans m p) rs) n) (sym same) (keeps-planned q C n rs line m p s.0 s.1 a copies roots counted cells (subst (Stand q n) same stand))
+keeps-step has q C n rs line (Reduces m by) s a copies roots counted cells stand =
+    keeps-idle q C (change_at (with_reduction by) m rs) n a copies (changed-roots q C n rs m (with_reduction by) s.0 roots (reduced-root q C n (contents_before q n) m (root_at rs m) by)) (counted ∙ sym (length-set rs m (with_reduction by (root_at rs m))))
+keeps-step has q C n rs line (Tasks t) s a copies roots counted cells stand =
+    let placed = each-weaker (λ (u : Operand ℕ). IsPlaced rs u × (is_redux u.mode ≡ true)) (IsPlaced rs) (λ u h. h.0) (contributed t) (of_redux (IsPlaced rs) t.operands s.placed) in
+    let laid = laid-contributed q C n (contents_before q n) rs (contributed t) a copies roots placed in
+    record {
+      laid = laid.0;
+      copies = laid.1;
+      roots = roots-task has q C n rs t line s a copies roots cells stand;
+      counted = ap length (fold-handles q.workers (each_of (the_cell rs C) (contributed t)) C) ∙ counted ∙ sym (length-put (written_of t.operands) (out t.codelet t.args (each_of (operand_array_at rs) t.operands)) rs);
+    }
+keeps-step has q C n rs line (Prints m) s a copies roots counted cells stand =
+    let r = root_at rs m in
+    let cell = cell_of C m r.parts in
+    let same = direct-delivers cell line (places r.parts) in
+    let ls = plain_rows (print_block m r (active_cells (by_number rs) C m) C.prints line) in
+    let left : contents_before q (n + length ls) ≡ contents_before q n = contents-rows q n ls stand ∙ ap (after_rows q (contents_before q n)) same ∙ after_delivers q (contents_before q n) cell line (places r.parts) in
+    let back = λ (u : ℕ) (d : Dims) (s : Parts) (f : ℕ) (t : IsTaken (with_print C) u d s f). taken-as (with_print C) C u u d s f refl t in
+    record {
+      laid = laid-as C (with_print C) back (omega arith) (λ u h. refl) a.sized a.small a;
+      copies = copies-as q.workers C C.handles (C.prints + 1) back copies;
+      roots = subst (λ (k : Contents). HaveRoots q (with_print C) (n + length ls) k rs) (sym left) (holds-later q (with_print C) n (n + length ls) (contents_before q n) rs (omega arith) (roots-copied q C (with_print C) n (contents_before q n) rs refl roots));
+      counted = counted;
+    }
+keeps-step has q C n rs line (Invalidates m) s a copies roots counted cells stand =
+    keeps-idle q C (change_at (λ r. with_elements (no_values r.dims) r) m rs) n a copies (changed-roots q C n rs m (λ r. with_elements (no_values r.dims) r) s roots (blank-root q C n (contents_before q n) m (root_at rs m))) (counted ∙ sym (length-set rs m (with_elements (no_values (root_at rs m).dims) (root_at rs m))))
+keeps-step has q C n rs line (Unregisters m) s a copies roots counted cells stand =
+    keeps-idle q C (set rs m no_root) n a copies (ended-roots q C n rs m s roots) (counted ∙ sym (length-set rs m no_root))
+
+-- after one statement more
+pub agrees-step : (has : Kernel → Bool) (q : Program) (C : Laid) (n : ℕ) (rs : List RootState) (was : Opens) (line : Line) (a : Act ℕ) → IsSound has rs a → Agrees q C rs n was
+    → let x = step_of q.workers (by_number rs) C line a in HasCells q x.laid → Stand q n (plain_rows x.block) → AreOpenChildren x.laid (apply_at a rs) (open_at was x.block) → Agrees q x.laid (apply_at a rs) (n + length (plain_rows x.block)) (open_at was x.block)
+agrees-step has q C n rs was line a s g cells stand opens =
+    let k = keeps-step has q C n rs line a s g.laid g.copies g.roots g.counted cells stand in
+    record { laid = k.laid; copies = k.copies; cells = cells; roots = k.roots; counted = k.counted; opens = opens }

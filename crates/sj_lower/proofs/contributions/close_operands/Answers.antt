@@ -1,0 +1,53 @@
+use Rattle.std.proofs.Common.{◌+◌, ◌++◌, ◌∷◌, ◌∙◌, [], List, fold, map, take, refl, sym, ap, subst, arith}
+use Rattle.std.specs.List.{filter}
+use Rattle.std.proofs.lemmas.List.{take_all}
+use Rattle.sj_base.specs.declared.ids.Cell.{Cell}
+use Rattle.sj_meaning.specs.declared.job.Operand.{Operand}
+use Rattle.sj_phases.specs.declared.expander.Expander.{Expander}
+use Rattle.sj_phases.specs.Does.{Does}
+use Rattle.sj_phases.specs.Expand.{closed}
+use Rattle.sj_phases.proofs.Doing.{has-after}
+use Rattle.sj_lower.specs.declared.layout.Active.{Active}
+use Rattle.sj_lower.specs.Follows.{cell_by, is_other}
+use Rattle.sj_lower.proofs.Arms.{does-close, does-start-close}
+use Rattle.sj_lower.proofs.Finding.{more-found, none-more}
+use Rattle.sj_lower.proofs.contributions.close_operands.Goals.{else-is_other, then-is_other+in_ok-close}
+use Rattle.sj_lower.proofs.contributions.close_operands.Goals as goal
+
+abbrev cells : List Active → List Operand → List Cell
+cells actives os = map (cell_by actives) (filter is_other os)
+
+pub returns-then-not-has_open : goal.returns-then-not-has_open
+returns-then-not-has_open c = c.has_open.ensures c.args.line (cells c.args.layout.now.actives.items c.args.operands.now) c.if-not-has_open.true
+
+pub loop-operand-init : goal.loop-operand-init
+loop-operand-init c = does-start-close c.args.phases.now c.args.line [] refl
+
+pub cell-requires : goal.cell-requires
+cell-requires c = c.requires.inside c.loop-operand.operand-index _ c.loop-operand-test.true
+
+pub close-requires : goal.close-requires
+close-requires c = record { at = has-after c.args.phases.now c.loop-operand.phases c.args.line _ c.loop-operand.invariant c.requires.at }
+
+pub loop-operand-preserved : goal.loop-operand-preserved
+loop-operand-preserved c =
+    let old = c.args.phases.now in
+    let as' = c.args.layout.now.actives.items in
+    let os = c.args.operands.now in
+    let i = c.loop-operand.operand-index in
+    elim c.if-is_other.branch [
+      | then-is_other+in_ok-close w ↦ (
+          let more = more-found (cell_by as') is_other os i _ c.loop-operand-test.true (sym c.is_other.ensures ∙ w.if-is_other.true) in
+          let next = does-close old c.loop-operand.phases w.close.new.self c.args.line (cells as' (take i os)) (cells as' (take (i + 1) os)) w.cell.result (more ∙ ap (λ (x : Cell). cells as' (take i os) ++ x ∷ []) (sym w.cell.ensures)) c.loop-operand.invariant w.in_ok-close.ensures in
+          subst (λ (x : Expander). Does old x c.args.line (λ E. fold (closed old.workers) E (cells as' (take (i + 1) os)))) (sym w.phases-is) next)
+      | else-is_other w ↦ (
+          let same = none-more (cell_by as') is_other os i _ c.loop-operand-test.true (sym c.is_other.ensures ∙ w.if-is_other.false) in
+          let next = subst (λ (cs : List Cell). Does old c.loop-operand.phases c.args.line (λ E. fold (closed old.workers) E cs)) (sym same) c.loop-operand.invariant in
+          subst (λ (x : Expander). Does old x c.args.line (λ E. fold (closed old.workers) E (cells as' (take (i + 1) os)))) (sym w.phases-is) next)
+    ]
+
+pub returns : goal.returns
+returns c =
+    let old = c.args.phases.now in
+    let all = take_all c.loop-operand.operand-index c.args.operands.now (omega (arith, c.loop-operand-test.false)) in
+    subst (λ (os : List Operand). Does old c.loop-operand.phases c.args.line (λ E. fold (closed old.workers) E (cells c.args.layout.now.actives.items os))) all c.loop-operand.invariant

@@ -1,0 +1,15 @@
+use Rattle.std.proofs.Common.{◌∙◌, sym, arith}
+use Rattle.sj_lower.specs.Adds.{is_contributed}
+use Rattle.sj_lower.proofs.Finding.{none-yet, none-at-all, first-found}
+use Rattle.sj_lower.proofs.contributions.contributed.Goals as goal
+
+pub returns-then-is_contribution-clause-some : goal.returns-then-is_contribution-clause-some
+returns-then-is_contribution-clause-some c =
+    first-found is_contributed c.args.operands.now c.loop-operand.operand-index _ c.loop-operand-test.true c.loop-operand.invariant (sym c.is_contribution.ensures ∙ c.if-is_contribution.true)
+
+pub loop-operand-preserved : goal.loop-operand-preserved
+loop-operand-preserved c =
+    none-yet is_contributed c.args.operands.now c.loop-operand.operand-index _ c.loop-operand-test.true c.loop-operand.invariant (sym c.is_contribution.ensures ∙ c.if-is_contribution.false)
+
+pub returns-clause-none : goal.returns-clause-none
+returns-clause-none c = none-at-all is_contributed c.args.operands.now c.loop-operand.operand-index (omega (arith, c.loop-operand-test.false)) c.loop-operand.invariant

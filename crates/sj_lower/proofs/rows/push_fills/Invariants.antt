@@ -1,8 +1,0 @@
-use Rattle.sj_lower.proofs.Words.{cells_from, child, fill_row, ℕ, ◌++◌, ◌≡◌}
-use Rattle.sj_lower.proofs.Children.{first_children}
-use Rattle.sj_lower.proofs.rows.push_fills.Given as goal
-
--- the loads of the children so far
-abbrev pub invariant-loop-k : goal.invariant-loop-k
-invariant-loop-k l =
-    l.tasks.items ≡ l.initial.tasks.items ++ first_children (λ (place : ℕ × ℕ). fill_row l.fill.0 l.fill.1 l.dims (child l.dims l.placed.parts place) (cells_from l.placed.first l.placed.parts place) l.line) l.placed.parts l.k

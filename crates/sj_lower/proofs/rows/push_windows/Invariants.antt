@@ -1,8 +1,0 @@
-use Rattle.sj_lower.proofs.Words.{cells_from, child, load_row, ℕ, ◌++◌, ◌≡◌}
-use Rattle.sj_lower.proofs.Children.{first_children}
-use Rattle.sj_lower.proofs.rows.push_windows.Given as goal
-
--- the loads of the children so far
-abbrev pub invariant-loop-k : goal.invariant-loop-k
-invariant-loop-k l =
-    l.tasks.items ≡ l.initial.tasks.items ++ first_children (λ (place : ℕ × ℕ). load_row l.whole.elements l.whole.dims (child l.whole.dims l.placed.parts place) (cells_from l.placed.first l.placed.parts place) l.line) l.placed.parts l.k

@@ -1,0 +1,110 @@
+use Rattle.std.proofs.Common.{sym, subst}
+use Rattle.sj_meaning.specs.declared.job.Act.{Act as KeptAct}
+use Rattle.sj_lower.specs.Adds.{HasNext, Adds, IsFull}
+use Rattle.sj_lower.proofs.Statements.{handed}
+use Rattle.sj_lower.proofs.steps.Steps.add.Goals as goal
+
+pub register-requires : goal.register-requires
+register-requires c = subst (λ (a : KeptAct). HasNext c.args.roots.now c.args.self.now a) c.in-Register.is c.requires
+
+pub returns-in_err-register-in-Register-clause-full : goal.returns-in_err-register-in-Register-clause-full
+returns-in_err-register-in-Register-clause-full c =
+    let T = c.args.roots.now in
+    let s = c.args.statement in
+    let e = c.in_err-register-in-Register.field-0.0 in
+    handed c.from_residual.result e (IsFull T c.args.self.now s.act s.line) c.from_residual.ensures.1 (subst (λ (a : KeptAct). IsFull T c.args.self.now a s.line e) (sym c.in-Register.is) c.in_err-register-in-Register.ensures.full)
+
+pub returns-in_ok-register-in-Register-clause-adds : goal.returns-in_ok-register-in-Register-clause-adds
+returns-in_ok-register-in-Register-clause-adds c =
+    let T = c.args.roots.now in
+    let s = c.args.statement in
+    subst (λ (a : KeptAct). Adds T c.args.self.now c.register.new.self a s.line) (sym c.in-Register.is) c.in_ok-register-in-Register.ensures.adds
+
+pub plan-requires : goal.plan-requires
+plan-requires c = subst (λ (a : KeptAct). HasNext c.args.roots.now c.args.self.now a) c.in-Plan.is c.requires
+
+pub returns-in_err-plan-in-Plan-clause-full : goal.returns-in_err-plan-in-Plan-clause-full
+returns-in_err-plan-in-Plan-clause-full c =
+    let T = c.args.roots.now in
+    let s = c.args.statement in
+    let e = c.in_err-plan-in-Plan.field-0.0 in
+    handed c.from_residual-in_err-plan-in-Plan.result e (IsFull T c.args.self.now s.act s.line) c.from_residual-in_err-plan-in-Plan.ensures.1 (subst (λ (a : KeptAct). IsFull T c.args.self.now a s.line e) (sym c.in-Plan.is) c.in_err-plan-in-Plan.ensures.full)
+
+pub returns-in_ok-plan-in-Plan-clause-adds : goal.returns-in_ok-plan-in-Plan-clause-adds
+returns-in_ok-plan-in-Plan-clause-adds c =
+    let T = c.args.roots.now in
+    let s = c.args.statement in
+    subst (λ (a : KeptAct). Adds T c.args.self.now c.plan.new.self a s.line) (sym c.in-Plan.is) c.in_ok-plan-in-Plan.ensures.adds
+
+pub reduce-requires : goal.reduce-requires
+reduce-requires c = (c.args.roots.now, subst (λ (a : KeptAct). HasNext c.args.roots.now c.args.self.now a) c.in-Redux.is c.requires)
+
+pub returns-in-Redux-clause-adds : goal.returns-in-Redux-clause-adds
+returns-in-Redux-clause-adds c =
+    let T = c.args.roots.now in
+    let s = c.args.statement in
+    subst (λ (a : KeptAct). Adds T c.args.self.now c.reduce.new.self a s.line) (sym c.in-Redux.is) (c.reduce.ensures T)
+
+pub task-requires : goal.task-requires
+task-requires c = (c.args.roots.now, subst (λ (a : KeptAct). HasNext c.args.roots.now c.args.self.now a) c.in-Task.is c.requires)
+
+pub returns-in_err-task-in-Task-clause-full : goal.returns-in_err-task-in-Task-clause-full
+returns-in_err-task-in-Task-clause-full c =
+    let T = c.args.roots.now in
+    let s = c.args.statement in
+    let e = c.in_err-task-in-Task.field-0.0 in
+    handed c.from_residual-in_err-task-in-Task.result e (IsFull T c.args.self.now s.act s.line) c.from_residual-in_err-task-in-Task.ensures.1 (subst (λ (a : KeptAct). IsFull T c.args.self.now a s.line e) (sym c.in-Task.is) (c.in_err-task-in-Task.ensures.full T))
+
+pub returns-in_ok-task-in-Task-clause-adds : goal.returns-in_ok-task-in-Task-clause-adds
+returns-in_ok-task-in-Task-clause-adds c =
+    let T = c.args.roots.now in
+    let s = c.args.statement in
+    subst (λ (a : KeptAct). Adds T c.args.self.now c.task.new.self a s.line) (sym c.in-Task.is) (c.in_ok-task-in-Task.ensures.adds T)
+
+pub print-requires : goal.print-requires
+print-requires c = subst (λ (a : KeptAct). HasNext c.args.roots.now c.args.self.now a) c.in-Print.is c.requires
+
+pub returns-in_err-print-in-Print-clause-full : goal.returns-in_err-print-in-Print-clause-full
+returns-in_err-print-in-Print-clause-full c =
+    let T = c.args.roots.now in
+    let s = c.args.statement in
+    let e = c.in_err-print-in-Print.field-0.0 in
+    handed c.from_residual-in_err-print-in-Print.result e (IsFull T c.args.self.now s.act s.line) c.from_residual-in_err-print-in-Print.ensures.1 (subst (λ (a : KeptAct). IsFull T c.args.self.now a s.line e) (sym c.in-Print.is) c.in_err-print-in-Print.ensures.full)
+
+pub returns-in_ok-print-in-Print-clause-adds : goal.returns-in_ok-print-in-Print-clause-adds
+returns-in_ok-print-in-Print-clause-adds c =
+    let T = c.args.roots.now in
+    let s = c.args.statement in
+    subst (λ (a : KeptAct). Adds T c.args.self.now c.print.new.self a s.line) (sym c.in-Print.is) c.in_ok-print-in-Print.ensures.adds
+
+pub invalidate-requires : goal.invalidate-requires
+invalidate-requires c = (c.args.roots.now, subst (λ (a : KeptAct). HasNext c.args.roots.now c.args.self.now a) c.in-Invalidate.is c.requires)
+
+pub returns-in_err-invalidate-in-Invalidate-clause-full : goal.returns-in_err-invalidate-in-Invalidate-clause-full
+returns-in_err-invalidate-in-Invalidate-clause-full c =
+    let T = c.args.roots.now in
+    let s = c.args.statement in
+    let e = c.in_err-invalidate-in-Invalidate.field-0.0 in
+    handed c.from_residual-in_err-invalidate-in-Invalidate.result e (IsFull T c.args.self.now s.act s.line) c.from_residual-in_err-invalidate-in-Invalidate.ensures.1 (subst (λ (a : KeptAct). IsFull T c.args.self.now a s.line e) (sym c.in-Invalidate.is) (c.in_err-invalidate-in-Invalidate.ensures.full T))
+
+pub returns-in_ok-invalidate-in-Invalidate-clause-adds : goal.returns-in_ok-invalidate-in-Invalidate-clause-adds
+returns-in_ok-invalidate-in-Invalidate-clause-adds c =
+    let T = c.args.roots.now in
+    let s = c.args.statement in
+    subst (λ (a : KeptAct). Adds T c.args.self.now c.invalidate.new.self a s.line) (sym c.in-Invalidate.is) (c.in_ok-invalidate-in-Invalidate.ensures.adds T)
+
+pub unregister-requires : goal.unregister-requires
+unregister-requires c = (c.args.roots.now, subst (λ (a : KeptAct). HasNext c.args.roots.now c.args.self.now a) c.in-Unregister.is c.requires)
+
+pub returns-in_err-unregister-in-Unregister-clause-full : goal.returns-in_err-unregister-in-Unregister-clause-full
+returns-in_err-unregister-in-Unregister-clause-full c =
+    let T = c.args.roots.now in
+    let s = c.args.statement in
+    let e = c.in_err-unregister-in-Unregister.field-0.0 in
+    handed c.from_residual-in_err-unregister-in-Unregister.result e (IsFull T c.args.self.now s.act s.line) c.from_residual-in_err-unregister-in-Unregister.ensures.1 (subst (λ (a : KeptAct). IsFull T c.args.self.now a s.line e) (sym c.in-Unregister.is) (c.in_err-unregister-in-Unregister.ensures.full T))
+
+pub returns-in_ok-unregister-in-Unregister-clause-adds : goal.returns-in_ok-unregister-in-Unregister-clause-adds
+returns-in_ok-unregister-in-Unregister-clause-adds c =
+    let T = c.args.roots.now in
+    let s = c.args.statement in
+    subst (λ (a : KeptAct). Adds T c.args.self.now c.unregister.new.self a s.line) (sym c.in-Unregister.is) (c.in_ok-unregister-in-Unregister.ensures.adds T)

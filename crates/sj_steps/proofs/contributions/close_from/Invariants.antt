@@ -1,9 +1,0 @@
-use Rattle.std.proofs.Common.{fold}
-use Rattle.sj_phases.specs.Does.{Does}
-use Rattle.sj_phases.specs.Expand.{closed}
-use Rattle.sj_steps.specs.Adds.{cells_after}
-use Rattle.sj_steps.proofs.contributions.close_from.Given as goal
-
--- the phases of the cells so far are closed
-abbrev pub invariant-loop-k : goal.invariant-loop-k
-invariant-loop-k l = Does l.initial.phases l.phases l.line (λ E. fold (closed l.initial.phases.workers) E (cells_after l.first l.k))

@@ -1,7 +1,0 @@
-use Rattle.std.proofs.Common.{◌≡◌, map, take}
-use Rattle.sj_steps.specs.Follows.{access_by}
-use Rattle.sj_steps.proofs.layout.Layout.accesses.Given as goal
-
--- the accesses of the operands so far
-abbrev pub invariant-loop-operand : goal.invariant-loop-operand
-invariant-loop-operand l = l.accesses ≡ map (access_by l.self.actives.items) (take l.operand-index l.operands)

@@ -1,6 +1,0 @@
-use Rattle.std.proofs.Common.{◌≡◌, ◌++◌, map, take}
-use Rattle.sj_steps.specs.Cells.{rect_cell}
-use Rattle.sj_steps.proofs.layout.push_cells.Given as goal
-
-abbrev pub invariant-loop-rect : goal.invariant-loop-rect
-invariant-loop-rect l = l.infos.items ≡ l.fn.infos.items ++ map (rect_cell l.root) (take l.rect-index l.rects)
