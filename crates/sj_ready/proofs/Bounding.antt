@@ -1,12 +1,13 @@
 -- How many cells and tasks the job of an application is lowered to: no more than the limits allow.
 use Rattle.std.specs.FinMap as map
 use Rattle.std.proofs.Common.{◌≡◌, ◌≤◌, ℕ, ◌+◌, ◌*◌, Bool, true, false, cond, Option, Some, None, List, [], ◌∷◌, ◌++◌, length, map as each_of, nat_eq, not, refl, sym, ap, subst, ◌∙◌, arith, bytes_eq}
-use Rattle.std.specs.Prelude.{is_some, nat_lt, sum_by}
-use Rattle.std.specs.List.{AllByRecursion, flat_map, fold, last_or, range_with_len}
+use Rattle.std.specs.Prelude.{find, is_some, nat_lt, option_map, sum_by, unwrap_or}
+use Rattle.std.specs.List.{AllByRecursion, filter, flat_map, fold, range_with_len}
 use Rattle.std.specs.Cmp.Lexicographic.{nat_list_cmp_total, slice_cmp, texts_ties}
 use Rattle.std.specs.Ordering.{nat_cmp}
-use Rattle.std.proofs.lemmas.Bool.Decides.{nat_tests}
+use Rattle.std.proofs.lemmas.Bool.{le-ltb}
 use Rattle.std.proofs.lemmas.List.{length-append, length-map}
+use Rattle.std.proofs.lemmas.List.Folds.{fold_stays}
 use Rattle.std.proofs.lemmas.List.FromFn.{length-range_with_len}
 use Rattle.std.proofs.lemmas.List.Sums.{count_by-le-length, length-filter, sum_by-append, sum_by-cons}
 use Rattle.std.proofs.lemmas.Nat.{mul-le}
@@ -25,14 +26,19 @@ use Rattle.sj_meaning.specs.declared.job.Init.{Init}
 use Rattle.sj_meaning.specs.declared.job.Init.TheVariants.{Values, Fill, Nothing}
 use Rattle.sj_meaning.specs.Act.{Act, Statement, Register, Plan, Redux, Task, Print, Invalidate, Unregister}
 use Rattle.sj_meaning.specs.Meaning.{apply, operand_array, put, put_all, register, registered_root, with_child, written_of}
+use Rattle.sj_meaning.specs.Numbers.{no_root}
 use Rattle.sj_meaning.specs.State.{RootState, JobState, root_of, start}
 use Rattle.sj_meaning.specs.Statement.{Operand, Register as Registration}
-use Rattle.sj_meaning.specs.Table.{undivided}
-use Rattle.sj_lower.specs.declared.phase.OpenPhase.{OpenPhase}
-use Rattle.sj_lower.specs.Cells.{Cells, Handle, cell_of, child_cell, take, take_by, taking_plan, with_handle, with_new_root}
-use Rattle.sj_lower.specs.Limits.{above_at_end, cells_in, first_above, late_cells, late_limit, late_tasks, line_or, most, tasks_in}
-use Rattle.sj_lower.specs.Lowering.{Lowering, active_cell, active_cells, add_own, all_closed, cells_after, closed, closed_by, load_rows, lower_from, lower_one, nothing, opened_for, parts_in, phase_turned, prepared, rows_added}
-use Rattle.sj_lower.specs.Rows.{combine_rows, deliver_row, fill_row, load_row}
+use Rattle.sj_meaning.specs.Table.{a_root}
+use Rattle.sj_phases.specs.Block.{Block}
+use Rattle.sj_phases.specs.Expand.{Expansion, nothing, closed, opened, with_own, expanded, expand, last_block, most, first_above}
+use Rattle.sj_phases.proofs.Doing.{closed-is}
+use Rattle.sj_lower.specs.Cells.{child_cell}
+use Rattle.sj_lower.specs.Laid.{Laid, no_cells, handle_at, cell_of, take, taking, with_root, with_copies}
+use Rattle.sj_lower.specs.Limits.{late_cells, late_limit, late_tasks}
+use Rattle.sj_lower.specs.Rows.{load_rows, load_row, fill_row, deliver_row}
+use Rattle.sj_lower.specs.Running.{blocks_in}
+use Rattle.sj_lower.specs.Step.{Step, step, Lookup, by_name, operand_cell, active_cells, is_other_access, contributed, opening_of, task_row, step_of, steps_from, names_of, steps_of, laid_by, last_line, cells_above, tasks_above}
 use Rattle.sj_lower.proofs.Places.{length-places}
 use Rattle.sj_apps.specs.Application.{IsSized, statements_for}
 use Rattle.sj_apps.specs.Generated.{IsSize, apart, aparts_in_row, below, beside, factors, first_line, gemm_act, gemms, gemms_at, gemms_in_row, matrix_act, name_C, name_D, numbered, others, part_count, paths_statements, product_statements, upto, walk_step, walk_steps, weights}
@@ -84,7 +90,7 @@ plain-one q (Unregister name) h = absurd h
 
 -- the root's plan has at most q parts
 abbrev IsCutTo : ℕ → Option RootState → Type 0
-IsCutTo q o = let p = elim o as (λ _. Parts) [ None ↦ undivided | Some r ↦ r.parts ] in p.r * p.c ≤ q
+IsCutTo q o = let p = (unwrap_or o no_root).parts in p.r * p.c ≤ q
 
 -- so has that of each name
 abbrev AreCutTo : ℕ → JobState → Type 0
@@ -135,113 +141,112 @@ cut-applied q S (Redux name by) h cut = absurd h
 cut-applied q S (Invalidate name) h cut = absurd h
 cut-applied q S (Unregister name) h cut = absurd h
 
--- ---- cells
+-- ---- what one act gives
 
-take-rows : (name : List ℕ) (p : Parts) (C : Cells) → length (take name p C).rows ≤ length C.rows + p.r * p.c
-take-rows name p C = by_handle (C.handles name)
+take-rows : (n : ℕ) (p : Parts) (C : Laid) → length (take n p C).rows ≤ length C.rows + p.r * p.c
+take-rows n p C = by_plan (is_some ((handle_at C n).first p))
   where
-    by_plan : (h : Handle) (b : Bool) → length (cond b C (record {
-      rows = C.rows ++ each_of (child_cell h.root h.dims p) (places p);
-      handles = with_handle name (taking_plan p (length C.rows) h) C.handles;
-      roots = C.roots;
-    })).rows ≤ length C.rows + p.r * p.c
-    by_plan h true = omega arith
-    by_plan h false = omega (arith, length-append C.rows (each_of (child_cell h.root h.dims p) (places p)), length-places (child_cell h.root h.dims p) p)
-
-    by_handle : (o : Option Handle) → length (elim o as (λ _. Cells) [ None ↦ C | Some h ↦ take_by name p h C ]).rows ≤ length C.rows + p.r * p.c
-    by_handle None = omega arith
-    by_handle (Some h) = by_plan h (is_some (h.first p))
-
-cells-few : (q : ℕ) (C : Cells) (a : Act (List ℕ)) → IsOrdinary q a → length (cells_after a C).rows ≤ length C.rows + cells_given q a
-cells-few q C (Register r) h = omega (arith, h, take-rows r.name r.parts (with_new_root r.name r.dims C))
-cells-few q C (Task t) h = omega arith
-cells-few q C (Print name) h = omega arith
-cells-few q C (Plan name p) h = absurd h
-cells-few q C (Redux name by) h = absurd h
-cells-few q C (Invalidate name) h = absurd h
-cells-few q C (Unregister name) h = absurd h
-
--- ---- tasks
+    by_plan : (b : Bool) → length (cond b C (taking n p C)).rows ≤ length C.rows + p.r * p.c
+    by_plan true = omega arith
+    by_plan false = let row = child_cell (a_root n) (handle_at C n).dims p in omega (arith, length-append C.rows (each_of row (places p)), length-places row p)
 
 loads-few : (i : Init) (d : Dims) (p : Parts) (cell : ℕ × ℕ → Cell) (line : Line) → length (load_rows i d p cell line) ≤ p.r * p.c
 loads-few (Values xs) d p cell line = omega (arith, length-places (λ place. load_row xs d (child d p place) (cell place) line) p)
 loads-few (Fill a b) d p cell line = omega (arith, length-places (λ place. fill_row a b d (child d p place) (cell place) line) p)
 loads-few Nothing d p cell line = omega arith
 
-rows-few : (q : ℕ) (S : JobState) (C : Cells) (line : Line) (a : Act (List ℕ)) → IsOrdinary q a → AreCutTo q S → length (rows_added S C line a) ≤ tasks_given q a
-rows-few q S C line (Register r) h cut = omega (arith, h, loads-few r.init r.dims r.parts (cell_of C r.name r.parts) line)
-rows-few q S C line (Task t) h cut = omega arith
-rows-few q S C line (Print name) h cut = omega (arith, cut name, length-places (λ place. deliver_row (active_cell S C name place) line) (parts_in S name))
-rows-few q S C line (Plan name p) h cut = absurd h
-rows-few q S C line (Redux name by) h cut = absurd h
-rows-few q S C line (Invalidate name) h cut = absurd h
-rows-few q S C line (Unregister name) h cut = absurd h
+-- few cells, few tasks, and no phase
+record IsFew (q : ℕ) (C : Laid) (a : Act (List ℕ)) (x : Step) : Type 0 where
+  cells : length x.laid.rows ≤ length C.rows + cells_given q a
+  tasks : length x.block.tasks ≤ tasks_given q a
+  opens : x.block.opens ≡ []
+
+few-one : (workers q : ℕ) (names : List (List ℕ)) (S : JobState) (C : Laid) (line : Line) (a : Act (List ℕ)) → IsOrdinary q a → AreCutTo q S → IsFew q C a (step_of workers (by_name names S) C line a)
+few-one workers q names S C line (Register r) h cut =
+    let n = length C.handles in
+    let D = take n r.parts (with_root r.dims C) in
+    record {
+      cells = omega (arith, h, take-rows n r.parts (with_root r.dims C));
+      tasks = omega (arith, h, loads-few r.init r.dims r.parts (cell_of D n r.parts) line);
+      opens = refl;
+    }
+few-one workers q names S C line (Task t) h cut = subst (IsFew q C (Task t)) (sym (ap by_contributed (filter_gone (λ (o : Operand (List ℕ)). is_redux o.mode) t.operands h))) (record { cells = omega arith; tasks = omega arith; opens = refl })
+  where
+    L : Lookup (List ℕ)
+    L = by_name names S
+
+    -- what the task gives, by the operands that it contributes to
+    by_contributed : List (Operand (List ℕ)) → Step
+    by_contributed os =
+        let D = fold (with_copies workers) C (each_of (operand_cell L C) os) in
+        step D (record {
+          line = line;
+          closes = each_of (operand_cell L D) (filter is_other_access t.operands);
+          opens = flat_map (opening_of L D) os;
+          tasks = task_row L D t line ∷ [];
+          deliveries = [];
+        })
+few-one workers q names S C line (Print name) h cut =
+    let L = by_name names S in
+    let p = (L.root name).parts in
+    let cell = cell_of C (L.number name) p in
+    record {
+      cells = omega arith;
+      tasks = omega (arith, cut name, length-map (active_cells L C name) (λ (c : Cell). deliver_row c line), length-places cell p);
+      opens = refl;
+    }
+few-one workers q names S C line (Plan name p) h cut = absurd h
+few-one workers q names S C line (Redux name by) h cut = absurd h
+few-one workers q names S C line (Invalidate name) h cut = absurd h
+few-one workers q names S C line (Unregister name) h cut = absurd h
 
 -- ---- no phase is open
 
-abbrev NoneIsOpen : Lowering → Type 0
-NoneIsOpen L = (c : Cell) → L.phase c ≡ None
+abbrev NoneIsOpen : Expansion → Type 0
+NoneIsOpen E = (c : Cell) → E.phase c ≡ None
 
 module _ (workers : ℕ) where
-  all_closed-stays : (cs : List Cell) (L : Lowering) → NoneIsOpen L → all_closed workers cs L ≡ L
-  all_closed-stays [] L none = refl
-  all_closed-stays (c ∷ cs) L none =
-      ap (λ (o : Option OpenPhase). fold (closed workers) (elim o as (λ _. Lowering) [ None ↦ L | Some f ↦ phase_turned L.cells (combine_rows f c workers) c None L ]) cs) (none c)
-      ∙ all_closed-stays cs L none
+  -- where no phase is open and none opens, a block adds its own tasks
+  expanded-own : (E : Expansion) (b : Block) → NoneIsOpen E → b.opens ≡ [] → expanded workers E b ≡ with_own b.tasks b.deliveries E
+  expanded-own E b none shut =
+      let stays : fold (closed workers) E b.closes ≡ E = fold_stays (closed workers) E (λ c. closed-is workers E c None (none c)) b.closes in
+      λ i. with_own b.tasks b.deliveries (fold (opened workers b.line) (stays i) (shut i))
 
-  prepared-stays : (q : ℕ) (S : JobState) (line : Line) (a : Act (List ℕ)) (L : Lowering) → IsOrdinary q a → NoneIsOpen L → prepared workers S (record { line = line; act = a }) L ≡ L
-  prepared-stays q S line (Register r) L h none = refl
-  prepared-stays q S line (Task t) L h none =
-      let s : Statement (List ℕ) = record { line = line; act = Task t } in
-      let cs = closed_by S L.cells s.act in
-      ap (λ (os : List (Operand (List ℕ))). fold (opened_for workers S line) (all_closed workers cs L) os) (filter_gone (λ (o : Operand (List ℕ)). is_redux o.mode) t.operands h) ∙ all_closed-stays cs L none
-  prepared-stays q S line (Print name) L h none = all_closed-stays (active_cells S L.cells name) L none
-  prepared-stays q S line (Plan name p) L h none = absurd h
-  prepared-stays q S line (Redux name by) L h none = absurd h
-  prepared-stays q S line (Invalidate name) L h none = absurd h
-  prepared-stays q S line (Unregister name) L h none = absurd h
+  record Grows (E F : Expansion) (n : ℕ) : Type 0 where
+    none : NoneIsOpen F
+    tasks : length F.tasks ≤ length E.tasks + n
 
-  -- ---- one act more
-
-  record Grows (q : ℕ) (a : Act (List ℕ)) (L M : Lowering) : Type 0 where
-    none : NoneIsOpen M
-    cells : cells_in M ≤ cells_in L + cells_given q a
-    tasks : tasks_in M ≤ tasks_in L + tasks_given q a
-
-  grows : (q : ℕ) (S : JobState) (line : Line) (a : Act (List ℕ)) (L : Lowering) → IsOrdinary q a → AreCutTo q S → NoneIsOpen L → Grows q a L (lower_one workers S (record { line = line; act = a }) L)
-  grows q S line a L h cut none =
-      let s : Statement (List ℕ) = record { line = line; act = a } in
-      let C = cells_after a L.cells in
-      subst (Grows q a L) (sym (ap (add_own S s) (prepared-stays q S line a L h none))) (record {
-        none = none;
-        cells = cells-few q L.cells a h;
-        tasks = omega (arith, length-append L.tasks (rows_added S C line a), rows-few q S C line a h cut);
-      })
+  grows : (E : Expansion) (b : Block) (n : ℕ) → NoneIsOpen E → b.opens ≡ [] → length b.tasks ≤ n → Grows E (expanded workers E b) n
+  grows E b n none shut few =
+      subst (λ (F : Expansion). Grows E F n) (sym (expanded-own E b none shut)) (record { none = none; tasks = omega (arith, few, length-append E.tasks b.tasks) })
 
   -- ---- all acts
 
-  not-above : (n : ℕ) → n ≤ 262144 → nat_lt most n ≡ false
-  not-above n h = grind (arith, nat_tests)
+  -- there are never too many cells or tasks, and then come other blocks
+  record AreFew (E : Expansion) (xs : List Step) : Type 0 where
+    cells : cells_above xs ≡ None
+    tasks : (bs : List Block) → first_above workers E (blocks_in xs ++ bs) ≡ first_above workers (expand workers E (blocks_in xs)) bs
+    none : NoneIsOpen (expand workers E (blocks_in xs))
+    all_tasks : length (expand workers E (blocks_in xs)).tasks ≤ 262144
 
-  record AreFew (S : JobState) (L : Lowering) (ss : List (Statement (List ℕ))) : Type 0 where
-    cells : first_above workers cells_in S L ss ≡ None
-    tasks : first_above workers tasks_in S L ss ≡ None
-    none : NoneIsOpen (lower_from workers S L ss)
-    all_tasks : tasks_in (lower_from workers S L ss) ≤ 262144
-
-  walk : (q : ℕ) (acts : List (Act (List ℕ))) (line : ℕ) (S : JobState) (L : Lowering) → AllByRecursion (IsOrdinary q) acts → AreCutTo q S → NoneIsOpen L → cells_in L + sum_by (cells_given q) acts ≤ 262144 → tasks_in L + sum_by (tasks_given q) acts ≤ 262144 → AreFew S L (numbered line acts)
-  walk q [] line S L ordinary cut none cells tasks = record { cells = refl; tasks = refl; none = none; all_tasks = omega (arith, tasks) }
-  walk q (a ∷ acts) line S L ordinary cut none cells tasks =
-      let s : Statement (List ℕ) = record { line = record { 0 = line }; act = a } in
-      let M = lower_one workers S s L in
-      let one = grows q S s.line a L ordinary.0 cut none in
+  walk : (q : ℕ) (names : List (List ℕ)) (acts : List (Act (List ℕ))) (line : ℕ) (S : JobState) (C : Laid) (E : Expansion) → AllByRecursion (IsOrdinary q) acts → AreCutTo q S → NoneIsOpen E → length C.rows + sum_by (cells_given q) acts ≤ 262144 → length E.tasks + sum_by (tasks_given q) acts ≤ 262144
+      → AreFew E (steps_from workers (by_name names) apply S C (numbered line acts))
+  walk q names [] line S C E ordinary cut none cells tasks = record { cells = refl; tasks = λ bs. refl; none = none; all_tasks = omega (arith, tasks) }
+  walk q names (a ∷ acts) line S C E ordinary cut none cells tasks =
+      let l : Line = record { 0 = line } in
+      let x = step_of workers (by_name names S) C l a in
+      let F = expanded workers E x.block in
+      let one = few-one workers q names S C l a ordinary.0 cut in
+      let grown = grows E x.block (tasks_given q a) none one.opens one.tasks in
       let more_cells = sum_by-cons (cells_given q) a acts in
       let more_tasks = sum_by-cons (tasks_given q) a acts in
-      let rest = walk q acts (line + 1) (apply a S) M ordinary.1 (cut-applied q S a ordinary.0 cut) one.none (omega (arith, cells, one.cells, more_cells)) (omega (arith, tasks, one.tasks, more_tasks)) in
-      let further = numbered (line + 1) acts in
+      let few_cells : length x.laid.rows + sum_by (cells_given q) acts ≤ 262144 = omega (arith, cells, one.cells, more_cells) in
+      let few_tasks : length F.tasks + sum_by (tasks_given q) acts ≤ 262144 = omega (arith, tasks, grown.tasks, more_tasks) in
+      let rest = walk q names acts (line + 1) (apply a S) x.laid F ordinary.1 (cut-applied q S a ordinary.0 cut) grown.none few_cells few_tasks in
+      let later : List Step = steps_from workers (by_name names) apply (apply a S) x.laid (numbered (line + 1) acts) in
       record {
-        cells = ap (λ b. cond b (Some s.line) (first_above workers cells_in (apply a S) M further)) (not-above (cells_in M) (omega (arith, cells, one.cells, more_cells))) ∙ rest.cells;
-        tasks = ap (λ b. cond b (Some s.line) (first_above workers tasks_in (apply a S) M further)) (not-above (tasks_in M) (omega (arith, tasks, one.tasks, more_tasks))) ∙ rest.tasks;
+        cells = ap (λ b. option_map (λ (y : Step). y.block.line) (cond b (Some x) (find (λ (y : Step). nat_lt most (length y.laid.rows)) later))) (le-ltb most (length x.laid.rows) (omega (arith, few_cells))) ∙ rest.cells;
+        tasks = λ bs. ap (λ b. cond b (Some x.block.line) (first_above workers F (blocks_in later ++ bs))) (le-ltb most (length F.tasks) (omega (arith, few_tasks))) ∙ rest.tasks bs;
         none = rest.none;
         all_tasks = rest.all_tasks;
       }
@@ -249,11 +254,13 @@ module _ (workers : ℕ) where
   within : (q : ℕ) (acts : List (Act (List ℕ))) (line : ℕ) → 1 ≤ q → AllByRecursion (IsOrdinary q) acts → sum_by (cells_given q) acts ≤ 262144 → sum_by (tasks_given q) acts ≤ 262144 → late_limit workers (numbered line acts) ≡ None
   within q acts line some ordinary cells tasks =
       let ss = numbered line acts in
-      let few = walk q acts line start nothing ordinary (cut-start q some) (λ c. refl) (omega (arith, cells)) (omega (arith, tasks)) in
-      let end = lower_from workers start nothing ss in
-      let cs : List Cell = each_of (λ n. record { 0 = n }) (range_with_len 0 (length end.cells.rows)) in
-      let over : above_at_end workers ss ≡ None = ap (λ b. cond b (last_or None (each_of (λ (s : Statement (List ℕ)). s.line) ss)) None) (ap (λ (M : Lowering). nat_lt most (tasks_in M)) (all_closed-stays cs end few.none) ∙ not-above (tasks_in end) few.all_tasks) in
-      λ i. late_cells (few.cells i) (late_tasks (line_or (few.tasks i) (over i)))
+      let xs = steps_of workers ss in
+      let few = walk q (names_of ss) acts line start no_cells nothing ordinary (cut-start q some) (λ c. refl) (omega (arith, cells)) (omega (arith, tasks)) in
+      let G = expand workers nothing (blocks_in xs) in
+      let end : Block = last_block (length (laid_by xs).rows) (last_line xs) in
+      let grown = grows G end 0 few.none refl (omega arith) in
+      let late : tasks_above workers xs ≡ None = few.tasks (end ∷ []) ∙ ap (λ b. cond b (Some end.line) None) (le-ltb most (length (expanded workers G end).tasks) (omega (arith, few.all_tasks, grown.tasks))) in
+      λ i. late_cells (few.cells i) (late_tasks (late i))
 
 -- ---- plain tasks
 
