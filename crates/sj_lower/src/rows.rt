@@ -3,7 +3,6 @@
 ghost use Rattle.std.specs.Prelude.{◌≡◌, ◌+◌, ◌≤◌, IfOk};
 ghost use Rattle.sj_plan.specs.Parts.{IsPlace};
 ghost use Rattle.sj_plan.specs.Rect.{Within};
-ghost use Rattle.sj_plan.specs.Window.{window};
 ghost use Rattle.sj_phases.specs.Rows.{task_by};
 ghost use Rattle.sj_lower.specs.Cells.{children_count, cells_from};
 ghost use Rattle.sj_lower.specs.Rows.{load_row, fill_arguments, fill_row, paste_row, deliver_row, paste_arguments, paste_mode};
@@ -52,15 +51,6 @@ pub fn own_task(codelet: Codelet, args: Vec<i64>, accesses: Few<Access>, line: L
     }
 }
 
-/// A root's elements at one child: the arguments of its load. Linear in the child's elements.
-fn load_arguments(alloc: Global, whole: &Tile, rect: Rect) -> Result<Vec<i64>, OutOfMemory>
-    requires { Within rect whole.now.dims }
-    ensures { IfOk result (λ args. args.items ≡ (window whole.now rect).elements) }
-{
-    let child = split(alloc, whole, rect)?;
-    Ok(Vec::from_slice(alloc, child.elements())?)
-}
-
 /// Loads one child of a root with its elements.
 pub fn load_row(
     alloc: Global,
@@ -72,7 +62,7 @@ pub fn load_row(
     requires { Within rect whole.now.dims }
     ensures { IfOk result (λ l. l ≡ load_row whole.now.elements whole.now.dims rect cell line) }
 {
-    let args = load_arguments(alloc, whole, rect)?;
+    let child = split(alloc, whole, rect)?;
     let accesses = Few::of(
         alloc,
         [Access {
@@ -80,7 +70,7 @@ pub fn load_row(
             cell,
         }],
     )?;
-    Ok(own_task(LOAD, args, accesses, line))
+    Ok(own_task(LOAD, child.into_elements(), accesses, line))
 }
 
 /// The arguments of the load of a child of a root of so many columns.
