@@ -1,11 +1,9 @@
 -- The tasks of the runtime's own codelets, one child after another.
-use Rattle.std.proofs.Common.{◌≡◌, ℕ, ◌+◌, ◌*◌, ◌/◌, ◌%◌, ◌<◌, inl, inr, ℤ, pos, List, [], ◌∷◌, ◌++◌, map, length, get_or, sym, ap, ◌∙◌, arith}
+use Rattle.std.proofs.Common.{◌≡◌, ℕ, ◌+◌, ◌*◌, ◌/◌, ◌%◌, ◌<◌, inl, inr, ℤ, pos, List, [], ◌∷◌, ◌++◌, map, length, get_or, sym, ap, ◌∙◌, arith, length-append, append_assoc, refl, subst}
 use Rattle.std.specs.List.{range_with_len}
 use Rattle.std.specs.Prelude.{zip}
-use Rattle.std.proofs.Common.{length-append, append_assoc, refl, subst}
 use Rattle.std.proofs.Math.Nat.{mul_comm}
-use Rattle.std.proofs.lemmas.List.{map-append, map-id, length-map}
-use Rattle.std.proofs.lemmas.List.{same_lists}
+use Rattle.std.proofs.lemmas.List.{map-append, map-id, length-map, same_lists}
 use Rattle.std.proofs.lemmas.List.FromFn.{length-map-range_with_len, get_or-map-range_with_len}
 use Rattle.sj_base.specs.declared.ids.Cell.{Cell}
 use Rattle.std.proofs.lemmas.Nat.{div-add-mod', mul-le}
@@ -23,13 +21,14 @@ use Rattle.sj_plan.specs.Window.{window}
 use Rattle.sj_plan.proofs.Tiling.{part_first-all}
 use Rattle.sj_meaning.specs.Table.{undivided}
 use Rattle.sj_lower.specs.Rows.{load_row}
-use Rattle.sj_phases.specs.Rows.{an_access, own_task}
+use Rattle.sj_base.specs.Mode.{access}
+use Rattle.sj_phases.specs.Rows.{own_task}
 use Rattle.sj_plan.specs.declared.parts.Parts.{Parts}
 use Rattle.sj_plan.specs.declared.rect.Rect.{Rect}
 use Rattle.sj_plan.specs.Parts.{Fits, places}
 use Rattle.sj_plan.specs.Rect.{child, children_of}
 use Rattle.sj_plan.proofs.Lists.{pushed_more}
-use Rattle.sj_lower.specs.Cells.{children_count}
+use Rattle.sj_lower.specs.Cells.{children_count, cells_from}
 use Rattle.sj_base.specs.declared.program.Delivery.{Delivery}
 use Rattle.sj_phases.specs.declared.expander.Expander.{Expander}
 use Rattle.sj_phases.specs.Does.{Does}
@@ -39,7 +38,6 @@ use Rattle.sj_lower.specs.declared.rows.Placed.{Placed}
 use Rattle.sj_lower.specs.Adds.{cells_after}
 use Rattle.sj_lower.specs.Follows.{cells_by}
 use Rattle.sj_lower.specs.Step.{a_delivery}
-use Rattle.sj_lower.specs.Cells.{cells_from}
 use Rattle.sj_lower.proofs.Places.{place_at, length-places, number-place_at, places-by_number}
 
 -- what f gives of the first n children, by their numbers
@@ -162,14 +160,14 @@ window-whole d xs long =
     there i c j = omega arith
 
 -- the load of a root that is one child has all elements
-pub one-load : (xs : List ℤ) (d : Dims) (p : Parts) (first : ℕ) (line : Line) → Fits p d → p.r * p.c ≡ 1 → length xs ≡ area d → let c : Cell = record { 0 = first } in map (λ place. load_row xs d (child d p place) (cells_from first p place) line) (places p) ≡ own_task Load xs (an_access W c ∷ []) line ∷ []
+pub one-load : (xs : List ℤ) (d : Dims) (p : Parts) (first : ℕ) (line : Line) → Fits p d → p.r * p.c ≡ 1 → length xs ≡ area d → let c : Cell = record { 0 = first } in map (λ place. load_row xs d (child d p place) (cells_from first p place) line) (places p) ≡ own_task Load xs (access W c ∷ []) line ∷ []
 one-load xs d p first line fits one long =
     let mk : ℕ → Cell = λ n. record { 0 = n } in
     let f : Parts → ℕ × ℕ → Lowered = λ p place. load_row xs d (child d p place) (cells_from first p place) line in
     listed (f p) p ∙ ap (first_children (f p) p) one ∙ ap (λ (q : Parts). f q (place_at q 0) ∷ []) (one_child p d fits one)
     ∙ ap (λ (r : Rect). load_row xs d r (mk (first + 0)) line ∷ []) (child-whole d)
-    ∙ ap (λ ys. own_task Load ys (an_access W (mk (first + 0)) ∷ []) line ∷ []) (window-whole d xs long)
-    ∙ ap (λ n. own_task Load xs (an_access W (mk n) ∷ []) line ∷ []) (none_more first)
+    ∙ ap (λ ys. own_task Load ys (access W (mk (first + 0)) ∷ []) line ∷ []) (window-whole d xs long)
+    ∙ ap (λ n. own_task Load xs (access W (mk n) ∷ []) line ∷ []) (none_more first)
 
 -- the cells of a plan's children stand one after another
 pub cells-listed : (x : Placed) → cells_after x.first (children_count x.parts) ≡ cells_by x

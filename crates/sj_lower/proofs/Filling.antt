@@ -20,7 +20,8 @@ use Rattle.sj_plan.specs.Parts.{IsPlace, places}
 use Rattle.sj_plan.specs.Paste.{same_child_place}
 use Rattle.sj_plan.specs.Window.{window}
 use Rattle.sj_plan.proofs.Lists.{each-places, any-places, any-map, any-flat_map}
-use Rattle.sj_phases.specs.Rows.{an_access, own_task}
+use Rattle.sj_base.specs.Mode.{access}
+use Rattle.sj_phases.specs.Rows.{own_task}
 use Rattle.sj_lower.specs.Rows.{load_row, fill_row, deliver_row}
 use Rattle.sj_lower.proofs.Contents.{held-same, held-other, same_cell-is, same_cell-itself}
 use Rattle.sj_lower.proofs.Folding.{after_row, after_rows, one_gives, IsBlock, IsBeside, IsAlone, blocks-others, blocks-fill}
@@ -81,5 +82,5 @@ pub after_delivers : (p : Program) (k : Contents) (cell : ℕ × ℕ → Cell) (
 after_delivers p k cell line [] = refl
 after_delivers p k cell line (q ∷ qs) = after_delivers p k cell line qs
 
-pub gives_own : (k : Kernel) (args : List ℤ) (c : Cell) (line : Line) → gives_value (own_task k args (an_access W c ∷ []) line) c ≡ true
+pub gives_own : (k : Kernel) (args : List ℤ) (c : Cell) (line : Line) → gives_value (own_task k args (access W c ∷ []) line) c ≡ true
 gives_own k args c line = ap (λ b. b || false) (same_cell-itself c)

@@ -5,8 +5,7 @@ use Rattle.sj_base.specs.declared.program.Lowered.{Lowered}
 use Rattle.sj_base.specs.declared.program.Program.{Program}
 use Rattle.sj_codelet.specs.declared.kernel.Kernel.{Kernel}
 use Rattle.sj_base.specs.declared.ids.Line.{Line}
-use Rattle.sj_meaning.specs.Act.{Act, Statement}
-use Rattle.sj_meaning.specs.Act.{Register as Registers, Plan as Plans, Task as Tasks}
+use Rattle.sj_meaning.specs.Act.{Act, Statement, Register as Registers, Plan as Plans, Task as Tasks}
 use Rattle.sj_meaning.specs.State.{RootState}
 use Rattle.sj_meaning.specs.Numbers.{apply_at}
 use Rattle.sj_phases.specs.Plain.{Opens, plain_rows, open_at}

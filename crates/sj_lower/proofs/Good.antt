@@ -20,7 +20,7 @@ use Rattle.sj_base.specs.declared.mode.Access.{Access}
 use Rattle.sj_base.specs.declared.program.Lowered.{Lowered}
 use Rattle.sj_base.specs.declared.program.Program.{Program}
 use Rattle.sj_base.specs.Array.{array, area, element}
-use Rattle.sj_base.specs.Mode.{is_read_only, is_redux, is_scratch, reads_value}
+use Rattle.sj_base.specs.Mode.{is_read_only, is_redux, is_scratch, reads_value, access}
 use Rattle.sj_base.proofs.Lists.{map-agree}
 use Rattle.sj_base.proofs.Numbers.{length_more, none_more}
 use Rattle.sj_base.proofs.Tables.{length-table}
@@ -47,7 +47,7 @@ use Rattle.sj_meaning.specs.State.{RootState}
 use Rattle.sj_meaning.specs.Numbers.{root_at}
 use Rattle.sj_meaning.specs.Sound.{needs_value}
 use Rattle.sj_phases.specs.Plain.{direct_mode, direct_access, direct}
-use Rattle.sj_phases.specs.Rows.{an_access, own_task, init_row}
+use Rattle.sj_phases.specs.Rows.{own_task, init_row}
 use Rattle.sj_phases.proofs.Lists.{all-from}
 use Rattle.sj_lower.specs.Laid.{Laid, cell_of}
 use Rattle.sj_lower.specs.Rows.{fill_arguments, load_row, fill_row, load_rows, paste_arguments, paste_row, deliver_row}
@@ -127,13 +127,13 @@ ReadOnly a b = same_cell a.cell b.cell ≡ true → (a.mode ≡ R) × (b.mode �
 
 -- a task of one operand
 good_one : (p : Program) (n : ℕ) (k : Kernel) (args : List ℤ) (m : Mode) (c : Cell) (line : Line) → c.0 < length p.cells → fits k args (dims_of p c ∷ []) ≡ true → m ∷ [] ≡ own_modes k → (reads_value m ≡ true → HasValueBefore p (task_at n) c) → (k ≡ Deliver → IsPlain p c)
-    → IsGood p n (own_task k args (an_access m c ∷ []) line)
+    → IsGood p n (own_task k args (access m c ∷ []) line)
 good_one p n k args m c line inside fit own given plain = record {
-  cells = All-from_recursion (λ (a : Access). a.cell.0 < length p.cells) (an_access m c ∷ []) (inside, tt);
+  cells = All-from_recursion (λ (a : Access). a.cell.0 < length p.cells) (access m c ∷ []) (inside, tt);
   fits = record { kernel = k; codelet = kernel_of-codelet_of k; operands = fit; modes = MayHaveModes.Own own };
-  unaliased = AllPairs-filter ReadOnly (λ (a : Access). not (is_scratch a.mode)) (an_access m c ∷ []) (pairs-from_ordered ReadOnly (an_access m c ∷ []) (tt, tt));
-  values = All-from_recursion (λ (a : Access). reads_value a.mode ≡ true → HasValueBefore p (task_at n) a.cell) (an_access m c ∷ []) (given, tt);
-  plain = λ e. All-from_recursion (λ (a : Access). IsPlain p a.cell) (an_access m c ∷ []) (plain (same_Some k Deliver (sym (kernel_of-codelet_of k) ∙ e)), tt);
+  unaliased = AllPairs-filter ReadOnly (λ (a : Access). not (is_scratch a.mode)) (access m c ∷ []) (pairs-from_ordered ReadOnly (access m c ∷ []) (tt, tt));
+  values = All-from_recursion (λ (a : Access). reads_value a.mode ≡ true → HasValueBefore p (task_at n) a.cell) (access m c ∷ []) (given, tt);
+  plain = λ e. All-from_recursion (λ (a : Access). IsPlain p a.cell) (access m c ∷ []) (plain (same_Some k Deliver (sym (kernel_of-codelet_of k) ∙ e)), tt);
 }
 
 pub good_load : (p : Program) (n : ℕ) (xs : List ℤ) (d : Dims) (r : Rect) (c : Cell) (line : Line) → c.0 < length p.cells → dims_of p c ≡ rect_dims r → IsGood p n (load_row xs d r c line)
@@ -183,9 +183,9 @@ pub record CanPaste (p : Program) (n : ℕ) (d : Dims) (s t : Parts) (old new : 
 
 -- a paste in this mode, where what it reads has a value
 good_as : (p : Program) (n m : ℕ) (d : Dims) (s t : Parts) (old new : ℕ × ℕ → Cell) (line : Line) (x : Paste) (mode : Mode) → MayHaveModes PasteKernel (R ∷ mode ∷ []) → CanPaste p n d s t old new → n ≤ m → IsPasteBetween d s t x → (reads_value mode ≡ true → HasValueBefore p (task_at m) (new x.to))
-    → IsGood p m (own_task PasteKernel (paste_arguments x) (an_access R (old x.from) ∷ an_access mode (new x.to) ∷ []) line)
+    → IsGood p m (own_task PasteKernel (paste_arguments x) (access R (old x.from) ∷ access mode (new x.to) ∷ []) line)
 good_as p n m d s t old new line x mode modes can h b had =
-    let as' : List Access = an_access R (old x.from) ∷ an_access mode (new x.to) ∷ [] in
+    let as' : List Access = access R (old x.from) ∷ access mode (new x.to) ∷ [] in
     let fit = paste_fits d s t x (dims_of p (old x.from)) (dims_of p (new x.to)) b (can.from_dims x.from b.from) (can.to_dims x.to b.to) in
     record {
       cells = All-from_recursion (λ (a : Access). a.cell.0 < length p.cells) as' (can.from_inside x.from b.from, (can.to_inside x.to b.to, tt));
@@ -198,7 +198,7 @@ good_as p n m d s t old new line x mode modes can h b had =
 -- a paste to a child that has a value, unless this is the first one to it
 good_paste : (p : Program) (n m : ℕ) (d : Dims) (s t : Parts) (old new : ℕ × ℕ → Cell) (line : Line) (x : Paste) → CanPaste p n d s t old new → n ≤ m → IsPasteBetween d s t x → (is_first x ≡ false → HasValueBefore p (task_at m) (new x.to)) → IsGood p m (paste_row old new line x)
 good_paste p n m d s t old new line x can h b had =
-    cond_both (is_first x) W RW (λ (mode : Mode). IsGood p m (own_task PasteKernel (paste_arguments x) (an_access R (old x.from) ∷ an_access mode (new x.to) ∷ []) line))
+    cond_both (is_first x) W RW (λ (mode : Mode). IsGood p m (own_task PasteKernel (paste_arguments x) (access R (old x.from) ∷ access mode (new x.to) ∷ []) line))
     (λ first. good_as p n m d s t old new line x W (MayHaveModes.FirstPaste refl refl) can h b (λ reads. absurd (false≢true reads)))
     (λ further. good_as p n m d s t old new line x RW (MayHaveModes.Own refl) can h b (λ reads. had further))
 

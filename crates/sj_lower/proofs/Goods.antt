@@ -18,8 +18,7 @@ use Rattle.sj_plan.specs.Paste.{pastes_of}
 use Rattle.sj_plan.specs.Rect.{child}
 use Rattle.sj_plan.proofs.Lists.{each-map, each-places}
 use Rattle.sj_meaning.specs.declared.job.Init.{Init}
-use Rattle.sj_meaning.specs.Act.{Act}
-use Rattle.sj_meaning.specs.Act.{Register as Registers, Plan as Plans, Redux as Reduces, Task as Tasks, Print as Prints, Invalidate as Invalidates, Unregister as Unregisters}
+use Rattle.sj_meaning.specs.Act.{Act, Register as Registers, Plan as Plans, Redux as Reduces, Task as Tasks, Print as Prints, Invalidate as Invalidates, Unregister as Unregisters}
 use Rattle.sj_meaning.specs.Statement.{Operand, TaskLine}
 use Rattle.sj_meaning.specs.State.{RootState, is_valued, is_valued_child}
 use Rattle.sj_meaning.specs.Numbers.{root_at}

@@ -22,8 +22,7 @@ use Rattle.sj_plan.specs.Parts.{IsPlace, places}
 use Rattle.sj_plan.specs.Rect.{child, place_of}
 use Rattle.sj_plan.specs.Window.{window}
 use Rattle.sj_plan.proofs.Lists.{each-places}
-use Rattle.sj_meaning.specs.Act.{Act, Statement}
-use Rattle.sj_meaning.specs.Act.{Register as Registers, Plan as Plans, Task as Tasks, Print as Prints}
+use Rattle.sj_meaning.specs.Act.{Act, Statement, Register as Registers, Plan as Plans, Task as Tasks, Print as Prints}
 use Rattle.sj_meaning.specs.State.{RootState, is_valued}
 use Rattle.sj_meaning.specs.Meaning.{root_array}
 use Rattle.sj_meaning.specs.Table.{a_root}

@@ -18,8 +18,7 @@ use Rattle.sj_plan.specs.declared.parts.Parts.{Parts}
 use Rattle.sj_plan.specs.Paste.{pastes_of}
 use Rattle.sj_plan.proofs.Lists.{each-map, each-of}
 use Rattle.sj_meaning.specs.Statement.{Operand, TaskLine}
-use Rattle.sj_meaning.specs.Act.{Act, Statement}
-use Rattle.sj_meaning.specs.Act.{Register as Registers, Plan as Plans, Redux as Reduces, Task as Tasks, Print as Prints, Invalidate as Invalidates, Unregister as Unregisters}
+use Rattle.sj_meaning.specs.Act.{Act, Statement, Register as Registers, Plan as Plans, Redux as Reduces, Task as Tasks, Print as Prints, Invalidate as Invalidates, Unregister as Unregisters}
 use Rattle.sj_meaning.specs.State.{RootState, is_valued}
 use Rattle.sj_meaning.specs.Numbers.{root_at, apply_at}
 use Rattle.sj_phases.specs.declared.phase.Opening.{Opening}

@@ -11,8 +11,7 @@ use Rattle.sj_base.specs.Array.{Array, area}
 use Rattle.sj_codelet.specs.declared.kernel.Kernel.{Kernel}
 use Rattle.sj_codelet.specs.Kernel.{out}
 use Rattle.sj_meaning.specs.Statement.{Operand}
-use Rattle.sj_meaning.specs.Act.{Act, Statement}
-use Rattle.sj_meaning.specs.Act.{Register as Registers, Plan as Plans, Redux as Reduces, Task as Tasks, Print as Prints, Invalidate as Invalidates, Unregister as Unregisters}
+use Rattle.sj_meaning.specs.Act.{Act, Statement, Register as Registers, Plan as Plans, Redux as Reduces, Task as Tasks, Print as Prints, Invalidate as Invalidates, Unregister as Unregisters}
 use Rattle.sj_meaning.specs.State.{RootState, JobState, start}
 use Rattle.sj_meaning.specs.Meaning.{apply, with_parts, with_reduction, with_elements, with_child, no_values, registered_root, written_of}
 use Rattle.sj_meaning.specs.Numbers.{name_at, act_by, statement_by, no_root, root_at, change_at, put_all_at, operand_array_at, apply_at, prints_at, printed_at}

@@ -21,16 +21,14 @@ use Rattle.sj_core.specs.Program.{same_cell}
 use Rattle.sj_core.proofs.Readiness.{Contains-map}
 use Rattle.sj_plan.specs.declared.parts.Parts.{Parts}
 use Rattle.sj_plan.specs.Parts.{IsPlace, places}
-use Rattle.sj_plan.specs.Paste.{same_child_place}
-use Rattle.sj_meaning.specs.Act.{Act}
-use Rattle.sj_meaning.specs.Act.{Register as Registers, Plan as Plans, Redux as Reduces, Task as Tasks, Print as Prints, Invalidate as Invalidates, Unregister as Unregisters}
+use Rattle.sj_plan.specs.Paste.{same_child_place, pastes_of}
+use Rattle.sj_meaning.specs.Act.{Act, Register as Registers, Plan as Plans, Redux as Reduces, Task as Tasks, Print as Prints, Invalidate as Invalidates, Unregister as Unregisters}
 use Rattle.sj_meaning.specs.Statement.{Operand, TaskLine}
 use Rattle.sj_meaning.specs.State.{RootState, is_child, is_valued, is_valued_child}
 use Rattle.sj_meaning.specs.Meaning.{with_child, with_parts, with_reduction, with_elements, no_values, registered_root, written_of}
 use Rattle.sj_meaning.specs.Numbers.{no_root, root_at, change_at, put_all_at, operand_array_at, run_task_at, apply_at}
 use Rattle.sj_phases.specs.Block.{Block}
 use Rattle.sj_lower.specs.Rows.{paste_row}
-use Rattle.sj_plan.specs.Paste.{pastes_of}
 use Rattle.sj_phases.specs.Plain.{Opens, with_shut, with_opening, shut_by, open_at}
 use Rattle.sj_phases.proofs.Expanded.{shuts}
 use Rattle.sj_phases.proofs.Logging.{by_which, phase-own, phase-other}

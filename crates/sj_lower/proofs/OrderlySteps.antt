@@ -14,8 +14,7 @@ use Rattle.sj_core.proofs.Readiness.{Contains-map}
 use Rattle.sj_plan.specs.declared.parts.Parts.{Parts}
 use Rattle.sj_plan.specs.Parts.{IsPlace, places}
 use Rattle.sj_plan.specs.Paste.{pastes_of}
-use Rattle.sj_meaning.specs.Act.{Act}
-use Rattle.sj_meaning.specs.Act.{Register as Registers, Plan as Plans, Redux as Reduces, Task as Tasks, Print as Prints, Invalidate as Invalidates, Unregister as Unregisters}
+use Rattle.sj_meaning.specs.Act.{Act, Register as Registers, Plan as Plans, Redux as Reduces, Task as Tasks, Print as Prints, Invalidate as Invalidates, Unregister as Unregisters}
 use Rattle.sj_meaning.specs.Statement.{Operand, TaskLine, Register}
 use Rattle.sj_meaning.specs.State.{RootState, is_valued}
 use Rattle.sj_meaning.specs.Numbers.{root_at}

@@ -27,7 +27,8 @@ use Rattle.sj_plan.proofs.Lists.{each-map, each-filter, each-places}
 use Rattle.sj_plan.proofs.Repartitioning.{pastes_to-copies, pastes_to-make}
 use Rattle.sj_plan.proofs.Splitting.{part_len-positive}
 use Rattle.sj_plan.proofs.Tiling.{children_of-tiling, children_of-order}
-use Rattle.sj_phases.specs.Rows.{an_access, own_task}
+use Rattle.sj_base.specs.Mode.{access}
+use Rattle.sj_phases.specs.Rows.{own_task}
 use Rattle.sj_lower.specs.Rows.{paste_arguments, paste_row}
 use Rattle.sj_lower.proofs.Contents.{held-same, held-other, same_cell-itself}
 use Rattle.sj_lower.proofs.Elements.{child-within}
@@ -38,7 +39,7 @@ use Rattle.sj_lower.proofs.Folding.{after_row, after_rows, one_gives, Fills}
 
 -- a paste puts what a copy makes into the new child's cell
 pasted_by : (p : Program) (k : Contents) (old new : ℕ × ℕ → Cell) (line : Line) (x : Paste) (b : Bool)
-    → after_row p k (own_task PasteKernel (paste_arguments x) (an_access R (old x.from) ∷ an_access (cond b W RW) (new x.to) ∷ []) line)
+    → after_row p k (own_task PasteKernel (paste_arguments x) (access R (old x.from) ∷ access (cond b W RW) (new x.to) ∷ []) line)
     ≡ (new x.to, pasted (held_in p k (old x.from)) x.at_from (record { rows = x.rows; cols = x.cols }) (cond b (zeros (dims_of p (new x.to))) (held_in p k (new x.to))) x.at_to) ∷ k
 pasted_by p k old new line x true = refl
 pasted_by p k old new line x false = refl
@@ -46,7 +47,7 @@ pasted_by p k old new line x false = refl
 pub paste-gives : (old new : ℕ × ℕ → Cell) (line : Line) (x : Paste) → gives_value (paste_row old new line x) (new x.to) ≡ true
 paste-gives old new line x =
     let own = ap (λ b. b || false) (same_cell-itself (new x.to)) in
-    cond_both (is_first x) W RW (λ m. gives_value (own_task PasteKernel (paste_arguments x) (an_access R (old x.from) ∷ an_access m (new x.to) ∷ []) line) (new x.to) ≡ true) (λ e. own) (λ e. own)
+    cond_both (is_first x) W RW (λ m. gives_value (own_task PasteKernel (paste_arguments x) (access R (old x.from) ∷ access m (new x.to) ∷ []) line) (new x.to) ≡ true) (λ e. own) (λ e. own)
 
 -- ---- the pastes to one child
 

@@ -11,8 +11,7 @@ use Rattle.sj_base.proofs.Lists.{cons_same}
 use Rattle.sj_base.proofs.Numbers.{positive_product}
 use Rattle.sj_codelet.specs.declared.kernel.Kernel.{Kernel}
 use Rattle.sj_meaning.specs.declared.job.Statement.{Statement as Kept}
-use Rattle.sj_meaning.specs.Act.{Act}
-use Rattle.sj_meaning.specs.Act.{Register as Registers, Plan as Plans, Task as Tasks, Print as Prints}
+use Rattle.sj_meaning.specs.Act.{Act, Register as Registers, Plan as Plans, Task as Tasks, Print as Prints}
 use Rattle.sj_meaning.specs.State.{RootState, is_valued}
 use Rattle.sj_meaning.specs.Numbers.{root_at, act_at, apply_at, statements_from}
 use Rattle.sj_meaning.specs.Table.{Table}

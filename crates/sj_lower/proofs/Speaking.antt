@@ -11,8 +11,7 @@ use Rattle.sj_base.proofs.Lists.{each-weaker}
 use Rattle.sj_plan.specs.Parts.{places}
 use Rattle.sj_plan.proofs.Lists.{each-filter, map-filter}
 use Rattle.sj_meaning.specs.Statement.{Operand, TaskLine}
-use Rattle.sj_meaning.specs.Act.{Act, Statement}
-use Rattle.sj_meaning.specs.Act.{Plan as Plans, Task as Tasks, Print as Prints, Invalidate as Invalidates, Unregister as Unregisters}
+use Rattle.sj_meaning.specs.Act.{Act, Statement, Plan as Plans, Task as Tasks, Print as Prints, Invalidate as Invalidates, Unregister as Unregisters}
 use Rattle.sj_meaning.specs.State.{RootState, JobState}
 use Rattle.sj_meaning.specs.Table.{AreDistinct}
 use Rattle.sj_meaning.specs.Meaning.{apply}

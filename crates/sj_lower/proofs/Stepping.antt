@@ -13,7 +13,7 @@ use Rattle.sj_base.specs.declared.tile.Dims.{Dims}
 use Rattle.sj_base.specs.declared.program.Lowered.{Lowered}
 use Rattle.sj_base.specs.declared.program.Program.{Program}
 use Rattle.sj_base.specs.Array.{Array, area}
-use Rattle.sj_base.specs.Mode.{is_redux}
+use Rattle.sj_base.specs.Mode.{is_redux, access}
 use Rattle.sj_base.proofs.Lists.{each-weaker}
 use Rattle.sj_base.proofs.Numbers.{none_more}
 use Rattle.sj_codelet.specs.declared.kernel.Kernel.{Kernel}
@@ -27,14 +27,13 @@ use Rattle.sj_plan.specs.Rect.{child}
 use Rattle.sj_meaning.specs.declared.job.Init.{Init}
 use Rattle.sj_meaning.specs.declared.job.Init.TheVariants.{Values, Fill, Nothing}
 use Rattle.sj_meaning.specs.Statement.{Operand}
-use Rattle.sj_meaning.specs.Act.{Act}
-use Rattle.sj_meaning.specs.Act.{Register as Registers, Plan as Plans, Redux as Reduces, Task as Tasks, Print as Prints, Invalidate as Invalidates, Unregister as Unregisters}
+use Rattle.sj_meaning.specs.Act.{Act, Register as Registers, Plan as Plans, Redux as Reduces, Task as Tasks, Print as Prints, Invalidate as Invalidates, Unregister as Unregisters}
 use Rattle.sj_meaning.specs.State.{RootState, is_valued}
 use Rattle.sj_meaning.specs.Meaning.{with_reduction, with_elements, with_child, no_values, written_of}
 use Rattle.sj_meaning.specs.Numbers.{no_root, root_at, change_at, apply_at, put_all_at, operand_array_at}
 use Rattle.sj_codelet.specs.Kernel.{out}
 use Rattle.sj_phases.specs.Plain.{Opens, direct_mode, direct, plain_rows, open_at}
-use Rattle.sj_phases.specs.Rows.{an_access, own_task}
+use Rattle.sj_phases.specs.Rows.{own_task}
 use Rattle.sj_lower.specs.Cells.{same_parts}
 use Rattle.sj_lower.specs.Laid.{Laid, cell_of, take, with_root, with_print}
 use Rattle.sj_lower.specs.Rows.{load_row, fill_row, paste_arguments, paste_row, deliver_row, load_rows}
@@ -66,7 +65,7 @@ direct-loads Nothing d p cell line = refl
 
 direct-paste : (old new : ℕ × ℕ → Cell) (line : Line) (x : Paste) → direct (paste_row old new line x) ≡ paste_row old new line x
 direct-paste old new line x =
-    let mk : Mode → Lowered = λ m. own_task PasteKernel (paste_arguments x) (an_access R (old x.from) ∷ an_access m (new x.to) ∷ []) line in
+    let mk : Mode → Lowered = λ m. own_task PasteKernel (paste_arguments x) (access R (old x.from) ∷ access m (new x.to) ∷ []) line in
     ap mk (cond_both (is_first x) W RW (λ m. direct_mode m ≡ m) (λ e. refl) (λ e. refl))
 
 pub direct-delivers : (cell : ℕ × ℕ → Cell) (line : Line) (ps : List (ℕ × ℕ)) → each_of direct (each_of (λ c. deliver_row c line) (each_of cell ps)) ≡ each_of (λ place. deliver_row (cell place) line) ps

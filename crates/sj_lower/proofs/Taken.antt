@@ -19,8 +19,7 @@ use Rattle.sj_plan.specs.Rect.{child, rect_dims}
 use Rattle.sj_plan.proofs.Lists.{each-map, each-places}
 use Rattle.sj_plan.proofs.Splitting.{part_end}
 use Rattle.sj_meaning.specs.Table.{a_root}
-use Rattle.sj_lower.specs.Cells.{number}
-use Rattle.sj_lower.specs.Cells.{same_parts, child_cell}
+use Rattle.sj_lower.specs.Cells.{number, same_parts, child_cell}
 use Rattle.sj_lower.specs.Laid.{Laid, Handle, handle_of, handle_at, cell_of, taking, take, with_root, no_cells}
 use Rattle.sj_lower.specs.Whole.{IsTaken, AreLaid}
 pub use Rattle.std.proofs.lemmas.Option.{same_Some as some_is, none-some as none_isn't}

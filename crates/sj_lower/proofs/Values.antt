@@ -1,8 +1,7 @@
 -- Which values an act finds, by names and by numbers.
 use Rattle.std.proofs.Common.{◌≡◌, ℕ, Bool, false, ◌&&◌, List, [], ◌∷◌, map, refl}
 use Rattle.sj_base.specs.Mode.{is_redux}
-use Rattle.sj_meaning.specs.Act.{Act, Statement}
-use Rattle.sj_meaning.specs.Act.{Plan as Plans, Task as Tasks}
+use Rattle.sj_meaning.specs.Act.{Act, Statement, Plan as Plans, Task as Tasks}
 use Rattle.sj_meaning.specs.State.{RootState, JobState, is_valued, is_valued_child}
 use Rattle.sj_meaning.specs.Meaning.{apply}
 use Rattle.sj_meaning.specs.Numbers.{name_at, act_by, statement_by, apply_at}

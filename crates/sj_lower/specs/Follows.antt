@@ -5,7 +5,7 @@ use Rattle.indexmap.specs.IndexMap.{get}
 use Rattle.sj_base.specs.declared.ids.Cell.{Cell}
 use Rattle.sj_base.specs.declared.ids.Line.{Line}
 use Rattle.sj_base.specs.declared.mode.Access.{Access}
-use Rattle.sj_base.specs.Mode.{is_data, is_redux}
+use Rattle.sj_base.specs.Mode.{is_data, is_redux, access}
 use Rattle.sj_plan.specs.declared.parts.Parts.{Parts}
 use Rattle.sj_plan.specs.Parts.{IsPlace, places}
 use Rattle.sj_meaning.specs.declared.job.Operand.{Operand}
@@ -14,7 +14,6 @@ use Rattle.sj_meaning.specs.State.{RootState}
 use Rattle.sj_meaning.specs.Numbers.{root_at}
 use Rattle.sj_meaning.specs.Table.{undivided}
 use Rattle.sj_phases.specs.Expand.{most}
-use Rattle.sj_phases.specs.Rows.{an_access}
 use Rattle.sj_lower.specs.declared.layout.Taken.{Taken}
 use Rattle.sj_lower.specs.declared.layout.Active.{Active}
 use Rattle.sj_lower.specs.declared.layout.Layout.{Layout}
@@ -79,7 +78,7 @@ abbrev pub cell_by : List Active → Operand → Cell
 cell_by actives o = let x = (active_at actives o.root.0).placed in cells_from x.first x.parts o.place
 
 abbrev pub access_by : List Active → Operand → Access
-access_by actives o = an_access o.mode (cell_by actives o)
+access_by actives o = access o.mode (cell_by actives o)
 
 -- the cells of a plan's children, row by row
 abbrev pub cells_by : Placed → List Cell

@@ -24,11 +24,12 @@ use Rattle.sj_plan.specs.Paste.{is_first}
 use Rattle.sj_meaning.specs.declared.job.Init.{Init}
 use Rattle.sj_meaning.specs.declared.job.Init.TheVariants.{Values, Fill, Nothing}
 use Rattle.sj_plan.specs.Window.{window}
-use Rattle.sj_phases.specs.Rows.{an_access, own_task}
+use Rattle.sj_base.specs.Mode.{access}
+use Rattle.sj_phases.specs.Rows.{own_task}
 
 -- the child of a root with these elements gets its own
 abbrev pub load_row : List ℤ → Dims → Rect → Cell → Line → Lowered
-load_row xs d r c line = own_task Load (window (array d xs) r).elements (an_access W c ∷ []) line
+load_row xs d r c line = own_task Load (window (array d xs) r).elements (access W c ∷ []) line
 
 -- the arguments of `loadfill` for the child of a root of so many columns
 abbrev pub fill_arguments : ℤ → ℤ → ℕ → Rect → List ℤ
@@ -36,7 +37,7 @@ fill_arguments a b cols r = a ∷ b ∷ pos r.row ∷ pos r.col ∷ pos cols ∷
 
 -- the same of a root whose element at position i is a + b i
 abbrev pub fill_row : ℤ → ℤ → Dims → Rect → Cell → Line → Lowered
-fill_row a b d r c line = own_task LoadFill (fill_arguments a b d.cols r) (an_access W c ∷ []) line
+fill_row a b d r c line = own_task LoadFill (fill_arguments a b d.cols r) (access W c ∷ []) line
 
 abbrev pub paste_arguments : Paste → List ℤ
 paste_arguments x = pos x.at_from.0 ∷ pos x.at_from.1 ∷ pos x.at_to.0 ∷ pos x.at_to.1 ∷ pos x.rows ∷ pos x.cols ∷ []
@@ -48,11 +49,11 @@ paste_mode x = if is_first x then W else RW
 -- a paste of an old child's cell into a new child's
 abbrev pub paste_row : (ℕ × ℕ → Cell) → (ℕ × ℕ → Cell) → Line → Paste → Lowered
 paste_row old new line x =
-    own_task PasteKernel (paste_arguments x) (an_access R (old x.from) ∷ an_access (paste_mode x) (new x.to) ∷ []) line
+    own_task PasteKernel (paste_arguments x) (access R (old x.from) ∷ access (paste_mode x) (new x.to) ∷ []) line
 
 -- a cell's array is handed over
 abbrev pub deliver_row : Cell → Line → Lowered
-deliver_row c line = own_task Deliver [] (an_access R c ∷ []) line
+deliver_row c line = own_task Deliver [] (access R c ∷ []) line
 
 -- each child of a root that has values is loaded, row by row
 abbrev pub load_rows : Init → Dims → Parts → (ℕ × ℕ → Cell) → Line → List Lowered

@@ -5,7 +5,7 @@ use Rattle.std.specs.List.{range_with_len, flat_map, last_or}
 use Rattle.sj_base.specs.declared.ids.Cell.{Cell}
 use Rattle.sj_base.specs.declared.ids.Line.{Line}
 use Rattle.sj_base.specs.declared.mode.Access.{Access}
-use Rattle.sj_base.specs.Mode.{is_data, is_redux}
+use Rattle.sj_base.specs.Mode.{is_data, is_redux, access}
 use Rattle.sj_base.specs.declared.tile.Dims.{Dims}
 use Rattle.sj_base.specs.declared.program.Lowered.{Lowered}
 use Rattle.sj_base.specs.declared.program.Delivery.{Delivery}
@@ -15,19 +15,16 @@ use Rattle.sj_plan.specs.Parts.{places}
 use Rattle.sj_plan.specs.Paste.{pastes_of}
 use Rattle.sj_plan.specs.Rect.{child, place_of}
 use Rattle.sj_meaning.specs.Statement.{Register, Operand, TaskLine}
-use Rattle.sj_meaning.specs.Act.{Act, Statement}
-use Rattle.sj_meaning.specs.Act.{Register as Registers, Plan as Plans, Redux as Reduces, Task as Tasks, Print as Prints, Invalidate as Invalidates, Unregister as Unregisters}
+use Rattle.sj_meaning.specs.Act.{Act, Statement, Register as Registers, Plan as Plans, Redux as Reduces, Task as Tasks, Print as Prints, Invalidate as Invalidates, Unregister as Unregisters}
 use Rattle.sj_meaning.specs.State.{RootState, JobState, start, root_of, is_valued, is_valued_child}
 use Rattle.sj_meaning.specs.Meaning.{apply}
 use Rattle.sj_meaning.specs.Numbers.{number_in, no_root, root_at, apply_at}
 use Rattle.sj_meaning.specs.Table.{a_root}
 use Rattle.sj_phases.specs.declared.phase.Opening.{Opening}
 use Rattle.sj_phases.specs.Block.{Block}
-use Rattle.sj_phases.specs.Rows.{an_access}
 use Rattle.sj_phases.specs.Expand.{nothing, expand, last_block, first_above, program_of, most}
 use Rattle.sj_lower.specs.Cells.{same_parts}
-use Rattle.sj_lower.specs.Rows.{load_rows}
-use Rattle.sj_lower.specs.Rows.{paste_row, deliver_row}
+use Rattle.sj_lower.specs.Rows.{load_rows, paste_row, deliver_row}
 use Rattle.sj_lower.specs.Laid.{Laid, no_cells, cell_of, take, with_root, with_print, first_copy, with_copies}
 
 -- ---- how a statement speaks of a root
@@ -75,7 +72,7 @@ contributed t = filter (λ o. is_redux o.mode) t.operands
 
 -- an operand as an access to its child's cell
 abbrev pub access_of : {N : Type 0} → Lookup N → Laid → Operand N → Access
-access_of L C o = an_access o.mode (operand_cell L C o)
+access_of L C o = access o.mode (operand_cell L C o)
 
 -- a contribution to an operand opens the phase of its child's cell, where its root has a reduction
 abbrev pub opening_of : {N : Type 0} → Lookup N → Laid → Operand N → List Opening

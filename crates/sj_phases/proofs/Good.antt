@@ -20,7 +20,7 @@ use Rattle.sj_base.specs.declared.mode.Reduction.TheVariants.{Plus, Least}
 use Rattle.sj_base.specs.declared.program.CellInfo.{CellInfo}
 use Rattle.sj_base.specs.declared.program.Lowered.{Lowered}
 use Rattle.sj_base.specs.declared.program.Program.{Program}
-use Rattle.sj_base.specs.Mode.{is_scratch, is_redux, is_written, reads_value}
+use Rattle.sj_base.specs.Mode.{is_scratch, is_redux, is_written, reads_value, access}
 use Rattle.sj_codelet.specs.declared.kernel.Kernel.{Kernel}
 use Rattle.sj_codelet.specs.declared.kernel.Kernel.TheVariants.{Deliver}
 use Rattle.sj_codelet.specs.Kernel.{kernel_of, fits, init_of, combine_of, contributes_of}
@@ -31,7 +31,7 @@ use Rattle.sj_core.proofs.Dependencies.{map-from}
 use Rattle.sj_core.proofs.Folding.{map-same}
 use Rattle.sj_core.proofs.Readiness.{Contains-map, list_any-some}
 use Rattle.sj_phases.specs.declared.phase.Opening.{Opening}
-use Rattle.sj_phases.specs.Rows.{an_access, init_row, combine_row}
+use Rattle.sj_phases.specs.Rows.{init_row, combine_row}
 use Rattle.sj_phases.specs.Expand.{first_units}
 use Rattle.sj_phases.specs.Plain.{Opens, direct_mode, direct_access, direct}
 use Rattle.sj_phases.specs.Orderly.{Contributes}
@@ -93,33 +93,33 @@ ReadOnly a b = same_cell a.cell b.cell ≡ true → (a.mode ≡ R) × (b.mode �
 pub good_init : (p : Program) (n : ℕ) (by : Reduction) (line : Line) (c : Cell) → c.0 < length p.cells → IsGood p n (init_row by line c)
 good_init p n by line c inside = by_reduction by
   where
-    cells_in : All (λ (a : Access). a.cell.0 < length p.cells) (an_access W c ∷ [])
-    cells_in = All-from_recursion (λ (a : Access). a.cell.0 < length p.cells) (an_access W c ∷ []) (inside, tt)
+    cells_in : All (λ (a : Access). a.cell.0 < length p.cells) (access W c ∷ [])
+    cells_in = All-from_recursion (λ (a : Access). a.cell.0 < length p.cells) (access W c ∷ []) (inside, tt)
 
-    copies_in : All (HasItsCopies p n) (an_access W c ∷ [])
-    copies_in = All-from_recursion (HasItsCopies p n) (an_access W c ∷ []) ((λ h. absurd (false≢true h)), tt)
+    copies_in : All (HasItsCopies p n) (access W c ∷ [])
+    copies_in = All-from_recursion (HasItsCopies p n) (access W c ∷ []) ((λ h. absurd (false≢true h)), tt)
 
-    values_in : All (λ (a : Access). reads_value a.mode ≡ true → HasValueBefore p (task n) a.cell) (an_access W c ∷ [])
-    values_in = All-from_recursion (λ (a : Access). reads_value a.mode ≡ true → HasValueBefore p (task n) a.cell) (an_access W c ∷ []) ((λ h. absurd (false≢true h)), tt)
+    values_in : All (λ (a : Access). reads_value a.mode ≡ true → HasValueBefore p (task n) a.cell) (access W c ∷ [])
+    values_in = All-from_recursion (λ (a : Access). reads_value a.mode ≡ true → HasValueBefore p (task n) a.cell) (access W c ∷ []) ((λ h. absurd (false≢true h)), tt)
 
     by_reduction : (by : Reduction) → IsGood p n (init_row by line c)
-    by_reduction Plus = record { cells = cells_in; copies = copies_in; plain = λ e. absurd (cc); fits = record { kernel = init_of Plus; codelet = refl; operands = refl; modes = MayHaveModes.Own refl }; unaliased = alone ReadOnly (an_access W c); values = values_in }
-    by_reduction Least = record { cells = cells_in; copies = copies_in; plain = λ e. absurd (cc); fits = record { kernel = init_of Least; codelet = refl; operands = refl; modes = MayHaveModes.Own refl }; unaliased = alone ReadOnly (an_access W c); values = values_in }
+    by_reduction Plus = record { cells = cells_in; copies = copies_in; plain = λ e. absurd (cc); fits = record { kernel = init_of Plus; codelet = refl; operands = refl; modes = MayHaveModes.Own refl }; unaliased = alone ReadOnly (access W c); values = values_in }
+    by_reduction Least = record { cells = cells_in; copies = copies_in; plain = λ e. absurd (cc); fits = record { kernel = init_of Least; codelet = refl; operands = refl; modes = MayHaveModes.Own refl }; unaliased = alone ReadOnly (access W c); values = values_in }
 
 pub good_combine : (p : Program) (n : ℕ) (by : Reduction) (c : Cell) (line : Line) (q : Cell) → q.0 < length p.cells → c.0 < length p.cells → dims_of p q ≡ dims_of p c → same_cell q c ≡ false → HasValueBefore p (task n) q → HasValueBefore p (task n) c → IsGood p n (combine_row by c line q)
 good_combine p n by c line q iq ic dims apart gq gc = by_reduction by
   where
-    cells_in : All (λ (a : Access). a.cell.0 < length p.cells) (an_access R q ∷ an_access RW c ∷ [])
-    cells_in = All-from_recursion (λ (a : Access). a.cell.0 < length p.cells) (an_access R q ∷ an_access RW c ∷ []) (iq, (ic, tt))
+    cells_in : All (λ (a : Access). a.cell.0 < length p.cells) (access R q ∷ access RW c ∷ [])
+    cells_in = All-from_recursion (λ (a : Access). a.cell.0 < length p.cells) (access R q ∷ access RW c ∷ []) (iq, (ic, tt))
 
-    copies_in : All (HasItsCopies p n) (an_access R q ∷ an_access RW c ∷ [])
-    copies_in = All-from_recursion (HasItsCopies p n) (an_access R q ∷ an_access RW c ∷ []) ((λ h. absurd (false≢true h)), ((λ h. absurd (false≢true h)), tt))
+    copies_in : All (HasItsCopies p n) (access R q ∷ access RW c ∷ [])
+    copies_in = All-from_recursion (HasItsCopies p n) (access R q ∷ access RW c ∷ []) ((λ h. absurd (false≢true h)), ((λ h. absurd (false≢true h)), tt))
 
-    pair : AllPairs ReadOnly (an_access R q ∷ an_access RW c ∷ [])
-    pair = AllPairs-cons ReadOnly (an_access R q) (an_access RW c ∷ []) (All-from_recursion (ReadOnly (an_access R q)) (an_access RW c ∷ []) ((λ same. absurd (false≢true (sym apart ∙ same))), tt)) (alone ReadOnly (an_access RW c))
+    pair : AllPairs ReadOnly (access R q ∷ access RW c ∷ [])
+    pair = AllPairs-cons ReadOnly (access R q) (access RW c ∷ []) (All-from_recursion (ReadOnly (access R q)) (access RW c ∷ []) ((λ same. absurd (false≢true (sym apart ∙ same))), tt)) (alone ReadOnly (access RW c))
 
-    values_in : All (λ (a : Access). reads_value a.mode ≡ true → HasValueBefore p (task n) a.cell) (an_access R q ∷ an_access RW c ∷ [])
-    values_in = All-from_recursion (λ (a : Access). reads_value a.mode ≡ true → HasValueBefore p (task n) a.cell) (an_access R q ∷ an_access RW c ∷ []) ((λ h. gq), ((λ h. gc), tt))
+    values_in : All (λ (a : Access). reads_value a.mode ≡ true → HasValueBefore p (task n) a.cell) (access R q ∷ access RW c ∷ [])
+    values_in = All-from_recursion (λ (a : Access). reads_value a.mode ≡ true → HasValueBefore p (task n) a.cell) (access R q ∷ access RW c ∷ []) ((λ h. gq), ((λ h. gc), tt))
 
     by_reduction : (by : Reduction) → IsGood p n (combine_row by c line q)
     by_reduction Plus = record { cells = cells_in; copies = copies_in; plain = λ e. absurd (cc); fits = record { kernel = combine_of Plus; codelet = refl; operands = same-itself (dims_of p q) (dims_of p c) dims; modes = MayHaveModes.Own refl }; unaliased = pair; values = values_in }

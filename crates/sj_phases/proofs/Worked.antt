@@ -10,7 +10,8 @@ use Rattle.sj_base.specs.Ids.{cell}
 use Rattle.sj_codelet.specs.declared.kernel.Kernel.{Kernel}
 use Rattle.sj_codelet.specs.declared.kernel.Kernel.TheVariants.{Load, Sum, Add, InitPlus, InitLeast, Lowest, MinGemm, Deliver}
 use Rattle.sj_phases.specs.Block.{Block}
-use Rattle.sj_phases.specs.Rows.{an_access, own_task}
+use Rattle.sj_base.specs.Mode.{access}
+use Rattle.sj_phases.specs.Rows.{own_task}
 use Rattle.sj_phases.specs.Expand.{expand, nothing, last_block, first_above}
 use Rattle.sj_phases.specs.Plain.{plain_program, none_open, open_after}
 
@@ -21,16 +22,16 @@ abbrev task : Kernel → List Access → ℕ → Lowered
 task k accesses n = own_task k [] accesses (line n)
 
 abbrev reads : ℕ → Access
-reads n = an_access R (cell n)
+reads n = access R (cell n)
 
 abbrev writes : ℕ → Access
-writes n = an_access W (cell n)
+writes n = access W (cell n)
 
 abbrev updates : ℕ → Access
-updates n = an_access RW (cell n)
+updates n = access RW (cell n)
 
 abbrev gives : ℕ → Access
-gives n = an_access Redux (cell n)
+gives n = access Redux (cell n)
 
 abbrev delivery : ℕ → Delivery
 delivery n = record { task = record { 0 = n }; root = record { 0 = 0 }; place = (0, 0); print = 0 }

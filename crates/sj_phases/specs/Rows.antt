@@ -9,12 +9,10 @@ use Rattle.sj_base.specs.declared.mode.Access.{Access}
 use Rattle.sj_base.specs.declared.mode.Reduction.{Reduction}
 use Rattle.sj_base.specs.declared.program.Codelet.{Codelet}
 use Rattle.sj_base.specs.declared.program.Lowered.{Lowered}
+use Rattle.sj_base.specs.Mode.{access}
 use Rattle.sj_codelet.specs.declared.kernel.Kernel.{Kernel}
 use Rattle.sj_codelet.specs.Kernel.{codelet_of, init_of, combine_of}
 use Rattle.sj_phases.specs.declared.phase.OpenPhase.{OpenPhase}
-
-abbrev pub an_access : Mode → Cell → Access
-an_access mode c = record { mode = mode; cell = c }
 
 -- a task that no task line names
 abbrev pub task_by : Codelet → List ℤ → List Access → Line → Lowered
@@ -30,7 +28,7 @@ copy_at first w = record { 0 = first.0 + w }
 
 -- a cell gets the reduction's unit
 abbrev pub init_row : Reduction → Line → Cell → Lowered
-init_row by line c = own_task (init_of by) [] (an_access W c ∷ []) line
+init_row by line c = own_task (init_of by) [] (access W c ∷ []) line
 
 -- so do the partial copies of so many workers, by worker
 abbrev pub init_rows : Reduction → Cell → ℕ → Line → List Lowered
@@ -38,7 +36,7 @@ init_rows by first workers line = map (λ w. init_row by line (copy_at first w))
 
 -- a partial copy is combined into its cell
 abbrev pub combine_row : Reduction → Cell → Line → Cell → Lowered
-combine_row by c line q = own_task (combine_of by) [] (an_access R q ∷ an_access RW c ∷ []) line
+combine_row by c line q = own_task (combine_of by) [] (access R q ∷ access RW c ∷ []) line
 
 -- the partial copies of so many workers are combined into their cell, by worker, with the line of the last contribution
 abbrev pub combine_rows : OpenPhase → Cell → ℕ → List Lowered
