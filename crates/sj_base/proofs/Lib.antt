@@ -1,9 +1,11 @@
 pub mod Bools
 pub mod FirstFit
 pub mod Lists
+pub mod Modes
 pub mod Numbers
 pub mod Options
 pub mod Pasting
+pub mod Results
 pub mod SameIds
 pub mod Tables
 pub mod Texts

@@ -32,6 +32,9 @@ set-slice_get (y ∷ ys) (suc i) x e = ap (λ zs. y ∷ zs) (set-slice_get ys i 
 pub one_is : {X : Type 0} (x y : X) → Contains (x ∷ []) y → x ≡ y
 one_is x y b = search arith
 
+pub none_is : {X : Type 0} (y : X) → Contains [] y → ⊥
+none_is y (k, l, e) = omega arith
+
 pub Contains-range : (a k c : ℕ) → Contains (range_with_len a k) c → (a ≤ c) × (c < a + k)
 Contains-range a k c h =
     let long = length-range_with_len a k in
@@ -47,6 +50,10 @@ find-passes p (x ∷ xs) y e = by_test (p x) refl (find-passes p xs y) e
     by_test : (b : Bool) → p x ≡ b → (find p xs ≡ Some y → p y ≡ true) → cond b (Some x) (find p xs) ≡ Some y → p y ≡ true
     by_test true passes rest e = ap p (sym (same_Some x y e)) ∙ passes
     by_test false passes rest e = rest e
+
+pub filter-last : {X : Type 0} (f : X → Bool) (xs : List X) (x : X) → ((y : X) → Contains xs y → f y ≡ false) → f x ≡ true → filter f (xs ++ x ∷ []) ≡ x ∷ []
+filter-last f [] x none passes = ap (λ b. cond b (x ∷ []) []) passes
+filter-last f (y ∷ xs) x none passes = ap (λ b. cond b (y ∷ filter f (xs ++ x ∷ [])) (filter f (xs ++ x ∷ []))) (none y (0, omega arith, refl)) ∙ filter-last f xs x (λ z h. none z (suc h.0, omega (arith, h.1), h.2)) passes
 
 -- ---- lists of equal items
 

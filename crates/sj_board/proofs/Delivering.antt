@@ -1,24 +1,13 @@
 -- Deliver tasks: each reads one cell, and what it finds there is what it is to hand over.
-use Rattle.sj_board.proofs.Words.{[], Access, access, ap, arith, AtNode, Bool, Brought, CanHappen, CanRun, Cell, cells_of, Commuting, Contributing, Deliver, delivered_cell, Equations, false, filter, FirstPaste, FitsCodelet, fresh_cells, get_or, given, has_cell, HasAtHand, inl, inr, is_data, is_deliver, is_deliver_task, is_delivery, is_valid, IsSound, IsSoundRun, Kernel, length, List, Lowered, Machine, map, mark, MayHaveModes, Mode, no_task, Node, node_of, None, Option, Own, Program, Proper, R, refl, Run, run_arrays, Some, StandingBy, starts_as_zeros, State, state, subst, sym, Task, task_of, true, worked_on, Worker, ℕ, ◌<◌, ◌||◌, ◌∙◌, ◌∷◌, ◌≡◌}
+use Rattle.sj_board.proofs.Words.{[], Access, access, ap, arith, AtNode, Bool, Brought, CanHappen, CanRun, Cell, cells_of, Deliver, delivered_cell, Equations, false, filter, FitsCodelet, fresh_cells, given, has_cell, HasAtHand, inl, inr, is_data, is_deliver, is_deliver_task, is_delivery, is_valid, IsSound, IsSoundRun, Kernel, length, List, Lowered, Machine, map, mark, MayHaveModes, no_task, Node, node_of, None, Option, Program, Proper, R, refl, Run, run_arrays, Some, StandingBy, starts_as_zeros, State, state, subst, sym, Task, task_of, true, worked_on, Worker, ℕ, ◌<◌, ◌||◌, ◌∙◌, ◌∷◌, ◌≡◌}
 use Rattle.std.specs.Prelude.{Contains, slice_index_or}
 use Rattle.std.proofs.lemmas.{Bool.cases_lt, Bool.false≢true, List.get_or_past, List.Elements.All-get_or}
-use Rattle.sj_core.proofs.{Claimed.claimed-staffed, Folding.read-among_cells, Found.found-not_fresh, Given.delivers-given, Reading.list_all-has}
+use Rattle.sj_base.proofs.Modes.{one-read}
+use Rattle.sj_core.proofs.{Claimed.claimed-staffed, Folding.read-among_cells, Found.found-not_fresh, Given.delivers-given, Modes.deliver-modes, Reading.list_all-has}
 
 delivers : (k : Kernel) → is_deliver k ≡ true → k ≡ Deliver
 delivers Deliver e = refl
 delivers k e = absurd (false≢true e)
-
--- it has its codelet's own mode: R alone
-deliver-modes : (modes : List Mode) → MayHaveModes Deliver modes → modes ≡ R ∷ []
-deliver-modes modes (Own e) = e
-deliver-modes modes (FirstPaste paste e) = absurd (cc)
-deliver-modes modes (Commuting commutes one e) = absurd (false≢true commutes)
-deliver-modes modes (Contributing by contributes one e) = absurd (false≢true contributes)
-
-one-read : (list : List Access) → map (λ (a : Access). a.mode) list ≡ R ∷ [] → (c : Cell) × (list ≡ access R c ∷ [])
-one-read [] e = absurd (let n : 0 ≡ 1 = ap length e in omega arith)
-one-read (a ∷ []) e = (a.cell, ap (λ (x : Mode). access x a.cell ∷ []) (ap (λ (ms : List Mode). get_or ms 0 R) e))
-one-read (a ∷ b ∷ list) e = absurd (let n : length (a.mode ∷ b.mode ∷ map (λ (x : Access). x.mode) list) ≡ 1 = ap length e in omega arith)
 
 module _ (p : Program) (proper : Proper p) (t : Task) (hands_over : is_deliver_task p t ≡ true) where
   -- it is a task of the program

@@ -1,6 +1,6 @@
 -- The words in which the proofs of this crate speak: those of sj_core and sj_machine, and runs, boards, hands, tiles, units.
-pub use Rattle.sj_core.proofs.Words.{after_end, Array, Arrays, arrays_after, Block, Brought, CanMoveIn, CanMoveOut, cell_block_bytes, claimant_of, Contributing, Deliver, Dims, disk_of, DiskNo, done_in, done_tasks, Eager, EarlierAreDone, Equations, first_fit, footprint, given, has_copy, HasAtHand, HasSwapFor, held_at, held_in, is_being_written, is_done, is_elsewhere, is_home, is_moving, is_present, is_read, IsClaimed, IsComplete, IsLegal, Kernel, MayHaveModes, moves_in, on_disk, out, Own, place, place_after, reads_in, reads_value, Ready, result_in, same_place, source_of, starts_as_zeros, stored, Valid, Works, zeros}
-pub use Rattle.sj_machine.proofs.Words.{a_transfer, Access, after, AnotherHasTask, area, AreGone, arrived, AtNode, CanDrop, CanRun, CanWorkOn, Cell, cell_info, cell_state, CellInfo, cells_of, CellState, Claim, Claimed, ClaimPlan, Coherent, dims_of, Done, Drop, End, Event, FitsCodelet, fresh_cells, has_cell, has_happened, has_room, HoldsCommutersAlone, idle_row, Invalid, is_begun, is_claimed_by, is_coming_by, is_data, is_entry, is_fresh, is_gone, is_leaving, is_leaving_by, is_pinned, is_running_on, is_task_of, is_to_come, is_valid, is_written, IsOwnedBy, IsPlan, IsSound, IsTransferTo, IsWhy, KnownGone, Lowered, Machine, Mark, mark, mark_in, May, MayClaim, MayHappen, Mode, Move, Moved, mover_of, next_cell, next_victim, no_cell, no_task, Node, node_of, node_size, OnDisk, opening, owned_at, pins, Place, Program, Progress, progress, Proper, R, renewed, Rows, rows_at_start, Run, Running, same_cell, State, Task, task_of, tasks_of, to_come, Transfer, transfer, victims_of, Waiting, with_mark, with_row, worked_on, Worker, worker_of, workers_at, workers_of, WorkerState, writes, written_among, written_cells, written_once_more}
+pub use Rattle.sj_core.proofs.Words.{after_end, Array, Arrays, arrays_after, Block, Brought, CanMoveIn, CanMoveOut, cell_block_bytes, claimant_of, Deliver, Dims, disk_of, DiskNo, done_in, done_tasks, Eager, EarlierAreDone, Equations, first_fit, footprint, given, has_copy, HasAtHand, HasSwapFor, held_at, held_in, is_being_written, is_done, is_elsewhere, is_home, is_moving, is_present, is_read, IsClaimed, IsComplete, IsLegal, Kernel, MayHaveModes, moves_in, on_disk, out, place, place_after, reads_in, reads_value, Ready, result_in, same_place, source_of, starts_as_zeros, stored, Valid, Works, zeros}
+pub use Rattle.sj_machine.proofs.Words.{a_transfer, Access, after, AnotherHasTask, area, AreGone, arrived, AtNode, CanDrop, CanRun, CanWorkOn, Cell, cell_info, cell_state, CellInfo, cells_of, CellState, Claim, Claimed, ClaimPlan, Coherent, dims_of, Done, Drop, End, Event, FitsCodelet, fresh_cells, has_cell, has_happened, has_room, HoldsCommutersAlone, idle_row, Invalid, is_begun, is_claimed_by, is_coming_by, is_data, is_entry, is_fresh, is_gone, is_leaving, is_leaving_by, is_pinned, is_running_on, is_task_of, is_to_come, is_valid, is_written, IsOwnedBy, IsPlan, IsSound, IsTransferTo, IsWhy, KnownGone, Lowered, Machine, Mark, mark, mark_in, May, MayClaim, MayHappen, Move, Moved, mover_of, next_cell, next_victim, no_cell, no_task, Node, node_of, node_size, OnDisk, opening, owned_at, pins, Place, Program, Progress, progress, Proper, R, renewed, Rows, rows_at_start, Run, Running, same_cell, State, Task, task_of, tasks_of, to_come, Transfer, transfer, victims_of, Waiting, with_mark, with_row, worked_on, Worker, worker_of, workers_at, workers_of, WorkerState, writes, written_among, written_cells, written_once_more}
 pub use Rattle.sj_base.specs.Ids.{cell, worker}
 pub use Rattle.sj_base.specs.Mode.{reads_of}
 pub use Rattle.sj_base.specs.Recorded.{Recorded}
@@ -38,7 +38,7 @@ pub use Rattle.sj_board.specs.declared.todo.Todo.TheVariants.{Discard, Nothing, 
 pub use Rattle.sj_codelet.specs.Frame.{arrays, shared, Slot}
 pub use Rattle.sj_core.specs.Needs.{AreFootprints}
 pub use Rattle.sj_core.specs.Program.{written_operands}
-pub use Rattle.sj_core.specs.Proper.{access, Commuting, FirstPaste}
+pub use Rattle.sj_core.specs.Proper.{access}
 pub use Rattle.sj_deps.specs.Progress.{after_done, Dependencies, dependencies}
 pub use Rattle.sj_disk.specs.Block.{block, block_bytes, header}
 pub use Rattle.sj_disk.specs.Calls.{Fetches, Reserves, Stores}

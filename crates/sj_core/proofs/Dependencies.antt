@@ -1,13 +1,10 @@
 -- The dependencies of a proper program can be counted: each access names a cell, and a task accesses a cell in one manner.
 use Rattle.sj_core.proofs.Words.{[], Access, access, AllPairs, ap, arith, Cell, cell_info, CellInfo, Codelet, Commute, CommuteMode, Contains, Contribute, copies_of, copy_of, data_operands, false, flat_map, get_or, HasDependencies, inl, inr, is_redux, is_scratch, is_some, IsCopyOf, IsInit, IsPhase, IsTrue, length, List, Lowered, Manner, map, Mode, no_cell, no_task, None, not, Option, option_and_then, Phase, Program, Proper, R, range_with_len, Read, Redux, refl, RW, same_cell, Scratch, slice_get, Some, subst, suc, sym, task_number, true, Usage, usage, usages_of, Uses, W, Worker, Write, zero, ℕ, ◌+◌, ◌<◌, ◌∙◌, ◌∷◌, ◌≡◌, ◌⊎◌}
 use Rattle.std.proofs.lemmas.{Bool.cases_lt, Bool.Decides.Decides-eqb, List.get_or_default, List.Elements.All-contains, List.Elements.Contains-append_cases, List.FromFn.get_or-range_with_len, List.FromFn.length-range_with_len, Option.slice_get-get_or, Option.slice_get_past}
-use Rattle.sj_base.proofs.Lists.{one_is}
+use Rattle.sj_base.proofs.Lists.{none_is, one_is}
 use Rattle.sj_core.proofs.{Readiness.AllPairs-two, Readiness.Contains-filter, Sharing.manner_of}
 
 -- ---- what lists contain
-
-pub none_is : {X : Type 0} (y : X) → Contains [] y → ⊥
-none_is y (k, l, e) = omega arith
 
 flat_map-from : {X Y : Type 0} (f : X → List Y) (xs : List X) (y : Y) → Contains (flat_map f xs) y → (x : X) × Contains xs x × Contains (f x) y
 flat_map-from f [] y h = absurd (none_is y h)

@@ -1,7 +1,8 @@
 -- What a mode says of its operand, by a look at each mode.
-use Rattle.sj_core.proofs.Words.{[], arith, Bool, false, is_commute, is_in_order, is_redux, is_scratch, is_written, List, list_all, Mode, not, R, reads_value, Redux, refl, RW, Scratch, starts_as_zeros, true, W, ◌||◌, ◌∷◌, ◌≡◌}
-use Rattle.std.proofs.lemmas.{Bool.and_parts, Bool.not-false, Bool.not-true, List.Sums.AllPass-from_list_all}
+use Rattle.sj_core.proofs.Words.{[], arith, Bool, Contributing, Deliver, false, FirstPaste, is_commute, is_in_order, is_redux, is_scratch, is_written, List, list_all, MayHaveModes, Mode, not, Own, R, reads_value, Redux, refl, RW, Scratch, starts_as_zeros, true, W, ◌||◌, ◌∷◌, ◌≡◌}
+use Rattle.std.proofs.lemmas.{Bool.and_parts, Bool.false≢true, Bool.not-false, Bool.not-true, List.Sums.AllPass-from_list_all}
 use Rattle.sj_base.specs.declared.mode.Mode.TheVariants.{Commute}
+use Rattle.sj_core.specs.Proper.{Commuting}
 use Rattle.sj_base.proofs.Bools.{implied}
 
 abbrev modes : List Mode
@@ -28,3 +29,10 @@ commute_isn't_redux x h = not-true (is_redux x) (implied (is_commute x) (not (is
 
 pub plain_isn't_redux : (x : Mode) → is_in_order x ≡ true → is_redux x ≡ false
 plain_isn't_redux x h = not-true (is_redux x) (and_parts (not (is_redux x)) (not (is_commute x)) h).0
+
+-- a task that delivers has its codelet's own mode: R alone
+pub deliver-modes : (modes : List Mode) → MayHaveModes Deliver modes → modes ≡ R ∷ []
+deliver-modes modes (Own e) = e
+deliver-modes modes (FirstPaste paste e) = absurd (cc)
+deliver-modes modes (Commuting commutes one e) = absurd (false≢true commutes)
+deliver-modes modes (Contributing by contributes one e) = absurd (false≢true contributes)

@@ -1,7 +1,7 @@
 -- A task with a COMMUTE or a REDUX operand updates one cell alone, by its last operand.
 use Rattle.sj_core.proofs.Words.{[], Access, ap, arith, Bool, Cell, cells_of, Codelet, Commute, CommuteMode, commutes_of, cond, Conflict, Contains, Contribute, contributes_of, Equations, false, filter, Formal, formals_of, has_cell, inl, inr, is_in_order, is_output, is_redux, is_scratch, is_written, IsLawful, IsSharedManner, Kernel, kernel_of, Least, length, List, list_all, list_any, Manner, map, MayHaveModes, Mode, mode_of, modes_writing_by, not, own_modes, Plus, Program, Proper, R, Read, Reduction, Redux, refl, RW, same_cell, Scratch, Some, starts_as_zeros, subst, suc, sym, Task, task_of, true, UpdateFormal, Uses, worked_on, Worker, Write, written_cells, ◌&&◌, ◌++◌, ◌<◌, ◌||◌, ◌∙◌, ◌∷◌, ◌≡◌, ◌≢◌, ◌⊎◌}
 use Rattle.std.proofs.lemmas.{Bool.and_from, Bool.and_parts, Bool.cases_Bool, Bool.false≢true, Bool.not-true, Bool.true≢false, List.map-append, List.Elements.Contains-append_cases, List.Elements.Contains-append_left, List.Folds.list_any_at, List.Sums.AllPass-from_list_all}
-use Rattle.sj_base.proofs.{Bools.implied, Lists.one_is, SameIds.same_cell-is, SameIds.same_cell-itself}
+use Rattle.sj_base.proofs.{Bools.implied, Lists.filter-last, Lists.one_is, SameIds.same_cell-is, SameIds.same_cell-itself}
 use Rattle.sj_codelet.proofs.Table.{by_table}
 use Rattle.sj_core.proofs.{Dependencies.map-from, Dependencies.Proper-dependencies, Modes.written_isn't_scratch, Readiness.Contains-map, Readiness.list_any-some, Sharing.BothCommute, Sharing.BothContribute, Sharing.commuting-is, Sharing.conflict-by, Sharing.Conflict-sym, Sharing.contributing-is, Sharing.Differ, Sharing.manner_of, Sharing.meeting, Sharing.operand-uses, Sharing.operand_for, Sharing.redux-has_copies, Sharing.written-isn't_read, Sized.knows, Sized.task-fits, Swapping.Apart, Swapping.commuting-exchange, Swapping.Exchange, Swapping.MaySwap, Swapping.Together, Swapping.Updates}
 
@@ -86,10 +86,6 @@ ends-by g (x ∷ xs) (z ∷ ys) y e =
     let tails : map g xs ≡ ys ++ y ∷ [] = cc in
     let rest = ends-by g xs ys y tails in
     record { first = x ∷ rest.first; last = rest.last; is = ap (λ zs. x ∷ zs) rest.is; before = ap (λ zs. g x ∷ zs) rest.before ∙ ap (λ v. v ∷ ys) heads; end = rest.end }
-
-filter-last : {X : Type 0} (f : X → Bool) (xs : List X) (x : X) → ((y : X) → Contains xs y → f y ≡ false) → f x ≡ true → filter f (xs ++ x ∷ []) ≡ x ∷ []
-filter-last f [] x none passes = ap (λ b. cond b (x ∷ []) []) passes
-filter-last f (y ∷ xs) x none passes = ap (λ b. cond b (y ∷ filter f (xs ++ x ∷ [])) (filter f (xs ++ x ∷ []))) (none y (0, omega arith, refl)) ∙ filter-last f xs x (λ z h. none z (suc h.0, omega (arith, h.1), h.2)) passes
 
 -- ---- tasks
 

@@ -42,7 +42,7 @@ pub use Rattle.sj_core.specs.Needs.{Block, cell_block_bytes, first_fit, footprin
 pub use Rattle.sj_core.specs.Once.{EachRanOnce, is_claim_of, is_end_of, is_run_of}
 pub use Rattle.sj_core.specs.Operands.{cells_of, commuting_cells, copy_of, found, fresh_cells, results, worked_on, written_cells}
 pub use Rattle.sj_core.specs.Program.{cell_info, cells_of_program, data_operands, dims_of, distinct, has_cell, no_cell, no_task, same_cell, task_of, tasks_of}
-pub use Rattle.sj_core.specs.Proper.{Contributing, FitsCodelet, gives_value, HasDeliveries, HasPhases, HasSwapFor, HasValueBefore, IsCombine, IsContribution, IsCopyOf, IsFirstUnit, IsInit, IsMachineFor, IsOfPhase, IsOpenAt, IsPhase, IsPlain, IsUnaliased, IsWithinLimits, MayHaveModes, mode_of, modes_writing_by, NamesCells, Own, own_modes, Phase, Proper, ReadsValues, task_number, Touches}
+pub use Rattle.sj_core.specs.Proper.{Contributing, FirstPaste, FitsCodelet, gives_value, HasDeliveries, HasPhases, HasSwapFor, HasValueBefore, IsCombine, IsContribution, IsCopyOf, IsFirstUnit, IsInit, IsMachineFor, IsOfPhase, IsOpenAt, IsPhase, IsPlain, IsUnaliased, IsWithinLimits, MayHaveModes, mode_of, modes_writing_by, NamesCells, Own, own_modes, Phase, Proper, ReadsValues, task_number, Touches}
 pub use Rattle.sj_core.specs.Step.{a_transfer, after, after_claim, after_end, after_run, arrived, CanClaim, CanDrop, CanMoveIn, CanMoveOut, CanRun, claimed_mark, disk_of, done_tasks, EarlierAreDone, has_copy, is_elsewhere, is_fresh, is_home, is_in_use, is_moving, is_present, is_read, leave, May, missing, mover_of, none_leaving, reads_in, same_place, source_of, to_come, to_front, victims_for, without}
 pub use Rattle.sj_core.specs.Table.{renewed}
 pub use Rattle.sj_core.specs.Victims.{covers, shortest_suffix, victims}

@@ -2,12 +2,12 @@
 use Rattle.std.proofs.Common.{◌≡◌, ℕ, ◌+◌, ◌-◌, ◌*◌, ◌/◌, ◌%◌, ◌<◌, ◌≤◌, Bool, true, false, not, ◌&&◌, ◌||◌, cond, Option, Some, None, is_some, unwrap_or, nat_eq, nat_lt, length, get_or, refl, sym, ap, subst, ◌∙◌, arith, ℤ, get_or-set_same, get_or-set_other, List}
 use Rattle.std.specs.Prelude.{is_none, pos, ◌+ℤ◌, ◌*ℤ◌}
 use Rattle.std.specs.List.{list_all}
-use Rattle.std.proofs.lemmas.List.{length-set, length-map, get_or-map, get_or-replicate, get_or_default, length-replicate}
-use Rattle.std.proofs.lemmas.List.FromFn.{get_or-map-range_with_len, length-map-range_with_len}
+use Rattle.std.proofs.lemmas.List.{length-set, get_or-map, get_or-replicate, get_or_default, length-replicate}
+use Rattle.std.proofs.lemmas.List.FromFn.{get_or-map-range_with_len}
 use Rattle.std.proofs.lemmas.List.Sums.{AllPass-from_list_all, list_all-from_AllPass}
 use Rattle.std.proofs.lemmas.List.Folds.{list_all_at}
-use Rattle.std.proofs.lemmas.Nat.{div_below, mod_below, div-add-mod', div-mul-add, mod-mul-add, mul-add-lt, mul-le}
-use Rattle.std.proofs.lemmas.Bool.{ltb-true, and_parts, and_from, not-true, both_ways}
+use Rattle.std.proofs.lemmas.Nat.{div_below, mod_below, div-add-mod', mul-add-lt, mul-le}
+use Rattle.std.proofs.lemmas.Bool.{and_parts, and_from, not-true, both_ways}
 use Rattle.std.proofs.lemmas.Bool.Decides.{nat_tests}
 use Rattle.sj_base.specs.declared.tile.Dims.{Dims}
 use Rattle.sj_base.specs.Array.{Array, area, element}
@@ -18,19 +18,21 @@ use Rattle.sj_base.specs.declared.mode.Reduction.{Reduction}
 use Rattle.sj_base.proofs.Numbers.{some_factor}
 use Rattle.sj_base.proofs.Bools.{same_test}
 use Rattle.sj_plan.specs.declared.parts.Parts.{Parts}
-use Rattle.sj_plan.specs.Parts.{Fits, IsPlace}
+use Rattle.sj_plan.specs.Parts.{Fits, IsPlace, children_count, number}
 use Rattle.sj_plan.specs.Rect.{HasElement, holds, child, rect_dims}
 use Rattle.sj_plan.proofs.Splitting.{held, lies_alone, part_end, part_len-positive}
+use Rattle.sj_plan.proofs.Places.{number-apart}
 use Rattle.sj_plan.proofs.Windows.{holds-true, HasElement-from_true}
 use Rattle.sj_meaning.specs.declared.job.Init.{Init}
 use Rattle.sj_meaning.specs.declared.job.Init.TheVariants.{Values, Fill, Nothing}
 use Rattle.sj_meaning.specs.Statement.{Register}
 use Rattle.sj_meaning.specs.State.{RootState, is_valued, has_no_value, is_child, child_rect, child_elements, is_valued_child}
 use Rattle.sj_meaning.specs.Meaning.{first_elements, no_values, registered_root, with_parts, with_elements, with_child, with_reduction}
-use Rattle.sj_job.specs.Track.{Track, Tracks, all_valued, none_valued, children_count, number, is_set, even, with_child_valued}
+use Rattle.sj_job.specs.Track.{Track, Tracks, all_valued, none_valued, is_set, even, with_child_valued}
 use Rattle.sj_job.specs.Judge.{known_of, is_child_said}
 use Rattle.sj_job.specs.Names.{gives_values, known_with}
 use Rattle.sj_meaning.specs.Sound.{InitFits}
+use Rattle.sj_meaning.proofs.Children.{first_length, place-from_test}
 
 -- ---- children
 
@@ -65,19 +67,9 @@ first-held d p place fits =
 pub number-below : (p : Parts) (x : ℕ × ℕ) → IsPlace p x → number p x < children_count p
 number-below p x at = let h = mul-add-lt x.0 p.c x.1 p.r at.0 at.1 in omega arith
 
-pub number-alone : (p : Parts) (x y : ℕ × ℕ) → IsPlace p x → IsPlace p y → number p x ≡ number p y → x ≡ y
-number-alone p x y a b e =
-    let r : x.0 ≡ y.0 = sym (div-mul-add x.0 p.c x.1 a.1) ∙ ap (λ n. n / p.c) e ∙ div-mul-add y.0 p.c y.1 b.1 in
-    let c : x.1 ≡ y.1 = sym (mod-mul-add x.0 p.c x.1 a.1) ∙ ap (λ n. n % p.c) e ∙ mod-mul-add y.0 p.c y.1 b.1 in
-    λ i. (r i, c i)
-
 -- the place of a number
 placed : (p : Parts) (k : ℕ) → k < children_count p → IsPlace p (k / p.c, k % p.c)
 placed p k h = let some = some_factor p.r p.c k h in (div_below k p.c p.r some h, mod_below k p.c some)
-
-pub place-from_test : (p : Parts) (place : ℕ × ℕ) → is_child p place ≡ true → IsPlace p place
-place-from_test p place e =
-    let h = and_parts _ _ e in (ltb-true place.0 p.r h.0, ltb-true place.1 p.c h.1)
 
 -- ---- what an index says
 
@@ -214,11 +206,6 @@ first_value (Values xs) d k h lt = ap is_some (get_or-map (λ (x : ℤ). Some x)
 first_value (Fill a b) d k h lt = ap is_some (get_or-map-range_with_len (λ p. Some (wrap (a +ℤ (b *ℤ pos p)))) 0 (area d) k k None lt (omega arith))
 first_value Nothing d k h lt = let none : Option ℤ = None in ap is_some (get_or-replicate (area d) k none none lt)
 
-pub first_length : (i : Init) (d : Dims) → InitFits i d → length (first_elements i d) ≡ area d
-first_length (Values xs) d h = length-map xs (λ (x : ℤ). Some x) ∙ h
-first_length (Fill a b) d h = length-map-range_with_len (λ p. Some (wrap (a +ℤ (b *ℤ pos p)))) 0 (area d)
-first_length Nothing d h = let none : Option ℤ = None in length-replicate (area d) none
-
 pub tracks-registered : (r : Register (List ℕ)) → Fits r.parts r.dims → InitFits r.init r.dims → Tracks (even r.parts (gives_values r.init)) (registered_root r)
 tracks-registered r fits h =
     tracks-even r.parts (gives_values r.init) (registered_root r) refl fits (first_length r.init r.dims h) (λ row col in_rows in_cols.
@@ -253,7 +240,7 @@ written_by t r place a other row col true h at there lies e =
     sym (get_or-set_same t.valued (number t.parts place) true false below) ∙ ap (λ x. is_set (with_child_valued t place) x) same
 written_by t r place a other row col false h at there lies e =
     let apart : number t.parts other ≡ number t.parts place → ⊥ = λ k.
-    let same = number-alone t.parts other place (subst (λ (x : Parts). IsPlace x other) (sym h.parts) there) (subst (λ (x : Parts). IsPlace x place) (sym h.parts) at) k in
+    let same = number-apart t.parts other place (subst (λ (x : Parts). IsPlace x other) (sym h.parts) there) (subst (λ (x : Parts). IsPlace x place) (sym h.parts) at) k in
     let yes : holds (child_rect r place) row col ≡ true = holds-true (child_rect r place) row col (subst (λ x. HasElement (child_rect r x) row col) same lies) in
     both_ways (holds (child_rect r place) row col) e yes in
     h.valued other row col there lies ∙ sym (get_or-set_other t.valued (number t.parts place) (number t.parts other) true false apart)

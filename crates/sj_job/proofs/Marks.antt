@@ -5,10 +5,10 @@ use Rattle.std.specs.List.{list_all, count_by}
 use Rattle.std.proofs.lemmas.List.{get_or-replicate, set-get_or}
 use Rattle.std.proofs.lemmas.List.Sums.{sum_by-cons}
 use Rattle.sj_plan.specs.declared.parts.Parts.{Parts}
-use Rattle.sj_plan.specs.Parts.{IsPlace}
+use Rattle.sj_plan.specs.Parts.{IsPlace, children_count, number}
 use Rattle.sj_job.specs.declared.track.Marks.{Marks}
 use Rattle.sj_job.specs.declared.track.Marks.TheVariants.{All, Blank, Mixed}
-use Rattle.sj_job.specs.Track.{Track, AreMarks, AreMixed, all_valued, children_count, is_set, none_valued, number, track_by, with_child_valued}
+use Rattle.sj_job.specs.Track.{Track, AreMarks, AreMixed, all_valued, is_set, none_valued, track_by, with_child_valued}
 use Rattle.sj_job.proofs.Children.{number-below}
 
 -- ---- lists of marks

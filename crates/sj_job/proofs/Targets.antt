@@ -39,7 +39,8 @@ use Rattle.sj_meaning.specs.Meaning.{written_of}
 use Rattle.sj_job.specs.Judge.{Known, first_of, is_full, is_unknown, is_ended, is_child_said, is_missing, dims_in, is_lacking, is_counted, is_shaped, has_mixed_outputs, is_unlawful, lacks_reduction, operand_reasons, reduction_known, kernel_named, judged_by, judged_call, judged_task, unless}
 use Rattle.sj_meaning.specs.Sound.{is_priority, modes_fit, mode_fits, clashes, is_aliased, needs_value, is_lawful_for, is_unordered}
 use Rattle.sj_job.specs.Names.{Found, IsInLine, IsPlaceIn, a_target, adds_to_value, any_collide, any_missing, any_over, are_mixed, child_valued, collide, ended_from, finds_value_in, found_at, found_in, is_counted_for, is_name_ended, is_shaped_for, is_unlawful_for, is_unreduced, is_wanting, kept_task, known_by, known_from, known_with, law_reasons, no_child, operand_by, plan_in, scope_in, standing_of, target_by, target_dims, target_in, target_reasons, targets_fit}
-use Rattle.sj_job.proofs.Children.{place-from_test, said-child}
+use Rattle.sj_job.proofs.Children.{said-child}
+use Rattle.sj_meaning.proofs.Children.{place-from_test}
 use Rattle.sj_meaning.proofs.Finding.{is-at, is-root, text-itself}
 
 -- ---- each operand with its root

@@ -4,7 +4,7 @@ use Rattle.std.specs.List.{list_all, count_by}
 use Rattle.sj_base.specs.Array.{area}
 use Rattle.sj_base.specs.Window.{item}
 use Rattle.sj_plan.specs.declared.parts.Parts.{Parts}
-use Rattle.sj_plan.specs.Parts.{Fits, IsPlace}
+use Rattle.sj_plan.specs.Parts.{Fits, IsPlace, children_count, number}
 use Rattle.sj_plan.specs.Rect.{HasElement}
 use Rattle.sj_job.specs.declared.track.Marks.{Marks}
 use Rattle.sj_job.specs.declared.track.Marks.TheVariants.{All, Blank, Mixed}
@@ -14,13 +14,6 @@ use Rattle.sj_meaning.specs.State.{RootState, child_rect}
 pub record Track : Type 0 where
   pub parts : Parts
   pub valued : List Bool
-
--- how many children a plan has, and the place of a child in their list
-abbrev pub children_count : Parts → ℕ
-children_count p = p.r * p.c
-
-abbrev pub number : Parts → ℕ × ℕ → ℕ
-number p place = place.0 * p.c + place.1
 
 abbrev pub is_set : Track → ℕ × ℕ → Bool
 is_set t place = slice_index_or t.valued (number t.parts place) false

@@ -1,8 +1,8 @@
 //! Which children of a root's active plan have a value.
 
 ghost use Rattle.std.specs.Prelude.{◌≡◌, ◌<◌, ◌||◌, true, false, IsTrue, IfOk, OnOk, replicate, slice_set};
-ghost use Rattle.sj_plan.specs.Parts.{IsPlace};
-ghost use Rattle.sj_job.specs.Track.{AreMarks, IsSmallPlan, all_valued, children_count, even, is_set, marks_by, none_valued, number, with_child_valued};
+ghost use Rattle.sj_plan.specs.Parts.{IsPlace, children_count, number};
+ghost use Rattle.sj_job.specs.Track.{AreMarks, IsSmallPlan, all_valued, even, is_set, marks_by, none_valued, with_child_valued};
 
 use sj_base::memory::OutOfMemory;
 use sj_plan::parts::Parts;

@@ -25,10 +25,10 @@ use Rattle.sj_base.specs.Mode.{access}
 use Rattle.sj_phases.specs.Rows.{own_task}
 use Rattle.sj_plan.specs.declared.parts.Parts.{Parts}
 use Rattle.sj_plan.specs.declared.rect.Rect.{Rect}
-use Rattle.sj_plan.specs.Parts.{Fits, places}
+use Rattle.sj_plan.specs.Parts.{Fits, places, children_count}
 use Rattle.sj_plan.specs.Rect.{child, children_of}
 use Rattle.sj_plan.proofs.Lists.{pushed_more}
-use Rattle.sj_lower.specs.Cells.{children_count, cells_from}
+use Rattle.sj_lower.specs.Cells.{cells_from}
 use Rattle.sj_base.specs.declared.program.Delivery.{Delivery}
 use Rattle.sj_phases.specs.declared.expander.Expander.{Expander}
 use Rattle.sj_phases.specs.Does.{Does}

@@ -1,5 +1,5 @@
 -- The partial copies of a cell: cells of their own, as large as it.
-use Rattle.std.proofs.Common.{◌≡◌, ℕ, ◌+◌, ◌-◌, ◌<◌, ◌≤◌, ◌^◌, cond, Option, Some, None, List, [], ◌∷◌, ◌++◌, length, map as each_of, refl, sym, ap, subst, ◌∙◌, inl, inr, arith, length-append}
+use Rattle.std.proofs.Common.{◌≡◌, ℕ, ◌+◌, ◌-◌, ◌<◌, ◌≤◌, ◌^◌, cond, Option, Some, None, List, [], ◌∷◌, ◌++◌, length, map as each_of, fold, refl, sym, ap, subst, ◌∙◌, inl, inr, arith, length-append}
 use Rattle.std.specs.Prelude.{◌⊎◌, set, replicate, unwrap_or}
 use Rattle.std.specs.List.{All}
 use Rattle.std.specs.Option.{is_some}
@@ -111,6 +111,10 @@ by_copies workers c C P old new = by_partials (info_at C c).partials refl
     by_partials : (o : Option Cell) → (info_at C c).partials ≡ o → P (cond (is_some o) C (Copied workers c C))
     by_partials None e = new e
     by_partials (Some f) e = old f e
+
+pub copies-prints : (w : ℕ) (cs : List Cell) (C : Laid) → (fold (with_copies w) C cs).prints ≡ C.prints
+copies-prints w [] C = refl
+copies-prints w (c ∷ cs) C = copies-prints w cs (with_copies w C c) ∙ by_copies w c C (λ (D : Laid). D.prints ≡ C.prints) (λ f e. refl) (λ e. refl)
 
 -- the cell is no partial copy
 abbrev pub IsNoCopy : ℕ → Laid → Cell → Type 0

@@ -38,6 +38,7 @@ use Rattle.sj_meaning.specs.Meaning.{child_array, child_unit, seen_by, written_o
 use Rattle.sj_meaning.specs.Numbers.{root_at, operand_array_at, run_task_at}
 use Rattle.sj_meaning.specs.Sound.{needs_value}
 use Rattle.sj_phases.specs.Plain.{direct_mode, direct_access, direct}
+use Rattle.sj_phases.proofs.Good.{direct-redux}
 use Rattle.sj_lower.specs.Laid.{Laid}
 use Rattle.sj_lower.specs.Step.{by_number, operand_cell, access_of, task_row}
 use Rattle.sj_lower.specs.SoundAt.{IsPlaced, IsSoundTask, child_dims, has_value, modes_fit, clashes, is_aliased}
@@ -88,15 +89,11 @@ written-direct : (m : Mode) → is_written (direct_mode m) ≡ is_written m
 written-direct Redux = refl
 written-direct m = refl
 
-redux-direct : (m : Mode) → is_redux (direct_mode m) ≡ false
-redux-direct Redux = refl
-redux-direct m = refl
-
 cells_written : (q : Program) (rs : List RootState) (C : Laid) (os : List (Operand ℕ)) → each_of (worked_on q first_worker) (filter (λ a. is_written a.mode) (each_of (the_access rs C) os)) ≡ each_of (the_cell rs C) (written_of os)
 cells_written q rs C os =
     ap (each_of (worked_on q first_worker)) (sym (map-filter (the_access rs C) (λ (a : Access). is_written a.mode) os))
     ∙ map-map (worked_on q first_worker) (the_access rs C) (filter (λ (o : Operand ℕ). is_written (direct_mode o.mode)) os)
-    ∙ (λ i. each_of (λ (o : Operand ℕ). cond (redux-direct o.mode i) (copy_of q (the_cell rs C o) first_worker) (the_cell rs C o)) (filter (λ (o : Operand ℕ). written-direct o.mode i) os))
+    ∙ (λ i. each_of (λ (o : Operand ℕ). cond (direct-redux o.mode i) (copy_of q (the_cell rs C o) first_worker) (the_cell rs C o)) (filter (λ (o : Operand ℕ). written-direct o.mode i) os))
 
 unread : (m : Mode) → is_written m ≡ true → is_read_only m ≡ false
 unread R e = absurd (false≢true e)
@@ -139,7 +136,7 @@ all_written rs C os =
     let o = get_or os k d in
     let written = written-direct o.mode ∙ w in
     list_any_at (gives (the_cell rs C o)) accesses k (the_access rs C d) (omega (arith, inside, length-map os (the_access rs C)))
-    (ap (gives (the_cell rs C o)) (get_or-map (the_access rs C) os k d (the_access rs C d) inside) ∙ (λ i. written i && not (redux-direct o.mode i) && same_cell-itself (the_cell rs C o) i))))
+    (ap (gives (the_cell rs C o)) (get_or-map (the_access rs C) os k d (the_access rs C d) inside) ∙ (λ i. written i && not (direct-redux o.mode i) && same_cell-itself (the_cell rs C o) i))))
 
 gives_all : (q : Program) (C : Laid) (n : ℕ) (rs : List RootState) (accesses : List Access) (os : List (Operand ℕ)) (xs : List Array) → (task_of q (task_at n)).accesses ≡ accesses → Written rs C accesses os → AllByRecursion (IsPlaced rs) os → AreOther os → all_dims xs ≡ each_of (child_dims rs) os → AreWhole xs → GivesAll q C (n + 1) rs (the_cell rs C) os xs
 gives_all q C n rs accesses [] xs t w r o d whole = tt

@@ -49,6 +49,7 @@ use Rattle.sj_meaning.specs.Sound.{needs_value}
 use Rattle.sj_phases.specs.Plain.{direct_mode, direct_access, direct}
 use Rattle.sj_phases.specs.Rows.{own_task, init_row}
 use Rattle.sj_phases.proofs.Lists.{all-from}
+use Rattle.sj_phases.proofs.Good.{ReadOnly}
 use Rattle.sj_lower.specs.Laid.{Laid, cell_of}
 use Rattle.sj_lower.specs.Rows.{fill_arguments, load_row, fill_row, load_rows, paste_arguments, paste_row, deliver_row}
 use Rattle.sj_lower.specs.SoundAt.{IsPlaced, IsSoundTask, child_dims, clashes, is_aliased}
@@ -120,10 +121,6 @@ good-at p n (l ∷ ls) i g s lo hi =
 -- the cell of a child is one of the program's
 pub cell-there : (p : Program) (C : Laid) (m : ℕ) (d : Dims) (s : Parts) (f : ℕ) (place : ℕ × ℕ) → HasCells p C → AreLaid C → IsTaken C m d s f → IsPlace s place → (cell_of C m s place).0 < length p.cells
 cell-there p C m d s f place cells laid t at = omega (arith, cell-inside C m d s f place laid t at, cells.longer)
-
--- two operands on one cell only read it
-abbrev ReadOnly : Access → Access → Type 0
-ReadOnly a b = same_cell a.cell b.cell ≡ true → (a.mode ≡ R) × (b.mode ≡ R)
 
 -- a task of one operand
 good_one : (p : Program) (n : ℕ) (k : Kernel) (args : List ℤ) (m : Mode) (c : Cell) (line : Line) → c.0 < length p.cells → fits k args (dims_of p c ∷ []) ≡ true → m ∷ [] ≡ own_modes k → (reads_value m ≡ true → HasValueBefore p (task_at n) c) → (k ≡ Deliver → IsPlain p c)

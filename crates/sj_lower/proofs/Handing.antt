@@ -33,7 +33,7 @@ use Rattle.sj_phases.specs.Law.{handed_over}
 use Rattle.sj_phases.specs.Plain.{Opens, Plainly, units, plain_rows, plain_next, open_at}
 use Rattle.sj_plan.specs.Paste.{pastes_of}
 use Rattle.sj_lower.specs.Cells.{same_parts}
-use Rattle.sj_lower.specs.Laid.{Laid, cell_of, take, with_root, with_copies}
+use Rattle.sj_lower.specs.Laid.{Laid, cell_of, take, with_root}
 use Rattle.sj_lower.specs.Rows.{paste_row, deliver_row}
 use Rattle.sj_lower.specs.SoundAt.{IsSound, AreSound}
 use Rattle.sj_lower.specs.Step.{by_number, closing, contributed, operand_cell, active_cells, a_delivery, plan_block, print_block, step_of}
@@ -42,8 +42,8 @@ use Rattle.sj_lower.proofs.Elements.{child-window, valued-child}
 use Rattle.sj_lower.proofs.Filling.{after_deliver}
 use Rattle.sj_lower.proofs.Folding.{Stand, after_row-is}
 use Rattle.sj_lower.proofs.Following.{IsAt, AllAgree, rows_from}
-use Rattle.sj_lower.proofs.Copying.{by_copies}
-use Rattle.sj_lower.proofs.Taken.{by_first}
+use Rattle.sj_lower.proofs.Copying.{copies-prints}
+use Rattle.sj_lower.proofs.Taken.{take-prints}
 use Rattle.sj_lower.proofs.Keeping.{HasRoot, HaveRoots}
 use Rattle.sj_lower.proofs.Properly.{blocks_from}
 use Rattle.sj_lower.proofs.Stepping.{direct-delivers}
@@ -121,18 +121,11 @@ hands-step has q C rs n was s sound at = by_act s.act sound at.agrees.roots at.s
         ∙ sym (append-nil (each_of (piece C.prints (m, root_at rs m)) (places (root_at rs m).parts)))
     by_act a sound roots stand = refl
 
-copied-prints : (workers : ℕ) (cs : List Cell) (C : Laid) → (fold (with_copies workers) C cs).prints ≡ C.prints
-copied-prints workers [] C = refl
-copied-prints workers (c ∷ cs) C = copied-prints workers cs (with_copies workers C c) ∙ by_copies workers c C (λ (D : Laid). D.prints ≡ C.prints) (λ f e. refl) (λ e. refl)
-
-take-prints : (C : Laid) (m : ℕ) (p : Parts) → (take m p C).prints ≡ C.prints
-take-prints C m p = by_first C m p (λ (D : Laid). D.prints ≡ C.prints) (λ f e. refl) (λ e. refl)
-
 -- how many print statements there were
 prints-step : (workers : ℕ) (C : Laid) (rs : List RootState) (line : Line) (a : Act ℕ) → (step_of workers (by_number rs) C line a).laid.prints ≡ C.prints + length (prints_at a rs)
 prints-step workers C rs line (Registers r) = omega (arith, take-prints (with_root r.dims C) (length C.handles) r.parts)
 prints-step workers C rs line (Plans m p) = omega (arith, take-prints C m p)
-prints-step workers C rs line (Tasks t) = omega (arith, copied-prints workers (each_of (operand_cell (by_number rs) C) (contributed t)) C)
+prints-step workers C rs line (Tasks t) = omega (arith, copies-prints workers (each_of (operand_cell (by_number rs) C) (contributed t)) C)
 prints-step workers C rs line (Prints m) = refl
 prints-step workers C rs line a = omega arith
 

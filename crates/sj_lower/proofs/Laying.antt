@@ -1,8 +1,8 @@
 -- The code's layout is that of the definition, after a root takes a plan or a cell gets its partial copies.
-use Rattle.std.proofs.Common.{◌≡◌, ℕ, zero, suc, ◌+◌, ◌*◌, ◌<◌, ◌≤◌, cond, ◌&&◌, Option, Some, None, IfSome, IfNone, List, [], ◌∷◌, ◌++◌, length, map as each_of, fold, get_or, refl, sym, ap, subst, ◌∙◌, inl, inr, arith, length-append, get_or-set_same, get_or-set_other}
+use Rattle.std.proofs.Common.{◌≡◌, ℕ, zero, suc, ◌+◌, ◌*◌, ◌<◌, ◌≤◌, cond, ◌&&◌, Option, Some, None, IfSome, IfNone, List, [], ◌∷◌, ◌++◌, length, map as each_of, get_or, refl, sym, ap, subst, ◌∙◌, inl, inr, arith, length-append, get_or-set_same, get_or-set_other}
 use Rattle.std.specs.Prelude.{nat_eq, replicate, set, unwrap_or}
 use Rattle.std.proofs.Math.Seq.{get_or-append_seam}
-use Rattle.std.proofs.lemmas.Bool.{cases_eq, eq-eqb, ne_eqb}
+use Rattle.std.proofs.lemmas.Bool.{cases_eq}
 use Rattle.std.proofs.lemmas.List.{get_or_append_left, get_or_default, length-set, set-append_left}
 use Rattle.std.proofs.lemmas.Simd.{map-map}
 use Rattle.indexmap.specs.IndexMap.{get}
@@ -36,7 +36,7 @@ use Rattle.sj_lower.proofs.Copying.{by_copies, copied-length, first-new, first-o
 use Rattle.sj_lower.proofs.Keeping.{lives-below, changed-here, changed-beside}
 use Rattle.sj_lower.proofs.Places.{parts-itself}
 use Rattle.sj_lower.proofs.Starting.{pushed-there, pushed-beside}
-use Rattle.sj_lower.proofs.Taken.{none_isn't, some_is, by_first, took-there, took-other, longer, take-keeps, take-handles, root-there}
+use Rattle.sj_lower.proofs.Taken.{none_isn't, some_is, by_first, took-there, longer, take-keeps, take-handles, root-there, took-first}
 
 -- ---- what the code's calls say
 
@@ -60,13 +60,6 @@ lays-old l C n p f s there =
     let e = sym (s.firsts n p) ∙ there in
     by_first C n p (λ (D : Laid). Lays l D × ((handle_at D n).first p ≡ Some f)) (λ g had. (s, e)) (λ none. absurd (none_isn't f (sym none ∙ e)))
 
--- the plans of a root afterwards
-first-after : (C : Laid) (n : ℕ) (p : Parts) → n < length C.handles → (m : ℕ) (q : Parts) → (handle_at (taking n p C) m).first q ≡ cond (nat_eq n m && same_parts p q) (Some (length C.rows)) ((handle_at C m).first q)
-first-after C n p lt m q = elim (cases_eq n m) as (λ _. (handle_at (taking n p C) m).first q ≡ cond (nat_eq n m && same_parts p q) (Some (length C.rows)) ((handle_at C m).first q)) [
-  | inl e ↦ ap (λ (h : Handle). h.first q) (ap (handle_at (taking n p C)) (sym e) ∙ took-there C n p lt) ∙ (λ i. cond (sym (eq-eqb n m e) i && same_parts p q) (Some (length C.rows)) ((handle_at C (e i)).first q))
-  | inr other ↦ ap (λ (h : Handle). h.first q) (took-other C n p m (λ e. other (sym e))) ∙ (λ i. cond (sym (ne_eqb n m other) i && same_parts p q) (Some (length C.rows)) ((handle_at C m).first q))
-]
-
 -- a plan that is new
 pub lays-new : (old new : Layout) (C : Laid) (r : RootNumber) (d : Dims) (p : Parts) (first : ℕ) → Lays old C → r.0 < length C.handles → (handle_at C r.0).dims ≡ d → get same_taken old.firsts (taken r.0 p) ≡ None
     → new.infos.items ≡ old.infos.items ++ each_of (rect_cell r) (children_of d p) → ((q : Taken) → get same_taken new.firsts q ≡ cond (same_taken (taken r.0 p) q) (Some first) (get same_taken old.firsts q)) → first ≡ length old.infos.items → length new.infos.items ≤ most
@@ -79,7 +72,7 @@ lays-new old new C r d p first s inside dims none rows firsts number few =
     let lays : Lays new (taking n p C) = record {
       rows = same_rows;
       few = omega (arith, few, ap length same_rows);
-      firsts = λ m q. firsts (taken m q) ∙ (λ i. cond (nat_eq n m && same_parts p q) (Some (one i)) (s.firsts m q i)) ∙ sym (first-after C n p inside m q);
+      firsts = λ m q. firsts (taken m q) ∙ (λ i. cond (nat_eq n m && same_parts p q) (Some (one i)) (s.firsts m q i)) ∙ sym (took-first C n p inside m q);
     } in
     by_first C n p (λ (D : Laid). Lays new D × ((handle_at D n).first p ≡ Some first)) (λ f had. absurd (none_isn't f (sym none ∙ s.firsts n p ∙ had)))
     (λ fresh. (lays, ap (λ (h : Handle). h.first p) (took-there C n p inside) ∙ (λ i. cond (parts-itself p i) (Some (sym one i)) ((handle_at C n).first p))))
@@ -298,12 +291,3 @@ is-inside l workers rs C o follows whole lives place = record {
   has = has-cells l workers rs C o.root.0 follows whole lives;
   place = subst (λ (p : Parts). IsPlace p o.place) (sym (follows.active.each o.root.0 lives).parts) place;
 }
-
--- ---- print statements
-
-pub take-prints : (C : Laid) (n : ℕ) (p : Parts) → (take n p C).prints ≡ C.prints
-take-prints C n p = by_first C n p (λ (D : Laid). D.prints ≡ C.prints) (λ f e. refl) (λ e. refl)
-
-pub copies-prints : (w : ℕ) (cs : List Cell) (C : Laid) → (fold (with_copies w) C cs).prints ≡ C.prints
-copies-prints w [] C = refl
-copies-prints w (c ∷ cs) C = copies-prints w cs (with_copies w C c) ∙ by_copies w c C (λ (D : Laid). D.prints ≡ C.prints) (λ f e. refl) (λ e. refl)

@@ -20,7 +20,7 @@ use Rattle.sj_codelet.specs.Kernel.{out}
 use Rattle.sj_core.specs.Program.{same_cell}
 use Rattle.sj_core.proofs.Readiness.{Contains-map}
 use Rattle.sj_plan.specs.declared.parts.Parts.{Parts}
-use Rattle.sj_plan.specs.Parts.{IsPlace, places}
+use Rattle.sj_plan.specs.Parts.{IsPlace, places, number}
 use Rattle.sj_plan.specs.Paste.{same_child_place, pastes_of}
 use Rattle.sj_meaning.specs.Act.{Act, Register as Registers, Plan as Plans, Redux as Reduces, Task as Tasks, Print as Prints, Invalidate as Invalidates, Unregister as Unregisters}
 use Rattle.sj_meaning.specs.Statement.{Operand, TaskLine}
@@ -32,7 +32,7 @@ use Rattle.sj_lower.specs.Rows.{paste_row}
 use Rattle.sj_phases.specs.Plain.{Opens, with_shut, with_opening, shut_by, open_at}
 use Rattle.sj_phases.proofs.Expanded.{shuts}
 use Rattle.sj_phases.proofs.Logging.{by_which, phase-own, phase-other}
-use Rattle.sj_lower.specs.Cells.{number, same_parts}
+use Rattle.sj_lower.specs.Cells.{same_parts}
 use Rattle.sj_lower.specs.Laid.{Laid, handle_of, cell_of, take, with_root, with_print, with_copies}
 use Rattle.sj_lower.specs.SoundAt.{Lives, IsPlaced, IsSoundTask, IsSound, child_dims}
 use Rattle.sj_lower.specs.Step.{by_number, closing, contributed, opening_of, operand_cell, task_block, plan_block, active_cells, step_of}

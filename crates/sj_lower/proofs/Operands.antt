@@ -18,6 +18,7 @@ use Rattle.sj_base.specs.declared.program.Codelet.{Codelet}
 use Rattle.sj_base.specs.declared.program.Program.{Program}
 use Rattle.sj_base.specs.Mode.{is_redux, is_read_only, is_written, is_commute}
 use Rattle.sj_base.proofs.Bools.{and_middle, and_rest, implied}
+use Rattle.sj_base.proofs.Modes.{redux-is}
 use Rattle.sj_codelet.specs.declared.formal.Formal.{Formal}
 use Rattle.sj_codelet.specs.declared.formal.Formal.TheVariants.{R as FormalR, RW as FormalRW, Scratch as FormalScratch}
 use Rattle.sj_codelet.specs.declared.kernel.Kernel.{Kernel}
@@ -118,10 +119,6 @@ pub lawful-contribution : (has : Kernel → Bool) (id : Codelet) (r : Option Red
 lawful-contribution has id None m law redux = absurd (false≢true (implied (is_redux m) false (and_rest (not (is_commute m) || commutes_in has id) (not (is_redux m) || false) law) redux))
 lawful-contribution has id (Some by) m law redux = (by, refl, implied (is_redux m) (contributes_in has id by) (and_rest (not (is_commute m) || commutes_in has id) (not (is_redux m) || contributes_in has id by) law) redux)
 
-is-redux : (m : Mode) → is_redux m ≡ true → m ≡ Redux
-is-redux Redux e = refl
-is-redux m e = absurd (false≢true e)
-
 pub contributes-there : (has : Kernel → Bool) (rs : List RootState) (t : TaskLine ℕ) (s : IsSoundTask has rs t) → list_any (λ o. is_redux o.mode) t.operands ≡ true → Contributes rs t (kernel_there has rs t s).call.kernel
 contributes-there has rs t s any =
     let kernel = kernel_there has rs t s in
@@ -137,7 +134,7 @@ contributes-there has rs t s any =
       | inr last ↦ last
     ] in
     let redux = ap (λ (o : Operand ℕ). is_redux o.mode) same ∙ found.2 in
-    let mode = is-redux e.last.mode redux in
+    let mode = redux-is e.last.mode redux in
     record {
       before = e.before;
       last = e.last;

@@ -6,15 +6,14 @@ use Rattle.std.proofs.lemmas.Bool.{and_from, and_parts, eqb-true}
 use Rattle.std.proofs.lemmas.List.{map-id, length-map, get_or-map}
 use Rattle.std.proofs.lemmas.List.Concat.{get_or-flat_map}
 use Rattle.std.proofs.lemmas.List.FromFn.{length-range_with_len, get_or-range_with_len, length-map-range_with_len, get_or-map-range_with_len, take-map-range_with_len}
-use Rattle.std.proofs.lemmas.Nat.{div_below, mod_below, div-add-mod', mul-add-lt, same_from_place}
+use Rattle.std.proofs.lemmas.Nat.{div_below, mod_below, div-add-mod', mul-add-lt}
 use Rattle.sj_base.proofs.Bools.{nat_eq-itself}
 use Rattle.sj_base.proofs.Numbers.{none_first, some_factor}
 use Rattle.sj_plan.specs.declared.parts.Parts.{Parts}
-use Rattle.sj_plan.specs.Parts.{IsPlace, places}
+use Rattle.sj_plan.specs.Parts.{IsPlace, places, number}
 use Rattle.sj_plan.proofs.Lists.{grid_row}
 use Rattle.sj_plan.proofs.Windows.{length-rows}
-use Rattle.sj_lower.specs.Cells.{number, same_parts}
-pub use Rattle.sj_base.proofs.Numbers.{same_pair}
+use Rattle.sj_lower.specs.Cells.{same_parts}
 pub use Rattle.sj_plan.proofs.Repartitioning.{same_child_place-law as place-is, same_child_place-refl as place-itself}
 
 pub parts-are : (p q : Parts) → same_parts p q ≡ true → p ≡ q
@@ -29,9 +28,6 @@ parts-itself p = and_from (nat_eq p.r p.r) (nat_eq p.c p.c) (nat_eq-itself p.r) 
 
 pub number-below : (p : Parts) (place : ℕ × ℕ) → IsPlace p place → number p place < p.r * p.c
 number-below p place h = omega (arith, mul-add-lt place.0 p.c place.1 p.r h.0 h.1)
-
-pub number-apart : (p : Parts) (x y : ℕ × ℕ) → IsPlace p x → IsPlace p y → number p x ≡ number p y → x ≡ y
-number-apart p x y hx hy e = let same = same_from_place x.0 x.1 y.0 y.1 p.c hx.1 hy.1 e in same_pair x y same.0 same.1
 
 -- ---- lists
 

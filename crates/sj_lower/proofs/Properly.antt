@@ -9,7 +9,6 @@ use Rattle.std.proofs.lemmas.List.Elements.{All-append, All-cons, All-contains, 
 use Rattle.sj_base.specs.declared.ids.Cell.{Cell}
 use Rattle.sj_base.specs.declared.ids.Line.{Line}
 use Rattle.sj_base.specs.declared.ids.Worker.{Worker}
-use Rattle.sj_base.specs.declared.mode.Mode.{Mode}
 use Rattle.sj_base.specs.declared.mode.Mode.TheVariants.{W, Redux}
 use Rattle.sj_base.specs.declared.mode.Access.{Access}
 use Rattle.sj_base.specs.declared.program.CellInfo.{CellInfo}
@@ -27,8 +26,9 @@ use Rattle.sj_phases.specs.declared.phase.Opening.{Opening}
 use Rattle.sj_phases.specs.Block.{Block}
 use Rattle.sj_phases.specs.Rows.{init_row}
 use Rattle.sj_phases.specs.Expand.{first_units}
-use Rattle.sj_phases.specs.Plain.{Opens, direct, direct_mode, direct_access, units, plain_rows, with_opening, shut_by, open_at}
+use Rattle.sj_phases.specs.Plain.{Opens, direct, direct_access, units, plain_rows, with_opening, shut_by, open_at}
 use Rattle.sj_phases.specs.Orderly.{IsOrderlyTask, AreOpenings, IsOrderly, AreOrderly, IsDelivered}
+use Rattle.sj_phases.proofs.Good.{direct-redux}
 use Rattle.sj_lower.specs.Laid.{Laid, info_at}
 use Rattle.sj_lower.specs.Cells.{copy_info}
 use Rattle.sj_lower.specs.SoundAt.{AreSound}
@@ -52,10 +52,6 @@ IsOrdinary p a = IsPlain p a.cell × (is_redux a.mode ≡ false)
 -- all accesses of a task are
 abbrev AreOrdinary : Program → Lowered → Type 0
 AreOrdinary p l = All (IsOrdinary p) l.accesses
-
-direct-redux : (m : Mode) → is_redux (direct_mode m) ≡ false
-direct-redux Redux = refl
-direct-redux m = refl
 
 -- of the cells that are contributed to
 openings-plain : (p : Program) (tasks : List Lowered) (was : Opens) (os : List Opening) (line : Line) → AreOpenings p tasks was os → ((l : Lowered) → Contains tasks l → (a : Access) → Contains l.accesses a → IsPlain p a.cell) → All (AreOrdinary p) (flat_map (λ o. first_units o line) os)

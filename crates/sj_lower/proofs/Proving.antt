@@ -17,7 +17,7 @@ use Rattle.sj_phases.specs.Expand.{nothing, expand, cells_below, last_block}
 use Rattle.sj_phases.specs.Plain.{Opens, Plainly, plain_next, plain_program, none_open, open_at}
 use Rattle.sj_phases.specs.Orderly.{IsOrderly, AreOrderly, IsDelivered}
 use Rattle.sj_phases.specs.Law.{program_by, handed_over, MayExpand}
-use Rattle.sj_phases.proofs.Expanded.{delivered, proper, holds_plain, last-shuts}
+use Rattle.sj_phases.proofs.Expanded.{delivered, proper, holds_plain, last-shuts, start}
 use Rattle.sj_lower.specs.Laid.{no_cells}
 use Rattle.sj_lower.specs.SoundAt.{AreSound}
 use Rattle.sj_lower.proofs.Agrees.{Agrees}
@@ -72,9 +72,6 @@ module _ (has : Kernel → Bool) (workers : ℕ) (ss : List (Statement ℕ)) (li
 
   abbrev before : Program
   before = plain_program rows workers own
-
-  abbrev start : Plainly
-  start = record { tasks = []; deliveries = [] }
 
   abbrev ended : Plainly
   ended = fold plain_next start own

@@ -31,11 +31,12 @@ use Rattle.sj_lower.specs.SoundAt.{IsSound, AreSound}
 use Rattle.sj_lower.specs.Step.{Step, by_number, closing, step_of, steps_from, laid_by, last_line, blocks_by, program_by, cells_above, tasks_above, operand_cell, contributed, active_cells}
 use Rattle.sj_lower.specs.Whole.{IsWhole}
 use Rattle.sj_lower.proofs.Agrees.{Agrees}
-use Rattle.sj_lower.proofs.Laying.{take-prints, copies-prints}
+use Rattle.sj_lower.proofs.Copying.{copies-prints}
 use Rattle.sj_lower.proofs.Following.{AllAgree}
 use Rattle.sj_lower.proofs.Naming.{Knows, AreTold, knows-apply}
 use Rattle.sj_lower.proofs.Places.{length-places}
 use Rattle.sj_lower.proofs.Values.{values_at}
+use Rattle.sj_lower.proofs.Taken.{take-prints}
 use Rattle.sj_lower.specs.Rows.{deliver_row, paste_row}
 use Rattle.sj_lower.specs.Cells.{same_parts}
 use Rattle.sj_plan.specs.Paste.{pastes_of}

@@ -1,9 +1,9 @@
 -- An act that is sound by its roots' names is so by their numbers.
-use Rattle.std.proofs.Common.{◌≡◌, ℕ, ◌<◌, Bool, true, false, ◌&&◌, ◌||◌, not, Option, Some, None, List, [], ◌∷◌, length, map, refl, ap, sym, subst, ◌∙◌, bytes_eq, nat_lt}
+use Rattle.std.proofs.Common.{◌≡◌, ℕ, ◌<◌, Bool, true, false, ◌&&◌, ◌||◌, not, Option, Some, None, List, [], ◌∷◌, length, map, refl, ap, sym, subst, ◌∙◌, bytes_eq}
 use Rattle.std.specs.Prelude.{nat_eq}
 use Rattle.std.specs.List.{AllByRecursion, list_all, list_any}
 use Rattle.std.specs.Option.{is_none}
-use Rattle.std.proofs.lemmas.Bool.{false≢true, and_parts, eq-eqb, eqb-true, ltb-true}
+use Rattle.std.proofs.lemmas.Bool.{false≢true, and_parts, eq-eqb, eqb-true}
 use Rattle.std.proofs.lemmas.List.{length-map}
 use Rattle.std.proofs.lemmas.Slice.Eq.{bytes_eq-Decides}
 use Rattle.sj_base.proofs.Bools.{same_test}
@@ -16,8 +16,7 @@ use Rattle.sj_codelet.specs.declared.kernel.Kernel.TheVariants.{Deliver}
 use Rattle.sj_codelet.specs.declared.formal.Formal.{Formal}
 use Rattle.sj_codelet.specs.Kernel.{kernel_of, fits_in}
 use Rattle.sj_codelet.specs.Runs.{formals_in}
-use Rattle.sj_plan.specs.declared.parts.Parts.{Parts}
-use Rattle.sj_plan.specs.Parts.{Fits, IsPlace}
+use Rattle.sj_plan.specs.Parts.{Fits}
 use Rattle.sj_plan.specs.Paste.{same_child_place}
 use Rattle.sj_plan.specs.Rect.{rect_dims}
 use Rattle.sj_meaning.specs.Statement.{Operand, TaskLine}
@@ -29,6 +28,7 @@ use Rattle.sj_meaning.specs.Sound as by_name
 use Rattle.sj_meaning.specs.Sound.{mode_fits, is_unordered, is_lawful_for, needs_value, IsSoundAct}
 use Rattle.sj_base.specs.Mode.{is_read_only}
 use Rattle.sj_meaning.specs.Table.{AreDistinct}
+use Rattle.sj_meaning.proofs.Children.{place-from_test}
 use Rattle.sj_meaning.proofs.Mirroring.{IsThere, IsMirror, IsTimely, root-there, written-by}
 use Rattle.sj_meaning.proofs.Finding.{text-itself}
 use Rattle.sj_lower.specs.SoundAt.{Lives, child_dims, has_value, modes_fit, clashes, is_aliased, IsPlaced, IsSoundTask, IsSound}
@@ -79,14 +79,11 @@ module _ (names : List (List ℕ)) (d : AreDistinct names) (S : JobState) (rs : 
   aliased-at (o ∷ os) h = λ i.
       any-at (by_name.clashes (operand_by (name_at names) o)) (clashes o) (λ p g. λ j. same-name o.name p.name h.0.below g.below j && same_child_place o.place p.place && not (is_read_only o.mode && is_read_only p.mode)) os h.1 i || aliased-at os h.1 i
 
-  place-of : (p : Parts) (place : ℕ × ℕ) → is_child p place ≡ true → IsPlace p place
-  place-of p place h = let both = and_parts (nat_lt place.0 p.r) (nat_lt place.1 p.c) h in (ltb-true place.0 p.r both.0, ltb-true place.1 p.c both.1)
-
   placed-at : (os : List (Operand ℕ)) → AllByRecursion There os → list_all (by_name.has_child S) (map (operand_by (name_at names)) os) ≡ true → AllByRecursion (IsPlaced rs) os
   placed-at [] h e = tt
   placed-at (o ∷ os) h e =
       let both = and_parts (by_name.has_child S (operand_by (name_at names) o)) (list_all (by_name.has_child S) (map (operand_by (name_at names)) os)) e in (
-        record { lives = lives o.name h.0; place = place-of (root_at rs o.name).parts o.place (sym (looked false (λ r. is_child r.parts o.place) o.name h.0) ∙ both.0) },
+        record { lives = lives o.name h.0; place = place-from_test (root_at rs o.name).parts o.place (sym (looked false (λ r. is_child r.parts o.place) o.name h.0) ∙ both.0) },
         placed-at os h.1 both.1,
       )
 

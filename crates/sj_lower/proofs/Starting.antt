@@ -1,9 +1,8 @@
 -- A registration and a plan line leave in the cells of a root's children what the children hold, by the roots' numbers.
-use Rattle.std.proofs.Common.{◌≡◌, ℕ, ◌+◌, ◌<◌, true, false, cond, ◌||◌, Some, None, List, [], ◌∷◌, ◌++◌, ℤ, pos, length, map as each_of, refl, sym, ap, subst, ◌∙◌, inl, inr, arith, length-append}
+use Rattle.std.proofs.Common.{◌≡◌, ℕ, ◌+◌, ◌<◌, true, false, cond, ◌||◌, None, List, [], ◌∷◌, ◌++◌, ℤ, pos, length, map as each_of, refl, sym, ap, subst, ◌∙◌, inl, inr, arith, length-append}
 use Rattle.std.proofs.Math.Seq.{get_or-append_seam}
 use Rattle.std.proofs.lemmas.Bool.{cases_lt, cond_both, false≢true}
-use Rattle.std.proofs.lemmas.List.{length-map, length-replicate, length-set, get_or_append_left, get_or_past}
-use Rattle.std.proofs.lemmas.List.FromFn.{length-map-range_with_len}
+use Rattle.std.proofs.lemmas.List.{length-set, get_or_append_left, get_or_past}
 use Rattle.sj_base.specs.declared.ids.Cell.{Cell}
 use Rattle.sj_base.specs.declared.ids.Line.{Line}
 use Rattle.sj_base.specs.declared.tile.Dims.{Dims}
@@ -28,6 +27,7 @@ use Rattle.sj_meaning.specs.State.{RootState, is_valued, has_no_value, is_valued
 use Rattle.sj_meaning.specs.Meaning.{root_array, child_array, first_elements, registered_root, with_parts}
 use Rattle.sj_meaning.specs.Numbers.{no_root, root_at, change_at}
 use Rattle.sj_meaning.specs.Sound.{InitFits}
+use Rattle.sj_meaning.proofs.Children.{first_length}
 use Rattle.sj_lower.specs.Cells.{same_parts}
 use Rattle.sj_lower.specs.Laid.{Laid, Handle, handle_of, handle_at, cell_of, take, with_root}
 use Rattle.sj_lower.specs.Rows.{load_row, fill_row, fill_arguments, paste_row, load_rows}
@@ -122,11 +122,6 @@ keeps_taken q C B n rs new m x ls has keeps a copies there dims fits whole count
 abbrev begun : Kind → Init → Dims → Parts → RootState
 begun kind i d s = record { kind = kind; dims = d; parts = s; reduction = None; elements = first_elements i d }
 
-first_whole : (i : Init) (d : Dims) → InitFits i d → length (first_elements i d) ≡ area d
-first_whole (Values xs) d f = length-map xs (λ x. Some x) ∙ f
-first_whole (Fill a b) d f = length-map-range_with_len _ 0 (area d)
-first_whole Nothing d f = length-replicate (area d) None
-
 starts : (q : Program) (C : Laid) (m : ℕ) (kind : Kind) (i : Init) (d : Dims) (s : Parts) (line : Line) (n f : ℕ) → Fits s d → InitFits i d → HasCells q C → AreLaid C → IsTaken C m d s f → Stand q n (load_rows i d s (cell_of C m s) line) → Turns q C m (begun kind i d s) (load_rows i d s (cell_of C m s) line) n
 starts q C m kind (Values xs) d s line n f fits init cells laid t stand =
     let x = begun kind (Values xs) d s in
@@ -144,7 +139,7 @@ starts q C m kind (Fill a b) d s line n f fits init cells laid t stand =
     (λ place. gives_own LoadFill (fill_arguments a b d.cols (child d s place)) (cell_of C m s place) line)
 starts q C m kind Nothing d s line n f fits init cells laid t stand =
     let x = begun kind Nothing d s in
-    turns_idle q C m x n (λ place inside v. absurd (blank-child x place (first_whole Nothing d init) (no_values-blank (area d)) fits inside v))
+    turns_idle q C m x n (λ place inside v. absurd (blank-child x place (first_length Nothing d init) (no_values-blank (area d)) fits inside v))
 
 -- the root of a number, after a root more
 pub pushed-there : (rs : List RootState) (x : RootState) (m : ℕ) → m ≡ length rs → root_at (rs ++ x ∷ []) m ≡ x
@@ -164,7 +159,7 @@ keeps-registered q C n rs line r s a copies counted has cells stand =
     let D = take m r.parts B in
     let long = length-append C.handles (handle_of r.dims ∷ []) in
     keeps_taken q C B n rs (rs ++ registered_root r ∷ []) m (registered_root r) (load_rows r.init r.dims r.parts (cell_of D m r.parts) line) has (keeps-root C r.dims) (laid-root C r.dims a s.elements) (copies-root q.workers C r.dims copies)
-    (omega (arith, long)) (ap (λ (h : Handle). h.dims) (root-there C r.dims m refl)) s.parts (first_whole r.init r.dims s.values) (omega (arith, long, length-append rs (registered_root r ∷ []), counted))
+    (omega (arith, long)) (ap (λ (h : Handle). h.dims) (root-there C r.dims m refl)) s.parts (first_length r.init r.dims s.values) (omega (arith, long, length-append rs (registered_root r ∷ []), counted))
     (pushed-there rs (registered_root r) m counted) (λ u other. pushed-beside rs (registered_root r) u (λ e. other (e ∙ sym counted))) stand (λ f laid t. starts q D m r.kind r.init r.dims r.parts line n f s.parts s.values cells laid t stand)
 
 -- ---- plans

@@ -1,5 +1,5 @@
 -- What each kind of statement does, by what the code's calls gave.
-use Rattle.std.proofs.Common.{◌≡◌, ℕ, ◌+◌, ◌*◌, ◌<◌, ◌≤◌, Bool, true, false, cond, Option, Some, None, IfSome, IfNone, Result, Ok, Err, IfErr, IsErrAnd, List, [], ◌∷◌, ◌++◌, length, map as each_of, fold, refl, sym, ap, subst, ◌∙◌, arith, length-append}
+use Rattle.std.proofs.Common.{◌≡◌, ℕ, ◌+◌, ◌*◌, ◌<◌, ◌≤◌, Bool, true, false, cond, Option, Some, None, IfSome, IfNone, List, [], ◌∷◌, ◌++◌, length, map as each_of, fold, refl, sym, ap, subst, ◌∙◌, arith, length-append}
 use Rattle.std.specs.Prelude.{set, unwrap_or, zip}
 use Rattle.std.specs.List.{range_with_len}
 use Rattle.std.proofs.lemmas.Simd.{map-map}
@@ -13,7 +13,7 @@ use Rattle.sj_base.specs.declared.program.Lowered.{Lowered}
 use Rattle.sj_base.specs.declared.tile.Dims.{Dims}
 use Rattle.sj_base.proofs.Options.{IfSome-at}
 use Rattle.sj_plan.specs.declared.parts.Parts.{Parts}
-use Rattle.sj_plan.specs.Parts.{Fits, places}
+use Rattle.sj_plan.specs.Parts.{Fits, places, children_count}
 use Rattle.sj_plan.specs.Paste.{pastes_of}
 use Rattle.sj_meaning.specs.declared.job.Init.{Init}
 use Rattle.sj_meaning.specs.declared.job.RootInfo.{RootInfo}
@@ -35,7 +35,7 @@ use Rattle.sj_lower.specs.declared.layout.Layout.{Layout}
 use Rattle.sj_lower.specs.declared.rows.Placed.{Placed}
 use Rattle.sj_lower.specs.declared.steps.Steps.{Steps}
 use Rattle.sj_lower.specs.Adds.{StepsAt, IsNext, HasNext, Goes, Adds, IsFull}
-use Rattle.sj_lower.specs.Cells.{children_count, cells_from, same_parts}
+use Rattle.sj_lower.specs.Cells.{cells_from, same_parts}
 use Rattle.sj_lower.specs.Follows.{taken, same_taken, Lays, Follows, AreActive, IsActive, active_at, HasCells, cells_by}
 use Rattle.sj_lower.specs.Laid.{Laid, Handle, handle_at, handle_of, first_cell, cell_of, take, with_root, with_print}
 use Rattle.sj_lower.specs.Rows.{load_rows, paste_row, deliver_row}
@@ -45,15 +45,10 @@ use Rattle.sj_lower.specs.Step as step
 use Rattle.sj_lower.specs.Whole.{AreLaid}
 use Rattle.sj_lower.proofs.Arms.{early-before, does-if, does-block, does-closing, does-empty, does-start-close, goes, goes-kept, keeps-change, kept-of, kept-end}
 use Rattle.sj_lower.proofs.Keeping.{lives-below}
-use Rattle.sj_lower.proofs.Laying.{active-set, keeps-take, follows-kept, cells-same, has-cells, take-prints}
-use Rattle.sj_lower.proofs.Taken.{laid-root, laid-take, root-there}
+use Rattle.sj_lower.proofs.Laying.{active-set, keeps-take, follows-kept, cells-same, has-cells}
+use Rattle.sj_lower.proofs.Taken.{laid-root, laid-take, root-there, take-prints}
 
 -- ---- what the code has
-
--- what is true of the reason that `?` hands over
-pub handed : {A E : Type 0} (r : Result A E) (e : E) (P : E → Type 0) → IsErrAnd r (λ x. x ≡ e) → P e → IfErr r P
-handed (Ok x) e P is h = tt
-handed (Err x) e P is h = subst P (sym is) h
 
 pub has-phases : (T : Table) (old : Steps) (a : KeptAct) → HasNext T old a → HasAt old.phases
 has-phases T old a h = record { expansion = h.expansion; at = h.at.phases }

@@ -12,7 +12,7 @@ use Rattle.sj_base.specs.declared.mode.Reduction.{Reduction}
 use Rattle.sj_base.specs.declared.tile.Dims.{Dims}
 use Rattle.sj_base.specs.declared.program.Lowered.{Lowered}
 use Rattle.sj_base.specs.declared.program.Program.{Program}
-use Rattle.sj_base.specs.Array.{Array, area}
+use Rattle.sj_base.specs.Array.{area}
 use Rattle.sj_base.specs.Mode.{is_redux, access}
 use Rattle.sj_base.proofs.Lists.{each-weaker}
 use Rattle.sj_base.proofs.Numbers.{none_more}
@@ -29,8 +29,9 @@ use Rattle.sj_meaning.specs.declared.job.Init.TheVariants.{Values, Fill, Nothing
 use Rattle.sj_meaning.specs.Statement.{Operand}
 use Rattle.sj_meaning.specs.Act.{Act, Register as Registers, Plan as Plans, Redux as Reduces, Task as Tasks, Print as Prints, Invalidate as Invalidates, Unregister as Unregisters}
 use Rattle.sj_meaning.specs.State.{RootState, is_valued}
-use Rattle.sj_meaning.specs.Meaning.{with_reduction, with_elements, with_child, no_values, written_of}
-use Rattle.sj_meaning.specs.Numbers.{no_root, root_at, change_at, apply_at, put_all_at, operand_array_at}
+use Rattle.sj_meaning.specs.Meaning.{with_reduction, with_elements, no_values, written_of}
+use Rattle.sj_meaning.specs.Numbers.{no_root, root_at, change_at, apply_at, operand_array_at}
+use Rattle.sj_meaning.proofs.Timely.{length-put}
 use Rattle.sj_codelet.specs.Kernel.{out}
 use Rattle.sj_phases.specs.Plain.{Opens, direct_mode, direct, plain_rows, open_at}
 use Rattle.sj_phases.specs.Rows.{own_task}
@@ -114,10 +115,6 @@ reduced-root : (q : Program) (C : Laid) (n : ℕ) (k : Contents) (m : ℕ) (r : 
 reduced-root q C n k m r by o = record { fits = o.fits; whole = o.whole; first = o.first; taken = o.taken; held = o.held }
 
 -- ---- a task
-
-length-put : (os : List (Operand ℕ)) (xs : List Array) (rs : List RootState) → length (put_all_at os xs rs) ≡ length rs
-length-put (o ∷ os) (a ∷ xs) rs = length-put os xs (change_at (with_child o.place a) o.name rs) ∙ length-set rs o.name (with_child o.place a (root_at rs o.name))
-length-put os xs rs = refl
 
 -- ---- one statement more
 

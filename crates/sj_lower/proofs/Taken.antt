@@ -14,16 +14,17 @@ use Rattle.sj_base.specs.declared.program.CellInfo.{CellInfo}
 use Rattle.sj_base.specs.Array.{area}
 use Rattle.sj_core.specs.Program.{no_cell}
 use Rattle.sj_plan.specs.declared.parts.Parts.{Parts}
-use Rattle.sj_plan.specs.Parts.{Fits, IsPlace, places}
+use Rattle.sj_plan.specs.Parts.{Fits, IsPlace, places, number}
 use Rattle.sj_plan.specs.Rect.{child, rect_dims}
 use Rattle.sj_plan.proofs.Lists.{each-map, each-places}
+use Rattle.sj_plan.proofs.Places.{number-apart}
 use Rattle.sj_plan.proofs.Splitting.{part_end}
 use Rattle.sj_meaning.specs.Table.{a_root}
-use Rattle.sj_lower.specs.Cells.{number, same_parts, child_cell}
+use Rattle.sj_lower.specs.Cells.{same_parts, child_cell}
 use Rattle.sj_lower.specs.Laid.{Laid, Handle, handle_of, handle_at, cell_of, taking, take, with_root, no_cells}
 use Rattle.sj_lower.specs.Whole.{IsTaken, AreLaid}
 pub use Rattle.std.proofs.lemmas.Option.{same_Some as some_is, none-some as none_isn't}
-use Rattle.sj_lower.proofs.Places.{parts-are, parts-itself, number-below, number-apart, length-places, places-at}
+use Rattle.sj_lower.proofs.Places.{parts-are, parts-itself, number-below, length-places, places-at}
 
 -- where a root has the handle of another, it has taken its plans
 pub taken-as : (C D : Laid) (n m : ℕ) (d : Dims) (s : Parts) (f : ℕ) → handle_at D m ≡ handle_at C n → IsTaken C n d s f → IsTaken D m d s f
@@ -130,7 +131,7 @@ took-dims C n p lt m = elim (cases_eq m n) as (λ _. (handle_at (taking n p C) m
 ]
 
 -- the plans of a root afterwards
-took-first : (C : Laid) (n : ℕ) (p : Parts) → n < length C.handles → (m : ℕ) (s : Parts) → (handle_at (taking n p C) m).first s ≡ cond (nat_eq n m && same_parts p s) (Some (length C.rows)) ((handle_at C m).first s)
+pub took-first : (C : Laid) (n : ℕ) (p : Parts) → n < length C.handles → (m : ℕ) (s : Parts) → (handle_at (taking n p C) m).first s ≡ cond (nat_eq n m && same_parts p s) (Some (length C.rows)) ((handle_at C m).first s)
 took-first C n p lt m s = elim (cases_eq n m) as (λ _. (handle_at (taking n p C) m).first s ≡ cond (nat_eq n m && same_parts p s) (Some (length C.rows)) ((handle_at C m).first s)) [
   | inl e ↦ ap (λ (h : Handle). h.first s) (ap (handle_at (taking n p C)) (sym e) ∙ took-there C n p lt) ∙ (λ i. cond (sym (eq-eqb n m e) i && same_parts p s) (Some (length C.rows)) ((handle_at C (e i)).first s))
   | inr other ↦ ap (λ (h : Handle). h.first s) (took-other C n p m (λ e. other (sym e))) ∙ (λ i. cond (sym (ne_eqb n m other) i && same_parts p s) (Some (length C.rows)) ((handle_at C m).first s))
@@ -235,3 +236,7 @@ take-dims C n p lt m = by_first C n p (λ (D : Laid). (handle_at D m).dims ≡ (
 
 pub take-handles : (C : Laid) (n : ℕ) (p : Parts) → length (take n p C).handles ≡ length C.handles
 take-handles C n p = by_first C n p (λ (D : Laid). length D.handles ≡ length C.handles) (λ f e. refl) (λ e. length-set C.handles n (Took C n p))
+
+-- and how many print statements there were
+pub take-prints : (C : Laid) (n : ℕ) (p : Parts) → (take n p C).prints ≡ C.prints
+take-prints C n p = by_first C n p (λ (D : Laid). D.prints ≡ C.prints) (λ f e. refl) (λ e. refl)

@@ -48,9 +48,9 @@ use Rattle.sj_lower.specs.SoundAt.{Lives, has_value, IsPlaced, IsSoundTask}
 use Rattle.sj_lower.specs.Step.{by_number, operand_cell, is_other_access, opening_of, access_of, task_row}
 use Rattle.sj_lower.specs.Whole.{IsWhole, HaveCopies}
 use Rattle.sj_lower.proofs.Arms.{does-block, does-task, goes-kept, keeps-put, kept-of}
-use Rattle.sj_lower.proofs.Copying.{IsNoCopy, by_copies, copies-copied, copied-first, first-old}
+use Rattle.sj_lower.proofs.Copying.{IsNoCopy, by_copies, copies-copied, copied-first, first-old, copies-prints}
 use Rattle.sj_lower.proofs.Finding.{contributed-at, only-one, value-of}
-use Rattle.sj_lower.proofs.Laying.{none-at, follows-kept, cell-same, is-inside, copies-prints}
+use Rattle.sj_lower.proofs.Laying.{none-at, follows-kept, cell-same, is-inside}
 use Rattle.sj_lower.proofs.Speaking.{map-same}
 use Rattle.sj_lower.proofs.Taken.{none_isn't, some_is, cell-is, cell-inside}
 

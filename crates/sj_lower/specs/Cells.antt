@@ -5,15 +5,9 @@ use Rattle.sj_base.specs.declared.ids.Root.{Root}
 use Rattle.sj_base.specs.declared.tile.Dims.{Dims}
 use Rattle.sj_base.specs.declared.program.CellInfo.{CellInfo}
 use Rattle.sj_plan.specs.declared.parts.Parts.{Parts}
+use Rattle.sj_plan.specs.Parts.{number}
 use Rattle.sj_plan.specs.declared.rect.Rect.{Rect}
 use Rattle.sj_plan.specs.Rect.{child, rect_dims}
-
--- the place of a child in the list of its plan's children
-abbrev pub number : Parts → ℕ × ℕ → ℕ
-number p place = place.0 * p.c + place.1
-
-abbrev pub children_count : Parts → ℕ
-children_count p = p.r * p.c
 
 abbrev pub same_parts : Parts → Parts → Bool
 same_parts p q = nat_eq p.r q.r && nat_eq p.c q.c

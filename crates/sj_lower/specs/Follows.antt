@@ -7,7 +7,7 @@ use Rattle.sj_base.specs.declared.ids.Line.{Line}
 use Rattle.sj_base.specs.declared.mode.Access.{Access}
 use Rattle.sj_base.specs.Mode.{is_data, is_redux, access}
 use Rattle.sj_plan.specs.declared.parts.Parts.{Parts}
-use Rattle.sj_plan.specs.Parts.{IsPlace, places}
+use Rattle.sj_plan.specs.Parts.{IsPlace, places, children_count}
 use Rattle.sj_meaning.specs.declared.job.Operand.{Operand}
 use Rattle.sj_meaning.specs.declared.job.RootInfo.{RootInfo}
 use Rattle.sj_meaning.specs.State.{RootState}
@@ -18,7 +18,7 @@ use Rattle.sj_lower.specs.declared.layout.Taken.{Taken}
 use Rattle.sj_lower.specs.declared.layout.Active.{Active}
 use Rattle.sj_lower.specs.declared.layout.Layout.{Layout}
 use Rattle.sj_lower.specs.declared.rows.Placed.{Placed}
-use Rattle.sj_lower.specs.Cells.{children_count, cells_from}
+use Rattle.sj_lower.specs.Cells.{cells_from}
 use Rattle.sj_lower.specs.Laid.{Laid, handle_at}
 use Rattle.sj_lower.specs.SoundAt.{Lives}
 

@@ -7,11 +7,11 @@ use Rattle.sj_base.specs.declared.program.CellInfo.{CellInfo}
 use Rattle.sj_base.specs.Array.{area}
 use Rattle.sj_core.specs.Program.{no_cell}
 use Rattle.sj_plan.specs.declared.parts.Parts.{Parts}
-use Rattle.sj_plan.specs.Parts.{Fits, IsPlace}
+use Rattle.sj_plan.specs.Parts.{Fits, IsPlace, number}
 use Rattle.sj_plan.specs.Rect.{child, rect_dims}
 use Rattle.sj_meaning.specs.State.{RootState}
 use Rattle.sj_meaning.specs.Numbers.{root_at}
-use Rattle.sj_lower.specs.Cells.{number, copy_info}
+use Rattle.sj_lower.specs.Cells.{copy_info}
 use Rattle.sj_lower.specs.Laid.{Laid, handle_at, info_at}
 use Rattle.sj_lower.specs.SoundAt.{Lives}
 

@@ -3,11 +3,11 @@
 ghost use Rattle.std.specs.Prelude.{◌≡◌, ◌+◌, ◌≤◌, ◌∷◌, [], List, All, IsTrue, fold, length, map, IfErr, IfNone, IfSome, OnOk};
 ghost use Rattle.std.specs.List.{filter};
 ghost use Rattle.sj_base.specs.Mode.{is_redux};
+ghost use Rattle.sj_plan.specs.Parts.{children_count};
 ghost use Rattle.sj_meaning.specs.declared.job.Operand.{Operand};
 ghost use Rattle.sj_phases.specs.Does.{HasAt, Does};
 ghost use Rattle.sj_phases.specs.Expand.{closed, most};
 ghost use Rattle.sj_lower.specs.Adds.{cells_after, is_contributed, CanOpen, Opens, IsFullFor};
-ghost use Rattle.sj_lower.specs.Cells.{children_count};
 ghost use Rattle.sj_lower.specs.Follows.{IsInside, cell_by, cells_by, is_other};
 
 use crate::layout::Layout;

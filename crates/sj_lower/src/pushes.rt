@@ -3,13 +3,13 @@
 ghost use Rattle.std.specs.Prelude.{◌≡◌, ◌+◌, ◌≤◌, [], length, map, zip, OnOk};
 ghost use Rattle.std.specs.List.{range_with_len};
 ghost use Rattle.sj_base.specs.Array.{area};
-ghost use Rattle.sj_plan.specs.Parts.{Fits, places};
+ghost use Rattle.sj_plan.specs.Parts.{Fits, places, children_count};
 ghost use Rattle.sj_plan.specs.Paste.{pastes_of};
 ghost use Rattle.sj_meaning.specs.declared.job.Init.TheVariants.{Values, Fill};
 ghost use Rattle.sj_meaning.specs.Sound.{InitFits};
 ghost use Rattle.sj_phases.specs.Does.{HasAt, Does};
 ghost use Rattle.sj_phases.specs.Expand.{with_own};
-ghost use Rattle.sj_lower.specs.Cells.{children_count, cells_from};
+ghost use Rattle.sj_lower.specs.Cells.{cells_from};
 ghost use Rattle.sj_lower.specs.Rows.{load_rows, paste_row, deliver_row};
 ghost use Rattle.sj_lower.specs.Step.{a_delivery};
 

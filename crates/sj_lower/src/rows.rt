@@ -1,10 +1,10 @@
 //! The tasks that no task line names, for the children of a root.
 
 ghost use Rattle.std.specs.Prelude.{◌≡◌, ◌+◌, ◌≤◌, IfOk};
-ghost use Rattle.sj_plan.specs.Parts.{IsPlace};
+ghost use Rattle.sj_plan.specs.Parts.{IsPlace, children_count};
 ghost use Rattle.sj_plan.specs.Rect.{Within};
 ghost use Rattle.sj_phases.specs.Rows.{task_by};
-ghost use Rattle.sj_lower.specs.Cells.{children_count, cells_from};
+ghost use Rattle.sj_lower.specs.Cells.{cells_from};
 ghost use Rattle.sj_lower.specs.Rows.{load_row, fill_arguments, fill_row, paste_row, deliver_row, paste_arguments, paste_mode};
 
 use sj_base::few::Few;

@@ -1,3 +1,4 @@
+pub mod Children
 pub mod Finding
 pub mod Adding
 pub mod Views

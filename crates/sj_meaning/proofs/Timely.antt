@@ -67,7 +67,7 @@ statements-named T k (s ∷ ss) =
 
 -- ---- how many roots there are
 
-length-put : (os : List (Operand ℕ)) (arrays : List Array) (rs : List RootState) → length (put_all_at os arrays rs) ≡ length rs
+pub length-put : (os : List (Operand ℕ)) (arrays : List Array) (rs : List RootState) → length (put_all_at os arrays rs) ≡ length rs
 length-put [] arrays rs = refl
 length-put (o ∷ os) [] rs = refl
 length-put (o ∷ os) (a ∷ arrays) rs = length-put os arrays (change_at (with_child o.place a) o.name rs) ∙ length-set rs o.name (with_child o.place a (root_at rs o.name))

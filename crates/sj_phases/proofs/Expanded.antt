@@ -4,7 +4,7 @@ use Rattle.std.proofs.Common.{◌≡◌, ℕ, ◌+◌, ◌<◌, Bool, true, fals
 use Rattle.std.specs.Prelude.{◌⊎◌, All, Contains, filter}
 use Rattle.std.specs.List.{range_with_len}
 use Rattle.std.specs.Option.{is_some}
-use Rattle.std.proofs.lemmas.Bool.{false≢true, cases_lt}
+use Rattle.std.proofs.lemmas.Bool.{cases_lt}
 use Rattle.std.proofs.lemmas.List.{append-nil, get_or_past, get_or_default, get_or-map, length-map, map-append}
 use Rattle.std.proofs.lemmas.List.Sums.{fold-append}
 use Rattle.std.proofs.lemmas.List.Elements.{All-contains, All-from_get_or, Contains-get_or}
@@ -12,7 +12,6 @@ use Rattle.sj_base.specs.declared.ids.Cell.{Cell}
 use Rattle.sj_base.specs.declared.ids.Line.{Line}
 use Rattle.sj_base.specs.declared.ids.Task.{Task}
 use Rattle.sj_base.specs.declared.ids.Worker.{Worker}
-use Rattle.sj_base.specs.declared.mode.Mode.{Mode}
 use Rattle.sj_base.specs.declared.mode.Mode.TheVariants.{R}
 use Rattle.sj_base.specs.declared.mode.Access.{Access}
 use Rattle.sj_base.specs.declared.mode.Reduction.{Reduction}
@@ -21,6 +20,7 @@ use Rattle.sj_base.specs.declared.program.Delivery.{Delivery}
 use Rattle.sj_base.specs.declared.program.Lowered.{Lowered}
 use Rattle.sj_base.specs.declared.program.Program.{Program}
 use Rattle.sj_base.specs.Mode.{is_data, is_redux, is_scratch, reads_value}
+use Rattle.sj_base.proofs.Modes.{one-read}
 use Rattle.sj_codelet.specs.declared.kernel.Kernel.{Kernel}
 use Rattle.sj_codelet.specs.declared.kernel.Kernel.TheVariants.{Deliver}
 use Rattle.sj_codelet.specs.Kernel.{kernel_of, out}
@@ -31,6 +31,7 @@ use Rattle.sj_core.specs.Laws.{IsLawful, final}
 use Rattle.sj_core.specs.Proper.{Proper, FitsCodelet, MayHaveModes, IsPlain, IsUnaliased, HasValueBefore, access}
 use Rattle.sj_core.proofs.Folding.{map-same}
 use Rattle.sj_core.proofs.Given.{none-open}
+use Rattle.sj_core.proofs.Modes.{deliver-modes}
 use Rattle.sj_core.proofs.Readiness.{Contains-filter, Contains-map}
 use Rattle.sj_core.proofs.TaskCells.{operand-inside}
 use Rattle.sj_core.proofs.Workers.{workers-alike}
@@ -51,23 +52,12 @@ use Rattle.sj_phases.proofs.Holding.{Holds}
 use Rattle.sj_phases.proofs.Lists.{by_option, fold_keeps, cons-cases, range-has, all-from, split-at}
 use Rattle.sj_phases.proofs.Logging.{has-phases, some_is, none_isn't, by_which, phase-own, phase-other}
 
-abbrev start : Plainly
+-- no task yet
+abbrev pub start : Plainly
 start = record { tasks = []; deliveries = [] }
 
 pub delivered : (p : Program) (rows : List CellInfo) (workers : ℕ) (bs : List Block) → AreOrderly p none_open bs → AreDelivered rows workers bs
 delivered p rows workers bs orderly = record { expanded = delivered-expand p none_open workers bs nothing orderly delivered-none; plain = delivered-plain p none_open bs start orderly delivered-none }
-
--- a task that delivers has its codelet's own mode: it reads one cell
-deliver-modes : (modes : List Mode) → MayHaveModes Deliver modes → modes ≡ R ∷ []
-deliver-modes modes (MayHaveModes.Own own) = own
-deliver-modes modes (MayHaveModes.FirstPaste paste own) = absurd (cc)
-deliver-modes modes (MayHaveModes.Commuting commutes one own) = absurd (false≢true commutes)
-deliver-modes modes (MayHaveModes.Contributing by contributes one own) = absurd (false≢true contributes)
-
-one_read : (xs : List Access) → map (λ (a : Access). a.mode) xs ≡ R ∷ [] → (c : Cell) × (xs ≡ access R c ∷ [])
-one_read [] e = absurd (let n : 0 ≡ 1 = ap length e in omega (arith, n))
-one_read (a ∷ []) e = (a.cell, ap (λ (m : Mode). access m a.cell ∷ []) (ap (λ (ms : List Mode). get_or ms 0 R) e))
-one_read (a ∷ b ∷ xs) e = absurd (let n : length (a.mode ∷ b.mode ∷ map (λ (x : Access). x.mode) xs) ≡ 1 = ap length e in omega (arith, n))
 
 module _ (rows : List CellInfo) (workers : ℕ) (bs : List Block) (can : MayExpand rows workers bs) where
   abbrev p : Program
@@ -138,7 +128,7 @@ module _ (rows : List CellInfo) (workers : ℕ) (bs : List Block) (can : MayExpa
         → n < length p.tasks → task_of p (task n) ≡ l → task_of q (task m) ≡ direct l → given out p (task n) ≡ given out q (task m)
     given-alike n m phases was l holds linked orderly deliver lt row plain_row =
         let fit = subst (FitsCodelet p) row (fine.good n lt).fits in
-        let one = one_read l.accesses (deliver-modes (map (λ (a : Access). a.mode) l.accesses) (subst (λ (k : Kernel). MayHaveModes k (map (λ (a : Access). a.mode) l.accesses)) (some_is fit.kernel Deliver (sym fit.codelet ∙ deliver)) fit.modes)) in
+        let one = one-read l.accesses (deliver-modes (map (λ (a : Access). a.mode) l.accesses) (subst (λ (k : Kernel). MayHaveModes k (map (λ (a : Access). a.mode) l.accesses)) (some_is fit.kernel Deliver (sym fit.codelet ∙ deliver)) fit.modes)) in
         let c = one.0 in
         let among : Contains l.accesses (access R c) = subst (λ (xs : List Access). Contains xs (access R c)) (sym one.1) (0, omega arith, refl) in
         let kept : Contains (data_operands l) (access R c) = Contains-filter (λ (b : Access). not (is_scratch b.mode)) l.accesses (access R c) refl among in

@@ -38,10 +38,11 @@ use Rattle.sj_phases.specs.Orderly.{Contributes}
 use Rattle.sj_phases.proofs.Adding.{same-itself}
 use Rattle.sj_base.specs.Ids.{task}
 use Rattle.sj_base.proofs.Bools.{and_rest}
+use Rattle.sj_base.proofs.Modes.{redux-is}
 use Rattle.sj_base.proofs.SameIds.{same_cell-is}
 use Rattle.sj_phases.proofs.Folding.{Stand, later}
 use Rattle.sj_phases.proofs.Lists.{All-unmap, all-from}
-use Rattle.sj_phases.proofs.Logging.{redux-is, some_is}
+use Rattle.sj_phases.proofs.Logging.{some_is}
 
 -- ---- programs of the same cells
 
@@ -87,7 +88,7 @@ alone : {X : Type 0} (P : X → X → Type 0) (x : X) → AllPairs P (x ∷ [])
 alone P x i j d h k = absurd (omega arith)
 
 -- two operands on one cell only read it
-abbrev ReadOnly : Access → Access → Type 0
+abbrev pub ReadOnly : Access → Access → Type 0
 ReadOnly a b = same_cell a.cell b.cell ≡ true → (a.mode ≡ R) × (b.mode ≡ R)
 
 pub good_init : (p : Program) (n : ℕ) (by : Reduction) (line : Line) (c : Cell) → c.0 < length p.cells → IsGood p n (init_row by line c)
@@ -138,6 +139,10 @@ direct-reads m h = cond_both (is_redux m) RW m (λ x. reads_value x ≡ true) (�
 
 direct-data : (m : Mode) → not (is_scratch (direct_mode m)) ≡ not (is_scratch m)
 direct-data m = cond_both (is_redux m) RW m (λ x. not (is_scratch x) ≡ not (is_scratch m)) (λ e. ap (λ x. not (is_scratch x)) (sym (redux-is m e))) (λ e. refl)
+
+pub direct-redux : (m : Mode) → is_redux (direct_mode m) ≡ false
+direct-redux Redux = refl
+direct-redux m = refl
 
 -- without a contribution the task is its own
 pub none-redux : (l : Lowered) → list_any (λ a. is_redux a.mode) l.accesses ≡ false → (a : Access) → Contains l.accesses a → is_redux a.mode ≡ false

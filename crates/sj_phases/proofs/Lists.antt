@@ -1,12 +1,12 @@
 -- Lists of accesses, of tasks and of numbers; options, and what a fold keeps.
-use Rattle.std.proofs.Common.{◌≡◌, ℕ, zero, suc, ◌+◌, ◌-◌, ◌<◌, ◌≤◌, Bool, true, false, cond, Option, Some, None, List, [], ◌∷◌, ◌++◌, length, get_or, map, fold, refl, sym, ap, subst, ◌∙◌, inl, inr, arith}
+use Rattle.std.proofs.Common.{◌≡◌, ℕ, zero, suc, ◌+◌, ◌-◌, ◌<◌, ◌≤◌, Option, Some, None, List, [], ◌∷◌, ◌++◌, length, get_or, map, fold, refl, sym, ap, subst, ◌∙◌, inl, inr, arith}
 use Rattle.std.specs.Prelude.{◌⊎◌, All, Contains}
-use Rattle.std.specs.List.{range_with_len, filter}
+use Rattle.std.specs.List.{range_with_len}
 use Rattle.std.proofs.lemmas.List.{length-map, get_or-map}
 use Rattle.std.proofs.lemmas.List.Elements.{All-weaker, All-contains_itself, Contains-append_right}
 use Rattle.std.proofs.lemmas.List.Folds.{fold_along}
 use Rattle.std.proofs.lemmas.List.FromFn.{get_or-range_with_len, length-range_with_len}
-pub use Rattle.sj_base.proofs.Lists.{one_is as one-case, Contains-range as in-range}
+pub use Rattle.sj_base.proofs.Lists.{filter-last, none_is as none-has, one_is as one-case, Contains-range as in-range}
 
 -- whether there is one: what holds in either case
 pub by_option : {X : Type 0} (o : Option X) (P : Option X → Type 0) → (o ≡ None → P None) → ((x : X) → o ≡ Some x → P (Some x)) → P o
@@ -25,9 +25,6 @@ two-cases x y a (suc (suc k), l, e) = absurd (omega (arith, l))
 pub cons-cases : {X : Type 0} (x : X) (xs : List X) (a : X) → Contains (x ∷ xs) a → (x ≡ a) ⊎ Contains xs a
 cons-cases x xs a (zero, l, e) = inl e
 cons-cases x xs a (suc k, l, e) = inr (k, omega (arith, l), e)
-
-pub none-has : {X : Type 0} (a : X) → Contains [] a → ⊥
-none-has a (k, l, e) = omega (arith, l)
 
 pub more-has : {X : Type 0} (x : X) (xs : List X) (y : X) → Contains xs y → Contains (x ∷ xs) y
 more-has x xs y (k, l, e) = (suc k, omega (arith, l), e)
@@ -56,10 +53,6 @@ all-range P a n f k d h =
 -- what is contained in a list has a property that all have
 pub all-from : {X : Type 0} (P : X → Type 0) (xs : List X) → ((x : X) → Contains xs x → P x) → All P xs
 all-from P xs f = All-weaker (Contains xs) P f xs (All-contains_itself xs)
-
-pub filter-last : {X : Type 0} (f : X → Bool) (xs : List X) (x : X) → ((y : X) → Contains xs y → f y ≡ false) → f x ≡ true → filter f (xs ++ x ∷ []) ≡ x ∷ []
-filter-last f [] x none passes = ap (λ b. cond b (x ∷ []) []) passes
-filter-last f (y ∷ xs) x none passes = ap (λ b. cond b (y ∷ filter f (xs ++ x ∷ [])) (filter f (xs ++ x ∷ []))) (none y (first-has y xs)) ∙ filter-last f xs x (λ z h. none z (more-has y xs z h)) passes
 
 -- a list before and after one of its items
 pub split-at : {X : Type 0} (xs : List X) (i : ℕ) (d : X) → i < length xs → (ys : List X) × (zs : List X) × (xs ≡ ys ++ get_or xs i d ∷ zs) × (length ys ≡ i)

@@ -8,7 +8,6 @@ use Rattle.std.proofs.lemmas.List.Folds.{list_any_at}
 use Rattle.std.proofs.lemmas.List.Elements.{All-nil}
 use Rattle.sj_base.specs.declared.ids.Cell.{Cell}
 use Rattle.sj_base.specs.declared.ids.Worker.{Worker}
-use Rattle.sj_base.specs.declared.mode.Mode.{Mode}
 use Rattle.sj_base.specs.declared.mode.Mode.TheVariants.{Redux}
 use Rattle.sj_base.specs.declared.mode.Access.{Access}
 use Rattle.sj_base.specs.declared.mode.Reduction.{Reduction}
@@ -17,7 +16,6 @@ use Rattle.sj_base.specs.declared.program.Program.{Program}
 use Rattle.sj_base.specs.Mode.{is_redux, is_scratch}
 use Rattle.sj_core.specs.Program.{data_operands, same_cell}
 use Rattle.sj_core.specs.Proper.{IsCopyOf, IsPlain, Phase, IsPhase, HasPhases, IsInit, IsContribution, Touches, names_as, task_number, access}
-use Rattle.sj_core.proofs.Copies.{redux_or}
 use Rattle.sj_core.proofs.Readiness.{Contains-from_filter, list_any-some}
 use Rattle.sj_phases.specs.declared.phase.OpenPhase.{OpenPhase}
 use Rattle.sj_phases.specs.Rows.{copy_at}
@@ -25,6 +23,7 @@ use Rattle.sj_phases.specs.Expand.{with_phase}
 use Rattle.sj_phases.proofs.Combined.{Phases}
 use Rattle.sj_base.specs.Ids.{worker}
 use Rattle.sj_base.proofs.Numbers.{none_more, none_first, one_more}
+use Rattle.sj_base.proofs.Modes.{redux-is}
 use Rattle.sj_base.proofs.SameIds.{same_cell-is, same_cell-itself}
 pub use Rattle.sj_base.proofs.SameIds.{same_cell-unlike as unlike}
 use Rattle.sj_phases.proofs.Folding.{Stand}
@@ -79,9 +78,6 @@ data-of l a h = Contains-from_filter (λ (b : Access). not (is_scratch b.mode)) 
 
 abbrev pub gives_to : Cell → Lowered → Bool
 gives_to c l = list_any (λ a. is_redux a.mode && same_cell a.cell c) l.accesses
-
-pub redux-is : (m : Mode) → is_redux m ≡ true → m ≡ Redux
-redux-is m h = elim (redux_or m) [ inl e ↦ e | inr n ↦ absurd (false≢true (sym n ∙ h)) ]
 
 pub redux-access : (a : Access) → is_redux a.mode ≡ true → a ≡ access Redux a.cell
 redux-access a h = let e = redux-is a.mode h in λ i. record { mode = e i; cell = a.cell }

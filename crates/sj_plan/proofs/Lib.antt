@@ -3,6 +3,7 @@ pub mod Counting
 pub mod Gathering
 pub mod Lists
 pub mod Overlapping
+pub mod Places
 pub mod Repartitioning
 pub mod Splitting
 pub mod Tiling

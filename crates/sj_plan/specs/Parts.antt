@@ -1,5 +1,5 @@
 -- Partition plans.
-use Rattle.std.specs.Prelude.{ℕ, ◌*◌, ◌<◌, ◌≤◌, List, map}
+use Rattle.std.specs.Prelude.{ℕ, ◌+◌, ◌*◌, ◌<◌, ◌≤◌, List, map}
 use Rattle.std.specs.List.{flat_map, range_with_len}
 use Rattle.sj_base.specs.declared.tile.Dims.{Dims}
 use Rattle.sj_plan.specs.declared.parts.Parts.{Parts}
@@ -19,3 +19,10 @@ IsPlace p place = (place.0 < p.r) × (place.1 < p.c)
 -- the children's indices, row by row
 abbrev pub places : Parts → List (ℕ × ℕ)
 places p = flat_map (λ i. map (λ j. (i, j)) (range_with_len 0 p.c)) (range_with_len 0 p.r)
+
+-- how many children a plan has, and the place of a child in their list
+abbrev pub children_count : Parts → ℕ
+children_count p = p.r * p.c
+
+abbrev pub number : Parts → ℕ × ℕ → ℕ
+number p place = place.0 * p.c + place.1

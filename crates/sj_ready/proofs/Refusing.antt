@@ -1,6 +1,5 @@
 -- Why a job isn't ready: from what refused it to what was asked for.
-use Rattle.std.proofs.Common.{◌≡◌, ℕ, List, Option, Some, None, Result, Ok, Err, IfErr, IsOkAnd, ap, subst, sym, ◌∙◌}
-use Rattle.std.specs.Prelude.{IsErrAnd}
+use Rattle.std.proofs.Common.{◌≡◌, ℕ, List, Option, Some, None, Result, Ok, Err, IsOkAnd, ap, subst, sym, ◌∙◌}
 use Rattle.sj_base.specs.declared.program.Machine.{Machine}
 use Rattle.sj_base.specs.declared.program.Program.{Program}
 use Rattle.sj_meaning.specs.Job.{Job}
@@ -12,11 +11,6 @@ use Rattle.sj_words.specs.declared.options.Options.{Options}
 use Rattle.sj_ready.specs.Ready.{IsUnready}
 use Rattle.sj_ready.specs.declared.unready.Unready.TheVariants.{Short}
 use Rattle.sj_ready.specs.Work.{Work, WorkOrRefusal, asked_by, machine_for, program_of, within_limits}
-
--- what is true of the reason that `?` hands over
-pub handed : {A E : Type 0} (r : Result A E) (e : E) (P : E → Type 0) → IsErrAnd r (λ x. x ≡ e) → P e → IfErr r P
-handed (Ok x) e P is h = tt
-handed (Err x) e P is h = subst P (sym is) h
 
 abbrev pub limited : Work → Option Refusal → WorkOrRefusal
 limited w late = elim late [ None ↦ Ok w | Some e ↦ Err e ]

@@ -1,5 +1,5 @@
 use Rattle.std.proofs.Common.{◌<◌, ◌^◌, arith, length, subst, sym}
-use Rattle.sj_ready.proofs.Refusing.{handed}
+use Rattle.sj_base.proofs.Results.{handed}
 use Rattle.sj_ready.specs.Work.{Work, WorkOrRefusal}
 use Rattle.sj_trace.specs.declared.read.TraceRefusal.{TraceRefusal}
 use Rattle.sj_judge.specs.Judged.{CanBeRun, RefusalHasCause, IsWantOfMemory}

@@ -1,8 +1,8 @@
 use Rattle.std.proofs.Common.{◌≡◌, refl}
+use Rattle.sj_base.proofs.Results.{handed}
 use Rattle.sj_check.specs.Refusal.{IsCheckRefusal}
 use Rattle.sj_core.specs.Legal.{IsFinished}
 use Rattle.sj_minplus.specs.Has.{library_has}
-use Rattle.sj_ready.proofs.Refusing.{handed}
 use Rattle.sj_ready.specs.Input.{work_in}
 use Rattle.sj_ready.specs.Work.{program_of}
 use Rattle.sj_judge.specs.Judged.{AreEventsFor, RefusalHasCause, IsWantOfMemory}

@@ -1,5 +1,6 @@
 use Rattle.std.proofs.Common.{◌≡◌, ℕ, List, [], ◌∷◌, length, refl, sym, ap, subst, ◌∙◌, arith}
 use Rattle.std.specs.Vec.Iter.{into_iter_items}
+use Rattle.sj_base.proofs.Results.{handed}
 use Rattle.sj_meaning.specs.declared.job.Statement.{Statement as Kept}
 use Rattle.sj_meaning.specs.Table.{Table, IsTable}
 use Rattle.sj_meaning.specs.View.{statements_of}
@@ -11,7 +12,6 @@ use Rattle.sj_lower.specs.Limits.{late_limit, late_tasks}
 use Rattle.sj_lower.specs.Progress.{IsFullWith, IsLate}
 use Rattle.sj_lower.specs.Running.{AreReady}
 use Rattle.sj_lower.proofs.Going.{late_by, steps_from_start, GoesOn, going-start, going-has, going-more, going-full, done-has, done-few, IsShut, shut, shut-over, IsMade, made}
-use Rattle.sj_lower.proofs.Statements.{handed}
 use Rattle.sj_lower.proofs.Making.{is-ready, is-late, limit-is, is-lowered, is-proper, names-deliver-tasks, in-order, is-printed, all-known}
 use Rattle.sj_lower.proofs.lower.lower.Goals as goal
 

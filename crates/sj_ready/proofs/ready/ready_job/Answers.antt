@@ -4,6 +4,7 @@ use Rattle.std.specs.Int.{w64}
 use Rattle.sj_base.specs.declared.program.Lowered.{Lowered}
 use Rattle.sj_base.specs.declared.program.Machine.{Machine}
 use Rattle.sj_base.specs.declared.program.Program.{Program}
+use Rattle.sj_base.proofs.Results.{handed}
 use Rattle.sj_codelet.specs.Kernel.{out}
 use Rattle.sj_codelet.proofs.NewArrays.{out-makes_tiles}
 use Rattle.sj_core.specs.Laws.{IsLawful}
@@ -16,7 +17,7 @@ use Rattle.sj_ready.specs.Input.{job_in, work_in}
 use Rattle.sj_ready.specs.Work.{Work, WorkOrRefusal}
 use Rattle.sj_ready.specs.declared.unready.Unready.TheVariants.{Short}
 use Rattle.sj_ready.proofs.Known.{job-in}
-use Rattle.sj_ready.proofs.Refusing.{asked-is, handed, unready-fitting, within}
+use Rattle.sj_ready.proofs.Refusing.{asked-is, unready-fitting, within}
 use Rattle.sj_ready.proofs.ready.ready_job.Goals as goal
 
 pub returns-in_err-program-clause-unready : goal.returns-in_err-program-clause-unready

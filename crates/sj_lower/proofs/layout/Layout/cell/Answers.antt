@@ -1,8 +1,8 @@
 use Rattle.std.proofs.Common.{◌+◌, ◌≤◌, ◌∙◌, ap, sym, subst, arith}
-use Rattle.sj_plan.specs.Parts.{IsPlace}
+use Rattle.sj_plan.specs.Parts.{IsPlace, children_count}
 use Rattle.sj_phases.specs.Expand.{most}
 use Rattle.sj_lower.specs.declared.rows.Placed.{Placed}
-use Rattle.sj_lower.specs.Cells.{children_count, cells_from}
+use Rattle.sj_lower.specs.Cells.{cells_from}
 use Rattle.sj_lower.proofs.layout.Layout.cell.Goals as goal
 
 pub placed-requires : goal.placed-requires

@@ -1,7 +1,7 @@
 use Rattle.std.proofs.Common.{sym, subst}
+use Rattle.sj_base.proofs.Results.{handed}
 use Rattle.sj_meaning.specs.declared.job.Act.{Act as KeptAct}
 use Rattle.sj_lower.specs.Adds.{HasNext, Adds, IsFull}
-use Rattle.sj_lower.proofs.Statements.{handed}
 use Rattle.sj_lower.proofs.steps.Steps.add.Goals as goal
 
 pub register-requires : goal.register-requires

@@ -1,6 +1,7 @@
 use Rattle.std.proofs.Common.{◌≡◌, ◌∙◌, All, List, ℕ, true, fold, map, refl, sym, ap, subst}
 use Rattle.std.specs.List.{filter}
 use Rattle.sj_base.specs.Mode.{is_redux}
+use Rattle.sj_base.proofs.Results.{handed}
 use Rattle.sj_meaning.specs.declared.job.Act.TheVariants as kept
 use Rattle.sj_meaning.specs.declared.job.Operand.{Operand}
 use Rattle.sj_meaning.specs.Table.{Table}
@@ -12,7 +13,6 @@ use Rattle.sj_lower.specs.declared.contributions.StepRefusal.TheVariants.{OutOfM
 use Rattle.sj_lower.specs.declared.steps.Steps.{Steps}
 use Rattle.sj_lower.specs.Adds.{is_contributed, lowered_task, CanOpen, IsFull}
 use Rattle.sj_lower.specs.Follows.{IsInside, cell_by, access_by, is_other}
-use Rattle.sj_lower.proofs.Statements.{handed}
 use Rattle.sj_lower.proofs.Tasking.{all-inside, all-can, actives-kept, still-has, task-full, task-goes}
 use Rattle.sj_lower.proofs.steps.Steps.task.Goals as goal
 
