@@ -1,4 +1,5 @@
--- The modes of a task's operands, by its roots' numbers, are modes that a program may have: with contributions, and without phases.
+-- The modes of a task's operands, by its roots' numbers, are modes that a program may have: with contributions, and without
+-- phases.
 use mathlib.Core.List.{map-map}
 use Rattle.std.proofs.Common.{◌≡◌, ℕ, Bool, true, false, cond, not, ◌&&◌, ◌||◌, Option, Some, None, List, [], ◌∷◌, ◌++◌, length, map as each_of, refl, sym, ap, subst, ◌∙◌, inl, inr, arith}
 use Rattle.std.specs.Prelude.{Contains, count_by}

@@ -1,5 +1,5 @@
--- The operands of a task that contributes, by its roots' numbers: the last one gets the contribution, and those before it are only
--- read, scratch aside.
+-- The operands of a task that contributes, by its roots' numbers: the last one gets the contribution, and those before it are
+-- only read, scratch aside.
 use Rattle.std.proofs.Common.{◌≡◌, ℕ, ◌+◌, Bool, true, false, cond, not, ◌&&◌, ◌||◌, Option, Some, None, List, [], ◌∷◌, ◌++◌, length, refl, sym, ap, subst, ◌∙◌, inl, inr, arith, length-append}
 use Rattle.std.specs.Prelude.{AllPairs, Contains, nat_eq}
 use Rattle.std.specs.List.{filter, flat_map, list_all, list_any, AllByRecursion}

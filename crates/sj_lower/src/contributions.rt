@@ -49,7 +49,8 @@ pub fn close_from(
 ) -> Result<(), memory::OutOfMemory>
     requires at { HasAt phases.old }
     requires cells { first + count ≤ most }
-    ensures { OnOk result (Does phases.old phases.new line (λ E. fold (closed phases.old.workers) E (cells_after first count))) }
+    ensures { OnOk result (Does phases.old phases.new line
+        (λ E. fold (closed phases.old.workers) E (cells_after first count))) }
 {
     if !phases.has_open() {
         return Ok(());
@@ -69,7 +70,8 @@ pub fn close_plan(
 ) -> Result<(), memory::OutOfMemory>
     requires at { HasAt phases.old }
     requires cells { placed.first + children_count placed.parts ≤ most }
-    ensures { OnOk result (Does phases.old phases.new line (λ E. fold (closed phases.old.workers) E (cells_by placed))) }
+    ensures { OnOk result (Does phases.old phases.new line
+        (λ E. fold (closed phases.old.workers) E (cells_by placed))) }
 {
     close_from(
         phases,
@@ -124,7 +126,8 @@ fn is_contribution(operand: &Operand) -> bool
 /// The first operand that is contributed to. Linear in the operands.
 fn contributed(operands: &[Operand]) -> Option<Operand>
     ensures none { IfNone result (filter is_contributed operands.now ≡ []) }
-    ensures some { IfSome result (λ o. (rest : List Operand) × (filter is_contributed operands.now ≡ o ∷ rest)) }
+    ensures some { IfSome result (λ o. (rest : List Operand)
+        × (filter is_contributed operands.now ≡ o ∷ rest)) }
 {
     for operand in operands {
         if is_contribution(operand) {
@@ -147,7 +150,8 @@ fn open_operand(
     requires at { HasAt phases.old }
     requires inside { IsInside layout.old.actives.items operand }
     requires can { CanOpen layout.old phases.old.workers operand }
-    ensures opens { OnOk result (Opens layout.old layout.new phases.old phases.new operand valued line) }
+    ensures opens { OnOk result
+        (Opens layout.old layout.new phases.old phases.new operand valued line) }
     ensures full { IfErr result (IsFullFor layout.old phases.old.workers operand) }
 {
     let Some(by) = layout.actives[operand.root.0 as usize].reduction else {
@@ -179,12 +183,15 @@ pub fn open_operands(
 ) -> Result<(), StepRefusal>
     requires at { HasAt phases.old }
     requires inside { All (IsInside layout.old.actives.items) operands.now }
-    requires can { All (λ o. IsTrue (is_redux o.mode) → CanOpen layout.old phases.old.workers o) operands.now }
+    requires can { All (λ o. IsTrue (is_redux o.mode)
+        → CanOpen layout.old phases.old.workers o) operands.now }
     ensures none { OnOk result (filter is_contributed operands.now ≡ []
         → (layout.new ≡ layout.old) × (phases.new ≡ phases.old)) }
-    ensures opens { OnOk result ((o : Operand) (rest : List Operand) → filter is_contributed operands.now ≡ o ∷ rest
+    ensures opens { OnOk result ((o : Operand) (rest : List Operand)
+        → filter is_contributed operands.now ≡ o ∷ rest
         → Opens layout.old layout.new phases.old phases.new o valued line) }
-    ensures full { IfErr result (λ e. (o : Operand) (rest : List Operand) → filter is_contributed operands.now ≡ o ∷ rest
+    ensures full { IfErr result (λ e. (o : Operand) (rest : List Operand)
+        → filter is_contributed operands.now ≡ o ∷ rest
         → IsFullFor layout.old phases.old.workers o e) }
     ensures some { IfErr result (λ e. filter is_contributed operands.now ≡ [] → ⊥) }
 {

@@ -128,11 +128,14 @@ impl Layout {
         requires few { vec_len self.old.infos ≤ most }
         requires few_roots { vec_len self.old.actives < 4096 }
         ensures parts { IfOk result (λ o. IfSome o (λ placed. placed.parts ≡ info.parts)) }
-        ensures laid { IfOk result (λ o. IfSome o (λ placed. (rs : List RootNow) (C : Laid) (r : Register ℕ)
-            → Follows self.old rs C → length C.handles ≡ length rs → r.dims ≡ info.dims → r.parts ≡ info.parts
-            → Follows self.new (rs ++ registered_root r ∷ []) (take (length C.handles) r.parts (with_root r.dims C))
-            × ((handle_at (take (length C.handles) r.parts (with_root r.dims C)) (length C.handles)).first r.parts
-            ≡ Some placed.first))) }
+        ensures laid { IfOk result (λ o. IfSome o (λ placed.
+            (rs : List RootNow) (C : Laid) (r : Register ℕ)
+            → Follows self.old rs C → length C.handles ≡ length rs
+            → r.dims ≡ info.dims → r.parts ≡ info.parts
+            → Follows self.new (rs ++ registered_root r ∷ [])
+            (take (length C.handles) r.parts (with_root r.dims C))
+            × ((handle_at (take (length C.handles) r.parts (with_root r.dims C))
+            (length C.handles)).first r.parts ≡ Some placed.first))) }
         ensures full { IfOk result (λ o. IfNone o ((rs : List RootNow) (C : Laid) (r : Register ℕ)
             → Follows self.old rs C → r.dims ≡ info.dims → r.parts ≡ info.parts
             → most < length (take (length C.handles) r.parts (with_root r.dims C)).rows)) }
@@ -162,7 +165,8 @@ impl Layout {
         requires root { root.0 < vec_len self.old.actives }
         ensures parts { IfOk result (λ o. IfSome o (λ placed. placed.parts ≡ parts)) }
         ensures laid { IfOk result (λ o. IfSome o (λ placed. (rs : List RootNow) (C : Laid)
-            → Follows self.old rs C → Lives rs root.0 → length C.handles ≡ length rs → (handle_at C root.0).dims ≡ dims
+            → Follows self.old rs C → Lives rs root.0 → length C.handles ≡ length rs
+            → (handle_at C root.0).dims ≡ dims
             → Follows self.new (change_at (with_parts parts) root.0 rs) (take root.0 parts C)
             × ((handle_at (take root.0 parts C) root.0).first parts ≡ Some placed.first))) }
         ensures full { IfOk result (λ o. IfNone o ((rs : List RootNow) (C : Laid)

@@ -83,7 +83,8 @@ impl LoweringProgress {
         statement: Statement,
     ) -> Result<(), LowerRefusal>
         requires { HasNext roots.now self.old.steps statement.act }
-        ensures adds { OnOk result (Adds roots.now self.old.steps self.new.steps statement.act statement.line) }
+        ensures adds { OnOk result
+            (Adds roots.now self.old.steps self.new.steps statement.act statement.line) }
         ensures last { OnOk result (self.new.last ≡ statement.line) }
         ensures full { IfErr result (IsFullWith roots.now self.old.steps statement) }
     {
@@ -105,7 +106,8 @@ impl LoweringProgress {
         requires few { vec_len self.old.steps.layout.infos ≤ most }
         ensures layout { OnOk result (self.new.steps.layout ≡ self.old.steps.layout) }
         ensures closes { OnOk result (Does self.old.steps.phases self.new.steps.phases self.old.last
-            (λ E. fold (closed self.old.steps.phases.workers) E (cells_below (vec_len self.old.steps.layout.infos)))) }
+            (λ E. fold (closed self.old.steps.phases.workers) E
+            (cells_below (vec_len self.old.steps.layout.infos)))) }
     {
         let count = self.steps.layout.infos.len() as u32;
         close_from(&mut self.steps.phases, alloc, 0, count, self.last)?;

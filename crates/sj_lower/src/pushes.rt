@@ -43,7 +43,8 @@ fn push_loads(
     requires cells { placed.first + children_count placed.parts ≤ 262144 }
     requires values { length values ≡ area dims }
     ensures { OnOk result (Does phases.old phases.new line (with_own
-        (load_rows (Values values) dims placed.parts (cells_from placed.first placed.parts) line) [])) }
+        (load_rows (Values values) dims placed.parts
+        (cells_from placed.first placed.parts) line) [])) }
 {
     if placed.parts.r * placed.parts.c == 1 {
         let write = Access {
@@ -69,7 +70,8 @@ fn push_windows(
     requires plan { Fits placed.parts whole.now.dims }
     requires cells { placed.first + children_count placed.parts ≤ 262144 }
     ensures { OnOk result (Does phases.old phases.new line (with_own
-        (load_rows (Values whole.now.elements) whole.now.dims placed.parts (cells_from placed.first placed.parts) line) [])) }
+        (load_rows (Values whole.now.elements) whole.now.dims placed.parts
+        (cells_from placed.first placed.parts) line) [])) }
 {
     let rects = children(alloc, whole.dims(), placed.parts)?;
     let count = placed.parts.r * placed.parts.c;
@@ -94,7 +96,8 @@ fn push_fills(
     requires plan { Fits placed.parts dims }
     requires cells { placed.first + children_count placed.parts ≤ 262144 }
     ensures { OnOk result (Does phases.old phases.new line (with_own
-        (load_rows (Fill fill.0 fill.1) dims placed.parts (cells_from placed.first placed.parts) line) [])) }
+        (load_rows (Fill fill.0 fill.1) dims placed.parts
+        (cells_from placed.first placed.parts) line) [])) }
 {
     let rects = children(alloc, dims, placed.parts)?;
     let count = placed.parts.r * placed.parts.c;
@@ -172,7 +175,8 @@ pub fn push_delivers(
     requires plan { Fits placed.parts dims }
     requires cells { placed.first + children_count placed.parts ≤ 262144 }
     ensures { OnOk result (Does phases.old phases.new line (with_own
-        (map (λ place. deliver_row (cells_from placed.first placed.parts place) line) (places placed.parts))
+        (map (λ place. deliver_row (cells_from placed.first placed.parts place) line)
+        (places placed.parts))
         (map (a_delivery root.0 dims placed.parts print)
         (zip (range_with_len 0 (length (places placed.parts))) (places placed.parts))))) }
 {

@@ -89,7 +89,8 @@ impl Steps {
         line: Line,
     ) -> Result<(), StepRefusal>
         requires { HasNext roots.now self.old (kept.Plan root parts valued) }
-        ensures adds { OnOk result (Adds roots.now self.old self.new (kept.Plan root parts valued) line) }
+        ensures adds { OnOk result
+            (Adds roots.now self.old self.new (kept.Plan root parts valued) line) }
         ensures full { IfErr result (IsFull roots.now self.old (kept.Plan root parts valued) line) }
     {
         let dims = roots.info(root).dims;
@@ -171,8 +172,10 @@ impl Steps {
     /// A root whose elements are no values any more. Linear in its children, but constant time where no phase is open.
     fn invalidate(&mut self, alloc: Global, root: Root, line: Line) -> Result<(), StepRefusal>
         requires { (T : Table) × HasNext T self.old (kept.Invalidate root) }
-        ensures adds { OnOk result ((T : Table) → Adds T self.old self.new (kept.Invalidate root) line) }
-        ensures full { IfErr result (λ e. (T : Table) → IsFull T self.old (kept.Invalidate root) line e) }
+        ensures adds { OnOk result ((T : Table)
+            → Adds T self.old self.new (kept.Invalidate root) line) }
+        ensures full { IfErr result (λ e. (T : Table)
+            → IsFull T self.old (kept.Invalidate root) line e) }
     {
         let placed = self.layout.placed(root);
         close_plan(&mut self.phases, alloc, placed, line)?;
@@ -182,8 +185,10 @@ impl Steps {
     /// A root that is no more. Linear in its children, but constant time where no phase is open.
     fn unregister(&mut self, alloc: Global, root: Root, line: Line) -> Result<(), StepRefusal>
         requires { (T : Table) × HasNext T self.old (kept.Unregister root) }
-        ensures adds { OnOk result ((T : Table) → Adds T self.old self.new (kept.Unregister root) line) }
-        ensures full { IfErr result (λ e. (T : Table) → IsFull T self.old (kept.Unregister root) line e) }
+        ensures adds { OnOk result ((T : Table)
+            → Adds T self.old self.new (kept.Unregister root) line) }
+        ensures full { IfErr result (λ e. (T : Table)
+            → IsFull T self.old (kept.Unregister root) line e) }
     {
         let placed = self.layout.placed(root);
         close_plan(&mut self.phases, alloc, placed, line)?;

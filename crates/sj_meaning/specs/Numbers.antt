@@ -1,4 +1,5 @@
--- The meaning of a job by its roots' numbers: what each of its acts does to a list of roots, in which a root's place is its number.
+-- The meaning of a job by its roots' numbers: what each of its acts does to a list of roots, in which a root's place is its
+-- number.
 use Rattle.std.specs.Prelude.{ℕ, Option, None, List, [], ◌∷◌, ◌++◌, map, length, slice_set}
 use Rattle.std.specs.List.{slice_index_or, position_or_len}
 use Rattle.std.specs.Str.{bytes_eq}

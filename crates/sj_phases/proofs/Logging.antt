@@ -113,7 +113,8 @@ IsUsed p n start c = (m : ℕ) × (start + p.workers ≤ m) × (m < n) × names_
 abbrev pub IsToCome : List Lowered → Cell → Type 0
 IsToCome ls c = (l : Lowered) × Contains ls l × names_as Redux c l
 
--- a task is told of in a phase of the cell: in a closed one, of which it is such a part, or in the open one, whose inits begin at s
+-- a task is told of in a phase of the cell: in a closed one, of which it is such a part, or in the open one, whose inits begin
+-- at s
 pub data IsTold (closed : List Phase) (o : Option OpenPhase) (s : ℕ) (c : Cell) (Part : Phase → Type 0) (Now : ℕ → Type 0) : Type 0 where
   InClosed : (f : Phase) → Contains closed f → f.cell ≡ c → Part f → IsTold closed o s c Part Now
   InOpen : (f : OpenPhase) → o ≡ Some f → Now s → IsTold closed o s c Part Now

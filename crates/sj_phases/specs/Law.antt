@@ -38,8 +38,8 @@ IsProper = (rows : List CellInfo) (workers : ℕ) (bs : List Block) → MayExpan
 abbrev pub handed_over : Program → Delivery → Root × (ℕ × ℕ) × ℕ × Array
 handed_over p d = (d.root, d.place, d.print, given out p d.task)
 
--- by a set that obeys the laws the cells that are no partial copies hold at the end what they hold without phases, whichever workers
--- contribute, and the same is handed over
+-- by a set that obeys the laws the cells that are no partial copies hold at the end what they hold without phases, whichever
+-- workers contribute, and the same is handed over
 pub record HoldsPlain (rows : List CellInfo) (workers : ℕ) (bs : List Block) : Type 0 where
   pub held : (c : Cell) (by : Task → Worker) → IsPlain (plain_program rows workers bs) c → ((u : Task) → (by u).0 < workers)
       → held_in (program_by rows workers bs) (after_chosen out (program_by rows workers bs) (λ t. true) by (length (program_by rows workers bs).tasks)) c ≡ final out (plain_program rows workers bs) c

@@ -48,7 +48,8 @@ impl Expander {
 
     /// Whether closing may do anything. Constant time.
     pub fn has_open(&self) -> bool
-        ensures { (line : Line) (cs : List Cell) → result ≡ false → Does self.now self.now line (λ E. fold (closed self.now.workers) E cs) }
+        ensures { (line : Line) (cs : List Cell) → result ≡ false
+            → Does self.now self.now line (λ E. fold (closed self.now.workers) E cs) }
     {
         self.over.is_none() && !self.phases.is_empty()
     }
@@ -57,7 +58,8 @@ impl Expander {
     pub fn has_room(&mut self, count: u64, line: Line) -> bool
         requires at { HasAt self.old }
         ensures room { result ≡ true → self.new ≡ self.old }
-        ensures none { (ls : List Lowered) → length ls ≡ count → result ≡ false → Does self.old self.new line (with_own ls []) }
+        ensures none { (ls : List Lowered) → length ls ≡ count → result ≡ false
+            → Does self.old self.new line (with_own ls []) }
     {
         if self.over.is_some() {
             return false;
@@ -124,7 +126,8 @@ impl Expander {
     ) -> Result<(), OutOfMemory>
         requires at { HasAt self.old }
         requires copies { phase.copies.0 + self.old.workers ≤ most }
-        ensures { OnOk result (Does self.old self.new line (with_own (combine_rows phase cell self.old.workers) [])) }
+        ensures { OnOk result (Does self.old self.new line
+            (with_own (combine_rows phase cell self.old.workers) [])) }
     {
         for w in 0..self.workers {
             let copy = Cell(phase.copies.0 + w as u32);
@@ -152,7 +155,8 @@ impl Expander {
     fn begin(&mut self, alloc: Global, opening: Opening, line: Line) -> Result<(), OutOfMemory>
         requires at { HasAt self.old }
         requires copies { opening.copies.0 + self.old.workers ≤ most }
-        ensures { OnOk result (Does self.old self.new line (with_own (begin_rows self.old.workers opening line) [])) }
+        ensures { OnOk result (Does self.old self.new line
+            (with_own (begin_rows self.old.workers opening line) [])) }
     {
         for w in 0..self.workers {
             let copy = Cell(opening.copies.0 + w as u32);
@@ -170,7 +174,8 @@ impl Expander {
     pub fn open(&mut self, alloc: Global, opening: Opening, line: Line) -> Result<(), OutOfMemory>
         requires at { HasAt self.old }
         requires copies { opening.copies.0 + self.old.workers ≤ most }
-        ensures { OnOk result (Does self.old self.new line (λ E. opened self.old.workers line E opening)) }
+        ensures { OnOk result (Does self.old self.new line
+            (λ E. opened self.old.workers line E opening)) }
     {
         if self.over.is_some() {
             return Ok(());

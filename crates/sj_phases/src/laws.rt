@@ -7,8 +7,8 @@ pub fn properness()
     ensures { IsProper }
 {}
 
-/// Cells that are no partial copies hold at the end what they hold without phases, whichever workers contribute, and deliver tasks
-/// hand over the same.
+/// Cells that are no partial copies hold at the end what they hold without phases, whichever workers contribute, and deliver
+/// tasks hand over the same.
 pub fn contents()
     ensures { DoesHoldPlain }
 {}
