@@ -8,7 +8,7 @@ use Rattle.sj_base.specs.declared.program.Delivery.{Delivery}
 use Rattle.sj_base.specs.declared.program.Lowered.{Lowered}
 use Rattle.sj_base.specs.Ids.{cell}
 use Rattle.sj_codelet.specs.declared.kernel.Kernel.{Kernel}
-use Rattle.sj_codelet.specs.declared.kernel.Kernel.TheVariants.{Load, Sum, Add, InitPlus, InitLeast, Lowest, MinGemm, Deliver}
+use Rattle.sj_codelet.specs.declared.kernel.Kernel.TheVariants.{Load, Add, InitPlus, InitLeast, Lowest, Deliver}
 use Rattle.sj_phases.specs.Block.{Block}
 use Rattle.sj_base.specs.Mode.{access}
 use Rattle.sj_phases.specs.Rows.{own_task}
@@ -41,7 +41,7 @@ alone n ls = record { line = line n; closes = []; opens = []; tasks = ls; delive
 
 -- a sum to cell 0, whose copies are cells 2 and 3: it is loaded, gets two contributions of cell 1, and is printed
 abbrev giving : ℕ → Block
-giving n = record { line = line n; closes = []; opens = record { cell = cell 0; by = Plus; copies = cell 2; valued = true } ∷ []; tasks = task Sum (reads 1 ∷ gives 0 ∷ []) n ∷ []; deliveries = [] }
+giving n = record { line = line n; closes = []; opens = record { cell = cell 0; by = Plus; copies = cell 2; valued = true } ∷ []; tasks = task Add (reads 1 ∷ gives 0 ∷ []) n ∷ []; deliveries = [] }
 
 abbrev printing : Block
 printing = record { line = line 6; closes = cell 0 ∷ []; opens = []; tasks = task Deliver (reads 0 ∷ []) 6 ∷ []; deliveries = delivery 0 ∷ [] }
@@ -55,8 +55,8 @@ sums-tasks : (expand 2 nothing sums).tasks ≡
     task Load (writes 1 ∷ []) 2 ∷
     task InitPlus (writes 2 ∷ []) 4 ∷
     task InitPlus (writes 3 ∷ []) 4 ∷
-    task Sum (reads 1 ∷ gives 0 ∷ []) 4 ∷
-    task Sum (reads 1 ∷ gives 0 ∷ []) 5 ∷
+    task Add (reads 1 ∷ gives 0 ∷ []) 4 ∷
+    task Add (reads 1 ∷ gives 0 ∷ []) 5 ∷
     task Add (reads 2 ∷ updates 0 ∷ []) 5 ∷
     task Add (reads 3 ∷ updates 0 ∷ []) 5 ∷
     task Deliver (reads 0 ∷ []) 6 ∷
@@ -70,8 +70,8 @@ sums-deliveries = refl
 sums-plain : (plain_program [] 2 sums).tasks ≡
     task Load (writes 0 ∷ []) 2 ∷
     task Load (writes 1 ∷ []) 2 ∷
-    task Sum (reads 1 ∷ updates 0 ∷ []) 4 ∷
-    task Sum (reads 1 ∷ updates 0 ∷ []) 5 ∷
+    task Add (reads 1 ∷ updates 0 ∷ []) 4 ∷
+    task Add (reads 1 ∷ updates 0 ∷ []) 5 ∷
     task Deliver (reads 0 ∷ []) 6 ∷
     []
 sums-plain = refl
@@ -79,13 +79,13 @@ sums-plain = refl
 sums-plain_deliveries : (plain_program [] 2 sums).deliveries ≡ delivery 4 ∷ []
 sums-plain_deliveries = refl
 
--- a least to cell 1 without a value, whose copies are cells 2 and 3, of the factors in cell 0; nobody prints it
+-- a least to cell 1 without a value, whose copies are cells 2 and 3: it gets one contribution of cell 0, and nobody prints it
 abbrev least : List Block
 least = alone 2 (task Load (writes 0 ∷ []) 2 ∷ []) ∷ record {
   line = line 5;
   closes = cell 0 ∷ [];
   opens = record { cell = cell 1; by = Least; copies = cell 2; valued = false } ∷ [];
-  tasks = task MinGemm (reads 0 ∷ reads 0 ∷ gives 1 ∷ []) 5 ∷ [];
+  tasks = task Lowest (reads 0 ∷ gives 1 ∷ []) 5 ∷ [];
   deliveries = [];
 } ∷ last_block 4 (line 7) ∷ []
 
@@ -95,13 +95,13 @@ least-tasks : (expand 2 nothing least).tasks ≡
     task InitLeast (writes 2 ∷ []) 5 ∷
     task InitLeast (writes 3 ∷ []) 5 ∷
     task InitLeast (writes 1 ∷ []) 5 ∷
-    task MinGemm (reads 0 ∷ reads 0 ∷ gives 1 ∷ []) 5 ∷
+    task Lowest (reads 0 ∷ gives 1 ∷ []) 5 ∷
     task Lowest (reads 2 ∷ updates 1 ∷ []) 5 ∷
     task Lowest (reads 3 ∷ updates 1 ∷ []) 5 ∷
     []
 least-tasks = refl
 
-least-plain : (plain_program [] 2 least).tasks ≡ task Load (writes 0 ∷ []) 2 ∷ task InitLeast (writes 1 ∷ []) 5 ∷ task MinGemm (reads 0 ∷ reads 0 ∷ updates 1 ∷ []) 5 ∷ []
+least-plain : (plain_program [] 2 least).tasks ≡ task Load (writes 0 ∷ []) 2 ∷ task InitLeast (writes 1 ∷ []) 5 ∷ task Lowest (reads 0 ∷ updates 1 ∷ []) 5 ∷ []
 least-plain = refl
 
 -- which phases are open after the contributions and at the end
