@@ -1,5 +1,5 @@
 -- Which children of a root's active plan have a value.
-use Rattle.std.specs.Prelude.{◌≡◌, ℕ, ◌+◌, ◌*◌, ◌<◌, ◌≤◌, Bool, true, false, not, None, List, length, replicate, is_some, slice_index_or, slice_set}
+use Rattle.std.specs.Prelude.{◌≡◌, ℕ, ◌<◌, ◌≤◌, Bool, true, false, not, None, List, length, replicate, is_some, slice_index_or, slice_set}
 use Rattle.std.specs.List.{list_all, count_by}
 use Rattle.sj_base.specs.Array.{area}
 use Rattle.sj_base.specs.Window.{item}

@@ -8,7 +8,7 @@ use Rattle.sj_core.specs.Program.{task_of}
 use Rattle.sj_plan.specs.Parts.{IsPlace}
 use Rattle.sj_meaning.specs.State.{RootState, is_valued_child}
 use Rattle.sj_meaning.specs.Numbers.{root_at}
-use Rattle.sj_phases.specs.Plain.{Opens}
+use Rattle.sj_phases.specs.Plain.{OpenReductions}
 use Rattle.sj_lower.specs.Laid.{Laid, cell_of}
 use Rattle.sj_lower.specs.SoundAt.{Lives}
 use Rattle.sj_lower.specs.Whole.{AreLaid, HaveCopies}
@@ -26,11 +26,11 @@ pub record IsOpenChild (C : Laid) (rs : List RootState) (c : Cell) (by : Reducti
   pub valued : is_valued_child (root_at rs number) place ≡ true
   pub reduction : (root_at rs number).reduction ≡ Some by
 
-abbrev pub AreOpenChildren : Laid → List RootState → Opens → Type 0
+abbrev pub AreOpenChildren : Laid → List RootState → OpenReductions → Type 0
 AreOpenChildren C rs was = (c : Cell) (by : Reduction) → was c ≡ Some by → IsOpenChild C rs c by
 
 -- before task n of the program without phases
-pub record Agrees (q : Program) (C : Laid) (rs : List RootState) (n : ℕ) (was : Opens) : Type 0 where
+pub record Agrees (q : Program) (C : Laid) (rs : List RootState) (n : ℕ) (was : OpenReductions) : Type 0 where
   pub laid : AreLaid C
   pub copies : HaveCopies q.workers C
   pub cells : HasCells q C

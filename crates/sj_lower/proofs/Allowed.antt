@@ -13,7 +13,7 @@ use Rattle.sj_meaning.specs.Act.{Act, Statement, Register as Registers, Plan as 
 use Rattle.sj_meaning.specs.State.{JobState}
 use Rattle.sj_meaning.specs.Meaning.{apply}
 use Rattle.sj_meaning.specs.Numbers.{act_at, statements_from}
-use Rattle.sj_meaning.specs.Sound.{AreSound}
+use Rattle.sj_meaning.specs.Sound.{AreSoundActs}
 use Rattle.sj_meaning.specs.Table.{Table}
 use Rattle.sj_meaning.specs.View.{act_seen, seen_from, count_after}
 use Rattle.sj_job.specs.declared.form.Form.{Form}
@@ -28,7 +28,7 @@ use Rattle.sj_lower.proofs.Sounding.{IsSilent}
 
 -- ---- soundness
 
-pub all-sound : (has : Kernel → Bool) (k : ℕ) (S : JobState) (ss : List (Statement (List ℕ))) → IsWell has k S ss → AreSound has S ss
+pub all-sound : (has : Kernel → Bool) (k : ℕ) (S : JobState) (ss : List (Statement (List ℕ))) → IsWell has k S ss → AreSoundActs has S ss
 all-sound has k S [] w = tt
 all-sound has k S (s ∷ ss) w = (sound_from_allowed has k S s.act w.0, all-sound has (k + 1) (apply s.act S) ss w.1)
 

@@ -14,9 +14,9 @@ use Rattle.sj_meaning.specs.State.{RootState}
 use Rattle.sj_meaning.specs.Meaning.{with_child}
 use Rattle.sj_meaning.specs.Numbers.{root_at, no_root, change_at, put_all_at}
 use Rattle.sj_phases.specs.declared.expander.Expander.{Expander}
-use Rattle.sj_phases.specs.declared.phase.Opening.{Opening}
-use Rattle.sj_phases.specs.Block.{Block}
-use Rattle.sj_phases.specs.Does.{IsAt, over_after, Does}
+use Rattle.sj_phases.specs.declared.phase.PhaseOpening.{PhaseOpening}
+use Rattle.sj_phases.specs.Block.{TaskBlock}
+use Rattle.sj_phases.specs.Does.{StandsAt, over_after, Does}
 use Rattle.sj_phases.specs.Expand.{Expansion, closed, opened, expanded, with_own}
 use Rattle.sj_phases.proofs.Blocks.{goes-closed, goes-opened}
 use Rattle.sj_phases.proofs.Doing.{does-then, does-as, does-nothing, goes-own, own-nothing}
@@ -29,7 +29,7 @@ use Rattle.sj_lower.specs.SoundAt.{Lives}
 
 -- ---- what was done before there were too many tasks
 
-pub early-before : (a b : Expander) (line : Line) (f : Expansion → Expansion) (E : Expansion) → IsAt a E → Does a b line f → b.over ≡ None → a.over ≡ None
+pub early-before : (a b : Expander) (line : Line) (f : Expansion → Expansion) (E : Expansion) → StandsAt a E → Does a b line f → b.over ≡ None → a.over ≡ None
 early-before a b line f E at d none = by_over a.over (sym none ∙ d.over E at)
   where
     by_over : (o : Option Line) → None ≡ over_after o line (f E) → o ≡ None
@@ -63,27 +63,27 @@ does-start-close a line cs none = does-as a a line (λ E. E) (λ E. fold (closed
 -- ---- blocks
 
 -- a block that opens no phase
-pub does-block : (a b c : Expander) (line : Line) (cs : List Cell) (ls : List Lowered) (ds : List Delivery) → Does a b line (λ E. fold (closed a.workers) E cs) → Does b c line (with_own ls ds) → let x : Block = record { line = line; closes = cs; opens = []; tasks = ls; deliveries = ds } in Does a c line (λ E. expanded a.workers E x)
+pub does-block : (a b c : Expander) (line : Line) (cs : List Cell) (ls : List Lowered) (ds : List Delivery) → Does a b line (λ E. fold (closed a.workers) E cs) → Does b c line (with_own ls ds) → let x : TaskBlock = record { line = line; closes = cs; opens = []; tasks = ls; deliveries = ds } in Does a c line (λ E. expanded a.workers E x)
 does-block a b c line cs ls ds p q = does-then a b c line (λ E. fold (closed a.workers) E cs) (with_own ls ds) (goes-own ls ds) p q
 
-pub does-closing : (a b : Expander) (line : Line) (cs : List Cell) → Does a b line (λ E. fold (closed a.workers) E cs) → let x : Block = record { line = line; closes = cs; opens = []; tasks = []; deliveries = [] } in Does a b line (λ E. expanded a.workers E x)
+pub does-closing : (a b : Expander) (line : Line) (cs : List Cell) → Does a b line (λ E. fold (closed a.workers) E cs) → let x : TaskBlock = record { line = line; closes = cs; opens = []; tasks = []; deliveries = [] } in Does a b line (λ E. expanded a.workers E x)
 does-closing a b line cs p =
-    let x : Block = record { line = line; closes = cs; opens = []; tasks = []; deliveries = [] } in
+    let x : TaskBlock = record { line = line; closes = cs; opens = []; tasks = []; deliveries = [] } in
     does-as a b line (λ E. fold (closed a.workers) E cs) (λ E. expanded a.workers E x) (λ E. own-nothing (fold (closed a.workers) E cs)) p
 
-pub does-empty : (a : Expander) (line : Line) → let x : Block = record { line = line; closes = []; opens = []; tasks = []; deliveries = [] } in Does a a line (λ E. expanded a.workers E x)
+pub does-empty : (a : Expander) (line : Line) → let x : TaskBlock = record { line = line; closes = []; opens = []; tasks = []; deliveries = [] } in Does a a line (λ E. expanded a.workers E x)
 does-empty a line = does-closing a a line [] (does-nothing a line)
 
 -- a block that closes phases, opens one, and has a task
-pub does-task : (a b c d : Expander) (line : Line) (cs : List Cell) (o : Opening) (l : Lowered) → Does a b line (λ E. fold (closed a.workers) E cs) → Does b c line (λ E. opened b.workers line E o) → Does c d line (with_own (l ∷ []) [])
-    → let x : Block = record { line = line; closes = cs; opens = o ∷ []; tasks = l ∷ []; deliveries = [] } in Does a d line (λ E. expanded a.workers E x)
+pub does-task : (a b c d : Expander) (line : Line) (cs : List Cell) (o : PhaseOpening) (l : Lowered) → Does a b line (λ E. fold (closed a.workers) E cs) → Does b c line (λ E. opened b.workers line E o) → Does c d line (with_own (l ∷ []) [])
+    → let x : TaskBlock = record { line = line; closes = cs; opens = o ∷ []; tasks = l ∷ []; deliveries = [] } in Does a d line (λ E. expanded a.workers E x)
 does-task a b c d line cs o l p q r =
     let here = does-then a b c line (λ E. fold (closed a.workers) E cs) (λ E. opened a.workers line E o) (λ E. goes-opened a.workers line E o) p (subst (λ w. Does b c line (λ E. opened w line E o)) p.workers q) in
     does-then a c d line (λ E. opened a.workers line (fold (closed a.workers) E cs) o) (with_own (l ∷ []) []) (goes-own (l ∷ []) []) here r
 
 -- ---- a statement
 
-pub goes : (old new : Steps) (line : Line) (rs qs : List RootState) (C D : Laid) (E : Expansion) (b : Block) → StepsAt old rs C E → Follows new.layout qs D → (new.phases.over ≡ None → new.prints ≡ D.prints) → Does old.phases new.phases line (λ F. expanded old.phases.workers F b) → Goes old new line qs D (expanded old.phases.workers E b)
+pub goes : (old new : Steps) (line : Line) (rs qs : List RootState) (C D : Laid) (E : Expansion) (b : TaskBlock) → StepsAt old rs C E → Follows new.layout qs D → (new.phases.over ≡ None → new.prints ≡ D.prints) → Does old.phases new.phases line (λ F. expanded old.phases.workers F b) → Goes old new line qs D (expanded old.phases.workers E b)
 goes old new line rs qs C D E b at follows prints does = record {
   at = record { layout = follows; phases = does.at E at.phases; prints = prints };
   over = does.over E at.phases;
@@ -91,7 +91,7 @@ goes old new line rs qs C D E b at follows prints does = record {
 }
 
 -- what comes of a statement that is no print statement
-pub goes-kept : (old new : Steps) (line : Line) (rs qs : List RootState) (C D : Laid) (E : Expansion) (b : Block) → StepsAt old rs C E → Follows new.layout qs D → Does old.phases new.phases line (λ F. expanded old.phases.workers F b) → new.prints ≡ old.prints → D.prints ≡ C.prints → Goes old new line qs D (expanded old.phases.workers E b)
+pub goes-kept : (old new : Steps) (line : Line) (rs qs : List RootState) (C D : Laid) (E : Expansion) (b : TaskBlock) → StepsAt old rs C E → Follows new.layout qs D → Does old.phases new.phases line (λ F. expanded old.phases.workers F b) → new.prints ≡ old.prints → D.prints ≡ C.prints → Goes old new line qs D (expanded old.phases.workers E b)
 goes-kept old new line rs qs C D E b at follows does same kept =
     goes old new line rs qs C D E b at follows (λ none. same ∙ at.prints (early-before old.phases new.phases line (λ F. expanded old.phases.workers F b) E at.phases does none) ∙ sym kept) does
 

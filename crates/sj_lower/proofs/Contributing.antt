@@ -32,9 +32,9 @@ use Rattle.sj_phases.specs.Expand.{first_units}
 use Rattle.sj_phases.specs.Rows.{init_row}
 use Rattle.sj_phases.proofs.Lists.{all-from}
 use Rattle.sj_lower.specs.Laid.{Laid, Handle, handle_at, cell_of, with_copies}
-use Rattle.sj_lower.specs.Step.{by_number, operand_cell, contributed, opening_of, task_row, task_block}
-use Rattle.sj_lower.specs.SoundAt.{IsPlaced, IsSoundTask, has_value}
-use Rattle.sj_lower.specs.Whole.{IsTaken, AreLaid, HaveCopies}
+use Rattle.sj_lower.specs.Step.{by_number, operand_cell, contributed, opening_for, task_row, task_block}
+use Rattle.sj_lower.specs.SoundAt.{IsPlacedAt, IsSoundTaskAt, has_value}
+use Rattle.sj_lower.specs.Whole.{HasTakenPlan, AreLaid, HaveCopies}
 use Rattle.sj_lower.proofs.Contents.{first_worker, task_at, contents_before, contents-next, held-same, held-other}
 use Rattle.sj_lower.proofs.Copying.{IsNoCopy, by_copies, copies-copied, laid-copied}
 use Rattle.sj_lower.proofs.Doing.{the_cell, IsReady, cell-size, kernel_there, ready-held, holds-task}
@@ -61,7 +61,7 @@ fold-handles workers (c ∷ cs) C = fold-handles workers cs (with_copies workers
 pub same-cells : (C D : Laid) → D.handles ≡ C.handles → (m : ℕ) (s : Parts) (place : ℕ × ℕ) → cell_of D m s place ≡ cell_of C m s place
 same-cells C D e m s place = ap (λ (hs : List Handle). let E : Laid = record { rows = D.rows; handles = hs; prints = D.prints } in cell_of E m s place) e
 
-same-taken : (C D : Laid) → D.handles ≡ C.handles → (m : ℕ) (d : Dims) (s : Parts) (f : ℕ) → IsTaken C m d s f → IsTaken D m d s f
+same-taken : (C D : Laid) → D.handles ≡ C.handles → (m : ℕ) (d : Dims) (s : Parts) (f : ℕ) → HasTakenPlan C m d s f → HasTakenPlan D m d s f
 same-taken C D e m d s f t =
     let at : (hs : List Handle) → Laid = λ hs. record { rows = D.rows; handles = hs; prints = D.prints } in
     record { dims = ap (λ hs. (handle_at (at hs) m).dims) e ∙ t.dims; first = ap (λ hs. (handle_at (at hs) m).first s) e ∙ t.first }
@@ -73,7 +73,7 @@ roots-copied q C D n k rs e has m lives =
     root-kept q C D n n k k m (root_at rs m) b (same-taken C D e m (root_at rs m).dims (root_at rs m).parts b.first b.taken) (omega arith) (λ place inside. refl)
 
 -- the cells of the contributed operands, with their partial copies; the cell of a child is none of these
-pub laid-contributed : (q : Program) (C : Laid) (n : ℕ) (k : Contents) (rs : List RootState) (us : List (Operand ℕ)) → AreLaid C → HaveCopies q.workers C → HaveRoots q C n k rs → AllByRecursion (IsPlaced rs) us
+pub laid-contributed : (q : Program) (C : Laid) (n : ℕ) (k : Contents) (rs : List RootState) (us : List (Operand ℕ)) → AreLaid C → HaveCopies q.workers C → HaveRoots q C n k rs → AllByRecursion (IsPlacedAt rs) us
     → AreLaid (fold (with_copies q.workers) C (each_of (the_cell rs C) us)) × HaveCopies q.workers (fold (with_copies q.workers) C (each_of (the_cell rs C) us))
 laid-contributed q C n k rs [] a copies has placed = (a, copies)
 laid-contributed q C n k rs (u ∷ us) a copies has placed =
@@ -95,7 +95,7 @@ after-init q k Plus line c = refl
 after-init q k Least line c = refl
 
 -- an array in the cell of a child without a value
-pub holds-blank : (q : Program) (C : Laid) (n : ℕ) (k : Contents) (rs : List RootState) (u : Operand ℕ) (a : Array) → AreLaid C → HaveRoots q C n k rs → IsPlaced rs u → has_value rs u ≡ false → HaveRoots q C n ((the_cell rs C u, a) ∷ k) rs
+pub holds-blank : (q : Program) (C : Laid) (n : ℕ) (k : Contents) (rs : List RootState) (u : Operand ℕ) (a : Array) → AreLaid C → HaveRoots q C n k rs → IsPlacedAt rs u → has_value rs u ≡ false → HaveRoots q C n ((the_cell rs C u, a) ∷ k) rs
 holds-blank q C n k rs u a laid has p blank m lives =
     let b = has m lives in
     let o = has u.name p.lives in
@@ -119,7 +119,7 @@ record AreUnits (q : Program) (D : Laid) (m : ℕ) (rs : List RootState) (us : L
   roots : HaveRoots q D m (contents_before q m) rs
   ready : AllByRecursion (λ u. IsReady q D (contents_before q m) rs u) us
 
-module _ (has : Kernel → Bool) (q : Program) (D : Laid) (n : ℕ) (rs : List RootState) (t : TaskLine ℕ) (line : Line) (s : IsSoundTask has rs t) (cells : HasCells q D) (laid : AreLaid D) (roots : HaveRoots q D n (contents_before q n) rs) where
+module _ (has : Kernel → Bool) (q : Program) (D : Laid) (n : ℕ) (rs : List RootState) (t : TaskLine ℕ) (line : Line) (s : IsSoundTaskAt has rs t) (cells : HasCells q D) (laid : AreLaid D) (roots : HaveRoots q D n (contents_before q n) rs) where
   module _ (con : Contributes rs t (kernel_there has rs t s).call.kernel) where
     abbrev u : Operand ℕ
     u = con.last
@@ -130,7 +130,7 @@ module _ (has : Kernel → Bool) (q : Program) (D : Laid) (n : ℕ) (rs : List R
     abbrev c : Cell
     c = the_cell rs D u
 
-    placed : IsPlaced rs u
+    placed : IsPlacedAt rs u
     placed = placed-at has rs t s u (last-there con)
 
     -- what the contribution adds to
@@ -164,7 +164,7 @@ module _ (has : Kernel → Bool) (q : Program) (D : Laid) (n : ℕ) (rs : List R
         subst (λ ls. AreUnits q D (n + length ls) rs (contributed t)) (sym one)
         (subst (AreUnits q D (n + length (first_units (opening_by con D) line)) rs) (sym con.contributed) (by_valued con (has_value rs con.last) refl (subst (Stand q n) one stand)))
     | inr none ↦
-        subst (λ (us : List (Operand ℕ)). AreUnits q D (n + length (flat_map (λ o. first_units o line) (flat_map (opening_of (by_number rs) D) us))) rs us) (sym (none-filter t.operands none))
+        subst (λ (us : List (Operand ℕ)). AreUnits q D (n + length (flat_map (λ o. first_units o line) (flat_map (opening_for (by_number rs) D) us))) rs us) (sym (none-filter t.operands none))
         (subst (λ m. AreUnits q D m rs []) (sym (none_more n)) (record { roots = roots; ready = tt }))
   ]
 
@@ -182,7 +182,7 @@ abbrev pub Contributed : ℕ → List RootState → Laid → TaskLine ℕ → La
 Contributed workers rs C t = fold (with_copies workers) C (each_of (operand_cell (by_number rs) C) (contributed t))
 
 -- the roots after the tasks of a task line
-pub roots-task : (has : Kernel → Bool) (q : Program) (C : Laid) (n : ℕ) (rs : List RootState) (t : TaskLine ℕ) (line : Line) → IsSoundTask has rs t → AreLaid C → HaveCopies q.workers C → HaveRoots q C n (contents_before q n) rs
+pub roots-task : (has : Kernel → Bool) (q : Program) (C : Laid) (n : ℕ) (rs : List RootState) (t : TaskLine ℕ) (line : Line) → IsSoundTaskAt has rs t → AreLaid C → HaveCopies q.workers C → HaveRoots q C n (contents_before q n) rs
     → let D = Contributed q.workers rs C t in let ls = plain_rows (task_block (by_number rs) D t line) in HasCells q D → Stand q n ls → HaveRoots q D (n + length ls) (contents_before q (n + length ls)) (run_task_at t rs)
 roots-task has q C n rs t line s laid copies roots cells stand =
     let us = units (task_block (by_number rs) D t line) in
@@ -198,8 +198,8 @@ roots-task has q C n rs t line s laid copies roots cells stand =
     D : Laid
     D = Contributed q.workers rs C t
 
-    placed : AllByRecursion (IsPlaced rs) (contributed t)
-    placed = recursion_from_All (IsPlaced rs) (contributed t) (All-filter (λ (o : Operand ℕ). is_redux o.mode) (IsPlaced rs) t.operands (All-from_recursion (IsPlaced rs) t.operands s.placed))
+    placed : AllByRecursion (IsPlacedAt rs) (contributed t)
+    placed = recursion_from_All (IsPlacedAt rs) (contributed t) (All-filter (λ (o : Operand ℕ). is_redux o.mode) (IsPlacedAt rs) t.operands (All-from_recursion (IsPlacedAt rs) t.operands s.placed))
 
     laid_after : AreLaid D
     laid_after = (laid-contributed q C n (contents_before q n) rs (contributed t) laid copies roots placed).0

@@ -17,8 +17,8 @@ use Rattle.sj_plan.specs.Parts.{places}
 use Rattle.sj_meaning.specs.Table.{a_root}
 use Rattle.sj_base.specs.declared.ids.Root.{Root}
 use Rattle.sj_lower.specs.Cells.{child_cell, copy_info, with_partials}
-use Rattle.sj_lower.specs.Laid.{Laid, Handle, handle_of, handle_at, taking, take, with_root, no_cells, info_at, first_copy, with_copies}
-use Rattle.sj_lower.specs.Whole.{IsTaken, AreLaid, HaveCopies}
+use Rattle.sj_lower.specs.Laid.{Laid, Handle, handle_of, handle_at, with_new_plan, take, with_handle, no_cells, info_at, first_copy_in, with_copies}
+use Rattle.sj_lower.specs.Whole.{HasTakenPlan, AreLaid, HaveCopies}
 use Rattle.sj_lower.proofs.Growing.{Grows, row_at, grows-refl, grows-append, has-row, NoneHas, append-partials}
 use Rattle.sj_lower.proofs.Taken.{Old, New, old_or_new, none_isn't, some_is, laid-as, taken-as, taken-root, by_first}
 use Rattle.sj_lower.proofs.Places.{number-below}
@@ -35,7 +35,7 @@ copies-none workers = record {
     no c f e = let h = has-row [] c.0 f e in omega (arith, h)
 
 -- the same rows, where no plan is taken that wasn't
-pub copies-as : (workers : ℕ) (C : Laid) (handles : List Handle) (prints : ℕ) → let D : Laid = record { rows = C.rows; handles = handles; prints = prints } in ((n : ℕ) (d : Dims) (s : Parts) (f : ℕ) → IsTaken D n d s f → IsTaken C n d s f) → HaveCopies workers C → HaveCopies workers D
+pub copies-as : (workers : ℕ) (C : Laid) (handles : List Handle) (prints : ℕ) → let D : Laid = record { rows = C.rows; handles = handles; prints = prints } in ((n : ℕ) (d : Dims) (s : Parts) (f : ℕ) → HasTakenPlan D n d s f → HasTakenPlan C n d s f) → HaveCopies workers C → HaveCopies workers D
 copies-as workers C handles prints taken h = record {
   inside = h.inside;
   copy = h.copy;
@@ -43,7 +43,7 @@ copies-as workers C handles prints taken h = record {
   beside = λ c f w q d s g place e k t p same. h.beside c f w q d s g place e k (taken q d s g t) p same;
 }
 
-pub copies-root : (workers : ℕ) (C : Laid) (n : Dims) → HaveCopies workers C → HaveCopies workers (with_root n C)
+pub copies-root : (workers : ℕ) (C : Laid) (n : Dims) → HaveCopies workers C → HaveCopies workers (with_handle n C)
 copies-root workers C n h = copies-as workers C (C.handles ++ handle_of n ∷ []) C.prints (taken-root C n) h
 
 -- ---- a plan more
@@ -57,7 +57,7 @@ none-have zs all n = elim (cases_lt n (length zs)) [
 pub child_none : (root : Root) (d : Dims) (p : Parts) → NoneHas (each_of (child_cell root d p) (places p))
 child_none root d p = none-have (each_of (child_cell root d p) (places p)) (All-map (λ (i : CellInfo). i.partials ≡ None) (child_cell root d p) (places p) (λ i e l. refl))
 
-copies_new : (workers : ℕ) (C : Laid) (n : ℕ) (p : Parts) → n < length C.handles → AreLaid C → HaveCopies workers C → HaveCopies workers (taking n p C)
+copies_new : (workers : ℕ) (C : Laid) (n : ℕ) (p : Parts) → n < length C.handles → AreLaid C → HaveCopies workers C → HaveCopies workers (with_new_plan n p C)
 copies_new workers C n p there a k = record {
   inside = λ c f e. omega (arith, k.inside c f (old c f e), length-append C.rows zs);
   copy = λ c f w e hw.
@@ -87,7 +87,7 @@ take-more C n p = by_first C n p (λ (D : Laid). Grows C.rows D.rows) (λ f e. g
 -- the partial copies of a cell that had none
 abbrev pub Copied : ℕ → Cell → Laid → Laid
 Copied workers c C = record {
-  rows = set C.rows c.0 (with_partials (first_copy C c) (info_at C c)) ++ replicate workers (copy_info (info_at C c));
+  rows = set C.rows c.0 (with_partials (first_copy_in C c) (info_at C c)) ++ replicate workers (copy_info (info_at C c));
   handles = C.handles;
   prints = C.prints;
 }
@@ -99,10 +99,10 @@ copies-have_none workers i = none-have (replicate workers (copy_info i)) (All-re
 abbrev pub next_cell : Laid → Cell
 next_cell C = record { 0 = length C.rows }
 
-pub first-new : (C : Laid) (c : Cell) → (info_at C c).partials ≡ None → first_copy C c ≡ next_cell C
+pub first-new : (C : Laid) (c : Cell) → (info_at C c).partials ≡ None → first_copy_in C c ≡ next_cell C
 first-new C c e = ap (λ (o : Option Cell). unwrap_or o (next_cell C)) e
 
-pub first-old : (C : Laid) (c f : Cell) → (info_at C c).partials ≡ Some f → first_copy C c ≡ f
+pub first-old : (C : Laid) (c f : Cell) → (info_at C c).partials ≡ Some f → first_copy_in C c ≡ f
 first-old C c f e = ap (λ (o : Option Cell). unwrap_or o (next_cell C)) e
 
 pub by_copies : (workers : ℕ) (c : Cell) (C : Laid) (P : Laid → Type 0) → ((f : Cell) → (info_at C c).partials ≡ Some f → P C) → ((info_at C c).partials ≡ None → P (Copied workers c C)) → P (with_copies workers C c)
@@ -122,22 +122,22 @@ IsNoCopy workers C c = (d f : Cell) (w : ℕ) → (info_at C d).partials ≡ Som
 
 module _ (workers : ℕ) (c : Cell) (C : Laid) (none : (info_at C c).partials ≡ None) (there : c.0 < length C.rows) where
   abbrev first_part : List CellInfo
-  first_part = set C.rows c.0 (with_partials (first_copy C c) (info_at C c))
+  first_part = set C.rows c.0 (with_partials (first_copy_in C c) (info_at C c))
 
   abbrev copies : List CellInfo
   copies = replicate workers (copy_info (info_at C c))
 
   first_length : length first_part ≡ length C.rows
-  first_length = length-set C.rows c.0 (with_partials (first_copy C c) (info_at C c))
+  first_length = length-set C.rows c.0 (with_partials (first_copy_in C c) (info_at C c))
 
   pub copied-length : length (Copied workers c C).rows ≡ length C.rows + workers
   copied-length = length-append first_part copies ∙ (λ i. first_length i + length-replicate workers (copy_info (info_at C c)) i)
 
-  pub copied-own : row_at (Copied workers c C).rows c.0 ≡ with_partials (first_copy C c) (info_at C c)
-  copied-own = get_or_append_left first_part copies no_cell c.0 (omega (arith, first_length, there)) ∙ get_or-set_same C.rows c.0 (with_partials (first_copy C c) (info_at C c)) no_cell there
+  pub copied-own : row_at (Copied workers c C).rows c.0 ≡ with_partials (first_copy_in C c) (info_at C c)
+  copied-own = get_or_append_left first_part copies no_cell c.0 (omega (arith, first_length, there)) ∙ get_or-set_same C.rows c.0 (with_partials (first_copy_in C c) (info_at C c)) no_cell there
 
   pub copied-other : (n : ℕ) → n < length C.rows → (n ≡ c.0 → ⊥) → row_at (Copied workers c C).rows n ≡ row_at C.rows n
-  copied-other n inside other = get_or_append_left first_part copies no_cell n (omega (arith, first_length, inside)) ∙ get_or-set_other C.rows c.0 n (with_partials (first_copy C c) (info_at C c)) no_cell other
+  copied-other n inside other = get_or_append_left first_part copies no_cell n (omega (arith, first_length, inside)) ∙ get_or-set_other C.rows c.0 n (with_partials (first_copy_in C c) (info_at C c)) no_cell other
 
   pub copied-copy : (n w : ℕ) → n ≡ length C.rows + w → w < workers → row_at (Copied workers c C).rows n ≡ copy_info (info_at C c)
   copied-copy n w e h =
@@ -149,8 +149,8 @@ module _ (workers : ℕ) (c : Cell) (C : Laid) (none : (info_at C c).partials �
   copied-partials n f e =
       let own = append-partials first_part copies (copies-have_none workers (info_at C c)) n f e in
       elim (cases_eq n c.0) [
-        | inl same ↦ inr (same, ap (λ (x : Cell). x.0) (some_is f (next_cell C) (sym own ∙ ap (λ m. (row_at first_part m).partials) same ∙ ap (λ (i : CellInfo). i.partials) (get_or-set_same C.rows c.0 (with_partials (first_copy C c) (info_at C c)) no_cell there) ∙ ap (λ (x : Cell). Some x) (first-new C c none))))
-        | inr other ↦ inl (sym (ap (λ (i : CellInfo). i.partials) (get_or-set_other C.rows c.0 n (with_partials (first_copy C c) (info_at C c)) no_cell other)) ∙ own)
+        | inl same ↦ inr (same, ap (λ (x : Cell). x.0) (some_is f (next_cell C) (sym own ∙ ap (λ m. (row_at first_part m).partials) same ∙ ap (λ (i : CellInfo). i.partials) (get_or-set_same C.rows c.0 (with_partials (first_copy_in C c) (info_at C c)) no_cell there) ∙ ap (λ (x : Cell). Some x) (first-new C c none))))
+        | inr other ↦ inl (sym (ap (λ (i : CellInfo). i.partials) (get_or-set_other C.rows c.0 n (with_partials (first_copy_in C c) (info_at C c)) no_cell other)) ∙ own)
       ]
 
   grows_copied : Grows C.rows (Copied workers c C).rows
@@ -167,7 +167,7 @@ module _ (workers : ℕ) (c : Cell) (C : Laid) (none : (info_at C c).partials �
     ];
   }
 
-  taken : (q : ℕ) (d : Dims) (s : Parts) (f : ℕ) → IsTaken (Copied workers c C) q d s f → IsTaken C q d s f
+  taken : (q : ℕ) (d : Dims) (s : Parts) (f : ℕ) → HasTakenPlan (Copied workers c C) q d s f → HasTakenPlan C q d s f
   taken q d s f t = taken-as (Copied workers c C) C q q d s f refl t
 
   copies_made : IsNoCopy workers C c → AreLaid C → HaveCopies workers C → HaveCopies workers (Copied workers c C)
@@ -198,7 +198,7 @@ module _ (workers : ℕ) (c : Cell) (C : Laid) (none : (info_at C c).partials �
   laid_made a =
       let own = All-get_or (λ (i : CellInfo). area i.dims ≤ 2 ^ 24) C.rows c.0 no_cell there a.small in
       laid-as C (Copied workers c C) taken grows_copied.longer grows_copied.dims a.sized (All-append (λ (i : CellInfo). area i.dims ≤ 2 ^ 24) first_part copies
-      (All-set (λ (i : CellInfo). area i.dims ≤ 2 ^ 24) C.rows c.0 (with_partials (first_copy C c) (info_at C c)) own a.small)
+      (All-set (λ (i : CellInfo). area i.dims ≤ 2 ^ 24) C.rows c.0 (with_partials (first_copy_in C c) (info_at C c)) own a.small)
       (All-replicate (λ (i : CellInfo). area i.dims ≤ 2 ^ 24) workers (copy_info (info_at C c)) own)) a
 
 module _ (workers : ℕ) (c : Cell) (C : Laid) (there : c.0 < length C.rows) where
@@ -209,13 +209,13 @@ module _ (workers : ℕ) (c : Cell) (C : Laid) (there : c.0 < length C.rows) whe
   laid-copied a = by_copies workers c C AreLaid (λ f e. a) (λ e. laid_made workers c C e there a)
 
   -- the cell has its copies afterwards
-  pub copied-first : (info_at (with_copies workers C c) c).partials ≡ Some (first_copy C c)
-  copied-first = by_copies workers c C (λ (D : Laid). (info_at D c).partials ≡ Some (first_copy C c)) (λ f e. e ∙ ap (λ (x : Cell). Some x) (sym (first-old C c f e)))
+  pub copied-first : (info_at (with_copies workers C c) c).partials ≡ Some (first_copy_in C c)
+  copied-first = by_copies workers c C (λ (D : Laid). (info_at D c).partials ≡ Some (first_copy_in C c)) (λ f e. e ∙ ap (λ (x : Cell). Some x) (sym (first-old C c f e)))
       (λ e. ap (λ (i : CellInfo). i.partials) (copied-own workers c C e there))
 
 -- cells are only added
 pub copies-more : (workers : ℕ) (c : Cell) (C : Laid) → Grows C.rows (with_copies workers C c).rows
 copies-more workers c C = by_copies workers c C (λ (D : Laid). Grows C.rows D.rows) (λ f e. grows-refl C.rows) (λ e. elim (cases_lt c.0 (length C.rows)) as (λ _. Grows C.rows (Copied workers c C).rows) [
   | inl inside ↦ grows_copied workers c C e inside
-  | inr past ↦ subst (λ (rows : List CellInfo). Grows C.rows (rows ++ replicate workers (copy_info (info_at C c)))) (sym (set_past C.rows c.0 (with_partials (first_copy C c) (info_at C c)) past)) (grows-append C.rows (replicate workers (copy_info (info_at C c))) (copies-have_none workers (info_at C c)))
+  | inr past ↦ subst (λ (rows : List CellInfo). Grows C.rows (rows ++ replicate workers (copy_info (info_at C c)))) (sym (set_past C.rows c.0 (with_partials (first_copy_in C c) (info_at C c)) past)) (grows-append C.rows (replicate workers (copy_info (info_at C c))) (copies-have_none workers (info_at C c)))
 ])

@@ -41,7 +41,7 @@ use Rattle.sj_phases.specs.Plain.{direct_mode, direct_access, direct}
 use Rattle.sj_phases.proofs.Good.{direct-redux}
 use Rattle.sj_lower.specs.Laid.{Laid}
 use Rattle.sj_lower.specs.Step.{by_number, operand_cell, access_of, task_row}
-use Rattle.sj_lower.specs.SoundAt.{IsPlaced, IsSoundTask, child_dims, has_value, modes_fit, clashes, is_aliased}
+use Rattle.sj_lower.specs.SoundAt.{IsPlacedAt, IsSoundTaskAt, child_dims_at, has_value, modes_fit_at, clashes_at, is_aliased_at}
 use Rattle.sj_lower.specs.Whole.{AreLaid}
 use Rattle.sj_lower.proofs.Contents.{first_worker, task_at, same_cell-itself}
 use Rattle.sj_lower.proofs.Elements.{child-whole}
@@ -73,12 +73,12 @@ by_mode q k W c r place d v = ap zeros d
 by_mode q k Scratch c r place d v = ap zeros d
 by_mode q k m c r place d v = v refl
 
-pub cell-size : (q : Program) (C : Laid) (n : ℕ) (k : Contents) (rs : List RootState) (o : Operand ℕ) → HasCells q C → AreLaid C → HaveRoots q C n k rs → IsPlaced rs o → dims_of q (the_cell rs C o) ≡ rect_dims (child_rect (root_at rs o.name) o.place)
+pub cell-size : (q : Program) (C : Laid) (n : ℕ) (k : Contents) (rs : List RootState) (o : Operand ℕ) → HasCells q C → AreLaid C → HaveRoots q C n k rs → IsPlacedAt rs o → dims_of q (the_cell rs C o) ≡ rect_dims (child_rect (root_at rs o.name) o.place)
 cell-size q C n k rs o cells laid has p =
     let b = has o.name p.lives in
     cell-dims q C o.name (root_at rs o.name).dims (root_at rs o.name).parts b.first o.place cells laid b.taken p.place
 
-all_found : (q : Program) (C : Laid) (n : ℕ) (k : Contents) (rs : List RootState) (os : List (Operand ℕ)) → HasCells q C → AreLaid C → HaveRoots q C n k rs → AllByRecursion (IsPlaced rs) os → AllByRecursion (IsReady q C k rs) os → each_of (found q first_worker (held_in q k)) (each_of (the_access rs C) os) ≡ each_of (operand_array_at rs) os
+all_found : (q : Program) (C : Laid) (n : ℕ) (k : Contents) (rs : List RootState) (os : List (Operand ℕ)) → HasCells q C → AreLaid C → HaveRoots q C n k rs → AllByRecursion (IsPlacedAt rs) os → AllByRecursion (IsReady q C k rs) os → each_of (found q first_worker (held_in q k)) (each_of (the_access rs C) os) ≡ each_of (operand_array_at rs) os
 all_found q C n k rs [] cells laid has placed ready = refl
 all_found q C n k rs (o ∷ os) cells laid has placed ready =
     λ i. by_mode q k o.mode (the_cell rs C o) (root_at rs o.name) o.place (cell-size q C n k rs o cells laid has placed.0) ready.0 i ∷ all_found q C n k rs os cells laid has placed.1 ready.1 i
@@ -104,19 +104,19 @@ none_passes test [] h = tt
 none_passes test (x ∷ xs) h = let a = or_parts (test x) (list_any test xs) h in (a.0, none_passes test xs a.1)
 
 -- no child that is written stands in another operand
-other_written : (o : Operand ℕ) (os : List (Operand ℕ)) → is_written o.mode ≡ true → list_any (clashes o) os ≡ false → IsOther o (written_of os)
+other_written : (o : Operand ℕ) (os : List (Operand ℕ)) → is_written o.mode ≡ true → list_any (clashes_at o) os ≡ false → IsOther o (written_of os)
 other_written o os w h =
     each-filter (λ (p : Operand ℕ). same_child o p ≡ false) (λ (p : Operand ℕ). is_written p.mode) os
-    (each-weaker (λ (p : Operand ℕ). clashes o p ≡ false) (λ (p : Operand ℕ). is_written p.mode ≡ true → same_child o p ≡ false)
-    (λ p apart v. sym (and_true (same_child o p)) ∙ (λ i. same_child o p && not (sym (unread o.mode w) i && is_read_only p.mode)) ∙ apart) os (none_passes (clashes o) os h))
+    (each-weaker (λ (p : Operand ℕ). clashes_at o p ≡ false) (λ (p : Operand ℕ). is_written p.mode ≡ true → same_child o p ≡ false)
+    (λ p apart v. sym (and_true (same_child o p)) ∙ (λ i. same_child o p && not (sym (unread o.mode w) i && is_read_only p.mode)) ∙ apart) os (none_passes (clashes_at o) os h))
 
 abbrev AreOther : List (Operand ℕ) → Type 0
 AreOther os = Ordered (λ (o u : Operand ℕ). same_child o u ≡ false) os
 
-all_other : (os : List (Operand ℕ)) → is_aliased os ≡ false → AreOther (written_of os)
+all_other : (os : List (Operand ℕ)) → is_aliased_at os ≡ false → AreOther (written_of os)
 all_other [] h = tt
 all_other (o ∷ os) h =
-    let a = or_parts (list_any (clashes o) os) (is_aliased os) h in
+    let a = or_parts (list_any (clashes_at o) os) (is_aliased_at os) h in
     let rest = all_other os a.1 in
     cond_both (is_written o.mode) (o ∷ written_of os) (written_of os) AreOther (λ w. (other_written o os w a.0, rest)) (λ r. rest)
 
@@ -138,11 +138,11 @@ all_written rs C os =
     list_any_at (gives (the_cell rs C o)) accesses k (the_access rs C d) (omega (arith, inside, length-map os (the_access rs C)))
     (ap (gives (the_cell rs C o)) (get_or-map (the_access rs C) os k d (the_access rs C d) inside) ∙ (λ i. written i && not (direct-redux o.mode i) && same_cell-itself (the_cell rs C o) i))))
 
-gives_all : (q : Program) (C : Laid) (n : ℕ) (rs : List RootState) (accesses : List Access) (os : List (Operand ℕ)) (xs : List Array) → (task_of q (task_at n)).accesses ≡ accesses → Written rs C accesses os → AllByRecursion (IsPlaced rs) os → AreOther os → all_dims xs ≡ each_of (child_dims rs) os → AreWhole xs → GivesAll q C (n + 1) rs (the_cell rs C) os xs
+gives_all : (q : Program) (C : Laid) (n : ℕ) (rs : List RootState) (accesses : List Access) (os : List (Operand ℕ)) (xs : List Array) → (task_of q (task_at n)).accesses ≡ accesses → Written rs C accesses os → AllByRecursion (IsPlacedAt rs) os → AreOther os → all_dims xs ≡ each_of (child_dims_at rs) os → AreWhole xs → GivesAll q C (n + 1) rs (the_cell rs C) os xs
 gives_all q C n rs accesses [] xs t w r o d whole = tt
 gives_all q C n rs accesses (u ∷ us) [] t w r o d whole = absurd (cc)
 gives_all q C n rs accesses (u ∷ us) (a ∷ xs) t w r o d whole =
-    let sizes = cons_same a.dims (child_dims rs u) (all_dims xs) (each_of (child_dims rs) us) d in (
+    let sizes = cons_same a.dims (child_dims_at rs u) (all_dims xs) (each_of (child_dims_at rs) us) d in (
       record {
         lives = r.0.lives;
         placed = r.0.place;
@@ -171,7 +171,7 @@ seen_sized Scratch r place = unit_sized r place None
 seen_sized Redux r place = cond_both (is_valued_child r place) (child_array r place) (child_unit r place) (IsSized r place) (λ v. (refl, child-whole r place)) (λ v. unit_sized r place r.reduction)
 seen_sized m r place = (refl, child-whole r place)
 
-all_seen_dims : (rs : List RootState) (os : List (Operand ℕ)) → all_dims (each_of (operand_array_at rs) os) ≡ each_of (child_dims rs) os
+all_seen_dims : (rs : List RootState) (os : List (Operand ℕ)) → all_dims (each_of (operand_array_at rs) os) ≡ each_of (child_dims_at rs) os
 all_seen_dims rs os = map-map (λ (a : Array). a.dims) (operand_array_at rs) os ∙ (λ i. each_of (λ (o : Operand ℕ). (seen_sized o.mode (root_at rs o.name) o.place).0 i) os)
 
 all_seen_whole : (rs : List RootState) (os : List (Operand ℕ)) → AreWhole (each_of (operand_array_at rs) os)
@@ -179,26 +179,26 @@ all_seen_whole rs os = each-map IsWhole (operand_array_at rs) os (each-of (λ (o
 
 -- the codelet of a task, with its operands in its modes
 pub record HasKernel (t : TaskLine ℕ) (rs : List RootState) : Type 0 where
-  pub call : IsCall t.codelet t.args (each_of (child_dims rs) t.operands)
-  pub modes : modes_fit (formals_of call.kernel) t.operands ≡ true
+  pub call : IsCall t.codelet t.args (each_of (child_dims_at rs) t.operands)
+  pub modes : modes_fit_at (formals_of call.kernel) t.operands ≡ true
   pub count : length t.operands ≡ length (formals_of call.kernel)
 
-pub kernel_there : (has : Kernel → Bool) (rs : List RootState) (t : TaskLine ℕ) → IsSoundTask has rs t → HasKernel t rs
+pub kernel_there : (has : Kernel → Bool) (rs : List RootState) (t : TaskLine ℕ) → IsSoundTaskAt has rs t → HasKernel t rs
 kernel_there has rs t s =
-    let c = call_of has t.codelet t.args (each_of (child_dims rs) t.operands) s.fits in
-    let f = fit_from_fits c.kernel t.args (each_of (child_dims rs) t.operands) c.fits in
-    record { call = c; modes = ap (λ fs. modes_fit fs t.operands) (sym c.formals) ∙ s.modes; count = sym (length-map t.operands (child_dims rs)) ∙ f.count }
+    let c = call_of has t.codelet t.args (each_of (child_dims_at rs) t.operands) s.fits in
+    let f = fit_from_fits c.kernel t.args (each_of (child_dims_at rs) t.operands) c.fits in
+    record { call = c; modes = ap (λ fs. modes_fit_at fs t.operands) (sym c.formals) ∙ s.modes; count = sym (length-map t.operands (child_dims_at rs)) ∙ f.count }
 
-pub new_dims : (has : Kernel → Bool) (rs : List RootState) (t : TaskLine ℕ) → IsSoundTask has rs t → all_dims (out t.codelet t.args (each_of (operand_array_at rs) t.operands)) ≡ each_of (child_dims rs) (written_of t.operands)
+pub new_dims : (has : Kernel → Bool) (rs : List RootState) (t : TaskLine ℕ) → IsSoundTaskAt has rs t → all_dims (out t.codelet t.args (each_of (operand_array_at rs) t.operands)) ≡ each_of (child_dims_at rs) (written_of t.operands)
 new_dims has rs t s =
     let k = kernel_there has rs t s in
     let ins = each_of (operand_array_at rs) t.operands in
     let dims = all_seen_dims rs t.operands in
     out_dims k.call.kernel t.codelet t.args ins k.call.is (ap (fits k.call.kernel t.args) dims ∙ k.call.fits)
     ∙ ap (λ (ds : List Dims). outputs_among (formals_of k.call.kernel) ds) dims
-    ∙ outputs-written (child_dims rs) (formals_of k.call.kernel) t.operands k.modes k.count
+    ∙ outputs-written (child_dims_at rs) (formals_of k.call.kernel) t.operands k.modes k.count
 
-new_whole : (has : Kernel → Bool) (rs : List RootState) (t : TaskLine ℕ) → IsSoundTask has rs t → AreWhole (out t.codelet t.args (each_of (operand_array_at rs) t.operands))
+new_whole : (has : Kernel → Bool) (rs : List RootState) (t : TaskLine ℕ) → IsSoundTaskAt has rs t → AreWhole (out t.codelet t.args (each_of (operand_array_at rs) t.operands))
 new_whole has rs t s =
     let k = kernel_there has rs t s in
     out_whole k.call.kernel t.codelet t.args (each_of (operand_array_at rs) t.operands) k.call.is (ap (fits k.call.kernel t.args) (all_seen_dims rs t.operands) ∙ k.call.fits) (all_seen_whole rs t.operands)
@@ -206,7 +206,7 @@ new_whole has rs t s =
 -- ---- the task as a whole
 
 -- what a task line reads of children with values is ready
-pub ready-held : (q : Program) (C : Laid) (n : ℕ) (k : Contents) (rs : List RootState) (o : Operand ℕ) → HaveRoots q C n k rs → IsPlaced rs o → (needs_value o.mode ≡ true → has_value rs o ≡ true) → is_redux o.mode ≡ false → IsReady q C k rs o
+pub ready-held : (q : Program) (C : Laid) (n : ℕ) (k : Contents) (rs : List RootState) (o : Operand ℕ) → HaveRoots q C n k rs → IsPlacedAt rs o → (needs_value o.mode ≡ true → has_value rs o ≡ true) → is_redux o.mode ≡ false → IsReady q C k rs o
 ready-held q C n k rs o has p valued direct = by_direct o.mode direct valued
   where
     hold : has_value rs o ≡ true → held_in q k (the_cell rs C o) ≡ child_array (root_at rs o.name) o.place
@@ -219,13 +219,13 @@ ready-held q C n k rs o has p valued direct = by_direct o.mode direct valued
     by_direct m d v f = hold (v refl)
 
 -- the roots after a task, whose operands are ready
-pub holds-task : (has : Kernel → Bool) (q : Program) (C : Laid) (n : ℕ) (k : Contents) (rs : List RootState) (t : TaskLine ℕ) (line : Line) → HasCells q C → AreLaid C → HaveRoots q C n k rs → IsSoundTask has rs t → AllByRecursion (IsReady q C k rs) t.operands
+pub holds-task : (has : Kernel → Bool) (q : Program) (C : Laid) (n : ℕ) (k : Contents) (rs : List RootState) (t : TaskLine ℕ) (line : Line) → HasCells q C → AreLaid C → HaveRoots q C n k rs → IsSoundTaskAt has rs t → AllByRecursion (IsReady q C k rs) t.operands
     → task_of q (task_at n) ≡ direct (task_row (by_number rs) C t line) → HaveRoots q C (n + 1) (after_task out q first_worker (task_at n) k) (run_task_at t rs)
 holds-task has q C n k rs t line cells laid roots s ready is =
     let through : each_of direct_access (each_of (access_of (by_number rs) C) t.operands) ≡ each_of (the_access rs C) t.operands = map-map direct_access (access_of (by_number rs) C) t.operands in
     let accesses : (task_of q (task_at n)).accesses ≡ each_of (the_access rs C) t.operands = ap (λ (l : Lowered). l.accesses) is ∙ through in
     let outs = out t.codelet t.args (each_of (operand_array_at rs) t.operands) in
-    let placed = each-filter (IsPlaced rs) (λ (o : Operand ℕ). is_written o.mode) t.operands (each-weaker (IsPlaced rs) (λ (o : Operand ℕ). is_written o.mode ≡ true → IsPlaced rs o) (λ o p w. p) t.operands s.placed) in
+    let placed = each-filter (IsPlacedAt rs) (λ (o : Operand ℕ). is_written o.mode) t.operands (each-weaker (IsPlacedAt rs) (λ (o : Operand ℕ). is_written o.mode ≡ true → IsPlacedAt rs o) (λ o p w. p) t.operands s.placed) in
     let g = gives_all q C n rs (each_of (the_access rs C) t.operands) (written_of t.operands) outs accesses (all_written rs C t.operands) placed (all_other t.operands s.apart) (new_dims has rs t s) (new_whole has rs t s) in
     let meant = holds-put_all q C (n + 1) (the_cell rs C) (written_of t.operands) outs k rs laid (holds-later q C n (n + 1) k rs (omega arith) roots) g in
     let written : written_cells q (task_at n) first_worker ≡ each_of (the_cell rs C) (written_of t.operands) = ap (λ (as' : List Access). each_of (worked_on q first_worker) (filter (λ a. is_written a.mode) as')) accesses ∙ cells_written q rs C t.operands in

@@ -8,9 +8,9 @@ use Rattle.sj_base.specs.declared.ids.Line.{Line}
 use Rattle.sj_meaning.specs.Act.{Act, Statement, Register as Registers, Plan as Plans, Task as Tasks}
 use Rattle.sj_meaning.specs.State.{RootState}
 use Rattle.sj_meaning.specs.Numbers.{apply_at}
-use Rattle.sj_phases.specs.Plain.{Opens, plain_rows, open_at}
-use Rattle.sj_lower.specs.Laid.{Laid, with_root, with_copies}
-use Rattle.sj_lower.specs.SoundAt.{IsSound, AreSound}
+use Rattle.sj_phases.specs.Plain.{OpenReductions, plain_rows, open_at}
+use Rattle.sj_lower.specs.Laid.{Laid, with_handle, with_copies}
+use Rattle.sj_lower.specs.SoundAt.{IsSoundAt, AreSoundAt}
 use Rattle.sj_lower.specs.Step.{Lookup, by_number, operand_cell, contributed, step_of}
 use Rattle.sj_lower.proofs.Agrees.{Agrees, AreOpenChildren}
 use Rattle.sj_lower.proofs.Copying.{copies-more, take-more}
@@ -26,7 +26,7 @@ copied-grows workers [] C = grows-refl C.rows
 copied-grows workers (c ∷ cs) C = grows-trans C.rows (with_copies workers C c).rows (fold (with_copies workers) (with_copies workers C c) cs).rows (copies-more workers c C) (copied-grows workers cs (with_copies workers C c))
 
 pub step-grows : {N : Type 0} (workers : ℕ) (L : Lookup N) (C : Laid) (line : Line) (a : Act N) → Grows C.rows (step_of workers L C line a).laid.rows
-step-grows workers L C line (Registers r) = take-more (with_root r.dims C) (length C.handles) r.parts
+step-grows workers L C line (Registers r) = take-more (with_handle r.dims C) (length C.handles) r.parts
 step-grows workers L C line (Plans q p) = take-more C (L.number q) p
 step-grows workers L C line (Tasks t) = copied-grows workers (map (operand_cell L C) (contributed t)) C
 step-grows workers L C line a = grows-refl C.rows
@@ -52,13 +52,13 @@ rows_from workers rs C (s ∷ ss) =
     plain_rows x.block ++ rows_from workers (apply_at s.act rs) x.laid ss
 
 -- what is so before a statement whose tasks begin with number n
-pub record IsAt (q : Program) (C : Laid) (rs : List RootState) (n : ℕ) (was : Opens) (s : Statement ℕ) : Type 0 where
+pub record IsAt (q : Program) (C : Laid) (rs : List RootState) (n : ℕ) (was : OpenReductions) (s : Statement ℕ) : Type 0 where
   pub agrees : Agrees q C rs n was
   pub cells : HasCells q (step_of q.workers (by_number rs) C s.line s.act).laid
   pub stand : Stand q n (plain_rows (step_of q.workers (by_number rs) C s.line s.act).block)
 
 -- so it is before each statement, and at the end
-abbrev pub AllAgree : Program → Laid → List RootState → ℕ → Opens → List (Statement ℕ) → Type 0
+abbrev pub AllAgree : Program → Laid → List RootState → ℕ → OpenReductions → List (Statement ℕ) → Type 0
 AllAgree q C rs n was [] = Agrees q C rs n was
 AllAgree q C rs n was (s ∷ ss) =
     let x = step_of q.workers (by_number rs) C s.line s.act in
@@ -67,10 +67,10 @@ AllAgree q C rs n was (s ∷ ss) =
 -- which phases a statement leaves open
 abbrev pub OpensStep : (Kernel → Bool) → Program → Type 0
 OpensStep has q =
-    (C : Laid) (rs : List RootState) (n : ℕ) (was : Opens) (s : Statement ℕ) → IsSound has rs s.act → IsAt q C rs n was s
+    (C : Laid) (rs : List RootState) (n : ℕ) (was : OpenReductions) (s : Statement ℕ) → IsSoundAt has rs s.act → IsAt q C rs n was s
     → let x = step_of q.workers (by_number rs) C s.line s.act in AreOpenChildren x.laid (apply_at s.act rs) (open_at was x.block)
 
-pub all-agree : (has : Kernel → Bool) (q : Program) → OpensStep has q → (ss : List (Statement ℕ)) (C : Laid) (rs : List RootState) (n : ℕ) (was : Opens) → AreSound has rs ss → Agrees q C rs n was → Grows (laid_from q.workers rs C ss).rows q.cells → Stand q n (rows_from q.workers rs C ss) → AllAgree q C rs n was ss
+pub all-agree : (has : Kernel → Bool) (q : Program) → OpensStep has q → (ss : List (Statement ℕ)) (C : Laid) (rs : List RootState) (n : ℕ) (was : OpenReductions) → AreSoundAt has rs ss → Agrees q C rs n was → Grows (laid_from q.workers rs C ss).rows q.cells → Stand q n (rows_from q.workers rs C ss) → AllAgree q C rs n was ss
 all-agree has q opens [] C rs n was sound g cells stand = g
 all-agree has q opens (s ∷ ss) C rs n was sound g cells stand =
     let x = step_of q.workers (by_number rs) C s.line s.act in

@@ -12,28 +12,28 @@ use Rattle.sj_meaning.specs.State.{RootState}
 use Rattle.sj_meaning.specs.Numbers.{act_at, apply_at}
 use Rattle.sj_meaning.specs.Table.{Table}
 use Rattle.sj_phases.specs.declared.expander.Expander.{Expander}
-use Rattle.sj_phases.specs.Block.{Block}
-use Rattle.sj_phases.specs.Does.{IsAt, HasAt, over_after, Does}
-use Rattle.sj_phases.specs.Expand.{Expansion, nothing, closed, expanded, cells_below, last_block, program_of, most}
+use Rattle.sj_phases.specs.Block.{TaskBlock}
+use Rattle.sj_phases.specs.Does.{StandsAt, HasAt, over_after, Does}
+use Rattle.sj_phases.specs.Expand.{Expansion, nothing, closed, expanded, cells_below, last_block, program_from, most}
 use Rattle.sj_phases.proofs.Doing.{own-nothing}
 use Rattle.sj_lower.specs.declared.layout.Layout.{Layout}
 use Rattle.sj_lower.specs.declared.lower.LowerRefusal.{LowerRefusal}
 use Rattle.sj_lower.specs.declared.lower.LowerRefusal.TheVariants.{TooManyCells, TooManyTasks, OutOfMemory}
 use Rattle.sj_lower.specs.declared.lower.LoweringProgress.{LoweringProgress}
-use Rattle.sj_lower.specs.Adds.{StepsAt, IsNext, HasNext, Goes, Adds, cells_after}
+use Rattle.sj_lower.specs.Adds.{StepsAt, MayComeNext, HasNext, Goes, AddsAct, cells_after}
 use Rattle.sj_lower.specs.Laid.{Laid, no_cells}
 use Rattle.sj_lower.specs.Limits.{late_tasks, late_cells}
 use Rattle.sj_lower.specs.Progress.{no_line, IsFullWith, IsOverLimit, IsLate}
-use Rattle.sj_lower.specs.Running.{AreReady, Leaves, steps_at}
-use Rattle.sj_lower.specs.Step.{Step, by_number, step_of, program_by, cells_above, tasks_above}
+use Rattle.sj_lower.specs.Running.{MayComeInTurn, LeavesStatements, steps_at}
+use Rattle.sj_lower.specs.Step.{LoweringStep, by_number, step_of, program_by, cells_above, tasks_above}
 use Rattle.sj_lower.proofs.Running.{leaves-start, leaves-next, leaves-full, leaves-none}
 
 -- the limit that steps exceed, and the line that first does
-abbrev pub late_by : ℕ → List Step → Option Refusal
+abbrev pub late_by : ℕ → List LoweringStep → Option Refusal
 late_by workers xs = late_cells (cells_above xs) (late_tasks (tasks_above workers xs))
 
 -- the steps of all statements
-abbrev pub steps_from_start : ℕ → Table → List Kept → List Step
+abbrev pub steps_from_start : ℕ → Table → List Kept → List LoweringStep
 steps_from_start workers T ss = steps_at workers [] no_cells T ss
 
 -- what is lowered so far for so many workers, and which statements are left
@@ -43,9 +43,9 @@ pub record GoesOn (T : Table) (workers : ℕ) (x : LoweringProgress) (whole rest
   pub expansion : Expansion
   pub at : StepsAt x.steps roots cells expansion
   pub workers_are : x.steps.phases.workers ≡ workers
-  pub leaves : Leaves T workers (steps_from_start workers T whole) roots cells expansion x.steps.phases.over x.last rest
+  pub leaves : LeavesStatements T workers (steps_from_start workers T whole) roots cells expansion x.steps.phases.over x.last rest
 
-pub going-start : (T : Table) (workers : ℕ) (x : LoweringProgress) (ss : List Kept) → StepsAt x.steps [] no_cells nothing → x.steps.phases.over ≡ None → x.last ≡ no_line → x.steps.phases.workers ≡ workers → AreReady T workers [] no_cells nothing ss → GoesOn T workers x ss ss
+pub going-start : (T : Table) (workers : ℕ) (x : LoweringProgress) (ss : List Kept) → StepsAt x.steps [] no_cells nothing → x.steps.phases.over ≡ None → x.last ≡ no_line → x.steps.phases.workers ≡ workers → MayComeInTurn T workers [] no_cells nothing ss → GoesOn T workers x ss ss
 going-start T workers x ss at none first same ready =
     let xs = steps_from_start workers T ss in
     record {
@@ -54,15 +54,15 @@ going-start T workers x ss at none first same ready =
       expansion = nothing;
       at = at;
       workers_are = same;
-      leaves = subst (λ (o : Option Line). Leaves T workers xs [] no_cells nothing o x.last ss) (sym none)
-          (subst (λ (l : Line). Leaves T workers xs [] no_cells nothing None l ss) (sym first) (leaves-start T workers ss ready));
+      leaves = subst (λ (o : Option Line). LeavesStatements T workers xs [] no_cells nothing o x.last ss) (sym none)
+          (subst (λ (l : Line). LeavesStatements T workers xs [] no_cells nothing None l ss) (sym first) (leaves-start T workers ss ready));
     }
 
 -- ---- one statement more
 
 module _ (T : Table) (workers : ℕ) (x : LoweringProgress) (whole rest : List Kept) (s : Kept) (w : GoesOn T workers x whole (s ∷ rest)) where
-  next : IsNext T x.steps.phases.workers s.act w.roots w.cells w.expansion
-  next = subst (λ (n : ℕ). IsNext T n s.act w.roots w.cells w.expansion) (sym w.workers_are) w.leaves.ready.0
+  next : MayComeNext T x.steps.phases.workers s.act w.roots w.cells w.expansion
+  next = subst (λ (n : ℕ). MayComeNext T n s.act w.roots w.cells w.expansion) (sym w.workers_are) w.leaves.ready.0
 
   pub going-has : HasNext T x.steps s.act
   going-has = record { roots = w.roots; cells = w.cells; expansion = w.expansion; at = w.at; next = next }
@@ -70,10 +70,10 @@ module _ (T : Table) (workers : ℕ) (x : LoweringProgress) (whole rest : List K
   abbrev act : Act ℕ
   act = act_at T (length w.roots) s.act
 
-  abbrev here : Step
+  abbrev here : LoweringStep
   here = step_of workers (by_number w.roots) w.cells s.line act
 
-  pub going-more : (new : LoweringProgress) → Adds T x.steps new.steps s.act s.line → new.last ≡ s.line → GoesOn T workers new whole rest
+  pub going-more : (new : LoweringProgress) → AddsAct T x.steps new.steps s.act s.line → new.last ≡ s.line → GoesOn T workers new whole rest
   going-more new adds last =
       let xs = steps_from_start workers T whole in
       let E = expanded workers w.expansion here.block in
@@ -85,7 +85,7 @@ module _ (T : Table) (workers : ℕ) (x : LoweringProgress) (whole rest : List K
         expansion = E;
         at = goes.at;
         workers_are = goes.workers ∙ w.workers_are;
-        leaves = subst (λ (l : Line). Leaves T workers xs (apply_at act w.roots) here.laid E new.steps.phases.over l rest) (sym last)
+        leaves = subst (λ (l : Line). LeavesStatements T workers xs (apply_at act w.roots) here.laid E new.steps.phases.over l rest) (sym last)
             (leaves-next T workers xs w.roots w.cells w.expansion x.steps new.steps x.last s rest w.leaves goes);
       }
 
@@ -119,12 +119,12 @@ pub closes-all : (old new : Expander) (line : Line) (n m : ℕ) → n ≡ m → 
 closes-all old new line n m same does = subst (λ (cs : List Cell). Does old new line (λ E. fold (closed old.workers) E cs)) (all-cells n ∙ ap cells_below same) does
 
 -- all phases are closed
-pub record IsShut (workers : ℕ) (x : LoweringProgress) (xs : List Step) : Type 0 where
+pub record IsShut (workers : ℕ) (x : LoweringProgress) (xs : List LoweringStep) : Type 0 where
   pub expansion : Expansion
-  pub at : IsAt x.steps.phases expansion
+  pub at : StandsAt x.steps.phases expansion
   pub workers_are : x.steps.phases.workers ≡ workers
   pub few_cells : length x.steps.layout.infos.items ≤ most
-  pub program : program_of x.steps.layout.infos.items workers expansion ≡ program_by workers xs
+  pub program : program_from x.steps.layout.infos.items workers expansion ≡ program_by workers xs
   pub late : late_by workers xs ≡ late_tasks x.steps.phases.over
 
 pub shut : (T : Table) (workers : ℕ) (old new : LoweringProgress) (whole : List Kept) → GoesOn T workers old whole [] → new.steps.layout ≡ old.steps.layout
@@ -135,7 +135,7 @@ shut T workers old new whole w layout does =
     let E = w.expansion in
     let lays = w.at.layout.lays in
     let ends = leaves-none T workers xs w.roots C E old.steps.phases.over old.last w.leaves in
-    let end : Block = last_block (length C.rows) old.last in
+    let end : TaskBlock = last_block (length C.rows) old.last in
     let F : Expansion = fold (closed old.steps.phases.workers) E (cells_below (vec_len old.steps.layout.infos)) in
     let many : vec_len old.steps.layout.infos ≡ length C.rows = omega (arith, ap length lays.rows, old.steps.layout.infos.ok) in
     let same : F ≡ expanded workers E end = (λ i. fold (closed (w.workers_are i)) E (cells_below (many i))) ∙ own-nothing (fold (closed workers) E (cells_below (length C.rows))) in
@@ -146,11 +146,11 @@ shut T workers old new whole w layout does =
       at = does.at E w.at.phases;
       workers_are = does.workers ∙ w.workers_are;
       few_cells = omega (arith, lays.few, ap length rows);
-      program = (λ i. program_of (rows i) workers (same i)) ∙ ends.program;
+      program = (λ i. program_from (rows i) workers (same i)) ∙ ends.program;
       late = λ i. late_cells (ends.cells i) (late_tasks ((ends.tasks ∙ sym over) i));
     }
 
-pub shut-over : (workers : ℕ) (x : LoweringProgress) (xs : List Step) (e : LowerRefusal) → IsShut workers x xs → IsOverLimit e x.steps.phases.over → IsLate e (late_by workers xs)
+pub shut-over : (workers : ℕ) (x : LoweringProgress) (xs : List LoweringStep) (e : LowerRefusal) → IsShut workers x xs → IsOverLimit e x.steps.phases.over → IsLate e (late_by workers xs)
 shut-over workers x xs OutOfMemory d h = tt
 shut-over workers x xs (TooManyCells line) d h = absurd h
 shut-over workers x xs (TooManyTasks line) d h = d.late ∙ ap late_tasks h
@@ -158,17 +158,17 @@ shut-over workers x xs (TooManyTasks line) d h = d.late ∙ ap late_tasks h
 -- ---- the program
 
 -- a program of these steps, within the limits
-pub record IsMade (workers : ℕ) (p : Program) (xs : List Step) : Type 0 where
+pub record IsMade (workers : ℕ) (p : Program) (xs : List LoweringStep) : Type 0 where
   pub is : p ≡ program_by workers xs
   pub few_tasks : length p.tasks ≤ 262144
   pub few_cells : length p.cells ≤ 262144
 
-pub made : (workers : ℕ) (x : LoweringProgress) (xs : List Step) (p : Program) → IsShut workers x xs → x.steps.phases.over ≡ None → ((E : Expansion) → IsAt x.steps.phases E → p ≡ program_of x.steps.layout.infos.items x.steps.phases.workers E) → IsMade workers p xs
+pub made : (workers : ℕ) (x : LoweringProgress) (xs : List LoweringStep) (p : Program) → IsShut workers x xs → x.steps.phases.over ≡ None → ((E : Expansion) → StandsAt x.steps.phases E → p ≡ program_from x.steps.layout.infos.items x.steps.phases.workers E) → IsMade workers p xs
 made workers x xs p d none finish =
-    let is : p ≡ program_of x.steps.layout.infos.items x.steps.phases.workers d.expansion = finish d.expansion d.at in
+    let is : p ≡ program_from x.steps.layout.infos.items x.steps.phases.workers d.expansion = finish d.expansion d.at in
     let few = (d.at none).few in
     record {
-      is = is ∙ (λ i. program_of x.steps.layout.infos.items (d.workers_are i) d.expansion) ∙ d.program;
+      is = is ∙ (λ i. program_from x.steps.layout.infos.items (d.workers_are i) d.expansion) ∙ d.program;
       few_tasks = omega (arith, few, ap (λ (q : Program). length q.tasks) is);
       few_cells = omega (arith, d.few_cells, ap (λ (q : Program). length q.cells) is);
     }

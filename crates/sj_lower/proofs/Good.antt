@@ -52,9 +52,9 @@ use Rattle.sj_phases.proofs.Lists.{all-from}
 use Rattle.sj_phases.proofs.Good.{ReadOnly}
 use Rattle.sj_lower.specs.Laid.{Laid, cell_of}
 use Rattle.sj_lower.specs.Rows.{fill_arguments, load_row, fill_row, load_rows, paste_arguments, paste_row, deliver_row}
-use Rattle.sj_lower.specs.SoundAt.{IsPlaced, IsSoundTask, child_dims, clashes, is_aliased}
+use Rattle.sj_lower.specs.SoundAt.{IsPlacedAt, IsSoundTaskAt, child_dims_at, clashes_at, is_aliased_at}
 use Rattle.sj_lower.specs.Step.{by_number, access_of, task_row}
-use Rattle.sj_lower.specs.Whole.{AreLaid, IsTaken}
+use Rattle.sj_lower.specs.Whole.{AreLaid, HasTakenPlan}
 use Rattle.sj_lower.proofs.Contents.{task_at, same_cell-is}
 use Rattle.sj_lower.proofs.Doing.{the_cell, the_access, cell-size, kernel_there}
 use Rattle.sj_lower.proofs.Modes.{plain-modes}
@@ -119,7 +119,7 @@ good-at p n (l ∷ ls) i g s lo hi =
 -- ---- tasks of the runtime's own
 
 -- the cell of a child is one of the program's
-pub cell-there : (p : Program) (C : Laid) (m : ℕ) (d : Dims) (s : Parts) (f : ℕ) (place : ℕ × ℕ) → HasCells p C → AreLaid C → IsTaken C m d s f → IsPlace s place → (cell_of C m s place).0 < length p.cells
+pub cell-there : (p : Program) (C : Laid) (m : ℕ) (d : Dims) (s : Parts) (f : ℕ) (place : ℕ × ℕ) → HasCells p C → AreLaid C → HasTakenPlan C m d s f → IsPlace s place → (cell_of C m s place).0 < length p.cells
 cell-there p C m d s f place cells laid t at = omega (arith, cell-inside C m d s f place laid t at, cells.longer)
 
 -- a task of one operand
@@ -242,24 +242,24 @@ module _ (p : Program) (C : Laid) (n : ℕ) (k : Contents) (rs : List RootState)
   all_accessed : (P : Access → Type 0) (os : List (Operand ℕ)) → ((o : Operand ℕ) → Contains os o → P (the_access rs C o)) → All P (Accessed os)
   all_accessed P os h = All-map P direct_access (each_of (access_of (by_number rs) C) os) (All-map (λ (a : Access). P (direct_access a)) (access_of (by_number rs) C) os (all-from (λ (o : Operand ℕ). P (the_access rs C o)) os h))
 
-  pair_reads : (o u : Operand ℕ) → IsPlaced rs o → IsPlaced rs u → clashes o u ≡ false → ReadOnly (the_access rs C o) (the_access rs C u)
+  pair_reads : (o u : Operand ℕ) → IsPlacedAt rs o → IsPlacedAt rs u → clashes_at o u ≡ false → ReadOnly (the_access rs C o) (the_access rs C u)
   pair_reads o u ho hu e same =
       let reads = both-read p C n k rs o u laid has ho hu e (same_cell-is (the_cell rs C o) (the_cell rs C u) same) in
       (direct-reads o.mode reads.0, direct-reads u.mode reads.1)
 
-  all_apart : (os : List (Operand ℕ)) → AllByRecursion (IsPlaced rs) os → is_aliased os ≡ false → AllPairs ReadOnly (Accessed os)
+  all_apart : (os : List (Operand ℕ)) → AllByRecursion (IsPlacedAt rs) os → is_aliased_at os ≡ false → AllPairs ReadOnly (Accessed os)
   all_apart [] h e = λ i j d before within. absurd (omega arith)
   all_apart (o ∷ os) h e =
-      let c = or_parts (list_any (clashes o) os) (is_aliased os) e in
+      let c = or_parts (list_any (clashes_at o) os) (is_aliased_at os) e in
       AllPairs-cons ReadOnly (the_access rs C o) (Accessed os) (all_accessed (ReadOnly (the_access rs C o)) os (λ u among.
-      pair_reads o u h.0 (All-contains (IsPlaced rs) os u (All-from_recursion (IsPlaced rs) os h.1) among) (none-passes (clashes o) os c.0 u among))) (all_apart os h.1 c.1)
+      pair_reads o u h.0 (All-contains (IsPlacedAt rs) os u (All-from_recursion (IsPlacedAt rs) os h.1) among) (none-passes (clashes_at o) os c.0 u among))) (all_apart os h.1 c.1)
 
   -- the task of a task line, where the child that it contributes to has a value
-  pub good_task : (set : Kernel → Bool) (t : TaskLine ℕ) (line : Line) → IsSoundTask set rs t → ((o : Operand ℕ) → Contains t.operands o → is_redux o.mode ≡ true → HasValueBefore p (task_at n) (the_cell rs C o)) → IsGood p n (direct (task_row (by_number rs) C t line))
+  pub good_task : (set : Kernel → Bool) (t : TaskLine ℕ) (line : Line) → IsSoundTaskAt set rs t → ((o : Operand ℕ) → Contains t.operands o → is_redux o.mode ≡ true → HasValueBefore p (task_at n) (the_cell rs C o)) → IsGood p n (direct (task_row (by_number rs) C t line))
   good_task set t line s added =
       let kernel = kernel_there set rs t s in
       let placed = placed-at set rs t s in
-      let dims = accessed-map (λ (a : Access). dims_of p a.cell) t.operands ∙ map-agree (λ (o : Operand ℕ). dims_of p (the_cell rs C o)) (child_dims rs) t.operands (λ o among. cell-size p C n k rs o cells laid has (placed o among)) in
+      let dims = accessed-map (λ (a : Access). dims_of p a.cell) t.operands ∙ map-agree (λ (o : Operand ℕ). dims_of p (the_cell rs C o)) (child_dims_at rs) t.operands (λ o among. cell-size p C n k rs o cells laid has (placed o among)) in
       record {
         cells = all_accessed (λ (a : Access). a.cell.0 < length p.cells) t.operands (λ o among.
             (let h = placed o among in let r = has o.name h.lives in cell-there p C o.name (root_at rs o.name).dims (root_at rs o.name).parts r.first o.place cells laid r.taken h.place));

@@ -22,16 +22,16 @@ use Rattle.sj_meaning.specs.Act.{Act, Register as Registers, Plan as Plans, Redu
 use Rattle.sj_meaning.specs.Statement.{Operand, TaskLine}
 use Rattle.sj_meaning.specs.State.{RootState, is_valued, is_valued_child}
 use Rattle.sj_meaning.specs.Numbers.{root_at}
-use Rattle.sj_phases.specs.declared.phase.Opening.{Opening}
+use Rattle.sj_phases.specs.declared.phase.PhaseOpening.{PhaseOpening}
 use Rattle.sj_phases.specs.Rows.{init_row}
 use Rattle.sj_phases.specs.Expand.{first_units}
-use Rattle.sj_phases.specs.Plain.{Opens, direct, plain_rows}
+use Rattle.sj_phases.specs.Plain.{OpenReductions, direct, plain_rows}
 use Rattle.sj_lower.specs.Cells.{same_parts}
-use Rattle.sj_lower.specs.Laid.{Laid, cell_of, take, with_root, with_copies}
+use Rattle.sj_lower.specs.Laid.{Laid, cell_of, take, with_handle, with_copies}
 use Rattle.sj_lower.specs.Rows.{load_rows, paste_row, deliver_row}
-use Rattle.sj_lower.specs.SoundAt.{IsPlaced, IsSound, IsSoundTask}
-use Rattle.sj_lower.specs.Step.{by_number, contributed, opening_of, operand_cell, task_row, task_block, active_cells, step_of}
-use Rattle.sj_lower.specs.Whole.{IsTaken, AreLaid}
+use Rattle.sj_lower.specs.SoundAt.{IsPlacedAt, IsSoundAt, IsSoundTaskAt}
+use Rattle.sj_lower.specs.Step.{by_number, contributed, opening_for, operand_cell, task_row, task_block, active_cells, step_of}
+use Rattle.sj_lower.specs.Whole.{HasTakenPlan, AreLaid}
 use Rattle.sj_lower.proofs.Contents.{task_at, contents_before}
 use Rattle.sj_lower.proofs.Contributing.{fold-handles, roots-copied}
 use Rattle.sj_lower.proofs.Doing.{kernel_there, the_cell}
@@ -50,14 +50,14 @@ use Rattle.sj_lower.proofs.Taken.{cells-apart}
 
 -- ---- loads
 
-good_loads : (q : Program) (D : Laid) (n m : ℕ) (d : Dims) (s : Parts) (f : ℕ) (i : Init) (line : Line) → HasCells q D → AreLaid D → IsTaken D m d s f → AreGood q n (load_rows i d s (cell_of D m s) line)
+good_loads : (q : Program) (D : Laid) (n m : ℕ) (d : Dims) (s : Parts) (f : ℕ) (i : Init) (line : Line) → HasCells q D → AreLaid D → HasTakenPlan D m d s f → AreGood q n (load_rows i d s (cell_of D m s) line)
 good_loads q D n m d s f i line cells laid t = good-all q n (load_rows i d s (cell_of D m s) line) (each-load (IsGood q n) i d s (cell_of D m s) line
     (λ xs place at. good_load q n xs d (child d s place) (cell_of D m s place) line (cell-there q D m d s f place cells laid t at) (cell-dims q D m d s f place cells laid t at))
     (λ a b place at. good_fill q n a b d (child d s place) (cell_of D m s place) line (cell-there q D m d s f place cells laid t at)))
 
 -- ---- task lines
 
-module _ (has : Kernel → Bool) (q : Program) (D : Laid) (rs : List RootState) (n : ℕ) (line : Line) (t : TaskLine ℕ) (s : IsSoundTask has rs t) (cells : HasCells q D) (laid : AreLaid D) (roots : HaveRoots q D n (contents_before q n) rs) where
+module _ (has : Kernel → Bool) (q : Program) (D : Laid) (rs : List RootState) (n : ℕ) (line : Line) (t : TaskLine ℕ) (s : IsSoundTaskAt has rs t) (cells : HasCells q D) (laid : AreLaid D) (roots : HaveRoots q D n (contents_before q n) rs) where
   abbrev l : Lowered
   l = task_row (by_number rs) D t line
 
@@ -67,8 +67,8 @@ module _ (has : Kernel → Bool) (q : Program) (D : Laid) (rs : List RootState) 
 
   good-none : list_any (λ o. is_redux o.mode) t.operands ≡ false → AreGood q n (plain_rows (task_block (by_number rs) D t line))
   good-none e =
-      let quiet = ap (flat_map (opening_of (by_number rs) D)) (none-filter t.operands e) in
-      subst (λ (os : List Opening). AreGood q n (flat_map (λ o. first_units o line) os ++ direct l ∷ [])) (sym quiet)
+      let quiet = ap (flat_map (opening_for (by_number rs) D)) (none-filter t.operands e) in
+      subst (λ (os : List PhaseOpening). AreGood q n (flat_map (λ o. first_units o line) os ++ direct l ∷ [])) (sym quiet)
       (task_at_m n (omega arith) (λ o among redux. absurd (false≢true (sym (none-passes (λ (u : Operand ℕ). is_redux u.mode) t.operands e o among) ∙ redux))), tt)
 
   module _ (con : Contributes rs t (kernel_there has rs t s).call.kernel) where
@@ -78,7 +78,7 @@ module _ (has : Kernel → Bool) (q : Program) (D : Laid) (rs : List RootState) 
     abbrev c : Cell
     c = the_cell rs D u
 
-    placed : IsPlaced rs u
+    placed : IsPlacedAt rs u
     placed = placed-at has rs t s u (last-there con)
 
     added : (m : ℕ) → HasValueBefore q (task_at m) c → (o : Operand ℕ) → Contains t.operands o → is_redux o.mode ≡ true → HasValueBefore q (task_at m) (the_cell rs D o)
@@ -105,8 +105,8 @@ module _ (has : Kernel → Bool) (q : Program) (D : Laid) (rs : List RootState) 
 
 -- ---- all statements
 
-module _ (has : Kernel → Bool) (q : Program) (C : Laid) (rs : List RootState) (n : ℕ) (was : Opens) (line : Line) where
-  goods-plan : (m : ℕ) (p : Parts) → IsSound has rs (Plans m p) → IsAt q C rs n was (record { line = line; act = Plans m p }) → AreGood q n (plain_rows (step_of q.workers (by_number rs) C line (Plans m p)).block)
+module _ (has : Kernel → Bool) (q : Program) (C : Laid) (rs : List RootState) (n : ℕ) (was : OpenReductions) (line : Line) where
+  goods-plan : (m : ℕ) (p : Parts) → IsSoundAt has rs (Plans m p) → IsAt q C rs n was (record { line = line; act = Plans m p }) → AreGood q n (plain_rows (step_of q.workers (by_number rs) C line (Plans m p)).block)
   goods-plan m p s at =
       let g = at.agrees in
       let r = root_at rs m in
@@ -129,11 +129,11 @@ module _ (has : Kernel → Bool) (q : Program) (C : Laid) (rs : List RootState) 
       }) b.fits s.1) (λ f stand. tt)) in
       subst (AreGood q n) (sym same) (good (subst (Stand q n) same at.stand))
 
-  pub goods-step : (a : Act ℕ) → IsSound has rs a → IsAt q C rs n was (record { line = line; act = a }) → AreGood q n (plain_rows (step_of q.workers (by_number rs) C line a).block)
+  pub goods-step : (a : Act ℕ) → IsSoundAt has rs a → IsAt q C rs n was (record { line = line; act = a }) → AreGood q n (plain_rows (step_of q.workers (by_number rs) C line a).block)
   goods-step (Registers r) s at =
       let g = at.agrees in
       let m = length C.handles in
-      let D = take m r.parts (with_root r.dims C) in
+      let D = take m r.parts (with_handle r.dims C) in
       let k = keeps-step has q C n rs line (Registers r) s g.laid g.copies g.roots g.counted at.cells at.stand in
       let t = takes-registered C r.dims r.parts in
       subst (AreGood q n) (sym (direct-loads r.init r.dims r.parts (cell_of D m r.parts) line)) (good_loads q D n m r.dims r.parts t.first r.init line at.cells k.laid t.own)

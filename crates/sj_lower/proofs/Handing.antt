@@ -27,15 +27,15 @@ use Rattle.sj_meaning.specs.State.{RootState, is_valued}
 use Rattle.sj_meaning.specs.Meaning.{root_array}
 use Rattle.sj_meaning.specs.Table.{a_root}
 use Rattle.sj_meaning.specs.Numbers.{root_at, apply_at, prints_at, printed_at}
-use Rattle.sj_phases.specs.Block.{Block}
+use Rattle.sj_phases.specs.Block.{TaskBlock}
 use Rattle.sj_phases.specs.Expand.{moved}
 use Rattle.sj_phases.specs.Law.{handed_over}
-use Rattle.sj_phases.specs.Plain.{Opens, Plainly, units, plain_rows, plain_next, open_at}
+use Rattle.sj_phases.specs.Plain.{OpenReductions, Plainly, units, plain_rows, plain_next, open_at}
 use Rattle.sj_plan.specs.Paste.{pastes_of}
 use Rattle.sj_lower.specs.Cells.{same_parts}
-use Rattle.sj_lower.specs.Laid.{Laid, cell_of, take, with_root}
+use Rattle.sj_lower.specs.Laid.{Laid, cell_of, take, with_handle}
 use Rattle.sj_lower.specs.Rows.{paste_row, deliver_row}
-use Rattle.sj_lower.specs.SoundAt.{IsSound, AreSound}
+use Rattle.sj_lower.specs.SoundAt.{IsSoundAt, AreSoundAt}
 use Rattle.sj_lower.specs.Step.{by_number, closing, contributed, operand_cell, active_cells, a_delivery, plan_block, print_block, step_of}
 use Rattle.sj_lower.proofs.Contents.{first_worker, task_at, contents_before, contents-next}
 use Rattle.sj_lower.proofs.Elements.{child-window, valued-child}
@@ -82,7 +82,7 @@ module _ (q : Program) (C : Laid) (n : ℕ) (m : ℕ) (r : RootState) (k : ℕ) 
       ∷ hands (a + 1) ps inside.1 (subst (λ x. Stand q x (each_of (λ place. deliver_row (cell_of C m r.parts place) line) ps)) (sym next) stand.2) later i
 
 -- the deliveries of a block, whose first task has this number
-abbrev pub moved_deliveries : ℕ → Block → List Delivery
+abbrev pub moved_deliveries : ℕ → TaskBlock → List Delivery
 moved_deliveries n b = each_of (moved (n + length (units b))) b.deliveries
 
 print-hands : (q : Program) (C : Laid) (n : ℕ) (m : ℕ) (r : RootState) (k : ℕ) (line : Line) (cells : List Cell) → is_valued r ≡ true → HasRoot q C n (contents_before q n) m r → Stand q n (each_of (λ place. deliver_row (cell_of C m r.parts place) line) (places r.parts))
@@ -96,7 +96,7 @@ print-hands q C n m r k line cells valued b stand =
 
 -- no deliveries
 plan-none : (r : RootState) (old : List Cell) (C : Laid) (m : ℕ) (p : Parts) (line : Line) → (plan_block r old C m p line).deliveries ≡ []
-plan-none r old C m p line = cond_both (same_parts r.parts p) (closing line [] []) (closing line old (cond (is_valued r) (each_of (paste_row (cell_of C m r.parts) (cell_of C m p) line) (pastes_of r.dims r.parts p)) [])) (λ (b : Block). b.deliveries ≡ []) (λ e. refl) (λ e. refl)
+plan-none r old C m p line = cond_both (same_parts r.parts p) (closing line [] []) (closing line old (cond (is_valued r) (each_of (paste_row (cell_of C m r.parts) (cell_of C m p) line) (pastes_of r.dims r.parts p)) [])) (λ (b : TaskBlock). b.deliveries ≡ []) (λ e. refl) (λ e. refl)
 
 -- the deliveries of statements, whose tasks begin with number n
 abbrev pub deliveries_from : ℕ → List RootState → Laid → ℕ → List (Statement ℕ) → List Delivery
@@ -106,11 +106,11 @@ deliveries_from workers rs C n (s ∷ ss) =
     moved_deliveries n x.block ++ deliveries_from workers (apply_at s.act rs) x.laid (n + length (plain_rows x.block)) ss
 
 -- they hand over the children of what is printed
-hands-step : (has : Kernel → Bool) (q : Program) (C : Laid) (rs : List RootState) (n : ℕ) (was : Opens) (s : Statement ℕ) → IsSound has rs s.act → IsAt q C rs n was s
+hands-step : (has : Kernel → Bool) (q : Program) (C : Laid) (rs : List RootState) (n : ℕ) (was : OpenReductions) (s : Statement ℕ) → IsSoundAt has rs s.act → IsAt q C rs n was s
     → each_of (handed_over q) (moved_deliveries n (step_of q.workers (by_number rs) C s.line s.act).block) ≡ pieces_from C.prints (prints_at s.act rs)
 hands-step has q C rs n was s sound at = by_act s.act sound at.agrees.roots at.stand
   where
-    by_act : (a : Act ℕ) → IsSound has rs a → HaveRoots q C n (contents_before q n) rs → Stand q n (plain_rows (step_of q.workers (by_number rs) C s.line a).block)
+    by_act : (a : Act ℕ) → IsSoundAt has rs a → HaveRoots q C n (contents_before q n) rs → Stand q n (plain_rows (step_of q.workers (by_number rs) C s.line a).block)
         → each_of (handed_over q) (moved_deliveries n (step_of q.workers (by_number rs) C s.line a).block) ≡ pieces_from C.prints (prints_at a rs)
     by_act (Plans m p) sound roots stand =
         let b = plan_block (root_at rs m) (active_cells (by_number rs) C m) (take m p C) m p s.line in
@@ -123,7 +123,7 @@ hands-step has q C rs n was s sound at = by_act s.act sound at.agrees.roots at.s
 
 -- how many print statements there were
 prints-step : (workers : ℕ) (C : Laid) (rs : List RootState) (line : Line) (a : Act ℕ) → (step_of workers (by_number rs) C line a).laid.prints ≡ C.prints + length (prints_at a rs)
-prints-step workers C rs line (Registers r) = omega (arith, take-prints (with_root r.dims C) (length C.handles) r.parts)
+prints-step workers C rs line (Registers r) = omega (arith, take-prints (with_handle r.dims C) (length C.handles) r.parts)
 prints-step workers C rs line (Plans m p) = omega (arith, take-prints C m p)
 prints-step workers C rs line (Tasks t) = omega (arith, copies-prints workers (each_of (operand_cell (by_number rs) C) (contributed t)) C)
 prints-step workers C rs line (Prints m) = refl
@@ -136,7 +136,7 @@ pieces-append k (x ∷ xs) ys =
     ∙ sym (append_assoc (each_of (piece k x) (places x.1.parts)) (pieces_from (k + 1) xs) (pieces_from (k + length (x ∷ xs)) ys))
 
 -- all deliveries hand over the children of all that is printed
-pub all-handed : (has : Kernel → Bool) (q : Program) (ss : List (Statement ℕ)) (C : Laid) (rs : List RootState) (n : ℕ) (was : Opens) → AreSound has rs ss → AllAgree q C rs n was ss
+pub all-handed : (has : Kernel → Bool) (q : Program) (ss : List (Statement ℕ)) (C : Laid) (rs : List RootState) (n : ℕ) (was : OpenReductions) → AreSoundAt has rs ss → AllAgree q C rs n was ss
     → each_of (handed_over q) (deliveries_from q.workers rs C n ss) ≡ pieces_from C.prints (printed_at rs ss)
 all-handed has q [] C rs n was sound all = refl
 all-handed has q (s ∷ ss) C rs n was sound all =

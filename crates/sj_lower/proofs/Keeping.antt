@@ -25,7 +25,7 @@ use Rattle.sj_meaning.specs.Meaning.{integers_of, child_array, with_child}
 use Rattle.sj_meaning.specs.Numbers.{no_root, root_at, change_at, put_all_at}
 use Rattle.sj_lower.specs.Laid.{Laid, cell_of}
 use Rattle.sj_lower.specs.SoundAt.{Lives}
-use Rattle.sj_lower.specs.Whole.{IsTaken, AreLaid}
+use Rattle.sj_lower.specs.Whole.{HasTakenPlan, AreLaid}
 use Rattle.sj_lower.proofs.Growing.{Grows}
 use Rattle.sj_lower.proofs.Contents.{NotAmong, held-same, held-other, held-moved, same_cell-is, task_at}
 use Rattle.sj_lower.proofs.Elements.{written-whole, written-other, written-array}
@@ -45,7 +45,7 @@ pub record HasRoot (p : Program) (C : Laid) (n : ℕ) (k : Contents) (m : ℕ) (
   pub fits : Fits r.parts r.dims
   pub whole : length r.elements ≡ area r.dims
   pub first : ℕ
-  pub taken : IsTaken C m r.dims r.parts first
+  pub taken : HasTakenPlan C m r.dims r.parts first
   pub held : (place : ℕ × ℕ) → IsPlace r.parts place → is_valued_child r place ≡ true → IsHeld p n k (cell_of C m r.parts place) (child_array r place)
 
 abbrev pub HaveRoots : Program → Laid → ℕ → Contents → List RootState → Type 0
@@ -61,7 +61,7 @@ lives-below rs m h = elim (cases_lt m (length rs)) as (λ _. m < length rs) [
 abbrev pub HasCells : Program → Laid → Type 0
 HasCells p C = Grows C.rows p.cells
 
-pub cell-dims : (p : Program) (C : Laid) (m : ℕ) (d : Dims) (s : Parts) (f : ℕ) (place : ℕ × ℕ) → HasCells p C → AreLaid C → IsTaken C m d s f → IsPlace s place → dims_of p (cell_of C m s place) ≡ rect_dims (child d s place)
+pub cell-dims : (p : Program) (C : Laid) (m : ℕ) (d : Dims) (s : Parts) (f : ℕ) (place : ℕ × ℕ) → HasCells p C → AreLaid C → HasTakenPlan C m d s f → IsPlace s place → dims_of p (cell_of C m s place) ≡ rect_dims (child d s place)
 cell-dims p C m d s f place has laid k h = has.dims (cell_of C m s place).0 (cell-inside C m d s f place laid k h) ∙ cell-row C m d s f place laid k h
 
 pub differs : (c d : Cell) → (c ≡ d → ⊥) → same_cell c d ≡ false
@@ -73,7 +73,7 @@ pub held-kept : (p : Program) (m n : ℕ) (k new : Contents) (c : Cell) (x : Arr
 held-kept p m n k new c x more same h = record { value = same ∙ h.value; given = later p m n c more h.given }
 
 -- a root whose plan is taken in the same cells, which hold the same
-pub root-kept : (p : Program) (C D : Laid) (m n : ℕ) (k new : Contents) (q : ℕ) (r : RootState) → (b : HasRoot p C m k q r) → IsTaken D q r.dims r.parts b.first → m ≤ n
+pub root-kept : (p : Program) (C D : Laid) (m n : ℕ) (k new : Contents) (q : ℕ) (r : RootState) → (b : HasRoot p C m k q r) → HasTakenPlan D q r.dims r.parts b.first → m ≤ n
     → ((place : ℕ × ℕ) → IsPlace r.parts place → held_in p new (cell_of D q r.parts place) ≡ held_in p k (cell_of D q r.parts place)) → HasRoot p D n new q r
 root-kept p C D m n k new q r b t more same = record {
   fits = b.fits;

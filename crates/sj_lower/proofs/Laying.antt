@@ -27,11 +27,11 @@ use Rattle.sj_lower.specs.declared.layout.Layout.{Layout}
 use Rattle.sj_lower.specs.declared.layout.Taken.{Taken}
 use Rattle.sj_lower.specs.declared.rows.Placed.{Placed}
 use Rattle.sj_lower.specs.Cells.{rect_cell, cells_from, same_parts, copy_info, with_partials}
-use Rattle.sj_lower.specs.Follows.{taken, same_taken, Lays, IsActive, AreActive, Follows, no_active, active_at, HasCells, IsInside, cell_by, cells_by}
-use Rattle.sj_lower.specs.Laid.{Laid, Handle, handle_of, handle_at, first_cell, taking, take, with_root, info_at, first_copy, with_copies}
+use Rattle.sj_lower.specs.Follows.{taken_plan, same_taken, Lays, IsActive, AreActive, Follows, no_active, active_at, HasCells, IsActiveChild, cell_by, cells_by}
+use Rattle.sj_lower.specs.Laid.{Laid, Handle, handle_of, handle_at, first_cell, with_new_plan, take, with_handle, info_at, first_copy_in, with_copies}
 use Rattle.sj_lower.specs.SoundAt.{Lives}
 use Rattle.sj_lower.specs.Step.{by_number, operand_cell, active_cells}
-use Rattle.sj_lower.specs.Whole.{IsWhole}
+use Rattle.sj_lower.specs.Whole.{AreLaidFor}
 use Rattle.sj_lower.proofs.Copying.{by_copies, copied-length, first-new, first-old}
 use Rattle.sj_lower.proofs.Keeping.{lives-below, changed-here, changed-beside}
 use Rattle.sj_lower.proofs.Places.{parts-itself}
@@ -55,30 +55,30 @@ TakesTooMany l n d p = (C : Laid) → Lays l C → n < length C.handles → (han
 -- ---- a plan more
 
 -- a plan that was taken before
-pub lays-old : (l : Layout) (C : Laid) (n : ℕ) (p : Parts) (f : ℕ) → Lays l C → get same_taken l.firsts (taken n p) ≡ Some f → Lays l (take n p C) × ((handle_at (take n p C) n).first p ≡ Some f)
+pub lays-old : (l : Layout) (C : Laid) (n : ℕ) (p : Parts) (f : ℕ) → Lays l C → get same_taken l.firsts (taken_plan n p) ≡ Some f → Lays l (take n p C) × ((handle_at (take n p C) n).first p ≡ Some f)
 lays-old l C n p f s there =
     let e = sym (s.firsts n p) ∙ there in
     by_first C n p (λ (D : Laid). Lays l D × ((handle_at D n).first p ≡ Some f)) (λ g had. (s, e)) (λ none. absurd (none_isn't f (sym none ∙ e)))
 
 -- a plan that is new
-pub lays-new : (old new : Layout) (C : Laid) (r : RootNumber) (d : Dims) (p : Parts) (first : ℕ) → Lays old C → r.0 < length C.handles → (handle_at C r.0).dims ≡ d → get same_taken old.firsts (taken r.0 p) ≡ None
-    → new.infos.items ≡ old.infos.items ++ each_of (rect_cell r) (children_of d p) → ((q : Taken) → get same_taken new.firsts q ≡ cond (same_taken (taken r.0 p) q) (Some first) (get same_taken old.firsts q)) → first ≡ length old.infos.items → length new.infos.items ≤ most
+pub lays-new : (old new : Layout) (C : Laid) (r : RootNumber) (d : Dims) (p : Parts) (first : ℕ) → Lays old C → r.0 < length C.handles → (handle_at C r.0).dims ≡ d → get same_taken old.firsts (taken_plan r.0 p) ≡ None
+    → new.infos.items ≡ old.infos.items ++ each_of (rect_cell r) (children_of d p) → ((q : Taken) → get same_taken new.firsts q ≡ cond (same_taken (taken_plan r.0 p) q) (Some first) (get same_taken old.firsts q)) → first ≡ length old.infos.items → length new.infos.items ≤ most
     → Lays new (take r.0 p C) × ((handle_at (take r.0 p C) r.0).first p ≡ Some first)
 lays-new old new C r d p first s inside dims none rows firsts number few =
     let n = r.0 in
     let one = number ∙ ap length s.rows in
-    let same_rows : new.infos.items ≡ (taking n p C).rows =
+    let same_rows : new.infos.items ≡ (with_new_plan n p C).rows =
     rows ∙ (λ i. s.rows i ++ each_of (rect_cell r) (children_of (sym dims i) p)) ∙ ap (λ is. C.rows ++ is) (map-map (rect_cell r) (child (handle_at C n).dims p) (places p)) in
-    let lays : Lays new (taking n p C) = record {
+    let lays : Lays new (with_new_plan n p C) = record {
       rows = same_rows;
       few = omega (arith, few, ap length same_rows);
-      firsts = λ m q. firsts (taken m q) ∙ (λ i. cond (nat_eq n m && same_parts p q) (Some (one i)) (s.firsts m q i)) ∙ sym (took-first C n p inside m q);
+      firsts = λ m q. firsts (taken_plan m q) ∙ (λ i. cond (nat_eq n m && same_parts p q) (Some (one i)) (s.firsts m q i)) ∙ sym (took-first C n p inside m q);
     } in
     by_first C n p (λ (D : Laid). Lays new D × ((handle_at D n).first p ≡ Some first)) (λ f had. absurd (none_isn't f (sym none ∙ s.firsts n p ∙ had)))
     (λ fresh. (lays, ap (λ (h : Handle). h.first p) (took-there C n p inside) ∙ (λ i. cond (parts-itself p i) (Some (sym one i)) ((handle_at C n).first p))))
 
 -- too many cells
-pub lays-full : (l : Layout) (C : Laid) (n : ℕ) (p : Parts) → Lays l C → get same_taken l.firsts (taken n p) ≡ None → most < length l.infos.items + p.r * p.c → most < length (take n p C).rows
+pub lays-full : (l : Layout) (C : Laid) (n : ℕ) (p : Parts) → Lays l C → get same_taken l.firsts (taken_plan n p) ≡ None → most < length l.infos.items + p.r * p.c → most < length (take n p C).rows
 lays-full l C n p s none above =
     by_first C n p (λ (D : Laid). most < length D.rows) (λ f had. absurd (none_isn't f (sym none ∙ s.firsts n p ∙ had))) (λ fresh. omega (arith, longer C n p, ap length s.rows, above))
 
@@ -90,7 +90,7 @@ root-first [] d (suc n) p = refl
 root-first (h ∷ hs) d zero p = refl
 root-first (h ∷ hs) d (suc n) p = root-first hs d n p
 
-pub lays-root : (l : Layout) (C : Laid) (d : Dims) → Lays l C → Lays l (with_root d C)
+pub lays-root : (l : Layout) (C : Laid) (d : Dims) → Lays l C → Lays l (with_handle d C)
 lays-root l C d s = record { rows = s.rows; few = s.few; firsts = λ n p. s.firsts n p ∙ sym (root-first C.handles d n p) }
 
 -- ---- active plans
@@ -128,7 +128,7 @@ module _ (old new : Layout) (rs : List RootState) (C : Laid) (r : Register ℕ) 
   n = length C.handles
 
   abbrev D : Laid
-  D = take n r.parts (with_root r.dims C)
+  D = take n r.parts (with_handle r.dims C)
 
   pub follows-register : Lays new D → (handle_at D n).first r.parts ≡ Some placed.first → placed.parts ≡ r.parts → (let a : Active = record { placed = placed; reduction = None } in new.actives.items ≡ old.actives.items ++ a ∷ []) → Follows new (rs ++ registered_root r ∷ []) D
   follows-register lays first parts actives =
@@ -137,10 +137,10 @@ module _ (old new : Layout) (rs : List RootState) (C : Laid) (r : Register ℕ) 
       let as' = old.actives.items in
       let long = length-append C.handles (handle_of r.dims ∷ []) in
       let active = active-changed as' (as' ++ a ∷ []) rs (rs ++ root ∷ []) C D n a root follows.active
-      (length-append as' (a ∷ []) ∙ ap (λ k. k + 1) follows.active.counted ∙ sym (take-handles (with_root r.dims C) n r.parts ∙ long))
+      (length-append as' (a ∷ []) ∙ ap (λ k. k + 1) follows.active.counted ∙ sym (take-handles (with_handle r.dims C) n r.parts ∙ long))
       (ap (active_at (as' ++ a ∷ [])) (sym follows.active.counted) ∙ get_or-append_seam as' a [] no_active) (pushed-there rs root n counted) (record { parts = parts; first = first; reduction = refl })
       (λ m other was. get_or_append_left as' (a ∷ []) no_active m (omega (arith, lives-below rs m was, counted, follows.active.counted))) (λ m other. pushed-beside rs root m (λ e. other (e ∙ sym counted)))
-      (λ m s f e. keeps-take (with_root r.dims C) n r.parts (omega (arith, long)) m s f (root-first C.handles r.dims m s ∙ e)) in
+      (λ m s f e. keeps-take (with_handle r.dims C) n r.parts (omega (arith, long)) m s f (root-first C.handles r.dims m s ∙ e)) in
       record { lays = lays; active = subst (λ bs. AreActive bs (rs ++ root ∷ []) D) (sym actives) active }
 
 -- another plan of a root
@@ -158,25 +158,25 @@ module _ (old new : Layout) (rs : List RootState) (C : Laid) (n : ℕ) (p : Part
 
 -- the same cells, whichever plans are active
 lays-as : (old new : Layout) (C : Laid) → new.infos ≡ old.infos → new.firsts ≡ old.firsts → Lays old C → Lays new C
-lays-as old new C infos firsts s = record { rows = ap (λ v. v.items) infos ∙ s.rows; few = s.few; firsts = λ n p. ap (λ m. get same_taken m (taken n p)) firsts ∙ s.firsts n p }
+lays-as old new C infos firsts s = record { rows = ap (λ v. v.items) infos ∙ s.rows; few = s.few; firsts = λ n p. ap (λ m. get same_taken m (taken_plan n p)) firsts ∙ s.firsts n p }
 
 -- the active plan that the code reads
 pub active-is : (actives : List Active) (n : ℕ) (a : Active) → n < length actives → a ≡ get_or actives n a → a ≡ active_at actives n
 active-is actives n a inside is = is ∙ get_or_default actives n a no_active inside
 
 -- the number of the next root
-next-inside : (C : Laid) (d : Dims) (k : ℕ) → k ≡ length C.handles → k < length (with_root d C).handles
+next-inside : (C : Laid) (d : Dims) (k : ℕ) → k ≡ length C.handles → k < length (with_handle d C).handles
 next-inside C d k at = omega (arith, at, length-append C.handles (handle_of d ∷ []))
 
-next-dims : (C : Laid) (b d : Dims) (k : ℕ) → k ≡ length C.handles → b ≡ d → (handle_at (with_root b C) k).dims ≡ d
+next-dims : (C : Laid) (b d : Dims) (k : ℕ) → k ≡ length C.handles → b ≡ d → (handle_at (with_handle b C) k).dims ≡ d
 next-dims C b d k at same = ap (λ (h : Handle). h.dims) (root-there C b k at) ∙ same
 
 pub registers : (old mid new : Layout) (d : Dims) (p : Parts) (placed : Placed) (k : ℕ) (o : Option Placed) → o ≡ Some placed → IfSome o (λ x. x.parts ≡ p) → IfSome o (Takes old mid k d p) → mid.actives ≡ old.actives → new.infos ≡ mid.infos → new.firsts ≡ mid.firsts
     → (let a : Active = record { placed = placed; reduction = None } in new.actives.items ≡ mid.actives.items ++ a ∷ []) → k ≡ length old.actives.items
     → (rs : List RootState) (C : Laid) (r : Register ℕ) → Follows old rs C → length C.handles ≡ length rs → r.dims ≡ d → r.parts ≡ p
-    → Follows new (rs ++ registered_root r ∷ []) (take (length C.handles) r.parts (with_root r.dims C)) × ((handle_at (take (length C.handles) r.parts (with_root r.dims C)) (length C.handles)).first r.parts ≡ Some placed.first)
+    → Follows new (rs ++ registered_root r ∷ []) (take (length C.handles) r.parts (with_handle r.dims C)) × ((handle_at (take (length C.handles) r.parts (with_handle r.dims C)) (length C.handles)).first r.parts ≡ Some placed.first)
 registers old mid new d p placed k o some parts taken kept infos firsts pushes number rs C r follows counted dims same =
-    let B = with_root r.dims C in
+    let B = with_handle r.dims C in
     let n = length C.handles in
     let a : Active = record { placed = placed; reduction = None } in
     let at : k ≡ n = number ∙ follows.active.counted in
@@ -189,9 +189,9 @@ registers old mid new d p placed k o some parts taken kept infos firsts pushes n
     (follows-register old new rs C r placed follows counted (lays-as mid new (take n r.parts B) infos firsts lays) first (its ∙ sym same) (pushes ∙ (λ i. (kept i).items ++ a ∷ [])), first)
 
 pub registers-full : (old : Layout) (d : Dims) (p : Parts) (k : ℕ) (o : Option Placed) → o ≡ None → IfNone o (TakesTooMany old k d p) → k ≡ length old.actives.items
-    → (rs : List RootState) (C : Laid) (r : Register ℕ) → Follows old rs C → r.dims ≡ d → r.parts ≡ p → most < length (take (length C.handles) r.parts (with_root r.dims C)).rows
+    → (rs : List RootState) (C : Laid) (r : Register ℕ) → Follows old rs C → r.dims ≡ d → r.parts ≡ p → most < length (take (length C.handles) r.parts (with_handle r.dims C)).rows
 registers-full old d p k o none full number rs C r follows dims same =
-    let B = with_root r.dims C in
+    let B = with_handle r.dims C in
     let at : k ≡ length C.handles = number ∙ follows.active.counted in
     let many : TakesTooMany old k d p = none-at o (TakesTooMany old k d p) none full in
     let above = many B (lays-root old C r.dims follows.lays) (next-inside C r.dims k at) (next-dims C r.dims d k at dims) in
@@ -232,26 +232,26 @@ follows-kept old new rs qs C D follows lays handles actives kept = record {
 
 -- ---- partial copies
 
-pub lays-copied : (l : Layout) (C : Laid) (c first : Cell) (workers : ℕ) → Lays l C → (get_or l.infos.items c.0 no_cell).partials ≡ Some first → Lays l (with_copies workers C c) × (first_copy C c ≡ first)
+pub lays-copied : (l : Layout) (C : Laid) (c first : Cell) (workers : ℕ) → Lays l C → (get_or l.infos.items c.0 no_cell).partials ≡ Some first → Lays l (with_copies workers C c) × (first_copy_in C c ≡ first)
 lays-copied l C c first workers s there =
     let is : (info_at C c).partials ≡ Some first = ap (λ (is : List CellInfo). (get_or is c.0 no_cell).partials) (sym s.rows) ∙ there in
     (by_copies workers c C (Lays l) (λ f e. s) (λ e. absurd (none_isn't first (sym e ∙ is))), first-old C c first is)
 
 pub lays-copies : (old new : Layout) (C : Laid) (c first : Cell) (workers : ℕ) → let i = get_or old.infos.items c.0 no_cell in Lays old C → c.0 < length old.infos.items → i.partials ≡ None
     → new.infos.items ≡ set (old.infos.items ++ replicate workers i) c.0 (with_partials first i) → new.firsts ≡ old.firsts → first.0 ≡ length old.infos.items → length new.infos.items ≤ most
-    → Lays new (with_copies workers C c) × (first_copy C c ≡ first)
+    → Lays new (with_copies workers C c) × (first_copy_in C c ≡ first)
 lays-copies old new C c first workers s there none rows firsts number few =
     let i = get_or old.infos.items c.0 no_cell in
     let is : i ≡ info_at C c = ap (λ (is : List CellInfo). get_or is c.0 no_cell) s.rows in
     let none_here = ap (λ (i : CellInfo). i.partials) (sym is) ∙ none in
-    let first_is : first ≡ first_copy C c = (λ k. let d : Cell = record { 0 = (number ∙ ap length s.rows) k } in d) ∙ sym (first-new C c none_here) in
+    let first_is : first ≡ first_copy_in C c = (λ k. let d : Cell = record { 0 = (number ∙ ap length s.rows) k } in d) ∙ sym (first-new C c none_here) in
     let plain : i ≡ copy_info (info_at C c) = (λ k. let j : CellInfo = record { root = i.root; dims = i.dims; partials = none k } in j) ∙ ap copy_info is in
-    let same : new.infos.items ≡ set C.rows c.0 (with_partials (first_copy C c) (info_at C c)) ++ replicate workers (copy_info (info_at C c)) =
+    let same : new.infos.items ≡ set C.rows c.0 (with_partials (first_copy_in C c) (info_at C c)) ++ replicate workers (copy_info (info_at C c)) =
     rows ∙ set-append_left old.infos.items (replicate workers i) c.0 (with_partials first i) there ∙ (λ k. set (s.rows k) c.0 (with_partials (first_is k) (is k)) ++ replicate workers (plain k)) in (
       by_copies workers c C (Lays new) (λ f e. absurd (none_isn't f (sym none_here ∙ e))) (λ e. record {
         rows = same;
         few = omega (arith, few, ap length same);
-        firsts = λ n p. ap (λ m. get same_taken m (taken n p)) firsts ∙ s.firsts n p;
+        firsts = λ n p. ap (λ m. get same_taken m (taken_plan n p)) firsts ∙ s.firsts n p;
       }),
       sym first_is,
     )
@@ -275,7 +275,7 @@ pub cells-same : (l : Layout) (rs : List RootState) (C : Laid) (n : ℕ) → Fol
 cells-same l rs C n follows lives = λ i. each_of (cells_from (first-is l rs C n follows lives i) ((follows.active.each n lives).parts i)) (places ((follows.active.each n lives).parts i))
 
 -- the cells of a root's active plan are there
-pub has-cells : (l : Layout) (workers : ℕ) (rs : List RootState) (C : Laid) (n : ℕ) → Follows l rs C → IsWhole workers rs C → Lives rs n → HasCells l.actives.items n
+pub has-cells : (l : Layout) (workers : ℕ) (rs : List RootState) (C : Laid) (n : ℕ) → Follows l rs C → AreLaidFor workers rs C → Lives rs n → HasCells l.actives.items n
 has-cells l workers rs C n follows whole lives =
     let a = follows.active.each n lives in
     let t = whole.taken n lives in
@@ -286,7 +286,7 @@ has-cells l workers rs C n follows whole lives =
       cells = subst (λ (p : Parts). f + p.r * p.c ≤ most) (sym a.parts) (omega (arith, whole.laid.inside n (root_at rs n).dims (root_at rs n).parts t.0 t.1, is, follows.lays.few));
     }
 
-pub is-inside : (l : Layout) (workers : ℕ) (rs : List RootState) (C : Laid) (o : Operand) → Follows l rs C → IsWhole workers rs C → Lives rs o.root.0 → IsPlace (root_at rs o.root.0).parts o.place → IsInside l.actives.items o
+pub is-inside : (l : Layout) (workers : ℕ) (rs : List RootState) (C : Laid) (o : Operand) → Follows l rs C → AreLaidFor workers rs C → Lives rs o.root.0 → IsPlace (root_at rs o.root.0).parts o.place → IsActiveChild l.actives.items o
 is-inside l workers rs C o follows whole lives place = record {
   has = has-cells l workers rs C o.root.0 follows whole lives;
   place = subst (λ (p : Parts). IsPlace p o.place) (sym (follows.active.each o.root.0 lives).parts) place;

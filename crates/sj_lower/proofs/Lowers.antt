@@ -15,20 +15,20 @@ use Rattle.sj_meaning.specs.Act.{Statement}
 use Rattle.sj_meaning.specs.State.{RootState, start}
 use Rattle.sj_meaning.specs.Meaning.{apply, printed}
 use Rattle.sj_meaning.specs.Numbers.{name_at, statements_from, act_at, apply_at, printed_at}
-use Rattle.sj_meaning.specs.Sound.{AreSound as AreSoundByName}
+use Rattle.sj_meaning.specs.Sound.{AreSoundActs as AreSoundByName}
 use Rattle.sj_meaning.specs.Table.{Table, AreDistinct}
 use Rattle.sj_meaning.specs.View.{act_seen, seen_from, count_after, count_from, values_from, IsNumbered}
 use Rattle.sj_meaning.proofs.Mirroring.{AreTimely, printed-by, printed_as as found_as}
 use Rattle.sj_meaning.proofs.Timely.{statements-named, timely}
 use Rattle.sj_meaning.proofs.Views.{counts-grow}
-use Rattle.sj_phases.specs.Block.{Block}
+use Rattle.sj_phases.specs.Block.{TaskBlock}
 use Rattle.sj_phases.specs.Expand.{nothing, expand, last_block}
 use Rattle.sj_phases.specs.Orderly.{IsDelivered}
 use Rattle.sj_phases.specs.Plain.{none_open, plain_program}
 use Rattle.sj_lower.specs.Delivering.{DeliversPrinted}
 use Rattle.sj_lower.specs.Laid.{Laid, no_cells}
-use Rattle.sj_lower.specs.SoundAt.{AreSound}
-use Rattle.sj_lower.specs.Step.{by_name, by_number, names_in, names_of, Step, step_of, steps_from, steps_of, last_line, program_by}
+use Rattle.sj_lower.specs.SoundAt.{AreSoundAt}
+use Rattle.sj_lower.specs.Step.{by_name, by_number, names_in, names_of, LoweringStep, step_of, steps_from, steps_of, last_line, program_by}
 use Rattle.sj_lower.proofs.Following.{laid_from}
 use Rattle.sj_lower.proofs.Naming.{mirror-start, AreSilent, sounds-at, AreTold, IsTold, knows-none, all-known}
 use Rattle.sj_lower.proofs.Printing.{delivers-printed}
@@ -38,7 +38,7 @@ use Rattle.sj_lower.proofs.Known.{IsKnown, HasOwn, known-all}
 use Rattle.sj_lower.proofs.Running.{are-ready}
 use Rattle.sj_lower.proofs.Values.{values-same}
 use Rattle.sj_phases.proofs.Fewer.{few-plain}
-use Rattle.sj_lower.specs.Running.{AreReady, steps_at}
+use Rattle.sj_lower.specs.Running.{MayComeInTurn, steps_at}
 
 -- ---- the names of a numbered job are those of its table
 
@@ -59,7 +59,7 @@ told-all T k (s ∷ ss) le = (by_act s.act (omega (arith, le, counts-grow (count
     by_act (kept.Register init) le = (refl, refl, omega (arith, le))
     by_act a le = tt
 
-laid-last : (workers : ℕ) (rs : List RootState) (C : Laid) (ss : List (Statement ℕ)) → fold (λ (D : Laid) (x : Step). x.laid) C (steps_from workers by_number apply_at rs C ss) ≡ laid_from workers rs C ss
+laid-last : (workers : ℕ) (rs : List RootState) (C : Laid) (ss : List (Statement ℕ)) → fold (λ (D : Laid) (x : LoweringStep). x.laid) C (steps_from workers by_number apply_at rs C ss) ≡ laid_from workers rs C ss
 laid-last workers rs C [] = refl
 laid-last workers rs C (s ∷ ss) = laid-last workers (apply_at s.act rs) (step_of workers (by_number rs) C s.line s.act).laid ss
 
@@ -72,13 +72,13 @@ module _ (T : Table) (kss : List Kept) (d : AreDistinct T.names) (numbered : IsN
   abbrev ns : List (Statement ℕ)
   ns = statements_from T 0 kss
 
-  abbrev xs : List Step
+  abbrev xs : List LoweringStep
   xs = steps_from workers by_number apply_at [] no_cells ns
 
   in-time : AreTimely T.names start [] ns
   in-time = timely has T 0 start [] kss d refl (omega (arith, numbered.counted)) numbered.placed (mirror-start T.names) sound
 
-  pub sound-here : AreSound has [] ns
+  pub sound-here : AreSoundAt has [] ns
   sound-here = sounds-at has T.names d ns start [] (mirror-start T.names) in-time (subst (λ (us : List (Statement (List ℕ))). AreSoundByName has start us) (statements-named T 0 kss) sound) silent
 
   -- by names and by numbers the steps are the same
@@ -93,7 +93,7 @@ module _ (T : Table) (kss : List Kept) (d : AreDistinct T.names) (numbered : IsN
   abbrev line : Line
   line = last_line xs
 
-  abbrev bs : List Block
+  abbrev bs : List TaskBlock
   bs = blocks has workers ns line sound-here
 
   abbrev pub p : Program
@@ -102,7 +102,7 @@ module _ (T : Table) (kss : List Kept) (d : AreDistinct T.names) (numbered : IsN
   program-is : p ≡ Rattle.sj_phases.specs.Law.program_by rows workers bs
   program-is =
       ap (program_by workers) same-steps
-      ∙ ap (λ (cells : List CellInfo). Rattle.sj_phases.specs.Law.program_by cells workers (map (λ (x : Step). x.block) xs ++ last_block (length cells) line ∷ [])) (ap (λ (C : Laid). C.rows) (laid-last workers [] no_cells ns))
+      ∙ ap (λ (cells : List CellInfo). Rattle.sj_phases.specs.Law.program_by cells workers (map (λ (x : LoweringStep). x.block) xs ++ last_block (length cells) line ∷ [])) (ap (λ (C : Laid). C.rows) (laid-last workers [] no_cells ns))
 
   printed-same : printed ss ≡ map (found_as T.names) (printed_at [] ns)
   printed-same = ap (λ us. printed us) (statements-named T 0 kss) ∙ printed-by T.names d ns start [] (mirror-start T.names) in-time
@@ -140,7 +140,7 @@ module _ (T : Table) (kss : List Kept) (d : AreDistinct T.names) (numbered : IsN
   known own = subst (λ (x : Program). All (IsKnown has) x.tasks) (sym program-is) (known-all has workers ns [] no_cells (length rows) line own sound-here)
 
   -- each statement may come next, for the code
-  pub ready : length T.names ≤ 4096 → AreReady T workers [] no_cells nothing kss
+  pub ready : length T.names ≤ 4096 → MayComeInTurn T workers [] no_cells nothing kss
   ready table =
       are-ready T has q kss [] no_cells nothing 0 none_open table (omega (arith, numbered.counted)) sound-here (told-all T 0 kss (omega (arith, numbered.counted))) (knows-none T)
       (numbered.valued ∙ ap (values_from start) (statements-named T 0 kss) ∙ values-same T.names d ns start [] (mirror-start T.names) in-time)

@@ -11,7 +11,7 @@ use Rattle.sj_meaning.specs.declared.job.Statement.{Statement as Kept}
 use Rattle.sj_meaning.specs.Act.{Statement}
 use Rattle.sj_meaning.specs.State.{start}
 use Rattle.sj_meaning.specs.Numbers.{statements_from}
-use Rattle.sj_meaning.specs.Sound.{AreSound}
+use Rattle.sj_meaning.specs.Sound.{AreSoundActs}
 use Rattle.sj_meaning.specs.Table.{Table, IsTable}
 use Rattle.sj_meaning.specs.View.{seen_from, IsNumbered}
 use Rattle.sj_job.specs.Well.{IsWell}
@@ -23,8 +23,8 @@ use Rattle.sj_lower.specs.Laid.{no_cells}
 use Rattle.sj_lower.specs.Limits.{late_limit}
 use Rattle.sj_lower.specs.Lowering.{lowered}
 use Rattle.sj_lower.specs.Progress.{IsLate}
-use Rattle.sj_lower.specs.Running.{AreReady}
-use Rattle.sj_lower.specs.Step.{Step, steps_of, program_by}
+use Rattle.sj_lower.specs.Running.{MayComeInTurn}
+use Rattle.sj_lower.specs.Step.{LoweringStep, steps_of, program_by}
 use Rattle.sj_lower.proofs.Allowed.{all-sound, all-silent}
 use Rattle.sj_lower.proofs.Going.{late_by, steps_from_start, IsMade}
 use Rattle.sj_lower.proofs.Known.{IsKnown, own-of}
@@ -35,20 +35,20 @@ module _ (T : Table) (kss : List Kept) (table : IsTable T) (numbered : IsNumbere
   abbrev ss : List (Statement (List ℕ))
   ss = seen_from T 0 kss
 
-  sound : AreSound has start ss
+  sound : AreSoundActs has start ss
   sound = all-sound has 0 start ss well
 
   silent : AreSilent (statements_from T 0 kss)
   silent = all-silent has T 0 0 start kss well
 
-  pub is-ready : AreReady T workers [] no_cells nothing kss
+  pub is-ready : MayComeInTurn T workers [] no_cells nothing kss
   is-ready = ready T kss table.2 numbered has sound silent workers table.1
 
   same-steps : steps_from_start workers T kss ≡ steps_of workers ss
   same-steps = sym (steps-are T kss table.2 numbered has sound silent workers)
 
   pub is-late : (e : LowerRefusal) → IsLate e (late_by workers (steps_from_start workers T kss)) → IsLate e (late_limit workers ss)
-  is-late e = subst (λ (xs : List Step). IsLate e (late_by workers xs)) same-steps
+  is-late e = subst (λ (xs : List LoweringStep). IsLate e (late_by workers xs)) same-steps
 
   pub limit-is : late_limit workers ss ≡ late_by workers (steps_from_start workers T kss)
   limit-is = ap (late_by workers) (sym same-steps)

@@ -27,7 +27,7 @@ use Rattle.sj_meaning.specs.Meaning.{written_of}
 use Rattle.sj_meaning.specs.Sound.{is_unordered, mode_fits}
 use Rattle.sj_phases.specs.Plain.{direct_mode}
 use Rattle.sj_phases.proofs.Lists.{one-case, first-has, more-has}
-use Rattle.sj_lower.specs.SoundAt.{IsSoundTask, modes_fit}
+use Rattle.sj_lower.specs.SoundAt.{IsSoundTaskAt, modes_fit_at}
 use Rattle.sj_lower.proofs.Operands.{Contributes, lawful-at, none-passes}
 use Rattle.sj_lower.proofs.Doing.{kernel_there}
 use Rattle.sj_lower.proofs.Writing.{writes_output}
@@ -51,20 +51,20 @@ mode-own FormalScratch Scratch e h c = refl
 mode-own f m e h c = absurd (cc)
 
 -- where the mode of each operand goes by its formal, all of them do
-modes-by : {Y : Type 0} (h : Mode → Y) (g : Formal → Y) (fs : List Formal) (os : List (Operand ℕ)) → modes_fit fs os ≡ true → length os ≡ length fs → ((f : Formal) (o : Operand ℕ) → Contains os o → mode_fits f o.mode ≡ true → h o.mode ≡ g f) → each_of (λ (o : Operand ℕ). h o.mode) os ≡ each_of g fs
+modes-by : {Y : Type 0} (h : Mode → Y) (g : Formal → Y) (fs : List Formal) (os : List (Operand ℕ)) → modes_fit_at fs os ≡ true → length os ≡ length fs → ((f : Formal) (o : Operand ℕ) → Contains os o → mode_fits f o.mode ≡ true → h o.mode ≡ g f) → each_of (λ (o : Operand ℕ). h o.mode) os ≡ each_of g fs
 modes-by h g [] [] e l one = refl
 modes-by h g (f ∷ fs) (o ∷ os) e l one =
-    let m = and_parts (mode_fits f o.mode) (modes_fit fs os) e in
+    let m = and_parts (mode_fits f o.mode) (modes_fit_at fs os) e in
     let rest = modes-by h g fs os m.1 (omega (arith, l)) (λ x u among. one x u (more-has o os u among)) in
     λ i. one f o (first-has o os) m.0 i ∷ rest i
 modes-by h g fs os e l one = absurd (omega (arith, l))
 
 -- so they do where what is written has one mode
-modes-with : (x : Mode) (fs : List Formal) (os : List (Operand ℕ)) → modes_fit fs os ≡ true → length os ≡ length fs → ((o : Operand ℕ) → Contains os o → is_written o.mode ≡ true → o.mode ≡ x) → each_of (λ (o : Operand ℕ). o.mode) os ≡ each_of (λ m. cond (is_written m) x m) (each_of mode_of fs)
+modes-with : (x : Mode) (fs : List Formal) (os : List (Operand ℕ)) → modes_fit_at fs os ≡ true → length os ≡ length fs → ((o : Operand ℕ) → Contains os o → is_written o.mode ≡ true → o.mode ≡ x) → each_of (λ (o : Operand ℕ). o.mode) os ≡ each_of (λ m. cond (is_written m) x m) (each_of mode_of fs)
 modes-with x fs os e l h = modes-by (λ (m : Mode). m) (λ (f : Formal). cond (is_written (mode_of f)) x (mode_of f)) fs os e l (λ f o among fit. mode-with x f o.mode fit (h o among)) ∙ sym (map-map (λ (m : Mode). cond (is_written m) x m) mode_of fs)
 
 -- as many formals are outputs as operands are written
-outputs-count : (fs : List Formal) (os : List (Operand ℕ)) → modes_fit fs os ≡ true → length os ≡ length fs → count_by is_written (each_of mode_of fs) ≡ length (written_of os)
+outputs-count : (fs : List Formal) (os : List (Operand ℕ)) → modes_fit_at fs os ≡ true → length os ≡ length fs → count_by is_written (each_of mode_of fs) ≡ length (written_of os)
 outputs-count fs os e l =
     count_by-map is_written mode_of fs ∙ sym (count_by-map (λ (b : Bool). b) (λ (f : Formal). is_written (mode_of f)) fs)
     ∙ ap (λ (bs : List Bool). count_by (λ b. b) bs) (sym (modes-by is_written (λ (f : Formal). is_written (mode_of f)) fs os e l (λ f o among fit. writes_output f o.mode fit ∙ sym (output-written f))))
@@ -84,7 +84,7 @@ only-one (u ∷ []) x y e h k = sym (one-case u x h) ∙ one-case u y k
 only-one xs x y e h k = absurd (omega (arith, e))
 
 -- the modes of a task without contributions; where an operand commutes, the codelet does
-direct-modes : (has : Kernel → Bool) (rs : List RootState) (t : TaskLine ℕ) (s : IsSoundTask has rs t) → list_any (λ o. is_redux o.mode) t.operands ≡ false → MayHaveModes (kernel_there has rs t s).call.kernel (each_of (λ (o : Operand ℕ). o.mode) t.operands)
+direct-modes : (has : Kernel → Bool) (rs : List RootState) (t : TaskLine ℕ) (s : IsSoundTaskAt has rs t) → list_any (λ o. is_redux o.mode) t.operands ≡ false → MayHaveModes (kernel_there has rs t s).call.kernel (each_of (λ (o : Operand ℕ). o.mode) t.operands)
 direct-modes has rs t s direct =
     let k = kernel_there has rs t s in
     let fs = formals_of k.call.kernel in
@@ -103,7 +103,7 @@ direct-modes has rs t s direct =
     ]
 
 -- the modes of one with a contribution, whose codelet writes one operand
-pub contribution-modes : (has : Kernel → Bool) (rs : List RootState) (t : TaskLine ℕ) (s : IsSoundTask has rs t) (con : Contributes rs t (kernel_there has rs t s).call.kernel) → writes_one (kernel_there has rs t s).call.kernel × (each_of (λ (o : Operand ℕ). o.mode) t.operands ≡ modes_writing_by Redux (kernel_there has rs t s).call.kernel)
+pub contribution-modes : (has : Kernel → Bool) (rs : List RootState) (t : TaskLine ℕ) (s : IsSoundTaskAt has rs t) (con : Contributes rs t (kernel_there has rs t s).call.kernel) → writes_one (kernel_there has rs t s).call.kernel × (each_of (λ (o : Operand ℕ). o.mode) t.operands ≡ modes_writing_by Redux (kernel_there has rs t s).call.kernel)
 contribution-modes has rs t s con =
     let k = kernel_there has rs t s in (
       outputs-count (formals_of k.call.kernel) t.operands k.modes k.count ∙ ap length con.written,
@@ -119,7 +119,7 @@ modes-back (FormalScratch ∷ fs) h = ap (λ (ms : List Mode). Scratch ∷ ms) (
 modes-back (f ∷ fs) h = absurd (false≢true h)
 
 -- the modes of a task without phases
-pub plain-modes : (has : Kernel → Bool) (rs : List RootState) (t : TaskLine ℕ) (s : IsSoundTask has rs t) → ((list_any (λ o. is_redux o.mode) t.operands ≡ true) → Contributes rs t (kernel_there has rs t s).call.kernel)
+pub plain-modes : (has : Kernel → Bool) (rs : List RootState) (t : TaskLine ℕ) (s : IsSoundTaskAt has rs t) → ((list_any (λ o. is_redux o.mode) t.operands ≡ true) → Contributes rs t (kernel_there has rs t s).call.kernel)
     → MayHaveModes (kernel_there has rs t s).call.kernel (each_of (λ (o : Operand ℕ). direct_mode o.mode) t.operands)
 plain-modes has rs t s contributes = elim (cases_Bool (list_any (λ (o : Operand ℕ). is_redux o.mode) t.operands)) [
   | inl some ↦

@@ -14,13 +14,13 @@ use Rattle.sj_meaning.specs.Statement.{Operand}
 use Rattle.sj_meaning.specs.Act.{Act, Statement, Register as Registers, Plan as Plans, Redux as Reduces, Task as Tasks, Print as Prints, Invalidate as Invalidates, Unregister as Unregisters}
 use Rattle.sj_meaning.specs.State.{RootState, JobState, start}
 use Rattle.sj_meaning.specs.Meaning.{apply, with_parts, with_reduction, with_elements, with_child, no_values, registered_root, written_of}
-use Rattle.sj_meaning.specs.Numbers.{name_at, act_by, statement_by, no_root, root_at, change_at, put_all_at, operand_array_at, apply_at, prints_at, printed_at}
-use Rattle.sj_meaning.specs.Sound.{AreSound as AreSoundByName}
+use Rattle.sj_meaning.specs.Numbers.{name_at, act_named_by, statement_named_by, no_root, root_at, change_at, put_all_at, operand_array_at, apply_at, prints_at, printed_at}
+use Rattle.sj_meaning.specs.Sound.{AreSoundActs as AreSoundByName}
 use Rattle.sj_meaning.specs.Table.{Table, AreDistinct, a_root, info_of}
 use Rattle.sj_meaning.proofs.Mirroring.{IsMirror, AreTimely, mirror-apply}
-use Rattle.sj_phases.specs.Plain.{Opens, plain_rows, open_at}
+use Rattle.sj_phases.specs.Plain.{OpenReductions, plain_rows, open_at}
 use Rattle.sj_lower.specs.Laid.{Laid}
-use Rattle.sj_lower.specs.SoundAt.{Lives, IsSound, AreSound}
+use Rattle.sj_lower.specs.SoundAt.{Lives, IsSoundAt, AreSoundAt}
 use Rattle.sj_lower.specs.Step.{by_number, step_of}
 use Rattle.sj_lower.proofs.Arms.{by_changed}
 use Rattle.sj_lower.proofs.Following.{AllAgree}
@@ -44,11 +44,11 @@ AreSilent [] = Unit {0}
 AreSilent (s ∷ ss) = IsSilent s.act × AreSilent ss
 
 -- acts that are sound by name, one after another, are so by number
-pub sounds-at : (has : Kernel → Bool) (names : List (List ℕ)) → AreDistinct names → (ss : List (Statement ℕ)) (S : JobState) (rs : List RootState) → IsMirror names S rs → AreTimely names S rs ss → AreSoundByName has S (each_of (statement_by (name_at names)) ss) → AreSilent ss → AreSound has rs ss
+pub sounds-at : (has : Kernel → Bool) (names : List (List ℕ)) → AreDistinct names → (ss : List (Statement ℕ)) (S : JobState) (rs : List RootState) → IsMirror names S rs → AreTimely names S rs ss → AreSoundByName has S (each_of (statement_named_by (name_at names)) ss) → AreSilent ss → AreSoundAt has rs ss
 sounds-at has names d [] S rs m t s q = tt
 sounds-at has names d (x ∷ ss) S rs m t s q = (
   sound-at names d S rs m has x.act t.0 s.0 q.0,
-  sounds-at has names d ss (apply (act_by (name_at names) x.act) S) (apply_at x.act rs) (mirror-apply names d x.act S rs m t.0) t.1 s.1 q.1,
+  sounds-at has names d ss (apply (act_named_by (name_at names) x.act) S) (apply_at x.act rs) (mirror-apply names d x.act S rs m t.0) t.1 s.1 q.1,
 )
 
 -- ---- what the table knows of the roots
@@ -82,7 +82,7 @@ abbrev pub AreTold : Table → List (Statement ℕ) → Type 0
 AreTold T [] = Unit {0}
 AreTold T (s ∷ ss) = IsTold T s.act × AreTold T ss
 
-pub knows-apply : (T : Table) (has : Kernel → Bool) (a : Act ℕ) (rs : List RootState) → IsSound has rs a → IsTold T a → Knows T rs → Knows T (apply_at a rs)
+pub knows-apply : (T : Table) (has : Kernel → Bool) (a : Act ℕ) (rs : List RootState) → IsSoundAt has rs a → IsTold T a → Knows T rs → Knows T (apply_at a rs)
 knows-apply T has (Registers r) rs s t k = λ n. elim (cases_eq n r.name) as (λ _. Tells T n (root_at (rs ++ registered_root r ∷ []) n)) [
   | inl e ↦ subst (Tells T n) (sym (pushed-there rs (registered_root r) n (e ∙ s.next))) (subst (λ i. Tells T i (registered_root r)) (sym e) (λ lives. t))
   | inr other ↦ subst (Tells T n) (sym (pushed-beside rs (registered_root r) n (λ e. other (e ∙ sym s.next)))) (k n)
@@ -95,7 +95,7 @@ knows-apply T has (Invalidates n) rs s t k = knows-changed T rs n (λ r. with_el
 knows-apply T has (Unregisters m) rs s t k = λ n. by_changed (λ r. no_root) m rs n (Tells T n) (k n) (λ lives. absurd (omega (arith, lives)))
 
 -- what one statement prints
-known-one : (T : Table) (has : Kernel → Bool) (q : Program) (C : Laid) (rs : List RootState) (n : ℕ) (a : Act ℕ) → IsSound has rs a → Knows T rs → HaveRoots q C n (contents_before q n) rs → (more : List (ℕ × RootState)) → ((k : ℕ) (x : ℕ × RootState) → slice_get more k ≡ Some x → IsKnown T x)
+known-one : (T : Table) (has : Kernel → Bool) (q : Program) (C : Laid) (rs : List RootState) (n : ℕ) (a : Act ℕ) → IsSoundAt has rs a → Knows T rs → HaveRoots q C n (contents_before q n) rs → (more : List (ℕ × RootState)) → ((k : ℕ) (x : ℕ × RootState) → slice_get more k ≡ Some x → IsKnown T x)
     → (k : ℕ) (x : ℕ × RootState) → slice_get (prints_at a rs ++ more) k ≡ Some x → IsKnown T x
 known-one T has q C rs n (Prints m) s kn roots more rest zero x e =
     let here : (m, root_at rs m) ≡ x = cc in
@@ -106,7 +106,7 @@ known-one T has q C rs n (Prints m) s kn roots more rest (suc k) x e = rest k x 
 known-one T has q C rs n a s kn roots more rest k x e = rest k x e
 
 -- the table knows what is printed
-pub all-known : (T : Table) (has : Kernel → Bool) (q : Program) (ss : List (Statement ℕ)) (C : Laid) (rs : List RootState) (n : ℕ) (was : Opens) → AreSound has rs ss → AreTold T ss → Knows T rs → AllAgree q C rs n was ss → (k : ℕ) (x : ℕ × RootState) → slice_get (printed_at rs ss) k ≡ Some x → IsKnown T x
+pub all-known : (T : Table) (has : Kernel → Bool) (q : Program) (ss : List (Statement ℕ)) (C : Laid) (rs : List RootState) (n : ℕ) (was : OpenReductions) → AreSoundAt has rs ss → AreTold T ss → Knows T rs → AllAgree q C rs n was ss → (k : ℕ) (x : ℕ × RootState) → slice_get (printed_at rs ss) k ≡ Some x → IsKnown T x
 all-known T has q [] C rs n was sound told kn all k x e = absurd (omega (arith, slice_get_within (printed_at rs []) k x e))
 all-known T has q (s ∷ ss) C rs n was sound told kn all k x e =
     let step = step_of q.workers (by_number rs) C s.line s.act in

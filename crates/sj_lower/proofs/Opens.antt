@@ -27,16 +27,16 @@ use Rattle.sj_meaning.specs.Statement.{Operand, TaskLine}
 use Rattle.sj_meaning.specs.State.{RootState, is_child, is_valued, is_valued_child}
 use Rattle.sj_meaning.specs.Meaning.{with_child, with_parts, with_reduction, with_elements, no_values, registered_root, written_of}
 use Rattle.sj_meaning.specs.Numbers.{no_root, root_at, change_at, put_all_at, operand_array_at, run_task_at, apply_at}
-use Rattle.sj_phases.specs.Block.{Block}
+use Rattle.sj_phases.specs.Block.{TaskBlock}
 use Rattle.sj_lower.specs.Rows.{paste_row}
-use Rattle.sj_phases.specs.Plain.{Opens, with_shut, with_opening, shut_by, open_at}
+use Rattle.sj_phases.specs.Plain.{OpenReductions, with_shut, with_opening, shut_by, open_at}
 use Rattle.sj_phases.proofs.Expanded.{shuts}
 use Rattle.sj_phases.proofs.Logging.{by_which, phase-own, phase-other}
 use Rattle.sj_lower.specs.Cells.{same_parts}
-use Rattle.sj_lower.specs.Laid.{Laid, handle_of, cell_of, take, with_root, with_print, with_copies}
-use Rattle.sj_lower.specs.SoundAt.{Lives, IsPlaced, IsSoundTask, IsSound, child_dims}
-use Rattle.sj_lower.specs.Step.{by_number, closing, contributed, opening_of, operand_cell, task_block, plan_block, active_cells, step_of}
-use Rattle.sj_lower.specs.Whole.{IsTaken}
+use Rattle.sj_lower.specs.Laid.{Laid, handle_of, cell_of, take, with_handle, with_print, with_copies}
+use Rattle.sj_lower.specs.SoundAt.{Lives, IsPlacedAt, IsSoundTaskAt, IsSoundAt, child_dims_at}
+use Rattle.sj_lower.specs.Step.{by_number, closing, contributed, opening_for, operand_cell, task_block, plan_block, active_cells, step_of}
+use Rattle.sj_lower.specs.Whole.{HasTakenPlan}
 use Rattle.sj_lower.proofs.Agrees.{IsOpenChild, AreOpenChildren, Agrees}
 use Rattle.sj_lower.proofs.Contributing.{fold-handles, same-cells}
 use Rattle.sj_lower.proofs.Doing.{kernel_there, new_dims, the_cell}
@@ -55,28 +55,28 @@ use Rattle.sj_lower.proofs.Writing.{all_dims}
 pub place-in : (s : Parts) (x : ℕ × ℕ) → IsPlace s x → Contains (places s) x
 place-in s x at = (number s x, omega (arith, number-below s x at, length-places (λ (y : ℕ × ℕ). y) s, length-map (places s) (λ (y : ℕ × ℕ). y)), sym (get_or-map (λ (y : ℕ × ℕ). y) (places s) (number s x) x x (omega (arith, number-below s x at, length-places (λ (y : ℕ × ℕ). y) s, length-map (places s) (λ (y : ℕ × ℕ). y)))) ∙ places-at (λ (y : ℕ × ℕ). y) s x x at)
 
-pub kept-cell : (C D : Laid) (m : ℕ) (d : Dims) (s : Parts) (f : ℕ) (place : ℕ × ℕ) → IsTaken C m d s f → IsTaken D m d s f → cell_of C m s place ≡ cell_of D m s place
+pub kept-cell : (C D : Laid) (m : ℕ) (d : Dims) (s : Parts) (f : ℕ) (place : ℕ × ℕ) → HasTakenPlan C m d s f → HasTakenPlan D m d s f → cell_of C m s place ≡ cell_of D m s place
 kept-cell C D m d s f place t u = cell_of_number (cell_of C m s place) (cell_of D m s place) (cell-is C m d s f place t ∙ sym (cell-is D m d s f place u))
 
 -- a root takes a plan, and each plan that was taken before stays so
 pub record Takes (C D : Laid) (m : ℕ) (d : Dims) (p : Parts) : Type 0 where
   pub first : ℕ
-  pub own : IsTaken D m d p first
-  pub kept : (i : ℕ) (e : Dims) (s : Parts) (f : ℕ) → IsTaken C i e s f → IsTaken D i e s f
+  pub own : HasTakenPlan D m d p first
+  pub kept : (i : ℕ) (e : Dims) (s : Parts) (f : ℕ) → HasTakenPlan C i e s f → HasTakenPlan D i e s f
 
-pub takes-planned : (q : Program) (C : Laid) (rs : List RootState) (n : ℕ) (was : Opens) (m : ℕ) (p : Parts) → Lives rs m → Agrees q C rs n was → Takes C (take m p C) m (root_at rs m).dims p
+pub takes-planned : (q : Program) (C : Laid) (rs : List RootState) (n : ℕ) (was : OpenReductions) (m : ℕ) (p : Parts) → Lives rs m → Agrees q C rs n was → Takes C (take m p C) m (root_at rs m).dims p
 takes-planned q C rs n was m p lives g =
     let there : m < length C.handles = omega (arith, lives-below rs m lives, g.counted) in
     let t = take-takes C m p there in
-    record { first = t.0; own = subst (λ (d : Dims). IsTaken (take m p C) m d p t.0) (g.roots m lives).taken.dims t.1; kept = take-keeps C m p there }
+    record { first = t.0; own = subst (λ (d : Dims). HasTakenPlan (take m p C) m d p t.0) (g.roots m lives).taken.dims t.1; kept = take-keeps C m p there }
 
-pub takes-registered : (C : Laid) (d : Dims) (p : Parts) → Takes C (take (length C.handles) p (with_root d C)) (length C.handles) d p
+pub takes-registered : (C : Laid) (d : Dims) (p : Parts) → Takes C (take (length C.handles) p (with_handle d C)) (length C.handles) d p
 takes-registered C d p =
     let m = length C.handles in
-    let E = with_root d C in
+    let E = with_handle d C in
     let there : m < length E.handles = omega (arith, length-append C.handles (handle_of d ∷ [])) in
     let t = take-takes E m p there in
-    record { first = t.0; own = subst (λ (e : Dims). IsTaken (take m p E) m e p t.0) (ap (λ h. h.dims) (root-there C d m refl)) t.1; kept = λ i e s f k. take-keeps E m p there i e s f (keeps-root C d i e s f k) }
+    record { first = t.0; own = subst (λ (e : Dims). HasTakenPlan (take m p E) m e p t.0) (ap (λ h. h.dims) (root-there C d m refl)) t.1; kept = λ i e s f k. take-keeps E m p there i e s f (keeps-root C d i e s f k) }
 
 -- dimensions, parts and reduction
 record SameShape (r s : RootState) : Type 0 where
@@ -108,7 +108,7 @@ pub child-moved : (C D : Laid) (rs new : List RootState) (c : Cell) (by : Reduct
 child-moved C D rs new c by h same cell = child-kept C D rs new c by h (record { shape = same-shape (root_at new h.number) (root_at rs h.number) same; valued = ap (λ (r : RootState). is_valued_child r h.place) same ∙ h.valued }) cell
 
 -- an open child is none of a root whose active cells are closed
-other-root : (C : Laid) (rs : List RootState) (was : Opens) (q : ℕ) (c : Cell) (by : Reduction) → fold with_shut was (active_cells (by_number rs) C q) c ≡ Some by → (h : IsOpenChild C rs c by) → h.number ≡ q → ⊥
+other-root : (C : Laid) (rs : List RootState) (was : OpenReductions) (q : ℕ) (c : Cell) (by : Reduction) → fold with_shut was (active_cells (by_number rs) C q) c ≡ Some by → (h : IsOpenChild C rs c by) → h.number ≡ q → ⊥
 other-root C rs was q c by e h same =
     let s = (root_at rs q).parts in
     let at : IsPlace s h.place = subst (λ (m : ℕ). IsPlace (root_at rs m).parts h.place) same h.inside in
@@ -127,7 +127,7 @@ changed-each f m rs P lives here all i = elim (cases_eq i m) [
 shape-put : (rs : List RootState) (o : Operand ℕ) (a : Array) → Lives rs o.name → (m : ℕ) → SameShape (root_at (change_at (with_child o.place a) o.name rs) m) (root_at rs m)
 shape-put rs o a lives = changed-each (with_child o.place a) o.name rs (λ i r. SameShape r (root_at rs i)) lives (record { dims = refl; parts = refl; reduction = refl }) (λ i. same-shape (root_at rs i) (root_at rs i) refl)
 
-placed-put : (rs : List RootState) (o : Operand ℕ) (a : Array) (u : Operand ℕ) → Lives rs o.name → IsPlaced rs u → IsPlaced (change_at (with_child o.place a) o.name rs) u
+placed-put : (rs : List RootState) (o : Operand ℕ) (a : Array) (u : Operand ℕ) → Lives rs o.name → IsPlacedAt rs u → IsPlacedAt (change_at (with_child o.place a) o.name rs) u
 placed-put rs o a u lives h = let s = shape-put rs o a lives u.name in record { lives = subst (λ (d : Dims). 0 < area d) (sym s.dims) h.lives; place = subst (λ (x : Parts). IsPlace x u.place) (sym s.parts) h.place }
 
 child-put : (r : RootState) (put place : ℕ × ℕ) (a : Array) → IsPlace r.parts put → IsPlace r.parts place → is_valued_child r place ≡ true → is_valued_child (with_child put a r) place ≡ true
@@ -136,25 +136,25 @@ child-put r put place a into at v = elim (cases_Bool (same_child_place put place
   | inr other ↦ ap (λ es. is_child r.parts place && list_all (λ (e : Option ℤ). is_some e) es) (written-other r put place a into at (λ same. false≢true (sym other ∙ ap (same_child_place put) (sym same) ∙ place-itself put))) ∙ v
 ]
 
-valued-put : (rs : List RootState) (o : Operand ℕ) (a : Array) (place : ℕ × ℕ) → IsPlaced rs o → (m : ℕ) → IsPlace (root_at rs m).parts place → is_valued_child (root_at rs m) place ≡ true → is_valued_child (root_at (change_at (with_child o.place a) o.name rs) m) place ≡ true
+valued-put : (rs : List RootState) (o : Operand ℕ) (a : Array) (place : ℕ × ℕ) → IsPlacedAt rs o → (m : ℕ) → IsPlace (root_at rs m).parts place → is_valued_child (root_at rs m) place ≡ true → is_valued_child (root_at (change_at (with_child o.place a) o.name rs) m) place ≡ true
 valued-put rs o a place placed =
     changed-each (with_child o.place a) o.name rs (λ i r. IsPlace (root_at rs i).parts place → is_valued_child (root_at rs i) place ≡ true → is_valued_child r place ≡ true) placed.lives (child-put (root_at rs o.name) o.place place a placed.place) (λ i at v. v)
 
-keeps-puts : (os : List (Operand ℕ)) (xs : List Array) (rs : List RootState) (m : ℕ) (place : ℕ × ℕ) → AllByRecursion (IsPlaced rs) os → IsPlace (root_at rs m).parts place → is_valued_child (root_at rs m) place ≡ true → Keeps (put_all_at os xs rs) rs m place
+keeps-puts : (os : List (Operand ℕ)) (xs : List Array) (rs : List RootState) (m : ℕ) (place : ℕ × ℕ) → AllByRecursion (IsPlacedAt rs) os → IsPlace (root_at rs m).parts place → is_valued_child (root_at rs m) place ≡ true → Keeps (put_all_at os xs rs) rs m place
 keeps-puts (o ∷ os) (a ∷ xs) rs m place placed at v =
     let next = change_at (with_child o.place a) o.name rs in
     let s = shape-put rs o a placed.0.lives m in
-    let rest = keeps-puts os xs next m place (each-weaker (IsPlaced rs) (IsPlaced next) (λ u h. placed-put rs o a u placed.0.lives h) os placed.1) (subst (λ (x : Parts). IsPlace x place) (sym s.parts) at) (valued-put rs o a place placed.0 m at v) in
+    let rest = keeps-puts os xs next m place (each-weaker (IsPlacedAt rs) (IsPlacedAt next) (λ u h. placed-put rs o a u placed.0.lives h) os placed.1) (subst (λ (x : Parts). IsPlace x place) (sym s.parts) at) (valued-put rs o a place placed.0 m at v) in
     record { shape = record { dims = rest.shape.dims ∙ s.dims; parts = rest.shape.parts ∙ s.parts; reduction = rest.shape.reduction ∙ s.reduction }; valued = rest.valued }
 keeps-puts os xs rs m place placed at v = record { shape = same-shape (root_at rs m) (root_at rs m) refl; valued = v }
 
 -- ---- task lines
 
-module _ (q : Program) (C : Laid) (rs : List RootState) (n : ℕ) (was : Opens) (line : Line) (set : Kernel → Bool) (t : TaskLine ℕ) (s : IsSoundTask set rs t) (at : IsAt q C rs n was (record { line = line; act = Tasks t })) where
+module _ (q : Program) (C : Laid) (rs : List RootState) (n : ℕ) (was : OpenReductions) (line : Line) (set : Kernel → Bool) (t : TaskLine ℕ) (s : IsSoundTaskAt set rs t) (at : IsAt q C rs n was (record { line = line; act = Tasks t })) where
   abbrev D : Laid
   D = fold (with_copies q.workers) C (each_of (operand_cell (by_number rs) C) (contributed t))
 
-  abbrev b : Block
+  abbrev b : TaskBlock
   b = task_block (by_number rs) D t line
 
   abbrev outs : List Array
@@ -166,14 +166,14 @@ module _ (q : Program) (C : Laid) (rs : List RootState) (n : ℕ) (was : Opens) 
   old : (c : Cell) (by : Reduction) → was c ≡ Some by → IsOpenChild D new c by
   old c by e =
       let h = at.agrees.opens c by e in
-      let placed = recursion_from_All (IsPlaced rs) (written_of t.operands) (All-filter (λ (o : Operand ℕ). is_written o.mode) (IsPlaced rs) t.operands (All-from_recursion (IsPlaced rs) t.operands s.placed)) in
+      let placed = recursion_from_All (IsPlacedAt rs) (written_of t.operands) (All-filter (λ (o : Operand ℕ). is_written o.mode) (IsPlacedAt rs) t.operands (All-from_recursion (IsPlacedAt rs) t.operands s.placed)) in
       child-kept C D rs new c by h (keeps-puts (written_of t.operands) outs rs h.number h.place placed h.inside h.valued)
       (sym (same-cells C D (fold-handles q.workers (each_of (operand_cell (by_number rs) C) (contributed t)) C) h.number (root_at rs h.number).parts h.place))
 
   none-opens : list_any (λ o. is_redux o.mode) t.operands ≡ false → AreOpenChildren D new (open_at was b)
   none-opens none c by e =
-      let quiet = ap (λ us. fold with_opening (shut_by was b) (flat_map (opening_of (by_number rs) D) us)) (none-filter t.operands none) in
-      old c by (shut-less b.closes was c by (ap (λ (f : Opens). f c) (sym quiet) ∙ e))
+      let quiet = ap (λ us. fold with_opening (shut_by was b) (flat_map (opening_for (by_number rs) D) us)) (none-filter t.operands none) in
+      old c by (shut-less b.closes was c by (ap (λ (f : OpenReductions). f c) (sym quiet) ∙ e))
 
   module _ (con : Contributes rs t (kernel_there set rs t s).call.kernel) where
     abbrev u : Operand ℕ
@@ -182,10 +182,10 @@ module _ (q : Program) (C : Laid) (rs : List RootState) (n : ℕ) (was : Opens) 
     abbrev its : Cell
     its = the_cell rs D u
 
-    placed : IsPlaced rs u
+    placed : IsPlacedAt rs u
     placed = placed-at set rs t s u (last-there con)
 
-    opened-child : (ys : List Array) → outs ≡ ys → all_dims ys ≡ child_dims rs u ∷ [] → IsOpenChild D new its con.by
+    opened-child : (ys : List Array) → outs ≡ ys → all_dims ys ≡ child_dims_at rs u ∷ [] → IsOpenChild D new its con.by
     opened-child [] e h = absurd (let m : 0 ≡ 1 = ap length h in omega (arith, m))
     opened-child (a ∷ xs) e h =
         let run : new ≡ change_at (with_child u.place a) u.name rs = ap (λ os. put_all_at os outs rs) con.written ∙ ap (λ ys. put_all_at (u ∷ []) ys rs) e in
@@ -203,11 +203,11 @@ module _ (q : Program) (C : Laid) (rs : List RootState) (n : ℕ) (was : Opens) 
     gift-opens : AreOpenChildren D new (open_at was b)
     gift-opens c by e =
         let one : open_at was b ≡ with_opening (shut_by was b) (opening_by con D) = ap (fold with_opening (shut_by was b)) (one-opens con D) in
-        let is = ap (λ (f : Opens). f c) (sym one) ∙ e in
+        let is = ap (λ (f : OpenReductions). f c) (sym one) ∙ e in
         by_which its c (IsOpenChild D new c by)
         (λ same. subst (λ (x : Cell). IsOpenChild D new x by) same
         (subst (λ (x : Reduction). IsOpenChild D new its x) (some_is con.by by (sym (phase-own its (Some con.by) (shut_by was b)) ∙ ap (λ x. cond (same_cell its x) (Some con.by) (shut_by was b x)) same ∙ is))
-        (opened-child outs refl (new_dims set rs t s ∙ ap (each_of (child_dims rs)) con.written))))
+        (opened-child outs refl (new_dims set rs t s ∙ ap (each_of (child_dims_at rs)) con.written))))
         (λ other. old c by (shut-less b.closes was c by (sym (phase-other its (Some con.by) (shut_by was b) c other) ∙ is)))
 
   task-opens : AreOpenChildren D new (open_at was b)
@@ -219,13 +219,13 @@ module _ (q : Program) (C : Laid) (rs : List RootState) (n : ℕ) (was : Opens) 
 -- ---- all statements
 
 -- the cell of an open child is the same behind a plan that is taken
-kept-child : (q : Program) (C D : Laid) (rs : List RootState) (n : ℕ) (was : Opens) (m : ℕ) (d : Dims) (p : Parts) (c : Cell) (by : Reduction) → Agrees q C rs n was → Takes C D m d p → (h : IsOpenChild C rs c by) → cell_of C h.number (root_at rs h.number).parts h.place ≡ cell_of D h.number (root_at rs h.number).parts h.place
+kept-child : (q : Program) (C D : Laid) (rs : List RootState) (n : ℕ) (was : OpenReductions) (m : ℕ) (d : Dims) (p : Parts) (c : Cell) (by : Reduction) → Agrees q C rs n was → Takes C D m d p → (h : IsOpenChild C rs c by) → cell_of C h.number (root_at rs h.number).parts h.place ≡ cell_of D h.number (root_at rs h.number).parts h.place
 kept-child q C D rs n was m d p c by g t h =
     let r = root_at rs h.number in
     let b = g.roots h.number h.lives in
     kept-cell C D h.number r.dims r.parts b.first h.place b.taken (t.kept h.number r.dims r.parts b.first b.taken)
 
-plan-opens : (q : Program) (C : Laid) (rs : List RootState) (n : ℕ) (was : Opens) (line : Line) (m : ℕ) (p : Parts) → Lives rs m → Agrees q C rs n was
+plan-opens : (q : Program) (C : Laid) (rs : List RootState) (n : ℕ) (was : OpenReductions) (line : Line) (m : ℕ) (p : Parts) → Lives rs m → Agrees q C rs n was
     → AreOpenChildren (take m p C) (change_at (with_parts p) m rs) (open_at was (plan_block (root_at rs m) (active_cells (by_number rs) C m) (take m p C) m p line))
 plan-opens q C rs n was line m p lives g =
     let r = root_at rs m in
@@ -233,7 +233,7 @@ plan-opens q C rs n was line m p lives g =
     let new = change_at (with_parts p) m rs in
     let old = active_cells (by_number rs) C m in
     let t = takes-planned q C rs n was m p lives g in
-    cond_both (same_parts r.parts p) (closing line [] []) (closing line old (cond (is_valued r) (each_of (paste_row (cell_of D m r.parts) (cell_of D m p) line) (pastes_of r.dims r.parts p)) [])) (λ (b : Block). AreOpenChildren D new (open_at was b))
+    cond_both (same_parts r.parts p) (closing line [] []) (closing line old (cond (is_valued r) (each_of (paste_row (cell_of D m r.parts) (cell_of D m p) line) (pastes_of r.dims r.parts p)) [])) (λ (b : TaskBlock). AreOpenChildren D new (open_at was b))
     (λ e c by is.
     (let h = g.opens c by is in
     let stays = changed-each (with_parts p) m rs (λ i x. x ≡ root_at rs i) lives (λ j. with_parts (sym (parts-are r.parts p e) j) r) (λ i. refl) h.number in
@@ -241,21 +241,21 @@ plan-opens q C rs n was line m p lives g =
     (λ e c by is. (let h = g.opens c by (shut-less old was c by is) in child-moved C D rs new c by h (changed-beside (with_parts p) m h.number rs (other-root C rs was m c by is h)) (kept-child q C D rs n was m r.dims p c by g t h)))
 
 -- another root is changed, whose active cells are closed
-closed-opens : (q : Program) (C : Laid) (rs new : List RootState) (n : ℕ) (was : Opens) (m : ℕ) → Agrees q C rs n was → ((i : ℕ) → (i ≡ m → ⊥) → root_at new i ≡ root_at rs i) → AreOpenChildren C new (fold with_shut was (active_cells (by_number rs) C m))
+closed-opens : (q : Program) (C : Laid) (rs new : List RootState) (n : ℕ) (was : OpenReductions) (m : ℕ) → Agrees q C rs n was → ((i : ℕ) → (i ≡ m → ⊥) → root_at new i ≡ root_at rs i) → AreOpenChildren C new (fold with_shut was (active_cells (by_number rs) C m))
 closed-opens q C rs new n was m g others c by is =
     let h = g.opens c by (shut-less (active_cells (by_number rs) C m) was c by is) in
     child-moved C C rs new c by h (others h.number (other-root C rs was m c by is h)) refl
 
-register-opens : (q : Program) (C : Laid) (rs : List RootState) (n : ℕ) (was : Opens) (x : RootState) (d : Dims) (p : Parts) → Agrees q C rs n was → AreOpenChildren (take (length C.handles) p (with_root d C)) (rs ++ x ∷ []) was
+register-opens : (q : Program) (C : Laid) (rs : List RootState) (n : ℕ) (was : OpenReductions) (x : RootState) (d : Dims) (p : Parts) → Agrees q C rs n was → AreOpenChildren (take (length C.handles) p (with_handle d C)) (rs ++ x ∷ []) was
 register-opens q C rs n was x d p g c by is =
     let h = g.opens c by is in
-    let D = take (length C.handles) p (with_root d C) in
+    let D = take (length C.handles) p (with_handle d C) in
     child-moved C D rs (rs ++ x ∷ []) c by h (pushed-beside rs x h.number (λ same. omega (arith, same, lives-below rs h.number h.lives))) (kept-child q C D rs n was (length C.handles) d p c by g (takes-registered C d p) h)
 
 pub opens-step : (has : Kernel → Bool) (q : Program) → OpensStep has q
 opens-step has q C rs n was s sound at = by_act s.act sound at
   where
-    by_act : (a : Act ℕ) → IsSound has rs a → IsAt q C rs n was (record { line = s.line; act = a }) → let x = step_of q.workers (by_number rs) C s.line a in AreOpenChildren x.laid (apply_at a rs) (open_at was x.block)
+    by_act : (a : Act ℕ) → IsSoundAt has rs a → IsAt q C rs n was (record { line = s.line; act = a }) → let x = step_of q.workers (by_number rs) C s.line a in AreOpenChildren x.laid (apply_at a rs) (open_at was x.block)
     by_act (Registers r) sound at = register-opens q C rs n was (registered_root r) r.dims r.parts at.agrees
     by_act (Plans m p) sound at = plan-opens q C rs n was s.line m p sound.0.lives at.agrees
     by_act (Reduces m by) sound at = λ c other is.

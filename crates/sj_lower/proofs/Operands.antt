@@ -33,13 +33,13 @@ use Rattle.sj_meaning.specs.State.{RootState, is_valued_child}
 use Rattle.sj_meaning.specs.Meaning.{written_of}
 use Rattle.sj_meaning.specs.Numbers.{root_at}
 use Rattle.sj_meaning.specs.Sound.{mode_fits, is_lawful_for, needs_value}
-use Rattle.sj_phases.specs.declared.phase.Opening.{Opening}
+use Rattle.sj_phases.specs.declared.phase.PhaseOpening.{PhaseOpening}
 use Rattle.sj_phases.specs.Expand.{first_units}
 use Rattle.sj_phases.specs.Plain.{units}
 use Rattle.sj_phases.proofs.Lists.{all-from, filter-last, last-has, one-case}
-use Rattle.sj_lower.specs.Laid.{Laid, first_copy}
-use Rattle.sj_lower.specs.SoundAt.{IsPlaced, IsSoundTask, clashes, has_value, is_aliased, modes_fit}
-use Rattle.sj_lower.specs.Step.{by_number, contributed, opening_of, task_block}
+use Rattle.sj_lower.specs.Laid.{Laid, first_copy_in}
+use Rattle.sj_lower.specs.SoundAt.{IsPlacedAt, IsSoundTaskAt, clashes_at, has_value, is_aliased_at, modes_fit_at}
+use Rattle.sj_lower.specs.Step.{by_number, contributed, opening_for, task_block}
 use Rattle.sj_lower.specs.Whole.{AreLaid}
 use Rattle.sj_lower.proofs.Doing.{kernel_there, the_cell}
 use Rattle.sj_lower.proofs.Keeping.{HaveRoots}
@@ -68,10 +68,10 @@ reads_only FormalR R e h = (refl, refl, refl)
 reads_only FormalScratch Scratch e h = (refl, refl, refl)
 reads_only f m e h = absurd (cc)
 
-ends-in : (fs : List Formal) (f : Formal) (os : List (Operand ℕ)) → modes_fit (fs ++ f ∷ []) os ≡ true → length os ≡ length fs + 1 → list_all (λ g. not (is_output g)) fs ≡ true → EndsIn os
+ends-in : (fs : List Formal) (f : Formal) (os : List (Operand ℕ)) → modes_fit_at (fs ++ f ∷ []) os ≡ true → length os ≡ length fs + 1 → list_all (λ g. not (is_output g)) fs ≡ true → EndsIn os
 ends-in [] f (o ∷ []) e l h = record { before = []; last = o; is = refl; reads = tt }
 ends-in (g ∷ fs) f (o ∷ os) e l h =
-    let m = and_parts (mode_fits g o.mode) (modes_fit (fs ++ f ∷ []) os) e in
+    let m = and_parts (mode_fits g o.mode) (modes_fit_at (fs ++ f ∷ []) os) e in
     let n = and_parts (not (is_output g)) (list_all (λ g. not (is_output g)) fs) h in
     let rest = ends-in fs f os m.1 (omega (arith, l)) n.1 in
     record { before = o ∷ rest.before; last = rest.last; is = ap (λ us. o ∷ us) rest.is; reads = (reads_only g o.mode m.0 n.0, rest.reads) }
@@ -91,9 +91,9 @@ none-filter (o ∷ os) e = let c = or_parts (is_redux o.mode) (list_any (λ o. i
 -- ---- tasks
 
 -- what holds of each operand of a sound task
-module _ (has : Kernel → Bool) (rs : List RootState) (t : TaskLine ℕ) (s : IsSoundTask has rs t) (o : Operand ℕ) (there : Contains t.operands o) where
-  pub placed-at : IsPlaced rs o
-  placed-at = All-contains (IsPlaced rs) t.operands o (All-from_recursion (IsPlaced rs) t.operands s.placed) there
+module _ (has : Kernel → Bool) (rs : List RootState) (t : TaskLine ℕ) (s : IsSoundTaskAt has rs t) (o : Operand ℕ) (there : Contains t.operands o) where
+  pub placed-at : IsPlacedAt rs o
+  placed-at = All-contains (IsPlacedAt rs) t.operands o (All-from_recursion (IsPlacedAt rs) t.operands s.placed) there
 
   pub lawful-at : is_lawful has rs t.codelet o ≡ true
   lawful-at = All-contains (λ (u : Operand ℕ). is_lawful has rs t.codelet u ≡ true) t.operands o (AllPass-from_list_all (is_lawful has rs t.codelet) t.operands s.lawful) there
@@ -119,7 +119,7 @@ pub lawful-contribution : (has : Kernel → Bool) (id : Codelet) (r : Option Red
 lawful-contribution has id None m law redux = absurd (false≢true (implied (is_redux m) false (and_rest (not (is_commute m) || commutes_in has id) (not (is_redux m) || false) law) redux))
 lawful-contribution has id (Some by) m law redux = (by, refl, implied (is_redux m) (contributes_in has id by) (and_rest (not (is_commute m) || commutes_in has id) (not (is_redux m) || contributes_in has id by) law) redux)
 
-pub contributes-there : (has : Kernel → Bool) (rs : List RootState) (t : TaskLine ℕ) (s : IsSoundTask has rs t) → list_any (λ o. is_redux o.mode) t.operands ≡ true → Contributes rs t (kernel_there has rs t s).call.kernel
+pub contributes-there : (has : Kernel → Bool) (rs : List RootState) (t : TaskLine ℕ) (s : IsSoundTaskAt has rs t) → list_any (λ o. is_redux o.mode) t.operands ≡ true → Contributes rs t (kernel_there has rs t s).call.kernel
 contributes-there has rs t s any =
     let kernel = kernel_there has rs t s in
     let k = kernel.call.kernel in
@@ -127,7 +127,7 @@ contributes-there has rs t s any =
     let by = lawful-contribution has t.codelet (reduction_of rs found.0.name) found.0.mode (lawful-at has rs t s found.0 found.1) found.2 in
     let contributes = and_middle (has k) (contributes_of k by.0) (has_reduction has by.0) (subst (λ (o : Option Kernel). (elim o as (λ _. Bool) [ None ↦ false | Some j ↦ has j && contributes_of j by.0 && has_reduction has by.0 ]) ≡ true) kernel.call.is by.2) in
     let last_row = updates-last k (contributing-commutes k by.0 contributes) in
-    let e = ends-in last_row.first FormalRW t.operands (ap (λ fs. modes_fit fs t.operands) (sym last_row.formals) ∙ kernel.modes) (kernel.count ∙ ap length last_row.formals ∙ length-append last_row.first (FormalRW ∷ [])) last_row.read_only in
+    let e = ends-in last_row.first FormalRW t.operands (ap (λ fs. modes_fit_at fs t.operands) (sym last_row.formals) ∙ kernel.modes) (kernel.count ∙ ap length last_row.formals ∙ length-append last_row.first (FormalRW ∷ [])) last_row.read_only in
     let read = λ (o : Operand ℕ) (h : Contains e.before o). All-contains IsRead e.before o (All-from_recursion IsRead e.before e.reads) h in
     let same : e.last ≡ found.0 = elim (Contains-push_cases e.before e.last found.0 (subst (λ (os : List (Operand ℕ)). Contains os found.0) e.is found.1)) [
       | inl first ↦ absurd (false≢true (sym (read found.0 first).0 ∙ found.2))
@@ -158,14 +158,14 @@ module _ {rs : List RootState} {t : TaskLine ℕ} {kernel : Kernel} (con : Contr
   only-last o among redux = one-case con.last o (subst (λ (os : List (Operand ℕ)). Contains os o) con.contributed (Contains-filter (λ (u : Operand ℕ). is_redux u.mode) t.operands o redux among))
 
   -- what it opens
-  abbrev pub opening_by : Laid → Opening
-  opening_by D = let c = the_cell rs D con.last in record { cell = c; by = con.by; copies = first_copy D c; valued = is_valued_child (root_at rs con.last.name) con.last.place }
+  abbrev pub opening_by : Laid → PhaseOpening
+  opening_by D = let c = the_cell rs D con.last in record { cell = c; by = con.by; copies = first_copy_in D c; valued = is_valued_child (root_at rs con.last.name) con.last.place }
 
-  pub one-opens : (D : Laid) → flat_map (opening_of (by_number rs) D) (contributed t) ≡ opening_by D ∷ []
+  pub one-opens : (D : Laid) → flat_map (opening_for (by_number rs) D) (contributed t) ≡ opening_by D ∷ []
   one-opens D =
       let c = the_cell rs D con.last in
-      ap (flat_map (opening_of (by_number rs) D)) con.contributed
-      ∙ ap (λ (o : Option Reduction). (elim o as (λ _. List Opening) [ None ↦ [] | Some by ↦ (record { cell = c; by = by; copies = first_copy D c; valued = is_valued_child (root_at rs con.last.name) con.last.place }) ∷ [] ]) ++ []) con.reduction
+      ap (flat_map (opening_for (by_number rs) D)) con.contributed
+      ∙ ap (λ (o : Option Reduction). (elim o as (λ _. List PhaseOpening) [ None ↦ [] | Some by ↦ (record { cell = c; by = by; copies = first_copy_in D c; valued = is_valued_child (root_at rs con.last.name) con.last.place }) ∷ [] ]) ++ []) con.reduction
 
   pub one-unit : (D : Laid) (line : Line) → units (task_block (by_number rs) D t line) ≡ first_units (opening_by D) line
   one-unit D line = ap (flat_map (λ o. first_units o line)) (one-opens D) ∙ append-nil (first_units (opening_by D) line)
@@ -177,7 +177,7 @@ no_clash true true c d e h k = and_parts c d (not-false (c && d) e)
 no_clash a b c d e h k = absurd (cc)
 
 -- two that don't clash have one cell only where both only read it
-pub both-read : (p : Program) (C : Laid) (n : ℕ) (k : Contents) (rs : List RootState) (o u : Operand ℕ) → AreLaid C → HaveRoots p C n k rs → IsPlaced rs o → IsPlaced rs u → clashes o u ≡ false → the_cell rs C o ≡ the_cell rs C u → (is_read_only o.mode ≡ true) × (is_read_only u.mode ≡ true)
+pub both-read : (p : Program) (C : Laid) (n : ℕ) (k : Contents) (rs : List RootState) (o u : Operand ℕ) → AreLaid C → HaveRoots p C n k rs → IsPlacedAt rs o → IsPlacedAt rs u → clashes_at o u ≡ false → the_cell rs C o ≡ the_cell rs C u → (is_read_only o.mode ≡ true) × (is_read_only u.mode ≡ true)
 both-read p C n k rs o u laid has ho hu e same =
     let r = has o.name ho.lives in
     let s = has u.name hu.lives in
@@ -185,8 +185,8 @@ both-read p C n k rs o u laid has ho hu e same =
     no_clash (nat_eq o.name u.name) (same_child_place o.place u.place) (is_read_only o.mode) (is_read_only u.mode) e ((Decides-eqb o.name u.name).1 one.0) (ap (same_child_place o.place) (sym one.2) ∙ place-itself o.place)
 
 -- no operand clashes with a later one
-pub none-clash : (os : List (Operand ℕ)) → is_aliased os ≡ false → AllPairs (λ o u. clashes o u ≡ false) os
+pub none-clash : (os : List (Operand ℕ)) → is_aliased_at os ≡ false → AllPairs (λ o u. clashes_at o u ≡ false) os
 none-clash [] e = λ i j d before within. absurd (omega arith)
 none-clash (o ∷ os) e =
-    let c = or_parts (list_any (clashes o) os) (is_aliased os) e in
-    AllPairs-cons (λ (v u : Operand ℕ). clashes v u ≡ false) o os (all-from (λ (u : Operand ℕ). clashes o u ≡ false) os (none-passes (clashes o) os c.0)) (none-clash os c.1)
+    let c = or_parts (list_any (clashes_at o) os) (is_aliased_at os) e in
+    AllPairs-cons (λ (v u : Operand ℕ). clashes_at v u ≡ false) o os (all-from (λ (u : Operand ℕ). clashes_at o u ≡ false) os (none-passes (clashes_at o) os c.0)) (none-clash os c.1)

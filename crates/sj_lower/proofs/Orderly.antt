@@ -41,20 +41,20 @@ use Rattle.sj_meaning.specs.declared.job.Init.{Init}
 use Rattle.sj_meaning.specs.Statement.{Operand, TaskLine}
 use Rattle.sj_meaning.specs.State.{RootState, is_valued_child}
 use Rattle.sj_meaning.specs.Numbers.{root_at}
-use Rattle.sj_phases.specs.declared.phase.Opening.{Opening}
-use Rattle.sj_phases.specs.Block.{Block}
-use Rattle.sj_phases.specs.Plain.{Opens, with_shut, with_opening, shut_by, open_at}
+use Rattle.sj_phases.specs.declared.phase.PhaseOpening.{PhaseOpening}
+use Rattle.sj_phases.specs.Block.{TaskBlock}
+use Rattle.sj_phases.specs.Plain.{OpenReductions, with_shut, with_opening, shut_by, open_at}
 use Rattle.sj_phases.specs.Orderly.{Contributes as ContributesTo, IsOrderlyTask, AreOpenings, IsDelivered, IsOrderly}
 use Rattle.sj_phases.proofs.Delivered.{IsOther, delivered-more, delivered-none}
 use Rattle.sj_phases.proofs.Expanded.{shuts}
 use Rattle.sj_phases.proofs.Lists.{first-has, all-from}
 use Rattle.sj_phases.proofs.Logging.{by_which, phase-own, phase-other}
 use Rattle.sj_phases.proofs.Owning.{copy-is}
-use Rattle.sj_lower.specs.Laid.{Laid, cell_of, info_at, first_copy}
+use Rattle.sj_lower.specs.Laid.{Laid, cell_of, info_at, first_copy_in}
 use Rattle.sj_lower.specs.Rows.{load_rows, paste_row, deliver_row}
-use Rattle.sj_lower.specs.SoundAt.{IsPlaced, IsSoundTask, clashes}
-use Rattle.sj_lower.specs.Step.{by_number, closing, is_other_access, opening_of, operand_cell, access_of, task_row, task_block, a_delivery, print_block}
-use Rattle.sj_lower.specs.Whole.{AreLaid, IsTaken, HaveCopies}
+use Rattle.sj_lower.specs.SoundAt.{IsPlacedAt, IsSoundTaskAt, clashes_at}
+use Rattle.sj_lower.specs.Step.{by_number, closing, is_other_access, opening_for, operand_cell, access_of, task_row, task_block, a_delivery, print_block}
+use Rattle.sj_lower.specs.Whole.{AreLaid, HasTakenPlan, HaveCopies}
 use Rattle.sj_lower.proofs.Agrees.{AreOpenChildren}
 use Rattle.sj_lower.proofs.Contents.{same_cell-is}
 use Rattle.sj_lower.proofs.Doing.{the_cell, kernel_there}
@@ -74,7 +74,7 @@ first-of p x c w h = by_option (cell_info p c).partials refl
     by_option None e = absurd (false≢true (ap (λ (o : Option Cell). is_some o) (sym e) ∙ h.has_copies))
     by_option (Some f) e = (f, e, ap (λ (d : Cell). d.0) (h.is ∙ copy-is p c f w e))
 
-pub plain-child : (p : Program) (D : Laid) (m : ℕ) (d : Dims) (s : Parts) (f : ℕ) (place : ℕ × ℕ) → HasCells p D → HaveCopies p.workers D → AreLaid D → IsTaken D m d s f → IsPlace s place → IsPlain p (cell_of D m s place)
+pub plain-child : (p : Program) (D : Laid) (m : ℕ) (d : Dims) (s : Parts) (f : ℕ) (place : ℕ × ℕ) → HasCells p D → HaveCopies p.workers D → AreLaid D → HasTakenPlan D m d s f → IsPlace s place → IsPlain p (cell_of D m s place)
 plain-child p D m d s f place cells copies laid t at c w h =
     let o = first-of p (cell_of D m s place) c w h in
     elim (cells.news c.0 o.0 o.1) [
@@ -85,12 +85,12 @@ plain-child p D m d s f place cells copies laid t at c w h =
 -- ---- tasks that contribute to nothing
 
 -- the access is to a cell that is no partial copy, with no open phase
-pub record IsBeside (p : Program) (opens : Opens) (a : Access) : Type 0 where
+pub record IsBeside (p : Program) (opens : OpenReductions) (a : Access) : Type 0 where
   pub plain : IsPlain p a.cell
   pub direct : is_redux a.mode ≡ false
   pub shut : opens a.cell ≡ None
 
-beside-task : (p : Program) (opens : Opens) (l : Lowered) → All (IsBeside p opens) l.accesses → IsOrderlyTask p opens l
+beside-task : (p : Program) (opens : OpenReductions) (l : Lowered) → All (IsBeside p opens) l.accesses → IsOrderlyTask p opens l
 beside-task p opens l h = record {
   plain = All-weaker (IsBeside p opens) (λ (a : Access). IsPlain p a.cell) (λ a b. b.plain) l.accesses h;
   shut = All-filter (λ (a : Access). not (is_scratch a.mode)) (λ (a : Access). not (is_redux a.mode) ≡ true → opens a.cell ≡ None) l.accesses (All-weaker (IsBeside p opens) (λ (a : Access). not (is_redux a.mode) ≡ true → opens a.cell ≡ None) (λ a b mode. b.shut) l.accesses h);
@@ -101,11 +101,11 @@ delivered-quiet : (ls : List Lowered) → All IsOther ls → IsDelivered ls []
 delivered-quiet ls none = delivered-more [] ls [] none delivered-none
 
 -- the task makes such accesses alone, and delivers nothing
-abbrev IsQuiet : Program → Opens → Lowered → Type 0
+abbrev IsQuiet : Program → OpenReductions → Lowered → Type 0
 IsQuiet p opens l = All (IsBeside p opens) l.accesses × (kernel_of l.codelet ≡ Some Deliver → ⊥)
 
 -- a block that opens nothing
-quiet-block : (p : Program) (was : Opens) (line : Line) (cs : List Cell) (ls : List Lowered) → AllByRecursion (IsQuiet p (fold with_shut was cs)) ls → IsOrderly p was (closing line cs ls)
+quiet-block : (p : Program) (was : OpenReductions) (line : Line) (cs : List Cell) (ls : List Lowered) → AllByRecursion (IsQuiet p (fold with_shut was cs)) ls → IsOrderly p was (closing line cs ls)
 quiet-block p was line cs ls h =
     let opens = fold with_shut was cs in
     record {
@@ -114,14 +114,14 @@ quiet-block p was line cs ls h =
       delivered = delivered-quiet ls (All-weaker (IsQuiet p opens) IsOther (λ l q. q.1) ls (All-from_recursion (IsQuiet p opens) ls h));
     }
 
-pub orderly-nothing : (p : Program) (was : Opens) (line : Line) (cs : List Cell) → IsOrderly p was (closing line cs [])
+pub orderly-nothing : (p : Program) (was : OpenReductions) (line : Line) (cs : List Cell) → IsOrderly p was (closing line cs [])
 orderly-nothing p was line cs = quiet-block p was line cs [] tt
 
 place-of : (s : Parts) (x : ℕ × ℕ) → Contains (places s) x → IsPlace s x
 place-of s x h = All-contains (IsPlace s) (places s) x (All-from_recursion (IsPlace s) (places s) (each-places (IsPlace s) s (λ y k. k))) h
 
 -- what is open behind them was so before
-pub shut-less : (cs : List Cell) (was : Opens) (c : Cell) (by : Reduction) → fold with_shut was cs c ≡ Some by → was c ≡ Some by
+pub shut-less : (cs : List Cell) (was : OpenReductions) (c : Cell) (by : Reduction) → fold with_shut was cs c ≡ Some by → was c ≡ Some by
 shut-less [] was c by e = e
 shut-less (d ∷ cs) was c by e =
     let rest : with_shut was d c ≡ Some by = shut-less cs (with_shut was d) c by e in
@@ -129,10 +129,10 @@ shut-less (d ∷ cs) was c by e =
     (λ same. absurd (none_isn't by (sym (subst (λ (x : Cell). with_shut was d x ≡ None) same (phase-own d None was)) ∙ rest)))
     (λ other. sym (phase-other d None was c other) ∙ rest)
 
-module _ (p : Program) (D : Laid) (was : Opens) (line : Line) (cells : HasCells p D) (laid : AreLaid D) (copies : HaveCopies p.workers D) where
+module _ (p : Program) (D : Laid) (was : OpenReductions) (line : Line) (cells : HasCells p D) (laid : AreLaid D) (copies : HaveCopies p.workers D) where
   -- ---- loads
 
-  pub orderly-loads : (m : ℕ) (d : Dims) (s : Parts) (f : ℕ) (i : Init) → IsTaken D m d s f → ((place : ℕ × ℕ) → IsPlace s place → was (cell_of D m s place) ≡ None) → IsOrderly p was (closing line [] (load_rows i d s (cell_of D m s) line))
+  pub orderly-loads : (m : ℕ) (d : Dims) (s : Parts) (f : ℕ) (i : Init) → HasTakenPlan D m d s f → ((place : ℕ × ℕ) → IsPlace s place → was (cell_of D m s place) ≡ None) → IsOrderly p was (closing line [] (load_rows i d s (cell_of D m s) line))
   orderly-loads m d s f i t fresh =
       quiet-block p was line [] (load_rows i d s (cell_of D m s) line) (each-load (IsQuiet p was) i d s (cell_of D m s) line (λ xs place at. (loaded place at, λ e. absurd (cc))) (λ a b place at. (loaded place at, λ e. absurd (cc))))
     where
@@ -141,7 +141,7 @@ module _ (p : Program) (D : Laid) (was : Opens) (line : Line) (cells : HasCells 
 
   -- ---- pastes
 
-  pub orderly-pastes : (m : ℕ) (d : Dims) (s t : Parts) (f g : ℕ) (cs : List Cell) → IsTaken D m d s f → IsTaken D m d t g → ((place : ℕ × ℕ) → IsPlace s place → Contains cs (cell_of D m s place)) → ((place : ℕ × ℕ) → IsPlace t place → was (cell_of D m t place) ≡ None)
+  pub orderly-pastes : (m : ℕ) (d : Dims) (s t : Parts) (f g : ℕ) (cs : List Cell) → HasTakenPlan D m d s f → HasTakenPlan D m d t g → ((place : ℕ × ℕ) → IsPlace s place → Contains cs (cell_of D m s place)) → ((place : ℕ × ℕ) → IsPlace t place → was (cell_of D m t place) ≡ None)
       → IsOrderly p was (closing line cs (each_of (paste_row (cell_of D m s) (cell_of D m t) line) (pastes_of d s t)))
   orderly-pastes m d s t f g cs old new closed fresh =
       let row = paste_row (cell_of D m s) (cell_of D m t) line in
@@ -159,9 +159,9 @@ module _ (p : Program) (D : Laid) (was : Opens) (line : Line) (cells : HasCells 
 
 -- ---- task lines
 
-module _ (p : Program) (D : Laid) (n : ℕ) (k : Contents) (rs : List RootState) (was : Opens) (line : Line) (cells : HasCells p D) (laid : AreLaid D) (copies : HaveCopies p.workers D) (has : HaveRoots p D n k rs) (opened : AreOpenChildren D rs was)
-    (set : Kernel → Bool) (t : TaskLine ℕ) (s : IsSoundTask set rs t) where
-  abbrev b : Block
+module _ (p : Program) (D : Laid) (n : ℕ) (k : Contents) (rs : List RootState) (was : OpenReductions) (line : Line) (cells : HasCells p D) (laid : AreLaid D) (copies : HaveCopies p.workers D) (has : HaveRoots p D n k rs) (opened : AreOpenChildren D rs was)
+    (set : Kernel → Bool) (t : TaskLine ℕ) (s : IsSoundTaskAt set rs t) where
+  abbrev b : TaskBlock
   b = task_block (by_number rs) D t line
 
   abbrev l : Lowered
@@ -181,7 +181,7 @@ module _ (p : Program) (D : Laid) (n : ℕ) (k : Contents) (rs : List RootState)
   silent = All-from_recursion IsOther (l ∷ []) (s.silent, tt)
 
   -- the task, by the phases that are open at it
-  orderly-task : (opens : Opens) → ((o : Operand ℕ) → Contains t.operands o → is_data o.mode ≡ true → is_redux o.mode ≡ false → opens (the_cell rs D o) ≡ None) → ((o : Operand ℕ) → Contains t.operands o → is_redux o.mode ≡ true → ContributesTo opens l (the_cell rs D o)) → IsOrderlyTask p opens l
+  orderly-task : (opens : OpenReductions) → ((o : Operand ℕ) → Contains t.operands o → is_data o.mode ≡ true → is_redux o.mode ≡ false → opens (the_cell rs D o) ≡ None) → ((o : Operand ℕ) → Contains t.operands o → is_redux o.mode ≡ true → ContributesTo opens l (the_cell rs D o)) → IsOrderlyTask p opens l
   orderly-task opens none gifts = record {
     plain = All-map (λ (a : Access). IsPlain p a.cell) (access_of (by_number rs) D) t.operands (all-from (λ (o : Operand ℕ). IsPlain p (the_cell rs D o)) t.operands plain);
     shut = all-from (λ (a : Access). not (is_redux a.mode) ≡ true → opens a.cell ≡ None) (data_operands l) (λ a h mode.
@@ -194,10 +194,10 @@ module _ (p : Program) (D : Laid) (n : ℕ) (k : Contents) (rs : List RootState)
   -- no contribution
   pub orderly-direct : list_any (λ o. is_redux o.mode) t.operands ≡ false → IsOrderly p was b
   orderly-direct none =
-      let quiet = ap (flat_map (opening_of (by_number rs) D)) (none-filter t.operands none) in
+      let quiet = ap (flat_map (opening_for (by_number rs) D)) (none-filter t.operands none) in
       record {
         tasks = All-from_recursion (IsOrderlyTask p (open_at was b)) (l ∷ []) (
-          orderly-task (open_at was b) (λ o h data' direct. ap (λ (os : List Opening). fold with_opening (shut_by was b) os (the_cell rs D o)) quiet ∙ shut o h data' direct)
+          orderly-task (open_at was b) (λ o h data' direct. ap (λ (os : List PhaseOpening). fold with_opening (shut_by was b) os (the_cell rs D o)) quiet ∙ shut o h data' direct)
               (λ o h redux. absurd (false≢true (sym (none-passes (λ (u : Operand ℕ). is_redux u.mode) t.operands none o h) ∙ redux))),
           tt,
         );
@@ -213,7 +213,7 @@ module _ (p : Program) (D : Laid) (n : ℕ) (k : Contents) (rs : List RootState)
     abbrev c : Cell
     c = the_cell rs D u
 
-    placed : IsPlaced rs u
+    placed : IsPlacedAt rs u
     placed = placed-at set rs t s u (last-there con)
 
     one_open : open_at was b ≡ with_opening (shut_by was b) (opening_by con D)
@@ -225,7 +225,7 @@ module _ (p : Program) (D : Laid) (n : ℕ) (k : Contents) (rs : List RootState)
         (let same = same_cell-is c (the_cell rs D o) e in
         let its = placed-at set rs t s o h in
         let unread = λ (r : is_read_only u.mode ≡ true). false≢true (ap is_read_only (sym con.redux) ∙ r) in
-        elim (AllPairs-two (λ (v w : Operand ℕ). clashes v w ≡ false) t.operands o u (none-clash t.operands s.apart) h (last-there con)) [
+        elim (AllPairs-two (λ (v w : Operand ℕ). clashes_at v w ≡ false) t.operands o u (none-clash t.operands s.apart) h (last-there con)) [
           | inl one ↦ false≢true (sym direct ∙ ap (λ (x : Operand ℕ). is_redux x.mode) one ∙ ap is_redux con.redux)
           | inr clear ↦ elim clear [ inl e ↦ unread (both-read p D n k rs o u laid has its placed e (sym same)).1 | inr e ↦ unread (both-read p D n k rs u o laid has placed its e same).0 ]
         ]))
@@ -239,7 +239,7 @@ module _ (p : Program) (D : Laid) (n : ℕ) (k : Contents) (rs : List RootState)
         let modes = contribution-modes set rs t s con in
         record {
           by = con.by;
-          is_open = ap (λ (f : Opens). f c) one_open ∙ phase-own c (Some con.by) (shut_by was b);
+          is_open = ap (λ (f : OpenReductions). f c) one_open ∙ phase-own c (Some con.by) (shut_by was b);
           contribution = record { kernel = k.call.kernel; codelet = k.call.is; contributes = con.contributes; operand = gives };
           one = modes.0;
           modes = map-map (λ (a : Access). a.mode) (access_of (by_number rs) D) t.operands ∙ modes.1;
@@ -258,7 +258,7 @@ module _ (p : Program) (D : Laid) (n : ℕ) (k : Contents) (rs : List RootState)
     orderly-gift = record {
       tasks = All-from_recursion (IsOrderlyTask p (open_at was b)) (l ∷ []) (
         orderly-task (open_at was b)
-            (λ o h data' direct. ap (λ (f : Opens). f (the_cell rs D o)) one_open ∙ phase-other c (Some con.by) (shut_by was b) (the_cell rs D o) (apart o h direct) ∙ shut o h data' direct)
+            (λ o h data' direct. ap (λ (f : OpenReductions). f (the_cell rs D o)) one_open ∙ phase-other c (Some con.by) (shut_by was b) (the_cell rs D o) (apart o h direct) ∙ shut o h data' direct)
             (λ o h redux. subst (λ (x : Operand ℕ). ContributesTo (open_at was b) l (the_cell rs D x)) (only-last con o h redux) gift),
         tt,
       );
@@ -266,7 +266,7 @@ module _ (p : Program) (D : Laid) (n : ℕ) (k : Contents) (rs : List RootState)
         record {
           used = (l, first-has l [], gives);
           valued = goes_on;
-          copies = cells.kept c.0 (first_copy D c) (copied.1 ∙ ap (λ (o : Option Cell). Some (unwrap_or o (record { 0 = length D.rows }))) (sym copied.1));
+          copies = cells.kept c.0 (first_copy_in D c) (copied.1 ∙ ap (λ (o : Option Cell). Some (unwrap_or o (record { 0 = length D.rows }))) (sym copied.1));
         },
         tt,
       );
@@ -303,7 +303,7 @@ zip-numbers n d s print a (x ∷ ps) = ap (λ xs. a ∷ xs) (zip-numbers n d s p
 abbrev pub cells_by : Laid → ℕ → RootState → List Cell
 cells_by D m r = each_of (cell_of D m r.parts) (places r.parts)
 
-pub orderly-prints : (p : Program) (D : Laid) (was : Opens) (line : Line) (m : ℕ) (r : RootState) (f print : ℕ) → HasCells p D → AreLaid D → HaveCopies p.workers D → IsTaken D m r.dims r.parts f
+pub orderly-prints : (p : Program) (D : Laid) (was : OpenReductions) (line : Line) (m : ℕ) (r : RootState) (f print : ℕ) → HasCells p D → AreLaid D → HaveCopies p.workers D → HasTakenPlan D m r.dims r.parts f
     → IsOrderly p was (print_block m r (cells_by D m r) print line)
 orderly-prints p D was line m r f print cells laid copies t =
     let cs = cells_by D m r in

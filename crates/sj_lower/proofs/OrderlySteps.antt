@@ -18,12 +18,12 @@ use Rattle.sj_meaning.specs.Act.{Act, Register as Registers, Plan as Plans, Redu
 use Rattle.sj_meaning.specs.Statement.{Operand, TaskLine, Register}
 use Rattle.sj_meaning.specs.State.{RootState, is_valued}
 use Rattle.sj_meaning.specs.Numbers.{root_at}
-use Rattle.sj_phases.specs.Plain.{Opens}
+use Rattle.sj_phases.specs.Plain.{OpenReductions}
 use Rattle.sj_phases.specs.Orderly.{IsOrderly}
 use Rattle.sj_lower.specs.Cells.{same_parts}
-use Rattle.sj_lower.specs.Laid.{Laid, cell_of, info_at, first_copy, take, with_root, with_copies}
+use Rattle.sj_lower.specs.Laid.{Laid, cell_of, info_at, first_copy_in, take, with_handle, with_copies}
 use Rattle.sj_lower.specs.Rows.{paste_row}
-use Rattle.sj_lower.specs.SoundAt.{Lives, IsSound, IsSoundTask, IsSoundRegistration}
+use Rattle.sj_lower.specs.SoundAt.{Lives, IsSoundAt, IsSoundTaskAt, IsSoundRegistrationAt}
 use Rattle.sj_lower.specs.Step.{by_number, closing, contributed, operand_cell, active_cells, step_of}
 use Rattle.sj_lower.specs.Whole.{AreLaid}
 use Rattle.sj_lower.proofs.Agrees.{AreOpenChildren, Agrees}
@@ -41,7 +41,7 @@ use Rattle.sj_lower.proofs.Stepping.{keeps-step}
 use Rattle.sj_lower.proofs.Taken.{cell-inside, cells-apart}
 
 -- a child's cell on which no phase is open, where its plan is taken now: no open child is that of its root and plan
-not-open : (q : Program) (C D : Laid) (rs : List RootState) (n : ℕ) (was : Opens) (m : ℕ) (d : Dims) (s : Parts) (place : ℕ × ℕ) → AreLaid D → Agrees q C rs n was → Takes C D m d s → IsPlace s place → ((i : ℕ) → Lives rs i → m ≡ i → s ≡ (root_at rs i).parts → ⊥) → was (cell_of D m s place) ≡ None
+not-open : (q : Program) (C D : Laid) (rs : List RootState) (n : ℕ) (was : OpenReductions) (m : ℕ) (d : Dims) (s : Parts) (place : ℕ × ℕ) → AreLaid D → Agrees q C rs n was → Takes C D m d s → IsPlace s place → ((i : ℕ) → Lives rs i → m ≡ i → s ≡ (root_at rs i).parts → ⊥) → was (cell_of D m s place) ≡ None
 not-open q C D rs n was m d s place laid g t at none = by_option (was (cell_of D m s place)) refl
   where
     by_option : (o : Option Reduction) → was (cell_of D m s place) ≡ o → was (cell_of D m s place) ≡ None
@@ -54,18 +54,18 @@ not-open q C D rs n was m d s place laid g t at none = by_option (was (cell_of D
         let one = cells-apart D m h.number d r.dims s r.parts t.first b.first place h.place laid t.own kept at h.inside (h.is ∙ kept-cell C D h.number r.dims r.parts b.first h.place b.taken kept) in
         absurd (none h.number h.lives one.0 one.1)
 
-module _ (has : Kernel → Bool) (q : Program) (C : Laid) (rs : List RootState) (n : ℕ) (was : Opens) (line : Line) where
-  registers : (r : Register ℕ) → IsSoundRegistration rs r → IsAt q C rs n was (record { line = line; act = Registers r }) → IsOrderly q was (step_of q.workers (by_number rs) C line (Registers r)).block
+module _ (has : Kernel → Bool) (q : Program) (C : Laid) (rs : List RootState) (n : ℕ) (was : OpenReductions) (line : Line) where
+  registers : (r : Register ℕ) → IsSoundRegistrationAt rs r → IsAt q C rs n was (record { line = line; act = Registers r }) → IsOrderly q was (step_of q.workers (by_number rs) C line (Registers r)).block
   registers r s at =
       let g = at.agrees in
       let m = length C.handles in
-      let D = take m r.parts (with_root r.dims C) in
+      let D = take m r.parts (with_handle r.dims C) in
       let k = keeps-step has q C n rs line (Registers r) s g.laid g.copies g.roots g.counted at.cells at.stand in
       let t = takes-registered C r.dims r.parts in
       orderly-loads q D was line at.cells k.laid k.copies m r.dims r.parts t.first r.init t.own (λ place inside.
       not-open q C D rs n was m r.dims r.parts place k.laid g t inside (λ i lives same parts. omega (arith, same, g.counted, lives-below rs i lives)))
 
-  plans : (m : ℕ) (p : Parts) → IsSound has rs (Plans m p) → IsAt q C rs n was (record { line = line; act = Plans m p }) → IsOrderly q was (step_of q.workers (by_number rs) C line (Plans m p)).block
+  plans : (m : ℕ) (p : Parts) → IsSoundAt has rs (Plans m p) → IsAt q C rs n was (record { line = line; act = Plans m p }) → IsOrderly q was (step_of q.workers (by_number rs) C line (Plans m p)).block
   plans m p s at =
       let g = at.agrees in
       let r = root_at rs m in
@@ -81,7 +81,7 @@ module _ (has : Kernel → Bool) (q : Program) (C : Laid) (rs : List RootState) 
       (λ place inside. subst (Contains old) (kept-cell C D m r.dims r.parts b.first place b.taken kept) (Contains-map (cell_of C m r.parts) (places r.parts) place (place-in r.parts place inside)))
       (λ place inside. not-open q C D rs n was m r.dims p place k.laid g t inside (λ i lives same parts. false≢true (sym e ∙ ap (same_parts r.parts) (parts ∙ ap (λ j. (root_at rs j).parts) (sym same)) ∙ parts-itself r.parts)))) (λ f. orderly-nothing q was line old))
 
-  tasks : (t : TaskLine ℕ) → IsSoundTask has rs t → IsAt q C rs n was (record { line = line; act = Tasks t }) → IsOrderly q was (step_of q.workers (by_number rs) C line (Tasks t)).block
+  tasks : (t : TaskLine ℕ) → IsSoundTaskAt has rs t → IsAt q C rs n was (record { line = line; act = Tasks t }) → IsOrderly q was (step_of q.workers (by_number rs) C line (Tasks t)).block
   tasks t s at =
       let g = at.agrees in
       let D = fold (with_copies q.workers) C (each_of (operand_cell (by_number rs) C) (contributed t)) in
@@ -99,11 +99,11 @@ module _ (has : Kernel → Bool) (q : Program) (C : Laid) (rs : List RootState) 
             let inside = cell-inside C u.name (root_at rs u.name).dims (root_at rs u.name).parts b.first u.place g.laid b.taken placed.place in
             let one : D ≡ with_copies q.workers C c = ap (λ us. fold (with_copies q.workers) C (each_of (operand_cell (by_number rs) C) us)) con.contributed in
             orderly-gift q D n (contents_before q n) rs was line at.cells k.laid k.copies roots opened has t s con
-            (first_copy C c, (λ i. (info_at (one i) (same-cells C D handles u.name (root_at rs u.name).parts u.place i)).partials) ∙ copied-first q.workers c C inside)
+            (first_copy_in C c, (λ i. (info_at (one i) (same-cells C D handles u.name (root_at rs u.name).parts u.place i)).partials) ∙ copied-first q.workers c C inside)
         | inr none ↦ orderly-direct q D n (contents_before q n) rs was line at.cells k.laid k.copies roots opened has t s none
       ]
 
-  pub orderly-step : (a : Act ℕ) → IsSound has rs a → IsAt q C rs n was (record { line = line; act = a }) → IsOrderly q was (step_of q.workers (by_number rs) C line a).block
+  pub orderly-step : (a : Act ℕ) → IsSoundAt has rs a → IsAt q C rs n was (record { line = line; act = a }) → IsOrderly q was (step_of q.workers (by_number rs) C line a).block
   orderly-step (Registers r) s at = registers r s at
   orderly-step (Plans m p) s at = plans m p s at
   orderly-step (Reduces m by) s at = orderly-nothing q was line []

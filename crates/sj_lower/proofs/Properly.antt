@@ -22,17 +22,17 @@ use Rattle.sj_core.specs.Proper.{Proper, FitsCodelet, IsUnaliased, IsCopyOf, IsP
 use Rattle.sj_meaning.specs.Act.{Statement}
 use Rattle.sj_meaning.specs.State.{RootState}
 use Rattle.sj_meaning.specs.Numbers.{apply_at}
-use Rattle.sj_phases.specs.declared.phase.Opening.{Opening}
-use Rattle.sj_phases.specs.Block.{Block}
+use Rattle.sj_phases.specs.declared.phase.PhaseOpening.{PhaseOpening}
+use Rattle.sj_phases.specs.Block.{TaskBlock}
 use Rattle.sj_phases.specs.Rows.{init_row}
 use Rattle.sj_phases.specs.Expand.{first_units}
-use Rattle.sj_phases.specs.Plain.{Opens, direct, direct_access, units, plain_rows, with_opening, shut_by, open_at}
+use Rattle.sj_phases.specs.Plain.{OpenReductions, direct, direct_access, units, plain_rows, with_opening, shut_by, open_at}
 use Rattle.sj_phases.specs.Orderly.{IsOrderlyTask, AreOpenings, IsOrderly, AreOrderly, IsDelivered}
 use Rattle.sj_phases.proofs.Good.{direct-redux}
 use Rattle.sj_lower.specs.Laid.{Laid, info_at}
 use Rattle.sj_lower.specs.Cells.{copy_info}
-use Rattle.sj_lower.specs.SoundAt.{AreSound}
-use Rattle.sj_lower.specs.Step.{by_number, Step, step_of, steps_from}
+use Rattle.sj_lower.specs.SoundAt.{AreSoundAt}
+use Rattle.sj_lower.specs.Step.{by_number, LoweringStep, step_of, steps_from}
 use Rattle.sj_lower.specs.Whole.{HaveCopies}
 use Rattle.sj_lower.proofs.Agrees.{Agrees}
 use Rattle.sj_lower.proofs.Contents.{task_at}
@@ -54,7 +54,7 @@ abbrev AreOrdinary : Program → Lowered → Type 0
 AreOrdinary p l = All (IsOrdinary p) l.accesses
 
 -- of the cells that are contributed to
-openings-plain : (p : Program) (tasks : List Lowered) (was : Opens) (os : List Opening) (line : Line) → AreOpenings p tasks was os → ((l : Lowered) → Contains tasks l → (a : Access) → Contains l.accesses a → IsPlain p a.cell) → All (AreOrdinary p) (flat_map (λ o. first_units o line) os)
+openings-plain : (p : Program) (tasks : List Lowered) (was : OpenReductions) (os : List PhaseOpening) (line : Line) → AreOpenings p tasks was os → ((l : Lowered) → Contains tasks l → (a : Access) → Contains l.accesses a → IsPlain p a.cell) → All (AreOrdinary p) (flat_map (λ o. first_units o line) os)
 openings-plain p tasks was [] line h plain = All-nil (AreOrdinary p)
 openings-plain p tasks was (o ∷ os) line h plain =
     let unit = init_row o.by line o.cell in
@@ -62,7 +62,7 @@ openings-plain p tasks was (o ∷ os) line h plain =
     let first = cond_both o.valued [] (unit ∷ []) (All (AreOrdinary p)) (λ e. All-nil (AreOrdinary p)) (λ e. All-cons (AreOrdinary p) unit [] its (All-nil (AreOrdinary p))) in
     All-append (AreOrdinary p) (first_units o line) (flat_map (λ o. first_units o line) os) first (openings-plain p tasks (with_opening was o) os line h.1 plain)
 
-ordinary-block : (p : Program) (was : Opens) (b : Block) → IsOrderly p was b → All (AreOrdinary p) (plain_rows b)
+ordinary-block : (p : Program) (was : OpenReductions) (b : TaskBlock) → IsOrderly p was b → All (AreOrdinary p) (plain_rows b)
 ordinary-block p was b h =
     All-append (AreOrdinary p) (units b) (each_of direct b.tasks) (openings-plain p b.tasks (shut_by was b) b.opens b.line h.openings (λ l k a among. All-contains (λ (x : Access). IsPlain p x.cell) l.accesses a (All-contains (IsOrderlyTask p (open_at was b)) b.tasks l h.tasks k).plain among))
     (All-map (AreOrdinary p) direct b.tasks (All-weaker (IsOrderlyTask p (open_at was b)) (λ (l : Lowered). AreOrdinary p (direct l)) (λ l t.
@@ -70,18 +70,18 @@ ordinary-block p was b h =
 
 -- ---- all statements
 
-abbrev pub blocks_from : ℕ → List RootState → Laid → List (Statement ℕ) → List Block
-blocks_from workers rs C ss = each_of (λ (x : Step). x.block) (steps_from workers by_number apply_at rs C ss)
+abbrev pub blocks_from : ℕ → List RootState → Laid → List (Statement ℕ) → List TaskBlock
+blocks_from workers rs C ss = each_of (λ (x : LoweringStep). x.block) (steps_from workers by_number apply_at rs C ss)
 
 module _ (has : Kernel → Bool) (q : Program) where
-  pub orderly-all : (ss : List (Statement ℕ)) (C : Laid) (rs : List RootState) (n : ℕ) (was : Opens) → AreSound has rs ss → AllAgree q C rs n was ss → AreOrderly q was (blocks_from q.workers rs C ss)
+  pub orderly-all : (ss : List (Statement ℕ)) (C : Laid) (rs : List RootState) (n : ℕ) (was : OpenReductions) → AreSoundAt has rs ss → AllAgree q C rs n was ss → AreOrderly q was (blocks_from q.workers rs C ss)
   orderly-all [] C rs n was sound all = tt
   orderly-all (s ∷ ss) C rs n was sound all =
       let x = step_of q.workers (by_number rs) C s.line s.act in
       (orderly-step has q C rs n was s.line s.act sound.0 all.0, orderly-all ss x.laid (apply_at s.act rs) (n + length (plain_rows x.block)) (open_at was x.block) sound.1 all.1)
 
   -- each task is good, and so are its accesses
-  goods-all : (ss : List (Statement ℕ)) (C : Laid) (rs : List RootState) (n : ℕ) (was : Opens) → AreSound has rs ss → AllAgree q C rs n was ss → AreGood q n (rows_from q.workers rs C ss) × All (AreOrdinary q) (rows_from q.workers rs C ss)
+  goods-all : (ss : List (Statement ℕ)) (C : Laid) (rs : List RootState) (n : ℕ) (was : OpenReductions) → AreSoundAt has rs ss → AllAgree q C rs n was ss → AreGood q n (rows_from q.workers rs C ss) × All (AreOrdinary q) (rows_from q.workers rs C ss)
   goods-all [] C rs n was sound all = (tt, All-nil (AreOrdinary q))
   goods-all (s ∷ ss) C rs n was sound all =
       let x = step_of q.workers (by_number rs) C s.line s.act in
@@ -92,18 +92,18 @@ module _ (has : Kernel → Bool) (q : Program) where
       )
 
 -- at the end
-pub agrees-end : (q : Program) (ss : List (Statement ℕ)) (C : Laid) (rs : List RootState) (n : ℕ) (was : Opens) → AllAgree q C rs n was ss → (new : List RootState) × (m : ℕ) × (opens : Opens) × Agrees q (laid_from q.workers rs C ss) new m opens
+pub agrees-end : (q : Program) (ss : List (Statement ℕ)) (C : Laid) (rs : List RootState) (n : ℕ) (was : OpenReductions) → AllAgree q C rs n was ss → (new : List RootState) × (m : ℕ) × (opens : OpenReductions) × Agrees q (laid_from q.workers rs C ss) new m opens
 agrees-end q [] C rs n was all = (rs, n, was, all)
 agrees-end q (s ∷ ss) C rs n was all =
     let x = step_of q.workers (by_number rs) C s.line s.act in
     agrees-end q ss x.laid (apply_at s.act rs) (n + length (plain_rows x.block)) (open_at was x.block) all.1
 
-module _ (has : Kernel → Bool) (q : Program) (ss : List (Statement ℕ)) (C : Laid) (rs : List RootState) (was : Opens) (sound : AreSound has rs ss) (all : AllAgree q C rs 0 was ss) (cells : q.cells ≡ (laid_from q.workers rs C ss).rows) (tasks : q.tasks ≡ rows_from q.workers rs C ss)
+module _ (has : Kernel → Bool) (q : Program) (ss : List (Statement ℕ)) (C : Laid) (rs : List RootState) (was : OpenReductions) (sound : AreSoundAt has rs ss) (all : AllAgree q C rs 0 was ss) (cells : q.cells ≡ (laid_from q.workers rs C ss).rows) (tasks : q.tasks ≡ rows_from q.workers rs C ss)
     (stand : Stand q 0 (rows_from q.workers rs C ss)) (delivered : IsDelivered q.tasks q.deliveries) (few_tasks : length q.tasks ≤ 2 ^ 22) (few_cells : length q.cells ≤ 2 ^ 22) where
   abbrev D : Laid
   D = laid_from q.workers rs C ss
 
-  end : (new : List RootState) × (m : ℕ) × (opens : Opens) × Agrees q D new m opens
+  end : (new : List RootState) × (m : ℕ) × (opens : OpenReductions) × Agrees q D new m opens
   end = agrees-end q ss C rs 0 was all
 
   abbrev copies : HaveCopies q.workers D

@@ -12,14 +12,14 @@ use Rattle.sj_core.specs.Laws.{IsLawful}
 use Rattle.sj_core.specs.Proper.{Proper}
 use Rattle.sj_meaning.specs.Act.{Statement}
 use Rattle.sj_meaning.specs.Numbers.{printed_at}
-use Rattle.sj_phases.specs.Block.{Block}
+use Rattle.sj_phases.specs.Block.{TaskBlock}
 use Rattle.sj_phases.specs.Expand.{nothing, expand, cells_below, last_block}
-use Rattle.sj_phases.specs.Plain.{Opens, Plainly, plain_next, plain_program, none_open, open_at}
+use Rattle.sj_phases.specs.Plain.{OpenReductions, Plainly, plain_next, plain_program, none_open, open_at}
 use Rattle.sj_phases.specs.Orderly.{IsOrderly, AreOrderly, IsDelivered}
-use Rattle.sj_phases.specs.Law.{program_by, handed_over, MayExpand}
+use Rattle.sj_phases.specs.Law.{program_of_blocks, handed_over, MayExpand}
 use Rattle.sj_phases.proofs.Expanded.{delivered, proper, holds_plain, last-shuts, start}
 use Rattle.sj_lower.specs.Laid.{no_cells}
-use Rattle.sj_lower.specs.SoundAt.{AreSound}
+use Rattle.sj_lower.specs.SoundAt.{AreSoundAt}
 use Rattle.sj_lower.proofs.Agrees.{Agrees}
 use Rattle.sj_lower.proofs.Copying.{copies-none}
 use Rattle.sj_lower.proofs.Folding.{Stand, stand-there}
@@ -46,25 +46,25 @@ stands : (q : Program) (ls : List Lowered) → q.tasks ≡ ls → Stand q 0 ls
 stands q ls e = stand-there q [] ls [] (e ∙ sym (append-nil ls))
 
 -- a program with the cells and the tasks of the statements agrees with the roots before each
-agrees-all : (has : Kernel → Bool) (q : Program) (ss : List (Statement ℕ)) → AreSound has [] ss → q.cells ≡ (laid_from q.workers [] no_cells ss).rows → q.tasks ≡ rows_from q.workers [] no_cells ss → AllAgree q no_cells [] 0 none_open ss
+agrees-all : (has : Kernel → Bool) (q : Program) (ss : List (Statement ℕ)) → AreSoundAt has [] ss → q.cells ≡ (laid_from q.workers [] no_cells ss).rows → q.tasks ≡ rows_from q.workers [] no_cells ss → AllAgree q no_cells [] 0 none_open ss
 agrees-all has q ss sound cells tasks =
     let grows : Grows (laid_from q.workers [] no_cells ss).rows q.cells = subst (λ (rows : List CellInfo). Grows (laid_from q.workers [] no_cells ss).rows rows) (sym cells) (grows-refl (laid_from q.workers [] no_cells ss).rows) in
     let begins : Grows [] q.cells = subst (λ (rows : List CellInfo). Grows [] rows) (sym cells) (laid-grows q.workers [] no_cells ss) in
     all-agree has q (opens-step has q) ss no_cells [] 0 none_open sound (agrees-start q begins) grows (stands q (rows_from q.workers [] no_cells ss) tasks)
 
 -- a block more that has no tasks
-orderly-last : (p : Program) (was : Opens) (bs : List Block) (b : Block) → AreOrderly p was bs → ((w : Opens) → IsOrderly p w b) → AreOrderly p was (bs ++ b ∷ [])
+orderly-last : (p : Program) (was : OpenReductions) (bs : List TaskBlock) (b : TaskBlock) → AreOrderly p was bs → ((w : OpenReductions) → IsOrderly p w b) → AreOrderly p was (bs ++ b ∷ [])
 orderly-last p was [] b h last = (last was, tt)
 orderly-last p was (c ∷ bs) b h last = (h.0, orderly-last p (open_at was c) bs b h.1 last)
 
-module _ (has : Kernel → Bool) (workers : ℕ) (ss : List (Statement ℕ)) (line : Line) (sound : AreSound has [] ss) where
+module _ (has : Kernel → Bool) (workers : ℕ) (ss : List (Statement ℕ)) (line : Line) (sound : AreSoundAt has [] ss) where
   abbrev rows : List CellInfo
   rows = (laid_from workers [] no_cells ss).rows
 
-  abbrev own : List Block
+  abbrev own : List TaskBlock
   own = blocks_from workers [] no_cells ss
 
-  abbrev pub blocks : List Block
+  abbrev pub blocks : List TaskBlock
   blocks = own ++ last_block (length rows) line ∷ []
 
   abbrev q : Program
@@ -94,7 +94,7 @@ module _ (has : Kernel → Bool) (workers : ℕ) (ss : List (Statement ℕ)) (li
   pub orderly : AreOrderly q none_open blocks
   orderly = orderly-last q none_open own (last_block (length rows) line) (orderly-all has q ss no_cells [] 0 none_open sound all) (λ w. orderly-nothing q w line (cells_below (length rows)))
 
-  pub are-delivered : IsDelivered (program_by rows workers blocks).tasks (program_by rows workers blocks).deliveries
+  pub are-delivered : IsDelivered (program_of_blocks rows workers blocks).tasks (program_of_blocks rows workers blocks).deliveries
   are-delivered = (delivered q rows workers blocks orderly).expanded
 
   can : length q.tasks ≤ 2 ^ 22 → length rows ≤ 2 ^ 22 → length (expand workers nothing blocks).tasks ≤ 2 ^ 22 → MayExpand rows workers blocks
@@ -106,12 +106,12 @@ module _ (has : Kernel → Bool) (workers : ℕ) (ss : List (Statement ℕ)) (li
   }
 
   -- the program is proper
-  pub is-proper : length q.tasks ≤ 2 ^ 22 → length rows ≤ 2 ^ 22 → length (expand workers nothing blocks).tasks ≤ 2 ^ 22 → Proper (program_by rows workers blocks)
+  pub is-proper : length q.tasks ≤ 2 ^ 22 → length rows ≤ 2 ^ 22 → length (expand workers nothing blocks).tasks ≤ 2 ^ 22 → Proper (program_of_blocks rows workers blocks)
   is-proper few_plain few_cells few = proper rows workers blocks (can few_plain few_cells few)
 
   -- by any set that obeys the laws it hands over the children of what the print statements find
-  pub hands-over : (other : Kernel → Bool) → length q.tasks ≤ 2 ^ 22 → length rows ≤ 2 ^ 22 → length (expand workers nothing blocks).tasks ≤ 2 ^ 22 → IsLawful out other (program_by rows workers blocks) → 0 < workers
-      → map (handed_over (program_by rows workers blocks)) (program_by rows workers blocks).deliveries ≡ pieces_from 0 (printed_at [] ss)
+  pub hands-over : (other : Kernel → Bool) → length q.tasks ≤ 2 ^ 22 → length rows ≤ 2 ^ 22 → length (expand workers nothing blocks).tasks ≤ 2 ^ 22 → IsLawful out other (program_of_blocks rows workers blocks) → 0 < workers
+      → map (handed_over (program_of_blocks rows workers blocks)) (program_of_blocks rows workers blocks).deliveries ≡ pieces_from 0 (printed_at [] ss)
   hands-over other few_plain few_cells few lawful staffed =
       (holds_plain rows workers blocks (can few_plain few_cells few) other lawful staffed).handed
       ∙ ap (map (handed_over q)) deliveries-are

@@ -18,18 +18,18 @@ use Rattle.sj_meaning.specs.Table.{Table}
 use Rattle.sj_meaning.specs.View.{count_after, count_from, says_value, values_said}
 use Rattle.sj_meaning.proofs.Timely.{length-apply}
 use Rattle.sj_meaning.proofs.Views.{counts-grow}
-use Rattle.sj_phases.specs.Block.{Block}
+use Rattle.sj_phases.specs.Block.{TaskBlock}
 use Rattle.sj_phases.specs.Does.{over_after}
-use Rattle.sj_phases.specs.Expand.{Expansion, nothing, prepared, expanded, expand, first_above, last_block, program_of, most}
-use Rattle.sj_phases.specs.Plain.{Opens, open_at, plain_rows}
+use Rattle.sj_phases.specs.Expand.{Expansion, nothing, prepared, expanded, expand, first_above, last_block, program_from, most}
+use Rattle.sj_phases.specs.Plain.{OpenReductions, open_at, plain_rows}
 use Rattle.sj_phases.proofs.Blocks.{GoesOn, goes-expanded, goes-closes}
 use Rattle.sj_lower.specs.declared.steps.Steps.{Steps}
 use Rattle.sj_lower.specs.Adds.{Goes, finds_at}
 use Rattle.sj_lower.specs.Laid.{Laid, no_cells, cell_of, take}
-use Rattle.sj_lower.specs.Running.{AreReady, line_or, steps_at, blocks_in, Leaves}
-use Rattle.sj_lower.specs.SoundAt.{IsSound, AreSound}
-use Rattle.sj_lower.specs.Step.{Step, by_number, closing, step_of, steps_from, laid_by, last_line, blocks_by, program_by, cells_above, tasks_above, operand_cell, contributed, active_cells}
-use Rattle.sj_lower.specs.Whole.{IsWhole}
+use Rattle.sj_lower.specs.Running.{MayComeInTurn, line_or, steps_at, blocks_in, LeavesStatements}
+use Rattle.sj_lower.specs.SoundAt.{IsSoundAt, AreSoundAt}
+use Rattle.sj_lower.specs.Step.{LoweringStep, by_number, closing, step_of, steps_from, laid_by, last_line, blocks_by, program_by, cells_above, tasks_above, operand_cell, contributed, active_cells}
+use Rattle.sj_lower.specs.Whole.{AreLaidFor}
 use Rattle.sj_lower.proofs.Agrees.{Agrees}
 use Rattle.sj_lower.proofs.Copying.{copies-prints}
 use Rattle.sj_lower.proofs.Following.{AllAgree}
@@ -43,19 +43,19 @@ use Rattle.sj_plan.specs.Paste.{pastes_of}
 
 -- ---- what is so before each statement
 
-whole-of : (q : Program) (C : Laid) (rs : List RootState) (n : ℕ) (was : Opens) → Agrees q C rs n was → IsWhole q.workers rs C
+whole-of : (q : Program) (C : Laid) (rs : List RootState) (n : ℕ) (was : OpenReductions) → Agrees q C rs n was → AreLaidFor q.workers rs C
 whole-of q C rs n was g = record { laid = g.laid; copies = g.copies; counted = g.counted; taken = λ m lives. let r = g.roots m lives in (r.first, r.taken) }
 
 -- ---- each print statement gives a task
 
-module _ (has : Kernel → Bool) (w : ℕ) (rs : List RootState) (C : Laid) (E : Expansion) (line : Line) (whole : IsWhole w rs C) (few : C.prints ≤ length E.tasks) where
+module _ (has : Kernel → Bool) (w : ℕ) (rs : List RootState) (C : Laid) (E : Expansion) (line : Line) (whole : AreLaidFor w rs C) (few : C.prints ≤ length E.tasks) where
   stays : (a : Act ℕ) → (step_of w (by_number rs) C line a).laid.prints ≡ C.prints → let x = step_of w (by_number rs) C line a in x.laid.prints ≤ length (expanded w E x.block).tasks
   stays a e =
       let b = (step_of w (by_number rs) C line a).block in
       let g = goes-expanded w E b in
       omega (arith, e, few, ap length g.1, length-append E.tasks g.0)
 
-  more-prints : (a : Act ℕ) → IsSound has rs a → let x = step_of w (by_number rs) C line a in x.laid.prints ≤ length (expanded w E x.block).tasks
+  more-prints : (a : Act ℕ) → IsSoundAt has rs a → let x = step_of w (by_number rs) C line a in x.laid.prints ≤ length (expanded w E x.block).tasks
   more-prints (Registers r) s = stays (Registers r) (take-prints _ (length C.handles) r.parts)
   more-prints (Plans n p) s = stays (Plans n p) (take-prints C n p)
   more-prints (Tasks t) s = stays (Tasks t) (copies-prints w (map (operand_cell (by_number rs) C) (contributed t)) C)
@@ -73,8 +73,8 @@ module _ (has : Kernel → Bool) (w : ℕ) (rs : List RootState) (C : Laid) (E :
 
 -- ---- each statement may come next
 
-pub are-ready : (T : Table) (has : Kernel → Bool) (q : Program) (ss : List Kept) (rs : List RootState) (C : Laid) (E : Expansion) (n : ℕ) (was : Opens) → length T.names ≤ 4096 → count_from (length rs) ss ≤ length T.names → AreSound has rs (statements_from T (length rs) ss)
-    → AreTold T (statements_from T (length rs) ss) → Knows T rs → values_said ss ≡ values_at rs (statements_from T (length rs) ss) → AllAgree q C rs n was (statements_from T (length rs) ss) → C.prints ≤ length E.tasks → AreReady T q.workers rs C E ss
+pub are-ready : (T : Table) (has : Kernel → Bool) (q : Program) (ss : List Kept) (rs : List RootState) (C : Laid) (E : Expansion) (n : ℕ) (was : OpenReductions) → length T.names ≤ 4096 → count_from (length rs) ss ≤ length T.names → AreSoundAt has rs (statements_from T (length rs) ss)
+    → AreTold T (statements_from T (length rs) ss) → Knows T rs → values_said ss ≡ values_at rs (statements_from T (length rs) ss) → AllAgree q C rs n was (statements_from T (length rs) ss) → C.prints ≤ length E.tasks → MayComeInTurn T q.workers rs C E ss
 are-ready T has q [] rs C E n was table named sound told knows values agree prints = tt
 are-ready T has q (s ∷ ss) rs C E n was table named sound told knows values agree prints =
     let k = length rs in
@@ -85,7 +85,7 @@ are-ready T has q (s ∷ ss) rs C E n was table named sound told knows values ag
     let whole = whole-of q C rs n was agree.0.agrees in
     let m = n + length (plain_rows x.block) in
     let now = open_at was x.block in
-    let next = subst (λ i. (count_from i ss ≤ length T.names) × AreSound has (apply_at act rs) (statements_from T i ss) × AreTold T (statements_from T i ss) × (values_said ss ≡ values_at (apply_at act rs) (statements_from T i ss)) × AllAgree q x.laid (apply_at act rs) m now (statements_from T i ss)) (sym more) (named, sound.1, told.1, says.1, agree.1) in (
+    let next = subst (λ i. (count_from i ss ≤ length T.names) × AreSoundAt has (apply_at act rs) (statements_from T i ss) × AreTold T (statements_from T i ss) × (values_said ss ≡ values_at (apply_at act rs) (statements_from T i ss)) × AllAgree q x.laid (apply_at act rs) m now (statements_from T i ss)) (sym more) (named, sound.1, told.1, says.1, agree.1) in (
       record {
         has = has;
         whole = whole;
@@ -101,12 +101,12 @@ are-ready T has q (s ∷ ss) rs C E n was table named sound told knows values ag
 
 -- ---- before the first statement
 
-pub leaves-start : (T : Table) (workers : ℕ) (ss : List Kept) → AreReady T workers [] no_cells nothing ss → Leaves T workers (steps_at workers [] no_cells T ss) [] no_cells nothing None (record { 0 = 0 }) ss
+pub leaves-start : (T : Table) (workers : ℕ) (ss : List Kept) → MayComeInTurn T workers [] no_cells nothing ss → LeavesStatements T workers (steps_at workers [] no_cells T ss) [] no_cells nothing None (record { 0 = 0 }) ss
 leaves-start T workers ss ready = record { ready = ready; laid = refl; line = refl; expansion = refl; cells = refl; tasks = λ bs. refl }
 
 -- ---- one statement more
 
-first-or : (workers : ℕ) (E : Expansion) (b : Block) (bs : List Block) (over : Option Line) → line_or over (first_above workers E (b ∷ bs)) ≡ line_or (over_after over b.line (expanded workers E b)) (first_above workers (expanded workers E b) bs)
+first-or : (workers : ℕ) (E : Expansion) (b : TaskBlock) (bs : List TaskBlock) (over : Option Line) → line_or over (first_above workers E (b ∷ bs)) ≡ line_or (over_after over b.line (expanded workers E b)) (first_above workers (expanded workers E b) bs)
 first-or workers E b bs (Some line) = refl
 first-or workers E b bs None = by_test (nat_lt most (length (expanded workers E b).tasks))
   where
@@ -118,58 +118,58 @@ block-line : (workers : ℕ) (rs : List RootState) (C : Laid) (line : Line) (a :
 block-line workers rs C line (Plans n p) =
     let old = active_cells (by_number rs) C n in
     let pastes = map (paste_row (cell_of (take n p C) n (root_at rs n).parts) (cell_of (take n p C) n p) line) (pastes_of (root_at rs n).dims (root_at rs n).parts p) in
-    cond_both (same_parts (root_at rs n).parts p) (closing line [] []) (closing line old (cond (is_valued (root_at rs n)) pastes [])) (λ (b : Block). b.line ≡ line) (λ e. refl) (λ e. refl)
+    cond_both (same_parts (root_at rs n).parts p) (closing line [] []) (closing line old (cond (is_valued (root_at rs n)) pastes [])) (λ (b : TaskBlock). b.line ≡ line) (λ e. refl) (λ e. refl)
 block-line workers rs C line a = refl
 
-pub leaves-next : (T : Table) (workers : ℕ) (xs : List Step) (rs : List RootState) (C : Laid) (E : Expansion) (old new : Steps) (last : Line) (s : Kept) (ss : List Kept) → Leaves T workers xs rs C E old.phases.over last (s ∷ ss)
+pub leaves-next : (T : Table) (workers : ℕ) (xs : List LoweringStep) (rs : List RootState) (C : Laid) (E : Expansion) (old new : Steps) (last : Line) (s : Kept) (ss : List Kept) → LeavesStatements T workers xs rs C E old.phases.over last (s ∷ ss)
     → (let act = act_at T (length rs) s.act in let x = step_of workers (by_number rs) C s.line act in Goes old new s.line (apply_at act rs) x.laid (expanded workers E x.block))
-    → (let act = act_at T (length rs) s.act in let x = step_of workers (by_number rs) C s.line act in Leaves T workers xs (apply_at act rs) x.laid (expanded workers E x.block) new.phases.over s.line ss)
+    → (let act = act_at T (length rs) s.act in let x = step_of workers (by_number rs) C s.line act in LeavesStatements T workers xs (apply_at act rs) x.laid (expanded workers E x.block) new.phases.over s.line ss)
 leaves-next T workers xs rs C E old new last s ss l g =
     let k = length rs in
     let act = act_at T k s.act in
     let x = step_of workers (by_number rs) C s.line act in
-    let later : List Step = steps_from workers by_number apply_at (apply_at act rs) x.laid (statements_from T (count_after k s.act) ss) in
+    let later : List LoweringStep = steps_from workers by_number apply_at (apply_at act rs) x.laid (statements_from T (count_after k s.act) ss) in
     let same : later ≡ steps_at workers (apply_at act rs) x.laid T ss = ap (λ i. steps_from workers by_number apply_at (apply_at act rs) x.laid (statements_from T i ss)) (sym (length-apply T k s.act rs refl)) in
     let line = block-line workers rs C s.line act in
     record {
       ready = l.ready.1;
-      laid = l.laid ∙ ap (fold (λ (D : Laid) (y : Step). y.laid) x.laid) same;
-      line = l.line ∙ (λ i. fold (λ (m : Line) (y : Step). y.block.line) (line i) (same i));
+      laid = l.laid ∙ ap (fold (λ (D : Laid) (y : LoweringStep). y.laid) x.laid) same;
+      line = l.line ∙ (λ i. fold (λ (m : Line) (y : LoweringStep). y.block.line) (line i) (same i));
       expansion = l.expansion ∙ ap (λ ys. expand workers (expanded workers E x.block) (blocks_in ys)) same;
-      cells = l.cells ∙ ap (λ b. option_map (λ (y : Step). y.block.line) (cond b (Some x) (find (λ (y : Step). nat_lt most (length y.laid.rows)) later))) (le-ltb most (length x.laid.rows) g.at.layout.lays.few) ∙ ap cells_above same;
+      cells = l.cells ∙ ap (λ b. option_map (λ (y : LoweringStep). y.block.line) (cond b (Some x) (find (λ (y : LoweringStep). nat_lt most (length y.laid.rows)) later))) (le-ltb most (length x.laid.rows) g.at.layout.lays.few) ∙ ap cells_above same;
       tasks = λ bs. l.tasks bs ∙ first-or workers E x.block (blocks_in later ++ bs) old.phases.over
           ∙ (λ i. line_or ((ap (λ m. over_after old.phases.over m (expanded workers E x.block)) line ∙ sym g.over) i) (first_above workers (expanded workers E x.block) (blocks_in (same i) ++ bs)));
     }
 
 -- with it there are too many cells
-pub leaves-full : (T : Table) (workers : ℕ) (xs : List Step) (rs : List RootState) (C : Laid) (E : Expansion) (over : Option Line) (last : Line) (s : Kept) (ss : List Kept) → Leaves T workers xs rs C E over last (s ∷ ss)
+pub leaves-full : (T : Table) (workers : ℕ) (xs : List LoweringStep) (rs : List RootState) (C : Laid) (E : Expansion) (over : Option Line) (last : Line) (s : Kept) (ss : List Kept) → LeavesStatements T workers xs rs C E over last (s ∷ ss)
     → most < length (step_of workers (by_number rs) C s.line (act_at T (length rs) s.act)).laid.rows → cells_above xs ≡ Some s.line
 leaves-full T workers xs rs C E over last s ss l above =
     let k = length rs in
     let act = act_at T k s.act in
     let x = step_of workers (by_number rs) C s.line act in
-    let later : List Step = steps_from workers by_number apply_at (apply_at act rs) x.laid (statements_from T (count_after k s.act) ss) in
-    l.cells ∙ ap (λ b. option_map (λ (y : Step). y.block.line) (cond b (Some x) (find (λ (y : Step). nat_lt most (length y.laid.rows)) later))) (lt-ltb most (length x.laid.rows) above)
+    let later : List LoweringStep = steps_from workers by_number apply_at (apply_at act rs) x.laid (statements_from T (count_after k s.act) ss) in
+    l.cells ∙ ap (λ b. option_map (λ (y : LoweringStep). y.block.line) (cond b (Some x) (find (λ (y : LoweringStep). nat_lt most (length y.laid.rows)) later))) (lt-ltb most (length x.laid.rows) above)
     ∙ ap (λ m. Some m) (block-line workers rs C s.line act)
 
 -- ---- at the end
 
-pub record Ends (workers : ℕ) (xs : List Step) (C : Laid) (E : Expansion) (over : Option Line) (last : Line) : Type 0 where
-  pub program : program_of C.rows workers (expanded workers E (last_block (length C.rows) last)) ≡ program_by workers xs
+pub record Ends (workers : ℕ) (xs : List LoweringStep) (C : Laid) (E : Expansion) (over : Option Line) (last : Line) : Type 0 where
+  pub program : program_from C.rows workers (expanded workers E (last_block (length C.rows) last)) ≡ program_by workers xs
   pub cells : cells_above xs ≡ None
   pub tasks : tasks_above workers xs ≡ over_after over last (expanded workers E (last_block (length C.rows) last))
 
-pub leaves-none : (T : Table) (workers : ℕ) (xs : List Step) (rs : List RootState) (C : Laid) (E : Expansion) (over : Option Line) (last : Line) → Leaves T workers xs rs C E over last [] → Ends workers xs C E over last
+pub leaves-none : (T : Table) (workers : ℕ) (xs : List LoweringStep) (rs : List RootState) (C : Laid) (E : Expansion) (over : Option Line) (last : Line) → LeavesStatements T workers xs rs C E over last [] → Ends workers xs C E over last
 leaves-none T workers xs rs C E over last l =
-    let end : Block = last_block (length C.rows) last in
+    let end : TaskBlock = last_block (length C.rows) last in
     let ended : last_block (length (laid_by xs).rows) (last_line xs) ≡ end = λ i. last_block (length (l.laid i).rows) (l.line i) in
     let all : expand workers nothing (blocks_by xs) ≡ expanded workers E end =
-    ap (λ (b : Block). expand workers nothing (blocks_in xs ++ b ∷ [])) ended
+    ap (λ (b : TaskBlock). expand workers nothing (blocks_in xs ++ b ∷ [])) ended
     ∙ fold-append (expanded workers) nothing (blocks_in xs) (end ∷ []) ∙ ap (λ (F : Expansion). expanded workers F end) l.expansion in
     record {
-      program = sym (λ i. program_of (l.laid i).rows workers (all i));
+      program = sym (λ i. program_from (l.laid i).rows workers (all i));
       cells = l.cells;
-      tasks = ap (λ (b : Block). first_above workers nothing (blocks_in xs ++ b ∷ [])) ended ∙ l.tasks (end ∷ []) ∙ first-or workers E end [] over ∙ line_or-none (over_after over last (expanded workers E end));
+      tasks = ap (λ (b : TaskBlock). first_above workers nothing (blocks_in xs ++ b ∷ [])) ended ∙ l.tasks (end ∷ []) ∙ first-or workers E end [] over ∙ line_or-none (over_after over last (expanded workers E end));
     }
   where
     line_or-none : (o : Option Line) → line_or o None ≡ o

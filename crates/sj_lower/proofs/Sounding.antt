@@ -23,7 +23,7 @@ use Rattle.sj_meaning.specs.Statement.{Operand, TaskLine}
 use Rattle.sj_meaning.specs.Act.{Act, Register as Registers, Plan as Plans, Redux as Reduces, Task as Tasks, Print as Prints, Invalidate as Invalidates, Unregister as Unregisters}
 use Rattle.sj_meaning.specs.State.{RootState, JobState, root_of, is_valued, has_no_value, is_child, child_rect, is_valued_child}
 use Rattle.sj_meaning.specs.Meaning.{written_of}
-use Rattle.sj_meaning.specs.Numbers.{name_at, operand_by, task_by, act_by, root_at}
+use Rattle.sj_meaning.specs.Numbers.{name_at, operand_named_by, task_named_by, act_named_by, root_at}
 use Rattle.sj_meaning.specs.Sound as by_name
 use Rattle.sj_meaning.specs.Sound.{mode_fits, is_unordered, is_lawful_for, needs_value, IsSoundAct}
 use Rattle.sj_base.specs.Mode.{is_read_only}
@@ -31,7 +31,7 @@ use Rattle.sj_meaning.specs.Table.{AreDistinct}
 use Rattle.sj_meaning.proofs.Children.{place-from_test}
 use Rattle.sj_meaning.proofs.Mirroring.{IsThere, IsMirror, IsTimely, root-there, written-by}
 use Rattle.sj_meaning.proofs.Finding.{text-itself}
-use Rattle.sj_lower.specs.SoundAt.{Lives, child_dims, has_value, modes_fit, clashes, is_aliased, IsPlaced, IsSoundTask, IsSound}
+use Rattle.sj_lower.specs.SoundAt.{Lives, child_dims_at, has_value, modes_fit_at, clashes_at, is_aliased_at, IsPlacedAt, IsSoundTaskAt, IsSoundAt}
 
 -- a job can't name the codelet that delivers
 abbrev pub IsSilent : Act ℕ → Type 0
@@ -40,7 +40,7 @@ IsSilent _ = Unit {0}
 
 module _ (names : List (List ℕ)) (d : AreDistinct names) (S : JobState) (rs : List RootState) (m : IsMirror names S rs) where
   abbrev named : Operand ℕ → Operand (List ℕ)
-  named o = operand_by (name_at names) o
+  named o = operand_named_by (name_at names) o
 
   abbrev There : Operand ℕ → Type 0
   There o = IsThere names S o.name
@@ -52,21 +52,21 @@ module _ (names : List (List ℕ)) (d : AreDistinct names) (S : JobState) (rs : 
   lives : (n : ℕ) → IsThere names S n → Lives rs n
   lives n h = subst (λ (r : RootState). 0 < area r.dims) (sym (root-there names S rs n m h)) (m.some n h.root h.below h.is)
 
-  dims-at : (os : List (Operand ℕ)) → AllByRecursion There os → map (by_name.child_dims S) (map (operand_by (name_at names)) os) ≡ map (child_dims rs) os
+  dims-at : (os : List (Operand ℕ)) → AllByRecursion There os → map (by_name.child_dims S) (map (operand_named_by (name_at names)) os) ≡ map (child_dims_at rs) os
   dims-at [] h = refl
   dims-at (o ∷ os) h = λ i. looked (record { rows = 0; cols = 0 }) (λ r. rect_dims (child_rect r o.place)) o.name h.0 i ∷ dims-at os h.1 i
 
-  modes-at : (fs : List Formal) (os : List (Operand ℕ)) → by_name.modes_fit fs (map (operand_by (name_at names)) os) ≡ modes_fit fs os
+  modes-at : (fs : List Formal) (os : List (Operand ℕ)) → by_name.modes_fit fs (map (operand_named_by (name_at names)) os) ≡ modes_fit_at fs os
   modes-at [] os = refl
   modes-at (f ∷ fs) [] = refl
   modes-at (f ∷ fs) (o ∷ os) = ap (λ b. mode_fits f o.mode && b) (modes-at fs os)
 
   -- a test that says of operands by name what another says by number, of some and of all
-  pub any-at : (p : Operand (List ℕ) → Bool) (q : Operand ℕ → Bool) → ((o : Operand ℕ) → There o → p (named o) ≡ q o) → (os : List (Operand ℕ)) → AllByRecursion There os → list_any p (map (operand_by (name_at names)) os) ≡ list_any q os
+  pub any-at : (p : Operand (List ℕ) → Bool) (q : Operand ℕ → Bool) → ((o : Operand ℕ) → There o → p (named o) ≡ q o) → (os : List (Operand ℕ)) → AllByRecursion There os → list_any p (map (operand_named_by (name_at names)) os) ≡ list_any q os
   any-at p q f [] h = refl
   any-at p q f (o ∷ os) h = λ i. f o h.0 i || any-at p q f os h.1 i
 
-  all-at : (p : Operand (List ℕ) → Bool) (q : Operand ℕ → Bool) → ((o : Operand ℕ) → There o → p (named o) ≡ q o) → (os : List (Operand ℕ)) → AllByRecursion There os → list_all p (map (operand_by (name_at names)) os) ≡ list_all q os
+  all-at : (p : Operand (List ℕ) → Bool) (q : Operand ℕ → Bool) → ((o : Operand ℕ) → There o → p (named o) ≡ q o) → (os : List (Operand ℕ)) → AllByRecursion There os → list_all p (map (operand_named_by (name_at names)) os) ≡ list_all q os
   all-at p q f [] h = refl
   all-at p q f (o ∷ os) h = λ i. f o h.0 i && all-at p q f os h.1 i
 
@@ -74,24 +74,24 @@ module _ (names : List (List ℕ)) (d : AreDistinct names) (S : JobState) (rs : 
   same-name a b la lb =
       same_test (bytes_eq (name_at names a) (name_at names b)) (nat_eq a b) (λ e. eq-eqb a b (d a b la lb ((bytes_eq-Decides (name_at names a) (name_at names b)).0 e))) (λ e. text-itself (name_at names a) (name_at names b) (ap (name_at names) (eqb-true a b e)))
 
-  aliased-at : (os : List (Operand ℕ)) → AllByRecursion There os → by_name.is_aliased (map (operand_by (name_at names)) os) ≡ is_aliased os
+  aliased-at : (os : List (Operand ℕ)) → AllByRecursion There os → by_name.is_aliased (map (operand_named_by (name_at names)) os) ≡ is_aliased_at os
   aliased-at [] h = refl
   aliased-at (o ∷ os) h = λ i.
-      any-at (by_name.clashes (operand_by (name_at names) o)) (clashes o) (λ p g. λ j. same-name o.name p.name h.0.below g.below j && same_child_place o.place p.place && not (is_read_only o.mode && is_read_only p.mode)) os h.1 i || aliased-at os h.1 i
+      any-at (by_name.clashes (operand_named_by (name_at names) o)) (clashes_at o) (λ p g. λ j. same-name o.name p.name h.0.below g.below j && same_child_place o.place p.place && not (is_read_only o.mode && is_read_only p.mode)) os h.1 i || aliased-at os h.1 i
 
-  placed-at : (os : List (Operand ℕ)) → AllByRecursion There os → list_all (by_name.has_child S) (map (operand_by (name_at names)) os) ≡ true → AllByRecursion (IsPlaced rs) os
+  placed-at : (os : List (Operand ℕ)) → AllByRecursion There os → list_all (by_name.has_child S) (map (operand_named_by (name_at names)) os) ≡ true → AllByRecursion (IsPlacedAt rs) os
   placed-at [] h e = tt
   placed-at (o ∷ os) h e =
-      let both = and_parts (by_name.has_child S (operand_by (name_at names) o)) (list_all (by_name.has_child S) (map (operand_by (name_at names)) os)) e in (
+      let both = and_parts (by_name.has_child S (operand_named_by (name_at names) o)) (list_all (by_name.has_child S) (map (operand_named_by (name_at names)) os)) e in (
         record { lives = lives o.name h.0; place = place-from_test (root_at rs o.name).parts o.place (sym (looked false (λ r. is_child r.parts o.place) o.name h.0) ∙ both.0) },
         placed-at os h.1 both.1,
       )
 
-  task-at : (has : Kernel → Bool) (t : TaskLine ℕ) → AllByRecursion There t.operands → by_name.IsSoundTask has S (task_by (name_at names) t) → (kernel_of t.codelet ≡ Some Deliver → ⊥) → IsSoundTask has rs t
+  task-at : (has : Kernel → Bool) (t : TaskLine ℕ) → AllByRecursion There t.operands → by_name.IsSoundTask has S (task_named_by (name_at names) t) → (kernel_of t.codelet ≡ Some Deliver → ⊥) → IsSoundTaskAt has rs t
   task-at has t h s silent = record {
     fits = ap (fits_in has t.codelet t.args) (sym (dims-at t.operands h)) ∙ s.fits;
     modes = sym (modes-at (formals_in t.codelet) t.operands) ∙ s.modes;
-    alone = λ e. sym (ap length (written-by (name_at names) t.operands) ∙ length-map (written_of t.operands) (operand_by (name_at names))) ∙ s.alone (list_any-map (λ (o : Operand (List ℕ)). is_unordered o.mode) (operand_by (name_at names)) t.operands ∙ e);
+    alone = λ e. sym (ap length (written-by (name_at names) t.operands) ∙ length-map (written_of t.operands) (operand_named_by (name_at names))) ∙ s.alone (list_any-map (λ (o : Operand (List ℕ)). is_unordered o.mode) (operand_named_by (name_at names)) t.operands ∙ e);
     lawful = sym (all-at (by_name.is_lawful has S t.codelet) (λ o. is_lawful_for has t.codelet (root_at rs o.name).reduction o.mode) (λ o g. λ i. is_lawful_for has t.codelet (looked None (λ r. r.reduction) o.name g i) o.mode) t.operands h) ∙ s.lawful;
     apart = sym (aliased-at t.operands h) ∙ s.apart;
     placed = placed-at t.operands h s.placed;
@@ -103,7 +103,7 @@ module _ (names : List (List ℕ)) (d : AreDistinct names) (S : JobState) (rs : 
   none-is None e = refl
   none-is (Some x) e = absurd (false≢true e)
 
-  pub sound-at : (has : Kernel → Bool) (a : Act ℕ) → IsTimely names S rs a → IsSoundAct has S (act_by (name_at names) a) → IsSilent a → IsSound has rs a
+  pub sound-at : (has : Kernel → Bool) (a : Act ℕ) → IsTimely names S rs a → IsSoundAct has S (act_named_by (name_at names) a) → IsSilent a → IsSoundAt has rs a
   sound-at has (Registers r) h s q = record { next = h.0; some = h.2; elements = s.elements; parts = s.parts; values = s.values }
   sound-at has (Plans n p) h s q = (
     record { lives = lives n h; even = sym (λ i. looked false is_valued n h i || looked false has_no_value n h i) ∙ s.even },

@@ -15,12 +15,12 @@ use Rattle.sj_meaning.specs.Act.{Act, Statement, Plan as Plans, Task as Tasks, P
 use Rattle.sj_meaning.specs.State.{RootState, JobState}
 use Rattle.sj_meaning.specs.Table.{AreDistinct}
 use Rattle.sj_meaning.specs.Meaning.{apply}
-use Rattle.sj_meaning.specs.Numbers.{name_at, operand_by, task_by, act_by, statement_by, apply_at}
+use Rattle.sj_meaning.specs.Numbers.{name_at, operand_named_by, task_named_by, act_named_by, statement_named_by, apply_at}
 use Rattle.sj_meaning.proofs.Mirroring.{IsThere, IsMirror, IsTimely, AreTimely, mirror-apply}
 use Rattle.sj_meaning.proofs.Timely.{number-named}
-use Rattle.sj_phases.specs.declared.phase.Opening.{Opening}
+use Rattle.sj_phases.specs.declared.phase.PhaseOpening.{PhaseOpening}
 use Rattle.sj_lower.specs.Laid.{Laid, cell_of, take, with_print, with_copies}
-use Rattle.sj_lower.specs.Step.{Lookup, by_name, by_number, operand_cell, active_cells, closing, plan_block, is_other_access, contributed, access_of, opening_of, task_block, print_block, Step, step, step_of, steps_from}
+use Rattle.sj_lower.specs.Step.{Lookup, by_name, by_number, operand_cell, active_cells, closing, plan_block, is_other_access, contributed, access_of, opening_for, task_block, print_block, LoweringStep, step, step_of, steps_from}
 
 -- ---- lists
 
@@ -41,7 +41,7 @@ abbrev through : {M N : Type 0} → (M → N) → Lookup N → Lookup M
 through f L = record { number = λ q. L.number (f q); root = λ q. L.root (f q) }
 
 -- a task, where its operands' cells are these
-abbrev task_with : {N : Type 0} → TaskLine N → Line → Laid → List Cell → List Opening → List Access → Step
+abbrev task_with : {N : Type 0} → TaskLine N → Line → Laid → List Cell → List PhaseOpening → List Access → LoweringStep
 task_with t line C cs os as' = step C (record {
   line = line;
   closes = cs;
@@ -51,19 +51,19 @@ task_with t line C cs os as' = step C (record {
 })
 
 module _ {M N : Type 0} (f : M → N) (L : Lookup N) where
-  cells-through : (C : Laid) (p : Operand N → Bool) (os : List (Operand M)) → map (operand_cell (through f L) C) (filter (λ o. p (operand_by f o)) os) ≡ map (operand_cell L C) (filter p (map (operand_by f) os))
-  cells-through C p os = sym (map-map (operand_cell L C) (operand_by f) (filter (λ o. p (operand_by f o)) os)) ∙ ap (map (operand_cell L C)) (map-filter (operand_by f) p os)
+  cells-through : (C : Laid) (p : Operand N → Bool) (os : List (Operand M)) → map (operand_cell (through f L) C) (filter (λ o. p (operand_named_by f o)) os) ≡ map (operand_cell L C) (filter p (map (operand_named_by f) os))
+  cells-through C p os = sym (map-map (operand_cell L C) (operand_named_by f) (filter (λ o. p (operand_named_by f o)) os)) ∙ ap (map (operand_cell L C)) (map-filter (operand_named_by f) p os)
 
-  opens-through : (C : Laid) (os : List (Operand M)) → flat_map (opening_of (through f L) C) (filter (λ o. is_redux o.mode) os) ≡ flat_map (opening_of L C) (filter (λ o. is_redux o.mode) (map (operand_by f) os))
-  opens-through C os = sym (flat_map-map (opening_of L C) (operand_by f) (filter (λ o. is_redux o.mode) os)) ∙ ap (flat_map (opening_of L C)) (map-filter (operand_by f) (λ (o : Operand N). is_redux o.mode) os)
+  opens-through : (C : Laid) (os : List (Operand M)) → flat_map (opening_for (through f L) C) (filter (λ o. is_redux o.mode) os) ≡ flat_map (opening_for L C) (filter (λ o. is_redux o.mode) (map (operand_named_by f) os))
+  opens-through C os = sym (flat_map-map (opening_for L C) (operand_named_by f) (filter (λ o. is_redux o.mode) os)) ∙ ap (flat_map (opening_for L C)) (map-filter (operand_named_by f) (λ (o : Operand N). is_redux o.mode) os)
 
-  pub step-same : (workers : ℕ) (C : Laid) (line : Line) (a : Act M) → step_of workers (through f L) C line a ≡ step_of workers L C line (act_by f a)
+  pub step-same : (workers : ℕ) (C : Laid) (line : Line) (a : Act M) → step_of workers (through f L) C line a ≡ step_of workers L C line (act_named_by f a)
   step-same workers C line (Tasks t) =
       ap (λ (D : Laid). step D (task_block (through f L) D t line)) (ap (fold (with_copies workers) C) (cells-through C (λ o. is_redux o.mode) t.operands))
-      ∙ rest (fold (with_copies workers) C (map (operand_cell L C) (contributed (task_by f t))))
+      ∙ rest (fold (with_copies workers) C (map (operand_cell L C) (contributed (task_named_by f t))))
     where
-      rest : (D : Laid) → step D (task_block (through f L) D t line) ≡ step D (task_block L D (task_by f t) line)
-      rest D = λ i. task_with t line D (cells-through D is_other_access t.operands i) (opens-through D t.operands i) (sym (map-map (access_of L D) (operand_by f) t.operands) i)
+      rest : (D : Laid) → step D (task_block (through f L) D t line) ≡ step D (task_block L D (task_named_by f t) line)
+      rest D = λ i. task_with t line D (cells-through D is_other_access t.operands i) (opens-through D t.operands i) (sym (map-map (access_of L D) (operand_named_by f) t.operands) i)
   step-same workers C line a = refl
 
 -- ---- look-ups that agree
@@ -89,9 +89,9 @@ module _ {N : Type 0} (L M : Lookup N) where
   active-agrees : (C : Laid) (q : N) → Agree L M q → active_cells L C q ≡ active_cells M C q
   active-agrees C q a = λ i. map (cell_of C (a.number i) (a.root i).parts) (places (a.root i).parts)
 
-  opening-agrees : (C : Laid) (o : Operand N) → Agree L M o.name → opening_of L C o ≡ opening_of M C o
+  opening-agrees : (C : Laid) (o : Operand N) → Agree L M o.name → opening_for L C o ≡ opening_for M C o
   opening-agrees C o a =
-      let told : ℕ → RootState → List Opening = λ n r. opening_of (record { number = λ q. n; root = λ q. r }) C o in
+      let told : ℕ → RootState → List PhaseOpening = λ n r. opening_for (record { number = λ q. n; root = λ q. r }) C o in
       λ i. told (a.number i) (a.root i)
 
   cells-agree : (D : Laid) (p : Operand N → Bool) (os : List (Operand N)) → AllByRecursion (λ o. Agree L M o.name) os → map (operand_cell L D) (filter p os) ≡ map (operand_cell M D) (filter p os)
@@ -106,7 +106,7 @@ module _ {N : Type 0} (L M : Lookup N) where
       rest : (D : Laid) → step D (task_block L D t line) ≡ step D (task_block M D t line)
       rest D = λ i. task_with t line D
           (cells-agree D is_other_access t.operands h i)
-          (flat-same (opening_of L D) (opening_of M D) (contributed t) (each-weaker _ _ (opening-agrees D) (contributed t) (filtered _ (λ o. is_redux o.mode) t.operands h)) i)
+          (flat-same (opening_for L D) (opening_for M D) (contributed t) (each-weaker _ _ (opening-agrees D) (contributed t) (filtered _ (λ o. is_redux o.mode) t.operands h)) i)
           (map-same (access_of L D) (access_of M D) t.operands (each-weaker _ _ (λ o a. λ j. record { mode = o.mode; cell = cell-agrees D o a j }) t.operands h) i)
   step-agree workers C line (Prints q) h = λ i. step (with_print C) (print_block (h.number i) (h.root i) (active-agrees C q h i) C.prints line)
   step-agree workers C line (Invalidates q) h = λ i. step C (closing line (active-agrees C q h i) [])
@@ -128,13 +128,13 @@ agrees-on names d S rs m a h = tt
 
 -- statements that come in time give the same by names and by numbers
 pub steps-same : (workers : ℕ) (names : List (List ℕ)) → AreDistinct names → (S : JobState) (rs : List RootState) (C : Laid) (ss : List (Statement ℕ)) → IsMirror names S rs → AreTimely names S rs ss
-    → steps_from workers (by_name names) apply S C (map (statement_by (name_at names)) ss) ≡ steps_from workers by_number apply_at rs C ss
+    → steps_from workers (by_name names) apply S C (map (statement_named_by (name_at names)) ss) ≡ steps_from workers by_number apply_at rs C ss
 steps-same workers names d S rs C [] m h = refl
 steps-same workers names d S rs C (s ∷ ss) m h =
-    let next : JobState = apply (act_by (name_at names) s.act) S in
-    let now : step_of workers (by_name names S) C s.line (act_by (name_at names) s.act) ≡ step_of workers (by_number rs) C s.line s.act =
+    let next : JobState = apply (act_named_by (name_at names) s.act) S in
+    let now : step_of workers (by_name names S) C s.line (act_named_by (name_at names) s.act) ≡ step_of workers (by_number rs) C s.line s.act =
     sym (step-same (name_at names) (by_name names S) workers C s.line s.act)
     ∙ step-agree (through (name_at names) (by_name names S)) (by_number rs) workers C s.line s.act (agrees-on names d S rs m s.act h.0) in
-    ap (λ (x : Step). x ∷ steps_from workers (by_name names) apply next x.laid (map (statement_by (name_at names)) ss)) now
+    ap (λ (x : LoweringStep). x ∷ steps_from workers (by_name names) apply next x.laid (map (statement_named_by (name_at names)) ss)) now
     ∙ ap (λ xs. step_of workers (by_number rs) C s.line s.act ∷ xs)
     (steps-same workers names d next (apply_at s.act rs) (step_of workers (by_number rs) C s.line s.act).laid ss (mirror-apply names d s.act S rs m h.0) h.1)

@@ -29,10 +29,10 @@ use Rattle.sj_meaning.specs.Numbers.{no_root, root_at, change_at}
 use Rattle.sj_meaning.specs.Sound.{InitFits}
 use Rattle.sj_meaning.proofs.Children.{first_length}
 use Rattle.sj_lower.specs.Cells.{same_parts}
-use Rattle.sj_lower.specs.Laid.{Laid, Handle, handle_of, handle_at, cell_of, take, with_root}
+use Rattle.sj_lower.specs.Laid.{Laid, Handle, handle_of, handle_at, cell_of, take, with_handle}
 use Rattle.sj_lower.specs.Rows.{load_row, fill_row, fill_arguments, paste_row, load_rows}
-use Rattle.sj_lower.specs.SoundAt.{IsSoundRegistration, IsSoundPlan}
-use Rattle.sj_lower.specs.Whole.{IsTaken, AreLaid, HaveCopies}
+use Rattle.sj_lower.specs.SoundAt.{IsSoundRegistrationAt, IsSoundPlanAt}
+use Rattle.sj_lower.specs.Whole.{HasTakenPlan, AreLaid, HaveCopies}
 use Rattle.sj_lower.proofs.Contents.{contents_before}
 use Rattle.sj_lower.proofs.Copying.{copies-root, copies-take}
 use Rattle.sj_lower.proofs.Elements.{child-within, child-window, valued-child, blank-child, no_values-blank, unwrapped, filled-window}
@@ -44,7 +44,7 @@ use Rattle.sj_lower.proofs.Pasting.{rows_to, rows-by_child, pastes-filled, paste
 use Rattle.sj_lower.proofs.Places.{parts-are, parts-itself}
 
 -- two children of a plan have two cells
-own_cells : (C : Laid) (m : ℕ) (d : Dims) (s : Parts) (f : ℕ) → AreLaid C → IsTaken C m d s f → HaveOwn s (cell_of C m s)
+own_cells : (C : Laid) (m : ℕ) (d : Dims) (s : Parts) (f : ℕ) → AreLaid C → HasTakenPlan C m d s f → HaveOwn s (cell_of C m s)
 own_cells C m d s f laid t place other hp ho same = (cells-apart C m m d d s s f f place other laid t t hp ho same).2
 
 -- ---- what the tasks of a root leave
@@ -70,7 +70,7 @@ turns_filled q C m x ls n stand filled gives = record {
 }
 
 -- a task for each cell
-turns_rows : (q : Program) (C : Laid) (m : ℕ) (x : RootState) (row : ℕ × ℕ → Lowered) (n f : ℕ) → Stand q n (each_of row (places x.parts)) → AreLaid C → IsTaken C m x.dims x.parts f
+turns_rows : (q : Program) (C : Laid) (m : ℕ) (x : RootState) (row : ℕ × ℕ → Lowered) (n f : ℕ) → Stand q n (each_of row (places x.parts)) → AreLaid C → HasTakenPlan C m x.dims x.parts f
     → ((place : ℕ × ℕ) → IsPlace x.parts place → (k : Contents) → after_row q k (row place) ≡ (cell_of C m x.parts place, child_array x place) ∷ k) → ((place : ℕ × ℕ) → gives_value (row place) (cell_of C m x.parts place) ≡ true) → Turns q C m x (each_of row (places x.parts)) n
 turns_rows q C m x row n f stand laid t puts gives =
     let cell = cell_of C m x.parts in
@@ -84,14 +84,14 @@ pub record Keeps (q : Program) (C : Laid) (rs : List RootState) (n : ℕ) (ls : 
   pub counted : length C.handles ≡ length rs
 
 -- a root takes its plan, and its tasks follow: so it is after them
-keeps_taken : (q : Program) (C B : Laid) (n : ℕ) (rs new : List RootState) (m : ℕ) (x : RootState) (ls : List Lowered) → HaveRoots q C n (contents_before q n) rs → ((u : ℕ) (d : Dims) (s : Parts) (g : ℕ) → IsTaken C u d s g → IsTaken B u d s g)
+keeps_taken : (q : Program) (C B : Laid) (n : ℕ) (rs new : List RootState) (m : ℕ) (x : RootState) (ls : List Lowered) → HaveRoots q C n (contents_before q n) rs → ((u : ℕ) (d : Dims) (s : Parts) (g : ℕ) → HasTakenPlan C u d s g → HasTakenPlan B u d s g)
     → AreLaid B → HaveCopies q.workers B → m < length B.handles → (handle_at B m).dims ≡ x.dims → Fits x.parts x.dims → length x.elements ≡ area x.dims → length B.handles ≡ length new → root_at new m ≡ x → ((u : ℕ) → (u ≡ m → ⊥) → root_at new u ≡ root_at rs u)
-    → let D = take m x.parts B in Stand q n ls → ((f : ℕ) → AreLaid D → IsTaken D m x.dims x.parts f → Turns q D m x ls n) → Keeps q D new n ls
+    → let D = take m x.parts B in Stand q n ls → ((f : ℕ) → AreLaid D → HasTakenPlan D m x.dims x.parts f → Turns q D m x ls n) → Keeps q D new n ls
 keeps_taken q C B n rs new m x ls has keeps a copies there dims fits whole counted here beside stand turns =
     let D = take m x.parts B in
     let laid = laid-take B m x.parts there (subst (λ (d : Dims). Fits x.parts d) (sym dims) fits) a in
     let found = take-takes B m x.parts there in
-    let t = subst (λ (d : Dims). IsTaken D m d x.parts found.0) dims found.1 in
+    let t = subst (λ (d : Dims). HasTakenPlan D m d x.parts found.0) dims found.1 in
     let turned = turns found.0 laid t in
     let after = contents_before q (n + length ls) in
     let left = contents-rows q n ls stand in
@@ -122,7 +122,7 @@ keeps_taken q C B n rs new m x ls has keeps a copies there dims fits whole count
 abbrev begun : Kind → Init → Dims → Parts → RootState
 begun kind i d s = record { kind = kind; dims = d; parts = s; reduction = None; elements = first_elements i d }
 
-starts : (q : Program) (C : Laid) (m : ℕ) (kind : Kind) (i : Init) (d : Dims) (s : Parts) (line : Line) (n f : ℕ) → Fits s d → InitFits i d → HasCells q C → AreLaid C → IsTaken C m d s f → Stand q n (load_rows i d s (cell_of C m s) line) → Turns q C m (begun kind i d s) (load_rows i d s (cell_of C m s) line) n
+starts : (q : Program) (C : Laid) (m : ℕ) (kind : Kind) (i : Init) (d : Dims) (s : Parts) (line : Line) (n f : ℕ) → Fits s d → InitFits i d → HasCells q C → AreLaid C → HasTakenPlan C m d s f → Stand q n (load_rows i d s (cell_of C m s) line) → Turns q C m (begun kind i d s) (load_rows i d s (cell_of C m s) line) n
 starts q C m kind (Values xs) d s line n f fits init cells laid t stand =
     let x = begun kind (Values xs) d s in
     turns_rows q C m x (λ place. load_row xs d (child d s place) (cell_of C m s place) line) n f stand laid t (λ place inside k.
@@ -151,11 +151,11 @@ pushed-beside rs x m other = elim (cases_lt m (length rs)) as (λ _. root_at (rs
   | inr le ↦ get_or_past (rs ++ x ∷ []) m no_root (omega (arith, le, other, length-append rs (x ∷ []))) ∙ sym (get_or_past rs m no_root le)
 ]
 
-pub keeps-registered : (q : Program) (C : Laid) (n : ℕ) (rs : List RootState) (line : Line) (r : Register ℕ) → IsSoundRegistration rs r → AreLaid C → HaveCopies q.workers C → length C.handles ≡ length rs → HaveRoots q C n (contents_before q n) rs
-    → let m = length C.handles in let D = take m r.parts (with_root r.dims C) in let ls = load_rows r.init r.dims r.parts (cell_of D m r.parts) line in HasCells q D → Stand q n ls → Keeps q D (rs ++ registered_root r ∷ []) n ls
+pub keeps-registered : (q : Program) (C : Laid) (n : ℕ) (rs : List RootState) (line : Line) (r : Register ℕ) → IsSoundRegistrationAt rs r → AreLaid C → HaveCopies q.workers C → length C.handles ≡ length rs → HaveRoots q C n (contents_before q n) rs
+    → let m = length C.handles in let D = take m r.parts (with_handle r.dims C) in let ls = load_rows r.init r.dims r.parts (cell_of D m r.parts) line in HasCells q D → Stand q n ls → Keeps q D (rs ++ registered_root r ∷ []) n ls
 keeps-registered q C n rs line r s a copies counted has cells stand =
     let m = length C.handles in
-    let B = with_root r.dims C in
+    let B = with_handle r.dims C in
     let D = take m r.parts B in
     let long = length-append C.handles (handle_of r.dims ∷ []) in
     keeps_taken q C B n rs (rs ++ registered_root r ∷ []) m (registered_root r) (load_rows r.init r.dims r.parts (cell_of D m r.parts) line) has (keeps-root C r.dims) (laid-root C r.dims a s.elements) (copies-root q.workers C r.dims copies)
@@ -169,7 +169,7 @@ abbrev pub planned_rows : RootState → Laid → ℕ → Parts → Line → List
 planned_rows r C m s line = cond (same_parts r.parts s) [] (cond (is_valued r) (each_of (paste_row (cell_of C m r.parts) (cell_of C m s) line) (pastes_of r.dims r.parts s)) [])
 
 turns_pasted : (q : Program) (C : Laid) (m : ℕ) (r : RootState) (s : Parts) (line : Line) (n f : ℕ) → let ls = each_of (paste_row (cell_of C m r.parts) (cell_of C m s) line) (pastes_of r.dims r.parts s) in
-    Stand q n ls → HasCells q C → AreLaid C → HasRoot q C n (contents_before q n) m r → IsTaken C m r.dims s f → same_parts r.parts s ≡ false → is_valued r ≡ true → Turns q C m (with_parts s r) ls n
+    Stand q n ls → HasCells q C → AreLaid C → HasRoot q C n (contents_before q n) m r → HasTakenPlan C m r.dims s f → same_parts r.parts s ≡ false → is_valued r ≡ true → Turns q C m (with_parts s r) ls n
 turns_pasted q C m r s line n f stand cells laid b t changed valued =
     let d = r.dims in
     let old = cell_of C m r.parts in
@@ -184,7 +184,7 @@ turns_pasted q C m r s line n f stand cells laid b t changed valued =
     turns_filled q C m (with_parts s r) (each_of (paste_row old new line) (pastes_of d r.parts s)) n stand (record { value = λ place inside. filled.value place inside ∙ sym (child-window (with_parts s r) place); others = filled.others })
     (λ place inside. ap (λ ls. one_gives ls (new place)) (rows-by_child d r.parts s old new line) ∙ blocks-give (rows_to d r.parts s old new line) s place (new place) inside (pastes-give d r.parts s old new line place b.fits fit inside))
 
-turns_by : (q : Program) (C : Laid) (m : ℕ) (r : RootState) (s : Parts) (line : Line) (n f : ℕ) → HasCells q C → AreLaid C → HasRoot q C n (contents_before q n) m r → IsTaken C m r.dims s f
+turns_by : (q : Program) (C : Laid) (m : ℕ) (r : RootState) (s : Parts) (line : Line) (n f : ℕ) → HasCells q C → AreLaid C → HasRoot q C n (contents_before q n) m r → HasTakenPlan C m r.dims s f
     → (is_valued r || has_no_value r) ≡ true → Stand q n (planned_rows r C m s line) → Turns q C m (with_parts s r) (planned_rows r C m s line) n
 turns_by q C m r s line n f cells laid b t even =
     let pastes = each_of (paste_row (cell_of C m r.parts) (cell_of C m s) line) (pastes_of r.dims r.parts s) in
@@ -197,7 +197,7 @@ turns_by q C m r s line n f cells laid b t even =
     (λ none stand. turns_idle q C m (with_parts s r) n (λ place inside h.
     absurd (blank-child (with_parts s r) place b.whole (sym (ap (λ x. x || has_no_value r) none) ∙ even) (laid.fits m r.dims s f t) inside h))))
 
-pub keeps-planned : (q : Program) (C : Laid) (n : ℕ) (rs : List RootState) (line : Line) (m : ℕ) (p : Parts) → IsSoundPlan rs m → Fits p (root_at rs m).dims → AreLaid C → HaveCopies q.workers C → HaveRoots q C n (contents_before q n) rs → length C.handles ≡ length rs
+pub keeps-planned : (q : Program) (C : Laid) (n : ℕ) (rs : List RootState) (line : Line) (m : ℕ) (p : Parts) → IsSoundPlanAt rs m → Fits p (root_at rs m).dims → AreLaid C → HaveCopies q.workers C → HaveRoots q C n (contents_before q n) rs → length C.handles ≡ length rs
     → let D = take m p C in let ls = planned_rows (root_at rs m) D m p line in HasCells q D → Stand q n ls → Keeps q D (change_at (with_parts p) m rs) n ls
 keeps-planned q C n rs line m p sound fit a copies has counted cells stand =
     let r = root_at rs m in

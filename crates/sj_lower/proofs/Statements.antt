@@ -26,7 +26,7 @@ use Rattle.sj_meaning.specs.Numbers.{root_at, no_root, change_at, registration_a
 use Rattle.sj_meaning.specs.Sound.{InitFits}
 use Rattle.sj_meaning.specs.Table.{Table, a_root, info_of}
 use Rattle.sj_phases.specs.declared.expander.Expander.{Expander}
-use Rattle.sj_phases.specs.Block.{Block}
+use Rattle.sj_phases.specs.Block.{TaskBlock}
 use Rattle.sj_phases.specs.Does.{HasAt, Does}
 use Rattle.sj_phases.specs.Expand.{Expansion, closed, expanded, with_own, most}
 use Rattle.sj_lower.specs.declared.contributions.StepRefusal.TheVariants.{TooManyCells}
@@ -34,10 +34,10 @@ use Rattle.sj_lower.specs.declared.layout.Active.{Active}
 use Rattle.sj_lower.specs.declared.layout.Layout.{Layout}
 use Rattle.sj_lower.specs.declared.rows.Placed.{Placed}
 use Rattle.sj_lower.specs.declared.steps.Steps.{Steps}
-use Rattle.sj_lower.specs.Adds.{StepsAt, IsNext, HasNext, Goes, Adds, IsFull}
+use Rattle.sj_lower.specs.Adds.{StepsAt, MayComeNext, HasNext, Goes, AddsAct, IsFull}
 use Rattle.sj_lower.specs.Cells.{cells_from, same_parts}
-use Rattle.sj_lower.specs.Follows.{taken, same_taken, Lays, Follows, AreActive, IsActive, active_at, HasCells, cells_by}
-use Rattle.sj_lower.specs.Laid.{Laid, Handle, handle_at, handle_of, first_cell, cell_of, take, with_root, with_print}
+use Rattle.sj_lower.specs.Follows.{taken_plan, same_taken, Lays, Follows, AreActive, IsActive, active_at, HasCells, cells_by}
+use Rattle.sj_lower.specs.Laid.{Laid, Handle, handle_at, handle_of, first_cell, cell_of, take, with_handle, with_print}
 use Rattle.sj_lower.specs.Rows.{load_rows, paste_row, deliver_row}
 use Rattle.sj_lower.specs.SoundAt.{Lives}
 use Rattle.sj_lower.specs.Step.{by_number, closing, active_cells, a_delivery}
@@ -91,11 +91,11 @@ shuts old x line n rs C follows lives does = subst (λ (cs : List Cell). Does ol
 abbrev pub Registers : Layout → Layout → RootInfo → Placed → Type 0
 Registers l m info placed =
     (rs : List RootState) (C : Laid) (r : Register ℕ) → Follows l rs C → length C.handles ≡ length rs → r.dims ≡ info.dims → r.parts ≡ info.parts
-    → Follows m (rs ++ registered_root r ∷ []) (take (length C.handles) r.parts (with_root r.dims C)) × ((handle_at (take (length C.handles) r.parts (with_root r.dims C)) (length C.handles)).first r.parts ≡ Some placed.first)
+    → Follows m (rs ++ registered_root r ∷ []) (take (length C.handles) r.parts (with_handle r.dims C)) × ((handle_at (take (length C.handles) r.parts (with_handle r.dims C)) (length C.handles)).first r.parts ≡ Some placed.first)
 
 -- with it there are too many cells
 abbrev pub HasNoRoom : Layout → RootInfo → Type 0
-HasNoRoom l info = (rs : List RootState) (C : Laid) (r : Register ℕ) → Follows l rs C → r.dims ≡ info.dims → r.parts ≡ info.parts → most < length (take (length C.handles) r.parts (with_root r.dims C)).rows
+HasNoRoom l info = (rs : List RootState) (C : Laid) (r : Register ℕ) → Follows l rs C → r.dims ≡ info.dims → r.parts ≡ info.parts → most < length (take (length C.handles) r.parts (with_handle r.dims C)).rows
 
 module _ (T : Table) (old : Steps) (init : Init) (h : HasNext T old (kept.Register init)) where
   abbrev rs : List RootState
@@ -120,9 +120,9 @@ module _ (T : Table) (old : Steps) (init : Init) (h : HasNext T old (kept.Regist
   register-table = omega (arith, h.next.named, h.next.table)
 
   -- the cells of the new root are within the limit
-  register-room : (l : Layout) (placed : Placed) → Follows l (rs ++ registered_root r ∷ []) (take (length C.handles) r.parts (with_root r.dims C)) → (handle_at (take (length C.handles) r.parts (with_root r.dims C)) (length C.handles)).first r.parts ≡ Some placed.first → placed.first + r.parts.r * r.parts.c ≤ most
+  register-room : (l : Layout) (placed : Placed) → Follows l (rs ++ registered_root r ∷ []) (take (length C.handles) r.parts (with_handle r.dims C)) → (handle_at (take (length C.handles) r.parts (with_handle r.dims C)) (length C.handles)).first r.parts ≡ Some placed.first → placed.first + r.parts.r * r.parts.c ≤ most
   register-room l placed follows first =
-      room (with_root r.dims C) (length C.handles) r.parts placed.first (omega (arith, length-append C.handles (handle_of r.dims ∷ []))) (subst (λ (x : Handle). Fits r.parts x.dims) (sym (root-there C r.dims (length C.handles) refl)) h.next.sound.parts)
+      room (with_handle r.dims C) (length C.handles) r.parts placed.first (omega (arith, length-append C.handles (handle_of r.dims ∷ []))) (subst (λ (x : Handle). Fits r.parts x.dims) (sym (root-there C r.dims (length C.handles) refl)) h.next.sound.parts)
       (laid-root C r.dims h.next.whole.laid h.next.sound.elements) first follows.lays.few
 
   -- the same by what is fixed of the next root, as the code reads it
@@ -157,13 +157,13 @@ register-full T old init line info k o count is none full = λ rs C E at next.
 
 pub register-adds : (T : Table) (old new : Steps) (init : Init) (line : Line) (info : RootInfo) (k : ℕ) (o : Option Placed) (placed : Placed) → k ≡ length old.layout.actives.items → info ≡ info_of T (a_root k)
     → o ≡ Some placed → IfSome o (λ x. x.parts ≡ info.parts) → IfSome o (λ x. Registers old.layout new.layout info x)
-    → Does old.phases new.phases line (with_own (load_rows init info.dims placed.parts (cells_from placed.first placed.parts) line) []) → new.prints ≡ old.prints → Adds T old new (kept.Register init) line
+    → Does old.phases new.phases line (with_own (load_rows init info.dims placed.parts (cells_from placed.first placed.parts) line) []) → new.prints ≡ old.prints → AddsAct T old new (kept.Register init) line
 register-adds T old new init line info k o placed count is found parts laid does prints = λ rs C E at next.
     let registers : Registers old.layout new.layout info placed = IfSome-at (λ (x : Placed). Registers old.layout new.layout info x) o placed found laid in
     let r : Register ℕ = registration_at (length rs) (info_of T (a_root (length rs))) init in
     let info_is : info ≡ info_of T (a_root (length rs)) = is ∙ ap (λ i. info_of T (a_root i)) (count ∙ at.layout.active.counted ∙ next.whole.counted) in
     let n = length C.handles in
-    let D = take n r.parts (with_root r.dims C) in
+    let D = take n r.parts (with_handle r.dims C) in
     let lays = registers rs C r at.layout next.whole.counted (ap (λ (i : RootInfo). i.dims) (sym info_is)) (ap (λ (i : RootInfo). i.parts) (sym info_is)) in
     let f : placed.first ≡ first_cell D n r.parts = sym (ap (λ (o : Option ℕ). unwrap_or o 0) lays.1) in
     let q : placed.parts ≡ r.parts = IfSome-at (λ (x : Placed). x.parts ≡ info.parts) o placed found parts ∙ ap (λ (i : RootInfo). i.parts) info_is in
@@ -171,7 +171,7 @@ register-adds T old new init line info k o placed count is found parts laid does
     let rows : load_rows init info.dims placed.parts (cells_from placed.first placed.parts) line ≡ ls = λ i. load_rows init (info_is i).dims (q i) (cells_from (f i) (q i)) line in
     goes-kept old new line rs (rs ++ registered_root r ∷ []) C D E (closing line [] ls) at lays.0
     (does-block old.phases old.phases new.phases line [] ls [] (does-start-close old.phases line [] refl) (subst (λ (xs : List Lowered). Does old.phases new.phases line (with_own xs [])) rows does))
-    prints (take-prints (with_root r.dims C) n r.parts)
+    prints (take-prints (with_handle r.dims C) n r.parts)
 
 -- ---- plan lines
 
@@ -230,7 +230,7 @@ plan-full T old root p v line i o info none full = λ rs C E at next.
     above rs C at.layout ((next.whole.taken root.0 lives).1.dims ∙ sym (next.dims root.0 lives) ∙ ap (λ (j : RootInfo). j.dims) (sym info))
 
 module _ (T : Table) (old new : Steps) (root : RootNumber) (p : Parts) (v : Bool) (line : Line) (placed : Placed) (parts : placed.parts ≡ p) (laid : Plans old.layout new.layout root (info_of T root).dims p placed) (prints : new.prints ≡ old.prints) where
-  module _ (rs : List RootState) (C : Laid) (E : Expansion) (at : StepsAt old rs C E) (next : IsNext T old.phases.workers (kept.Plan root p v) rs C E) where
+  module _ (rs : List RootState) (C : Laid) (E : Expansion) (at : StepsAt old rs C E) (next : MayComeNext T old.phases.workers (kept.Plan root p v) rs C E) where
     abbrev was : Placed
     was = (active_at old.layout.actives.items root.0).placed
 
@@ -257,13 +257,13 @@ module _ (T : Table) (old new : Steps) (root : RootNumber) (p : Parts) (v : Bool
     still = ap (λ (o : Option ℕ). unwrap_or o 0) (keeps-take C root.0 p (omega (arith, lives-below rs root.0 next.sound.0.lives, next.whole.counted)) root.0 now.parts was.first a.first)
 
     -- by whether the plan is active already, and whether the root has values
-    ends : (t u : Bool) → same_parts was.parts p ≡ t → is_valued now ≡ u → (let b : Block = cond t (closing line [] []) (closing line cs (cond u ls [])) in Does old.phases new.phases line (λ F. expanded old.phases.workers F b))
+    ends : (t u : Bool) → same_parts was.parts p ≡ t → is_valued now ≡ u → (let b : TaskBlock = cond t (closing line [] []) (closing line cs (cond u ls [])) in Does old.phases new.phases line (λ F. expanded old.phases.workers F b))
         → Goes old new line (change_at (with_parts p) root.0 rs) D (expanded old.phases.workers E (step.plan_block now cs D root.0 p line))
     ends t u e valued does =
         let same = ap (λ (s : Parts). same_parts s p) (sym a.parts) ∙ e in
-        let b : Block = cond t (closing line [] []) (closing line cs (cond u ls [])) in
+        let b : TaskBlock = cond t (closing line [] []) (closing line cs (cond u ls [])) in
         let is : step.plan_block now cs D root.0 p line ≡ b = λ i. cond (same i) (closing line [] []) (closing line cs (cond (valued i) ls [])) in
-        subst (λ (x : Block). Goes old new line (change_at (with_parts p) root.0 rs) D (expanded old.phases.workers E x)) (sym is) (goes-kept old new line rs (change_at (with_parts p) root.0 rs) C D E b at lays.0 does prints (take-prints C root.0 p))
+        subst (λ (x : TaskBlock). Goes old new line (change_at (with_parts p) root.0 rs) D (expanded old.phases.workers E x)) (sym is) (goes-kept old new line rs (change_at (with_parts p) root.0 rs) C D E b at lays.0 does prints (take-prints C root.0 p))
 
     plan-same : same_parts was.parts p ≡ true → new.phases ≡ old.phases → Goes old new line (change_at (with_parts p) root.0 rs) D (expanded old.phases.workers E (step.plan_block now (active_cells (by_number rs) C root.0) D root.0 p line))
     plan-same e phases =
@@ -296,13 +296,13 @@ module _ (T : Table) (old new : Steps) (root : RootNumber) (p : Parts) (v : Bool
   closed-are : (mid : Expander) → Closes old.phases mid line x → Closes old.phases mid line (active_at old.layout.actives.items root.0).placed
   closed-are mid closes = subst (λ (y : Placed). Closes old.phases mid line y) is closes
 
-  pub same-adds : same_parts x.parts p ≡ true → new.phases ≡ old.phases → Adds T old new (kept.Plan root p v) line
+  pub same-adds : same_parts x.parts p ≡ true → new.phases ≡ old.phases → AddsAct T old new (kept.Plan root p v) line
   same-adds e phases = λ rs C E at next. plan-same T old new root p v line placed its-parts its-cells prints rs C E at next (tested true e) phases
 
-  pub bare-adds : same_parts x.parts p ≡ false → v ≡ false → Closes old.phases new.phases line x → Adds T old new (kept.Plan root p v) line
+  pub bare-adds : same_parts x.parts p ≡ false → v ≡ false → Closes old.phases new.phases line x → AddsAct T old new (kept.Plan root p v) line
   bare-adds e bare closes = λ rs C E at next. plan-bare T old new root p v line placed its-parts its-cells prints rs C E at next (tested false e) bare (closed-are new.phases closes)
 
-  pub pastes-adds : (mid : Expander) → same_parts x.parts p ≡ false → v ≡ true → Closes old.phases mid line x → Pastes mid new.phases line i.dims x placed → Adds T old new (kept.Plan root p v) line
+  pub pastes-adds : (mid : Expander) → same_parts x.parts p ≡ false → v ≡ true → Closes old.phases mid line x → Pastes mid new.phases line i.dims x placed → AddsAct T old new (kept.Plan root p v) line
   pastes-adds mid e valued closes pastes = λ rs C E at next.
       plan-pastes T old new root p v line placed its-parts its-cells prints rs C E at next mid (tested false e) valued (closed-are mid closes)
       (subst (λ (y : Placed). Pastes mid new.phases line (info_of T root).dims y placed) is (subst (λ (j : RootInfo). Pastes mid new.phases line j.dims x placed) info pastes))
@@ -318,12 +318,12 @@ closes-root old new n line layout prints does rs qs C E at lives kept =
     (follows-kept old.layout new.layout rs qs C C at.layout (subst (λ (l : Layout). Lays l C) (sym layout) at.layout.lays) refl (ap (λ (l : Layout). l.actives) layout) kept)
     (does-closing old.phases new.phases line cs (shuts old new.phases line n rs C at.layout lives does)) prints refl
 
-pub invalidate-adds : (T : Table) (old new : Steps) (root : RootNumber) (line : Line) → new.layout ≡ old.layout → new.prints ≡ old.prints → Does old.phases new.phases line (λ F. fold (closed old.phases.workers) F (cells_by (active_at old.layout.actives.items root.0).placed)) → Adds T old new (kept.Invalidate root) line
+pub invalidate-adds : (T : Table) (old new : Steps) (root : RootNumber) (line : Line) → new.layout ≡ old.layout → new.prints ≡ old.prints → Does old.phases new.phases line (λ F. fold (closed old.phases.workers) F (cells_by (active_at old.layout.actives.items root.0).placed)) → AddsAct T old new (kept.Invalidate root) line
 invalidate-adds T old new root line layout prints does = λ rs C E at next.
     let f : RootState → RootState = λ r. with_elements (no_values r.dims) r in
     closes-root old new root.0 line layout prints does rs (change_at f root.0 rs) C E at next.sound (λ m. kept-of rs (change_at f root.0 rs) m (keeps-change f root.0 rs (λ r. (refl, refl, refl)) m))
 
-pub unregister-adds : (T : Table) (old new : Steps) (root : RootNumber) (line : Line) → new.layout ≡ old.layout → new.prints ≡ old.prints → Does old.phases new.phases line (λ F. fold (closed old.phases.workers) F (cells_by (active_at old.layout.actives.items root.0).placed)) → Adds T old new (kept.Unregister root) line
+pub unregister-adds : (T : Table) (old new : Steps) (root : RootNumber) (line : Line) → new.layout ≡ old.layout → new.prints ≡ old.prints → Does old.phases new.phases line (λ F. fold (closed old.phases.workers) F (cells_by (active_at old.layout.actives.items root.0).placed)) → AddsAct T old new (kept.Unregister root) line
 unregister-adds T old new root line layout prints does = λ rs C E at next.
     closes-root old new root.0 line layout prints does rs (set rs root.0 no_root) C E at next.sound (λ m. kept-end rs root.0 m (lives-below rs root.0 next.sound))
 
@@ -348,7 +348,7 @@ module _ (T : Table) (old : Steps) (root : RootNumber) (h : HasNext T old (kept.
 print-adds : (T : Table) (old new : Steps) (root : RootNumber) (line : Line) (mid : Expander) → new.layout ≡ old.layout → (new.phases.over ≡ None → new.prints ≡ old.prints + 1)
     → Does old.phases mid line (λ F. fold (closed old.phases.workers) F (cells_by (active_at old.layout.actives.items root.0).placed))
     → (let x = (active_at old.layout.actives.items root.0).placed in Does mid new.phases line (with_own (each_of (λ place. deliver_row (cells_from x.first x.parts place) line) (places x.parts)) (each_of (a_delivery root.0 (info_of T root).dims x.parts old.prints) (zip (range_with_len 0 (length (places x.parts))) (places x.parts)))))
-    → Adds T old new (kept.Print root) line
+    → AddsAct T old new (kept.Print root) line
 print-adds T old new root line mid layout prints does delivers = λ rs C E at next.
     let r = root_at rs root.0 in
     let x = (active_at old.layout.actives.items root.0).placed in
@@ -371,7 +371,7 @@ Delivers a b line n d x print = Does a b line (with_own (each_of (λ (place : �
 
 -- the same by what the code's calls gave
 pub delivers-adds : (T : Table) (old new : Steps) (root : RootNumber) (line : Line) (mid : Expander) (x : Placed) (i : RootInfo) → x ≡ (active_at old.layout.actives.items root.0).placed → i ≡ info_of T root → new.layout ≡ old.layout → (new.phases.over ≡ None → new.prints ≡ old.prints + 1)
-    → Closes old.phases mid line x → Delivers mid new.phases line root.0 i.dims x old.prints → Adds T old new (kept.Print root) line
+    → Closes old.phases mid line x → Delivers mid new.phases line root.0 i.dims x old.prints → AddsAct T old new (kept.Print root) line
 delivers-adds T old new root line mid x i is info layout prints closes delivers =
     print-adds T old new root line mid layout prints (subst (λ (y : Placed). Closes old.phases mid line y) is closes)
     (subst (λ (y : Placed). Delivers mid new.phases line root.0 (info_of T root).dims y old.prints) is (subst (λ (j : RootInfo). Delivers mid new.phases line root.0 j.dims x old.prints) info delivers))
@@ -382,7 +382,7 @@ module _ (T : Table) (old new : Steps) (root : RootNumber) (by : Reduction) (lin
   abbrev mine : Active
   mine = record { placed = (active_at old.layout.actives.items root.0).placed; reduction = Some by }
 
-  pub reduce-adds : new.layout.infos ≡ old.layout.infos → new.layout.firsts ≡ old.layout.firsts → new.layout.actives.items ≡ set old.layout.actives.items root.0 mine → new.phases ≡ old.phases → new.prints ≡ old.prints → Adds T old new (kept.Redux root by) line
+  pub reduce-adds : new.layout.infos ≡ old.layout.infos → new.layout.firsts ≡ old.layout.firsts → new.layout.actives.items ≡ set old.layout.actives.items root.0 mine → new.phases ≡ old.phases → new.prints ≡ old.prints → AddsAct T old new (kept.Redux root by) line
   reduce-adds infos firsts actives phases prints = λ rs C E at next.
       let n = root.0 in
       let qs = change_at (with_reduction by) n rs in
@@ -392,7 +392,7 @@ module _ (T : Table) (old new : Steps) (root : RootNumber) (by : Reduction) (lin
         lays = record {
           rows = ap (λ v. v.items) infos ∙ at.layout.lays.rows;
           few = at.layout.lays.few;
-          firsts = λ m p. ap (λ f. get same_taken f (taken m p)) firsts ∙ at.layout.lays.firsts m p;
+          firsts = λ m p. ap (λ f. get same_taken f (taken_plan m p)) firsts ∙ at.layout.lays.firsts m p;
         };
         active = subst (λ bs. AreActive bs qs C) (sym actives) (active-set old.layout.actives.items rs C C n (with_reduction by) mine at.layout.active next.sound.0 next.whole.counted refl is (λ m s f e. e));
       } in

@@ -33,14 +33,14 @@ use Rattle.sj_meaning.specs.Meaning.{with_reduction, with_elements, no_values, w
 use Rattle.sj_meaning.specs.Numbers.{no_root, root_at, change_at, apply_at, operand_array_at}
 use Rattle.sj_meaning.proofs.Timely.{length-put}
 use Rattle.sj_codelet.specs.Kernel.{out}
-use Rattle.sj_phases.specs.Plain.{Opens, direct_mode, direct, plain_rows, open_at}
+use Rattle.sj_phases.specs.Plain.{OpenReductions, direct_mode, direct, plain_rows, open_at}
 use Rattle.sj_phases.specs.Rows.{own_task}
 use Rattle.sj_lower.specs.Cells.{same_parts}
-use Rattle.sj_lower.specs.Laid.{Laid, cell_of, take, with_root, with_print}
+use Rattle.sj_lower.specs.Laid.{Laid, cell_of, take, with_handle, with_print}
 use Rattle.sj_lower.specs.Rows.{load_row, fill_row, paste_arguments, paste_row, deliver_row, load_rows}
-use Rattle.sj_lower.specs.SoundAt.{Lives, IsPlaced, IsSound}
+use Rattle.sj_lower.specs.SoundAt.{Lives, IsPlacedAt, IsSoundAt}
 use Rattle.sj_lower.specs.Step.{by_number, active_cells, closing, plan_block, print_block, contributed, step_of}
-use Rattle.sj_lower.specs.Whole.{IsTaken, AreLaid, HaveCopies}
+use Rattle.sj_lower.specs.Whole.{HasTakenPlan, AreLaid, HaveCopies}
 use Rattle.sj_lower.proofs.Agrees.{Agrees, AreOpenChildren}
 use Rattle.sj_lower.proofs.Contents.{contents_before}
 use Rattle.sj_lower.proofs.Contributing.{fold-handles, laid-contributed, of_redux, roots-copied, roots-task}
@@ -118,10 +118,10 @@ reduced-root q C n k m r by o = record { fits = o.fits; whole = o.whole; first =
 
 -- ---- one statement more
 
-pub keeps-step : (has : Kernel → Bool) (q : Program) (C : Laid) (n : ℕ) (rs : List RootState) (line : Line) (a : Act ℕ) → IsSound has rs a → AreLaid C → HaveCopies q.workers C → HaveRoots q C n (contents_before q n) rs → length C.handles ≡ length rs
+pub keeps-step : (has : Kernel → Bool) (q : Program) (C : Laid) (n : ℕ) (rs : List RootState) (line : Line) (a : Act ℕ) → IsSoundAt has rs a → AreLaid C → HaveCopies q.workers C → HaveRoots q C n (contents_before q n) rs → length C.handles ≡ length rs
     → let x = step_of q.workers (by_number rs) C line a in HasCells q x.laid → Stand q n (plain_rows x.block) → Keeps q x.laid (apply_at a rs) n (plain_rows x.block)
 keeps-step has q C n rs line (Registers r) s a copies roots counted cells stand =
-    let D = take (length C.handles) r.parts (with_root r.dims C) in
+    let D = take (length C.handles) r.parts (with_handle r.dims C) in
     let same = direct-loads r.init r.dims r.parts (cell_of D (length C.handles) r.parts) line in
     subst (Keeps q D (apply_at (Registers r) rs) n) (sym same) (keeps-registered q C n rs line r s a copies counted roots cells (subst (Stand q n) same stand))
 keeps-step has q C n rs line (Plans m p) s a copies roots counted cells stand =
@@ -131,7 +131,7 @@ keeps-step has q C n rs line (Plans m p) s a copies roots counted cells stand =
 keeps-step has q C n rs line (Reduces m by) s a copies roots counted cells stand =
     keeps-idle q C (change_at (with_reduction by) m rs) n a copies (changed-roots q C n rs m (with_reduction by) s.0 roots (reduced-root q C n (contents_before q n) m (root_at rs m) by)) (counted ∙ sym (length-set rs m (with_reduction by (root_at rs m))))
 keeps-step has q C n rs line (Tasks t) s a copies roots counted cells stand =
-    let placed = each-weaker (λ (u : Operand ℕ). IsPlaced rs u × (is_redux u.mode ≡ true)) (IsPlaced rs) (λ u h. h.0) (contributed t) (of_redux (IsPlaced rs) t.operands s.placed) in
+    let placed = each-weaker (λ (u : Operand ℕ). IsPlacedAt rs u × (is_redux u.mode ≡ true)) (IsPlacedAt rs) (λ u h. h.0) (contributed t) (of_redux (IsPlacedAt rs) t.operands s.placed) in
     let laid = laid-contributed q C n (contents_before q n) rs (contributed t) a copies roots placed in
     record {
       laid = laid.0;
@@ -145,7 +145,7 @@ keeps-step has q C n rs line (Prints m) s a copies roots counted cells stand =
     let same = direct-delivers cell line (places r.parts) in
     let ls = plain_rows (print_block m r (active_cells (by_number rs) C m) C.prints line) in
     let left : contents_before q (n + length ls) ≡ contents_before q n = contents-rows q n ls stand ∙ ap (after_rows q (contents_before q n)) same ∙ after_delivers q (contents_before q n) cell line (places r.parts) in
-    let back = λ (u : ℕ) (d : Dims) (s : Parts) (f : ℕ) (t : IsTaken (with_print C) u d s f). taken-as (with_print C) C u u d s f refl t in
+    let back = λ (u : ℕ) (d : Dims) (s : Parts) (f : ℕ) (t : HasTakenPlan (with_print C) u d s f). taken-as (with_print C) C u u d s f refl t in
     record {
       laid = laid-as C (with_print C) back (omega arith) (λ u h. refl) a.sized a.small a;
       copies = copies-as q.workers C C.handles (C.prints + 1) back copies;
@@ -158,7 +158,7 @@ keeps-step has q C n rs line (Unregisters m) s a copies roots counted cells stan
     keeps-idle q C (set rs m no_root) n a copies (ended-roots q C n rs m s roots) (counted ∙ sym (length-set rs m no_root))
 
 -- after one statement more
-pub agrees-step : (has : Kernel → Bool) (q : Program) (C : Laid) (n : ℕ) (rs : List RootState) (was : Opens) (line : Line) (a : Act ℕ) → IsSound has rs a → Agrees q C rs n was
+pub agrees-step : (has : Kernel → Bool) (q : Program) (C : Laid) (n : ℕ) (rs : List RootState) (was : OpenReductions) (line : Line) (a : Act ℕ) → IsSoundAt has rs a → Agrees q C rs n was
     → let x = step_of q.workers (by_number rs) C line a in HasCells q x.laid → Stand q n (plain_rows x.block) → AreOpenChildren x.laid (apply_at a rs) (open_at was x.block) → Agrees q x.laid (apply_at a rs) (n + length (plain_rows x.block)) (open_at was x.block)
 agrees-step has q C n rs was line a s g cells stand opens =
     let k = keeps-step has q C n rs line a s g.laid g.copies g.roots g.counted cells stand in

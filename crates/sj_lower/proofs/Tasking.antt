@@ -31,8 +31,8 @@ use Rattle.sj_meaning.specs.Numbers.{root_at, operand_at, operand_array_at, task
 use Rattle.sj_meaning.specs.Sound.{is_lawful_for}
 use Rattle.sj_meaning.specs.Table.{Table}
 use Rattle.sj_phases.specs.declared.expander.Expander.{Expander}
-use Rattle.sj_phases.specs.declared.phase.Opening.{Opening}
-use Rattle.sj_phases.specs.Block.{Block}
+use Rattle.sj_phases.specs.declared.phase.PhaseOpening.{PhaseOpening}
+use Rattle.sj_phases.specs.Block.{TaskBlock}
 use Rattle.sj_phases.specs.Does.{HasAt, Does}
 use Rattle.sj_phases.specs.Expand.{Expansion, closed, opened, expanded, with_own, most}
 use Rattle.sj_phases.proofs.Doing.{has-after}
@@ -40,13 +40,13 @@ use Rattle.sj_lower.specs.declared.contributions.StepRefusal.{StepRefusal}
 use Rattle.sj_lower.specs.declared.contributions.StepRefusal.TheVariants.{TooManyCells, OutOfMemory}
 use Rattle.sj_lower.specs.declared.layout.Layout.{Layout}
 use Rattle.sj_lower.specs.declared.steps.Steps.{Steps}
-use Rattle.sj_lower.specs.Adds.{is_contributed, CanOpen, Opens, IsFullFor, lowered_task, StepsAt, IsNext, HasNext, Goes, IsFull}
+use Rattle.sj_lower.specs.Adds.{is_contributed, CanOpen, OpensPhase, IsFullFor, lowered_task, StepsAt, MayComeNext, HasNext, Goes, IsFull}
 use Rattle.sj_lower.specs.Cells.{cells_from}
-use Rattle.sj_lower.specs.Follows.{Lays, Follows, IsInside, active_at, cell_by, access_by, is_other}
-use Rattle.sj_lower.specs.Laid.{Laid, handle_of, cell_of, first_copy, with_copies}
-use Rattle.sj_lower.specs.SoundAt.{Lives, has_value, IsPlaced, IsSoundTask}
-use Rattle.sj_lower.specs.Step.{by_number, operand_cell, is_other_access, opening_of, access_of, task_row}
-use Rattle.sj_lower.specs.Whole.{IsWhole, HaveCopies}
+use Rattle.sj_lower.specs.Follows.{Lays, Follows, IsActiveChild, active_at, cell_by, access_by, is_other}
+use Rattle.sj_lower.specs.Laid.{Laid, handle_of, cell_of, first_copy_in, with_copies}
+use Rattle.sj_lower.specs.SoundAt.{Lives, has_value, IsPlacedAt, IsSoundTaskAt}
+use Rattle.sj_lower.specs.Step.{by_number, operand_cell, is_other_access, opening_for, access_of, task_row}
+use Rattle.sj_lower.specs.Whole.{AreLaidFor, HaveCopies}
 use Rattle.sj_lower.proofs.Arms.{does-block, does-task, goes-kept, keeps-put, kept-of}
 use Rattle.sj_lower.proofs.Copying.{IsNoCopy, by_copies, copies-copied, copied-first, first-old, copies-prints}
 use Rattle.sj_lower.proofs.Finding.{contributed-at, only-one, value-of}
@@ -83,12 +83,12 @@ reduction-is has id None m law redux = absurd (false≢true (implied (is_redux m
 reduction-is has id (Some by) m law redux = (by, refl)
 
 -- what is contributed to is a child, whose root has a reduction
-contributes-to : (has : Kernel → Bool) (rs : List RootState) (t : TaskLine ℕ) (o : Operand ℕ) (rest : List (Operand ℕ)) → IsSoundTask has rs t → filter (λ (o : Operand ℕ). is_redux o.mode) t.operands ≡ o ∷ rest → IsPlaced rs o × ((by : Reduction) × ((root_at rs o.name).reduction ≡ Some by))
+contributes-to : (has : Kernel → Bool) (rs : List RootState) (t : TaskLine ℕ) (o : Operand ℕ) (rest : List (Operand ℕ)) → IsSoundTaskAt has rs t → filter (λ (o : Operand ℕ). is_redux o.mode) t.operands ≡ o ∷ rest → IsPlacedAt rs o × ((by : Reduction) × ((root_at rs o.name).reduction ≡ Some by))
 contributes-to has rs t o rest s first =
     let redux : Operand ℕ → Bool = λ o. is_redux o.mode in
     let lawful : Operand ℕ → Bool = λ o. is_lawful_for has t.codelet (root_at rs o.name).reduction o.mode in
     let law = head-has (λ o. lawful o ≡ true) redux t.operands o rest (recursion_from_All (λ o. lawful o ≡ true) t.operands (AllPass-from_list_all lawful t.operands s.lawful)) first in
-    ((head-has (IsPlaced rs) redux t.operands o rest s.placed first).0, reduction-is has t.codelet (root_at rs o.name).reduction o.mode law.0 law.1)
+    ((head-has (IsPlacedAt rs) redux t.operands o rest s.placed first).0, reduction-is has t.codelet (root_at rs o.name).reduction o.mode law.0 law.1)
 
 -- ---- cells
 
@@ -96,27 +96,27 @@ cell-kept : (C D : Laid) → D.handles ≡ C.handles → (n : ℕ) (p : Parts) (
 cell-kept C D e n p place = λ i. cells_from (unwrap_or ((get_or (sym e i) n (handle_of (record { rows = 0; cols = 0 }))).first p) 0) p place
 
 -- the cell of a child is no partial copy
-no-copy : (w : ℕ) (rs : List RootState) (C : Laid) (o : Operand ℕ) → IsWhole w rs C → IsPlaced rs o → IsNoCopy w C (operand_cell (by_number rs) C o)
+no-copy : (w : ℕ) (rs : List RootState) (C : Laid) (o : Operand ℕ) → AreLaidFor w rs C → IsPlacedAt rs o → IsNoCopy w C (operand_cell (by_number rs) C o)
 no-copy w rs C o whole placed d f v e lt same =
     let r = root_at rs o.name in
     let t = whole.taken o.name placed.lives in
     whole.copies.beside d f v o.name r.dims r.parts t.0 o.place e lt t.1 placed.place (same ∙ cell-is C o.name r.dims r.parts t.0 o.place t.1)
 
-inside-cells : (w : ℕ) (rs : List RootState) (C : Laid) (o : Operand ℕ) → IsWhole w rs C → IsPlaced rs o → (operand_cell (by_number rs) C o).0 < length C.rows
+inside-cells : (w : ℕ) (rs : List RootState) (C : Laid) (o : Operand ℕ) → AreLaidFor w rs C → IsPlacedAt rs o → (operand_cell (by_number rs) C o).0 < length C.rows
 inside-cells w rs C o whole placed =
     let r = root_at rs o.name in
     let t = whole.taken o.name placed.lives in
     cell-inside C o.name r.dims r.parts t.0 o.place whole.laid t.1 placed.place
 
-module _ (l : Layout) (w : ℕ) (rs : List RootState) (C : Laid) (follows : Follows l rs C) (whole : IsWhole w rs C) where
+module _ (l : Layout) (w : ℕ) (rs : List RootState) (C : Laid) (follows : Follows l rs C) (whole : AreLaidFor w rs C) where
   -- what is so of each child is so of each operand
-  each-placed : (Q : Kept → Type 0) → ((o : Kept) → IsPlaced rs (operand_at o) → Q o) → (os : List Kept) → AllByRecursion (IsPlaced rs) (map operand_at os) → AllByRecursion Q os
-  each-placed Q f os h = each-weaker (λ o. IsPlaced rs (operand_at o)) Q f os (each-from_map (IsPlaced rs) operand_at os h)
+  each-placed : (Q : Kept → Type 0) → ((o : Kept) → IsPlacedAt rs (operand_at o) → Q o) → (os : List Kept) → AllByRecursion (IsPlacedAt rs) (map operand_at os) → AllByRecursion Q os
+  each-placed Q f os h = each-weaker (λ o. IsPlacedAt rs (operand_at o)) Q f os (each-from_map (IsPlacedAt rs) operand_at os h)
 
-  pub all-inside : (os : List Kept) → AllByRecursion (IsPlaced rs) (map operand_at os) → All (IsInside l.actives.items) os
-  all-inside os h = All-from_recursion (IsInside l.actives.items) os (each-placed (IsInside l.actives.items) (λ o placed. is-inside l w rs C o follows whole placed.lives placed.place) os h)
+  pub all-inside : (os : List Kept) → AllByRecursion (IsPlacedAt rs) (map operand_at os) → All (IsActiveChild l.actives.items) os
+  all-inside os h = All-from_recursion (IsActiveChild l.actives.items) os (each-placed (IsActiveChild l.actives.items) (λ o placed. is-inside l w rs C o follows whole placed.lives placed.place) os h)
 
-  can-open : (o : Kept) → IsPlaced rs (operand_at o) → CanOpen l w o
+  can-open : (o : Kept) → IsPlacedAt rs (operand_at o) → CanOpen l w o
   can-open o placed =
       let c = operand_cell (by_number rs) C (operand_at o) in
       let same = cell-same l rs C o follows placed.lives in
@@ -128,20 +128,20 @@ module _ (l : Layout) (w : ℕ) (rs : List RootState) (C : Laid) (follows : Foll
         copies = subst (λ (x : Cell). HaveCopies w (with_copies w C x)) (sym same) (copies-copied w c C there (no-copy w rs C (operand_at o) whole placed) whole.laid whole.copies);
       }
 
-  pub all-can : (os : List Kept) → AllByRecursion (IsPlaced rs) (map operand_at os) → All (λ o. is_redux o.mode ≡ true → CanOpen l w o) os
+  pub all-can : (os : List Kept) → AllByRecursion (IsPlacedAt rs) (map operand_at os) → All (λ o. is_redux o.mode ≡ true → CanOpen l w o) os
   all-can os h = All-from_recursion (λ o. is_redux o.mode ≡ true → CanOpen l w o) os (each-placed (λ o. is_redux o.mode ≡ true → CanOpen l w o) (λ o placed e. can-open o placed) os h)
 
   module _ (D : Laid) (handles : D.handles ≡ C.handles) where
     cell-after : (o : Kept) → Lives rs o.root.0 → cell_by l.actives.items o ≡ operand_cell (by_number rs) D (operand_at o)
     cell-after o lives = cell-same l rs C o follows lives ∙ cell-kept C D handles o.root.0 (root_at rs o.root.0).parts o.place
 
-    pub closes-after : (os : List Kept) → AllByRecursion (IsPlaced rs) (map operand_at os) → map (cell_by l.actives.items) (filter is_other os) ≡ map (operand_cell (by_number rs) D) (filter is_other_access (map operand_at os))
+    pub closes-after : (os : List Kept) → AllByRecursion (IsPlacedAt rs) (map operand_at os) → map (cell_by l.actives.items) (filter is_other os) ≡ map (operand_cell (by_number rs) D) (filter is_other_access (map operand_at os))
     closes-after os h =
         let cell : Kept → Cell = λ o. operand_cell (by_number rs) D (operand_at o) in
         map-same (cell_by l.actives.items) cell (filter is_other os) (each-filter (λ o. cell_by l.actives.items o ≡ cell o) is_other os (each-placed (λ o. is_other o ≡ true → cell_by l.actives.items o ≡ cell o) (λ o placed e. cell-after o placed.lives) os h))
         ∙ sym (map-map (operand_cell (by_number rs) D) operand_at (filter is_other os)) ∙ ap (map (operand_cell (by_number rs) D)) (map-filter operand_at is_other_access os)
 
-    pub accesses-after : (os : List Kept) → AllByRecursion (IsPlaced rs) (map operand_at os) → map (access_by l.actives.items) os ≡ map (access_of (by_number rs) D) (map operand_at os)
+    pub accesses-after : (os : List Kept) → AllByRecursion (IsPlacedAt rs) (map operand_at os) → map (access_by l.actives.items) os ≡ map (access_of (by_number rs) D) (map operand_at os)
     accesses-after [] h = refl
     accesses-after (o ∷ os) h = λ i. (let a : Access = record { mode = o.mode; cell = cell-after o h.0.lives i } in a) ∷ accesses-after os h.1 i
 
@@ -149,9 +149,9 @@ module _ (l : Layout) (w : ℕ) (rs : List RootState) (C : Laid) (follows : Foll
 
 -- a cell has its partial copies, from this one on
 abbrev Copies : Layout → Layout → ℕ → Cell → Cell → Type 0
-Copies l m w c first = (C : Laid) → Lays l C → Lays m (with_copies w C c) × (first_copy C c ≡ first)
+Copies l m w c first = (C : Laid) → Lays l C → Lays m (with_copies w C c) × (first_copy_in C c ≡ first)
 
-module _ (l m : Layout) (a : Expander) (o : Kept) (c first : Cell) (x : Option Cell) (is : c ≡ cell_by l.actives.items o) (some : x ≡ Some first) (copied : IfSome x (λ (d : Cell). (C : Laid) → Lays l C → Lays m (with_copies a.workers C c) × (first_copy C c ≡ d))) where
+module _ (l m : Layout) (a : Expander) (o : Kept) (c first : Cell) (x : Option Cell) (is : c ≡ cell_by l.actives.items o) (some : x ≡ Some first) (copied : IfSome x (λ (d : Cell). (C : Laid) → Lays l C → Lays m (with_copies a.workers C c) × (first_copy_in C c ≡ d))) where
   copies-are : Copies l m a.workers (cell_by l.actives.items o) first
   copies-are = subst (λ (d : Cell). Copies l m a.workers d first) is (IfSome-at (Copies l m a.workers c) x first some copied)
 
@@ -160,21 +160,21 @@ module _ (l m : Layout) (a : Expander) (o : Kept) (c first : Cell) (x : Option C
   copies-room can =
       let at = cell_by l.actives.items o in
       let h = copies-are can.cells can.lays in
-      let inside = can.copies.inside at (first_copy can.cells at) (copied-first a.workers at can.cells can.there) in
+      let inside = can.copies.inside at (first_copy_in can.cells at) (copied-first a.workers at can.cells can.there) in
       subst (λ (d : Cell). d.0 + a.workers ≤ most) h.1 (omega (arith, inside, h.0.few))
 
   pub opens-by : (b : Expander) (valued : Bool) (line : Line) (by : Reduction) → (active_at l.actives.items o.root.0).reduction ≡ Some by → m.actives ≡ l.actives
-      → (let y : Opening = record { cell = c; by = by; copies = first; valued = valued } in Does a b line (λ E. opened a.workers line E y)) → Opens l m a b o valued line
+      → (let y : PhaseOpening = record { cell = c; by = by; copies = first; valued = valued } in Does a b line (λ E. opened a.workers line E y)) → OpensPhase l m a b o valued line
   opens-by b valued line by reduced actives does = λ C also s so.
       let at = cell_by l.actives.items o in
       let h = copies-are C s in
       let same : by ≡ also = some_is by also (sym reduced ∙ so) in
-      let opening : Cell → Reduction → Cell → Opening = λ d r f. record { cell = d; by = r; copies = f; valued = valued } in
-      let is_it : opening c by first ≡ opening at also (first_copy C at) = λ i. opening (is i) (same i) (sym h.1 i) in
-      (h.0, actives, subst (λ (y : Opening). Does a b line (λ E. opened a.workers line E y)) is_it does)
+      let opening : Cell → Reduction → Cell → PhaseOpening = λ d r f. record { cell = d; by = r; copies = f; valued = valued } in
+      let is_it : opening c by first ≡ opening at also (first_copy_in C at) = λ i. opening (is i) (same i) (sym h.1 i) in
+      (h.0, actives, subst (λ (y : PhaseOpening). Does a b line (λ E. opened a.workers line E y)) is_it does)
 
 -- its root has no reduction
-pub opens-none : (l m : Layout) (a b : Expander) (o : Kept) (valued : Bool) (line : Line) → (active_at l.actives.items o.root.0).reduction ≡ None → Opens l m a b o valued line
+pub opens-none : (l m : Layout) (a b : Expander) (o : Kept) (valued : Bool) (line : Line) → (active_at l.actives.items o.root.0).reduction ≡ None → OpensPhase l m a b o valued line
 opens-none l m a b o valued line none = λ C by s so. absurd (none_isn't by (sym none ∙ so))
 
 -- too many cells
@@ -186,7 +186,7 @@ opens-full l w o c x is none full = λ C s.
 -- ---- the line
 
 -- the layout's active plans are as they were
-pub actives-kept : (T : Table) (x : Steps) (t : KeptTask) (m : Layout) (a b : Expander) (line : Line) → HasNext T x (kept.Task t) → (filter is_contributed t.operands ≡ [] → m ≡ x.layout) → ((o : Kept) (rest : List Kept) → filter is_contributed t.operands ≡ o ∷ rest → Opens x.layout m a b o t.valued line) → m.actives ≡ x.layout.actives
+pub actives-kept : (T : Table) (x : Steps) (t : KeptTask) (m : Layout) (a b : Expander) (line : Line) → HasNext T x (kept.Task t) → (filter is_contributed t.operands ≡ [] → m ≡ x.layout) → ((o : Kept) (rest : List Kept) → filter is_contributed t.operands ≡ o ∷ rest → OpensPhase x.layout m a b o t.valued line) → m.actives ≡ x.layout.actives
 actives-kept T x t m a b line h none opens = by_list (filter is_contributed t.operands) refl
   where
     by_list : (fs : List Kept) → filter is_contributed t.operands ≡ fs → m.actives ≡ x.layout.actives
@@ -196,7 +196,7 @@ actives-kept T x t m a b line h none opens = by_list (filter is_contributed t.op
         (opens o rest e h.cells to.1.0 h.at.layout.lays ((h.at.layout.active.each o.root.0 to.0.lives).reduction ∙ to.1.1)).1
 
 -- the tasks and phases are those of an expansion, as they were
-pub still-has : (T : Table) (x : Steps) (t : KeptTask) (m : Layout) (a b : Expander) (line : Line) → HasNext T x (kept.Task t) → HasAt a → (filter is_contributed t.operands ≡ [] → b ≡ a) → ((o : Kept) (rest : List Kept) → filter is_contributed t.operands ≡ o ∷ rest → Opens x.layout m a b o t.valued line) → HasAt b
+pub still-has : (T : Table) (x : Steps) (t : KeptTask) (m : Layout) (a b : Expander) (line : Line) → HasNext T x (kept.Task t) → HasAt a → (filter is_contributed t.operands ≡ [] → b ≡ a) → ((o : Kept) (rest : List Kept) → filter is_contributed t.operands ≡ o ∷ rest → OpensPhase x.layout m a b o t.valued line) → HasAt b
 still-has T x t m a b line h has none opens = by_list (filter is_contributed t.operands) refl
   where
     by_list : (fs : List Kept) → filter is_contributed t.operands ≡ fs → HasAt b
@@ -210,7 +210,7 @@ pub task-full : (T : Table) (old : Steps) (t : KeptTask) (line : Line) (w : ℕ)
 task-full T old t line w workers OutOfMemory full some = tt
 task-full T old t line w workers TooManyCells full some = λ rs C E at next. by_list rs C E at next (filter is_contributed t.operands) refl
   where
-    by_list : (rs : List RootState) (C : Laid) (E : Expansion) → StepsAt old rs C E → IsNext T old.phases.workers (kept.Task t) rs C E → (fs : List Kept) → filter is_contributed t.operands ≡ fs
+    by_list : (rs : List RootState) (C : Laid) (E : Expansion) → StepsAt old rs C E → MayComeNext T old.phases.workers (kept.Task t) rs C E → (fs : List Kept) → filter is_contributed t.operands ≡ fs
         → most < length (fold (with_copies old.phases.workers) C (map (operand_cell (by_number rs) C) (filter (λ (o : Operand ℕ). is_redux o.mode) (map operand_at t.operands)))).rows
     by_list rs C E at next [] e = absurd (some e)
     by_list rs C E at next (o ∷ rest) e =
@@ -224,10 +224,10 @@ task-full T old t line w workers TooManyCells full some = λ rs C E at next. by_
 module _ (T : Table) (old new : Steps) (t : KeptTask) (line : Line) (a b : Expander) (workers : a.workers ≡ old.phases.workers)
     (closes : Does old.phases a line (λ F. fold (closed old.phases.workers) F (map (cell_by old.layout.actives.items) (filter is_other t.operands))))
     (none : filter is_contributed t.operands ≡ [] → (new.layout ≡ old.layout) × (b ≡ a))
-    (opens : (o : Kept) (rest : List Kept) → filter is_contributed t.operands ≡ o ∷ rest → Opens old.layout new.layout a b o t.valued line)
+    (opens : (o : Kept) (rest : List Kept) → filter is_contributed t.operands ≡ o ∷ rest → OpensPhase old.layout new.layout a b o t.valued line)
     (row : Lowered) (row_is : row ≡ lowered_task t line (map (access_by old.layout.actives.items) t.operands))
     (pushes : Does b new.phases line (with_own (row ∷ []) [])) (prints : new.prints ≡ old.prints) where
-  module _ (rs : List RootState) (C : Laid) (E : Expansion) (at : StepsAt old rs C E) (next : IsNext T old.phases.workers (kept.Task t) rs C E) where
+  module _ (rs : List RootState) (C : Laid) (E : Expansion) (at : StepsAt old rs C E) (next : MayComeNext T old.phases.workers (kept.Task t) rs C E) where
     abbrev w : ℕ
     w = old.phases.workers
 
@@ -241,15 +241,15 @@ module _ (T : Table) (old new : Steps) (t : KeptTask) (line : Line) (a b : Expan
     After us = fold (with_copies w) C (map (operand_cell (by_number rs) C) us)
 
     -- its block, by the cells after it and the phases that it opens
-    abbrev block_with : Laid → List Opening → Block
+    abbrev block_with : Laid → List PhaseOpening → TaskBlock
     block_with D xs = record { line = line; closes = map (operand_cell (by_number rs) D) (filter is_other_access os); opens = xs; tasks = task_row (by_number rs) D (task_at t) line ∷ []; deliveries = [] }
 
     -- what comes of it, by the operands that are contributed to
     abbrev Wanted : List (Operand ℕ) → Type 0
-    Wanted us = Goes old new line qs (After us) (expanded w E (block_with (After us) (flat_map (opening_of (by_number rs) (After us)) us)))
+    Wanted us = Goes old new line qs (After us) (expanded w E (block_with (After us) (flat_map (opening_for (by_number rs) (After us)) us)))
 
-    ends : (D : Laid) (xs : List Opening) → D.handles ≡ C.handles → D.prints ≡ C.prints → Lays new.layout D → new.layout.actives ≡ old.layout.actives
-        → (let x : Block = block_with D xs in Does old.phases a line (λ F. fold (closed w) F x.closes) → Does b new.phases line (with_own x.tasks []) → Does old.phases new.phases line (λ F. expanded w F x)) → Goes old new line qs D (expanded w E (block_with D xs))
+    ends : (D : Laid) (xs : List PhaseOpening) → D.handles ≡ C.handles → D.prints ≡ C.prints → Lays new.layout D → new.layout.actives ≡ old.layout.actives
+        → (let x : TaskBlock = block_with D xs in Does old.phases a line (λ F. fold (closed w) F x.closes) → Does b new.phases line (with_own x.tasks []) → Does old.phases new.phases line (λ F. expanded w F x)) → Goes old new line qs D (expanded w E (block_with D xs))
     ends D xs handles kept lays actives does =
         let is : row ≡ task_row (by_number rs) D (task_at t) line = row_is ∙ ap (lowered_task t line) (accesses-after old.layout w rs C at.layout next.whole D handles t.operands next.sound.placed) in
         let shut = subst (λ (cs : List Cell). Does old.phases a line (λ F. fold (closed w) F cs)) (closes-after old.layout w rs C at.layout next.whole D handles t.operands next.sound.placed) closes in
@@ -261,7 +261,7 @@ module _ (T : Table) (old new : Steps) (t : KeptTask) (line : Line) (a b : Expan
     none-open : filter is_contributed t.operands ≡ [] → Wanted []
     none-open e =
         let n = none e in
-        let x : Block = block_with C [] in
+        let x : TaskBlock = block_with C [] in
         ends C [] refl refl (subst (λ (l : Layout). Lays l C) (sym n.0) at.layout.lays) (ap (λ (l : Layout). l.actives) n.0)
         (λ shut put. does-block old.phases a new.phases line x.closes x.tasks [] shut (subst (λ (y : Expander). Does y new.phases line (with_own x.tasks [])) n.1 put))
 
@@ -277,19 +277,19 @@ module _ (T : Table) (old new : Steps) (t : KeptTask) (line : Line) (a b : Expan
         let also = cell-kept C D handles o.root.0 (root_at rs o.root.0).parts o.place in
         let opened_one = opens o rest e C by.0 at.layout.lays ((at.layout.active.each o.root.0 to.0.lives).reduction ∙ by.1) in
         let lays : Lays new.layout D = subst (λ (x : Cell). Lays new.layout (with_copies w C x)) mine (subst (λ n. Lays new.layout (with_copies n C (cell_by old.layout.actives.items o))) workers opened_one.0) in
-        let opening : Opening = record { cell = operand_cell (by_number rs) D u; by = by.0; copies = first_copy D (operand_cell (by_number rs) D u); valued = is_valued_child (root_at rs o.root.0) o.place } in
-        let copies : first_copy C c ≡ first_copy D (operand_cell (by_number rs) D u) = sym (first-old D c (first_copy C c) (copied-first w c C (inside-cells w rs C u next.whole to.0))) ∙ ap (first_copy D) also in
+        let opening : PhaseOpening = record { cell = operand_cell (by_number rs) D u; by = by.0; copies = first_copy_in D (operand_cell (by_number rs) D u); valued = is_valued_child (root_at rs o.root.0) o.place } in
+        let copies : first_copy_in C c ≡ first_copy_in D (operand_cell (by_number rs) D u) = sym (first-old D c (first_copy_in C c) (copied-first w c C (inside-cells w rs C u next.whole to.0))) ∙ ap (first_copy_in D) also in
         let value : t.valued ≡ is_valued_child (root_at rs o.root.0) o.place = next.valued ∙ value-of (has_value rs) os u alone in
-        let was : Cell → Opening = λ x. record { cell = x; by = by.0; copies = first_copy C x; valued = t.valued } in
+        let was : Cell → PhaseOpening = λ x. record { cell = x; by = by.0; copies = first_copy_in C x; valued = t.valued } in
         let same : was (cell_by old.layout.actives.items o) ≡ opening =
         ap was mine ∙ (λ i. record { cell = also i; by = by.0; copies = copies i; valued = value i }) in
-        let found : flat_map (opening_of (by_number rs) D) (u ∷ []) ≡ opening ∷ [] =
-        ap (λ (r : Option Reduction). elim r as (λ _. List Opening) [
+        let found : flat_map (opening_for (by_number rs) D) (u ∷ []) ≡ opening ∷ [] =
+        ap (λ (r : Option Reduction). elim r as (λ _. List PhaseOpening) [
           | None ↦ []
-          | Some by ↦ (let x : Opening = record { cell = operand_cell (by_number rs) D u; by = by; copies = first_copy D (operand_cell (by_number rs) D u); valued = is_valued_child (root_at rs o.root.0) o.place } in x) ∷ []
+          | Some by ↦ (let x : PhaseOpening = record { cell = operand_cell (by_number rs) D u; by = by; copies = first_copy_in D (operand_cell (by_number rs) D u); valued = is_valued_child (root_at rs o.root.0) o.place } in x) ∷ []
         ] ++ []) by.1 in
-        let x : Block = block_with D [] in
-        subst (λ (xs : List Opening). Goes old new line qs D (expanded w E (block_with D xs))) (ap (λ (y : Opening). y ∷ []) same ∙ sym found)
+        let x : TaskBlock = block_with D [] in
+        subst (λ (xs : List PhaseOpening). Goes old new line qs D (expanded w E (block_with D xs))) (ap (λ (y : PhaseOpening). y ∷ []) same ∙ sym found)
         (ends D (was (cell_by old.layout.actives.items o) ∷ []) handles (copies-prints w (c ∷ []) C) lays opened_one.1
         (λ shut put. does-task old.phases a b new.phases line x.closes (was (cell_by old.layout.actives.items o)) (task_row (by_number rs) D (task_at t) line) shut opened_one.2 put))
 

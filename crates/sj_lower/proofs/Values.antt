@@ -4,7 +4,7 @@ use Rattle.sj_base.specs.Mode.{is_redux}
 use Rattle.sj_meaning.specs.Act.{Act, Statement, Plan as Plans, Task as Tasks}
 use Rattle.sj_meaning.specs.State.{RootState, JobState, is_valued, is_valued_child}
 use Rattle.sj_meaning.specs.Meaning.{apply}
-use Rattle.sj_meaning.specs.Numbers.{name_at, act_by, statement_by, apply_at}
+use Rattle.sj_meaning.specs.Numbers.{name_at, act_named_by, statement_named_by, apply_at}
 use Rattle.sj_meaning.specs.Sound.{has_child_values}
 use Rattle.sj_meaning.specs.Table.{AreDistinct}
 use Rattle.sj_meaning.specs.View.{finds_value, values_from}
@@ -14,7 +14,7 @@ use Rattle.sj_lower.specs.SoundAt.{has_value}
 use Rattle.sj_lower.proofs.Sounding.{looked, any-at}
 
 module _ (names : List (List ℕ)) (d : AreDistinct names) (S : JobState) (rs : List RootState) (m : IsMirror names S rs) where
-  finds-same : (a : Act ℕ) → IsTimely names S rs a → finds_value S (act_by (name_at names) a) ≡ finds_at rs a
+  finds-same : (a : Act ℕ) → IsTimely names S rs a → finds_value S (act_named_by (name_at names) a) ≡ finds_at rs a
   finds-same (Plans n p) h = looked names d S rs m false is_valued n h
   finds-same (Tasks t) h = any-at names d S rs m (λ o. is_redux o.mode && has_child_values S o) (λ o. is_redux o.mode && has_value rs o) (λ o g. λ i. is_redux o.mode && looked names d S rs m false (λ r. is_valued_child r o.place) o.name g i) t.operands h
   finds-same a h = refl
@@ -24,7 +24,7 @@ abbrev pub values_at : List RootState → List (Statement ℕ) → List Bool
 values_at rs [] = []
 values_at rs (s ∷ ss) = finds_at rs s.act ∷ values_at (apply_at s.act rs) ss
 
-pub values-same : (names : List (List ℕ)) → AreDistinct names → (ss : List (Statement ℕ)) (S : JobState) (rs : List RootState) → IsMirror names S rs → AreTimely names S rs ss → values_from S (map (statement_by (name_at names)) ss) ≡ values_at rs ss
+pub values-same : (names : List (List ℕ)) → AreDistinct names → (ss : List (Statement ℕ)) (S : JobState) (rs : List RootState) → IsMirror names S rs → AreTimely names S rs ss → values_from S (map (statement_named_by (name_at names)) ss) ≡ values_at rs ss
 values-same names d [] S rs m t = refl
 values-same names d (s ∷ ss) S rs m t =
-    λ i. finds-same names d S rs m s.act t.0 i ∷ values-same names d ss (apply (act_by (name_at names) s.act) S) (apply_at s.act rs) (mirror-apply names d s.act S rs m t.0) t.1 i
+    λ i. finds-same names d S rs m s.act t.0 i ∷ values-same names d ss (apply (act_named_by (name_at names) s.act) S) (apply_at s.act rs) (mirror-apply names d s.act S rs m t.0) t.1 i

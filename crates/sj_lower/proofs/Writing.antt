@@ -18,7 +18,7 @@ use Rattle.sj_codelet.proofs.NewArrays.{new_arrays-whole}
 use Rattle.sj_codelet.proofs.Table.{new_arrays-dims}
 use Rattle.sj_meaning.specs.Statement.{Operand}
 use Rattle.sj_meaning.specs.Sound.{mode_fits}
-use Rattle.sj_lower.specs.SoundAt.{modes_fit}
+use Rattle.sj_lower.specs.SoundAt.{modes_fit_at}
 pub use Rattle.sj_codelet.proofs.NewArrays.{AreWhole}
 pub use Rattle.sj_codelet.proofs.Table.{each_dims as all_dims}
 pub use Rattle.sj_meaning.proofs.Giving.{written_as as writes_output}
@@ -26,10 +26,10 @@ pub use Rattle.sj_meaning.proofs.Giving.{written_as as writes_output}
 -- ---- new arrays
 
 -- the outputs of a codelet stand where a task's operands are written
-pub outputs-written : {X : Type 0} (f : Operand ℕ → X) (fs : List Formal) (os : List (Operand ℕ)) → modes_fit fs os ≡ true → length os ≡ length fs → outputs_among fs (map f os) ≡ map f (filter (λ (o : Operand ℕ). is_written o.mode) os)
+pub outputs-written : {X : Type 0} (f : Operand ℕ → X) (fs : List Formal) (os : List (Operand ℕ)) → modes_fit_at fs os ≡ true → length os ≡ length fs → outputs_among fs (map f os) ≡ map f (filter (λ (o : Operand ℕ). is_written o.mode) os)
 outputs-written f [] [] e l = refl
 outputs-written f (g ∷ fs) (o ∷ os) e l =
-    let m = and_parts (mode_fits g o.mode) (modes_fit fs os) e in
+    let m = and_parts (mode_fits g o.mode) (modes_fit_at fs os) e in
     let rest = outputs-written f fs os m.1 (omega (arith, l)) in
     (λ i. cond (sym (writes_output g o.mode m.0) i) (f o ∷ rest i) (rest i)) ∙ through (is_written o.mode) (filter (λ (o : Operand ℕ). is_written o.mode) os)
   where

@@ -24,8 +24,8 @@ use Rattle.sj_lower.specs.SoundAt.{Lives}
 
 -- ---- cells
 
-abbrev pub taken : ℕ → Parts → Taken
-taken n p = record { root = n; r = p.r; c = p.c }
+abbrev pub taken_plan : ℕ → Parts → Taken
+taken_plan n p = record { root = n; r = p.r; c = p.c }
 
 abbrev pub same_taken : Taken → Taken → Bool
 same_taken x y = nat_eq x.root y.root && (nat_eq x.r y.r && nat_eq x.c y.c)
@@ -34,7 +34,7 @@ same_taken x y = nat_eq x.root y.root && (nat_eq x.r y.r && nat_eq x.c y.c)
 pub record Lays (l : Layout) (C : Laid) : Type 0 where
   pub rows : l.infos.items ≡ C.rows
   pub few : length C.rows ≤ most
-  pub firsts : (n : ℕ) (p : Parts) → get same_taken l.firsts (taken n p) ≡ (handle_at C n).first p
+  pub firsts : (n : ℕ) (p : Parts) → get same_taken l.firsts (taken_plan n p) ≡ (handle_at C n).first p
 
 -- ---- active plans
 
@@ -69,7 +69,7 @@ pub record HasCells (actives : List Active) (n : ℕ) : Type 0 where
   pub cells : (active_at actives n).placed.first + children_count (active_at actives n).placed.parts ≤ most
 
 -- the operand is a child of such a plan
-pub record IsInside (actives : List Active) (o : Operand) : Type 0 where
+pub record IsActiveChild (actives : List Active) (o : Operand) : Type 0 where
   pub has : HasCells actives o.root.0
   pub place : IsPlace (active_at actives o.root.0).placed.parts o.place
 

@@ -42,8 +42,8 @@ abbrev pub cell_of : Laid → ℕ → Parts → ℕ × ℕ → Cell
 cell_of C n p place = cells_from (first_cell C n p) p place
 
 -- the plan's children are the next cells
-abbrev pub taking : ℕ → Parts → Laid → Laid
-taking n p C =
+abbrev pub with_new_plan : ℕ → Parts → Laid → Laid
+with_new_plan n p C =
     let h = handle_at C n in
     record {
       rows = C.rows ++ map (child_cell (a_root n) h.dims p) (places p);
@@ -53,11 +53,11 @@ taking n p C =
 
 -- a root takes a plan, whose children are new cells if it hasn't taken it before
 abbrev pub take : ℕ → Parts → Laid → Laid
-take n p C = if is_some ((handle_at C n).first p) then C else taking n p C
+take n p C = if is_some ((handle_at C n).first p) then C else with_new_plan n p C
 
 -- a root more
-abbrev pub with_root : Dims → Laid → Laid
-with_root d C = record { rows = C.rows; handles = C.handles ++ handle_of d ∷ []; prints = C.prints }
+abbrev pub with_handle : Dims → Laid → Laid
+with_handle d C = record { rows = C.rows; handles = C.handles ++ handle_of d ∷ []; prints = C.prints }
 
 -- a print statement more
 abbrev pub with_print : Laid → Laid
@@ -69,15 +69,15 @@ abbrev pub info_at : Laid → Cell → CellInfo
 info_at C c = slice_index_or C.rows c.0 no_cell
 
 -- the first partial copy of a cell; where there is none yet, the next cell is to be it
-abbrev pub first_copy : Laid → Cell → Cell
-first_copy C c = unwrap_or (info_at C c).partials (record { 0 = length C.rows })
+abbrev pub first_copy_in : Laid → Cell → Cell
+first_copy_in C c = unwrap_or (info_at C c).partials (record { 0 = length C.rows })
 
 -- the partial copies of a cell, so many, arise if they aren't there
 abbrev pub with_copies : ℕ → Laid → Cell → Laid
 with_copies workers C c =
     if is_some (info_at C c).partials then C
     else record {
-      rows = slice_set C.rows c.0 (with_partials (first_copy C c) (info_at C c)) ++ replicate workers (copy_info (info_at C c));
+      rows = slice_set C.rows c.0 (with_partials (first_copy_in C c) (info_at C c)) ++ replicate workers (copy_info (info_at C c));
       handles = C.handles;
       prints = C.prints;
     }

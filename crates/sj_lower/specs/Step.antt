@@ -18,14 +18,14 @@ use Rattle.sj_meaning.specs.Statement.{Register, Operand, TaskLine}
 use Rattle.sj_meaning.specs.Act.{Act, Statement, Register as Registers, Plan as Plans, Redux as Reduces, Task as Tasks, Print as Prints, Invalidate as Invalidates, Unregister as Unregisters}
 use Rattle.sj_meaning.specs.State.{RootState, JobState, start, root_of, is_valued, is_valued_child}
 use Rattle.sj_meaning.specs.Meaning.{apply}
-use Rattle.sj_meaning.specs.Numbers.{number_in, no_root, root_at, apply_at}
+use Rattle.sj_meaning.specs.Numbers.{number_of_name, no_root, root_at, apply_at}
 use Rattle.sj_meaning.specs.Table.{a_root}
-use Rattle.sj_phases.specs.declared.phase.Opening.{Opening}
-use Rattle.sj_phases.specs.Block.{Block}
-use Rattle.sj_phases.specs.Expand.{nothing, expand, last_block, first_above, program_of, most}
+use Rattle.sj_phases.specs.declared.phase.PhaseOpening.{PhaseOpening}
+use Rattle.sj_phases.specs.Block.{TaskBlock}
+use Rattle.sj_phases.specs.Expand.{nothing, expand, last_block, first_above, program_from, most}
 use Rattle.sj_lower.specs.Cells.{same_parts}
 use Rattle.sj_lower.specs.Rows.{load_rows, paste_row, deliver_row}
-use Rattle.sj_lower.specs.Laid.{Laid, no_cells, cell_of, take, with_root, with_print, first_copy, with_copies}
+use Rattle.sj_lower.specs.Laid.{Laid, no_cells, cell_of, take, with_handle, with_print, first_copy_in, with_copies}
 
 -- ---- how a statement speaks of a root
 
@@ -35,7 +35,7 @@ pub record Lookup (N : Type 0) : Type 0 where
   pub root : N → RootState
 
 abbrev pub by_name : List (List ℕ) → JobState → Lookup (List ℕ)
-by_name names S = record { number = number_in names; root = λ q. unwrap_or (root_of S q) no_root }
+by_name names S = record { number = number_of_name names; root = λ q. unwrap_or (root_of S q) no_root }
 
 abbrev pub by_number : List RootState → Lookup ℕ
 by_number rs = record { number = λ n. n; root = root_at rs }
@@ -53,11 +53,11 @@ active_cells L C q = map (cell_of C (L.number q) (L.root q).parts) (places (L.ro
 -- ---- blocks
 
 -- what closes the phases of cells, and has tasks
-abbrev pub closing : Line → List Cell → List Lowered → Block
+abbrev pub closing : Line → List Cell → List Lowered → TaskBlock
 closing line cs ls = record { line = line; closes = cs; opens = []; tasks = ls; deliveries = [] }
 
 -- a plan line leaves the plan active that it names; else it pastes the old children into the new ones, if the root has values
-abbrev pub plan_block : RootState → List Cell → Laid → ℕ → Parts → Line → Block
+abbrev pub plan_block : RootState → List Cell → Laid → ℕ → Parts → Line → TaskBlock
 plan_block r old C n p line =
     if same_parts r.parts p then closing line [] []
     else closing line old (if is_valued r then map (paste_row (cell_of C n r.parts) (cell_of C n p) line) (pastes_of r.dims r.parts p) else [])
@@ -75,22 +75,22 @@ abbrev pub access_of : {N : Type 0} → Lookup N → Laid → Operand N → Acce
 access_of L C o = access o.mode (operand_cell L C o)
 
 -- a contribution to an operand opens the phase of its child's cell, where its root has a reduction
-abbrev pub opening_of : {N : Type 0} → Lookup N → Laid → Operand N → List Opening
-opening_of L C o = elim (L.root o.name).reduction [
+abbrev pub opening_for : {N : Type 0} → Lookup N → Laid → Operand N → List PhaseOpening
+opening_for L C o = elim (L.root o.name).reduction [
   | None ↦ []
   | Some by ↦
       let c = operand_cell L C o in
-      record { cell = c; by = by; copies = first_copy C c; valued = is_valued_child (L.root o.name) o.place } ∷ []
+      record { cell = c; by = by; copies = first_copy_in C c; valued = is_valued_child (L.root o.name) o.place } ∷ []
 ]
 
 abbrev pub task_row : {N : Type 0} → Lookup N → Laid → TaskLine N → Line → Lowered
 task_row L C t line = record { codelet = t.codelet; args = t.args; accesses = map (access_of L C) t.operands; line = line; priority = t.priority }
 
-abbrev pub task_block : {N : Type 0} → Lookup N → Laid → TaskLine N → Line → Block
+abbrev pub task_block : {N : Type 0} → Lookup N → Laid → TaskLine N → Line → TaskBlock
 task_block L C t line = record {
   line = line;
   closes = map (operand_cell L C) (filter is_other_access t.operands);
-  opens = flat_map (opening_of L C) (contributed t);
+  opens = flat_map (opening_for L C) (contributed t);
   tasks = task_row L C t line ∷ [];
   deliveries = [];
 }
@@ -99,7 +99,7 @@ task_block L C t line = record {
 abbrev pub a_delivery : ℕ → Dims → Parts → ℕ → ℕ × (ℕ × ℕ) → Delivery
 a_delivery n d p print x = record { task = record { 0 = x.0 }; root = a_root n; place = place_of (child d p x.1); print = print }
 
-abbrev pub print_block : ℕ → RootState → List Cell → ℕ → Line → Block
+abbrev pub print_block : ℕ → RootState → List Cell → ℕ → Line → TaskBlock
 print_block n r cs print line = record {
   line = line;
   closes = cs;
@@ -110,18 +110,18 @@ print_block n r cs print line = record {
 
 -- ---- statements
 
-pub record Step : Type 0 where
+pub record LoweringStep : Type 0 where
   pub laid : Laid
-  pub block : Block
+  pub block : TaskBlock
 
-abbrev pub step : Laid → Block → Step
+abbrev pub step : Laid → TaskBlock → LoweringStep
 step C b = record { laid = C; block = b }
 
 -- what a statement gives
-abbrev pub step_of : {N : Type 0} → ℕ → Lookup N → Laid → Line → Act N → Step
+abbrev pub step_of : {N : Type 0} → ℕ → Lookup N → Laid → Line → Act N → LoweringStep
 step_of workers L C line (Registers r) =
     let n = length C.handles in
-    let D = take n r.parts (with_root r.dims C) in
+    let D = take n r.parts (with_handle r.dims C) in
     step D (closing line [] (load_rows r.init r.dims r.parts (cell_of D n r.parts) line))
 step_of workers L C line (Plans q p) =
     let D = take (L.number q) p C in
@@ -135,7 +135,7 @@ step_of workers L C line (Invalidates q) = step C (closing line (active_cells L 
 step_of workers L C line (Unregisters q) = step C (closing line (active_cells L C q) [])
 
 -- what statements give, one after another: S is what they change, and `look` how they speak of it
-abbrev pub steps_from : {N S : Type 0} → ℕ → (S → Lookup N) → (Act N → S → S) → S → Laid → List (Statement N) → List Step
+abbrev pub steps_from : {N S : Type 0} → ℕ → (S → Lookup N) → (Act N → S → S) → S → Laid → List (Statement N) → List LoweringStep
 steps_from workers look go S C [] = []
 steps_from workers look go S C (s ∷ ss) =
     let x = step_of workers (look S) C s.line s.act in
@@ -156,28 +156,28 @@ abbrev pub names_of : List (Statement (List ℕ)) → List (List ℕ)
 names_of [] = []
 names_of (s ∷ ss) = names_in s.act ++ names_of ss
 
-abbrev pub steps_of : ℕ → List (Statement (List ℕ)) → List Step
+abbrev pub steps_of : ℕ → List (Statement (List ℕ)) → List LoweringStep
 steps_of workers ss = steps_from workers (by_name (names_of ss)) apply start no_cells ss
 
 -- ---- programs
 
 -- the cells after all statements
-abbrev pub laid_by : List Step → Laid
+abbrev pub laid_by : List LoweringStep → Laid
 laid_by xs = fold (λ C x. x.laid) no_cells xs
 
-abbrev pub last_line : List Step → Line
+abbrev pub last_line : List LoweringStep → Line
 last_line xs = fold (λ l x. x.block.line) (record { 0 = 0 }) xs
 
 -- the end closes all phases, for the last statement
-abbrev pub blocks_by : List Step → List Block
+abbrev pub blocks_by : List LoweringStep → List TaskBlock
 blocks_by xs = map (λ x. x.block) xs ++ last_block (length (laid_by xs).rows) (last_line xs) ∷ []
 
-abbrev pub program_by : ℕ → List Step → Program
-program_by workers xs = program_of (laid_by xs).rows workers (expand workers nothing (blocks_by xs))
+abbrev pub program_by : ℕ → List LoweringStep → Program
+program_by workers xs = program_from (laid_by xs).rows workers (expand workers nothing (blocks_by xs))
 
 -- the line of the first statement with which there are too many cells, or too many tasks
-abbrev pub cells_above : List Step → Option Line
+abbrev pub cells_above : List LoweringStep → Option Line
 cells_above xs = option_map (λ x. x.block.line) (find (λ x. nat_lt most (length x.laid.rows)) xs)
 
-abbrev pub tasks_above : ℕ → List Step → Option Line
+abbrev pub tasks_above : ℕ → List LoweringStep → Option Line
 tasks_above workers xs = first_above workers nothing (blocks_by xs)

@@ -7,8 +7,8 @@ ghost use Rattle.sj_plan.specs.Parts.{children_count};
 ghost use Rattle.sj_meaning.specs.declared.job.Operand.{Operand};
 ghost use Rattle.sj_phases.specs.Does.{HasAt, Does};
 ghost use Rattle.sj_phases.specs.Expand.{closed, most};
-ghost use Rattle.sj_lower.specs.Adds.{cells_after, is_contributed, CanOpen, Opens, IsFullFor};
-ghost use Rattle.sj_lower.specs.Follows.{IsInside, cell_by, cells_by, is_other};
+ghost use Rattle.sj_lower.specs.Adds.{cells_after, is_contributed, CanOpen, OpensPhase, IsFullFor};
+ghost use Rattle.sj_lower.specs.Follows.{IsActiveChild, cell_by, cells_by, is_other};
 
 use crate::layout::Layout;
 use crate::rows::Placed;
@@ -17,7 +17,7 @@ use sj_base::memory;
 use sj_base::mode::Mode;
 use sj_meaning::job::Operand;
 use sj_phases::expander::Expander;
-use sj_phases::phase::Opening;
+use sj_phases::phase::PhaseOpening;
 use std::alloc::Global;
 
 /// Why a statement isn't lowered.
@@ -101,7 +101,7 @@ pub fn close_operands(
     line: Line,
 ) -> Result<(), memory::OutOfMemory>
     requires at { HasAt phases.old }
-    requires inside { All (IsInside layout.now.actives.items) operands.now }
+    requires inside { All (IsActiveChild layout.now.actives.items) operands.now }
     ensures { OnOk result (Does phases.old phases.new line (λ E. fold (closed phases.old.workers) E
         (map (cell_by layout.now.actives.items) (filter is_other operands.now)))) }
 {
@@ -148,10 +148,10 @@ fn open_operand(
     line: Line,
 ) -> Result<(), StepRefusal>
     requires at { HasAt phases.old }
-    requires inside { IsInside layout.old.actives.items operand }
+    requires inside { IsActiveChild layout.old.actives.items operand }
     requires can { CanOpen layout.old phases.old.workers operand }
     ensures opens { OnOk result
-        (Opens layout.old layout.new phases.old phases.new operand valued line) }
+        (OpensPhase layout.old layout.new phases.old phases.new operand valued line) }
     ensures full { IfErr result (IsFullFor layout.old phases.old.workers operand) }
 {
     let Some(by) = layout.actives[operand.root.0 as usize].reduction else {
@@ -161,7 +161,7 @@ fn open_operand(
     let Some(copies) = layout.copies(cell, phases.workers)? else {
         return Err(StepRefusal::TooManyCells);
     };
-    let opening = Opening {
+    let opening = PhaseOpening {
         cell,
         by,
         copies,
@@ -182,14 +182,14 @@ pub fn open_operands(
     line: Line,
 ) -> Result<(), StepRefusal>
     requires at { HasAt phases.old }
-    requires inside { All (IsInside layout.old.actives.items) operands.now }
+    requires inside { All (IsActiveChild layout.old.actives.items) operands.now }
     requires can { All (λ o. IsTrue (is_redux o.mode)
         → CanOpen layout.old phases.old.workers o) operands.now }
     ensures none { OnOk result (filter is_contributed operands.now ≡ []
         → (layout.new ≡ layout.old) × (phases.new ≡ phases.old)) }
     ensures opens { OnOk result ((o : Operand) (rest : List Operand)
         → filter is_contributed operands.now ≡ o ∷ rest
-        → Opens layout.old layout.new phases.old phases.new o valued line) }
+        → OpensPhase layout.old layout.new phases.old phases.new o valued line) }
     ensures full { IfErr result (λ e. (o : Operand) (rest : List Operand)
         → filter is_contributed operands.now ≡ o ∷ rest
         → IsFullFor layout.old phases.old.workers o e) }

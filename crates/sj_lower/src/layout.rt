@@ -9,8 +9,8 @@ ghost use Rattle.sj_meaning.specs.Meaning.{registered_root, with_parts};
 ghost use Rattle.sj_meaning.specs.Numbers.{change_at};
 ghost use Rattle.sj_phases.specs.Expand.{most};
 ghost use Rattle.sj_lower.specs.Cells.{rect_cell};
-ghost use Rattle.sj_lower.specs.Follows.{Lays, Follows, HasCells, IsInside, active_at, cell_by, access_by};
-ghost use Rattle.sj_lower.specs.Laid.{Laid, handle_at, take, with_root, no_cells, first_copy, with_copies};
+ghost use Rattle.sj_lower.specs.Follows.{Lays, Follows, HasCells, IsActiveChild, active_at, cell_by, access_by};
+ghost use Rattle.sj_lower.specs.Laid.{Laid, handle_at, take, with_handle, no_cells, first_copy_in, with_copies};
 ghost use Rattle.sj_lower.specs.SoundAt.{Lives};
 
 use crate::rows::Placed;
@@ -116,7 +116,7 @@ impl Layout {
 
     /// The cell of an operand's child. Constant time.
     pub fn cell(&self, operand: &Operand) -> Cell
-        requires { IsInside self.now.actives.items operand.now }
+        requires { IsActiveChild self.now.actives.items operand.now }
         ensures { result ≡ cell_by self.now.actives.items operand.now }
     {
         self.placed(operand.root).cell(operand.place)
@@ -133,12 +133,12 @@ impl Layout {
             → Follows self.old rs C → length C.handles ≡ length rs
             → r.dims ≡ info.dims → r.parts ≡ info.parts
             → Follows self.new (rs ++ registered_root r ∷ [])
-            (take (length C.handles) r.parts (with_root r.dims C))
-            × ((handle_at (take (length C.handles) r.parts (with_root r.dims C))
+            (take (length C.handles) r.parts (with_handle r.dims C))
+            × ((handle_at (take (length C.handles) r.parts (with_handle r.dims C))
             (length C.handles)).first r.parts ≡ Some placed.first))) }
         ensures full { IfOk result (λ o. IfNone o ((rs : List RootNow) (C : Laid) (r : Register ℕ)
             → Follows self.old rs C → r.dims ≡ info.dims → r.parts ≡ info.parts
-            → most < length (take (length C.handles) r.parts (with_root r.dims C)).rows)) }
+            → most < length (take (length C.handles) r.parts (with_handle r.dims C)).rows)) }
     {
         let root = Root(self.actives.len() as u32);
         let Some(placed) = self.take(alloc, root, info.dims, info.parts)? else {
@@ -187,7 +187,7 @@ impl Layout {
         requires cell { cell.0 < vec_len self.old.infos }
         ensures actives { OnOk result (self.new.actives ≡ self.old.actives) }
         ensures copied { IfOk result (λ o. IfSome o (λ first. (C : Laid) → Lays self.old C
-            → Lays self.new (with_copies workers C cell) × (first_copy C cell ≡ first))) }
+            → Lays self.new (with_copies workers C cell) × (first_copy_in C cell ≡ first))) }
         ensures full { IfOk result (λ o. IfNone o ((C : Laid) → Lays self.old C
             → most < length (with_copies workers C cell).rows)) }
     {
@@ -207,7 +207,7 @@ impl Layout {
 
     /// The accesses of operands to the cells of their children. Linear in them.
     pub fn accesses(&self, alloc: Global, operands: &[Operand]) -> Result<Few<Access>, OutOfMemory>
-        requires { All (IsInside self.now.actives.items) operands.now }
+        requires { All (IsActiveChild self.now.actives.items) operands.now }
         ensures { IfOk result (λ few. few ≡ map (access_by self.now.actives.items) operands.now) }
     {
         let mut accesses = Few::empty(alloc);

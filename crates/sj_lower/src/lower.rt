@@ -6,9 +6,9 @@ ghost use Rattle.sj_codelet.specs.Kernel.{out};
 ghost use Rattle.sj_core.specs.Laws.{IsLawful, is_known};
 ghost use Rattle.sj_core.specs.Proper.{Proper};
 ghost use Rattle.sj_meaning.specs.View.{statements_of, IsNumbered};
-ghost use Rattle.sj_phases.specs.Does.{IsAt, HasAt, Does};
-ghost use Rattle.sj_phases.specs.Expand.{Expansion, nothing, closed, cells_below, program_of, most};
-ghost use Rattle.sj_lower.specs.Adds.{StepsAt, HasNext, Adds};
+ghost use Rattle.sj_phases.specs.Does.{StandsAt, HasAt, Does};
+ghost use Rattle.sj_phases.specs.Expand.{Expansion, nothing, closed, cells_below, program_from, most};
+ghost use Rattle.sj_lower.specs.Adds.{StepsAt, HasNext, AddsAct};
 ghost use Rattle.sj_lower.specs.Delivering.{DeliversPrinted, NamesDeliverTasks, DeliversInOrder};
 ghost use Rattle.sj_lower.specs.Job.{IsJob, IsJobIn};
 ghost use Rattle.sj_lower.specs.Laid.{no_cells};
@@ -84,7 +84,7 @@ impl LoweringProgress {
     ) -> Result<(), LowerRefusal>
         requires { HasNext roots.now self.old.steps statement.act }
         ensures adds { OnOk result
-            (Adds roots.now self.old.steps self.new.steps statement.act statement.line) }
+            (AddsAct roots.now self.old.steps self.new.steps statement.act statement.line) }
         ensures last { OnOk result (self.new.last ≡ statement.line) }
         ensures full { IfErr result (IsFullWith roots.now self.old.steps statement) }
     {
@@ -117,8 +117,8 @@ impl LoweringProgress {
     /// The program of the statements so far, or the line with which there were too many tasks. Constant time.
     fn finish(self) -> Result<Program, LowerRefusal>
         ensures ok { IfOk result (λ p. (self.steps.phases.over ≡ None)
-            × ((E : Expansion) → IsAt self.steps.phases E → p
-            ≡ program_of self.steps.layout.infos.items self.steps.phases.workers E)) }
+            × ((E : Expansion) → StandsAt self.steps.phases E → p
+            ≡ program_from self.steps.layout.infos.items self.steps.phases.workers E)) }
         ensures err { IfErr result (λ e. IsOverLimit e self.steps.phases.over) }
     {
         let LoweringProgress { steps, .. } = self;

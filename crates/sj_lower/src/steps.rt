@@ -5,7 +5,7 @@ ghost use Rattle.std.specs.Prelude.{◌≡◌, None, [], IfErr, OnOk};
 ghost use Rattle.sj_meaning.specs.Table.{Table};
 ghost use Rattle.sj_meaning.specs.declared.job.Act.TheVariants as kept;
 ghost use Rattle.sj_phases.specs.Expand.{nothing};
-ghost use Rattle.sj_lower.specs.Adds.{StepsAt, HasNext, Adds, IsFull, lowered_task};
+ghost use Rattle.sj_lower.specs.Adds.{StepsAt, HasNext, AddsAct, IsFull, lowered_task};
 ghost use Rattle.sj_lower.specs.Laid.{no_cells};
 
 use crate::contributions::{StepRefusal, close_operands, close_plan, open_operands};
@@ -66,7 +66,7 @@ impl Steps {
         line: Line,
     ) -> Result<(), StepRefusal>
         requires { HasNext roots.now self.old (kept.Register init) }
-        ensures adds { OnOk result (Adds roots.now self.old self.new (kept.Register init) line) }
+        ensures adds { OnOk result (AddsAct roots.now self.old self.new (kept.Register init) line) }
         ensures full { IfErr result (IsFull roots.now self.old (kept.Register init) line) }
     {
         let info = roots.info(Root(self.layout.actives.len() as u32));
@@ -90,7 +90,7 @@ impl Steps {
     ) -> Result<(), StepRefusal>
         requires { HasNext roots.now self.old (kept.Plan root parts valued) }
         ensures adds { OnOk result
-            (Adds roots.now self.old self.new (kept.Plan root parts valued) line) }
+            (AddsAct roots.now self.old self.new (kept.Plan root parts valued) line) }
         ensures full { IfErr result (IsFull roots.now self.old (kept.Plan root parts valued) line) }
     {
         let dims = roots.info(root).dims;
@@ -112,7 +112,7 @@ impl Steps {
     /// A root with its reduction. Constant time.
     fn reduce(&mut self, root: Root, by: Reduction, line: Line)
         requires { (T : Table) × HasNext T self.old (kept.Redux root by) }
-        ensures { (T : Table) → Adds T self.old self.new (kept.Redux root by) line }
+        ensures { (T : Table) → AddsAct T self.old self.new (kept.Redux root by) line }
     {
         self.layout.actives[root.0 as usize].reduction = Some(by);
     }
@@ -120,7 +120,8 @@ impl Steps {
     /// A task over the cells of its operands. Linear in them, and in the workers for each phase that it closes or begins.
     fn task(&mut self, alloc: Global, task: TaskLine, line: Line) -> Result<(), StepRefusal>
         requires { (T : Table) × HasNext T self.old (kept.Task task) }
-        ensures adds { OnOk result ((T : Table) → Adds T self.old self.new (kept.Task task) line) }
+        ensures adds { OnOk result ((T : Table)
+            → AddsAct T self.old self.new (kept.Task task) line) }
         ensures full { IfErr result (λ e. (T : Table) → IsFull T self.old (kept.Task task) line e) }
     {
         let operands = task.operands.items();
@@ -147,7 +148,7 @@ impl Steps {
         line: Line,
     ) -> Result<(), StepRefusal>
         requires { HasNext roots.now self.old (kept.Print root) }
-        ensures adds { OnOk result (Adds roots.now self.old self.new (kept.Print root) line) }
+        ensures adds { OnOk result (AddsAct roots.now self.old self.new (kept.Print root) line) }
         ensures full { IfErr result (IsFull roots.now self.old (kept.Print root) line) }
     {
         let placed = self.layout.placed(root);
@@ -173,7 +174,7 @@ impl Steps {
     fn invalidate(&mut self, alloc: Global, root: Root, line: Line) -> Result<(), StepRefusal>
         requires { (T : Table) × HasNext T self.old (kept.Invalidate root) }
         ensures adds { OnOk result ((T : Table)
-            → Adds T self.old self.new (kept.Invalidate root) line) }
+            → AddsAct T self.old self.new (kept.Invalidate root) line) }
         ensures full { IfErr result (λ e. (T : Table)
             → IsFull T self.old (kept.Invalidate root) line e) }
     {
@@ -186,7 +187,7 @@ impl Steps {
     fn unregister(&mut self, alloc: Global, root: Root, line: Line) -> Result<(), StepRefusal>
         requires { (T : Table) × HasNext T self.old (kept.Unregister root) }
         ensures adds { OnOk result ((T : Table)
-            → Adds T self.old self.new (kept.Unregister root) line) }
+            → AddsAct T self.old self.new (kept.Unregister root) line) }
         ensures full { IfErr result (λ e. (T : Table)
             → IsFull T self.old (kept.Unregister root) line e) }
     {
@@ -204,7 +205,8 @@ impl Steps {
         statement: Statement,
     ) -> Result<(), StepRefusal>
         requires { HasNext roots.now self.old statement.act }
-        ensures adds { OnOk result (Adds roots.now self.old self.new statement.act statement.line) }
+        ensures adds { OnOk result
+            (AddsAct roots.now self.old self.new statement.act statement.line) }
         ensures full { IfErr result (IsFull roots.now self.old statement.act statement.line) }
     {
         let Statement { line, act } = statement;

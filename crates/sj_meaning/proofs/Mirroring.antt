@@ -15,7 +15,7 @@ use Rattle.sj_meaning.specs.Act.{Act, Register, Plan, Redux, Task, Print, Invali
 use Rattle.sj_meaning.specs.State.{RootState, JobState, root_of}
 use Rattle.sj_meaning.specs.Table.{AreDistinct}
 use Rattle.sj_meaning.specs.Meaning.{registered_root, register, change, with_parts, with_elements, with_reduction, with_child, no_values, seen_by, operand_array, written_of, put_all, run_task, unregister, apply, prints, Printed, printed_from, root_array}
-use Rattle.sj_meaning.specs.Numbers.{name_at, registration_by, operand_by, task_by, act_by, statement_by, no_root, root_at, change_at, operand_array_at, put_all_at, run_task_at, apply_at, prints_at, printed_at}
+use Rattle.sj_meaning.specs.Numbers.{name_at, registration_named_by, operand_named_by, task_named_by, act_named_by, statement_named_by, no_root, root_at, change_at, operand_array_at, put_all_at, run_task_at, apply_at, prints_at, printed_at}
 use Rattle.sj_meaning.proofs.Finding.{text-itself, get-put, get-gone, root-change}
 
 -- ---- names that differ
@@ -101,19 +101,19 @@ all-changed : (names : List (List ℕ)) → AreDistinct names → (f : RootState
 all-changed names d f n S h [] a = tt
 all-changed names d f n S h (o ∷ os) a = (there-changed names d f n S h o.name a.0, all-changed names d f n S h os a.1)
 
-mirror-put : (names : List (List ℕ)) → AreDistinct names → (os : List (Operand ℕ)) (arrays : List Array) (S : JobState) (rs : List RootState) → IsMirror names S rs → AllThere names S os → IsMirror names (put_all (map (operand_by (name_at names)) os) arrays S) (put_all_at os arrays rs)
+mirror-put : (names : List (List ℕ)) → AreDistinct names → (os : List (Operand ℕ)) (arrays : List Array) (S : JobState) (rs : List RootState) → IsMirror names S rs → AllThere names S os → IsMirror names (put_all (map (operand_named_by (name_at names)) os) arrays S) (put_all_at os arrays rs)
 mirror-put names d [] arrays S rs m a = m
 mirror-put names d (o ∷ os) [] S rs m a = m
 mirror-put names d (o ∷ os) (x ∷ xs) S rs m a =
     mirror-put names d os xs (change (with_child o.place x) (name_at names o.name) S) (change_at (with_child o.place x) o.name rs)
     (mirror-change names d (with_child o.place x) o.name S a.0 (λ r. refl) rs m) (all-changed names d (with_child o.place x) o.name S a.0 os a.1)
 
-pub written-by : {M N : Type 0} (f : M → N) (os : List (Operand M)) → written_of (map (operand_by f) os) ≡ map (operand_by f) (written_of os)
+pub written-by : {M N : Type 0} (f : M → N) (os : List (Operand M)) → written_of (map (operand_named_by f) os) ≡ map (operand_named_by f) (written_of os)
 written-by f [] = refl
 written-by f (o ∷ os) = by_test (is_written o.mode) (written-by f os)
   where
-    by_test : (b : Bool) → written_of (map (operand_by f) os) ≡ map (operand_by f) (written_of os) → cond b (operand_by f o ∷ written_of (map (operand_by f) os)) (written_of (map (operand_by f) os)) ≡ map (operand_by f) (cond b (o ∷ written_of os) (written_of os))
-    by_test true rest = ap (λ us. operand_by f o ∷ us) rest
+    by_test : (b : Bool) → written_of (map (operand_named_by f) os) ≡ map (operand_named_by f) (written_of os) → cond b (operand_named_by f o ∷ written_of (map (operand_named_by f) os)) (written_of (map (operand_named_by f) os)) ≡ map (operand_named_by f) (cond b (o ∷ written_of os) (written_of os))
+    by_test true rest = ap (λ us. operand_named_by f o ∷ us) rest
     by_test false rest = rest
 
 written-there : (P : Operand ℕ → Type 0) (os : List (Operand ℕ)) → AllByRecursion P os → AllByRecursion P (written_of os)
@@ -124,7 +124,7 @@ written-there P (o ∷ os) a = by_test (is_written o.mode) (written-there P os a
     by_test true rest = (a.0, rest)
     by_test false rest = rest
 
-array-seen : (names : List (List ℕ)) (S : JobState) (rs : List RootState) → IsMirror names S rs → (o : Operand ℕ) → IsThere names S o.name → operand_array S (operand_by (name_at names) o) ≡ operand_array_at rs o
+array-seen : (names : List (List ℕ)) (S : JobState) (rs : List RootState) → IsMirror names S rs → (o : Operand ℕ) → IsThere names S o.name → operand_array S (operand_named_by (name_at names) o) ≡ operand_array_at rs o
 array-seen names S rs m o h =
     ap (λ (x : Option RootState). elim x as (λ _. Array) [
       | None ↦ record { dims = record { rows = 0; cols = 0 }; elements = [] }
@@ -132,22 +132,22 @@ array-seen names S rs m o h =
     ]) h.is
     ∙ ap (λ (r : RootState). seen_by o.mode r o.place) (sym (root-there names S rs o.name m h))
 
-arrays-seen : (names : List (List ℕ)) (S : JobState) (rs : List RootState) → IsMirror names S rs → (os : List (Operand ℕ)) → AllThere names S os → map (operand_array S) (map (operand_by (name_at names)) os) ≡ map (operand_array_at rs) os
+arrays-seen : (names : List (List ℕ)) (S : JobState) (rs : List RootState) → IsMirror names S rs → (os : List (Operand ℕ)) → AllThere names S os → map (operand_array S) (map (operand_named_by (name_at names)) os) ≡ map (operand_array_at rs) os
 arrays-seen names S rs m [] a = refl
 arrays-seen names S rs m (o ∷ os) a = λ i. array-seen names S rs m o a.0 i ∷ arrays-seen names S rs m os a.1 i
 
-mirror-task : (names : List (List ℕ)) → AreDistinct names → (t : TaskLine ℕ) (S : JobState) (rs : List RootState) → IsMirror names S rs → AllThere names S t.operands → IsMirror names (run_task (task_by (name_at names) t) S) (run_task_at t rs)
+mirror-task : (names : List (List ℕ)) → AreDistinct names → (t : TaskLine ℕ) (S : JobState) (rs : List RootState) → IsMirror names S rs → AllThere names S t.operands → IsMirror names (run_task (task_named_by (name_at names) t) S) (run_task_at t rs)
 mirror-task names d t S rs m a =
     let news = out t.codelet t.args (map (operand_array_at rs) t.operands) in
-    subst (λ (xs : List Array). IsMirror names (put_all (written_of (map (operand_by (name_at names)) t.operands)) (out t.codelet t.args xs) S) (run_task_at t rs)) (sym (arrays-seen names S rs m t.operands a))
+    subst (λ (xs : List Array). IsMirror names (put_all (written_of (map (operand_named_by (name_at names)) t.operands)) (out t.codelet t.args xs) S) (run_task_at t rs)) (sym (arrays-seen names S rs m t.operands a))
     (subst (λ (us : List (Operand (List ℕ))). IsMirror names (put_all us news S) (run_task_at t rs)) (sym (written-by (name_at names) t.operands))
     (mirror-put names d (written_of t.operands) news S rs m (written-there (λ (o : Operand ℕ). IsThere names S o.name) t.operands a)))
 
 -- ---- registrations and ends
 
-mirror-register : (names : List (List ℕ)) → AreDistinct names → (r : Registration ℕ) (S : JobState) (rs : List RootState) → IsMirror names S rs → r.name ≡ length rs → r.name < length names → 0 < area r.dims → IsMirror names (register (registration_by (name_at names) r) S) (rs ++ registered_root r ∷ [])
+mirror-register : (names : List (List ℕ)) → AreDistinct names → (r : Registration ℕ) (S : JobState) (rs : List RootState) → IsMirror names S rs → r.name ≡ length rs → r.name < length names → 0 < area r.dims → IsMirror names (register (registration_named_by (name_at names) r) S) (rs ++ registered_root r ∷ [])
 mirror-register names d r S rs m e lt more = record {
-  same = λ k lk. elim (cases_eq k r.name) as (λ _. unwrap_or (root_of (register (registration_by (name_at names) r) S) (name_at names k)) no_root ≡ root_at (rs ++ registered_root r ∷ []) k) [
+  same = λ k lk. elim (cases_eq k r.name) as (λ _. unwrap_or (root_of (register (registration_named_by (name_at names) r) S) (name_at names k)) no_root ≡ root_at (rs ++ registered_root r ∷ []) k) [
     | inl same ↦
         ap (λ o. unwrap_or o no_root) (roots k ∙ ap (λ b. cond b (Some (registered_root r)) (root_of S (name_at names k))) (one-name names r.name k same))
         ∙ sym (get_or-append_seam rs (registered_root r) [] no_root) ∙ ap (root_at (rs ++ registered_root r ∷ [])) (sym e ∙ sym same)
@@ -168,10 +168,10 @@ mirror-register names d r S rs m e lt more = record {
     longer : length (rs ++ registered_root r ∷ []) ≡ length rs + 1
     longer = length-append rs (registered_root r ∷ [])
 
-    roots : (k : ℕ) → root_of (register (registration_by (name_at names) r) S) (name_at names k) ≡ cond (bytes_eq (name_at names r.name) (name_at names k)) (Some (registered_root r)) (root_of S (name_at names k))
+    roots : (k : ℕ) → root_of (register (registration_named_by (name_at names) r) S) (name_at names k) ≡ cond (bytes_eq (name_at names r.name) (name_at names k)) (Some (registered_root r)) (root_of S (name_at names k))
     roots k = get-put S.roots (name_at names r.name) (registered_root r) (name_at names k)
 
-    beside : (k : ℕ) → k < length names → (k ≡ r.name → ⊥) → root_of (register (registration_by (name_at names) r) S) (name_at names k) ≡ root_of S (name_at names k)
+    beside : (k : ℕ) → k < length names → (k ≡ r.name → ⊥) → root_of (register (registration_named_by (name_at names) r) S) (name_at names k) ≡ root_of S (name_at names k)
     beside k lk other = roots k ∙ ap (λ b. cond b (Some (registered_root r)) (root_of S (name_at names k))) (apart names d r.name k lt lk other)
 
     elsewhere : (k : ℕ) → (k ≡ r.name → ⊥) → root_at rs k ≡ root_at (rs ++ registered_root r ∷ []) k
@@ -218,7 +218,7 @@ IsTimely names S rs (Print n) = IsThere names S n
 IsTimely names S rs (Invalidate n) = IsThere names S n
 IsTimely names S rs (Unregister n) = IsThere names S n
 
-pub mirror-apply : (names : List (List ℕ)) → AreDistinct names → (a : Act ℕ) (S : JobState) (rs : List RootState) → IsMirror names S rs → IsTimely names S rs a → IsMirror names (apply (act_by (name_at names) a) S) (apply_at a rs)
+pub mirror-apply : (names : List (List ℕ)) → AreDistinct names → (a : Act ℕ) (S : JobState) (rs : List RootState) → IsMirror names S rs → IsTimely names S rs a → IsMirror names (apply (act_named_by (name_at names) a) S) (apply_at a rs)
 mirror-apply names d (Register r) S rs m h = mirror-register names d r S rs m h.0 h.1 h.2
 mirror-apply names d (Plan n p) S rs m h = mirror-change names d (with_parts p) n S h (λ r. refl) rs m
 mirror-apply names d (Redux n by) S rs m h = mirror-change names d (with_reduction by) n S h (λ r. refl) rs m
@@ -229,7 +229,7 @@ mirror-apply names d (Unregister n) S rs m h = mirror-end names d n S rs m h
 
 abbrev pub AreTimely : List (List ℕ) → JobState → List RootState → List (Statement ℕ) → Type 0
 AreTimely names S rs [] = Unit {0}
-AreTimely names S rs (s ∷ ss) = IsTimely names S rs s.act × AreTimely names (apply (act_by (name_at names) s.act) S) (apply_at s.act rs) ss
+AreTimely names S rs (s ∷ ss) = IsTimely names S rs s.act × AreTimely names (apply (act_named_by (name_at names) s.act) S) (apply_at s.act rs) ss
 
 -- ---- what is printed
 
@@ -237,7 +237,7 @@ AreTimely names S rs (s ∷ ss) = IsTimely names S rs s.act × AreTimely names (
 abbrev pub printed_as : List (List ℕ) → ℕ × RootState → Printed
 printed_as names x = record { name = name_at names x.0; kind = x.1.kind; array = root_array x.1 }
 
-prints-by : (names : List (List ℕ)) (a : Act ℕ) (S : JobState) (rs : List RootState) → IsMirror names S rs → IsTimely names S rs a → prints (act_by (name_at names) a) S ≡ map (printed_as names) (prints_at a rs)
+prints-by : (names : List (List ℕ)) (a : Act ℕ) (S : JobState) (rs : List RootState) → IsMirror names S rs → IsTimely names S rs a → prints (act_named_by (name_at names) a) S ≡ map (printed_as names) (prints_at a rs)
 prints-by names (Register r) S rs m h = refl
 prints-by names (Plan n p) S rs m h = refl
 prints-by names (Redux n by) S rs m h = refl
@@ -252,8 +252,8 @@ prints-by names (Invalidate n) S rs m h = refl
 prints-by names (Unregister n) S rs m h = refl
 
 -- what is printed by name is what the roots by number print
-pub printed-by : (names : List (List ℕ)) → AreDistinct names → (ss : List (Statement ℕ)) (S : JobState) (rs : List RootState) → IsMirror names S rs → AreTimely names S rs ss → printed_from S (map (statement_by (name_at names)) ss) ≡ map (printed_as names) (printed_at rs ss)
+pub printed-by : (names : List (List ℕ)) → AreDistinct names → (ss : List (Statement ℕ)) (S : JobState) (rs : List RootState) → IsMirror names S rs → AreTimely names S rs ss → printed_from S (map (statement_named_by (name_at names)) ss) ≡ map (printed_as names) (printed_at rs ss)
 printed-by names d [] S rs m h = refl
 printed-by names d (s ∷ ss) S rs m h =
-    (λ i. prints-by names s.act S rs m h.0 i ++ printed-by names d ss (apply (act_by (name_at names) s.act) S) (apply_at s.act rs) (mirror-apply names d s.act S rs m h.0) h.1 i)
+    (λ i. prints-by names s.act S rs m h.0 i ++ printed-by names d ss (apply (act_named_by (name_at names) s.act) S) (apply_at s.act rs) (mirror-apply names d s.act S rs m h.0) h.1 i)
     ∙ sym (map-append (printed_as names) (prints_at s.act rs) (printed_at (apply_at s.act rs) ss))

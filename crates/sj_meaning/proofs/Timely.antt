@@ -16,9 +16,9 @@ use Rattle.sj_meaning.specs.Act.{Act, Register, Plan, Redux, Task, Print, Invali
 use Rattle.sj_meaning.specs.State.{RootState, JobState, root_of}
 use Rattle.sj_meaning.specs.Table.{Table, AreDistinct, a_root, info_of}
 use Rattle.sj_meaning.specs.Meaning.{registered_root, with_parts, with_reduction, with_elements, no_values, with_child, written_of, apply}
-use Rattle.sj_meaning.specs.Sound.{IsSoundAct, AreSound, has_child, has_root, has_valued_root}
+use Rattle.sj_meaning.specs.Sound.{IsSoundAct, AreSoundActs, has_child, has_root, has_valued_root}
 use Rattle.sj_meaning.specs.View.{operand_seen, task_seen, act_seen, statement_seen, seen_from, count_after, count_from, IsPlaced, ActsArePlaced}
-use Rattle.sj_meaning.specs.Numbers.{registration_at, no_root, operand_array_at, name_at, number_in, operand_at, operand_by, task_at, task_by, act_at, act_by, statement_at, statement_by, statements_from, root_at, change_at, put_all_at, apply_at}
+use Rattle.sj_meaning.specs.Numbers.{registration_at, no_root, operand_array_at, name_at, number_of_name, operand_at, operand_named_by, task_at, task_named_by, act_at, act_named_by, statement_at, statement_named_by, statements_from, root_at, change_at, put_all_at, apply_at}
 use Rattle.sj_meaning.proofs.Finding.{text-itself}
 use Rattle.sj_meaning.proofs.Mirroring.{IsThere, IsMirror, IsTimely, AreTimely, mirror-apply}
 use Rattle.sj_meaning.proofs.Views.{count-grows, counts-grow}
@@ -29,7 +29,7 @@ distinct-tail : (x : List ℕ) (xs : List (List ℕ)) → AreDistinct (x ∷ xs)
 distinct-tail x xs d i j li lj e = omega (arith, d (suc i) (suc j) (omega (arith, li)) (omega (arith, lj)) e)
 
 -- a name's number is its own
-pub number-named : (names : List (List ℕ)) (n : ℕ) → AreDistinct names → n < length names → number_in names (name_at names n) ≡ n
+pub number-named : (names : List (List ℕ)) (n : ℕ) → AreDistinct names → n < length names → number_of_name names (name_at names n) ≡ n
 number-named [] n d lt = absurd (omega (arith, lt))
 number-named (x ∷ xs) zero d lt = ap (λ b. cond (not b) (1 + position_or_len (bytes_eq x) xs) 0) (text-itself x x refl)
 number-named (x ∷ xs) (suc m) d lt =
@@ -43,12 +43,12 @@ number-named (x ∷ xs) (suc m) d lt =
 
 -- ---- the same acts
 
-operands-named : (T : Table) (os : List Access) → map (operand_seen T) os ≡ map (operand_by (name_at T.names)) (map operand_at os)
+operands-named : (T : Table) (os : List Access) → map (operand_seen T) os ≡ map (operand_named_by (name_at T.names)) (map operand_at os)
 operands-named T [] = refl
 operands-named T (o ∷ os) = ap (λ us. operand_seen T o ∷ us) (operands-named T os)
 
 -- an act with names is the act with numbers, by its names
-pub act-named : (T : Table) (k : ℕ) (a : KeptAct) → act_seen T k a ≡ act_by (name_at T.names) (act_at T k a)
+pub act-named : (T : Table) (k : ℕ) (a : KeptAct) → act_seen T k a ≡ act_named_by (name_at T.names) (act_at T k a)
 act-named T k (kept.Register init) = refl
 act-named T k (kept.Plan r p valued) = refl
 act-named T k (kept.Redux r by) = refl
@@ -59,7 +59,7 @@ act-named T k (kept.Print r) = refl
 act-named T k (kept.Invalidate r) = refl
 act-named T k (kept.Unregister r) = refl
 
-pub statements-named : (T : Table) (k : ℕ) (ss : List Kept) → seen_from T k ss ≡ map (statement_by (name_at T.names)) (statements_from T k ss)
+pub statements-named : (T : Table) (k : ℕ) (ss : List Kept) → seen_from T k ss ≡ map (statement_named_by (name_at T.names)) (statements_from T k ss)
 statements-named T k [] = refl
 statements-named T k (s ∷ ss) =
     let mk : Act (List ℕ) → Statement (List ℕ) = λ a. record { line = s.line; act = a } in
@@ -117,13 +117,13 @@ timely-act has T k S rs (kept.Invalidate r) e le placed s = there-by T.names S r
 timely-act has T k S rs (kept.Unregister r) e le placed s = there-by T.names S r.0 (omega (arith, le, placed)) (root_of S (name_at T.names r.0)) refl s
 
 -- the acts of a numbered job come in time
-pub timely : (has : Kernel → Bool) (T : Table) (k : ℕ) (S : JobState) (rs : List RootState) (ss : List Kept) → AreDistinct T.names → length rs ≡ k → count_from k ss ≤ length T.names → ActsArePlaced k ss → IsMirror T.names S rs → AreSound has S (seen_from T k ss) → AreTimely T.names S rs (statements_from T k ss)
+pub timely : (has : Kernel → Bool) (T : Table) (k : ℕ) (S : JobState) (rs : List RootState) (ss : List Kept) → AreDistinct T.names → length rs ≡ k → count_from k ss ≤ length T.names → ActsArePlaced k ss → IsMirror T.names S rs → AreSoundActs has S (seen_from T k ss) → AreTimely T.names S rs (statements_from T k ss)
 timely has T k S rs [] d e le p m s = tt
 timely has T k S rs (t ∷ ts) d e le p m s =
     let now = timely-act has T k S rs t.act e (omega (arith, le, counts-grow (count_after k t.act) ts)) p.0 s.0 in
     let same = act-named T k t.act in (
       now,
-      timely has T (count_after k t.act) (apply (act_by (name_at T.names) (act_at T k t.act)) S) (apply_at (act_at T k t.act) rs) ts d (length-apply T k t.act rs e) le p.1
+      timely has T (count_after k t.act) (apply (act_named_by (name_at T.names) (act_at T k t.act)) S) (apply_at (act_at T k t.act) rs) ts d (length-apply T k t.act rs e) le p.1
           (mirror-apply T.names d (act_at T k t.act) S rs m now)
-          (subst (λ (a : Act (List ℕ)). AreSound has (apply a S) (seen_from T (count_after k t.act) ts)) same s.1),
+          (subst (λ (a : Act (List ℕ)). AreSoundActs has (apply a S) (seen_from T (count_after k t.act) ts)) same s.1),
     )

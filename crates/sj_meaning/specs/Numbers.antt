@@ -24,31 +24,31 @@ use Rattle.sj_meaning.specs.Meaning.{registered_root, with_parts, with_elements,
 abbrev pub name_at : List (List ℕ) → ℕ → List ℕ
 name_at names n = slice_index_or names n []
 
-abbrev pub number_in : List (List ℕ) → List ℕ → ℕ
-number_in names q = position_or_len (bytes_eq q) names
+abbrev pub number_of_name : List (List ℕ) → List ℕ → ℕ
+number_of_name names q = position_or_len (bytes_eq q) names
 
 -- ---- an act whose roots go by something else
 
-abbrev pub registration_by : {M N : Type 0} → (M → N) → Registration M → Registration N
-registration_by f r = record { name = f r.name; kind = r.kind; dims = r.dims; parts = r.parts; init = r.init }
+abbrev pub registration_named_by : {M N : Type 0} → (M → N) → Registration M → Registration N
+registration_named_by f r = record { name = f r.name; kind = r.kind; dims = r.dims; parts = r.parts; init = r.init }
 
-abbrev pub operand_by : {M N : Type 0} → (M → N) → Operand M → Operand N
-operand_by f o = record { name = f o.name; place = o.place; mode = o.mode }
+abbrev pub operand_named_by : {M N : Type 0} → (M → N) → Operand M → Operand N
+operand_named_by f o = record { name = f o.name; place = o.place; mode = o.mode }
 
-abbrev pub task_by : {M N : Type 0} → (M → N) → TaskLine M → TaskLine N
-task_by f t = record { codelet = t.codelet; args = t.args; operands = map (operand_by f) t.operands; priority = t.priority }
+abbrev pub task_named_by : {M N : Type 0} → (M → N) → TaskLine M → TaskLine N
+task_named_by f t = record { codelet = t.codelet; args = t.args; operands = map (operand_named_by f) t.operands; priority = t.priority }
 
-abbrev pub act_by : {M N : Type 0} → (M → N) → Act M → Act N
-act_by f (Register r) = Register (registration_by f r)
-act_by f (Plan q p) = Plan (f q) p
-act_by f (Redux q by) = Redux (f q) by
-act_by f (Task t) = Task (task_by f t)
-act_by f (Print q) = Print (f q)
-act_by f (Invalidate q) = Invalidate (f q)
-act_by f (Unregister q) = Unregister (f q)
+abbrev pub act_named_by : {M N : Type 0} → (M → N) → Act M → Act N
+act_named_by f (Register r) = Register (registration_named_by f r)
+act_named_by f (Plan q p) = Plan (f q) p
+act_named_by f (Redux q by) = Redux (f q) by
+act_named_by f (Task t) = Task (task_named_by f t)
+act_named_by f (Print q) = Print (f q)
+act_named_by f (Invalidate q) = Invalidate (f q)
+act_named_by f (Unregister q) = Unregister (f q)
 
-abbrev pub statement_by : {M N : Type 0} → (M → N) → Statement M → Statement N
-statement_by f s = record { line = s.line; act = act_by f s.act }
+abbrev pub statement_named_by : {M N : Type 0} → (M → N) → Statement M → Statement N
+statement_named_by f s = record { line = s.line; act = act_named_by f s.act }
 
 -- ---- what is kept of a job, by number
 

@@ -159,6 +159,6 @@ IsSoundAct has S (Invalidate name) = IsTrue (has_root S name)
 IsSoundAct has S (Unregister name) = IsTrue (has_root S name)
 
 -- what acts need, one after another
-abbrev pub AreSound : (Kernel → Bool) → JobState → List (Statement (List ℕ)) → Type 0
-AreSound has S [] = Unit {0}
-AreSound has S (s ∷ ss) = IsSoundAct has S s.act × AreSound has (apply s.act S) ss
+abbrev pub AreSoundActs : (Kernel → Bool) → JobState → List (Statement (List ℕ)) → Type 0
+AreSoundActs has S [] = Unit {0}
+AreSoundActs has S (s ∷ ss) = IsSoundAct has S s.act × AreSoundActs has (apply s.act S) ss

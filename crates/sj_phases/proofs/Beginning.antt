@@ -12,7 +12,7 @@ use Rattle.sj_base.specs.declared.program.Program.{Program}
 use Rattle.sj_codelet.specs.Kernel.{kernel_of, init_of}
 use Rattle.sj_codelet.proofs.Table.{kernel_of-codelet_of}
 use Rattle.sj_core.specs.Proper.{IsPlain, IsInit, names_as, task_number, access}
-use Rattle.sj_phases.specs.declared.phase.Opening.{Opening}
+use Rattle.sj_phases.specs.declared.phase.PhaseOpening.{PhaseOpening}
 use Rattle.sj_phases.specs.declared.phase.OpenPhase.{OpenPhase}
 use Rattle.sj_phases.specs.Rows.{copy_at, init_row, init_rows}
 use Rattle.sj_phases.specs.Expand.{with_phase, begin_rows, first_units, phase_at}
@@ -25,15 +25,15 @@ use Rattle.sj_phases.proofs.Owning.{IsOwn}
 
 -- ---- the tasks that begin a phase
 
-inits-length : (p : Program) (o : Opening) (line : Line) → length (init_rows o.by o.copies p.workers line) ≡ p.workers
+inits-length : (p : Program) (o : PhaseOpening) (line : Line) → length (init_rows o.by o.copies p.workers line) ≡ p.workers
 inits-length p o line = length-map-range_with_len (λ w. init_row o.by line (copy_at o.copies w)) 0 p.workers
 
 -- the tasks from n on: a worker's init, or the cell's own after all of them
-pub data Beginner (p : Program) (n : ℕ) (o : Opening) (line : Line) (m : ℕ) : Type 0 where
+pub data Beginner (p : Program) (n : ℕ) (o : PhaseOpening) (line : Line) (m : ℕ) : Type 0 where
   OfCopy : m < n + p.workers → task_number p m ≡ init_row o.by line (copy_at o.copies (m - n)) → Beginner p n o line m
   OfCell : m ≡ n + p.workers → task_number p m ≡ init_row o.by line o.cell → Beginner p n o line m
 
-module _ (p : Program) (n : ℕ) (o : Opening) (line : Line) (stand : Stand p n (begin_rows p.workers o line)) where
+module _ (p : Program) (n : ℕ) (o : PhaseOpening) (line : Line) (stand : Stand p n (begin_rows p.workers o line)) where
   pub begin-parts : Stand p n (init_rows o.by o.copies p.workers line) × Stand p (n + p.workers) (first_units o line)
   begin-parts =
       let parts = stand-append p n (init_rows o.by o.copies p.workers line) (first_units o line) stand in
@@ -54,7 +54,7 @@ module _ (p : Program) (n : ℕ) (o : Opening) (line : Line) (stand : Stand p n 
 
 -- ---- the log
 
-module _ (p : Program) (n k : ℕ) (phases : Phases) (ls : List Lowered) (o : Opening) (line : Line) (none : phases o.cell ≡ None) (stand : Stand p n (begin_rows p.workers o line)) (e : k ≡ n + length (begin_rows p.workers o line))
+module _ (p : Program) (n k : ℕ) (phases : Phases) (ls : List Lowered) (o : PhaseOpening) (line : Line) (none : phases o.cell ≡ None) (stand : Stand p n (begin_rows p.workers o line)) (e : k ≡ n + length (begin_rows p.workers o line))
     (own : IsOwn p o.cell o.copies) (apart : AreApart p) (others : (d : Cell) (g : OpenPhase) → phases d ≡ Some g → IsPlain p d) (come : IsToCome ls o.cell) (log : Logged p n phases ls) where
   abbrev c : Cell
   c = o.cell

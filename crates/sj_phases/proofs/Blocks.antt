@@ -20,13 +20,13 @@ use Rattle.sj_codelet.specs.Kernel.{kernel_of, out}
 use Rattle.sj_codelet.specs.Laws.{IsReduction}
 use Rattle.sj_core.specs.Program.{task_of}
 use Rattle.sj_core.specs.Proper.{Proper, IsPlain, names_as, access}
-use Rattle.sj_phases.specs.declared.phase.Opening.{Opening}
+use Rattle.sj_phases.specs.declared.phase.PhaseOpening.{PhaseOpening}
 use Rattle.sj_phases.specs.declared.phase.OpenPhase.{OpenPhase}
-use Rattle.sj_phases.specs.Block.{Block}
+use Rattle.sj_phases.specs.Block.{TaskBlock}
 use Rattle.sj_phases.specs.Rows.{combine_rows}
-use Rattle.sj_phases.specs.Expand.{Expansion, turned, closed, opened, begin_rows, first_units, prepared, expanded, expand}
-use Rattle.sj_phases.specs.Plain.{Opens, Plainly, direct, units, plain_rows, plain_next, with_shut, with_opening, shut_by, open_at, open_after, none_open}
-use Rattle.sj_phases.specs.Orderly.{Contributes, IsOrderlyTask, IsOpening, AreOpenings, IsOrderly, AreOrderly}
+use Rattle.sj_phases.specs.Expand.{Expansion, phase_turned, closed, opened, begin_rows, first_units, prepared, expanded, expand}
+use Rattle.sj_phases.specs.Plain.{OpenReductions, Plainly, direct, units, plain_rows, plain_next, with_shut, with_opening, shut_by, open_at, open_after, none_open}
+use Rattle.sj_phases.specs.Orderly.{Contributes, IsOrderlyTask, IsOrderlyOpening, AreOpenings, IsOrderly, AreOrderly}
 use Rattle.sj_phases.proofs.Adding.{law}
 use Rattle.sj_phases.proofs.Combined.{IsTrusted, Phases}
 use Rattle.sj_base.specs.Ids.{task}
@@ -52,8 +52,8 @@ pub begins-less : (all ts us : List Lowered) → GoesOn ts us → Begins all us 
 begins-less all ts us g b = goes-trans ts us all g b
 
 -- what holds where a cell's phase is closed, whether or not one is open
-pub by_closed : (w : ℕ) (E : Expansion) (c : Cell) (P : Expansion → Type 0) → (E.phase c ≡ None → P E) → ((f : OpenPhase) → E.phase c ≡ Some f → P (turned (combine_rows f c w) c None E)) → P (closed w E c)
-by_closed w E c P = by_option (E.phase c) (λ o. P (elim o as (λ _. Expansion) [ None ↦ E | Some f ↦ turned (combine_rows f c w) c None E ]))
+pub by_closed : (w : ℕ) (E : Expansion) (c : Cell) (P : Expansion → Type 0) → (E.phase c ≡ None → P E) → ((f : OpenPhase) → E.phase c ≡ Some f → P (phase_turned (combine_rows f c w) c None E)) → P (closed w E c)
+by_closed w E c P = by_option (E.phase c) (λ o. P (elim o as (λ _. Expansion) [ None ↦ E | Some f ↦ phase_turned (combine_rows f c w) c None E ]))
 
 pub goes-closed : (w : ℕ) (E : Expansion) (c : Cell) → GoesOn E.tasks (closed w E c).tasks
 goes-closed w E c = by_closed w E c (λ F. GoesOn E.tasks F.tasks) (λ none. goes-itself E.tasks) (λ f is. (combine_rows f c w, refl))
@@ -61,49 +61,49 @@ goes-closed w E c = by_closed w E c (λ F. GoesOn E.tasks F.tasks) (λ none. goe
 pub goes-closes : (w : ℕ) (cs : List Cell) (E : Expansion) → GoesOn E.tasks (fold (closed w) E cs).tasks
 goes-closes w cs E = fold_keeps (λ (F : Expansion). GoesOn E.tasks F.tasks) (closed w) (λ F c g. goes-trans E.tasks F.tasks (closed w F c).tasks g (goes-closed w F c)) E cs (goes-itself E.tasks)
 
-pub goes-opened : (w : ℕ) (line : Line) (E : Expansion) (o : Opening) → GoesOn E.tasks (opened w line E o).tasks
+pub goes-opened : (w : ℕ) (line : Line) (E : Expansion) (o : PhaseOpening) → GoesOn E.tasks (opened w line E o).tasks
 goes-opened w line E o = (elim (E.phase o.cell) as (λ _. List Lowered) [ None ↦ begin_rows w o line | Some f ↦ [] ], refl)
 
-pub goes-opens : (w : ℕ) (line : Line) (os : List Opening) (E : Expansion) → GoesOn E.tasks (fold (opened w line) E os).tasks
+pub goes-opens : (w : ℕ) (line : Line) (os : List PhaseOpening) (E : Expansion) → GoesOn E.tasks (fold (opened w line) E os).tasks
 goes-opens w line os E = fold_keeps (λ (F : Expansion). GoesOn E.tasks F.tasks) (opened w line) (λ F o g. goes-trans E.tasks F.tasks (opened w line F o).tasks g (goes-opened w line F o)) E os (goes-itself E.tasks)
 
-pub goes-expanded : (w : ℕ) (E : Expansion) (b : Block) → GoesOn E.tasks (expanded w E b).tasks
+pub goes-expanded : (w : ℕ) (E : Expansion) (b : TaskBlock) → GoesOn E.tasks (expanded w E b).tasks
 goes-expanded w E b =
     let shut = fold (closed w) E b.closes in
     goes-trans E.tasks (prepared w E b).tasks (expanded w E b).tasks (goes-trans E.tasks shut.tasks (prepared w E b).tasks (goes-closes w b.closes E) (goes-opens w b.line b.opens shut)) (b.tasks, refl)
 
 -- deliveries are a block's own
-pub prepared-deliveries : (w : ℕ) (E : Expansion) (b : Block) → (prepared w E b).deliveries ≡ E.deliveries
+pub prepared-deliveries : (w : ℕ) (E : Expansion) (b : TaskBlock) → (prepared w E b).deliveries ≡ E.deliveries
 prepared-deliveries w E b = fold_keeps (λ (F : Expansion). F.deliveries ≡ E.deliveries) (opened w b.line) (λ F o h. h) (fold (closed w) E b.closes) b.opens
     (fold_keeps (λ (F : Expansion). F.deliveries ≡ E.deliveries) (closed w) (λ F c h. by_closed w F c (λ G. G.deliveries ≡ E.deliveries) (λ none. h) (λ f is. h)) E b.closes refl)
 
 -- ---- which phases are open
 
-opening-stays : (p : Program) (tasks : List Lowered) (was : Opens) (os : List Opening) (c : Cell) (by : Reduction) → AreOpenings p tasks was os → was c ≡ Some by → fold with_opening was os c ≡ Some by
+opening-stays : (p : Program) (tasks : List Lowered) (was : OpenReductions) (os : List PhaseOpening) (c : Cell) (by : Reduction) → AreOpenings p tasks was os → was c ≡ Some by → fold with_opening was os c ≡ Some by
 opening-stays p tasks was [] c by h e = e
 opening-stays p tasks was (o ∷ os) c by h e = opening-stays p tasks (with_opening was o) os c by h.1 (by_which o.cell c (with_opening was o c ≡ Some by)
     (λ same. ap (with_opening was o) (sym same) ∙ phase-own o.cell (Some o.by) was ∙ ap (λ y. Some y) (h.0.valued by (ap was same ∙ e)).1)
     (λ other. phase-other o.cell (Some o.by) was c other ∙ e))
 
 -- of one of the openings: what there was before it, what it needs, and that its phase is open after them all
-opening-of : (p : Program) (tasks : List Lowered) (was : Opens) (os : List Opening) (o : Opening) → AreOpenings p tasks was os → Contains os o → (before : Opens) × IsOpening p before tasks o × (fold with_opening was os o.cell ≡ Some o.by)
+opening-of : (p : Program) (tasks : List Lowered) (was : OpenReductions) (os : List PhaseOpening) (o : PhaseOpening) → AreOpenings p tasks was os → Contains os o → (before : OpenReductions) × IsOrderlyOpening p before tasks o × (fold with_opening was os o.cell ≡ Some o.by)
 opening-of p tasks was [] o h c = absurd (none-has o c)
 opening-of p tasks was (x ∷ os) o h c = elim (cons-cases x os o c) [
-  | inl same ↦ subst (λ (y : Opening). (before : Opens) × IsOpening p before tasks y × (fold with_opening (with_opening was x) os y.cell ≡ Some y.by)) same (was, h.0, opening-stays p tasks (with_opening was x) os x.cell x.by h.1 (phase-own x.cell (Some x.by) was))
+  | inl same ↦ subst (λ (y : PhaseOpening). (before : OpenReductions) × IsOrderlyOpening p before tasks y × (fold with_opening (with_opening was x) os y.cell ≡ Some y.by)) same (was, h.0, opening-stays p tasks (with_opening was x) os x.cell x.by h.1 (phase-own x.cell (Some x.by) was))
   | inr later ↦ opening-of p tasks (with_opening was x) os o h.1 later
 ]
 
 -- ---- what blocks need, said of another program of the same cells
 
 module _ (p q : Program) (twins : AreTwins p q) where
-  task-twin : (was : Opens) (l : Lowered) → IsOrderlyTask q was l → IsOrderlyTask p was l
+  task-twin : (was : OpenReductions) (l : Lowered) → IsOrderlyTask q was l → IsOrderlyTask p was l
   task-twin was l h = record { plain = λ k d lt. twin-plain p q twins (get_or l.accesses k d).cell (h.plain k d lt); shut = h.shut; contributes = h.contributes }
 
-  openings-twin : (tasks : List Lowered) (was : Opens) (os : List Opening) → AreOpenings q tasks was os → AreOpenings p tasks was os
+  openings-twin : (tasks : List Lowered) (was : OpenReductions) (os : List PhaseOpening) → AreOpenings q tasks was os → AreOpenings p tasks was os
   openings-twin tasks was [] h = tt
   openings-twin tasks was (o ∷ os) h = (record { used = h.0.used; valued = h.0.valued; copies = ap (λ (i : CellInfo). i.partials) (twin-info p q twins o.cell) ∙ h.0.copies }, openings-twin tasks (with_opening was o) os h.1)
 
-  pub orderly-twin : (was : Opens) (bs : List Block) → AreOrderly q was bs → AreOrderly p was bs
+  pub orderly-twin : (was : OpenReductions) (bs : List TaskBlock) → AreOrderly q was bs → AreOrderly p was bs
   orderly-twin was [] h = tt
   orderly-twin was (b ∷ bs) h = (
     record { tasks = λ k d lt. task-twin (open_at was b) (get_or b.tasks k d) (h.0.tasks k d lt); openings = openings-twin b.tasks (shut_by was b) b.opens h.0.openings; delivered = h.0.delivered },
@@ -121,15 +121,15 @@ stand-at p n (x ∷ ls) l (suc i) s lt e =
     (ap (λ k. task_of p (task k)) (one_more n i) ∙ rest.0, omega (arith, rest.1))
 
 module _ (p q : Program) (twins : AreTwins p q) (proper : Proper q) where
-  fine-closes : (cs : List Cell) (E : Expansion) (us : List Lowered) (was : Opens) → Begins p.tasks (fold (closed p.workers) E cs).tasks → Fine p q E.tasks E.phase us [] was → Fine p q (fold (closed p.workers) E cs).tasks (fold (closed p.workers) E cs).phase us [] (fold with_shut was cs)
-  fine-closes cs E us was b fine = fold_along (closed p.workers) with_shut (λ (F : Expansion) (o : Opens). Begins p.tasks F.tasks → Fine p q F.tasks F.phase us [] o)
+  fine-closes : (cs : List Cell) (E : Expansion) (us : List Lowered) (was : OpenReductions) → Begins p.tasks (fold (closed p.workers) E cs).tasks → Fine p q E.tasks E.phase us [] was → Fine p q (fold (closed p.workers) E cs).tasks (fold (closed p.workers) E cs).phase us [] (fold with_shut was cs)
+  fine-closes cs E us was b fine = fold_along (closed p.workers) with_shut (λ (F : Expansion) (o : OpenReductions). Begins p.tasks F.tasks → Fine p q F.tasks F.phase us [] o)
       (λ F o c before here. fine-close p q twins proper F us o c here (before (begins-less p.tasks F.tasks (closed p.workers F c).tasks (goes-closed p.workers F c) here))) E was cs (λ here. fine) b
 
   -- what opening a phase needs of the tasks to come
-  abbrev CanOpen : Opening → Type 0
+  abbrev CanOpen : PhaseOpening → Type 0
   CanOpen o = IsPlain p o.cell × (IsTrusted p → IsReduction out o.by)
 
-  fine-opens : (os : List Opening) (E : Expansion) (us vs ls : List Lowered) (was : Opens) (line : Line) → vs ≡ us ++ flat_map (λ o. first_units o line) os → AreOpenings p ls was os → ((o : Opening) → Contains os o → CanOpen o) → Begins p.tasks (fold (opened p.workers line) E os).tasks → Begins q.tasks vs
+  fine-opens : (os : List PhaseOpening) (E : Expansion) (us vs ls : List Lowered) (was : OpenReductions) (line : Line) → vs ≡ us ++ flat_map (λ o. first_units o line) os → AreOpenings p ls was os → ((o : PhaseOpening) → Contains os o → CanOpen o) → Begins p.tasks (fold (opened p.workers line) E os).tasks → Begins q.tasks vs
       → Fine p q E.tasks E.phase us ls was → Fine p q (fold (opened p.workers line) E os).tasks (fold (opened p.workers line) E os).phase vs ls (fold with_opening was os)
   fine-opens [] E us vs ls was line e h can b d fine = subst (λ (xs : List Lowered). Fine p q E.tasks E.phase xs ls was) (sym (e ∙ append-nil us)) fine
   fine-opens (o ∷ os) E us vs ls was line e h can b d fine =
@@ -141,7 +141,7 @@ module _ (p q : Program) (twins : AreTwins p q) (proper : Proper q) where
       (fine-open p q twins proper E us ls was o line h.0 c.0 c.1 (begins-less p.tasks next.tasks (fold (opened p.workers line) next os).tasks (goes-opens p.workers line os next) b) (begins-less q.tasks (us ++ first_units o line) vs goes d) fine)
 
   -- after the first of a block's own tasks
-  fine-part : (xs ys ts ts' us us' : List Lowered) (phases : Phases) (was : Opens) → ts' ≡ ts ++ xs → us' ≡ us ++ map direct xs → ((l : Lowered) → Contains (xs ++ ys) l → IsOrderlyTask p was l) → Begins p.tasks ts' → Begins q.tasks us' → Fine p q ts phases us (xs ++ ys) was → Fine p q ts' phases us' ys was
+  fine-part : (xs ys ts ts' us us' : List Lowered) (phases : Phases) (was : OpenReductions) → ts' ≡ ts ++ xs → us' ≡ us ++ map direct xs → ((l : Lowered) → Contains (xs ++ ys) l → IsOrderlyTask p was l) → Begins p.tasks ts' → Begins q.tasks us' → Fine p q ts phases us (xs ++ ys) was → Fine p q ts' phases us' ys was
   fine-part [] ys ts ts' us us' phases was e f orderly b d fine = subst (λ (zs : List Lowered). Fine p q zs phases us' ys was) (sym (e ∙ append-nil ts)) (subst (λ (zs : List Lowered). Fine p q ts phases zs ys was) (sym (f ∙ append-nil us)) fine)
   fine-part (x ∷ xs) ys ts ts' us us' phases was e f orderly b d fine =
       let goes : GoesOn (ts ++ x ∷ []) ts' = (xs, e ∙ sym (append_assoc ts (x ∷ []) xs)) in
@@ -149,14 +149,14 @@ module _ (p q : Program) (twins : AreTwins p q) (proper : Proper q) where
       fine-part xs ys (ts ++ x ∷ []) ts' (us ++ direct x ∷ []) us' phases was goes.1 plain_goes.1 (λ l h. orderly l (more-has x (xs ++ ys) l h)) b d
       (fine-own p q twins proper ts us x (xs ++ ys) phases was (orderly x (first-has x (xs ++ ys))) (begins-less p.tasks (ts ++ x ∷ []) ts' goes b) (begins-less q.tasks (us ++ direct x ∷ []) us' plain_goes d) fine)
 
-  module _ (E : Expansion) (us : List Lowered) (was : Opens) (b : Block) (orderly : IsOrderly p was b) (begins : Begins p.tasks (expanded p.workers E b).tasks) (plain_begins : Begins q.tasks (us ++ plain_rows b)) (fine : Fine p q E.tasks E.phase us [] was) where
+  module _ (E : Expansion) (us : List Lowered) (was : OpenReductions) (b : TaskBlock) (orderly : IsOrderly p was b) (begins : Begins p.tasks (expanded p.workers E b).tasks) (plain_begins : Begins q.tasks (us ++ plain_rows b)) (fine : Fine p q E.tasks E.phase us [] was) where
     abbrev pub Ready : Expansion
     Ready = prepared p.workers E b
 
     its_task : (l : Lowered) → Contains b.tasks l → IsOrderlyTask p (open_at was b) l
     its_task l h = All-contains (IsOrderlyTask p (open_at was b)) b.tasks l orderly.tasks h
 
-    can : (o : Opening) → Contains b.opens o → CanOpen o
+    can : (o : PhaseOpening) → Contains b.opens o → CanOpen o
     can o h =
         let opening = opening-of p b.tasks (shut_by was b) b.opens o orderly.openings h in
         let used = opening.1.used in
@@ -207,14 +207,14 @@ module _ (p q : Program) (twins : AreTwins p q) (proper : Proper q) where
 -- ---- all blocks
 
 -- what one block after another keeps
-pub along-blocks : (p : Program) (w : ℕ) (P : Expansion → Plainly → Opens → Type 0) → ((b : Block) (E : Expansion) (Q : Plainly) (was : Opens) → IsOrderly p was b → P E Q was → P (expanded w E b) (plain_next Q b) (open_at was b))
-    → (bs : List Block) (E : Expansion) (Q : Plainly) (was : Opens) → AreOrderly p was bs → P E Q was → P (expand w E bs) (fold plain_next Q bs) (open_after was bs)
+pub along-blocks : (p : Program) (w : ℕ) (P : Expansion → Plainly → OpenReductions → Type 0) → ((b : TaskBlock) (E : Expansion) (Q : Plainly) (was : OpenReductions) → IsOrderly p was b → P E Q was → P (expanded w E b) (plain_next Q b) (open_at was b))
+    → (bs : List TaskBlock) (E : Expansion) (Q : Plainly) (was : OpenReductions) → AreOrderly p was bs → P E Q was → P (expand w E bs) (fold plain_next Q bs) (open_after was bs)
 along-blocks p w P step [] E Q was h start = start
 along-blocks p w P step (b ∷ bs) E Q was h start = along-blocks p w P step bs (expanded w E b) (plain_next Q b) (open_at was b) h.1 (step b E Q was h.0 start)
 
 -- the same where both programs begin with what each block gives
-pub begun-blocks : (p q : Program) (P : Expansion → Plainly → Opens → Type 0) → ((b : Block) (E : Expansion) (Q : Plainly) (was : Opens) → IsOrderly p was b → Begins p.tasks (expanded p.workers E b).tasks → Begins q.tasks (Q.tasks ++ plain_rows b) → P E Q was → P (expanded p.workers E b) (plain_next Q b) (open_at was b))
-    → (bs : List Block) (E : Expansion) (Q : Plainly) (was : Opens) → AreOrderly p was bs → Begins p.tasks (expand p.workers E bs).tasks → Begins q.tasks (fold plain_next Q bs).tasks → P E Q was → P (expand p.workers E bs) (fold plain_next Q bs) (open_after was bs)
+pub begun-blocks : (p q : Program) (P : Expansion → Plainly → OpenReductions → Type 0) → ((b : TaskBlock) (E : Expansion) (Q : Plainly) (was : OpenReductions) → IsOrderly p was b → Begins p.tasks (expanded p.workers E b).tasks → Begins q.tasks (Q.tasks ++ plain_rows b) → P E Q was → P (expanded p.workers E b) (plain_next Q b) (open_at was b))
+    → (bs : List TaskBlock) (E : Expansion) (Q : Plainly) (was : OpenReductions) → AreOrderly p was bs → Begins p.tasks (expand p.workers E bs).tasks → Begins q.tasks (fold plain_next Q bs).tasks → P E Q was → P (expand p.workers E bs) (fold plain_next Q bs) (open_after was bs)
 begun-blocks p q P step bs E Q was h b d start = along-blocks p p.workers (λ F R o. Begins p.tasks F.tasks → Begins q.tasks R.tasks → P F R o)
     (λ x F R o orderly before here plain_here. step x F R o orderly here plain_here (before (begins-less p.tasks F.tasks (expanded p.workers F x).tasks (goes-expanded p.workers F x) here) (begins-less q.tasks R.tasks (R.tasks ++ plain_rows x) (plain_rows x, refl) plain_here)))
     bs E Q was h (λ here plain_here. start) b d

@@ -20,11 +20,11 @@ use Rattle.sj_codelet.specs.declared.kernel.Kernel.{Kernel}
 use Rattle.sj_codelet.specs.declared.kernel.Kernel.TheVariants.{Deliver}
 use Rattle.sj_codelet.specs.Kernel.{kernel_of}
 use Rattle.sj_core.specs.Program.{no_task}
-use Rattle.sj_phases.specs.declared.phase.Opening.{Opening}
-use Rattle.sj_phases.specs.Block.{Block}
+use Rattle.sj_phases.specs.declared.phase.PhaseOpening.{PhaseOpening}
+use Rattle.sj_phases.specs.Block.{TaskBlock}
 use Rattle.sj_phases.specs.Rows.{copy_at, init_row, init_rows, combine_row, combine_rows}
-use Rattle.sj_phases.specs.Expand.{Expansion, turned, closed, opened, begin_rows, first_units, moved, prepared, expanded, expand}
-use Rattle.sj_phases.specs.Plain.{Opens, Plainly, direct, units, plain_next, open_at}
+use Rattle.sj_phases.specs.Expand.{Expansion, phase_turned, closed, opened, begin_rows, first_units, moved, prepared, expanded, expand}
+use Rattle.sj_phases.specs.Plain.{OpenReductions, Plainly, direct, units, plain_next, open_at}
 use Rattle.sj_phases.specs.Orderly.{IsDelivered, AreOrderly}
 use Rattle.sj_phases.proofs.Logging.{option-cases}
 use Rattle.sj_base.specs.declared.program.Program.{Program}
@@ -119,31 +119,31 @@ none-combine Least c line q e = absurd (cc)
 none-map : (g : ℕ → Lowered) (ws : List ℕ) → ((w : ℕ) → IsOther (g w)) → All IsOther (map g ws)
 none-map g ws none = All-map IsOther g ws (λ k d lt. none (get_or ws k d))
 
-none-units : (o : Opening) (line : Line) → All IsOther (first_units o line)
+none-units : (o : PhaseOpening) (line : Line) → All IsOther (first_units o line)
 none-units o line = cond_both o.valued [] (init_row o.by line o.cell ∷ []) (All IsOther) (λ e. All-nil IsOther) (λ e. All-from_recursion IsOther (init_row o.by line o.cell ∷ []) (none-init o.by line o.cell, tt))
 
-none-all : (os : List Opening) (line : Line) → All IsOther (flat_map (λ o. first_units o line) os)
+none-all : (os : List PhaseOpening) (line : Line) → All IsOther (flat_map (λ o. first_units o line) os)
 none-all [] line = All-nil IsOther
 none-all (o ∷ os) line = All-append IsOther (first_units o line) (flat_map (λ x. first_units x line) os) (none-units o line) (none-all os line)
 
 delivered-closed : (w : ℕ) (E : Expansion) (c : Cell) → IsDelivered E.tasks E.deliveries → IsDelivered (closed w E c).tasks (closed w E c).deliveries
-delivered-closed w E c h = option-cases (E.phase c) E (λ f. turned (combine_rows f c w) c None E) (λ (F : Expansion). IsDelivered F.tasks F.deliveries) (λ none. h)
+delivered-closed w E c h = option-cases (E.phase c) E (λ f. phase_turned (combine_rows f c w) c None E) (λ (F : Expansion). IsDelivered F.tasks F.deliveries) (λ none. h)
     (λ f is. delivered-more E.tasks (combine_rows f c w) E.deliveries (none-map (λ v. combine_row f.by c f.line (copy_at f.copies v)) (range_with_len 0 w) (λ v. none-combine f.by c f.line (copy_at f.copies v))) h)
 
 delivered-closes : (w : ℕ) (cs : List Cell) (E : Expansion) → IsDelivered E.tasks E.deliveries → IsDelivered (fold (closed w) E cs).tasks (fold (closed w) E cs).deliveries
 delivered-closes w [] E h = h
 delivered-closes w (c ∷ cs) E h = delivered-closes w cs (closed w E c) (delivered-closed w E c h)
 
-delivered-opened : (w : ℕ) (line : Line) (E : Expansion) (o : Opening) → IsDelivered E.tasks E.deliveries → IsDelivered (opened w line E o).tasks (opened w line E o).deliveries
+delivered-opened : (w : ℕ) (line : Line) (E : Expansion) (o : PhaseOpening) → IsDelivered E.tasks E.deliveries → IsDelivered (opened w line E o).tasks (opened w line E o).deliveries
 delivered-opened w line E o h = option-cases (E.phase o.cell) (begin_rows w o line) (λ f. []) (λ (ls : List Lowered). IsDelivered (E.tasks ++ ls) E.deliveries)
     (λ none. delivered-more E.tasks (begin_rows w o line) E.deliveries (All-append IsOther (init_rows o.by o.copies w line) (first_units o line) (none-map (λ v. init_row o.by line (copy_at o.copies v)) (range_with_len 0 w) (λ v. none-init o.by line (copy_at o.copies v))) (none-units o line)) h)
     (λ f is. delivered-more E.tasks [] E.deliveries (All-nil IsOther) h)
 
-delivered-opens : (w : ℕ) (line : Line) (os : List Opening) (E : Expansion) → IsDelivered E.tasks E.deliveries → IsDelivered (fold (opened w line) E os).tasks (fold (opened w line) E os).deliveries
+delivered-opens : (w : ℕ) (line : Line) (os : List PhaseOpening) (E : Expansion) → IsDelivered E.tasks E.deliveries → IsDelivered (fold (opened w line) E os).tasks (fold (opened w line) E os).deliveries
 delivered-opens w line [] E h = h
 delivered-opens w line (o ∷ os) E h = delivered-opens w line os (opened w line E o) (delivered-opened w line E o h)
 
-pub delivered-expand : (p : Program) (was : Opens) (w : ℕ) (bs : List Block) (E : Expansion) → AreOrderly p was bs → IsDelivered E.tasks E.deliveries → IsDelivered (expand w E bs).tasks (expand w E bs).deliveries
+pub delivered-expand : (p : Program) (was : OpenReductions) (w : ℕ) (bs : List TaskBlock) (E : Expansion) → AreOrderly p was bs → IsDelivered E.tasks E.deliveries → IsDelivered (expand w E bs).tasks (expand w E bs).deliveries
 delivered-expand p was w [] E orderly h = h
 delivered-expand p was w (b ∷ bs) E orderly h =
     delivered-expand p (open_at was b) w bs (expanded w E b) orderly.1
@@ -153,7 +153,7 @@ delivered-expand p was w (b ∷ bs) E orderly h =
 delivered-direct : (ts : List Lowered) (ds : List Delivery) → IsDelivered ts ds → IsDelivered (map direct ts) ds
 delivered-direct ts ds = delivered-like ts (map direct ts) ds (omega (arith, length-map ts direct)) (λ n lt. ap (λ (l : Lowered). kernel_of l.codelet) (get_or-map direct ts n no_task no_task lt)) (λ n past lt. absurd (omega (arith, past, lt, length-map ts direct)))
 
-pub delivered-plain : (p : Program) (was : Opens) (bs : List Block) (Q : Plainly) → AreOrderly p was bs → IsDelivered Q.tasks Q.deliveries → IsDelivered (fold plain_next Q bs).tasks (fold plain_next Q bs).deliveries
+pub delivered-plain : (p : Program) (was : OpenReductions) (bs : List TaskBlock) (Q : Plainly) → AreOrderly p was bs → IsDelivered Q.tasks Q.deliveries → IsDelivered (fold plain_next Q bs).tasks (fold plain_next Q bs).deliveries
 delivered-plain p was [] Q orderly h = h
 delivered-plain p was (b ∷ bs) Q orderly h =
     delivered-plain p (open_at was b) bs (plain_next Q b) orderly.1

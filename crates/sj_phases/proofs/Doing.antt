@@ -13,10 +13,10 @@ use Rattle.sj_base.specs.declared.program.Delivery.{Delivery}
 use Rattle.sj_base.specs.declared.program.Lowered.{Lowered}
 use Rattle.sj_base.proofs.Options.{IfSome-at}
 use Rattle.sj_phases.specs.declared.expander.Expander.{Expander}
-use Rattle.sj_phases.specs.declared.phase.Opening.{Opening}
+use Rattle.sj_phases.specs.declared.phase.PhaseOpening.{PhaseOpening}
 use Rattle.sj_phases.specs.declared.phase.OpenPhase.{OpenPhase}
-use Rattle.sj_phases.specs.Does.{Follows, IsAt, HasAt, over_after, Does}
-use Rattle.sj_phases.specs.Expand.{Expansion, most, with_phase, turned, closed, opened, with_own, begin_rows, phase_at}
+use Rattle.sj_phases.specs.Does.{HasExpansion, StandsAt, HasAt, over_after, Does}
+use Rattle.sj_phases.specs.Expand.{Expansion, most, with_phase, phase_turned, closed, opened, with_own, begin_rows, phase_at}
 use Rattle.sj_phases.specs.Rows.{init_row, init_rows, combine_rows}
 use Rattle.sj_phases.proofs.Blocks.{GoesOn}
 use Rattle.sj_phases.proofs.Logging.{phase-own, phase-other, by_which}
@@ -41,7 +41,7 @@ none-over (Some x) b is none = absurd (cc (is, none))
 
 -- ---- one step
 
-pub does-on : (old new : Expander) (line : Line) (change : Expansion → Expansion) → old.over ≡ None → new.over ≡ None → new.workers ≡ old.workers → ((E : Expansion) → Follows old E → Follows new (change E)) → Does old new line change
+pub does-on : (old new : Expander) (line : Line) (change : Expansion → Expansion) → old.over ≡ None → new.over ≡ None → new.workers ≡ old.workers → ((E : Expansion) → HasExpansion old E → HasExpansion new (change E)) → Does old new line change
 does-on old new line change none early workers step = record {
   at = λ E at still. step E (at none);
   over = λ E at. early ∙ sym (ap (λ o. over_after o line (change E)) none ∙ over-early line (change E) (step E (at none)).few);
@@ -61,9 +61,9 @@ does-then a b c line f g more p q = record {
 }
 
 -- another change that is the same unless there were too many tasks
-pub does-where : (old new : Expander) (line : Line) (f g : Expansion → Expansion) → ((E : Expansion) → IsAt old E → f E ≡ g E) → Does old new line f → Does old new line g
+pub does-where : (old new : Expander) (line : Line) (f g : Expansion → Expansion) → ((E : Expansion) → StandsAt old E → f E ≡ g E) → Does old new line f → Does old new line g
 does-where old new line f g same p = record {
-  at = λ E at. subst (IsAt new) (same E at) (p.at E at);
+  at = λ E at. subst (StandsAt new) (same E at) (p.at E at);
   over = λ E at. p.over E at ∙ ap (over_after old.over line) (same E at);
   workers = p.workers;
 }
@@ -84,7 +84,7 @@ goes-own ls ds E = (ls, refl)
 pub does-nothing : (x : Expander) (line : Line) → Does x x line (λ E. E)
 does-nothing x line = record { at = λ E at. at; over = λ E at. by_over x.over refl E at; workers = refl }
   where
-    by_over : (o : Option Line) → x.over ≡ o → (E : Expansion) → IsAt x E → x.over ≡ over_after x.over line E
+    by_over : (o : Option Line) → x.over ≡ o → (E : Expansion) → StandsAt x E → x.over ≡ over_after x.over line E
     by_over None e E at = e ∙ sym (over-early line E (at e).few) ∙ ap (λ o. over_after o line E) (sym e)
     by_over (Some first) e E at = e ∙ ap (λ o. over_after o line E) (sym e)
 
@@ -111,14 +111,14 @@ does-next a b c line g n l e = does-more a b c line (map g (range_with_len 0 n))
 abbrev pub Sets : Expander → Expander → Cell → Option OpenPhase → Type 0
 Sets old new c o = (d : ℕ) → get nat_eq new.phases d ≡ cond (nat_eq c.0 d) o (get nat_eq old.phases d)
 
-own-turned : (ls : List Lowered) (c : Cell) (o : Option OpenPhase) (E : Expansion) → with_own ls [] (turned [] c o E) ≡ turned ls c o E
+own-turned : (ls : List Lowered) (c : Cell) (o : Option OpenPhase) (E : Expansion) → with_own ls [] (phase_turned [] c o E) ≡ phase_turned ls c o E
 own-turned ls c o E = λ i. record { tasks = append-nil E.tasks i ++ ls; deliveries = append-nil E.deliveries i; phase = with_phase c o E.phase }
 
 -- the phase of a cell is this one, or none
 module _ (old mid : Expander) (line : Line) (c : Cell) (o : Option OpenPhase) (none : old.over ≡ None) (early : mid.over ≡ None) (workers : mid.workers ≡ old.workers) (tasks : mid.tasks ≡ old.tasks) (deliveries : mid.deliveries ≡ old.deliveries) (sets : Sets old mid c o)
     (inside : IfSome o (λ f. f.copies.0 + old.workers ≤ most)) where
-  sets-on : Does old mid line (turned [] c o)
-  sets-on = does-on old mid line (turned [] c o) none early workers (λ E f. record {
+  sets-on : Does old mid line (phase_turned [] c o)
+  sets-on = does-on old mid line (phase_turned [] c o) none early workers (λ E f. record {
     tasks = ap (λ v. v.items) tasks ∙ f.tasks ∙ sym (append-nil E.tasks);
     deliveries = ap (λ v. v.items) deliveries ∙ f.deliveries;
     phases = λ d. sets d.0 ∙ ap (λ x. cond (nat_eq c.0 d.0) o x) (f.phases d);
@@ -129,25 +129,25 @@ module _ (old mid : Expander) (line : Line) (c : Cell) (o : Option OpenPhase) (n
   })
 
   pub sets-at : HasAt old → HasAt mid
-  sets-at h = has-after old mid line (turned [] c o) sets-on h
+  sets-at h = has-after old mid line (phase_turned [] c o) sets-on h
 
   -- then come tasks: both together are a change that comes to the same
-  pub sets-then : (new : Expander) (ls : List Lowered) (change : Expansion → Expansion) → ((E : Expansion) → Follows old E → change E ≡ turned ls c o E) → Does mid new line (with_own ls []) → Does old new line change
-  sets-then new ls change same p = does-where old new line (λ E. with_own ls [] (turned [] c o E)) change (λ E at. own-turned ls c o E ∙ sym (same E (at none)))
-      (does-then old mid new line (turned [] c o) (with_own ls []) (λ E. (ls, refl)) sets-on p)
+  pub sets-then : (new : Expander) (ls : List Lowered) (change : Expansion → Expansion) → ((E : Expansion) → HasExpansion old E → change E ≡ phase_turned ls c o E) → Does mid new line (with_own ls []) → Does old new line change
+  sets-then new ls change same p = does-where old new line (λ E. with_own ls [] (phase_turned [] c o E)) change (λ E at. own-turned ls c o E ∙ sym (same E (at none)))
+      (does-then old mid new line (phase_turned [] c o) (with_own ls []) (λ E. (ls, refl)) sets-on p)
 
 -- what closing and opening come to, by the cell's phase
-pub closed-is : (w : ℕ) (E : Expansion) (c : Cell) (x : Option OpenPhase) → E.phase c ≡ x → closed w E c ≡ elim x as (λ _. Expansion) [ None ↦ E | Some f ↦ turned (combine_rows f c w) c None E ]
-closed-is w E c x e = ap (λ (y : Option OpenPhase). elim y as (λ _. Expansion) [ None ↦ E | Some f ↦ turned (combine_rows f c w) c None E ]) e
+pub closed-is : (w : ℕ) (E : Expansion) (c : Cell) (x : Option OpenPhase) → E.phase c ≡ x → closed w E c ≡ elim x as (λ _. Expansion) [ None ↦ E | Some f ↦ phase_turned (combine_rows f c w) c None E ]
+closed-is w E c x e = ap (λ (y : Option OpenPhase). elim y as (λ _. Expansion) [ None ↦ E | Some f ↦ phase_turned (combine_rows f c w) c None E ]) e
 
-pub opened-is : (w : ℕ) (line : Line) (E : Expansion) (o : Opening) (x : Option OpenPhase) → E.phase o.cell ≡ x → opened w line E o ≡ turned (elim x as (λ _. List Lowered) [ None ↦ begin_rows w o line | Some f ↦ [] ]) o.cell (Some (phase_at o line)) E
-opened-is w line E o x e = ap (λ (y : Option OpenPhase). turned (elim y as (λ _. List Lowered) [ None ↦ begin_rows w o line | Some f ↦ [] ]) o.cell (Some (phase_at o line)) E) e
+pub opened-is : (w : ℕ) (line : Line) (E : Expansion) (o : PhaseOpening) (x : Option OpenPhase) → E.phase o.cell ≡ x → opened w line E o ≡ phase_turned (elim x as (λ _. List Lowered) [ None ↦ begin_rows w o line | Some f ↦ [] ]) o.cell (Some (phase_at o line)) E
+opened-is w line E o x e = ap (λ (y : Option OpenPhase). phase_turned (elim y as (λ _. List Lowered) [ None ↦ begin_rows w o line | Some f ↦ [] ]) o.cell (Some (phase_at o line)) E) e
 
 -- what begins a phase
-pub begin-valued : (w : ℕ) (o : Opening) (line : Line) → not o.valued ≡ false → begin_rows w o line ≡ init_rows o.by o.copies w line
+pub begin-valued : (w : ℕ) (o : PhaseOpening) (line : Line) → not o.valued ≡ false → begin_rows w o line ≡ init_rows o.by o.copies w line
 begin-valued w o line h = ap (λ (v : Bool). init_rows o.by o.copies w line ++ cond v [] (init_row o.by line o.cell ∷ [])) (not-false o.valued h) ∙ append-nil (init_rows o.by o.copies w line)
 
-pub begin-unvalued : (w : ℕ) (o : Opening) (line : Line) → not o.valued ≡ true → begin_rows w o line ≡ init_rows o.by o.copies w line ++ init_row o.by line o.cell ∷ []
+pub begin-unvalued : (w : ℕ) (o : PhaseOpening) (line : Line) → not o.valued ≡ true → begin_rows w o line ≡ init_rows o.by o.copies w line ++ init_row o.by line o.cell ∷ []
 begin-unvalued w o line h = ap (λ (v : Bool). init_rows o.by o.copies w line ++ cond v [] (init_row o.by line o.cell ∷ [])) (not-true o.valued h)
 
 -- ---- several cells, where none is open

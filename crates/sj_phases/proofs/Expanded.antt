@@ -35,12 +35,12 @@ use Rattle.sj_core.proofs.Modes.{deliver-modes}
 use Rattle.sj_core.proofs.Readiness.{Contains-filter, Contains-map}
 use Rattle.sj_core.proofs.TaskCells.{operand-inside}
 use Rattle.sj_core.proofs.Workers.{workers-alike}
-use Rattle.sj_phases.specs.declared.phase.Opening.{Opening}
-use Rattle.sj_phases.specs.Block.{Block}
+use Rattle.sj_phases.specs.declared.phase.PhaseOpening.{PhaseOpening}
+use Rattle.sj_phases.specs.Block.{TaskBlock}
 use Rattle.sj_phases.specs.Expand.{Expansion, nothing, expand, expanded, prepared, moved, cells_below, last_block}
-use Rattle.sj_phases.specs.Plain.{Opens, Plainly, direct, direct_access, units, plain_rows, plain_next, plain_program, none_open, open_at, open_after, shut_by, with_shut, with_opening}
+use Rattle.sj_phases.specs.Plain.{OpenReductions, Plainly, direct, direct_access, units, plain_rows, plain_next, plain_program, none_open, open_at, open_after, shut_by, with_shut, with_opening}
 use Rattle.sj_phases.specs.Orderly.{IsOrderlyTask, IsOrderly, AreOrderly, AreOpenings}
-use Rattle.sj_phases.specs.Law.{program_by, MayExpand, HoldsPlain, AreDelivered, handed_over}
+use Rattle.sj_phases.specs.Law.{program_of_blocks, MayExpand, HoldsPlain, AreDelivered, handed_over}
 use Rattle.sj_phases.proofs.Blocks.{orderly-twin, along-blocks, begun-blocks, fine-among, fine-block, fine-start, stand-at, prepared-deliveries}
 use Rattle.sj_phases.proofs.Combined.{IsTrusted, Phases, denoted-closed}
 use Rattle.sj_base.specs.Ids.{task}
@@ -56,12 +56,12 @@ use Rattle.sj_phases.proofs.Logging.{has-phases, some_is, none_isn't, by_which, 
 abbrev pub start : Plainly
 start = record { tasks = []; deliveries = [] }
 
-pub delivered : (p : Program) (rows : List CellInfo) (workers : ℕ) (bs : List Block) → AreOrderly p none_open bs → AreDelivered rows workers bs
+pub delivered : (p : Program) (rows : List CellInfo) (workers : ℕ) (bs : List TaskBlock) → AreOrderly p none_open bs → AreDelivered rows workers bs
 delivered p rows workers bs orderly = record { expanded = delivered-expand p none_open workers bs nothing orderly delivered-none; plain = delivered-plain p none_open bs start orderly delivered-none }
 
-module _ (rows : List CellInfo) (workers : ℕ) (bs : List Block) (can : MayExpand rows workers bs) where
+module _ (rows : List CellInfo) (workers : ℕ) (bs : List TaskBlock) (can : MayExpand rows workers bs) where
   abbrev p : Program
-  p = program_by rows workers bs
+  p = program_of_blocks rows workers bs
 
   abbrev q : Program
   q = plain_program rows workers bs
@@ -124,7 +124,7 @@ module _ (rows : List CellInfo) (workers : ℕ) (bs : List Block) (can : MayExpa
         ∙ sym (denoted-closed p E.phase (contents_before p (length p.tasks)) c (shut c)) ∙ fine.holds trust c own
 
     -- one delivery
-    given-alike : (n m : ℕ) (phases : Phases) (was : Opens) (l : Lowered) → Holds p q phases (contents_before p n) (contents_before q m) → ((c : Cell) → by_of (phases c) ≡ was c) → IsOrderlyTask p was l → kernel_of l.codelet ≡ Some Deliver
+    given-alike : (n m : ℕ) (phases : Phases) (was : OpenReductions) (l : Lowered) → Holds p q phases (contents_before p n) (contents_before q m) → ((c : Cell) → by_of (phases c) ≡ was c) → IsOrderlyTask p was l → kernel_of l.codelet ≡ Some Deliver
         → n < length p.tasks → task_of p (task n) ≡ l → task_of q (task m) ≡ direct l → given out p (task n) ≡ given out q (task m)
     given-alike n m phases was l holds linked orderly deliver lt row plain_row =
         let fit = subst (FitsCodelet p) row (fine.good n lt).fits in
@@ -141,7 +141,7 @@ module _ (rows : List CellInfo) (workers : ℕ) (bs : List Block) (can : MayExpa
         cell_of : (r : Program) (i : ℕ) (c : Cell) → (task_of r (task i)).accesses ≡ access R c ∷ [] → get_or (cells_of r (task i) first_worker) 0 (record { 0 = 0 }) ≡ c
         cell_of r i c accesses = ap (λ (xs : List Access). get_or (map (worked_on r first_worker) (filter (λ b. is_data b.mode) xs)) 0 (record { 0 = 0 })) accesses
 
-    module _ (x : Block) (F : Expansion) (Q : Plainly) (was : Opens) (h : IsOrderly p was x) (b : Begins p.tasks (expanded p.workers F x).tasks) (d : Begins q.tasks (Q.tasks ++ plain_rows x)) (fine_before : Fine p q F.tasks F.phase Q.tasks [] was) (same : map (handed_over p) F.deliveries ≡ map (handed_over q) Q.deliveries) where
+    module _ (x : TaskBlock) (F : Expansion) (Q : Plainly) (was : OpenReductions) (h : IsOrderly p was x) (b : Begins p.tasks (expanded p.workers F x).tasks) (d : Begins q.tasks (Q.tasks ++ plain_rows x)) (fine_before : Fine p q F.tasks F.phase Q.tasks [] was) (same : map (handed_over p) F.deliveries ≡ map (handed_over q) Q.deliveries) where
       abbrev Ready : Expansion
       Ready = prepared p.workers F x
 
@@ -190,7 +190,7 @@ module _ (rows : List CellInfo) (workers : ℕ) (bs : List Block) (can : MayExpa
 
 -- ---- the end
 
-pub shuts : (cs : List Cell) (was : Opens) (c : Cell) → Contains cs c ⊎ (was c ≡ None) → fold with_shut was cs c ≡ None
+pub shuts : (cs : List Cell) (was : OpenReductions) (c : Cell) → Contains cs c ⊎ (was c ≡ None) → fold with_shut was cs c ≡ None
 shuts [] was c (inl h) = absurd (omega (arith, h.1))
 shuts [] was c (inr e) = e
 shuts (d ∷ cs) was c h = shuts cs (with_shut was d) c (elim h [
@@ -202,13 +202,13 @@ shuts (d ∷ cs) was c h = shuts cs (with_shut was d) c (elim h [
 ])
 
 -- a cell whose phase is open is one of the program's
-abbrev AreInside : List CellInfo → Opens → Type 0
+abbrev AreInside : List CellInfo → OpenReductions → Type 0
 AreInside rows was = (c : Cell) (by : Reduction) → was c ≡ Some by → c.0 < length rows
 
-shut-inside : (rows : List CellInfo) (cs : List Cell) (was : Opens) → AreInside rows was → AreInside rows (fold with_shut was cs)
+shut-inside : (rows : List CellInfo) (cs : List Cell) (was : OpenReductions) → AreInside rows was → AreInside rows (fold with_shut was cs)
 shut-inside rows cs was = fold_keeps (AreInside rows) with_shut (λ o d h c by. elim (same_cell d c) as (λ b. cond b None (o c) ≡ Some by → c.0 < length rows) [ true ↦ (λ e. absurd (none_isn't by e)) | false ↦ h c by ]) was cs
 
-opening-inside : (p : Program) (tasks : List Lowered) (os : List Opening) (was : Opens) → AreOpenings p tasks was os → AreInside p.cells was → AreInside p.cells (fold with_opening was os)
+opening-inside : (p : Program) (tasks : List Lowered) (os : List PhaseOpening) (was : OpenReductions) → AreOpenings p tasks was os → AreInside p.cells was → AreInside p.cells (fold with_opening was os)
 opening-inside p tasks [] was h k = k
 opening-inside p tasks (o ∷ os) was h k = opening-inside p tasks os (with_opening was o) h.1 (λ c by e. by_which o.cell c (c.0 < length p.cells) (λ same. subst (λ (x : Cell). x.0 < length p.cells) same (there o.cell o.copies h.0.copies)) (λ other. k c by (sym (phase-other o.cell (Some o.by) was c other) ∙ e)))
   where
@@ -218,9 +218,9 @@ opening-inside p tasks (o ∷ os) was h k = opening-inside p tasks os (with_open
       | inr past ↦ absurd (none_isn't first (sym (ap (λ (i : CellInfo). i.partials) (get_or_past p.cells c.0 no_cell past)) ∙ e))
     ]
 
-pub last-shuts : (rows : List CellInfo) (workers : ℕ) (bs : List Block) (line : Line) → AreOrderly (plain_program rows workers bs) none_open bs → (c : Cell) → open_after none_open (bs ++ last_block (length rows) line ∷ []) c ≡ None
+pub last-shuts : (rows : List CellInfo) (workers : ℕ) (bs : List TaskBlock) (line : Line) → AreOrderly (plain_program rows workers bs) none_open bs → (c : Cell) → open_after none_open (bs ++ last_block (length rows) line ∷ []) c ≡ None
 last-shuts rows workers bs line h c =
-    ap (λ (was : Opens). was c) (fold-append open_at none_open bs (last_block (length rows) line ∷ []))
+    ap (λ (was : OpenReductions). was c) (fold-append open_at none_open bs (last_block (length rows) line ∷ []))
     ∙ shuts (cells_below (length rows)) (open_after none_open bs) c (by_option (open_after none_open bs c) (λ o. Contains (cells_below (length rows)) c ⊎ (open_after none_open bs c ≡ None)) (λ e. inr e)
     (λ by e. (let p = plain_program rows workers bs in
     let inside = along-blocks p workers (λ F Q o. AreInside rows o) (λ b F Q o k was. opening-inside p b.tasks b.opens (shut_by o b) k.openings (shut-inside rows b.closes o was)) bs nothing start none_open h (λ d by e. absurd (none_isn't by e)) in

@@ -12,36 +12,36 @@ use Rattle.sj_base.specs.declared.program.CellInfo.{CellInfo}
 use Rattle.sj_base.specs.declared.program.Program.{Program}
 use Rattle.sj_base.proofs.SameIds.{same_cell-is}
 use Rattle.sj_core.specs.Program.{same_cell}
-use Rattle.sj_phases.specs.declared.phase.Opening.{Opening}
-use Rattle.sj_phases.specs.Block.{Block}
+use Rattle.sj_phases.specs.declared.phase.PhaseOpening.{PhaseOpening}
+use Rattle.sj_phases.specs.Block.{TaskBlock}
 use Rattle.sj_phases.specs.Rows.{init_row, init_rows}
 use Rattle.sj_phases.specs.Expand.{Expansion, nothing, closed, opened, begin_rows, first_units, phase_at, prepared, expanded, expand}
-use Rattle.sj_phases.specs.Plain.{Opens, Plainly, plain_next, plain_rows, plain_program, units, direct, none_open, with_shut, with_opening, shut_by, open_at}
-use Rattle.sj_phases.specs.Orderly.{AreOpenings, IsOrderly, AreOrderly, IsOpening}
+use Rattle.sj_phases.specs.Plain.{OpenReductions, Plainly, plain_next, plain_rows, plain_program, units, direct, none_open, with_shut, with_opening, shut_by, open_at}
+use Rattle.sj_phases.specs.Orderly.{AreOpenings, IsOrderly, AreOrderly, IsOrderlyOpening}
 use Rattle.sj_phases.proofs.Fine.{by_of}
 use Rattle.sj_phases.proofs.Lists.{by_option}
 use Rattle.sj_phases.proofs.Blocks.{by_closed, goes-closes, along-blocks}
 
 -- where a phase is open, it is known with its reduction
-abbrev AreLinked : Expansion → Opens → Type 0
+abbrev AreLinked : Expansion → OpenReductions → Type 0
 AreLinked E was = (c : Cell) → by_of (E.phase c) ≡ was c
 
-linked-closed : (w : ℕ) (E : Expansion) (was : Opens) (c : Cell) → AreLinked E was → AreLinked (closed w E c) (with_shut was c)
+linked-closed : (w : ℕ) (E : Expansion) (was : OpenReductions) (c : Cell) → AreLinked E was → AreLinked (closed w E c) (with_shut was c)
 linked-closed w E was c h = by_closed w E c (λ F. AreLinked F (with_shut was c))
     (λ none d. cond_both {A = Option Reduction} (same_cell c d) None (was d) (λ x. by_of (E.phase d) ≡ x) (λ same. ap (λ (e : Cell). by_of (E.phase e)) (sym (same_cell-is c d same)) ∙ ap by_of none) (λ other. h d))
     (λ f is d. elim (same_cell c d) as (λ b. by_of (cond b None (E.phase d)) ≡ cond b None (was d)) [ true ↦ refl | false ↦ h d ])
 
-linked-opened : (w : ℕ) (line : Line) (E : Expansion) (was : Opens) (o : Opening) → AreLinked E was → AreLinked (opened w line E o) (with_opening was o)
+linked-opened : (w : ℕ) (line : Line) (E : Expansion) (was : OpenReductions) (o : PhaseOpening) → AreLinked E was → AreLinked (opened w line E o) (with_opening was o)
 linked-opened w line E was o h d = elim (same_cell o.cell d) as (λ b. by_of (cond b (Some (phase_at o line)) (E.phase d)) ≡ cond b (Some o.by) (was d)) [ true ↦ refl | false ↦ h d ]
 
 -- one opening: where the phase goes on the cell has a value
-fewer-opened : (p : Program) (w : ℕ) (line : Line) (ls us : List Lowered) (E : Expansion) (o : Opening) (was : Opens) → IsOpening p was ls o → AreLinked E was → length us ≤ length E.tasks → length (us ++ first_units o line) ≤ length (opened w line E o).tasks
+fewer-opened : (p : Program) (w : ℕ) (line : Line) (ls us : List Lowered) (E : Expansion) (o : PhaseOpening) (was : OpenReductions) → IsOrderlyOpening p was ls o → AreLinked E was → length us ≤ length E.tasks → length (us ++ first_units o line) ≤ length (opened w line E o).tasks
 fewer-opened p w line ls us E o was h linked few = by_option (E.phase o.cell) (λ x. length (us ++ first_units o line) ≤ length (E.tasks ++ (elim x as (λ _. List Lowered) [ None ↦ begin_rows w o line | Some f ↦ [] ])))
     (λ e. omega (arith, few, length-append us (first_units o line), length-append E.tasks (begin_rows w o line), length-append (init_rows o.by o.copies w line) (first_units o line)))
     (λ f e. (let none : length (first_units o line) ≡ 0 = ap (λ b. length (cond b [] (init_row o.by line o.cell ∷ []))) (h.valued f.by (sym (linked o.cell) ∙ ap by_of e)).0 in
     omega (arith, few, none, length-append us (first_units o line), length-append E.tasks [])))
 
-fewer-opens : (p : Program) (w : ℕ) (line : Line) (ls : List Lowered) (os : List Opening) (us : List Lowered) (E : Expansion) (was : Opens) → AreOpenings p ls was os → AreLinked E was → length us ≤ length E.tasks
+fewer-opens : (p : Program) (w : ℕ) (line : Line) (ls : List Lowered) (os : List PhaseOpening) (us : List Lowered) (E : Expansion) (was : OpenReductions) → AreOpenings p ls was os → AreLinked E was → length us ≤ length E.tasks
     → AreLinked (fold (opened w line) E os) (fold with_opening was os) × (length (us ++ flat_map (λ o. first_units o line) os) ≤ length (fold (opened w line) E os).tasks)
 fewer-opens p w line ls [] us E was h linked few = (linked, omega (arith, few, length-append us []))
 fewer-opens p w line ls (o ∷ os) us E was h linked few =
@@ -49,10 +49,10 @@ fewer-opens p w line ls (o ∷ os) us E was h linked few =
     (rest.0, omega (arith, rest.1, ap length (append_assoc us (first_units o line) (flat_map (λ x. first_units x line) os))))
 
 -- the phases are linked, and there are no more tasks without them
-abbrev AreFewer : Expansion → Plainly → Opens → Type 0
+abbrev AreFewer : Expansion → Plainly → OpenReductions → Type 0
 AreFewer E Q was = AreLinked E was × (length Q.tasks ≤ length E.tasks)
 
-fewer-block : (p : Program) (w : ℕ) (b : Block) (E : Expansion) (Q : Plainly) (was : Opens) → IsOrderly p was b → AreFewer E Q was → AreFewer (expanded w E b) (plain_next Q b) (open_at was b)
+fewer-block : (p : Program) (w : ℕ) (b : TaskBlock) (E : Expansion) (Q : Plainly) (was : OpenReductions) → IsOrderly p was b → AreFewer E Q was → AreFewer (expanded w E b) (plain_next Q b) (open_at was b)
 fewer-block p w b E Q was h before =
     let shut = fold (closed w) E b.closes in
     let goes = goes-closes w b.closes E in
@@ -70,5 +70,5 @@ fewer-block p w b E Q was h before =
     )
 
 -- the program without phases has no more tasks
-pub few-plain : (p : Program) (rows : List CellInfo) (w : ℕ) (bs : List Block) → AreOrderly p none_open bs → length (plain_program rows w bs).tasks ≤ length (expand w nothing bs).tasks
+pub few-plain : (p : Program) (rows : List CellInfo) (w : ℕ) (bs : List TaskBlock) → AreOrderly p none_open bs → length (plain_program rows w bs).tasks ≤ length (expand w nothing bs).tasks
 few-plain p rows w bs h = (along-blocks p w AreFewer (fewer-block p w) bs nothing (record { tasks = []; deliveries = [] }) none_open h ((λ c. refl), omega arith)).1

@@ -24,12 +24,12 @@ use Rattle.sj_core.specs.Fold.{Contents}
 use Rattle.sj_core.specs.Proper.{Proper, FitsCodelet, IsPlain, HasValueBefore, access}
 use Rattle.sj_core.proofs.Readiness.{list_any-some}
 use Rattle.sj_core.proofs.Sized.{AreSized, after_chosen-sized}
-use Rattle.sj_phases.specs.declared.phase.Opening.{Opening}
+use Rattle.sj_phases.specs.declared.phase.PhaseOpening.{PhaseOpening}
 use Rattle.sj_phases.specs.declared.phase.OpenPhase.{OpenPhase}
 use Rattle.sj_phases.specs.Rows.{copy_at, init_row, combine_row, combine_rows}
-use Rattle.sj_phases.specs.Expand.{Expansion, with_phase, turned, closed, opened, begin_rows, first_units, phase_at}
-use Rattle.sj_phases.specs.Plain.{Opens, direct, with_shut, with_opening}
-use Rattle.sj_phases.specs.Orderly.{Contributes, IsOrderlyTask, IsOpening}
+use Rattle.sj_phases.specs.Expand.{Expansion, with_phase, phase_turned, closed, opened, begin_rows, first_units, phase_at}
+use Rattle.sj_phases.specs.Plain.{OpenReductions, direct, with_shut, with_opening}
+use Rattle.sj_phases.specs.Orderly.{Contributes, IsOrderlyTask, IsOrderlyOpening}
 use Rattle.sj_phases.proofs.Beginning.{OfCopy, OfCell, beginner, begin-parts, begin-length, log-begin}
 use Rattle.sj_phases.proofs.Closing.{log-close}
 use Rattle.sj_phases.proofs.Combined.{IsTrusted, Phases}
@@ -60,7 +60,7 @@ some-by None by e = absurd (none_isn't by e)
 some-by (Some f) by e = (f, refl, some_is f.by by e)
 
 -- after the tasks ts of the program with phases, and us of that without, before tasks ls of the same block
-pub record Fine (p q : Program) (ts : List Lowered) (phases : Phases) (us ls : List Lowered) (was : Opens) : Type 0 where
+pub record Fine (p q : Program) (ts : List Lowered) (phases : Phases) (us ls : List Lowered) (was : OpenReductions) : Type 0 where
   pub good : (n : ℕ) → n < length ts → IsGood p n (task_of p (task n))
   pub logged : Logged p (length ts) phases ls
   pub values : (c : Cell) → HasValueBefore q (task (length us)) c → HasValueBefore p (task (length ts)) c
@@ -104,7 +104,7 @@ module _ (p q : Program) (twins : AreTwins p q) (proper : Proper q) where
 
   -- ---- a phase is closed
 
-  module _ (ts us : List Lowered) (phases : Phases) (was : Opens) (c : Cell) (f : OpenPhase) (is : phases c ≡ Some f) (fine : Fine p q ts phases us [] was) (b : Begins p.tasks (ts ++ combine_rows f c p.workers)) where
+  module _ (ts us : List Lowered) (phases : Phases) (was : OpenReductions) (c : Cell) (f : OpenPhase) (is : phases c ≡ Some f) (fine : Fine p q ts phases us [] was) (b : Begins p.tasks (ts ++ combine_rows f c p.workers)) where
     abbrev rows : List Lowered
     rows = combine_rows f c p.workers
 
@@ -140,15 +140,15 @@ module _ (p q : Program) (twins : AreTwins p q) (proper : Proper q) where
       holds = λ trust. subst (λ (k : Contents). Holds p q (with_phase c None phases) k (contents_before q (length us))) (sym (contents-more p ts rows b)) (holds-close p q phases fine.owned (contents_before p (length ts)) (contents_before q (length us)) (fine.holds trust) c f is);
     }
 
-  pub fine-close : (E : Expansion) (us : List Lowered) (was : Opens) (c : Cell) → Begins p.tasks (closed p.workers E c).tasks → Fine p q E.tasks E.phase us [] was → Fine p q (closed p.workers E c).tasks (closed p.workers E c).phase us [] (with_shut was c)
-  fine-close E us was c b fine = option-cases (E.phase c) E (λ f. turned (combine_rows f c p.workers) c None E) (λ (F : Expansion). Begins p.tasks F.tasks → Fine p q F.tasks F.phase us [] (with_shut was c))
+  pub fine-close : (E : Expansion) (us : List Lowered) (was : OpenReductions) (c : Cell) → Begins p.tasks (closed p.workers E c).tasks → Fine p q E.tasks E.phase us [] was → Fine p q (closed p.workers E c).tasks (closed p.workers E c).phase us [] (with_shut was c)
+  fine-close E us was c b fine = option-cases (E.phase c) E (λ f. phase_turned (combine_rows f c p.workers) c None E) (λ (F : Expansion). Begins p.tasks F.tasks → Fine p q F.tasks F.phase us [] (with_shut was c))
       (λ none d. (let same : was ≡ with_shut was c = λ i x. phase-each c None was (λ y r. was y ≡ r) (sym (fine.linked c) ∙ ap by_of none) (λ y other. refl) x i in
-      subst (λ (w : Opens). Fine p q E.tasks E.phase us [] w) same fine))
+      subst (λ (w : OpenReductions). Fine p q E.tasks E.phase us [] w) same fine))
       (λ f is d. fine_shut E.tasks us E.phase was c f is fine d) b
 
   -- ---- a contribution is to come
 
-  module _ (ts us ls tasks : List Lowered) (phases : Phases) (was : Opens) (o : Opening) (line : Line) (opening : IsOpening p was tasks o) (plain : IsPlain p o.cell) (fine : Fine p q ts phases us ls was) where
+  module _ (ts us ls tasks : List Lowered) (phases : Phases) (was : OpenReductions) (o : PhaseOpening) (line : Line) (opening : IsOrderlyOpening p was tasks o) (plain : IsPlain p o.cell) (fine : Fine p q ts phases us ls was) where
     abbrev c : Cell
     c = o.cell
 
@@ -212,7 +212,7 @@ module _ (p q : Program) (twins : AreTwins p q) (proper : Proper q) where
             (subst (AreSized p) left (after_chosen-sized out trust.has p trust.proper trust.lawful (λ t. true) (λ t. first_worker) (λ t. trust.staffed) (length (ts ++ b_rows)) (omega (arith, ap length b.1, length-append (ts ++ b_rows) b.0)))));
       }
 
-  pub fine-open : (E : Expansion) (us ls : List Lowered) (was : Opens) (o : Opening) (line : Line) → IsOpening p was ls o → IsPlain p o.cell → (IsTrusted p → IsReduction out o.by) → Begins p.tasks (opened p.workers line E o).tasks → Begins q.tasks (us ++ first_units o line)
+  pub fine-open : (E : Expansion) (us ls : List Lowered) (was : OpenReductions) (o : PhaseOpening) (line : Line) → IsOrderlyOpening p was ls o → IsPlain p o.cell → (IsTrusted p → IsReduction out o.by) → Begins p.tasks (opened p.workers line E o).tasks → Begins q.tasks (us ++ first_units o line)
       → Fine p q E.tasks E.phase us ls was → Fine p q (opened p.workers line E o).tasks (opened p.workers line E o).phase (us ++ first_units o line) ls (with_opening was o)
   fine-open E us ls was o line opening plain law b d fine = option-cases (E.phase o.cell) (begin_rows p.workers o line) (λ f. [])
       (λ (rows : List Lowered). Begins p.tasks (E.tasks ++ rows) → Fine p q (E.tasks ++ rows) (with_phase o.cell (Some (phase_at o line)) E.phase) (us ++ first_units o line) ls (with_opening was o))
@@ -221,7 +221,7 @@ module _ (p q : Program) (twins : AreTwins p q) (proper : Proper q) where
 
   -- ---- a block's own task
 
-  module _ (ts us : List Lowered) (l : Lowered) (ls : List Lowered) (phases : Phases) (was : Opens) (orderly : IsOrderlyTask p was l) (b : Begins p.tasks (ts ++ l ∷ [])) (d : Begins q.tasks (us ++ direct l ∷ [])) (fine : Fine p q ts phases us (l ∷ ls) was) where
+  module _ (ts us : List Lowered) (l : Lowered) (ls : List Lowered) (phases : Phases) (was : OpenReductions) (orderly : IsOrderlyTask p was l) (b : Begins p.tasks (ts ++ l ∷ [])) (d : Begins q.tasks (us ++ direct l ∷ [])) (fine : Fine p q ts phases us (l ∷ ls) was) where
     o_stand : Stand p (length ts) (l ∷ [])
     o_stand = begins-stand p ts (l ∷ []) b
 

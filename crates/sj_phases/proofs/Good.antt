@@ -30,10 +30,10 @@ use Rattle.sj_core.specs.Proper.{Proper, IsCopyOf, IsPlain, HasValueBefore, Fits
 use Rattle.sj_core.proofs.Dependencies.{map-from}
 use Rattle.sj_core.proofs.Folding.{map-same}
 use Rattle.sj_core.proofs.Readiness.{Contains-map, list_any-some}
-use Rattle.sj_phases.specs.declared.phase.Opening.{Opening}
+use Rattle.sj_phases.specs.declared.phase.PhaseOpening.{PhaseOpening}
 use Rattle.sj_phases.specs.Rows.{init_row, combine_row}
 use Rattle.sj_phases.specs.Expand.{first_units}
-use Rattle.sj_phases.specs.Plain.{Opens, direct_mode, direct_access, direct}
+use Rattle.sj_phases.specs.Plain.{OpenReductions, direct_mode, direct_access, direct}
 use Rattle.sj_phases.specs.Orderly.{Contributes}
 use Rattle.sj_phases.proofs.Adding.{same-itself}
 use Rattle.sj_base.specs.Ids.{task}
@@ -180,7 +180,7 @@ module _ (p q : Program) (twins : AreTwins p q) (proper : Proper q) (m : ℕ) (i
       (subst (λ (x : Lowered). Contains x.accesses (direct_access a)) (sym row) (Contains-map direct_access l.accesses a h)) reads
 
   -- it is good in the program with phases too
-  pub good_own : (n : ℕ) (opens : Opens) → ((c : Cell) → HasValueBefore q (task m) c → HasValueBefore p (task n) c) → ((a : Access) → Contains l.accesses a → is_redux a.mode ≡ true → Contributes opens l a.cell)
+  pub good_own : (n : ℕ) (opens : OpenReductions) → ((c : Cell) → HasValueBefore q (task m) c → HasValueBefore p (task n) c) → ((a : Access) → Contains l.accesses a → is_redux a.mode ≡ true → Contributes opens l a.cell)
       → All (HasItsCopies p n) l.accesses → All (λ a. IsPlain p a.cell) l.accesses → IsGood p n l
   good_own n opens values contributes copies plain = record {
     cells = All-unmap (λ (a : Access). a.cell.0 < length p.cells) direct_access l.accesses (subst₂ (λ (x : Lowered) (is : List CellInfo). All (λ (a : Access). a.cell.0 < length is) x.accesses) row (sym twins.cells)
@@ -225,7 +225,7 @@ module _ (p q : Program) (twins : AreTwins p q) (proper : Proper q) (m : ℕ) (i
       ])
 
 -- the same after the unit that both programs have
-pub values-units : (p q : Program) (n m : ℕ) (o : Opening) (line : Line) → Stand p n (first_units o line) → Stand q m (first_units o line) → ((c : Cell) → HasValueBefore q (task m) c → HasValueBefore p (task n) c)
+pub values-units : (p q : Program) (n m : ℕ) (o : PhaseOpening) (line : Line) → Stand p n (first_units o line) → Stand q m (first_units o line) → ((c : Cell) → HasValueBefore q (task m) c → HasValueBefore p (task n) c)
     → (c : Cell) → HasValueBefore q (task (m + length (first_units o line))) c → HasValueBefore p (task (n + length (first_units o line))) c
 values-units p q n m o line s r values c = by_valued o.valued s r
   where

@@ -34,7 +34,7 @@ use Rattle.sj_core.proofs.Sized.{AreSized, Fills}
 use Rattle.sj_core.proofs.Swapping.{Updates, first_ins}
 use Rattle.sj_core.proofs.Updating.{first-is, last-is}
 use Rattle.sj_core.proofs.Values.{results-complete}
-use Rattle.sj_phases.specs.declared.phase.Opening.{Opening}
+use Rattle.sj_phases.specs.declared.phase.PhaseOpening.{PhaseOpening}
 use Rattle.sj_phases.specs.declared.phase.OpenPhase.{OpenPhase}
 use Rattle.sj_phases.specs.Rows.{copy_at, init_rows, combine_rows}
 use Rattle.sj_phases.specs.Expand.{with_phase, begin_rows, first_units, phase_at}
@@ -97,7 +97,7 @@ all-units p k f (w ∷ ws) v law tile all =
     let here : combined out f.by (held_in p k (copy_at f.copies w)) v ≡ v = ap (λ (y : Array). combined out f.by y v) (all w (first-has w ws)) ∙ law.unit v tile in
     ap (with_all p k f ws) here ∙ all-units p k f ws v law tile (λ u h. all u (more-has w ws u h))
 
-module _ (p q : Program) (twins : AreTwins p q) (phases : Phases) (owned : AreOwned p phases) (apart : AreApart p) (k j : Contents) (holds : Holds p q phases k j) (o : Opening) (line : Line) (none : phases o.cell ≡ None) (own : IsOwn p o.cell o.copies)
+module _ (p q : Program) (twins : AreTwins p q) (phases : Phases) (owned : AreOwned p phases) (apart : AreApart p) (k j : Contents) (holds : Holds p q phases k j) (o : PhaseOpening) (line : Line) (none : phases o.cell ≡ None) (own : IsOwn p o.cell o.copies)
     (copies : (w : Worker) → w.0 < p.workers → dims_of p (copy_at o.copies w.0) ≡ dims_of p o.cell) (law : IsReduction out o.by) where
   abbrev k1 : Contents
   k1 = after_rows p k (init_rows o.by o.copies p.workers line)

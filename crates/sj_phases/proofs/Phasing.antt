@@ -14,7 +14,7 @@ use Rattle.sj_codelet.specs.Laws.{combined, unit_of}
 use Rattle.sj_core.specs.Program.{same_cell, dims_of}
 use Rattle.sj_core.specs.Fold.{Contents, held_in}
 use Rattle.sj_phases.specs.declared.phase.OpenPhase.{OpenPhase}
-use Rattle.sj_phases.specs.declared.phase.Opening.{Opening}
+use Rattle.sj_phases.specs.declared.phase.PhaseOpening.{PhaseOpening}
 use Rattle.sj_phases.specs.Rows.{copy_at, init_row, init_rows, combine_row, combine_rows}
 use Rattle.sj_phases.specs.Expand.{first_units}
 use Rattle.sj_phases.proofs.Combined.{with_all, all_workers, all_workers-below, with_all-same}
@@ -104,11 +104,11 @@ pub inits-others : (p : Program) (k : Contents) (by : Reduction) (first : Cell) 
 inits-others p k by first line d beside = rows-hold p (λ n. held_in p n d ≡ held_in p k d) (λ w. init_row by line (copy_at first w)) (all_workers p)
     (λ w h n e. init-other p n by line (copy_at first w) d (beside w (all_workers-below p w h)) ∙ e) k refl
 
-pub units-others : (p : Program) (k : Contents) (o : Opening) (line : Line) (d : Cell) → same_cell o.cell d ≡ false → held_in p (after_rows p k (first_units o line)) d ≡ held_in p k d
+pub units-others : (p : Program) (k : Contents) (o : PhaseOpening) (line : Line) (d : Cell) → same_cell o.cell d ≡ false → held_in p (after_rows p k (first_units o line)) d ≡ held_in p k d
 units-others p k o line d other = cond_both {A = List Lowered} o.valued [] (init_row o.by line o.cell ∷ []) (λ ls. held_in p (after_rows p k ls) d ≡ held_in p k d) (λ valued. refl) (λ bare. init-other p k o.by line o.cell d other)
 
 -- in two programs of the same cells what a cell holds alike it holds alike after the first units
-pub units-same : (p q : Program) (k j : Contents) (o : Opening) (line : Line) (d : Cell) → dims_of p o.cell ≡ dims_of q o.cell → held_in p k d ≡ held_in q j d → held_in p (after_rows p k (first_units o line)) d ≡ held_in q (after_rows q j (first_units o line)) d
+pub units-same : (p q : Program) (k j : Contents) (o : PhaseOpening) (line : Line) (d : Cell) → dims_of p o.cell ≡ dims_of q o.cell → held_in p k d ≡ held_in q j d → held_in p (after_rows p k (first_units o line)) d ≡ held_in q (after_rows q j (first_units o line)) d
 units-same p q k j o line d dims same = cond_both {A = List Lowered} o.valued [] (init_row o.by line o.cell ∷ []) (λ ls. held_in p (after_rows p k ls) d ≡ held_in q (after_rows q j ls) d) (λ valued. same) (λ bare.
     ap (λ (n : Contents). held_in p n d) (after_init p k o.by line o.cell) ∙ held-cons p o.cell (unit_at p o.by o.cell) k d
     ∙ (λ i. cond (same_cell o.cell d) (unit_of out o.by (dims i)) (same i))

@@ -9,7 +9,7 @@ use Rattle.sj_base.specs.declared.program.Lowered.{Lowered}
 use Rattle.sj_base.specs.Ids.{cell}
 use Rattle.sj_codelet.specs.declared.kernel.Kernel.{Kernel}
 use Rattle.sj_codelet.specs.declared.kernel.Kernel.TheVariants.{Load, Add, InitPlus, InitLeast, Lowest, Deliver}
-use Rattle.sj_phases.specs.Block.{Block}
+use Rattle.sj_phases.specs.Block.{TaskBlock}
 use Rattle.sj_base.specs.Mode.{access}
 use Rattle.sj_phases.specs.Rows.{own_task}
 use Rattle.sj_phases.specs.Expand.{expand, nothing, last_block, first_above}
@@ -36,17 +36,17 @@ gives n = access Redux (cell n)
 abbrev delivery : ℕ → Delivery
 delivery n = record { task = record { 0 = n }; root = record { 0 = 0 }; place = (0, 0); print = 0 }
 
-abbrev alone : ℕ → List Lowered → Block
+abbrev alone : ℕ → List Lowered → TaskBlock
 alone n ls = record { line = line n; closes = []; opens = []; tasks = ls; deliveries = [] }
 
 -- a sum to cell 0, whose copies are cells 2 and 3: it is loaded, gets two contributions of cell 1, and is printed
-abbrev giving : ℕ → Block
+abbrev giving : ℕ → TaskBlock
 giving n = record { line = line n; closes = []; opens = record { cell = cell 0; by = Plus; copies = cell 2; valued = true } ∷ []; tasks = task Add (reads 1 ∷ gives 0 ∷ []) n ∷ []; deliveries = [] }
 
-abbrev printing : Block
+abbrev printing : TaskBlock
 printing = record { line = line 6; closes = cell 0 ∷ []; opens = []; tasks = task Deliver (reads 0 ∷ []) 6 ∷ []; deliveries = delivery 0 ∷ [] }
 
-abbrev sums : List Block
+abbrev sums : List TaskBlock
 sums = alone 2 (task Load (writes 0 ∷ []) 2 ∷ task Load (writes 1 ∷ []) 2 ∷ []) ∷ giving 4 ∷ giving 5 ∷ printing ∷ last_block 4 (line 6) ∷ []
 
 -- the copies get the unit once, and are combined by worker with the line of the last contribution
@@ -80,7 +80,7 @@ sums-plain_deliveries : (plain_program [] 2 sums).deliveries ≡ delivery 4 ∷ 
 sums-plain_deliveries = refl
 
 -- a least to cell 1 without a value, whose copies are cells 2 and 3: it gets one contribution of cell 0, and nobody prints it
-abbrev least : List Block
+abbrev least : List TaskBlock
 least = alone 2 (task Load (writes 0 ∷ []) 2 ∷ []) ∷ record {
   line = line 5;
   closes = cell 0 ∷ [];

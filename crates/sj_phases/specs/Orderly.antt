@@ -12,12 +12,12 @@ use Rattle.sj_codelet.specs.declared.kernel.Kernel.TheVariants.{Deliver}
 use Rattle.sj_codelet.specs.Kernel.{kernel_of}
 use Rattle.sj_core.specs.Program.{cell_info, data_operands, no_task}
 use Rattle.sj_core.specs.Proper.{IsPlain, IsContribution, names_as, modes_writing_by, writes_one}
-use Rattle.sj_phases.specs.declared.phase.Opening.{Opening}
-use Rattle.sj_phases.specs.Block.{Block}
-use Rattle.sj_phases.specs.Plain.{Opens, with_opening, shut_by, open_at}
+use Rattle.sj_phases.specs.declared.phase.PhaseOpening.{PhaseOpening}
+use Rattle.sj_phases.specs.Block.{TaskBlock}
+use Rattle.sj_phases.specs.Plain.{OpenReductions, with_opening, shut_by, open_at}
 
 -- the task contributes to the cell, whose phase is open, and writes nothing else
-pub record Contributes (opens : Opens) (l : Lowered) (c : Cell) : Type 0 where
+pub record Contributes (opens : OpenReductions) (l : Lowered) (c : Cell) : Type 0 where
   pub by : Reduction
   pub is_open : opens c ≡ Some by
   pub contribution : IsContribution by c l
@@ -25,21 +25,21 @@ pub record Contributes (opens : Opens) (l : Lowered) (c : Cell) : Type 0 where
   pub modes : map (λ a. a.mode) l.accesses ≡ modes_writing_by Redux contribution.kernel
 
 -- the task accesses no partial copy, and a cell whose phase is open by a contribution alone, a scratch buffer aside
-pub record IsOrderlyTask (p : Program) (opens : Opens) (l : Lowered) : Type 0 where
+pub record IsOrderlyTask (p : Program) (opens : OpenReductions) (l : Lowered) : Type 0 where
   pub plain : All (λ a. IsPlain p a.cell) l.accesses
   pub shut : All (λ a. IsTrue (not (is_redux a.mode)) → opens a.cell ≡ None) (data_operands l)
   pub contributes : All (λ a. IsTrue (is_redux a.mode) → Contributes opens l a.cell) l.accesses
 
 -- one of the tasks contributes; where the phase goes on, the cell has a value, and the reduction is the same one
-pub record IsOpening (p : Program) (was : Opens) (tasks : List Lowered) (o : Opening) : Type 0 where
+pub record IsOrderlyOpening (p : Program) (was : OpenReductions) (tasks : List Lowered) (o : PhaseOpening) : Type 0 where
   pub used : (l : Lowered) × Contains tasks l × names_as Redux o.cell l
   pub valued : (by : Reduction) → was o.cell ≡ Some by → (o.valued ≡ true) × (o.by ≡ by)
   pub copies : (cell_info p o.cell).partials ≡ Some o.copies
 
 -- one after another
-abbrev pub AreOpenings : Program → List Lowered → Opens → List Opening → Type 0
+abbrev pub AreOpenings : Program → List Lowered → OpenReductions → List PhaseOpening → Type 0
 AreOpenings p tasks was [] = Unit {0}
-AreOpenings p tasks was (o ∷ os) = IsOpening p was tasks o × AreOpenings p tasks (with_opening was o) os
+AreOpenings p tasks was (o ∷ os) = IsOrderlyOpening p was tasks o × AreOpenings p tasks (with_opening was o) os
 
 -- each task that delivers has one delivery, in order, and no other task has one
 pub record IsDelivered (tasks : List Lowered) (deliveries : List Delivery) : Type 0 where
@@ -49,12 +49,12 @@ pub record IsDelivered (tasks : List Lowered) (deliveries : List Delivery) : Typ
   pub in_order : AllPairs (λ d e. d.task.0 < e.task.0) deliveries
 
 -- what a block needs, where these phases were open before it
-pub record IsOrderly (p : Program) (was : Opens) (b : Block) : Type 0 where
+pub record IsOrderly (p : Program) (was : OpenReductions) (b : TaskBlock) : Type 0 where
   pub tasks : All (IsOrderlyTask p (open_at was b)) b.tasks
   pub openings : AreOpenings p b.tasks (shut_by was b) b.opens
   pub delivered : IsDelivered b.tasks b.deliveries
 
 -- what blocks need, one after another
-abbrev pub AreOrderly : Program → Opens → List Block → Type 0
+abbrev pub AreOrderly : Program → OpenReductions → List TaskBlock → Type 0
 AreOrderly p was [] = Unit {0}
 AreOrderly p was (b ∷ bs) = IsOrderly p was b × AreOrderly p (open_at was b) bs

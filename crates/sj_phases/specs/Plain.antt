@@ -12,8 +12,8 @@ use Rattle.sj_base.specs.declared.program.Delivery.{Delivery}
 use Rattle.sj_base.specs.declared.program.Program.{Program}
 use Rattle.sj_base.specs.Mode.{is_redux}
 use Rattle.sj_core.specs.Program.{same_cell}
-use Rattle.sj_phases.specs.declared.phase.Opening.{Opening}
-use Rattle.sj_phases.specs.Block.{Block}
+use Rattle.sj_phases.specs.declared.phase.PhaseOpening.{PhaseOpening}
+use Rattle.sj_phases.specs.Block.{TaskBlock}
 use Rattle.sj_phases.specs.Expand.{first_units, moved}
 
 -- ---- tasks and deliveries
@@ -29,24 +29,24 @@ abbrev pub direct : Lowered → Lowered
 direct l = record { codelet = l.codelet; args = l.args; accesses = map direct_access l.accesses; line = l.line; priority = l.priority }
 
 -- the units that a block's contributions find
-abbrev pub units : Block → List Lowered
+abbrev pub units : TaskBlock → List Lowered
 units b = flat_map (λ o. first_units o b.line) b.opens
 
-abbrev pub plain_rows : Block → List Lowered
+abbrev pub plain_rows : TaskBlock → List Lowered
 plain_rows b = units b ++ map direct b.tasks
 
 pub record Plainly : Type 0 where
   pub tasks : List Lowered
   pub deliveries : List Delivery
 
-abbrev pub plain_next : Plainly → Block → Plainly
+abbrev pub plain_next : Plainly → TaskBlock → Plainly
 plain_next Q b = record {
   tasks = Q.tasks ++ plain_rows b;
   deliveries = Q.deliveries ++ map (moved (length (Q.tasks ++ units b))) b.deliveries;
 }
 
 -- the program of blocks without phases
-abbrev pub plain_program : List CellInfo → ℕ → List Block → Program
+abbrev pub plain_program : List CellInfo → ℕ → List TaskBlock → Program
 plain_program rows workers bs =
     let start : Plainly = record { tasks = []; deliveries = [] } in
     let Q = fold plain_next start bs in
@@ -55,26 +55,26 @@ plain_program rows workers bs =
 -- ---- which phases are open
 
 -- the reduction of each cell whose phase is open
-abbrev pub Opens : Type 0
-Opens = Cell → Option Reduction
+abbrev pub OpenReductions : Type 0
+OpenReductions = Cell → Option Reduction
 
-abbrev pub none_open : Opens
+abbrev pub none_open : OpenReductions
 none_open c = None
 
-abbrev pub with_shut : Opens → Cell → Opens
+abbrev pub with_shut : OpenReductions → Cell → OpenReductions
 with_shut was c d = if same_cell c d then None else was d
 
-abbrev pub with_opening : Opens → Opening → Opens
+abbrev pub with_opening : OpenReductions → PhaseOpening → OpenReductions
 with_opening was o d = if same_cell o.cell d then Some o.by else was d
 
 -- without those that a block closes
-abbrev pub shut_by : Opens → Block → Opens
+abbrev pub shut_by : OpenReductions → TaskBlock → OpenReductions
 shut_by was b = fold with_shut was b.closes
 
 -- at a block's own tasks, and after it
-abbrev pub open_at : Opens → Block → Opens
+abbrev pub open_at : OpenReductions → TaskBlock → OpenReductions
 open_at was b = fold with_opening (shut_by was b) b.opens
 
 -- after blocks
-abbrev pub open_after : Opens → List Block → Opens
+abbrev pub open_after : OpenReductions → List TaskBlock → OpenReductions
 open_after was bs = fold open_at was bs

@@ -4,11 +4,11 @@ ghost use Rattle.std.specs.Prelude.{◌≡◌, ◌+◌, ◌≤◌, List, [], ◌
 ghost use Rattle.sj_base.specs.declared.ids.Cell.{Cell};
 ghost use Rattle.sj_base.specs.declared.ids.Line.{Line};
 ghost use Rattle.sj_base.specs.declared.program.Lowered.{Lowered};
-ghost use Rattle.sj_phases.specs.Does.{IsAt, HasAt, Does};
-ghost use Rattle.sj_phases.specs.Expand.{Expansion, nothing, closed, opened, begin_rows, with_own, most, program_of};
+ghost use Rattle.sj_phases.specs.Does.{StandsAt, HasAt, Does};
+ghost use Rattle.sj_phases.specs.Expand.{Expansion, nothing, closed, opened, begin_rows, with_own, most, program_from};
 ghost use Rattle.sj_phases.specs.Rows.{combine_rows};
 
-use crate::phase::{OpenPhase, Opening, combine_row, init_row};
+use crate::phase::{OpenPhase, PhaseOpening, combine_row, init_row};
 use indexmap::IndexMap;
 use sj_base::ids::{Cell, Line, Task};
 use sj_base::memory::OutOfMemory;
@@ -33,7 +33,7 @@ pub struct Expander {
 impl Expander {
     /// Before the first block. Takes no memory.
     pub fn nothing(alloc: Global, workers: u8) -> Expander
-        ensures at { IsAt result nothing }
+        ensures at { StandsAt result nothing }
         ensures over { result.over ≡ None }
         ensures workers { result.workers ≡ workers }
     {
@@ -152,7 +152,7 @@ impl Expander {
     }
 
     /// Gives the partial copies of a cell the reduction's unit, and the cell itself where it has no value. Linear in the workers.
-    fn begin(&mut self, alloc: Global, opening: Opening, line: Line) -> Result<(), OutOfMemory>
+    fn begin(&mut self, alloc: Global, opening: PhaseOpening, line: Line) -> Result<(), OutOfMemory>
         requires at { HasAt self.old }
         requires copies { opening.copies.0 + self.old.workers ≤ most }
         ensures { OnOk result (Does self.old self.new line
@@ -171,7 +171,12 @@ impl Expander {
     }
 
     /// A contribution at this line is to come: the phase of its cell goes on, or begins. Linear in the workers where it begins.
-    pub fn open(&mut self, alloc: Global, opening: Opening, line: Line) -> Result<(), OutOfMemory>
+    pub fn open(
+        &mut self,
+        alloc: Global,
+        opening: PhaseOpening,
+        line: Line,
+    ) -> Result<(), OutOfMemory>
         requires at { HasAt self.old }
         requires copies { opening.copies.0 + self.old.workers ≤ most }
         ensures { OnOk result (Does self.old self.new line
@@ -194,7 +199,7 @@ impl Expander {
     /// The program of these cells and of the blocks so far, or the line with which there were too many tasks. Constant time.
     pub fn finish(self, cells: Vec<CellInfo>) -> Result<Program, Line>
         ensures ok { IfOk result (λ p. (self.over ≡ None)
-            × ((E : Expansion) → IsAt self E → p ≡ program_of cells.items self.workers E)) }
+            × ((E : Expansion) → StandsAt self E → p ≡ program_from cells.items self.workers E)) }
         ensures err { IfErr result (λ line. self.over ≡ Some line) }
     {
         if let Some(line) = self.over {

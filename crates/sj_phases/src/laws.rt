@@ -9,12 +9,12 @@ pub fn properness()
 
 /// Cells that are no partial copies hold at the end what they hold without phases, whichever workers contribute, and deliver
 /// tasks hand over the same.
-pub fn contents()
+pub fn contents_with_phases()
     ensures { DoesHoldPlain }
 {}
 
 /// Each task that delivers has one delivery, in order.
-pub fn deliveries()
+pub fn deliveries_with_phases()
     ensures { DoesDeliver }
 {}
 

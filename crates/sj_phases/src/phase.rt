@@ -14,7 +14,7 @@ use std::alloc::Global;
 
 /// A contribution to a cell that is to come.
 #[derive(Clone, Copy, Debug, PartialEq, Eq)]
-pub struct Opening {
+pub struct PhaseOpening {
     pub cell: Cell,
     pub by: Reduction,
     /// The first of the cell's partial copies, which are one for each worker.

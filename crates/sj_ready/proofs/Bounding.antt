@@ -30,15 +30,15 @@ use Rattle.sj_meaning.specs.Numbers.{no_root}
 use Rattle.sj_meaning.specs.State.{RootState, JobState, root_of, start}
 use Rattle.sj_meaning.specs.Statement.{Operand, Register as Registration}
 use Rattle.sj_meaning.specs.Table.{a_root}
-use Rattle.sj_phases.specs.Block.{Block}
+use Rattle.sj_phases.specs.Block.{TaskBlock}
 use Rattle.sj_phases.specs.Expand.{Expansion, nothing, closed, opened, with_own, expanded, expand, last_block, most, first_above}
 use Rattle.sj_phases.proofs.Doing.{closed-is}
 use Rattle.sj_lower.specs.Cells.{child_cell}
-use Rattle.sj_lower.specs.Laid.{Laid, no_cells, handle_at, cell_of, take, taking, with_root, with_copies}
+use Rattle.sj_lower.specs.Laid.{Laid, no_cells, handle_at, cell_of, take, with_new_plan, with_handle, with_copies}
 use Rattle.sj_lower.specs.Limits.{late_cells, late_limit, late_tasks}
 use Rattle.sj_lower.specs.Rows.{load_rows, load_row, fill_row, deliver_row}
 use Rattle.sj_lower.specs.Running.{blocks_in}
-use Rattle.sj_lower.specs.Step.{Step, step, Lookup, by_name, operand_cell, active_cells, is_other_access, contributed, opening_of, task_row, step_of, steps_from, names_of, steps_of, laid_by, last_line, cells_above, tasks_above}
+use Rattle.sj_lower.specs.Step.{LoweringStep, step, Lookup, by_name, operand_cell, active_cells, is_other_access, contributed, opening_for, task_row, step_of, steps_from, names_of, steps_of, laid_by, last_line, cells_above, tasks_above}
 use Rattle.sj_lower.proofs.Places.{length-places}
 use Rattle.sj_apps.specs.Application.{IsSized, statements_for}
 use Rattle.sj_apps.specs.Generated.{IsSize, apart, aparts_in_row, below, beside, factors, first_line, gemm_act, gemms, gemms_at, gemms_in_row, matrix_act, name_C, name_D, numbered, others, part_count, paths_statements, product_statements, upto, walk_step, walk_steps, weights}
@@ -146,7 +146,7 @@ cut-applied q S (Unregister name) h cut = absurd h
 take-rows : (n : ℕ) (p : Parts) (C : Laid) → length (take n p C).rows ≤ length C.rows + p.r * p.c
 take-rows n p C = by_plan (is_some ((handle_at C n).first p))
   where
-    by_plan : (b : Bool) → length (cond b C (taking n p C)).rows ≤ length C.rows + p.r * p.c
+    by_plan : (b : Bool) → length (cond b C (with_new_plan n p C)).rows ≤ length C.rows + p.r * p.c
     by_plan true = omega arith
     by_plan false = let row = child_cell (a_root n) (handle_at C n).dims p in omega (arith, length-append C.rows (each_of row (places p)), length-places row p)
 
@@ -156,7 +156,7 @@ loads-few (Fill a b) d p cell line = omega (arith, length-places (λ place. fill
 loads-few Nothing d p cell line = omega arith
 
 -- few cells, few tasks, and no phase
-record IsFew (q : ℕ) (C : Laid) (a : Act (List ℕ)) (x : Step) : Type 0 where
+record IsFew (q : ℕ) (C : Laid) (a : Act (List ℕ)) (x : LoweringStep) : Type 0 where
   cells : length x.laid.rows ≤ length C.rows + cells_given q a
   tasks : length x.block.tasks ≤ tasks_given q a
   opens : x.block.opens ≡ []
@@ -164,9 +164,9 @@ record IsFew (q : ℕ) (C : Laid) (a : Act (List ℕ)) (x : Step) : Type 0 where
 few-one : (workers q : ℕ) (names : List (List ℕ)) (S : JobState) (C : Laid) (line : Line) (a : Act (List ℕ)) → IsOrdinary q a → AreCutTo q S → IsFew q C a (step_of workers (by_name names S) C line a)
 few-one workers q names S C line (Register r) h cut =
     let n = length C.handles in
-    let D = take n r.parts (with_root r.dims C) in
+    let D = take n r.parts (with_handle r.dims C) in
     record {
-      cells = omega (arith, h, take-rows n r.parts (with_root r.dims C));
+      cells = omega (arith, h, take-rows n r.parts (with_handle r.dims C));
       tasks = omega (arith, h, loads-few r.init r.dims r.parts (cell_of D n r.parts) line);
       opens = refl;
     }
@@ -176,13 +176,13 @@ few-one workers q names S C line (Task t) h cut = subst (IsFew q C (Task t)) (sy
     L = by_name names S
 
     -- what the task gives, by the operands that it contributes to
-    by_contributed : List (Operand (List ℕ)) → Step
+    by_contributed : List (Operand (List ℕ)) → LoweringStep
     by_contributed os =
         let D = fold (with_copies workers) C (each_of (operand_cell L C) os) in
         step D (record {
           line = line;
           closes = each_of (operand_cell L D) (filter is_other_access t.operands);
-          opens = flat_map (opening_of L D) os;
+          opens = flat_map (opening_for L D) os;
           tasks = task_row L D t line ∷ [];
           deliveries = [];
         })
@@ -207,7 +207,7 @@ NoneIsOpen E = (c : Cell) → E.phase c ≡ None
 
 module _ (workers : ℕ) where
   -- where no phase is open and none opens, a block adds its own tasks
-  expanded-own : (E : Expansion) (b : Block) → NoneIsOpen E → b.opens ≡ [] → expanded workers E b ≡ with_own b.tasks b.deliveries E
+  expanded-own : (E : Expansion) (b : TaskBlock) → NoneIsOpen E → b.opens ≡ [] → expanded workers E b ≡ with_own b.tasks b.deliveries E
   expanded-own E b none shut =
       let stays : fold (closed workers) E b.closes ≡ E = fold_stays (closed workers) E (λ c. closed-is workers E c None (none c)) b.closes in
       λ i. with_own b.tasks b.deliveries (fold (opened workers b.line) (stays i) (shut i))
@@ -216,16 +216,16 @@ module _ (workers : ℕ) where
     none : NoneIsOpen F
     tasks : length F.tasks ≤ length E.tasks + n
 
-  grows : (E : Expansion) (b : Block) (n : ℕ) → NoneIsOpen E → b.opens ≡ [] → length b.tasks ≤ n → Grows E (expanded workers E b) n
+  grows : (E : Expansion) (b : TaskBlock) (n : ℕ) → NoneIsOpen E → b.opens ≡ [] → length b.tasks ≤ n → Grows E (expanded workers E b) n
   grows E b n none shut few =
       subst (λ (F : Expansion). Grows E F n) (sym (expanded-own E b none shut)) (record { none = none; tasks = omega (arith, few, length-append E.tasks b.tasks) })
 
   -- ---- all acts
 
   -- there are never too many cells or tasks, and then come other blocks
-  record AreFew (E : Expansion) (xs : List Step) : Type 0 where
+  record AreFew (E : Expansion) (xs : List LoweringStep) : Type 0 where
     cells : cells_above xs ≡ None
-    tasks : (bs : List Block) → first_above workers E (blocks_in xs ++ bs) ≡ first_above workers (expand workers E (blocks_in xs)) bs
+    tasks : (bs : List TaskBlock) → first_above workers E (blocks_in xs ++ bs) ≡ first_above workers (expand workers E (blocks_in xs)) bs
     none : NoneIsOpen (expand workers E (blocks_in xs))
     all_tasks : length (expand workers E (blocks_in xs)).tasks ≤ 262144
 
@@ -243,9 +243,9 @@ module _ (workers : ℕ) where
       let few_cells : length x.laid.rows + sum_by (cells_given q) acts ≤ 262144 = omega (arith, cells, one.cells, more_cells) in
       let few_tasks : length F.tasks + sum_by (tasks_given q) acts ≤ 262144 = omega (arith, tasks, grown.tasks, more_tasks) in
       let rest = walk q names acts (line + 1) (apply a S) x.laid F ordinary.1 (cut-applied q S a ordinary.0 cut) grown.none few_cells few_tasks in
-      let later : List Step = steps_from workers (by_name names) apply (apply a S) x.laid (numbered (line + 1) acts) in
+      let later : List LoweringStep = steps_from workers (by_name names) apply (apply a S) x.laid (numbered (line + 1) acts) in
       record {
-        cells = ap (λ b. option_map (λ (y : Step). y.block.line) (cond b (Some x) (find (λ (y : Step). nat_lt most (length y.laid.rows)) later))) (le-ltb most (length x.laid.rows) (omega (arith, few_cells))) ∙ rest.cells;
+        cells = ap (λ b. option_map (λ (y : LoweringStep). y.block.line) (cond b (Some x) (find (λ (y : LoweringStep). nat_lt most (length y.laid.rows)) later))) (le-ltb most (length x.laid.rows) (omega (arith, few_cells))) ∙ rest.cells;
         tasks = λ bs. ap (λ b. cond b (Some x.block.line) (first_above workers F (blocks_in later ++ bs))) (le-ltb most (length F.tasks) (omega (arith, few_tasks))) ∙ rest.tasks bs;
         none = rest.none;
         all_tasks = rest.all_tasks;
@@ -257,7 +257,7 @@ module _ (workers : ℕ) where
       let xs = steps_of workers ss in
       let few = walk q (names_of ss) acts line start no_cells nothing ordinary (cut-start q some) (λ c. refl) (omega (arith, cells)) (omega (arith, tasks)) in
       let G = expand workers nothing (blocks_in xs) in
-      let end : Block = last_block (length (laid_by xs).rows) (last_line xs) in
+      let end : TaskBlock = last_block (length (laid_by xs).rows) (last_line xs) in
       let grown = grows G end 0 few.none refl (omega arith) in
       let late : tasks_above workers xs ≡ None = few.tasks (end ∷ []) ∙ ap (λ b. cond b (Some end.line) None) (le-ltb most (length (expanded workers G end).tasks) (omega (arith, few.all_tasks, grown.tasks))) in
       λ i. late_cells (few.cells i) (late_tasks (late i))

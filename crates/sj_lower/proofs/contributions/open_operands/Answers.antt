@@ -3,8 +3,8 @@ use Rattle.std.specs.List.{filter}
 use Rattle.std.proofs.lemmas.Result.{IfErr-weaker, on_ok_weaker}
 use Rattle.sj_base.specs.Mode.{is_redux}
 use Rattle.sj_meaning.specs.declared.job.Operand.{Operand}
-use Rattle.sj_lower.specs.Adds.{is_contributed, CanOpen, Opens, IsFullFor}
-use Rattle.sj_lower.specs.Follows.{IsInside}
+use Rattle.sj_lower.specs.Adds.{is_contributed, CanOpen, OpensPhase, IsFullFor}
+use Rattle.sj_lower.specs.Follows.{IsActiveChild}
 use Rattle.sj_lower.proofs.Laying.{none-at}
 use Rattle.sj_lower.proofs.Tasking.{first-has, of-first, not-none}
 use Rattle.sj_lower.proofs.contributions.open_operands.Goals as goal
@@ -18,7 +18,7 @@ returns-in_default-clause-opens c = λ o rest e.
     absurd (omega (arith, ap length (sym none ∙ e)))
 
 pub open_operand-requires-clause-inside : goal.open_operand-requires-clause-inside
-open_operand-requires-clause-inside c = (first-has c.args.operands.now c.contributed.result c.in-Some.operand c.in-Some.is c.contributed.ensures.some (IsInside c.args.layout.now.actives.items) c.requires.inside).0
+open_operand-requires-clause-inside c = (first-has c.args.operands.now c.contributed.result c.in-Some.operand c.in-Some.is c.contributed.ensures.some (IsActiveChild c.args.layout.now.actives.items) c.requires.inside).0
 
 pub open_operand-requires-clause-can : goal.open_operand-requires-clause-can
 open_operand-requires-clause-can c =
@@ -33,7 +33,7 @@ returns-clause-none c =
 
 pub returns-clause-opens : goal.returns-clause-opens
 returns-clause-opens c =
-    on_ok_weaker c.open_operand.result (of-first c.args.operands.now c.contributed.result c.in-Some.operand c.in-Some.is c.contributed.ensures.some (λ (o : Operand). Opens c.args.layout.now c.open_operand.new.layout c.args.phases.now c.open_operand.new.phases o c.args.valued c.args.line)) c.open_operand.ensures.opens
+    on_ok_weaker c.open_operand.result (of-first c.args.operands.now c.contributed.result c.in-Some.operand c.in-Some.is c.contributed.ensures.some (λ (o : Operand). OpensPhase c.args.layout.now c.open_operand.new.layout c.args.phases.now c.open_operand.new.phases o c.args.valued c.args.line)) c.open_operand.ensures.opens
 
 pub returns-clause-full : goal.returns-clause-full
 returns-clause-full c =

@@ -10,7 +10,7 @@ use Rattle.sj_lower.specs.declared.lower.LoweringProgress.{LoweringProgress}
 use Rattle.sj_lower.specs.Laid.{no_cells}
 use Rattle.sj_lower.specs.Limits.{late_limit, late_tasks}
 use Rattle.sj_lower.specs.Progress.{IsFullWith, IsLate}
-use Rattle.sj_lower.specs.Running.{AreReady}
+use Rattle.sj_lower.specs.Running.{MayComeInTurn}
 use Rattle.sj_lower.proofs.Going.{late_by, steps_from_start, GoesOn, going-start, going-has, going-more, going-full, done-has, done-few, IsShut, shut, shut-over, IsMade, made}
 use Rattle.sj_lower.proofs.Making.{is-ready, is-late, limit-is, is-lowered, is-proper, names-deliver-tasks, in-order, is-printed, all-known}
 use Rattle.sj_lower.proofs.lower.lower.Goals as goal
@@ -26,7 +26,7 @@ loop-statement-init c =
     let first = c.nothing-progress.ensures in
     record {
       going = going-start T c.args.workers c.nothing-progress.result ss first.at first.over first.last first.workers
-          (subst (λ (xs : List Kept). AreReady T c.args.workers [] no_cells nothing xs) (sym same) (is-ready T c.args.job.statements table c.requires.numbered c.requires.job.has c.requires.job.well c.args.workers));
+          (subst (λ (xs : List Kept). MayComeInTurn T c.args.workers [] no_cells nothing xs) (sym same) (is-ready T c.args.job.statements table c.requires.numbered c.requires.job.has c.requires.job.well c.args.workers));
       left = omega (arith, gives.1, vec.ok, ap length gives.0);
     }
 

@@ -1,7 +1,7 @@
 use Rattle.std.proofs.Common.{sym, subst}
 use Rattle.sj_base.proofs.Results.{handed}
 use Rattle.sj_meaning.specs.declared.job.Act.{Act as KeptAct}
-use Rattle.sj_lower.specs.Adds.{HasNext, Adds, IsFull}
+use Rattle.sj_lower.specs.Adds.{HasNext, AddsAct, IsFull}
 use Rattle.sj_lower.proofs.steps.Steps.add.Goals as goal
 
 pub register-requires : goal.register-requires
@@ -18,7 +18,7 @@ pub returns-in_ok-register-in-Register-clause-adds : goal.returns-in_ok-register
 returns-in_ok-register-in-Register-clause-adds c =
     let T = c.args.roots.now in
     let s = c.args.statement in
-    subst (λ (a : KeptAct). Adds T c.args.self.now c.register.new.self a s.line) (sym c.in-Register.is) c.in_ok-register-in-Register.ensures.adds
+    subst (λ (a : KeptAct). AddsAct T c.args.self.now c.register.new.self a s.line) (sym c.in-Register.is) c.in_ok-register-in-Register.ensures.adds
 
 pub plan-requires : goal.plan-requires
 plan-requires c = subst (λ (a : KeptAct). HasNext c.args.roots.now c.args.self.now a) c.in-Plan.is c.requires
@@ -34,7 +34,7 @@ pub returns-in_ok-plan-in-Plan-clause-adds : goal.returns-in_ok-plan-in-Plan-cla
 returns-in_ok-plan-in-Plan-clause-adds c =
     let T = c.args.roots.now in
     let s = c.args.statement in
-    subst (λ (a : KeptAct). Adds T c.args.self.now c.plan.new.self a s.line) (sym c.in-Plan.is) c.in_ok-plan-in-Plan.ensures.adds
+    subst (λ (a : KeptAct). AddsAct T c.args.self.now c.plan.new.self a s.line) (sym c.in-Plan.is) c.in_ok-plan-in-Plan.ensures.adds
 
 pub reduce-requires : goal.reduce-requires
 reduce-requires c = (c.args.roots.now, subst (λ (a : KeptAct). HasNext c.args.roots.now c.args.self.now a) c.in-Redux.is c.requires)
@@ -43,7 +43,7 @@ pub returns-in-Redux-clause-adds : goal.returns-in-Redux-clause-adds
 returns-in-Redux-clause-adds c =
     let T = c.args.roots.now in
     let s = c.args.statement in
-    subst (λ (a : KeptAct). Adds T c.args.self.now c.reduce.new.self a s.line) (sym c.in-Redux.is) (c.reduce.ensures T)
+    subst (λ (a : KeptAct). AddsAct T c.args.self.now c.reduce.new.self a s.line) (sym c.in-Redux.is) (c.reduce.ensures T)
 
 pub task-requires : goal.task-requires
 task-requires c = (c.args.roots.now, subst (λ (a : KeptAct). HasNext c.args.roots.now c.args.self.now a) c.in-Task.is c.requires)
@@ -59,7 +59,7 @@ pub returns-in_ok-task-in-Task-clause-adds : goal.returns-in_ok-task-in-Task-cla
 returns-in_ok-task-in-Task-clause-adds c =
     let T = c.args.roots.now in
     let s = c.args.statement in
-    subst (λ (a : KeptAct). Adds T c.args.self.now c.task.new.self a s.line) (sym c.in-Task.is) (c.in_ok-task-in-Task.ensures.adds T)
+    subst (λ (a : KeptAct). AddsAct T c.args.self.now c.task.new.self a s.line) (sym c.in-Task.is) (c.in_ok-task-in-Task.ensures.adds T)
 
 pub print-requires : goal.print-requires
 print-requires c = subst (λ (a : KeptAct). HasNext c.args.roots.now c.args.self.now a) c.in-Print.is c.requires
@@ -75,7 +75,7 @@ pub returns-in_ok-print-in-Print-clause-adds : goal.returns-in_ok-print-in-Print
 returns-in_ok-print-in-Print-clause-adds c =
     let T = c.args.roots.now in
     let s = c.args.statement in
-    subst (λ (a : KeptAct). Adds T c.args.self.now c.print.new.self a s.line) (sym c.in-Print.is) c.in_ok-print-in-Print.ensures.adds
+    subst (λ (a : KeptAct). AddsAct T c.args.self.now c.print.new.self a s.line) (sym c.in-Print.is) c.in_ok-print-in-Print.ensures.adds
 
 pub invalidate-requires : goal.invalidate-requires
 invalidate-requires c = (c.args.roots.now, subst (λ (a : KeptAct). HasNext c.args.roots.now c.args.self.now a) c.in-Invalidate.is c.requires)
@@ -91,7 +91,7 @@ pub returns-in_ok-invalidate-in-Invalidate-clause-adds : goal.returns-in_ok-inva
 returns-in_ok-invalidate-in-Invalidate-clause-adds c =
     let T = c.args.roots.now in
     let s = c.args.statement in
-    subst (λ (a : KeptAct). Adds T c.args.self.now c.invalidate.new.self a s.line) (sym c.in-Invalidate.is) (c.in_ok-invalidate-in-Invalidate.ensures.adds T)
+    subst (λ (a : KeptAct). AddsAct T c.args.self.now c.invalidate.new.self a s.line) (sym c.in-Invalidate.is) (c.in_ok-invalidate-in-Invalidate.ensures.adds T)
 
 pub unregister-requires : goal.unregister-requires
 unregister-requires c = (c.args.roots.now, subst (λ (a : KeptAct). HasNext c.args.roots.now c.args.self.now a) c.in-Unregister.is c.requires)
@@ -107,4 +107,4 @@ pub returns-in_ok-unregister-in-Unregister-clause-adds : goal.returns-in_ok-unre
 returns-in_ok-unregister-in-Unregister-clause-adds c =
     let T = c.args.roots.now in
     let s = c.args.statement in
-    subst (λ (a : KeptAct). Adds T c.args.self.now c.unregister.new.self a s.line) (sym c.in-Unregister.is) (c.in_ok-unregister-in-Unregister.ensures.adds T)
+    subst (λ (a : KeptAct). AddsAct T c.args.self.now c.unregister.new.self a s.line) (sym c.in-Unregister.is) (c.in_ok-unregister-in-Unregister.ensures.adds T)

@@ -12,7 +12,7 @@ use Rattle.sj_lower.specs.declared.contributions.StepRefusal.{StepRefusal}
 use Rattle.sj_lower.specs.declared.contributions.StepRefusal.TheVariants.{OutOfMemory}
 use Rattle.sj_lower.specs.declared.steps.Steps.{Steps}
 use Rattle.sj_lower.specs.Adds.{is_contributed, lowered_task, CanOpen, IsFull}
-use Rattle.sj_lower.specs.Follows.{IsInside, cell_by, access_by, is_other}
+use Rattle.sj_lower.specs.Follows.{IsActiveChild, cell_by, access_by, is_other}
 use Rattle.sj_lower.proofs.Tasking.{all-inside, all-can, actives-kept, still-has, task-full, task-goes}
 use Rattle.sj_lower.proofs.steps.Steps.task.Goals as goal
 
@@ -23,7 +23,7 @@ pub close_operands-requires-clause-inside : goal.close_operands-requires-clause-
 close_operands-requires-clause-inside c =
     let x = c.args.self.now in
     let h = c.requires.1 in
-    subst (λ (os : List Operand). All (IsInside x.layout.actives.items) os) (sym c.items-operands.ensures) (all-inside x.layout x.phases.workers h.roots h.cells h.at.layout h.next.whole c.args.task.operands h.next.sound.placed)
+    subst (λ (os : List Operand). All (IsActiveChild x.layout.actives.items) os) (sym c.items-operands.ensures) (all-inside x.layout x.phases.workers h.roots h.cells h.at.layout h.next.whole c.args.task.operands h.next.sound.placed)
 
 pub returns-in_err-close_operands-clause-full : goal.returns-in_err-close_operands-clause-full
 returns-in_err-close_operands-clause-full c =
@@ -38,7 +38,7 @@ pub open_operands-requires-clause-inside : goal.open_operands-requires-clause-in
 open_operands-requires-clause-inside c =
     let x = c.args.self.now in
     let h = c.requires.1 in
-    subst (λ (os : List Operand). All (IsInside x.layout.actives.items) os) (sym c.items-operands.ensures) (all-inside x.layout x.phases.workers h.roots h.cells h.at.layout h.next.whole c.args.task.operands h.next.sound.placed)
+    subst (λ (os : List Operand). All (IsActiveChild x.layout.actives.items) os) (sym c.items-operands.ensures) (all-inside x.layout x.phases.workers h.roots h.cells h.at.layout h.next.whole c.args.task.operands h.next.sound.placed)
 
 pub open_operands-requires-clause-can : goal.open_operands-requires-clause-can
 open_operands-requires-clause-can c =
@@ -64,8 +64,8 @@ accesses-requires c =
     let h = c.requires.1 in
     let same = ap (filter is_contributed) c.items-operands.ensures in
     let plans = actives-kept T x t c.open_operands.new.layout c.close_operands.new.phases c.open_operands.new.phases c.args.line h (λ f. (c.in_ok-open_operands.ensures.none (same ∙ f)).0) (λ o rest f. c.in_ok-open_operands.ensures.opens o rest (same ∙ f)) in
-    subst (λ v. All (IsInside v.items) c.items-operands.result.now) (sym plans)
-    (subst (λ (os : List Operand). All (IsInside x.layout.actives.items) os) (sym c.items-operands.ensures) (all-inside x.layout x.phases.workers h.roots h.cells h.at.layout h.next.whole t.operands h.next.sound.placed))
+    subst (λ v. All (IsActiveChild v.items) c.items-operands.result.now) (sym plans)
+    (subst (λ (os : List Operand). All (IsActiveChild x.layout.actives.items) os) (sym c.items-operands.ensures) (all-inside x.layout x.phases.workers h.roots h.cells h.at.layout h.next.whole t.operands h.next.sound.placed))
 
 pub returns-in_err-accesses-clause-full : goal.returns-in_err-accesses-clause-full
 returns-in_err-accesses-clause-full c =
