@@ -23,6 +23,7 @@ use Rattle.sj_meaning.proofs.Timely.{statements-named, timely}
 use Rattle.sj_meaning.proofs.Views.{counts-grow}
 use Rattle.sj_phases.specs.Block.{TaskBlock}
 use Rattle.sj_phases.specs.Expand.{nothing, expand, last_block}
+use Rattle.sj_phases.specs.Law.{program_of_blocks}
 use Rattle.sj_phases.specs.Orderly.{IsDelivered}
 use Rattle.sj_phases.specs.Plain.{none_open, plain_program}
 use Rattle.sj_lower.specs.Delivering.{DeliversPrinted}
@@ -99,10 +100,10 @@ module _ (T : Table) (kss : List Kept) (d : AreDistinct T.names) (numbered : IsN
   abbrev pub p : Program
   p = program_by workers (steps_of workers ss)
 
-  program-is : p ≡ Rattle.sj_phases.specs.Law.program_by rows workers bs
+  program-is : p ≡ program_of_blocks rows workers bs
   program-is =
       ap (program_by workers) same-steps
-      ∙ ap (λ (cells : List CellInfo). Rattle.sj_phases.specs.Law.program_by cells workers (map (λ (x : LoweringStep). x.block) xs ++ last_block (length cells) line ∷ [])) (ap (λ (C : Laid). C.rows) (laid-last workers [] no_cells ns))
+      ∙ ap (λ (cells : List CellInfo). program_of_blocks cells workers (map (λ (x : LoweringStep). x.block) xs ++ last_block (length cells) line ∷ [])) (ap (λ (C : Laid). C.rows) (laid-last workers [] no_cells ns))
 
   printed-same : printed ss ≡ map (found_as T.names) (printed_at [] ns)
   printed-same = ap (λ us. printed us) (statements-named T 0 kss) ∙ printed-by T.names d ns start [] (mirror-start T.names) in-time
@@ -130,7 +131,7 @@ module _ (T : Table) (kss : List Kept) (d : AreDistinct T.names) (numbered : IsN
       let few_cells : length rows ≤ 2 ^ 22 = subst (λ (x : Program). length x.cells ≤ 2 ^ 22) program-is cells in
       let few : length (expand workers nothing bs).tasks ≤ 2 ^ 22 = subst (λ (x : Program). length x.tasks ≤ 2 ^ 22) program-is tasks in
       subst (λ (x : Program). DeliversPrinted T x ss) (sym program-is)
-      (delivers-printed T (Rattle.sj_phases.specs.Law.program_by rows workers bs) ss (printed_at [] ns)
+      (delivers-printed T (program_of_blocks rows workers bs) ss (printed_at [] ns)
       (hands-over has workers ns line sound-here other (few-here few) few_cells few (subst (IsLawful out other) program-is lawful) staffed)
       printed-same
       (all-known T has q ns no_cells [] 0 none_open sound-here (told-all T 0 kss (omega (arith, numbered.counted))) (knows-none T) (all has workers ns line sound-here)))
