@@ -1,10 +1,8 @@
 -- What of a job's roots holds in the program without phases, before its task of a number.
-use Rattle.std.proofs.Common.{◌≡◌, ℕ, ◌+◌, List, [], ◌∷◌, Some, length, true}
+use Rattle.std.proofs.Common.{◌≡◌, ℕ, List, Some, length, true}
 use Rattle.sj_base.specs.declared.ids.Cell.{Cell}
 use Rattle.sj_base.specs.declared.mode.Reduction.{Reduction}
-use Rattle.sj_base.specs.declared.program.Lowered.{Lowered}
 use Rattle.sj_base.specs.declared.program.Program.{Program}
-use Rattle.sj_core.specs.Program.{task_of}
 use Rattle.sj_plan.specs.Parts.{IsPlace}
 use Rattle.sj_meaning.specs.State.{RootState, is_valued_child}
 use Rattle.sj_meaning.specs.Numbers.{root_at}
@@ -12,8 +10,7 @@ use Rattle.sj_phases.specs.Plain.{OpenReductions}
 use Rattle.sj_lower.specs.Laid.{Laid, cell_of}
 use Rattle.sj_lower.specs.SoundAt.{Lives}
 use Rattle.sj_lower.specs.Whole.{AreLaid, HaveCopies}
-use Rattle.sj_lower.proofs.Contents.{task_at, contents_before}
-use Rattle.sj_lower.proofs.Folding.{Stand}
+use Rattle.sj_lower.proofs.Contents.{contents_before}
 use Rattle.sj_lower.proofs.Keeping.{HasCells, HaveRoots}
 
 -- a cell whose phase is open is that of a child of its root's active plan, which has a value, and the root has that reduction

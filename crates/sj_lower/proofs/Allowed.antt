@@ -21,7 +21,7 @@ use Rattle.sj_job.specs.declared.form.Form.TheVariants as form
 use Rattle.sj_job.specs.declared.form.TaskForm.{TaskForm}
 use Rattle.sj_job.specs.Judge.{first_of, judged, name_reasons, plan_reasons, print_reasons, redux_reasons, register_reasons, Scope, scope_of}
 use Rattle.sj_job.specs.Sentence.{init_said, parts_said, registered_by}
-use Rattle.sj_job.specs.Well.{IsAllowed, IsWell}
+use Rattle.sj_job.specs.Well.{IsWell}
 use Rattle.sj_job.proofs.Sounding.{IsJudged, unless_parts, judged-task, found_passes, sound_from_allowed}
 use Rattle.sj_lower.proofs.Naming.{AreSilent}
 use Rattle.sj_lower.proofs.Sounding.{IsSilent}

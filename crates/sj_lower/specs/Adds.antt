@@ -1,6 +1,6 @@
 -- What the code has of the statements so far, and what one statement more does.
-use Rattle.std.specs.Prelude.{◌≡◌, ◌<◌, ◌≤◌, ◌+◌, ℕ, Bool, false, ◌&&◌, None, Some, List, [], ◌∷◌, map, length}
-use Rattle.std.specs.List.{list_any, range_with_len, filter}
+use Rattle.std.specs.Prelude.{◌≡◌, ◌<◌, ◌≤◌, ◌+◌, ℕ, Bool, false, ◌&&◌, None, Some, List, map, length}
+use Rattle.std.specs.List.{list_any, range_with_len}
 use Rattle.sj_base.specs.declared.ids.Cell.{Cell}
 use Rattle.sj_base.specs.declared.ids.Line.{Line}
 use Rattle.sj_base.specs.declared.mode.Access.{Access}
@@ -18,7 +18,6 @@ use Rattle.sj_meaning.specs.Numbers.{root_at, act_at, apply_at}
 use Rattle.sj_meaning.specs.Table.{Table, a_root, info_of}
 use Rattle.sj_meaning.specs.View.{count_after, says_value}
 use Rattle.sj_phases.specs.declared.expander.Expander.{Expander}
-use Rattle.sj_phases.specs.declared.phase.PhaseOpening.{PhaseOpening}
 use Rattle.sj_phases.specs.Does.{StandsAt, Does, over_after}
 use Rattle.sj_phases.specs.Expand.{Expansion, expanded, opened, most}
 use Rattle.sj_lower.specs.declared.layout.Layout.{Layout}

@@ -1,15 +1,13 @@
 -- What the code has of the statements so far, and what each of its steps does.
-use Rattle.std.specs.Prelude.{◌≡◌, ◌<◌, ◌≤◌, ◌+◌, ℕ, Bool, ◌&&◌, not, nat_eq, None, Some, List, map, length, vec_len, All}
+use Rattle.std.specs.Prelude.{◌≡◌, ◌<◌, ◌≤◌, ◌+◌, ℕ, Bool, ◌&&◌, not, nat_eq, None, Some, List, map, length}
 use Rattle.std.specs.List.{slice_index_or}
 use Rattle.indexmap.specs.IndexMap.{get}
 use Rattle.sj_base.specs.declared.ids.Cell.{Cell}
-use Rattle.sj_base.specs.declared.ids.Line.{Line}
 use Rattle.sj_base.specs.declared.mode.Access.{Access}
 use Rattle.sj_base.specs.Mode.{is_data, is_redux, access}
 use Rattle.sj_plan.specs.declared.parts.Parts.{Parts}
 use Rattle.sj_plan.specs.Parts.{IsPlace, places, children_count}
 use Rattle.sj_meaning.specs.declared.job.Operand.{Operand}
-use Rattle.sj_meaning.specs.declared.job.RootInfo.{RootInfo}
 use Rattle.sj_meaning.specs.State.{RootState}
 use Rattle.sj_meaning.specs.Numbers.{root_at}
 use Rattle.sj_meaning.specs.Table.{undivided}

@@ -1,6 +1,6 @@
 -- The cells of a job by its roots' numbers: a plan's children become cells, row by row, when its root first takes it, and a cell
 -- gets partial copies, one for each worker, when it is first contributed to.
-use Rattle.std.specs.Prelude.{ℕ, ◌+◌, Option, Some, None, List, [], ◌∷◌, ◌++◌, map, length, is_some, unwrap_or, replicate, slice_set, if◌then◌else◌}
+use Rattle.std.specs.Prelude.{ℕ, ◌+◌, Option, None, List, [], ◌∷◌, ◌++◌, map, length, is_some, unwrap_or, replicate, slice_set, if◌then◌else◌}
 use Rattle.std.specs.List.{slice_index_or}
 use Rattle.sj_base.specs.declared.ids.Cell.{Cell}
 use Rattle.sj_base.specs.declared.tile.Dims.{Dims}

@@ -7,7 +7,7 @@ use Rattle.sj_meaning.specs.Numbers.{act_at, apply_at, statements_from}
 use Rattle.sj_meaning.specs.Table.{Table}
 use Rattle.sj_phases.specs.Block.{TaskBlock}
 use Rattle.sj_phases.specs.Expand.{Expansion, nothing, expanded, expand, first_above}
-use Rattle.sj_lower.specs.Laid.{Laid, no_cells}
+use Rattle.sj_lower.specs.Laid.{Laid}
 use Rattle.sj_lower.specs.Step.{LoweringStep, by_number, step_of, steps_from, laid_by, last_line, cells_above}
 use Rattle.sj_lower.specs.Adds.{MayComeNext}
 

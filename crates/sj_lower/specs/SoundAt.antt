@@ -1,5 +1,5 @@
 -- What holds of an act that a line may say, by its roots' numbers: its run needs no more.
-use Rattle.std.specs.Prelude.{◌≡◌, ◌≤◌, ◌<◌, ℕ, Bool, false, ◌&&◌, ◌||◌, not, nat_eq, IsTrue, None, Some, Option, List, [], ◌∷◌, map, zip, length}
+use Rattle.std.specs.Prelude.{◌≡◌, ◌≤◌, ◌<◌, ℕ, Bool, false, ◌&&◌, ◌||◌, not, nat_eq, IsTrue, None, Some, List, [], ◌∷◌, map, zip, length}
 use Rattle.std.specs.List.{list_all, list_any, AllByRecursion}
 use Rattle.sj_base.specs.declared.tile.Dims.{Dims}
 use Rattle.sj_base.specs.Array.{area}

@@ -1,7 +1,7 @@
 -- What a statement gives: the cells after it, and its block. A block has the cells whose phases of contributions the statement
 -- closes, those whose phases it opens, and its own tasks and deliveries.
-use Rattle.std.specs.Prelude.{ℕ, ◌+◌, Bool, ◌&&◌, not, nat_lt, Option, Some, None, List, [], ◌∷◌, ◌++◌, map, filter, fold, find, option_map, length, unwrap_or, zip, if◌then◌else◌}
-use Rattle.std.specs.List.{range_with_len, flat_map, last_or}
+use Rattle.std.specs.Prelude.{ℕ, Bool, ◌&&◌, not, nat_lt, Option, Some, None, List, [], ◌∷◌, ◌++◌, map, filter, fold, find, option_map, length, unwrap_or, zip, if◌then◌else◌}
+use Rattle.std.specs.List.{range_with_len, flat_map}
 use Rattle.sj_base.specs.declared.ids.Cell.{Cell}
 use Rattle.sj_base.specs.declared.ids.Line.{Line}
 use Rattle.sj_base.specs.declared.mode.Access.{Access}
@@ -14,11 +14,11 @@ use Rattle.sj_plan.specs.declared.parts.Parts.{Parts}
 use Rattle.sj_plan.specs.Parts.{places}
 use Rattle.sj_plan.specs.Paste.{pastes_of}
 use Rattle.sj_plan.specs.Rect.{child, place_of}
-use Rattle.sj_meaning.specs.Statement.{Register, Operand, TaskLine}
+use Rattle.sj_meaning.specs.Statement.{Operand, TaskLine}
 use Rattle.sj_meaning.specs.Act.{Act, Statement, Register as Registers, Plan as Plans, Redux as Reduces, Task as Tasks, Print as Prints, Invalidate as Invalidates, Unregister as Unregisters}
 use Rattle.sj_meaning.specs.State.{RootState, JobState, start, root_of, is_valued, is_valued_child}
 use Rattle.sj_meaning.specs.Meaning.{apply}
-use Rattle.sj_meaning.specs.Numbers.{number_of_name, no_root, root_at, apply_at}
+use Rattle.sj_meaning.specs.Numbers.{number_of_name, no_root, root_at}
 use Rattle.sj_meaning.specs.Table.{a_root}
 use Rattle.sj_phases.specs.declared.phase.PhaseOpening.{PhaseOpening}
 use Rattle.sj_phases.specs.Block.{TaskBlock}

@@ -1,5 +1,5 @@
 -- What is kept of a job, by number: its acts come in time, and with names in place of numbers they are the job's.
-use Rattle.std.proofs.Common.{◌≡◌, ℕ, zero, suc, ◌+◌, ◌*◌, ◌<◌, ◌≤◌, Bool, true, false, not, ◌&&◌, List, [], ◌∷◌, ◌++◌, length, map, get_or, Option, Some, None, cond, refl, ap, sym, subst, ◌∙◌, arith, bytes_eq, length-append}
+use Rattle.std.proofs.Common.{◌≡◌, ℕ, zero, suc, ◌+◌, ◌*◌, ◌<◌, ◌≤◌, Bool, true, false, not, ◌&&◌, List, [], ◌∷◌, length, map, get_or, Option, Some, None, cond, refl, ap, sym, subst, ◌∙◌, arith, bytes_eq, length-append}
 use Rattle.std.specs.Option.{is_some}
 use Rattle.std.specs.List.{AllByRecursion, list_all, position_or_len}
 use Rattle.std.proofs.lemmas.List.{length-set}
@@ -12,16 +12,16 @@ use Rattle.sj_meaning.specs.declared.job.Act.{Act as KeptAct}
 use Rattle.sj_meaning.specs.declared.job.Act.TheVariants as kept
 use Rattle.sj_meaning.specs.declared.job.Statement.{Statement as Kept}
 use Rattle.sj_meaning.specs.Statement.{Operand, TaskLine}
-use Rattle.sj_meaning.specs.Act.{Act, Register, Plan, Redux, Task, Print, Invalidate, Unregister, Statement}
+use Rattle.sj_meaning.specs.Act.{Act, Task, Statement}
 use Rattle.sj_meaning.specs.State.{RootState, JobState, root_of}
 use Rattle.sj_meaning.specs.Table.{Table, AreDistinct, a_root, info_of}
 use Rattle.sj_meaning.specs.Meaning.{registered_root, with_parts, with_reduction, with_elements, no_values, with_child, written_of, apply}
-use Rattle.sj_meaning.specs.Sound.{IsSoundAct, AreSoundActs, has_child, has_root, has_valued_root}
-use Rattle.sj_meaning.specs.View.{operand_seen, task_seen, act_seen, statement_seen, seen_from, count_after, count_from, IsPlaced, ActsArePlaced}
-use Rattle.sj_meaning.specs.Numbers.{registration_at, no_root, operand_array_at, name_at, number_of_name, operand_at, operand_named_by, task_at, task_named_by, act_at, act_named_by, statement_at, statement_named_by, statements_from, root_at, change_at, put_all_at, apply_at}
+use Rattle.sj_meaning.specs.Sound.{IsSoundAct, AreSoundActs, has_child}
+use Rattle.sj_meaning.specs.View.{operand_seen, task_seen, act_seen, seen_from, count_after, count_from, IsPlaced, ActsArePlaced}
+use Rattle.sj_meaning.specs.Numbers.{registration_at, no_root, operand_array_at, name_at, number_of_name, operand_at, operand_named_by, task_at, act_at, act_named_by, statement_named_by, statements_from, root_at, change_at, put_all_at, apply_at}
 use Rattle.sj_meaning.proofs.Finding.{text-itself}
 use Rattle.sj_meaning.proofs.Mirroring.{IsThere, IsMirror, IsTimely, AreTimely, mirror-apply}
-use Rattle.sj_meaning.proofs.Views.{count-grows, counts-grow}
+use Rattle.sj_meaning.proofs.Views.{counts-grow}
 
 -- ---- names and numbers
 

@@ -1,6 +1,6 @@
 -- The meaning of a job by its roots' numbers: what each of its acts does to a list of roots, in which a root's place is its
 -- number.
-use Rattle.std.specs.Prelude.{ℕ, Option, None, List, [], ◌∷◌, ◌++◌, map, length, slice_set}
+use Rattle.std.specs.Prelude.{ℕ, None, List, [], ◌∷◌, ◌++◌, map, slice_set}
 use Rattle.std.specs.List.{slice_index_or, position_or_len}
 use Rattle.std.specs.Str.{bytes_eq}
 use Rattle.sj_base.specs.Array.{Array}

@@ -1,4 +1,4 @@
-use Rattle.std.proofs.Common.{List, fold, subst, arith}
+use Rattle.std.proofs.Common.{List, fold, subst}
 use Rattle.std.proofs.lemmas.Result.{on_ok_weaker}
 use Rattle.sj_base.specs.declared.ids.Cell.{Cell}
 use Rattle.sj_phases.specs.Does.{Does}

@@ -1,13 +1,12 @@
-use Rattle.std.proofs.Common.{◌≡◌, ◌∙◌, ◌+◌, ap, arith, refl, rules, ℕ, length}
+use Rattle.std.proofs.Common.{◌≡◌, ◌∙◌, ap, arith, refl, rules, ℕ, length}
 use Rattle.sj_base.specs.declared.ids.Cell.{Cell}
 use Rattle.sj_base.specs.declared.program.Delivery.{Delivery}
 use Rattle.sj_plan.specs.declared.rect.Rect.{Rect}
-use Rattle.sj_plan.specs.Rect.{child, children_of, place_of}
+use Rattle.sj_plan.specs.Rect.{children_of, place_of}
 use Rattle.sj_phases.proofs.Doing.{has-after}
 use Rattle.sj_lower.specs.Cells.{cells_from}
 use Rattle.sj_lower.specs.Rows.{deliver_row}
 use Rattle.sj_lower.proofs.Children.{no-deliveries, delivered-child, delivered-children, cell-at, rect-at, length-children}
-use Rattle.sj_lower.proofs.Places.{place_at}
 use Rattle.sj_lower.proofs.pushes.push_delivers.Goals as goal
 
 pub loop-k-init : goal.loop-k-init

@@ -1,13 +1,12 @@
-use Rattle.std.proofs.Common.{◌≡◌, ◌∙◌, ◌+◌, [], ap, arith, refl, rules, ℕ, length}
+use Rattle.std.proofs.Common.{◌≡◌, ◌∙◌, ◌+◌, ap, arith, refl, rules, ℕ, length}
 use Rattle.sj_base.specs.declared.ids.Cell.{Cell}
 use Rattle.sj_base.specs.Ids.{cell}
 use Rattle.sj_plan.specs.declared.rect.Rect.{Rect}
 use Rattle.sj_plan.specs.Rect.{child, children_of}
-use Rattle.sj_phases.specs.Expand.{with_own}
 use Rattle.sj_phases.proofs.Doing.{does-start, has-after}
 use Rattle.sj_lower.specs.Cells.{cells_from}
 use Rattle.sj_lower.specs.Rows.{load_row}
-use Rattle.sj_lower.proofs.Children.{first_children, does-child, does-children, cell-at, rect-at, length-children}
+use Rattle.sj_lower.proofs.Children.{does-child, does-children, cell-at, rect-at, length-children}
 use Rattle.sj_lower.proofs.Places.{place_at}
 use Rattle.sj_lower.proofs.pushes.push_windows.Goals as goal
 
